@@ -1,0 +1,16 @@
+-- Images: what a disk holds, as a list of blocks.
+use Rattle.std.specs.Prelude.{◌≡◌, ℕ, ◌<◌, List, length, Some, slice_get, slice_index}
+
+-- an image is a list of blocks, and a block a list of byte values
+abbrev pub Image : Type 0
+Image = List (List ℕ)
+
+-- a block has 4096 bytes
+pub record IsBlock (block : List ℕ) : Type 0 where
+  pub size : length block ≡ 4096
+  pub bytes : (i : ℕ) → slice_index block i < 256
+
+-- an image of so many blocks
+pub record IsImage (blocks : ℕ) (image : Image) : Type 0 where
+  pub count : length image ≡ blocks
+  pub each : (k : ℕ) (block : List ℕ) → slice_get image k ≡ Some block → IsBlock block
