@@ -1,0 +1,36 @@
+-- Shape words 1 to 7: the fields of a superblock that hold one number in every volume of the profile.
+use Rattle.std.specs.Prelude.{ℕ, Bool, ◌+◌, ◌==◌, ◌&&◌, nat_le, List, [], ◌∷◌, map, Option}
+use Rattle.xfs_word.specs.Field.{field_of, is_width}
+use Rattle.xfs_geom.specs.First.{first_false}
+use Rattle.xfs_geom.specs.declared.fixed.Fixed.{Fixed}
+
+-- a shape word: its number, the offset and width of its field, and the number that is right
+pub record FixedWord : Type 0 where
+  pub word : ℕ
+  pub offset : ℕ
+  pub width : ℕ
+  pub number : ℕ
+
+abbrev pub row : ℕ → ℕ → ℕ → ℕ → FixedWord
+row word offset width number = record { word = word; offset = offset; width = width; number = number }
+
+-- blocklog, sectlog, inodelog, inopblock, inopblog, rextents, rbmblocks
+abbrev pub fixed_words : List FixedWord
+fixed_words =
+    row 1 120 1 12 ∷ row 2 121 1 9 ∷ row 3 122 1 9 ∷ row 4 106 2 8 ∷ row 5 123 1 3 ∷ row 6 24 8 0 ∷ row 7 92 4 0 ∷ []
+
+-- the word's field is a number inside a sector
+abbrev pub is_readable : FixedWord → Bool
+is_readable w = is_width w.width && nat_le (w.offset + w.width) 512
+
+-- each word with whether the sector holds its number
+abbrev pub fixed_tests : List FixedWord → List ℕ → List (ℕ × Bool)
+fixed_tests words sector = map (λ (w : FixedWord). (w.word, field_of sector w.offset w.width == w.number)) words
+
+-- the first of the words that holds another number
+unfoldable pub fixed_fault : List ℕ → Option ℕ
+fixed_fault sector = first_false (fixed_tests fixed_words sector)
+
+-- a word of the code's table without its field's name and form
+abbrev pub word_of : Fixed → FixedWord
+word_of f = row f.word f.field.offset f.field.width f.number

@@ -1,0 +1,7 @@
+-- The feature words of the code, seen as the definition's.
+use Rattle.xfs_geom.specs.declared.features.Feature.{Feature}
+use Rattle.xfs_geom.specs.Features.{FeatureWord, row}
+
+-- a feature word without its field's name and form
+abbrev pub word_of : Feature → FeatureWord
+word_of f = row f.word f.field.offset f.field.width f.rule
