@@ -1,9 +1,9 @@
 //! On-disk layouts as data: one table of fields for each object.
 
 ghost use Rattle.std.specs.Prelude.{◌≡◌, ℕ, ◌+◌, ◌<◌, ◌≤◌, ◌^◌, length, IsTrue};
-ghost use Rattle.xfs_word.specs.Field.{field_of, is_width};
+ghost use Rattle.xfs_word.specs.Field.{field_of, is_width, SameBeside, Keeps, KeepsParts};
 
-use crate::fields::field;
+use crate::fields::{field, put_field};
 
 /// How a field's value is shown.
 #[derive(Clone, Copy, Debug, PartialEq, Eq)]
@@ -39,5 +39,18 @@ impl FieldLayout {
         ensures fits { result < 256 ^ self.now.width }
     {
         field(bytes, self.offset, self.width)
+    }
+
+    /// Writes `value` into the field, big-endian.
+    pub fn write(&self, bytes: &mut [u8], value: u64)
+        requires width { IsTrue (is_width self.now.width) }
+        requires inside { self.now.offset + self.now.width ≤ length bytes.old }
+        requires fits { value < 256 ^ self.now.width }
+        ensures put { field_of bytes.new self.now.offset self.now.width ≡ value }
+        ensures keeps { Keeps bytes.old bytes.new self.now.offset self.now.width }
+        ensures keeps_parts { KeepsParts bytes.old bytes.new self.now.offset self.now.width }
+        ensures others { SameBeside bytes.old bytes.new self.now.offset self.now.width }
+    {
+        put_field(bytes, self.offset, self.width, value);
     }
 }
