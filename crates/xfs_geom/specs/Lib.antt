@@ -6,3 +6,5 @@ pub mod Shape
 pub mod Stated
 pub mod Fixed
 pub mod Parts
+pub mod Volumes
+pub mod Superblocks

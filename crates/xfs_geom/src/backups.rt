@@ -1,0 +1,64 @@
+//! Backup superblocks that agree with the volume's geometry.
+
+ghost use Rattle.std.specs.Prelude.{◌≡◌, ℕ, length};
+ghost use Rattle.xfs_geom.specs.Superblocks.{agrees_on_inode, is_agreeing, states_volume};
+ghost use Rattle.xfs_geom.specs.Volumes.{volume_of};
+
+use crate::features::refused_feature;
+use crate::fixed::fixed_fault;
+use crate::geometry::Geometry;
+use crate::reading::super_seal;
+use crate::stated::Stated;
+use crate::superblock::UUID;
+use xfs_word::{part, sealed};
+
+/// Whether the superblock in a sector agrees with the geometry of its volume. The sector stands at the
+/// start of an allocation group above 0, in an image of at least `dblocks` blocks.
+#[tactic(auto, unfolding(crate::specs::Superblocks::is_agreeing))]
+pub fn agrees(g: &Geometry, sector: &[u8]) -> bool
+    requires { length sector.now ≡ 512 }
+    ensures { result ≡ is_agreeing (volume_of g.now) sector.now }
+{
+    if !sealed(&super_seal(), sector) {
+        return false;
+    }
+    if refused_feature(sector).is_some() || fixed_fault(sector).is_some() {
+        return false;
+    }
+    let stated = Stated::read(sector);
+    if stated.parts_fault().is_some() {
+        return false;
+    }
+    states_volume(g, &stated, sector)
+}
+
+/// Whether a superblock has the volume's values of what makes its geometry.
+fn states_volume(g: &Geometry, stated: &Stated, sector: &[u8]) -> bool
+    requires sector { length sector.now ≡ 512 }
+    requires stated { stated.now ≡ stated sector.now }
+    requires parts { HasParts stated.now }
+    ensures { result ≡ states_volume (volume_of g.now) sector.now }
+{
+    if stated.dblocks != g.dblocks || stated.agblocks != g.agblocks || stated.agcount != g.agcount {
+        return false;
+    }
+    if stated.agblklog != g.agblklog || stated.log() != g.log || stated.logblocks != g.logblocks {
+        return false;
+    }
+    if stated.logsectlog != g.logsectlog {
+        return false;
+    }
+    if part(sector, UUID.offset, UUID.width) != g.uuid.as_slice() {
+        return false;
+    }
+    agrees_on_inode(g.rootino, stated.rootino)
+        && agrees_on_inode(g.rootino + 1, stated.rbmino)
+        && agrees_on_inode(g.rootino + 2, stated.rsumino)
+}
+
+/// Whether an inode number of a backup is the one that is due, or all ones.
+fn agrees_on_inode(due: u64, ino: u64) -> bool
+    ensures { result ≡ agrees_on_inode due ino }
+{
+    ino == due || ino == u64::MAX
+}
