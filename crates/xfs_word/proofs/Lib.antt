@@ -1,3 +1,4 @@
 pub mod Register
 pub mod Rows
+pub mod Stays
 pub mod Written

@@ -1,7 +1,9 @@
 -- What stays where bytes stay.
-use Rattle.std.proofs.Common.{◌≡◌, ℕ, zero, suc, ◌+◌, ◌*◌, ◌^◌, ◌<◌, ◌≤◌, List, length, take, drop, slice_index, get_or, refl, sym, ◌∙◌, ap, ap₂, inl, inr, ◌⊎◌, arith, length-take, length-drop, add-suc}
-use Rattle.std.proofs.lemmas.List.{get_or-drop, get_or-take, same_lists, places, get_or_default}
+use Rattle.std.proofs.Common.{◌≡◌, ℕ, zero, suc, ◌+◌, ◌-◌, ◌∷◌, ◌++◌, IsTrue, ◌*◌, ◌^◌, ◌<◌, ◌≤◌, List, length, take, drop, slice_index, get_or, refl, sym, ◌∙◌, ap, ap₂, inl, inr, ◌⊎◌, arith, length-take, length-drop, add-suc}
+use Rattle.std.proofs.lemmas.List.{take_rest, get_or-drop, get_or-take, same_lists, places, get_or_default}
+use Rattle.std.proofs.lemmas.Bool.{eq-eqb}
 use Rattle.byteorder.specs.Endian.{big_from, big_number, little_from, little_number}
+use Rattle.xfs_word.specs.Crc.{cleared, crc_of, little_field_of, has_checksum}
 use Rattle.xfs_word.specs.Field.{field_of, part_of, Beside, SameBeside, Keeps, KeepsParts}
 
 -- the byte lists agree from place i on for n places
@@ -53,3 +55,23 @@ keeps_parts old new at width long same a w apart =
     ∙ bytes.agree k (omega arith) (omega arith)
     ∙ sym (get_or-take w (drop a old) k 0 inside)
     ∙ get_or_default (take w (drop a old)) k 0 d room_old)
+
+-- bytes that differ at four places alone are the same with these as zero
+pub cleared-same : (old new : List ℕ) (at : ℕ) → length new ≡ length old → KeepsParts old new at 4 → cleared new at ≡ cleared old at
+unfolding cleared part_of
+cleared-same old new at long same =
+    let front : take at new ≡ take at old = same 0 at (inl (omega arith)) in
+    let back : take (length old - (at + 4)) (drop (at + 4) new) ≡ take (length old - (at + 4)) (drop (at + 4) old) =
+    same (at + 4) (length old - (at + 4)) (inr (omega arith)) in
+    let rest : drop (at + 4) new ≡ drop (at + 4) old =
+    sym (take_rest new (at + 4)) ∙ ap (λ (n : ℕ). take (n - (at + 4)) (drop (at + 4) new)) long ∙ back ∙ take_rest old (at + 4) in
+    ap₂ (λ (xs ys : List ℕ). xs ++ 0 ∷ 0 ∷ 0 ∷ 0 ∷ ys) front rest
+
+-- the checksum that is written is right
+pub has_checksum-put : (old new : List ℕ) (at : ℕ) → length new ≡ length old → KeepsParts old new at 4
+    → little_field_of new at 4 ≡ crc_of (cleared old at) → IsTrue (has_checksum new at)
+unfolding has_checksum
+has_checksum-put old new at long same put =
+    let clear = cleared-same old new at long same in
+    let e : little_field_of new at 4 ≡ crc_of (cleared new at) = put ∙ ap crc_of (sym clear) in
+    eq-eqb (little_field_of new at 4) (crc_of (cleared new at)) e

@@ -1,6 +1,7 @@
 -- The checksum of on-disk objects, CRC-32C, bit by bit. From the chapter "Self-Describing Metadata" of
 -- "XFS Algorithms and Data Structures".
-use Rattle.std.specs.Prelude.{ℕ, zero, suc, ◌+◌, ◌-◌, ◌*◌, ◌/◌, ◌%◌, ◌^◌, List, [], ◌∷◌, ◌++◌, take, drop, fold, bit_xor}
+use Rattle.std.specs.Prelude.{ℕ, zero, suc, ◌+◌, ◌-◌, ◌*◌, ◌/◌, ◌%◌, ◌^◌, Bool, ◌==◌, List, [], ◌∷◌, ◌++◌, take, drop, fold, bit_xor}
+use Rattle.byteorder.specs.Endian.{little_number}
 
 -- the generator polynomial of CRC-32C, with the coefficient of the highest power lowest
 abbrev pub polynomial : ℕ
@@ -35,3 +36,11 @@ crc_of bytes = 2 ^ 32 - 1 - after_bytes (2 ^ 32 - 1) bytes
 -- bytes with the four from an offset on taken as zero
 unfoldable pub cleared : List ℕ → ℕ → List ℕ
 cleared bytes at = take at bytes ++ 0 ∷ 0 ∷ 0 ∷ 0 ∷ drop (at + 4) bytes
+
+-- the little-endian number in the width bytes from an offset on
+unfoldable pub little_field_of : List ℕ → ℕ → ℕ → ℕ
+little_field_of bytes at width = little_number width (drop at bytes)
+
+-- the four bytes from an offset on hold, little-endian, the checksum of all bytes with these four as zero
+unfoldable pub has_checksum : List ℕ → ℕ → Bool
+has_checksum bytes at = little_field_of bytes at 4 == crc_of (cleared bytes at)

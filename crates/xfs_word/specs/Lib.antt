@@ -1,2 +1,3 @@
 pub mod Crc
 pub mod Field
+pub mod Seal

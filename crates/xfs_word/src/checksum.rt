@@ -1,7 +1,8 @@
 //! The checksum of on-disk objects: CRC-32C.
 
-ghost use Rattle.std.specs.Prelude.{◌≡◌, ℕ, ◌+◌, ◌-◌, ◌*◌, ◌%◌, ◌^◌, ◌<◌, ◌≤◌, length, take};
-ghost use Rattle.xfs_word.specs.Crc.{after_byte, after_bytes, after_zeros, crc_of, cleared};
+ghost use Rattle.std.specs.Prelude.{◌≡◌, ℕ, ◌+◌, ◌-◌, ◌*◌, ◌%◌, ◌^◌, ◌<◌, ◌≤◌, length, take, IsTrue};
+ghost use Rattle.xfs_word.specs.Crc.{after_byte, after_bytes, after_zeros, crc_of, cleared, little_field_of, has_checksum};
+ghost use Rattle.xfs_word.specs.Field.{is_width, SameBeside, Keeps, KeepsParts};
 
 use crate::tables::TABLES;
 use byteorder::{ByteOrder, LittleEndian};
@@ -23,6 +24,49 @@ pub fn crc_skipping(bytes: &[u8], at: usize) -> u32
     let front = after(u32::MAX, &bytes[..at]);
     let middle = after(front, &[0; 4]);
     !after(middle, &bytes[at + 4..])
+}
+
+/// The checksum that stands in the four bytes from `at` on, little-endian.
+#[tactic(auto, unfolding(crate::specs::Crc::little_field_of))]
+pub fn stored_checksum(bytes: &[u8], at: usize) -> u32
+    requires { at + 4 ≤ length bytes.now }
+    ensures { result ≡ little_field_of bytes.now at 4 }
+{
+    LittleEndian::read_u32(&bytes[at..])
+}
+
+/// Whether the four bytes from `at` on hold the checksum of all bytes with these four as zero.
+#[tactic(auto, unfolding(crate::specs::Crc::has_checksum))]
+pub fn is_checksum_right(bytes: &[u8], at: usize) -> bool
+    requires { at + 4 ≤ length bytes.now }
+    ensures { result ≡ has_checksum bytes.now at }
+{
+    stored_checksum(bytes, at) == crc_skipping(bytes, at)
+}
+
+/// Writes into the four bytes from `at` on the checksum of all bytes with these four as zero.
+pub fn put_checksum(bytes: &mut [u8], at: usize)
+    requires { at + 4 ≤ length bytes.old }
+    ensures put { little_field_of bytes.new at 4 ≡ crc_of (cleared bytes.old at) }
+    ensures right { IsTrue (has_checksum bytes.new at) }
+    ensures keeps { Keeps bytes.old bytes.new at 4 }
+    ensures keeps_parts { KeepsParts bytes.old bytes.new at 4 }
+    ensures others { SameBeside bytes.old bytes.new at 4 }
+{
+    let checksum = crc_skipping(bytes, at);
+    write(bytes, at, 4, checksum as u64);
+}
+
+/// Writes `value` little-endian, and leaves the bytes beside it.
+#[tactic(auto, unfolding(crate::specs::Crc::little_field_of))]
+fn write(bytes: &mut [u8], at: usize, width: usize, value: u64)
+    requires width { IsTrue (is_width width) }
+    requires inside { at + width ≤ length bytes.old }
+    requires fits { value < 256 ^ width }
+    ensures put { little_field_of bytes.new at width ≡ value }
+    ensures others { SameBeside bytes.old bytes.new at width }
+{
+    LittleEndian::write_uint(&mut bytes[at..], value, width);
 }
 
 /// The register after `bytes`, eight at a time.

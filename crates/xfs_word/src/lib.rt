@@ -1,13 +1,17 @@
-//! The words of the XFS version 5 on-disk format: big-endian fields and checksums.
+//! The words of the XFS version 5 on-disk format: big-endian fields, checksums and seals.
 #![tactic(auto)]
 
 mod checksum;
 mod fields;
+mod kinds;
 mod layout;
+mod sealing;
 mod tables;
 
-pub use checksum::{crc_skipping, crc32c};
+pub use checksum::{crc_skipping, crc32c, is_checksum_right, put_checksum, stored_checksum};
 pub use fields::{
     field, get8, get16, get32, get64, part, put_field, put_part, put8, put16, put32, put64,
 };
+pub use kinds::{FieldPlace, Seal, SealKind, SealLayout};
 pub use layout::{FieldLayout, Form};
+pub use sealing::{ready, seal, sealed};
