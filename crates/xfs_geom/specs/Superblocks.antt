@@ -34,11 +34,11 @@ progress_fault place sector = if place == 0 && not ((stated sector).inprogress =
 unfoldable pub super_fault : List ℕ → ℕ → ℕ → Option SuperFault
 super_fault sector place blocks =
     if is_sealed super_seal sector then
-      or_else (progress_fault place sector)
-        (or_else (feature_fault (refused_feature sector))
-          (or_else (shape_fault (fixed_fault sector))
-            (or_else (shape_fault (parts_fault (stated sector)))
-              (shape_fault (place_fault (stated sector) place blocks)))))
+    or_else (progress_fault place sector)
+    (or_else (feature_fault (refused_feature sector))
+    (or_else (shape_fault (fixed_fault sector))
+    (or_else (shape_fault (parts_fault (stated sector)))
+    (shape_fault (place_fault (stated sector) place blocks)))))
     else Some NotSealed
 
 -- an inode number of a backup is the primary's, or all ones

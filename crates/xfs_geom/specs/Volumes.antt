@@ -27,7 +27,7 @@ volume_of g = record {
   logblocks = g.logblocks;
   rootino = g.rootino;
   logsectlog = g.logsectlog;
-  uuid = g.uuid
+  uuid = g.uuid;
 }
 
 -- the volume that a superblock states (chapter "Superblocks")
@@ -41,5 +41,5 @@ stated_volume sector = record {
   logblocks = (stated sector).logblocks;
   rootino = (stated sector).rootino;
   logsectlog = (stated sector).logsectlog;
-  uuid = part_of sector 32 16
+  uuid = part_of sector 32 16;
 }

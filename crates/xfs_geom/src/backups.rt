@@ -2,6 +2,8 @@
 
 ghost use Rattle.std.specs.Prelude.{◌≡◌, ℕ, length};
 ghost use Rattle.xfs_geom.specs.Superblocks.{agrees_on_inode, is_agreeing, states_volume};
+ghost use Rattle.xfs_geom.specs.Parts.{HasParts};
+ghost use Rattle.xfs_geom.specs.Stated.{stated};
 ghost use Rattle.xfs_geom.specs.Volumes.{volume_of};
 
 use crate::features::refused_feature;
@@ -33,27 +35,27 @@ pub fn agrees(g: &Geometry, sector: &[u8]) -> bool
 }
 
 /// Whether a superblock has the volume's values of what makes its geometry.
-fn states_volume(g: &Geometry, stated: &Stated, sector: &[u8]) -> bool
+fn states_volume(g: &Geometry, held: &Stated, sector: &[u8]) -> bool
     requires sector { length sector.now ≡ 512 }
-    requires stated { stated.now ≡ stated sector.now }
-    requires parts { HasParts stated.now }
+    requires stated { held.now ≡ stated sector.now }
+    requires parts { HasParts held.now }
     ensures { result ≡ states_volume (volume_of g.now) sector.now }
 {
-    if stated.dblocks != g.dblocks || stated.agblocks != g.agblocks || stated.agcount != g.agcount {
+    if held.dblocks != g.dblocks || held.agblocks != g.agblocks || held.agcount != g.agcount {
         return false;
     }
-    if stated.agblklog != g.agblklog || stated.log() != g.log || stated.logblocks != g.logblocks {
+    if held.agblklog != g.agblklog || held.log() != g.log || held.logblocks != g.logblocks {
         return false;
     }
-    if stated.logsectlog != g.logsectlog {
+    if held.logsectlog != g.logsectlog {
         return false;
     }
     if part(sector, UUID.offset, UUID.width) != g.uuid.as_slice() {
         return false;
     }
-    agrees_on_inode(g.rootino, stated.rootino)
-        && agrees_on_inode(g.rootino + 1, stated.rbmino)
-        && agrees_on_inode(g.rootino + 2, stated.rsumino)
+    agrees_on_inode(g.rootino, held.rootino)
+        && agrees_on_inode(g.rootino + 1, held.rbmino)
+        && agrees_on_inode(g.rootino + 2, held.rsumino)
 }
 
 /// Whether an inode number of a backup is the one that is due, or all ones.

@@ -1,9 +1,14 @@
 //! The geometry of a volume, as its superblocks state it.
 #![tactic(auto)]
 
+mod backups;
 mod features;
 mod fixed;
+mod geometry;
+mod reading;
 mod stated;
 pub mod superblock;
 
-pub use features::{Departure, Rule};
+pub use backups::agrees;
+pub use geometry::Geometry;
+pub use reading::{SuperFault, read_super};

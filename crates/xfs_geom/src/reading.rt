@@ -26,7 +26,12 @@ pub enum SuperFault {
 pub(crate) fn super_seal() -> Seal
     ensures { result ≡ super_seal }
 {
-    Seal { kind: SealKind::Super, place: 0, owner: None, uuid: [0; 16] }
+    Seal {
+        kind: SealKind::Super,
+        place: 0,
+        owner: None,
+        uuid: [0; 16],
+    }
 }
 
 /// The geometry that a superblock states, where it is accepted at the block `place` of an image of

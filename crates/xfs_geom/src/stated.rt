@@ -2,9 +2,10 @@
 
 ghost use Rattle.std.specs.Prelude.{◌≡◌, ℕ, ◌+◌, ◌*◌, ◌/◌, ◌%◌, ◌^◌, ◌<◌, ◌≤◌, ◌==◌, ◌||◌, length, Option, IfNone, IsTrue};
 ghost use Rattle.xfs_geom.specs.Groups.{blocks_of_group, group_of_address, ag_block_of_address, block_of_address};
-ghost use Rattle.xfs_geom.specs.Shape.{HasGroups, HasAddresses, is_apart};
+ghost use Rattle.xfs_geom.specs.Shape.{HasGroups, HasAddresses, HasRoot, is_apart};
 ghost use Rattle.xfs_geom.specs.Stated.{is_system_inode};
 
+use crate::geometry::Geometry;
 use crate::superblock::{
     AGBLKLOG, AGBLOCKS, AGCOUNT, DBLOCKS, INPROGRESS, LOGBLOCKS, LOGSECTLOG, LOGSECTSIZE, LOGSTART,
     RBMINO, ROOTINO, RSUMINO,
@@ -35,6 +36,7 @@ pub struct Stated {
 impl Stated {
     ghost use Rattle.xfs_geom.specs.Stated.{stated, log_of, is_filled, has_addresses, has_log_sectors, has_log, has_root, parts_fault, place_fault};
     ghost use Rattle.xfs_geom.specs.Parts.{HasLogAt, HasParts};
+    ghost use Rattle.xfs_geom.specs.Volumes.{volume_of};
 
     /// The numbers that the superblock in this sector states.
     pub fn read(sector: &[u8]) -> Stated
@@ -89,7 +91,8 @@ impl Stated {
     #[tactic(auto, unfolding(crate::specs::Stated::place_fault))]
     pub fn place_fault(&self, place: u64, blocks: u64) -> Option<u8>
         requires { HasParts self.now }
-        ensures { result ≡ place_fault self.now place blocks }
+        ensures first { result ≡ place_fault self.now place blocks }
+        ensures kept { IfNone result (HasRoot self.now.dblocks self.now.agblocks self.now.agcount self.now.agblklog (log_of self.now) self.now.logblocks self.now.rootino) }
     {
         if place % self.agblocks as u64 != 0 || place >= self.dblocks {
             return Some(14);
@@ -107,6 +110,44 @@ impl Stated {
             return Some(18);
         }
         None
+    }
+
+    /// The geometry of these numbers.
+    pub fn geometry(&self, uuid: [u8; 16]) -> Geometry
+        requires parts { HasParts self.now }
+        requires root { HasRoot self.now.dblocks self.now.agblocks self.now.agcount self.now.agblklog (log_of self.now) self.now.logblocks self.now.rootino }
+        ensures { volume_of result ≡ record {
+          dblocks = self.now.dblocks;
+          agblocks = self.now.agblocks;
+          agcount = self.now.agcount;
+          agblklog = self.now.agblklog;
+          log = log_of self.now;
+          logblocks = self.now.logblocks;
+          rootino = self.now.rootino;
+          logsectlog = self.now.logsectlog;
+          uuid = uuid;
+        } }
+    {
+        Geometry {
+            dblocks: self.dblocks,
+            agblocks: self.agblocks,
+            agcount: self.agcount,
+            agblklog: self.agblklog,
+            log: self.log(),
+            logblocks: self.logblocks,
+            rootino: self.rootino,
+            logsectlog: self.logsectlog,
+            uuid,
+        }
+    }
+
+    /// The number of the log's first block.
+    pub fn log(&self) -> u64
+        requires { HasParts self.now }
+        ensures value { result ≡ log_of self.now }
+        ensures low { result < 2 ^ 63 }
+    {
+        self.block_of_address(self.logstart)
     }
 
     /// The groups fill the volume, and the last of them has at least 64 blocks.
@@ -169,6 +210,7 @@ impl Stated {
         requires { HasParts self.now }
         ensures value { result ≡ has_root self.now }
         ensures low { IsTrue result → self.now.rootino < 2 ^ 38 }
+        ensures kept { IsTrue result → HasRoot self.now.dblocks self.now.agblocks self.now.agcount self.now.agblklog (log_of self.now) self.now.logblocks self.now.rootino }
     {
         if self.rootino % 32 > 29 {
             return false;
@@ -190,7 +232,7 @@ impl Stated {
         requires low { cluster < 2 ^ 63 }
         ensures { result ≡ is_apart cluster (log_of self.now) self.now.logblocks }
     {
-        let log = self.block_of_address(self.logstart);
+        let log = self.log();
         cluster + 4 <= log || log + self.logblocks as u64 <= cluster
     }
 
