@@ -2,3 +2,8 @@ pub mod Blocks
 pub mod Faults
 pub mod Stops
 pub mod Files
+pub mod Counts
+pub mod Memory
+pub mod MemoryImage
+pub mod Schedule
+pub mod MemoryDisk

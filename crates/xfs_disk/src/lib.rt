@@ -5,6 +5,8 @@ mod disk;
 mod failed;
 mod gate;
 mod library;
+mod memory_disk;
+mod schedule;
 mod stream;
 mod word;
 
@@ -12,5 +14,6 @@ pub use disk::{BLOCK_SIZE, Disk};
 pub use failed::{Failed, NoMemory};
 pub use gate::{Gate, NoGate};
 pub use library::{Library, LibraryError};
+pub use memory_disk::MemoryDisk;
 pub use stream::{Sink, Source};
 pub use word::Word;

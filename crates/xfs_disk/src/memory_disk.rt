@@ -1,0 +1,231 @@
+//! A disk in memory, whose calls can be made to fail.
+
+ghost use Rattle.std.specs.Prelude.{◌≡◌, ℕ, ◌+◌, ◌-◌, ◌*◌, ◌^◌, ◌<◌, ◌≤◌, min, List, [], ◌∷◌, ◌++◌, length, replicate, Option, Some, None, IsTrue, IsErr, IfOk, OnOk, OnErr, ◌↔◌, slice_get, slice_set};
+ghost use Rattle.std.specs.List.{All, concat};
+ghost use Rattle.xfs_disk.specs.Counts.{CountsFailure};
+ghost use Rattle.xfs_disk.specs.Schedule.{sooner, after_write};
+ghost use Rattle.xfs_disk.specs.Memory.{blocks_of, with_block};
+ghost use Rattle.xfs_disk.specs.MemoryImage.{is_told_image};
+
+use crate::disk::{BLOCK_SIZE, Disk};
+use crate::failed::{Failed, NoMemory};
+use crate::schedule::Schedule;
+use std::alloc::Global;
+
+/// A disk in memory. It tells its contents, and not its stops.
+#[derive(Debug, Drop)]
+pub struct MemoryDisk {
+    bytes: Vec<u8>,
+    blocks: u64,
+    faults: u64,
+    write_faults: u64,
+    schedule: Schedule,
+    /// After how many more writes every call fails.
+    writes_left: Option<u64>,
+    ghost whole: { length bytes.items ≡ blocks * 4096 },
+    ghost bytes_fit: { All (λ b. b < 256) bytes.items },
+    ghost quiet: { schedule.failing.items ≡ [] → writes_left ≡ None → (faults ≡ 0) × (write_faults ≡ 0) },
+}
+
+impl MemoryDisk {
+    ghost use Rattle.xfs_disk.specs.MemoryDisk.{image_of, calls_made, failing_calls, stop_of, IsStopped, FailsNext, KeepsDisk, CountsCall};
+
+    /// A disk of so many blocks of zeros, with no call that is to fail.
+    pub fn make(alloc: Global, blocks: u64) -> Result<MemoryDisk, NoMemory>
+        ensures zero { IfOk result (λ disk. ⟦<MemoryDisk as Disk>⟧.holds disk ≡ Some (replicate blocks (replicate 4096 0))) }
+        ensures size { IfOk result (λ disk. ⟦<MemoryDisk as Disk>⟧.size disk ≡ blocks) }
+        ensures faults { IfOk result (λ disk. ⟦<MemoryDisk as Disk>⟧.faults disk ≡ 0) }
+        ensures write_faults { IfOk result (λ disk. ⟦<MemoryDisk as Disk>⟧.write_faults disk ≡ 0) }
+        ensures calls { IfOk result (λ disk. calls_made disk ≡ 0) }
+        ensures failing { IfOk result (λ disk. failing_calls disk ≡ []) }
+        ensures stop { IfOk result (λ disk. stop_of disk ≡ None) }
+        ensures fits { OnOk result (blocks * 4096 < 2 ^ 64) }
+    {
+        let Some(size) = blocks.checked_mul(BLOCK_SIZE as u64) else {
+            return Err(NoMemory);
+        };
+        match vec![in alloc; 0; size as usize] {
+            Ok(bytes) => Ok(MemoryDisk {
+                bytes,
+                blocks,
+                faults: 0,
+                write_faults: 0,
+                schedule: Schedule::new(alloc),
+                writes_left: None,
+            }),
+            Err(_) => Err(NoMemory),
+        }
+    }
+
+    /// Makes the read, write or sync of this number fail, counted from 1 from now on.
+    pub fn fail(&mut self, call: u64) -> Result<(), NoMemory>
+        ensures added { OnOk result (failing_calls self.new ≡ failing_calls self.old ++ (calls_made self.old + call) ∷ []) }
+        ensures stays { OnErr result (failing_calls self.new ≡ failing_calls self.old) }
+        ensures calls { calls_made self.new ≡ calls_made self.old }
+        ensures stop { stop_of self.new ≡ stop_of self.old }
+        ensures disk { KeepsDisk self.old self.new }
+    {
+        self.schedule.fail(call)
+    }
+
+    /// Makes every later call fail and change nothing once so many writes were done from now on.
+    pub fn stop_after(&mut self, writes: u64)
+        ensures stop { stop_of self.new ≡ sooner (stop_of self.old) writes }
+        ensures failing { failing_calls self.new ≡ failing_calls self.old }
+        ensures calls { calls_made self.new ≡ calls_made self.old }
+        ensures disk { KeepsDisk self.old self.new }
+    {
+        self.writes_left = match self.writes_left {
+            Some(left) => Some(left.min(writes)),
+            None => Some(writes),
+        };
+    }
+
+    /// The bytes of the disk, block after block.
+    pub fn image(&self) -> &[u8]
+        ensures bytes { result.now ≡ concat (image_of self.now) }
+        ensures size { length result.now ≡ ⟦<MemoryDisk as Disk>⟧.size self.now * 4096 }
+    {
+        self.bytes.as_slice()
+    }
+
+    /// Whether every call fails now.
+    fn is_stopped(&self) -> bool
+        ensures { IsTrue result ↔ IsStopped self.now }
+    {
+        self.writes_left == Some(0)
+    }
+
+    /// Counts a read, write or sync, and says whether it is to fail.
+    fn is_failing(&mut self) -> bool
+        ensures due { IsTrue result ↔ FailsNext self.old }
+        ensures counted { CountsCall self.old self.new }
+        ensures stop { stop_of self.new ≡ stop_of self.old }
+        ensures disk { KeepsDisk self.old self.new }
+    {
+        let failing = self.schedule.count();
+        failing || self.is_stopped()
+    }
+}
+
+impl Disk for MemoryDisk {
+    ghost use Rattle.xfs_disk.specs.MemoryDisk.{size_of, image_of, faults_of, write_faults_of, calls_made, failing_calls, stop_of, IsStopped, FailsNext, CountsCall};
+
+    ghost size = { size_of };
+
+    ghost holds = { λ disk. Some (image_of disk) };
+
+    ghost faults = { faults_of };
+
+    ghost write_faults = { write_faults_of };
+
+    fn faults(&self) -> u64 {
+        self.faults
+    }
+
+    /// Fails exactly where the disk is stopped.
+    fn blocks(&mut self) -> Result<u64, Failed>
+        ensures fails { IsErr result ↔ IsStopped self.old }
+        ensures count { IfOk result (λ n. n ≡ size_of self.old) }
+        ensures size { size_of self.new ≡ size_of self.old }
+        ensures image { image_of self.new ≡ image_of self.old }
+        ensures faults { CountsFailure (faults_of self.old) (faults_of self.new) result }
+        ensures write_faults { write_faults_of self.new ≡ write_faults_of self.old }
+        ensures calls { calls_made self.new ≡ calls_made self.old }
+        ensures failing { failing_calls self.new ≡ failing_calls self.old }
+        ensures stop { stop_of self.new ≡ stop_of self.old }
+    {
+        if self.is_stopped() {
+            self.faults = self.faults.saturating_add(1);
+            return Err(Failed);
+        }
+        Ok(self.blocks)
+    }
+
+    fn read(&mut self, at: u64, into: &mut [u8]) -> Result<(), Failed>
+        requires inside { at < size_of self.old }
+        requires whole { length into.old ≡ 4096 }
+        ensures fails { IsErr result ↔ FailsNext self.old }
+        ensures bytes { OnOk result (slice_get (image_of self.old) at ≡ Some into.new) }
+        ensures untouched { OnErr result (into.new ≡ into.old) }
+        ensures size { size_of self.new ≡ size_of self.old }
+        ensures image { image_of self.new ≡ image_of self.old }
+        ensures faults { CountsFailure (faults_of self.old) (faults_of self.new) result }
+        ensures write_faults { write_faults_of self.new ≡ write_faults_of self.old }
+        ensures counted { CountsCall self.old self.new }
+        ensures stop { stop_of self.new ≡ stop_of self.old }
+    {
+        if self.is_failing() {
+            self.faults = self.faults.saturating_add(1);
+            return Err(Failed);
+        }
+        let start = at as usize * BLOCK_SIZE;
+        into.copy_from_slice(&self.bytes[start..start + BLOCK_SIZE]);
+        Ok(())
+    }
+
+    /// Writes the block of number `at`. After `Failed` it is as before.
+    fn write(&mut self, at: u64, from: &[u8]) -> Result<(), Failed>
+        requires inside { at < size_of self.old }
+        requires whole { length from.now ≡ 4096 }
+        ensures fails { IsErr result ↔ FailsNext self.old }
+        ensures written { OnOk result (image_of self.new ≡ slice_set (image_of self.old) at from.now) }
+        ensures old { OnErr result (image_of self.new ≡ image_of self.old) }
+        ensures size { size_of self.new ≡ size_of self.old }
+        ensures faults { faults_of self.new ≡ faults_of self.old }
+        ensures write_faults { CountsFailure (write_faults_of self.old) (write_faults_of self.new) result }
+        ensures counted { CountsCall self.old self.new }
+        ensures stop { OnOk result (stop_of self.new ≡ after_write (stop_of self.old)) }
+        ensures stop_stays { OnErr result (stop_of self.new ≡ stop_of self.old) }
+    {
+        if self.is_failing() {
+            self.write_faults = self.write_faults.saturating_add(1);
+            return Err(Failed);
+        }
+        put_block(&mut self.bytes, at as usize, from);
+        self.writes_left = less_one(self.writes_left);
+        Ok(())
+    }
+
+    fn sync(&mut self) -> Result<(), Failed>
+        ensures fails { IsErr result ↔ FailsNext self.old }
+        ensures size { size_of self.new ≡ size_of self.old }
+        ensures image { image_of self.new ≡ image_of self.old }
+        ensures faults { faults_of self.new ≡ faults_of self.old }
+        ensures write_faults { CountsFailure (write_faults_of self.old) (write_faults_of self.new) result }
+        ensures counted { CountsCall self.old self.new }
+        ensures stop { stop_of self.new ≡ stop_of self.old }
+    {
+        if self.is_failing() {
+            self.write_faults = self.write_faults.saturating_add(1);
+            return Err(Failed);
+        }
+        Ok(())
+    }
+
+    ghost shape = { λ disk image told. is_told_image disk.blocks disk.bytes.items image disk.whole disk.bytes_fit told };
+
+    ghost counts_now = { λ disk t image tells. absurd tells };
+
+    ghost only_now = { λ disk image tells. absurd tells };
+}
+
+/// How many writes are left after one more.
+fn less_one(writes_left: Option<u64>) -> Option<u64>
+    ensures { result ≡ after_write writes_left }
+{
+    match writes_left {
+        Some(left) => Some(left.saturating_sub(1)),
+        None => None,
+    }
+}
+
+/// Puts a block in the place of the one of number `at`.
+fn put_block(bytes: &mut [u8], at: usize, from: &[u8])
+    requires inside { at * 4096 + 4096 ≤ length bytes.old }
+    requires whole { length from.now ≡ 4096 }
+    ensures { bytes.new ≡ with_block bytes.old at from.now }
+{
+    let start = at * BLOCK_SIZE;
+    bytes[start..start + BLOCK_SIZE].copy_from_slice(from);
+}
