@@ -7,6 +7,7 @@ mod gate;
 mod library;
 mod memory_disk;
 mod schedule;
+mod stamp;
 mod stream;
 mod word;
 
@@ -15,5 +16,6 @@ pub use failed::{Failed, NoMemory};
 pub use gate::{Gate, NoGate};
 pub use library::{Library, LibraryError};
 pub use memory_disk::MemoryDisk;
+pub use stamp::Stamp;
 pub use stream::{Sink, Source};
 pub use word::Word;

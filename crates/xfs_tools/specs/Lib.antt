@@ -1,0 +1,6 @@
+pub mod Backups
+pub mod CommandLine
+pub mod Due
+pub mod Outcome
+pub mod Plans
+pub mod Texts
