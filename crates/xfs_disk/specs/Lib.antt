@@ -7,3 +7,5 @@ pub mod Memory
 pub mod MemoryImage
 pub mod Schedule
 pub mod MemoryDisk
+pub mod MemorySource
+pub mod MemorySink
