@@ -9,3 +9,6 @@ pub mod Schedule
 pub mod MemoryDisk
 pub mod MemorySource
 pub mod MemorySink
+pub mod FileDisk
+pub mod Streams
+pub mod FileLibrary

@@ -1,7 +1,8 @@
 //! A disk that is a file of the system.
 
-ghost use Rattle.std.specs.Prelude.{◌≡◌, ◌+◌, ◌*◌, ◌^◌, ◌<◌, ◌≤◌, None};
+ghost use Rattle.std.specs.Prelude.{◌≡◌, ◌*◌, ◌/◌, ◌^◌, ◌<◌, ◌↔◌, length, None, IsSome, IsNone, IfSome, IfOk, OnOk, IsErr};
 ghost use Rattle.std.proofs.Common.{rules};
+ghost use Rattle.xfs_disk.specs.Counts.{CountsFailure};
 
 use crate::counting::counted;
 use crate::disk::{BLOCK_SIZE, Disk};
@@ -25,8 +26,15 @@ pub struct FileDisk<F> {
 }
 
 impl<F: Read + Write + Seek + OpenFile + Drop> FileDisk<F> {
+    ghost use Rattle.xfs_disk.specs.FileDisk.{file_of, size_of, faults_of, write_faults_of};
+
     /// The disk of an opened file, with as many blocks as the file has whole blocks of 4096 bytes.
-    pub fn open(mut file: F) -> io::Result<FileDisk<F>> {
+    pub fn open(mut file: F) -> io::Result<FileDisk<F>>
+        ensures opened { IfOk result (λ disk. IsSome (file_of disk)) }
+        ensures size { IfSome (F.stream_position file) (λ _. IfSome (F.stream_bytes file) (λ bytes. IfOk result (λ disk. size_of disk ≡ length bytes / 4096))) }
+        ensures faults { IfOk result (λ disk. faults_of disk ≡ 0) }
+        ensures write_faults { IfOk result (λ disk. write_faults_of disk ≡ 0) }
+    {
         let bytes = file.seek(SeekFrom::End(0))?;
         Ok(FileDisk {
             file: Some(file),
@@ -38,7 +46,10 @@ impl<F: Read + Write + Seek + OpenFile + Drop> FileDisk<F> {
 
     /// The disk of no file.
     pub fn unopened() -> FileDisk<F>
-        ensures { ⟦<FileDisk<F> as Disk>⟧.size result ≡ 0 }
+        ensures unopened { file_of result ≡ None }
+        ensures size { size_of result ≡ 0 }
+        ensures faults { faults_of result ≡ 0 }
+        ensures write_faults { write_faults_of result ≡ 0 }
     {
         FileDisk {
             file: None,
@@ -50,19 +61,27 @@ impl<F: Read + Write + Seek + OpenFile + Drop> FileDisk<F> {
 }
 
 impl<F: Read + Write + Seek + OpenFile + Drop> Disk for FileDisk<F> {
-    ghost size = { λ disk. disk.blocks };
+    ghost use Rattle.xfs_disk.specs.FileDisk.{file_of, size_of, faults_of, write_faults_of};
+
+    ghost size = { size_of };
 
     ghost holds = { λ _. None };
 
-    ghost faults = { λ disk. disk.faults };
+    ghost faults = { faults_of };
 
-    ghost write_faults = { λ disk. disk.write_faults };
+    ghost write_faults = { write_faults_of };
 
     fn faults(&self) -> u64 {
         self.faults
     }
 
-    fn blocks(&mut self) -> Result<u64, Failed> {
+    fn blocks(&mut self) -> Result<u64, Failed>
+        ensures opened { IsErr result ↔ IsNone (file_of self.old) }
+        ensures count { IfOk result (λ n. n ≡ size_of self.old) }
+        ensures size { size_of self.new ≡ size_of self.old }
+        ensures faults { CountsFailure (faults_of self.old) (faults_of self.new) result }
+        ensures write_faults { write_faults_of self.new ≡ write_faults_of self.old }
+    {
         let outcome = match &self.file {
             Some(_) => Ok(self.blocks),
             None => Err(no_file()),
@@ -70,7 +89,14 @@ impl<F: Read + Write + Seek + OpenFile + Drop> Disk for FileDisk<F> {
         counted(outcome, &mut self.faults)
     }
 
-    fn read(&mut self, at: u64, into: &mut [u8]) -> Result<(), Failed> {
+    fn read(&mut self, at: u64, into: &mut [u8]) -> Result<(), Failed>
+        requires inside { at < size_of self.old }
+        requires whole { length into.old ≡ 4096 }
+        ensures opened { OnOk result (IsSome (file_of self.old)) }
+        ensures size { size_of self.new ≡ size_of self.old }
+        ensures faults { CountsFailure (faults_of self.old) (faults_of self.new) result }
+        ensures write_faults { write_faults_of self.new ≡ write_faults_of self.old }
+    {
         let outcome = match &mut self.file {
             Some(file) => read_at(file, at * BLOCK_BYTES, into),
             None => Err(no_file()),
@@ -78,7 +104,14 @@ impl<F: Read + Write + Seek + OpenFile + Drop> Disk for FileDisk<F> {
         counted(outcome, &mut self.faults)
     }
 
-    fn write(&mut self, at: u64, from: &[u8]) -> Result<(), Failed> {
+    fn write(&mut self, at: u64, from: &[u8]) -> Result<(), Failed>
+        requires inside { at < size_of self.old }
+        requires whole { length from.now ≡ 4096 }
+        ensures opened { OnOk result (IsSome (file_of self.old)) }
+        ensures size { size_of self.new ≡ size_of self.old }
+        ensures faults { faults_of self.new ≡ faults_of self.old }
+        ensures write_faults { CountsFailure (write_faults_of self.old) (write_faults_of self.new) result }
+    {
         let outcome = match &mut self.file {
             Some(file) => write_at(file, at * BLOCK_BYTES, from),
             None => Err(no_file()),
@@ -86,7 +119,12 @@ impl<F: Read + Write + Seek + OpenFile + Drop> Disk for FileDisk<F> {
         counted(outcome, &mut self.write_faults)
     }
 
-    fn sync(&mut self) -> Result<(), Failed> {
+    fn sync(&mut self) -> Result<(), Failed>
+        ensures opened { OnOk result (IsSome (file_of self.old)) }
+        ensures size { size_of self.new ≡ size_of self.old }
+        ensures faults { faults_of self.new ≡ faults_of self.old }
+        ensures write_faults { CountsFailure (write_faults_of self.old) (write_faults_of self.new) result }
+    {
         let outcome = match &self.file {
             Some(file) => file.sync_all(),
             None => Err(no_file()),
