@@ -7,3 +7,8 @@ pub mod Memory
 pub mod MemoryImage
 pub mod Schedule
 pub mod MemoryDisk
+pub mod MemorySource
+pub mod MemorySink
+pub mod FileDisk
+pub mod Streams
+pub mod FileLibrary

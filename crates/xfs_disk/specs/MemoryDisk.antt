@@ -1,9 +1,9 @@
 -- What contracts see of a disk in memory.
-use Rattle.std.specs.Prelude.{◌≡◌, ℕ, ◌⊎◌, List, Option, Some}
-use Rattle.std.specs.List.{Contains}
+use Rattle.std.specs.Prelude.{◌≡◌, ℕ, ◌⊎◌, Option, Some}
 use Rattle.xfs_disk.specs.Blocks.{Image}
-use Rattle.xfs_disk.specs.Counts.{raised}
 use Rattle.xfs_disk.specs.Memory.{blocks_of}
+use Rattle.xfs_disk.specs.Schedule.{IsDue}
+use Rattle.xfs_disk.specs.declared.schedule.Schedule.{Schedule}
 use Rattle.xfs_disk.specs.declared.memory_disk.MemoryDisk.{MemoryDisk}
 
 -- how many blocks the disk has
@@ -22,13 +22,9 @@ faults_of disk = disk.faults
 abbrev pub write_faults_of : MemoryDisk → ℕ
 write_faults_of disk = disk.write_faults
 
--- how many reads, writes and syncs were called
-abbrev pub calls_made : MemoryDisk → ℕ
-calls_made disk = disk.schedule.calls
-
--- the reads, writes and syncs that are to fail, each by its number since the disk was made
-abbrev pub failing_calls : MemoryDisk → List ℕ
-failing_calls disk = disk.schedule.failing.items
+-- the reads, writes and syncs that were called and those that are to fail
+abbrev pub schedule_of : MemoryDisk → Schedule
+schedule_of disk = disk.schedule
 
 -- after how many more writes every call fails, where that was asked for
 abbrev pub stop_of : MemoryDisk → Option ℕ
@@ -40,7 +36,7 @@ IsStopped disk = stop_of disk ≡ Some 0
 
 -- the next read, write or sync fails: the disk is stopped, or this call was named
 abbrev pub FailsNext : MemoryDisk → Type 0
-FailsNext disk = IsStopped disk ⊎ Contains (failing_calls disk) (raised (calls_made disk))
+FailsNext disk = IsStopped disk ⊎ IsDue (schedule_of disk)
 
 -- size, contents and both counts are the same
 pub record KeepsDisk (old new : MemoryDisk) : Type 0 where
@@ -48,8 +44,3 @@ pub record KeepsDisk (old new : MemoryDisk) : Type 0 where
   pub image : image_of new ≡ image_of old
   pub faults : faults_of new ≡ faults_of old
   pub write_faults : write_faults_of new ≡ write_faults_of old
-
--- a read, write or sync was counted, and the same calls are to fail
-pub record CountsCall (old new : MemoryDisk) : Type 0 where
-  pub calls : calls_made new ≡ raised (calls_made old)
-  pub failing : failing_calls new ≡ failing_calls old

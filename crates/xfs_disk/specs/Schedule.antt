@@ -1,5 +1,30 @@
--- How many writes are left before a disk in memory stops.
-use Rattle.std.specs.Prelude.{ℕ, ◌-◌, min, Option, Some, None}
+-- Which calls of an object in memory are to fail, and when a disk in memory stops.
+use Rattle.std.specs.Prelude.{◌≡◌, ℕ, ◌+◌, ◌-◌, min, List, [], ◌∷◌, ◌++◌, Option, Some, None, Result, Ok, Err}
+use Rattle.std.specs.List.{Contains}
+use Rattle.xfs_disk.specs.Counts.{raised}
+use Rattle.xfs_disk.specs.declared.schedule.Schedule.{Schedule}
+
+-- how many calls were made
+abbrev pub calls_made : Schedule → ℕ
+calls_made schedule = schedule.calls
+
+-- the calls that are to fail, each by its number since the first call of all
+abbrev pub failing_calls : Schedule → List ℕ
+failing_calls schedule = schedule.failing.items
+
+-- the next call is to fail
+abbrev pub IsDue : Schedule → Type 0
+IsDue schedule = Contains (failing_calls schedule) (raised (calls_made schedule))
+
+-- one call was made, and the same calls are to fail
+pub record CountsCall (old new : Schedule) : Type 0 where
+  pub calls : calls_made new ≡ raised (calls_made old)
+  pub failing : failing_calls new ≡ failing_calls old
+
+-- the call of this number, counted from 1 from now on, is to fail too; after an error nothing changed
+abbrev pub AddsCall : {E : Type 0} → ℕ → Schedule → Schedule → Result (Unit {0}) E → Type 0
+AddsCall call old new (Ok _) = (calls_made new ≡ calls_made old) × (failing_calls new ≡ failing_calls old ++ (calls_made old + call) ∷ [])
+AddsCall call old new (Err _) = (calls_made new ≡ calls_made old) × (failing_calls new ≡ failing_calls old)
 
 -- the sooner of a stop that was asked for and one after so many writes
 abbrev pub sooner : Option ℕ → ℕ → Option ℕ

@@ -1,21 +1,34 @@
 //! The outside of the tools: disks, sources, sinks and libraries, with their contents and faults.
 #![tactic(auto)]
 
+mod counting;
 mod disk;
 mod failed;
+mod file_disk;
+mod file_library;
 mod gate;
 mod library;
 mod memory_disk;
+mod memory_library;
+mod memory_sink;
+mod memory_source;
 mod schedule;
 mod stamp;
 mod stream;
+mod streams;
 mod word;
 
 pub use disk::{BLOCK_SIZE, Disk};
 pub use failed::{Failed, NoMemory};
+pub use file_disk::FileDisk;
+pub use file_library::FileLibrary;
 pub use gate::{Gate, NoGate};
 pub use library::{Library, LibraryError};
 pub use memory_disk::MemoryDisk;
+pub use memory_library::MemoryLibrary;
+pub use memory_sink::MemorySink;
+pub use memory_source::MemorySource;
 pub use stamp::Stamp;
 pub use stream::{Sink, Source};
+pub use streams::{StreamSink, StreamSource};
 pub use word::Word;

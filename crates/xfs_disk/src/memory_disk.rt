@@ -3,7 +3,7 @@
 ghost use Rattle.std.specs.Prelude.{◌≡◌, ℕ, ◌+◌, ◌-◌, ◌*◌, ◌^◌, ◌<◌, ◌≤◌, min, List, [], ◌∷◌, ◌++◌, length, replicate, Option, Some, None, IsTrue, IsErr, IfOk, OnOk, OnErr, ◌↔◌, slice_get, slice_set};
 ghost use Rattle.std.specs.List.{All, concat};
 ghost use Rattle.xfs_disk.specs.Counts.{CountsFailure};
-ghost use Rattle.xfs_disk.specs.Schedule.{sooner, after_write};
+ghost use Rattle.xfs_disk.specs.Schedule.{after_write};
 ghost use Rattle.xfs_disk.specs.Memory.{blocks_of, with_block};
 ghost use Rattle.xfs_disk.specs.MemoryImage.{is_told_image};
 
@@ -28,7 +28,8 @@ pub struct MemoryDisk {
 }
 
 impl MemoryDisk {
-    ghost use Rattle.xfs_disk.specs.MemoryDisk.{image_of, calls_made, failing_calls, stop_of, IsStopped, FailsNext, KeepsDisk, CountsCall};
+    ghost use Rattle.xfs_disk.specs.MemoryDisk.{image_of, schedule_of, stop_of, IsStopped, FailsNext, KeepsDisk};
+    ghost use Rattle.xfs_disk.specs.Schedule.{calls_made, failing_calls, CountsCall, AddsCall, sooner};
 
     /// A disk of so many blocks of zeros, with no call that is to fail.
     pub fn make(alloc: Global, blocks: u64) -> Result<MemoryDisk, NoMemory>
@@ -36,8 +37,8 @@ impl MemoryDisk {
         ensures size { IfOk result (λ disk. ⟦<MemoryDisk as Disk>⟧.size disk ≡ blocks) }
         ensures faults { IfOk result (λ disk. ⟦<MemoryDisk as Disk>⟧.faults disk ≡ 0) }
         ensures write_faults { IfOk result (λ disk. ⟦<MemoryDisk as Disk>⟧.write_faults disk ≡ 0) }
-        ensures calls { IfOk result (λ disk. calls_made disk ≡ 0) }
-        ensures failing { IfOk result (λ disk. failing_calls disk ≡ []) }
+        ensures calls { IfOk result (λ disk. calls_made (schedule_of disk) ≡ 0) }
+        ensures failing { IfOk result (λ disk. failing_calls (schedule_of disk) ≡ []) }
         ensures stop { IfOk result (λ disk. stop_of disk ≡ None) }
         ensures fits { OnOk result (blocks * 4096 < 2 ^ 64) }
     {
@@ -59,9 +60,7 @@ impl MemoryDisk {
 
     /// Makes the read, write or sync of this number fail, counted from 1 from now on.
     pub fn fail(&mut self, call: u64) -> Result<(), NoMemory>
-        ensures added { OnOk result (failing_calls self.new ≡ failing_calls self.old ++ (calls_made self.old + call) ∷ []) }
-        ensures stays { OnErr result (failing_calls self.new ≡ failing_calls self.old) }
-        ensures calls { calls_made self.new ≡ calls_made self.old }
+        ensures added { AddsCall call (schedule_of self.old) (schedule_of self.new) result }
         ensures stop { stop_of self.new ≡ stop_of self.old }
         ensures disk { KeepsDisk self.old self.new }
     {
@@ -71,8 +70,7 @@ impl MemoryDisk {
     /// Makes every later call fail and change nothing once so many writes were done from now on.
     pub fn stop_after(&mut self, writes: u64)
         ensures stop { stop_of self.new ≡ sooner (stop_of self.old) writes }
-        ensures failing { failing_calls self.new ≡ failing_calls self.old }
-        ensures calls { calls_made self.new ≡ calls_made self.old }
+        ensures schedule { schedule_of self.new ≡ schedule_of self.old }
         ensures disk { KeepsDisk self.old self.new }
     {
         self.writes_left = match self.writes_left {
@@ -99,7 +97,7 @@ impl MemoryDisk {
     /// Counts a read, write or sync, and says whether it is to fail.
     fn is_failing(&mut self) -> bool
         ensures due { IsTrue result ↔ FailsNext self.old }
-        ensures counted { CountsCall self.old self.new }
+        ensures counted { CountsCall (schedule_of self.old) (schedule_of self.new) }
         ensures stop { stop_of self.new ≡ stop_of self.old }
         ensures disk { KeepsDisk self.old self.new }
     {
@@ -109,7 +107,8 @@ impl MemoryDisk {
 }
 
 impl Disk for MemoryDisk {
-    ghost use Rattle.xfs_disk.specs.MemoryDisk.{size_of, image_of, faults_of, write_faults_of, calls_made, failing_calls, stop_of, IsStopped, FailsNext, CountsCall};
+    ghost use Rattle.xfs_disk.specs.MemoryDisk.{size_of, image_of, faults_of, write_faults_of, schedule_of, stop_of, IsStopped, FailsNext};
+    ghost use Rattle.xfs_disk.specs.Schedule.{CountsCall};
 
     ghost size = { size_of };
 
@@ -131,8 +130,7 @@ impl Disk for MemoryDisk {
         ensures image { image_of self.new ≡ image_of self.old }
         ensures faults { CountsFailure (faults_of self.old) (faults_of self.new) result }
         ensures write_faults { write_faults_of self.new ≡ write_faults_of self.old }
-        ensures calls { calls_made self.new ≡ calls_made self.old }
-        ensures failing { failing_calls self.new ≡ failing_calls self.old }
+        ensures schedule { schedule_of self.new ≡ schedule_of self.old }
         ensures stop { stop_of self.new ≡ stop_of self.old }
     {
         if self.is_stopped() {
@@ -152,7 +150,7 @@ impl Disk for MemoryDisk {
         ensures image { image_of self.new ≡ image_of self.old }
         ensures faults { CountsFailure (faults_of self.old) (faults_of self.new) result }
         ensures write_faults { write_faults_of self.new ≡ write_faults_of self.old }
-        ensures counted { CountsCall self.old self.new }
+        ensures counted { CountsCall (schedule_of self.old) (schedule_of self.new) }
         ensures stop { stop_of self.new ≡ stop_of self.old }
     {
         if self.is_failing() {
@@ -174,7 +172,7 @@ impl Disk for MemoryDisk {
         ensures size { size_of self.new ≡ size_of self.old }
         ensures faults { faults_of self.new ≡ faults_of self.old }
         ensures write_faults { CountsFailure (write_faults_of self.old) (write_faults_of self.new) result }
-        ensures counted { CountsCall self.old self.new }
+        ensures counted { CountsCall (schedule_of self.old) (schedule_of self.new) }
         ensures stop { OnOk result (stop_of self.new ≡ after_write (stop_of self.old)) }
         ensures stop_stays { OnErr result (stop_of self.new ≡ stop_of self.old) }
     {
@@ -193,7 +191,7 @@ impl Disk for MemoryDisk {
         ensures image { image_of self.new ≡ image_of self.old }
         ensures faults { faults_of self.new ≡ faults_of self.old }
         ensures write_faults { CountsFailure (write_faults_of self.old) (write_faults_of self.new) result }
-        ensures counted { CountsCall self.old self.new }
+        ensures counted { CountsCall (schedule_of self.old) (schedule_of self.new) }
         ensures stop { stop_of self.new ≡ stop_of self.old }
     {
         if self.is_failing() {

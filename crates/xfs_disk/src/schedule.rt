@@ -1,7 +1,6 @@
 //! Which calls of an object in memory are to fail.
 
-ghost use Rattle.std.specs.Prelude.{◌≡◌, ℕ, ◌+◌, ◌-◌, ◌^◌, min, ◌∷◌, [], ◌++◌, IsTrue, ◌↔◌, OnOk, OnErr};
-ghost use Rattle.std.specs.List.{Contains};
+ghost use Rattle.std.specs.Prelude.{◌≡◌, [], IsTrue, ◌↔◌};
 
 use crate::failed::NoMemory;
 use std::alloc::Global;
@@ -16,10 +15,12 @@ pub(crate) struct Schedule {
 }
 
 impl Schedule {
+    ghost use Rattle.xfs_disk.specs.Schedule.{calls_made, failing_calls, IsDue, CountsCall, AddsCall};
+
     /// No call is to fail.
     pub(crate) fn new(alloc: Global) -> Schedule
-        ensures calls { result.calls ≡ 0 }
-        ensures failing { result.failing.items ≡ [] }
+        ensures calls { calls_made result ≡ 0 }
+        ensures failing { failing_calls result ≡ [] }
     {
         Schedule {
             calls: 0,
@@ -29,9 +30,7 @@ impl Schedule {
 
     /// Makes the call of this number fail, counted from 1 from now on.
     pub(crate) fn fail(&mut self, call: u64) -> Result<(), NoMemory>
-        ensures calls { self.new.calls ≡ self.old.calls }
-        ensures added { OnOk result (self.new.failing.items ≡ self.old.failing.items ++ (self.old.calls + call) ∷ []) }
-        ensures stays { OnErr result (self.new.failing.items ≡ self.old.failing.items) }
+        ensures { AddsCall call self.old self.new result }
     {
         let number = u128::from(self.calls) + u128::from(call);
         match self.failing.push(number) {
@@ -42,9 +41,8 @@ impl Schedule {
 
     /// Counts a call, and says whether it is to fail.
     pub(crate) fn count(&mut self) -> bool
-        ensures calls { self.new.calls ≡ min (self.old.calls + 1) (2 ^ 64 - 1) }
-        ensures failing { self.new.failing.items ≡ self.old.failing.items }
-        ensures due { IsTrue result ↔ Contains self.old.failing.items (min (self.old.calls + 1) (2 ^ 64 - 1)) }
+        ensures due { IsTrue result ↔ IsDue self.old }
+        ensures counted { CountsCall self.old self.new }
     {
         self.calls = self.calls.saturating_add(1);
         let number = u128::from(self.calls);

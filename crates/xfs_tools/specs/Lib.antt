@@ -2,5 +2,6 @@ pub mod Backups
 pub mod CommandLine
 pub mod Due
 pub mod Outcome
+pub mod Planning
 pub mod Plans
 pub mod Texts

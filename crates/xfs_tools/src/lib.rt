@@ -2,6 +2,7 @@
 #![tactic(auto)]
 
 mod answer;
+mod backups;
 mod command_line;
 mod plan;
 

@@ -1,0 +1,19 @@
+-- What contracts see of a disk that is a file of the system.
+use Rattle.std.specs.Prelude.{ℕ, Option}
+use Rattle.xfs_disk.specs.declared.file_disk.FileDisk.{FileDisk}
+
+-- the opened file, or none
+abbrev pub file_of : {F : Type 0} → FileDisk F → Option F
+file_of disk = disk.file
+
+-- how many blocks the disk has
+abbrev pub size_of : {F : Type 0} → FileDisk F → ℕ
+size_of disk = disk.blocks
+
+-- how many reads failed
+abbrev pub faults_of : {F : Type 0} → FileDisk F → ℕ
+faults_of disk = disk.faults
+
+-- how many writes and syncs failed
+abbrev pub write_faults_of : {F : Type 0} → FileDisk F → ℕ
+write_faults_of disk = disk.write_faults

@@ -1,0 +1,32 @@
+//! A library in memory: the one with no file.
+
+ghost use Rattle.std.specs.Prelude.{◌≡◌, [], Some, Err};
+
+use crate::library::{Library, LibraryError};
+use crate::word::Word;
+use std::alloc::Global;
+
+/// A library with no file. It tells so.
+#[derive(Clone, Copy, Debug)]
+pub struct MemoryLibrary;
+
+impl MemoryLibrary {
+    /// The library with no file.
+    pub fn make() -> MemoryLibrary
+        ensures { ⟦<MemoryLibrary as Library>⟧.files result ≡ Some [] }
+    {
+        MemoryLibrary
+    }
+}
+
+impl Library for MemoryLibrary {
+    ghost files = { λ _. Some [] };
+
+    ghost faults = { λ _. 0 };
+
+    fn file(&mut self, _alloc: Global, _name: &Word) -> Result<Vec<u8>, LibraryError>
+        ensures { result ≡ Err LibraryError.Missing }
+    {
+        Err(LibraryError::Missing)
+    }
+}
