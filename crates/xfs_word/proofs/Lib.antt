@@ -1,4 +1,7 @@
+pub mod Digits
+pub mod Parts
 pub mod Register
+pub mod Rounds
 pub mod Rows
 pub mod Stays
 pub mod Written

@@ -1,8 +1,8 @@
 -- An object stays as right as it was where its checksum alone is written.
-use Rattle.std.proofs.Common.{◌≡◌, ℕ, ◌+◌, ◌%◌, ◌≤◌, ◌⊎◌, inl, inr, Bool, true, not, ◌&&◌, ◌||◌, ◌==◌, List, bytes_eq, Option, Some, None, IsTrue, IfSome, refl, sym, ◌∙◌, ap, ap₂, subst, arith}
+use Rattle.std.proofs.Common.{◌≡◌, ℕ, ◌+◌, ◌/◌, ◌%◌, ◌^◌, ◌≤◌, ◌⊎◌, inl, inr, Bool, true, not, ◌&&◌, ◌||◌, ◌==◌, List, bytes_eq, Option, Some, None, IsTrue, IfSome, refl, sym, ◌∙◌, ap, ap₂, subst, arith}
 use Rattle.xfs_word.specs.Field.{field_of, part_of, Beside, Keeps, KeepsParts}
 use Rattle.xfs_word.specs.Crc.{has_checksum}
-use Rattle.xfs_word.specs.Seal.{layout_of, begins_as_slot, has_magic, identifier_is, number_is, owner_is, is_lsn, is_ready, is_sealed, IsApart}
+use Rattle.xfs_word.specs.Seal.{layout_of, has_magic, identifier_is, number_is, owner_is, is_lsn, is_ready, is_sealed, IsApart}
 use Rattle.xfs_word.specs.declared.kinds.FieldPlace.{FieldPlace}
 use Rattle.xfs_word.specs.declared.kinds.Seal.{Seal}
 use Rattle.xfs_word.specs.declared.kinds.SealLayout.{SealLayout}
@@ -17,15 +17,14 @@ magic_stays Super old new same =
 magic_stays Agf old new same = ap (λ (m : ℕ). m == 0x5841_4746) (same 0 4 (inl (omega arith)))
 magic_stays Agi old new same = ap (λ (m : ℕ). m == 0x5841_4749) (same 0 4 (inl (omega arith)))
 magic_stays Agfl old new same = ap (λ (m : ℕ). m == 0x5841_464c) (same 0 4 (inl (omega arith)))
-magic_stays (ShortTree magic) old new same =
-    ap₂ (λ (m s : ℕ). m == magic && not (s == 0x494e)) (same 0 4 (inl (omega arith))) (same 0 2 (inl (omega arith)))
+magic_stays (ShortTree magic) old new same = ap (λ (m : ℕ). m == magic) (same 0 4 (inl (omega arith)))
 magic_stays LongTree old new same = ap (λ (m : ℕ). m == 0x424d_4133) (same 0 4 (inl (omega arith)))
 magic_stays Slot old new same =
     ap₂ (λ (m v : ℕ). m == 0x494e && v == 3) (same 0 2 (inl (omega arith))) (same 4 1 (inl (omega arith)))
 magic_stays DirData old new same = ap (λ (m : ℕ). m == 0x5844_4433 || m == 0x5844_4233) (same 0 4 (inl (omega arith)))
 magic_stays DirFree old new same = ap (λ (m : ℕ). m == 0x5844_4633) (same 0 4 (inl (omega arith)))
 magic_stays (Index magic) old new same =
-    ap₂ (λ (m s : ℕ). m == magic && not (s == 0x494e)) (same 8 2 (inl (omega arith))) (same 0 2 (inl (omega arith)))
+    ap₂ (λ (m n : ℕ). m == magic && not (n / 2 ^ 16 == 0x494e)) (same 8 2 (inl (omega arith))) (same 0 4 (inl (omega arith)))
 magic_stays Symlink old new same = ap (λ (m : ℕ). m == 0x5853_4c4d) (same 0 4 (inl (omega arith)))
 
 -- the identifier stands beside the checksum

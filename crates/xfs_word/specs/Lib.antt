@@ -1,3 +1,5 @@
 pub mod Crc
+pub mod Extent
 pub mod Field
+pub mod Hash
 pub mod Seal

@@ -29,9 +29,10 @@ layout_of DirFree = record { size = 4096; checksum = 4; identifier = Some 24; ad
 layout_of (Index magic) = record { size = 4096; checksum = 12; identifier = Some 32; address = number_at 16 8; owner = number_at 48 8; lsn = 24 }
 layout_of Symlink = record { size = 4096; checksum = 12; identifier = Some 16; address = number_at 40 8; owner = number_at 32 8; lsn = 48 }
 
--- a block begins with the magic number of an inode, `IN`, and is then no block of another kind (chapter "On-disk Inode")
+-- a block's first two bytes, the upper half of its first number, are the magic number of an inode, `IN`: it is then no
+-- block of another kind (chapter "On-disk Inode")
 abbrev pub begins_as_slot : List ℕ → Bool
-begins_as_slot bytes = field_of bytes 0 2 == 0x494e
+begins_as_slot bytes = field_of bytes 0 4 / 2 ^ 16 == 0x494e
 
 -- the object has the kind's magic number, and its version where the kind has one (chapter "Magic Numbers")
 unfoldable pub has_magic : SealKind → List ℕ → Bool
@@ -39,9 +40,9 @@ has_magic Super bytes = field_of bytes 0 4 == 0x5846_5342 && field_of bytes 100 
 has_magic Agf bytes = field_of bytes 0 4 == 0x5841_4746
 has_magic Agi bytes = field_of bytes 0 4 == 0x5841_4749
 has_magic Agfl bytes = field_of bytes 0 4 == 0x5841_464c
-has_magic (ShortTree magic) bytes = field_of bytes 0 4 == magic && not (begins_as_slot bytes)
+has_magic (ShortTree magic) bytes = field_of bytes 0 4 == magic
 has_magic LongTree bytes = field_of bytes 0 4 == 0x424d_4133
-has_magic Slot bytes = begins_as_slot bytes && field_of bytes 4 1 == 3
+has_magic Slot bytes = field_of bytes 0 2 == 0x494e && field_of bytes 4 1 == 3
 has_magic DirData bytes = field_of bytes 0 4 == 0x5844_4433 || field_of bytes 0 4 == 0x5844_4233
 has_magic DirFree bytes = field_of bytes 0 4 == 0x5844_4633
 has_magic (Index magic) bytes = field_of bytes 8 2 == magic && not (begins_as_slot bytes)

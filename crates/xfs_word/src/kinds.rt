@@ -71,7 +71,7 @@ pub struct SealLayout {
 }
 
 /// The magic number of an inode, `IN`.
-const SLOT_MAGIC: u16 = 0x494e;
+const SLOT_MAGIC: u32 = 0x494e;
 
 impl SealKind {
     /// Where an object of this kind has the fields that seal it.
@@ -115,13 +115,14 @@ impl SealKind {
             SealKind::Agf => get32(bytes, 0) == 0x5841_4746,
             SealKind::Agi => get32(bytes, 0) == 0x5841_4749,
             SealKind::Agfl => get32(bytes, 0) == 0x5841_464c,
-            SealKind::ShortTree { magic } => get32(bytes, 0) == *magic
-                && get16(bytes, 0) != SLOT_MAGIC,
+            SealKind::ShortTree { magic } => get32(bytes, 0) == *magic,
             SealKind::LongTree => get32(bytes, 0) == 0x424d_4133,
-            SealKind::Slot => get16(bytes, 0) == SLOT_MAGIC && get8(bytes, 4) == 3,
+            SealKind::Slot => get16(bytes, 0) as u32 == SLOT_MAGIC && get8(bytes, 4) == 3,
             SealKind::DirData => get32(bytes, 0) == 0x5844_4433 || get32(bytes, 0) == 0x5844_4233,
             SealKind::DirFree => get32(bytes, 0) == 0x5844_4633,
-            SealKind::Index { magic } => get16(bytes, 8) == *magic && get16(bytes, 0) != SLOT_MAGIC,
+            SealKind::Index { magic } => {
+                get16(bytes, 8) == *magic && get32(bytes, 0) >> 16 != SLOT_MAGIC
+            }
             SealKind::Symlink => get32(bytes, 0) == 0x5853_4c4d,
         }
     }

@@ -2,16 +2,22 @@
 #![tactic(auto)]
 
 mod checksum;
+mod extents;
 mod fields;
 mod kinds;
 mod layout;
+mod names;
 mod sealing;
 mod tables;
+#[cfg(test)]
+mod tests;
 
 pub use checksum::{crc_skipping, crc32c, is_checksum_right, put_checksum, stored_checksum};
+pub use extents::{Extent, pack_extent, unpack_extent};
 pub use fields::{
     field, get8, get16, get32, get64, part, put_field, put_part, put8, put16, put32, put64,
 };
 pub use kinds::{FieldPlace, Seal, SealKind, SealLayout};
 pub use layout::{FieldLayout, Form};
+pub use names::name_hash;
 pub use sealing::{ready, seal, sealed};
