@@ -1,5 +1,6 @@
 //! The geometry of a volume.
 
+ghost use Rattle.std.specs.Prelude.{◌≡◌, ℕ, ◌*◌, ◌<◌};
 ghost use Rattle.xfs_geom.specs.Shape.{IsShaped};
 
 /// The geometry of a volume, as an accepted superblock states it (chapter "Superblocks").
@@ -28,4 +29,16 @@ pub struct Geometry {
     /// The identifier of the volume.
     pub uuid: [u8; 16],
     pub ghost shape: { IsShaped dblocks agblocks agcount agblklog log logblocks rootino logsectlog },
+}
+
+impl Geometry {
+    /// The number of the block at which an allocation group begins.
+    #[tactic(auto, using(crate::proofs::Bounds::group_start))]
+    pub fn start_of_group(&self, group: u32) -> u64
+        requires { group < self.now.agcount }
+        ensures value { result ≡ group * self.now.agblocks }
+        ensures inside { result < self.now.dblocks }
+    {
+        group as u64 * self.agblocks as u64
+    }
 }

@@ -1,9 +1,9 @@
 //! Backup superblocks: which of them are to be written anew.
 
-ghost use Rattle.std.specs.Prelude.{◌≡◌, ℕ, ◌++◌, ◌-◌, ◌<◌, ◌≤◌, List, length, All, OnOk, IfOk, option_to_list};
+ghost use Rattle.std.specs.Prelude.{◌≡◌, ℕ, ◌++◌, ◌-◌, ◌<◌, ◌≤◌, List, length, All, OnOk, IfOk, option_to_list, vec_len};
 ghost use Rattle.std.specs.Option.{ForSome};
 ghost use Rattle.xfs_geom.specs.Volumes.{volume_of, stated_volume};
-ghost use Rattle.xfs_tools.specs.Backups.{block_of, start_of, step_of, steps_from, with_super};
+ghost use Rattle.xfs_tools.specs.Backups.{block_of, start_of, step_of, steps_from, super_of, with_super};
 ghost use Rattle.xfs_tools.specs.Planning.{HasPlanCause};
 
 use crate::plan::Planned;
@@ -86,13 +86,13 @@ fn plan_backup<D: Disk>(
     ensures write_faults { D.write_faults disk.new ≡ D.write_faults disk.old }
     ensures tells { D.tells_stops disk.old → D.tells_stops disk.new }
 {
-    let at = group as u64 * geometry.agblocks as u64;
+    let at = geometry.start_of_group(group);
     let mut block = [0; BLOCK_SIZE];
     match disk.read(at, &mut block) {
         Ok(()) => {}
         Err(Failed) => return Err(PlanFault::ReadFault),
     }
-    if agrees(geometry, &block[..SECTOR_SIZE]) {
+    if agrees(geometry, first_sector(&block)) {
         return Ok(None);
     }
     match mended(alloc, &block, primary) {
@@ -101,14 +101,25 @@ fn plan_backup<D: Disk>(
     }
 }
 
+/// The first sector of a block, where a superblock stands.
+pub fn first_sector(block: &[u8]) -> &[u8]
+    requires { length block.now ≡ 4096 }
+    ensures value { result.now ≡ super_of block.now }
+    ensures size { length result.now ≡ 512 }
+{
+    block.split_at(SECTOR_SIZE).0
+}
+
 /// A block with its first sector replaced by the primary superblock.
 fn mended(alloc: Global, block: &[u8], primary: &[u8]) -> Result<Vec<u8>, NoMemory>
     requires whole { length block.now ≡ 4096 }
     requires sector { length primary.now ≡ 512 }
-    ensures { IfOk result (λ bytes. bytes.items ≡ with_super primary.now block.now) }
+    ensures bytes { IfOk result (λ bytes. bytes.items ≡ with_super primary.now block.now) }
+    ensures size { IfOk result (λ bytes. vec_len bytes ≡ 4096) }
 {
+    let (_, rest) = block.split_at(SECTOR_SIZE);
     let mut bytes = Vec::with_capacity(alloc, BLOCK_SIZE)?;
     bytes.extend_from_slice(primary)?;
-    bytes.extend_from_slice(&block[SECTOR_SIZE..])?;
+    bytes.extend_from_slice(rest)?;
     Ok(bytes)
 }
