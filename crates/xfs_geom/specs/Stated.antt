@@ -61,14 +61,22 @@ has_root v =
 abbrev pub is_system_inode : ℕ → ℕ → ℕ → Bool
 is_system_inode place due ino = ino == due || (nat_lt 0 place && ino == 2 ^ 64 - 1)
 
--- shape words 8 to 13: those of the volume's parts
-unfoldable pub parts_fault : Stated → Option ℕ
-parts_fault v = first_false (
-    (8, nat_le 2 v.agcount && nat_le v.agcount 512) ∷ (9, nat_le 1024 v.agblocks) ∷ (10, is_filled v) ∷
-    (11, has_addresses v) ∷ (12, has_log_sectors v) ∷ (13, has_log v) ∷ [])
+-- shape words 8 to 13, with whether they hold: those of the volume's parts
+abbrev pub parts_tests : Stated → List (ℕ × Bool)
+parts_tests v =
+    (8, nat_le 2 v.agcount && nat_le v.agcount 512) ∷ (9, nat_le 1024 v.agblocks) ∷ (10, is_filled v) ∷ (11, has_addresses v)
+    ∷ (12, has_log_sectors v) ∷ (13, has_log v) ∷ []
 
--- shape words 14 to 18: those of the superblock's place, the image's blocks and the first inodes
+-- the first of shape words 8 to 13 that fails
+unfoldable pub parts_fault : Stated → Option ℕ
+parts_fault v = first_false (parts_tests v)
+
+-- shape words 14 to 18, with whether they hold: those of the superblock's place, the image's blocks and the first inodes
+abbrev pub place_tests : Stated → ℕ → ℕ → List (ℕ × Bool)
+place_tests v place blocks =
+    (14, place % v.agblocks == 0 && nat_lt place v.dblocks) ∷ (15, nat_le v.dblocks blocks) ∷ (16, has_root v)
+    ∷ (17, is_system_inode place (v.rootino + 1) v.rbmino) ∷ (18, is_system_inode place (v.rootino + 2) v.rsumino) ∷ []
+
+-- the first of shape words 14 to 18 that fails
 unfoldable pub place_fault : Stated → ℕ → ℕ → Option ℕ
-place_fault v place blocks = first_false (
-    (14, place % v.agblocks == 0 && nat_lt place v.dblocks) ∷ (15, nat_le v.dblocks blocks) ∷ (16, has_root v) ∷
-    (17, is_system_inode place (v.rootino + 1) v.rbmino) ∷ (18, is_system_inode place (v.rootino + 2) v.rsumino) ∷ [])
+place_fault v place blocks = first_false (place_tests v place blocks)

@@ -1,6 +1,6 @@
 //! Superblocks that are accepted, and the faults of those that are not.
 
-ghost use Rattle.std.specs.Prelude.{◌≡◌, ℕ, length, Option, Some, None, IfOk, IfErr};
+ghost use Rattle.std.specs.Prelude.{◌≡◌, ℕ, ◌≤◌, length, Option, Some, None, IfOk, IfErr};
 ghost use Rattle.xfs_geom.specs.Superblocks.{super_seal, super_fault};
 ghost use Rattle.xfs_geom.specs.Volumes.{volume_of, stated_volume};
 
@@ -42,6 +42,7 @@ pub fn read_super(sector: &[u8], place: u64, blocks: u64) -> Result<Geometry, Su
     requires { length sector.now ≡ 512 }
     ensures accepted { IfOk result (λ g. super_fault sector.now place blocks ≡ None) }
     ensures stated { IfOk result (λ g. volume_of g ≡ stated_volume sector.now) }
+    ensures inside { IfOk result (λ g. g.dblocks ≤ blocks) }
     ensures refused { IfErr result (λ fault. super_fault sector.now place blocks ≡ Some fault) }
 {
     if !sealed(&super_seal(), sector) {

@@ -92,6 +92,7 @@ impl Stated {
     pub fn place_fault(&self, place: u64, blocks: u64) -> Option<u8>
         requires { HasParts self.now }
         ensures first { result ≡ place_fault self.now place blocks }
+        ensures inside { IfNone result (self.now.dblocks ≤ blocks) }
         ensures kept { IfNone result (HasRoot self.now.dblocks self.now.agblocks self.now.agcount self.now.agblklog (log_of self.now) self.now.logblocks self.now.rootino) }
     {
         if place % self.agblocks as u64 != 0 || place >= self.dblocks {

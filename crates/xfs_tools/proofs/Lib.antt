@@ -1,2 +1,4 @@
+pub mod Mending
 pub mod Planning
+pub mod Telling
 pub mod Writing

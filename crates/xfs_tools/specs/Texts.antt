@@ -1,6 +1,7 @@
 -- The line of each answer, the stream that it goes to, and the exit status.
-use Rattle.std.specs.Prelude.{◌≡◌, ℕ, ◌≤◌, Bool, true, false, if◌then◌else◌, codes, decimal, List, [], ◌++◌, take, Option, Some, Result, Ok, Err, OnOk, OnErr}
+use Rattle.std.specs.Prelude.{◌≡◌, ℕ, ◌≤◌, Bool, true, false, if◌then◌else◌, codes, decimal, List, [], ◌∷◌, ◌++◌, take, Option, Some, Result, Ok, Err, OnOk, OnErr}
 use Rattle.std.specs.Option.{ForSome}
+use Rattle.std.specs.List.{flat_map}
 use Rattle.xfs_disk.specs.Faults.{HasCause}
 use Rattle.xfs_disk.specs.declared.failed.Failed.{Failed}
 use Rattle.xfs_tools.specs.declared.answer.Answer.{Answer}
@@ -9,24 +10,31 @@ use Rattle.xfs_tools.specs.declared.answer.Summary.{Summary}
 use Rattle.xfs_tools.specs.declared.answer.Summary.TheVariants.{Backups, Rebuilt}
 use Rattle.xfs_tools.specs.declared.answer.Status.{Status}
 
+-- numbers with a label before each, one after the other
+abbrev pub labelled : List (List ℕ × ℕ) → List ℕ
+labelled = flat_map (λ (p : List ℕ × ℕ). p.0 ++ decimal p.1)
+
+-- labelled numbers, and what ends their line
+unfoldable pub line : List (List ℕ × ℕ) → List ℕ → List ℕ
+line numbers end = labelled numbers ++ end
+
 -- the line of a repair's summary
 abbrev pub summary_text : Summary → List ℕ
-summary_text (Backups count) = codes "repaired: backups=" ++ decimal count ++ codes "\n"
+summary_text (Backups count) = line ((codes "repaired: backups=", count) ∷ []) (codes "\n")
 summary_text (Rebuilt blocks kept cleared orphans) =
-    codes "repaired: blocks=" ++ decimal blocks ++ codes " kept=" ++ decimal kept ++ codes " cleared=" ++ decimal cleared
-    ++ codes " orphans=" ++ decimal orphans ++ codes "\n"
+    line ((codes "repaired: blocks=", blocks) ∷ (codes " kept=", kept) ∷ (codes " cleared=", cleared) ∷ (codes " orphans=", orphans) ∷ []) (codes "\n")
 
 -- the line of an answer
 abbrev pub text_of : Answer → List ℕ
-text_of (Usage word) = codes "xfs: usage: word " ++ decimal word ++ codes "\n"
-text_of (Unbuilt request) = codes "xfs: unbuilt: " ++ decimal request ++ codes "\n"
-text_of NoGeometry = codes "xfs: no geometry\n"
-text_of Clean = codes "clean\n"
+text_of (Usage word) = line ((codes "xfs: usage: word ", word) ∷ []) (codes "\n")
+text_of (Unbuilt request) = line ((codes "xfs: unbuilt: ", request) ∷ []) (codes "\n")
+text_of NoGeometry = line [] (codes "xfs: no geometry\n")
+text_of Clean = line [] (codes "clean\n")
 text_of (Repaired summary) = summary_text summary
-text_of (ReadFault faults) = codes "xfs: read fault: " ++ decimal faults ++ codes "\n"
-text_of (WriteFault written) = codes "xfs: write fault after " ++ decimal written ++ codes " blocks\n"
-text_of OutputFault = []
-text_of NoMemory = codes "xfs: no memory\n"
+text_of (ReadFault faults) = line ((codes "xfs: read fault: ", faults) ∷ []) (codes "\n")
+text_of (WriteFault written) = line ((codes "xfs: write fault after ", written) ∷ []) (codes " blocks\n")
+text_of OutputFault = line [] []
+text_of NoMemory = line [] (codes "xfs: no memory\n")
 
 -- the line goes to standard output, and else to standard error
 abbrev pub is_for_out : Answer → Bool

@@ -49,3 +49,25 @@ pub struct Status {
     /// How many commands of a debugger were finished; 0 for the other tools.
     pub finished: u64,
 }
+
+impl Answer {
+    ghost use Rattle.std.specs.Prelude.{◌≡◌};
+    ghost use Rattle.xfs_tools.specs.Texts.{code_of, is_for_out};
+
+    /// The exit status that the answer gives.
+    pub fn code(self) -> u8
+        ensures { result ≡ code_of self }
+    {
+        match self {
+            Answer::Clean | Answer::Repaired(_) => 0,
+            _ => 1,
+        }
+    }
+
+    /// Whether the answer's line goes to standard output, and else to standard error.
+    pub fn is_for_out(self) -> bool
+        ensures { result ≡ is_for_out self }
+    {
+        matches!(self, Answer::Clean | Answer::Repaired(_))
+    }
+}

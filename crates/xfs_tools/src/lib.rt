@@ -5,5 +5,9 @@ mod answer;
 mod backups;
 mod command_line;
 mod plan;
+mod repair;
+mod texts;
+mod top;
 
 pub use answer::{Answer, Status, Summary};
+pub use top::run;

@@ -1,0 +1,22 @@
+use Rattle.std.proofs.Common.{ap}
+use Rattle.xfs_tools.specs.Texts.{text_of}
+use Rattle.xfs_tools.proofs.Telling.{puts_as}
+use Rattle.xfs_tools.proofs.texts.put_answer.Goals as goal
+
+pub returns-in-Usage : goal.returns-in-Usage
+returns-in-Usage g c = puts_as _ _ _ _ _ _ _ (ap text_of c.in-Usage.is) c.put_line.ensures
+
+pub returns-in-Unbuilt : goal.returns-in-Unbuilt
+returns-in-Unbuilt g c = puts_as _ _ _ _ _ _ _ (ap text_of c.in-Unbuilt.is) c.put_line-in-Unbuilt.ensures
+
+pub returns-in-NoGeometry : goal.returns-in-NoGeometry
+returns-in-NoGeometry g c = puts_as _ _ _ _ _ _ _ (ap text_of c.in-NoGeometry.is) c.put_line-in-NoGeometry.ensures
+
+pub returns-in-ReadFault : goal.returns-in-ReadFault
+returns-in-ReadFault g c = puts_as _ _ _ _ _ _ _ (ap text_of c.in-ReadFault.is) c.put_line-in-ReadFault.ensures
+
+pub returns-in-WriteFault : goal.returns-in-WriteFault
+returns-in-WriteFault g c = puts_as _ _ _ _ _ _ _ (ap text_of c.in-WriteFault.is) c.put_line-in-WriteFault.ensures
+
+pub returns-in-NoMemory : goal.returns-in-NoMemory
+returns-in-NoMemory g c = puts_as _ _ _ _ _ _ _ (ap text_of c.in-NoMemory.is) c.put_line-in-NoMemory.ensures

@@ -1,0 +1,7 @@
+-- Labelled numbers of the code, seen as the definition's.
+use Rattle.std.specs.Prelude.{ℕ, List, map}
+use denote.Bor.{Bor}
+
+-- a label's bytes and its number
+abbrev pub label_of : Bor (List ℕ) × ℕ → List ℕ × ℕ
+label_of p = (p.0.now, p.1)

@@ -1,0 +1,85 @@
+//! The top call: a command line and an image in, an answer, its line and an exit status out.
+
+ghost use Rattle.std.specs.Prelude.{◌≡◌, ℕ, ◌≤◌, Result};
+ghost use Rattle.std.specs.Option.{ForSome};
+ghost use Rattle.xfs_disk.specs.declared.failed.Failed.{Failed};
+ghost use Rattle.xfs_tools.specs.Due.{due};
+ghost use Rattle.xfs_tools.specs.Outcome.{IsCaused, IsDue, IsKept, IsTold, Leaves, status_of};
+ghost use Rattle.xfs_tools.specs.declared.answer.Answer.{Answer};
+
+use crate::answer::{Answer, Status};
+use crate::command_line::refuse;
+use crate::repair::repair;
+use crate::texts::put_answer;
+use std::alloc::Global;
+use std::thread::Threads;
+use xfs_disk::{Disk, Failed, Gate, Library, Sink, Source, Stamp, Word};
+
+/// Does what the words of a command line say to the disk, and puts the answer's line: to `out` where
+/// the volume is clean or repaired, else to `err`.
+pub fn run<R: Threads + Sync, D: Disk, L: Library, S: Source, O: Sink, E: Sink, G: Gate>(
+    _rt: &R,
+    alloc: Global,
+    words: &[Word],
+    disk: &mut D,
+    files: &mut L,
+    input: &mut S,
+    out: &mut O,
+    err: &mut E,
+    _stamp: &Stamp,
+    _gate: &G,
+) -> Status
+    ensures answer { (answer : Answer) × (put : Result (Unit {0}) Failed)
+        × ForSome (D.holds disk.old) (λ image. IsDue (due words.now image) answer)
+        × IsCaused (D.faults disk.old) (D.faults disk.new) (D.write_faults disk.old) (D.write_faults disk.new) answer
+        × ForSome (D.holds disk.old) (λ image. Leaves image (D.holds disk.new) answer)
+        × IsKept (D.tells_stops disk.old) (D.holds disk.new) (D.may_leave disk.new) answer
+        × IsTold O.took O.faults E.took E.faults out.old out.new err.old err.new answer put
+        × (result ≡ status_of answer put) }
+    ensures size { D.size disk.new ≡ D.size disk.old }
+    ensures faults { D.faults disk.old ≤ D.faults disk.new }
+    ensures write_faults { D.write_faults disk.old ≤ D.write_faults disk.new }
+    ensures files { files.new ≡ files.old }
+    ensures input { input.new ≡ input.old }
+{
+    let answer = answer_to(alloc, words, disk);
+    match tell(out, err, answer) {
+        Ok(()) => Status {
+            code: answer.code(),
+            answer,
+            finished: 0,
+        },
+        Err(Failed) => Status {
+            code: 1,
+            answer: Answer::OutputFault,
+            finished: 0,
+        },
+    }
+}
+
+/// The answer to the words: their refusal, or what the repair answers.
+fn answer_to<D: Disk>(alloc: Global, words: &[Word], disk: &mut D) -> Answer
+    ensures due { ForSome (D.holds disk.old) (λ image. IsDue (due words.now image) result) }
+    ensures cause { IsCaused (D.faults disk.old) (D.faults disk.new) (D.write_faults disk.old) (D.write_faults disk.new) result }
+    ensures leaves { ForSome (D.holds disk.old) (λ image. Leaves image (D.holds disk.new) result) }
+    ensures kept { IsKept (D.tells_stops disk.old) (D.holds disk.new) (D.may_leave disk.new) result }
+    ensures size { D.size disk.new ≡ D.size disk.old }
+    ensures faults { D.faults disk.old ≤ D.faults disk.new }
+    ensures write_faults { D.write_faults disk.old ≤ D.write_faults disk.new }
+{
+    match refuse(words) {
+        Some(refusal) => refusal,
+        None => repair(alloc, disk),
+    }
+}
+
+/// Puts the answer's line to the stream that it goes to.
+fn tell<O: Sink, E: Sink>(out: &mut O, err: &mut E, answer: Answer) -> Result<(), Failed>
+    ensures { IsTold O.took O.faults E.took E.faults out.old out.new err.old err.new answer result }
+{
+    if answer.is_for_out() {
+        put_answer(out, answer)
+    } else {
+        put_answer(err, answer)
+    }
+}
