@@ -1,9 +1,9 @@
 -- The hash of a name, a byte at a time.
-use Rattle.std.proofs.Common.{◌≡◌, ℕ, zero, suc, ◌+◌, ◌*◌, ◌/◌, ◌%◌, ◌^◌, ◌<◌, List, [], ◌∷◌, fold, bit_xor, bit_or, w32, refl, sym, ◌∙◌, ap, ap₂, arith}
+use Rattle.std.proofs.Common.{◌≡◌, ℕ, suc, ◌+◌, ◌*◌, ◌/◌, ◌%◌, ◌^◌, ◌<◌, List, [], ◌∷◌, fold, bit_xor, bit_or, w32, refl, sym, ◌∙◌, ap, ap₂, arith}
 use Rattle.std.specs.Int.{rotate_left}
-use Rattle.std.specs.Int.Bits.{xor_zero_r, xor_comm, xor_assoc, xor_shr, xor_mod, xor_block, xor_lt}
+use Rattle.std.specs.Int.Bits.{xor_comm, xor_assoc, xor_shr, xor_mod, xor_block, xor_lt}
 use Rattle.std.proofs.lemmas.Nat.{or_shifted}
-use Rattle.xfs_word.specs.Hash.{hash_from, hash_of}
+use Rattle.xfs_word.specs.Hash.{hash_from}
 use Rattle.xfs_word.proofs.Register.{AreBytes}
 
 -- one byte more

@@ -1,6 +1,6 @@
 -- An object stays as right as it was where its checksum alone is written.
-use Rattle.std.proofs.Common.{◌≡◌, ℕ, ◌+◌, ◌/◌, ◌%◌, ◌^◌, ◌≤◌, ◌⊎◌, inl, inr, Bool, true, not, ◌&&◌, ◌||◌, ◌==◌, List, bytes_eq, Option, Some, None, IsTrue, IfSome, refl, sym, ◌∙◌, ap, ap₂, subst, arith}
-use Rattle.xfs_word.specs.Field.{field_of, part_of, Beside, Keeps, KeepsParts}
+use Rattle.std.proofs.Common.{◌≡◌, ℕ, ◌/◌, ◌%◌, ◌^◌, inl, not, ◌&&◌, ◌||◌, ◌==◌, List, bytes_eq, Option, Some, None, IsTrue, IfSome, refl, ◌∙◌, ap, ap₂, subst, arith}
+use Rattle.xfs_word.specs.Field.{Beside, Keeps, KeepsParts}
 use Rattle.xfs_word.specs.Crc.{has_checksum}
 use Rattle.xfs_word.specs.Seal.{layout_of, has_magic, identifier_is, number_is, owner_is, is_lsn, is_ready, is_sealed, IsApart}
 use Rattle.xfs_word.specs.declared.kinds.FieldPlace.{FieldPlace}

@@ -1,8 +1,8 @@
 -- What stays where bytes stay.
-use Rattle.std.proofs.Common.{◌≡◌, ℕ, zero, suc, ◌+◌, ◌-◌, ◌∷◌, ◌++◌, IsTrue, ◌*◌, ◌^◌, ◌<◌, ◌≤◌, List, length, take, drop, slice_index, get_or, refl, sym, ◌∙◌, ap, ap₂, inl, inr, ◌⊎◌, arith, length-take, length-drop, add-suc}
-use Rattle.std.proofs.lemmas.List.{take_rest, get_or-drop, get_or-take, same_lists, places, get_or_default}
+use Rattle.std.proofs.Common.{◌≡◌, ℕ, zero, suc, ◌+◌, ◌-◌, ◌∷◌, ◌++◌, IsTrue, ◌<◌, ◌≤◌, List, length, take, drop, slice_index, refl, sym, ◌∙◌, ap, ap₂, inl, inr, ◌⊎◌, arith, length-take, length-drop}
+use Rattle.std.proofs.lemmas.List.{take_rest, get_or-drop, get_or-take, same_lists, get_or_default}
 use Rattle.std.proofs.lemmas.Bool.{eq-eqb}
-use Rattle.byteorder.specs.Endian.{big_from, big_number, little_from, little_number}
+use Rattle.byteorder.specs.Endian.{big_from, little_from}
 use Rattle.xfs_word.specs.Crc.{cleared, crc_of, little_field_of, has_checksum}
 use Rattle.xfs_word.specs.Field.{field_of, part_of, Beside, SameBeside, Keeps, KeepsParts}
 

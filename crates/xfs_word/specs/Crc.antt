@@ -1,4 +1,4 @@
--- The checksum of on-disk objects, CRC-32C, bit by bit. From the chapter "Self-Describing Metadata" of
+-- The checksum of on-disk objects, CRC-32C, bit by bit. From the chapter "Self Describing Metadata" of
 -- "XFS Algorithms and Data Structures".
 use Rattle.std.specs.Prelude.{ℕ, zero, suc, ◌+◌, ◌-◌, ◌*◌, ◌/◌, ◌%◌, ◌^◌, Bool, ◌==◌, List, [], ◌∷◌, ◌++◌, take, drop, fold, bit_xor}
 use Rattle.byteorder.specs.Endian.{little_number}

@@ -1,4 +1,5 @@
--- Fields of on-disk objects: numbers that stand big-endian at byte offsets.
+-- Fields of on-disk objects: numbers that stand big-endian at byte offsets. From the chapter "Common XFS Types" of
+-- "XFS Algorithms and Data Structures".
 use Rattle.std.specs.Prelude.{◌≡◌, ℕ, ◌+◌, ◌<◌, ◌≤◌, ◌⊎◌, ◌==◌, ◌||◌, Bool, List, take, drop, slice_index}
 use Rattle.byteorder.specs.Endian.{big_number}
 

@@ -1,7 +1,7 @@
 -- Sealed objects: self-describing metadata with a right magic number, checksum, identifier, own address,
--- owner and log sequence number. From the chapter "Self-Describing Metadata" of "XFS Algorithms and Data
+-- owner and log sequence number. From the chapter "Self Describing Metadata" of "XFS Algorithms and Data
 -- Structures"; the offsets are of the chapters that describe each object.
-use Rattle.std.specs.Prelude.{◌≡◌, ℕ, ◌+◌, ◌-◌, ◌/◌, ◌%◌, ◌^◌, ◌≤◌, ◌⊎◌, Bool, true, not, ◌&&◌, ◌||◌, ◌==◌, nat_lt, List, bytes_eq, Option, Some, None, IsTrue, IfSome}
+use Rattle.std.specs.Prelude.{ℕ, ◌+◌, ◌-◌, ◌/◌, ◌%◌, ◌^◌, ◌≤◌, Bool, true, not, ◌&&◌, ◌||◌, ◌==◌, nat_lt, List, bytes_eq, Option, Some, None, IsTrue, IfSome}
 use Rattle.xfs_word.specs.Field.{field_of, part_of, is_width, Beside}
 use Rattle.xfs_word.specs.Crc.{has_checksum}
 use Rattle.xfs_word.specs.declared.kinds.FieldPlace.{FieldPlace}

@@ -1,4 +1,5 @@
-//! The words of the XFS version 5 on-disk format: big-endian fields, checksums and seals.
+//! The words of the XFS version 5 on-disk format: big-endian fields, checksums, seals, packed extents
+//! and hashes of names.
 #![tactic(auto)]
 
 mod checksum;

@@ -1,9 +1,16 @@
 //! The words against values from outside: the format's worked examples and its tables.
 
 use super::*;
+use std::process::Abort;
 
 /// The identifier of the file system that the objects belong to.
 const UUID: [u8; 16] = [1, 2, 3, 4, 5, 6, 7, 8, 9, 10, 11, 12, 13, 14, 15, 16];
+
+/// The places of the objects, as 8 bytes.
+const PLACE: [u8; 8] = [0, 0, 0, 0, 0, 0, 0, 7];
+
+/// The owner of the objects, as 8 bytes.
+const OWNER: [u8; 8] = [0, 0, 0, 0, 0, 0, 0, 9];
 
 /// The last log sequence number of the last cycle that is allowed.
 const LSN: [u8; 8] = [0x7f, 0xff, 0xff, 0xfe, 0xff, 0xff, 0xff, 0xff];
@@ -74,7 +81,7 @@ struct Row {
     kind: SealKind,
     size: usize,
     checksum: usize,
-    parts: [(u16, &'static [u8], u8); 6],
+    parts: &'static [(u16, &'static [u8], u8)],
 }
 
 /// Writes `part` into `object` from `at` on.
@@ -93,6 +100,44 @@ fn turn(object: &mut [u8], at: u16, mask: u8) {
     }
 }
 
+/// Asserts that the row's object is sealed, and that it is not with any of its parts wrong.
+fn check(rt: &impl Abort, row: &Row) {
+    let what = Seal {
+        kind: row.kind,
+        place: 7,
+        owner: Some(9),
+        uuid: UUID,
+    };
+    let layout = what.kind.layout();
+    assert_eq!(rt; layout.size, row.size);
+    assert_eq!(rt; layout.checksum, row.checksum);
+    assert!(rt; layout.size <= 4096);
+    let mut buffer = [0; 4096];
+    let object = &mut buffer[..layout.size];
+    for (at, part, _) in row.parts {
+        plant(object, *at, part);
+    }
+    seal(&what, object);
+    assert!(rt; sealed(&what, object), "{:?}", row.kind);
+    for (at, _, wrong) in row.parts {
+        turn(object, *at, *wrong);
+        seal(&what, object);
+        assert!(rt;
+            !sealed(&what, object),
+            "{:?} with a wrong byte at {}",
+            row.kind,
+            at
+        );
+        turn(object, *at, *wrong);
+    }
+    turn(object, 511, 1);
+    assert!(rt;
+        !sealed(&what, object),
+        "{:?} with a wrong checksum",
+        row.kind
+    );
+}
+
 #[test]
 fn seals_of_each_kind(rt: HostRuntime) {
     let rows = [
@@ -100,195 +145,140 @@ fn seals_of_each_kind(rt: HostRuntime) {
             kind: SealKind::Super,
             size: 512,
             checksum: 224,
-            parts: [
-                (0, b"XFSB", 1),
-                (101, &[0xa5], 1),
-                (240, &LSN, 0x80),
-                (0, b"XFSB", 1),
-                (0, b"XFSB", 1),
-                (0, b"XFSB", 1),
-            ],
+            parts: &[(0, b"XFSB", 1), (101, &[0xa5], 1), (240, &LSN, 0x80)],
         },
         Row {
             kind: SealKind::Agf,
             size: 512,
             checksum: 216,
-            parts: [
+            parts: &[
                 (0, b"XAGF", 1),
                 (8, &[0, 0, 0, 7], 1),
                 (64, &UUID, 1),
                 (208, &LSN, 0x80),
-                (0, b"XAGF", 1),
-                (0, b"XAGF", 1),
             ],
         },
         Row {
             kind: SealKind::Agi,
             size: 512,
             checksum: 312,
-            parts: [
+            parts: &[
                 (0, b"XAGI", 1),
                 (8, &[0, 0, 0, 7], 1),
                 (296, &UUID, 1),
                 (320, &LSN, 0x80),
-                (0, b"XAGI", 1),
-                (0, b"XAGI", 1),
             ],
         },
         Row {
             kind: SealKind::Agfl,
             size: 512,
             checksum: 32,
-            parts: [
+            parts: &[
                 (0, b"XAFL", 1),
                 (4, &[0, 0, 0, 7], 1),
                 (8, &UUID, 1),
                 (24, &LSN, 0x80),
-                (0, b"XAFL", 1),
-                (0, b"XAFL", 1),
             ],
         },
         Row {
             kind: SealKind::ShortTree { magic: 0x4142_3342 },
             size: 4096,
             checksum: 52,
-            parts: [
+            parts: &[
                 (0, b"AB3B", 1),
-                (16, &[0, 0, 0, 0, 0, 0, 0, 7], 1),
+                (16, &PLACE, 1),
                 (24, &LSN, 0x80),
                 (32, &UUID, 1),
                 (48, &[0, 0, 0, 9], 1),
-                (0, b"AB3B", 1),
             ],
         },
         Row {
             kind: SealKind::LongTree,
             size: 4096,
             checksum: 64,
-            parts: [
+            parts: &[
                 (0, b"BMA3", 1),
-                (24, &[0, 0, 0, 0, 0, 0, 0, 7], 1),
+                (24, &PLACE, 1),
                 (32, &LSN, 0x80),
                 (40, &UUID, 1),
-                (56, &[0, 0, 0, 0, 0, 0, 0, 9], 1),
-                (0, b"BMA3", 1),
+                (56, &OWNER, 1),
             ],
         },
         Row {
             kind: SealKind::Slot,
             size: 512,
             checksum: 100,
-            parts: [
+            parts: &[
                 (0, b"IN", 1),
                 (4, &[3], 1),
                 (112, &LSN, 0x80),
-                (152, &[0, 0, 0, 0, 0, 0, 0, 7], 1),
+                (152, &PLACE, 1),
                 (160, &UUID, 1),
-                (0, b"IN", 1),
             ],
         },
         Row {
             kind: SealKind::DirData,
             size: 4096,
             checksum: 4,
-            parts: [
+            parts: &[
                 (0, b"XDD3", 1),
-                (8, &[0, 0, 0, 0, 0, 0, 0, 7], 1),
+                (8, &PLACE, 1),
                 (16, &LSN, 0x80),
                 (24, &UUID, 1),
-                (40, &[0, 0, 0, 0, 0, 0, 0, 9], 1),
-                (0, b"XDD3", 1),
+                (40, &OWNER, 1),
             ],
         },
         Row {
             kind: SealKind::DirData,
             size: 4096,
             checksum: 4,
-            parts: [
+            parts: &[
                 (0, b"XDB3", 1),
-                (8, &[0, 0, 0, 0, 0, 0, 0, 7], 1),
+                (8, &PLACE, 1),
                 (16, &LSN, 0x80),
                 (24, &UUID, 1),
-                (40, &[0, 0, 0, 0, 0, 0, 0, 9], 1),
-                (0, b"XDB3", 1),
+                (40, &OWNER, 1),
             ],
         },
         Row {
             kind: SealKind::DirFree,
             size: 4096,
             checksum: 4,
-            parts: [
+            parts: &[
                 (0, b"XDF3", 1),
-                (8, &[0, 0, 0, 0, 0, 0, 0, 7], 1),
+                (8, &PLACE, 1),
                 (16, &LSN, 0x80),
                 (24, &UUID, 1),
-                (40, &[0, 0, 0, 0, 0, 0, 0, 9], 1),
-                (0, b"XDF3", 1),
+                (40, &OWNER, 1),
             ],
         },
         Row {
             kind: SealKind::Index { magic: 0x3dff },
             size: 4096,
             checksum: 12,
-            parts: [
+            parts: &[
                 (0, b"HN", 1),
                 (8, &[0x3d, 0xff], 1),
-                (16, &[0, 0, 0, 0, 0, 0, 0, 7], 1),
+                (16, &PLACE, 1),
                 (24, &LSN, 0x80),
                 (32, &UUID, 1),
-                (48, &[0, 0, 0, 0, 0, 0, 0, 9], 1),
+                (48, &OWNER, 1),
             ],
         },
         Row {
             kind: SealKind::Symlink,
             size: 4096,
             checksum: 12,
-            parts: [
+            parts: &[
                 (0, b"XSLM", 1),
                 (16, &UUID, 1),
-                (32, &[0, 0, 0, 0, 0, 0, 0, 9], 1),
-                (40, &[0, 0, 0, 0, 0, 0, 0, 7], 1),
+                (32, &OWNER, 1),
+                (40, &PLACE, 1),
                 (48, &LSN, 0x80),
-                (0, b"XSLM", 1),
             ],
         },
     ];
     for row in &rows {
-        let what = Seal {
-            kind: row.kind,
-            place: 7,
-            owner: Some(9),
-            uuid: UUID,
-        };
-        let layout = what.kind.layout();
-        assert_eq!(rt; layout.size, row.size);
-        assert_eq!(rt; layout.checksum, row.checksum);
-        assert!(rt; layout.size <= 4096);
-        let mut buffer = [0; 4096];
-        let object = &mut buffer[..layout.size];
-        for (at, part, _) in row.parts {
-            plant(object, at, part);
-        }
-        assert!(rt; !sealed(&what, object), "{:?} without a checksum", row.kind);
-        seal(&what, object);
-        assert!(rt; sealed(&what, object), "{:?}", row.kind);
-        for (at, _, wrong) in row.parts {
-            turn(object, at, wrong);
-            seal(&what, object);
-            assert!(rt;
-                !sealed(&what, object),
-                "{:?} with a wrong byte at {}",
-                row.kind,
-                at
-            );
-            turn(object, at, wrong);
-        }
-        seal(&what, object);
-        turn(object, 511, 1);
-        assert!(rt;
-            !sealed(&what, object),
-            "{:?} with a wrong checksum",
-            row.kind
-        );
+        check(&rt, row);
     }
 }

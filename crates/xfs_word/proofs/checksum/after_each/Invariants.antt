@@ -1,4 +1,4 @@
-use Rattle.std.proofs.Common.{◌≡◌, ℕ, List, drop}
+use Rattle.std.proofs.Common.{◌≡◌, drop}
 use Rattle.xfs_word.specs.Crc.{after_bytes}
 use Rattle.xfs_word.proofs.checksum.after_each.Given as goal
 

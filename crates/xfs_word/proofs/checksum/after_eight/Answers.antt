@@ -1,4 +1,4 @@
-use Rattle.std.proofs.Common.{◌≡◌, ◌<◌, ◌^◌, ℕ, bit_xor, sym, ap, ap₂, ◌∙◌, arith}
+use Rattle.std.proofs.Common.{◌≡◌, ◌<◌, ◌^◌, bit_xor, sym, ap, ◌∙◌, arith}
 use Rattle.std.specs.Int.Bits.{xor_comm, xor_lt}
 use Rattle.byteorder.specs.Endian.{little_number}
 use Rattle.xfs_word.specs.Crc.{after_zeros}

@@ -1,9 +1,8 @@
 use Rattle.std.proofs.Common.{◌≡◌, ◌<◌, ◌^◌, sym, ◌∙◌, ap, arith}
 use Rattle.byteorder.specs.Endian.{big_number}
-use Rattle.byteorder.specs.Numbers.{big_from-lt}
 use Rattle.xfs_word.specs.Extent.{packed}
 use Rattle.xfs_word.proofs.Register.{AreBytes}
-use Rattle.xfs_word.proofs.Parts.{masked, unpacked, packed-unpacked, unpacked-packed}
+use Rattle.xfs_word.proofs.Parts.{masked, packed-unpacked, unpacked-packed}
 use Rattle.xfs_word.proofs.extents.unpack_extent.Goals as goal
 
 pub returns-clause-packs : goal.returns-clause-packs
