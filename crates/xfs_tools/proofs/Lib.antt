@@ -1,4 +1,6 @@
+pub mod Accepted
 pub mod Mending
 pub mod Planning
+pub mod Repaired
 pub mod Telling
 pub mod Writing

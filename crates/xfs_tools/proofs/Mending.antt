@@ -1,6 +1,7 @@
 -- What an image is once the plan of its backups is written.
-use Rattle.std.proofs.Common.{◌≡◌, ◌≢◌, ℕ, zero, suc, ◌+◌, ◌-◌, ◌*◌, ◌<◌, ◌≤◌, ◌==◌, ◌⊎◌, inl, inr, Bool, true, false, cond, List, [], ◌∷◌, ◌++◌, length, take, drop, get_or, slice_set, slice_get, unwrap_or, Option, Some, None, refl, sym, ap, ◌∙◌, subst, get_or-set_same, get_or-set_other, length-set, arith}
-use Rattle.std.proofs.lemmas.Bool.{cases_eq}
+use Rattle.std.proofs.Common.{◌≡◌, ◌≢◌, ℕ, zero, suc, ◌+◌, ◌-◌, ◌*◌, ◌<◌, ◌≤◌, ◌==◌, ◌⊎◌, inl, inr, Bool, true, false, cond, if◌then◌else◌, List, [], ◌∷◌, ◌++◌, length, take, drop, get_or, slice_set, slice_get, unwrap_or, Option, Some, None, refl, sym, ap, ◌∙◌, subst, get_or-set_same, get_or-set_other, length-set, arith}
+use Rattle.std.proofs.Math.Nat.{mul-lt-mul_of_pos_right}
+use Rattle.std.proofs.lemmas.Bool.{cases_eq, cases_lt}
 use Rattle.std.proofs.lemmas.List.{take_at}
 use Rattle.std.proofs.lemmas.Option.{unwrap_or-slice_get}
 use Rattle.std.specs.List.{range_with_len}
@@ -77,7 +78,13 @@ step_same primary at block image within held = by_case (is_agreeing (stated_volu
 -- groups of some blocks begin at different blocks
 pub starts_differ : (primary : List ℕ) (k m : ℕ) → 0 < (stated_volume primary).agblocks → k ≢ m → start_of primary k ≢ start_of primary m
 unfolding start_of
-starts_differ primary k m some apart = ?
+starts_differ primary k m some apart same =
+    elim (cases_lt k m) [
+      | inl less ↦ absurd (let w : k * (stated_volume primary).agblocks < m * (stated_volume primary).agblocks = mul-lt-mul_of_pos_right less some in omega arith)
+      | inr more ↦
+          absurd (let above : m < k = omega arith in
+          let w : m * (stated_volume primary).agblocks < k * (stated_volume primary).agblocks = mul-lt-mul_of_pos_right above some in omega arith)
+    ]
 
 -- the steps leave every block at which none of their groups begins
 pub steps_other : (primary : List ℕ) (image : Image) (n g : ℕ) (j : Image) (b : ℕ) → ((k : ℕ) → g ≤ k → k < g + n → b ≢ start_of primary k)
@@ -98,17 +105,20 @@ steps_same primary image (suc n) g j k some low high within held =
     let step : Plan = step_of primary (start_of primary g) (block_of image (start_of primary g)) in
     ap (λ (i : Image). block_of i (start_of primary k)) (written-append step (steps_from primary image (g + 1) n) j)
     ∙ first_or_later (cases_eq k g)
+    (λ later.
+    steps_same primary image n (g + 1) (written step j) k some (omega arith) (omega arith)
+    (subst (λ (l : ℕ). start_of primary k < l) (sym (length-written step j)) within)
+    (step_other primary (start_of primary g) (block_of image (start_of primary g)) j (start_of primary k) (starts_differ primary k g some later) ∙ held))
   where
     first_or_later : (k ≡ g) ⊎ (k ≢ g)
+        → (k ≢ g → block_of (written (steps_from primary image (g + 1) n) (written (step_of primary (start_of primary g) (block_of image (start_of primary g))) j)) (start_of primary k)
+        ≡ mended_block primary (block_of image (start_of primary k)))
         → block_of (written (steps_from primary image (g + 1) n) (written (step_of primary (start_of primary g) (block_of image (start_of primary g))) j)) (start_of primary k)
         ≡ mended_block primary (block_of image (start_of primary k))
-    first_or_later (inl same) =
-        steps_other primary image n (g + 1) _ (start_of primary k)
-        (λ m low' high'. starts_differ primary k m some (omega arith))
+    first_or_later (inl same) in_rest =
+        steps_other primary image n (g + 1) (written (step_of primary (start_of primary g) (block_of image (start_of primary g))) j) (start_of primary k)
+        (λ m low' high'. starts_differ primary k m some (λ (e : k ≡ m). omega arith))
         ∙ subst (λ (h : ℕ). block_of (written (step_of primary (start_of primary h) (block_of image (start_of primary h))) j) (start_of primary k)
         ≡ mended_block primary (block_of image (start_of primary k))) same
         (step_same primary (start_of primary k) (block_of image (start_of primary k)) j within held)
-    first_or_later (inr later) =
-        steps_same primary image n (g + 1) _ k some (omega arith) (omega arith)
-        (subst (λ (l : ℕ). start_of primary k < l) (sym (length-written (step_of primary (start_of primary g) (block_of image (start_of primary g))) j)) within)
-        (step_other primary (start_of primary g) (block_of image (start_of primary g)) j (start_of primary k) (starts_differ primary k g some later) ∙ held)
+    first_or_later (inr later) in_rest = in_rest later
