@@ -15,6 +15,8 @@ mod memory_source;
 mod schedule;
 mod stream;
 mod streams;
+#[cfg(test)]
+mod tests;
 mod word;
 
 pub use disk::{BLOCK_SIZE, Disk};

@@ -9,4 +9,5 @@ file-tells g c =
       bytes = IfOk-weaker c.result (λ bytes. vec_len bytes ≤ 2 ^ 38) _ (λ bytes small map told. cc) c.ensures.largest;
       missing = λ missing map told. cc;
       files = refl;
-      cause = c.ensures.cause }
+      cause = c.ensures.cause;
+    }
