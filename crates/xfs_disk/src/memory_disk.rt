@@ -1,10 +1,10 @@
 //! A disk in memory, whose calls can be made to fail.
 
-ghost use Rattle.std.specs.Prelude.{◌≡◌, ℕ, ◌+◌, ◌-◌, ◌*◌, ◌^◌, ◌<◌, ◌≤◌, min, List, [], ◌∷◌, ◌++◌, length, replicate, Option, Some, None, IsTrue, IsErr, IfOk, OnOk, OnErr, ◌↔◌, slice_get, slice_set};
+ghost use Rattle.std.specs.Prelude.{◌≡◌, ◌+◌, ◌*◌, ◌^◌, ◌<◌, ◌≤◌, [], length, replicate, Some, None, IsTrue, IsErr, IfOk, OnOk, OnErr, ◌↔◌, slice_get, slice_set};
 ghost use Rattle.std.specs.List.{All, concat};
 ghost use Rattle.xfs_disk.specs.Counts.{CountsFailure};
 ghost use Rattle.xfs_disk.specs.Schedule.{after_write};
-ghost use Rattle.xfs_disk.specs.Memory.{blocks_of, with_block};
+ghost use Rattle.xfs_disk.specs.Memory.{with_block};
 ghost use Rattle.xfs_disk.specs.MemoryImage.{is_told_image};
 
 use crate::counting::count_failure;
