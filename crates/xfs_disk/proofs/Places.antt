@@ -1,11 +1,11 @@
 -- Blocks of a list of bytes: the block at a place, and what a write to one does.
-use Rattle.std.proofs.Common.{◌≡◌, ℕ, zero, suc, ◌+◌, ◌-◌, ◌*◌, ◌<◌, ◌≤◌, List, [], ◌∷◌, ◌++◌, take, drop, length, get_or, Some, Fits, w8, Vec, arith, ap, refl, sym, ◌∙◌}
+use Rattle.std.proofs.Common.{◌≡◌, ℕ, zero, suc, ◌+◌, ◌-◌, ◌*◌, ◌<◌, ◌≤◌, List, ◌∷◌, ◌++◌, take, drop, length, get_or, Some, Fits, w8, Vec, arith, ap, refl, sym, ◌∙◌}
 use Rattle.std.specs.Prelude.{slice_get, slice_set, replicate}
 use Rattle.std.specs.List.{All, concat}
 use Rattle.std.specs.Vec.{with_items}
 use Rattle.std.proofs.lemmas.List.Elements.{All-append, All-take, All-drop, All-from_get_or}
 use borrow.Rule.Slice.PartMut.{put_mid}
-use Rattle.std.proofs.lemmas.List.{with_items_is, length-drop, length-take-le, length-append, take_at, drop_at, take-append-drop, take-append-le, take-take, drop-append-le, drop-take, drop-drop, take-replicate, drop-replicate, take_all, nil_from_length, append_assoc}
+use Rattle.std.proofs.lemmas.List.{with_items_is, length-drop, length-take-le, length-append, take_at, drop_at, take-append-drop, take-append-le, take-take, drop-append-le, drop-take, drop-drop, take-replicate, drop-replicate, nil_from_length}
 use Rattle.xfs_disk.specs.Blocks.{Image}
 use Rattle.xfs_disk.specs.Memory.{blocks_of, with_block}
 

@@ -1,5 +1,5 @@
 -- Counts of faults, and the failures that they account for.
-use Rattle.std.specs.Prelude.{◌≡◌, ℕ, ◌+◌, ◌-◌, ◌^◌, ◌≤◌, min, Result, Ok, Err}
+use Rattle.std.specs.Prelude.{ℕ, ◌+◌, ◌-◌, ◌^◌, ◌≤◌, min, Result, Ok, Err}
 
 -- the count is at least one more, or stands at the end of its type
 abbrev pub Rose : ℕ → ℕ → Type 0

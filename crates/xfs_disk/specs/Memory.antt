@@ -1,5 +1,5 @@
 -- An image as one list of bytes, block after block.
-use Rattle.std.specs.Prelude.{◌≡◌, ℕ, zero, suc, ◌*◌, ◌<◌, List, [], ◌∷◌, ◌++◌, take, drop}
+use Rattle.std.specs.Prelude.{ℕ, zero, suc, ◌*◌, List, [], ◌∷◌, ◌++◌, take, drop}
 use Rattle.xfs_disk.specs.Blocks.{Image}
 
 -- so many blocks of 4096 bytes each, from the front of the bytes

@@ -1,5 +1,5 @@
 -- What contracts see of a sink in memory.
-use Rattle.std.specs.Prelude.{◌≡◌, ℕ, ◌-◌, List, length}
+use Rattle.std.specs.Prelude.{ℕ, ◌-◌, List, length}
 use Rattle.xfs_disk.specs.declared.schedule.Schedule.{Schedule}
 use Rattle.xfs_disk.specs.declared.memory_sink.MemorySink.{MemorySink}
 

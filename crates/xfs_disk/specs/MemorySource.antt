@@ -1,5 +1,5 @@
 -- What contracts see of a source in memory.
-use Rattle.std.specs.Prelude.{◌≡◌, ℕ, List, drop}
+use Rattle.std.specs.Prelude.{ℕ, List, drop}
 use Rattle.xfs_disk.specs.declared.schedule.Schedule.{Schedule}
 use Rattle.xfs_disk.specs.declared.memory_source.MemorySource.{MemorySource}
 

@@ -1,11 +1,21 @@
-//! How the real objects count their failures.
+//! How failures are counted.
 
+ghost use Rattle.std.specs.Prelude.{◌≡◌, ◌+◌, ◌≤◌};
 ghost use Rattle.std.specs.Result.{result_ok};
-ghost use Rattle.std.specs.Prelude.{◌≡◌};
 ghost use Rattle.xfs_disk.specs.Counts.{CountsFailure};
+ghost use Rattle.xfs_disk.specs.Faults.{Rose};
 
 use crate::failed::Failed;
 use std::io;
+
+/// A failure, which is counted.
+pub(crate) fn count_failure(faults: &mut u64) -> Failed
+    ensures risen { Rose faults.old faults.new }
+    ensures once { faults.new ≤ faults.old + 1 }
+{
+    *faults = faults.saturating_add(1);
+    Failed
+}
 
 /// The outcome of a call of the system, whose failure is counted.
 pub(crate) fn counted<T: Drop>(outcome: io::Result<T>, faults: &mut u64) -> Result<T, Failed>
@@ -14,9 +24,6 @@ pub(crate) fn counted<T: Drop>(outcome: io::Result<T>, faults: &mut u64) -> Resu
 {
     match outcome {
         Ok(value) => Ok(value),
-        Err(_) => {
-            *faults = faults.saturating_add(1);
-            Err(Failed)
-        }
+        Err(_) => Err(count_failure(faults)),
     }
 }

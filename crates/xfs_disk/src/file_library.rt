@@ -4,6 +4,7 @@ ghost use Rattle.std.specs.Prelude.{◌≡◌, ◌+◌, ◌^◌, ◌≤◌, None
 ghost use Rattle.std.specs.Str.{IsUtf8};
 ghost use Rattle.xfs_disk.specs.Files.{HasLibraryCause};
 
+use crate::counting::count_failure;
 use crate::library::{Library, LibraryError};
 use crate::word::Word;
 use std::alloc::Global;
@@ -48,7 +49,7 @@ impl<'a, R: Files> Library for FileLibrary<'a, R> {
     {
         let outcome = read_file(alloc, self.system, name.bytes());
         if let Err(LibraryError::Failed) = outcome {
-            self.faults = self.faults.saturating_add(1);
+            count_failure(&mut self.faults);
         }
         outcome
     }

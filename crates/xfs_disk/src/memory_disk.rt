@@ -1,12 +1,13 @@
 //! A disk in memory, whose calls can be made to fail.
 
-ghost use Rattle.std.specs.Prelude.{◌≡◌, ℕ, ◌+◌, ◌-◌, ◌*◌, ◌^◌, ◌<◌, ◌≤◌, min, List, [], ◌∷◌, ◌++◌, length, replicate, Option, Some, None, IsTrue, IsErr, IfOk, OnOk, OnErr, ◌↔◌, slice_get, slice_set};
+ghost use Rattle.std.specs.Prelude.{◌≡◌, ◌+◌, ◌*◌, ◌^◌, ◌<◌, ◌≤◌, [], length, replicate, Some, None, IsTrue, IsErr, IfOk, OnOk, OnErr, ◌↔◌, slice_get, slice_set};
 ghost use Rattle.std.specs.List.{All, concat};
 ghost use Rattle.xfs_disk.specs.Counts.{CountsFailure};
 ghost use Rattle.xfs_disk.specs.Schedule.{after_write};
-ghost use Rattle.xfs_disk.specs.Memory.{blocks_of, with_block};
+ghost use Rattle.xfs_disk.specs.Memory.{with_block};
 ghost use Rattle.xfs_disk.specs.MemoryImage.{is_told_image};
 
+use crate::counting::count_failure;
 use crate::disk::{BLOCK_SIZE, Disk};
 use crate::failed::{Failed, NoMemory};
 use crate::schedule::Schedule;
@@ -134,10 +135,10 @@ impl Disk for MemoryDisk {
         ensures stop { stop_of self.new ≡ stop_of self.old }
     {
         if self.is_stopped() {
-            self.faults = self.faults.saturating_add(1);
-            return Err(Failed);
+            Err(count_failure(&mut self.faults))
+        } else {
+            Ok(self.blocks)
         }
-        Ok(self.blocks)
     }
 
     fn read(&mut self, at: u64, into: &mut [u8]) -> Result<(), Failed>
@@ -154,8 +155,7 @@ impl Disk for MemoryDisk {
         ensures stop { stop_of self.new ≡ stop_of self.old }
     {
         if self.is_failing() {
-            self.faults = self.faults.saturating_add(1);
-            return Err(Failed);
+            return Err(count_failure(&mut self.faults));
         }
         let start = at as usize * BLOCK_SIZE;
         into.copy_from_slice(&self.bytes[start..start + BLOCK_SIZE]);
@@ -177,8 +177,7 @@ impl Disk for MemoryDisk {
         ensures stop_stays { OnErr result (stop_of self.new ≡ stop_of self.old) }
     {
         if self.is_failing() {
-            self.write_faults = self.write_faults.saturating_add(1);
-            return Err(Failed);
+            return Err(count_failure(&mut self.write_faults));
         }
         put_block(&mut self.bytes, at as usize, from);
         self.writes_left = less_one(self.writes_left);
@@ -195,10 +194,10 @@ impl Disk for MemoryDisk {
         ensures stop { stop_of self.new ≡ stop_of self.old }
     {
         if self.is_failing() {
-            self.write_faults = self.write_faults.saturating_add(1);
-            return Err(Failed);
+            Err(count_failure(&mut self.write_faults))
+        } else {
+            Ok(())
         }
-        Ok(())
     }
 
     ghost shape = { λ disk image told. is_told_image disk.blocks disk.bytes.items image disk.whole disk.bytes_fit told };

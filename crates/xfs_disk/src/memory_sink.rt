@@ -3,6 +3,7 @@
 ghost use Rattle.std.specs.Prelude.{◌≡◌, ℕ, ◌<◌, ◌≤◌, ◌++◌, ◌⊎◌, [], length, take, Some, IsErr, IfOk, OnOk, OnErr, ◌↔◌, vec_capacity};
 ghost use Rattle.xfs_disk.specs.Counts.{CountsFailure};
 
+use crate::counting::count_failure;
 use crate::failed::{Failed, NoMemory};
 use crate::schedule::Schedule;
 use crate::stream::Sink;
@@ -82,14 +83,12 @@ impl Sink for MemorySink {
         ensures counted { CountsCall (schedule_of self.old) (schedule_of self.new) }
     {
         if self.schedule.count() {
-            self.faults = self.faults.saturating_add(1);
-            return Err(Failed);
+            return Err(count_failure(&mut self.faults));
         }
         let count = from.len().min(self.room - self.bytes.len());
         let taken = self.bytes.extend_from_slice(&from[..count]);
         if taken.is_err() || count < from.len() {
-            self.faults = self.faults.saturating_add(1);
-            return Err(Failed);
+            return Err(count_failure(&mut self.faults));
         }
         Ok(())
     }

@@ -3,6 +3,7 @@
 ghost use Rattle.std.specs.Prelude.{◌≡◌, ◌<◌, ◌≤◌, ◌++◌, [], length, min, take, drop, Some, IsErr, IfOk, OnErr, ◌↔◌};
 ghost use Rattle.xfs_disk.specs.Counts.{CountsFailure};
 
+use crate::counting::count_failure;
 use crate::failed::{Failed, NoMemory};
 use crate::schedule::Schedule;
 use crate::stream::Source;
@@ -73,8 +74,7 @@ impl Source for MemorySource {
         ensures counted { CountsCall (schedule_of self.old) (schedule_of self.new) }
     {
         if self.schedule.count() {
-            self.faults = self.faults.saturating_add(1);
-            return Err(Failed);
+            return Err(count_failure(&mut self.faults));
         }
         let left = &self.bytes[self.given..];
         let count = into.len().min(left.len());

@@ -1,6 +1,5 @@
 -- The bytes afterwards are those before with the block in its place.
-use Rattle.std.proofs.Common.{◌≡◌, ◌<◌, ℕ, length, rules, ap, ◌∙◌, arith}
-use Rattle.std.specs.List.{All}
+use Rattle.std.proofs.Common.{◌≡◌, ◌<◌, length, rules, ap, ◌∙◌, arith}
 use Rattle.std.specs.Vec.{with_items}
 use Rattle.std.proofs.lemmas.List.Elements.{All-same}
 use Rattle.xfs_disk.specs.Memory.{with_block}
