@@ -3,12 +3,14 @@
 
 mod image;
 mod stamping;
+mod streams;
 mod words;
 
 use image::open_image;
 use stamping::make_stamp;
 use std::io;
 use std::process::ExitCode;
+use streams::hold_streams;
 use words::read_words;
 use xfs_disk::{FileLibrary, NoGate, StreamSink, StreamSource};
 use xfs_tools::run;
@@ -25,7 +27,10 @@ fn main(rt: HostRuntime) -> io::Result<ExitCode> {
         eprintln!(rt; "xfs: no random numbers")?;
         return Ok(ExitCode::from(1));
     };
-    let mut disk = open_image(&rt, words.last());
+    // Held to the end, so that no file is opened in the place of a standard stream.
+    let held = hold_streams(&rt);
+    let image = if held.is_ok() { words.last() } else { None };
+    let mut disk = open_image(&rt, image);
     let mut files = FileLibrary::new(&rt);
     let mut input = StreamSource::new(rt.stdin());
     let mut out = StreamSink::new(rt.stdout());
