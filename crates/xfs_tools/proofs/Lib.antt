@@ -1,5 +1,6 @@
 pub mod Accepted
 pub mod Mending
+pub mod Offending
 pub mod Planning
 pub mod Repaired
 pub mod Telling

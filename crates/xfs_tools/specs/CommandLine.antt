@@ -1,28 +1,110 @@
 -- The words of a command line: a tool, its options and an image (xfs_repair(8), mkfs.xfs(8), xfs_db(8)).
-use Rattle.std.specs.Prelude.{ℕ, Bool, false, ◌==◌, ◌||◌, if◌then◌else◌, codes, bytes_eq, List, [], ◌∷◌, Option, Some, None}
+use Rattle.std.specs.Prelude.{◌≡◌, ℕ, ◌+◌, ◌-◌, ◌*◌, ◌≤◌, Bool, true, false, ◌==◌, ◌&&◌, ◌||◌, nat_le, if◌then◌else◌, codes, bytes_eq, List, [], ◌∷◌, ◌++◌, length, take, Option, Some, None, Result, Ok, Err}
 use Rattle.xfs_tools.specs.declared.answer.Answer.{Answer}
 use Rattle.xfs_tools.specs.declared.answer.Answer.TheVariants.{Usage, Unbuilt}
+use Rattle.xfs_tools.specs.declared.command_line.RepairOptions.{RepairOptions}
+use Rattle.xfs_tools.specs.declared.command_line.Reading.{Reading}
+use Rattle.xfs_tools.specs.declared.command_line.Reading.TheVariants.{Options, Workers, Image, Complete, Offended}
 
 -- the words of a command line, each a list of bytes
 abbrev pub Words : Type 0
 Words = List (List ℕ)
 
--- a word that begins with `-`
+-- the options where none is given
+abbrev pub no_options : RepairOptions
+no_options = record { check = false; drop_log = false; tells_repair = false; workers = 4 }
+
+-- a word of letters behind `-`; `-` alone is none
 abbrev pub is_option : List ℕ → Bool
 is_option [] = false
-is_option (first ∷ rest) = first == 45
+is_option (first ∷ []) = false
+is_option (first ∷ second ∷ rest) = first == 45
 
--- why the words behind xfs_repair are not those of a repair: an image alone can be given so far
-abbrev pub refused_repair : Words → Option Answer
-refused_repair [] = Some (Usage 1)
-refused_repair (image ∷ []) = if is_option image then Some (Unbuilt 2) else None
-refused_repair (first ∷ second ∷ rest) = Some (Unbuilt 2)
+-- a decimal digit
+abbrev pub is_digit : ℕ → Bool
+is_digit byte = nat_le 48 byte && nat_le byte 57
 
--- why the words are not those of a repair; None where they are
-abbrev pub refused : Words → Option Answer
-refused [] = Some (Usage 0)
-refused (tool ∷ rest) =
-    if bytes_eq tool (codes "xfs_repair") then refused_repair rest
-    else if bytes_eq tool (codes "mkfs.xfs") then Some (Unbuilt 6)
-    else if bytes_eq tool (codes "xfs_db") then Some (Unbuilt 11)
-    else Some (Usage 0)
+-- a number of workers: decimal from 1 to 64, without a leading zero
+abbrev pub workers_of : List ℕ → Option ℕ
+workers_of (ones ∷ []) = if is_digit ones && nat_le 49 ones then Some (ones - 48) else None
+workers_of (tens ∷ ones ∷ []) =
+    if is_digit tens && is_digit ones && nat_le 49 tens && nat_le ((tens - 48) * 10 + (ones - 48)) 64
+    then Some ((tens - 48) * 10 + (ones - 48)) else None
+workers_of value = None
+
+-- the value of -w in the word of this number
+abbrev pub after_workers : ℕ → Option ℕ → RepairOptions → Reading
+after_workers at (Some workers) o = Options (record o { workers = workers })
+after_workers at None o = Offended at
+
+-- the rest of a word behind the letter w: the value, or nothing where the next word is the value
+abbrev pub after_letter_w : ℕ → List ℕ → RepairOptions → Reading
+after_letter_w at [] o = Workers o
+after_letter_w at (digit ∷ digits) o = after_workers at (workers_of (digit ∷ digits)) o
+
+-- the letters of the word of this number
+abbrev pub after_letters : ℕ → List ℕ → RepairOptions → Reading
+after_letters at [] o = Options o
+after_letters at (letter ∷ rest) o =
+    if letter == 110 then after_letters at rest (record o { check = true })
+    else if letter == 76 then after_letters at rest (record o { drop_log = true })
+    else if letter == 101 then after_letters at rest (record o { tells_repair = true })
+    else if letter == 102 then after_letters at rest o
+    else if letter == 119 then after_letter_w at rest o
+    else Offended at
+
+-- a word where an option or the image may stand
+abbrev pub after_option : ℕ → List ℕ → RepairOptions → Reading
+after_option at [] o = Complete o
+after_option at (first ∷ rest) o =
+    if bytes_eq (first ∷ rest) (codes "--") then Image o
+    else if is_option (first ∷ rest) then after_letters at rest o
+    else Complete o
+
+-- what is read once the word of this number is read too
+abbrev pub after_word : ℕ → List ℕ → Reading → Reading
+after_word at word (Options o) = after_option at word o
+after_word at word (Workers o) = after_workers at (workers_of word) o
+after_word at word (Image o) = Complete o
+after_word at word (Complete o) = Offended at
+after_word at word (Offended n) = Offended n
+
+-- what is read once these words are read too, of which the first has this number
+abbrev pub after_words : ℕ → Words → Reading → Reading
+after_words at [] reading = reading
+after_words at (word ∷ words) reading = after_words (at + 1) words (after_word at word reading)
+
+-- what was read of the words behind the tool's
+abbrev pub reading_of : Words → Reading
+reading_of rest = after_words 1 rest (Options no_options)
+
+-- the options, or the number of the first word that offends, which is that of all words where one lacks
+abbrev pub settled : ℕ → Reading → Result RepairOptions Answer
+settled count (Complete o) = Ok o
+settled count (Offended n) = Err (Usage n)
+settled count reading = Err (Usage count)
+
+-- what the words say: the options of a repair, or the answer that they get
+unfoldable pub judged : Words → Result RepairOptions Answer
+judged [] = Err (Usage 0)
+judged (tool ∷ rest) =
+    if bytes_eq tool (codes "xfs_repair") then settled (length rest + 1) (reading_of rest)
+    else if bytes_eq tool (codes "mkfs.xfs") then Err (Unbuilt 6)
+    else if bytes_eq tool (codes "xfs_db") then Err (Unbuilt 11)
+    else Err (Usage 0)
+
+-- the words behind xfs_repair are a command line, with these options
+abbrev pub IsAccepted : Words → RepairOptions → Type 0
+IsAccepted rest o = reading_of rest ≡ Complete o
+
+-- more words can make them a command line
+abbrev pub IsBegun : Words → Type 0
+IsBegun rest = (more : Words) × (o : RepairOptions) × IsAccepted (rest ++ more) o
+
+-- The word of number n is the first that offends: the words before it can be continued to a command
+-- line, and with it they can't, or it is the one that lacks.
+pub record OffendsFirst (rest : Words) (n : ℕ) : Type 0 where
+  pub within : n ≤ length rest + 1
+  pub before : IsBegun (take (n - 1) rest)
+  pub with : (o : RepairOptions) → IsAccepted rest o → ⊥
+  pub after : n ≤ length rest → IsBegun (take n rest) → ⊥

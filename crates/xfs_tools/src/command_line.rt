@@ -1,40 +1,175 @@
 //! The words of a command line.
 
-ghost use Rattle.std.specs.Prelude.{◌≡◌, ℕ, Option, Some, None, IsTrue};
-ghost use Rattle.xfs_tools.specs.CommandLine.{refused, refused_repair};
+ghost use Rattle.std.specs.Prelude.{◌≡◌, ℕ, Option, Some, None, Result, Err, IsTrue, List, ◌∷◌, codes, length};
+ghost use Rattle.xfs_tools.specs.CommandLine.{after_letter_w, after_letters, after_option, after_word, after_workers, after_words, judged, OffendsFirst, Words, no_options, reading_of, settled, workers_of};
 
 use crate::answer::Answer;
 use xfs_disk::Word;
 
-/// Why the words are not those of a repair, or `None` where they are.
-pub fn refuse(words: &[Word]) -> Option<Answer>
-    ensures { result ≡ refused words.now }
+/// What the options of `xfs_repair` say.
+#[derive(Clone, Copy, Debug, PartialEq, Eq)]
+pub struct RepairOptions {
+    /// Checks only, and writes nothing (`-n`).
+    pub check: bool,
+    /// Blanks a log that is not clean (`-L`).
+    pub drop_log: bool,
+    /// Ends with 4 after a repair (`-e`).
+    pub tells_repair: bool,
+    /// How many workers there may be, from 1 to 64 (`-w`).
+    pub workers: u32,
+}
+
+/// How far the words behind a tool's have been read.
+#[derive(Clone, Copy, Debug)]
+enum Reading {
+    /// An option or the image may follow.
+    Options(RepairOptions),
+    /// The value of `-w` is to follow.
+    Workers(RepairOptions),
+    /// The image is to follow.
+    Image(RepairOptions),
+    /// Nothing may follow.
+    Complete(RepairOptions),
+    /// The word of this number offends.
+    Offended(usize),
+}
+
+/// What the words say: the options of a repair, or the answer that they get. The number that a usage
+/// answer tells is that of the first word that offends.
+pub fn judge(words: &[Word]) -> Result<RepairOptions, Answer>
+    ensures judged { result ≡ judged words.now }
+    ensures offending { (rest : Words) (n : ℕ) → words.now ≡ codes "xfs_repair" ∷ rest → result ≡ Err (Answer.Usage n) → OffendsFirst rest n }
+{
+    settle_words(words)
+}
+
+/// What the words say, by the tool that the first of them names.
+#[tactic(auto, unfolding(crate::specs::CommandLine::judged))]
+fn settle_words(words: &[Word]) -> Result<RepairOptions, Answer>
+    ensures { result ≡ judged words.now }
 {
     let [tool, rest @ ..] = words else {
-        return Some(Answer::Usage { word: 0 });
+        return Err(Answer::Usage { word: 0 });
     };
     let tool = tool.bytes();
     if tool == b"xfs_repair".as_slice() {
-        refuse_repair(rest)
+        read_all(rest).settle(words.len())
     } else if tool == b"mkfs.xfs".as_slice() {
-        Some(Answer::Unbuilt { request: 6 })
+        Err(Answer::Unbuilt { request: 6 })
     } else if tool == b"xfs_db".as_slice() {
-        Some(Answer::Unbuilt { request: 11 })
+        Err(Answer::Unbuilt { request: 11 })
     } else {
-        Some(Answer::Usage { word: 0 })
+        Err(Answer::Usage { word: 0 })
     }
 }
 
-/// Why the words behind `xfs_repair` are not those of a repair: so far an image alone can be given.
-fn refuse_repair(words: &[Word]) -> Option<Answer>
-    ensures { result ≡ refused_repair words.now }
+/// Reads the words behind the tool's, whose numbers begin at 1.
+fn read_all(rest: &[Word]) -> Reading
+    ensures { result ≡ reading_of rest.now }
 {
-    match words {
-        [] => Some(Answer::Usage { word: 1 }),
-        [image] => match image.bytes() {
-            [b'-', ..] => Some(Answer::Unbuilt { request: 2 }),
-            _ => None,
-        },
-        _ => Some(Answer::Unbuilt { request: 2 }),
+    let mut reading = Reading::Options(RepairOptions {
+        check: false,
+        drop_log: false,
+        tells_repair: false,
+        workers: 4,
+    });
+    for (before, word) in rest.iter().enumerate() {
+        reading = reading.after_word(before + 1, word.bytes());
+    }
+    reading
+}
+
+impl Reading {
+    /// What is read once the word of this number is read too.
+    fn after_word(self, at: usize, word: &[u8]) -> Reading
+        ensures { result ≡ after_word at word.now self }
+    {
+        match self {
+            Reading::Options(options) => options.after_option(at, word),
+            Reading::Workers(options) => options.after_workers(at, word),
+            Reading::Image(options) => Reading::Complete(options),
+            Reading::Complete(_) => Reading::Offended(at),
+            Reading::Offended(word) => Reading::Offended(word),
+        }
+    }
+
+    /// The options, or the number of the first word that offends: that of all words where one lacks.
+    fn settle(self, count: usize) -> Result<RepairOptions, Answer>
+        ensures { result ≡ settled count self }
+    {
+        match self {
+            Reading::Complete(options) => Ok(options),
+            Reading::Offended(word) => Err(Answer::Usage { word }),
+            Reading::Options(_) | Reading::Workers(_) | Reading::Image(_) => Err(Answer::Usage {
+                word: count,
+            }),
+        }
+    }
+}
+
+impl RepairOptions {
+    /// What is read after a word where an option or the image may stand.
+    fn after_option(self, at: usize, word: &[u8]) -> Reading
+        ensures { result ≡ after_option at word.now self }
+    {
+        if word == b"--".as_slice() {
+            return Reading::Image(self);
+        }
+        match word {
+            [b'-', letters @ ..] if !letters.is_empty() => self.after_letters(at, letters),
+            _ => Reading::Complete(self),
+        }
+    }
+
+    /// What is read after the letters of an option word.
+    fn after_letters(self, at: usize, letters: &[u8]) -> Reading
+        ensures { result ≡ after_letters at letters.now self }
+    {
+        let mut options = self;
+        for (before, letter) in letters.iter().enumerate() {
+            match *letter {
+                b'n' => options.check = true,
+                b'L' => options.drop_log = true,
+                b'e' => options.tells_repair = true,
+                b'f' => {}
+                b'w' => return options.after_letter_w(at, &letters[before + 1..]),
+                _ => return Reading::Offended(at),
+            }
+        }
+        Reading::Options(options)
+    }
+
+    /// What is read after the letter w: its value is the rest of the word or the next one.
+    fn after_letter_w(self, at: usize, rest: &[u8]) -> Reading
+        ensures { result ≡ after_letter_w at rest.now self }
+    {
+        if rest.is_empty() {
+            return Reading::Workers(self);
+        }
+        self.after_workers(at, rest)
+    }
+
+    /// What is read after the value of `-w` in the word of this number.
+    fn after_workers(self, at: usize, value: &[u8]) -> Reading
+        ensures { result ≡ after_workers at (workers_of value.now) self }
+    {
+        match workers_of(value) {
+            Some(workers) => Reading::Options(RepairOptions { workers, ..self }),
+            None => Reading::Offended(at),
+        }
+    }
+}
+
+/// A number of workers: decimal from 1 to 64, without a leading zero.
+fn workers_of(value: &[u8]) -> Option<u32>
+    ensures { result ≡ workers_of value.now }
+{
+    match value {
+        [ones @ b'1'..=b'9'] => Some((*ones - b'0') as u32),
+        [tens @ b'1'..=b'9', ones @ b'0'..=b'9'] => {
+            let workers = (*tens - b'0') as u32 * 10 + (*ones - b'0') as u32;
+            if workers <= 64 { Some(workers) } else { None }
+        }
+        _ => None,
     }
 }

@@ -8,7 +8,7 @@ ghost use Rattle.xfs_tools.specs.Outcome.{IsCaused, IsDue, IsKept, IsTold, Leave
 ghost use Rattle.xfs_tools.specs.declared.answer.Answer.{Answer};
 
 use crate::answer::{Answer, Status};
-use crate::command_line::refuse;
+use crate::command_line::judge;
 use crate::repair::repair;
 use crate::texts::put_answer;
 use std::alloc::Global;
@@ -67,7 +67,7 @@ fn answer_to<D: Disk>(alloc: Global, words: &[Word], disk: &mut D) -> Answer
     ensures faults { D.faults disk.old ≤ D.faults disk.new }
     ensures write_faults { D.write_faults disk.old ≤ D.write_faults disk.new }
 {
-    match refuse(words) {
+    match judge(words).err() {
         Some(refusal) => refusal,
         None => repair(alloc, disk),
     }
