@@ -1,6 +1,7 @@
 pub mod Backups
 pub mod CommandLine
 pub mod Due
+pub mod Hexadecimal
 pub mod Labels
 pub mod Outcome
 pub mod Planning

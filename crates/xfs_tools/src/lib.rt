@@ -4,6 +4,7 @@
 mod answer;
 mod backups;
 mod command_line;
+mod hexadecimal;
 mod plan;
 mod repair;
 mod texts;
