@@ -7,7 +7,8 @@ use Rattle.std.proofs.Math.Seq.{take-append-add}
 use Rattle.xfs_disk.specs.declared.failed.Failed.{Failed}
 use Rattle.xfs_tools.specs.Labels.{label_of}
 use Rattle.xfs_tools.specs.Outcome.{Puts}
-use Rattle.xfs_tools.specs.Texts.{labelled, line}
+use Rattle.xfs_tools.specs.Texts.{labelled, line, number_text}
+use Rattle.xfs_tools.specs.declared.texts.Number.{Number}
 
 -- the same text under another name
 pub puts_as : (was now : Option (List ℕ)) (faults faults_now : ℕ) (text other : List ℕ) (result : Result (Unit {0}) Failed)
@@ -59,14 +60,14 @@ puts_nothing was faults =
     }
 
 -- one more labelled number
-pub next_label : (numbers : List (Bor (List ℕ) × ℕ)) (i : ℕ) (d : Bor (List ℕ) × ℕ) → i < length numbers
+pub next_label : (numbers : List (Bor (List ℕ) × Number)) (i : ℕ) (d : Bor (List ℕ) × Number) → i < length numbers
     → labelled (map label_of (take (i + 1) numbers))
-    ≡ labelled (map label_of (take i numbers)) ++ ((get_or numbers i d).0.now ++ decimal (get_or numbers i d).1)
+    ≡ labelled (map label_of (take i numbers)) ++ ((get_or numbers i d).0.now ++ number_text (get_or numbers i d).1)
 next_label numbers i d within =
     rw (take_more numbers i d within, map-append, flat_map-append, append-nil) refl
 
 -- a line begins with its first labelled numbers
-pub line_of_first : (numbers : List (Bor (List ℕ) × ℕ)) (i : ℕ) (end : List ℕ)
+pub line_of_first : (numbers : List (Bor (List ℕ) × Number)) (i : ℕ) (end : List ℕ)
     → line (map label_of numbers) end ≡ labelled (map label_of (take i numbers)) ++ (labelled (map label_of (drop i numbers)) ++ end)
 unfolding line
 line_of_first numbers i end =
@@ -78,7 +79,7 @@ line_of_first numbers i end =
     ) refl
 
 -- all labelled numbers, and then the end
-pub line_of_all : (numbers : List (Bor (List ℕ) × ℕ)) (i : ℕ) (end : List ℕ) → length numbers ≤ i
+pub line_of_all : (numbers : List (Bor (List ℕ) × Number)) (i : ℕ) (end : List ℕ) → length numbers ≤ i
     → line (map label_of numbers) end ≡ labelled (map label_of (take i numbers)) ++ end
 unfolding line
 line_of_all numbers i end all = rw (take_all i numbers all) refl

@@ -1,5 +1,5 @@
 -- What an answer says of the image, of the counts of faults and of what was put.
-use Rattle.std.specs.Prelude.{◌≡◌, ℕ, ◌+◌, ◌*◌, ◌<◌, ◌≤◌, true, false, IsTrue, MatchBool, List, ◌++◌, length, take, drop, Option, Some, Result, Ok, Err, OnOk, OnErr, slice_get}
+use Rattle.std.specs.Prelude.{◌≡◌, ℕ, Bool, ◌+◌, ◌*◌, ◌<◌, ◌≤◌, true, false, IsTrue, MatchBool, List, ◌++◌, length, take, drop, Option, Some, Result, Ok, Err, OnOk, OnErr, slice_get}
 use Rattle.std.specs.Option.{ForSome}
 use Rattle.xfs_disk.specs.Blocks.{Image}
 use Rattle.xfs_disk.specs.Faults.{Rose, HasCause}
@@ -75,6 +75,6 @@ IsTold out_took out_faults err_took err_faults out out_now err err_now answer pu
     ((out_now ≡ out) × Puts (err_took err) (err_took err_now) (err_faults err) (err_faults err_now) (text_of answer) put)
 
 -- the status of an answer; where its line could not be put, an output fault stands in its place
-abbrev pub status_of : Answer → Result (Unit {0}) Failed → Status
-status_of answer (Ok done) = record { code = code_of answer; answer = answer; finished = 0 }
-status_of answer (Err failed) = record { code = 1; answer = OutputFault; finished = 0 }
+abbrev pub status_of : Bool → Answer → Result (Unit {0}) Failed → Status
+status_of tells answer (Ok done) = record { code = code_of tells answer; answer = answer; finished = 0 }
+status_of tells answer (Err failed) = record { code = 1; answer = OutputFault; finished = 0 }

@@ -5,45 +5,62 @@ use Rattle.std.specs.List.{flat_map}
 use Rattle.xfs_disk.specs.Faults.{HasCause}
 use Rattle.xfs_disk.specs.declared.failed.Failed.{Failed}
 use Rattle.xfs_tools.specs.declared.answer.Answer.{Answer}
-use Rattle.xfs_tools.specs.declared.answer.Answer.TheVariants.{Usage, Unbuilt, NoGeometry, Clean, Repaired, ReadFault, WriteFault, OutputFault, NoMemory}
+use Rattle.xfs_tools.specs.declared.answer.Answer.TheVariants.{Usage, Unbuilt, NoGeometry, Unsupported, Clean, Damaged, Repaired, ReadFault, WriteFault, OutputFault, NoMemory}
 use Rattle.xfs_tools.specs.declared.answer.Summary.{Summary}
 use Rattle.xfs_tools.specs.declared.answer.Summary.TheVariants.{Backups, Rebuilt}
+use Rattle.xfs_tools.specs.declared.answer.Finding.{Finding}
+use Rattle.xfs_tools.specs.declared.answer.Finding.TheVariants.{Part}
 use Rattle.xfs_tools.specs.declared.answer.Status.{Status}
+use Rattle.xfs_tools.specs.declared.texts.Number.{Number}
+use Rattle.xfs_tools.specs.declared.texts.Number.TheVariants.{Decimal, Hexadecimal}
+use Rattle.xfs_tools.specs.Hexadecimal.{hexadecimal}
+
+-- a number as text, in its base
+abbrev pub number_text : Number → List ℕ
+number_text (Decimal n) = decimal n
+number_text (Hexadecimal n) = hexadecimal n
 
 -- numbers with a label before each, one after the other
-abbrev pub labelled : List (List ℕ × ℕ) → List ℕ
-labelled = flat_map (λ (p : List ℕ × ℕ). p.0 ++ decimal p.1)
+abbrev pub labelled : List (List ℕ × Number) → List ℕ
+labelled = flat_map (λ (p : List ℕ × Number). p.0 ++ number_text p.1)
 
 -- labelled numbers, and what ends their line
-unfoldable pub line : List (List ℕ × ℕ) → List ℕ → List ℕ
+unfoldable pub line : List (List ℕ × Number) → List ℕ → List ℕ
 line numbers end = labelled numbers ++ end
 
 -- the line of a repair's summary
 abbrev pub summary_text : Summary → List ℕ
-summary_text (Backups count) = line ((codes "repaired: backups=", count) ∷ []) (codes "\n")
+summary_text (Backups count) = line ((codes "repaired: backups=", Decimal count) ∷ []) (codes "\n")
 summary_text (Rebuilt blocks kept cleared orphans) =
-    line ((codes "repaired: blocks=", blocks) ∷ (codes " kept=", kept) ∷ (codes " cleared=", cleared) ∷ (codes " orphans=", orphans) ∷ []) (codes "\n")
+    line ((codes "repaired: blocks=", Decimal blocks) ∷ (codes " kept=", Decimal kept) ∷ (codes " cleared=", Decimal cleared) ∷ (codes " orphans=", Decimal orphans) ∷ []) (codes "\n")
+
+-- the line of a finding
+abbrev pub finding_text : Finding → List ℕ
+finding_text (Part part place) = line ((codes "damaged: part ", Decimal part) ∷ (codes " at ", Decimal place) ∷ []) (codes "\n")
 
 -- the line of an answer
 abbrev pub text_of : Answer → List ℕ
-text_of (Usage word) = line ((codes "xfs: usage: word ", word) ∷ []) (codes "\n")
-text_of (Unbuilt request) = line ((codes "xfs: unbuilt: ", request) ∷ []) (codes "\n")
+text_of (Usage word) = line ((codes "xfs: usage: word ", Decimal word) ∷ []) (codes "\n")
+text_of (Unbuilt request) = line ((codes "xfs: unbuilt: ", Decimal request) ∷ []) (codes "\n")
+text_of (Unsupported word bits) = line ((codes "xfs: unsupported: word ", Decimal word) ∷ (codes " bits 0x", Hexadecimal bits) ∷ []) (codes "\n")
+text_of (Damaged finding) = finding_text finding
 text_of NoGeometry = line [] (codes "xfs: no geometry\n")
 text_of Clean = line [] (codes "clean\n")
 text_of (Repaired summary) = summary_text summary
-text_of (ReadFault faults) = line ((codes "xfs: read fault: ", faults) ∷ []) (codes "\n")
-text_of (WriteFault written) = line ((codes "xfs: write fault after ", written) ∷ []) (codes " blocks\n")
+text_of (ReadFault faults) = line ((codes "xfs: read fault: ", Decimal faults) ∷ []) (codes "\n")
+text_of (WriteFault written) = line ((codes "xfs: write fault after ", Decimal written) ∷ []) (codes " blocks\n")
 text_of OutputFault = line [] []
 text_of NoMemory = line [] (codes "xfs: no memory\n")
 
 -- the line goes to standard output, and else to standard error
 abbrev pub is_for_out : Answer → Bool
 is_for_out Clean = true
+is_for_out (Damaged finding) = true
 is_for_out (Repaired summary) = true
 is_for_out answer = false
 
--- the exit status of an answer
-abbrev pub code_of : Answer → ℕ
-code_of Clean = 0
-code_of (Repaired summary) = 0
-code_of answer = 1
+-- the exit status of an answer; under -e a repair ends with 4
+abbrev pub code_of : Bool → Answer → ℕ
+code_of tells Clean = 0
+code_of tells (Repaired summary) = if tells then 4 else 0
+code_of tells answer = 1

@@ -10,8 +10,13 @@ pub enum Answer {
     Unbuilt { request: u8 },
     /// No superblock states a geometry.
     NoGeometry,
+    /// The primary superblock has a feature word that is refused: its number, and the bits by which it
+    /// departs from the profile.
+    Unsupported { word: u8, bits: u64 },
     /// Nothing is to be repaired.
     Clean,
+    /// The volume is not consistent, and was only checked.
+    Damaged(Finding),
     /// The volume was repaired.
     Repaired(Summary),
     /// A read failed, before anything was written. `faults` is the disk's count.
@@ -22,6 +27,14 @@ pub enum Answer {
     OutputFault,
     /// There is not enough memory. Nothing was written.
     NoMemory,
+}
+
+/// What is wrong with a volume.
+#[derive(Clone, Copy, Debug, PartialEq, Eq)]
+pub enum Finding {
+    /// A part of the volume is not right: part 0 is the primary superblock, at place 0; part 10 is a
+    /// backup superblock, at its allocation group.
+    Part { part: u8, place: u64 },
 }
 
 /// What a repair did.
@@ -54,12 +67,13 @@ impl Answer {
     ghost use Rattle.std.specs.Prelude.{◌≡◌};
     ghost use Rattle.xfs_tools.specs.Texts.{code_of, is_for_out};
 
-    /// The exit status that the answer gives.
-    pub fn code(self) -> u8
-        ensures { result ≡ code_of self }
+    /// The exit status that the answer gives; a repair's is 4 where it is asked to tell, else 0.
+    pub fn code(self, tells_repair: bool) -> u8
+        ensures { result ≡ code_of tells_repair self }
     {
         match self {
-            Answer::Clean | Answer::Repaired(_) => 0,
+            Answer::Clean => 0,
+            Answer::Repaired(_) => { if tells_repair { 4 } else { 0 } }
             _ => 1,
         }
     }
@@ -68,6 +82,22 @@ impl Answer {
     pub fn is_for_out(self) -> bool
         ensures { result ≡ is_for_out self }
     {
-        matches!(self, Answer::Clean | Answer::Repaired(_))
+        matches!(
+            self,
+            Answer::Clean | Answer::Damaged(_) | Answer::Repaired(_)
+        )
+    }
+}
+
+impl Finding {
+    ghost use Rattle.std.specs.Prelude.{◌≡◌};
+    ghost use Rattle.xfs_tools.specs.declared.answer.Finding.TheVariants.{Part};
+
+    /// The number of the part and its place.
+    pub fn part_and_place(self) -> (u8, u64)
+        ensures { self ≡ Part result.0 result.1 }
+    {
+        let Finding::Part { part, place } = self;
+        (part, place)
     }
 }

@@ -10,5 +10,6 @@ mod repair;
 mod texts;
 mod top;
 
-pub use answer::{Answer, Status, Summary};
+pub use answer::{Answer, Finding, Status, Summary};
+pub use command_line::RepairOptions;
 pub use top::run;

@@ -1,31 +1,78 @@
 //! The line of each answer. Putting one takes no memory.
 
-ghost use Rattle.std.specs.Prelude.{◌≡◌, ℕ, ◌++◌, length, map, decimal};
+ghost use Rattle.std.specs.Prelude.{◌≡◌, ℕ, ◌++◌, length, map};
 ghost use Rattle.xfs_tools.specs.Labels.{label_of};
 ghost use Rattle.xfs_tools.specs.Outcome.{Puts};
-ghost use Rattle.xfs_tools.specs.Texts.{line, summary_text, text_of};
+ghost use Rattle.xfs_tools.specs.Texts.{finding_text, line, number_text, summary_text, text_of};
 
-use crate::answer::{Answer, Summary};
+use crate::answer::{Answer, Finding, Summary};
+use crate::hexadecimal::{MOST_DIGITS, write_hexadecimal};
 use itoa::Buffer;
 use xfs_disk::{Failed, Sink};
+
+/// A number, by the base in which it is put.
+#[derive(Clone, Copy, Debug)]
+enum Number {
+    Decimal(u64),
+    Hexadecimal(u64),
+}
 
 /// Puts the line of an answer.
 pub fn put_answer<S: Sink>(sink: &mut S, answer: Answer) -> Result<(), Failed>
     ensures { Puts (S.took sink.old) (S.took sink.new) (S.faults sink.old) (S.faults sink.new) (text_of answer) result }
 {
     match answer {
-        Answer::Usage { word } => put_line(sink, &[("xfs: usage: word ", word as u64)], "\n"),
-        Answer::Unbuilt { request } => put_line(sink, &[("xfs: unbuilt: ", request as u64)], "\n"),
+        Answer::Usage { word } => put_line(
+            sink,
+            &[("xfs: usage: word ", Number::Decimal(word as u64))],
+            "\n",
+        ),
+        Answer::Unbuilt { request } => put_line(
+            sink,
+            &[("xfs: unbuilt: ", Number::Decimal(request as u64))],
+            "\n",
+        ),
         Answer::NoGeometry => put_line(sink, &[], "xfs: no geometry\n"),
+        Answer::Unsupported { word, bits } => put_unsupported(sink, word, bits),
         Answer::Clean => put_line(sink, &[], "clean\n"),
+        Answer::Damaged(finding) => put_finding(sink, finding),
         Answer::Repaired(summary) => put_summary(sink, summary),
-        Answer::ReadFault { faults } => put_line(sink, &[("xfs: read fault: ", faults)], "\n"),
-        Answer::WriteFault { written } => {
-            put_line(sink, &[("xfs: write fault after ", written)], " blocks\n")
-        }
+        Answer::ReadFault { faults } => put_line(
+            sink,
+            &[("xfs: read fault: ", Number::Decimal(faults))],
+            "\n",
+        ),
+        Answer::WriteFault { written } => put_line(
+            sink,
+            &[("xfs: write fault after ", Number::Decimal(written))],
+            " blocks\n",
+        ),
         Answer::OutputFault => put_line(sink, &[], ""),
         Answer::NoMemory => put_line(sink, &[], "xfs: no memory\n"),
     }
+}
+
+/// Puts the line of a refused feature word.
+fn put_unsupported<S: Sink>(sink: &mut S, word: u8, bits: u64) -> Result<(), Failed>
+    ensures { Puts (S.took sink.old) (S.took sink.new) (S.faults sink.old) (S.faults sink.new) (text_of (Answer.Unsupported word bits)) result }
+{
+    let numbers = [
+        ("xfs: unsupported: word ", Number::Decimal(word as u64)),
+        (" bits 0x", Number::Hexadecimal(bits)),
+    ];
+    put_line(sink, &numbers, "\n")
+}
+
+/// Puts the line of a finding.
+fn put_finding<S: Sink>(sink: &mut S, finding: Finding) -> Result<(), Failed>
+    ensures { Puts (S.took sink.old) (S.took sink.new) (S.faults sink.old) (S.faults sink.new) (finding_text finding) result }
+{
+    let (part, place) = finding.part_and_place();
+    let numbers = [
+        ("damaged: part ", Number::Decimal(part as u64)),
+        (" at ", Number::Decimal(place)),
+    ];
+    put_line(sink, &numbers, "\n")
 }
 
 /// Puts the line of a repair's summary.
@@ -33,7 +80,11 @@ fn put_summary<S: Sink>(sink: &mut S, summary: Summary) -> Result<(), Failed>
     ensures { Puts (S.took sink.old) (S.took sink.new) (S.faults sink.old) (S.faults sink.new) (summary_text summary) result }
 {
     match summary {
-        Summary::Backups { count } => put_line(sink, &[("repaired: backups=", count)], "\n"),
+        Summary::Backups { count } => put_line(
+            sink,
+            &[("repaired: backups=", Number::Decimal(count))],
+            "\n",
+        ),
         Summary::Rebuilt {
             blocks,
             kept,
@@ -41,10 +92,10 @@ fn put_summary<S: Sink>(sink: &mut S, summary: Summary) -> Result<(), Failed>
             orphans,
         } => {
             let numbers = [
-                ("repaired: blocks=", blocks),
-                (" kept=", kept),
-                (" cleared=", cleared),
-                (" orphans=", orphans),
+                ("repaired: blocks=", Number::Decimal(blocks)),
+                (" kept=", Number::Decimal(kept)),
+                (" cleared=", Number::Decimal(cleared)),
+                (" orphans=", Number::Decimal(orphans)),
             ];
             put_line(sink, &numbers, "\n")
         }
@@ -53,7 +104,7 @@ fn put_summary<S: Sink>(sink: &mut S, summary: Summary) -> Result<(), Failed>
 
 /// Puts numbers with a label before each, and what ends their line.
 #[tactic(auto, unfolding(crate::specs::Texts::line))]
-fn put_line<S: Sink>(sink: &mut S, numbers: &[(&str, u64)], end: &str) -> Result<(), Failed>
+fn put_line<S: Sink>(sink: &mut S, numbers: &[(&str, Number)], end: &str) -> Result<(), Failed>
     ensures { Puts (S.took sink.old) (S.took sink.new) (S.faults sink.old) (S.faults sink.new) (line (map label_of numbers.now) end.now) result }
 {
     for (label, number) in numbers {
@@ -65,16 +116,29 @@ fn put_line<S: Sink>(sink: &mut S, numbers: &[(&str, u64)], end: &str) -> Result
     put_text(sink, end)
 }
 
-/// Puts a label and a number in decimal.
-fn put_labelled<S: Sink>(sink: &mut S, label: &str, number: u64) -> Result<(), Failed>
-    ensures { Puts (S.took sink.old) (S.took sink.new) (S.faults sink.old) (S.faults sink.new) (label.now ++ decimal number) result }
+/// Puts a label and a number.
+fn put_labelled<S: Sink>(sink: &mut S, label: &str, number: Number) -> Result<(), Failed>
+    ensures { Puts (S.took sink.old) (S.took sink.new) (S.faults sink.old) (S.faults sink.new) (label.now ++ number_text number) result }
 {
     match put_text(sink, label) {
         Ok(()) => {}
         Err(Failed) => return Err(Failed),
     }
-    let mut buffer = Buffer::new();
-    put_text(sink, buffer.format(number))
+    put_number(sink, number)
+}
+
+/// Puts a number in its base.
+fn put_number<S: Sink>(sink: &mut S, number: Number) -> Result<(), Failed>
+    ensures { Puts (S.took sink.old) (S.took sink.new) (S.faults sink.old) (S.faults sink.new) (number_text number) result }
+{
+    match number {
+        Number::Decimal(number) => put_text(sink, Buffer::new().format(number)),
+        Number::Hexadecimal(number) => {
+            let mut digits = [0; MOST_DIGITS];
+            let start = write_hexadecimal(&mut digits, number);
+            sink.put(&digits[start..])
+        }
+    }
 }
 
 /// Puts a text.

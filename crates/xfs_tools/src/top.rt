@@ -45,7 +45,7 @@ pub fn run<R: Threads + Sync, D: Disk, L: Library, S: Source, O: Sink, E: Sink, 
     let answer = answer_to(alloc, words, disk);
     match tell(out, err, answer) {
         Ok(()) => Status {
-            code: answer.code(),
+            code: answer.code(false),
             answer,
             finished: 0,
         },

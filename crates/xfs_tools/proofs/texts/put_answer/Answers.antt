@@ -20,3 +20,9 @@ returns-in-WriteFault g c = puts_as _ _ _ _ _ _ _ (ap text_of c.in-WriteFault.is
 
 pub returns-in-NoMemory : goal.returns-in-NoMemory
 returns-in-NoMemory g c = puts_as _ _ _ _ _ _ _ (ap text_of c.in-NoMemory.is) c.put_line-in-NoMemory.ensures
+
+pub returns-in-Unsupported : goal.returns-in-Unsupported
+returns-in-Unsupported g c = puts_as _ _ _ _ _ _ _ (ap text_of c.in-Unsupported.is) c.put_unsupported.ensures
+
+pub returns-in-Damaged : goal.returns-in-Damaged
+returns-in-Damaged g c = puts_as _ _ _ _ _ _ _ (ap text_of c.in-Damaged.is) c.put_finding.ensures
