@@ -8,10 +8,10 @@ use Rattle.xfs_geom.specs.Superblocks.{is_agreeing}
 use Rattle.xfs_geom.specs.Volumes.{stated_volume}
 use Rattle.xfs_tools.specs.Backups.{block_of, super_of, with_super, start_of, backup_plan}
 use Rattle.xfs_tools.specs.Due.{due_repair}
-use Rattle.xfs_tools.specs.Plans.{written, IsPartly}
+use Rattle.xfs_tools.specs.Plans.{Plan, written, IsPartly}
 use Rattle.xfs_tools.specs.Texts.{text_of, is_for_out, code_of}
 use Rattle.xfs_tools.specs.declared.answer.Answer.{Answer}
-use Rattle.xfs_tools.specs.declared.answer.Answer.TheVariants.{Repaired, ReadFault, WriteFault, OutputFault, NoMemory, Clean}
+use Rattle.xfs_tools.specs.declared.answer.Answer.TheVariants.{Usage, Unbuilt, Repaired, ReadFault, WriteFault, OutputFault, NoMemory, Clean}
 use Rattle.xfs_tools.specs.declared.answer.Status.{Status}
 
 -- the answer is the one that is due, or a fault of the disk or want of memory stands in its place
@@ -21,6 +21,12 @@ IsDue due (WriteFault blocks) = Unit {0}
 IsDue due OutputFault = ⊥
 IsDue due NoMemory = Unit {0}
 IsDue due answer = answer ≡ due
+
+-- the answer refuses a command line
+abbrev pub IsRefusal : Answer → Type 0
+IsRefusal (Usage word) = Unit {0}
+IsRefusal (Unbuilt request) = Unit {0}
+IsRefusal answer = ⊥
 
 -- a fault of the disk is answered only where its count rose; a read fault tells the count
 abbrev pub IsCaused : ℕ → ℕ → ℕ → ℕ → Answer → Type 0
@@ -47,7 +53,14 @@ pub record IsMended (image now : Image) : Type 0 where
 pub record IsRepaired (image : Image) (now : Option Image) : Type 0 where
   pub planned : now ≡ Some (written (backup_plan image) image)
   pub mended : IsMended image (written (backup_plan image) image)
-  pub clean : due_repair (written (backup_plan image) image) ≡ Clean
+  pub clean : (check : Bool) → due_repair check (written (backup_plan image) image) ≡ Clean
+
+-- what the disk holds after an answer to the plan: the written plan after a repair, a part of it after a
+-- write fault, else what it held
+abbrev pub Writes : Plan → Image → Option Image → Answer → Type 0
+Writes plan image now (Repaired summary) = now ≡ Some (written plan image)
+Writes plan image now (WriteFault blocks) = IsPartly plan image blocks now
+Writes plan image now answer = now ≡ Some image
 
 -- what the disk holds after the answer: where it isn't a repair or a write fault, what it held
 abbrev pub Leaves : Image → Option Image → Answer → Type 0

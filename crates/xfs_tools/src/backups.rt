@@ -2,8 +2,11 @@
 
 ghost use Rattle.std.specs.Prelude.{◌≡◌, ℕ, ◌++◌, ◌-◌, ◌<◌, ◌≤◌, List, length, All, OnOk, IfOk, option_to_list, vec_len};
 ghost use Rattle.std.specs.Option.{ForSome};
+ghost use Rattle.xfs_disk.specs.Faults.{HasCause};
+ghost use Rattle.xfs_geom.specs.Superblocks.{is_agreeing};
 ghost use Rattle.xfs_geom.specs.Volumes.{volume_of, stated_volume};
 ghost use Rattle.xfs_tools.specs.Backups.{block_of, start_of, step_of, steps_from, super_of, with_super};
+ghost use Rattle.xfs_tools.specs.Due.{first_disagreeing};
 ghost use Rattle.xfs_tools.specs.Planning.{HasPlanCause};
 
 use crate::plan::Planned;
@@ -52,6 +55,49 @@ pub fn plan_backups<D: Disk>(
         }
     }
     Ok(plan)
+}
+
+/// The first allocation group whose backup does not agree with the primary superblock.
+pub fn find_disagreeing<D: Disk>(disk: &mut D, geometry: &Geometry, primary: &[u8]) -> Result<Option<u32>, Failed>
+    requires sector { length primary.now ≡ 512 }
+    requires stated { volume_of geometry.now ≡ stated_volume primary.now }
+    requires inside { geometry.now.dblocks ≤ D.size disk.old }
+    ensures first { IfOk result (λ first. ForSome (D.holds disk.old) (λ image.
+        first ≡ first_disagreeing primary.now image 1 (geometry.now.agcount - 1))) }
+    ensures size { D.size disk.new ≡ D.size disk.old }
+    ensures holds { D.holds disk.new ≡ D.holds disk.old }
+    ensures cause { HasCause (D.faults disk.old) (D.faults disk.new) result }
+    ensures write_faults { D.write_faults disk.new ≡ D.write_faults disk.old }
+{
+    for group in 1..geometry.agcount {
+        match is_agreeing(disk, geometry, primary, group) {
+            Ok(true) => {}
+            Ok(false) => return Ok(Some(group)),
+            Err(Failed) => return Err(Failed),
+        }
+    }
+    Ok(None)
+}
+
+/// Whether the backup of a group agrees with the primary superblock.
+#[tactic(auto, unfolding(crate::specs::Backups::start_of))]
+fn is_agreeing<D: Disk>(disk: &mut D, geometry: &Geometry, primary: &[u8], group: u32) -> Result<bool, Failed>
+    requires sector { length primary.now ≡ 512 }
+    requires stated { volume_of geometry.now ≡ stated_volume primary.now }
+    requires inside { geometry.now.dblocks ≤ D.size disk.old }
+    requires group { group < geometry.now.agcount }
+    ensures agreeing { IfOk result (λ agreeing. ForSome (D.holds disk.old) (λ image.
+        agreeing ≡ is_agreeing (stated_volume primary.now) (super_of (block_of image (start_of primary.now group))))) }
+    ensures size { D.size disk.new ≡ D.size disk.old }
+    ensures holds { D.holds disk.new ≡ D.holds disk.old }
+    ensures cause { HasCause (D.faults disk.old) (D.faults disk.new) result }
+    ensures write_faults { D.write_faults disk.new ≡ D.write_faults disk.old }
+{
+    let mut block = [0; BLOCK_SIZE];
+    match disk.read(geometry.start_of_group(group), &mut block) {
+        Ok(()) => Ok(agrees(geometry, first_sector(&block))),
+        Err(Failed) => Err(Failed),
+    }
 }
 
 /// Puts a write, where there is one, behind the plan.

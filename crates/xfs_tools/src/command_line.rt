@@ -1,7 +1,8 @@
 //! The words of a command line.
 
-ghost use Rattle.std.specs.Prelude.{◌≡◌, ℕ, Option, Some, None, Result, Err, IsTrue, List, ◌∷◌, codes, length};
+ghost use Rattle.std.specs.Prelude.{◌≡◌, ℕ, Option, Some, None, Result, Err, IfErr, IsTrue, List, ◌∷◌, codes, length};
 ghost use Rattle.xfs_tools.specs.CommandLine.{after_letter_w, after_letters, after_option, after_word, after_workers, after_words, judged, OffendsFirst, Words, no_options, reading_of, settled, workers_of};
+ghost use Rattle.xfs_tools.specs.Outcome.{IsRefusal};
 
 use crate::answer::Answer;
 use xfs_disk::Word;
@@ -38,6 +39,7 @@ enum Reading {
 /// answer tells is that of the first word that offends.
 pub fn judge(words: &[Word]) -> Result<RepairOptions, Answer>
     ensures judged { result ≡ judged words.now }
+    ensures refusal { IfErr result IsRefusal }
     ensures offending { (rest : Words) (n : ℕ) → words.now ≡ codes "xfs_repair" ∷ rest → result ≡ Err (Answer.Usage n) → OffendsFirst rest n }
 {
     settle_words(words)
@@ -46,7 +48,8 @@ pub fn judge(words: &[Word]) -> Result<RepairOptions, Answer>
 /// What the words say, by the tool that the first of them names.
 #[tactic(auto, unfolding(crate::specs::CommandLine::judged))]
 fn settle_words(words: &[Word]) -> Result<RepairOptions, Answer>
-    ensures { result ≡ judged words.now }
+    ensures judged { result ≡ judged words.now }
+    ensures refusal { IfErr result IsRefusal }
 {
     let [tool, rest @ ..] = words else {
         return Err(Answer::Usage { word: 0 });
@@ -95,7 +98,8 @@ impl Reading {
 
     /// The options, or the number of the first word that offends: that of all words where one lacks.
     fn settle(self, count: usize) -> Result<RepairOptions, Answer>
-        ensures { result ≡ settled count self }
+        ensures settled { result ≡ settled count self }
+        ensures refusal { IfErr result IsRefusal }
     {
         match self {
             Reading::Complete(options) => Ok(options),

@@ -1,14 +1,14 @@
 //! The top call: a command line and an image in, an answer, its line and an exit status out.
 
-ghost use Rattle.std.specs.Prelude.{◌≡◌, ℕ, ◌≤◌, Result};
+ghost use Rattle.std.specs.Prelude.{◌≡◌, ℕ, ◌≤◌, Result, IfErr};
 ghost use Rattle.std.specs.Option.{ForSome};
 ghost use Rattle.xfs_disk.specs.declared.failed.Failed.{Failed};
-ghost use Rattle.xfs_tools.specs.Due.{due};
-ghost use Rattle.xfs_tools.specs.Outcome.{IsCaused, IsDue, IsKept, IsTold, Leaves, status_of};
+ghost use Rattle.xfs_tools.specs.Due.{due, due_judged, tells_judged, tells_repair};
+ghost use Rattle.xfs_tools.specs.Outcome.{IsCaused, IsDue, IsKept, IsRefusal, IsTold, Leaves, status_of};
 ghost use Rattle.xfs_tools.specs.declared.answer.Answer.{Answer};
 
 use crate::answer::{Answer, Status};
-use crate::command_line::judge;
+use crate::command_line::{RepairOptions, judge};
 use crate::repair::repair;
 use crate::texts::put_answer;
 use std::alloc::Global;
@@ -35,17 +35,18 @@ pub fn run<R: Threads + Sync, D: Disk, L: Library, S: Source, O: Sink, E: Sink, 
         × ForSome (D.holds disk.old) (λ image. Leaves image (D.holds disk.new) answer)
         × IsKept (D.tells_stops disk.old) (D.holds disk.new) (D.may_leave disk.new) answer
         × IsTold O.took O.faults E.took E.faults out.old out.new err.old err.new answer put
-        × (result ≡ status_of answer put) }
+        × (result ≡ status_of (tells_repair words.now) answer put) }
     ensures size { D.size disk.new ≡ D.size disk.old }
     ensures faults { D.faults disk.old ≤ D.faults disk.new }
     ensures write_faults { D.write_faults disk.old ≤ D.write_faults disk.new }
     ensures files { files.new ≡ files.old }
     ensures input { input.new ≡ input.old }
 {
-    let answer = answer_to(alloc, words, disk);
+    let judged = judge(words);
+    let answer = answer_to(alloc, judged, disk);
     match tell(out, err, answer) {
         Ok(()) => Status {
-            code: answer.code(false),
+            code: answer.code(tells_repair(judged)),
             answer,
             finished: 0,
         },
@@ -57,9 +58,10 @@ pub fn run<R: Threads + Sync, D: Disk, L: Library, S: Source, O: Sink, E: Sink, 
     }
 }
 
-/// The answer to the words: their refusal, or what the repair answers.
-fn answer_to<D: Disk>(alloc: Global, words: &[Word], disk: &mut D) -> Answer
-    ensures due { ForSome (D.holds disk.old) (λ image. IsDue (due words.now image) result) }
+/// The answer to the judged words: their refusal, or what the repair answers.
+fn answer_to<D: Disk>(alloc: Global, judged: Result<RepairOptions, Answer>, disk: &mut D) -> Answer
+    requires { IfErr judged IsRefusal }
+    ensures due { ForSome (D.holds disk.old) (λ image. IsDue (due_judged judged image) result) }
     ensures cause { IsCaused (D.faults disk.old) (D.faults disk.new) (D.write_faults disk.old) (D.write_faults disk.new) result }
     ensures leaves { ForSome (D.holds disk.old) (λ image. Leaves image (D.holds disk.new) result) }
     ensures kept { IsKept (D.tells_stops disk.old) (D.holds disk.new) (D.may_leave disk.new) result }
@@ -67,9 +69,19 @@ fn answer_to<D: Disk>(alloc: Global, words: &[Word], disk: &mut D) -> Answer
     ensures faults { D.faults disk.old ≤ D.faults disk.new }
     ensures write_faults { D.write_faults disk.old ≤ D.write_faults disk.new }
 {
-    match judge(words).err() {
-        Some(refusal) => refusal,
-        None => repair(alloc, disk),
+    match judged {
+        Err(refusal) => refusal,
+        Ok(options) => repair(alloc, disk, &options),
+    }
+}
+
+/// Whether the words ask that a repair end with a status of its own.
+fn tells_repair(judged: Result<RepairOptions, Answer>) -> bool
+    ensures { result ≡ tells_judged judged }
+{
+    match judged {
+        Err(_) => false,
+        Ok(options) => options.tells_repair,
     }
 }
 

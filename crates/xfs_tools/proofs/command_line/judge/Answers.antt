@@ -9,5 +9,5 @@ unfolding judged
 returns-clause-offending c =
     λ rest n words refusal.
     let told : settled (length rest + 1) (reading_of rest) ≡ Err (Usage n) =
-    sym (ap judged words) ∙ (sym c.settle_words.ensures ∙ refusal) in
+    sym (ap judged words) ∙ (sym c.settle_words.ensures.judged ∙ refusal) in
     refused_first rest (reading_of rest) n refl told
