@@ -73,13 +73,9 @@ fn check(rt: &(impl Abort + Threads + Sync), alloc: Global, row: &Row) -> Result
         let (status, out, err) = call(rt, alloc, &words, &mut disk, 80)?;
         assert_eq!(rt; status.code, *code, "{}", row.name);
         assert_eq!(rt; status.finished, 0, "{}", row.name);
-        let (told, silent) = if *code == 0 {
-            (out.bytes(), err.bytes())
-        } else {
-            (err.bytes(), out.bytes())
-        };
-        assert_eq!(rt; told, line.as_bytes(), "{}", row.name);
-        assert!(rt; silent.is_empty(), "{}", row.name);
+        let (on_out, on_err) = if *code == 0 { (*line, "") } else { ("", *line) };
+        assert_eq!(rt; out.bytes(), on_out.as_bytes(), "{}", row.name);
+        assert_eq!(rt; err.bytes(), on_err.as_bytes(), "{}", row.name);
     }
     let after = disk_of(rt, alloc, row.after)?;
     assert!(rt; disk.image() == after.image(), "{}", row.name);
