@@ -14,22 +14,94 @@ const AGREEING: Contents = Contents::Volume { label: 0 };
 /// The backup superblock is not the primary's, and its checksum is not right.
 const DAMAGED: Contents = Contents::Volume { label: 1 };
 
-/// The words of a repair.
-const REPAIR: &[&str] = &["xfs_repair", "V"];
+/// The words of a command line.
+type Words = &'static [&'static str];
 
-/// The words `words`, as they are given to each call; what the disk holds `before`; the read, write or
-/// sync of all the calls that fails; the line and the exit status of each call; and what the disk holds
-/// `after` them.
+/// The line and the exit status of each of some calls.
+type Told = &'static [(&'static str, u8)];
+
+/// The words of a repair.
+const REPAIR: Words = &["xfs_repair", "V"];
+
+/// Calls with the same words on the same disk, one after the other.
 #[derive(Clone, Copy)]
 struct Row {
     name: &'static str,
-    words: &'static [&'static str],
+    words: Words,
+    /// What the disk holds before the calls.
     before: Contents,
+    /// Which of its reads, writes and syncs fails, counted from 1 over all the calls.
     failing: Option<u64>,
-    told: &'static [(&'static str, u8)],
+    told: Told,
+    /// What the disk holds after the calls.
     after: Contents,
 }
 
+/// Repairs of each kind of disk, and of disks of which a call fails.
+const REPAIRS: [Row; 7] = [
+    Row {
+        name: "a backup that disagrees is rewritten: two reads, a sync, a write and a sync",
+        words: REPAIR,
+        before: DAMAGED,
+        failing: Some(6),
+        told: &[
+            ("repaired: backups=1\n", 0),
+            ("xfs: read fault: 1\n", 1),
+            ("clean\n", 0),
+        ],
+        after: AGREEING,
+    },
+    Row {
+        name: "agreeing backups are clean: two reads",
+        words: REPAIR,
+        before: AGREEING,
+        failing: Some(3),
+        told: &[("clean\n", 0), ("xfs: read fault: 1\n", 1)],
+        after: AGREEING,
+    },
+    Row {
+        name: "a failed write is told",
+        words: REPAIR,
+        before: DAMAGED,
+        failing: Some(4),
+        told: &[("xfs: write fault after 0 blocks\n", 1)],
+        after: DAMAGED,
+    },
+    Row {
+        name: "a failed last sync is told",
+        words: REPAIR,
+        before: DAMAGED,
+        failing: Some(5),
+        told: &[("xfs: write fault after 1 blocks\n", 1)],
+        after: AGREEING,
+    },
+    Row {
+        name: "a failed read is told",
+        words: REPAIR,
+        before: DAMAGED,
+        failing: Some(1),
+        told: &[("xfs: read fault: 1\n", 1)],
+        after: DAMAGED,
+    },
+    Row {
+        name: "no block is no geometry",
+        words: REPAIR,
+        before: Contents::Nothing,
+        failing: None,
+        told: &[("xfs: no geometry\n", 1)],
+        after: Contents::Nothing,
+    },
+    Row {
+        name: "a primary that is not accepted",
+        words: REPAIR,
+        before: Contents::Zeros,
+        failing: None,
+        told: &[("xfs: unbuilt: 2\n", 1)],
+        after: Contents::Zeros,
+    },
+];
+
+/// The words as the top call takes them.
 fn words_of(alloc: Global, words: &[&str]) -> Result<Vec<Word>, AllocError> {
     let mut made = Vec::new(alloc);
     for word in words {
@@ -38,7 +110,8 @@ fn words_of(alloc: Global, words: &[&str]) -> Result<Vec<Word>, AllocError> {
     Ok(made)
 }
 
-/// Makes the top call, with so much room for standard output; gives the status and both sinks.
+/// Makes the top call with so many bytes of room for standard output. Returns the status and the sinks
+/// of standard output and standard error.
 fn call(
     rt: &(impl Threads + Sync),
     alloc: Global,
@@ -62,7 +135,7 @@ fn call(
     Ok((status, out, err))
 }
 
-/// Makes the calls of a row, and compares what they leave.
+/// Makes the calls of a row, and compares what they put, their statuses and what the disk holds then.
 fn check(rt: &(impl Abort + Threads + Sync), alloc: Global, row: &Row) -> Result<(), Fail> {
     let words = words_of(alloc, row.words)?;
     let mut disk = disk_of(rt, alloc, row.before)?;
@@ -84,69 +157,7 @@ fn check(rt: &(impl Abort + Threads + Sync), alloc: Global, row: &Row) -> Result
 
 #[test]
 fn repairs(rt: HostRuntime) -> Result<(), Fail> {
-    let rows = [
-        Row {
-            name: "a backup that disagrees is rewritten: two reads, a sync, a write and a sync",
-            words: REPAIR,
-            before: DAMAGED,
-            failing: Some(6),
-            told: &[
-                ("repaired: backups=1\n", 0),
-                ("xfs: read fault: 1\n", 1),
-                ("clean\n", 0),
-            ],
-            after: AGREEING,
-        },
-        Row {
-            name: "agreeing backups are clean: two reads",
-            words: REPAIR,
-            before: AGREEING,
-            failing: Some(3),
-            told: &[("clean\n", 0), ("xfs: read fault: 1\n", 1)],
-            after: AGREEING,
-        },
-        Row {
-            name: "a failed write is told",
-            words: REPAIR,
-            before: DAMAGED,
-            failing: Some(4),
-            told: &[("xfs: write fault after 0 blocks\n", 1)],
-            after: DAMAGED,
-        },
-        Row {
-            name: "a failed last sync is told",
-            words: REPAIR,
-            before: DAMAGED,
-            failing: Some(5),
-            told: &[("xfs: write fault after 1 blocks\n", 1)],
-            after: AGREEING,
-        },
-        Row {
-            name: "a failed read is told",
-            words: REPAIR,
-            before: DAMAGED,
-            failing: Some(1),
-            told: &[("xfs: read fault: 1\n", 1)],
-            after: DAMAGED,
-        },
-        Row {
-            name: "no block is no geometry",
-            words: REPAIR,
-            before: Contents::Nothing,
-            failing: None,
-            told: &[("xfs: no geometry\n", 1)],
-            after: Contents::Nothing,
-        },
-        Row {
-            name: "a primary that is not accepted",
-            words: REPAIR,
-            before: Contents::Zeros,
-            failing: None,
-            told: &[("xfs: unbuilt: 2\n", 1)],
-            after: Contents::Zeros,
-        },
-    ];
-    for row in &rows {
+    for row in &REPAIRS {
         check(&rt, rt.alloc(), row)?;
     }
     Ok(())
@@ -154,7 +165,7 @@ fn repairs(rt: HostRuntime) -> Result<(), Fail> {
 
 #[test]
 fn words(rt: HostRuntime) -> Result<(), Fail> {
-    let rows: [(&'static [&'static str], &'static [(&'static str, u8)]); 7] = [
+    let rows: [(Words, Told); 7] = [
         (&[], &[("xfs: usage: word 0\n", 1)]),
         (&["x"], &[("xfs: usage: word 0\n", 1)]),
         (&["mkfs.xfs"], &[("xfs: unbuilt: 6\n", 1)]),
