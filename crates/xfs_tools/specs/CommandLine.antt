@@ -1,5 +1,5 @@
 -- The words of a command line: a tool, its options and an image (xfs_repair(8), mkfs.xfs(8), xfs_db(8)).
-use Rattle.std.specs.Prelude.{ℕ, Bool, false, ◌==◌, ◌||◌, if◌then◌else◌, codes, bytes_eq, List, [], ◌∷◌, Option, Some, None}
+use Rattle.std.specs.Prelude.{ℕ, Bool, false, ◌==◌, if◌then◌else◌, codes, bytes_eq, List, [], ◌∷◌, Option, Some, None}
 use Rattle.xfs_tools.specs.declared.answer.Answer.{Answer}
 use Rattle.xfs_tools.specs.declared.answer.Answer.TheVariants.{Usage, Unbuilt}
 

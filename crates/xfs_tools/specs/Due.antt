@@ -1,5 +1,5 @@
 -- The answer that is due to a command line and an image.
-use Rattle.std.specs.Prelude.{ℕ, ◌==◌, if◌then◌else◌, is_none, List, [], ◌∷◌, length, Option, Some, None}
+use Rattle.std.specs.Prelude.{◌==◌, if◌then◌else◌, is_none, [], ◌∷◌, length, Option, Some, None}
 use Rattle.xfs_disk.specs.Blocks.{Image}
 use Rattle.xfs_geom.specs.Superblocks.{super_fault}
 use Rattle.xfs_tools.specs.Backups.{backup_plan, block_of, super_of}

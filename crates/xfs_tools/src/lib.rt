@@ -6,6 +6,8 @@ mod backups;
 mod command_line;
 mod plan;
 mod repair;
+#[cfg(test)]
+mod tests;
 mod texts;
 mod top;
 
