@@ -1,5 +1,5 @@
 -- What the calls of a repair have told of the image.
-use Rattle.std.proofs.Common.{◌≡◌, ◌≢◌, ℕ, ◌+◌, ◌-◌, ◌*◌, ◌<◌, ◌≤◌, ◌==◌, Bool, true, false, List, [], length, take, slice_get, unwrap_or, Option, Some, None, refl, sym, ap, ◌∙◌, subst, arith}
+use Rattle.std.proofs.Common.{◌≡◌, ◌≢◌, ℕ, ◌-◌, ◌*◌, ◌<◌, ◌≤◌, ◌==◌, false, List, [], length, take, slice_get, unwrap_or, Option, Some, None, sym, ap, ◌∙◌, subst, arith}
 use Rattle.xfs_disk.specs.Blocks.{Image}
 use Rattle.xfs_geom.proofs.Bounds.{group_start}
 use Rattle.xfs_geom.specs.Superblocks.{super_fault}

@@ -1,16 +1,13 @@
 -- What an image is once the plan of its backups is written.
-use Rattle.std.proofs.Common.{◌≡◌, ◌≢◌, ℕ, zero, suc, ◌+◌, ◌-◌, ◌*◌, ◌<◌, ◌≤◌, ◌==◌, ◌⊎◌, inl, inr, Bool, true, false, cond, if◌then◌else◌, List, [], ◌∷◌, ◌++◌, length, take, drop, get_or, slice_set, slice_get, unwrap_or, Option, Some, None, refl, sym, ap, ◌∙◌, subst, get_or-set_same, get_or-set_other, length-set, arith}
+use Rattle.std.proofs.Common.{◌≡◌, ◌≢◌, ℕ, zero, suc, ◌+◌, ◌*◌, ◌<◌, ◌≤◌, ◌⊎◌, inl, inr, Bool, true, false, if◌then◌else◌, List, [], ◌∷◌, length, slice_set, refl, sym, ap, ◌∙◌, subst, get_or-set_same, get_or-set_other, length-set, arith}
 use Rattle.std.proofs.Math.Nat.{mul-lt-mul_of_pos_right}
 use Rattle.std.proofs.lemmas.Bool.{cases_eq, cases_lt}
-use Rattle.std.proofs.lemmas.List.{take_at}
 use Rattle.std.proofs.lemmas.Option.{unwrap_or-slice_get}
-use Rattle.std.specs.List.{range_with_len}
 use Rattle.xfs_disk.specs.Blocks.{Image}
-use Rattle.xfs_geom.specs.Superblocks.{is_agreeing, super_fault}
+use Rattle.xfs_geom.specs.Superblocks.{is_agreeing}
 use Rattle.xfs_geom.specs.Volumes.{stated_volume}
-use Rattle.xfs_geom.proofs.OwnVolume.{agrees_with_itself}
 use Rattle.xfs_tools.proofs.Writing.{written-append}
-use Rattle.xfs_tools.specs.Backups.{block_of, super_of, with_super, step_of, start_of, steps_from, backup_plan}
+use Rattle.xfs_tools.specs.Backups.{block_of, super_of, with_super, step_of, start_of, steps_from}
 use Rattle.xfs_tools.specs.Plans.{Plan, written}
 
 pub block_set_same : (image : Image) (at : ℕ) (bytes : List ℕ) → at < length image → block_of (slice_set image at bytes) at ≡ bytes

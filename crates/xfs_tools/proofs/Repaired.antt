@@ -1,5 +1,5 @@
 -- A repaired image is mended, and clean from then on.
-use Rattle.std.proofs.Common.{◌≡◌, ◌≢◌, ℕ, zero, suc, ◌+◌, ◌-◌, ◌*◌, ◌<◌, ◌≤◌, ◌==◌, Bool, true, false, cond, if◌then◌else◌, is_none, List, [], ◌∷◌, ◌++◌, length, take, drop, slice_get, unwrap_or, Option, Some, None, refl, sym, ap, ◌∙◌, subst, arith}
+use Rattle.std.proofs.Common.{◌≡◌, ◌≢◌, ℕ, zero, suc, ◌+◌, ◌-◌, ◌*◌, ◌<◌, ◌≤◌, ◌==◌, Bool, true, false, List, [], ◌∷◌, length, drop, Option, Some, None, refl, sym, ap, ◌∙◌, subst, arith}
 use Rattle.std.proofs.lemmas.Bool.Decides.{nat_tests}
 use Rattle.std.proofs.lemmas.List.{take_at}
 use Rattle.std.proofs.Math.Nat.{mul-le-mul_right}
@@ -8,11 +8,10 @@ use Rattle.xfs_geom.specs.Superblocks.{is_agreeing, super_fault}
 use Rattle.xfs_geom.specs.Volumes.{stated_volume}
 use Rattle.xfs_geom.proofs.OwnVolume.{agrees_with_itself}
 use Rattle.xfs_tools.proofs.Mending.{length-written, mended_block, mended_agreeing, mended_other, step_agreeing, steps_other, steps_same}
-use Rattle.xfs_tools.specs.Backups.{block_of, super_of, with_super, step_of, start_of, steps_from, backup_plan}
+use Rattle.xfs_tools.specs.Backups.{block_of, super_of, start_of, steps_from, backup_plan}
 use Rattle.xfs_tools.specs.Due.{due_plan, due_repair}
 use Rattle.xfs_tools.specs.Outcome.{IsMended, IsRepaired}
 use Rattle.xfs_tools.specs.Plans.{Plan, written}
-use Rattle.xfs_tools.specs.declared.answer.Answer.{Answer}
 use Rattle.xfs_tools.specs.declared.answer.Answer.TheVariants.{Clean, Repaired}
 use Rattle.xfs_tools.specs.declared.answer.Summary.TheVariants.{Backups}
 

@@ -1,5 +1,5 @@
 -- Labelled numbers of the code, seen as the definition's.
-use Rattle.std.specs.Prelude.{ℕ, List, map}
+use Rattle.std.specs.Prelude.{ℕ, List}
 use denote.Bor.{Bor}
 use Rattle.xfs_tools.specs.declared.texts.Number.{Number}
 

@@ -7,6 +7,8 @@ mod command_line;
 mod hexadecimal;
 mod plan;
 mod repair;
+#[cfg(test)]
+mod tests;
 mod texts;
 mod top;
 

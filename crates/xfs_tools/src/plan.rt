@@ -70,7 +70,8 @@ pub fn write_plan<D: Disk>(disk: &mut D, plan: &[Planned]) -> Result<(), u64>
             Err(Failed) => return Err(written),
         }
     }
-    match disk.sync() {
+    let kept = disk.sync();
+    match kept {
         Ok(()) => Ok(()),
         Err(Failed) => Err(written),
     }

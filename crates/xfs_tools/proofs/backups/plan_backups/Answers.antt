@@ -1,4 +1,4 @@
-use Rattle.std.proofs.Common.{rules, ◌≡◌, ℕ, ◌<◌, List, All, Some, option_to_list, ◌∙◌, subst, sym}
+use Rattle.std.proofs.Common.{rules, ℕ, ◌<◌, List, All, option_to_list, ◌∙◌, subst}
 use Rattle.std.proofs.lemmas.List.Elements.{All-append}
 use Rattle.xfs_tools.proofs.Planning.{next_steps}
 use Rattle.xfs_tools.proofs.backups.plan_backups.Goals as goal

@@ -1,4 +1,4 @@
-use Rattle.std.proofs.Common.{rules, ◌≡◌, ℕ, Some, ap, ◌∙◌}
+use Rattle.std.proofs.Common.{rules, Some, ap, ◌∙◌}
 use Rattle.xfs_disk.specs.Blocks.{Image}
 use Rattle.xfs_tools.proofs.Writing.{next_write, old_or_next}
 use Rattle.xfs_tools.proofs.plan.write_plan.Goals as goal

@@ -1,5 +1,4 @@
-use Rattle.std.proofs.Common.{rules, ◌≡◌, ◌≢◌, ℕ, ◌==◌, false, length, slice_get, vec_len, Some, sym, ap, ◌∙◌, arith}
-use Rattle.xfs_disk.specs.Blocks.{Image}
+use Rattle.std.proofs.Common.{◌≡◌, ℕ, ◌==◌, length, vec_len, Some, sym, ap, ◌∙◌}
 use Rattle.xfs_tools.proofs.Accepted.{accepted, plan_made, repair_due}
 use Rattle.xfs_tools.proofs.Repaired.{is_repaired}
 use Rattle.xfs_tools.specs.Backups.{backup_plan}

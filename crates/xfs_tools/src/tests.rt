@@ -1,0 +1,5 @@
+//! The top call over the objects in memory, and the line of each answer.
+
+mod calls;
+mod lines;
+mod volume;

@@ -1,0 +1,203 @@
+//! Calls of the tools, one row each.
+
+use super::volume::{Contents, disk_of};
+use crate::{Answer, Status, run};
+use std::alloc::{AllocError, Global};
+use std::process::Abort;
+use std::test::Fail;
+use std::thread::Threads;
+use xfs_disk::{MemoryDisk, MemoryLibrary, MemorySink, MemorySource, NoGate, Stamp, Word};
+
+/// Both of the volume's superblocks agree.
+const AGREEING: Contents = Contents::Volume { label: 0 };
+
+/// The backup superblock is not the primary's, and its checksum is not right.
+const DAMAGED: Contents = Contents::Volume { label: 1 };
+
+/// The words of a command line.
+type Words = &'static [&'static str];
+
+/// The line and the exit status of each of some calls.
+type Told = &'static [(&'static str, u8)];
+
+/// The words of a repair.
+const REPAIR: Words = &["xfs_repair", "V"];
+
+/// Calls with the same words on the same disk, one after the other.
+#[derive(Clone, Copy)]
+struct Row {
+    name: &'static str,
+    words: Words,
+    /// What the disk holds before the calls.
+    before: Contents,
+    /// Which of its reads, writes and syncs fails, counted from 1 over all the calls.
+    failing: Option<u64>,
+    told: Told,
+    /// What the disk holds after the calls.
+    after: Contents,
+}
+
+/// Repairs of each kind of disk, and of disks of which a call fails.
+const REPAIRS: [Row; 7] = [
+    Row {
+        name: "a backup that disagrees is rewritten: two reads, a sync, a write and a sync",
+        words: REPAIR,
+        before: DAMAGED,
+        failing: Some(6),
+        told: &[
+            ("repaired: backups=1\n", 0),
+            ("xfs: read fault: 1\n", 1),
+            ("clean\n", 0),
+        ],
+        after: AGREEING,
+    },
+    Row {
+        name: "agreeing backups are clean: two reads",
+        words: REPAIR,
+        before: AGREEING,
+        failing: Some(3),
+        told: &[("clean\n", 0), ("xfs: read fault: 1\n", 1)],
+        after: AGREEING,
+    },
+    Row {
+        name: "a failed write is told",
+        words: REPAIR,
+        before: DAMAGED,
+        failing: Some(4),
+        told: &[("xfs: write fault after 0 blocks\n", 1)],
+        after: DAMAGED,
+    },
+    Row {
+        name: "a failed last sync is told",
+        words: REPAIR,
+        before: DAMAGED,
+        failing: Some(5),
+        told: &[("xfs: write fault after 1 blocks\n", 1)],
+        after: AGREEING,
+    },
+    Row {
+        name: "a failed read is told",
+        words: REPAIR,
+        before: DAMAGED,
+        failing: Some(1),
+        told: &[("xfs: read fault: 1\n", 1)],
+        after: DAMAGED,
+    },
+    Row {
+        name: "no block is no geometry",
+        words: REPAIR,
+        before: Contents::Nothing,
+        failing: None,
+        told: &[("xfs: no geometry\n", 1)],
+        after: Contents::Nothing,
+    },
+    Row {
+        name: "a primary that is not accepted",
+        words: REPAIR,
+        before: Contents::Zeros,
+        failing: None,
+        told: &[("xfs: unbuilt: 2\n", 1)],
+        after: Contents::Zeros,
+    },
+];
+
+/// The words as the top call takes them.
+fn words_of(alloc: Global, words: &[&str]) -> Result<Vec<Word>, AllocError> {
+    let mut made = Vec::new(alloc);
+    for word in words {
+        made.push(Word::from_vec(Vec::from_slice(alloc, word.as_bytes())?))?;
+    }
+    Ok(made)
+}
+
+/// Makes the top call with so many bytes of room for standard output. Returns the status and the sinks
+/// of standard output and standard error.
+fn call(
+    rt: &(impl Threads + Sync),
+    alloc: Global,
+    words: &[Word],
+    disk: &mut MemoryDisk,
+    room: usize,
+) -> Result<(Status, MemorySink, MemorySink), Fail> {
+    let mut files = MemoryLibrary::make();
+    let mut input = MemorySource::make(alloc, b"")?;
+    let mut out = MemorySink::make(alloc, room)?;
+    let mut err = MemorySink::make(alloc, 80)?;
+    let stamp = Stamp {
+        seconds: 0,
+        nanos: 0,
+        generation: 0,
+        uuid: [0; 16],
+    };
+    let status = run(
+        rt, alloc, words, disk, &mut files, &mut input, &mut out, &mut err, &stamp, &NoGate,
+    );
+    Ok((status, out, err))
+}
+
+/// Makes the calls of a row, and compares what they put, their statuses and what the disk holds then.
+fn check(rt: &(impl Abort + Threads + Sync), alloc: Global, row: &Row) -> Result<(), Fail> {
+    let words = words_of(alloc, row.words)?;
+    let mut disk = disk_of(rt, alloc, row.before)?;
+    if let Some(call) = row.failing {
+        disk.fail(call)?;
+    }
+    for (line, code) in row.told {
+        let (status, out, err) = call(rt, alloc, &words, &mut disk, 80)?;
+        assert_eq!(rt; status.code, *code, "{}", row.name);
+        assert_eq!(rt; status.finished, 0, "{}", row.name);
+        let (on_out, on_err) = if *code == 0 { (*line, "") } else { ("", *line) };
+        assert_eq!(rt; out.bytes(), on_out.as_bytes(), "{}", row.name);
+        assert_eq!(rt; err.bytes(), on_err.as_bytes(), "{}", row.name);
+    }
+    let after = disk_of(rt, alloc, row.after)?;
+    assert!(rt; disk.image() == after.image(), "{}", row.name);
+    Ok(())
+}
+
+#[test]
+fn repairs(rt: HostRuntime) -> Result<(), Fail> {
+    for row in &REPAIRS {
+        check(&rt, rt.alloc(), row)?;
+    }
+    Ok(())
+}
+
+#[test]
+fn words(rt: HostRuntime) -> Result<(), Fail> {
+    let rows: [(Words, Told); 7] = [
+        (&[], &[("xfs: usage: word 0\n", 1)]),
+        (&["x"], &[("xfs: usage: word 0\n", 1)]),
+        (&["mkfs.xfs"], &[("xfs: unbuilt: 6\n", 1)]),
+        (&["xfs_db"], &[("xfs: unbuilt: 11\n", 1)]),
+        (&["xfs_repair"], &[("xfs: usage: word 1\n", 1)]),
+        (&["xfs_repair", "-n"], &[("xfs: unbuilt: 2\n", 1)]),
+        (&["xfs_repair", "V", "V"], &[("xfs: unbuilt: 2\n", 1)]),
+    ];
+    for (words, told) in rows {
+        let row = Row {
+            name: "words",
+            words,
+            before: DAMAGED,
+            failing: None,
+            told,
+            after: DAMAGED,
+        };
+        check(&rt, rt.alloc(), &row)?;
+    }
+    Ok(())
+}
+
+#[test]
+fn a_line_that_is_not_put_is_an_output_fault(rt: HostRuntime) -> Result<(), Fail> {
+    let words = words_of(rt.alloc(), REPAIR)?;
+    let mut disk = disk_of(&rt, rt.alloc(), AGREEING)?;
+    let (status, out, err) = call(&rt, rt.alloc(), &words, &mut disk, 3)?;
+    assert_eq!(rt; status.code, 1);
+    assert!(rt; status.answer == Answer::OutputFault);
+    assert_eq!(rt; out.bytes(), b"cle".as_slice());
+    assert!(rt; err.bytes().is_empty());
+    let after = disk_of(&rt, rt.alloc(), AGREEING)?;
+    assert!(rt; disk.image() == after.image());
+    Ok(())
+}
