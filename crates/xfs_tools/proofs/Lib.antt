@@ -1,4 +1,5 @@
 pub mod Accepted
+pub mod Electing
 pub mod Mending
 pub mod Offending
 pub mod Planning

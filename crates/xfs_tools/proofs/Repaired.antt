@@ -7,9 +7,10 @@ use Rattle.xfs_disk.specs.Blocks.{Image}
 use Rattle.xfs_geom.specs.Superblocks.{is_agreeing, super_fault}
 use Rattle.xfs_geom.specs.Volumes.{stated_volume}
 use Rattle.xfs_geom.proofs.OwnVolume.{agrees_with_itself}
+use Rattle.xfs_tools.proofs.Electing.{elected_primary}
 use Rattle.xfs_tools.proofs.Mending.{length-written, mended_block, mended_agreeing, mended_other, step_agreeing, steps_other, steps_same}
 use Rattle.xfs_tools.specs.Backups.{block_of, super_of, start_of, steps_from, backup_plan}
-use Rattle.xfs_tools.specs.Due.{due_plan, due_repair}
+use Rattle.xfs_tools.specs.Due.{due_backups, due_check, due_elected, due_plan, due_repair, first_disagreeing}
 use Rattle.xfs_tools.specs.Outcome.{IsMended, IsRepaired}
 use Rattle.xfs_tools.specs.Plans.{Plan, written}
 use Rattle.xfs_tools.specs.declared.answer.Answer.TheVariants.{Clean, Repaired}
@@ -24,11 +25,9 @@ pub record IsAccepted (image : Image) : Type 0 where
   pub inside : (k : ℕ) → k < (stated_volume (super_of (block_of image 0))).agcount → start_of (super_of (block_of image 0)) k < length image
 
 -- the answer that is due to an image whose primary superblock is accepted
-pub due_accepted : (image : Image) → 0 < length image → super_fault (super_of (block_of image 0)) 0 (length image) ≡ None
-    → due_repair image ≡ due_plan (backup_plan image)
-due_accepted image some accepted =
-    let not_zero : (length image == 0) ≡ false = grind (arith, nat_tests) in
-    rw (not_zero, accepted) refl
+pub due_accepted : (check : Bool) (image : Image) → 0 < length image → super_fault (super_of (block_of image 0)) 0 (length image) ≡ None
+    → due_repair check image ≡ due_backups check image
+due_accepted check image some accepted = ap (due_elected check image) (elected_primary image some accepted)
 
 -- a plan of some writes is a repair
 pub due_some : (plan : Plan) → (length plan == 0) ≡ false → due_plan plan ≡ Repaired (Backups (length plan))
@@ -65,6 +64,14 @@ no_steps primary image (suc n) g agree =
       no_steps primary image n (g + 1) (λ k low high. agree k (omega arith) (omega arith)),
     ) refl
 
+-- where all backups agree, none is found that does not
+pub no_disagreeing : (primary : List ℕ) (image : Image) (n g : ℕ)
+    → ((k : ℕ) → g ≤ k → k < g + n → is_agreeing (stated_volume primary) (super_of (block_of image (start_of primary k))) ≡ true)
+    → first_disagreeing primary image g n ≡ None
+no_disagreeing primary image zero g agree = refl
+no_disagreeing primary image (suc n) g agree =
+    rw (agree g (omega arith) (omega arith)) (no_disagreeing primary image n (g + 1) (λ k low high. agree k (omega arith) (omega arith)))
+
 -- the block of each backup once the plan is written
 pub backup_written : (image : Image) → IsAccepted image → (k : ℕ) → 1 ≤ k → k < (stated_volume (super_of (block_of image 0))).agcount
     → block_of (written (backup_plan image) image) (start_of (super_of (block_of image 0)) k)
@@ -92,21 +99,34 @@ is_mended image known =
       mended = λ k low high other. backup_written image known k low high ∙ mended_other primary (block_of image (start_of primary k)) other;
     }
 
-pub is_clean : (image : Image) → IsAccepted image → due_repair (written (backup_plan image) image) ≡ Clean
-is_clean image known =
+-- all backups of the written image agree
+backups_agree : (image : Image) → IsAccepted image → (k : ℕ) → 1 ≤ k → k < (stated_volume (super_of (block_of image 0))).agcount
+    → is_agreeing (stated_volume (super_of (block_of image 0))) (super_of (block_of (written (backup_plan image) image) (start_of (super_of (block_of image 0)) k))) ≡ true
+backups_agree image known k low high =
+    let primary : List ℕ = super_of (block_of image 0) in
+    rw (backup_written image known k low high)
+    (mended_agrees primary (block_of image (start_of primary k)) known.sector (agrees_with_itself primary (length image) known.accepted))
+
+-- the answer to an image in which all backups agree
+clean_by : (check : Bool) (image : Image) (primary : List ℕ) → super_of (block_of image 0) ≡ primary
+    → steps_from primary image 1 ((stated_volume primary).agcount - 1) ≡ [] → first_disagreeing primary image 1 ((stated_volume primary).agcount - 1) ≡ None
+    → due_backups check image ≡ Clean
+clean_by true image primary same steps none =
+    subst (λ (p : List ℕ). due_check (first_disagreeing p image 1 ((stated_volume p).agcount - 1)) ≡ Clean) (sym same) (ap due_check none)
+clean_by false image primary same steps none =
+    subst (λ (p : List ℕ). due_plan (steps_from p image 1 ((stated_volume p).agcount - 1)) ≡ Clean) (sym same) (ap due_plan steps)
+
+pub is_clean : (image : Image) → IsAccepted image → (check : Bool) → due_repair check (written (backup_plan image) image) ≡ Clean
+is_clean image known check =
     let primary : List ℕ = super_of (block_of image 0) in
     let now : Image = written (backup_plan image) image in
     let same : block_of now 0 ≡ block_of image 0 = primary_written image known in
     let count : length now ≡ length image = length-written (backup_plan image) image in
     let accepted : super_fault (super_of (block_of now 0)) 0 (length now) ≡ None = rw (same, count) known.accepted in
-    let nothing : steps_from primary now 1 ((stated_volume primary).agcount - 1) ≡ [] =
-    no_steps primary now ((stated_volume primary).agcount - 1) 1
-    (λ k low high.
-    rw (backup_written image known k low (omega arith))
-    (mended_agrees primary (block_of image (start_of primary k)) known.sector (agrees_with_itself primary (length image) known.accepted))) in
-    let plan : backup_plan now ≡ [] =
-    subst (λ (block : List ℕ). steps_from (super_of block) now 1 ((stated_volume (super_of block)).agcount - 1) ≡ []) (sym same) nothing in
-    due_accepted now (subst (λ (n : ℕ). 0 < n) (sym count) known.some) accepted ∙ ap due_plan plan
+    due_accepted check now (subst (λ (n : ℕ). 0 < n) (sym count) known.some) accepted
+    ∙ clean_by check now primary (ap super_of same)
+    (no_steps primary now ((stated_volume primary).agcount - 1) 1 (λ k low high. backups_agree image known k low (omega arith)))
+    (no_disagreeing primary now ((stated_volume primary).agcount - 1) 1 (λ k low high. backups_agree image known k low (omega arith)))
 
 pub is_repaired : (image : Image) (now : Option Image) → IsAccepted image → now ≡ Some (written (backup_plan image) image) → IsRepaired image now
 is_repaired image now known planned =

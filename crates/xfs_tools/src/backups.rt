@@ -58,7 +58,11 @@ pub fn plan_backups<D: Disk>(
 }
 
 /// The first allocation group whose backup does not agree with the primary superblock.
-pub fn find_disagreeing<D: Disk>(disk: &mut D, geometry: &Geometry, primary: &[u8]) -> Result<Option<u32>, Failed>
+pub fn find_disagreeing<D: Disk>(
+    disk: &mut D,
+    geometry: &Geometry,
+    primary: &[u8],
+) -> Result<Option<u32>, Failed>
     requires sector { length primary.now ≡ 512 }
     requires stated { volume_of geometry.now ≡ stated_volume primary.now }
     requires inside { geometry.now.dblocks ≤ D.size disk.old }
@@ -70,10 +74,12 @@ pub fn find_disagreeing<D: Disk>(disk: &mut D, geometry: &Geometry, primary: &[u
     ensures write_faults { D.write_faults disk.new ≡ D.write_faults disk.old }
 {
     for group in 1..geometry.agcount {
-        match is_agreeing(disk, geometry, primary, group) {
-            Ok(true) => {}
-            Ok(false) => return Ok(Some(group)),
+        let agreeing = match is_agreeing(disk, geometry, primary, group) {
+            Ok(agreeing) => agreeing,
             Err(Failed) => return Err(Failed),
+        };
+        if !agreeing {
+            return Ok(Some(group));
         }
     }
     Ok(None)
@@ -81,7 +87,12 @@ pub fn find_disagreeing<D: Disk>(disk: &mut D, geometry: &Geometry, primary: &[u
 
 /// Whether the backup of a group agrees with the primary superblock.
 #[tactic(auto, unfolding(crate::specs::Backups::start_of))]
-fn is_agreeing<D: Disk>(disk: &mut D, geometry: &Geometry, primary: &[u8], group: u32) -> Result<bool, Failed>
+fn is_agreeing<D: Disk>(
+    disk: &mut D,
+    geometry: &Geometry,
+    primary: &[u8],
+    group: u32,
+) -> Result<bool, Failed>
     requires sector { length primary.now ≡ 512 }
     requires stated { volume_of geometry.now ≡ stated_volume primary.now }
     requires inside { geometry.now.dblocks ≤ D.size disk.old }

@@ -30,7 +30,9 @@ pub fn repair<D: Disk>(alloc: Global, disk: &mut D, options: &RepairOptions) -> 
         Ok(elected) => elected,
         Err(ElectFault::NoGeometry) => return Answer::NoGeometry,
         Err(ElectFault::Unsupported { word, bits }) => return Answer::Unsupported { word, bits },
-        Err(ElectFault::ReadFault) => return Answer::ReadFault { faults: disk.faults() },
+        Err(ElectFault::ReadFault) => return Answer::ReadFault {
+            faults: disk.faults(),
+        },
         Err(ElectFault::NoMemory) => return Answer::NoMemory,
     };
     if elected.from != 0 {
@@ -70,13 +72,23 @@ fn check_backups<D: Disk>(disk: &mut D, geometry: &Geometry, primary: &[u8]) -> 
 {
     match find_disagreeing(disk, geometry, primary) {
         Ok(None) => Answer::Clean,
-        Ok(Some(group)) => Answer::Damaged(Finding::Part { part: 10, place: group as u64 }),
-        Err(Failed) => Answer::ReadFault { faults: disk.faults() },
+        Ok(Some(group)) => Answer::Damaged(Finding::Part {
+            part: 10,
+            place: group as u64,
+        }),
+        Err(Failed) => Answer::ReadFault {
+            faults: disk.faults(),
+        },
     }
 }
 
 /// Writes anew the backups that don't agree with the primary superblock.
-fn repair_backups<D: Disk>(alloc: Global, disk: &mut D, geometry: &Geometry, primary: &[u8]) -> Answer
+fn repair_backups<D: Disk>(
+    alloc: Global,
+    disk: &mut D,
+    geometry: &Geometry,
+    primary: &[u8],
+) -> Answer
     requires sector { length primary.now ≡ 512 }
     requires stated { volume_of geometry.now ≡ stated_volume primary.now }
     requires inside { geometry.now.dblocks ≤ D.size disk.old }
@@ -92,14 +104,18 @@ fn repair_backups<D: Disk>(alloc: Global, disk: &mut D, geometry: &Geometry, pri
 {
     let plan = match plan_backups(alloc, disk, geometry, primary) {
         Ok(plan) => plan,
-        Err(PlanFault::ReadFault) => return Answer::ReadFault { faults: disk.faults() },
+        Err(PlanFault::ReadFault) => return Answer::ReadFault {
+            faults: disk.faults(),
+        },
         Err(PlanFault::NoMemory) => return Answer::NoMemory,
     };
     if plan.is_empty() {
         return Answer::Clean;
     }
     match write_plan(disk, &plan) {
-        Ok(()) => Answer::Repaired(Summary::Backups { count: plan.len() as u64 }),
+        Ok(()) => Answer::Repaired(Summary::Backups {
+            count: plan.len() as u64,
+        }),
         Err(written) => Answer::WriteFault { written },
     }
 }
