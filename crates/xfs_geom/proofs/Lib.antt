@@ -1,3 +1,4 @@
+pub mod Addresses
 pub mod Bounds
 pub mod LogPlace
 pub mod OwnVolume

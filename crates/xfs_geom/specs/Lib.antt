@@ -7,4 +7,5 @@ pub mod Stated
 pub mod Fixed
 pub mod Parts
 pub mod Volumes
+pub mod Conversions
 pub mod Superblocks

@@ -2,13 +2,16 @@
 #![tactic(auto)]
 
 mod backups;
+mod conversions;
 mod features;
 mod fixed;
 mod geometry;
 mod reading;
+mod records;
 mod stated;
 pub mod superblock;
 
 pub use backups::agrees;
 pub use geometry::Geometry;
 pub use reading::{SuperFault, read_super};
+pub use records::{Counts, InoRec, RmapRec, Run, Span};
