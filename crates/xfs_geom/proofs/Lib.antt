@@ -2,3 +2,4 @@ pub mod Addresses
 pub mod Bounds
 pub mod LogPlace
 pub mod OwnVolume
+pub mod Written

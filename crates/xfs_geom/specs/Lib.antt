@@ -9,3 +9,4 @@ pub mod Parts
 pub mod Volumes
 pub mod Conversions
 pub mod Superblocks
+pub mod Writing

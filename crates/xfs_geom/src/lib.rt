@@ -10,8 +10,10 @@ mod reading;
 mod records;
 mod stated;
 pub mod superblock;
+mod writing;
 
 pub use backups::agrees;
 pub use geometry::Geometry;
 pub use reading::{SuperFault, read_super};
 pub use records::{Counts, InoRec, RmapRec, Run, Span};
+pub use writing::write_super;
