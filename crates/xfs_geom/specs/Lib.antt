@@ -10,3 +10,6 @@ pub mod Volumes
 pub mod Conversions
 pub mod Superblocks
 pub mod Writing
+pub mod Election
+pub mod Electing
+pub mod Polls
