@@ -5,4 +5,5 @@ pub mod OwnVolume
 pub mod Polled
 pub mod Votes
 pub mod Leaders
+pub mod Counting
 pub mod Written
