@@ -1,11 +1,11 @@
 -- A poll as one block after the other is asked.
-use Rattle.std.proofs.Common.{◌≡◌, ℕ, ◌+◌, ◌-◌, ◌^◌, ◌<◌, ◌≤◌, ◌⊎◌, inl, inr, Bool, true, false, zero, suc, List, [], ◌∷◌, ◌++◌, length, Option, Some, None, IfSome, is_none, cond, refl, sym, ap, ◌∙◌, subst, arith}
+use Rattle.std.proofs.Common.{◌≡◌, ℕ, ◌+◌, ◌-◌, ◌^◌, ◌<◌, ◌≤◌, ◌⊎◌, inl, inr, Bool, true, false, zero, suc, List, [], ◌∷◌, ◌++◌, length, Option, Some, None, IfSome, is_none, cond, unwrap_or, slice_get, refl, sym, ap, ◌∙◌, subst, arith}
 use Rattle.std.specs.List.{flat_map, range_with_len}
 use Rattle.std.proofs.lemmas.List.{append-nil, length-append}
 use Rattle.std.proofs.lemmas.List.Concat.{flat_map-append}
 use Rattle.std.proofs.lemmas.List.Sums.{count_by-le-length}
 use Rattle.xfs_disk.specs.Blocks.{Image}
-use Rattle.xfs_geom.specs.Election.{Vote, choice, same_volume, vote_in, vote_at, votes_below, votes_for}
+use Rattle.xfs_geom.specs.Election.{Vote, choice, same_volume, vote_in, vote_at, votes_below, votes_for, block_of, super_of}
 use Rattle.xfs_geom.specs.Electing.{vote_of}
 use Rattle.xfs_geom.specs.Polls.{IsAmong, Ascends, IsTally, Tallies, Leads, HasLeader, IsPoll, tally_at, with_vote, leading}
 use Rattle.xfs_geom.specs.Superblocks.{super_fault}
@@ -68,21 +68,21 @@ poll_grows blocks end votes old new last here states accepted tallies leader is 
     record {
       few = let few = is.few in let more = length-append votes (vote_of last ∷ []) in omega arith;
       below = λ vote among.
-      elim (among_push votes (vote_of last) vote among) [
-        inl rest ↦ let before = is.below vote rest in omega arith
-        | inr e ↦ let place : vote.place ≡ last.from = ap (λ (w : Vote). w.place) e in omega arith
-      ];
+          elim (among_push votes (vote_of last) vote among) [
+            | inl rest ↦ let before = is.below vote rest in omega arith
+            | inr e ↦ let place : vote.place ≡ last.from = ap (λ (w : Vote). w.place) e in omega arith
+          ];
       ascend = ascends_push votes (vote_of last) is.ascend behind;
       accepted = λ vote among.
-      elim (among_push votes (vote_of last) vote among) [
-        inl rest ↦ is.accepted vote rest
-        | inr e ↦ ap (λ (w : Vote). super_fault w.sector w.place blocks) e ∙ accepted
-      ];
+          elim (among_push votes (vote_of last) vote among) [
+            | inl rest ↦ is.accepted vote rest
+            | inr e ↦ ap (λ (w : Vote). super_fault w.sector w.place blocks) e ∙ accepted
+          ];
       tallies = λ g. subst (λ (t : Option Tally). Tallies (votes ++ vote_of last ∷ []) (volume_of g) t) (sym (tallies g))
-      (by_case g grown (same_volume (volume_of last.geometry) (volume_of g)) refl);
+          (by_case g grown (same_volume (volume_of last.geometry) (volume_of g)) refl);
       leader = subst (λ (t : Option Tally). HasLeader (votes ++ vote_of last ∷ []) t) (sym leader)
-      (leader_grows votes (vote_of last) old.leader (with_vote (tally_at old last.geometry) last) is.leader
-        (subst (λ (v : Volume). IsTally (votes ++ vote_of last ∷ []) v (with_vote (tally_at old last.geometry) last)) states grown));
+          (leader_grows votes (vote_of last) old.leader (with_vote (tally_at old last.geometry) last) is.leader
+          (subst (λ (v : Volume). IsTally (votes ++ vote_of last ∷ []) v (with_vote (tally_at old last.geometry) last)) states grown));
     }
   where
     behind : (vote : Vote) → IsAmong vote votes → vote.place < last.from
@@ -109,9 +109,9 @@ poll_asked blocks place sector votes old new last here bytes states accepted tal
     vote_in_some sector place blocks accepted ∙ (λ i. record { place = sym here i; sector = sym bytes i } ∷ []) in
     subst (λ (more : List Vote). IsPoll blocks (place + 1) (votes ++ more) new) (sym vote)
     (poll_grows blocks place votes old new last here
-      (states ∙ ap stated_volume (sym bytes))
-      ((λ i. super_fault (bytes i) (here i) blocks) ∙ accepted)
-      tallies leader is)
+    (states ∙ ap stated_volume (sym bytes))
+    ((λ i. super_fault (bytes i) (here i) blocks) ∙ accepted)
+    tallies leader is)
 
 pub poll_passed : (blocks place : ℕ) (sector : List ℕ) (fault : SuperFault) (votes : List Vote) (poll : Poll)
     → super_fault sector place blocks ≡ Some fault → IsPoll blocks place votes poll
@@ -136,6 +136,16 @@ votes_below_next image place some =
     let last : 1 + (place - 1) ≡ place = omega arith in
     ap (λ (n : ℕ). flat_map (vote_at image) (range_with_len 1 n)) next
     ∙ (ap (flat_map (vote_at image)) (range_push (place - 1) 1)
-      ∙ (flat_map-append (vote_at image) (range_with_len 1 (place - 1)) ((1 + (place - 1)) ∷ [])
-        ∙ ap (λ (votes : List Vote). flat_map (vote_at image) (range_with_len 1 (place - 1)) ++ votes)
-        (append-nil (vote_at image (1 + (place - 1))) ∙ ap (vote_at image) last)))
+    ∙ (flat_map-append (vote_at image) (range_with_len 1 (place - 1)) ((1 + (place - 1)) ∷ [])
+    ∙ ap (λ (votes : List Vote). flat_map (vote_at image) (range_with_len 1 (place - 1)) ++ votes)
+    (append-nil (vote_at image (1 + (place - 1))) ∙ ap (vote_at image) last)))
+
+-- the votes that are told once a block is asked
+pub told_next : (image : Image) (place size : ℕ) (block sector : List ℕ) (votes : List Vote) → 1 ≤ place → length image ≡ size
+    → slice_get image place ≡ Some block → sector ≡ super_of block → votes ≡ votes_below image place
+    → votes ++ vote_in sector place size ≡ votes_below image (place + 1)
+told_next image place size block sector votes some count read first told =
+    let bytes : block_of image place ≡ block = ap (λ (o : Option (List ℕ)). unwrap_or o []) read in
+    let same : sector ≡ super_of (block_of image place) = first ∙ ap super_of (sym bytes) in
+    let vote : vote_in sector place size ≡ vote_at image place = λ i. vote_in (same i) place (sym count i) in
+    (λ i. told i ++ vote i) ∙ sym (votes_below_next image place some)

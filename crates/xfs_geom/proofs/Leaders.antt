@@ -22,13 +22,13 @@ tally_grows votes last v None states geometry behind none = record {
   states = states;
   geometry = geometry;
   lowest = λ vote among same.
-  elim (among_push votes (vote_of last) vote among) [
-    inl rest ↦
-      let some : 1 ≤ votes_for votes (choice vote) = votes_for_some votes vote rest in
-      let zero : votes_for votes (choice vote) ≡ 0 = ap (votes_for votes) same ∙ none in
-      absurd (omega arith)
-    | inr e ↦ let place : vote.place ≡ last.from = ap (λ (w : Vote). w.place) e in omega arith
-  ];
+      elim (among_push votes (vote_of last) vote among) [
+        | inl rest ↦
+            let some : 1 ≤ votes_for votes (choice vote) = votes_for_some votes vote rest in
+            let zero : votes_for votes (choice vote) ≡ 0 = ap (votes_for votes) same ∙ none in
+            absurd (omega arith)
+        | inr e ↦ let place : vote.place ≡ last.from = ap (λ (w : Vote). w.place) e in omega arith
+      ];
 }
 tally_grows votes last v (Some tally) states geometry behind was = record {
   count = let more = votes_for_same votes (vote_of last) v states in let count = was.count in omega arith;
@@ -36,13 +36,13 @@ tally_grows votes last v (Some tally) states geometry behind was = record {
   states = was.states;
   geometry = was.geometry;
   lowest = λ vote among same.
-  elim (among_push votes (vote_of last) vote among) [
-    inl rest ↦ was.lowest vote rest same
-    | inr e ↦
-      let place : vote.place ≡ last.from = ap (λ (w : Vote). w.place) e in
-      let before : tally.first.from < last.from = behind (vote_of tally.first) was.stands in
-      omega arith
-  ];
+      elim (among_push votes (vote_of last) vote among) [
+        | inl rest ↦ was.lowest vote rest same
+        | inr e ↦
+            let place : vote.place ≡ last.from = ap (λ (w : Vote). w.place) e in
+            let before : tally.first.from < last.from = behind (vote_of tally.first) was.stands in
+            omega arith
+      ];
 }
 
 -- a vote for another volume
@@ -59,10 +59,10 @@ tally_stays votes last v tally other was = record {
   states = was.states;
   geometry = was.geometry;
   lowest = λ vote among same.
-  elim (among_push votes last vote among) [
-    inl rest ↦ was.lowest vote rest same
-    | inr e ↦ absurd (not_same (choice last) v other (ap choice (sym e) ∙ same))
-  ];
+      elim (among_push votes last vote among) [
+        | inl rest ↦ was.lowest vote rest same
+        | inr e ↦ absurd (not_same (choice last) v other (ap choice (sym e) ∙ same))
+      ];
 }
 
 -- the tallies of other volumes stay
@@ -120,10 +120,10 @@ new_leads votes last leader tally leads is ahead = record {
         own_yields (votes ++ last ∷ []) (choice last) tally is vote among (sym (same_equal (choice last) (choice vote) same))
     by_case vote among false other =
         elim (among_push votes last vote among) [
-          inl rest ↦
-            subst (λ (n : ℕ). (n < tally.votes) ⊎ ((n ≡ tally.votes) × (tally.first.from ≤ vote.place)))
-            (sym (votes_for_other votes last (choice vote) other))
-            (weigh (votes_for votes (choice vote)) vote.place (leads.most vote rest) ahead)
+          | inl rest ↦
+              subst (λ (n : ℕ). (n < tally.votes) ⊎ ((n ≡ tally.votes) × (tally.first.from ≤ vote.place)))
+              (sym (votes_for_other votes last (choice vote) other))
+              (weigh (votes_for votes (choice vote)) vote.place (leads.most vote rest) ahead)
           | inr e ↦ absurd (not_same (choice last) (choice vote) other (ap choice (sym e)))
         ]
 
@@ -142,12 +142,12 @@ old_leads votes last leader tally leads is behind = record {
     apart : same_volume (choice last) (choice (vote_of leader.first)) ≡ false
     apart =
         false_from_ne_true (same_volume (choice last) (choice (vote_of leader.first))) (λ same.
-          let one = same_equal (choice last) (choice (vote_of leader.first)) same in
-          let more : votes_for (votes ++ last ∷ []) (choice last) ≡ votes_for votes (choice last) + 1 = votes_for_same votes last (choice last) refl in
-          let was : leader.votes ≡ votes_for votes (choice last) = leads.tally.count ∙ ap (votes_for votes) (sym one) in
-          let now : tally.votes ≡ votes_for (votes ++ last ∷ []) (choice last) = is.count in
-          let most = low in
-          omega arith)
+        let one = same_equal (choice last) (choice (vote_of leader.first)) same in
+        let more : votes_for (votes ++ last ∷ []) (choice last) ≡ votes_for votes (choice last) + 1 = votes_for_same votes last (choice last) refl in
+        let was : leader.votes ≡ votes_for votes (choice last) = leads.tally.count ∙ ap (votes_for votes) (sym one) in
+        let now : tally.votes ≡ votes_for (votes ++ last ∷ []) (choice last) = is.count in
+        let most = low in
+        omega arith)
 
     weigh : (n p : ℕ) → n ≡ tally.votes → tally.first.from ≤ p
         → (tally.votes < leader.votes) ⊎ ((leader.votes ≡ tally.votes) × (leader.first.from ≤ tally.first.from))
@@ -162,10 +162,10 @@ old_leads votes last leader tally leads is behind = record {
         weigh (votes_for (votes ++ last ∷ []) (choice vote)) vote.place (ap (votes_for (votes ++ last ∷ [])) one ∙ sym is.count) (is.lowest vote among one) behind
     by_case vote among false other =
         elim (among_push votes last vote among) [
-          inl rest ↦
-            subst (λ (n : ℕ). (n < leader.votes) ⊎ ((n ≡ leader.votes) × (leader.first.from ≤ vote.place)))
-            (sym (votes_for_other votes last (choice vote) other))
-            (leads.most vote rest)
+          | inl rest ↦
+              subst (λ (n : ℕ). (n < leader.votes) ⊎ ((n ≡ leader.votes) × (leader.first.from ≤ vote.place)))
+              (sym (votes_for_other votes last (choice vote) other))
+              (leads.most vote rest)
           | inr e ↦ absurd (not_same (choice last) (choice vote) other (ap choice (sym e)))
         ]
 
@@ -175,10 +175,10 @@ pub leader_grows : (votes : List Vote) (last : Vote) (leader : Option Tally) (ta
 leader_grows votes last None tally none is = record {
   tally = own_tally (votes ++ last ∷ []) (choice last) tally is;
   most = λ vote among.
-  elim (among_push votes last vote among) [
-    inl rest ↦ absurd (subst (λ (vs : List Vote). IsAmong vote vs) none rest)
-    | inr e ↦ own_yields (votes ++ last ∷ []) (choice last) tally is vote among (ap choice e)
-  ];
+      elim (among_push votes last vote among) [
+        | inl rest ↦ absurd (subst (λ (vs : List Vote). IsAmong vote vs) none rest)
+        | inr e ↦ own_yields (votes ++ last ∷ []) (choice last) tally is vote among (ap choice e)
+      ];
 }
 leader_grows votes last (Some leader) tally leads is =
     by_case (ltb leader.votes tally.votes || (eqb leader.votes tally.votes && ltb tally.first.from leader.first.from)) refl
@@ -199,16 +199,16 @@ find_lowest test (x ∷ votes) best ascends among passes lowest =
     by_case true here later =
         rw here
         (elim among [
-          inl e ↦ ap (λ (v : Vote). Some v) (sym e)
+          | inl e ↦ ap (λ (v : Vote). Some v) (sym e)
           | inr rest ↦
-            let behind : x.place < best.place = ascends.0 best rest in
-            let before : best.place ≤ x.place = lowest x (inl refl) here in
-            absurd (omega arith)
+              let behind : x.place < best.place = ascends.0 best rest in
+              let before : best.place ≤ x.place = lowest x (inl refl) here in
+              absurd (omega arith)
         ])
     by_case false other later =
         rw other
         (elim among [
-          inl e ↦ let both : test x ≡ true = ap test (sym e) ∙ passes in cc
+          | inl e ↦ let both : test x ≡ true = ap test (sym e) ∙ passes in cc
           | inr rest ↦ later rest
         ])
 
@@ -224,7 +224,7 @@ passes_each : (test : Vote → Bool) (votes : List Vote) → list_all test votes
 passes_each test [] all vote among = absurd among
 passes_each test (x ∷ votes) all vote among =
     elim among [
-      inl e ↦ ap test e ∙ left (test x) (list_all test votes) all
+      | inl e ↦ ap test e ∙ left (test x) (list_all test votes) all
       | inr rest ↦ passes_each test votes (right (test x) (list_all test votes) all) vote rest
     ]
 
@@ -233,11 +233,11 @@ unfolding winner has_most
 leader_wins votes leader ascends leads =
     find_lowest (has_most votes) votes (vote_of leader.first) ascends leads.tally.stands
     (each_passes _ votes (λ vote among.
-      le-leb (votes_for votes (choice vote)) (votes_for votes (choice (vote_of leader.first))) (bounded vote among)))
+    le-leb (votes_for votes (choice vote)) (votes_for votes (choice (vote_of leader.first))) (bounded vote among)))
     (λ vote among most.
-      let own = passes_each _ votes most (vote_of leader.first) leads.tally.stands in
-      at_least vote (leads.most vote among)
-      (leb-true (votes_for votes (choice (vote_of leader.first))) (votes_for votes (choice vote)) own))
+    let own = passes_each _ votes most (vote_of leader.first) leads.tally.stands in
+    at_least vote (leads.most vote among)
+    (leb-true (votes_for votes (choice (vote_of leader.first))) (votes_for votes (choice vote)) own))
   where
     bounded : (vote : Vote) → IsAmong vote votes → votes_for votes (choice vote) ≤ votes_for votes (choice (vote_of leader.first))
     bounded vote among =

@@ -6,4 +6,5 @@ pub mod Polled
 pub mod Votes
 pub mod Leaders
 pub mod Counting
+pub mod Decided
 pub mod Written

@@ -22,14 +22,14 @@ unfolding same_volume
 geometry_order a b =
     sym
     (simp and_assoc
-      (next a.dblocks b.dblocks _ _
-        (next a.agblocks b.agblocks _ _
-          (next a.agcount b.agcount _ _
-            (next a.agblklog b.agblklog _ _
-              (next a.log b.log _ _
-                (next a.logblocks b.logblocks _ _
-                  (next a.rootino b.rootino _ _
-                    (next a.logsectlog b.logsectlog _ _ (sym (is_eq-slice_cmp a.uuid b.uuid)))))))))))
+    (next a.dblocks b.dblocks _ _
+    (next a.agblocks b.agblocks _ _
+    (next a.agcount b.agcount _ _
+    (next a.agblklog b.agblklog _ _
+    (next a.log b.log _ _
+    (next a.logblocks b.logblocks _ _
+    (next a.rootino b.rootino _ _
+    (next a.logsectlog b.logsectlog _ _ (sym (is_eq-slice_cmp a.uuid b.uuid)))))))))))
 
 -- what the table has for a geometry
 pub found : (tallies : BTreeMap Geometry Tally) (g : Geometry)

@@ -56,10 +56,10 @@ unfolding same_volume
 same_itself a =
     both_true
     (both_true
-      (both_true
-        (both_true (both_true (both_true (both_true (both_true (same a.dblocks) (same a.agblocks)) (same a.agcount)) (same a.agblklog)) (same a.log)) (same a.logblocks))
-        (same a.rootino))
-      (same a.logsectlog))
+    (both_true
+    (both_true (both_true (both_true (both_true (both_true (same a.dblocks) (same a.agblocks)) (same a.agcount)) (same a.agblklog)) (same a.log)) (same a.logblocks))
+    (same a.rootino))
+    (same a.logsectlog))
     ((bytes_eq-Decides a.uuid a.uuid).1 refl)
 
 -- a vote among some and one more
@@ -67,7 +67,7 @@ pub among_push : (votes : List Vote) (last vote : Vote) → IsAmong vote (votes 
 among_push [] last vote among = elim among [ inl e ↦ inr e | inr none ↦ absurd none ]
 among_push (x ∷ votes) last vote among =
     elim among [
-      inl e ↦ inl (inl e)
+      | inl e ↦ inl (inl e)
       | inr rest ↦ elim (among_push votes last vote rest) [ inl h ↦ inl (inr h) | inr e ↦ inr e ]
     ]
 
@@ -85,10 +85,10 @@ pub ascends_push : (votes : List Vote) (last : Vote) → Ascends votes → ((vot
 ascends_push [] last ascends below = ((λ vote among. absurd among), tt)
 ascends_push (x ∷ votes) last ascends below = (
   (λ vote among.
-    elim (among_push votes last vote among) [
-      inl rest ↦ ascends.0 vote rest
-      | inr e ↦ let here : x.place < last.place = below x (inl refl) in let p : vote.place ≡ last.place = ap (λ (v : Vote). v.place) e in omega arith
-    ]),
+      elim (among_push votes last vote among) [
+        | inl rest ↦ ascends.0 vote rest
+        | inr e ↦ let here : x.place < last.place = below x (inl refl) in let p : vote.place ≡ last.place = ap (λ (v : Vote). v.place) e in omega arith
+      ]),
   ascends_push votes last ascends.1 (λ vote among. below vote (inr among)),
 )
 
@@ -125,9 +125,9 @@ votes_for_some [] vote among = absurd among
 votes_for_some (x ∷ votes) vote among =
     let whole = votes_for_cons votes x (choice vote) in
     elim among [
-      inl e ↦
-        let same : same_volume (choice x) (choice vote) ≡ true =
-        ap (λ (w : Vote). same_volume (choice w) (choice vote)) (sym e) ∙ same_itself (choice vote) in
-        counts _ _ _ same whole
+      | inl e ↦
+          let same : same_volume (choice x) (choice vote) ≡ true =
+          ap (λ (w : Vote). same_volume (choice w) (choice vote)) (sym e) ∙ same_itself (choice vote) in
+          counts _ _ _ same whole
       | inr rest ↦ let more : 1 ≤ votes_for votes (choice vote) = votes_for_some votes vote rest in omega arith
     ]

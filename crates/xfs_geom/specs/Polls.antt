@@ -5,7 +5,7 @@ use Rattle.std.specs.Option.{ForSome}
 use Rattle.xfs_disk.specs.Blocks.{Image}
 use Rattle.xfs_geom.specs.Superblocks.{super_fault}
 use Rattle.xfs_geom.specs.Volumes.{Volume, volume_of}
-use Rattle.xfs_geom.specs.Election.{Vote, choice, same_volume, votes_for, votes_below}
+use Rattle.xfs_geom.specs.Election.{Vote, choice, same_volume, votes_for, votes_below, winner}
 use Rattle.xfs_geom.specs.Electing.{vote_of}
 use Rattle.xfs_geom.specs.declared.geometry.Geometry.{Geometry}
 use Rattle.xfs_geom.specs.declared.election.Elected.{Elected}
@@ -75,3 +75,10 @@ pub record HasPolled (image : Option Image) (blocks end : ℕ) (poll : Poll) : T
   pub votes : List Vote
   pub counted : IsPoll blocks end votes poll
   pub told : ForSome image (λ image. votes ≡ votes_below image end)
+
+-- the superblock is elected of the votes, and states a volume of the image
+pub record IsDecided (blocks : ℕ) (votes : List Vote) (e : Elected) : Type 0 where
+  pub winner : winner votes ≡ Some (vote_of e)
+  pub accepted : super_fault e.sector e.from blocks ≡ None
+  pub states : volume_of e.geometry ≡ choice (vote_of e)
+  pub inside : e.geometry.dblocks ≤ blocks

@@ -1,6 +1,6 @@
 //! Which superblock of an image says what its volume is.
 
-ghost use Rattle.std.specs.Prelude.{◌≡◌, ℕ, ◌+◌, ◌<◌, ◌≤◌, List, length, None, IfOk, OnOk};
+ghost use Rattle.std.specs.Prelude.{◌≡◌, ℕ, ◌+◌, ◌<◌, ◌≤◌, ◌⊎◌, List, length, None, IfOk, IfErr, OnOk};
 ghost use Rattle.std.specs.Option.{ForSome, ok_or};
 ghost use Rattle.xfs_geom.specs.Superblocks.{super_fault};
 ghost use Rattle.xfs_geom.specs.Volumes.{volume_of, stated_volume};
@@ -93,7 +93,7 @@ fn elect_backup<D: Disk>(alloc: Global, disk: &mut D, size: u64) -> Result<Elect
 {
     let mut poll = Poll::new(alloc);
     for place in 1..size {
-        match ask(disk, &mut poll, place, size) {
+        match ask_block(disk, &mut poll, place, size) {
             Ok(()) => {}
             Err(fault) => return Err(fault),
         }
@@ -105,11 +105,18 @@ fn elect_backup<D: Disk>(alloc: Global, disk: &mut D, size: u64) -> Result<Elect
 }
 
 /// Reads a block of the disk, which has so many, and counts its vote, where it has one.
-fn ask<D: Disk>(disk: &mut D, poll: &mut Poll, place: u64, size: u64) -> Result<(), ElectFault>
+fn ask_block<D: Disk>(
+    disk: &mut D,
+    poll: &mut Poll,
+    place: u64,
+    size: u64,
+) -> Result<(), ElectFault>
+    requires above { 0 < place }
     requires inside { place < size }
     requires size { size ≡ D.size disk.old }
     requires polled { HasPolled (D.holds disk.old) size place poll.old }
     ensures polled { OnOk result (HasPolled (D.holds disk.old) size (place + 1) poll.new) }
+    ensures fault { IfErr result (λ fault. (fault ≡ ElectFault.ReadFault) ⊎ (fault ≡ ElectFault.NoMemory)) }
     ensures cause { HasElectCause (D.faults disk.old) (D.faults disk.new) result }
     ensures size { D.size disk.new ≡ D.size disk.old }
     ensures holds { D.holds disk.new ≡ D.holds disk.old }

@@ -1,11 +1,10 @@
 //! The votes of backup superblocks for the volumes that they state.
 
-ghost use Rattle.std.specs.Prelude.{◌≡◌, ℕ, ◌+◌, ◌^◌, ◌<◌, ◌∷◌, ◌++◌, [], List, length, Some, None, OnOk, IfSome, if◌then◌else◌, is_none};
-ghost use Rattle.std.specs.Option.{option_map};
-ghost use Rattle.xfs_geom.specs.Polls.{tally_at, with_vote, leading, IsPoll};
+ghost use Rattle.std.specs.Prelude.{◌≡◌, ℕ, ◌+◌, ◌^◌, ◌<◌, ◌∷◌, ◌++◌, [], List, length, Some, None, OnOk, IfSome, MatchOption, if◌then◌else◌, is_none};
+ghost use Rattle.xfs_geom.specs.Polls.{tally_at, with_vote, leading, IsDecided, IsPoll};
 ghost use Rattle.xfs_geom.specs.Volumes.{volume_of, stated_volume};
 ghost use Rattle.xfs_geom.specs.declared.geometry.Geometry.{Geometry};
-ghost use Rattle.xfs_geom.specs.Election.{Vote, same_volume, vote_in};
+ghost use Rattle.xfs_geom.specs.Election.{Vote, same_volume, vote_in, winner};
 
 use crate::election::Elected;
 use crate::geometry::Geometry;
@@ -45,7 +44,8 @@ impl Poll {
 
     /// The first superblock of those for the volume with the most votes.
     pub fn leader(&self) -> Option<Elected>
-        ensures { result ≡ option_map (λ (tally : Tally). tally.first) self.now.leader }
+        ensures { (blocks end : ℕ) (votes : List Vote) → IsPoll blocks end votes self.now
+            → MatchOption result (winner votes ≡ None) (IsDecided blocks votes) }
     {
         self.leader.map(|tally| tally.first)
     }

@@ -16,8 +16,8 @@ pub returns-in-Ok : goal.returns-in-Ok
 returns-in-Ok c =
     both_ok c.count.result
     (λ tallies leader votes is.
-      poll_asked c.args.blocks c.args.place c.args.sector.now votes c.args.self.now c.count.new.self c.new.result c.new.ensures.from c.new.ensures.sector
-      (ap volume_of c.new.ensures.geometry ∙ c.in-Ok.ensures.stated) c.in-Ok.ensures.accepted tallies leader is)
+    poll_asked c.args.blocks c.args.place c.args.sector.now votes c.args.self.now c.count.new.self c.new.result c.new.ensures.from c.new.ensures.sector
+    (ap volume_of c.new.ensures.geometry ∙ c.in-Ok.ensures.stated) c.in-Ok.ensures.accepted tallies leader is)
     c.count.ensures.tally c.count.ensures.leader
 
 pub returns-in-Err : goal.returns-in-Err

@@ -15,10 +15,10 @@ returns c =
     subst (λ (entries : List (Geometry × Tally)). Tallies [] (volume_of g) (lookup (λ (other : Geometry). same_volume (volume_of g) (volume_of other)) entries))
     (sym c.new.ensures.empty) refl in
     λ blocks. record {
-  few = omega arith;
-  below = λ vote among. absurd among;
-  ascend = tt;
-  accepted = λ vote among. absurd among;
-  tallies = λ g. none g;
-  leader = refl;
-}
+      few = omega arith;
+      below = λ vote among. absurd among;
+      ascend = tt;
+      accepted = λ vote among. absurd among;
+      tallies = λ g. none g;
+      leader = refl;
+    }
