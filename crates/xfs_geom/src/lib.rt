@@ -12,6 +12,8 @@ mod reading;
 mod records;
 mod stated;
 pub mod superblock;
+#[cfg(test)]
+mod tests;
 mod writing;
 
 pub use backups::agrees;

@@ -1,7 +1,7 @@
 use Rattle.std.proofs.Common.{◌++◌, ◌∙◌, sym}
 use Rattle.xfs_geom.specs.Election.{vote_in}
 use Rattle.xfs_geom.proofs.Counting.{told_next}
-use Rattle.xfs_geom.proofs.election.ask.Goals as goal
+use Rattle.xfs_geom.proofs.election.ask_block.Goals as goal
 
 pub returns-in-Ok-ask-clause-polled : goal.returns-in-Ok-ask-clause-polled
 returns-in-Ok-ask-clause-polled g c =
