@@ -7,4 +7,9 @@ pub mod Stated
 pub mod Fixed
 pub mod Parts
 pub mod Volumes
+pub mod Conversions
 pub mod Superblocks
+pub mod Writing
+pub mod Election
+pub mod Electing
+pub mod Polls

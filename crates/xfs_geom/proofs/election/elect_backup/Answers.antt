@@ -1,0 +1,52 @@
+use Rattle.std.proofs.Common.{◌≡◌, ℕ, ◌≤◌, ◌∙◌, [], Some, None, refl, sym, arith}
+use Rattle.xfs_geom.specs.Election.{votes_below}
+use Rattle.xfs_geom.specs.Electing.{vote_of}
+use Rattle.xfs_geom.proofs.Decided.{due_is, stopped}
+use Rattle.xfs_geom.proofs.election.elect_backup.Goals as goal
+
+pub loop-place-init : goal.loop-place-init
+unfolding votes_below
+loop-place-init g c =
+    record {
+      polled = record { votes = []; counted = c.new-poll.ensures c.args.size; told = λ image told. refl };
+      size = refl;
+      holds = refl;
+      later = omega arith;
+      write_faults = refl;
+      tells = λ tells. tells;
+      stops = λ tells b v leaves. leaves;
+    }
+
+pub returns-in-Err-clause-due : goal.returns-in-Err-clause-due
+returns-in-Err-clause-due g c = λ image told. stopped _ c.in-Err.fault c.in-Err.ensures.fault
+
+pub returns-in-Some-clause-due : goal.returns-in-Some-clause-due
+returns-in-Some-clause-due g c = λ image told.
+    let polled = c.loop-place.invariant.polled in
+    let last : c.loop-place.place ≡ c.args.size = omega arith in
+    due_is image c.args.size c.loop-place.place polled.votes (Some (vote_of c.in-Some.elected)) last
+    (polled.told image (c.loop-place.invariant.holds ∙ told))
+    (c.in-Some.ensures c.args.size c.loop-place.place polled.votes polled.counted).winner
+
+pub returns-in-Some-clause-accepted : goal.returns-in-Some-clause-accepted
+returns-in-Some-clause-accepted g c =
+    let polled = c.loop-place.invariant.polled in
+    (c.in-Some.ensures c.args.size c.loop-place.place polled.votes polled.counted).accepted
+
+pub returns-in-Some-clause-states : goal.returns-in-Some-clause-states
+returns-in-Some-clause-states g c =
+    let polled = c.loop-place.invariant.polled in
+    (c.in-Some.ensures c.args.size c.loop-place.place polled.votes polled.counted).states
+
+pub returns-in-Some-clause-inside : goal.returns-in-Some-clause-inside
+returns-in-Some-clause-inside g c =
+    let polled = c.loop-place.invariant.polled in
+    (c.in-Some.ensures c.args.size c.loop-place.place polled.votes polled.counted).inside
+
+pub returns-clause-due : goal.returns-clause-due
+returns-clause-due g c = λ image told.
+    let polled = c.loop-place.invariant.polled in
+    let last : c.loop-place.place ≡ c.args.size = omega arith in
+    due_is image c.args.size c.loop-place.place polled.votes None last
+    (polled.told image (c.loop-place.invariant.holds ∙ told))
+    (c.in-None.ensures c.args.size c.loop-place.place polled.votes polled.counted)

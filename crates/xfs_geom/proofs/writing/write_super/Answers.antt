@@ -1,0 +1,60 @@
+use Rattle.std.proofs.Common.{◌≡◌, ℕ, ◌+◌, ◌%◌, ◌^◌, ◌<◌, ◌≤◌, true, List, IsTrue, refl, sym, ◌∙◌, ap, arith, rules}
+use Rattle.std.proofs.Math.Nat.{zero-mod}
+use Rattle.xfs_word.specs.Field.{field_of, part_of}
+use Rattle.xfs_word.specs.Seal.{is_ready}
+use Rattle.xfs_geom.specs.Stated.{stated}
+use Rattle.xfs_geom.specs.Superblocks.{super_seal}
+use Rattle.xfs_geom.specs.Writing.{IsAccepted, IsSuperOf, is_kept}
+use Rattle.xfs_geom.proofs.Written.{apart, read_through, ready, low_root, some_blocks, accepted_anew}
+use Rattle.xfs_geom.proofs.writing.write_super.Goals as goal
+
+pub put_system_inodes-requires-clause-low : goal.put_system_inodes-requires-clause-low
+put_system_inodes-requires-clause-low c =
+    let low : (stated c.args.base.now).rootino % 32 ≤ 29 = low_root c.args.base.now c.requires.accepted in
+    omega arith
+
+pub seal_super-requires-clause-ready : goal.seal_super-requires-clause-ready
+seal_super-requires-clause-ready c =
+    let magic : field_of c.write-2.new.bytes 0 4 ≡ field_of c.args.base.now 0 4 = search rules in
+    let version : field_of c.write-2.new.bytes 100 2 ≡ field_of c.args.base.now 100 2 = search rules in
+    ready c.args.base.now c.write-2.new.bytes c.requires.accepted magic version c.write-2.ensures.put
+
+pub returns-clause-written : goal.returns-clause-written
+returns-clause-written c =
+    let base = c.args.base.now in
+    let b0 = c.copy_from_slice.new.self in
+    let b1 = c.put_system_inodes.new.sector in
+    let b2 = c.write.new.bytes in
+    let b3 = c.put_counters.new.sector in
+    let b4 = c.write-2.new.bytes in
+    let number = λ (a w : ℕ) (h : is_kept a w ≡ true).
+    read_through field_of b0 b1 b2 b3 b4 a w (apart a w h) (c.put_system_inodes.ensures.keeps a w) (c.write.ensures.keeps a w)
+    (c.put_counters.ensures.keeps a w) (c.write-2.ensures.keeps a w)
+    ∙ ap (λ (b : List ℕ). field_of b a w) c.copy_from_slice.ensures.after in
+    let part = λ (a w : ℕ) (h : is_kept a w ≡ true).
+    read_through part_of b0 b1 b2 b3 b4 a w (apart a w h) (c.put_system_inodes.ensures.keeps_parts a w) (c.write.ensures.keeps_parts a w)
+    (c.put_counters.ensures.keeps_parts a w) (c.write-2.ensures.keeps_parts a w)
+    ∙ ap (λ (b : List ℕ). part_of b a w) c.copy_from_slice.ensures.after in
+    record {
+      rbmino = search rules;
+      rsumino = search rules;
+      inprogress = search rules;
+      icount = search rules;
+      ifree = search rules;
+      fdblocks = search rules;
+      frextents = search rules;
+      lsn = search rules;
+      numbers = λ a w h. c.seal_super.ensures.keeps a w (apart a w h).checksum ∙ number a w h;
+      parts = λ a w h. c.seal_super.ensures.keeps_parts a w (apart a w h).checksum ∙ part a w h;
+      sealed = c.seal_super.ensures.sealed;
+    }
+
+pub returns-clause-accepted : goal.returns-clause-accepted
+returns-clause-accepted c =
+    λ place blocks first inside enough.
+    accepted_anew c.args.base.now c.args.counts.now c.seal_super.new.sector place blocks c.requires.accepted (returns-clause-written c) first inside enough
+
+pub returns-clause-primary : goal.returns-clause-primary
+returns-clause-primary c =
+    λ blocks enough.
+    accepted_anew c.args.base.now c.args.counts.now c.seal_super.new.sector 0 blocks c.requires.accepted (returns-clause-written c) (zero-mod _) (some_blocks c.args.base.now c.requires.accepted) enough
