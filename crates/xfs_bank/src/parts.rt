@@ -1,0 +1,1 @@
+//! The parts of a bank's bytes, cut at blocks.
