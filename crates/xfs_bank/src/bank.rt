@@ -8,6 +8,7 @@ ghost use Rattle.xfs_disk.specs.Blocks.{Image, IsImage};
 ghost use Rattle.xfs_disk.specs.Faults.{HasCause};
 ghost use Rattle.xfs_bank.specs.Bank.{AreCuts, parts_of, overwritten, IsFilled};
 
+use crate::parts::change_parts;
 use std::alloc::Global;
 use std::marker::{Model, Sync};
 use std::thread::Threads;
@@ -17,18 +18,17 @@ use xfs_disk::{BLOCK_SIZE, Disk, Failed, NoMemory};
 #[derive(Debug, Drop)]
 pub struct BlockBank {
     bytes: Vec<u8>,
-    blocks: usize,
 }
 
 impl Model for BlockBank {
-    ghost use Rattle.std.specs.Prelude.{◌≡◌, ◌*◌, List, ℕ, length};
+    ghost use Rattle.std.specs.Prelude.{◌≡◌, ◌/◌, ◌%◌, List, ℕ, length};
     ghost use Rattle.xfs_disk.specs.Memory.{blocks_of};
 
     ghost Value = { List (List ℕ) };
 
-    ghost view = { λ bank. blocks_of bank.blocks bank.bytes.items };
+    ghost view = { λ bank. blocks_of (length bank.bytes.items / 4096) bank.bytes.items };
 
-    ghost invariant = { λ bank. length bank.bytes.items ≡ bank.blocks * 4096 };
+    ghost invariant = { λ bank. length bank.bytes.items % 4096 ≡ 0 };
 }
 
 impl BlockBank {
@@ -43,7 +43,7 @@ impl BlockBank {
             return Err(NoMemory);
         };
         let bytes = vec![in alloc; 0; size]?;
-        Ok(BlockBank { bytes, blocks: n })
+        Ok(BlockBank { bytes })
     }
 
     /// How many blocks the bank has.
@@ -76,6 +76,55 @@ impl BlockBank {
         let bytes = &mut self.bytes;
         let start = i * BLOCK_SIZE;
         bytes.slice_mut(start..start + BLOCK_SIZE)
+    }
+
+    /// Calls `f` once with each part of the bank and its number, from 0. Part j has the bytes of the
+    /// blocks from cut j - 1 (0 for the first) up to cut j, and the last part those of the rest. Takes
+    /// no memory.
+    pub fn each_part<R: Threads + Sync, F: Fn(usize, &mut [u8]) + Sync>(
+        &mut self,
+        _rt: &R,
+        cuts: &[usize],
+        f: &F,
+    )
+        requires cuts { AreCuts 0 (length self.old) cuts.now }
+        requires accepts { AcceptsEach F.Fn f.now (parts_of cuts.now self.old) }
+        ensures parts { ChangesEach F.Fn f.now (parts_of cuts.now self.old) (parts_of cuts.now self.new) }
+        ensures len { length self.new ≡ length self.old }
+    {
+        change_parts(f, 0, 0, cuts, &mut self.bytes);
+    }
+
+    /// Makes block `i` the disk's block `places[i]`. After `Failed` only the blocks in front of some
+    /// block were made so.
+    pub fn fill<D: Disk>(&mut self, disk: &mut D, places: &[u64]) -> Result<(), Failed>
+        requires room { length places.now ≤ length self.old }
+        requires inside { All (λ place. place < D.size disk.old) places.now }
+        ensures filled { OnOk result (IsFilled (D.holds disk.old) places.now self.old self.new) }
+        ensures prefix { OnErr result ((n : ℕ) × (n < length places.now) × IsFilled (D.holds disk.old) (take n places.now) self.old self.new) }
+        ensures len { length self.new ≡ length self.old }
+        ensures size { D.size disk.new ≡ D.size disk.old }
+        ensures holds { D.holds disk.new ≡ D.holds disk.old }
+        ensures cause { HasCause (D.faults disk.old) (D.faults disk.new) result }
+        ensures write_faults { D.write_faults disk.new ≡ D.write_faults disk.old }
+    {
+        let mut block = [0; BLOCK_SIZE];
+        for (i, place) in places.iter().enumerate() {
+            match disk.read(*place, &mut block) {
+                Ok(()) => self.put(i, &block),
+                Err(Failed) => return Err(Failed),
+            }
+        }
+        Ok(())
+    }
+
+    /// Puts a block in the place of block `i`.
+    fn put(&mut self, i: usize, block: &[u8])
+        requires inside { i < length self.old }
+        requires whole { length block.now ≡ 4096 }
+        ensures { self.new ≡ slice_set self.old i block.now }
+    {
+        self.view_mut(i).copy_from_slice(block);
     }
 }
 

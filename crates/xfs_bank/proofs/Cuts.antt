@@ -1,0 +1,103 @@
+-- Parts by cuts: of a bank and of its bytes, of cuts in a row, and one by one.
+use Rattle.std.proofs.Common.{◌≡◌, ℕ, zero, suc, ◌+◌, ◌-◌, ◌*◌, ◌<◌, ◌≤◌, List, [], ◌∷◌, ◌++◌, take, drop, length, get_or, arith, ap, refl, sym, subst, ◌∙◌}
+use Rattle.std.specs.List.{concat}
+use Rattle.std.specs.Fork.{AcceptsAt, AcceptsEach, ChangesAt, ChangesEach}
+use Rattle.std.proofs.lemmas.List.{length-drop, take-take, drop-take, drop-drop, take_all}
+use denote.Ref.{MutBor}
+use denote.Param.Members.{Shared}
+use Rattle.xfs_disk.specs.Blocks.{Image}
+use Rattle.xfs_disk.specs.Memory.{blocks_of}
+use Rattle.xfs_bank.specs.Bank.{AreCuts, parts_from}
+use Rattle.xfs_bank.specs.Parts.{flat_parts, EachFrom, EachPairFrom}
+use Rattle.xfs_bank.proofs.Blocks.{concat-blocks_of, take-blocks_of, drop-blocks_of}
+
+-- cuts go up
+pub AreCuts-rises : (low high : ℕ) (cuts : List ℕ) → AreCuts low high cuts → low ≤ high
+AreCuts-rises low high [] are = are
+AreCuts-rises low high (cut ∷ cuts) are = omega (arith, are.0, AreCuts-rises cut high cuts are.1)
+
+-- cuts up to one of them, and those behind it
+pub AreCuts-split : (low high cut : ℕ) (before after : List ℕ) → AreCuts low high (before ++ cut ∷ after) → AreCuts low cut before × AreCuts cut high after
+AreCuts-split low high cut [] after are = are
+AreCuts-split low high cut (c ∷ cs) after are = let rest = AreCuts-split c high cut cs after are.1 in ((are.0, rest.0), rest.1)
+
+-- cuts in a row
+pub AreCuts-append : (low middle high : ℕ) (before after : List ℕ) → AreCuts low middle before → AreCuts middle high after → AreCuts low high (before ++ after)
+AreCuts-append low middle high [] [] up on = omega (arith, up, on)
+AreCuts-append low middle high [] (c ∷ cs) up on = (omega (arith, up, on.0), on.1)
+AreCuts-append low middle high (c ∷ cs) after up on = (up.0, AreCuts-append c middle high cs after up.1 on)
+
+-- the parts of a bank are the parts of its bytes
+pub parts_from-blocks_of : (low high n : ℕ) (cuts bytes : List ℕ) → low + n ≡ high → AreCuts low high cuts → length bytes ≡ n * 4096 → parts_from low cuts (blocks_of n bytes) ≡ flat_parts low cuts bytes
+parts_from-blocks_of low high n [] bytes ends are whole = ap (λ (xs : List ℕ). xs ∷ []) (concat-blocks_of n bytes ∙ take_all (n * 4096) bytes (omega arith))
+parts_from-blocks_of low high n (cut ∷ cuts) bytes ends are whole =
+    let within : cut - low ≤ n = omega (arith, are.0, AreCuts-rises cut high cuts are.1) in
+    let part : concat (take (cut - low) (blocks_of n bytes)) ≡ take ((cut - low) * 4096) bytes = ap (λ (image : Image). concat image) (take-blocks_of (cut - low) n bytes within) ∙ concat-blocks_of (cut - low) bytes in
+    let others : parts_from cut cuts (drop (cut - low) (blocks_of n bytes)) ≡ flat_parts cut cuts (drop ((cut - low) * 4096) bytes) =
+        ap (λ (image : Image). parts_from cut cuts image) (drop-blocks_of (cut - low) n bytes within)
+        ∙ parts_from-blocks_of cut high (n - (cut - low)) cuts (drop ((cut - low) * 4096) bytes) (omega (arith, are.0)) are.1 (omega (arith, length-drop ((cut - low) * 4096) bytes)) in
+    λ k. part k ∷ others k
+
+-- there is one part more than there are cuts
+pub length-flat_parts : (low : ℕ) (cuts bytes : List ℕ) → length (flat_parts low cuts bytes) ≡ length cuts + 1
+length-flat_parts low [] bytes = refl
+length-flat_parts low (cut ∷ cuts) bytes = omega (arith, length-flat_parts cut cuts (drop ((cut - low) * 4096) bytes))
+
+-- the parts up to a cut are those of the bytes in front of it, and the others those of the bytes behind it
+pub flat_parts-append : (low cut : ℕ) (before after bytes : List ℕ) → AreCuts low cut before →
+    flat_parts low (before ++ cut ∷ after) bytes ≡ flat_parts low before (take ((cut - low) * 4096) bytes) ++ flat_parts cut after (drop ((cut - low) * 4096) bytes)
+flat_parts-append low cut [] after bytes are = refl
+flat_parts-append low cut (c ∷ cs) after bytes are =
+    let up : c ≤ cut = AreCuts-rises c cut cs are.1 in
+    let size : (cut - low) * 4096 ≡ (c - low) * 4096 + (cut - c) * 4096 = omega (arith, are.0) in
+    let first : take ((c - low) * 4096) bytes ≡ take ((c - low) * 4096) (take ((cut - low) * 4096) bytes) = sym (take-take ((c - low) * 4096) ((cut - low) * 4096) bytes (omega arith)) in
+    let middle : take ((cut - c) * 4096) (drop ((c - low) * 4096) bytes) ≡ drop ((c - low) * 4096) (take ((cut - low) * 4096) bytes) =
+        sym (ap (λ (m : ℕ). drop ((c - low) * 4096) (take m bytes)) size ∙ drop-take ((c - low) * 4096) ((cut - c) * 4096) bytes) in
+    let last : drop ((cut - c) * 4096) (drop ((c - low) * 4096) bytes) ≡ drop ((cut - low) * 4096) bytes =
+        drop-drop ((cut - c) * 4096) ((c - low) * 4096) bytes ∙ ap (λ (m : ℕ). drop m bytes) (sym size) in
+    let others = flat_parts-append c cut cs after (drop ((c - low) * 4096) bytes) are.1 in
+    λ k. first k ∷ (others ∙ (λ j. flat_parts c cs (middle j) ++ flat_parts cut after (last j))) k
+
+-- what is so of all parts is so of those in front and of those behind
+pub EachFrom-split : (P : ℕ → List ℕ → Type 0) (first : ℕ) (xs ys : List (List ℕ)) → EachFrom P first (xs ++ ys) → EachFrom P first xs × EachFrom P (first + length xs) ys
+EachFrom-split P first [] ys all = (tt, let none : first ≡ first + 0 = omega arith in subst (λ (n : ℕ). EachFrom P n ys) none all)
+EachFrom-split P first (x ∷ xs) ys all =
+    let rest = EachFrom-split P (first + 1) xs ys all.1 in
+    let more : first + 1 + length xs ≡ first + suc (length xs) = omega arith in
+    ((all.0, rest.0), subst (λ (n : ℕ). EachFrom P n ys) more rest.1)
+
+-- what is so of those in front and of those behind is so of all
+pub EachPairFrom-append : (R : ℕ → List ℕ → List ℕ → Type 0) (first : ℕ) (xs us ys vs : List (List ℕ)) → EachPairFrom R first xs us → EachPairFrom R (first + length xs) ys vs → EachPairFrom R first (xs ++ ys) (us ++ vs)
+EachPairFrom-append R first [] [] ys vs front back = let none : first + 0 ≡ first = omega arith in subst (λ (n : ℕ). EachPairFrom R n ys vs) none back
+EachPairFrom-append R first [] (u ∷ us) ys vs front back = absurd front
+EachPairFrom-append R first (x ∷ xs) [] ys vs front back = absurd front
+EachPairFrom-append R first (x ∷ xs) (u ∷ us) ys vs front back =
+    let more : first + suc (length xs) ≡ first + 1 + length xs = omega arith in
+    (front.0, EachPairFrom-append R (first + 1) xs us ys vs front.1 (subst (λ (n : ℕ). EachPairFrom R n ys vs) more back))
+
+-- what is so of the part of each number is so of each part in turn
+pub each_from : (P : ℕ → List ℕ → Type 0) (first : ℕ) (parts : List (List ℕ)) → ((i : ℕ) (part : List ℕ) → i < length parts → part ≡ get_or parts i part → P (first + i) part) → EachFrom P first parts
+each_from P first [] so = tt
+each_from P first (x ∷ xs) so =
+    let none : first + 0 ≡ first = omega arith in
+    (subst (λ (n : ℕ). P n x) none (so 0 x (omega arith) refl),
+     each_from P (first + 1) xs (λ i part inside is. let more : first + suc i ≡ first + 1 + i = omega arith in subst (λ (n : ℕ). P n part) more (so (suc i) part (omega arith) is)))
+
+-- what is so of each part in turn is so of the part of each number
+pub pair_at : (R : ℕ → List ℕ → List ℕ → Type 0) (first : ℕ) (olds news : List (List ℕ)) (i j : ℕ) (d : List ℕ) → EachPairFrom R first olds news → i < length olds → first + i ≡ j → R j (get_or olds i d) (get_or news i d)
+pair_at R first [] [] i j d all inside at = absurd (omega arith)
+pair_at R first [] (y ∷ ys) i j d all inside at = absurd all
+pair_at R first (x ∷ xs) [] i j d all inside at = absurd all
+pair_at R first (x ∷ xs) (y ∷ ys) zero j d all inside at = let same : first ≡ j = omega arith in subst (λ (n : ℕ). R n x y) same all.0
+pair_at R first (x ∷ xs) (y ∷ ys) (suc i) j d all inside at = pair_at R (first + 1) xs ys i j d all.1 (omega arith) (omega arith)
+
+module _ {F : Type 0} (g : Shared F (ℕ × (MutBor (List ℕ) × Unit {0})) ((Unit {0}) × (MutBor (List ℕ) × Unit {0}))) (f : F) where
+  -- a function that takes each part of those takes each in turn
+  pub accepts_in_turn : (parts : List (List ℕ)) → AcceptsEach g f parts → EachFrom (AcceptsAt g f) 0 parts
+  accepts_in_turn parts accepts = each_from (AcceptsAt g f) 0 parts (λ i part inside is p shows.
+      let at : 0 + i ≡ i = omega arith in
+      subst (λ (n : ℕ). g.pre f (n, (p, tt))) (sym at) (accepts i p inside (subst (λ (x : List ℕ). x ≡ get_or parts i x) (sym shows) is)))
+
+  -- parts that were each left by a call in turn were left so at each number
+  pub changes_each : (olds news : List (List ℕ)) → EachPairFrom (ChangesAt g f) 0 olds news → ChangesEach g f olds news
+  changes_each olds news all i d inside = (refl, pair_at (ChangesAt g f) 0 olds news i i d all inside (omega arith))
