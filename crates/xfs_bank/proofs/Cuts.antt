@@ -1,15 +1,16 @@
 -- Parts by cuts: of a bank and of its bytes, of cuts in a row, and one by one.
-use Rattle.std.proofs.Common.{◌≡◌, ℕ, zero, suc, ◌+◌, ◌-◌, ◌*◌, ◌<◌, ◌≤◌, List, [], ◌∷◌, ◌++◌, take, drop, length, get_or, arith, ap, refl, sym, subst, ◌∙◌}
+use Rattle.std.proofs.Common.{◌≡◌, ℕ, zero, suc, ◌+◌, ◌-◌, ◌*◌, ◌/◌, ◌<◌, ◌≤◌, List, [], ◌∷◌, ◌++◌, take, drop, length, get_or, arith, ap, refl, sym, subst, ◌∙◌}
 use Rattle.std.specs.List.{concat}
 use Rattle.std.specs.Fork.{AcceptsAt, AcceptsEach, ChangesAt, ChangesEach}
-use Rattle.std.proofs.lemmas.List.{length-drop, take-take, drop-take, drop-drop, take_all}
+use Rattle.std.proofs.lemmas.List.{length-drop, take-take, drop-take, drop-drop, take_all, take_at, drop_at, take-append-drop, append-nil, nil_from_length}
+use Rattle.std.proofs.lemmas.List.Folds.{concat-append}
 use denote.Ref.{MutBor}
 use denote.Param.Members.{Shared}
 use Rattle.xfs_disk.specs.Blocks.{Image}
 use Rattle.xfs_disk.specs.Memory.{blocks_of}
 use Rattle.xfs_bank.specs.Bank.{AreCuts, parts_from}
 use Rattle.xfs_bank.specs.Parts.{flat_parts, EachFrom, EachPairFrom}
-use Rattle.xfs_bank.proofs.Blocks.{concat-blocks_of, take-blocks_of, drop-blocks_of}
+use Rattle.xfs_bank.proofs.Blocks.{length-blocks_of, concat-blocks_of, take-blocks_of, drop-blocks_of}
 
 -- cuts go up
 pub AreCuts-rises : (low high : ℕ) (cuts : List ℕ) → AreCuts low high cuts → low ≤ high
@@ -37,6 +38,24 @@ parts_from-blocks_of low high n (cut ∷ cuts) bytes ends are whole =
         ap (λ (image : Image). parts_from cut cuts image) (drop-blocks_of (cut - low) n bytes within)
         ∙ parts_from-blocks_of cut high (n - (cut - low)) cuts (drop ((cut - low) * 4096) bytes) (omega (arith, are.0)) are.1 (omega (arith, length-drop ((cut - low) * 4096) bytes)) in
     λ k. part k ∷ others k
+
+-- the parts of what a bank holds are those of its bytes
+pub held_parts : (n : ℕ) (bytes : List ℕ) (bank : Image) (cuts : List ℕ) → blocks_of n bytes ≡ bank → length bytes ≡ n * 4096 → AreCuts 0 (length bank) cuts → parts_from 0 cuts bank ≡ flat_parts 0 cuts bytes
+held_parts n bytes bank cuts held whole are =
+    let count : length bank ≡ n = ap length (sym held) ∙ length-blocks_of n bytes in
+    ap (λ (image : Image). parts_from 0 cuts image) (sym held) ∙ parts_from-blocks_of 0 n n cuts bytes (omega arith) (subst (λ (m : ℕ). AreCuts 0 m cuts) count are) whole
+
+-- the parts of any bank in a row are its bytes
+pub concat-parts_from : (low : ℕ) (cuts : List ℕ) (bank : Image) → concat (parts_from low cuts bank) ≡ concat bank
+concat-parts_from low [] bank = append-nil (concat bank)
+concat-parts_from low (cut ∷ cuts) bank =
+    ap (λ (xs : List ℕ). concat (take (cut - low) bank) ++ xs) (concat-parts_from cut cuts (drop (cut - low) bank))
+    ∙ sym (concat-append (take (cut - low) bank) (drop (cut - low) bank)) ∙ ap (λ (image : Image). concat image) (take-append-drop (cut - low) bank)
+
+-- any bank has one part more than there are cuts
+pub length-parts_from : (low : ℕ) (cuts : List ℕ) (bank : Image) → length (parts_from low cuts bank) ≡ length cuts + 1
+length-parts_from low [] bank = refl
+length-parts_from low (cut ∷ cuts) bank = omega (arith, length-parts_from cut cuts (drop (cut - low) bank))
 
 -- there is one part more than there are cuts
 pub length-flat_parts : (low : ℕ) (cuts bytes : List ℕ) → length (flat_parts low cuts bytes) ≡ length cuts + 1
@@ -90,6 +109,49 @@ pair_at R first [] (y ∷ ys) i j d all inside at = absurd all
 pair_at R first (x ∷ xs) [] i j d all inside at = absurd all
 pair_at R first (x ∷ xs) (y ∷ ys) zero j d all inside at = let same : first ≡ j = omega arith in subst (λ (n : ℕ). R n x y) same all.0
 pair_at R first (x ∷ xs) (y ∷ ys) (suc i) j d all inside at = pair_at R (first + 1) xs ys i j d all.1 (omega arith) (omega arith)
+
+-- a list halved, of which the second half begins with a cut
+pub halves : (m cut : ℕ) (cuts before rest after : List ℕ) → before ≡ take m cuts → rest ≡ drop m cuts → rest ≡ cut ∷ after → cuts ≡ before ++ cut ∷ after
+halves m cut cuts before rest after front back begins = sym (take-append-drop m cuts) ∙ (λ k. sym front k ++ (sym back ∙ begins) k)
+
+-- no cuts, where the second half has none
+pub no_cuts : (cuts rest : List ℕ) → length rest + length cuts / 2 ≡ length cuts → length rest ≡ 0 → cuts ≡ []
+no_cuts cuts rest back none = nil_from_length cuts (omega arith)
+
+module _ (low high cut : ℕ) (cuts before after : List ℕ) (joined : cuts ≡ before ++ cut ∷ after) (are : AreCuts low high cuts) where
+  -- the cuts before one of them, and those after it
+  pub both_cuts : AreCuts low cut before × AreCuts cut high after
+  both_cuts = AreCuts-split low high cut before after (subst (λ (xs : List ℕ). AreCuts low high xs) joined are)
+
+  -- the parts of the bytes in front of the cut, and of those behind it
+  both_parts : (bytes : List ℕ) → flat_parts low cuts bytes ≡ flat_parts low before (take ((cut - low) * 4096) bytes) ++ flat_parts cut after (drop ((cut - low) * 4096) bytes)
+  both_parts bytes = ap (λ (xs : List ℕ). flat_parts low xs bytes) joined ∙ flat_parts-append low cut before after bytes both_cuts.0
+
+  module _ (first next : ℕ) (counts : next ≡ first + length before + 1) where
+    -- what is so of all parts is so of those in front of the cut and of those behind it
+    pub each_in_both : (P : ℕ → List ℕ → Type 0) (bytes front back : List ℕ) → front ≡ take ((cut - low) * 4096) bytes → back ≡ drop ((cut - low) * 4096) bytes →
+        EachFrom P first (flat_parts low cuts bytes) → EachFrom P first (flat_parts low before front) × EachFrom P next (flat_parts cut after back)
+    each_in_both P bytes front back is_front is_back all =
+        let both = EachFrom-split P first (flat_parts low before (take ((cut - low) * 4096) bytes)) (flat_parts cut after (drop ((cut - low) * 4096) bytes)) (subst (λ (xs : List (List ℕ)). EachFrom P first xs) (both_parts bytes) all) in
+        let number : first + length (flat_parts low before (take ((cut - low) * 4096) bytes)) ≡ next = omega (arith, length-flat_parts low before (take ((cut - low) * 4096) bytes), counts) in
+        (subst (λ (xs : List ℕ). EachFrom P first (flat_parts low before xs)) (sym is_front) both.0,
+         let moved : EachFrom P next (flat_parts cut after (drop ((cut - low) * 4096) bytes)) = subst (λ (n : ℕ). EachFrom P n (flat_parts cut after (drop ((cut - low) * 4096) bytes))) number both.1 in
+         subst (λ (xs : List ℕ). EachFrom P next (flat_parts cut after xs)) (sym is_back) moved)
+
+    -- what became of those in front and of those behind became of all
+    pub each_of_both : (R : ℕ → List ℕ → List ℕ → Type 0) (bytes front back new_front new_back : List ℕ) → front ≡ take ((cut - low) * 4096) bytes → back ≡ drop ((cut - low) * 4096) bytes → length new_front ≡ (cut - low) * 4096 →
+        EachPairFrom R first (flat_parts low before front) (flat_parts low before new_front) → EachPairFrom R next (flat_parts cut after back) (flat_parts cut after new_back) →
+        EachPairFrom R first (flat_parts low cuts bytes) (flat_parts low cuts (new_front ++ new_back))
+    each_of_both R bytes front back new_front new_back is_front is_back size in_front behind =
+        let number : next ≡ first + length (flat_parts low before front) = omega (arith, length-flat_parts low before front, counts) in
+        let all = EachPairFrom-append R first (flat_parts low before front) (flat_parts low before new_front) (flat_parts cut after back) (flat_parts cut after new_back) in_front
+            (subst (λ (n : ℕ). EachPairFrom R n (flat_parts cut after back) (flat_parts cut after new_back)) number behind) in
+        let olds : flat_parts low before front ++ flat_parts cut after back ≡ flat_parts low cuts bytes = (λ k. flat_parts low before (is_front k) ++ flat_parts cut after (is_back k)) ∙ sym (both_parts bytes) in
+        let new_is_front : new_front ≡ take ((cut - low) * 4096) (new_front ++ new_back) = sym (take_at new_front new_back ((cut - low) * 4096) size) in
+        let new_is_back : new_back ≡ drop ((cut - low) * 4096) (new_front ++ new_back) = sym (drop_at new_front new_back ((cut - low) * 4096) size) in
+        let news : flat_parts low before new_front ++ flat_parts cut after new_back ≡ flat_parts low cuts (new_front ++ new_back) =
+            (λ k. flat_parts low before (new_is_front k) ++ flat_parts cut after (new_is_back k)) ∙ sym (both_parts (new_front ++ new_back)) in
+        subst (λ (xs : List (List ℕ)). EachPairFrom R first xs (flat_parts low cuts (new_front ++ new_back))) olds (subst (λ (ys : List (List ℕ)). EachPairFrom R first (flat_parts low before front ++ flat_parts cut after back) ys) news all)
 
 module _ {F : Type 0} (g : Shared F (ℕ × (MutBor (List ℕ) × Unit {0})) ((Unit {0}) × (MutBor (List ℕ) × Unit {0}))) (f : F) where
   -- a function that takes each part of those takes each in turn

@@ -91,6 +91,8 @@ impl BlockBank {
         requires accepts { AcceptsEach F.Fn f.now (parts_of cuts.now self.old) }
         ensures parts { ChangesEach F.Fn f.now (parts_of cuts.now self.old) (parts_of cuts.now self.new) }
         ensures len { length self.new ≡ length self.old }
+        ensures count { (bank : Image) → length (parts_of cuts.now bank) ≡ length cuts.now + 1 }
+        ensures joined { (bank : Image) → concat (parts_of cuts.now bank) ≡ concat bank }
     {
         change_parts(f, 0, 0, cuts, &mut self.bytes);
     }
