@@ -6,6 +6,7 @@ ghost use Rattle.std.specs.Option.{ForSome};
 ghost use Rattle.std.specs.Fork.{AcceptsEach, ChangesEach};
 ghost use Rattle.xfs_disk.specs.Blocks.{Image, IsImage};
 ghost use Rattle.xfs_disk.specs.Faults.{HasCause};
+ghost use Rattle.xfs_disk.specs.Stops.{EachOf, Elapses};
 ghost use Rattle.xfs_bank.specs.Bank.{AreCuts, parts_of, overwritten, IsFilled};
 
 use crate::parts::change_parts;
@@ -109,6 +110,9 @@ impl BlockBank {
         ensures holds { D.holds disk.new ≡ D.holds disk.old }
         ensures cause { HasCause (D.faults disk.old) (D.faults disk.new) result }
         ensures write_faults { D.write_faults disk.new ≡ D.write_faults disk.old }
+        ensures stops { D.tells_stops disk.old → (b : ℕ) (v : List ℕ) → D.may_leave disk.new b v → D.may_leave disk.old b v }
+        ensures time { D.tells_stops disk.old → Elapses (D.moment disk.old) (D.moment disk.new) (D.left_since disk.old) (D.left_since disk.new) (EachOf (D.may_leave disk.new)) }
+        ensures tells { D.tells_stops disk.old → D.tells_stops disk.new }
     {
         let mut block = [0; BLOCK_SIZE];
         for (i, place) in places.iter().enumerate() {

@@ -1,6 +1,7 @@
--- The blocks passed are the disk's, and the others are as they were.
-use Rattle.std.proofs.Common.{◌≡◌, ◌≤◌, length, take, drop}
+-- The blocks passed are the disk's, the others are as they were, and the disk only counts its faults.
+use Rattle.std.proofs.Common.{◌≡◌, ◌≤◌, ℕ, List, length, take, drop}
 use Rattle.std.specs.Option.{ForSome}
+use Rattle.xfs_disk.specs.Stops.{EachOf, Elapses}
 use Rattle.xfs_bank.specs.Bank.{blocks_at}
 use Rattle.xfs_bank.proofs.bank.BlockBank.fill.Given as goal
 
@@ -12,5 +13,8 @@ invariant-loop-i g l = record {
   size : g.D.Disk.size l.disk ≡ g.D.Disk.size l.fn.disk;
   holds : g.D.Disk.holds l.disk ≡ g.D.Disk.holds l.fn.disk;
   faults : g.D.Disk.faults l.fn.disk ≤ g.D.Disk.faults l.disk;
-  write_faults : g.D.Disk.write_faults l.disk ≡ g.D.Disk.write_faults l.fn.disk
+  write_faults : g.D.Disk.write_faults l.disk ≡ g.D.Disk.write_faults l.fn.disk;
+  stops : g.D.Disk.tells_stops l.fn.disk → (b : ℕ) (v : List ℕ) → g.D.Disk.may_leave l.disk b v → g.D.Disk.may_leave l.fn.disk b v;
+  time : g.D.Disk.tells_stops l.fn.disk → Elapses (g.D.Disk.moment l.fn.disk) (g.D.Disk.moment l.disk) (g.D.Disk.left_since l.fn.disk) (g.D.Disk.left_since l.disk) (EachOf (g.D.Disk.may_leave l.disk));
+  tells : g.D.Disk.tells_stops l.fn.disk → g.D.Disk.tells_stops l.disk
 }
