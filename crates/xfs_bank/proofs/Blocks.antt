@@ -1,5 +1,5 @@
 -- The blocks of a list of bytes: how many, which, all in a row, some of them, and one in the place of another.
-use Rattle.std.proofs.Common.{◌≡◌, ℕ, zero, suc, ◌+◌, ◌-◌, ◌*◌, ◌<◌, ◌≤◌, List, [], ◌∷◌, ◌++◌, take, drop, length, Some, arith, ap, refl, sym, subst, ◌∙◌}
+use Rattle.std.proofs.Common.{◌≡◌, ℕ, zero, suc, ◌+◌, ◌-◌, ◌*◌, ◌<◌, ◌≤◌, List, ◌∷◌, ◌++◌, take, drop, length, Some, arith, ap, refl, sym, ◌∙◌}
 use Rattle.std.specs.Prelude.{slice_get, slice_set, replicate}
 use Rattle.std.specs.List.{concat}
 use Rattle.std.proofs.Math.Seq.{take-add}
@@ -118,7 +118,7 @@ is_overwritten n count bytes bank i over rest held whole counted inside =
     let long : count ≤ length all = simp (length-append, length-drop) (omega (arith, length-take-le (i * 4096) bytes within)) in
     let cut : length (take count all) ≡ count = length-take-le count all long in
     let front : blocks_of n all ≡ blocks_of n (take count all) =
-        ap (λ (xs : List ℕ). blocks_of n xs) (sym (take-append-drop count all)) ∙ blocks_of-append n (take count all) (drop count all) (omega arith) in
+    ap (λ (xs : List ℕ). blocks_of n xs) (sym (take-append-drop count all)) ∙ blocks_of-append n (take count all) (drop count all) (omega arith) in
     ap (λ (xs : List ℕ). blocks_of n xs) (take-append-le count all rest long) ∙ sym front ∙ overwritten-held n bytes bank i over held whole
 
 -- a block's bytes over those of a bank from a block on are that block set
@@ -126,5 +126,5 @@ pub overwritten-block : (n : ℕ) (bytes : List ℕ) (bank : Image) (i : ℕ) (b
 overwritten-block n bytes bank i block held whole inside size =
     let below : i < n = omega (arith, length-blocks_of n bytes, ap length held) in
     let same : blocks_of n (take (i * 4096) bytes ++ (block ++ drop (length block) (drop (i * 4096) bytes))) ≡ blocks_of n (take (i * 4096) bytes ++ (block ++ drop 4096 (drop (i * 4096) bytes))) =
-        ap (λ (m : ℕ). blocks_of n (take (i * 4096) bytes ++ (block ++ drop m (drop (i * 4096) bytes)))) size in
+    ap (λ (m : ℕ). blocks_of n (take (i * 4096) bytes ++ (block ++ drop m (drop (i * 4096) bytes)))) size in
     sym (overwritten-held n bytes bank i block held whole) ∙ same ∙ blocks_of-set n i bytes block below (omega arith) size ∙ ap (λ (image : Image). slice_set image i block) held

@@ -35,8 +35,8 @@ parts_from-blocks_of low high n (cut ∷ cuts) bytes ends are whole =
     let within : cut - low ≤ n = omega (arith, are.0, AreCuts-rises cut high cuts are.1) in
     let part : concat (take (cut - low) (blocks_of n bytes)) ≡ take ((cut - low) * 4096) bytes = ap (λ (image : Image). concat image) (take-blocks_of (cut - low) n bytes within) ∙ concat-blocks_of (cut - low) bytes in
     let others : parts_from cut cuts (drop (cut - low) (blocks_of n bytes)) ≡ flat_parts cut cuts (drop ((cut - low) * 4096) bytes) =
-        ap (λ (image : Image). parts_from cut cuts image) (drop-blocks_of (cut - low) n bytes within)
-        ∙ parts_from-blocks_of cut high (n - (cut - low)) cuts (drop ((cut - low) * 4096) bytes) (omega (arith, are.0)) are.1 (omega (arith, length-drop ((cut - low) * 4096) bytes)) in
+    ap (λ (image : Image). parts_from cut cuts image) (drop-blocks_of (cut - low) n bytes within)
+    ∙ parts_from-blocks_of cut high (n - (cut - low)) cuts (drop ((cut - low) * 4096) bytes) (omega (arith, are.0)) are.1 (omega (arith, length-drop ((cut - low) * 4096) bytes)) in
     λ k. part k ∷ others k
 
 -- the parts of what a bank holds are those of its bytes
@@ -71,9 +71,9 @@ flat_parts-append low cut (c ∷ cs) after bytes are =
     let size : (cut - low) * 4096 ≡ (c - low) * 4096 + (cut - c) * 4096 = omega (arith, are.0) in
     let first : take ((c - low) * 4096) bytes ≡ take ((c - low) * 4096) (take ((cut - low) * 4096) bytes) = sym (take-take ((c - low) * 4096) ((cut - low) * 4096) bytes (omega arith)) in
     let middle : take ((cut - c) * 4096) (drop ((c - low) * 4096) bytes) ≡ drop ((c - low) * 4096) (take ((cut - low) * 4096) bytes) =
-        sym (ap (λ (m : ℕ). drop ((c - low) * 4096) (take m bytes)) size ∙ drop-take ((c - low) * 4096) ((cut - c) * 4096) bytes) in
+    sym (ap (λ (m : ℕ). drop ((c - low) * 4096) (take m bytes)) size ∙ drop-take ((c - low) * 4096) ((cut - c) * 4096) bytes) in
     let last : drop ((cut - c) * 4096) (drop ((c - low) * 4096) bytes) ≡ drop ((cut - low) * 4096) bytes =
-        drop-drop ((cut - c) * 4096) ((c - low) * 4096) bytes ∙ ap (λ (m : ℕ). drop m bytes) (sym size) in
+    drop-drop ((cut - c) * 4096) ((c - low) * 4096) bytes ∙ ap (λ (m : ℕ). drop m bytes) (sym size) in
     let others = flat_parts-append c cut cs after (drop ((c - low) * 4096) bytes) are.1 in
     λ k. first k ∷ (others ∙ (λ j. flat_parts c cs (middle j) ++ flat_parts cut after (last j))) k
 
@@ -98,9 +98,10 @@ EachPairFrom-append R first (x ∷ xs) (u ∷ us) ys vs front back =
 pub each_from : (P : ℕ → List ℕ → Type 0) (first : ℕ) (parts : List (List ℕ)) → ((i : ℕ) (part : List ℕ) → i < length parts → part ≡ get_or parts i part → P (first + i) part) → EachFrom P first parts
 each_from P first [] so = tt
 each_from P first (x ∷ xs) so =
-    let none : first + 0 ≡ first = omega arith in
-    (subst (λ (n : ℕ). P n x) none (so 0 x (omega arith) refl),
-     each_from P (first + 1) xs (λ i part inside is. let more : first + suc i ≡ first + 1 + i = omega arith in subst (λ (n : ℕ). P n part) more (so (suc i) part (omega arith) is)))
+    let none : first + 0 ≡ first = omega arith in (
+      subst (λ (n : ℕ). P n x) none (so 0 x (omega arith) refl),
+      each_from P (first + 1) xs (λ i part inside is. let more : first + suc i ≡ first + 1 + i = omega arith in subst (λ (n : ℕ). P n part) more (so (suc i) part (omega arith) is)),
+    )
 
 -- what is so of each part in turn is so of the part of each number
 pub pair_at : (R : ℕ → List ℕ → List ℕ → Type 0) (first : ℕ) (olds news : List (List ℕ)) (i j : ℕ) (d : List ℕ) → EachPairFrom R first olds news → i < length olds → first + i ≡ j → R j (get_or olds i d) (get_or news i d)
@@ -133,10 +134,11 @@ module _ (low high cut : ℕ) (cuts before after : List ℕ) (joined : cuts ≡ 
         EachFrom P first (flat_parts low cuts bytes) → EachFrom P first (flat_parts low before front) × EachFrom P next (flat_parts cut after back)
     each_in_both P bytes front back is_front is_back all =
         let both = EachFrom-split P first (flat_parts low before (take ((cut - low) * 4096) bytes)) (flat_parts cut after (drop ((cut - low) * 4096) bytes)) (subst (λ (xs : List (List ℕ)). EachFrom P first xs) (both_parts bytes) all) in
-        let number : first + length (flat_parts low before (take ((cut - low) * 4096) bytes)) ≡ next = omega (arith, length-flat_parts low before (take ((cut - low) * 4096) bytes), counts) in
-        (subst (λ (xs : List ℕ). EachFrom P first (flat_parts low before xs)) (sym is_front) both.0,
-         let moved : EachFrom P next (flat_parts cut after (drop ((cut - low) * 4096) bytes)) = subst (λ (n : ℕ). EachFrom P n (flat_parts cut after (drop ((cut - low) * 4096) bytes))) number both.1 in
-         subst (λ (xs : List ℕ). EachFrom P next (flat_parts cut after xs)) (sym is_back) moved)
+        let number : first + length (flat_parts low before (take ((cut - low) * 4096) bytes)) ≡ next = omega (arith, length-flat_parts low before (take ((cut - low) * 4096) bytes), counts) in (
+          subst (λ (xs : List ℕ). EachFrom P first (flat_parts low before xs)) (sym is_front) both.0,
+          let moved : EachFrom P next (flat_parts cut after (drop ((cut - low) * 4096) bytes)) = subst (λ (n : ℕ). EachFrom P n (flat_parts cut after (drop ((cut - low) * 4096) bytes))) number both.1 in
+              subst (λ (xs : List ℕ). EachFrom P next (flat_parts cut after xs)) (sym is_back) moved,
+        )
 
     -- what became of those in front and of those behind became of all
     pub each_of_both : (R : ℕ → List ℕ → List ℕ → Type 0) (bytes front back new_front new_back : List ℕ) → front ≡ take ((cut - low) * 4096) bytes → back ≡ drop ((cut - low) * 4096) bytes → length new_front ≡ (cut - low) * 4096 →
@@ -145,12 +147,12 @@ module _ (low high cut : ℕ) (cuts before after : List ℕ) (joined : cuts ≡ 
     each_of_both R bytes front back new_front new_back is_front is_back size in_front behind =
         let number : next ≡ first + length (flat_parts low before front) = omega (arith, length-flat_parts low before front, counts) in
         let all = EachPairFrom-append R first (flat_parts low before front) (flat_parts low before new_front) (flat_parts cut after back) (flat_parts cut after new_back) in_front
-            (subst (λ (n : ℕ). EachPairFrom R n (flat_parts cut after back) (flat_parts cut after new_back)) number behind) in
+        (subst (λ (n : ℕ). EachPairFrom R n (flat_parts cut after back) (flat_parts cut after new_back)) number behind) in
         let olds : flat_parts low before front ++ flat_parts cut after back ≡ flat_parts low cuts bytes = (λ k. flat_parts low before (is_front k) ++ flat_parts cut after (is_back k)) ∙ sym (both_parts bytes) in
         let new_is_front : new_front ≡ take ((cut - low) * 4096) (new_front ++ new_back) = sym (take_at new_front new_back ((cut - low) * 4096) size) in
         let new_is_back : new_back ≡ drop ((cut - low) * 4096) (new_front ++ new_back) = sym (drop_at new_front new_back ((cut - low) * 4096) size) in
         let news : flat_parts low before new_front ++ flat_parts cut after new_back ≡ flat_parts low cuts (new_front ++ new_back) =
-            (λ k. flat_parts low before (new_is_front k) ++ flat_parts cut after (new_is_back k)) ∙ sym (both_parts (new_front ++ new_back)) in
+        (λ k. flat_parts low before (new_is_front k) ++ flat_parts cut after (new_is_back k)) ∙ sym (both_parts (new_front ++ new_back)) in
         subst (λ (xs : List (List ℕ)). EachPairFrom R first xs (flat_parts low cuts (new_front ++ new_back))) olds (subst (λ (ys : List (List ℕ)). EachPairFrom R first (flat_parts low before front ++ flat_parts cut after back) ys) news all)
 
 module _ {F : Type 0} (g : Shared F (ℕ × (MutBor (List ℕ) × Unit {0})) ((Unit {0}) × (MutBor (List ℕ) × Unit {0}))) (f : F) where

@@ -1,5 +1,5 @@
 -- A bank of blocks: its parts by cuts, and what it holds after it was filled from a disk.
-use Rattle.std.specs.Prelude.{◌≡◌, ℕ, ◌+◌, ◌-◌, ◌≤◌, ◌<◌, List, [], ◌∷◌, ◌*◌, ◌++◌, length, take, drop, map, Option, slice_index_or}
+use Rattle.std.specs.Prelude.{◌≡◌, ℕ, ◌-◌, ◌≤◌, List, [], ◌∷◌, ◌*◌, ◌++◌, length, take, drop, map, Option, slice_index_or}
 use Rattle.std.specs.List.{concat}
 use Rattle.std.specs.Option.{ForSome}
 use Rattle.xfs_disk.specs.Blocks.{Image}

@@ -3,5 +3,7 @@
 
 mod bank;
 mod parts;
+#[cfg(test)]
+mod tests;
 
 pub use bank::BlockBank;

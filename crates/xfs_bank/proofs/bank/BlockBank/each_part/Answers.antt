@@ -1,5 +1,5 @@
 -- The parts of the bank are those of its bytes.
-use Rattle.std.proofs.Common.{◌≡◌, ℕ, List, ◌+◌, ◌*◌, ◌/◌, length, rules, arith, refl, ap, sym, subst, ◌∙◌}
+use Rattle.std.proofs.Common.{◌≡◌, ℕ, List, ◌+◌, ◌/◌, length, rules, arith, refl, ap, sym, subst, ◌∙◌}
 use Rattle.std.specs.Fork.{AcceptsAt, ChangesAt}
 use Rattle.std.specs.Vec.{with_items}
 use Rattle.std.proofs.lemmas.List.{with_items_is}
@@ -21,7 +21,7 @@ pub change_parts-requires-clause-accepts : goal.change_parts-requires-clause-acc
 change_parts-requires-clause-accepts g c =
     let items = c.self.inside.bytes.items in
     let parts : parts_of c.args.cuts.now c.args.self.now ≡ flat_parts 0 c.args.cuts.now c.deref_mut.result.now =
-        held_parts (length items / 4096) items c.args.self.now c.args.cuts.now c.self.view_is (omega (arith, c.self.invariant)) c.requires.cuts ∙ ap (λ (xs : List ℕ). flat_parts 0 c.args.cuts.now xs) (sym c.deref_mut.ensures.value) in
+    held_parts (length items / 4096) items c.args.self.now c.args.cuts.now c.self.view_is (omega (arith, c.self.invariant)) c.requires.cuts ∙ ap (λ (xs : List ℕ). flat_parts 0 c.args.cuts.now xs) (sym c.deref_mut.ensures.value) in
     subst (λ (xs : List (List ℕ)). EachFrom (AcceptsAt g.F.Fn c.args.f.now) 0 xs) parts (accepts_in_turn g.F.Fn c.args.f.now (parts_of c.args.cuts.now c.args.self.now) c.requires.accepts)
 
 pub returns-clause-parts : goal.returns-clause-parts
@@ -36,12 +36,12 @@ returns-clause-parts g c =
     let new : Image = blocks_of (length now / 4096) now in
     let count : length c.args.self.now ≡ length new = omega (arith, ap length c.self.view_is, length-blocks_of (length vec.items / 4096) vec.items, length-blocks_of (length now / 4096) now) in
     let were : flat_parts 0 cuts c.deref_mut.result.now ≡ parts_of cuts c.args.self.now =
-        ap (λ (xs : List ℕ). flat_parts 0 cuts xs) c.deref_mut.ensures.value ∙ sym (held_parts (length vec.items / 4096) vec.items c.args.self.now cuts c.self.view_is (omega (arith, c.self.invariant)) c.requires.cuts) in
+    ap (λ (xs : List ℕ). flat_parts 0 cuts xs) c.deref_mut.ensures.value ∙ sym (held_parts (length vec.items / 4096) vec.items c.args.self.now cuts c.self.view_is (omega (arith, c.self.invariant)) c.requires.cuts) in
     let are : flat_parts 0 cuts left ≡ parts_of cuts new =
-        ap (λ (xs : List ℕ). flat_parts 0 cuts xs) (sym same) ∙ sym (held_parts (length now / 4096) now new cuts refl (omega (arith, c.self.invariant)) (subst (λ (n : ℕ). AreCuts 0 n cuts) count c.requires.cuts)) in
+    ap (λ (xs : List ℕ). flat_parts 0 cuts xs) (sym same) ∙ sym (held_parts (length now / 4096) now new cuts refl (omega (arith, c.self.invariant)) (subst (λ (n : ℕ). AreCuts 0 n cuts) count c.requires.cuts)) in
     let R = ChangesAt g.F.Fn c.args.f.now in
     changes_each g.F.Fn c.args.f.now (parts_of cuts c.args.self.now) (parts_of cuts new)
-        (subst (λ (xs : List (List ℕ)). EachPairFrom R 0 xs (parts_of cuts new)) were (subst (λ (ys : List (List ℕ)). EachPairFrom R 0 (flat_parts 0 cuts c.deref_mut.result.now) ys) are c.change_parts.ensures))
+    (subst (λ (xs : List (List ℕ)). EachPairFrom R 0 xs (parts_of cuts new)) were (subst (λ (ys : List (List ℕ)). EachPairFrom R 0 (flat_parts 0 cuts c.deref_mut.result.now) ys) are c.change_parts.ensures))
 
 pub returns-clause-len : goal.returns-clause-len
 returns-clause-len g c =

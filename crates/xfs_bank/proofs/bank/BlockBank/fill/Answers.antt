@@ -1,5 +1,5 @@
 -- One more block is the disk's.
-use Rattle.std.proofs.Common.{◌≡◌, ◌≤◌, ◌<◌, ℕ, List, ◌+◌, take, drop, length, Some, rules, arith, refl, ap, sym, ◌∙◌}
+use Rattle.std.proofs.Common.{rules, arith, ◌∙◌}
 use Rattle.xfs_disk.specs.Stops.{EachOf}
 use Rattle.xfs_bank.proofs.Filling.{next_first, next_rest, elapses_on}
 use Rattle.xfs_bank.proofs.bank.BlockBank.fill.Goals as goal
@@ -19,7 +19,7 @@ loop-i-preserved g c = record {
       let D = g.D.Disk in
       let before = c.loop-i.invariant in
       elapses_on _ _ _ (D.left_since c.args.disk.now) (D.left_since c.loop-i.disk) (D.left_since c.read.new.self) (EachOf (D.may_leave c.args.disk.now)) (EachOf (D.may_leave c.loop-i.disk)) (EachOf (D.may_leave c.read.new.self))
-          (λ image each b v at. before.stops tells b v (each b v at)) (λ t image early each. g.met.D.Disk.counts_now c.args.disk.now t image tells early each)
-          (before.time tells) (c.in-Ok.ensures.time (before.tells tells));
-  tells = λ tells. c.in-Ok.ensures.tells (c.loop-i.invariant.tells tells)
+      (λ image each b v at. before.stops tells b v (each b v at)) (λ t image early each. g.met.D.Disk.counts_now c.args.disk.now t image tells early each)
+      (before.time tells) (c.in-Ok.ensures.time (before.tells tells));
+  tells = λ tells. c.in-Ok.ensures.tells (c.loop-i.invariant.tells tells);
 }

@@ -16,5 +16,5 @@ invariant-loop-i g l = record {
   write_faults : g.D.Disk.write_faults l.disk ≡ g.D.Disk.write_faults l.fn.disk;
   stops : g.D.Disk.tells_stops l.fn.disk → (b : ℕ) (v : List ℕ) → g.D.Disk.may_leave l.disk b v → g.D.Disk.may_leave l.fn.disk b v;
   time : g.D.Disk.tells_stops l.fn.disk → Elapses (g.D.Disk.moment l.fn.disk) (g.D.Disk.moment l.disk) (g.D.Disk.left_since l.fn.disk) (g.D.Disk.left_since l.disk) (EachOf (g.D.Disk.may_leave l.disk));
-  tells : g.D.Disk.tells_stops l.fn.disk → g.D.Disk.tells_stops l.disk
+  tells : g.D.Disk.tells_stops l.fn.disk → g.D.Disk.tells_stops l.disk;
 }

@@ -1,8 +1,6 @@
 -- There are as many blocks as the bank counts, and they are an image.
 use Rattle.std.proofs.Common.{◌≡◌, ◌<◌, ◌/◌, ℕ, arith, ap, sym, ◌∙◌, Some, length}
-use Rattle.std.specs.List.{All}
 use Rattle.std.proofs.lemmas.List.Elements.{All-same}
-use Rattle.xfs_disk.specs.Blocks.{Image}
 use Rattle.xfs_disk.specs.Memory.{blocks_of}
 use Rattle.xfs_disk.specs.MemoryImage.{is_told_image}
 use Rattle.xfs_bank.proofs.Blocks.{length-blocks_of}

@@ -1,5 +1,5 @@
 -- The block is that part of the bytes.
-use Rattle.std.proofs.Common.{◌≡◌, ◌≤◌, ℕ, List, ◌+◌, ◌-◌, ◌*◌, ◌/◌, take, drop, length, Some, arith, ap, sym, ◌∙◌}
+use Rattle.std.proofs.Common.{◌≡◌, ◌+◌, ◌-◌, ◌*◌, ◌/◌, take, drop, length, Some, arith, sym, ◌∙◌}
 use Rattle.xfs_bank.proofs.Blocks.{block_inside, block_is}
 use Rattle.xfs_bank.proofs.bank.BlockBank.view.Goals as goal
 

@@ -1,5 +1,5 @@
 -- The block is that part of the bytes, and what is written over it stands there.
-use Rattle.std.proofs.Common.{◌≡◌, ◌≤◌, ℕ, List, ◌+◌, ◌-◌, ◌*◌, ◌/◌, take, drop, length, Some, refl, arith, rules, ap, sym, ◌∙◌}
+use Rattle.std.proofs.Common.{◌≡◌, ℕ, List, ◌+◌, ◌-◌, ◌*◌, ◌/◌, take, drop, length, Some, refl, arith, rules, ap, sym, ◌∙◌}
 use Rattle.std.specs.Vec.{with_items_from}
 use Rattle.xfs_disk.specs.Memory.{blocks_of}
 use Rattle.xfs_bank.proofs.Blocks.{block_inside, block_is, is_overwritten, overwritten-block}
@@ -19,13 +19,17 @@ returns c =
     let vec = c.self.inside.bytes in
     let blocks : ℕ = length vec.items / 4096 in
     let even : length vec.items ≡ blocks * 4096 = omega (arith, c.self.invariant) in
-    let whole : 4096 ≡ c.args.i * 4096 + 4096 - c.args.i * 4096 = omega arith in
-    ((refl, λ w. let after = with_items_from vec (c.args.i * 4096) w in
-        let count : length after.items / 4096 ≡ blocks = omega (arith, after.ok.0, vec.ok.0) in
-        ap (λ (n : ℕ). blocks_of n after.items) count ∙ is_overwritten blocks vec.len vec.items c.args.self.now c.args.i w _ c.self.view_is even vec.ok.0 c.requires.inside),
-     record {
-       writes_back = tt;
-       block = block_is blocks vec.items c.args.self.now c.args.i c.self.view_is c.requires.inside ∙ ap (λ (bytes : List ℕ). Some bytes) (ap (λ (m : ℕ). take m (drop (c.args.i * 4096) vec.items)) whole ∙ sym c.slice_mut.ensures.value);
-       size = search rules;
-       set = λ block size. overwritten-block blocks vec.items c.args.self.now c.args.i block c.self.view_is even c.requires.inside size
-     })
+    let whole : 4096 ≡ c.args.i * 4096 + 4096 - c.args.i * 4096 = omega arith in (
+      (
+        refl,
+        λ w. let after = with_items_from vec (c.args.i * 4096) w in
+            let count : length after.items / 4096 ≡ blocks = omega (arith, after.ok.0, vec.ok.0) in
+            ap (λ (n : ℕ). blocks_of n after.items) count ∙ is_overwritten blocks vec.len vec.items c.args.self.now c.args.i w _ c.self.view_is even vec.ok.0 c.requires.inside,
+      ),
+      record {
+        writes_back = tt;
+        block = block_is blocks vec.items c.args.self.now c.args.i c.self.view_is c.requires.inside ∙ ap (λ (bytes : List ℕ). Some bytes) (ap (λ (m : ℕ). take m (drop (c.args.i * 4096) vec.items)) whole ∙ sym c.slice_mut.ensures.value);
+        size = search rules;
+        set = λ block size. overwritten-block blocks vec.items c.args.self.now c.args.i block c.self.view_is even c.requires.inside size;
+      },
+    )
