@@ -1,5 +1,6 @@
 -- Parts by cuts: of a bank and of its bytes, of cuts in a row, and one by one.
-use Rattle.std.proofs.Common.{◌≡◌, ℕ, zero, suc, ◌+◌, ◌-◌, ◌*◌, ◌/◌, ◌<◌, ◌≤◌, List, [], ◌∷◌, ◌++◌, take, drop, length, get_or, arith, ap, refl, sym, subst, ◌∙◌}
+use Rattle.std.proofs.Common.{◌≡◌, ℕ, zero, suc, ◌+◌, ◌-◌, ◌*◌, ◌/◌, ◌<◌, ◌≤◌, List, [], ◌∷◌, ◌++◌, take, drop, length, get_or, Some, arith, ap, refl, sym, subst, ◌∙◌}
+use Rattle.std.specs.Prelude.{slice_get}
 use Rattle.std.specs.List.{concat}
 use Rattle.std.specs.Fork.{AcceptsAt, AcceptsEach, ChangesAt, ChangesEach}
 use Rattle.std.proofs.lemmas.List.{length-drop, take-take, drop-take, drop-drop, take_all, take_at, drop_at, take-append-drop, append-nil, nil_from_length}
@@ -56,6 +57,30 @@ concat-parts_from low (cut ∷ cuts) bank =
 pub length-parts_from : (low : ℕ) (cuts : List ℕ) (bank : Image) → length (parts_from low cuts bank) ≡ length cuts + 1
 length-parts_from low [] bank = refl
 length-parts_from low (cut ∷ cuts) bank = omega (arith, length-parts_from cut cuts (drop (cut - low) bank))
+
+-- each part begins no lower than the first block
+begins_above : (low high : ℕ) (cuts : List ℕ) (j : ℕ) → AreCuts low high cuts → j ≤ length cuts → low ≤ get_or (low ∷ cuts) j 0
+begins_above low high cuts zero are within = omega arith
+begins_above low high [] (suc j) are within = absurd (omega arith)
+begins_above low high (cut ∷ cuts) (suc j) are within = omega (arith, are.0, begins_above cut high cuts j are.1 (omega arith))
+
+-- a part has the blocks from the cut before it, or the first block, up to the cut behind it, or the end
+pub part_at : (low high : ℕ) (cuts : List ℕ) (bank : Image) (j : ℕ) → high ≡ low + length bank → AreCuts low high cuts → j ≤ length cuts →
+    slice_get (parts_from low cuts bank) j ≡ Some (concat (take (get_or cuts j high - get_or (low ∷ cuts) j 0) (drop (get_or (low ∷ cuts) j 0 - low) bank)))
+part_at low high [] bank zero ends are within =
+    let none : 0 ≡ low - low = omega arith in
+    ap (λ (image : Image). Some (concat image)) (sym (take_all (high - low) bank (omega arith)) ∙ ap (λ (n : ℕ). take (high - low) (drop n bank)) none)
+part_at low high [] bank (suc j) ends are within = absurd (omega arith)
+part_at low high (cut ∷ cuts) bank zero ends are within =
+    let none : 0 ≡ low - low = omega arith in
+    ap (λ (n : ℕ). Some (concat (take (cut - low) (drop n bank)))) none
+part_at low high (cut ∷ cuts) bank (suc j) ends are within =
+    let up : cut ≤ high = AreCuts-rises cut high cuts are.1 in
+    let start : ℕ = get_or (cut ∷ cuts) j 0 in
+    let above : cut ≤ start = begins_above cut high cuts j are.1 (omega arith) in
+    let place : (cut - low) + (start - cut) ≡ start - low = omega (arith, are.0) in
+    part_at cut high cuts (drop (cut - low) bank) j (omega (arith, are.0, length-drop (cut - low) bank)) are.1 (omega arith)
+    ∙ ap (λ (image : Image). Some (concat (take (get_or cuts j high - start) image))) (drop-drop (start - cut) (cut - low) bank ∙ ap (λ (n : ℕ). drop n bank) place)
 
 -- there is one part more than there are cuts
 pub length-flat_parts : (low : ℕ) (cuts bytes : List ℕ) → length (flat_parts low cuts bytes) ≡ length cuts + 1

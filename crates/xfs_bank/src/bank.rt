@@ -1,8 +1,7 @@
 //! The bank: so many blocks of 4096 bytes, one behind the other.
 
-ghost use Rattle.std.specs.Prelude.{◌≡◌, ℕ, ◌+◌, ◌*◌, ◌/◌, ◌≤◌, ◌<◌, List, [], length, take, replicate, Some, IfOk, OnOk, OnErr, slice_get, slice_set};
+ghost use Rattle.std.specs.Prelude.{◌≡◌, ℕ, ◌+◌, ◌/◌, ◌≤◌, ◌<◌, List, ◌∷◌, length, take, replicate, Some, IfOk, OnOk, OnErr, slice_get, slice_set, slice_index, slice_index_or, slice_range};
 ghost use Rattle.std.specs.List.{All, concat};
-ghost use Rattle.std.specs.Option.{ForSome};
 ghost use Rattle.std.specs.Fork.{AcceptsEach, ChangesEach};
 ghost use Rattle.xfs_disk.specs.Blocks.{Image, IsImage};
 ghost use Rattle.xfs_disk.specs.Faults.{HasCause};
@@ -92,6 +91,8 @@ impl BlockBank {
         requires accepts { AcceptsEach F.Fn f.now (parts_of cuts.now self.old) }
         ensures parts { ChangesEach F.Fn f.now (parts_of cuts.now self.old) (parts_of cuts.now self.new) }
         ensures len { length self.new ≡ length self.old }
+        ensures blocks { (bank : Image) (j : ℕ) → length bank ≡ length self.old → j ≤ length cuts.now →
+            slice_get (parts_of cuts.now bank) j ≡ Some (concat (slice_range bank (slice_index (0 ∷ cuts.now) j) (slice_index_or cuts.now j (length bank)))) }
         ensures count { (bank : Image) → length (parts_of cuts.now bank) ≡ length cuts.now + 1 }
         ensures joined { (bank : Image) → concat (parts_of cuts.now bank) ≡ concat bank }
     {

@@ -1,5 +1,6 @@
 -- The parts of the bank are those of its bytes.
-use Rattle.std.proofs.Common.{◌≡◌, ℕ, List, ◌+◌, ◌/◌, length, rules, arith, refl, ap, sym, subst, ◌∙◌}
+use Rattle.std.proofs.Common.{◌≡◌, ℕ, List, ◌+◌, ◌/◌, ◌-◌, ◌∷◌, Some, get_or, take, drop, length, rules, arith, refl, ap, sym, subst, ◌∙◌}
+use Rattle.std.specs.List.{concat}
 use Rattle.std.specs.Fork.{AcceptsAt, ChangesAt}
 use Rattle.std.specs.Vec.{with_items}
 use Rattle.std.proofs.lemmas.List.{with_items_is}
@@ -8,7 +9,7 @@ use Rattle.xfs_disk.specs.Memory.{blocks_of}
 use Rattle.xfs_bank.specs.Bank.{AreCuts, parts_of}
 use Rattle.xfs_bank.specs.Parts.{flat_parts, EachFrom, EachPairFrom}
 use Rattle.xfs_bank.proofs.Blocks.{length-blocks_of}
-use Rattle.xfs_bank.proofs.Cuts.{held_parts, concat-parts_from, length-parts_from, accepts_in_turn, changes_each}
+use Rattle.xfs_bank.proofs.Cuts.{held_parts, part_at, concat-parts_from, length-parts_from, accepts_in_turn, changes_each}
 use Rattle.xfs_bank.proofs.bank.BlockBank.each_part.Goals as goal
 
 pub change_parts-requires-clause-cuts : goal.change_parts-requires-clause-cuts
@@ -55,3 +56,11 @@ returns-clause-joined g c bank = concat-parts_from 0 c.args.cuts.now bank
 
 pub returns-clause-count : goal.returns-clause-count
 returns-clause-count g c bank = length-parts_from 0 c.args.cuts.now bank
+
+pub returns-clause-blocks : goal.returns-clause-blocks
+returns-clause-blocks g c bank j same within =
+    let cuts = c.args.cuts.now in
+    let start : ℕ = get_or (0 ∷ cuts) j 0 in
+    let none : start - 0 ≡ start = omega arith in
+    part_at 0 (length bank) cuts bank j (omega arith) (subst (λ (n : ℕ). AreCuts 0 n cuts) (sym same) c.requires.cuts) within
+    ∙ ap (λ (n : ℕ). Some (concat (take (get_or cuts j (length bank) - start) (drop n bank)))) none
