@@ -1,9 +1,8 @@
 -- The address of a block and the block at an address are inverse inside a volume.
-use Rattle.std.proofs.Common.{◌≡◌, ℕ, ◌+◌, ◌*◌, ◌-◌, ◌/◌, ◌%◌, ◌^◌, ◌≤◌, ◌<◌, Bool, true, false, ◌==◌, ◌&&◌, Option, Some, None, cond, ltb, arith, refl, sym, ap}
-use Rattle.std.proofs.Math.Nat.{mod-lt, mul-le-mul_left, mul-le-mul_right, div-lt_iff_lt-mul}
-use Rattle.std.proofs.lemmas.Bool.{lt-ltb, eqb-true}
+use Rattle.std.proofs.Common.{◌≡◌, ℕ, ◌+◌, ◌*◌, ◌-◌, ◌/◌, ◌%◌, ◌^◌, ◌≤◌, ◌<◌, Bool, true, false, ◌==◌, ◌&&◌, Some, None, ltb, arith, ap}
+use Rattle.std.proofs.Math.Nat.{mod-lt, mul-le-mul_left, div-lt_iff_lt-mul}
+use Rattle.std.proofs.lemmas.Bool.{lt-ltb}
 use Rattle.std.proofs.lemmas.Nat.{div-add-mod', div-mul-add, mod-mul-add}
-use Rattle.std.specs.Cmp.Derive.{both_true}
 use Rattle.std.specs.Prelude.{if◌then◌else◌}
 use Rattle.xfs_geom.specs.Conversions.{address_of, block_at, group_length}
 use Rattle.xfs_geom.specs.Groups.{blocks_of_group}

@@ -1,6 +1,6 @@
 -- Bounds on powers, products and quotients.
-use Rattle.std.proofs.Common.{◌≡◌, ℕ, ◌+◌, ◌-◌, ◌*◌, ◌/◌, ◌%◌, ◌^◌, ◌≤◌, ◌<◌, arith}
-use Rattle.std.proofs.Math.Nat.{lt-div-mul-add, mul-le-mul_left, mul-le-mul_right, mul-le-mul}
+use Rattle.std.proofs.Common.{ℕ, ◌+◌, ◌-◌, ◌*◌, ◌/◌, ◌^◌, ◌≤◌, ◌<◌, arith}
+use Rattle.std.proofs.Math.Nat.{lt-div-mul-add, mul-le-mul_right}
 
 -- a group below 512 of fewer than 2^32 blocks begins below 2^41
 pub product : (a b : ℕ) → a < 512 → b < 2 ^ 32 → a * b < 2 ^ 41

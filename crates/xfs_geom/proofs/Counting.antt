@@ -1,5 +1,5 @@
 -- A poll as one block after the other is asked.
-use Rattle.std.proofs.Common.{◌≡◌, ℕ, ◌+◌, ◌-◌, ◌^◌, ◌<◌, ◌≤◌, ◌⊎◌, inl, inr, Bool, true, false, zero, suc, List, [], ◌∷◌, ◌++◌, length, Option, Some, None, IfSome, is_none, cond, unwrap_or, slice_get, refl, sym, ap, ◌∙◌, subst, arith}
+use Rattle.std.proofs.Common.{◌≡◌, ℕ, ◌+◌, ◌-◌, ◌^◌, ◌<◌, ◌≤◌, inl, inr, Bool, true, false, zero, suc, List, [], ◌∷◌, ◌++◌, length, Option, Some, None, IfSome, cond, unwrap_or, slice_get, refl, sym, ap, ◌∙◌, subst, arith}
 use Rattle.std.specs.List.{flat_map, range_with_len}
 use Rattle.std.proofs.lemmas.List.{append-nil, length-append}
 use Rattle.std.proofs.lemmas.List.Concat.{flat_map-append}
@@ -7,7 +7,7 @@ use Rattle.std.proofs.lemmas.List.Sums.{count_by-le-length}
 use Rattle.xfs_disk.specs.Blocks.{Image}
 use Rattle.xfs_geom.specs.Election.{Vote, choice, same_volume, vote_in, vote_at, votes_below, votes_for, block_of, super_of}
 use Rattle.xfs_geom.specs.Electing.{vote_of}
-use Rattle.xfs_geom.specs.Polls.{IsAmong, Ascends, IsTally, Tallies, Leads, HasLeader, IsPoll, tally_at, with_vote, leading}
+use Rattle.xfs_geom.specs.Polls.{IsAmong, IsTally, Tallies, HasLeader, IsPoll, tally_at, with_vote, leading}
 use Rattle.xfs_geom.specs.Superblocks.{super_fault}
 use Rattle.xfs_geom.specs.Volumes.{Volume, volume_of, stated_volume}
 use Rattle.xfs_geom.specs.declared.election.Elected.{Elected}

@@ -1,15 +1,14 @@
 -- What the leader of a poll is elected for.
-use Rattle.std.proofs.Common.{◌≡◌, ℕ, ◌≤◌, ◌⊎◌, inl, inr, List, Option, Some, None, Result, Err, true, refl, sym, ap, ◌∙◌, subst, arith}
+use Rattle.std.proofs.Common.{◌≡◌, ℕ, ◌≤◌, ◌⊎◌, inl, inr, List, Option, Some, None, Result, Err, true, sym, ap, ◌∙◌, subst, arith}
 use Rattle.std.specs.Option.{MatchOption, ok_or, option_map}
 use Rattle.std.proofs.lemmas.Bool.{leb-true}
 use Rattle.xfs_disk.specs.Blocks.{Image}
-use Rattle.xfs_geom.specs.Election.{Vote, choice, votes_below, winner}
+use Rattle.xfs_geom.specs.Election.{Vote, votes_below, winner}
 use Rattle.xfs_geom.specs.Electing.{vote_of, IsElection}
 use Rattle.xfs_geom.specs.Polls.{IsAmong, Ascends, Leads, HasLeader, IsDecided}
 use Rattle.xfs_geom.specs.Stated.{stated, place_fault, place_tests}
 use Rattle.xfs_geom.specs.Superblocks.{super_fault}
-use Rattle.xfs_geom.specs.Volumes.{Volume, volume_of, stated_volume}
-use Rattle.xfs_geom.specs.declared.election.Elected.{Elected}
+use Rattle.xfs_geom.specs.Volumes.{Volume}
 use Rattle.xfs_geom.specs.declared.election.ElectFault.{ElectFault}
 use Rattle.xfs_geom.specs.declared.election.ElectFault.TheVariants.{NoGeometry, ReadFault, NoMemory}
 use Rattle.xfs_geom.specs.declared.polls.Tally.{Tally}

@@ -1,10 +1,10 @@
 -- The log's place by its block number, from its place by its address.
-use Rattle.std.proofs.Common.{◌≡◌, ℕ, ◌+◌, ◌*◌, ◌-◌, ◌/◌, ◌%◌, ◌^◌, ◌≤◌, ◌<◌, Bool, true, false, ◌==◌, arith, refl, sym, subst, rules}
+use Rattle.std.proofs.Common.{◌≡◌, ℕ, ◌+◌, ◌*◌, ◌-◌, ◌/◌, ◌%◌, ◌^◌, ◌≤◌, ◌<◌, Bool, true, false, ◌==◌, arith, refl, sym, subst}
 use Rattle.std.proofs.lemmas.Nat.{div-mul-add, mod-mul-add}
 use Rattle.std.proofs.lemmas.Bool.{eqb-true}
 use Rattle.std.specs.Prelude.{if◌then◌else◌}
-use Rattle.xfs_geom.specs.Groups.{blocks_of_group, group_of_address, ag_block_of_address, block_of_address}
-use Rattle.xfs_geom.specs.Parts.{HasLogAt, HasParts}
+use Rattle.xfs_geom.specs.Groups.{blocks_of_group, group_of_address, ag_block_of_address}
+use Rattle.xfs_geom.specs.Parts.{HasParts}
 use Rattle.xfs_geom.specs.Shape.{HasLog}
 use Rattle.xfs_geom.specs.Stated.{log_of}
 use Rattle.xfs_geom.specs.declared.stated.Stated.{Stated}

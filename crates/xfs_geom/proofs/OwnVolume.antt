@@ -8,12 +8,12 @@ use Rattle.xfs_word.specs.Seal.{is_sealed}
 use Rattle.xfs_geom.specs.Features.{or_else, refused_feature}
 use Rattle.xfs_geom.specs.First.{first_false}
 use Rattle.xfs_geom.specs.Fixed.{fixed_fault}
-use Rattle.xfs_geom.specs.Stated.{stated, log_of, parts_fault, place_fault, place_tests, is_system_inode}
+use Rattle.xfs_geom.specs.Stated.{stated, log_of, parts_fault, place_fault, place_tests}
 use Rattle.xfs_geom.specs.Superblocks.{super_seal, progress_fault, feature_fault, shape_fault, super_fault, is_agreeing, agrees_on_inode, states_volume}
 use Rattle.xfs_geom.specs.Volumes.{stated_volume}
 use Rattle.xfs_geom.specs.declared.features.Departure.{Departure}
 use Rattle.xfs_geom.specs.declared.reading.SuperFault.{SuperFault}
-use Rattle.xfs_geom.specs.declared.reading.SuperFault.TheVariants.{NotSealed, Unsupported, Shape}
+use Rattle.xfs_geom.specs.declared.reading.SuperFault.TheVariants.{NotSealed}
 
 -- where no test of a list fails, each of them holds
 pub each_holds : (tests : List (ℕ × Bool)) → first_false tests ≡ None → (k : ℕ) (d : ℕ × Bool) → k < length tests → (get_or tests k d).1 ≡ true

@@ -1,10 +1,10 @@
 -- A superblock that is written anew is accepted where its volume has superblocks.
-use Rattle.std.proofs.Common.{◌≡◌, ℕ, ◌+◌, ◌*◌, ◌-◌, ◌/◌, ◌%◌, ◌^◌, ◌≤◌, ◌<◌, ◌⊎◌, inl, inr, Bool, true, false, not, ◌==◌, ◌&&◌, ◌||◌, leb, ltb, List, [], ◌∷◌, length, get_or, map, Option, Some, None, cond, IsTrue, arith, refl, sym, ap, ap₂, ◌∙◌}
+use Rattle.std.proofs.Common.{◌≡◌, ℕ, ◌+◌, ◌%◌, ◌≤◌, ◌<◌, ◌⊎◌, inl, inr, Bool, true, false, not, ◌==◌, ◌&&◌, ◌||◌, leb, List, [], ◌∷◌, Option, Some, None, cond, IsTrue, arith, refl, sym, ap, ap₂, ◌∙◌}
 use Rattle.std.specs.Cmp.Derive.{both_true}
 use Rattle.std.specs.List.{list_all}
 use Rattle.std.proofs.lemmas.Bool.{eq-eqb, leb-true, le-leb, ltb-true, lt-ltb}
-use Rattle.xfs_word.specs.Field.{field_of, part_of, Beside}
-use Rattle.xfs_word.specs.Seal.{is_sealed, is_ready, is_lsn, has_magic}
+use Rattle.xfs_word.specs.Field.{field_of, Beside}
+use Rattle.xfs_word.specs.Seal.{is_sealed, is_ready, has_magic}
 use Rattle.xfs_geom.specs.Features.{FeatureWord, feature_words, first_departure, refused_feature, or_else, departure_by, departing_bits}
 use Rattle.xfs_geom.specs.First.{first_false}
 use Rattle.xfs_geom.specs.Fixed.{FixedWord, fixed_words, fixed_tests, fixed_fault}
@@ -16,7 +16,7 @@ use Rattle.xfs_geom.specs.declared.reading.SuperFault.{SuperFault}
 use Rattle.xfs_geom.specs.declared.reading.SuperFault.TheVariants.{NotSealed, Shape}
 use Rattle.xfs_geom.specs.declared.records.Counts.{Counts}
 use Rattle.xfs_geom.specs.declared.stated.Stated.{Stated}
-use Rattle.xfs_geom.proofs.OwnVolume.{HasPassed, has_passed, each_holds}
+use Rattle.xfs_geom.proofs.OwnVolume.{has_passed, each_holds}
 
 left : (a b : Bool) → (a && b) ≡ true → a ≡ true
 left true b h = refl

@@ -1,5 +1,5 @@
 -- What an election answers, and why.
-use Rattle.std.specs.Prelude.{◌≡◌, ℕ, ◌≤◌, List, Result, Ok, Err}
+use Rattle.std.specs.Prelude.{◌≡◌, ℕ, ◌≤◌, Result, Ok, Err}
 use Rattle.xfs_disk.specs.Faults.{Rose}
 use Rattle.xfs_geom.specs.Election.{Vote}
 use Rattle.xfs_geom.specs.declared.election.Elected.{Elected}

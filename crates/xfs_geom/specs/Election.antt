@@ -1,6 +1,6 @@
 -- Which superblock of an image says what its volume is: the primary, or else the backups by their votes
 -- (chapter "Superblocks"; xfs_repair(8)).
-use Rattle.std.specs.Prelude.{◌≡◌, ℕ, ◌-◌, ◌&&◌, ◌==◌, nat_le, Bool, if◌then◌else◌, List, [], ◌∷◌, length, take, slice_get, unwrap_or, bytes_eq, Option, Some, None, is_none, Result, Ok, Err}
+use Rattle.std.specs.Prelude.{ℕ, ◌-◌, ◌&&◌, ◌==◌, nat_le, Bool, if◌then◌else◌, List, [], ◌∷◌, length, take, slice_get, unwrap_or, bytes_eq, Option, Some, None, is_none, Result, Ok, Err}
 use Rattle.std.specs.List.{count_by, find, flat_map, list_all, range_with_len}
 use Rattle.std.specs.Option.{ok_or}
 use Rattle.xfs_disk.specs.Blocks.{Image}

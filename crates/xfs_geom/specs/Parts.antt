@@ -1,5 +1,5 @@
 -- What the stated numbers keep once shape words 8 to 13 are right.
-use Rattle.std.specs.Prelude.{◌≡◌, ℕ, ◌+◌, ◌*◌, ◌<◌, ◌≤◌, ◌^◌, ◌==◌, ◌||◌, IsTrue}
+use Rattle.std.specs.Prelude.{◌+◌, ◌<◌, ◌≤◌, ◌^◌, ◌==◌, ◌||◌, IsTrue}
 use Rattle.xfs_geom.specs.Groups.{blocks_of_group, group_of_address, ag_block_of_address}
 use Rattle.xfs_geom.specs.Shape.{HasGroups, HasAddresses}
 use Rattle.xfs_geom.specs.declared.stated.Stated.{Stated}

@@ -1,5 +1,5 @@
 -- A volume by the numbers of its geometry.
-use Rattle.std.specs.Prelude.{◌≡◌, ℕ, List}
+use Rattle.std.specs.Prelude.{ℕ, List}
 use Rattle.xfs_word.specs.Field.{part_of}
 use Rattle.xfs_geom.specs.Stated.{stated, log_of}
 use Rattle.xfs_geom.specs.declared.geometry.Geometry.{Geometry}

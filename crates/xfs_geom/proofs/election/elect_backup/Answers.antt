@@ -1,4 +1,4 @@
-use Rattle.std.proofs.Common.{◌≡◌, ℕ, ◌≤◌, ◌∙◌, [], Some, None, refl, sym, arith}
+use Rattle.std.proofs.Common.{◌≡◌, ◌∙◌, [], Some, None, refl, arith}
 use Rattle.xfs_geom.specs.Election.{votes_below}
 use Rattle.xfs_geom.specs.Electing.{vote_of}
 use Rattle.xfs_geom.proofs.Decided.{due_is, stopped}

@@ -1,10 +1,8 @@
-use Rattle.std.proofs.Common.{◌≡◌, ℕ, ◌+◌, ◌%◌, ◌^◌, ◌<◌, ◌≤◌, true, List, IsTrue, refl, sym, ◌∙◌, ap, arith, rules}
+use Rattle.std.proofs.Common.{◌≡◌, ℕ, ◌%◌, ◌≤◌, true, List, ◌∙◌, ap, arith, rules}
 use Rattle.std.proofs.Math.Nat.{zero-mod}
 use Rattle.xfs_word.specs.Field.{field_of, part_of}
-use Rattle.xfs_word.specs.Seal.{is_ready}
 use Rattle.xfs_geom.specs.Stated.{stated}
-use Rattle.xfs_geom.specs.Superblocks.{super_seal}
-use Rattle.xfs_geom.specs.Writing.{IsAccepted, IsSuperOf, is_kept}
+use Rattle.xfs_geom.specs.Writing.{is_kept}
 use Rattle.xfs_geom.proofs.Written.{apart, read_through, ready, low_root, some_blocks, accepted_anew}
 use Rattle.xfs_geom.proofs.writing.write_super.Goals as goal
 

@@ -1,4 +1,4 @@
-use Rattle.std.proofs.Common.{◌≡◌, ◌^◌, ◌<◌, Result, Ok, Err, OnOk, ap, ◌∙◌, arith}
+use Rattle.std.proofs.Common.{◌^◌, ◌<◌, Result, Ok, Err, OnOk, ap, ◌∙◌, arith}
 use Rattle.xfs_geom.specs.Volumes.{volume_of}
 use Rattle.xfs_geom.proofs.Counting.{has_room, poll_asked, poll_passed}
 use Rattle.xfs_geom.proofs.polls.Poll.ask.Goals as goal

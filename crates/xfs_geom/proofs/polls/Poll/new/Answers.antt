@@ -5,7 +5,6 @@ use Rattle.xfs_geom.specs.Polls.{Tallies}
 use Rattle.xfs_geom.specs.Volumes.{volume_of}
 use Rattle.xfs_geom.specs.declared.geometry.Geometry.{Geometry}
 use Rattle.xfs_geom.specs.declared.polls.Tally.{Tally}
-use Rattle.xfs_geom.proofs.Leaders.{winner_is}
 use Rattle.xfs_geom.proofs.polls.Poll.new.Goals as goal
 
 pub returns : goal.returns
