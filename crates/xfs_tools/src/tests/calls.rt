@@ -9,10 +9,28 @@ use std::thread::Threads;
 use xfs_disk::{MemoryDisk, MemoryLibrary, MemorySink, MemorySource, NoGate, Stamp, Word};
 
 /// Both of the volume's superblocks agree.
-const AGREEING: Contents = Contents::Volume { label: 0 };
+const AGREEING: Contents = Contents::Volume {
+    blocks: 2048,
+    label: 0,
+    features: 3,
+    primary: true,
+};
 
 /// The backup superblock is not the primary's, and its checksum is not right.
-const DAMAGED: Contents = Contents::Volume { label: 1 };
+const DAMAGED: Contents = Contents::Volume {
+    blocks: 2048,
+    label: 1,
+    features: 3,
+    primary: true,
+};
+
+/// The primary superblock is zeros.
+const LOST: Contents = Contents::Volume {
+    blocks: 2048,
+    label: 0,
+    features: 3,
+    primary: false,
+};
 
 /// The words of a command line.
 type Words = &'static [&'static str];
@@ -38,7 +56,7 @@ struct Row {
 }
 
 /// Repairs of each kind of disk, and of disks of which a call fails.
-const REPAIRS: [Row; 7] = [
+const REPAIRS: [Row; 14] = [
     Row {
         name: "a backup that disagrees is rewritten: two reads, a sync, a write and a sync",
         words: REPAIR,
@@ -92,12 +110,88 @@ const REPAIRS: [Row; 7] = [
         after: Contents::Nothing,
     },
     Row {
-        name: "a primary that is not accepted",
+        name: "no superblock is no geometry",
         words: REPAIR,
         before: Contents::Zeros,
         failing: None,
-        told: &[("xfs: unbuilt: 2\n", 1)],
+        told: &[("xfs: no geometry\n", 1)],
         after: Contents::Zeros,
+    },
+    Row {
+        name: "a volume that is cut short is no geometry",
+        words: REPAIR,
+        before: Contents::Volume {
+            blocks: 2047,
+            label: 0,
+            features: 3,
+            primary: true,
+        },
+        failing: None,
+        told: &[("xfs: no geometry\n", 1)],
+        after: Contents::Volume {
+            blocks: 2047,
+            label: 0,
+            features: 3,
+            primary: true,
+        },
+    },
+    Row {
+        name: "a refused feature of the primary is told, and no backup is asked",
+        words: REPAIR,
+        before: Contents::Volume {
+            blocks: 2048,
+            label: 0,
+            features: 7,
+            primary: true,
+        },
+        failing: Some(2),
+        told: &[("xfs: unsupported: word 11 bits 0x4\n", 1)],
+        after: Contents::Volume {
+            blocks: 2048,
+            label: 0,
+            features: 7,
+            primary: true,
+        },
+    },
+    Row {
+        name: "a check writes nothing and tells the group of the backup",
+        words: &["xfs_repair", "-n", "V"],
+        before: DAMAGED,
+        failing: Some(3),
+        told: &[("damaged: part 10 at 1\n", 1)],
+        after: DAMAGED,
+    },
+    Row {
+        name: "a repair is told by status 4 under -e",
+        words: &["xfs_repair", "-e", "V"],
+        before: DAMAGED,
+        failing: None,
+        told: &[("repaired: backups=1\n", 4), ("clean\n", 0)],
+        after: AGREEING,
+    },
+    Row {
+        name: "a lost primary is found damaged",
+        words: &["xfs_repair", "-nw64", "V"],
+        before: LOST,
+        failing: None,
+        told: &[("damaged: part 0 at 0\n", 1)],
+        after: LOST,
+    },
+    Row {
+        name: "a lost primary is not rebuilt yet",
+        words: REPAIR,
+        before: LOST,
+        failing: None,
+        told: &[("xfs: unbuilt: 8\n", 1)],
+        after: LOST,
+    },
+    Row {
+        name: "workers, a log and a file change nothing",
+        words: &["xfs_repair", "-Lf", "-w", "1", "-n", "--", "-V"],
+        before: AGREEING,
+        failing: None,
+        told: &[("clean\n", 0)],
+        after: AGREEING,
     },
 ];
 
@@ -146,7 +240,11 @@ fn check(rt: &(impl Abort + Threads + Sync), alloc: Global, row: &Row) -> Result
         let (status, out, err) = call(rt, alloc, &words, &mut disk, 80)?;
         assert_eq!(rt; status.code, *code, "{}", row.name);
         assert_eq!(rt; status.finished, 0, "{}", row.name);
-        let (on_out, on_err) = if *code == 0 { (*line, "") } else { ("", *line) };
+        let (on_out, on_err) = if line.starts_with("xfs: ") {
+            ("", *line)
+        } else {
+            (*line, "")
+        };
         assert_eq!(rt; out.bytes(), on_out.as_bytes(), "{}", row.name);
         assert_eq!(rt; err.bytes(), on_err.as_bytes(), "{}", row.name);
     }
@@ -165,23 +263,41 @@ fn repairs(rt: HostRuntime) -> Result<(), Fail> {
 
 #[test]
 fn words(rt: HostRuntime) -> Result<(), Fail> {
-    let rows: [(Words, Told); 7] = [
+    let rows: [(Words, Told); 16] = [
         (&[], &[("xfs: usage: word 0\n", 1)]),
         (&["x"], &[("xfs: usage: word 0\n", 1)]),
         (&["mkfs.xfs"], &[("xfs: unbuilt: 6\n", 1)]),
         (&["xfs_db"], &[("xfs: unbuilt: 11\n", 1)]),
         (&["xfs_repair"], &[("xfs: usage: word 1\n", 1)]),
-        (&["xfs_repair", "-n"], &[("xfs: unbuilt: 2\n", 1)]),
-        (&["xfs_repair", "V", "V"], &[("xfs: unbuilt: 2\n", 1)]),
+        (&["xfs_repair", "-n", "-L"], &[("xfs: usage: word 3\n", 1)]),
+        (
+            &["xfs_repair", "-w", "0", "V"],
+            &[("xfs: usage: word 2\n", 1)],
+        ),
+        (
+            &["xfs_repair", "-w", "065", "V"],
+            &[("xfs: usage: word 2\n", 1)],
+        ),
+        (&["xfs_repair", "-w65", "V"], &[("xfs: usage: word 1\n", 1)]),
+        (&["xfs_repair", "-w"], &[("xfs: usage: word 2\n", 1)]),
+        (&["xfs_repair", "-w", ""], &[("xfs: usage: word 2\n", 1)]),
+        (&["xfs_repair", "-nx", "V"], &[("xfs: usage: word 1\n", 1)]),
+        (&["xfs_repair", "V", "-n"], &[("xfs: usage: word 2\n", 1)]),
+        (
+            &["xfs_repair", "--", "V", "V"],
+            &[("xfs: usage: word 3\n", 1)],
+        ),
+        (&["xfs_repair", "--n", "V"], &[("xfs: usage: word 1\n", 1)]),
+        (&["xfs_repair", "-n", "--"], &[("xfs: usage: word 3\n", 1)]),
     ];
     for (words, told) in rows {
         let row = Row {
             name: "words",
             words,
-            before: DAMAGED,
+            before: Contents::Nothing,
             failing: None,
             told,
-            after: DAMAGED,
+            after: Contents::Nothing,
         };
         check(&rt, rt.alloc(), &row)?;
     }

@@ -13,10 +13,17 @@ fn lines_of_answers(rt: HostRuntime) -> Result<(), Fail> {
         cleared: 0,
         orphans: 0,
     };
-    let rows: [(Answer, &str); 3] = [
+    let rows: [(Answer, &str); 4] = [
         (
             Answer::Repaired(rebuilt),
             "repaired: blocks=12 kept=3 cleared=0 orphans=0\n",
+        ),
+        (
+            Answer::Unsupported {
+                word: 12,
+                bits: 0xfedc_ba98_7654_3210,
+            },
+            "xfs: unsupported: word 12 bits 0xfedcba9876543210\n",
         ),
         (Answer::NoMemory, "xfs: no memory\n"),
         (Answer::OutputFault, ""),

@@ -13,7 +13,7 @@ const IDENTIFIER: [u8; 16] = [
 ];
 
 /// The numbers of its superblock; each other field is 0.
-const NUMBERS: [(FieldLayout, u64); 31] = [
+const NUMBERS: [(FieldLayout, u64); 30] = [
     (MAGICNUM, 0x5846_5342),
     (BLOCKSIZE, 4096),
     (DBLOCKS, 2048),
@@ -42,7 +42,6 @@ const NUMBERS: [(FieldLayout, u64); 31] = [
     (LOGSUNIT, 1),
     (FEATURES2, 0x18a),
     (BAD_FEATURES2, 0x18a),
-    (FEATURES_RO_COMPAT, 3),
     (FEATURES_INCOMPAT, 3),
     (SPINO_ALIGN, 4),
 ];
@@ -54,9 +53,15 @@ pub enum Contents {
     Nothing,
     /// Blocks of zeros.
     Zeros,
-    /// The volume, its backup superblock with this byte first in its label. The bytes behind the backup
-    /// are all 0x5a. The primary's label is empty.
-    Volume { label: u8 },
+    /// The volume on so many blocks, its backup superblock with this byte first in its label. The bytes
+    /// behind the backup are all 0x5a. The primary, where it is there, has these features_ro_compat and
+    /// an empty label.
+    Volume {
+        blocks: u64,
+        label: u8,
+        features: u64,
+        primary: bool,
+    },
 }
 
 /// A disk that holds these contents.
@@ -64,30 +69,44 @@ pub fn disk_of(rt: &impl Abort, alloc: Global, contents: Contents) -> Result<Mem
     match contents {
         Contents::Nothing => Ok(MemoryDisk::make(alloc, 0)?),
         Contents::Zeros => Ok(MemoryDisk::make(alloc, 2048)?),
-        Contents::Volume { label } => volume(rt, alloc, label),
+        Contents::Volume {
+            blocks,
+            label,
+            features,
+            primary,
+        } => {
+            let mut disk = MemoryDisk::make(alloc, blocks)?;
+            if primary {
+                let mut block = [0; BLOCK_SIZE];
+                put_part(&mut block, 0, &superblock(rt, features));
+                let size = disk.blocks()?;
+                assert!(rt; size > 0);
+                disk.write(0, &block)?;
+            }
+            put_backup(rt, &mut disk, label)?;
+            Ok(disk)
+        }
     }
 }
 
-/// The volume, its backup with this byte first in its label.
-fn volume(rt: &impl Abort, alloc: Global, label: u8) -> Result<MemoryDisk, Fail> {
-    let mut disk = MemoryDisk::make(alloc, 2048)?;
-    let sector = superblock(rt);
-    let mut block = [0; BLOCK_SIZE];
-    put_part(&mut block, 0, &sector);
-    disk.write(0, &block)?;
-    block = [0x5a; BLOCK_SIZE];
-    put_part(&mut block, 0, &sector);
+/// Writes the backup superblock, with this byte first in its label.
+fn put_backup(rt: &impl Abort, disk: &mut MemoryDisk, label: u8) -> Result<(), Fail> {
+    let mut block = [0x5a; BLOCK_SIZE];
+    put_part(&mut block, 0, &superblock(rt, 3));
     put_part(&mut block, FNAME.offset, &[label]);
+    let blocks = disk.blocks()?;
+    assert!(rt; blocks > 1024);
     disk.write(1024, &block)?;
-    Ok(disk)
+    Ok(())
 }
 
-/// The primary superblock.
-fn superblock(rt: &impl Abort) -> [u8; SECTOR_SIZE] {
+/// A superblock with these features_ro_compat.
+fn superblock(rt: &impl Abort, features: u64) -> [u8; SECTOR_SIZE] {
     let mut sector = [0; SECTOR_SIZE];
     for (field, number) in &NUMBERS {
         put_number(rt, &mut sector, field, *number);
     }
+    put_number(rt, &mut sector, &FEATURES_RO_COMPAT, features);
     put_part(&mut sector, UUID.offset, &IDENTIFIER);
     let what = Seal {
         kind: SealKind::Super,
