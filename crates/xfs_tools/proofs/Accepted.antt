@@ -1,8 +1,7 @@
 -- What the calls of a repair have told of the image.
-use Rattle.std.proofs.Common.{◌≡◌, ◌≢◌, ℕ, Bool, true, ◌-◌, ◌*◌, ◌<◌, ◌≤◌, ◌==◌, false, List, [], length, take, slice_get, unwrap_or, Option, Some, None, Ok, if◌then◌else◌, refl, sym, ap, ◌∙◌, subst, arith}
+use Rattle.std.proofs.Common.{◌≡◌, ℕ, Bool, true, ◌-◌, ◌*◌, ◌<◌, ◌≤◌, ◌==◌, false, List, length, Option, Some, Ok, if◌then◌else◌, refl, sym, ap, ◌∙◌, subst, arith}
 use Rattle.xfs_disk.specs.Blocks.{Image}
 use Rattle.xfs_geom.proofs.Bounds.{group_start}
-use Rattle.xfs_geom.specs.Superblocks.{super_fault}
 use Rattle.xfs_geom.specs.Volumes.{Volume, volume_of, stated_volume}
 use Rattle.xfs_geom.specs.declared.geometry.Geometry.{Geometry}
 use Rattle.xfs_geom.specs.Election.{Vote, elected}

@@ -1,8 +1,7 @@
 -- The number that a refusal tells is that of the first word that offends.
-use Rattle.std.proofs.Common.{◌≡◌, ℕ, zero, suc, ◌+◌, ◌-◌, ◌<◌, ◌≤◌, ◌==◌, Bool, true, false, cond, List, [], ◌∷◌, ◌++◌, length, take, Option, Some, None, Result, Ok, Err, bytes_eq, codes, add-zero, refl, sym, ap, ◌∙◌, subst, arith}
-use Rattle.std.proofs.lemmas.List.{append-nil, take-append-drop, take_all}
-use Rattle.xfs_tools.specs.CommandLine.{Words, IsAccepted, IsBegun, OffendsFirst, after_letter_w, after_letters, after_option, after_word, after_words, after_workers, is_option, no_options, reading_of, settled, workers_of}
-use Rattle.xfs_tools.specs.declared.answer.Answer.{Answer}
+use Rattle.std.proofs.Common.{◌≡◌, ℕ, suc, ◌+◌, ◌-◌, ◌<◌, ◌==◌, Bool, true, false, cond, List, [], ◌∷◌, ◌++◌, length, take, Option, Some, None, Err, bytes_eq, codes, add-zero, refl, sym, ap, ◌∙◌, subst, arith}
+use Rattle.std.proofs.lemmas.List.{append-nil, take_all}
+use Rattle.xfs_tools.specs.CommandLine.{Words, IsBegun, OffendsFirst, after_letter_w, after_letters, after_option, after_word, after_words, after_workers, is_option, no_options, reading_of, settled, workers_of}
 use Rattle.xfs_tools.specs.declared.answer.Answer.TheVariants.{Usage}
 use Rattle.xfs_tools.specs.declared.command_line.RepairOptions.{RepairOptions}
 use Rattle.xfs_tools.specs.declared.command_line.Reading.{Reading}

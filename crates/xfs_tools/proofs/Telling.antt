@@ -1,5 +1,5 @@
 -- Texts that are put piece by piece.
-use Rattle.std.proofs.Common.{◌≡◌, ℕ, ◌+◌, ◌≤◌, ◌<◌, List, [], ◌++◌, length, map, take, drop, get_or, decimal, Option, Result, Ok, Err, refl, append_assoc, length-append, arith}
+use Rattle.std.proofs.Common.{◌≡◌, ℕ, ◌+◌, ◌≤◌, ◌<◌, List, [], ◌++◌, length, map, take, drop, get_or, Option, Result, Ok, Err, refl, append_assoc, length-append, arith}
 use denote.Bor.{Bor}
 use Rattle.std.proofs.lemmas.List.{append-nil, map-append, take_more, take-append-drop, take-append-le, take_all}
 use Rattle.std.proofs.lemmas.List.Concat.{flat_map-append}

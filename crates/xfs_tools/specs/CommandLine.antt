@@ -1,5 +1,5 @@
 -- The words of a command line: a tool, its options and an image (xfs_repair(8), mkfs.xfs(8), xfs_db(8)).
-use Rattle.std.specs.Prelude.{◌≡◌, ℕ, ◌+◌, ◌-◌, ◌*◌, ◌≤◌, Bool, true, false, ◌==◌, ◌&&◌, ◌||◌, nat_le, if◌then◌else◌, codes, bytes_eq, List, [], ◌∷◌, ◌++◌, length, take, Option, Some, None, Result, Ok, Err}
+use Rattle.std.specs.Prelude.{◌≡◌, ℕ, ◌+◌, ◌-◌, ◌*◌, ◌≤◌, Bool, true, false, ◌==◌, ◌&&◌, nat_le, if◌then◌else◌, codes, bytes_eq, List, [], ◌∷◌, ◌++◌, length, take, Option, Some, None, Result, Ok, Err}
 use Rattle.xfs_tools.specs.declared.answer.Answer.{Answer}
 use Rattle.xfs_tools.specs.declared.answer.Answer.TheVariants.{Usage, Unbuilt}
 use Rattle.xfs_tools.specs.declared.command_line.RepairOptions.{RepairOptions}

@@ -1,5 +1,5 @@
 -- What an answer says of the image, of the counts of faults and of what was put.
-use Rattle.std.specs.Prelude.{◌≡◌, ℕ, Bool, ◌+◌, ◌*◌, ◌<◌, ◌≤◌, true, false, IsTrue, MatchBool, List, ◌++◌, length, take, drop, Option, Some, Result, Ok, Err, OnOk, OnErr, slice_get}
+use Rattle.std.specs.Prelude.{◌≡◌, ℕ, Bool, ◌<◌, ◌≤◌, true, false, MatchBool, List, ◌++◌, length, take, Option, Some, Result, Ok, Err, OnOk, OnErr, slice_get}
 use Rattle.std.specs.Option.{ForSome}
 use Rattle.xfs_disk.specs.Blocks.{Image}
 use Rattle.xfs_disk.specs.Faults.{Rose, HasCause}

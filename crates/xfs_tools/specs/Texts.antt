@@ -1,16 +1,12 @@
 -- The line of each answer, the stream that it goes to, and the exit status.
-use Rattle.std.specs.Prelude.{◌≡◌, ℕ, ◌≤◌, Bool, true, false, if◌then◌else◌, codes, decimal, List, [], ◌∷◌, ◌++◌, take, Option, Some, Result, Ok, Err, OnOk, OnErr}
-use Rattle.std.specs.Option.{ForSome}
+use Rattle.std.specs.Prelude.{ℕ, Bool, true, false, if◌then◌else◌, codes, decimal, List, [], ◌∷◌, ◌++◌}
 use Rattle.std.specs.List.{flat_map}
-use Rattle.xfs_disk.specs.Faults.{HasCause}
-use Rattle.xfs_disk.specs.declared.failed.Failed.{Failed}
 use Rattle.xfs_tools.specs.declared.answer.Answer.{Answer}
 use Rattle.xfs_tools.specs.declared.answer.Answer.TheVariants.{Usage, Unbuilt, NoGeometry, Unsupported, Clean, Damaged, Repaired, ReadFault, WriteFault, OutputFault, NoMemory}
 use Rattle.xfs_tools.specs.declared.answer.Summary.{Summary}
 use Rattle.xfs_tools.specs.declared.answer.Summary.TheVariants.{Backups, Rebuilt}
 use Rattle.xfs_tools.specs.declared.answer.Finding.{Finding}
 use Rattle.xfs_tools.specs.declared.answer.Finding.TheVariants.{Part}
-use Rattle.xfs_tools.specs.declared.answer.Status.{Status}
 use Rattle.xfs_tools.specs.declared.texts.Number.{Number}
 use Rattle.xfs_tools.specs.declared.texts.Number.TheVariants.{Decimal, Hexadecimal}
 use Rattle.xfs_tools.specs.Hexadecimal.{hexadecimal}

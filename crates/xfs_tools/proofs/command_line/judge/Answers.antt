@@ -1,6 +1,6 @@
-use Rattle.std.proofs.Common.{◌≡◌, ℕ, ◌+◌, ◌∷◌, codes, length, Err, refl, sym, ap, ◌∙◌}
+use Rattle.std.proofs.Common.{◌≡◌, ◌+◌, length, Err, refl, sym, ap, ◌∙◌}
 use Rattle.xfs_tools.proofs.Offending.{refused_first}
-use Rattle.xfs_tools.specs.CommandLine.{Words, judged, reading_of, settled}
+use Rattle.xfs_tools.specs.CommandLine.{judged, reading_of, settled}
 use Rattle.xfs_tools.specs.declared.answer.Answer.TheVariants.{Usage}
 use Rattle.xfs_tools.proofs.command_line.judge.Goals as goal
 
