@@ -161,16 +161,40 @@ fn elections(rt: HostRuntime) -> Result<(), Fail> {
     let nothing = Err(ElectFault::NoGeometry);
     let refused = Err(ElectFault::Unsupported { word: 11, bits: 4 });
     let cases = [
-        ([(1024, &other), (2048, &four), (3072, &four)], Ok(2048)),
-        ([(1024, &other), (2048, &four), (3072, &zeros)], Ok(1024)),
-        ([(0, &other), (1024, &four), (2048, &four)], Ok(0)),
-        ([(0, &zeros), (0, &zeros), (1024, &no_inodes)], Ok(1024)),
-        ([(0, &zeros), (0, &zeros), (1024, &no_root)], nothing),
-        ([(0, &unsupported), (1024, &two), (2048, &four)], refused),
+        (
+            "two backups have more votes than one before them",
+            [(1024, &other), (2048, &four), (3072, &four)],
+            Ok(2048),
+        ),
+        (
+            "of as many votes the first block's are taken",
+            [(1024, &other), (2048, &four), (3072, &zeros)],
+            Ok(1024),
+        ),
+        (
+            "a primary that is accepted asks no backup",
+            [(0, &other), (1024, &four), (2048, &four)],
+            Ok(0),
+        ),
+        (
+            "a backup need not know the realtime inodes",
+            [(0, &zeros), (0, &zeros), (1024, &no_inodes)],
+            Ok(1024),
+        ),
+        (
+            "a backup has to know one inode",
+            [(0, &zeros), (0, &zeros), (1024, &no_root)],
+            nothing,
+        ),
+        (
+            "a refused feature of the primary asks no backup",
+            [(0, &unsupported), (1024, &two), (2048, &four)],
+            refused,
+        ),
     ];
-    for (supers, answer) in cases {
+    for (name, supers, answer) in cases {
         let elected = elect_of(&rt, rt.alloc(), &supers)?;
-        assert_eq!(rt; elected.map(|e| e.from), answer);
+        assert_eq!(rt; elected.map(|e| e.from), answer, "{name}");
     }
     Ok(())
 }

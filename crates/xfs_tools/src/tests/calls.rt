@@ -56,7 +56,7 @@ struct Row {
 }
 
 /// Repairs of each kind of disk, and of disks of which a call fails.
-const REPAIRS: [Row; 14] = [
+const REPAIRS: [Row; 15] = [
     Row {
         name: "a backup that disagrees is rewritten: two reads, a sync, a write and a sync",
         words: REPAIR,
@@ -188,6 +188,14 @@ const REPAIRS: [Row; 14] = [
     Row {
         name: "workers, a log and a file change nothing",
         words: &["xfs_repair", "-Lf", "-w", "1", "-n", "--", "-V"],
+        before: AGREEING,
+        failing: None,
+        told: &[("clean\n", 0)],
+        after: AGREEING,
+    },
+    Row {
+        name: "as many workers as there may be find a sound volume clean",
+        words: &["xfs_repair", "-nw64", "V"],
         before: AGREEING,
         failing: None,
         told: &[("clean\n", 0)],
