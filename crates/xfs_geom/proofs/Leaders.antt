@@ -3,7 +3,7 @@ use Rattle.std.proofs.Common.{◌≡◌, ℕ, ◌+◌, ◌<◌, ◌≤◌, ◌�
 use Rattle.std.specs.List.{find, list_all}
 use Rattle.std.specs.Option.{option_map}
 use Rattle.std.specs.Prelude.{if◌then◌else◌}
-use Rattle.std.proofs.lemmas.Bool.{eqb-true, leb-true, le-leb, ltb-true, false_from_ne_true}
+use Rattle.std.proofs.lemmas.Bool.{and_from, eqb-true, leb-true, le-leb, ltb-true, false_from_ne_true}
 use Rattle.xfs_geom.specs.Election.{Vote, choice, same_volume, votes_for, has_most, winner}
 use Rattle.xfs_geom.specs.Electing.{vote_of}
 use Rattle.xfs_geom.specs.Polls.{IsAmong, Ascends, IsTally, Tallies, Leads, HasLeader, with_vote, leading}
@@ -214,11 +214,7 @@ find_lowest test (x ∷ votes) best ascends among passes lowest =
 
 each_passes : (test : Vote → Bool) (votes : List Vote) → ((vote : Vote) → IsAmong vote votes → test vote ≡ true) → list_all test votes ≡ true
 each_passes test [] each = refl
-each_passes test (x ∷ votes) each = both (test x) (list_all test votes) (each x (inl refl)) (each_passes test votes (λ vote h. each vote (inr h)))
-  where
-    both : (a b : Bool) → a ≡ true → b ≡ true → (a && b) ≡ true
-    both true b p q = q
-    both false b p q = cc
+each_passes test (x ∷ votes) each = and_from (test x) (list_all test votes) (each x (inl refl)) (each_passes test votes (λ vote h. each vote (inr h)))
 
 passes_each : (test : Vote → Bool) (votes : List Vote) → list_all test votes ≡ true → (vote : Vote) → IsAmong vote votes → test vote ≡ true
 passes_each test [] all vote among = absurd among

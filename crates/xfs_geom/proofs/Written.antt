@@ -17,14 +17,7 @@ use Rattle.xfs_geom.specs.declared.reading.SuperFault.TheVariants.{NotSealed, Sh
 use Rattle.xfs_geom.specs.declared.records.Counts.{Counts}
 use Rattle.xfs_geom.specs.declared.stated.Stated.{Stated}
 use Rattle.xfs_geom.proofs.OwnVolume.{has_passed, each_holds}
-
-left : (a b : Bool) → (a && b) ≡ true → a ≡ true
-left true b h = refl
-left false b h = cc
-
-right : (a b : Bool) → (a && b) ≡ true → b ≡ true
-right true b h = h
-right false b h = cc
+use Rattle.xfs_geom.proofs.Votes.{left, right}
 
 either : (a b : Bool) → (a || b) ≡ true → (a ≡ true) ⊎ (b ≡ true)
 either true b h = inl refl
