@@ -17,3 +17,15 @@ pub ready_agf : (v : Volume) (ag : ℕ) (sector : List ℕ) → field_of sector 
 unfolding is_ready has_magic
 ready_agf v ag sector magic uuid seqno lsn =
     both_true (both_true (both_true (both_true (eq-eqb _ _ magic) (same_bytes _ _ uuid)) (eq-eqb _ _ seqno)) refl) lsn
+
+pub ready_agi : (v : Volume) (ag : ℕ) (sector : List ℕ) → field_of sector 0 4 ≡ 0x5841_4749 → part_of sector 296 16 ≡ v.uuid
+    → field_of sector 8 4 ≡ ag → is_lsn (field_of sector 320 8) ≡ true → is_ready (head_seal Kind.Agi v ag) sector ≡ true
+unfolding is_ready has_magic
+ready_agi v ag sector magic uuid seqno lsn =
+    both_true (both_true (both_true (both_true (eq-eqb _ _ magic) (same_bytes _ _ uuid)) (eq-eqb _ _ seqno)) refl) lsn
+
+pub ready_agfl : (v : Volume) (ag : ℕ) (sector : List ℕ) → field_of sector 0 4 ≡ 0x5841_464c → part_of sector 8 16 ≡ v.uuid
+    → field_of sector 4 4 ≡ ag → field_of sector 24 8 ≡ 0 → is_ready (head_seal Kind.Agfl v ag) sector ≡ true
+unfolding is_ready has_magic
+ready_agfl v ag sector magic uuid seqno lsn =
+    both_true (both_true (both_true (both_true (eq-eqb _ _ magic) (same_bytes _ _ uuid)) (eq-eqb _ _ seqno)) refl) (ap is_lsn lsn)

@@ -1,4 +1,4 @@
 pub mod Heads
 pub mod FreeSpace
--- F pub mod Inodes
--- F pub mod FreeList
+pub mod Inodes
+pub mod FreeList

@@ -3,15 +3,15 @@
 #![tactic(auto)]
 
 mod arrays;
-//F mod free_list;
+mod free_list;
 mod free_space;
 mod heads;
-//F mod inodes;
+mod inodes;
 pub mod layouts;
-//F #[cfg(test)]
-//F mod tests;
+
+
 
 pub use arrays::ArrayLayout;
-//F pub use free_list::{Agfl, put_agfl, read_agfl};
+pub use free_list::{Agfl, put_agfl, read_agfl};
 pub use free_space::{Agf, put_agf, read_agf};
-//F pub use inodes::{Agi, put_agi, read_agi};
+pub use inodes::{Agi, put_agi, read_agi};
