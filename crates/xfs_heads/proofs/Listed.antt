@@ -3,7 +3,8 @@ use Rattle.std.proofs.Common.{◌≡◌, ℕ, ◌+◌, ◌-◌, ◌*◌, ◌%◌
 use Rattle.std.specs.List.{list_all}
 use Rattle.std.specs.Cmp.Derive.{both_true}
 use Rattle.std.proofs.lemmas.Bool.{leb-true}
-use Rattle.std.proofs.lemmas.List.{same_lists, length-replicate, get_or-replicate, get_or_default, take-append_seam}
+use Rattle.std.proofs.lemmas.List.{same_lists, length-replicate, get_or-replicate, get_or_default}
+use Rattle.std.proofs.Math.Seq.{take-append_seam}
 use Rattle.std.proofs.lemmas.List.FromFn.{fill_by_all, length-map-range_with_len}
 use Rattle.xfs_word.specs.Field.{field_of}
 use Rattle.xfs_word.specs.Seal.{is_sealed}
@@ -59,7 +60,7 @@ filled sector first count entries small long front rest =
     as_unused (119 - count) (drop count entries) left_long (λ k h. get_or-drop count entries k 0 ∙ rest (count + k) (omega arith) (omega arith)) in
     sym (take-append-drop count entries) ∙ ap₂ (λ (a b : List ℕ). a ++ b) taken dropped
 
-few : (agf : Agf) → has_free_list agf ≡ true → agf.flcount ≤ 119
+pub few : (agf : Agf) → has_free_list agf ≡ true → agf.flcount ≤ 119
 few agf h = leb-true agf.flcount 119 (right _ _ (left _ _ h))
 
 seam : (xs ys : List ℕ) (n : ℕ) → length xs ≡ n → take n (xs ++ ys) ≡ xs
