@@ -46,6 +46,30 @@ as_unused n xs long same =
 taken_long : (n : ℕ) (xs : List ℕ) → n ≤ length xs → length (take n xs) ≡ n
 taken_long n xs h = grind (arith, length-take)
 
+-- entries of which the first are these, and none of the rest holds a block
+pub record IsListed (xs entries : List ℕ) : Type 0 where
+  pub taken : take (length xs) entries ≡ xs
+  pub dropped : drop (length xs) entries ≡ unused (119 - length xs)
+
+pub listed : (xs entries : List ℕ) → length xs ≤ 119 → length entries ≡ 119
+    → ((k : ℕ) → k < length xs → get_or entries k 0 ≡ get_or xs k 0)
+    → ((k : ℕ) → length xs ≤ k → k < 119 → get_or entries k 0 ≡ 0xffff_ffff)
+    → IsListed xs entries
+listed xs entries small long front rest =
+    let enough : length xs ≤ length entries = omega arith in
+    let n_long : length (take (length xs) entries) ≡ length xs = taken_long (length xs) entries enough in
+    let left_long : length (drop (length xs) entries) ≡ 119 - length xs = omega (arith, length-drop {A = ℕ}) in
+    record {
+      taken =
+        same_lists (take (length xs) entries) xs n_long
+        (λ k d h.
+          let low : k < length xs = omega arith in
+          get_or_default _ k d 0 h ∙ (get_or-take (length xs) entries k 0 low ∙ (front k low ∙ sym (get_or_default xs k d 0 low))));
+      dropped =
+        as_unused (119 - length xs) (drop (length xs) entries) left_long
+        (λ k h. get_or-drop (length xs) entries k 0 ∙ rest (length xs + k) (omega arith) (omega arith));
+    }
+
 -- entries of which so many are active, and none of the rest holds a block
 pub filled : (sector : List ℕ) (first count : ℕ) (entries : List ℕ) → count ≤ 119 → length entries ≡ 119
     → ((k : ℕ) → k < count → get_or entries k 0 ≡ entry sector ((first + k) % 119))

@@ -1,6 +1,6 @@
 //! The list of the blocks that a group keeps ready for its trees (AGFL).
 
-ghost use Rattle.std.specs.Prelude.{◌≡◌, ℕ, ◌-◌, ◌<◌, ◌≤◌, length, take, drop, Some, IsTrue};
+ghost use Rattle.std.specs.Prelude.{◌≡◌, ℕ, ◌-◌, ◌<◌, ◌≤◌, length, take, drop, Some, IfSome, IsTrue};
 ghost use Rattle.std.specs.List.{list_all};
 ghost use Rattle.xfs_word.specs.Field.{field_of, part_of, Keeps, KeepsParts};
 ghost use Rattle.xfs_word.specs.Seal.{is_ready, is_sealed};
@@ -32,6 +32,23 @@ pub struct Agfl {
 }
 
 impl Agfl {
+    /// The free list with these active entries.
+    pub fn new(ag_blocks: &[u32]) -> Agfl
+        requires { length ag_blocks.now ≤ 119 }
+        ensures count { result.count ≡ length ag_blocks.now }
+        ensures active { take result.count result.entries ≡ ag_blocks.now }
+        ensures unused { drop result.count result.entries ≡ unused (119 - result.count) }
+    {
+        let mut entries = [UNUSED; 119];
+        for (index, ag_block) in ag_blocks.iter().enumerate() {
+            entries[index] = *ag_block;
+        }
+        Agfl {
+            entries,
+            count: ag_blocks.len() as u32,
+        }
+    }
+
     /// The active entries.
     pub fn active(&self) -> &[u32]
         requires { self.now.count ≤ 119 }
@@ -56,7 +73,9 @@ impl Agfl {
 pub fn read_agfl(g: &Geometry, ag: u32, agf: &Agf, sector: &[u8]) -> Option<Agfl>
     requires group { ag < g.now.agcount }
     requires sector { length sector.now ≡ 512 }
-    ensures { result ≡ agfl_of (volume_of g.now) ag agf.now sector.now }
+    ensures value { result ≡ agfl_of (volume_of g.now) ag agf.now sector.now }
+    ensures count { IfSome result (λ agfl. agfl.count ≤ 119) }
+    ensures blocks { IfSome result (λ agfl. IsTrue (has_blocks (volume_of g.now) ag agfl)) }
 {
     if !agf.has_free_list() {
         return None;

@@ -1,6 +1,6 @@
 //! The header of a group's free space (AGF).
 
-ghost use Rattle.std.specs.Prelude.{◌≡◌, ℕ, ◌<◌, ◌≤◌, length, Some, IsTrue};
+ghost use Rattle.std.specs.Prelude.{◌≡◌, ℕ, ◌<◌, ◌≤◌, length, Some, IfSome, IsTrue};
 ghost use Rattle.xfs_word.specs.Crc.{little_field_of};
 ghost use Rattle.xfs_word.specs.Field.{field_of, part_of, Keeps, KeepsParts};
 ghost use Rattle.xfs_word.specs.Seal.{is_lsn, is_ready, is_sealed};
@@ -90,7 +90,8 @@ impl Agf {
 pub fn read_agf(g: &Geometry, ag: u32, sector: &[u8]) -> Option<Agf>
     requires group { ag < g.now.agcount }
     requires sector { length sector.now ≡ 512 }
-    ensures { result ≡ agf_of (volume_of g.now) ag sector.now }
+    ensures value { result ≡ agf_of (volume_of g.now) ag sector.now }
+    ensures shaped { IfSome result (λ agf. IsTrue (is_agf_shaped (volume_of g.now) ag agf)) }
 {
     if !sealed(&head_seal(SealKind::Agf, g, ag), sector) {
         return None;

@@ -9,9 +9,6 @@ ghost use Rattle.xfs_heads.specs.Heads.{head_seal, is_level, is_root, is_listabl
 use xfs_geom::Geometry;
 use xfs_word::{Seal, SealKind, seal};
 
-/// The bytes of a header, which is one sector.
-pub const SECTOR_SIZE: usize = 512;
-
 /// The seal of a header of this kind in an allocation group.
 pub fn head_seal(kind: SealKind, g: &Geometry, ag: u32) -> Seal
     ensures { result ≡ head_seal kind (volume_of g.now) ag }

@@ -1,6 +1,6 @@
 //! The header of a group's inodes (AGI).
 
-ghost use Rattle.std.specs.Prelude.{◌≡◌, ℕ, ◌<◌, ◌≤◌, length, Some, IsTrue};
+ghost use Rattle.std.specs.Prelude.{◌≡◌, ℕ, ◌<◌, ◌≤◌, length, Some, IfSome, IsTrue};
 ghost use Rattle.xfs_word.specs.Crc.{little_field_of};
 ghost use Rattle.xfs_word.specs.Field.{field_of, part_of, Keeps, KeepsParts};
 ghost use Rattle.xfs_word.specs.Seal.{is_lsn, is_ready, is_sealed};
@@ -67,7 +67,8 @@ impl Agi {
 pub fn read_agi(g: &Geometry, ag: u32, sector: &[u8]) -> Option<Agi>
     requires group { ag < g.now.agcount }
     requires sector { length sector.now ≡ 512 }
-    ensures { result ≡ agi_of (volume_of g.now) ag sector.now }
+    ensures value { result ≡ agi_of (volume_of g.now) ag sector.now }
+    ensures shaped { IfSome result (λ agi. IsTrue (is_agi_shaped (volume_of g.now) ag agi)) }
 {
     if !sealed(&head_seal(SealKind::Agi, g, ag), sector) {
         return None;

@@ -9,8 +9,8 @@ use Rattle.xfs_heads.proofs.Listed.{by_blocks}
 use Rattle.xfs_heads.proofs.ReadBack.{if_true, if_false}
 use Rattle.xfs_heads.proofs.free_list.read_agfl.Goals as goal
 
-pub returns-then-has_blocks : goal.returns-then-has_blocks
-returns-then-has_blocks c =
+pub returns-then-has_blocks-clause-value : goal.returns-then-has_blocks-clause-value
+returns-then-has_blocks-clause-value c =
     let v = volume_of c.args.g.now in
     let bounds : has_free_list c.args.agf.now ≡ true = search rules in
     let sealed : is_sealed (head_seal Kind.Agfl v c.args.ag) c.args.sector.now ≡ true = search rules in
@@ -18,8 +18,8 @@ returns-then-has_blocks c =
     ap Some c.stated-agfl.ensures
     ∙ sym (by_blocks v c.args.ag c.args.agf.now c.args.sector.now bounds sealed ∙ if_true _ _ _ (ap (has_blocks v c.args.ag) (sym c.stated-agfl.ensures) ∙ blocks))
 
-pub returns-else-has_blocks : goal.returns-else-has_blocks
-returns-else-has_blocks c =
+pub returns-else-has_blocks-clause-value : goal.returns-else-has_blocks-clause-value
+returns-else-has_blocks-clause-value c =
     let v = volume_of c.args.g.now in
     let bounds : has_free_list c.args.agf.now ≡ true = search rules in
     let sealed : is_sealed (head_seal Kind.Agfl v c.args.ag) c.args.sector.now ≡ true = search rules in
