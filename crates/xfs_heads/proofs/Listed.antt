@@ -40,8 +40,8 @@ unfolding unused
 as_unused n xs long same =
     same_lists xs (replicate n 0xffff_ffff) (long ∙ sym (length-replicate n 0xffff_ffff))
     (λ k d h.
-      let low : k < n = omega arith in
-      get_or_default xs k d 0 h ∙ (same k low ∙ sym (get_or-replicate n k 0xffff_ffff d low)))
+    let low : k < n = omega arith in
+    get_or_default xs k d 0 h ∙ (same k low ∙ sym (get_or-replicate n k 0xffff_ffff d low)))
 
 taken_long : (n : ℕ) (xs : List ℕ) → n ≤ length xs → length (take n xs) ≡ n
 taken_long n xs h = grind (arith, length-take)
@@ -61,13 +61,13 @@ listed xs entries small long front rest =
     let left_long : length (drop (length xs) entries) ≡ 119 - length xs = omega (arith, length-drop {A = ℕ}) in
     record {
       taken =
-        same_lists (take (length xs) entries) xs n_long
-        (λ k d h.
+          same_lists (take (length xs) entries) xs n_long
+          (λ k d h.
           let low : k < length xs = omega arith in
           get_or_default _ k d 0 h ∙ (get_or-take (length xs) entries k 0 low ∙ (front k low ∙ sym (get_or_default xs k d 0 low))));
       dropped =
-        as_unused (119 - length xs) (drop (length xs) entries) left_long
-        (λ k h. get_or-drop (length xs) entries k 0 ∙ rest (length xs + k) (omega arith) (omega arith));
+          as_unused (119 - length xs) (drop (length xs) entries) left_long
+          (λ k h. get_or-drop (length xs) entries k 0 ∙ rest (length xs + k) (omega arith) (omega arith));
     }
 
 -- entries of which so many are active, and none of the rest holds a block
@@ -109,9 +109,9 @@ first_taken sector entries count small long same =
     let enough : count ≤ length entries = omega arith in
     as_active sector 0 count (take count entries) (taken_long count entries enough)
     (λ k h.
-      let low : k < 119 = omega arith in
-      let place : k ≡ (0 + k) % 119 = omega arith in
-      get_or-take count entries k 0 h ∙ (ap (λ (xs : List ℕ). get_or xs k 0) (sym same) ∙ (numbers_at sector 36 119 k low ∙ ap (entry sector) place)))
+    let low : k < 119 = omega arith in
+    let place : k ≡ (0 + k) % 119 = omega arith in
+    get_or-take count entries k 0 h ∙ (ap (λ (xs : List ℕ). get_or xs k 0) (sym same) ∙ (numbers_at sector 36 119 k low ∙ ap (entry sector) place)))
 
 pub read_back_agfl : (v : Volume) (ag : ℕ) (agf : Agf) (agfl : Agfl) (sector : List ℕ) → length agfl.entries ≡ 119 → agfl.count ≤ 119
     → has_blocks v ag agfl ≡ true → drop agfl.count agfl.entries ≡ unused (119 - agfl.count)

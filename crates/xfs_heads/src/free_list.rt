@@ -84,7 +84,11 @@ pub fn read_agfl(g: &Geometry, ag: u32, agf: &Agf, sector: &[u8]) -> Option<Agfl
         return None;
     }
     let agfl = stated(agf, sector);
-    if agfl.has_blocks(g, ag) { Some(agfl) } else { None }
+    if agfl.has_blocks(g, ag) {
+        Some(agfl)
+    } else {
+        None
+    }
 }
 
 /// The active entries, before any of them is judged.

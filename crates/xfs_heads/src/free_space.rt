@@ -97,7 +97,11 @@ pub fn read_agf(g: &Geometry, ag: u32, sector: &[u8]) -> Option<Agf>
         return None;
     }
     let agf = stated(sector);
-    if agf.is_shaped(g, ag) { Some(agf) } else { None }
+    if agf.is_shaped(g, ag) {
+        Some(agf)
+    } else {
+        None
+    }
 }
 
 /// The values that a sector states, before any of them is judged.

@@ -74,7 +74,11 @@ pub fn read_agi(g: &Geometry, ag: u32, sector: &[u8]) -> Option<Agi>
         return None;
     }
     let agi = stated(sector);
-    if agi.is_shaped(g, ag) { Some(agi) } else { None }
+    if agi.is_shaped(g, ag) {
+        Some(agi)
+    } else {
+        None
+    }
 }
 
 /// The values that a sector states, before any of them is judged.

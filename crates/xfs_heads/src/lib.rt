@@ -8,8 +8,8 @@ mod free_space;
 mod heads;
 mod inodes;
 pub mod layouts;
-
-
+#[cfg(test)]
+mod tests;
 
 pub use arrays::ArrayLayout;
 pub use free_list::{Agfl, put_agfl, read_agfl};

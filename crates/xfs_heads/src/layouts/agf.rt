@@ -145,24 +145,6 @@ pub const CRC: FieldLayout = FieldLayout {
 
 /// Every field, in the order of their offsets.
 pub const AGF: [FieldLayout; 20] = [
-    MAGICNUM,
-    VERSIONNUM,
-    SEQNO,
-    LENGTH,
-    BNOROOT,
-    CNTROOT,
-    RMAPROOT,
-    BNOLEVEL,
-    CNTLEVEL,
-    RMAPLEVEL,
-    FLFIRST,
-    FLLAST,
-    FLCOUNT,
-    FREEBLKS,
-    LONGEST,
-    BTREEBLKS,
-    UUID,
-    RMAPBLOCKS,
-    LSN,
-    CRC,
+    MAGICNUM, VERSIONNUM, SEQNO, LENGTH, BNOROOT, CNTROOT, RMAPROOT, BNOLEVEL, CNTLEVEL, RMAPLEVEL,
+    FLFIRST, FLLAST, FLCOUNT, FREEBLKS, LONGEST, BTREEBLKS, UUID, RMAPBLOCKS, LSN, CRC,
 ];

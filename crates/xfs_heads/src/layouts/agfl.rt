@@ -47,10 +47,4 @@ pub const BNO: ArrayLayout = ArrayLayout {
 };
 
 /// Every field but the array, in the order of their offsets.
-pub const AGFL: [FieldLayout; 5] = [
-    MAGICNUM,
-    SEQNO,
-    UUID,
-    LSN,
-    CRC,
-];
+pub const AGFL: [FieldLayout; 5] = [MAGICNUM, SEQNO, UUID, LSN, CRC];

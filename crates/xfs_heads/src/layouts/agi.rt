@@ -118,19 +118,6 @@ pub const UNLINKED: ArrayLayout = ArrayLayout {
 
 /// Every field but the array, in the order of their offsets.
 pub const AGI: [FieldLayout; 15] = [
-    MAGICNUM,
-    VERSIONNUM,
-    SEQNO,
-    LENGTH,
-    COUNT,
-    ROOT,
-    LEVEL,
-    FREECOUNT,
-    NEWINO,
-    DIRINO,
-    UUID,
-    CRC,
-    LSN,
-    FREE_ROOT,
-    FREE_LEVEL,
+    MAGICNUM, VERSIONNUM, SEQNO, LENGTH, COUNT, ROOT, LEVEL, FREECOUNT, NEWINO, DIRINO, UUID, CRC,
+    LSN, FREE_ROOT, FREE_LEVEL,
 ];
