@@ -1,5 +1,5 @@
 -- Headers that are ready to be sealed.
-use Rattle.std.proofs.Common.{◌≡◌, ℕ, true, List, bytes_eq, refl, sym, ap, ◌∙◌}
+use Rattle.std.proofs.Common.{◌≡◌, ℕ, true, List, bytes_eq, refl, ap}
 use Rattle.std.specs.Cmp.Derive.{both_true}
 use Rattle.std.proofs.lemmas.Bool.{eq-eqb}
 use Rattle.std.proofs.lemmas.Slice.Eq.{bytes_eq-Decides}

@@ -1,5 +1,5 @@
 -- The free list of a group: blocks that are kept ready for its trees (chapter "AG Free Space Management").
-use Rattle.std.specs.Prelude.{◌≡◌, ℕ, Bool, ◌+◌, ◌-◌, ◌*◌, ◌%◌, ◌&&◌, if◌then◌else◌, List, ◌++◌, map, take, replicate, Option, Some, None}
+use Rattle.std.specs.Prelude.{ℕ, Bool, ◌+◌, ◌-◌, ◌*◌, ◌%◌, ◌&&◌, if◌then◌else◌, List, ◌++◌, map, take, replicate, Option, Some, None}
 use Rattle.std.specs.List.{range_with_len, list_all}
 use Rattle.xfs_word.specs.Field.{field_of}
 use Rattle.xfs_word.specs.Seal.{is_sealed}

@@ -1,6 +1,7 @@
 //! Headers of a volume of two groups of 1024 blocks, with its log at AG block 6 of the second.
 
-ghost use Rattle.std.specs.Prelude.{◌≡◌, ◌<◌, ◌≤◌, length};
+ghost use Rattle.std.specs.Prelude.{◌≡◌, ◌+◌, ◌<◌, ◌≤◌};
+ghost use Rattle.xfs_word.specs.Seal.{layout_of};
 
 use super::*;
 use crate::layouts::{agf, agfl, agi};
@@ -33,7 +34,8 @@ fn volume() -> Geometry
 
 /// A sector with another number at a byte offset, sealed as a header of this kind in the first group.
 fn with_number(sector: &[u8; 512], kind: SealKind, at: usize, number: u32) -> [u8; 512]
-    requires { at + 4 ≤ 512 }
+    requires inside { at + 4 ≤ 512 }
+    requires kind { (layout_of kind).size ≡ 512 }
 {
     let mut changed = *sector;
     put32(&mut changed, at, number);

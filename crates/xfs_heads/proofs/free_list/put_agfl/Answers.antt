@@ -1,7 +1,5 @@
-use Rattle.std.proofs.Common.{◌≡◌, ℕ, ◌∙◌, rules, length}
+use Rattle.std.proofs.Common.{◌≡◌, ◌∙◌, rules, length}
 use Rattle.xfs_geom.specs.Volumes.{volume_of}
-use Rattle.xfs_word.specs.Field.{field_of, part_of}
-use Rattle.xfs_heads.specs.Heads.{numbers}
 use Rattle.xfs_heads.proofs.Ready.{ready_agfl}
 use Rattle.xfs_heads.proofs.Listed.{read_back_agfl}
 use Rattle.xfs_heads.proofs.free_list.put_agfl.Goals as goal

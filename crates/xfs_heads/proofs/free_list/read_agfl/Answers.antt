@@ -4,7 +4,7 @@ use Rattle.xfs_word.specs.Seal.{is_sealed}
 use Rattle.xfs_word.specs.declared.kinds.SealKind.TheVariants as Kind
 use Rattle.xfs_heads.specs.Heads.{head_seal}
 use Rattle.xfs_heads.specs.FreeSpace.{has_free_list}
-use Rattle.xfs_heads.specs.FreeList.{has_blocks, stated_agfl}
+use Rattle.xfs_heads.specs.FreeList.{has_blocks}
 use Rattle.xfs_heads.proofs.Listed.{by_blocks}
 use Rattle.xfs_heads.proofs.ReadBack.{if_true, if_false}
 use Rattle.xfs_heads.proofs.free_list.read_agfl.Goals as goal

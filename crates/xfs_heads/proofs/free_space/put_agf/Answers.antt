@@ -1,4 +1,4 @@
-use Rattle.std.proofs.Common.{◌≡◌, ◌∙◌, ap, subst, sym, IsTrue}
+use Rattle.std.proofs.Common.{◌∙◌, ap}
 use Rattle.xfs_geom.specs.Volumes.{volume_of}
 use Rattle.xfs_heads.specs.declared.free_space.Agf.{Agf}
 use Rattle.xfs_heads.proofs.Ready.{ready_agf}

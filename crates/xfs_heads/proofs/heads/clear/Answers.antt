@@ -1,4 +1,4 @@
-use Rattle.std.proofs.Common.{◌≡◌, ℕ, replicate, ◌∙◌, ap}
+use Rattle.std.proofs.Common.{ℕ, replicate, ◌∙◌, ap}
 use Rattle.xfs_heads.proofs.Zeros.{zero_part}
 use Rattle.xfs_heads.proofs.heads.clear.Goals as goal
 

@@ -1,4 +1,4 @@
-use Rattle.std.proofs.Common.{◌≡◌, ℕ, lit≤, inl, rules}
+use Rattle.std.proofs.Common.{◌≡◌, lit≤, inl, rules}
 use Rattle.xfs_heads.specs.Heads.{numbers}
 use Rattle.xfs_heads.proofs.Kept.{numbers_kept}
 use Rattle.xfs_heads.proofs.inodes.seal_agi.Goals as goal

@@ -1,4 +1,4 @@
-use Rattle.std.proofs.Common.{◌≡◌, ℕ, ◌+◌, ◌*◌, ◌<◌, length, refl, sym, arith}
+use Rattle.std.proofs.Common.{◌+◌, ◌*◌, length, refl, sym, arith}
 use Rattle.std.proofs.lemmas.List.FromFn.{fill_by_all}
 use Rattle.xfs_word.specs.Field.{field_of}
 use Rattle.xfs_heads.specs.Heads.{numbers}

@@ -1,4 +1,4 @@
-use Rattle.std.proofs.Common.{◌≡◌, ℕ, ◌<◌, ◌≤◌, get_or, refl, arith}
+use Rattle.std.proofs.Common.{refl, arith}
 use Rattle.std.proofs.lemmas.List.{get_or-replicate}
 use Rattle.xfs_heads.proofs.Listed.{IsListed, listed}
 use Rattle.xfs_heads.proofs.free_list.Agfl.new.Goals as goal
