@@ -3,6 +3,8 @@
 ghost use Rattle.std.specs.Prelude.{◌≡◌, ◌+◌, ◌<◌, ◌≤◌};
 ghost use Rattle.xfs_word.specs.Seal.{layout_of};
 
+mod real;
+
 use super::*;
 use crate::layouts::{agf, agfl, agi};
 use std::process::Abort;
