@@ -1,0 +1,5 @@
+pub mod Zeros
+pub mod Ready
+pub mod ReadBack
+pub mod Kept
+pub mod Listed

@@ -1,0 +1,4 @@
+pub mod Heads
+pub mod FreeSpace
+pub mod Inodes
+pub mod FreeList
