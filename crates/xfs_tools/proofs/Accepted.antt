@@ -4,10 +4,10 @@ use Rattle.xfs_disk.specs.Blocks.{Image}
 use Rattle.xfs_geom.proofs.Bounds.{group_start}
 use Rattle.xfs_geom.specs.Volumes.{Volume, volume_of, stated_volume}
 use Rattle.xfs_geom.specs.declared.geometry.Geometry.{Geometry}
-use Rattle.xfs_geom.specs.Election.{Vote, elected}
+use Rattle.xfs_geom.specs.Election.{Vote, block_of, elected, super_of}
 use Rattle.xfs_tools.proofs.Electing.{IsPrimary, is_primary}
 use Rattle.xfs_tools.proofs.Repaired.{IsAccepted, due_accepted, due_some, is_repaired}
-use Rattle.xfs_tools.specs.Backups.{block_of, super_of, start_of, steps_from, backup_plan}
+use Rattle.xfs_tools.specs.Backups.{start_of, steps_from, backup_plan}
 use Rattle.xfs_tools.specs.Due.{due_backups, due_check, due_elected, due_plan, due_repair, first_disagreeing}
 use Rattle.xfs_tools.specs.Outcome.{IsDue, IsKept, Leaves, Writes}
 use Rattle.xfs_tools.specs.Plans.{Plan, IsPartly, written}

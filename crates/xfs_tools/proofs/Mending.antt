@@ -7,7 +7,8 @@ use Rattle.xfs_disk.specs.Blocks.{Image}
 use Rattle.xfs_geom.specs.Superblocks.{is_agreeing}
 use Rattle.xfs_geom.specs.Volumes.{stated_volume}
 use Rattle.xfs_tools.proofs.Writing.{written-append}
-use Rattle.xfs_tools.specs.Backups.{block_of, super_of, with_super, step_of, start_of, steps_from}
+use Rattle.xfs_geom.specs.Election.{block_of, super_of}
+use Rattle.xfs_tools.specs.Backups.{with_super, step_of, start_of, steps_from}
 use Rattle.xfs_tools.specs.Plans.{Plan, written}
 
 pub block_set_same : (image : Image) (at : ℕ) (bytes : List ℕ) → at < length image → block_of (slice_set image at bytes) at ≡ bytes

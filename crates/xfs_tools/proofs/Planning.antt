@@ -3,7 +3,8 @@ use Rattle.std.proofs.Common.{◌≡◌, ℕ, ◌+◌, ◌-◌, ◌<◌, List, �
 use Rattle.xfs_disk.specs.Blocks.{Image}
 use Rattle.xfs_geom.specs.Superblocks.{is_agreeing}
 use Rattle.xfs_geom.specs.Volumes.{stated_volume}
-use Rattle.xfs_tools.specs.Backups.{block_of, super_of, start_of, step_of, steps_from}
+use Rattle.xfs_geom.specs.Election.{block_of, super_of}
+use Rattle.xfs_tools.specs.Backups.{start_of, step_of, steps_from}
 use Rattle.xfs_tools.specs.Due.{first_disagreeing}
 use Rattle.xfs_tools.specs.Plans.{Plan}
 

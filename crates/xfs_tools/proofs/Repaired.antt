@@ -8,7 +8,8 @@ use Rattle.xfs_geom.specs.Volumes.{stated_volume}
 use Rattle.xfs_geom.proofs.OwnVolume.{agrees_with_itself}
 use Rattle.xfs_tools.proofs.Electing.{elected_primary}
 use Rattle.xfs_tools.proofs.Mending.{length-written, mended_block, mended_agreeing, mended_other, step_agreeing, steps_other, steps_same}
-use Rattle.xfs_tools.specs.Backups.{block_of, super_of, start_of, steps_from, backup_plan}
+use Rattle.xfs_geom.specs.Election.{block_of, super_of}
+use Rattle.xfs_tools.specs.Backups.{start_of, steps_from, backup_plan}
 use Rattle.xfs_tools.specs.Due.{due_backups, due_check, due_elected, due_plan, due_repair, first_disagreeing}
 use Rattle.xfs_tools.specs.Outcome.{IsMended, IsRepaired}
 use Rattle.xfs_tools.specs.Plans.{Plan, written}

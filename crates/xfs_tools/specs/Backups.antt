@@ -1,19 +1,12 @@
 -- Backup superblocks: what a primary asks of them, and the plan that makes them agree (chapter
 -- "Superblocks"; xfs_repair(8)).
-use Rattle.std.specs.Prelude.{ℕ, ◌-◌, ◌*◌, if◌then◌else◌, List, [], ◌∷◌, ◌++◌, take, drop, slice_get, unwrap_or}
+use Rattle.std.specs.Prelude.{ℕ, ◌-◌, ◌*◌, if◌then◌else◌, List, [], ◌∷◌, ◌++◌, drop}
 use Rattle.std.specs.List.{flat_map, range_with_len}
 use Rattle.xfs_disk.specs.Blocks.{Image}
+use Rattle.xfs_geom.specs.Election.{block_of, super_of}
 use Rattle.xfs_geom.specs.Superblocks.{is_agreeing}
 use Rattle.xfs_geom.specs.Volumes.{stated_volume}
 use Rattle.xfs_tools.specs.Plans.{Plan}
-
--- the bytes of a block of the image
-abbrev pub block_of : Image → ℕ → List ℕ
-block_of image at = unwrap_or (slice_get image at) []
-
--- the superblock of a block: its first sector
-abbrev pub super_of : List ℕ → List ℕ
-super_of block = take 512 block
 
 -- a block with its first sector replaced by the primary superblock
 abbrev pub with_super : List ℕ → List ℕ → List ℕ

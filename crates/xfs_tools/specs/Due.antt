@@ -2,12 +2,12 @@
 use Rattle.std.specs.Prelude.{ℕ, ◌-◌, Bool, false, ◌==◌, not, if◌then◌else◌, List, [], ◌∷◌, length, Option, Some, None, Result, Ok, Err}
 use Rattle.std.specs.List.{find, range_with_len}
 use Rattle.xfs_disk.specs.Blocks.{Image}
-use Rattle.xfs_geom.specs.Election.{Vote, elected}
+use Rattle.xfs_geom.specs.Election.{Vote, block_of, elected, super_of}
 use Rattle.xfs_geom.specs.Superblocks.{is_agreeing}
 use Rattle.xfs_geom.specs.Volumes.{stated_volume}
 use Rattle.xfs_geom.specs.declared.election.ElectFault.{ElectFault}
 use Rattle.xfs_geom.specs.declared.election.ElectFault.TheVariants as fault
-use Rattle.xfs_tools.specs.Backups.{backup_plan, block_of, start_of, super_of}
+use Rattle.xfs_tools.specs.Backups.{backup_plan, start_of}
 use Rattle.xfs_tools.specs.CommandLine.{Words, judged}
 use Rattle.xfs_tools.specs.Plans.{Plan}
 use Rattle.xfs_tools.specs.declared.answer.Answer.{Answer}

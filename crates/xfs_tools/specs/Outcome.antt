@@ -6,7 +6,8 @@ use Rattle.xfs_disk.specs.Faults.{Rose, HasCause}
 use Rattle.xfs_disk.specs.declared.failed.Failed.{Failed}
 use Rattle.xfs_geom.specs.Superblocks.{is_agreeing}
 use Rattle.xfs_geom.specs.Volumes.{stated_volume}
-use Rattle.xfs_tools.specs.Backups.{block_of, super_of, with_super, start_of, backup_plan}
+use Rattle.xfs_geom.specs.Election.{block_of, super_of}
+use Rattle.xfs_tools.specs.Backups.{with_super, start_of, backup_plan}
 use Rattle.xfs_tools.specs.Due.{due_repair}
 use Rattle.xfs_tools.specs.Plans.{Plan, written, IsPartly}
 use Rattle.xfs_tools.specs.Texts.{text_of, is_for_out, code_of}

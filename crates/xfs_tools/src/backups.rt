@@ -5,7 +5,8 @@ ghost use Rattle.std.specs.Option.{ForSome};
 ghost use Rattle.xfs_disk.specs.Faults.{HasCause};
 ghost use Rattle.xfs_geom.specs.Superblocks.{is_agreeing};
 ghost use Rattle.xfs_geom.specs.Volumes.{volume_of, stated_volume};
-ghost use Rattle.xfs_tools.specs.Backups.{block_of, start_of, step_of, steps_from, super_of, with_super};
+ghost use Rattle.xfs_geom.specs.Election.{block_of, super_of};
+ghost use Rattle.xfs_tools.specs.Backups.{start_of, step_of, steps_from, with_super};
 ghost use Rattle.xfs_tools.specs.Due.{first_disagreeing};
 ghost use Rattle.xfs_tools.specs.Planning.{HasPlanCause};
 
