@@ -10,7 +10,7 @@ blocks_more : (most m : ℕ) → 1 ≤ m → blocks_for most m ≡ (m - 1) / mos
 blocks_more most m some = grind (arith, nat_tests)
 
 -- half as many blocks, or one more, hold the blocks of a level with two or more
-fewer : (most m : ℕ) → 2 ≤ most → 2 ≤ m → 2 * blocks_for most m ≤ m + 1
+pub fewer : (most m : ℕ) → 2 ≤ most → 2 ≤ m → 2 * blocks_for most m ≤ m + 1
 fewer most m two some =
     let value : blocks_for most m ≡ (m - 1) / most + 1 = blocks_more most m (omega arith) in
     let whole : (m - 1) / most * most ≤ m - 1 = div-mul-le_self (m - 1) most in
@@ -18,7 +18,7 @@ fewer most m two some =
     omega (arith, value, whole, twice)
 
 -- there is no level above one block
-rows_end : (fuel most m : ℕ) → m ≤ 1 → rows_above fuel most m ≡ []
+pub rows_end : (fuel most m : ℕ) → m ≤ 1 → rows_above fuel most m ≡ []
 unfolding rows_above
 rows_end zero most m one = refl
 rows_end (suc fuel) most m one =
@@ -42,6 +42,15 @@ rows_fuel (suc f) (suc g) most m two in_f in_g =
     by_case (inl low) again = rows_end (suc f) most m (omega arith) ∙ sym (rows_end (suc g) most m (omega arith))
     by_case (inr high) again =
         rows_more f most m high ∙ ap (λ (rows : List ℕ). blocks_for most m ∷ rows) (again high) ∙ sym (rows_more g most m high)
+
+-- the level above a level of two blocks or more, and all above it
+pub rows_next : (most m : ℕ) → 2 ≤ most → 2 ≤ m
+    → rows_above m most m ≡ blocks_for most m ∷ rows_above (blocks_for most m) most (blocks_for most m)
+rows_next most zero two some = absurd (omega arith)
+rows_next most (suc f) two some =
+    let half = fewer most (suc f) two some in
+    let next = blocks_for most (suc f) in
+    rows_more f most (suc f) some ∙ ap (λ (rows : List ℕ). next ∷ rows) (rows_fuel f next most next two (omega (arith, half)) (omega arith))
 
 -- a sum begins with its first number
 sum_from : (a : ℕ) (rows : List ℕ) → fold ◌+◌ a rows ≡ a + sum rows

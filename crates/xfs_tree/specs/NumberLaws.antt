@@ -4,7 +4,7 @@ use Rattle.std.specs.Bool.{IsTrue}
 use Rattle.std.specs.Cmp.{nat_cmp_is}
 use Rattle.std.proofs.lemmas.Bool.{ltb-true}
 use Rattle.std.proofs.lemmas.Nat.{from_be_bytes-to_be_bytes_4}
-use Rattle.std.proofs.lemmas.Cmp.{nat_cmp_total}
+use Rattle.std.proofs.lemmas.Cmp.{nat_cmp_total, nat_eq_equiv}
 use Rattle.xfs_tree.specs.Shape.{IsKind}
 use Rattle.xfs_tree.specs.Numbers.{numbers, is_number, is_next}
 
@@ -32,8 +32,10 @@ numbers_kind owner = record {
     two_children = omega arith;
     leaf_fits = omega arith;
     node_fits = omega arith;
+    long_magic = λ h. cc;
   };
   total = nat_cmp_total;
+  same_as_itself = λ n. nat_eq_equiv.refl n;
   record_len = λ n h. refl;
   key_len = λ n h. refl;
   record_again = λ n h. from_be_bytes-to_be_bytes_4 n (ltb-true n (2 ^ 32) h);

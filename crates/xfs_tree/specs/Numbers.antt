@@ -1,5 +1,5 @@
 -- A kind of tree for tests: ascending numbers of four bytes, each its own key.
-use Rattle.std.specs.Prelude.{ℕ, ◌^◌, ◌&&◌, Bool, false, nat_lt, Option, Some, None}
+use Rattle.std.specs.Prelude.{ℕ, ◌^◌, ◌&&◌, ◌==◌, Bool, false, nat_lt, Option, Some, None}
 use Rattle.std.specs.Int.{from_be_bytes, to_be_bytes, w32}
 use Rattle.std.specs.Ordering.{nat_cmp}
 use Rattle.xfs_tree.specs.declared.layout.Layout.{Layout}
@@ -27,6 +27,7 @@ numbers owner = record {
   low = λ n. n;
   high = λ n. n;
   order = nat_cmp;
+  same = λ a b. a == b;
   fits = is_number;
   fits_key = is_number;
   lawful = λ v before n. is_next before n;

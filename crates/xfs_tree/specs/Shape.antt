@@ -18,6 +18,8 @@ pub record Shape (R K : Type 0) : Type 0 where
   pub low : R → K
   pub high : R → K
   pub order : K → K → Ordering
+  -- whether two keys are equal
+  pub same : K → K → Bool
   -- records that can be put, and their keys
   pub fits : R → Bool
   pub fits_key : K → Bool
@@ -29,6 +31,7 @@ pub record Shape (R K : Type 0) : Type 0 where
 pub record IsKind {R K : Type 0} (s : Shape R K) : Type 0 where
   pub laid_out : IsLayout s.layout
   pub total : IsTotalOrder s.order
+  pub same_as_itself : (k : K) → IsTrue (s.same k k)
   -- what is put has its length and is read back
   pub record_len : (r : R) → IsTrue (s.fits r) → length (s.record_bytes r) ≡ s.layout.record_len
   pub key_len : (k : K) → IsTrue (s.fits_key k) → length (s.key_bytes k) ≡ s.layout.key_len

@@ -101,7 +101,9 @@ pub trait Kind: Sync {
     // The constants are those of the shape.
     ghost numbers: { (k : Self) → (shape k).layout ≡ record { magic = MAGIC; long = LONG; high = HIGH; record_len = RECORD_LEN; key_len = KEY_LEN; leaf_cap = LEAF_CAP; node_cap = NODE_CAP } };
 
-    // Keys that compare as equal are equal.
+    // Keys are compared as the shape says, and keys that compare as equal are equal.
+    ghost compared: { (k : Self) (a b : Self.Key) → Self.Key.eq a b ≡ (shape k).same a b };
+
     ghost same: { (a b : Self.Key) → Self.Key.eq a b ≡ true → a ≡ b };
 
     // What the shape keeps.

@@ -93,6 +93,8 @@ impl Kind for Numbers {
 
     ghost numbers = { λ _. refl };
 
+    ghost compared = { λ _ a b. refl };
+
     ghost same = { Prim.search rules };
 
     ghost kind = { λ k. numbers_kind k.ag };

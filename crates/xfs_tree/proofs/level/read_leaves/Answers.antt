@@ -1,0 +1,66 @@
+use Rattle.std.proofs.Common.{rules, ◌≡◌, ◌+◌, ◌∷◌, drop, None, sym, ◌∙◌, ap, arith}
+use Rattle.xfs_geom.specs.Volumes.{volume_of}
+use Rattle.xfs_tree.specs.declared.seats.Seat.{Seat}
+use Rattle.xfs_tree.specs.Reading.{bytes_at}
+use Rattle.xfs_tree.specs.Rules.{last_of}
+use Rattle.xfs_tree.specs.Blocks.{records_of}
+use Rattle.xfs_tree.proofs.Causes.{reads_on, caused_before, fault_of_row}
+use Rattle.xfs_tree.proofs.RowSteps.{left_from, none_left, held_more, held_all, places_more, row_more, row_stops, row_ends}
+use Rattle.xfs_tree.proofs.level.read_leaves.Goals as goal
+
+pub returns-in-Err-clause-judged : goal.returns-in-Err-clause-judged
+returns-in-Err-clause-judged g c = λ image told.
+    let row = c.args.row.now in
+    let i = c.loop-i.i in
+    let seat = c.index-row-i.result in
+    fault_of_row _ _ c.in-Err.fault
+    (λ fault broken. row_stops (g.K.Kind.shape c.args.kind.now) (volume_of c.args.g.now) image 0 c.loop-i.met.blocks.items c.loop-i.left None c.place_at.result c.loop-i.before seat
+    (drop i row) (drop (i + 1) row) _ fault (left_from row i seat (search rules) c.index-row-i.is) c.place_at.ensures broken (c.loop-i.invariant.judged image told))
+    (c.in-Err.ensures.judged image (c.loop-i.invariant.disk.same_contents ∙ told))
+
+pub returns-in-Err-clause-cause : goal.returns-in-Err-clause-cause
+returns-in-Err-clause-cause g c = caused_before _ _ _ c.in-Err.fault c.loop-i.invariant.later c.in-Err.ensures.cause
+
+pub returns-in-Err-clause-disk : goal.returns-in-Err-clause-disk
+returns-in-Err-clause-disk g c =
+    let D = g.D.Disk in
+    reads_on D.size D.holds D.write_faults D.tells_stops D.may_leave c.args.disk.now c.loop-i.disk c.enter.new.disk c.loop-i.invariant.disk c.in-Err.ensures.disk
+
+pub returns-in-Err-push_records-clause-disk : goal.returns-in-Err-push_records-clause-disk
+returns-in-Err-push_records-clause-disk g c =
+    let D = g.D.Disk in
+    reads_on D.size D.holds D.write_faults D.tells_stops D.may_leave c.args.disk.now c.loop-i.disk c.enter.new.disk c.loop-i.invariant.disk c.in-Ok.ensures.disk
+
+pub loop-i-preserved : goal.loop-i-preserved
+loop-i-preserved g c =
+    let D = g.D.Disk in
+    let s = g.K.Kind.shape c.args.kind.now in
+    let v = volume_of c.args.g.now in
+    let row = c.args.row.now in
+    let i = c.loop-i.i in
+    let seat = c.index-row-i.result in
+    let split : drop i row ≡ seat ∷ drop (i + 1) row = left_from row i seat (search rules) c.index-row-i.is in
+    let before = c.loop-i.invariant in
+    record {
+      ends = before.ends;
+      met = c.in-Ok.ensures.met;
+      judged = λ image told. row_more s v image 0 c.loop-i.met.blocks.items c.enter.new.met.blocks.items c.loop-i.left None c.place_at.result c.loop-i.before c.last_record-before.result seat
+          (drop i row) (drop (i + 1) row) _ split c.place_at.ensures c.in-Ok.ensures.blocks (c.last_record-before.ensures ∙ ap (λ block. last_of c.loop-i.before (records_of s block)) (sym (c.in-Ok.ensures.bytes image (before.disk.same_contents ∙ told))))
+          (c.in-Ok.ensures.judged image (before.disk.same_contents ∙ told)) (before.judged image told);
+      records = λ image told. held_more (λ (seat : Seat g.row.K-Key.Denot). records_of s (bytes_at image seat.place)) seat (drop i row) (drop (i + 1) row)
+          c.loop-i.records.items c.push_records.new.records.items _ split (search rules) (before.records image told);
+      blocks = places_more seat (drop i row) (drop (i + 1) row) c.loop-i.met.blocks.items c.enter.new.met.blocks.items _ split c.in-Ok.ensures.blocks before.blocks;
+      block = c.in-Ok.ensures.whole;
+      later = let up = before.later in let cause = c.in-Ok.ensures.cause in omega (arith, up, cause);
+      disk = reads_on D.size D.holds D.write_faults D.tells_stops D.may_leave c.args.disk.now c.loop-i.disk c.enter.new.disk before.disk c.in-Ok.ensures.disk;
+    }
+
+pub returns-clause-judged : goal.returns-clause-judged
+returns-clause-judged g c = λ image told.
+    row_ends (g.K.Kind.shape c.args.kind.now) (volume_of c.args.g.now) image 0 _ _ None _ (drop c.loop-i.i c.args.row.now) _
+    (none_left c.args.row.now c.loop-i.i (search rules)) (c.loop-i.invariant.judged image told)
+
+pub returns-clause-records : goal.returns-clause-records
+returns-clause-records g c = λ image told.
+    held_all (λ (seat : Seat g.row.K-Key.Denot). records_of (g.K.Kind.shape c.args.kind.now) (bytes_at image seat.place)) (drop c.loop-i.i c.args.row.now) c.loop-i.records.items _
+    (none_left c.args.row.now c.loop-i.i (search rules)) (c.loop-i.invariant.records image told)

@@ -1,0 +1,24 @@
+use Rattle.std.proofs.Common.{◌≡◌, ◌≤◌, ◌++◌, length, drop, None}
+use Rattle.std.specs.List.{flat_map}
+use Rattle.std.specs.Option.{ForSome}
+use Rattle.xfs_geom.specs.Volumes.{volume_of}
+use Rattle.xfs_tree.specs.Answers.{IsMet, OnlyReads}
+use Rattle.xfs_tree.specs.Blocks.{records_of}
+use Rattle.xfs_tree.specs.Reading.{bytes_at, places_of, row_fault}
+use Rattle.xfs_tree.proofs.level.read_leaves.Given as goal
+
+abbrev pub invariant-loop-i : goal.invariant-loop-i
+invariant-loop-i g l = record {
+  ends : l.i-end ≡ length l.row;
+  met : IsMet l.met;
+  judged : ForSome (g.D.Disk.holds l.fn.disk) (λ image.
+      row_fault (g.K.Kind.shape l.kind) (volume_of l.g) image 0 l.met.blocks.items l.left None l.before (drop l.i l.row)
+      ≡ row_fault (g.K.Kind.shape l.kind) (volume_of l.g) image 0 l.fn.met.blocks.items None None None l.row);
+  records : ForSome (g.D.Disk.holds l.fn.disk) (λ image.
+      l.records.items ++ flat_map (λ seat. records_of (g.K.Kind.shape l.kind) (bytes_at image seat.place)) (drop l.i l.row)
+      ≡ flat_map (λ seat. records_of (g.K.Kind.shape l.kind) (bytes_at image seat.place)) l.row);
+  blocks : l.met.blocks.items ++ places_of (drop l.i l.row) ≡ l.fn.met.blocks.items ++ places_of l.row;
+  block : length l.block ≡ 4096;
+  later : g.D.Disk.faults l.fn.disk ≤ g.D.Disk.faults l.disk;
+  disk : OnlyReads g.D.Disk.size g.D.Disk.holds g.D.Disk.write_faults g.D.Disk.tells_stops g.D.Disk.may_leave l.fn.disk l.disk;
+}

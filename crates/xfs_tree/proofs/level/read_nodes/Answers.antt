@@ -1,0 +1,64 @@
+use Rattle.std.proofs.Common.{rules, ◌≡◌, ◌+◌, ◌∷◌, drop, None, ◌∙◌, arith}
+use Rattle.xfs_geom.specs.Volumes.{volume_of}
+use Rattle.xfs_tree.specs.Reading.{below}
+use Rattle.xfs_tree.proofs.Causes.{reads_on, caused_before, fault_of_row}
+use Rattle.xfs_tree.proofs.RowSteps.{capacity_node, left_from, none_left, held_more, places_more, behind_node, row_more, row_stops, row_ends}
+use Rattle.xfs_tree.proofs.level.read_nodes.Goals as goal
+
+pub returns-in-Err-clause-judged : goal.returns-in-Err-clause-judged
+returns-in-Err-clause-judged g c = λ image told.
+    let row = c.args.row.now in
+    let i = c.loop-i.i in
+    let seat = c.index-row-i.result in
+    fault_of_row _ _ c.in-Err.fault
+    (λ fault broken. row_stops (g.K.Kind.shape c.args.kind.now) (volume_of c.args.g.now) image c.args.level c.loop-i.met.blocks.items c.loop-i.left None c.place_at.result None seat
+    (drop i row) (drop (i + 1) row) _ fault (left_from row i seat (search rules) c.index-row-i.is) c.place_at.ensures broken (c.loop-i.invariant.judged image told))
+    (c.in-Err.ensures.judged image (c.loop-i.invariant.disk.same_contents ∙ told))
+
+pub returns-in-Err-clause-cause : goal.returns-in-Err-clause-cause
+returns-in-Err-clause-cause g c = caused_before _ _ _ c.in-Err.fault c.loop-i.invariant.later c.in-Err.ensures.cause
+
+pub returns-in-Err-clause-disk : goal.returns-in-Err-clause-disk
+returns-in-Err-clause-disk g c =
+    let D = g.D.Disk in
+    reads_on D.size D.holds D.write_faults D.tells_stops D.may_leave c.args.disk.now c.loop-i.disk c.enter.new.disk c.loop-i.invariant.disk c.in-Err.ensures.disk
+
+pub push_children-requires-clause-count : goal.push_children-requires-clause-count
+push_children-requires-clause-count g c =
+    let cap = capacity_node (g.K.Kind.shape c.args.kind.now).layout c.args.level c.requires.nodes in
+    let held = c.in-Ok.ensures.count in
+    omega (arith, cap, held)
+
+pub returns-in-Err-push_children-clause-disk : goal.returns-in-Err-push_children-clause-disk
+returns-in-Err-push_children-clause-disk g c =
+    let D = g.D.Disk in
+    reads_on D.size D.holds D.write_faults D.tells_stops D.may_leave c.args.disk.now c.loop-i.disk c.enter.new.disk c.loop-i.invariant.disk c.in-Ok.ensures.disk
+
+pub loop-i-preserved : goal.loop-i-preserved
+loop-i-preserved g c =
+    let D = g.D.Disk in
+    let s = g.K.Kind.shape c.args.kind.now in
+    let v = volume_of c.args.g.now in
+    let row = c.args.row.now in
+    let i = c.loop-i.i in
+    let seat = c.index-row-i.result in
+    let split : drop i row ≡ seat ∷ drop (i + 1) row = left_from row i seat (search rules) c.index-row-i.is in
+    let before = c.loop-i.invariant in
+    record {
+      ends = before.ends;
+      met = c.in-Ok.ensures.met;
+      judged = λ image told. row_more s v image c.args.level c.loop-i.met.blocks.items c.enter.new.met.blocks.items c.loop-i.left None c.place_at.result None None seat
+          (drop i row) (drop (i + 1) row) _ split c.place_at.ensures c.in-Ok.ensures.blocks (behind_node s v image c.args.level None seat c.requires.nodes)
+          (c.in-Ok.ensures.judged image (before.disk.same_contents ∙ told)) (before.judged image told);
+      children = λ image told. held_more (below s v image) seat (drop i row) (drop (i + 1) row) c.loop-i.next.items c.push_children.new.next.items _ split
+          (search rules) (before.children image told);
+      blocks = places_more seat (drop i row) (drop (i + 1) row) c.loop-i.met.blocks.items c.enter.new.met.blocks.items _ split c.in-Ok.ensures.blocks before.blocks;
+      block = c.in-Ok.ensures.whole;
+      later = let up = before.later in let cause = c.in-Ok.ensures.cause in omega (arith, up, cause);
+      disk = reads_on D.size D.holds D.write_faults D.tells_stops D.may_leave c.args.disk.now c.loop-i.disk c.enter.new.disk before.disk c.in-Ok.ensures.disk;
+    }
+
+pub returns-clause-judged : goal.returns-clause-judged
+returns-clause-judged g c = λ image told.
+    row_ends (g.K.Kind.shape c.args.kind.now) (volume_of c.args.g.now) image c.args.level _ _ None None (drop c.loop-i.i c.args.row.now) _
+    (none_left c.args.row.now c.loop-i.i (search rules)) (c.loop-i.invariant.judged image told)

@@ -1,0 +1,78 @@
+//! The header of a block whose tree belongs to an inode: 72 bytes (chapter "Common B+trees").
+
+use xfs_word::{FieldLayout, Form};
+
+pub const MAGIC: FieldLayout = FieldLayout {
+    name: "magic",
+    offset: 0,
+    width: 4,
+    form: Form::Hexadecimal,
+};
+
+pub const LEVEL: FieldLayout = FieldLayout {
+    name: "level",
+    offset: 4,
+    width: 2,
+    form: Form::Decimal,
+};
+
+pub const NUMRECS: FieldLayout = FieldLayout {
+    name: "numrecs",
+    offset: 6,
+    width: 2,
+    form: Form::Decimal,
+};
+
+pub const LEFTSIB: FieldLayout = FieldLayout {
+    name: "leftsib",
+    offset: 8,
+    width: 8,
+    form: Form::Decimal,
+};
+
+pub const RIGHTSIB: FieldLayout = FieldLayout {
+    name: "rightsib",
+    offset: 16,
+    width: 8,
+    form: Form::Decimal,
+};
+
+pub const BNO: FieldLayout = FieldLayout {
+    name: "bno",
+    offset: 24,
+    width: 8,
+    form: Form::Decimal,
+};
+
+pub const LSN: FieldLayout = FieldLayout {
+    name: "lsn",
+    offset: 32,
+    width: 8,
+    form: Form::Hexadecimal,
+};
+
+pub const UUID: FieldLayout = FieldLayout {
+    name: "uuid",
+    offset: 40,
+    width: 16,
+    form: Form::Identifier,
+};
+
+pub const OWNER: FieldLayout = FieldLayout {
+    name: "owner",
+    offset: 56,
+    width: 8,
+    form: Form::Decimal,
+};
+
+pub const CRC: FieldLayout = FieldLayout {
+    name: "crc",
+    offset: 64,
+    width: 4,
+    form: Form::Checksum,
+};
+
+/// Every field, in the order of their offsets.
+pub const LONG: [FieldLayout; 10] = [
+    MAGIC, LEVEL, NUMRECS, LEFTSIB, RIGHTSIB, BNO, LSN, UUID, OWNER, CRC,
+];
