@@ -1,0 +1,4 @@
+pub mod Ranges
+pub mod Blocks
+pub mod Sweep
+pub mod Joined

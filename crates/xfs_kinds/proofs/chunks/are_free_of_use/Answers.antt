@@ -1,0 +1,23 @@
+use Rattle.std.proofs.Common.{◌≡◌, ◌+◌, ◌<◌, ℕ, sym, ◌∙◌, ap, arith}
+use Rattle.xfs_geom.specs.Volumes.{volume_of}
+use Rattle.xfs_kinds.specs.InodeTrees.{is_block_free_of_use, are_free_of_use}
+use Rattle.xfs_kinds.proofs.Ranges.{some_fails, all_hold}
+use Rattle.xfs_kinds.proofs.chunks.are_free_of_use.Goals as goal
+
+pub returns-then-not-is_block_free_of_use : goal.returns-then-not-is_block_free_of_use
+unfolding are_free_of_use
+returns-then-not-is_block_free_of_use c =
+    let block = c.loop-block.block in
+    let test = is_block_free_of_use (volume_of c.args.g.now) c.args.holemask c.args.start in
+    let place : 0 + block ≡ block = omega arith in
+    sym (some_fails test 0 8 block c.loop-block-test.true (ap test place ∙ sym c.is_block_free_of_use.ensures ∙ c.if-not-is_block_free_of_use.true))
+
+pub returns : goal.returns
+unfolding are_free_of_use
+returns c =
+    let test = is_block_free_of_use (volume_of c.args.g.now) c.args.holemask c.args.start in
+    let holds = λ (k : ℕ) (h : k < 8).
+    let place : 0 + k ≡ k = omega arith in
+    let less : k < c.loop-block.block = omega arith in
+    ap test place ∙ c.loop-block.invariant k less in
+    sym (all_hold test 0 8 holds)

@@ -1,0 +1,16 @@
+pub mod Spelled
+pub mod Groups
+pub mod Spans
+pub mod FreeTrees
+pub mod SpelledLaws
+pub mod SpanLaws
+pub mod FreeTreeLaws
+pub mod FileTrees
+pub mod FileTreeLaws
+pub mod InodeTrees
+pub mod InodeTreeLaws
+pub mod OffsetWords
+pub mod OwnerTrees
+pub mod OwnerTreeLaws
+pub mod FreeRuns
+pub mod MergedRuns
