@@ -1,0 +1,3 @@
+pub mod Readings
+pub mod ShortForm
+pub mod Leaf

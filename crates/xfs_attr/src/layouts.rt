@@ -1,0 +1,4 @@
+//! The layouts of attributes as data (chapter "Extended Attributes").
+
+pub mod leaf;
+pub mod short_form;

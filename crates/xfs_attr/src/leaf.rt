@@ -1,0 +1,82 @@
+//! A leaf of attributes.
+
+ghost use Rattle.std.specs.Prelude.{◌≡◌, ◌↔◌, true, ℕ, ◌+◌, ◌*◌, ◌<◌, ◌≤◌, length, map, filter, min, not, IfOk};
+ghost use Rattle.std.specs.List.{list_all};
+ghost use Rattle.xfs_attr.specs.Readings.{IsReading};
+ghost use Rattle.xfs_attr.specs.Leaf.{entry_at, entries, size_of, is_local, is_complete, attribute_of, leaf_of, leaf_with, are_apart, AreInside, AreDisjoint};
+
+use crate::attributes::{Attr, AttrFault, Attrs};
+use crate::entries::{LeafEntry, name_of, read_entry, value_of};
+use crate::layouts::leaf::{COUNT, MOST_ENTRIES};
+use crate::soundness::is_sound;
+use std::alloc::Global;
+use xfs_disk::{NoMemory, Word};
+
+/// What of a leaf is not supported: a value outside it.
+const REMOTE: u8 = 1;
+
+/// The attributes of a leaf, a block of 4096 bytes, but for the entries that are incomplete. `Unsupported` of
+/// 1 where one of its entries, as far as they lie inside the block, says that its value stands elsewhere.
+/// Else `Unsound` where the leaf breaks a rule of its form (chapter "Extended Attributes"). Its magic number,
+/// its seal and its owner are not looked at.
+#[tactic(auto, unfolding(crate::specs::Leaf::leaf_with))]
+pub fn read_leaf(alloc: Global, block: &[u8]) -> Result<Attrs, AttrFault>
+    requires { length block.now ≡ 4096 }
+    ensures due { IsReading (leaf_of block.now) result }
+    ensures disjoint { (count : ℕ) → AreInside block.now count → (are_apart block.now (entries block.now count) ≡ true) ↔ AreDisjoint block.now count }
+{
+    let count = COUNT.read(block) as usize;
+    if !are_local(block, count.min(MOST_ENTRIES)) {
+        return Err(AttrFault::Unsupported { what: REMOTE });
+    }
+    if !is_sound(block, count) {
+        return Err(AttrFault::Unsound);
+    }
+    match read_attributes(alloc, block, count) {
+        Ok(attributes) => Ok(Attrs::from_vec(attributes)),
+        Err(NoMemory) => Err(AttrFault::NoMemory),
+    }
+}
+
+/// Whether the values of the first entries stand in the leaf.
+fn are_local(block: &[u8], count: usize) -> bool
+    requires { 80 + 8 * count ≤ length block.now }
+    ensures { result ≡ list_all is_local (entries block.now count) }
+{
+    for index in 0..count {
+        if !read_entry(block, index).is_local() {
+            return false;
+        }
+    }
+    true
+}
+
+/// The attributes of the first entries, whose values lie inside the block.
+fn read_attributes(alloc: Global, block: &[u8], count: usize) -> Result<Vec<Attr>, NoMemory>
+    requires block { length block.now ≡ 4096 }
+    requires inside { AreInside block.now count }
+    ensures { IfOk result (λ attributes. attributes.items ≡ map (attribute_of block.now) (filter is_complete (entries block.now count))) }
+{
+    let mut attributes = Vec::new(alloc);
+    for index in 0..count {
+        let entry = read_entry(block, index);
+        if entry.is_complete() {
+            attributes.push(read_attribute(alloc, block, entry)?)?;
+        }
+    }
+    Ok(attributes)
+}
+
+/// The attribute of an entry.
+fn read_attribute(alloc: Global, block: &[u8], entry: LeafEntry) -> Result<Attr, NoMemory>
+    requires { entry.nameidx + size_of block.now entry ≤ length block.now }
+    ensures { IfOk result (λ attribute. attribute ≡ attribute_of block.now entry) }
+{
+    let name = name_of(block, entry).to_vec(alloc)?;
+    let value = value_of(block, entry).to_vec(alloc)?;
+    Ok(Attr {
+        flags: entry.flags,
+        name: Word::from_vec(name),
+        value: Word::from_vec(value),
+    })
+}
