@@ -1,0 +1,9 @@
+pub mod Leading
+pub mod Items
+pub mod Order
+pub mod Entries
+pub mod Marks
+pub mod Same
+pub mod Standing
+pub mod Placing
+pub mod Filling

@@ -1,0 +1,9 @@
+-- Why a reader may refuse.
+use Rattle.std.specs.Prelude.{}
+use Rattle.xfs_dirdata.specs.declared.records.DirFault.{DirFault}
+use Rattle.xfs_dirdata.specs.declared.records.DirFault.TheVariants.{Unsound, NoMemory}
+
+-- where a fault says that a rule is broken, a fact holds
+abbrev pub OnUnsound : DirFault → Type 0 → Type 0
+OnUnsound Unsound P = P
+OnUnsound NoMemory P = Unit {0}

@@ -1,0 +1,22 @@
+//! Entries of directories: short forms, which stand in the inode, and data blocks. They are read and
+//! written here; the indexes of directories, seals and places of blocks are the concern of others.
+#![tactic(auto)]
+
+mod best;
+mod data;
+mod data_writing;
+pub mod layouts;
+mod records;
+mod short;
+mod short_writing;
+mod sizes;
+#[cfg(test)]
+mod tests;
+
+pub use best::bestfree;
+pub use data::{DataBlock, read_data};
+pub use data_writing::put_data;
+pub use records::{DirFault, EntryRec, FreeSpan};
+pub use short::{ShortDir, read_short};
+pub use short_writing::put_short;
+pub use sizes::{data_size, short_size};
