@@ -3,3 +3,4 @@
 pub mod agf;
 pub mod agfl;
 pub mod agi;
+pub mod log;

@@ -8,6 +8,7 @@ mod free_space;
 mod heads;
 mod inodes;
 pub mod layouts;
+mod log;
 #[cfg(test)]
 mod tests;
 
@@ -15,3 +16,4 @@ pub use arrays::ArrayLayout;
 pub use free_list::{Agfl, put_agfl, read_agfl};
 pub use free_space::{Agf, put_agf, read_agf};
 pub use inodes::{Agi, put_agi, read_agi};
+pub use log::{LogState, SectorSeen, blank_log_sector, log_state, see_sector};

@@ -3,6 +3,7 @@
 ghost use Rattle.std.specs.Prelude.{◌≡◌, ◌+◌, ◌<◌, ◌≤◌};
 ghost use Rattle.xfs_word.specs.Seal.{layout_of};
 
+mod log;
 mod real;
 
 use super::*;
