@@ -1,0 +1,3 @@
+//! The on-disk layouts of an inode, as data.
+
+pub mod inode;
