@@ -1,0 +1,5 @@
+pub mod Ranked
+pub mod Compared
+pub mod Gathered
+pub mod Longest
+pub mod Split

@@ -1,0 +1,34 @@
+-- The mapped blocks of a directory.
+use Rattle.std.specs.Prelude.{ℕ, Bool, ◌&&◌, ◌+◌, ◌≤◌, not, nat_le, nat_lt, List, [], ◌∷◌}
+
+-- a mapped block: its number in the file, and its bytes
+pub record Mapped : Type 0 where
+  pub offset : ℕ
+  pub bytes : List ℕ
+
+abbrev pub block_of : ℕ → List ℕ → Mapped
+block_of offset bytes = record { offset = offset; bytes = bytes }
+
+-- the mapped blocks, given by their file blocks and their bytes
+abbrev pub mapped : List ℕ → List (List ℕ) → List Mapped
+mapped [] blocks = []
+mapped (offset ∷ offsets) [] = []
+mapped (offset ∷ offsets) (block ∷ blocks) = block_of offset block ∷ mapped offsets blocks
+
+-- data blocks stand in front of file block 0x800000, free blocks from 0x1000000 on, index blocks between them
+abbrev pub is_data : Mapped → Bool
+is_data m = nat_lt m.offset 0x800000
+
+abbrev pub is_beyond : Mapped → Bool
+is_beyond m = not (is_data m)
+
+abbrev pub is_free : Mapped → Bool
+is_free m = nat_le 0x1000000 m.offset
+
+abbrev pub is_index_block : Mapped → Bool
+is_index_block m = nat_le 0x800000 m.offset && nat_lt m.offset 0x1000000
+
+-- file blocks ascend, from a least one on
+abbrev pub Ascend : ℕ → List ℕ → Type 0
+Ascend least [] = Unit {0}
+Ascend least (offset ∷ offsets) = (least ≤ offset) × Ascend (offset + 1) offsets
