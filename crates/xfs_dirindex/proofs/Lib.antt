@@ -3,3 +3,5 @@ pub mod Compared
 pub mod Gathered
 pub mod Longest
 pub mod Split
+pub mod Levels
+pub mod Found

@@ -5,3 +5,7 @@ pub mod Faults
 pub mod Sorted
 pub mod Block
 pub mod Leaf
+pub mod Lookup
+pub mod IndexTree
+pub mod FreeBlocks
+pub mod Node

@@ -3,6 +3,7 @@
 ghost use Rattle.std.specs.Prelude.{◌≡◌};
 ghost use Rattle.xfs_dirindex.specs.Data.{magic_of};
 
+pub mod free_block;
 pub mod index_block;
 
 /// The first file block of index blocks. Data blocks stand in front of it.

@@ -4,8 +4,12 @@
 
 mod block;
 mod data;
+mod free_blocks;
+mod index_tree;
 pub mod layouts;
 mod leaf;
+mod lookup;
+mod node;
 mod pairs;
 mod same;
 mod seen;
@@ -15,4 +19,5 @@ mod values;
 
 pub use block::check_block;
 pub use leaf::check_leaf;
+pub use node::check_node;
 pub use seen::{DirSeen, IndexFault};

@@ -81,7 +81,7 @@ fn rise(pairs: &[Pair]) -> bool
 }
 
 /// How many pairs are stale.
-fn count_stale(pairs: &[Pair]) -> usize
+pub fn count_stale(pairs: &[Pair]) -> usize
     ensures { result ≡ count_by is_stale pairs.now }
 {
     pairs.iter().filter(|pair| is_stale(**pair)).count()

@@ -1,6 +1,6 @@
-//! Directories in single-block and leaf form, sound and with one number changed.
+//! Directories in single-block, leaf and node form, sound and with one number changed.
 
-ghost use Rattle.std.specs.Prelude.{◌≡◌, length, IfOk};
+ghost use Rattle.std.specs.Prelude.{◌≡◌, ◌≤◌, length, IfOk};
 ghost use Rattle.xfs_dirindex.specs.Mapped.{Ascend};
 
 use super::*;
@@ -38,6 +38,56 @@ const LEAF: Changes = &[
     (2, 4094, 4),
 ];
 
+/// The index of the node form: a node, two leaves of three pairs, and the free block.
+const NODE: Changes = &[
+    (2, 8, 0x3ebe),
+    (2, 56, 2),
+    (2, 58, 1),
+    (2, 66, 0x62),
+    (2, 68, 0x80),
+    (2, 70, 1),
+    (2, 74, 0x172e),
+    (2, 76, 0x80),
+    (2, 78, 2),
+    (3, 0, 0x80),
+    (3, 2, 2),
+    (3, 8, 0x3dff),
+    (3, 56, 3),
+    (3, 58, 1),
+    (3, 66, 0x2e),
+    (3, 70, 8),
+    (3, 74, 0x61),
+    (3, 78, 12),
+    (3, 82, 0x62),
+    (4, 4, 0x80),
+    (4, 6, 1),
+    (4, 8, 0x3dff),
+    (4, 56, 3),
+    (4, 66, 0x62),
+    (4, 70, 1544),
+    (4, 74, 0x63),
+    (4, 78, 1546),
+    (4, 82, 0x172e),
+    (4, 86, 10),
+    (5, 54, 4),
+    (5, 58, 2),
+    (5, 64, 3984),
+    (5, 66, 0xffff),
+    (5, 68, 0xffff),
+    (5, 70, 4000),
+];
+
+/// A leaf as the root, and the free block.
+const FREE: Changes = &[
+    (2, 8, 0x3dff),
+    (3, 54, 4),
+    (3, 58, 2),
+    (3, 64, 3984),
+    (3, 66, 0xffff),
+    (3, 68, 0xffff),
+    (3, 70, 4000),
+];
+
 /// The tail and the index of the single-block form: three pairs and a stale one.
 const SINGLE: Changes = &[
     (0, 4058, 0x2e),
@@ -73,13 +123,21 @@ fn change(rt: &impl Abort, blocks: &mut BlockBank, changes: &[(usize, usize, u16
     }
 }
 
-/// Directory 100 in leaf form: data blocks 0 and 3 and the index.
-fn leaf(rt: &impl Abort, alloc: Global, changes: &[(usize, usize, u16)]) -> Result<DirSeen, Fail>
+/// Directory 100 with data blocks 0 and 3 and further blocks, in which these numbers stand.
+fn dir_of(
+    rt: &impl Abort,
+    alloc: Global,
+    offsets: &[u64],
+    form: Changes,
+    changes: &[(usize, usize, u16)],
+) -> Result<DirSeen, Fail>
+    requires some { 2 ≤ length offsets.now }
+    requires ascending { Ascend 0 offsets.now }
     ensures mapped { IfOk result (λ dir. length dir.blocks ≡ length dir.offsets.items) }
-    ensures three { IfOk result (λ dir. length dir.blocks ≡ 3) }
+    ensures count { IfOk result (λ dir. length dir.blocks ≡ length offsets.now) }
     ensures ascending { IfOk result (λ dir. Ascend 0 dir.offsets.items) }
 {
-    let mut blocks = BlockBank::make(alloc, 3)?;
+    let mut blocks = BlockBank::make(alloc, offsets.len())?;
     put_data(&[entry(alloc, b'a')?], Some((100, 128)), blocks.view_mut(0));
     put_data(
         &[entry(alloc, b'b')?, entry(alloc, b'c')?],
@@ -88,15 +146,49 @@ fn leaf(rt: &impl Abort, alloc: Global, changes: &[(usize, usize, u16)]) -> Resu
     );
     put32(blocks.view_mut(0), 0, 0x5844_4433);
     put32(blocks.view_mut(1), 0, 0x5844_4433);
-    change(rt, &mut blocks, LEAF);
+    change(rt, &mut blocks, form);
     change(rt, &mut blocks, changes);
-    assert_eq!(rt; blocks.len(), 3);
+    assert_eq!(rt; blocks.len(), offsets.len());
     Ok(DirSeen {
         dir: 100,
         size: 16384,
-        offsets: Vec::from_slice(alloc, &[0, 3, 0x80_0000])?,
+        offsets: Vec::from_slice(alloc, offsets)?,
         blocks,
     })
+}
+
+/// Directory 100 in leaf form.
+fn leaf(rt: &impl Abort, alloc: Global, changes: &[(usize, usize, u16)]) -> Result<DirSeen, Fail>
+    ensures mapped { IfOk result (λ dir. length dir.blocks ≡ length dir.offsets.items) }
+    ensures three { IfOk result (λ dir. length dir.blocks ≡ 3) }
+    ensures ascending { IfOk result (λ dir. Ascend 0 dir.offsets.items) }
+{
+    dir_of(rt, alloc, &[0, 3, 0x80_0000], LEAF, changes)
+}
+
+/// Directory 100 in node form: a node, two leaves and the free block.
+fn node(rt: &impl Abort, alloc: Global, changes: &[(usize, usize, u16)]) -> Result<DirSeen, Fail>
+    ensures mapped { IfOk result (λ dir. length dir.blocks ≡ length dir.offsets.items) }
+    ensures ascending { IfOk result (λ dir. Ascend 0 dir.offsets.items) }
+{
+    let offsets = [0, 3, 0x80_0000, 0x80_0001, 0x80_0002, 0x100_0000];
+    dir_of(rt, alloc, &offsets, NODE, changes)
+}
+
+/// Directory 100 in node form: a leaf as the root, and the free block.
+fn leaf_root(
+    rt: &impl Abort,
+    alloc: Global,
+    changes: &[(usize, usize, u16)],
+) -> Result<DirSeen, Fail>
+    ensures mapped { IfOk result (λ dir. length dir.blocks ≡ length dir.offsets.items) }
+    ensures four { IfOk result (λ dir. length dir.blocks ≡ 4) }
+    ensures ascending { IfOk result (λ dir. Ascend 0 dir.offsets.items) }
+{
+    let mut dir = dir_of(rt, alloc, &[0, 3, 0x80_0000, 0x100_0000], LEAF, FREE)?;
+    change(rt, &mut dir.blocks, changes);
+    assert_eq!(rt; dir.blocks.len(), 4);
+    Ok(dir)
 }
 
 /// Directory 100 in single-block form.
@@ -176,6 +268,74 @@ fn leaf_form(rt: HostRuntime) -> Result<(), Fail> {
         dir.size = size;
         dir.offsets = Vec::from_slice(rt.alloc(), &offsets)?;
         assert_eq!(rt; check_leaf(rt.alloc(), &dir).is_ok(), sound, "{size} bytes");
+    }
+    Ok(())
+}
+
+#[test]
+fn node_form(rt: HostRuntime) -> Result<(), Fail> {
+    let table: [(Changes, bool); 25] = [
+        (&[], true),
+        // an address, a stale pair with one, how many are stale and how many there are
+        (&[(4, 70, 1545)], false),
+        (&[(3, 86, 12)], false),
+        (&[(4, 58, 1)], false),
+        (&[(4, 56, 2), (2, 74, 0x63)], false),
+        // hashes that descend from leaf to leaf
+        (&[(3, 82, 0x65), (2, 66, 0x65)], false),
+        (&[(3, 82, 0x61), (2, 66, 0x61)], true),
+        // what the blocks are
+        (&[(2, 8, 0x3dff)], false),
+        (&[(3, 8, 0x3ebe)], false),
+        (&[(3, 8, 0x3df1)], false),
+        (&[(2, 58, 2)], false),
+        (&[(2, 58, 0)], false),
+        // the hashes that the node gives, its children and their neighbours
+        (&[(2, 66, 0x63)], false),
+        (&[(2, 74, 0x172d)], false),
+        (&[(2, 78, 3)], false),
+        (&[(2, 78, 1), (2, 74, 0x62)], false),
+        (&[(3, 2, 3)], false),
+        (&[(4, 6, 2)], false),
+        (&[(4, 0, 1)], false),
+        (&[(2, 6, 1)], false),
+        // the values, how many they are and from which block on
+        (&[(5, 70, 4008)], false),
+        (&[(5, 54, 3), (5, 58, 1)], false),
+        (&[(5, 58, 3)], false),
+        (&[(5, 50, 1)], false),
+        (&[(5, 54, 5), (5, 72, 0xffff)], true),
+    ];
+    for (number, (changes, sound)) in table.iter().enumerate() {
+        let dir = node(&rt, rt.alloc(), changes)?;
+        assert_eq!(rt;
+            check_node(rt.alloc(), &dir).is_ok(),
+            *sound,
+            "change {number}"
+        );
+    }
+    let dir = node(&rt, rt.alloc(), &[])?;
+    assert_eq!(rt; check_leaf(rt.alloc(), &dir), Err(IndexFault::Unsound));
+    Ok(())
+}
+
+#[test]
+fn node_form_of_one_leaf(rt: HostRuntime) -> Result<(), Fail> {
+    for (changes, offsets, sound) in [
+        (&[] as Changes, [0, 3, 0x80_0000, 0x100_0000], true),
+        (&[(2, 78, 13)], [0, 3, 0x80_0000, 0x100_0000], false),
+        (&[(2, 6, 1)], [0, 3, 0x80_0000, 0x100_0000], false),
+        // a block that is not in the tree, in front of the root or behind it
+        (&[], [0, 3, 0x80_0000, 0x80_0001], false),
+        (&[], [0, 3, 0x7f_ffff, 0x80_0000], false),
+        // free blocks of other data blocks
+        (&[], [0, 3, 0x80_0000, 0x100_0001], false),
+        (&[(3, 50, 2016)], [0, 3, 0x80_0000, 0x100_0001], false),
+    ] {
+        let mut dir = leaf_root(&rt, rt.alloc(), changes)?;
+        assert!(rt; offsets[0] < offsets[1] && offsets[1] < offsets[2] && offsets[2] < offsets[3]);
+        dir.offsets = Vec::from_slice(rt.alloc(), &offsets)?;
+        assert_eq!(rt; check_node(rt.alloc(), &dir).is_ok(), sound, "{offsets:?}");
     }
     Ok(())
 }

@@ -30,6 +30,12 @@ pub const MAGIC: FieldLayout = FieldLayout {
 /// The magic number of the index block of the leaf form.
 pub const LEAF_MAGIC: u16 = 0x3df1;
 
+/// The magic number of a leaf of the node form.
+pub const NODE_LEAF_MAGIC: u16 = 0x3dff;
+
+/// The magic number of a node.
+pub const NODE_MAGIC: u16 = 0x3ebe;
+
 /// How many pairs there are.
 pub const COUNT: FieldLayout = FieldLayout {
     name: "count",
@@ -38,7 +44,7 @@ pub const COUNT: FieldLayout = FieldLayout {
     form: Form::Decimal,
 };
 
-/// How many of the pairs are stale.
+/// How many of the pairs are stale; in a node its level.
 pub const STALE: FieldLayout = FieldLayout {
     name: "stale",
     offset: 58,
