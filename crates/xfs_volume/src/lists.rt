@@ -1,81 +1,50 @@
-//! Lists of extents and of blocks. Nothing here takes memory.
+//! Lists of records. Nothing here takes memory.
 
 ghost use Rattle.std.specs.Prelude.{◌≡◌, ℕ, List};
 
 use std::marker::Model;
 use xfs_word::Extent;
 
-/// A list of extents.
+/// A list of records, which contracts see as the list of its items.
 #[derive(Debug, Drop)]
-pub struct Extents {
-    extents: Vec<Extent>,
+pub struct Records<T: Drop> {
+    items: Vec<T>,
 }
 
-impl Model for Extents {
+impl<T: Drop> Model for Records<T> {
     ghost use Rattle.std.specs.Prelude.{List};
-    ghost use Rattle.xfs_word.specs.declared.extents.Extent.{Extent};
 
-    ghost Value = { List Extent };
+    ghost Value = { List T };
 
-    ghost view = { λ list. list.extents.items };
+    ghost view = { λ list. list.items.items };
 }
 
-impl Extents {
-    /// The list of these extents.
-    pub fn from_vec(extents: Vec<Extent>) -> Extents
-        ensures { result ≡ extents.items }
+impl<T: Drop> Records<T> {
+    /// The list of these records.
+    pub fn from_vec(items: Vec<T>) -> Records<T>
+        ensures { result ≡ items.items }
     {
-        Extents { extents }
+        Records { items }
     }
 
-    /// The extents of the list.
-    pub fn into_vec(self) -> Vec<Extent>
+    /// The records of the list.
+    pub fn into_vec(self) -> Vec<T>
         ensures { result.items ≡ self }
     {
-        let Extents { extents } = self;
-        extents
+        let Records { items } = self;
+        items
     }
 
-    /// The extents of the list.
-    pub fn as_slice(&self) -> &[Extent]
+    /// The records of the list.
+    pub fn as_slice(&self) -> &[T]
         ensures { result.now ≡ self.now }
     {
-        self.extents.as_slice()
+        self.items.as_slice()
     }
 }
+
+/// A list of extents.
+pub type Extents = Records<Extent>;
 
 /// A list of block numbers.
-#[derive(Debug, Drop)]
-pub struct Blocks {
-    blocks: Vec<u64>,
-}
-
-impl Model for Blocks {
-    ghost Value = { List ℕ };
-
-    ghost view = { λ list. list.blocks.items };
-}
-
-impl Blocks {
-    /// The list of these block numbers.
-    pub fn from_vec(blocks: Vec<u64>) -> Blocks
-        ensures { result ≡ blocks.items }
-    {
-        Blocks { blocks }
-    }
-
-    /// The block numbers of the list.
-    pub fn into_vec(self) -> Vec<u64>
-        ensures { result.items ≡ self }
-    {
-        let Blocks { blocks } = self;
-        blocks
-    }
-
-    /// The block numbers of the list.
-    pub fn as_slice(&self) -> &[u64]
-        ensures { result.now ≡ self.now }
-    {
-        self.blocks.as_slice()
-    }
-}
+pub type Blocks = Records<u64>;
