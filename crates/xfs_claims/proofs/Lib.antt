@@ -1,0 +1,6 @@
+pub mod Gathered
+pub mod Ordered
+pub mod Numbers
+pub mod Located
+pub mod Steady
+pub mod Budget
