@@ -4,3 +4,4 @@ pub mod Numbers
 pub mod Located
 pub mod Steady
 pub mod Budget
+pub mod Different

@@ -192,7 +192,7 @@ filter_differ number test (x ∷ xs) differ = either (test x) (none_kept number 
     either true none rest = (none, rest)
     either false none rest = rest
 
-any_map : {X : Type 0} (number : X → ℕ) (n : ℕ) (ys : List X) → list_any (λ m. m == n) (map number ys) ≡ list_any (λ y. number y == n) ys
+pub any_map : {X : Type 0} (number : X → ℕ) (n : ℕ) (ys : List X) → list_any (λ m. m == n) (map number ys) ≡ list_any (λ y. number y == n) ys
 any_map number n [] = refl
 any_map number n (y ∷ ys) = ap (λ (t : Bool). (number y == n) || t) (any_map number n ys)
 
