@@ -1,0 +1,5 @@
+pub mod Spans
+pub mod Ranks
+pub mod Keeping
+pub mod Places
+pub mod Held

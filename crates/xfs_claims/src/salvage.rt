@@ -1,0 +1,72 @@
+//! Which claims are kept.
+
+ghost use Rattle.std.specs.Prelude.{◌≡◌, true, ◌+◌, ◌*◌, ◌≤◌, IfOk};
+ghost use Rattle.std.specs.List.{All};
+ghost use Rattle.xfs_claims.specs.Held.{held_of};
+ghost use Rattle.xfs_claims.specs.Keeping.{kept_of, EndsLow, IsClaim};
+ghost use Rattle.xfs_claims.specs.Ranks.{AreDifferent, claimed_runs, first_block, inode_number, is_recorded};
+ghost use Rattle.xfs_claims.specs.Spans.{spans_of, AreApart, IsRun};
+
+use crate::claimants::{Claims, Kept};
+use crate::holding::Taken;
+use crate::ranks::rank;
+use std::alloc::Global;
+use std::sync::ledger::Ledger;
+use std::thread::Threads;
+use xfs_disk::NoMemory;
+use xfs_runs::Steps;
+
+/// Keeps of the claims, in the order of their rank, those that meet nothing kept before. The rank is: fixed blocks, the
+/// root cluster, recorded clusters by block, files in them by number, scanned clusters by block, files in them by
+/// number. A file is kept only where its cluster is.
+///
+/// At most two steps are counted for each run of fixed blocks, each cluster and each run of a file. Fails only where
+/// memory lacks.
+pub fn keep<R: Threads + Sync, L: Ledger>(
+    rt: &R,
+    alloc: Global,
+    claims: &Claims,
+    steps: &mut Steps<L>,
+) -> Result<Kept, NoMemory>
+    requires root { is_recorded claims.now.clusters claims.now.root ≡ true }
+    requires clusters_end { All (λ cluster. EndsLow cluster.block) claims.now.clusters }
+    requires clusters_differ { AreDifferent first_block claims.now.clusters }
+    requires fixed_runs { All IsRun claims.now.fixed }
+    requires fixed_apart { AreApart (spans_of claims.now.fixed) }
+    requires files_differ { AreDifferent inode_number claims.now.files }
+    requires files_claim { All IsClaim claims.now.files }
+
+    ensures clusters { IfOk result (λ kept. kept.clusters ≡ (kept_of claims.now).clusters) }
+    ensures files { IfOk result (λ kept. kept.files ≡ (kept_of claims.now).files) }
+    ensures ticks { steps.new ≤ steps.old + 2 * claimed_runs claims.now }
+{
+    take_all(rt, alloc, claims, steps)?.into_kept(alloc)
+}
+
+/// The same, as it is held.
+fn take_all<R: Threads + Sync, L: Ledger>(
+    rt: &R,
+    alloc: Global,
+    claims: &Claims,
+    steps: &mut Steps<L>,
+) -> Result<Taken, NoMemory>
+    requires root { is_recorded claims.now.clusters claims.now.root ≡ true }
+    requires clusters_end { All (λ cluster. EndsLow cluster.block) claims.now.clusters }
+    requires clusters_differ { AreDifferent first_block claims.now.clusters }
+    requires fixed_runs { All IsRun claims.now.fixed }
+    requires fixed_apart { AreApart (spans_of claims.now.fixed) }
+    requires files_differ { AreDifferent inode_number claims.now.files }
+    requires files_claim { All IsClaim claims.now.files }
+    ensures kept { IfOk result (λ taken. held_of taken ≡ kept_of claims.now) }
+    ensures ticks { steps.new ≤ steps.old + 2 * claimed_runs claims.now }
+{
+    let ranks = rank(rt, alloc, claims)?;
+    let files = claims.files.as_slice();
+    let mut taken = Taken::with_fixed(alloc, claims.fixed.as_slice(), steps)?;
+    taken.keep_cluster(claims.root, steps)?;
+    taken.keep_clusters(&ranks.recorded, steps)?;
+    taken.keep_files(files, &ranks.files.recorded, steps)?;
+    taken.keep_clusters(&ranks.scanned, steps)?;
+    taken.keep_files(files, &ranks.files.scanned, steps)?;
+    Ok(taken)
+}

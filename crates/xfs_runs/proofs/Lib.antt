@@ -1,0 +1,3 @@
+pub mod Meeting
+pub mod Last
+pub mod Placed
