@@ -23,8 +23,8 @@ form_of level = if level == 0 then 0x3dff else 0x3ebe
 abbrev pub stated_of : ℕ → List ℕ → ℕ
 stated_of level bytes = if level == 0 then count_by is_stale (pairs_of bytes) else level
 
--- a block of a level is mapped, has the magic number of its level and 1 to 504 pairs; no leaf is without pairs, since some
--- leaf has those of the directory and its parent
+-- a block of a level is mapped, has the magic number of its level and 1 to 504 pairs; so does a leaf that is the root, since
+-- the directory and its parent have pairs there
 unfoldable pub has_form : ℕ → List ℕ → Bool
 has_form level bytes =
     is_there bytes && field_of bytes 8 2 == form_of level && nat_le 1 (leaf_count bytes) && nat_le (leaf_count bytes) 504

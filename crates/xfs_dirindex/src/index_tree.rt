@@ -1,12 +1,11 @@
 //! The tree of index blocks of the node form.
 
-ghost use Rattle.std.specs.Prelude.{◌≡◌, ◌+◌, ◌≤◌, ◌<◌, ◌&&◌, ◌++◌, ◌==◌, [], ◌∷◌, true, false, nat_le, nat_lt, if◌then◌else◌, length, count_by, IfOk, IfErr, OnOk};
+ghost use Rattle.std.specs.Prelude.{◌≡◌, ◌+◌, ◌≤◌, ◌&&◌, ◌++◌, ◌==◌, [], ◌∷◌, true, false, nat_le, nat_lt, if◌then◌else◌, length, count_by, IfOk, IfErr, OnOk};
 ghost use Rattle.xfs_word.specs.Field.{field_of};
 ghost use Rattle.xfs_dirindex.specs.Faults.{OnUnsound};
 ghost use Rattle.xfs_dirindex.specs.Mapped.{Ascend, mapped};
 ghost use Rattle.xfs_dirindex.specs.Pairs.{is_stale};
-ghost use Rattle.xfs_dirindex.specs.Lookup.{bytes_of, is_there};
-ghost use Rattle.xfs_dirindex.specs.IndexTree.{pairs_of, last_hash, form_of, stated_of, has_form, has_neighbours, has_greatest, is_member, next_of, are_members, pairs_below, are_levels, place_of, places_of, tree_places, leaf_pairs, root_links, level_in, root_level, keeps_rules, all_places, all_leaf_pairs, index_places, are_exactly, are_due, is_tree};
+ghost use Rattle.xfs_dirindex.specs.IndexTree.{pairs_of, form_of, has_form, has_neighbours, has_greatest, next_of, are_members, pairs_below, place_of, places_of, level_in, root_level, keeps_rules, all_places, all_leaf_pairs, index_places, is_tree};
 
 use crate::layouts::index_block::{
     BACK, COUNT, FORW, HEADER_SIZE, MAGIC, NODE_LEAF_MAGIC, NODE_MAGIC, STALE,

@@ -20,4 +20,5 @@ mod values;
 pub use block::check_block;
 pub use leaf::check_leaf;
 pub use node::check_node;
+pub use pairs::{PAIR_SIZE, Pair};
 pub use seen::{DirSeen, IndexFault};
