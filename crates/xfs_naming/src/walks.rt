@@ -1,0 +1,1 @@
+//! The walk from the root over the entries.
