@@ -1,5 +1,5 @@
 -- What is looked at by number stands in the order of that number.
-use Rattle.std.specs.Prelude.{ℕ, ◌+◌, ◌<◌, ◌^◌, ◌≡◌, ◌==◌, Bool, true, List, filter, length}
+use Rattle.std.specs.Prelude.{ℕ, ◌+◌, ◌<◌, ◌≤◌, ◌^◌, slice_index, ◌≡◌, ◌==◌, Bool, true, List, filter, length}
 use Rattle.std.specs.List.{list_all, list_any}
 use Rattle.std.specs.List.Sorted.{IsNonDecreasingBy}
 use Rattle.xfs_dirdata.specs.declared.records.EntryRec.{EntryRec}
@@ -8,6 +8,10 @@ use Rattle.xfs_volume.specs.declared.files.FileRec.{FileRec}
 use Rattle.xfs_naming.specs.declared.runs.Link.{Link}
 use Rattle.xfs_naming.specs.declared.naming.Names.{Names}
 use Rattle.xfs_naming.specs.Naming.{entries_of, is_directory_at, is_reached}
+
+-- the link that an entry is
+abbrev pub link_of : EntryRec → Link
+link_of e = record { target = e.ino; dir = e.dir }
 
 -- the links to a number
 abbrev pub links_to : List Link → ℕ → List Link
@@ -35,3 +39,9 @@ IsOrdered names = AreOrdered names.root names.files.now names.entries.now names.
 abbrev pub IsWalked : Names → List ℕ → Type 0
 IsWalked names reached = (ino : ℕ) → is_directory_at names.files.now ino ≡ true
     → list_any (λ (x : ℕ). ino == x) reached ≡ is_reached names.dirs.now names.entries.now names.root ino
+
+-- a number has to stand behind those that are less and before those that are greater
+abbrev pub IsPlaceFor : List ℕ → ℕ → ℕ → Type 0
+IsPlaceFor numbers number place =
+    (place ≤ length numbers) × ((k : ℕ) → k < place → slice_index numbers k < number)
+    × ((k : ℕ) → place ≤ k → k < length numbers → number < slice_index numbers k)

@@ -2,6 +2,7 @@
 //! and each file has as many links as names.
 #![tactic(auto)]
 
+mod checks;
 mod counts;
 mod directories;
 mod linking;
@@ -12,3 +13,5 @@ mod places;
 mod runs;
 mod texts;
 mod walks;
+
+pub use checks::check_names;

@@ -1,7 +1,8 @@
 //! The numbers of files, and of some that should be.
 
-ghost use Rattle.std.specs.Prelude.{◌≡◌, IfOk};
+ghost use Rattle.std.specs.Prelude.{◌≡◌, ℕ, ◌<◌, length, slice_index, IfOk, MatchResult};
 ghost use Rattle.xfs_naming.specs.Naming.{Ascend, numbers_of, with_number};
+ghost use Rattle.xfs_naming.specs.Ordered.{IsPlaceFor};
 
 use std::alloc::{AllocError, AllocFailed, Global};
 use xfs_volume::FileRec;
@@ -13,6 +14,14 @@ pub fn numbers_of(alloc: Global, files: &[FileRec]) -> Result<Vec<u64>, AllocErr
     files.iter().map(|file| file.ino).collect(alloc)
 }
 
+/// Where a number stands among ascending ones, or where it has to stand.
+fn place_of(numbers: &[u64], number: u64) -> Result<usize, usize>
+    requires { Ascend 0 numbers.now }
+    ensures { MatchResult result (λ i. (i < length numbers.now) × (slice_index numbers.now i ≡ number)) (IsPlaceFor numbers.now number) }
+{
+    numbers.binary_search(&number)
+}
+
 /// A number at its place among ascending ones.
 pub fn with_number(numbers: Vec<u64>, number: u64) -> Result<Vec<u64>, AllocFailed<u64>>
     requires { Ascend 0 numbers.items }
@@ -20,7 +29,7 @@ pub fn with_number(numbers: Vec<u64>, number: u64) -> Result<Vec<u64>, AllocFail
     ensures ascend { IfOk result (λ more. Ascend 0 more.items) }
 {
     let mut numbers = numbers;
-    match numbers.binary_search(&number) {
+    match place_of(numbers.as_slice(), number) {
         Ok(_) => Ok(numbers),
         Err(place) => {
             numbers.insert(place, number)?;
