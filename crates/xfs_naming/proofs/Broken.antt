@@ -56,3 +56,13 @@ broken_before (l ∷ ls) more law found = first_of l (ls ++ more) ∙ either (l.
 
 pub broken_end : {X : Type 0} (f : X → Law) (xs : List X) (i : ℕ) (whole : Option Law) → length xs ≤ i → first_broken (map f (drop i xs)) ≡ whole → None ≡ whole
 broken_end {X} f xs i whole past before = sym none_first ∙ ap (λ (ys : List X). first_broken (map f ys)) (sym (drop_of_length-le xs {i = i} past)) ∙ before
+
+-- the first law that is broken, of three lists of laws
+pub first_of_three : (a b c : List Law) (law : Law) → first_broken a ≡ Some law → Some law ≡ first_broken (a ++ b ++ c)
+first_of_three a b c law first = sym (broken_before (a ++ b) c law (broken_before a b law first))
+
+pub second_of_three : (a b c : List Law) (law : Law) → first_broken a ≡ None → first_broken b ≡ Some law → Some law ≡ first_broken (a ++ b ++ c)
+second_of_three a b c law none second = sym (broken_before (a ++ b) c law (broken_behind a b none ∙ second))
+
+pub third_of_three : (a b c : List Law) → first_broken a ≡ None → first_broken b ≡ None → first_broken c ≡ first_broken (a ++ b ++ c)
+third_of_three a b c none neither = sym (broken_behind (a ++ b) c (broken_behind a b none ∙ neither))

@@ -5,3 +5,4 @@ pub mod Ascending
 pub mod Linked
 pub mod Grouped
 pub mod Reaching
+pub mod Order

@@ -48,11 +48,13 @@ fn first_law(alloc: Global, names: &Names) -> Result<Option<Law>, NoMemory>
     requires named { AreNamed names.now.files.now names.now.entries.now names.now.dirs.now }
     ensures { IfOk result (λ law. law ≡ first_broken (naming_laws names.now.root names.now.files.now names.now.entries.now names.now.dirs.now)) }
 {
-    if let Some(law) = broken_directory(alloc, names)? {
-        return Ok(Some(law));
+    match broken_directory(alloc, names)? {
+        Some(law) => return Ok(Some(law)),
+        None => {}
     }
-    if let Some(law) = first_place(alloc, names)? {
-        return Ok(Some(law));
+    match first_place(alloc, names)? {
+        Some(law) => return Ok(Some(law)),
+        None => {}
     }
     first_links(alloc, names)
 }
