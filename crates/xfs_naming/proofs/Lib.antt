@@ -6,3 +6,6 @@ pub mod Linked
 pub mod Grouped
 pub mod Reaching
 pub mod Order
+pub mod Kept
+pub mod Single
+pub mod Worded

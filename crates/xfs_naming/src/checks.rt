@@ -1,6 +1,7 @@
 //! The laws of names, one after another.
 
-ghost use Rattle.std.specs.Prelude.{◌≡◌, ◌<◌, ◌^◌, IfOk};
+ghost use Rattle.std.specs.Prelude.{◌≡◌, ◌<◌, ◌^◌, None, IfOk};
+ghost use Rattle.xfs_naming.specs.Lawful.{IsNamingLawful};
 ghost use Rattle.xfs_volume.specs.Laws.{first_broken};
 ghost use Rattle.xfs_naming.specs.Naming.{AreNamed, naming_laws, directory_laws, place_laws, link_laws};
 ghost use Rattle.xfs_naming.specs.Ordered.{IsOrdered};
@@ -68,6 +69,7 @@ pub fn check_names(alloc: Global, root: u64, files: &[FileRec], entries: &[Entry
     requires named { AreNamed files.now entries.now dirs.now }
     requires low { root < 2 ^ 32 }
     ensures law { IfOk result (λ law. law ≡ first_broken (naming_laws root files.now entries.now dirs.now)) }
+    ensures lawful { IfOk result (λ law. law ≡ None → IsNamingLawful root files.now entries.now dirs.now) }
 {
     let links = links_of(alloc, entries)?;
     let names = Names {
