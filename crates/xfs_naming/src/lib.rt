@@ -11,6 +11,8 @@ mod naming;
 mod numbering;
 mod places;
 mod runs;
+#[cfg(test)]
+mod tests;
 mod texts;
 mod walks;
 
