@@ -9,3 +9,4 @@ pub mod Order
 pub mod Kept
 pub mod Single
 pub mod Worded
+pub mod Cataloged
