@@ -1,0 +1,12 @@
+pub mod Chosen
+pub mod Different
+pub mod Broken
+pub mod Ascending
+pub mod Linked
+pub mod Grouped
+pub mod Reaching
+pub mod Order
+pub mod Kept
+pub mod Single
+pub mod Worded
+pub mod Cataloged

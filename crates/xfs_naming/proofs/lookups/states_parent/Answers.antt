@@ -1,0 +1,12 @@
+use Rattle.std.proofs.Common.{◌≡◌, ℕ, Bool, ◌==◌, not, length, filter, List, ap, sym, ◌∙◌}
+use Rattle.std.specs.List.{list_any, slice_get}
+use Rattle.xfs_volume.specs.Names.{type_of, is_directory, entry_type}
+use Rattle.xfs_volume.specs.declared.files.FileRec.{FileRec}
+use Rattle.xfs_volume.specs.declared.directories.DirRec.{DirRec}
+use Rattle.xfs_naming.proofs.Chosen.{any_of_run, any_in_run, first_of_run}
+use Rattle.xfs_naming.proofs.lookups.states_parent.Goals as goal
+
+pub returns : goal.returns
+returns c =
+    let states : DirRec → Bool = λ d. d.parent == c.args.parent in
+    c.have_parent.ensures ∙ ap (list_any states) c.run_of.ensures ∙ any_of_run (λ (d : DirRec). d.ino == c.args.ino) states c.args.names.now.dirs.now

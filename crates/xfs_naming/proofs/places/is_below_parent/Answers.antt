@@ -1,0 +1,10 @@
+use Rattle.std.proofs.Common.{◌≡◌, ℕ, List, ap, ◌∙◌}
+use Rattle.std.specs.List.{list_all}
+use Rattle.xfs_naming.specs.declared.runs.Link.{Link}
+use Rattle.xfs_naming.specs.Naming.{states_parent}
+use Rattle.xfs_naming.proofs.places.is_below_parent.Goals as goal
+
+pub returns : goal.returns
+returns c =
+    c.are_from_parent.ensures ∙ ap (list_all (λ (l : Link). states_parent c.args.names.now.dirs.now c.args.ino l.dir)) c.run_of.ensures
+    ∙ c.requires.linked.alike c.args.ino (states_parent c.args.names.now.dirs.now c.args.ino)

@@ -1,0 +1,47 @@
+-- What is looked at by number stands in the order of that number.
+use Rattle.std.specs.Prelude.{ℕ, ◌+◌, ◌<◌, ◌≤◌, ◌^◌, slice_index, ◌≡◌, ◌==◌, Bool, true, List, filter, length}
+use Rattle.std.specs.List.{list_all, list_any}
+use Rattle.std.specs.List.Sorted.{IsNonDecreasingBy}
+use Rattle.xfs_dirdata.specs.declared.records.EntryRec.{EntryRec}
+use Rattle.xfs_volume.specs.declared.directories.DirRec.{DirRec}
+use Rattle.xfs_volume.specs.declared.files.FileRec.{FileRec}
+use Rattle.xfs_naming.specs.declared.runs.Link.{Link}
+use Rattle.xfs_naming.specs.declared.naming.Names.{Names}
+use Rattle.xfs_naming.specs.Naming.{entries_of, is_directory_at, is_reached}
+
+-- the link that an entry is
+abbrev pub link_of : EntryRec → Link
+link_of e = record { target = e.ino; dir = e.dir }
+
+-- the links to a number
+abbrev pub links_to : List Link → ℕ → List Link
+links_to links ino = filter (λ (l : Link). l.target == ino) links
+
+-- there is a link for each entry: as many to a number, and from the same directories
+pub record AreLinks (entries : List EntryRec) (links : List Link) : Type 0 where
+  pub as_many : (ino : ℕ) → length (links_to links ino) ≡ length (entries_of entries ino)
+  pub alike : (ino : ℕ) (passes : ℕ → Bool)
+    → list_all (λ (l : Link). passes l.dir) (links_to links ino) ≡ list_all (λ (e : EntryRec). passes e.dir) (entries_of entries ino)
+
+-- all that is looked at by number is in its order
+pub record AreOrdered (root : ℕ) (files : List FileRec) (entries : List EntryRec) (dirs : List DirRec) (links : List Link) : Type 0 where
+  pub low : root < 2 ^ 32
+  pub by_file : IsNonDecreasingBy (λ (f : FileRec). f.ino) files
+  pub by_directory : IsNonDecreasingBy (λ (e : EntryRec). e.dir) entries
+  pub by_number : IsNonDecreasingBy (λ (d : DirRec). d.ino) dirs
+  pub by_target : IsNonDecreasingBy (λ (l : Link). l.target) links
+  pub linked : AreLinks entries links
+
+abbrev pub IsOrdered : Names → Type 0
+IsOrdered names = AreOrdered names.root names.files.now names.entries.now names.dirs.now names.links.now
+
+-- a list of numbers has those directories that are reached from the root
+abbrev pub IsWalked : Names → List ℕ → Type 0
+IsWalked names reached = (ino : ℕ) → is_directory_at names.files.now ino ≡ true
+    → list_any (λ (x : ℕ). ino == x) reached ≡ is_reached names.dirs.now names.entries.now names.root ino
+
+-- a number has to stand behind those that are less and before those that are greater
+abbrev pub IsPlaceFor : List ℕ → ℕ → ℕ → Type 0
+IsPlaceFor numbers number place =
+    (place ≤ length numbers) × ((k : ℕ) → k < place → slice_index numbers k < number)
+    × ((k : ℕ) → place ≤ k → k < length numbers → number < slice_index numbers k)

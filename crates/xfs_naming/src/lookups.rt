@@ -1,0 +1,101 @@
+//! Files and directories by their numbers.
+
+ghost use Rattle.std.specs.Prelude.{◌≡◌, ◌<◌, ◌^◌, ◌==◌};
+ghost use Rattle.std.specs.List.{list_any};
+ghost use Rattle.std.specs.Option.{option_copied};
+ghost use Rattle.xfs_volume.specs.declared.directories.DirRec.{DirRec};
+ghost use Rattle.xfs_volume.specs.Names.{type_of, is_directory, entry_type};
+ghost use Rattle.xfs_naming.specs.Naming.{is_system, is_in_use, is_directory_at, file_at, states_parent};
+ghost use Rattle.xfs_naming.specs.Ordered.{IsOrdered};
+
+use crate::naming::Names;
+use crate::runs::run_of;
+use xfs_volume::{DirRec, FileRec};
+
+/// The type of a directory (chapter "On-disk Inode").
+const DIRECTORY: u16 = 4;
+
+/// Whether the inode behind the root is one of the two of the system's own.
+pub fn is_system(root: u64, ino: u64) -> bool
+    requires { root < 2 ^ 32 }
+    ensures { result ≡ is_system root ino }
+{
+    ino == root + 1 || ino == root + 2
+}
+
+/// The type of a file, in the upper four bits of its mode.
+pub fn type_of(file: &FileRec) -> u16
+    ensures { result ≡ type_of file.now }
+{
+    file.core.mode >> 12
+}
+
+/// Whether the file is a directory.
+pub fn is_directory(file: &FileRec) -> bool
+    ensures { result ≡ is_directory file.now }
+{
+    type_of(file) == DIRECTORY
+}
+
+/// The number by which an entry states a type; 0 for one that is not known.
+#[tactic(auto, unfolding(xfs_volume::specs::Names::entry_type))]
+pub fn entry_type(kind: u16) -> u8
+    ensures { result ≡ entry_type kind }
+{
+    match kind {
+        8 => 1,
+        4 => 2,
+        2 => 3,
+        6 => 4,
+        1 => 5,
+        12 => 6,
+        10 => 7,
+        _ => 0,
+    }
+}
+
+/// The file with a number.
+pub fn file_at<'a>(names: &Names<'a>, ino: u64) -> Option<&'a FileRec>
+    requires { IsOrdered names.now }
+    ensures { option_copied result ≡ file_at names.now.files.now ino }
+{
+    run_of(names.files, ino).first()
+}
+
+/// Whether a file with the number is in use.
+pub fn is_in_use(names: &Names, ino: u64) -> bool
+    requires { IsOrdered names.now }
+    ensures { result ≡ is_in_use names.now.files.now ino }
+{
+    !run_of(names.files, ino).is_empty()
+}
+
+/// Whether one of these files is a directory.
+fn have_directory(files: &[FileRec]) -> bool
+    ensures { result ≡ list_any is_directory files.now }
+{
+    files.iter().any(|file| is_directory(file))
+}
+
+/// Whether one of these directories states the parent.
+fn have_parent(dirs: &[DirRec], parent: u64) -> bool
+    ensures { result ≡ list_any (λ (d : DirRec). d.parent == parent) dirs.now }
+{
+    dirs.iter().any(|dir| dir.parent == parent)
+}
+
+/// Whether a directory with the number is in use.
+pub fn is_directory_at(names: &Names, ino: u64) -> bool
+    requires { IsOrdered names.now }
+    ensures { result ≡ is_directory_at names.now.files.now ino }
+{
+    have_directory(run_of(names.files, ino))
+}
+
+/// Whether a directory states this parent.
+pub fn states_parent(names: &Names, ino: u64, parent: u64) -> bool
+    requires { IsOrdered names.now }
+    ensures { result ≡ states_parent names.now.dirs.now ino parent }
+{
+    have_parent(run_of(names.dirs, ino), parent)
+}

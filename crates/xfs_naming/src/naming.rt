@@ -1,0 +1,20 @@
+//! What the laws of names look at.
+
+use crate::runs::Link;
+use xfs_dirdata::EntryRec;
+use xfs_volume::{DirRec, FileRec};
+
+/// The files, directories and entries of a volume, and its links in the order of what they name.
+#[derive(Clone, Copy, Debug)]
+pub struct Names<'a> {
+    /// The inode number of the root.
+    pub root: u64,
+    /// The files in use, by number.
+    pub files: &'a [FileRec],
+    /// The entries of all directories, by directory.
+    pub entries: &'a [EntryRec],
+    /// The directories, by number.
+    pub dirs: &'a [DirRec],
+    /// A link for each entry, by what it names.
+    pub links: &'a [Link],
+}

@@ -1,0 +1,134 @@
+//! The eighth law: directories hang together as one tree below the root, and each other file is named.
+
+ghost use Rattle.std.specs.Prelude.{◌≡◌, ◌==◌, nat_le, true, length, map};
+ghost use Rattle.std.specs.List.{list_all};
+ghost use Rattle.xfs_dirdata.specs.declared.records.EntryRec.{EntryRec};
+ghost use Rattle.xfs_volume.specs.Laws.{first_broken};
+ghost use Rattle.xfs_naming.specs.declared.runs.Link.{Link};
+ghost use Rattle.xfs_naming.specs.Naming.{states_parent, is_directory_at, first_failing, root_tests, other_directory_tests, other_file_tests, place_tests, place_at, place_laws, entries_of, with_number, numbers_of};
+ghost use Rattle.xfs_naming.specs.Ordered.{IsOrdered, IsWalked, links_to};
+
+use crate::lookups::{is_directory_at, is_system, states_parent};
+use crate::naming::Names;
+use crate::runs::{Link, run_of};
+use std::collections::HashSet;
+use xfs_volume::Law;
+
+/// How many entries name a file.
+pub fn names_of(names: &Names, ino: u64) -> usize
+    requires { IsOrdered names.now }
+    ensures { result ≡ length (entries_of names.now.entries.now ino) }
+{
+    run_of(names.links, ino).len()
+}
+
+/// Whether each of these links is from a directory that a directory states as its parent.
+fn are_from_parent(names: &Names, ino: u64, links: &[Link]) -> bool
+    requires { IsOrdered names.now }
+    ensures { result ≡ list_all (λ (l : Link). states_parent names.now.dirs.now ino l.dir) links.now }
+{
+    links.iter().all(|link| states_parent(names, ino, link.dir))
+}
+
+/// Whether each entry that names a directory is in the one that it states as its parent.
+fn is_below_parent(names: &Names, ino: u64) -> bool
+    requires { IsOrdered names.now }
+    ensures { result ≡ list_all (λ (e : EntryRec). states_parent names.now.dirs.now ino e.dir) (entries_of names.now.entries.now ino) }
+{
+    are_from_parent(names, ino, run_of(names.links, ino))
+}
+
+/// The number of the first test that the root fails, or 0.
+fn root_failing(names: &Names) -> u8
+    requires { IsOrdered names.now }
+    ensures { result ≡ first_failing (root_tests names.now.root names.now.files.now names.now.entries.now names.now.dirs.now) }
+{
+    let root = names.root;
+    if names_of(names, root) != 0 {
+        return 1;
+    }
+    if !is_directory_at(names, root) {
+        return 3;
+    }
+    if !states_parent(names, root, root) {
+        return 2;
+    }
+    0
+}
+
+/// The number of the first test that another directory fails, or 0.
+fn directory_failing(names: &Names, reached: &HashSet<u64>, ino: u64) -> u8
+    requires ordered { IsOrdered names.now }
+    requires walked { IsWalked names.now reached.now.keys }
+    requires directory { is_directory_at names.now.files.now ino ≡ true }
+    ensures { result ≡ first_failing (other_directory_tests names.now.root names.now.entries.now names.now.dirs.now ino) }
+{
+    if names_of(names, ino) != 1 {
+        return 1;
+    }
+    if !is_below_parent(names, ino) {
+        return 2;
+    }
+    if !reached.contains(&ino) {
+        return 3;
+    }
+    0
+}
+
+/// The number of the test that a file that is no directory fails, or 0.
+fn file_failing(names: &Names, ino: u64) -> u8
+    requires { IsOrdered names.now }
+    ensures { result ≡ first_failing (other_file_tests names.now.root names.now.entries.now ino) }
+{
+    if is_system(names.root, ino) {
+        return 0;
+    }
+    if names_of(names, ino) == 0 {
+        return 4;
+    }
+    0
+}
+
+/// The number of the first test of the eighth law that a file fails, or 0.
+fn first_failing(names: &Names, reached: &HashSet<u64>, ino: u64) -> u8
+    requires ordered { IsOrdered names.now }
+    requires walked { IsWalked names.now reached.now.keys }
+    ensures { result ≡ first_failing (place_tests names.now.root names.now.files.now names.now.entries.now names.now.dirs.now ino) }
+{
+    if ino == names.root {
+        return root_failing(names);
+    }
+    if is_directory_at(names, ino) {
+        return directory_failing(names, reached, ino);
+    }
+    file_failing(names, ino)
+}
+
+/// What the eighth law says of a file.
+fn place_at(names: &Names, reached: &HashSet<u64>, ino: u64) -> Law
+    requires ordered { IsOrdered names.now }
+    requires walked { IsWalked names.now reached.now.keys }
+    ensures { result ≡ place_at names.now.root names.now.files.now names.now.entries.now names.now.dirs.now ino }
+{
+    Law {
+        law: 8,
+        place: ino,
+        held: first_failing(names, reached, ino) as u128,
+        due: 0,
+    }
+}
+
+/// The first of these files that breaks the eighth law.
+pub fn broken_place(names: &Names, reached: &HashSet<u64>, numbers: &[u64]) -> Option<Law>
+    requires ordered { IsOrdered names.now }
+    requires walked { IsWalked names.now reached.now.keys }
+    ensures { result ≡ first_broken (map (place_at names.now.root names.now.files.now names.now.entries.now names.now.dirs.now) numbers.now) }
+{
+    for ino in numbers {
+        let law = place_at(names, reached, *ino);
+        if law.held != law.due {
+            return Some(law);
+        }
+    }
+    None
+}

@@ -1,0 +1,57 @@
+//! The walk from the root over the entries.
+
+ghost use Rattle.std.specs.Prelude.{◌≡◌, ◌==◌, OnOk, IfOk};
+ghost use Rattle.std.specs.List.{list_any};
+ghost use Rattle.xfs_dirdata.specs.declared.records.EntryRec.{EntryRec};
+ghost use Rattle.xfs_naming.specs.Naming.{AreNamed};
+ghost use Rattle.xfs_naming.specs.Ordered.{IsOrdered, IsWalked};
+ghost use Rattle.xfs_naming.specs.Walking.{HasMarked};
+
+use crate::lookups::is_directory_at;
+use crate::naming::Names;
+use crate::runs::run_of;
+use std::alloc::Global;
+use std::collections::HashSet;
+use xfs_dirdata::EntryRec;
+use xfs_disk::NoMemory;
+
+/// Marks a number as reached where it is a directory's; one that was not reached before waits.
+fn mark(names: &Names, ino: u64, reached: &mut HashSet<u64>, waiting: &mut Vec<u64>) -> Result<(), NoMemory>
+    requires { IsOrdered names.now }
+    ensures { OnOk result (HasMarked names.now.files.now (λ x. ino == x) reached.old.keys reached.new.keys waiting.old.items waiting.new.items) }
+{
+    if !is_directory_at(names, ino) {
+        return Ok(());
+    }
+    if reached.insert(ino)? {
+        waiting.push(ino)?;
+    }
+    Ok(())
+}
+
+/// Marks what these entries name.
+fn mark_named(names: &Names, own: &[EntryRec], reached: &mut HashSet<u64>, waiting: &mut Vec<u64>) -> Result<(), NoMemory>
+    requires { IsOrdered names.now }
+    ensures { OnOk result (HasMarked names.now.files.now (λ x. list_any (λ (e : EntryRec). e.ino == x) own.now) reached.old.keys reached.new.keys waiting.old.items waiting.new.items) }
+{
+    for entry in own {
+        mark(names, entry.ino, reached, waiting)?;
+    }
+    Ok(())
+}
+
+/// The directories that are reached from the root; the root is one of them even where it is none.
+pub fn walk(alloc: Global, names: &Names) -> Result<HashSet<u64>, NoMemory>
+    requires ordered { IsOrdered names.now }
+    requires named { AreNamed names.now.files.now names.now.entries.now names.now.dirs.now }
+    ensures { IfOk result (λ reached. IsWalked names.now reached.keys) }
+{
+    let mut reached = HashSet::new(alloc);
+    let mut waiting = Vec::new(alloc);
+    reached.insert(names.root)?;
+    waiting.push(names.root)?;
+    while let Some(dir) = waiting.pop() {
+        mark_named(names, run_of(names.entries, dir), &mut reached, &mut waiting)?;
+    }
+    Ok(reached)
+}
