@@ -1,0 +1,4 @@
+pub mod Owners
+pub mod SpaceLaws
+pub mod Parts
+pub mod Places
