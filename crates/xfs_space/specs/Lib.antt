@@ -2,3 +2,5 @@ pub mod Owners
 pub mod SpaceLaws
 pub mod Parts
 pub mod Places
+pub mod Sorted
+pub mod Ranks

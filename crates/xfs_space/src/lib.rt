@@ -1,8 +1,12 @@
 //! The laws of space: no block has two owners, and the trees of a group's space say who owns what.
 #![tactic(auto)]
 
+mod lengths;
 mod owned_files;
 mod owned_groups;
 mod owners;
+mod sharing;
+mod sorting;
+mod splitting;
 
 pub use owners::owned_runs;
