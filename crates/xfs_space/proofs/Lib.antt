@@ -6,3 +6,5 @@ pub mod Shared
 pub mod Splits
 pub mod OneOrder
 pub mod ByLength
+pub mod FreeSpans
+pub mod FreeLaws

@@ -1,7 +1,7 @@
 -- Owned runs, one step after the other.
-use Rattle.std.proofs.Common.{◌≡◌, ℕ, suc, Bool, true, false, ◌+◌, ◌-◌, ◌*◌, ◌<◌, ◌==◌, if◌then◌else◌, List, [], ◌∷◌, ◌++◌, length, map, take, drop, get_or, refl, sym, ◌∙◌, ap, ap₂, arith, add-one, drop-cons, append_assoc}
+use Rattle.std.proofs.Common.{◌≡◌, ℕ, suc, Bool, true, false, ◌+◌, ◌-◌, ◌*◌, ◌<◌, ◌≤◌, ◌==◌, if◌then◌else◌, List, [], ◌∷◌, ◌++◌, length, map, take, drop, get_or, refl, sym, ◌∙◌, ap, ap₂, arith, add-one, drop-cons, append_assoc}
 use Rattle.std.specs.List.{list_any}
-use Rattle.std.proofs.lemmas.List.{take_all, length-drop}
+use Rattle.std.proofs.lemmas.List.{append-nil, drop_all, take_all, length-drop}
 use Rattle.xfs_geom.specs.Volumes.{Volume}
 use Rattle.xfs_geom.specs.declared.records.Run.{Run}
 use Rattle.xfs_volume.specs.declared.groups.GroupRec.{GroupRec}
@@ -17,6 +17,10 @@ no_trees (owner ∷ owners) = refl
 -- a list from one on
 pub from_head : {A : Type 0} (xs : List A) (i : ℕ) (x : A) → i < length xs → x ≡ get_or xs i x → drop i xs ≡ x ∷ drop (i + 1) xs
 from_head {A = A} xs i x h is = drop-cons xs i x h ∙ ap₂ (λ (y : A) (ys : List A). y ∷ ys) (sym is) (ap (λ (k : ℕ). drop k xs) (sym (add-one i)))
+
+-- what is put is all, where nothing is left
+pub filled : {A B : Type 0} (f : A → B) (items : List B) (xs : List A) (i : ℕ) → items ++ map f (drop i xs) ≡ map f xs → length xs ≤ i → items ≡ map f xs
+filled {A = A} f items xs i left end = sym (append-nil items) ∙ ap (λ (ys : List A). items ++ map f ys) (sym (drop_all i xs end)) ∙ left
 
 -- an entry of a free list is put with the others where it does not come again
 pub listed_next : (base : ℕ) (xs : List ℕ) (i : ℕ) (t : Bool) (runs new whole : List Run) → i < length xs

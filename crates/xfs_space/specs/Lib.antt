@@ -4,3 +4,4 @@ pub mod Parts
 pub mod Places
 pub mod Sorted
 pub mod Ranks
+pub mod Maps

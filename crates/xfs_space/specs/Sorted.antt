@@ -1,9 +1,9 @@
 -- Owned runs in order.
-use Rattle.std.specs.Prelude.{ℕ, ◌+◌, ◌*◌, ◌^◌, ◌≤◌, ◌<◌, ◌≡◌, ◌≢◌, List, [], ◌∷◌, ◌++◌}
+use Rattle.std.specs.Prelude.{ℕ, ◌+◌, ◌-◌, ◌*◌, ◌^◌, ◌≤◌, ◌<◌, ◌≡◌, List, [], ◌∷◌, ◌++◌}
 use Rattle.std.specs.List.{All}
 use Rattle.xfs_geom.specs.Volumes.{Volume}
 use Rattle.xfs_geom.specs.declared.records.Run.{Run}
-use Rattle.xfs_kinds.specs.MergedRuns.{held_at}
+use Rattle.xfs_geom.specs.declared.records.Span.{Span}
 use Rattle.xfs_kinds.specs.OffsetWords.{offset_in_fork}
 use Rattle.xfs_space.specs.SpaceLaws.{runs_on}
 
@@ -23,6 +23,10 @@ pub record IsSized (r : Run) : Type 0 where
 -- the blocks are of one group: none that begins before the start of a group goes across it
 abbrev pub IsOfOneGroup : Volume → Run → Type 0
 IsOfOneGroup v r = (ag : ℕ) → r.start < ag * v.agblocks → r.start + r.count ≤ ag * v.agblocks
+
+-- the run as AG blocks of the group that begins at a block
+abbrev pub span_in : ℕ → Run → Span
+span_in base r = record { start = r.start - base; count = r.count }
 
 -- the starts of the runs ascend
 abbrev pub Rise : ℕ → List Run → Type 0
@@ -44,8 +48,3 @@ pub record IsSplit (block : ℕ) (runs front back : List Run) : Type 0 where
   pub whole : runs ≡ front ++ back
   pub before : All (λ (r : Run). r.start + r.count ≤ block) front
   pub behind : All (λ (r : Run). block ≤ r.start) back
-
--- the block is the first to which the runs of two lists give different owners or offset words
-pub record IsFirstDifference (xs ys : List Run) (block : ℕ) : Type 0 where
-  pub differs : held_at xs block ≢ held_at ys block
-  pub least : (before : ℕ) → before < block → held_at xs before ≡ held_at ys before
