@@ -8,3 +8,6 @@ pub mod OneOrder
 pub mod ByLength
 pub mod FreeSpans
 pub mod FreeLaws
+pub mod Sweep
+pub mod RecordedMaps
+pub mod OwnerLaws

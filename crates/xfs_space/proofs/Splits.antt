@@ -64,13 +64,19 @@ held_off x xs b off = let not : is_block x.start x.count b ≡ false = grind (ar
 pub held_on : (x : Run) (xs : List Run) (b : ℕ) → x.start ≤ b → b < x.start + x.count → held_at (x ∷ xs) b ≡ Some (x.owner, word_at x b)
 held_on x xs b low high = let has : is_block x.start x.count b ≡ true = grind (arith, nat_tests, low, high) in rw has refl
 
-none_held_back : (xs : List Run) (block b : ℕ) → All (StartsFrom block) xs → b < block → held_at xs b ≡ None
+pub none_held_back : (xs : List Run) (block b : ℕ) → All (StartsFrom block) xs → b < block → held_at xs b ≡ None
 none_held_back [] block b starts h = refl
 none_held_back (x ∷ xs) block b starts h =
     let start : block ≤ x.start = All-head (StartsFrom block) x xs starts in
     held_off x xs b (inl (omega (arith, start, h))) ∙ none_held_back xs block b (All-tail (StartsFrom block) x xs starts) h
 
-held_front : (front back : List Run) (block b : ℕ) → All (StartsFrom block) back → b < block → held_at (front ++ back) b ≡ held_at front b
+pub none_held_front : (xs : List Run) (block b : ℕ) → All (EndsBy block) xs → block ≤ b → held_at xs b ≡ None
+none_held_front [] block b ends h = refl
+none_held_front (x ∷ xs) block b ends h =
+    let end : x.start + x.count ≤ block = All-head (EndsBy block) x xs ends in
+    held_off x xs b (inr (omega (arith, end, h))) ∙ none_held_front xs block b (All-tail (EndsBy block) x xs ends) h
+
+pub held_front : (front back : List Run) (block b : ℕ) → All (StartsFrom block) back → b < block → held_at (front ++ back) b ≡ held_at front b
 held_front [] back block b starts h = none_held_back back block b starts h
 held_front (x ∷ xs) back block b starts h = by_case (is_block x.start x.count b) (held_front xs back block b starts h)
   where
@@ -79,7 +85,7 @@ held_front (x ∷ xs) back block b starts h = by_case (is_block x.start x.count 
     by_case true same = refl
     by_case false same = same
 
-held_back : (front back : List Run) (block b : ℕ) → All (EndsBy block) front → block ≤ b → held_at (front ++ back) b ≡ held_at back b
+pub held_back : (front back : List Run) (block b : ℕ) → All (EndsBy block) front → block ≤ b → held_at (front ++ back) b ≡ held_at back b
 held_back [] back block b ends h = refl
 held_back (x ∷ xs) back block b ends h =
     let end : x.start + x.count ≤ block = All-head (EndsBy block) x xs ends in

@@ -32,4 +32,4 @@ pub record IsFirstDifference (xs ys : List Run) (block : ℕ) : Type 0 where
 -- the law is what the third law says of that block
 pub record IsFirstUnlike (xs ys : List Run) (law : Law) : Type 0 where
   pub first : IsFirstDifference xs ys law.place
-  pub law : law ≡ owner_at xs ys law.place
+  pub is : law ≡ owner_at xs ys law.place

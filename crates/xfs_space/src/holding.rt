@@ -20,15 +20,15 @@ const NEGATIVE: u64 = 1 << 63;
 const TREE_BLOCK: u64 = 1 << 62;
 
 /// A record of the group that begins at block `base`, by block of the volume.
-pub fn recorded_run(base: u64, record: &RmapRec) -> Run
+pub fn recorded_run(base: u64, recorded: &RmapRec) -> Run
     requires { base < 2 ^ 26 }
-    ensures { result ≡ recorded_run base record.now }
+    ensures { result ≡ recorded_run base recorded.now }
 {
     Run {
-        start: base + record.start as u64,
-        count: record.count as u64,
-        owner: record.owner,
-        offset: record.offset,
+        start: base + recorded.start as u64,
+        count: recorded.count as u64,
+        owner: recorded.owner,
+        offset: recorded.offset,
     }
 }
 
