@@ -37,7 +37,7 @@ pub follow_low : (rs : List Run) (low at : ℕ) → low ≤ at → Follow at rs 
 follow_low [] low at h follow = tt
 follow_low (r ∷ rs) low at h follow = (omega (arith, h, follow.0), follow.1, follow.2)
 
-all_back : (P : Run → Type 0) (front back : List Run) → All P (front ++ back) → All P back
+pub all_back : (P : Run → Type 0) (front back : List Run) → All P (front ++ back) → All P back
 all_back P [] back all = all
 all_back P (x ∷ xs) back all = all_back P xs back (All-tail P x (xs ++ back) all)
 

@@ -23,7 +23,8 @@ pub fn owner_law(g: &Geometry, groups: &[GroupRec], runs: &[Run]) -> Option<Law>
     requires follow { Follow 0 runs.now }
     requires owned { All (IsOwned (volume_of g.now)) runs.now }
     requires groups { All (IsOfOneGroup (volume_of g.now)) runs.now }
-    ensures { result ≡ first_broken (owner_laws (volume_of g.now) (recorded_runs g.now.agblocks 0 groups.now) runs.now) }
+    ensures law { result ≡ first_broken (owner_laws (volume_of g.now) (recorded_runs g.now.agblocks 0 groups.now) runs.now) }
+    ensures alike { MatchOption result (AreAlike (recorded_runs g.now.agblocks 0 groups.now) runs.now) (λ _. Unit {0}) }
 {
     let mut rest = runs;
     for (index, group) in groups.iter().enumerate() {
