@@ -11,3 +11,7 @@ pub mod FreeLaws
 pub mod Sweep
 pub mod RecordedMaps
 pub mod OwnerLaws
+pub mod GoodRuns
+pub mod FreeKept
+pub mod Moved
+pub mod Joined

@@ -1,6 +1,6 @@
 -- Owned runs, one step after the other.
 use Rattle.std.proofs.Common.{◌≡◌, ℕ, suc, Bool, true, false, ◌+◌, ◌-◌, ◌*◌, ◌<◌, ◌≤◌, ◌==◌, if◌then◌else◌, List, [], ◌∷◌, ◌++◌, length, map, take, drop, get_or, refl, sym, ◌∙◌, ap, ap₂, arith, add-one, drop-cons, append_assoc}
-use Rattle.std.specs.List.{list_any}
+use Rattle.std.specs.List.{flat_map, list_any}
 use Rattle.std.proofs.lemmas.List.{append-nil, drop_all, take_all, length-drop}
 use Rattle.xfs_geom.specs.Volumes.{Volume}
 use Rattle.xfs_geom.specs.declared.records.Run.{Run}
@@ -62,3 +62,19 @@ group_next n i gs g base runs new whole h is from left put =
 pub groups_next : (v : Volume) (ag : ℕ) (gs : List GroupRec) (i : ℕ) (g : GroupRec) → i < length gs → g ≡ get_or gs i g → AreGroups v ag (drop i gs)
     → IsGroup v ag g × AreGroups v (ag + 1) (drop (i + 1) gs)
 groups_next v ag gs i g h is all = rw (from_head gs i g h is) at all
+
+-- the runs of a file are put with the others
+pub file_next : {A : Type 0} (f : A → List Run) (xs : List A) (i : ℕ) (x : A) (runs new whole : List Run) → i < length xs → x ≡ get_or xs i x → runs ++ flat_map f (drop i xs) ≡ whole → new ≡ runs ++ f x
+    → new ++ flat_map f (drop (i + 1) xs) ≡ whole
+file_next f xs i x runs new whole h is left put =
+    ap (λ (rs : List Run). rs ++ flat_map f (drop (i + 1) xs)) put
+    ∙ append_assoc runs (f x) (flat_map f (drop (i + 1) xs))
+    ∙ ap (λ (rs : List Run). runs ++ rs) (sym (ap (flat_map f) (from_head xs i x h is)))
+    ∙ left
+
+-- what groups own, the log and what files own
+pub joined : (empty a b c groups files : List Run) (log : Run) → empty ≡ [] → a ≡ empty ++ groups → b ≡ a ++ log ∷ [] → c ≡ b ++ files → c ≡ groups ++ log ∷ files
+joined empty a b c groups files log none put_groups put_log put_files =
+    put_files
+    ∙ ap (λ (rs : List Run). rs ++ files) (put_log ∙ ap (λ (rs : List Run). rs ++ log ∷ []) (put_groups ∙ ap (λ (rs : List Run). rs ++ groups) none))
+    ∙ append_assoc groups (log ∷ []) files

@@ -144,17 +144,17 @@ module _ (v : Volume) (gs : List GroupRec) (runs rest : List Run) (ag : ℕ) (g 
         left = subst (λ (n : ℕ). Rest v n runs back) end (rest_next v (ag * v.agblocks) (ag * v.agblocks + v.agblocks) runs rest front back (omega arith) here.alike.left here.split);
         owned = all_back (IsOwned v) front back (subst (λ (rs : List Run). All (IsOwned v) rs) here.split.whole here.alike.owned);
         before = λ b h.
-        elim (cases_lt b (ag * v.agblocks)) [
-          | inl low ↦ here.alike.before b low
-          | inr from ↦ held_recorded b from (omega (arith, h)) ∙ alike b ∙ sym (held_owned b from (omega (arith, h)))
-        ];
+            elim (cases_lt b (ag * v.agblocks)) [
+              | inl low ↦ here.alike.before b low
+              | inr from ↦ held_recorded b from (omega (arith, h)) ∙ alike b ∙ sym (held_owned b from (omega (arith, h)))
+            ];
         recorded = λ b h.
-        let behind : ag * v.agblocks + v.agblocks ≤ b = omega (arith, h) in
-        here.alike.recorded b (omega (arith, h))
-        ∙ ap (λ (rest : List GroupRec). held_at (recorded_runs v.agblocks (ag * v.agblocks) rest) b) (from_head gs ag g here.less here.is)
-        ∙ held_back (map (recorded_run (ag * v.agblocks)) g.rmap) (recorded_runs v.agblocks (ag * v.agblocks + v.agblocks) (drop (ag + 1) gs)) (ag * v.agblocks + v.agblocks) b
-          (ends_by v ag (ag * v.agblocks) g.rmap here.covered lawful_group.0.rmap) behind
-        ∙ ap (λ (n : ℕ). held_at (recorded_runs v.agblocks n (drop (ag + 1) gs)) b) end;
+            let behind : ag * v.agblocks + v.agblocks ≤ b = omega (arith, h) in
+            here.alike.recorded b (omega (arith, h))
+            ∙ ap (λ (rest : List GroupRec). held_at (recorded_runs v.agblocks (ag * v.agblocks) rest) b) (from_head gs ag g here.less here.is)
+            ∙ held_back (map (recorded_run (ag * v.agblocks)) g.rmap) (recorded_runs v.agblocks (ag * v.agblocks + v.agblocks) (drop (ag + 1) gs)) (ag * v.agblocks + v.agblocks) b
+            (ends_by v ag (ag * v.agblocks) g.rmap here.covered lawful_group.0.rmap) behind
+            ∙ ap (λ (n : ℕ). held_at (recorded_runs v.agblocks n (drop (ag + 1) gs)) b) end;
       }
 
   both_none : (b : ℕ) → held_at (map (recorded_run (ag * v.agblocks)) g.rmap) b ≡ None → held_at front b ≡ None → held_at (map (recorded_run (ag * v.agblocks)) g.rmap) b ≢ held_at front b → ⊥
@@ -178,7 +178,7 @@ module _ (v : Volume) (gs : List GroupRec) (runs rest : List Run) (ag : ℕ) (g 
         | inl low ↦ low
         | inr from ↦
             absurd (both_none b (none_held_front (map (recorded_run at) g.rmap) (at + v.agblocks) b (ends_by v ag at g.rmap here.covered lawful_group.0.rmap) from)
-              (none_held_front front (at + v.agblocks) b here.split.before from) differ)
+            (none_held_front front (at + v.agblocks) b here.split.before from) differ)
       ]
 
   place_inside : (b : ℕ) → held_at (map (recorded_run (ag * v.agblocks)) g.rmap) b ≢ held_at front b → b < v.dblocks
@@ -188,7 +188,7 @@ module _ (v : Volume) (gs : List GroupRec) (runs rest : List Run) (ag : ℕ) (g 
         | inl low ↦ low
         | inr from ↦
             absurd (both_none b (none_held_front (map (recorded_run at) g.rmap) v.dblocks b (ends_inside v ag at g.rmap inside lawful_group.0.rmap) from)
-              (none_held_front front v.dblocks b (λ k d less. (front_owned k d less).inside) from) differ)
+            (none_held_front front v.dblocks b (λ k d less. (front_owned k d less).inside) from) differ)
       ]
 
   -- the law of the group is that of the volume
@@ -204,8 +204,8 @@ module _ (v : Volume) (gs : List GroupRec) (runs rest : List Run) (ag : ℕ) (g 
       let all = recorded_runs v.agblocks 0 gs in
       let numbers = λ (e : owner_number (held_at all b) ≡ owner_number (held_at runs b)).
       differ (one_number (held_at (map (recorded_run (ag * v.agblocks)) g.rmap) b) (held_at front b)
-        (held_bounded (map (recorded_run (ag * v.agblocks)) g.rmap) b records_mapped.each) (held_bounded front b front_mapped.each)
-        (ap owner_number (sym one) ∙ e ∙ ap owner_number other)) in
+      (held_bounded (map (recorded_run (ag * v.agblocks)) g.rmap) b records_mapped.each) (held_bounded front b front_mapped.each)
+      (ap owner_number (sym one) ∙ e ∙ ap owner_number other)) in
       let least = λ (c : ℕ) (from : 0 ≤ c) (before : c < b).
       elim (cases_lt c (ag * v.agblocks)) as (λ _. owner_number (held_at all c) ≡ owner_number (held_at runs c)) [
         | inl under ↦ ap owner_number (here.alike.before c under)

@@ -73,7 +73,7 @@ starts_differ xs ys x y rest_xs rest_ys at swept differ =
           let some = on_head xs x rest_xs at swept.left (max x.start at) (omega arith) (head_inside xs x rest_xs at swept.left) in
           let none = before_head ys y rest_ys at swept.right (max x.start at) (omega arith) before in
           let here = first_at xs ys at (max x.start at) swept.agree (λ e. some_none (held_at xs (max x.start at)) _ some (e ∙ none))
-            (before_head xs x rest_xs at swept.left) (λ c from to. before_head ys y rest_ys at swept.right c from (omega (arith, to, before))) in
+          (before_head xs x rest_xs at swept.left) (λ c from to. before_head ys y rest_ys at swept.right c from (omega (arith, to, before))) in
           subst (λ (n : ℕ). IsFirstDifference xs ys n) (sym least) here
       | inr behind ↦
           let least : min (max x.start at) (max y.start at) ≡ max y.start at = omega (arith, behind) in
@@ -81,7 +81,7 @@ starts_differ xs ys x y rest_xs rest_ys at swept differ =
           let some = on_head ys y rest_ys at swept.right (max y.start at) (omega arith) (head_inside ys y rest_ys at swept.right) in
           let none = before_head xs x rest_xs at swept.left (max y.start at) (omega arith) less in
           let here = first_at xs ys at (max y.start at) swept.agree (λ e. some_none (held_at ys (max y.start at)) _ some (sym e ∙ none))
-            (λ c from to. before_head xs x rest_xs at swept.left c from (omega (arith, to, less))) (before_head ys y rest_ys at swept.right) in
+          (λ c from to. before_head xs x rest_xs at swept.left c from (omega (arith, to, less))) (before_head ys y rest_ys at swept.right) in
           subst (λ (n : ℕ). IsFirstDifference xs ys n) (sym least) here
     ]
 
@@ -98,9 +98,9 @@ words_differ xs ys x y rest_xs rest_ys at swept same unlike =
     let other = on_head ys y rest_ys at swept.right h (omega (arith, same)) (omega (arith, same, inside)) in
     first_at xs ys at h swept.agree
     (λ e.
-      let pair = same_pair (x.owner, word_at x h) (y.owner, word_at y h) (sym one ∙ e ∙ other) in
-      let both = and_from (x.owner == y.owner) (word_at x h == word_at y h) (eq-eqb x.owner y.owner (ap (λ (p : ℕ × ℕ). p.0) pair)) (eq-eqb (word_at x h) (word_at y h) (ap (λ (p : ℕ × ℕ). p.1) pair)) in
-      true≢false (sym both ∙ unlike))
+    let pair = same_pair (x.owner, word_at x h) (y.owner, word_at y h) (sym one ∙ e ∙ other) in
+    let both = and_from (x.owner == y.owner) (word_at x h == word_at y h) (eq-eqb x.owner y.owner (ap (λ (p : ℕ × ℕ). p.0) pair)) (eq-eqb (word_at x h) (word_at y h) (ap (λ (p : ℕ × ℕ). p.1) pair)) in
+    true≢false (sym both ∙ unlike))
     (before_head xs x rest_xs at swept.left) (λ c from to. before_head ys y rest_ys at swept.right c from (omega (arith, to, same)))
 
 -- one map has no more runs
@@ -174,18 +174,18 @@ swept_next xs ys x y rest_xs rest_ys at end swept same owner word is =
     let mapped_y = All-head IsMapped y rest_ys swept.right.each in
     record {
       agree = λ b to.
-      elim (cases_lt b at) [
-        | inl low ↦ swept.agree b low
-        | inr from ↦
-            elim (cases_lt b h) [
-              | inl before ↦ before_head xs x rest_xs at swept.left b from before ∙ sym (before_head ys y rest_ys at swept.right b from (omega (arith, before, same)))
-              | inr inside ↦
-                  let words = words_go_on x y h b mapped_x mapped_y (omega arith) (omega (arith, same)) inside (omega (arith, to, is)) (omega (arith, to, is)) owner word in
-                  on_head xs x rest_xs at swept.left b inside (omega (arith, to, is))
-                  ∙ ap₂ (λ (o w : ℕ). Some (o, w)) owner words
-                  ∙ sym (on_head ys y rest_ys at swept.right b (omega (arith, inside, same)) (omega (arith, to, is)))
-            ]
-      ];
+          elim (cases_lt b at) [
+            | inl low ↦ swept.agree b low
+            | inr from ↦
+                elim (cases_lt b h) [
+                  | inl before ↦ before_head xs x rest_xs at swept.left b from before ∙ sym (before_head ys y rest_ys at swept.right b from (omega (arith, before, same)))
+                  | inr inside ↦
+                      let words = words_go_on x y h b mapped_x mapped_y (omega arith) (omega (arith, same)) inside (omega (arith, to, is)) (omega (arith, to, is)) owner word in
+                      on_head xs x rest_xs at swept.left b inside (omega (arith, to, is))
+                      ∙ ap₂ (λ (o w : ℕ). Some (o, w)) owner words
+                      ∙ sym (on_head ys y rest_ys at swept.right b (omega (arith, inside, same)) (omega (arith, to, is)))
+                ]
+          ];
       left = passed_side xs x rest_xs at end swept.left (omega (arith, is, in_x, in_y, same)) (omega (arith, is));
       right = passed_side ys y rest_ys at end swept.right (omega (arith, is, in_x, in_y, same)) (omega (arith, is));
     }
@@ -262,7 +262,7 @@ swept_step f xs ys records runs i j at end i_next j_next none d x less_i less_j 
     let right = passed_runs runs j j_next y (nat_le (y.start + y.count) end) step_j (tail_of runs j d less_j) in
     subst (λ (rest : List Run). Swept xs ys rest (drop j_next runs) end) (sym left)
     (subst (λ (rest : List Run). Swept xs ys (if nat_le (x.start + x.count) end then map f (drop (i + 1) records) else (x ∷ map f (drop (i + 1) records))) rest end) (sym right)
-      (swept_next xs ys x y (map f (drop (i + 1) records)) (drop (j + 1) runs) at end swept same owner word to))
+    (swept_next xs ys x y (map f (drop (i + 1) records)) (drop (j + 1) runs) at end swept same owner word to))
   where
     passed_runs : (runs : List Run) (j next : ℕ) (y : Run) (t : Bool) → next ≡ (if t then j + 1 else j) → drop j runs ≡ y ∷ drop (j + 1) runs → drop next runs ≡ (if t then drop (j + 1) runs else (y ∷ drop (j + 1) runs))
     passed_runs runs j next y true is head = ap (λ (k : ℕ). drop k runs) is

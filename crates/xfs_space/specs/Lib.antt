@@ -5,3 +5,4 @@ pub mod Places
 pub mod Sorted
 pub mod Ranks
 pub mod Maps
+pub mod RunLaws

@@ -1,6 +1,7 @@
 //! The laws of space: no block has two owners, and the trees of a group's space say who owns what.
 #![tactic(auto)]
 
+mod checking;
 mod differing;
 mod free_space;
 mod holding;
@@ -13,4 +14,5 @@ mod sharing;
 mod sorting;
 mod splitting;
 
+pub use checking::check_space;
 pub use owners::owned_runs;

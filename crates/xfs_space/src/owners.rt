@@ -5,6 +5,7 @@ ghost use Rattle.std.specs.List.{All};
 ghost use Rattle.xfs_geom.specs.Volumes.{volume_of};
 ghost use Rattle.xfs_space.specs.Owners.{run, blocks_of, owned_runs};
 ghost use Rattle.xfs_space.specs.Parts.{AreGroups, IsFile};
+ghost use Rattle.xfs_space.specs.Sorted.{IsOfOneGroup, IsOwned};
 
 use crate::owned_files::push_files;
 use crate::owned_groups::push_groups;
@@ -43,7 +44,9 @@ pub fn owned_runs(
     requires count { length groups.now ≡ g.now.agcount }
     requires groups { AreGroups (volume_of g.now) 0 groups.now }
     requires files { All (IsFile (volume_of g.now)) files.now }
-    ensures { IfOk result (λ runs. runs.items ≡ owned_runs (volume_of g.now) groups.now files.now) }
+    ensures all { IfOk result (λ runs. runs.items ≡ owned_runs (volume_of g.now) groups.now files.now) }
+    ensures inside { IfOk result (λ runs. All (IsOwned (volume_of g.now)) runs.items) }
+    ensures groups { IfOk result (λ runs. All (IsOfOneGroup (volume_of g.now)) runs.items) }
 {
     let mut runs = Vec::new(alloc);
     push_groups(&mut runs, g, groups)?;

@@ -20,10 +20,10 @@ returns-then-held-due c =
     let x = c.recorded_run-x.result in
     let y = get_or c.args.runs.now c.loop-i.j no_run in
     let swept = swept_heads f (map f c.args.records.now) c.args.runs.now c.args.records.now c.args.runs.now c.loop-i.i c.loop-i.j c.loop-i.at no_record no_run x c.loop-i-test.true c.if-j-runs.true
-      c.recorded_run-x.ensures c.loop-i.invariant in
+    c.recorded_run-x.ensures c.loop-i.invariant in
     subst (λ (n : ℕ). IsFirstDifference (map f c.args.records.now) c.args.runs.now n) (sym (c.earlier.ensures ∙ ap₂ min c.later-held.ensures c.later-due.ensures))
     (starts_differ (map f c.args.records.now) c.args.runs.now x y (map f (drop (c.loop-i.i + 1) c.args.records.now)) (drop (c.loop-i.j + 1) c.args.runs.now) c.loop-i.at swept
-      (λ same. c.if-held-due.true (c.later-held.ensures ∙ same ∙ sym c.later-due.ensures)))
+    (λ same. c.if-held-due.true (c.later-held.ensures ∙ same ∙ sym c.later-due.ensures)))
 
 pub agree-requires-clause-x : goal.agree-requires-clause-x
 agree-requires-clause-x c =
@@ -34,7 +34,7 @@ agree-requires-clause-on_x c =
     let f = recorded_run c.args.base in
     let x = c.recorded_run-x.result in
     let swept = swept_heads f (map f c.args.records.now) c.args.runs.now c.args.records.now c.args.runs.now c.loop-i.i c.loop-i.j c.loop-i.at no_record no_run x c.loop-i-test.true c.if-j-runs.true
-      c.recorded_run-x.ensures c.loop-i.invariant in
+    c.recorded_run-x.ensures c.loop-i.invariant in
     let inside = head_inside (map f c.args.records.now) x (map f (drop (c.loop-i.i + 1) c.args.records.now)) c.loop-i.at swept.left in
     omega (arith, c.later-held.ensures, inside)
 
@@ -44,7 +44,7 @@ returns-then-not-agree c =
     let x = c.recorded_run-x.result in
     let y = get_or c.args.runs.now c.loop-i.j no_run in
     let swept = swept_heads f (map f c.args.records.now) c.args.runs.now c.args.records.now c.args.runs.now c.loop-i.i c.loop-i.j c.loop-i.at no_record no_run x c.loop-i-test.true c.if-j-runs.true
-      c.recorded_run-x.ensures c.loop-i.invariant in
+    c.recorded_run-x.ensures c.loop-i.invariant in
     let same = sym c.later-held.ensures ∙ c.if-held-due.false ∙ c.later-due.ensures in
     let unlike = ap (λ (n : ℕ). x.owner == y.owner && word_at x n == word_at y n) (sym c.later-held.ensures) ∙ sym c.agree.ensures ∙ c.if-not-agree.true in
     subst (λ (n : ℕ). IsFirstDifference (map f c.args.records.now) c.args.runs.now n) (sym c.later-held.ensures)
@@ -65,7 +65,7 @@ loop-i-preserved c =
     let x = c.recorded_run-x.result in
     let y = get_or c.args.runs.now c.loop-i.j no_run in
     let swept = swept_heads f (map f c.args.records.now) c.args.runs.now c.args.records.now c.args.runs.now c.loop-i.i c.loop-i.j c.loop-i.at no_record no_run x c.loop-i-test.true c.if-j-runs.true
-      c.recorded_run-x.ensures c.loop-i.invariant in
+    c.recorded_run-x.ensures c.loop-i.invariant in
     let same = sym c.later-held.ensures ∙ c.if-held-due.false ∙ c.later-due.ensures in
     let alike = ap (λ (n : ℕ). x.owner == y.owner && word_at x n == word_at y n) (sym c.later-held.ensures) ∙ sym c.agree.ensures ∙ c.if-not-agree.false in
     let h = max x.start c.loop-i.at in

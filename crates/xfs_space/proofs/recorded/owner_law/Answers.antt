@@ -21,10 +21,10 @@ group_owner_law-requires-clause-recorded c =
     let front = c.split_runs.result.0.now in
     let back = c.split_runs.result.1.now in
     let here = here_of c.args.g.now c.args.groups.now c.args.runs.now c.loop-index.rest.now c.loop-index.index g c.start_of_group-base.result front back c.start_of_group-base.ensures.value
-      c.loop-index.invariant c.loop-index-test.true c.index-groups-index.is c.split_runs.ensures c.requires.count in
+    c.loop-index.invariant c.loop-index-test.true c.index-groups-index.is c.split_runs.ensures c.requires.count in
     subst (λ (b : ℕ). AreMapped (map (recorded_run b) c.as_slice.result.now)) (sym c.start_of_group-base.ensures.value)
     (subst (λ (rs : List RmapRec). AreMapped (map (recorded_run (c.loop-index.index * c.args.g.now.agblocks)) rs)) (sym c.as_slice.ensures)
-      (records_mapped (volume_of c.args.g.now) c.args.groups.now c.args.runs.now c.loop-index.rest.now c.loop-index.index g front back here))
+    (records_mapped (volume_of c.args.g.now) c.args.groups.now c.args.runs.now c.loop-index.rest.now c.loop-index.index g front back here))
 
 pub group_owner_law-requires-clause-owned : goal.group_owner_law-requires-clause-owned
 group_owner_law-requires-clause-owned c =
@@ -32,7 +32,7 @@ group_owner_law-requires-clause-owned c =
     let front = c.split_runs.result.0.now in
     let back = c.split_runs.result.1.now in
     let here = here_of c.args.g.now c.args.groups.now c.args.runs.now c.loop-index.rest.now c.loop-index.index g c.start_of_group-base.result front back c.start_of_group-base.ensures.value
-      c.loop-index.invariant c.loop-index-test.true c.index-groups-index.is c.split_runs.ensures c.requires.count in
+    c.loop-index.invariant c.loop-index-test.true c.index-groups-index.is c.split_runs.ensures c.requires.count in
     front_mapped (volume_of c.args.g.now) c.args.groups.now c.args.runs.now c.loop-index.rest.now c.loop-index.index g front back here
 
 pub returns-in-Some-clause-law : goal.returns-in-Some-clause-law
@@ -41,10 +41,10 @@ returns-in-Some-clause-law c =
     let front = c.split_runs.result.0.now in
     let back = c.split_runs.result.1.now in
     let here = here_of c.args.g.now c.args.groups.now c.args.runs.now c.loop-index.rest.now c.loop-index.index g c.start_of_group-base.result front back c.start_of_group-base.ensures.value
-      c.loop-index.invariant c.loop-index-test.true c.index-groups-index.is c.split_runs.ensures c.requires.count in
+    c.loop-index.invariant c.loop-index-test.true c.index-groups-index.is c.split_runs.ensures c.requires.count in
     law_differs (volume_of c.args.g.now) c.args.groups.now c.args.runs.now c.loop-index.rest.now c.loop-index.index g front back here c.in-Some.law
     (subst (λ (b : ℕ). IsFirstUnlike (map (recorded_run b) g.rmap) front c.in-Some.law) c.start_of_group-base.ensures.value
-      (subst (λ (rs : List RmapRec). IsFirstUnlike (map (recorded_run c.start_of_group-base.result) rs) front c.in-Some.law) c.as_slice.ensures c.in-Some.ensures))
+    (subst (λ (rs : List RmapRec). IsFirstUnlike (map (recorded_run c.start_of_group-base.result) rs) front c.in-Some.law) c.as_slice.ensures c.in-Some.ensures))
 
 pub loop-index-init : goal.loop-index-init
 loop-index-init c = alike_whole (volume_of c.args.g.now) c.args.groups.now c.args.runs.now c.requires.lawful c.requires.follow c.requires.groups c.requires.owned
@@ -55,10 +55,10 @@ loop-index-preserved c =
     let front = c.split_runs.result.0.now in
     let back = c.split_runs.result.1.now in
     let here = here_of c.args.g.now c.args.groups.now c.args.runs.now c.loop-index.rest.now c.loop-index.index g c.start_of_group-base.result front back c.start_of_group-base.ensures.value
-      c.loop-index.invariant c.loop-index-test.true c.index-groups-index.is c.split_runs.ensures c.requires.count in
+    c.loop-index.invariant c.loop-index-test.true c.index-groups-index.is c.split_runs.ensures c.requires.count in
     alike_next (volume_of c.args.g.now) c.args.groups.now c.args.runs.now c.loop-index.rest.now c.loop-index.index g front back here
     (subst (λ (b : ℕ). AreAlike (map (recorded_run b) g.rmap) front) c.start_of_group-base.ensures.value
-      (subst (λ (rs : List RmapRec). AreAlike (map (recorded_run c.start_of_group-base.result) rs) front) c.as_slice.ensures c.in-None.ensures))
+    (subst (λ (rs : List RmapRec). AreAlike (map (recorded_run c.start_of_group-base.result) rs) front) c.as_slice.ensures c.in-None.ensures))
 
 pub returns-clause-alike : goal.returns-clause-alike
 returns-clause-alike c =
