@@ -1,5 +1,5 @@
 -- Free runs that are sorted by length are those that are put in order one by one.
-use Rattle.std.proofs.Common.{◌≡◌, ℕ, suc, ◌+◌, ◌<◌, ◌≤◌, Bool, true, false, not, cond, if◌then◌else◌, ◌&&◌, ◌||◌, ◌==◌, nat_lt, nat_le, List, [], ◌∷◌, length, map, refl, sym, ap, ap₂, ◌∙◌, subst, arith, get_or}
+use Rattle.std.proofs.Common.{◌≡◌, ℕ, suc, ◌+◌, ◌<◌, ◌≤◌, Bool, true, false, cond, if◌then◌else◌, ◌&&◌, ◌||◌, ◌==◌, nat_lt, nat_le, List, [], ◌∷◌, length, map, refl, sym, ap, ap₂, ◌∙◌, subst, arith, get_or}
 use Rattle.std.specs.List.{list_all, count_by}
 use Rattle.std.specs.List.Sorted.{IsPermutation, IsSorted}
 use Rattle.std.specs.Ordering.{is_lt, nat_cmp, ordering_then}
@@ -10,7 +10,7 @@ use Rattle.std.proofs.lemmas.Bool.Decides.{nat_tests}
 use Rattle.xfs_geom.specs.declared.records.Span.{Span}
 use Rattle.xfs_space.specs.contracts.lengths.LengthOrd.TheImpl.{cmp-value}
 use Rattle.xfs_space.specs.declared.lengths.Length.{Length}
-use Rattle.xfs_space.specs.Ranks.{length_of, span_of, is_upto, AreInOrder, IsRanked}
+use Rattle.xfs_space.specs.Ranks.{length_of, span_of, is_upto, IsRanked}
 use Rattle.xfs_space.specs.SpaceLaws.{by_length, is_shorter, put_by_length}
 use Rattle.xfs_space.proofs.OneOrder.{IsOrder, only_one}
 

@@ -1,5 +1,5 @@
 -- Where the second law is kept, the trees are the free runs.
-use Rattle.std.proofs.Common.{◌≡◌, ◌≢◌, ℕ, zero, suc, Bool, true, false, ◌+◌, ◌-◌, ◌*◌, ◌^◌, ◌≤◌, ◌<◌, ◌&&◌, ◌==◌, if◌then◌else◌, nat_le, nat_lt, List, [], ◌∷◌, length, get_or, map, Option, Some, None, refl, sym, ◌∙◌, ap, ap₂, subst, arith}
+use Rattle.std.proofs.Common.{◌≡◌, ℕ, zero, suc, Bool, true, false, ◌+◌, ◌-◌, ◌*◌, ◌^◌, ◌≤◌, ◌<◌, ◌&&◌, ◌==◌, if◌then◌else◌, nat_le, nat_lt, List, [], ◌∷◌, length, get_or, map, Some, None, refl, sym, ◌∙◌, ap₂, subst, arith}
 use Rattle.std.specs.List.{All}
 use Rattle.std.proofs.lemmas.Bool.{and_parts, eq-eqb, eqb-true, ltb-true, true≢false}
 use Rattle.std.proofs.lemmas.List.Elements.{All-cons, All-head, All-nil, All-tail}
@@ -11,12 +11,11 @@ use Rattle.xfs_kinds.specs.FreeRuns.{runs_of, span, with_block}
 use Rattle.xfs_kinds.specs.FreeTrees.{begins_behind, bno_shape, cnt_shape, is_free_run, ranks_behind}
 use Rattle.xfs_kinds.specs.Groups.{lies_in_group}
 use Rattle.xfs_kinds.specs.Spans.{fits_span}
-use Rattle.xfs_tree.specs.Rules.{are_lawful}
 use Rattle.xfs_volume.specs.declared.findings.Law.{Law}
 use Rattle.xfs_volume.specs.declared.groups.GroupRec.{GroupRec}
-use Rattle.xfs_volume.specs.Laws.{first_broken, first_difference, nothing}
-use Rattle.xfs_space.specs.Parts.{AreGroups, IsGroup}
-use Rattle.xfs_space.specs.SpaceLaws.{AllAreFree, AreFree, by_length, free_laws, free_spans, is_shorter, put_by_length, runs_on, span_number, spans_at}
+use Rattle.xfs_volume.specs.Laws.{first_broken, first_difference}
+use Rattle.xfs_space.specs.Parts.{AreGroups}
+use Rattle.xfs_space.specs.SpaceLaws.{AllAreFree, by_length, free_laws, free_spans, is_shorter, put_by_length, runs_on, span_number, spans_at}
 use Rattle.xfs_space.proofs.Broken.{first_empty, first_here, first_next}
 use Rattle.xfs_space.proofs.Lawful.{each_lawful}
 use Rattle.xfs_space.proofs.RecordedMaps.{group_inside}

@@ -1,5 +1,5 @@
 -- The free runs of a group, from the runs that are owned.
-use Rattle.std.proofs.Common.{◌≡◌, ℕ, zero, suc, Bool, true, false, not, cond, ◌+◌, ◌-◌, ◌*◌, ◌≤◌, ◌<◌, ◌==◌, ◌&&◌, ◌||◌, if◌then◌else◌, List, [], ◌∷◌, map, refl, sym, ◌∙◌, ap, ap₂, subst, arith}
+use Rattle.std.proofs.Common.{◌≡◌, ℕ, zero, suc, Bool, true, false, not, cond, ◌+◌, ◌-◌, ◌*◌, ◌≤◌, ◌<◌, ◌==◌, ◌||◌, if◌then◌else◌, List, [], ◌∷◌, map, refl, sym, ◌∙◌, ap, ap₂, arith}
 use Rattle.std.specs.List.{All}
 use Rattle.std.proofs.lemmas.Bool.{eqb-true}
 use Rattle.std.proofs.lemmas.Bool.Decides.{nat_tests}
@@ -7,8 +7,7 @@ use Rattle.std.proofs.lemmas.List.Elements.{All-head, All-tail}
 use Rattle.xfs_geom.specs.Conversions.{group_length}
 use Rattle.xfs_geom.specs.Volumes.{Volume}
 use Rattle.xfs_geom.specs.declared.records.Run.{Run}
-use Rattle.xfs_geom.specs.declared.records.Span.{Span}
-use Rattle.xfs_kinds.specs.FreeRuns.{Ascend, is_block, is_in, is_free, free_of, runs_of, with_block}
+use Rattle.xfs_kinds.specs.FreeRuns.{Ascend, is_block, is_in, is_free, free_of, runs_of}
 use Rattle.xfs_space.specs.SpaceLaws.{covers, free_spans, runs_on}
 use Rattle.xfs_space.specs.Sorted.{Follow, span_in}
 use Rattle.xfs_space.proofs.Shared.{on-cons}

@@ -1,13 +1,13 @@
 -- What is owned are blocks of the volume, each run inside one group.
-use Rattle.std.proofs.Common.{◌≡◌, ℕ, suc, Bool, true, false, not, ◌+◌, ◌-◌, ◌*◌, ◌/◌, ◌%◌, ◌^◌, ◌≤◌, ◌<◌, inl, inr, ◌&&◌, ◌||◌, ◌==◌, if◌then◌else◌, nat_le, nat_lt, List, [], ◌∷◌, ◌++◌, length, get_or, map, take, Option, Some, None, refl, sym, ◌∙◌, ap, ap₂, subst, arith}
+use Rattle.std.proofs.Common.{◌≡◌, ℕ, Bool, true, false, not, ◌+◌, ◌-◌, ◌*◌, ◌/◌, ◌%◌, ◌^◌, ◌≤◌, ◌<◌, inl, inr, ◌&&◌, ◌==◌, if◌then◌else◌, nat_le, nat_lt, List, [], ◌∷◌, ◌++◌, length, get_or, map, take, Option, None, subst, arith}
 use Rattle.std.specs.List.{All, flat_map, list_all, list_any}
 use Rattle.std.proofs.Math.Nat.{mul-le-mul_right}
-use Rattle.std.proofs.lemmas.Bool.{and_parts, cases_lt, eqb-true, leb-true, ltb-true}
+use Rattle.std.proofs.lemmas.Bool.{and_parts, cases_lt, leb-true, ltb-true}
 use Rattle.std.proofs.lemmas.Nat.{div-add-mod'}
 use Rattle.std.proofs.lemmas.List.Elements.{All-append, All-cons, All-head, All-map, All-nil, All-tail}
 use Rattle.xfs_word.specs.declared.extents.Extent.{Extent}
 use Rattle.xfs_geom.specs.Conversions.{group_length, is_fixed}
-use Rattle.xfs_geom.specs.Groups.{ag_block_of_address, block_of_address, group_of_address}
+use Rattle.xfs_geom.specs.Groups.{ag_block_of_address, group_of_address}
 use Rattle.xfs_geom.specs.Volumes.{Volume, volume_of}
 use Rattle.xfs_geom.specs.declared.geometry.Geometry.{Geometry}
 use Rattle.xfs_geom.specs.declared.records.InoRec.{InoRec}
@@ -15,7 +15,6 @@ use Rattle.xfs_geom.specs.declared.records.Run.{Run}
 use Rattle.xfs_heads.specs.Heads.{is_listable}
 use Rattle.xfs_kinds.specs.Groups.{lies_in_group}
 use Rattle.xfs_kinds.specs.InodeTrees.{ascends_inode, fits_chunk, has_count, ino_shape, is_chunk, is_clear, is_first_inode}
-use Rattle.xfs_tree.specs.Rules.{are_lawful}
 use Rattle.xfs_volume.specs.declared.files.FileRec.{FileRec}
 use Rattle.xfs_volume.specs.declared.groups.GroupRec.{GroupRec}
 use Rattle.xfs_volume.specs.declared.groups.TreeBlocks.{TreeBlocks}
@@ -40,14 +39,14 @@ good_run v ag s count owner offset covered last there some inside small_owner sm
     record {
       owned = record { some = some; inside = omega (arith, all, inside); owner = small_owner; offset = small_offset; fork = fork };
       group = λ k before.
-      elim (cases_lt ag k) [
-        | inl less ↦
-            let up : (ag + 1) * v.agblocks ≤ k * v.agblocks = mul-le-mul_right v.agblocks (omega (arith, less)) in
-            omega (arith, up, short, inside)
-        | inr not_less ↦
-            let down : k * v.agblocks ≤ ag * v.agblocks = mul-le-mul_right v.agblocks not_less in
-            absurd (omega (arith, down, before))
-      ];
+          elim (cases_lt ag k) [
+            | inl less ↦
+                let up : (ag + 1) * v.agblocks ≤ k * v.agblocks = mul-le-mul_right v.agblocks (omega (arith, less)) in
+                omega (arith, up, short, inside)
+            | inr not_less ↦
+                let down : k * v.agblocks ≤ ag * v.agblocks = mul-le-mul_right v.agblocks not_less in
+                absurd (omega (arith, down, before))
+          ];
     }
 
 -- a single block
@@ -82,9 +81,9 @@ small_tree_owners =
     let small = λ (owner : ℕ). owner < 2 ^ 64 in
     All-cons small group_owner (group_owner ∷ inode_trees_owner ∷ inode_trees_owner ∷ group_owner ∷ []) (omega arith)
     (All-cons small group_owner (inode_trees_owner ∷ inode_trees_owner ∷ group_owner ∷ []) (omega arith)
-      (All-cons small inode_trees_owner (inode_trees_owner ∷ group_owner ∷ []) (omega arith)
-        (All-cons small inode_trees_owner (group_owner ∷ []) (omega arith)
-          (All-cons small group_owner [] (omega arith) (All-nil small)))))
+    (All-cons small inode_trees_owner (inode_trees_owner ∷ group_owner ∷ []) (omega arith)
+    (All-cons small inode_trees_owner (group_owner ∷ []) (omega arith)
+    (All-cons small group_owner [] (omega arith) (All-nil small)))))
 
 -- the entries of a free list
 listed_all : (v : Volume) (ag : ℕ) (xs : List ℕ) → list_all (is_listable v ag) xs ≡ true → All (λ block. block < group_length v ag) xs
@@ -152,9 +151,9 @@ good_group v ag g covered last there lawful =
     All-cons (IsGood v) (run base 1 headers_owner 0) ((tree_runs tree_owners g.blocks ++ listed) ++ cluster_runs base g.ino)
     (good_block v base headers_owner 0 (omega (arith, most, last)) (omega arith) (omega arith) (omega arith))
     (All-append (IsGood v) (tree_runs tree_owners g.blocks ++ listed) (cluster_runs base g.ino)
-      (All-append (IsGood v) (tree_runs tree_owners g.blocks) listed (good_trees v ag tree_owners g.blocks small_tree_owners lawful.blocks)
-        (good_listed v ag (take g.agfl.count g.agfl.entries) inside lawful.listed))
-      (good_chunks v ag g.ino covered last there chunks))
+    (All-append (IsGood v) (tree_runs tree_owners g.blocks) listed (good_trees v ag tree_owners g.blocks small_tree_owners lawful.blocks)
+    (good_listed v ag (take g.agfl.count g.agfl.entries) inside lawful.listed))
+    (good_chunks v ag g.ino covered last there chunks))
 
 good_groups : (v : Volume) (ag : ℕ) (gs : List GroupRec) → v.dblocks ≤ v.agcount * v.agblocks → (v.agcount - 1) * v.agblocks + 64 ≤ v.dblocks → ag + length gs ≤ v.agcount → AreGroups v ag gs
     → All (IsGood v) (groups_runs v.agblocks (ag * v.agblocks) gs)
@@ -202,7 +201,7 @@ good_file v f covered last small lawful =
     let attributes = map (extent_run v f.ino attribute_flag) f.attr in
     All-append (IsGood v) (extents ++ attributes) (blocks_of f.ino tree_flag f.tree)
     (All-append (IsGood v) extents attributes (good_extents v f.ino 0 f.extents covered last small (omega arith) (omega arith) (placed v f.ino f.extents lawful.extents))
-      (good_extents v f.ino attribute_flag f.attr covered last small (omega arith) (omega arith) (placed v f.ino f.attr lawful.attr)))
+    (good_extents v f.ino attribute_flag f.attr covered last small (omega arith) (omega arith) (placed v f.ino f.attr lawful.attr)))
     (good_blocks v f.ino tree_flag f.tree lawful.tree small (omega arith) (omega arith))
 
 good_files : (v : Volume) (fs : List FileRec) → v.dblocks ≤ v.agcount * v.agblocks → (v.agcount - 1) * v.agblocks + 64 ≤ v.dblocks → All (λ (f : FileRec). f.ino < 2 ^ 64) fs → All (IsFile v) fs
@@ -222,7 +221,7 @@ good_log g =
     let small = g.shape.log_inside.small in
     subst (λ (start : ℕ). IsGood v (run start g.logblocks log_owner 0)) whole
     (good_run v (g.log / g.agblocks) (g.log % g.agblocks) g.logblocks log_owner 0 g.shape.groups.covered g.shape.groups.last g.shape.log_inside.group (omega (arith, large)) g.shape.log_inside.inside
-      (omega arith) (omega arith) (omega (arith, small)))
+    (omega arith) (omega arith) (omega (arith, small)))
 
 -- all that is owned
 pub good_all : (g : Geometry) (gs : List GroupRec) (fs : List FileRec) → length gs ≡ g.agcount → AreGroups (volume_of g) 0 gs → All (IsFile (volume_of g)) fs → All (λ (f : FileRec). f.ino < 2 ^ 64) fs

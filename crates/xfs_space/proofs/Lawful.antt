@@ -1,5 +1,5 @@
 -- What lawful records of a tree keep each by itself.
-use Rattle.std.proofs.Common.{◌≡◌, ℕ, Bool, true, ◌+◌, ◌<◌, ◌≤◌, ◌-◌, ◌^◌, ◌&&◌, List, [], ◌∷◌, Option, Some, None, IsTrue, nat_le, nat_lt, arith}
+use Rattle.std.proofs.Common.{◌≡◌, ℕ, Bool, true, ◌+◌, ◌<◌, ◌≤◌, ◌-◌, ◌^◌, ◌&&◌, List, [], ◌∷◌, Option, Some, None, nat_le, nat_lt, arith}
 use Rattle.std.specs.List.{All}
 use Rattle.std.proofs.lemmas.Bool.{and_parts, leb-true, ltb-true}
 use Rattle.std.proofs.lemmas.List.Elements.{All-nil, All-cons}
@@ -10,8 +10,6 @@ use Rattle.xfs_geom.specs.Volumes.{Volume}
 use Rattle.xfs_tree.specs.Shape.{Shape}
 use Rattle.xfs_tree.specs.Rules.{are_lawful}
 use Rattle.xfs_kinds.specs.FileTrees.{bmbt_shape, is_extent, fits_extent, follows_offset}
-use Rattle.xfs_kinds.specs.Groups.{lies_in_one_group}
-use Rattle.xfs_space.specs.Parts.{IsFile}
 use Rattle.xfs_space.specs.Places.{IsPlaced}
 
 -- each of lawful records passes what its law alone asks

@@ -1,5 +1,5 @@
 -- The laws do not ask in which order the owned runs come.
-use Rattle.std.proofs.Common.{◌≡◌, ℕ, zero, suc, Bool, true, false, cond, ◌+◌, ◌*◌, ◌≤◌, ◌<◌, inl, inr, ◌==◌, if◌then◌else◌, nat_lt, List, [], ◌∷◌, ◌++◌, map, Option, Some, None, refl, sym, ◌∙◌, ap, ap₂, subst, arith}
+use Rattle.std.proofs.Common.{◌≡◌, ℕ, zero, suc, Bool, true, false, cond, ◌+◌, ◌*◌, ◌≤◌, inl, inr, ◌==◌, if◌then◌else◌, nat_lt, List, [], ◌∷◌, ◌++◌, map, Option, Some, None, refl, sym, ◌∙◌, ap, ap₂, arith}
 use Rattle.std.specs.List.{All, range_with_len, sum_by}
 use Rattle.std.specs.List.Sorted.{IsPermutation}
 use Rattle.std.proofs.lemmas.Bool.{cases_lt}
@@ -13,9 +13,9 @@ use Rattle.xfs_volume.specs.declared.findings.Law.{Law}
 use Rattle.xfs_volume.specs.declared.groups.GroupRec.{GroupRec}
 use Rattle.xfs_volume.specs.Laws.{first_broken}
 use Rattle.xfs_space.specs.RunLaws.{AreLawful, run_laws}
-use Rattle.xfs_space.specs.SpaceLaws.{AllAreFree, AreFree, by_length, covers, free_laws, free_spans, owner_at, owner_laws, owner_number, recorded_runs, runs_on, sharing_at, sharing_laws, spans_at}
+use Rattle.xfs_space.specs.SpaceLaws.{AllAreFree, by_length, covers, free_laws, free_spans, owner_at, owner_laws, owner_number, recorded_runs, runs_on, sharing_at, sharing_laws, spans_at}
 use Rattle.xfs_space.specs.Sorted.{IsOwned}
-use Rattle.xfs_space.proofs.Broken.{each_kept, first_of_first, first_of_two}
+use Rattle.xfs_space.proofs.Broken.{each_kept, first_of_first}
 use Rattle.xfs_space.proofs.FreeSpans.{free_same}
 use Rattle.xfs_space.proofs.Shared.{none_outside, on-cons}
 

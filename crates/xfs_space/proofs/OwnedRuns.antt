@@ -1,11 +1,10 @@
 -- Owned runs, one step after the other.
-use Rattle.std.proofs.Common.{◌≡◌, ℕ, suc, Bool, true, false, ◌+◌, ◌-◌, ◌*◌, ◌<◌, ◌≤◌, ◌==◌, if◌then◌else◌, List, [], ◌∷◌, ◌++◌, length, map, take, drop, get_or, refl, sym, ◌∙◌, ap, ap₂, arith, add-one, drop-cons, append_assoc}
+use Rattle.std.proofs.Common.{◌≡◌, ℕ, Bool, true, false, ◌+◌, ◌-◌, ◌*◌, ◌<◌, ◌≤◌, ◌==◌, if◌then◌else◌, List, [], ◌∷◌, ◌++◌, length, map, take, drop, get_or, refl, sym, ◌∙◌, ap, ap₂, arith, add-one, drop-cons, append_assoc}
 use Rattle.std.specs.List.{flat_map, list_any}
 use Rattle.std.proofs.lemmas.List.{append-nil, drop_all, take_all, length-drop}
 use Rattle.xfs_geom.specs.Volumes.{Volume}
 use Rattle.xfs_geom.specs.declared.records.Run.{Run}
 use Rattle.xfs_volume.specs.declared.groups.GroupRec.{GroupRec}
-use Rattle.xfs_volume.specs.declared.groups.TreeBlocks.{TreeBlocks}
 use Rattle.xfs_space.specs.Owners.{different, group_runs, groups_runs, listed_run, tree_runs}
 use Rattle.xfs_space.specs.Parts.{AreGroups, IsGroup}
 

@@ -1,15 +1,14 @@
 -- What the reverse-mapping trees record, group by group.
-use Rattle.std.proofs.Common.{◌≡◌, ℕ, suc, Bool, true, false, not, ◌+◌, ◌-◌, ◌*◌, ◌^◌, ◌≤◌, ◌<◌, ◌&&◌, ◌==◌, if◌then◌else◌, nat_le, nat_lt, List, [], ◌∷◌, ◌++◌, length, get_or, map, Option, Some, None, refl, sym, ◌∙◌, ap, ap₂, subst, arith}
+use Rattle.std.proofs.Common.{◌≡◌, ℕ, Bool, true, false, ◌+◌, ◌-◌, ◌*◌, ◌^◌, ◌≤◌, ◌<◌, ◌&&◌, ◌==◌, if◌then◌else◌, nat_le, nat_lt, List, [], ◌∷◌, length, get_or, map, Option, Some, None, refl, ap, subst, arith}
 use Rattle.std.specs.List.{All}
 use Rattle.std.proofs.Math.Nat.{mul-le-mul_right}
 use Rattle.std.proofs.lemmas.Bool.{and_parts, eqb-true, eqb-false, leb-true, ltb-true}
-use Rattle.std.proofs.lemmas.List.Elements.{All-append, All-head, All-map, All-nil, All-tail}
+use Rattle.std.proofs.lemmas.List.Elements.{All-append, All-map, All-nil}
 use Rattle.xfs_geom.specs.Conversions.{group_length}
 use Rattle.xfs_geom.specs.Volumes.{Volume}
 use Rattle.xfs_geom.specs.declared.records.RmapRec.{RmapRec}
 use Rattle.xfs_geom.specs.declared.records.Run.{Run}
 use Rattle.xfs_kinds.specs.Groups.{lies_in_group}
-use Rattle.xfs_kinds.specs.MergedRuns.{held_at}
 use Rattle.xfs_kinds.specs.OffsetWords.{offset_in_fork}
 use Rattle.xfs_kinds.specs.OwnerTrees.{fits_owner, follows_end, is_owned_run, is_owner, rmap_shape}
 use Rattle.xfs_tree.specs.Rules.{are_lawful}
@@ -20,7 +19,7 @@ use Rattle.xfs_space.specs.Sorted.{Follow}
 use Rattle.xfs_space.proofs.FreeLaws.{follow_low}
 use Rattle.xfs_space.proofs.FreeSpans.{group_short}
 use Rattle.xfs_space.proofs.Lawful.{each_lawful}
-use Rattle.xfs_space.proofs.Splits.{EndsBy, StartsFrom, held_back, held_front}
+use Rattle.xfs_space.proofs.Splits.{EndsBy, StartsFrom}
 
 -- a group lies inside the volume
 pub group_inside : (v : Volume) (ag : ℕ) → ag < v.agcount → (v.agcount - 1) * v.agblocks + 64 ≤ v.dblocks → ag * v.agblocks + group_length v ag ≤ v.dblocks

@@ -1,5 +1,5 @@
 -- Two maps of owners, swept side by side.
-use Rattle.std.proofs.Common.{◌≡◌, ◌≢◌, ℕ, suc, Bool, true, false, not, max, min, ◌+◌, ◌-◌, ◌/◌, ◌%◌, ◌^◌, ◌≤◌, ◌<◌, ◌⊎◌, inl, inr, ◌&&◌, ◌==◌, if◌then◌else◌, nat_lt, nat_le, List, [], ◌∷◌, map, drop, Option, Some, None, length, get_or, refl, sym, ◌∙◌, ap, ap₂, subst, arith, add-one, drop-cons}
+use Rattle.std.proofs.Common.{◌≡◌, ◌≢◌, ℕ, Bool, true, false, not, max, min, ◌+◌, ◌-◌, ◌/◌, ◌%◌, ◌^◌, ◌≤◌, ◌<◌, inl, inr, ◌&&◌, ◌==◌, if◌then◌else◌, nat_lt, nat_le, List, [], ◌∷◌, map, drop, Option, Some, None, length, get_or, refl, sym, ◌∙◌, ap, ap₂, subst, arith, add-one, drop-cons}
 use Rattle.std.specs.List.{All}
 use Rattle.std.proofs.lemmas.Bool.{cases_lt, eq-eqb, and_from, true≢false}
 use Rattle.std.proofs.lemmas.Bool.Decides.{nat_tests}
@@ -10,7 +10,7 @@ use Rattle.xfs_kinds.specs.MergedRuns.{held_at, word_at}
 use Rattle.xfs_kinds.specs.OffsetWords.{is_file_data}
 use Rattle.xfs_space.specs.Maps.{AreAlike, AreMapped, IsFirstDifference, IsMapped}
 use Rattle.xfs_space.specs.Sorted.{Follow}
-use Rattle.xfs_space.proofs.Splits.{StartsFrom, all_behind, held_off, held_on, none_held_back}
+use Rattle.xfs_space.proofs.Splits.{all_behind, held_off, held_on, none_held_back}
 
 -- the first of the runs that are left ends behind the block
 abbrev pub EndsAfter : ℕ → List Run → Type 0

@@ -1,5 +1,5 @@
 -- What the parts of a catalog keep by themselves, before any law: records are lawful in their trees, blocks lie where they can.
-use Rattle.std.specs.Prelude.{ℕ, ◌+◌, ◌/◌, ◌≡◌, ◌≤◌, ◌<◌, List, [], ◌∷◌, length, Option, None, IsTrue}
+use Rattle.std.specs.Prelude.{ℕ, ◌+◌, ◌/◌, ◌≡◌, ◌≤◌, ◌<◌, List, [], ◌∷◌, length, None, IsTrue}
 use Rattle.std.specs.List.{All}
 use Rattle.xfs_geom.specs.Volumes.{Volume}
 use Rattle.xfs_heads.specs.FreeList.{has_blocks}

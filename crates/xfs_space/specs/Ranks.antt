@@ -1,5 +1,5 @@
 -- Free runs as they rank by length.
-use Rattle.std.specs.Prelude.{◌≡◌, ℕ, Bool, true, ◌==◌, ◌&&◌, ◌||◌, nat_le, nat_lt, List, [], ◌∷◌}
+use Rattle.std.specs.Prelude.{◌≡◌, Bool, true, ◌==◌, ◌&&◌, ◌||◌, nat_le, nat_lt, List, [], ◌∷◌}
 use Rattle.std.specs.List.{list_all}
 use Rattle.xfs_geom.specs.declared.records.Span.{Span}
 use Rattle.xfs_space.specs.declared.lengths.Length.{Length}

@@ -1,7 +1,7 @@
 -- The laws of space: no block has two owners; the free space trees have just the blocks without one; the reverse-mapping tree
 -- has just the owners (chapters "AG Free Space Management" and "Reverse-Mapping B+tree").
 use Rattle.std.specs.Prelude.{ℕ, Bool, ◌+◌, ◌*◌, ◌^◌, ◌≤◌, ◌==◌, ◌&&◌, ◌||◌, ◌≡◌, if◌then◌else◌, nat_lt, List, [], ◌∷◌, ◌++◌, map, count_by, Option, Some, None}
-use Rattle.std.specs.List.{flat_map, range_with_len}
+use Rattle.std.specs.List.{range_with_len}
 use Rattle.xfs_geom.specs.Conversions.{group_length}
 use Rattle.xfs_geom.specs.Volumes.{Volume}
 use Rattle.xfs_geom.specs.declared.records.Run.{Run}

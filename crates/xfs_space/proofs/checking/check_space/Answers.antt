@@ -1,4 +1,4 @@
-use Rattle.std.proofs.Common.{List, sym, ◌∙◌, ap, subst}
+use Rattle.std.proofs.Common.{List, sym, ◌∙◌, subst}
 use Rattle.std.specs.List.{All}
 use Rattle.std.specs.List.Sorted.{IsPermutation}
 use Rattle.std.proofs.lemmas.List.Sorted.{All-permutation}
@@ -32,6 +32,7 @@ returns-clause-differs g c = held_differs c.in_ok-law.law (space_laws (volume_of
 
 pub returns-clause-lawful : goal.returns-clause-lawful
 returns-clause-lawful g c =
-    let moved = subst (λ (rs : List Run). IsPermutation c.in_ok-runs.runs.items rs) (sym c.deref.ensures.value) c.in_ok-sorted.ensures.moved in
-    (λ none. lawful_space (volume_of c.args.g.now) c.args.groups.now c.args.files.now c.in_ok-runs.runs.items c.deref.result.now c.in_ok-runs.ensures.all moved (c.in_ok-law.ensures.lawful none),
-      λ lawful. returns-clause-law g c ∙ none_in_space (volume_of c.args.g.now) c.args.groups.now c.args.files.now lawful)
+    let moved = subst (λ (rs : List Run). IsPermutation c.in_ok-runs.runs.items rs) (sym c.deref.ensures.value) c.in_ok-sorted.ensures.moved in (
+      λ none. lawful_space (volume_of c.args.g.now) c.args.groups.now c.args.files.now c.in_ok-runs.runs.items c.deref.result.now c.in_ok-runs.ensures.all moved (c.in_ok-law.ensures.lawful none),
+      λ lawful. returns-clause-law g c ∙ none_in_space (volume_of c.args.g.now) c.args.groups.now c.args.files.now lawful,
+    )

@@ -1,10 +1,8 @@
-use Rattle.std.proofs.Common.{◌≡◌, ℕ, max, min, ◌+◌, ◌==◌, ◌&&◌, Bool, drop, get_or, map, sym, ◌∙◌, ap, ap₂, subst, arith}
+use Rattle.std.proofs.Common.{ℕ, max, min, ◌+◌, ◌==◌, ◌&&◌, drop, get_or, map, sym, ◌∙◌, ap, ap₂, subst, arith}
 use Rattle.std.proofs.lemmas.Bool.{and_parts, eqb-true}
-use Rattle.std.proofs.lemmas.List.Elements.{All-head}
 use Rattle.xfs_geom.specs.declared.records.RmapRec.{RmapRec}
-use Rattle.xfs_geom.specs.declared.records.Run.{Run}
 use Rattle.xfs_kinds.specs.MergedRuns.{word_at}
-use Rattle.xfs_space.specs.Maps.{IsFirstDifference, IsMapped}
+use Rattle.xfs_space.specs.Maps.{IsFirstDifference}
 use Rattle.xfs_space.specs.SpaceLaws.{recorded_run}
 use Rattle.xfs_space.proofs.Splits.{no_run}
 use Rattle.xfs_space.proofs.Sweep.{due_left, head_inside, held_left, mapped_at, starts_differ, swept_heads, swept_step, words_differ}

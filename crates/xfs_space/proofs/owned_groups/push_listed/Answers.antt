@@ -1,4 +1,4 @@
-use Rattle.std.proofs.Common.{◌≡◌, Vec, Global, sym, ◌∙◌, ap, if◌then◌else◌, Bool, List, ◌++◌, ◌∷◌, [], get_or}
+use Rattle.std.proofs.Common.{◌≡◌, Vec, Global, sym, ◌∙◌, ap, if◌then◌else◌, Bool, ◌++◌, ◌∷◌, [], get_or}
 use Rattle.xfs_geom.specs.declared.records.Run.{Run}
 use Rattle.xfs_space.specs.Owners.{listed_run}
 use Rattle.xfs_space.proofs.OwnedRuns.{listed_next}

@@ -1,7 +1,6 @@
-use Rattle.std.proofs.Common.{◌≡◌, ◌++◌, drop, sym, ◌∙◌, ap, List}
+use Rattle.std.proofs.Common.{◌++◌, drop, sym, ◌∙◌, ap, List}
 use Rattle.std.proofs.lemmas.List.{drop_all, append-nil}
 use Rattle.xfs_geom.specs.declared.records.Run.{Run}
-use Rattle.xfs_space.specs.Owners.{tree_runs}
 use Rattle.xfs_space.proofs.OwnedRuns.{no_trees}
 use Rattle.xfs_space.proofs.owned_groups.push_trees.Goals as goal
 

@@ -1,10 +1,10 @@
-use Rattle.std.proofs.Common.{◌≡◌, ℕ, ◌+◌, ◌*◌, ◌≤◌, List, map, sym, ◌∙◌, ap, subst, arith}
+use Rattle.std.proofs.Common.{◌≡◌, ℕ, ◌+◌, ◌*◌, List, map, sym, ap, subst, arith}
 use Rattle.xfs_geom.specs.Volumes.{volume_of}
 use Rattle.xfs_geom.specs.declared.records.RmapRec.{RmapRec}
 use Rattle.xfs_space.specs.Maps.{AreAlike, AreMapped, IsFirstUnlike}
 use Rattle.xfs_space.specs.SpaceLaws.{recorded_run, recorded_runs}
 use Rattle.xfs_space.proofs.FreeLaws.{apart, follow_low}
-use Rattle.xfs_space.proofs.OwnerLaws.{Here, alike_next, alike_whole, all_alike, front_mapped, here_of, law_differs, law_kept, records_mapped}
+use Rattle.xfs_space.proofs.OwnerLaws.{alike_next, alike_whole, all_alike, front_mapped, here_of, law_differs, law_kept, records_mapped}
 use Rattle.xfs_space.proofs.recorded.owner_law.Goals as goal
 
 pub split_runs-requires-clause-follow : goal.split_runs-requires-clause-follow

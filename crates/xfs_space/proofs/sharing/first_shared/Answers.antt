@@ -1,4 +1,4 @@
-use Rattle.std.proofs.Common.{sym, ◌∙◌, ap, drop}
+use Rattle.std.proofs.Common.{sym, ◌∙◌, ap}
 use Rattle.std.proofs.lemmas.List.{drop_all}
 use Rattle.xfs_space.proofs.Shared.{first_of_all, none_overlap, overlap, overlap_at}
 use Rattle.xfs_space.proofs.Splits.{no_run}
