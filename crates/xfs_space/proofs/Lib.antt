@@ -1,0 +1,17 @@
+pub mod Lawful
+pub mod OwnedRuns
+pub mod Broken
+pub mod Order
+pub mod Shared
+pub mod Splits
+pub mod OneOrder
+pub mod ByLength
+pub mod FreeSpans
+pub mod FreeLaws
+pub mod Sweep
+pub mod RecordedMaps
+pub mod OwnerLaws
+pub mod GoodRuns
+pub mod FreeKept
+pub mod Moved
+pub mod Joined

@@ -1,0 +1,89 @@
+use Rattle.std.proofs.Common.{ℕ, max, min, ◌+◌, ◌==◌, ◌&&◌, drop, get_or, map, sym, ◌∙◌, ap, ap₂, subst, arith}
+use Rattle.std.proofs.lemmas.Bool.{and_parts, eqb-true}
+use Rattle.xfs_geom.specs.declared.records.RmapRec.{RmapRec}
+use Rattle.xfs_kinds.specs.MergedRuns.{word_at}
+use Rattle.xfs_space.specs.Maps.{IsFirstDifference}
+use Rattle.xfs_space.specs.SpaceLaws.{recorded_run}
+use Rattle.xfs_space.proofs.Splits.{no_run}
+use Rattle.xfs_space.proofs.Sweep.{due_left, head_inside, held_left, mapped_at, starts_differ, swept_heads, swept_step, words_differ}
+use Rattle.xfs_space.proofs.differing.first_difference.Goals as goal
+use Rattle.xfs_space.proofs.differing.first_difference.Goals.{then-loop-i-test+else-j-runs, else-loop-i-test}
+
+abbrev no_record : RmapRec
+no_record = record { start = 0; count = 0; owner = 0; offset = 0 }
+
+pub returns-then-held-due : goal.returns-then-held-due
+returns-then-held-due c =
+    let f = recorded_run c.args.base in
+    let x = c.recorded_run-x.result in
+    let y = get_or c.args.runs.now c.loop-i.j no_run in
+    let swept = swept_heads f (map f c.args.records.now) c.args.runs.now c.args.records.now c.args.runs.now c.loop-i.i c.loop-i.j c.loop-i.at no_record no_run x c.loop-i-test.true c.if-j-runs.true
+    c.recorded_run-x.ensures c.loop-i.invariant in
+    subst (λ (n : ℕ). IsFirstDifference (map f c.args.records.now) c.args.runs.now n) (sym (c.earlier.ensures ∙ ap₂ min c.later-held.ensures c.later-due.ensures))
+    (starts_differ (map f c.args.records.now) c.args.runs.now x y (map f (drop (c.loop-i.i + 1) c.args.records.now)) (drop (c.loop-i.j + 1) c.args.runs.now) c.loop-i.at swept
+    (λ same. c.if-held-due.true (c.later-held.ensures ∙ same ∙ sym c.later-due.ensures)))
+
+pub agree-requires-clause-x : goal.agree-requires-clause-x
+agree-requires-clause-x c =
+    mapped_at (recorded_run c.args.base) c.args.records.now c.loop-i.i no_record c.recorded_run-x.result c.loop-i-test.true c.recorded_run-x.ensures c.requires.recorded.each
+
+pub agree-requires-clause-on_x : goal.agree-requires-clause-on_x
+agree-requires-clause-on_x c =
+    let f = recorded_run c.args.base in
+    let x = c.recorded_run-x.result in
+    let swept = swept_heads f (map f c.args.records.now) c.args.runs.now c.args.records.now c.args.runs.now c.loop-i.i c.loop-i.j c.loop-i.at no_record no_run x c.loop-i-test.true c.if-j-runs.true
+    c.recorded_run-x.ensures c.loop-i.invariant in
+    let inside = head_inside (map f c.args.records.now) x (map f (drop (c.loop-i.i + 1) c.args.records.now)) c.loop-i.at swept.left in
+    omega (arith, c.later-held.ensures, inside)
+
+pub returns-then-not-agree : goal.returns-then-not-agree
+returns-then-not-agree c =
+    let f = recorded_run c.args.base in
+    let x = c.recorded_run-x.result in
+    let y = get_or c.args.runs.now c.loop-i.j no_run in
+    let swept = swept_heads f (map f c.args.records.now) c.args.runs.now c.args.records.now c.args.runs.now c.loop-i.i c.loop-i.j c.loop-i.at no_record no_run x c.loop-i-test.true c.if-j-runs.true
+    c.recorded_run-x.ensures c.loop-i.invariant in
+    let same = sym c.later-held.ensures ∙ c.if-held-due.false ∙ c.later-due.ensures in
+    let unlike = ap (λ (n : ℕ). x.owner == y.owner && word_at x n == word_at y n) (sym c.later-held.ensures) ∙ sym c.agree.ensures ∙ c.if-not-agree.true in
+    subst (λ (n : ℕ). IsFirstDifference (map f c.args.records.now) c.args.runs.now n) (sym c.later-held.ensures)
+    (words_differ (map f c.args.records.now) c.args.runs.now x y (map f (drop (c.loop-i.i + 1) c.args.records.now)) (drop (c.loop-i.j + 1) c.args.runs.now) c.loop-i.at swept same unlike)
+
+pub overflow_add-x : goal.overflow_add-x
+overflow_add-x c =
+    let mapped = mapped_at (recorded_run c.args.base) c.args.records.now c.loop-i.i no_record c.recorded_run-x.result c.loop-i-test.true c.recorded_run-x.ensures c.requires.recorded.each in
+    omega (arith, mapped.end)
+
+pub passed-i-requires-clause-run : goal.passed-i-requires-clause-run
+passed-i-requires-clause-run c =
+    mapped_at (recorded_run c.args.base) c.args.records.now c.loop-i.i no_record c.recorded_run-x.result c.loop-i-test.true c.recorded_run-x.ensures c.requires.recorded.each
+
+pub loop-i-preserved : goal.loop-i-preserved
+loop-i-preserved c =
+    let f = recorded_run c.args.base in
+    let x = c.recorded_run-x.result in
+    let y = get_or c.args.runs.now c.loop-i.j no_run in
+    let swept = swept_heads f (map f c.args.records.now) c.args.runs.now c.args.records.now c.args.runs.now c.loop-i.i c.loop-i.j c.loop-i.at no_record no_run x c.loop-i-test.true c.if-j-runs.true
+    c.recorded_run-x.ensures c.loop-i.invariant in
+    let same = sym c.later-held.ensures ∙ c.if-held-due.false ∙ c.later-due.ensures in
+    let alike = ap (λ (n : ℕ). x.owner == y.owner && word_at x n == word_at y n) (sym c.later-held.ensures) ∙ sym c.agree.ensures ∙ c.if-not-agree.false in
+    let h = max x.start c.loop-i.at in
+    let parts = and_parts (x.owner == y.owner) (word_at x h == word_at y h) alike in
+    swept_step f (map f c.args.records.now) c.args.runs.now c.args.records.now c.args.runs.now c.loop-i.i c.loop-i.j c.loop-i.at c.earlier-at.result c.passed-i.result c.passed-j.result no_record no_run x
+    c.loop-i-test.true c.if-j-runs.true c.recorded_run-x.ensures swept same (eqb-true x.owner y.owner parts.0) (eqb-true (word_at x h) (word_at y h) parts.1) c.earlier-at.ensures
+    c.passed-i.ensures c.passed-j.ensures
+
+pub returns-then-i-records : goal.returns-then-i-records
+returns-then-i-records c =
+    let f = recorded_run c.args.base in
+    elim c.loop-i-test.branch [
+      | then-loop-i-test+else-j-runs w ↦
+          held_left f (map f c.args.records.now) c.args.runs.now c.args.records.now c.args.runs.now c.loop-i.i c.loop-i.j c.loop-i.at c.later.result no_record c.if-i-records.true w.if-j-runs.false
+          c.loop-i.invariant c.later.ensures
+      | else-loop-i-test w ↦ absurd (omega arith)
+    ]
+
+pub returns-then-j-runs-2 : goal.returns-then-j-runs-2
+returns-then-j-runs-2 c =
+    let f = recorded_run c.args.base in
+    due_left f (map f c.args.records.now) c.args.runs.now c.args.records.now c.args.runs.now c.loop-i.i c.loop-i.j c.loop-i.at c.later-then-j-runs-2.result no_run c.if-i-records.false c.if-j-runs-2.true
+    c.loop-i.invariant c.later-then-j-runs-2.ensures
