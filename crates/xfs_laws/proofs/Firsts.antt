@@ -1,7 +1,8 @@
 -- The first of two lists of laws that is broken, joined.
-use Rattle.std.proofs.Common.{◌≡◌, ◌==◌, Bool, true, false, if◌then◌else◌, List, [], ◌∷◌, ◌++◌, Option, Some, None, refl, sym, ap, ◌∙◌}
+use Rattle.std.proofs.Common.{◌≡◌, ◌≢◌, ℕ, inl, inr, ◌==◌, Bool, true, false, if◌then◌else◌, List, [], ◌∷◌, ◌++◌, Option, Some, None, refl, sym, ap, ◌∙◌}
+use Rattle.std.proofs.lemmas.Bool.{cases_eq, eq-eqb, ne_eqb, cond-true, cond-false}
 use Rattle.xfs_volume.specs.declared.findings.Law.{Law}
-use Rattle.xfs_volume.specs.Laws.{first_broken}
+use Rattle.xfs_volume.specs.Laws.{AreKept, first_broken}
 
 -- a choice between what is broken here and what comes later, with more behind
 chosen_some : (kept : Bool) (here : Law) (rest more : Option Law) (l : Law)
@@ -32,3 +33,34 @@ pub first_rest : (x : Law) (ys : List Law) → first_broken (x ∷ []) ≡ None 
 first_rest x ys none = first_behind (x ∷ []) ys none
 
 pub ruleset joined = (first_in, first_behind, first_one, first_rest)
+
+some_none : (l : Law) → Some l ≡ None → ⊥
+some_none l e = cc
+
+same_some : (x l : Law) → Some x ≡ Some l → x ≡ l
+same_some x l e = cc
+
+-- where none is broken each is kept, and what is broken differs
+kept_here : (held due : ℕ) (here : Law) (rest : Option Law) → (if held == due then rest else Some here) ≡ None → (held ≡ due) × (rest ≡ None)
+kept_here held due here rest none = elim (cases_eq held due) [
+    | inl same ↦ (same, sym (cond-true (held == due) rest (Some here) (eq-eqb held due same)) ∙ none)
+    | inr other ↦ absurd (some_none here (sym (cond-false (held == due) rest (Some here) (ne_eqb held due other)) ∙ none))
+  ]
+
+pub all_kept : (laws : List Law) → first_broken laws ≡ None → AreKept laws
+unfolding first_broken
+all_kept [] none = tt
+all_kept (l ∷ ls) none = let here = kept_here l.held l.due l (first_broken ls) none in (here.0, all_kept ls here.1)
+
+differs_here : (x : Law) (rest : Option Law) (l : Law) → (rest ≡ Some l → l.held ≢ l.due) → (if x.held == x.due then rest else Some x) ≡ Some l → l.held ≢ l.due
+differs_here x rest l step found = elim (cases_eq x.held x.due) [
+    | inl same ↦ step (sym (cond-true (x.held == x.due) rest (Some x) (eq-eqb x.held x.due same)) ∙ found)
+    | inr other ↦
+        let is : x ≡ l = same_some x l (sym (cond-false (x.held == x.due) rest (Some x) (ne_eqb x.held x.due other)) ∙ found) in
+        λ e. other (ap (λ (y : Law). y.held) is ∙ (e ∙ ap (λ (y : Law). y.due) (sym is)))
+  ]
+
+pub broken_differs : (laws : List Law) (l : Law) → first_broken laws ≡ Some l → l.held ≢ l.due
+unfolding first_broken
+broken_differs [] l found = absurd (some_none l (sym found))
+broken_differs (x ∷ xs) l found = differs_here x (first_broken xs) l (broken_differs xs l) found

@@ -5,3 +5,5 @@ pub mod Trees
 pub mod Firsts
 pub mod Groups
 pub mod Repeated
+pub mod Conditions
+pub mod Grouped

@@ -1,7 +1,7 @@
 -- Different numbers, counted from one place of a list on.
 use Rattle.std.proofs.Common.{◌≡◌, ℕ, suc, ◌+◌, ◌==◌, ◌<◌, Bool, true, false, if◌then◌else◌, List, [], ◌∷◌, length, get_or, drop, refl, sym, ap, ◌∙◌, add-one, drop-cons, arith}
 use Rattle.std.specs.List.{list_any}
-use Rattle.xfs_laws.specs.Counting.{different}
+use Rattle.xfs_space.specs.Owners.{different}
 
 -- how many differ from a place on: one more than behind it, where the number does not come again
 pub different_from : (xs : List ℕ) (i : ℕ) → i < length xs

@@ -17,6 +17,7 @@ use Rattle.xfs_volume.specs.declared.findings.Law.{Law}
 use Rattle.xfs_volume.specs.declared.groups.GroupRec.{GroupRec}
 use Rattle.xfs_volume.specs.declared.groups.TreeBlocks.{TreeBlocks}
 use Rattle.xfs_volume.specs.Laws.{law_at, first_difference}
+use Rattle.xfs_space.specs.Owners.{different}
 
 -- what a law says of each group, by the number of the group
 abbrev pub by_group : (ℕ → GroupRec → List Law) → ℕ → List GroupRec → List Law
@@ -131,10 +132,6 @@ abbrev pub counter_laws : Volume → List GroupRec → Counts → List Law
 counter_laws v groups counts = by_group group_counts 0 groups ++ volume_counts v groups counts
 
 -- the sixth law: the active entries of a free list differ
-abbrev pub different : List ℕ → List ℕ
-different [] = []
-different (x ∷ xs) = if list_any (λ y. y == x) xs then different xs else x ∷ different xs
-
 abbrev pub group_entries : ℕ → GroupRec → List Law
 group_entries ag g = law_at 6 ag g.agfl.count (length (different (take g.agfl.count g.agfl.entries))) ∷ []
 

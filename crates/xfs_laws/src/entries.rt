@@ -3,7 +3,8 @@
 ghost use Rattle.std.specs.Prelude.{◌≡◌, ◌<◌, ◌≤◌, ◌+◌, ◌==◌, drop, length, slice_index, [], ◌∷◌};
 ghost use Rattle.std.specs.List.{list_any};
 ghost use Rattle.xfs_volume.specs.Laws.{first_broken};
-ghost use Rattle.xfs_laws.specs.Counting.{AreShort, different, group_entries, list_laws};
+ghost use Rattle.xfs_space.specs.Owners.{different};
+ghost use Rattle.xfs_laws.specs.Counting.{AreShort, group_entries, list_laws};
 
 use crate::broken::broken;
 use xfs_volume::{GroupRec, Law};

@@ -6,5 +6,11 @@ mod chunks;
 mod counters;
 mod entries;
 mod files;
+
 mod log;
+mod named;
+mod parts;
 mod sums;
+mod verdict;
+
+pub use verdict::{is_catalog, lawful};

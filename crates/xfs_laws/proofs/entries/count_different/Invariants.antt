@@ -1,5 +1,5 @@
 use Rattle.std.proofs.Common.{◌≡◌, ◌≤◌, ◌+◌, length, drop}
-use Rattle.xfs_laws.specs.Counting.{different}
+use Rattle.xfs_space.specs.Owners.{different}
 use Rattle.xfs_laws.proofs.entries.count_different.Given as goal
 
 abbrev pub invariant-loop-index : goal.invariant-loop-index
