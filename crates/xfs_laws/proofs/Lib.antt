@@ -7,3 +7,4 @@ pub mod Groups
 pub mod Repeated
 pub mod Conditions
 pub mod Grouped
+pub mod Roots

@@ -1,6 +1,9 @@
 //! Whether a volume is lawful.
 
-ghost use Rattle.std.specs.Prelude.{◌≡◌, ◌≤◌, length, IfErr, IfOk, IsTrue, OnOk};
+ghost use Rattle.std.specs.Prelude.{◌≡◌, None, IfErr, IfOk, IsTrue, OnOk};
+ghost use Rattle.xfs_geom.specs.Volumes.{volume_of};
+ghost use Rattle.xfs_naming.specs.Lawful.{IsNamingLawful};
+ghost use Rattle.xfs_space.specs.SpaceLaws.{IsSpaceLawful};
 ghost use Rattle.xfs_volume.specs.Laws.{AreKept, first_broken};
 ghost use Rattle.xfs_laws.specs.Lawful.{Differs, IsCatalog, IsVerdict, broken_law, counting_laws, laws_of};
 
@@ -24,6 +27,8 @@ pub fn lawful<R: Threads + Sync>(rt: &R, alloc: Global, catalog: &Catalog) -> Re
     requires { IsCatalog catalog.now }
     ensures verdict { IsVerdict (broken_law catalog.now) result }
     ensures kept { OnOk result (AreKept (laws_of catalog.now)) }
+    ensures space { OnOk result (IsSpaceLawful (volume_of catalog.now.geometry) catalog.now.groups catalog.now.files) }
+    ensures names { OnOk result (IsNamingLawful catalog.now.geometry.rootino catalog.now.files catalog.now.entries catalog.now.dirs) }
     ensures differs { IfErr result Differs }
 {
     match first_broken_law(rt, alloc, catalog) {
@@ -41,7 +46,9 @@ fn first_broken_law<R: Threads + Sync>(
     catalog: &Catalog,
 ) -> Result<Option<Law>, NoMemory>
     requires { IsCatalog catalog.now }
-    ensures { IfOk result (λ law. law ≡ broken_law catalog.now) }
+    ensures law { IfOk result (λ law. law ≡ broken_law catalog.now) }
+    ensures space { IfOk result (λ law. law ≡ None → IsSpaceLawful (volume_of catalog.now.geometry) catalog.now.groups catalog.now.files) }
+    ensures names { IfOk result (λ law. law ≡ None → IsNamingLawful catalog.now.geometry.rootino catalog.now.files catalog.now.entries catalog.now.dirs) }
 {
     let groups = catalog.groups.as_slice();
     let files = catalog.files.as_slice();
