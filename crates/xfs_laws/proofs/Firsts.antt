@@ -43,9 +43,9 @@ same_some x l e = cc
 -- where none is broken each is kept, and what is broken differs
 kept_here : (held due : ℕ) (here : Law) (rest : Option Law) → (if held == due then rest else Some here) ≡ None → (held ≡ due) × (rest ≡ None)
 kept_here held due here rest none = elim (cases_eq held due) [
-    | inl same ↦ (same, sym (cond-true (held == due) rest (Some here) (eq-eqb held due same)) ∙ none)
-    | inr other ↦ absurd (some_none here (sym (cond-false (held == due) rest (Some here) (ne_eqb held due other)) ∙ none))
-  ]
+  | inl same ↦ (same, sym (cond-true (held == due) rest (Some here) (eq-eqb held due same)) ∙ none)
+  | inr other ↦ absurd (some_none here (sym (cond-false (held == due) rest (Some here) (ne_eqb held due other)) ∙ none))
+]
 
 pub all_kept : (laws : List Law) → first_broken laws ≡ None → AreKept laws
 unfolding first_broken
@@ -54,11 +54,11 @@ all_kept (l ∷ ls) none = let here = kept_here l.held l.due l (first_broken ls)
 
 differs_here : (x : Law) (rest : Option Law) (l : Law) → (rest ≡ Some l → l.held ≢ l.due) → (if x.held == x.due then rest else Some x) ≡ Some l → l.held ≢ l.due
 differs_here x rest l step found = elim (cases_eq x.held x.due) [
-    | inl same ↦ step (sym (cond-true (x.held == x.due) rest (Some x) (eq-eqb x.held x.due same)) ∙ found)
-    | inr other ↦
-        let is : x ≡ l = same_some x l (sym (cond-false (x.held == x.due) rest (Some x) (ne_eqb x.held x.due other)) ∙ found) in
-        λ e. other (ap (λ (y : Law). y.held) is ∙ (e ∙ ap (λ (y : Law). y.due) (sym is)))
-  ]
+  | inl same ↦ step (sym (cond-true (x.held == x.due) rest (Some x) (eq-eqb x.held x.due same)) ∙ found)
+  | inr other ↦
+      let is : x ≡ l = same_some x l (sym (cond-false (x.held == x.due) rest (Some x) (ne_eqb x.held x.due other)) ∙ found) in
+      λ e. other (ap (λ (y : Law). y.held) is ∙ (e ∙ ap (λ (y : Law). y.due) (sym is)))
+]
 
 pub broken_differs : (laws : List Law) (l : Law) → first_broken laws ≡ Some l → l.held ≢ l.due
 unfolding first_broken

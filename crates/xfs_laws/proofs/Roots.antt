@@ -10,7 +10,7 @@ few_addresses groups agblocks addresses dblocks one last small least =
     let one_of : 1 * addresses ≤ 1 * (2 * agblocks) = mul-le-mul_left 1 (omega arith) in
     let rest : groups * addresses ≤ groups * (2 * agblocks) = mul-le-mul_left groups (omega arith) in
     let twice : groups * (2 * agblocks) ≡ groups * agblocks + groups * agblocks =
-        ap (λ (n : ℕ). groups * n) (let d : 2 * agblocks ≡ agblocks + agblocks = omega arith in d) ∙ mul-add groups agblocks agblocks in
+    ap (λ (n : ℕ). groups * n) (let d : 2 * agblocks ≡ agblocks + agblocks = omega arith in d) ∙ mul-add groups agblocks agblocks in
     let whole : (groups + 1) * addresses ≡ groups * addresses + 1 * addresses = add-mul groups 1 addresses in
     omega arith
 

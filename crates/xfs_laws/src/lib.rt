@@ -6,7 +6,6 @@ mod chunks;
 mod counters;
 mod entries;
 mod files;
-
 mod log;
 mod named;
 mod parts;

@@ -32,12 +32,16 @@ fn judged<R: Threads + Abort + Sync>(rt: &R, alloc: Global, parts: &Parts) -> Op
     assert!(rt; is_sound);
     match lawful(rt, alloc, &catalog) {
         Ok(()) => None,
-        Err(LawFault::Broken(Law {
-            law,
-            place,
-            held,
-            due,
-        })) => Some((law, place, held, due)),
+        Err(
+            LawFault::Broken(
+                Law {
+                    law,
+                    place,
+                    held,
+                    due,
+                },
+            ),
+        ) => Some((law, place, held, due)),
         Err(LawFault::NoMemory) => panic!(rt; "there is memory"),
     }
 }
@@ -105,18 +109,36 @@ fn space(rt: HostRuntime) {
         (Change::Block(4, 24), (1, 24, 2, 1)),
         (Change::Listed([6, 7, 8, 9, 10, 24]), (1, 24, 2, 1)),
         (Change::RootOfRmap(16), (1, 16, 2, 1)),
-        (Change::Bno(1, span(26, 997)), (2, 0, run(26, 997), run(26, 998))),
+        (
+            Change::Bno(1, span(26, 997)),
+            (2, 0, run(26, 997), run(26, 998)),
+        ),
         (Change::Bno(0, span(13, 3)), (2, 0, run(13, 3), run(12, 4))),
-        (Change::Cnt(1, span(26, 997)), (2, 1, run(26, 997), run(26, 998))),
-        (Change::Rmap(5, owned(24, 1, 132, 0)), (3, 24, owner(132, 0), owner(131, 0))),
-        (Change::Rmap(5, owned(24, 1, 131, 1)), (3, 24, owner(131, 1), owner(131, 0))),
+        (
+            Change::Cnt(1, span(26, 997)),
+            (2, 1, run(26, 997), run(26, 998)),
+        ),
+        (
+            Change::Rmap(5, owned(24, 1, 132, 0)),
+            (3, 24, owner(132, 0), owner(131, 0)),
+        ),
+        (
+            Change::Rmap(5, owned(24, 1, 131, 1)),
+            (3, 24, owner(131, 1), owner(131, 0)),
+        ),
         (
             Change::Rmap(5, owned(24, 1, 131, UNWRITTEN)),
             (3, 24, owner(131, UNWRITTEN as u128), owner(131, 0)),
         ),
-        (Change::Rmap(5, owned(24, 2, 131, 0)), (3, 25, owner(131, 1), owner(132, 0))),
+        (
+            Change::Rmap(6, owned(25, 1, 131, 1)),
+            (3, 25, owner(131, 1), owner(132, 0)),
+        ),
         (Change::LastOwner(None), (3, 25, NOTHING, owner(132, 0))),
-        (Change::LastOwner(Some(owned(25, 2, 132, 0))), (3, 26, owner(132, 1), NOTHING)),
+        (
+            Change::LastOwner(Some(owned(25, 2, 132, 0))),
+            (3, 26, owner(132, 1), NOTHING),
+        ),
     ];
     refused(&rt, alloc, &rows);
 }
@@ -126,18 +148,60 @@ fn counts(rt: HostRuntime) {
     let alloc = rt.alloc();
     let free = 0xffff_ffff_ffff_ffe0;
     let rows: [(Change, Row); 14] = [
-        (Change::Chunk(InoRec { free: free + 8, ..CHUNK }), (4, 0, chunk(59, free as u128 + 8), chunk(59, free as u128))),
-        (Change::Chunk(InoRec { freecount: 58, ..CHUNK }), (4, 0, chunk(58, free as u128), chunk(59, free as u128))),
-        (Change::FreeChunk(Some(InoRec { freecount: 58, ..CHUNK })), (4, 1, chunk(58, free as u128), chunk(59, free as u128))),
-        (Change::FreeChunk(None), (4, 1, NOTHING, chunk(59, free as u128))),
+        (
+            Change::Chunk(InoRec {
+                free: free + 8,
+                ..CHUNK
+            }),
+            (4, 0, chunk(59, free as u128 + 8), chunk(59, free as u128)),
+        ),
+        (
+            Change::Chunk(InoRec {
+                freecount: 58,
+                ..CHUNK
+            }),
+            (4, 0, chunk(58, free as u128), chunk(59, free as u128)),
+        ),
+        (
+            Change::FreeChunk(Some(InoRec {
+                freecount: 58,
+                ..CHUNK
+            })),
+            (4, 1, chunk(58, free as u128), chunk(59, free as u128)),
+        ),
+        (
+            Change::FreeChunk(None),
+            (4, 1, NOTHING, chunk(59, free as u128)),
+        ),
         (Change::Longest(999), (5, 1, 999, 998)),
         (Change::Btreeblks(1), (5, 2, 1, 0)),
         (Change::Rmapblocks(2), (5, 3, 2, 1)),
         (Change::Count(63), (5, 4, 63, 64)),
         (Change::Freecount(58), (5, 5, 58, 59)),
-        (Change::Total(Counts { icount: 32, ifree: 59, fdblocks: 1514 }), (5, 16, 32, 64)),
-        (Change::Total(Counts { icount: 64, ifree: 58, fdblocks: 1514 }), (5, 17, 58, 59)),
-        (Change::Total(Counts { icount: 64, ifree: 59, fdblocks: 1502 }), (5, 18, 1502, 1514)),
+        (
+            Change::Total(Counts {
+                icount: 32,
+                ifree: 59,
+                fdblocks: 1514,
+            }),
+            (5, 16, 32, 64),
+        ),
+        (
+            Change::Total(Counts {
+                icount: 64,
+                ifree: 58,
+                fdblocks: 1514,
+            }),
+            (5, 17, 58, 59),
+        ),
+        (
+            Change::Total(Counts {
+                icount: 64,
+                ifree: 59,
+                fdblocks: 1502,
+            }),
+            (5, 18, 1502, 1514),
+        ),
         (Change::Repeated, (6, 0, 6, 5)),
         (Change::Freeblks(5), (5, 0, 5, 1002)),
     ];
@@ -163,8 +227,14 @@ fn names_and_log(rt: HostRuntime) {
         (Change::Dirty, (10, 0, 1, 0)),
         (Change::Chain(0, 130), (10, 1, 130, 0xffff_ffff)),
         (Change::LastChain(63, 130), (10, 128, 130, 0xffff_ffff)),
-        (Change::Lsn(HEAD + 1), (10, (1 << 40) + 16, HEAD as u128 + 1, HEAD as u128)),
-        (Change::Lsn(u64::MAX - 1), (10, (1 << 40) + 16, u64::MAX as u128 - 1, HEAD as u128)),
+        (
+            Change::Lsn(HEAD + 1),
+            (10, (1 << 40) + 16, HEAD as u128 + 1, HEAD as u128),
+        ),
+        (
+            Change::Lsn(u64::MAX - 1),
+            (10, (1 << 40) + 16, u64::MAX as u128 - 1, HEAD as u128),
+        ),
     ];
     refused(&rt, alloc, &rows);
 }
@@ -172,7 +242,11 @@ fn names_and_log(rt: HostRuntime) {
 #[test]
 fn kept(rt: HostRuntime) -> Result<(), Fail> {
     let alloc = rt.alloc();
-    for change in [Change::EntryType(1, 0), Change::Lsn(HEAD), Change::Lsn(u64::MAX)] {
+    for change in [
+        Change::EntryType(1, 0),
+        Change::Lsn(HEAD),
+        Change::Lsn(u64::MAX),
+    ] {
         let mut parts = with_files(alloc)?;
         apply(&rt, alloc, &mut parts, change);
         assert_eq!(rt; judged(&rt, alloc, &parts), None);

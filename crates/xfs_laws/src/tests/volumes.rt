@@ -14,9 +14,13 @@ pub const HEAD: u64 = (1 << 32) + 2;
 
 /// The owners that are no inode: headers, log, a group, trees of inodes, clusters.
 pub const HEADERS: u64 = u64::MAX - 2;
+
 const LOG: u64 = u64::MAX - 3;
+
 const GROUP: u64 = u64::MAX - 4;
+
 const INODE_TREES: u64 = u64::MAX - 5;
+
 const CLUSTERS: u64 = u64::MAX - 6;
 
 /// The chunk of inodes of the volume with two files.
@@ -229,14 +233,18 @@ pub fn empty(alloc: Global) -> Result<Parts, AllocError> {
             owned(1, 2, GROUP, 0),
             owned(3, 2, INODE_TREES, 0),
             owned(5, 7, GROUP, 0),
-            owned(16, 8, CLUSTERS, 0)
+            owned(16, 8, CLUSTERS, 0),
         ]?,
         root_of_rmap: 5,
         listed: [6, 7, 8, 9, 10, 11],
         agf: agf(1004, 1000),
         agi: agi(64, 61),
         last_agi: agi(0, 0),
-        files: vec![in alloc; made(128, 0x41ed, 2, None), made(129, 0x8000, 1, None), made(130, 0x8000, 1, None)]?,
+        files: vec![in alloc;
+            made(128, 0x41ed, 2, None),
+            made(129, 0x8000, 1, None),
+            made(130, 0x8000, 1, None),
+        ]?,
         entries: Vec::new(alloc),
         dir: DirRec {
             ino: 128,
@@ -334,7 +342,7 @@ fn last_group(alloc: Global, parts: &Parts) -> Result<GroupRec, AllocError> {
             owned(3, 2, INODE_TREES, 0),
             owned(5, 1, GROUP, 0),
             owned(6, 512, LOG, 0),
-            owned(518, 6, GROUP, 0)
+            owned(518, 6, GROUP, 0),
         ]?),
         blocks: trees(alloc, 1024, 1029)?,
     })
@@ -357,16 +365,21 @@ pub fn catalog(alloc: Global, parts: &Parts) -> Result<Catalog, AllocError> {
     }
     Ok(Catalog {
         geometry: geometry(),
-        groups: Records::from_vec(
-            vec![in alloc; first_group(alloc, parts)?, last_group(alloc, parts)?]?,
-        ),
+        groups: Records::from_vec(vec![in alloc;
+            first_group(alloc, parts)?,
+            last_group(alloc, parts)?,
+        ]?),
         files: Records::from_vec(files),
         entries: Records::from_vec(entries),
         dirs: Records::from_vec(vec![in alloc; parts.dir]?),
         counts: parts.counts,
         log: parts.log,
-        lsns: Records::from_vec(
-            vec![in alloc; BlockLsn { block: 0, lsn: 0 }, BlockLsn { block: 16, lsn: parts.lsn }]?,
-        ),
+        lsns: Records::from_vec(vec![in alloc;
+            BlockLsn { block: 0, lsn: 0 },
+            BlockLsn {
+                block: 16,
+                lsn: parts.lsn
+            },
+        ]?),
     })
 }

@@ -13,8 +13,8 @@ pub loop-group-preserved : goal.loop-group-preserved
 loop-group-preserved c = record {
   number = omega (arith, c.loop-group.invariant.number);
   left =
-    group_kept group_chains c.args.groups.now c.loop-group.group-index c.loop-group.ag c.loop-group.invariant.left c.group-item.result
-    c.loop-group-test.true c.group-item.is (sym c.check_group.ensures ∙ c.in_default.is);
+      group_kept group_chains c.args.groups.now c.loop-group.group-index c.loop-group.ag c.loop-group.invariant.left c.group-item.result
+      c.loop-group-test.true c.group-item.is (sym c.check_group.ensures ∙ c.in_default.is);
 }
 
 pub returns : goal.returns

@@ -8,6 +8,6 @@ abbrev pub invariant-loop-file : goal.invariant-loop-file
 invariant-loop-file l = record {
   within : l.at ≤ length l.dirs;
   left :
-    map (λ (d : DirRec). d.ino) (drop l.at l.dirs) ≡ map (λ (f : FileRec). f.ino) (filter is_directory (drop l.file-index l.files))
-    → map (λ (d : DirRec). d.ino) l.dirs ≡ map (λ (f : FileRec). f.ino) (filter is_directory l.files);
+      map (λ (d : DirRec). d.ino) (drop l.at l.dirs) ≡ map (λ (f : FileRec). f.ino) (filter is_directory (drop l.file-index l.files))
+      → map (λ (d : DirRec). d.ino) l.dirs ≡ map (λ (f : FileRec). f.ino) (filter is_directory l.files);
 }

@@ -10,5 +10,5 @@ pub loop-index-preserved : goal.loop-index-preserved
 loop-index-preserved c = record {
   within = omega (arith, c.own_entries-at.ensures.within);
   left = λ grouped.
-    c.loop-index.invariant.left (one_more c.args.dirs.now c.args.entries.now c.loop-index.index c.loop-index.at c.own_entries-at.result some c.loop-index-test.true (c.own_entries-at.ensures.own some) grouped);
+      c.loop-index.invariant.left (one_more c.args.dirs.now c.args.entries.now c.loop-index.index c.loop-index.at c.own_entries-at.result some c.loop-index-test.true (c.own_entries-at.ensures.own some) grouped);
 }
