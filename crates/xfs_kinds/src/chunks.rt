@@ -77,9 +77,9 @@ pub fn ascends_inode(before: Option<&InoRec>, chunk: &InoRec) -> bool
     }
 }
 
-/// A bit for each of 64 inodes, set where it is missing.
+/// A bit for each of 64 inodes of a chunk with this mask, set where it is missing.
 #[tactic(auto, unfolding(crate::specs::InodeTrees::four_each))]
-fn missing_bits(holemask: u16) -> u64
+pub fn missing_bits(holemask: u16) -> u64
     requires { IsTrue (is_holemask holemask) }
     ensures { result ≡ missing_bits holemask }
 {

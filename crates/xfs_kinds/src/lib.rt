@@ -16,6 +16,7 @@ mod spans;
 #[cfg(test)]
 mod tests;
 
+pub use chunks::missing_bits;
 pub use file_trees::Bmbt;
 pub use free_trees::{Bno, Cnt};
 pub use gaps::free_runs;

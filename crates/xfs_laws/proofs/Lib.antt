@@ -1,0 +1,10 @@
+pub mod Used
+pub mod Bits
+pub mod Differences
+pub mod Trees
+pub mod Firsts
+pub mod Groups
+pub mod Repeated
+pub mod Conditions
+pub mod Grouped
+pub mod Roots

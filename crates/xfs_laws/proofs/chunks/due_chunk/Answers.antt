@@ -1,0 +1,25 @@
+use Rattle.std.proofs.Common.{◌≡◌, ◌+◌, ◌*◌, ◌%◌, ◌^◌, ◌<◌, ◌≤◌, arith, sym, ap, ◌∙◌}
+use Rattle.xfs_geom.specs.Volumes.{volume_of}
+use Rattle.xfs_laws.specs.Counting.{bits_below, count_below, is_unused}
+use Rattle.xfs_laws.proofs.Bits.{count_small, bits_small, shifted_small, room, count_more, bits_more}
+use Rattle.xfs_laws.proofs.chunks.due_chunk.Goals as goal
+
+pub overflow_add-freecount : goal.overflow_add-freecount
+overflow_add-freecount c =
+    let few = count_small (is_unused (volume_of c.args.g.now) c.args.files.now c.args.ag c.args.chunk.now) c.loop-inode.inode in
+    omega (arith, few, c.loop-inode.invariant.counted, c.bit_of-bit.ensures.most, c.loop-inode-test.true)
+
+pub overflow_add-free : goal.overflow_add-free
+overflow_add-free c =
+    let low = bits_small (is_unused (volume_of c.args.g.now) c.args.files.now c.args.ag c.args.chunk.now) c.loop-inode.inode in
+    let part = shifted_small c.bit_of-bit.result c.loop-inode.inode c.bit_of-bit.ensures.most c.loop-inode-test.true in
+    let less : c.loop-inode.free < 2 ^ c.loop-inode.inode = omega (arith, low, c.loop-inode.invariant.marked) in
+    omega (arith, room c.loop-inode.free (c.bit_of-bit.result * 2 ^ c.loop-inode.inode % 2 ^ 64) c.loop-inode.inode less part c.loop-inode-test.true)
+
+pub loop-inode-preserved : goal.loop-inode-preserved
+loop-inode-preserved c =
+    let test = is_unused (volume_of c.args.g.now) c.args.files.now c.args.ag c.args.chunk.now in
+    record {
+      counted = count_more test c.loop-inode.inode c.is_unused.result c.is_unused.ensures c.bit_of-bit.ensures.value c.loop-inode.invariant.counted;
+      marked = bits_more test c.loop-inode.inode c.is_unused.result c.is_unused.ensures c.bit_of-bit.ensures.value c.bit_of-bit.ensures.most c.loop-inode-test.true c.loop-inode.invariant.marked;
+    }

@@ -1,0 +1,107 @@
+//! Whether a volume is lawful.
+
+ghost use Rattle.std.specs.Prelude.{◌≡◌, None, IfErr, IfOk, IsTrue, OnOk};
+ghost use Rattle.xfs_geom.specs.Volumes.{volume_of};
+ghost use Rattle.xfs_naming.specs.Lawful.{IsNamingLawful};
+ghost use Rattle.xfs_space.specs.SpaceLaws.{IsSpaceLawful};
+ghost use Rattle.xfs_volume.specs.Laws.{AreKept, first_broken};
+ghost use Rattle.xfs_laws.specs.Lawful.{Differs, IsCatalog, IsVerdict, broken_law, counting_laws, laws_of};
+
+use crate::chunks::check_inodes;
+use crate::counters::check_counters;
+use crate::entries::check_lists;
+use crate::log::check_log;
+use crate::named::are_named;
+use crate::parts::{are_files, are_groups, are_lsns};
+use std::alloc::Global;
+use std::thread::Threads;
+use xfs_disk::NoMemory;
+use xfs_naming::check_names;
+use xfs_space::check_space;
+use xfs_volume::{Catalog, Law, LawFault};
+
+/// Whether a volume is lawful: its blocks have one owner each, its trees say just that, its counters are right, its
+/// names hang together, and its log ends behind everything. `Broken` with the first law that is broken, at its least
+/// place.
+pub fn lawful<R: Threads + Sync>(rt: &R, alloc: Global, catalog: &Catalog) -> Result<(), LawFault>
+    requires { IsCatalog catalog.now }
+    ensures verdict { IsVerdict (broken_law catalog.now) result }
+    ensures kept { OnOk result (AreKept (laws_of catalog.now)) }
+    ensures space { OnOk result (IsSpaceLawful (volume_of catalog.now.geometry) catalog.now.groups catalog.now.files) }
+    ensures names { OnOk result (IsNamingLawful catalog.now.geometry.rootino catalog.now.files catalog.now.entries catalog.now.dirs) }
+    ensures differs { IfErr result Differs }
+{
+    match first_broken_law(rt, alloc, catalog) {
+        Ok(None) => Ok(()),
+        Ok(Some(law)) => Err(LawFault::Broken(law)),
+        Err(NoMemory) => Err(LawFault::NoMemory),
+    }
+}
+
+/// The first law that is broken.
+#[tactic(auto, using(crate::proofs::Firsts::joined), unfolding(crate::specs::Lawful::broken_law))]
+fn first_broken_law<R: Threads + Sync>(
+    rt: &R,
+    alloc: Global,
+    catalog: &Catalog,
+) -> Result<Option<Law>, NoMemory>
+    requires { IsCatalog catalog.now }
+    ensures law { IfOk result (λ law. law ≡ broken_law catalog.now) }
+    ensures space { IfOk result (λ law. law ≡ None → IsSpaceLawful (volume_of catalog.now.geometry) catalog.now.groups catalog.now.files) }
+    ensures names { IfOk result (λ law. law ≡ None → IsNamingLawful catalog.now.geometry.rootino catalog.now.files catalog.now.entries catalog.now.dirs) }
+{
+    let groups = catalog.groups.as_slice();
+    let files = catalog.files.as_slice();
+    if let Some(law) = check_space(rt, alloc, &catalog.geometry, groups, files)? {
+        return Ok(Some(law));
+    }
+    if let Some(law) = check_counts(catalog) {
+        return Ok(Some(law));
+    }
+    let root = catalog.geometry.rootino;
+    let entries = catalog.entries.as_slice();
+    if let Some(law) = check_names(alloc, root, files, entries, catalog.dirs.as_slice())? {
+        return Ok(Some(law));
+    }
+    Ok(check_log(groups, &catalog.log, catalog.lsns.as_slice()))
+}
+
+/// The first law of counts that is broken.
+#[tactic(auto, using(crate::proofs::Firsts::joined))]
+fn check_counts(catalog: &Catalog) -> Option<Law>
+    requires { IsCatalog catalog.now }
+    ensures { result ≡ first_broken (counting_laws catalog.now) }
+{
+    let groups = catalog.groups.as_slice();
+    if let Some(law) = check_inodes(&catalog.geometry, catalog.files.as_slice(), groups) {
+        return Some(law);
+    }
+    if let Some(law) = check_counters(&catalog.geometry, groups, &catalog.counts) {
+        return Some(law);
+    }
+    check_lists(groups)
+}
+
+/// Whether the parts of a catalog are sound by themselves, so that its laws can be judged: a group for each of the
+/// volume's, with lawful records; files with lawful extents, by number; a record for each directory, and the entries of
+/// these in the same order; blocks of the volume.
+pub fn is_catalog(catalog: &Catalog) -> bool
+    ensures { IsTrue result → IsCatalog catalog.now }
+{
+    let g = &catalog.geometry;
+    let groups = catalog.groups.as_slice();
+    let files = catalog.files.as_slice();
+    if groups.len() != g.agcount as usize {
+        return false;
+    }
+    if !are_groups(g, groups) {
+        return false;
+    }
+    if !are_files(g, files) {
+        return false;
+    }
+    if !are_named(files, catalog.entries.as_slice(), catalog.dirs.as_slice()) {
+        return false;
+    }
+    are_lsns(g, catalog.lsns.as_slice())
+}
