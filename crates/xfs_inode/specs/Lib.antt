@@ -1,3 +1,8 @@
 pub mod Cores
 pub mod Slots
 pub mod Writing
+pub mod Forks
+pub mod Files
+pub mod Claims
+pub mod Named
+pub mod Sound

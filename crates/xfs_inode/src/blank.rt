@@ -11,6 +11,7 @@ ghost use Rattle.xfs_inode.specs.Writing.{free_core, IsZero};
 ghost use Rattle.xfs_inode.specs.declared.reading.SlotRead.TheVariants as Read;
 
 use crate::cores::put_core;
+use crate::layouts::inode::DATA_FORK;
 use crate::seals::seal_slot;
 use xfs_disk::Stamp;
 use xfs_geom::Geometry;
@@ -112,5 +113,5 @@ fn put_fresh(core: &Core, fork: &[u8], slot: &mut [u8])
     ensures zero_before_crtime { IsZero slot.new 132 12 }
 {
     put_core(core, slot);
-    put_part(slot, 176, fork);
+    put_part(slot, DATA_FORK, fork);
 }

@@ -13,7 +13,9 @@ ghost use Rattle.xfs_inode.specs.Writing.{bytes_at, fork_bytes, IsZero, KeepsOth
 
 use crate::bytes::clear_part;
 use crate::forks::fork_bytes;
-use crate::layouts::inode::{AFORMAT, ANEXTENTS, FORKOFF, NBLOCKS, NEXT_UNLINKED, NLINK};
+use crate::layouts::inode::{
+    AFORMAT, ANEXTENTS, DATA_FORK, FORKOFF, FORKS_SIZE, NBLOCKS, NEXT_UNLINKED, NLINK,
+};
 use crate::seals::seal_slot;
 use xfs_geom::Geometry;
 use xfs_word::{get8, put8, put16, put32, put64};
@@ -71,5 +73,5 @@ fn put_no_attrs(nblocks: u64, slot: &mut [u8])
     put64(slot, NBLOCKS.offset, nblocks);
     put16(slot, ANEXTENTS.offset, 0);
     put8(slot, AFORMAT.offset, 2);
-    clear_part(slot, 176 + bytes, 336 - bytes);
+    clear_part(slot, DATA_FORK + bytes, FORKS_SIZE - bytes);
 }

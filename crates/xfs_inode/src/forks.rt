@@ -12,7 +12,7 @@ ghost use Rattle.xfs_volume.specs.declared.cores.Core.{Core};
 ghost use Rattle.xfs_inode.specs.Writing.{bytes_at, fork_bytes, IsZero, KeepsOthers};
 
 use crate::bytes::clear_part;
-use crate::layouts::inode::{FORKOFF, FORMAT, NBLOCKS, NEXTENTS, SIZE};
+use crate::layouts::inode::{DATA_FORK, FORKOFF, FORKS_SIZE, FORMAT, NBLOCKS, NEXTENTS, SIZE};
 use crate::seals::seal_slot;
 use xfs_disk::Word;
 use xfs_geom::Geometry;
@@ -69,8 +69,8 @@ fn put_fork(fork: &ForkWanted, slot: &mut [u8])
     put64(slot, SIZE.offset, fork.size);
     put64(slot, NBLOCKS.offset, fork.nblocks);
     put32(slot, NEXTENTS.offset, fork.nextents as u32);
-    put_part(slot, 176, bytes);
-    clear_part(slot, 176 + bytes.len(), room - bytes.len());
+    put_part(slot, DATA_FORK, bytes);
+    clear_part(slot, DATA_FORK + bytes.len(), room - bytes.len());
 }
 
 /// How many bytes the data fork has, by the byte that says where the attribute fork begins.
@@ -78,7 +78,7 @@ pub fn fork_bytes(forkoff: u8) -> usize
     ensures { result ≡ fork_bytes forkoff }
 {
     if forkoff == 0 {
-        return 336;
+        return FORKS_SIZE;
     }
     8 * forkoff as usize
 }

@@ -3,6 +3,7 @@
 ghost use Rattle.std.specs.Prelude.{◌≡◌, ℕ, ◌+◌, ◌<◌, ◌≤◌, length};
 ghost use Rattle.xfs_inode.specs.Slots.{attribute_start, extent_count, has_bit, has_long_extent, has_wide_attributes, unsupported};
 
+use crate::layouts::inode::{DATA_FORK, EXTENT_SIZE, SLOT_SIZE};
 use xfs_volume::Core;
 use xfs_word::get32;
 
@@ -64,17 +65,17 @@ fn has_long_extent(core: &Core, slot: &[u8]) -> bool
     if core.anextents != 1 {
         return false;
     }
-    if start + 16 > 512 {
+    if start + EXTENT_SIZE > SLOT_SIZE {
         return false;
     }
     extent_count(slot, start) > 1
 }
 
 /// The byte offset at which the attribute fork begins, where there is one, by its place in the core.
-fn attribute_start(forkoff: u8) -> usize
+pub fn attribute_start(forkoff: u8) -> usize
     ensures { result ≡ attribute_start forkoff }
 {
-    176 + 8 * forkoff as usize
+    DATA_FORK + 8 * forkoff as usize
 }
 
 /// The blocks of the extent whose 16 bytes stand at an offset.

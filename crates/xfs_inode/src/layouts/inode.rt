@@ -245,3 +245,23 @@ pub const INODE: [FieldLayout; 30] = [
     INO,
     UUID,
 ];
+
+/// The bytes of a slot.
+pub const SLOT_SIZE: usize = 512;
+
+/// The byte offset at which the data fork begins. It reaches up to the attribute fork, or to the slot's end.
+pub const DATA_FORK: usize = 176;
+
+/// The bytes of both forks.
+pub const FORKS_SIZE: usize = SLOT_SIZE - DATA_FORK;
+
+/// The bytes of an extent in a fork.
+pub const EXTENT_SIZE: usize = 16;
+
+/// In the data fork of a device: its number, which is `major << 18 | minor`.
+pub const DEVICE: FieldLayout = FieldLayout {
+    name: "dev",
+    offset: DATA_FORK,
+    width: 4,
+    form: Form::Decimal,
+};

@@ -1,0 +1,17 @@
+use Rattle.std.proofs.Common.{◌∙◌, ap, option_map}
+use Rattle.xfs_geom.specs.Volumes.{volume_of}
+use Rattle.xfs_tree.specs.Reading.{bytes_at}
+use Rattle.xfs_inode.specs.Files.{contents_of}
+use Rattle.xfs_inode.specs.Named.{named_top}
+use Rattle.xfs_inode.proofs.NamedBlocks.{all_named, named_bytes, named_tree}
+use Rattle.xfs_inode.proofs.whole.read_needed.Goals as goal
+
+pub returns-in-Ok-settle-clause-read : goal.returns-in-Ok-settle-clause-read
+returns-in-Ok-settle-clause-read g c = λ image told.
+    let v = volume_of c.args.g.now in
+    let after_top = c.in-Ok.ensures.disk.same_contents ∙ told in
+    let after_attr = c.in-Ok-read_named.ensures.disk.same_contents ∙ after_top in
+    all_named v image c.args.ino c.args.slot.now c.in-Ok-settle.read _ _ _ c.in-Ok-settle.ensures.read
+    (ap (option_map contents_of) c.as_ref.ensures.value ∙ (c.in-Ok.ensures.read image told ∙ named_tree v image c.args.ino (named_top v c.args.ino c.args.slot.now) c.args.needs.now.top c.requires.top))
+    (c.given.ensures ∙ (named_bytes image c.args.needs.now.attr _ (c.in-Ok-read_named.ensures.bytes image after_top) ∙ ap (option_map (bytes_at image)) c.requires.attr))
+    (c.given-2.ensures ∙ (named_bytes image c.args.needs.now.link _ (c.in-Ok-read_named-2.ensures.bytes image after_attr) ∙ ap (option_map (bytes_at image)) c.requires.link))

@@ -1,0 +1,74 @@
+//! What a slot reads as whose data fork is that of a file.
+
+ghost use Rattle.std.specs.Prelude.{◌≡◌, ℕ, ◌≤◌, ◌&&◌, length, true, IfSome, IfOk};
+ghost use Rattle.std.specs.Option.{option_copied};
+ghost use Rattle.xfs_geom.specs.Volumes.{volume_of};
+ghost use Rattle.xfs_inode.specs.Forks.{type_of};
+ghost use Rattle.xfs_inode.specs.Files.{has_leaf, is_clear, is_counted, is_placed, with_attrs};
+
+use crate::attributes::AttrHeld;
+use crate::counts::{is_clear, is_counted};
+use crate::files::FileRead;
+use crate::held::Held;
+use crate::records::file_of;
+use std::alloc::{AllocError, Global};
+use xfs_disk::NoMemory;
+use xfs_geom::Geometry;
+use xfs_volume::Core;
+
+/// What a slot reads as by its attribute fork.
+pub fn with_attrs(
+    alloc: Global,
+    g: &Geometry,
+    ino: u64,
+    core: &Core,
+    slot: &[u8],
+    link: Option<&[u8]>,
+    held: Held,
+    fork: Option<AttrHeld>,
+) -> Result<FileRead, NoMemory>
+    requires slot { length slot.now ≡ 512 }
+    requires link { IfSome (option_copied link) (λ block. length block ≡ 4096) }
+    requires fits { core.now.format ≡ 1 → core.now.size ≤ 336 }
+    requires short { type_of core.now ≡ 10 → core.now.format ≡ 2 → core.now.size ≤ 1024 }
+    requires placed { is_placed (volume_of g.now) held ≡ true }
+    ensures { IfOk result (λ read. read ≡ with_attrs (volume_of g.now) ino core.now slot.now (option_copied link.entry) held fork) }
+{
+    let Some(fork) = fork else {
+        let file = file_of(alloc, ino, core, slot, link, held, AttrHeld::none(alloc))?;
+        return Ok(FileRead::FileWithoutAttrs(file));
+    };
+    if is_settled(alloc, g, core, &held, &fork)? {
+        let file = file_of(alloc, ino, core, slot, link, held, fork)?;
+        return Ok(FileRead::File(file));
+    }
+    if has_leaf(&fork) {
+        let file = file_of(alloc, ino, core, slot, link, held, AttrHeld::none(alloc))?;
+        return Ok(FileRead::FileWithoutAttrs(file));
+    }
+    Ok(FileRead::Unsound)
+}
+
+/// Whether the blocks are counted, and those of attributes have no other use in the file.
+fn is_settled(
+    alloc: Global,
+    g: &Geometry,
+    core: &Core,
+    held: &Held,
+    fork: &AttrHeld,
+) -> Result<bool, AllocError>
+    requires { is_placed (volume_of g.now) held.now ≡ true }
+    ensures { IfOk result (λ settled. settled ≡ (is_counted core.now held.now fork.now && is_clear (volume_of g.now) held.now fork.now)) }
+{
+    if !is_counted(core, held, fork) {
+        return Ok(false);
+    }
+    is_clear(alloc, g, held, fork)
+}
+
+/// Whether an attribute fork has a leaf.
+fn has_leaf(fork: &AttrHeld) -> bool
+    ensures { result ≡ has_leaf fork.now }
+{
+    fork.blocks().len() != 0
+}

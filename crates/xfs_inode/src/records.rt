@@ -1,0 +1,100 @@
+//! The record of a file.
+
+ghost use Rattle.std.specs.Prelude.{◌≡◌, ℕ, ◌≤◌, length, IfSome, IfOk};
+ghost use Rattle.std.specs.Option.{option_copied};
+ghost use Rattle.xfs_inode.specs.Forks.{type_of};
+ghost use Rattle.xfs_inode.specs.Files.{device_of, file_of, target_in, target_of};
+
+use crate::attributes::AttrHeld;
+use crate::extents::type_of;
+use crate::held::Held;
+use crate::layouts::inode::{DATA_FORK, DEVICE};
+use crate::layouts::link::TARGET;
+use std::alloc::{AllocError, Global};
+use xfs_disk::Word;
+use xfs_volume::{Core, FileRec};
+use xfs_word::{get32, part};
+
+/// The record of a file whose data fork and attribute fork hold this.
+pub fn file_of(
+    alloc: Global,
+    ino: u64,
+    core: &Core,
+    slot: &[u8],
+    link: Option<&[u8]>,
+    held: Held,
+    fork: AttrHeld,
+) -> Result<FileRec, AllocError>
+    requires slot { length slot.now ≡ 512 }
+    requires link { IfSome (option_copied link) (λ block. length block ≡ 4096) }
+    requires fits { core.now.format ≡ 1 → core.now.size ≤ 336 }
+    requires short { type_of core.now ≡ 10 → core.now.format ≡ 2 → core.now.size ≤ 1024 }
+    ensures { IfOk result (λ file. file ≡ file_of ino core.now slot.now (option_copied link.entry) held fork) }
+{
+    let target = target_of(alloc, core, slot, link)?;
+    let (extents, tree) = held.into_lists();
+    let (attrs, attr) = fork.into_lists();
+    Ok(FileRec {
+        ino,
+        core: *core,
+        extents,
+        attr,
+        tree,
+        attrs,
+        target,
+        device: device_of(core, slot),
+    })
+}
+
+/// The target of a symbolic link; empty for another file.
+fn target_of(
+    alloc: Global,
+    core: &Core,
+    slot: &[u8],
+    link: Option<&[u8]>,
+) -> Result<Word, AllocError>
+    requires slot { length slot.now ≡ 512 }
+    requires link { IfSome (option_copied link) (λ block. length block ≡ 4096) }
+    requires fits { core.now.format ≡ 1 → core.now.size ≤ 336 }
+    requires short { type_of core.now ≡ 10 → core.now.format ≡ 2 → core.now.size ≤ 1024 }
+    ensures { IfOk result (λ target. target ≡ target_of core.now slot.now (option_copied link.entry)) }
+{
+    if type_of(core) == 10 && core.format == 1 {
+        return copied(alloc, part(slot, DATA_FORK, core.size as usize));
+    }
+    if type_of(core) == 10 && core.format == 2 {
+        return target_in(alloc, core, link);
+    }
+    Ok(Word::from_vec(Vec::new(alloc)))
+}
+
+/// The target that the block of a symbolic link holds.
+fn target_in(alloc: Global, core: &Core, link: Option<&[u8]>) -> Result<Word, AllocError>
+    requires link { IfSome (option_copied link) (λ block. length block ≡ 4096) }
+    requires short { core.now.size ≤ 1024 }
+    ensures { IfOk result (λ target. target ≡ target_in core.now (option_copied link.entry)) }
+{
+    match link {
+        None => Ok(Word::from_vec(Vec::new(alloc))),
+        Some(block) => copied(alloc, part(block, TARGET, core.size as usize)),
+    }
+}
+
+/// A word of these bytes.
+fn copied(alloc: Global, bytes: &[u8]) -> Result<Word, AllocError>
+    ensures { IfOk result (λ word. word ≡ bytes.now) }
+{
+    Ok(Word::from_vec(bytes.to_vec(alloc)?))
+}
+
+/// The number of a device; 0 for another file.
+fn device_of(core: &Core, slot: &[u8]) -> u32
+    requires { length slot.now ≡ 512 }
+    ensures { result ≡ device_of core.now slot.now }
+{
+    if type_of(core) == 2 || type_of(core) == 6 {
+        get32(slot, DEVICE.offset)
+    } else {
+        0
+    }
+}

@@ -1,0 +1,151 @@
+//! Files, read from a disk.
+
+ghost use Rattle.std.specs.Prelude.{◌≡◌, ℕ, ◌<◌, ◌≤◌, [], ◌∷◌, List, Some, None, length, IfSome, IfOk, OnOk, option_map};
+ghost use Rattle.std.specs.Option.{ForSome, option_copied};
+ghost use Rattle.xfs_disk.specs.Faults.{HasCause};
+ghost use Rattle.xfs_geom.specs.Volumes.{volume_of};
+ghost use Rattle.xfs_tree.specs.Answers.{OnlyReads};
+ghost use Rattle.xfs_tree.specs.Reading.{bytes_at};
+ghost use Rattle.xfs_inode.specs.Files.{contents_of};
+ghost use Rattle.xfs_inode.specs.Sound.{IsSound};
+ghost use Rattle.xfs_inode.specs.Named.{AreNamed, HasInodeCause, named_attr, named_link, named_top, slot_reads, tree_at};
+
+use crate::errors::InodeError;
+use crate::files::FileRead;
+use crate::named::Needs;
+use crate::naming::needs;
+use crate::settling::settle;
+use std::alloc::Global;
+use xfs_disk::{BLOCK_SIZE, Disk, Failed, NoMemory};
+use xfs_geom::Geometry;
+use xfs_kinds::Bmbt;
+use xfs_tree::{Frontier, Tree, TreeError, read_below};
+
+/// What the slot of an inode, of 512 bytes, reads as with the blocks of the disk that it names (chapter "On-disk
+/// Inode"). `ReadFault` only where a read failed.
+pub fn read_file<D: Disk>(
+    alloc: Global,
+    g: &Geometry,
+    disk: &mut D,
+    ino: u64,
+    slot: &[u8],
+) -> Result<FileRead, InodeError>
+    requires slot { length slot.now ≡ 512 }
+    requires inside { g.now.dblocks ≤ D.size disk.old }
+    ensures read { IfOk result (λ read. ForSome (D.holds disk.old) (λ image. read ≡ slot_reads (volume_of g.now) image ino slot.now)) }
+    ensures sound { IfOk result (λ read. IsSound (volume_of g.now) ino read) }
+    ensures cause { HasInodeCause (D.faults disk.old) (D.faults disk.new) result }
+    ensures disk { OnlyReads D.size D.holds D.write_faults D.tells_stops D.may_leave disk.old disk.new }
+{
+    match needs(alloc, g, ino, slot) {
+        Ok(needs) => read_needed(alloc, g, disk, ino, slot, &needs),
+        Err(NoMemory) => Err(InodeError::NoMemory),
+    }
+}
+
+/// What a slot reads as, with the blocks that it names read.
+fn read_needed<D: Disk>(
+    alloc: Global,
+    g: &Geometry,
+    disk: &mut D,
+    ino: u64,
+    slot: &[u8],
+    needs: &Needs,
+) -> Result<FileRead, InodeError>
+    requires slot { length slot.now ≡ 512 }
+    requires inside { g.now.dblocks ≤ D.size disk.old }
+    requires top { AreNamed (named_top (volume_of g.now) ino slot.now) needs.now.top }
+    requires attr { needs.now.attr ≡ named_attr (volume_of g.now) ino slot.now }
+    requires link { needs.now.link ≡ named_link (volume_of g.now) ino slot.now }
+    requires attr_inside { IfSome needs.now.attr (λ block. block < g.now.dblocks) }
+    requires link_inside { IfSome needs.now.link (λ block. block < g.now.dblocks) }
+    ensures read { IfOk result (λ read. ForSome (D.holds disk.old) (λ image. read ≡ slot_reads (volume_of g.now) image ino slot.now)) }
+    ensures sound { IfOk result (λ read. IsSound (volume_of g.now) ino read) }
+    ensures cause { HasInodeCause (D.faults disk.old) (D.faults disk.new) result }
+    ensures disk { OnlyReads D.size D.holds D.write_faults D.tells_stops D.may_leave disk.old disk.new }
+{
+    let tree = match read_top(alloc, g, disk, ino, &needs.top) {
+        Ok(tree) => tree,
+        Err(fault) => return Err(fault),
+    };
+    let mut attr = [0; BLOCK_SIZE];
+    match read_named(g, disk, needs.attr, &mut attr) {
+        Ok(()) => {}
+        Err(Failed) => return Err(InodeError::ReadFault),
+    }
+    let mut link = [0; BLOCK_SIZE];
+    match read_named(g, disk, needs.link, &mut link) {
+        Ok(()) => {}
+        Err(Failed) => return Err(InodeError::ReadFault),
+    }
+    match settle(
+        alloc,
+        g,
+        ino,
+        slot,
+        tree.as_ref(),
+        given(needs.attr, &attr),
+        given(needs.link, &link),
+    ) {
+        Ok(read) => Ok(read),
+        Err(NoMemory) => Err(InodeError::NoMemory),
+    }
+}
+
+/// What reads from the level under the root of a data fork, where there is one and it reads.
+fn read_top<D: Disk>(
+    alloc: Global,
+    g: &Geometry,
+    disk: &mut D,
+    ino: u64,
+    top: &Option<Frontier<Bmbt>>,
+) -> Result<Option<Tree<Bmbt>>, InodeError>
+    requires { g.now.dblocks ≤ D.size disk.old }
+    ensures read { IfOk result (λ tree. ForSome (D.holds disk.old) (λ image. option_map contents_of tree ≡ tree_at (volume_of g.now) image ino top.now)) }
+    ensures cause { HasInodeCause (D.faults disk.old) (D.faults disk.new) result }
+    ensures disk { OnlyReads D.size D.holds D.write_faults D.tells_stops D.may_leave disk.old disk.new }
+{
+    match top {
+        None => Ok(None),
+        Some(top) => match read_below(alloc, &Bmbt { ino }, g, disk, top) {
+            Ok(tree) => Ok(Some(tree)),
+            Err(TreeError::Unread(_)) => Ok(None),
+            Err(TreeError::ReadFault) => Err(InodeError::ReadFault),
+            Err(TreeError::NoMemory) => Err(InodeError::NoMemory),
+        },
+    }
+}
+
+/// Reads a block, where one is named.
+fn read_named<D: Disk>(
+    g: &Geometry,
+    disk: &mut D,
+    named: Option<u64>,
+    block: &mut [u8],
+) -> Result<(), Failed>
+    requires inside { g.now.dblocks ≤ D.size disk.old }
+    requires named { IfSome named (λ place. place < g.now.dblocks) }
+    requires block { length block.old ≡ 4096 }
+    ensures bytes { OnOk result (ForSome (D.holds disk.old) (λ image. IfSome named (λ place. bytes_at image place ≡ block.new))) }
+    ensures whole { length block.new ≡ 4096 }
+    ensures cause { HasCause (D.faults disk.old) (D.faults disk.new) result }
+    ensures disk { OnlyReads D.size D.holds D.write_faults D.tells_stops D.may_leave disk.old disk.new }
+{
+    match named {
+        None => Ok(()),
+        Some(place) => match disk.read(place, block) {
+            Ok(()) => Ok(()),
+            Err(Failed) => Err(Failed),
+        },
+    }
+}
+
+/// The bytes of a block, where one is named.
+fn given(named: Option<u64>, block: &[u8]) -> Option<&[u8]>
+    ensures { option_copied result ≡ option_map (λ _. block.now) named }
+{
+    match named {
+        None => None,
+        Some(_) => Some(block),
+    }
+}
