@@ -2,6 +2,9 @@
 
 ghost use Rattle.std.specs.Prelude.{◌≡◌, length};
 
+mod cuts;
+mod disks;
+mod files;
 mod real;
 
 use super::*;
@@ -60,7 +63,8 @@ const EXTENT: [u8; 16] = [0, 0, 0, 0, 0, 0, 0, 0, 0, 0, 0, 0, 3, 0, 0, 1];
 
 /// The geometry of a volume with this identifier.
 fn volume(uuid: [u8; 16]) -> Geometry
-    ensures { result.uuid ≡ uuid }
+    ensures identifier { result.uuid ≡ uuid }
+    ensures dblocks { result.dblocks ≡ 2048 }
 {
     Geometry {
         dblocks: 2048,

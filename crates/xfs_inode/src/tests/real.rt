@@ -1,473 +1,172 @@
-//! Slots cut from images that a Linux kernel wrote, and what the `xfs_db` of xfsprogs prints of them, but for the
-//! checksums: it prints their bytes in the order in which they are stored.
+//! Inodes of every type, as they stand in real images.
 
+ghost use Rattle.std.specs.Prelude.{◌≡◌, ◌<◌, length};
+
+use super::cuts::{BLOCKS, CUTS};
 use super::*;
+use std::alloc::Global;
+use xfs_attr::Attr;
+use xfs_disk::{BLOCK_SIZE, Disk, MemoryDisk};
+use xfs_volume::FileRec;
+use xfs_word::Extent;
 
-/// The identifier of an image with files of every type.
-const BASIC: [u8; 16] = [
-    0xe8, 0xf3, 0x3b, 0x80, 0x5b, 0x6e, 0x4e, 0x3c, 0xa3, 0x7d, 0x7b, 0x11, 0x18, 0x7c, 0x01, 0xd4,
-];
+/// Bytes as hexadecimal text, from byte offsets on; all others are zero.
+pub type Texts = &'static [(usize, &'static str)];
 
-/// The identifier of an image with attributes.
-const ATTRIBUTES: [u8; 16] = [
-    0xfe, 0xda, 0xf0, 0x11, 0xf1, 0x95, 0x48, 0x57, 0x89, 0x97, 0x38, 0xfe, 0x34, 0xe0, 0xe1, 0xb2,
-];
+/// An inode as it stands in an image, and what is printed of it.
+pub struct Cut {
+    /// The identifier of the image.
+    pub image: [u8; 16],
+    pub ino: u64,
+    pub slot: Texts,
+    /// The fields of the core but for the identifier, as decimal numbers in the order of their offsets.
+    pub core: &'static str,
+    /// The offset, the start and the count of each extent.
+    pub extents: &'static [[u64; 3]],
+    pub attr: &'static [[u64; 3]],
+    pub tree: &'static [u64],
+    /// The flags, the name and the value of each attribute.
+    pub attrs: &'static [(u8, &'static str, &'static str)],
+    pub target: &'static str,
+    pub device: u32,
+}
 
-/// The identifier of an image with long trees of extents.
-const FRAGMENTED: [u8; 16] = [
-    0x12, 0x18, 0xdb, 0xea, 0x0d, 0xcc, 0x4a, 0xc6, 0xbe, 0x9e, 0x5c, 0x49, 0x5d, 0xff, 0xf5, 0x17,
-];
+/// The value of a hexadecimal digit.
+fn digit(rt: &impl Abort, byte: u8) -> u8
+    ensures { result < 16 }
+{
+    match byte {
+        b'0'..=b'9' => byte - b'0',
+        b'a'..=b'f' => byte - b'a' + 10,
+        _ => panic!(rt; "a digit"),
+    }
+}
 
-/// Inode 323: a block device.
-const DEVICE: Parts = &[
-    (0, &[0x49, 0x4e, 0x61, 0xa0, 0x03]),
-    (19, &[0x01]),
-    (
-        32,
-        &[
-            0x6b, 0x08, 0xcb, 0x37, 0x36, 0x99, 0x0d, 0x00, 0x6b, 0x08, 0xcb, 0x37, 0x36, 0x99,
-            0x0d, 0x00, 0x6b, 0x08, 0xcb, 0x37, 0x36, 0x99, 0x0d,
-        ],
-    ),
-    (83, &[0x02]),
-    (
-        92,
-        &[
-            0xb0, 0x51, 0x05, 0xc3, 0xff, 0xff, 0xff, 0xff, 0x35, 0xff, 0x49, 0xa2, 0x00, 0x00,
-            0x00, 0x00, 0x00, 0x00, 0x00, 0x02, 0x00, 0x00, 0x00, 0x01, 0x00, 0x00, 0x00, 0x02,
-        ],
-    ),
-    (
-        144,
-        &[
-            0x6b, 0x08, 0xcb, 0x37, 0x36, 0x99, 0x0d, 0x00, 0x00, 0x00, 0x00, 0x00, 0x00, 0x00,
-            0x01, 0x43, 0xe8, 0xf3, 0x3b, 0x80, 0x5b, 0x6e, 0x4e, 0x3c, 0xa3, 0x7d, 0x7b, 0x11,
-            0x18, 0x7c, 0x01, 0xd4, 0x04, 0x0d, 0x11, 0x70,
-        ],
-    ),
-];
+/// Writes bytes from an offset on.
+fn fill_part(rt: &impl Abort, bytes: &mut [u8], at: usize, digits: &[u8])
+    ensures { length bytes.new ≡ length bytes.old }
+{
+    let count = digits.len() / 2;
+    assert!(rt; at <= bytes.len() && count <= bytes.len() - at);
+    for i in 0..count {
+        bytes[at + i] = 16 * digit(rt, digits[2 * i]) + digit(rt, digits[2 * i + 1]);
+    }
+}
 
-/// Inode 786572: a directory in its short form.
-const DIRECTORY: Parts = &[
-    (0, &[0x49, 0x4e, 0x41, 0xed, 0x03, 0x01]),
-    (19, &[0x02]),
-    (
-        32,
-        &[
-            0x6b, 0x08, 0xcb, 0x3b, 0x01, 0x6e, 0x36, 0x00, 0x6b, 0x08, 0xcb, 0x37, 0x36, 0x5c,
-            0x04, 0x00, 0x6b, 0x08, 0xcb, 0x37, 0x36, 0x5c, 0x04,
-        ],
-    ),
-    (63, &[0x38]),
-    (83, &[0x02]),
-    (
-        92,
-        &[
-            0xce, 0x94, 0xe6, 0x52, 0xff, 0xff, 0xff, 0xff, 0x2c, 0x42, 0x03, 0x94, 0x00, 0x00,
-            0x00, 0x00, 0x00, 0x00, 0x00, 0x08, 0x00, 0x00, 0x00, 0x01, 0x00, 0x00, 0x01, 0x3f,
-        ],
-    ),
-    (
-        144,
-        &[
-            0x6b, 0x08, 0xcb, 0x37, 0x21, 0x9d, 0xf5, 0x00, 0x00, 0x00, 0x00, 0x00, 0x00, 0x0c,
-            0x00, 0x8c, 0xe8, 0xf3, 0x3b, 0x80, 0x5b, 0x6e, 0x4e, 0x3c, 0xa3, 0x7d, 0x7b, 0x11,
-            0x18, 0x7c, 0x01, 0xd4, 0x05, 0x00, 0x00, 0x0a, 0x00, 0xd4, 0x02, 0x00, 0x60, 0x73,
-            0x30, 0x01, 0x00, 0x0c, 0x00, 0x8d, 0x02, 0x00, 0x70, 0x73, 0x31, 0x01, 0x00, 0x0c,
-            0x00, 0x8e, 0x02, 0x00, 0x80, 0x73, 0x32, 0x01, 0x00, 0x0c, 0x00, 0x8f, 0x02, 0x00,
-            0x90, 0x73, 0x33, 0x01, 0x00, 0x0c, 0x00, 0x90, 0x02, 0x00, 0xa0, 0x73, 0x34, 0x01,
-            0x00, 0x0c, 0x00, 0x91,
-        ],
-    ),
-];
+/// Writes bytes.
+fn fill(rt: &impl Abort, bytes: &mut [u8], texts: &[(usize, &str)])
+    ensures { length bytes.new ≡ length bytes.old }
+{
+    for (at, text) in texts {
+        fill_part(rt, bytes, *at, text.as_bytes());
+    }
+}
 
-/// Inode 655575: a file of one extent.
-const REGULAR: Parts = &[
-    (0, &[0x49, 0x4e, 0x81, 0xa4, 0x03, 0x02]),
-    (19, &[0x02]),
-    (
-        32,
-        &[
-            0x6b, 0x08, 0xcb, 0x3b, 0x05, 0xf5, 0xe1, 0x00, 0x6b, 0x08, 0xcb, 0x37, 0x23, 0x49,
-            0x34, 0x00, 0x6b, 0x08, 0xcb, 0x37, 0x36, 0x99, 0x0d, 0x00, 0x00, 0x00, 0x00, 0x00,
-            0x00, 0x01, 0x11, 0x70, 0x00, 0x00, 0x00, 0x00, 0x00, 0x00, 0x00, 0x12, 0x00, 0x00,
-            0x00, 0x00, 0x00, 0x00, 0x00, 0x01, 0x00, 0x00, 0x00, 0x02,
-        ],
-    ),
-    (
-        92,
-        &[
-            0x68, 0xd7, 0xf6, 0xb5, 0xff, 0xff, 0xff, 0xff, 0xa5, 0xdc, 0x22, 0x95, 0x00, 0x00,
-            0x00, 0x00, 0x00, 0x00, 0x00, 0x08, 0x00, 0x00, 0x00, 0x01, 0x00, 0x00, 0x01, 0x3f,
-        ],
-    ),
-    (
-        144,
-        &[
-            0x6b, 0x08, 0xcb, 0x37, 0x22, 0x92, 0x19, 0x00, 0x00, 0x00, 0x00, 0x00, 0x00, 0x0a,
-            0x00, 0xd7, 0xe8, 0xf3, 0x3b, 0x80, 0x5b, 0x6e, 0x4e, 0x3c, 0xa3, 0x7d, 0x7b, 0x11,
-            0x18, 0x7c, 0x01, 0xd4,
-        ],
-    ),
-    (187, &[0x28, 0x2f, 0x40, 0x00, 0x12]),
-];
+/// Writes blocks of an image.
+fn fill_disk(rt: &impl Abort, disk: &mut MemoryDisk, blocks: &[(u64, Texts)]) {
+    for (at, texts) in blocks {
+        let mut block = [0; BLOCK_SIZE];
+        fill(rt, &mut block, texts);
+        assert!(rt; matches!(disk.blocks(), Ok(count) if *at < count));
+        assert!(rt; disk.write(*at, &block).is_ok());
+    }
+}
 
-/// Inode 189: a free slot.
-const FREE: Parts = &[
-    (0, &[0x49, 0x4e, 0x00, 0x00, 0x03, 0x02]),
-    (
-        32,
-        &[
-            0x6b, 0x08, 0xcb, 0x36, 0x30, 0x29, 0x1a, 0x00, 0x6b, 0x08, 0xcb, 0x36, 0x30, 0xa3,
-            0x2c, 0x00, 0x6b, 0x08, 0xcb, 0x38, 0x22, 0xcf, 0x22,
-        ],
-    ),
-    (83, &[0x02]),
-    (
-        92,
-        &[
-            0x63, 0xe7, 0x17, 0x2a, 0xff, 0xff, 0xff, 0xff, 0x0d, 0x89, 0xbd, 0x07, 0x00, 0x00,
-            0x00, 0x00, 0x00, 0x00, 0x00, 0x0c, 0x00, 0x00, 0x00, 0x01, 0x00, 0x00, 0x00, 0xd4,
-        ],
-    ),
-    (144, &[0x6b, 0x08, 0xcb, 0x36, 0x30, 0x29, 0x1a]),
-    (
-        159,
-        &[
-            0xbd, 0xe8, 0xf3, 0x3b, 0x80, 0x5b, 0x6e, 0x4e, 0x3c, 0xa3, 0x7d, 0x7b, 0x11, 0x18,
-            0x7c, 0x01, 0xd4,
-        ],
-    ),
-    (188, &[0x27, 0x60, 0x00, 0x05]),
-];
+/// The fields of a core but for the identifier, in the order of their offsets.
+fn numbers(core: &Core) -> [u64; 29] {
+    [
+        core.magic as u64,
+        core.mode as u64,
+        core.version as u64,
+        core.format as u64,
+        core.uid as u64,
+        core.gid as u64,
+        core.nlink as u64,
+        core.projid_lo as u64,
+        core.projid_hi as u64,
+        core.atime,
+        core.mtime,
+        core.ctime,
+        core.size,
+        core.nblocks,
+        core.extsize as u64,
+        core.nextents as u64,
+        core.anextents as u64,
+        core.forkoff as u64,
+        core.aformat as u64,
+        core.flags as u64,
+        core.generation as u64,
+        core.next_unlinked as u64,
+        core.crc as u64,
+        core.changecount,
+        core.lsn,
+        core.flags2,
+        core.cowextsize as u64,
+        core.crtime,
+        core.ino,
+    ]
+}
 
-/// Inode 510: a symbolic link with an attribute in its short form.
-const LINK: Parts = &[
-    (0, &[0x49, 0x4e, 0xa1, 0xff, 0x03, 0x01]),
-    (19, &[0x01]),
-    (
-        32,
-        &[
-            0x6b, 0x08, 0xc7, 0x94, 0x10, 0x03, 0xf3, 0x8e, 0x6b, 0x08, 0xc7, 0x94, 0x0a, 0x12,
-            0x01, 0xe4, 0x6b, 0x08, 0xc7, 0x94, 0x0a, 0x12, 0x01, 0xe4, 0x00, 0x00, 0x00, 0x00,
-            0x00, 0x00, 0x00, 0x1e,
-        ],
-    ),
-    (82, &[0x24, 0x01]),
-    (
-        92,
-        &[
-            0xc9, 0xd1, 0x1b, 0x23, 0xff, 0xff, 0xff, 0xff, 0x1a, 0xa0, 0x33, 0x22, 0x00, 0x00,
-            0x00, 0x00, 0x00, 0x00, 0x00, 0x05, 0x00, 0x00, 0x00, 0x01, 0x00, 0x00, 0x04, 0x0c,
-        ],
-    ),
-    (
-        144,
-        &[
-            0x6b, 0x08, 0xc7, 0x94, 0x0a, 0x12, 0x01, 0xe4, 0x00, 0x00, 0x00, 0x00, 0x00, 0x00,
-            0x01, 0xfe, 0xfe, 0xda, 0xf0, 0x11, 0xf1, 0x95, 0x48, 0x57, 0x89, 0x97, 0x38, 0xfe,
-            0x34, 0xe0, 0xe1, 0xb2, 0x7a, 0x7a, 0x7a, 0x7a, 0x7a, 0x7a, 0x7a, 0x7a, 0x7a, 0x7a,
-            0x7a, 0x7a, 0x7a, 0x7a, 0x7a, 0x7a, 0x7a, 0x7a, 0x7a, 0x7a, 0x7a, 0x7a, 0x7a, 0x7a,
-            0x7a, 0x7a, 0x7a, 0x7a, 0x7a, 0x7a,
-        ],
-    ),
-    (
-        465,
-        &[
-            0x2c, 0x01, 0x00, 0x07, 0x1e, 0x04, 0x73, 0x65, 0x6c, 0x69, 0x6e, 0x75, 0x78, 0x71,
-            0x71, 0x71, 0x71, 0x71, 0x71, 0x71, 0x71, 0x71, 0x71, 0x71, 0x71, 0x71, 0x71, 0x71,
-            0x71, 0x71, 0x71, 0x71, 0x71, 0x71, 0x71, 0x71, 0x71, 0x71, 0x71, 0x71, 0x71, 0x71,
-            0x71,
-        ],
-    ),
-];
+/// Tests that the fields of a core are those that are printed.
+fn same_core(rt: &impl Abort, core: &Core, due: &str) {
+    assert_eq!(rt; due.split_whitespace().count(), 29);
+    for (number, due) in numbers(core).iter().zip(due.split_whitespace()) {
+        assert!(rt;
+            matches!(due.parse::<u64>(), Ok(due) if due == *number),
+            "{due}"
+        );
+    }
+}
 
-/// Inode 579: a file with attributes in a leaf.
-const LEAF: Parts = &[
-    (0, &[0x49, 0x4e, 0x81, 0xa4, 0x03, 0x02]),
-    (19, &[0x01]),
-    (
-        32,
-        &[
-            0x6b, 0x08, 0xc7, 0x94, 0x10, 0x40, 0xfc, 0x8e, 0x6b, 0x08, 0xc7, 0x94, 0x0c, 0xff,
-            0x87, 0x0b, 0x6b, 0x08, 0xc7, 0x94, 0x0c, 0xff, 0x87, 0x0b, 0x00, 0x00, 0x00, 0x00,
-            0x00, 0x00, 0x00, 0x01, 0x00, 0x00, 0x00, 0x00, 0x00, 0x00, 0x00, 0x02, 0x00, 0x00,
-            0x00, 0x00, 0x00, 0x00, 0x00, 0x01, 0x00, 0x01, 0x18, 0x02,
-        ],
-    ),
-    (
-        92,
-        &[
-            0xae, 0x2e, 0x32, 0x7d, 0xff, 0xff, 0xff, 0xff, 0xc0, 0x55, 0x56, 0x7e, 0x00, 0x00,
-            0x00, 0x00, 0x00, 0x00, 0x00, 0x09, 0x00, 0x00, 0x00, 0x01, 0x00, 0x00, 0x04, 0x0c,
-        ],
-    ),
-    (
-        144,
-        &[
-            0x6b, 0x08, 0xc7, 0x94, 0x0c, 0xad, 0x75, 0x8c, 0x00, 0x00, 0x00, 0x00, 0x00, 0x00,
-            0x02, 0x43, 0xfe, 0xda, 0xf0, 0x11, 0xf1, 0x95, 0x48, 0x57, 0x89, 0x97, 0x38, 0xfe,
-            0x34, 0xe0, 0xe1, 0xb2,
-        ],
-    ),
-    (188, &[0x2b, 0x80, 0x00, 0x01]),
-    (380, &[0x06, 0x80, 0x00, 0x01]),
-];
+/// Tests that extents are those that are printed.
+fn same_extents(rt: &impl Abort, extents: &[Extent], due: &[[u64; 3]]) {
+    assert_eq!(rt; extents.len(), due.len());
+    for (extent, due) in extents.iter().zip(due) {
+        assert_eq!(rt; [extent.offset, extent.start, extent.count], *due);
+        assert!(rt; !extent.unwritten);
+    }
+}
 
-/// Inode 148: a file with a tree of extents.
-const TREE: Parts = &[
-    (0, &[0x49, 0x4e, 0x81, 0xa4, 0x03, 0x03]),
-    (19, &[0x01]),
-    (
-        32,
-        &[
-            0x6b, 0x08, 0xcb, 0x99, 0x24, 0xf4, 0x73, 0x00, 0x6b, 0x08, 0xcb, 0x87, 0x19, 0xbf,
-            0xcc, 0x00, 0x6b, 0x08, 0xcb, 0x87, 0x19, 0xbf, 0xcc, 0x00, 0x00, 0x00, 0x00, 0x00,
-            0x02, 0xc0,
-        ],
-    ),
-    (
-        70,
-        &[
-            0x16, 0x18, 0x00, 0x00, 0x00, 0x00, 0x00, 0x00, 0x16, 0x00, 0x00, 0x00, 0x00, 0x02,
-        ],
-    ),
-    (
-        92,
-        &[
-            0xa0, 0x39, 0x0a, 0x6c, 0xff, 0xff, 0xff, 0xff, 0xbd, 0x50, 0x7a, 0x77, 0x00, 0x00,
-            0x00, 0x00, 0x00, 0x00, 0x52, 0xa3, 0x00, 0x00, 0x00, 0x03, 0x00, 0x00, 0x08, 0xf1,
-        ],
-    ),
-    (144, &[0x6b, 0x08, 0xcb, 0x6c, 0x00, 0xb7, 0x1b]),
-    (
-        159,
-        &[
-            0x94, 0x12, 0x18, 0xdb, 0xea, 0x0d, 0xcc, 0x4a, 0xc6, 0xbe, 0x9e, 0x5c, 0x49, 0x5d,
-            0xff, 0xf5, 0x17, 0x00, 0x02, 0x00, 0x01,
-        ],
-    ),
-    (346, &[0x0a, 0x4d]),
-];
+/// Tests that attributes are those that are printed.
+fn same_attributes(rt: &impl Abort, attrs: &[Attr], due: &[(u8, &str, &str)]) {
+    assert_eq!(rt; attrs.len(), due.len());
+    for (attr, due) in attrs.iter().zip(due) {
+        assert_eq!(rt; attr.flags, due.0);
+        assert_eq!(rt; attr.name.bytes(), due.1.as_bytes());
+        assert_eq!(rt; attr.value.bytes(), due.2.as_bytes());
+    }
+}
 
-/// What `xfs_db` prints of inode 323.
-const DEVICE_CORE: Core = Core {
-    magic: 0x494e,
-    mode: 0x61a0,
-    version: 3,
-    format: 0,
-    uid: 0,
-    gid: 0,
-    nlink: 1,
-    projid_lo: 0,
-    projid_hi: 0,
-    atime: 0x6b08cb3736990d00,
-    mtime: 0x6b08cb3736990d00,
-    ctime: 0x6b08cb3736990d00,
-    size: 0,
-    nblocks: 0,
-    extsize: 0,
-    nextents: 0,
-    anextents: 0,
-    forkoff: 0,
-    aformat: 2,
-    flags: 0,
-    generation: 2958099907,
-    next_unlinked: u32::MAX,
-    crc: 0xa249ff35,
-    changecount: 2,
-    lsn: 0x100000002,
-    flags2: 0,
-    cowextsize: 0,
-    crtime: 0x6b08cb3736990d00,
-    ino: 323,
-    uuid: BASIC,
-};
+/// Tests that a file is the one that is printed.
+fn same_file(rt: &impl Abort, file: &FileRec, due: &Cut) {
+    assert_eq!(rt; file.ino, due.ino);
+    same_core(rt, &file.core, due.core);
+    assert_eq!(rt; file.core.uuid, due.image);
+    same_extents(rt, file.extents.as_slice(), due.extents);
+    same_extents(rt, file.attr.as_slice(), due.attr);
+    assert_eq!(rt; file.tree.as_slice(), due.tree);
+    same_attributes(rt, file.attrs.as_slice(), due.attrs);
+    assert_eq!(rt; file.target.bytes(), due.target.as_bytes());
+    assert_eq!(rt; file.device, due.device);
+}
 
-/// What `xfs_db` prints of inode 786572.
-const DIRECTORY_CORE: Core = Core {
-    magic: 0x494e,
-    mode: 0x41ed,
-    version: 3,
-    format: 1,
-    uid: 0,
-    gid: 0,
-    nlink: 2,
-    projid_lo: 0,
-    projid_hi: 0,
-    atime: 0x6b08cb3b016e3600,
-    mtime: 0x6b08cb37365c0400,
-    ctime: 0x6b08cb37365c0400,
-    size: 56,
-    nblocks: 0,
-    extsize: 0,
-    nextents: 0,
-    anextents: 0,
-    forkoff: 0,
-    aformat: 2,
-    flags: 0,
-    generation: 3465864786,
-    next_unlinked: u32::MAX,
-    crc: 0x9403422c,
-    changecount: 8,
-    lsn: 0x10000013f,
-    flags2: 0,
-    cowextsize: 0,
-    crtime: 0x6b08cb37219df500,
-    ino: 786572,
-    uuid: BASIC,
-};
-
-/// What `xfs_db` prints of inode 655575.
-const REGULAR_CORE: Core = Core {
-    magic: 0x494e,
-    mode: 0x81a4,
-    version: 3,
-    format: 2,
-    uid: 0,
-    gid: 0,
-    nlink: 2,
-    projid_lo: 0,
-    projid_hi: 0,
-    atime: 0x6b08cb3b05f5e100,
-    mtime: 0x6b08cb3723493400,
-    ctime: 0x6b08cb3736990d00,
-    size: 70000,
-    nblocks: 18,
-    extsize: 0,
-    nextents: 1,
-    anextents: 0,
-    forkoff: 0,
-    aformat: 2,
-    flags: 0,
-    generation: 1758983861,
-    next_unlinked: u32::MAX,
-    crc: 0x9522dca5,
-    changecount: 8,
-    lsn: 0x10000013f,
-    flags2: 0,
-    cowextsize: 0,
-    crtime: 0x6b08cb3722921900,
-    ino: 655575,
-    uuid: BASIC,
-};
-
-/// What `xfs_db` prints of inode 510.
-const LINK_CORE: Core = Core {
-    magic: 0x494e,
-    mode: 0xa1ff,
-    version: 3,
-    format: 1,
-    uid: 0,
-    gid: 0,
-    nlink: 1,
-    projid_lo: 0,
-    projid_hi: 0,
-    atime: 0x6b08c7941003f38e,
-    mtime: 0x6b08c7940a1201e4,
-    ctime: 0x6b08c7940a1201e4,
-    size: 30,
-    nblocks: 0,
-    extsize: 0,
-    nextents: 0,
-    anextents: 0,
-    forkoff: 36,
-    aformat: 1,
-    flags: 0,
-    generation: 3385924387,
-    next_unlinked: u32::MAX,
-    crc: 0x2233a01a,
-    changecount: 5,
-    lsn: 0x10000040c,
-    flags2: 0,
-    cowextsize: 0,
-    crtime: 0x6b08c7940a1201e4,
-    ino: 510,
-    uuid: ATTRIBUTES,
-};
-
-/// What `xfs_db` prints of inode 579.
-const LEAF_CORE: Core = Core {
-    magic: 0x494e,
-    mode: 0x81a4,
-    version: 3,
-    format: 2,
-    uid: 0,
-    gid: 0,
-    nlink: 1,
-    projid_lo: 0,
-    projid_hi: 0,
-    atime: 0x6b08c7941040fc8e,
-    mtime: 0x6b08c7940cff870b,
-    ctime: 0x6b08c7940cff870b,
-    size: 1,
-    nblocks: 2,
-    extsize: 0,
-    nextents: 1,
-    anextents: 1,
-    forkoff: 24,
-    aformat: 2,
-    flags: 0,
-    generation: 2922263165,
-    next_unlinked: u32::MAX,
-    crc: 0x7e5655c0,
-    changecount: 9,
-    lsn: 0x10000040c,
-    flags2: 0,
-    cowextsize: 0,
-    crtime: 0x6b08c7940cad758c,
-    ino: 579,
-    uuid: ATTRIBUTES,
-};
-
-/// What `xfs_db` prints of inode 148.
-const TREE_CORE: Core = Core {
-    magic: 0x494e,
-    mode: 0x81a4,
-    version: 3,
-    format: 3,
-    uid: 0,
-    gid: 0,
-    nlink: 1,
-    projid_lo: 0,
-    projid_hi: 0,
-    atime: 0x6b08cb9924f47300,
-    mtime: 0x6b08cb8719bfcc00,
-    ctime: 0x6b08cb8719bfcc00,
-    size: 46137344,
-    nblocks: 5656,
-    extsize: 0,
-    nextents: 5632,
-    anextents: 0,
-    forkoff: 0,
-    aformat: 2,
-    flags: 0,
-    generation: 2688092780,
-    next_unlinked: u32::MAX,
-    crc: 0x777a50bd,
-    changecount: 21155,
-    lsn: 0x3000008f1,
-    flags2: 0,
-    cowextsize: 0,
-    crtime: 0x6b08cb6c00b71b00,
-    ino: 148,
-    uuid: FRAGMENTED,
-};
+/// Tests that inodes read as they are printed.
+fn read_cuts(rt: &impl Abort, alloc: Global, disk: &mut MemoryDisk, cuts: &[Cut]) {
+    for cut in cuts {
+        let mut slot = [0; 512];
+        fill(rt, &mut slot, cut.slot);
+        assert!(rt; matches!(disk.blocks(), Ok(count) if 2048 <= count));
+        match read_file(alloc, &volume(cut.image), disk, cut.ino, &slot) {
+            Ok(FileRead::File(file)) => same_file(rt, &file, cut),
+            _ => panic!(rt; "inode {} is a file", cut.ino),
+        }
+    }
+}
 
 #[test]
-fn slots_that_a_kernel_wrote(rt: HostRuntime) -> Result<(), Fail> {
-    for (uuid, ino, parts, due) in [
-        (BASIC, 323, DEVICE, SlotRead::InUse(DEVICE_CORE)),
-        (BASIC, 786572, DIRECTORY, SlotRead::InUse(DIRECTORY_CORE)),
-        (BASIC, 655575, REGULAR, SlotRead::InUse(REGULAR_CORE)),
-        (BASIC, 189, FREE, SlotRead::Free),
-        (ATTRIBUTES, 510, LINK, SlotRead::InUse(LINK_CORE)),
-        (ATTRIBUTES, 579, LEAF, SlotRead::InUse(LEAF_CORE)),
-        (FRAGMENTED, 148, TREE, SlotRead::InUse(TREE_CORE)),
-    ] {
-        let mut slot = [0; 512];
-        plant(&rt, &mut slot, parts);
-        assert_eq!(rt; read_slot(&volume(uuid), ino, &slot), due, "{ino}");
-    }
+fn inodes_of_every_type(rt: HostRuntime) -> Result<(), Fail> {
+    let mut disk = MemoryDisk::make(rt.alloc(), 2048)?;
+    fill_disk(&rt, &mut disk, BLOCKS);
+    read_cuts(&rt, rt.alloc(), &mut disk, &CUTS);
     Ok(())
 }
