@@ -1,0 +1,94 @@
+-- An image is consistent exactly where nothing is found.
+use Rattle.std.proofs.Common.{◌≡◌, ℕ, ◌+◌, ◌-◌, ◌≤◌, ◌<◌, Bool, true, false, not, ◌==◌, ◌&&◌, if◌then◌else◌, cond, Option, Some, None, Result, Ok, Err, refl, sym, ap, ◌∙◌, subst, arith}
+use Rattle.std.proofs.lemmas.Bool.{and_parts, and_from, eqb-true, eq-eqb}
+use Rattle.xfs_disk.specs.Blocks.{Image}
+use Rattle.xfs_geom.proofs.Votes.{same_equal}
+use Rattle.xfs_geom.specs.Election.{Vote, choice, elected, same_volume}
+use Rattle.xfs_geom.specs.Volumes.{Volume, volume_of}
+use Rattle.xfs_geom.specs.declared.election.ElectFault.{ElectFault}
+use Rattle.xfs_geom.specs.declared.geometry.Geometry.{Geometry}
+use Rattle.xfs_volume.specs.declared.catalogs.Catalog.{Catalog}
+use Rattle.xfs_volume.specs.declared.findings.Law.{Law}
+use Rattle.xfs_image.specs.Consistent.{IsConsistent, IsElected, backup_agrees, backup_differs, backup_fault, backup_found, finding, is_elected, is_primary, law_found, view_found}
+use Rattle.xfs_image.specs.View.{view}
+use Rattle.xfs_image.specs.declared.findings.Finding.{Finding}
+use Rattle.xfs_image.specs.declared.findings.Finding.TheVariants as Found
+use Rattle.xfs_image.proofs.Ranges.{no_some, none_passes, none_found}
+
+not_false : (b : Bool) → not b ≡ false → b ≡ true
+not_false true e = refl
+not_false false e = sym e
+
+-- the election, as a test and in words
+elected_of : (v : Volume) (image : Image) (r : Result Vote ElectFault) → elected image ≡ r → is_primary v r ≡ true → IsElected v image
+elected_of v image (Ok vote) e h =
+    let parts = and_parts (vote.place == 0) (same_volume (choice vote) v) h in
+    record { vote = vote; due = e; first = eqb-true vote.place 0 parts.0; states = parts.1 }
+elected_of v image (Err fault) e h = absurd cc
+
+from_elected : (v : Volume) (image : Image) → IsElected v image → is_elected v image ≡ true
+unfolding is_elected
+from_elected v image is =
+    ap (is_primary v) is.due ∙ and_from (is.vote.place == 0) (same_volume (choice is.vote) v) (eq-eqb is.vote.place 0 is.first) is.states
+
+-- all backups agree where none is found that does not
+all_agree : (v : Volume) (image : Image) → backup_fault v image ≡ None → (ag : ℕ) → 1 ≤ ag → ag < v.agcount → backup_agrees v image ag ≡ true
+unfolding backup_fault
+all_agree v image none ag some few =
+    not_false (backup_agrees v image ag) (none_passes (backup_differs v image) 1 (v.agcount - 1) none ag some (omega (arith, some, few)))
+
+none_differs : (v : Volume) (image : Image) → ((ag : ℕ) → 1 ≤ ag → ag < v.agcount → backup_agrees v image ag ≡ true) → backup_fault v image ≡ None
+unfolding backup_fault
+none_differs v image agree =
+    none_found (backup_differs v image) 1 (v.agcount - 1) (λ ag some few. ap not (agree ag some (omega (arith, some, few))))
+
+no_backup : (o : Option ℕ) → backup_found o ≡ None → o ≡ None
+no_backup None e = refl
+no_backup (Some ag) e = absurd (no_some (Found.Part 10 ag) e)
+
+no_law : (o : Option Law) (later : Option Finding) → law_found o later ≡ None → (o ≡ None) × (later ≡ None)
+no_law None later e = (refl, e)
+no_law (Some law) later e = absurd (no_some (Found.Law law) e)
+
+from_view : (broken : Catalog → Option Law) (g : Geometry) (image : Image) → IsElected (volume_of g) image
+    → (r : Result Catalog Finding) → view g image ≡ r
+    → view_found broken r (backup_found (backup_fault (volume_of g) image)) ≡ None → IsConsistent broken g image
+from_view broken g image first (Err found) e none = absurd (no_some found none)
+from_view broken g image first (Ok c) e none =
+    let both = no_law (broken c) (backup_found (backup_fault (volume_of g) image)) none in
+    record {
+      elected = first;
+      catalog = c;
+      reads = e;
+      lawful = both.0;
+      backups = all_agree (volume_of g) image (no_backup (backup_fault (volume_of g) image) both.1);
+    }
+
+pub consistent : (broken : Catalog → Option Law) (g : Geometry) (image : Image) → finding broken g image ≡ None → IsConsistent broken g image
+unfolding finding is_elected
+consistent broken g image none = by_case (is_elected (volume_of g) image) refl none
+  where
+    by_case : (b : Bool) → is_elected (volume_of g) image ≡ b
+        → (if b then view_found broken (view g image) (backup_found (backup_fault (volume_of g) image)) else Some (Found.Part 0 0)) ≡ None
+        → IsConsistent broken g image
+    by_case true e h = from_view broken g image (elected_of (volume_of g) image (elected image) refl e) (view g image) refl h
+    by_case false e h = absurd (no_some (Found.Part 0 0) h)
+
+pub nothing_found : (broken : Catalog → Option Law) (g : Geometry) (image : Image) → IsConsistent broken g image → finding broken g image ≡ None
+unfolding finding
+nothing_found broken g image is =
+    rw (from_elected (volume_of g) image is.elected, is.reads, is.lawful, none_differs (volume_of g) image is.backups) refl
+
+abbrev ok_vote : Vote → Result Vote ElectFault
+ok_vote vote = Ok vote
+
+one_vote : (x y : Vote) → ok_vote x ≡ ok_vote y → x ≡ y
+one_vote x y e = cc
+
+-- the volume that is elected is one
+pub one_volume : (a b : Volume) (image : Image) → IsElected a image → IsElected b image → a ≡ b
+one_volume a b image first second =
+    let is_a : choice first.vote ≡ a = same_equal (choice first.vote) a first.states in
+    let is_b : choice second.vote ≡ b = same_equal (choice second.vote) b second.states in
+    let same : first.vote ≡ second.vote = one_vote first.vote second.vote (sym first.due ∙ second.due) in
+    sym is_a ∙ ap choice same ∙ is_b

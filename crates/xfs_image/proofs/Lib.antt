@@ -1,0 +1,6 @@
+pub mod Ranges
+pub mod Consistent
+pub mod Views
+pub mod Places
+pub mod Keeping
+pub mod Roots

@@ -1,0 +1,28 @@
+-- The first of some numbers in a row that pass a test.
+use Rattle.std.proofs.Common.{◌≡◌, ℕ, zero, suc, ◌+◌, ◌≤◌, ◌<◌, ◌⊎◌, inl, inr, Bool, true, false, cond, List, [], ◌∷◌, Option, Some, None, refl, sym, ap, ◌∙◌, subst, arith}
+use Rattle.std.specs.List.{find, range_with_len}
+use Rattle.std.proofs.lemmas.Bool.{cases_lt}
+
+pub no_some : {A : Type 0} (x : A) → Some x ≡ None → ⊥
+no_some x e = cc
+
+-- where none is found, none passes
+pub none_passes : (p : ℕ → Bool) (a n : ℕ) → find p (range_with_len a n) ≡ None → (k : ℕ) → a ≤ k → k < a + n → p k ≡ false
+none_passes p a zero none k low high = absurd (omega (arith, low, high))
+none_passes p a (suc n) none k low high = by_case (p a) refl none (λ rest above. none_passes p (a + 1) n rest k above (omega (arith, high)))
+  where
+    by_case : (b : Bool) → p a ≡ b → cond b (Some a) (find p (range_with_len (a + 1) n)) ≡ None
+        → (find p (range_with_len (a + 1) n) ≡ None → a + 1 ≤ k → p k ≡ false) → p k ≡ false
+    by_case true e h behind = absurd (no_some a h)
+    by_case false e h behind =
+        elim (cases_lt a k) [
+          inl above ↦ behind h (omega (arith, above))
+        | inr upto ↦ let same : k ≡ a = omega (arith, low, upto) in ap p same ∙ e
+        ]
+
+-- where none passes, none is found
+pub none_found : (p : ℕ → Bool) (a n : ℕ) → ((k : ℕ) → a ≤ k → k < a + n → p k ≡ false) → find p (range_with_len a n) ≡ None
+none_found p a zero none = refl
+none_found p a (suc n) none =
+    let first : p a ≡ false = none a (omega arith) (omega arith) in
+    rw first (none_found p (a + 1) n (λ k low high. none k (omega (arith, low)) (omega (arith, high))))

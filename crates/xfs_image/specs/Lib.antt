@@ -1,0 +1,11 @@
+pub mod Sectors
+pub mod Slots
+pub mod Groups
+pub mod Clusters
+pub mod Files
+pub mod Directories
+pub mod Lsns
+pub mod View
+pub mod Consistent
+pub mod Claims
+pub mod Keeping
