@@ -4,3 +4,5 @@ pub mod Views
 pub mod Places
 pub mod Keeping
 pub mod Roots
+pub mod GroupReads
+pub mod Examples

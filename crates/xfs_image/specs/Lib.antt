@@ -1,6 +1,7 @@
 pub mod Sectors
 pub mod Slots
 pub mod Groups
+pub mod GroupParts
 pub mod Clusters
 pub mod Files
 pub mod Directories
@@ -9,3 +10,4 @@ pub mod View
 pub mod Consistent
 pub mod Claims
 pub mod Keeping
+pub mod Examples

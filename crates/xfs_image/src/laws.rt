@@ -1,16 +1,23 @@
 //! Laws about the definitions. Each function does nothing; its contract is the law.
 
-ghost use Rattle.std.specs.Prelude.{◌≡◌, ℕ, true, List, Option, None, Ok};
+ghost use Rattle.std.specs.Prelude.{◌≡◌, ℕ, true, false, List, [], ◌∷◌, length, slice_index_or, Option, None, Ok};
+ghost use Rattle.std.specs.List.{range_with_len};
 ghost use Rattle.std.specs.List.Sorted.{IsPermutation};
 ghost use Rattle.xfs_disk.specs.Blocks.{Image};
 ghost use Rattle.xfs_geom.specs.Volumes.{Volume, volume_of};
 ghost use Rattle.xfs_geom.specs.declared.geometry.Geometry.{Geometry};
+ghost use Rattle.xfs_tree.specs.Reading.{bytes_at};
 ghost use Rattle.xfs_volume.specs.declared.catalogs.Catalog.{Catalog};
 ghost use Rattle.xfs_volume.specs.declared.findings.Law.{Law};
-ghost use Rattle.xfs_image.specs.Clusters.{is_candidate, is_recorded, root_cluster};
+ghost use Rattle.xfs_volume.specs.declared.groups.GroupRec.{GroupRec};
+ghost use Rattle.xfs_image.specs.Clusters.{cluster_of, clusters_in, given_clusters, is_candidate, is_recorded, lies_in_chunk, root_cluster};
 ghost use Rattle.xfs_image.specs.Consistent.{IsConsistent, IsElected, finding};
-ghost use Rattle.xfs_image.specs.Keeping.{Keeps, Protected};
+ghost use Rattle.xfs_image.specs.Examples.{chunk, extents, given, place, small};
+ghost use Rattle.xfs_image.specs.GroupParts.{AreGroupsRead};
+ghost use Rattle.xfs_image.specs.Groups.{groups_read};
+ghost use Rattle.xfs_image.specs.Keeping.{Keeps, Protected, byte_over};
 ghost use Rattle.xfs_image.specs.Lsns.{AreInOrder, LsnPlace, in_order};
+ghost use Rattle.xfs_image.specs.Slots.{cluster_inodes};
 ghost use Rattle.xfs_image.specs.View.{IsRead, view};
 
 /// An image is consistent exactly where nothing is found, and the volume that is elected is one.
@@ -22,10 +29,10 @@ pub fn consistent_where_nothing_is_found()
 {
 }
 
-/// A view that reads is the catalog of the groups and files that read.
-#[tactic(auto, using(crate::proofs::Views::view_of))]
+/// A view that reads is the catalog of the groups and files that read, and of a group that reads all eight parts do.
 pub fn view_is_of_what_reads()
-    ensures { (g : Geometry) (image : Image) (c : Catalog) → view g image ≡ Ok c → IsRead g image c }
+    ensures view { (g : Geometry) (image : Image) (c : Catalog) → view g image ≡ Ok c → IsRead g image c }
+    ensures groups { (v : Volume) (image : Image) (groups : List GroupRec) → groups_read v image ≡ Ok groups → AreGroupsRead v image 0 groups × (length groups ≡ v.agcount) }
 {
 }
 
@@ -50,5 +57,25 @@ pub fn keeping_goes_on()
 pub fn root_is_candidate()
     ensures recorded { (v : Volume) (image : Image) → is_recorded v image (root_cluster v) ≡ true }
     ensures candidate { (v : Volume) (image : Image) → is_candidate v image (root_cluster v) ≡ true }
+{
+}
+
+/// Worked examples: where the clusters of a chunk stand, which slots a cluster has, which clusters the tree of owners names,
+/// which lie in a chunk, what a byte of a file is, and the order of places.
+pub fn worked_examples()
+    ensures both { clusters_in 1024 (chunk 0) ≡ 1040 ∷ 1044 ∷ [] }
+    ensures second { clusters_in 1024 (chunk 0x00ff) ≡ 1044 ∷ [] }
+    ensures first { clusters_in 1024 (chunk 0xff00) ≡ 1040 ∷ [] }
+    ensures root { root_cluster small ≡ 16 }
+    ensures own { cluster_of small 8325 ≡ 1040 }
+    ensures inodes { cluster_inodes small 1040 ≡ range_with_len 8320 32 }
+    ensures given_two { given_clusters small 1 (given 16 8 ∷ []) ≡ 1040 ∷ 1044 ∷ [] }
+    ensures given_part { given_clusters small 1 (given 14 6 ∷ given 20 2 ∷ []) ≡ 1040 ∷ [] }
+    ensures last_chunk { lies_in_chunk small 1020 ≡ true }
+    ensures before_chunks { lies_in_chunk small 1028 ≡ false }
+    ensures hole { (image : Image) → byte_over small image extents 4095 ≡ 0 }
+    ensures written { (image : Image) → byte_over small image extents 8199 ≡ slice_index_or (bytes_at image 25) 7 0 }
+    ensures unwritten { (image : Image) → byte_over small image extents 20481 ≡ 0 }
+    ensures ordered { in_order (place 5 24 ∷ place 0 720 ∷ place 5 16 ∷ place 0 240 ∷ []) ≡ place 0 240 ∷ place 0 720 ∷ place 5 16 ∷ place 5 24 ∷ [] }
 {
 }

@@ -8,5 +8,5 @@ mod laws;
 pub use findings::Finding;
 pub use laws::{
     consistent_where_nothing_is_found, keeping_goes_on, places_are_ordered, root_is_candidate,
-    view_is_of_what_reads,
+    view_is_of_what_reads, worked_examples,
 };
