@@ -1,5 +1,5 @@
 -- An image is consistent exactly where nothing is found.
-use Rattle.std.proofs.Common.{◌≡◌, ℕ, ◌+◌, ◌-◌, ◌≤◌, ◌<◌, Bool, true, false, not, ◌==◌, ◌&&◌, if◌then◌else◌, cond, Option, Some, None, Result, Ok, Err, refl, sym, ap, ◌∙◌, subst, arith}
+use Rattle.std.proofs.Common.{◌≡◌, ◌≢◌, ℕ, ◌+◌, ◌-◌, ◌≤◌, ◌<◌, Bool, true, false, not, ◌==◌, ◌&&◌, if◌then◌else◌, cond, Option, Some, None, Result, Ok, Err, refl, sym, ap, ◌∙◌, subst, arith}
 use Rattle.std.proofs.lemmas.Bool.{and_parts, and_from, eqb-true, eq-eqb}
 use Rattle.xfs_disk.specs.Blocks.{Image}
 use Rattle.xfs_geom.proofs.Votes.{same_equal}
@@ -13,6 +13,7 @@ use Rattle.xfs_image.specs.Consistent.{IsConsistent, IsElected, backup_agrees, b
 use Rattle.xfs_image.specs.View.{view}
 use Rattle.xfs_image.specs.declared.findings.Finding.{Finding}
 use Rattle.xfs_image.specs.declared.findings.Finding.TheVariants as Found
+use Rattle.xfs_image.proofs.Geometries.{same_geometry}
 use Rattle.xfs_image.proofs.Ranges.{no_some, none_passes, none_found}
 
 not_false : (b : Bool) → not b ≡ false → b ≡ true
@@ -20,16 +21,25 @@ not_false true e = refl
 not_false false e = sym e
 
 -- the election, as a test and in words
-elected_of : (v : Volume) (image : Image) (r : Result Vote ElectFault) → elected image ≡ r → is_primary v r ≡ true → IsElected v image
+elected_of : (v : Volume) (image : Image) (r : Result Vote ElectFault) → elected image ≡ r → is_primary v r ≡ true
+    → (is : IsElected v image) × (is.vote.place ≡ 0)
 elected_of v image (Ok vote) e h =
     let parts = and_parts (vote.place == 0) (same_volume (choice vote) v) h in
-    record { vote = vote; due = e; first = eqb-true vote.place 0 parts.0; states = parts.1 }
+    (record { vote = vote; due = e; states = parts.1 }, eqb-true vote.place 0 parts.0)
 elected_of v image (Err fault) e h = absurd cc
 
-from_elected : (v : Volume) (image : Image) → IsElected v image → is_elected v image ≡ true
+from_elected : (v : Volume) (image : Image) (is : IsElected v image) → is.vote.place ≡ 0 → is_elected v image ≡ true
 unfolding is_elected
-from_elected v image is =
-    ap (is_primary v) is.due ∙ and_from (is.vote.place == 0) (same_volume (choice is.vote) v) (eq-eqb is.vote.place 0 is.first) is.states
+from_elected v image is first =
+    ap (is_primary v) is.due ∙ and_from (is.vote.place == 0) (same_volume (choice is.vote) v) (eq-eqb is.vote.place 0 first) is.states
+
+not_elected : (v : Volume) (image : Image) (is : IsElected v image) → is.vote.place ≢ 0 → is_elected v image ≡ false
+unfolding is_elected
+not_elected v image is other = ap (is_primary v) is.due ∙ by_case (is.vote.place == 0) refl
+  where
+    by_case : (b : Bool) → (is.vote.place == 0) ≡ b → (b && same_volume (choice is.vote) v) ≡ false
+    by_case true e = absurd (other (eqb-true is.vote.place 0 e))
+    by_case false e = refl
 
 -- all backups agree where none is found that does not
 all_agree : (v : Volume) (image : Image) → backup_fault v image ≡ None → (ag : ℕ) → 1 ≤ ag → ag < v.agcount → backup_agrees v image ag ≡ true
@@ -50,14 +60,15 @@ no_law : (o : Option Law) (later : Option Finding) → law_found o later ≡ Non
 no_law None later e = (refl, e)
 no_law (Some law) later e = absurd (no_some (Found.Law law) e)
 
-from_view : (broken : Catalog → Option Law) (g : Geometry) (image : Image) → IsElected (volume_of g) image
-    → (r : Result Catalog Finding) → view g image ≡ r
+from_view : (broken : Catalog → Option Law) (g : Geometry) (image : Image)
+    → (is : IsElected (volume_of g) image) × (is.vote.place ≡ 0) → (r : Result Catalog Finding) → view g image ≡ r
     → view_found broken r (backup_found (backup_fault (volume_of g) image)) ≡ None → IsConsistent broken g image
 from_view broken g image first (Err found) e none = absurd (no_some found none)
 from_view broken g image first (Ok c) e none =
     let both = no_law (broken c) (backup_found (backup_fault (volume_of g) image)) none in
     record {
-      elected = first;
+      elected = first.0;
+      first = first.1;
       catalog = c;
       reads = e;
       lawful = both.0;
@@ -77,7 +88,7 @@ consistent broken g image none = by_case (is_elected (volume_of g) image) refl n
 pub nothing_found : (broken : Catalog → Option Law) (g : Geometry) (image : Image) → IsConsistent broken g image → finding broken g image ≡ None
 unfolding finding
 nothing_found broken g image is =
-    rw (from_elected (volume_of g) image is.elected, is.reads, is.lawful, none_differs (volume_of g) image is.backups) refl
+    rw (from_elected (volume_of g) image is.elected is.first, is.reads, is.lawful, none_differs (volume_of g) image is.backups) refl
 
 abbrev ok_vote : Vote → Result Vote ElectFault
 ok_vote vote = Ok vote
@@ -85,10 +96,16 @@ ok_vote vote = Ok vote
 one_vote : (x y : Vote) → ok_vote x ≡ ok_vote y → x ≡ y
 one_vote x y e = cc
 
--- the volume that is elected is one
-pub one_volume : (a b : Volume) (image : Image) → IsElected a image → IsElected b image → a ≡ b
-one_volume a b image first second =
-    let is_a : choice first.vote ≡ a = same_equal (choice first.vote) a first.states in
-    let is_b : choice second.vote ≡ b = same_equal (choice second.vote) b second.states in
+-- a geometry that comes from a backup is the first finding
+pub from_backup : (broken : Catalog → Option Law) (g : Geometry) (image : Image) (is : IsElected (volume_of g) image) → is.vote.place ≢ 0
+    → finding broken g image ≡ Some (Found.Part 0 0)
+unfolding finding
+from_backup broken g image is other = rw (not_elected (volume_of g) image is other) refl
+
+-- the geometry that is elected is one
+pub one_geometry : (g h : Geometry) (image : Image) → IsElected (volume_of g) image → IsElected (volume_of h) image → g ≡ h
+one_geometry g h image first second =
+    let is_g : choice first.vote ≡ volume_of g = same_equal (choice first.vote) (volume_of g) first.states in
+    let is_h : choice second.vote ≡ volume_of h = same_equal (choice second.vote) (volume_of h) second.states in
     let same : first.vote ≡ second.vote = one_vote first.vote second.vote (sym first.due ∙ second.due) in
-    sym is_a ∙ ap choice same ∙ is_b
+    same_geometry g h (sym is_g ∙ ap choice same ∙ is_h)

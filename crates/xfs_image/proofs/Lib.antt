@@ -6,3 +6,5 @@ pub mod Keeping
 pub mod Roots
 pub mod GroupReads
 pub mod Examples
+pub mod Geometries
+pub mod PartsFound

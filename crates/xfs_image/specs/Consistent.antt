@@ -59,17 +59,22 @@ module _ (broken : Catalog → Option Law) where
       then view_found (view g image) (backup_found (backup_fault (volume_of g) image))
       else Some (Found.Part 0 0)
 
--- the superblock of block 0 is elected, and states this volume
+-- a superblock is elected, the primary or a backup, and it states this volume
 pub record IsElected (v : Volume) (image : Image) : Type 0 where
   pub vote : Vote
   pub due : elected image ≡ Ok vote
-  pub first : vote.place ≡ 0
   pub states : same_volume (choice vote) v ≡ true
 
 -- an image is consistent: its geometry is elected from block 0, all its parts read, no law is broken, and all backups agree
 pub record IsConsistent (broken : Catalog → Option Law) (g : Geometry) (image : Image) : Type 0 where
   pub elected : IsElected (volume_of g) image
+  pub first : elected.vote.place ≡ 0
   pub catalog : Catalog
   pub reads : view g image ≡ Ok catalog
   pub lawful : broken catalog ≡ None
   pub backups : (ag : ℕ) → 1 ≤ ag → ag < g.agcount → backup_agrees (volume_of g) image ag ≡ true
+
+-- the part is one of a group of the volume, or a slot
+abbrev pub IsPartOf : Volume → Finding → Type 0
+IsPartOf v (Found.Part part place) = (1 ≤ part) × (part ≤ 9) × (part ≤ 8 → place < v.agcount)
+IsPartOf v (Found.Law law) = ⊥

@@ -1,5 +1,5 @@
 -- The files of a volume: what the slots of the recorded chunks read as (chapters "AG Inode Management" and "On-disk Inode").
-use Rattle.std.specs.Prelude.{ℕ, ◌+◌, List, [], ◌∷◌, ◌++◌, Result, Ok, Err}
+use Rattle.std.specs.Prelude.{◌≡◌, ◌⊎◌, ℕ, ◌+◌, List, [], ◌∷◌, ◌++◌, Result, Ok, Err}
 use Rattle.std.specs.List.{flat_map}
 use Rattle.xfs_disk.specs.Blocks.{Image}
 use Rattle.xfs_geom.specs.Volumes.{Volume}
@@ -42,3 +42,10 @@ files_at v image (ino ∷ inos) = with_file ino (reads_as v image ino) (files_at
 -- all files of a volume, by number
 unfoldable pub files_read : Volume → Image → List GroupRec → Result (List FileRec) Finding
 files_read v image groups = files_at v image (inodes_of v groups)
+
+-- each of these slots is free or that of a file with its attributes, and these are the files
+abbrev pub AreFilesRead : Volume → Image → List ℕ → List FileRec → Type 0
+AreFilesRead v image [] files = files ≡ []
+AreFilesRead v image (ino ∷ inos) files =
+    ((reads_as v image ino ≡ Reads.Free) × AreFilesRead v image inos files)
+    ⊎ ((file : FileRec) × (rest : List FileRec) × (reads_as v image ino ≡ Reads.File file) × (files ≡ file ∷ rest) × AreFilesRead v image inos rest)

@@ -1,6 +1,6 @@
 //! Laws about the definitions. Each function does nothing; its contract is the law.
 
-ghost use Rattle.std.specs.Prelude.{◌≡◌, ℕ, true, false, List, [], ◌∷◌, length, slice_index_or, Option, None, Ok};
+ghost use Rattle.std.specs.Prelude.{◌≡◌, ◌≢◌, ℕ, true, false, List, [], ◌∷◌, length, slice_index_or, Option, Some, None, Ok, Err};
 ghost use Rattle.std.specs.List.{range_with_len};
 ghost use Rattle.std.specs.List.Sorted.{IsPermutation};
 ghost use Rattle.xfs_disk.specs.Blocks.{Image};
@@ -9,10 +9,12 @@ ghost use Rattle.xfs_geom.specs.declared.geometry.Geometry.{Geometry};
 ghost use Rattle.xfs_tree.specs.Reading.{bytes_at};
 ghost use Rattle.xfs_volume.specs.declared.catalogs.Catalog.{Catalog};
 ghost use Rattle.xfs_volume.specs.declared.findings.Law.{Law};
+ghost use Rattle.xfs_volume.specs.declared.files.FileRec.{FileRec};
 ghost use Rattle.xfs_volume.specs.declared.groups.GroupRec.{GroupRec};
 ghost use Rattle.xfs_image.specs.Clusters.{cluster_of, clusters_in, given_clusters, is_candidate, is_recorded, lies_in_chunk, root_cluster};
-ghost use Rattle.xfs_image.specs.Consistent.{IsConsistent, IsElected, finding};
+ghost use Rattle.xfs_image.specs.Consistent.{IsConsistent, IsElected, IsPartOf, finding};
 ghost use Rattle.xfs_image.specs.Examples.{chunk, extents, given, place, small};
+ghost use Rattle.xfs_image.specs.Files.{AreFilesRead, files_read, inodes_of};
 ghost use Rattle.xfs_image.specs.GroupParts.{AreGroupsRead};
 ghost use Rattle.xfs_image.specs.Groups.{groups_read};
 ghost use Rattle.xfs_image.specs.Keeping.{Keeps, Protected, byte_over};
@@ -20,19 +22,25 @@ ghost use Rattle.xfs_image.specs.Lsns.{AreInOrder, LsnPlace, in_order};
 ghost use Rattle.xfs_image.specs.Slots.{cluster_inodes};
 ghost use Rattle.xfs_image.specs.View.{IsRead, view};
 
-/// An image is consistent exactly where nothing is found, and the volume that is elected is one.
-#[tactic(auto, using(crate::proofs::Consistent::nothing_found))]
+use crate::findings::Finding;
+
+/// An image is consistent exactly where nothing is found; a geometry that comes from a backup is the first finding; and the
+/// geometry that is elected is one, so that an image has one finding at most.
 pub fn consistent_where_nothing_is_found()
     ensures consistent { (broken : Catalog → Option Law) (g : Geometry) (image : Image) → finding broken g image ≡ None → IsConsistent broken g image }
     ensures nothing_found { (broken : Catalog → Option Law) (g : Geometry) (image : Image) → IsConsistent broken g image → finding broken g image ≡ None }
-    ensures one_volume { (a b : Volume) (image : Image) → IsElected a image → IsElected b image → a ≡ b }
+    ensures from_backup { (broken : Catalog → Option Law) (g : Geometry) (image : Image) (is : IsElected (volume_of g) image) → is.vote.place ≢ 0 → finding broken g image ≡ Some (Finding.Part 0 0) }
+    ensures one_geometry { (g h : Geometry) (image : Image) → IsElected (volume_of g) image → IsElected (volume_of h) image → g ≡ h }
 {
 }
 
-/// A view that reads is the catalog of the groups and files that read, and of a group that reads all eight parts do.
+/// A view that reads is the catalog of the groups and files that read; what does not read is a part of a group or a slot. Of a
+/// group that reads all eight parts do, and of slots that read each is free or that of a file.
 pub fn view_is_of_what_reads()
     ensures view { (g : Geometry) (image : Image) (c : Catalog) → view g image ≡ Ok c → IsRead g image c }
+    ensures part { (g : Geometry) (image : Image) (found : Finding) → view g image ≡ Err found → IsPartOf (volume_of g) found }
     ensures groups { (v : Volume) (image : Image) (groups : List GroupRec) → groups_read v image ≡ Ok groups → AreGroupsRead v image 0 groups × (length groups ≡ v.agcount) }
+    ensures files { (v : Volume) (image : Image) (groups : List GroupRec) (files : List FileRec) → files_read v image groups ≡ Ok files → AreFilesRead v image (inodes_of v groups) files }
 {
 }
 
