@@ -8,3 +8,4 @@ pub mod GroupReads
 pub mod Examples
 pub mod Geometries
 pub mod PartsFound
+pub mod Protected

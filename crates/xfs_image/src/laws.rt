@@ -11,6 +11,7 @@ ghost use Rattle.xfs_volume.specs.declared.catalogs.Catalog.{Catalog};
 ghost use Rattle.xfs_volume.specs.declared.findings.Law.{Law};
 ghost use Rattle.xfs_volume.specs.declared.files.FileRec.{FileRec};
 ghost use Rattle.xfs_volume.specs.declared.groups.GroupRec.{GroupRec};
+ghost use Rattle.xfs_image.specs.Claims.{AreApart, claims};
 ghost use Rattle.xfs_image.specs.Clusters.{cluster_of, clusters_in, given_clusters, is_candidate, is_recorded, lies_in_chunk, root_cluster};
 ghost use Rattle.xfs_image.specs.Consistent.{IsConsistent, IsElected, IsPartOf, finding};
 ghost use Rattle.xfs_image.specs.Examples.{chunk, extents, given, place, small};
@@ -52,11 +53,11 @@ pub fn places_are_ordered()
 {
 }
 
-/// A protected file keeps itself, and a file that is kept twice is kept.
-#[tactic(auto, using(crate::proofs::Keeping::keeps_itself, crate::proofs::Keeping::keeps_on))]
+/// A protected file keeps itself, a file that is kept twice is kept, and no block is claimed by two protected files.
 pub fn keeping_goes_on()
     ensures itself { (v : Volume) (image : Image) (ino : ℕ) → Protected v image ino → Keeps v image image ino }
     ensures onward { (v : Volume) (a b c : Image) (ino : ℕ) → Keeps v a b ino → Keeps v b c ino → Keeps v a c ino }
+    ensures apart { (v : Volume) (image : Image) (a b : ℕ) (first : Protected v image a) (second : Protected v image b) → a ≢ b → AreApart (claims v first.file) (claims v second.file) }
 {
 }
 
