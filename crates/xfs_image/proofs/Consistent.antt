@@ -1,5 +1,5 @@
 -- An image is consistent exactly where nothing is found.
-use Rattle.std.proofs.Common.{◌≡◌, ◌≢◌, ℕ, ◌+◌, ◌-◌, ◌≤◌, ◌<◌, Bool, true, false, not, ◌==◌, ◌&&◌, if◌then◌else◌, cond, Option, Some, None, Result, Ok, Err, refl, sym, ap, ◌∙◌, subst, arith}
+use Rattle.std.proofs.Common.{◌≡◌, ◌≢◌, ◌⊎◌, inl, inr, ℕ, ◌+◌, ◌-◌, ◌≤◌, ◌<◌, Bool, true, false, not, ◌==◌, ◌&&◌, if◌then◌else◌, cond, Option, Some, None, Result, Ok, Err, refl, sym, ap, ◌∙◌, subst, arith}
 use Rattle.std.proofs.lemmas.Bool.{and_parts, and_from, eqb-true, eq-eqb}
 use Rattle.xfs_disk.specs.Blocks.{Image}
 use Rattle.xfs_geom.proofs.Votes.{same_equal}
@@ -9,7 +9,7 @@ use Rattle.xfs_geom.specs.declared.election.ElectFault.{ElectFault}
 use Rattle.xfs_geom.specs.declared.geometry.Geometry.{Geometry}
 use Rattle.xfs_volume.specs.declared.catalogs.Catalog.{Catalog}
 use Rattle.xfs_volume.specs.declared.findings.Law.{Law}
-use Rattle.xfs_image.specs.Consistent.{IsConsistent, IsElected, backup_agrees, backup_differs, backup_fault, backup_found, finding, is_elected, is_primary, law_found, view_found}
+use Rattle.xfs_image.specs.Consistent.{HasFinding, IsConsistent, IsConsistentImage, IsElected, backup_agrees, backup_differs, backup_fault, backup_found, finding, is_elected, is_primary, law_found, view_found}
 use Rattle.xfs_image.specs.View.{view}
 use Rattle.xfs_image.specs.declared.findings.Finding.{Finding}
 use Rattle.xfs_image.specs.declared.findings.Finding.TheVariants as Found
@@ -109,3 +109,26 @@ one_geometry g h image first second =
     let is_h : choice second.vote ≡ volume_of h = same_equal (choice second.vote) (volume_of h) second.states in
     let same : first.vote ≡ second.vote = one_vote first.vote second.vote (sym first.due ∙ second.due) in
     same_geometry g h (sym is_g ∙ ap choice same ∙ is_h)
+
+one_some : (x y : Finding) → Some x ≡ Some y → x ≡ y
+one_some x y e = cc
+
+-- so an image has one finding at most, and none where it is consistent
+pub one_finding : (broken : Catalog → Option Law) (image : Image) (x y : Finding) → HasFinding broken image x → HasFinding broken image y → x ≡ y
+one_finding broken image x y first second =
+    let same : first.geometry ≡ second.geometry = one_geometry first.geometry second.geometry image first.elected second.elected in
+    one_some x y (sym first.is ∙ ap (λ (g : Geometry). finding broken g image) same ∙ second.is)
+
+pub never_both : (broken : Catalog → Option Law) (image : Image) (x : Finding) → IsConsistentImage broken image → HasFinding broken image x → ⊥
+never_both broken image x is has =
+    let same : has.geometry ≡ is.0 = one_geometry has.geometry is.0 image has.elected is.1.elected in
+    no_some x (sym has.is ∙ ap (λ (g : Geometry). finding broken g image) same ∙ nothing_found broken is.0 image is.1)
+
+-- an image that elects a geometry is consistent, or something is found in it
+pub one_of_both : (broken : Catalog → Option Law) (g : Geometry) (image : Image) → IsElected (volume_of g) image
+    → IsConsistentImage broken image ⊎ ((found : Finding) × HasFinding broken image found)
+one_of_both broken g image elects = by_case (finding broken g image) refl
+  where
+    by_case : (o : Option Finding) → finding broken g image ≡ o → IsConsistentImage broken image ⊎ ((found : Finding) × HasFinding broken image found)
+    by_case None e = inl (g, consistent broken g image e)
+    by_case (Some found) e = inr (found, record { geometry = g; elected = elects; is = e })

@@ -74,6 +74,15 @@ pub record IsConsistent (broken : Catalog → Option Law) (g : Geometry) (image 
   pub lawful : broken catalog ≡ None
   pub backups : (ag : ℕ) → 1 ≤ ag → ag < g.agcount → backup_agrees (volume_of g) image ag ≡ true
 
+-- an image is consistent, or something is found in it first: both by the geometry that it elects
+abbrev pub IsConsistentImage : (Catalog → Option Law) → Image → Type 0
+IsConsistentImage broken image = (g : Geometry) × IsConsistent broken g image
+
+pub record HasFinding (broken : Catalog → Option Law) (image : Image) (found : Finding) : Type 0 where
+  pub geometry : Geometry
+  pub elected : IsElected (volume_of geometry) image
+  pub is : finding broken geometry image ≡ Some found
+
 -- the part is one of a group of the volume, or a slot
 abbrev pub IsPartOf : Volume → Finding → Type 0
 IsPartOf v (Found.Part part place) = (1 ≤ part) × (part ≤ 9) × (part ≤ 8 → place < v.agcount)

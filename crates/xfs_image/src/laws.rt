@@ -1,6 +1,6 @@
 //! Laws about the definitions. Each function does nothing; its contract is the law.
 
-ghost use Rattle.std.specs.Prelude.{◌≡◌, ◌≢◌, ℕ, true, false, List, [], ◌∷◌, length, slice_index_or, Option, Some, None, Ok, Err};
+ghost use Rattle.std.specs.Prelude.{◌≡◌, ◌≢◌, ◌⊎◌, ℕ, true, false, List, [], ◌∷◌, length, slice_index_or, Option, Some, None, Ok, Err};
 ghost use Rattle.std.specs.List.{range_with_len};
 ghost use Rattle.std.specs.List.Sorted.{IsPermutation};
 ghost use Rattle.xfs_disk.specs.Blocks.{Image};
@@ -12,11 +12,11 @@ ghost use Rattle.xfs_volume.specs.declared.findings.Law.{Law};
 ghost use Rattle.xfs_volume.specs.declared.files.FileRec.{FileRec};
 ghost use Rattle.xfs_volume.specs.declared.groups.GroupRec.{GroupRec};
 ghost use Rattle.xfs_image.specs.Claims.{AreApart, claims};
-ghost use Rattle.xfs_image.specs.Clusters.{cluster_of, clusters_in, given_clusters, is_candidate, is_recorded, lies_in_chunk, root_cluster};
-ghost use Rattle.xfs_image.specs.Consistent.{IsConsistent, IsElected, IsPartOf, finding};
+ghost use Rattle.xfs_image.specs.Clusters.{chunk_clusters, cluster_of, clusters_in, given_clusters, is_candidate, is_recorded, lies_in_chunk, named_by_chunks, named_by_owners, root_cluster};
+ghost use Rattle.xfs_image.specs.Consistent.{HasFinding, IsConsistent, IsConsistentImage, IsElected, IsPartOf, finding};
 ghost use Rattle.xfs_image.specs.Examples.{chunk, extents, given, place, small};
 ghost use Rattle.xfs_image.specs.Files.{AreFilesRead, files_read, inodes_of};
-ghost use Rattle.xfs_image.specs.GroupParts.{AreGroupsRead};
+ghost use Rattle.xfs_image.specs.GroupParts.{AreGroupsRead, IsGroupRead};
 ghost use Rattle.xfs_image.specs.Groups.{groups_read};
 ghost use Rattle.xfs_image.specs.Keeping.{Keeps, Protected, byte_over};
 ghost use Rattle.xfs_image.specs.Lsns.{AreInOrder, LsnPlace, in_order};
@@ -25,13 +25,16 @@ ghost use Rattle.xfs_image.specs.View.{IsRead, view};
 
 use crate::findings::Finding;
 
-/// An image is consistent exactly where nothing is found; a geometry that comes from a backup is the first finding; and the
-/// geometry that is elected is one, so that an image has one finding at most.
+/// An image is consistent exactly where nothing is found; a geometry that comes from a backup is the first finding; the
+/// geometry that is elected is one; so an image that elects one either is consistent or has just one finding.
 pub fn consistent_where_nothing_is_found()
     ensures consistent { (broken : Catalog → Option Law) (g : Geometry) (image : Image) → finding broken g image ≡ None → IsConsistent broken g image }
     ensures nothing_found { (broken : Catalog → Option Law) (g : Geometry) (image : Image) → IsConsistent broken g image → finding broken g image ≡ None }
     ensures from_backup { (broken : Catalog → Option Law) (g : Geometry) (image : Image) (is : IsElected (volume_of g) image) → is.vote.place ≢ 0 → finding broken g image ≡ Some (Finding.Part 0 0) }
     ensures one_geometry { (g h : Geometry) (image : Image) → IsElected (volume_of g) image → IsElected (volume_of h) image → g ≡ h }
+    ensures one_finding { (broken : Catalog → Option Law) (image : Image) (x y : Finding) → HasFinding broken image x → HasFinding broken image y → x ≡ y }
+    ensures never_both { (broken : Catalog → Option Law) (image : Image) (x : Finding) → IsConsistentImage broken image → HasFinding broken image x → ⊥ }
+    ensures one_of_both { (broken : Catalog → Option Law) (g : Geometry) (image : Image) → IsElected (volume_of g) image → IsConsistentImage broken image ⊎ ((found : Finding) × HasFinding broken image found) }
 {
 }
 
@@ -61,9 +64,11 @@ pub fn keeping_goes_on()
 {
 }
 
-/// The cluster of the root is a recorded candidate, whatever the trees and the bytes say.
-#[tactic(auto, using(crate::proofs::Roots::root_recorded, crate::proofs::Roots::root_candidate))]
-pub fn root_is_candidate()
+/// The trees of a group that reads name their clusters, and the cluster of the root is a recorded candidate, whatever trees
+/// and bytes say.
+pub fn clusters_are_named()
+    ensures chunks { (v : Volume) (image : Image) (ag : ℕ) (g : GroupRec) → IsGroupRead v image ag g → named_by_chunks v image ag ≡ Some (chunk_clusters v ag g.ino) }
+    ensures owners { (v : Volume) (image : Image) (ag : ℕ) (g : GroupRec) → IsGroupRead v image ag g → named_by_owners v image ag ≡ Some (given_clusters v ag g.rmap) }
     ensures recorded { (v : Volume) (image : Image) → is_recorded v image (root_cluster v) ≡ true }
     ensures candidate { (v : Volume) (image : Image) → is_candidate v image (root_cluster v) ≡ true }
 {
