@@ -1,5 +1,5 @@
 -- An image is consistent exactly where nothing is found.
-use Rattle.std.proofs.Common.{◌≡◌, ◌≢◌, ◌⊎◌, inl, inr, ℕ, ◌+◌, ◌-◌, ◌≤◌, ◌<◌, Bool, true, false, not, ◌==◌, ◌&&◌, if◌then◌else◌, cond, Option, Some, None, Result, Ok, Err, refl, sym, ap, ◌∙◌, subst, arith}
+use Rattle.std.proofs.Common.{◌≡◌, ◌≢◌, ◌⊎◌, inl, inr, ℕ, ◌-◌, ◌≤◌, ◌<◌, Bool, true, false, not, ◌==◌, ◌&&◌, if◌then◌else◌, Option, Some, None, Result, Ok, Err, refl, sym, ap, ◌∙◌, arith}
 use Rattle.std.proofs.lemmas.Bool.{and_parts, and_from, eqb-true, eq-eqb}
 use Rattle.xfs_disk.specs.Blocks.{Image}
 use Rattle.xfs_geom.proofs.Votes.{same_equal}
@@ -9,7 +9,7 @@ use Rattle.xfs_geom.specs.declared.election.ElectFault.{ElectFault}
 use Rattle.xfs_geom.specs.declared.geometry.Geometry.{Geometry}
 use Rattle.xfs_volume.specs.declared.catalogs.Catalog.{Catalog}
 use Rattle.xfs_volume.specs.declared.findings.Law.{Law}
-use Rattle.xfs_image.specs.Consistent.{HasFinding, IsConsistent, IsConsistentImage, IsElected, backup_agrees, backup_differs, backup_fault, backup_found, finding, is_elected, is_primary, law_found, view_found}
+use Rattle.xfs_image.specs.Consistent.{HasFinding, IsConsistent, IsConsistentImage, IsElected, backup_agrees, backup_differs, backup_fault, backup_found, finding, is_from_primary, is_primary, law_found, view_found}
 use Rattle.xfs_image.specs.View.{view}
 use Rattle.xfs_image.specs.declared.findings.Finding.{Finding}
 use Rattle.xfs_image.specs.declared.findings.Finding.TheVariants as Found
@@ -28,14 +28,14 @@ elected_of v image (Ok vote) e h =
     (record { vote = vote; due = e; states = parts.1 }, eqb-true vote.place 0 parts.0)
 elected_of v image (Err fault) e h = absurd cc
 
-from_elected : (v : Volume) (image : Image) (is : IsElected v image) → is.vote.place ≡ 0 → is_elected v image ≡ true
-unfolding is_elected
-from_elected v image is first =
+primary_elected : (v : Volume) (image : Image) (is : IsElected v image) → is.vote.place ≡ 0 → is_from_primary v image ≡ true
+unfolding is_from_primary
+primary_elected v image is first =
     ap (is_primary v) is.due ∙ and_from (is.vote.place == 0) (same_volume (choice is.vote) v) (eq-eqb is.vote.place 0 first) is.states
 
-not_elected : (v : Volume) (image : Image) (is : IsElected v image) → is.vote.place ≢ 0 → is_elected v image ≡ false
-unfolding is_elected
-not_elected v image is other = ap (is_primary v) is.due ∙ by_case (is.vote.place == 0) refl
+backup_elected : (v : Volume) (image : Image) (is : IsElected v image) → is.vote.place ≢ 0 → is_from_primary v image ≡ false
+unfolding is_from_primary
+backup_elected v image is other = ap (is_primary v) is.due ∙ by_case (is.vote.place == 0) refl
   where
     by_case : (b : Bool) → (is.vote.place == 0) ≡ b → (b && same_volume (choice is.vote) v) ≡ false
     by_case true e = absurd (other (eqb-true is.vote.place 0 e))
@@ -76,10 +76,10 @@ from_view broken g image first (Ok c) e none =
     }
 
 pub consistent : (broken : Catalog → Option Law) (g : Geometry) (image : Image) → finding broken g image ≡ None → IsConsistent broken g image
-unfolding finding is_elected
-consistent broken g image none = by_case (is_elected (volume_of g) image) refl none
+unfolding finding is_from_primary
+consistent broken g image none = by_case (is_from_primary (volume_of g) image) refl none
   where
-    by_case : (b : Bool) → is_elected (volume_of g) image ≡ b
+    by_case : (b : Bool) → is_from_primary (volume_of g) image ≡ b
         → (if b then view_found broken (view g image) (backup_found (backup_fault (volume_of g) image)) else Some (Found.Part 0 0)) ≡ None
         → IsConsistent broken g image
     by_case true e h = from_view broken g image (elected_of (volume_of g) image (elected image) refl e) (view g image) refl h
@@ -88,7 +88,7 @@ consistent broken g image none = by_case (is_elected (volume_of g) image) refl n
 pub nothing_found : (broken : Catalog → Option Law) (g : Geometry) (image : Image) → IsConsistent broken g image → finding broken g image ≡ None
 unfolding finding
 nothing_found broken g image is =
-    rw (from_elected (volume_of g) image is.elected is.first, is.reads, is.lawful, none_differs (volume_of g) image is.backups) refl
+    rw (primary_elected (volume_of g) image is.elected is.first, is.reads, is.lawful, none_differs (volume_of g) image is.backups) refl
 
 abbrev ok_vote : Vote → Result Vote ElectFault
 ok_vote vote = Ok vote
@@ -100,7 +100,7 @@ one_vote x y e = cc
 pub from_backup : (broken : Catalog → Option Law) (g : Geometry) (image : Image) (is : IsElected (volume_of g) image) → is.vote.place ≢ 0
     → finding broken g image ≡ Some (Found.Part 0 0)
 unfolding finding
-from_backup broken g image is other = rw (not_elected (volume_of g) image is other) refl
+from_backup broken g image is other = rw (backup_elected (volume_of g) image is other) refl
 
 -- the geometry that is elected is one
 pub one_geometry : (g h : Geometry) (image : Image) → IsElected (volume_of g) image → IsElected (volume_of h) image → g ≡ h

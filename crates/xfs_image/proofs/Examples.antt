@@ -1,10 +1,11 @@
 -- The worked examples.
-use Rattle.std.proofs.Common.{◌≡◌, ℕ, Bool, true, false, List, [], ◌∷◌, refl, slice_index_or}
+use Rattle.std.proofs.Common.{◌≡◌, true, false, [], ◌∷◌, refl, slice_index_or}
 use Rattle.std.specs.List.{range_with_len}
 use Rattle.xfs_disk.specs.Blocks.{Image}
 use Rattle.xfs_geom.specs.Conversions.{address_of, inode_of}
 use Rattle.xfs_tree.specs.Reading.{bytes_at}
-use Rattle.xfs_image.specs.Clusters.{cluster_of, clusters_in, given_clusters, lies_in_chunk, root_cluster}
+use Rattle.xfs_image.specs.Candidates.{lies_in_chunk}
+use Rattle.xfs_image.specs.Clusters.{cluster_of, clusters_in, given_clusters, root_cluster}
 use Rattle.xfs_image.specs.Examples.{chunk, extents, given, place, small}
 use Rattle.xfs_image.specs.Keeping.{byte_over}
 use Rattle.xfs_image.specs.Lsns.{in_order}

@@ -69,8 +69,7 @@ groups_have_parts v image ag zero gs reads =
     (subst (AreGroupsRead v image ag) none tt, ap length (sym none))
 groups_have_parts v image ag (suc n) gs reads =
     let parts = first_reads (group_read v image ag) (groups_from v image (range_with_len (ag + 1) n)) gs reads in
-    let rest = groups_have_parts v image (ag + 1) n parts.1 parts.3 in
-    (
+    let rest = groups_have_parts v image (ag + 1) n parts.1 parts.3 in (
       subst (AreGroupsRead v image ag) (sym parts.4) (group_has_parts v image ag parts.0 parts.2, rest.0),
       ap length parts.4 ∙ ap (λ k. suc k) rest.1,
     )

@@ -1,21 +1,19 @@
 -- What does not read is a part of a group or a slot.
-use Rattle.std.proofs.Common.{◌≡◌, ◌+◌, ◌≤◌, ◌<◌, ℕ, zero, suc, List, [], ◌∷◌, Option, Some, None, Result, Ok, Err, refl, sym, ap, ◌∙◌, subst, arith}
+use Rattle.std.proofs.Common.{◌≡◌, ◌+◌, ◌≤◌, ◌<◌, ℕ, zero, suc, List, [], ◌∷◌, Option, Some, None, Result, Ok, Err, subst, arith}
 use Rattle.std.specs.List.{range_with_len}
 use Rattle.xfs_disk.specs.Blocks.{Image}
 use Rattle.xfs_geom.specs.Volumes.{Volume, volume_of}
 use Rattle.xfs_geom.specs.declared.geometry.Geometry.{Geometry}
 use Rattle.xfs_inode.specs.declared.files.FileRead.{FileRead}
 use Rattle.xfs_inode.specs.declared.files.FileRead.TheVariants as Reads
-use Rattle.xfs_volume.specs.declared.catalogs.Catalog.{Catalog}
 use Rattle.xfs_volume.specs.declared.files.FileRec.{FileRec}
 use Rattle.xfs_volume.specs.declared.groups.GroupRec.{GroupRec}
 use Rattle.xfs_image.specs.Consistent.{IsPartOf}
 use Rattle.xfs_image.specs.Files.{files_at, files_read, inodes_of, with_file}
-use Rattle.xfs_image.specs.Groups.{group_of, group_read, groups_from, groups_read, read_then, with_part, agf_at, agi_at, agfl_at, bno_at, cnt_at, ino_at, fino_at, rmap_at}
+use Rattle.xfs_image.specs.Groups.{group_read, groups_from, groups_read, read_then, with_part, agf_at, agi_at, agfl_at, bno_at, cnt_at, ino_at, fino_at, rmap_at}
 use Rattle.xfs_image.specs.Slots.{reads_as}
-use Rattle.xfs_image.specs.View.{catalog_of, if_read, view}
+use Rattle.xfs_image.specs.View.{if_read, view}
 use Rattle.xfs_image.specs.declared.findings.Finding.{Finding}
-use Rattle.xfs_image.specs.declared.findings.Finding.TheVariants as Found
 
 -- whatever is found of an answer has a fact
 abbrev AllFound : {A : Type 0} → (Finding → Type 0) → Result A Finding → Type 0

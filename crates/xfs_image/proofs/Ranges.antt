@@ -1,5 +1,5 @@
 -- The first of some numbers in a row that pass a test.
-use Rattle.std.proofs.Common.{◌≡◌, ℕ, zero, suc, ◌+◌, ◌≤◌, ◌<◌, ◌⊎◌, inl, inr, Bool, true, false, cond, List, [], ◌∷◌, Option, Some, None, refl, sym, ap, ◌∙◌, subst, arith}
+use Rattle.std.proofs.Common.{◌≡◌, ℕ, zero, suc, ◌+◌, ◌≤◌, ◌<◌, inl, inr, Bool, true, false, cond, Some, None, refl, ap, ◌∙◌, arith}
 use Rattle.std.specs.List.{find, range_with_len}
 use Rattle.std.proofs.lemmas.Bool.{cases_lt}
 
@@ -16,8 +16,8 @@ none_passes p a (suc n) none k low high = by_case (p a) refl none (λ rest above
     by_case true e h behind = absurd (no_some a h)
     by_case false e h behind =
         elim (cases_lt a k) [
-          inl above ↦ behind h (omega (arith, above))
-        | inr upto ↦ let same : k ≡ a = omega (arith, low, upto) in ap p same ∙ e
+          | inl above ↦ behind h (omega (arith, above))
+          | inr upto ↦ let same : k ≡ a = omega (arith, low, upto) in ap p same ∙ e
         ]
 
 -- where none passes, none is found

@@ -1,11 +1,11 @@
 -- The clusters that the trees of a group name, and that of the root.
-use Rattle.std.proofs.Common.{◌≡◌, ℕ, Bool, true, ◌==◌, ◌||◌, Some, refl, ap, ◌∙◌}
-use Rattle.std.specs.Option.{option_and_then, option_map}
+use Rattle.std.proofs.Common.{◌≡◌, ℕ, true, Some, refl}
 use Rattle.std.proofs.lemmas.Bool.{eq-eqb}
 use Rattle.xfs_disk.specs.Blocks.{Image}
 use Rattle.xfs_geom.specs.Volumes.{Volume}
 use Rattle.xfs_volume.specs.declared.groups.GroupRec.{GroupRec}
-use Rattle.xfs_image.specs.Clusters.{chunk_clusters, given_clusters, is_candidate, is_recorded, named_by_chunks, named_by_owners, root_cluster}
+use Rattle.xfs_image.specs.Candidates.{is_candidate}
+use Rattle.xfs_image.specs.Clusters.{chunk_clusters, given_clusters, is_recorded, named_by_chunks, named_by_owners, root_cluster}
 use Rattle.xfs_image.specs.GroupParts.{IsGroupRead}
 
 pub root_recorded : (v : Volume) (image : Image) → is_recorded v image (root_cluster v) ≡ true

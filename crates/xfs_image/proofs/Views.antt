@@ -1,6 +1,5 @@
 -- A view that reads is the catalog of the groups and the files that read.
-use Rattle.std.proofs.Common.{◌≡◌, ◌⊎◌, inl, inr, ◌+◌, ◌≤◌, ◌<◌, ℕ, zero, suc, List, [], ◌∷◌, Option, Some, None, Result, Ok, Err, refl, sym, ap, ◌∙◌, subst, arith}
-use Rattle.std.specs.List.{range_with_len}
+use Rattle.std.proofs.Common.{◌≡◌, ◌⊎◌, inl, inr, ℕ, List, [], ◌∷◌, Result, Ok, Err, refl, sym}
 use Rattle.xfs_disk.specs.Blocks.{Image}
 use Rattle.xfs_geom.specs.Volumes.{Volume, volume_of}
 use Rattle.xfs_geom.specs.declared.geometry.Geometry.{Geometry}
@@ -9,9 +8,8 @@ use Rattle.xfs_volume.specs.declared.files.FileRec.{FileRec}
 use Rattle.xfs_volume.specs.declared.groups.GroupRec.{GroupRec}
 use Rattle.xfs_inode.specs.declared.files.FileRead.{FileRead}
 use Rattle.xfs_inode.specs.declared.files.FileRead.TheVariants as Reads
-use Rattle.xfs_image.specs.Consistent.{IsPartOf}
 use Rattle.xfs_image.specs.Files.{AreFilesRead, files_at, files_read, inodes_of, with_file}
-use Rattle.xfs_image.specs.Groups.{agf_at, agi_at, agfl_at, bno_at, cnt_at, ino_at, fino_at, rmap_at, group_read, groups_from, groups_read, read_then, with_part}
+use Rattle.xfs_image.specs.Groups.{groups_read}
 use Rattle.xfs_image.specs.Slots.{reads_as}
 use Rattle.xfs_image.specs.View.{IsRead, catalog_of, if_read, view}
 use Rattle.xfs_image.specs.declared.findings.Finding.{Finding}
@@ -67,8 +65,8 @@ slots_read_so : (v : Volume) (image : Image) (inos : List ℕ) (files : List Fil
 slots_read_so v image [] files e = sym (one_list [] files e)
 slots_read_so v image (ino ∷ inos) files e =
     elim (slot_reads_so ino (reads_as v image ino) (files_at v image inos) files e) [
-      inl free ↦ inl (free.0, slots_read_so v image inos files free.1)
-    | inr used ↦ inr (used.0, used.1, used.2, used.3, slots_read_so v image inos used.1 used.4)
+      | inl free ↦ inl (free.0, slots_read_so v image inos files free.1)
+      | inr used ↦ inr (used.0, used.1, used.2, used.3, slots_read_so v image inos used.1 used.4)
     ]
 
 pub files_read_so : (v : Volume) (image : Image) (groups : List GroupRec) (files : List FileRec) → files_read v image groups ≡ Ok files

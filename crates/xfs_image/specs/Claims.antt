@@ -9,7 +9,7 @@ use Rattle.xfs_inode.specs.declared.files.FileRead.{FileRead}
 use Rattle.xfs_inode.specs.declared.files.FileRead.TheVariants as Reads
 use Rattle.xfs_volume.specs.declared.clusters.ClusterRec.{ClusterRec}
 use Rattle.xfs_volume.specs.declared.files.FileRec.{FileRec}
-use Rattle.xfs_image.specs.Clusters.{candidates}
+use Rattle.xfs_image.specs.Candidates.{candidates}
 use Rattle.xfs_image.specs.Directories.{entries_read}
 use Rattle.xfs_image.specs.Slots.{reads_as, cluster_inodes}
 

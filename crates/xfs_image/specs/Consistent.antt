@@ -21,8 +21,8 @@ is_primary v (Ok vote) = vote.place == 0 && same_volume (choice vote) v
 is_primary v (Err fault) = false
 
 -- the volume is elected from block 0
-unfoldable pub is_elected : Volume → Image → Bool
-is_elected v image = is_primary v (elected image)
+unfoldable pub is_from_primary : Volume → Image → Bool
+is_from_primary v image = is_primary v (elected image)
 
 -- the backup superblock of a group, its first sector, agrees with the volume
 abbrev pub backup_agrees : Volume → Image → ℕ → Bool
@@ -55,7 +55,7 @@ module _ (broken : Catalog → Option Law) where
   -- groups, then the slots; the laws; the backups
   unfoldable pub finding : Geometry → Image → Option Finding
   finding g image =
-      if is_elected (volume_of g) image
+      if is_from_primary (volume_of g) image
       then view_found (view g image) (backup_found (backup_fault (volume_of g) image))
       else Some (Found.Part 0 0)
 

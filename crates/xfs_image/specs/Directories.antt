@@ -1,10 +1,9 @@
 -- Directories as they read: their entries, the parent that they state, and whether they are whole (chapter "Directories").
-use Rattle.std.specs.Prelude.{ℕ, Bool, true, false, not, ◌+◌, ◌*◌, ◌==◌, ◌&&◌, ◌||◌, if◌then◌else◌, List, [], ◌∷◌, map, Option, Some, None, is_some}
+use Rattle.std.specs.Prelude.{ℕ, Bool, not, ◌+◌, ◌*◌, ◌==◌, ◌&&◌, ◌||◌, if◌then◌else◌, List, [], ◌∷◌, map, Option, Some, None, is_some}
 use Rattle.std.specs.List.{filter, find, flat_map, list_all, list_any}
 use Rattle.xfs_word.specs.Field.{field_of, part_of}
 use Rattle.xfs_word.specs.Seal.{is_sealed}
 use Rattle.xfs_word.specs.declared.extents.Extent.{Extent}
-use Rattle.xfs_word.specs.declared.kinds.Seal.{Seal}
 use Rattle.xfs_word.specs.declared.kinds.SealKind.{SealKind}
 use Rattle.xfs_word.specs.declared.kinds.SealKind.TheVariants as Kind
 use Rattle.xfs_disk.specs.Blocks.{Image}

@@ -2,9 +2,6 @@
 use Rattle.std.specs.Prelude.{◌≡◌, ℕ, ◌+◌, List, [], ◌∷◌, Some}
 use Rattle.xfs_disk.specs.Blocks.{Image}
 use Rattle.xfs_geom.specs.Volumes.{Volume}
-use Rattle.xfs_geom.specs.declared.records.InoRec.{InoRec}
-use Rattle.xfs_geom.specs.declared.records.RmapRec.{RmapRec}
-use Rattle.xfs_geom.specs.declared.records.Span.{Span}
 use Rattle.xfs_tree.specs.Reading.{Contents}
 use Rattle.xfs_volume.specs.declared.groups.GroupRec.{GroupRec}
 use Rattle.xfs_volume.specs.declared.groups.TreeBlocks.{TreeBlocks}

@@ -1,5 +1,5 @@
 -- What a file holds, which files are protected, and what it means that a file is kept.
-use Rattle.std.specs.Prelude.{◌≡◌, ◌≢◌, ℕ, Bool, true, false, ◌+◌, ◌-◌, ◌*◌, ◌/◌, ◌%◌, ◌&&◌, nat_le, nat_lt, if◌then◌else◌, List, [], ◌∷◌, map, slice_index_or}
+use Rattle.std.specs.Prelude.{◌≡◌, ◌≢◌, ℕ, Bool, true, false, ◌+◌, ◌-◌, ◌/◌, ◌%◌, ◌&&◌, nat_le, nat_lt, if◌then◌else◌, List, [], ◌∷◌, map, slice_index_or}
 use Rattle.std.specs.List.{range_with_len}
 use Rattle.xfs_word.specs.declared.extents.Extent.{Extent}
 use Rattle.xfs_disk.specs.Blocks.{Image}
@@ -15,7 +15,7 @@ use Rattle.xfs_image.specs.Claims.{AreApart, claims, is_candidate_inode, is_clai
 use Rattle.xfs_image.specs.Clusters.{cluster_of}
 use Rattle.xfs_image.specs.Slots.{reads_as}
 
--- the extent is written and has this block of the file
+-- the extent has this block of the file
 abbrev pub has_block : Extent → ℕ → Bool
 has_block e offset = nat_le e.offset offset && nat_lt offset (e.offset + e.count)
 

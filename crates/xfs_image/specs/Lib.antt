@@ -3,6 +3,7 @@ pub mod Slots
 pub mod Groups
 pub mod GroupParts
 pub mod Clusters
+pub mod Candidates
 pub mod Files
 pub mod Directories
 pub mod Lsns

@@ -12,7 +12,8 @@ ghost use Rattle.xfs_volume.specs.declared.findings.Law.{Law};
 ghost use Rattle.xfs_volume.specs.declared.files.FileRec.{FileRec};
 ghost use Rattle.xfs_volume.specs.declared.groups.GroupRec.{GroupRec};
 ghost use Rattle.xfs_image.specs.Claims.{AreApart, claims};
-ghost use Rattle.xfs_image.specs.Clusters.{chunk_clusters, cluster_of, clusters_in, given_clusters, is_candidate, is_recorded, lies_in_chunk, named_by_chunks, named_by_owners, root_cluster};
+ghost use Rattle.xfs_image.specs.Candidates.{is_candidate, lies_in_chunk};
+ghost use Rattle.xfs_image.specs.Clusters.{chunk_clusters, cluster_of, clusters_in, given_clusters, is_recorded, named_by_chunks, named_by_owners, root_cluster};
 ghost use Rattle.xfs_image.specs.Consistent.{HasFinding, IsConsistent, IsConsistentImage, IsElected, IsPartOf, finding};
 ghost use Rattle.xfs_image.specs.Examples.{chunk, extents, given, place, small};
 ghost use Rattle.xfs_image.specs.Files.{AreFilesRead, files_read, inodes_of};
@@ -35,8 +36,7 @@ pub fn consistent_where_nothing_is_found()
     ensures one_finding { (broken : Catalog → Option Law) (image : Image) (x y : Finding) → HasFinding broken image x → HasFinding broken image y → x ≡ y }
     ensures never_both { (broken : Catalog → Option Law) (image : Image) (x : Finding) → IsConsistentImage broken image → HasFinding broken image x → ⊥ }
     ensures one_of_both { (broken : Catalog → Option Law) (g : Geometry) (image : Image) → IsElected (volume_of g) image → IsConsistentImage broken image ⊎ ((found : Finding) × HasFinding broken image found) }
-{
-}
+{}
 
 /// A view that reads is the catalog of the groups and files that read; what does not read is a part of a group or a slot. Of a
 /// group that reads all eight parts do, and of slots that read each is free or that of a file.
@@ -45,24 +45,21 @@ pub fn view_is_of_what_reads()
     ensures part { (g : Geometry) (image : Image) (found : Finding) → view g image ≡ Err found → IsPartOf (volume_of g) found }
     ensures groups { (v : Volume) (image : Image) (groups : List GroupRec) → groups_read v image ≡ Ok groups → AreGroupsRead v image 0 groups × (length groups ≡ v.agcount) }
     ensures files { (v : Volume) (image : Image) (groups : List GroupRec) (files : List FileRec) → files_read v image groups ≡ Ok files → AreFilesRead v image (inodes_of v groups) files }
-{
-}
+{}
 
 /// The places of log sequence numbers in order are all the places, by block and then by byte.
 #[tactic(auto, using(crate::proofs::Places::are_in_order, crate::proofs::Places::all_moved))]
 pub fn places_are_ordered()
     ensures order { (places : List LsnPlace) → AreInOrder (in_order places) }
     ensures all { (places : List LsnPlace) → IsPermutation places (in_order places) }
-{
-}
+{}
 
 /// A protected file keeps itself, a file that is kept twice is kept, and no block is claimed by two protected files.
 pub fn keeping_goes_on()
     ensures itself { (v : Volume) (image : Image) (ino : ℕ) → Protected v image ino → Keeps v image image ino }
     ensures onward { (v : Volume) (a b c : Image) (ino : ℕ) → Keeps v a b ino → Keeps v b c ino → Keeps v a c ino }
     ensures apart { (v : Volume) (image : Image) (a b : ℕ) (first : Protected v image a) (second : Protected v image b) → a ≢ b → AreApart (claims v first.file) (claims v second.file) }
-{
-}
+{}
 
 /// The trees of a group that reads name their clusters, and the cluster of the root is a recorded candidate, whatever trees
 /// and bytes say.
@@ -71,8 +68,7 @@ pub fn clusters_are_named()
     ensures owners { (v : Volume) (image : Image) (ag : ℕ) (g : GroupRec) → IsGroupRead v image ag g → named_by_owners v image ag ≡ Some (given_clusters v ag g.rmap) }
     ensures recorded { (v : Volume) (image : Image) → is_recorded v image (root_cluster v) ≡ true }
     ensures candidate { (v : Volume) (image : Image) → is_candidate v image (root_cluster v) ≡ true }
-{
-}
+{}
 
 /// Worked examples: where the clusters of a chunk stand, which slots a cluster has, which clusters the tree of owners names,
 /// which lie in a chunk, what a byte of a file is, and the order of places.
@@ -91,5 +87,4 @@ pub fn worked_examples()
     ensures written { (image : Image) → byte_over small image extents 8199 ≡ slice_index_or (bytes_at image 25) 7 0 }
     ensures unwritten { (image : Image) → byte_over small image extents 20481 ≡ 0 }
     ensures ordered { in_order (place 5 24 ∷ place 0 720 ∷ place 5 16 ∷ place 0 240 ∷ []) ≡ place 0 240 ∷ place 0 720 ∷ place 5 16 ∷ place 5 24 ∷ [] }
-{
-}
+{}

@@ -7,6 +7,6 @@ mod laws;
 
 pub use findings::Finding;
 pub use laws::{
-    consistent_where_nothing_is_found, keeping_goes_on, places_are_ordered, clusters_are_named,
+    clusters_are_named, consistent_where_nothing_is_found, keeping_goes_on, places_are_ordered,
     view_is_of_what_reads, worked_examples,
 };
