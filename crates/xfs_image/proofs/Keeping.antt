@@ -1,10 +1,11 @@
 -- A protected file keeps itself, and what is kept twice is kept.
-use Rattle.std.proofs.Common.{◌≡◌, ℕ, refl, sym, ap, ◌∙◌}
+use Rattle.std.proofs.Common.{◌≡◌, ℕ, refl, sym, ap, ◌∙◌, length}
+use Rattle.std.proofs.lemmas.List.FromFn.{length-map-range_with_len}
 use Rattle.xfs_disk.specs.Blocks.{Image}
 use Rattle.xfs_geom.specs.Volumes.{Volume}
 use Rattle.xfs_inode.specs.declared.files.FileRead.TheVariants as Reads
 use Rattle.xfs_volume.specs.declared.files.FileRec.{FileRec}
-use Rattle.xfs_image.specs.Keeping.{Keeps, Protected, file_bytes, lasting}
+use Rattle.xfs_image.specs.Keeping.{Keeps, Protected, byte_over, file_bytes, lasting}
 
 pub keeps_itself : (v : Volume) (image : Image) (ino : ℕ) → Protected v image ino → Keeps v image image ino
 keeps_itself v image ino is = record {
@@ -36,3 +37,8 @@ keeps_on v a b c ino first second =
       device = second.device ∙ ap (λ (f : FileRec). f.device) same ∙ first.device;
       core = second.core ∙ ap (λ (f : FileRec). lasting f.core) same ∙ first.core;
     }
+
+-- a file has as many bytes as its size says
+pub all_bytes : (v : Volume) (image : Image) (f : FileRec) → length (file_bytes v image f) ≡ f.core.size
+unfolding file_bytes
+all_bytes v image f = length-map-range_with_len (byte_over v image f.extents) 0 f.core.size

@@ -19,7 +19,7 @@ ghost use Rattle.xfs_image.specs.Examples.{chunk, extents, given, place, small};
 ghost use Rattle.xfs_image.specs.Files.{AreFilesRead, files_read, inodes_of};
 ghost use Rattle.xfs_image.specs.GroupParts.{AreGroupsRead, IsGroupRead};
 ghost use Rattle.xfs_image.specs.Groups.{groups_read};
-ghost use Rattle.xfs_image.specs.Keeping.{Keeps, Protected, byte_over};
+ghost use Rattle.xfs_image.specs.Keeping.{Keeps, Protected, byte_over, file_bytes};
 ghost use Rattle.xfs_image.specs.Lsns.{AreInOrder, LsnPlace, in_order};
 ghost use Rattle.xfs_image.specs.Slots.{cluster_inodes};
 ghost use Rattle.xfs_image.specs.View.{IsRead, view};
@@ -54,11 +54,13 @@ pub fn places_are_ordered()
     ensures all { (places : List LsnPlace) → IsPermutation places (in_order places) }
 {}
 
-/// A protected file keeps itself, a file that is kept twice is kept, and no block is claimed by two protected files.
+/// A protected file keeps itself, a file that is kept twice is kept, no block is claimed by two protected files, and a file has
+/// as many bytes as its size says.
 pub fn keeping_goes_on()
     ensures itself { (v : Volume) (image : Image) (ino : ℕ) → Protected v image ino → Keeps v image image ino }
     ensures onward { (v : Volume) (a b c : Image) (ino : ℕ) → Keeps v a b ino → Keeps v b c ino → Keeps v a c ino }
     ensures apart { (v : Volume) (image : Image) (a b : ℕ) (first : Protected v image a) (second : Protected v image b) → a ≢ b → AreApart (claims v first.file) (claims v second.file) }
+    ensures size { (v : Volume) (image : Image) (f : FileRec) → length (file_bytes v image f) ≡ f.core.size }
 {}
 
 /// The trees of a group that reads name their clusters, and the cluster of the root is a recorded candidate, whatever trees

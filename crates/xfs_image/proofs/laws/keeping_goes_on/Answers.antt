@@ -1,4 +1,4 @@
-use Rattle.xfs_image.proofs.Keeping.{keeps_itself, keeps_on}
+use Rattle.xfs_image.proofs.Keeping.{all_bytes, keeps_itself, keeps_on}
 use Rattle.xfs_image.proofs.Protected.{protected_apart}
 use Rattle.xfs_image.proofs.laws.keeping_goes_on.Goals as goal
 
@@ -10,3 +10,6 @@ returns-clause-onward c = keeps_on
 
 pub returns-clause-apart : goal.returns-clause-apart
 returns-clause-apart c = protected_apart
+
+pub returns-clause-size : goal.returns-clause-size
+returns-clause-size c = all_bytes
