@@ -16,12 +16,12 @@ use Rattle.xfs_image.specs.declared.findings.Finding.TheVariants as Found
 use Rattle.xfs_image.proofs.Geometries.{same_geometry}
 use Rattle.xfs_image.proofs.Ranges.{no_some, none_passes, none_found}
 
-not_false : (b : Bool) → not b ≡ false → b ≡ true
+pub not_false : (b : Bool) → not b ≡ false → b ≡ true
 not_false true e = refl
 not_false false e = sym e
 
 -- the election, as a test and in words
-elected_of : (v : Volume) (image : Image) (r : Result Vote ElectFault) → elected image ≡ r → is_primary v r ≡ true
+pub elected_of : (v : Volume) (image : Image) (r : Result Vote ElectFault) → elected image ≡ r → is_primary v r ≡ true
     → (is : IsElected v image) × (is.vote.place ≡ 0)
 elected_of v image (Ok vote) e h =
     let parts = and_parts (vote.place == 0) (same_volume (choice vote) v) h in

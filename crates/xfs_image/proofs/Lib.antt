@@ -9,3 +9,4 @@ pub mod Examples
 pub mod Geometries
 pub mod PartsFound
 pub mod Protected
+pub mod Backups

@@ -83,6 +83,18 @@ pub record HasFinding (broken : Catalog → Option Law) (image : Image) (found :
   pub elected : IsElected (volume_of geometry) image
   pub is : finding broken geometry image ≡ Some found
 
+-- nothing is wrong with an image but backups: this group's is the first that does not agree
+pub record HasBackupFault (broken : Catalog → Option Law) (g : Geometry) (image : Image) (ag : ℕ) : Type 0 where
+  pub elected : IsElected (volume_of g) image
+  pub first : elected.vote.place ≡ 0
+  pub catalog : Catalog
+  pub reads : view g image ≡ Ok catalog
+  pub lawful : broken catalog ≡ None
+  pub some : 1 ≤ ag
+  pub few : ag < g.agcount
+  pub differs : backup_agrees (volume_of g) image ag ≡ false
+  pub least : (before : ℕ) → 1 ≤ before → before < ag → backup_agrees (volume_of g) image before ≡ true
+
 -- the part is one of a group of the volume, or a slot
 abbrev pub IsPartOf : Volume → Finding → Type 0
 IsPartOf v (Found.Part part place) = (1 ≤ part) × (part ≤ 9) × (part ≤ 8 → place < v.agcount)

@@ -12,3 +12,4 @@ pub mod Consistent
 pub mod Claims
 pub mod Keeping
 pub mod Examples
+pub mod Reserved

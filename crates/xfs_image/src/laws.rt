@@ -14,7 +14,7 @@ ghost use Rattle.xfs_volume.specs.declared.groups.GroupRec.{GroupRec};
 ghost use Rattle.xfs_image.specs.Claims.{AreApart, claims};
 ghost use Rattle.xfs_image.specs.Candidates.{is_candidate, lies_in_chunk};
 ghost use Rattle.xfs_image.specs.Clusters.{chunk_clusters, cluster_of, clusters_in, given_clusters, is_recorded, named_by_chunks, named_by_owners, root_cluster};
-ghost use Rattle.xfs_image.specs.Consistent.{HasFinding, IsConsistent, IsConsistentImage, IsElected, IsPartOf, finding};
+ghost use Rattle.xfs_image.specs.Consistent.{HasBackupFault, HasFinding, IsConsistent, IsConsistentImage, IsElected, IsPartOf, finding};
 ghost use Rattle.xfs_image.specs.Examples.{chunk, extents, given, place, small};
 ghost use Rattle.xfs_image.specs.Files.{AreFilesRead, files_read, inodes_of};
 ghost use Rattle.xfs_image.specs.GroupParts.{AreGroupsRead, IsGroupRead};
@@ -26,12 +26,14 @@ ghost use Rattle.xfs_image.specs.View.{IsRead, view};
 
 use crate::findings::Finding;
 
-/// An image is consistent exactly where nothing is found; a geometry that comes from a backup is the first finding; the
-/// geometry that is elected is one; so an image that elects one either is consistent or has just one finding.
+/// An image is consistent exactly where nothing is found. A geometry that comes from a backup is the first finding; where a
+/// backup is found first, nothing else is wrong. The geometry that is elected is one, so an image that elects one either is
+/// consistent or has just one finding.
 pub fn consistent_where_nothing_is_found()
     ensures consistent { (broken : Catalog → Option Law) (g : Geometry) (image : Image) → finding broken g image ≡ None → IsConsistent broken g image }
     ensures nothing_found { (broken : Catalog → Option Law) (g : Geometry) (image : Image) → IsConsistent broken g image → finding broken g image ≡ None }
     ensures from_backup { (broken : Catalog → Option Law) (g : Geometry) (image : Image) (is : IsElected (volume_of g) image) → is.vote.place ≢ 0 → finding broken g image ≡ Some (Finding.Part 0 0) }
+    ensures only_backups { (broken : Catalog → Option Law) (g : Geometry) (image : Image) (ag : ℕ) → finding broken g image ≡ Some (Finding.Part 10 ag) → HasBackupFault broken g image ag }
     ensures one_geometry { (g h : Geometry) (image : Image) → IsElected (volume_of g) image → IsElected (volume_of h) image → g ≡ h }
     ensures one_finding { (broken : Catalog → Option Law) (image : Image) (x y : Finding) → HasFinding broken image x → HasFinding broken image y → x ≡ y }
     ensures never_both { (broken : Catalog → Option Law) (image : Image) (x : Finding) → IsConsistentImage broken image → HasFinding broken image x → ⊥ }

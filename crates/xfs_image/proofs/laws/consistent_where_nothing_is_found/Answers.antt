@@ -1,3 +1,4 @@
+use Rattle.xfs_image.proofs.Backups.{only_backups}
 use Rattle.xfs_image.proofs.Consistent.{consistent, from_backup, never_both, nothing_found, one_finding, one_geometry, one_of_both}
 use Rattle.xfs_image.proofs.laws.consistent_where_nothing_is_found.Goals as goal
 
@@ -21,3 +22,6 @@ returns-clause-never_both c = never_both
 
 pub returns-clause-one_of_both : goal.returns-clause-one_of_both
 returns-clause-one_of_both c = one_of_both
+
+pub returns-clause-only_backups : goal.returns-clause-only_backups
+returns-clause-only_backups c = only_backups
