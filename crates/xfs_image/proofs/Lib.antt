@@ -1,0 +1,12 @@
+pub mod Ranges
+pub mod Consistent
+pub mod Views
+pub mod Places
+pub mod Keeping
+pub mod Roots
+pub mod GroupReads
+pub mod Examples
+pub mod Geometries
+pub mod PartsFound
+pub mod Protected
+pub mod Backups
