@@ -10,3 +10,4 @@ pub mod Geometries
 pub mod PartsFound
 pub mod Protected
 pub mod Backups
+pub mod Ascending

@@ -1,6 +1,6 @@
 -- The clusters whose slots are read: those that a tree of their group names, and those that are found by their bytes (chapter "AG
 -- Inode Management").
-use Rattle.std.specs.Prelude.{ℕ, Bool, not, ◌+◌, ◌*◌, ◌/◌, ◌%◌, ◌==◌, ◌&&◌, ◌||◌, nat_le, List, [], ◌∷◌, map, Option, Some, None}
+use Rattle.std.specs.Prelude.{ℕ, Bool, not, ◌+◌, ◌*◌, ◌/◌, ◌%◌, ◌==◌, ◌&&◌, ◌||◌, nat_le, List, [], ◌∷◌, map, Option, Some, None, ◌≤◌}
 use Rattle.std.specs.List.{filter, flat_map, list_all, list_any, range_with_len}
 use Rattle.xfs_word.specs.Field.{field_of}
 use Rattle.xfs_word.specs.Seal.{is_sealed}
@@ -73,3 +73,8 @@ cluster_rec v image cluster = record { block = cluster; recorded = is_recorded v
 -- the clusters whose slots are read, by block, each with whether a tree names it
 unfoldable pub candidates : Volume → Image → List ClusterRec
 candidates v image = map (cluster_rec v image) (filter (is_candidate v image) (all_places v))
+
+-- the clusters ascend, and no two have a block in common; the first begins at a block or behind it
+abbrev pub Ascend : ℕ → List ClusterRec → Type 0
+Ascend low [] = Unit {0}
+Ascend low (c ∷ cs) = (low ≤ c.block) × Ascend (c.block + 4) cs

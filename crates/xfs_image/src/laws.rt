@@ -12,7 +12,7 @@ ghost use Rattle.xfs_volume.specs.declared.findings.Law.{Law};
 ghost use Rattle.xfs_volume.specs.declared.files.FileRec.{FileRec};
 ghost use Rattle.xfs_volume.specs.declared.groups.GroupRec.{GroupRec};
 ghost use Rattle.xfs_image.specs.Claims.{AreApart, claims};
-ghost use Rattle.xfs_image.specs.Candidates.{is_candidate, lies_in_chunk};
+ghost use Rattle.xfs_image.specs.Candidates.{Ascend, candidates, is_candidate, lies_in_chunk};
 ghost use Rattle.xfs_image.specs.Clusters.{chunk_clusters, cluster_of, clusters_in, given_clusters, is_recorded, named_by_chunks, named_by_owners, root_cluster};
 ghost use Rattle.xfs_image.specs.Consistent.{HasBackupFault, HasFinding, IsConsistent, IsConsistentImage, IsElected, IsPartOf, finding};
 ghost use Rattle.xfs_image.specs.Examples.{chunk, extents, given, place, small};
@@ -65,12 +65,13 @@ pub fn keeping_goes_on()
     ensures size { (v : Volume) (image : Image) (f : FileRec) → length (file_bytes v image f) ≡ f.core.size }
 {}
 
-/// The trees of a group that reads name their clusters, and the cluster of the root is a recorded candidate, whatever trees
-/// and bytes say.
+/// The trees of a group that reads name their clusters. The cluster of the root is a recorded candidate, whatever trees and
+/// bytes say. Candidate clusters ascend, and no two have a block in common.
 pub fn clusters_are_named()
     ensures chunks { (v : Volume) (image : Image) (ag : ℕ) (g : GroupRec) → IsGroupRead v image ag g → named_by_chunks v image ag ≡ Some (chunk_clusters v ag g.ino) }
     ensures owners { (v : Volume) (image : Image) (ag : ℕ) (g : GroupRec) → IsGroupRead v image ag g → named_by_owners v image ag ≡ Some (given_clusters v ag g.rmap) }
     ensures recorded { (v : Volume) (image : Image) → is_recorded v image (root_cluster v) ≡ true }
+    ensures ascend { (g : Geometry) (image : Image) → Ascend 0 (candidates (volume_of g) image) }
     ensures candidate { (v : Volume) (image : Image) → is_candidate v image (root_cluster v) ≡ true }
 {}
 

@@ -1,3 +1,4 @@
+use Rattle.xfs_image.proofs.Ascending.{candidates_ascend}
 use Rattle.xfs_image.proofs.Roots.{chunks_name, owners_name, root_candidate, root_recorded}
 use Rattle.xfs_image.proofs.laws.clusters_are_named.Goals as goal
 
@@ -12,3 +13,6 @@ returns-clause-recorded c = root_recorded
 
 pub returns-clause-candidate : goal.returns-clause-candidate
 returns-clause-candidate c = root_candidate
+
+pub returns-clause-ascend : goal.returns-clause-ascend
+returns-clause-ascend c = candidates_ascend
