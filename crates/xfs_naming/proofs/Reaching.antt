@@ -1,12 +1,12 @@
 -- The walk reaches what is reached, by no more steps than there are directories.
-use Rattle.std.proofs.Common.{◌≡◌, ℕ, zero, suc, ◌+◌, ◌<◌, ◌≤◌, Bool, true, false, cond, not, ◌&&◌, ◌||◌, ◌==◌, List, [], ◌∷◌, ◌++◌, length, map, filter, refl, sym, ap, ap₂, Some, ◌∙◌, subst, arith, inl, inr}
+use Rattle.std.proofs.Common.{◌≡◌, ℕ, zero, suc, ◌+◌, ◌<◌, ◌≤◌, Bool, true, false, cond, not, ◌&&◌, ◌||◌, ◌==◌, List, [], ◌∷◌, ◌++◌, length, map, filter, get_or, refl, sym, ap, ap₂, Some, ◌∙◌, subst, arith, inl, inr}
 use Rattle.std.specs.Bool.{nat_eq}
 use Rattle.std.specs.Cmp.{nat_eq_equiv}
 use Rattle.std.specs.List.{list_any, IsDistinct}
 use Rattle.std.specs.Map.{lookup}
 use Rattle.std.specs.Option.{is_some}
 use Rattle.std.proofs.lemmas.List.{length-map}
-use Rattle.std.proofs.lemmas.List.Folds.{list_any-append}
+use Rattle.std.proofs.lemmas.List.Folds.{list_any-append, list_any_at}
 use Rattle.std.proofs.lemmas.Map.Steps.{length-le_from_keys}
 use Rattle.std.proofs.lemmas.Bool.{and_parts, and_from, or_cases, or_left, or_right, eqb-true, eq-eqb, true≢false, cases_Bool}
 use Rattle.std.proofs.lemmas.Bool.Decides.{nat_tests}
@@ -14,6 +14,8 @@ use Rattle.xfs_dirdata.specs.declared.records.EntryRec.{EntryRec}
 use Rattle.xfs_volume.specs.declared.directories.DirRec.{DirRec}
 use Rattle.xfs_volume.specs.declared.files.FileRec.{FileRec}
 use Rattle.xfs_naming.specs.Naming.{is_directory_at, reached_in, is_reached, AreNamed, entries_in}
+use Rattle.xfs_naming.specs.Lawful.{IsReached}
+use Rattle.xfs_naming.specs.Lawful.IsReached.{at_root, by_entry}
 use Rattle.xfs_naming.specs.Walking.{is_in, leads, HasMarked, IsWalking}
 use Rattle.xfs_naming.proofs.Grouped.{has_record, has_record_is, grouped_dir}
 
@@ -212,3 +214,21 @@ walk_ends root files entries dirs seen stack named walked empty x dir = both (is
     both true false f g = sym (f refl)
     both false true f g = g refl
     both false false f g = refl
+
+-- a way is one of some number of steps
+way_steps : {entries : List EntryRec} {root x : ℕ} → IsReached entries root x → (n : ℕ) × (reached_in n entries root x ≡ true)
+way_steps at_root = (0, eq-eqb _ _ refl)
+way_steps {entries} {root} {x} (by_entry {dir = dir} way last) =
+    let steps = way_steps way in
+    (suc steps.0, or_right (x == root) _ (list_any_at (λ (e : EntryRec). e.ino == x && reached_in steps.0 entries root e.dir) entries last.0 last.1 last.2
+      (and_from ((get_or entries last.0 last.1).ino == x) _
+        (eq-eqb _ x (ap (λ (e : EntryRec). e.ino) last.3 ∙ last.4.1))
+        (ap (λ (e : EntryRec). reached_in steps.0 entries root e.dir) last.3 ∙ ap (reached_in steps.0 entries root) last.4.0 ∙ steps.1))))
+
+-- a way to a directory is no longer than there are directories
+pub way_short : (root : ℕ) (files : List FileRec) (entries : List EntryRec) (dirs : List DirRec) (seen stack : List ℕ) → AreNamed files entries dirs → IsWalking root files entries dirs seen stack → stack ≡ []
+    → (x : ℕ) → is_directory_at files x ≡ true → IsReached entries root x → is_reached dirs entries root x ≡ true
+way_short root files entries dirs seen stack named walked empty x dir way =
+    let steps = way_steps way in
+    sym (walk_ends root files entries dirs seen stack named walked empty x dir)
+    ∙ walk_finds root files entries dirs seen named (subst (IsWalking root files entries dirs seen) empty walked) steps.0 x dir steps.1

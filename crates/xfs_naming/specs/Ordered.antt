@@ -7,6 +7,7 @@ use Rattle.xfs_volume.specs.declared.directories.DirRec.{DirRec}
 use Rattle.xfs_volume.specs.declared.files.FileRec.{FileRec}
 use Rattle.xfs_naming.specs.declared.runs.Link.{Link}
 use Rattle.xfs_naming.specs.declared.naming.Names.{Names}
+use Rattle.xfs_naming.specs.Lawful.{IsReached}
 use Rattle.xfs_naming.specs.Naming.{entries_of, is_directory_at, is_reached}
 
 -- the link that an entry is
@@ -39,6 +40,11 @@ IsOrdered names = AreOrdered names.root names.files.now names.entries.now names.
 abbrev pub IsWalked : Names → List ℕ → Type 0
 IsWalked names reached = (ino : ℕ) → is_directory_at names.files.now ino ≡ true
     → list_any (λ (x : ℕ). ino == x) reached ≡ is_reached names.dirs.now names.entries.now names.root ino
+
+-- no way to a directory needs more steps than there are directories
+abbrev pub HasShortWays : Names → Type 0
+HasShortWays names = (ino : ℕ) → is_directory_at names.files.now ino ≡ true → IsReached names.entries.now names.root ino
+    → is_reached names.dirs.now names.entries.now names.root ino ≡ true
 
 -- a number has to stand behind those that are less and before those that are greater
 abbrev pub IsPlaceFor : List ℕ → ℕ → ℕ → Type 0

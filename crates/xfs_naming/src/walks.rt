@@ -4,7 +4,7 @@ ghost use Rattle.std.specs.Prelude.{◌≡◌, ◌==◌, OnOk, IfOk};
 ghost use Rattle.std.specs.List.{list_any};
 ghost use Rattle.xfs_dirdata.specs.declared.records.EntryRec.{EntryRec};
 ghost use Rattle.xfs_naming.specs.Naming.{AreNamed};
-ghost use Rattle.xfs_naming.specs.Ordered.{IsOrdered, IsWalked};
+ghost use Rattle.xfs_naming.specs.Ordered.{IsOrdered, IsWalked, HasShortWays};
 ghost use Rattle.xfs_naming.specs.Walking.{HasMarked};
 
 use crate::lookups::is_directory_at;
@@ -44,7 +44,8 @@ fn mark_named(names: &Names, own: &[EntryRec], reached: &mut HashSet<u64>, waiti
 pub fn walk(alloc: Global, names: &Names) -> Result<HashSet<u64>, NoMemory>
     requires ordered { IsOrdered names.now }
     requires named { AreNamed names.now.files.now names.now.entries.now names.now.dirs.now }
-    ensures { IfOk result (λ reached. IsWalked names.now reached.keys) }
+    ensures walked { IfOk result (λ reached. IsWalked names.now reached.keys) }
+    ensures ways { IfOk result (λ _. HasShortWays names.now) }
 {
     let mut reached = HashSet::new(alloc);
     let mut waiting = Vec::new(alloc);
