@@ -1,10 +1,10 @@
 -- What keeps the laws in words keeps each law.
-use Rattle.std.proofs.Common.{◌≡◌, ◌≢◌, ℕ, zero, suc, ◌+◌, ◌<◌, ◌≤◌, ◌⊎◌, Bool, true, false, cond, not, ◌&&◌, ◌||◌, ◌==◌, nat_le, List, [], ◌∷◌, ◌++◌, length, map, filter, get_or, count_by, Option, Some, None, refl, sym, ap, ◌∙◌, subst, arith, inl, inr}
+use Rattle.std.proofs.Common.{◌≡◌, ◌≢◌, ℕ, zero, suc, ◌+◌, ◌<◌, ◌≤◌, Bool, true, false, cond, not, ◌&&◌, ◌||◌, ◌==◌, nat_le, List, [], ◌∷◌, ◌++◌, length, map, filter, get_or, count_by, Option, Some, None, refl, sym, ap, ◌∙◌, subst, arith, inl, inr}
 use Rattle.std.specs.List.{list_any, list_all, All, Any, AllPairs}
 use Rattle.std.specs.Str.{bytes_eq}
 use Rattle.std.proofs.lemmas.List.Folds.{Any-from_list_any, list_any_at}
 use Rattle.std.proofs.lemmas.Slice.Eq.{bytes_eq-Decides}
-use Rattle.std.proofs.lemmas.Bool.{and_parts, and_from, or_cases, or_left, or_right, eqb-true, eqb-false, eq-eqb, ne_eqb, true≢false, cases_eq, cases_Bool, not-true, not-false, or_parts, or_from, le-leb, false_from_ne_true, not_from_false}
+use Rattle.std.proofs.lemmas.Bool.{and_from, or_cases, or_left, or_right, eqb-true, eqb-false, eq-eqb, ne_eqb, cases_eq, cases_Bool, not-true, not-false, or_parts, or_from, le-leb, false_from_ne_true}
 use Rattle.xfs_dirdata.specs.declared.records.EntryRec.{EntryRec}
 use Rattle.xfs_volume.specs.declared.directories.DirRec.{DirRec}
 use Rattle.xfs_volume.specs.declared.files.FileRec.{FileRec}
@@ -16,7 +16,7 @@ use Rattle.xfs_naming.specs.Naming.{is_system, is_in_use, is_directory_at, entri
 use Rattle.xfs_naming.specs.Walking.{is_in}
 use Rattle.xfs_naming.proofs.Broken.{first_of, none_first, broken_behind}
 use Rattle.xfs_naming.proofs.Chosen.{any_in_run}
-use Rattle.xfs_naming.proofs.Grouped.{has_record, has_record_is}
+use Rattle.xfs_naming.proofs.Grouped.{has_record_is}
 use Rattle.xfs_naming.proofs.Kept.{in_with, in_numbers}
 use Rattle.xfs_naming.proofs.Single.{own_test, own_file}
 
@@ -84,7 +84,7 @@ differ_in v (x ∷ xs) apart = either (x.dir == v) refl (differ_in v xs (λ i j 
     either : (t : Bool) → x.dir == v ≡ t → names_differ (filter (λ (e : EntryRec). e.dir == v) xs) ≡ true
         → names_differ (cond t (x ∷ filter (λ (e : EntryRec). e.dir == v) xs) (filter (λ (e : EntryRec). e.dir == v) xs)) ≡ true
     either true at rest = and_from (not (list_any (λ (o : EntryRec). bytes_eq x.name o.name) (filter (λ (e : EntryRec). e.dir == v) xs))) _
-      (ap not (no_other x v xs (eqb-true x.dir v at) (λ k d h. apart 0 (suc k) d (omega arith) (omega arith)))) rest
+        (ap not (no_other x v xs (eqb-true x.dir v at) (λ k d h. apart 0 (suc k) d (omega arith) (omega arith)))) rest
     either false at rest = rest
 
 -- a number that is not one of the system's
@@ -97,28 +97,28 @@ ordinary_is : (root x : ℕ) → IsOrdinary root x → is_system root x ≡ fals
 ordinary_is root x h = or_from (x == root + 1) (x == root + 2) (ne_eqb x (root + 1) h.0) (ne_eqb x (root + 2) h.1)
 
 module _ (root : ℕ) (files : List FileRec) (entries : List EntryRec) (dirs : List DirRec) (named : AreNamed files entries dirs) where
-
   pub judged_entries : HasLawfulEntries root files entries dirs → first_broken (directory_laws root files entries dirs) ≡ None
   unfolding directory_laws
   judged_entries says = none_broken (directory_at root files entries) dirs (λ k d h. all_right (get_or dirs k d) (says.whole k d h))
     where
       target : (k : ℕ) (d : EntryRec) → k < length entries → has_target root files (get_or entries k d) ≡ true
       target k d h = and_from (is_in_use files (get_or entries k d).ino) _
-        (any_from (λ (f : FileRec). f.ino == (get_or entries k d).ino) _ files (λ f e. eq-eqb f.ino _ e) (says.in_use k d h))
-        (ap not (ordinary_is root (get_or entries k d).ino (says.ordinary k d h)))
+          (any_from (λ (f : FileRec). f.ino == (get_or entries k d).ino) _ files (λ f e. eq-eqb f.ino _ e) (says.in_use k d h))
+          (ap not (ordinary_is root (get_or entries k d).ino (says.ordinary k d h)))
 
       typed : (k : ℕ) (d : EntryRec) → k < length entries → has_type files (get_or entries k d) ≡ true
       typed k d h = elim (says.types k d h) [
-          inl none ↦ or_left ((get_or entries k d).ftype == 0) _ (eq-eqb (get_or entries k d).ftype 0 none)
+        | inl none ↦ or_left ((get_or entries k d).ftype == 0) _ (eq-eqb (get_or entries k d).ftype 0 none)
         | inr one ↦ or_right ((get_or entries k d).ftype == 0) _
             (any_from (λ (f : FileRec). f.ino == (get_or entries k d).ino && entry_type (type_of f) == (get_or entries k d).ftype) _ files
-              (λ f e. and_from (f.ino == (get_or entries k d).ino) _ (eq-eqb f.ino _ e.0) (eq-eqb _ _ (sym e.1))) one) ]
+            (λ f e. and_from (f.ino == (get_or entries k d).ino) _ (eq-eqb f.ino _ e.0) (eq-eqb _ _ (sym e.1))) one)
+      ]
 
       all_right : (d : DirRec) → d.whole ≡ true → first_failing (directory_tests root files (entries_in entries d.ino) d) ≡ 0
       all_right d whole = four_hold d.whole (list_all (λ (e : EntryRec). is_name e.name) (entries_in entries d.ino) && names_differ (entries_in entries d.ino))
           (list_all (has_target root files) (entries_in entries d.ino)) (list_all (has_type files) (entries_in entries d.ino)) whole
           (and_from (list_all (λ (e : EntryRec). is_name e.name) (entries_in entries d.ino)) _
-            (all_filter (λ (e : EntryRec). is_name e.name) (λ (e : EntryRec). e.dir == d.ino) entries (λ k e h at. says.valid k e h)) (differ_in d.ino entries says.differ))
+          (all_filter (λ (e : EntryRec). is_name e.name) (λ (e : EntryRec). e.dir == d.ino) entries (λ k e h at. says.valid k e h)) (differ_in d.ino entries says.differ))
           (all_filter (has_target root files) (λ (e : EntryRec). e.dir == d.ino) entries (λ k e h at. target k e h))
           (all_filter (has_type files) (λ (e : EntryRec). e.dir == d.ino) entries (λ k e h at. typed k e h))
 
@@ -155,9 +155,9 @@ module _ (root : ℕ) (files : List FileRec) (entries : List EntryRec) (dirs : L
           let found = Any-from_list_any (λ (d : DirRec). d.ino == x) dirs (has_record_is files entries dirs named x ∙ dir) in
           let same : (get_or dirs found.0 found.1).ino ≡ x = ap (λ (d : DirRec). d.ino) found.3 ∙ eqb-true found.1.ino x found.4 in
           three_hold (length (entries_of entries x) == 1) (list_all (λ (e : EntryRec). states_parent dirs x e.dir) (entries_of entries x)) (is_reached dirs entries root x)
-            (eq-eqb (length (entries_of entries x)) 1 (subst (λ (n : ℕ). length (entries_of entries n) ≡ 1) same (says.once found.0 found.1 found.2 (λ e. apart (sym same ∙ e)))))
-            (all_filter (λ (e : EntryRec). states_parent dirs x e.dir) (λ (e : EntryRec). e.ino == x) entries (λ k e h at. below k e h (eqb-true (get_or entries k e).ino x at)))
-            (ways x dir (subst (IsReached entries root) same (says.reached found.0 found.1 found.2)))
+          (eq-eqb (length (entries_of entries x)) 1 (subst (λ (n : ℕ). length (entries_of entries n) ≡ 1) same (says.once found.0 found.1 found.2 (λ e. apart (sym same ∙ e)))))
+          (all_filter (λ (e : EntryRec). states_parent dirs x e.dir) (λ (e : EntryRec). e.ino == x) entries (λ k e h at. below k e h (eqb-true (get_or entries k e).ino x at)))
+          (ways x dir (subst (IsReached entries root) same (says.reached found.0 found.1 found.2)))
         where
           below : (k : ℕ) (e : EntryRec) → k < length entries → (get_or entries k e).ino ≡ x → states_parent dirs x (get_or entries k e).dir ≡ true
           below k e h same = any_from (λ (d : DirRec). d.ino == x && d.parent == (get_or entries k e).dir) _ dirs
@@ -165,8 +165,9 @@ module _ (root : ℕ) (files : List FileRec) (entries : List EntryRec) (dirs : L
 
       at_file : (x : ℕ) → is_directory_at files x ≡ false → is_in_use files x ≡ true → first_failing (other_file_tests root entries x) ≡ 0
       at_file x other used = one_holds (is_system root x || nat_le 1 (length (entries_of entries x))) (elim (cases_Bool (is_system root x)) [
-            inl system ↦ or_left (is_system root x) _ system
-          | inr ordinary ↦ or_right (is_system root x) _ (some_names x (any_from (λ (e : EntryRec). e.ino == x) _ entries (λ e f. eq-eqb e.ino x f) (has_one ordinary))) ])
+        | inl system ↦ or_left (is_system root x) _ system
+        | inr ordinary ↦ or_right (is_system root x) _ (some_names x (any_from (λ (e : EntryRec). e.ino == x) _ entries (λ e f. eq-eqb e.ino x f) (has_one ordinary)))
+      ])
         where
           has_one : is_system root x ≡ false → Any (λ (e : EntryRec). e.ino ≡ x) entries
           has_one ordinary =
@@ -174,16 +175,18 @@ module _ (root : ℕ) (files : List FileRec) (entries : List EntryRec) (dirs : L
               let same : (get_or files found.0 found.1).ino ≡ x = ap (λ (f : FileRec). f.ino) found.3 ∙ eqb-true found.1.ino x found.4 in
               let no_dir : is_directory (get_or files found.0 found.1) ≡ false = sym (own_test is_directory 0 files named.files_ascend found.0 found.1 found.2) ∙ ap (is_directory_at files) same ∙ other in
               subst (λ (n : ℕ). Any (λ (e : EntryRec). e.ino ≡ n) entries) same
-                (says.named found.0 found.1 found.2 (eqb-false (type_of (get_or files found.0 found.1)) 4 no_dir) (subst (IsOrdinary root) (sym same) (ordinary_from root x ordinary)))
+              (says.named found.0 found.1 found.2 (eqb-false (type_of (get_or files found.0 found.1)) 4 no_dir) (subst (IsOrdinary root) (sym same) (ordinary_from root x ordinary)))
 
       at : (x : ℕ) → (x == root || is_in_use files x) ≡ true → first_failing (place_tests root files entries dirs x) ≡ 0
       at x there = elim (cases_eq x root) [
-          inl same ↦ (ap (λ (t : Bool). first_failing (cond t (root_tests root files entries dirs) (cond (is_directory_at files x) (other_directory_tests root entries dirs x) (other_file_tests root entries x)))) (eq-eqb x root same) ∙ at_the_root)
+        | inl same ↦ (ap (λ (t : Bool). first_failing (cond t (root_tests root files entries dirs) (cond (is_directory_at files x) (other_directory_tests root entries dirs x) (other_file_tests root entries x)))) (eq-eqb x root same) ∙ at_the_root)
         | inr apart ↦ (ap (λ (t : Bool). first_failing (cond t (root_tests root files entries dirs) (cond (is_directory_at files x) (other_directory_tests root entries dirs x) (other_file_tests root entries x)))) (ne_eqb x root apart)
             ∙ (elim (cases_Bool (is_directory_at files x)) [
-                inl dir ↦ (ap (λ (t : Bool). first_failing (cond t (other_directory_tests root entries dirs x) (other_file_tests root entries x))) dir ∙ at_other x apart dir)
+              | inl dir ↦ (ap (λ (t : Bool). first_failing (cond t (other_directory_tests root entries dirs x) (other_file_tests root entries x))) dir ∙ at_other x apart dir)
               | inr other ↦ (ap (λ (t : Bool). first_failing (cond t (other_directory_tests root entries dirs x) (other_file_tests root entries x))) other
-                  ∙ at_file x other (elim (or_cases (x == root) _ there) [ inl same ↦ absurd (apart (eqb-true x root same)) | inr used ↦ used ])) ])) ]
+                  ∙ at_file x other (elim (or_cases (x == root) _ there) [ inl same ↦ absurd (apart (eqb-true x root same)) | inr used ↦ used ]))
+            ]))
+      ]
 
   pub judged_links : HasLawfulLinks root files entries → first_broken (link_laws root files entries) ≡ None
   unfolding link_laws
@@ -209,13 +212,14 @@ module _ (root : ℕ) (files : List FileRec) (entries : List EntryRec) (dirs : L
           let found = Any-from_list_any (λ (f : FileRec). f.ino == x) files used in
           let same : (get_or files found.0 found.1).ino ≡ x = ap (λ (f : FileRec). f.ino) found.3 ∙ eqb-true found.1.ino x found.4 in
           subst (λ (n : ℕ). (links_at root files entries (file_at files n) n).held ≡ (links_at root files entries (file_at files n) n).due) same
-            (subst (λ (o : Option FileRec). (links_at root files entries o (get_or files found.0 found.1).ino).held ≡ (links_at root files entries o (get_or files found.0 found.1).ino).due) (sym (own_file 0 files named.files_ascend found.0 found.1 found.2))
-              (on (is_system root (get_or files found.0 found.1).ino) (ap (is_system root) same ∙ ordinary) (get_or files found.0 found.1) (as_many found.0 found.1 found.2 (subst (IsOrdinary root) (sym same) (ordinary_from root x ordinary)))))
+          (subst (λ (o : Option FileRec). (links_at root files entries o (get_or files found.0 found.1).ino).held ≡ (links_at root files entries o (get_or files found.0 found.1).ino).due) (sym (own_file 0 files named.files_ascend found.0 found.1 found.2))
+          (on (is_system root (get_or files found.0 found.1).ino) (ap (is_system root) same ∙ ordinary) (get_or files found.0 found.1) (as_many found.0 found.1 found.2 (subst (IsOrdinary root) (sym same) (ordinary_from root x ordinary)))))
         where
           as_many : (k : ℕ) (d : FileRec) → k < length files → IsOrdinary root (get_or files k d).ino → (get_or files k d).core.nlink ≡ links_of files entries (get_or files k d)
           as_many k d h plain = elim (cases_eq (type_of (get_or files k d)) 4) [
-              inl dir ↦ says.of_directories k d h dir ∙ sym (ap (λ (t : Bool). cond t (2 + count_by (λ (e : EntryRec). is_directory_at files e.ino) (entries_in entries (get_or files k d).ino)) (length (entries_of entries (get_or files k d).ino))) (eq-eqb (type_of (get_or files k d)) 4 dir))
-            | inr other ↦ says.of_others k d h other plain ∙ sym (ap (λ (t : Bool). cond t (2 + count_by (λ (e : EntryRec). is_directory_at files e.ino) (entries_in entries (get_or files k d).ino)) (length (entries_of entries (get_or files k d).ino))) (ne_eqb (type_of (get_or files k d)) 4 other)) ]
+            | inl dir ↦ says.of_directories k d h dir ∙ sym (ap (λ (t : Bool). cond t (2 + count_by (λ (e : EntryRec). is_directory_at files e.ino) (entries_in entries (get_or files k d).ino)) (length (entries_of entries (get_or files k d).ino))) (eq-eqb (type_of (get_or files k d)) 4 dir))
+            | inr other ↦ says.of_others k d h other plain ∙ sym (ap (λ (t : Bool). cond t (2 + count_by (λ (e : EntryRec). is_directory_at files e.ino) (entries_in entries (get_or files k d).ino)) (length (entries_of entries (get_or files k d).ino))) (ne_eqb (type_of (get_or files k d)) 4 other))
+          ]
 
           on : (t : Bool) → t ≡ false → (f : FileRec) → f.core.nlink ≡ links_of files entries f
               → (let l : Law = cond t (cond (is_empty_regular f) (law_at 9 f.ino f.core.nlink 1) (law_at 9 f.ino 0 1)) (law_at 9 f.ino f.core.nlink (links_of files entries f)) in l.held ≡ l.due)
@@ -224,18 +228,21 @@ module _ (root : ℕ) (files : List FileRec) (entries : List EntryRec) (dirs : L
 
       at : (x : ℕ) → (x == root + 1 || (x == root + 2 || is_in_use files x)) ≡ true → (links_at root files entries (file_at files x) x).held ≡ (links_at root files entries (file_at files x) x).due
       at x there = elim (cases_eq x (root + 1)) [
-          inl first ↦ at_system x (or_left (x == root + 1) _ (eq-eqb x (root + 1) first)) (subst (λ (n : ℕ). Any (IsSystemFile n) files) (sym first) says.first)
+        | inl first ↦ at_system x (or_left (x == root + 1) _ (eq-eqb x (root + 1) first)) (subst (λ (n : ℕ). Any (IsSystemFile n) files) (sym first) says.first)
         | inr apart ↦ (elim (cases_eq x (root + 2)) [
-            inl second ↦ at_system x (or_right (x == root + 1) _ (eq-eqb x (root + 2) second)) (subst (λ (n : ℕ). Any (IsSystemFile n) files) (sym second) says.second)
+          | inl second ↦ at_system x (or_right (x == root + 1) _ (eq-eqb x (root + 2) second)) (subst (λ (n : ℕ). Any (IsSystemFile n) files) (sym second) says.second)
           | inr away ↦ at_file x (or_from (x == root + 1) (x == root + 2) (ne_eqb x (root + 1) apart) (ne_eqb x (root + 2) away))
               (elim (or_cases (x == root + 1) _ there) [
-                inl one ↦ absurd (apart (eqb-true x (root + 1) one))
-              | inr more ↦ (elim (or_cases (x == root + 2) _ more) [ inl two ↦ absurd (away (eqb-true x (root + 2) two)) | inr used ↦ used ]) ]) ]) ]
+                | inl one ↦ absurd (apart (eqb-true x (root + 1) one))
+                | inr more ↦ (elim (or_cases (x == root + 2) _ more) [ inl two ↦ absurd (away (eqb-true x (root + 2) two)) | inr used ↦ used ])
+              ])
+        ])
+      ]
 
   pub judged_names : ((x : ℕ) → is_directory_at files x ≡ true → IsReached entries root x → is_reached dirs entries root x ≡ true)
       → IsNamingLawful root files entries dirs → first_broken (naming_laws root files entries dirs) ≡ None
   unfolding naming_laws
   judged_names ways says =
       broken_behind (directory_laws root files entries dirs ++ place_laws root files entries dirs) (link_laws root files entries)
-        (broken_behind (directory_laws root files entries dirs) (place_laws root files entries dirs) (judged_entries says.directories) ∙ judged_places ways says.places)
+      (broken_behind (directory_laws root files entries dirs) (place_laws root files entries dirs) (judged_entries says.directories) ∙ judged_places ways says.places)
       ∙ judged_links says.links

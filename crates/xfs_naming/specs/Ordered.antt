@@ -1,5 +1,5 @@
 -- What is looked at by number stands in the order of that number.
-use Rattle.std.specs.Prelude.{ℕ, ◌+◌, ◌<◌, ◌≤◌, ◌^◌, slice_index, ◌≡◌, ◌==◌, Bool, true, List, filter, length}
+use Rattle.std.specs.Prelude.{ℕ, ◌<◌, ◌≤◌, ◌^◌, slice_index, ◌≡◌, ◌==◌, Bool, true, List, filter, length}
 use Rattle.std.specs.List.{list_all, list_any}
 use Rattle.std.specs.List.Sorted.{IsNonDecreasingBy}
 use Rattle.xfs_dirdata.specs.declared.records.EntryRec.{EntryRec}
@@ -22,7 +22,7 @@ links_to links ino = filter (λ (l : Link). l.target == ino) links
 pub record AreLinks (entries : List EntryRec) (links : List Link) : Type 0 where
   pub as_many : (ino : ℕ) → length (links_to links ino) ≡ length (entries_of entries ino)
   pub alike : (ino : ℕ) (passes : ℕ → Bool)
-    → list_all (λ (l : Link). passes l.dir) (links_to links ino) ≡ list_all (λ (e : EntryRec). passes e.dir) (entries_of entries ino)
+      → list_all (λ (l : Link). passes l.dir) (links_to links ino) ≡ list_all (λ (e : EntryRec). passes e.dir) (entries_of entries ino)
 
 -- all that is looked at by number is in its order
 pub record AreOrdered (root : ℕ) (files : List FileRec) (entries : List EntryRec) (dirs : List DirRec) (links : List Link) : Type 0 where

@@ -21,7 +21,11 @@ use xfs_volume::{DirRec, FileRec, Law};
 
 /// The first file that breaks the eighth law.
 #[tactic(auto, unfolding(crate::specs::Naming::place_laws))]
-fn first_place(alloc: Global, names: &Names, reached: &HashSet<u64>) -> Result<Option<Law>, NoMemory>
+fn first_place(
+    alloc: Global,
+    names: &Names,
+    reached: &HashSet<u64>,
+) -> Result<Option<Law>, NoMemory>
     requires ordered { IsOrdered names.now }
     requires named { AreNamed names.now.files.now names.now.entries.now names.now.dirs.now }
     requires walked { IsWalked names.now reached.now.keys }
@@ -67,7 +71,13 @@ fn first_law(alloc: Global, names: &Names, reached: &HashSet<u64>) -> Result<Opt
 /// not whole, or whose names or targets or types are wrong (law 7); a file that is not named as it should be, or a
 /// directory that is not reached from the root (law 8); a file whose links are not as many as its names (law 9). Each with
 /// the least inode number; for laws 7 and 8 `held` is the number of the test that it fails first.
-pub fn check_names(alloc: Global, root: u64, files: &[FileRec], entries: &[EntryRec], dirs: &[DirRec]) -> Result<Option<Law>, NoMemory>
+pub fn check_names(
+    alloc: Global,
+    root: u64,
+    files: &[FileRec],
+    entries: &[EntryRec],
+    dirs: &[DirRec],
+) -> Result<Option<Law>, NoMemory>
     requires named { AreNamed files.now entries.now dirs.now }
     requires low { root < 2 ^ 32 }
     ensures law { IfOk result (λ law. law ≡ first_broken (naming_laws root files.now entries.now dirs.now)) }
