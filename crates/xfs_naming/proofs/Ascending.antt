@@ -1,5 +1,5 @@
 -- Ascending numbers: where one stands among them, and that they rise.
-use Rattle.std.proofs.Common.{◌≡◌, ℕ, zero, suc, ◌+◌, ◌<◌, ◌≤◌, Bool, true, false, cond, ◌==◌, nat_lt, List, [], ◌∷◌, length, get_or, refl, sym, ap, ◌∙◌, subst, arith, inl, inr}
+use Rattle.std.proofs.Common.{◌≡◌, ℕ, zero, suc, ◌+◌, ◌<◌, ◌≤◌, true, false, ◌==◌, nat_lt, List, [], ◌∷◌, length, get_or, refl, ap, arith, inl, inr}
 use Rattle.std.specs.List.{insert}
 use Rattle.std.proofs.lemmas.Bool.{cases_order}
 use Rattle.std.proofs.lemmas.Bool.Decides.{nat_tests}
@@ -49,7 +49,9 @@ placed n (x ∷ xs) (suc i) h before after =
 pub ascend_with : (low n : ℕ) (xs : List ℕ) → Ascend low xs → low ≤ n → Ascend low (with_number n xs)
 ascend_with low n [] up le = (le, tt)
 ascend_with low n (x ∷ xs) up le = elim (cases_order x n) [
-    inl same ↦ (let above : nat_lt x n ≡ false = grind (arith, nat_tests) in let here : x == n ≡ true = grind (arith, nat_tests) in rw (above, here) up)
+  | inl same ↦ (let above : nat_lt x n ≡ false = grind (arith, nat_tests) in let here : x == n ≡ true = grind (arith, nat_tests) in rw (above, here) up)
   | inr apart ↦ elim apart [
-      inl less ↦ (let below : nat_lt x n ≡ true = grind (arith, nat_tests) in rw below (up.0, ascend_with (x + 1) n xs up.1 (omega arith)))
-    | inr more ↦ (let above : nat_lt x n ≡ false = grind (arith, nat_tests) in let there : x == n ≡ false = grind (arith, nat_tests) in rw (above, there) (le, (omega arith, up.1))) ] ]
+    | inl less ↦ (let below : nat_lt x n ≡ true = grind (arith, nat_tests) in rw below (up.0, ascend_with (x + 1) n xs up.1 (omega arith)))
+    | inr more ↦ (let above : nat_lt x n ≡ false = grind (arith, nat_tests) in let there : x == n ≡ false = grind (arith, nat_tests) in rw (above, there) (le, (omega arith, up.1)))
+  ]
+]

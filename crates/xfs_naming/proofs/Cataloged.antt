@@ -1,7 +1,6 @@
 -- What is left of files, directories and entries leads to all of them.
-use Rattle.std.proofs.Common.{◌≡◌, ℕ, suc, ◌+◌, ◌<◌, ◌≤◌, Bool, true, false, cond, ◌==◌, List, [], ◌∷◌, ◌++◌, length, map, filter, drop, get_or, refl, sym, ap, ◌∙◌, subst, arith, add-one, drop_of_length-le}
+use Rattle.std.proofs.Common.{◌≡◌, ℕ, ◌+◌, ◌<◌, ◌≤◌, Bool, true, false, cond, ◌==◌, List, [], ◌∷◌, length, map, filter, drop, get_or, refl, sym, ap, ◌∙◌, subst, arith, add-one, drop_of_length-le}
 use Rattle.std.proofs.Math.Seq.{drop-cons}
-use Rattle.std.specs.List.{list_all}
 use Rattle.std.proofs.lemmas.Bool.{and_from}
 use Rattle.xfs_dirdata.specs.declared.records.EntryRec.{EntryRec}
 use Rattle.xfs_volume.specs.declared.directories.DirRec.{DirRec}
@@ -40,17 +39,17 @@ pub record LeadsEach (files : List FileRec) (dirs : List DirRec) (i j : ℕ) : T
 pub each_more : (files : List FileRec) (dirs : List DirRec) (i j : ℕ) (f : FileRec) (d : DirRec) → i < length files → j < length dirs → is_directory (get_or files i f) ≡ true
     → (get_or dirs j d).ino ≡ (get_or files i f).ino → LeadsEach files dirs i j → LeadsEach files dirs (i + 1) (j + 1)
 each_more files dirs i j f d low less dir same before = record {
-    within = omega arith;
-    leads = λ rest. before.leads (ap dir_numbers (front dirs j d less) ∙ ap (λ (n : ℕ). n ∷ dir_numbers (drop (j + 1) dirs)) same ∙ ap (λ (ns : List ℕ). (get_or files i f).ino ∷ ns) rest
+  within = omega arith;
+  leads = λ rest. before.leads (ap dir_numbers (front dirs j d less) ∙ ap (λ (n : ℕ). n ∷ dir_numbers (drop (j + 1) dirs)) same ∙ ap (λ (ns : List ℕ). (get_or files i f).ino ∷ ns) rest
       ∙ sym (ap file_numbers (front files i f low) ∙ ap (λ (t : Bool). map (λ (f : FileRec). f.ino) (cond t (get_or files i f ∷ filter is_directory (drop (i + 1) files)) (filter is_directory (drop (i + 1) files)))) dir));
-  }
+}
 
 pub each_same : (files : List FileRec) (dirs : List DirRec) (i j : ℕ) (f : FileRec) → i < length files → is_directory (get_or files i f) ≡ false → LeadsEach files dirs i j → LeadsEach files dirs (i + 1) j
 each_same files dirs i j f low other before = record {
-    within = before.within;
-    leads = λ rest. before.leads (rest
+  within = before.within;
+  leads = λ rest. before.leads (rest
       ∙ sym (ap file_numbers (front files i f low) ∙ ap (λ (t : Bool). map (λ (f : FileRec). f.ino) (cond t (get_or files i f ∷ filter is_directory (drop (i + 1) files)) (filter is_directory (drop (i + 1) files)))) other));
-  }
+}
 
 pub each_all : (files : List FileRec) (dirs : List DirRec) (i j : ℕ) → length files ≤ i → length dirs ≤ j → LeadsEach files dirs i j → dir_numbers dirs ≡ file_numbers files
 each_all files dirs i j h k before = before.leads (ap dir_numbers (past dirs j k) ∙ sym (ap file_numbers (past files i h)))
@@ -63,10 +62,10 @@ pub record LeadsGrouped (dirs : List DirRec) (entries : List EntryRec) (i k : �
 pub grouped_own : (dirs : List DirRec) (entries : List EntryRec) (i k : ℕ) (d : DirRec) (e : EntryRec) → i < length dirs → k < length entries
     → (get_or entries k e).dir == (get_or dirs i d).ino ≡ true → LeadsGrouped dirs entries i k → LeadsGrouped dirs entries i (k + 1)
 grouped_own dirs entries i k d e low less same before = record {
-    within = omega arith;
-    leads = λ rest. before.leads (subst (λ (ds : List DirRec). AreGrouped ds (drop k entries)) (sym (front dirs i d low))
+  within = omega arith;
+  leads = λ rest. before.leads (subst (λ (ds : List DirRec). AreGrouped ds (drop k entries)) (sym (front dirs i d low))
       (longer (subst (λ (ds : List DirRec). AreGrouped ds (drop (k + 1) entries)) (front dirs i d low) rest)));
-  }
+}
   where
     longer : AreGrouped (get_or dirs i d ∷ drop (i + 1) dirs) (drop (k + 1) entries) → AreGrouped (get_or dirs i d ∷ drop (i + 1) dirs) (drop k entries)
     longer (own, rest, is, all, more) =
@@ -74,9 +73,9 @@ grouped_own dirs entries i k d e low less same before = record {
 
 pub grouped_next : (dirs : List DirRec) (entries : List EntryRec) (i k : ℕ) (d : DirRec) → i < length dirs → LeadsGrouped dirs entries i k → LeadsGrouped dirs entries (i + 1) k
 grouped_next dirs entries i k d low before = record {
-    within = before.within;
-    leads = λ rest. before.leads (subst (λ (ds : List DirRec). AreGrouped ds (drop k entries)) (sym (front dirs i d low)) ([], drop k entries, refl, refl, rest));
-  }
+  within = before.within;
+  leads = λ rest. before.leads (subst (λ (ds : List DirRec). AreGrouped ds (drop k entries)) (sym (front dirs i d low)) ([], drop k entries, refl, refl, rest));
+}
 
 pub grouped_all : (dirs : List DirRec) (entries : List EntryRec) (i k : ℕ) → length dirs ≤ i → length entries ≤ k → LeadsGrouped dirs entries i k → AreGrouped dirs entries
 grouped_all dirs entries i k h l before = before.leads (subst (λ (ds : List DirRec). AreGrouped ds (drop k entries)) (sym (past dirs i h)) (past entries k l))

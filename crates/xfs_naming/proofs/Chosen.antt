@@ -1,11 +1,11 @@
 -- The records of one number are a run of records in order; what is asked of them is asked of the run.
-use Rattle.std.proofs.Common.{◌≡◌, ℕ, zero, suc, ◌+◌, ◌-◌, ◌<◌, ◌≤◌, Bool, true, false, cond, not, ◌&&◌, ◌||◌, ◌==◌, List, [], ◌∷◌, length, take, drop, filter, get_or, Some, None, refl, sym, ap, ◌∙◌, subst, arith}
+use Rattle.std.proofs.Common.{◌≡◌, ℕ, zero, suc, ◌<◌, ◌≤◌, Bool, true, false, cond, not, ◌&&◌, ◌||◌, ◌==◌, List, [], ◌∷◌, length, take, drop, filter, Some, refl, sym, ap, arith}
 use lib.Dec.{ltb, leb}
-use Rattle.std.specs.List.{list_all, list_any, AllWithin, slice_get}
+use Rattle.std.specs.List.{list_any, AllWithin, slice_get}
 use Rattle.xfs_volume.specs.declared.files.FileRec.{FileRec}
 use Rattle.xfs_naming.specs.Naming.{file_at}
 use Rattle.std.specs.List.Sorted.{IsPartitionPoint}
-use Rattle.std.proofs.lemmas.Bool.{ltb-true, ltb-false, leb-true, leb-false, eq-eqb, ne_eqb}
+use Rattle.std.proofs.lemmas.Bool.{ltb-true, ltb-false, leb-true, leb-false}
 use Rattle.std.proofs.lemmas.Bool.Decides.{nat_tests}
 
 -- records that are all greater have none of the number
@@ -27,9 +27,9 @@ run_here {X = X} n v (x ∷ xs) (suc e) from point =
     let high : n x ≤ v = leb-true (n x) v (point.0 0 x (omega arith) (omega arith)) in
     let same : n x == v ≡ true = grind (arith, nat_tests) in
     rw same (ap (λ (ys : List X). x ∷ ys)
-      (run_here n v xs e
-        (λ k d l h. from (suc k) d (omega arith) (omega arith))
-        ((λ k d l h. point.0 (suc k) d (omega arith) (omega arith)), (λ k d l h. point.1 (suc k) d (omega arith) (omega arith)))))
+    (run_here n v xs e
+    (λ k d l h. from (suc k) d (omega arith) (omega arith))
+    ((λ k d l h. point.0 (suc k) d (omega arith) (omega arith)), (λ k d l h. point.1 (suc k) d (omega arith) (omega arith)))))
 
 -- the run behind those that are less
 pub run_is : {X : Type 0} (n : X → ℕ) (v : ℕ) (xs : List X) (s e : ℕ) → IsPartitionPoint (λ (y : X). ltb (n y) v ≡ true) (λ (y : X). ltb (n y) v ≡ false) xs s
@@ -41,8 +41,8 @@ run_is n v (x ∷ xs) (suc s) e first second =
     let less : n x < v = ltb-true (n x) v (first.0 0 x (omega arith) (omega arith)) in
     let apart : n x == v ≡ false = grind (arith, nat_tests) in
     rw apart (run_is n v xs s e
-      ((λ k d l h. first.0 (suc k) d (omega arith) (omega arith)), (λ k d l h. first.1 (suc k) d (omega arith) (omega arith)))
-      second)
+    ((λ k d l h. first.0 (suc k) d (omega arith) (omega arith)), (λ k d l h. first.1 (suc k) d (omega arith) (omega arith)))
+    second)
 
 -- one of the records of a number passes
 pub any_of_run : {X : Type 0} (p q : X → Bool) (xs : List X) → list_any q (filter p xs) ≡ list_any (λ (x : X). p x && q x) xs

@@ -1,5 +1,5 @@
 -- Names that are seen one after another differ where none is seen twice.
-use Rattle.std.proofs.Common.{◌≡◌, ℕ, suc, ◌+◌, ◌<◌, Bool, true, false, cond, not, ◌&&◌, ◌||◌, ◌==◌, List, [], ◌∷◌, ◌++◌, length, take, drop, get_or, refl, sym, ap, ap₂, ◌∙◌, arith, Bor}
+use Rattle.std.proofs.Common.{◌≡◌, ℕ, ◌+◌, ◌<◌, Bool, true, false, cond, not, ◌&&◌, ◌||◌, ◌==◌, List, [], ◌∷◌, ◌++◌, length, take, drop, get_or, refl, sym, ap, ap₂, ◌∙◌, arith, Bor}
 use Rattle.std.specs.List.{list_any}
 use Rattle.std.specs.Str.{bytes_eq}
 use Rattle.std.proofs.lemmas.List.{take_more, take-append-drop}
@@ -61,10 +61,10 @@ differ_front (x ∷ xs) ys e =
 pub unseen : (own : List EntryRec) (i : ℕ) (e : EntryRec) (k : Bor (List ℕ)) (seen more : Bor (List ℕ) → Bool) (added : Bool) → i < length own → e ≡ get_or own i e
     → HasSeen own i seen → k.now ≡ e.name → added ≡ not (seen k) → added ≡ true → ((q : Bor (List ℕ)) → more q ≡ cond (bytes_eq k.now q.now) true (seen q)) → HasSeen own (i + 1) more
 unseen own i e k seen more added low is before named new was_new grows = record {
-    differ = ap names_differ front ∙ differ_more (take i own) e ∙ joined (names_differ (take i own)) (has_name (take i own) e.name) (seen k) added before.differ (before.held k ∙ ap (has_name (take i own)) named) new was_new;
-    held = λ q. grows q ∙ met (bytes_eq k.now q.now) (seen q) ∙ ap₂ (λ (s t : Bool). s || t) (before.held q) (flips k.now q.now ∙ ap (bytes_eq q.now) named)
+  differ = ap names_differ front ∙ differ_more (take i own) e ∙ joined (names_differ (take i own)) (has_name (take i own) e.name) (seen k) added before.differ (before.held k ∙ ap (has_name (take i own)) named) new was_new;
+  held = λ q. grows q ∙ met (bytes_eq k.now q.now) (seen q) ∙ ap₂ (λ (s t : Bool). s || t) (before.held q) (flips k.now q.now ∙ ap (bytes_eq q.now) named)
       ∙ last (has_name (take i own) q.now) (bytes_eq q.now e.name) ∙ sym (list_any-append (λ (o : EntryRec). bytes_eq q.now o.name) (take i own) (e ∷ [])) ∙ ap (λ (xs : List EntryRec). has_name xs q.now) (sym front);
-  }
+}
   where
     front : take (i + 1) own ≡ take i own ++ e ∷ []
     front = take_more own i e low ∙ ap (λ (x : EntryRec). take i own ++ x ∷ []) (sym is)

@@ -1,5 +1,5 @@
 -- The directories among the files, and the entries that are in them.
-use Rattle.std.proofs.Common.{◌≡◌, ℕ, Bool, true, false, cond, ◌&&◌, ◌||◌, ◌==◌, List, [], ◌∷◌, ◌++◌, map, filter, refl, sym, ap, ◌∙◌, subst, inl, inr}
+use Rattle.std.proofs.Common.{◌≡◌, ℕ, Bool, true, false, cond, ◌&&◌, ◌||◌, ◌==◌, List, [], ◌∷◌, map, filter, refl, sym, ap, ◌∙◌, inl, inr}
 use Rattle.std.specs.List.{list_any, list_all}
 use Rattle.std.proofs.lemmas.List.Folds.{list_any-append}
 use Rattle.std.proofs.lemmas.Bool.{and_parts, or_cases, or_left, or_right, eqb-true, eq-eqb, true≢false}
@@ -44,14 +44,16 @@ own_dir [] ino x all any = absurd (true≢false (sym any))
 own_dir (e ∷ es) ino x all any =
     let parts = and_parts (e.dir == ino) (list_all (λ (e : EntryRec). e.dir == ino) es) all in
     elim (or_cases (e.dir == x) (list_any (λ (e : EntryRec). e.dir == x) es) any) [
-      inl here ↦ eq-eqb ino x (sym (eqb-true e.dir ino parts.0) ∙ eqb-true e.dir x here)
-    | inr later ↦ own_dir es ino x parts.1 later ]
+      | inl here ↦ eq-eqb ino x (sym (eqb-true e.dir ino parts.0) ∙ eqb-true e.dir x here)
+      | inr later ↦ own_dir es ino x parts.1 later
+    ]
 
 -- the directory of an entry has a record
 pub grouped_dir : (dirs : List DirRec) (entries : List EntryRec) → AreGrouped dirs entries → (x : ℕ) → list_any (λ (e : EntryRec). e.dir == x) entries ≡ true → has_record dirs x ≡ true
 grouped_dir [] entries none x any = absurd (true≢false (sym any ∙ ap (list_any (λ (e : EntryRec). e.dir == x)) none))
 grouped_dir (d ∷ ds) entries (own, rest, is, all, more) x any =
     elim (or_cases (list_any (λ (e : EntryRec). e.dir == x) own) (list_any (λ (e : EntryRec). e.dir == x) rest)
-      (sym (list_any-append (λ (e : EntryRec). e.dir == x) own rest) ∙ ap (list_any (λ (e : EntryRec). e.dir == x)) (sym is) ∙ any)) [
-      inl here ↦ or_left (d.ino == x) (has_record ds x) (own_dir own d.ino x all here)
-    | inr later ↦ or_right (d.ino == x) (has_record ds x) (grouped_dir ds rest more x later) ]
+    (sym (list_any-append (λ (e : EntryRec). e.dir == x) own rest) ∙ ap (list_any (λ (e : EntryRec). e.dir == x)) (sym is) ∙ any)) [
+      | inl here ↦ or_left (d.ino == x) (has_record ds x) (own_dir own d.ino x all here)
+      | inr later ↦ or_right (d.ino == x) (has_record ds x) (grouped_dir ds rest more x later)
+    ]

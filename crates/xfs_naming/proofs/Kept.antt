@@ -1,10 +1,8 @@
 -- Laws that are kept: what each says.
-use Rattle.std.proofs.Common.{◌≡◌, ℕ, zero, suc, ◌+◌, ◌<◌, ◌≤◌, ◌⊎◌, Bool, true, false, cond, not, ◌&&◌, ◌||◌, ◌==◌, nat_lt, List, [], ◌∷◌, ◌++◌, length, map, filter, get_or, Option, Some, None, refl, sym, ap, ◌∙◌, subst, arith, inl, inr}
-use Rattle.std.specs.List.{list_any, list_all, All}
-use Rattle.std.proofs.lemmas.Bool.{and_parts, or_cases, or_left, or_right, eqb-true, eq-eqb, true≢false, cases_order}
+use Rattle.std.proofs.Common.{◌≡◌, ℕ, zero, suc, ◌<◌, Bool, true, false, cond, ◌||◌, ◌==◌, nat_lt, List, [], ◌∷◌, ◌++◌, length, map, filter, get_or, Option, Some, None, refl, sym, ap, ◌∙◌, subst, arith, inl, inr}
+use Rattle.std.specs.List.{list_all, All}
+use Rattle.std.proofs.lemmas.Bool.{and_parts, or_cases, eqb-true, true≢false, cases_order}
 use Rattle.std.proofs.lemmas.Bool.Decides.{nat_tests}
-use Rattle.xfs_dirdata.specs.declared.records.EntryRec.{EntryRec}
-use Rattle.xfs_volume.specs.declared.directories.DirRec.{DirRec}
 use Rattle.xfs_volume.specs.declared.files.FileRec.{FileRec}
 use Rattle.xfs_volume.specs.declared.findings.Law.{Law}
 use Rattle.xfs_volume.specs.Laws.{first_broken}
@@ -51,8 +49,9 @@ kept_each {X} f (x ∷ xs) none (suc k) d h = kept_each f xs (rest ((f x).held =
 pub kept_at : (f : ℕ → Law) (ns : List ℕ) → first_broken (map f ns) ≡ None → (n : ℕ) → is_in ns n ≡ true → (f n).held ≡ (f n).due
 kept_at f [] none n h = absurd (true≢false (sym h))
 kept_at f (m ∷ ns) none n h = elim (or_cases (n == m) (is_in ns n) h) [
-    inl here ↦ subst (λ (x : ℕ). (f x).held ≡ (f x).due) (sym (eqb-true n m here)) (kept_each f (m ∷ ns) none 0 0 (omega arith))
-  | inr later ↦ kept_at f ns (rest ((f m).held == (f m).due) (sym (first_of (f m) (map f ns)) ∙ none)) n later ]
+  | inl here ↦ subst (λ (x : ℕ). (f x).held ≡ (f x).due) (sym (eqb-true n m here)) (kept_each f (m ∷ ns) none 0 0 (omega arith))
+  | inr later ↦ kept_at f ns (rest ((f m).held == (f m).due) (sym (first_of (f m) (map f ns)) ∙ none)) n later
+]
   where
     rest : (t : Bool) → cond t (first_broken (map f ns)) (Some (f m)) ≡ None → first_broken (map f ns) ≡ None
     rest true none = none
@@ -80,12 +79,14 @@ one_pass false none = absurd (omega arith)
 pub in_with : (r : ℕ) (ns : List ℕ) (x : ℕ) → is_in (with_number r ns) x ≡ (x == r || is_in ns x)
 in_with r [] x = refl
 in_with r (n ∷ ns) x = elim (cases_order n r) [
-    inl same ↦ (let above : nat_lt n r ≡ false = grind (arith, nat_tests) in let here : n == r ≡ true = grind (arith, nat_tests) in
+  | inl same ↦ (let above : nat_lt n r ≡ false = grind (arith, nat_tests) in let here : n == r ≡ true = grind (arith, nat_tests) in
       rw (above, here) (let e : x == n ≡ x == r = ap (λ (m : ℕ). x == m) same in twice (x == n) (x == r) (is_in ns x) e))
   | inr apart ↦ elim apart [
-      inl less ↦ (let below : nat_lt n r ≡ true = grind (arith, nat_tests) in
+    | inl less ↦ (let below : nat_lt n r ≡ true = grind (arith, nat_tests) in
         rw below (ap (λ (t : Bool). x == n || t) (in_with r ns x) ∙ swapped (x == n) (x == r) (is_in ns x)))
-    | inr more ↦ (let above : nat_lt n r ≡ false = grind (arith, nat_tests) in let there : n == r ≡ false = grind (arith, nat_tests) in rw (above, there) refl) ] ]
+    | inr more ↦ (let above : nat_lt n r ≡ false = grind (arith, nat_tests) in let there : n == r ≡ false = grind (arith, nat_tests) in rw (above, there) refl)
+  ]
+]
   where
     twice : (a b c : Bool) → a ≡ b → (a || c) ≡ (b || (a || c))
     twice true b c e = cc

@@ -10,3 +10,4 @@ pub mod Kept
 pub mod Single
 pub mod Worded
 pub mod Cataloged
+pub mod Judged

@@ -1,5 +1,5 @@
 -- Links are as many as entries, and from the same directories.
-use Rattle.std.proofs.Common.{◌≡◌, ℕ, suc, Bool, true, false, cond, not, ◌&&◌, ◌||◌, ◌==◌, ◌+◌, List, [], ◌∷◌, length, map, filter, count_by, refl, sym, ap, ap₂, ◌∙◌}
+use Rattle.std.proofs.Common.{◌≡◌, ℕ, suc, Bool, true, false, cond, not, ◌&&◌, ◌||◌, ◌==◌, List, [], ◌∷◌, length, map, filter, refl, sym, ap, ◌∙◌}
 use Rattle.std.specs.List.{list_all, list_any}
 use Rattle.std.specs.List.Sorted.{IsPermutation}
 use Rattle.std.proofs.lemmas.List.Sums.{length-filter}
@@ -41,13 +41,13 @@ as_many_links ino (e ∷ es) = either (e.ino == ino) (as_many_links ino es)
 -- links of entries in any order
 pub linked : (es : List EntryRec) (links : List Link) → IsPermutation (map link_of es) links → AreLinks es links
 linked es links moved = record {
-    as_many = λ ino.
+  as_many = λ ino.
       length-filter (λ (l : Link). l.target == ino) links
       ∙ sum_by-IsPermutation (λ (l : Link). cond (l.target == ino) 1 0) (map link_of es) links moved
       ∙ sym (length-filter (λ (l : Link). l.target == ino) (map link_of es))
       ∙ as_many_links ino es;
-    alike = λ ino passes.
+  alike = λ ino passes.
       all_of_run (λ (l : Link). l.target == ino) (λ (l : Link). passes l.dir) links
       ∙ ap not (sym (list_any-IsPermutation (λ (l : Link). l.target == ino && not (passes l.dir)) (map link_of es) links moved) ∙ any_link (λ (l : Link). l.target == ino && not (passes l.dir)) es)
       ∙ sym (all_of_run (λ (e : EntryRec). e.ino == ino) (λ (e : EntryRec). passes e.dir) es);
-  }
+}

@@ -1,5 +1,5 @@
 -- Files, directories and entries stand in the order of their numbers.
-use Rattle.std.proofs.Common.{◌≡◌, ℕ, zero, suc, ◌+◌, ◌^◌, ◌<◌, ◌≤◌, Bool, true, false, cond, ◌&&◌, ◌==◌, List, [], ◌∷◌, ◌++◌, length, map, filter, get_or, refl, sym, ap, ◌∙◌, subst, arith}
+use Rattle.std.proofs.Common.{◌≡◌, ℕ, zero, suc, ◌+◌, ◌^◌, ◌<◌, ◌≤◌, Bool, true, false, cond, ◌==◌, List, [], ◌∷◌, ◌++◌, length, map, filter, get_or, sym, subst, arith}
 use Rattle.std.specs.List.{list_all}
 use Rattle.std.specs.List.Sorted.{IsNonDecreasingBy}
 use Rattle.std.proofs.lemmas.Bool.{and_parts, eqb-true}
@@ -65,19 +65,19 @@ grouped_rise : (low : ℕ) (dirs : List DirRec) (entries : List EntryRec) → As
 grouped_rise low [] entries up none = subst (λ (es : List EntryRec). Rises low (dirs_of es)) (sym none) tt
 grouped_rise low (d ∷ ds) entries up (own, rest, is, all, more) =
     subst (λ (es : List EntryRec). Rises low (dirs_of es)) (sym is)
-      (own_rises low d.ino own rest all up.0 (rises_lower d.ino (d.ino + 1) (dirs_of rest) (omega arith) (grouped_rise (d.ino + 1) ds rest up.1 more)))
+    (own_rises low d.ino own rest all up.0 (rises_lower d.ino (d.ino + 1) (dirs_of rest) (omega arith) (grouped_rise (d.ino + 1) ds rest up.1 more)))
 
 -- all that is looked at stands in its order
 pub ordered : (root : ℕ) (files : List FileRec) (entries : List EntryRec) (dirs : List DirRec) (links : List Link) → AreNamed files entries dirs → root < 2 ^ 32
     → IsNonDecreasingBy (λ (l : Link). l.target) links → AreLinks entries links → AreOrdered root files entries dirs links
 ordered root files entries dirs links named low rise linked = record {
-    low = low;
-    by_file = rises_by (λ (f : FileRec). f.ino) 0 files (ascend_rise 0 (numbers_of files) named.files_ascend);
-    by_directory = rises_by (λ (e : EntryRec). e.dir) 0 entries (grouped_rise 0 dirs entries dirs_ascend named.grouped);
-    by_number = rises_by (λ (d : DirRec). d.ino) 0 dirs (ascend_rise 0 _ dirs_ascend);
-    by_target = rise;
-    linked = linked;
-  }
+  low = low;
+  by_file = rises_by (λ (f : FileRec). f.ino) 0 files (ascend_rise 0 (numbers_of files) named.files_ascend);
+  by_directory = rises_by (λ (e : EntryRec). e.dir) 0 entries (grouped_rise 0 dirs entries dirs_ascend named.grouped);
+  by_number = rises_by (λ (d : DirRec). d.ino) 0 dirs (ascend_rise 0 _ dirs_ascend);
+  by_target = rise;
+  linked = linked;
+}
   where
     dirs_ascend : Ascend 0 (map (λ (d : DirRec). d.ino) dirs)
     dirs_ascend = subst (Ascend 0) (sym named.directories) (ascend_filter (λ (f : FileRec). f.ino) is_directory 0 files named.files_ascend)

@@ -1,8 +1,8 @@
 -- Files that ascend: one for each number.
-use Rattle.std.proofs.Common.{◌≡◌, ℕ, zero, suc, ◌+◌, ◌<◌, ◌≤◌, Bool, true, false, cond, ◌&&◌, ◌||◌, ◌==◌, List, [], ◌∷◌, length, get_or, Option, Some, None, refl, sym, ap, ◌∙◌, subst, arith, inl, inr}
+use Rattle.std.proofs.Common.{◌≡◌, ℕ, zero, suc, ◌+◌, ◌<◌, ◌≤◌, Bool, true, false, cond, ◌&&◌, ◌||◌, ◌==◌, List, [], ◌∷◌, length, get_or, Option, Some, refl, sym, ap, ◌∙◌, subst, arith, inl, inr}
 use Rattle.std.specs.List.{list_any, Any}
 use Rattle.std.proofs.lemmas.List.Folds.{Any-from_list_any}
-use Rattle.std.proofs.lemmas.Bool.{and_parts, and_from, or_cases, or_left, or_right, eqb-true, eq-eqb, true≢false}
+use Rattle.std.proofs.lemmas.Bool.{and_parts, or_cases, or_left, or_right, eqb-true, eq-eqb}
 use Rattle.std.proofs.lemmas.Bool.Decides.{nat_tests}
 use Rattle.xfs_volume.specs.declared.files.FileRec.{FileRec}
 use Rattle.xfs_volume.specs.Names.{is_directory}
@@ -75,8 +75,9 @@ file_any (g ∷ gs) x f e = either (file_any gs x f) (g.ino == x) refl e
 pub dir_in_use : (files : List FileRec) (x : ℕ) → is_directory_at files x ≡ true → is_in_use files x ≡ true
 dir_in_use [] x h = h
 dir_in_use (f ∷ fs) x h = elim (or_cases (f.ino == x && is_directory f) (is_directory_at fs x) h) [
-    inl here ↦ or_left (f.ino == x) _ (and_parts (f.ino == x) (is_directory f) here).0
-  | inr later ↦ or_right (f.ino == x) _ (dir_in_use fs x later) ]
+  | inl here ↦ or_left (f.ino == x) _ (and_parts (f.ino == x) (is_directory f) here).0
+  | inr later ↦ or_right (f.ino == x) _ (dir_in_use fs x later)
+]
 
 -- a file is in use
 pub own_in_use : (files : List FileRec) (k : ℕ) (d : FileRec) → k < length files → is_in_use files (get_or files k d).ino ≡ true

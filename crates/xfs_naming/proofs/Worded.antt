@@ -1,22 +1,20 @@
 -- Laws that are kept say what the words say.
-use Rattle.std.proofs.Common.{◌≡◌, ℕ, zero, suc, ◌+◌, ◌<◌, ◌≤◌, ◌⊎◌, Bool, true, false, cond, not, ◌&&◌, ◌||◌, ◌==◌, nat_le, List, [], ◌∷◌, ◌++◌, length, map, filter, get_or, count_by, Option, Some, None, refl, sym, ap, ◌∙◌, subst, arith, inl, inr}
-use Rattle.std.specs.List.{list_any, list_all, All, Any, AllPairs}
+use Rattle.std.proofs.Common.{◌≡◌, ℕ, zero, suc, ◌+◌, ◌<◌, ◌≤◌, Bool, true, false, cond, not, ◌&&◌, ◌||◌, ◌==◌, nat_le, List, [], ◌∷◌, ◌++◌, length, filter, get_or, count_by, Option, Some, None, refl, sym, ap, ◌∙◌, subst, arith, inl, inr}
+use Rattle.std.specs.List.{list_any, list_all, Any}
 use Rattle.std.specs.Str.{bytes_eq}
-use Rattle.std.proofs.lemmas.List.Folds.{Any-from_list_any, list_any-from_Any, list_any_at}
-use Rattle.std.proofs.lemmas.Bool.{and_parts, and_from, or_cases, or_left, or_right, eqb-true, eqb-false, eq-eqb, ne_eqb, true≢false, cases_eq, cases_Bool, not-true, not-false, or_parts, leb-true}
-use Rattle.std.proofs.lemmas.Bool.Decides.{nat_tests}
+use Rattle.std.proofs.lemmas.List.Folds.{Any-from_list_any, list_any_at}
+use Rattle.std.proofs.lemmas.Bool.{and_parts, and_from, or_cases, or_left, or_right, eqb-true, eqb-false, eq-eqb, ne_eqb, true≢false, cases_eq, cases_Bool, not-true, or_parts, leb-true}
 use Rattle.xfs_dirdata.specs.declared.records.EntryRec.{EntryRec}
 use Rattle.xfs_volume.specs.declared.directories.DirRec.{DirRec}
 use Rattle.xfs_volume.specs.declared.files.FileRec.{FileRec}
 use Rattle.xfs_volume.specs.declared.findings.Law.{Law}
 use Rattle.xfs_volume.specs.Laws.{first_broken, law_at}
-use Rattle.xfs_volume.specs.Names.{is_name, type_of, is_directory, entry_type}
-use Rattle.xfs_naming.specs.Lawful.{IsReached, IsSystem, IsOrdinary, IsDirectory, IsOther, IsSystemFile, HasLawfulEntries, HasLawfulPlaces, HasLawfulLinks, IsNamingLawful}
+use Rattle.xfs_volume.specs.Names.{is_name, type_of, is_directory}
+use Rattle.xfs_naming.specs.Lawful.{IsReached, IsOrdinary, IsSystemFile, HasLawfulEntries, HasLawfulPlaces, HasLawfulLinks, IsNamingLawful}
 use Rattle.xfs_naming.specs.Lawful.IsReached.{at_root, by_entry}
 use Rattle.xfs_naming.specs.Naming.{is_system, is_in_use, is_directory_at, entries_in, entries_of, names_differ, has_target, has_type, first_failing, directory_tests, directory_at, reached_in, is_reached, states_parent, root_tests, other_directory_tests, other_file_tests, place_tests, place_at, with_number, numbers_of, links_of, is_empty_regular, links_at, file_at, directory_laws, place_laws, link_laws, naming_laws, AreNamed}
-use Rattle.xfs_naming.specs.Walking.{is_in}
 use Rattle.xfs_naming.proofs.Chosen.{any_in_run}
-use Rattle.xfs_naming.proofs.Grouped.{has_record, has_record_is, grouped_dir}
+use Rattle.xfs_naming.proofs.Grouped.{has_record_is, grouped_dir}
 use Rattle.xfs_naming.proofs.Kept.{kept_front, kept_behind, kept_each, kept_at, four_pass, three_pass, one_pass, in_with, in_numbers, passes_at}
 use Rattle.xfs_naming.proofs.Single.{any_of, own_test, own_file, file_any, dir_in_use, own_in_use}
 
@@ -69,10 +67,11 @@ ordinary_is root x h = both (x == root + 1) (x == root + 2) (ne_eqb x (root + 1)
 reached_way : (n : ℕ) (entries : List EntryRec) (root x : ℕ) → reached_in n entries root x ≡ true → IsReached entries root x
 reached_way zero entries root x h = subst (IsReached entries root) (sym (eqb-true x root h)) at_root
 reached_way (suc n) entries root x h = elim (or_cases (x == root) _ h) [
-    inl here ↦ subst (IsReached entries root) (sym (eqb-true x root here)) at_root
+  | inl here ↦ subst (IsReached entries root) (sym (eqb-true x root here)) at_root
   | inr later ↦ (let found = Any-from_list_any (λ (e : EntryRec). e.ino == x && reached_in n entries root e.dir) entries later in
       let parts = and_parts (found.1.ino == x) _ found.4 in
-      by_entry (reached_way n entries root found.1.dir parts.1) (found.0, found.1, found.2, found.3, (refl, eqb-true found.1.ino x parts.0))) ]
+      by_entry (reached_way n entries root found.1.dir parts.1) (found.0, found.1, found.2, found.3, (refl, eqb-true found.1.ino x parts.0)))
+]
 
 -- what the laws of directories, places and links say, test by test
 record OwnPass (root : ℕ) (files : List FileRec) (own : List EntryRec) : Type 0 where
@@ -82,7 +81,6 @@ record OwnPass (root : ℕ) (files : List FileRec) (own : List EntryRec) : Type 
   types : list_all (has_type files) own ≡ true
 
 module _ (root : ℕ) (files : List FileRec) (entries : List EntryRec) (dirs : List DirRec) (named : AreNamed files entries dirs) where
-
   tests_at : first_broken (directory_laws root files entries dirs) ≡ None → (k : ℕ) (d : DirRec) → k < length dirs
       → first_failing (directory_tests root files (entries_in entries (get_or dirs k d).ino) (get_or dirs k d)) ≡ 0
   unfolding directory_laws
@@ -107,16 +105,17 @@ module _ (root : ℕ) (files : List FileRec) (entries : List EntryRec) (dirs : L
 
   pub lawful_entries : first_broken (directory_laws root files entries dirs) ≡ None → HasLawfulEntries root files entries dirs
   lawful_entries none = record {
-      whole = λ k d h. own_whole (entries_in entries (get_or dirs k d).ino) (get_or dirs k d) (tests_at none k d h);
-      valid = λ k d h. passes_at (λ (e : EntryRec). is_name e.name) (λ (e : EntryRec). e.dir == (get_or entries k d).dir) entries (passes none k d h).valid k d h (eq-eqb _ _ refl);
-      differ = λ i j d less h same equal.
+    whole = λ k d h. own_whole (entries_in entries (get_or dirs k d).ino) (get_or dirs k d) (tests_at none k d h);
+    valid = λ k d h. passes_at (λ (e : EntryRec). is_name e.name) (λ (e : EntryRec). e.dir == (get_or entries k d).dir) entries (passes none k d h).valid k d h (eq-eqb _ _ refl);
+    differ = λ i j d less h same equal.
         differ_at (λ (e : EntryRec). e.dir == (get_or entries i d).dir) entries (passes none i d (omega arith)).differ i j d less h (eq-eqb _ _ refl) (eq-eqb _ _ (sym same)) (bytes_same _ _ equal);
-      in_use = λ k d h. any_of (λ (f : FileRec). f.ino == (get_or entries k d).ino) _ files (λ f e. eqb-true f.ino _ e) (target k d h).0;
-      ordinary = λ k d h. ordinary_from root _ (target k d h).1;
-      types = λ k d h. elim (or_cases _ _ (passes_at (has_type files) (λ (e : EntryRec). e.dir == (get_or entries k d).dir) entries (passes none k d h).types k d h (eq-eqb _ _ refl))) [
-          inl zero_type ↦ inl (eqb-true _ 0 zero_type)
-        | inr typed ↦ inr (any_of _ _ files (λ f e. let parts = and_parts _ _ e in (eqb-true f.ino _ parts.0, sym (eqb-true _ _ parts.1))) typed) ];
-    }
+    in_use = λ k d h. any_of (λ (f : FileRec). f.ino == (get_or entries k d).ino) _ files (λ f e. eqb-true f.ino _ e) (target k d h).0;
+    ordinary = λ k d h. ordinary_from root _ (target k d h).1;
+    types = λ k d h. elim (or_cases _ _ (passes_at (has_type files) (λ (e : EntryRec). e.dir == (get_or entries k d).dir) entries (passes none k d h).types k d h (eq-eqb _ _ refl))) [
+      | inl zero_type ↦ inl (eqb-true _ 0 zero_type)
+      | inr typed ↦ inr (any_of _ _ files (λ f e. let parts = and_parts _ _ e in (eqb-true f.ino _ parts.0, sym (eqb-true _ _ parts.1))) typed)
+    ];
+  }
     where
       target : (k : ℕ) (d : EntryRec) → k < length entries → (is_in_use files (get_or entries k d).ino ≡ true) × (not (is_system root (get_or entries k d).ino) ≡ true)
       target k d h = and_parts _ _ (passes_at (has_target root files) (λ (e : EntryRec). e.dir == (get_or entries k d).dir) entries (passes none k d h).targets k d h (eq-eqb _ _ refl))
@@ -130,21 +129,21 @@ module _ (root : ℕ) (files : List FileRec) (entries : List EntryRec) (dirs : L
       → (length (entries_of entries root) == 0 ≡ true) × ((not (is_directory_at files root) || states_parent dirs root root) ≡ true) × (is_directory_at files root ≡ true)
   root_pass none = three_pass (length (entries_of entries root) == 0) (not (is_directory_at files root) || states_parent dirs root root) (is_directory_at files root)
       (sym (ap (λ (t : Bool). first_failing (cond t (root_tests root files entries dirs)
-        (cond (is_directory_at files root) (other_directory_tests root entries dirs root) (other_file_tests root entries root)))) (eq-eqb root root refl))
+      (cond (is_directory_at files root) (other_directory_tests root entries dirs root) (other_file_tests root entries root)))) (eq-eqb root root refl))
       ∙ placed none root (or_left (root == root) _ (eq-eqb root root refl)))
 
   other_pass : first_broken (place_laws root files entries dirs) ≡ None → (x : ℕ) → (x ≡ root → ⊥) → is_directory_at files x ≡ true
       → (length (entries_of entries x) == 1 ≡ true) × (list_all (λ (e : EntryRec). states_parent dirs x e.dir) (entries_of entries x) ≡ true) × (is_reached dirs entries root x ≡ true)
   other_pass none x apart dir = three_pass (length (entries_of entries x) == 1) (list_all (λ (e : EntryRec). states_parent dirs x e.dir) (entries_of entries x)) (is_reached dirs entries root x)
       (sym (ap (λ (t : Bool). first_failing (cond (x == root) (root_tests root files entries dirs) (cond t (other_directory_tests root entries dirs x) (other_file_tests root entries x)))) dir
-        ∙ ap (λ (t : Bool). first_failing (cond t (root_tests root files entries dirs) (other_directory_tests root entries dirs x))) (ne_eqb x root apart))
+      ∙ ap (λ (t : Bool). first_failing (cond t (root_tests root files entries dirs) (other_directory_tests root entries dirs x))) (ne_eqb x root apart))
       ∙ placed none x (or_right (x == root) _ (dir_in_use files x dir)))
 
   file_pass : first_broken (place_laws root files entries dirs) ≡ None → (x : ℕ) → (x ≡ root → ⊥) → is_directory_at files x ≡ false → is_in_use files x ≡ true
       → (is_system root x || nat_le 1 (length (entries_of entries x))) ≡ true
   file_pass none x apart other used = one_pass (is_system root x || nat_le 1 (length (entries_of entries x)))
       (sym (ap (λ (t : Bool). first_failing (cond (x == root) (root_tests root files entries dirs) (cond t (other_directory_tests root entries dirs x) (other_file_tests root entries x)))) other
-        ∙ ap (λ (t : Bool). first_failing (cond t (root_tests root files entries dirs) (other_file_tests root entries x))) (ne_eqb x root apart))
+      ∙ ap (λ (t : Bool). first_failing (cond t (root_tests root files entries dirs) (other_file_tests root entries x))) (ne_eqb x root apart))
       ∙ placed none x (or_right (x == root) _ used))
 
   -- some entry names a number, or none
@@ -156,30 +155,33 @@ module _ (root : ℕ) (files : List FileRec) (entries : List EntryRec) (dirs : L
 
   pub lawful_places : first_broken (place_laws root files entries dirs) ≡ None → HasLawfulPlaces root files entries dirs
   lawful_places none = record {
-      root_directory = any_of (λ (f : FileRec). f.ino == root && is_directory f) _ files (λ f e. let parts = and_parts (f.ino == root) (is_directory f) e in (eqb-true f.ino root parts.0, eqb-true (type_of f) 4 parts.1)) root_dir;
-      root_unnamed = unnamed;
-      root_parent = any_of (λ (d : DirRec). d.ino == root && d.parent == root) _ dirs (λ d e. let parts = and_parts (d.ino == root) (d.parent == root) e in (eqb-true d.ino root parts.0, eqb-true d.parent root parts.1)) root_states;
-      once = λ k d h apart. eqb-true (length (entries_of entries (get_or dirs k d).ino)) 1 (other_pass none (get_or dirs k d).ino apart (recorded k d h)).0;
-      by_parent = λ k d h dir. any_of (λ (r : DirRec). r.ino == (get_or entries k d).ino && r.parent == (get_or entries k d).dir) _ dirs
+    root_directory = any_of (λ (f : FileRec). f.ino == root && is_directory f) _ files (λ f e. let parts = and_parts (f.ino == root) (is_directory f) e in (eqb-true f.ino root parts.0, eqb-true (type_of f) 4 parts.1)) root_dir;
+    root_unnamed = unnamed;
+    root_parent = any_of (λ (d : DirRec). d.ino == root && d.parent == root) _ dirs (λ d e. let parts = and_parts (d.ino == root) (d.parent == root) e in (eqb-true d.ino root parts.0, eqb-true d.parent root parts.1)) root_states;
+    once = λ k d h apart. eqb-true (length (entries_of entries (get_or dirs k d).ino)) 1 (other_pass none (get_or dirs k d).ino apart (recorded k d h)).0;
+    by_parent = λ k d h dir. any_of (λ (r : DirRec). r.ino == (get_or entries k d).ino && r.parent == (get_or entries k d).dir) _ dirs
         (λ r e. let parts = and_parts (r.ino == (get_or entries k d).ino) (r.parent == (get_or entries k d).dir) e in (eqb-true r.ino _ parts.0, eqb-true r.parent _ parts.1))
         (passes_at (λ (e : EntryRec). states_parent dirs (get_or entries k d).ino e.dir) (λ (e : EntryRec). e.ino == (get_or entries k d).ino) entries
-          (other_pass none (get_or entries k d).ino (unnamed k d h) dir).1 k d h (eq-eqb (get_or entries k d).ino (get_or entries k d).ino refl));
-      reached = λ k d h. elim (cases_eq (get_or dirs k d).ino root) [
-          inl same ↦ subst (IsReached entries root) (sym same) at_root
-        | inr apart ↦ reached_way (length dirs) entries root (get_or dirs k d).ino (other_pass none (get_or dirs k d).ino apart (recorded k d h)).2 ];
-      named = λ k d h other ordinary. any_of (λ (e : EntryRec). e.ino == (get_or files k d).ino) _ entries (λ e t. eqb-true e.ino _ t)
+        (other_pass none (get_or entries k d).ino (unnamed k d h) dir).1 k d h (eq-eqb (get_or entries k d).ino (get_or entries k d).ino refl));
+    reached = λ k d h. elim (cases_eq (get_or dirs k d).ino root) [
+      | inl same ↦ subst (IsReached entries root) (sym same) at_root
+      | inr apart ↦ reached_way (length dirs) entries root (get_or dirs k d).ino (other_pass none (get_or dirs k d).ino apart (recorded k d h)).2
+    ];
+    named = λ k d h other ordinary. any_of (λ (e : EntryRec). e.ino == (get_or files k d).ino) _ entries (λ e t. eqb-true e.ino _ t)
         (some_named (get_or files k d).ino (leb-true 1 _ (elim (or_cases _ _ (file_pass none (get_or files k d).ino (no_root k d h other) (no_dir k d h other) (own_in_use files k d h))) [
-            inl system ↦ absurd (true≢false (sym system ∙ ordinary_is root _ ordinary))
-          | inr some ↦ some ])));
-    }
+          | inl system ↦ absurd (true≢false (sym system ∙ ordinary_is root _ ordinary))
+          | inr some ↦ some
+        ])));
+  }
     where
       root_dir : is_directory_at files root ≡ true
       root_dir = (root_pass none).2
 
       root_states : states_parent dirs root root ≡ true
       root_states = elim (or_cases (not (is_directory_at files root)) (states_parent dirs root root) (root_pass none).1) [
-          inl no_root ↦ absurd (true≢false (sym root_dir ∙ not-true (is_directory_at files root) no_root))
-        | inr states ↦ states ]
+        | inl no_root ↦ absurd (true≢false (sym root_dir ∙ not-true (is_directory_at files root) no_root))
+        | inr states ↦ states
+      ]
 
       unnamed : (k : ℕ) (d : EntryRec) → k < length entries → (get_or entries k d).ino ≡ root → ⊥
       unnamed k d h same = true≢false (sym (list_any_at (λ (e : EntryRec). e.ino == root) entries k d h (eq-eqb (get_or entries k d).ino root same)) ∙ none_named root (root_pass none).0)
@@ -204,7 +206,7 @@ module _ (root : ℕ) (files : List FileRec) (entries : List EntryRec) (dirs : L
       → (links_at root files entries (Some (get_or files k d)) (get_or files k d).ino).held ≡ (links_at root files entries (Some (get_or files k d)) (get_or files k d).ino).due
   own_linked none k d h =
       subst (λ (o : Option FileRec). (links_at root files entries o (get_or files k d).ino).held ≡ (links_at root files entries o (get_or files k d).ino).due) (own_file 0 files named.files_ascend k d h)
-        (linked none (get_or files k d).ino (or_right (((get_or files k d).ino) == root + 1) _ (or_right (((get_or files k d).ino) == root + 2) _ (own_in_use files k d h))))
+      (linked none (get_or files k d).ino (or_right (((get_or files k d).ino) == root + 1) _ (or_right (((get_or files k d).ino) == root + 2) _ (own_in_use files k d h))))
 
   -- a file that is not one of the system's
   ordinary_links : (f : FileRec) (x : ℕ) → is_system root x ≡ false → (links_at root files entries (Some f) x).held ≡ (links_at root files entries (Some f) x).due → f.core.nlink ≡ links_of files entries f
@@ -243,24 +245,25 @@ module _ (root : ℕ) (files : List FileRec) (entries : List EntryRec) (dirs : L
       on : (o : Option FileRec) → file_at files x ≡ o → (links_at root files entries o x).held ≡ (links_at root files entries o x).due → Any (IsSystemFile x) files
       on None is l = absurd (omega arith)
       on (Some f) is l =
-        let found = file_any files x f is in
-        let says = system_links f x system l in
-        let empty = empty_type f says.0 in
-        let file : IsSystemFile x f = record { number = sym (ap (λ (g : FileRec). g.ino) found.4.0) ∙ found.4.1; regular = empty.0; no_bytes = empty.1; no_data = empty.2; no_tree = empty.3; one_link = says.1 } in
-        (found.0, found.1, found.2, found.3, subst (IsSystemFile x) (sym found.4.0) file)
+          let found = file_any files x f is in
+          let says = system_links f x system l in
+          let empty = empty_type f says.0 in
+          let file : IsSystemFile x f = record { number = sym (ap (λ (g : FileRec). g.ino) found.4.0) ∙ found.4.1; regular = empty.0; no_bytes = empty.1; no_data = empty.2; no_tree = empty.3; one_link = says.1 } in
+          (found.0, found.1, found.2, found.3, subst (IsSystemFile x) (sym found.4.0) file)
 
   pub lawful_links : first_broken (link_laws root files entries) ≡ None → HasLawfulLinks root files entries
   lawful_links none = record {
-      of_directories = λ k d h dir. elim (cases_Bool (is_system root (get_or files k d).ino)) [
-          inl system ↦ absurd (four_eight (type_of (get_or files k d)) dir (empty_type (get_or files k d) (system_links (get_or files k d) (get_or files k d).ino system (own_linked none k d h)).0).0)
-        | inr ordinary ↦ ordinary_links (get_or files k d) (get_or files k d).ino ordinary (own_linked none k d h)
-            ∙ ap (λ (t : Bool). cond t (2 + count_by (λ (e : EntryRec). is_directory_at files e.ino) (entries_in entries (get_or files k d).ino)) (length (entries_of entries (get_or files k d).ino))) (eq-eqb (type_of (get_or files k d)) 4 dir) ];
-      of_others = λ k d h other ordinary.
+    of_directories = λ k d h dir. elim (cases_Bool (is_system root (get_or files k d).ino)) [
+      | inl system ↦ absurd (four_eight (type_of (get_or files k d)) dir (empty_type (get_or files k d) (system_links (get_or files k d) (get_or files k d).ino system (own_linked none k d h)).0).0)
+      | inr ordinary ↦ ordinary_links (get_or files k d) (get_or files k d).ino ordinary (own_linked none k d h)
+          ∙ ap (λ (t : Bool). cond t (2 + count_by (λ (e : EntryRec). is_directory_at files e.ino) (entries_in entries (get_or files k d).ino)) (length (entries_of entries (get_or files k d).ino))) (eq-eqb (type_of (get_or files k d)) 4 dir)
+    ];
+    of_others = λ k d h other ordinary.
         ordinary_links (get_or files k d) (get_or files k d).ino (ordinary_is root (get_or files k d).ino ordinary) (own_linked none k d h)
         ∙ ap (λ (t : Bool). cond t (2 + count_by (λ (e : EntryRec). is_directory_at files e.ino) (entries_in entries (get_or files k d).ino)) (length (entries_of entries (get_or files k d).ino))) (ne_eqb (type_of (get_or files k d)) 4 other);
-      first = system_file none (root + 1) (or_left (root + 1 == root + 1) _ (eq-eqb (root + 1) (root + 1) refl));
-      second = system_file none (root + 2) (or_right (root + 2 == root + 1) _ (eq-eqb (root + 2) (root + 2) refl));
-    }
+    first = system_file none (root + 1) (or_left (root + 1 == root + 1) _ (eq-eqb (root + 1) (root + 1) refl));
+    second = system_file none (root + 2) (or_right (root + 2 == root + 1) _ (eq-eqb (root + 2) (root + 2) refl));
+  }
     where
       four_eight : (t : ℕ) → t ≡ 4 → t ≡ 8 → ⊥
       four_eight t e f = absurd (omega arith)

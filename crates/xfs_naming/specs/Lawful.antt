@@ -1,5 +1,5 @@
 -- What the laws of names mean, in the words of directories, entries and files (chapters "Directories" and "On-disk Inode").
-use Rattle.std.specs.Prelude.{ℕ, ◌+◌, ◌≡◌, ◌≢◌, ◌⊎◌, true, false, List, length, count_by}
+use Rattle.std.specs.Prelude.{ℕ, ◌+◌, ◌≡◌, ◌≢◌, ◌⊎◌, true, List, length, count_by}
 use Rattle.std.specs.List.{All, AllPairs, Any}
 use Rattle.xfs_dirdata.specs.declared.records.EntryRec.{EntryRec}
 use Rattle.xfs_volume.specs.declared.directories.DirRec.{DirRec}
@@ -11,7 +11,7 @@ use Rattle.xfs_naming.specs.Naming.{is_directory_at, entries_of, entries_in}
 pub data IsReached : List EntryRec → ℕ → ℕ → Type 0 where
   at_root : {entries : List EntryRec} {root : ℕ} → IsReached entries root root
   by_entry : {entries : List EntryRec} {root dir ino : ℕ} → IsReached entries root dir
-    → Any (λ (e : EntryRec). (e.dir ≡ dir) × (e.ino ≡ ino)) entries → IsReached entries root ino
+      → Any (λ (e : EntryRec). (e.dir ≡ dir) × (e.ino ≡ ino)) entries → IsReached entries root ino
 
 -- the inodes of the system's own are the two behind the root
 abbrev pub IsSystem : ℕ → ℕ → Type 0

@@ -1,6 +1,6 @@
 -- The laws of names: directories are whole and name files in use; they hang together as one tree below the root; each file has
 -- as many links as names (chapters "Directories" and "On-disk Inode").
-use Rattle.std.specs.Prelude.{ℕ, zero, suc, Bool, true, false, not, ◌+◌, ◌<◌, ◌≤◌, ◌==◌, ◌&&◌, ◌||◌, ◌≡◌, nat_le, nat_lt, if◌then◌else◌, List, [], ◌∷◌, ◌++◌, map, filter, length, count_by, Option, Some, None, IsTrue}
+use Rattle.std.specs.Prelude.{ℕ, zero, suc, Bool, true, not, ◌+◌, ◌≤◌, ◌==◌, ◌&&◌, ◌||◌, ◌≡◌, nat_le, nat_lt, if◌then◌else◌, List, [], ◌∷◌, ◌++◌, map, filter, length, count_by, Option, Some, None}
 use Rattle.std.specs.List.{list_all, list_any}
 use Rattle.std.specs.Str.{bytes_eq}
 use Rattle.xfs_dirdata.specs.declared.records.EntryRec.{EntryRec}

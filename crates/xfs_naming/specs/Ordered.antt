@@ -1,5 +1,5 @@
 -- What is looked at by number stands in the order of that number.
-use Rattle.std.specs.Prelude.{ℕ, ◌+◌, ◌<◌, ◌≤◌, ◌^◌, slice_index, ◌≡◌, ◌==◌, Bool, true, List, filter, length}
+use Rattle.std.specs.Prelude.{ℕ, ◌<◌, ◌≤◌, ◌^◌, slice_index, ◌≡◌, ◌==◌, Bool, true, List, filter, length}
 use Rattle.std.specs.List.{list_all, list_any}
 use Rattle.std.specs.List.Sorted.{IsNonDecreasingBy}
 use Rattle.xfs_dirdata.specs.declared.records.EntryRec.{EntryRec}
@@ -7,6 +7,7 @@ use Rattle.xfs_volume.specs.declared.directories.DirRec.{DirRec}
 use Rattle.xfs_volume.specs.declared.files.FileRec.{FileRec}
 use Rattle.xfs_naming.specs.declared.runs.Link.{Link}
 use Rattle.xfs_naming.specs.declared.naming.Names.{Names}
+use Rattle.xfs_naming.specs.Lawful.{IsReached}
 use Rattle.xfs_naming.specs.Naming.{entries_of, is_directory_at, is_reached}
 
 -- the link that an entry is
@@ -21,7 +22,7 @@ links_to links ino = filter (λ (l : Link). l.target == ino) links
 pub record AreLinks (entries : List EntryRec) (links : List Link) : Type 0 where
   pub as_many : (ino : ℕ) → length (links_to links ino) ≡ length (entries_of entries ino)
   pub alike : (ino : ℕ) (passes : ℕ → Bool)
-    → list_all (λ (l : Link). passes l.dir) (links_to links ino) ≡ list_all (λ (e : EntryRec). passes e.dir) (entries_of entries ino)
+      → list_all (λ (l : Link). passes l.dir) (links_to links ino) ≡ list_all (λ (e : EntryRec). passes e.dir) (entries_of entries ino)
 
 -- all that is looked at by number is in its order
 pub record AreOrdered (root : ℕ) (files : List FileRec) (entries : List EntryRec) (dirs : List DirRec) (links : List Link) : Type 0 where
@@ -39,6 +40,11 @@ IsOrdered names = AreOrdered names.root names.files.now names.entries.now names.
 abbrev pub IsWalked : Names → List ℕ → Type 0
 IsWalked names reached = (ino : ℕ) → is_directory_at names.files.now ino ≡ true
     → list_any (λ (x : ℕ). ino == x) reached ≡ is_reached names.dirs.now names.entries.now names.root ino
+
+-- no way to a directory needs more steps than there are directories
+abbrev pub HasShortWays : Names → Type 0
+HasShortWays names = (ino : ℕ) → is_directory_at names.files.now ino ≡ true → IsReached names.entries.now names.root ino
+    → is_reached names.dirs.now names.entries.now names.root ino ≡ true
 
 -- a number has to stand behind those that are less and before those that are greater
 abbrev pub IsPlaceFor : List ℕ → ℕ → ℕ → Type 0

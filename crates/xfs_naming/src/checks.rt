@@ -1,10 +1,10 @@
 //! The laws of names, one after another.
 
-ghost use Rattle.std.specs.Prelude.{◌≡◌, ◌<◌, ◌^◌, None, IfOk};
+ghost use Rattle.std.specs.Prelude.{◌≡◌, ◌<◌, ◌^◌, ◌↔◌, None, IfOk};
 ghost use Rattle.xfs_naming.specs.Lawful.{IsNamingLawful};
 ghost use Rattle.xfs_volume.specs.Laws.{first_broken};
 ghost use Rattle.xfs_naming.specs.Naming.{AreNamed, naming_laws, directory_laws, place_laws, link_laws};
-ghost use Rattle.xfs_naming.specs.Ordered.{IsOrdered};
+ghost use Rattle.xfs_naming.specs.Ordered.{IsOrdered, IsWalked};
 
 use crate::counts::broken_links;
 use crate::directories::broken_directory;
@@ -14,20 +14,25 @@ use crate::numbering::{numbers_of, with_number};
 use crate::places::broken_place;
 use crate::walks::walk;
 use std::alloc::Global;
+use std::collections::HashSet;
 use xfs_dirdata::EntryRec;
 use xfs_disk::NoMemory;
 use xfs_volume::{DirRec, FileRec, Law};
 
 /// The first file that breaks the eighth law.
 #[tactic(auto, unfolding(crate::specs::Naming::place_laws))]
-fn first_place(alloc: Global, names: &Names) -> Result<Option<Law>, NoMemory>
+fn first_place(
+    alloc: Global,
+    names: &Names,
+    reached: &HashSet<u64>,
+) -> Result<Option<Law>, NoMemory>
     requires ordered { IsOrdered names.now }
     requires named { AreNamed names.now.files.now names.now.entries.now names.now.dirs.now }
+    requires walked { IsWalked names.now reached.now.keys }
     ensures { IfOk result (λ law. law ≡ first_broken (place_laws names.now.root names.now.files.now names.now.entries.now names.now.dirs.now)) }
 {
     let numbers = with_number(numbers_of(alloc, names.files)?, names.root)?;
-    let reached = walk(alloc, names)?;
-    Ok(broken_place(names, &reached, numbers.as_slice()))
+    Ok(broken_place(names, reached, numbers.as_slice()))
 }
 
 /// The first file that breaks the ninth law.
@@ -44,16 +49,17 @@ fn first_links(alloc: Global, names: &Names) -> Result<Option<Law>, NoMemory>
 
 /// The first of the laws of names that is broken.
 #[tactic(auto, unfolding(crate::specs::Naming::naming_laws))]
-fn first_law(alloc: Global, names: &Names) -> Result<Option<Law>, NoMemory>
+fn first_law(alloc: Global, names: &Names, reached: &HashSet<u64>) -> Result<Option<Law>, NoMemory>
     requires ordered { IsOrdered names.now }
     requires named { AreNamed names.now.files.now names.now.entries.now names.now.dirs.now }
+    requires walked { IsWalked names.now reached.now.keys }
     ensures { IfOk result (λ law. law ≡ first_broken (naming_laws names.now.root names.now.files.now names.now.entries.now names.now.dirs.now)) }
 {
     match broken_directory(alloc, names)? {
         Some(law) => return Ok(Some(law)),
         None => {}
     }
-    match first_place(alloc, names)? {
+    match first_place(alloc, names, reached)? {
         Some(law) => return Ok(Some(law)),
         None => {}
     }
@@ -65,11 +71,17 @@ fn first_law(alloc: Global, names: &Names) -> Result<Option<Law>, NoMemory>
 /// not whole, or whose names or targets or types are wrong (law 7); a file that is not named as it should be, or a
 /// directory that is not reached from the root (law 8); a file whose links are not as many as its names (law 9). Each with
 /// the least inode number; for laws 7 and 8 `held` is the number of the test that it fails first.
-pub fn check_names(alloc: Global, root: u64, files: &[FileRec], entries: &[EntryRec], dirs: &[DirRec]) -> Result<Option<Law>, NoMemory>
+pub fn check_names(
+    alloc: Global,
+    root: u64,
+    files: &[FileRec],
+    entries: &[EntryRec],
+    dirs: &[DirRec],
+) -> Result<Option<Law>, NoMemory>
     requires named { AreNamed files.now entries.now dirs.now }
     requires low { root < 2 ^ 32 }
     ensures law { IfOk result (λ law. law ≡ first_broken (naming_laws root files.now entries.now dirs.now)) }
-    ensures lawful { IfOk result (λ law. law ≡ None → IsNamingLawful root files.now entries.now dirs.now) }
+    ensures lawful { IfOk result (λ law. law ≡ None ↔ IsNamingLawful root files.now entries.now dirs.now) }
 {
     let links = links_of(alloc, entries)?;
     let names = Names {
@@ -79,5 +91,6 @@ pub fn check_names(alloc: Global, root: u64, files: &[FileRec], entries: &[Entry
         dirs,
         links: links.as_slice(),
     };
-    first_law(alloc, &names)
+    let reached = walk(alloc, &names)?;
+    first_law(alloc, &names, &reached)
 }

@@ -22,7 +22,9 @@ fn count_directories(names: &Names, own: &[EntryRec]) -> usize
     requires { IsOrdered names.now }
     ensures { result ≡ count_by (λ (e : EntryRec). is_directory_at names.now.files.now e.ino) own.now }
 {
-    own.iter().filter(|entry| is_directory_at(names, entry.ino)).count()
+    own.iter()
+        .filter(|entry| is_directory_at(names, entry.ino))
+        .count()
 }
 
 /// The links that a file should have: for a directory two and one for each directory in it, for another file one for
@@ -42,7 +44,10 @@ fn links_due(names: &Names, file: &FileRec) -> u128
 fn is_empty_regular(file: &FileRec) -> bool
     ensures { result ≡ is_empty_regular file.now }
 {
-    type_of(file) == REGULAR && file.core.size == 0 && file.extents.as_slice().is_empty() && file.tree.as_slice().is_empty()
+    type_of(file) == REGULAR
+        && file.core.size == 0
+        && file.extents.as_slice().is_empty()
+        && file.tree.as_slice().is_empty()
 }
 
 /// What the ninth law says of a file that stands for a number.

@@ -58,7 +58,12 @@ fn have_types(names: &Names, own: &[EntryRec]) -> bool
 }
 
 /// The number of the first test that a directory with these entries fails, or 0.
-fn first_failing(alloc: Global, names: &Names, own: &[EntryRec], dir: &DirRec) -> Result<u8, NoMemory>
+fn first_failing(
+    alloc: Global,
+    names: &Names,
+    own: &[EntryRec],
+    dir: &DirRec,
+) -> Result<u8, NoMemory>
     requires { IsOrdered names.now }
     ensures { IfOk result (λ number. number ≡ first_failing (directory_tests names.now.root names.now.files.now own.now dir.now)) }
 {

@@ -115,7 +115,9 @@ fn check_worlds(rt: &impl Abort, alloc: Global, worlds: &[World]) -> Result<(), 
         let entries = entries_of(alloc, world.entries)?;
         let dirs = dirs_of(alloc, world.dirs)?;
         assert!(rt; is_catalog(&files, &entries, &dirs), "{}", world.what);
-        let found = check_names(alloc, 128, &files, &entries, &dirs).ok().ok_or("no memory")?;
+        let found = check_names(alloc, 128, &files, &entries, &dirs)
+            .ok()
+            .ok_or("no memory")?;
         assert_eq!(rt; found, law_of(world.broken), "{}", world.what);
     }
     Ok(())

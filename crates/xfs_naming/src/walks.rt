@@ -4,7 +4,7 @@ ghost use Rattle.std.specs.Prelude.{◌≡◌, ◌==◌, OnOk, IfOk};
 ghost use Rattle.std.specs.List.{list_any};
 ghost use Rattle.xfs_dirdata.specs.declared.records.EntryRec.{EntryRec};
 ghost use Rattle.xfs_naming.specs.Naming.{AreNamed};
-ghost use Rattle.xfs_naming.specs.Ordered.{IsOrdered, IsWalked};
+ghost use Rattle.xfs_naming.specs.Ordered.{IsOrdered, IsWalked, HasShortWays};
 ghost use Rattle.xfs_naming.specs.Walking.{HasMarked};
 
 use crate::lookups::is_directory_at;
@@ -16,7 +16,12 @@ use xfs_dirdata::EntryRec;
 use xfs_disk::NoMemory;
 
 /// Marks a number as reached where it is a directory's; one that was not reached before waits.
-fn mark(names: &Names, ino: u64, reached: &mut HashSet<u64>, waiting: &mut Vec<u64>) -> Result<(), NoMemory>
+fn mark(
+    names: &Names,
+    ino: u64,
+    reached: &mut HashSet<u64>,
+    waiting: &mut Vec<u64>,
+) -> Result<(), NoMemory>
     requires { IsOrdered names.now }
     ensures { OnOk result (HasMarked names.now.files.now (λ x. ino == x) reached.old.keys reached.new.keys waiting.old.items waiting.new.items) }
 {
@@ -30,7 +35,12 @@ fn mark(names: &Names, ino: u64, reached: &mut HashSet<u64>, waiting: &mut Vec<u
 }
 
 /// Marks what these entries name.
-fn mark_named(names: &Names, own: &[EntryRec], reached: &mut HashSet<u64>, waiting: &mut Vec<u64>) -> Result<(), NoMemory>
+fn mark_named(
+    names: &Names,
+    own: &[EntryRec],
+    reached: &mut HashSet<u64>,
+    waiting: &mut Vec<u64>,
+) -> Result<(), NoMemory>
     requires { IsOrdered names.now }
     ensures { OnOk result (HasMarked names.now.files.now (λ x. list_any (λ (e : EntryRec). e.ino == x) own.now) reached.old.keys reached.new.keys waiting.old.items waiting.new.items) }
 {
@@ -44,14 +54,20 @@ fn mark_named(names: &Names, own: &[EntryRec], reached: &mut HashSet<u64>, waiti
 pub fn walk(alloc: Global, names: &Names) -> Result<HashSet<u64>, NoMemory>
     requires ordered { IsOrdered names.now }
     requires named { AreNamed names.now.files.now names.now.entries.now names.now.dirs.now }
-    ensures { IfOk result (λ reached. IsWalked names.now reached.keys) }
+    ensures walked { IfOk result (λ reached. IsWalked names.now reached.keys) }
+    ensures ways { IfOk result (λ _. HasShortWays names.now) }
 {
     let mut reached = HashSet::new(alloc);
     let mut waiting = Vec::new(alloc);
     reached.insert(names.root)?;
     waiting.push(names.root)?;
     while let Some(dir) = waiting.pop() {
-        mark_named(names, run_of(names.entries, dir), &mut reached, &mut waiting)?;
+        mark_named(
+            names,
+            run_of(names.entries, dir),
+            &mut reached,
+            &mut waiting,
+        )?;
     }
     Ok(reached)
 }

@@ -1,19 +1,26 @@
-use Rattle.std.proofs.Common.{List, sym, subst, ◌∙◌}
+use Rattle.std.proofs.Common.{sym, subst, ◌∙◌}
 use Rattle.std.proofs.lemmas.Result.{IfOk-weaker}
-use Rattle.std.specs.List.Sorted.{IsNonDecreasingBy}
-use Rattle.xfs_naming.specs.declared.runs.Link.{Link}
 use Rattle.xfs_naming.specs.Ordered.{AreOrdered}
 use Rattle.xfs_naming.proofs.Order.{ordered}
 use Rattle.xfs_naming.proofs.Worded.{lawful_names}
+use Rattle.xfs_naming.proofs.Judged.{judged_names}
 use Rattle.xfs_naming.proofs.checks.check_names.Goals as goal
+
+pub walk-requires-clause-ordered : goal.walk-requires-clause-ordered
+walk-requires-clause-ordered c =
+    subst (AreOrdered c.args.root c.args.files.now c.args.entries.now c.args.dirs.now) (sym c.as_slice.ensures.value)
+    (ordered c.args.root c.args.files.now c.args.entries.now c.args.dirs.now c.in_ok-links.links.items c.requires.named c.requires.low c.in_ok-links.ensures.rise c.in_ok-links.ensures.linked)
 
 pub first_law-requires-clause-ordered : goal.first_law-requires-clause-ordered
 first_law-requires-clause-ordered c =
     subst (AreOrdered c.args.root c.args.files.now c.args.entries.now c.args.dirs.now) (sym c.as_slice.ensures.value)
-      (ordered c.args.root c.args.files.now c.args.entries.now c.args.dirs.now c.in_ok-links.links.items c.requires.named c.requires.low c.in_ok-links.ensures.rise c.in_ok-links.ensures.linked)
+    (ordered c.args.root c.args.files.now c.args.entries.now c.args.dirs.now c.in_ok-links.links.items c.requires.named c.requires.low c.in_ok-links.ensures.rise c.in_ok-links.ensures.linked)
 
 pub returns-clause-lawful : goal.returns-clause-lawful
 returns-clause-lawful c =
     IfOk-weaker c.first_law.result _ _
-      (λ law is none. lawful_names c.args.root c.args.files.now c.args.entries.now c.args.dirs.now c.requires.named (sym is ∙ none))
-      c.first_law.ensures
+    (λ law is. (
+      (λ none. lawful_names c.args.root c.args.files.now c.args.entries.now c.args.dirs.now c.requires.named (sym is ∙ none)),
+      (λ says. is ∙ judged_names c.args.root c.args.files.now c.args.entries.now c.args.dirs.now c.requires.named c.in_ok-reached.ensures.ways says),
+    ))
+    c.first_law.ensures

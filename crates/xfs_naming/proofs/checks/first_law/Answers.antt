@@ -1,4 +1,4 @@
-use Rattle.std.proofs.Common.{◌≡◌, ◌++◌, List, Option, sym, ◌∙◌, subst, IfOk}
+use Rattle.std.proofs.Common.{◌≡◌, ◌++◌, Option, sym, ◌∙◌, subst, IfOk}
 use Rattle.xfs_volume.specs.declared.findings.Law.{Law}
 use Rattle.xfs_volume.specs.Laws.{first_broken}
 use Rattle.xfs_naming.specs.Naming.{naming_laws, directory_laws, place_laws, link_laws}

@@ -1,4 +1,4 @@
-use Rattle.std.proofs.Common.{◌≡◌, ℕ, ◌==◌, ◌<◌, ◌≤◌, Bool, true, false, length, drop, map, ap, sym, ◌∙◌, rules, arith}
+use Rattle.std.proofs.Common.{ℕ, rules, arith}
 use Rattle.xfs_naming.specs.Naming.{links_at, file_at}
 use Rattle.xfs_naming.proofs.Broken.{broken_step, broken_found, broken_end}
 use Rattle.xfs_naming.proofs.counts.broken_links.Goals as goal

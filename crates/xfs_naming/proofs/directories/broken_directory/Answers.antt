@@ -1,5 +1,4 @@
-use Rattle.std.proofs.Common.{◌≡◌, ℕ, ◌==◌, ◌<◌, ◌≤◌, Bool, true, false, length, drop, map, ap, sym, ◌∙◌, rules, arith}
-use Rattle.xfs_volume.specs.Laws.{first_broken}
+use Rattle.std.proofs.Common.{rules, arith}
 use Rattle.xfs_naming.specs.Naming.{directory_at, directory_laws}
 use Rattle.xfs_naming.proofs.Broken.{broken_step, broken_found, broken_end}
 use Rattle.xfs_naming.proofs.directories.broken_directory.Goals as goal

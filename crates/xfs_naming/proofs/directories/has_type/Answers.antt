@@ -1,9 +1,8 @@
-use Rattle.std.proofs.Common.{◌≡◌, ℕ, Bool, ◌==◌, ◌&&◌, ◌||◌, false, rules, not, length, filter, List, ap, sym, ◌∙◌}
-use Rattle.std.specs.List.{list_any, slice_get}
-use Rattle.xfs_volume.specs.Names.{type_of, is_directory, entry_type}
+use Rattle.std.proofs.Common.{◌≡◌, Bool, ◌==◌, ◌&&◌, ◌||◌, false, rules, ap, sym, ◌∙◌}
+use Rattle.std.specs.List.{list_any}
+use Rattle.xfs_volume.specs.Names.{type_of, entry_type}
 use Rattle.xfs_volume.specs.declared.files.FileRec.{FileRec}
-use Rattle.xfs_volume.specs.declared.directories.DirRec.{DirRec}
-use Rattle.xfs_naming.proofs.Chosen.{any_of_run, any_in_run, first_of_run}
+use Rattle.xfs_naming.proofs.Chosen.{any_of_run}
 use Rattle.xfs_naming.proofs.directories.has_type.Goals as goal
 
 pub returns-else-entry-eq0 : goal.returns-else-entry-eq0

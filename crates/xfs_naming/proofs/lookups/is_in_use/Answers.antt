@@ -1,9 +1,6 @@
-use Rattle.std.proofs.Common.{◌≡◌, ℕ, Bool, ◌==◌, not, length, filter, List, ap, sym, ◌∙◌}
-use Rattle.std.specs.List.{list_any, slice_get}
-use Rattle.xfs_volume.specs.Names.{type_of, is_directory, entry_type}
+use Rattle.std.proofs.Common.{◌==◌, not, length, List, ap, ◌∙◌}
 use Rattle.xfs_volume.specs.declared.files.FileRec.{FileRec}
-use Rattle.xfs_volume.specs.declared.directories.DirRec.{DirRec}
-use Rattle.xfs_naming.proofs.Chosen.{any_of_run, any_in_run, first_of_run}
+use Rattle.xfs_naming.proofs.Chosen.{any_in_run}
 use Rattle.xfs_naming.proofs.lookups.is_in_use.Goals as goal
 
 pub returns : goal.returns

@@ -1,10 +1,7 @@
-use Rattle.std.proofs.Common.{◌≡◌, ℕ, Bool, true, List, take, Bor}
-use Rattle.std.specs.HashSet.{HashSet, contains}
-use Rattle.std.specs.List.{list_any}
+use Rattle.std.proofs.Common.{ℕ, List, Bor}
+use Rattle.std.specs.HashSet.{contains}
 use Rattle.std.specs.Str.{bytes_eq}
-use Rattle.xfs_dirdata.specs.declared.records.EntryRec.{EntryRec}
 use Rattle.xfs_naming.proofs.Different.{HasSeen}
-use Rattle.xfs_naming.specs.Naming.{names_differ}
 use Rattle.xfs_naming.proofs.texts.are_different.Given as goal
 
 abbrev pub invariant-loop-entry : goal.invariant-loop-entry

@@ -1,4 +1,4 @@
-use Rattle.std.proofs.Common.{ℕ, ◌+◌, ◌-◌, length}
+use Rattle.std.proofs.Common.{◌+◌, ◌-◌, length}
 use Rattle.xfs_naming.specs.Walking.{IsWalking}
 use Rattle.xfs_naming.proofs.walks.walk.Given as goal
 
