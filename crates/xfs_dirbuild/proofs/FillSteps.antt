@@ -1,0 +1,90 @@
+-- One data block more is filled.
+use Rattle.std.proofs.Common.{◌≡◌, ℕ, ◌+◌, ◌*◌, ◌<◌, ◌≤◌, inl, inr, List, [], ◌∷◌, ◌++◌, map, length, take, drop, get_or, sym, ◌∙◌, ap, ap₂, subst, arith, add-zero}
+use Rattle.std.specs.List.{All}
+use Rattle.std.proofs.lemmas.List.{drop-drop, drop_all, length-drop, get_or-drop, take_more, append_assoc, map-append}
+use Rattle.std.proofs.lemmas.List.Elements.{All-head, All-tail}
+use Rattle.std.proofs.lemmas.Bool.{cases_lt}
+use Rattle.xfs_dirdata.specs.declared.records.EntryRec.{EntryRec}
+use Rattle.xfs_dirdata.specs.Written.{IsWritable, data_size_of, offsets}
+use Rattle.xfs_dirindex.specs.declared.pairs.Pair.{Pair}
+use Rattle.xfs_dirindex.specs.Data.{due_pairs}
+use Rattle.xfs_dirbuild.specs.Forms.{data_count}
+use Rattle.xfs_dirbuild.specs.Filling.{filled, shares, pairs_from, rest_in}
+use Rattle.xfs_dirbuild.specs.Placed.{IsDataBlock}
+use Rattle.xfs_dirbuild.proofs.Filled.{later, later-some, count-fits, count-full}
+
+pub left-on : (ss : List (List EntryRec)) (n : ℕ) (x : List EntryRec) (rest : List (List EntryRec)) → drop n ss ≡ x ∷ rest → drop (n + 1) ss ≡ rest
+left-on ss n x rest at = sym (drop-drop 1 n ss) ∙ ap (drop 1) at
+
+pub room-on : (ss : List (List EntryRec)) (n : ℕ) (x : List EntryRec) (rest : List (List EntryRec)) → drop n ss ≡ x ∷ rest → n + 1 ≤ length ss
+room-on ss n x rest at =
+    let long : length (drop n ss) ≡ length (x ∷ rest) = ap length at in
+    omega (arith, long, length-drop n ss)
+
+there-on : (ss : List (List EntryRec)) (n : ℕ) (x : List EntryRec) (rest : List (List EntryRec)) → drop n ss ≡ x ∷ rest → get_or ss n [] ≡ x
+there-on ss n x rest at =
+    ap (λ (k : ℕ). get_or ss k []) (sym (add-zero n)) ∙ (sym (get_or-drop n ss 0 []) ∙ ap (λ (xs : List (List EntryRec)). get_or xs 0 []) at)
+
+pub pairs-on : (ss : List (List EntryRec)) (n : ℕ) (x : List EntryRec) (rest : List (List EntryRec)) (old new whole : List Pair) → drop n ss ≡ x ∷ rest
+    → new ≡ old ++ due_pairs n x (offsets 64 x) → old ++ pairs_from n (drop n ss) ≡ whole → new ++ pairs_from (n + 1) (drop (n + 1) ss) ≡ whole
+pairs-on ss n x rest old new whole at made leads =
+    ap₂ (λ (ps : List Pair) (xs : List (List EntryRec)). ps ++ pairs_from (n + 1) xs) made (left-on ss n x rest at)
+    ∙ (append_assoc old (due_pairs n x (offsets 64 x)) (pairs_from (n + 1) rest)
+    ∙ (ap (λ (xs : List (List EntryRec)). old ++ pairs_from n xs) (sym at) ∙ leads))
+
+pub rests-on : (ss : List (List EntryRec)) (n : ℕ) (x : List EntryRec) (rest : List (List EntryRec)) (old new : List ℕ) → drop n ss ≡ x ∷ rest
+    → new ≡ old ++ rest_in x ∷ [] → old ≡ map rest_in (take n ss) → new ≡ map rest_in (take (n + 1) ss)
+rests-on ss n x rest old new at made were =
+    let room = room-on ss n x rest at in
+    made ∙ (ap₂ (λ (xs : List ℕ) (y : List EntryRec). xs ++ rest_in y ∷ []) were (sym (there-on ss n x rest at))
+    ∙ (sym (map-append rest_in (take n ss) (get_or ss n [] ∷ [])) ∙ ap (map rest_in) (sym (take_more ss n [] (omega arith)))))
+
+pub blocks-on : (ss : List (List EntryRec)) (n : ℕ) (x : List EntryRec) (rest : List (List EntryRec)) (old new : List (List ℕ)) → drop n ss ≡ x ∷ rest
+    → ((k : ℕ) → k < n → IsDataBlock (get_or ss k []) (get_or old k [])) → ((k : ℕ) → k < n → get_or new k [] ≡ get_or old k [])
+    → IsDataBlock x (get_or new n []) → (k : ℕ) → k < n + 1 → IsDataBlock (get_or ss k []) (get_or new k [])
+blocks-on ss n x rest old new at were same here k less =
+    elim (cases_lt k n) [
+      | inl before ↦ subst (λ (b : List ℕ). IsDataBlock (get_or ss k []) b) (sym (same k before)) (were k before)
+      | inr behind ↦
+          let last : n ≡ k = omega arith in
+          subst (λ (m : ℕ). IsDataBlock (get_or ss m []) (get_or new m [])) last
+          (subst (λ (es : List EntryRec). IsDataBlock es (get_or new n [])) (sym (there-on ss n x rest at)) here)
+    ]
+
+-- all blocks are filled
+pub all-done : (ss : List (List EntryRec)) (n start : ℕ) (es : List EntryRec) → drop n ss ≡ later (drop start es) → length es ≤ start → n ≤ length ss → n ≡ length ss
+all-done ss n start es left past within =
+    let none : drop n ss ≡ [] = left ∙ ap later (drop_all start es past) in
+    let long : length (drop n ss) ≡ 0 = ap length none in
+    omega (arith, long, length-drop n ss)
+
+-- one more is to be filled
+pub next-block : (ss : List (List EntryRec)) (n start : ℕ) (es : List EntryRec) → drop n ss ≡ later (drop start es) → start < length es → n < length ss
+next-block ss n start es left before =
+    let some : 1 ≤ length (drop start es) = omega (arith, length-drop start es) in
+    let long : length (drop n ss) ≡ length (later (drop start es)) = ap length left in
+    omega (arith, long, later-some (drop start es) some, length-drop n ss)
+
+-- how many blocks there are
+pub shares-count : (dir parent : ℕ) (es : List EntryRec) → length (shares dir parent es) ≡ data_count es
+unfolding data_count
+shares-count dir parent es =
+    let one : EntryRec = record { dir = dir; name = 46 ∷ []; ino = dir; ftype = 2 } in
+    let two : EntryRec = record { dir = dir; name = 46 ∷ 46 ∷ []; ino = parent; ftype = 2 } in
+    count-fits 64 one (two ∷ es) (omega arith) ∙ count-fits 80 two es (omega arith)
+
+filled-bound : (at : ℕ) (es : List EntryRec) → All IsWritable es → 3760 * length (filled at es) ≤ at + 272 * length es + 3760
+unfolding filled
+filled-bound at [] all = omega arith
+filled-bound at (e ∷ es) all =
+    let writable = All-head IsWritable e es all in
+    let name : length e.name < 256 = writable.name in
+    let rest = All-tail IsWritable e es all in
+    elim (cases_lt 4096 (at + data_size_of e)) [
+      | inl full ↦ let one = count-full at e es full in let more = filled-bound (64 + data_size_of e) es rest in omega (arith, one, more, name, full)
+      | inr fits ↦ let one = count-fits at e es fits in let more = filled-bound (at + data_size_of e) es rest in omega (arith, one, more, name, fits)
+    ]
+
+pub data_count-bound : (es : List EntryRec) → All IsWritable es → length es ≤ 16777216 → data_count es ≤ 0x800000
+unfolding data_count
+data_count-bound es all few = omega (arith, filled-bound 96 es all)

@@ -1,0 +1,77 @@
+-- One block more of a row is written.
+use Rattle.std.proofs.Common.{◌≡◌, ℕ, ◌+◌, ◌-◌, ◌*◌, ◌<◌, ◌≤◌, inr, true, false, List, [], ◌∷◌, ◌++◌, length, take, drop, get_or, sym, ◌∙◌, ap, subst, arith}
+use Rattle.std.specs.List.{All}
+use Rattle.std.proofs.Math.Seq.{take-add}
+use Rattle.std.proofs.lemmas.List.{length-take-le, length-drop}
+use Rattle.std.proofs.lemmas.Bool.Decides.{nat_tests}
+use Rattle.xfs_word.specs.Field.{field_of}
+use Rattle.xfs_word.proofs.Written.{keeps}
+use Rattle.xfs_dirindex.specs.declared.pairs.Pair.{Pair}
+use Rattle.xfs_dirindex.specs.Mapped.{Mapped}
+use Rattle.xfs_dirindex.specs.Lookup.{bytes_of}
+use Rattle.xfs_dirindex.specs.IndexTree.{next_of, is_member, are_members, pairs_below}
+use Rattle.xfs_dirbuild.specs.Index.{IsPointer, IsIndexBlock, before_at, next_at, share_of, first_of, IsPlaced, Holds}
+use Rattle.xfs_dirbuild.proofs.Shares.{share_inside}
+use Rattle.xfs_dirbuild.proofs.Rows.{index-placed, member, members-more, below-more}
+
+-- how long a share is
+pub share-long : (pairs : List Pair) (m i start share : ℕ) → start ≡ first_of (length pairs) m i → share ≡ share_of (length pairs) m i → i < m
+    → length (take (start + share - start) (drop start pairs)) ≡ share
+share-long pairs m i start share start_is share_is inside =
+    let room = share_inside (length pairs) m i inside in
+    let width : start + share - start ≡ share = omega arith in
+    ap (λ (n : ℕ). length (take n (drop start pairs))) width
+    ∙ length-take-le share (drop start pairs) (omega (arith, length-drop start pairs, room, start_is, share_is))
+
+-- what is known of a block of the row as it was written
+pub record IsWritten (level before next first i share : ℕ) (part : List Pair) (x : Pair) (block : List ℕ) : Type 0 where
+  pub pointers : All IsPointer part
+  pub some : 1 ≤ length part
+  pub most : length part ≤ 504
+  pub long : length part ≡ share
+  pub stands : IsIndexBlock level before next part block
+  pub hash : x.hash ≡ field_of block (56 + 8 * share) 4
+  pub address : x.address ≡ 0x800000 + (first + i)
+
+-- and what of it wherever it stands
+pub record IsSeen (ms : List Mapped) (level before next : ℕ) (part : List Pair) (x : Pair) : Type 0 where
+  pub one : is_member ms false level before x next ≡ true
+  pub stands : IsIndexBlock level before next part (bytes_of ms x.address)
+
+pub seen : (ms : List Mapped) (bank : List (List ℕ)) (base first i level before next share : ℕ) (part : List Pair) (x : Pair) (block : List ℕ)
+    → IsWritten level before next first i share part x block → get_or bank (base + first + i) [] ≡ block → Holds ms bank base first (i + 1)
+    → IsSeen ms level before next part x
+seen ms bank base first i level before next share part x block was put holds =
+    let place : 0x800000 + first + i ≡ x.address = omega (arith, was.address) in
+    let there : IsPlaced 12 (get_or bank (base + first + i) []) (bytes_of ms (0x800000 + first + i)) = holds.each i (omega arith) in
+    let placed : IsPlaced 12 block (bytes_of ms x.address) =
+    subst (λ (n : ℕ). IsPlaced 12 block (bytes_of ms n)) place (subst (λ (b : List ℕ). IsPlaced 12 b (bytes_of ms (0x800000 + first + i))) put there) in
+    let stands = index-placed level before next part block (bytes_of ms x.address) was.stands placed in
+    let hash : x.hash ≡ field_of (bytes_of ms x.address) (56 + 8 * length part) 4 =
+    was.hash ∙ (sym (keeps block (bytes_of ms x.address) 12 44 placed.same (56 + 8 * share) 4 (inr (omega arith)))
+    ∙ ap (λ (n : ℕ). field_of (bytes_of ms x.address) (56 + 8 * n) 4) (sym was.long)) in
+    record {
+      one = member ms level before next x part was.pointers was.some was.most placed.long stands hash;
+      stands = stands;
+    }
+
+-- the row goes on
+pub row-members : (ms : List Mapped) (level before next first count i : ℕ) (part links rest : List Pair) (x : Pair) → IsSeen ms level before next part x
+    → i < count → before ≡ before_at first i → next ≡ next_at first count (i + 1) → x.address ≡ 0x800000 + (first + i)
+    → ((more : List Pair) → next_of more ≡ next_at first count i → are_members ms false level (before_at first i) more ≡ true → are_members ms false level 0 (links ++ more) ≡ true)
+    → next_of rest ≡ next_at first count (i + 1) → are_members ms false level (before_at first (i + 1)) rest ≡ true
+    → are_members ms false level 0 ((links ++ x ∷ []) ++ rest) ≡ true
+row-members ms level before next first count i part links rest x block inside before_is next_is address leads rest_next others =
+    let here : before_at first (i + 1) ≡ x.address = grind (arith, nat_tests) in
+    let mine : x.address ≡ next_at first count i = grind (arith, nat_tests) in
+    members-more ms level before next links rest x block.one (next_is ∙ sym rest_next)
+    (subst (λ (n : ℕ). are_members ms false level n rest ≡ true) here others)
+    (λ all. leads (x ∷ rest) mine (subst (λ (n : ℕ). are_members ms false level n (x ∷ rest) ≡ true) before_is all))
+
+pub row-below : (ms : List Mapped) (level before next start share : ℕ) (pairs links : List Pair) (x : Pair)
+    → IsSeen ms level before next (take (start + share - start) (drop start pairs)) x → pairs_below ms links ≡ take start pairs
+    → pairs_below ms (links ++ x ∷ []) ≡ take (start + share) pairs
+row-below ms level before next start share pairs links x block were =
+    let width : start + share - start ≡ share = omega arith in
+    below-more ms links x level before next (take (start + share - start) (drop start pairs)) (take start pairs) (take (start + share) pairs) block.stands were
+    (take-add start share pairs ∙ ap (λ (n : ℕ). take start pairs ++ take n (drop start pairs)) (sym width))

@@ -1,0 +1,25 @@
+-- How many blocks the levels of a tree have.
+use Rattle.std.proofs.Common.{◌≡◌, ℕ, ◌+◌, ◌/◌, ◌≤◌, Bool, true, false, nat_le, if◌then◌else◌, refl, sym, ◌∙◌, ap, ap₂, arith}
+use Rattle.std.proofs.lemmas.Bool.Decides.{nat_tests}
+use Rattle.xfs_dirbuild.specs.Forms.{leaf_blocks, nodes_above, tree_count}
+
+pub total-is : (n leaves nodes tops : ℕ) → leaves ≡ leaf_blocks n → nodes ≡ nodes_above leaves → tops ≡ nodes_above nodes → tree_count n ≡ tops + nodes + leaves
+unfolding tree_count
+total-is n leaves nodes tops leaves_is nodes_is tops_is =
+    let one : nodes_above (leaf_blocks n) ≡ nodes = ap nodes_above (sym leaves_is) ∙ sym nodes_is in
+    ap₂ (λ (t k : ℕ). t + k + leaf_blocks n) (ap nodes_above one ∙ sym tops_is) one ∙ ap (λ (l : ℕ). tops + nodes + l) (sym leaves_is)
+
+-- none stands above one block alone
+pub above-none : (blocks above : ℕ) → above ≡ nodes_above blocks → above ≡ 0 → blocks ≤ 1
+above-none blocks above is none = by_test (nat_le blocks 1) refl is
+  where
+    by_test : (t : Bool) → nat_le blocks 1 ≡ t → above ≡ (if t then 0 else (blocks + 503) / 504) → blocks ≤ 1
+    by_test true small is = grind (arith, nat_tests)
+    by_test false large is = grind (arith, nat_tests)
+
+pub above-most : (blocks above : ℕ) → above ≡ nodes_above blocks → above ≤ (blocks + 503) / 504
+above-most blocks above is = by_test (nat_le blocks 1) is
+  where
+    by_test : (t : Bool) → above ≡ (if t then 0 else (blocks + 503) / 504) → above ≤ (blocks + 503) / 504
+    by_test true is = omega arith
+    by_test false is = omega arith

@@ -1,0 +1,38 @@
+use Rattle.std.proofs.Common.{◌≡◌, ℕ, ◌+◌, ◌-◌, ◌*◌, ◌<◌, inl, inr, List, [], length, take, drop, min, get_or, sym, ◌∙◌, ap, subst, arith}
+use Rattle.std.proofs.lemmas.Bool.{cases_lt}
+use Rattle.std.proofs.lemmas.List.{take_min, length-drop}
+use Rattle.xfs_dirbuild.specs.FreeBlocks.{IsFreeBlock, values_in}
+use Rattle.xfs_dirbuild.proofs.Banks.{put-there, put-beside, put-count}
+use Rattle.xfs_dirbuild.proofs.free_blocks.put_free_blocks.Goals as goal
+
+free-part : (vs : List ℕ) (i end : ℕ) → end ≡ min (2016 * i + 2016) (length vs) → take (end - 2016 * i) (drop (2016 * i) vs) ≡ values_in vs i
+free-part vs i end is =
+    let count : end - 2016 * i ≡ min 2016 (length (drop (2016 * i) vs)) = omega (arith, length-drop (2016 * i) vs) in
+    ap (λ (n : ℕ). take n (drop (2016 * i) vs)) count ∙ take_min 2016 (drop (2016 * i) vs)
+
+pub loop-i-preserved : goal.loop-i-preserved
+loop-i-preserved c =
+    let i = c.loop-i.i in
+    let vs = c.args.values.now in
+    let old = c.loop-i.blocks in
+    let new = c.put_block.new.blocks in
+    let at = c.args.base + i in
+    let block = c.put_free.new.block in
+    let is = c.put_block.ensures in
+    let part : take (c.min-end.result - 2016 * i) (drop (2016 * i) vs) ≡ values_in vs i = free-part vs i c.min-end.result (omega (arith, c.min-end.ensures)) in
+    let inside : c.args.base + i < length old = omega (arith, c.value_blocks-i-end.ensures, c.requires.room, c.loop-i.invariant.count) in
+    let here : IsFreeBlock (2016 * i) (values_in vs i) (get_or new (c.args.base + i) []) =
+    subst (λ (b : List ℕ). IsFreeBlock (2016 * i) (values_in vs i) b) (sym (put-there old new at block is inside))
+    (subst (λ (xs : List ℕ). IsFreeBlock (2016 * i) xs block) part c.put_free.ensures) in
+    record {
+      blocks_are = λ k less. elim (cases_lt k i) [
+        | inl before ↦
+            subst (λ (b : List ℕ). IsFreeBlock (2016 * k) (values_in vs k) b) (sym (put-beside old new at (c.args.base + k) block is (inl (omega arith))))
+            (c.loop-i.invariant.blocks_are k before)
+        | inr behind ↦
+            let last : i ≡ k = omega arith in
+            subst (λ (n : ℕ). IsFreeBlock (2016 * n) (values_in vs n) (get_or new (c.args.base + n) [])) last here
+      ];
+      count = put-count old new at block is ∙ c.loop-i.invariant.count;
+      others = λ k low. put-beside old new at k block is (inl (omega arith)) ∙ c.loop-i.invariant.others k low;
+    }

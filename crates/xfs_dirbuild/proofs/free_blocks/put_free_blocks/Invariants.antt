@@ -1,0 +1,10 @@
+use Rattle.std.proofs.Common.{◌≡◌, ℕ, ◌+◌, ◌*◌, ◌<◌, [], length, get_or}
+use Rattle.xfs_dirbuild.specs.FreeBlocks.{IsFreeBlock, values_in}
+use Rattle.xfs_dirbuild.proofs.free_blocks.put_free_blocks.Given as goal
+
+abbrev pub invariant-loop-i : goal.invariant-loop-i
+invariant-loop-i l = record {
+  blocks_are : (k : ℕ) → k < l.i → IsFreeBlock (2016 * k) (values_in l.values k) (get_or l.blocks (l.base + k) []);
+  count : length l.blocks ≡ length l.initial.blocks;
+  others : (k : ℕ) → k < l.base → get_or l.blocks k [] ≡ get_or l.initial.blocks k [];
+}

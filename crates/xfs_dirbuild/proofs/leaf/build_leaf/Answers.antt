@@ -1,0 +1,102 @@
+use Rattle.std.proofs.Common.{◌≡◌, ℕ, ◌+◌, ◌*◌, ◌<◌, ◌≤◌, length, map, replicate, List, [], get_or, sym, ap, ◌∙◌, subst, inl, arith}
+use Rattle.std.specs.List.Sorted.{IsPermutation}
+use Rattle.std.proofs.lemmas.List.{length-map, length-replicate}
+use Rattle.std.proofs.lemmas.Bool.{leb-true}
+use Rattle.xfs_dirindex.specs.declared.pairs.Pair.{Pair}
+use Rattle.xfs_dirbuild.specs.Forms.{fits_leaf, data_count}
+use Rattle.xfs_dirbuild.specs.Filling.{shares, rest_in}
+use Rattle.xfs_dirbuild.specs.Index.{IsLeafBlock, IsIndexed}
+use Rattle.xfs_dirbuild.specs.Placed.{IsDataBlock}
+use Rattle.xfs_dirbuild.proofs.Banks.{put-there, put-beside, put-count}
+use Rattle.xfs_dirbuild.proofs.FillSteps.{shares-count, data_count-bound}
+use Rattle.xfs_dirbuild.proofs.Magics.{indexed, data-magic}
+use Rattle.xfs_dirbuild.proofs.WholeLeaf.{whole-leaf}
+use Rattle.xfs_dirbuild.proofs.leaf.build_leaf.Goals as goal
+
+pub fill_blocks-requires-clause-room : goal.fill_blocks-requires-clause-room
+fill_blocks-requires-clause-room c =
+    let made : length c.in_ok-blocks.blocks ≡ c.data_count-data.result + 1 =
+    ap length c.in_ok-blocks.ensures ∙ length-replicate (c.data_count-data.result + 1) (replicate 4096 0) in
+    omega (arith, shares-count c.args.dir c.args.parent c.args.entries.now, c.data_count-data.ensures.value, made)
+
+pub fill_blocks-requires-clause-low : goal.fill_blocks-requires-clause-low
+fill_blocks-requires-clause-low c =
+    omega (arith, shares-count c.args.dir c.args.parent c.args.entries.now, data_count-bound c.args.entries.now c.requires.writable c.requires.few)
+
+pub put_leaf-requires-clause-fit : goal.put_leaf-requires-clause-fit
+unfolding fits_leaf
+put_leaf-requires-clause-fit c =
+    let ss = shares c.args.dir c.args.parent c.args.entries.now in
+    let fits : 64 + 8 * (length c.args.entries.now + 2) + 2 * data_count c.args.entries.now + 4 ≤ 4096 = leb-true _ _ c.requires.fits in
+    omega (
+      arith,
+      fits,
+      shares-count c.args.dir c.args.parent c.args.entries.now,
+      length-map ss rest_in,
+      ap length c.in_ok-stated.ensures.rests,
+      c.in_ok-stated.ensures.added,
+      c.in_ok-sort_pairs.ensures.count,
+      ap length c.deref.ensures.value,
+      ap length c.deref-2.ensures.value,
+    )
+
+pub returns-clause-whole : goal.returns-clause-whole
+unfolding fits_leaf
+returns-clause-whole c =
+    λ placed are.
+    let es = c.args.entries.now in
+    let ss = shares c.args.dir c.args.parent es in
+    let d = c.data_count-data.result in
+    let old = c.fill_blocks.new.blocks in
+    let new = c.put_block.new.blocks in
+    let block = c.put_leaf.new.block in
+    let pairs = c.sort_pairs.new.pairs.items in
+    let is = c.put_block.ensures in
+    let value : c.data_count-data.result ≡ data_count c.args.entries.now = c.data_count-data.ensures.value in
+    let count = shares-count c.args.dir c.args.parent es in
+    let made : length c.in_ok-blocks.blocks ≡ c.data_count-data.result + 1 =
+    ap length c.in_ok-blocks.ensures ∙ length-replicate (c.data_count-data.result + 1) (replicate 4096 0) in
+    let old_long : length c.fill_blocks.new.blocks ≡ c.data_count-data.result + 1 = c.in_ok-stated.ensures.count ∙ made in
+    let new_long : length c.put_block.new.blocks ≡ c.data_count-data.result + 1 = put-count old new d block is ∙ old_long in
+    let rests : c.deref-2.result.now ≡ map rest_in ss = c.deref-2.ensures.value ∙ c.in_ok-stated.ensures.rests in
+    let leaf : IsLeafBlock pairs (map rest_in ss) (get_or new (data_count es) []) =
+    subst (λ (b : List ℕ). IsLeafBlock pairs (map rest_in ss) b) (sym (ap (λ (n : ℕ). get_or new n []) (sym value) ∙ put-there old new d block is (omega (arith, old_long))))
+    (subst (λ (vs : List ℕ). IsLeafBlock pairs vs block) rests (subst (λ (ps : List Pair). IsLeafBlock ps c.deref-2.result.now block) c.deref.ensures.value c.put_leaf.ensures)) in
+    let fits : 64 + 8 * (length c.args.entries.now + 2) + 2 * data_count c.args.entries.now + 4 ≤ 4096 = leb-true _ _ c.requires.fits in
+    let fit : 64 + 8 * length pairs + 2 * length (map rest_in ss) + 4 ≤ 4096 =
+    omega (arith, fits, count, length-map ss rest_in, c.in_ok-stated.ensures.added, c.in_ok-sort_pairs.ensures.count) in
+    let long : length c.put_block.new.blocks ≡ data_count es + 1 = omega (arith, new_long, value) in
+    whole-leaf c.args.dir c.args.parent (data_count es) es new placed pairs c.requires.names (sym count)
+    (data_count-bound es c.requires.writable c.requires.few) long
+    (λ k less.
+    let low : k < c.data_count-data.result = omega (arith, value) in
+    let inside : k < length ss = omega (arith, count) in
+    subst (λ (b : List ℕ). IsDataBlock (get_or ss k []) b) (sym (put-beside old new d k block is (inl low))) (c.in_ok-stated.ensures.blocks k inside))
+    leaf fit
+    (subst (λ (ps : List Pair). IsPermutation ps pairs) c.in_ok-stated.ensures.pairs c.in_ok-sort_pairs.ensures.moved)
+    c.in_ok-sort_pairs.ensures.ranked c.in_ok-sort_pairs.ensures.sound are
+
+pub returns-clause-magics : goal.returns-clause-magics
+returns-clause-magics c =
+    let ss = shares c.args.dir c.args.parent c.args.entries.now in
+    let d = c.data_count-data.result in
+    let old = c.fill_blocks.new.blocks in
+    let new = c.put_block.new.blocks in
+    let block = c.put_leaf.new.block in
+    let is = c.put_block.ensures in
+    let value : c.data_count-data.result ≡ data_count c.args.entries.now = c.data_count-data.ensures.value in
+    let count = shares-count c.args.dir c.args.parent c.args.entries.now in
+    let made : length c.in_ok-blocks.blocks ≡ c.data_count-data.result + 1 =
+    ap length c.in_ok-blocks.ensures ∙ length-replicate (c.data_count-data.result + 1) (replicate 4096 0) in
+    let inside : c.data_count-data.result < length c.fill_blocks.new.blocks = omega (arith, c.in_ok-stated.ensures.count, made) in
+    record {
+      data_blocks = λ k less.
+          let low : k < c.data_count-data.result = omega (arith, value) in
+          data-magic (get_or new k []) (subst (λ (b : List ℕ). IsDataBlock (get_or ss k []) b) (sym (put-beside old new d k block is (inl low)))
+          (c.in_ok-stated.ensures.blocks k (omega (arith, count)))).magic;
+      index_blocks = λ k less.
+          let place : c.data_count-data.result ≡ data_count c.args.entries.now + k = omega (arith, value) in
+          subst (λ (n : ℕ). IsIndexed (get_or new n [])) place
+          (subst (λ (b : List ℕ). IsIndexed b) (sym (put-there old new d block is inside)) (indexed block 0 c.put_leaf.ensures.forw (omega arith)));
+      free_blocks = λ k less. absurd (omega arith);
+    }

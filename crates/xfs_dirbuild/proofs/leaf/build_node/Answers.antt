@@ -1,0 +1,151 @@
+use Rattle.std.proofs.Common.{◌≡◌, ℕ, ◌+◌, ◌*◌, ◌<◌, ◌≤◌, length, map, replicate, List, [], get_or, refl, sym, ap, ◌∙◌, subst, arith}
+use Rattle.std.specs.List.Sorted.{IsPermutation}
+use Rattle.std.proofs.lemmas.List.{length-replicate, length-map}
+use Rattle.xfs_dirindex.specs.declared.pairs.Pair.{Pair}
+use Rattle.xfs_dirbuild.specs.Forms.{data_count, tree_count, value_blocks, nodes_above, leaf_blocks}
+use Rattle.xfs_dirbuild.specs.Filling.{shares, rest_in}
+use Rattle.xfs_dirbuild.specs.Index.{IsIndexed, Holds, IsTreeOf}
+use Rattle.xfs_dirbuild.specs.FreeBlocks.{IsFreeBlock, values_in}
+use Rattle.xfs_dirbuild.specs.Placed.{IsDataBlock}
+use Rattle.xfs_dirbuild.proofs.Rows.{holds-part}
+use Rattle.xfs_dirbuild.proofs.TreeCounts.{total-is, above-most}
+use Rattle.xfs_dirbuild.proofs.FillSteps.{shares-count, data_count-bound}
+use Rattle.xfs_dirbuild.proofs.Magics.{data-magic, free-magic}
+use Rattle.xfs_dirbuild.proofs.WholeNode.{whole-node}
+use Rattle.xfs_dirbuild.proofs.leaf.build_node.Goals as goal
+
+pub fill_blocks-requires-clause-room : goal.fill_blocks-requires-clause-room
+fill_blocks-requires-clause-room c =
+    let all = c.data_count-data.result + c.tree_count-index.result + c.value_blocks.result in
+    let made : length c.in_ok-blocks.blocks ≡ c.data_count-data.result + c.tree_count-index.result + c.value_blocks.result =
+    ap length c.in_ok-blocks.ensures ∙ length-replicate all (replicate 4096 0) in
+    omega (arith, shares-count c.args.dir c.args.parent c.args.entries.now, c.data_count-data.ensures.value, made)
+
+pub fill_blocks-requires-clause-low : goal.fill_blocks-requires-clause-low
+fill_blocks-requires-clause-low c =
+    omega (arith, shares-count c.args.dir c.args.parent c.args.entries.now, data_count-bound c.args.entries.now c.requires.writable c.requires.few)
+
+pub put_free_blocks-requires-clause-few : goal.put_free_blocks-requires-clause-few
+put_free_blocks-requires-clause-few c =
+    omega (
+      arith,
+      shares-count c.args.dir c.args.parent c.args.entries.now,
+      data_count-bound c.args.entries.now c.requires.writable c.requires.few,
+      length-map (shares c.args.dir c.args.parent c.args.entries.now) rest_in,
+      ap length c.in_ok-stated.ensures.rests,
+      ap length c.deref-2.ensures.value,
+    )
+
+pub put_free_blocks-requires-clause-room : goal.put_free_blocks-requires-clause-room
+put_free_blocks-requires-clause-room c =
+    let all = c.data_count-data.result + c.tree_count-index.result + c.value_blocks.result in
+    let made : length c.in_ok-blocks.blocks ≡ c.data_count-data.result + c.tree_count-index.result + c.value_blocks.result =
+    ap length c.in_ok-blocks.ensures ∙ length-replicate all (replicate 4096 0) in
+    let values : length c.deref-2.result.now ≡ c.data_count-data.result =
+    omega (
+      arith,
+      shares-count c.args.dir c.args.parent c.args.entries.now,
+      c.data_count-data.ensures.value,
+      length-map (shares c.args.dir c.args.parent c.args.entries.now) rest_in,
+      ap length c.in_ok-stated.ensures.rests,
+      ap length c.deref-2.ensures.value,
+    ) in
+    let blocks : value_blocks (length c.deref-2.result.now) ≡ c.value_blocks.result = ap value_blocks values ∙ sym c.value_blocks.ensures in
+    omega (arith, made, blocks, c.in_ok-stated.ensures.count, c.in_ok-put_tree.ensures.count)
+
+tree-small : (n : ℕ) → n ≤ 16777218 → tree_count n ≤ 0x800000
+tree-small n few =
+    let leaves = leaf_blocks n in
+    let nodes = nodes_above leaves in
+    let tops = nodes_above nodes in
+    let all = total-is n leaves nodes tops refl refl refl in
+    let one = above-most leaves nodes refl in
+    let two = above-most nodes tops refl in
+    let low : leaf_blocks n ≤ 40000 = omega arith in
+    let middle : nodes_above (leaf_blocks n) ≤ 40000 = omega (arith, one, low) in
+    let high : nodes_above (nodes_above (leaf_blocks n)) ≤ 40000 = omega (arith, two, middle) in
+    omega (arith, all, low, middle, high)
+
+pub returns-clause-whole : goal.returns-clause-whole
+unfolding value_blocks
+returns-clause-whole c =
+    λ placed are.
+    let es = c.args.entries.now in
+    let n = length c.args.entries.now + 2 in
+    let ss = shares c.args.dir c.args.parent es in
+    let filled = c.fill_blocks.new.blocks in
+    let treed = c.put_tree.new.blocks in
+    let new = c.put_free_blocks.new.blocks in
+    let pairs = c.sort_pairs.new.pairs.items in
+    let value : c.data_count-data.result ≡ data_count c.args.entries.now = c.data_count-data.ensures.value in
+    let count = shares-count c.args.dir c.args.parent es in
+    let index : c.tree_count-index.result ≡ tree_count (length c.args.entries.now + 2) = c.tree_count-index.ensures in
+    let all = c.data_count-data.result + c.tree_count-index.result + c.value_blocks.result in
+    let made : length c.in_ok-blocks.blocks ≡ c.data_count-data.result + c.tree_count-index.result + c.value_blocks.result =
+    ap length c.in_ok-blocks.ensures ∙ length-replicate all (replicate 4096 0) in
+    let frees : c.value_blocks.result ≡ value_blocks (data_count c.args.entries.now) = c.value_blocks.ensures ∙ ap value_blocks value in
+    let new_long : length c.put_free_blocks.new.blocks ≡ data_count es + tree_count (length c.args.entries.now + 2) + value_blocks (data_count es) =
+    c.put_free_blocks.ensures.count ∙ (c.in_ok-put_tree.ensures.count ∙ (c.in_ok-stated.ensures.count ∙ (made ∙ omega (arith, value, index, frees)))) in
+    let rests : c.deref-2.result.now ≡ map rest_in ss = c.deref-2.ensures.value ∙ c.in_ok-stated.ensures.rests in
+    let deref : c.deref.result.now ≡ c.sort_pairs.new.pairs.items = c.deref.ensures.value in
+    let pairs_long : length c.sort_pairs.new.pairs.items ≡ length c.args.entries.now + 2 = omega (arith, c.in_ok-stated.ensures.added, c.in_ok-sort_pairs.ensures.count) in
+    let size : tree_count (length c.deref.result.now) ≡ tree_count (length c.args.entries.now + 2) = ap tree_count (ap length deref ∙ pairs_long) in
+    let values_long : length c.deref-2.result.now ≡ data_count es = ap length rests ∙ (length-map ss rest_in ∙ count) in
+    let small = data_count-bound es c.requires.writable c.requires.few in
+    whole-node c.args.dir c.args.parent (data_count es) (tree_count (length c.args.entries.now + 2)) (value_blocks (data_count es)) es new placed pairs c.requires.names (sym count)
+    small (tree-small (length c.args.entries.now + 2) (omega (arith, c.requires.few))) refl new_long
+    (λ k less.
+    let inside : k < length ss = omega (arith, count) in
+    let low : k < c.data_count-data.result + c.tree_count-index.result = omega (arith, value) in
+    let front : k < c.data_count-data.result = omega (arith, value) in
+    subst (λ (b : List ℕ). IsDataBlock (get_or ss k []) b) (sym (c.put_free_blocks.ensures.others k low ∙ c.in_ok-put_tree.ensures.others k front))
+    (c.in_ok-stated.ensures.blocks k inside))
+    (λ ms holds.
+    let mine : Holds ms treed c.data_count-data.result 0 (tree_count (length c.deref.result.now)) =
+    subst (λ (t : ℕ). Holds ms treed c.data_count-data.result 0 t) (sym size)
+    (subst (λ (b : ℕ). Holds ms treed b 0 (tree_count (length c.args.entries.now + 2))) (sym value)
+    (holds-part ms treed new (data_count es) 0 (tree_count (length c.args.entries.now + 2)) 0 (tree_count (length c.args.entries.now + 2)) holds (omega arith) (omega arith)
+    (λ k less. c.put_free_blocks.ensures.others (data_count es + 0 + k) (omega (arith, value, index))))) in
+    subst (λ (ps : List Pair). IsTreeOf ms (tree_count (length c.args.entries.now + 2)) ps) deref
+    (subst (λ (t : ℕ). IsTreeOf ms t c.deref.result.now) size (c.in_ok-put_tree.ensures.tree ms mine)))
+    (λ k less.
+    let blocks : value_blocks (length c.deref-2.result.now) ≡ value_blocks (data_count es) = ap value_blocks values_long in
+    let inside : k < value_blocks (length c.deref-2.result.now) = omega (arith, blocks) in
+    let place : c.data_count-data.result + c.tree_count-index.result + k ≡ data_count es + tree_count (length c.args.entries.now + 2) + k = omega (arith, value, index) in
+    subst (λ (p : ℕ). IsFreeBlock (2016 * k) (values_in (map rest_in ss) k) (get_or new p [])) place
+    (subst (λ (vs : List ℕ). IsFreeBlock (2016 * k) (values_in vs k) (get_or new (c.data_count-data.result + c.tree_count-index.result + k) [])) rests
+    (c.put_free_blocks.ensures.blocks k inside)))
+    (subst (λ (ps : List Pair). IsPermutation ps pairs) c.in_ok-stated.ensures.pairs c.in_ok-sort_pairs.ensures.moved)
+    c.in_ok-sort_pairs.ensures.ranked c.in_ok-sort_pairs.ensures.sound are
+
+pub returns-clause-magics : goal.returns-clause-magics
+returns-clause-magics c =
+    let es = c.args.entries.now in
+    let ss = shares c.args.dir c.args.parent es in
+    let new = c.put_free_blocks.new.blocks in
+    let value : c.data_count-data.result ≡ data_count c.args.entries.now = c.data_count-data.ensures.value in
+    let count = shares-count c.args.dir c.args.parent es in
+    let index : c.tree_count-index.result ≡ tree_count (length c.args.entries.now + 2) = c.tree_count-index.ensures in
+    let rests : c.deref-2.result.now ≡ map rest_in ss = c.deref-2.ensures.value ∙ c.in_ok-stated.ensures.rests in
+    let deref : c.deref.result.now ≡ c.sort_pairs.new.pairs.items = c.deref.ensures.value in
+    let pairs_long : length c.sort_pairs.new.pairs.items ≡ length c.args.entries.now + 2 = omega (arith, c.in_ok-stated.ensures.added, c.in_ok-sort_pairs.ensures.count) in
+    let size : tree_count (length c.deref.result.now) ≡ tree_count (length c.args.entries.now + 2) = ap tree_count (ap length deref ∙ pairs_long) in
+    let values_long : length c.deref-2.result.now ≡ data_count es = ap length rests ∙ (length-map ss rest_in ∙ count) in
+    let blocks : value_blocks (length c.deref-2.result.now) ≡ value_blocks (data_count es) = ap value_blocks values_long in
+    record {
+      data_blocks = λ k less.
+          let low : k < c.data_count-data.result + c.tree_count-index.result = omega (arith, value) in
+          let front : k < c.data_count-data.result = omega (arith, value) in
+          data-magic (get_or new k []) (subst (λ (b : List ℕ). IsDataBlock (get_or ss k []) b) (sym (c.put_free_blocks.ensures.others k low ∙ c.in_ok-put_tree.ensures.others k front))
+          (c.in_ok-stated.ensures.blocks k (omega (arith, count)))).magic;
+      index_blocks = λ k less.
+          let low : c.data_count-data.result + k < c.data_count-data.result + c.tree_count-index.result = omega (arith, index) in
+          let inside : k < tree_count (length c.deref.result.now) = omega (arith, size) in
+          subst (λ (n : ℕ). IsIndexed (get_or new (n + k) [])) value
+          (subst (λ (b : List ℕ). IsIndexed b) (sym (c.put_free_blocks.ensures.others (c.data_count-data.result + k) low)) (c.in_ok-put_tree.ensures.indexed k inside));
+      free_blocks = λ k less.
+          let inside : k < value_blocks (length c.deref-2.result.now) = omega (arith, blocks) in
+          let place : c.data_count-data.result + c.tree_count-index.result + k ≡ data_count es + tree_count (length c.args.entries.now + 2) + k = omega (arith, value, index) in
+          free-magic (get_or new (data_count es + tree_count (length c.args.entries.now + 2) + k) [])
+          (subst (λ (p : ℕ). IsFreeBlock (2016 * k) (values_in c.deref-2.result.now k) (get_or new p [])) place (c.put_free_blocks.ensures.blocks k inside)).magic;
+    }

@@ -1,0 +1,64 @@
+use Rattle.std.proofs.Common.{◌≡◌, ℕ, ◌+◌, ◌*◌, ◌≤◌, length, List, [], ◌++◌, get_or, Option, Some, sym, ap, ap₂, ◌∙◌, subst, arith}
+use Rattle.std.specs.List.Sorted.{IsPermutation}
+use Rattle.std.proofs.lemmas.Bool.{leb-true}
+use Rattle.xfs_dirdata.specs.Short.{index_size}
+use Rattle.xfs_dirdata.specs.Written.{data_length, first_entries, offsets}
+use Rattle.xfs_dirindex.specs.declared.pairs.Pair.{Pair}
+use Rattle.xfs_dirindex.specs.Data.{due_pairs}
+use Rattle.xfs_dirbuild.specs.Forms.{fits_single}
+use Rattle.xfs_dirbuild.specs.Filling.{all_entries}
+use Rattle.xfs_dirbuild.specs.SingleBlock.{IsSingleBlock}
+use Rattle.xfs_dirbuild.proofs.Banks.{put-there, put-count}
+use Rattle.xfs_dirbuild.proofs.Filled.{due_pairs-append}
+use Rattle.xfs_word.specs.Field.{field_of}
+use Rattle.xfs_dirbuild.proofs.Magics.{single-magic}
+use Rattle.xfs_dirbuild.proofs.WholeSingle.{whole-single}
+use Rattle.xfs_dirbuild.proofs.single.build_single.Goals as goal
+
+pub returns-clause-whole : goal.returns-clause-whole
+unfolding fits_single
+returns-clause-whole c =
+    λ placed are.
+    let es = c.args.entries.now in
+    let all = all_entries c.args.dir c.args.parent es in
+    let first : Option (ℕ × ℕ) = Some (c.args.dir, c.args.parent) in
+    let old = c.in_ok-blocks.blocks in
+    let new = c.put_block.new.blocks in
+    let block = c.put_single.new.block in
+    let pairs = c.sort_pairs.new.pairs.items in
+    let made : length c.in_ok-blocks.blocks ≡ 1 = ap length c.in_ok-blocks.ensures in
+    let is = c.put_block.ensures in
+    let there : get_or c.put_block.new.blocks 0 [] ≡ c.put_single.new.block = put-there old new 0 block is (omega (arith, made)) in
+    let long : length c.put_single.new.block ≡ 4096 = omega arith in
+    let fits : 96 + data_length es + index_size (length es) ≤ 4096 = leb-true _ _ c.requires.fits in
+    let pairs_long : length c.sort_pairs.new.pairs.items ≡ length c.args.entries.now + 2 =
+    omega (arith, c.in_ok-sort_pairs.ensures.count, c.in_ok-add_pairs.ensures.count, c.in_ok-start.ensures.count, ap length c.new-pairs.ensures.items) in
+    let fit : 64 + 8 * length c.sort_pairs.new.pairs.items ≤ 4088 = omega (arith, pairs_long, fits) in
+    let first_pairs : c.add_first.new.pairs.items ≡ due_pairs 0 (first_entries first) (offsets 64 (first_entries first)) =
+    c.in_ok-start.ensures.pairs ∙ ap (λ (ps : List Pair). ps ++ due_pairs 0 (first_entries first) (offsets 64 (first_entries first))) c.new-pairs.ensures.items in
+    let due : c.add_pairs.new.pairs.items ≡ due_pairs 0 all (offsets 64 all) =
+    c.in_ok-add_pairs.ensures.pairs
+    ∙ (ap₂ (λ (ps : List Pair) (a : ℕ). ps ++ due_pairs 0 es (offsets a es)) first_pairs c.in_ok-start.ensures.end
+    ∙ sym (due_pairs-append 0 64 (first_entries first) es)) in
+    let single : IsSingleBlock c.args.dir c.args.parent es pairs (get_or new 0 []) =
+    subst (λ (b : List ℕ). IsSingleBlock c.args.dir c.args.parent es pairs b) (sym there)
+    (subst (λ (ps : List Pair). IsSingleBlock c.args.dir c.args.parent es ps block) c.deref.ensures.value c.in_ok-put_single.ensures) in
+    whole-single c.args.dir c.args.parent es new placed pairs c.requires.names (put-count old new 0 block is ∙ made) (ap length there ∙ long) fit single
+    (subst (λ (ps : List Pair). IsPermutation ps pairs) due c.in_ok-sort_pairs.ensures.moved)
+    c.in_ok-sort_pairs.ensures.ranked c.in_ok-sort_pairs.ensures.sound are
+
+pub returns-clause-magics : goal.returns-clause-magics
+returns-clause-magics c =
+    let old = c.in_ok-blocks.blocks in
+    let new = c.put_block.new.blocks in
+    let block = c.put_single.new.block in
+    let made : length c.in_ok-blocks.blocks ≡ 1 = ap length c.in_ok-blocks.ensures in
+    let there : get_or c.put_block.new.blocks 0 [] ≡ c.put_single.new.block = put-there old new 0 block c.put_block.ensures (omega (arith, made)) in
+    let single = c.in_ok-put_single.ensures in
+    record {
+      data_blocks = λ k less.
+          let first : 0 ≡ k = omega arith in
+          single-magic (get_or new k []) (ap (λ (n : ℕ). field_of (get_or new n []) 0 4) (sym first) ∙ (ap (λ (b : List ℕ). field_of b 0 4) there ∙ single.magic));
+      index_blocks = λ k less. absurd (omega arith);
+      free_blocks = λ k less. absurd (omega arith);
+    }

@@ -1,0 +1,116 @@
+use Rattle.std.proofs.Common.{◌≡◌, ℕ, ◌+◌, ◌-◌, ◌<◌, ◌≤◌, inl, inr, true, false, List, [], ◌∷◌, ◌++◌, length, take, drop, get_or, refl, sym, ◌∙◌, ap, subst, arith}
+use Rattle.std.specs.List.{All}
+use Rattle.std.proofs.lemmas.List.{append-nil, length_push}
+use Rattle.std.proofs.lemmas.List.Elements.{All-push, All-take, All-drop}
+use Rattle.std.proofs.lemmas.Bool.Decides.{nat_tests}
+use Rattle.xfs_dirindex.specs.declared.pairs.Pair.{Pair}
+use Rattle.xfs_dirindex.specs.Mapped.{Mapped}
+use Rattle.xfs_dirindex.specs.IndexTree.{places_of, are_members, pairs_below}
+use Rattle.xfs_dirbuild.specs.Index.{IsPointer, IsIndexed, next_at, share_of, first_of, Holds}
+use Rattle.xfs_dirbuild.proofs.Banks.{put-there, put-beside, put-count}
+use Rattle.xfs_dirbuild.proofs.Shares.{share_next, share_some, share_most}
+use Rattle.xfs_dirbuild.proofs.Magics.{indexed, next-small, indexed-more}
+use Rattle.xfs_dirbuild.proofs.Rows.{places-more, places-none, holds-part}
+use Rattle.xfs_dirbuild.proofs.RowSteps.{share-long, IsWritten, seen, row-members, row-below}
+use Rattle.xfs_dirbuild.proofs.tree.put_row.Goals as goal
+
+pub loop-i-init : goal.loop-i-init
+loop-i-init c =
+    let none = c.new-links.ensures.items in
+    record {
+      start_is = omega arith;
+      members = λ ms holds rest next is.
+          subst (λ (ls : List Pair). are_members ms false c.args.level 0 (ls ++ rest) ≡ true) (sym none) is;
+      below = λ ms holds. ap (pairs_below ms) none;
+      places = ap places_of none ∙ sym (places-none c.args.first);
+      pointers = λ k d inside. absurd (omega (arith, ap length none));
+      indexed = λ k inside. absurd (omega arith);
+      links_are = ap length none;
+      blocks_count = refl;
+      others = λ k side. refl;
+    }
+
+pub put_index-requires-clause-most : goal.put_index-requires-clause-most
+put_index-requires-clause-most c =
+    let pairs = c.args.pairs.now in
+    let long = share-long pairs c.args.count c.loop-i.i c.loop-i.start c.share_of-share.result c.loop-i.invariant.start_is c.share_of-share.ensures c.loop-i-test.true in
+    omega (arith, long, share_most (length pairs) c.args.count c.loop-i.i 504 c.loop-i-test.true c.requires.fit, c.share_of-share.ensures)
+
+pub link_to-requires-clause-most : goal.link_to-requires-clause-most
+link_to-requires-clause-most c =
+    omega (arith, share_most (length c.args.pairs.now) c.args.count c.loop-i.i 504 c.loop-i-test.true c.requires.fit, c.share_of-share.ensures)
+
+pub loop-i-preserved : goal.loop-i-preserved
+loop-i-preserved c =
+    let pairs = c.args.pairs.now in
+    let n = length pairs in
+    let m = c.args.count in
+    let i = c.loop-i.i in
+    let start = c.loop-i.start in
+    let share = c.share_of-share.result in
+    let part = take (start + share - start) (drop start pairs) in
+    let x : Pair = c.link_to.result in
+    let block = c.put_index.new.block in
+    let old = c.loop-i.blocks in
+    let new = c.put_block.new.blocks in
+    let at = c.args.base + c.args.first + i in
+    let inside : i < m = c.loop-i-test.true in
+    let start_is : start ≡ first_of (length c.args.pairs.now) c.args.count c.loop-i.i = c.loop-i.invariant.start_is in
+    let share_is : share ≡ share_of (length c.args.pairs.now) c.args.count c.loop-i.i = c.share_of-share.ensures in
+    let long = share-long pairs m i start share start_is share_is inside in
+    let some = share_some n m i c.requires.some c.requires.enough in
+    let most = share_most n m i 504 inside c.requires.fit in
+    let room : c.args.base + c.args.first + c.loop-i.i < length c.loop-i.blocks = omega (arith, c.loop-i.invariant.blocks_count, c.requires.room, c.loop-i-test.true) in
+    let is = c.put_block.ensures in
+    let put : get_or new at [] ≡ block = put-there old new at block is room in
+    let links : c.push.new.self.items ≡ c.loop-i.links.items ++ x ∷ [] = c.in_ok-push.ensures.items in
+    let written : IsWritten c.args.level c.before_at-before.result c.next_at-next.result c.args.first i share part x block =
+    record {
+      pointers = All-take IsPointer (start + share - start) (drop start pairs) (All-drop IsPointer start pairs c.requires.pointers);
+      some = omega (arith, long, some, share_is);
+      most = omega (arith, long, most, share_is);
+      long = long;
+      stands = c.put_index.ensures;
+      hash = c.link_to.ensures.hash;
+      address = c.link_to.ensures.address;
+    } in
+    let before_holds = λ (ms : List Mapped) (holds : Holds ms c.put_block.new.blocks c.args.base c.args.first (c.loop-i.i + 1)).
+    holds-part ms old new c.args.base c.args.first i c.args.first (i + 1) holds (omega arith) (omega arith)
+    (λ k less. put-beside old new at (c.args.base + c.args.first + k) block is (inl (omega arith))) in
+    record {
+      start_is = omega (arith, start_is, share_is, share_next n m i);
+      members = λ ms holds rest next others.
+          subst (λ (ls : List Pair). are_members ms false c.args.level 0 (ls ++ rest) ≡ true) (sym links)
+          (row-members ms c.args.level c.before_at-before.result c.next_at-next.result c.args.first m i part c.loop-i.links.items rest x
+          (seen ms new c.args.base c.args.first i c.args.level c.before_at-before.result c.next_at-next.result share part x block written put holds)
+          inside c.before_at-before.ensures c.next_at-next.ensures c.link_to.ensures.address
+          (c.loop-i.invariant.members ms (before_holds ms holds)) next others);
+      below = λ ms holds.
+          ap (pairs_below ms) links
+          ∙ row-below ms c.args.level c.before_at-before.result c.next_at-next.result start share pairs c.loop-i.links.items x
+          (seen ms new c.args.base c.args.first i c.args.level c.before_at-before.result c.next_at-next.result share part x block written put holds)
+          (c.loop-i.invariant.below ms (before_holds ms holds));
+      places = ap places_of links ∙ places-more c.loop-i.links.items x c.args.first i c.loop-i.invariant.places c.link_to.ensures.address;
+      pointers = subst (λ (ls : List Pair). All IsPointer ls) (sym links)
+          (All-push IsPointer c.loop-i.links.items x c.loop-i.invariant.pointers
+          (record { some = omega (arith, c.link_to.ensures.address); fits = omega (arith, c.link_to.ensures.address, c.requires.low, c.loop-i-test.true) }));
+      indexed = indexed-more old new (c.args.base + c.args.first) i c.loop-i.invariant.indexed
+          (λ k less. put-beside old new at (c.args.base + c.args.first + k) block is (inl (omega arith)))
+          (subst (λ (b : List ℕ). IsIndexed b) (sym put)
+          (indexed block c.next_at-next.result written.stands.forw
+          (subst (λ (n : ℕ). n ≤ 0x1000000) (sym c.next_at-next.ensures) (next-small c.args.first c.args.count (c.loop-i.i + 1) c.requires.low))));
+      links_are = ap length links ∙ (length_push c.loop-i.links.items x ∙ ap (λ (k : ℕ). k + 1) c.loop-i.invariant.links_are);
+      blocks_count = put-count old new at block is ∙ c.loop-i.invariant.blocks_count;
+      others = λ k side. elim side [
+        | inl low ↦ put-beside old new at k block is (inl (omega arith)) ∙ c.loop-i.invariant.others k (inl low)
+        | inr high ↦ put-beside old new at k block is (inr (omega arith)) ∙ c.loop-i.invariant.others k (inr (omega arith))
+      ];
+    }
+
+pub returns-clause-members : goal.returns-clause-members
+returns-clause-members c =
+    λ ms holds.
+    let end : c.loop-i.i ≡ c.args.count = omega arith in
+    let last : 0 ≡ next_at c.args.first c.args.count c.loop-i.i = grind (arith, nat_tests) in
+    let mine : Holds ms c.loop-i.blocks c.args.base c.args.first c.loop-i.i = subst (λ (n : ℕ). Holds ms c.loop-i.blocks c.args.base c.args.first n) (sym end) holds in
+    subst (λ (ls : List Pair). are_members ms false c.args.level 0 ls ≡ true) (append-nil c.loop-i.links.items) (c.loop-i.invariant.members ms mine [] last refl)

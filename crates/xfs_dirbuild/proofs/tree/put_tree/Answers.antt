@@ -1,0 +1,137 @@
+use Rattle.std.proofs.Common.{◌≡◌, ℕ, ◌+◌, ◌<◌, ◌≤◌, inr, List, [], length, get_or, refl, sym, ◌∙◌, ap, ap₂, subst, arith}
+use Rattle.xfs_dirbuild.specs.Forms.{tree_count}
+use Rattle.xfs_dirbuild.specs.Index.{IsIndexed, places_in, IsTreeOf}
+use Rattle.xfs_dirbuild.proofs.Magics.{indexed-join}
+use Rattle.xfs_dirbuild.proofs.Rows.{holds-part}
+use Rattle.xfs_dirbuild.proofs.Trees.{tree-one, tree-two, tree-three}
+use Rattle.xfs_dirbuild.proofs.TreeCounts.{total-is, above-none, above-most}
+use Rattle.xfs_dirbuild.proofs.tree.put_tree.Goals as goal
+
+pub returns-then-nodes-eq0-clause-tree : goal.returns-then-nodes-eq0-clause-tree
+returns-then-nodes-eq0-clause-tree c =
+    λ ms holds.
+    let n = length c.args.pairs.now in
+    let leaves = c.leaf_blocks-leaves.result in
+    let nodes = c.nodes_above-nodes.result in
+    let tops = c.nodes_above-tops.result in
+    let base = c.args.base in
+    let bank = c.put_row.new.blocks in
+    let all = total-is n leaves nodes tops c.leaf_blocks-leaves.ensures c.nodes_above-nodes.ensures c.nodes_above-tops.ensures in
+    let few = above-none leaves nodes c.nodes_above-nodes.ensures c.if-nodes-eq0.true in
+    let some : 1 ≤ c.leaf_blocks-leaves.result = omega (arith, c.leaf_blocks-leaves.ensures, c.requires.some) in
+    let above = above-most nodes tops c.nodes_above-tops.ensures in
+    let none : c.nodes_above-tops.result + c.nodes_above-nodes.result ≡ 0 = omega (arith, above, c.if-nodes-eq0.true) in
+    let one : c.leaf_blocks-leaves.result ≡ 1 = omega (arith, few, some) in
+    let total : tree_count n ≡ 1 = omega (arith, all, none, one) in
+    let mine = holds-part ms bank bank base (tops + nodes) leaves 0 (tree_count n) holds (omega arith) (omega (arith, all)) (λ k less. refl) in
+    subst (λ (t : ℕ). IsTreeOf ms t c.args.pairs.now) (sym total)
+    (tree-one ms c.args.pairs.now c.in_ok-below.below.items (c.in_ok-below.ensures.members ms mine)
+    (c.in_ok-below.ensures.places ∙ ap₂ places_in none one) (c.in_ok-below.ensures.below ms mine))
+
+pub returns-then-tops-eq0-clause-tree : goal.returns-then-tops-eq0-clause-tree
+returns-then-tops-eq0-clause-tree c =
+    λ ms holds.
+    let n = length c.args.pairs.now in
+    let leaves = c.leaf_blocks-leaves.result in
+    let nodes = c.nodes_above-nodes.result in
+    let tops = c.nodes_above-tops.result in
+    let base = c.args.base in
+    let row = c.put_row.new.blocks in
+    let bank = c.put_row-2.new.blocks in
+    let all = total-is n leaves nodes tops c.leaf_blocks-leaves.ensures c.nodes_above-nodes.ensures c.nodes_above-tops.ensures in
+    let few = above-none nodes tops c.nodes_above-tops.ensures c.if-tops-eq0.true in
+    let one : c.nodes_above-nodes.result ≡ 1 = omega (arith, few, c.if-nodes-eq0.false) in
+    let none : c.nodes_above-tops.result ≡ 0 = c.if-tops-eq0.true in
+    let first : c.nodes_above-tops.result + c.nodes_above-nodes.result ≡ 1 = omega (arith, none, one) in
+    let total : tree_count n ≡ 1 + c.leaf_blocks-leaves.result = omega (arith, all, none, one) in
+    let lower = holds-part ms row bank base (tops + nodes) leaves 0 (tree_count n) holds (omega arith) (omega (arith, all))
+    (λ k less. c.in_ok-upper.ensures.others (c.args.base + (c.nodes_above-tops.result + c.nodes_above-nodes.result) + k) (inr (omega arith))) in
+    let upper = holds-part ms bank bank base tops nodes 0 (tree_count n) holds (omega arith) (omega (arith, all)) (λ k less. refl) in
+    subst (λ (t : ℕ). IsTreeOf ms t c.args.pairs.now) (sym total)
+    (tree-two ms leaves c.args.pairs.now c.in_ok-below.below.items c.in_ok-upper.upper.items (c.in_ok-below.ensures.members ms lower)
+    (c.in_ok-below.ensures.places ∙ ap (λ (a : ℕ). places_in a c.leaf_blocks-leaves.result) first) (c.in_ok-below.ensures.below ms lower)
+    (c.in_ok-upper.ensures.members ms upper) (c.in_ok-upper.ensures.places ∙ ap₂ places_in none one)
+    (c.in_ok-upper.ensures.below ms upper ∙ c.deref.ensures.value))
+
+pub returns-clause-tree : goal.returns-clause-tree
+returns-clause-tree c =
+    λ ms holds.
+    let n = length c.args.pairs.now in
+    let leaves = c.leaf_blocks-leaves.result in
+    let nodes = c.nodes_above-nodes.result in
+    let tops = c.nodes_above-tops.result in
+    let base = c.args.base in
+    let row = c.put_row.new.blocks in
+    let next = c.put_row-2.new.blocks in
+    let bank = c.put_row-3.new.blocks in
+    let all = total-is n leaves nodes tops c.leaf_blocks-leaves.ensures c.nodes_above-nodes.ensures c.nodes_above-tops.ensures in
+    let most_nodes = above-most leaves nodes c.nodes_above-nodes.ensures in
+    let most_tops = above-most nodes tops c.nodes_above-tops.ensures in
+    let one : c.nodes_above-tops.result ≡ 1 = omega (arith, most_nodes, most_tops, c.leaf_blocks-leaves.ensures, c.requires.few, c.if-tops-eq0.false) in
+    let first : c.nodes_above-tops.result + c.nodes_above-nodes.result ≡ 1 + c.nodes_above-nodes.result = omega (arith, one) in
+    let total : tree_count n ≡ 1 + c.nodes_above-nodes.result + c.leaf_blocks-leaves.result = omega (arith, all, one) in
+    let lower = holds-part ms row bank base (tops + nodes) leaves 0 (tree_count n) holds (omega arith) (omega (arith, all))
+    (λ k less.
+    let place = c.args.base + (c.nodes_above-tops.result + c.nodes_above-nodes.result) + k in
+    c.in_ok-put_row.ensures.others place (inr (omega arith)) ∙ c.in_ok-upper.ensures.others place (inr (omega arith))) in
+    let middle = holds-part ms next bank base tops nodes 0 (tree_count n) holds (omega arith) (omega (arith, all))
+    (λ k less. c.in_ok-put_row.ensures.others (c.args.base + c.nodes_above-tops.result + k) (inr (omega arith))) in
+    let upper = holds-part ms bank bank base 0 tops 0 (tree_count n) holds (omega arith) (omega (arith, all)) (λ k less. refl) in
+    subst (λ (t : ℕ). IsTreeOf ms t c.args.pairs.now) (sym total)
+    (tree-three ms nodes leaves c.args.pairs.now c.in_ok-below.below.items c.in_ok-upper.upper.items c.in_ok-put_row.field-0.items
+    (c.in_ok-below.ensures.members ms lower) (c.in_ok-below.ensures.places ∙ ap (λ (a : ℕ). places_in a c.leaf_blocks-leaves.result) first)
+    (c.in_ok-below.ensures.below ms lower) (c.in_ok-upper.ensures.members ms middle)
+    (c.in_ok-upper.ensures.places ∙ ap (λ (a : ℕ). places_in a c.nodes_above-nodes.result) one) (c.in_ok-upper.ensures.below ms middle ∙ c.deref.ensures.value)
+    (c.in_ok-put_row.ensures.members ms upper) (c.in_ok-put_row.ensures.places ∙ ap (places_in 0) one) (c.in_ok-put_row.ensures.below ms upper ∙ c.deref-2.ensures.value))
+
+-- all blocks of a tree, by its rows
+all-rows : (n tops nodes leaves base : ℕ) (bank : List (List ℕ)) → tree_count n ≡ tops + nodes + leaves
+    → ((k : ℕ) → k < tops + nodes → IsIndexed (get_or bank (base + k) []))
+    → ((k : ℕ) → k < leaves → IsIndexed (get_or bank (base + (tops + nodes) + k) [])) → (k : ℕ) → k < tree_count n → IsIndexed (get_or bank (base + k) [])
+all-rows n tops nodes leaves base bank all front row k less = indexed-join bank base (tops + nodes) leaves front row k (omega (arith, all, less))
+
+pub returns-then-nodes-eq0-clause-indexed : goal.returns-then-nodes-eq0-clause-indexed
+returns-then-nodes-eq0-clause-indexed c =
+    let n = length c.args.pairs.now in
+    let leaves = c.leaf_blocks-leaves.result in
+    let nodes = c.nodes_above-nodes.result in
+    let tops = c.nodes_above-tops.result in
+    let all = total-is n leaves nodes tops c.leaf_blocks-leaves.ensures c.nodes_above-nodes.ensures c.nodes_above-tops.ensures in
+    let above = above-most nodes tops c.nodes_above-tops.ensures in
+    let none : c.nodes_above-tops.result + c.nodes_above-nodes.result ≡ 0 = omega (arith, above, c.if-nodes-eq0.true) in
+    all-rows n tops nodes leaves c.args.base c.put_row.new.blocks all (λ k less. absurd (omega (arith, none, less))) c.in_ok-below.ensures.indexed
+
+pub returns-then-tops-eq0-clause-indexed : goal.returns-then-tops-eq0-clause-indexed
+returns-then-tops-eq0-clause-indexed c =
+    let n = length c.args.pairs.now in
+    let leaves = c.leaf_blocks-leaves.result in
+    let nodes = c.nodes_above-nodes.result in
+    let tops = c.nodes_above-tops.result in
+    let bank = c.put_row-2.new.blocks in
+    let all = total-is n leaves nodes tops c.leaf_blocks-leaves.ensures c.nodes_above-nodes.ensures c.nodes_above-tops.ensures in
+    all-rows n tops nodes leaves c.args.base bank all
+    (indexed-join bank c.args.base tops nodes (λ k less. absurd (omega (arith, c.if-tops-eq0.true, less))) c.in_ok-upper.ensures.indexed)
+    (λ k less.
+    subst (λ (b : List ℕ). IsIndexed b)
+    (sym (c.in_ok-upper.ensures.others (c.args.base + (c.nodes_above-tops.result + c.nodes_above-nodes.result) + k) (inr (omega arith))))
+    (c.in_ok-below.ensures.indexed k less))
+
+pub returns-clause-indexed : goal.returns-clause-indexed
+returns-clause-indexed c =
+    let n = length c.args.pairs.now in
+    let leaves = c.leaf_blocks-leaves.result in
+    let nodes = c.nodes_above-nodes.result in
+    let tops = c.nodes_above-tops.result in
+    let bank = c.put_row-3.new.blocks in
+    let all = total-is n leaves nodes tops c.leaf_blocks-leaves.ensures c.nodes_above-nodes.ensures c.nodes_above-tops.ensures in
+    all-rows n tops nodes leaves c.args.base bank all
+    (indexed-join bank c.args.base tops nodes
+    (λ k less. subst (λ (p : ℕ). IsIndexed (get_or bank p [])) (omega arith) (c.in_ok-put_row.ensures.indexed k less))
+    (λ k less.
+    subst (λ (b : List ℕ). IsIndexed b) (sym (c.in_ok-put_row.ensures.others (c.args.base + c.nodes_above-tops.result + k) (inr (omega arith))))
+    (c.in_ok-upper.ensures.indexed k less)))
+    (λ k less.
+    let place = c.args.base + (c.nodes_above-tops.result + c.nodes_above-nodes.result) + k in
+    subst (λ (b : List ℕ). IsIndexed b)
+    (sym (c.in_ok-put_row.ensures.others place (inr (omega arith)) ∙ c.in_ok-upper.ensures.others place (inr (omega arith))))
+    (c.in_ok-below.ensures.indexed k less))
