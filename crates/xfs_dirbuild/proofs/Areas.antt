@@ -1,12 +1,12 @@
 -- What a data block states goes by its bytes behind the seal.
-use Rattle.std.proofs.Common.{◌≡◌, ℕ, suc, zero, ◌+◌, ◌-◌, ◌*◌, ◌%◌, ◌<◌, ◌≤◌, Bool, true, false, not, ◌&&◌, ◌||◌, ◌==◌, nat_le, if◌then◌else◌, List, [], ◌∷◌, length, map, get_or, Some, refl, sym, ◌∙◌, ap, ap₂, subst, arith}
+use Rattle.std.proofs.Common.{◌≡◌, ℕ, ◌+◌, ◌-◌, ◌*◌, ◌%◌, ◌≤◌, Bool, true, false, not, ◌&&◌, ◌||◌, ◌==◌, nat_le, if◌then◌else◌, List, [], ◌∷◌, length, map, get_or, Some, refl, sym, ◌∙◌, ap, ap₂, subst, arith}
 use Rattle.std.specs.List.{filter}
 use Rattle.xfs_word.specs.Field.{field_of, part_of}
 use Rattle.xfs_dirdata.specs.declared.records.EntryRec.{EntryRec}
 use Rattle.xfs_dirdata.specs.declared.records.FreeSpan.{FreeSpan}
 use Rattle.xfs_dirdata.specs.Sizes.{data_size}
 use Rattle.xfs_dirdata.specs.Best.{are_bests}
-use Rattle.xfs_dirdata.specs.Data.{DataArea, is_span, is_entry, span_at, entry_at, entry_size_at, size_at, is_tagged, is_sound_span, is_item, best_at, stated_bests, stated, has_bests, area_of, Fill, States}
+use Rattle.xfs_dirdata.specs.Data.{DataArea, is_span, is_entry, span_at, entry_at, entry_size_at, size_at, is_tagged, is_sound_span, is_item, best_at, stated_bests, stated, has_bests, area_of, Fill}
 use Rattle.xfs_dirdata.proofs.Same.{same_between}
 use Rattle.xfs_dirdata.proofs.Filling.{states-from, read-from}
 

@@ -1,5 +1,5 @@
 -- Blocks of a bank that were written, and those that stayed.
-use Rattle.std.proofs.Common.{◌≡◌, ◌≢◌, ℕ, ◌+◌, ◌<◌, ◌≤◌, ◌⊎◌, inl, inr, List, [], length, get_or, set, refl, sym, ◌∙◌, ap, arith}
+use Rattle.std.proofs.Common.{◌≡◌, ℕ, ◌<◌, ◌⊎◌, inl, inr, List, [], length, get_or, set, ◌∙◌, ap, arith}
 use Rattle.std.proofs.lemmas.List.{get_or-set_same, get_or-set_other, length-set}
 
 pub put-there : (old new : List (List ℕ)) (j : ℕ) (b : List ℕ) → new ≡ set old j b → j < length old → get_or new j [] ≡ b

@@ -1,14 +1,13 @@
 -- What data blocks state together, wherever they stand.
-use Rattle.std.proofs.Common.{◌≡◌, ℕ, suc, zero, ◌+◌, ◌-◌, ◌*◌, ◌/◌, ◌<◌, ◌≤◌, inl, inr, max, Bool, true, false, not, ◌&&◌, ◌||◌, ◌==◌, nat_lt, nat_le, if◌then◌else◌, List, [], ◌∷◌, ◌++◌, map, length, get_or, Some, is_some, unwrap_or, refl, sym, ◌∙◌, ap, ap₂, subst, arith}
-use Rattle.std.specs.List.{list_all, list_any, flat_map, filter}
-use Rattle.std.proofs.lemmas.List.{append-nil, map-append}
-use Rattle.std.proofs.lemmas.Bool.{and_from, and_parts, eq-eqb, eqb-true}
+use Rattle.std.proofs.Common.{◌≡◌, ℕ, suc, zero, ◌+◌, ◌-◌, ◌*◌, ◌/◌, ◌<◌, ◌≤◌, inl, inr, Bool, true, false, not, ◌&&◌, ◌||◌, ◌==◌, nat_le, if◌then◌else◌, List, [], ◌∷◌, ◌++◌, map, length, get_or, is_some, unwrap_or, refl, sym, ◌∙◌, ap, ap₂, arith}
+use Rattle.std.specs.List.{list_all, list_any, flat_map}
+use Rattle.std.proofs.lemmas.List.{map-append}
+use Rattle.std.proofs.lemmas.Bool.{and_from, eq-eqb, eqb-true}
 use Rattle.std.proofs.lemmas.Bool.Decides.{nat_tests}
 use Rattle.xfs_word.specs.Field.{field_of}
 use Rattle.xfs_word.proofs.Written.{keeps}
 use Rattle.xfs_dirdata.specs.declared.records.EntryRec.{EntryRec}
-use Rattle.xfs_dirdata.specs.declared.records.FreeSpan.{FreeSpan}
-use Rattle.xfs_dirdata.specs.Data.{DataArea, data_of, data_area, area_of}
+use Rattle.xfs_dirdata.specs.Data.{DataArea, data_of, data_area}
 use Rattle.xfs_dirdata.specs.Written.{in_directory, data_length, offsets, rest_span, written_area}
 use Rattle.xfs_dirindex.specs.declared.pairs.Pair.{Pair}
 use Rattle.xfs_dirindex.specs.declared.data.Best.{Best}

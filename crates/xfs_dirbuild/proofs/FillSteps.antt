@@ -1,11 +1,11 @@
 -- One data block more is filled.
-use Rattle.std.proofs.Common.{◌≡◌, ℕ, zero, ◌+◌, ◌-◌, ◌*◌, ◌<◌, ◌≤◌, ◌⊎◌, inl, inr, true, nat_le, List, [], ◌∷◌, ◌++◌, map, length, take, drop, get_or, Some, refl, sym, ◌∙◌, ap, ap₂, subst, arith, add-zero}
+use Rattle.std.proofs.Common.{◌≡◌, ℕ, ◌+◌, ◌*◌, ◌<◌, ◌≤◌, inl, inr, List, [], ◌∷◌, ◌++◌, map, length, take, drop, get_or, sym, ◌∙◌, ap, ap₂, subst, arith, add-zero}
 use Rattle.std.specs.List.{All}
-use Rattle.std.proofs.lemmas.List.{drop-drop, drop_all, length-drop, get_or-drop, take_more, append_assoc, append-nil, map-append}
+use Rattle.std.proofs.lemmas.List.{drop-drop, drop_all, length-drop, get_or-drop, take_more, append_assoc, map-append}
 use Rattle.std.proofs.lemmas.List.Elements.{All-head, All-tail}
 use Rattle.std.proofs.lemmas.Bool.{cases_lt}
 use Rattle.xfs_dirdata.specs.declared.records.EntryRec.{EntryRec}
-use Rattle.xfs_dirdata.specs.Written.{IsWritable, data_size_of, first_entries, offsets}
+use Rattle.xfs_dirdata.specs.Written.{IsWritable, data_size_of, offsets}
 use Rattle.xfs_dirindex.specs.declared.pairs.Pair.{Pair}
 use Rattle.xfs_dirindex.specs.Data.{due_pairs}
 use Rattle.xfs_dirbuild.specs.Forms.{data_count}

@@ -1,15 +1,15 @@
 -- How entries fill data blocks, step by step.
-use Rattle.std.proofs.Common.{◌≡◌, ℕ, suc, zero, ◌+◌, ◌-◌, ◌*◌, ◌<◌, ◌≤◌, Bool, true, false, nat_le, List, [], ◌∷◌, ◌++◌, length, take, drop, refl, sym, ◌∙◌, ap, subst, arith}
+use Rattle.std.proofs.Common.{◌≡◌, ℕ, suc, zero, ◌+◌, ◌-◌, ◌<◌, ◌≤◌, Bool, true, false, nat_le, List, [], ◌∷◌, ◌++◌, length, take, drop, refl, sym, ◌∙◌, ap, subst, arith}
 use Rattle.std.specs.List.{All}
 use Rattle.std.proofs.lemmas.List.Elements.{All-head, All-tail, All-drop}
 use Rattle.std.proofs.lemmas.List.{length-drop, drop-drop}
-use Rattle.std.proofs.lemmas.List.Sums.{sum_by-cons, sum_by-append}
+use Rattle.std.proofs.lemmas.List.Sums.{sum_by-cons}
 use Rattle.std.proofs.lemmas.Bool.Decides.{nat_tests}
 use Rattle.xfs_dirdata.specs.declared.records.EntryRec.{EntryRec}
 use Rattle.xfs_dirdata.specs.Written.{IsWritable, data_size_of, data_length, offsets}
 use Rattle.xfs_dirindex.specs.Data.{due_pair, due_pairs}
 use Rattle.xfs_dirindex.specs.declared.pairs.Pair.{Pair}
-use Rattle.xfs_dirbuild.specs.Filling.{ahead, filled, pairs_from}
+use Rattle.xfs_dirbuild.specs.Filling.{ahead, filled}
 
 -- what is left fills later blocks, if anything is left
 abbrev pub later : List EntryRec → List (List EntryRec)

@@ -17,3 +17,4 @@ pub mod WholeLeaf
 pub mod WholeNode
 pub mod WholeSingle
 pub mod Ascending
+pub mod Magics

@@ -1,9 +1,8 @@
 -- One block more of a row is written.
-use Rattle.std.proofs.Common.{◌≡◌, ℕ, ◌+◌, ◌-◌, ◌*◌, ◌<◌, ◌≤◌, ◌^◌, inl, inr, true, false, List, [], ◌∷◌, ◌++◌, length, take, drop, get_or, refl, sym, ◌∙◌, ap, subst, arith}
+use Rattle.std.proofs.Common.{◌≡◌, ℕ, ◌+◌, ◌-◌, ◌*◌, ◌<◌, ◌≤◌, inr, true, false, List, [], ◌∷◌, ◌++◌, length, take, drop, get_or, sym, ◌∙◌, ap, subst, arith}
 use Rattle.std.specs.List.{All}
 use Rattle.std.proofs.Math.Seq.{take-add}
 use Rattle.std.proofs.lemmas.List.{length-take-le, length-drop}
-use Rattle.std.proofs.lemmas.List.Elements.{All-take, All-drop}
 use Rattle.std.proofs.lemmas.Bool.Decides.{nat_tests}
 use Rattle.xfs_word.specs.Field.{field_of}
 use Rattle.xfs_word.proofs.Written.{keeps}
@@ -12,7 +11,7 @@ use Rattle.xfs_dirindex.specs.Mapped.{Mapped}
 use Rattle.xfs_dirindex.specs.Lookup.{bytes_of}
 use Rattle.xfs_dirindex.specs.IndexTree.{next_of, is_member, are_members, pairs_below}
 use Rattle.xfs_dirbuild.specs.Index.{IsPointer, IsIndexBlock, before_at, next_at, share_of, first_of, IsPlaced, Holds}
-use Rattle.xfs_dirbuild.proofs.Shares.{share_inside, share_some, share_most}
+use Rattle.xfs_dirbuild.proofs.Shares.{share_inside}
 use Rattle.xfs_dirbuild.proofs.Rows.{index-placed, member, members-more, below-more}
 
 -- how long a share is

@@ -1,13 +1,12 @@
 -- Rows, one above the other, are a tree.
-use Rattle.std.proofs.Common.{◌≡◌, ℕ, suc, zero, ◌+◌, ◌<◌, ◌≤◌, Bool, true, false, ◌&&◌, ◌||◌, ◌==◌, if◌then◌else◌, List, [], ◌∷◌, ◌++◌, length, map, refl, sym, ◌∙◌, ap, ap₂, subst, arith}
-use Rattle.std.proofs.lemmas.List.{append-nil, length-map}
-use Rattle.std.proofs.lemmas.Bool.{and_from, and_parts, eq-eqb, eqb-true, ne_eqb}
+use Rattle.std.proofs.Common.{◌≡◌, ℕ, ◌+◌, Bool, true, false, ◌&&◌, ◌==◌, if◌then◌else◌, List, [], ◌∷◌, ◌++◌, refl, sym, ◌∙◌, ap, ap₂, subst, arith}
+use Rattle.std.proofs.lemmas.Bool.{and_from, and_parts, eqb-true}
 use Rattle.xfs_word.specs.Field.{field_of}
 use Rattle.xfs_dirindex.specs.declared.pairs.Pair.{Pair}
 use Rattle.xfs_dirindex.specs.Mapped.{Mapped}
 use Rattle.xfs_dirindex.specs.Lookup.{bytes_of, is_there}
-use Rattle.xfs_dirindex.specs.Leaf.{leaf_count, leaf_stale}
-use Rattle.xfs_dirindex.specs.IndexTree.{pairs_of, form_of, stated_of, has_form, has_neighbours, has_greatest, is_member, next_of, are_members, are_levels, pairs_below, place_of, places_of, tree_places, leaf_pairs, root_links, level_in, root_level, keeps_rules, all_places, all_leaf_pairs}
+use Rattle.xfs_dirindex.specs.Leaf.{leaf_stale}
+use Rattle.xfs_dirindex.specs.IndexTree.{pairs_of, form_of, stated_of, has_form, has_neighbours, has_greatest, is_member, are_members, are_levels, pairs_below, place_of, places_of, tree_places, leaf_pairs, root_links, level_in, root_level, keeps_rules, all_places, all_leaf_pairs}
 use Rattle.xfs_dirbuild.specs.Index.{places_in, IsTreeOf}
 use Rattle.xfs_dirbuild.proofs.Rows.{places-join}
 

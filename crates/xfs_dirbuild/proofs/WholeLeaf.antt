@@ -1,5 +1,5 @@
 -- What is built in leaf form is whole.
-use Rattle.std.proofs.Common.{◌≡◌, ℕ, ◌+◌, ◌-◌, ◌*◌, ◌<◌, ◌≤◌, inl, inr, Bool, true, false, ◌&&◌, ◌==◌, nat_le, nat_lt, List, [], ◌∷◌, ◌++◌, map, length, take, drop, get_or, refl, sym, ◌∙◌, ap, ap₂, subst, arith}
+use Rattle.std.proofs.Common.{◌≡◌, ℕ, ◌+◌, ◌-◌, ◌*◌, ◌<◌, ◌≤◌, inl, inr, true, ◌==◌, nat_le, List, [], ◌∷◌, ◌++◌, map, length, take, drop, get_or, refl, sym, ◌∙◌, ap, ap₂, subst, arith}
 use Rattle.std.specs.List.{All, filter}
 use Rattle.std.specs.List.Sorted.{IsPermutation}
 use Rattle.std.proofs.lemmas.List.{drop_more, drop_all, length-map, length-take-le}
@@ -33,6 +33,8 @@ leaf-placed : (pairs : List Pair) (values : List ℕ) (b p : List ℕ) → 64 + 
 leaf-placed pairs values b p fit was placed =
     let stays = keeps b p 12 44 placed.same in
     record {
+      forw = stays 0 4 (inl (omega arith)) ∙ was.forw;
+      back = stays 4 4 (inl (omega arith)) ∙ was.back;
       magic = stays 8 2 (inl (omega arith)) ∙ was.magic;
       count = stays 56 2 (inr (omega arith)) ∙ was.count;
       stale = stays 58 2 (inr (omega arith)) ∙ was.stale;

@@ -1,6 +1,6 @@
 -- What is built in node form is whole.
-use Rattle.std.proofs.Common.{◌≡◌, ℕ, zero, suc, ◌+◌, ◌-◌, ◌*◌, ◌/◌, ◌%◌, ◌<◌, ◌≤◌, inl, inr, min, Bool, true, false, not, ◌&&◌, ◌==◌, nat_le, nat_lt, if◌then◌else◌, List, [], ◌∷◌, ◌++◌, map, length, take, drop, get_or, count_by, refl, sym, ◌∙◌, ap, ap₂, subst, arith}
-use Rattle.std.specs.List.{All, list_all, filter, range_with_len}
+use Rattle.std.proofs.Common.{◌≡◌, ℕ, ◌+◌, ◌-◌, ◌*◌, ◌/◌, ◌%◌, ◌<◌, ◌≤◌, inl, inr, Bool, true, false, not, ◌&&◌, ◌==◌, nat_le, nat_lt, if◌then◌else◌, List, [], ◌∷◌, ◌++◌, map, length, take, drop, get_or, count_by, refl, sym, ◌∙◌, ap, ap₂, subst, arith}
+use Rattle.std.specs.List.{All, list_all, range_with_len}
 use Rattle.std.specs.List.Sorted.{IsPermutation}
 use Rattle.std.proofs.lemmas.List.{append-nil, length-map, length-take, length-take-le, length-drop, get_or-take, get_or-drop}
 use Rattle.std.proofs.lemmas.List.Elements.{filter-append}
@@ -12,16 +12,15 @@ use Rattle.xfs_dirdata.specs.declared.records.EntryRec.{EntryRec}
 use Rattle.xfs_dirindex.specs.declared.pairs.Pair.{Pair}
 use Rattle.xfs_dirindex.specs.declared.data.Best.{Best}
 use Rattle.xfs_dirindex.specs.Mapped.{Mapped, block_of, mapped, is_free, is_index_block}
-use Rattle.xfs_dirindex.specs.Lookup.{bytes_of, is_there}
+use Rattle.xfs_dirindex.specs.Lookup.{bytes_of}
 use Rattle.xfs_dirindex.specs.Pairs.{is_stale, are_same, is_index}
 use Rattle.xfs_dirindex.specs.Sorted.{IsRanked}
 use Rattle.xfs_dirindex.specs.Data.{have_no_dots, all_pairs, all_bests}
 use Rattle.xfs_dirindex.specs.Leaf.{best_at, end_of, are_values}
-use Rattle.xfs_dirindex.specs.IndexTree.{place_of, keeps_rules, all_places, all_leaf_pairs, index_places, are_exactly, are_due, is_tree}
+use Rattle.xfs_dirindex.specs.IndexTree.{place_of, all_places, index_places, are_exactly, are_due, is_tree}
 use Rattle.xfs_dirindex.specs.FreeBlocks.{free_count, is_used, used_in, has_values, is_free_sound, is_covered, has_value, are_free}
 use Rattle.xfs_dirindex.specs.Node.{is_whole_node}
 use Rattle.xfs_dirbuild.specs.declared.forms.Form.TheVariants.{Node}
-use Rattle.xfs_dirbuild.specs.Forms.{value_blocks}
 use Rattle.xfs_dirbuild.specs.Filling.{shares, all_entries, pairs_from, rest_in}
 use Rattle.xfs_dirbuild.specs.Index.{IsPointer, IsPlaced, Holds, places_in, IsTreeOf}
 use Rattle.xfs_dirbuild.specs.FreeBlocks.{IsFreeBlock, values_in}

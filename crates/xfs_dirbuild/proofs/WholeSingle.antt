@@ -1,5 +1,5 @@
 -- What is built in single-block form is whole.
-use Rattle.std.proofs.Common.{◌≡◌, ℕ, ◌+◌, ◌-◌, ◌*◌, ◌<◌, ◌≤◌, inl, inr, min, Bool, true, false, ◌&&◌, ◌==◌, nat_le, nat_lt, List, [], ◌∷◌, ◌++◌, map, length, take, drop, get_or, Some, is_some, unwrap_or, refl, sym, ◌∙◌, ap, ap₂, subst, arith}
+use Rattle.std.proofs.Common.{◌≡◌, ℕ, ◌+◌, ◌-◌, ◌*◌, ◌≤◌, inl, inr, true, ◌&&◌, ◌==◌, nat_le, List, [], ◌∷◌, map, length, take, drop, get_or, Some, is_some, unwrap_or, refl, sym, ◌∙◌, ap, ap₂, subst, arith}
 use Rattle.std.specs.List.{All}
 use Rattle.std.specs.List.Sorted.{IsPermutation}
 use Rattle.std.proofs.lemmas.List.{append-nil, drop_more, drop_all, length-take, get_or-take, get_or_past}
@@ -8,7 +8,7 @@ use Rattle.std.proofs.lemmas.Bool.Decides.{nat_tests}
 use Rattle.xfs_word.specs.Field.{field_of, part_of}
 use Rattle.xfs_word.proofs.Written.{keeps}
 use Rattle.xfs_dirdata.specs.declared.records.EntryRec.{EntryRec}
-use Rattle.xfs_dirdata.specs.Data.{DataArea, data_of, data_area, area_of}
+use Rattle.xfs_dirdata.specs.Data.{data_of, data_area, area_of}
 use Rattle.xfs_dirdata.specs.Written.{in_directory, offsets, written_area}
 use Rattle.xfs_dirindex.specs.declared.pairs.Pair.{Pair}
 use Rattle.xfs_dirindex.specs.Mapped.{Mapped, block_of, mapped}

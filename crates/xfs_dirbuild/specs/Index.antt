@@ -2,6 +2,8 @@
 use Rattle.std.specs.Prelude.{◌≡◌, true, ℕ, ◌+◌, ◌-◌, ◌*◌, ◌/◌, ◌%◌, ◌<◌, ◌≤◌, ◌^◌, min, nat_lt, if◌then◌else◌, List, [], length, map, slice_index, slice_index_or}
 use Rattle.std.specs.List.{range_with_len}
 use Rattle.xfs_word.specs.Field.{field_of, SameBeside}
+use Rattle.xfs_word.specs.Seal.{has_magic}
+use Rattle.xfs_word.specs.declared.kinds.SealKind.TheVariants.{Index as SealedIndex}
 use Rattle.xfs_dirindex.specs.declared.pairs.Pair.{Pair}
 use Rattle.xfs_dirindex.specs.Pairs.{pairs_at}
 use Rattle.xfs_dirindex.specs.Mapped.{Mapped}
@@ -26,8 +28,14 @@ pub record IsIndexBlock (level before next : ℕ) (pairs : List Pair) (bytes : L
 pub record AreValues (values : List ℕ) (at : ℕ) (bytes : List ℕ) : Type 0 where
   pub each : (j : ℕ) → j < length values → field_of bytes (at + 2 * j) 2 ≡ slice_index values j
 
--- the index block of the leaf form, with these pairs and values
+-- an index block has the magic number that it is sealed by, and is not taken for an inode
+abbrev pub IsIndexed : List ℕ → Type 0
+IsIndexed bytes = has_magic (SealedIndex (field_of bytes 8 2)) bytes ≡ true
+
+-- the index block of the leaf form, with these pairs and values; it has no neighbours
 pub record IsLeafBlock (pairs : List Pair) (values : List ℕ) (bytes : List ℕ) : Type 0 where
+  pub forw : field_of bytes 0 4 ≡ 0
+  pub back : field_of bytes 4 4 ≡ 0
   pub magic : field_of bytes 8 2 ≡ 0x3df1
   pub count : field_of bytes 56 2 ≡ length pairs
   pub stale : field_of bytes 58 2 ≡ 0

@@ -1,5 +1,5 @@
 -- Entries of the tests.
-use Rattle.std.specs.Prelude.{◌≡◌, ℕ, ◌<◌, ◌^◌, length}
+use Rattle.std.specs.Prelude.{◌≡◌, ◌<◌, ◌^◌, length}
 use Rattle.xfs_dirdata.specs.declared.records.EntryRec.{EntryRec}
 
 -- an entry has a name of six bytes and a small inode number

@@ -2,6 +2,8 @@
 use Rattle.std.specs.Prelude.{◌≡◌, true, false, ℕ, Bool, ◌+◌, ◌*◌, ◌<◌, ◌&&◌, nat_le, nat_lt, if◌then◌else◌, List, [], ◌++◌, map, filter, length, slice_index_or, Some}
 use Rattle.std.specs.List.{range_with_len, flat_map}
 use Rattle.xfs_word.specs.Field.{field_of}
+use Rattle.xfs_word.specs.Seal.{has_magic}
+use Rattle.xfs_word.specs.declared.kinds.SealKind.TheVariants.{DirData, DirFree}
 use Rattle.xfs_dirdata.specs.declared.records.EntryRec.{EntryRec}
 use Rattle.xfs_dirdata.specs.Data.{area_of}
 use Rattle.xfs_dirdata.specs.Written.{in_directory, written_area}
@@ -13,7 +15,7 @@ use Rattle.xfs_dirindex.specs.Node.{is_whole_node}
 use Rattle.xfs_dirbuild.specs.declared.forms.Form.{Form}
 use Rattle.xfs_dirbuild.specs.declared.forms.Form.TheVariants.{Short, Single, Leaf, Node}
 use Rattle.xfs_dirbuild.specs.Filling.{all_entries}
-use Rattle.xfs_dirbuild.specs.Index.{IsPlaced}
+use Rattle.xfs_dirbuild.specs.Index.{IsPlaced, IsIndexed}
 
 -- a data block of the leaf and node form that has these entries
 pub record IsDataBlock (entries : List EntryRec) (bytes : List ℕ) : Type 0 where
@@ -24,6 +26,12 @@ pub record IsDataBlock (entries : List EntryRec) (bytes : List ℕ) : Type 0 whe
 -- the file blocks of so many data, index and free blocks
 abbrev pub file_blocks : ℕ → ℕ → ℕ → List ℕ
 file_blocks datas indexes frees = range_with_len 0 datas ++ (range_with_len 0x800000 indexes ++ range_with_len 0x1000000 frees)
+
+-- the blocks have the magic numbers of their kinds, by which they are sealed
+pub record HaveMagics (datas indexes frees : ℕ) (built : List (List ℕ)) : Type 0 where
+  pub data_blocks : (k : ℕ) → k < datas → has_magic DirData (slice_index_or built k []) ≡ true
+  pub index_blocks : (k : ℕ) → k < indexes → IsIndexed (slice_index_or built (datas + k) [])
+  pub free_blocks : (k : ℕ) → k < frees → has_magic DirFree (slice_index_or built (datas + indexes + k) []) ≡ true
 
 -- where the seal of a block begins: data and free blocks have their checksum, place, log sequence number, identifier and
 -- owner in the bytes from 4 to 47, index blocks in those from 12 to 55

@@ -7,7 +7,7 @@ ghost use Rattle.xfs_dirdata.specs.declared.records.EntryRec.{EntryRec};
 ghost use Rattle.xfs_dirindex.specs.Data.{have_no_dots};
 ghost use Rattle.xfs_dirbuild.specs.declared.forms.Form.TheVariants.{Short, Single, Leaf};
 ghost use Rattle.xfs_dirbuild.specs.Forms.{fits_single, fits_leaf, form_of, data_blocks_of, index_blocks_of, free_blocks_of};
-ghost use Rattle.xfs_dirbuild.specs.Placed.{IsBuilt};
+ghost use Rattle.xfs_dirbuild.specs.Placed.{HaveMagics, IsBuilt};
 
 use crate::forms::{Form, data_blocks_of, form_of, free_blocks_of, index_blocks_of, short_length};
 use crate::leaf::{build_leaf, build_node};
@@ -58,6 +58,7 @@ pub fn build(
     ensures free { IfOk result (λ image. image.free_blocks ≡ free_blocks_of (form_of entries.now fork) entries.now) }
     ensures blocks { IfOk result (λ image. length image.blocks ≡ image.data_blocks + image.index_blocks + image.free_blocks) }
 
+    ensures magics { IfOk result (λ image. HaveMagics image.data_blocks image.index_blocks image.free_blocks image.blocks) }
     ensures whole { IfOk result (λ image. IsBuilt (form_of entries.now fork) dir parent image.data_blocks image.index_blocks image.free_blocks entries.now image.blocks) }
 {
     let form = form_of(entries, fork);
@@ -123,6 +124,7 @@ fn build_blocks(
     requires single { form ≡ Single → IsTrue (fits_single entries.now) }
     requires leaf { form ≡ Leaf → IsTrue (fits_leaf entries.now) }
     ensures count { IfOk result (λ blocks. length blocks ≡ data_blocks_of form entries.now + index_blocks_of form entries.now + free_blocks_of form entries.now) }
+    ensures magics { IfOk result (λ blocks. HaveMagics (data_blocks_of form entries.now) (index_blocks_of form entries.now) (free_blocks_of form entries.now) blocks) }
     ensures whole { IfOk result (λ blocks. IsBuilt form dir parent (data_blocks_of form entries.now) (index_blocks_of form entries.now) (free_blocks_of form entries.now) entries.now blocks) }
 {
     match form {
@@ -137,6 +139,7 @@ fn build_blocks(
 #[tactic(auto, unfolding(crate::specs::Placed::entries_in))]
 fn no_blocks(alloc: Global) -> Result<BlockBank, NoMemory>
     ensures count { IfOk result (λ blocks. length blocks ≡ 0) }
+    ensures magics { IfOk result (λ blocks. HaveMagics 0 0 0 blocks) }
     ensures whole { IfOk result (λ blocks. (dir parent : ℕ) (entries : List EntryRec) → IsBuilt Short dir parent 0 0 0 entries blocks) }
 {
     BlockBank::make(alloc, 0)

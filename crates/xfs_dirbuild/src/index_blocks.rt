@@ -51,6 +51,8 @@ pub fn put_leaf(pairs: &[Pair], values: &[u16], block: &mut [u8])
         VALUE_COUNT.offset - VALUE_SIZE * values.len(),
         block,
     );
+    put32(block, FORW.offset, 0);
+    put32(block, BACK.offset, 0);
     put16(block, MAGIC.offset, LEAF_MAGIC);
     put16(block, COUNT.offset, pairs.len() as u16);
     put16(block, STALE.offset, 0);

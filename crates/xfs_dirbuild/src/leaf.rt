@@ -5,7 +5,7 @@ ghost use Rattle.xfs_dirdata.specs.Written.{IsWritable};
 ghost use Rattle.xfs_dirindex.specs.Data.{have_no_dots};
 ghost use Rattle.xfs_dirbuild.specs.declared.forms.Form.TheVariants.{Leaf, Node};
 ghost use Rattle.xfs_dirbuild.specs.Forms.{data_count, fits_leaf, tree_count, value_blocks};
-ghost use Rattle.xfs_dirbuild.specs.Placed.{IsBuilt};
+ghost use Rattle.xfs_dirbuild.specs.Placed.{HaveMagics, IsBuilt};
 
 use crate::filling::{fill_blocks, sort_pairs};
 use crate::forms::{data_count, tree_count, value_blocks};
@@ -32,6 +32,7 @@ pub fn build_leaf(
     requires parent { parent < 2 ^ 32 }
     requires fits { IsTrue (fits_leaf entries.now) }
     ensures count { IfOk result (λ blocks. length blocks ≡ data_count entries.now + 1) }
+    ensures magics { IfOk result (λ blocks. HaveMagics (data_count entries.now) 1 0 blocks) }
     ensures whole { IfOk result (λ blocks. IsBuilt Leaf dir parent (data_count entries.now) 1 0 entries.now blocks) }
 {
     let data = data_count(entries);
@@ -59,6 +60,7 @@ pub fn build_node(
     requires dir { dir < 2 ^ 32 }
     requires parent { parent < 2 ^ 32 }
     ensures count { IfOk result (λ blocks. length blocks ≡ data_count entries.now + tree_count (length entries.now + 2) + value_blocks (data_count entries.now)) }
+    ensures magics { IfOk result (λ blocks. HaveMagics (data_count entries.now) (tree_count (length entries.now + 2)) (value_blocks (data_count entries.now)) blocks) }
     ensures whole { IfOk result (λ blocks. IsBuilt Node dir parent (data_count entries.now) (tree_count (length entries.now + 2)) (value_blocks (data_count entries.now)) entries.now blocks) }
 {
     let data = data_count(entries);

@@ -9,7 +9,7 @@ ghost use Rattle.xfs_dirindex.specs.Data.{have_no_dots};
 ghost use Rattle.xfs_dirbuild.specs.declared.forms.Form.TheVariants.{Single};
 ghost use Rattle.xfs_dirbuild.specs.Filling.{all_entries};
 ghost use Rattle.xfs_dirbuild.specs.Index.{IsPointer};
-ghost use Rattle.xfs_dirbuild.specs.Placed.{IsBuilt};
+ghost use Rattle.xfs_dirbuild.specs.Placed.{HaveMagics, IsBuilt};
 ghost use Rattle.xfs_dirbuild.specs.SingleBlock.{IsSingleBlock};
 ghost use Rattle.xfs_dirbuild.specs.Forms.{fits_single};
 
@@ -38,6 +38,7 @@ pub fn build_single(
     requires parent { parent < 2 ^ 32 }
     requires fits { IsTrue (fits_single entries.now) }
     ensures count { IfOk result (λ blocks. length blocks ≡ 1) }
+    ensures magics { IfOk result (λ blocks. HaveMagics 1 0 0 blocks) }
     ensures whole { IfOk result (λ blocks. IsBuilt Single dir parent 1 0 0 entries.now blocks) }
 {
     let mut pairs = Vec::new(alloc);

@@ -6,7 +6,7 @@ ghost use Rattle.xfs_word.specs.Field.{field_of};
 ghost use Rattle.xfs_dirindex.specs.Mapped.{Mapped};
 ghost use Rattle.xfs_dirindex.specs.IndexTree.{places_of, are_members, pairs_below};
 ghost use Rattle.xfs_dirbuild.specs.Forms.{tree_count};
-ghost use Rattle.xfs_dirbuild.specs.Index.{IsPointer, IsIndexBlock, before_at, next_at, share_of, Holds, places_in, IsTreeOf};
+ghost use Rattle.xfs_dirbuild.specs.Index.{IsPointer, IsIndexBlock, IsIndexed, before_at, next_at, share_of, Holds, places_in, IsTreeOf};
 
 use crate::forms::{leaf_blocks, nodes_above};
 use crate::index_blocks::put_index;
@@ -33,6 +33,7 @@ pub fn put_tree(
     requires base { base ≤ 2 ^ 32 }
     requires room { base + tree_count (length pairs.now) ≤ length blocks.old }
     ensures tree { OnOk result ((ms : List Mapped) → Holds ms blocks.new base 0 (tree_count (length pairs.now)) → IsTreeOf ms (tree_count (length pairs.now)) pairs.now) }
+    ensures indexed { OnOk result ((k : ℕ) → k < tree_count (length pairs.now) → IsIndexed (slice_index_or blocks.new (base + k) [])) }
     ensures count { length blocks.new ≡ length blocks.old }
     ensures others { (k : ℕ) → k < base → slice_index_or blocks.new k [] ≡ slice_index_or blocks.old k [] }
 {
@@ -75,6 +76,7 @@ fn put_row(
     ensures below { IfOk result (λ links. (ms : List Mapped) → Holds ms blocks.new base first count → pairs_below ms links.items ≡ pairs.now) }
     ensures places { IfOk result (λ links. places_of links.items ≡ places_in first count) }
     ensures pointers { IfOk result (λ links. All IsPointer links.items) }
+    ensures indexed { OnOk result ((k : ℕ) → k < count → IsIndexed (slice_index_or blocks.new (base + first + k) [])) }
     ensures links { IfOk result (λ links. length links.items ≡ count) }
     ensures count { length blocks.new ≡ length blocks.old }
     ensures others { (k : ℕ) → (k < base + first) ⊎ (base + first + count ≤ k) → slice_index_or blocks.new k [] ≡ slice_index_or blocks.old k [] }

@@ -1,4 +1,4 @@
-use Rattle.std.proofs.Common.{◌≡◌, ◌++◌, ◌+◌, ◌≤◌, drop, take, length}
+use Rattle.std.proofs.Common.{◌≡◌, ◌++◌, ◌+◌, drop, take, length}
 use Rattle.std.specs.List.{All}
 use Rattle.xfs_dirdata.specs.Written.{data_length, offsets}
 use Rattle.xfs_dirindex.specs.Data.{due_pairs}

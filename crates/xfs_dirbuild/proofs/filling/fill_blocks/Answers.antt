@@ -1,12 +1,10 @@
-use Rattle.std.proofs.Common.{◌≡◌, ℕ, ◌+◌, ◌-◌, ◌<◌, ◌≤◌, List, [], ◌∷◌, ◌++◌, take, drop, length, map, get_or, Option, Some, None, refl, sym, ◌∙◌, ap, subst, arith}
+use Rattle.std.proofs.Common.{◌≡◌, ℕ, ◌+◌, ◌-◌, ◌<◌, List, [], ◌∷◌, ◌++◌, take, drop, length, map, Option, Some, refl, ◌∙◌, ap, arith}
 use Rattle.std.proofs.lemmas.List.{take_rest, take_all}
-use Rattle.xfs_dirdata.specs.declared.records.EntryRec.{EntryRec}
 use Rattle.xfs_dirdata.specs.Written.{first_entries, placed_entries, offsets}
 use Rattle.xfs_dirindex.specs.declared.pairs.Pair.{Pair}
 use Rattle.xfs_dirindex.specs.Data.{due_pairs}
-use Rattle.xfs_dirbuild.specs.Filling.{shares, all_entries, filled, pairs_from, rest_in}
-use Rattle.xfs_dirbuild.specs.Placed.{IsDataBlock}
-use Rattle.xfs_dirbuild.proofs.Filled.{later, filled-some, filled-front, later-some, next-share}
+use Rattle.xfs_dirbuild.specs.Filling.{shares, all_entries, pairs_from, rest_in}
+use Rattle.xfs_dirbuild.proofs.Filled.{later, filled-some, filled-front, next-share}
 use Rattle.xfs_dirbuild.proofs.FillSteps.{left-on, room-on, pairs-on, rests-on, blocks-on, all-done, next-block}
 use Rattle.xfs_dirbuild.proofs.filling.fill_blocks.Goals as goal
 

@@ -1,14 +1,15 @@
-use Rattle.std.proofs.Common.{◌≡◌, ℕ, ◌+◌, ◌*◌, ◌<◌, ◌≤◌, true, nat_le, length, map, replicate, List, [], get_or, sym, ap, ◌∙◌, subst, inl, arith}
+use Rattle.std.proofs.Common.{◌≡◌, ℕ, ◌+◌, ◌*◌, ◌<◌, ◌≤◌, length, map, replicate, List, [], get_or, sym, ap, ◌∙◌, subst, inl, arith}
 use Rattle.std.specs.List.Sorted.{IsPermutation}
 use Rattle.std.proofs.lemmas.List.{length-map, length-replicate}
 use Rattle.std.proofs.lemmas.Bool.{leb-true}
 use Rattle.xfs_dirindex.specs.declared.pairs.Pair.{Pair}
 use Rattle.xfs_dirbuild.specs.Forms.{fits_leaf, data_count}
-use Rattle.xfs_dirbuild.specs.Filling.{shares, pairs_from, rest_in}
-use Rattle.xfs_dirbuild.specs.Index.{IsLeafBlock}
+use Rattle.xfs_dirbuild.specs.Filling.{shares, rest_in}
+use Rattle.xfs_dirbuild.specs.Index.{IsLeafBlock, IsIndexed}
 use Rattle.xfs_dirbuild.specs.Placed.{IsDataBlock}
 use Rattle.xfs_dirbuild.proofs.Banks.{put-there, put-beside, put-count}
 use Rattle.xfs_dirbuild.proofs.FillSteps.{shares-count, data_count-bound}
+use Rattle.xfs_dirbuild.proofs.Magics.{indexed, data-magic}
 use Rattle.xfs_dirbuild.proofs.WholeLeaf.{whole-leaf}
 use Rattle.xfs_dirbuild.proofs.leaf.build_leaf.Goals as goal
 
@@ -74,3 +75,28 @@ returns-clause-whole c =
     leaf fit
     (subst (λ (ps : List Pair). IsPermutation ps pairs) c.in_ok-stated.ensures.pairs c.in_ok-sort_pairs.ensures.moved)
     c.in_ok-sort_pairs.ensures.ranked c.in_ok-sort_pairs.ensures.sound are
+
+pub returns-clause-magics : goal.returns-clause-magics
+returns-clause-magics c =
+    let ss = shares c.args.dir c.args.parent c.args.entries.now in
+    let d = c.data_count-data.result in
+    let old = c.fill_blocks.new.blocks in
+    let new = c.put_block.new.blocks in
+    let block = c.put_leaf.new.block in
+    let is = c.put_block.ensures in
+    let value : c.data_count-data.result ≡ data_count c.args.entries.now = c.data_count-data.ensures.value in
+    let count = shares-count c.args.dir c.args.parent c.args.entries.now in
+    let made : length c.in_ok-blocks.blocks ≡ c.data_count-data.result + 1 =
+    ap length c.in_ok-blocks.ensures ∙ length-replicate (c.data_count-data.result + 1) (replicate 4096 0) in
+    let inside : c.data_count-data.result < length c.fill_blocks.new.blocks = omega (arith, c.in_ok-stated.ensures.count, made) in
+    record {
+      data_blocks = λ k less.
+          let low : k < c.data_count-data.result = omega (arith, value) in
+          data-magic (get_or new k []) (subst (λ (b : List ℕ). IsDataBlock (get_or ss k []) b) (sym (put-beside old new d k block is (inl low)))
+          (c.in_ok-stated.ensures.blocks k (omega (arith, count)))).magic;
+      index_blocks = λ k less.
+          let place : c.data_count-data.result ≡ data_count c.args.entries.now + k = omega (arith, value) in
+          subst (λ (n : ℕ). IsIndexed (get_or new n [])) place
+          (subst (λ (b : List ℕ). IsIndexed b) (sym (put-there old new d block is inside)) (indexed block 0 c.put_leaf.ensures.forw (omega arith)));
+      free_blocks = λ k less. absurd (omega arith);
+    }

@@ -1,16 +1,16 @@
-use Rattle.std.proofs.Common.{◌≡◌, ℕ, ◌+◌, ◌-◌, ◌*◌, ◌/◌, ◌<◌, ◌≤◌, length, map, replicate, List, [], get_or, refl, sym, ap, ◌∙◌, subst, inl, arith}
+use Rattle.std.proofs.Common.{◌≡◌, ℕ, ◌+◌, ◌*◌, ◌<◌, ◌≤◌, length, map, replicate, List, [], get_or, refl, sym, ap, ◌∙◌, subst, arith}
 use Rattle.std.specs.List.Sorted.{IsPermutation}
 use Rattle.std.proofs.lemmas.List.{length-replicate, length-map}
 use Rattle.xfs_dirindex.specs.declared.pairs.Pair.{Pair}
-use Rattle.xfs_dirindex.specs.Mapped.{Mapped}
 use Rattle.xfs_dirbuild.specs.Forms.{data_count, tree_count, value_blocks, nodes_above, leaf_blocks}
-use Rattle.xfs_dirbuild.specs.Filling.{shares, pairs_from, rest_in}
-use Rattle.xfs_dirbuild.specs.Index.{Holds, IsTreeOf}
+use Rattle.xfs_dirbuild.specs.Filling.{shares, rest_in}
+use Rattle.xfs_dirbuild.specs.Index.{IsIndexed, Holds, IsTreeOf}
 use Rattle.xfs_dirbuild.specs.FreeBlocks.{IsFreeBlock, values_in}
 use Rattle.xfs_dirbuild.specs.Placed.{IsDataBlock}
 use Rattle.xfs_dirbuild.proofs.Rows.{holds-part}
 use Rattle.xfs_dirbuild.proofs.TreeCounts.{total-is, above-most}
 use Rattle.xfs_dirbuild.proofs.FillSteps.{shares-count, data_count-bound}
+use Rattle.xfs_dirbuild.proofs.Magics.{data-magic, free-magic}
 use Rattle.xfs_dirbuild.proofs.WholeNode.{whole-node}
 use Rattle.xfs_dirbuild.proofs.leaf.build_node.Goals as goal
 
@@ -117,3 +117,35 @@ returns-clause-whole c =
     (c.put_free_blocks.ensures.blocks k inside)))
     (subst (λ (ps : List Pair). IsPermutation ps pairs) c.in_ok-stated.ensures.pairs c.in_ok-sort_pairs.ensures.moved)
     c.in_ok-sort_pairs.ensures.ranked c.in_ok-sort_pairs.ensures.sound are
+
+pub returns-clause-magics : goal.returns-clause-magics
+returns-clause-magics c =
+    let es = c.args.entries.now in
+    let ss = shares c.args.dir c.args.parent es in
+    let new = c.put_free_blocks.new.blocks in
+    let value : c.data_count-data.result ≡ data_count c.args.entries.now = c.data_count-data.ensures.value in
+    let count = shares-count c.args.dir c.args.parent es in
+    let index : c.tree_count-index.result ≡ tree_count (length c.args.entries.now + 2) = c.tree_count-index.ensures in
+    let rests : c.deref-2.result.now ≡ map rest_in ss = c.deref-2.ensures.value ∙ c.in_ok-stated.ensures.rests in
+    let deref : c.deref.result.now ≡ c.sort_pairs.new.pairs.items = c.deref.ensures.value in
+    let pairs_long : length c.sort_pairs.new.pairs.items ≡ length c.args.entries.now + 2 = omega (arith, c.in_ok-stated.ensures.added, c.in_ok-sort_pairs.ensures.count) in
+    let size : tree_count (length c.deref.result.now) ≡ tree_count (length c.args.entries.now + 2) = ap tree_count (ap length deref ∙ pairs_long) in
+    let values_long : length c.deref-2.result.now ≡ data_count es = ap length rests ∙ (length-map ss rest_in ∙ count) in
+    let blocks : value_blocks (length c.deref-2.result.now) ≡ value_blocks (data_count es) = ap value_blocks values_long in
+    record {
+      data_blocks = λ k less.
+          let low : k < c.data_count-data.result + c.tree_count-index.result = omega (arith, value) in
+          let front : k < c.data_count-data.result = omega (arith, value) in
+          data-magic (get_or new k []) (subst (λ (b : List ℕ). IsDataBlock (get_or ss k []) b) (sym (c.put_free_blocks.ensures.others k low ∙ c.in_ok-put_tree.ensures.others k front))
+          (c.in_ok-stated.ensures.blocks k (omega (arith, count)))).magic;
+      index_blocks = λ k less.
+          let low : c.data_count-data.result + k < c.data_count-data.result + c.tree_count-index.result = omega (arith, index) in
+          let inside : k < tree_count (length c.deref.result.now) = omega (arith, size) in
+          subst (λ (n : ℕ). IsIndexed (get_or new (n + k) [])) value
+          (subst (λ (b : List ℕ). IsIndexed b) (sym (c.put_free_blocks.ensures.others (c.data_count-data.result + k) low)) (c.in_ok-put_tree.ensures.indexed k inside));
+      free_blocks = λ k less.
+          let inside : k < value_blocks (length c.deref-2.result.now) = omega (arith, blocks) in
+          let place : c.data_count-data.result + c.tree_count-index.result + k ≡ data_count es + tree_count (length c.args.entries.now + 2) + k = omega (arith, value, index) in
+          free-magic (get_or new (data_count es + tree_count (length c.args.entries.now + 2) + k) [])
+          (subst (λ (p : ℕ). IsFreeBlock (2016 * k) (values_in c.deref-2.result.now k) (get_or new p [])) place (c.put_free_blocks.ensures.blocks k inside)).magic;
+    }

@@ -1,4 +1,4 @@
-use Rattle.std.proofs.Common.{◌≡◌, ℕ, ◌+◌, ◌*◌, ◌<◌, ◌≤◌, length, replicate, List, [], ◌∷◌, ◌++◌, get_or, Option, Some, refl, sym, ap, ap₂, ◌∙◌, subst, arith}
+use Rattle.std.proofs.Common.{◌≡◌, ℕ, ◌+◌, ◌*◌, ◌≤◌, length, List, [], ◌++◌, get_or, Option, Some, sym, ap, ap₂, ◌∙◌, subst, arith}
 use Rattle.std.specs.List.Sorted.{IsPermutation}
 use Rattle.std.proofs.lemmas.Bool.{leb-true}
 use Rattle.xfs_dirdata.specs.Short.{index_size}
@@ -10,6 +10,8 @@ use Rattle.xfs_dirbuild.specs.Filling.{all_entries}
 use Rattle.xfs_dirbuild.specs.SingleBlock.{IsSingleBlock}
 use Rattle.xfs_dirbuild.proofs.Banks.{put-there, put-count}
 use Rattle.xfs_dirbuild.proofs.Filled.{due_pairs-append}
+use Rattle.xfs_word.specs.Field.{field_of}
+use Rattle.xfs_dirbuild.proofs.Magics.{single-magic}
 use Rattle.xfs_dirbuild.proofs.WholeSingle.{whole-single}
 use Rattle.xfs_dirbuild.proofs.single.build_single.Goals as goal
 
@@ -44,3 +46,19 @@ returns-clause-whole c =
     whole-single c.args.dir c.args.parent es new placed pairs c.requires.names (put-count old new 0 block is ∙ made) (ap length there ∙ long) fit single
     (subst (λ (ps : List Pair). IsPermutation ps pairs) due c.in_ok-sort_pairs.ensures.moved)
     c.in_ok-sort_pairs.ensures.ranked c.in_ok-sort_pairs.ensures.sound are
+
+pub returns-clause-magics : goal.returns-clause-magics
+returns-clause-magics c =
+    let old = c.in_ok-blocks.blocks in
+    let new = c.put_block.new.blocks in
+    let block = c.put_single.new.block in
+    let made : length c.in_ok-blocks.blocks ≡ 1 = ap length c.in_ok-blocks.ensures in
+    let there : get_or c.put_block.new.blocks 0 [] ≡ c.put_single.new.block = put-there old new 0 block c.put_block.ensures (omega (arith, made)) in
+    let single = c.in_ok-put_single.ensures in
+    record {
+      data_blocks = λ k less.
+          let first : 0 ≡ k = omega arith in
+          single-magic (get_or new k []) (ap (λ (n : ℕ). field_of (get_or new n []) 0 4) (sym first) ∙ (ap (λ (b : List ℕ). field_of b 0 4) there ∙ single.magic));
+      index_blocks = λ k less. absurd (omega arith);
+      free_blocks = λ k less. absurd (omega arith);
+    }

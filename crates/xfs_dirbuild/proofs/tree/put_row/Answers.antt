@@ -1,18 +1,15 @@
-use Rattle.std.proofs.Common.{◌≡◌, ℕ, ◌+◌, ◌-◌, ◌*◌, ◌<◌, ◌≤◌, ◌^◌, inl, inr, true, false, List, [], ◌∷◌, ◌++◌, length, take, drop, get_or, refl, sym, ◌∙◌, ap, subst, arith}
+use Rattle.std.proofs.Common.{◌≡◌, ℕ, ◌+◌, ◌-◌, ◌<◌, ◌≤◌, inl, inr, true, false, List, [], ◌∷◌, ◌++◌, length, take, drop, get_or, refl, sym, ◌∙◌, ap, subst, arith}
 use Rattle.std.specs.List.{All}
-use Rattle.std.proofs.Math.Seq.{take-add}
-use Rattle.std.proofs.lemmas.List.{length-take-le, length-drop, append-nil, length_push}
+use Rattle.std.proofs.lemmas.List.{append-nil, length_push}
 use Rattle.std.proofs.lemmas.List.Elements.{All-push, All-take, All-drop}
 use Rattle.std.proofs.lemmas.Bool.Decides.{nat_tests}
-use Rattle.xfs_word.specs.Field.{field_of}
-use Rattle.xfs_word.proofs.Written.{keeps}
 use Rattle.xfs_dirindex.specs.declared.pairs.Pair.{Pair}
 use Rattle.xfs_dirindex.specs.Mapped.{Mapped}
-use Rattle.xfs_dirindex.specs.Lookup.{bytes_of}
-use Rattle.xfs_dirindex.specs.IndexTree.{next_of, places_of, are_members, pairs_below}
-use Rattle.xfs_dirbuild.specs.Index.{IsPointer, IsIndexBlock, before_at, next_at, share_of, first_of, IsPlaced, Holds, places_in}
+use Rattle.xfs_dirindex.specs.IndexTree.{places_of, are_members, pairs_below}
+use Rattle.xfs_dirbuild.specs.Index.{IsPointer, IsIndexed, next_at, share_of, first_of, Holds}
 use Rattle.xfs_dirbuild.proofs.Banks.{put-there, put-beside, put-count}
-use Rattle.xfs_dirbuild.proofs.Shares.{share_next, share_inside, share_some, share_most, first_end}
+use Rattle.xfs_dirbuild.proofs.Shares.{share_next, share_some, share_most}
+use Rattle.xfs_dirbuild.proofs.Magics.{indexed, next-small, indexed-more}
 use Rattle.xfs_dirbuild.proofs.Rows.{places-more, places-none, holds-part}
 use Rattle.xfs_dirbuild.proofs.RowSteps.{share-long, IsWritten, seen, row-members, row-below}
 use Rattle.xfs_dirbuild.proofs.tree.put_row.Goals as goal
@@ -27,6 +24,7 @@ loop-i-init c =
       below = λ ms holds. ap (pairs_below ms) none;
       places = ap places_of none ∙ sym (places-none c.args.first);
       pointers = λ k d inside. absurd (omega (arith, ap length none));
+      indexed = λ k inside. absurd (omega arith);
       links_are = ap length none;
       blocks_count = refl;
       others = λ k side. refl;
@@ -96,6 +94,11 @@ loop-i-preserved c =
       pointers = subst (λ (ls : List Pair). All IsPointer ls) (sym links)
           (All-push IsPointer c.loop-i.links.items x c.loop-i.invariant.pointers
           (record { some = omega (arith, c.link_to.ensures.address); fits = omega (arith, c.link_to.ensures.address, c.requires.low, c.loop-i-test.true) }));
+      indexed = indexed-more old new (c.args.base + c.args.first) i c.loop-i.invariant.indexed
+          (λ k less. put-beside old new at (c.args.base + c.args.first + k) block is (inl (omega arith)))
+          (subst (λ (b : List ℕ). IsIndexed b) (sym put)
+          (indexed block c.next_at-next.result written.stands.forw
+          (subst (λ (n : ℕ). n ≤ 0x1000000) (sym c.next_at-next.ensures) (next-small c.args.first c.args.count (c.loop-i.i + 1) c.requires.low))));
       links_are = ap length links ∙ (length_push c.loop-i.links.items x ∙ ap (λ (k : ℕ). k + 1) c.loop-i.invariant.links_are);
       blocks_count = put-count old new at block is ∙ c.loop-i.invariant.blocks_count;
       others = λ k side. elim side [

@@ -3,7 +3,7 @@ use Rattle.std.specs.List.{All}
 use Rattle.xfs_dirindex.specs.declared.pairs.Pair.{Pair}
 use Rattle.xfs_dirindex.specs.Mapped.{Mapped}
 use Rattle.xfs_dirindex.specs.IndexTree.{next_of, places_of, are_members, pairs_below}
-use Rattle.xfs_dirbuild.specs.Index.{IsPointer, before_at, next_at, first_of, Holds, places_in}
+use Rattle.xfs_dirbuild.specs.Index.{IsPointer, IsIndexed, before_at, next_at, first_of, Holds, places_in}
 use Rattle.xfs_dirbuild.proofs.tree.put_row.Given as goal
 
 abbrev pub invariant-loop-i : goal.invariant-loop-i
@@ -14,6 +14,7 @@ invariant-loop-i l = record {
   below : (ms : List Mapped) → Holds ms l.blocks l.base l.first l.i → pairs_below ms l.links.items ≡ take l.start l.pairs;
   places : places_of l.links.items ≡ places_in l.first l.i;
   pointers : All IsPointer l.links.items;
+  indexed : (k : ℕ) → k < l.i → IsIndexed (get_or l.blocks (l.base + l.first + k) []);
   links_are : length l.links.items ≡ l.i;
   blocks_count : length l.blocks ≡ length l.fn.blocks;
   others : (k : ℕ) → (k < l.base + l.first) ⊎ (l.base + l.first + l.i ≤ k) → get_or l.blocks k [] ≡ get_or l.fn.blocks k [];

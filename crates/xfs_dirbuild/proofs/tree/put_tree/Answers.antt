@@ -1,9 +1,7 @@
-use Rattle.std.proofs.Common.{◌≡◌, ℕ, ◌+◌, ◌/◌, ◌<◌, ◌≤◌, inl, inr, List, [], length, get_or, refl, sym, ◌∙◌, ap, ap₂, subst, arith, true, false}
-use Rattle.xfs_dirindex.specs.declared.pairs.Pair.{Pair}
-use Rattle.xfs_dirindex.specs.Mapped.{Mapped}
-use Rattle.xfs_dirindex.specs.IndexTree.{are_members, places_of, pairs_below}
-use Rattle.xfs_dirbuild.specs.Forms.{tree_count, nodes_above, leaf_blocks}
-use Rattle.xfs_dirbuild.specs.Index.{Holds, places_in, IsTreeOf}
+use Rattle.std.proofs.Common.{◌≡◌, ℕ, ◌+◌, ◌<◌, ◌≤◌, inr, List, [], length, get_or, refl, sym, ◌∙◌, ap, ap₂, subst, arith}
+use Rattle.xfs_dirbuild.specs.Forms.{tree_count}
+use Rattle.xfs_dirbuild.specs.Index.{IsIndexed, places_in, IsTreeOf}
+use Rattle.xfs_dirbuild.proofs.Magics.{indexed-join}
 use Rattle.xfs_dirbuild.proofs.Rows.{holds-part}
 use Rattle.xfs_dirbuild.proofs.Trees.{tree-one, tree-two, tree-three}
 use Rattle.xfs_dirbuild.proofs.TreeCounts.{total-is, above-none, above-most}
@@ -85,3 +83,55 @@ returns-clause-tree c =
     (c.in_ok-below.ensures.below ms lower) (c.in_ok-upper.ensures.members ms middle)
     (c.in_ok-upper.ensures.places ∙ ap (λ (a : ℕ). places_in a c.nodes_above-nodes.result) one) (c.in_ok-upper.ensures.below ms middle ∙ c.deref.ensures.value)
     (c.in_ok-put_row.ensures.members ms upper) (c.in_ok-put_row.ensures.places ∙ ap (places_in 0) one) (c.in_ok-put_row.ensures.below ms upper ∙ c.deref-2.ensures.value))
+
+-- all blocks of a tree, by its rows
+all-rows : (n tops nodes leaves base : ℕ) (bank : List (List ℕ)) → tree_count n ≡ tops + nodes + leaves
+    → ((k : ℕ) → k < tops + nodes → IsIndexed (get_or bank (base + k) []))
+    → ((k : ℕ) → k < leaves → IsIndexed (get_or bank (base + (tops + nodes) + k) [])) → (k : ℕ) → k < tree_count n → IsIndexed (get_or bank (base + k) [])
+all-rows n tops nodes leaves base bank all front row k less = indexed-join bank base (tops + nodes) leaves front row k (omega (arith, all, less))
+
+pub returns-then-nodes-eq0-clause-indexed : goal.returns-then-nodes-eq0-clause-indexed
+returns-then-nodes-eq0-clause-indexed c =
+    let n = length c.args.pairs.now in
+    let leaves = c.leaf_blocks-leaves.result in
+    let nodes = c.nodes_above-nodes.result in
+    let tops = c.nodes_above-tops.result in
+    let all = total-is n leaves nodes tops c.leaf_blocks-leaves.ensures c.nodes_above-nodes.ensures c.nodes_above-tops.ensures in
+    let above = above-most nodes tops c.nodes_above-tops.ensures in
+    let none : c.nodes_above-tops.result + c.nodes_above-nodes.result ≡ 0 = omega (arith, above, c.if-nodes-eq0.true) in
+    all-rows n tops nodes leaves c.args.base c.put_row.new.blocks all (λ k less. absurd (omega (arith, none, less))) c.in_ok-below.ensures.indexed
+
+pub returns-then-tops-eq0-clause-indexed : goal.returns-then-tops-eq0-clause-indexed
+returns-then-tops-eq0-clause-indexed c =
+    let n = length c.args.pairs.now in
+    let leaves = c.leaf_blocks-leaves.result in
+    let nodes = c.nodes_above-nodes.result in
+    let tops = c.nodes_above-tops.result in
+    let bank = c.put_row-2.new.blocks in
+    let all = total-is n leaves nodes tops c.leaf_blocks-leaves.ensures c.nodes_above-nodes.ensures c.nodes_above-tops.ensures in
+    all-rows n tops nodes leaves c.args.base bank all
+    (indexed-join bank c.args.base tops nodes (λ k less. absurd (omega (arith, c.if-tops-eq0.true, less))) c.in_ok-upper.ensures.indexed)
+    (λ k less.
+    subst (λ (b : List ℕ). IsIndexed b)
+    (sym (c.in_ok-upper.ensures.others (c.args.base + (c.nodes_above-tops.result + c.nodes_above-nodes.result) + k) (inr (omega arith))))
+    (c.in_ok-below.ensures.indexed k less))
+
+pub returns-clause-indexed : goal.returns-clause-indexed
+returns-clause-indexed c =
+    let n = length c.args.pairs.now in
+    let leaves = c.leaf_blocks-leaves.result in
+    let nodes = c.nodes_above-nodes.result in
+    let tops = c.nodes_above-tops.result in
+    let bank = c.put_row-3.new.blocks in
+    let all = total-is n leaves nodes tops c.leaf_blocks-leaves.ensures c.nodes_above-nodes.ensures c.nodes_above-tops.ensures in
+    all-rows n tops nodes leaves c.args.base bank all
+    (indexed-join bank c.args.base tops nodes
+    (λ k less. subst (λ (p : ℕ). IsIndexed (get_or bank p [])) (omega arith) (c.in_ok-put_row.ensures.indexed k less))
+    (λ k less.
+    subst (λ (b : List ℕ). IsIndexed b) (sym (c.in_ok-put_row.ensures.others (c.args.base + c.nodes_above-tops.result + k) (inr (omega arith))))
+    (c.in_ok-upper.ensures.indexed k less)))
+    (λ k less.
+    let place = c.args.base + (c.nodes_above-tops.result + c.nodes_above-nodes.result) + k in
+    subst (λ (b : List ℕ). IsIndexed b)
+    (sym (c.in_ok-put_row.ensures.others place (inr (omega arith)) ∙ c.in_ok-upper.ensures.others place (inr (omega arith))))
+    (c.in_ok-below.ensures.indexed k less))

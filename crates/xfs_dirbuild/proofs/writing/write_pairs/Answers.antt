@@ -1,4 +1,4 @@
-use Rattle.std.proofs.Common.{◌+◌, ◌*◌, inl, inr, arith, ◌∙◌}
+use Rattle.std.proofs.Common.{inl, inr, arith, ◌∙◌}
 use Rattle.xfs_dirbuild.proofs.Pairs.{pairs_at-more}
 use Rattle.xfs_dirbuild.proofs.writing.write_pairs.Goals as goal
 
