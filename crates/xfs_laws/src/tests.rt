@@ -47,24 +47,18 @@ fn judged<R: Threads + Abort + Sync>(rt: &R, alloc: Global, parts: &Parts) -> Op
 }
 
 /// A run of blocks as a number.
-fn run(start: u128, count: u128) -> u128
-    requires { (start < 2 ^ 32) × (count < 2 ^ 32) }
-{
-    start * (1 << 32) + count
+fn run(start: u32, count: u32) -> u128 {
+    start as u128 * (1 << 32) + count as u128
 }
 
 /// The owner of a block with its offset word, as a number.
-fn owner(ino: u128, word: u128) -> u128
-    requires { (ino < 2 ^ 32) × (word < 2 ^ 64) }
-{
-    ino * (1 << 64) + word
+fn owner(ino: u32, word: u64) -> u128 {
+    ino as u128 * (1 << 64) + word as u128
 }
 
 /// The chunk with these numbers in place of the free inodes and their bits, as a number.
-fn chunk(freecount: u128, free: u128) -> u128
-    requires { (freecount < 2 ^ 8) × (free < 2 ^ 64) }
-{
-    128 * (1 << 96) + 64 * (1 << 72) + freecount * (1 << 64) + free
+fn chunk(freecount: u8, free: u64) -> u128 {
+    128 * (1 << 96) + 64 * (1 << 72) + freecount as u128 * (1 << 64) + free as u128
 }
 
 #[test]
@@ -128,7 +122,7 @@ fn space(rt: HostRuntime) {
         ),
         (
             Change::Rmap(5, owned(24, 1, 131, UNWRITTEN)),
-            (3, 24, owner(131, UNWRITTEN as u128), owner(131, 0)),
+            (3, 24, owner(131, UNWRITTEN), owner(131, 0)),
         ),
         (
             Change::Rmap(6, owned(25, 1, 131, 1)),
@@ -153,26 +147,23 @@ fn counts(rt: HostRuntime) {
                 free: free + 8,
                 ..CHUNK
             }),
-            (4, 0, chunk(59, free as u128 + 8), chunk(59, free as u128)),
+            (4, 0, chunk(59, free + 8), chunk(59, free)),
         ),
         (
             Change::Chunk(InoRec {
                 freecount: 58,
                 ..CHUNK
             }),
-            (4, 0, chunk(58, free as u128), chunk(59, free as u128)),
+            (4, 0, chunk(58, free), chunk(59, free)),
         ),
         (
             Change::FreeChunk(Some(InoRec {
                 freecount: 58,
                 ..CHUNK
             })),
-            (4, 1, chunk(58, free as u128), chunk(59, free as u128)),
+            (4, 1, chunk(58, free), chunk(59, free)),
         ),
-        (
-            Change::FreeChunk(None),
-            (4, 1, NOTHING, chunk(59, free as u128)),
-        ),
+        (Change::FreeChunk(None), (4, 1, NOTHING, chunk(59, free))),
         (Change::Longest(999), (5, 1, 999, 998)),
         (Change::Btreeblks(1), (5, 2, 1, 0)),
         (Change::Rmapblocks(2), (5, 3, 2, 1)),

@@ -204,9 +204,9 @@ fn file(alloc: Global, inode: &Inode) -> Result<FileRec, AllocError> {
 }
 
 /// The five trees of a group, a block each.
-fn trees(alloc: Global, base: u64, last: u64) -> Result<Records<TreeBlocks>, AllocError> {
+fn trees(alloc: Global, roots: [u64; 5]) -> Result<Records<TreeBlocks>, AllocError> {
     let mut trees = Vec::new(alloc);
-    for block in [base + 1, base + 2, base + 3, base + 4, last] {
+    for block in roots {
         trees.push(TreeBlocks {
             blocks: Records::from_vec(vec![in alloc; block]?),
         })?;
@@ -323,7 +323,7 @@ fn first_group(alloc: Global, parts: &Parts) -> Result<GroupRec, AllocError> {
         ino: Records::from_vec(vec![in alloc; parts.chunk]?),
         fino: Records::from_vec(fino),
         rmap: Records::from_vec(rmap),
-        blocks: trees(alloc, 0, parts.root_of_rmap)?,
+        blocks: trees(alloc, [1, 2, 3, 4, parts.root_of_rmap])?,
     })
 }
 
@@ -344,7 +344,7 @@ fn last_group(alloc: Global, parts: &Parts) -> Result<GroupRec, AllocError> {
             owned(6, 512, LOG, 0),
             owned(518, 6, GROUP, 0),
         ]?),
-        blocks: trees(alloc, 1024, 1029)?,
+        blocks: trees(alloc, [1025, 1026, 1027, 1028, 1029])?,
     })
 }
 
