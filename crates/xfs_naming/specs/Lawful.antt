@@ -13,13 +13,11 @@ pub data IsReached : List EntryRec → ℕ → ℕ → Type 0 where
   by_entry : {entries : List EntryRec} {root dir ino : ℕ} → IsReached entries root dir
       → Any (λ (e : EntryRec). (e.dir ≡ dir) × (e.ino ≡ ino)) entries → IsReached entries root ino
 
--- the inodes of the system's own are the two behind the root
-abbrev pub IsSystem : ℕ → ℕ → Type 0
-IsSystem root ino = (ino ≡ root + 1) ⊎ (ino ≡ root + 2)
-
+-- not one of the inodes of the system's own, which are the two behind the root
 abbrev pub IsOrdinary : ℕ → ℕ → Type 0
 IsOrdinary root ino = (ino ≢ root + 1) × (ino ≢ root + 2)
 
+-- a directory, and another file
 abbrev pub IsDirectory : FileRec → Type 0
 IsDirectory f = type_of f ≡ 4
 

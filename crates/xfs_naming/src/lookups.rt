@@ -15,7 +15,7 @@ use xfs_volume::{DirRec, FileRec};
 /// The type of a directory (chapter "On-disk Inode").
 const DIRECTORY: u16 = 4;
 
-/// Whether the inode behind the root is one of the two of the system's own.
+/// Whether a number is that of one of the two files of the system's own, which stand behind the root.
 pub fn is_system(root: u64, ino: u64) -> bool
     requires { root < 2 ^ 32 }
     ensures { result ≡ is_system root ino }

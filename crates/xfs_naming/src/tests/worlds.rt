@@ -21,7 +21,7 @@ pub struct World {
     pub broken: Option<Broken>,
 }
 
-/// The root with one directory less than `two`, and the two files of the system's own.
+/// An empty root, and the two files of the system's own.
 const ROOT: &[File] = &[(128, 4, 2, 6), (129, 8, 1, 0), (130, 8, 1, 0)];
 
 /// A root with a directory in it.
