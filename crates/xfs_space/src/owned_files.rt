@@ -62,7 +62,7 @@ fn push_extents(
 {
     for extent in extents {
         let block = block_of(g, extent.start);
-        push_run(runs, block, extent.count as u64, ino, word_of(flag, extent))?;
+        push_run(runs, block, extent.count, ino, word_of(flag, extent))?;
     }
     Ok(())
 }
