@@ -1,0 +1,9 @@
+pub mod Files
+pub mod Firsts
+pub mod Attaching
+pub mod Groups
+pub mod Starting
+pub mod Lonely
+pub mod Renaming
+pub mod Joined
+pub mod Deciding

@@ -1,0 +1,39 @@
+use Rattle.std.proofs.Common.{◌<◌, ◌+◌, ◌-◌, refl, sym, ◌∙◌, subst, ap, arith, List, length}
+use Rattle.std.specs.List.{All}
+use Rattle.xfs_weave.specs.Lists.{list_at}
+use Rattle.xfs_links.specs.declared.candidates.Candidate.{Candidate}
+use Rattle.xfs_links.specs.declared.walk.Attached.{Attached}
+use Rattle.xfs_links.specs.Walk.{is_attached, see_all}
+use Rattle.xfs_links.specs.Places.{named_at, targets}
+use Rattle.xfs_links.proofs.Attaching.{turns_next, turns_done, pending_twice, grown_all, turn_told, turn_over, begin_is}
+use Rattle.xfs_links.proofs.Groups.{targets_inside}
+use Rattle.xfs_links.proofs.walk.begin.Goals as goal
+
+pub overflow_add-from : goal.overflow_add-from
+overflow_add-from c = omega (arith, c.as_slice-from.type_inv.1, c.requires.steps)
+
+pub take_directory-requires-clause-targets : goal.take_directory-requires-clause-targets
+take_directory-requires-clause-targets c = subst (λ (r : List Candidate). All (λ (k : Candidate). k.target < length c.args.files.now) r) (sym c.group_of.ensures.group)
+    (targets_inside c.args.candidates.now c.in-Some.directory (length c.args.files.now) c.requires.targets)
+
+pub loop-step-preserved : goal.loop-step-preserved
+loop-step-preserved c = record {
+  steady = c.in_ok-take_directory.ensures.steady;
+  leads = turns_next (named_at c.args.files.now c.args.candidates.now) c.args.steps c.loop-step.step (length c.as_slice-from.result.now) c.loop-step.turn.items c.take_directory.new.turn.items _ c.in-Some.directory
+      c.loop-step-test.true
+      (turn_told c.loop-step.turn.items c.deref.result.now (length c.as_slice-from.result.now + c.loop-step.step) c.in-Some.directory c.deref.ensures.value c.in-Some.ensures).0
+      (turn_told c.loop-step.turn.items c.deref.result.now (length c.as_slice-from.result.now + c.loop-step.step) c.in-Some.directory c.deref.ensures.value c.in-Some.ensures).1
+      (c.in_ok-take_directory.ensures.turn ∙ ap (λ (r : List Candidate). see_all c.in-Some.directory c.loop-step.turn.items (targets c.args.files.now r)) c.group_of.ensures.group)
+      c.loop-step.invariant.leads;
+  pending = pending_twice c.loop-step.turn.items c.take_directory.new.turn.items (list_at c.args.weave.now 0) (list_at c.loop-step.weave 0) (list_at c.take_directory.new.weave 0)
+      (λ p h. ap (λ (r : List Attached). is_attached r p) c.in_ok-take_directory.ensures.turn ∙ grown_all c.in-Some.directory c.loop-step.turn.items (targets c.args.files.now c.group_of.result.now) p h)
+      c.loop-step.invariant.pending c.in_ok-take_directory.ensures.pending;
+}
+
+pub returns-in_default-clause-turn : goal.returns-in_default-clause-turn
+returns-in_default-clause-turn c =
+    sym (turns_done (named_at c.args.files.now c.args.candidates.now) (c.args.steps - c.loop-step.step) (length c.as_slice-from.result.now + c.loop-step.step) c.loop-step.turn.items
+    (turn_over c.loop-step.turn.items c.deref.result.now (length c.as_slice-from.result.now + c.loop-step.step) c.directory_at.result c.deref.ensures.value c.directory_at.ensures c.in_default.is))
+    ∙ c.loop-step.invariant.leads
+    ∙ begin_is c.args.files.now c.args.weave.now (named_at c.args.files.now c.args.candidates.now) c.args.steps c.args.root c.args.start (length c.as_slice-from.result.now)
+    c.args.turn.now.items c.attach.new.turn.items c.as_slice-from.result.now c.start_parent.result c.requires.steady c.requires.start c.as_slice-from.ensures.value refl c.start_parent.ensures c.in_ok-attach.ensures.turn

@@ -1,0 +1,7 @@
+pub mod Entries
+pub mod Walk
+pub mod Connected
+pub mod Places
+pub mod Met
+pub mod Decision
+pub mod Taken

@@ -1,0 +1,108 @@
+//! The candidates: the entries that can name their files, of equal names in a directory the first.
+
+ghost use Rattle.std.specs.Prelude.{◌≡◌, ℕ, ◌<◌, ◌+◌, ◌^◌, ◌==◌, ◌&&◌, ◌||◌, not, true, false, [], ◌∷◌, map, length, IfOk, MatchOption};
+ghost use Rattle.std.specs.List.{All, list_any};
+ghost use Rattle.std.specs.Str.{bytes_eq};
+ghost use Rattle.xfs_volume.specs.Names.{is_name};
+ghost use Rattle.xfs_links.specs.Entries.{AreFiles, is_kept, passes, candidates};
+ghost use Rattle.xfs_links.specs.Places.{entry_of, IsPlaced, IsPlacedAt};
+
+use crate::lookup::place_of;
+use crate::met::Met;
+use crate::records::NodeRec;
+use std::alloc::Global;
+use xfs_dirdata::EntryRec;
+use xfs_disk::NoMemory;
+
+/// An entry that can name its file.
+#[derive(Clone, Copy, Debug)]
+pub struct Candidate {
+    /// Its place among the entries.
+    pub entry: usize,
+    /// The place of its directory among the files.
+    pub directory: u32,
+    /// The place of the file that it names.
+    pub target: u32,
+}
+
+/// The candidates among the entries, in their order.
+pub fn find_candidates(
+    alloc: Global,
+    files: &[NodeRec],
+    entries: &[EntryRec],
+    root: u64,
+) -> Result<Vec<Candidate>, NoMemory>
+    requires files { AreFiles files.now }
+    requires known { All (λ e. is_kept files.now e.dir ≡ true) entries.now }
+    requires root { root < 2 ^ 32 }
+    ensures list { IfOk result (λ found. map (entry_of entries.now) found.items ≡ candidates files.now root entries.now) }
+    ensures placed { IfOk result (λ found. All (IsPlaced files.now entries.now) found.items) }
+{
+    let mut met = Met::new(alloc);
+    let mut found = Vec::new(alloc);
+    for (i, entry) in entries.iter().enumerate() {
+        let Some(candidate) = candidate_of(files, entry, i, root) else {
+            continue;
+        };
+        if !met.add(entry.dir, entry.name.bytes())? {
+            continue;
+        }
+        found.push(candidate)?;
+    }
+    Ok(found)
+}
+
+/// The entry as a candidate, where it can name its file.
+fn candidate_of(files: &[NodeRec], entry: &EntryRec, i: usize, root: u64) -> Option<Candidate>
+    requires files { AreFiles files.now }
+    requires known { is_kept files.now entry.now.dir ≡ true }
+    requires root { root < 2 ^ 32 }
+    ensures { MatchOption result (passes files.now root entry.now ≡ false) (λ c. (passes files.now root entry.now ≡ true) × IsPlacedAt files.now entry.now i c) }
+{
+    if !is_valid(entry.name.bytes()) || is_reserved(root, entry.ino) {
+        return None;
+    }
+    let target = place_of(files, entry.ino)?;
+    let directory = place_of(files, entry.dir)?;
+    Some(Candidate {
+        entry: i,
+        directory,
+        target,
+    })
+}
+
+/// Whether a file can have the name.
+#[tactic(auto, unfolding(xfs_volume::specs::Names::is_name))]
+pub fn is_valid(name: &[u8]) -> bool
+    ensures { result ≡ is_name name.now }
+{
+    if name.is_empty() || name.len() > 255 {
+        return false;
+    }
+    if has_slash_or_zero(name) {
+        return false;
+    }
+    !is_dots(name)
+}
+
+/// Whether a byte of the name is 0 or a slash.
+fn has_slash_or_zero(name: &[u8]) -> bool
+    ensures { result ≡ list_any (λ byte. byte == 0 || byte == 0x2f) name.now }
+{
+    name.iter().any(|byte| *byte == 0 || *byte == b'/')
+}
+
+/// Whether the name is `.` or `..`.
+fn is_dots(name: &[u8]) -> bool
+    ensures { result ≡ (bytes_eq name.now (0x2e ∷ []) || bytes_eq name.now (0x2e ∷ 0x2e ∷ [])) }
+{
+    name == b".".as_slice() || name == b"..".as_slice()
+}
+
+/// Whether the number is the root's, or that of a system inode.
+pub fn is_reserved(root: u64, ino: u64) -> bool
+    requires { root < 2 ^ 32 }
+    ensures { result ≡ (ino == root || (ino == root + 1 || ino == root + 2)) }
+{
+    ino == root || ino == root + 1 || ino == root + 2
+}

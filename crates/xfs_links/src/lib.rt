@@ -1,0 +1,17 @@
+//! Names: which entries of the directories stay, where each directory hangs, and which files have lost
+//! their names.
+#![tactic(auto)]
+
+mod candidates;
+mod connecting;
+mod lookup;
+mod met;
+mod orphans;
+mod records;
+mod remaining;
+#[cfg(test)]
+mod tests;
+mod walk;
+
+pub use connecting::connect;
+pub use records::{Names, NodeRec};
