@@ -1,0 +1,173 @@
+-- Lists of uses, as blocks are marked in them.
+use Rattle.std.specs.Option.{unwrap_or}
+use Rattle.std.proofs.lemmas.List.{drop_more}
+use Rattle.std.proofs.Common.{Option, Some, subst, drop, ◌≡◌, ℕ, Bool, true, false, ◌+◌, ◌-◌, ◌*◌, ◌/◌, ◌%◌, ◌≤◌, ◌<◌, ◌&&◌, ◌||◌, ◌==◌, nat_lt, if◌then◌else◌, List, [], ◌∷◌, length, get_or, set, take, inl, inr, refl, sym, ◌∙◌, ap, arith, get_or-set_same, get_or-set_other}
+use Rattle.std.specs.List.{list_any}
+use Rattle.std.proofs.Math.ListN.{length-set}
+use Rattle.std.proofs.Math.Nat.{mul-le-mul_right}
+use Rattle.std.proofs.lemmas.Bool.{cases_eq, cases_lt, eq-eqb, ne_eqb, eqb-false, lt-ltb, le-ltb}
+use Rattle.std.proofs.lemmas.Bool.Decides.{nat_tests}
+use Rattle.std.proofs.lemmas.List.Folds.{list_any_more}
+use Rattle.std.proofs.lemmas.Nat.{mod-mul-add}
+use Rattle.xfs_geom.specs.Conversions.{is_fixed}
+use Rattle.xfs_geom.specs.Shape.{HasGroups, HasLog}
+use Rattle.xfs_geom.specs.Volumes.{Volume}
+use Rattle.xfs_geom.specs.declared.records.Run.{Run}
+use Rattle.xfs_place.specs.declared.uses.Use.{Use}
+use Rattle.xfs_place.specs.declared.uses.Use.TheVariants.{Pool, Reserved, Claimed}
+use Rattle.xfs_place.specs.Pool.{Marks, Puts, Shows, is_among, is_listed, is_of, use_at, use_by, use_held, use_of, use_of_run}
+
+-- where no block passes, nothing is marked
+pub marks_none : (uses : List Use) (test : ℕ → Bool) (now : Use) → ((b : ℕ) → test b ≡ false) → Marks uses uses test now
+marks_none uses test now none = record { all = refl; each = λ b in'. rw (none b) refl }
+
+-- one block is marked
+pub marks_set : (uses : List Use) (i : ℕ) (now : Use) → i < length uses → Marks uses (set uses i now) (λ b. b == i) now
+marks_set uses i now in' = record {
+  all = length-set uses i now;
+  each = λ b h. elim (cases_eq b i) [
+    | inl same ↦
+        let e : (b == i) ≡ true = eq-eqb b i same in
+        rw (e, same) (get_or-set_same uses i now Claimed in')
+    | inr other ↦
+        let e : (b == i) ≡ false = ne_eqb b i other in
+        rw e (get_or-set_other uses i b now Claimed other)
+  ];
+}
+
+two_marks : (p q : Bool) (u v w now : Use) → v ≡ (if p then now else u) → w ≡ (if q then now else v) → w ≡ (if p || q then now else u)
+two_marks true true u v w now hv hw = hw
+two_marks true false u v w now hv hw = hw ∙ hv
+two_marks false true u v w now hv hw = hw
+two_marks false false u v w now hv hw = hw ∙ hv
+
+-- some blocks are marked, then others
+pub marks_then : (old mid new : List Use) (p q r : ℕ → Bool) (now : Use) → Marks old mid p now → Marks mid new q now
+    → ((b : ℕ) → b < length old → r b ≡ (p b || q b)) → Marks old new r now
+marks_then old mid new p q r now first next both = record {
+  all = next.all ∙ first.all;
+  each = λ b h.
+      let here : b < length mid = omega (arith, first.all) in
+      rw (both b h) (two_marks (p b) (q b) (use_at old b) (use_at mid b) (use_at new b) now (first.each b h) (next.each b here));
+}
+
+-- one more of a list
+pub listed_more : (blocks : List ℕ) (i : ℕ) (block : ℕ) → i < length blocks → (b : ℕ) → is_listed (take (i + 1) blocks) b ≡ (is_listed (take i blocks) b || (b == get_or blocks i block))
+unfolding is_listed
+listed_more blocks i block in' b =
+    let turned : (get_or blocks i block == b) ≡ (b == get_or blocks i block) = grind (arith, nat_tests) in
+    list_any_more (λ (x : ℕ). x == b) blocks i block in' ∙ ap (λ (t : Bool). list_any (λ (x : ℕ). x == b) (take i blocks) || t) turned
+
+pub none_listed : (b : ℕ) → is_listed [] b ≡ false
+unfolding is_listed
+none_listed b = refl
+
+-- where nothing is said, nothing changes
+pub puts_none : (uses : List Use) → Puts uses uses (use_held [])
+unfolding use_held
+puts_none uses = record { all = refl; each = λ b h. refl }
+
+-- one run in front of those that are said already
+pub puts_more : (old mid new : List Use) (r : Run) (rest : List Run) → Puts old mid (use_held rest) → Marks mid new (is_among r.start r.count) (use_of_run r)
+    → Puts old new (use_held (r ∷ rest))
+unfolding use_held
+puts_more old mid new r rest first next = record {
+  all = next.all ∙ first.all;
+  each = λ b h.
+      let here : b < length mid = omega (arith, first.all, h) in
+      by_case (is_of b r) (use_held rest b) (use_of_run r) (use_at old b) (use_at mid b) (use_at new b) (first.each b h) (next.each b here);
+}
+  where
+    by_case : (t : Bool) (said : Option Use) (now u v w : Use) → v ≡ unwrap_or said u → w ≡ (if t then now else v) → w ≡ unwrap_or (if t then Some now else said) u
+    by_case true said now u v w hv hw = hw
+    by_case false said now u v w hv hw = hw ∙ hv
+
+pub puts_at : (old mid new : List Use) (runs : List Run) (i : ℕ) (none : Run) → i < length runs → Puts old mid (use_held (drop (length runs - i) runs))
+    → Marks mid new (is_among (get_or runs (length runs - 1 - i) none).start (get_or runs (length runs - 1 - i) none).count) (use_of_run (get_or runs (length runs - 1 - i) none))
+    → Puts old new (use_held (drop (length runs - (i + 1)) runs))
+puts_at old mid new runs i none in' first next =
+    let at = length runs - 1 - i in
+    let step : drop at runs ≡ get_or runs at none ∷ drop (at + 1) runs = drop_more runs at none (omega (arith, in')) in
+    let after : at + 1 ≡ length runs - i = omega (arith, in') in
+    let before : at ≡ length runs - (i + 1) = omega (arith, in') in
+    let rest : Puts old mid (use_held (drop (at + 1) runs)) = subst (λ (k : ℕ). Puts old mid (use_held (drop k runs))) (sym after) first in
+    let whole = puts_more old mid new (get_or runs at none) (drop (at + 1) runs) rest next in
+    subst (λ (rs : List Run). Puts old new (use_held rs)) (sym step ∙ ap (λ (k : ℕ). drop k runs) before) whole
+
+-- a block beyond the list is not there
+or_false : (x y : Bool) → y ≡ false → x ≡ (x || y)
+or_false true y h = refl
+or_false false y h = sym h
+
+pub listed_beyond : (blocks : List ℕ) (i block n : ℕ) → i < length blocks → n ≤ get_or blocks i block → (b : ℕ) → b < n → is_listed (take (i + 1) blocks) b ≡ is_listed (take i blocks) b
+listed_beyond blocks i block n in' far b h =
+    let other : (b == get_or blocks i block) ≡ false = ne_eqb b (get_or blocks i block) (λ e. omega (arith, e)) in
+    listed_more blocks i block in' b ∙ sym (or_false (is_listed (take i blocks) b) (b == get_or blocks i block) other)
+
+first_only : (x y : Bool) → x ≡ y → (x && true) ≡ ((x && false) || y)
+first_only true y h = h
+first_only false y h = h
+
+neither : (x : Bool) → (x && false) ≡ ((x && false) || false)
+neither true = refl
+neither false = refl
+
+-- the first block of the next group is the one more that begins a group
+pub headers_more : (width ag at b : ℕ) → at ≡ ag * width → 1 ≤ width
+    → (b % width == 0 && nat_lt b ((ag + 1) * width)) ≡ ((b % width == 0 && nat_lt b (ag * width)) || (b == at))
+headers_more width ag at b is some = elim (cases_lt b (ag * width)) [
+  | inl low ↦
+      let e : nat_lt b (ag * width) ≡ true = lt-ltb b (ag * width) low in
+      let f : nat_lt b ((ag + 1) * width) ≡ true = lt-ltb b ((ag + 1) * width) (omega (arith, low)) in
+      let g : (b == at) ≡ false = ne_eqb b at (λ h. omega (arith, low, is, h)) in
+      rw (e, f, g) (or_false (b % width == 0 && true) false refl)
+  | inr high ↦
+      let e : nat_lt b (ag * width) ≡ false = le-ltb b (ag * width) high in
+      elim (cases_lt (b - ag * width) width) [
+        | inl near ↦
+            let whole : b ≡ ag * width + (b - ag * width) = omega (arith, high) in
+            let rest : b % width ≡ b - ag * width = ap (λ (n : ℕ). n % width) whole ∙ mod-mul-add ag width (b - ag * width) near in
+            let f : nat_lt b ((ag + 1) * width) ≡ true = lt-ltb b ((ag + 1) * width) (omega (arith, high, near)) in
+            let g : (b - ag * width == 0) ≡ (b == at) = grind (arith, nat_tests, is, high) in
+            rw (e, f, rest) (first_only (b - ag * width == 0) (b == at) g)
+        | inr far ↦
+            let f : nat_lt b ((ag + 1) * width) ≡ false = le-ltb b ((ag + 1) * width) (omega (arith, high, far)) in
+            let g : (b == at) ≡ false = ne_eqb b at (λ h. omega (arith, far, is, h, some)) in
+            rw (e, f, g) (neither (b % width == 0))
+      ]
+]
+
+-- the uses after all three marks
+pub uses_set : (v : Volume) (runs : List Run) (reserved : List ℕ) (fresh kept fixed claimed : List Use) → Shows fresh v.dblocks (λ _. Pool)
+    → Marks fresh kept (is_listed reserved) Reserved → Marks kept fixed (is_fixed v) Claimed → Puts fixed claimed (use_held runs)
+    → Shows claimed v.dblocks (use_of v runs reserved)
+unfolding use_of
+uses_set v runs reserved fresh kept fixed claimed all first second third = record {
+  all = third.all ∙ second.all ∙ first.all ∙ all.all;
+  each = λ b h.
+      let a : b < length fresh = omega (arith, all.all, h) in
+      let k : b < length kept = omega (arith, first.all, a) in
+      let f : b < length fixed = omega (arith, second.all, k) in
+      by_cases (is_fixed v b) (is_listed reserved b) (use_held runs b) (use_at fresh b) (use_at kept b) (use_at fixed b) (use_at claimed b)
+      (all.each b h) (first.each b a) (second.each b k) (third.each b f);
+}
+  where
+    by_cases : (x l : Bool) (t : Option Use) (u k f c : Use) → u ≡ Pool → k ≡ (if l then Reserved else u) → f ≡ (if x then Claimed else k) → c ≡ unwrap_or t f → c ≡ use_by x t l
+    by_cases true true t u k f c hu hk hf hc = hc ∙ ap (unwrap_or t) hf
+    by_cases true false t u k f c hu hk hf hc = hc ∙ ap (unwrap_or t) hf
+    by_cases false true t u k f c hu hk hf hc = hc ∙ ap (unwrap_or t) (hf ∙ hk)
+    by_cases false false t u k f c hu hk hf hc = hc ∙ ap (unwrap_or t) (hf ∙ hk ∙ hu)
+
+-- the log ends inside the volume
+pub log_end : (d w n log l : ℕ) → HasGroups d w n → HasLog d w n log l → log + l ≤ d
+log_end d w n log l groups has = by_case (log / w + 1 == n) refl has.inside
+  where
+    by_case : (r : Bool) → (log / w + 1 == n) ≡ r → log % w + l ≤ (if r then d - log / w * w else w) → log + l ≤ d
+    by_case true last inside =
+        let some : 0 < w = omega (arith, groups.large) in
+        omega (arith, inside, has.large)
+    by_case false other inside =
+        let some : 0 < w = omega (arith, groups.large) in
+        let before : log / w + 1 ≤ n - 1 = omega (arith, eqb-false (log / w + 1) n other, has.group) in
+        let most : (log / w + 1) * w ≤ (n - 1) * w = mul-le-mul_right w before in
+        omega (arith, most, inside, groups.last)

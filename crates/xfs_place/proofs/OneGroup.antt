@@ -1,0 +1,99 @@
+-- One group of a volume as placing has it.
+use Rattle.std.proofs.Common.{◌≡◌, ℕ, ◌+◌, ◌-◌, ◌*◌, ◌≤◌, ◌<◌, inl, inr, Bool, true, false, nat_lt, if◌then◌else◌, List, [], ◌∷◌, ◌++◌, length, get_or, take, drop, map, Option, Some, None, refl, sym, ◌∙◌, ap, ap₂, subst, arith, length-drop, length-take, get_or-take, get_or-drop}
+use Rattle.std.specs.List.{All, filter, range_with_len}
+use Rattle.std.proofs.lemmas.Bool.{cases_lt, lt-ltb, le-ltb}
+use Rattle.std.proofs.lemmas.List.FromFn.{fill_by_all}
+use Rattle.std.proofs.lemmas.Bool.Decides.{nat_tests}
+use Rattle.xfs_geom.specs.Conversions.{group_length}
+use Rattle.xfs_geom.specs.Shape.{HasGroups}
+use Rattle.xfs_geom.specs.Volumes.{Volume}
+use Rattle.xfs_geom.specs.declared.records.Run.{Run}
+use Rattle.xfs_kinds.specs.FreeRuns.{is_block}
+use Rattle.xfs_kinds.specs.MergedRuns.{AreRuns, held_at, word_at}
+use Rattle.xfs_place.specs.declared.uses.Use.{Use}
+use Rattle.xfs_place.specs.declared.uses.Use.TheVariants.{Claimed}
+use Rattle.xfs_place.specs.Pool.{Shows, use_of}
+use Rattle.xfs_place.specs.Choice.{Group, IsChosen, group, group_of}
+use Rattle.xfs_place.specs.Placing.{IsPlaced}
+use Rattle.xfs_place.specs.declared.placed.GroupPlaced.{GroupPlaced}
+use Rattle.xfs_geom.specs.declared.records.InoRec.{InoRec}
+use Rattle.std.specs.Option.{MatchOption}
+use Rattle.xfs_place.proofs.GroupIs.{length_uses}
+use Rattle.xfs_place.specs.Claims.{AreClaims, IsClaim}
+use Rattle.xfs_place.specs.Wanted.{AreAllClaims, begins_in, claim_in, fixed_runs, group_in, in_group, uses_in}
+use Rattle.xfs_place.proofs.AllClaims.{part_ascends, part_each, part_held}
+use Rattle.xfs_place.proofs.Begun.{AreSome}
+use Rattle.xfs_place.proofs.Ordered.{are_some}
+
+held_beyond : (top : ℕ) (rs : List Run) (b : ℕ) → AreSome top rs → top ≤ b → held_at rs b ≡ None
+held_beyond top [] b some far = refl
+held_beyond top (r ∷ rest) b some far =
+    let end = some.1 in
+    let out : is_block r.start r.count b ≡ false = grind (arith, nat_tests, end, far) in
+    rw out (held_beyond top rest b some.2 far)
+
+module _ (v : Volume) (kept : List Run) (reserved : List ℕ) (claims : List Run) (ag : ℕ) (groups : HasGroups v.dblocks v.agblocks v.agcount) (low : ag < v.agcount)
+    (all : AreAllClaims v kept claims) (part : List Run) (is : part ≡ map (in_group (ag * v.agblocks)) (filter (begins_in (ag * v.agblocks) (group_length v ag)) claims)) where
+  pub part_claims : AreClaims (group_length v ag) part
+  part_claims = subst (AreClaims (group_length v ag)) (sym is) (record {
+    ascend = subst (λ (n : ℕ). AreRuns n (map (in_group (ag * v.agblocks)) (filter (begins_in (ag * v.agblocks) (group_length v ag)) claims))) none (part_ascends v ag groups low claims 0 all.claims'.ascend);
+    each = part_each v ag groups low claims all.claims'.each all.stay;
+  })
+    where
+      none : 0 - ag * v.agblocks ≡ 0
+      none = omega arith
+
+  pub part_claim : (b : ℕ) → held_at part b ≡ claim_in v kept ag b
+  unfolding claim_in
+  part_claim b = elim (cases_lt b (group_length v ag)) [
+    | inl in' ↦
+        ap (λ (rs : List Run). held_at rs b) is ∙ part_held v ag groups low claims b all.stay in' ∙ all.held (ag * v.agblocks + b)
+        ∙ sym (ap (λ (t : Bool). if t then held_at (fixed_runs v ++ kept) (ag * v.agblocks + b) else None) (lt-ltb b (group_length v ag) in'))
+    | inr far ↦
+        held_beyond (group_length v ag) part b (are_some (group_length v ag) part part_claims.each) far
+        ∙ sym (ap (λ (t : Bool). if t then held_at (fixed_runs v ++ kept) (ag * v.agblocks + b) else None) (le-ltb b (group_length v ag) far))
+  ]
+
+  -- the part of the list of uses
+  pub part_uses : (uses : List Use) → Shows uses v.dblocks (use_of v kept reserved) → ag * v.agblocks + group_length v ag ≤ v.dblocks
+      → take (group_length v ag) (drop (ag * v.agblocks) uses) ≡ uses_in v kept reserved ag
+  unfolding uses_in
+  part_uses uses shows inside =
+      let base = ag * v.agblocks in
+      let n = group_length v ag in
+      fill_by_all (λ b. use_of v kept reserved (base + b)) (take n (drop base uses)) n Claimed
+      (omega (arith, length-take n (drop base uses), length-drop base uses, shows.all, inside))
+      (λ k h. get_or-take n (drop base uses) k Claimed h ∙ get_or-drop base uses k Claimed ∙ shows.each (base + k) (omega (arith, h, inside)))
+
+  -- the group that is placed is that of the volume
+  pub same_group : (uses : List Use) (inner : ℕ) → uses ≡ uses_in v kept reserved ag → group_of uses part inner ≡ group_in v kept reserved ag inner
+  same_group uses inner hu = ap₂ (λ (us : List Use) (claim : ℕ → Option (ℕ × ℕ)). group us claim inner) hu (λ k b. part_claim b k)
+
+-- by the numbers and the lists that the code has
+module _ (v : Volume) (kept : List Run) (reserved : List ℕ) (claims : List Run) (ag : ℕ) (groups : HasGroups v.dblocks v.agblocks v.agcount) (low : ag < v.agcount)
+    (all : AreAllClaims v kept claims) (base blocks : ℕ) (hb : base ≡ ag * v.agblocks) (hn : blocks ≡ group_length v ag) (mine part : List Run) (here : part ≡ mine)
+    (is : mine ≡ map (in_group base) (filter (begins_in base blocks) claims)) where
+  part_is : part ≡ map (in_group (ag * v.agblocks)) (filter (begins_in (ag * v.agblocks) (group_length v ag)) claims)
+  part_is = here ∙ is ∙ ap₂ (λ (b n : ℕ). map (in_group b) (filter (begins_in b n) claims)) hb hn
+
+  slice_is : (uses : List Use) → Shows uses v.dblocks (use_of v kept reserved) → ag * v.agblocks + group_length v ag ≤ v.dblocks
+      → take (base + blocks - base) (drop base uses) ≡ uses_in v kept reserved ag
+  slice_is uses shows inside =
+      let count : base + blocks - base ≡ group_length v ag = omega (arith, hn) in
+      ap₂ (λ (n b : ℕ). take n (drop b uses)) count hb ∙ part_uses v kept reserved claims ag groups low all part part_is uses shows inside
+
+  pub same_here : (uses : List Use) (inner : ℕ) → Shows uses v.dblocks (use_of v kept reserved) → ag * v.agblocks + group_length v ag ≤ v.dblocks
+      → group_of (take (base + blocks - base) (drop base uses)) part inner ≡ group_in v kept reserved ag inner
+  same_here uses inner shows inside =
+      same_group v kept reserved claims ag groups low all part part_is (take (base + blocks - base) (drop base uses)) inner (slice_is uses shows inside)
+
+  pub claims_here : (uses : List Use) → Shows uses v.dblocks (use_of v kept reserved) → ag * v.agblocks + group_length v ag ≤ v.dblocks
+      → AreClaims (length (take (base + blocks - base) (drop base uses))) part
+  claims_here uses shows inside =
+      let long : length (take (base + blocks - base) (drop base uses)) ≡ group_length v ag = ap length (slice_is uses shows inside) ∙ length_uses v kept reserved ag in
+      subst (λ (n : ℕ). AreClaims n part) (sym long) (part_claims v kept reserved claims ag groups low all part part_is)
+
+pub placed_here : (o : Option GroupPlaced) (g h : Group) (base due : ℕ) (inodes : List InoRec) → h ≡ g → base ≡ due
+    → MatchOption o (IsChosen h None) (IsPlaced h base inodes) → MatchOption o (IsChosen g None) (IsPlaced g due inodes)
+placed_here o g h base due inodes hg hb placed =
+    subst (λ (x : Group). MatchOption o (IsChosen x None) (IsPlaced x due inodes)) hg (subst (λ (b : ℕ). MatchOption o (IsChosen h None) (IsPlaced h b inodes)) hb placed)

@@ -1,0 +1,25 @@
+use Rattle.std.proofs.Common.{◌≡◌, ◌+◌, ◌*◌, ◌≤◌, ◌<◌, inr, ℕ, List, length, refl, Option, Some, None, sym, ◌∙◌, ap, subst, arith}
+use Rattle.xfs_geom.specs.Volumes.{volume_of}
+use Rattle.xfs_place.proofs.GroupsPlaced.{no_room_at, one_more}
+use Rattle.xfs_place.proofs.volume_placing.place_groups.Goals as goal
+
+pub returns-in_default-clause-cause : goal.returns-in_default-clause-cause
+returns-in_default-clause-cause c =
+    let g = c.args.g.now in
+    inr (
+      c.loop-ag.ag,
+      refl,
+      no_room_at (volume_of g) c.args.kept.now c.args.reserved.now c.args.inodes.now c.loop-ag.ag c.loop-ag.groups.items c.index-inodes-ag.result c.as_slice.result.now
+          c.in_ok-placed.field-0 c.loop-ag.invariant c.loop-ag-test.true (omega (arith, c.loop-ag-test.true, c.requires.inodes)) c.as_slice.ensures c.in_ok-placed.ensures c.in_default.is,
+    )
+
+pub loop-ag-preserved : goal.loop-ag-preserved
+loop-ag-preserved c =
+    let g = c.args.g.now in
+    one_more (volume_of g) c.args.kept.now c.args.reserved.now c.args.inodes.now c.loop-ag.ag c.loop-ag.groups.items c.push.new.self.items c.index-inodes-ag.result c.as_slice.result.now
+    c.in_ok-placed.field-0 c.in-Some.placed c.loop-ag.invariant (omega (arith, c.loop-ag-test.true, c.requires.inodes)) c.as_slice.ensures c.in_ok-placed.ensures c.in-Some.is c.in_ok-push.ensures.items
+
+pub place_one-requires-clause-few : goal.place_one-requires-clause-few
+place_one-requires-clause-few c =
+    let one = c.requires.few c.loop-ag.ag c.index-inodes-ag.result (omega (arith, c.loop-ag-test.true, c.requires.inodes)) in
+    omega (arith, one, ap length c.as_slice.ensures)

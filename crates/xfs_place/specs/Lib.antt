@@ -1,0 +1,7 @@
+pub mod Pool
+pub mod Chunks
+pub mod Choice
+pub mod Claims
+pub mod Placing
+pub mod Wanted
+pub mod Objects

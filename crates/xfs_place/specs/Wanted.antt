@@ -1,0 +1,83 @@
+-- What a volume holds before its trees are placed, group by group.
+use Rattle.std.specs.Prelude.{◌≡◌, ℕ, Bool, true, false, ◌+◌, ◌-◌, ◌*◌, ◌≤◌, ◌<◌, ◌&&◌, nat_le, nat_lt, if◌then◌else◌, List, [], ◌∷◌, ◌++◌, length, map, Option, Some, None, slice_index_or}
+use Rattle.std.specs.List.{All, range_with_len}
+use Rattle.xfs_geom.specs.Conversions.{group_length, is_fixed}
+use Rattle.xfs_geom.specs.Volumes.{Volume}
+use Rattle.xfs_geom.specs.declared.records.Run.{Run}
+use Rattle.xfs_kinds.specs.MergedRuns.{held_at}
+use Rattle.xfs_geom.specs.declared.records.InoRec.{InoRec}
+use Rattle.xfs_place.specs.declared.placed.GroupPlaced.{GroupPlaced}
+use Rattle.xfs_place.specs.declared.wanted.GroupInodes.{GroupInodes}
+use Rattle.xfs_place.specs.Placing.{IsPlaced, inner_blocks}
+use Rattle.xfs_place.specs.declared.uses.Use.{Use}
+use Rattle.xfs_place.specs.Pool.{header_owner, is_of, log_owner, use_of}
+use Rattle.xfs_place.specs.Choice.{Group, IsChosen, group}
+use Rattle.xfs_place.specs.Claims.{AreApart, AreClaims, IsClaim}
+
+-- the first block of a group, and the log
+abbrev pub header_run : Volume → ℕ → Run
+header_run v ag = record { start = ag * v.agblocks; count = 1; owner = header_owner; offset = 0 }
+
+abbrev pub log_run : Volume → Run
+log_run v = record { start = v.log; count = v.logblocks; owner = log_owner; offset = 0 }
+
+-- the runs of the blocks with a fixed use
+abbrev pub fixed_runs : Volume → List Run
+fixed_runs v = log_run v ∷ map (header_run v) (range_with_len 0 v.agcount)
+
+-- no block of the run has a fixed use
+abbrev pub IsClear : Volume → Run → Type 0
+IsClear v r = (block : ℕ) → is_of block r ≡ true → is_fixed v block ≡ false
+
+-- runs of blocks of the volume that belong to something: no two have a block in common, and none has a block with a fixed use
+pub record AreKept (v : Volume) (kept : List Run) : Type 0 where
+  pub each : All (IsClaim v.dblocks) kept
+  pub clear : All (IsClear v) kept
+  pub apart : AreApart kept
+
+-- the uses of the blocks of a group, and the owners and offset words of those that are claimed
+unfoldable pub uses_in : Volume → List Run → List ℕ → ℕ → List Use
+uses_in v kept reserved ag = map (λ block. use_of v kept reserved (ag * v.agblocks + block)) (range_with_len 0 (group_length v ag))
+
+unfoldable pub claim_in : Volume → List Run → ℕ → ℕ → Option (ℕ × ℕ)
+claim_in v kept ag block = if nat_lt block (group_length v ag) then held_at (fixed_runs v ++ kept) (ag * v.agblocks + block) else None
+
+-- the group before its trees are placed
+abbrev pub group_in : Volume → List Run → List ℕ → ℕ → ℕ → Group
+group_in v kept reserved ag inner = group (uses_in v kept reserved ag) (claim_in v kept ag) inner
+
+-- a run does not go from one group into the next
+abbrev pub StaysInGroup : Volume → Run → Type 0
+StaysInGroup v r = (ag : ℕ) → r.start < ag * v.agblocks → r.start + r.count ≤ ag * v.agblocks
+
+-- the claims of a volume in order: the runs of the blocks with a fixed use, and what is kept
+pub record AreAllClaims (v : Volume) (kept claims : List Run) : Type 0 where
+  pub claims' : AreClaims v.dblocks claims
+  pub held : (block : ℕ) → held_at claims block ≡ held_at (fixed_runs v ++ kept) block
+  pub stay : All (StaysInGroup v) claims
+
+-- a run of a group by its AG blocks
+abbrev pub in_group : ℕ → Run → Run
+in_group base r = record r { start = r.start - base }
+
+abbrev pub begins_in : ℕ → ℕ → Run → Bool
+begins_in base length r = nat_le base r.start && nat_lt r.start (base + length)
+
+-- the records of inodes of a group
+abbrev pub inodes_of : List GroupInodes → ℕ → List InoRec
+inodes_of inodes ag = (slice_index_or inodes ag (record { records = [] })).records
+
+-- a group of the volume, before its trees are placed
+abbrev pub wanted_group : Volume → List Run → List ℕ → List GroupInodes → ℕ → Group
+wanted_group v kept reserved inodes ag = group_in v kept reserved ag (inner_blocks (inodes_of inodes ag))
+
+-- the trees of each group stand
+pub record ArePlaced (v : Volume) (kept : List Run) (reserved : List ℕ) (inodes : List GroupInodes) (n : ℕ) (groups : List GroupPlaced) : Type 0 where
+  pub all : length groups ≡ n
+  pub each : (ag : ℕ) (d : GroupPlaced) → ag < n → IsPlaced (wanted_group v kept reserved inodes ag) (ag * v.agblocks) (inodes_of inodes ag) (slice_index_or groups ag d)
+
+-- the first group whose trees have no room
+pub record IsWithoutRoom (v : Volume) (kept : List Run) (reserved : List ℕ) (inodes : List GroupInodes) (ag : ℕ) : Type 0 where
+  pub inside : ag < v.agcount
+  pub none : IsChosen (wanted_group v kept reserved inodes ag) None
+  pub others : (k : ℕ) → k < ag → (n : ℕ) × IsChosen (wanted_group v kept reserved inodes k) (Some n)

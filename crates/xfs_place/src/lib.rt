@@ -1,0 +1,23 @@
+//! Where new blocks of a volume stand: chunks of inodes, runs of files, and the trees and free lists of its
+//! allocation groups.
+#![tactic(auto)]
+
+mod choice;
+mod chunk_search;
+mod claims;
+mod faults;
+mod group_lists;
+mod group_placing;
+mod lowest;
+mod owned;
+mod placed;
+#[cfg(test)]
+mod tests;
+mod uses;
+mod volume_placing;
+mod wanted;
+
+pub use chunk_search::{ChunkAsk, chunks};
+pub use faults::{Place, PlaceFault};
+pub use placed::{GroupPlaced, Placed};
+pub use wanted::{GroupInodes, Object, ObjectKind, RunAsk, Wanted};

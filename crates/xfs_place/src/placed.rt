@@ -1,0 +1,31 @@
+//! Where everything stands.
+
+use xfs_geom::{Counts, InoRec, RmapRec, Run, Span};
+use xfs_volume::{Records, TreeBlocks};
+
+/// The trees and the free list of an allocation group, and what they hold.
+#[derive(Debug, Drop)]
+pub struct GroupPlaced {
+    /// The maximal runs of free AG blocks, by start.
+    pub bno: Records<Span>,
+    /// The same runs by length, and those of one length by start.
+    pub cnt: Records<Span>,
+    /// The chunks with a free inode.
+    pub fino: Records<InoRec>,
+    /// The runs of AG blocks with their owners.
+    pub rmap: Records<RmapRec>,
+    /// The blocks of the five trees, ascending: those by start, by length, of inodes, of free inodes and of owners.
+    pub trees: Records<TreeBlocks>,
+    /// The AG blocks of the free list, ascending.
+    pub agfl: Records<u32>,
+}
+
+/// Where everything stands that was to be placed, and what the volume then holds.
+#[derive(Debug, Drop)]
+pub struct Placed {
+    /// A run for each that was asked, in order.
+    pub runs: Records<Run>,
+    /// Each allocation group, in order.
+    pub groups: Records<GroupPlaced>,
+    pub counts: Counts,
+}

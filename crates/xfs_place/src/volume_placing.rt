@@ -1,0 +1,92 @@
+//! The trees and the free lists of all groups.
+
+ghost use Rattle.std.specs.Prelude.{◌≡◌, ◌≤◌, ◌<◌, ◌*◌, ◌^◌, ◌⊎◌, ℕ, List, length, slice_index_or, All, IfOk, IfErr, MatchOption, None, Some};
+ghost use Rattle.xfs_geom.specs.Volumes.{volume_of};
+ghost use Rattle.xfs_place.specs.Choice.{IsChosen};
+ghost use Rattle.xfs_place.specs.Placing.{IsPlaced, inner_blocks};
+ghost use Rattle.xfs_place.specs.Pool.{Shows, use_of};
+ghost use Rattle.xfs_place.specs.Wanted.{AreAllClaims, AreKept, ArePlaced, IsWithoutRoom, group_in};
+
+use crate::claims::{list_claims, list_group};
+use crate::faults::{Place, PlaceFault};
+use crate::group_placing::place_group;
+use crate::placed::GroupPlaced;
+use crate::uses::{Use, list_uses};
+use crate::wanted::GroupInodes;
+use std::alloc::Global;
+use xfs_disk::NoMemory;
+use xfs_geom::{Geometry, InoRec, Run};
+
+/// Places the trees and the free lists of all groups. Of what is kept, no two runs have a block in common and none has
+/// one with a fixed use.
+///
+/// `NoRoom` of the first group whose trees have none; `NoMemory` where memory is wanting.
+pub fn place_groups(
+    alloc: Global,
+    g: &Geometry,
+    kept: &[Run],
+    reserved: &[u64],
+    inodes: &[GroupInodes],
+) -> Result<Vec<GroupPlaced>, PlaceFault>
+    requires kept { AreKept (volume_of g.now) kept.now }
+    requires inodes { length inodes.now ≡ g.now.agcount }
+    requires few { All (λ group. length group.records < 2 ^ 32) inodes.now }
+    ensures placed { IfOk result (λ groups. ArePlaced (volume_of g.now) kept.now reserved.now inodes.now g.now.agcount groups.items) }
+    ensures cause { IfErr result (λ fault. (fault ≡ PlaceFault.NoMemory)
+        ⊎ ((ag : ℕ) × (fault ≡ PlaceFault.NoRoom (Place.Group ag)) × IsWithoutRoom (volume_of g.now) kept.now reserved.now inodes.now ag)) }
+{
+    let uses = list_uses(alloc, g, kept, reserved)?;
+    let claims = list_claims(alloc, g, kept)?;
+    let work = Work {
+        geometry: g,
+        kept,
+        reserved,
+        uses: &uses,
+        claims: &claims,
+    };
+    let mut groups = Vec::new(alloc);
+    for ag in 0..g.agcount {
+        let Some(placed) = place_one(alloc, &work, ag, inodes[ag as usize].records.as_slice())?
+        else {
+            return Err(PlaceFault::NoRoom(Place::Group(ag)));
+        };
+        groups.push(placed)?;
+    }
+    Ok(groups)
+}
+
+/// What is known of a volume before its trees are placed.
+#[derive(Clone, Copy)]
+struct Work<'a> {
+    geometry: &'a Geometry,
+    /// The runs of what is kept.
+    kept: &'a [Run],
+    reserved: &'a [u64],
+    /// The use of each block.
+    uses: &'a [Use],
+    /// The claims of the volume in order.
+    claims: &'a [Run],
+}
+
+/// Places the trees and the free list of one group.
+fn place_one(
+    alloc: Global,
+    work: &Work<'_>,
+    ag: u32,
+    inodes: &[InoRec],
+) -> Result<Option<GroupPlaced>, NoMemory>
+    requires group { ag < work.now.geometry.now.agcount }
+    requires few { length inodes.now < 2 ^ 32 }
+    requires kept { AreKept (volume_of work.now.geometry.now) work.now.kept.now }
+    requires uses { Shows work.now.uses.now work.now.geometry.now.dblocks (use_of (volume_of work.now.geometry.now) work.now.kept.now work.now.reserved.now) }
+    requires claims { AreAllClaims (volume_of work.now.geometry.now) work.now.kept.now work.now.claims.now }
+    ensures { IfOk result (λ placed. MatchOption placed
+        (IsChosen (group_in (volume_of work.now.geometry.now) work.now.kept.now work.now.reserved.now ag (inner_blocks inodes.now)) None)
+        (IsPlaced (group_in (volume_of work.now.geometry.now) work.now.kept.now work.now.reserved.now ag (inner_blocks inodes.now)) (ag * work.now.geometry.now.agblocks) inodes.now)) }
+{
+    let base = work.geometry.start_of_group(ag);
+    let blocks = work.geometry.group_length(ag) as u64;
+    let claims = list_group(alloc, work.claims, base, blocks)?;
+    let uses = &work.uses[base as usize..(base + blocks) as usize];
+    Ok(place_group(alloc, uses, &claims, inodes, base)?)
+}
