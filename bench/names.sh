@@ -11,8 +11,9 @@ mkdir -p "$work/repo/crates/names_speed"
 cd "$work/repo"
 for crate in xfs_word xfs_disk xfs_weave xfs_geom xfs_heads xfs_attr xfs_dirdata xfs_volume xfs_links; do
   mkdir "crates/$crate"
-  cp -r "$top/crates/$crate/src" "$top/crates/$crate/specs" "$top/crates/$crate/proofs" "crates/$crate/"
-  if [ -d "$top/crates/$crate/out" ]; then cp -r "$top/crates/$crate/out" "crates/$crate/"; fi
+  for part in src specs proofs out; do
+    if [ -d "$top/crates/$crate/$part" ]; then cp -a "$top/crates/$crate/$part" "crates/$crate/"; fi
+  done
   grep "^$crate:" "$top/crates.txt" >> crates.txt
 done
 echo 'names_speed: xfs_disk xfs_dirdata xfs_volume xfs_links itoa' >> crates.txt

@@ -239,3 +239,31 @@ fn forms(rt: HostRuntime) -> Result<(), Fail> {
     }
     Ok(())
 }
+
+/// How many pairs the index blocks have, and how many entries the data blocks.
+#[test]
+fn shares(rt: HostRuntime) -> Result<(), Fail> {
+    let alloc = rt.alloc();
+    let image = built(alloc, 20000)?;
+    assert_eq!(rt; image.blocks.len(), 162);
+    assert_eq!(rt; xfs_word::get16(&image.blocks.view(120)[56..58], 0), 40);
+    for leaf in 0..40 {
+        let due = if leaf < 2 { 501 } else { 500 };
+        assert_eq!(rt; xfs_word::get16(&image.blocks.view(121 + leaf)[56..58], 0), due);
+    }
+    for block in 0..120 {
+        let due = if block == 0 { 168 } else if block == 119 { 10 } else { 168 };
+        match xfs_dirdata::read_data(alloc, DIR, image.blocks.view(block), false) {
+            Ok(data) => assert_eq!(rt; data.entries.len(), due),
+            Err(_) => panic!(rt; "the block reads"),
+        }
+    }
+    let small = built(alloc, 400)?;
+    for (block, due) in [(0, 168), (1, 168), (2, 66)] {
+        match xfs_dirdata::read_data(alloc, DIR, small.blocks.view(block), false) {
+            Ok(data) => assert_eq!(rt; data.entries.len(), due),
+            Err(_) => panic!(rt; "the block reads"),
+        }
+    }
+    Ok(())
+}

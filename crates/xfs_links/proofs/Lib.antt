@@ -7,3 +7,4 @@ pub mod Lonely
 pub mod Renaming
 pub mod Joined
 pub mod Deciding
+pub mod Holding

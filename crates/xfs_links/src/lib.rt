@@ -4,6 +4,7 @@
 
 mod candidates;
 mod connecting;
+mod laws;
 mod lookup;
 mod met;
 mod orphans;
@@ -14,4 +15,5 @@ mod tests;
 mod walk;
 
 pub use connecting::connect;
+pub use laws::names_hold;
 pub use records::{Names, NodeRec};

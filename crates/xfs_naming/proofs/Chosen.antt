@@ -1,11 +1,11 @@
 -- The records of one number are a run of records in order; what is asked of them is asked of the run.
-use Rattle.std.proofs.Common.{◌≡◌, ℕ, zero, suc, ◌<◌, ◌≤◌, Bool, true, false, cond, not, ◌&&◌, ◌||◌, ◌==◌, List, [], ◌∷◌, length, take, drop, filter, Some, refl, sym, ap, arith}
+use Rattle.std.proofs.Common.{◌≡◌, ℕ, zero, suc, ◌<◌, ◌≤◌, Bool, true, false, cond, not, ◌&&◌, ◌||◌, ◌==◌, List, [], ◌∷◌, length, take, drop, filter, get_or, Some, refl, sym, ap, ◌+◌, arith, inl, inr}
 use lib.Dec.{ltb, leb}
-use Rattle.std.specs.List.{list_any, AllWithin, slice_get}
+use Rattle.std.specs.List.{list_any, AllWithin, slice_get, prefix_len}
 use Rattle.xfs_volume.specs.declared.files.FileRec.{FileRec}
 use Rattle.xfs_naming.specs.Naming.{file_at}
-use Rattle.std.specs.List.Sorted.{IsPartitionPoint}
-use Rattle.std.proofs.lemmas.Bool.{ltb-true, ltb-false, leb-true, leb-false}
+use Rattle.std.specs.List.Sorted.{IsPartitionPoint, IsNonDecreasingBy}
+use Rattle.std.proofs.lemmas.Bool.{ltb-true, ltb-false, leb-false, lt-leb, eq-eqb, ne_eqb, cases_eq, cases_lt}
 use Rattle.std.proofs.lemmas.Bool.Decides.{nat_tests}
 
 -- records that are all greater have none of the number
@@ -17,32 +17,32 @@ none_greater n v (x ∷ xs) above =
     rw apart (none_greater n v xs (λ k d low high. above (suc k) d (omega arith) (omega arith)))
 
 -- the run at the front
-pub run_here : {X : Type 0} (n : X → ℕ) (v : ℕ) (xs : List X) (e : ℕ) → AllWithin (λ (y : X). ltb (n y) v ≡ false) xs 0 (length xs)
-    → IsPartitionPoint (λ (y : X). leb (n y) v ≡ true) (λ (y : X). leb (n y) v ≡ false) xs e → take e xs ≡ filter (λ (x : X). n x == v) xs
-run_here n v [] zero from point = refl
-run_here n v [] (suc e) from point = refl
-run_here n v (x ∷ xs) zero from point = sym (none_greater n v (x ∷ xs) point.1)
-run_here {X = X} n v (x ∷ xs) (suc e) from point =
-    let low : v ≤ n x = ltb-false (n x) v (from 0 x (omega arith) (omega arith)) in
-    let high : n x ≤ v = leb-true (n x) v (point.0 0 x (omega arith) (omega arith)) in
-    let same : n x == v ≡ true = grind (arith, nat_tests) in
-    rw same (ap (λ (ys : List X). x ∷ ys)
-    (run_here n v xs e
-    (λ k d l h. from (suc k) d (omega arith) (omega arith))
-    ((λ k d l h. point.0 (suc k) d (omega arith) (omega arith)), (λ k d l h. point.1 (suc k) d (omega arith) (omega arith)))))
+run_here : {X : Type 0} (n : X → ℕ) (v : ℕ) (xs : List X) → AllWithin (λ (y : X). ltb (n y) v ≡ false) xs 0 (length xs) → IsNonDecreasingBy n xs
+    → take (prefix_len (λ (x : X). n x == v) xs) xs ≡ filter (λ (x : X). n x == v) xs
+run_here n v [] from rises = refl
+run_here {X = X} n v (x ∷ xs) from rises = elim (cases_eq (n x) v) [
+  | inl is ↦ (let same : n x == v ≡ true = eq-eqb (n x) v is in
+      let more : 1 + prefix_len (λ (y : X). n y == v) xs ≡ suc (prefix_len (λ (y : X). n y == v) xs) = omega arith in
+      rw (same, more) (ap (λ (ys : List X). x ∷ ys) (run_here n v xs (λ k d l h. from (suc k) d (omega arith) (omega arith)) (λ i j d l h. rises (suc i) (suc j) d (omega arith) (omega arith)))))
+  | inr away ↦ (let apart : n x == v ≡ false = ne_eqb (n x) v away in
+      let low : v ≤ n x = ltb-false (n x) v (from 0 x (omega arith) (omega arith)) in
+      rw apart (sym (none_greater n v xs (λ k d l h. lt-leb (n (get_or xs k d)) v (above low away (rises 0 (suc k) d (omega arith) (omega arith)))))))
+]
+  where
+    above : {m : ℕ} → v ≤ n x → (n x ≡ v → ⊥) → n x ≤ m → v < m
+    above {m} low away le = elim (cases_lt v (n x)) [ inl less ↦ omega arith | inr more ↦ absurd (away (omega arith)) ]
 
 -- the run behind those that are less
-pub run_is : {X : Type 0} (n : X → ℕ) (v : ℕ) (xs : List X) (s e : ℕ) → IsPartitionPoint (λ (y : X). ltb (n y) v ≡ true) (λ (y : X). ltb (n y) v ≡ false) xs s
-    → IsPartitionPoint (λ (y : X). leb (n y) v ≡ true) (λ (y : X). leb (n y) v ≡ false) (drop s xs) e → take e (drop s xs) ≡ filter (λ (x : X). n x == v) xs
-run_is n v xs zero e first second = run_here n v xs e first.1 second
-run_is n v [] (suc s) zero first second = refl
-run_is n v [] (suc s) (suc e) first second = refl
-run_is n v (x ∷ xs) (suc s) e first second =
+pub run_is : {X : Type 0} (n : X → ℕ) (v : ℕ) (xs : List X) (s : ℕ) → IsPartitionPoint (λ (y : X). ltb (n y) v ≡ true) (λ (y : X). ltb (n y) v ≡ false) xs s → IsNonDecreasingBy n xs
+    → take (prefix_len (λ (x : X). n x == v) (drop s xs)) (drop s xs) ≡ filter (λ (x : X). n x == v) xs
+run_is n v xs zero first rises = run_here n v xs first.1 rises
+run_is n v [] (suc s) first rises = refl
+run_is n v (x ∷ xs) (suc s) first rises =
     let less : n x < v = ltb-true (n x) v (first.0 0 x (omega arith) (omega arith)) in
     let apart : n x == v ≡ false = grind (arith, nat_tests) in
-    rw apart (run_is n v xs s e
+    rw apart (run_is n v xs s
     ((λ k d l h. first.0 (suc k) d (omega arith) (omega arith)), (λ k d l h. first.1 (suc k) d (omega arith) (omega arith)))
-    second)
+    (λ i j d l h. rises (suc i) (suc j) d (omega arith) (omega arith)))
 
 -- one of the records of a number passes
 pub any_of_run : {X : Type 0} (p q : X → Bool) (xs : List X) → list_any q (filter p xs) ≡ list_any (λ (x : X). p x && q x) xs

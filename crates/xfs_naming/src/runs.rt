@@ -1,6 +1,7 @@
 //! Records in the order of a number, and those among them that have it.
 
 ghost use Rattle.std.specs.Prelude.{◌≡◌, ℕ, ◌==◌, filter};
+ghost use Rattle.std.specs.List.{prefix_len};
 ghost use Rattle.std.specs.List.Sorted.{IsNonDecreasingBy};
 
 use xfs_dirdata::EntryRec;
@@ -58,13 +59,25 @@ impl Numbered for Link {
     }
 }
 
-/// The records that go by a number, of records in order.
+/// How many records at the front go by a number.
+fn run_length<T: Numbered>(records: &[T], number: u64) -> usize
+    ensures { result ≡ prefix_len (λ x. T.key x == number) records.now }
+{
+    for (i, record) in records.iter().enumerate() {
+        if record.number() != number {
+            return i;
+        }
+    }
+    records.len()
+}
+
+/// The records that go by a number, of records in order. The search takes the steps of one among all, and one for each
+/// record that is found.
 pub fn run_of<T: Numbered>(records: &[T], number: u64) -> &[T]
     requires { IsNonDecreasingBy T.key records.now }
     ensures { result.now ≡ filter (λ x. T.key x == number) records.now }
 {
     let start = records.partition_point(|record| record.number() < number);
     let rest = &records[start..];
-    let end = rest.partition_point(|record| record.number() <= number);
-    &rest[..end]
+    &rest[..run_length(rest, number)]
 }
