@@ -10,7 +10,7 @@ use std::alloc::{AllocError, Global};
 use std::process::Abort;
 use std::test::Fail;
 use xfs_bank::BlockBank;
-use xfs_dirdata::EntryRec;
+use xfs_dirdata::{EntryRec, read_data};
 use xfs_dirindex::{DirSeen, IndexFault, check_block, check_leaf, check_node};
 use xfs_disk::Word;
 use xfs_word::{Seal, SealKind, get16, get32, put_part, put32, put64, seal, sealed};
@@ -202,6 +202,46 @@ const ROWS: [Row; 6] = [
     (20000, Form::Node, 120, 41, 1, 0, 125, 92),
 ];
 
+/// How many names there are, the first of some blocks, the one behind their last, and how many entries each of them has,
+/// `.` and `..` among those of the first data block.
+const SHARES: [(u32, usize, usize, usize); 7] = [
+    (400, 0, 2, 168),
+    (400, 2, 3, 66),
+    (20000, 0, 119, 168),
+    (20000, 119, 120, 10),
+    (20000, 120, 121, 40),
+    (20000, 121, 123, 501),
+    (20000, 123, 161, 500),
+];
+
+/// How many entries a block has: the names of a data block, the pairs of an index block.
+fn share(rt: &impl Abort, alloc: Global, image: &DirImage, block: usize) -> usize {
+    assert!(rt; block < image.blocks.len());
+    let bytes = image.blocks.view(block);
+    if block as u64 >= image.data_blocks {
+        return get16(bytes, 56) as usize;
+    }
+    match read_data(alloc, DIR, bytes, false) {
+        Ok(data) => data.entries.len(),
+        Err(_) => panic!(rt; "block {block} is read"),
+    }
+}
+
+/// Asserts that the blocks of a directory with so many names have the entries that are due.
+fn assert_shares(rt: &impl Abort, alloc: Global, count: u32, image: &DirImage) {
+    for (names, first, end, due) in SHARES {
+        if names == count {
+            for block in first..end {
+                assert_eq!(rt;
+                    share(rt, alloc, image, block),
+                    due,
+                    "{count} names, block {block}"
+                );
+            }
+        }
+    }
+}
+
 /// Asserts that what is built of a row is as the row says, and whole, and is not with another address.
 fn assert_row(rt: &impl Abort, alloc: Global, row: &Row) -> Result<(), Fail> {
     let (count, form, data, index, free, short, block, at) = *row;
@@ -213,6 +253,7 @@ fn assert_row(rt: &impl Abort, alloc: Global, row: &Row) -> Result<(), Fail> {
         "{count} names"
     );
     assert_eq!(rt; image.short.len(), short, "{count} names");
+    assert_shares(rt, alloc, count, &image);
     let mut dir = placed(rt, alloc, image)?;
     if form == Form::Short {
         return Ok(());
@@ -236,34 +277,6 @@ fn assert_row(rt: &impl Abort, alloc: Global, row: &Row) -> Result<(), Fail> {
 fn forms(rt: HostRuntime) -> Result<(), Fail> {
     for row in &ROWS {
         assert_row(&rt, rt.alloc(), row)?;
-    }
-    Ok(())
-}
-
-/// How many pairs the index blocks have, and how many entries the data blocks.
-#[test]
-fn shares(rt: HostRuntime) -> Result<(), Fail> {
-    let alloc = rt.alloc();
-    let image = built(alloc, 20000)?;
-    assert_eq!(rt; image.blocks.len(), 162);
-    assert_eq!(rt; xfs_word::get16(&image.blocks.view(120)[56..58], 0), 40);
-    for leaf in 0..40 {
-        let due = if leaf < 2 { 501 } else { 500 };
-        assert_eq!(rt; xfs_word::get16(&image.blocks.view(121 + leaf)[56..58], 0), due);
-    }
-    for block in 0..120 {
-        let due = if block == 0 { 168 } else if block == 119 { 10 } else { 168 };
-        match xfs_dirdata::read_data(alloc, DIR, image.blocks.view(block), false) {
-            Ok(data) => assert_eq!(rt; data.entries.len(), due),
-            Err(_) => panic!(rt; "the block reads"),
-        }
-    }
-    let small = built(alloc, 400)?;
-    for (block, due) in [(0, 168), (1, 168), (2, 66)] {
-        match xfs_dirdata::read_data(alloc, DIR, small.blocks.view(block), false) {
-            Ok(data) => assert_eq!(rt; data.entries.len(), due),
-            Err(_) => panic!(rt; "the block reads"),
-        }
     }
     Ok(())
 }
