@@ -3,20 +3,9 @@
 # with the most memory that the program took. The program that is measured lies in dir_speed/, each file with
 # .txt behind its name, and is proved in a copy of the crates, which is removed.
 set -eu
-top=$(cd "$(dirname "$0")/.." && pwd)
-work=$(mktemp -d)
-trap 'rm -rf "$work"' EXIT
-mkdir -p "$work/repo/crates/dir_speed"
-cd "$work/repo"
-for crate in xfs_word xfs_disk xfs_bank xfs_dirdata xfs_dirindex xfs_dirbuild; do
-  mkdir "crates/$crate"
-  find "$top/crates/$crate" -mindepth 1 -maxdepth 1 ! -name must-fail -exec cp -r {} "crates/$crate/" \;
-  grep "^$crate:" "$top/crates.txt" >> crates.txt
-done
-echo 'dir_speed: xfs_word xfs_disk xfs_bank xfs_dirdata xfs_dirindex xfs_dirbuild' >> crates.txt
-cp -r "$top/bench/dir_speed/." crates/dir_speed/
-find crates/dir_speed -name '*.txt' -exec sh -c 'mv "$1" "${1%.txt}"' _ {} \;
-(cd crates/dir_speed && rt run > "$work/run.log" 2>&1) || { tail -20 "$work/run.log"; exit 1; }
+. "$(dirname "$0")/crates.sh"
+take_program dir_speed xfs_word xfs_disk xfs_bank xfs_dirdata xfs_dirindex xfs_dirbuild
+prove_program dir_speed
 for turn in 1 2 3; do
   python3 - crates/dir_speed/out/dir_speed <<'PY'
 import resource, subprocess, sys
