@@ -1,7 +1,8 @@
 #!/usr/bin/env bash
 # Measures xfs_laws: the verdict on a volume with a million files in a hundred thousand directories and four million runs, as
 # one call: in seconds, and in memory beyond the catalog's own. Needs GNU time. The program that is measured lies in
-# lawful_speed/, and takes its files and names from naming_speed/; each file has .txt behind its name.
+# lawful_speed/, and takes its files and names from naming_speed/, each file with .txt behind its name; it is proved in a copy
+# of the crates, which is removed.
 set -eu
 . "$(dirname "$0")/crates.sh"
 take_program lawful_speed xfs_word xfs_disk xfs_geom xfs_heads xfs_attr xfs_dirdata xfs_volume xfs_laws
