@@ -22,3 +22,4 @@ pub mod Counted
 pub mod OpenRuns
 pub mod HeldRuns
 pub mod AllPlaced
+pub mod OfPool

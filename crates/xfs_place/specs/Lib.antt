@@ -6,3 +6,4 @@ pub mod Placing
 pub mod Wanted
 pub mod Objects
 pub mod Counts
+pub mod Standing

@@ -4,6 +4,7 @@ ghost use Rattle.std.specs.Prelude.{◌≡◌, ◌<◌, ◌++◌, ◌^◌, ◌�
 ghost use Rattle.xfs_geom.specs.Volumes.{volume_of};
 ghost use Rattle.xfs_place.specs.Counts.{counts_of};
 ghost use Rattle.xfs_place.specs.Objects.{IsAsk};
+ghost use Rattle.xfs_place.specs.Standing.{AreOfPool};
 ghost use Rattle.xfs_place.specs.Wanted.{AreKept, ArePlaced, FindsNoRoom, all_kept, kept_of};
 ghost use Rattle.xfs_place.specs.declared.faults.Place.{Place};
 
@@ -32,6 +33,9 @@ pub fn place(alloc: Global, wanted: &Wanted) -> Result<Placed, PlaceFault>
     requires few { All (λ group. length group.records < 2 ^ 32) wanted.now.inodes }
     ensures runs { IfOk result (λ placed. all_kept wanted.now ≡ Ok (kept_of wanted.now ++ placed.runs)) }
     ensures groups { IfOk result (λ placed. ArePlaced (volume_of wanted.now.geometry) (kept_of wanted.now ++ placed.runs) wanted.now.reserved wanted.now.inodes
+        wanted.now.geometry.agcount placed.groups) }
+    ensures apart { IfOk result (λ placed. AreKept (volume_of wanted.now.geometry) (kept_of wanted.now ++ placed.runs)) }
+    ensures pool { IfOk result (λ placed. AreOfPool (volume_of wanted.now.geometry) (kept_of wanted.now ++ placed.runs) wanted.now.reserved wanted.now.inodes
         wanted.now.geometry.agcount placed.groups) }
     ensures counts { IfOk result (λ placed. placed.counts ≡ counts_of wanted.now.inodes placed.groups) }
     ensures cause { IfErr result (λ fault. (fault ≡ PlaceFault.NoMemory) ⊎ ((what : Place) × (fault ≡ PlaceFault.NoRoom what) × FindsNoRoom wanted.now what)) }

@@ -140,17 +140,28 @@ fn owned(start: u32, count: u32, owner: u64) -> RmapRec {
 /// What a group with trees of one block each holds.
 #[derive(Clone, Copy)]
 struct Due<'a> {
-    free: &'a [Span],
-    owners: &'a [RmapRec],
     trees: [u64; 5],
     list: &'a [u32],
+    /// The chunks with a free inode.
+    free_inodes: usize,
 }
 
-fn compare(rt: &impl std::process::Abort, placed: &GroupPlaced, due: &Due<'_>) {
-    assert_eq!(rt; placed.bno.as_slice(), due.free);
-    assert_eq!(rt; placed.cnt.as_slice(), due.free);
-    assert_eq!(rt; placed.rmap.as_slice(), due.owners);
+fn compare(
+    rt: &impl std::process::Abort,
+    placed: &Placed,
+    ag: usize,
+    free: &[Span],
+    owners: &[RmapRec],
+    due: &Due<'_>,
+) {
+    let groups = placed.groups.as_slice();
+    assert!(rt; ag < groups.len());
+    let placed = &groups[ag];
+    assert_eq!(rt; placed.bno.as_slice(), free);
+    assert_eq!(rt; placed.cnt.as_slice(), free);
+    assert_eq!(rt; placed.rmap.as_slice(), owners);
     assert_eq!(rt; placed.agfl.as_slice(), due.list);
+    assert_eq!(rt; placed.fino.as_slice().len(), due.free_inodes);
     assert_eq!(rt; placed.trees.as_slice().len(), 5);
     for (tree, block) in placed.trees.as_slice().iter().zip(&due.trees) {
         assert_eq!(rt; tree.blocks.as_slice(), [*block].as_slice());
@@ -168,30 +179,31 @@ fn new_volume(rt: HostRuntime) -> Result<(), Fail> {
         fdblocks: 1516,
     };
     assert_eq!(rt; placed.counts, counts);
-    let groups = placed.groups.as_slice();
-    assert_eq!(rt; groups.len(), 2);
+    assert_eq!(rt; placed.groups.as_slice().len(), 2);
     compare(
         &rt,
-        &groups[0],
-        &Due {
-            free: &[span(12, 4), span(24, 1000)],
-            owners: &[
+        &placed,
+        0,
+        &[span(12, 4), span(24, 1000)],
+        &[
                 owned(0, 1, FS),
                 owned(1, 2, AG),
                 owned(3, 2, INOBT),
                 owned(5, 7, AG),
                 owned(16, 8, INODES),
             ],
+        &Due {
             trees: [1, 2, 3, 4, 5],
             list: &[6, 7, 8, 9, 10, 11],
+            free_inodes: 1,
         },
     );
     compare(
         &rt,
-        &groups[1],
-        &Due {
-            free: &[span(524, 500)],
-            owners: &[
+        &placed,
+        1,
+        &[span(524, 500)],
+        &[
                 owned(0, 1, FS),
                 owned(1, 2, AG),
                 owned(3, 2, INOBT),
@@ -199,12 +211,12 @@ fn new_volume(rt: HostRuntime) -> Result<(), Fail> {
                 owned(6, 512, LOG),
                 owned(518, 6, AG),
             ],
+        &Due {
             trees: [1025, 1026, 1027, 1028, 1029],
             list: &[518, 519, 520, 521, 522, 523],
+            free_inodes: 0,
         },
     );
-    assert_eq!(rt; groups[0].fino.as_slice().len(), 1);
-    assert_eq!(rt; groups[1].fino.as_slice().len(), 0);
     Ok(())
 }
 
@@ -213,14 +225,13 @@ fn trees_beside_reserved_blocks(rt: HostRuntime) -> Result<(), Fail> {
     let alloc = rt.alloc();
     let reserved = vec![in alloc; 3, 5, 1027, 1029]?;
     let placed = place_beside(alloc, &SMALLEST, root_chunk(), reserved, Vec::new(alloc), 1)?;
-    let groups = placed.groups.as_slice();
-    assert_eq!(rt; groups.len(), 2);
+    assert_eq!(rt; placed.groups.as_slice().len(), 2);
     compare(
         &rt,
-        &groups[0],
-        &Due {
-            free: &[span(3, 1), span(5, 1), span(14, 2), span(24, 1000)],
-            owners: &[
+        &placed,
+        0,
+        &[span(3, 1), span(5, 1), span(14, 2), span(24, 1000)],
+        &[
                 owned(0, 1, FS),
                 owned(1, 2, AG),
                 owned(4, 1, INOBT),
@@ -228,16 +239,18 @@ fn trees_beside_reserved_blocks(rt: HostRuntime) -> Result<(), Fail> {
                 owned(7, 7, AG),
                 owned(16, 8, INODES),
             ],
+        &Due {
             trees: [1, 2, 4, 6, 7],
             list: &[8, 9, 10, 11, 12, 13],
+            free_inodes: 1,
         },
     );
     compare(
         &rt,
-        &groups[1],
-        &Due {
-            free: &[span(3, 1), span(5, 1), span(526, 498)],
-            owners: &[
+        &placed,
+        1,
+        &[span(3, 1), span(5, 1), span(526, 498)],
+        &[
                 owned(0, 1, FS),
                 owned(1, 2, AG),
                 owned(4, 1, INOBT),
@@ -245,8 +258,10 @@ fn trees_beside_reserved_blocks(rt: HostRuntime) -> Result<(), Fail> {
                 owned(518, 1, INOBT),
                 owned(519, 7, AG),
             ],
+        &Due {
             trees: [1025, 1026, 1028, 1542, 1543],
             list: &[520, 521, 522, 523, 524, 525],
+            free_inodes: 0,
         },
     );
     Ok(())
@@ -278,22 +293,23 @@ fn small_last_group(rt: HostRuntime) -> Result<(), Fail> {
     let alloc = rt.alloc();
     let none = Vec::new(alloc);
     let placed = place_beside(alloc, &SMALL_LAST, file(1034, 54), none, Vec::new(alloc), 1)?;
-    let groups = placed.groups.as_slice();
-    assert_eq!(rt; groups.len(), 2);
+    assert_eq!(rt; placed.groups.as_slice().len(), 2);
     compare(
         &rt,
-        &groups[1],
-        &Due {
-            free: &[],
-            owners: &[
+        &placed,
+        1,
+        &[],
+        &[
                 owned(0, 1, FS),
                 owned(1, 2, AG),
                 owned(3, 2, INOBT),
                 owned(5, 5, AG),
                 owned(10, 54, 131),
             ],
+        &Due {
             trees: [1025, 1026, 1027, 1028, 1029],
             list: &[6, 7, 8, 9],
+            free_inodes: 0,
         },
     );
     let none = Vec::new(alloc);
@@ -305,8 +321,8 @@ fn small_last_group(rt: HostRuntime) -> Result<(), Fail> {
 #[test]
 fn groups_nearly_full(rt: HostRuntime) -> Result<(), Fail> {
     let alloc = rt.alloc();
-    // the free blocks, and the blocks of the free list and of free runs then
-    let cases: [(u64, Option<(usize, u32)>); 13] = [
+    // the free blocks, and the blocks of the free list and the free runs then
+    let cases: [(u64, Option<(usize, usize)>); 13] = [
         (0, None),
         (1, None),
         (2, None),
@@ -327,9 +343,8 @@ fn groups_nearly_full(rt: HostRuntime) -> Result<(), Fail> {
         let found = place_beside(alloc, &SMALLEST, full, Vec::new(alloc), Vec::new(alloc), 1);
         let seen = match found {
             Ok(placed) => {
-                let group = &placed.groups.as_slice()[0];
-                let free = group.bno.as_slice().iter().map(|run| run.count).max();
-                Some((group.agfl.as_slice().len(), free.unwrap_or(0)))
+                let first = placed.groups.as_slice().first();
+                first.map(|group| (group.agfl.as_slice().len(), group.bno.as_slice().len()))
             }
             Err(PlaceFault::NoRoom(Place::Group(0))) => None,
             Err(fault) => panic!(rt; "{blocks}: {fault:?}"),

@@ -1,6 +1,7 @@
 //! Objects, and what they leave to the trees.
 
-ghost use Rattle.std.specs.Prelude.{◌≡◌, ◌≤◌, ◌<◌, ◌^◌, All, IfOk};
+ghost use Rattle.std.specs.Prelude.{◌≡◌, ◌≤◌, ◌<◌, ◌+◌, ◌*◌, ◌^◌, All, IfOk};
+ghost use Rattle.xfs_geom.specs.Shape.{IsShaped};
 ghost use Rattle.xfs_place.specs.Objects.{IsAsk};
 
 use super::groups::{SMALLEST, Size, file, place_beside, root_chunk};
@@ -49,10 +50,11 @@ fn objects_before_trees(rt: HostRuntime) -> Result<(), Fail> {
     for (run, (start, count, owner)) in runs.iter().zip(&due) {
         assert_eq!(rt; (run.start, run.count, run.owner), (*start, *count, *owner));
     }
-    let groups = placed.groups.as_slice();
-    assert_eq!(rt; groups.len(), 2);
-    assert_eq!(rt; groups[0].agfl.as_slice(), [24, 1016, 1017, 1018, 1019, 1020].as_slice());
-    assert_eq!(rt; groups[1].agfl.as_slice(), [1018, 1019, 1020, 1021, 1022, 1023].as_slice());
+    let lists = [[24, 1016, 1017, 1018, 1019, 1020], [1018, 1019, 1020, 1021, 1022, 1023]];
+    assert_eq!(rt; placed.groups.as_slice().len(), 2);
+    for (group, list) in placed.groups.as_slice().iter().zip(&lists) {
+        assert_eq!(rt; group.agfl.as_slice(), list.as_slice());
+    }
     Ok(())
 }
 
@@ -78,10 +80,19 @@ const LARGE: Size = Size {
     log: 409_606,
 };
 
-/// The blocks of the five trees of the first group where it has so many runs of free blocks: from AG block `from` on every second block is
-/// reserved, the ones between them are an object's, and what is behind is a file's.
-fn trees_beside(alloc: Global, size: &Size, runs: u32, from: u32) -> Result<[usize; 5], PlaceFault>
-    requires few { runs ≤ 200000 }
+/// The blocks of the five trees of the first group where it has so many runs of free blocks: from AG block `from` on
+/// every second block is reserved, those between are an object's, and what is behind is a file's.
+fn trees_beside(
+    alloc: Global,
+    size: &Size,
+    runs: u32,
+    from: u32,
+) -> Result<Option<[usize; 5]>, PlaceFault>
+    requires shape { IsShaped size.now.dblocks size.now.agblocks size.now.agcount size.now.agblklog size.now.log 512 128 0 }
+    requires front { 1 ≤ from }
+    requires end { from + 2 * runs < size.now.agblocks }
+    requires inside { size.now.agblocks ≤ size.now.dblocks }
+    requires log { size.now.agblocks ≤ size.now.log }
 {
     let mut reserved = Vec::new(alloc);
     for i in 0..runs {
@@ -93,13 +104,28 @@ fn trees_beside(alloc: Global, size: &Size, runs: u32, from: u32) -> Result<[usi
     let end = from + 2 * runs;
     let rest = file(end as u64, (size.agblocks - end) as u64);
     let placed = place_beside(alloc, size, rest, reserved, objects, from)?;
-    let group = &placed.groups.as_slice()[0];
+    Ok(tree_blocks(&placed, runs as usize))
+}
+
+/// The blocks of the five trees of the first group, where it has so many runs of free blocks, and a free list of six.
+fn tree_blocks(placed: &Placed, runs: usize) -> Option<[usize; 5]> {
+    let group = placed.groups.as_slice().first()?;
     let mut blocks = [0; 5];
     for (tree, count) in group.trees.as_slice().iter().zip(&mut blocks) {
         *count = tree.blocks.as_slice().len();
     }
-    if group.bno.as_slice().len() != runs as usize || group.agfl.as_slice().len() != 6 {
-        return Err(PlaceFault::NoRoom(Place::Chunk));
+    let as_wanted = group.bno.as_slice().len() == runs && group.agfl.as_slice().len() == 6;
+    if as_wanted { Some(blocks) } else { None }
+}
+
+#[test]
+fn many_free_runs(rt: HostRuntime) -> Result<(), Fail> {
+    let alloc = rt.alloc();
+    for runs in [335, 336, 337] {
+        let due = Some([1, 1, 1, 1, 4]);
+        assert_eq!(rt; trees_beside(alloc, &SMALLEST, runs.min(400), 100)?, due, "{runs}");
     }
-    Ok(blocks)
+    let due = Some([400, 400, 1, 1, 1206]);
+    assert_eq!(rt; trees_beside(alloc, &LARGE, 200_000, 3000)?, due);
+    Ok(())
 }
