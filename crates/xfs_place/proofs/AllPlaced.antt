@@ -83,8 +83,8 @@ pub rooms_small : (v : Volume) (kept : List Run) (reserved : List ℕ) (inodes :
 rooms_small v kept reserved inodes n groups has few placed =
     let d : GroupPlaced = record { bno = []; cnt = []; fino = []; rmap = []; trees = []; agfl = [] } in
     let each : All (λ (p : GroupPlaced). room p ≤ 5 * 2 ^ 26 + 1) groups = All-from_get_or (λ (p : GroupPlaced). room p ≤ 5 * 2 ^ 26 + 1) groups d (λ ag h.
-        let long = length_uses v kept reserved ag in
-        let one = room_small (wanted_group v kept reserved inodes ag) (ag * v.agblocks) (inodes_of inodes ag) (get_or groups ag d) (placed.each ag d (omega (arith, h, placed.all))) in
-        omega (arith, one, long, group_small v ag has, has.small)) in
+    let long = length_uses v kept reserved ag in
+    let one = room_small (wanted_group v kept reserved inodes ag) (ag * v.agblocks) (inodes_of inodes ag) (get_or groups ag d) (placed.each ag d (omega (arith, h, placed.all))) in
+    omega (arith, one, long, group_small v ag has, has.small)) in
     let whole = sum_by-le room (5 * 2 ^ 26 + 1) groups each in
     omega (arith, sum-map room groups, whole, placed.all, few)

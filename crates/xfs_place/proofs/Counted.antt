@@ -122,7 +122,7 @@ sizes_all g n bno inodes fino rmap inner free frees owners =
     ap (size_of 168 91) (sym (owners_all g (space_blocks g n) n rmap owners ∙ length-map rmap run_of)) in
     let c : size_of 252 505 (length fino) ≡ size_of 252 505 (length (filter has_free inodes)) = ap (λ (xs : List InoRec). size_of 252 505 (length xs)) free in
     let parts : sum (tree_sizes (length bno) (length inodes) (length fino) (length rmap))
-        ≡ 0 + size_of 505 336 (length bno) + size_of 505 336 (length bno) + size_of 252 505 (length inodes) + size_of 252 505 (length fino) + size_of 168 91 (length rmap) = refl in
+    ≡ 0 + size_of 505 336 (length bno) + size_of 505 336 (length bno) + size_of 252 505 (length inodes) + size_of 252 505 (length fino) + size_of 168 91 (length rmap) = refl in
     omega (arith, a, b, c, inner, parts)
 
 pub chosen_fits : (g : Group) (n : ℕ) → IsChosen g (Some n) → need g n ≤ n

@@ -166,8 +166,7 @@ module _ (v : Volume) (groups : HasGroups v.dblocks v.agblocks v.agcount) (kept 
       let from' : from ≤ b % v.agblocks = leb-true from (b % v.agblocks) late.0 in
       let in' : b % v.agblocks + blocks ≤ group_length v (b / v.agblocks) = leb-true (b % v.agblocks + blocks) (group_length v (b / v.agblocks)) fits.0 in
       let whole : b / v.agblocks * v.agblocks + b % v.agblocks ≡ b = div-add-mod' b v.agblocks in
-      let end = group_end b low in
-      (
+      let end = group_end b low in (
         leb-true blocks most_blocks few.0,
         λ x from'' to.
             let inside : x < v.dblocks = omega (arith, to, in', whole, end.0) in

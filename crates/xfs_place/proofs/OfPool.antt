@@ -71,10 +71,10 @@ low_pool : (v : Volume) (kept : List Run) (reserved : List ℕ) (ag : ℕ) (bloc
 low_pool v kept reserved ag blocks low =
     All-map (λ block. is_pool v kept reserved block ≡ true) (λ block. ag * v.agblocks + block) blocks
     (All-from_get_or (λ block. is_pool v kept reserved (ag * v.agblocks + block) ≡ true) blocks 0 (λ k in'.
-        let b = get_or blocks k 0 in
-        let open' = low.open' k in' in
-        let here : b < group_length v ag = omega (arith, open_inside (uses_in v kept reserved ag) b open', length_uses v kept reserved ag) in
-        sym (open_is v kept reserved (ag * v.agblocks + b)) ∙ ap is_open (sym (use_in v kept reserved ag b here)) ∙ open'))
+    let b = get_or blocks k 0 in
+    let open' = low.open' k in' in
+    let here : b < group_length v ag = omega (arith, open_inside (uses_in v kept reserved ag) b open', length_uses v kept reserved ag) in
+    sym (open_is v kept reserved (ag * v.agblocks + b)) ∙ ap is_open (sym (use_in v kept reserved ag b here)) ∙ open'))
 
 of_pool : (v : Volume) (kept : List Run) (reserved : List ℕ) (ag : ℕ) (inodes : List InoRec) (p : GroupPlaced)
     → IsPlaced (group_in v kept reserved ag (inner_blocks inodes)) (ag * v.agblocks) inodes p → IsOfPool v kept reserved (ag * v.agblocks) inodes p

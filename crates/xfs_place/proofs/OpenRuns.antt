@@ -70,7 +70,7 @@ looked_here uses blocks at found now start true here is same first some few old 
     λ b low high. elim (cases_eq b at) [
       | inl last ↦ ap (in_pool uses) last ∙ sym here
       | inr before ↦ old.behind b (omega (arith, low, first, is, same)) (omega (arith, high, before, first, is, same, old.since))
-    ]
+    ],
   ),
   λ k low has. let so = old.later k has.1 in omega (arith, so, low, first, is, same, old.since),
 )

@@ -22,7 +22,6 @@ use xfs_geom::{Geometry, InoRec, Run};
 /// one with a fixed use.
 ///
 /// `NoRoom` of the first group whose trees have none; `NoMemory` where memory is wanting.
-#[tactic(auto, using(crate::proofs::OfPool::all_of_pool))]
 pub fn place_groups(
     alloc: Global,
     g: &Geometry,

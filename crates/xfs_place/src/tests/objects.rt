@@ -44,13 +44,23 @@ fn objects_before_trees(rt: HostRuntime) -> Result<(), Fail> {
     let objects = three_objects(alloc, 500)?;
     let reserved = vec![in alloc; 25]?;
     let placed = place_beside(alloc, &SMALLEST, root_chunk(), reserved, objects, 1)?;
-    let due = [(1, 2, 131), (3, 1, 131), (4, 1, 132), (5, 6, 133), (26, 990, 133), (1542, 500, 133)];
+    let due = [
+        (1, 2, 131),
+        (3, 1, 131),
+        (4, 1, 132),
+        (5, 6, 133),
+        (26, 990, 133),
+        (1542, 500, 133),
+    ];
     let runs = placed.runs.as_slice();
     assert_eq!(rt; runs.len(), due.len());
     for (run, (start, count, owner)) in runs.iter().zip(&due) {
         assert_eq!(rt; (run.start, run.count, run.owner), (*start, *count, *owner));
     }
-    let lists = [[24, 1016, 1017, 1018, 1019, 1020], [1018, 1019, 1020, 1021, 1022, 1023]];
+    let lists = [
+        [24, 1016, 1017, 1018, 1019, 1020],
+        [1018, 1019, 1020, 1021, 1022, 1023],
+    ];
     assert_eq!(rt; placed.groups.as_slice().len(), 2);
     for (group, list) in placed.groups.as_slice().iter().zip(&lists) {
         assert_eq!(rt; group.agfl.as_slice(), list.as_slice());
@@ -62,7 +72,14 @@ fn objects_before_trees(rt: HostRuntime) -> Result<(), Fail> {
 fn objects_without_room(rt: HostRuntime) -> Result<(), Fail> {
     let alloc = rt.alloc();
     let reserved = vec![in alloc; 25]?;
-    let found = place_beside(alloc, &SMALLEST, root_chunk(), reserved, three_objects(alloc, 507)?, 1);
+    let found = place_beside(
+        alloc,
+        &SMALLEST,
+        root_chunk(),
+        reserved,
+        three_objects(alloc, 507)?,
+        1,
+    );
     assert!(rt; matches!(found, Err(PlaceFault::NoRoom(Place::File(133)))));
     let directory = object(alloc, 131, ObjectKind::Directory, &[1, 1000])?;
     let objects = vec![in alloc; directory]?;
@@ -123,7 +140,11 @@ fn many_free_runs(rt: HostRuntime) -> Result<(), Fail> {
     let alloc = rt.alloc();
     for runs in [335, 336, 337] {
         let due = Some([1, 1, 1, 1, 4]);
-        assert_eq!(rt; trees_beside(alloc, &SMALLEST, runs.min(400), 100)?, due, "{runs}");
+        assert_eq!(rt;
+            trees_beside(alloc, &SMALLEST, runs.min(400), 100)?,
+            due,
+            "{runs}"
+        );
     }
     let due = Some([400, 400, 1, 1, 1206]);
     assert_eq!(rt; trees_beside(alloc, &LARGE, 200_000, 3000)?, due);

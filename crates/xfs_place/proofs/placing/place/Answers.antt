@@ -17,4 +17,4 @@ count_all-counts-requires-clause-small c =
     let w = c.args.wanted.now in
     subst (λ (gs : List GroupPlaced). (counts_of [] gs).fdblocks < 2 ^ 64) (sym c.deref-4.ensures.value)
     (rooms_small (volume_of w.geometry) c.deref-3.result.now c.as_slice-reserved.result.now c.as_slice-inodes.result.now w.geometry.agcount c.in_ok-groups.groups.items w.geometry.shape.groups
-        w.geometry.shape.groups.few c.in_ok-groups.ensures.placed)
+    w.geometry.shape.groups.few c.in_ok-groups.ensures.placed)

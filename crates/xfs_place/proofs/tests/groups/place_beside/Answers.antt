@@ -19,13 +19,13 @@ place-requires-clause-kept c =
     ap₂ (λ (xs ys : List Run). xs ++ ys) (c.from_vec.ensures ∙ c.in_ok-vec.ensures.items) (c.from_vec-2.ensures ∙ c.new.ensures.items) in
     subst (AreKept (volume_of g)) (sym whole)
     (kept_alone (volume_of g) r
-        (record {
-          some = c.requires.some;
-          inside = omega (arith, c.requires.inside, c.shaped.ensures.blocks);
-          fits = λ word. omega (arith, plain, c.requires.length);
-          plain = λ other. plain;
-        })
-        (omega (arith, rest, c.requires.behind)) (omega (arith, rest, c.requires.within, c.shaped.ensures.group)) (apart r.start r.count c.args.size.now.log g.log g.logblocks c.requires.log c.shaped.ensures.log c.shaped.ensures.logblocks))
+    (record {
+      some = c.requires.some;
+      inside = omega (arith, c.requires.inside, c.shaped.ensures.blocks);
+      fits = λ word. omega (arith, plain, c.requires.length);
+      plain = λ other. plain;
+    })
+    (omega (arith, rest, c.requires.behind)) (omega (arith, rest, c.requires.within, c.shaped.ensures.group)) (apart r.start r.count c.args.size.now.log g.log g.logblocks c.requires.log c.shaped.ensures.log c.shaped.ensures.logblocks))
   where
     apart : (start count log here blocks : ℕ) → (start + count ≤ log) ⊎ (log + 512 ≤ start) → here ≡ log → blocks ≡ 512 → (start + count ≤ here) ⊎ (here + blocks ≤ start)
     apart start count log here blocks (inl before) is many = inl (omega (arith, before, is))
