@@ -28,7 +28,7 @@ in_before (r ∷ rest) low b apart h =
 in_first : (r : Span) (rest : List Span) (b : ℕ) → r.start ≤ b → b < r.start + r.count → is_in (r ∷ rest) b ≡ true
 in_first r rest b low high = let here : is_block r.start r.count b ≡ true = grind (arith, nat_tests, low, high) in rw here refl
 
-in_behind : (r : Span) (rest : List Span) (b : ℕ) → r.start + r.count ≤ b → is_in (r ∷ rest) b ≡ is_in rest b
+pub in_behind : (r : Span) (rest : List Span) (b : ℕ) → r.start + r.count ≤ b → is_in (r ∷ rest) b ≡ is_in rest b
 in_behind r rest b h = let out : is_block r.start r.count b ≡ false = grind (arith, nat_tests, h) in rw out refl
 
 -- the first run does not follow a block that passes
@@ -37,7 +37,7 @@ FirstAlone free [] = Unit {0}
 FirstAlone free (r ∷ rest) = 0 < r.start → free (r.start - 1) ≡ false
 
 -- the runs end by a block
-ends : (r : Span) (rest : List Span) (low top : ℕ) → AreSeparate low (r ∷ rest) → ((b : ℕ) → top ≤ b → is_in (r ∷ rest) b ≡ false) → r.start + r.count ≤ top
+pub ends : (r : Span) (rest : List Span) (low top : ℕ) → AreSeparate low (r ∷ rest) → ((b : ℕ) → top ≤ b → is_in (r ∷ rest) b ≡ false) → r.start + r.count ≤ top
 ends r rest low top apart out = elim (cases_lt top (r.start + r.count)) [
   | inr inside ↦ inside
   | inl far ↦
@@ -122,7 +122,7 @@ sizes_all g n bno inodes fino rmap inner free frees owners =
     ap (size_of 168 91) (sym (owners_all g (space_blocks g n) n rmap owners ∙ length-map rmap run_of)) in
     let c : size_of 252 505 (length fino) ≡ size_of 252 505 (length (filter has_free inodes)) = ap (λ (xs : List InoRec). size_of 252 505 (length xs)) free in
     let parts : sum (tree_sizes (length bno) (length inodes) (length fino) (length rmap))
-        ≡ size_of 505 336 (length bno) + (size_of 505 336 (length bno) + (size_of 252 505 (length inodes) + (size_of 252 505 (length fino) + (size_of 168 91 (length rmap) + 0)))) = refl in
+    ≡ 0 + size_of 505 336 (length bno) + size_of 505 336 (length bno) + size_of 252 505 (length inodes) + size_of 252 505 (length fino) + size_of 168 91 (length rmap) = refl in
     omega (arith, a, b, c, inner, parts)
 
 pub chosen_fits : (g : Group) (n : ℕ) → IsChosen g (Some n) → need g n ≤ n

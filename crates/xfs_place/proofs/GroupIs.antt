@@ -349,6 +349,10 @@ pub length_uses : (v : Volume) (kept : List Run) (reserved : List ℕ) (ag : ℕ
 unfolding uses_in
 length_uses v kept reserved ag = length-map-range_with_len (λ block. use_of v kept reserved (ag * v.agblocks + block)) 0 (group_length v ag)
 
+pub use_in : (v : Volume) (kept : List Run) (reserved : List ℕ) (ag b : ℕ) → b < group_length v ag → use_at (uses_in v kept reserved ag) b ≡ use_of v kept reserved (ag * v.agblocks + b)
+unfolding uses_in
+use_in v kept reserved ag b in' = get_or-map-range_with_len (λ block. use_of v kept reserved (ag * v.agblocks + block)) 0 (group_length v ag) b b Claimed in' (omega arith)
+
 pub group_is : (v : Volume) (kept : List Run) (reserved : List ℕ) (ag inner : ℕ) → AreKept v kept → ag < v.agcount → 1 ≤ v.agblocks → 1 ≤ group_length v ag → group_length v ag ≤ v.agblocks
     → IsGroup (group_in v kept reserved ag inner)
 unfolding uses_in claim_in
@@ -385,7 +389,7 @@ group_is v kept reserved ag inner are group' some long short = record {
 }
   where
     use_is : (b : ℕ) → b < group_length v ag → use_at (uses_in v kept reserved ag) b ≡ use_of v kept reserved (ag * v.agblocks + b)
-    use_is b in' = get_or-map-range_with_len (λ block. use_of v kept reserved (ag * v.agblocks + block)) 0 (group_length v ag) b b Claimed in' (omega arith)
+    use_is b in' = use_in v kept reserved ag b in'
 
     use_beyond : (b : ℕ) → group_length v ag ≤ b → use_at (uses_in v kept reserved ag) b ≡ Claimed
     use_beyond b far = get_or_past (uses_in v kept reserved ag) b Claimed (omega (arith, far, length_uses v kept reserved ag))

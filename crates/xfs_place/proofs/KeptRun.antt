@@ -1,6 +1,8 @@
 -- One run alone, which is kept.
-use Rattle.std.proofs.Common.{◌≡◌, ℕ, Bool, true, false, ◌+◌, ◌%◌, ◌≤◌, ◌<◌, ◌⊎◌, ◌==◌, ◌&&◌, nat_le, nat_lt, inl, inr, List, [], ◌∷◌, refl, sym, ◌∙◌, ap, arith}
+use Rattle.std.proofs.Common.{◌≡◌, ℕ, Bool, true, false, ◌+◌, ◌-◌, ◌*◌, ◌/◌, ◌%◌, ◌≤◌, ◌<◌, ◌⊎◌, ◌==◌, ◌&&◌, nat_le, nat_lt, inl, inr, List, [], ◌∷◌, refl, sym, ◌∙◌, ap, arith}
 use Rattle.std.proofs.lemmas.Bool.{or_cases, and_parts, eqb-true, leb-true, ltb-true, cases_Bool, false_from_ne_true}
+use Rattle.std.proofs.Math.Nat.{div-add-mod'}
+use Rattle.std.proofs.lemmas.Nat.{mod-mul-add}
 use Rattle.std.proofs.lemmas.List.Elements.{All-cons, All-nil}
 use Rattle.xfs_geom.specs.Conversions.{is_fixed}
 use Rattle.xfs_geom.specs.Volumes.{Volume}
@@ -12,16 +14,19 @@ use Rattle.xfs_place.specs.Wanted.{AreKept, IsClear}
 use Rattle.xfs_place.proofs.Found.{one_small}
 use Rattle.xfs_place.proofs.Ordered.{on_first}
 
-clear_alone : (v : Volume) (r : Run) → v.agblocks ≡ 1024 → 1 ≤ r.start % 1024 → r.start % 1024 + r.count ≤ 1024
+clear_alone : (v : Volume) (r : Run) → 1 ≤ r.start % v.agblocks → r.start % v.agblocks + r.count ≤ v.agblocks
     → (r.start + r.count ≤ v.log) ⊎ (v.log + v.logblocks ≤ r.start) → IsClear v r
-clear_alone v r group behind within log = λ x has. false_from_ne_true (is_fixed v x) (λ fixed.
+clear_alone v r behind within log = λ x has. false_from_ne_true (is_fixed v x) (λ fixed.
     let parts = and_parts (nat_le r.start x) (nat_lt x (r.start + r.count)) has in
     let low : r.start ≤ x = leb-true r.start x parts.0 in
     let high : x < r.start + r.count = ltb-true x (r.start + r.count) parts.1 in
     elim (or_cases (x % v.agblocks == 0) (nat_le v.log x && nat_lt x (v.log + v.logblocks)) fixed) [
       | inl first ↦
-          let none : x % 1024 ≡ 0 = ap (λ (k : ℕ). x % k) (sym group) ∙ eqb-true (x % v.agblocks) 0 first in
-          omega (arith, none, behind, within, low, high)
+          let w = v.agblocks in
+          let at : x ≡ r.start / w * w + (r.start % w + (x - r.start)) = omega (arith, low, div-add-mod' r.start w) in
+          let rest : x % w ≡ r.start % w + (x - r.start) = ap (λ (n : ℕ). n % w) at ∙ mod-mul-add (r.start / w) w (r.start % w + (x - r.start)) (omega (arith, low, high, within)) in
+          let none : x % w ≡ 0 = eqb-true (x % w) 0 first in
+          omega (arith, none, rest, behind)
       | inr inside ↦
           let sides = and_parts (nat_le v.log x) (nat_lt x (v.log + v.logblocks)) inside in
           let from : v.log ≤ x = leb-true v.log x sides.0 in
@@ -32,11 +37,11 @@ clear_alone v r group behind within log = λ x has. false_from_ne_true (is_fixed
           ]
     ])
 
-pub kept_alone : (v : Volume) (r : Run) → v.agblocks ≡ 1024 → IsClaim v.dblocks r → 1 ≤ r.start % 1024 → r.start % 1024 + r.count ≤ 1024
+pub kept_alone : (v : Volume) (r : Run) → IsClaim v.dblocks r → 1 ≤ r.start % v.agblocks → r.start % v.agblocks + r.count ≤ v.agblocks
     → (r.start + r.count ≤ v.log) ⊎ (v.log + v.logblocks ≤ r.start) → AreKept v (r ∷ [])
-kept_alone v r group claim behind within log = record {
+kept_alone v r claim behind within log = record {
   each = All-cons (IsClaim v.dblocks) r [] claim (All-nil (IsClaim v.dblocks));
-  clear = All-cons (IsClear v) r [] (clear_alone v r group behind within log) (All-nil (IsClear v));
+  clear = All-cons (IsClear v) r [] (clear_alone v r behind within log) (All-nil (IsClear v));
   apart = record { once = λ block. omega (arith, on_first r [] block, one_small (is_of block r), none block) };
 }
   where

@@ -19,3 +19,7 @@ pub mod OneGroup
 pub mod GroupsPlaced
 pub mod KeptRun
 pub mod Counted
+pub mod OpenRuns
+pub mod HeldRuns
+pub mod AllPlaced
+pub mod OfPool

@@ -51,6 +51,49 @@ marks_then old mid new p q r now first next both = record {
       rw (both b h) (two_marks (p b) (q b) (use_at old b) (use_at mid b) (use_at new b) now (first.each b h) (next.each b here));
 }
 
+-- the blocks that pass are marked one after another
+one_more_passes : (test : ℕ → Bool) (i b : ℕ) → test i ≡ true → (test b && nat_lt b (i + 1)) ≡ ((test b && nat_lt b i) || (b == i))
+one_more_passes test i b passes = elim (cases_eq b i) [
+  | inl same ↦
+      let e : (b == i) ≡ true = eq-eqb b i same in
+      let f : nat_lt b i ≡ false = le-ltb b i (omega (arith, same)) in
+      let g : nat_lt b (i + 1) ≡ true = lt-ltb b (i + 1) (omega (arith, same)) in
+      let h : test b ≡ true = ap test same ∙ passes in
+      rw (e, f, g, h) refl
+  | inr other ↦
+      let e : (b == i) ≡ false = ne_eqb b i other in
+      let f : nat_lt b (i + 1) ≡ nat_lt b i = grind (arith, nat_tests, other) in
+      rw (e, f) (or_false (test b && nat_lt b i) false refl)
+]
+  where
+    or_false : (x y : Bool) → y ≡ false → x ≡ (x || y)
+    or_false true y h = refl
+    or_false false y h = sym h
+
+pub marks_put : (old mid new : List Use) (test : ℕ → Bool) (i : ℕ) (now : Use) → i < length old → test i ≡ true → Marks old mid (λ b. test b && nat_lt b i) now → new ≡ set mid i now
+    → Marks old new (λ b. test b && nat_lt b (i + 1)) now
+marks_put old mid new test i now low passes first is =
+    let next : Marks mid new (λ b. b == i) now = subst (λ (us : List Use). Marks mid us (λ b. b == i) now) (sym is) (marks_set mid i now (omega (arith, low, first.all))) in
+    marks_then old mid new (λ b. test b && nat_lt b i) (λ b. b == i) (λ b. test b && nat_lt b (i + 1)) now first next (λ b h. one_more_passes test i b passes)
+
+pub marks_passed : (old mid new : List Use) (test : ℕ → Bool) (i : ℕ) (now : Use) → test i ≡ false → Marks old mid (λ b. test b && nat_lt b i) now → new ≡ mid
+    → Marks old new (λ b. test b && nat_lt b (i + 1)) now
+marks_passed old mid new test i now fails first is =
+    subst (λ (us : List Use). Marks old us (λ b. test b && nat_lt b (i + 1)) now) (sym is) (record {
+      all = first.all;
+      each = λ b h. rw (none_more b) (first.each b h);
+    })
+  where
+    none_more : (b : ℕ) → (test b && nat_lt b (i + 1)) ≡ (test b && nat_lt b i)
+    none_more b = elim (cases_eq b i) [
+      | inl same ↦
+          let h : test b ≡ false = ap test same ∙ fails in
+          rw h refl
+      | inr other ↦
+          let f : nat_lt b (i + 1) ≡ nat_lt b i = grind (arith, nat_tests, other) in
+          rw f refl
+    ]
+
 -- one more of a list
 pub listed_more : (blocks : List ℕ) (i : ℕ) (block : ℕ) → i < length blocks → (b : ℕ) → is_listed (take (i + 1) blocks) b ≡ (is_listed (take i blocks) b || (b == get_or blocks i block))
 unfolding is_listed

@@ -5,3 +5,5 @@ pub mod Claims
 pub mod Placing
 pub mod Wanted
 pub mod Objects
+pub mod Counts
+pub mod Standing

@@ -1,13 +1,17 @@
 -- What a volume holds before its trees are placed, group by group.
-use Rattle.std.specs.Prelude.{◌≡◌, ℕ, Bool, true, false, ◌+◌, ◌-◌, ◌*◌, ◌≤◌, ◌<◌, ◌&&◌, nat_le, nat_lt, if◌then◌else◌, List, [], ◌∷◌, ◌++◌, length, map, Option, Some, None, slice_index_or}
+use Rattle.std.specs.Prelude.{◌≡◌, ℕ, Bool, true, false, ◌+◌, ◌-◌, ◌*◌, ◌≤◌, ◌<◌, ◌⊎◌, ◌&&◌, nat_le, nat_lt, if◌then◌else◌, List, [], ◌∷◌, ◌++◌, length, map, Option, Some, None, slice_index_or, Result, Ok, Err}
 use Rattle.std.specs.List.{All, range_with_len}
 use Rattle.xfs_geom.specs.Conversions.{group_length, is_fixed}
-use Rattle.xfs_geom.specs.Volumes.{Volume}
+use Rattle.xfs_geom.specs.Volumes.{Volume, volume_of}
 use Rattle.xfs_geom.specs.declared.records.Run.{Run}
 use Rattle.xfs_kinds.specs.MergedRuns.{held_at}
 use Rattle.xfs_geom.specs.declared.records.InoRec.{InoRec}
 use Rattle.xfs_place.specs.declared.placed.GroupPlaced.{GroupPlaced}
+use Rattle.xfs_place.specs.declared.faults.Place.{Place}
+use Rattle.xfs_place.specs.declared.faults.Place.TheVariants as Place
 use Rattle.xfs_place.specs.declared.wanted.GroupInodes.{GroupInodes}
+use Rattle.xfs_place.specs.declared.wanted.Wanted.{Wanted}
+use Rattle.xfs_place.specs.Objects.{asks_of, keep_with}
 use Rattle.xfs_place.specs.Placing.{IsPlaced, inner_blocks}
 use Rattle.xfs_place.specs.declared.uses.Use.{Use}
 use Rattle.xfs_place.specs.Pool.{header_owner, is_of, log_owner, use_of}
@@ -76,8 +80,21 @@ pub record ArePlaced (v : Volume) (kept : List Run) (reserved : List ℕ) (inode
   pub all : length groups ≡ n
   pub each : (ag : ℕ) (d : GroupPlaced) → ag < n → IsPlaced (wanted_group v kept reserved inodes ag) (ag * v.agblocks) (inodes_of inodes ag) (slice_index_or groups ag d)
 
+-- what is kept of what a request names, with the new chunks
+abbrev pub kept_of : Wanted → List Run
+kept_of w = w.taken ++ w.new
+
+-- the same with the runs of the objects; or the first object that finds no room
+abbrev pub all_kept : Wanted → Result (List Run) Place
+all_kept w = keep_with (volume_of w.geometry) w.reserved w.from (kept_of w) (asks_of w.objects)
+
 -- the first group whose trees have no room
 pub record IsWithoutRoom (v : Volume) (kept : List Run) (reserved : List ℕ) (inodes : List GroupInodes) (ag : ℕ) : Type 0 where
   pub inside : ag < v.agcount
   pub none : IsChosen (wanted_group v kept reserved inodes ag) None
   pub others : (k : ℕ) → k < ag → (n : ℕ) × IsChosen (wanted_group v kept reserved inodes k) (Some n)
+
+-- what a request finds no room for: an object, or the trees and the free list of a group beside all objects
+abbrev pub FindsNoRoom : Wanted → Place → Type 0
+FindsNoRoom w what = (all_kept w ≡ Err what)
+    ⊎ ((all : List Run) × (ag : ℕ) × (all_kept w ≡ Ok all) × (what ≡ Place.Group ag) × IsWithoutRoom (volume_of w.geometry) all w.reserved w.inodes ag)

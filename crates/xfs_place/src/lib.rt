@@ -5,12 +5,15 @@
 mod choice;
 mod chunk_search;
 mod claims;
+mod counting;
 mod faults;
 mod group_lists;
 mod group_placing;
 mod lowest;
+mod object_placing;
 mod owned;
 mod placed;
+mod placing;
 #[cfg(test)]
 mod tests;
 mod uses;
@@ -20,4 +23,5 @@ mod wanted;
 pub use chunk_search::{ChunkAsk, chunks};
 pub use faults::{Place, PlaceFault};
 pub use placed::{GroupPlaced, Placed};
+pub use placing::place;
 pub use wanted::{GroupInodes, Object, ObjectKind, RunAsk, Wanted};

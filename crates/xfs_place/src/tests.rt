@@ -3,6 +3,7 @@
 ghost use Rattle.std.specs.Prelude.{◌≡◌, ◌≤◌, IfOk, [], ◌∷◌};
 
 mod groups;
+mod objects;
 
 use super::*;
 use std::alloc::{AllocError, Global};

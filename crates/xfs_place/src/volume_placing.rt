@@ -4,6 +4,7 @@ ghost use Rattle.std.specs.Prelude.{◌≡◌, ◌≤◌, ◌<◌, ◌*◌, ◌^
 ghost use Rattle.xfs_geom.specs.Volumes.{volume_of};
 ghost use Rattle.xfs_place.specs.Choice.{IsChosen};
 ghost use Rattle.xfs_place.specs.Placing.{IsPlaced, inner_blocks};
+ghost use Rattle.xfs_place.specs.Standing.{AreOfPool};
 ghost use Rattle.xfs_place.specs.Pool.{Shows, use_of};
 ghost use Rattle.xfs_place.specs.Wanted.{AreAllClaims, AreKept, ArePlaced, IsWithoutRoom, group_in};
 
@@ -32,6 +33,7 @@ pub fn place_groups(
     requires inodes { length inodes.now ≡ g.now.agcount }
     requires few { All (λ group. length group.records < 2 ^ 32) inodes.now }
     ensures placed { IfOk result (λ groups. ArePlaced (volume_of g.now) kept.now reserved.now inodes.now g.now.agcount groups.items) }
+    ensures pool { IfOk result (λ groups. AreOfPool (volume_of g.now) kept.now reserved.now inodes.now g.now.agcount groups.items) }
     ensures cause { IfErr result (λ fault. (fault ≡ PlaceFault.NoMemory)
         ⊎ ((ag : ℕ) × (fault ≡ PlaceFault.NoRoom (Place.Group ag)) × IsWithoutRoom (volume_of g.now) kept.now reserved.now inodes.now ag)) }
 {

@@ -1,6 +1,8 @@
 use Rattle.std.proofs.Common.{◌≡◌, ◌+◌, ◌*◌, ◌≤◌, ◌<◌, inr, ℕ, List, length, refl, Option, Some, None, sym, ◌∙◌, ap, subst, arith}
 use Rattle.xfs_geom.specs.Volumes.{volume_of}
+use Rattle.xfs_place.specs.Wanted.{ArePlaced}
 use Rattle.xfs_place.proofs.GroupsPlaced.{no_room_at, one_more}
+use Rattle.xfs_place.proofs.OfPool.{all_of_pool}
 use Rattle.xfs_place.proofs.volume_placing.place_groups.Goals as goal
 
 pub returns-in_default-clause-cause : goal.returns-in_default-clause-cause
@@ -23,3 +25,10 @@ pub place_one-requires-clause-few : goal.place_one-requires-clause-few
 place_one-requires-clause-few c =
     let one = c.requires.few c.loop-ag.ag c.index-inodes-ag.result (omega (arith, c.loop-ag-test.true, c.requires.inodes)) in
     omega (arith, one, ap length c.as_slice.ensures)
+
+pub returns-clause-pool : goal.returns-clause-pool
+returns-clause-pool c =
+    let v = volume_of c.args.g.now in
+    let all : c.loop-ag.ag ≡ c.args.g.now.agcount = omega (arith, c.loop-ag-test.false, c.loop-ag.auto.ag-end) in
+    all_of_pool v c.args.kept.now c.args.reserved.now c.args.inodes.now c.args.g.now.agcount c.loop-ag.groups.items
+    (subst (λ (n : ℕ). ArePlaced v c.args.kept.now c.args.reserved.now c.args.inodes.now n c.loop-ag.groups.items) all c.loop-ag.invariant)

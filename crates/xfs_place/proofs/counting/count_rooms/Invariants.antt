@@ -1,0 +1,9 @@
+use Rattle.std.proofs.Common.{◌≡◌, ◌≤◌, ◌+◌, ◌*◌, ◌^◌, drop, map, sum}
+use Rattle.xfs_place.specs.Counts.{room}
+use Rattle.xfs_place.proofs.counting.count_rooms.Given as goal
+
+abbrev pub invariant-loop-group : goal.invariant-loop-group
+invariant-loop-group l = record {
+  blocks' : l.blocks + sum (map room (drop l.group-index l.groups)) ≡ sum (map room l.groups);
+  few : l.blocks ≤ l.group-index * 2 ^ 100;
+}

@@ -1,0 +1,120 @@
+//! The counters of a volume once all is placed (chapter "Superblocks").
+
+ghost use Rattle.std.specs.Prelude.{◌≡◌, ◌≤◌, ◌<◌, ◌*◌, ◌^◌, [], length, All};
+ghost use Rattle.xfs_place.specs.Counts.{blocks_of_tree, counts_of, free_blocks, free_slots, room, slots, spare_blocks};
+
+use crate::placed::GroupPlaced;
+use crate::wanted::GroupInodes;
+use xfs_geom::{Counts, InoRec, Span};
+use xfs_volume::TreeBlocks;
+
+/// The counters of a volume with these records of inodes and these trees and free lists in its groups.
+pub fn count_all(inodes: &[GroupInodes], groups: &[GroupPlaced]) -> Counts
+    requires groups { (length inodes.now ≤ 512) × (length groups.now ≤ 512) }
+    requires few { All (λ group. length group.records < 2 ^ 32) inodes.now }
+    requires small { (counts_of [] groups.now).fdblocks < 2 ^ 64 }
+    ensures { result ≡ counts_of inodes.now groups.now }
+{
+    let (icount, ifree) = count_inodes(inodes);
+    Counts {
+        icount: icount as u64,
+        ifree: ifree as u64,
+        fdblocks: count_rooms(groups) as u64,
+    }
+}
+
+/// The inodes of all groups, and how many of them are free.
+fn count_inodes(inodes: &[GroupInodes]) -> (u128, u128)
+    requires groups { length inodes.now ≤ 512 }
+    requires few { All (λ group. length group.records < 2 ^ 32) inodes.now }
+    ensures all { result.0 ≡ (counts_of inodes.now []).icount }
+    ensures free { result.1 ≡ (counts_of inodes.now []).ifree }
+    ensures small { (result.0 < 2 ^ 64) × (result.1 < 2 ^ 64) }
+{
+    let mut all = 0;
+    let mut free = 0;
+    for group in inodes {
+        all += slots(group.records.as_slice());
+        free += free_slots(group.records.as_slice());
+    }
+    (all, free)
+}
+
+/// The free blocks of all groups.
+fn count_rooms(groups: &[GroupPlaced]) -> u128
+    requires { length groups.now ≤ 512 }
+    ensures { result ≡ (counts_of [] groups.now).fdblocks }
+{
+    let mut blocks = 0;
+    for group in groups {
+        blocks += room(group);
+    }
+    blocks
+}
+
+/// The free blocks of a group, those of its free list and those that its trees could spare.
+fn room(group: &GroupPlaced) -> u128
+    ensures value { result ≡ room group.now }
+    ensures less { result < 2 ^ 100 }
+{
+    free_blocks(group.bno.as_slice())
+        + group.agfl.as_slice().len() as u128
+        + spare_blocks(group.trees.as_slice())
+}
+
+/// The blocks of the trees by start, by length and by owner, but for one each.
+fn spare_blocks(trees: &[TreeBlocks]) -> u128
+    ensures value { result ≡ spare_blocks trees.now }
+    ensures less { result < 2 ^ 66 }
+{
+    (blocks_of_tree(trees, 0) + blocks_of_tree(trees, 1) + blocks_of_tree(trees, 4)).saturating_sub(
+        3,
+    )
+}
+
+/// The blocks of one of the trees, by its place among them.
+fn blocks_of_tree(trees: &[TreeBlocks], tree: usize) -> u128
+    ensures value { result ≡ blocks_of_tree trees.now tree }
+    ensures less { result < 2 ^ 64 }
+{
+    match trees.get(tree) {
+        Some(tree) => tree.blocks.as_slice().len() as u128,
+        None => 0,
+    }
+}
+
+/// The blocks of free runs.
+fn free_blocks(spans: &[Span]) -> u128
+    ensures value { result ≡ free_blocks spans.now }
+    ensures less { result ≤ length spans.now * 2 ^ 32 }
+{
+    let mut blocks = 0;
+    for span in spans {
+        blocks += span.count as u128;
+    }
+    blocks
+}
+
+/// The inodes of chunks, missing ones not among them.
+fn slots(chunks: &[InoRec]) -> u128
+    ensures value { result ≡ slots chunks.now }
+    ensures less { result ≤ length chunks.now * 2 ^ 8 }
+{
+    let mut inodes = 0;
+    for chunk in chunks {
+        inodes += chunk.count as u128;
+    }
+    inodes
+}
+
+/// The inodes of chunks that are free, as the chunks state.
+fn free_slots(chunks: &[InoRec]) -> u128
+    ensures value { result ≡ free_slots chunks.now }
+    ensures less { result ≤ length chunks.now * 2 ^ 8 }
+{
+    let mut inodes = 0;
+    for chunk in chunks {
+        inodes += chunk.freecount as u128;
+    }
+    inodes
+}

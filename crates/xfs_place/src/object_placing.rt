@@ -1,0 +1,159 @@
+//! The runs of objects, one after another.
+
+ghost use Rattle.std.specs.Prelude.{◌≡◌, ◌≤◌, ◌<◌, ◌+◌, ◌++◌, ◌%◌, ◌^◌, ◌⊎◌, nat_lt, if◌then◌else◌, length, take, All, IfErr, IfOk, IfSome, MatchOption, OnOk, Ok, Err};
+ghost use Rattle.xfs_geom.specs.Volumes.{volume_of};
+ghost use Rattle.xfs_place.specs.Choice.{IsLeast, IsNone, NoneOpen};
+ghost use Rattle.xfs_place.specs.Objects.{AllOpen, HasRun, IsAsk, Opens, asks_by, asks_of, keep_with, place_of, run_at};
+ghost use Rattle.xfs_place.specs.Pool.{Marks};
+ghost use Rattle.xfs_place.specs.Wanted.{AreKept};
+ghost use Rattle.xfs_place.specs.declared.faults.Place.{Place};
+ghost use Rattle.xfs_place.specs.declared.uses.Use.TheVariants.{Claimed};
+
+use crate::faults::{Place, PlaceFault};
+use crate::lowest::next_open;
+use crate::uses::{Use, is_open, list_uses, mark};
+use crate::wanted::{Object, ObjectKind, RunAsk};
+use std::alloc::Global;
+use xfs_disk::NoMemory;
+use xfs_geom::{Geometry, Run};
+
+/// The most blocks of a run: 21 extents of 2^21 - 1 blocks fill a fork.
+const MOST_BLOCKS: u64 = 21 * ((1 << 21) - 1);
+
+/// A run that is asked for, and what it is for.
+#[derive(Clone, Copy)]
+pub struct AskFor {
+    pub what: Place,
+    pub run: RunAsk,
+}
+
+/// All runs that are asked for, in order.
+pub fn list_asks(alloc: Global, objects: &[Object]) -> Result<Vec<AskFor>, NoMemory>
+    ensures { IfOk result (λ asks. asks.items ≡ asks_of objects.now) }
+{
+    let mut asks = Vec::new(alloc);
+    for object in objects {
+        push_asks(&mut asks, object)?;
+    }
+    Ok(asks)
+}
+
+/// Adds the runs of an object.
+fn push_asks(asks: &mut Vec<AskFor>, object: &Object) -> Result<(), NoMemory>
+    ensures { OnOk result (asks.new.items ≡ asks.old.items ++ asks_by object.now) }
+{
+    for run in object.runs.as_slice() {
+        asks.push(AskFor {
+            what: place_of(object),
+            run: *run,
+        })?;
+    }
+    Ok(())
+}
+
+/// What the runs of an object are for.
+fn place_of(object: &Object) -> Place
+    ensures { result ≡ place_of object.now.kind object.now.ino }
+{
+    match object.kind {
+        ObjectKind::Directory => Place::Directory(object.ino),
+        ObjectKind::Symlink | ObjectKind::Data => Place::File(object.ino),
+    }
+}
+
+/// Adds to what is kept a run for each ask, in order: each the lowest run of its length of what is left of the pool,
+/// inside one allocation group, that does not begin before AG block `from`.
+///
+/// `NoRoom` of the first ask that has none; `NoMemory` where memory is wanting.
+pub fn keep_with(
+    alloc: Global,
+    g: &Geometry,
+    kept: Vec<Run>,
+    reserved: &[u64],
+    from: u32,
+    asks: &[AskFor],
+) -> Result<Vec<Run>, PlaceFault>
+    requires kept { AreKept (volume_of g.now) kept.items }
+    requires asks { All (λ ask. IsAsk ask.run) asks.now }
+    ensures placed { IfOk result (λ all. keep_with (volume_of g.now) reserved.now from kept.items asks.now ≡ Ok all.items) }
+    ensures kept { IfOk result (λ all. AreKept (volume_of g.now) all.items) }
+    ensures behind { IfOk result (λ all. take (length kept.items) all.items ≡ kept.items) }
+    ensures cause { IfErr result (λ fault. (fault ≡ PlaceFault.NoMemory)
+        ⊎ ((what : Place) × (fault ≡ PlaceFault.NoRoom what) × (keep_with (volume_of g.now) reserved.now from kept.items asks.now ≡ Err what))) }
+{
+    let mut all = kept;
+    let mut uses = list_uses(alloc, g, &all, reserved)?;
+    close_fronts(&mut uses, g, from);
+    let mut next = 0;
+    for ask in asks {
+        next = skip(&uses, next);
+        let Some(start) = find_run(&uses, next, ask.run.blocks as u64) else {
+            return Err(PlaceFault::NoRoom(ask.what));
+        };
+        mark(&mut uses, start, ask.run.blocks as u64, Use::Claimed);
+        all.push(run_at(start, &ask.run))?;
+    }
+    Ok(all)
+}
+
+/// Closes the blocks of each group before AG block `from`.
+fn close_fronts(uses: &mut [Use], g: &Geometry, from: u32)
+    ensures { Marks uses.old uses.new (λ block. nat_lt (block % g.now.agblocks) from) Claimed }
+{
+    for block in 0..uses.len() {
+        if (block as u64 % g.agblocks as u64) < from as u64 {
+            uses[block] = Use::Claimed;
+        }
+    }
+}
+
+/// The next open block from one on before which none is open, or the end.
+fn skip(uses: &[Use], next: usize) -> usize
+    requires { NoneOpen uses.now 0 next }
+    ensures { NoneOpen uses.now 0 result }
+{
+    match next_open(uses, next) {
+        Some(block) => block,
+        None => uses.len(),
+    }
+}
+
+/// The first block of the lowest run of so many open blocks, where none is open before block `next`.
+fn find_run(uses: &[Use], next: usize, blocks: u64) -> Option<u64>
+    requires some { 1 ≤ blocks }
+    requires next { NoneOpen uses.now 0 next }
+    ensures lowest { MatchOption result (IsNone (HasRun uses.now blocks)) (IsLeast (HasRun uses.now blocks)) }
+    ensures inside { IfSome result (λ start. start + blocks ≤ length uses.now) }
+{
+    if blocks > MOST_BLOCKS {
+        return None;
+    }
+    let mut found = 0;
+    for block in next..uses.len() {
+        found = lengthen(found, is_open(uses[block]));
+        if found == blocks {
+            return Some(block as u64 + 1 - blocks);
+        }
+    }
+    None
+}
+
+/// How many open blocks stand in a row with one more block.
+fn lengthen(found: u64, more: bool) -> u64
+    requires { found < 2 ^ 32 }
+    ensures { result ≡ (if more then found + 1 else 0) }
+{
+    if more { found + 1 } else { 0 }
+}
+
+/// The run that an ask gets from a block on.
+fn run_at(start: u64, ask: &RunAsk) -> Run
+    ensures { result ≡ run_at start ask.now }
+{
+    Run {
+        start,
+        count: ask.blocks as u64,
+        owner: ask.owner,
+        offset: ask.offset,
+    }
+}

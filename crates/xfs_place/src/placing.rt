@@ -1,0 +1,67 @@
+//! Where everything of a volume stands.
+
+ghost use Rattle.std.specs.Prelude.{◌≡◌, ◌<◌, ◌++◌, ◌^◌, ◌⊎◌, length, All, IfErr, IfOk, Ok};
+ghost use Rattle.xfs_geom.specs.Volumes.{volume_of};
+ghost use Rattle.xfs_place.specs.Counts.{counts_of};
+ghost use Rattle.xfs_place.specs.Objects.{IsAsk};
+ghost use Rattle.xfs_place.specs.Standing.{AreOfPool};
+ghost use Rattle.xfs_place.specs.Wanted.{AreKept, ArePlaced, FindsNoRoom, all_kept, kept_of};
+ghost use Rattle.xfs_place.specs.declared.faults.Place.{Place};
+
+use crate::counting::count_all;
+use crate::faults::PlaceFault;
+use crate::object_placing::{keep_with, list_asks};
+use crate::placed::Placed;
+use crate::volume_placing::place_groups;
+use crate::wanted::Wanted;
+use std::alloc::Global;
+use xfs_disk::NoMemory;
+use xfs_geom::Run;
+use xfs_volume::Records;
+
+/// Places what is wanted, and counts what the volume then holds. The pool is the blocks that have no fixed use and are
+/// neither taken, new nor reserved. Each run of each object, in order, takes the lowest run of pool blocks of its length
+/// that lies inside one allocation group, at AG block `from` or behind. Then the trees and the free list of each
+/// group take the lowest blocks that are left of its pool, as few as leave the free list 6 to 118 blocks; where no number
+/// does, as many as leave it 0 to 5. Reserved blocks become free.
+///
+/// `NoRoom` of the first object that finds no room, else of the first group; `NoMemory` where memory is wanting.
+pub fn place(alloc: Global, wanted: &Wanted) -> Result<Placed, PlaceFault>
+    requires kept { AreKept (volume_of wanted.now.geometry) (kept_of wanted.now) }
+    requires asks { All (λ object. All IsAsk object.runs) wanted.now.objects }
+    requires inodes { length wanted.now.inodes ≡ wanted.now.geometry.agcount }
+    requires few { All (λ group. length group.records < 2 ^ 32) wanted.now.inodes }
+    ensures runs { IfOk result (λ placed. all_kept wanted.now ≡ Ok (kept_of wanted.now ++ placed.runs)) }
+    ensures groups { IfOk result (λ placed. ArePlaced (volume_of wanted.now.geometry) (kept_of wanted.now ++ placed.runs) wanted.now.reserved wanted.now.inodes
+        wanted.now.geometry.agcount placed.groups) }
+    ensures apart { IfOk result (λ placed. AreKept (volume_of wanted.now.geometry) (kept_of wanted.now ++ placed.runs)) }
+    ensures pool { IfOk result (λ placed. AreOfPool (volume_of wanted.now.geometry) (kept_of wanted.now ++ placed.runs) wanted.now.reserved wanted.now.inodes
+        wanted.now.geometry.agcount placed.groups) }
+    ensures counts { IfOk result (λ placed. placed.counts ≡ counts_of wanted.now.inodes placed.groups) }
+    ensures cause { IfErr result (λ fault. (fault ≡ PlaceFault.NoMemory) ⊎ ((what : Place) × (fault ≡ PlaceFault.NoRoom what) × FindsNoRoom wanted.now what)) }
+{
+    let g = &wanted.geometry;
+    let reserved = wanted.reserved.as_slice();
+    let inodes = wanted.inodes.as_slice();
+    let kept = list_kept(alloc, wanted)?;
+    let first = kept.len();
+    let asks = list_asks(alloc, wanted.objects.as_slice())?;
+    let all = keep_with(alloc, g, kept, reserved, wanted.from, &asks)?;
+    let runs = Vec::from_slice(alloc, &all[first..])?;
+    let groups = place_groups(alloc, g, &all, reserved, inodes)?;
+    let counts = count_all(inodes, &groups);
+    Ok(Placed {
+        runs: Records::from_vec(runs),
+        groups: Records::from_vec(groups),
+        counts,
+    })
+}
+
+/// The runs of what is kept, with those of new chunks behind them.
+fn list_kept(alloc: Global, wanted: &Wanted) -> Result<Vec<Run>, NoMemory>
+    ensures { IfOk result (λ kept. kept.items ≡ kept_of wanted.now) }
+{
+    let mut kept = Vec::from_slice(alloc, wanted.taken.as_slice())?;
+    kept.extend_from_slice(wanted.new.as_slice())?;
+    Ok(kept)
+}
