@@ -1,0 +1,9 @@
+pub mod Trees
+pub mod Heads
+pub mod Groups
+pub mod Names
+pub mod Files
+pub mod Numbers
+pub mod Lsns
+pub mod Catalogs
+pub mod Findings

@@ -1,0 +1,7 @@
+//! What the view of an image is: a catalog whose laws can be judged. Nothing here computes; the functions carry laws about the
+//! definitions.
+#![tactic(auto)]
+
+mod views;
+
+pub use views::{findings_by_cases, parts_are_lawful, trees_are_lawful, views_are_catalogs};
