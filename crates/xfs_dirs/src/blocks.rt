@@ -1,6 +1,6 @@
 //! The mapped blocks of a directory, read from a disk in file order, each once.
 
-ghost use Rattle.std.specs.Prelude.{◌≡◌, ℕ, ◌+◌, ◌<◌, ◌≤◌, true, None, length, IsTrue, IfOk, OnOk};
+ghost use Rattle.std.specs.Prelude.{◌≡◌, ℕ, ◌+◌, ◌<◌, ◌≤◌, true, None, length, IfOk, OnOk};
 ghost use Rattle.std.specs.Option.{ForSome};
 ghost use Rattle.xfs_geom.specs.Groups.{block_of_address};
 ghost use Rattle.xfs_geom.specs.Volumes.{volume_of};
@@ -54,7 +54,7 @@ fn read_extent<D: Disk>(
     extent: &Extent,
     gathered: &mut Gathered,
 ) -> Result<(), DirError>
-    requires extent { IsTrue (is_extent (volume_of g.now) extent.now) }
+    requires extent { is_extent (volume_of g.now) extent.now ≡ true }
     requires inside { g.now.dblocks ≤ D.size disk.old }
     requires below { AreBelow gathered.old.kept extent.now.offset }
     ensures found { OnOk result (ForSome (D.holds disk.old) (λ image. found_of gathered.new ≡ with_blocks (volume_of g.now) dir (found_of gathered.old) (blocks_of (volume_of g.now) image extent.now))) }
@@ -78,7 +78,6 @@ fn read_extent<D: Disk>(
 }
 
 /// Takes up a block that was read.
-#[tactic(auto, unfolding(crate::specs::Gathered::with_block))]
 fn take_block(
     alloc: Global,
     g: &Geometry,
@@ -97,14 +96,14 @@ fn take_block(
     let own = is_own(g, dir, place, offset, block);
     let entries = entries_where(alloc, dir, own, offset, block)?;
     gathered.take(entries)?;
-    keep(alloc, own, offset, block, &mut gathered.kept)
+    keep(alloc, own, offset, block, &mut gathered.kept)?;
+    Ok(())
 }
 
 /// The number of the first block of an extent.
 fn start_of(g: &Geometry, extent: &Extent) -> u64
-    requires { IsTrue (is_extent (volume_of g.now) extent.now) }
-    ensures start { result ≡ block_of_address g.now.agblocks g.now.agblklog extent.now.start }
-    ensures inside { result + extent.now.count ≤ g.now.dblocks }
+    requires { is_extent (volume_of g.now) extent.now ≡ true }
+    ensures { result ≡ block_of_address g.now.agblocks g.now.agblklog extent.now.start }
 {
     let size = 1u64 << g.agblklog;
     let group = (extent.start / size) as u32;

@@ -1,6 +1,7 @@
 //! What the blocks of a directory that were read so far give.
 
-ghost use Rattle.std.specs.Prelude.{◌≡◌, ◌+◌, ◌++◌, [], ◌∷◌, length, filter, option_or, OnOk};
+ghost use Rattle.std.specs.Prelude.{◌≡◌, ◌+◌, ◌++◌, [], ◌∷◌, length, filter, OnOk};
+ghost use Rattle.std.specs.Option.{option_or};
 ghost use Rattle.xfs_dirindex.specs.Mapped.{block_of};
 ghost use Rattle.xfs_image.specs.Directories.{is_named};
 ghost use Rattle.xfs_dirs.specs.Gathered.{AreBelow, Rise, found_of, kept_of, kept_with, nothing, parent_in};

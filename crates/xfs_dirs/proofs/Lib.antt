@@ -1,0 +1,4 @@
+pub mod Extents
+pub mod Order
+pub mod Readings
+pub mod Taken
