@@ -1,5 +1,5 @@
 -- What is gathered of a directory is what it reads as.
-use Rattle.std.proofs.Common.{◌≡◌, ℕ, Bool, true, false, ◌==◌, ◌&&◌, if◌then◌else◌, List, [], ◌++◌, map, filter, Option, Some, None, option_map, is_some, unwrap_or, refl, sym, ap, ◌∙◌}
+use Rattle.std.proofs.Common.{◌≡◌, ℕ, Bool, true, false, ◌&&◌, if◌then◌else◌, List, [], map, filter, Option, Some, None, option_map, is_some, unwrap_or, refl, sym, ap, ◌∙◌}
 use Rattle.std.specs.List.{find, list_all}
 use Rattle.xfs_word.specs.Field.{part_of}
 use Rattle.xfs_disk.specs.Blocks.{Image}
@@ -15,7 +15,7 @@ use Rattle.xfs_image.specs.Slots.{slot_bytes}
 use Rattle.xfs_dirs.specs.declared.gathered.Gathered.{Gathered}
 use Rattle.xfs_dirs.specs.declared.gathered.Kept.{Kept}
 use Rattle.xfs_dirs.specs.declared.gathered.KeptBlock.{KeptBlock}
-use Rattle.xfs_dirs.specs.Gathered.{Found, blocks_in, found_of, is_whole_kept, kept_of, mapped_of, nothing, parent_in, with_blocks}
+use Rattle.xfs_dirs.specs.Gathered.{Found, blocks_in, found_of, is_whole_kept, kept_of, mapped_of, nothing, with_blocks}
 use Rattle.xfs_dirs.proofs.Order.{all_mapped}
 use Rattle.xfs_dirs.proofs.Taken.{entries_taken, kept_all, kept_taken, parent_taken}
 
@@ -26,8 +26,8 @@ pub seen_whole : (dir size : ℕ) (kept : Option Kept) (k : Kept) (ks : List Kep
     → has_form seen.dir seen.size (mapped seen.offsets.items seen.blocks) ≡ is_whole_kept dir size (kept_of kept)
 seen_whole dir size kept k ks seen is given own long offsets blocks =
     let ms : mapped seen.offsets.items seen.blocks ≡ map mapped_of k.blocks.items =
-        ap (λ os. mapped os seen.blocks) offsets ∙ ap (mapped (map (λ (b : KeptBlock). b.offset) ks)) blocks ∙ all_mapped ks
-        ∙ ap (λ (xs : List KeptBlock). map mapped_of xs) given in
+    ap (λ os. mapped os seen.blocks) offsets ∙ ap (mapped (map (λ (b : KeptBlock). b.offset) ks)) blocks ∙ all_mapped ks
+    ∙ ap (λ (xs : List KeptBlock). map mapped_of xs) given in
     ap (λ d. has_form d seen.size (mapped seen.offsets.items seen.blocks)) own
     ∙ ap (λ s. has_form dir s (mapped seen.offsets.items seen.blocks)) long
     ∙ ap (has_form dir size) ms

@@ -18,9 +18,9 @@ use Rattle.xfs_dirdata.specs.Data.{data_of}
 use Rattle.xfs_dirdata.specs.declared.records.EntryRec.{EntryRec}
 use Rattle.xfs_dirindex.specs.Data.{is_parent}
 use Rattle.xfs_dirindex.specs.Mapped.{Mapped, is_data, is_free}
-use Rattle.xfs_image.specs.Directories.{FileBlock, block_in, blocks_of, entries_in, entries_of_area, is_named, is_own, is_sealed_as, is_single_form, kinds_at}
+use Rattle.xfs_image.specs.Directories.{FileBlock, block_in, blocks_of, entries_in, entries_of_area, is_named, is_own, is_sealed_as, is_single_form}
 use Rattle.xfs_dirs.specs.declared.gathered.Gathered.{Gathered}
-use Rattle.xfs_dirs.specs.Gathered.{Found, blocks_in, entries_where, file_block, found_of, kept_of, kept_with, nothing, parent_in, with_block, with_blocks}
+use Rattle.xfs_dirs.specs.Gathered.{Found, blocks_in, entries_where, file_block, found_of, kept_of, kept_with, parent_in, with_block, with_blocks}
 
 -- a data block is its directory's where it is sealed as one
 only_kind : {A : Type 0} (low : Bool) (test : SealKind → Bool) (k : SealKind) (others : List SealKind) (x y : A)
@@ -131,7 +131,7 @@ unfolding with_blocks
 block_next v dir image e i start block found found' all inside place read taken before =
     let bytes : block ≡ bytes_at image (start + i) = sym (get_or_from_slice_get image (start + i) block [] read) in
     let same : file_block (start + i) (e.offset + i) block ≡ block_in v image e i =
-        ap (file_block (start + i) (e.offset + i)) bytes ∙ ap (λ s. file_block (s + i) (e.offset + i) (bytes_at image (s + i))) place in
+    ap (file_block (start + i) (e.offset + i)) bytes ∙ ap (λ s. file_block (s + i) (e.offset + i) (bytes_at image (s + i))) place in
     let here : found' ≡ with_block v dir found (block_in v image e i) = taken ∙ ap (with_block v dir found) same in
     ap (λ f. with_blocks v dir f (rest_of (i + 1) e.count (block_in v image e))) here
     ∙ sym (ap (with_blocks v dir found) (rest_next i e.count (block_in v image e) inside)) ∙ before

@@ -69,7 +69,15 @@ fn read_extent<D: Disk>(
             Ok(()) => {}
             Err(Failed) => return Err(DirError::ReadFault),
         }
-        match take_block(alloc, g, dir, start + i, extent.offset + i, &block, gathered) {
+        match take_block(
+            alloc,
+            g,
+            dir,
+            start + i,
+            extent.offset + i,
+            &block,
+            gathered,
+        ) {
             Ok(()) => {}
             Err(NoMemory) => return Err(DirError::NoMemory),
         }

@@ -17,12 +17,7 @@ use xfs_disk::NoMemory;
 
 /// Whether the blocks of a directory of this size, in bytes, are all kept, and are whole in one of the forms (chapter
 /// "Directories").
-pub fn is_whole(
-    alloc: Global,
-    dir: u64,
-    size: u64,
-    kept: &Option<Kept>,
-) -> Result<bool, NoMemory>
+pub fn is_whole(alloc: Global, dir: u64, size: u64, kept: &Option<Kept>) -> Result<bool, NoMemory>
     requires { AreInOrder kept.now }
     ensures { IfOk result (λ whole. whole ≡ is_whole_kept dir size (kept_of kept.now)) }
 {
@@ -33,12 +28,7 @@ pub fn is_whole(
 }
 
 /// The blocks as they are checked.
-fn seen_of(
-    alloc: Global,
-    dir: u64,
-    size: u64,
-    kept: &[KeptBlock],
-) -> Result<DirSeen, NoMemory>
+fn seen_of(alloc: Global, dir: u64, size: u64, kept: &[KeptBlock]) -> Result<DirSeen, NoMemory>
     requires { AscendWhole 0 kept.now }
     ensures dir { IfOk result (λ seen. seen.dir ≡ dir) }
     ensures size { IfOk result (λ seen. seen.size ≡ size) }

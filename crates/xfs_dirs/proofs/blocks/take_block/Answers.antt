@@ -1,5 +1,4 @@
 use Rattle.std.proofs.Common.{◌∙◌, ap}
-use Rattle.xfs_dirindex.specs.Mapped.{block_of}
 use Rattle.xfs_geom.specs.Volumes.{volume_of}
 use Rattle.xfs_dirs.specs.Gathered.{file_block, kept_of, kept_with}
 use Rattle.xfs_dirs.proofs.Taken.{one_taken}
