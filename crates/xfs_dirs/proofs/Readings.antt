@@ -63,7 +63,7 @@ with_true : (b : Bool) → b ≡ (b && true)
 with_true true = refl
 with_true false = refl
 
-with_false : (b : Bool) → false ≡ (b && false)
+pub with_false : (b : Bool) → false ≡ (b && false)
 with_false true = refl
 with_false false = refl
 

@@ -1,6 +1,6 @@
 //! Whether the blocks of a directory are whole in one of the forms with blocks.
 
-ghost use Rattle.std.specs.Prelude.{◌≡◌, ◌<◌, length, map, IfOk, IfErr, slice_set};
+ghost use Rattle.std.specs.Prelude.{◌≡◌, ◌<◌, length, map, nat_le, count_by, IfOk, IfErr, slice_set};
 ghost use Rattle.xfs_dirindex.specs.Block.{is_whole_block};
 ghost use Rattle.xfs_dirindex.specs.Leaf.{is_whole_leaf};
 ghost use Rattle.xfs_dirindex.specs.Mapped.{Ascend, mapped};
@@ -12,6 +12,7 @@ ghost use Rattle.xfs_dirs.specs.Gathered.{AreInOrder, AscendWhole, is_whole_kept
 use crate::gathered::{Kept, KeptBlock};
 use std::alloc::Global;
 use xfs_bank::BlockBank;
+use xfs_dirindex::layouts::INDEX_START;
 use xfs_dirindex::{DirSeen, IndexFault, check_block, check_leaf, check_node};
 use xfs_disk::NoMemory;
 
@@ -85,17 +86,30 @@ fn is_block(alloc: Global, seen: &DirSeen) -> Result<bool, NoMemory>
     }
 }
 
-/// Whether blocks are whole in the leaf form.
+/// Whether blocks are whole in the leaf form, which has one block behind the data blocks.
 fn is_leaf(alloc: Global, seen: &DirSeen) -> Result<bool, NoMemory>
     requires mapped { length seen.now.blocks ≡ length seen.now.offsets.items }
     requires ascending { Ascend 0 seen.now.offsets.items }
     ensures { IfOk result (λ whole. whole ≡ is_whole_leaf seen.now.dir seen.now.size (mapped seen.now.offsets.items seen.now.blocks)) }
 {
+    if beyond(&seen.offsets) != 1 {
+        return Ok(false);
+    }
     match check_leaf(alloc, seen) {
         Ok(()) => Ok(true),
         Err(IndexFault::Unsound) => Ok(false),
         Err(IndexFault::NoMemory) => Err(NoMemory),
     }
+}
+
+/// How many of these file blocks stand behind the data blocks.
+fn beyond(offsets: &[u64]) -> usize
+    ensures { result ≡ count_by (nat_le 0x800000) offsets.now }
+{
+    offsets
+        .iter()
+        .filter(|offset| **offset >= INDEX_START)
+        .count()
 }
 
 /// Whether blocks are whole in the node form.
