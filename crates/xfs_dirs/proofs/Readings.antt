@@ -2,6 +2,7 @@
 use Rattle.std.proofs.Common.{◌≡◌, ℕ, Bool, true, false, ◌&&◌, if◌then◌else◌, List, [], map, filter, Option, Some, None, option_map, is_some, unwrap_or, refl, sym, ap, ◌∙◌}
 use Rattle.std.specs.List.{find, list_all}
 use Rattle.xfs_word.specs.Field.{part_of}
+use Rattle.xfs_word.specs.declared.extents.Extent.{Extent}
 use Rattle.xfs_disk.specs.Blocks.{Image}
 use Rattle.xfs_geom.specs.Volumes.{Volume}
 use Rattle.xfs_dirdata.specs.Short.{short_of}
@@ -72,11 +73,11 @@ whole_where dir size true ms = with_true (has_form dir size ms)
 whole_where dir size false ms = with_false (has_form dir size ms)
 
 -- the forms with blocks
-module _ (v : Volume) (image : Image) (f : FileRec) (gathered : Gathered) (long : is_short f ≡ false)
-    (taken : found_of gathered ≡ with_blocks v f.ino nothing (blocks_in v image f.extents)) where
-  all_blocks : blocks_in v image f.extents ≡ data_blocks v image f
+module _ (v : Volume) (image : Image) (f : FileRec) (gathered : Gathered) (extents : List Extent) (long : is_short f ≡ false) (its : extents ≡ f.extents)
+    (taken : found_of gathered ≡ with_blocks v f.ino nothing (blocks_in v image extents)) where
+  all_blocks : blocks_in v image extents ≡ data_blocks v image f
   unfolding data_blocks
-  all_blocks = refl
+  all_blocks = ap (blocks_in v image) its
 
   all_taken : found_of gathered ≡ with_blocks v f.ino nothing (data_blocks v image f)
   all_taken = taken ∙ ap (with_blocks v f.ino nothing) all_blocks

@@ -185,15 +185,15 @@ fn put_block(
 
 #[test]
 fn single_block_form(rt: HostRuntime) -> Result<(), Fail> {
-    let rows: [(&str, (Changes, Changes), bool, usize); 6] = [
-        ("sound", (&[], &[]), true, 1),
-        ("a byte after the seal", (&[], &[(4000, 1)]), false, 0),
-        ("another owner", (&[(46, 132)], &[]), false, 0),
-        ("another place", (&[(14, 200)], &[]), false, 0),
-        ("the tag of an entry", (&[(110, 0)], &[]), false, 0),
-        ("a hash of the index", (&[(4066, 0x62)], &[]), false, 1),
+    let rows: [(&str, (Changes, Changes), bool, bool); 6] = [
+        ("sound", (&[], &[]), true, true),
+        ("a byte after the seal", (&[], &[(4000, 1)]), false, false),
+        ("another owner", (&[(46, 132)], &[]), false, false),
+        ("another place", (&[(14, 200)], &[]), false, false),
+        ("the tag of an entry", (&[(110, 0)], &[]), false, false),
+        ("a hash of the index", (&[(4066, 0x62)], &[]), false, true),
     ];
-    for (number, (name, changes, whole, count)) in rows.iter().enumerate() {
+    for (number, (name, changes, whole, kept)) in rows.iter().enumerate() {
         let mut disk = Untold::make(rt.alloc())?;
         let mut block = [0; BLOCK_SIZE];
         put_data(
@@ -208,8 +208,8 @@ fn single_block_form(rt: HostRuntime) -> Result<(), Fail> {
             panic!(rt; "{name}: it is not read");
         };
         assert_eq!(rt; found.whole, *whole, "{name}");
-        assert_eq!(rt; found.entries.as_slice().len(), *count, "{name}");
-        assert_eq!(rt; found.parent, 128 * *count as u64, "{name}");
+        assert_eq!(rt; found.entries.as_slice().len(), *kept as usize, "{name}");
+        assert_eq!(rt; found.parent, if *kept { 128 } else { 0 }, "{name}");
     }
     Ok(())
 }
@@ -249,7 +249,13 @@ fn two_data_blocks(rt: HostRuntime) -> Result<(), Fail> {
 fn short_form(rt: HostRuntime) -> Result<(), Fail> {
     let mut slot = [0; 512];
     put_short(128, &[entry(rt.alloc(), b"a", 140)?], &mut slot[176..]);
-    for (size, count) in [(15, 1), (14, 0), (16, 0), (336, 0), (337, 0), (u64::MAX, 0)] {
+    for (size, whole) in [
+        (15, true),
+        (14, false),
+        (16, false),
+        (336, false),
+        (u64::MAX, false),
+    ] {
         let core = Core {
             format: 1,
             size,
@@ -260,9 +266,13 @@ fn short_form(rt: HostRuntime) -> Result<(), Fail> {
         let Ok(found) = read(&rt, rt.alloc(), &mut disk, &slot, &file) else {
             panic!(rt; "{size} bytes are read");
         };
-        assert_eq!(rt; found.whole, count == 1, "{size} bytes");
-        assert_eq!(rt; found.entries.as_slice().len(), count, "{size} bytes");
-        assert_eq!(rt; found.parent, 128 * count as u64, "{size} bytes");
+        assert_eq!(rt; found.whole, whole, "{size} bytes");
+        assert_eq!(rt;
+            found.entries.as_slice().len(),
+            whole as usize,
+            "{size} bytes"
+        );
+        assert_eq!(rt; found.parent, if whole { 128 } else { 0 }, "{size} bytes");
     }
     Ok(())
 }

@@ -33,20 +33,20 @@ returns-in-Ok-clause-whole g c = λ image told.
 pub returns-in-Ok-judged-clause-entries : goal.returns-in-Ok-judged-clause-entries
 returns-in-Ok-judged-clause-entries g c = λ image told.
     let f = c.args.file.now in
-    let v = volume_of c.args.g.now in
-    let taken = c.in-Ok-read_extents.ensures.found image told ∙ ap (λ (es : List Extent). with_blocks v f.ino nothing (blocks_in v image es)) c.as_slice.ensures in
-    c.in-Ok-judged.ensures.entries ∙ block_form_entries v image f c.in-Ok-read_extents.gathered (long_form f c.if-file-eq1.false) taken
+    c.in-Ok-judged.ensures.entries
+    ∙ block_form_entries (volume_of c.args.g.now) image f c.in-Ok-read_extents.gathered c.as_slice.result.now (long_form f c.if-file-eq1.false) c.as_slice.ensures
+    (c.in-Ok-read_extents.ensures.found image told)
 
 pub returns-in-Ok-judged-clause-parent : goal.returns-in-Ok-judged-clause-parent
 returns-in-Ok-judged-clause-parent g c = λ image told.
     let f = c.args.file.now in
-    let v = volume_of c.args.g.now in
-    let taken = c.in-Ok-read_extents.ensures.found image told ∙ ap (λ (es : List Extent). with_blocks v f.ino nothing (blocks_in v image es)) c.as_slice.ensures in
-    c.in-Ok-judged.ensures.parent ∙ block_form_parent v image f c.in-Ok-read_extents.gathered (long_form f c.if-file-eq1.false) taken
+    c.in-Ok-judged.ensures.parent
+    ∙ block_form_parent (volume_of c.args.g.now) image f c.in-Ok-read_extents.gathered c.as_slice.result.now (long_form f c.if-file-eq1.false) c.as_slice.ensures
+    (c.in-Ok-read_extents.ensures.found image told)
 
 pub returns-in-Ok-judged-clause-whole : goal.returns-in-Ok-judged-clause-whole
 returns-in-Ok-judged-clause-whole g c = λ image told.
     let f = c.args.file.now in
-    let v = volume_of c.args.g.now in
-    let taken = c.in-Ok-read_extents.ensures.found image told ∙ ap (λ (es : List Extent). with_blocks v f.ino nothing (blocks_in v image es)) c.as_slice.ensures in
-    c.in-Ok-judged.ensures.whole ∙ block_form_whole v image f c.in-Ok-read_extents.gathered (long_form f c.if-file-eq1.false) taken
+    c.in-Ok-judged.ensures.whole
+    ∙ block_form_whole (volume_of c.args.g.now) image f c.in-Ok-read_extents.gathered c.as_slice.result.now (long_form f c.if-file-eq1.false) c.as_slice.ensures
+    (c.in-Ok-read_extents.ensures.found image told)
