@@ -1,10 +1,8 @@
-use Rattle.std.proofs.Common.{◌≡◌, false, true, List, ◌∙◌, ap}
+use Rattle.std.proofs.Common.{◌≡◌, false, true, ◌∙◌}
 use Rattle.std.proofs.lemmas.Bool.{eq-eqb, ne_eqb}
-use Rattle.xfs_word.specs.declared.extents.Extent.{Extent}
 use Rattle.xfs_geom.specs.Volumes.{volume_of}
 use Rattle.xfs_volume.specs.declared.files.FileRec.{FileRec}
 use Rattle.xfs_image.specs.Directories.{is_short}
-use Rattle.xfs_dirs.specs.Gathered.{blocks_in, nothing, with_blocks}
 use Rattle.xfs_dirs.proofs.Readings.{block_form_entries, block_form_parent, block_form_whole, short_entries, short_parent, short_whole}
 use Rattle.xfs_dirs.proofs.directory.read_directory.Goals as goal
 
