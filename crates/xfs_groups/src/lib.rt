@@ -1,0 +1,9 @@
+//! The allocation groups of an image, read from a disk: their headers and trees, the clusters of inodes that they have, and the
+//! blocks on which nothing new is placed.
+#![tactic(auto)]
+
+mod faults;
+mod groups;
+
+pub use faults::GroupsFault;
+pub use groups::{GroupTrees, Groups, see_groups};
