@@ -4,6 +4,16 @@
 
 mod faults;
 mod groups;
+mod heads;
+mod looking;
+mod named;
+mod one_group;
+mod parts;
+mod recorded;
+mod scanned;
+mod sets;
+mod sweep;
+mod trees;
 
 pub use faults::GroupsFault;
 pub use groups::{GroupTrees, Groups, see_groups};
