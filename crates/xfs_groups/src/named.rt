@@ -1,8 +1,9 @@
 //! The clusters that the trees of a group name, and whether a group says in full where its clusters are.
 
-ghost use Rattle.std.specs.Prelude.{◌≡◌, ◌+◌, ◌*◌, ◌^◌, ◌<◌, ◌||◌, ℕ, IfOk, IfSome, OnOk, option_map};
+ghost use Rattle.std.specs.Prelude.{◌≡◌, ◌++◌, ◌*◌, ◌^◌, ◌<◌, ◌||◌, ℕ, IfOk, IfSome, OnOk, option_map};
 ghost use Rattle.std.specs.List.{All, list_all};
 ghost use Rattle.xfs_geom.specs.Volumes.{volume_of};
+ghost use Rattle.xfs_kinds.specs.InodeTrees.{is_missing};
 ghost use Rattle.xfs_image.specs.Clusters.{are_same, both_name, chunk_clusters, clusters_in, given_clusters, is_among};
 ghost use Rattle.xfs_image.specs.Reserved.{is_of_named, is_of_tree};
 ghost use Rattle.xfs_groups.specs.Named.{AreOwnersApart, is_named};

@@ -46,19 +46,26 @@ fn with_trees(
 ) -> Result<Result<GroupRec, Finding>, NoMemory>
     ensures { IfOk result (λ group. group ≡ with_trees ag agf.now agi.now agfl.now trees) }
 {
-    let Some(bno) = trees.bno else {
+    let Trees {
+        bno,
+        cnt,
+        ino,
+        fino,
+        rmap,
+    } = trees;
+    let Some(bno) = bno else {
         return Ok(Err(lacking(4, ag)));
     };
-    let Some(cnt) = trees.cnt else {
+    let Some(cnt) = cnt else {
         return Ok(Err(lacking(5, ag)));
     };
-    let Some(ino) = trees.ino else {
+    let Some(ino) = ino else {
         return Ok(Err(lacking(6, ag)));
     };
-    let Some(fino) = trees.fino else {
+    let Some(fino) = fino else {
         return Ok(Err(lacking(7, ag)));
     };
-    let Some(rmap) = trees.rmap else {
+    let Some(rmap) = rmap else {
         return Ok(Err(lacking(8, ag)));
     };
     let (bno, bno_blocks) = bno.into_parts();

@@ -1,7 +1,9 @@
 //! Sets of blocks.
 
-ghost use Rattle.std.specs.Prelude.{◌≡◌, ◌+◌, ◌*◌, ◌^◌, ◌<◌, ◌==◌, ◌||◌, ℕ, [], OnOk, IfOk};
+ghost use Rattle.std.specs.Prelude.{◌≡◌, ◌+◌, ◌*◌, ◌^◌, ◌<◌, ◌==◌, ◌&&◌, ◌||◌, nat_le, nat_lt, ℕ, [], OnOk, IfOk};
 ghost use Rattle.std.specs.List.{All, filter, list_any, range_with_len};
+ghost use Rattle.std.specs.List.Sorted.{IsStrictlySortedBy};
+ghost use Rattle.std.specs.Ordering.{nat_cmp};
 ghost use Rattle.xfs_image.specs.Claims.{is_of_cluster};
 ghost use Rattle.xfs_groups.specs.Sets.{has};
 
@@ -71,6 +73,7 @@ impl BlockSet {
     }
 
     /// Adds the four blocks of a cluster.
+    #[tactic(auto, using(crate::proofs::BlockSets::four_blocks))]
     fn add_cluster(&mut self, cluster: u64) -> Result<(), NoMemory>
         requires { cluster < 2 ^ 32 }
         ensures { OnOk result ((q : ℕ) → has self.new q ≡ (has self.old q || is_of_cluster cluster q)) }
@@ -86,13 +89,20 @@ impl BlockSet {
         requires { first < 2 ^ 32 }
         ensures { IfOk result (λ blocks. blocks.items ≡ filter (has self.now) (range_with_len first count)) }
     {
-        let end = first + count as u64;
-        let mut blocks = Vec::new(alloc);
-        for block in self.set.iter() {
-            if first <= *block && *block < end {
-                blocks.push(*block)?;
-            }
-        }
+        self.between(alloc, first, first + count as u64)
+    }
+
+    /// Those of the set from a first one on that are below an end, ascending.
+    fn between(&self, alloc: Global, first: u64, end: u64) -> Result<Vec<u64>, NoMemory>
+        ensures between { IfOk result (λ blocks. blocks.items ≡ filter (λ q. nat_le first q && nat_lt q end) self.now) }
+        ensures sorted { IsStrictlySortedBy nat_cmp self.now }
+    {
+        let blocks = self
+            .set
+            .iter()
+            .copied()
+            .filter(|block| first <= *block && *block < end)
+            .collect(alloc)?;
         Ok(blocks)
     }
 }

@@ -1,10 +1,10 @@
 //! The clusters that the records of owners give, in one sweep over the records of a group.
 
-ghost use Rattle.std.specs.Prelude.{◌≡◌, ◌+◌, ◌*◌, ◌^◌, ◌<◌, ◌≤◌, ℕ, drop, length, slice_index_or, IfOk};
+ghost use Rattle.std.specs.Prelude.{◌≡◌, ◌+◌, ◌^◌, ◌<◌, ◌≤◌, ℕ, drop, length, IfOk};
 ghost use Rattle.std.specs.List.{All, list_all, range_with_len};
 ghost use Rattle.xfs_geom.specs.Volumes.{volume_of};
 ghost use Rattle.xfs_image.specs.Clusters.{given_clusters, is_given};
-ghost use Rattle.xfs_groups.specs.Named.{AreApart, EndBehind, GiveAlike};
+ghost use Rattle.xfs_groups.specs.Named.{AreApart, EndBehind, GiveAlike, ends_before};
 
 use std::alloc::Global;
 use xfs_disk::NoMemory;
@@ -41,7 +41,7 @@ pub(crate) fn given_clusters(
 /// Whether the four AG blocks from one on are given, where the records before an index end before them.
 fn are_given(records: &[RmapRec], from: usize, place: u32) -> bool
     requires from { from ≤ length records.now }
-    requires place { place + 4 ≤ 2 ^ 32 - 1 }
+    requires place { place + 4 < 2 ^ 32 }
     ensures { AreApart 0 records.now → result ≡ list_all (is_given (drop from records.now)) (range_with_len place 4) }
 {
     let mut next = from;

@@ -1,0 +1,3 @@
+pub mod BlockSets
+pub mod Rows
+pub mod Sweeps
