@@ -96,8 +96,8 @@ filter_rising p (suc n) a (x ∷ xs) up low is =
           filter_rising p n (a + 1) xs (from_lower (a + 1) (x + 1) xs (omega (arith, same)) up.1)
           (subst (λ (m : ℕ). AllByRecursion (λ y. y < m) xs) (omega arith) low.1)
           (λ q from upto.
-            let other : (x == q) ≡ false = ne_eqb x q (λ is. omega (arith, is, same, from)) in
-            is q (omega (arith, from)) (omega (arith, upto)) ∙ ap (λ (t : Bool). t || has xs q) other) in
+          let other : (x == q) ≡ false = ne_eqb x q (λ is. omega (arith, is, same, from)) in
+          is q (omega (arith, from)) (omega (arith, upto)) ∙ ap (λ (t : Bool). t || has xs q) other) in
           rw e (ap₂ (λ (y : ℕ) (ys : List ℕ). y ∷ ys) same rest)
     ]
 

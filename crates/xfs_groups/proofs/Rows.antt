@@ -1,14 +1,20 @@
 -- Numbers in a row, one more of them.
-use Rattle.std.proofs.Common.{◌≡◌, ℕ, zero, suc, Bool, true, false, cond, ◌+◌, ◌≤◌, ◌<◌, ◌&&◌, ◌||◌, List, [], ◌∷◌, ◌++◌, map, refl, sym, ap, ap₂, ◌∙◌, subst, arith}
+use Rattle.std.proofs.Common.{◌≡◌, ℕ, zero, suc, Bool, true, false, cond, ◌+◌, ◌≤◌, ◌<◌, ◌&&◌, ◌||◌, if◌then◌else◌, List, [], ◌∷◌, ◌++◌, add-one, append-nil, map, refl, sym, ap, ap₂, ◌∙◌, subst, arith}
 use Rattle.std.specs.List.{filter, list_all, list_any, range_with_len}
 use Rattle.std.proofs.lemmas.Bool.{and_left, or_left}
-use Rattle.std.proofs.lemmas.List.Elements.{filter-append}
+use Rattle.std.specs.List.{All}
+use Rattle.std.proofs.lemmas.List.{map-append}
+use Rattle.std.proofs.lemmas.List.Elements.{All-push, filter-append}
+use Rattle.std.proofs.lemmas.List.FromFn.{filter_of_map_range_with_len_more}
 use Rattle.std.proofs.lemmas.List.Folds.{list_all-append, list_any-append}
 
+range_suc : (a n : ℕ) → range_with_len a (suc n) ≡ range_with_len a n ++ (a + n) ∷ []
+range_suc a zero = ap (λ (k : ℕ). k ∷ []) (omega arith)
+range_suc a (suc n) =
+    ap (λ (xs : List ℕ). a ∷ xs) (range_suc (a + 1) n ∙ ap (λ (k : ℕ). range_with_len (a + 1) n ++ k ∷ []) (omega arith))
+
 pub range_more : (a n : ℕ) → range_with_len a (n + 1) ≡ range_with_len a n ++ (a + n) ∷ []
-range_more a zero = ap (λ (k : ℕ). k ∷ []) (omega arith)
-range_more a (suc n) =
-    ap (λ (xs : List ℕ). a ∷ xs) (range_more (a + 1) n ∙ ap (λ (k : ℕ). range_with_len (a + 1) n ++ k ∷ []) (omega arith))
+range_more a n = ap (range_with_len a) (add-one n) ∙ range_suc a n
 
 or_end : (x y : Bool) → (x || (y || false)) ≡ (x || y)
 or_end true y = refl
@@ -65,3 +71,21 @@ all_alike p q a (suc n) alike =
 pub any_mapped : {X : Type 0} (p : X → Bool) (f : ℕ → X) (xs : List ℕ) → list_any p (map f xs) ≡ list_any (λ x. p (f x)) xs
 any_mapped p f [] = refl
 any_mapped p f (x ∷ xs) = ap (λ (t : Bool). p (f x) || t) (any_mapped p f xs)
+
+-- one place more, of which what passes is kept
+pub kept_more : {X : Type 0} (h : ℕ → X) (p : ℕ → Bool) (f : ℕ → ℕ) (n : ℕ) (b : Bool) → b ≡ p (f n)
+    → map h (filter p (map f (range_with_len 0 n))) ++ (if b then (h (f n) ∷ []) else []) ≡ map h (filter p (map f (range_with_len 0 (n + 1))))
+kept_more h p f n b is =
+    ap (λ (t : Bool). map h (filter p (map f (range_with_len 0 n))) ++ (if t then (h (f n) ∷ []) else [])) is
+    ∙ sym (ap (map h) (filter_of_map_range_with_len_more p f 0 n n (omega arith))
+    ∙ (map-append h (filter p (map f (range_with_len 0 n))) (cond (p (f n)) (f n ∷ []) [])
+    ∙ ap (λ ys. map h (filter p (map f (range_with_len 0 n))) ++ ys) (of_one (p (f n)))))
+  where
+    of_one : (t : Bool) → map h (cond t (f n ∷ []) []) ≡ (if t then (h (f n) ∷ []) else [])
+    of_one true = refl
+    of_one false = refl
+
+-- what holds of each still does with one more
+pub each_more : {X : Type 0} (P : X → Type 0) (xs : List X) (b : Bool) (x : X) → All P xs → P x → All P (xs ++ (if b then (x ∷ []) else []))
+each_more P xs true x all one = All-push P xs x all one
+each_more P xs false x all one = rw (append-nil xs) all

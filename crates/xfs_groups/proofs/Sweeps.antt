@@ -1,10 +1,11 @@
 -- A sweep over records of owners that ascend.
 use Rattle.std.proofs.Common.{◌≡◌, ℕ, zero, suc, Bool, true, false, ◌+◌, ◌≤◌, ◌<◌, ◌&&◌, ◌||◌, ◌==◌, nat_le, nat_lt, List, [], ◌∷◌, drop, drop-cons, length, get_or, add-one, refl, sym, ap, ◌∙◌, subst, arith}
+use Rattle.std.proofs.lemmas.List.{drop_all}
 use Rattle.std.proofs.lemmas.Bool.{leb-false, leb-true}
 use Rattle.std.proofs.lemmas.Bool.Decides.{nat_tests}
 use Rattle.xfs_geom.specs.declared.records.RmapRec.{RmapRec}
 use Rattle.xfs_image.specs.Clusters.{clusters_owner, gives, is_given}
-use Rattle.xfs_groups.specs.Named.{AreApart, EndBehind, GiveAlike, ends_before}
+use Rattle.xfs_groups.specs.Named.{AreApart, EndBehind, GiveAlike, begins_by, ends_before}
 
 and_none : (x y : Bool) → (x && y && false) ≡ false
 and_none true true = refl
@@ -76,3 +77,13 @@ first_gives low block r rs apart behind =
     and_sure (r.owner == clusters_owner) (nat_le r.start block)
     ∙ (ap (λ (t : Bool). r.owner == clusters_owner && nat_le r.start block && t) (sym late)
     ∙ (or_never (gives block r) ∙ ap (λ (t : Bool). gives block r || t) (sym rest)))
+
+pub given_at : (block i : ℕ) (rs : List RmapRec) (d : RmapRec) → i < length rs → AreApart 0 (drop i rs) → EndBehind block (drop i rs)
+    → begins_by block (get_or rs i d) ≡ is_given (drop i rs) block
+given_at block i rs d inside apart behind =
+    let cut : drop i rs ≡ get_or rs i d ∷ drop (suc i) rs = drop-cons rs i d inside in
+    first_gives 0 block (get_or rs i d) (drop (suc i) rs) (subst (AreApart 0) cut apart) (subst (EndBehind block) cut behind)
+    ∙ ap (λ (xs : List RmapRec). is_given xs block) (sym cut)
+
+pub none_at : (block i : ℕ) (rs : List RmapRec) → length rs ≤ i → is_given (drop i rs) block ≡ false
+none_at block i rs past = ap (λ (xs : List RmapRec). is_given xs block) (drop_all i rs past)

@@ -1,9 +1,9 @@
 -- The clusters that trees name, in one sweep over the records of owners.
-use Rattle.std.specs.Prelude.{◌≡◌, ℕ, Bool, false, ◌+◌, ◌≤◌, ◌<◌, ◌||◌, nat_le, List, [], ◌∷◌, Option, Some, None, option_map}
+use Rattle.std.specs.Prelude.{◌≡◌, ℕ, Bool, false, ◌+◌, ◌≤◌, ◌<◌, ◌&&◌, ◌||◌, ◌==◌, nat_le, List, [], ◌∷◌, Option, Some, None, option_map}
 use Rattle.xfs_geom.specs.Volumes.{Volume}
 use Rattle.xfs_geom.specs.declared.records.InoRec.{InoRec}
 use Rattle.xfs_geom.specs.declared.records.RmapRec.{RmapRec}
-use Rattle.xfs_image.specs.Clusters.{chunk_clusters, given_clusters, is_given, names}
+use Rattle.xfs_image.specs.Clusters.{chunk_clusters, clusters_owner, given_clusters, is_given, names}
 use Rattle.xfs_tree.specs.Reading.{Contents}
 
 -- the records ascend, and no two have a block in common; the first begins at an AG block or behind it
@@ -13,6 +13,10 @@ AreApart low (r ∷ rs) = (low ≤ r.start) × AreApart (r.start + r.count) rs
 
 abbrev pub ends_before : ℕ → RmapRec → Bool
 ends_before block r = nat_le (r.start + r.count) block
+
+-- a record of clusters begins at an AG block or before it
+abbrev pub begins_by : ℕ → RmapRec → Bool
+begins_by block r = r.owner == clusters_owner && nat_le r.start block
 
 -- the first record, where there is one, ends behind an AG block
 abbrev pub EndBehind : ℕ → List RmapRec → Type 0

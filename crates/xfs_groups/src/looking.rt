@@ -1,19 +1,18 @@
 //! What the bytes of a block are: whole objects, or slots of inodes.
 
 ghost use Rattle.std.specs.Prelude.{◌≡◌, ◌+◌, ◌*◌, ◌<◌, ◌≤◌, ◌==◌, ◌&&◌, ◌||◌, not, List, ℕ, length, IfOk};
-ghost use Rattle.std.specs.List.{All, list_any};
+ghost use Rattle.std.specs.List.{All, list_any, range_with_len};
 ghost use Rattle.std.specs.Option.{ForSome};
 ghost use Rattle.xfs_disk.specs.Faults.{HasCause};
 ghost use Rattle.xfs_geom.specs.Conversions.{inode_of};
 ghost use Rattle.xfs_geom.specs.Volumes.{volume_of};
 ghost use Rattle.xfs_image.specs.Candidates.{is_used_slot, is_whole_block, owner_due, whole_seal};
-ghost use Rattle.xfs_image.specs.Slots.{inodes_in};
 ghost use Rattle.xfs_inode.specs.Slots.{slot_seal};
 ghost use Rattle.xfs_tree.specs.Answers.{OnlyReads};
 ghost use Rattle.xfs_tree.specs.Reading.{bytes_at};
 ghost use Rattle.xfs_word.specs.Field.{field_of};
 ghost use Rattle.xfs_word.specs.Seal.{is_sealed, layout_of};
-ghost use Rattle.xfs_groups.specs.Looking.{IsSeen};
+ghost use Rattle.xfs_groups.specs.Looking.{IsSeen, has_used};
 
 use crate::heads::read_block;
 use xfs_disk::{BLOCK_SIZE, Disk, Failed};
@@ -157,9 +156,20 @@ fn owner_due(g: &Geometry, place: u64, kind: SealKind) -> Option<u64>
 fn has_used_slot(g: &Geometry, place: u64, block: &[u8]) -> bool
     requires place { place < g.now.dblocks }
     requires block { length block.now ≡ 4096 }
-    ensures { (image : List (List ℕ)) → bytes_at image place ≡ block.now → result ≡ list_any (is_used_slot (volume_of g.now) image) (inodes_in (volume_of g.now) place) }
+    ensures { (image : List (List ℕ)) → bytes_at image place ≡ block.now → result ≡ has_used (volume_of g.now) image place }
 {
-    for slot in 0..8 {
+    is_any_used(g, place, 8, block)
+}
+
+/// Whether one of the first slots of a block is sealed and holds a file.
+fn is_any_used(g: &Geometry, place: u64, count: u8, block: &[u8]) -> bool
+    requires place { place < g.now.dblocks }
+    requires count { count ≤ 8 }
+    requires block { length block.now ≡ 4096 }
+    ensures { (image : List (List ℕ)) → bytes_at image place ≡ block.now
+        → result ≡ list_any (λ slot. is_used_slot (volume_of g.now) image (inode_of (volume_of g.now) place slot)) (range_with_len 0 count) }
+{
+    for slot in 0..count {
         if is_used(g, place, slot, block) {
             return true;
         }

@@ -1,6 +1,6 @@
 //! The clusters of a group that says in full where its clusters are.
 
-ghost use Rattle.std.specs.Prelude.{◌≡◌, ◌+◌, ◌/◌, ◌<◌, ◌≤◌, true, IfOk};
+ghost use Rattle.std.specs.Prelude.{◌≡◌, ◌+◌, ◌/◌, ◌<◌, ◌≤◌, ◌++◌, ◌∷◌, [], if◌then◌else◌, true, IfOk, OnOk};
 ghost use Rattle.std.specs.Option.{ForSome};
 ghost use Rattle.xfs_disk.specs.Faults.{HasCause};
 ghost use Rattle.xfs_geom.specs.Conversions.{group_length};
@@ -15,7 +15,7 @@ use crate::faults::GroupsFault;
 use crate::looking::look_whole;
 use crate::sets::BlockSet;
 use std::alloc::Global;
-use xfs_disk::{Disk, Failed};
+use xfs_disk::{Disk, Failed, NoMemory};
 use xfs_geom::Geometry;
 use xfs_volume::ClusterRec;
 
@@ -39,13 +39,13 @@ pub(crate) fn recorded_clusters<D: Disk>(
     let mut clusters = Vec::new(alloc);
     for i in 0..g.group_length(ag) / 4 {
         let cluster = start + 4 * i as u64;
-        match is_chosen(g, disk, named, cluster) {
-            Ok(false) => {}
-            Ok(true) => match clusters.push(cluster_rec(g, named, cluster)) {
-                Ok(()) => {}
-                Err(_) => return Err(GroupsFault::NoMemory),
-            },
+        let is_chosen = match is_chosen(g, disk, named, cluster) {
+            Ok(is_chosen) => is_chosen,
             Err(Failed) => return Err(GroupsFault::ReadFault),
+        };
+        match push_chosen(&mut clusters, g, named, cluster, is_chosen) {
+            Ok(()) => {}
+            Err(NoMemory) => return Err(GroupsFault::NoMemory),
         }
     }
     Ok(clusters)
@@ -75,19 +75,19 @@ fn is_chosen<D: Disk>(
     if !lies_in_chunk(g, cluster) {
         return Ok(false);
     }
-    are_clear(g, disk, cluster)
+    are_clear(g, disk, cluster, 4)
 }
 
-/// Whether no block of a cluster has a fixed use or is sealed as one object.
-fn are_clear<D: Disk>(g: &Geometry, disk: &mut D, cluster: u64) -> Result<bool, Failed>
-    requires cluster { cluster + 4 ≤ g.now.dblocks }
+/// Whether none of so many blocks from one on has a fixed use or is sealed as one object.
+fn are_clear<D: Disk>(g: &Geometry, disk: &mut D, first: u64, count: u64) -> Result<bool, Failed>
+    requires blocks { first + count ≤ g.now.dblocks }
     requires inside { g.now.dblocks ≤ D.size disk.old }
-    ensures clear { IfOk result (λ clear. ForSome (D.holds disk.old) (λ image. clear ≡ are_clear (volume_of g.now) image cluster 4)) }
+    ensures clear { IfOk result (λ clear. ForSome (D.holds disk.old) (λ image. clear ≡ are_clear (volume_of g.now) image first count)) }
     ensures cause { HasCause (D.faults disk.old) (D.faults disk.new) result }
     ensures disk { OnlyReads D.size D.holds D.write_faults D.tells_stops D.may_leave disk.old disk.new }
 {
-    for k in 0..4 {
-        match is_clear(g, disk, cluster + k) {
+    for k in 0..count {
+        match is_clear(g, disk, first + k) {
             Ok(true) => {}
             Ok(false) => return Ok(false),
             Err(Failed) => return Err(Failed),
@@ -113,14 +113,23 @@ fn is_clear<D: Disk>(g: &Geometry, disk: &mut D, block: u64) -> Result<bool, Fai
     }
 }
 
-/// The record of a cluster, where these are named.
-pub(crate) fn cluster_rec(g: &Geometry, named: &BlockSet, cluster: u64) -> ClusterRec
-    ensures { result ≡ chosen_rec (volume_of g.now) named.now cluster }
+/// Adds a cluster, where its slots are read.
+pub(crate) fn push_chosen(
+    clusters: &mut Vec<ClusterRec>,
+    g: &Geometry,
+    named: &BlockSet,
+    cluster: u64,
+    is_chosen: bool,
+) -> Result<(), NoMemory>
+    ensures { OnOk result (clusters.new.items ≡ clusters.old.items ++ (if is_chosen then (chosen_rec (volume_of g.now) named.now cluster ∷ []) else [])) }
 {
-    ClusterRec {
-        block: cluster,
-        recorded: cluster == root_cluster(g) || named.has(cluster),
+    if is_chosen {
+        clusters.push(ClusterRec {
+            block: cluster,
+            recorded: cluster == root_cluster(g) || named.has(cluster),
+        })?;
     }
+    Ok(())
 }
 
 /// Whether a cluster lies in a chunk of its group, behind the first eight blocks of it (chapter "AG Inode Management").

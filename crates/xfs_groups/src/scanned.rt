@@ -1,6 +1,6 @@
 //! The clusters of a group that does not say in full where its clusters are: each place is looked at.
 
-ghost use Rattle.std.specs.Prelude.{◌≡◌, ◌+◌, ◌/◌, ◌<◌, ◌≤◌, ◌++◌, ◌||◌, ◌∷◌, [], false, if◌then◌else◌, List, IfOk, OnOk};
+ghost use Rattle.std.specs.Prelude.{◌≡◌, ◌+◌, ◌/◌, ◌<◌, ◌≤◌, ◌++◌, false, IfOk};
 ghost use Rattle.std.specs.Option.{ForSome};
 ghost use Rattle.xfs_geom.specs.Conversions.{group_length};
 ghost use Rattle.xfs_geom.specs.Volumes.{volume_of};
@@ -8,12 +8,11 @@ ghost use Rattle.xfs_image.specs.Groups.{head_block};
 ghost use Rattle.xfs_tree.specs.Answers.{OnlyReads};
 ghost use Rattle.xfs_groups.specs.Answers.{HasGroupsCause};
 ghost use Rattle.xfs_groups.specs.Chosen.{ArePlaced, are_clear, are_used, chosen, is_chosen_as, withheld};
-ghost use Rattle.xfs_groups.specs.Sets.{has};
 
 use crate::faults::GroupsFault;
 use crate::looking::look;
-use crate::recorded::{cluster_rec, lies_in_chunk, root_cluster};
-use crate::sets::BlockSet;
+use crate::recorded::{lies_in_chunk, push_chosen, root_cluster};
+use crate::sets::{BlockSet, push_if};
 use std::alloc::Global;
 use xfs_disk::{Disk, Failed, NoMemory};
 use xfs_geom::Geometry;
@@ -64,11 +63,10 @@ pub(crate) fn scan_group<D: Disk>(
             Ok(seen) => seen,
             Err(fault) => return Err(fault),
         };
-        if is_chosen(g, named, cluster, &seen) {
-            match clusters.push(cluster_rec(g, named, cluster)) {
-                Ok(()) => {}
-                Err(_) => return Err(GroupsFault::NoMemory),
-            }
+        let is_chosen = is_chosen(g, named, cluster, &seen);
+        match push_chosen(&mut clusters, g, named, cluster, is_chosen) {
+            Ok(()) => {}
+            Err(NoMemory) => return Err(GroupsFault::NoMemory),
         }
     }
     let rest = start + (blocks / 4 * 4) as u64;
@@ -115,7 +113,8 @@ fn look_at<D: Disk>(
             Ok(seen) => seen,
             Err(Failed) => return Err(GroupsFault::ReadFault),
         };
-        match reserve(held, block, seen.naming || seen.used, reserved) {
+        let is_held = held.has(block) || seen.naming || seen.used;
+        match push_if(reserved, is_held, block) {
             Ok(()) => {}
             Err(NoMemory) => return Err(GroupsFault::NoMemory),
         }
@@ -125,19 +124,4 @@ fn look_at<D: Disk>(
         };
     }
     Ok(all)
-}
-
-/// Adds a block, where trees hold it or its bytes do.
-fn reserve(
-    held: &BlockSet,
-    block: u64,
-    by_bytes: bool,
-    reserved: &mut Vec<u64>,
-) -> Result<(), NoMemory>
-    ensures { OnOk result (reserved.new.items ≡ reserved.old.items ++ (if has held.now block || by_bytes then block ∷ [] else [])) }
-{
-    if held.has(block) || by_bytes {
-        reserved.push(block)?;
-    }
-    Ok(())
 }

@@ -1,6 +1,6 @@
 //! Sets of blocks.
 
-ghost use Rattle.std.specs.Prelude.{◌≡◌, ◌+◌, ◌*◌, ◌^◌, ◌<◌, ◌==◌, ◌&&◌, ◌||◌, nat_le, nat_lt, ℕ, [], OnOk, IfOk};
+ghost use Rattle.std.specs.Prelude.{◌≡◌, ◌+◌, ◌*◌, ◌^◌, ◌<◌, ◌==◌, ◌&&◌, ◌||◌, ◌++◌, ◌∷◌, if◌then◌else◌, nat_le, nat_lt, ℕ, [], OnOk, IfOk};
 ghost use Rattle.std.specs.List.{All, filter, list_any, range_with_len};
 ghost use Rattle.std.specs.List.Sorted.{IsStrictlySortedBy};
 ghost use Rattle.std.specs.Ordering.{nat_cmp};
@@ -105,4 +105,14 @@ impl BlockSet {
             .collect(alloc)?;
         Ok(blocks)
     }
+}
+
+/// Adds a block to a list, where it is wanted.
+pub(crate) fn push_if(list: &mut Vec<u64>, is_wanted: bool, block: u64) -> Result<(), NoMemory>
+    ensures { OnOk result (list.new.items ≡ list.old.items ++ (if is_wanted then (block ∷ []) else [])) }
+{
+    if is_wanted {
+        list.push(block)?;
+    }
+    Ok(())
 }

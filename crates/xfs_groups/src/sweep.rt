@@ -4,8 +4,9 @@ ghost use Rattle.std.specs.Prelude.{◌≡◌, ◌+◌, ◌^◌, ◌<◌, ◌≤
 ghost use Rattle.std.specs.List.{All, list_all, range_with_len};
 ghost use Rattle.xfs_geom.specs.Volumes.{volume_of};
 ghost use Rattle.xfs_image.specs.Clusters.{given_clusters, is_given};
-ghost use Rattle.xfs_groups.specs.Named.{AreApart, EndBehind, GiveAlike, ends_before};
+ghost use Rattle.xfs_groups.specs.Named.{AreApart, EndBehind, GiveAlike, begins_by, ends_before};
 
+use crate::sets::push_if;
 use std::alloc::Global;
 use xfs_disk::NoMemory;
 use xfs_geom::{Geometry, RmapRec};
@@ -31,40 +32,48 @@ pub(crate) fn given_clusters(
     let mut next = 0;
     for i in 0..g.group_length(ag) / 4 {
         next = first_behind(records, next, 4 * i);
-        if are_given(records, next, 4 * i) {
-            clusters.push(start + 4 * i as u64)?;
-        }
+        let is_given = are_given(records, next, 4 * i, 4);
+        push_if(&mut clusters, is_given, start + 4 * i as u64)?;
     }
     Ok(Blocks::from_vec(clusters))
 }
 
-/// Whether the four AG blocks from one on are given, where the records before an index end before them.
-fn are_given(records: &[RmapRec], from: usize, place: u32) -> bool
+/// Whether so many AG blocks from one on are given by the records from an index on.
+fn are_given(records: &[RmapRec], from: usize, place: u32, count: u32) -> bool
     requires from { from ≤ length records.now }
-    requires place { place + 4 < 2 ^ 32 }
-    ensures { AreApart 0 records.now → result ≡ list_all (is_given (drop from records.now)) (range_with_len place 4) }
+    requires place { place + count < 2 ^ 32 }
+    ensures { AreApart 0 records.now → result ≡ list_all (is_given (drop from records.now)) (range_with_len place count) }
 {
     let mut next = from;
-    for k in 0..4 {
+    for k in 0..count {
         next = first_behind(records, next, place + k);
-        if !gives_first(&records[next..], place + k) {
+        if !is_given_at(records, next, place + k) {
             return false;
         }
     }
     true
 }
 
-/// Whether an AG block, behind which the first of some records ends, is given.
-fn gives_first(records: &[RmapRec], block: u32) -> bool
-    ensures { (low : ℕ) → AreApart low records.now → EndBehind block records.now → result ≡ is_given records.now block }
+/// Whether an AG block is given, where the record at an index is the first that ends behind it.
+fn is_given_at(records: &[RmapRec], at: usize, block: u32) -> bool
+    requires { at ≤ length records.now }
+    ensures { AreApart 0 (drop at records.now) → EndBehind block (drop at records.now) → result ≡ is_given (drop at records.now) block }
 {
-    match records.first() {
-        None => false,
-        Some(record) => record.owner == CLUSTERS_OWNER && record.start <= block,
+    if at == records.len() {
+        return false;
     }
+    begins_by(&records[at], block)
+}
+
+/// Whether a record of clusters begins at an AG block or before it.
+fn begins_by(run: &RmapRec, block: u32) -> bool
+    ensures { result ≡ begins_by block run.now }
+{
+    run.owner == CLUSTERS_OWNER && run.start <= block
 }
 
 /// The index of the first record, from one on, that ends behind an AG block.
+#[tactic(auto, using(crate::proofs::Sweeps::passed, crate::proofs::Sweeps::ends_at))]
 fn first_behind(records: &[RmapRec], from: usize, block: u32) -> usize
     requires { from ≤ length records.now }
     ensures low { from ≤ result }

@@ -4,7 +4,7 @@ use Rattle.xfs_geom.specs.Conversions.{inode_of}
 use Rattle.xfs_geom.specs.Volumes.{volume_of}
 use Rattle.xfs_image.specs.Candidates.{is_used_slot}
 use Rattle.xfs_tree.specs.Reading.{bytes_at}
-use Rattle.xfs_groups.proofs.looking.has_used_slot.Given as goal
+use Rattle.xfs_groups.proofs.looking.is_any_used.Given as goal
 
 abbrev pub invariant-loop-slot : goal.invariant-loop-slot
 invariant-loop-slot l = (image : List (List ℕ)) → bytes_at image l.place ≡ l.block
