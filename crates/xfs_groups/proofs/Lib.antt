@@ -2,3 +2,4 @@ pub mod BlockSets
 pub mod Rows
 pub mod Sweeps
 pub mod Placed
+pub mod Choosing

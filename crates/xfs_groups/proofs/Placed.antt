@@ -10,16 +10,16 @@ use Rattle.xfs_image.specs.Candidates.{Ascend}
 use Rattle.xfs_image.specs.Clusters.{root_cluster}
 use Rattle.xfs_image.specs.Groups.{head_block}
 use Rattle.xfs_groups.specs.Answers.{EndBelow, has_root}
-use Rattle.xfs_groups.specs.Chosen.{ArePlaced, chosen_rec, place_at}
+use Rattle.xfs_groups.specs.Chosen.{ArePlaced, chosen_rec, is_chosen_as, place_at}
 use Rattle.xfs_groups.specs.Sets.{has}
 
 -- clusters that end before others begin ascend with them
 pub ascend_then : (low m : ℕ) (cs ys : List ClusterRec) → low ≤ m → Ascend low cs → EndBelow m cs → Ascend m ys → Ascend low (cs ++ ys)
-ascend_then low m [] [] le up end then = tt
-ascend_then low m [] (y ∷ ys) le up end then = (let first = then.0 in omega (arith, le, first), then.1)
-ascend_then low m (c ∷ cs) ys le up end then =
+ascend_then low m [] [] le up end after = tt
+ascend_then low m [] (y ∷ ys) le up end after = (let first = after.0 in omega (arith, le, first), after.1)
+ascend_then low m (c ∷ cs) ys le up end after =
     let here : c.block + 4 ≤ m = end 0 c (omega arith) in
-    (up.0, ascend_then (c.block + 4) m cs ys here up.1 (λ k d inside. end (suc k) d (omega (arith, inside))) then)
+    (up.0, ascend_then (c.block + 4) m cs ys here up.1 (λ k d inside. end (suc k) d (omega (arith, inside))) after)
 
 pub root_stays : (v : Volume) (cs ys : List ClusterRec) → IsTrue (has_root v cs) → IsTrue (has_root v (cs ++ ys))
 root_stays v cs ys there =
@@ -33,6 +33,12 @@ root_comes v cs ys there =
 
 is_root : (v : Volume) (named : List ℕ) (cluster : ℕ) → cluster ≡ root_cluster v → IsTrue (has_root v (chosen_rec v named cluster ∷ []))
 is_root v named cluster same =
+    let e : (cluster == root_cluster v) ≡ true = eq-eqb cluster (root_cluster v) same in
+    rw e refl
+
+-- the cluster of the root is chosen, whatever its blocks are
+pub root_chosen : (v : Volume) (named : List ℕ) (cluster : ℕ) (scanned clear : Bool) → cluster ≡ root_cluster v → is_chosen_as v named cluster scanned clear ≡ true
+root_chosen v named cluster scanned clear same =
     let e : (cluster == root_cluster v) ≡ true = eq-eqb cluster (root_cluster v) same in
     rw e refl
 

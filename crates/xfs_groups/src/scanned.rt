@@ -1,16 +1,17 @@
 //! The clusters of a group that does not say in full where its clusters are: each place is looked at.
 
-ghost use Rattle.std.specs.Prelude.{◌≡◌, ◌+◌, ◌/◌, ◌<◌, ◌≤◌, ◌++◌, false, IfOk};
+ghost use Rattle.std.specs.Prelude.{◌≡◌, ◌+◌, ◌/◌, ◌<◌, ◌≤◌, ◌++◌, ◌&&◌, ◌||◌, not, false, IfOk};
 ghost use Rattle.std.specs.Option.{ForSome};
-ghost use Rattle.xfs_geom.specs.Conversions.{group_length};
+ghost use Rattle.xfs_geom.specs.Conversions.{group_length, is_fixed};
 ghost use Rattle.xfs_geom.specs.Volumes.{volume_of};
 ghost use Rattle.xfs_image.specs.Groups.{head_block};
 ghost use Rattle.xfs_tree.specs.Answers.{OnlyReads};
 ghost use Rattle.xfs_groups.specs.Answers.{HasGroupsCause};
 ghost use Rattle.xfs_groups.specs.Chosen.{ArePlaced, are_clear, are_used, chosen, is_chosen_as, withheld};
+ghost use Rattle.xfs_groups.specs.Sets.{has};
 
 use crate::faults::GroupsFault;
-use crate::looking::look;
+use crate::looking::{BlockSeen, look};
 use crate::recorded::{lies_in_chunk, push_chosen, root_cluster};
 use crate::sets::{BlockSet, push_if};
 use std::alloc::Global;
@@ -113,15 +114,31 @@ fn look_at<D: Disk>(
             Ok(seen) => seen,
             Err(Failed) => return Err(GroupsFault::ReadFault),
         };
-        let is_held = held.has(block) || seen.naming || seen.used;
-        match push_if(reserved, is_held, block) {
+        let is_withheld = is_withheld(held, block, &seen);
+        match push_if(reserved, is_withheld, block) {
             Ok(()) => {}
             Err(NoMemory) => return Err(GroupsFault::NoMemory),
         }
-        all = ClusterSeen {
-            used: all.used || seen.used,
-            clear: all.clear && !(g.is_fixed(block) || seen.whole),
-        };
+        all = with_block(g, &all, block, &seen);
     }
     Ok(all)
+}
+
+/// Whether nothing new is placed on a block, since trees hold it, or its bytes do.
+fn is_withheld(held: &BlockSet, block: u64, seen: &BlockSeen) -> bool
+    ensures { result ≡ (has held.now block || (seen.now.naming || seen.now.used)) }
+{
+    held.has(block) || seen.naming || seen.used
+}
+
+/// What some blocks are, with one more.
+fn with_block(g: &Geometry, all: &ClusterSeen, block: u64, seen: &BlockSeen) -> ClusterSeen
+    requires { block < g.now.dblocks }
+    ensures used { result.used ≡ (all.now.used || seen.now.used) }
+    ensures clear { result.clear ≡ (all.now.clear && not (is_fixed (volume_of g.now) block || seen.now.whole)) }
+{
+    ClusterSeen {
+        used: all.used || seen.used,
+        clear: all.clear && !(g.is_fixed(block) || seen.whole),
+    }
 }
