@@ -1,12 +1,13 @@
 -- One cluster more whose slots are read, or one block more on which nothing new is placed.
 use Rattle.std.proofs.Common.{◌≡◌, ℕ, zero, suc, Bool, true, false, cond, ◌+◌, ◌*◌, ◌≤◌, ◌&&◌, ◌||◌, if◌then◌else◌, List, [], ◌∷◌, ◌++◌, append_assoc, map, refl, sym, ap, ap₂, ◌∙◌, subst, arith}
 use Rattle.std.specs.List.{filter, list_all, list_any, range_with_len}
-use Rattle.std.proofs.lemmas.List.Elements.{filter-append}
+use Rattle.std.proofs.lemmas.List.Elements.{filter-append, filter_agree}
 use Rattle.xfs_disk.specs.Blocks.{Image}
 use Rattle.xfs_geom.specs.Volumes.{Volume}
 use Rattle.xfs_volume.specs.declared.clusters.ClusterRec.{ClusterRec}
 use Rattle.xfs_image.specs.Clusters.{root_cluster}
 use Rattle.xfs_groups.specs.Chosen.{ArePlaced, chosen, chosen_rec, is_chosen, is_withheld, place_at, withheld}
+use Rattle.xfs_groups.specs.Sets.{has}
 use Rattle.xfs_groups.proofs.Placed.{placed_more}
 use Rattle.xfs_groups.proofs.Rows.{filter_more, kept_more}
 
@@ -65,3 +66,15 @@ withheld_then v image trusted held a m b n total old new at sum was more =
     ∙ (ap (λ (k : ℕ). filter p (range_with_len a m) ++ filter p (range_with_len k n)) at
     ∙ (sym (filter-append p (range_with_len a m) (range_with_len (a + m) n))
     ∙ ap (filter p) (sym (range_split a m n) ∙ ap (range_with_len a) (sym sum)))))
+
+or_nothing : (x : Bool) → x ≡ (x || false)
+or_nothing true = refl
+or_nothing false = refl
+
+-- bytes withhold nothing in a group that is trusted
+pub held_withheld : (v : Volume) (image : Image) (trusted : Bool) (held : List ℕ) (first count : ℕ) → trusted ≡ true
+    → filter (has held) (range_with_len first count) ≡ withheld v image trusted held first count
+unfolding withheld
+held_withheld v image trusted held first count is =
+    filter_agree (has held) (is_withheld v image true held) (λ b. or_nothing (has held b)) (range_with_len first count)
+    ∙ ap (λ (t : Bool). filter (is_withheld v image t held) (range_with_len first count)) (sym is)

@@ -1,8 +1,9 @@
 -- The records of a tree that reads are lawful, and those of a tree of owners are apart.
-use Rattle.std.proofs.Common.{◌≡◌, ℕ, zero, suc, ◌+◌, ◌-◌, ◌≤◌, ◌&&◌, Bool, true, false, List, [], ◌∷◌, ◌++◌, add-one, Option, Some, None, Result, Ok, Err, refl, sym, ap, ◌∙◌, subst, arith}
+use Rattle.std.proofs.Common.{◌≡◌, ℕ, zero, suc, ◌+◌, ◌-◌, ◌≤◌, ◌&&◌, ◌||◌, ◌==◌, nat_le, not, Bool, true, false, List, [], ◌∷◌, ◌++◌, add-one, Option, Some, None, Result, Ok, Err, refl, sym, ap, ◌∙◌, subst, arith}
 use Rattle.std.specs.List.{flat_map}
 use Rattle.std.specs.Option.{option_and_then}
 use Rattle.std.proofs.lemmas.Bool.{and_from, and_parts, leb-true}
+use Rattle.xfs_word.specs.Seal.{is_sealed}
 use Rattle.xfs_disk.specs.Blocks.{Image}
 use Rattle.xfs_geom.specs.First.{first_false}
 use Rattle.xfs_geom.specs.Volumes.{Volume}
@@ -12,9 +13,9 @@ use Rattle.xfs_kinds.specs.declared.owners.RmapKey.{RmapKey}
 use Rattle.xfs_kinds.specs.OwnerTrees.{follows_end, is_owned_run, rmap_shape}
 use Rattle.xfs_tree.specs.declared.seats.Seat.{Seat}
 use Rattle.xfs_tree.specs.declared.unread.Unread.{Unread}
-use Rattle.xfs_tree.specs.Blocks.{records_of}
+use Rattle.xfs_tree.specs.Blocks.{capacity, count_of, left_of, level_of, records_of, right_of}
 use Rattle.xfs_tree.specs.Reading.{Contents, at_block, behind, bytes_at, fault_above, first_of, met_above, next_of, reading, records_under, root_seat, row_fault, row_of, rule_at, unless}
-use Rattle.xfs_tree.specs.Rules.{are_lawful, block_fault, block_tests, is_ordered, last_of, place_fault}
+use Rattle.xfs_tree.specs.Rules.{agrees, are_lawful, block_fault, block_seal, high_of, is_ordered, is_sibling, last_of, least_of, low_of, place_fault}
 use Rattle.xfs_tree.specs.Shape.{Shape}
 use Rattle.xfs_tree.proofs.Depths.{records_from}
 use Rattle.xfs_image.specs.Groups.{contents, rmap_at}
@@ -53,7 +54,11 @@ module _ {R K : Type 0} (s : Shape R K) (v : Volume) where
   ordered : (left right : Option ℕ) (before : Option R) (seat : Seat K) (block : List ℕ) → block_fault s v 0 left right before seat block ≡ None
       → are_lawful s v before (records_of s block) ≡ true
   unfolding block_fault
-  ordered left right before seat block h = fourth 3 4 5 6 _ _ _ (is_ordered s v 0 before block) _ h
+  ordered left right before seat block h =
+      fourth 3 4 5 6 (is_sealed (block_seal v s.layout s.owner seat.place) block) (level_of block == 0)
+      (nat_le (least_of 0 seat.low) (count_of block) && nat_le (count_of block) (capacity s.layout 0)) (is_ordered s v 0 before block)
+      ((7, agrees s seat.low (low_of s 0 block) && (not s.layout.high || agrees s seat.high (high_of s 0 block)))
+      ∷ (8, is_sibling v s.layout s.owner left (left_of s.layout block) && is_sibling v s.layout s.owner right (right_of s.layout block)) ∷ []) h
 
   module _ (image : Image) where
     -- the records of leaves that keep the rules, one leaf behind the other

@@ -5,3 +5,5 @@ pub mod Placed
 pub mod Choosing
 pub mod Lawful
 pub mod Wholes
+pub mod Lengths
+pub mod Grouped

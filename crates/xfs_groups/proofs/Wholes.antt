@@ -24,6 +24,7 @@ use Rattle.xfs_groups.specs.Looking.{has_used, is_naming}
 use Rattle.xfs_groups.specs.Named.{chunks_in, owners_in}
 use Rattle.xfs_groups.specs.Parts.{group_with}
 use Rattle.xfs_groups.specs.Sets.{has}
+use Rattle.xfs_groups.proofs.Lengths.{of_group}
 use Rattle.xfs_groups.specs.declared.heads.Heads.{Heads}
 use Rattle.xfs_groups.specs.declared.one_group.Told.{Told}
 use Rattle.xfs_groups.specs.declared.trees.Trees.{Trees}
@@ -106,9 +107,6 @@ map_twice f h (x ∷ xs) = ap (λ (ys : List ℕ). h (f x) ∷ ys) (map_twice f 
 any_flat : (p : ℕ → Bool) (f : ℕ → List ℕ) (xs : List ℕ) → list_any p (flat_map f xs) ≡ list_any (λ x. list_any p (f x)) xs
 any_flat p f [] = refl
 any_flat p f (x ∷ xs) = list_any-append p (f x) (flat_map f xs) ∙ ap (λ (t : Bool). list_any p (f x) || t) (any_flat p f xs)
-
-of_group : (ag w k : ℕ) → k < w → (ag * w + k) / w ≡ ag
-of_group ag w k inside = grind (arith, inside)
 
 -- a test of a cluster, by what names it
 regrouped : (r n a b s l c : Bool) → n ≡ (a || b) → (r || ((n || s) && l && c)) ≡ (r || ((((r || a) || b) || s) && l && c))
