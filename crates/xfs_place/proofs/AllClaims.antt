@@ -1,11 +1,9 @@
 -- The claims of a whole volume.
-use Rattle.std.proofs.Common.{◌≡◌, ◌≢◌, ℕ, zero, suc, ◌+◌, ◌-◌, ◌*◌, ◌/◌, ◌%◌, ◌^◌, ◌≤◌, ◌<◌, ◌⊎◌, inl, inr, Bool, true, false, not, ◌&&◌, ◌||◌, ◌==◌, nat_le, nat_lt, if◌then◌else◌, List, [], ◌∷◌, ◌++◌, length, get_or, map, Option, Some, None, refl, sym, ◌∙◌, ap, ap₂, subst, arith}
-use Rattle.std.specs.List.{All, filter, range_with_len, sum_by}
-use Rattle.std.specs.List.Sorted.{IsPermutation}
-use Rattle.std.proofs.lemmas.Bool.{cases_lt, cases_eq, cases_Bool, or_left, or_right, or_cases, and_from, and_parts, and_left, and_right, eq-eqb, ne_eqb, eqb-true, eqb-false, lt-ltb, le-ltb, le-leb, lt-leb, ltb-true, leb-true, ltb-false, true≢false, false_from_ne_true}
+use Rattle.std.proofs.Common.{◌≡◌, ◌≢◌, ℕ, zero, suc, ◌+◌, ◌-◌, ◌*◌, ◌/◌, ◌%◌, ◌^◌, ◌≤◌, ◌<◌, ◌⊎◌, inl, inr, Bool, true, false, ◌&&◌, ◌==◌, nat_le, nat_lt, if◌then◌else◌, List, [], ◌∷◌, ◌++◌, map, Option, Some, refl, sym, ◌∙◌, ap, ap₂, subst, arith}
+use Rattle.std.specs.List.{All, filter, range_with_len}
+use Rattle.std.proofs.lemmas.Bool.{cases_lt, cases_Bool, or_left, and_from, and_parts, eq-eqb, eqb-true, lt-ltb, le-leb, ltb-true, leb-true, true≢false, false_from_ne_true}
 use Rattle.std.proofs.lemmas.Bool.Decides.{nat_tests}
-use Rattle.std.proofs.lemmas.List.Elements.{All-append, All-cons, All-head, All-nil, All-tail, All-weaker}
-use Rattle.std.proofs.lemmas.List.Sorted.{All-permutation}
+use Rattle.std.proofs.lemmas.List.Elements.{All-append, All-cons, All-head, All-nil, All-tail}
 use Rattle.std.proofs.lemmas.List.Sums.{sum_by-append}
 use Rattle.std.proofs.Math.Nat.{mul-le-mul_right, mul-mod_left}
 use Rattle.xfs_geom.specs.Conversions.{group_length, is_fixed}
@@ -14,12 +12,12 @@ use Rattle.xfs_geom.specs.Shape.{HasGroups, HasLog}
 use Rattle.xfs_geom.specs.Volumes.{Volume}
 use Rattle.xfs_geom.specs.declared.records.Run.{Run}
 use Rattle.xfs_kinds.specs.FreeRuns.{is_block}
-use Rattle.xfs_kinds.specs.OffsetWords.{offset_in_fork, is_file_data}
+use Rattle.xfs_kinds.specs.OffsetWords.{is_file_data}
 use Rattle.xfs_kinds.specs.MergedRuns.{AreRuns, held_at, word_at}
-use Rattle.xfs_place.specs.Pool.{header_owner, is_of, log_owner}
+use Rattle.xfs_place.specs.Pool.{is_of}
 use Rattle.xfs_place.specs.Choice.{one_if}
-use Rattle.xfs_place.specs.Claims.{AreApart, AreClaims, IsClaim, runs_on}
-use Rattle.xfs_place.specs.Wanted.{AreAllClaims, AreKept, IsClear, StaysInGroup, begins_in, fixed_runs, header_run, in_group, log_run}
+use Rattle.xfs_place.specs.Claims.{AreApart, IsClaim, runs_on}
+use Rattle.xfs_place.specs.Wanted.{AreKept, IsClear, StaysInGroup, begins_in, fixed_runs, header_run, in_group, log_run}
 use Rattle.xfs_place.proofs.GroupIs.{fixed_none, headers_none}
 use Rattle.xfs_place.proofs.Marking.{log_end}
 use Rattle.xfs_place.proofs.Ordered.{none_held, on_first}

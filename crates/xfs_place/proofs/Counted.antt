@@ -1,18 +1,18 @@
 -- The runs of free blocks and the records of owners, counted: what is left for the free list.
-use Rattle.std.proofs.Common.{◌≡◌, ℕ, ◌+◌, ◌-◌, ◌*◌, ◌≤◌, ◌<◌, inl, inr, Bool, true, false, not, ◌&&◌, ◌||◌, nat_lt, if◌then◌else◌, List, [], ◌∷◌, Some, length, map, refl, sym, ◌∙◌, ap, ap₂, arith}
+use Rattle.std.proofs.Common.{◌≡◌, ℕ, ◌+◌, ◌-◌, ◌≤◌, ◌<◌, inl, inr, Bool, true, false, not, ◌&&◌, nat_lt, List, [], ◌∷◌, Some, length, map, refl, sym, ◌∙◌, ap, arith}
 use Rattle.std.specs.List.{filter, sum}
 use Rattle.std.proofs.lemmas.List.{length-map}
-use Rattle.std.proofs.lemmas.Bool.{cases_lt, or_parts, lt-ltb, le-ltb, true≢false}
+use Rattle.std.proofs.lemmas.Bool.{cases_lt, lt-ltb, le-ltb, true≢false}
 use Rattle.std.proofs.lemmas.Bool.Decides.{nat_tests}
 use Rattle.xfs_geom.specs.declared.records.Span.{Span}
 use Rattle.xfs_geom.specs.declared.records.InoRec.{InoRec}
 use Rattle.xfs_geom.specs.declared.records.RmapRec.{RmapRec}
-use Rattle.xfs_kinds.specs.FreeRuns.{AreSeparate, has, is_block, is_in}
-use Rattle.xfs_place.specs.Choice.{Group, IsChosen, begins_free, begins_owned, free_count, how_many, is_free_at, need, one_if, owned_at, owner_count, size_of, space_blocks, total}
+use Rattle.xfs_kinds.specs.FreeRuns.{AreSeparate, is_block, is_in}
+use Rattle.xfs_place.specs.Choice.{Group, IsChosen, free_count, is_free_at, need, one_if, owned_at, owner_count, size_of, space_blocks, total}
 use Rattle.xfs_place.specs.Placing.{AreFree, AreRecords, has_free, inner_blocks, run_of, tree_sizes}
 use Rattle.xfs_place.proofs.Begun.{stays_to}
 use Rattle.xfs_place.proofs.Ordered.{begun_all}
-use Rattle.xfs_place.proofs.Totals.{total_more, total_none, total_same}
+use Rattle.xfs_place.proofs.Totals.{total_more, total_none}
 
 -- a block where a run of those that pass begins
 abbrev begins : (ℕ → Bool) → ℕ → Bool

@@ -5,7 +5,7 @@ use Rattle.std.proofs.lemmas.List.{get_or_append_left, get_or_push, get_or_read}
 use Rattle.xfs_place.specs.declared.uses.Use.{Use}
 use Rattle.xfs_place.specs.declared.uses.Use.TheVariants.{Claimed}
 use Rattle.xfs_place.specs.Pool.{use_at}
-use Rattle.xfs_place.specs.Choice.{Group, begins_owned, claim_count, AreFound, AreLowest, AreSums, NoneOpen, begins_free, free_count, in_pool, is_for_inodes, is_for_space, is_spare, meets, one_if, rank, total}
+use Rattle.xfs_place.specs.Choice.{Group, begins_owned, claim_count, AreFound, AreSums, NoneOpen, begins_free, free_count, in_pool, is_for_inodes, is_for_space, is_spare, meets, one_if, rank, total}
 use Rattle.xfs_place.proofs.Totals.{rank_up, total_more, total_none, total_same}
 use Rattle.xfs_place.proofs.Ranks.{free_step}
 

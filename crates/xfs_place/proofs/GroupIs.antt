@@ -1,8 +1,8 @@
 -- Each group of a volume keeps what placing asks of it.
-use Rattle.std.proofs.Common.{◌≡◌, ◌≢◌, ℕ, zero, suc, ◌+◌, ◌-◌, ◌*◌, ◌/◌, ◌%◌, ◌^◌, ◌≤◌, ◌<◌, ◌⊎◌, inl, inr, Bool, true, false, not, ◌&&◌, ◌||◌, ◌==◌, nat_le, nat_lt, if◌then◌else◌, List, [], ◌∷◌, ◌++◌, length, get_or, map, Option, Some, None, refl, sym, ◌∙◌, ap, ap₂, subst, arith}
+use Rattle.std.proofs.Common.{◌≡◌, ◌≢◌, ℕ, zero, suc, ◌+◌, ◌-◌, ◌*◌, ◌/◌, ◌%◌, ◌^◌, ◌≤◌, ◌<◌, ◌⊎◌, inl, inr, Bool, true, false, not, ◌&&◌, ◌||◌, ◌==◌, nat_le, nat_lt, if◌then◌else◌, List, [], ◌∷◌, ◌++◌, length, map, Option, Some, None, refl, sym, ◌∙◌, ap, subst, arith}
 use Rattle.std.specs.List.{All, range_with_len}
 use Rattle.std.specs.Option.{unwrap_or}
-use Rattle.std.proofs.lemmas.Bool.{cases_lt, cases_eq, cases_Bool, or_cases, or_left, or_right, or_parts, and_from, and_parts, eq-eqb, ne_eqb, eqb-true, eqb-false, lt-ltb, le-ltb, ltb-true, true≢false}
+use Rattle.std.proofs.lemmas.Bool.{cases_lt, or_left, or_parts, eq-eqb, ne_eqb, eqb-true, eqb-false, lt-ltb, le-ltb, true≢false}
 use Rattle.std.proofs.lemmas.Bool.Decides.{nat_tests}
 use Rattle.std.proofs.lemmas.List.{get_or_past}
 use Rattle.std.proofs.lemmas.List.Elements.{All-head, All-tail}
@@ -13,13 +13,12 @@ use Rattle.xfs_geom.specs.Conversions.{group_length, is_fixed}
 use Rattle.xfs_geom.specs.Volumes.{Volume}
 use Rattle.xfs_geom.specs.declared.records.Run.{Run}
 use Rattle.xfs_kinds.specs.FreeRuns.{is_block}
-use Rattle.xfs_kinds.specs.OffsetWords.{offset_in_fork, flags_of, is_file_data}
+use Rattle.xfs_kinds.specs.OffsetWords.{flags_of, is_file_data}
 use Rattle.xfs_kinds.specs.MergedRuns.{held_at, word_at}
 use Rattle.xfs_place.specs.declared.uses.Use.{Use}
 use Rattle.xfs_place.specs.declared.uses.Use.TheVariants.{Pool, Reserved, Claimed, ForSpace, ForInodes}
-use Rattle.xfs_place.specs.Pool.{claimed_by, header_owner, inode_tree_owner, is_listed, is_of, is_open, log_owner, space_owner, use_at, use_by, use_held, use_of, use_of_run}
-use Rattle.xfs_place.specs.Choice.{Group, IsGroup, goes_on, group, in_pool, is_for_inodes, is_for_space, is_spare, joined}
-use Rattle.xfs_place.specs.Claims.{IsClaim}
+use Rattle.xfs_place.specs.Pool.{header_owner, inode_tree_owner, is_listed, is_of, is_open, log_owner, space_owner, use_at, use_held, use_of, use_of_run}
+use Rattle.xfs_place.specs.Choice.{IsGroup, goes_on, is_for_inodes, is_for_space, is_spare, joined}
 use Rattle.xfs_place.specs.Wanted.{AreKept, IsClear, claim_in, fixed_runs, group_in, header_run, log_run, uses_in}
 use Rattle.xfs_place.proofs.TreeRuns.{held_front, held_stays}
 

@@ -1,5 +1,5 @@
 -- What is kept, as one run after another is put behind it.
-use Rattle.std.proofs.Common.{length-append, ◌≡◌, ℕ, zero, suc, ◌+◌, ◌-◌, ◌*◌, ◌/◌, ◌%◌, ◌≤◌, ◌<◌, ◌==◌, inl, inr, Bool, true, false, not, ◌&&◌, ◌||◌, nat_le, nat_lt, if◌then◌else◌, List, [], ◌∷◌, ◌++◌, length, take, drop, get_or, Option, Some, None, Result, Ok, Err, refl, sym, ◌∙◌, ap, ap₂, subst, arith}
+use Rattle.std.proofs.Common.{length-append, ◌≡◌, ℕ, zero, suc, ◌+◌, ◌-◌, ◌*◌, ◌/◌, ◌%◌, ◌≤◌, ◌<◌, ◌==◌, inl, inr, Bool, true, false, not, ◌&&◌, ◌||◌, nat_le, nat_lt, if◌then◌else◌, List, [], ◌∷◌, ◌++◌, length, take, drop, get_or, Option, Some, None, Ok, Err, refl, sym, ◌∙◌, ap, ap₂, subst, arith}
 use Rattle.std.specs.List.{list_all, list_any, range_with_len}
 use Rattle.std.proofs.Math.Nat.{div-add-mod', div-lt_iff_lt-mul, mod-lt, mul-le-mul_right}
 use Rattle.std.proofs.lemmas.Bool.{and_parts, cases_eq, cases_lt, cases_Bool, eqb-false, eqb-true, le-ltb, false_from_ne_true, le-leb, leb-true, lt-ltb, ltb-true, true≢false}
@@ -10,14 +10,13 @@ use Rattle.xfs_geom.specs.Conversions.{group_length, is_fixed}
 use Rattle.xfs_geom.specs.Shape.{HasGroups}
 use Rattle.xfs_geom.specs.Volumes.{Volume}
 use Rattle.xfs_geom.specs.declared.records.Run.{Run}
-use Rattle.xfs_place.specs.declared.faults.Place.{Place}
 use Rattle.xfs_place.specs.declared.object_placing.AskFor.{AskFor}
 use Rattle.xfs_place.specs.declared.uses.Use.{Use}
 use Rattle.xfs_place.specs.declared.uses.Use.TheVariants.{Claimed}
 use Rattle.xfs_place.specs.declared.wanted.RunAsk.{RunAsk}
 use Rattle.xfs_place.specs.Pool.{Marks, Shows, is_among, is_listed, is_of, is_open, is_pool, is_taken, use_at, use_of}
 use Rattle.xfs_place.specs.Choice.{IsLeast, IsNone, NoneOpen, in_pool, one_if}
-use Rattle.xfs_place.specs.Claims.{AreApart, IsClaim, runs_on}
+use Rattle.xfs_place.specs.Claims.{IsClaim, runs_on}
 use Rattle.xfs_place.specs.Objects.{AllOpen, HasRun, IsAsk, Opens, can_hold, first_of, keep_with, lowest_run, most_blocks, run_at, with_start}
 use Rattle.xfs_place.specs.Wanted.{AreKept, IsClear}
 use Rattle.xfs_place.proofs.Found.{one_small}

@@ -1,6 +1,6 @@
 -- One run alone, which is kept.
-use Rattle.std.proofs.Common.{◌≡◌, ℕ, Bool, true, false, ◌+◌, ◌-◌, ◌*◌, ◌/◌, ◌%◌, ◌≤◌, ◌<◌, ◌⊎◌, ◌==◌, ◌&&◌, nat_le, nat_lt, inl, inr, List, [], ◌∷◌, refl, sym, ◌∙◌, ap, arith}
-use Rattle.std.proofs.lemmas.Bool.{or_cases, and_parts, eqb-true, leb-true, ltb-true, cases_Bool, false_from_ne_true}
+use Rattle.std.proofs.Common.{◌≡◌, ℕ, ◌+◌, ◌-◌, ◌*◌, ◌/◌, ◌%◌, ◌≤◌, ◌<◌, ◌⊎◌, ◌==◌, ◌&&◌, nat_le, nat_lt, inl, inr, [], ◌∷◌, refl, ◌∙◌, ap, arith}
+use Rattle.std.proofs.lemmas.Bool.{or_cases, and_parts, eqb-true, leb-true, ltb-true, false_from_ne_true}
 use Rattle.std.proofs.Math.Nat.{div-add-mod'}
 use Rattle.std.proofs.lemmas.Nat.{mod-mul-add}
 use Rattle.std.proofs.lemmas.List.Elements.{All-cons, All-nil}
@@ -8,8 +8,7 @@ use Rattle.xfs_geom.specs.Conversions.{is_fixed}
 use Rattle.xfs_geom.specs.Volumes.{Volume}
 use Rattle.xfs_geom.specs.declared.records.Run.{Run}
 use Rattle.xfs_place.specs.Pool.{is_of}
-use Rattle.xfs_place.specs.Choice.{one_if}
-use Rattle.xfs_place.specs.Claims.{AreApart, IsClaim, runs_on}
+use Rattle.xfs_place.specs.Claims.{IsClaim, runs_on}
 use Rattle.xfs_place.specs.Wanted.{AreKept, IsClear}
 use Rattle.xfs_place.proofs.Found.{one_small}
 use Rattle.xfs_place.proofs.Ordered.{on_first}

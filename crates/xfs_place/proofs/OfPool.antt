@@ -1,8 +1,8 @@
 -- Trees and free lists stand on different blocks of the pool.
-use Rattle.std.proofs.Common.{◌≡◌, ℕ, ◌+◌, ◌-◌, ◌*◌, ◌≤◌, ◌<◌, inl, inr, true, Some, List, [], ◌∷◌, ◌++◌, length, get_or, map, take, drop, refl, sym, ◌∙◌, ap, ap₂, subst, arith, append_assoc, length-drop, length-take, get_or-drop}
-use Rattle.std.specs.List.{All, AllPairs, flat_map, range_with_len, sum}
+use Rattle.std.proofs.Common.{◌≡◌, ℕ, ◌+◌, ◌*◌, ◌≤◌, ◌<◌, inl, inr, true, List, [], ◌∷◌, ◌++◌, length, get_or, map, take, drop, refl, sym, ◌∙◌, ap, ap₂, subst, arith, append_assoc, length-drop, length-take}
+use Rattle.std.specs.List.{All, AllPairs, flat_map, sum}
 use Rattle.std.proofs.lemmas.Bool.{cases_lt}
-use Rattle.std.proofs.lemmas.List.{drop-drop, get_or-map, get_or_default, length-map, map-append, take-append-drop}
+use Rattle.std.proofs.lemmas.List.{drop-drop, get_or-map, length-map, map-append, take-append-drop}
 use Rattle.std.proofs.lemmas.List.Elements.{All-from_get_or, All-map}
 use Rattle.std.proofs.lemmas.List.Sums.{sum_by-cons}
 use Rattle.xfs_geom.specs.Conversions.{group_length}
@@ -15,7 +15,7 @@ use Rattle.xfs_place.specs.declared.uses.Use.{Use}
 use Rattle.xfs_place.specs.declared.wanted.GroupInodes.{GroupInodes}
 use Rattle.xfs_place.specs.Choice.{AreLowest, in_pool, one_if}
 use Rattle.xfs_place.specs.Placing.{IsPlaced, cut, inner_blocks, tree_at, tree_sizes}
-use Rattle.xfs_place.specs.Pool.{is_open, is_pool, use_at, use_of}
+use Rattle.xfs_place.specs.Pool.{is_open, is_pool}
 use Rattle.xfs_place.specs.Standing.{AreOfPool, IsOfPool, blocks_of}
 use Rattle.xfs_place.specs.Wanted.{ArePlaced, group_in, inodes_of, uses_in}
 use Rattle.xfs_place.proofs.Counted.{sizes_all}

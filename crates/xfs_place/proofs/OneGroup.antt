@@ -1,6 +1,6 @@
 -- One group of a volume as placing has it.
-use Rattle.std.proofs.Common.{◌≡◌, ℕ, ◌+◌, ◌-◌, ◌*◌, ◌≤◌, ◌<◌, inl, inr, Bool, true, false, nat_lt, if◌then◌else◌, List, [], ◌∷◌, ◌++◌, length, get_or, take, drop, map, Option, Some, None, refl, sym, ◌∙◌, ap, ap₂, subst, arith, length-drop, length-take, get_or-take, get_or-drop}
-use Rattle.std.specs.List.{All, filter, range_with_len}
+use Rattle.std.proofs.Common.{◌≡◌, ℕ, ◌+◌, ◌-◌, ◌*◌, ◌≤◌, ◌<◌, inl, inr, Bool, false, if◌then◌else◌, List, [], ◌∷◌, ◌++◌, length, take, drop, map, Option, None, refl, sym, ◌∙◌, ap, ap₂, subst, arith, length-drop, length-take, get_or-take, get_or-drop}
+use Rattle.std.specs.List.{filter}
 use Rattle.std.proofs.lemmas.Bool.{cases_lt, lt-ltb, le-ltb}
 use Rattle.std.proofs.lemmas.List.FromFn.{fill_by_all}
 use Rattle.std.proofs.lemmas.Bool.Decides.{nat_tests}
@@ -9,7 +9,7 @@ use Rattle.xfs_geom.specs.Shape.{HasGroups}
 use Rattle.xfs_geom.specs.Volumes.{Volume}
 use Rattle.xfs_geom.specs.declared.records.Run.{Run}
 use Rattle.xfs_kinds.specs.FreeRuns.{is_block}
-use Rattle.xfs_kinds.specs.MergedRuns.{AreRuns, held_at, word_at}
+use Rattle.xfs_kinds.specs.MergedRuns.{AreRuns, held_at}
 use Rattle.xfs_place.specs.declared.uses.Use.{Use}
 use Rattle.xfs_place.specs.declared.uses.Use.TheVariants.{Claimed}
 use Rattle.xfs_place.specs.Pool.{Shows, use_of}
@@ -19,7 +19,7 @@ use Rattle.xfs_place.specs.declared.placed.GroupPlaced.{GroupPlaced}
 use Rattle.xfs_geom.specs.declared.records.InoRec.{InoRec}
 use Rattle.std.specs.Option.{MatchOption}
 use Rattle.xfs_place.proofs.GroupIs.{length_uses}
-use Rattle.xfs_place.specs.Claims.{AreClaims, IsClaim}
+use Rattle.xfs_place.specs.Claims.{AreClaims}
 use Rattle.xfs_place.specs.Wanted.{AreAllClaims, begins_in, claim_in, fixed_runs, group_in, in_group, uses_in}
 use Rattle.xfs_place.proofs.AllClaims.{part_ascends, part_each, part_held}
 use Rattle.xfs_place.proofs.Begun.{AreSome}

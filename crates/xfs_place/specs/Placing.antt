@@ -1,6 +1,6 @@
 -- What stands in a group once its trees and its free list are placed (chapters "AG Free Space Management" and "Reverse-Mapping B+tree").
-use Rattle.std.specs.Prelude.{◌≡◌, ℕ, Bool, true, false, not, ◌+◌, ◌-◌, ◌*◌, ◌≤◌, ◌<◌, ◌&&◌, ◌||◌, ◌==◌, nat_le, nat_lt, if◌then◌else◌, List, [], ◌∷◌, ◌++◌, length, map, take, drop, slice_index, Option, Some, None}
-use Rattle.std.specs.List.{All, AllAdjacentBelow, filter, flat_map, range_with_len, sum}
+use Rattle.std.specs.Prelude.{◌≡◌, ℕ, Bool, true, false, ◌+◌, ◌≤◌, ◌<◌, nat_lt, List, [], ◌∷◌, length, map, take, drop, slice_index, Some}
+use Rattle.std.specs.List.{AllAdjacentBelow, filter, range_with_len, sum}
 use Rattle.std.specs.List.Sorted.{IsPermutation}
 use Rattle.xfs_geom.specs.declared.records.InoRec.{InoRec}
 use Rattle.xfs_geom.specs.declared.records.RmapRec.{RmapRec}

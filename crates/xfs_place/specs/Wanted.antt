@@ -8,7 +8,6 @@ use Rattle.xfs_kinds.specs.MergedRuns.{held_at}
 use Rattle.xfs_geom.specs.declared.records.InoRec.{InoRec}
 use Rattle.xfs_place.specs.declared.placed.GroupPlaced.{GroupPlaced}
 use Rattle.xfs_place.specs.declared.faults.Place.{Place}
-use Rattle.xfs_place.specs.declared.faults.Place.TheVariants as Place
 use Rattle.xfs_place.specs.declared.wanted.GroupInodes.{GroupInodes}
 use Rattle.xfs_place.specs.declared.wanted.Wanted.{Wanted}
 use Rattle.xfs_place.specs.Objects.{asks_of, keep_with}

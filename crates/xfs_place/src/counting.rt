@@ -67,9 +67,8 @@ fn spare_blocks(trees: &[TreeBlocks]) -> u128
     ensures value { result ≡ spare_blocks trees.now }
     ensures less { result < 2 ^ 66 }
 {
-    (blocks_of_tree(trees, 0) + blocks_of_tree(trees, 1) + blocks_of_tree(trees, 4)).saturating_sub(
-        3,
-    )
+    let all = blocks_of_tree(trees, 0) + blocks_of_tree(trees, 1) + blocks_of_tree(trees, 4);
+    all.saturating_sub(3)
 }
 
 /// The blocks of one of the trees, by its place among them.

@@ -1,11 +1,11 @@
-use Rattle.std.proofs.Common.{◌≡◌, ℕ, ◌++◌, List, sym, ◌∙◌, ap, subst, arith}
+use Rattle.std.proofs.Common.{◌++◌, List, sym, ◌∙◌, ap, subst, arith}
 use Rattle.std.specs.List.{All}
 use Rattle.std.proofs.lemmas.List.Sorted.{All-permutation}
 use Rattle.xfs_geom.specs.Volumes.{volume_of}
 use Rattle.xfs_geom.specs.declared.records.Run.{Run}
 use Rattle.xfs_kinds.specs.MergedRuns.{held_at}
 use Rattle.xfs_place.specs.Claims.{AreApart, IsClaim}
-use Rattle.xfs_place.specs.Wanted.{AreAllClaims, StaysInGroup, fixed_runs}
+use Rattle.xfs_place.specs.Wanted.{StaysInGroup}
 use Rattle.xfs_place.proofs.AllClaims.{IsVolume, all_apart, all_each, all_stay, is_volume}
 use Rattle.xfs_place.proofs.claims.list_claims.Goals as goal
 

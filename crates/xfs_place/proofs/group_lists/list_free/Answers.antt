@@ -1,8 +1,7 @@
-use Rattle.std.proofs.Common.{◌≡◌, ℕ, Bool, ◌&&◌, not, nat_lt, List, map, sym, ◌∙◌, ap, subst, arith}
+use Rattle.std.proofs.Common.{Bool, ◌&&◌, not, nat_lt, List, sym, ◌∙◌, ap, subst, arith}
 use Rattle.xfs_geom.specs.declared.records.Span.{Span}
 use Rattle.xfs_kinds.specs.FreeRuns.{Ascend, is_in}
 use Rattle.xfs_kinds.specs.MergedRuns.{held_at}
-use Rattle.xfs_place.specs.Claims.{span_of}
 use Rattle.xfs_place.proofs.Spanned.{free_if, free_only, in_spans, separate_few, spans_ascend}
 use Rattle.xfs_place.proofs.group_lists.list_free.Goals as goal
 

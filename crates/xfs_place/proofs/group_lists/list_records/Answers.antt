@@ -1,4 +1,4 @@
-use Rattle.std.proofs.Common.{◌≡◌, ℕ, List, map, sym, ◌∙◌, ap, subst, arith}
+use Rattle.std.proofs.Common.{List, map, sym, ◌∙◌, ap, subst, arith}
 use Rattle.std.proofs.lemmas.List.{length-map}
 use Rattle.xfs_geom.specs.declared.records.Run.{Run}
 use Rattle.xfs_kinds.specs.MergedRuns.{NoneJoin, held_at}

@@ -1,14 +1,10 @@
-use Rattle.std.proofs.Common.{◌≡◌, ◌+◌, ◌≤◌, ◌<◌, ℕ, List, length, map, drop, sym, ◌∙◌, ap, ap₂, subst, arith}
-use Rattle.std.specs.List.{filter, sum}
+use Rattle.std.proofs.Common.{◌≡◌, ◌≤◌, ℕ, List, length, map, drop, sym, ◌∙◌, ap, ap₂, subst, arith}
 use Rattle.std.proofs.lemmas.List.Sums.{count_by-le-length, length-filter}
-use Rattle.xfs_geom.specs.declared.records.InoRec.{InoRec}
-use Rattle.xfs_geom.specs.declared.records.RmapRec.{RmapRec}
 use Rattle.xfs_geom.specs.declared.records.Run.{Run}
 use Rattle.xfs_geom.specs.declared.records.Span.{Span}
-use Rattle.xfs_kinds.specs.MergedRuns.{NoneJoin, held_at}
+use Rattle.xfs_kinds.specs.MergedRuns.{held_at}
 use Rattle.xfs_place.specs.Choice.{AreLowest, Group, IsGroup, group_of, space_blocks}
-use Rattle.xfs_place.specs.Claims.{AreClaims}
-use Rattle.xfs_place.specs.Placing.{AreByLength, AreFree, AreOwned, AreRecords, cut, has_free, inner_blocks, run_of, tree_at, tree_sizes}
+use Rattle.xfs_place.specs.Placing.{AreByLength, AreOwned, cut, has_free, inner_blocks, tree_at}
 use Rattle.xfs_place.proofs.Filled.{is_placed}
 use Rattle.xfs_place.proofs.group_placing.fill_group.Goals as goal
 

@@ -1,4 +1,4 @@
-use Rattle.std.proofs.Common.{◌%◌, ◌<◌, nat_lt, arith}
+use Rattle.std.proofs.Common.{◌%◌, nat_lt}
 use Rattle.std.proofs.lemmas.Bool.{le-ltb, lt-ltb}
 use Rattle.xfs_place.specs.declared.uses.Use.TheVariants.{Claimed}
 use Rattle.xfs_place.proofs.Marking.{marks_passed, marks_put}

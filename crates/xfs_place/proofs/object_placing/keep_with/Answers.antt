@@ -1,4 +1,4 @@
-use Rattle.std.proofs.Common.{◌≡◌, ◌%◌, nat_lt, inr, ℕ, ◌++◌, ◌∷◌, [], List, Ok, length, get_or, take, drop, refl, sym, ◌∙◌, ap, subst, arith}
+use Rattle.std.proofs.Common.{◌%◌, nat_lt, inr, ◌++◌, ◌∷◌, [], List, get_or, drop, refl, sym, ◌∙◌, ap, subst, arith}
 use Rattle.std.proofs.lemmas.List.Elements.{All-get_or}
 use Rattle.std.proofs.lemmas.List.{drop_all}
 use Rattle.xfs_geom.specs.Volumes.{volume_of}
@@ -8,7 +8,7 @@ use Rattle.xfs_place.specs.declared.object_placing.AskFor.{AskFor}
 use Rattle.xfs_place.specs.declared.uses.Use.{Use}
 use Rattle.xfs_place.specs.declared.uses.Use.TheVariants.{Claimed}
 use Rattle.xfs_place.specs.Choice.{IsLeast, IsNone, NoneOpen}
-use Rattle.xfs_place.specs.Objects.{HasRun, IsAsk, keep_with, run_at}
+use Rattle.xfs_place.specs.Objects.{HasRun, IsAsk}
 use Rattle.xfs_place.specs.Pool.{Marks, Shows, is_among, use_of}
 use Rattle.xfs_place.proofs.HeldRuns.{keep_all, keep_none, keeping_first, keeping_next, lowest_none, written}
 use Rattle.xfs_place.proofs.object_placing.keep_with.Goals as goal
