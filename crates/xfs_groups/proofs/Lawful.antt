@@ -1,5 +1,5 @@
 -- The records of a tree that reads are lawful, and those of a tree of owners are apart.
-use Rattle.std.proofs.Common.{◌≡◌, ℕ, zero, suc, ◌+◌, ◌-◌, ◌≤◌, ◌&&◌, ◌||◌, ◌==◌, nat_le, not, Bool, true, false, List, [], ◌∷◌, ◌++◌, add-one, Option, Some, None, Result, Ok, Err, refl, sym, ap, ◌∙◌, subst, arith}
+use Rattle.std.proofs.Common.{◌≡◌, ℕ, suc, ◌+◌, ◌-◌, ◌&&◌, ◌||◌, ◌==◌, nat_le, not, Bool, true, false, List, [], ◌∷◌, ◌++◌, add-one, Option, Some, None, Result, Ok, Err, refl, sym, ap, ◌∙◌, subst, arith}
 use Rattle.std.specs.List.{flat_map}
 use Rattle.std.specs.Option.{option_and_then}
 use Rattle.std.proofs.lemmas.Bool.{and_from, and_parts, leb-true}
@@ -14,7 +14,7 @@ use Rattle.xfs_kinds.specs.OwnerTrees.{follows_end, is_owned_run, rmap_shape}
 use Rattle.xfs_tree.specs.declared.seats.Seat.{Seat}
 use Rattle.xfs_tree.specs.declared.unread.Unread.{Unread}
 use Rattle.xfs_tree.specs.Blocks.{capacity, count_of, left_of, level_of, records_of, right_of}
-use Rattle.xfs_tree.specs.Reading.{Contents, at_block, behind, bytes_at, fault_above, first_of, met_above, next_of, reading, records_under, root_seat, row_fault, row_of, rule_at, unless}
+use Rattle.xfs_tree.specs.Reading.{Contents, at_block, bytes_at, fault_above, first_of, met_above, next_of, reading, records_under, row_fault, row_of, rule_at, unless}
 use Rattle.xfs_tree.specs.Rules.{agrees, are_lawful, block_fault, block_seal, high_of, is_ordered, is_sibling, last_of, least_of, low_of, place_fault}
 use Rattle.xfs_tree.specs.Shape.{Shape}
 use Rattle.xfs_tree.proofs.Depths.{records_from}

@@ -1,6 +1,5 @@
 -- One place more of a group.
-use Rattle.std.proofs.Common.{◌≡◌, ℕ, zero, suc, Bool, true, false, ◌+◌, ◌*◌, ◌≤◌, ◌<◌, inl, inr, ◌&&◌, ◌||◌, ◌==◌, if◌then◌else◌, List, [], ◌∷◌, ◌++◌, append-nil, refl, sym, ap, ◌∙◌, subst, arith, IsTrue}
-use Rattle.std.specs.List.{All, list_any}
+use Rattle.std.proofs.Common.{◌≡◌, ℕ, suc, Bool, true, false, ◌+◌, ◌≤◌, inl, inr, ◌&&◌, ◌==◌, if◌then◌else◌, List, [], ◌∷◌, ◌++◌, append-nil, refl, sym, ap, ◌∙◌, subst, arith, IsTrue}
 use Rattle.std.proofs.lemmas.Bool.{cases_lt, eq-eqb, or_left, or_right}
 use Rattle.std.proofs.lemmas.List.Elements.{All-push}
 use Rattle.std.proofs.lemmas.List.Folds.{list_any-append}
@@ -11,7 +10,6 @@ use Rattle.xfs_image.specs.Clusters.{root_cluster}
 use Rattle.xfs_image.specs.Groups.{head_block}
 use Rattle.xfs_groups.specs.Answers.{EndBelow, has_root}
 use Rattle.xfs_groups.specs.Chosen.{ArePlaced, chosen_rec, is_chosen_as, place_at}
-use Rattle.xfs_groups.specs.Sets.{has}
 
 -- clusters that end before others begin ascend with them
 pub ascend_then : (low m : ℕ) (cs ys : List ClusterRec) → low ≤ m → Ascend low cs → EndBelow m cs → Ascend m ys → Ascend low (cs ++ ys)

@@ -1,6 +1,6 @@
 -- What the trees of a group say, and what is looked at, make up the group, its clusters and its reserved blocks.
-use Rattle.std.proofs.Common.{◌≡◌, ℕ, zero, suc, Bool, true, false, not, cond, ◌+◌, ◌-◌, ◌*◌, ◌/◌, ◌≤◌, ◌<◌, ◌&&◌, ◌||◌, ◌==◌, List, [], ◌∷◌, map, Option, Some, None, Result, Ok, Err, refl, sym, ap, ap₂, ◌∙◌, subst, arith}
-use Rattle.std.specs.List.{filter, flat_map, list_all, list_any, range_with_len}
+use Rattle.std.proofs.Common.{◌≡◌, ℕ, zero, suc, Bool, true, false, not, cond, ◌+◌, ◌-◌, ◌*◌, ◌/◌, ◌≤◌, ◌<◌, ◌&&◌, ◌||◌, ◌==◌, List, [], ◌∷◌, map, Option, Some, None, Result, refl, sym, ap, ap₂, ◌∙◌, arith}
+use Rattle.std.specs.List.{filter, flat_map, list_any, range_with_len}
 use Rattle.std.specs.Option.{option_and_then}
 use Rattle.std.proofs.lemmas.List.Folds.{list_any-append}
 use Rattle.xfs_disk.specs.Blocks.{Image}
@@ -10,12 +10,11 @@ use Rattle.xfs_geom.specs.declared.records.InoRec.{InoRec}
 use Rattle.xfs_geom.specs.declared.records.RmapRec.{RmapRec}
 use Rattle.xfs_tree.specs.Reading.{Contents, bytes_at}
 use Rattle.xfs_volume.specs.declared.clusters.ClusterRec.{ClusterRec}
-use Rattle.xfs_volume.specs.declared.groups.GroupRec.{GroupRec}
 use Rattle.xfs_word.specs.Seal.{is_sealed}
 use Rattle.xfs_word.specs.declared.kinds.SealKind.TheVariants as Kind
 use Rattle.xfs_image.specs.Candidates.{cluster_rec, is_candidate, is_scanned, is_used_slot, lies_in_chunk, whole_seal}
 use Rattle.xfs_image.specs.Clusters.{both_name, is_recorded, is_trusted, named_by_chunks, named_by_owners, names, places_in, root_cluster}
-use Rattle.xfs_image.specs.Groups.{agf_at, agfl_at, agi_at, bno_at, cnt_at, fino_at, group_of, group_read, head_block, ino_at, rmap_at, with_part}
+use Rattle.xfs_image.specs.Groups.{agf_at, agfl_at, agi_at, bno_at, cnt_at, fino_at, group_read, head_block, ino_at, rmap_at, with_part}
 use Rattle.xfs_image.specs.Reserved.{is_held_by_bytes, is_held_by_trees, is_of_named, is_of_tree, is_reserved, reserved_in}
 use Rattle.xfs_image.specs.Slots.{cluster_blocks, cluster_inodes, inodes_in}
 use Rattle.xfs_image.specs.declared.findings.Finding.{Finding}

@@ -1,8 +1,8 @@
 -- The clusters of a group whose slots are read, and its reserved blocks, by what its trees name and whether it is trusted.
-use Rattle.std.specs.Prelude.{◌≡◌, ◌<◌, IsTrue, ℕ, Bool, not, ◌+◌, ◌*◌, ◌/◌, ◌==◌, ◌&&◌, ◌||◌, List, map}
+use Rattle.std.specs.Prelude.{◌≡◌, ◌<◌, IsTrue, ℕ, Bool, not, ◌+◌, ◌*◌, ◌==◌, ◌&&◌, ◌||◌, List, map}
 use Rattle.std.specs.List.{filter, list_all, list_any, range_with_len}
 use Rattle.xfs_disk.specs.Blocks.{Image}
-use Rattle.xfs_geom.specs.Conversions.{group_length, is_fixed}
+use Rattle.xfs_geom.specs.Conversions.{is_fixed}
 use Rattle.xfs_geom.specs.Volumes.{Volume}
 use Rattle.xfs_volume.specs.declared.clusters.ClusterRec.{ClusterRec}
 use Rattle.xfs_image.specs.Candidates.{Ascend, cluster_rec, is_candidate, is_whole_block, lies_in_chunk}

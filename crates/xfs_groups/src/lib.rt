@@ -13,6 +13,8 @@ mod recorded;
 mod scanned;
 mod sets;
 mod sweep;
+#[cfg(test)]
+mod tests;
 mod trees;
 
 pub use faults::GroupsFault;

@@ -1,7 +1,6 @@
-use Rattle.std.proofs.Common.{◌≡◌, ℕ, ◌+◌, ◌*◌, ◌/◌, ◌≤◌, ◌<◌, List, [], ◌∷◌, ◌++◌, IsTrue, map, inl, inr, sym, ap, subst, ◌∙◌, arith}
+use Rattle.std.proofs.Common.{◌≡◌, ℕ, ◌+◌, ◌<◌, List, ◌++◌, IsTrue, map, sym, ap, subst, ◌∙◌, arith}
 use Rattle.std.proofs.lemmas.List.{map-append}
 use Rattle.std.specs.List.{range_with_len}
-use Rattle.xfs_geom.specs.Conversions.{group_length}
 use Rattle.xfs_geom.specs.Volumes.{volume_of}
 use Rattle.xfs_tree.proofs.Causes.{reads_on}
 use Rattle.xfs_volume.specs.declared.clusters.ClusterRec.{ClusterRec}
@@ -9,7 +8,7 @@ use Rattle.xfs_image.specs.Candidates.{Ascend}
 use Rattle.xfs_image.specs.Groups.{groups_from, groups_read}
 use Rattle.xfs_image.specs.Reserved.{reserved_in}
 use Rattle.xfs_groups.specs.Answers.{EndBelow, has_root, lists_of}
-use Rattle.xfs_groups.specs.Chosen.{candidates_in, place_at}
+use Rattle.xfs_groups.specs.Chosen.{candidates_in}
 use Rattle.xfs_groups.specs.declared.groups.GroupTrees.{GroupTrees}
 use Rattle.xfs_groups.proofs.Grouped.{all_candidates, groups_more, lists_more, placed_on, values_more, GroupsPlaced}
 use Rattle.xfs_groups.proofs.Lengths.{root_place}

@@ -1,7 +1,6 @@
 use Rattle.std.proofs.Common.{◌≡◌, ℕ, ◌+◌, Bool, ◌&&◌, ◌||◌, not, false, List, ◌++◌, append-nil, sym, ap, ap₂, refl, ◌∙◌, arith}
 use Rattle.xfs_geom.specs.Conversions.{is_fixed}
 use Rattle.xfs_geom.specs.Volumes.{volume_of}
-use Rattle.xfs_image.specs.Candidates.{is_whole_block}
 use Rattle.xfs_tree.proofs.Causes.{reads_none, reads_on}
 use Rattle.xfs_groups.specs.Chosen.{are_clear, are_used, is_clear}
 use Rattle.xfs_groups.specs.Looking.{has_used}

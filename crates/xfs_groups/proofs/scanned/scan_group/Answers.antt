@@ -1,8 +1,6 @@
 use Rattle.std.proofs.Common.{◌≡◌, ℕ, ◌+◌, ◌*◌, ◌/◌, ◌%◌, false, ap, ap₂, refl, sym, ◌∙◌, subst, arith}
 use Rattle.xfs_geom.specs.Conversions.{group_length}
 use Rattle.xfs_geom.specs.Volumes.{volume_of}
-use Rattle.xfs_image.specs.Clusters.{root_cluster}
-use Rattle.xfs_image.specs.Groups.{head_block}
 use Rattle.xfs_tree.proofs.Causes.{reads_none, reads_on}
 use Rattle.xfs_groups.specs.Chosen.{ArePlaced, chosen, is_chosen_as, place_at, withheld}
 use Rattle.xfs_groups.proofs.Choosing.{chosen_more, none_chosen, none_withheld, placed_step, withheld_then}

@@ -1,8 +1,8 @@
-use Rattle.std.proofs.Common.{◌≡◌, ℕ, ◌+◌, Bool, true, false, drop, sym, ◌∙◌, arith}
+use Rattle.std.proofs.Common.{◌≡◌, ◌+◌, true, false, drop, sym, ◌∙◌, arith}
 use Rattle.std.proofs.lemmas.Bool.{and_from}
 use Rattle.std.specs.List.{list_all, range_with_len}
 use Rattle.xfs_image.specs.Clusters.{is_given}
-use Rattle.xfs_groups.specs.Named.{AreApart, GiveAlike}
+use Rattle.xfs_groups.specs.Named.{GiveAlike}
 use Rattle.xfs_groups.proofs.Rows.{all_more, all_unless}
 use Rattle.xfs_groups.proofs.Sweeps.{alike_later, alike_on, apart_dropped}
 use Rattle.xfs_groups.proofs.sweep.are_given.Goals as goal

@@ -1,4 +1,4 @@
-use Rattle.std.proofs.Common.{ℕ, ◌-◌, ◌≤◌, length, drop}
+use Rattle.std.proofs.Common.{◌-◌, ◌≤◌, length, drop}
 use Rattle.xfs_groups.specs.Named.{GiveAlike}
 use Rattle.xfs_groups.proofs.sweep.first_behind.Given as goal
 

@@ -1,8 +1,7 @@
 use Rattle.std.proofs.Common.{◌≡◌, ℕ, ◌+◌, ◌*◌, ◌^◌, ◌<◌, ◌++◌, ◌∷◌, [], List, if◌then◌else◌, drop, sym, ap, subst, ◌∙◌, arith}
 use Rattle.std.specs.List.{All, list_all, range_with_len}
-use Rattle.xfs_geom.specs.declared.records.RmapRec.{RmapRec}
 use Rattle.xfs_image.specs.Clusters.{is_given}
-use Rattle.xfs_groups.specs.Named.{AreApart, GiveAlike}
+use Rattle.xfs_groups.specs.Named.{GiveAlike}
 use Rattle.xfs_groups.proofs.Rows.{all_alike, each_more, kept_more}
 use Rattle.xfs_groups.proofs.Sweeps.{alike_later, alike_on}
 use Rattle.xfs_groups.proofs.sweep.given_clusters.Goals as goal

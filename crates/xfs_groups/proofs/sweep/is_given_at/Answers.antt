@@ -1,5 +1,4 @@
-use Rattle.std.proofs.Common.{◌∙◌, sym, ap, arith}
-use Rattle.xfs_groups.specs.Named.{begins_by}
+use Rattle.std.proofs.Common.{◌∙◌, sym, arith}
 use Rattle.xfs_groups.proofs.Sweeps.{given_at, none_at}
 use Rattle.xfs_groups.proofs.sweep.is_given_at.Goals as goal
 
