@@ -23,3 +23,4 @@ pub mod OpenRuns
 pub mod HeldRuns
 pub mod AllPlaced
 pub mod OfPool
+pub mod Parted

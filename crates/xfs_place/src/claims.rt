@@ -2,7 +2,7 @@
 
 ghost use Rattle.std.specs.Prelude.{◌≡◌, ◌<◌, ◌++◌, ◌^◌, ℕ, List, length, map, All, IfOk};
 ghost use Rattle.std.specs.List.{filter};
-ghost use Rattle.std.specs.List.Sorted.{IsPermutation};
+ghost use Rattle.std.specs.List.Sorted.{IsNonDecreasingBy, IsPermutation};
 ghost use Rattle.xfs_geom.specs.Volumes.{volume_of};
 ghost use Rattle.xfs_kinds.specs.MergedRuns.{held_at};
 ghost use Rattle.xfs_place.specs.Choice.{claim_count, group_of};
@@ -68,24 +68,31 @@ fn list_fixed(alloc: Global, g: &Geometry) -> Result<Vec<Run>, NoMemory>
     Ok(runs)
 }
 
-/// The claims that begin in the group of `blocks` blocks from block `base` on, by their AG blocks.
+/// The claims that begin in the group of `blocks` blocks from block `base` on, by their AG blocks, of claims in order.
 pub fn list_group(
     alloc: Global,
     claims: &[Run],
     base: u64,
     blocks: u64,
 ) -> Result<Vec<Run>, NoMemory>
-    requires { (base < 2 ^ 60) × (blocks < 2 ^ 60) }
+    requires bounds { (base < 2 ^ 60) × (blocks < 2 ^ 60) }
+    requires order { IsNonDecreasingBy (λ r. r.start) claims.now }
     ensures { IfOk result (λ group. group.items ≡ map (in_group base) (filter (begins_in base blocks) claims.now)) }
 {
-    Ok(
-        claims
-            .iter()
-            .copied()
-            .filter(|run| base <= run.start && run.start < base + blocks)
-            .map(|run| in_group(run, base))
-            .collect(alloc)?,
-    )
+    let part = claims_in(claims, base, blocks);
+    Ok(part.iter().map(|run| in_group(*run, base)).collect(alloc)?)
+}
+
+/// The claims that begin in the `blocks` blocks from block `base` on.
+fn claims_in(claims: &[Run], base: u64, blocks: u64) -> &[Run]
+    requires bounds { (base < 2 ^ 60) × (blocks < 2 ^ 60) }
+    requires order { IsNonDecreasingBy (λ r. r.start) claims.now }
+    ensures { result.now ≡ filter (begins_in base blocks) claims.now }
+{
+    let from = claims.partition_point(|run| run.start < base);
+    let behind = &claims[from..];
+    let count = behind.partition_point(|run| run.start < base + blocks);
+    &behind[..count]
 }
 
 /// The run by its AG blocks.

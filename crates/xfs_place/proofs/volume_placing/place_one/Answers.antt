@@ -6,6 +6,7 @@ use Rattle.xfs_place.specs.Placing.{inner_blocks}
 use Rattle.xfs_place.specs.Wanted.{group_in}
 use Rattle.xfs_place.proofs.GroupIs.{group_is}
 use Rattle.xfs_place.proofs.OneGroup.{claims_here, placed_here, same_here}
+use Rattle.xfs_place.proofs.Parted.{runs_rise}
 use Rattle.xfs_place.proofs.volume_placing.place_one.Goals as goal
 
 pub place_group-requires-clause-group : goal.place_group-requires-clause-group
@@ -47,3 +48,6 @@ returns c =
     placed_here c.in_ok-place_group.field-0 (group_in v w.kept.now w.reserved.now ag inner)
     (group_of (take (c.start_of_group-base.result + c.group_length-blocks.result - c.start_of_group-base.result) (drop c.start_of_group-base.result w.uses.now)) c.deref.result.now inner)
     c.start_of_group-base.result (ag * g.agblocks) c.args.inodes.now same c.start_of_group-base.ensures.value c.in_ok-place_group.ensures
+
+pub list_group-requires-clause-order : goal.list_group-requires-clause-order
+list_group-requires-clause-order c = runs_rise 0 c.args.work.now.claims.now c.requires.claims.claims'.ascend
