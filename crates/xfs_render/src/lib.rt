@@ -1,0 +1,18 @@
+//! The bytes of a volume that is written anew: the headers of its allocation groups, their trees, clusters of inodes,
+//! superblocks and a blank log.
+#![tactic(auto)]
+
+mod arranging;
+mod clusters;
+mod counters;
+mod draft;
+mod header_block;
+mod heads;
+mod log;
+mod plan;
+mod slots;
+mod trees;
+mod wanted_slots;
+
+pub use plan::Plan;
+pub use wanted_slots::{SlotBase, SlotWanted};
