@@ -1,1 +1,4 @@
 pub mod Levels
+pub mod WantedSlots
+pub mod DraftSteps
+pub mod Sectors

@@ -82,7 +82,11 @@ fn find_slot(slots: &[SlotWanted], ino: u64) -> Option<&SlotWanted>
     requires { IsNonDecreasingBy (λ (w : SlotWanted). w.ino) slots.now }
     ensures { option_copied result ≡ wanted_of slots.now ino }
 {
-    let wanted = slots.get(first_from(slots, ino))?;
+    let place = first_from(slots, ino);
+    if place >= slots.len() {
+        return None;
+    }
+    let wanted = &slots[place];
     if wanted.ino == ino {
         Some(wanted)
     } else {
@@ -93,6 +97,7 @@ fn find_slot(slots: &[SlotWanted], ino: u64) -> Option<&SlotWanted>
 /// How many of the slots are those of inodes before one.
 fn first_from(slots: &[SlotWanted], ino: u64) -> usize
     requires { IsNonDecreasingBy (λ (w : SlotWanted). w.ino) slots.now }
+    ensures within { result ≤ length slots.now }
     ensures before { AllWithin (λ (w : SlotWanted). w.ino < ino) slots.now 0 result }
     ensures after { AllWithin (λ (w : SlotWanted). ino ≤ w.ino) slots.now result (length slots.now) }
 {
