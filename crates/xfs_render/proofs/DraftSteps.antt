@@ -30,7 +30,7 @@ part_behind a b n at width len = ap (take width) (drop_behind a b (n + at) at (o
 pub held_before : (image : Image) (ps qs bs cs : List ℕ) → length bs ≡ 4096 * length ps → Holds image (ps ++ qs) (bs ++ cs) → Holds image ps bs
 held_before image ps qs bs cs whole held = λ j inside.
     let there : j < length (ps ++ qs) = omega (arith, inside, length-append ps qs) in
-    let place : get_or (ps ++ qs) j 0 ≡ get_or ps j 0 = get_or_append_left ps qs j 0 inside in
+    let place : get_or (ps ++ qs) j 0 ≡ get_or ps j 0 = get_or_append_left ps qs 0 j inside in
     ap (bytes_at image) (sym place) ∙ held j there ∙ part_before bs cs (4096 * j) 4096 (omega (arith, whole, inside))
 
 pub held_behind : (image : Image) (ps qs bs cs : List ℕ) → length bs ≡ 4096 * length ps → Holds image (ps ++ qs) (bs ++ cs) → Holds image qs cs

@@ -1,6 +1,6 @@
 //! Blocks that were put down, in the order in which they are to be written.
 
-ghost use Rattle.std.specs.Prelude.{◌≡◌, ℕ, ◌≤◌, ◌<◌, ◌+◌, length, map, slice_index_or, slice_set, [], IfOk};
+ghost use Rattle.std.specs.Prelude.{◌≡◌, ℕ, ◌≤◌, ◌<◌, ◌+◌, ◌^◌, length, map, slice_index_or, slice_set, [], IfOk};
 ghost use Rattle.std.specs.List.Sorted.{IsPermutation};
 ghost use Rattle.xfs_render.specs.Drafts.{IsDraft};
 ghost use Rattle.xfs_render.specs.Plans.{AreRows, HasRows, IsArranged};
@@ -82,6 +82,7 @@ fn places_of(alloc: Global, rows: &[Row]) -> Result<Vec<u64>, NoMemory>
 fn put_rows(rows: &[Row], draft: &Draft, at: usize, bank: &mut BlockBank)
     requires draft { IsDraft draft.now }
     requires inside { at + length rows.now ≤ length bank.old }
+    requires few { at + length rows.now < 2 ^ 64 }
     requires rows { (k : ℕ) (d : Row) → k < length rows.now → (slice_index_or rows.now k d).index < length draft.now.places.items }
     ensures rows { HasRows rows.now draft.now at bank.new }
     ensures before { (k : ℕ) → k < at → slice_index_or bank.new k [] ≡ slice_index_or bank.old k [] }

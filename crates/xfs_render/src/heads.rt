@@ -1,10 +1,8 @@
 //! The headers of an allocation group that are due (chapter "Allocation Groups").
 
-ghost use Rattle.std.specs.Prelude.{◌≡◌, ◌≤◌, ◌<◌, ◌-◌, length, IsTrue};
+ghost use Rattle.std.specs.Prelude.{◌≡◌, ◌<◌, length};
 ghost use Rattle.xfs_geom.specs.Volumes.{volume_of};
 ghost use Rattle.xfs_heads.specs.FreeList.{unused};
-ghost use Rattle.xfs_heads.specs.FreeSpace.{is_agf_shaped};
-ghost use Rattle.xfs_heads.specs.Inodes.{is_agi_shaped};
 ghost use Rattle.xfs_render.specs.Groups.{IsSound, due_agf, due_agi, last_entry, root_in, tree_places};
 
 use crate::counters::{blocks_in, free_inodes_in, inodes_in, levels, longest, newest};
@@ -24,8 +22,7 @@ pub fn tree_places(placed: &GroupPlaced, tree: usize) -> &[u64]
 pub fn due_agf(g: &Geometry, ag: u32, inodes: &[InoRec], placed: &GroupPlaced) -> Agf
     requires group { ag < g.now.agcount }
     requires sound { IsSound (volume_of g.now) ag inodes.now placed.now }
-    ensures value { result ≡ due_agf (volume_of g.now) ag placed.now }
-    ensures shape { IsTrue (is_agf_shaped (volume_of g.now) ag result) }
+    ensures { result ≡ due_agf (volume_of g.now) ag placed.now }
 {
     let bno = tree_places(placed, 0).len();
     let cnt = tree_places(placed, 1).len();
@@ -76,8 +73,7 @@ fn last_entry(count: u32) -> u32
 pub fn due_agi(g: &Geometry, ag: u32, inodes: &[InoRec], placed: &GroupPlaced) -> Agi
     requires group { ag < g.now.agcount }
     requires sound { IsSound (volume_of g.now) ag inodes.now placed.now }
-    ensures value { result ≡ due_agi (volume_of g.now) ag inodes.now placed.now }
-    ensures shape { IsTrue (is_agi_shaped (volume_of g.now) ag result) }
+    ensures { result ≡ due_agi (volume_of g.now) ag inodes.now placed.now }
 {
     Agi {
         magicnum: 0x5841_4749,
