@@ -1,12 +1,15 @@
 -- The headers that are due have their shape.
-use Rattle.std.proofs.Common.{◌≡◌, ℕ, ◌+◌, ◌-◌, ◌%◌, ◌^◌, ◌<◌, ◌≤◌, ◌&&◌, ◌||◌, ◌==◌, Bool, true, false, nat_le, nat_lt, if◌then◌else◌, List, length, refl, arith}
+use Rattle.std.proofs.Common.{◌≡◌, ℕ, ◌+◌, ◌-◌, ◌%◌, ◌^◌, ◌<◌, ◌≤◌, ◌&&◌, ◌||◌, ◌==◌, Bool, true, false, nat_le, nat_lt, if◌then◌else◌, List, ◌++◌, length, take, drop, refl, sym, ap, ap₂, ◌∙◌, arith}
+use Rattle.std.proofs.lemmas.List.{take-append-drop}
 use Rattle.std.specs.Prelude.{IsTrue}
 use Rattle.std.specs.Cmp.Derive.{both_true}
 use Rattle.std.proofs.lemmas.Bool.{eq-eqb, eqb-true, eqb-false, le-leb, lt-ltb}
 use Rattle.xfs_geom.specs.Conversions.{group_length}
 use Rattle.xfs_geom.specs.Volumes.{Volume}
 use Rattle.xfs_geom.specs.declared.records.InoRec.{InoRec}
+use Rattle.xfs_heads.specs.FreeList.{unused}
 use Rattle.xfs_heads.specs.FreeSpace.{is_agf_shaped}
+use Rattle.xfs_heads.specs.declared.free_list.Agfl.{Agfl}
 use Rattle.xfs_heads.specs.Heads.{is_level, is_root}
 use Rattle.xfs_heads.specs.Inodes.{is_agi_shaped}
 use Rattle.xfs_kinds.specs.FreeTrees.{bno_shape, cnt_shape}
@@ -16,7 +19,7 @@ use Rattle.xfs_place.specs.declared.placed.GroupPlaced.{GroupPlaced}
 use Rattle.xfs_tree.specs.Packing.{root_of}
 use Rattle.xfs_tree.specs.Shape.{Shape}
 use Rattle.xfs_render.specs.Counters.{levels}
-use Rattle.xfs_render.specs.Groups.{CanPack, IsSound, due_agf, due_agi, last_entry, root_in, tree_places}
+use Rattle.xfs_render.specs.Groups.{CanPack, IsSound, due_agf, due_agfl, due_agi, last_entry, root_in, tree_places}
 use Rattle.xfs_render.proofs.Levels.{levels_few}
 use Rattle.xfs_render.proofs.Roots.{IsInGroup, root_in_group}
 use Rattle.xfs_render.proofs.Sums.{tree_small}
@@ -67,3 +70,11 @@ module _ (v : Volume) (ag : ℕ) (inodes : List InoRec) (p : GroupPlaced) (some 
       let level = level_fits 252 505 (length inodes) (omega arith) (omega arith) sound.ino.few in
       let free_level = level_fits 252 505 (length p.fino) (omega arith) (omega arith) sound.fino.few in
       both_true (both_true (both_true (both_true whole level) free_level) ino) fino
+
+-- the free list by its entries: those that are active, then those that are not
+pub agfl_is : (p : GroupPlaced) (a : Agfl) → a.count ≡ length p.agfl → take a.count a.entries ≡ p.agfl → drop a.count a.entries ≡ unused (119 - a.count)
+    → a ≡ due_agfl p
+agfl_is p a count active rest =
+    let entries : a.entries ≡ p.agfl ++ unused (119 - length p.agfl) =
+        sym (take-append-drop a.count a.entries) ∙ ap₂ (λ (xs ys : List ℕ). xs ++ ys) active (rest ∙ ap (λ n. unused (119 - n)) count) in
+    λ i. record { entries = entries i; count = count i }

@@ -5,3 +5,6 @@ pub mod Sectors
 pub mod Sums
 pub mod Roots
 pub mod Headers
+pub mod TreeSteps
+pub mod PlanSteps
+pub mod LogSteps

@@ -1,6 +1,6 @@
 //! The first block of an allocation group: eight sectors, of which the first four are headers.
 
-ghost use Rattle.std.specs.Prelude.{◌≡◌, ℕ, ◌<◌, length, Some};
+ghost use Rattle.std.specs.Prelude.{◌≡◌, ℕ, ◌+◌, ◌<◌, ◌≤◌, length, Some};
 ghost use Rattle.xfs_word.specs.Crc.{little_field_of};
 ghost use Rattle.xfs_word.specs.Field.{KeepsParts, part_of};
 ghost use Rattle.xfs_geom.specs.Volumes.{volume_of};
@@ -35,7 +35,7 @@ pub fn put_headers(
     ensures { IsHeaderBlock (volume_of g.now) ag sector.now old.now inodes.now placed.now block.new }
 {
     put_part(block, 2048, part(old, 2048, 2048));
-    put_part(block, 0, sector);
+    put_sector(sector, 0, block);
     put_free_space(g, ag, inodes, placed, block);
     put_inodes(g, ag, inodes, placed, block);
     put_free_list(g, ag, inodes, placed, block);
@@ -52,7 +52,7 @@ fn put_free_space(g: &Geometry, ag: u32, inodes: &[InoRec], placed: &GroupPlaced
 {
     let mut sector = [0; 512];
     put_agf(g, ag, &due_agf(g, ag, inodes, placed), &mut sector);
-    put_part(block, 512, &sector);
+    put_sector(&sector, 512, block);
 }
 
 /// Writes the header of inodes into its sector.
@@ -66,7 +66,7 @@ fn put_inodes(g: &Geometry, ag: u32, inodes: &[InoRec], placed: &GroupPlaced, bl
 {
     let mut sector = [0; 512];
     put_agi(g, ag, &due_agi(g, ag, inodes, placed), &mut sector);
-    put_part(block, 1024, &sector);
+    put_sector(&sector, 1024, block);
 }
 
 /// Writes the free list into its sector.
@@ -80,5 +80,15 @@ fn put_free_list(g: &Geometry, ag: u32, inodes: &[InoRec], placed: &GroupPlaced,
 {
     let mut sector = [0; 512];
     put_agfl(g, ag, &Agfl::new(placed.agfl.as_slice()), &mut sector);
-    put_part(block, 1536, &sector);
+    put_sector(&sector, 1536, block);
+}
+
+/// Writes a sector at a byte offset of a block.
+fn put_sector(sector: &[u8], at: usize, block: &mut [u8])
+    requires sector { length sector.now ≡ 512 }
+    requires inside { at + 512 ≤ length block.old }
+    ensures put { part_of block.new at 512 ≡ sector.now }
+    ensures keeps { KeepsParts block.old block.new at 512 }
+{
+    put_part(block, at, sector);
 }

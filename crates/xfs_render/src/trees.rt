@@ -33,7 +33,8 @@ pub fn add_trees(
     add_tree(alloc, &Cnt { ag }, g, placed.cnt.as_slice(), tree_places(placed, 1), draft)?;
     add_tree(alloc, &Ino { ag }, g, inodes, tree_places(placed, 2), draft)?;
     add_tree(alloc, &Fino { ag }, g, placed.fino.as_slice(), tree_places(placed, 3), draft)?;
-    add_tree(alloc, &Rmap { ag }, g, placed.rmap.as_slice(), tree_places(placed, 4), draft)
+    add_tree(alloc, &Rmap { ag }, g, placed.rmap.as_slice(), tree_places(placed, 4), draft)?;
+    Ok(())
 }
 
 /// Puts down a packed tree.
@@ -54,5 +55,6 @@ fn add_tree<K: Kind>(
     };
     let mut part = vec![in alloc; 0; size]?;
     pack(kind, g, records, places, &mut part);
-    draft.add(places, &part)
+    draft.add(places, &part)?;
+    Ok(())
 }
