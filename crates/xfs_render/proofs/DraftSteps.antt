@@ -1,5 +1,5 @@
 -- Blocks that are put behind others, and the images that have them.
-use Rattle.std.proofs.Common.{◌≡◌, ℕ, zero, suc, ◌+◌, ◌-◌, ◌*◌, ◌<◌, ◌≤◌, List, [], ◌∷◌, ◌++◌, length, get_or, take, drop, refl, sym, ap, ◌∙◌, subst, arith, append_assoc, append-nil, length-append}
+use Rattle.std.proofs.Common.{◌≡◌, ℕ, zero, suc, ◌+◌, ◌-◌, ◌*◌, ◌<◌, ◌≤◌, List, [], ◌∷◌, ◌++◌, length, get_or, take, drop, refl, sym, ap, ◌∙◌, subst, arith, append_assoc, append-nil, length-append, take_all}
 use Rattle.std.proofs.lemmas.List.{get_or_append_left, get_or-append-add, take-append-le, drop-append-le, length-drop}
 use Rattle.xfs_disk.specs.Blocks.{Image}
 use Rattle.xfs_word.specs.Field.{part_of}
@@ -67,3 +67,11 @@ adds_then old mid new ps qs first next = record {
   places' = next.places' ∙ ap (λ (xs : List ℕ). xs ++ qs) first.places' ∙ append_assoc old.places.items ps qs;
   before = λ image held. first.before image (next.before image held);
 }
+
+-- an image that has one block has it at its place
+whole_block : (block : List ℕ) → length block ≡ 4096 → part_of block 0 4096 ≡ block
+unfolding part_of
+whole_block block size = take_all 4096 block (omega (arith, size))
+
+pub held_one : (image : Image) (place : ℕ) (block : List ℕ) → length block ≡ 4096 → Holds image (place ∷ []) block → bytes_at image place ≡ block
+held_one image place block size held = held 0 (omega arith) ∙ whole_block block size

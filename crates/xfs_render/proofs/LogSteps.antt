@@ -1,5 +1,5 @@
 -- The sectors of a log, block by block.
-use Rattle.std.proofs.Common.{◌≡◌, ℕ, zero, suc, ◌+◌, ◌*◌, ◌<◌, ◌≤◌, List, [], ◌∷◌, ◌++◌, map, refl, sym, ap, ap₂, ◌∙◌, arith}
+use Rattle.std.proofs.Common.{◌≡◌, ℕ, zero, suc, ◌+◌, ◌*◌, ◌<◌, ◌≤◌, List, [], ◌∷◌, ◌++◌, map, refl, sym, subst, ap, ap₂, ◌∙◌, arith}
 use Rattle.std.specs.List.{flat_map, range_with_len}
 use Rattle.std.proofs.lemmas.List.{map-append, map-id}
 use Rattle.std.proofs.lemmas.List.FromFn.{map-range_with_len_more}
@@ -61,7 +61,8 @@ seen_rows bytes cycle uuid (suc n) first number blank =
         seen_rows bytes cycle uuid n (first + 1) (number + 1) (λ i low.
         let at : first + suc i ≡ first + 1 + i = omega arith in
         let next : number + suc i ≡ number + 1 + i = omega arith in
-        ? ) in
+        let moved = subst (λ (m : ℕ). IsBlankBlock cycle uuid m (bytes (first + suc i))) next (blank (suc i) (omega (arith, low))) in
+        subst (λ (m : ℕ). IsBlankBlock cycle uuid (number + 1 + i) (bytes m)) at moved) in
     let next : 8 * (number + 1) ≡ 8 * number + 8 = omega arith in
     map-append seen_of (g first) (flat_map g (range_with_len (first + 1) n))
     ∙ ap₂ (λ xs ys. xs ++ ys) eight (rest ∙ ap (λ a. map (blank_seen cycle) (range_with_len a (8 * n))) next)
@@ -70,4 +71,6 @@ seen_rows bytes cycle uuid (suc n) first number blank =
 pub log_seen : (bytes : ℕ → List ℕ) (cycle : ℕ) (uuid : List ℕ) (n first : ℕ) → ((i : ℕ) → i < n → IsBlankBlock cycle uuid i (bytes (first + i)))
     → map seen_of (flat_map (λ block. each_of 8 (sector_of (bytes block))) (range_with_len first n)) ≡ blank_log cycle (8 * n)
 unfolding blank_log
-log_seen bytes cycle uuid n first blank = seen_rows bytes cycle uuid n first 0 (λ i low. ?)
+log_seen bytes cycle uuid n first blank = seen_rows bytes cycle uuid n first 0 (λ i low.
+    let at : i ≡ 0 + i = omega arith in
+    subst (λ (m : ℕ). IsBlankBlock cycle uuid m (bytes (first + i))) at (blank i low))

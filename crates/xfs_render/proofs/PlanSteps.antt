@@ -5,7 +5,7 @@ use Rattle.std.specs.List.{All, Contains}
 use Rattle.std.specs.List.Sorted.{IsNonDecreasingBy, IsPermutation, IsStrictlyIncreasing}
 use Rattle.std.proofs.lemmas.Bool.{cases_lt, eq-eqb}
 use Rattle.std.proofs.lemmas.List.{get_or-append-add, get_or-map, get_or_append_left, get_or_default, length-map}
-use Rattle.std.proofs.lemmas.List.Sorted.{All-permutation, Contains-permutation, IsPermutation-map, length_permutation, sum_by-IsPermutation}
+use Rattle.std.proofs.lemmas.List.Sorted.{All-permutation, Contains-permutation, IsPermutation-append, IsPermutation-map, length_permutation, sum_by-IsPermutation}
 use Rattle.std.proofs.lemmas.List.Sums.{sum_by-cons}
 use Rattle.xfs_disk.specs.Blocks.{Image}
 use Rattle.xfs_tree.specs.Packing.{block_in}
@@ -49,17 +49,20 @@ abbrev one_if : Bool → ℕ
 one_if t = if t then 1 else 0
 
 -- a number that stands twice is counted twice
-twice : (xs : List ℕ) (k p : ℕ) → k + 1 < length xs → get_or xs k 0 ≡ p → get_or xs (k + 1) 0 ≡ p → 2 ≤ count_by (λ o. o == p) xs
-twice [] k p inside here next = absurd (omega (arith, inside))
-twice (x ∷ []) k p inside here next = absurd (omega (arith, inside))
-twice (x ∷ y ∷ xs) zero p inside here next =
+twice : (xs : List ℕ) (k j p : ℕ) → j ≡ suc k → j < length xs → get_or xs k 0 ≡ p → get_or xs j 0 ≡ p → 2 ≤ count_by (λ o. o == p) xs
+twice [] k j p e inside here next = absurd (omega (arith, inside))
+twice (x ∷ xs) k zero p e inside here next = absurd (omega (arith, e))
+twice (x ∷ []) k (suc j) p e inside here next = absurd (omega (arith, inside))
+twice (x ∷ y ∷ xs) zero (suc j) p e inside here next =
     let one = λ (o : ℕ). one_if (o == p) in
+    let at : j ≡ 0 = omega (arith, e) in
+    let there : y ≡ p = sym (ap (λ (n : ℕ). get_or (y ∷ xs) n 0) at) ∙ next in
     let first : one x ≡ 1 = ap one_if (eq-eqb x p here) in
-    let second : one y ≡ 1 = ap one_if (eq-eqb y p next) in
+    let second : one y ≡ 1 = ap one_if (eq-eqb y p there) in
     omega (arith, first, second, sum_by-cons one x (y ∷ xs), sum_by-cons one y xs)
-twice (x ∷ y ∷ xs) (suc k) p inside here next =
+twice (x ∷ y ∷ xs) (suc k) (suc j) p e inside here next =
     let one = λ (o : ℕ). one_if (o == p) in
-    omega (arith, sum_by-cons one x (y ∷ xs), twice (y ∷ xs) k p (omega (arith, inside)) here next)
+    omega (arith, sum_by-cons one x (y ∷ xs), twice (y ∷ xs) k j p (omega (arith, e)) (omega (arith, inside)) here next)
 
 -- places that stand once each ascend strictly
 pub strictly : (places : List ℕ) (rows : List Row) → IsOnce places → IsPermutation places (map (λ (r : Row). r.place) rows) → IsNonDecreasingBy (λ (r : Row). r.place) rows
@@ -78,7 +81,7 @@ strictly places rows once moved order = λ k inside.
       | inl low ↦ low
       | inr high ↦
           let same : get_or xs (k + 1) 0 ≡ p = omega (arith, up, here, next, high) in
-          let two = twice xs k p inside refl same in
+          let two = twice xs k (k + 1) p (omega arith) inside refl same in
           absurd (omega (arith, two, few, count))
     ]
 
@@ -108,6 +111,14 @@ arranged fresh rest first second plan are_first are_second moved_first moved_sec
       count = count ∙ sym long;
       fresh_ascend = λ once. subst IsStrictlyIncreasing (sym is_fresh) (strictly fresh.places.items first once moved_first are_first.order);
       in_place_ascend = λ once. subst IsStrictlyIncreasing (sym is_rest) (strictly rest.places.items second once moved_second are_second.order);
+      apart = λ once. record {
+        each = λ n.
+            let moved = IsPermutation-append fresh.places.items plan.fresh rest.places.items plan.in_place
+                (subst (λ (xs : List ℕ). IsPermutation fresh.places.items xs) (sym is_fresh) moved_first)
+                (subst (λ (xs : List ℕ). IsPermutation rest.places.items xs) (sym is_rest) moved_second) in
+            let same = sum_by-IsPermutation (λ (o : ℕ). one_if (o == n)) (fresh.places.items ++ rest.places.items) (planned plan) moved in
+            omega (arith, once.each n, same);
+      };
       held_fresh = λ image held. held_rows image fresh first are_first (λ k r inside.
           let here : get_or (planned plan) k 0 ≡ (get_or first k r).place =
               get_or_append_left plan.fresh plan.in_place 0 k (omega (arith, long_fresh, inside)) ∙ ap (λ (xs : List ℕ). get_or xs k 0) is_fresh

@@ -7,3 +7,5 @@ pub mod Slots
 pub mod Clusters
 pub mod Logs
 pub mod Plans
+pub mod NewBlocks
+pub mod Rendering

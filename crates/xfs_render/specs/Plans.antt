@@ -40,5 +40,6 @@ pub record IsArranged (fresh rest : Draft) (plan : Plan) : Type 0 where
   pub count : length plan.bank ≡ length (planned plan)
   pub fresh_ascend : IsOnce fresh.places.items → IsStrictlyIncreasing plan.fresh
   pub in_place_ascend : IsOnce rest.places.items → IsStrictlyIncreasing plan.in_place
+  pub apart : IsOnce (fresh.places.items ++ rest.places.items) → IsOnce (planned plan)
   pub held_fresh : (image : Image) → HoldsPlan image plan → HoldsDraft image fresh
   pub held_rest : (image : Image) → HoldsPlan image plan → HoldsDraft image rest

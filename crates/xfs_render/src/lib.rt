@@ -3,16 +3,21 @@
 #![tactic(auto)]
 
 mod arranging;
+mod bytes;
 mod clusters;
 mod counters;
 mod draft;
 mod header_block;
 mod heads;
 mod log;
+mod new_blocks;
 mod plan;
+mod rendering;
 mod slots;
 mod trees;
 mod wanted_slots;
 
+pub use bytes::Bytes;
 pub use plan::Plan;
+pub use rendering::render;
 pub use wanted_slots::{SlotBase, SlotWanted};
