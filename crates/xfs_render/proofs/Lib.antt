@@ -8,3 +8,4 @@ pub mod Headers
 pub mod TreeSteps
 pub mod PlanSteps
 pub mod LogSteps
+pub mod RenderSteps

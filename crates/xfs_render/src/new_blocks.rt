@@ -23,7 +23,7 @@ pub fn mark_runs(alloc: Global, blocks: u64, runs: &[Run]) -> Result<Vec<bool>, 
 /// Marks the blocks of a run.
 fn mark_run(run: &Run, marks: &mut [bool])
     requires { run.now.start + run.now.count ≤ length marks.old }
-    ensures { Marks (is_of run.now) marks.old marks.new }
+    ensures { Marks (λ block. is_of block run.now) marks.old marks.new }
 {
     for block in run.start..run.start + run.count {
         marks[block as usize] = true;

@@ -87,7 +87,15 @@ fn group_in(placed: &Placed, ag: u32) -> &GroupPlaced
     &placed.groups.as_slice()[ag as usize]
 }
 
-/// The bytes that a place had, by its index.
+/// The number of the block at a place, by its index.
+fn place_at(bytes: &Bytes, i: usize) -> u64
+    requires { i < length bytes.now.places }
+    ensures { result ≡ place_at bytes.now i }
+{
+    bytes.places.as_slice()[i]
+}
+
+/// The bytes that it had.
 fn old_at(bytes: &Bytes, i: usize) -> &[u8]
     requires { i < length bytes.now.old }
     ensures value { result.now ≡ old_at bytes.now i }
@@ -136,7 +144,7 @@ fn add_place(work: &Work<'_>, i: usize, fresh: &mut Draft, rest: &mut Draft) -> 
     ensures { OnOk result (AddsPlaces work.now.wanted.now work.now.placed.now work.now.bytes.now work.now.sector.now i (i + 1)
         (place_at work.now.bytes.now i ∷ []) fresh.old rest.old fresh.new rest.new) }
 {
-    let place = work.bytes.places.as_slice()[i];
+    let place = place_at(work.bytes, i);
     let mut block = [0; BLOCK_SIZE];
     put_place(work, i, &mut block);
     if work.marks[place as usize] {
@@ -156,7 +164,7 @@ fn put_place(work: &Work<'_>, i: usize, block: &mut [u8])
     ensures due { IsPlaceDue work.now.wanted.now work.now.placed.now work.now.bytes.now work.now.sector.now i block.new }
 {
     let g = &work.wanted.geometry;
-    let place = work.bytes.places.as_slice()[i];
+    let place = place_at(work.bytes, i);
     let old = old_at(work.bytes, i);
     if place % g.agblocks as u64 == 0 {
         let ag = (place / g.agblocks as u64) as u32;

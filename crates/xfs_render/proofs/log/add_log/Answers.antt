@@ -23,7 +23,7 @@ loop-i-preserved c =
         | inl early ↦ c.loop-i.invariant.each image (added.adds.before image held) j early
         | inr late ↦
             let same : i ≡ j = omega arith in
-            let bytes : bytes_at image (log + i) ≡ c.put_block.new.block = held_one image (log + i) c.put_block.new.block c.put_block.auto.block (added.held image held) in
+            let bytes : bytes_at image (log + i) ≡ c.put_block.new.block = held_one image (log + i) c.put_block.new.block (omega (arith, c.put_block.auto.block, c.loop-i-test.array_long)) (added.held image held) in
             let here = subst (λ (b : List ℕ). IsBlankBlock c.args.cycle c.args.g.now.uuid i b) (sym bytes) c.put_block.ensures in
             subst (λ (n : ℕ). IsBlankBlock c.args.cycle c.args.g.now.uuid n (bytes_at image (log + n))) same here
       ];
