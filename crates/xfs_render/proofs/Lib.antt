@@ -9,3 +9,4 @@ pub mod TreeSteps
 pub mod PlanSteps
 pub mod LogSteps
 pub mod RenderSteps
+pub mod Marking
