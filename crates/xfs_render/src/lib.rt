@@ -14,6 +14,8 @@ mod new_blocks;
 mod plan;
 mod rendering;
 mod slots;
+#[cfg(test)]
+mod tests;
 mod trees;
 mod wanted_slots;
 
