@@ -45,9 +45,9 @@ pub added : (old new : Draft) (places part : List ℕ) → IsDraft old → lengt
     → new.bytes.items ≡ old.bytes.items ++ part → AddsPart old new places part
 added old new places part was whole at bytes =
     let move = λ (image : Image) (held : HoldsDraft image new).
-        let here : Holds image (old.places.items ++ places) new.bytes.items = subst (λ (ps : List ℕ). Holds image ps new.bytes.items) at held in
-        let all : Holds image (old.places.items ++ places) (old.bytes.items ++ part) = subst (λ (bs : List ℕ). Holds image (old.places.items ++ places) bs) bytes here in
-        all in
+    let here : Holds image (old.places.items ++ places) new.bytes.items = subst (λ (ps : List ℕ). Holds image ps new.bytes.items) at held in
+    let all : Holds image (old.places.items ++ places) (old.bytes.items ++ part) = subst (λ (bs : List ℕ). Holds image (old.places.items ++ places) bs) bytes here in
+    all in
     record {
       adds = record {
         whole = record { whole = omega (arith, ap length at, ap length bytes, length-append old.places.items places, length-append old.bytes.items part, was.whole, whole) };

@@ -76,5 +76,5 @@ pub agfl_is : (p : GroupPlaced) (a : Agfl) → a.count ≡ length p.agfl → tak
     → a ≡ due_agfl p
 agfl_is p a count active rest =
     let entries : a.entries ≡ p.agfl ++ unused (119 - length p.agfl) =
-        sym (take-append-drop a.count a.entries) ∙ ap₂ (λ (xs ys : List ℕ). xs ++ ys) active (rest ∙ ap (λ n. unused (119 - n)) count) in
+    sym (take-append-drop a.count a.entries) ∙ ap₂ (λ (xs ys : List ℕ). xs ++ ys) active (rest ∙ ap (λ n. unused (119 - n)) count) in
     λ i. record { entries = entries i; count = count i }

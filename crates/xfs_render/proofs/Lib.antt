@@ -10,3 +10,4 @@ pub mod PlanSteps
 pub mod LogSteps
 pub mod RenderSteps
 pub mod Marking
+pub mod Examples

@@ -34,9 +34,9 @@ both_from p q b a (suc c) each =
     let first_a : a + 0 ≡ a = omega arith in
     let head = ap p first_b ∙ each 0 (omega arith) ∙ ap q first_a in
     let rest = both_from p q (b + 1) (a + 1) c (λ k low.
-        let next_b : b + 1 + k ≡ b + suc k = omega arith in
-        let next_a : a + suc k ≡ a + 1 + k = omega arith in
-        ap p next_b ∙ each (suc k) (omega (arith, low)) ∙ ap q next_a) in
+    let next_b : b + 1 + k ≡ b + suc k = omega arith in
+    let next_a : a + suc k ≡ a + 1 + k = omega arith in
+    ap p next_b ∙ each (suc k) (omega (arith, low)) ∙ ap q next_a) in
     ap₂ (λ x xs. x ∷ xs) head rest
 
 map_twice : {A B C : Type 0} (f : A → B) (g : B → C) (xs : List A) → map g (map f xs) ≡ map (λ x. g (f x)) xs
@@ -51,18 +51,18 @@ seen_rows bytes cycle uuid (suc n) first number blank =
     let g = λ (block : ℕ). each_of 8 (sector_of (bytes block)) in
     let here = blank 0 (omega arith) in
     let eight : map seen_of (g first) ≡ map (blank_seen cycle) (range_with_len (8 * number) 8) =
-        map_twice (sector_of (bytes first)) seen_of (range_with_len 0 8)
-        ∙ both_from (λ k. seen_of (sector_of (bytes first) k)) (blank_seen cycle) 0 (8 * number) 8 (λ k low.
-          let at : first + 0 ≡ first = omega arith in
-          let zero_k : 0 + k ≡ k = omega arith in
-          let place : 8 * (number + 0) + k ≡ 8 * number + k = omega arith in
-          ap (λ j. seen_of (sector_of (bytes first) j)) zero_k ∙ ap (λ b. seen_of (sector_of (bytes b) k)) (sym at) ∙ (here.each k low).seen ∙ ap (blank_seen cycle) place) in
+    map_twice (sector_of (bytes first)) seen_of (range_with_len 0 8)
+    ∙ both_from (λ k. seen_of (sector_of (bytes first) k)) (blank_seen cycle) 0 (8 * number) 8 (λ k low.
+    let at : first + 0 ≡ first = omega arith in
+    let zero_k : 0 + k ≡ k = omega arith in
+    let place : 8 * (number + 0) + k ≡ 8 * number + k = omega arith in
+    ap (λ j. seen_of (sector_of (bytes first) j)) zero_k ∙ ap (λ b. seen_of (sector_of (bytes b) k)) (sym at) ∙ (here.each k low).seen ∙ ap (blank_seen cycle) place) in
     let rest : map seen_of (flat_map g (range_with_len (first + 1) n)) ≡ map (blank_seen cycle) (range_with_len (8 * (number + 1)) (8 * n)) =
-        seen_rows bytes cycle uuid n (first + 1) (number + 1) (λ i low.
-        let at : first + suc i ≡ first + 1 + i = omega arith in
-        let next : number + suc i ≡ number + 1 + i = omega arith in
-        let moved = subst (λ (m : ℕ). IsBlankBlock cycle uuid m (bytes (first + suc i))) next (blank (suc i) (omega (arith, low))) in
-        subst (λ (m : ℕ). IsBlankBlock cycle uuid (number + 1 + i) (bytes m)) at moved) in
+    seen_rows bytes cycle uuid n (first + 1) (number + 1) (λ i low.
+    let at : first + suc i ≡ first + 1 + i = omega arith in
+    let next : number + suc i ≡ number + 1 + i = omega arith in
+    let moved = subst (λ (m : ℕ). IsBlankBlock cycle uuid m (bytes (first + suc i))) next (blank (suc i) (omega (arith, low))) in
+    subst (λ (m : ℕ). IsBlankBlock cycle uuid (number + 1 + i) (bytes m)) at moved) in
     let next : 8 * (number + 1) ≡ 8 * number + 8 = omega arith in
     map-append seen_of (g first) (flat_map g (range_with_len (first + 1) n))
     ∙ ap₂ (λ xs ys. xs ++ ys) eight (rest ∙ ap (λ a. map (blank_seen cycle) (range_with_len a (8 * n))) next)

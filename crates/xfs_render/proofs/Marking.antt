@@ -27,13 +27,13 @@ none_between m first b =
 pub more_marked : (marks : List Bool) (first block b : ℕ) (m : Bool) → first ≤ block → block < length marks → b < length marks
     → get_or marks b false ≡ (m || (nat_le first b && nat_lt b block)) → get_or (set marks block true) b false ≡ (m || (nat_le first b && nat_lt b (block + 1)))
 more_marked marks first block b m low inside there before = elim (cases_eq b block) [
-    | inl same ↦
-        let yes : (nat_le first b && nat_lt b (block + 1)) ≡ true = grind (arith, nat_tests) in
-        ap (λ (n : ℕ). get_or (set marks block true) n false) same ∙ get_or-set_same marks block true false inside ∙ or_true m ∙ ap (λ (t : Bool). m || t) (sym yes)
-    | inr other ↦
-        let still : nat_lt b block ≡ nat_lt b (block + 1) = grind (arith, nat_tests) in
-        get_or-set_other marks block b true false other ∙ before ∙ ap (λ (t : Bool). m || (nat_le first b && t)) still
-  ]
+  | inl same ↦
+      let yes : (nat_le first b && nat_lt b (block + 1)) ≡ true = grind (arith, nat_tests) in
+      ap (λ (n : ℕ). get_or (set marks block true) n false) same ∙ get_or-set_same marks block true false inside ∙ or_true m ∙ ap (λ (t : Bool). m || t) (sym yes)
+  | inr other ↦
+      let still : nat_lt b block ≡ nat_lt b (block + 1) = grind (arith, nat_tests) in
+      get_or-set_other marks block b true false other ∙ before ∙ ap (λ (t : Bool). m || (nat_le first b && t)) still
+]
 
 -- one run more
 pub runs_more : (blocks : ℕ) (runs : List Run) (i : ℕ) (r : Run) (old new : List Bool) → i < length runs → r ≡ get_or runs i r → AreMarked blocks (take i runs) old

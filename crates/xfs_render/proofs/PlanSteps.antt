@@ -28,11 +28,11 @@ rows_sorted places rows sorted all index moved order =
     let count : length places ≡ length rows = sym (ap length all) ∙ length-map rows (λ (r : Row). r.place) in
     let same : length sorted ≡ length rows = length_permutation rows sorted moved in
     let names : All (Names places) rows = λ k d inside.
-        let at : (get_or rows k d).index ≡ k = index k d inside in
-        record {
-          inside = omega (arith, at, count, inside);
-          is = ap (λ n. get_or places n 0) at ∙ ap (λ (xs : List ℕ). get_or xs k 0) (sym all) ∙ get_or-map (λ (r : Row). r.place) rows k d 0 inside;
-        } in
+    let at : (get_or rows k d).index ≡ k = index k d inside in
+    record {
+      inside = omega (arith, at, count, inside);
+      is = ap (λ n. get_or places n 0) at ∙ ap (λ (xs : List ℕ). get_or xs k 0) (sym all) ∙ get_or-map (λ (r : Row). r.place) rows k d 0 inside;
+    } in
     let moved_names : All (Names places) sorted = All-permutation (Names places) rows sorted moved names in
     record {
       all = same ∙ sym count;
@@ -114,21 +114,21 @@ arranged fresh rest first second plan are_first are_second moved_first moved_sec
       apart = λ once. record {
         each = λ n.
             let moved = IsPermutation-append fresh.places.items plan.fresh rest.places.items plan.in_place
-                (subst (λ (xs : List ℕ). IsPermutation fresh.places.items xs) (sym is_fresh) moved_first)
-                (subst (λ (xs : List ℕ). IsPermutation rest.places.items xs) (sym is_rest) moved_second) in
+            (subst (λ (xs : List ℕ). IsPermutation fresh.places.items xs) (sym is_fresh) moved_first)
+            (subst (λ (xs : List ℕ). IsPermutation rest.places.items xs) (sym is_rest) moved_second) in
             let same = sum_by-IsPermutation (λ (o : ℕ). one_if (o == n)) (fresh.places.items ++ rest.places.items) (planned plan) moved in
             omega (arith, once.each n, same);
       };
       held_fresh = λ image held. held_rows image fresh first are_first (λ k r inside.
           let here : get_or (planned plan) k 0 ≡ (get_or first k r).place =
-              get_or_append_left plan.fresh plan.in_place 0 k (omega (arith, long_fresh, inside)) ∙ ap (λ (xs : List ℕ). get_or xs k 0) is_fresh
-              ∙ get_or-map place first k r 0 inside in
+          get_or_append_left plan.fresh plan.in_place 0 k (omega (arith, long_fresh, inside)) ∙ ap (λ (xs : List ℕ). get_or xs k 0) is_fresh
+          ∙ get_or-map place first k r 0 inside in
           let bytes = has_first.each k r inside in
           let at : 0 + k ≡ k = omega arith in
           ap (bytes_at image) (sym here) ∙ held.each k (omega (arith, long, inside)) ∙ ap (λ n. get_or plan.bank n []) (sym at) ∙ bytes);
       held_rest = λ image held. held_rows image rest second are_second (λ k r inside.
           let here : get_or (planned plan) (length first + k) 0 ≡ (get_or second k r).place =
-              ap (λ n. get_or (planned plan) (n + k) 0) (sym long_fresh) ∙ get_or-append-add plan.fresh plan.in_place k 0
-              ∙ ap (λ (xs : List ℕ). get_or xs k 0) is_rest ∙ get_or-map place second k r 0 inside in
+          ap (λ n. get_or (planned plan) (n + k) 0) (sym long_fresh) ∙ get_or-append-add plan.fresh plan.in_place k 0
+          ∙ ap (λ (xs : List ℕ). get_or xs k 0) is_rest ∙ get_or-map place second k r 0 inside in
           ap (bytes_at image) (sym here) ∙ held.each (length first + k) (omega (arith, long, inside)) ∙ has_second.each k r inside);
     }

@@ -133,7 +133,7 @@ module _ (w : Wanted) (p : Placed) (b : Bytes) (super : List ℕ) where
       → AddsGroups w p n a c → AddsTrees (volume w) n inodes group c d → AddsGroups w p (n + 1) a d
   groups_more n a c d inodes group inside is_inodes is_group first next =
       let named = subst (λ (x : GroupPlaced). AddsTrees (volume w) n (inodes_in w n) x c d) is_group
-              (subst (λ (x : List InoRec). AddsTrees (volume w) n x group c d) is_inodes next) in
+      (subst (λ (x : List InoRec). AddsTrees (volume w) n x group c d) is_inodes next) in
       let front = take n p.groups in
       let g = group_in p n in
       let more : take (n + 1) p.groups ≡ front ++ g ∷ [] = take_more p.groups n no_group inside in
@@ -157,7 +157,7 @@ module _ (w : Wanted) (p : Placed) (b : Bytes) (super : List ℕ) where
   rendered none f1 f2 none_too r1 r2 plan empty empty_too all due groups places blank arranged =
       let whole : take w.geometry.agcount p.groups ≡ p.groups = take_all w.geometry.agcount p.groups (omega (arith, all)) in
       let trees : f1.places.items ≡ tree_blocks p =
-          groups.adds.places' ∙ ap (λ (xs : List ℕ). xs ++ flat_map all_places (take w.geometry.agcount p.groups)) empty ∙ ap (flat_map all_places) whole in
+      groups.adds.places' ∙ ap (λ (xs : List ℕ). xs ++ flat_map all_places (take w.geometry.agcount p.groups)) empty ∙ ap (flat_map all_places) whole in
       let fresh : f2.places.items ≡ fresh_blocks w p b = places.fresh'.places' ∙ ap (λ (xs : List ℕ). xs ++ new_blocks w b) trees in
       let kept : r1.places.items ≡ kept_blocks w b = places.rest'.places' ∙ ap (λ (xs : List ℕ). xs ++ kept_blocks w b) empty_too in
       let rest : r2.places.items ≡ blocks_in_place w b = blank.adds.places' ∙ ap (λ (xs : List ℕ). xs ++ log_blocks w b.cycle) kept in

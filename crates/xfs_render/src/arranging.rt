@@ -89,7 +89,11 @@ fn put_rows(rows: &[Row], draft: &Draft, at: usize, bank: &mut BlockBank)
     ensures count { length bank.new ≡ length bank.old }
 {
     for (k, row) in rows.iter().enumerate() {
-        put_block(at + k, part(&draft.bytes, BLOCK_SIZE * row.index, BLOCK_SIZE), bank);
+        put_block(
+            at + k,
+            part(&draft.bytes, BLOCK_SIZE * row.index, BLOCK_SIZE),
+            bank,
+        );
     }
 }
 

@@ -105,14 +105,27 @@ fn old_at(bytes: &Bytes, i: usize) -> &[u8]
 }
 
 /// Puts down the trees of all groups.
-fn add_groups(alloc: Global, wanted: &Wanted, placed: &Placed, bytes: &Bytes, draft: &mut Draft) -> Result<(), NoMemory>
+fn add_groups(
+    alloc: Global,
+    wanted: &Wanted,
+    placed: &Placed,
+    bytes: &Bytes,
+    draft: &mut Draft,
+) -> Result<(), NoMemory>
     requires ready { IsReady wanted.now placed.now bytes.now }
     requires draft { IsDraft draft.old }
     ensures { OnOk result (AddsGroups wanted.now placed.now wanted.now.geometry.agcount draft.old draft.new) }
 {
     let g = &wanted.geometry;
     for ag in 0..g.agcount {
-        add_trees(alloc, g, ag, inodes_in(wanted, ag), group_in(placed, ag), draft)?;
+        add_trees(
+            alloc,
+            g,
+            ag,
+            inodes_in(wanted, ag),
+            group_in(placed, ag),
+            draft,
+        )?;
     }
     Ok(())
 }
@@ -168,9 +181,24 @@ fn put_place(work: &Work<'_>, i: usize, block: &mut [u8])
     let old = old_at(work.bytes, i);
     if place % g.agblocks as u64 == 0 {
         let ag = (place / g.agblocks as u64) as u32;
-        put_headers(g, ag, inodes_in(work.wanted, ag), group_in(work.placed, ag), work.sector, old, block);
+        put_headers(
+            g,
+            ag,
+            inodes_in(work.wanted, ag),
+            group_in(work.placed, ag),
+            work.sector,
+            old,
+            block,
+        );
     } else {
-        put_cluster(g, place, work.bytes.slots.as_slice(), &work.bytes.stamp, old, block);
+        put_cluster(
+            g,
+            place,
+            work.bytes.slots.as_slice(),
+            &work.bytes.stamp,
+            old,
+            block,
+        );
     }
 }
 

@@ -1,7 +1,11 @@
 //! Parts of a volume of two groups of 1024 blocks, with its log at AG blocks 6 to 517 of the second.
 
 ghost use Rattle.std.specs.Prelude.{◌≡◌, IfOk};
+ghost use Rattle.xfs_geom.specs.Volumes.{volume_of};
 ghost use Rattle.xfs_render.specs.Drafts.{IsDraft};
+ghost use Rattle.xfs_render.specs.Examples.{smallest};
+
+mod headers;
 
 use super::*;
 use crate::arranging::arrange;
@@ -29,7 +33,7 @@ const ROOT_CHUNK: InoRec = InoRec {
 };
 
 fn volume() -> Geometry
-    ensures { result.uuid ≡ IDENTIFIER }
+    ensures { volume_of result ≡ smallest IDENTIFIER }
 {
     Geometry {
         dblocks: 2048,
@@ -87,12 +91,20 @@ fn blank_log_is_clean(rt: HostRuntime) -> Result<(), Fail> {
     let mut draft = Draft::new(rt.alloc());
     add_log(&volume(), 8, &mut draft)?;
     assert_eq!(rt; draft.places.len(), 512);
-    assert_eq!(rt; (draft.places.first(), draft.places.last()), (Some(&1030), Some(&1541)));
+    assert_eq!(rt;
+        (draft.places.first(), draft.places.last()),
+        (Some(&1030), Some(&1541))
+    );
     let mut seen = Vec::new(rt.alloc());
     for sector in draft.bytes.chunks_exact(512) {
         seen.push(see_sector(sector))?;
     }
-    assert_eq!(rt; log_state(&seen), LogState::Clean { head: 0x8_0000_0002 });
+    assert_eq!(rt;
+        log_state(&seen),
+        LogState::Clean {
+            head: 0x8_0000_0002
+        }
+    );
     Ok(())
 }
 

@@ -29,11 +29,39 @@ pub fn add_trees(
     requires draft { IsDraft draft.old }
     ensures { OnOk result (AddsTrees (volume_of g.now) ag inodes.now placed.now draft.old draft.new) }
 {
-    add_tree(alloc, &Bno { ag }, g, placed.bno.as_slice(), tree_places(placed, 0), draft)?;
-    add_tree(alloc, &Cnt { ag }, g, placed.cnt.as_slice(), tree_places(placed, 1), draft)?;
+    add_tree(
+        alloc,
+        &Bno { ag },
+        g,
+        placed.bno.as_slice(),
+        tree_places(placed, 0),
+        draft,
+    )?;
+    add_tree(
+        alloc,
+        &Cnt { ag },
+        g,
+        placed.cnt.as_slice(),
+        tree_places(placed, 1),
+        draft,
+    )?;
     add_tree(alloc, &Ino { ag }, g, inodes, tree_places(placed, 2), draft)?;
-    add_tree(alloc, &Fino { ag }, g, placed.fino.as_slice(), tree_places(placed, 3), draft)?;
-    add_tree(alloc, &Rmap { ag }, g, placed.rmap.as_slice(), tree_places(placed, 4), draft)?;
+    add_tree(
+        alloc,
+        &Fino { ag },
+        g,
+        placed.fino.as_slice(),
+        tree_places(placed, 3),
+        draft,
+    )?;
+    add_tree(
+        alloc,
+        &Rmap { ag },
+        g,
+        placed.rmap.as_slice(),
+        tree_places(placed, 4),
+        draft,
+    )?;
     Ok(())
 }
 

@@ -18,8 +18,8 @@ returns c =
     let first_rows = subst (λ (xs : List Row). HasRows xs fresh 0 c.put_rows.new.bank) c.deref-3.ensures.value c.put_rows.ensures.rows in
     let second_rows = subst (λ (xs : List Row). HasRows xs rest c.len-3.result bank) c.deref-4.ensures.value c.put_rows-2.ensures.rows in
     let blocks : length c.in_ok-bank.bank ≡ length first + length second =
-        let made : length c.in_ok-bank.bank ≡ c.in-Some.blocks = ap length c.in_ok-bank.ensures ∙ length-replicate c.in-Some.blocks _ in
-        omega (arith, made, c.in-Some.ensures, c.len.ensures, c.len-2.ensures, c.in_ok-first.first.ok.0, c.in_ok-second.second.ok.0) in
+    let made : length c.in_ok-bank.bank ≡ c.in-Some.blocks = ap length c.in_ok-bank.ensures ∙ length-replicate c.in-Some.blocks _ in
+    omega (arith, made, c.in-Some.ensures, c.len.ensures, c.len-2.ensures, c.in_ok-first.first.ok.0, c.in_ok-second.second.ok.0) in
     arranged fresh rest first second (record { fresh = c.from_vec.result; in_place = c.from_vec-2.result; bank = bank })
     (subst (λ (xs : List ℕ). AreRows xs first) c.deref.ensures.value c.in_ok-first.ensures.rows)
     (subst (λ (xs : List ℕ). AreRows xs second) c.deref-2.ensures.value c.in_ok-second.ensures.rows)

@@ -18,7 +18,7 @@ returns-then-wanted-ino c =
     let at : w ≡ get_or slots place w = c.index-slots-place.is in
     ap (λ (x : SlotWanted). Some x) at
     ∙ sym (wanted_at slots c.args.ino place w c.if-place-slots.false (ap (λ (x : SlotWanted). x.ino) (sym at) ∙ c.if-wanted-ino.true)
-      (λ k early. c.first_from-place.ensures.before k w (omega arith) early))
+    (λ k early. c.first_from-place.ensures.before k w (omega arith) early))
 
 pub returns-else-wanted-ino : goal.returns-else-wanted-ino
 returns-else-wanted-ino c =

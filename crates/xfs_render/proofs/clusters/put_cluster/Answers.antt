@@ -16,6 +16,6 @@ loop-k-preserved c =
     let v = volume_of c.args.g.now in
     let P : ℕ → List ℕ → Type 0 = λ k slot. IsSlotDue v c.args.stamp.now.generation c.args.slots.now (inode_of v c.args.number k) (slot_in c.args.old.now k) slot in
     let here : P c.loop-k.k (slot_in c.put_slot.new.block c.loop-k.k) =
-        subst (λ (ino : ℕ). IsSlotDue v c.args.stamp.now.generation c.args.slots.now ino (slot_in c.args.old.now c.loop-k.k) (slot_in c.put_slot.new.block c.loop-k.k))
-        c.inode_of_slot-ino.ensures.value c.put_slot.ensures.due in
+    subst (λ (ino : ℕ). IsSlotDue v c.args.stamp.now.generation c.args.slots.now ino (slot_in c.args.old.now c.loop-k.k) (slot_in c.put_slot.new.block c.loop-k.k))
+    c.inode_of_slot-ino.ensures.value c.put_slot.ensures.due in
     record { each = parts_more P c.loop-k.block c.put_slot.new.block c.loop-k.k c.loop-k.invariant.each c.put_slot.ensures.keeps here }

@@ -13,7 +13,7 @@ put_headers-requires-clause-sound c =
     let w = c.args.work.now.wanted.now in
     let ag = c.place_at-place.result / w.geometry.agblocks in
     let inside : c.place_at-place.result < w.geometry.dblocks =
-        subst (λ (n : ℕ). n < w.geometry.dblocks) (sym c.place_at-place.ensures) (c.requires.ready.inside c.args.i 0 c.requires.inside) in
+    subst (λ (n : ℕ). n < w.geometry.dblocks) (sym c.place_at-place.ensures) (c.requires.ready.inside c.args.i 0 c.requires.inside) in
     let low : ag < w.geometry.agcount = group_below (volume w) c.place_at-place.result w.geometry.shape.groups inside in
     subst (λ (x : List InoRec). IsSound (volume w) ag x c.group_in.result.now) (sym c.inodes_in.ensures)
     (subst (λ (x : GroupPlaced). IsSound (volume w) ag (inodes_in w ag) x) (sym c.group_in.ensures) (c.requires.ready.sound ag low))
@@ -34,7 +34,7 @@ returns-else-place-g-eq0 c =
     let b = c.args.work.now.bytes.now in
     let at = c.place_at-place.ensures in
     let slots = subst (λ (x : List SlotWanted). IsClusterBlock (volume w) b.stamp.generation x c.place_at-place.result c.old_at-old.result.now c.put_cluster.new.block)
-            c.as_slice.ensures c.put_cluster.ensures in
+    c.as_slice.ensures c.put_cluster.ensures in
     let here = subst (λ (n : ℕ). IsClusterBlock (volume w) b.stamp.generation b.slots n c.old_at-old.result.now c.put_cluster.new.block) at slots in
     record {
       due = cluster_due w c.args.work.now.placed.now b c.args.work.now.sector.now c.args.i _ _ (omega arith)

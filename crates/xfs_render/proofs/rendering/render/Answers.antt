@@ -15,11 +15,11 @@ returns g c =
     let agblocks : (stated b.sector).agblocks ≡ w.geometry.agblocks = ap (λ (v : Volume). v.agblocks) c.requires.states in
     let dblocks : (stated b.sector).dblocks ≡ w.geometry.dblocks = ap (λ (v : Volume). v.dblocks) c.requires.states in
     let due : IsDueSuper w p b super = record {
-        written = c.write_super.ensures.written;
-        accepted = λ place blocks head low all.
-            c.write_super.ensures.accepted place blocks (ap (λ (n : ℕ). place % n) agblocks ∙ eqb-true _ 0 head) (omega (arith, dblocks, low)) (omega (arith, dblocks, all));
-        states = c.write_super.ensures.states ∙ c.requires.states;
-      } in
+      written = c.write_super.ensures.written;
+      accepted = λ place blocks head low all.
+          c.write_super.ensures.accepted place blocks (ap (λ (n : ℕ). place % n) agblocks ∙ eqb-true _ 0 head) (omega (arith, dblocks, low)) (omega (arith, dblocks, all));
+      states = c.write_super.ensures.states ∙ c.requires.states;
+    } in
     rendered w p b super c.new-fresh.result c.add_groups.new.draft c.add_places.new.fresh c.new-rest.result c.add_places.new.rest c.add_blank.new.draft
     c.in_ok-arrange.field-0 c.new-fresh.ensures.none c.new-rest.ensures.none c.requires.groups due c.in_ok-add_groups.ensures c.in_ok-add_places.ensures
     c.in_ok-add_blank.ensures c.in_ok-arrange.ensures

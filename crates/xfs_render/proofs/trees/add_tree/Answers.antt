@@ -11,7 +11,7 @@ returns g c =
     let low : n ≤ length part = omega (arith, c.pack.ensures.len, c.deref_mut.ensures.len) in
     let high : length part ≤ n = omega (arith, c.pack.ensures.len, c.deref_mut.ensures.len) in
     let same : c.deref.result.now ≡ part =
-        c.deref.ensures.value ∙ take-append-le n part (drop (length part) c.in_ok-part.part.items) low ∙ take_all n part high in
+    c.deref.ensures.value ∙ take-append-le n part (drop (length part) c.in_ok-part.part.items) low ∙ take_all n part high in
     record {
       adds = c.in_ok-add.ensures.adds;
       reads = λ image held. c.pack.ensures.reads image (subst (λ (b : List ℕ). Holds image c.args.places.now b) same (c.in_ok-add.ensures.held image held));
