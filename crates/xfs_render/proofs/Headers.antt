@@ -3,7 +3,7 @@ use Rattle.std.proofs.Common.{◌≡◌, ℕ, ◌+◌, ◌-◌, ◌%◌, ◌^◌
 use Rattle.std.proofs.lemmas.List.{take-append-drop}
 use Rattle.std.specs.Prelude.{IsTrue}
 use Rattle.std.specs.Cmp.Derive.{both_true}
-use Rattle.std.proofs.lemmas.Bool.{eq-eqb, eqb-true, eqb-false, le-leb, lt-ltb}
+use Rattle.std.proofs.lemmas.Bool.{eq-eqb, eqb-false, le-leb, lt-ltb}
 use Rattle.xfs_geom.specs.Conversions.{group_length}
 use Rattle.xfs_geom.specs.Volumes.{Volume}
 use Rattle.xfs_geom.specs.declared.records.InoRec.{InoRec}
@@ -19,9 +19,9 @@ use Rattle.xfs_place.specs.declared.placed.GroupPlaced.{GroupPlaced}
 use Rattle.xfs_tree.specs.Packing.{root_of}
 use Rattle.xfs_tree.specs.Shape.{Shape}
 use Rattle.xfs_render.specs.Counters.{levels}
-use Rattle.xfs_render.specs.Groups.{CanPack, IsSound, due_agf, due_agfl, due_agi, last_entry, root_in, tree_places}
+use Rattle.xfs_render.specs.Groups.{CanPack, IsSound, due_agf, due_agfl, due_agi, last_entry, tree_places}
 use Rattle.xfs_render.proofs.Levels.{levels_few}
-use Rattle.xfs_render.proofs.Roots.{IsInGroup, root_in_group}
+use Rattle.xfs_render.proofs.Roots.{root_in_group}
 use Rattle.xfs_render.proofs.Sums.{tree_small}
 
 level_fits : (leaf_cap node_cap records : ℕ) → 16 ≤ leaf_cap → 16 ≤ node_cap → records < 2 ^ 28 → is_level (levels leaf_cap node_cap records) ≡ true

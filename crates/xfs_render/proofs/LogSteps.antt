@@ -1,12 +1,10 @@
 -- The sectors of a log, block by block.
-use Rattle.std.proofs.Common.{◌≡◌, ℕ, zero, suc, ◌+◌, ◌*◌, ◌<◌, ◌≤◌, List, [], ◌∷◌, ◌++◌, map, refl, sym, subst, ap, ap₂, ◌∙◌, arith}
+use Rattle.std.proofs.Common.{◌≡◌, ℕ, zero, suc, ◌+◌, ◌*◌, ◌<◌, List, [], ◌∷◌, ◌++◌, map, refl, sym, subst, ap, ap₂, ◌∙◌, arith}
 use Rattle.std.specs.List.{flat_map, range_with_len}
 use Rattle.std.proofs.lemmas.List.{map-append, map-id}
 use Rattle.std.proofs.lemmas.List.FromFn.{map-range_with_len_more}
-use Rattle.xfs_word.specs.Field.{part_of}
 use Rattle.xfs_heads.specs.BlankLog.{blank_log, blank_seen}
 use Rattle.xfs_heads.specs.Log.{seen_of}
-use Rattle.xfs_heads.specs.declared.log.SectorSeen.{SectorSeen}
 use Rattle.xfs_tree.specs.Blocks.{each_of}
 use Rattle.xfs_render.specs.Logs.{IsBlankBlock, sector_of}
 

@@ -1,9 +1,8 @@
 -- A volume, put down step by step.
-use Rattle.std.proofs.Common.{◌≡◌, ℕ, zero, suc, ◌+◌, ◌-◌, ◌*◌, ◌/◌, ◌%◌, ◌<◌, ◌≤◌, ◌==◌, Bool, true, false, not, cond, List, [], ◌∷◌, ◌++◌, length, take, get_or, Some, None, inl, inr, refl, sym, subst, ap, ◌∙◌, arith, append-nil, take_all}
-use Rattle.std.specs.Prelude.{MatchOption, Option}
-use Rattle.std.specs.List.{filter, flat_map, range_with_len}
-use Rattle.std.specs.List.Sorted.{IsPermutation, IsStrictlyIncreasing}
-use Rattle.std.proofs.lemmas.Bool.{cases_lt, eq-eqb, eqb-true}
+use Rattle.std.proofs.Common.{◌≡◌, ℕ, ◌+◌, ◌*◌, ◌/◌, ◌%◌, ◌<◌, ◌≤◌, Bool, true, false, not, cond, List, [], ◌∷◌, ◌++◌, length, take, inl, inr, sym, subst, ap, ◌∙◌, arith, append-nil, take_all}
+use Rattle.std.specs.List.{filter, flat_map}
+use Rattle.std.specs.List.Sorted.{IsPermutation}
+use Rattle.std.proofs.lemmas.Bool.{cases_lt, eq-eqb}
 use Rattle.std.proofs.lemmas.List.{take_more}
 use Rattle.std.proofs.lemmas.List.Concat.{flat_map-append}
 use Rattle.std.proofs.lemmas.List.Elements.{filter-append}
@@ -18,9 +17,9 @@ use Rattle.xfs_place.specs.declared.placed.Placed.{Placed}
 use Rattle.xfs_place.specs.declared.wanted.Wanted.{Wanted}
 use Rattle.xfs_tree.specs.Reading.{bytes_at}
 use Rattle.xfs_render.specs.Clusters.{IsClusterBlock}
-use Rattle.xfs_render.specs.Drafts.{Adds, AddsPart, HoldsDraft, IsDraft}
+use Rattle.xfs_render.specs.Drafts.{Adds, AddsPart, IsDraft}
 use Rattle.xfs_render.specs.HeaderBlocks.{IsHeaderBlock}
-use Rattle.xfs_render.specs.Plans.{HoldsPlan, IsArranged, IsOnce, planned}
+use Rattle.xfs_render.specs.Plans.{IsArranged, IsOnce}
 use Rattle.xfs_render.specs.Rendering.{AddsBlank, AddsGroups, AddsPlaces, IsDueSuper, IsPlaceDue, IsRendered, blocks_in_place, fresh_blocks, group_in, inodes_in, is_head, kept_blocks, log_blocks, new_blocks, no_group, old_at, place_at, tree_blocks, volume}
 use Rattle.xfs_render.specs.Trees.{AddsTrees, HasTrees, all_places}
 use Rattle.xfs_render.specs.declared.bytes.Bytes.{Bytes}

@@ -1,5 +1,5 @@
 -- The free blocks of a group are no more than its blocks, and what its trees have at least and at most.
-use Rattle.std.proofs.Common.{◌≡◌, ℕ, ◌+◌, ◌-◌, ◌*◌, ◌^◌, ◌<◌, ◌≤◌, ◌&&◌, true, List, [], ◌∷◌, length, Some, None, sym, ap, arith}
+use Rattle.std.proofs.Common.{◌≡◌, ℕ, ◌+◌, ◌^◌, ◌<◌, ◌≤◌, true, List, [], ◌∷◌, length, Some, None, arith}
 use Rattle.std.specs.List.{sum}
 use Rattle.std.specs.Prelude.{IsTrue}
 use Rattle.std.proofs.lemmas.Bool.{and_parts, leb-true, ltb-true}
@@ -8,7 +8,7 @@ use Rattle.xfs_geom.specs.Conversions.{group_length}
 use Rattle.xfs_geom.specs.Volumes.{Volume}
 use Rattle.xfs_geom.specs.declared.records.InoRec.{InoRec}
 use Rattle.xfs_geom.specs.declared.records.Span.{Span}
-use Rattle.xfs_kinds.specs.FreeTrees.{begins_behind, bno_shape, is_free_run}
+use Rattle.xfs_kinds.specs.FreeTrees.{bno_shape, is_free_run}
 use Rattle.xfs_place.proofs.Sizes.{size_small}
 use Rattle.xfs_place.specs.declared.placed.GroupPlaced.{GroupPlaced}
 use Rattle.xfs_tree.specs.Rules.{are_lawful}

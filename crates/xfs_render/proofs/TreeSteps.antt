@@ -1,5 +1,5 @@
 -- The five trees of a group, put down one after the other.
-use Rattle.std.proofs.Common.{◌≡◌, ℕ, ◌+◌, ◌*◌, ◌%◌, ◌<◌, ◌≤◌, false, List, ◌++◌, length, refl, sym, subst}
+use Rattle.std.proofs.Common.{◌≡◌, ℕ, ◌%◌, ◌<◌, ◌≤◌, false, List, ◌++◌, length, refl, sym, subst}
 use Rattle.xfs_disk.specs.Blocks.{Image}
 use Rattle.xfs_geom.specs.Volumes.{Volume}
 use Rattle.xfs_geom.specs.declared.records.InoRec.{InoRec}
@@ -10,7 +10,6 @@ use Rattle.xfs_place.specs.declared.placed.GroupPlaced.{GroupPlaced}
 use Rattle.xfs_tree.specs.Packing.{root_of}
 use Rattle.xfs_tree.specs.Shape.{Shape}
 use Rattle.xfs_render.specs.Counters.{levels}
-use Rattle.xfs_render.specs.Drafts.{Adds, HoldsDraft}
 use Rattle.xfs_render.specs.Groups.{CanPack, IsSound, tree_places}
 use Rattle.xfs_render.specs.Trees.{AddsTree, AddsTrees, ReadsFrom, block_in_group}
 use Rattle.xfs_render.specs.declared.draft.Draft.{Draft}

@@ -1,6 +1,6 @@
 -- A group whose trees and headers can be written, and what its headers then say (chapters "Allocation Groups", "AG Free Space
 -- Management", "AG Inode Management" and "Reverse-Mapping B+tree").
-use Rattle.std.specs.Prelude.{◌≡◌, ℕ, ◌+◌, ◌-◌, ◌*◌, ◌%◌, ◌^◌, ◌≤◌, ◌<◌, IsTrue, ◌==◌, if◌then◌else◌, Option, None, List, [], ◌++◌, length, slice_index_or}
+use Rattle.std.specs.Prelude.{◌≡◌, ℕ, ◌+◌, ◌-◌, ◌%◌, ◌^◌, ◌≤◌, ◌<◌, IsTrue, ◌==◌, if◌then◌else◌, None, List, [], ◌++◌, length, slice_index_or}
 use Rattle.std.specs.List.{All, list_all, sum}
 use Rattle.xfs_geom.specs.Conversions.{group_length}
 use Rattle.xfs_geom.specs.Volumes.{Volume}

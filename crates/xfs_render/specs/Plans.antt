@@ -1,5 +1,5 @@
 -- What is put down, in the order in which it is to be written.
-use Rattle.std.specs.Prelude.{◌≡◌, ℕ, ◌+◌, ◌≤◌, ◌<◌, ◌==◌, List, [], ◌++◌, length, slice_index, slice_index_or, count_by}
+use Rattle.std.specs.Prelude.{◌≡◌, ℕ, ◌+◌, ◌≤◌, ◌<◌, ◌==◌, List, [], ◌++◌, length, slice_index_or, count_by}
 use Rattle.std.specs.List.Sorted.{IsNonDecreasingBy, IsPermutation, IsStrictlyIncreasing}
 use Rattle.xfs_disk.specs.Blocks.{Image}
 use Rattle.xfs_tree.specs.Packing.{block_in}

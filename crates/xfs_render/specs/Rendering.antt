@@ -1,5 +1,5 @@
 -- What is written of a volume: what is needed for it, and what an image then has.
-use Rattle.std.specs.Prelude.{◌≡◌, ℕ, ◌+◌, ◌*◌, ◌%◌, ◌^◌, ◌≤◌, ◌<◌, ◌==◌, Bool, true, false, not, IsTrue, List, [], ◌++◌, length, map, take, slice_index_or, Option, Some, None, MatchOption}
+use Rattle.std.specs.Prelude.{◌≡◌, ℕ, ◌*◌, ◌%◌, ◌^◌, ◌≤◌, ◌<◌, ◌==◌, Bool, true, false, not, List, [], ◌++◌, length, take, slice_index_or, Option, Some, None, MatchOption}
 use Rattle.std.specs.List.{All, filter, flat_map, range_with_len}
 use Rattle.std.specs.List.Sorted.{IsNonDecreasingBy, IsPermutation, IsStrictlyIncreasing}
 use Rattle.xfs_disk.specs.Blocks.{Image}
@@ -10,7 +10,6 @@ use Rattle.xfs_geom.specs.declared.records.InoRec.{InoRec}
 use Rattle.xfs_place.specs.Pool.{IsRunOf, is_taken}
 use Rattle.xfs_place.specs.declared.placed.GroupPlaced.{GroupPlaced}
 use Rattle.xfs_place.specs.declared.placed.Placed.{Placed}
-use Rattle.xfs_place.specs.declared.wanted.GroupInodes.{GroupInodes}
 use Rattle.xfs_place.specs.declared.wanted.Wanted.{Wanted}
 use Rattle.xfs_tree.specs.Reading.{bytes_at}
 use Rattle.xfs_render.specs.Clusters.{CanCluster, IsClusterBlock}

@@ -5,7 +5,7 @@ use Rattle.xfs_disk.specs.Blocks.{Image}
 use Rattle.xfs_geom.specs.Volumes.{Volume}
 use Rattle.xfs_geom.specs.declared.records.InoRec.{InoRec}
 use Rattle.xfs_kinds.specs.FreeTrees.{bno_shape, cnt_shape}
-use Rattle.xfs_kinds.specs.InodeTrees.{ino_shape, fino_shape, settled_chunk}
+use Rattle.xfs_kinds.specs.InodeTrees.{ino_shape, fino_shape}
 use Rattle.xfs_kinds.specs.OwnerTrees.{rmap_shape}
 use Rattle.xfs_place.specs.declared.placed.GroupPlaced.{GroupPlaced}
 use Rattle.xfs_tree.specs.Packing.{root_of, rows_at, top_down}
@@ -13,7 +13,7 @@ use Rattle.xfs_tree.specs.Reading.{Contents, reading, root_seat}
 use Rattle.xfs_tree.specs.Shape.{Shape}
 use Rattle.xfs_render.specs.Counters.{levels}
 use Rattle.xfs_render.specs.Drafts.{Adds, HoldsDraft}
-use Rattle.xfs_render.specs.Groups.{due_agf, due_agi, root_in, tree_places}
+use Rattle.xfs_render.specs.Groups.{due_agf, due_agi, tree_places}
 use Rattle.xfs_render.specs.declared.draft.Draft.{Draft}
 
 -- what a packed tree of these records at these places holds

@@ -1,7 +1,7 @@
-use Rattle.std.proofs.Common.{◌≡◌, ◌∙◌, ◌+◌, ◌<◌, ℕ, List, map, length, subst, sym, ap, arith}
+use Rattle.std.proofs.Common.{◌≡◌, ◌∙◌, ◌+◌, ℕ, List, map, length, subst, ap, arith}
 use Rattle.std.specs.List.Sorted.{IsPermutation}
 use Rattle.std.proofs.lemmas.List.{length-replicate}
-use Rattle.xfs_render.specs.Plans.{AreRows, HasRows, IsArranged}
+use Rattle.xfs_render.specs.Plans.{AreRows, HasRows}
 use Rattle.xfs_render.specs.declared.arranging.Row.{Row}
 use Rattle.xfs_render.proofs.PlanSteps.{arranged}
 use Rattle.xfs_render.proofs.arranging.arrange.Goals as goal

@@ -1,4 +1,4 @@
-use Rattle.std.proofs.Common.{ℕ, ◌*◌, ◌<◌}
+use Rattle.std.proofs.Common.{ℕ, ◌<◌}
 use Rattle.xfs_geom.specs.Conversions.{inode_of}
 use Rattle.xfs_geom.specs.Volumes.{volume_of}
 use Rattle.xfs_render.specs.Clusters.{slot_in}

@@ -1,5 +1,5 @@
 use Rattle.std.proofs.Common.{◌≡◌, ◌∙◌, sym, ap, length, arith, refl, Some}
-use Rattle.std.specs.Prelude.{IsTrue, Option}
+use Rattle.std.specs.Prelude.{IsTrue}
 use Rattle.std.proofs.lemmas.Bool.{and_parts}
 use Rattle.xfs_geom.specs.Volumes.{volume_of}
 use Rattle.xfs_heads.specs.FreeList.{agfl_of}

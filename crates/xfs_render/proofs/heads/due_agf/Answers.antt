@@ -1,7 +1,5 @@
-use Rattle.std.proofs.Common.{List, arith, length, subst, sym, ap, ◌^◌, ◌<◌, ◌≡◌}
+use Rattle.std.proofs.Common.{arith, length, ap, ◌≡◌}
 use Rattle.xfs_geom.specs.Volumes.{volume_of}
-use Rattle.xfs_geom.specs.declared.records.Span.{Span}
-use Rattle.xfs_place.specs.declared.placed.GroupPlaced.{GroupPlaced}
 use Rattle.xfs_render.specs.Counters.{blocks_in}
 use Rattle.xfs_render.proofs.Sums.{free_small, space_trees}
 use Rattle.xfs_render.proofs.heads.due_agf.Goals as goal

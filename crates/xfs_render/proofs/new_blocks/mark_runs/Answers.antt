@@ -1,4 +1,4 @@
-use Rattle.std.proofs.Common.{◌≡◌, List, get_or, subst, arith, take_all}
+use Rattle.std.proofs.Common.{List, get_or, subst, arith, take_all}
 use Rattle.std.proofs.lemmas.List.{get_or_default}
 use Rattle.xfs_geom.specs.declared.records.Run.{Run}
 use Rattle.xfs_render.specs.NewBlocks.{AreMarked}

@@ -1,5 +1,4 @@
-use Rattle.std.proofs.Common.{◌≡◌, ◌∙◌, ◌<◌, [], ◌∷◌, true, false, ℕ, List, get_or, sym, subst, ap, arith}
-use Rattle.xfs_place.specs.Pool.{is_taken}
+use Rattle.std.proofs.Common.{◌≡◌, ◌∙◌, [], ◌∷◌, true, false, ℕ, get_or, sym, subst, ap, arith}
 use Rattle.xfs_render.specs.Drafts.{AddsPart}
 use Rattle.xfs_render.specs.Rendering.{place_at}
 use Rattle.xfs_render.proofs.RenderSteps.{adds_fresh, adds_rest}

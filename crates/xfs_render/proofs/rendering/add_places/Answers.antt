@@ -1,5 +1,5 @@
 use Rattle.std.proofs.Common.{arith, ap, length}
-use Rattle.xfs_render.proofs.RenderSteps.{places_more, places_none}
+use Rattle.xfs_render.proofs.RenderSteps.{places_more}
 use Rattle.xfs_render.proofs.rendering.add_places.Goals as goal
 
 pub loop-i-preserved : goal.loop-i-preserved

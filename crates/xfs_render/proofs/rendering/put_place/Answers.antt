@@ -1,9 +1,9 @@
-use Rattle.std.proofs.Common.{◌≡◌, ◌∙◌, ◌/◌, ◌%◌, ◌<◌, ℕ, List, sym, subst, ap, arith, refl}
+use Rattle.std.proofs.Common.{◌≡◌, ◌∙◌, ◌/◌, ◌%◌, ◌<◌, ℕ, List, sym, subst, ap, arith}
 use Rattle.xfs_geom.specs.declared.records.InoRec.{InoRec}
 use Rattle.xfs_place.specs.declared.placed.GroupPlaced.{GroupPlaced}
 use Rattle.xfs_render.specs.Clusters.{IsClusterBlock}
 use Rattle.xfs_render.specs.Groups.{IsSound}
-use Rattle.xfs_render.specs.Rendering.{inodes_in, place_at, volume}
+use Rattle.xfs_render.specs.Rendering.{inodes_in, volume}
 use Rattle.xfs_render.specs.declared.wanted_slots.SlotWanted.{SlotWanted}
 use Rattle.xfs_render.proofs.RenderSteps.{cluster_due, group_below, head_due}
 use Rattle.xfs_render.proofs.rendering.put_place.Goals as goal

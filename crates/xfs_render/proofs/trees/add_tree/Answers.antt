@@ -1,6 +1,5 @@
-use Rattle.std.proofs.Common.{◌≡◌, ◌∙◌, ◌≤◌, List, ℕ, length, take, drop, ◌++◌, subst, arith, take_all}
+use Rattle.std.proofs.Common.{◌≡◌, ◌∙◌, ◌≤◌, List, ℕ, length, drop, subst, arith, take_all}
 use Rattle.std.proofs.lemmas.List.{take-append-le}
-use Rattle.xfs_disk.specs.Blocks.{Image}
 use Rattle.xfs_tree.specs.Packing.{Holds}
 use Rattle.xfs_render.proofs.trees.add_tree.Goals as goal
 
