@@ -1,0 +1,13 @@
+pub mod Levels
+pub mod WantedSlots
+pub mod DraftSteps
+pub mod Sectors
+pub mod Sums
+pub mod Roots
+pub mod Headers
+pub mod TreeSteps
+pub mod PlanSteps
+pub mod LogSteps
+pub mod RenderSteps
+pub mod Marking
+pub mod Examples

@@ -1,0 +1,13 @@
+use Rattle.std.proofs.Common.{arith, subst, sym}
+use Rattle.std.specs.Prelude.{IsTrue}
+use Rattle.xfs_geom.specs.Volumes.{volume_of}
+use Rattle.xfs_heads.specs.Inodes.{is_agi_shaped}
+use Rattle.xfs_heads.specs.declared.inodes.Agi.{Agi}
+use Rattle.xfs_render.proofs.Headers.{agi_shaped}
+use Rattle.xfs_render.proofs.header_block.put_inodes.Goals as goal
+
+pub put_agi-requires-clause-shape : goal.put_agi-requires-clause-shape
+put_agi-requires-clause-shape c =
+    let v = volume_of c.args.g.now in
+    subst (λ (a : Agi). IsTrue (is_agi_shaped v c.args.ag a)) (sym c.due_agi.ensures)
+    (agi_shaped v c.args.ag c.args.inodes.now c.args.placed.now (omega arith) c.requires.sound)

@@ -1,0 +1,35 @@
+use Rattle.std.proofs.Common.{arith, length, ap, ◌≡◌}
+use Rattle.xfs_geom.specs.Volumes.{volume_of}
+use Rattle.xfs_render.specs.Counters.{blocks_in}
+use Rattle.xfs_render.proofs.Sums.{free_small, space_trees}
+use Rattle.xfs_render.proofs.heads.due_agf.Goals as goal
+
+pub root_in-requires-clause-some : goal.root_in-requires-clause-some
+root_in-requires-clause-some c = (space_trees _ _ _ _ c.requires.sound).0
+
+pub root_in-requires-2-clause-some : goal.root_in-requires-2-clause-some
+root_in-requires-2-clause-some c = (space_trees _ _ _ _ c.requires.sound).1
+
+pub root_in-requires-3-clause-some : goal.root_in-requires-3-clause-some
+root_in-requires-3-clause-some c = (space_trees _ _ _ _ c.requires.sound).2
+
+pub blocks_in-requires : goal.blocks_in-requires
+blocks_in-requires c =
+    let small = free_small (volume_of c.args.g.now) c.args.ag c.args.placed.now.bno c.requires.sound.bno.lawful in
+    let same : blocks_in c.as_slice-5.result.now ≡ blocks_in c.args.placed.now.bno = ap blocks_in c.as_slice-5.ensures in
+    omega (arith, small, same, c.group_length.ensures.value, c.group_length.type_inv)
+
+pub overflow_sub-result : goal.overflow_sub-result
+overflow_sub-result c =
+    let all = space_trees _ _ _ _ c.requires.sound in
+    omega (arith, all.0, all.1, all.2, ap length c.tree_places-bno.ensures, ap length c.tree_places-cnt.ensures, ap length c.tree_places-rmap.ensures)
+
+pub overflow_cast-result : goal.overflow_cast-result
+overflow_cast-result c =
+    let all = space_trees _ _ _ _ c.requires.sound in
+    omega (arith, all.3, ap length c.tree_places-bno.ensures, ap length c.tree_places-cnt.ensures, ap length c.tree_places-rmap.ensures)
+
+pub overflow_cast-result-2 : goal.overflow_cast-result-2
+overflow_cast-result-2 c =
+    let all = space_trees _ _ _ _ c.requires.sound in
+    omega (arith, all.3, ap length c.tree_places-rmap.ensures)

@@ -1,0 +1,25 @@
+//! The bytes of a volume that is written anew: the headers of its allocation groups, their trees, clusters of inodes,
+//! superblocks and a blank log.
+#![tactic(auto)]
+
+mod arranging;
+mod bytes;
+mod clusters;
+mod counters;
+mod draft;
+mod header_block;
+mod heads;
+mod log;
+mod new_blocks;
+mod plan;
+mod rendering;
+mod slots;
+#[cfg(test)]
+mod tests;
+mod trees;
+mod wanted_slots;
+
+pub use bytes::Bytes;
+pub use plan::Plan;
+pub use rendering::render;
+pub use wanted_slots::{SlotBase, SlotWanted};
