@@ -60,7 +60,7 @@ fn push_extent(
     ensures listed { OnOk result (listed places.new.items ≡ listed places.old.items ++ extent_places (volume_of g.now) (byte_of owner) extent.now) }
     ensures inside { All IsInside places.new.items }
 {
-    let start = start_of(g, extent);
+    let start = start_of(g, extent.start);
     if sum_of(start, extent.count).is_none() || sum_of(extent.offset, extent.count).is_none() {
         return Err(NoMemory);
     }
@@ -77,12 +77,12 @@ fn sum_of(number: u64, count: u64) -> Option<u64>
     number.checked_add(count)
 }
 
-/// The number of the first block of an extent.
-fn start_of(g: &Geometry, extent: &Extent) -> u64
-    ensures { result ≡ block_of_address g.now.agblocks g.now.agblklog extent.now.start }
+/// The number of the block at an address.
+fn start_of(g: &Geometry, address: u64) -> u64
+    ensures { result ≡ block_of_address g.now.agblocks g.now.agblklog address }
 {
     let size = 1u64 << g.agblklog;
-    extent.start / size * g.agblocks as u64 + extent.start % size
+    address / size * g.agblocks as u64 + address % size
 }
 
 /// Where the block of this number in a fork has its number.

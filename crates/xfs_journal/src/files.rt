@@ -43,7 +43,8 @@ fn push_file(g: &Geometry, file: &FileRec, places: &mut Vec<Place>) -> Result<()
 {
     push_data(g, file, places)?;
     push_each(file.tree.as_slice(), TREE_LSN, places)?;
-    push_fork(g, Owner::Attributes, file.attr.as_slice(), places)
+    push_fork(g, Owner::Attributes, file.attr.as_slice(), places)?;
+    Ok(())
 }
 
 /// Adds the places of a file's data: those of a directory or a symbolic link alone are objects with such a number.

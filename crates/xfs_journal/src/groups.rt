@@ -89,7 +89,8 @@ fn push_cluster(cluster: u64, places: &mut Vec<Place>) -> Result<(), NoMemory>
     push_slots(cluster, places)?;
     push_slots(cluster + 1, places)?;
     push_slots(cluster + 2, places)?;
-    push_slots(cluster + 3, places)
+    push_slots(cluster + 3, places)?;
+    Ok(())
 }
 
 /// Adds the places of the eight slots of a block.

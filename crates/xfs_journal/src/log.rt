@@ -2,10 +2,12 @@
 
 ghost use Rattle.std.specs.Prelude.{◌≡◌, ◌≤◌, ◌+◌, ◌<◌, ◌++◌, length, map, IfOk, OnOk};
 ghost use Rattle.std.specs.Option.{ForSome};
+ghost use Rattle.xfs_disk.specs.Faults.{HasCause};
 ghost use Rattle.xfs_geom.specs.Volumes.{volume_of};
 ghost use Rattle.xfs_heads.specs.Log.{seen_of};
 ghost use Rattle.xfs_tree.specs.Answers.{OnlyReads};
 ghost use Rattle.xfs_tree.specs.Blocks.{each_of};
+ghost use Rattle.xfs_tree.specs.Reading.{bytes_at};
 ghost use Rattle.xfs_image.specs.View.{log_of, log_sectors};
 ghost use Rattle.xfs_journal.specs.Answers.{HasJournalCause};
 ghost use Rattle.xfs_journal.specs.Placed.{seen_in};
@@ -49,7 +51,7 @@ fn see_log<D: Disk>(
     let mut seen = Vec::new(alloc);
     let mut block = [0; BLOCK_SIZE];
     for i in 0..g.logblocks as u64 {
-        match disk.read(log_block(g, i), &mut block) {
+        match read_block(g, disk, i, &mut block) {
             Ok(()) => {}
             Err(Failed) => return Err(JournalFault::ReadFault),
         }
@@ -59,6 +61,22 @@ fn see_log<D: Disk>(
         }
     }
     Ok(seen)
+}
+
+/// Reads a block of the log.
+fn read_block<D: Disk>(g: &Geometry, disk: &mut D, i: u64, block: &mut [u8]) -> Result<(), Failed>
+    requires inside { g.now.dblocks ≤ D.size disk.old }
+    requires log { i < g.now.logblocks }
+    requires whole { length block.old ≡ 4096 }
+    ensures bytes { OnOk result (ForSome (D.holds disk.old) (λ image. bytes_at image (g.now.log + i) ≡ block.new)) }
+    ensures whole { length block.new ≡ 4096 }
+    ensures cause { HasCause (D.faults disk.old) (D.faults disk.new) result }
+    ensures disk { OnlyReads D.size D.holds D.write_faults D.tells_stops D.may_leave disk.old disk.new }
+{
+    match disk.read(log_block(g, i), block) {
+        Ok(()) => Ok(()),
+        Err(Failed) => Err(Failed),
+    }
 }
 
 /// The number of a block of the log.

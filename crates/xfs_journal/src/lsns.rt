@@ -135,12 +135,29 @@ fn read_lsn<D: Disk>(
     if place.block >= size {
         return Ok(0);
     }
-    if held.block != Some(place.block) {
-        match disk.read(place.block, &mut held.bytes) {
-            Ok(()) => {}
-            Err(Failed) => return Err(Failed),
-        }
-        held.block = Some(place.block);
+    match hold(disk, place.block, held) {
+        Ok(()) => Ok(get64(&held.bytes, place.byte as usize)),
+        Err(Failed) => Err(Failed),
     }
-    Ok(get64(&held.bytes, place.byte as usize))
+}
+
+/// Reads a block, where it is not the one that is held.
+fn hold<D: Disk>(disk: &mut D, block: u64, held: &mut Held) -> Result<(), Failed>
+    requires inside { block < D.size disk.old }
+    requires held { ForSome (D.holds disk.old) (λ image. HoldsBlock image held.old.block held.old.bytes) }
+    ensures bytes { OnOk result (ForSome (D.holds disk.old) (λ image. bytes_at image block ≡ held.new.bytes)) }
+    ensures held { OnOk result (ForSome (D.holds disk.old) (λ image. HoldsBlock image held.new.block held.new.bytes)) }
+    ensures cause { HasCause (D.faults disk.old) (D.faults disk.new) result }
+    ensures disk { OnlyReads D.size D.holds D.write_faults D.tells_stops D.may_leave disk.old disk.new }
+{
+    if held.block == Some(block) {
+        return Ok(());
+    }
+    match disk.read(block, &mut held.bytes) {
+        Ok(()) => {
+            held.block = Some(block);
+            Ok(())
+        }
+        Err(Failed) => Err(Failed),
+    }
 }
