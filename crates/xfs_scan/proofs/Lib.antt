@@ -1,0 +1,3 @@
+mod Gathering
+mod Reading
+mod Rests

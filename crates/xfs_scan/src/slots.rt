@@ -6,6 +6,7 @@ ghost use Rattle.xfs_geom.specs.Volumes.{volume_of};
 ghost use Rattle.xfs_tree.specs.Answers.{OnlyReads};
 ghost use Rattle.xfs_inode.specs.Files.{are_extents};
 ghost use Rattle.xfs_inode.specs.Sound.{IsSound};
+ghost use Rattle.xfs_volume.specs.Names.{is_directory};
 ghost use Rattle.xfs_image.specs.Slots.{slot_bytes};
 ghost use Rattle.xfs_scan.specs.Answers.{HasScanCause};
 ghost use Rattle.xfs_scan.specs.Gathered.{held_in, joined, of_directory, of_file, of_found, of_read, of_slot};
@@ -163,7 +164,7 @@ fn take_directory<D: Disk>(
     ensures cause { HasScanCause (D.faults disk.old) (D.faults disk.new) result }
     ensures disk { OnlyReads D.size D.holds D.write_faults D.tells_stops D.may_leave disk.old disk.new }
 {
-    if file.core.mode >> 12 != DIRECTORY {
+    if !is_directory(file) {
         return Ok(());
     }
     match read_directory(alloc, g, disk, slot, file) {
@@ -189,4 +190,11 @@ fn push_directory(ino: u64, found: DirFound, inodes: &mut Inodes) -> Result<(), 
     inodes.entries.append(&mut entries)?;
     inodes.dirs.push(DirRec { ino, parent, whole })?;
     Ok(())
+}
+
+/// Whether the file is a directory.
+fn is_directory(file: &FileRec) -> bool
+    ensures { result ≡ is_directory file.now }
+{
+    file.core.mode >> 12 == DIRECTORY
 }
