@@ -1,8 +1,8 @@
 -- What slots give, taken one by one, is what all give.
-use Rattle.std.proofs.Common.{◌≡◌, ℕ, Bool, true, false, cond, List, [], ◌∷◌, ◌++◌, map, Option, Some, None, Ok, Err, refl, sym, ap, ◌∙◌}
+use Rattle.std.proofs.Common.{◌≡◌, ℕ, Bool, true, false, cond, List, [], ◌∷◌, ◌++◌, map, Option, Some, None, Ok, Err, refl, sym, ap, ap₂, ◌∙◌}
 use Rattle.std.specs.List.{filter, flat_map}
 use Rattle.std.specs.Option.{option_or}
-use Rattle.std.proofs.lemmas.List.{append_assoc, append-nil}
+use Rattle.std.proofs.lemmas.List.{append_assoc, append-nil, map-append}
 use Rattle.std.proofs.lemmas.List.Elements.{filter-append}
 use Rattle.std.proofs.lemmas.Grind.{flat_map-append}
 use Rattle.xfs_disk.specs.Blocks.{Image}
@@ -11,7 +11,14 @@ use Rattle.xfs_dirs.specs.declared.found.DirFound.{DirFound}
 use Rattle.xfs_volume.specs.Names.{is_directory}
 use Rattle.xfs_volume.specs.declared.files.FileRec.{FileRec}
 use Rattle.xfs_image.specs.Directories.{dir_of, directories, dirs_read, entries_of, entries_read, is_whole, parent_of}
-use Rattle.xfs_scan.specs.Gathered.{Gathered, gathered, joined, nothing, of_directory, of_found, of_slot}
+use Rattle.xfs_dirdata.specs.declared.records.EntryRec.{EntryRec}
+use Rattle.xfs_inode.specs.declared.files.FileRead.{FileRead}
+use Rattle.xfs_inode.specs.declared.files.FileRead.TheVariants as Reads
+use Rattle.xfs_volume.specs.declared.directories.DirRec.{DirRec}
+use Rattle.xfs_image.specs.Claims.{file_if}
+use Rattle.xfs_image.specs.Files.{files_at, with_file}
+use Rattle.xfs_image.specs.Slots.{reads_as}
+use Rattle.xfs_scan.specs.Gathered.{Gathered, bare_if, feature_if, files_if, first_feature, gathered, joined, nothing, of_directory, of_found, of_read, of_slot}
 
 or_none : {A : Type 0} (a : Option A) → option_or a None ≡ a
 or_none None = refl
@@ -102,3 +109,103 @@ module _ (v : Volume) (image : Image) where
         unread = None;
         feature = None;
       })
+
+module _ (v : Volume) (image : Image) where
+  -- the files, where all slots read, are those of the image
+  pub files_read_so : (inos : List ℕ) → files_at v image inos ≡ files_if (gathered v image inos).unread (gathered v image inos).files
+  unfolding gathered
+  files_read_so [] = refl
+  files_read_so (ino ∷ inos) = ap (with_file ino (reads_as v image ino)) (files_read_so inos) ∙ by_read (reads_as v image ino) (gathered v image inos)
+    where
+      by_file : (file : FileRec) (unread : Option ℕ) (files : List FileRec) → with_file ino (Reads.File file) (files_if unread files) ≡ files_if unread (file ∷ files)
+      by_file file None files = refl
+      by_file file (Some other) files = refl
+
+      by_read : (read : FileRead) (rest : Gathered)
+          → with_file ino read (files_if rest.unread rest.files) ≡ files_if (joined (of_read v image ino read) rest).unread (joined (of_read v image ino read) rest).files
+      by_read Reads.Free rest = refl
+      by_read (Reads.File file) rest = by_file file rest.unread rest.files
+      by_read (Reads.FileWithoutAttrs file) rest = refl
+      by_read (Reads.Unsupported what) rest = refl
+      by_read Reads.Unsound rest = refl
+
+  entries_read-append : (xs ys : List FileRec) → entries_read v image (xs ++ ys) ≡ entries_read v image xs ++ entries_read v image ys
+  unfolding entries_read directories
+  entries_read-append xs ys = ap (flat_map (entries_of v image)) (filter-append is_directory xs ys) ∙ flat_map-append (entries_of v image) (filter is_directory xs) (filter is_directory ys)
+
+  dirs_read-append : (xs ys : List FileRec) → dirs_read v image (xs ++ ys) ≡ dirs_read v image xs ++ dirs_read v image ys
+  unfolding dirs_read directories
+  dirs_read-append xs ys = ap (map (dir_of v image)) (filter-append is_directory xs ys) ∙ map-append (dir_of v image) (filter is_directory xs) (filter is_directory ys)
+
+  -- the entries and the directories are those of the files
+  record AreOfFiles (g : Gathered) : Type 0 where
+    pub entries : g.entries ≡ entries_read v image g.files
+    pub dirs : g.dirs ≡ dirs_read v image g.files
+
+  none_of_files : AreOfFiles nothing
+  unfolding entries_read dirs_read directories
+  none_of_files = record { entries = refl; dirs = refl }
+
+  slot_of_files : (ino : ℕ) (read : FileRead) → AreOfFiles (of_read v image ino read)
+  slot_of_files ino Reads.Free = none_of_files
+  slot_of_files ino (Reads.File file) = record { entries = refl; dirs = refl }
+  slot_of_files ino (Reads.FileWithoutAttrs file) = record { entries = refl; dirs = refl }
+  slot_of_files ino (Reads.Unsupported what) = record { entries = none_of_files.entries; dirs = none_of_files.dirs }
+  slot_of_files ino Reads.Unsound = record { entries = none_of_files.entries; dirs = none_of_files.dirs }
+
+  of_files : (inos : List ℕ) → AreOfFiles (gathered v image inos)
+  unfolding gathered
+  of_files [] = none_of_files
+  of_files (ino ∷ inos) =
+      let one = slot_of_files ino (reads_as v image ino) in
+      let rest = of_files inos in
+      record {
+        entries = ap₂ (λ (a b : List EntryRec). a ++ b) one.entries rest.entries ∙ sym (entries_read-append (of_slot v image ino).files (gathered v image inos).files);
+        dirs = ap₂ (λ (a b : List DirRec). a ++ b) one.dirs rest.dirs ∙ sym (dirs_read-append (of_slot v image ino).files (gathered v image inos).files);
+      }
+
+  pub entries_of_files : (inos : List ℕ) → (gathered v image inos).entries ≡ entries_read v image (gathered v image inos).files
+  entries_of_files inos = (of_files inos).entries
+
+  pub dirs_of_files : (inos : List ℕ) → (gathered v image inos).dirs ≡ dirs_read v image (gathered v image inos).files
+  dirs_of_files inos = (of_files inos).dirs
+
+  -- the files, those without attributes, and the first feature are those of the image
+  pub all_files : (inos : List ℕ) → (gathered v image inos).files ≡ flat_map (λ ino. file_if (reads_as v image ino)) inos
+  unfolding gathered
+  all_files [] = refl
+  all_files (ino ∷ inos) = by_read (reads_as v image ino) (all_files inos)
+    where
+      by_read : (read : FileRead) → (gathered v image inos).files ≡ flat_map (λ ino. file_if (reads_as v image ino)) inos
+          → (of_read v image ino read).files ++ (gathered v image inos).files ≡ file_if read ++ flat_map (λ ino. file_if (reads_as v image ino)) inos
+      by_read Reads.Free rest = rest
+      by_read (Reads.File file) rest = ap (λ (files : List FileRec). file ∷ files) rest
+      by_read (Reads.FileWithoutAttrs file) rest = ap (λ (files : List FileRec). file ∷ files) rest
+      by_read (Reads.Unsupported what) rest = rest
+      by_read Reads.Unsound rest = rest
+
+  pub all_bare : (inos : List ℕ) → (gathered v image inos).bare ≡ flat_map (λ ino. bare_if ino (reads_as v image ino)) inos
+  unfolding gathered
+  all_bare [] = refl
+  all_bare (ino ∷ inos) = by_read (reads_as v image ino) (all_bare inos)
+    where
+      by_read : (read : FileRead) → (gathered v image inos).bare ≡ flat_map (λ ino. bare_if ino (reads_as v image ino)) inos
+          → (of_read v image ino read).bare ++ (gathered v image inos).bare ≡ bare_if ino read ++ flat_map (λ ino. bare_if ino (reads_as v image ino)) inos
+      by_read Reads.Free rest = rest
+      by_read (Reads.File file) rest = rest
+      by_read (Reads.FileWithoutAttrs file) rest = ap (λ (inos : List ℕ). ino ∷ inos) rest
+      by_read (Reads.Unsupported what) rest = rest
+      by_read Reads.Unsound rest = rest
+
+  pub first_found : (inos : List ℕ) → (gathered v image inos).feature ≡ first_feature v image inos
+  unfolding gathered
+  first_found [] = refl
+  first_found (ino ∷ inos) = by_read (reads_as v image ino) (first_found inos)
+    where
+      by_read : (read : FileRead) → (gathered v image inos).feature ≡ first_feature v image inos
+          → option_or (of_read v image ino read).feature (gathered v image inos).feature ≡ option_or (feature_if ino read) (first_feature v image inos)
+      by_read Reads.Free rest = rest
+      by_read (Reads.File file) rest = rest
+      by_read (Reads.FileWithoutAttrs file) rest = rest
+      by_read (Reads.Unsupported what) rest = refl
+      by_read Reads.Unsound rest = rest

@@ -1,3 +1,5 @@
 mod Gathering
 mod Reading
+mod Outside
 mod Rests
+mod Views

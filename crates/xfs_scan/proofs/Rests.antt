@@ -1,10 +1,15 @@
 -- What is left of a row.
-use Rattle.std.proofs.Common.{◌≡◌, ℕ, suc, ◌+◌, ◌-◌, ◌<◌, ◌≤◌, List, [], ◌∷◌, map, length, drop, get_or, slice_get, Some, sym, ap, ◌∙◌, arith}
-use Rattle.std.proofs.lemmas.List.{drop_all, get_or-map}
+use Rattle.std.proofs.Common.{◌≡◌, ℕ, suc, ◌+◌, ◌-◌, ◌<◌, ◌≤◌, List, [], ◌∷◌, ◌++◌, map, length, drop, get_or, slice_get, Some, refl, sym, ap, ◌∙◌, arith}
+use Rattle.std.proofs.lemmas.List.{append_assoc, drop_all, get_or-map}
+use Rattle.std.proofs.lemmas.Grind.{flat_map-append}
 use Rattle.std.proofs.lemmas.Option.{get_or_from_slice_get}
 use Rattle.xfs_disk.specs.Blocks.{Image}
+use Rattle.xfs_geom.specs.Volumes.{Volume}
 use Rattle.xfs_tree.specs.Reading.{bytes_at}
-use Rattle.std.specs.List.{range_with_len}
+use Rattle.xfs_volume.specs.declared.clusters.ClusterRec.{ClusterRec}
+use Rattle.xfs_image.specs.Slots.{cluster_blocks, cluster_inodes, inodes_in}
+use Rattle.xfs_scan.specs.Gathered.{inodes_of_blocks}
+use Rattle.std.specs.List.{flat_map, range_with_len}
 
 -- the items of a row from place i on, of n
 abbrev pub rest_of : {A : Type 0} → ℕ → ℕ → (ℕ → A) → List A
@@ -28,3 +33,34 @@ bank_at image blocks bank i bytes whole inside is =
 
 pub none_left : {A : Type 0} (xs : List A) (i : ℕ) → length xs ≤ i → drop i xs ≡ []
 none_left xs i past = drop_all i xs past
+
+-- one number more of a row
+pub number_more : (first i n : ℕ) (old new all : List ℕ) → i < n → new ≡ old ++ (first + i) ∷ []
+    → old ++ range_with_len (first + i) (n - i) ≡ all → new ++ range_with_len (first + (i + 1)) (n - (i + 1)) ≡ all
+number_more first i n old new all inside more held =
+    let count : n - i ≡ suc (n - (i + 1)) = omega arith in
+    let next : first + i + 1 ≡ first + (i + 1) = omega arith in
+    let split : range_with_len (first + i) (n - i) ≡ (first + i) ∷ range_with_len (first + (i + 1)) (n - (i + 1))
+    = ap (λ k. range_with_len (first + i) k) count ∙ ap (λ k. (first + i) ∷ range_with_len k (n - (i + 1))) next in
+    ap (λ xs. xs ++ range_with_len (first + (i + 1)) (n - (i + 1))) more
+    ∙ append_assoc old ((first + i) ∷ []) (range_with_len (first + (i + 1)) (n - (i + 1))) ∙ ap (λ xs. old ++ xs) (sym split) ∙ held
+
+-- a block that was read
+pub read_bytes : (image : Image) (at : ℕ) (block : List ℕ) → slice_get image at ≡ Some block → bytes_at image at ≡ block
+read_bytes image at block is = get_or_from_slice_get image at block [] is
+
+-- the inodes of the blocks of clusters
+pub inodes_of_firsts : (v : Volume) (clusters : List ℕ) → inodes_of_blocks v (flat_map cluster_blocks clusters) ≡ flat_map (cluster_inodes v) clusters
+unfolding cluster_inodes
+inodes_of_firsts v [] = refl
+inodes_of_firsts v (c ∷ cs) =
+    flat_map-append (inodes_in v) (cluster_blocks c) (flat_map cluster_blocks cs)
+    ∙ ap (λ xs. flat_map (inodes_in v) (cluster_blocks c) ++ xs) (inodes_of_firsts v cs)
+
+pub inodes_of_candidates : (v : Volume) (clusters : List ClusterRec)
+    → inodes_of_blocks v (flat_map (λ (c : ClusterRec). cluster_blocks c.block) clusters) ≡ flat_map (λ (c : ClusterRec). cluster_inodes v c.block) clusters
+unfolding cluster_inodes
+inodes_of_candidates v [] = refl
+inodes_of_candidates v (c ∷ cs) =
+    flat_map-append (inodes_in v) (cluster_blocks c.block) (flat_map (λ (c : ClusterRec). cluster_blocks c.block) cs)
+    ∙ ap (λ xs. flat_map (inodes_in v) (cluster_blocks c.block) ++ xs) (inodes_of_candidates v cs)

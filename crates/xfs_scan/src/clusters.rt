@@ -52,7 +52,7 @@ pub fn see_blocks<D: Disk>(
 }
 
 /// Takes up the eight slots of a block.
-fn see_block<D: Disk>(
+pub fn see_block<D: Disk>(
     alloc: Global,
     g: &Geometry,
     disk: &mut D,

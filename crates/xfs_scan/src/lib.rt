@@ -2,9 +2,13 @@
 //! the whole image says.
 #![tactic(auto)]
 
+mod blocks;
 mod clusters;
 mod faults;
 mod inodes;
+mod recorded;
+mod scan;
 mod slots;
+mod view;
 
 pub use faults::ScanFault;
