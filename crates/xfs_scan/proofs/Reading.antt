@@ -1,10 +1,7 @@
--- A disk that is read again and again, and the causes of what is answered.
-use Rattle.std.proofs.Common.{◌≡◌, ℕ, ◌≤◌, List, Option, refl, ◌∙◌, arith}
+-- A disk that is read again and again.
+use Rattle.std.proofs.Common.{ℕ, List, Option, ◌∙◌}
 use Rattle.xfs_disk.specs.Blocks.{Image}
 use Rattle.xfs_tree.specs.Answers.{OnlyReads}
-use Rattle.xfs_scan.specs.Answers.{IsScanCause}
-use Rattle.xfs_scan.specs.declared.faults.ScanFault.{ScanFault}
-use Rattle.xfs_scan.specs.declared.faults.ScanFault.TheVariants as faults
 
 module _ {D : Type 0} (size : D → ℕ) (holds : D → Option Image) (write_faults : D → ℕ) (tells_stops : D → Type 0) (may_leave : D → ℕ → List ℕ → Type 0) where
   pub reads_on : (a b c : D) → OnlyReads size holds write_faults tells_stops may_leave a b → OnlyReads size holds write_faults tells_stops may_leave b c
@@ -16,10 +13,3 @@ module _ {D : Type 0} (size : D → ℕ) (holds : D → Option Image) (write_fau
     tells = λ t. then.tells (first.tells t);
     leaves = λ t block bytes may. first.leaves t block bytes (then.leaves (first.tells t) block bytes may);
   }
-
--- a cause that is seen from an earlier count on
-pub caused_before : (earlier before now : ℕ) (e : ScanFault) → earlier ≤ before → IsScanCause before now e → IsScanCause earlier now e
-caused_before earlier before now faults.NoMemory up caused = omega (arith, up, caused)
-caused_before earlier before now (faults.TooLarge what count) up caused = omega (arith, up, caused)
-caused_before earlier before now (faults.UnsupportedFile ino what) up caused = omega (arith, up, caused)
-caused_before earlier before now faults.ReadFault up (le, rose) = (omega (arith, up, le), omega (arith, up, le, rose))

@@ -17,11 +17,14 @@ abbrev pub feature_refused : Option Feature → Option ScanFault
 feature_refused None = None
 feature_refused (Some f) = Some (faults.UnsupportedFile f.ino f.what)
 
--- the first cause for which a volume is refused: more than 2^21 inodes in candidate clusters, more than 2^23 extents of
--- candidate files, more than 2^23 entries of candidate directories; a candidate inode with a feature that is not supported
-unfoldable pub refused : Volume → Image → Option ScanFault
-refused v image =
-    unless_more (2 ^ 21) 1 (inode_count v image) (
+-- more than 2^23 extents of candidate files, more than 2^23 entries of candidate directories, or else a candidate inode with a
+-- feature that is not supported
+unfoldable pub refused_late : Volume → Image → Option ScanFault
+refused_late v image =
     unless_more (2 ^ 23) 2 (extent_count v image) (
     unless_more (2 ^ 23) 3 (entry_count v image) (
-    feature_refused (first_feature v image (candidate_inodes v image)))))
+    feature_refused (first_feature v image (candidate_inodes v image))))
+
+-- the first cause for which a volume is refused: more than 2^21 inodes in candidate clusters, or else one of those
+unfoldable pub refused : Volume → Image → Option ScanFault
+refused v image = unless_more (2 ^ 21) 1 (inode_count v image) (refused_late v image)

@@ -1,6 +1,6 @@
 //! The blocks of clusters.
 
-ghost use Rattle.std.specs.Prelude.{◌≡◌, ◌+◌, ◌^◌, ◌<◌, ◌≤◌, ◌++◌, length, map, IfOk, OnOk};
+ghost use Rattle.std.specs.Prelude.{◌≡◌, ◌+◌, ◌^◌, ◌<◌, ◌≤◌, ◌++◌, [], ◌∷◌, IfOk, OnOk};
 ghost use Rattle.std.specs.List.{All, flat_map};
 ghost use Rattle.xfs_volume.specs.declared.clusters.ClusterRec.{ClusterRec};
 ghost use Rattle.xfs_image.specs.Slots.{cluster_blocks};
@@ -50,7 +50,18 @@ fn push_blocks(cluster: u64, end: u64, blocks: &mut Vec<u64>) -> Result<(), NoMe
     ensures low { OnOk result (All (λ block. block < end) blocks.new.items) }
 {
     for i in 0..4 {
-        blocks.push(cluster + i)?;
+        push(cluster + i, end, blocks)?;
     }
+    Ok(())
+}
+
+/// Adds a block before an end.
+fn push(block: u64, end: u64, blocks: &mut Vec<u64>) -> Result<(), NoMemory>
+    requires block { block < end }
+    requires low { All (λ block. block < end) blocks.old.items }
+    ensures more { OnOk result (blocks.new.items ≡ blocks.old.items ++ block ∷ []) }
+    ensures low { OnOk result (All (λ block. block < end) blocks.new.items) }
+{
+    blocks.push(block)?;
     Ok(())
 }

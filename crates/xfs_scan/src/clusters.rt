@@ -9,10 +9,10 @@ ghost use Rattle.xfs_geom.specs.Volumes.{volume_of};
 ghost use Rattle.xfs_tree.specs.Answers.{OnlyReads};
 ghost use Rattle.xfs_tree.specs.Reading.{bytes_at};
 ghost use Rattle.xfs_image.specs.Slots.{inodes_in};
-ghost use Rattle.xfs_scan.specs.Answers.{HasScanCause};
+ghost use Rattle.xfs_scan.specs.Answers.{HasReadCause};
 ghost use Rattle.xfs_scan.specs.Gathered.{gathered, held_in, inodes_of_blocks, joined, of_slot};
 
-use crate::faults::ScanFault;
+use crate::faults::ReadError;
 use crate::inodes::Inodes;
 use crate::slots::see_slot;
 use std::alloc::Global;
@@ -33,13 +33,13 @@ pub fn see_blocks<D: Disk>(
     blocks: &[u64],
     bank: &BlockBank,
     inodes: &mut Inodes,
-) -> Result<(), ScanFault>
+) -> Result<(), ReadError>
     requires inside { g.now.dblocks ≤ D.size disk.old }
     requires volume { All (λ block. block < g.now.dblocks) blocks.now }
     requires many { length bank.now ≡ length blocks.now }
     requires held { ForSome (D.holds disk.old) (λ image. bank.now ≡ map (bytes_at image) blocks.now) }
     ensures held { OnOk result (ForSome (D.holds disk.old) (λ image. held_in inodes.new ≡ joined (held_in inodes.old) (gathered (volume_of g.now) image (inodes_of_blocks (volume_of g.now) blocks.now)))) }
-    ensures cause { HasScanCause (D.faults disk.old) (D.faults disk.new) result }
+    ensures cause { HasReadCause (D.faults disk.old) (D.faults disk.new) result }
     ensures disk { OnlyReads D.size D.holds D.write_faults D.tells_stops D.may_leave disk.old disk.new }
 {
     for (i, block) in blocks.iter().enumerate() {
@@ -59,13 +59,13 @@ pub fn see_block<D: Disk>(
     block: u64,
     bytes: &[u8],
     inodes: &mut Inodes,
-) -> Result<(), ScanFault>
+) -> Result<(), ReadError>
     requires inside { g.now.dblocks ≤ D.size disk.old }
     requires volume { block < g.now.dblocks }
     requires whole { length bytes.now ≡ 4096 }
     requires held { ForSome (D.holds disk.old) (λ image. bytes_at image block ≡ bytes.now) }
     ensures held { OnOk result (ForSome (D.holds disk.old) (λ image. held_in inodes.new ≡ joined (held_in inodes.old) (gathered (volume_of g.now) image (inodes_in (volume_of g.now) block)))) }
-    ensures cause { HasScanCause (D.faults disk.old) (D.faults disk.new) result }
+    ensures cause { HasReadCause (D.faults disk.old) (D.faults disk.new) result }
     ensures disk { OnlyReads D.size D.holds D.write_faults D.tells_stops D.may_leave disk.old disk.new }
 {
     for slot in 0..SLOTS {
@@ -86,14 +86,14 @@ fn see_part<D: Disk>(
     slot: u8,
     bytes: &[u8],
     inodes: &mut Inodes,
-) -> Result<(), ScanFault>
+) -> Result<(), ReadError>
     requires inside { g.now.dblocks ≤ D.size disk.old }
     requires volume { block < g.now.dblocks }
     requires slot { slot < 8 }
     requires whole { length bytes.now ≡ 4096 }
     requires held { ForSome (D.holds disk.old) (λ image. bytes_at image block ≡ bytes.now) }
     ensures held { OnOk result (ForSome (D.holds disk.old) (λ image. held_in inodes.new ≡ joined (held_in inodes.old) (of_slot (volume_of g.now) image (inode_of (volume_of g.now) block slot)))) }
-    ensures cause { HasScanCause (D.faults disk.old) (D.faults disk.new) result }
+    ensures cause { HasReadCause (D.faults disk.old) (D.faults disk.new) result }
     ensures disk { OnlyReads D.size D.holds D.write_faults D.tells_stops D.may_leave disk.old disk.new }
 {
     let ino = g.inode_of_slot(block, slot);

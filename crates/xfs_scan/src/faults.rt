@@ -1,5 +1,8 @@
 //! Why no evidence is gathered.
 
+ghost use Rattle.std.specs.Prelude.{◌≡◌};
+ghost use Rattle.xfs_scan.specs.Answers.{answer_of};
+
 /// Why no evidence is gathered.
 #[derive(Clone, Copy, Debug, PartialEq, Eq)]
 pub enum ScanFault {
@@ -13,4 +16,25 @@ pub enum ScanFault {
     UnsupportedFile { ino: u64, what: u8 },
     /// There is not enough memory.
     NoMemory,
+}
+
+/// Why something is not read.
+#[derive(Clone, Copy, Debug, PartialEq, Eq)]
+pub(crate) enum ReadError {
+    /// A read failed.
+    ReadFault,
+    /// There is not enough memory.
+    NoMemory,
+}
+
+impl ReadError {
+    /// The same, as the answer of the whole.
+    pub(crate) fn answer(self) -> ScanFault
+        ensures { result ≡ answer_of self }
+    {
+        match self {
+            ReadError::ReadFault => ScanFault::ReadFault,
+            ReadError::NoMemory => ScanFault::NoMemory,
+        }
+    }
 }

@@ -4,11 +4,17 @@
 
 mod blocks;
 mod clusters;
+mod evidence;
 mod faults;
+
 mod inodes;
+mod limits;
 mod recorded;
 mod scan;
 mod slots;
 mod view;
+mod whole;
 
+pub use evidence::Evidence;
 pub use faults::ScanFault;
+pub use whole::gather;

@@ -9,12 +9,12 @@ ghost use Rattle.xfs_tree.specs.Reading.{bytes_at};
 ghost use Rattle.xfs_volume.specs.declared.clusters.ClusterRec.{ClusterRec};
 ghost use Rattle.xfs_image.specs.Slots.{cluster_blocks, cluster_inodes};
 ghost use Rattle.xfs_groups.specs.Answers.{EndBelow};
-ghost use Rattle.xfs_scan.specs.Answers.{HasScanCause};
+ghost use Rattle.xfs_scan.specs.Answers.{HasReadCause};
 ghost use Rattle.xfs_scan.specs.Gathered.{gathered, held_in};
 
 use crate::blocks::blocks_of_candidates;
 use crate::clusters::see_blocks;
-use crate::faults::ScanFault;
+use crate::faults::ReadError;
 use crate::inodes::Inodes;
 use std::alloc::Global;
 use xfs_bank::BlockBank;
@@ -36,17 +36,17 @@ pub fn scan<D: Disk>(
     g: &Geometry,
     disk: &mut D,
     clusters: &[ClusterRec],
-) -> Result<Scanned, ScanFault>
+) -> Result<Scanned, ReadError>
     requires inside { g.now.dblocks ≤ D.size disk.old }
     requires volume { EndBelow g.now.dblocks clusters.now }
     ensures slots { IfOk result (λ scanned. ForSome (D.holds disk.old) (λ image. scanned.slots ≡ map (bytes_at image) (flat_map (λ (c : ClusterRec). cluster_blocks c.block) clusters.now))) }
     ensures inodes { IfOk result (λ scanned. ForSome (D.holds disk.old) (λ image. held_in scanned.inodes ≡ gathered (volume_of g.now) image (flat_map (λ (c : ClusterRec). cluster_inodes (volume_of g.now) c.block) clusters.now))) }
-    ensures cause { HasScanCause (D.faults disk.old) (D.faults disk.new) result }
+    ensures cause { HasReadCause (D.faults disk.old) (D.faults disk.new) result }
     ensures disk { OnlyReads D.size D.holds D.write_faults D.tells_stops D.may_leave disk.old disk.new }
 {
     let blocks = match blocks_of_candidates(alloc, clusters, g.dblocks) {
         Ok(blocks) => blocks,
-        Err(NoMemory) => return Err(ScanFault::NoMemory),
+        Err(NoMemory) => return Err(ReadError::NoMemory),
     };
     let slots = match read_bank(alloc, disk, &blocks) {
         Ok(slots) => slots,
@@ -64,19 +64,19 @@ fn read_bank<D: Disk>(
     alloc: Global,
     disk: &mut D,
     blocks: &[u64],
-) -> Result<BlockBank, ScanFault>
+) -> Result<BlockBank, ReadError>
     requires inside { All (λ block. block < D.size disk.old) blocks.now }
     ensures many { IfOk result (λ bank. length bank ≡ length blocks.now) }
     ensures held { IfOk result (λ bank. ForSome (D.holds disk.old) (λ image. bank ≡ map (bytes_at image) blocks.now)) }
-    ensures cause { HasScanCause (D.faults disk.old) (D.faults disk.new) result }
+    ensures cause { HasReadCause (D.faults disk.old) (D.faults disk.new) result }
     ensures disk { OnlyReads D.size D.holds D.write_faults D.tells_stops D.may_leave disk.old disk.new }
 {
     let mut bank = match BlockBank::make(alloc, blocks.len()) {
         Ok(bank) => bank,
-        Err(NoMemory) => return Err(ScanFault::NoMemory),
+        Err(NoMemory) => return Err(ReadError::NoMemory),
     };
     match bank.fill(disk, blocks) {
         Ok(()) => Ok(bank),
-        Err(Failed) => Err(ScanFault::ReadFault),
+        Err(Failed) => Err(ReadError::ReadFault),
     }
 }

@@ -8,10 +8,10 @@ ghost use Rattle.xfs_inode.specs.Files.{are_extents};
 ghost use Rattle.xfs_inode.specs.Sound.{IsSound};
 ghost use Rattle.xfs_volume.specs.Names.{is_directory};
 ghost use Rattle.xfs_image.specs.Slots.{slot_bytes};
-ghost use Rattle.xfs_scan.specs.Answers.{HasScanCause};
+ghost use Rattle.xfs_scan.specs.Answers.{HasReadCause};
 ghost use Rattle.xfs_scan.specs.Gathered.{held_in, joined, of_directory, of_file, of_found, of_read, of_slot};
 
-use crate::faults::ScanFault;
+use crate::faults::ReadError;
 use crate::inodes::{Feature, Inodes};
 use std::alloc::Global;
 use xfs_dirs::{DirError, DirFound, read_directory};
@@ -32,18 +32,18 @@ pub fn see_slot<D: Disk>(
     ino: u64,
     slot: &[u8],
     inodes: &mut Inodes,
-) -> Result<(), ScanFault>
+) -> Result<(), ReadError>
     requires slot { length slot.now ≡ 512 }
     requires inside { g.now.dblocks ≤ D.size disk.old }
     requires held { ForSome (D.holds disk.old) (λ image. slot_bytes (volume_of g.now) image ino ≡ slot.now) }
     ensures held { OnOk result (ForSome (D.holds disk.old) (λ image. held_in inodes.new ≡ joined (held_in inodes.old) (of_slot (volume_of g.now) image ino))) }
-    ensures cause { HasScanCause (D.faults disk.old) (D.faults disk.new) result }
+    ensures cause { HasReadCause (D.faults disk.old) (D.faults disk.new) result }
     ensures disk { OnlyReads D.size D.holds D.write_faults D.tells_stops D.may_leave disk.old disk.new }
 {
     match read_file(alloc, g, disk, ino, slot) {
         Ok(read) => take_read(alloc, g, disk, ino, slot, read, inodes),
-        Err(InodeError::ReadFault) => Err(ScanFault::ReadFault),
-        Err(InodeError::NoMemory) => Err(ScanFault::NoMemory),
+        Err(InodeError::ReadFault) => Err(ReadError::ReadFault),
+        Err(InodeError::NoMemory) => Err(ReadError::NoMemory),
     }
 }
 
@@ -56,13 +56,13 @@ fn take_read<D: Disk>(
     slot: &[u8],
     read: FileRead,
     inodes: &mut Inodes,
-) -> Result<(), ScanFault>
+) -> Result<(), ReadError>
     requires slot { length slot.now ≡ 512 }
     requires inside { g.now.dblocks ≤ D.size disk.old }
     requires held { ForSome (D.holds disk.old) (λ image. slot_bytes (volume_of g.now) image ino ≡ slot.now) }
     requires sound { IsSound (volume_of g.now) ino read }
     ensures held { OnOk result (ForSome (D.holds disk.old) (λ image. held_in inodes.new ≡ joined (held_in inodes.old) (of_read (volume_of g.now) image ino read))) }
-    ensures cause { HasScanCause (D.faults disk.old) (D.faults disk.new) result }
+    ensures cause { HasReadCause (D.faults disk.old) (D.faults disk.new) result }
     ensures disk { OnlyReads D.size D.holds D.write_faults D.tells_stops D.may_leave disk.old disk.new }
 {
     match read {
@@ -88,18 +88,18 @@ fn take_bare<D: Disk>(
     slot: &[u8],
     file: FileRec,
     inodes: &mut Inodes,
-) -> Result<(), ScanFault>
+) -> Result<(), ReadError>
     requires slot { length slot.now ≡ 512 }
     requires inside { g.now.dblocks ≤ D.size disk.old }
     requires held { ForSome (D.holds disk.old) (λ image. slot_bytes (volume_of g.now) image file.ino ≡ slot.now) }
     requires extents { are_extents (volume_of g.now) None file.extents ≡ true }
     ensures held { OnOk result (ForSome (D.holds disk.old) (λ image. held_in inodes.new ≡ joined (held_in inodes.old) (of_file (volume_of g.now) image file (file.ino ∷ []) (Some file.ino)))) }
-    ensures cause { HasScanCause (D.faults disk.old) (D.faults disk.new) result }
+    ensures cause { HasReadCause (D.faults disk.old) (D.faults disk.new) result }
     ensures disk { OnlyReads D.size D.holds D.write_faults D.tells_stops D.may_leave disk.old disk.new }
 {
     match note_bare(file.ino, inodes) {
         Ok(()) => take_file(alloc, g, disk, slot, file, inodes),
-        Err(NoMemory) => Err(ScanFault::NoMemory),
+        Err(NoMemory) => Err(ReadError::NoMemory),
     }
 }
 
@@ -120,13 +120,13 @@ fn take_file<D: Disk>(
     slot: &[u8],
     file: FileRec,
     inodes: &mut Inodes,
-) -> Result<(), ScanFault>
+) -> Result<(), ReadError>
     requires slot { length slot.now ≡ 512 }
     requires inside { g.now.dblocks ≤ D.size disk.old }
     requires held { ForSome (D.holds disk.old) (λ image. slot_bytes (volume_of g.now) image file.ino ≡ slot.now) }
     requires extents { are_extents (volume_of g.now) None file.extents ≡ true }
     ensures held { OnOk result (ForSome (D.holds disk.old) (λ image. held_in inodes.new ≡ joined (held_in inodes.old) (of_file (volume_of g.now) image file [] None))) }
-    ensures cause { HasScanCause (D.faults disk.old) (D.faults disk.new) result }
+    ensures cause { HasReadCause (D.faults disk.old) (D.faults disk.new) result }
     ensures disk { OnlyReads D.size D.holds D.write_faults D.tells_stops D.may_leave disk.old disk.new }
 {
     match take_directory(alloc, g, disk, slot, &file, inodes) {
@@ -135,7 +135,7 @@ fn take_file<D: Disk>(
     }
     match push_file(file, inodes) {
         Ok(()) => Ok(()),
-        Err(NoMemory) => Err(ScanFault::NoMemory),
+        Err(NoMemory) => Err(ReadError::NoMemory),
     }
 }
 
@@ -155,13 +155,13 @@ fn take_directory<D: Disk>(
     slot: &[u8],
     file: &FileRec,
     inodes: &mut Inodes,
-) -> Result<(), ScanFault>
+) -> Result<(), ReadError>
     requires slot { length slot.now ≡ 512 }
     requires inside { g.now.dblocks ≤ D.size disk.old }
     requires held { ForSome (D.holds disk.old) (λ image. slot_bytes (volume_of g.now) image file.now.ino ≡ slot.now) }
     requires extents { are_extents (volume_of g.now) None file.now.extents ≡ true }
     ensures held { OnOk result (ForSome (D.holds disk.old) (λ image. held_in inodes.new ≡ joined (held_in inodes.old) (of_directory (volume_of g.now) image file.now))) }
-    ensures cause { HasScanCause (D.faults disk.old) (D.faults disk.new) result }
+    ensures cause { HasReadCause (D.faults disk.old) (D.faults disk.new) result }
     ensures disk { OnlyReads D.size D.holds D.write_faults D.tells_stops D.may_leave disk.old disk.new }
 {
     if !is_directory(file) {
@@ -170,10 +170,10 @@ fn take_directory<D: Disk>(
     match read_directory(alloc, g, disk, slot, file) {
         Ok(found) => match push_directory(file.ino, found, inodes) {
             Ok(()) => Ok(()),
-            Err(NoMemory) => Err(ScanFault::NoMemory),
+            Err(NoMemory) => Err(ReadError::NoMemory),
         },
-        Err(DirError::ReadFault) => Err(ScanFault::ReadFault),
-        Err(DirError::NoMemory) => Err(ScanFault::NoMemory),
+        Err(DirError::ReadFault) => Err(ReadError::ReadFault),
+        Err(DirError::NoMemory) => Err(ReadError::NoMemory),
     }
 }
 

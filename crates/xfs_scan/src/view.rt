@@ -12,12 +12,12 @@ ghost use Rattle.xfs_image.specs.Files.{clusters_of};
 ghost use Rattle.xfs_image.specs.Groups.{groups_read};
 ghost use Rattle.xfs_image.specs.Slots.{cluster_inodes, inodes_in};
 ghost use Rattle.xfs_image.specs.View.{catalog_of, counts_of, log_of, view};
-ghost use Rattle.xfs_scan.specs.Answers.{HasScanCause};
+ghost use Rattle.xfs_scan.specs.Answers.{HasReadCause};
 ghost use Rattle.xfs_scan.specs.Gathered.{gathered, held_in, inodes_of_blocks, joined};
 
 use crate::blocks::blocks_of;
 use crate::clusters::see_block;
-use crate::faults::ScanFault;
+use crate::faults::ReadError;
 use crate::inodes::Inodes;
 use crate::recorded::clusters_of;
 use std::alloc::Global;
@@ -42,12 +42,12 @@ pub fn see_view<D: Disk>(
     disk: &mut D,
     groups: Result<Records<GroupRec>, Finding>,
     log: LogState,
-) -> Result<Result<Catalog, Finding>, ScanFault>
+) -> Result<Result<Catalog, Finding>, ReadError>
     requires inside { g.now.dblocks ≤ D.size disk.old }
     requires groups { ForSome (D.holds disk.old) (λ image. groups ≡ groups_read (volume_of g.now) image) }
     requires log { ForSome (D.holds disk.old) (λ image. log ≡ log_of (volume_of g.now) image) }
     ensures view { IfOk result (λ seen. ForSome (D.holds disk.old) (λ image. seen ≡ view g.now image)) }
-    ensures cause { HasScanCause (D.faults disk.old) (D.faults disk.new) result }
+    ensures cause { HasReadCause (D.faults disk.old) (D.faults disk.new) result }
     ensures disk { OnlyReads D.size D.holds D.write_faults D.tells_stops D.may_leave disk.old disk.new }
 {
     match groups {
@@ -63,30 +63,33 @@ fn see_catalog<D: Disk>(
     disk: &mut D,
     groups: Records<GroupRec>,
     log: LogState,
-) -> Result<Result<Catalog, Finding>, ScanFault>
+) -> Result<Result<Catalog, Finding>, ReadError>
     requires inside { g.now.dblocks ≤ D.size disk.old }
     requires groups { ForSome (D.holds disk.old) (λ image. groups_read (volume_of g.now) image ≡ Ok groups) }
     requires log { ForSome (D.holds disk.old) (λ image. log ≡ log_of (volume_of g.now) image) }
     ensures view { IfOk result (λ seen. ForSome (D.holds disk.old) (λ image. seen ≡ view g.now image)) }
-    ensures cause { HasScanCause (D.faults disk.old) (D.faults disk.new) result }
+    ensures cause { HasReadCause (D.faults disk.old) (D.faults disk.new) result }
     ensures disk { OnlyReads D.size D.holds D.write_faults D.tells_stops D.may_leave disk.old disk.new }
 {
     if groups.as_slice().len() > MOST_GROUPS {
-        return Err(ScanFault::NoMemory);
+        return Err(ReadError::NoMemory);
     }
     let clusters = match clusters_of(alloc, g, groups.as_slice()) {
         Ok(clusters) => clusters,
-        Err(NoMemory) => return Err(ScanFault::NoMemory),
+        Err(NoMemory) => return Err(ReadError::NoMemory),
     };
     let inodes = match see_clusters(alloc, g, disk, &clusters) {
         Ok(inodes) => inodes,
         Err(fault) => return Err(fault),
     };
-    if let Some(ino) = inodes.unread {
-        return Ok(Err(Finding::Part {
-            part: SLOT_PART,
-            place: ino,
-        }));
+    match inodes.unread {
+        Some(place) => {
+            return Ok(Err(Finding::Part {
+                part: SLOT_PART,
+                place,
+            }));
+        }
+        None => {}
     }
     match build(alloc, g, disk, groups, &clusters, inodes, log) {
         Ok(catalog) => Ok(Ok(catalog)),
@@ -103,7 +106,7 @@ fn build<D: Disk>(
     clusters: &[u64],
     inodes: Inodes,
     log: LogState,
-) -> Result<Catalog, ScanFault>
+) -> Result<Catalog, ReadError>
     requires inside { g.now.dblocks ≤ D.size disk.old }
     requires few { length groups ≤ 512 }
     requires clusters { clusters.now ≡ clusters_of (volume_of g.now) groups }
@@ -112,17 +115,17 @@ fn build<D: Disk>(
     requires dirs { ForSome (D.holds disk.old) (λ image. inodes.dirs.items ≡ dirs_read (volume_of g.now) image inodes.files.items) }
     requires log { ForSome (D.holds disk.old) (λ image. log ≡ log_of (volume_of g.now) image) }
     ensures catalog { IfOk result (λ catalog. ForSome (D.holds disk.old) (λ image. catalog ≡ catalog_of g.now image groups inodes.files.items)) }
-    ensures cause { HasScanCause (D.faults disk.old) (D.faults disk.new) result }
+    ensures cause { HasReadCause (D.faults disk.old) (D.faults disk.new) result }
     ensures disk { OnlyReads D.size D.holds D.write_faults D.tells_stops D.may_leave disk.old disk.new }
 {
     let lsns = match read_lsns(alloc, g, disk, groups.as_slice(), clusters, &inodes.files) {
         Ok(lsns) => lsns,
-        Err(JournalFault::ReadFault) => return Err(ScanFault::ReadFault),
-        Err(JournalFault::NoMemory) => return Err(ScanFault::NoMemory),
+        Err(JournalFault::ReadFault) => return Err(ReadError::ReadFault),
+        Err(JournalFault::NoMemory) => return Err(ReadError::NoMemory),
     };
     let counts = match read_counts(g, disk) {
         Ok(counts) => counts,
-        Err(Failed) => return Err(ScanFault::ReadFault),
+        Err(Failed) => return Err(ReadError::ReadFault),
     };
     Ok(Catalog {
         geometry: *g,
@@ -160,16 +163,16 @@ fn see_clusters<D: Disk>(
     g: &Geometry,
     disk: &mut D,
     clusters: &[u64],
-) -> Result<Inodes, ScanFault>
+) -> Result<Inodes, ReadError>
     requires inside { g.now.dblocks ≤ D.size disk.old }
     requires low { All (λ cluster. cluster < 2 ^ 42) clusters.now }
     ensures inodes { IfOk result (λ inodes. ForSome (D.holds disk.old) (λ image. held_in inodes ≡ gathered (volume_of g.now) image (flat_map (cluster_inodes (volume_of g.now)) clusters.now))) }
-    ensures cause { HasScanCause (D.faults disk.old) (D.faults disk.new) result }
+    ensures cause { HasReadCause (D.faults disk.old) (D.faults disk.new) result }
     ensures disk { OnlyReads D.size D.holds D.write_faults D.tells_stops D.may_leave disk.old disk.new }
 {
     let blocks = match blocks_of(alloc, clusters) {
         Ok(blocks) => blocks,
-        Err(NoMemory) => return Err(ScanFault::NoMemory),
+        Err(NoMemory) => return Err(ReadError::NoMemory),
     };
     let mut inodes = Inodes::new(alloc);
     match look_at(alloc, g, disk, &blocks, &mut inodes) {
@@ -185,11 +188,11 @@ fn look_at<D: Disk>(
     disk: &mut D,
     blocks: &[u64],
     inodes: &mut Inodes,
-) -> Result<(), ScanFault>
+) -> Result<(), ReadError>
     requires inside { g.now.dblocks ≤ D.size disk.old }
     requires low { All (λ block. block < 2 ^ 43) blocks.now }
     ensures held { OnOk result (ForSome (D.holds disk.old) (λ image. held_in inodes.new ≡ joined (held_in inodes.old) (gathered (volume_of g.now) image (inodes_of_blocks (volume_of g.now) blocks.now)))) }
-    ensures cause { HasScanCause (D.faults disk.old) (D.faults disk.new) result }
+    ensures cause { HasReadCause (D.faults disk.old) (D.faults disk.new) result }
     ensures disk { OnlyReads D.size D.holds D.write_faults D.tells_stops D.may_leave disk.old disk.new }
 {
     for block in blocks {
@@ -208,11 +211,11 @@ fn look_at_block<D: Disk>(
     disk: &mut D,
     block: u64,
     inodes: &mut Inodes,
-) -> Result<(), ScanFault>
+) -> Result<(), ReadError>
     requires inside { g.now.dblocks ≤ D.size disk.old }
     requires low { block < 2 ^ 43 }
     ensures held { OnOk result (ForSome (D.holds disk.old) (λ image. held_in inodes.new ≡ joined (held_in inodes.old) (gathered (volume_of g.now) image (inodes_in (volume_of g.now) block)))) }
-    ensures cause { HasScanCause (D.faults disk.old) (D.faults disk.new) result }
+    ensures cause { HasReadCause (D.faults disk.old) (D.faults disk.new) result }
     ensures disk { OnlyReads D.size D.holds D.write_faults D.tells_stops D.may_leave disk.old disk.new }
 {
     if block >= g.dblocks {
@@ -222,7 +225,7 @@ fn look_at_block<D: Disk>(
     let mut bytes = [0; BLOCK_SIZE];
     match disk.read(block, &mut bytes) {
         Ok(()) => see_block(alloc, g, disk, block, &bytes, inodes),
-        Err(Failed) => Err(ScanFault::ReadFault),
+        Err(Failed) => Err(ReadError::ReadFault),
     }
 }
 
