@@ -1,5 +1,6 @@
 -- What is refused late, and what the evidence is, from what is gathered.
-use Rattle.std.proofs.Common.{◌≡◌, ℕ, ◌+◌, ◌^◌, List, map, length, Option, Result, sym, ap, ap₂, ◌∙◌}
+use Rattle.std.proofs.Common.{◌≡◌, ℕ, ◌+◌, ◌*◌, ◌^◌, ◌<◌, ◌≤◌, Bool, true, false, nat_lt, if◌then◌else◌, List, map, length, Option, Some, Result, sym, ap, ap₂, ◌∙◌, arith}
+use Rattle.std.proofs.lemmas.Bool.Decides.{nat_tests}
 use Rattle.std.specs.List.{flat_map, sum_by}
 use Rattle.xfs_disk.specs.Blocks.{Image}
 use Rattle.xfs_geom.specs.Volumes.{Volume, volume_of}
@@ -12,16 +13,18 @@ use Rattle.xfs_volume.specs.declared.clusters.ClusterRec.{ClusterRec}
 use Rattle.xfs_volume.specs.declared.files.FileRec.{FileRec}
 use Rattle.xfs_image.specs.declared.findings.Finding.{Finding}
 use Rattle.xfs_image.specs.Candidates.{candidates}
-use Rattle.xfs_image.specs.Claims.{candidate_files, candidate_inodes, entry_count, extent_count}
+use Rattle.xfs_image.specs.Claims.{candidate_files, candidate_inodes, entry_count, extent_count, inode_count}
 use Rattle.xfs_image.specs.Directories.{dirs_read, entries_read}
 use Rattle.xfs_image.specs.Slots.{cluster_blocks, cluster_inodes}
 use Rattle.xfs_image.specs.View.{log_of, view}
 use Rattle.xfs_scan.specs.Evidence.{AreSeen, IsEvidence, joined_parts}
 use Rattle.xfs_scan.specs.Gathered.{Gathered, bare_inodes, candidate_slots, first_feature, gathered, held_in}
-use Rattle.xfs_scan.specs.Refused.{feature_refused, refused_late, unless_more}
+use Rattle.xfs_scan.specs.Refused.{feature_refused, refused, refused_late, unless_more}
 use Rattle.xfs_scan.specs.declared.inodes.Feature.{Feature}
 use Rattle.xfs_scan.specs.declared.scan.Scanned.{Scanned}
+use Rattle.xfs_scan.specs.Answers.{IsRefusal}
 use Rattle.xfs_scan.specs.declared.faults.ScanFault.{ScanFault}
+use Rattle.xfs_scan.specs.declared.faults.ScanFault.TheVariants as faults
 use Rattle.xfs_scan.proofs.Gathering.{all_bare, all_files, dirs_of_files, entries_of_files, first_found}
 
 -- the slots of candidates
@@ -82,3 +85,27 @@ is_evidence g image seen scanned catalog log groups slots inodes viewed logged =
   catalog = viewed;
   log = logged;
 }
+
+-- a refusal that is due
+pub refusal_from : (due : Option ScanFault) (fault : ScanFault) → due ≡ Some fault → IsRefusal due fault
+refusal_from due faults.ReadFault is = tt
+refusal_from due (faults.TooLarge what count) is = is
+refusal_from due (faults.UnsupportedFile ino what) is = is
+refusal_from due faults.NoMemory is = tt
+
+-- the inodes of the clusters are too many, or not
+pub many_inodes : (v : Volume) (image : Image) (clusters : List ClusterRec) (count : ℕ) → clusters ≡ candidates v image → count ≡ 32 * length clusters → 2 ^ 21 < count
+    → refused v image ≡ Some (faults.TooLarge 1 count)
+unfolding refused inode_count
+many_inodes v image clusters count same counted many =
+    let whole : 32 * length (candidates v image) ≡ count = ap (λ (cs : List ClusterRec). 32 * length cs) (sym same) ∙ sym counted in
+    let test : nat_lt (2 ^ 21) count ≡ true = grind (arith, nat_tests, many) in
+    ap (λ (n : ℕ). unless_more (2 ^ 21) 1 n (refused_late v image)) whole ∙ ap (λ (b : Bool). if b then Some (faults.TooLarge 1 count) else refused_late v image) test
+
+pub few_inodes : (v : Volume) (image : Image) (clusters : List ClusterRec) (count : ℕ) → clusters ≡ candidates v image → count ≡ 32 * length clusters → count ≤ 2 ^ 21
+    → refused v image ≡ refused_late v image
+unfolding refused inode_count
+few_inodes v image clusters count same counted few =
+    let whole : 32 * length (candidates v image) ≡ count = ap (λ (cs : List ClusterRec). 32 * length cs) (sym same) ∙ sym counted in
+    let test : nat_lt (2 ^ 21) count ≡ false = grind (arith, nat_tests, few) in
+    ap (λ (n : ℕ). unless_more (2 ^ 21) 1 n (refused_late v image)) whole ∙ ap (λ (b : Bool). if b then Some (faults.TooLarge 1 count) else refused_late v image) test

@@ -75,7 +75,7 @@ fn gather_files<D: Disk>(
     };
     match refusal(
         extents,
-        scanned.inodes.entries.len() as u64,
+        scanned.inodes.entries.as_slice().len() as u64,
         scanned.inodes.feature,
     ) {
         Some(fault) => Err(fault),
