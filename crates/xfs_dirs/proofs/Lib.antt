@@ -1,0 +1,5 @@
+pub mod Extents
+pub mod OnlyLeaf
+pub mod Order
+pub mod Readings
+pub mod Taken

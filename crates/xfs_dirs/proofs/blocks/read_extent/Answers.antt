@@ -1,0 +1,54 @@
+use Rattle.std.proofs.Common.{◌∙◌, subst, arith}
+use Rattle.xfs_geom.specs.Volumes.{volume_of}
+use Rattle.xfs_image.specs.Directories.{block_in, blocks_of}
+use Rattle.xfs_tree.proofs.Causes.{reads_on}
+use Rattle.xfs_tree.proofs.Rest.{rest_none, rest_of}
+use Rattle.xfs_dirs.specs.Gathered.{AreBelow, found_of, with_blocks}
+use Rattle.xfs_dirs.proofs.Extents.{is_inside}
+use Rattle.xfs_dirs.proofs.Taken.{block_next, no_block}
+use Rattle.xfs_dirs.proofs.blocks.read_extent.Goals as goal
+
+pub overflow_add-start : goal.overflow_add-start
+overflow_add-start g c =
+    let facts = is_inside c.args.g.now c.args.extent.now c.requires.extent in
+    record { fits = omega (arith, c.start_of-start.ensures) }
+
+pub overflow_add-start-in-loop-i : goal.overflow_add-start-in-loop-i
+overflow_add-start-in-loop-i g c =
+    let facts = is_inside c.args.g.now c.args.extent.now c.requires.extent in
+    record { fits = omega (arith, c.start_of-start.ensures) }
+
+pub read-requires-clause-inside : goal.read-requires-clause-inside
+read-requires-clause-inside g c =
+    let facts = is_inside c.args.g.now c.args.extent.now c.requires.extent in
+    omega (arith, c.start_of-start.ensures, c.requires.inside, c.loop-i.invariant.disk.same_size)
+
+pub take_block-requires-clause-inside : goal.take_block-requires-clause-inside
+take_block-requires-clause-inside g c =
+    let facts = is_inside c.args.g.now c.args.extent.now c.requires.extent in
+    omega (arith, c.start_of-start.ensures)
+
+pub loop-i-preserved : goal.loop-i-preserved
+loop-i-preserved g c =
+    let D = g.D.Disk in
+    let v = volume_of c.args.g.now in
+    let e = c.args.extent.now in
+    let before = c.loop-i.invariant in
+    let read = c.in-Ok.ensures in
+    record {
+      ends = before.ends;
+      found = λ image told. block_next v c.args.dir image e c.loop-i.i c.start_of-start.result c.read.new.into (found_of c.loop-i.gathered) (found_of c.take_block.new.gathered)
+          (with_blocks v c.args.dir (found_of c.args.gathered.now) (blocks_of v image e))
+          (omega arith) c.start_of-start.ensures (read.bytes image (before.disk.same_contents ∙ told)) c.in-Ok-take_block.ensures.found (before.found image told);
+      below = subst (AreBelow c.take_block.new.gathered.kept) (omega arith) c.in-Ok-take_block.ensures.below;
+      block = c.read.auto.into ∙ before.block;
+      later = let up = before.later in let cause = read.cause in omega (arith, up, cause);
+      disk = reads_on D.size D.holds D.write_faults D.tells_stops D.may_leave c.args.disk.now c.loop-i.disk c.read.new.self before.disk
+          (record { same_size = read.size; same_contents = read.holds; same_write_faults = read.write_faults; tells = read.tells; leaves = read.stops });
+    }
+
+pub returns-clause-found : goal.returns-clause-found
+returns-clause-found g c = λ image told.
+    no_block (volume_of c.args.g.now) c.args.dir (rest_of c.loop-i.i c.args.extent.now.count (block_in (volume_of c.args.g.now) image c.args.extent.now)) (found_of c.loop-i.gathered)
+    (with_blocks (volume_of c.args.g.now) c.args.dir (found_of c.args.gathered.now) (blocks_of (volume_of c.args.g.now) image c.args.extent.now))
+    (rest_none c.loop-i.i c.args.extent.now.count (block_in (volume_of c.args.g.now) image c.args.extent.now) (omega arith)) (c.loop-i.invariant.found image told)

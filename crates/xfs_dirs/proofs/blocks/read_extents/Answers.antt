@@ -1,0 +1,41 @@
+use Rattle.std.proofs.Common.{◌≡◌, ◌+◌, true, false, None, List, ◌∷◌, get_or, drop, ◌∙◌, subst, arith}
+use Rattle.std.proofs.lemmas.List.{at_drop_all, at_drop_more}
+use Rattle.xfs_word.specs.declared.extents.Extent.{Extent}
+use Rattle.xfs_geom.specs.Volumes.{volume_of}
+use Rattle.xfs_tree.proofs.Causes.{reads_on}
+use Rattle.xfs_inode.specs.Files.{are_extents}
+use Rattle.xfs_dirs.specs.Gathered.{blocks_in, found_of, nothing, with_blocks}
+use Rattle.xfs_dirs.proofs.Order.{before_next, extents_rest}
+use Rattle.xfs_dirs.proofs.Taken.{extent_next, none_next}
+use Rattle.xfs_dirs.proofs.blocks.read_extents.Goals as goal
+
+-- what stands behind the last
+abbrev no_extent : Extent
+no_extent = record { offset = 0; start = 0; count = 0; unwritten = false }
+
+pub loop-extent-preserved : goal.loop-extent-preserved
+loop-extent-preserved g c =
+    let D = g.D.Disk in
+    let v = volume_of c.args.g.now in
+    let es = c.args.extents.now in
+    let i = c.loop-extent.extent-index in
+    let before = c.loop-extent.invariant in
+    let read = c.in-Ok.ensures in
+    let e = get_or es i no_extent in
+    let split : drop i es ≡ e ∷ drop (i + 1) es = at_drop_more (λ (xs : List Extent). xs) es i no_extent (omega arith) in
+    let lawful : are_extents v None (e ∷ drop (i + 1) es) ≡ true = subst (λ (xs : List Extent). are_extents v None xs ≡ true) split before.lawful in
+    record {
+      found = λ image told. extent_next v c.args.dir image e (drop i es) (drop (i + 1) es) (found_of c.loop-extent.gathered) (found_of c.read_extent.new.gathered)
+          (with_blocks v c.args.dir nothing (blocks_in v image es)) split
+          (read.found image (before.disk.same_contents ∙ told)) (before.found image told);
+      lawful = extents_rest v e (drop (i + 1) es) lawful;
+      before = before_next v c.read_extent.new.gathered.kept e (drop (i + 1) es) lawful read.below;
+      later = let up = before.later in let cause = read.cause in omega (arith, up, cause);
+      disk = reads_on D.size D.holds D.write_faults D.tells_stops D.may_leave c.args.disk.now c.loop-extent.disk c.read_extent.new.disk before.disk read.disk;
+    }
+
+pub returns-clause-found : goal.returns-clause-found
+returns-clause-found g c = λ image told.
+    none_next (volume_of c.args.g.now) c.args.dir image (drop c.loop-extent.extent-index c.args.extents.now) (found_of c.loop-extent.gathered)
+    (with_blocks (volume_of c.args.g.now) c.args.dir nothing (blocks_in (volume_of c.args.g.now) image c.args.extents.now))
+    (at_drop_all (λ (xs : List Extent). xs) c.args.extents.now c.loop-extent.extent-index (omega arith)) (c.loop-extent.invariant.found image told)

@@ -1,0 +1,119 @@
+//! The mapped blocks of a directory, read from a disk in file order, each once.
+
+ghost use Rattle.std.specs.Prelude.{◌≡◌, ℕ, ◌+◌, ◌<◌, ◌≤◌, true, None, length, IfOk, OnOk};
+ghost use Rattle.std.specs.Option.{ForSome};
+ghost use Rattle.xfs_geom.specs.Groups.{block_of_address};
+ghost use Rattle.xfs_geom.specs.Volumes.{volume_of};
+ghost use Rattle.xfs_tree.specs.Answers.{OnlyReads};
+ghost use Rattle.xfs_kinds.specs.FileTrees.{is_extent};
+ghost use Rattle.xfs_inode.specs.Files.{are_extents};
+ghost use Rattle.xfs_image.specs.Directories.{blocks_of};
+ghost use Rattle.xfs_dirs.specs.Answers.{HasDirCause};
+ghost use Rattle.xfs_dirs.specs.Gathered.{AreBelow, AreInOrder, file_block, found_of, nothing, with_block, with_blocks, blocks_in};
+
+use crate::entries::entries_where;
+use crate::found::DirError;
+use crate::gathered::{Gathered, keep};
+use crate::seals::is_own;
+use std::alloc::Global;
+use xfs_disk::{BLOCK_SIZE, Disk, Failed, NoMemory};
+use xfs_geom::Geometry;
+use xfs_word::Extent;
+
+/// What the blocks of these extents give, those that are not written yet among them.
+pub fn read_extents<D: Disk>(
+    alloc: Global,
+    g: &Geometry,
+    disk: &mut D,
+    dir: u64,
+    extents: &[Extent],
+) -> Result<Gathered, DirError>
+    requires extents { are_extents (volume_of g.now) None extents.now ≡ true }
+    requires inside { g.now.dblocks ≤ D.size disk.old }
+    ensures found { IfOk result (λ gathered. ForSome (D.holds disk.old) (λ image. found_of gathered ≡ with_blocks (volume_of g.now) dir nothing (blocks_in (volume_of g.now) image extents.now))) }
+    ensures order { IfOk result (λ gathered. AreInOrder gathered.kept) }
+    ensures cause { HasDirCause (D.faults disk.old) (D.faults disk.new) result }
+    ensures disk { OnlyReads D.size D.holds D.write_faults D.tells_stops D.may_leave disk.old disk.new }
+{
+    let mut gathered = Gathered::new(alloc);
+    for extent in extents {
+        match read_extent(alloc, g, disk, dir, extent, &mut gathered) {
+            Ok(()) => {}
+            Err(fault) => return Err(fault),
+        }
+    }
+    Ok(gathered)
+}
+
+/// Takes up the blocks of an extent.
+fn read_extent<D: Disk>(
+    alloc: Global,
+    g: &Geometry,
+    disk: &mut D,
+    dir: u64,
+    extent: &Extent,
+    gathered: &mut Gathered,
+) -> Result<(), DirError>
+    requires extent { is_extent (volume_of g.now) extent.now ≡ true }
+    requires inside { g.now.dblocks ≤ D.size disk.old }
+    requires below { AreBelow gathered.old.kept extent.now.offset }
+    ensures found { OnOk result (ForSome (D.holds disk.old) (λ image. found_of gathered.new ≡ with_blocks (volume_of g.now) dir (found_of gathered.old) (blocks_of (volume_of g.now) image extent.now))) }
+    ensures below { OnOk result (AreBelow gathered.new.kept (extent.now.offset + extent.now.count)) }
+    ensures cause { HasDirCause (D.faults disk.old) (D.faults disk.new) result }
+    ensures disk { OnlyReads D.size D.holds D.write_faults D.tells_stops D.may_leave disk.old disk.new }
+{
+    let start = start_of(g, extent);
+    let mut block = [0; BLOCK_SIZE];
+    for i in 0..extent.count {
+        match disk.read(start + i, &mut block) {
+            Ok(()) => {}
+            Err(Failed) => return Err(DirError::ReadFault),
+        }
+        match take_block(
+            alloc,
+            g,
+            dir,
+            start + i,
+            extent.offset + i,
+            &block,
+            gathered,
+        ) {
+            Ok(()) => {}
+            Err(NoMemory) => return Err(DirError::NoMemory),
+        }
+    }
+    Ok(())
+}
+
+/// Takes up a block that was read.
+fn take_block(
+    alloc: Global,
+    g: &Geometry,
+    dir: u64,
+    place: u64,
+    offset: u64,
+    block: &[u8],
+    gathered: &mut Gathered,
+) -> Result<(), NoMemory>
+    requires size { length block.now ≡ 4096 }
+    requires inside { place < g.now.dblocks }
+    requires below { AreBelow gathered.old.kept offset }
+    ensures found { OnOk result (found_of gathered.new ≡ with_block (volume_of g.now) dir (found_of gathered.old) (file_block place offset block.now)) }
+    ensures below { OnOk result (AreBelow gathered.new.kept (offset + 1)) }
+{
+    let own = is_own(g, dir, place, offset, block);
+    let entries = entries_where(alloc, dir, own, offset, block)?;
+    gathered.take(entries)?;
+    keep(alloc, own, offset, block, &mut gathered.kept)?;
+    Ok(())
+}
+
+/// The number of the first block of an extent.
+fn start_of(g: &Geometry, extent: &Extent) -> u64
+    requires { is_extent (volume_of g.now) extent.now ≡ true }
+    ensures { result ≡ block_of_address g.now.agblocks g.now.agblklog extent.now.start }
+{
+    let size = 1u64 << g.agblklog;
+    let group = (extent.start / size) as u32;
+    g.start_of_group(group) + extent.start % size
+}

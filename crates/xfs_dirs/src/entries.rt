@@ -1,0 +1,85 @@
+//! Entries, taken from a data block.
+
+ghost use Rattle.std.specs.Prelude.{◌≡◌, ◌++◌, length, filter, IfOk, OnOk};
+ghost use Rattle.xfs_dirindex.specs.Data.{is_dots, is_parent, is_self};
+ghost use Rattle.xfs_dirindex.specs.Mapped.{block_of};
+ghost use Rattle.xfs_image.specs.Directories.{is_named};
+ghost use Rattle.xfs_dirs.specs.Gathered.{entries_where, parent_in};
+
+use std::alloc::Global;
+use xfs_dirdata::{DirFault, EntryRec, read_data};
+use xfs_dirindex::layouts::{INDEX_START, data_magic};
+use xfs_disk::NoMemory;
+use xfs_word::get32;
+
+/// The entries of a block, of 4096 bytes, that stands at this block of the file, where it is its directory's (chapter
+/// "Directories"). A data block that breaks a rule has none.
+pub fn entries_where(
+    alloc: Global,
+    dir: u64,
+    own: bool,
+    offset: u64,
+    block: &[u8],
+) -> Result<Vec<EntryRec>, NoMemory>
+    requires { length block.now ≡ 4096 }
+    ensures { IfOk result (λ entries. entries.items ≡ entries_where own dir (block_of offset block.now)) }
+{
+    if offset >= INDEX_START || !own {
+        return Ok(Vec::new(alloc));
+    }
+    let whole = get32(block, 0) == data_magic(true);
+    match read_data(alloc, dir, block, whole) {
+        Ok(data) => Ok(data.entries),
+        Err(DirFault::Unsound) => Ok(Vec::new(alloc)),
+        Err(DirFault::NoMemory) => Err(NoMemory),
+    }
+}
+
+/// The target of the first entry of the parent.
+pub fn parent_in(entries: &[EntryRec]) -> Option<u64>
+    ensures { result ≡ parent_in entries.now }
+{
+    for entry in entries {
+        if is_parent(entry.name.bytes()) {
+            return Some(entry.ino);
+        }
+    }
+    None
+}
+
+/// Adds the entries but those of the directory itself and its parent.
+pub fn push_named(entries: Vec<EntryRec>, named: &mut Vec<EntryRec>) -> Result<(), NoMemory>
+    ensures { OnOk result (named.new.items ≡ named.old.items ++ filter is_named entries.items) }
+{
+    for entry in entries {
+        if !is_dots(&entry) {
+            named.push(entry)?;
+        }
+    }
+    Ok(())
+}
+
+/// Whether an entry is that of the directory itself or of its parent.
+#[tactic(auto, unfolding(xfs_dirindex::specs::Data::is_dots))]
+fn is_dots(entry: &EntryRec) -> bool
+    ensures { result ≡ is_dots entry.now }
+{
+    let name = entry.name.bytes();
+    is_self(name) || is_parent(name)
+}
+
+/// Whether a name is that of the directory itself.
+#[tactic(auto, unfolding(xfs_dirindex::specs::Data::is_self))]
+fn is_self(name: &[u8]) -> bool
+    ensures { result ≡ is_self name.now }
+{
+    name.len() == 1 && name[0] == b'.'
+}
+
+/// Whether a name is that of the parent.
+#[tactic(auto, unfolding(xfs_dirindex::specs::Data::is_parent))]
+fn is_parent(name: &[u8]) -> bool
+    ensures { result ≡ is_parent name.now }
+{
+    name.len() == 2 && name[0] == b'.' && name[1] == b'.'
+}
