@@ -1,0 +1,167 @@
+-- Sets of blocks: what is added is there, and what lies in a range, in order.
+use Rattle.std.proofs.Common.{◌≡◌, ℕ, zero, suc, Bool, true, false, cond, ◌+◌, ◌≤◌, ◌<◌, inl, inr, ◌&&◌, ◌||◌, ◌==◌, nat_le, nat_lt, List, [], ◌∷◌, refl, sym, ap, ap₂, ◌∙◌, subst, arith}
+use Rattle.std.specs.Ordering.{nat_cmp}
+use Rattle.std.specs.declared.cmp.Ordering.TheVariants.{Less}
+use Rattle.std.specs.List.{AllByRecursion, filter, range_with_len}
+use Rattle.std.specs.List.Sorted.{IsStrictlySortedBy}
+use Rattle.std.specs.BTreeSet.{insert_key}
+use Rattle.std.proofs.lemmas.Bool.{and_parts, cases_lt, cases_order, eq-eqb, leb-true, ltb-true, ne_eqb}
+use Rattle.std.proofs.lemmas.Bool.Decides.{nat_tests}
+use Rattle.std.proofs.lemmas.Map.Keys.{sorted_head, sorted_tail}
+use Rattle.xfs_image.specs.Claims.{is_of_cluster}
+use Rattle.xfs_groups.specs.Sets.{has}
+
+or_last : (x y z : Bool) → (x || (y || z)) ≡ ((y || z) || x)
+or_last true true z = refl
+or_last true false true = refl
+or_last true false false = refl
+or_last false true z = refl
+or_last false false true = refl
+or_last false false false = refl
+
+or_moved : (x y z : Bool) → (x || (y || z)) ≡ ((x || y) || z)
+or_moved true y z = refl
+or_moved false y z = refl
+
+or_same : (x y : Bool) → (x || y) ≡ ((x || y) || x)
+or_same true y = refl
+or_same false true = refl
+or_same false false = refl
+
+or_none : (x : Bool) → (x || false) ≡ x
+or_none true = refl
+or_none false = refl
+
+-- a set has what it had, and the block that is added
+pub inserted : (n : ℕ) (xs : List ℕ) (q : ℕ) → has (insert_key nat_cmp xs n) q ≡ (has xs q || n == q)
+inserted n [] q = or_none (n == q)
+inserted n (m ∷ rest) q =
+    elim (cases_order n m) [
+      | inl same ↦ let e : nat_lt n m ≡ false = grind (arith, nat_tests) in
+          let f : (n == m) ≡ true = grind (arith, nat_tests) in
+          rw (e, f) (or_same (m == q) (has rest q) ∙ ap (λ (k : ℕ). (m == q || has rest q) || k == q) (sym same))
+      | inr other ↦ elim other [
+        | inl lt ↦ let e : nat_lt n m ≡ true = grind (arith, nat_tests) in rw e (or_last (n == q) (m == q) (has rest q))
+        | inr gt ↦ let e : nat_lt n m ≡ false = grind (arith, nat_tests) in
+            let f : (n == m) ≡ false = grind (arith, nat_tests) in
+            rw (e, f) (ap (λ (t : Bool). m == q || t) (inserted n rest q) ∙ or_moved (m == q) (has rest q) (n == q))
+      ]
+    ]
+
+-- the four blocks of a cluster, one after the other
+pub four_blocks : (old : Bool) (c q : ℕ) → ((((old || c == q) || c + 1 == q) || c + 2 == q) || c + 3 == q) ≡ (old || is_of_cluster c q)
+four_blocks true c q = refl
+four_blocks false c q = grind (arith, nat_tests)
+
+-- numbers ascend from one on
+abbrev pub Rising : ℕ → List ℕ → Type 0
+Rising low [] = Unit {0}
+Rising low (x ∷ xs) = (low ≤ x) × Rising (x + 1) xs
+
+abbrev lies : ℕ → ℕ → ℕ → Bool
+lies first count q = nat_le first q && nat_lt q (first + count)
+
+from_lower : (low high : ℕ) (xs : List ℕ) → low ≤ high → Rising high xs → Rising low xs
+from_lower low high [] le up = tt
+from_lower low high (x ∷ xs) le up = (let first = up.0 in omega (arith, le, first), up.1)
+
+none_below : (q low : ℕ) (xs : List ℕ) → q < low → Rising low xs → has xs q ≡ false
+none_below q low [] lt up = refl
+none_below q low (x ∷ xs) lt up =
+    let first : low ≤ x = up.0 in
+    let e : (x == q) ≡ false = grind (arith, nat_tests) in
+    rw e (none_below q (x + 1) xs (omega (arith, lt, first)) up.1)
+
+-- numbers in a row that pass a test are those that ascend and pass it
+filter_rising : (p : ℕ → Bool) (n a : ℕ) (xs : List ℕ) → Rising a xs → AllByRecursion (λ x. x < a + n) xs
+    → ((q : ℕ) → a ≤ q → q < a + n → p q ≡ has xs q) → filter p (range_with_len a n) ≡ xs
+filter_rising p zero a [] up low is = refl
+filter_rising p zero a (x ∷ xs) up low is = let first = up.0 in let last = low.0 in absurd (omega (arith, first, last))
+filter_rising p (suc n) a [] up low is =
+    let e : p a ≡ false = is a (omega arith) (omega arith) in
+    rw e (filter_rising p n (a + 1) [] tt tt (λ q from upto. is q (omega (arith, from)) (omega (arith, upto))))
+filter_rising p (suc n) a (x ∷ xs) up low is =
+    elim (cases_lt a x) [
+      | inl lt ↦
+          let none : has (x ∷ xs) a ≡ false = none_below a (a + 1) (x ∷ xs) (omega arith) (omega (arith, lt), up.1) in
+          let e : p a ≡ false = is a (omega arith) (omega arith) ∙ none in
+          rw e (filter_rising p n (a + 1) (x ∷ xs) (omega (arith, lt), up.1) (subst (λ (m : ℕ). AllByRecursion (λ y. y < m) (x ∷ xs)) (omega arith) low)
+          (λ q from upto. is q (omega (arith, from)) (omega (arith, upto))))
+      | inr ge ↦
+          let first : a ≤ x = up.0 in
+          let same : a ≡ x = omega (arith, ge, first) in
+          let here : (x == a) ≡ true = eq-eqb x a (sym same) in
+          let e : p a ≡ true = is a (omega arith) (omega arith) ∙ ap (λ (t : Bool). t || has xs a) here in
+          let rest : filter p (range_with_len (a + 1) n) ≡ xs =
+          filter_rising p n (a + 1) xs (from_lower (a + 1) (x + 1) xs (omega (arith, same)) up.1)
+          (subst (λ (m : ℕ). AllByRecursion (λ y. y < m) xs) (omega arith) low.1)
+          (λ q from upto.
+          let other : (x == q) ≡ false = ne_eqb x q (λ is. omega (arith, is, same, from)) in
+          is q (omega (arith, from)) (omega (arith, upto)) ∙ ap (λ (t : Bool). t || has xs q) other) in
+          rw e (ap₂ (λ (y : ℕ) (ys : List ℕ). y ∷ ys) same rest)
+    ]
+
+rising_filtered : (p : ℕ → Bool) (low : ℕ) (xs : List ℕ) → Rising low xs → Rising low (filter p xs)
+rising_filtered p low [] up = tt
+rising_filtered p low (x ∷ xs) up = by_case (p x) (rising_filtered p (x + 1) xs up.1)
+  where
+    by_case : (b : Bool) → Rising (x + 1) (filter p xs) → Rising low (cond b (x ∷ filter p xs) (filter p xs))
+    by_case true rest = (up.0, rest)
+    by_case false rest = let first = up.0 in from_lower low (x + 1) (filter p xs) (omega (arith, first)) rest
+
+-- the first of those that lie in a range is at its start or behind, and all end before its end
+starts_in : (first count : ℕ) (xs : List ℕ) → Rising 0 xs → Rising first (filter (lies first count) xs)
+starts_in first count xs up = from_start (filter (lies first count) xs) (rising_filtered (lies first count) 0 xs up) (each_lies xs)
+  where
+    each_lies : (xs : List ℕ) → AllByRecursion (λ x. lies first count x ≡ true) (filter (lies first count) xs)
+    each_lies [] = tt
+    each_lies (x ∷ xs) = by_case (lies first count x) refl (each_lies xs)
+      where
+        by_case : (b : Bool) → lies first count x ≡ b → AllByRecursion (λ x. lies first count x ≡ true) (filter (lies first count) xs)
+            → AllByRecursion (λ x. lies first count x ≡ true) (cond b (x ∷ filter (lies first count) xs) (filter (lies first count) xs))
+        by_case true e rest = (e, rest)
+        by_case false e rest = rest
+
+    from_start : (ys : List ℕ) → Rising 0 ys → AllByRecursion (λ x. lies first count x ≡ true) ys → Rising first ys
+    from_start [] up all = tt
+    from_start (y ∷ ys) up all = (leb-true first y (and_parts (nat_le first y) (nat_lt y (first + count)) all.0).0, up.1)
+
+end_in : (first count : ℕ) (xs : List ℕ) → AllByRecursion (λ x. x < first + count) (filter (lies first count) xs)
+end_in first count [] = tt
+end_in first count (x ∷ xs) = by_case (lies first count x) refl (end_in first count xs)
+  where
+    by_case : (b : Bool) → lies first count x ≡ b → AllByRecursion (λ y. y < first + count) (filter (lies first count) xs)
+        → AllByRecursion (λ y. y < first + count) (cond b (x ∷ filter (lies first count) xs) (filter (lies first count) xs))
+    by_case true e rest = (ltb-true x (first + count) (and_parts (nat_le first x) (nat_lt x (first + count)) e).1, rest)
+    by_case false e rest = rest
+
+has_lying : (first count q : ℕ) (xs : List ℕ) → first ≤ q → q < first + count → has xs q ≡ has (filter (lies first count) xs) q
+has_lying first count q [] from upto = refl
+has_lying first count q (x ∷ xs) from upto = by_case (lies first count x) refl (has_lying first count q xs from upto)
+  where
+    by_case : (b : Bool) → lies first count x ≡ b → has xs q ≡ has (filter (lies first count) xs) q
+        → (x == q || has xs q) ≡ has (cond b (x ∷ filter (lies first count) xs) (filter (lies first count) xs)) q
+    by_case true e rest = ap (λ (t : Bool). x == q || t) rest
+    by_case false e rest =
+        let other : (x == q) ≡ false = grind (arith, nat_tests) in
+        rw other rest
+
+sorted_rises : (low : ℕ) (xs : List ℕ) → AllByRecursion (λ x. low ≤ x) xs → IsStrictlySortedBy nat_cmp xs → Rising low xs
+sorted_rises low [] from up = tt
+sorted_rises low (x ∷ xs) from up = (from.0, sorted_rises (x + 1) xs (above xs (sorted_head nat_cmp x xs up)) (sorted_tail nat_cmp x xs up))
+  where
+    above : (ys : List ℕ) → AllByRecursion (λ y. nat_cmp x y ≡ Less) ys → AllByRecursion (λ y. x + 1 ≤ y) ys
+    above [] all = tt
+    above (y ∷ ys) all = (let e = all.0 in grind (arith, nat_tests), above ys all.1)
+
+any_from_zero : (xs : List ℕ) → AllByRecursion (λ x. 0 ≤ x) xs
+any_from_zero [] = tt
+any_from_zero (x ∷ xs) = (omega arith, any_from_zero xs)
+
+-- of a set, those in a range are the numbers of the range that it has
+pub lying : (first count : ℕ) (xs : List ℕ) → IsStrictlySortedBy nat_cmp xs
+    → filter (λ q. nat_le first q && nat_lt q (first + count)) xs ≡ filter (has xs) (range_with_len first count)
+lying first count xs up =
+    let rising : Rising 0 xs = sorted_rises 0 xs (any_from_zero xs) up in
+    sym (filter_rising (has xs) count first (filter (lies first count) xs) (starts_in first count xs rising) (end_in first count xs)
+    (λ q from upto. has_lying first count q xs from upto))

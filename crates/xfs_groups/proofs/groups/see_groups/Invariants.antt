@@ -1,0 +1,21 @@
+use Rattle.std.proofs.Common.{◌≡◌, ◌≤◌, map}
+use Rattle.std.specs.List.{flat_map, range_with_len}
+use Rattle.std.specs.Option.{ForSome}
+use Rattle.xfs_geom.specs.Volumes.{volume_of}
+use Rattle.xfs_tree.specs.Answers.{OnlyReads}
+use Rattle.xfs_image.specs.Groups.{groups_from}
+use Rattle.xfs_image.specs.Reserved.{reserved_in}
+use Rattle.xfs_groups.specs.Answers.{lists_of}
+use Rattle.xfs_groups.specs.Chosen.{candidates_in}
+use Rattle.xfs_groups.proofs.Grouped.{GroupsPlaced}
+use Rattle.xfs_groups.proofs.groups.see_groups.Given as goal
+
+abbrev pub invariant-loop-ag : goal.invariant-loop-ag
+invariant-loop-ag g l = record {
+  read : ForSome (g.D.Disk.holds l.fn.disk) (λ image. l.groups ≡ groups_from (volume_of l.g) image (range_with_len 0 l.ag));
+  chosen_so : ForSome (g.D.Disk.holds l.fn.disk) (λ image. l.clusters.items ≡ flat_map (candidates_in (volume_of l.g) image) (range_with_len 0 l.ag));
+  held_so : ForSome (g.D.Disk.holds l.fn.disk) (λ image. lists_of l.trees.items ≡ map (reserved_in (volume_of l.g) image) (range_with_len 0 l.ag));
+  placed : GroupsPlaced l.g l.ag l.clusters.items;
+  later : g.D.Disk.faults l.fn.disk ≤ g.D.Disk.faults l.disk;
+  disk : OnlyReads g.D.Disk.size g.D.Disk.holds g.D.Disk.write_faults g.D.Disk.tells_stops g.D.Disk.may_leave l.fn.disk l.disk;
+}

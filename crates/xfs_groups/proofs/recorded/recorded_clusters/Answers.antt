@@ -1,0 +1,46 @@
+use Rattle.std.proofs.Common.{◌≡◌, ℕ, ◌+◌, ◌*◌, ◌/◌, true, sym, ap, ◌∙◌, subst, arith}
+use Rattle.xfs_geom.specs.Conversions.{group_length}
+use Rattle.xfs_geom.specs.Volumes.{volume_of}
+use Rattle.xfs_tree.proofs.Causes.{reads_none, reads_on}
+use Rattle.xfs_groups.specs.Chosen.{ArePlaced, chosen, place_at}
+use Rattle.xfs_groups.proofs.Choosing.{chosen_more, none_chosen, placed_step}
+use Rattle.xfs_groups.proofs.Placed.{none_placed}
+use Rattle.xfs_groups.proofs.recorded.recorded_clusters.Goals as goal
+
+pub loop-i-init : goal.loop-i-init
+loop-i-init g c =
+    let D = g.D.Disk in
+    record {
+      chosen_so = λ image told. c.new-clusters.ensures.items ∙ sym (none_chosen (volume_of c.args.g.now) image true c.args.named.now c.args.ag);
+      placed = subst (ArePlaced (volume_of c.args.g.now) c.args.ag 0) (sym c.new-clusters.ensures.items) (none_placed (volume_of c.args.g.now) c.args.ag);
+      later = omega arith;
+      disk = reads_none D.size D.holds D.write_faults D.tells_stops D.may_leave c.args.disk.now;
+    }
+
+pub loop-i-preserved : goal.loop-i-preserved
+loop-i-preserved g c =
+    let D = g.D.Disk in
+    let v = volume_of c.args.g.now in
+    let before = c.loop-i.invariant in
+    let at : c.start_of_group-start.result + 4 * c.loop-i.i ≡ place_at v c.args.ag c.loop-i.i = ap (λ (s : ℕ). s + 4 * c.loop-i.i) c.start_of_group-start.ensures.value in
+    record {
+      chosen_so = λ image told.
+          chosen_more v image true c.args.named.now c.args.ag c.loop-i.i (c.start_of_group-start.result + 4 * c.loop-i.i) c.in-Ok.is_chosen c.loop-i.clusters.items
+          c.push_chosen.new.clusters.items at (c.in-Ok.ensures.chosen image (before.disk.same_contents ∙ told)) (before.chosen_so image told) c.in-Ok-push_chosen.ensures;
+      placed = placed_step v c.args.ag c.loop-i.i (c.start_of_group-start.result + 4 * c.loop-i.i) c.args.named.now c.in-Ok.is_chosen c.loop-i.clusters.items
+          c.push_chosen.new.clusters.items at before.placed c.in-Ok.ensures.root c.in-Ok-push_chosen.ensures;
+      later = let up = before.later in let cause = c.in-Ok.ensures.cause in omega (arith, up, cause);
+      disk = reads_on D.size D.holds D.write_faults D.tells_stops D.may_leave c.args.disk.now c.loop-i.disk c.is_chosen.new.disk before.disk c.in-Ok.ensures.disk;
+    }
+
+pub returns-clause-chosen : goal.returns-clause-chosen
+returns-clause-chosen g c = λ image told.
+    let last : c.loop-i.i ≡ group_length (volume_of c.args.g.now) c.args.ag / 4 =
+    (let e : c.loop-i.i ≡ c.group_length-i-end.result / 4 = omega arith in e ∙ ap (λ (n : ℕ). n / 4) c.group_length-i-end.ensures.value) in
+    c.loop-i.invariant.chosen_so image told ∙ ap (chosen (volume_of c.args.g.now) image true c.args.named.now c.args.ag) last
+
+pub returns-clause-placed : goal.returns-clause-placed
+returns-clause-placed g c =
+    let last : c.loop-i.i ≡ group_length (volume_of c.args.g.now) c.args.ag / 4 =
+    (let e : c.loop-i.i ≡ c.group_length-i-end.result / 4 = omega arith in e ∙ ap (λ (n : ℕ). n / 4) c.group_length-i-end.ensures.value) in
+    subst (λ (n : ℕ). ArePlaced (volume_of c.args.g.now) c.args.ag n c.loop-i.clusters.items) last c.loop-i.invariant.placed

@@ -1,0 +1,10 @@
+//! Why groups are not read.
+
+/// Why groups are not read.
+#[derive(Clone, Copy, Debug, PartialEq, Eq)]
+pub enum GroupsFault {
+    /// A read failed.
+    ReadFault,
+    /// There is not enough memory.
+    NoMemory,
+}

@@ -1,0 +1,203 @@
+//! The clusters that the trees of a group name, and whether a group says in full where its clusters are.
+
+ghost use Rattle.std.specs.Prelude.{◌≡◌, ◌++◌, ◌*◌, ◌^◌, ◌<◌, ◌||◌, ℕ, IfOk, IfSome, OnOk, option_map};
+ghost use Rattle.std.specs.List.{All, list_all};
+ghost use Rattle.xfs_geom.specs.Volumes.{volume_of};
+ghost use Rattle.xfs_kinds.specs.InodeTrees.{is_missing};
+ghost use Rattle.xfs_image.specs.Clusters.{are_same, both_name, chunk_clusters, clusters_in, given_clusters, is_among};
+ghost use Rattle.xfs_image.specs.Reserved.{is_of_named, is_of_tree};
+ghost use Rattle.xfs_groups.specs.Named.{AreOwnersApart, is_named};
+ghost use Rattle.xfs_groups.specs.Sets.{has};
+
+use crate::sets::BlockSet;
+use crate::sweep::given_clusters;
+use crate::trees::TreeSeen;
+use std::alloc::Global;
+use xfs_disk::NoMemory;
+use xfs_geom::{Geometry, InoRec, RmapRec};
+use xfs_volume::Blocks;
+
+/// The clusters that the two trees of a group name, each where it reads.
+#[derive(Drop)]
+pub(crate) struct Named {
+    pub chunks: Option<Blocks>,
+    pub owners: Option<Blocks>,
+}
+
+/// The clusters of the chunks of a tree, where it reads.
+pub(crate) fn named_by_chunks(
+    alloc: Global,
+    g: &Geometry,
+    ag: u32,
+    tree: &Option<TreeSeen<InoRec>>,
+) -> Result<Option<Blocks>, NoMemory>
+    requires { ag < g.now.agcount }
+    ensures named { IfOk result (λ named. named ≡ option_map (λ tree. chunk_clusters (volume_of g.now) ag tree.records) tree.now) }
+    ensures low { IfOk result (λ named. IfSome named (λ clusters. All (λ cluster. cluster < 2 ^ 32) clusters)) }
+{
+    match tree {
+        None => Ok(None),
+        Some(tree) => {
+            let clusters = chunk_clusters(alloc, g, ag, tree.records())?;
+            Ok(Some(clusters))
+        }
+    }
+}
+
+/// The clusters that a tree of owners gives, where it reads.
+pub(crate) fn named_by_owners(
+    alloc: Global,
+    g: &Geometry,
+    ag: u32,
+    tree: &Option<TreeSeen<RmapRec>>,
+) -> Result<Option<Blocks>, NoMemory>
+    requires { ag < g.now.agcount }
+    ensures named { AreOwnersApart tree.now → IfOk result (λ named. named ≡ option_map (λ tree. given_clusters (volume_of g.now) ag tree.records) tree.now) }
+    ensures low { IfOk result (λ named. IfSome named (λ clusters. All (λ cluster. cluster < 2 ^ 32) clusters)) }
+{
+    match tree {
+        None => Ok(None),
+        Some(tree) => {
+            let clusters = given_clusters(alloc, g, ag, tree.records())?;
+            Ok(Some(clusters))
+        }
+    }
+}
+
+/// The clusters of some chunks of a group, in order.
+fn chunk_clusters(
+    alloc: Global,
+    g: &Geometry,
+    ag: u32,
+    chunks: &[InoRec],
+) -> Result<Blocks, NoMemory>
+    requires { ag < g.now.agcount }
+    ensures named { IfOk result (λ clusters. clusters ≡ chunk_clusters (volume_of g.now) ag chunks.now) }
+    ensures low { IfOk result (λ clusters. All (λ cluster. cluster < 2 ^ 32) clusters) }
+{
+    let base = g.start_of_group(ag);
+    let mut clusters = Vec::new(alloc);
+    for chunk in chunks {
+        push_clusters(base, chunk, &mut clusters)?;
+    }
+    Ok(Blocks::from_vec(clusters))
+}
+
+/// Adds the clusters of a chunk of a group that begins at a block.
+fn push_clusters(base: u64, chunk: &InoRec, clusters: &mut Vec<u64>) -> Result<(), NoMemory>
+    requires base { base < 2 ^ 26 }
+    requires low { All (λ cluster. cluster < 2 ^ 32) clusters.old.items }
+    ensures more { OnOk result (clusters.new.items ≡ clusters.old.items ++ clusters_in base chunk.now) }
+    ensures low { OnOk result (All (λ cluster. cluster < 2 ^ 32) clusters.new.items) }
+{
+    let first = base + chunk.startino as u64 / 8;
+    if !is_missing(chunk.holemask, 0) {
+        clusters.push(first)?;
+    }
+    if !is_missing(chunk.holemask, 8) {
+        clusters.push(first + 4)?;
+    }
+    Ok(())
+}
+
+/// Whether a bit of a chunk's mask of missing inodes is set.
+fn is_missing(holemask: u16, bit: u32) -> bool
+    requires { bit < 16 }
+    ensures { result ≡ is_missing holemask (4 * bit) }
+{
+    holemask >> bit & 1 == 1
+}
+
+impl Named {
+    /// Whether both trees read and name the same clusters.
+    pub fn is_trusted(&self, alloc: Global) -> Result<bool, NoMemory>
+        ensures { IfOk result (λ trusted. trusted ≡ both_name self.now.chunks self.now.owners) }
+    {
+        let Some(chunks) = &self.chunks else {
+            return Ok(false);
+        };
+        match &self.owners {
+            None => Ok(false),
+            Some(owners) => are_same(alloc, chunks.as_slice(), owners.as_slice()),
+        }
+    }
+
+    /// The clusters that a tree names.
+    pub fn clusters(&self, alloc: Global) -> Result<BlockSet, NoMemory>
+        ensures { IfOk result (λ set. (q : ℕ) → has set q ≡ is_named self.now.chunks self.now.owners q) }
+    {
+        let mut set = BlockSet::new(alloc);
+        if let Some(chunks) = &self.chunks {
+            set.add_all(chunks.as_slice())?;
+        }
+        if let Some(owners) = &self.owners {
+            set.add_all(owners.as_slice())?;
+        }
+        Ok(set)
+    }
+}
+
+/// Whether two lists name the same clusters.
+fn are_same(alloc: Global, xs: &[u64], ys: &[u64]) -> Result<bool, NoMemory>
+    ensures { IfOk result (λ same. same ≡ are_same xs.now ys.now) }
+{
+    if !are_among(alloc, xs, ys)? {
+        return Ok(false);
+    }
+    are_among(alloc, ys, xs)
+}
+
+/// Whether each of some clusters is one of others.
+fn are_among(alloc: Global, xs: &[u64], ys: &[u64]) -> Result<bool, NoMemory>
+    ensures { IfOk result (λ among. among ≡ list_all (is_among ys.now) xs.now) }
+{
+    let mut set = BlockSet::new(alloc);
+    set.add_all(ys)?;
+    for cluster in xs {
+        if !set.has(*cluster) {
+            return Ok(false);
+        }
+    }
+    Ok(true)
+}
+
+/// The blocks of the tree of chunks and that of owners, each where it reads, and of the clusters that they name.
+pub(crate) fn held_by_trees(
+    alloc: Global,
+    ino: &Option<TreeSeen<InoRec>>,
+    rmap: &Option<TreeSeen<RmapRec>>,
+    named: &Named,
+) -> Result<BlockSet, NoMemory>
+    requires chunks { IfSome named.now.chunks (λ clusters. All (λ cluster. cluster < 2 ^ 32) clusters) }
+    requires owners { IfSome named.now.owners (λ clusters. All (λ cluster. cluster < 2 ^ 32) clusters) }
+    ensures { IfOk result (λ set. (q : ℕ) → has set q
+        ≡ (is_of_tree ino.now q || is_of_tree rmap.now q || is_of_named named.now.chunks q || is_of_named named.now.owners q)) }
+{
+    let mut set = BlockSet::new(alloc);
+    add_tree(&mut set, ino)?;
+    add_tree(&mut set, rmap)?;
+    add_named(&mut set, &named.chunks)?;
+    add_named(&mut set, &named.owners)?;
+    Ok(set)
+}
+
+/// Adds the blocks of a tree, where it reads.
+fn add_tree<R: Drop>(set: &mut BlockSet, tree: &Option<TreeSeen<R>>) -> Result<(), NoMemory>
+    ensures { OnOk result ((q : ℕ) → has set.new q ≡ (has set.old q || is_of_tree tree.now q)) }
+{
+    match tree {
+        None => Ok(()),
+        Some(tree) => set.add_all(tree.blocks()),
+    }
+}
+
+/// Adds the blocks of clusters, where a tree names them.
+fn add_named(set: &mut BlockSet, named: &Option<Blocks>) -> Result<(), NoMemory>
+    requires { IfSome named.now (λ clusters. All (λ cluster. cluster < 2 ^ 32) clusters) }
+    ensures { OnOk result ((q : ℕ) → has set.new q ≡ (has set.old q || is_of_named named.now q)) }
+{
+    match named {
+        None => Ok(()),
+        Some(clusters) => set.add_clusters(clusters.as_slice()),
+    }
+}

@@ -1,0 +1,144 @@
+//! The clusters of a group that does not say in full where its clusters are: each place is looked at.
+
+ghost use Rattle.std.specs.Prelude.{◌≡◌, ◌+◌, ◌/◌, ◌<◌, ◌≤◌, ◌++◌, ◌&&◌, ◌||◌, not, false, IfOk};
+ghost use Rattle.std.specs.Option.{ForSome};
+ghost use Rattle.xfs_geom.specs.Conversions.{group_length, is_fixed};
+ghost use Rattle.xfs_geom.specs.Volumes.{volume_of};
+ghost use Rattle.xfs_image.specs.Groups.{head_block};
+ghost use Rattle.xfs_tree.specs.Answers.{OnlyReads};
+ghost use Rattle.xfs_groups.specs.Answers.{HasGroupsCause};
+ghost use Rattle.xfs_groups.specs.Chosen.{ArePlaced, are_clear, are_used, chosen, is_chosen_as, withheld};
+ghost use Rattle.xfs_groups.specs.Sets.{has};
+
+use crate::faults::GroupsFault;
+use crate::looking::{BlockSeen, look};
+use crate::recorded::{lies_in_chunk, push_chosen, root_cluster};
+use crate::sets::{BlockSet, push_if};
+use std::alloc::Global;
+use xfs_disk::{Disk, Failed, NoMemory};
+use xfs_geom::Geometry;
+use xfs_volume::ClusterRec;
+
+/// The clusters of a group whose slots are read, and the blocks of it on which nothing new is placed.
+#[derive(Drop)]
+pub(crate) struct Scanned {
+    pub clusters: Vec<ClusterRec>,
+    pub reserved: Vec<u64>,
+}
+
+/// What the blocks of a cluster are.
+#[derive(Clone, Copy)]
+struct ClusterSeen {
+    /// A slot is sealed and holds a file.
+    used: bool,
+    /// No block has a fixed use or is sealed as one object.
+    clear: bool,
+}
+
+/// Looks at each place of a group whose trees name these clusters, and hold these blocks.
+pub(crate) fn scan_group<D: Disk>(
+    alloc: Global,
+    g: &Geometry,
+    disk: &mut D,
+    ag: u32,
+    named: &BlockSet,
+    held: &BlockSet,
+) -> Result<Scanned, GroupsFault>
+    requires group { ag < g.now.agcount }
+    requires inside { g.now.dblocks ≤ D.size disk.old }
+    ensures chosen { IfOk result (λ found. ForSome (D.holds disk.old) (λ image.
+        found.clusters.items ≡ chosen (volume_of g.now) image false named.now ag (group_length (volume_of g.now) ag / 4))) }
+    ensures withheld { IfOk result (λ found. ForSome (D.holds disk.old) (λ image.
+        found.reserved.items ≡ withheld (volume_of g.now) image false held.now (head_block (volume_of g.now) ag) (group_length (volume_of g.now) ag))) }
+    ensures placed { IfOk result (λ found. ArePlaced (volume_of g.now) ag (group_length (volume_of g.now) ag / 4) found.clusters.items) }
+    ensures cause { HasGroupsCause (D.faults disk.old) (D.faults disk.new) result }
+    ensures disk { OnlyReads D.size D.holds D.write_faults D.tells_stops D.may_leave disk.old disk.new }
+{
+    let start = g.start_of_group(ag);
+    let blocks = g.group_length(ag);
+    let mut clusters = Vec::new(alloc);
+    let mut reserved = Vec::new(alloc);
+    for i in 0..blocks / 4 {
+        let cluster = start + 4 * i as u64;
+        let seen = match look_at(g, disk, held, cluster, 4, &mut reserved) {
+            Ok(seen) => seen,
+            Err(fault) => return Err(fault),
+        };
+        let is_chosen = is_chosen(g, named, cluster, &seen);
+        match push_chosen(&mut clusters, g, named, cluster, is_chosen) {
+            Ok(()) => {}
+            Err(NoMemory) => return Err(GroupsFault::NoMemory),
+        }
+    }
+    let rest = start + (blocks / 4 * 4) as u64;
+    match look_at(g, disk, held, rest, blocks % 4, &mut reserved) {
+        Ok(_) => Ok(Scanned { clusters, reserved }),
+        Err(fault) => Err(fault),
+    }
+}
+
+/// Whether the slots of a cluster are read: it is the root's, or it is named or has a slot in use, lies in a chunk and is clear.
+fn is_chosen(g: &Geometry, named: &BlockSet, cluster: u64, seen: &ClusterSeen) -> bool
+    requires { cluster < g.now.dblocks }
+    ensures { result ≡ is_chosen_as (volume_of g.now) named.now cluster seen.now.used seen.now.clear }
+{
+    cluster == root_cluster(g)
+        || (named.has(cluster) || seen.used) && lies_in_chunk(g, cluster) && seen.clear
+}
+
+/// Looks at some blocks, and adds those of them on which nothing new is placed.
+fn look_at<D: Disk>(
+    g: &Geometry,
+    disk: &mut D,
+    held: &BlockSet,
+    first: u64,
+    count: u32,
+    reserved: &mut Vec<u64>,
+) -> Result<ClusterSeen, GroupsFault>
+    requires blocks { first + count ≤ g.now.dblocks }
+    requires inside { g.now.dblocks ≤ D.size disk.old }
+    ensures used { IfOk result (λ seen. ForSome (D.holds disk.old) (λ image. seen.used ≡ are_used (volume_of g.now) image first count)) }
+    ensures clear { IfOk result (λ seen. ForSome (D.holds disk.old) (λ image. seen.clear ≡ are_clear (volume_of g.now) image first count)) }
+    ensures withheld { IfOk result (λ seen. ForSome (D.holds disk.old) (λ image.
+        reserved.new.items ≡ reserved.old.items ++ withheld (volume_of g.now) image false held.now first count)) }
+    ensures cause { HasGroupsCause (D.faults disk.old) (D.faults disk.new) result }
+    ensures disk { OnlyReads D.size D.holds D.write_faults D.tells_stops D.may_leave disk.old disk.new }
+{
+    let mut all = ClusterSeen {
+        used: false,
+        clear: true,
+    };
+    for k in 0..count {
+        let block = first + k as u64;
+        let seen = match look(g, disk, block) {
+            Ok(seen) => seen,
+            Err(Failed) => return Err(GroupsFault::ReadFault),
+        };
+        let is_withheld = is_withheld(held, block, &seen);
+        match push_if(reserved, is_withheld, block) {
+            Ok(()) => {}
+            Err(NoMemory) => return Err(GroupsFault::NoMemory),
+        }
+        all = with_block(g, &all, block, &seen);
+    }
+    Ok(all)
+}
+
+/// Whether nothing new is placed on a block, since trees hold it, or its bytes do.
+fn is_withheld(held: &BlockSet, block: u64, seen: &BlockSeen) -> bool
+    ensures { result ≡ (has held.now block || (seen.now.naming || seen.now.used)) }
+{
+    held.has(block) || seen.naming || seen.used
+}
+
+/// What some blocks are, with one more.
+fn with_block(g: &Geometry, all: &ClusterSeen, block: u64, seen: &BlockSeen) -> ClusterSeen
+    requires { block < g.now.dblocks }
+    ensures used { result.used ≡ (all.now.used || seen.now.used) }
+    ensures clear { result.clear ≡ (all.now.clear && not (is_fixed (volume_of g.now) block || seen.now.whole)) }
+{
+    ClusterSeen {
+        used: all.used || seen.used,
+        clear: all.clear && !(g.is_fixed(block) || seen.whole),
+    }
+}

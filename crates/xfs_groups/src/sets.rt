@@ -1,0 +1,118 @@
+//! Sets of blocks.
+
+ghost use Rattle.std.specs.Prelude.{◌≡◌, ◌+◌, ◌*◌, ◌^◌, ◌<◌, ◌==◌, ◌&&◌, ◌||◌, ◌++◌, ◌∷◌, if◌then◌else◌, nat_le, nat_lt, ℕ, [], OnOk, IfOk};
+ghost use Rattle.std.specs.List.{All, filter, list_any, range_with_len};
+ghost use Rattle.std.specs.List.Sorted.{IsStrictlySortedBy};
+ghost use Rattle.std.specs.Ordering.{nat_cmp};
+ghost use Rattle.xfs_image.specs.Claims.{is_of_cluster};
+ghost use Rattle.xfs_groups.specs.Sets.{has};
+
+use std::alloc::Global;
+use std::collections::BTreeSet;
+use std::marker::Model;
+use xfs_disk::NoMemory;
+
+/// A set of blocks, by number. Contracts see them as an ascending list.
+#[derive(Drop)]
+pub(crate) struct BlockSet {
+    set: BTreeSet<u64>,
+}
+
+impl Model for BlockSet {
+    ghost use Rattle.std.specs.Prelude.{List, ℕ};
+
+    ghost Value = { List ℕ };
+
+    ghost view = { λ blocks. blocks.set.keys };
+}
+
+impl BlockSet {
+    /// No block.
+    pub fn new(alloc: Global) -> BlockSet
+        ensures { result ≡ [] }
+    {
+        BlockSet {
+            set: BTreeSet::new(alloc),
+        }
+    }
+
+    /// Whether the block is one of the set.
+    pub fn has(&self, block: u64) -> bool
+        ensures { result ≡ has self.now block }
+    {
+        self.set.contains(&block)
+    }
+
+    /// Adds a block.
+    pub fn add(&mut self, block: u64) -> Result<(), NoMemory>
+        ensures { OnOk result ((q : ℕ) → has self.new q ≡ (has self.old q || block == q)) }
+    {
+        self.set.insert(block)?;
+        Ok(())
+    }
+
+    /// Adds some blocks.
+    pub fn add_all(&mut self, blocks: &[u64]) -> Result<(), NoMemory>
+        ensures { OnOk result ((q : ℕ) → has self.new q ≡ (has self.old q || has blocks.now q)) }
+    {
+        for block in blocks {
+            self.add(*block)?;
+        }
+        Ok(())
+    }
+
+    /// Adds the four blocks of each of some clusters.
+    pub fn add_clusters(&mut self, clusters: &[u64]) -> Result<(), NoMemory>
+        requires { All (λ cluster. cluster < 2 ^ 32) clusters.now }
+        ensures { OnOk result ((q : ℕ) → has self.new q ≡ (has self.old q || list_any (λ cluster. is_of_cluster cluster q) clusters.now)) }
+    {
+        for cluster in clusters {
+            self.add_cluster(*cluster)?;
+        }
+        Ok(())
+    }
+
+    /// Adds the four blocks of a cluster.
+    #[tactic(auto, using(crate::proofs::BlockSets::four_blocks))]
+    fn add_cluster(&mut self, cluster: u64) -> Result<(), NoMemory>
+        requires { cluster < 2 ^ 32 }
+        ensures { OnOk result ((q : ℕ) → has self.new q ≡ (has self.old q || is_of_cluster cluster q)) }
+    {
+        self.add(cluster)?;
+        self.add(cluster + 1)?;
+        self.add(cluster + 2)?;
+        self.add(cluster + 3)
+    }
+
+    /// Those of the set that are one of so many blocks from a first one on, ascending.
+    pub fn within(&self, alloc: Global, first: u64, count: u32) -> Result<Vec<u64>, NoMemory>
+        requires { first < 2 ^ 32 }
+        ensures { IfOk result (λ blocks. blocks.items ≡ filter (has self.now) (range_with_len first count)) }
+    {
+        self.between(alloc, first, first + count as u64)
+    }
+
+    /// Those of the set from a first one on that are below an end, ascending.
+    fn between(&self, alloc: Global, first: u64, end: u64) -> Result<Vec<u64>, NoMemory>
+        ensures between { IfOk result (λ blocks. blocks.items ≡ filter (λ q. nat_le first q && nat_lt q end) self.now) }
+        ensures sorted { IsStrictlySortedBy nat_cmp self.now }
+    {
+        let blocks = self
+            .set
+            .iter()
+            .copied()
+            .filter(|block| first <= *block && *block < end)
+            .collect(alloc)?;
+        Ok(blocks)
+    }
+}
+
+/// Adds a block to a list, where it is wanted.
+pub(crate) fn push_if(list: &mut Vec<u64>, is_wanted: bool, block: u64) -> Result<(), NoMemory>
+    ensures { OnOk result (list.new.items ≡ list.old.items ++ (if is_wanted then (block ∷ []) else [])) }
+{
+    if is_wanted {
+        list.push(block)?;
+    }
+    Ok(())
+}
