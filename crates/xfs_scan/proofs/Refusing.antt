@@ -92,20 +92,3 @@ refusal_from due faults.ReadFault is = tt
 refusal_from due (faults.TooLarge what count) is = is
 refusal_from due (faults.UnsupportedFile ino what) is = is
 refusal_from due faults.NoMemory is = tt
-
--- the inodes of the clusters are too many, or not
-pub many_inodes : (v : Volume) (image : Image) (clusters : List ClusterRec) (count : ℕ) → clusters ≡ candidates v image → count ≡ 32 * length clusters → 2 ^ 21 < count
-    → refused v image ≡ Some (faults.TooLarge 1 count)
-unfolding refused inode_count
-many_inodes v image clusters count same counted many =
-    let whole : 32 * length (candidates v image) ≡ count = ap (λ (cs : List ClusterRec). 32 * length cs) (sym same) ∙ sym counted in
-    let test : nat_lt (2 ^ 21) count ≡ true = grind (arith, nat_tests, many) in
-    ap (λ (n : ℕ). unless_more (2 ^ 21) 1 n (refused_late v image)) whole ∙ ap (λ (b : Bool). if b then Some (faults.TooLarge 1 count) else refused_late v image) test
-
-pub few_inodes : (v : Volume) (image : Image) (clusters : List ClusterRec) (count : ℕ) → clusters ≡ candidates v image → count ≡ 32 * length clusters → count ≤ 2 ^ 21
-    → refused v image ≡ refused_late v image
-unfolding refused inode_count
-few_inodes v image clusters count same counted few =
-    let whole : 32 * length (candidates v image) ≡ count = ap (λ (cs : List ClusterRec). 32 * length cs) (sym same) ∙ sym counted in
-    let test : nat_lt (2 ^ 21) count ≡ false = grind (arith, nat_tests, few) in
-    ap (λ (n : ℕ). unless_more (2 ^ 21) 1 n (refused_late v image)) whole ∙ ap (λ (b : Bool). if b then Some (faults.TooLarge 1 count) else refused_late v image) test

@@ -12,6 +12,8 @@ mod limits;
 mod recorded;
 mod scan;
 mod slots;
+#[cfg(test)]
+mod tests;
 mod view;
 mod whole;
 
