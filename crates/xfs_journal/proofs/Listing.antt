@@ -1,8 +1,7 @@
 -- Lists that grow by what stands first of the rest.
-use Rattle.std.proofs.Common.{◌≡◌, ℕ, suc, ◌+◌, ◌-◌, ◌<◌, ◌≤◌, List, [], ◌∷◌, ◌++◌, length, drop, map, get_or, refl, sym, ◌∙◌, ap, arith}
+use Rattle.std.proofs.Common.{◌≡◌, ℕ, suc, ◌+◌, ◌-◌, ◌<◌, ◌≤◌, List, [], ◌∷◌, ◌++◌, length, drop, map, get_or, sym, ◌∙◌, ap, arith}
 use Rattle.std.specs.List.{flat_map, range_with_len}
 use Rattle.std.proofs.lemmas.List.{append_assoc, append-nil, drop_more, length-drop, nil_from_length}
-use Rattle.xfs_tree.specs.Blocks.{each_of}
 
 -- the items of a row from place i on, of n
 abbrev pub rest_of : {A : Type 0} → ℕ → ℕ → (ℕ → A) → List A

@@ -1,5 +1,5 @@
 -- A disk that is read again and again, and the causes of what is answered.
-use Rattle.std.proofs.Common.{◌≡◌, ℕ, ◌≤◌, List, Option, refl, ◌∙◌, arith}
+use Rattle.std.proofs.Common.{ℕ, ◌≤◌, List, Option, ◌∙◌, arith}
 use Rattle.xfs_disk.specs.Blocks.{Image}
 use Rattle.xfs_tree.specs.Answers.{OnlyReads}
 use Rattle.xfs_journal.specs.Answers.{IsJournalCause}

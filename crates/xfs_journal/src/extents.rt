@@ -15,6 +15,7 @@ use xfs_word::Extent;
 /// Where the data and the free blocks of a directory have their numbers, in bytes, and where all other blocks of its
 /// index and of attributes do.
 const DATA_LSN: u16 = 16;
+
 const INDEX_LSN: u16 = 24;
 
 /// Where a block of a symbolic link has its number, in bytes.
@@ -22,6 +23,7 @@ const LINK_LSN: u16 = 48;
 
 /// The blocks of a directory's index, by their numbers in the file: from the first on, before the end.
 const INDEX_START: u64 = 0x80_0000;
+
 const INDEX_END: u64 = 0x100_0000;
 
 /// What the blocks of a fork belong to.

@@ -14,17 +14,14 @@ use xfs_volume::FileRec;
 
 /// The types of a directory and of a symbolic link, in the upper four bits of a mode (chapter "On-disk Inode").
 const DIRECTORY: u16 = 4;
+
 const LINK: u16 = 10;
 
 /// Where a block of a tree of extents has its number, in bytes.
 const TREE_LSN: u16 = 32;
 
 /// Adds the places of files.
-pub fn push_files(
-    g: &Geometry,
-    files: &[FileRec],
-    places: &mut Vec<Place>,
-) -> Result<(), NoMemory>
+pub fn push_files(g: &Geometry, files: &[FileRec], places: &mut Vec<Place>) -> Result<(), NoMemory>
     requires inside { All IsInside places.old.items }
     ensures listed { OnOk result (listed places.new.items ≡ listed places.old.items ++ flat_map (file_places (volume_of g.now)) files.now) }
     ensures inside { All IsInside places.new.items }

@@ -15,7 +15,9 @@ use xfs_volume::GroupRec;
 /// Where the headers of a group have their numbers in its first block, in bytes: those of its free space and of its
 /// inodes, and its free list.
 const AGF_LSN: u16 = 720;
+
 const AGI_LSN: u16 = 1344;
+
 const AGFL_LSN: u16 = 1560;
 
 /// Where a block of a group's tree has its number, in bytes.
@@ -23,6 +25,7 @@ const TREE_LSN: u16 = 24;
 
 /// Where a slot has its number, and the bytes of a slot.
 const SLOT_LSN: u16 = 112;
+
 const SLOT_SIZE: u16 = 512;
 
 /// Adds the places of groups.

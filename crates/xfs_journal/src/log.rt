@@ -16,16 +16,21 @@ use crate::faults::JournalFault;
 use std::alloc::Global;
 use xfs_disk::{BLOCK_SIZE, Disk, Failed, NoMemory};
 use xfs_geom::Geometry;
-use xfs_word::part;
 use xfs_heads::{LogState, SectorSeen, log_state, see_sector};
+use xfs_word::part;
 
 /// The bytes of a sector, and the sectors of a block.
 const SECTOR_SIZE: usize = 512;
+
 const SECTORS: usize = 8;
 
 /// Whether the log is clean (chapter "Journaling Log"). `ReadFault` only where a read failed.
 #[tactic(auto, unfolding(xfs_image::specs::View::log_of))]
-pub fn read_log<D: Disk>(alloc: Global, g: &Geometry, disk: &mut D) -> Result<LogState, JournalFault>
+pub fn read_log<D: Disk>(
+    alloc: Global,
+    g: &Geometry,
+    disk: &mut D,
+) -> Result<LogState, JournalFault>
     requires inside { g.now.dblocks ≤ D.size disk.old }
     ensures state { IfOk result (λ state. ForSome (D.holds disk.old) (λ image. state ≡ log_of (volume_of g.now) image)) }
     ensures cause { HasJournalCause (D.faults disk.old) (D.faults disk.new) result }

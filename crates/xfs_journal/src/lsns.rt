@@ -118,12 +118,7 @@ struct Held {
 }
 
 /// The number that stands at a place; 0 where the disk, of `size` blocks, does not have the block.
-fn read_lsn<D: Disk>(
-    disk: &mut D,
-    size: u64,
-    place: &Place,
-    held: &mut Held,
-) -> Result<u64, Failed>
+fn read_lsn<D: Disk>(disk: &mut D, size: u64, place: &Place, held: &mut Held) -> Result<u64, Failed>
     requires size { size ≡ D.size disk.old }
     requires inside { IsInside place.now }
     requires held { ForSome (D.holds disk.old) (λ image. HoldsBlock image held.old.block held.old.bytes) }

@@ -6,12 +6,12 @@ use super::*;
 use std::alloc::Global;
 use std::process::Abort;
 use std::test::Fail;
+use xfs_attr::Attrs;
 use xfs_disk::{BLOCK_SIZE, Disk, MemoryDisk, Word};
 use xfs_geom::Geometry;
 use xfs_heads::LogState;
-use xfs_volume::{Blocks, BlockLsn, Core, Extents, FileRec};
+use xfs_volume::{BlockLsn, Blocks, Core, Extents, FileRec};
 use xfs_word::{Extent, put64};
-use xfs_attr::Attrs;
 
 fn volume() -> Geometry
     ensures dblocks { result.dblocks ≡ 2048 }
@@ -114,9 +114,21 @@ fn disk(rt: &impl Abort, alloc: Global) -> Result<MemoryDisk, Fail> {
 fn numbers(rt: HostRuntime) -> Result<(), Fail> {
     let alloc = rt.alloc();
     let rows: [(u16, u64, &[(u64, u64)]); 4] = [
-        (0x41ed, 0, &[(0, 240), (30, 32), (40, 16), (41, 16), (50, 24), (51, 24)]),
-        (0x41ed, 0xff_ffff, &[(0, 240), (30, 32), (40, 24), (41, 16), (50, 24), (51, 24)]),
-        (0xa1ff, 0, &[(0, 240), (30, 32), (40, 48), (41, 48), (50, 24), (51, 24)]),
+        (
+            0x41ed,
+            0,
+            &[(0, 240), (30, 32), (40, 16), (41, 16), (50, 24), (51, 24)],
+        ),
+        (
+            0x41ed,
+            0xff_ffff,
+            &[(0, 240), (30, 32), (40, 24), (41, 16), (50, 24), (51, 24)],
+        ),
+        (
+            0xa1ff,
+            0,
+            &[(0, 240), (30, 32), (40, 48), (41, 48), (50, 24), (51, 24)],
+        ),
         (0x81a4, 0, &[(0, 240), (30, 32), (50, 24), (51, 24)]),
     ];
     for (mode, offset, due) in rows {
@@ -127,7 +139,13 @@ fn numbers(rt: HostRuntime) -> Result<(), Fail> {
         };
         assert_eq!(rt; lsns.as_slice().len(), due.len());
         for (found, (block, lsn)) in lsns.as_slice().iter().zip(due.iter()) {
-            assert_eq!(rt; *found, BlockLsn { block: *block, lsn: *lsn });
+            assert_eq!(rt;
+                *found,
+                BlockLsn {
+                    block: *block,
+                    lsn: *lsn
+                }
+            );
         }
     }
     Ok(())

@@ -3,7 +3,6 @@
 ghost use Rattle.std.specs.Prelude.{◌≡◌, ◌<◌, ◌≤◌, length, map, OnOk};
 ghost use Rattle.std.specs.List.{All};
 ghost use Rattle.std.specs.Option.{ForSome};
-
 ghost use Rattle.xfs_geom.specs.Conversions.{inode_of};
 ghost use Rattle.xfs_geom.specs.Volumes.{volume_of};
 ghost use Rattle.xfs_tree.specs.Answers.{OnlyReads};
@@ -23,6 +22,7 @@ use xfs_word::part;
 
 /// The slots of a block, and the bytes of a slot.
 const SLOTS: u8 = 8;
+
 const SLOT_SIZE: usize = 512;
 
 /// Takes up the slots of these blocks, whose bytes the bank has.

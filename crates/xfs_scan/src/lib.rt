@@ -6,7 +6,6 @@ mod blocks;
 mod clusters;
 mod evidence;
 mod faults;
-
 mod inodes;
 mod limits;
 mod recorded;

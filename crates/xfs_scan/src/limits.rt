@@ -11,12 +11,16 @@ use xfs_volume::{ClusterRec, FileRec};
 
 /// The most inodes of clusters, extents of files and entries of directories.
 pub const MOST_INODES: u64 = 1 << 21;
+
 const MOST_EXTENTS: u64 = 1 << 23;
+
 const MOST_ENTRIES: u64 = 1 << 23;
 
 /// What there is too much of.
 pub const INODES: u8 = 1;
+
 const EXTENTS: u8 = 2;
+
 const ENTRIES: u8 = 3;
 
 /// The inodes of a cluster.

@@ -60,11 +60,7 @@ pub fn scan<D: Disk>(
 }
 
 /// Reads blocks into a bank.
-fn read_bank<D: Disk>(
-    alloc: Global,
-    disk: &mut D,
-    blocks: &[u64],
-) -> Result<BlockBank, ReadError>
+fn read_bank<D: Disk>(alloc: Global, disk: &mut D, blocks: &[u64]) -> Result<BlockBank, ReadError>
     requires inside { All (λ block. block < D.size disk.old) blocks.now }
     ensures many { IfOk result (λ bank. length bank ≡ length blocks.now) }
     ensures held { IfOk result (λ bank. ForSome (D.holds disk.old) (λ image. bank ≡ map (bytes_at image) blocks.now)) }

@@ -91,7 +91,9 @@ fn file(ino: u64) -> Core {
 /// Writes the slot of an inode with these features into a block.
 fn put_slot(rt: &impl Abort, block: &mut [u8; BLOCK_SIZE], core: &Core, fork: &[u8], features: u8) {
     let mut slot = [0; 512];
-    assert!(rt; core.magic == 0x494e && core.version == 3 && core.mode != 0 && core.uuid == IDENTIFIER);
+    assert!(rt;
+        core.magic == 0x494e && core.version == 3 && core.mode != 0 && core.uuid == IDENTIFIER
+    );
     assert!(rt; core.lsn == 0 && core.forkoff == 0 && core.flags == 0 && core.flags2 == 0);
     assert!(rt; fork.len() <= 336 && core.ino < 1024);
     fresh_slot(&volume(), core, fork, &mut slot);
@@ -137,14 +139,21 @@ fn evidence(rt: HostRuntime) -> Result<(), Fail> {
     let Ok(found) = seen(alloc, &rt, &mut disk) else {
         panic!(rt; "the volume is refused");
     };
-    let clusters = [(16, true), (24, false)].map(|(block, recorded)| ClusterRec { block, recorded });
+    let clusters = [(16, true), (24, false)].map(|(block, recorded)| ClusterRec {
+        block,
+        recorded,
+    });
     assert_eq!(rt; found.clusters.as_slice(), &clusters[..]);
     assert_eq!(rt; found.slots.len(), 8);
     let files = found.files.as_slice();
-    assert!(rt; files.len() == 3 && files[0].ino == 128 && files[1].ino == 131 && files[2].ino == 192);
+    assert!(rt;
+        files.len() == 3 && files[0].ino == 128 && files[1].ino == 131 && files[2].ino == 192
+    );
     assert!(rt; found.bare.as_slice().is_empty());
     let entries = found.entries.as_slice();
-    assert!(rt; entries.len() == 1 && entries[0].ino == 131 && entries[0].name.bytes() == b"a".as_slice());
+    assert!(rt;
+        entries.len() == 1 && entries[0].ino == 131 && entries[0].name.bytes() == b"a".as_slice()
+    );
     let root = DirRec {
         ino: 128,
         parent: 128,
@@ -162,7 +171,12 @@ fn least_feature(rt: HostRuntime) -> Result<(), Fail> {
     let alloc = rt.alloc();
     let mut disk = disk(&rt, alloc, &[(136, 0), (138, 2), (141, 8)])?;
     let refused = seen(alloc, &rt, &mut disk);
-    assert!(rt; matches!(refused, Err(ScanFault::UnsupportedFile { ino: 138, what: 4 })));
+    assert!(rt;
+        matches!(
+            refused,
+            Err(ScanFault::UnsupportedFile { ino: 138, what: 4 })
+        )
+    );
     Ok(())
 }
 

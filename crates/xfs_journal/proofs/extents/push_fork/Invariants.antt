@@ -1,4 +1,4 @@
-use Rattle.std.proofs.Common.{◌≡◌, ◌+◌, ◌≤◌, ◌++◌, drop, map, length}
+use Rattle.std.proofs.Common.{◌≡◌, ◌++◌, drop}
 use Rattle.std.specs.List.{All, flat_map}
 use Rattle.xfs_geom.specs.Volumes.{volume_of}
 use Rattle.xfs_image.specs.Lsns.{extent_places}

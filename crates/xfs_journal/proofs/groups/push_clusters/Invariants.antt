@@ -1,4 +1,4 @@
-use Rattle.std.proofs.Common.{◌≡◌, ◌+◌, ◌≤◌, ◌++◌, drop, map, length}
+use Rattle.std.proofs.Common.{◌≡◌, ◌++◌, drop}
 use Rattle.std.specs.List.{All, flat_map}
 use Rattle.xfs_image.specs.Lsns.{cluster_places}
 use Rattle.xfs_journal.specs.Placed.{IsInside, listed}

@@ -1,5 +1,5 @@
-use Rattle.std.proofs.Common.{◌≡◌, ◌+◌, ◌≤◌, ◌++◌, drop, map, length}
-use Rattle.std.specs.List.{All, flat_map}
+use Rattle.std.proofs.Common.{◌≡◌, ◌++◌, drop}
+use Rattle.std.specs.List.{All}
 use Rattle.xfs_geom.specs.Volumes.{volume_of}
 use Rattle.xfs_image.specs.Lsns.{groups_places}
 use Rattle.xfs_journal.specs.Placed.{IsInside, listed}

@@ -1,5 +1,5 @@
-use Rattle.std.proofs.Common.{◌≡◌, ◌+◌, ◌≤◌, ◌++◌, drop, map, length}
-use Rattle.std.specs.List.{All, flat_map}
+use Rattle.std.proofs.Common.{◌≡◌, ◌++◌}
+use Rattle.std.specs.List.{All}
 use Rattle.xfs_image.specs.Lsns.{slot_place}
 use Rattle.xfs_tree.specs.Blocks.{each_of}
 use Rattle.xfs_journal.proofs.Listing.{rest_of}

@@ -1,4 +1,4 @@
-use Rattle.std.proofs.Common.{◌≡◌, ◌+◌, ◌≤◌, ◌++◌, drop, map, length}
+use Rattle.std.proofs.Common.{◌≡◌, ◌++◌, drop, map}
 use Rattle.std.specs.List.{All, flat_map}
 use Rattle.xfs_image.specs.Lsns.{at}
 use Rattle.xfs_volume.specs.declared.groups.TreeBlocks.{TreeBlocks}

@@ -1,4 +1,4 @@
-use Rattle.std.proofs.Common.{◌≡◌, ap, sym, ◌∙◌, arith}
+use Rattle.std.proofs.Common.{sym, arith}
 use Rattle.xfs_journal.proofs.Outside.{no_number}
 use Rattle.xfs_journal.proofs.lsns.read_lsn.Goals as goal
 

@@ -1,5 +1,5 @@
-use Rattle.std.proofs.Common.{◌≡◌, ◌+◌, ◌≤◌, ◌++◌, drop, map, length}
-use Rattle.std.specs.List.{All, flat_map}
+use Rattle.std.proofs.Common.{◌≡◌, ◌++◌, drop, map}
+use Rattle.std.specs.List.{All}
 use Rattle.xfs_image.specs.Lsns.{at}
 use Rattle.xfs_journal.specs.Placed.{IsInside, listed}
 use Rattle.xfs_journal.proofs.places.push_each.Given as goal
