@@ -1,6 +1,6 @@
 -- What is left of a row.
 use Rattle.std.proofs.Common.{◌≡◌, ℕ, suc, ◌+◌, ◌-◌, ◌<◌, ◌≤◌, List, [], ◌∷◌, ◌++◌, map, length, drop, get_or, slice_get, Some, refl, sym, ap, ◌∙◌, arith}
-use Rattle.std.proofs.lemmas.List.{append_assoc, drop_all, get_or-map}
+use Rattle.std.proofs.lemmas.List.{append_assoc, drop_all, drop_more, get_or-map}
 use Rattle.std.proofs.lemmas.Grind.{flat_map-append}
 use Rattle.std.proofs.lemmas.Option.{get_or_from_slice_get}
 use Rattle.xfs_disk.specs.Blocks.{Image}
@@ -8,7 +8,9 @@ use Rattle.xfs_geom.specs.Volumes.{Volume}
 use Rattle.xfs_tree.specs.Reading.{bytes_at}
 use Rattle.xfs_volume.specs.declared.clusters.ClusterRec.{ClusterRec}
 use Rattle.xfs_image.specs.Slots.{cluster_blocks, cluster_inodes, inodes_in}
-use Rattle.xfs_scan.specs.Gathered.{inodes_of_blocks}
+use Rattle.xfs_image.specs.Candidates.{candidates}
+use Rattle.xfs_image.specs.Claims.{candidate_inodes}
+use Rattle.xfs_scan.specs.Gathered.{Gathered, gathered, inodes_of_blocks}
 use Rattle.std.specs.List.{flat_map, range_with_len}
 
 -- the items of a row from place i on, of n
@@ -64,3 +66,27 @@ inodes_of_candidates v [] = refl
 inodes_of_candidates v (c ∷ cs) =
     flat_map-append (inodes_in v) (cluster_blocks c.block) (flat_map (λ (c : ClusterRec). cluster_blocks c.block) cs)
     ∙ ap (λ xs. flat_map (inodes_in v) (cluster_blocks c.block) ++ xs) (inodes_of_candidates v cs)
+
+-- two lists of clusters that agree from a place on agree from the one before on, where they agree there
+pub agree_before : (xs : List ℕ) (cs : List ClusterRec) (i : ℕ) (c : ClusterRec) → i < length xs → i < length cs → get_or xs i 0 ≡ (get_or cs i c).block
+    → drop (i + 1) xs ≡ map (λ (c : ClusterRec). c.block) (drop (i + 1) cs) → drop i xs ≡ map (λ (c : ClusterRec). c.block) (drop i cs)
+agree_before xs cs i c left right here rest =
+    drop_more xs i 0 left ∙ (λ j. here j ∷ rest j) ∙ sym (ap (map (λ (c : ClusterRec). c.block)) (drop_more cs i c right))
+
+pub agree_at_end : (xs : List ℕ) (cs : List ClusterRec) (i : ℕ) → length xs ≤ i → length cs ≤ i → drop i xs ≡ map (λ (c : ClusterRec). c.block) (drop i cs)
+agree_at_end xs cs i left right = drop_all i xs left ∙ sym (ap (map (λ (c : ClusterRec). c.block)) (drop_all i cs right))
+
+-- the inodes of clusters that are given by their first blocks
+inodes_by_block : (v : Volume) (cs : List ClusterRec)
+    → flat_map (λ (c : ClusterRec). cluster_inodes v c.block) cs ≡ flat_map (cluster_inodes v) (map (λ (c : ClusterRec). c.block) cs)
+inodes_by_block v [] = refl
+inodes_by_block v (c ∷ cs) = ap (λ xs. cluster_inodes v c.block ++ xs) (inodes_by_block v cs)
+
+-- what the candidates give, where clusters are just these
+pub given_by_candidates : (v : Volume) (image : Image) (clusters : List ℕ) (cs : List ClusterRec) (held : Gathered) → cs ≡ candidates v image
+    → clusters ≡ map (λ (c : ClusterRec). c.block) cs → held ≡ gathered v image (candidate_inodes v image)
+    → held ≡ gathered v image (flat_map (cluster_inodes v) clusters)
+unfolding candidate_inodes
+given_by_candidates v image clusters cs held same agree all =
+    all ∙ ap (λ (cs : List ClusterRec). gathered v image (flat_map (λ (c : ClusterRec). cluster_inodes v c.block) cs)) (sym same)
+    ∙ ap (gathered v image) (inodes_by_block v cs ∙ ap (flat_map (cluster_inodes v)) (sym agree))

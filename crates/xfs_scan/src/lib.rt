@@ -4,6 +4,7 @@
 
 mod blocks;
 mod clusters;
+mod copies;
 mod evidence;
 mod faults;
 mod inodes;

@@ -90,13 +90,15 @@ fn file(ino: u64) -> Core {
 
 /// Writes the slot of an inode with these features into a block.
 fn put_slot(rt: &impl Abort, block: &mut [u8; BLOCK_SIZE], core: &Core, fork: &[u8], features: u8) {
+    let core = Core {
+        uuid: IDENTIFIER,
+        ..*core
+    };
     let mut slot = [0; 512];
-    assert!(rt;
-        core.magic == 0x494e && core.version == 3 && core.mode != 0 && core.uuid == IDENTIFIER
-    );
+    assert!(rt; core.magic == 0x494e && core.version == 3 && core.mode != 0);
     assert!(rt; core.lsn == 0 && core.forkoff == 0 && core.flags == 0 && core.flags2 == 0);
     assert!(rt; fork.len() <= 336 && core.ino < 1024);
-    fresh_slot(&volume(), core, fork, &mut slot);
+    fresh_slot(&volume(), &core, fork, &mut slot);
     put8(&mut slot, 127, features);
     put_checksum(&mut slot, 100);
     put_part(block, core.ino as usize % 8 * 512, &slot);

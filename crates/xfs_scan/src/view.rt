@@ -1,12 +1,15 @@
 //! What a whole image says, or the first part that does not read.
 
-ghost use Rattle.std.specs.Prelude.{◌≡◌, ◌^◌, ◌<◌, ◌≤◌, length, Ok, IfOk, OnOk};
+ghost use Rattle.std.specs.Prelude.{◌≡◌, ◌^◌, ◌<◌, ◌≤◌, length, map, IsTrue, Ok, IfOk, OnOk};
 ghost use Rattle.std.specs.List.{All, flat_map};
 ghost use Rattle.std.specs.Option.{ForSome};
 ghost use Rattle.xfs_disk.specs.Faults.{HasCause};
 ghost use Rattle.xfs_geom.specs.Conversions.{inode_of};
 ghost use Rattle.xfs_geom.specs.Volumes.{volume_of};
 ghost use Rattle.xfs_tree.specs.Answers.{OnlyReads};
+ghost use Rattle.xfs_volume.specs.declared.clusters.ClusterRec.{ClusterRec};
+ghost use Rattle.xfs_image.specs.Candidates.{candidates};
+ghost use Rattle.xfs_image.specs.Claims.{candidate_inodes};
 ghost use Rattle.xfs_image.specs.Directories.{dirs_read, entries_read};
 ghost use Rattle.xfs_image.specs.Files.{clusters_of};
 ghost use Rattle.xfs_image.specs.Groups.{groups_read};
@@ -17,6 +20,7 @@ ghost use Rattle.xfs_scan.specs.Gathered.{gathered, held_in, inodes_of_blocks, j
 
 use crate::blocks::blocks_of;
 use crate::clusters::see_block;
+use crate::copies::copy_inodes;
 use crate::faults::ReadError;
 use crate::inodes::Inodes;
 use crate::recorded::clusters_of;
@@ -27,7 +31,7 @@ use xfs_geom::{Counts, Geometry};
 use xfs_heads::LogState;
 use xfs_image::Finding;
 use xfs_journal::{JournalFault, read_lsns};
-use xfs_volume::{Catalog, GroupRec, Records};
+use xfs_volume::{Catalog, ClusterRec, GroupRec, Records};
 
 /// The most groups that a volume has.
 const MOST_GROUPS: usize = 512;
@@ -35,16 +39,20 @@ const MOST_GROUPS: usize = 512;
 /// The part of an image that a slot is.
 const SLOT_PART: u8 = 9;
 
-/// What the whole image says whose groups and whose log are these.
+/// What the whole image says whose groups, whose candidate clusters with what their slots give, and whose log are these.
 pub fn see_view<D: Disk>(
     alloc: Global,
     g: &Geometry,
     disk: &mut D,
     groups: Result<Records<GroupRec>, Finding>,
+    scanned_clusters: &[ClusterRec],
+    scanned: &Inodes,
     log: LogState,
 ) -> Result<Result<Catalog, Finding>, ReadError>
     requires inside { g.now.dblocks ≤ D.size disk.old }
     requires groups { ForSome (D.holds disk.old) (λ image. groups ≡ groups_read (volume_of g.now) image) }
+    requires candidates { ForSome (D.holds disk.old) (λ image. scanned_clusters.now ≡ candidates (volume_of g.now) image) }
+    requires scanned { ForSome (D.holds disk.old) (λ image. held_in scanned.now ≡ gathered (volume_of g.now) image (candidate_inodes (volume_of g.now) image)) }
     requires log { ForSome (D.holds disk.old) (λ image. log ≡ log_of (volume_of g.now) image) }
     ensures view { IfOk result (λ seen. ForSome (D.holds disk.old) (λ image. seen ≡ view g.now image)) }
     ensures cause { HasReadCause (D.faults disk.old) (D.faults disk.new) result }
@@ -52,20 +60,24 @@ pub fn see_view<D: Disk>(
 {
     match groups {
         Err(found) => Ok(Err(found)),
-        Ok(groups) => see_catalog(alloc, g, disk, groups, log),
+        Ok(groups) => see_catalog(alloc, g, disk, groups, scanned_clusters, scanned, log),
     }
 }
 
-/// What the whole image says whose groups, which read, and whose log are these.
+/// The same, of groups that read.
 fn see_catalog<D: Disk>(
     alloc: Global,
     g: &Geometry,
     disk: &mut D,
     groups: Records<GroupRec>,
+    scanned_clusters: &[ClusterRec],
+    scanned: &Inodes,
     log: LogState,
 ) -> Result<Result<Catalog, Finding>, ReadError>
     requires inside { g.now.dblocks ≤ D.size disk.old }
     requires groups { ForSome (D.holds disk.old) (λ image. groups_read (volume_of g.now) image ≡ Ok groups) }
+    requires candidates { ForSome (D.holds disk.old) (λ image. scanned_clusters.now ≡ candidates (volume_of g.now) image) }
+    requires scanned { ForSome (D.holds disk.old) (λ image. held_in scanned.now ≡ gathered (volume_of g.now) image (candidate_inodes (volume_of g.now) image)) }
     requires log { ForSome (D.holds disk.old) (λ image. log ≡ log_of (volume_of g.now) image) }
     ensures view { IfOk result (λ seen. ForSome (D.holds disk.old) (λ image. seen ≡ view g.now image)) }
     ensures cause { HasReadCause (D.faults disk.old) (D.faults disk.new) result }
@@ -78,7 +90,7 @@ fn see_catalog<D: Disk>(
         Ok(clusters) => clusters,
         Err(NoMemory) => return Err(ReadError::NoMemory),
     };
-    let inodes = match see_clusters(alloc, g, disk, &clusters) {
+    let inodes = match see_recorded(alloc, g, disk, &clusters, scanned_clusters, scanned) {
         Ok(inodes) => inodes,
         Err(fault) => return Err(fault),
     };
@@ -155,6 +167,47 @@ fn read_counts<D: Disk>(g: &Geometry, disk: &mut D) -> Result<Counts, Failed>
         }),
         Err(Failed) => Err(Failed),
     }
+}
+
+/// What the slots of these clusters give. Where they are just the candidates, no block is read again.
+fn see_recorded<D: Disk>(
+    alloc: Global,
+    g: &Geometry,
+    disk: &mut D,
+    clusters: &[u64],
+    scanned_clusters: &[ClusterRec],
+    scanned: &Inodes,
+) -> Result<Inodes, ReadError>
+    requires inside { g.now.dblocks ≤ D.size disk.old }
+    requires low { All (λ cluster. cluster < 2 ^ 42) clusters.now }
+    requires candidates { ForSome (D.holds disk.old) (λ image. scanned_clusters.now ≡ candidates (volume_of g.now) image) }
+    requires scanned { ForSome (D.holds disk.old) (λ image. held_in scanned.now ≡ gathered (volume_of g.now) image (candidate_inodes (volume_of g.now) image)) }
+    ensures inodes { IfOk result (λ inodes. ForSome (D.holds disk.old) (λ image. held_in inodes ≡ gathered (volume_of g.now) image (flat_map (cluster_inodes (volume_of g.now)) clusters.now))) }
+    ensures cause { HasReadCause (D.faults disk.old) (D.faults disk.new) result }
+    ensures disk { OnlyReads D.size D.holds D.write_faults D.tells_stops D.may_leave disk.old disk.new }
+{
+    if !are_candidates(clusters, scanned_clusters) {
+        return see_clusters(alloc, g, disk, clusters);
+    }
+    match copy_inodes(alloc, scanned) {
+        Ok(inodes) => Ok(inodes),
+        Err(NoMemory) => Err(ReadError::NoMemory),
+    }
+}
+
+/// Whether clusters are just the candidates.
+fn are_candidates(clusters: &[u64], candidates: &[ClusterRec]) -> bool
+    ensures { IsTrue result → clusters.now ≡ map (λ (c : ClusterRec). c.block) candidates.now }
+{
+    if clusters.len() != candidates.len() {
+        return false;
+    }
+    for i in 0..clusters.len() {
+        if clusters[i] != candidates[i].block {
+            return false;
+        }
+    }
+    true
 }
 
 /// What the slots of these clusters give.

@@ -112,7 +112,15 @@ fn gather_view<D: Disk>(
         clusters,
         trees,
     } = seen;
-    match see_view(alloc, g, disk, groups, log) {
+    match see_view(
+        alloc,
+        g,
+        disk,
+        groups,
+        clusters.as_slice(),
+        &scanned.inodes,
+        log,
+    ) {
         Ok(catalog) => Ok(evidence_of(clusters, trees, scanned, catalog, log)),
         Err(fault) => Err(fault),
     }
