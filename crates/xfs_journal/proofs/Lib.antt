@@ -1,0 +1,5 @@
+mod Listing
+mod Ordering
+mod Reading
+mod Outside
+mod LogSeen

@@ -1,0 +1,112 @@
+//! The places of log sequence numbers in the blocks of a fork.
+
+ghost use Rattle.std.specs.Prelude.{◌≡◌, ◌+◌, ◌≤◌, ◌<◌, ◌++◌, length, IfSome, OnOk};
+ghost use Rattle.std.specs.List.{All};
+ghost use Rattle.xfs_geom.specs.Groups.{block_of_address};
+ghost use Rattle.xfs_geom.specs.Volumes.{volume_of};
+ghost use Rattle.xfs_image.specs.Lsns.{dir_byte, extent_places};
+ghost use Rattle.xfs_journal.specs.Placed.{IsInside, byte_of, fork_places, listed};
+
+use crate::places::{Place, push};
+use xfs_disk::NoMemory;
+use xfs_geom::Geometry;
+use xfs_word::Extent;
+
+/// Where the data and the free blocks of a directory have their numbers, in bytes, and where all other blocks of its
+/// index and of attributes do.
+const DATA_LSN: u16 = 16;
+
+const INDEX_LSN: u16 = 24;
+
+/// Where a block of a symbolic link has its number, in bytes.
+const LINK_LSN: u16 = 48;
+
+/// The blocks of a directory's index, by their numbers in the file: from the first on, before the end.
+const INDEX_START: u64 = 0x80_0000;
+
+const INDEX_END: u64 = 0x100_0000;
+
+/// What the blocks of a fork belong to.
+#[derive(Clone, Copy, Debug, PartialEq, Eq)]
+pub enum Owner {
+    Directory,
+    Link,
+    Attributes,
+}
+
+/// Adds the places of the blocks of a fork. No number of a block is so great that eight bytes do not hold it.
+pub fn push_fork(
+    g: &Geometry,
+    owner: Owner,
+    extents: &[Extent],
+    places: &mut Vec<Place>,
+) -> Result<(), NoMemory>
+    requires inside { All IsInside places.old.items }
+    ensures listed { OnOk result (listed places.new.items ≡ listed places.old.items ++ fork_places (volume_of g.now) owner extents.now) }
+    ensures inside { All IsInside places.new.items }
+{
+    for extent in extents {
+        push_extent(g, owner, extent, places)?;
+    }
+    Ok(())
+}
+
+/// Adds the places of the blocks of an extent.
+fn push_extent(
+    g: &Geometry,
+    owner: Owner,
+    extent: &Extent,
+    places: &mut Vec<Place>,
+) -> Result<(), NoMemory>
+    requires inside { All IsInside places.old.items }
+    ensures listed { OnOk result (listed places.new.items ≡ listed places.old.items ++ extent_places (volume_of g.now) (byte_of owner) extent.now) }
+    ensures inside { All IsInside places.new.items }
+{
+    let start = start_of(g, extent.start);
+    if sum_of(start, extent.count).is_none() || sum_of(extent.offset, extent.count).is_none() {
+        return Err(NoMemory);
+    }
+    for i in 0..extent.count {
+        push(start + i, byte_of(owner, extent.offset + i), places)?;
+    }
+    Ok(())
+}
+
+/// The sum of two numbers, where eight bytes hold it.
+fn sum_of(number: u64, count: u64) -> Option<u64>
+    ensures { IfSome result (λ sum. sum ≡ number + count) }
+{
+    number.checked_add(count)
+}
+
+/// The number of the block at an address.
+fn start_of(g: &Geometry, address: u64) -> u64
+    ensures { result ≡ block_of_address g.now.agblocks g.now.agblklog address }
+{
+    let size = 1u64 << g.agblklog;
+    address / size * g.agblocks as u64 + address % size
+}
+
+/// Where the block of this number in a fork has its number.
+fn byte_of(owner: Owner, offset: u64) -> u16
+    ensures value { result ≡ byte_of owner offset }
+    ensures inside { result + 8 ≤ 4096 }
+{
+    match owner {
+        Owner::Directory => dir_byte(offset),
+        Owner::Link => LINK_LSN,
+        Owner::Attributes => INDEX_LSN,
+    }
+}
+
+/// Where the block of this number in a directory has its number.
+fn dir_byte(offset: u64) -> u16
+    ensures value { result ≡ dir_byte offset }
+    ensures inside { result ≤ 24 }
+{
+    if INDEX_START <= offset && offset < INDEX_END {
+        INDEX_LSN
+    } else {
+        DATA_LSN
+    }
+}

@@ -1,0 +1,105 @@
+//! The log of a volume, read from a disk.
+
+ghost use Rattle.std.specs.Prelude.{◌≡◌, ◌≤◌, ◌+◌, ◌<◌, ◌++◌, length, map, IfOk, OnOk};
+ghost use Rattle.std.specs.Option.{ForSome};
+ghost use Rattle.xfs_disk.specs.Faults.{HasCause};
+ghost use Rattle.xfs_geom.specs.Volumes.{volume_of};
+ghost use Rattle.xfs_heads.specs.Log.{seen_of};
+ghost use Rattle.xfs_tree.specs.Answers.{OnlyReads};
+ghost use Rattle.xfs_tree.specs.Blocks.{each_of};
+ghost use Rattle.xfs_tree.specs.Reading.{bytes_at};
+ghost use Rattle.xfs_image.specs.View.{log_of, log_sectors};
+ghost use Rattle.xfs_journal.specs.Answers.{HasJournalCause};
+ghost use Rattle.xfs_journal.specs.Placed.{seen_in};
+
+use crate::faults::JournalFault;
+use std::alloc::Global;
+use xfs_disk::{BLOCK_SIZE, Disk, Failed, NoMemory};
+use xfs_geom::Geometry;
+use xfs_heads::{LogState, SectorSeen, log_state, see_sector};
+use xfs_word::part;
+
+/// The bytes of a sector, and the sectors of a block.
+const SECTOR_SIZE: usize = 512;
+
+const SECTORS: usize = 8;
+
+/// Whether the log is clean (chapter "Journaling Log"). `ReadFault` only where a read failed.
+#[tactic(auto, unfolding(xfs_image::specs::View::log_of))]
+pub fn read_log<D: Disk>(
+    alloc: Global,
+    g: &Geometry,
+    disk: &mut D,
+) -> Result<LogState, JournalFault>
+    requires inside { g.now.dblocks ≤ D.size disk.old }
+    ensures state { IfOk result (λ state. ForSome (D.holds disk.old) (λ image. state ≡ log_of (volume_of g.now) image)) }
+    ensures cause { HasJournalCause (D.faults disk.old) (D.faults disk.new) result }
+    ensures disk { OnlyReads D.size D.holds D.write_faults D.tells_stops D.may_leave disk.old disk.new }
+{
+    match see_log(alloc, g, disk) {
+        Ok(seen) => Ok(log_state(&seen)),
+        Err(fault) => Err(fault),
+    }
+}
+
+/// What of the sectors of the log says whether it is clean.
+fn see_log<D: Disk>(
+    alloc: Global,
+    g: &Geometry,
+    disk: &mut D,
+) -> Result<Vec<SectorSeen>, JournalFault>
+    requires inside { g.now.dblocks ≤ D.size disk.old }
+    ensures seen { IfOk result (λ seen. ForSome (D.holds disk.old) (λ image. seen.items ≡ map seen_of (log_sectors (volume_of g.now) image))) }
+    ensures cause { HasJournalCause (D.faults disk.old) (D.faults disk.new) result }
+    ensures disk { OnlyReads D.size D.holds D.write_faults D.tells_stops D.may_leave disk.old disk.new }
+{
+    let mut seen = Vec::new(alloc);
+    let mut block = [0; BLOCK_SIZE];
+    for i in 0..g.logblocks as u64 {
+        match read_block(g, disk, i, &mut block) {
+            Ok(()) => {}
+            Err(Failed) => return Err(JournalFault::ReadFault),
+        }
+        match see_block(&block, &mut seen) {
+            Ok(()) => {}
+            Err(NoMemory) => return Err(JournalFault::NoMemory),
+        }
+    }
+    Ok(seen)
+}
+
+/// Reads a block of the log.
+fn read_block<D: Disk>(g: &Geometry, disk: &mut D, i: u64, block: &mut [u8]) -> Result<(), Failed>
+    requires inside { g.now.dblocks ≤ D.size disk.old }
+    requires log { i < g.now.logblocks }
+    requires whole { length block.old ≡ 4096 }
+    ensures bytes { OnOk result (ForSome (D.holds disk.old) (λ image. bytes_at image (g.now.log + i) ≡ block.new)) }
+    ensures whole { length block.new ≡ 4096 }
+    ensures cause { HasCause (D.faults disk.old) (D.faults disk.new) result }
+    ensures disk { OnlyReads D.size D.holds D.write_faults D.tells_stops D.may_leave disk.old disk.new }
+{
+    match disk.read(log_block(g, i), block) {
+        Ok(()) => Ok(()),
+        Err(Failed) => Err(Failed),
+    }
+}
+
+/// The number of a block of the log.
+fn log_block(g: &Geometry, i: u64) -> u64
+    requires { i < g.now.logblocks }
+    ensures value { result ≡ g.now.log + i }
+    ensures inside { result < g.now.dblocks }
+{
+    g.log + i
+}
+
+/// Adds what is seen of the sectors of a block.
+fn see_block(block: &[u8], seen: &mut Vec<SectorSeen>) -> Result<(), NoMemory>
+    requires { length block.now ≡ 4096 }
+    ensures { OnOk result (seen.new.items ≡ seen.old.items ++ each_of 8 (seen_in block.now)) }
+{
+    for sector in 0..SECTORS {
+        seen.push(see_sector(part(block, SECTOR_SIZE * sector, SECTOR_SIZE)))?;
+    }
+    Ok(())
+}

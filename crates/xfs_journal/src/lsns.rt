@@ -1,0 +1,158 @@
+//! The log sequence numbers of a volume, read from a disk.
+
+ghost use Rattle.std.specs.Prelude.{◌≡◌, ◌^◌, ◌<◌, ◌≤◌, ◌++◌, [], ◌∷◌, length, map, IfOk, OnOk};
+ghost use Rattle.std.specs.List.{All};
+ghost use Rattle.std.specs.Option.{ForSome};
+ghost use Rattle.xfs_word.specs.Field.{field_of};
+ghost use Rattle.xfs_disk.specs.Faults.{HasCause};
+ghost use Rattle.xfs_geom.specs.Volumes.{volume_of};
+ghost use Rattle.xfs_tree.specs.Answers.{OnlyReads};
+ghost use Rattle.xfs_tree.specs.Reading.{bytes_at};
+ghost use Rattle.xfs_image.specs.Files.{clusters_of};
+ghost use Rattle.xfs_image.specs.Lsns.{in_order, lsn_at, lsn_places, lsns_read};
+ghost use Rattle.xfs_journal.specs.Answers.{HasJournalCause};
+ghost use Rattle.xfs_journal.specs.Placed.{HoldsBlock, IsInside, listed};
+
+use crate::faults::JournalFault;
+use crate::places::{Place, all_places};
+use crate::sorting::in_order;
+use std::alloc::Global;
+use xfs_disk::{BLOCK_SIZE, Disk, Failed, NoMemory};
+use xfs_geom::Geometry;
+use xfs_volume::{BlockLsn, FileRec, GroupRec, Records};
+use xfs_word::get64;
+
+/// The log sequence numbers that stand in the blocks of these groups, of their clusters of inodes, and of these files, by
+/// block and then by byte (chapter "Journaling Log"). `ReadFault` only where a read failed.
+#[tactic(auto, unfolding(xfs_image::specs::Lsns::lsns_read))]
+pub fn read_lsns<D: Disk>(
+    alloc: Global,
+    g: &Geometry,
+    disk: &mut D,
+    groups: &[GroupRec],
+    clusters: &[u64],
+    files: &[FileRec],
+) -> Result<Records<BlockLsn>, JournalFault>
+    requires few { length groups.now ≤ 512 }
+    requires clusters { clusters.now ≡ clusters_of (volume_of g.now) groups.now }
+    requires low { All (λ cluster. cluster < 2 ^ 60) clusters.now }
+    ensures lsns { IfOk result (λ lsns. ForSome (D.holds disk.old) (λ image. lsns ≡ lsns_read (volume_of g.now) image groups.now files.now)) }
+    ensures cause { HasJournalCause (D.faults disk.old) (D.faults disk.new) result }
+    ensures disk { OnlyReads D.size D.holds D.write_faults D.tells_stops D.may_leave disk.old disk.new }
+{
+    let places = match ordered_places(alloc, g, groups, clusters, files) {
+        Ok(places) => places,
+        Err(NoMemory) => return Err(JournalFault::NoMemory),
+    };
+    match read_places(alloc, disk, &places) {
+        Ok(lsns) => Ok(Records::from_vec(lsns)),
+        Err(fault) => Err(fault),
+    }
+}
+
+/// All places in order.
+fn ordered_places(
+    alloc: Global,
+    g: &Geometry,
+    groups: &[GroupRec],
+    clusters: &[u64],
+    files: &[FileRec],
+) -> Result<Vec<Place>, NoMemory>
+    requires few { length groups.now ≤ 512 }
+    requires clusters { clusters.now ≡ clusters_of (volume_of g.now) groups.now }
+    requires low { All (λ cluster. cluster < 2 ^ 60) clusters.now }
+    ensures listed { IfOk result (λ places. listed places.items ≡ in_order (lsn_places (volume_of g.now) groups.now files.now)) }
+    ensures inside { IfOk result (λ places. All IsInside places.items) }
+{
+    let places = all_places(alloc, g, groups, clusters, files)?;
+    in_order(places)
+}
+
+/// The numbers that stand at these places. Places that follow one another in one block share a read.
+fn read_places<D: Disk>(
+    alloc: Global,
+    disk: &mut D,
+    places: &[Place],
+) -> Result<Vec<BlockLsn>, JournalFault>
+    requires inside { All IsInside places.now }
+    ensures lsns { IfOk result (λ lsns. ForSome (D.holds disk.old) (λ image. lsns.items ≡ map (lsn_at image) (listed places.now))) }
+    ensures cause { HasJournalCause (D.faults disk.old) (D.faults disk.new) result }
+    ensures disk { OnlyReads D.size D.holds D.write_faults D.tells_stops D.may_leave disk.old disk.new }
+{
+    let size = match disk.blocks() {
+        Ok(size) => size,
+        Err(Failed) => return Err(JournalFault::ReadFault),
+    };
+    let mut lsns = Vec::new(alloc);
+    let mut held = Held {
+        block: None,
+        bytes: [0; BLOCK_SIZE],
+    };
+    for place in places {
+        let lsn = match read_lsn(disk, size, place, &mut held) {
+            Ok(lsn) => lsn,
+            Err(Failed) => return Err(JournalFault::ReadFault),
+        };
+        match push_lsn(place.block, lsn, &mut lsns) {
+            Ok(()) => {}
+            Err(NoMemory) => return Err(JournalFault::NoMemory),
+        }
+    }
+    Ok(lsns)
+}
+
+/// Adds a number that stands in a block.
+fn push_lsn(block: u64, lsn: u64, lsns: &mut Vec<BlockLsn>) -> Result<(), NoMemory>
+    ensures { OnOk result (lsns.new.items ≡ lsns.old.items ++ record { block = block; lsn = lsn } ∷ []) }
+{
+    lsns.push(BlockLsn { block, lsn })?;
+    Ok(())
+}
+
+/// The block that was read last.
+#[derive(Drop)]
+struct Held {
+    /// Its number.
+    block: Option<u64>,
+    bytes: [u8; BLOCK_SIZE],
+}
+
+/// The number that stands at a place; 0 where the disk, of `size` blocks, does not have the block.
+fn read_lsn<D: Disk>(disk: &mut D, size: u64, place: &Place, held: &mut Held) -> Result<u64, Failed>
+    requires size { size ≡ D.size disk.old }
+    requires inside { IsInside place.now }
+    requires held { ForSome (D.holds disk.old) (λ image. HoldsBlock image held.old.block held.old.bytes) }
+    ensures lsn { IfOk result (λ lsn. ForSome (D.holds disk.old) (λ image. lsn ≡ field_of (bytes_at image place.now.block) place.now.byte 8)) }
+    ensures held { OnOk result (ForSome (D.holds disk.old) (λ image. HoldsBlock image held.new.block held.new.bytes)) }
+    ensures cause { HasCause (D.faults disk.old) (D.faults disk.new) result }
+    ensures disk { OnlyReads D.size D.holds D.write_faults D.tells_stops D.may_leave disk.old disk.new }
+{
+    if place.block >= size {
+        return Ok(0);
+    }
+    match hold(disk, place.block, held) {
+        Ok(()) => Ok(get64(&held.bytes, place.byte as usize)),
+        Err(Failed) => Err(Failed),
+    }
+}
+
+/// Reads a block, where it is not the one that is held.
+fn hold<D: Disk>(disk: &mut D, block: u64, held: &mut Held) -> Result<(), Failed>
+    requires inside { block < D.size disk.old }
+    requires held { ForSome (D.holds disk.old) (λ image. HoldsBlock image held.old.block held.old.bytes) }
+    ensures bytes { OnOk result (ForSome (D.holds disk.old) (λ image. bytes_at image block ≡ held.new.bytes)) }
+    ensures held { OnOk result (ForSome (D.holds disk.old) (λ image. HoldsBlock image held.new.block held.new.bytes)) }
+    ensures cause { HasCause (D.faults disk.old) (D.faults disk.new) result }
+    ensures disk { OnlyReads D.size D.holds D.write_faults D.tells_stops D.may_leave disk.old disk.new }
+{
+    if held.block == Some(block) {
+        return Ok(());
+    }
+    match disk.read(block, &mut held.bytes) {
+        Ok(()) => {
+            held.block = Some(block);
+            Ok(())
+        }
+        Err(Failed) => Err(Failed),
+    }
+}

@@ -1,0 +1,73 @@
+//! The places of log sequence numbers (chapter "Journaling Log").
+
+ghost use Rattle.std.specs.Prelude.{◌≡◌, ◌+◌, ◌^◌, ◌≤◌, ◌<◌, ◌++◌, [], ◌∷◌, map, length, IfOk, OnOk};
+ghost use Rattle.std.specs.List.{All};
+ghost use Rattle.xfs_geom.specs.Volumes.{volume_of};
+ghost use Rattle.xfs_image.specs.Files.{clusters_of};
+ghost use Rattle.xfs_image.specs.Lsns.{at, lsn_places};
+ghost use Rattle.xfs_journal.specs.Placed.{IsInside, listed};
+
+use crate::files::push_files;
+use crate::groups::{push_clusters, push_groups};
+use std::alloc::Global;
+use xfs_disk::NoMemory;
+use xfs_geom::Geometry;
+use xfs_volume::{FileRec, GroupRec};
+
+/// Where the primary superblock has its number, in bytes.
+const SUPER_LSN: u16 = 240;
+
+/// Where a log sequence number stands.
+#[derive(Clone, Copy, Debug, PartialEq, Eq, PartialOrd, Ord)]
+pub struct Place {
+    /// The block number.
+    pub block: u64,
+    /// The offset in the block, in bytes.
+    pub byte: u16,
+}
+
+/// All places of a volume: those of the primary superblock, the groups, the slots of their clusters, and the files.
+pub fn all_places(
+    alloc: Global,
+    g: &Geometry,
+    groups: &[GroupRec],
+    clusters: &[u64],
+    files: &[FileRec],
+) -> Result<Vec<Place>, NoMemory>
+    requires few { length groups.now ≤ 512 }
+    requires clusters { clusters.now ≡ clusters_of (volume_of g.now) groups.now }
+    requires low { All (λ cluster. cluster < 2 ^ 60) clusters.now }
+    ensures listed { IfOk result (λ places. listed places.items ≡ lsn_places (volume_of g.now) groups.now files.now) }
+    ensures inside { IfOk result (λ places. All IsInside places.items) }
+{
+    let mut places = Vec::new(alloc);
+    push(0, SUPER_LSN, &mut places)?;
+    push_groups(g, groups, &mut places)?;
+    push_clusters(clusters, &mut places)?;
+    push_files(g, files, &mut places)?;
+    Ok(places)
+}
+
+/// Adds the place at this byte of a block.
+pub fn push(block: u64, byte: u16, places: &mut Vec<Place>) -> Result<(), NoMemory>
+    requires byte { byte + 8 ≤ 4096 }
+    requires inside { All IsInside places.old.items }
+    ensures listed { OnOk result (listed places.new.items ≡ listed places.old.items ++ at byte block ∷ []) }
+    ensures inside { All IsInside places.new.items }
+{
+    places.push(Place { block, byte })?;
+    Ok(())
+}
+
+/// Adds the place at this byte of each block.
+pub fn push_each(blocks: &[u64], byte: u16, places: &mut Vec<Place>) -> Result<(), NoMemory>
+    requires byte { byte + 8 ≤ 4096 }
+    requires inside { All IsInside places.old.items }
+    ensures listed { OnOk result (listed places.new.items ≡ listed places.old.items ++ map (at byte) blocks.now) }
+    ensures inside { All IsInside places.new.items }
+{
+    for block in blocks {
+        push(*block, byte, places)?;
+    }
+    Ok(())
+}

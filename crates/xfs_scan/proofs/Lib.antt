@@ -1,0 +1,6 @@
+mod Gathering
+mod Reading
+mod Outside
+mod Refusing
+mod Rests
+mod Views

@@ -1,0 +1,31 @@
+use Rattle.std.proofs.Common.{◌+◌, ◌∙◌, ap, drop, get_or, arith, rules}
+use Rattle.std.specs.List.{flat_map}
+use Rattle.std.proofs.lemmas.List.{drop_more}
+use Rattle.xfs_geom.specs.Volumes.{volume_of}
+use Rattle.xfs_image.specs.Slots.{inodes_in}
+use Rattle.xfs_scan.specs.Gathered.{held_in, inodes_of_blocks}
+use Rattle.xfs_scan.proofs.Gathering.{slots_end, slots_more}
+use Rattle.xfs_scan.proofs.Reading.{reads_on}
+use Rattle.xfs_scan.proofs.Rests.{none_left}
+use Rattle.xfs_scan.proofs.view.look_at.Goals as goal
+
+pub loop-block-preserved : goal.loop-block-preserved
+loop-block-preserved g c =
+    let D = g.D.Disk in
+    let v = volume_of c.args.g.now in
+    let i = c.loop-block.block-index in
+    let blocks = c.args.blocks.now in
+    let before = c.loop-block.invariant in
+    record {
+      held = λ image told. slots_more v image (inodes_in v (get_or blocks i 0)) (inodes_of_blocks v (drop i blocks)) (inodes_of_blocks v (drop (i + 1) blocks))
+          (held_in c.loop-block.inodes) (held_in c.look_at_block.new.inodes) _ (ap (flat_map (inodes_in v)) (drop_more blocks i 0 (search rules)))
+          (c.in-Ok.ensures.held image (before.disk.same_contents ∙ told)) (before.held image told);
+      later = let up = before.later in let cause = c.in-Ok.ensures.cause in omega (arith, up, cause);
+      disk = reads_on D.size D.holds D.write_faults D.tells_stops D.may_leave c.args.disk.now c.loop-block.disk c.look_at_block.new.disk before.disk c.in-Ok.ensures.disk;
+    }
+
+pub returns-clause-held : goal.returns-clause-held
+returns-clause-held g c = λ image told.
+    let v = volume_of c.args.g.now in
+    slots_end v image (inodes_of_blocks v (drop c.loop-block.block-index c.args.blocks.now)) (held_in c.loop-block.inodes) _
+    (ap (flat_map (inodes_in v)) (none_left c.args.blocks.now c.loop-block.block-index (search rules))) (c.loop-block.invariant.held image told)

@@ -1,0 +1,39 @@
+-- Why no evidence is gathered.
+use Rattle.std.specs.Prelude.{◌≡◌, ℕ, ◌≤◌, Option, Some, None, Result, MatchResult, ⊤}
+use Rattle.xfs_disk.specs.Faults.{Rose}
+use Rattle.xfs_scan.specs.declared.faults.ReadError.{ReadError}
+use Rattle.xfs_scan.specs.declared.faults.ReadError.TheVariants as errors
+use Rattle.xfs_scan.specs.declared.faults.ScanFault.{ScanFault}
+use Rattle.xfs_scan.specs.declared.faults.ScanFault.TheVariants as faults
+
+-- a read fault is answered only where the count of failed reads rose
+abbrev pub IsScanCause : ℕ → ℕ → ScanFault → Type 0
+IsScanCause before now faults.ReadFault = Rose before now
+IsScanCause before now (faults.TooLarge what count) = before ≤ now
+IsScanCause before now (faults.UnsupportedFile ino what) = before ≤ now
+IsScanCause before now faults.NoMemory = before ≤ now
+
+abbrev pub HasScanCause : {T : Type 0} → ℕ → ℕ → Result T ScanFault → Type 0
+HasScanCause before now result = MatchResult result (λ _. before ≤ now) (IsScanCause before now)
+
+-- a refusal is answered where it is due; a fault of the disk or want of memory may stand in its place
+abbrev pub IsRefusal : Option ScanFault → ScanFault → Type 0
+IsRefusal due faults.ReadFault = ⊤
+IsRefusal due (faults.TooLarge what count) = due ≡ Some (faults.TooLarge what count)
+IsRefusal due (faults.UnsupportedFile ino what) = due ≡ Some (faults.UnsupportedFile ino what)
+IsRefusal due faults.NoMemory = ⊤
+
+abbrev pub HasRefused : {T : Type 0} → Option ScanFault → Result T ScanFault → Type 0
+HasRefused due result = MatchResult result (λ _. due ≡ None) (IsRefusal due)
+
+-- the same of what is read on the way
+abbrev pub IsReadCause : ℕ → ℕ → ReadError → Type 0
+IsReadCause before now errors.ReadFault = Rose before now
+IsReadCause before now errors.NoMemory = before ≤ now
+
+abbrev pub HasReadCause : {T : Type 0} → ℕ → ℕ → Result T ReadError → Type 0
+HasReadCause before now result = MatchResult result (λ _. before ≤ now) (IsReadCause before now)
+
+abbrev pub answer_of : ReadError → ScanFault
+answer_of errors.ReadFault = faults.ReadFault
+answer_of errors.NoMemory = faults.NoMemory

@@ -1,0 +1,102 @@
+//! The blocks of clusters, and the slots in them (chapter "AG Inode Management").
+
+ghost use Rattle.std.specs.Prelude.{◌≡◌, ◌<◌, ◌≤◌, length, map, OnOk};
+ghost use Rattle.std.specs.List.{All};
+ghost use Rattle.std.specs.Option.{ForSome};
+ghost use Rattle.xfs_geom.specs.Conversions.{inode_of};
+ghost use Rattle.xfs_geom.specs.Volumes.{volume_of};
+ghost use Rattle.xfs_tree.specs.Answers.{OnlyReads};
+ghost use Rattle.xfs_tree.specs.Reading.{bytes_at};
+ghost use Rattle.xfs_image.specs.Slots.{inodes_in};
+ghost use Rattle.xfs_scan.specs.Answers.{HasReadCause};
+ghost use Rattle.xfs_scan.specs.Gathered.{gathered, held_in, inodes_of_blocks, joined, of_slot};
+
+use crate::faults::ReadError;
+use crate::inodes::Inodes;
+use crate::slots::see_slot;
+use std::alloc::Global;
+use xfs_bank::BlockBank;
+use xfs_disk::Disk;
+use xfs_geom::Geometry;
+use xfs_word::part;
+
+/// The slots of a block, and the bytes of a slot.
+const SLOTS: u8 = 8;
+
+const SLOT_SIZE: usize = 512;
+
+/// Takes up the slots of these blocks, whose bytes the bank has.
+pub fn see_blocks<D: Disk>(
+    alloc: Global,
+    g: &Geometry,
+    disk: &mut D,
+    blocks: &[u64],
+    bank: &BlockBank,
+    inodes: &mut Inodes,
+) -> Result<(), ReadError>
+    requires inside { g.now.dblocks ≤ D.size disk.old }
+    requires volume { All (λ block. block < g.now.dblocks) blocks.now }
+    requires many { length bank.now ≡ length blocks.now }
+    requires held { ForSome (D.holds disk.old) (λ image. bank.now ≡ map (bytes_at image) blocks.now) }
+    ensures held { OnOk result (ForSome (D.holds disk.old) (λ image. held_in inodes.new ≡ joined (held_in inodes.old) (gathered (volume_of g.now) image (inodes_of_blocks (volume_of g.now) blocks.now)))) }
+    ensures cause { HasReadCause (D.faults disk.old) (D.faults disk.new) result }
+    ensures disk { OnlyReads D.size D.holds D.write_faults D.tells_stops D.may_leave disk.old disk.new }
+{
+    for (i, block) in blocks.iter().enumerate() {
+        match see_block(alloc, g, disk, *block, bank.view(i), inodes) {
+            Ok(()) => {}
+            Err(fault) => return Err(fault),
+        }
+    }
+    Ok(())
+}
+
+/// Takes up the eight slots of a block.
+pub fn see_block<D: Disk>(
+    alloc: Global,
+    g: &Geometry,
+    disk: &mut D,
+    block: u64,
+    bytes: &[u8],
+    inodes: &mut Inodes,
+) -> Result<(), ReadError>
+    requires inside { g.now.dblocks ≤ D.size disk.old }
+    requires volume { block < g.now.dblocks }
+    requires whole { length bytes.now ≡ 4096 }
+    requires held { ForSome (D.holds disk.old) (λ image. bytes_at image block ≡ bytes.now) }
+    ensures held { OnOk result (ForSome (D.holds disk.old) (λ image. held_in inodes.new ≡ joined (held_in inodes.old) (gathered (volume_of g.now) image (inodes_in (volume_of g.now) block)))) }
+    ensures cause { HasReadCause (D.faults disk.old) (D.faults disk.new) result }
+    ensures disk { OnlyReads D.size D.holds D.write_faults D.tells_stops D.may_leave disk.old disk.new }
+{
+    for slot in 0..SLOTS {
+        match see_part(alloc, g, disk, block, slot, bytes, inodes) {
+            Ok(()) => {}
+            Err(fault) => return Err(fault),
+        }
+    }
+    Ok(())
+}
+
+/// Takes up one of the eight slots of a block.
+fn see_part<D: Disk>(
+    alloc: Global,
+    g: &Geometry,
+    disk: &mut D,
+    block: u64,
+    slot: u8,
+    bytes: &[u8],
+    inodes: &mut Inodes,
+) -> Result<(), ReadError>
+    requires inside { g.now.dblocks ≤ D.size disk.old }
+    requires volume { block < g.now.dblocks }
+    requires slot { slot < 8 }
+    requires whole { length bytes.now ≡ 4096 }
+    requires held { ForSome (D.holds disk.old) (λ image. bytes_at image block ≡ bytes.now) }
+    ensures held { OnOk result (ForSome (D.holds disk.old) (λ image. held_in inodes.new ≡ joined (held_in inodes.old) (of_slot (volume_of g.now) image (inode_of (volume_of g.now) block slot)))) }
+    ensures cause { HasReadCause (D.faults disk.old) (D.faults disk.new) result }
+    ensures disk { OnlyReads D.size D.holds D.write_faults D.tells_stops D.may_leave disk.old disk.new }
+{
+    let ino = g.inode_of_slot(block, slot);
+    let start = SLOT_SIZE * slot as usize;
+    see_slot(alloc, g, disk, ino, part(bytes, start, SLOT_SIZE), inodes)
+}

@@ -1,0 +1,294 @@
+//! What a whole image says, or the first part that does not read.
+
+ghost use Rattle.std.specs.Prelude.{◌≡◌, ◌^◌, ◌<◌, ◌≤◌, length, map, IsTrue, Ok, IfOk, OnOk};
+ghost use Rattle.std.specs.List.{All, flat_map};
+ghost use Rattle.std.specs.Option.{ForSome};
+ghost use Rattle.xfs_disk.specs.Faults.{HasCause};
+ghost use Rattle.xfs_geom.specs.Conversions.{inode_of};
+ghost use Rattle.xfs_geom.specs.Volumes.{volume_of};
+ghost use Rattle.xfs_tree.specs.Answers.{OnlyReads};
+ghost use Rattle.xfs_volume.specs.declared.clusters.ClusterRec.{ClusterRec};
+ghost use Rattle.xfs_image.specs.Candidates.{candidates};
+ghost use Rattle.xfs_image.specs.Claims.{candidate_inodes};
+ghost use Rattle.xfs_image.specs.Directories.{dirs_read, entries_read};
+ghost use Rattle.xfs_image.specs.Files.{clusters_of};
+ghost use Rattle.xfs_image.specs.Groups.{groups_read};
+ghost use Rattle.xfs_image.specs.Slots.{cluster_inodes, inodes_in};
+ghost use Rattle.xfs_image.specs.View.{catalog_of, counts_of, log_of, view};
+ghost use Rattle.xfs_scan.specs.Answers.{HasReadCause};
+ghost use Rattle.xfs_scan.specs.Gathered.{gathered, held_in, inodes_of_blocks, joined};
+
+use crate::blocks::blocks_of;
+use crate::clusters::see_block;
+use crate::copies::copy_inodes;
+use crate::faults::ReadError;
+use crate::inodes::Inodes;
+use crate::recorded::clusters_of;
+use std::alloc::Global;
+use xfs_disk::{BLOCK_SIZE, Disk, Failed, NoMemory};
+use xfs_geom::superblock::{FDBLOCKS, ICOUNT, IFREE};
+use xfs_geom::{Counts, Geometry};
+use xfs_heads::LogState;
+use xfs_image::Finding;
+use xfs_journal::{JournalFault, read_lsns};
+use xfs_volume::{Catalog, ClusterRec, GroupRec, Records};
+
+/// The most groups that a volume has.
+const MOST_GROUPS: usize = 512;
+
+/// The part of an image that a slot is.
+const SLOT_PART: u8 = 9;
+
+/// What the whole image says whose groups, whose candidate clusters with what their slots give, and whose log are these.
+pub fn see_view<D: Disk>(
+    alloc: Global,
+    g: &Geometry,
+    disk: &mut D,
+    groups: Result<Records<GroupRec>, Finding>,
+    scanned_clusters: &[ClusterRec],
+    scanned: &Inodes,
+    log: LogState,
+) -> Result<Result<Catalog, Finding>, ReadError>
+    requires inside { g.now.dblocks ≤ D.size disk.old }
+    requires groups { ForSome (D.holds disk.old) (λ image. groups ≡ groups_read (volume_of g.now) image) }
+    requires candidates { ForSome (D.holds disk.old) (λ image. scanned_clusters.now ≡ candidates (volume_of g.now) image) }
+    requires scanned { ForSome (D.holds disk.old) (λ image. held_in scanned.now ≡ gathered (volume_of g.now) image (candidate_inodes (volume_of g.now) image)) }
+    requires log { ForSome (D.holds disk.old) (λ image. log ≡ log_of (volume_of g.now) image) }
+    ensures view { IfOk result (λ seen. ForSome (D.holds disk.old) (λ image. seen ≡ view g.now image)) }
+    ensures cause { HasReadCause (D.faults disk.old) (D.faults disk.new) result }
+    ensures disk { OnlyReads D.size D.holds D.write_faults D.tells_stops D.may_leave disk.old disk.new }
+{
+    match groups {
+        Err(found) => Ok(Err(found)),
+        Ok(groups) => see_catalog(alloc, g, disk, groups, scanned_clusters, scanned, log),
+    }
+}
+
+/// The same, of groups that read.
+fn see_catalog<D: Disk>(
+    alloc: Global,
+    g: &Geometry,
+    disk: &mut D,
+    groups: Records<GroupRec>,
+    scanned_clusters: &[ClusterRec],
+    scanned: &Inodes,
+    log: LogState,
+) -> Result<Result<Catalog, Finding>, ReadError>
+    requires inside { g.now.dblocks ≤ D.size disk.old }
+    requires groups { ForSome (D.holds disk.old) (λ image. groups_read (volume_of g.now) image ≡ Ok groups) }
+    requires candidates { ForSome (D.holds disk.old) (λ image. scanned_clusters.now ≡ candidates (volume_of g.now) image) }
+    requires scanned { ForSome (D.holds disk.old) (λ image. held_in scanned.now ≡ gathered (volume_of g.now) image (candidate_inodes (volume_of g.now) image)) }
+    requires log { ForSome (D.holds disk.old) (λ image. log ≡ log_of (volume_of g.now) image) }
+    ensures view { IfOk result (λ seen. ForSome (D.holds disk.old) (λ image. seen ≡ view g.now image)) }
+    ensures cause { HasReadCause (D.faults disk.old) (D.faults disk.new) result }
+    ensures disk { OnlyReads D.size D.holds D.write_faults D.tells_stops D.may_leave disk.old disk.new }
+{
+    if groups.as_slice().len() > MOST_GROUPS {
+        return Err(ReadError::NoMemory);
+    }
+    let clusters = match clusters_of(alloc, g, groups.as_slice()) {
+        Ok(clusters) => clusters,
+        Err(NoMemory) => return Err(ReadError::NoMemory),
+    };
+    let inodes = match see_recorded(alloc, g, disk, &clusters, scanned_clusters, scanned) {
+        Ok(inodes) => inodes,
+        Err(fault) => return Err(fault),
+    };
+    match inodes.unread {
+        Some(place) => {
+            return Ok(Err(Finding::Part {
+                part: SLOT_PART,
+                place,
+            }));
+        }
+        None => {}
+    }
+    match build(alloc, g, disk, groups, &clusters, inodes, log) {
+        Ok(catalog) => Ok(Ok(catalog)),
+        Err(fault) => Err(fault),
+    }
+}
+
+/// The catalog of groups and inodes that all read.
+fn build<D: Disk>(
+    alloc: Global,
+    g: &Geometry,
+    disk: &mut D,
+    groups: Records<GroupRec>,
+    clusters: &[u64],
+    inodes: Inodes,
+    log: LogState,
+) -> Result<Catalog, ReadError>
+    requires inside { g.now.dblocks ≤ D.size disk.old }
+    requires few { length groups ≤ 512 }
+    requires clusters { clusters.now ≡ clusters_of (volume_of g.now) groups }
+    requires low { All (λ cluster. cluster < 2 ^ 42) clusters.now }
+    requires entries { ForSome (D.holds disk.old) (λ image. inodes.entries.items ≡ entries_read (volume_of g.now) image inodes.files.items) }
+    requires dirs { ForSome (D.holds disk.old) (λ image. inodes.dirs.items ≡ dirs_read (volume_of g.now) image inodes.files.items) }
+    requires log { ForSome (D.holds disk.old) (λ image. log ≡ log_of (volume_of g.now) image) }
+    ensures catalog { IfOk result (λ catalog. ForSome (D.holds disk.old) (λ image. catalog ≡ catalog_of g.now image groups inodes.files.items)) }
+    ensures cause { HasReadCause (D.faults disk.old) (D.faults disk.new) result }
+    ensures disk { OnlyReads D.size D.holds D.write_faults D.tells_stops D.may_leave disk.old disk.new }
+{
+    let lsns = match read_lsns(alloc, g, disk, groups.as_slice(), clusters, &inodes.files) {
+        Ok(lsns) => lsns,
+        Err(JournalFault::ReadFault) => return Err(ReadError::ReadFault),
+        Err(JournalFault::NoMemory) => return Err(ReadError::NoMemory),
+    };
+    let counts = match read_counts(g, disk) {
+        Ok(counts) => counts,
+        Err(Failed) => return Err(ReadError::ReadFault),
+    };
+    Ok(Catalog {
+        geometry: *g,
+        groups,
+        files: Records::from_vec(inodes.files),
+        entries: Records::from_vec(inodes.entries),
+        dirs: Records::from_vec(inodes.dirs),
+        counts,
+        log,
+        lsns,
+    })
+}
+
+/// The counters of the primary superblock.
+fn read_counts<D: Disk>(g: &Geometry, disk: &mut D) -> Result<Counts, Failed>
+    requires inside { g.now.dblocks ≤ D.size disk.old }
+    ensures counts { IfOk result (λ counts. ForSome (D.holds disk.old) (λ image. counts ≡ counts_of image)) }
+    ensures cause { HasCause (D.faults disk.old) (D.faults disk.new) result }
+    ensures disk { OnlyReads D.size D.holds D.write_faults D.tells_stops D.may_leave disk.old disk.new }
+{
+    let mut block = [0; BLOCK_SIZE];
+    match disk.read(0, &mut block) {
+        Ok(()) => Ok(Counts {
+            icount: ICOUNT.read(&block),
+            ifree: IFREE.read(&block),
+            fdblocks: FDBLOCKS.read(&block),
+        }),
+        Err(Failed) => Err(Failed),
+    }
+}
+
+/// What the slots of these clusters give. Where they are just the candidates, no block is read again.
+fn see_recorded<D: Disk>(
+    alloc: Global,
+    g: &Geometry,
+    disk: &mut D,
+    clusters: &[u64],
+    scanned_clusters: &[ClusterRec],
+    scanned: &Inodes,
+) -> Result<Inodes, ReadError>
+    requires inside { g.now.dblocks ≤ D.size disk.old }
+    requires low { All (λ cluster. cluster < 2 ^ 42) clusters.now }
+    requires candidates { ForSome (D.holds disk.old) (λ image. scanned_clusters.now ≡ candidates (volume_of g.now) image) }
+    requires scanned { ForSome (D.holds disk.old) (λ image. held_in scanned.now ≡ gathered (volume_of g.now) image (candidate_inodes (volume_of g.now) image)) }
+    ensures inodes { IfOk result (λ inodes. ForSome (D.holds disk.old) (λ image. held_in inodes ≡ gathered (volume_of g.now) image (flat_map (cluster_inodes (volume_of g.now)) clusters.now))) }
+    ensures cause { HasReadCause (D.faults disk.old) (D.faults disk.new) result }
+    ensures disk { OnlyReads D.size D.holds D.write_faults D.tells_stops D.may_leave disk.old disk.new }
+{
+    if !are_candidates(clusters, scanned_clusters) {
+        return see_clusters(alloc, g, disk, clusters);
+    }
+    match copy_inodes(alloc, scanned) {
+        Ok(inodes) => Ok(inodes),
+        Err(NoMemory) => Err(ReadError::NoMemory),
+    }
+}
+
+/// Whether clusters are just the candidates.
+fn are_candidates(clusters: &[u64], candidates: &[ClusterRec]) -> bool
+    ensures { IsTrue result → clusters.now ≡ map (λ (c : ClusterRec). c.block) candidates.now }
+{
+    if clusters.len() != candidates.len() {
+        return false;
+    }
+    for i in 0..clusters.len() {
+        if clusters[i] != candidates[i].block {
+            return false;
+        }
+    }
+    true
+}
+
+/// What the slots of these clusters give.
+fn see_clusters<D: Disk>(
+    alloc: Global,
+    g: &Geometry,
+    disk: &mut D,
+    clusters: &[u64],
+) -> Result<Inodes, ReadError>
+    requires inside { g.now.dblocks ≤ D.size disk.old }
+    requires low { All (λ cluster. cluster < 2 ^ 42) clusters.now }
+    ensures inodes { IfOk result (λ inodes. ForSome (D.holds disk.old) (λ image. held_in inodes ≡ gathered (volume_of g.now) image (flat_map (cluster_inodes (volume_of g.now)) clusters.now))) }
+    ensures cause { HasReadCause (D.faults disk.old) (D.faults disk.new) result }
+    ensures disk { OnlyReads D.size D.holds D.write_faults D.tells_stops D.may_leave disk.old disk.new }
+{
+    let blocks = match blocks_of(alloc, clusters) {
+        Ok(blocks) => blocks,
+        Err(NoMemory) => return Err(ReadError::NoMemory),
+    };
+    let mut inodes = Inodes::new(alloc);
+    match look_at(alloc, g, disk, &blocks, &mut inodes) {
+        Ok(()) => Ok(inodes),
+        Err(fault) => Err(fault),
+    }
+}
+
+/// Reads these blocks, and takes up their slots.
+fn look_at<D: Disk>(
+    alloc: Global,
+    g: &Geometry,
+    disk: &mut D,
+    blocks: &[u64],
+    inodes: &mut Inodes,
+) -> Result<(), ReadError>
+    requires inside { g.now.dblocks ≤ D.size disk.old }
+    requires low { All (λ block. block < 2 ^ 43) blocks.now }
+    ensures held { OnOk result (ForSome (D.holds disk.old) (λ image. held_in inodes.new ≡ joined (held_in inodes.old) (gathered (volume_of g.now) image (inodes_of_blocks (volume_of g.now) blocks.now)))) }
+    ensures cause { HasReadCause (D.faults disk.old) (D.faults disk.new) result }
+    ensures disk { OnlyReads D.size D.holds D.write_faults D.tells_stops D.may_leave disk.old disk.new }
+{
+    for block in blocks {
+        match look_at_block(alloc, g, disk, *block, inodes) {
+            Ok(()) => {}
+            Err(fault) => return Err(fault),
+        }
+    }
+    Ok(())
+}
+
+/// Reads a block, and takes up its slots. Of a block outside the volume no slot reads.
+fn look_at_block<D: Disk>(
+    alloc: Global,
+    g: &Geometry,
+    disk: &mut D,
+    block: u64,
+    inodes: &mut Inodes,
+) -> Result<(), ReadError>
+    requires inside { g.now.dblocks ≤ D.size disk.old }
+    requires low { block < 2 ^ 43 }
+    ensures held { OnOk result (ForSome (D.holds disk.old) (λ image. held_in inodes.new ≡ joined (held_in inodes.old) (gathered (volume_of g.now) image (inodes_in (volume_of g.now) block)))) }
+    ensures cause { HasReadCause (D.faults disk.old) (D.faults disk.new) result }
+    ensures disk { OnlyReads D.size D.holds D.write_faults D.tells_stops D.may_leave disk.old disk.new }
+{
+    if block >= g.dblocks {
+        inodes.pass(first_inode(g, block), None);
+        return Ok(());
+    }
+    let mut bytes = [0; BLOCK_SIZE];
+    match disk.read(block, &mut bytes) {
+        Ok(()) => see_block(alloc, g, disk, block, &bytes, inodes),
+        Err(Failed) => Err(ReadError::ReadFault),
+    }
+}
+
+/// The number of the first inode of a block, which may lie outside the volume.
+#[tactic(auto, unfolding(xfs_geom::specs::Conversions::inode_of, xfs_geom::specs::Conversions::address_of))]
+fn first_inode(g: &Geometry, block: u64) -> u64
+    requires { block < 2 ^ 43 }
+    ensures { result ≡ inode_of (volume_of g.now) block 0 }
+{
+    let agblocks = g.agblocks as u64;
+    let size = 1u64 << g.agblklog;
+    (block / agblocks * size + block % agblocks) * 8
+}
