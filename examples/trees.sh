@@ -10,16 +10,16 @@ work=$(mktemp -d)
 trap 'rm -rf "$work"' EXIT
 mkdir -p "$work/repo/crates"
 cd "$work/repo"
-for crate in xfs_word xfs_disk xfs_geom xfs_tree xfs_kinds; do
+for crate in xfs_word xfs_disk xfs_runs xfs_geom xfs_tree xfs_kinds; do
   mkdir "crates/$crate"
   find "$top/crates/$crate" -mindepth 1 -maxdepth 1 ! -name must-fail -exec cp -r {} "crates/$crate/" \;
 done
-grep -E '^xfs_(word|disk|geom|tree|kinds):' "$top/crates.txt" > crates.txt
+grep -E '^xfs_(word|disk|runs|geom|tree|kinds):' "$top/crates.txt" > crates.txt
 cp crates.txt lower.txt
 rt new crates/tree_print start_io > "$work/new.log"
 rm -rf crates/tree_print/BUILD.bazel crates/tree_print/stdin crates/tree_print/stdout crates/tree_print/src/*
 cp lower.txt crates.txt
-printf 'tree_print: xfs_word xfs_disk xfs_geom xfs_tree xfs_kinds\n' >> crates.txt
+printf 'tree_print: xfs_word xfs_disk xfs_runs xfs_geom xfs_tree xfs_kinds\n' >> crates.txt
 cat > crates/tree_print/src/main.rt <<'RT'
 //! Reads the trees that the lines of the input name, `KIND OWNER LEVELS ROOT`, or for the tree of a file
 //! `bmbt INODE LEVELS KEY:ADDRESS..`, and prints their records.
@@ -28,9 +28,12 @@ cat > crates/tree_print/src/main.rt <<'RT'
 use std::alloc::Global;
 use std::fs::OpenOptions;
 use std::io;
+use std::marker::Brand;
+use std::sync::ledger::Blank;
 use xfs_disk::{BLOCK_SIZE, Disk, Failed, FileDisk};
 use xfs_geom::{Geometry, elect};
 use xfs_kinds::{Bmbt, Bno, Cnt, Fino, Ino, Rmap};
+use xfs_runs::Steps;
 use xfs_tree::{Frontier, Kind, Tree, TreeError, layout_of, pack, read_below, read_tree, tree_size};
 
 fn main(rt: HostRuntime) -> io::Result<()> {
@@ -68,7 +71,8 @@ fn main(rt: HostRuntime) -> io::Result<()> {
                 let address = number(halves.next());
                 top.places.push(g.block_of_address(address).unwrap_or(u64::MAX))?;
             }
-            match read_below(rt.alloc(), &Bmbt { ino: owner }, &g, &mut disk, &top) {
+            let mut steps = Steps::<Brand>::from_blank(Blank::new(1));
+            match read_below(rt.alloc(), &Bmbt { ino: owner }, &g, &mut disk, &top, &mut steps) {
                 Ok(tree) => {
                     for e in again(rt.alloc(), &Bmbt { ino: owner }, &g, tree)?.records.iter() {
                         println!(rt; "{},{},{},{}", e.offset, e.start, e.count, e.unwritten as u8)?;
@@ -123,7 +127,8 @@ fn tree<K: Kind, D: Disk>(
     root: u64,
     levels: u32,
 ) -> io::Result<Tree<K>> {
-    match read_tree(alloc, kind, g, disk, root, levels) {
+    let mut steps = Steps::<Brand>::from_blank(Blank::new(1));
+    match read_tree(alloc, kind, g, disk, root, levels, &mut steps) {
         Ok(tree) => again(alloc, kind, g, tree),
         Err(_) => Err(io::Error::from(io::ErrorKind::InvalidData)),
     }
@@ -146,7 +151,8 @@ fn again<K: Kind>(alloc: Global, kind: &K, g: &Geometry, tree: Tree<K>) -> io::R
         bytes: part,
         blocks: g.dblocks,
     };
-    match read_tree(alloc, kind, g, &mut disk, root, level + 1) {
+    let mut steps = Steps::<Brand>::from_blank(Blank::new(1));
+    match read_tree(alloc, kind, g, &mut disk, root, level + 1, &mut steps) {
         Ok(read) => Ok(read),
         Err(_) => Err(io::Error::from(io::ErrorKind::InvalidData)),
     }

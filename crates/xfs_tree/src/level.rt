@@ -19,11 +19,13 @@ use crate::seats::Seat;
 use crate::tree::TreeError;
 use crate::unread::Unread;
 use std::alloc::Global;
+use std::sync::ledger::Ledger;
 use xfs_disk::{BLOCK_SIZE, Disk, Failed, NoMemory};
 use xfs_geom::Geometry;
+use xfs_runs::Steps;
 
 /// Reads and judges the nodes of a level, and gives the blocks of the level below.
-pub(crate) fn read_nodes<K: Kind, D: Disk>(
+pub(crate) fn read_nodes<K: Kind, D: Disk, L: Ledger>(
     alloc: Global,
     kind: &K,
     g: &Geometry,
@@ -31,6 +33,7 @@ pub(crate) fn read_nodes<K: Kind, D: Disk>(
     level: u32,
     row: &[Seat<K::Key>],
     met: &mut Met,
+    steps: &mut Steps<L>,
 ) -> Result<Vec<Seat<K::Key>>, TreeError>
     requires nodes { 1 ≤ level }
     requires inside { g.now.dblocks ≤ D.size disk.old }
@@ -51,7 +54,9 @@ pub(crate) fn read_nodes<K: Kind, D: Disk>(
             left,
             right: place_at(row, i + 1),
         };
-        match enter(kind, g, disk, level, &beside, None, &seat, met, &mut block) {
+        match enter(
+            kind, g, disk, level, &beside, None, &seat, met, &mut block, steps,
+        ) {
             Ok(()) => {}
             Err(fault) => return Err(fault),
         }
@@ -65,13 +70,14 @@ pub(crate) fn read_nodes<K: Kind, D: Disk>(
 }
 
 /// Reads and judges the leaves, and gives their records.
-pub(crate) fn read_leaves<K: Kind, D: Disk>(
+pub(crate) fn read_leaves<K: Kind, D: Disk, L: Ledger>(
     alloc: Global,
     kind: &K,
     g: &Geometry,
     disk: &mut D,
     row: &[Seat<K::Key>],
     met: &mut Met,
+    steps: &mut Steps<L>,
 ) -> Result<Vec<K::Record>, TreeError>
     requires inside { g.now.dblocks ≤ D.size disk.old }
     requires met { IsMet met.old }
@@ -93,7 +99,9 @@ pub(crate) fn read_leaves<K: Kind, D: Disk>(
             left,
             right: place_at(row, i + 1),
         };
-        match enter(kind, g, disk, 0, &beside, before, &seat, met, &mut block) {
+        match enter(
+            kind, g, disk, 0, &beside, before, &seat, met, &mut block, steps,
+        ) {
             Ok(()) => {}
             Err(fault) => return Err(fault),
         }
@@ -108,8 +116,8 @@ pub(crate) fn read_leaves<K: Kind, D: Disk>(
 }
 
 /// Reads a block of a level between its neighbours and behind the record in front of it, and judges it by
-/// all rules. A block that keeps them counts as met.
-fn enter<K: Kind, D: Disk>(
+/// all rules. A block that keeps them counts as met. Counts one step where it reads.
+fn enter<K: Kind, D: Disk, L: Ledger>(
     kind: &K,
     g: &Geometry,
     disk: &mut D,
@@ -119,6 +127,7 @@ fn enter<K: Kind, D: Disk>(
     seat: &Seat<K::Key>,
     met: &mut Met,
     block: &mut [u8],
+    steps: &mut Steps<L>,
 ) -> Result<(), TreeError>
     requires inside { g.now.dblocks ≤ D.size disk.old }
     requires whole { length block.old ≡ 4096 }
@@ -132,6 +141,7 @@ fn enter<K: Kind, D: Disk>(
     ensures met { OnOk result (IsMet met.new) }
     ensures cause { HasTreeCause (D.faults disk.old) (D.faults disk.new) result }
     ensures disk { OnlyReads D.size D.holds D.write_faults D.tells_stops D.may_leave disk.old disk.new }
+    ensures ticks { steps.new ≤ steps.old + 1 }
 {
     let place = seat.place;
     match admit(kind, g, place, met) {
@@ -139,6 +149,7 @@ fn enter<K: Kind, D: Disk>(
         Ok(Some(rule)) => return Err(TreeError::Unread(Unread { block: place, rule })),
         Err(NoMemory) => return Err(TreeError::NoMemory),
     }
+    steps.tick();
     match disk.read(place, block) {
         Ok(()) => {}
         Err(Failed) => return Err(TreeError::ReadFault),

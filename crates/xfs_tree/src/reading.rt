@@ -14,19 +14,23 @@ use crate::met::Met;
 use crate::seats::Seat;
 use crate::tree::{Tree, TreeError};
 use std::alloc::Global;
+use std::sync::ledger::Ledger;
 use xfs_disk::{Disk, NoMemory};
 use xfs_geom::Geometry;
+use xfs_runs::Steps;
 
 /// Reads the tree of so many levels whose root is the block of this number: its records in order, or the
 /// first block that breaks a rule. Each block is read once, and none of which a rule speaks before it is read
-/// is read at all, so a tree that leads back into itself ends.
-pub fn read_tree<K: Kind, D: Disk>(
+/// is read at all, so a tree that leads back into itself ends. Each block that is read counts as a step, also
+/// where the read fails.
+pub fn read_tree<K: Kind, D: Disk, L: Ledger>(
     alloc: Global,
     kind: &K,
     g: &Geometry,
     disk: &mut D,
     root: u64,
     levels: u32,
+    steps: &mut Steps<L>,
 ) -> Result<Tree<K>, TreeError>
     requires levels { 1 ≤ levels }
     requires inside { g.now.dblocks ≤ D.size disk.old }
@@ -38,19 +42,20 @@ pub fn read_tree<K: Kind, D: Disk>(
 {
     let mut row = Vec::new(alloc);
     match push_root(root, &mut row) {
-        Ok(()) => read_levels(alloc, kind, g, disk, row, levels - 1),
+        Ok(()) => read_levels(alloc, kind, g, disk, row, levels - 1, steps),
         Err(NoMemory) => Err(TreeError::NoMemory),
     }
 }
 
 /// Reads a tree from one whole level down, whose neighbours are not asked: the blocks of that level are the
-/// first blocks of the result.
-pub fn read_below<K: Kind, D: Disk>(
+/// first blocks of the result. Each block that is read counts as a step, also where the read fails.
+pub fn read_below<K: Kind, D: Disk, L: Ledger>(
     alloc: Global,
     kind: &K,
     g: &Geometry,
     disk: &mut D,
     top: &Frontier<K>,
+    steps: &mut Steps<L>,
 ) -> Result<Tree<K>, TreeError>
     requires { g.now.dblocks ≤ D.size disk.old }
     ensures read { ForSome (D.holds disk.old) (λ image. MatchResult result
@@ -60,19 +65,20 @@ pub fn read_below<K: Kind, D: Disk>(
     ensures disk { OnlyReads D.size D.holds D.write_faults D.tells_stops D.may_leave disk.old disk.new }
 {
     match top.seats(alloc) {
-        Ok(row) => read_levels(alloc, kind, g, disk, row, top.level),
+        Ok(row) => read_levels(alloc, kind, g, disk, row, top.level, steps),
         Err(NoMemory) => Err(TreeError::NoMemory),
     }
 }
 
 /// Reads a tree from the blocks of one level down.
-fn read_levels<K: Kind, D: Disk>(
+fn read_levels<K: Kind, D: Disk, L: Ledger>(
     alloc: Global,
     kind: &K,
     g: &Geometry,
     disk: &mut D,
     tops: Vec<Seat<K::Key>>,
     height: u32,
+    steps: &mut Steps<L>,
 ) -> Result<Tree<K>, TreeError>
     requires { g.now.dblocks ≤ D.size disk.old }
     ensures read { ForSome (D.holds disk.old) (λ image. MatchResult result
@@ -84,12 +90,12 @@ fn read_levels<K: Kind, D: Disk>(
     let mut row = tops;
     let mut met = Met::new(alloc);
     for depth in 0..height {
-        match read_nodes(alloc, kind, g, disk, height - depth, &row, &mut met) {
+        match read_nodes(alloc, kind, g, disk, height - depth, &row, &mut met, steps) {
             Ok(next) => row = next,
             Err(fault) => return Err(fault),
         }
     }
-    match read_leaves(alloc, kind, g, disk, &row, &mut met) {
+    match read_leaves(alloc, kind, g, disk, &row, &mut met, steps) {
         Ok(records) => Ok(Tree {
             records,
             blocks: met.blocks,

@@ -6,9 +6,12 @@ use crate::headers::short::{BNO, LEFTSIB, LEVEL, MAGIC, NUMRECS, OWNER, RIGHTSIB
 use crate::numbers::Numbers;
 use crate::{Tree, TreeError, Unread, read_tree};
 use std::alloc::Global;
+use std::marker::Brand;
+use std::sync::ledger::{Blank, Ledger};
 use std::test::Fail;
 use xfs_disk::{Disk, Failed, MemoryDisk, NoMemory};
 use xfs_geom::Geometry;
+use xfs_runs::Steps;
 use xfs_word::{Seal, SealKind, put_part, put32, seal};
 
 /// The identifier of the volume.
@@ -82,6 +85,22 @@ fn second(siblings: [u32; 2], count: u16, numbers: &[u32]) -> [u8; 4096]
     block(22, 0, count, siblings, numbers)
 }
 
+/// What the tree of two levels at block 20 reads as, with its steps counted.
+fn read<D: Disk, L: Ledger>(
+    alloc: Global,
+    disk: &mut D,
+    blank: Blank,
+) -> Result<Tree<Numbers>, TreeError>
+    requires name { blank.name ≡ L.name }
+    requires parts { blank.parts ≡ L.parts }
+    requires some { 0 < blank.parts }
+    requires inside { 2048 ≤ D.size disk.old }
+    ensures { D.size disk.new ≡ D.size disk.old }
+{
+    let mut steps = Steps::<L>::from_blank(blank);
+    read_tree(alloc, &Numbers { ag: 0 }, &volume(), disk, 20, 2, &mut steps)
+}
+
 /// What the tree of these three blocks, at blocks 20 to 22, reads as.
 fn reading(
     alloc: Global,
@@ -98,7 +117,7 @@ fn reading(
         .and(disk.write(21, left))
         .and(disk.write(22, right))
     {
-        Ok(()) => read_tree(alloc, &Numbers { ag: 0 }, &volume(), &mut disk, 20, 2),
+        Ok(()) => read::<MemoryDisk, Brand>(alloc, &mut disk, Blank::new(1)),
         Err(Failed) => Err(TreeError::ReadFault),
     }
 }
@@ -231,21 +250,19 @@ fn hostile(rt: HostRuntime) -> Result<(), Fail> {
 
 #[test]
 fn each_block_is_read_once(rt: HostRuntime) -> Result<(), Fail> {
-    let g = volume();
-    let kind = Numbers { ag: 0 };
     let mut disk = MemoryDisk::make(rt.alloc(), 2048)?;
     disk.write(20, &root([10, 30], [21, 22]))?;
     disk.write(21, &first([NONE, 22], 2, &[10, 20]))?;
     disk.write(22, &second([21, NONE], 1, &[30]))?;
     disk.fail(4)?;
-    match read_tree(rt.alloc(), &kind, &g, &mut disk, 20, 2) {
+    match read::<MemoryDisk, Brand>(rt.alloc(), &mut disk, Blank::new(1)) {
         Ok(tree) => {
             assert_eq!(rt; tree.records.as_slice(), [10, 20, 30].as_slice());
             assert_eq!(rt; tree.blocks.as_slice(), [20, 21, 22].as_slice());
         }
         Err(_) => assert!(rt; false),
     }
-    match read_tree(rt.alloc(), &kind, &g, &mut disk, 20, 2) {
+    match read::<MemoryDisk, Brand>(rt.alloc(), &mut disk, Blank::new(1)) {
         Err(fault) => assert_eq!(rt; fault, TreeError::ReadFault),
         Ok(_) => assert!(rt; false),
     }
