@@ -1,6 +1,6 @@
 //! Slots of a volume of two groups of 1024 blocks, with its log at AG block 6 of the second.
 
-ghost use Rattle.std.specs.Prelude.{◌≡◌, length};
+ghost use Rattle.std.specs.Prelude.{◌≡◌, ◌<◌, ◌≤◌, length};
 
 mod cuts;
 mod disks;
@@ -9,10 +9,13 @@ mod real;
 
 use super::*;
 use crate::seals::slot_seal;
+use std::alloc::Global;
 use std::process::Abort;
+use std::sync::ledger::{Blank, Ledger};
 use std::test::Fail;
-use xfs_disk::{Stamp, Word};
+use xfs_disk::{Disk, Stamp, Word};
 use xfs_geom::Geometry;
+use xfs_runs::Steps;
 use xfs_volume::Core;
 use xfs_word::{get8, put_part, seal, sealed, stored_checksum};
 
@@ -99,6 +102,24 @@ fn file_with(rt: &impl Abort, parts: Parts) -> [u8; 512] {
 /// Writes the checksum of a slot.
 fn seal_file(slot: &mut [u8; 512]) {
     seal(&slot_seal(&volume(IDENTIFIER), 131), slot);
+}
+
+/// What the slot of an inode reads as, with the steps counted.
+fn read_counted<D: Disk, L: Ledger>(
+    alloc: Global,
+    uuid: [u8; 16],
+    disk: &mut D,
+    ino: u64,
+    slot: &[u8; 512],
+    blank: Blank,
+) -> Result<FileRead, InodeError>
+    requires name { blank.name ≡ L.name }
+    requires parts { blank.parts ≡ L.parts }
+    requires some { 0 < blank.parts }
+    requires inside { 2048 ≤ D.size disk.old }
+{
+    let mut steps = Steps::<L>::from_blank(blank);
+    read_file(alloc, &volume(uuid), disk, ino, slot, &mut steps)
 }
 
 /// What is not supported in a slot in use.

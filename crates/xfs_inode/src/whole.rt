@@ -1,6 +1,6 @@
 //! Files, read from a disk.
 
-ghost use Rattle.std.specs.Prelude.{◌≡◌, ℕ, ◌<◌, ◌≤◌, [], ◌∷◌, List, Some, None, length, IfSome, IfOk, OnOk, option_map};
+ghost use Rattle.std.specs.Prelude.{◌≡◌, ℕ, ◌+◌, ◌<◌, ◌≤◌, [], ◌∷◌, List, Some, None, length, IfSome, IfOk, OnOk, option_map};
 ghost use Rattle.std.specs.Option.{ForSome, option_copied};
 ghost use Rattle.xfs_disk.specs.Faults.{HasCause};
 ghost use Rattle.xfs_geom.specs.Volumes.{volume_of};
@@ -16,19 +16,23 @@ use crate::named::Needs;
 use crate::naming::needs;
 use crate::settling::settle;
 use std::alloc::Global;
+use std::sync::ledger::Ledger;
 use xfs_disk::{BLOCK_SIZE, Disk, Failed, NoMemory};
 use xfs_geom::Geometry;
 use xfs_kinds::Bmbt;
+use xfs_runs::Steps;
 use xfs_tree::{Frontier, Tree, TreeError, read_below};
 
 /// What the slot of an inode, of 512 bytes, reads as with the blocks of the disk that it names (chapter "On-disk
-/// Inode"). `ReadFault` only where a read failed.
-pub fn read_file<D: Disk>(
+/// Inode"). `ReadFault` only where a read failed. Each block that is read counts as a step, also where the read
+/// fails.
+pub fn read_file<D: Disk, L: Ledger>(
     alloc: Global,
     g: &Geometry,
     disk: &mut D,
     ino: u64,
     slot: &[u8],
+    steps: &mut Steps<L>,
 ) -> Result<FileRead, InodeError>
     requires slot { length slot.now ≡ 512 }
     requires inside { g.now.dblocks ≤ D.size disk.old }
@@ -38,19 +42,20 @@ pub fn read_file<D: Disk>(
     ensures disk { OnlyReads D.size D.holds D.write_faults D.tells_stops D.may_leave disk.old disk.new }
 {
     match needs(alloc, g, ino, slot) {
-        Ok(needs) => read_needed(alloc, g, disk, ino, slot, &needs),
+        Ok(needs) => read_needed(alloc, g, disk, ino, slot, &needs, steps),
         Err(NoMemory) => Err(InodeError::NoMemory),
     }
 }
 
 /// What a slot reads as, with the blocks that it names read.
-fn read_needed<D: Disk>(
+fn read_needed<D: Disk, L: Ledger>(
     alloc: Global,
     g: &Geometry,
     disk: &mut D,
     ino: u64,
     slot: &[u8],
     needs: &Needs,
+    steps: &mut Steps<L>,
 ) -> Result<FileRead, InodeError>
     requires slot { length slot.now ≡ 512 }
     requires inside { g.now.dblocks ≤ D.size disk.old }
@@ -64,17 +69,17 @@ fn read_needed<D: Disk>(
     ensures cause { HasInodeCause (D.faults disk.old) (D.faults disk.new) result }
     ensures disk { OnlyReads D.size D.holds D.write_faults D.tells_stops D.may_leave disk.old disk.new }
 {
-    let tree = match read_top(alloc, g, disk, ino, &needs.top) {
+    let tree = match read_top(alloc, g, disk, ino, &needs.top, steps) {
         Ok(tree) => tree,
         Err(fault) => return Err(fault),
     };
     let mut attr = [0; BLOCK_SIZE];
-    match read_named(g, disk, needs.attr, &mut attr) {
+    match read_named(g, disk, needs.attr, &mut attr, steps) {
         Ok(()) => {}
         Err(Failed) => return Err(InodeError::ReadFault),
     }
     let mut link = [0; BLOCK_SIZE];
-    match read_named(g, disk, needs.link, &mut link) {
+    match read_named(g, disk, needs.link, &mut link, steps) {
         Ok(()) => {}
         Err(Failed) => return Err(InodeError::ReadFault),
     }
@@ -93,12 +98,13 @@ fn read_needed<D: Disk>(
 }
 
 /// What reads from the level under the root of a data fork, where there is one and it reads.
-fn read_top<D: Disk>(
+fn read_top<D: Disk, L: Ledger>(
     alloc: Global,
     g: &Geometry,
     disk: &mut D,
     ino: u64,
     top: &Option<Frontier<Bmbt>>,
+    steps: &mut Steps<L>,
 ) -> Result<Option<Tree<Bmbt>>, InodeError>
     requires { g.now.dblocks ≤ D.size disk.old }
     ensures read { IfOk result (λ tree. ForSome (D.holds disk.old) (λ image. option_map contents_of tree ≡ tree_at (volume_of g.now) image ino top.now)) }
@@ -107,7 +113,7 @@ fn read_top<D: Disk>(
 {
     match top {
         None => Ok(None),
-        Some(top) => match read_below(alloc, &Bmbt { ino }, g, disk, top) {
+        Some(top) => match read_below(alloc, &Bmbt { ino }, g, disk, top, steps) {
             Ok(tree) => Ok(Some(tree)),
             Err(TreeError::Unread(_)) => Ok(None),
             Err(TreeError::ReadFault) => Err(InodeError::ReadFault),
@@ -116,12 +122,13 @@ fn read_top<D: Disk>(
     }
 }
 
-/// Reads a block, where one is named.
-fn read_named<D: Disk>(
+/// Reads a block, where one is named, and counts it as a step.
+fn read_named<D: Disk, L: Ledger>(
     g: &Geometry,
     disk: &mut D,
     named: Option<u64>,
     block: &mut [u8],
+    steps: &mut Steps<L>,
 ) -> Result<(), Failed>
     requires inside { g.now.dblocks ≤ D.size disk.old }
     requires named { IfSome named (λ place. place < g.now.dblocks) }
@@ -130,13 +137,17 @@ fn read_named<D: Disk>(
     ensures whole { length block.new ≡ 4096 }
     ensures cause { HasCause (D.faults disk.old) (D.faults disk.new) result }
     ensures disk { OnlyReads D.size D.holds D.write_faults D.tells_stops D.may_leave disk.old disk.new }
+    ensures ticks { steps.new ≤ steps.old + 1 }
 {
     match named {
         None => Ok(()),
-        Some(place) => match disk.read(place, block) {
-            Ok(()) => Ok(()),
-            Err(Failed) => Err(Failed),
-        },
+        Some(place) => {
+            steps.tick();
+            match disk.read(place, block) {
+                Ok(()) => Ok(()),
+                Err(Failed) => Err(Failed),
+            }
+        }
     }
 }
 

@@ -5,6 +5,8 @@ ghost use Rattle.xfs_word.specs.Extent.{IsPackable};
 
 use super::*;
 use std::alloc::Global;
+use std::marker::Brand;
+use std::sync::ledger::Blank;
 use xfs_disk::{BLOCK_SIZE, Disk, MemoryDisk};
 use xfs_volume::FileRec;
 use xfs_word::{Extent, Seal, SealKind, pack_extent};
@@ -81,7 +83,14 @@ fn read(
     key: &'static [u8],
 ) -> Result<FileRead, InodeError> {
     assert!(rt; matches!(disk.blocks(), Ok(count) if 2048 <= count));
-    read_file(alloc, &volume(IDENTIFIER), disk, 131, &slot_with(rt, key))
+    read_counted::<MemoryDisk, Brand>(
+        alloc,
+        IDENTIFIER,
+        disk,
+        131,
+        &slot_with(rt, key),
+        Blank::new(1),
+    )
 }
 
 /// Tests that the file is read whole.

@@ -5,6 +5,8 @@ ghost use Rattle.std.specs.Prelude.{◌≡◌, ◌<◌, length};
 use super::cuts::{BLOCKS, CUTS};
 use super::*;
 use std::alloc::Global;
+use std::marker::Brand;
+use std::sync::ledger::Blank;
 use xfs_attr::Attr;
 use xfs_disk::{BLOCK_SIZE, Disk, MemoryDisk};
 use xfs_volume::FileRec;
@@ -156,7 +158,15 @@ fn read_cuts(rt: &impl Abort, alloc: Global, disk: &mut MemoryDisk, cuts: &[Cut]
         let mut slot = [0; 512];
         fill(rt, &mut slot, cut.slot);
         assert!(rt; matches!(disk.blocks(), Ok(count) if 2048 <= count));
-        match read_file(alloc, &volume(cut.image), disk, cut.ino, &slot) {
+        let read = read_counted::<MemoryDisk, Brand>(
+            alloc,
+            cut.image,
+            disk,
+            cut.ino,
+            &slot,
+            Blank::new(1),
+        );
+        match read {
             Ok(FileRead::File(file)) => same_file(rt, &file, cut),
             _ => panic!(rt; "inode {} is a file", cut.ino),
         }

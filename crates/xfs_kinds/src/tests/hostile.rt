@@ -1,12 +1,15 @@
 //! Trees of two levels whose blocks break one rule each.
 
-ghost use Rattle.std.specs.Prelude.{◌≡◌, ◌+◌, ◌≤◌, length};
+ghost use Rattle.std.specs.Prelude.{◌≡◌, ◌+◌, ◌<◌, ◌≤◌, length};
 
 use super::volume;
 use crate::{Ino, Rmap};
 use std::alloc::Global;
+use std::marker::Brand;
+use std::sync::ledger::{Blank, Ledger};
 use std::test::Fail;
 use xfs_disk::{Disk, Failed, MemoryDisk, NoMemory};
+use xfs_runs::Steps;
 use xfs_tree::{Kind, Tree, TreeError, Unread, read_tree};
 use xfs_word::{Seal, SealKind, put_part, put16, put32, put64, seal};
 
@@ -47,18 +50,24 @@ fn block(
 }
 
 /// What the tree with a root at block 20 over a leaf at block 21 reads as.
-fn reading<K: Kind>(
+fn reading<K: Kind, L: Ledger>(
     alloc: Global,
     kind: &K,
     root: &[u8; 4096],
     leaf: &[u8; 4096],
-) -> Result<Tree<K>, TreeError> {
+    blank: Blank,
+) -> Result<Tree<K>, TreeError>
+    requires name { blank.name ≡ L.name }
+    requires parts { blank.parts ≡ L.parts }
+    requires some { 0 < blank.parts }
+{
+    let mut steps = Steps::<L>::from_blank(blank);
     let mut disk = match MemoryDisk::make(alloc, 2048) {
         Ok(disk) => disk,
         Err(NoMemory) => return Err(TreeError::NoMemory),
     };
     match disk.write(20, root).and(disk.write(21, leaf)) {
-        Ok(()) => read_tree(alloc, kind, &volume(), &mut disk, 20, 2),
+        Ok(()) => read_tree(alloc, kind, &volume(), &mut disk, 20, 2, &mut steps),
         Err(Failed) => Err(TreeError::ReadFault),
     }
 }
@@ -75,7 +84,7 @@ fn one_child_twice(rt: HostRuntime) {
         &[(56, 128), (60, 192), (2076, 21), (2080, 21)],
     );
     let leaf = block(magic, 21, 0, 1, [NONE, 21], &[(56, 128), (60, 0x0000_4000)]);
-    match reading(rt.alloc(), &Ino { ag: 0 }, &root, &leaf) {
+    match reading::<Ino, Brand>(rt.alloc(), &Ino { ag: 0 }, &root, &leaf, Blank::new(1)) {
         Err(fault) => assert_eq!(rt; fault, TreeError::Unread(Unread { block: 21, rule: 2 })),
         Ok(_) => assert!(rt; false),
     }
@@ -108,7 +117,7 @@ fn keys_of_owners(rt: HostRuntime) {
             (3696, 21),
         ];
         let root = block(magic, 20, 1, 1, [NONE, NONE], &keys);
-        match reading(rt.alloc(), &Rmap { ag: 0 }, &root, &leaf) {
+        match reading::<Rmap, Brand>(rt.alloc(), &Rmap { ag: 0 }, &root, &leaf, Blank::new(1)) {
             Err(fault) => assert_eq!(rt; fault, TreeError::Unread(Unread { block: 21, rule })),
             Ok(tree) => assert_eq!(rt; (tree.records.len(), rule), (1, 0)),
         }
