@@ -17,3 +17,4 @@ pub mod LawfulOwners
 pub mod TreePlaces
 pub mod ReadyGroups
 pub mod ReadyWanted
+pub mod RootAlone
