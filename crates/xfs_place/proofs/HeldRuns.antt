@@ -15,12 +15,12 @@ use Rattle.xfs_place.specs.declared.uses.Use.{Use}
 use Rattle.xfs_place.specs.declared.uses.Use.TheVariants.{Claimed}
 use Rattle.xfs_place.specs.declared.wanted.RunAsk.{RunAsk}
 use Rattle.xfs_place.specs.Pool.{Marks, Shows, is_among, is_listed, is_of, is_open, is_pool, is_taken, use_at, use_of}
-use Rattle.xfs_place.specs.Choice.{IsLeast, IsNone, NoneOpen, in_pool, one_if}
+use Rattle.xfs_place.specs.Choice.{IsLeast, IsNone, in_pool, one_if}
 use Rattle.xfs_place.specs.Claims.{IsClaim, runs_on}
-use Rattle.xfs_place.specs.Objects.{AllOpen, HasRun, IsAsk, Opens, can_hold, first_of, keep_with, lowest_run, most_blocks, run_at, with_start}
+use Rattle.xfs_place.specs.Objects.{AllOpen, AreStarts, HasRun, IsAsk, Opens, can_hold, first_of, keep_with, lowest_run, most_blocks, run_at, with_start}
 use Rattle.xfs_place.specs.Wanted.{AreKept, IsClear}
 use Rattle.xfs_place.proofs.Found.{one_small}
-use Rattle.xfs_place.proofs.OpenRuns.{none_stays, open_inside}
+use Rattle.xfs_place.proofs.OpenRuns.{open_inside}
 use Rattle.xfs_place.proofs.Ordered.{on_first}
 use Rattle.xfs_place.proofs.Ranges.{all_pass}
 use Rattle.xfs_place.proofs.Rooms.{open_is}
@@ -293,13 +293,13 @@ opens_first v kept reserved from uses now shows marks = record {
     and_true false = refl
 
 -- the runs so far, and those that are left
-pub record Keeping (v : Volume) (reserved : List ℕ) (from : ℕ) (first : List Run) (asks : List AskFor) (i next : ℕ) (all : List Run) (uses : List Use) : Type 0 where
+pub record Keeping (v : Volume) (reserved : List ℕ) (from : ℕ) (first : List Run) (asks : List AskFor) (i : ℕ) (starts : List ℕ) (all : List Run) (uses : List Use) : Type 0 where
   pub same : keep_with v reserved from first asks ≡ keep_with v reserved from all (drop i asks)
   pub kept : AreKept v all
   pub behind : take (length first) all ≡ first
   pub long : length first ≤ length all
   pub opens : Opens v all reserved from uses
-  pub none : NoneOpen uses 0 next
+  pub starts' : AreStarts uses 65536 starts
 
 -- one ask more, by the block where its run begins
 pub keep_next : (v : Volume) (reserved : List ℕ) (from : ℕ) (all : List Run) (asks : List AskFor) (i : ℕ) (d : AskFor) (s : ℕ) → i < length asks
@@ -328,22 +328,22 @@ written n new rest long = take-append-le n new rest (omega (arith, long)) ∙ ta
 
 -- nothing is placed yet
 pub keeping_first : (v : Volume) (reserved : List ℕ) (from : ℕ) (first : List Run) (asks : List AskFor) (uses marked now : List Use) → AreKept v first
-    → Shows uses v.dblocks (use_of v first reserved) → Marks uses marked (λ b. nat_lt (b % v.agblocks) from) Claimed → now ≡ marked → Keeping v reserved from first asks 0 0 first now
-keeping_first v reserved from first asks uses marked now kept shows marks is = record {
+    → Shows uses v.dblocks (use_of v first reserved) → Marks uses marked (λ b. nat_lt (b % v.agblocks) from) Claimed → now ≡ marked → (starts : List ℕ) → AreStarts now 65536 starts → Keeping v reserved from first asks 0 starts first now
+keeping_first v reserved from first asks uses marked now kept shows marks is starts none = record {
   same = refl;
   kept = kept;
   behind = take_all (length first) first (omega arith);
   long = omega arith;
   opens = subst (Opens v first reserved from) (sym is) (opens_first v first reserved from uses marked shows marks);
-  none = λ b low high. absurd (omega (arith, high));
+  starts' = none;
 }
 
 -- the run is put behind the others
-pub keeping_next : (v : Volume) (groups : HasGroups v.dblocks v.agblocks v.agcount) (reserved : List ℕ) (from : ℕ) (first : List Run) (asks : List AskFor) (i next at : ℕ) (all now : List Run) (uses marked written : List Use)
-    (d : AskFor) (s : ℕ) → Keeping v reserved from first asks i next all uses → i < length asks → IsAsk (get_or asks i d).run → NoneOpen uses 0 at
+pub keeping_next : (v : Volume) (groups : HasGroups v.dblocks v.agblocks v.agcount) (reserved : List ℕ) (from : ℕ) (first : List Run) (asks : List AskFor) (i : ℕ) (starts next : List ℕ) (all now : List Run) (uses marked written : List Use)
+    (d : AskFor) (s : ℕ) → Keeping v reserved from first asks i starts all uses → i < length asks → IsAsk (get_or asks i d).run → AreStarts marked 65536 next
     → IsLeast (HasRun uses (get_or asks i d).run.blocks) s → Marks uses marked (is_among s (get_or asks i d).run.blocks) Claimed → now ≡ all ++ run_at s (get_or asks i d).run ∷ [] → written ≡ marked
-    → Keeping v reserved from first asks (i + 1) at now written
-keeping_next v groups reserved from first asks i next at all now uses marked written d s old in' ask none least marks put is =
+    → Keeping v reserved from first asks (i + 1) next now written
+keeping_next v groups reserved from first asks i starts next all now uses marked written d s old in' ask none least marks put is =
     let a = get_or asks i d in
     record {
       same = old.same ∙ keep_next v reserved from all asks i d s in' (lowest_is v groups all reserved from uses old.opens a.run.blocks s ask.some least)
@@ -353,5 +353,5 @@ keeping_next v groups reserved from first asks i next at all now uses marked wri
       long = let more = ap length put ∙ length-append all (run_at s a.run ∷ []) in omega (arith, more, old.long);
       opens = subst (λ (us : List Use). Opens v now reserved from us) (sym is)
           (subst (λ (rs : List Run). Opens v rs reserved from marked) (sym put) (opens_more v groups all reserved from uses old.opens a.run s marked marks));
-      none = subst (λ (us : List Use). NoneOpen us 0 at) (sym is) (none_stays uses marked (is_among s a.run.blocks) at marks none);
+      starts' = subst (λ (us : List Use). AreStarts us 65536 next) (sym is) none;
     }

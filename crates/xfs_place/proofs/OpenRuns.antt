@@ -1,12 +1,13 @@
 -- Runs of open blocks, as one block after another is looked at.
-use Rattle.std.proofs.Common.{◌≡◌, ◌≢◌, ◌⊎◌, ℕ, ◌+◌, ◌-◌, ◌≤◌, ◌<◌, inl, inr, Bool, true, false, if◌then◌else◌, List, length, sym, ◌∙◌, ap, arith}
-use Rattle.std.proofs.lemmas.Bool.{cases_lt, cases_eq, true≢false}
+use Rattle.std.proofs.Common.{◌≡◌, ℕ, ◌+◌, ◌≤◌, ◌<◌, ◌&&◌, inl, inr, min, Bool, true, false, nat_le, nat_lt, if◌then◌else◌, List, length, get_or, set, refl, sym, ◌∙◌, ap, ap₂, subst, arith, get_or-set_same, get_or-set_other}
+use Rattle.std.proofs.lemmas.Bool.{cases_lt, cases_eq, le-leb, lt-ltb, ltb-true, true≢false}
 use Rattle.std.proofs.lemmas.List.{get_or_past}
+use Rattle.std.proofs.Math.ListN.{length-set}
 use Rattle.xfs_place.specs.declared.uses.Use.{Use}
 use Rattle.xfs_place.specs.declared.uses.Use.TheVariants.{Claimed}
-use Rattle.xfs_place.specs.Pool.{Marks, is_open, use_at}
-use Rattle.xfs_place.specs.Choice.{IsLeast, NoneOpen, in_pool}
-use Rattle.xfs_place.specs.Objects.{AllOpen, HasRun, most_blocks}
+use Rattle.xfs_place.specs.Pool.{Marks, is_among, is_open, use_at}
+use Rattle.xfs_place.specs.Choice.{IsLeast, in_pool}
+use Rattle.xfs_place.specs.Objects.{AllOpen, AreStarts, HasRun, NoneBefore}
 
 pub closed_beyond : (uses : List Use) (b : ℕ) → length uses ≤ b → in_pool uses b ≡ false
 closed_beyond uses b far = ap is_open (get_or_past uses b Claimed far)
@@ -24,78 +25,54 @@ pub record Looked (uses : List Use) (blocks at found : ℕ) : Type 0 where
   pub since : found ≤ at
   pub later : (s : ℕ) → AllOpen uses s blocks → at ≤ s + found
 
-pub looked_first : (uses : List Use) (blocks next : ℕ) → 1 ≤ blocks → NoneOpen uses 0 next → Looked uses blocks next 0
-looked_first uses blocks next some none = record {
-  behind = λ b low high. absurd (omega (arith, low, high));
-  short = omega (arith, some);
-  since = omega arith;
-  later = λ s all. elim (cases_lt s next) [
-    | inl low ↦ absurd (true≢false (sym (all s (omega arith) (omega (arith, some))) ∙ none s (omega arith) low))
-    | inr high ↦ omega (arith, high)
-  ];
-}
+-- what is open once some blocks are closed was open, and is none of these
+still_open : (uses now : List Use) (test : ℕ → Bool) (b : ℕ) → Marks uses now test Claimed → in_pool now b ≡ true → (test b ≡ false) × (in_pool uses b ≡ true)
+still_open uses now test b marks here = by_case (use_at uses b) (use_at now b) (test b) (marks.each b (omega (arith, open_inside now b here, marks.all))) here
+  where
+    by_case : (u v : Use) (t : Bool) → v ≡ (if t then Claimed else u) → is_open v ≡ true → (t ≡ false) × (is_open u ≡ true)
+    by_case u v true is open' = absurd (true≢false (sym open' ∙ ap is_open is))
+    by_case u v false is open' = (refl, sym (ap is_open is) ∙ open')
 
-pub looked_next : (uses : List Use) (blocks at found now : ℕ) (open' : Bool) → open' ≡ in_pool uses at → now ≡ (if open' then found + 1 else 0) → (now ≡ blocks → ⊥)
-    → Looked uses blocks at found → Looked uses blocks (at + 1) now
-looked_next uses blocks at found now true here is other old = record {
-  behind = λ b low high. elim (cases_eq b at) [
-    | inl same ↦ ap (in_pool uses) same ∙ sym here
-    | inr before ↦ old.behind b (omega (arith, low, is)) (omega (arith, high, before))
+none_stays : (uses now : List Use) (test : ℕ → Bool) (blocks at : ℕ) → Marks uses now test Claimed → NoneBefore uses blocks at → NoneBefore now blocks at
+none_stays uses now test blocks at marks none = λ s low all. none s low (λ b from to. (still_open uses now test b marks (all b from to)).1)
+
+-- longer runs begin there neither
+pub none_longer : (uses : List Use) (blocks more at : ℕ) → blocks ≤ more → NoneBefore uses blocks at → NoneBefore uses more at
+none_longer uses blocks more at few none = λ s low all. none s low (λ b from to. all b from (omega (arith, to, few)))
+
+-- behind the lowest run that is given away no other of its length begins before its end
+none_behind : (uses now : List Use) (blocks s : ℕ) → 1 ≤ blocks → IsLeast (HasRun uses blocks) s → Marks uses now (is_among s blocks) Claimed → NoneBefore now blocks (s + blocks)
+none_behind uses now blocks s some least marks = λ t before all. elim (cases_lt t s) [
+  | inl low ↦ least.1 t low (least.0.0, λ b from to. (still_open uses now (is_among s blocks) b marks (all b from to)).1)
+  | inr high ↦
+      let free = (still_open uses now (is_among s blocks) t marks (all t (omega arith) (omega (arith, some)))).0 in
+      let from : nat_le s t ≡ true = le-leb s t high in
+      let to : nat_lt t (s + blocks) ≡ true = lt-ltb t (s + blocks) before in
+      true≢false (sym (ap₂ ◌&&◌ from to) ∙ free)
+]
+
+pub starts_first : (uses : List Use) (bound : ℕ) (starts : List ℕ) → length starts ≡ bound → ((n : ℕ) → n < bound → get_or starts n 0 ≡ 0) → AreStarts uses bound starts
+starts_first uses bound starts long first = record { all = long; each = λ n low some b before all. omega (arith, first n low, before); }
+
+-- the starts once a run is given away
+pub starts_next : (uses now : List Use) (starts next : List ℕ) (blocks s slot value : ℕ) → 1 ≤ blocks → AreStarts uses 65536 starts → IsLeast (HasRun uses blocks) s → Marks uses now (is_among s blocks) Claimed
+    → slot ≡ min blocks 65535 → value ≡ (if nat_lt blocks 65536 then s + blocks else get_or starts slot 0) → next ≡ set starts slot value → AreStarts now 65536 next
+starts_next uses now starts next blocks s slot value some old least marks at is put = record {
+  all = ap length put ∙ length-set starts slot value ∙ old.all;
+  each = λ n low one. elim (cases_eq n slot) [
+    | inl same ↦
+        let here : get_or next n 0 ≡ value = ap (λ (xs : List ℕ). get_or xs n 0) put ∙ ap (λ (k : ℕ). get_or (set starts slot value) k 0) same ∙ get_or-set_same starts slot value 0 (omega (arith, at, old.all)) in
+        subst (NoneBefore now n) (sym here) (by_case (nat_lt blocks 65536) refl n same low one is)
+    | inr other ↦
+        let there : get_or next n 0 ≡ get_or starts n 0 = ap (λ (xs : List ℕ). get_or xs n 0) put ∙ get_or-set_other starts slot n value 0 other in
+        subst (NoneBefore now n) (sym there) (none_stays uses now (is_among s blocks) n (get_or starts n 0) marks (old.each n low one))
   ];
-  short = more (omega (arith, is, old.short)) (cases_eq now blocks);
-  since = omega (arith, is, old.since);
-  later = λ s all. let so = old.later s all in omega (arith, so, is);
 }
   where
-    more : now ≤ blocks → (now ≡ blocks) ⊎ (now ≢ blocks) → now < blocks
-    more few (inl same) = absurd (other same)
-    more few (inr apart) = omega (arith, few, apart)
-looked_next uses blocks at found now false here is other old = record {
-  behind = λ b low high. absurd (omega (arith, low, high, is));
-  short = omega (arith, is, old.short);
-  since = omega (arith, is);
-  later = λ s all. elim (cases_lt at s) [
-    | inl high ↦ omega (arith, high)
-    | inr low ↦
-        let so = old.later s all in
-        absurd (true≢false (sym (all at low (omega (arith, so, old.short))) ∙ sym here))
-  ];
-}
-
-pub looked_here : (uses : List Use) (blocks at found now start : ℕ) (open' : Bool) → open' ≡ in_pool uses at → now ≡ (if open' then found + 1 else 0) → now ≡ blocks → start ≡ at + 1 - blocks
-    → 1 ≤ blocks → blocks ≤ most_blocks → Looked uses blocks at found → IsLeast (HasRun uses blocks) start
-looked_here uses blocks at found now start true here is same first some few old = (
-  (
-    few,
-    λ b low high. elim (cases_eq b at) [
-      | inl last ↦ ap (in_pool uses) last ∙ sym here
-      | inr before ↦ old.behind b (omega (arith, low, first, is, same)) (omega (arith, high, before, first, is, same, old.since))
-    ],
-  ),
-  λ k low has. let so = old.later k has.1 in omega (arith, so, low, first, is, same, old.since),
-)
-looked_here uses blocks at found now start false here is same first some few old = absurd (omega (arith, is, same, some))
-
-pub looked_all : (uses : List Use) (blocks found s : ℕ) → 1 ≤ blocks → Looked uses blocks (length uses) found → HasRun uses blocks s → ⊥
-looked_all uses blocks found s some old has =
-    let so = old.later s has.1 in
-    let last : s + blocks - 1 < length uses = open_inside uses (s + blocks - 1) (has.1 (s + blocks - 1) (omega (arith, some)) (omega (arith, some))) in
-    omega (arith, so, old.short, last)
-
--- what is closed stays closed
-pub none_stays : (uses now : List Use) (test : ℕ → Bool) (n : ℕ) → Marks uses now test Claimed → NoneOpen uses 0 n → NoneOpen now 0 n
-none_stays uses now test n marks none = λ b low high. elim (cases_lt b (length uses)) [
-  | inl in' ↦ by_case (use_at uses b) (use_at now b) (test b) (marks.each b in') (none b low high)
-  | inr far ↦ closed_beyond now b (omega (arith, far, marks.all))
-]
-  where
-    by_case : (u v : Use) (t : Bool) → v ≡ (if t then Claimed else u) → is_open u ≡ false → is_open v ≡ false
-    by_case u v true is closed = ap is_open is
-    by_case u v false is closed = ap is_open is ∙ closed
-
--- from one part with no open block to the next
-pub none_on_to : (uses : List Use) (n m : ℕ) → NoneOpen uses 0 n → NoneOpen uses n m → NoneOpen uses 0 m
-none_on_to uses n m first next = λ b low high. elim (cases_lt b n) [
-  | inl before ↦ first b low before
-  | inr after ↦ next b after high
-]
+    by_case : (t : Bool) → nat_lt blocks 65536 ≡ t → (n : ℕ) → n ≡ slot → n < 65536 → 1 ≤ n → value ≡ (if t then s + blocks else get_or starts slot 0) → NoneBefore now n value
+    by_case true short n same low one is' =
+        let few : blocks < 65536 = ltb-true blocks 65536 short in
+        let whole : blocks ≡ n = omega (arith, same, at, few) in
+        subst (NoneBefore now n) (sym is') (subst (λ (k : ℕ). NoneBefore now k (s + blocks)) whole (none_behind uses now blocks s some least marks))
+    by_case false long n same low one is' =
+        subst (NoneBefore now n) (ap (λ (k : ℕ). get_or starts k 0) same ∙ sym is') (none_stays uses now (is_among s blocks) n (get_or starts n 0) marks (old.each n low one))

@@ -1,5 +1,5 @@
 -- Where the runs of objects stand.
-use Rattle.std.specs.Prelude.{◌≡◌, ℕ, zero, suc, Bool, true, false, ◌+◌, ◌/◌, ◌%◌, ◌^◌, ◌≤◌, ◌<◌, ◌&&◌, nat_le, if◌then◌else◌, List, [], ◌∷◌, ◌++◌, length, map, Option, Some, None, Result, Ok, Err}
+use Rattle.std.specs.Prelude.{◌≡◌, ℕ, zero, suc, Bool, true, false, ◌+◌, ◌/◌, ◌%◌, ◌^◌, ◌≤◌, ◌<◌, ◌&&◌, nat_le, if◌then◌else◌, List, [], ◌∷◌, ◌++◌, length, map, Option, Some, None, Result, Ok, Err, slice_index}
 use Rattle.std.specs.List.{flat_map, list_all, range_with_len}
 use Rattle.xfs_geom.specs.Conversions.{group_length}
 use Rattle.xfs_geom.specs.Volumes.{Volume}
@@ -75,6 +75,15 @@ AllOpen uses start blocks = (b : ℕ) → start ≤ b → b < start + blocks →
 
 abbrev pub HasRun : List Use → ℕ → ℕ → Type 0
 HasRun uses blocks start = (blocks ≤ most_blocks) × AllOpen uses start blocks
+
+-- no run of so many open blocks begins before a block
+abbrev pub NoneBefore : List Use → ℕ → ℕ → Type 0
+NoneBefore uses blocks at = (b : ℕ) → b < at → AllOpen uses b blocks → ⊥
+
+-- for each number of blocks below a bound, a block before which no run of so many open blocks begins
+pub record AreStarts (uses : List Use) (bound : ℕ) (starts : List ℕ) : Type 0 where
+  pub all : length starts ≡ bound
+  pub each : (n : ℕ) → n < bound → 1 ≤ n → NoneBefore uses n (slice_index starts n)
 
 -- a list of uses that is open where the pool is, but for the blocks of each group before AG block `from`
 pub record Opens (v : Volume) (kept : List Run) (reserved : List ℕ) (from : ℕ) (uses : List Use) : Type 0 where

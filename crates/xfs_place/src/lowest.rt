@@ -169,7 +169,7 @@ impl Lowest {
 }
 
 /// The next block of the pool, from an AG block on.
-pub fn next_open(uses: &[Use], from: usize) -> Option<usize>
+fn next_open(uses: &[Use], from: usize) -> Option<usize>
     ensures { MatchOption result (NoneOpen uses.now from (length uses.now)) (λ block. (from ≤ block) × (block < length uses.now)
         × (in_pool uses.now block ≡ true) × NoneOpen uses.now from block) }
 {

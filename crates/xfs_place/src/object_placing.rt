@@ -1,16 +1,15 @@
 //! The runs of objects, one after another.
 
-ghost use Rattle.std.specs.Prelude.{◌≡◌, ◌≤◌, ◌<◌, ◌+◌, ◌++◌, ◌%◌, ◌^◌, ◌⊎◌, nat_lt, if◌then◌else◌, length, take, All, IfErr, IfOk, IfSome, MatchOption, OnOk, Ok, Err};
+ghost use Rattle.std.specs.Prelude.{◌≡◌, ◌≤◌, ◌<◌, ◌+◌, ◌++◌, ◌%◌, ◌^◌, ◌⊎◌, ℕ, min, nat_lt, slice_index, if◌then◌else◌, length, take, All, IfErr, IfOk, IfSome, MatchOption, OnOk, Ok, Err};
 ghost use Rattle.xfs_geom.specs.Volumes.{volume_of};
-ghost use Rattle.xfs_place.specs.Choice.{IsLeast, IsNone, NoneOpen};
-ghost use Rattle.xfs_place.specs.Objects.{AllOpen, HasRun, IsAsk, Opens, asks_by, asks_of, keep_with, place_of, run_at};
+ghost use Rattle.xfs_place.specs.Choice.{IsLeast, IsNone};
+ghost use Rattle.xfs_place.specs.Objects.{HasRun, IsAsk, NoneBefore, asks_by, asks_of, keep_with, place_of, run_at};
 ghost use Rattle.xfs_place.specs.Pool.{Marks};
 ghost use Rattle.xfs_place.specs.Wanted.{AreKept};
 ghost use Rattle.xfs_place.specs.declared.faults.Place.{Place};
 ghost use Rattle.xfs_place.specs.declared.uses.Use.TheVariants.{Claimed};
 
 use crate::faults::{Place, PlaceFault};
-use crate::lowest::next_open;
 use crate::uses::{Use, is_open, list_uses, mark};
 use crate::wanted::{Object, ObjectKind, RunAsk};
 use std::alloc::Global;
@@ -19,6 +18,10 @@ use xfs_geom::{Geometry, Run};
 
 /// The most blocks of a run: 21 extents of 2^21 - 1 blocks fill a fork.
 const MOST_BLOCKS: u64 = 21 * ((1 << 21) - 1);
+
+/// For each length below this it is kept before which block no run of that length begins, so that runs of one length
+/// are looked for in one pass over the volume.
+const LENGTHS: usize = 1 << 16;
 
 /// A run that is asked for, and what it is for.
 #[derive(Clone, Copy)]
@@ -84,13 +87,15 @@ pub fn keep_with(
     let mut all = kept;
     let mut uses = list_uses(alloc, g, &all, reserved)?;
     close_fronts(&mut uses, g, from);
-    let mut next = 0;
+    let mut starts = no_starts(alloc, LENGTHS)?;
     for ask in asks {
-        next = skip(&uses, next);
-        let Some(start) = find_run(&uses, next, ask.run.blocks as u64) else {
+        let blocks = ask.run.blocks as u64;
+        let slot = slot_of(blocks);
+        let Some(start) = find_run(&uses, starts[slot], blocks) else {
             return Err(PlaceFault::NoRoom(ask.what));
         };
-        mark(&mut uses, start, ask.run.blocks as u64, Use::Claimed);
+        mark(&mut uses, start, blocks, Use::Claimed);
+        starts[slot] = start_behind(starts[slot], start, blocks);
         all.push(run_at(start, &ask.run))?;
     }
     Ok(all)
@@ -107,21 +112,37 @@ fn close_fronts(uses: &mut [Use], g: &Geometry, from: u32)
     }
 }
 
-/// The next open block from one on before which none is open, or the end.
-fn skip(uses: &[Use], next: usize) -> usize
-    requires { NoneOpen uses.now 0 next }
-    ensures { NoneOpen uses.now 0 result }
+/// The first block of the volume as the start of each of so many lengths.
+fn no_starts(alloc: Global, count: usize) -> Result<Vec<usize>, NoMemory>
+    ensures all { IfOk result (λ starts. length starts.items ≡ count) }
+    ensures none { IfOk result (λ starts. (n : ℕ) → n < count → slice_index starts.items n ≡ 0) }
 {
-    match next_open(uses, next) {
-        Some(block) => block,
-        None => uses.len(),
+    Ok(vec![in alloc; 0; count]?)
+}
+
+/// The place of a number of blocks among those for which a start is kept: its own, or the last.
+fn slot_of(blocks: u64) -> usize
+    ensures { result ≡ min blocks 65535 }
+{
+    blocks.min(LENGTHS as u64 - 1) as usize
+}
+
+/// Where the next run of so many blocks is to be looked for, behind a run that is given away.
+fn start_behind(before: usize, start: u64, blocks: u64) -> usize
+    requires { (start < 2 ^ 32) × (blocks < 2 ^ 32) }
+    ensures { result ≡ (if nat_lt blocks 65536 then start + blocks else before) }
+{
+    if blocks < LENGTHS as u64 {
+        (start + blocks) as usize
+    } else {
+        before
     }
 }
 
-/// The first block of the lowest run of so many open blocks, where none is open before block `next`.
+/// The first block of the lowest run of so many open blocks, where none begins before block `next`.
 fn find_run(uses: &[Use], next: usize, blocks: u64) -> Option<u64>
     requires some { 1 ≤ blocks }
-    requires next { NoneOpen uses.now 0 next }
+    requires next { NoneBefore uses.now blocks next }
     ensures lowest { MatchOption result (IsNone (HasRun uses.now blocks)) (IsLeast (HasRun uses.now blocks)) }
     ensures inside { IfSome result (λ start. start + blocks ≤ length uses.now) }
 {

@@ -11,3 +11,10 @@ pub mod LogSteps
 pub mod RenderSteps
 pub mod Marking
 pub mod Examples
+pub mod LawfulChunks
+pub mod LawfulRuns
+pub mod LawfulOwners
+pub mod TreePlaces
+pub mod ReadyGroups
+pub mod ReadyWanted
+pub mod RootAlone

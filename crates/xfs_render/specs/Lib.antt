@@ -10,3 +10,4 @@ pub mod Plans
 pub mod NewBlocks
 pub mod Rendering
 pub mod Examples
+pub mod Readiness

@@ -12,6 +12,7 @@ mod heads;
 mod log;
 mod new_blocks;
 mod plan;
+mod readiness;
 mod rendering;
 mod slots;
 #[cfg(test)]
@@ -21,5 +22,6 @@ mod wanted_slots;
 
 pub use bytes::Bytes;
 pub use plan::Plan;
+pub use readiness::{chunks_are_few, placed_is_ready};
 pub use rendering::render;
 pub use wanted_slots::{SlotBase, SlotWanted};

@@ -6,6 +6,7 @@ ghost use Rattle.xfs_render.specs.Drafts.{IsDraft};
 ghost use Rattle.xfs_render.specs.Examples.{smallest};
 
 mod headers;
+mod whole;
 
 use super::*;
 use crate::arranging::arrange;
