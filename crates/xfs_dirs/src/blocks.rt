@@ -16,17 +16,20 @@ use crate::found::DirError;
 use crate::gathered::{Gathered, keep};
 use crate::seals::is_own;
 use std::alloc::Global;
+use std::sync::ledger::Ledger;
 use xfs_disk::{BLOCK_SIZE, Disk, Failed, NoMemory};
 use xfs_geom::Geometry;
+use xfs_runs::Steps;
 use xfs_word::Extent;
 
 /// What the blocks of these extents give, those that are not written yet among them.
-pub fn read_extents<D: Disk>(
+pub fn read_extents<D: Disk, L: Ledger>(
     alloc: Global,
     g: &Geometry,
     disk: &mut D,
     dir: u64,
     extents: &[Extent],
+    steps: &mut Steps<L>,
 ) -> Result<Gathered, DirError>
     requires extents { are_extents (volume_of g.now) None extents.now ≡ true }
     requires inside { g.now.dblocks ≤ D.size disk.old }
@@ -37,7 +40,7 @@ pub fn read_extents<D: Disk>(
 {
     let mut gathered = Gathered::new(alloc);
     for extent in extents {
-        match read_extent(alloc, g, disk, dir, extent, &mut gathered) {
+        match read_extent(alloc, g, disk, dir, extent, &mut gathered, steps) {
             Ok(()) => {}
             Err(fault) => return Err(fault),
         }
@@ -46,13 +49,14 @@ pub fn read_extents<D: Disk>(
 }
 
 /// Takes up the blocks of an extent.
-fn read_extent<D: Disk>(
+fn read_extent<D: Disk, L: Ledger>(
     alloc: Global,
     g: &Geometry,
     disk: &mut D,
     dir: u64,
     extent: &Extent,
     gathered: &mut Gathered,
+    steps: &mut Steps<L>,
 ) -> Result<(), DirError>
     requires extent { is_extent (volume_of g.now) extent.now ≡ true }
     requires inside { g.now.dblocks ≤ D.size disk.old }
@@ -65,6 +69,7 @@ fn read_extent<D: Disk>(
     let start = start_of(g, extent);
     let mut block = [0; BLOCK_SIZE];
     for i in 0..extent.count {
+        steps.tick();
         match disk.read(start + i, &mut block) {
             Ok(()) => {}
             Err(Failed) => return Err(DirError::ReadFault),

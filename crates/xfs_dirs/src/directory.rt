@@ -16,18 +16,22 @@ use crate::gathered::Gathered;
 use crate::short::read_form;
 use crate::whole::is_whole;
 use std::alloc::Global;
+use std::sync::ledger::Ledger;
 use xfs_disk::{Disk, NoMemory};
 use xfs_geom::Geometry;
+use xfs_runs::Steps;
 use xfs_volume::{FileRec, Records};
 
 /// The directory `file` with its entries (chapter "Directories"); `slot` has the 512 bytes of its inode, and its extents lie
-/// in the volume. Each of its blocks is read once. `ReadFault` only where a read failed.
-pub fn read_directory<D: Disk>(
+/// in the volume. Each of its blocks is read once, and counts as a step, also where the read fails. `ReadFault` only where a
+/// read failed.
+pub fn read_directory<D: Disk, L: Ledger>(
     alloc: Global,
     g: &Geometry,
     disk: &mut D,
     slot: &[u8],
     file: &FileRec,
+    steps: &mut Steps<L>,
 ) -> Result<DirFound, DirError>
     requires slot { length slot.now ≡ 512 }
     requires inside { g.now.dblocks ≤ D.size disk.old }
@@ -45,7 +49,7 @@ pub fn read_directory<D: Disk>(
             Err(NoMemory) => Err(DirError::NoMemory),
         };
     }
-    let gathered = match read_extents(alloc, g, disk, file.ino, file.extents.as_slice()) {
+    let gathered = match read_extents(alloc, g, disk, file.ino, file.extents.as_slice(), steps) {
         Ok(gathered) => gathered,
         Err(fault) => return Err(fault),
     };

@@ -1,6 +1,7 @@
 //! Directories built by hand, on a disk of which no contract tells what it holds.
 
 ghost use Rattle.std.specs.Prelude.{◌≡◌, ◌<◌, ◌≤◌, ◌^◌, true, None, length, IsTrue, IfOk};
+ghost use Rattle.xfs_disk.specs.MemoryDisk.{size_of};
 ghost use Rattle.xfs_geom.specs.Volumes.{volume_of};
 ghost use Rattle.xfs_inode.specs.Files.{are_extents};
 
@@ -9,13 +10,16 @@ mod disks;
 use super::*;
 use disks::Untold;
 use std::alloc::Global;
+use std::marker::Brand;
 use std::process::Abort;
+use std::sync::ledger::{Blank, Ledger};
 use std::test::Fail;
 use xfs_attr::Attrs;
 use xfs_dirdata::{EntryRec, put_data, put_short};
 use xfs_disk::{BLOCK_SIZE, Disk, NoMemory, Word};
 use xfs_geom::Geometry;
 use xfs_kinds::Bmbt;
+use xfs_runs::Steps;
 use xfs_tree::Kind;
 use xfs_volume::{Core, FileRec, Records};
 use xfs_word::{Extent, Seal, SealKind, put_part, put16, put32, put64, seal};
@@ -121,6 +125,25 @@ fn is_lawful(g: &Geometry, extents: &[Extent]) -> bool
     Bmbt { ino: 131 }.lawful(g, None, &extents[0])
 }
 
+/// What the directory reads as, with the steps counted.
+fn read_counted<L: Ledger>(
+    alloc: Global,
+    g: &Geometry,
+    disk: &mut Untold,
+    slot: &[u8; 512],
+    file: &FileRec,
+    blank: Blank,
+) -> Result<DirFound, DirError>
+    requires name { blank.name ≡ L.name }
+    requires parts { blank.parts ≡ L.parts }
+    requires some { 0 < blank.parts }
+    requires inside { g.now.dblocks ≤ size_of disk.old.disk }
+    requires extents { are_extents (volume_of g.now) None file.now.extents ≡ true }
+{
+    let mut steps = Steps::<L>::from_blank(blank);
+    read_directory(alloc, g, disk, slot, file, &mut steps)
+}
+
 /// What the directory reads as.
 fn read(
     rt: &impl Abort,
@@ -132,7 +155,7 @@ fn read(
     let g = volume();
     assert!(rt; matches!(disk.blocks(), Ok(2048)));
     assert!(rt; is_lawful(&g, file.extents.as_slice()));
-    read_directory(alloc, &g, disk, slot, file)
+    read_counted::<Brand>(alloc, &g, disk, slot, file, Blank::new(1))
 }
 
 /// An entry of directory 131.

@@ -12,9 +12,11 @@ ghost use Rattle.xfs_groups.specs.Parts.{then_read};
 use crate::faults::GroupsFault;
 use crate::one_group::see_group;
 use std::alloc::Global;
+use std::sync::ledger::Ledger;
 use xfs_disk::{Disk, NoMemory};
 use xfs_geom::Geometry;
 use xfs_image::Finding;
+use xfs_runs::Steps;
 use xfs_volume::{Blocks, ClusterRec, GroupRec, Records};
 
 /// What is known of the blocks of one group.
@@ -36,8 +38,13 @@ pub struct Groups {
 }
 
 /// Reads the groups of a volume (chapters "Allocation Groups", "AG Inode Management" and "Reverse-Mapping B+tree").
-/// `ReadFault` only where a read failed.
-pub fn see_groups<D: Disk>(alloc: Global, g: &Geometry, disk: &mut D) -> Result<Groups, GroupsFault>
+/// `ReadFault` only where a read failed. Each block that is read counts as a step, also where the read fails.
+pub fn see_groups<D: Disk, L: Ledger>(
+    alloc: Global,
+    g: &Geometry,
+    disk: &mut D,
+    steps: &mut Steps<L>,
+) -> Result<Groups, GroupsFault>
     requires inside { g.now.dblocks ≤ D.size disk.old }
     ensures groups { IfOk result (λ seen. ForSome (D.holds disk.old) (λ image. seen.groups ≡ groups_read (volume_of g.now) image)) }
     ensures clusters { IfOk result (λ seen. ForSome (D.holds disk.old) (λ image. seen.clusters ≡ candidates (volume_of g.now) image)) }
@@ -52,7 +59,7 @@ pub fn see_groups<D: Disk>(alloc: Global, g: &Geometry, disk: &mut D) -> Result<
     let mut clusters = Vec::new(alloc);
     let mut trees = Vec::new(alloc);
     for ag in 0..g.agcount {
-        let seen = match see_group(alloc, g, disk, ag) {
+        let seen = match see_group(alloc, g, disk, ag, steps) {
             Ok(seen) => seen,
             Err(fault) => return Err(fault),
         };

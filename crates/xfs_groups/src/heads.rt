@@ -12,9 +12,11 @@ ghost use Rattle.xfs_tree.specs.Answers.{OnlyReads};
 ghost use Rattle.xfs_tree.specs.Reading.{bytes_at};
 ghost use Rattle.xfs_word.specs.Field.{part_of};
 
+use std::sync::ledger::Ledger;
 use xfs_disk::{BLOCK_SIZE, Disk, Failed};
 use xfs_geom::Geometry;
 use xfs_heads::{Agf, Agfl, Agi, read_agf, read_agfl, read_agi};
+use xfs_runs::Steps;
 use xfs_word::part;
 
 /// The headers of a group, where they read (chapter "Allocation Groups").
@@ -26,7 +28,12 @@ pub(crate) struct Heads {
 }
 
 /// Reads the headers of a group.
-pub(crate) fn read_heads<D: Disk>(g: &Geometry, disk: &mut D, ag: u32) -> Result<Heads, Failed>
+pub(crate) fn read_heads<D: Disk, L: Ledger>(
+    g: &Geometry,
+    disk: &mut D,
+    ag: u32,
+    steps: &mut Steps<L>,
+) -> Result<Heads, Failed>
     requires group { ag < g.now.agcount }
     requires inside { g.now.dblocks ≤ D.size disk.old }
     ensures agf { IfOk result (λ heads. ForSome (D.holds disk.old) (λ image. heads.agf ≡ agf_at (volume_of g.now) image ag)) }
@@ -36,9 +43,10 @@ pub(crate) fn read_heads<D: Disk>(g: &Geometry, disk: &mut D, ag: u32) -> Result
     ensures agi_shaped { IfOk result (λ heads. IfSome heads.agi (λ agi. IsTrue (is_agi_shaped (volume_of g.now) ag agi))) }
     ensures cause { HasCause (D.faults disk.old) (D.faults disk.new) result }
     ensures disk { OnlyReads D.size D.holds D.write_faults D.tells_stops D.may_leave disk.old disk.new }
+    ensures ticks { steps.new ≡ steps.old + 1 }
 {
     let mut block = [0; BLOCK_SIZE];
-    match read_block(disk, g.start_of_group(ag), &mut block) {
+    match read_block(disk, g.start_of_group(ag), &mut block, steps) {
         Ok(()) => Ok(heads_in(g, ag, &block)),
         Err(Failed) => Err(Failed),
     }
@@ -74,15 +82,22 @@ fn free_list(g: &Geometry, ag: u32, agf: Option<Agf>, sector: &[u8]) -> Option<A
     }
 }
 
-/// Reads a block.
-pub(crate) fn read_block<D: Disk>(disk: &mut D, place: u64, block: &mut [u8]) -> Result<(), Failed>
+/// Reads a block, and counts it as a step.
+pub(crate) fn read_block<D: Disk, L: Ledger>(
+    disk: &mut D,
+    place: u64,
+    block: &mut [u8],
+    steps: &mut Steps<L>,
+) -> Result<(), Failed>
     requires inside { place < D.size disk.old }
     requires block { length block.old ≡ 4096 }
     ensures bytes { OnOk result (ForSome (D.holds disk.old) (λ image. bytes_at image place ≡ block.new)) }
     ensures whole { length block.new ≡ 4096 }
     ensures cause { HasCause (D.faults disk.old) (D.faults disk.new) result }
     ensures disk { OnlyReads D.size D.holds D.write_faults D.tells_stops D.may_leave disk.old disk.new }
+    ensures ticks { steps.new ≡ steps.old + 1 }
 {
+    steps.tick();
     match disk.read(place, block) {
         Ok(()) => Ok(()),
         Err(Failed) => Err(Failed),

@@ -15,8 +15,10 @@ ghost use Rattle.xfs_word.specs.Seal.{is_sealed, layout_of};
 ghost use Rattle.xfs_groups.specs.Looking.{IsSeen, has_used};
 
 use crate::heads::read_block;
+use std::sync::ledger::Ledger;
 use xfs_disk::{BLOCK_SIZE, Disk, Failed};
 use xfs_geom::Geometry;
+use xfs_runs::Steps;
 use xfs_word::{Seal, SealKind, get16, part, sealed};
 
 /// The bytes of a slot of an inode.
@@ -61,30 +63,42 @@ pub(crate) struct BlockSeen {
 }
 
 /// Reads a block, and says what its bytes are.
-pub(crate) fn look<D: Disk>(g: &Geometry, disk: &mut D, place: u64) -> Result<BlockSeen, Failed>
+pub(crate) fn look<D: Disk, L: Ledger>(
+    g: &Geometry,
+    disk: &mut D,
+    place: u64,
+    steps: &mut Steps<L>,
+) -> Result<BlockSeen, Failed>
     requires place { place < g.now.dblocks }
     requires inside { g.now.dblocks ≤ D.size disk.old }
     ensures seen { IfOk result (λ seen. ForSome (D.holds disk.old) (λ image. IsSeen (volume_of g.now) image place seen)) }
     ensures cause { HasCause (D.faults disk.old) (D.faults disk.new) result }
     ensures disk { OnlyReads D.size D.holds D.write_faults D.tells_stops D.may_leave disk.old disk.new }
+    ensures ticks { steps.new ≡ steps.old + 1 }
 {
     let mut block = [0; BLOCK_SIZE];
-    match read_block(disk, place, &mut block) {
+    match read_block(disk, place, &mut block, steps) {
         Ok(()) => Ok(seen(g, place, &block)),
         Err(Failed) => Err(Failed),
     }
 }
 
 /// Reads a block, and says whether it is sealed as one object.
-pub(crate) fn look_whole<D: Disk>(g: &Geometry, disk: &mut D, place: u64) -> Result<bool, Failed>
+pub(crate) fn look_whole<D: Disk, L: Ledger>(
+    g: &Geometry,
+    disk: &mut D,
+    place: u64,
+    steps: &mut Steps<L>,
+) -> Result<bool, Failed>
     requires place { place < g.now.dblocks }
     requires inside { g.now.dblocks ≤ D.size disk.old }
     ensures whole { IfOk result (λ whole. ForSome (D.holds disk.old) (λ image. whole ≡ is_whole_block (volume_of g.now) image place)) }
     ensures cause { HasCause (D.faults disk.old) (D.faults disk.new) result }
     ensures disk { OnlyReads D.size D.holds D.write_faults D.tells_stops D.may_leave disk.old disk.new }
+    ensures ticks { steps.new ≡ steps.old + 1 }
 {
     let mut block = [0; BLOCK_SIZE];
-    match read_block(disk, place, &mut block) {
+    match read_block(disk, place, &mut block, steps) {
         Ok(()) => Ok(is_whole(g, place, &block)),
         Err(Failed) => Err(Failed),
     }

@@ -20,9 +20,11 @@ use crate::scanned::{Scanned, scan_group};
 use crate::sets::BlockSet;
 use crate::trees::{Trees, read_trees};
 use std::alloc::Global;
+use std::sync::ledger::Ledger;
 use xfs_disk::{Disk, Failed, NoMemory};
 use xfs_geom::Geometry;
 use xfs_image::Finding;
+use xfs_runs::Steps;
 use xfs_volume::{ClusterRec, GroupRec};
 
 /// A group, its clusters whose slots are read, and its reserved blocks.
@@ -43,11 +45,12 @@ struct Told {
 }
 
 /// Reads a group.
-pub(crate) fn see_group<D: Disk>(
+pub(crate) fn see_group<D: Disk, L: Ledger>(
     alloc: Global,
     g: &Geometry,
     disk: &mut D,
     ag: u32,
+    steps: &mut Steps<L>,
 ) -> Result<GroupSeen, GroupsFault>
     requires group { ag < g.now.agcount }
     requires inside { g.now.dblocks ≤ D.size disk.old }
@@ -58,11 +61,11 @@ pub(crate) fn see_group<D: Disk>(
     ensures cause { HasGroupsCause (D.faults disk.old) (D.faults disk.new) result }
     ensures disk { OnlyReads D.size D.holds D.write_faults D.tells_stops D.may_leave disk.old disk.new }
 {
-    let heads = match read_heads(g, disk, ag) {
+    let heads = match read_heads(g, disk, ag, steps) {
         Ok(heads) => heads,
         Err(Failed) => return Err(GroupsFault::ReadFault),
     };
-    let trees = match read_trees(alloc, g, disk, ag, &heads) {
+    let trees = match read_trees(alloc, g, disk, ag, &heads, steps) {
         Ok(trees) => trees,
         Err(fault) => return Err(fault),
     };
@@ -74,7 +77,7 @@ pub(crate) fn see_group<D: Disk>(
         Ok(record) => record,
         Err(NoMemory) => return Err(GroupsFault::NoMemory),
     };
-    match look_through(alloc, g, disk, ag, &told) {
+    match look_through(alloc, g, disk, ag, &told, steps) {
         Ok(Scanned { clusters, reserved }) => Ok(GroupSeen {
             record,
             clusters,
@@ -102,12 +105,13 @@ fn told_by(alloc: Global, g: &Geometry, ag: u32, trees: &Trees) -> Result<Told, 
 
 /// The clusters of a group whose slots are read, and its reserved blocks, by what its trees say. Bytes alone count in a group
 /// that is not trusted.
-fn look_through<D: Disk>(
+fn look_through<D: Disk, L: Ledger>(
     alloc: Global,
     g: &Geometry,
     disk: &mut D,
     ag: u32,
     told: &Told,
+    steps: &mut Steps<L>,
 ) -> Result<Scanned, GroupsFault>
     requires group { ag < g.now.agcount }
     requires inside { g.now.dblocks ≤ D.size disk.old }
@@ -120,7 +124,7 @@ fn look_through<D: Disk>(
     ensures disk { OnlyReads D.size D.holds D.write_faults D.tells_stops D.may_leave disk.old disk.new }
 {
     if !told.trusted {
-        return scan_group(alloc, g, disk, ag, &told.named, &told.held);
+        return scan_group(alloc, g, disk, ag, &told.named, &told.held, steps);
     }
     let reserved = match told
         .held
@@ -129,7 +133,7 @@ fn look_through<D: Disk>(
         Ok(reserved) => reserved,
         Err(NoMemory) => return Err(GroupsFault::NoMemory),
     };
-    match recorded_clusters(alloc, g, disk, ag, &told.named) {
+    match recorded_clusters(alloc, g, disk, ag, &told.named, steps) {
         Ok(clusters) => Ok(Scanned { clusters, reserved }),
         Err(fault) => Err(fault),
     }

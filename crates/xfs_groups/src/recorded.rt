@@ -15,17 +15,20 @@ use crate::faults::GroupsFault;
 use crate::looking::look_whole;
 use crate::sets::BlockSet;
 use std::alloc::Global;
+use std::sync::ledger::Ledger;
 use xfs_disk::{Disk, Failed, NoMemory};
 use xfs_geom::Geometry;
+use xfs_runs::Steps;
 use xfs_volume::ClusterRec;
 
 /// The clusters of a group whose slots are read, where its trees name these clusters and all are named.
-pub(crate) fn recorded_clusters<D: Disk>(
+pub(crate) fn recorded_clusters<D: Disk, L: Ledger>(
     alloc: Global,
     g: &Geometry,
     disk: &mut D,
     ag: u32,
     named: &BlockSet,
+    steps: &mut Steps<L>,
 ) -> Result<Vec<ClusterRec>, GroupsFault>
     requires group { ag < g.now.agcount }
     requires inside { g.now.dblocks ≤ D.size disk.old }
@@ -39,7 +42,7 @@ pub(crate) fn recorded_clusters<D: Disk>(
     let mut clusters = Vec::new(alloc);
     for i in 0..g.group_length(ag) / 4 {
         let cluster = start + 4 * i as u64;
-        let is_chosen = match is_chosen(g, disk, named, cluster) {
+        let is_chosen = match is_chosen(g, disk, named, cluster, steps) {
             Ok(is_chosen) => is_chosen,
             Err(Failed) => return Err(GroupsFault::ReadFault),
         };
@@ -53,11 +56,12 @@ pub(crate) fn recorded_clusters<D: Disk>(
 
 /// Whether the slots of a cluster are read: it is the root's, or it is named, lies in a chunk and is clear. The blocks of no
 /// other cluster are read.
-fn is_chosen<D: Disk>(
+fn is_chosen<D: Disk, L: Ledger>(
     g: &Geometry,
     disk: &mut D,
     named: &BlockSet,
     cluster: u64,
+    steps: &mut Steps<L>,
 ) -> Result<bool, Failed>
     requires cluster { cluster + 4 ≤ g.now.dblocks }
     requires inside { g.now.dblocks ≤ D.size disk.old }
@@ -75,11 +79,17 @@ fn is_chosen<D: Disk>(
     if !lies_in_chunk(g, cluster) {
         return Ok(false);
     }
-    are_clear(g, disk, cluster, 4)
+    are_clear(g, disk, cluster, 4, steps)
 }
 
 /// Whether none of so many blocks from one on has a fixed use or is sealed as one object.
-fn are_clear<D: Disk>(g: &Geometry, disk: &mut D, first: u64, count: u64) -> Result<bool, Failed>
+fn are_clear<D: Disk, L: Ledger>(
+    g: &Geometry,
+    disk: &mut D,
+    first: u64,
+    count: u64,
+    steps: &mut Steps<L>,
+) -> Result<bool, Failed>
     requires blocks { first + count ≤ g.now.dblocks }
     requires inside { g.now.dblocks ≤ D.size disk.old }
     ensures clear { IfOk result (λ clear. ForSome (D.holds disk.old) (λ image. clear ≡ are_clear (volume_of g.now) image first count)) }
@@ -87,7 +97,7 @@ fn are_clear<D: Disk>(g: &Geometry, disk: &mut D, first: u64, count: u64) -> Res
     ensures disk { OnlyReads D.size D.holds D.write_faults D.tells_stops D.may_leave disk.old disk.new }
 {
     for k in 0..count {
-        match is_clear(g, disk, first + k) {
+        match is_clear(g, disk, first + k, steps) {
             Ok(true) => {}
             Ok(false) => return Ok(false),
             Err(Failed) => return Err(Failed),
@@ -97,17 +107,23 @@ fn are_clear<D: Disk>(g: &Geometry, disk: &mut D, first: u64, count: u64) -> Res
 }
 
 /// Whether a block has no fixed use and is not sealed as one object.
-fn is_clear<D: Disk>(g: &Geometry, disk: &mut D, block: u64) -> Result<bool, Failed>
+fn is_clear<D: Disk, L: Ledger>(
+    g: &Geometry,
+    disk: &mut D,
+    block: u64,
+    steps: &mut Steps<L>,
+) -> Result<bool, Failed>
     requires block { block < g.now.dblocks }
     requires inside { g.now.dblocks ≤ D.size disk.old }
     ensures clear { IfOk result (λ clear. ForSome (D.holds disk.old) (λ image. clear ≡ is_clear (volume_of g.now) image block)) }
     ensures cause { HasCause (D.faults disk.old) (D.faults disk.new) result }
     ensures disk { OnlyReads D.size D.holds D.write_faults D.tells_stops D.may_leave disk.old disk.new }
+    ensures ticks { steps.new ≤ steps.old + 1 }
 {
     if g.is_fixed(block) {
         return Ok(false);
     }
-    match look_whole(g, disk, block) {
+    match look_whole(g, disk, block, steps) {
         Ok(whole) => Ok(!whole),
         Err(Failed) => Err(Failed),
     }

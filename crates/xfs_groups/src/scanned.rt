@@ -15,8 +15,10 @@ use crate::looking::{BlockSeen, look};
 use crate::recorded::{lies_in_chunk, push_chosen, root_cluster};
 use crate::sets::{BlockSet, push_if};
 use std::alloc::Global;
+use std::sync::ledger::Ledger;
 use xfs_disk::{Disk, Failed, NoMemory};
 use xfs_geom::Geometry;
+use xfs_runs::Steps;
 use xfs_volume::ClusterRec;
 
 /// The clusters of a group whose slots are read, and the blocks of it on which nothing new is placed.
@@ -36,13 +38,14 @@ struct ClusterSeen {
 }
 
 /// Looks at each place of a group whose trees name these clusters, and hold these blocks.
-pub(crate) fn scan_group<D: Disk>(
+pub(crate) fn scan_group<D: Disk, L: Ledger>(
     alloc: Global,
     g: &Geometry,
     disk: &mut D,
     ag: u32,
     named: &BlockSet,
     held: &BlockSet,
+    steps: &mut Steps<L>,
 ) -> Result<Scanned, GroupsFault>
     requires group { ag < g.now.agcount }
     requires inside { g.now.dblocks ≤ D.size disk.old }
@@ -60,7 +63,7 @@ pub(crate) fn scan_group<D: Disk>(
     let mut reserved = Vec::new(alloc);
     for i in 0..blocks / 4 {
         let cluster = start + 4 * i as u64;
-        let seen = match look_at(g, disk, held, cluster, 4, &mut reserved) {
+        let seen = match look_at(g, disk, held, cluster, 4, &mut reserved, steps) {
             Ok(seen) => seen,
             Err(fault) => return Err(fault),
         };
@@ -71,7 +74,7 @@ pub(crate) fn scan_group<D: Disk>(
         }
     }
     let rest = start + (blocks / 4 * 4) as u64;
-    match look_at(g, disk, held, rest, blocks % 4, &mut reserved) {
+    match look_at(g, disk, held, rest, blocks % 4, &mut reserved, steps) {
         Ok(_) => Ok(Scanned { clusters, reserved }),
         Err(fault) => Err(fault),
     }
@@ -87,13 +90,14 @@ fn is_chosen(g: &Geometry, named: &BlockSet, cluster: u64, seen: &ClusterSeen) -
 }
 
 /// Looks at some blocks, and adds those of them on which nothing new is placed.
-fn look_at<D: Disk>(
+fn look_at<D: Disk, L: Ledger>(
     g: &Geometry,
     disk: &mut D,
     held: &BlockSet,
     first: u64,
     count: u32,
     reserved: &mut Vec<u64>,
+    steps: &mut Steps<L>,
 ) -> Result<ClusterSeen, GroupsFault>
     requires blocks { first + count ≤ g.now.dblocks }
     requires inside { g.now.dblocks ≤ D.size disk.old }
@@ -110,7 +114,7 @@ fn look_at<D: Disk>(
     };
     for k in 0..count {
         let block = first + k as u64;
-        let seen = match look(g, disk, block) {
+        let seen = match look(g, disk, block, steps) {
             Ok(seen) => seen,
             Err(Failed) => return Err(GroupsFault::ReadFault),
         };

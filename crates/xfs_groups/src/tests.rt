@@ -1,15 +1,18 @@
 //! The groups of the smallest volume, whole and with trees that do not read: two groups of 1024 blocks, the root's chunk at
 //! blocks 16 to 23, the log at AG blocks 6 to 517 of the second group.
 
-ghost use Rattle.std.specs.Prelude.{◌≡◌};
+ghost use Rattle.std.specs.Prelude.{◌≡◌, ◌<◌, ◌≤◌};
 
 use super::*;
 use std::alloc::Global;
+use std::marker::Brand;
 use std::process::Abort;
+use std::sync::ledger::{Blank, Ledger};
 use std::test::Fail;
 use xfs_disk::{BLOCK_SIZE, Disk, MemoryDisk};
 use xfs_geom::Geometry;
 use xfs_image::Finding;
+use xfs_runs::Steps;
 use xfs_volume::ClusterRec;
 use xfs_word::{put_checksum, put_part, put32};
 
@@ -250,6 +253,17 @@ const CASES: [Case; 4] = [
     },
 ];
 
+/// The groups of a disk, with the steps counted.
+fn see<D: Disk, L: Ledger>(alloc: Global, disk: &mut D, blank: Blank) -> Result<Groups, GroupsFault>
+    requires name { blank.name ≡ L.name }
+    requires parts { blank.parts ≡ L.parts }
+    requires some { 0 < blank.parts }
+    requires inside { 2048 ≤ D.size disk.old }
+{
+    let mut steps = Steps::<L>::from_blank(blank);
+    see_groups(alloc, &volume(), disk, &mut steps)
+}
+
 /// Tests that the groups are found to be as in a case.
 fn is_found(rt: &impl Abort, seen: &Groups, case: &Case) {
     match (&seen.groups, case.part) {
@@ -283,7 +297,7 @@ fn groups(rt: HostRuntime) -> Result<(), Fail> {
         put(&rt, &mut disk, 28, &slots(&rt, 224));
         put(&rt, &mut disk, 29, &leaf(&rt, 29, 0x4941_4233, 0, &[]));
         assert!(rt; matches!(disk.blocks(), Ok(count) if 2048 <= count));
-        match see_groups(alloc, &volume(), &mut disk) {
+        match see::<MemoryDisk, Brand>(alloc, &mut disk, Blank::new(1)) {
             Ok(seen) => is_found(&rt, &seen, case),
             Err(fault) => panic!(rt; "{fault:?}"),
         }
@@ -298,7 +312,7 @@ fn failing_reads(rt: HostRuntime) -> Result<(), Fail> {
         let mut disk = disk(&rt, alloc, &[3, 5])?;
         assert!(rt; matches!(disk.blocks(), Ok(count) if 2048 <= count));
         disk.fail(call)?;
-        let seen = see_groups(alloc, &volume(), &mut disk);
+        let seen = see::<MemoryDisk, Brand>(alloc, &mut disk, Blank::new(1));
         assert!(rt; matches!(seen, Err(GroupsFault::ReadFault)), "{call}");
     }
     Ok(())

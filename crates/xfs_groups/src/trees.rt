@@ -13,10 +13,12 @@ use crate::faults::GroupsFault;
 use crate::heads::Heads;
 use std::alloc::Global;
 use std::marker::Model;
+use std::sync::ledger::Ledger;
 use xfs_disk::Disk;
 use xfs_geom::{Geometry, InoRec, RmapRec, Span};
 use xfs_heads::{Agf, Agi};
 use xfs_kinds::{Bno, Cnt, Fino, Ino, Rmap};
+use xfs_runs::Steps;
 use xfs_tree::{Kind, Tree, TreeError, read_tree};
 use xfs_volume::{Blocks, Records, TreeBlocks};
 
@@ -72,12 +74,13 @@ pub(crate) struct Trees {
 }
 
 /// Reads the trees whose roots the headers of a group name.
-pub(crate) fn read_trees<D: Disk>(
+pub(crate) fn read_trees<D: Disk, L: Ledger>(
     alloc: Global,
     g: &Geometry,
     disk: &mut D,
     ag: u32,
     heads: &Heads,
+    steps: &mut Steps<L>,
 ) -> Result<Trees, GroupsFault>
     requires group { ag < g.now.agcount }
     requires agf { IfSome heads.now.agf (λ agf. IsTrue (is_agf_shaped (volume_of g.now) ag agf)) }
@@ -91,23 +94,23 @@ pub(crate) fn read_trees<D: Disk>(
     ensures cause { HasGroupsCause (D.faults disk.old) (D.faults disk.new) result }
     ensures disk { OnlyReads D.size D.holds D.write_faults D.tells_stops D.may_leave disk.old disk.new }
 {
-    let bno = match read_bno(alloc, g, disk, ag, &heads.agf) {
+    let bno = match read_bno(alloc, g, disk, ag, &heads.agf, steps) {
         Ok(tree) => tree,
         Err(fault) => return Err(fault),
     };
-    let cnt = match read_cnt(alloc, g, disk, ag, &heads.agf) {
+    let cnt = match read_cnt(alloc, g, disk, ag, &heads.agf, steps) {
         Ok(tree) => tree,
         Err(fault) => return Err(fault),
     };
-    let ino = match read_ino(alloc, g, disk, ag, &heads.agi) {
+    let ino = match read_ino(alloc, g, disk, ag, &heads.agi, steps) {
         Ok(tree) => tree,
         Err(fault) => return Err(fault),
     };
-    let fino = match read_fino(alloc, g, disk, ag, &heads.agi) {
+    let fino = match read_fino(alloc, g, disk, ag, &heads.agi, steps) {
         Ok(tree) => tree,
         Err(fault) => return Err(fault),
     };
-    match read_rmap(alloc, g, disk, ag, &heads.agf) {
+    match read_rmap(alloc, g, disk, ag, &heads.agf, steps) {
         Ok(rmap) => Ok(Trees {
             bno,
             cnt,
@@ -120,12 +123,13 @@ pub(crate) fn read_trees<D: Disk>(
 }
 
 /// Reads the tree of free runs by start.
-fn read_bno<D: Disk>(
+fn read_bno<D: Disk, L: Ledger>(
     alloc: Global,
     g: &Geometry,
     disk: &mut D,
     ag: u32,
     agf: &Option<Agf>,
+    steps: &mut Steps<L>,
 ) -> Result<Option<TreeSeen<Span>>, GroupsFault>
     requires group { ag < g.now.agcount }
     requires shaped { IfSome agf.now (λ agf. IsTrue (is_agf_shaped (volume_of g.now) ag agf)) }
@@ -136,17 +140,27 @@ fn read_bno<D: Disk>(
 {
     match agf {
         None => Ok(None),
-        Some(agf) => read_at(alloc, &Bno { ag }, g, disk, ag, agf.bnoroot, agf.bnolevel),
+        Some(agf) => read_at(
+            alloc,
+            &Bno { ag },
+            g,
+            disk,
+            ag,
+            agf.bnoroot,
+            agf.bnolevel,
+            steps,
+        ),
     }
 }
 
 /// Reads the tree of free runs by length.
-fn read_cnt<D: Disk>(
+fn read_cnt<D: Disk, L: Ledger>(
     alloc: Global,
     g: &Geometry,
     disk: &mut D,
     ag: u32,
     agf: &Option<Agf>,
+    steps: &mut Steps<L>,
 ) -> Result<Option<TreeSeen<Span>>, GroupsFault>
     requires group { ag < g.now.agcount }
     requires shaped { IfSome agf.now (λ agf. IsTrue (is_agf_shaped (volume_of g.now) ag agf)) }
@@ -157,17 +171,27 @@ fn read_cnt<D: Disk>(
 {
     match agf {
         None => Ok(None),
-        Some(agf) => read_at(alloc, &Cnt { ag }, g, disk, ag, agf.cntroot, agf.cntlevel),
+        Some(agf) => read_at(
+            alloc,
+            &Cnt { ag },
+            g,
+            disk,
+            ag,
+            agf.cntroot,
+            agf.cntlevel,
+            steps,
+        ),
     }
 }
 
 /// Reads the tree of chunks of inodes.
-fn read_ino<D: Disk>(
+fn read_ino<D: Disk, L: Ledger>(
     alloc: Global,
     g: &Geometry,
     disk: &mut D,
     ag: u32,
     agi: &Option<Agi>,
+    steps: &mut Steps<L>,
 ) -> Result<Option<TreeSeen<InoRec>>, GroupsFault>
     requires group { ag < g.now.agcount }
     requires shaped { IfSome agi.now (λ agi. IsTrue (is_agi_shaped (volume_of g.now) ag agi)) }
@@ -178,17 +202,18 @@ fn read_ino<D: Disk>(
 {
     match agi {
         None => Ok(None),
-        Some(agi) => read_at(alloc, &Ino { ag }, g, disk, ag, agi.root, agi.level),
+        Some(agi) => read_at(alloc, &Ino { ag }, g, disk, ag, agi.root, agi.level, steps),
     }
 }
 
 /// Reads the tree of chunks with a free inode.
-fn read_fino<D: Disk>(
+fn read_fino<D: Disk, L: Ledger>(
     alloc: Global,
     g: &Geometry,
     disk: &mut D,
     ag: u32,
     agi: &Option<Agi>,
+    steps: &mut Steps<L>,
 ) -> Result<Option<TreeSeen<InoRec>>, GroupsFault>
     requires group { ag < g.now.agcount }
     requires shaped { IfSome agi.now (λ agi. IsTrue (is_agi_shaped (volume_of g.now) ag agi)) }
@@ -207,17 +232,19 @@ fn read_fino<D: Disk>(
             ag,
             agi.free_root,
             agi.free_level,
+            steps,
         ),
     }
 }
 
 /// Reads the tree of owners.
-fn read_rmap<D: Disk>(
+fn read_rmap<D: Disk, L: Ledger>(
     alloc: Global,
     g: &Geometry,
     disk: &mut D,
     ag: u32,
     agf: &Option<Agf>,
+    steps: &mut Steps<L>,
 ) -> Result<Option<TreeSeen<RmapRec>>, GroupsFault>
     requires group { ag < g.now.agcount }
     requires shaped { IfSome agf.now (λ agf. IsTrue (is_agf_shaped (volume_of g.now) ag agf)) }
@@ -236,12 +263,13 @@ fn read_rmap<D: Disk>(
             ag,
             agf.rmaproot,
             agf.rmaplevel,
+            steps,
         ),
     }
 }
 
 /// Reads the tree of a group of so many levels whose root is the AG block.
-fn read_at<K: Kind, D: Disk>(
+fn read_at<K: Kind, D: Disk, L: Ledger>(
     alloc: Global,
     kind: &K,
     g: &Geometry,
@@ -249,6 +277,7 @@ fn read_at<K: Kind, D: Disk>(
     ag: u32,
     root: u32,
     levels: u32,
+    steps: &mut Steps<L>,
 ) -> Result<Option<TreeSeen<K::Record>>, GroupsFault>
     requires group { ag < g.now.agcount }
     requires levels { 1 ≤ levels }
@@ -264,6 +293,7 @@ fn read_at<K: Kind, D: Disk>(
         disk,
         g.start_of_group(ag) + root as u64,
         levels,
+        steps,
     ) {
         Ok(tree) => Ok(Some(seen(tree))),
         Err(TreeError::Unread(_)) => Ok(None),

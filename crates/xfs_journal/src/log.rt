@@ -14,9 +14,11 @@ ghost use Rattle.xfs_journal.specs.Placed.{seen_in};
 
 use crate::faults::JournalFault;
 use std::alloc::Global;
+use std::sync::ledger::Ledger;
 use xfs_disk::{BLOCK_SIZE, Disk, Failed, NoMemory};
 use xfs_geom::Geometry;
 use xfs_heads::{LogState, SectorSeen, log_state, see_sector};
+use xfs_runs::Steps;
 use xfs_word::part;
 
 /// The bytes of a sector, and the sectors of a block.
@@ -24,29 +26,32 @@ const SECTOR_SIZE: usize = 512;
 
 const SECTORS: usize = 8;
 
-/// Whether the log is clean (chapter "Journaling Log"). `ReadFault` only where a read failed.
+/// Whether the log is clean (chapter "Journaling Log"). `ReadFault` only where a read failed. Each block that is read
+/// counts as a step, also where the read fails.
 #[tactic(auto, unfolding(xfs_image::specs::View::log_of))]
-pub fn read_log<D: Disk>(
+pub fn read_log<D: Disk, L: Ledger>(
     alloc: Global,
     g: &Geometry,
     disk: &mut D,
+    steps: &mut Steps<L>,
 ) -> Result<LogState, JournalFault>
     requires inside { g.now.dblocks ≤ D.size disk.old }
     ensures state { IfOk result (λ state. ForSome (D.holds disk.old) (λ image. state ≡ log_of (volume_of g.now) image)) }
     ensures cause { HasJournalCause (D.faults disk.old) (D.faults disk.new) result }
     ensures disk { OnlyReads D.size D.holds D.write_faults D.tells_stops D.may_leave disk.old disk.new }
 {
-    match see_log(alloc, g, disk) {
+    match see_log(alloc, g, disk, steps) {
         Ok(seen) => Ok(log_state(&seen)),
         Err(fault) => Err(fault),
     }
 }
 
 /// What of the sectors of the log says whether it is clean.
-fn see_log<D: Disk>(
+fn see_log<D: Disk, L: Ledger>(
     alloc: Global,
     g: &Geometry,
     disk: &mut D,
+    steps: &mut Steps<L>,
 ) -> Result<Vec<SectorSeen>, JournalFault>
     requires inside { g.now.dblocks ≤ D.size disk.old }
     ensures seen { IfOk result (λ seen. ForSome (D.holds disk.old) (λ image. seen.items ≡ map seen_of (log_sectors (volume_of g.now) image))) }
@@ -56,7 +61,7 @@ fn see_log<D: Disk>(
     let mut seen = Vec::new(alloc);
     let mut block = [0; BLOCK_SIZE];
     for i in 0..g.logblocks as u64 {
-        match read_block(g, disk, i, &mut block) {
+        match read_block(g, disk, i, &mut block, steps) {
             Ok(()) => {}
             Err(Failed) => return Err(JournalFault::ReadFault),
         }
@@ -68,8 +73,14 @@ fn see_log<D: Disk>(
     Ok(seen)
 }
 
-/// Reads a block of the log.
-fn read_block<D: Disk>(g: &Geometry, disk: &mut D, i: u64, block: &mut [u8]) -> Result<(), Failed>
+/// Reads a block of the log, and counts it as a step.
+fn read_block<D: Disk, L: Ledger>(
+    g: &Geometry,
+    disk: &mut D,
+    i: u64,
+    block: &mut [u8],
+    steps: &mut Steps<L>,
+) -> Result<(), Failed>
     requires inside { g.now.dblocks ≤ D.size disk.old }
     requires log { i < g.now.logblocks }
     requires whole { length block.old ≡ 4096 }
@@ -77,7 +88,9 @@ fn read_block<D: Disk>(g: &Geometry, disk: &mut D, i: u64, block: &mut [u8]) -> 
     ensures whole { length block.new ≡ 4096 }
     ensures cause { HasCause (D.faults disk.old) (D.faults disk.new) result }
     ensures disk { OnlyReads D.size D.holds D.write_faults D.tells_stops D.may_leave disk.old disk.new }
+    ensures ticks { steps.new ≡ steps.old + 1 }
 {
+    steps.tick();
     match disk.read(log_block(g, i), block) {
         Ok(()) => Ok(()),
         Err(Failed) => Err(Failed),

@@ -1,6 +1,6 @@
 //! The log sequence numbers of a volume, read from a disk.
 
-ghost use Rattle.std.specs.Prelude.{◌≡◌, ◌^◌, ◌<◌, ◌≤◌, ◌++◌, [], ◌∷◌, length, map, IfOk, OnOk};
+ghost use Rattle.std.specs.Prelude.{◌≡◌, ◌+◌, ◌^◌, ◌<◌, ◌≤◌, ◌++◌, [], ◌∷◌, length, map, IfOk, OnOk};
 ghost use Rattle.std.specs.List.{All};
 ghost use Rattle.std.specs.Option.{ForSome};
 ghost use Rattle.xfs_word.specs.Field.{field_of};
@@ -17,21 +17,25 @@ use crate::faults::JournalFault;
 use crate::places::{Place, all_places};
 use crate::sorting::in_order;
 use std::alloc::Global;
+use std::sync::ledger::Ledger;
 use xfs_disk::{BLOCK_SIZE, Disk, Failed, NoMemory};
 use xfs_geom::Geometry;
+use xfs_runs::Steps;
 use xfs_volume::{BlockLsn, FileRec, GroupRec, Records};
 use xfs_word::get64;
 
 /// The log sequence numbers that stand in the blocks of these groups, of their clusters of inodes, and of these files, by
-/// block and then by byte (chapter "Journaling Log"). `ReadFault` only where a read failed.
+/// block and then by byte (chapter "Journaling Log"). `ReadFault` only where a read failed. Each block that is read counts
+/// as a step, also where the read fails.
 #[tactic(auto, unfolding(xfs_image::specs::Lsns::lsns_read))]
-pub fn read_lsns<D: Disk>(
+pub fn read_lsns<D: Disk, L: Ledger>(
     alloc: Global,
     g: &Geometry,
     disk: &mut D,
     groups: &[GroupRec],
     clusters: &[u64],
     files: &[FileRec],
+    steps: &mut Steps<L>,
 ) -> Result<Records<BlockLsn>, JournalFault>
     requires few { length groups.now ≤ 512 }
     requires clusters { clusters.now ≡ clusters_of (volume_of g.now) groups.now }
@@ -44,7 +48,7 @@ pub fn read_lsns<D: Disk>(
         Ok(places) => places,
         Err(NoMemory) => return Err(JournalFault::NoMemory),
     };
-    match read_places(alloc, disk, &places) {
+    match read_places(alloc, disk, &places, steps) {
         Ok(lsns) => Ok(Records::from_vec(lsns)),
         Err(fault) => Err(fault),
     }
@@ -69,10 +73,11 @@ fn ordered_places(
 }
 
 /// The numbers that stand at these places. Places that follow one another in one block share a read.
-fn read_places<D: Disk>(
+fn read_places<D: Disk, L: Ledger>(
     alloc: Global,
     disk: &mut D,
     places: &[Place],
+    steps: &mut Steps<L>,
 ) -> Result<Vec<BlockLsn>, JournalFault>
     requires inside { All IsInside places.now }
     ensures lsns { IfOk result (λ lsns. ForSome (D.holds disk.old) (λ image. lsns.items ≡ map (lsn_at image) (listed places.now))) }
@@ -89,7 +94,7 @@ fn read_places<D: Disk>(
         bytes: [0; BLOCK_SIZE],
     };
     for place in places {
-        let lsn = match read_lsn(disk, size, place, &mut held) {
+        let lsn = match read_lsn(disk, size, place, &mut held, steps) {
             Ok(lsn) => lsn,
             Err(Failed) => return Err(JournalFault::ReadFault),
         };
@@ -118,7 +123,13 @@ struct Held {
 }
 
 /// The number that stands at a place; 0 where the disk, of `size` blocks, does not have the block.
-fn read_lsn<D: Disk>(disk: &mut D, size: u64, place: &Place, held: &mut Held) -> Result<u64, Failed>
+fn read_lsn<D: Disk, L: Ledger>(
+    disk: &mut D,
+    size: u64,
+    place: &Place,
+    held: &mut Held,
+    steps: &mut Steps<L>,
+) -> Result<u64, Failed>
     requires size { size ≡ D.size disk.old }
     requires inside { IsInside place.now }
     requires held { ForSome (D.holds disk.old) (λ image. HoldsBlock image held.old.block held.old.bytes) }
@@ -126,28 +137,36 @@ fn read_lsn<D: Disk>(disk: &mut D, size: u64, place: &Place, held: &mut Held) ->
     ensures held { OnOk result (ForSome (D.holds disk.old) (λ image. HoldsBlock image held.new.block held.new.bytes)) }
     ensures cause { HasCause (D.faults disk.old) (D.faults disk.new) result }
     ensures disk { OnlyReads D.size D.holds D.write_faults D.tells_stops D.may_leave disk.old disk.new }
+    ensures ticks { steps.new ≤ steps.old + 1 }
 {
     if place.block >= size {
         return Ok(0);
     }
-    match hold(disk, place.block, held) {
+    match hold(disk, place.block, held, steps) {
         Ok(()) => Ok(get64(&held.bytes, place.byte as usize)),
         Err(Failed) => Err(Failed),
     }
 }
 
-/// Reads a block, where it is not the one that is held.
-fn hold<D: Disk>(disk: &mut D, block: u64, held: &mut Held) -> Result<(), Failed>
+/// Reads a block, where it is not the one that is held, and counts it as a step.
+fn hold<D: Disk, L: Ledger>(
+    disk: &mut D,
+    block: u64,
+    held: &mut Held,
+    steps: &mut Steps<L>,
+) -> Result<(), Failed>
     requires inside { block < D.size disk.old }
     requires held { ForSome (D.holds disk.old) (λ image. HoldsBlock image held.old.block held.old.bytes) }
     ensures bytes { OnOk result (ForSome (D.holds disk.old) (λ image. bytes_at image block ≡ held.new.bytes)) }
     ensures held { OnOk result (ForSome (D.holds disk.old) (λ image. HoldsBlock image held.new.block held.new.bytes)) }
     ensures cause { HasCause (D.faults disk.old) (D.faults disk.new) result }
     ensures disk { OnlyReads D.size D.holds D.write_faults D.tells_stops D.may_leave disk.old disk.new }
+    ensures ticks { steps.new ≤ steps.old + 1 }
 {
     if held.block == Some(block) {
         return Ok(());
     }
+    steps.tick();
     match disk.read(block, &mut held.bytes) {
         Ok(()) => {
             held.block = Some(block);

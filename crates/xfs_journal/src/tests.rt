@@ -1,16 +1,19 @@
 //! The log and the log sequence numbers of a volume of two groups of 1024 blocks, with its log at AG block 6 of the second.
 
-ghost use Rattle.std.specs.Prelude.{◌≡◌};
+ghost use Rattle.std.specs.Prelude.{◌≡◌, ◌<◌, ◌≤◌};
 
 use super::*;
 use std::alloc::Global;
+use std::marker::Brand;
 use std::process::Abort;
+use std::sync::ledger::{Blank, Ledger};
 use std::test::Fail;
 use xfs_attr::Attrs;
 use xfs_disk::{BLOCK_SIZE, Disk, MemoryDisk, Word};
 use xfs_geom::Geometry;
 use xfs_heads::LogState;
-use xfs_volume::{BlockLsn, Blocks, Core, Extents, FileRec};
+use xfs_runs::Steps;
+use xfs_volume::{BlockLsn, Blocks, Core, Extents, FileRec, Records};
 use xfs_word::{Extent, put64};
 
 fn volume() -> Geometry
@@ -109,8 +112,23 @@ fn disk(rt: &impl Abort, alloc: Global) -> Result<MemoryDisk, Fail> {
     Ok(disk)
 }
 
-#[test]
+/// The numbers of files, with the steps counted.
 #[tactic(auto, unfolding(xfs_image::specs::Files::clusters_of))]
+fn numbers_of<D: Disk, L: Ledger>(
+    alloc: Global,
+    disk: &mut D,
+    files: &[FileRec],
+    blank: Blank,
+) -> Result<Records<BlockLsn>, JournalFault>
+    requires name { blank.name ≡ L.name }
+    requires parts { blank.parts ≡ L.parts }
+    requires some { 0 < blank.parts }
+{
+    let mut steps = Steps::<L>::from_blank(blank);
+    read_lsns(alloc, &volume(), disk, &[], &[], files, &mut steps)
+}
+
+#[test]
 fn numbers(rt: HostRuntime) -> Result<(), Fail> {
     let alloc = rt.alloc();
     let rows: [(u16, u64, &[(u64, u64)]); 4] = [
@@ -134,7 +152,8 @@ fn numbers(rt: HostRuntime) -> Result<(), Fail> {
     for (mode, offset, due) in rows {
         let mut disk = disk(&rt, alloc)?;
         let files = [file(alloc, mode, offset)?];
-        let Ok(lsns) = read_lsns(alloc, &volume(), &mut disk, &[], &[], &files) else {
+        let Ok(lsns) = numbers_of::<MemoryDisk, Brand>(alloc, &mut disk, &files, Blank::new(1))
+        else {
             panic!(rt; "{mode}");
         };
         assert_eq!(rt; lsns.as_slice().len(), due.len());
@@ -151,6 +170,21 @@ fn numbers(rt: HostRuntime) -> Result<(), Fail> {
     Ok(())
 }
 
+/// The state of the log, with the steps counted.
+fn state_of<D: Disk, L: Ledger>(
+    alloc: Global,
+    disk: &mut D,
+    blank: Blank,
+) -> Result<LogState, JournalFault>
+    requires name { blank.name ≡ L.name }
+    requires parts { blank.parts ≡ L.parts }
+    requires some { 0 < blank.parts }
+    requires inside { 2048 ≤ D.size disk.old }
+{
+    let mut steps = Steps::<L>::from_blank(blank);
+    read_log(alloc, &volume(), disk, &mut steps)
+}
+
 #[test]
 fn logs(rt: HostRuntime) -> Result<(), Fail> {
     let alloc = rt.alloc();
@@ -161,7 +195,7 @@ fn logs(rt: HostRuntime) -> Result<(), Fail> {
         assert!(rt; matches!(disk.blocks(), Ok(count) if 2048 <= count));
         assert!(rt; disk.write(place, &block).is_ok());
         assert!(rt; matches!(disk.blocks(), Ok(count) if 2048 <= count));
-        let Ok(state) = read_log(alloc, &volume(), &mut disk) else {
+        let Ok(state) = state_of::<MemoryDisk, Brand>(alloc, &mut disk, Blank::new(1)) else {
             panic!(rt; "{place}");
         };
         assert_eq!(rt; state == LogState::Clean { head: 1 << 32 }, due);

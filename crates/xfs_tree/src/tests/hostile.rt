@@ -98,7 +98,15 @@ fn read<D: Disk, L: Ledger>(
     ensures { D.size disk.new ≡ D.size disk.old }
 {
     let mut steps = Steps::<L>::from_blank(blank);
-    read_tree(alloc, &Numbers { ag: 0 }, &volume(), disk, 20, 2, &mut steps)
+    read_tree(
+        alloc,
+        &Numbers { ag: 0 },
+        &volume(),
+        disk,
+        20,
+        2,
+        &mut steps,
+    )
 }
 
 /// What the tree of these three blocks, at blocks 20 to 22, reads as.
