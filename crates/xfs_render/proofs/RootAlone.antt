@@ -1,7 +1,7 @@
 -- A volume with a root and nothing else, whose chunk stands at blocks 16 to 23 of the first group: its request keeps all conditions.
 use Rattle.std.proofs.Common.{◌≡◌, ℕ, zero, suc, ◌+◌, ◌-◌, ◌*◌, ◌/◌, ◌%◌, ◌^◌, ◌<◌, ◌≤◌, ◌==◌, inl, Bool, true, false, not, ◌&&◌, ◌||◌, nat_le, nat_lt, if◌then◌else◌, List, [], ◌∷◌, ◌++◌, length, get_or, None, refl, sym, ap, ap₂, ◌∙◌, subst, arith}
 use Rattle.std.specs.Prelude.{IsTrue}
-use Rattle.std.specs.List.{All}
+use Rattle.std.specs.List.{All, list_any}
 use Rattle.std.proofs.lemmas.Bool.{and_from, and_parts, eqb-false, false_from_ne_true, le-leb, leb-true, lt-ltb, ltb-true, not_from_false, or_left, or_right, true≢false}
 use Rattle.std.proofs.lemmas.Bool.Decides.{nat_tests}
 use Rattle.std.proofs.lemmas.List.Elements.{All-cons, All-nil}
@@ -29,7 +29,7 @@ module _ (v : Volume) (groups : HasGroups v.dblocks v.agblocks v.agcount) (addre
       let e : b ≡ 0 * v.agblocks + b = omega arith in
       ap (λ (x : ℕ). x % v.agblocks) e ∙ mod-mul-add 0 v.agblocks b (omega (arith, low, groups.large))
 
-  kept_root : AreKept v (root_run ∷ [])
+  pub kept_root : AreKept v (root_run ∷ [])
   kept_root =
       let rest = small_rest 16 (omega arith) in
       kept_alone v root_run
@@ -74,38 +74,38 @@ module _ (v : Volume) (groups : HasGroups v.dblocks v.agblocks v.agcount) (addre
       let rest : 16 % 2 ^ v.agblklog ≡ 16 = ap (λ (x : ℕ). x % 2 ^ v.agblklog) e ∙ mod-mul-add 0 (2 ^ v.agblklog) 16 long in
       ap₂ (λ (q r : ℕ). q * v.agblocks + r) group rest ∙ (omega arith)
 
-  cluster_taken : (block : ℕ) → v.rootino ≡ 128 → is_of_root_cluster v block ≡ true → is_taken (root_run ∷ []) block ≡ true
+  cluster_taken : (more : List Run) (block : ℕ) → v.rootino ≡ 128 → is_of_root_cluster v block ≡ true → is_taken (root_run ∷ more) block ≡ true
   unfolding is_taken
-  cluster_taken block root of =
+  cluster_taken more block root of =
       let first : v.rootino / 32 * 4 ≡ 16 = omega (arith, root) in
       let at : block_of_address v.agblocks v.agblklog (v.rootino / 32 * 4) ≡ 16 = ap (block_of_address v.agblocks v.agblklog) first ∙ cluster_at in
       let parts = and_parts _ _ (sym (ap (λ (c : ℕ). nat_le c block && nat_lt block (c + 4)) at) ∙ of) in
       let low = leb-true 16 block parts.0 in
       let high = ltb-true block (16 + 4) parts.1 in
       let here : is_of block root_run ≡ true = and_from _ _ (le-leb 16 block low) (lt-ltb block (16 + 8) (omega (arith, high))) in
-      or_left (is_of block root_run) false here
+      or_left (is_of block root_run) (list_any (is_of block) more) here
 
--- the request
-pub record IsAlone (w : Wanted) (rest : List GroupInodes) : Type 0 where
+-- the request: the root's chunk and other runs are kept, and no other group has inodes
+pub record IsAlone (w : Wanted) (more : List Run) (rest : List GroupInodes) : Type 0 where
   pub root : w.geometry.rootino ≡ 128
   pub log : 24 ≤ w.geometry.log
-  pub kept : kept_of w ≡ root_run ∷ []
+  pub kept : kept_of w ≡ root_run ∷ more
+  pub owned : All IsOwned more
   pub objects : length w.objects ≡ 0
   pub inodes : w.inodes ≡ record { records = root_chunk ∷ [] } ∷ rest
   pub none : All (λ (g : GroupInodes). g.records ≡ []) rest
   pub all : length rest + 1 ≡ w.geometry.agcount
 
-pub alone_kept : (w : Wanted) (rest : List GroupInodes) → IsAlone w rest → AreKept (volume w) (kept_of w)
-alone_kept w rest is =
-    subst (AreKept (volume w)) (sym is.kept) (kept_root (volume w) w.geometry.shape.groups w.geometry.shape.addresses is.log)
+pub alone_kept : (w : Wanted) → 24 ≤ w.geometry.log → kept_of w ≡ root_run ∷ [] → AreKept (volume w) (kept_of w)
+alone_kept w log kept = subst (AreKept (volume w)) (sym kept) (kept_root (volume w) w.geometry.shape.groups w.geometry.shape.addresses log)
 
-pub alone_writable : (w : Wanted) (rest : List GroupInodes) → IsAlone w rest → IsWritable w
-alone_writable w rest is = record {
+pub alone_writable : (w : Wanted) (more : List Run) (rest : List GroupInodes) → IsAlone w more rest → IsWritable w
+alone_writable w more rest is = record {
   objects = is.objects;
   inodes = ap length is.inodes ∙ (omega (arith, is.all));
   chunks = chunks;
-  owned = subst (All IsOwned) (sym is.kept) (All-cons IsOwned root_run [] (record { owner = omega arith; offset = omega arith }) (All-nil IsOwned));
-  root = λ block of. subst (λ (rs : List Run). is_taken rs block ≡ true) (sym is.kept) (cluster_taken (volume w) w.geometry.shape.groups w.geometry.shape.addresses is.log block is.root of);
+  owned = subst (All IsOwned) (sym is.kept) (All-cons IsOwned root_run more (record { owner = omega arith; offset = omega arith }) is.owned);
+  root = λ block of. subst (λ (rs : List Run). is_taken rs block ≡ true) (sym is.kept) (cluster_taken (volume w) w.geometry.shape.groups w.geometry.shape.addresses is.log more block is.root of);
 }
   where
     lawful : (ag : ℕ) (records : List InoRec) → inodes_in w ag ≡ records → IsTrue (are_lawful (ino_shape ag) (volume w) None records)

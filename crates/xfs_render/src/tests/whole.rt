@@ -220,7 +220,7 @@ fn root_alone(alloc: Global, geometry: Geometry) -> Result<Wanted, AllocError>
 }
 
 /// The first blocks of all groups and the root's chunk.
-fn places_of(alloc: Global, g: &Geometry) -> Result<Vec<u64>, AllocError>
+fn first_places(alloc: Global, g: &Geometry) -> Result<Vec<u64>, AllocError>
     ensures { IfOk result (λ places. All (λ place. place < g.now.dblocks) places.items) }
 {
     let mut places = Vec::new(alloc);
@@ -239,7 +239,7 @@ fn zeros(alloc: Global, wanted: &Wanted, sector: [u8; 512]) -> Result<Bytes, NoM
     requires states { stated_volume sector ≡ volume_of wanted.now.geometry }
     ensures { IfOk result (λ b. HasBytes wanted.now b) }
 {
-    let places = places_of(alloc, &wanted.geometry)?;
+    let places = first_places(alloc, &wanted.geometry)?;
     let old = BlockBank::make(alloc, places.len())?;
     Ok(Bytes {
         sector,
@@ -281,13 +281,14 @@ fn plan_of<R: Threads + Sync + Abort>(
     }
 }
 
-/// Writes the blocks of a plan.
-fn write_plan<D: Disk>(rt: &impl Abort, plan: &Plan, disk: &mut D)
+/// Writes the blocks of a plan to a disk of so many blocks.
+fn write_plan<D: Disk>(rt: &impl Abort, plan: &Plan, disk: &mut D, blocks: u64)
+    requires { D.size disk.old ≡ blocks }
     ensures { D.size disk.new ≡ D.size disk.old }
 {
     let places = plan.fresh.as_slice().iter().chain(plan.in_place.as_slice());
     for (i, place) in places.enumerate() {
-        assert!(rt; i < plan.bank.len() && *place < disk.size());
+        assert!(rt; i < plan.bank.len() && *place < blocks);
         assert!(rt; disk.write(*place, plan.bank.view(i)).is_ok(), "{place}");
     }
 }
@@ -416,7 +417,7 @@ fn volumes_with_a_root(rt: HostRuntime) -> Result<(), Fail> {
         assert!(rt; geometry.rootino == 128 && geometry.log >= 24);
         let plan = plan_of(&rt, alloc, geometry, sector)?;
         let mut disk = MemoryDisk::make(alloc, volume.dblocks)?;
-        write_plan(&rt, &plan, &mut disk);
+        write_plan(&rt, &plan, &mut disk, volume.dblocks);
         assert_eq!(rt; geometry.agcount as usize, volume.groups.len());
         for (group, ag) in volume.groups.iter().zip(0..geometry.agcount) {
             compare_trees(&rt, alloc, &geometry, &mut disk, ag, group);
