@@ -1,7 +1,7 @@
 use Rattle.std.proofs.Common.{◌≡◌, Result, Ok, Err, Some, refl, subst}
 use Rattle.xfs_disk.specs.Blocks.{Image}
 use Rattle.xfs_tools.specs.Due.{due_judged}
-use Rattle.xfs_tools.specs.Outcome.{IsDue}
+use Rattle.xfs_tools.specs.Answers.{IsDue}
 use Rattle.xfs_tools.specs.declared.answer.Answer.{Answer}
 use Rattle.xfs_tools.specs.declared.command_line.RepairOptions.{RepairOptions}
 use Rattle.xfs_tools.proofs.top.run.Goals as goal
