@@ -1,20 +1,18 @@
 -- What the calls of a repair have told of the image.
-use Rattle.std.proofs.Common.{◌≡◌, ℕ, Bool, true, ◌-◌, ◌*◌, ◌<◌, ◌≤◌, ◌==◌, false, List, length, Option, Some, Ok, if◌then◌else◌, refl, sym, ap, ◌∙◌, subst, arith}
+use Rattle.std.proofs.Common.{◌≡◌, ℕ, ◌-◌, ◌*◌, ◌<◌, ◌≤◌, List, length, Option, Some, Ok, sym, ap, ◌∙◌, subst, arith}
 use Rattle.xfs_disk.specs.Blocks.{Image}
 use Rattle.xfs_geom.proofs.Bounds.{group_start}
 use Rattle.xfs_geom.specs.Volumes.{Volume, volume_of, stated_volume}
 use Rattle.xfs_geom.specs.declared.geometry.Geometry.{Geometry}
 use Rattle.xfs_geom.specs.Election.{Vote, block_of, elected, super_of}
 use Rattle.xfs_mend.proofs.Electing.{IsPrimary, is_primary}
-use Rattle.xfs_mend.proofs.Repaired.{IsAccepted, due_accepted, due_some, is_repaired}
+use Rattle.xfs_mend.proofs.Repaired.{IsAccepted, is_repaired}
 use Rattle.xfs_mend.specs.Backups.{start_of, steps_from, backup_plan}
-use Rattle.xfs_mend.specs.Due.{due_backups, due_check, due_elected, due_plan, due_repair, first_disagreeing}
-use Rattle.xfs_mend.specs.Outcome.{IsDue, IsKept, Leaves, Writes}
+use Rattle.xfs_mend.specs.Due.{IsOwed, first_disagreeing}
+use Rattle.xfs_mend.specs.Outcome.{IsCaused, IsKept, Leaves, Writes}
 use Rattle.xfs_mend.specs.Plans.{Plan, IsPartly, written}
-use Rattle.xfs_mend.specs.declared.answer.Answer.{Answer}
-use Rattle.xfs_mend.specs.declared.answer.Answer.TheVariants.{Usage, Unbuilt, NoGeometry, Unsupported, Clean, Damaged, Repaired, ReadFault, WriteFault, OutputFault, NoMemory}
-use Rattle.xfs_mend.specs.declared.answer.Finding.TheVariants.{Part}
-use Rattle.xfs_mend.specs.declared.answer.Summary.TheVariants.{Backups}
+use Rattle.xfs_mend.specs.declared.outcome.Outcome.{Outcome}
+use Rattle.xfs_mend.specs.declared.outcome.Outcome.TheVariants.{NoGeometry, Unsupported, DirtyLog, TooLarge, UnsupportedFile, Clean, Damaged, Repaired, Unbuilt, ReadFault, WriteFault, NoMemory}
 
 -- each group of an accepted geometry begins inside the image
 starts_inside : (primary : List ℕ) (n : ℕ) (g : Geometry) → volume_of g ≡ stated_volume primary → g.dblocks ≤ n
@@ -63,66 +61,54 @@ first_elected image v g elects from stated =
     ap (λ (n : ℕ). first_disagreeing v.sector image 1 (n - 1)) count
     ∙ ap (λ (p : List ℕ). first_disagreeing p image 1 ((stated_volume p).agcount - 1)) same
 
--- what is due to an image whose primary superblock was elected
-pub due_from : (check : Bool) (image : Image) (v : Vote) → elected image ≡ Ok v → v.place ≡ 0 → due_repair check image ≡ due_backups check image
-due_from check image v elects from =
-    let primary : IsPrimary image v = is_primary image v elects from in
-    due_accepted check image primary.some primary.accepted
-
--- what is due where a backup was elected
-pub due_behind : (check : Bool) (image : Image) (v : Vote) → elected image ≡ Ok v → (v.place == 0) ≡ false
-    → due_repair check image ≡ (if check then Damaged (Part 0 0) else Unbuilt 8)
-due_behind check image v elects behind = ap (due_elected check image) elects ∙ rw behind refl
-
--- a repair is due where the plan has some writes
-pub repair_due : (plan : Plan) (n : ℕ) → (length plan == 0) ≡ false → n ≡ length plan → Repaired (Backups n) ≡ due_plan plan
-repair_due plan n some count = sym (due_some plan some ∙ ap (λ (m : ℕ). Repaired (Backups m)) (sym count))
-
--- what an answer to the image's plan leaves
-pub written_leaves : (image : Image) (now : Option Image) (plan : Plan) (a : Answer) → IsAccepted image → plan ≡ backup_plan image
+-- what an outcome of the image's plan leaves
+pub written_leaves : (image : Image) (now : Option Image) (plan : Plan) (a : Outcome) → IsAccepted image → plan ≡ backup_plan image
     → Writes plan image now a → Leaves image now a
 written_leaves image now plan (Repaired summary) known same writes =
     is_repaired image now known (writes ∙ ap (λ (p : Plan). Some (written p image)) same)
 written_leaves image now plan (WriteFault blocks) known same writes = subst (λ (p : Plan). IsPartly p image blocks now) same writes
-written_leaves image now plan (Usage word) known same writes = writes
-written_leaves image now plan (Unbuilt request) known same writes = writes
 written_leaves image now plan NoGeometry known same writes = writes
 written_leaves image now plan (Unsupported word bits) known same writes = writes
+written_leaves image now plan DirtyLog known same writes = writes
+written_leaves image now plan (TooLarge what count) known same writes = writes
+written_leaves image now plan (UnsupportedFile ino what) known same writes = writes
 written_leaves image now plan Clean known same writes = writes
 written_leaves image now plan (Damaged finding) known same writes = writes
+written_leaves image now plan (Unbuilt request) known same writes = writes
 written_leaves image now plan (ReadFault faults) known same writes = writes
-written_leaves image now plan OutputFault known same writes = writes
 written_leaves image now plan NoMemory known same writes = writes
 
 -- what is kept by a disk that tells its stops
-pub kept_before : (before after : Type 0) (now : Option Image) (may_leave : ℕ → List ℕ → Type 0) (a : Answer) → (before → after)
+pub kept_before : (before after : Type 0) (now : Option Image) (may_leave : ℕ → List ℕ → Type 0) (a : Outcome) → (before → after)
     → IsKept after now may_leave a → IsKept before now may_leave a
 kept_before before after now may_leave (Repaired summary) tells kept = λ told. kept (tells told)
 kept_before before after now may_leave (WriteFault blocks) tells kept = kept
-kept_before before after now may_leave (Usage word) tells kept = kept
-kept_before before after now may_leave (Unbuilt request) tells kept = kept
 kept_before before after now may_leave NoGeometry tells kept = kept
 kept_before before after now may_leave (Unsupported word bits) tells kept = kept
+kept_before before after now may_leave DirtyLog tells kept = kept
+kept_before before after now may_leave (TooLarge what count) tells kept = kept
+kept_before before after now may_leave (UnsupportedFile ino what) tells kept = kept
 kept_before before after now may_leave Clean tells kept = kept
 kept_before before after now may_leave (Damaged finding) tells kept = kept
+kept_before before after now may_leave (Unbuilt request) tells kept = kept
 kept_before before after now may_leave (ReadFault faults) tells kept = kept
-kept_before before after now may_leave OutputFault tells kept = kept
 kept_before before after now may_leave NoMemory tells kept = kept
 
--- the answer of a check is due to the image
-pub checked_due : (check : Bool) (image : Image) (v : Vote) (g : Geometry) (a : Answer) → elected image ≡ Ok v → v.place ≡ 0
-    → volume_of g ≡ stated_volume v.sector → check ≡ true → IsDue (due_check (first_disagreeing v.sector image 1 (g.agcount - 1))) a
-    → IsDue (due_repair check image) a
-checked_due check image v g a elects from stated checks due =
-    subst (λ (d : Answer). IsDue d a)
-    (ap due_check (first_elected image v g elects from stated)
-    ∙ sym (ap (λ (b : Bool). due_backups b image) checks) ∙ sym (due_from check image v elects from)) due
+-- what is owed where a repair by these steps is, is owed where it is by the plan
+pub owed_as : (due other outcome : Outcome) → due ≡ other → IsOwed due outcome → IsOwed other outcome
+owed_as due other outcome same owed = subst (λ (d : Outcome). IsOwed d outcome) same owed
 
--- the answer to the plan is due to the image
-pub planned_due : (check : Bool) (image : Image) (v : Vote) (g : Geometry) (a : Answer) → elected image ≡ Ok v → v.place ≡ 0
-    → volume_of g ≡ stated_volume v.sector → check ≡ false → IsDue (due_plan (steps_from v.sector image 1 (g.agcount - 1))) a
-    → IsDue (due_repair check image) a
-planned_due check image v g a elects from stated repairs due =
-    subst (λ (d : Answer). IsDue d a)
-    (ap due_plan (plan_elected image v g elects from stated)
-    ∙ sym (ap (λ (b : Bool). due_backups b image) repairs) ∙ sym (due_from check image v elects from)) due
+-- the causes that are seen from an earlier count on
+pub caused_before : (earlier before now w0 w1 w2 : ℕ) (a : Outcome) → earlier ≤ before → w0 ≤ w1 → IsCaused before now w1 w2 a → IsCaused earlier now w0 w2 a
+caused_before earlier before now w0 w1 w2 (ReadFault faults) up more ((le, rose), told) = ((omega (arith, up, le), omega (arith, up, le, rose)), told)
+caused_before earlier before now w0 w1 w2 (WriteFault blocks) up more (le, rose) = (omega (arith, more, le), omega (arith, more, le, rose))
+caused_before earlier before now w0 w1 w2 (Repaired summary) up more cause = cause
+caused_before earlier before now w0 w1 w2 NoGeometry up more cause = cause
+caused_before earlier before now w0 w1 w2 (Unsupported word bits) up more cause = cause
+caused_before earlier before now w0 w1 w2 DirtyLog up more cause = cause
+caused_before earlier before now w0 w1 w2 (TooLarge what count) up more cause = cause
+caused_before earlier before now w0 w1 w2 (UnsupportedFile ino what) up more cause = cause
+caused_before earlier before now w0 w1 w2 Clean up more cause = cause
+caused_before earlier before now w0 w1 w2 (Damaged finding) up more cause = cause
+caused_before earlier before now w0 w1 w2 (Unbuilt request) up more cause = cause
+caused_before earlier before now w0 w1 w2 NoMemory up more cause = cause

@@ -8,14 +8,17 @@ use Rattle.xfs_image.specs.View.{view}
 use Rattle.xfs_image.specs.declared.findings.Finding.{Finding}
 use Rattle.xfs_mend.specs.Due.{turned_away}
 use Rattle.xfs_mend.specs.declared.outcome.Outcome.{Outcome}
+use Rattle.xfs_mend.specs.declared.outcome.Outcome.TheVariants as out
 use Rattle.xfs_mend.specs.declared.outcome.RepairOptions.{RepairOptions}
 use Rattle.xfs_mend.specs.declared.refusals.Admitted.{Admitted}
-use Rattle.xfs_mend.specs.declared.refusals.Admitted.TheVariants.{View, Away}
+use Rattle.xfs_mend.specs.declared.refusals.Admitted.TheVariants.{View, DirtyLog, TooLarge, UnsupportedFile}
 
--- a volume that is turned away has this outcome, and of any other this is the view
+-- of a volume that is turned away this is why, and of any other this is the view
 abbrev pub HasAdmitted : Option Outcome → Result Catalog Finding → Admitted → Type 0
 HasAdmitted away seen (View given) = (away ≡ None) × (given ≡ seen)
-HasAdmitted away seen (Away outcome) = away ≡ Some outcome
+HasAdmitted away seen DirtyLog = away ≡ Some out.DirtyLog
+HasAdmitted away seen (TooLarge what count) = away ≡ Some (out.TooLarge what count)
+HasAdmitted away seen (UnsupportedFile ino what) = away ≡ Some (out.UnsupportedFile ino what)
 
 abbrev pub IsAdmission : RepairOptions → Geometry → Image → Admitted → Type 0
 IsAdmission o g image admitted = HasAdmitted (turned_away o (volume_of g) image) (view g image) admitted

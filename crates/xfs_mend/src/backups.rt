@@ -6,6 +6,7 @@ ghost use Rattle.xfs_disk.specs.Faults.{HasCause};
 ghost use Rattle.xfs_geom.specs.Superblocks.{is_agreeing};
 ghost use Rattle.xfs_geom.specs.Volumes.{volume_of, stated_volume};
 ghost use Rattle.xfs_geom.specs.Election.{block_of, super_of};
+ghost use Rattle.xfs_tree.specs.Answers.{OnlyReads};
 ghost use Rattle.xfs_mend.specs.Backups.{start_of, step_of, steps_from, with_super};
 ghost use Rattle.xfs_mend.specs.Due.{first_disagreeing};
 ghost use Rattle.xfs_mend.specs.Planning.{HasMendCause};
@@ -61,10 +62,8 @@ pub(crate) fn find_disagreeing<D: Disk>(
     requires inside { geometry.now.dblocks ≤ D.size disk.old }
     ensures first { IfOk result (λ first. ForSome (D.holds disk.old) (λ image.
         first ≡ first_disagreeing primary.now image 1 (geometry.now.agcount - 1))) }
-    ensures size { D.size disk.new ≡ D.size disk.old }
-    ensures holds { D.holds disk.new ≡ D.holds disk.old }
     ensures cause { HasCause (D.faults disk.old) (D.faults disk.new) result }
-    ensures write_faults { D.write_faults disk.new ≡ D.write_faults disk.old }
+    ensures disk { OnlyReads D.size D.holds D.write_faults D.tells_stops D.may_leave disk.old disk.new }
 {
     for group in 1..geometry.agcount {
         let agreeing = match is_agreeing(disk, geometry, primary, group) {
@@ -92,10 +91,8 @@ fn is_agreeing<D: Disk>(
     requires group { group < geometry.now.agcount }
     ensures agreeing { IfOk result (λ agreeing. ForSome (D.holds disk.old) (λ image.
         agreeing ≡ is_agreeing (stated_volume primary.now) (super_of (block_of image (start_of primary.now group))))) }
-    ensures size { D.size disk.new ≡ D.size disk.old }
-    ensures holds { D.holds disk.new ≡ D.holds disk.old }
     ensures cause { HasCause (D.faults disk.old) (D.faults disk.new) result }
-    ensures write_faults { D.write_faults disk.new ≡ D.write_faults disk.old }
+    ensures disk { OnlyReads D.size D.holds D.write_faults D.tells_stops D.may_leave disk.old disk.new }
 {
     let mut block = [0; BLOCK_SIZE];
     match disk.read(geometry.start_of_group(group), &mut block) {

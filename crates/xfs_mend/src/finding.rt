@@ -28,24 +28,24 @@ pub(crate) fn find_first<R: Threads + Sync, D: Disk>(
     rt: &R,
     alloc: Global,
     disk: &mut D,
-    elected: &Elected,
-    view: &Result<Catalog, Finding>,
+    chosen: &Elected,
+    seen: &Result<Catalog, Finding>,
 ) -> Result<Option<Finding>, MendFault>
-    requires sector { length elected.now.sector ≡ 512 }
-    requires stated { volume_of elected.now.geometry ≡ stated_volume elected.now.sector }
-    requires inside { elected.now.geometry.dblocks ≤ D.size disk.old }
-    requires elects { ForSome (D.holds disk.old) (λ image. elected image ≡ Ok (vote_of elected.now)) }
-    requires view { ForSome (D.holds disk.old) (λ image. view.now ≡ view elected.now.geometry image) }
-    ensures found { IfOk result (λ found. ForSome (D.holds disk.old) (λ image. found ≡ finding broken_law elected.now.geometry image)) }
+    requires sector { length chosen.now.sector ≡ 512 }
+    requires stated { volume_of chosen.now.geometry ≡ stated_volume chosen.now.sector }
+    requires inside { chosen.now.geometry.dblocks ≤ D.size disk.old }
+    requires elects { ForSome (D.holds disk.old) (λ image. elected image ≡ Ok (vote_of chosen.now)) }
+    requires view { ForSome (D.holds disk.old) (λ image. seen.now ≡ view chosen.now.geometry image) }
+    ensures found { IfOk result (λ found. ForSome (D.holds disk.old) (λ image. found ≡ finding broken_law chosen.now.geometry image)) }
     ensures cause { HasMendCause (D.faults disk.old) (D.faults disk.new) result }
     ensures disk { OnlyReads D.size D.holds D.write_faults D.tells_stops D.may_leave disk.old disk.new }
 {
-    if elected.from != 0 {
+    if chosen.from != 0 {
         return Ok(Some(Finding::Part { part: 0, place: 0 }));
     }
-    match judge(rt, alloc, view) {
+    match judge(rt, alloc, seen) {
         Ok(Some(found)) => Ok(Some(found)),
-        Ok(None) => find_backup(disk, &elected.geometry, &elected.sector),
+        Ok(None) => find_backup(disk, &chosen.geometry, &chosen.sector),
         Err(fault) => Err(fault),
     }
 }
@@ -54,12 +54,12 @@ pub(crate) fn find_first<R: Threads + Sync, D: Disk>(
 fn judge<R: Threads + Sync>(
     rt: &R,
     alloc: Global,
-    view: &Result<Catalog, Finding>,
+    seen: &Result<Catalog, Finding>,
 ) -> Result<Option<Finding>, MendFault>
-    ensures found { IfOk result (λ found. found ≡ view_found broken_law view.now None) }
+    ensures found { IfOk result (λ found. found ≡ view_found broken_law seen.now None) }
     ensures fault { IfErr result (λ fault. fault ≡ MendFault.NoMemory) }
 {
-    match view {
+    match seen {
         Err(found) => Ok(Some(*found)),
         Ok(catalog) => judge_catalog(rt, alloc, catalog),
     }

@@ -8,8 +8,8 @@ mod laws;
 mod outcome;
 mod plan;
 mod refusals;
-mod repair;
+mod repairing;
 
 pub use laws::outcomes_by_rows;
 pub use outcome::{Outcome, RepairOptions, Summary};
-pub use repair::repair;
+pub use repairing::repair;

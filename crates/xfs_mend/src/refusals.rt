@@ -1,17 +1,17 @@
 //! Volumes that are not looked at further.
 
-ghost use Rattle.std.specs.Prelude.{◌≡◌, ◌≤◌, ℕ, None, Some, IfErr, IfOk};
+ghost use Rattle.std.specs.Prelude.{◌≡◌, ◌≤◌, ◌&&◌, None, IfOk};
 ghost use Rattle.std.specs.Option.{ForSome};
 ghost use Rattle.xfs_geom.specs.Volumes.{volume_of};
 ghost use Rattle.xfs_tree.specs.Answers.{OnlyReads};
-ghost use Rattle.xfs_image.specs.View.{log_of, view};
+ghost use Rattle.xfs_image.specs.View.{view};
 ghost use Rattle.xfs_scan.specs.Refused.{refused};
-ghost use Rattle.xfs_mend.specs.Due.{asks_log, away_if, is_dirty, refusal_of, turned_away};
+ghost use Rattle.xfs_mend.specs.Due.{asks_log, away_if, is_dirty, refusal_of};
 ghost use Rattle.xfs_mend.specs.Planning.{HasMendCause};
 ghost use Rattle.xfs_mend.specs.Refusing.{HasAdmitted, IsAdmission};
 
 use crate::faults::MendFault;
-use crate::outcome::{Outcome, RepairOptions};
+use crate::outcome::RepairOptions;
 use std::alloc::Global;
 use xfs_disk::Disk;
 use xfs_geom::Geometry;
@@ -21,13 +21,17 @@ use xfs_journal::{JournalFault, read_log};
 use xfs_scan::{ScanFault, gather};
 use xfs_volume::Catalog;
 
-/// What a volume gives that is to be looked at.
+/// What a volume gives that is to be looked at, or why it is not looked at further.
 #[derive(Drop)]
 pub(crate) enum Admitted {
     /// What it says, or the first part that does not read.
     View(Result<Catalog, Finding>),
-    /// It is not looked at further, with this outcome.
-    Away(Outcome),
+    /// Its log is not clean.
+    DirtyLog,
+    /// A count passes its limit.
+    TooLarge { what: u8, count: u64 },
+    /// The least inode with a feature that is not supported.
+    UnsupportedFile { ino: u64, what: u8 },
 }
 
 /// What the volume says; or the first cause for which it is not looked at further: its log is not clean, it is too large, or a
@@ -49,10 +53,10 @@ pub(crate) fn admit<D: Disk>(
         Err(ScanFault::ReadFault) => Err(MendFault::ReadFault),
         Err(ScanFault::NoMemory) => Err(MendFault::NoMemory),
         Err(ScanFault::TooLarge { what, count }) => {
-            turn_away(alloc, disk, options, g, Outcome::TooLarge { what, count })
+            unless_dirty(alloc, disk, options, g, Admitted::TooLarge { what, count })
         }
         Err(ScanFault::UnsupportedFile { ino, what }) => {
-            turn_away(alloc, disk, options, g, Outcome::UnsupportedFile { ino, what })
+            unless_dirty(alloc, disk, options, g, Admitted::UnsupportedFile { ino, what })
         }
     }
 }
@@ -80,7 +84,7 @@ fn take_view(
     ensures { HasAdmitted (away_if (asks_log options.now && is_dirty log) None) catalog result }
 {
     if asks_log(options) && is_dirty(log) {
-        Admitted::Away(Outcome::DirtyLog)
+        Admitted::DirtyLog
     } else {
         Admitted::View(catalog)
     }
@@ -88,25 +92,25 @@ fn take_view(
 
 /// A volume that is refused; where its log stands in the way, that comes first.
 #[tactic(auto, unfolding(crate::specs::Due::turned_away))]
-fn turn_away<D: Disk>(
+fn unless_dirty<D: Disk>(
     alloc: Global,
     disk: &mut D,
     options: &RepairOptions,
     g: &Geometry,
-    refusal: Outcome,
+    refusal: Admitted,
 ) -> Result<Admitted, MendFault>
     requires inside { g.now.dblocks ≤ D.size disk.old }
-    requires refused { ForSome (D.holds disk.old) (λ image. refusal_of (refused (volume_of g.now) image) ≡ Some refusal) }
+    requires refused { ForSome (D.holds disk.old) (λ image. HasAdmitted (refusal_of (refused (volume_of g.now) image)) (view g.now image) refusal) }
     ensures admitted { IfOk result (λ admitted. ForSome (D.holds disk.old) (λ image. IsAdmission options.now g.now image admitted)) }
     ensures cause { HasMendCause (D.faults disk.old) (D.faults disk.new) result }
     ensures disk { OnlyReads D.size D.holds D.write_faults D.tells_stops D.may_leave disk.old disk.new }
 {
     if !asks_log(options) {
-        return Ok(Admitted::Away(refusal));
+        return Ok(refusal);
     }
     match read_log(alloc, g, disk) {
-        Ok(LogState::Dirty) => Ok(Admitted::Away(Outcome::DirtyLog)),
-        Ok(LogState::Clean { .. }) => Ok(Admitted::Away(refusal)),
+        Ok(LogState::Dirty) => Ok(Admitted::DirtyLog),
+        Ok(LogState::Clean { .. }) => Ok(refusal),
         Err(JournalFault::ReadFault) => Err(MendFault::ReadFault),
         Err(JournalFault::NoMemory) => Err(MendFault::NoMemory),
     }

@@ -65,13 +65,13 @@ fn repair_volume<R: Threads + Sync, D: Disk>(
     alloc: Global,
     disk: &mut D,
     options: &RepairOptions,
-    elected: &Elected,
+    chosen: &Elected,
 ) -> Outcome
-    requires sector { length elected.now.sector ≡ 512 }
-    requires stated { volume_of elected.now.geometry ≡ stated_volume elected.now.sector }
-    requires inside { elected.now.geometry.dblocks ≤ D.size disk.old }
-    requires elects { ForSome (D.holds disk.old) (λ image. elected image ≡ Ok (vote_of elected.now)) }
-    ensures due { ForSome (D.holds disk.old) (λ image. IsOwed (due_volume options.now elected.now.geometry image) result) }
+    requires sector { length chosen.now.sector ≡ 512 }
+    requires stated { volume_of chosen.now.geometry ≡ stated_volume chosen.now.sector }
+    requires inside { chosen.now.geometry.dblocks ≤ D.size disk.old }
+    requires elects { ForSome (D.holds disk.old) (λ image. elected image ≡ Ok (vote_of chosen.now)) }
+    ensures due { ForSome (D.holds disk.old) (λ image. IsOwed (due_volume options.now chosen.now.geometry image) result) }
     ensures cause { IsCaused (D.faults disk.old) (D.faults disk.new) (D.write_faults disk.old) (D.write_faults disk.new) result }
     ensures leaves { ForSome (D.holds disk.old) (λ image. Leaves image (D.holds disk.new) result) }
     ensures kept { IsKept (D.tells_stops disk.old) (D.holds disk.new) (D.may_leave disk.new) result }
@@ -79,16 +79,18 @@ fn repair_volume<R: Threads + Sync, D: Disk>(
     ensures faults { D.faults disk.old ≤ D.faults disk.new }
     ensures write_faults { D.write_faults disk.old ≤ D.write_faults disk.new }
 {
-    let view = match admit(alloc, disk, options, &elected.geometry) {
+    let view = match admit(alloc, disk, options, &chosen.geometry) {
         Ok(Admitted::View(view)) => view,
-        Ok(Admitted::Away(outcome)) => return outcome,
+        Ok(Admitted::DirtyLog) => return Outcome::DirtyLog,
+        Ok(Admitted::TooLarge { what, count }) => return Outcome::TooLarge { what, count },
+        Ok(Admitted::UnsupportedFile { ino, what }) => return Outcome::UnsupportedFile { ino, what },
         Err(MendFault::ReadFault) => return Outcome::ReadFault {
             faults: disk.faults(),
         },
         Err(MendFault::NoMemory) => return Outcome::NoMemory,
     };
-    match find_first(rt, alloc, disk, elected, &view) {
-        Ok(Some(found)) => settle(alloc, disk, options, elected, found),
+    match find_first(rt, alloc, disk, chosen, &view) {
+        Ok(Some(found)) => settle(alloc, disk, options, chosen, found),
         Ok(None) => Outcome::Clean,
         Err(MendFault::ReadFault) => Outcome::ReadFault {
             faults: disk.faults(),
@@ -102,14 +104,14 @@ fn settle<D: Disk>(
     alloc: Global,
     disk: &mut D,
     options: &RepairOptions,
-    elected: &Elected,
+    chosen: &Elected,
     found: Finding,
 ) -> Outcome
-    requires sector { length elected.now.sector ≡ 512 }
-    requires stated { volume_of elected.now.geometry ≡ stated_volume elected.now.sector }
-    requires inside { elected.now.geometry.dblocks ≤ D.size disk.old }
-    requires elects { ForSome (D.holds disk.old) (λ image. elected image ≡ Ok (vote_of elected.now)) }
-    requires found { ForSome (D.holds disk.old) (λ image. Some found ≡ finding broken_law elected.now.geometry image) }
+    requires sector { length chosen.now.sector ≡ 512 }
+    requires stated { volume_of chosen.now.geometry ≡ stated_volume chosen.now.sector }
+    requires inside { chosen.now.geometry.dblocks ≤ D.size disk.old }
+    requires elects { ForSome (D.holds disk.old) (λ image. elected image ≡ Ok (vote_of chosen.now)) }
+    requires found { ForSome (D.holds disk.old) (λ image. Some found ≡ finding broken_law chosen.now.geometry image) }
     ensures due { ForSome (D.holds disk.old) (λ image. IsOwed (due_found options.now image (Some found)) result) }
     ensures cause { IsCaused (D.faults disk.old) (D.faults disk.new) (D.write_faults disk.old) (D.write_faults disk.new) result }
     ensures leaves { ForSome (D.holds disk.old) (λ image. Leaves image (D.holds disk.new) result) }
@@ -124,7 +126,7 @@ fn settle<D: Disk>(
     if !is_backup(&found) {
         return Outcome::Unbuilt { request: 8 };
     }
-    repair_backups(alloc, disk, &elected.geometry, &elected.sector)
+    repair_backups(alloc, disk, &chosen.geometry, &chosen.sector)
 }
 
 /// Whether what is found is a backup superblock that does not agree.
