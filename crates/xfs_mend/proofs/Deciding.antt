@@ -23,6 +23,9 @@ use Rattle.xfs_mend.proofs.Repaired.{first_sector}
 use Rattle.xfs_mend.specs.Backups.{backup_plan, start_of}
 use Rattle.xfs_mend.specs.Due.{IsAnswer, IsDue, IsDueElected, IsOwed, disagrees, due_found, due_volume, first_disagreeing, is_backup, turned_away}
 use Rattle.xfs_mend.specs.Plans.{Plan}
+use Rattle.xfs_mend.specs.Refusing.{IsAdmission}
+use Rattle.xfs_mend.specs.declared.refusals.Admitted.{Admitted}
+use Rattle.xfs_mend.specs.declared.refusals.Admitted.TheVariants.{View}
 use Rattle.xfs_mend.specs.declared.outcome.Outcome.{Outcome}
 use Rattle.xfs_mend.specs.declared.outcome.Outcome.TheVariants.{NoGeometry, Unsupported, DirtyLog, TooLarge, UnsupportedFile, Clean, Damaged, Repaired, Unbuilt, ReadFault, WriteFault, NoMemory}
 use Rattle.xfs_mend.specs.declared.outcome.RepairOptions.{RepairOptions}
@@ -114,6 +117,11 @@ from_primary g image vote (Found.Part part place) elects same backup =
     let fault : HasBackupFault broken_law g image place =
     only_backups broken_law g image place (sym same ∙ ap (λ (p : ℕ). Some (Found.Part p place)) number) in
     ap (λ (v : Vote). v.place) (some_vote vote fault.elected.vote (elected image) elects fault.elected.due) ∙ fault.first
+
+-- a volume whose view is given is not turned away
+pub admitted_stays : (o : RepairOptions) (g : Geometry) (image : Image) (a : Admitted) (seen : Result Catalog Finding) → a ≡ View seen
+    → IsAdmission o g image a → turned_away o (volume_of g) image ≡ None
+admitted_stays o g image a seen is held = (subst (λ (x : Admitted). IsAdmission o g image x) is held).0
 
 -- what is due to a volume that is turned away, and to any other
 pub due_away : (o : RepairOptions) (g : Geometry) (image : Image) (outcome : Outcome) → turned_away o (volume_of g) image ≡ Some outcome
