@@ -17,7 +17,9 @@ pub struct RepairOptions {
 #[derive(Clone, Copy, Debug, PartialEq, Eq)]
 pub enum Summary {
     /// So many backup superblocks were written anew.
-    Backups { count: u64 },
+    Backups {
+        count: u64,
+    },
     /// The volume was rebuilt: blocks written, inodes kept, slots cleared, inodes put into lost+found.
     Rebuilt {
         blocks: u64,

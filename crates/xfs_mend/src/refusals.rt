@@ -56,7 +56,13 @@ pub(crate) fn admit<D: Disk>(
             unless_dirty(alloc, disk, options, g, Admitted::TooLarge { what, count })
         }
         Err(ScanFault::UnsupportedFile { ino, what }) => {
-            unless_dirty(alloc, disk, options, g, Admitted::UnsupportedFile { ino, what })
+            unless_dirty(
+                alloc,
+                disk,
+                options,
+                g,
+                Admitted::UnsupportedFile { ino, what },
+            )
         }
     }
 }
@@ -76,11 +82,7 @@ fn is_dirty(log: LogState) -> bool
 }
 
 /// A volume that is neither too large nor has a file that is not supported.
-fn take_view(
-    options: &RepairOptions,
-    log: LogState,
-    catalog: Result<Catalog, Finding>,
-) -> Admitted
+fn take_view(options: &RepairOptions, log: LogState, catalog: Result<Catalog, Finding>) -> Admitted
     ensures { HasAdmitted (away_if (asks_log options.now && is_dirty log) None) catalog result }
 {
     if asks_log(options) && is_dirty(log) {

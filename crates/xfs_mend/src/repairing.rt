@@ -83,7 +83,10 @@ fn repair_volume<R: Threads + Sync, D: Disk>(
         Ok(Admitted::View(view)) => view,
         Ok(Admitted::DirtyLog) => return Outcome::DirtyLog,
         Ok(Admitted::TooLarge { what, count }) => return Outcome::TooLarge { what, count },
-        Ok(Admitted::UnsupportedFile { ino, what }) => return Outcome::UnsupportedFile { ino, what },
+        Ok(Admitted::UnsupportedFile { ino, what }) => return Outcome::UnsupportedFile {
+            ino,
+            what,
+        },
         Err(MendFault::ReadFault) => return Outcome::ReadFault {
             faults: disk.faults(),
         },

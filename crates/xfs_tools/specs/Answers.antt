@@ -1,6 +1,6 @@
 -- What an answer says of the image, of the counts of faults and of what was put. Of an answer that an outcome of a repair is, it
 -- says what the outcome says.
-use Rattle.std.specs.Prelude.{◌≡◌, ℕ, ◌≤◌, MatchBool, List, ◌++◌, length, take, Option, Some, None, Result, Ok, Err, OnOk, OnErr, ⊤}
+use Rattle.std.specs.Prelude.{◌≡◌, ℕ, ◌≤◌, Bool, MatchBool, List, ◌++◌, length, take, Option, Some, None, Result, Ok, Err, OnOk, OnErr, ⊤}
 use Rattle.std.specs.Option.{ForSome}
 use Rattle.xfs_disk.specs.Blocks.{Image}
 use Rattle.xfs_disk.specs.Faults.{HasCause}
