@@ -1,5 +1,5 @@
 -- What is decided of an image.
-use Rattle.std.proofs.Common.{◌≡◌, ◌≢◌, ℕ, ◌+◌, ◌-◌, ◌*◌, ◌<◌, ◌≤◌, ◌==◌, Bool, true, false, not, List, length, Option, Some, None, Result, Ok, Err, IfOk, refl, sym, ap, ◌∙◌, subst, arith, unwrap_or}
+use Rattle.std.proofs.Common.{◌≡◌, ◌≢◌, ℕ, ◌-◌, ◌*◌, ◌==◌, true, false, not, List, length, Option, Some, None, Result, Ok, Err, IfOk, refl, sym, ap, ◌∙◌, subst}
 use Rattle.std.proofs.lemmas.Bool.{and_from, eq-eqb, eqb-true}
 use Rattle.std.specs.List.{find, range_with_len}
 use Rattle.xfs_disk.specs.Blocks.{Image}
@@ -8,7 +8,7 @@ use Rattle.xfs_geom.specs.Volumes.{Volume, stated_volume, volume_of}
 use Rattle.xfs_geom.specs.declared.election.ElectFault.{ElectFault}
 use Rattle.xfs_geom.specs.declared.election.ElectFault.TheVariants as fault
 use Rattle.xfs_geom.specs.declared.geometry.Geometry.{Geometry}
-use Rattle.xfs_geom.specs.Election.{Vote, block_of, choice, elected, same_volume, super_of}
+use Rattle.xfs_geom.specs.Election.{Vote, choice, elected, same_volume}
 use Rattle.xfs_geom.proofs.Votes.{same_itself}
 use Rattle.xfs_volume.specs.declared.catalogs.Catalog.{Catalog}
 use Rattle.xfs_volume.specs.declared.findings.Law.{Law}
@@ -21,7 +21,7 @@ use Rattle.xfs_image.specs.declared.findings.Finding.{Finding}
 use Rattle.xfs_image.specs.declared.findings.Finding.TheVariants as Found
 use Rattle.xfs_mend.proofs.Repaired.{first_sector}
 use Rattle.xfs_mend.specs.Backups.{backup_plan, start_of}
-use Rattle.xfs_mend.specs.Due.{IsAnswer, IsDue, IsDueElected, IsOwed, disagrees, due_found, due_volume, first_disagreeing, is_backup, turned_away}
+use Rattle.xfs_mend.specs.Due.{IsAnswer, IsDue, IsOwed, disagrees, due_found, due_volume, first_disagreeing, is_backup, turned_away}
 use Rattle.xfs_mend.specs.Plans.{Plan}
 use Rattle.xfs_mend.specs.Refusing.{IsAdmission}
 use Rattle.xfs_mend.specs.declared.refusals.Admitted.{Admitted}

@@ -1,5 +1,5 @@
 -- A repaired image is mended, and none of its backups is found from then on.
-use Rattle.std.proofs.Common.{◌≡◌, ◌≢◌, ℕ, ◌+◌, ◌-◌, ◌*◌, ◌<◌, ◌≤◌, Bool, true, false, List, [], length, take, drop, Option, Some, None, Result, Ok, refl, sym, ap, ◌∙◌, subst, arith}
+use Rattle.std.proofs.Common.{◌≡◌, ◌≢◌, ℕ, ◌-◌, ◌*◌, ◌<◌, ◌≤◌, Bool, true, false, List, [], length, take, drop, Option, Some, None, Result, Ok, refl, sym, ap, ◌∙◌, subst, arith}
 use Rattle.std.proofs.lemmas.List.{take_at}
 use Rattle.std.proofs.lemmas.Option.{unwrap_or-slice_get}
 use Rattle.std.proofs.Math.Nat.{mul-le-mul_right}
@@ -21,7 +21,7 @@ use Rattle.xfs_mend.proofs.Electing.{elected_primary}
 use Rattle.xfs_mend.proofs.Mending.{length-written, mended_block, mended_agreeing, mended_other, steps_other, steps_same}
 use Rattle.xfs_mend.specs.Backups.{start_of, backup_plan}
 use Rattle.xfs_mend.specs.Outcome.{IsMended, IsRepaired}
-use Rattle.xfs_mend.specs.Plans.{Plan, written}
+use Rattle.xfs_mend.specs.Plans.{written}
 
 -- what is known of an image whose primary superblock is accepted
 pub record IsAccepted (image : Image) : Type 0 where

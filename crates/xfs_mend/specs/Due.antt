@@ -1,5 +1,5 @@
 -- What is due to an image that is to be repaired.
-use Rattle.std.specs.Prelude.{◌≡◌, ℕ, ◌-◌, ◌==◌, ◌&&◌, Bool, true, false, not, if◌then◌else◌, List, length, Option, Some, None, Result, Ok, Err, unwrap_or, ⊤}
+use Rattle.std.specs.Prelude.{◌≡◌, ℕ, ◌==◌, ◌&&◌, Bool, true, false, not, if◌then◌else◌, List, length, Option, Some, None, Result, Ok, Err, unwrap_or, ⊤}
 use Rattle.std.specs.List.{find, range_with_len}
 use Rattle.xfs_disk.specs.Blocks.{Image}
 use Rattle.xfs_geom.specs.Election.{Vote, block_of, elected, super_of}

@@ -1,4 +1,4 @@
-use Rattle.std.proofs.Common.{rules, ◌≡◌, ◌≢◌, ◌-◌, Option, Some, None, ℕ}
+use Rattle.std.proofs.Common.{rules, ◌≡◌, ◌≢◌, ◌-◌, Option, Some, None}
 use Rattle.std.specs.Option.{ForSome}
 use Rattle.xfs_geom.specs.Electing.{vote_of}
 use Rattle.xfs_laws.specs.Lawful.{broken_law}

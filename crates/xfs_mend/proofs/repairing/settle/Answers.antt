@@ -1,4 +1,4 @@
-use Rattle.std.proofs.Common.{rules, ◌≡◌, ◌≤◌, ℕ, length, true, false, sym, subst}
+use Rattle.std.proofs.Common.{rules, ◌≡◌, ◌≤◌, ℕ, true, false, sym, subst}
 use Rattle.xfs_geom.specs.Electing.{vote_of}
 use Rattle.xfs_mend.proofs.Accepted.{accepted, owed_as, plan_elected, written_leaves}
 use Rattle.xfs_mend.proofs.Deciding.{due_of_plan, from_primary}
