@@ -1,9 +1,9 @@
 -- The number that a refusal tells is that of the first word that offends.
-use Rattle.std.proofs.Common.{◌≡◌, ℕ, suc, ◌+◌, ◌-◌, ◌<◌, ◌==◌, Bool, true, false, cond, List, [], ◌∷◌, ◌++◌, length, take, Option, Some, None, Err, bytes_eq, codes, add-zero, refl, sym, ap, ◌∙◌, subst, arith}
+use Rattle.std.proofs.Common.{◌≡◌, ℕ, suc, ◌+◌, ◌-◌, ◌<◌, ◌==◌, Bool, true, false, cond, List, [], ◌∷◌, ◌++◌, length, take, Option, Some, None, bytes_eq, codes, add-zero, refl, sym, ap, ◌∙◌, subst, arith}
 use Rattle.std.proofs.lemmas.List.{append-nil, take_all}
 use Rattle.xfs_tools.specs.CommandLine.{Words, IsBegun, OffendsFirst, after_letter_w, after_letters, after_option, after_word, after_words, after_workers, is_option, no_options, reading_of, settled, workers_of}
-use Rattle.xfs_tools.specs.declared.answer.Answer.TheVariants.{Usage}
-use Rattle.xfs_tools.specs.declared.command_line.RepairOptions.{RepairOptions}
+use Rattle.xfs_tools.specs.declared.command_line.Call.TheVariants.{Refused}
+use Rattle.xfs_tools.specs.declared.command_line.RepairWords.{RepairWords}
 use Rattle.xfs_tools.specs.declared.command_line.Reading.{Reading}
 use Rattle.xfs_tools.specs.declared.command_line.Reading.TheVariants.{Options, Workers, Image, Complete, Offended}
 
@@ -17,11 +17,11 @@ abbrev pub StandsOr : ℕ → Reading → Type 0
 StandsOr at (Offended n) = n ≡ at
 StandsOr at reading = Unit {0}
 
-workers_stand : (at : ℕ) (value : Option ℕ) (o : RepairOptions) → StandsOr at (after_workers at value o)
+workers_stand : (at : ℕ) (value : Option ℕ) (o : RepairWords) → StandsOr at (after_workers at value o)
 workers_stand at (Some workers) o = tt
 workers_stand at None o = refl
 
-letter_w_stands : (at : ℕ) (rest : List ℕ) (o : RepairOptions) → StandsOr at (after_letter_w at rest o)
+letter_w_stands : (at : ℕ) (rest : List ℕ) (o : RepairWords) → StandsOr at (after_letter_w at rest o)
 letter_w_stands at [] o = tt
 letter_w_stands at (digit ∷ digits) o = workers_stand at (workers_of (digit ∷ digits)) o
 
@@ -29,7 +29,7 @@ choice : (at : ℕ) (b : Bool) (r s : Reading) → StandsOr at r → StandsOr at
 choice at true r s hr hs = hr
 choice at false r s hr hs = hs
 
-letters_stand : (at : ℕ) (letters : List ℕ) (o : RepairOptions) → StandsOr at (after_letters at letters o)
+letters_stand : (at : ℕ) (letters : List ℕ) (o : RepairWords) → StandsOr at (after_letters at letters o)
 letters_stand at [] o = tt
 letters_stand at (letter ∷ rest) o =
     choice at (letter == 110) _ _ (letters_stand at rest (record o { check = true }))
@@ -38,7 +38,7 @@ letters_stand at (letter ∷ rest) o =
     (choice at (letter == 102) _ _ (letters_stand at rest o)
     (choice at (letter == 119) _ _ (letter_w_stands at rest o) refl))))
 
-option_stands : (at : ℕ) (word : List ℕ) (o : RepairOptions) → StandsOr at (after_option at word o)
+option_stands : (at : ℕ) (word : List ℕ) (o : RepairWords) → StandsOr at (after_option at word o)
 option_stands at [] o = tt
 option_stands at (first ∷ rest) o =
     choice at (bytes_eq (first ∷ rest) (codes "--")) (Image o) (cond (is_option (first ∷ rest)) (after_letters at rest o) (Complete o)) (tt {0})
@@ -156,7 +156,7 @@ offended_first rest n same =
     }
 
 -- where a word lacks, its number is that of all words
-pub lacking_first : (rest : Words) (r : Reading) → reading_of rest ≡ r → Stands r → ((o : RepairOptions) → r ≡ Complete o → ⊥)
+pub lacking_first : (rest : Words) (r : Reading) → reading_of rest ≡ r → Stands r → ((o : RepairWords) → r ≡ Complete o → ⊥)
     → OffendsFirst rest (length rest + 1)
 lacking_first rest r same stands open_ended =
     let all : take (length rest + 1 - 1) rest ≡ rest = take_all (length rest + 1 - 1) rest (omega arith) in
@@ -168,7 +168,7 @@ lacking_first rest r same stands open_ended =
     }
 
 -- the number of a refusal
-pub refused_first : (rest : Words) (r : Reading) (n : ℕ) → reading_of rest ≡ r → settled (length rest + 1) r ≡ Err (Usage n) → OffendsFirst rest n
+pub refused_first : (rest : Words) (r : Reading) (n : ℕ) → reading_of rest ≡ r → settled (length rest + 1) r ≡ Refused n → OffendsFirst rest n
 refused_first rest (Complete o) n same refusal = cc
 refused_first rest (Offended k) n same refusal =
     let number : k ≡ n = cc in

@@ -6,7 +6,7 @@ use Rattle.std.proofs.lemmas.List.Concat.{flat_map-append}
 use Rattle.std.proofs.Math.Seq.{take-append-add}
 use Rattle.xfs_disk.specs.declared.failed.Failed.{Failed}
 use Rattle.xfs_tools.specs.Labels.{label_of}
-use Rattle.xfs_tools.specs.Outcome.{Puts}
+use Rattle.xfs_tools.specs.Answers.{Puts}
 use Rattle.xfs_tools.specs.Texts.{labelled, line, number_text}
 use Rattle.xfs_tools.specs.declared.texts.Number.{Number}
 

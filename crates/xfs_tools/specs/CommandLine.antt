@@ -1,8 +1,9 @@
 -- The words of a command line: a tool, its options and an image (xfs_repair(8), mkfs.xfs(8), xfs_db(8)).
-use Rattle.std.specs.Prelude.{◌≡◌, ℕ, ◌+◌, ◌-◌, ◌*◌, ◌≤◌, Bool, true, false, ◌==◌, ◌&&◌, nat_le, if◌then◌else◌, codes, bytes_eq, List, [], ◌∷◌, ◌++◌, length, take, Option, Some, None, Result, Ok, Err}
-use Rattle.xfs_tools.specs.declared.answer.Answer.{Answer}
-use Rattle.xfs_tools.specs.declared.answer.Answer.TheVariants.{Usage, Unbuilt}
-use Rattle.xfs_tools.specs.declared.command_line.RepairOptions.{RepairOptions}
+use Rattle.std.specs.Prelude.{◌≡◌, ℕ, ◌+◌, ◌-◌, ◌*◌, ◌≤◌, Bool, true, false, ◌==◌, ◌&&◌, nat_le, if◌then◌else◌, codes, bytes_eq, List, [], ◌∷◌, ◌++◌, length, take, Option, Some, None}
+use Rattle.xfs_mend.specs.declared.outcome.RepairOptions.{RepairOptions}
+use Rattle.xfs_tools.specs.declared.command_line.Call.{Call}
+use Rattle.xfs_tools.specs.declared.command_line.Call.TheVariants.{Repair, Make, Debug, Refused}
+use Rattle.xfs_tools.specs.declared.command_line.RepairWords.{RepairWords}
 use Rattle.xfs_tools.specs.declared.command_line.Reading.{Reading}
 use Rattle.xfs_tools.specs.declared.command_line.Reading.TheVariants.{Options, Workers, Image, Complete, Offended}
 
@@ -11,7 +12,7 @@ abbrev pub Words : Type 0
 Words = List (List ℕ)
 
 -- the options where none is given
-abbrev pub no_options : RepairOptions
+abbrev pub no_options : RepairWords
 no_options = record { check = false; drop_log = false; tells_repair = false; workers = 4 }
 
 -- a word of letters behind `-`; `-` alone is none
@@ -33,17 +34,17 @@ workers_of (tens ∷ ones ∷ []) =
 workers_of value = None
 
 -- the value of -w in the word of this number
-abbrev pub after_workers : ℕ → Option ℕ → RepairOptions → Reading
+abbrev pub after_workers : ℕ → Option ℕ → RepairWords → Reading
 after_workers at (Some workers) o = Options (record o { workers = workers })
 after_workers at None o = Offended at
 
 -- the rest of a word behind the letter w: the value, or nothing where the next word is the value
-abbrev pub after_letter_w : ℕ → List ℕ → RepairOptions → Reading
+abbrev pub after_letter_w : ℕ → List ℕ → RepairWords → Reading
 after_letter_w at [] o = Workers o
 after_letter_w at (digit ∷ digits) o = after_workers at (workers_of (digit ∷ digits)) o
 
 -- the letters of the word of this number
-abbrev pub after_letters : ℕ → List ℕ → RepairOptions → Reading
+abbrev pub after_letters : ℕ → List ℕ → RepairWords → Reading
 after_letters at [] o = Options o
 after_letters at (letter ∷ rest) o =
     if letter == 110 then after_letters at rest (record o { check = true })
@@ -54,7 +55,7 @@ after_letters at (letter ∷ rest) o =
     else Offended at
 
 -- a word where an option or the image may stand
-abbrev pub after_option : ℕ → List ℕ → RepairOptions → Reading
+abbrev pub after_option : ℕ → List ℕ → RepairWords → Reading
 after_option at [] o = Complete o
 after_option at (first ∷ rest) o =
     if bytes_eq (first ∷ rest) (codes "--") then Image o
@@ -78,33 +79,47 @@ after_words at (word ∷ words) reading = after_words (at + 1) words (after_word
 abbrev pub reading_of : Words → Reading
 reading_of rest = after_words 1 rest (Options no_options)
 
--- the options, or the number of the first word that offends, which is that of all words where one lacks
-abbrev pub settled : ℕ → Reading → Result RepairOptions Answer
-settled count (Complete o) = Ok o
-settled count (Offended n) = Err (Usage n)
-settled count reading = Err (Usage count)
+-- a repair, or the number of the first word that offends, which is that of all words where one lacks
+abbrev pub settled : ℕ → Reading → Call
+settled count (Complete o) = Repair o
+settled count (Offended n) = Refused n
+settled count reading = Refused count
 
--- what the words say: the options of a repair, or the answer that they get
-unfoldable pub judged : Words → Result RepairOptions Answer
-judged [] = Err (Usage 0)
+-- what the words ask for
+unfoldable pub judged : Words → Call
+judged [] = Refused 0
 judged (tool ∷ rest) =
     if bytes_eq tool (codes "xfs_repair") then settled (length rest + 1) (reading_of rest)
-    else if bytes_eq tool (codes "mkfs.xfs") then Err (Unbuilt 6)
-    else if bytes_eq tool (codes "xfs_db") then Err (Unbuilt 11)
-    else Err (Usage 0)
+    else if bytes_eq tool (codes "mkfs.xfs") then Make
+    else if bytes_eq tool (codes "xfs_db") then Debug
+    else Refused 0
+
+-- what a repair is asked for
+abbrev pub options_of : RepairWords → RepairOptions
+options_of o = record { check = o.check; drop_log = o.drop_log; workers = o.workers }
+
+-- a repair ends with 4: the words ask for it
+abbrev pub tells_in : Call → Bool
+tells_in (Repair o) = o.tells_repair
+tells_in Make = false
+tells_in Debug = false
+tells_in (Refused n) = false
+
+abbrev pub tells_repair : Words → Bool
+tells_repair words = tells_in (judged words)
 
 -- the words behind xfs_repair are a command line, with these options
-abbrev pub IsAccepted : Words → RepairOptions → Type 0
+abbrev pub IsAccepted : Words → RepairWords → Type 0
 IsAccepted rest o = reading_of rest ≡ Complete o
 
 -- more words can make them a command line
 abbrev pub IsBegun : Words → Type 0
-IsBegun rest = (more : Words) × (o : RepairOptions) × IsAccepted (rest ++ more) o
+IsBegun rest = (more : Words) × (o : RepairWords) × IsAccepted (rest ++ more) o
 
 -- The word of number n is the first that offends: the words before it can be continued to a command
 -- line, and with it they can't, or it is the one that lacks.
 pub record OffendsFirst (rest : Words) (n : ℕ) : Type 0 where
   pub within : n ≤ length rest + 1
   pub before : IsBegun (take (n - 1) rest)
-  pub with : (o : RepairOptions) → IsAccepted rest o → ⊥
+  pub with : (o : RepairWords) → IsAccepted rest o → ⊥
   pub after : n ≤ length rest → IsBegun (take n rest) → ⊥

@@ -1,9 +1,5 @@
-pub mod Backups
+pub mod Answers
 pub mod CommandLine
-pub mod Due
 pub mod Hexadecimal
 pub mod Labels
-pub mod Outcome
-pub mod Planning
-pub mod Plans
 pub mod Texts

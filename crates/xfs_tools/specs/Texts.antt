@@ -2,18 +2,20 @@
 use Rattle.std.specs.Prelude.{ℕ, Bool, true, false, if◌then◌else◌, codes, decimal, List, [], ◌∷◌, ◌++◌}
 use Rattle.std.specs.List.{flat_map}
 use Rattle.xfs_tools.specs.declared.answer.Answer.{Answer}
-use Rattle.xfs_tools.specs.declared.answer.Answer.TheVariants.{Usage, Unbuilt, NoGeometry, Unsupported, Clean, Damaged, Repaired, ReadFault, WriteFault, OutputFault, NoMemory}
-use Rattle.xfs_tools.specs.declared.answer.Summary.{Summary}
-use Rattle.xfs_tools.specs.declared.answer.Summary.TheVariants.{Backups, Rebuilt}
-use Rattle.xfs_tools.specs.declared.answer.Finding.{Finding}
-use Rattle.xfs_tools.specs.declared.answer.Finding.TheVariants.{Part}
+use Rattle.xfs_tools.specs.declared.answer.Answer.TheVariants.{Usage, Unbuilt, NoGeometry, Unsupported, DirtyLog, TooLarge, UnsupportedFile, Clean, Damaged, Repaired, ReadFault, WriteFault, OutputFault, NoMemory}
+use Rattle.xfs_mend.specs.declared.outcome.Summary.{Summary}
+use Rattle.xfs_mend.specs.declared.outcome.Summary.TheVariants.{Backups, Rebuilt}
+use Rattle.xfs_image.specs.declared.findings.Finding.{Finding}
+use Rattle.xfs_image.specs.declared.findings.Finding.TheVariants as Found
+use Rattle.xfs_volume.specs.declared.findings.Law.{Law}
 use Rattle.xfs_tools.specs.declared.texts.Number.{Number}
-use Rattle.xfs_tools.specs.declared.texts.Number.TheVariants.{Decimal, Hexadecimal}
+use Rattle.xfs_tools.specs.declared.texts.Number.TheVariants.{Decimal, Large, Hexadecimal}
 use Rattle.xfs_tools.specs.Hexadecimal.{hexadecimal}
 
 -- a number as text, in its base
 abbrev pub number_text : Number → List ℕ
 number_text (Decimal n) = decimal n
+number_text (Large n) = decimal n
 number_text (Hexadecimal n) = hexadecimal n
 
 -- numbers with a label before each, one after the other
@@ -30,9 +32,15 @@ summary_text (Backups count) = line ((codes "repaired: backups=", Decimal count)
 summary_text (Rebuilt blocks kept cleared orphans) =
     line ((codes "repaired: blocks=", Decimal blocks) ∷ (codes " kept=", Decimal kept) ∷ (codes " cleared=", Decimal cleared) ∷ (codes " orphans=", Decimal orphans) ∷ []) (codes "\n")
 
+-- the line of a broken law
+abbrev pub law_text : Law → List ℕ
+law_text law =
+    line ((codes "damaged: law ", Decimal law.law) ∷ (codes " at ", Decimal law.place) ∷ (codes ", held ", Large law.held) ∷ (codes ", due ", Large law.due) ∷ []) (codes "\n")
+
 -- the line of a finding
 abbrev pub finding_text : Finding → List ℕ
-finding_text (Part part place) = line ((codes "damaged: part ", Decimal part) ∷ (codes " at ", Decimal place) ∷ []) (codes "\n")
+finding_text (Found.Law law) = law_text law
+finding_text (Found.Part part place) = line ((codes "damaged: part ", Decimal part) ∷ (codes " at ", Decimal place) ∷ []) (codes "\n")
 
 -- the line of an answer
 abbrev pub text_of : Answer → List ℕ
@@ -40,6 +48,9 @@ text_of (Usage word) = line ((codes "xfs: usage: word ", Decimal word) ∷ []) (
 text_of (Unbuilt request) = line ((codes "xfs: unbuilt: ", Decimal request) ∷ []) (codes "\n")
 text_of (Unsupported word bits) = line ((codes "xfs: unsupported: word ", Decimal word) ∷ (codes " bits 0x", Hexadecimal bits) ∷ []) (codes "\n")
 text_of (Damaged finding) = finding_text finding
+text_of DirtyLog = line [] (codes "xfs: dirty log\n")
+text_of (TooLarge what count) = line ((codes "xfs: too large: ", Decimal what) ∷ (codes " count ", Decimal count) ∷ []) (codes "\n")
+text_of (UnsupportedFile ino what) = line ((codes "xfs: unsupported: inode ", Decimal ino) ∷ (codes " feature ", Decimal what) ∷ []) (codes "\n")
 text_of NoGeometry = line [] (codes "xfs: no geometry\n")
 text_of Clean = line [] (codes "clean\n")
 text_of (Repaired summary) = summary_text summary
@@ -59,4 +70,5 @@ is_for_out answer = false
 abbrev pub code_of : Bool → Answer → ℕ
 code_of tells Clean = 0
 code_of tells (Repaired summary) = if tells then 4 else 0
+code_of tells DirtyLog = 2
 code_of tells answer = 1

@@ -1,5 +1,8 @@
 //! What the tools answer.
 
+use xfs_image::Finding;
+use xfs_mend::{Outcome, Summary};
+
 /// The answer of a call.
 #[derive(Clone, Copy, Debug, PartialEq, Eq)]
 pub enum Answer {
@@ -13,7 +16,13 @@ pub enum Answer {
     /// The primary superblock has a feature word that is refused: its number, and the bits by which it
     /// departs from the profile.
     Unsupported { word: u8, bits: u64 },
-    /// Nothing is to be repaired.
+    /// The log is not clean, and was not to be dropped.
+    DirtyLog,
+    /// There is more than the tools take: `what` is 1 for inodes, 2 for extents, 3 for entries; `count` is how many there are.
+    TooLarge { what: u8, count: u64 },
+    /// An inode has a feature that is not supported. It is the least such.
+    UnsupportedFile { ino: u64, what: u8 },
+    /// The volume is consistent.
     Clean,
     /// The volume is not consistent, and was only checked.
     Damaged(Finding),
@@ -29,30 +38,6 @@ pub enum Answer {
     NoMemory,
 }
 
-/// What is wrong with a volume.
-#[derive(Clone, Copy, Debug, PartialEq, Eq)]
-pub enum Finding {
-    /// A part of the volume is not right: part 0 is the primary superblock, at place 0; part 10 is a
-    /// backup superblock, at its allocation group.
-    Part { part: u8, place: u64 },
-}
-
-/// What a repair did.
-#[derive(Clone, Copy, Debug, PartialEq, Eq)]
-pub enum Summary {
-    /// So many backup superblocks were written anew.
-    Backups {
-        count: u64,
-    },
-    /// The volume was rebuilt: blocks written, inodes kept, slots cleared, inodes put into lost+found.
-    Rebuilt {
-        blocks: u64,
-        kept: u64,
-        cleared: u64,
-        orphans: u64,
-    },
-}
-
 /// How a call ended.
 #[derive(Clone, Copy, Debug, PartialEq, Eq)]
 pub struct Status {
@@ -64,6 +49,7 @@ pub struct Status {
 }
 
 impl Answer {
+    ghost use Rattle.xfs_tools.specs.Answers.{answer_of};
     ghost use Rattle.std.specs.Prelude.{◌≡◌};
     ghost use Rattle.xfs_tools.specs.Texts.{code_of, is_for_out};
 
@@ -74,6 +60,7 @@ impl Answer {
         match self {
             Answer::Clean => 0,
             Answer::Repaired(_) => { if tells_repair { 4 } else { 0 } }
+            Answer::DirtyLog => 2,
             _ => 1,
         }
     }
@@ -87,17 +74,24 @@ impl Answer {
             Answer::Clean | Answer::Damaged(_) | Answer::Repaired(_)
         )
     }
-}
 
-impl Finding {
-    ghost use Rattle.std.specs.Prelude.{◌≡◌};
-    ghost use Rattle.xfs_tools.specs.declared.answer.Finding.TheVariants.{Part};
-
-    /// The number of the part and its place.
-    pub fn part_and_place(self) -> (u8, u64)
-        ensures { self ≡ Part result.0 result.1 }
+    /// The answer that an outcome of a repair is.
+    pub fn of_outcome(outcome: Outcome) -> Answer
+        ensures { result ≡ answer_of outcome }
     {
-        let Finding::Part { part, place } = self;
-        (part, place)
+        match outcome {
+            Outcome::NoGeometry => Answer::NoGeometry,
+            Outcome::Unsupported { word, bits } => Answer::Unsupported { word, bits },
+            Outcome::DirtyLog => Answer::DirtyLog,
+            Outcome::TooLarge { what, count } => Answer::TooLarge { what, count },
+            Outcome::UnsupportedFile { ino, what } => Answer::UnsupportedFile { ino, what },
+            Outcome::Clean => Answer::Clean,
+            Outcome::Damaged(finding) => Answer::Damaged(finding),
+            Outcome::Repaired(summary) => Answer::Repaired(summary),
+            Outcome::Unbuilt { request } => Answer::Unbuilt { request },
+            Outcome::ReadFault { faults } => Answer::ReadFault { faults },
+            Outcome::WriteFault { written } => Answer::WriteFault { written },
+            Outcome::NoMemory => Answer::NoMemory,
+        }
     }
 }

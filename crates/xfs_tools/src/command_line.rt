@@ -1,15 +1,27 @@
 //! The words of a command line.
 
-ghost use Rattle.std.specs.Prelude.{◌≡◌, ℕ, Option, Some, None, Result, Err, IfErr, IsTrue, List, ◌∷◌, codes, length};
-ghost use Rattle.xfs_tools.specs.CommandLine.{after_letter_w, after_letters, after_option, after_word, after_workers, after_words, judged, OffendsFirst, Words, no_options, reading_of, settled, workers_of};
-ghost use Rattle.xfs_tools.specs.Outcome.{IsRefusal};
+ghost use Rattle.std.specs.Prelude.{◌≡◌, ℕ, Option, Some, None, IsTrue, List, ◌∷◌, codes, length};
+ghost use Rattle.xfs_tools.specs.CommandLine.{after_letter_w, after_letters, after_option, after_word, after_workers, after_words, judged, options_of, OffendsFirst, Words, no_options, reading_of, settled, workers_of};
 
-use crate::answer::Answer;
 use xfs_disk::Word;
+use xfs_mend::RepairOptions;
+
+/// What the words of a command line ask for.
+#[derive(Clone, Copy, Debug, PartialEq, Eq)]
+pub enum Call {
+    /// `xfs_repair`.
+    Repair(RepairWords),
+    /// `mkfs.xfs`.
+    Make,
+    /// `xfs_db`.
+    Debug,
+    /// Nothing: the words are not those of a tool. `word` is the first offending one, or the number of words where one lacks.
+    Refused { word: usize },
+}
 
 /// What the options of `xfs_repair` say.
 #[derive(Clone, Copy, Debug, PartialEq, Eq)]
-pub struct RepairOptions {
+pub struct RepairWords {
     /// Checks only, and writes nothing (`-n`).
     pub check: bool,
     /// Blanks a log that is not clean (`-L`).
@@ -24,45 +36,42 @@ pub struct RepairOptions {
 #[derive(Clone, Copy, Debug)]
 enum Reading {
     /// An option or the image may follow.
-    Options(RepairOptions),
+    Options(RepairWords),
     /// The value of `-w` is to follow.
-    Workers(RepairOptions),
+    Workers(RepairWords),
     /// The image is to follow.
-    Image(RepairOptions),
+    Image(RepairWords),
     /// Nothing may follow.
-    Complete(RepairOptions),
+    Complete(RepairWords),
     /// The word of this number offends.
     Offended(usize),
 }
 
-/// What the words say: the options of a repair, or the answer that they get. The number that a usage
-/// answer tells is that of the first word that offends.
-pub fn judge(words: &[Word]) -> Result<RepairOptions, Answer>
+/// What the words ask for. The number of a refusal is that of the first word that offends.
+pub fn judge(words: &[Word]) -> Call
     ensures judged { result ≡ judged words.now }
-    ensures refusal { IfErr result IsRefusal }
-    ensures offending { (rest : Words) (n : ℕ) → words.now ≡ codes "xfs_repair" ∷ rest → result ≡ Err (Answer.Usage n) → OffendsFirst rest n }
+    ensures offending { (rest : Words) (n : ℕ) → words.now ≡ codes "xfs_repair" ∷ rest → result ≡ Call.Refused n → OffendsFirst rest n }
 {
     settle_words(words)
 }
 
-/// What the words say, by the tool that the first of them names.
+/// What the words ask for, by the tool that the first of them names.
 #[tactic(auto, unfolding(crate::specs::CommandLine::judged))]
-fn settle_words(words: &[Word]) -> Result<RepairOptions, Answer>
-    ensures judged { result ≡ judged words.now }
-    ensures refusal { IfErr result IsRefusal }
+fn settle_words(words: &[Word]) -> Call
+    ensures { result ≡ judged words.now }
 {
     let [tool, rest @ ..] = words else {
-        return Err(Answer::Usage { word: 0 });
+        return Call::Refused { word: 0 };
     };
     let tool = tool.bytes();
     if tool == b"xfs_repair".as_slice() {
         read_all(rest).settle(words.len())
     } else if tool == b"mkfs.xfs".as_slice() {
-        Err(Answer::Unbuilt { request: 6 })
+        Call::Make
     } else if tool == b"xfs_db".as_slice() {
-        Err(Answer::Unbuilt { request: 11 })
+        Call::Debug
     } else {
-        Err(Answer::Usage { word: 0 })
+        Call::Refused { word: 0 }
     }
 }
 
@@ -70,7 +79,7 @@ fn settle_words(words: &[Word]) -> Result<RepairOptions, Answer>
 fn read_all(rest: &[Word]) -> Reading
     ensures { result ≡ reading_of rest.now }
 {
-    let mut reading = Reading::Options(RepairOptions {
+    let mut reading = Reading::Options(RepairWords {
         check: false,
         drop_log: false,
         tells_repair: false,
@@ -96,22 +105,32 @@ impl Reading {
         }
     }
 
-    /// The options, or the number of the first word that offends: that of all words where one lacks.
-    fn settle(self, count: usize) -> Result<RepairOptions, Answer>
-        ensures settled { result ≡ settled count self }
-        ensures refusal { IfErr result IsRefusal }
+    /// A repair, or the number of the first word that offends: that of all words where one lacks.
+    fn settle(self, count: usize) -> Call
+        ensures { result ≡ settled count self }
     {
         match self {
-            Reading::Complete(options) => Ok(options),
-            Reading::Offended(word) => Err(Answer::Usage { word }),
-            Reading::Options(_) | Reading::Workers(_) | Reading::Image(_) => Err(Answer::Usage {
+            Reading::Complete(options) => Call::Repair(options),
+            Reading::Offended(word) => Call::Refused { word },
+            Reading::Options(_) | Reading::Workers(_) | Reading::Image(_) => Call::Refused {
                 word: count,
-            }),
+            },
         }
     }
 }
 
-impl RepairOptions {
+impl RepairWords {
+    /// What the repair is asked for.
+    pub fn options(&self) -> RepairOptions
+        ensures { result ≡ options_of self.now }
+    {
+        RepairOptions {
+            check: self.check,
+            drop_log: self.drop_log,
+            workers: self.workers,
+        }
+    }
+
     /// What is read after a word where an option or the image may stand.
     fn after_option(self, at: usize, word: &[u8]) -> Reading
         ensures { result ≡ after_option at word.now self }
@@ -158,7 +177,7 @@ impl RepairOptions {
         ensures { result ≡ after_workers at (workers_of value.now) self }
     {
         match workers_of(value) {
-            Some(workers) => Reading::Options(RepairOptions { workers, ..self }),
+            Some(workers) => Reading::Options(RepairWords { workers, ..self }),
             None => Reading::Offended(at),
         }
     }

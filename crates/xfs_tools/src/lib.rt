@@ -2,16 +2,12 @@
 #![tactic(auto)]
 
 mod answer;
-mod backups;
 mod command_line;
 mod hexadecimal;
-mod plan;
-mod repair;
 #[cfg(test)]
 mod tests;
 mod texts;
 mod top;
 
-pub use answer::{Answer, Finding, Status, Summary};
-pub use command_line::RepairOptions;
+pub use answer::{Answer, Status};
 pub use top::run;

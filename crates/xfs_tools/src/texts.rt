@@ -2,18 +2,22 @@
 
 ghost use Rattle.std.specs.Prelude.{◌≡◌, ℕ, ◌++◌, length, map};
 ghost use Rattle.xfs_tools.specs.Labels.{label_of};
-ghost use Rattle.xfs_tools.specs.Outcome.{Puts};
-ghost use Rattle.xfs_tools.specs.Texts.{finding_text, line, number_text, summary_text, text_of};
+ghost use Rattle.xfs_tools.specs.Answers.{Puts};
+ghost use Rattle.xfs_tools.specs.Texts.{finding_text, law_text, line, number_text, summary_text, text_of};
 
-use crate::answer::{Answer, Finding, Summary};
+use crate::answer::Answer;
 use crate::hexadecimal::{MOST_DIGITS, write_hexadecimal};
 use itoa::Buffer;
 use xfs_disk::{Failed, Sink};
+use xfs_image::Finding;
+use xfs_mend::Summary;
+use xfs_volume::Law;
 
 /// A number, by the base in which it is put.
 #[derive(Clone, Copy, Debug)]
 enum Number {
     Decimal(u64),
+    Large(u128),
     Hexadecimal(u64),
 }
 
@@ -34,6 +38,9 @@ pub fn put_answer<S: Sink>(sink: &mut S, answer: Answer) -> Result<(), Failed>
         ),
         Answer::NoGeometry => put_line(sink, &[], "xfs: no geometry\n"),
         Answer::Unsupported { word, bits } => put_unsupported(sink, word, bits),
+        Answer::DirtyLog => put_line(sink, &[], "xfs: dirty log\n"),
+        Answer::TooLarge { what, count } => put_too_large(sink, what, count),
+        Answer::UnsupportedFile { ino, what } => put_unsupported_file(sink, ino, what),
         Answer::Clean => put_line(sink, &[], "clean\n"),
         Answer::Damaged(finding) => put_finding(sink, finding),
         Answer::Repaired(summary) => put_summary(sink, summary),
@@ -63,14 +70,58 @@ fn put_unsupported<S: Sink>(sink: &mut S, word: u8, bits: u64) -> Result<(), Fai
     put_line(sink, &numbers, "\n")
 }
 
+/// Puts the line of a volume that is too large.
+fn put_too_large<S: Sink>(sink: &mut S, what: u8, count: u64) -> Result<(), Failed>
+    ensures { Puts (S.took sink.old) (S.took sink.new) (S.faults sink.old) (S.faults sink.new) (text_of (Answer.TooLarge what count)) result }
+{
+    let numbers = [
+        ("xfs: too large: ", Number::Decimal(what as u64)),
+        (" count ", Number::Decimal(count)),
+    ];
+    put_line(sink, &numbers, "\n")
+}
+
+/// Puts the line of a file that is not supported.
+fn put_unsupported_file<S: Sink>(sink: &mut S, ino: u64, what: u8) -> Result<(), Failed>
+    ensures { Puts (S.took sink.old) (S.took sink.new) (S.faults sink.old) (S.faults sink.new) (text_of (Answer.UnsupportedFile ino what)) result }
+{
+    let numbers = [
+        ("xfs: unsupported: inode ", Number::Decimal(ino)),
+        (" feature ", Number::Decimal(what as u64)),
+    ];
+    put_line(sink, &numbers, "\n")
+}
+
 /// Puts the line of a finding.
 fn put_finding<S: Sink>(sink: &mut S, finding: Finding) -> Result<(), Failed>
     ensures { Puts (S.took sink.old) (S.took sink.new) (S.faults sink.old) (S.faults sink.new) (finding_text finding) result }
 {
-    let (part, place) = finding.part_and_place();
+    match finding {
+        Finding::Part { part, place } => put_part(sink, part, place),
+        Finding::Law(law) => put_law(sink, &law),
+    }
+}
+
+/// Puts the line of a part that is not right.
+fn put_part<S: Sink>(sink: &mut S, part: u8, place: u64) -> Result<(), Failed>
+    ensures { Puts (S.took sink.old) (S.took sink.new) (S.faults sink.old) (S.faults sink.new) (finding_text (Finding.Part part place)) result }
+{
     let numbers = [
         ("damaged: part ", Number::Decimal(part as u64)),
         (" at ", Number::Decimal(place)),
+    ];
+    put_line(sink, &numbers, "\n")
+}
+
+/// Puts the line of a broken law.
+fn put_law<S: Sink>(sink: &mut S, law: &Law) -> Result<(), Failed>
+    ensures { Puts (S.took sink.old) (S.took sink.new) (S.faults sink.old) (S.faults sink.new) (law_text law.now) result }
+{
+    let numbers = [
+        ("damaged: law ", Number::Decimal(law.law as u64)),
+        (" at ", Number::Decimal(law.place)),
+        (", held ", Number::Large(law.held)),
+        (", due ", Number::Large(law.due)),
     ];
     put_line(sink, &numbers, "\n")
 }
@@ -133,6 +184,7 @@ fn put_number<S: Sink>(sink: &mut S, number: Number) -> Result<(), Failed>
 {
     match number {
         Number::Decimal(number) => put_text(sink, Buffer::new().format(number)),
+        Number::Large(number) => put_text(sink, Buffer::new().format(number)),
         Number::Hexadecimal(number) => {
             let mut digits = [0; MOST_DIGITS];
             let start = write_hexadecimal(&mut digits, number);

@@ -1,24 +1,24 @@
 //! The top call: a command line and an image in, an answer, its line and an exit status out.
 
-ghost use Rattle.std.specs.Prelude.{◌≡◌, ℕ, ◌≤◌, Result, IfErr};
+ghost use Rattle.std.specs.Prelude.{◌≡◌, ◌≤◌, Result};
 ghost use Rattle.std.specs.Option.{ForSome};
 ghost use Rattle.xfs_disk.specs.declared.failed.Failed.{Failed};
-ghost use Rattle.xfs_tools.specs.Due.{due, due_judged, tells_judged, tells_repair};
-ghost use Rattle.xfs_tools.specs.Outcome.{IsCaused, IsDue, IsKept, IsRefusal, IsTold, Leaves, status_of};
+ghost use Rattle.xfs_tools.specs.CommandLine.{judged, tells_in, tells_repair};
+ghost use Rattle.xfs_tools.specs.Answers.{IsCaused, IsDue, IsKept, IsTold, Leaves, status_of};
 ghost use Rattle.xfs_tools.specs.declared.answer.Answer.{Answer};
 
 use crate::answer::{Answer, Status};
-use crate::command_line::{RepairOptions, judge};
-use crate::repair::repair;
+use crate::command_line::{Call, judge};
 use crate::texts::put_answer;
 use std::alloc::Global;
 use std::thread::Threads;
 use xfs_disk::{Disk, Failed, Gate, Library, Sink, Source, Stamp, Word};
+use xfs_mend::repair;
 
 /// Does what the words of a command line say to the disk, and puts the answer's line: to `out` where
-/// the volume is clean or repaired, else to `err`.
+/// the volume is clean, damaged or repaired, else to `err`.
 pub fn run<R: Threads + Sync, D: Disk, L: Library, S: Source, O: Sink, E: Sink, G: Gate>(
-    _rt: &R,
+    rt: &R,
     alloc: Global,
     words: &[Word],
     disk: &mut D,
@@ -26,11 +26,11 @@ pub fn run<R: Threads + Sync, D: Disk, L: Library, S: Source, O: Sink, E: Sink, 
     input: &mut S,
     out: &mut O,
     err: &mut E,
-    _stamp: &Stamp,
-    _gate: &G,
+    stamp: &Stamp,
+    gate: &G,
 ) -> Status
     ensures answer { (answer : Answer) × (put : Result (Unit {0}) Failed)
-        × ForSome (D.holds disk.old) (λ image. IsDue (due words.now image) answer)
+        × ForSome (D.holds disk.old) (λ image. IsDue (judged words.now) image answer)
         × IsCaused (D.faults disk.old) (D.faults disk.new) (D.write_faults disk.old) (D.write_faults disk.new) answer
         × ForSome (D.holds disk.old) (λ image. Leaves image (D.holds disk.new) answer)
         × IsKept (D.tells_stops disk.old) (D.holds disk.new) (D.may_leave disk.new) answer
@@ -42,11 +42,11 @@ pub fn run<R: Threads + Sync, D: Disk, L: Library, S: Source, O: Sink, E: Sink, 
     ensures files { files.new ≡ files.old }
     ensures input { input.new ≡ input.old }
 {
-    let judged = judge(words);
-    let answer = answer_to(alloc, judged, disk);
+    let call = judge(words);
+    let answer = answer_to(rt, alloc, &call, disk, stamp, gate);
     match tell(out, err, answer) {
         Ok(()) => Status {
-            code: answer.code(tells_repair(judged)),
+            code: answer.code(tells_repair(&call)),
             answer,
             finished: 0,
         },
@@ -58,10 +58,16 @@ pub fn run<R: Threads + Sync, D: Disk, L: Library, S: Source, O: Sink, E: Sink, 
     }
 }
 
-/// The answer to the judged words: their refusal, or what the repair answers.
-fn answer_to<D: Disk>(alloc: Global, judged: Result<RepairOptions, Answer>, disk: &mut D) -> Answer
-    requires { IfErr judged IsRefusal }
-    ensures due { ForSome (D.holds disk.old) (λ image. IsDue (due_judged judged image) result) }
+/// The answer to what the words ask for.
+fn answer_to<R: Threads + Sync, D: Disk, G: Gate>(
+    rt: &R,
+    alloc: Global,
+    call: &Call,
+    disk: &mut D,
+    stamp: &Stamp,
+    gate: &G,
+) -> Answer
+    ensures due { ForSome (D.holds disk.old) (λ image. IsDue call.now image result) }
     ensures cause { IsCaused (D.faults disk.old) (D.faults disk.new) (D.write_faults disk.old) (D.write_faults disk.new) result }
     ensures leaves { ForSome (D.holds disk.old) (λ image. Leaves image (D.holds disk.new) result) }
     ensures kept { IsKept (D.tells_stops disk.old) (D.holds disk.new) (D.may_leave disk.new) result }
@@ -69,19 +75,23 @@ fn answer_to<D: Disk>(alloc: Global, judged: Result<RepairOptions, Answer>, disk
     ensures faults { D.faults disk.old ≤ D.faults disk.new }
     ensures write_faults { D.write_faults disk.old ≤ D.write_faults disk.new }
 {
-    match judged {
-        Err(refusal) => refusal,
-        Ok(options) => repair(alloc, disk, &options),
+    match call {
+        Call::Repair(words) => {
+            Answer::of_outcome(repair(rt, alloc, disk, &words.options(), stamp, gate))
+        }
+        Call::Make => Answer::Unbuilt { request: 6 },
+        Call::Debug => Answer::Unbuilt { request: 11 },
+        Call::Refused { word } => Answer::Usage { word: *word },
     }
 }
 
 /// Whether the words ask that a repair end with a status of its own.
-fn tells_repair(judged: Result<RepairOptions, Answer>) -> bool
-    ensures { result ≡ tells_judged judged }
+fn tells_repair(call: &Call) -> bool
+    ensures { result ≡ tells_in call.now }
 {
-    match judged {
-        Err(_) => false,
-        Ok(options) => options.tells_repair,
+    match call {
+        Call::Repair(words) => words.tells_repair,
+        Call::Make | Call::Debug | Call::Refused { .. } => false,
     }
 }
 

@@ -24,5 +24,14 @@ returns-in-NoMemory g c = puts_as _ _ _ _ _ _ _ (ap text_of c.in-NoMemory.is) c.
 pub returns-in-Unsupported : goal.returns-in-Unsupported
 returns-in-Unsupported g c = puts_as _ _ _ _ _ _ _ (ap text_of c.in-Unsupported.is) c.put_unsupported.ensures
 
+pub returns-in-TooLarge : goal.returns-in-TooLarge
+returns-in-TooLarge g c = puts_as _ _ _ _ _ _ _ (ap text_of c.in-TooLarge.is) c.put_too_large.ensures
+
+pub returns-in-UnsupportedFile : goal.returns-in-UnsupportedFile
+returns-in-UnsupportedFile g c = puts_as _ _ _ _ _ _ _ (ap text_of c.in-UnsupportedFile.is) c.put_unsupported_file.ensures
+
+pub returns-in-DirtyLog : goal.returns-in-DirtyLog
+returns-in-DirtyLog g c = puts_as _ _ _ _ _ _ _ (ap text_of c.in-DirtyLog.is) c.put_line-in-DirtyLog.ensures
+
 pub returns-in-Damaged : goal.returns-in-Damaged
 returns-in-Damaged g c = puts_as _ _ _ _ _ _ _ (ap text_of c.in-Damaged.is) c.put_finding.ensures

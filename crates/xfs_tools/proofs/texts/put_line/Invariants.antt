@@ -1,6 +1,6 @@
 use Rattle.std.proofs.Common.{map, take, Ok}
 use Rattle.xfs_tools.specs.Labels.{label_of}
-use Rattle.xfs_tools.specs.Outcome.{Puts}
+use Rattle.xfs_tools.specs.Answers.{Puts}
 use Rattle.xfs_tools.specs.Texts.{labelled}
 use Rattle.xfs_tools.proofs.texts.put_line.Given as goal
 

@@ -1,0 +1,114 @@
+-- What the calls of a repair have told of the image.
+use Rattle.std.proofs.Common.{◌≡◌, ℕ, ◌-◌, ◌*◌, ◌<◌, ◌≤◌, List, length, Option, Some, Ok, sym, ap, ◌∙◌, subst, arith}
+use Rattle.xfs_disk.specs.Blocks.{Image}
+use Rattle.xfs_geom.proofs.Bounds.{group_start}
+use Rattle.xfs_geom.specs.Volumes.{Volume, volume_of, stated_volume}
+use Rattle.xfs_geom.specs.declared.geometry.Geometry.{Geometry}
+use Rattle.xfs_geom.specs.Election.{Vote, block_of, elected, super_of}
+use Rattle.xfs_mend.proofs.Electing.{IsPrimary, is_primary}
+use Rattle.xfs_mend.proofs.Repaired.{IsAccepted, is_repaired}
+use Rattle.xfs_mend.specs.Backups.{start_of, steps_from, backup_plan}
+use Rattle.xfs_mend.specs.Due.{IsOwed, first_disagreeing}
+use Rattle.xfs_mend.specs.Outcome.{IsCaused, IsKept, Leaves, Writes}
+use Rattle.xfs_mend.specs.Plans.{Plan, IsPartly, written}
+use Rattle.xfs_mend.specs.declared.outcome.Outcome.{Outcome}
+use Rattle.xfs_mend.specs.declared.outcome.Outcome.TheVariants.{NoGeometry, Unsupported, DirtyLog, TooLarge, UnsupportedFile, Clean, Damaged, Repaired, Unbuilt, ReadFault, WriteFault, NoMemory}
+
+-- each group of an accepted geometry begins inside the image
+starts_inside : (primary : List ℕ) (n : ℕ) (g : Geometry) → volume_of g ≡ stated_volume primary → g.dblocks ≤ n
+    → (k : ℕ) → k < (stated_volume primary).agcount → start_of primary k < n
+unfolding start_of
+starts_inside primary n g stated inside k within =
+    let size : g.agblocks ≡ (stated_volume primary).agblocks = ap (λ (v : Volume). v.agblocks) stated in
+    let count : g.agcount ≡ (stated_volume primary).agcount = ap (λ (v : Volume). v.agcount) stated in
+    let begins : k * g.agblocks < g.dblocks =
+    group_start k g.agcount g.agblocks g.dblocks (subst (λ (n : ℕ). k < n) (sym count) within) g.shape.groups.last in
+    subst (λ (w : ℕ). k * w < n) size (omega arith)
+
+-- an accepted primary superblock that was elected
+pub accepted : (image : Image) (v : Vote) (g : Geometry) → elected image ≡ Ok v → v.place ≡ 0 → length v.sector ≡ 512
+    → volume_of g ≡ stated_volume v.sector → g.dblocks ≤ length image → IsAccepted image
+accepted image v g elects from sector stated inside =
+    let primary : IsPrimary image v = is_primary image v elects from in
+    let same : v.sector ≡ super_of (block_of image 0) = primary.sector in
+    let large : 0 < (stated_volume v.sector).agblocks =
+    subst (λ (w : Volume). 0 < w.agblocks) stated (omega (arith, g.shape.groups.large)) in
+    record {
+      some = primary.some;
+      sector = subst (λ (p : List ℕ). length p ≡ 512) same sector;
+      accepted = primary.accepted;
+      groups = subst (λ (p : List ℕ). 0 < (stated_volume p).agblocks) same large;
+      inside =
+          subst (λ (p : List ℕ). (k : ℕ) → k < (stated_volume p).agcount → start_of p k < length image) same
+          (starts_inside v.sector (length image) g stated inside);
+    }
+
+-- the steps of the elected superblock are the image's plan
+pub plan_elected : (image : Image) (v : Vote) (g : Geometry) → elected image ≡ Ok v → v.place ≡ 0 → volume_of g ≡ stated_volume v.sector
+    → steps_from v.sector image 1 (g.agcount - 1) ≡ backup_plan image
+plan_elected image v g elects from stated =
+    let same : v.sector ≡ super_of (block_of image 0) = (is_primary image v elects from).sector in
+    let count : g.agcount ≡ (stated_volume v.sector).agcount = ap (λ (w : Volume). w.agcount) stated in
+    ap (λ (n : ℕ). steps_from v.sector image 1 (n - 1)) count
+    ∙ ap (λ (p : List ℕ). steps_from p image 1 ((stated_volume p).agcount - 1)) same
+
+-- the first backup that disagrees with the elected superblock is the image's
+pub first_elected : (image : Image) (v : Vote) (g : Geometry) → elected image ≡ Ok v → v.place ≡ 0 → volume_of g ≡ stated_volume v.sector
+    → first_disagreeing v.sector image 1 (g.agcount - 1) ≡ first_disagreeing (super_of (block_of image 0)) image 1 ((stated_volume (super_of (block_of image 0))).agcount - 1)
+first_elected image v g elects from stated =
+    let same : v.sector ≡ super_of (block_of image 0) = (is_primary image v elects from).sector in
+    let count : g.agcount ≡ (stated_volume v.sector).agcount = ap (λ (w : Volume). w.agcount) stated in
+    ap (λ (n : ℕ). first_disagreeing v.sector image 1 (n - 1)) count
+    ∙ ap (λ (p : List ℕ). first_disagreeing p image 1 ((stated_volume p).agcount - 1)) same
+
+-- what an outcome of the image's plan leaves
+pub written_leaves : (image : Image) (now : Option Image) (plan : Plan) (a : Outcome) → IsAccepted image → plan ≡ backup_plan image
+    → Writes plan image now a → Leaves image now a
+written_leaves image now plan (Repaired summary) known same writes =
+    is_repaired image now known (writes ∙ ap (λ (p : Plan). Some (written p image)) same)
+written_leaves image now plan (WriteFault blocks) known same writes = subst (λ (p : Plan). IsPartly p image blocks now) same writes
+written_leaves image now plan NoGeometry known same writes = writes
+written_leaves image now plan (Unsupported word bits) known same writes = writes
+written_leaves image now plan DirtyLog known same writes = writes
+written_leaves image now plan (TooLarge what count) known same writes = writes
+written_leaves image now plan (UnsupportedFile ino what) known same writes = writes
+written_leaves image now plan Clean known same writes = writes
+written_leaves image now plan (Damaged finding) known same writes = writes
+written_leaves image now plan (Unbuilt request) known same writes = writes
+written_leaves image now plan (ReadFault faults) known same writes = writes
+written_leaves image now plan NoMemory known same writes = writes
+
+-- what is kept by a disk that tells its stops
+pub kept_before : (before after : Type 0) (now : Option Image) (may_leave : ℕ → List ℕ → Type 0) (a : Outcome) → (before → after)
+    → IsKept after now may_leave a → IsKept before now may_leave a
+kept_before before after now may_leave (Repaired summary) tells kept = λ told. kept (tells told)
+kept_before before after now may_leave (WriteFault blocks) tells kept = kept
+kept_before before after now may_leave NoGeometry tells kept = kept
+kept_before before after now may_leave (Unsupported word bits) tells kept = kept
+kept_before before after now may_leave DirtyLog tells kept = kept
+kept_before before after now may_leave (TooLarge what count) tells kept = kept
+kept_before before after now may_leave (UnsupportedFile ino what) tells kept = kept
+kept_before before after now may_leave Clean tells kept = kept
+kept_before before after now may_leave (Damaged finding) tells kept = kept
+kept_before before after now may_leave (Unbuilt request) tells kept = kept
+kept_before before after now may_leave (ReadFault faults) tells kept = kept
+kept_before before after now may_leave NoMemory tells kept = kept
+
+-- what is owed where a repair by these steps is, is owed where it is by the plan
+pub owed_as : (due other outcome : Outcome) → due ≡ other → IsOwed due outcome → IsOwed other outcome
+owed_as due other outcome same owed = subst (λ (d : Outcome). IsOwed d outcome) same owed
+
+-- the causes that are seen from an earlier count on
+pub caused_before : (earlier before now w0 w1 w2 : ℕ) (a : Outcome) → earlier ≤ before → w0 ≤ w1 → IsCaused before now w1 w2 a → IsCaused earlier now w0 w2 a
+caused_before earlier before now w0 w1 w2 (ReadFault faults) up more ((le, rose), told) = ((omega (arith, up, le), omega (arith, up, le, rose)), told)
+caused_before earlier before now w0 w1 w2 (WriteFault blocks) up more (le, rose) = (omega (arith, more, le), omega (arith, more, le, rose))
+caused_before earlier before now w0 w1 w2 (Repaired summary) up more cause = cause
+caused_before earlier before now w0 w1 w2 NoGeometry up more cause = cause
+caused_before earlier before now w0 w1 w2 (Unsupported word bits) up more cause = cause
+caused_before earlier before now w0 w1 w2 DirtyLog up more cause = cause
+caused_before earlier before now w0 w1 w2 (TooLarge what count) up more cause = cause
+caused_before earlier before now w0 w1 w2 (UnsupportedFile ino what) up more cause = cause
+caused_before earlier before now w0 w1 w2 Clean up more cause = cause
+caused_before earlier before now w0 w1 w2 (Damaged finding) up more cause = cause
+caused_before earlier before now w0 w1 w2 (Unbuilt request) up more cause = cause
+caused_before earlier before now w0 w1 w2 NoMemory up more cause = cause

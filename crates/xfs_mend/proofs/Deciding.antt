@@ -1,0 +1,169 @@
+-- What is decided of an image.
+use Rattle.std.proofs.Common.{◌≡◌, ◌≢◌, ℕ, ◌-◌, ◌*◌, ◌==◌, true, false, not, List, length, Option, Some, None, Result, Ok, Err, IfOk, refl, sym, ap, ◌∙◌, subst}
+use Rattle.std.proofs.lemmas.Bool.{and_from, eq-eqb, eqb-true}
+use Rattle.std.specs.List.{find, range_with_len}
+use Rattle.xfs_disk.specs.Blocks.{Image}
+use Rattle.xfs_geom.specs.Superblocks.{is_agreeing}
+use Rattle.xfs_geom.specs.Volumes.{Volume, stated_volume, volume_of}
+use Rattle.xfs_geom.specs.declared.election.ElectFault.{ElectFault}
+use Rattle.xfs_geom.specs.declared.election.ElectFault.TheVariants as fault
+use Rattle.xfs_geom.specs.declared.geometry.Geometry.{Geometry}
+use Rattle.xfs_geom.specs.Election.{Vote, choice, elected, same_volume}
+use Rattle.xfs_geom.proofs.Votes.{same_itself}
+use Rattle.xfs_volume.specs.declared.catalogs.Catalog.{Catalog}
+use Rattle.xfs_volume.specs.declared.findings.Law.{Law}
+use Rattle.xfs_laws.specs.Lawful.{broken_law}
+use Rattle.xfs_image.proofs.Backups.{only_backups}
+use Rattle.xfs_image.proofs.Consistent.{from_backup}
+use Rattle.xfs_image.specs.Consistent.{HasBackupFault, IsElected, backup_differs, backup_fault, backup_found, finding, is_from_primary, is_primary, law_found, view_found}
+use Rattle.xfs_image.specs.View.{view}
+use Rattle.xfs_image.specs.declared.findings.Finding.{Finding}
+use Rattle.xfs_image.specs.declared.findings.Finding.TheVariants as Found
+use Rattle.xfs_mend.proofs.Repaired.{first_sector}
+use Rattle.xfs_mend.specs.Backups.{backup_plan, start_of}
+use Rattle.xfs_mend.specs.Due.{IsAnswer, IsDue, IsOwed, disagrees, due_found, due_volume, first_disagreeing, is_backup, turned_away}
+use Rattle.xfs_mend.specs.Plans.{Plan}
+use Rattle.xfs_mend.specs.Refusing.{IsAdmission}
+use Rattle.xfs_mend.specs.declared.refusals.Admitted.{Admitted}
+use Rattle.xfs_mend.specs.declared.refusals.Admitted.TheVariants.{View}
+use Rattle.xfs_mend.specs.declared.outcome.Outcome.{Outcome}
+use Rattle.xfs_mend.specs.declared.outcome.Outcome.TheVariants.{NoGeometry, Unsupported, DirtyLog, TooLarge, UnsupportedFile, Clean, Damaged, Repaired, Unbuilt, ReadFault, WriteFault, NoMemory}
+use Rattle.xfs_mend.specs.declared.outcome.RepairOptions.{RepairOptions}
+use Rattle.xfs_mend.specs.declared.outcome.Summary.TheVariants.{Backups}
+
+-- what follows of a value that is there
+pub if_ok : {A E : Type 0} (r : Result A E) (P Q : A → Type 0) → ((a : A) → P a → Q a) → IfOk r P → IfOk r Q
+if_ok (Ok a) P Q step held = step a held
+if_ok (Err e) P Q step held = held
+
+-- what is elected states a volume that is a geometry's
+abbrev pub is_elected : (g : Geometry) (image : Image) (vote : Vote) → elected image ≡ Ok vote → volume_of g ≡ stated_volume vote.sector → IsElected (volume_of g) image
+is_elected g image vote elects stated =
+    record { vote = vote; due = elects; states = subst (λ (v : Volume). same_volume v (volume_of g) ≡ true) stated (same_itself (volume_of g)) }
+
+-- a group whose backup differs does so by either word
+same_test : (primary : List ℕ) (image : Image) (ag : ℕ) → disagrees primary image ag ≡ backup_differs (stated_volume primary) image ag
+unfolding start_of
+same_test primary image ag =
+    ap (λ (sector : List ℕ). not (is_agreeing (stated_volume primary) sector)) (sym (first_sector image (ag * (stated_volume primary).agblocks)))
+
+-- the first backup that does not agree, by either word
+pub same_first : (v : Volume) (primary : List ℕ) (image : Image) → v ≡ stated_volume primary
+    → first_disagreeing primary image 1 (v.agcount - 1) ≡ backup_fault v image
+unfolding backup_fault
+same_first v primary image stated =
+    (λ i. find (λ ag. same_test primary image ag i) (range_with_len 1 (v.agcount - 1)))
+    ∙ ap (λ (w : Volume). find (backup_differs w image) (range_with_len 1 (v.agcount - 1))) (sym stated)
+
+-- the parts and the laws come before the backups
+law_first : (law : Option Law) (later : Option Finding) (found : Finding) → law_found law None ≡ Some found → law_found law later ≡ Some found
+law_first None later found same = cc
+law_first (Some law) later found same = same
+
+law_later : (law : Option Law) (later : Option Finding) → law_found law None ≡ None → law_found law later ≡ later
+law_later None later same = refl
+law_later (Some law) later same = cc
+
+view_first : (seen : Result Catalog Finding) (later : Option Finding) (found : Finding) → view_found broken_law seen None ≡ Some found → view_found broken_law seen later ≡ Some found
+view_first (Err part) later found same = same
+view_first (Ok c) later found same = law_first (broken_law c) later found same
+
+view_later : (seen : Result Catalog Finding) (later : Option Finding) → view_found broken_law seen None ≡ None → view_found broken_law seen later ≡ later
+view_later (Err part) later same = cc
+view_later (Ok c) later same = law_later (broken_law c) later same
+
+primary_elected : (v : Volume) (image : Image) (is : IsElected v image) → is.vote.place ≡ 0 → is_from_primary v image ≡ true
+unfolding is_from_primary
+primary_elected v image is first =
+    ap (is_primary v) is.due ∙ and_from (is.vote.place == 0) (same_volume (choice is.vote) v) (eq-eqb is.vote.place 0 first) is.states
+
+-- what is found of a volume that is elected from block 0
+found_by_view : (g : Geometry) (image : Image) (is : IsElected (volume_of g) image) → is.vote.place ≡ 0
+    → finding broken_law g image ≡ view_found broken_law (view g image) (backup_found (backup_fault (volume_of g) image))
+unfolding finding
+found_by_view g image is first = rw (primary_elected (volume_of g) image is first) refl
+
+pub found_in_view : (g : Geometry) (image : Image) (vote : Vote) (seen : Result Catalog Finding) (found : Finding) → elected image ≡ Ok vote
+    → volume_of g ≡ stated_volume vote.sector → vote.place ≡ 0 → seen ≡ view g image → Some found ≡ view_found broken_law seen None
+    → Some found ≡ finding broken_law g image
+found_in_view g image vote seen found elects stated first same judged =
+    sym (found_by_view g image (is_elected g image vote elects stated) first
+    ∙ ap (λ (r : Result Catalog Finding). view_found broken_law r (backup_found (backup_fault (volume_of g) image))) (sym same)
+    ∙ view_first seen (backup_found (backup_fault (volume_of g) image)) found (sym judged))
+
+pub found_in_backups : (g : Geometry) (image : Image) (vote : Vote) (seen : Result Catalog Finding) (found : Option Finding) → elected image ≡ Ok vote
+    → volume_of g ≡ stated_volume vote.sector → vote.place ≡ 0 → seen ≡ view g image → None ≡ view_found broken_law seen None
+    → found ≡ backup_found (first_disagreeing vote.sector image 1 (g.agcount - 1))
+    → found ≡ finding broken_law g image
+found_in_backups g image vote seen found elects stated first same judged backup =
+    backup ∙ ap backup_found (same_first (volume_of g) vote.sector image stated)
+    ∙ sym (found_by_view g image (is_elected g image vote elects stated) first
+    ∙ ap (λ (r : Result Catalog Finding). view_found broken_law r (backup_found (backup_fault (volume_of g) image))) (sym same)
+    ∙ view_later seen (backup_found (backup_fault (volume_of g) image)) (sym judged))
+
+pub found_first : (g : Geometry) (image : Image) (vote : Vote) → elected image ≡ Ok vote
+    → volume_of g ≡ stated_volume vote.sector → vote.place ≢ 0 → Some (Found.Part 0 0) ≡ finding broken_law g image
+found_first g image vote elects stated other = sym (from_backup broken_law g image (is_elected g image vote elects stated) other)
+
+-- where a backup is found, the primary superblock is elected
+some_vote : (x y : Vote) → (r : Result Vote ElectFault) → r ≡ Ok x → r ≡ Ok y → x ≡ y
+some_vote x y r a b = cc
+
+pub from_primary : (g : Geometry) (image : Image) (vote : Vote) (found : Finding) → elected image ≡ Ok vote → Some found ≡ finding broken_law g image
+    → is_backup found ≡ true → vote.place ≡ 0
+from_primary g image vote (Found.Law law) elects same backup = cc
+from_primary g image vote (Found.Part part place) elects same backup =
+    let number : part ≡ 10 = eqb-true part 10 backup in
+    let fault : HasBackupFault broken_law g image place =
+    only_backups broken_law g image place (sym same ∙ ap (λ (p : ℕ). Some (Found.Part p place)) number) in
+    ap (λ (v : Vote). v.place) (some_vote vote fault.elected.vote (elected image) elects fault.elected.due) ∙ fault.first
+
+-- a volume whose view is given is not turned away
+pub admitted_stays : (o : RepairOptions) (g : Geometry) (image : Image) (a : Admitted) (seen : Result Catalog Finding) → a ≡ View seen
+    → IsAdmission o g image a → turned_away o (volume_of g) image ≡ None
+admitted_stays o g image a seen is held = (subst (λ (x : Admitted). IsAdmission o g image x) is held).0
+
+-- what is due to a volume that is turned away, and to any other
+pub due_away : (o : RepairOptions) (g : Geometry) (image : Image) (outcome : Outcome) → turned_away o (volume_of g) image ≡ Some outcome
+    → outcome ≡ due_volume o g image
+unfolding due_volume
+due_away o g image outcome away = rw away refl
+
+pub due_seen : (o : RepairOptions) (g : Geometry) (image : Image) (found : Option Finding) → turned_away o (volume_of g) image ≡ None
+    → found ≡ finding broken_law g image → due_found o image found ≡ due_volume o g image
+unfolding due_volume
+due_seen o g image found stays same = rw (stays, same) refl
+
+-- a repair is due where a backup is found and the image is not only checked
+pub due_of_plan : (o : RepairOptions) (image : Image) (found : Finding) (plan : Plan) → o.check ≡ false → is_backup found ≡ true → plan ≡ backup_plan image
+    → Repaired (Backups (length plan)) ≡ due_found o image (Some found)
+due_of_plan o image found plan repairs backup same = rw (repairs, backup, same) refl
+
+-- what is owed by the geometry that is elected is due
+pub answers : (o : RepairOptions) (g : Geometry) (image : Image) (vote : Vote) (outcome : Outcome) → elected image ≡ Ok vote → IsElected (volume_of g) image
+    → outcome ≡ due_volume o g image → IsAnswer o image (elected image) outcome
+answers o g image vote outcome elects is due =
+    subst (λ (r : Result Vote ElectFault). IsAnswer o image r outcome) (sym elects) (record { geometry = g; elected = is; is = due })
+
+pub due_by : (o : RepairOptions) (g : Geometry) (image : Image) (vote : Vote) (outcome : Outcome) → elected image ≡ Ok vote → IsElected (volume_of g) image
+    → IsOwed (due_volume o g image) outcome → IsDue o image outcome
+due_by o g image vote (ReadFault faults) elects is owed = tt
+due_by o g image vote (WriteFault blocks) elects is (count, owed) = (count, answers o g image vote (Repaired (Backups count)) elects is (sym owed))
+due_by o g image vote NoMemory elects is owed = tt
+due_by o g image vote NoGeometry elects is owed = answers o g image vote NoGeometry elects is owed
+due_by o g image vote (Unsupported word bits) elects is owed = answers o g image vote (Unsupported word bits) elects is owed
+due_by o g image vote DirtyLog elects is owed = answers o g image vote DirtyLog elects is owed
+due_by o g image vote (TooLarge what count) elects is owed = answers o g image vote (TooLarge what count) elects is owed
+due_by o g image vote (UnsupportedFile ino what) elects is owed = answers o g image vote (UnsupportedFile ino what) elects is owed
+due_by o g image vote Clean elects is owed = answers o g image vote Clean elects is owed
+due_by o g image vote (Damaged finding) elects is owed = answers o g image vote (Damaged finding) elects is owed
+due_by o g image vote (Repaired summary) elects is owed = answers o g image vote (Repaired summary) elects is owed
+due_by o g image vote (Unbuilt request) elects is owed = answers o g image vote (Unbuilt request) elects is owed
+
+-- what the election refuses is due
+pub due_unsupported : (o : RepairOptions) (image : Image) (word bits : ℕ) → elected image ≡ Err (fault.Unsupported word bits) → IsDue o image (Unsupported word bits)
+due_unsupported o image word bits refused =
+    subst (λ (r : Result Vote ElectFault). IsAnswer o image r (Unsupported word bits)) (sym refused) refl
+
+pub due_no_geometry : (o : RepairOptions) (image : Image) → elected image ≡ Err fault.NoGeometry → IsDue o image NoGeometry
+due_no_geometry o image refused = subst (λ (r : Result Vote ElectFault). IsAnswer o image r NoGeometry) (sym refused) refl

@@ -1,0 +1,15 @@
+use Rattle.std.proofs.Common.{◌≡◌, ◌-◌, ◌≤◌}
+use Rattle.std.specs.Option.{ForSome}
+use Rattle.xfs_tree.specs.Answers.{OnlyReads}
+use Rattle.xfs_mend.specs.Due.{first_disagreeing}
+use Rattle.xfs_mend.proofs.backups.find_disagreeing.Given as goal
+
+abbrev pub invariant-loop-group : goal.invariant-loop-group
+invariant-loop-group g l =
+    record {
+      first : ForSome (g.D.Disk.holds l.fn.disk) (λ image.
+          first_disagreeing l.primary image l.group (l.geometry.agcount - l.group)
+          ≡ first_disagreeing l.primary image 1 (l.geometry.agcount - 1));
+      later : g.D.Disk.faults l.fn.disk ≤ g.D.Disk.faults l.disk;
+      disk : OnlyReads g.D.Disk.size g.D.Disk.holds g.D.Disk.write_faults g.D.Disk.tells_stops g.D.Disk.may_leave l.fn.disk l.disk;
+    }

@@ -1,0 +1,66 @@
+-- What an outcome says of the image and of the counts of faults.
+use Rattle.std.specs.Prelude.{◌≡◌, ℕ, ◌<◌, ◌≤◌, true, false, List, length, Option, Some, slice_get}
+use Rattle.std.specs.Option.{ForSome}
+use Rattle.xfs_disk.specs.Blocks.{Image}
+use Rattle.xfs_disk.specs.Faults.{Rose}
+use Rattle.xfs_geom.specs.Superblocks.{is_agreeing}
+use Rattle.xfs_geom.specs.Volumes.{stated_volume, volume_of}
+use Rattle.xfs_geom.specs.Election.{block_of, elected, super_of}
+use Rattle.xfs_geom.specs.declared.geometry.Geometry.{Geometry}
+use Rattle.xfs_laws.specs.Lawful.{broken_law}
+use Rattle.xfs_image.specs.Consistent.{HasFinding, IsElected, backup_agrees}
+use Rattle.xfs_image.specs.declared.findings.Finding.TheVariants.{Part}
+use Rattle.xfs_mend.specs.Backups.{with_super, start_of, backup_plan}
+use Rattle.xfs_mend.specs.Plans.{Plan, written, IsPartly}
+use Rattle.xfs_mend.specs.declared.outcome.Outcome.{Outcome}
+use Rattle.xfs_mend.specs.declared.outcome.Outcome.TheVariants.{Repaired, ReadFault, WriteFault}
+
+-- a fault of the disk is answered only where its count rose; a read fault tells the count
+abbrev pub IsCaused : ℕ → ℕ → ℕ → ℕ → Outcome → Type 0
+IsCaused faults faults_now write_faults write_faults_now (ReadFault told) = Rose faults faults_now × (told ≡ faults_now)
+IsCaused faults faults_now write_faults write_faults_now (WriteFault blocks) = Rose write_faults write_faults_now
+IsCaused faults faults_now write_faults write_faults_now outcome = Unit {0}
+
+-- Every backup agrees with the primary: those that did are as before, of the others the first sector is
+-- the primary's. All other blocks are as before.
+pub record IsMended (image now : Image) : Type 0 where
+  pub count : length now ≡ length image
+  pub primary : block_of now 0 ≡ block_of image 0
+  pub kept : (b : ℕ) → ((group : ℕ) → 1 ≤ group → group < (stated_volume (super_of (block_of image 0))).agcount → b ≡ start_of (super_of (block_of image 0)) group → ⊥)
+      → block_of now b ≡ block_of image b
+  pub agreed : (group : ℕ) → 1 ≤ group → group < (stated_volume (super_of (block_of image 0))).agcount
+      → is_agreeing (stated_volume (super_of (block_of image 0))) (super_of (block_of image (start_of (super_of (block_of image 0)) group))) ≡ true
+      → block_of now (start_of (super_of (block_of image 0)) group) ≡ block_of image (start_of (super_of (block_of image 0)) group)
+  pub mended : (group : ℕ) → 1 ≤ group → group < (stated_volume (super_of (block_of image 0))).agcount
+      → is_agreeing (stated_volume (super_of (block_of image 0))) (super_of (block_of image (start_of (super_of (block_of image 0)) group))) ≡ false
+      → block_of now (start_of (super_of (block_of image 0)) group)
+      ≡ with_super (super_of (block_of image 0)) (block_of image (start_of (super_of (block_of image 0)) group))
+
+-- A repaired image has just the planned blocks changed, which mends it: all its backups agree from then on, whatever geometry it
+-- elects, so none of them is found.
+pub record IsRepaired (image : Image) (now : Option Image) : Type 0 where
+  pub planned : now ≡ Some (written (backup_plan image) image)
+  pub mended : IsMended image (written (backup_plan image) image)
+  pub elects : elected (written (backup_plan image) image) ≡ elected image
+  pub agree : (g : Geometry) → IsElected (volume_of g) (written (backup_plan image) image) → (ag : ℕ) → 1 ≤ ag → ag < g.agcount
+      → backup_agrees (volume_of g) (written (backup_plan image) image) ag ≡ true
+  pub found_elsewhere : (ag : ℕ) → HasFinding broken_law (written (backup_plan image) image) (Part 10 ag) → ⊥
+
+-- what the disk holds after an outcome of the plan: the written plan after a repair, a part of it after a
+-- write fault, else what it held
+abbrev pub Writes : Plan → Image → Option Image → Outcome → Type 0
+Writes plan image now (Repaired summary) = now ≡ Some (written plan image)
+Writes plan image now (WriteFault blocks) = IsPartly plan image blocks now
+Writes plan image now outcome = now ≡ Some image
+
+-- what the disk holds after the outcome: where it isn't a repair or a write fault, what it held
+abbrev pub Leaves : Image → Option Image → Outcome → Type 0
+Leaves image now (Repaired summary) = IsRepaired image now
+Leaves image now (WriteFault blocks) = IsPartly (backup_plan image) image blocks now
+Leaves image now outcome = now ≡ Some image
+
+-- after a repair a stop leaves just what the disk holds
+abbrev pub IsKept : Type 0 → Option Image → (ℕ → List ℕ → Type 0) → Outcome → Type 0
+IsKept tells now may_leave (Repaired summary) =
+    tells → ForSome now (λ image. (b : ℕ) (v : List ℕ) → may_leave b v → slice_get image b ≡ Some v)
+IsKept tells now may_leave outcome = Unit {0}

@@ -1,0 +1,10 @@
+//! Why a repair ends before anything is written.
+
+/// Why a repair ends before anything is written.
+#[derive(Clone, Copy, Debug, PartialEq, Eq)]
+pub(crate) enum MendFault {
+    /// A read failed.
+    ReadFault,
+    /// There is not enough memory.
+    NoMemory,
+}

@@ -1,0 +1,22 @@
+//! Laws about what comes of a repair. The function does nothing; its contract is the law.
+
+ghost use Rattle.std.specs.Prelude.{◌≡◌, true, None, Some};
+ghost use Rattle.xfs_disk.specs.Blocks.{Image};
+ghost use Rattle.xfs_geom.specs.Election.{elected};
+ghost use Rattle.xfs_geom.specs.Volumes.{volume_of};
+ghost use Rattle.xfs_geom.specs.declared.geometry.Geometry.{Geometry};
+ghost use Rattle.xfs_laws.specs.Lawful.{broken_law};
+ghost use Rattle.xfs_image.specs.Consistent.{HasFinding, IsConsistent, IsConsistentImage};
+ghost use Rattle.xfs_image.specs.declared.findings.Finding.{Finding};
+ghost use Rattle.xfs_mend.specs.Due.{IsAnswer, turned_away};
+
+use crate::outcome::{Outcome, RepairOptions};
+
+/// One outcome is due to an image. Only a consistent image is clean, and each that is looked at is; a check finds what is found
+/// first, in each image in which something is.
+pub fn outcomes_by_rows()
+    ensures one { (o : RepairOptions) (image : Image) (a b : Outcome) → IsAnswer o image (elected image) a → IsAnswer o image (elected image) b → a ≡ b }
+    ensures clean { (o : RepairOptions) (image : Image) → IsAnswer o image (elected image) Outcome.Clean → IsConsistentImage broken_law image }
+    ensures consistent { (o : RepairOptions) (g : Geometry) (image : Image) → IsConsistent broken_law g image → turned_away o (volume_of g) image ≡ None → IsAnswer o image (elected image) Outcome.Clean }
+    ensures found { (o : RepairOptions) (image : Image) (found : Finding) (has : HasFinding broken_law image found) → turned_away o (volume_of has.geometry) image ≡ None → o.check ≡ true → IsAnswer o image (elected image) (Outcome.Damaged found) }
+{}

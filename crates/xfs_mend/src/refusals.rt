@@ -1,0 +1,119 @@
+//! Volumes that are not looked at further.
+
+ghost use Rattle.std.specs.Prelude.{◌≡◌, ◌≤◌, ◌&&◌, None, IfOk};
+ghost use Rattle.std.specs.Option.{ForSome};
+ghost use Rattle.xfs_geom.specs.Volumes.{volume_of};
+ghost use Rattle.xfs_tree.specs.Answers.{OnlyReads};
+ghost use Rattle.xfs_image.specs.View.{view};
+ghost use Rattle.xfs_scan.specs.Refused.{refused};
+ghost use Rattle.xfs_mend.specs.Due.{asks_log, away_if, is_dirty, refusal_of};
+ghost use Rattle.xfs_mend.specs.Planning.{HasMendCause};
+ghost use Rattle.xfs_mend.specs.Refusing.{HasAdmitted, IsAdmission};
+
+use crate::faults::MendFault;
+use crate::outcome::RepairOptions;
+use std::alloc::Global;
+use xfs_disk::Disk;
+use xfs_geom::Geometry;
+use xfs_heads::LogState;
+use xfs_image::Finding;
+use xfs_journal::{JournalFault, read_log};
+use xfs_scan::{ScanFault, gather};
+use xfs_volume::Catalog;
+
+/// What a volume gives that is to be looked at, or why it is not looked at further.
+#[derive(Drop)]
+pub(crate) enum Admitted {
+    /// What it says, or the first part that does not read.
+    View(Result<Catalog, Finding>),
+    /// Its log is not clean.
+    DirtyLog,
+    /// A count passes its limit.
+    TooLarge { what: u8, count: u64 },
+    /// The least inode with a feature that is not supported.
+    UnsupportedFile { ino: u64, what: u8 },
+}
+
+/// What the volume says; or the first cause for which it is not looked at further: its log is not clean, it is too large, or a
+/// file is not supported.
+#[tactic(auto, unfolding(crate::specs::Due::turned_away))]
+pub(crate) fn admit<D: Disk>(
+    alloc: Global,
+    disk: &mut D,
+    options: &RepairOptions,
+    g: &Geometry,
+) -> Result<Admitted, MendFault>
+    requires inside { g.now.dblocks ≤ D.size disk.old }
+    ensures admitted { IfOk result (λ admitted. ForSome (D.holds disk.old) (λ image. IsAdmission options.now g.now image admitted)) }
+    ensures cause { HasMendCause (D.faults disk.old) (D.faults disk.new) result }
+    ensures disk { OnlyReads D.size D.holds D.write_faults D.tells_stops D.may_leave disk.old disk.new }
+{
+    match gather(alloc, g, disk) {
+        Ok(evidence) => Ok(take_view(options, evidence.log, evidence.catalog)),
+        Err(ScanFault::ReadFault) => Err(MendFault::ReadFault),
+        Err(ScanFault::NoMemory) => Err(MendFault::NoMemory),
+        Err(ScanFault::TooLarge { what, count }) => {
+            unless_dirty(alloc, disk, options, g, Admitted::TooLarge { what, count })
+        }
+        Err(ScanFault::UnsupportedFile { ino, what }) => {
+            unless_dirty(
+                alloc,
+                disk,
+                options,
+                g,
+                Admitted::UnsupportedFile { ino, what },
+            )
+        }
+    }
+}
+
+/// Whether a log that is not clean stands in the way.
+fn asks_log(options: &RepairOptions) -> bool
+    ensures { result ≡ asks_log options.now }
+{
+    !options.check && !options.drop_log
+}
+
+/// Whether a log is not clean.
+fn is_dirty(log: LogState) -> bool
+    ensures { result ≡ is_dirty log }
+{
+    matches!(log, LogState::Dirty)
+}
+
+/// A volume that is neither too large nor has a file that is not supported.
+fn take_view(options: &RepairOptions, log: LogState, catalog: Result<Catalog, Finding>) -> Admitted
+    ensures { HasAdmitted (away_if (asks_log options.now && is_dirty log) None) catalog result }
+{
+    if asks_log(options) && is_dirty(log) {
+        Admitted::DirtyLog
+    } else {
+        Admitted::View(catalog)
+    }
+}
+
+/// A volume that is refused; where its log stands in the way, that comes first.
+#[tactic(auto, unfolding(crate::specs::Due::turned_away))]
+fn unless_dirty<D: Disk>(
+    alloc: Global,
+    disk: &mut D,
+    options: &RepairOptions,
+    g: &Geometry,
+    refusal: Admitted,
+) -> Result<Admitted, MendFault>
+    requires inside { g.now.dblocks ≤ D.size disk.old }
+    requires refused { ForSome (D.holds disk.old) (λ image. HasAdmitted (refusal_of (refused (volume_of g.now) image)) (view g.now image) refusal) }
+    ensures admitted { IfOk result (λ admitted. ForSome (D.holds disk.old) (λ image. IsAdmission options.now g.now image admitted)) }
+    ensures cause { HasMendCause (D.faults disk.old) (D.faults disk.new) result }
+    ensures disk { OnlyReads D.size D.holds D.write_faults D.tells_stops D.may_leave disk.old disk.new }
+{
+    if !asks_log(options) {
+        return Ok(refusal);
+    }
+    match read_log(alloc, g, disk) {
+        Ok(LogState::Dirty) => Ok(Admitted::DirtyLog),
+        Ok(LogState::Clean { .. }) => Ok(refusal),
+        Err(JournalFault::ReadFault) => Err(MendFault::ReadFault),
+        Err(JournalFault::NoMemory) => Err(MendFault::NoMemory),
+    }
+}
