@@ -1,6 +1,6 @@
 //! Volumes that are not looked at further.
 
-ghost use Rattle.std.specs.Prelude.{◌≡◌, ◌≤◌, ◌&&◌, None, IfOk};
+ghost use Rattle.std.specs.Prelude.{◌≡◌, ◌<◌, ◌≤◌, ◌&&◌, None, IfOk};
 ghost use Rattle.std.specs.Option.{ForSome};
 ghost use Rattle.xfs_geom.specs.Volumes.{volume_of};
 ghost use Rattle.xfs_tree.specs.Answers.{OnlyReads};
@@ -13,11 +13,14 @@ ghost use Rattle.xfs_mend.specs.Refusing.{HasAdmitted, IsAdmission};
 use crate::faults::MendFault;
 use crate::outcome::RepairOptions;
 use std::alloc::Global;
+use std::marker::Brand;
+use std::sync::ledger::{Blank, Ledger};
 use xfs_disk::Disk;
 use xfs_geom::Geometry;
 use xfs_heads::LogState;
 use xfs_image::Finding;
 use xfs_journal::{JournalFault, read_log};
+use xfs_runs::Steps;
 use xfs_scan::{ScanFault, gather};
 use xfs_volume::Catalog;
 
@@ -36,7 +39,6 @@ pub(crate) enum Admitted {
 
 /// What the volume says; or the first cause for which it is not looked at further: its log is not clean, it is too large, or a
 /// file is not supported.
-#[tactic(auto, unfolding(crate::specs::Due::turned_away))]
 pub(crate) fn admit<D: Disk>(
     alloc: Global,
     disk: &mut D,
@@ -48,22 +50,47 @@ pub(crate) fn admit<D: Disk>(
     ensures cause { HasMendCause (D.faults disk.old) (D.faults disk.new) result }
     ensures disk { OnlyReads D.size D.holds D.write_faults D.tells_stops D.may_leave disk.old disk.new }
 {
-    match gather(alloc, g, disk) {
+    admit_counted::<D, Brand>(alloc, disk, options, g, Blank::new(1))
+}
+
+/// The same, where the blocks that are read are counted in the ledger of a blank.
+#[tactic(auto, unfolding(crate::specs::Due::turned_away))]
+fn admit_counted<D: Disk, L: Ledger>(
+    alloc: Global,
+    disk: &mut D,
+    options: &RepairOptions,
+    g: &Geometry,
+    blank: Blank,
+) -> Result<Admitted, MendFault>
+    requires name { blank.name ≡ L.name }
+    requires parts { blank.parts ≡ L.parts }
+    requires some { 0 < blank.parts }
+    requires inside { g.now.dblocks ≤ D.size disk.old }
+    ensures admitted { IfOk result (λ admitted. ForSome (D.holds disk.old) (λ image. IsAdmission options.now g.now image admitted)) }
+    ensures cause { HasMendCause (D.faults disk.old) (D.faults disk.new) result }
+    ensures disk { OnlyReads D.size D.holds D.write_faults D.tells_stops D.may_leave disk.old disk.new }
+{
+    let mut steps = Steps::<L>::from_blank(blank);
+    match gather(alloc, g, disk, &mut steps) {
         Ok(evidence) => Ok(take_view(options, evidence.log, evidence.catalog)),
         Err(ScanFault::ReadFault) => Err(MendFault::ReadFault),
         Err(ScanFault::NoMemory) => Err(MendFault::NoMemory),
-        Err(ScanFault::TooLarge { what, count }) => {
-            unless_dirty(alloc, disk, options, g, Admitted::TooLarge { what, count })
-        }
-        Err(ScanFault::UnsupportedFile { ino, what }) => {
-            unless_dirty(
-                alloc,
-                disk,
-                options,
-                g,
-                Admitted::UnsupportedFile { ino, what },
-            )
-        }
+        Err(ScanFault::TooLarge { what, count }) => unless_dirty(
+            alloc,
+            disk,
+            options,
+            g,
+            Admitted::TooLarge { what, count },
+            &mut steps,
+        ),
+        Err(ScanFault::UnsupportedFile { ino, what }) => unless_dirty(
+            alloc,
+            disk,
+            options,
+            g,
+            Admitted::UnsupportedFile { ino, what },
+            &mut steps,
+        ),
     }
 }
 
@@ -94,12 +121,13 @@ fn take_view(options: &RepairOptions, log: LogState, catalog: Result<Catalog, Fi
 
 /// A volume that is refused; where its log stands in the way, that comes first.
 #[tactic(auto, unfolding(crate::specs::Due::turned_away))]
-fn unless_dirty<D: Disk>(
+fn unless_dirty<D: Disk, L: Ledger>(
     alloc: Global,
     disk: &mut D,
     options: &RepairOptions,
     g: &Geometry,
     refusal: Admitted,
+    steps: &mut Steps<L>,
 ) -> Result<Admitted, MendFault>
     requires inside { g.now.dblocks ≤ D.size disk.old }
     requires refused { ForSome (D.holds disk.old) (λ image. HasAdmitted (refusal_of (refused (volume_of g.now) image)) (view g.now image) refusal) }
@@ -110,7 +138,7 @@ fn unless_dirty<D: Disk>(
     if !asks_log(options) {
         return Ok(refusal);
     }
-    match read_log(alloc, g, disk) {
+    match read_log(alloc, g, disk, steps) {
         Ok(LogState::Dirty) => Ok(Admitted::DirtyLog),
         Ok(LogState::Clean { .. }) => Ok(refusal),
         Err(JournalFault::ReadFault) => Err(MendFault::ReadFault),

@@ -1,0 +1,62 @@
+use Rattle.std.proofs.Common.{◌≡◌, ◌∙◌, ap, subst, sym, ℕ, List, length, drop}
+use Rattle.xfs_geom.specs.Volumes.{volume_of}
+use Rattle.xfs_shell.specs.Commands.{Session, session_of}
+use Rattle.xfs_shell.specs.Running.{attempts, block_at_place, pushed, pushes_in, runs_first, settled_session}
+use Rattle.xfs_shell.specs.Sessions.{IsRun, Stays}
+use Rattle.xfs_shell.specs.declared.objects.Place.{Place}
+use Rattle.xfs_shell.proofs.Pushing.{behind_ran, behind_stays}
+use Rattle.xfs_shell.proofs.session.run_behind.Goals as goal
+
+pub returns-clause-outcome : goal.returns-clause-outcome
+returns-clause-outcome g c =
+    λ image told.
+    let v = volume_of c.args.geometry.now in
+    let words = c.args.words.now in
+    let s = session_of c.args.cursor.now in
+    let t = session_of c.save.new.self in
+    let now = session_of c.run_command.new.cursor in
+    let rest : c.split_at.result.1.now ≡ drop (pushes_in words) words =
+    c.split_at.ensures.back ∙ ap (λ (n : ℕ). drop n words) c.count_pushes-count.ensures.value
+    in
+    let pushed_is : t ≡ pushed (pushes_in words) c.args.place s =
+    c.in-Ok.ensures.session ∙ ap (λ (n : ℕ). pushed n c.args.place s) c.count_pushes-count.ensures.value
+    in
+    let run =
+    subst
+    (λ (ws : List (List ℕ)).
+    IsRun (runs_first v c.args.leave ws (block_at_place image t.at) t) image c.in-Ok-run_command.verdict c.args.text.now.items
+    c.run_command.new.text.items now (g.D.Disk.holds c.run_command.new.disk))
+    rest
+    (c.in-Ok-run_command.ensures.outcome image told)
+    in
+    let kept : length c.as_slice-kept.result.now ≡ length s.stack = ap (λ (stack : List Place). length stack) c.as_slice-kept.ensures.value in
+    let settled : session_of c.settle.new.self ≡ settled_session c.in-Ok-run_command.verdict (length s.stack) now =
+    c.settle.ensures.session ∙ ap (λ (n : ℕ). settled_session c.in-Ok-run_command.verdict n now) kept
+    in
+    subst
+    (λ (u : Session).
+    IsRun (attempts v c.args.leave words (block_at_place image s.at) s) image c.in-Ok-run_command.verdict c.args.text.now.items
+    c.run_command.new.text.items u (g.D.Disk.holds c.run_command.new.disk))
+    (sym settled)
+    (behind_ran v c.args.leave words image s t now c.args.place c.in-Ok-run_command.verdict c.args.text.now.items c.run_command.new.text.items
+    (g.D.Disk.holds c.run_command.new.disk) c.requires.place pushed_is run)
+
+pub returns-in-Err-run_command-clause-outcome : goal.returns-in-Err-run_command-clause-outcome
+returns-in-Err-run_command-clause-outcome g c =
+    λ image told.
+    let v = volume_of c.args.geometry.now in
+    let words = c.args.words.now in
+    let s = session_of c.args.cursor.now in
+    let t = session_of c.save.new.self in
+    let rest : c.split_at.result.1.now ≡ drop (pushes_in words) words =
+    c.split_at.ensures.back ∙ ap (λ (n : ℕ). drop n words) c.count_pushes-count.ensures.value
+    in
+    let pushed_is : t ≡ pushed (pushes_in words) c.args.place s =
+    c.in-Ok.ensures.session ∙ ap (λ (n : ℕ). pushed n c.args.place s) c.count_pushes-count.ensures.value
+    in
+    behind_stays v c.args.leave words image s t c.args.place c.in-Err-run_command.stop (g.D.Disk.holds c.run_command.new.disk) c.requires.place pushed_is
+    (subst
+    (λ (ws : List (List ℕ)).
+    Stays (runs_first v c.args.leave ws (block_at_place image t.at) t) image (g.D.Disk.holds c.run_command.new.disk) c.in-Err-run_command.stop)
+    rest
+    (c.in-Err-run_command.ensures.outcome image told))

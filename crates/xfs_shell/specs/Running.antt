@@ -1,0 +1,251 @@
+-- The commands by their words, and what lines of them print and leave (xfs_db(8)).
+use Rattle.std.specs.Prelude.{◌≡◌, ℕ, zero, suc, ◌+◌, Bool, true, false, not, ◌==◌, ◌&&◌, nat_le, if◌then◌else◌, codes, bytes_eq, List, [], ◌∷◌, ◌++◌, length, take, Option, Some, None, unwrap_or, slice_get, slice_set}
+use Rattle.std.specs.List.{find, fold}
+use Rattle.xfs_disk.specs.Blocks.{Image}
+use Rattle.xfs_geom.specs.Election.{block_of}
+use Rattle.xfs_geom.specs.Volumes.{Volume}
+use Rattle.xfs_shell.specs.Commands.{Session, Effect, Put, does, refuses, bad_command, no_address, to_head, to_number, addresses, types, prints, pops, stack_text, sets, converts, hash_text}
+use Rattle.xfs_shell.specs.Lines.{parts_of}
+use Rattle.xfs_shell.specs.Objects.{object_in}
+use Rattle.xfs_shell.specs.Places.{is_place, measure_named}
+use Rattle.xfs_shell.specs.declared.commands.Verb.{Verb}
+use Rattle.xfs_shell.specs.declared.commands.Verb.TheVariants.{Sb, Agf, Agi, Agfl, Inode, FsBlock, DiskAddress, Addr, Retype, Print, Push, Pop, Stack, Write, Convert, Hash, Quit}
+use Rattle.xfs_shell.specs.declared.convert.Measure.{Measure}
+use Rattle.xfs_shell.specs.declared.convert.Measure.TheVariants as measure
+use Rattle.xfs_shell.specs.declared.cursor.Verdict.{Verdict}
+use Rattle.xfs_shell.specs.declared.cursor.Verdict.TheVariants as verdict
+use Rattle.xfs_shell.specs.declared.lines.Cut.TheVariants.{Blanks}
+use Rattle.xfs_shell.specs.declared.objects.ObjectType.TheVariants as kind
+use Rattle.xfs_shell.specs.declared.objects.Place.{Place}
+use Rattle.xfs_shell.specs.declared.session.Leave.{Leave}
+
+-- the name of a command
+abbrev pub verb_name : Verb → List ℕ
+verb_name Sb = codes "sb"
+verb_name Agf = codes "agf"
+verb_name Agi = codes "agi"
+verb_name Agfl = codes "agfl"
+verb_name Inode = codes "inode"
+verb_name FsBlock = codes "fsblock"
+verb_name DiskAddress = codes "daddr"
+verb_name Addr = codes "addr"
+verb_name Retype = codes "type"
+verb_name Print = codes "print"
+verb_name Push = codes "push"
+verb_name Pop = codes "pop"
+verb_name Stack = codes "stack"
+verb_name Write = codes "write"
+verb_name Convert = codes "convert"
+verb_name Hash = codes "hash"
+verb_name Quit = codes "quit"
+
+abbrev pub all_verbs : List Verb
+all_verbs =
+    Sb ∷ Agf ∷ Agi ∷ Agfl ∷ Inode ∷ FsBlock ∷ DiskAddress ∷ Addr ∷ Retype ∷ Print ∷ Push ∷ Pop ∷ Stack ∷ Write ∷ Convert ∷ Hash ∷ Quit ∷ []
+
+-- the command takes so many words behind its name
+abbrev pub takes : Verb → ℕ → Bool
+takes Sb n = nat_le n 1
+takes Agf n = nat_le n 1
+takes Agi n = nat_le n 1
+takes Agfl n = nat_le n 1
+takes Retype n = nat_le n 1
+takes Print n = true
+takes Push n = true
+takes Pop n = n == 0
+takes Stack n = n == 0
+takes Quit n = n == 0
+takes Write n = n == 2
+takes Convert n = n == 3
+takes other n = n == 1
+
+-- the command of a name with so many words behind it
+abbrev pub taking : Option Verb → ℕ → Option Verb
+taking None n = None
+taking (Some verb) n = if takes verb n then Some verb else None
+
+unfoldable pub accepted : List ℕ → ℕ → Option Verb
+accepted name n = taking (find (λ (v : Verb). bytes_eq (verb_name v) name) all_verbs) n
+
+-- the word of this number
+abbrev pub word_at : List (List ℕ) → ℕ → List ℕ
+word_at words i = unwrap_or (slice_get words i) []
+
+-- what is done at the current place
+abbrev pub at_place : Option Place → (Place → Effect) → Session → Effect
+at_place None next s = no_address s
+at_place (Some place) next s = next place
+
+-- the bytes of the block of the current place
+abbrev pub block_at_place : Image → Option Place → List ℕ
+block_at_place image None = []
+block_at_place image (Some place) = block_of image place.block
+
+-- convert, where its measures are known
+abbrev pub converts_named : Volume → List ℕ → Option Measure → List ℕ → Option Measure → Session → Effect
+converts_named v name None word target s = bad_command name s
+converts_named v name (Some source) word None s = bad_command name s
+converts_named v name (Some source) word (Some target) s =
+    if is_place source then converts v source word target s else bad_command name s
+
+-- a command that looks at no object
+abbrev pub runs_alone : Volume → Verb → List ℕ → List (List ℕ) → Session → Effect
+runs_alone v Sb name args s = to_head v kind.Sb 0 args s
+runs_alone v Agf name args s = to_head v kind.Agf 1 args s
+runs_alone v Agi name args s = to_head v kind.Agi 2 args s
+runs_alone v Agfl name args s = to_head v kind.Agfl 3 args s
+runs_alone v Inode name args s = to_number v measure.InodeNumber kind.Inode (word_at args 0) s
+runs_alone v FsBlock name args s = to_number v measure.FsBlock kind.Data (word_at args 0) s
+runs_alone v DiskAddress name args s = to_number v measure.DiskAddress kind.Data (word_at args 0) s
+runs_alone v Retype name args s = at_place s.at (λ place. types place args s) s
+runs_alone v Pop name args s = pops s
+runs_alone v Stack name args s = does (stack_text s.stack) s
+runs_alone v Convert name args s = converts_named v name (measure_named (word_at args 0)) (word_at args 1) (measure_named (word_at args 2)) s
+runs_alone v Hash name args s = does (hash_text (word_at args 0)) s
+runs_alone v Quit name args s = record { verdict = verdict.Quit; text = []; session = s; put = None }
+runs_alone v other name args s = bad_command name s
+
+-- the object at a place, of the bytes of its block
+abbrev pub object_at : Place → List ℕ → List ℕ
+object_at place block = object_in place.kind place.sector block
+
+abbrev pub runs_addr : Volume → List ℕ → List ℕ → Session → Effect
+runs_addr v word block s = at_place s.at (λ place. addresses v place (object_at place block) word s) s
+
+abbrev pub runs_print : List (List ℕ) → List ℕ → Session → Effect
+runs_print args block s = at_place s.at (λ place. prints place.kind (object_at place block) args s) s
+
+abbrev pub sets_here : List ℕ → List (List ℕ) → Session → Effect
+sets_here block args s = at_place s.at (λ place. sets place block (word_at args 0) (word_at args 1) s) s
+
+-- fields may be written
+abbrev pub may_write : Leave → Bool
+may_write leave = leave.expert && not leave.read_only
+
+-- write, where it is allowed
+abbrev pub writes : Leave → List ℕ → List (List ℕ) → Session → Effect
+writes leave block args s =
+    if leave.expert
+    then (if leave.read_only then refuses (codes "write: read-only\n") s
+    else sets_here block args s)
+    else refuses (codes "write: needs -x\n") s
+
+-- a command but push, by the bytes of the block of the current place
+abbrev pub runs : Volume → Leave → Verb → List ℕ → List (List ℕ) → List ℕ → Session → Effect
+runs v leave Addr name args block s = runs_addr v (word_at args 0) block s
+runs v leave Print name args block s = runs_print args block s
+runs v leave Write name args block s = writes leave block args s
+runs v leave other name args block s = runs_alone v other name args s
+
+-- a command that could not be run leaves all as it was
+abbrev pub keeping : Verdict → Session → Session → Session
+keeping verdict.Refused s now = s
+keeping verdict.Done s now = now
+keeping verdict.Quit s now = now
+
+abbrev pub restored : Session → Effect → Effect
+restored s e = record e { session = keeping e.verdict s e.session }
+
+-- with the place on the stack, once or more often
+abbrev pub saved : Place → Session → Session
+saved place s = record s { stack = s.stack ++ place ∷ [] }
+
+abbrev pub pushed : ℕ → Place → Session → Session
+pushed zero place s = s
+pushed (suc n) place s = pushed n place (saved place s)
+
+-- push: the command behind it is run with the current place on the stack
+abbrev pub pushes : Option Place → (Session → Effect) → Session → Effect
+pushes None inner s = no_address s
+pushes (Some place) inner s = restored s (inner (saved place s))
+
+abbrev pub runs_accepted : Volume → Leave → Option Verb → List ℕ → List (List ℕ) → List ℕ → (Session → Effect) → Session → Effect
+runs_accepted v leave None name args block inner s = bad_command name s
+runs_accepted v leave (Some Push) name args block inner s = pushes s.at inner s
+runs_accepted v leave (Some verb) name args block inner s = runs v leave verb name args block s
+
+-- a command but push, by its name
+abbrev pub runs_named : Volume → Leave → Option Verb → List ℕ → List (List ℕ) → List ℕ → Session → Effect
+runs_named v leave None name args block s = bad_command name s
+runs_named v leave (Some verb) name args block s = runs v leave verb name args block s
+
+-- the words of a command but push
+abbrev pub runs_first : Volume → Leave → List (List ℕ) → List ℕ → Session → Effect
+runs_first v leave [] block s = does [] s
+runs_first v leave (name ∷ args) block s = runs_named v leave (accepted name (length args)) name args block s
+
+-- the words begin with push
+abbrev pub is_push_verb : Option Verb → Bool
+is_push_verb None = false
+is_push_verb (Some Push) = true
+is_push_verb (Some verb) = false
+
+abbrev pub is_push : List (List ℕ) → Bool
+is_push [] = false
+is_push (name ∷ args) = is_push_verb (accepted name (length args))
+
+-- with how many of them they begin
+abbrev pub pushes_in : List (List ℕ) → ℕ
+pushes_in [] = 0
+pushes_in (name ∷ args) = if is_push_verb (accepted name (length args)) then suc (pushes_in args) else 0
+
+-- words where there is no place
+abbrev pub runs_placeless : Volume → Leave → List (List ℕ) → List ℕ → Session → Effect
+runs_placeless v leave words block s = if is_push words then no_address s else runs_first v leave words block s
+
+-- a stack without what lies above so many places, where a command was refused
+abbrev pub back_to : ℕ → Session → Session
+back_to kept s = record { at = s.at; stack = take kept s.stack }
+
+abbrev pub settled_session : Verdict → ℕ → Session → Session
+settled_session verdict.Refused kept s = back_to kept s
+settled_session verdict.Done kept s = s
+settled_session verdict.Quit kept s = s
+
+-- the words of a line
+abbrev pub runs_words : Volume → Leave → List (List ℕ) → List ℕ → Session → Effect
+runs_words v leave [] block s = does [] s
+runs_words v leave (name ∷ args) block s =
+    runs_accepted v leave (accepted name (length args)) name args block (λ inner. runs_words v leave args block inner) s
+
+unfoldable pub attempts : Volume → Leave → List (List ℕ) → List ℕ → Session → Effect
+attempts v leave words block s = restored s (runs_words v leave words block s)
+
+-- the image with what was written
+abbrev pub image_after : Put → Image → Image
+image_after None image = image
+image_after (Some put) image = slice_set image put.0 put.1
+
+-- what lines have printed, and what they leave
+pub record Run : Type 0 where
+  pub text : List ℕ
+  pub session : Session
+  pub image : Image
+  pub quit : Bool
+
+abbrev pub is_quit : Verdict → Bool
+is_quit verdict.Quit = true
+is_quit verdict.Done = false
+is_quit verdict.Refused = false
+
+abbrev pub extended : Run → Effect → Run
+extended r e = record {
+  text = r.text ++ e.text;
+  session = e.session;
+  image = image_after e.put r.image;
+  quit = is_quit e.verdict;
+}
+
+-- a run after one more line, which is run unless the run has ended
+unfoldable pub after_line : Volume → Leave → Run → List ℕ → Run
+after_line v leave r line =
+    if r.quit then r
+    else extended r (attempts v leave (parts_of Blanks line) (block_at_place r.image r.session.at) r.session)
+
+-- nothing was run yet
+abbrev pub begun : Image → Run
+begun image = record { text = []; session = record { at = None; stack = [] }; image = image; quit = false }
+
+-- what the lines print and leave
+abbrev pub shelled : Volume → Leave → List (List ℕ) → Image → Run
+shelled v leave lines image = fold (after_line v leave) (begun image) lines

@@ -1,0 +1,4 @@
+//! Sessions over objects in memory.
+
+mod sessions;
+mod volume;
