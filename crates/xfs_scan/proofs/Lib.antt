@@ -1,3 +1,4 @@
+mod Banks
 mod Gathering
 mod Reading
 mod Outside

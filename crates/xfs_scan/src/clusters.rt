@@ -15,9 +15,11 @@ use crate::faults::ReadError;
 use crate::inodes::Inodes;
 use crate::slots::see_slot;
 use std::alloc::Global;
+use std::sync::ledger::Ledger;
 use xfs_bank::BlockBank;
 use xfs_disk::Disk;
 use xfs_geom::Geometry;
+use xfs_runs::Steps;
 use xfs_word::part;
 
 /// The slots of a block, and the bytes of a slot.
@@ -26,13 +28,14 @@ const SLOTS: u8 = 8;
 const SLOT_SIZE: usize = 512;
 
 /// Takes up the slots of these blocks, whose bytes the bank has.
-pub fn see_blocks<D: Disk>(
+pub fn see_blocks<D: Disk, L: Ledger>(
     alloc: Global,
     g: &Geometry,
     disk: &mut D,
     blocks: &[u64],
     bank: &BlockBank,
     inodes: &mut Inodes,
+    steps: &mut Steps<L>,
 ) -> Result<(), ReadError>
     requires inside { g.now.dblocks ≤ D.size disk.old }
     requires volume { All (λ block. block < g.now.dblocks) blocks.now }
@@ -43,7 +46,7 @@ pub fn see_blocks<D: Disk>(
     ensures disk { OnlyReads D.size D.holds D.write_faults D.tells_stops D.may_leave disk.old disk.new }
 {
     for (i, block) in blocks.iter().enumerate() {
-        match see_block(alloc, g, disk, *block, bank.view(i), inodes) {
+        match see_block(alloc, g, disk, *block, bank.view(i), inodes, steps) {
             Ok(()) => {}
             Err(fault) => return Err(fault),
         }
@@ -52,13 +55,14 @@ pub fn see_blocks<D: Disk>(
 }
 
 /// Takes up the eight slots of a block.
-pub fn see_block<D: Disk>(
+pub fn see_block<D: Disk, L: Ledger>(
     alloc: Global,
     g: &Geometry,
     disk: &mut D,
     block: u64,
     bytes: &[u8],
     inodes: &mut Inodes,
+    steps: &mut Steps<L>,
 ) -> Result<(), ReadError>
     requires inside { g.now.dblocks ≤ D.size disk.old }
     requires volume { block < g.now.dblocks }
@@ -69,7 +73,7 @@ pub fn see_block<D: Disk>(
     ensures disk { OnlyReads D.size D.holds D.write_faults D.tells_stops D.may_leave disk.old disk.new }
 {
     for slot in 0..SLOTS {
-        match see_part(alloc, g, disk, block, slot, bytes, inodes) {
+        match see_part(alloc, g, disk, block, slot, bytes, inodes, steps) {
             Ok(()) => {}
             Err(fault) => return Err(fault),
         }
@@ -78,7 +82,7 @@ pub fn see_block<D: Disk>(
 }
 
 /// Takes up one of the eight slots of a block.
-fn see_part<D: Disk>(
+fn see_part<D: Disk, L: Ledger>(
     alloc: Global,
     g: &Geometry,
     disk: &mut D,
@@ -86,6 +90,7 @@ fn see_part<D: Disk>(
     slot: u8,
     bytes: &[u8],
     inodes: &mut Inodes,
+    steps: &mut Steps<L>,
 ) -> Result<(), ReadError>
     requires inside { g.now.dblocks ≤ D.size disk.old }
     requires volume { block < g.now.dblocks }
@@ -98,5 +103,13 @@ fn see_part<D: Disk>(
 {
     let ino = g.inode_of_slot(block, slot);
     let start = SLOT_SIZE * slot as usize;
-    see_slot(alloc, g, disk, ino, part(bytes, start, SLOT_SIZE), inodes)
+    see_slot(
+        alloc,
+        g,
+        disk,
+        ino,
+        part(bytes, start, SLOT_SIZE),
+        inodes,
+        steps,
+    )
 }

@@ -14,10 +14,12 @@ ghost use Rattle.xfs_scan.specs.Gathered.{held_in, joined, of_directory, of_file
 use crate::faults::ReadError;
 use crate::inodes::{Feature, Inodes};
 use std::alloc::Global;
+use std::sync::ledger::Ledger;
 use xfs_dirs::{DirError, DirFound, read_directory};
 use xfs_disk::{Disk, NoMemory};
 use xfs_geom::Geometry;
 use xfs_inode::{FileRead, InodeError, read_file};
+use xfs_runs::Steps;
 use xfs_volume::{DirRec, FileRec};
 
 /// The type of a directory, in the upper four bits of a mode.
@@ -25,13 +27,14 @@ const DIRECTORY: u16 = 4;
 
 /// Takes up the slot of an inode, of 512 bytes.
 #[tactic(auto, unfolding(xfs_image::specs::Slots::reads_as))]
-pub fn see_slot<D: Disk>(
+pub fn see_slot<D: Disk, L: Ledger>(
     alloc: Global,
     g: &Geometry,
     disk: &mut D,
     ino: u64,
     slot: &[u8],
     inodes: &mut Inodes,
+    steps: &mut Steps<L>,
 ) -> Result<(), ReadError>
     requires slot { length slot.now ≡ 512 }
     requires inside { g.now.dblocks ≤ D.size disk.old }
@@ -40,15 +43,15 @@ pub fn see_slot<D: Disk>(
     ensures cause { HasReadCause (D.faults disk.old) (D.faults disk.new) result }
     ensures disk { OnlyReads D.size D.holds D.write_faults D.tells_stops D.may_leave disk.old disk.new }
 {
-    match read_file(alloc, g, disk, ino, slot) {
-        Ok(read) => take_read(alloc, g, disk, ino, slot, read, inodes),
+    match read_file(alloc, g, disk, ino, slot, steps) {
+        Ok(read) => take_read(alloc, g, disk, ino, slot, read, inodes, steps),
         Err(InodeError::ReadFault) => Err(ReadError::ReadFault),
         Err(InodeError::NoMemory) => Err(ReadError::NoMemory),
     }
 }
 
 /// Takes up what a slot reads as.
-fn take_read<D: Disk>(
+fn take_read<D: Disk, L: Ledger>(
     alloc: Global,
     g: &Geometry,
     disk: &mut D,
@@ -56,6 +59,7 @@ fn take_read<D: Disk>(
     slot: &[u8],
     read: FileRead,
     inodes: &mut Inodes,
+    steps: &mut Steps<L>,
 ) -> Result<(), ReadError>
     requires slot { length slot.now ≡ 512 }
     requires inside { g.now.dblocks ≤ D.size disk.old }
@@ -67,8 +71,8 @@ fn take_read<D: Disk>(
 {
     match read {
         FileRead::Free => Ok(()),
-        FileRead::File(file) => take_file(alloc, g, disk, slot, file, inodes),
-        FileRead::FileWithoutAttrs(file) => take_bare(alloc, g, disk, slot, file, inodes),
+        FileRead::File(file) => take_file(alloc, g, disk, slot, file, inodes, steps),
+        FileRead::FileWithoutAttrs(file) => take_bare(alloc, g, disk, slot, file, inodes, steps),
         FileRead::Unsupported { what } => {
             inodes.pass(ino, Some(Feature { ino, what }));
             Ok(())
@@ -81,13 +85,14 @@ fn take_read<D: Disk>(
 }
 
 /// Takes up a file without its attributes.
-fn take_bare<D: Disk>(
+fn take_bare<D: Disk, L: Ledger>(
     alloc: Global,
     g: &Geometry,
     disk: &mut D,
     slot: &[u8],
     file: FileRec,
     inodes: &mut Inodes,
+    steps: &mut Steps<L>,
 ) -> Result<(), ReadError>
     requires slot { length slot.now ≡ 512 }
     requires inside { g.now.dblocks ≤ D.size disk.old }
@@ -98,7 +103,7 @@ fn take_bare<D: Disk>(
     ensures disk { OnlyReads D.size D.holds D.write_faults D.tells_stops D.may_leave disk.old disk.new }
 {
     match note_bare(file.ino, inodes) {
-        Ok(()) => take_file(alloc, g, disk, slot, file, inodes),
+        Ok(()) => take_file(alloc, g, disk, slot, file, inodes, steps),
         Err(NoMemory) => Err(ReadError::NoMemory),
     }
 }
@@ -113,13 +118,14 @@ fn note_bare(ino: u64, inodes: &mut Inodes) -> Result<(), NoMemory>
 }
 
 /// Takes up a file, and its entries where it is a directory.
-fn take_file<D: Disk>(
+fn take_file<D: Disk, L: Ledger>(
     alloc: Global,
     g: &Geometry,
     disk: &mut D,
     slot: &[u8],
     file: FileRec,
     inodes: &mut Inodes,
+    steps: &mut Steps<L>,
 ) -> Result<(), ReadError>
     requires slot { length slot.now ≡ 512 }
     requires inside { g.now.dblocks ≤ D.size disk.old }
@@ -129,7 +135,7 @@ fn take_file<D: Disk>(
     ensures cause { HasReadCause (D.faults disk.old) (D.faults disk.new) result }
     ensures disk { OnlyReads D.size D.holds D.write_faults D.tells_stops D.may_leave disk.old disk.new }
 {
-    match take_directory(alloc, g, disk, slot, &file, inodes) {
+    match take_directory(alloc, g, disk, slot, &file, inodes, steps) {
         Ok(()) => {}
         Err(fault) => return Err(fault),
     }
@@ -148,13 +154,14 @@ fn push_file(file: FileRec, inodes: &mut Inodes) -> Result<(), NoMemory>
 }
 
 /// Takes up what is found of a file that is a directory, and its entries.
-fn take_directory<D: Disk>(
+fn take_directory<D: Disk, L: Ledger>(
     alloc: Global,
     g: &Geometry,
     disk: &mut D,
     slot: &[u8],
     file: &FileRec,
     inodes: &mut Inodes,
+    steps: &mut Steps<L>,
 ) -> Result<(), ReadError>
     requires slot { length slot.now ≡ 512 }
     requires inside { g.now.dblocks ≤ D.size disk.old }
@@ -167,7 +174,7 @@ fn take_directory<D: Disk>(
     if !is_directory(file) {
         return Ok(());
     }
-    match read_directory(alloc, g, disk, slot, file) {
+    match read_directory(alloc, g, disk, slot, file, steps) {
         Ok(found) => match push_directory(file.ino, found, inodes) {
             Ok(()) => Ok(()),
             Err(NoMemory) => Err(ReadError::NoMemory),

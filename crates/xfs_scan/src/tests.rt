@@ -1,19 +1,25 @@
 //! The evidence of a volume whose groups do not read: two groups of 1024 blocks, the root's cluster at block 16, one more that is
 //! found by its bytes at block 24.
 
-ghost use Rattle.std.specs.Prelude.{◌≡◌};
+ghost use Rattle.std.specs.Prelude.{◌≡◌, ◌<◌, ◌≤◌};
+
+mod disks;
+mod views;
 
 use super::*;
 use std::alloc::Global;
+use std::marker::Brand;
 use std::process::Abort;
+use std::sync::ledger::{Blank, Ledger};
 use std::test::Fail;
 use xfs_disk::{BLOCK_SIZE, Disk, MemoryDisk};
 use xfs_geom::Geometry;
 use xfs_heads::LogState;
 use xfs_image::Finding;
 use xfs_inode::fresh_slot;
+use xfs_runs::Steps;
 use xfs_volume::{ClusterRec, Core, DirRec};
-use xfs_word::{put_checksum, put_part, put8};
+use xfs_word::{put_checksum, put_part, put16};
 
 /// The identifier of the volume.
 const IDENTIFIER: [u8; 16] = [7; 16];
@@ -88,8 +94,23 @@ fn file(ino: u64) -> Core {
     }
 }
 
-/// Writes the slot of an inode with these features into a block.
-fn put_slot(rt: &impl Abort, block: &mut [u8; BLOCK_SIZE], core: &Core, fork: &[u8], features: u8) {
+/// Two bytes of a slot: their offset, and the number that they are.
+type Change = (usize, u16);
+
+/// No feature: the last bytes of the second flags, of which nothing is set.
+const PLAIN: Change = (126, 0);
+
+/// An attribute fork in the slot itself that states no size.
+const LOST_ATTRIBUTES: Change = (82, 0x1e01);
+
+/// Writes the slot of an inode with two bytes changed into a block.
+fn put_slot(
+    rt: &impl Abort,
+    block: &mut [u8; BLOCK_SIZE],
+    core: &Core,
+    fork: &[u8],
+    change: Change,
+) {
     let core = Core {
         uuid: IDENTIFIER,
         ..*core
@@ -99,7 +120,8 @@ fn put_slot(rt: &impl Abort, block: &mut [u8; BLOCK_SIZE], core: &Core, fork: &[
     assert!(rt; core.lsn == 0 && core.forkoff == 0 && core.flags == 0 && core.flags2 == 0);
     assert!(rt; fork.len() <= 336 && core.ino < 1024);
     fresh_slot(&volume(), &core, fork, &mut slot);
-    put8(&mut slot, 127, features);
+    assert!(rt; change.0 <= 510);
+    put16(&mut slot, change.0, change.1);
     put_checksum(&mut slot, 100);
     put_part(block, core.ino as usize % 8 * 512, &slot);
 }
@@ -110,34 +132,49 @@ fn put(rt: &impl Abort, disk: &mut MemoryDisk, place: u64, block: &[u8; BLOCK_SI
     assert!(rt; disk.write(place, block).is_ok());
 }
 
-/// The volume, with files of these features in block 17.
-fn disk(rt: &impl Abort, alloc: Global, features: &[(u64, u8)]) -> Result<MemoryDisk, Fail> {
+/// The volume, with files whose slots are changed so in block 17.
+fn disk(rt: &impl Abort, alloc: Global, changed: &[(u64, Change)]) -> Result<MemoryDisk, Fail> {
     let mut disk = MemoryDisk::make(alloc, 2048)?;
     let mut block = [0; BLOCK_SIZE];
-    put_slot(rt, &mut block, &ROOT, &ENTRY, 0);
-    put_slot(rt, &mut block, &file(131), &EXTENT, 0);
+    put_slot(rt, &mut block, &ROOT, &ENTRY, PLAIN);
+    put_slot(rt, &mut block, &file(131), &EXTENT, PLAIN);
     put(rt, &mut disk, 16, &block);
     block = [0; BLOCK_SIZE];
-    for (ino, bits) in features {
-        put_slot(rt, &mut block, &file(*ino), &EXTENT, *bits);
+    for (ino, change) in changed {
+        put_slot(rt, &mut block, &file(*ino), &EXTENT, *change);
     }
     put(rt, &mut disk, 17, &block);
     block = [0; BLOCK_SIZE];
-    put_slot(rt, &mut block, &file(192), &EXTENT, 0);
+    put_slot(rt, &mut block, &file(192), &EXTENT, PLAIN);
     put(rt, &mut disk, 24, &block);
     Ok(disk)
+}
+
+/// The evidence of a disk, with the steps counted.
+fn gather_counted<D: Disk, L: Ledger>(
+    alloc: Global,
+    disk: &mut D,
+    blank: Blank,
+) -> Result<Evidence, ScanFault>
+    requires name { blank.name ≡ L.name }
+    requires parts { blank.parts ≡ L.parts }
+    requires some { 0 < blank.parts }
+    requires inside { 2048 ≤ D.size disk.old }
+{
+    let mut steps = Steps::<L>::from_blank(blank);
+    gather(alloc, &volume(), disk, &mut steps)
 }
 
 /// The evidence of the disk.
 fn seen(alloc: Global, rt: &impl Abort, disk: &mut MemoryDisk) -> Result<Evidence, ScanFault> {
     assert!(rt; matches!(disk.blocks(), Ok(count) if 2048 <= count));
-    gather(alloc, &volume(), disk)
+    gather_counted::<MemoryDisk, Brand>(alloc, disk, Blank::new(1))
 }
 
 #[test]
 fn evidence(rt: HostRuntime) -> Result<(), Fail> {
     let alloc = rt.alloc();
-    let mut disk = disk(&rt, alloc, &[])?;
+    let mut disk = disk(&rt, alloc, &[(137, LOST_ATTRIBUTES)])?;
     let Ok(found) = seen(alloc, &rt, &mut disk) else {
         panic!(rt; "the volume is refused");
     };
@@ -148,10 +185,11 @@ fn evidence(rt: HostRuntime) -> Result<(), Fail> {
     assert_eq!(rt; found.clusters.as_slice(), &clusters[..]);
     assert_eq!(rt; found.slots.len(), 8);
     let files = found.files.as_slice();
-    assert!(rt;
-        files.len() == 3 && files[0].ino == 128 && files[1].ino == 131 && files[2].ino == 192
-    );
-    assert!(rt; found.bare.as_slice().is_empty());
+    assert!(rt; files.len() == 4);
+    for (file, ino) in files.iter().zip([128, 131, 137, 192]) {
+        assert_eq!(rt; file.ino, ino);
+    }
+    assert_eq!(rt; found.bare.as_slice(), &[137][..]);
     let entries = found.entries.as_slice();
     assert!(rt;
         entries.len() == 1 && entries[0].ino == 131 && entries[0].name.bytes() == b"a".as_slice()
@@ -171,7 +209,11 @@ fn evidence(rt: HostRuntime) -> Result<(), Fail> {
 #[test]
 fn least_feature(rt: HostRuntime) -> Result<(), Fail> {
     let alloc = rt.alloc();
-    let mut disk = disk(&rt, alloc, &[(136, 0), (138, 2), (141, 8)])?;
+    let mut disk = disk(
+        &rt,
+        alloc,
+        &[(136, PLAIN), (138, (126, 2)), (141, (126, 8))],
+    )?;
     let refused = seen(alloc, &rt, &mut disk);
     assert!(rt;
         matches!(
@@ -187,9 +229,8 @@ fn failing_reads(rt: HostRuntime) -> Result<(), Fail> {
     let alloc = rt.alloc();
     for call in [1, 10, 40, 560] {
         let mut disk = disk(&rt, alloc, &[])?;
-        assert!(rt; matches!(disk.blocks(), Ok(count) if 2048 <= count));
         disk.fail(call)?;
-        let refused = gather(alloc, &volume(), &mut disk);
+        let refused = seen(alloc, &rt, &mut disk);
         assert!(rt; matches!(refused, Err(ScanFault::ReadFault)), "{call}");
     }
     Ok(())

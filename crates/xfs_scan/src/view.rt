@@ -1,6 +1,6 @@
 //! What a whole image says, or the first part that does not read.
 
-ghost use Rattle.std.specs.Prelude.{◌≡◌, ◌^◌, ◌<◌, ◌≤◌, length, map, IsTrue, Ok, IfOk, OnOk};
+ghost use Rattle.std.specs.Prelude.{◌≡◌, ◌+◌, ◌^◌, ◌<◌, ◌≤◌, length, map, IsTrue, Ok, IfOk, OnOk};
 ghost use Rattle.std.specs.List.{All, flat_map};
 ghost use Rattle.std.specs.Option.{ForSome};
 ghost use Rattle.xfs_disk.specs.Faults.{HasCause};
@@ -25,12 +25,14 @@ use crate::faults::ReadError;
 use crate::inodes::Inodes;
 use crate::recorded::clusters_of;
 use std::alloc::Global;
+use std::sync::ledger::Ledger;
 use xfs_disk::{BLOCK_SIZE, Disk, Failed, NoMemory};
 use xfs_geom::superblock::{FDBLOCKS, ICOUNT, IFREE};
 use xfs_geom::{Counts, Geometry};
 use xfs_heads::LogState;
 use xfs_image::Finding;
 use xfs_journal::{JournalFault, read_lsns};
+use xfs_runs::Steps;
 use xfs_volume::{Catalog, ClusterRec, GroupRec, Records};
 
 /// The most groups that a volume has.
@@ -40,7 +42,7 @@ const MOST_GROUPS: usize = 512;
 const SLOT_PART: u8 = 9;
 
 /// What the whole image says whose groups, whose candidate clusters with what their slots give, and whose log are these.
-pub fn see_view<D: Disk>(
+pub fn see_view<D: Disk, L: Ledger>(
     alloc: Global,
     g: &Geometry,
     disk: &mut D,
@@ -48,6 +50,7 @@ pub fn see_view<D: Disk>(
     scanned_clusters: &[ClusterRec],
     scanned: &Inodes,
     log: LogState,
+    steps: &mut Steps<L>,
 ) -> Result<Result<Catalog, Finding>, ReadError>
     requires inside { g.now.dblocks ≤ D.size disk.old }
     requires groups { ForSome (D.holds disk.old) (λ image. groups ≡ groups_read (volume_of g.now) image) }
@@ -60,12 +63,21 @@ pub fn see_view<D: Disk>(
 {
     match groups {
         Err(found) => Ok(Err(found)),
-        Ok(groups) => see_catalog(alloc, g, disk, groups, scanned_clusters, scanned, log),
+        Ok(groups) => see_catalog(
+            alloc,
+            g,
+            disk,
+            groups,
+            scanned_clusters,
+            scanned,
+            log,
+            steps,
+        ),
     }
 }
 
 /// The same, of groups that read.
-fn see_catalog<D: Disk>(
+fn see_catalog<D: Disk, L: Ledger>(
     alloc: Global,
     g: &Geometry,
     disk: &mut D,
@@ -73,6 +85,7 @@ fn see_catalog<D: Disk>(
     scanned_clusters: &[ClusterRec],
     scanned: &Inodes,
     log: LogState,
+    steps: &mut Steps<L>,
 ) -> Result<Result<Catalog, Finding>, ReadError>
     requires inside { g.now.dblocks ≤ D.size disk.old }
     requires groups { ForSome (D.holds disk.old) (λ image. groups_read (volume_of g.now) image ≡ Ok groups) }
@@ -90,7 +103,7 @@ fn see_catalog<D: Disk>(
         Ok(clusters) => clusters,
         Err(NoMemory) => return Err(ReadError::NoMemory),
     };
-    let inodes = match see_recorded(alloc, g, disk, &clusters, scanned_clusters, scanned) {
+    let inodes = match see_recorded(alloc, g, disk, &clusters, scanned_clusters, scanned, steps) {
         Ok(inodes) => inodes,
         Err(fault) => return Err(fault),
     };
@@ -103,14 +116,14 @@ fn see_catalog<D: Disk>(
         }
         None => {}
     }
-    match build(alloc, g, disk, groups, &clusters, inodes, log) {
+    match build(alloc, g, disk, groups, &clusters, inodes, log, steps) {
         Ok(catalog) => Ok(Ok(catalog)),
         Err(fault) => Err(fault),
     }
 }
 
 /// The catalog of groups and inodes that all read.
-fn build<D: Disk>(
+fn build<D: Disk, L: Ledger>(
     alloc: Global,
     g: &Geometry,
     disk: &mut D,
@@ -118,6 +131,7 @@ fn build<D: Disk>(
     clusters: &[u64],
     inodes: Inodes,
     log: LogState,
+    steps: &mut Steps<L>,
 ) -> Result<Catalog, ReadError>
     requires inside { g.now.dblocks ≤ D.size disk.old }
     requires few { length groups ≤ 512 }
@@ -130,12 +144,20 @@ fn build<D: Disk>(
     ensures cause { HasReadCause (D.faults disk.old) (D.faults disk.new) result }
     ensures disk { OnlyReads D.size D.holds D.write_faults D.tells_stops D.may_leave disk.old disk.new }
 {
-    let lsns = match read_lsns(alloc, g, disk, groups.as_slice(), clusters, &inodes.files) {
+    let lsns = match read_lsns(
+        alloc,
+        g,
+        disk,
+        groups.as_slice(),
+        clusters,
+        &inodes.files,
+        steps,
+    ) {
         Ok(lsns) => lsns,
         Err(JournalFault::ReadFault) => return Err(ReadError::ReadFault),
         Err(JournalFault::NoMemory) => return Err(ReadError::NoMemory),
     };
-    let counts = match read_counts(g, disk) {
+    let counts = match read_counts(g, disk, steps) {
         Ok(counts) => counts,
         Err(Failed) => return Err(ReadError::ReadFault),
     };
@@ -152,13 +174,19 @@ fn build<D: Disk>(
 }
 
 /// The counters of the primary superblock.
-fn read_counts<D: Disk>(g: &Geometry, disk: &mut D) -> Result<Counts, Failed>
+fn read_counts<D: Disk, L: Ledger>(
+    g: &Geometry,
+    disk: &mut D,
+    steps: &mut Steps<L>,
+) -> Result<Counts, Failed>
     requires inside { g.now.dblocks ≤ D.size disk.old }
     ensures counts { IfOk result (λ counts. ForSome (D.holds disk.old) (λ image. counts ≡ counts_of image)) }
     ensures cause { HasCause (D.faults disk.old) (D.faults disk.new) result }
     ensures disk { OnlyReads D.size D.holds D.write_faults D.tells_stops D.may_leave disk.old disk.new }
+    ensures ticks { steps.new ≡ steps.old + 1 }
 {
     let mut block = [0; BLOCK_SIZE];
+    steps.tick();
     match disk.read(0, &mut block) {
         Ok(()) => Ok(Counts {
             icount: ICOUNT.read(&block),
@@ -170,13 +198,14 @@ fn read_counts<D: Disk>(g: &Geometry, disk: &mut D) -> Result<Counts, Failed>
 }
 
 /// What the slots of these clusters give. Where they are just the candidates, no block is read again.
-fn see_recorded<D: Disk>(
+fn see_recorded<D: Disk, L: Ledger>(
     alloc: Global,
     g: &Geometry,
     disk: &mut D,
     clusters: &[u64],
     scanned_clusters: &[ClusterRec],
     scanned: &Inodes,
+    steps: &mut Steps<L>,
 ) -> Result<Inodes, ReadError>
     requires inside { g.now.dblocks ≤ D.size disk.old }
     requires low { All (λ cluster. cluster < 2 ^ 42) clusters.now }
@@ -187,7 +216,7 @@ fn see_recorded<D: Disk>(
     ensures disk { OnlyReads D.size D.holds D.write_faults D.tells_stops D.may_leave disk.old disk.new }
 {
     if !are_candidates(clusters, scanned_clusters) {
-        return see_clusters(alloc, g, disk, clusters);
+        return see_clusters(alloc, g, disk, clusters, steps);
     }
     match copy_inodes(alloc, scanned) {
         Ok(inodes) => Ok(inodes),
@@ -211,11 +240,12 @@ fn are_candidates(clusters: &[u64], candidates: &[ClusterRec]) -> bool
 }
 
 /// What the slots of these clusters give.
-fn see_clusters<D: Disk>(
+fn see_clusters<D: Disk, L: Ledger>(
     alloc: Global,
     g: &Geometry,
     disk: &mut D,
     clusters: &[u64],
+    steps: &mut Steps<L>,
 ) -> Result<Inodes, ReadError>
     requires inside { g.now.dblocks ≤ D.size disk.old }
     requires low { All (λ cluster. cluster < 2 ^ 42) clusters.now }
@@ -228,19 +258,20 @@ fn see_clusters<D: Disk>(
         Err(NoMemory) => return Err(ReadError::NoMemory),
     };
     let mut inodes = Inodes::new(alloc);
-    match look_at(alloc, g, disk, &blocks, &mut inodes) {
+    match look_at(alloc, g, disk, &blocks, &mut inodes, steps) {
         Ok(()) => Ok(inodes),
         Err(fault) => Err(fault),
     }
 }
 
 /// Reads these blocks, and takes up their slots.
-fn look_at<D: Disk>(
+fn look_at<D: Disk, L: Ledger>(
     alloc: Global,
     g: &Geometry,
     disk: &mut D,
     blocks: &[u64],
     inodes: &mut Inodes,
+    steps: &mut Steps<L>,
 ) -> Result<(), ReadError>
     requires inside { g.now.dblocks ≤ D.size disk.old }
     requires low { All (λ block. block < 2 ^ 43) blocks.now }
@@ -249,7 +280,7 @@ fn look_at<D: Disk>(
     ensures disk { OnlyReads D.size D.holds D.write_faults D.tells_stops D.may_leave disk.old disk.new }
 {
     for block in blocks {
-        match look_at_block(alloc, g, disk, *block, inodes) {
+        match look_at_block(alloc, g, disk, *block, inodes, steps) {
             Ok(()) => {}
             Err(fault) => return Err(fault),
         }
@@ -258,12 +289,13 @@ fn look_at<D: Disk>(
 }
 
 /// Reads a block, and takes up its slots. Of a block outside the volume no slot reads.
-fn look_at_block<D: Disk>(
+fn look_at_block<D: Disk, L: Ledger>(
     alloc: Global,
     g: &Geometry,
     disk: &mut D,
     block: u64,
     inodes: &mut Inodes,
+    steps: &mut Steps<L>,
 ) -> Result<(), ReadError>
     requires inside { g.now.dblocks ≤ D.size disk.old }
     requires low { block < 2 ^ 43 }
@@ -276,8 +308,9 @@ fn look_at_block<D: Disk>(
         return Ok(());
     }
     let mut bytes = [0; BLOCK_SIZE];
+    steps.tick();
     match disk.read(block, &mut bytes) {
-        Ok(()) => see_block(alloc, g, disk, block, &bytes, inodes),
+        Ok(()) => see_block(alloc, g, disk, block, &bytes, inodes, steps),
         Err(Failed) => Err(ReadError::ReadFault),
     }
 }

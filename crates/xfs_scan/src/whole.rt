@@ -17,24 +17,32 @@ use crate::limits::{INODES, MOST_INODES, count_extents, count_inodes, refusal};
 use crate::scan::{Scanned, scan};
 use crate::view::see_view;
 use std::alloc::Global;
+use std::sync::ledger::Ledger;
 use xfs_disk::Disk;
 use xfs_geom::Geometry;
 use xfs_groups::{GroupTrees, Groups, GroupsFault, see_groups};
 use xfs_heads::LogState;
 use xfs_image::Finding;
 use xfs_journal::{JournalFault, read_log};
+use xfs_runs::Steps;
 use xfs_volume::{Catalog, ClusterRec, GroupRec, Records};
 
-/// The evidence of the volume that a disk holds. `ReadFault` only where a read failed.
+/// The evidence of the volume that a disk holds. `ReadFault` only where a read failed. Each block that is read counts as a
+/// step, also where the read fails.
 #[tactic(auto, unfolding(crate::specs::Refused::refused, xfs_image::specs::Claims::inode_count))]
-pub fn gather<D: Disk>(alloc: Global, g: &Geometry, disk: &mut D) -> Result<Evidence, ScanFault>
+pub fn gather<D: Disk, L: Ledger>(
+    alloc: Global,
+    g: &Geometry,
+    disk: &mut D,
+    steps: &mut Steps<L>,
+) -> Result<Evidence, ScanFault>
     requires inside { g.now.dblocks ≤ D.size disk.old }
     ensures evidence { IfOk result (λ e. ForSome (D.holds disk.old) (λ image. IsEvidence g.now image e)) }
     ensures refused { ForSome (D.holds disk.old) (λ image. HasRefused (refused (volume_of g.now) image) result) }
     ensures cause { HasScanCause (D.faults disk.old) (D.faults disk.new) result }
     ensures disk { OnlyReads D.size D.holds D.write_faults D.tells_stops D.may_leave disk.old disk.new }
 {
-    let seen = match see_groups(alloc, g, disk) {
+    let seen = match see_groups(alloc, g, disk, steps) {
         Ok(seen) => seen,
         Err(GroupsFault::ReadFault) => return Err(ScanFault::ReadFault),
         Err(GroupsFault::NoMemory) => return Err(ScanFault::NoMemory),
@@ -48,15 +56,16 @@ pub fn gather<D: Disk>(alloc: Global, g: &Geometry, disk: &mut D) -> Result<Evid
             count,
         });
     }
-    gather_files(alloc, g, disk, seen)
+    gather_files(alloc, g, disk, seen, steps)
 }
 
 /// The evidence of a volume whose clusters are not too many.
-fn gather_files<D: Disk>(
+fn gather_files<D: Disk, L: Ledger>(
     alloc: Global,
     g: &Geometry,
     disk: &mut D,
     seen: Groups,
+    steps: &mut Steps<L>,
 ) -> Result<Evidence, ScanFault>
     requires inside { g.now.dblocks ≤ D.size disk.old }
     requires seen { ForSome (D.holds disk.old) (λ image. AreSeen g.now image seen) }
@@ -66,7 +75,7 @@ fn gather_files<D: Disk>(
     ensures cause { HasScanCause (D.faults disk.old) (D.faults disk.new) result }
     ensures disk { OnlyReads D.size D.holds D.write_faults D.tells_stops D.may_leave disk.old disk.new }
 {
-    let scanned = match scan(alloc, g, disk, seen.clusters.as_slice()) {
+    let scanned = match scan(alloc, g, disk, seen.clusters.as_slice(), steps) {
         Ok(scanned) => scanned,
         Err(error) => return Err(error.answer()),
     };
@@ -79,7 +88,7 @@ fn gather_files<D: Disk>(
         scanned.inodes.feature,
     ) {
         Some(fault) => Err(fault),
-        None => match gather_view(alloc, g, disk, seen, scanned) {
+        None => match gather_view(alloc, g, disk, seen, scanned, steps) {
             Ok(evidence) => Ok(evidence),
             Err(error) => Err(error.answer()),
         },
@@ -87,12 +96,13 @@ fn gather_files<D: Disk>(
 }
 
 /// The evidence of a volume that is not refused.
-fn gather_view<D: Disk>(
+fn gather_view<D: Disk, L: Ledger>(
     alloc: Global,
     g: &Geometry,
     disk: &mut D,
     seen: Groups,
     scanned: Scanned,
+    steps: &mut Steps<L>,
 ) -> Result<Evidence, ReadError>
     requires inside { g.now.dblocks ≤ D.size disk.old }
     requires seen { ForSome (D.holds disk.old) (λ image. AreSeen g.now image seen) }
@@ -102,7 +112,7 @@ fn gather_view<D: Disk>(
     ensures cause { HasReadCause (D.faults disk.old) (D.faults disk.new) result }
     ensures disk { OnlyReads D.size D.holds D.write_faults D.tells_stops D.may_leave disk.old disk.new }
 {
-    let log = match read_log(alloc, g, disk) {
+    let log = match read_log(alloc, g, disk, steps) {
         Ok(log) => log,
         Err(JournalFault::ReadFault) => return Err(ReadError::ReadFault),
         Err(JournalFault::NoMemory) => return Err(ReadError::NoMemory),
@@ -120,6 +130,7 @@ fn gather_view<D: Disk>(
         clusters.as_slice(),
         &scanned.inodes,
         log,
+        steps,
     ) {
         Ok(catalog) => Ok(evidence_of(clusters, trees, scanned, catalog, log)),
         Err(fault) => Err(fault),
