@@ -1,13 +1,13 @@
 -- The slots of a block outside the volume do not read.
-use Rattle.std.proofs.Common.{◌≡◌, ℕ, Bool, true, false, ◌+◌, ◌-◌, ◌*◌, ◌/◌, ◌%◌, ◌^◌, ◌<◌, ◌≤◌, ◌==◌, ◌&&◌, nat_lt, if◌then◌else◌, List, [], ◌∷◌, map, Option, Some, None, option_map, inl, inr, refl, sym, ap, ap₂, ◌∙◌, arith}
-use Rattle.std.proofs.Math.Nat.{mul-le-mul_left, mul-le-mul_right}
+use Rattle.std.proofs.Common.{◌≡◌, ℕ, Bool, true, false, ◌+◌, ◌-◌, ◌*◌, ◌/◌, ◌%◌, ◌^◌, ◌<◌, ◌≤◌, ◌==◌, ◌&&◌, nat_lt, if◌then◌else◌, List, [], ◌∷◌, map, Some, None, option_map, inl, inr, refl, ap, ap₂, ◌∙◌, arith}
+use Rattle.std.proofs.Math.Nat.{mul-le-mul_right}
 use Rattle.std.proofs.lemmas.Bool.{cases_lt}
 use Rattle.std.proofs.lemmas.Bool.Decides.{nat_tests}
 use Rattle.std.proofs.lemmas.Nat.{div-add-mod', div-mul-add, mod-mul-add}
 use Rattle.xfs_word.specs.Field.{field_of}
 use Rattle.xfs_word.specs.Seal.{has_magic, is_ready, is_sealed}
 use Rattle.xfs_disk.specs.Blocks.{Image}
-use Rattle.xfs_geom.specs.Conversions.{address_of, block_at, group_length, inode_of, is_address, slot_at, with_slot}
+use Rattle.xfs_geom.specs.Conversions.{address_of, block_at, group_length, inode_of, slot_at, with_slot}
 use Rattle.xfs_geom.specs.Groups.{block_of_address, blocks_of_group}
 use Rattle.xfs_geom.specs.Shape.{HasAddresses, HasGroups}
 use Rattle.xfs_geom.specs.Volumes.{Volume}
@@ -18,7 +18,7 @@ use Rattle.xfs_inode.specs.declared.files.FileRead.TheVariants as Reads
 use Rattle.xfs_inode.specs.declared.reading.SlotRead.TheVariants as Read
 use Rattle.std.specs.List.{range_with_len}
 use Rattle.xfs_tree.specs.Reading.{bytes_at}
-use Rattle.xfs_image.specs.Slots.{bytes_in, inodes_in, reads_as, slot_bytes}
+use Rattle.xfs_image.specs.Slots.{bytes_in, inodes_in, reads_as}
 use Rattle.xfs_scan.specs.Gathered.{gathered, joined, nothing, of_none, of_read}
 
 abbrev AllBelow : List ℕ → Type 0

@@ -1,6 +1,5 @@
 -- What is refused late, and what the evidence is, from what is gathered.
-use Rattle.std.proofs.Common.{◌≡◌, ℕ, ◌+◌, ◌*◌, ◌^◌, ◌<◌, ◌≤◌, Bool, true, false, nat_lt, if◌then◌else◌, List, map, length, Option, Some, Result, sym, ap, ap₂, ◌∙◌, arith}
-use Rattle.std.proofs.lemmas.Bool.Decides.{nat_tests}
+use Rattle.std.proofs.Common.{◌≡◌, ℕ, ◌+◌, ◌^◌, List, map, length, Option, Some, Result, sym, ap, ap₂, ◌∙◌}
 use Rattle.std.specs.List.{flat_map, sum_by}
 use Rattle.xfs_disk.specs.Blocks.{Image}
 use Rattle.xfs_geom.specs.Volumes.{Volume, volume_of}
@@ -13,14 +12,13 @@ use Rattle.xfs_volume.specs.declared.clusters.ClusterRec.{ClusterRec}
 use Rattle.xfs_volume.specs.declared.files.FileRec.{FileRec}
 use Rattle.xfs_image.specs.declared.findings.Finding.{Finding}
 use Rattle.xfs_image.specs.Candidates.{candidates}
-use Rattle.xfs_image.specs.Claims.{candidate_files, candidate_inodes, entry_count, extent_count, inode_count}
+use Rattle.xfs_image.specs.Claims.{candidate_files, candidate_inodes, entry_count, extent_count}
 use Rattle.xfs_image.specs.Directories.{dirs_read, entries_read}
 use Rattle.xfs_image.specs.Slots.{cluster_blocks, cluster_inodes}
 use Rattle.xfs_image.specs.View.{log_of, view}
 use Rattle.xfs_scan.specs.Evidence.{AreSeen, IsEvidence, joined_parts}
 use Rattle.xfs_scan.specs.Gathered.{Gathered, bare_inodes, candidate_slots, first_feature, gathered, held_in}
-use Rattle.xfs_scan.specs.Refused.{feature_refused, refused, refused_late, unless_more}
-use Rattle.xfs_scan.specs.declared.inodes.Feature.{Feature}
+use Rattle.xfs_scan.specs.Refused.{feature_refused, refused_late, unless_more}
 use Rattle.xfs_scan.specs.declared.scan.Scanned.{Scanned}
 use Rattle.xfs_scan.specs.Answers.{IsRefusal}
 use Rattle.xfs_scan.specs.declared.faults.ScanFault.{ScanFault}

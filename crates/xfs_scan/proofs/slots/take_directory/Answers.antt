@@ -1,4 +1,4 @@
-use Rattle.std.proofs.Common.{sym, ap, ◌∙◌}
+use Rattle.std.proofs.Common.{ap, ◌∙◌}
 use Rattle.xfs_geom.specs.Volumes.{volume_of}
 use Rattle.xfs_scan.specs.Gathered.{held_in, joined}
 use Rattle.xfs_scan.proofs.Gathering.{found_directory, other_file}

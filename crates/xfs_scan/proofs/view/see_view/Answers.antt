@@ -1,4 +1,3 @@
-use Rattle.std.proofs.Common.{sym, ◌∙◌}
 use Rattle.xfs_scan.proofs.Views.{group_missing}
 use Rattle.xfs_scan.proofs.view.see_view.Goals as goal
 
