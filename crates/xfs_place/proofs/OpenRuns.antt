@@ -52,7 +52,7 @@ none_behind uses now blocks s some least marks = λ t before all. elim (cases_lt
 ]
 
 pub starts_first : (uses : List Use) (bound : ℕ) (starts : List ℕ) → length starts ≡ bound → ((n : ℕ) → n < bound → get_or starts n 0 ≡ 0) → AreStarts uses bound starts
-starts_first uses bound starts long first = record { all = long; each = λ n low some b before all. omega (arith, first n low, before); }
+starts_first uses bound starts long first = record { all = long; each = λ n low some b before all. omega (arith, first n low, before) }
 
 -- the starts once a run is given away
 pub starts_next : (uses now : List Use) (starts next : List ℕ) (blocks s slot value : ℕ) → 1 ≤ blocks → AreStarts uses 65536 starts → IsLeast (HasRun uses blocks) s → Marks uses now (is_among s blocks) Claimed

@@ -17,4 +17,3 @@ pub mod LawfulOwners
 pub mod TreePlaces
 pub mod ReadyGroups
 pub mod ReadyWanted
-pub mod RootAlone

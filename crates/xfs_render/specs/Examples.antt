@@ -3,7 +3,6 @@ use Rattle.std.specs.Prelude.{ℕ, List, [], ◌∷◌, ◌^◌, ◌-◌}
 use Rattle.xfs_geom.specs.Volumes.{Volume}
 use Rattle.xfs_geom.specs.declared.records.InoRec.{InoRec}
 use Rattle.xfs_geom.specs.declared.records.RmapRec.{RmapRec}
-use Rattle.xfs_geom.specs.declared.records.Run.{Run}
 use Rattle.xfs_geom.specs.declared.records.Span.{Span}
 use Rattle.xfs_place.specs.declared.placed.GroupPlaced.{GroupPlaced}
 use Rattle.xfs_volume.specs.declared.groups.TreeBlocks.{TreeBlocks}
@@ -24,10 +23,6 @@ smallest uuid = record {
 -- the root's chunk, of which three inodes are in use
 abbrev pub root_chunk : InoRec
 root_chunk = record { startino = 128; holemask = 0; count = 64; freecount = 61; free = 0xffff_ffff_ffff_fff8 }
-
--- the blocks of that chunk
-abbrev pub root_run : Run
-root_run = record { start = 16; count = 8; owner = 2 ^ 64 - 7; offset = 0 }
 
 abbrev pub tree_of : ℕ → TreeBlocks
 tree_of block = record { blocks = block ∷ [] }

@@ -6,7 +6,6 @@ ghost use Rattle.xfs_render.specs.Drafts.{IsDraft};
 ghost use Rattle.xfs_render.specs.Examples.{smallest};
 
 mod headers;
-mod whole;
 
 use super::*;
 use crate::arranging::arrange;

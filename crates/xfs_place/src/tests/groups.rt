@@ -353,3 +353,21 @@ fn groups_nearly_full(rt: HostRuntime) -> Result<(), Fail> {
     }
     Ok(())
 }
+
+/// Four groups of 2048 blocks.
+const FOUR_GROUPS: Size = Size {
+    dblocks: 8192,
+    agblocks: 2048,
+    agcount: 4,
+    agblklog: 11,
+    log: 4102,
+};
+
+#[test]
+fn free_blocks_of_four_groups(rt: HostRuntime) -> Result<(), Fail> {
+    let alloc = rt.alloc();
+    let none = Vec::new(alloc);
+    let placed = place_beside(alloc, &FOUR_GROUPS, root_chunk(), none, Vec::new(alloc), 1)?;
+    assert_eq!(rt; placed.counts.fdblocks, 7648);
+    Ok(())
+}
