@@ -7,8 +7,6 @@ mod layouts;
 mod leaf;
 mod short_form;
 mod soundness;
-#[cfg(test)]
-mod tests;
 
 pub use attributes::{Attr, AttrFault, Attrs};
 pub use leaf::read_leaf;

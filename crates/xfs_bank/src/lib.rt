@@ -3,7 +3,5 @@
 
 mod bank;
 mod parts;
-#[cfg(test)]
-mod tests;
 
 pub use bank::BlockBank;

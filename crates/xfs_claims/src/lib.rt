@@ -6,8 +6,6 @@ mod holding;
 mod ranks;
 mod salvage;
 mod taking;
-#[cfg(test)]
-mod tests;
 
 pub use claimants::{Claims, FileClaim, Kept};
 pub use salvage::keep;

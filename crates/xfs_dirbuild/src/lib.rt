@@ -10,8 +10,6 @@ mod index_blocks;
 mod leaf;
 mod sharing;
 mod single;
-#[cfg(test)]
-mod tests;
 mod tree;
 mod writing;
 

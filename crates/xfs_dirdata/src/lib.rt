@@ -10,8 +10,6 @@ mod records;
 mod short;
 mod short_writing;
 mod sizes;
-#[cfg(test)]
-mod tests;
 
 pub use best::bestfree;
 pub use data::{DataBlock, read_data};

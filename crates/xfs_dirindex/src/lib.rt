@@ -13,8 +13,6 @@ mod node;
 mod pairs;
 mod same;
 mod seen;
-#[cfg(test)]
-mod tests;
 mod values;
 
 pub use block::check_block;

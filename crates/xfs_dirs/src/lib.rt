@@ -8,8 +8,6 @@ mod found;
 mod gathered;
 mod seals;
 mod short;
-#[cfg(test)]
-mod tests;
 mod whole;
 
 pub use directory::read_directory;

@@ -16,8 +16,6 @@ mod schedule;
 mod stamp;
 mod stream;
 mod streams;
-#[cfg(test)]
-mod tests;
 mod word;
 
 pub use disk::{BLOCK_SIZE, Disk};

@@ -12,8 +12,6 @@ mod reading;
 mod records;
 mod stated;
 pub mod superblock;
-#[cfg(test)]
-mod tests;
 mod writing;
 
 pub use backups::agrees;

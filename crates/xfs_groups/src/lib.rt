@@ -13,8 +13,6 @@ mod recorded;
 mod scanned;
 mod sets;
 mod sweep;
-#[cfg(test)]
-mod tests;
 mod trees;
 
 pub use faults::GroupsFault;

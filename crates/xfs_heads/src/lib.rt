@@ -9,8 +9,6 @@ mod heads;
 mod inodes;
 pub mod layouts;
 mod log;
-#[cfg(test)]
-mod tests;
 
 pub use arrays::ArrayLayout;
 pub use free_list::{Agfl, put_agfl, read_agfl};

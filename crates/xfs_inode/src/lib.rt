@@ -24,8 +24,6 @@ mod roots;
 mod seals;
 mod settling;
 mod support;
-#[cfg(test)]
-mod tests;
 mod whole;
 
 pub use blank::{free_slot, fresh_slot};

@@ -9,8 +9,6 @@ mod log;
 mod lsns;
 mod places;
 mod sorting;
-#[cfg(test)]
-mod tests;
 
 pub use faults::JournalFault;
 pub use log::read_log;

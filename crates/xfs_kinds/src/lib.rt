@@ -13,8 +13,6 @@ mod offset_words;
 mod owner_trees;
 mod owners;
 mod spans;
-#[cfg(test)]
-mod tests;
 
 pub use chunks::missing_bits;
 pub use file_trees::Bmbt;

@@ -10,8 +10,6 @@ mod log;
 mod named;
 mod parts;
 mod sums;
-#[cfg(test)]
-mod tests;
 mod verdict;
 
 pub use verdict::{is_catalog, lawful};

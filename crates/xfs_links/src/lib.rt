@@ -10,8 +10,6 @@ mod met;
 mod orphans;
 mod records;
 mod remaining;
-#[cfg(test)]
-mod tests;
 mod walk;
 
 pub use connecting::connect;

@@ -11,8 +11,6 @@ mod naming;
 mod numbering;
 mod places;
 mod runs;
-#[cfg(test)]
-mod tests;
 mod texts;
 mod walks;
 

@@ -10,8 +10,6 @@ mod options;
 mod reading;
 mod sizes;
 mod sub_options;
-#[cfg(test)]
-mod tests;
 
 pub use debugging::{DebugLine, read_debug_words};
 pub use making::{MakeFault, MakeLine, MakeOptions, read_make_words};

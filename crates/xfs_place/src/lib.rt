@@ -14,8 +14,6 @@ mod object_placing;
 mod owned;
 mod placed;
 mod placing;
-#[cfg(test)]
-mod tests;
 mod uses;
 mod volume_placing;
 mod wanted;

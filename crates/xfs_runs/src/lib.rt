@@ -3,8 +3,6 @@
 
 mod counting;
 mod run_set;
-#[cfg(test)]
-mod tests;
 
 pub use counting::Steps;
 pub use run_set::RunSet;

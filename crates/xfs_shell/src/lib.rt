@@ -16,8 +16,6 @@ mod objects;
 mod outcomes;
 mod running;
 mod session;
-#[cfg(test)]
-mod tests;
 mod values;
 mod writes;
 

@@ -13,8 +13,6 @@ mod recorded;
 mod sharing;
 mod sorting;
 mod splitting;
-#[cfg(test)]
-mod tests;
 
 pub use checking::check_space;
 pub use owners::owned_runs;

@@ -1,2 +1,3 @@
 pub mod Offending
+pub mod Refusing
 pub mod Telling

@@ -2,7 +2,7 @@
 use Rattle.std.specs.Prelude.{◌≡◌, ℕ, ◌+◌, ◌-◌, ◌*◌, ◌≤◌, Bool, true, false, ◌==◌, ◌&&◌, nat_le, if◌then◌else◌, codes, bytes_eq, List, [], ◌∷◌, ◌++◌, length, take, Option, Some, None}
 use Rattle.xfs_mend.specs.declared.outcome.RepairOptions.{RepairOptions}
 use Rattle.xfs_tools.specs.declared.command_line.Call.{Call}
-use Rattle.xfs_tools.specs.declared.command_line.Call.TheVariants.{Repair, Make, Debug, Refused}
+use Rattle.xfs_tools.specs.declared.command_line.Call.TheVariants.{Repair, Make, Refused}
 use Rattle.xfs_tools.specs.declared.command_line.RepairWords.{RepairWords}
 use Rattle.xfs_tools.specs.declared.command_line.Reading.{Reading}
 use Rattle.xfs_tools.specs.declared.command_line.Reading.TheVariants.{Options, Workers, Image, Complete, Offended}
@@ -91,8 +91,12 @@ judged [] = Refused 0
 judged (tool ∷ rest) =
     if bytes_eq tool (codes "xfs_repair") then settled (length rest + 1) (reading_of rest)
     else if bytes_eq tool (codes "mkfs.xfs") then Make
-    else if bytes_eq tool (codes "xfs_db") then Debug
     else Refused 0
+
+-- the tool is xfs_db
+abbrev pub is_debugger : Words → Bool
+is_debugger [] = false
+is_debugger (tool ∷ rest) = bytes_eq tool (codes "xfs_db")
 
 -- what a repair is asked for
 abbrev pub options_of : RepairWords → RepairOptions
@@ -102,7 +106,6 @@ options_of o = record { check = o.check; drop_log = o.drop_log; workers = o.work
 abbrev pub tells_in : Call → Bool
 tells_in (Repair o) = o.tells_repair
 tells_in Make = false
-tells_in Debug = false
 tells_in (Refused n) = false
 
 abbrev pub tells_repair : Words → Bool

@@ -3,3 +3,4 @@ pub mod CommandLine
 pub mod Hexadecimal
 pub mod Labels
 pub mod Texts
+pub mod Debugging

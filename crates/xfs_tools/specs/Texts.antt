@@ -2,7 +2,7 @@
 use Rattle.std.specs.Prelude.{ℕ, Bool, true, false, if◌then◌else◌, codes, decimal, List, [], ◌∷◌, ◌++◌}
 use Rattle.std.specs.List.{flat_map}
 use Rattle.xfs_tools.specs.declared.answer.Answer.{Answer}
-use Rattle.xfs_tools.specs.declared.answer.Answer.TheVariants.{Usage, Unbuilt, NoGeometry, Unsupported, DirtyLog, TooLarge, UnsupportedFile, Clean, Damaged, Repaired, ReadFault, WriteFault, OutputFault, NoMemory}
+use Rattle.xfs_tools.specs.declared.answer.Answer.TheVariants.{Usage, Unbuilt, NoGeometry, Unsupported, DirtyLog, TooLarge, UnsupportedFile, Clean, Damaged, Repaired, ReadFault, WriteFault, OutputFault, NoMemory, Done, InputFault, InputLong}
 use Rattle.xfs_mend.specs.declared.outcome.Summary.{Summary}
 use Rattle.xfs_mend.specs.declared.outcome.Summary.TheVariants.{Backups, Rebuilt}
 use Rattle.xfs_image.specs.declared.findings.Finding.{Finding}
@@ -58,6 +58,9 @@ text_of (ReadFault faults) = line ((codes "xfs: read fault: ", Decimal faults) �
 text_of (WriteFault written) = line ((codes "xfs: write fault after ", Decimal written) ∷ []) (codes " blocks\n")
 text_of OutputFault = line [] []
 text_of NoMemory = line [] (codes "xfs: no memory\n")
+text_of Done = line [] []
+text_of InputFault = line [] (codes "xfs: input fault\n")
+text_of InputLong = line [] (codes "xfs: input too long\n")
 
 -- the line goes to standard output, and else to standard error
 abbrev pub is_for_out : Answer → Bool
@@ -69,6 +72,7 @@ is_for_out answer = false
 -- the exit status of an answer; under -e a repair ends with 4
 abbrev pub code_of : Bool → Answer → ℕ
 code_of tells Clean = 0
+code_of tells Done = 0
 code_of tells (Repaired summary) = if tells then 4 else 0
 code_of tells DirtyLog = 2
 code_of tells answer = 1

@@ -34,8 +34,14 @@ pub enum Answer {
     WriteFault { written: u64 },
     /// The answer's line could not be put.
     OutputFault,
-    /// There is not enough memory. Nothing was written.
+    /// There is not enough memory. Nothing was written, but by earlier commands of a debugger.
     NoMemory,
+    /// All commands of a debugger were run, to the end of its input or to `quit`.
+    Done,
+    /// The commands of a debugger could not be read. None was run.
+    InputFault,
+    /// The commands of a debugger are more than 1,048,576 bytes. None was run.
+    InputLong,
 }
 
 /// How a call ended.
@@ -58,7 +64,7 @@ impl Answer {
         ensures { result ≡ code_of tells_repair self }
     {
         match self {
-            Answer::Clean => 0,
+            Answer::Clean | Answer::Done => 0,
             Answer::Repaired(_) => { if tells_repair { 4 } else { 0 } }
             Answer::DirtyLog => 2,
             _ => 1,

@@ -1,20 +1,18 @@
 //! The words of a command line.
 
-ghost use Rattle.std.specs.Prelude.{◌≡◌, ℕ, Option, Some, None, IsTrue, List, ◌∷◌, codes, length};
-ghost use Rattle.xfs_tools.specs.CommandLine.{after_letter_w, after_letters, after_option, after_word, after_workers, after_words, judged, options_of, OffendsFirst, Words, no_options, reading_of, settled, workers_of};
+ghost use Rattle.std.specs.Prelude.{◌≡◌, ℕ, ◌≤◌, Option, Some, None, IsTrue, List, ◌∷◌, codes, length};
+ghost use Rattle.xfs_tools.specs.CommandLine.{after_letter_w, after_letters, after_option, after_word, after_workers, after_words, is_debugger, judged, options_of, OffendsFirst, Words, no_options, reading_of, settled, workers_of};
 
 use xfs_disk::Word;
 use xfs_mend::RepairOptions;
 
-/// What the words of a command line ask for.
+/// What the words of a command line ask for, but for those of `xfs_db`.
 #[derive(Clone, Copy, Debug, PartialEq, Eq)]
 pub enum Call {
     /// `xfs_repair`.
     Repair(RepairWords),
     /// `mkfs.xfs`.
     Make,
-    /// `xfs_db`.
-    Debug,
     /// Nothing: the words are not those of a tool. `word` is the first offending one, or the number of words where one lacks.
     Refused { word: usize },
 }
@@ -47,6 +45,17 @@ enum Reading {
     Offended(usize),
 }
 
+/// Whether the tool is `xfs_db`.
+pub fn is_debugger(words: &[Word]) -> bool
+    ensures value { result ≡ is_debugger words.now }
+    ensures tool { IsTrue result → 1 ≤ length words.now }
+{
+    match words {
+        [] => false,
+        [tool, ..] => tool.bytes() == b"xfs_db".as_slice(),
+    }
+}
+
 /// What the words ask for. The number of a refusal is that of the first word that offends.
 pub fn judge(words: &[Word]) -> Call
     ensures judged { result ≡ judged words.now }
@@ -68,8 +77,6 @@ fn settle_words(words: &[Word]) -> Call
         read_all(rest).settle(words.len())
     } else if tool == b"mkfs.xfs".as_slice() {
         Call::Make
-    } else if tool == b"xfs_db".as_slice() {
-        Call::Debug
     } else {
         Call::Refused { word: 0 }
     }

@@ -3,6 +3,7 @@
 
 mod answer;
 mod command_line;
+mod debugger;
 mod hexadecimal;
 #[cfg(test)]
 mod tests;

@@ -2,4 +2,7 @@
 
 mod calls;
 mod lines;
-mod volume;
+mod made;
+mod rows;
+mod sessions;
+mod vast;

@@ -54,8 +54,10 @@ pub fn put_answer<S: Sink>(sink: &mut S, answer: Answer) -> Result<(), Failed>
             &[("xfs: write fault after ", Number::Decimal(written))],
             " blocks\n",
         ),
-        Answer::OutputFault => put_line(sink, &[], ""),
+        Answer::OutputFault | Answer::Done => put_line(sink, &[], ""),
         Answer::NoMemory => put_line(sink, &[], "xfs: no memory\n"),
+        Answer::InputFault => put_line(sink, &[], "xfs: input fault\n"),
+        Answer::InputLong => put_line(sink, &[], "xfs: input too long\n"),
     }
 }
 

@@ -1,14 +1,18 @@
 //! The top call: a command line and an image in, an answer, its line and an exit status out.
 
-ghost use Rattle.std.specs.Prelude.{◌≡◌, ◌≤◌, Result};
+ghost use Rattle.std.specs.Prelude.{◌≡◌, ℕ, ◌≤◌, true, false, drop, Result};
 ghost use Rattle.std.specs.Option.{ForSome};
 ghost use Rattle.xfs_disk.specs.declared.failed.Failed.{Failed};
-ghost use Rattle.xfs_tools.specs.CommandLine.{judged, tells_in, tells_repair};
-ghost use Rattle.xfs_tools.specs.Answers.{IsCaused, IsDue, IsKept, IsTold, Leaves, status_of};
+ghost use Rattle.xfs_options.specs.Debugging.{debug_of};
+ghost use Rattle.xfs_tools.specs.CommandLine.{is_debugger, judged, tells_in, tells_repair};
+ghost use Rattle.xfs_tools.specs.Debugging.{Counts, Found, IsDebugged, session_status};
+ghost use Rattle.xfs_tools.specs.Texts.{text_of};
+ghost use Rattle.xfs_tools.specs.Answers.{IsCaused, IsDue, IsKept, IsTold, Leaves, Puts, status_of};
 ghost use Rattle.xfs_tools.specs.declared.answer.Answer.{Answer};
 
 use crate::answer::{Answer, Status};
-use crate::command_line::{Call, judge};
+use crate::command_line::{Call, is_debugger, judge};
+use crate::debugger::run_debugger;
 use crate::texts::put_answer;
 use std::alloc::Global;
 use std::thread::Threads;
@@ -16,7 +20,7 @@ use xfs_disk::{Disk, Failed, Gate, Library, Sink, Source, Stamp, Word};
 use xfs_mend::repair;
 
 /// Does what the words of a command line say to the disk, and puts the answer's line: to `out` where
-/// the volume is clean, damaged or repaired, else to `err`.
+/// the volume is clean, damaged or repaired, else to `err`. What the commands of `xfs_db` print goes to `out`.
 pub fn run<R: Threads + Sync, D: Disk, L: Library, S: Source, O: Sink, E: Sink, G: Gate>(
     rt: &R,
     alloc: Global,
@@ -24,6 +28,43 @@ pub fn run<R: Threads + Sync, D: Disk, L: Library, S: Source, O: Sink, E: Sink, 
     disk: &mut D,
     files: &mut L,
     input: &mut S,
+    out: &mut O,
+    err: &mut E,
+    stamp: &Stamp,
+    gate: &G,
+) -> Status
+    ensures answer { is_debugger words.now ≡ false → (answer : Answer) × (put : Result (Unit {0}) Failed)
+        × ForSome (D.holds disk.old) (λ image. IsDue (judged words.now) image answer)
+        × IsCaused (D.faults disk.old) (D.faults disk.new) (D.write_faults disk.old) (D.write_faults disk.new) answer
+        × ForSome (D.holds disk.old) (λ image. Leaves image (D.holds disk.new) answer)
+        × IsKept (D.tells_stops disk.old) (D.holds disk.new) (D.may_leave disk.new) answer
+        × IsTold O.took O.faults E.took E.faults out.old out.new err.old err.new answer put
+        × (result ≡ status_of (tells_repair words.now) answer put) }
+    ensures debugged { is_debugger words.now ≡ true → (answer : Answer) × (finished : ℕ) × (put : Result (Unit {0}) Failed)
+        × IsDebugged (debug_of (drop 1 words.now)) (record { holds = D.holds disk.old; left = S.left input.old; took = O.took out.old }) (O.took out.new) (D.holds disk.new)
+        (record { reads = D.faults disk.old; writes = D.write_faults disk.old; takes = S.faults input.old; puts = O.faults out.old })
+        (record { reads = D.faults disk.new; writes = D.write_faults disk.new; takes = S.faults input.new; puts = O.faults out.new }) answer finished
+        × Puts (E.took err.old) (E.took err.new) (E.faults err.old) (E.faults err.new) (text_of answer) put
+        × (result ≡ session_status answer finished put) }
+    ensures size { D.size disk.new ≡ D.size disk.old }
+    ensures faults { is_debugger words.now ≡ false → D.faults disk.old ≤ D.faults disk.new }
+    ensures write_faults { is_debugger words.now ≡ false → D.write_faults disk.old ≤ D.write_faults disk.new }
+    ensures files { files.new ≡ files.old }
+    ensures input { is_debugger words.now ≡ false → input.new ≡ input.old }
+{
+    if is_debugger(words) {
+        run_debugger(alloc, &words[1..], disk, input, out, err)
+    } else {
+        run_volume(rt, alloc, words, disk, out, err, stamp, gate)
+    }
+}
+
+/// The same for the words of the other tools.
+fn run_volume<R: Threads + Sync, D: Disk, O: Sink, E: Sink, G: Gate>(
+    rt: &R,
+    alloc: Global,
+    words: &[Word],
+    disk: &mut D,
     out: &mut O,
     err: &mut E,
     stamp: &Stamp,
@@ -39,8 +80,6 @@ pub fn run<R: Threads + Sync, D: Disk, L: Library, S: Source, O: Sink, E: Sink, 
     ensures size { D.size disk.new ≡ D.size disk.old }
     ensures faults { D.faults disk.old ≤ D.faults disk.new }
     ensures write_faults { D.write_faults disk.old ≤ D.write_faults disk.new }
-    ensures files { files.new ≡ files.old }
-    ensures input { input.new ≡ input.old }
 {
     let call = judge(words);
     let answer = answer_to(rt, alloc, &call, disk, stamp, gate);
@@ -80,7 +119,6 @@ fn answer_to<R: Threads + Sync, D: Disk, G: Gate>(
             Answer::of_outcome(repair(rt, alloc, disk, &words.options(), stamp, gate))
         }
         Call::Make => Answer::Unbuilt { request: 6 },
-        Call::Debug => Answer::Unbuilt { request: 11 },
         Call::Refused { word } => Answer::Usage { word: *word },
     }
 }
@@ -91,7 +129,7 @@ fn tells_repair(call: &Call) -> bool
 {
     match call {
         Call::Repair(words) => words.tells_repair,
-        Call::Make | Call::Debug | Call::Refused { .. } => false,
+        Call::Make | Call::Refused { .. } => false,
     }
 }
 

@@ -9,8 +9,6 @@ mod files;
 mod findings;
 mod groups;
 mod lists;
-#[cfg(test)]
-mod tests;
 
 pub use catalogs::{BlockLsn, Catalog};
 pub use clusters::ClusterRec;

@@ -10,8 +10,6 @@ mod layout;
 mod names;
 mod sealing;
 mod tables;
-#[cfg(test)]
-mod tests;
 
 pub use checksum::{crc_skipping, crc32c, is_checksum_right, put_checksum, stored_checksum};
 pub use extents::{Extent, pack_extent, unpack_extent};

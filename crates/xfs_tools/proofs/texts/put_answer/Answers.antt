@@ -35,3 +35,9 @@ returns-in-DirtyLog g c = puts_as _ _ _ _ _ _ _ (ap text_of c.in-DirtyLog.is) c.
 
 pub returns-in-Damaged : goal.returns-in-Damaged
 returns-in-Damaged g c = puts_as _ _ _ _ _ _ _ (ap text_of c.in-Damaged.is) c.put_finding.ensures
+
+pub returns-in-InputFault : goal.returns-in-InputFault
+returns-in-InputFault g c = puts_as _ _ _ _ _ _ _ (ap text_of c.in-InputFault.is) c.put_line-in-InputFault.ensures
+
+pub returns-in-InputLong : goal.returns-in-InputLong
+returns-in-InputLong g c = puts_as _ _ _ _ _ _ _ (ap text_of c.in-InputLong.is) c.put_line-in-InputLong.ensures

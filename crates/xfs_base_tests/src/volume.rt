@@ -1,0 +1,24 @@
+//! Lists, there and back.
+
+use std::alloc::Global;
+use std::process::Abort;
+use std::test::Fail;
+use xfs_volume::*;
+use xfs_word::Extent;
+
+#[test]
+fn lists(rt: HostRuntime) -> Result<(), Fail> {
+    let extent = Extent {
+        offset: 3,
+        start: 20,
+        count: 5,
+        unwritten: false,
+    };
+    let extents = Extents::from_vec(vec![in rt.alloc(); extent]?);
+    assert_eq!(rt; extents.as_slice(), &[extent][..]);
+    assert_eq!(rt; extents.into_vec().as_slice(), &[extent][..]);
+    let blocks = Blocks::from_vec(vec![in rt.alloc(); 20, 24]?);
+    assert_eq!(rt; blocks.as_slice(), &[20, 24][..]);
+    assert_eq!(rt; blocks.into_vec().as_slice(), &[20, 24][..]);
+    Ok(())
+}

@@ -1,0 +1,204 @@
+//! The log and the log sequence numbers of a volume of two groups of 1024 blocks, with its log at AG block 6 of the second.
+
+ghost use Rattle.std.specs.Prelude.{◌≡◌, ◌<◌, ◌≤◌};
+
+use std::alloc::Global;
+use std::marker::Brand;
+use std::process::Abort;
+use std::sync::ledger::{Blank, Ledger};
+use std::test::Fail;
+use xfs_attr::Attrs;
+use xfs_disk::{BLOCK_SIZE, Disk, MemoryDisk, Word};
+use xfs_geom::Geometry;
+use xfs_heads::LogState;
+use xfs_journal::*;
+use xfs_runs::Steps;
+use xfs_volume::{BlockLsn, Blocks, Core, Extents, FileRec, Records};
+use xfs_word::{Extent, put64};
+
+fn volume() -> Geometry
+    ensures dblocks { result.dblocks ≡ 2048 }
+{
+    Geometry {
+        dblocks: 2048,
+        agblocks: 1024,
+        agcount: 2,
+        agblklog: 10,
+        log: 1030,
+        logblocks: 512,
+        rootino: 128,
+        logsectlog: 0,
+        uuid: [0; 16],
+    }
+}
+
+/// The core of a file of this mode.
+fn core(mode: u16) -> Core {
+    Core {
+        magic: 0x494e,
+        mode,
+        version: 3,
+        format: 2,
+        uid: 0,
+        gid: 0,
+        nlink: 1,
+        projid_lo: 0,
+        projid_hi: 0,
+        atime: 0,
+        mtime: 0,
+        ctime: 0,
+        size: 0,
+        nblocks: 0,
+        extsize: 0,
+        nextents: 0,
+        anextents: 0,
+        forkoff: 0,
+        aformat: 2,
+        flags: 0,
+        generation: 0,
+        next_unlinked: u32::MAX,
+        crc: 0,
+        changecount: 0,
+        lsn: 0,
+        flags2: 0,
+        cowextsize: 0,
+        crtime: 0,
+        ino: 128,
+        uuid: [0; 16],
+    }
+}
+
+/// An extent of two blocks.
+fn extent(offset: u64, start: u64) -> Extent {
+    Extent {
+        offset,
+        start,
+        count: 2,
+        unwritten: false,
+    }
+}
+
+/// A file of this mode with data at block 40 and on, a tree of extents at block 30, and attributes at block 50 and on.
+fn file(alloc: Global, mode: u16, offset: u64) -> Result<FileRec, Fail> {
+    let mut data = Vec::new(alloc);
+    data.push(extent(offset, 40))?;
+    let mut attr = Vec::new(alloc);
+    attr.push(extent(0, 50))?;
+    let mut tree = Vec::new(alloc);
+    tree.push(30)?;
+    Ok(FileRec {
+        ino: 128,
+        core: core(mode),
+        extents: Extents::from_vec(data),
+        attr: Extents::from_vec(attr),
+        tree: Blocks::from_vec(tree),
+        attrs: Attrs::from_vec(Vec::new(alloc)),
+        target: Word::from_vec(Vec::new(alloc)),
+        device: 0,
+    })
+}
+
+/// A disk each of whose first blocks has at each eighth byte this byte's offset.
+fn disk(rt: &impl Abort, alloc: Global) -> Result<MemoryDisk, Fail> {
+    let mut disk = MemoryDisk::make(alloc, 2048)?;
+    let mut block = [0; BLOCK_SIZE];
+    for i in 0..512usize {
+        put64(&mut block, 8 * i, 8 * i as u64);
+    }
+    for place in [0, 30, 40, 41, 50, 51] {
+        assert!(rt; matches!(disk.blocks(), Ok(count) if place < count));
+        assert!(rt; disk.write(place, &block).is_ok());
+    }
+    Ok(disk)
+}
+
+/// The numbers of files, with the steps counted.
+#[tactic(auto, unfolding(xfs_image::specs::Files::clusters_of))]
+fn numbers_of<D: Disk, L: Ledger>(
+    alloc: Global,
+    disk: &mut D,
+    files: &[FileRec],
+    blank: Blank,
+) -> Result<Records<BlockLsn>, JournalFault>
+    requires name { blank.name ≡ L.name }
+    requires parts { blank.parts ≡ L.parts }
+    requires some { 0 < blank.parts }
+{
+    let mut steps = Steps::<L>::from_blank(blank);
+    read_lsns(alloc, &volume(), disk, &[], &[], files, &mut steps)
+}
+
+#[test]
+fn numbers(rt: HostRuntime) -> Result<(), Fail> {
+    let alloc = rt.alloc();
+    let rows: [(u16, u64, &[(u64, u64)]); 4] = [
+        (
+            0x41ed,
+            0,
+            &[(0, 240), (30, 32), (40, 16), (41, 16), (50, 24), (51, 24)],
+        ),
+        (
+            0x41ed,
+            0xff_ffff,
+            &[(0, 240), (30, 32), (40, 24), (41, 16), (50, 24), (51, 24)],
+        ),
+        (
+            0xa1ff,
+            0,
+            &[(0, 240), (30, 32), (40, 48), (41, 48), (50, 24), (51, 24)],
+        ),
+        (0x81a4, 0, &[(0, 240), (30, 32), (50, 24), (51, 24)]),
+    ];
+    for (mode, offset, due) in rows {
+        let mut disk = disk(&rt, alloc)?;
+        let files = [file(alloc, mode, offset)?];
+        let Ok(lsns) = numbers_of::<MemoryDisk, Brand>(alloc, &mut disk, &files, Blank::new(1))
+        else {
+            panic!(rt; "{mode}");
+        };
+        assert_eq!(rt; lsns.as_slice().len(), due.len());
+        for (found, (block, lsn)) in lsns.as_slice().iter().zip(due.iter()) {
+            assert_eq!(rt;
+                *found,
+                BlockLsn {
+                    block: *block,
+                    lsn: *lsn
+                }
+            );
+        }
+    }
+    Ok(())
+}
+
+/// The state of the log, with the steps counted.
+fn state_of<D: Disk, L: Ledger>(
+    alloc: Global,
+    disk: &mut D,
+    blank: Blank,
+) -> Result<LogState, JournalFault>
+    requires name { blank.name ≡ L.name }
+    requires parts { blank.parts ≡ L.parts }
+    requires some { 0 < blank.parts }
+    requires inside { 2048 ≤ D.size disk.old }
+{
+    let mut steps = Steps::<L>::from_blank(blank);
+    read_log(alloc, &volume(), disk, &mut steps)
+}
+
+#[test]
+fn logs(rt: HostRuntime) -> Result<(), Fail> {
+    let alloc = rt.alloc();
+    for (place, due) in [(1029, true), (1030, false), (1541, false), (1542, true)] {
+        let mut disk = MemoryDisk::make(alloc, 2048)?;
+        let mut block = [0; BLOCK_SIZE];
+        put64(&mut block, 3584, 1 << 32);
+        assert!(rt; matches!(disk.blocks(), Ok(count) if 2048 <= count));
+        assert!(rt; disk.write(place, &block).is_ok());
+        assert!(rt; matches!(disk.blocks(), Ok(count) if 2048 <= count));
+        let Ok(state) = state_of::<MemoryDisk, Brand>(alloc, &mut disk, Blank::new(1)) else {
+            panic!(rt; "{place}");
+        };
+        assert_eq!(rt; state == LogState::Clean { head: 1 << 32 }, due);
+    }
+    Ok(())
+}

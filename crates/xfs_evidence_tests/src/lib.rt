@@ -1,0 +1,11 @@
+//! Tests of placing, and what is read of a whole volume. They stand in a crate of their own, since a crate is proved once more with its tests.
+#![tactic(auto)]
+
+#[cfg(test)]
+mod dirs;
+#[cfg(test)]
+mod groups;
+#[cfg(test)]
+mod journal;
+#[cfg(test)]
+mod place;

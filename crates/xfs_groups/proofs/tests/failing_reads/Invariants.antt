@@ -1,4 +1,0 @@
-use Rattle.xfs_groups.proofs.tests.failing_reads.Given as goal
-
-abbrev pub ghosts-see : goal.ghosts-see
-ghosts-see g a = record { name = a.blank.name; parts = a.blank.parts }

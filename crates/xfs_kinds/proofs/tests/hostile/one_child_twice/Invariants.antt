@@ -1,4 +1,0 @@
-use Rattle.xfs_kinds.proofs.tests.hostile.one_child_twice.Given as goal
-
-abbrev pub ghosts-reading : goal.ghosts-reading
-ghosts-reading g a = record { name = a.blank.name; parts = a.blank.parts }

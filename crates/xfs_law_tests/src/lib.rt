@@ -1,0 +1,13 @@
+//! Tests of what is kept and named, and the laws of a volume. They stand in a crate of their own, since a crate is proved once more with its tests.
+#![tactic(auto)]
+
+#[cfg(test)]
+mod claims;
+#[cfg(test)]
+mod laws;
+#[cfg(test)]
+mod links;
+#[cfg(test)]
+mod naming;
+#[cfg(test)]
+mod space;

@@ -1,4 +1,0 @@
-use Rattle.xfs_runs.proofs.tests.runs_in_turn.Given as goal
-
-abbrev pub ghosts-try_all : goal.ghosts-try_all
-ghosts-try_all g a = record { name = a.blank.name; parts = a.blank.parts }

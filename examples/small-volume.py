@@ -1,0 +1,350 @@
+#!/usr/bin/env python3
+"""Writes the small volume of the tests as image files, by the on-disk format alone, with nothing of this project: V (empty, 2048 blocks
+in two groups), W (V with two files of one block), and images that differ from them in a few fields. It prints their bytes
+other than zero, and with -t the tables of the tests (crates/xfs_tools/src/tests).
+
+    examples/small-volume.py FOLDER [-q] [-t]
+"""
+import os
+import struct
+import sys
+
+BLOCK, BLOCKS, AGBLOCKS = 4096, 2048, 1024
+UUID = bytes.fromhex("00112233445566778899aabbccddeeff")
+ONES = 0xffffffff
+FS, LOG, AG, INOBT, INODES = [(1 << 64) - n for n in (3, 4, 5, 6, 7)]
+TABLE = []
+for n in range(256):
+    for _ in range(8):
+        n = (n >> 1) ^ (0x82F63B78 if n & 1 else 0)
+    TABLE.append(n)
+
+
+def crc32c(data):
+    c = ONES
+    for b in data:
+        c = TABLE[(c ^ b) & 255] ^ (c >> 8)
+    return c ^ ONES
+
+
+assert crc32c(b"123456789") == 0xe3069283
+
+
+def sealed(obj, at):
+    obj = bytearray(obj)
+    obj[at:at + 4] = bytes(4)
+    obj[at:at + 4] = struct.pack("<I", crc32c(obj))
+    return bytes(obj)
+
+
+def filled(size, fields):
+    obj = bytearray(size)
+    for at, width, value in fields:
+        obj[at:at + (len(value) if isinstance(value, bytes) else width)] = (
+            value if isinstance(value, bytes) else value.to_bytes(width, "big"))
+    return bytes(obj)
+
+
+def superblock(counts, **other):
+    icount, ifree, fdblocks = counts
+    fields = {
+        0: (4, 0x58465342), 4: (4, 4096), 8: (8, BLOCKS), 32: (16, UUID), 48: (8, 1030), 56: (8, 128), 64: (8, 129), 72: (8, 130),
+        80: (4, 1), 84: (4, AGBLOCKS), 88: (4, 2), 96: (4, 512), 100: (2, 0xb4a5), 102: (2, 512), 104: (2, 512), 106: (2, 8),
+        120: (1, 12), 121: (1, 9), 122: (1, 9), 123: (1, 3), 124: (1, 10), 127: (1, 25), 128: (8, icount), 136: (8, ifree),
+        144: (8, fdblocks), 180: (4, 8), 196: (4, 1), 200: (4, 0x18a), 204: (4, 0x18a), 212: (4, 3), 216: (4, 3), 228: (4, 4)}
+    for at, value in other.get("changed", {}).items():
+        fields[at] = value
+    return sealed(filled(512, [(at, w, v) for at, (w, v) in fields.items()]), 224)
+
+
+def agf(ag, freeblks, longest, flcount):
+    return sealed(filled(512, [
+        (0, 4, 0x58414746), (4, 4, 1), (8, 4, ag), (12, 4, AGBLOCKS), (16, 4, 1), (20, 4, 2), (24, 4, 5), (28, 4, 1), (32, 4, 1),
+        (36, 4, 1), (40, 4, 0), (44, 4, flcount - 1), (48, 4, flcount), (52, 4, freeblks), (56, 4, longest), (60, 4, 0),
+        (64, 16, UUID), (80, 4, 1)]), 216)
+
+
+def agi(ag, count, freecount, newino):
+    return sealed(filled(512, [
+        (0, 4, 0x58414749), (4, 4, 1), (8, 4, ag), (12, 4, AGBLOCKS), (16, 4, count), (20, 4, 3), (24, 4, 1), (28, 4, freecount),
+        (32, 4, newino), (36, 4, ONES), (40, 256, b"\xff" * 256), (296, 16, UUID), (328, 4, 4), (332, 4, 1)]), 312)
+
+
+def agfl(ag, entries):
+    return sealed(filled(512, [
+        (0, 4, 0x5841464c), (4, 4, ag), (8, 16, UUID),
+        (36, 476, b"".join(struct.pack(">I", e) for e in entries + [ONES] * (119 - len(entries))))]), 32)
+
+
+def leaf(ag, agbno, magic, records):
+    return sealed(filled(BLOCK, [
+        (0, 4, magic), (4, 2, 0), (6, 2, len(records)), (8, 4, ONES), (12, 4, ONES), (16, 8, 8 * (ag * AGBLOCKS + agbno)),
+        (32, 16, UUID), (48, 4, ag), (56, 0, b"".join(records))]), 52)
+
+
+def rmap(start, count, owner, offset=0):
+    return struct.pack(">IIQQ", start, count, owner, offset)
+
+
+def slot(ino, core=(), fork=b"", free=False):
+    fields = [(0, 2, b"IN"), (4, 1, 3), (92, 4, GENERATION), (96, 4, ONES), (152, 8, ino), (160, 16, UUID)]
+    if not free:
+        fields += [(83, 1, 2)] + [(at, 8, TIME) for at in (32, 40, 48, 144)] + list(core) + [(176, 0, fork)]
+    return sealed(filled(512, fields), 100)
+
+
+GENERATION, TIME = 0, 0
+
+
+def directory(ino, parent, entries):
+    offset, body = 96, b""
+    for name, target, ftype in entries:
+        body += struct.pack(">BH", len(name), offset) + name + struct.pack(">BI", ftype, target)
+        offset += (8 + 1 + len(name) + 1 + 2 + 7) // 8 * 8
+    fork = struct.pack(">BBI", len(entries), 0, parent) + body
+    return slot(ino, [(2, 2, 0x41ed), (5, 1, 1), (16, 4, 2), (56, 8, len(fork))], fork)
+
+
+def extent(offset, start, count):
+    word = offset << 73 | start << 21 | count
+    return word.to_bytes(16, "big")
+
+
+def regular(ino, place, size=4096, more=(), more_fork=b""):
+    fork = extent(0, place, 1)
+    return slot(ino, [(2, 2, 0x81a4), (5, 1, 2), (16, 4, 1), (56, 8, size), (64, 8, 1), (76, 4, 1)] + list(more), fork)
+
+
+def log_blocks(cycle, ahead=2):
+    header = filled(512, [
+        (0, 4, 0xfeedbabe), (4, 4, cycle), (8, 4, 2), (12, 4, 512), (16, 8, cycle << 32), (24, 8, cycle << 32), (36, 4, ONES),
+        (40, 4, 1), (44, 4, 0xb0c0d0d0), (300, 4, 1), (304, 16, UUID), (320, 4, 32768)])
+    record = filled(512, [(0, 4, cycle), (4, 4, 8), (8, 0, bytes.fromhex("aa200000 6e55"))])
+    rest = filled(512, [(0, 4, cycle - 1)])
+    return header + record + rest * (512 * 8 - 2)
+
+
+def volume(files):
+    image = bytearray(BLOCK * BLOCKS)
+
+    def put(block, data, at=0):
+        image[block * BLOCK + at:block * BLOCK + at + len(data)] = data
+    used = 3 + len(files)
+    first_free = 24 + len(files)
+    spans = [[(12, 4), (first_free, AGBLOCKS - first_free)], [(524, 500)]]
+    counts = (64, 64 - used, sum(c for s in spans for _, c in s) + 12)
+    free = (1 << 64) - (1 << used)
+    records = [struct.pack(">IHBBQ", 128, 0, 64, 64 - used, free)]
+    owners = [
+        [rmap(0, 1, FS), rmap(1, 2, AG), rmap(3, 2, INOBT), rmap(5, 7, AG), rmap(16, 8, INODES)]
+        + [rmap(24 + i, 1, 131 + i) for i in range(len(files))],
+        [rmap(0, 1, FS), rmap(1, 2, AG), rmap(3, 2, INOBT), rmap(5, 1, AG), rmap(6, 512, LOG), rmap(518, 6, AG)]]
+    for ag in (0, 1):
+        base = ag * AGBLOCKS
+        runs = [struct.pack(">II", *s) for s in spans[ag]]
+        sizes = [struct.pack(">II", *s) for s in sorted(spans[ag], key=lambda s: (s[1], s[0]))]
+        inodes = records if ag == 0 else []
+        put(base, superblock(counts))
+        put(base, agf(ag, sum(c for _, c in spans[ag]), max(c for _, c in spans[ag]), 6), 512)
+        put(base, agi(ag, 64 - 64 * ag, (64 - used) * (1 - ag), ONES if ag else 128), 1024)
+        put(base, agfl(ag, list(range(518, 524) if ag else range(6, 12))), 1536)
+        put(base + 1, leaf(ag, 1, 0x41423342, runs))
+        put(base + 2, leaf(ag, 2, 0x41423343, sizes))
+        put(base + 3, leaf(ag, 3, 0x49414233, inodes))
+        put(base + 4, leaf(ag, 4, 0x46494233, inodes))
+        put(base + 5, leaf(ag, 5, 0x524d4233, owners[ag]))
+    put(1030, log_blocks(1))
+    slots = [directory(128, 128, [(name, 131 + i, 1) for i, name in enumerate(files)]),
+             slot(129, [(2, 2, 0x8000), (5, 1, 2), (16, 4, 1), (90, 2, 4)]),
+             slot(130, [(2, 2, 0x8000), (5, 1, 2), (16, 4, 1)])]
+    slots += [regular(131 + i, 24 + i) for i in range(len(files))]
+    slots += [slot(ino, free=True) for ino in range(128 + len(slots), 192)]
+    put(16, b"".join(slots))
+    return image
+
+
+def spans(image, unit=16):
+    """(block, offset, hexadecimal text) of the runs of bytes other than zero; gaps of fewer than `unit` zeros are kept."""
+    for block in range(len(image) // BLOCK):
+        data = image[block * BLOCK:(block + 1) * BLOCK]
+        if not any(data):
+            continue
+        at = 0
+        while at < BLOCK:
+            if data[at] == 0:
+                at += 1
+                continue
+            end = at
+            last = at
+            while end < BLOCK and end - last <= unit:
+                if data[end]:
+                    last = end
+                end += 1
+            yield block, at, bytes(data[at:last + 1]).hex()
+            at = last + 1
+
+
+def reslot(image, ino, fields):
+    at = ino * 512  # AG 0 alone
+    s = bytearray(image[at:at + 512])
+    for offset, width, value in fields:
+        data = value if isinstance(value, bytes) else value.to_bytes(width, "big")
+        s[offset:offset + len(data)] = data
+    image[at:at + 512] = sealed(s, 100)
+
+
+def difference(old, new):
+    """The runs of bytes in which two images differ, neighbours within 4 joined."""
+    found = []
+    for block in range(len(new) // BLOCK):
+        a, b = old[block * BLOCK:(block + 1) * BLOCK], new[block * BLOCK:(block + 1) * BLOCK]
+        if a == b:
+            continue
+        places = [i for i in range(BLOCK) if a[i] != b[i]]
+        start = last = places[0]
+        for p in places[1:] + [None]:
+            if p is not None and p - last <= 4:
+                last = p
+                continue
+            found.append((block, start, bytes(b[start:last + 1]).hex()))
+            if p is not None:
+                start = last = p
+    return found
+
+
+def main():
+    folder = sys.argv[1] if len(sys.argv) > 1 else "."
+    v, w = volume([]), volume([b"a", b"b"])
+    made = {"V": v, "W": w}
+    base = {"V": "V", "W": "W"}
+
+    def derive(name, of):
+        made[name] = bytearray(made[of])
+        base[name] = of
+        return made[name]
+
+    x = derive("backup_and_rest", "V")
+    x[1024 * BLOCK + 108] ^= 0xff
+    x[1024 * BLOCK + 512 + 400] ^= 0x55      # bytes behind that stay
+    x = derive("backup_label", "V")
+    x[1024 * BLOCK + 108] = 0x41
+    x = derive("primary_lost", "V")
+    x[0:512] = bytes(512)
+    x = derive("both_lost", "primary_lost")
+    x[1024 * BLOCK:1024 * BLOCK + 512] = bytes(512)
+    x = derive("shared_blocks", "V")
+    x[0:512] = superblock((64, 61, 1516), changed={212: (4, 7)})
+    x = derive("dirty_log", "V")
+    reslot(x, 128, [(112, 8, 0x0000000700000010)])
+    reslot(x, 129, [(112, 8, (1 << 64) - 1)])
+    x[1030 * BLOCK + 521] = 0
+    x = derive("block_twice", "W")
+    reslot(x, 132, [(176, 16, extent(0, 24, 1))])
+    x = derive("other_producers", "W")
+    backup = {100: (2, 0xb4b5), 126: (1, 1), 56: (8, b"\xff" * 8), 64: (8, b"\xff" * 8), 72: (8, b"\xff" * 8)}
+    x[0:512] = superblock((64, 59, 1514), changed={100: (2, 0xb4b5), 204: (4, 0)})
+    x[1024 * BLOCK:1024 * BLOCK + 512] = superblock((0, 0, 77), changed=backup)
+    attr = bytes.fromhex("000f0100") + bytes([7, 1, 4]) + b"selinux" + b"x"
+    assert len(attr) == 15
+    reslot(x, 131, [(82, 1, 24), (83, 1, 1), (176 + 8 * 24, 0, attr)])
+    reslot(x, 132, [(56, 8, 0)])
+    x[1030 * BLOCK:1542 * BLOCK] = log_blocks(3)
+    x = derive("three_links", "V")
+    reslot(x, 128, [(16, 4, 3)])
+    x = derive("refused_file", "W")
+    reslot(x, 131, [(120, 8, 2)])
+    os.makedirs(folder, exist_ok=True)
+    for name, image in made.items():
+        with open(os.path.join(folder, name), "wb") as f:
+            f.write(image)
+    with open(os.path.join(folder, "cut_short"), "wb") as f:
+        f.write(v[:2047 * BLOCK])
+    if "-q" in sys.argv:
+        return
+    for name, image in made.items():
+        if base[name] == name:
+            print(f"== {name}")
+            free = [(16 + (ino - 128) // 8, ino % 8) for ino in range(131 if name == "V" else 133, 192)]
+            for block, at, text in spans(image):
+                if (block, at // 512) in free:
+                    continue
+                print(block, at, text)
+        else:
+            print(f"== {name}, from {base[name]}")
+            found = difference(made[base[name]], image)
+            for block, at, text in found[:16]:
+                print("  ", block, at, text)
+            if len(found) > 16:
+                print("  ", len(found) - 16, "more")
+
+
+def base_image():
+    """What the tests make by loops: free slots, and lists of all ones in the headers."""
+    image = bytearray(BLOCK * BLOCKS)
+    for ino in range(128, 192):
+        image[ino * 512:ino * 512 + 512] = slot(ino, free=True)
+    for block in (0, 1024):
+        at = block * BLOCK
+        image[at + 1064:at + 1320] = b"\xff" * 256
+        image[at + 1596:at + 2048] = b"\xff" * 452
+    return image
+
+
+def rust(old, new, skip=()):
+    """Rows (block, byte, text) of a table in Rattle: what is to be written over `old` so that it is `new`."""
+    for block in range(len(new) // BLOCK):
+        a, b = old[block * BLOCK:(block + 1) * BLOCK], new[block * BLOCK:(block + 1) * BLOCK]
+        if a == b or block in skip:
+            continue
+        words = [i for i in range(0, BLOCK, 4) if a[i:i + 4] != b[i:i + 4]]
+        runs = []
+        for w in words:
+            if runs and w - runs[-1][1] <= 8 and w + 4 - runs[-1][0] <= 64:
+                runs[-1][1] = w + 4
+            else:
+                runs.append([w, w + 4])
+        for start, end in runs:
+            print(f'    ({block}, {start}, "{bytes(b[start:end]).hex()}"),')
+
+
+
+def tables_of_volumes():
+    v, w = volume([]), volume([b"a", b"b"])
+    print("== VOLUME")
+    rust(base_image(), v)
+    print("== FILES")
+    rust(v, w)
+    folder = sys.argv[1]
+    for name in ("shared_blocks", "dirty_log", "block_twice", "other_producers", "three_links", "refused_file"):
+        print("==", name)
+        image = open(os.path.join(folder, name), "rb").read()
+        rust(w if name in ("block_twice", "other_producers", "refused_file") else v, image, skip=range(1031, 1542))
+    x = bytearray(v)
+    x[512 + 52:512 + 56] = (5).to_bytes(4, "big")
+    x[512:1024] = sealed(x[512:1024], 216)
+    print("== count_written")
+    rust(v, x)
+
+
+def tables_of_a_vast_volume():
+    length, held = 263000, 336
+    x = bytearray(2 * BLOCK)
+    fields = {
+        0: (4, 0x58465342), 4: (4, 4096), 8: (8, length + 1024), 32: (16, UUID), 48: (8, 1 << 19 | 6), 56: (8, 8 * held),
+        64: (8, 8 * held + 1), 72: (8, 8 * held + 2), 84: (4, length), 88: (4, 2), 96: (4, 512), 100: (2, 0xb4a5), 102: (2, 512), 104: (2, 512), 106: (2, 8),
+        120: (1, 12), 121: (1, 9), 122: (1, 9), 123: (1, 3), 124: (1, 19), 180: (4, 8), 212: (4, 3), 216: (4, 3), 228: (4, 4)}
+    x[0:512] = sealed(filled(512, [(at, w, v) for at, (w, v) in fields.items()]), 224)
+    x[512:1024] = sealed(filled(512, [
+        (0, 4, 0x58414746), (4, 4, 1), (12, 4, length), (16, 4, 1), (20, 4, 1), (24, 4, 1), (28, 4, 1), (32, 4, 1),
+        (36, 4, 1), (64, 16, UUID)]), 216)
+    x[1024:1536] = sealed(filled(512, [
+        (0, 4, 0x58414749), (4, 4, 1), (12, 4, length), (20, 4, 2), (24, 4, 2), (296, 16, UUID), (328, 4, 1), (332, 4, 1)]), 312)
+    x[4096:] = leaf(0, 1, 0x524d4233, [rmap(held, 4 * 65537, INODES)])
+    print("== a cluster too many")
+    rust(bytes(2 * BLOCK), x)
+
+
+main()
+if "-t" in sys.argv:
+    tables_of_volumes()
+    tables_of_a_vast_volume()
