@@ -1,0 +1,9 @@
+pub mod Chunk
+pub mod Kept
+pub mod Slots
+pub mod Places
+pub mod Ready
+pub mod Planned
+pub mod Room
+pub mod Results
+pub mod Pushed

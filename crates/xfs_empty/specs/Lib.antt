@@ -1,0 +1,5 @@
+pub mod Geometry
+pub mod Inodes
+pub mod Placing
+pub mod Bytes
+pub mod Planning

@@ -1,0 +1,40 @@
+-- What the geometry keeps that is chosen.
+use Rattle.std.proofs.Common.{◌≡◌, ℕ, ◌+◌, ◌*◌, ◌/◌, ◌^◌, ◌≤◌, nat_le, Bool, true, false, List, [], ◌∷◌, None, arith, refl, sym, subst}
+use Rattle.std.proofs.lemmas.Bool.{leb-true}
+use Rattle.xfs_disk.specs.declared.stamp.Stamp.{Stamp}
+use Rattle.xfs_geom.proofs.Votes.{left}
+use Rattle.xfs_geom.specs.First.{first_false}
+use Rattle.xfs_geom.specs.Volumes.{volume_of}
+use Rattle.xfs_geom.specs.declared.geometry.Geometry.{Geometry}
+use Rattle.xfs_options.specs.declared.making.MakeOptions.{MakeOptions}
+use Rattle.xfs_sizing.proofs.Shapes.{log_behind}
+use Rattle.xfs_sizing.specs.Sizes.{are_groups, fits_disk, groups_of, has_log, log_blocks, too_small, volume_blocks}
+use Rattle.xfs_sizing.specs.declared.asked.Asked.{Asked}
+use Rattle.xfs_empty.specs.Geometry.{HasFirstChunk}
+use Rattle.xfs_mkfs.specs.Due.{IsGeometry, asked_of}
+
+first_holds : (k : ℕ) (b : Bool) (rest : List (ℕ × Bool)) → first_false ((k, b) ∷ rest) ≡ None → b ≡ true
+first_holds k true rest h = refl
+first_holds k false rest h = cc
+
+-- a volume that is not too large lies on the disk
+pub on_disk : (a : Asked) (blocks : ℕ) → too_small a blocks ≡ None → volume_blocks a blocks ≤ blocks
+unfolding too_small
+on_disk a blocks h =
+    let d = volume_blocks a blocks in
+    let groups = groups_of a d in
+    let fits : fits_disk d blocks ≡ true =
+    first_holds 1 (fits_disk d blocks) ((2, are_groups groups d) ∷ (3, has_log groups d (log_blocks a.logblocks d)) ∷ []) h in
+    leb-true d blocks (left (nat_le d blocks) (nat_le d (2 ^ 26)) fits)
+
+-- the geometry that is chosen has the first chunk before its log
+pub first_chunk : (o : MakeOptions) (s : Stamp) (blocks : ℕ) (g : Geometry) → IsGeometry o s blocks g → HasFirstChunk (volume_of g)
+first_chunk o s blocks g chosen =
+    let behind : 1030 ≤ g.agcount / 2 * g.agblocks + 6 = log_behind g.agcount g.agblocks g.shape.groups.two g.shape.groups.large in
+    record { root = chosen.rootino; log = omega (arith, chosen.log, behind) }
+
+-- it lies on the disk
+pub geometry_on_disk : (o : MakeOptions) (s : Stamp) (blocks : ℕ) (g : Geometry) → IsGeometry o s blocks g → too_small (asked_of o) blocks ≡ None
+    → g.dblocks ≤ blocks
+geometry_on_disk o s blocks g chosen fits =
+    subst (λ (n : ℕ). n ≤ blocks) (sym chosen.dblocks) (on_disk (asked_of o) blocks fits)

@@ -1,0 +1,46 @@
+-- Which answer is due to what is asked of a new volume.
+use Rattle.std.specs.Prelude.{◌≡◌, ℕ, Bool, not, ◌&&◌, ◌||◌, if◌then◌else◌, List, [], ◌∷◌, take, bytes_eq, is_some, Option, Some, None}
+use Rattle.std.specs.Option.{unwrap_or}
+use Rattle.xfs_disk.specs.Blocks.{Image}
+use Rattle.xfs_disk.specs.declared.stamp.Stamp.{Stamp}
+use Rattle.xfs_geom.specs.declared.geometry.Geometry.{Geometry}
+use Rattle.xfs_tree.specs.Reading.{bytes_at}
+use Rattle.xfs_sizing.specs.Sizes.{IsChosen, too_small}
+use Rattle.xfs_sizing.specs.declared.asked.Asked.{Asked}
+use Rattle.xfs_options.specs.declared.making.MakeOptions.{MakeOptions}
+use Rattle.xfs_mkfs.specs.declared.outcome.MakeOutcome.{MakeOutcome}
+use Rattle.xfs_mkfs.specs.declared.outcome.MakeOutcome.TheVariants.{HasVolume, TooSmall, Unbuilt}
+
+-- what is asked of the sizes
+abbrev pub asked_of : MakeOptions → Asked
+asked_of o = record { blocks = o.blocks; agcount = o.agcount; agblocks = o.agblocks; logblocks = o.logblocks }
+
+-- the identifier: the one that is asked for, or else the stamp's
+abbrev pub identifier : MakeOptions → Stamp → List ℕ
+identifier o s = unwrap_or o.uuid s.uuid
+
+-- the block begins with the magic number of a superblock, `XFSB`
+abbrev pub begins_with_magic : List ℕ → Bool
+begins_with_magic block = bytes_eq (take 4 block) (0x58 ∷ 0x46 ∷ 0x53 ∷ 0x42 ∷ [])
+
+-- files of a protofile, or generated ones, are asked for
+abbrev pub asks_files : MakeOptions → Bool
+asks_files o = is_some o.proto || is_some o.generate
+
+abbrev pub by_volume : Bool → Option MakeOutcome
+by_volume there = if there then Some HasVolume else None
+
+abbrev pub by_size : Option ℕ → Option MakeOutcome → Option MakeOutcome
+by_size (Some what) later = Some (TooSmall what)
+by_size None later = later
+
+-- the refusal that is due on a disk of so many blocks that holds an image, where one is: files are not built yet; then the bounds of the
+-- volume; then a volume that is there
+unfoldable pub refusal : MakeOptions → ℕ → Image → Option MakeOutcome
+refusal o blocks image =
+    if asks_files o then Some (Unbuilt 10)
+    else by_size (too_small (asked_of o) blocks) (by_volume (not o.force && begins_with_magic (bytes_at image 0)))
+
+-- the geometry of the volume that is made on a disk of so many blocks
+abbrev pub IsGeometry : MakeOptions → Stamp → ℕ → Geometry → Type 0
+IsGeometry o s blocks g = IsChosen (asked_of o) blocks (identifier o s) g

@@ -1,0 +1,13 @@
+//! Makes an empty volume on a disk.
+#![tactic(auto)]
+
+mod making;
+mod order;
+mod outcome;
+#[cfg(test)]
+mod tests;
+mod volume;
+mod writing;
+
+pub use making::make;
+pub use outcome::{MadeSummary, MakeOutcome};

@@ -1,0 +1,5 @@
+pub mod Shapes
+pub mod Stated
+pub mod Numbers
+pub mod Accepted
+pub mod Carried

@@ -1,0 +1,14 @@
+//! What is asked of the sizes of a new volume.
+
+/// What is asked of the sizes of a new volume, where it is; at most one of `agcount` and `agblocks`.
+#[derive(Clone, Copy, Debug, PartialEq, Eq)]
+pub struct Asked {
+    /// The blocks of the volume: by default all of the disk's.
+    pub blocks: Option<u64>,
+    /// How many allocation groups there are: by default 4.
+    pub agcount: Option<u64>,
+    /// The blocks of an allocation group, in place of their number.
+    pub agblocks: Option<u64>,
+    /// The blocks of the log: by default the greater of 512 and a 1024th of the volume's.
+    pub logblocks: Option<u64>,
+}
