@@ -53,7 +53,7 @@ fn list_places(alloc: Global, g: &Geometry) -> Result<Vec<u64>, NoMemory>
 }
 
 /// What is wanted of the slots of the first chunk.
-pub fn list_slots(alloc: Global, g: &Geometry, stamp: &Stamp) -> Result<Vec<SlotWanted>, NoMemory>
+fn list_slots(alloc: Global, g: &Geometry, stamp: &Stamp) -> Result<Vec<SlotWanted>, NoMemory>
     ensures { IfOk result (λ slots. AreFirstSlots g.now stamp.now slots.items) }
 {
     let mut slots = Vec::new(alloc);

@@ -4,8 +4,6 @@
 mod bytes;
 mod planning;
 mod roots;
-#[cfg(test)]
-mod tests;
 mod wanted;
 
 pub use planning::plan_empty;

@@ -4,8 +4,6 @@
 mod making;
 mod order;
 mod outcome;
-#[cfg(test)]
-mod tests;
 mod volume;
 mod writing;
 

@@ -6,3 +6,4 @@ pub mod Cutting
 pub mod Bad
 pub mod Few
 pub mod MakeLines
+pub mod Sound

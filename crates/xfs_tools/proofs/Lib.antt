@@ -1,3 +1,4 @@
+pub mod Making
 pub mod Offending
 pub mod Refusing
 pub mod Telling

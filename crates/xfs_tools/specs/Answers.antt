@@ -12,10 +12,10 @@ use Rattle.xfs_mend.specs.declared.outcome.Outcome.TheVariants as out
 use Rattle.xfs_tools.specs.CommandLine.{options_of}
 use Rattle.xfs_tools.specs.Texts.{text_of, is_for_out, code_of}
 use Rattle.xfs_tools.specs.declared.answer.Answer.{Answer}
-use Rattle.xfs_tools.specs.declared.answer.Answer.TheVariants.{Usage, Unbuilt, NoGeometry, Unsupported, DirtyLog, TooLarge, UnsupportedFile, Clean, Damaged, Repaired, ReadFault, WriteFault, OutputFault, NoMemory, Done, InputFault, InputLong}
+use Rattle.xfs_tools.specs.declared.answer.Answer.TheVariants.{Usage, Unbuilt, NoGeometry, Unsupported, DirtyLog, TooLarge, UnsupportedFile, Clean, Damaged, Repaired, BadOption, TooSmall, HasVolume, NoRoom, Made, ReadFault, WriteFault, OutputFault, NoMemory, Done, InputFault, InputLong}
 use Rattle.xfs_tools.specs.declared.answer.Status.{Status}
 use Rattle.xfs_tools.specs.declared.command_line.Call.{Call}
-use Rattle.xfs_tools.specs.declared.command_line.Call.TheVariants.{Repair, Make, Refused}
+use Rattle.xfs_tools.specs.declared.command_line.Call.TheVariants.{Repair, Refused}
 
 -- the answer that an outcome of a repair is, and back
 abbrev pub answer_of : Outcome → Answer
@@ -50,11 +50,15 @@ outcome_of NoMemory = Some out.NoMemory
 outcome_of Done = None
 outcome_of InputFault = None
 outcome_of InputLong = None
+outcome_of (BadOption word item) = None
+outcome_of (TooSmall what) = None
+outcome_of HasVolume = None
+outcome_of (NoRoom place) = None
+outcome_of (Made summary) = None
 
 -- the answer is that of the words alone, or that of an outcome that is due to the image
 abbrev pub IsDue : Call → Image → Answer → Type 0
 IsDue (Repair o) image answer = (outcome : Outcome) × mend.IsDue (options_of o) image outcome × (answer ≡ answer_of outcome)
-IsDue Make image answer = answer ≡ Unbuilt 6
 IsDue (Refused word) image answer = answer ≡ Usage word
 
 -- a fault of the disk is answered only where its count rose; a read fault tells the count

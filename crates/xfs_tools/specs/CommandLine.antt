@@ -2,7 +2,7 @@
 use Rattle.std.specs.Prelude.{◌≡◌, ℕ, ◌+◌, ◌-◌, ◌*◌, ◌≤◌, Bool, true, false, ◌==◌, ◌&&◌, nat_le, if◌then◌else◌, codes, bytes_eq, List, [], ◌∷◌, ◌++◌, length, take, Option, Some, None}
 use Rattle.xfs_mend.specs.declared.outcome.RepairOptions.{RepairOptions}
 use Rattle.xfs_tools.specs.declared.command_line.Call.{Call}
-use Rattle.xfs_tools.specs.declared.command_line.Call.TheVariants.{Repair, Make, Refused}
+use Rattle.xfs_tools.specs.declared.command_line.Call.TheVariants.{Repair, Refused}
 use Rattle.xfs_tools.specs.declared.command_line.RepairWords.{RepairWords}
 use Rattle.xfs_tools.specs.declared.command_line.Reading.{Reading}
 use Rattle.xfs_tools.specs.declared.command_line.Reading.TheVariants.{Options, Workers, Image, Complete, Offended}
@@ -90,13 +90,17 @@ unfoldable pub judged : Words → Call
 judged [] = Refused 0
 judged (tool ∷ rest) =
     if bytes_eq tool (codes "xfs_repair") then settled (length rest + 1) (reading_of rest)
-    else if bytes_eq tool (codes "mkfs.xfs") then Make
     else Refused 0
 
 -- the tool is xfs_db
 abbrev pub is_debugger : Words → Bool
 is_debugger [] = false
 is_debugger (tool ∷ rest) = bytes_eq tool (codes "xfs_db")
+
+-- the tool is mkfs.xfs
+abbrev pub is_maker : Words → Bool
+is_maker [] = false
+is_maker (tool ∷ rest) = bytes_eq tool (codes "mkfs.xfs")
 
 -- what a repair is asked for
 abbrev pub options_of : RepairWords → RepairOptions
@@ -105,7 +109,6 @@ options_of o = record { check = o.check; drop_log = o.drop_log; workers = o.work
 -- a repair ends with 4: the words ask for it
 abbrev pub tells_in : Call → Bool
 tells_in (Repair o) = o.tells_repair
-tells_in Make = false
 tells_in (Refused n) = false
 
 abbrev pub tells_repair : Words → Bool

@@ -2,9 +2,13 @@
 use Rattle.std.specs.Prelude.{ℕ, Bool, true, false, if◌then◌else◌, codes, decimal, List, [], ◌∷◌, ◌++◌}
 use Rattle.std.specs.List.{flat_map}
 use Rattle.xfs_tools.specs.declared.answer.Answer.{Answer}
-use Rattle.xfs_tools.specs.declared.answer.Answer.TheVariants.{Usage, Unbuilt, NoGeometry, Unsupported, DirtyLog, TooLarge, UnsupportedFile, Clean, Damaged, Repaired, ReadFault, WriteFault, OutputFault, NoMemory, Done, InputFault, InputLong}
+use Rattle.xfs_tools.specs.declared.answer.Answer.TheVariants.{Usage, Unbuilt, NoGeometry, Unsupported, DirtyLog, TooLarge, UnsupportedFile, Clean, Damaged, Repaired, BadOption, TooSmall, HasVolume, NoRoom, Made, ReadFault, WriteFault, OutputFault, NoMemory, Done, InputFault, InputLong}
 use Rattle.xfs_mend.specs.declared.outcome.Summary.{Summary}
 use Rattle.xfs_mend.specs.declared.outcome.Summary.TheVariants.{Backups, Rebuilt}
+use Rattle.uuid.specs.Text.{hyphenated_text}
+use Rattle.xfs_mkfs.specs.declared.outcome.MadeSummary.{MadeSummary}
+use Rattle.xfs_place.specs.declared.faults.Place.{Place}
+use Rattle.xfs_place.specs.declared.faults.Place.TheVariants as Placed
 use Rattle.xfs_image.specs.declared.findings.Finding.{Finding}
 use Rattle.xfs_image.specs.declared.findings.Finding.TheVariants as Found
 use Rattle.xfs_volume.specs.declared.findings.Law.{Law}
@@ -42,6 +46,23 @@ abbrev pub finding_text : Finding → List ℕ
 finding_text (Found.Law law) = law_text law
 finding_text (Found.Part part place) = line ((codes "damaged: part ", Decimal part) ∷ (codes " at ", Decimal place) ∷ []) (codes "\n")
 
+-- the line of what finds no room
+abbrev pub no_room_text : Place → List ℕ
+no_room_text (Placed.Group ag) = line ((codes "xfs: no room: group ", Decimal ag) ∷ []) (codes "\n")
+no_room_text (Placed.Directory ino) = line ((codes "xfs: no room: directory ", Decimal ino) ∷ []) (codes "\n")
+no_room_text (Placed.File ino) = line ((codes "xfs: no room: file ", Decimal ino) ∷ []) (codes "\n")
+no_room_text Placed.Chunk = line [] (codes "xfs: no room: chunk\n")
+no_room_text Placed.LostFound = line [] (codes "xfs: no room: lost+found\n")
+
+-- the line of a volume that was made: its blocks, its groups, where the log begins and how many blocks it has, its root, its identifier
+abbrev pub made_numbers : MadeSummary → List (List ℕ × Number)
+made_numbers made =
+    (codes "made: blocks=", Decimal made.dblocks) ∷ (codes " groups=", Decimal made.agcount) ∷ (codes " log=", Decimal made.log)
+    ∷ (codes "+", Decimal made.logblocks) ∷ (codes " root=", Decimal made.rootino) ∷ []
+
+abbrev pub made_text : MadeSummary → List ℕ
+made_text made = line (made_numbers made) (codes " uuid=") ++ (hyphenated_text made.uuid ++ codes "\n")
+
 -- the line of an answer
 abbrev pub text_of : Answer → List ℕ
 text_of (Usage word) = line ((codes "xfs: usage: word ", Decimal word) ∷ []) (codes "\n")
@@ -54,6 +75,11 @@ text_of (UnsupportedFile ino what) = line ((codes "xfs: unsupported: inode ", De
 text_of NoGeometry = line [] (codes "xfs: no geometry\n")
 text_of Clean = line [] (codes "clean\n")
 text_of (Repaired summary) = summary_text summary
+text_of (BadOption word item) = line ((codes "xfs: bad option: word ", Decimal word) ∷ (codes " item ", Decimal item) ∷ []) (codes "\n")
+text_of (TooSmall what) = line ((codes "xfs: too small: ", Decimal what) ∷ []) (codes "\n")
+text_of HasVolume = line [] (codes "xfs: has a volume\n")
+text_of (NoRoom place) = no_room_text place
+text_of (Made summary) = made_text summary
 text_of (ReadFault faults) = line ((codes "xfs: read fault: ", Decimal faults) ∷ []) (codes "\n")
 text_of (WriteFault written) = line ((codes "xfs: write fault after ", Decimal written) ∷ []) (codes " blocks\n")
 text_of OutputFault = line [] []
@@ -67,12 +93,14 @@ abbrev pub is_for_out : Answer → Bool
 is_for_out Clean = true
 is_for_out (Damaged finding) = true
 is_for_out (Repaired summary) = true
+is_for_out (Made summary) = true
 is_for_out answer = false
 
 -- the exit status of an answer; under -e a repair ends with 4
 abbrev pub code_of : Bool → Answer → ℕ
 code_of tells Clean = 0
 code_of tells Done = 0
+code_of tells (Made summary) = 0
 code_of tells (Repaired summary) = if tells then 4 else 0
 code_of tells DirtyLog = 2
 code_of tells answer = 1

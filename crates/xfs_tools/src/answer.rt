@@ -2,6 +2,8 @@
 
 use xfs_image::Finding;
 use xfs_mend::{Outcome, Summary};
+use xfs_mkfs::MadeSummary;
+use xfs_place::Place;
 
 /// The answer of a call.
 #[derive(Clone, Copy, Debug, PartialEq, Eq)]
@@ -28,6 +30,17 @@ pub enum Answer {
     Damaged(Finding),
     /// The volume was repaired.
     Repaired(Summary),
+    /// An item of a word's list is no sub-option, has another value than it may, or can't stand behind those before it; items
+    /// are numbered from 1 in their word.
+    BadOption { word: usize, item: u8 },
+    /// A volume that was to be made breaks a bound: that of blocks (1), of allocation groups (2) or of the log (3).
+    TooSmall { what: u8 },
+    /// There is a volume already where one was to be made.
+    HasVolume,
+    /// The volume has no room for this.
+    NoRoom(Place),
+    /// A volume was made.
+    Made(MadeSummary),
     /// A read failed, before anything was written. `faults` is the disk's count.
     ReadFault { faults: u64 },
     /// A write or a sync failed, after so many blocks of the plan were written.
@@ -64,7 +77,7 @@ impl Answer {
         ensures { result ≡ code_of tells_repair self }
     {
         match self {
-            Answer::Clean | Answer::Done => 0,
+            Answer::Clean | Answer::Done | Answer::Made(_) => 0,
             Answer::Repaired(_) => { if tells_repair { 4 } else { 0 } }
             Answer::DirtyLog => 2,
             _ => 1,
@@ -77,7 +90,7 @@ impl Answer {
     {
         matches!(
             self,
-            Answer::Clean | Answer::Damaged(_) | Answer::Repaired(_)
+            Answer::Clean | Answer::Damaged(_) | Answer::Repaired(_) | Answer::Made(_)
         )
     }
 

@@ -1,18 +1,16 @@
 //! The words of a command line.
 
 ghost use Rattle.std.specs.Prelude.{◌≡◌, ℕ, ◌≤◌, Option, Some, None, IsTrue, List, ◌∷◌, codes, length};
-ghost use Rattle.xfs_tools.specs.CommandLine.{after_letter_w, after_letters, after_option, after_word, after_workers, after_words, is_debugger, judged, options_of, OffendsFirst, Words, no_options, reading_of, settled, workers_of};
+ghost use Rattle.xfs_tools.specs.CommandLine.{after_letter_w, after_letters, after_option, after_word, after_workers, after_words, is_debugger, is_maker, judged, options_of, OffendsFirst, Words, no_options, reading_of, settled, workers_of};
 
 use xfs_disk::Word;
 use xfs_mend::RepairOptions;
 
-/// What the words of a command line ask for, but for those of `xfs_db`.
+/// What the words of a command line ask for, but for those of `xfs_db` and `mkfs.xfs`.
 #[derive(Clone, Copy, Debug, PartialEq, Eq)]
 pub enum Call {
     /// `xfs_repair`.
     Repair(RepairWords),
-    /// `mkfs.xfs`.
-    Make,
     /// Nothing: the words are not those of a tool. `word` is the first offending one, or the number of words where one lacks.
     Refused { word: usize },
 }
@@ -56,6 +54,17 @@ pub fn is_debugger(words: &[Word]) -> bool
     }
 }
 
+/// Whether the tool is `mkfs.xfs`.
+pub fn is_maker(words: &[Word]) -> bool
+    ensures value { result ≡ is_maker words.now }
+    ensures tool { IsTrue result → 1 ≤ length words.now }
+{
+    match words {
+        [] => false,
+        [tool, ..] => tool.bytes() == b"mkfs.xfs".as_slice(),
+    }
+}
+
 /// What the words ask for. The number of a refusal is that of the first word that offends.
 pub fn judge(words: &[Word]) -> Call
     ensures judged { result ≡ judged words.now }
@@ -75,8 +84,6 @@ fn settle_words(words: &[Word]) -> Call
     let tool = tool.bytes();
     if tool == b"xfs_repair".as_slice() {
         read_all(rest).settle(words.len())
-    } else if tool == b"mkfs.xfs".as_slice() {
-        Call::Make
     } else {
         Call::Refused { word: 0 }
     }

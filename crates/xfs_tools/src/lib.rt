@@ -5,6 +5,7 @@ mod answer;
 mod command_line;
 mod debugger;
 mod hexadecimal;
+mod maker;
 #[cfg(test)]
 mod tests;
 mod texts;

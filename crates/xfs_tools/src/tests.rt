@@ -3,6 +3,7 @@
 mod calls;
 mod lines;
 mod made;
+mod making;
 mod rows;
 mod sessions;
 mod vast;

@@ -1,16 +1,20 @@
 //! The line of each answer. Putting one takes no memory.
 
-ghost use Rattle.std.specs.Prelude.{◌≡◌, ℕ, ◌++◌, length, map};
+ghost use Rattle.std.specs.Prelude.{◌≡◌, ℕ, ◌++◌, codes, length, map};
 ghost use Rattle.xfs_tools.specs.Labels.{label_of};
-ghost use Rattle.xfs_tools.specs.Answers.{Puts};
-ghost use Rattle.xfs_tools.specs.Texts.{finding_text, law_text, line, number_text, summary_text, text_of};
+ghost use Rattle.xfs_tools.specs.Answers.{IsTold, Puts};
+ghost use Rattle.xfs_tools.specs.Texts.{finding_text, law_text, line, made_numbers, made_text, no_room_text, number_text, summary_text, text_of};
+ghost use Rattle.uuid.specs.Text.{hyphenated_text};
 
 use crate::answer::Answer;
 use crate::hexadecimal::{MOST_DIGITS, write_hexadecimal};
 use itoa::Buffer;
+use uuid::Uuid;
 use xfs_disk::{Failed, Sink};
 use xfs_image::Finding;
 use xfs_mend::Summary;
+use xfs_mkfs::MadeSummary;
+use xfs_place::Place;
 use xfs_volume::Law;
 
 /// A number, by the base in which it is put.
@@ -19,6 +23,17 @@ enum Number {
     Decimal(u64),
     Large(u128),
     Hexadecimal(u64),
+}
+
+/// Puts the answer's line to the stream that it goes to.
+pub fn tell<O: Sink, E: Sink>(out: &mut O, err: &mut E, answer: Answer) -> Result<(), Failed>
+    ensures { IsTold O.took O.faults E.took E.faults out.old out.new err.old err.new answer result }
+{
+    if answer.is_for_out() {
+        put_answer(out, answer)
+    } else {
+        put_answer(err, answer)
+    }
 }
 
 /// Puts the line of an answer.
@@ -44,6 +59,15 @@ pub fn put_answer<S: Sink>(sink: &mut S, answer: Answer) -> Result<(), Failed>
         Answer::Clean => put_line(sink, &[], "clean\n"),
         Answer::Damaged(finding) => put_finding(sink, finding),
         Answer::Repaired(summary) => put_summary(sink, summary),
+        Answer::BadOption { word, item } => put_bad_option(sink, word, item),
+        Answer::TooSmall { what } => put_line(
+            sink,
+            &[("xfs: too small: ", Number::Decimal(what as u64))],
+            "\n",
+        ),
+        Answer::HasVolume => put_line(sink, &[], "xfs: has a volume\n"),
+        Answer::NoRoom(place) => put_no_room(sink, place),
+        Answer::Made(made) => put_made(sink, &made),
         Answer::ReadFault { faults } => put_line(
             sink,
             &[("xfs: read fault: ", Number::Decimal(faults))],
@@ -92,6 +116,80 @@ fn put_unsupported_file<S: Sink>(sink: &mut S, ino: u64, what: u8) -> Result<(),
         (" feature ", Number::Decimal(what as u64)),
     ];
     put_line(sink, &numbers, "\n")
+}
+
+/// Puts the line of a bad item of a word.
+fn put_bad_option<S: Sink>(sink: &mut S, word: usize, item: u8) -> Result<(), Failed>
+    ensures { Puts (S.took sink.old) (S.took sink.new) (S.faults sink.old) (S.faults sink.new) (text_of (Answer.BadOption word item)) result }
+{
+    let numbers = [
+        ("xfs: bad option: word ", Number::Decimal(word as u64)),
+        (" item ", Number::Decimal(item as u64)),
+    ];
+    put_line(sink, &numbers, "\n")
+}
+
+/// Puts the line of what finds no room.
+fn put_no_room<S: Sink>(sink: &mut S, place: Place) -> Result<(), Failed>
+    ensures { Puts (S.took sink.old) (S.took sink.new) (S.faults sink.old) (S.faults sink.new) (no_room_text place) result }
+{
+    match place {
+        Place::Group(ag) => put_line(
+            sink,
+            &[("xfs: no room: group ", Number::Decimal(ag as u64))],
+            "\n",
+        ),
+        Place::Directory(ino) => put_line(
+            sink,
+            &[("xfs: no room: directory ", Number::Decimal(ino))],
+            "\n",
+        ),
+        Place::File(ino) => put_line(
+            sink,
+            &[("xfs: no room: file ", Number::Decimal(ino))],
+            "\n",
+        ),
+        Place::Chunk => put_line(sink, &[], "xfs: no room: chunk\n"),
+        Place::LostFound => put_line(sink, &[], "xfs: no room: lost+found\n"),
+    }
+}
+
+/// Puts the line of a volume that was made.
+fn put_made<S: Sink>(sink: &mut S, made: &MadeSummary) -> Result<(), Failed>
+    ensures { Puts (S.took sink.old) (S.took sink.new) (S.faults sink.old) (S.faults sink.new) (made_text made.now) result }
+{
+    match put_made_numbers(sink, made) {
+        Ok(()) => {}
+        Err(Failed) => return Err(Failed),
+    }
+    put_identifier(sink, made.uuid)
+}
+
+/// Puts the numbers of a volume that was made, and what stands before its identifier.
+fn put_made_numbers<S: Sink>(sink: &mut S, made: &MadeSummary) -> Result<(), Failed>
+    ensures { Puts (S.took sink.old) (S.took sink.new) (S.faults sink.old) (S.faults sink.new) (line (made_numbers made.now) (codes " uuid=")) result }
+{
+    let numbers = [
+        ("made: blocks=", Number::Decimal(made.dblocks)),
+        (" groups=", Number::Decimal(made.agcount as u64)),
+        (" log=", Number::Decimal(made.log)),
+        ("+", Number::Decimal(made.logblocks as u64)),
+        (" root=", Number::Decimal(made.rootino)),
+    ];
+    put_line(sink, &numbers, " uuid=")
+}
+
+/// Puts an identifier, and ends the line.
+fn put_identifier<S: Sink>(sink: &mut S, identifier: [u8; 16]) -> Result<(), Failed>
+    ensures { Puts (S.took sink.old) (S.took sink.new) (S.faults sink.old) (S.faults sink.new) (hyphenated_text identifier ++ codes "\n") result }
+{
+    let mut buffer = Uuid::encode_buffer();
+    let hyphenated = Uuid::from_bytes(identifier).hyphenated();
+    match put_text(sink, hyphenated.encode_lower(&mut buffer)) {
+        Ok(()) => {}
+        Err(Failed) => return Err(Failed),
+    }
+    put_text(sink, "\n")
 }
 
 /// Puts the line of a finding.

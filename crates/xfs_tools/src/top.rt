@@ -1,19 +1,22 @@
 //! The top call: a command line and an image in, an answer, its line and an exit status out.
 
-ghost use Rattle.std.specs.Prelude.{◌≡◌, ℕ, ◌≤◌, true, false, drop, Result};
+ghost use Rattle.std.specs.Prelude.{◌≡◌, ℕ, ◌≤◌, ◌&&◌, Bool, true, false, drop, Result};
 ghost use Rattle.std.specs.Option.{ForSome};
 ghost use Rattle.xfs_disk.specs.declared.failed.Failed.{Failed};
 ghost use Rattle.xfs_options.specs.Debugging.{debug_of};
-ghost use Rattle.xfs_tools.specs.CommandLine.{is_debugger, judged, tells_in, tells_repair};
+ghost use Rattle.xfs_options.specs.Making.{make_of};
+ghost use Rattle.xfs_tools.specs.CommandLine.{is_debugger, is_maker, judged, tells_in, tells_repair};
 ghost use Rattle.xfs_tools.specs.Debugging.{Counts, Found, IsDebugged, session_status};
+ghost use Rattle.xfs_tools.specs.Making.{IsMaking, IsToldUnless, is_made};
 ghost use Rattle.xfs_tools.specs.Texts.{text_of};
 ghost use Rattle.xfs_tools.specs.Answers.{IsCaused, IsDue, IsKept, IsTold, Leaves, Puts, status_of};
 ghost use Rattle.xfs_tools.specs.declared.answer.Answer.{Answer};
 
 use crate::answer::{Answer, Status};
-use crate::command_line::{Call, is_debugger, judge};
+use crate::command_line::{Call, is_debugger, is_maker, judge};
 use crate::debugger::run_debugger;
-use crate::texts::put_answer;
+use crate::maker::run_maker;
+use crate::texts::tell;
 use std::alloc::Global;
 use std::thread::Threads;
 use xfs_disk::{Disk, Failed, Gate, Library, Sink, Source, Stamp, Word};
@@ -33,7 +36,7 @@ pub fn run<R: Threads + Sync, D: Disk, L: Library, S: Source, O: Sink, E: Sink, 
     stamp: &Stamp,
     gate: &G,
 ) -> Status
-    ensures answer { is_debugger words.now ≡ false → (answer : Answer) × (put : Result (Unit {0}) Failed)
+    ensures answer { is_debugger words.now ≡ false → is_maker words.now ≡ false → (answer : Answer) × (put : Result (Unit {0}) Failed)
         × ForSome (D.holds disk.old) (λ image. IsDue (judged words.now) image answer)
         × IsCaused (D.faults disk.old) (D.faults disk.new) (D.write_faults disk.old) (D.write_faults disk.new) answer
         × ForSome (D.holds disk.old) (λ image. Leaves image (D.holds disk.new) answer)
@@ -46,14 +49,22 @@ pub fn run<R: Threads + Sync, D: Disk, L: Library, S: Source, O: Sink, E: Sink, 
         (record { reads = D.faults disk.new; writes = D.write_faults disk.new; takes = S.faults input.new; puts = O.faults out.new }) answer finished
         × Puts (E.took err.old) (E.took err.new) (E.faults err.old) (E.faults err.new) (text_of answer) put
         × (result ≡ session_status answer finished put) }
+    ensures made { is_debugger words.now ≡ false → is_maker words.now ≡ true → (answer : Answer) × (quiet : Bool) × (put : Result (Unit {0}) Failed)
+        × IsMaking (make_of (drop 1 words.now)) stamp.now (D.size disk.old)
+        (record { holds = D.holds disk.old; reads = D.faults disk.old; writes = D.write_faults disk.old })
+        (record { holds = D.holds disk.new; reads = D.faults disk.new; writes = D.write_faults disk.new }) answer quiet
+        × IsToldUnless (quiet && is_made answer) O.took O.faults E.took E.faults out.old out.new err.old err.new answer put
+        × (result ≡ status_of false answer put) }
     ensures size { D.size disk.new ≡ D.size disk.old }
-    ensures faults { is_debugger words.now ≡ false → D.faults disk.old ≤ D.faults disk.new }
-    ensures write_faults { is_debugger words.now ≡ false → D.write_faults disk.old ≤ D.write_faults disk.new }
+    ensures faults { is_debugger words.now ≡ false → is_maker words.now ≡ false → D.faults disk.old ≤ D.faults disk.new }
+    ensures write_faults { is_debugger words.now ≡ false → is_maker words.now ≡ false → D.write_faults disk.old ≤ D.write_faults disk.new }
     ensures files { files.new ≡ files.old }
     ensures input { is_debugger words.now ≡ false → input.new ≡ input.old }
 {
     if is_debugger(words) {
         run_debugger(alloc, &words[1..], disk, input, out, err)
+    } else if is_maker(words) {
+        run_maker(rt, alloc, &words[1..], disk, files, out, err, stamp)
     } else {
         run_volume(rt, alloc, words, disk, out, err, stamp, gate)
     }
@@ -118,7 +129,6 @@ fn answer_to<R: Threads + Sync, D: Disk, G: Gate>(
         Call::Repair(words) => {
             Answer::of_outcome(repair(rt, alloc, disk, &words.options(), stamp, gate))
         }
-        Call::Make => Answer::Unbuilt { request: 6 },
         Call::Refused { word } => Answer::Usage { word: *word },
     }
 }
@@ -129,17 +139,6 @@ fn tells_repair(call: &Call) -> bool
 {
     match call {
         Call::Repair(words) => words.tells_repair,
-        Call::Make | Call::Refused { .. } => false,
-    }
-}
-
-/// Puts the answer's line to the stream that it goes to.
-fn tell<O: Sink, E: Sink>(out: &mut O, err: &mut E, answer: Answer) -> Result<(), Failed>
-    ensures { IsTold O.took O.faults E.took E.faults out.old out.new err.old err.new answer result }
-{
-    if answer.is_for_out() {
-        put_answer(out, answer)
-    } else {
-        put_answer(err, answer)
+        Call::Refused { .. } => false,
     }
 }

@@ -74,10 +74,9 @@ pub fn call<D: Disk>(
 
 #[test]
 fn words(rt: HostRuntime) -> Result<(), Fail> {
-    let rows: [(Words, &str); 20] = [
+    let rows: [(Words, &str); 19] = [
         (&[], "xfs: usage: word 0\n"),
         (&["x"], "xfs: usage: word 0\n"),
-        (&["mkfs.xfs"], "xfs: unbuilt: 6\n"),
         (&["xfs_db"], "xfs: usage: word 1\n"),
         (&["xfs_db", "-xc"], "xfs: usage: word 2\n"),
         (&["xfs_db", "-q", "V"], "xfs: usage: word 1\n"),

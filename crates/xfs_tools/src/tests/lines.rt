@@ -6,6 +6,7 @@ use std::test::Fail;
 use xfs_disk::MemorySink;
 use xfs_image::Finding;
 use xfs_mend::Summary;
+use xfs_place::Place;
 use xfs_volume::Law;
 
 #[test]
@@ -16,7 +17,7 @@ fn lines_of_answers(rt: HostRuntime) -> Result<(), Fail> {
         cleared: 0,
         orphans: 0,
     };
-    let rows: [(Answer, &str); 8] = [
+    let rows: [(Answer, &str); 13] = [
         (
             Answer::Repaired(rebuilt),
             "repaired: blocks=12 kept=3 cleared=0 orphans=0\n",
@@ -48,6 +49,17 @@ fn lines_of_answers(rt: HostRuntime) -> Result<(), Fail> {
         (
             Answer::UnsupportedFile { ino: 131, what: 4 },
             "xfs: unsupported: inode 131 feature 4\n",
+        ),
+        (Answer::NoRoom(Place::Group(3)), "xfs: no room: group 3\n"),
+        (
+            Answer::NoRoom(Place::Directory(128)),
+            "xfs: no room: directory 128\n",
+        ),
+        (Answer::NoRoom(Place::File(131)), "xfs: no room: file 131\n"),
+        (Answer::NoRoom(Place::Chunk), "xfs: no room: chunk\n"),
+        (
+            Answer::NoRoom(Place::LostFound),
+            "xfs: no room: lost+found\n",
         ),
         (Answer::NoMemory, "xfs: no memory\n"),
         (Answer::OutputFault, ""),

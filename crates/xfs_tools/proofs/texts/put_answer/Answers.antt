@@ -41,3 +41,18 @@ returns-in-InputFault g c = puts_as _ _ _ _ _ _ _ (ap text_of c.in-InputFault.is
 
 pub returns-in-InputLong : goal.returns-in-InputLong
 returns-in-InputLong g c = puts_as _ _ _ _ _ _ _ (ap text_of c.in-InputLong.is) c.put_line-in-InputLong.ensures
+
+pub returns-in-BadOption : goal.returns-in-BadOption
+returns-in-BadOption g c = puts_as _ _ _ _ _ _ _ (ap text_of c.in-BadOption.is) c.put_bad_option.ensures
+
+pub returns-in-TooSmall : goal.returns-in-TooSmall
+returns-in-TooSmall g c = puts_as _ _ _ _ _ _ _ (ap text_of c.in-TooSmall.is) c.put_line-in-TooSmall.ensures
+
+pub returns-in-HasVolume : goal.returns-in-HasVolume
+returns-in-HasVolume g c = puts_as _ _ _ _ _ _ _ (ap text_of c.in-HasVolume.is) c.put_line-in-HasVolume.ensures
+
+pub returns-in-NoRoom : goal.returns-in-NoRoom
+returns-in-NoRoom g c = puts_as _ _ _ _ _ _ _ (ap text_of c.in-NoRoom.is) c.put_no_room.ensures
+
+pub returns-in-Made : goal.returns-in-Made
+returns-in-Made g c = puts_as _ _ _ _ _ _ _ (ap text_of c.in-Made.is) c.put_made.ensures

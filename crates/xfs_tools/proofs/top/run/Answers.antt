@@ -4,3 +4,6 @@ use Rattle.xfs_tools.proofs.top.run.Goals as goal
 
 pub returns-then-is_debugger-clause-debugged : goal.returns-then-is_debugger-clause-debugged
 returns-then-is_debugger-clause-debugged g c = λ is. rw (sym (take_rest c.args.words.now 1)) c.run_debugger.ensures.ended
+
+pub returns-then-is_maker-clause-made : goal.returns-then-is_maker-clause-made
+returns-then-is_maker-clause-made g c = λ no is. rw (sym (take_rest c.args.words.now 1)) c.run_maker.ensures.ended

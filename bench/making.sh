@@ -1,0 +1,36 @@
+#!/usr/bin/env bash
+# Measures `xfs mkfs.xfs` beside mkfs.xfs of xfsprogs over sparse files of 1 GiB and 16 GiB, each new: wall time, time of the
+# processors and peak memory, the best of five runs in turn, and the three ratios. Needs xfsprogs, GNU time and ./xfs.
+#
+#   bench/making.sh
+set -eu
+top=$(cd "$(dirname "$0")/.." && pwd)
+work=$(mktemp -d)
+trap 'rm -rf "$work"' EXIT
+measure() { # COMMAND..: seconds, seconds of the processors and KiB of one run
+  /usr/bin/time -f '%e %U %S %M' -o "$work/time" "$@" > "$work/out" 2>&1
+  tail -1 "$work/time" | awk '{ print $1, $2 + $3, $4 }'
+}
+fresh() { rm -f "$work/image"; truncate -s "$1" "$work/image"; }
+for row in '1G 4' '16G 64'; do
+  read -r size groups <<< "$row"
+  : > "$work/ours"
+  : > "$work/theirs"
+  for turn in 1 2 3 4 5; do
+    fresh "$size"
+    measure "$top/xfs" mkfs.xfs -q -d "agcount=$groups" "$work/image" >> "$work/ours"
+    fresh "$size"
+    measure mkfs.xfs -q -f -K -d "agcount=$groups" -m crc=1,finobt=1,rmapbt=1,reflink=0,bigtime=0,inobtcount=0 \
+      -i size=512,sparse=1,nrext64=0 -s size=512 "$work/image" >> "$work/theirs"
+  done
+  echo "$size, $groups groups"
+  paste -d ' ' "$work/ours" "$work/theirs" | awk '
+    function least(now, was) { return NR == 1 || now < was ? now : was }
+    { for (i = 1; i <= 6; i++) best[i] = least($i, best[i]) }
+    function ratio(a, b) { return b > 0 ? sprintf("%.2f", a / b) : "-" }
+    END {
+      printf "  xfs        %6.2f s  %6.2f s of the processors  %8d KiB\n", best[1], best[2], best[3]
+      printf "  xfsprogs   %6.2f s  %6.2f s of the processors  %8d KiB\n", best[4], best[5], best[6]
+      printf "  ratio      %6s    %6s                       %8s\n", ratio(best[1], best[4]), ratio(best[2], best[5]), ratio(best[3], best[6])
+    }'
+done
