@@ -2,3 +2,4 @@ pub mod Steps
 pub mod Rows
 pub mod Geometries
 pub mod Failing
+pub mod Held

@@ -22,7 +22,8 @@ from_append index (at ∷ a) b =
     ap (λ (rows : List Row). record { at = at; index = index } ∷ rows)
     (from_append (index + 1) a b ∙ ap (λ (n : ℕ). rows_from (index + 1) a ++ rows_from n b) further)
 
-row_is : (index : ℕ) (places : List ℕ) (k : ℕ) (d : Row) → k < length places
+-- the row of a number
+pub row_is : (index : ℕ) (places : List ℕ) (k : ℕ) (d : Row) → k < length places
     → get_or (rows_from index places) k d ≡ record { at = get_or places k 0; index = index + k }
 row_is index [] k d low = absurd (omega (arith, low))
 row_is index (at ∷ places) zero d low = ap (λ (n : ℕ). record { at = at; index = n }) (plus_zero index)

@@ -1,0 +1,112 @@
+-- An image holds the blocks of a plan once they were written, where no block is planned twice.
+use Rattle.std.proofs.Common.{◌≡◌, ℕ, zero, suc, ◌+◌, ◌<◌, ◌≤◌, ◌==◌, Bool, if◌then◌else◌, List, [], ◌∷◌, ◌++◌, length, map, get_or, set, refl, sym, ap, ◌∙◌, subst, arith}
+use Rattle.std.specs.Prelude.{count_by, drop, take}
+use Rattle.std.specs.List.{All, Contains, sum_by}
+use Rattle.std.specs.List.Sorted.{IsPermutation}
+use Rattle.std.proofs.lemmas.Bool.{eq-eqb}
+use Rattle.std.proofs.lemmas.List.{get_or-map, get_or-set_other, get_or-set_same, length-map, length-set, take-append-drop}
+use Rattle.std.proofs.lemmas.List.Sorted.{Contains-permutation, IsPermutation-append_comm, IsPermutation-trans, sum_by-IsPermutation}
+use Rattle.std.proofs.lemmas.List.Sums.{sum_by-cons}
+use Rattle.xfs_disk.specs.Blocks.{Image}
+use Rattle.xfs_tree.specs.Reading.{bytes_at}
+use Rattle.xfs_render.specs.Plans.{HoldsPlan, IsOnce, planned}
+use Rattle.xfs_render.specs.declared.plan.Plan.{Plan}
+use Rattle.xfs_mkfs.proofs.Rows.{count_from, row_is}
+use Rattle.xfs_mkfs.specs.Writing.{AreRows, Writes, first_last, rows_from, rows_of, write_of, writes_of, written}
+use Rattle.xfs_mkfs.specs.declared.order.Row.{Row}
+
+abbrev one_if : Bool → ℕ
+one_if t = if t then 1 else 0
+
+-- how many writes are at a block
+abbrev count_at : ℕ → Writes → ℕ
+count_at at writes = sum_by (λ (w : ℕ × List ℕ). one_if (w.0 == at)) writes
+
+is_one : (a b : ℕ) → a ≡ b → one_if (a == b) ≡ 1
+is_one a b same = ap one_if (eq-eqb a b same)
+
+differs : (a b : ℕ) → one_if (a == b) ≡ 0 → b ≡ a → ⊥
+differs a b none same = absurd (omega (arith, none, is_one a b (sym same)))
+
+-- a block stays at which nothing is written
+stays : (writes : Writes) (image : Image) (at : ℕ) → count_at at writes ≡ 0 → bytes_at (written writes image) at ≡ bytes_at image at
+stays [] image at none = refl
+stays (w ∷ ws) image at none =
+    let one = λ (o : ℕ × List ℕ). one_if (o.0 == at) in
+    let sum = sum_by-cons one w ws in
+    stays ws (set image w.0 w.1) at (omega (arith, sum, none))
+    ∙ get_or-set_other image w.0 at w.1 [] (differs w.0 at (omega (arith, sum, none)))
+
+-- a block has what was written at it, where that was one write
+lands : (writes : Writes) (image : Image) (k : ℕ) (d : ℕ × List ℕ) → k < length writes → count_at (get_or writes k d).0 writes ≤ 1
+    → (get_or writes k d).0 < length image → bytes_at (written writes image) (get_or writes k d).0 ≡ (get_or writes k d).1
+lands [] image k d low once inside = absurd (omega (arith, low))
+lands (w ∷ ws) image zero d low once inside =
+    let one = λ (o : ℕ × List ℕ). one_if (o.0 == w.0) in
+    let sum = sum_by-cons one w ws in
+    stays ws (set image w.0 w.1) w.0 (omega (arith, sum, is_one w.0 w.0 refl, once)) ∙ get_or-set_same image w.0 w.1 [] inside
+lands (w ∷ ws) image (suc k) d low once inside =
+    let at = (get_or ws k d).0 in
+    let one = λ (o : ℕ × List ℕ). one_if (o.0 == at) in
+    let sum = sum_by-cons one w ws in
+    lands ws (set image w.0 w.1) k d (omega (arith, low)) (omega (arith, sum, once))
+    (subst (λ (n : ℕ). at < n) (sym (length-set image w.0 w.1)) inside)
+
+-- the writes of rows are at their blocks
+count_writes : (bank : Image) (at : ℕ) (rows : List Row) → count_at at (map (write_of bank) rows) ≡ sum_by (λ (r : Row). one_if (r.at == at)) rows
+count_writes bank at [] = refl
+count_writes bank at (r ∷ rows) =
+    let one = λ (o : ℕ × List ℕ). one_if (o.0 == at) in
+    let mine = λ (o : Row). one_if (o.at == at) in
+    let both = sum_by-cons one (write_of bank r) (map (write_of bank) rows) in
+    let rest = sum_by-cons mine r rows in
+    omega (arith, both, rest, count_writes bank at rows)
+
+-- and those are the planned blocks
+count_rows : (index at : ℕ) (places : List ℕ) → sum_by (λ (r : Row). one_if (r.at == at)) (rows_from index places) ≡ count_by (λ other. other == at) places
+count_rows index at [] = refl
+count_rows index at (place ∷ places) =
+    let one = λ (o : ℕ). one_if (o == at) in
+    let mine = λ (o : Row). one_if (o.at == at) in
+    let rows = sum_by-cons mine (record { at = place; index = index }) (rows_from (index + 1) places) in
+    let both = sum_by-cons one place places in
+    omega (arith, rows, both, count_rows (index + 1) at places)
+
+zero_plus : (n : ℕ) → 0 + n ≡ n
+zero_plus n = omega arith
+
+last_moves : (rows : List Row) → IsPermutation rows (first_last rows)
+last_moves rows = subst (λ (xs : List Row). IsPermutation xs (first_last rows)) (take-append-drop 1 rows) (IsPermutation-append_comm (take 1 rows) (drop 1 rows))
+
+pub plan_held : (plan : Plan) (rows : List Row) (image : Image) → AreRows plan rows → IsOnce (planned plan)
+    → All (λ place. place < length image) (planned plan) → HoldsPlan (written (writes_of plan.bank rows) image) plan
+plan_held plan rows image are once inside = record { each = at_place }
+  where
+    order : List Row
+    order = first_last rows
+
+    moved : IsPermutation (rows_of plan) order
+    moved = IsPermutation-trans (rows_of plan) rows order are.all (last_moves rows)
+
+    few : (at : ℕ) → count_at at (writes_of plan.bank rows) ≤ 1
+    few at =
+        let writes = count_writes plan.bank at order in
+        let same = sum_by-IsPermutation (λ (r : Row). one_if (r.at == at)) (rows_of plan) order moved in
+        let all = count_rows 0 at (planned plan) in
+        omega (arith, writes, same, all, once.each at)
+
+    at_place : (j : ℕ) → j < length (planned plan) → bytes_at (written (writes_of plan.bank rows) image) (get_or (planned plan) j 0) ≡ get_or plan.bank j []
+    at_place j low =
+        let place = get_or (planned plan) j 0 in
+        let row : Row = record { at = place; index = j } in
+        let d : ℕ × List ℕ = (0, []) in
+        let there : Contains (rows_of plan) row = (j, omega (arith, count_from 0 (planned plan), low), row_is 0 (planned plan) j row low ∙ ap (λ (n : ℕ). record { at = place; index = n }) (zero_plus j)) in
+        let found = Contains-permutation (rows_of plan) order row moved there in
+        let is : get_or (writes_of plan.bank rows) found.0 d ≡ write_of plan.bank row =
+        get_or-map (write_of plan.bank) order found.0 row d found.1 ∙ ap (write_of plan.bank) found.2 in
+        let at : (get_or (writes_of plan.bank rows) found.0 d).0 ≡ place = ap (λ (w : ℕ × List ℕ). w.0) is in
+        let count : length (writes_of plan.bank rows) ≡ length order = length-map order (write_of plan.bank) in
+        ap (bytes_at (written (writes_of plan.bank rows) image)) (sym at)
+        ∙ lands (writes_of plan.bank rows) image found.0 d (omega (arith, count, found.1)) (few (get_or (writes_of plan.bank rows) found.0 d).0)
+          (subst (λ (n : ℕ). n < length image) (sym at) (inside j 0 low))
+        ∙ ap (λ (w : ℕ × List ℕ). w.1) is
