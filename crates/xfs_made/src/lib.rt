@@ -3,5 +3,7 @@
 #![tactic(auto)]
 
 mod files;
+mod volumes;
 
 pub use files::{first_chunk_is_kept, first_files_read, first_lsns_are_zero, first_names_are_lawful};
+pub use volumes::{made_plans_plan_each_block_once, made_volumes_are_consistent};

@@ -1,0 +1,116 @@
+-- What stands in an image that has the plan of an empty volume.
+use Rattle.std.proofs.Common.{◌≡◌, ℕ, ◌+◌, ◌*◌, ◌/◌, ◌%◌, ◌<◌, ◌≤◌, ◌==◌, Bool, true, false, List, [], length, get_or, Option, Some, refl, sym, ap, ◌∙◌, subst, arith}
+use Rattle.std.specs.List.{All}
+use Rattle.std.proofs.Math.Nat.{mod-eq_of_lt}
+use Rattle.std.proofs.lemmas.Bool.{ne_eqb}
+use Rattle.xfs_disk.specs.Blocks.{Image, IsImage}
+use Rattle.xfs_disk.specs.declared.stamp.Stamp.{Stamp}
+use Rattle.xfs_geom.specs.Conversions.{inode_of}
+use Rattle.xfs_geom.specs.Volumes.{Volume, volume_of}
+use Rattle.xfs_geom.specs.declared.geometry.Geometry.{Geometry}
+use Rattle.xfs_image.specs.Slots.{slot_bytes}
+use Rattle.xfs_place.specs.declared.placed.Placed.{Placed}
+use Rattle.xfs_render.specs.Clusters.{slot_in}
+use Rattle.xfs_render.specs.Plans.{HoldsPlan}
+use Rattle.xfs_render.specs.Rendering.{is_head, old_at, place_at}
+use Rattle.xfs_render.specs.Slots.{IsMade, IsSlotDue, wanted_of}
+use Rattle.xfs_render.specs.declared.bytes.Bytes.{Bytes}
+use Rattle.xfs_render.specs.declared.plan.Plan.{Plan}
+use Rattle.xfs_render.specs.declared.wanted_slots.SlotWanted.{SlotWanted}
+use Rattle.xfs_rendered.proofs.Slots.{slots_stand}
+use Rattle.xfs_rendered.specs.Standing.{HasHeads, IsStanding}
+use Rattle.xfs_empty.proofs.Kept.{many}
+use Rattle.xfs_empty.proofs.Places.{chunk_at, chunk_inode, count_places, head_at, numbered}
+use Rattle.xfs_empty.proofs.Slots.{wanted_is}
+use Rattle.xfs_empty.specs.Bytes.{IsEmptyBytes}
+use Rattle.xfs_empty.specs.Inodes.{free_slot}
+use Rattle.xfs_empty.specs.Placing.{empty_wanted}
+use Rattle.xfs_empty.specs.Planning.{IsEmptyPlan}
+use Rattle.xfs_made.specs.Files.{HasFirstSlot, HasFirstSlots}
+
+-- the first block of each group was at hand
+heads_at : (g : Geometry) (sector : List ℕ) (s : Stamp) (b : Bytes) → IsEmptyBytes g sector s b → HasHeads (empty_wanted g) b
+heads_at g sector s b made ag low =
+    let count : length b.places ≡ g.agcount + 8 = ap length made.places' ∙ count_places g in
+    (ag, omega (arith, count, low), ap (λ (ps : List ℕ). get_or ps ag 0) made.places' ∙ (head_at g ag low).is)
+
+-- an image that has the plan has the volume
+pub plan_stands : (g : Geometry) (sector : List ℕ) (s : Stamp) (plan : Plan) (blocks : ℕ) (image : Image) → (is : IsEmptyPlan g sector s plan)
+    → IsImage blocks image → g.dblocks ≤ blocks → HoldsPlan image plan → IsStanding (empty_wanted g) is.is.placed is.bytes is.is.rendered.super image
+plan_stands g sector s plan blocks image is whole enough held =
+    record {
+      volume' = is.is.rendered.reads image held;
+      due = is.is.rendered.due;
+      heads = heads_at g sector s is.bytes is.made;
+      size = let count = whole.count in omega (arith, count, enough);
+    }
+
+no_slot : SlotWanted
+no_slot = free_slot 0
+
+-- what is wanted of a slot was made
+due_made : (v : Volume) (generation : ℕ) (slots : List SlotWanted) (ino : ℕ) (old new : List ℕ) (w : SlotWanted) → wanted_of slots ino ≡ Some w
+    → IsSlotDue v generation slots ino old new → IsMade v generation w old new
+due_made v generation slots ino old new w is due = rw is at due
+
+slot_made : (g : Geometry) (sector : List ℕ) (s : Stamp) (p : Placed) (b : Bytes) (super : List ℕ) (image : Image) → IsEmptyBytes g sector s b
+    → IsStanding (empty_wanted g) p b super image → (i : ℕ) → i < 64 → HasFirstSlot (volume_of g) s image (128 + i)
+slot_made g sector s p b super image made is i low =
+    record {
+      wanted = get_or b.slots i no_slot;
+      old = slot_in (old_at b at) k;
+      first = made.slots'.each i no_slot low;
+      made = subst (λ (n : ℕ). IsMade v n (get_or b.slots i no_slot) (slot_in (old_at b at) k) (slot_bytes v image (128 + i))) generation
+          (due_made v b.stamp.generation b.slots (128 + i) (slot_in (old_at b at) k) (slot_bytes v image (128 + i)) (get_or b.slots i no_slot) wanted
+          (subst (λ (ino : ℕ). IsSlotDue v b.stamp.generation b.slots ino (slot_in (old_at b at) k) (slot_bytes v image ino)) number
+          (slots_stand (empty_wanted g) p b super image is at k inside few_slots other here)));
+    }
+  where
+    v : Volume
+    v = volume_of g
+
+    block : ℕ
+    block = i / 8
+
+    k : ℕ
+    k = i % 8
+
+    at : ℕ
+    at = g.agcount + i / 8
+
+    few : i / 8 < 8
+    few = omega (arith, low)
+
+    few_slots : k < 8
+    few_slots = omega arith
+
+    inside : at < length b.places
+    inside =
+        let count : length b.places ≡ g.agcount + 8 = ap length made.places' ∙ count_places g in
+        omega (arith, count, few)
+
+    place : place_at b at ≡ 16 + i / 8
+    place = ap (λ (ps : List ℕ). get_or ps at 0) made.places' ∙ (chunk_at g at (i / 8) few refl).is
+
+    other : is_head v (place_at b at) ≡ false
+    other =
+        let short : 16 + i / 8 < g.agblocks = let large = g.shape.groups.large in omega (arith, large, few) in
+        let rest : place_at b at % g.agblocks ≡ 16 + i / 8 = ap (λ (n : ℕ). n % g.agblocks) place ∙ mod-eq_of_lt short in
+        ne_eqb (place_at b at % g.agblocks) 0 (λ same. absurd (omega (arith, rest, same)))
+
+    here : place_at b at < g.dblocks
+    here = let enough = many v g.shape.groups in omega (arith, place, few, enough)
+
+    number : inode_of v (place_at b at) k ≡ 128 + i
+    number = ap (λ (n : ℕ). inode_of v n k) place ∙ chunk_inode v (i / 8) k g.shape.groups few ∙ omega arith
+
+    wanted : wanted_of b.slots (128 + i) ≡ Some (get_or b.slots i no_slot)
+    wanted = let count = made.slots'.count in wanted_is 128 (128 + i) i b.slots no_slot (numbered g s b.slots made.slots') (omega (arith, count, low)) refl
+
+    generation : b.stamp.generation ≡ s.generation
+    generation = ap (λ (t : Stamp). t.generation) made.stamp'
+
+-- all 64 slots of the first chunk were made
+pub slots_made : (g : Geometry) (sector : List ℕ) (s : Stamp) (p : Placed) (b : Bytes) (super : List ℕ) (image : Image) → IsEmptyBytes g sector s b
+    → IsStanding (empty_wanted g) p b super image → HasFirstSlots (volume_of g) s image
+slots_made g sector s p b super image made is = record { each = slot_made g sector s p b super image made is }
