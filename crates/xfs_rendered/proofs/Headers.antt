@@ -1,5 +1,5 @@
 -- The bytes of the first block of each group were at hand, so it has the headers that are due.
-use Rattle.std.proofs.Common.{◌≡◌, ℕ, ◌*◌, ◌<◌, List, subst}
+use Rattle.std.proofs.Common.{ℕ, ◌*◌, ◌<◌, List, subst}
 use Rattle.xfs_disk.specs.Blocks.{Image}
 use Rattle.xfs_place.specs.declared.placed.Placed.{Placed}
 use Rattle.xfs_place.specs.declared.wanted.Wanted.{Wanted}

@@ -1,5 +1,5 @@
 -- The superblock, the headers of all groups and the blocks of their trees state no log sequence number.
-use Rattle.std.proofs.Common.{◌≡◌, ℕ, zero, suc, ◌+◌, ◌*◌, ◌<◌, ◌≤◌, Bool, true, false, if◌then◌else◌, List, [], ◌∷◌, ◌++◌, length, map, take, drop, Some, None, ◌&&◌, refl, sym, ap, ◌∙◌, subst, arith}
+use Rattle.std.proofs.Common.{◌≡◌, ℕ, zero, suc, ◌+◌, ◌<◌, ◌≤◌, Bool, true, false, if◌then◌else◌, List, [], ◌∷◌, ◌++◌, length, map, take, drop, Some, None, ◌&&◌, refl, sym, ap, ◌∙◌, subst, arith}
 use Rattle.std.specs.List.{All, range_with_len}
 use Rattle.std.proofs.lemmas.List.Elements.{All-append, All-cons, All-drop, All-map, All-nil, All-take, All-weaker}
 use Rattle.xfs_word.specs.Crc.{little_field_of}
@@ -27,8 +27,7 @@ use Rattle.xfs_place.specs.declared.placed.Placed.{Placed}
 use Rattle.xfs_place.specs.declared.wanted.Wanted.{Wanted}
 use Rattle.xfs_image.specs.Groups.{head_block}
 use Rattle.xfs_image.specs.Lsns.{LsnPlace, at, groups_places, head_places, lsn_at, tree_places}
-use Rattle.xfs_render.specs.Groups.{due_agf, due_agi}
-use Rattle.xfs_render.specs.Groups.{tree_places as placed_blocks}
+use Rattle.xfs_render.specs.Groups.{due_agf, due_agi, tree_places as placed_blocks}
 use Rattle.xfs_render.specs.HeaderBlocks.{IsHeaderBlock}
 use Rattle.xfs_render.specs.Rendering.{group_in, inodes_in, volume}
 use Rattle.xfs_render.specs.Trees.{HasTrees, packed_tree}

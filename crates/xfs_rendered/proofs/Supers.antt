@@ -1,5 +1,5 @@
 -- The primary superblock is elected, all backups agree with it, and it has the counters of what was placed.
-use Rattle.std.proofs.Common.{◌≡◌, ℕ, ◌+◌, ◌-◌, ◌*◌, ◌%◌, ◌<◌, ◌≤◌, Bool, true, false, ◌==◌, if◌then◌else◌, List, [], ◌∷◌, length, Option, None, Ok, Err, refl, sym, ap, ◌∙◌, subst, arith}
+use Rattle.std.proofs.Common.{◌≡◌, ℕ, ◌+◌, ◌-◌, ◌*◌, ◌%◌, ◌<◌, ◌≤◌, true, false, ◌==◌, if◌then◌else◌, List, [], ◌∷◌, length, Option, None, Ok, Err, refl, sym, ap, ◌∙◌, subst, arith}
 use Rattle.std.proofs.lemmas.Bool.{eq-eqb}
 use Rattle.std.proofs.lemmas.Bool.Decides.{nat_tests}
 use Rattle.xfs_word.specs.Field.{field_of, part_of}
@@ -18,7 +18,7 @@ use Rattle.xfs_image.specs.Consistent.{IsElected, backup_agrees}
 use Rattle.xfs_image.specs.Groups.{head_block}
 use Rattle.xfs_image.specs.Sectors.{sector_in}
 use Rattle.xfs_image.specs.View.{counts_of}
-use Rattle.xfs_render.specs.Rendering.{is_head, volume}
+use Rattle.xfs_render.specs.Rendering.{volume}
 use Rattle.xfs_render.specs.declared.bytes.Bytes.{Bytes}
 use Rattle.xfs_rendered.specs.Standing.{IsStanding}
 use Rattle.xfs_rendered.proofs.Headers.{headers_stand}
