@@ -11,7 +11,7 @@ use Rattle.xfs_tree.specs.Packing.{root_of}
 use Rattle.xfs_tree.specs.Shape.{Shape}
 use Rattle.xfs_render.specs.Counters.{levels}
 use Rattle.xfs_render.specs.Groups.{CanPack, IsSound, tree_places}
-use Rattle.xfs_render.specs.Trees.{AddsTree, AddsTrees, ReadsFrom, block_in_group}
+use Rattle.xfs_render.specs.Trees.{AddsTree, AddsTrees, HasTree, block_in_group}
 use Rattle.xfs_render.specs.declared.draft.Draft.{Draft}
 use Rattle.xfs_render.proofs.DraftSteps.{adds_then}
 use Rattle.xfs_render.proofs.Roots.{root_in_group}
@@ -26,11 +26,11 @@ named_tree s v old new rs ss ps qs records places tree =
 
 -- a tree reads from the AG block of its root
 from_root : {R K : Type 0} (s : Shape R K) (v : Volume) (image : Image) (ag : ℕ) (records : List R) (places : List ℕ) (n : ℕ) → 1 ≤ v.agblocks → s.layout.long ≡ false
-    → s.owner ≡ ag → 0 < length places → CanPack s v records places → ReadsFrom s v image (root_of places) n records places
-    → ReadsFrom s v image (block_in_group v ag (root_of places % v.agblocks)) n records places
-from_root s v image ag records places n some short owner there can reads =
+    → s.owner ≡ ag → 0 < length places → CanPack s v records places → HasTree s v image (root_of places) n records places
+    → HasTree s v image (block_in_group v ag (root_of places % v.agblocks)) n records places
+from_root s v image ag records places n some short owner there can has =
     let root = root_in_group s v ag records places some short owner there can in
-    subst (λ (r : ℕ). ReadsFrom s v image r n records places) (sym root.is) reads
+    subst (λ (r : ℕ). HasTree s v image r n records places) (sym root.is) has
 
 module _ (v : Volume) (ag : ℕ) (inodes : List InoRec) (p : GroupPlaced) (some : 1 ≤ v.agblocks) (sound : IsSound v ag inodes p) where
   pub five_trees : (a b c d e f : Draft) → AddsTree (bno_shape ag) v a b p.bno (tree_places p 0) → AddsTree (cnt_shape ag) v b c p.cnt (tree_places p 1)
@@ -51,10 +51,10 @@ module _ (v : Volume) (ag : ℕ) (inodes : List InoRec) (p : GroupPlaced) (some 
             let in_c = ino.adds.before image in_d in
             let in_b = cnt.adds.before image in_c in
             record {
-              bno = from_root (bno_shape ag) v image ag p.bno (tree_places p 0) (levels 505 336 (length p.bno)) some refl refl space.0 sound.bno (bno.reads image in_b);
-              cnt = from_root (cnt_shape ag) v image ag p.cnt (tree_places p 1) (levels 505 336 (length p.cnt)) some refl refl space.1 sound.cnt (cnt.reads image in_c);
-              ino = from_root (ino_shape ag) v image ag inodes (tree_places p 2) (levels 252 505 (length inodes)) some refl refl chunks.0 sound.ino (ino.reads image in_d);
-              fino = from_root (fino_shape ag) v image ag p.fino (tree_places p 3) (levels 252 505 (length p.fino)) some refl refl chunks.1 sound.fino (fino.reads image in_e);
-              rmap = from_root (rmap_shape ag) v image ag p.rmap (tree_places p 4) (levels 168 91 (length p.rmap)) some refl refl space.2 sound.rmap (rmap.reads image in_f);
+              bno = from_root (bno_shape ag) v image ag p.bno (tree_places p 0) (levels 505 336 (length p.bno)) some refl refl space.0 sound.bno (bno.has image in_b);
+              cnt = from_root (cnt_shape ag) v image ag p.cnt (tree_places p 1) (levels 505 336 (length p.cnt)) some refl refl space.1 sound.cnt (cnt.has image in_c);
+              ino = from_root (ino_shape ag) v image ag inodes (tree_places p 2) (levels 252 505 (length inodes)) some refl refl chunks.0 sound.ino (ino.has image in_d);
+              fino = from_root (fino_shape ag) v image ag p.fino (tree_places p 3) (levels 252 505 (length p.fino)) some refl refl chunks.1 sound.fino (fino.has image in_e);
+              rmap = from_root (rmap_shape ag) v image ag p.rmap (tree_places p 4) (levels 168 91 (length p.rmap)) some refl refl space.2 sound.rmap (rmap.has image in_f);
             };
       }

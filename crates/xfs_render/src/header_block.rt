@@ -2,7 +2,7 @@
 
 ghost use Rattle.std.specs.Prelude.{◌≡◌, ℕ, ◌+◌, ◌<◌, ◌≤◌, length, Some};
 ghost use Rattle.xfs_word.specs.Crc.{little_field_of};
-ghost use Rattle.xfs_word.specs.Field.{KeepsParts, part_of};
+ghost use Rattle.xfs_word.specs.Field.{KeepsParts, field_of, part_of};
 ghost use Rattle.xfs_geom.specs.Volumes.{volume_of};
 ghost use Rattle.xfs_heads.specs.FreeList.{agfl_of};
 ghost use Rattle.xfs_heads.specs.FreeSpace.{agf_of};
@@ -76,6 +76,7 @@ fn put_free_list(g: &Geometry, ag: u32, inodes: &[InoRec], placed: &GroupPlaced,
     requires block { length block.old ≡ 4096 }
     ensures agfl { (crc : ℕ) → agfl_of (volume_of g.now) ag (record (due_agf (volume_of g.now) ag placed.now) { crc = crc }) (part_of block.new 1536 512)
         ≡ Some (due_agfl placed.now) }
+    ensures lsn { field_of (part_of block.new 1536 512) 24 8 ≡ 0 }
     ensures keeps { KeepsParts block.old block.new 1536 512 }
 {
     let mut sector = [0; 512];

@@ -6,7 +6,6 @@ use Rattle.xfs_disk.specs.Blocks.{Image}
 use Rattle.xfs_geom.specs.Volumes.{Volume}
 use Rattle.xfs_place.specs.declared.placed.Placed.{Placed}
 use Rattle.xfs_place.specs.declared.wanted.Wanted.{Wanted}
-use Rattle.xfs_tree.specs.Reading.{bytes_at}
 use Rattle.xfs_image.specs.Groups.{head_block}
 use Rattle.xfs_image.specs.Sectors.{sector_in}
 use Rattle.xfs_render.specs.Rendering.{HasVolume, IsDueSuper, place_at}

@@ -1,6 +1,7 @@
-use Rattle.std.proofs.Common.{◌≡◌, ◌∙◌, sym, ap, length, arith, refl, Some}
+use Rattle.std.proofs.Common.{◌≡◌, ◌∙◌, ℕ, List, sym, ap, length, arith, refl, Some}
 use Rattle.std.specs.Prelude.{IsTrue}
 use Rattle.std.proofs.lemmas.Bool.{and_parts}
+use Rattle.xfs_word.specs.Field.{field_of}
 use Rattle.xfs_geom.specs.Volumes.{volume_of}
 use Rattle.xfs_heads.specs.FreeList.{agfl_of}
 use Rattle.xfs_heads.specs.FreeSpace.{has_free_list}
@@ -22,3 +23,6 @@ returns-clause-agfl c = λ crc.
     ap (agfl_of v c.args.ag agf) c.put_sector.ensures.put
     ∙ c.put_agfl.ensures.read agf refl (sym count) bounds
     ∙ ap (λ (a : Agfl). Some a) same
+
+pub returns-clause-lsn : goal.returns-clause-lsn
+returns-clause-lsn c = ap (λ (sector : List ℕ). field_of sector 24 8) c.put_sector.ensures.put ∙ c.put_agfl.ensures.lsn

@@ -24,6 +24,7 @@ returns c =
       agi = subst (λ (s : List ℕ). agi_of v ag s ≡ Some (record (due_agi v ag c.args.inodes.now p) { crc = little_field_of s 312 4 }))
           (sym (list 1024 512 (inl (omega arith)))) c.put_inodes.ensures.agi;
       agfl = c.put_free_list.ensures.agfl;
+      agfl_lsn = c.put_free_list.ensures.lsn;
       rest = list 2048 2048 (inr (omega arith)) ∙ inodes 2048 2048 (inr (omega arith)) ∙ space 2048 2048 (inr (omega arith))
           ∙ super 2048 2048 (inr (omega arith)) ∙ subst (λ (w : ℕ). part_of c.put_part.new.bytes 2048 w ≡ c.part.result.now) c.part.ensures.long c.put_part.ensures.put ∙ c.part.ensures.value;
     }

@@ -1,6 +1,8 @@
-use Rattle.std.proofs.Common.{◌≡◌, ◌∙◌, ◌≤◌, List, ℕ, length, drop, subst, arith, take_all}
+use Rattle.std.proofs.Common.{◌≡◌, ◌∙◌, ◌≤◌, List, ℕ, length, drop, ap, subst, arith, take_all}
 use Rattle.std.proofs.lemmas.List.{take-append-le}
-use Rattle.xfs_tree.specs.Packing.{Holds}
+use Rattle.std.proofs.lemmas.List.Elements.{All-from_get_or}
+use Rattle.xfs_tree.specs.Packing.{Holds, lsn_of}
+use Rattle.xfs_tree.specs.Reading.{bytes_at}
 use Rattle.xfs_render.proofs.trees.add_tree.Goals as goal
 
 pub returns : goal.returns
@@ -11,7 +13,15 @@ returns g c =
     let high : length part ≤ n = omega (arith, c.pack.ensures.len, c.deref_mut.ensures.len) in
     let same : c.deref.result.now ≡ part =
     c.deref.ensures.value ∙ take-append-le n part (drop (length part) c.in_ok-part.part.items) low ∙ take_all n part high in
+    let layout = (g.K.Kind.shape c.args.kind.now).layout in
+    let places = c.args.places.now in
     record {
       adds = c.in_ok-add.ensures.adds;
-      reads = λ image held. c.pack.ensures.reads image (subst (λ (b : List ℕ). Holds image c.args.places.now b) same (c.in_ok-add.ensures.held image held));
+      has = λ image held.
+          let blocks : Holds image places part = subst (λ (b : List ℕ). Holds image places b) same (c.in_ok-add.ensures.held image held) in
+          record {
+            reads = c.pack.ensures.reads image blocks;
+            lsns = All-from_get_or (λ place. lsn_of layout (bytes_at image place) ≡ 0) places 0
+                (λ j inside. ap (lsn_of layout) (blocks j inside) ∙ c.pack.ensures.lsns j inside);
+          };
     }
