@@ -1,6 +1,5 @@
 -- The first chunk says which of its inodes are in use, and its two clusters are what is kept.
-use Rattle.std.proofs.Common.{◌≡◌, ℕ, ◌+◌, ◌*◌, ◌^◌, ◌≤◌, ◌<◌, Bool, true, false, not, ◌&&◌, ◌||◌, cond, List, [], ◌∷◌, ◌++◌, map, Option, Some, None, refl, sym, ap, ◌∙◌, subst, arith}
-use Rattle.std.specs.List.{flat_map}
+use Rattle.std.proofs.Common.{◌≡◌, ℕ, ◌+◌, ◌*◌, ◌≤◌, ◌<◌, Bool, true, false, not, ◌&&◌, ◌||◌, cond, List, [], ◌∷◌, ◌++◌, map, Option, Some, None, refl, sym, ap, ◌∙◌, subst, arith}
 use Rattle.std.proofs.lemmas.Bool.Decides.{nat_tests}
 use Rattle.xfs_disk.specs.declared.stamp.Stamp.{Stamp}
 use Rattle.xfs_geom.specs.Volumes.{Volume, volume_of}
@@ -12,7 +11,7 @@ use Rattle.xfs_kinds.specs.InodeTrees.{four_each, ino_shape, is_missing}
 use Rattle.xfs_kinds.specs.MergedRuns.{held_at}
 use Rattle.xfs_volume.specs.declared.files.FileRec.{FileRec}
 use Rattle.xfs_laws.specs.Counting.{bits_below, chunk_number, count_below, due_chunk, inode_number, is_unused, is_used}
-use Rattle.xfs_space.specs.Owners.{cluster_run, cluster_runs, clusters_owner, file_runs, run}
+use Rattle.xfs_space.specs.Owners.{cluster_run, cluster_runs, clusters_owner, run}
 use Rattle.xfs_space.specs.SpaceLaws.{runs_on}
 use Rattle.xfs_place.specs.Wanted.{inodes_of}
 use Rattle.xfs_due.specs.Keeping.{KeepsJust, all_clusters, all_used}

@@ -1,5 +1,5 @@
 -- The names of an empty volume keep their laws.
-use Rattle.std.proofs.Common.{◌≡◌, ℕ, [], refl}
+use Rattle.std.proofs.Common.{ℕ, [], refl}
 use Rattle.xfs_disk.specs.declared.stamp.Stamp.{Stamp}
 use Rattle.xfs_geom.specs.Volumes.{Volume}
 use Rattle.xfs_naming.specs.Naming.{directory_laws, link_laws, naming_laws, place_laws}

@@ -1,26 +1,23 @@
 -- The slots of the first chunk read as the root, two system inodes and free ones; the root is a whole directory without entries.
-use Rattle.std.proofs.Common.{◌≡◌, ℕ, zero, suc, ◌+◌, ◌*◌, ◌≤◌, ◌<◌, List, [], ◌∷◌, ◌++◌, map, is_some, Option, Some, None, Result, Ok, Err, refl, sym, ap, ◌∙◌, arith}
+use Rattle.std.proofs.Common.{◌≡◌, ℕ, zero, suc, ◌+◌, ◌≤◌, ◌<◌, List, [], ◌∷◌, ◌++◌, is_some, Option, Some, Ok, refl, ap, ◌∙◌, arith}
 use Rattle.std.specs.List.{range_with_len}
 use Rattle.xfs_disk.specs.Blocks.{Image}
 use Rattle.xfs_disk.specs.declared.stamp.Stamp.{Stamp}
 use Rattle.xfs_word.specs.Field.{part_of}
 use Rattle.xfs_dirdata.specs.Short.{ShortForm, short_of}
-use Rattle.xfs_dirdata.specs.declared.records.EntryRec.{EntryRec}
 use Rattle.xfs_geom.specs.Volumes.{Volume}
 use Rattle.xfs_inode.specs.Files.{are_apart, by_slot, file_read}
 use Rattle.xfs_inode.specs.Slots.{slot_read}
-use Rattle.xfs_inode.specs.declared.files.FileRead.{FileRead}
 use Rattle.xfs_inode.specs.declared.files.FileRead.TheVariants as Reads
 use Rattle.xfs_inode.specs.declared.reading.SlotRead.{SlotRead}
 use Rattle.xfs_inode.specs.declared.reading.SlotRead.TheVariants as Read
-use Rattle.xfs_kinds.specs.declared.file_trees.Bmbt.{Bmbt}
 use Rattle.xfs_tree.specs.Reading.{Contents}
 use Rattle.xfs_word.specs.declared.extents.Extent.{Extent}
 use Rattle.xfs_volume.specs.declared.directories.DirRec.{DirRec}
 use Rattle.xfs_volume.specs.declared.files.FileRec.{FileRec}
 use Rattle.xfs_volume.specs.declared.groups.GroupRec.{GroupRec}
 use Rattle.xfs_image.specs.Directories.{directories, dirs_read, entries_of, entries_of_form, entries_read, is_whole, parent_of, parent_of_form, short_form}
-use Rattle.xfs_image.specs.Files.{files_at, files_read, inodes_of, with_file}
+use Rattle.xfs_image.specs.Files.{files_at, files_read, inodes_of}
 use Rattle.xfs_image.specs.Slots.{reads_as, slot_bytes}
 use Rattle.xfs_empty.specs.Inodes.{root_core, system_core}
 use Rattle.xfs_made.specs.Files.{HasFirstSlots, first_dirs, first_files, plain_file, slot_crc}

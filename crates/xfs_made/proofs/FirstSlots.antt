@@ -1,5 +1,5 @@
 -- What the slots of the first chunk read as by themselves.
-use Rattle.std.proofs.Common.{◌≡◌, ℕ, ◌+◌, ◌-◌, ◌*◌, ◌/◌, ◌%◌, ◌^◌, ◌≤◌, ◌<◌, Bool, true, false, ◌&&◌, ◌==◌, cond, List, [], length, replicate, Option, Some, None, refl, sym, ap, ◌∙◌, subst, arith}
+use Rattle.std.proofs.Common.{◌≡◌, ℕ, ◌+◌, ◌-◌, ◌*◌, ◌/◌, ◌%◌, ◌^◌, ◌≤◌, ◌<◌, Bool, true, false, ◌&&◌, List, [], replicate, Some, None, refl, sym, ap, ◌∙◌, subst, arith}
 use Rattle.std.proofs.Math.Nat.{mod-eq_of_lt, div-eq_of_lt}
 use Rattle.std.proofs.lemmas.Bool.{lt-ltb}
 use Rattle.std.specs.Prelude.{if◌then◌else◌}
@@ -20,7 +20,7 @@ use Rattle.xfs_image.specs.Slots.{slot_bytes}
 use Rattle.xfs_render.specs.Slots.{IsFreeSlot, IsFreshSlot, IsMade, SetsFork}
 use Rattle.xfs_render.specs.declared.wanted_slots.SlotBase.TheVariants as Base
 use Rattle.xfs_render.specs.declared.wanted_slots.SlotWanted.{SlotWanted}
-use Rattle.xfs_empty.specs.Inodes.{IsFirstSlot, IsRootFork, IsRootSlot, free_slot, root_core, system_core, system_slot}
+use Rattle.xfs_empty.specs.Inodes.{IsRootFork, IsRootSlot, free_slot, root_core, system_core, system_slot}
 use Rattle.xfs_empty.proofs.Chunk.{first_length}
 use Rattle.xfs_made.specs.Files.{HasFirstSlot, HasFirstSlots}
 
