@@ -5,3 +5,8 @@ pub mod FirstReads
 pub mod FirstNames
 pub mod FirstKept
 pub mod FirstLsns
+pub mod Standing
+pub mod Kept
+pub mod Catalogs
+pub mod Made
+pub mod Once

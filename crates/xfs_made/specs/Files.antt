@@ -1,5 +1,5 @@
 -- The files of an empty volume: its root and the two system inodes (chapter "On-disk Inode").
-use Rattle.std.specs.Prelude.{◌≡◌, ℕ, true, ◌+◌, ◌<◌, List, [], ◌∷◌, replicate}
+use Rattle.std.specs.Prelude.{◌≡◌, ℕ, true, ◌+◌, ◌<◌, List, [], ◌∷◌}
 use Rattle.xfs_word.specs.Crc.{little_field_of}
 use Rattle.xfs_disk.specs.Blocks.{Image}
 use Rattle.xfs_disk.specs.declared.stamp.Stamp.{Stamp}
@@ -12,11 +12,12 @@ use Rattle.xfs_render.specs.Slots.{IsMade}
 use Rattle.xfs_render.specs.declared.wanted_slots.SlotWanted.{SlotWanted}
 use Rattle.xfs_empty.specs.Inodes.{IsFirstSlot, root_core, system_core}
 
--- a slot of an image is what was wanted of one of the first chunk, made of zeros
+-- a slot of an image is what was wanted of one of the first chunk, whatever stood there before
 pub record HasFirstSlot (v : Volume) (s : Stamp) (image : Image) (ino : ℕ) : Type 0 where
   pub wanted : SlotWanted
+  pub old : List ℕ
   pub first : IsFirstSlot v s ino wanted
-  pub made : IsMade v s.generation wanted (replicate 512 0) (slot_bytes v image ino)
+  pub made : IsMade v s.generation wanted old (slot_bytes v image ino)
 
 -- so are all 64
 pub record HasFirstSlots (v : Volume) (s : Stamp) (image : Image) : Type 0 where
