@@ -119,19 +119,19 @@ made_root v s generation w old new root made = with_parts (subst (λ (x : SlotWa
 pub free_slot_is : (v : Volume) (s : Stamp) (image : Image) (ino : ℕ) → 131 ≤ ino → HasFirstSlot v s image ino
     → IsFreeSlot v ino s.generation (slot_bytes v image ino)
 free_slot_is v s image ino free slot =
-    made_free v s.generation ino (replicate 512 0) (slot_bytes v image ino)
-    (subst (λ (w : SlotWanted). IsMade v s.generation w (replicate 512 0) (slot_bytes v image ino)) (slot.first.free free) slot.made)
+    made_free v s.generation ino slot.old (slot_bytes v image ino)
+    (subst (λ (w : SlotWanted). IsMade v s.generation w slot.old (slot_bytes v image ino)) (slot.first.free free) slot.made)
 
 pub system_slot_is : (v : Volume) (s : Stamp) (image : Image) (ino : ℕ) → 129 ≤ ino → ino < 131 → HasFirstSlot v s image ino
     → IsFreshSlot v (system_core v s ino) (slot_bytes v image ino)
 system_slot_is v s image ino low high slot =
-    made_system v s s.generation ino (replicate 512 0) (slot_bytes v image ino)
-    (subst (λ (w : SlotWanted). IsMade v s.generation w (replicate 512 0) (slot_bytes v image ino)) (slot.first.system low high) slot.made)
+    made_system v s s.generation ino slot.old (slot_bytes v image ino)
+    (subst (λ (w : SlotWanted). IsMade v s.generation w slot.old (slot_bytes v image ino)) (slot.first.system low high) slot.made)
 
 pub root_slot_is : (v : Volume) (s : Stamp) (image : Image) (ino : ℕ) → ino ≡ 128 → HasFirstSlot v s image ino
     → IsRootMade v s (slot_bytes v image ino)
 root_slot_is v s image ino root slot =
-    made_root v s s.generation slot.wanted (replicate 512 0) (slot_bytes v image ino) (slot.first.root root) slot.made
+    made_root v s s.generation slot.wanted slot.old (slot_bytes v image ino) (slot.first.root root) slot.made
 
 -- a slot of the chunk, by the number of its inode
 pub slot_of : (v : Volume) (s : Stamp) (image : Image) (ino : ℕ) → 128 ≤ ino → ino < 192 → HasFirstSlots v s image → HasFirstSlot v s image ino

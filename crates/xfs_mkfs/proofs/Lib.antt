@@ -3,3 +3,4 @@ pub mod Rows
 pub mod Geometries
 pub mod Failing
 pub mod Held
+pub mod Volumes

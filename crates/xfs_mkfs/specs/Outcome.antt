@@ -1,5 +1,6 @@
 -- What each answer says, and what the disk then holds.
 use Rattle.std.specs.Prelude.{◌≡◌, ℕ, List, Option, Some, None}
+use Rattle.std.specs.Option.{ForSome}
 use Rattle.xfs_disk.specs.Blocks.{Image}
 use Rattle.xfs_disk.specs.Faults.{Rose}
 use Rattle.xfs_disk.specs.declared.stamp.Stamp.{Stamp}
@@ -13,6 +14,7 @@ use Rattle.xfs_render.specs.declared.plan.Plan.{Plan}
 use Rattle.xfs_sizing.specs.Supers.{IsNewSuper}
 use Rattle.xfs_empty.specs.Placing.{empty_wanted}
 use Rattle.xfs_empty.specs.Planning.{HasRoom, IsEmptyPlan}
+use Rattle.xfs_made.specs.Volumes.{IsMadeVolume}
 use Rattle.xfs_mkfs.specs.Due.{IsGeometry, refusal}
 use Rattle.xfs_mkfs.specs.Putting.{IsPut, IsPutPartly}
 use Rattle.xfs_options.specs.declared.making.MakeOptions.{MakeOptions}
@@ -82,7 +84,7 @@ IsCaused faults_before faults writes_before writes (Out.NoRoom what) = Unit {0}
 IsCaused faults_before faults writes_before writes Out.NoMemory = Unit {0}
 IsCaused faults_before faults writes_before writes (Out.Unbuilt request) = Unit {0}
 
--- the volume was made on a disk that held an image
+-- the volume was made on a disk that held an image: its plan was written, and what the disk then holds says just that and is consistent
 pub record IsMade (o : MakeOptions) (s : Stamp) (blocks : ℕ) (image : Image) (now : Option Image) (summary : MadeSummary) : Type 0 where
   pub geometry : Geometry
   pub chosen : IsGeometry o s blocks geometry
@@ -90,6 +92,7 @@ pub record IsMade (o : MakeOptions) (s : Stamp) (blocks : ℕ) (image : Image) (
   pub plan : Plan
   pub planned : IsPlanned geometry o.label s plan
   pub put : IsPut plan image now
+  pub volume : ForSome now (IsMadeVolume geometry s)
 
 -- it was made in part
 pub record IsMadePartly (o : MakeOptions) (s : Stamp) (blocks : ℕ) (image : Image) (now : Option Image) (n : ℕ) : Type 0 where

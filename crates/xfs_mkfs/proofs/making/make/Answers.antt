@@ -1,9 +1,11 @@
 use Rattle.std.proofs.Common.{◌≡◌, ℕ, ◌≤◌, ◌<◌, List, Err, arith, sym, subst, ◌∙◌}
+use Rattle.xfs_disk.specs.Blocks.{IsImage}
 use Rattle.xfs_mkfs.specs.Outcome.{IsCaused, IsDue, IsPlanned, Leaves}
 use Rattle.xfs_mkfs.specs.Putting.{HasPutCause}
 use Rattle.xfs_mkfs.specs.declared.outcome.MakeOutcome.{MakeOutcome}
 use Rattle.xfs_mkfs.proofs.Failing.{caused_placing, caused_putting, due_placing, due_putting, leaves_placing, leaves_putting}
-use Rattle.xfs_mkfs.proofs.Geometries.{geometry_on_disk}
+use Rattle.xfs_mkfs.proofs.Geometries.{first_chunk, geometry_on_disk}
+use Rattle.xfs_mkfs.proofs.Volumes.{put_is_volume}
 use Rattle.xfs_mkfs.proofs.making.make.Goals as goal
 
 pub put_plan-requires-clause-inside : goal.put_plan-requires-clause-inside
@@ -47,15 +49,25 @@ returns-in-Ok-put_plan-clause-due g c = λ image told. (
 
 pub returns-in-Ok-put_plan-clause-leaves : goal.returns-in-Ok-put_plan-clause-leaves
 returns-in-Ok-put_plan-clause-leaves g c = λ image told.
+    let size = g.D.Disk.size c.args.disk.now in
+    let is : IsPlanned c.in-Ok.g c.args.options.now.label c.args.stamp.now c.in-Ok-plan_volume.plan =
+    subst (λ (label : List ℕ). IsPlanned c.in-Ok.g label c.args.stamp.now c.in-Ok-plan_volume.plan) c.bytes.ensures
+    c.in-Ok-plan_volume.ensures.rendered in
+    let put = c.in-Ok-put_plan.ensures.done image (c.in-Ok.ensures.holds ∙ told) in
+    let same : g.D.Disk.size c.put_plan.new.disk ≡ size = c.in-Ok-put_plan.ensures.size ∙ c.in-Ok.ensures.size in
     record {
       geometry = c.in-Ok.g;
       chosen = c.in-Ok.ensures.chosen;
       is = c.summary_of.ensures;
       plan = c.in-Ok-plan_volume.plan;
-      planned =
-          subst (λ (label : List ℕ). IsPlanned c.in-Ok.g label c.args.stamp.now c.in-Ok-plan_volume.plan) c.bytes.ensures
-          c.in-Ok-plan_volume.ensures.rendered;
-      put = c.in-Ok-put_plan.ensures.done image (c.in-Ok.ensures.holds ∙ told);
+      planned = is;
+      put = put;
+      volume =
+          put_is_volume c.in-Ok.g c.args.options.now.label c.args.stamp.now c.in-Ok-plan_volume.plan size image (g.D.Disk.holds c.put_plan.new.disk) is
+          (first_chunk c.args.options.now c.args.stamp.now size c.in-Ok.g c.in-Ok.ensures.chosen) (g.met.D.Disk.shape c.args.disk.now image told)
+          (geometry_on_disk c.args.options.now c.args.stamp.now size c.in-Ok.g c.in-Ok.ensures.chosen c.in-Ok.ensures.fits)
+          c.in-Ok-plan_volume.ensures.inside put
+          (λ held shown. subst (λ (n : ℕ). IsImage n held) same (g.met.D.Disk.shape c.put_plan.new.disk held shown));
     }
 
 pub returns-clause-due : goal.returns-clause-due
