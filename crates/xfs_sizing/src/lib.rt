@@ -8,6 +8,3 @@ mod superblock;
 pub use asked::Asked;
 pub use sizes::choose;
 pub use superblock::put_super;
-
-#[cfg(test)]
-mod tests;

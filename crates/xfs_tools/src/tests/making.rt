@@ -24,7 +24,7 @@ const CHECK: Told = (&["xfs_repair", "-n", "V"], "clean\n", 0);
 
 /// Calls on one disk of 2048 blocks, which is all zeros at first, and which of its reads, writes and syncs fails, counted from 1 from
 /// each call on.
-const CALLS: [(Option<u64>, Told); 25] = [
+const CALLS: [(Option<u64>, Told); 26] = [
     (None, (&["mkfs.xfs"], "xfs: usage: word 1\n", 1)),
     (
         None,
@@ -144,6 +144,14 @@ const CALLS: [(Option<u64>, Told); 25] = [
         ),
     ),
     (None, CHECK),
+    (
+        None,
+        (
+            &["mkfs.xfs", "-f", "-d", "agsize=1985b", "V"],
+            "xfs: too small: 2\n",
+            1,
+        ),
+    ),
     (
         None,
         (
