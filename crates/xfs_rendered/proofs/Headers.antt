@@ -13,6 +13,7 @@ pub headers_stand : (w : Wanted) (p : Placed) (b : Bytes) (super : List ℕ) (im
     → (old : List ℕ) × IsHeaderBlock (volume w) ag super old (inodes_in w ag) (group_in p ag) (bytes_at image (ag * w.geometry.agblocks))
 headers_stand w p b super image is ag inside =
     let head = is.heads ag inside in
-    let block = (is.volume'.places head.0 head.1).heads ag head.2 in
-    (old_at b head.0,
-    subst (λ (place : ℕ). IsHeaderBlock (volume w) ag super (old_at b head.0) (inodes_in w ag) (group_in p ag) (bytes_at image place)) head.2 block)
+    let block = (is.volume'.places head.0 head.1).heads ag head.2 in (
+      old_at b head.0,
+      subst (λ (place : ℕ). IsHeaderBlock (volume w) ag super (old_at b head.0) (inodes_in w ag) (group_in p ag) (bytes_at image place)) head.2 block,
+    )

@@ -70,7 +70,7 @@ tree_zero : {R K : Type 0} (s : Shape R K) (image : Image) (records : List R) (p
 tree_zero s image records places short all =
     let here : ℕ → Type 0 = λ place. field_of (bytes_at image place) 24 8 ≡ 0 in
     let each : All here places = All-weaker (λ place. lsn_of s.layout (bytes_at image place) ≡ 0) here
-        (λ place zero. subst (λ (long : Bool). field_of (bytes_at image place) (if long then 32 else 24) 8 ≡ 0) short zero) places all in
+    (λ place zero. subst (λ (long : Bool). field_of (bytes_at image place) (if long then 32 else 24) 8 ≡ 0) short zero) places all in
     All-map (IsZeroAt image) (at 24) (packed_tree s records places).blocks
     (all_in_rows here (rows_of s.layout.leaf_cap s.layout.node_cap (length records)) places each)
 
@@ -126,6 +126,7 @@ lsns_stand w p b super image agf_crc agi_crc is =
     (groups_zero v image due 0 w.geometry.agcount
     (λ ag low high.
     let inside : ag < w.geometry.agcount = omega (arith, high) in
-    let head = headers_stand w p b super image is ag inside in
-    (heads_zero v image ag super head.0 (inodes_in w ag) (group_in p ag) head.1,
-    trees_zero v image ag super head.0 (inodes_in w ag) (group_in p ag) (agf_crc ag) (agi_crc ag) (is.volume'.trees ag inside))))
+    let head = headers_stand w p b super image is ag inside in (
+      heads_zero v image ag super head.0 (inodes_in w ag) (group_in p ag) head.1,
+      trees_zero v image ag super head.0 (inodes_in w ag) (group_in p ag) (agf_crc ag) (agi_crc ag) (is.volume'.trees ag inside),
+    )))

@@ -27,7 +27,7 @@ slot_back v block k groups addresses inside few =
 pub slots_stand : (w : Wanted) (p : Placed) (b : Bytes) (super : List ℕ) (image : Image) → IsStanding w p b super image
     → (i k : ℕ) → i < length b.places → k < 8 → is_head (volume w) (place_at b i) ≡ false → place_at b i < w.geometry.dblocks
     → IsSlotDue (volume w) b.stamp.generation b.slots (inode_of (volume w) (place_at b i) k) (slot_in (old_at b i) k)
-      (slot_bytes (volume w) image (inode_of (volume w) (place_at b i) k))
+    (slot_bytes (volume w) image (inode_of (volume w) (place_at b i) k))
 slots_stand w p b super image is i k here few other inside =
     let v = volume w in
     let place = place_at b i in

@@ -4,4 +4,6 @@
 
 mod laws;
 
-pub use laws::{rendered_groups_read, rendered_lsns_are_zero, rendered_slots_stand, rendered_super_is_elected};
+pub use laws::{
+    rendered_groups_read, rendered_lsns_are_zero, rendered_slots_stand, rendered_super_is_elected,
+};
