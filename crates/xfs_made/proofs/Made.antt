@@ -111,9 +111,9 @@ module _ (g : Geometry) (sector : List ℕ) (s : Stamp) (plan : Plan) (blocks : 
       let clusters = flat_map cluster_places (clusters_of v groups) in
       let own = flat_map (file_places v) files in
       All-cons (IsZeroAt image) (at 240 0) (trees ++ clusters ++ own) (All-head (IsZeroAt image) (at 240 0) trees heads)
-      (All-append (IsZeroAt image) trees (clusters ++ own) (All-tail (IsZeroAt image) (at 240 0) trees heads)
-      (All-append (IsZeroAt image) clusters own (lsns_zero g s image p.groups crcs.agf crcs.agi slots)
-      (All-same (IsZeroAt image) own [] (no_file_places v s crcs.slot) (All-nil (IsZeroAt image)))))
+      (All-append (IsZeroAt image) (trees ++ clusters) own
+      (All-append (IsZeroAt image) trees clusters (All-tail (IsZeroAt image) (at 240 0) trees heads) (lsns_zero g s image p.groups crcs.agf crcs.agi slots))
+      (All-same (IsZeroAt image) own [] (no_file_places v s crcs.slot) (All-nil (IsZeroAt image))))
 
   lsns_are : lsns_read v image groups files ≡ map no_lsn (in_order (lsn_places v groups files))
   unfolding lsns_read
