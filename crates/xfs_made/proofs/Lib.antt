@@ -9,4 +9,6 @@ pub mod Standing
 pub mod Kept
 pub mod Catalogs
 pub mod Made
+pub mod OnceLists
+pub mod TreesOnce
 pub mod Once
