@@ -60,7 +60,9 @@ module _ (v : Volume) (ag : ℕ) (inodes : List InoRec) (p : GroupPlaced) (agf_c
   room_is = ap₂ (λ (m n : ℕ). m + length p.agfl + n) free_is spare_is
 
   longest_is : longest p.bno ≡ Laws.longest (map (λ (s : Span). s) p.bno)
-  longest_is = longest_from 0 p.bno ∙ (omega arith) ∙ ap Laws.longest (sym (spans_settled p.bno))
+  longest_is =
+      let plain : max 0 (Laws.longest p.bno) ≡ Laws.longest p.bno = omega arith in
+      longest_from 0 p.bno ∙ plain ∙ ap Laws.longest (sym (spans_settled p.bno))
 
   pub counts_kept : AreKept (Laws.group_counts ag (due_group v ag inodes p agf_crc agi_crc))
   counts_kept = (
