@@ -1,5 +1,5 @@
 -- Blocks that are cut into trees and a free list have the owners that their ranks give them.
-use Rattle.std.proofs.Common.{◌≡◌, ℕ, suc, ◌+◌, ◌≤◌, ◌<◌, ◌&&◌, Bool, true, false, nat_le, nat_lt, List, [], ◌∷◌, ◌++◌, length, get_or, map, take, drop, refl, sym, ◌∙◌, ap, ap₂, arith, append_assoc, length-drop, length-take, take-append-drop}
+use Rattle.std.proofs.Common.{◌≡◌, ℕ, suc, ◌+◌, ◌≤◌, ◌<◌, ◌&&◌, Bool, nat_le, nat_lt, List, [], ◌∷◌, ◌++◌, length, get_or, map, take, drop, refl, sym, ◌∙◌, ap, ap₂, arith, append_assoc, length-drop, length-take, take-append-drop}
 use Rattle.std.specs.List.{range_with_len, sum}
 use Rattle.std.proofs.lemmas.Bool.{and_from, and_right, le-leb, le-ltb, lt-leb, lt-ltb}
 use Rattle.std.proofs.lemmas.List.{drop-drop, map-append}

@@ -1,6 +1,6 @@
 -- What the trees and the free list of a group own, and what its tree of owners records.
-use Rattle.std.proofs.Common.{◌≡◌, ℕ, ◌+◌, ◌-◌, ◌*◌, ◌≤◌, ◌<◌, ◌&&◌, Bool, nat_lt, if◌then◌else◌, List, [], ◌∷◌, ◌++◌, length, get_or, map, take, drop, Option, Some, None, refl, sym, ◌∙◌, ap, ap₂, subst, arith, take_at}
-use Rattle.std.specs.List.{All, AllPairs, filter, sum, sum_by}
+use Rattle.std.proofs.Common.{◌≡◌, ℕ, ◌+◌, ◌-◌, ◌*◌, ◌≤◌, ◌<◌, ◌&&◌, Bool, nat_lt, if◌then◌else◌, List, [], ◌∷◌, ◌++◌, length, get_or, map, take, Some, None, refl, sym, ◌∙◌, ap, ap₂, subst, arith, take_at}
+use Rattle.std.specs.List.{All, AllPairs, sum, sum_by}
 use Rattle.std.proofs.lemmas.List.Elements.{All-weaker}
 use Rattle.std.proofs.lemmas.List.Sorted.{IsPermutation-map, sum_by-IsPermutation}
 use Rattle.xfs_geom.specs.Volumes.{Volume}
@@ -19,14 +19,14 @@ use Rattle.xfs_space.proofs.Splits.{EndsBy}
 use Rattle.xfs_place.specs.Choice.{Group, IsGroup, in_pool, one_if, owned_at, owner_by, rank, size_of, space_blocks}
 use Rattle.xfs_place.specs.Claims.{IsClaim}
 use Rattle.xfs_place.specs.Placing as Placing
-use Rattle.xfs_place.specs.Placing.{AreRecords, IsPlaced, cut, has_free, inner_blocks, run_of, tree_at, tree_sizes}
+use Rattle.xfs_place.specs.Placing.{AreRecords, IsPlaced, cut, inner_blocks, run_of, tree_at, tree_sizes}
 use Rattle.xfs_place.specs.declared.placed.GroupPlaced.{GroupPlaced}
 use Rattle.xfs_place.proofs.Counted.{free_all, sizes_all}
 use Rattle.xfs_place.proofs.Found.{one_small}
 use Rattle.xfs_place.proofs.TreeRuns.{tree_each, tree_held, tree_once}
 use Rattle.xfs_render.specs.Groups.{no_tree, tree_places}
 use Rattle.xfs_due.specs.Groups.{due_group}
-use Rattle.xfs_due.proofs.CutRuns.{cut_runs, five_owned, ranked, ranked_is}
+use Rattle.xfs_due.proofs.CutRuns.{cut_runs, five_owned, ranked_is}
 use Rattle.xfs_due.proofs.Entries.{all_differ}
 use Rattle.xfs_due.proofs.MovedRuns.{moved, moved_held, moved_on, none_before, none_behind, recorded_moved}
 use Rattle.xfs_due.proofs.SameRuns.{AreSame, same_both, same_held, same_on}

@@ -1,8 +1,8 @@
 -- What is placed keeps the laws of space.
-use Rattle.std.proofs.Common.{◌≡◌, ℕ, zero, suc, ◌+◌, ◌-◌, ◌*◌, ◌≤◌, ◌<◌, inl, inr, Bool, true, false, not, ◌&&◌, ◌||◌, ◌==◌, nat_lt, if◌then◌else◌, List, [], ◌∷◌, ◌++◌, length, get_or, map, Option, Some, None, is_some, refl, sym, ◌∙◌, ap, ap₂, subst, arith, map-id}
+use Rattle.std.proofs.Common.{◌≡◌, ℕ, zero, suc, ◌+◌, ◌-◌, ◌*◌, ◌≤◌, ◌<◌, inl, inr, Bool, true, false, not, ◌&&◌, ◌==◌, nat_lt, if◌then◌else◌, List, [], ◌++◌, length, get_or, map, Option, Some, None, is_some, refl, sym, ◌∙◌, ap, ap₂, subst, arith, map-id}
 use Rattle.std.specs.List.{All, flat_map, range_with_len}
 use Rattle.std.specs.Option.{option_or}
-use Rattle.std.proofs.lemmas.Bool.{and_parts, cases_Bool, cases_eq, cases_lt, le-ltb, lt-ltb}
+use Rattle.std.proofs.lemmas.Bool.{and_parts, cases_Bool, cases_eq, cases_lt, lt-ltb}
 use Rattle.std.proofs.lemmas.Bool.Decides.{nat_tests}
 use Rattle.std.proofs.lemmas.List.Elements.{All-weaker}
 use Rattle.std.proofs.Math.Nat.{mul-le-mul_right}
@@ -11,7 +11,6 @@ use Rattle.xfs_geom.specs.Shape.{HasGroups, HasLog}
 use Rattle.xfs_geom.specs.Volumes.{Volume}
 use Rattle.xfs_geom.specs.declared.records.RmapRec.{RmapRec}
 use Rattle.xfs_geom.specs.declared.records.Run.{Run}
-use Rattle.xfs_geom.specs.declared.records.Span.{Span}
 use Rattle.xfs_kinds.specs.FreeRuns.{is_block, is_in, runs_of}
 use Rattle.xfs_kinds.specs.MergedRuns.{held_at}
 use Rattle.xfs_kinds.proofs.Blocks.{in_runs, runs_separate}
@@ -21,10 +20,9 @@ use Rattle.xfs_space.specs.Owners.{owned_runs}
 use Rattle.xfs_space.specs.SpaceLaws.{AllAreFree, AreFree, IsSpaceLawful, by_length, free_spans, recorded_run, recorded_runs, runs_on}
 use Rattle.xfs_space.proofs.FreeSpans.{group_short}
 use Rattle.xfs_space.proofs.Splits.{EndsBy, none_on_front}
-use Rattle.xfs_place.specs.Choice.{IsGroup, in_pool, is_free_at, one_if, owned_at, owner_by, rank, space_blocks}
+use Rattle.xfs_place.specs.Choice.{IsGroup, in_pool, one_if, owned_at, owner_by, rank, space_blocks}
 use Rattle.xfs_place.specs.Claims.{IsClaim}
-use Rattle.xfs_place.specs.Placing.{IsPlaced, inner_blocks}
-use Rattle.xfs_place.specs.Standing.{AreOfPool}
+use Rattle.xfs_place.specs.Placing.{inner_blocks}
 use Rattle.xfs_place.specs.Wanted.{AreKept, ArePlaced, claim_in, fixed_runs, inodes_of, uses_in, wanted_group}
 use Rattle.xfs_place.specs.declared.placed.GroupPlaced.{GroupPlaced}
 use Rattle.xfs_place.specs.declared.wanted.GroupInodes.{GroupInodes}
