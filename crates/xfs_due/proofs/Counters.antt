@@ -1,6 +1,6 @@
 -- The counters of one group are the sums of what stands in it.
 use Rattle.std.proofs.Common.{◌≡◌, ℕ, ◌+◌, ◌-◌, max, List, [], ◌∷◌, length, map, refl, sym, ◌∙◌, ap, ap₂, arith, map-id}
-use Rattle.std.specs.List.{fold, sum, sum_by}
+use Rattle.std.specs.List.{fold, sum}
 use Rattle.std.proofs.lemmas.List.Sums.{sum-map}
 use Rattle.xfs_geom.specs.Volumes.{Volume}
 use Rattle.xfs_geom.specs.declared.records.InoRec.{InoRec}
@@ -12,7 +12,7 @@ use Rattle.xfs_volume.specs.Laws.{AreKept}
 use Rattle.xfs_laws.specs.Counting as Laws
 use Rattle.xfs_place.specs.Counts as Placed
 use Rattle.xfs_place.specs.declared.placed.GroupPlaced.{GroupPlaced}
-use Rattle.xfs_render.specs.Counters.{blocks_in, longest}
+use Rattle.xfs_render.specs.Counters.{longest}
 use Rattle.xfs_render.specs.Groups.{tree_places}
 use Rattle.xfs_due.specs.Groups.{due_group}
 use Rattle.xfs_due.proofs.TopDown.{AreSized, as_many_blocks}
@@ -60,7 +60,9 @@ module _ (v : Volume) (ag : ℕ) (inodes : List InoRec) (p : GroupPlaced) (agf_c
   room_is = ap₂ (λ (m n : ℕ). m + length p.agfl + n) free_is spare_is
 
   longest_is : longest p.bno ≡ Laws.longest (map (λ (s : Span). s) p.bno)
-  longest_is = longest_from 0 p.bno ∙ (omega arith) ∙ ap Laws.longest (sym (spans_settled p.bno))
+  longest_is =
+      let plain : max 0 (Laws.longest p.bno) ≡ Laws.longest p.bno = omega arith in
+      longest_from 0 p.bno ∙ plain ∙ ap Laws.longest (sym (spans_settled p.bno))
 
   pub counts_kept : AreKept (Laws.group_counts ag (due_group v ag inodes p agf_crc agi_crc))
   counts_kept = (
