@@ -1,5 +1,5 @@
 -- An image with the plan of an empty volume says what was made, and it is consistent.
-use Rattle.std.proofs.Common.{◌≡◌, ℕ, ◌+◌, ◌^◌, ◌<◌, ◌≤◌, ◌==◌, Bool, true, false, List, [], ◌∷◌, ◌++◌, map, None, Ok, refl, sym, ap, ◌∙◌, subst, arith}
+use Rattle.std.proofs.Common.{◌≡◌, ℕ, zero, suc, ◌+◌, ◌^◌, ◌<◌, ◌≤◌, ◌==◌, Bool, true, false, List, [], ◌∷◌, ◌++◌, map, None, Ok, refl, sym, ap, ◌∙◌, subst, arith}
 use Rattle.std.specs.List.{All, flat_map}
 use Rattle.std.proofs.lemmas.Bool.{eqb-false, eqb-true}
 use Rattle.std.proofs.lemmas.List.Elements.{All-append, All-cons, All-head, All-nil, All-same, All-tail}
@@ -58,34 +58,30 @@ use Rattle.xfs_made.specs.Volumes.{Checksums, IsMadeVolume, made_catalog, no_lsn
 abbrev IsChunkDue : Volume → List FileRec → ℕ → InoRec → Type 0
 IsChunkDue v files ag r = chunk_number (due_chunk v files ag ((ino_shape ag).settled r)) ≡ chunk_number ((ino_shape ag).settled r)
 
--- the chunks of each group are due
+-- the chunks of a group are due: the first group has one, the others none
+group_due : (v : Volume) (s : Stamp) (crc : ℕ → ℕ) (ag : ℕ) → All (IsChunkDue v (first_files v s crc) ag) (chunks_of ag)
+group_due v s crc zero =
+    All-cons (IsChunkDue v (first_files v s crc) 0) first_chunk [] (chunk_due v s crc) (All-nil (IsChunkDue v (first_files v s crc) 0))
+group_due v s crc (suc n) = All-nil (IsChunkDue v (first_files v s crc) (suc n))
+
 chunks_due : (g : Geometry) (s : Stamp) (crc : ℕ → ℕ) (ag : ℕ) → ag < g.agcount
     → All (IsChunkDue (volume_of g) (first_files (volume_of g) s crc) ag) (inodes_of (all_inodes g.agcount) ag)
 chunks_due g s crc ag low =
-    All-same (IsChunkDue v files ag) (inodes_of (all_inodes g.agcount) ag) (chunks_of ag) (records_are g.agcount ag low) (by_group ag)
-  where
-    v : Volume
-    v = volume_of g
-
-    files : List FileRec
-    files = first_files v s crc
-
-    by_group : (n : ℕ) → All (IsChunkDue v files n) (chunks_of n)
-    by_group zero = All-cons (IsChunkDue v files 0) first_chunk [] (chunk_due v s crc) (All-nil (IsChunkDue v files 0))
-    by_group (suc n) = All-nil (IsChunkDue v files (suc n))
+    All-same (IsChunkDue (volume_of g) (first_files (volume_of g) s crc) ag) (inodes_of (all_inodes g.agcount) ag) (chunks_of ag)
+    (records_are g.agcount ag low) (group_due (volume_of g) s crc ag)
 
 abbrev IsZeroAt : Image → LsnPlace → Type 0
 IsZeroAt image place = (lsn_at image place).lsn ≡ 0
 
 module _ (g : Geometry) (sector : List ℕ) (s : Stamp) (plan : Plan) (blocks : ℕ) (image : Image) (is : IsEmptyPlan g sector s plan)
     (first : HasFirstChunk (volume_of g)) (whole : IsImage blocks image) (enough : g.dblocks ≤ blocks) (held : HoldsPlan image plan) where
-  v : Volume
+  abbrev v : Volume
   v = volume_of g
 
-  p : Placed
+  abbrev p : Placed
   p = is.is.placed
 
-  super : List ℕ
+  abbrev super : List ℕ
   super = is.is.rendered.super
 
   stands : IsStanding (empty_wanted g) p is.bytes super image
@@ -94,13 +90,13 @@ module _ (g : Geometry) (sector : List ℕ) (s : Stamp) (plan : Plan) (blocks : 
   slots : HasFirstSlots v s image
   slots = slots_made g sector s p is.bytes super image is.made stands
 
-  crcs : Checksums
+  abbrev crcs : Checksums
   crcs = record { agf = agf_crc_at v image; agi = agi_crc_at v image; slot = slot_crc v image }
 
-  groups : List GroupRec
+  abbrev groups : List GroupRec
   groups = due_groups v (all_inodes g.agcount) p.groups crcs.agf crcs.agi
 
-  files : List FileRec
+  abbrev files : List FileRec
   files = first_files v s crcs.slot
 
   -- all places of log sequence numbers have none

@@ -53,62 +53,67 @@ due_made : (v : Volume) (generation : ℕ) (slots : List SlotWanted) (ino : ℕ)
     → IsSlotDue v generation slots ino old new → IsMade v generation w old new
 due_made v generation slots ino old new w is due = rw is at due
 
-slot_made : (g : Geometry) (sector : List ℕ) (s : Stamp) (p : Placed) (b : Bytes) (super : List ℕ) (image : Image) → IsEmptyBytes g sector s b
-    → IsStanding (empty_wanted g) p b super image → (i : ℕ) → i < 64 → HasFirstSlot (volume_of g) s image (128 + i)
-slot_made g sector s p b super image made is i low =
-    record {
-      wanted = get_or b.slots i no_slot;
-      old = slot_in (old_at b at) k;
-      first = made.slots'.each i no_slot low;
-      made = subst (λ (n : ℕ). IsMade v n (get_or b.slots i no_slot) (slot_in (old_at b at) k) (slot_bytes v image (128 + i))) generation
-          (due_made v b.stamp.generation b.slots (128 + i) (slot_in (old_at b at) k) (slot_bytes v image (128 + i)) (get_or b.slots i no_slot) wanted
-          (subst (λ (ino : ℕ). IsSlotDue v b.stamp.generation b.slots ino (slot_in (old_at b at) k) (slot_bytes v image ino)) number
-          (slots_stand (empty_wanted g) p b super image is at k inside few_slots other here)));
-    }
-  where
-    v : Volume
-    v = volume_of g
+module _ (g : Geometry) (sector : List ℕ) (s : Stamp) (p : Placed) (b : Bytes) (super : List ℕ) (image : Image) (made : IsEmptyBytes g sector s b)
+    (is : IsStanding (empty_wanted g) p b super image) (i : ℕ) (low : i < 64) where
+  abbrev v : Volume
+  v = volume_of g
 
-    block : ℕ
-    block = i / 8
+  -- the index of the block of the slot among the places, and the number of the slot in it
+  abbrev index : ℕ
+  index = g.agcount + i / 8
 
-    k : ℕ
-    k = i % 8
+  abbrev k : ℕ
+  k = i % 8
 
-    at : ℕ
-    at = g.agcount + i / 8
+  few : i / 8 < 8
+  few = omega (arith, low)
 
-    few : i / 8 < 8
-    few = omega (arith, low)
+  few_slots : k < 8
+  few_slots = omega arith
 
-    few_slots : k < 8
-    few_slots = omega arith
+  inside : index < length b.places
+  inside =
+      let count : length b.places ≡ g.agcount + 8 = ap length made.places' ∙ count_places g in
+      omega (arith, count, few)
 
-    inside : at < length b.places
-    inside =
-        let count : length b.places ≡ g.agcount + 8 = ap length made.places' ∙ count_places g in
-        omega (arith, count, few)
+  place : place_at b index ≡ 16 + i / 8
+  place = ap (λ (ps : List ℕ). get_or ps index 0) made.places' ∙ (chunk_at g index (i / 8) few refl).is
 
-    place : place_at b at ≡ 16 + i / 8
-    place = ap (λ (ps : List ℕ). get_or ps at 0) made.places' ∙ (chunk_at g at (i / 8) few refl).is
+  other : is_head v (place_at b index) ≡ false
+  other =
+      let large = g.shape.groups.large in
+      let short : 16 + i / 8 < g.agblocks = omega (arith, large, few) in
+      let rest : place_at b index % g.agblocks ≡ 16 + i / 8 = ap (λ (n : ℕ). n % g.agblocks) place ∙ mod-eq_of_lt short in
+      ne_eqb (place_at b index % g.agblocks) 0 (λ same. absurd (omega (arith, rest, same)))
 
-    other : is_head v (place_at b at) ≡ false
-    other =
-        let short : 16 + i / 8 < g.agblocks = let large = g.shape.groups.large in omega (arith, large, few) in
-        let rest : place_at b at % g.agblocks ≡ 16 + i / 8 = ap (λ (n : ℕ). n % g.agblocks) place ∙ mod-eq_of_lt short in
-        ne_eqb (place_at b at % g.agblocks) 0 (λ same. absurd (omega (arith, rest, same)))
+  here : place_at b index < g.dblocks
+  here = let enough = many v g.shape.groups in omega (arith, place, few, enough)
 
-    here : place_at b at < g.dblocks
-    here = let enough = many v g.shape.groups in omega (arith, place, few, enough)
+  number : inode_of v (place_at b index) k ≡ 128 + i
+  number = ap (λ (n : ℕ). inode_of v n k) place ∙ chunk_inode v (i / 8) k g.shape.groups few ∙ omega arith
 
-    number : inode_of v (place_at b at) k ≡ 128 + i
-    number = ap (λ (n : ℕ). inode_of v n k) place ∙ chunk_inode v (i / 8) k g.shape.groups few ∙ omega arith
+  wanted : wanted_of b.slots (128 + i) ≡ Some (get_or b.slots i no_slot)
+  wanted =
+      let count = made.slots'.count in
+      wanted_is 128 (128 + i) i b.slots no_slot (numbered g s b.slots made.slots') (omega (arith, count, low)) refl
 
-    wanted : wanted_of b.slots (128 + i) ≡ Some (get_or b.slots i no_slot)
-    wanted = let count = made.slots'.count in wanted_is 128 (128 + i) i b.slots no_slot (numbered g s b.slots made.slots') (omega (arith, count, low)) refl
+  generation : b.stamp.generation ≡ s.generation
+  generation = ap (λ (t : Stamp). t.generation) made.stamp'
 
-    generation : b.stamp.generation ≡ s.generation
-    generation = ap (λ (t : Stamp). t.generation) made.stamp'
+  slot_made : HasFirstSlot v s image (128 + i)
+  slot_made =
+      let old = slot_in (old_at b index) k in
+      let due : IsSlotDue v b.stamp.generation b.slots (128 + i) old (slot_bytes v image (128 + i)) =
+      subst (λ (ino : ℕ). IsSlotDue v b.stamp.generation b.slots ino old (slot_bytes v image ino)) number
+      (slots_stand (empty_wanted g) p b super image is index k inside few_slots other here) in
+      record {
+        wanted = get_or b.slots i no_slot;
+        old = old;
+        first = made.slots'.each i no_slot low;
+        made =
+            subst (λ (n : ℕ). IsMade v n (get_or b.slots i no_slot) old (slot_bytes v image (128 + i))) generation
+            (due_made v b.stamp.generation b.slots (128 + i) old (slot_bytes v image (128 + i)) (get_or b.slots i no_slot) wanted due);
+      }
 
 -- all 64 slots of the first chunk were made
 pub slots_made : (g : Geometry) (sector : List ℕ) (s : Stamp) (p : Placed) (b : Bytes) (super : List ℕ) (image : Image) → IsEmptyBytes g sector s b

@@ -82,16 +82,13 @@ pub plan_held : (plan : Plan) (rows : List Row) (image : Image) → AreRows plan
     → All (λ place. place < length image) (planned plan) → HoldsPlan (written (writes_of plan.bank rows) image) plan
 plan_held plan rows image are once inside = record { each = at_place }
   where
-    order : List Row
-    order = first_last rows
-
-    moved : IsPermutation (rows_of plan) order
-    moved = IsPermutation-trans (rows_of plan) rows order are.all (last_moves rows)
+    moved : IsPermutation (rows_of plan) (first_last rows)
+    moved = IsPermutation-trans (rows_of plan) rows (first_last rows) are.all (last_moves rows)
 
     few : (at : ℕ) → count_at at (writes_of plan.bank rows) ≤ 1
     few at =
-        let writes = count_writes plan.bank at order in
-        let same = sum_by-IsPermutation (λ (r : Row). one_if (r.at == at)) (rows_of plan) order moved in
+        let writes = count_writes plan.bank at (first_last rows) in
+        let same = sum_by-IsPermutation (λ (r : Row). one_if (r.at == at)) (rows_of plan) (first_last rows) moved in
         let all = count_rows 0 at (planned plan) in
         omega (arith, writes, same, all, once.each at)
 
@@ -101,11 +98,11 @@ plan_held plan rows image are once inside = record { each = at_place }
         let row : Row = record { at = place; index = j } in
         let d : ℕ × List ℕ = (0, []) in
         let there : Contains (rows_of plan) row = (j, omega (arith, count_from 0 (planned plan), low), row_is 0 (planned plan) j row low ∙ ap (λ (n : ℕ). record { at = place; index = n }) (zero_plus j)) in
-        let found = Contains-permutation (rows_of plan) order row moved there in
+        let found = Contains-permutation (rows_of plan) (first_last rows) row moved there in
         let is : get_or (writes_of plan.bank rows) found.0 d ≡ write_of plan.bank row =
-        get_or-map (write_of plan.bank) order found.0 row d found.1 ∙ ap (write_of plan.bank) found.2 in
+        get_or-map (write_of plan.bank) (first_last rows) found.0 row d found.1 ∙ ap (write_of plan.bank) found.2 in
         let at : (get_or (writes_of plan.bank rows) found.0 d).0 ≡ place = ap (λ (w : ℕ × List ℕ). w.0) is in
-        let count : length (writes_of plan.bank rows) ≡ length order = length-map order (write_of plan.bank) in
+        let count : length (writes_of plan.bank rows) ≡ length (first_last rows) = length-map (first_last rows) (write_of plan.bank) in
         ap (bytes_at (written (writes_of plan.bank rows) image)) (sym at)
         ∙ lands (writes_of plan.bank rows) image found.0 d (omega (arith, count, found.1)) (few (get_or (writes_of plan.bank rows) found.0 d).0)
           (subst (λ (n : ℕ). n < length image) (sym at) (inside j 0 low))
