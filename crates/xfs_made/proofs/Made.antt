@@ -34,7 +34,7 @@ use Rattle.xfs_due.proofs.Chunks.{chunks_kept}
 use Rattle.xfs_due.proofs.Entries.{chains_kept, lists_kept}
 use Rattle.xfs_due.proofs.KeptLaws.{both_kept}
 use Rattle.xfs_due.proofs.Totals.{counters_kept}
-use Rattle.xfs_due.proofs.Space.{space_lawful}
+use Rattle.xfs_due.proofs.Spaces.{space_lawful}
 use Rattle.xfs_due.specs.Groups.{due_groups}
 use Rattle.xfs_rendered.proofs.Groups.{groups_stand, log_stands}
 use Rattle.xfs_rendered.proofs.Lsns.{lsns_stand}
@@ -144,7 +144,8 @@ module _ (g : Geometry) (sector : List ℕ) (s : Stamp) (plan : Plan) (blocks : 
   space : AreKept (space_laws v groups files)
   space =
       space_kept v groups files
-      (space_lawful g (chunk_run ∷ []) [] (all_inodes g.agcount) p.groups files crcs.agf crcs.agi apart trees_placed pool (clusters_kept g s crcs.slot))
+      (space_lawful v g.shape.groups g.shape.log_inside (chunk_run ∷ []) [] (all_inodes g.agcount) p.groups files crcs.agf crcs.agi apart trees_placed
+      (clusters_kept g s crcs.slot))
 
   counting : AreKept (counting_laws (made_catalog g s p crcs))
   counting =

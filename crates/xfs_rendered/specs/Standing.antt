@@ -1,6 +1,5 @@
 -- What stands in an image that has a volume that was rendered.
 use Rattle.std.specs.Prelude.{◌≡◌, ℕ, ◌*◌, ◌<◌, ◌≤◌, List, length}
-use Rattle.std.specs.List.{All}
 use Rattle.xfs_word.specs.Crc.{little_field_of}
 use Rattle.xfs_disk.specs.Blocks.{Image}
 use Rattle.xfs_geom.specs.Volumes.{Volume}
@@ -22,10 +21,9 @@ agi_crc_at v image ag = little_field_of (sector_in image (head_block v ag) 2) 31
 abbrev pub HasHeads : Wanted → Bytes → Type 0
 HasHeads w b = (ag : ℕ) → ag < w.geometry.agcount → (i : ℕ) × (i < length b.places) × (place_at b i ≡ ag * w.geometry.agblocks)
 
--- an image of whole blocks, as large as the volume, that has what was rendered for a request, with the first block of each group
+-- an image, as large as the volume, that has what was rendered for a request, with the first block of each group
 pub record IsStanding (w : Wanted) (p : Placed) (b : Bytes) (super : List ℕ) (image : Image) : Type 0 where
   pub volume' : HasVolume w p b super image
   pub due : IsDueSuper w p b super
   pub heads : HasHeads w b
-  pub blocks : All (λ block. length block ≡ 4096) image
   pub size : w.geometry.dblocks ≤ length image
