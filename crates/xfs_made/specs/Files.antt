@@ -1,5 +1,5 @@
 -- The files of an empty volume: its root and the two system inodes (chapter "On-disk Inode").
-use Rattle.std.specs.Prelude.{◌≡◌, ℕ, true, ◌+◌, ◌<◌, List, [], ◌∷◌, replicate}
+use Rattle.std.specs.Prelude.{ℕ, true, ◌+◌, ◌<◌, List, [], ◌∷◌, replicate}
 use Rattle.xfs_word.specs.Crc.{little_field_of}
 use Rattle.xfs_disk.specs.Blocks.{Image}
 use Rattle.xfs_disk.specs.declared.stamp.Stamp.{Stamp}
