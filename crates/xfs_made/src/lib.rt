@@ -4,4 +4,6 @@
 
 mod files;
 
-pub use files::{first_chunk_is_kept, first_files_read, first_lsns_are_zero, first_names_are_lawful};
+pub use files::{
+    first_chunk_is_kept, first_files_read, first_lsns_are_zero, first_names_are_lawful,
+};
