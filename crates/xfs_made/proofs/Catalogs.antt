@@ -30,7 +30,7 @@ no_lsns image (p ∷ ps) none =
     ∙ ap (λ (ls : List BlockLsn). no_lsn p ∷ ls) (no_lsns image ps (All-tail (λ (o : LsnPlace). (lsn_at image o).lsn ≡ 0) p ps none))
 
 -- a catalog by its parts
-catalog : Geometry → List GroupRec → List FileRec → List EntryRec → List DirRec → Counts → LogState → List BlockLsn → Catalog
+abbrev pub catalog : Geometry → List GroupRec → List FileRec → List EntryRec → List DirRec → Counts → LogState → List BlockLsn → Catalog
 catalog g groups files entries dirs counts log lsns =
     record { geometry = g; groups = groups; files = files; entries = entries; dirs = dirs; counts = counts; log = log; lsns = lsns }
 

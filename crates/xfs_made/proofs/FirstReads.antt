@@ -21,7 +21,7 @@ use Rattle.xfs_image.specs.Files.{files_at, files_read, inodes_of}
 use Rattle.xfs_image.specs.Slots.{reads_as, slot_bytes}
 use Rattle.xfs_empty.specs.Inodes.{root_core, system_core}
 use Rattle.xfs_made.specs.Files.{HasFirstSlots, first_dirs, first_files, plain_file, slot_crc}
-use Rattle.xfs_made.proofs.FirstSlots.{free_slot_is, root_slot_is, slot_of, system_slot_is}
+use Rattle.xfs_made.proofs.FirstSlots.{empty_form, free_slot_is, root_slot_is, slot_of, system_slot_is}
 
 -- what a slot reads as by itself decides what it reads as with the blocks that it names
 free_reads : (v : Volume) (ino : ℕ) (slot : List ℕ) (tree : Option (Contents Extent)) (attr link : Option (List ℕ)) → slot_read v ino slot ≡ Read.Free
@@ -80,9 +80,6 @@ files_are v s image groups slots inodes =
     (plain_file (system_core v s 129) (slot_crc v image 129)) (plain_file (system_core v s 130) (slot_crc v image 130))
     (root_at v s image slots) (system_at v s image slots 129 (omega arith) (omega arith)) (system_at v s image slots 130 (omega arith) (omega arith))
     (all_free v s image slots 131 61 (omega arith) (omega arith))
-
-abbrev empty_form : ShortForm
-empty_form = record { parent = 128; entries = [] }
 
 form_at : (v : Volume) (s : Stamp) (image : Image) → HasFirstSlots v s image → short_of 128 (part_of (slot_bytes v image 128) 176 6) ≡ Some empty_form
 form_at v s image slots = (root_slot_is v s image 128 refl (slot_of v s image 128 (omega arith) (omega arith) slots)).form

@@ -57,14 +57,15 @@ made_system v s generation ino old new made =
     let same : new ≡ made.based = made.links ∙ (made.fork ∙ made.attrs) in
     subst (λ (slot : List ℕ). IsFreshSlot v (system_core v s ino) slot) (sym same) made.base
 
-abbrev empty_form : ShortForm
+-- what the short form of the root states
+abbrev pub empty_form : ShortForm
 empty_form = record { parent = 128; entries = [] }
 
 -- the slot of the root
 pub record IsRootMade (v : Volume) (s : Stamp) (slot : List ℕ) : Type 0 where
   pub read : slot_read v 128 slot ≡ Read.InUse (record (root_core v s) { crc = little_field_of slot 100 4 })
   pub stated : stated_core slot ≡ record (root_core v s) { crc = little_field_of slot 100 4 }
-  pub form : short_of 128 (part_of slot 176 6) ≡ Some (record { parent = 128; entries = [] })
+  pub form : short_of 128 (part_of slot 176 6) ≡ Some empty_form
 
 abbrev with_fork : Core → ℕ → ℕ → ℕ → ℕ → ℕ → Core
 with_fork core format size nblocks nextents crc =

@@ -1,7 +1,7 @@
 -- The laws of a made volume are kept, each in its list.
 use Rattle.std.proofs.Common.{◌≡◌, ℕ, ◌+◌, ◌<◌, ◌≤◌, ◌==◌, Bool, true, false, cond, nat_lt, if◌then◌else◌, List, [], ◌∷◌, ◌++◌, map, Option, None, refl, sym, ap, ◌∙◌, subst, arith}
 use Rattle.std.specs.List.{All, range_with_len}
-use Rattle.std.proofs.lemmas.Bool.{eq-eqb, ltb-true}
+use Rattle.std.proofs.lemmas.Bool.{eq-eqb, le-leb, ltb-true}
 use Rattle.xfs_geom.specs.Volumes.{Volume}
 use Rattle.xfs_geom.specs.declared.records.Run.{Run}
 use Rattle.xfs_heads.specs.declared.log.state.LogState.TheVariants.{Clean}
@@ -12,7 +12,7 @@ use Rattle.xfs_volume.specs.declared.findings.Law.{Law}
 use Rattle.xfs_volume.specs.declared.groups.GroupRec.{GroupRec}
 use Rattle.xfs_space.specs.Owners.{owned_runs}
 use Rattle.xfs_space.specs.SpaceLaws.{AllAreFree, IsSpaceLawful, by_length, free_laws, free_spans, owner_at, owner_laws, owner_number, recorded_runs, runs_on, sharing_at, sharing_laws, space_laws, span_number}
-use Rattle.xfs_laws.specs.Counting.{by_group, group_chains, log_laws, lsn_at}
+use Rattle.xfs_laws.specs.Counting.{by_group, group_chains, is_behind, log_laws, lsn_at}
 use Rattle.xfs_image.specs.Lsns.{LsnPlace}
 use Rattle.xfs_due.proofs.KeptLaws.{both_kept, no_difference}
 use Rattle.xfs_made.specs.Volumes.{no_lsn}
@@ -51,14 +51,20 @@ unfolding space_laws sharing_laws owner_laws
 space_kept v groups files is =
     let runs = owned_runs v groups files in
     let recorded = recorded_runs v.agblocks 0 groups in
-    both_kept (map (sharing_at runs) (range_with_len 0 v.dblocks)) (free_laws v runs 0 groups ++ map (owner_at recorded runs) (range_with_len 0 v.dblocks))
-    (each_kept (sharing_at runs) (range_with_len 0 v.dblocks) (λ block. few (runs_on runs block) (is.once block)))
-    (both_kept (free_laws v runs 0 groups) (map (owner_at recorded runs) (range_with_len 0 v.dblocks)) (free_kept v runs 0 groups is.free)
-    (each_kept (owner_at recorded runs) (range_with_len 0 v.dblocks) (λ block. ap owner_number (is.owners block))))
+    let all = range_with_len 0 v.dblocks in
+    both_kept (map (sharing_at runs) all ++ free_laws v runs 0 groups) (map (owner_at recorded runs) all)
+    (both_kept (map (sharing_at runs) all) (free_laws v runs 0 groups)
+    (each_kept (sharing_at runs) all (λ block. few (runs_on runs block) (is.once block))) (free_kept v runs 0 groups is.free))
+    (each_kept (owner_at recorded runs) all (λ block. ap owner_number (is.owners block)))
+
+-- nothing is behind every head
+behind : (test : Bool) (head : ℕ) → test ≡ true → 0 ≡ (if test then 0 else head)
+behind true head is = refl
+behind false head is = cc
 
 no_lsns_kept : (head : ℕ) (places : List LsnPlace) → AreKept (map (lsn_at head) (map no_lsn places))
 no_lsns_kept head [] = tt
-no_lsns_kept head (p ∷ ps) = (refl, no_lsns_kept head ps)
+no_lsns_kept head (p ∷ ps) = (behind (is_behind head 0) head (le-leb 0 head (omega arith)), no_lsns_kept head ps)
 
 -- the laws of the log, where it is clean and no log sequence number stands anywhere
 pub log_kept : (groups : List GroupRec) (head : ℕ) (places : List LsnPlace) → AreKept (by_group group_chains 0 groups)

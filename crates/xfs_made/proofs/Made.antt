@@ -45,7 +45,7 @@ use Rattle.xfs_empty.specs.Geometry.{HasFirstChunk}
 use Rattle.xfs_empty.specs.Placing.{all_inodes, chunk_run, chunks_of, empty_wanted, first_chunk}
 use Rattle.xfs_empty.specs.Planning.{IsEmptyPlan, StandsFor}
 use Rattle.xfs_made.proofs.Catalogs.{no_lsns, reads_as}
-use Rattle.xfs_made.proofs.FirstClusters.{inodes_are_first, records_are}
+use Rattle.xfs_made.proofs.FirstClusters.{inodes_are_first, no_chunks, records_are}
 use Rattle.xfs_made.proofs.FirstKept.{chunk_due, clusters_kept}
 use Rattle.xfs_made.proofs.FirstLsns.{lsns_zero, no_file_places}
 use Rattle.xfs_made.proofs.FirstNames.{names_kept}
@@ -62,7 +62,9 @@ IsChunkDue v files ag r = chunk_number (due_chunk v files ag ((ino_shape ag).set
 group_due : (v : Volume) (s : Stamp) (crc : ℕ → ℕ) (ag : ℕ) → All (IsChunkDue v (first_files v s crc) ag) (chunks_of ag)
 group_due v s crc zero =
     All-cons (IsChunkDue v (first_files v s crc) 0) first_chunk [] (chunk_due v s crc) (All-nil (IsChunkDue v (first_files v s crc) 0))
-group_due v s crc (suc n) = All-nil (IsChunkDue v (first_files v s crc) (suc n))
+group_due v s crc (suc n) =
+    All-same (IsChunkDue v (first_files v s crc) (suc n)) (chunks_of (suc n)) [] (no_chunks (suc n) (omega arith))
+    (All-nil (IsChunkDue v (first_files v s crc) (suc n)))
 
 chunks_due : (g : Geometry) (s : Stamp) (crc : ℕ → ℕ) (ag : ℕ) → ag < g.agcount
     → All (IsChunkDue (volume_of g) (first_files (volume_of g) s crc) ag) (inodes_of (all_inodes g.agcount) ag)

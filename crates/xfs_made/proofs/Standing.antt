@@ -77,7 +77,11 @@ module _ (g : Geometry) (sector : List ℕ) (s : Stamp) (p : Placed) (b : Bytes)
       omega (arith, count, few)
 
   place : place_at b index ≡ 16 + i / 8
-  place = ap (λ (ps : List ℕ). get_or ps index 0) made.places' ∙ (chunk_at g index (i / 8) few refl).is
+  place =
+      let chunk = chunk_at g index (i / 8) few refl in
+      let there = chunk.at in
+      let same : chunk.block ≡ i / 8 = omega (arith, there) in
+      ap (λ (ps : List ℕ). get_or ps index 0) made.places' ∙ (chunk.is ∙ ap (λ (n : ℕ). 16 + n) same)
 
   other : is_head v (place_at b index) ≡ false
   other =

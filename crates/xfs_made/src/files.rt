@@ -1,6 +1,6 @@
 //! Laws about the first files of a volume. Each function does nothing; its contract is the law.
 
-ghost use Rattle.std.specs.Prelude.{◌≡◌, ℕ, ◌≤◌, List, [], ◌∷◌, Ok};
+ghost use Rattle.std.specs.Prelude.{◌≡◌, ℕ, List, [], ◌∷◌, Ok};
 ghost use Rattle.std.specs.List.{All, flat_map, range_with_len};
 ghost use Rattle.xfs_disk.specs.Blocks.{Image};
 ghost use Rattle.xfs_disk.specs.declared.stamp.Stamp.{Stamp};
