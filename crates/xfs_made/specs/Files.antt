@@ -1,9 +1,5 @@
 -- The files of an empty volume: its root and the two system inodes (chapter "On-disk Inode").
-<<<<<<< HEAD
-use Rattle.std.specs.Prelude.{◌≡◌, ℕ, true, ◌+◌, ◌<◌, List, [], ◌∷◌}
-=======
-use Rattle.std.specs.Prelude.{ℕ, true, ◌+◌, ◌<◌, List, [], ◌∷◌, replicate}
->>>>>>> 1c5d7a1f82d1d0c41a12b6011659c27dbf37ea67
+use Rattle.std.specs.Prelude.{ℕ, true, ◌+◌, ◌<◌, List, [], ◌∷◌}
 use Rattle.xfs_word.specs.Crc.{little_field_of}
 use Rattle.xfs_disk.specs.Blocks.{Image}
 use Rattle.xfs_disk.specs.declared.stamp.Stamp.{Stamp}

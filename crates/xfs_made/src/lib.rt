@@ -5,11 +5,7 @@
 mod files;
 mod volumes;
 
-<<<<<<< HEAD
-pub use files::{first_chunk_is_kept, first_files_read, first_lsns_are_zero, first_names_are_lawful};
-pub use volumes::{made_plans_plan_each_block_once, made_volumes_are_consistent};
-=======
 pub use files::{
     first_chunk_is_kept, first_files_read, first_lsns_are_zero, first_names_are_lawful,
 };
->>>>>>> 1c5d7a1f82d1d0c41a12b6011659c27dbf37ea67
+pub use volumes::{made_plans_plan_each_block_once, made_volumes_are_consistent};
