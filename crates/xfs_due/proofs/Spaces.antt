@@ -148,7 +148,6 @@ module _ (v : Volume) (shape : HasGroups v.dblocks v.agblocks v.agcount) (log : 
     unfolding claim_in
     claim_is = ap (λ (t : Bool). if t then held_at (fixed_runs v ++ kept) (ag * v.agblocks + b) else None) (lt-ltb b (group_length v ag) inside)
 
-
     pool_free : is_lowest (wanted_group v kept reserved inodes ag) (taken ag low) b ≡ true → claim_in v kept ag b ≡ None
     pool_free yes' = (good ag low).free b (and_parts (in_pool (uses_in v kept reserved ag) b) (nat_lt (rank (uses_in v kept reserved ag) b) (taken ag low)) yes').0
 
