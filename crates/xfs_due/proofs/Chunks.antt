@@ -48,7 +48,7 @@ chunks_kept v kept reserved inodes groups files agf_crc agi_crc placed due =
       no_difference (map chunk_number (map settled_chunk rs)) (map chunk_number (map (due_chunk v files ag) (map settled_chunk rs))) (chunks_due (due_chunk v files ag) rs (due ag inside)),
       (
         no_difference (map chunk_number (map settled_chunk p.fino)) (map chunk_number (filter has_free (map settled_chunk rs)))
-        (ap (map chunk_number) (ap (map settled_chunk) fino ∙ free_stay rs)),
+            (ap (map chunk_number) (ap (map settled_chunk) fino ∙ free_stay rs)),
         tt,
       ),
     ))

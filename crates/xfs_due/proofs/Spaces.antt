@@ -1,5 +1,5 @@
 -- What is placed keeps the laws of space.
-use Rattle.std.proofs.Common.{◌≡◌, ℕ, zero, suc, ◌+◌, ◌-◌, ◌*◌, ◌≤◌, ◌<◌, inl, inr, Bool, true, false, not, ◌&&◌, ◌==◌, nat_lt, if◌then◌else◌, List, [], ◌++◌, length, get_or, map, Option, Some, None, is_some, refl, sym, ◌∙◌, ap, ap₂, subst, arith, map-id}
+use Rattle.std.proofs.Common.{◌≡◌, ℕ, zero, suc, ◌+◌, ◌-◌, ◌*◌, ◌≤◌, ◌<◌, inl, inr, Bool, true, false, not, ◌&&◌, ◌==◌, nat_lt, if◌then◌else◌, List, ◌++◌, length, get_or, map, Option, Some, None, is_some, refl, sym, ◌∙◌, ap, ap₂, subst, arith, map-id}
 use Rattle.std.specs.List.{All, flat_map, range_with_len}
 use Rattle.std.specs.Option.{option_or}
 use Rattle.std.proofs.lemmas.Bool.{and_parts, cases_Bool, cases_eq, cases_lt, lt-ltb}
@@ -147,7 +147,6 @@ module _ (v : Volume) (shape : HasGroups v.dblocks v.agblocks v.agcount) (log : 
     claim_is : claim_in v kept ag b ≡ held_at (fixed_runs v ++ kept) (ag * v.agblocks + b)
     unfolding claim_in
     claim_is = ap (λ (t : Bool). if t then held_at (fixed_runs v ++ kept) (ag * v.agblocks + b) else None) (lt-ltb b (group_length v ag) inside)
-
 
     pool_free : is_lowest (wanted_group v kept reserved inodes ag) (taken ag low) b ≡ true → claim_in v kept ag b ≡ None
     pool_free yes' = (good ag low).free b (and_parts (in_pool (uses_in v kept reserved ag) b) (nat_lt (rank (uses_in v kept reserved ag) b) (taken ag low)) yes').0
