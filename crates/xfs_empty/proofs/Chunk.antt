@@ -1,14 +1,12 @@
 -- The first chunk of an empty volume is lawful.
-use Rattle.std.proofs.Common.{◌≡◌, ℕ, ◌+◌, ◌-◌, ◌*◌, ◌/◌, ◌%◌, ◌^◌, ◌≤◌, ◌<◌, Bool, true, false, not, ◌==◌, ◌&&◌, ◌||◌, cond, List, [], ◌∷◌, None, IsTrue, arith, refl, sym, ap, ◌∙◌}
-use Rattle.std.proofs.Math.Nat.{mod-eq_of_lt, div-eq_of_lt}
+use Rattle.std.proofs.Common.{◌≡◌, ℕ, ◌+◌, ◌-◌, ◌*◌, ◌%◌, ◌≤◌, ◌<◌, Bool, true, false, not, ◌==◌, ◌&&◌, ◌||◌, cond, [], ◌∷◌, None, IsTrue, arith, refl}
+use Rattle.std.proofs.Math.Nat.{mod-eq_of_lt}
 use Rattle.std.proofs.lemmas.Bool.{eqb-true, le-leb, lt-ltb, lt-leb, ne_eqb}
 use Rattle.std.specs.Cmp.Derive.{both_true}
 use Rattle.xfs_geom.specs.Conversions.{group_length, is_fixed}
-use Rattle.xfs_geom.specs.Groups.{blocks_of_group}
-use Rattle.xfs_geom.specs.Shape.{HasGroups, HasAddresses}
+use Rattle.xfs_geom.specs.Shape.{HasGroups}
 use Rattle.xfs_geom.specs.Volumes.{Volume}
-use Rattle.xfs_geom.specs.declared.records.InoRec.{InoRec}
-use Rattle.xfs_kinds.specs.InodeTrees.{are_free_of_use, ino_shape, is_block_free_of_use}
+use Rattle.xfs_kinds.specs.InodeTrees.{are_free_of_use, ino_shape}
 use Rattle.xfs_tree.specs.Rules.{are_lawful}
 use Rattle.xfs_empty.specs.Geometry.{HasFirstChunk}
 use Rattle.xfs_empty.specs.Placing.{chunks_of, first_chunk}

@@ -1,5 +1,5 @@
 -- The first chunk is all that an empty volume keeps.
-use Rattle.std.proofs.Common.{◌≡◌, ℕ, zero, suc, ◌+◌, ◌-◌, ◌*◌, ◌/◌, ◌%◌, ◌^◌, ◌≤◌, ◌<◌, Bool, true, false, ◌&&◌, ◌||◌, nat_le, nat_lt, List, [], ◌∷◌, ◌++◌, length, map, get_or, Result, Ok, arith, refl, sym, ap, ◌∙◌, lit<, lit≤}
+use Rattle.std.proofs.Common.{◌≡◌, ℕ, zero, suc, ◌+◌, ◌-◌, ◌*◌, ◌/◌, ◌%◌, ◌^◌, ◌≤◌, ◌<◌, Bool, true, false, ◌&&◌, ◌||◌, nat_le, nat_lt, List, [], ◌∷◌, ◌++◌, length, get_or, Ok, arith, refl}
 use Rattle.std.specs.List.{All, range_with_len, count_by}
 use Rattle.std.proofs.Math.Nat.{mod-eq_of_lt, div-eq_of_lt, mul-le-mul_right}
 use Rattle.std.proofs.lemmas.Bool.{leb-true, ltb-true, le-leb, lt-ltb}
@@ -8,17 +8,17 @@ use Rattle.std.proofs.lemmas.List.Sums.{count_by-le-length}
 use Rattle.std.specs.Cmp.Derive.{both_true}
 use Rattle.xfs_geom.proofs.Votes.{left, right}
 use Rattle.xfs_geom.specs.Shape.{HasGroups, HasAddresses}
-use Rattle.xfs_geom.specs.Volumes.{Volume, volume_of}
+use Rattle.xfs_geom.specs.Volumes.{Volume}
 use Rattle.xfs_geom.specs.declared.geometry.Geometry.{Geometry}
 use Rattle.xfs_geom.specs.declared.records.Run.{Run}
-use Rattle.xfs_place.specs.Claims.{AreApart, IsClaim}
+use Rattle.xfs_place.specs.Claims.{IsClaim}
 use Rattle.xfs_place.specs.Objects.{keep_with}
 use Rattle.xfs_place.specs.Pool.{is_of, is_taken}
 use Rattle.xfs_place.specs.Wanted.{AreKept, IsClear, all_kept}
 use Rattle.xfs_place.specs.declared.wanted.GroupInodes.{GroupInodes}
 use Rattle.xfs_tree.specs.Rules.{is_of_root_cluster}
 use Rattle.xfs_empty.specs.Geometry.{HasFirstChunk}
-use Rattle.xfs_empty.specs.Placing.{all_inodes, chunk_run, chunks_of, empty_wanted, group_inodes}
+use Rattle.xfs_empty.specs.Placing.{all_inodes, chunk_run, empty_wanted, group_inodes}
 use Rattle.xfs_empty.proofs.Chunk.{chunk_free}
 
 -- what holds of one item

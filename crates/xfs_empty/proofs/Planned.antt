@@ -1,6 +1,6 @@
 -- All planned blocks of an empty volume lie in it.
-use Rattle.std.proofs.Common.{◌≡◌, ◌≢◌, ℕ, zero, suc, ◌+◌, ◌-◌, ◌*◌, ◌/◌, ◌%◌, ◌^◌, ◌≤◌, ◌<◌, Bool, true, false, not, ◌&&◌, ◌||◌, ◌==◌, List, [], ◌∷◌, ◌++◌, length, get_or, Option, Some, None, IsTrue, cond, arith, refl, sym, subst, ap, ◌∙◌}
-use Rattle.std.specs.List.{All, filter, flat_map, range_with_len}
+use Rattle.std.proofs.Common.{◌≡◌, ◌≢◌, ℕ, zero, suc, ◌+◌, ◌-◌, ◌*◌, ◌/◌, ◌%◌, ◌≤◌, ◌<◌, Bool, true, false, not, ◌==◌, List, [], ◌∷◌, length, get_or, Option, Some, None, cond, arith, refl, subst}
+use Rattle.std.specs.List.{All, flat_map, range_with_len}
 use Rattle.std.proofs.Math.Nat.{mul-le-mul_right}
 use Rattle.std.proofs.lemmas.Bool.{eqb-false, ltb-true}
 use Rattle.std.proofs.lemmas.List.{get_or_default}
@@ -10,7 +10,7 @@ use Rattle.std.proofs.lemmas.List.Sorted.{All-permutation}
 use Rattle.std.proofs.lemmas.Nat.{div-add-mod'}
 use Rattle.xfs_geom.proofs.Votes.{left}
 use Rattle.xfs_geom.specs.Shape.{HasGroups, HasLog}
-use Rattle.xfs_geom.specs.Volumes.{Volume, volume_of}
+use Rattle.xfs_geom.specs.Volumes.{Volume}
 use Rattle.xfs_geom.specs.declared.geometry.Geometry.{Geometry}
 use Rattle.xfs_geom.specs.declared.records.InoRec.{InoRec}
 use Rattle.xfs_place.specs.Pool.{is_taken}
@@ -23,7 +23,7 @@ use Rattle.xfs_render.specs.Rendering.{IsReady, IsRendered, blocks_in_place, fre
 use Rattle.xfs_render.specs.Trees.{all_places}
 use Rattle.xfs_render.specs.declared.bytes.Bytes.{Bytes}
 use Rattle.xfs_render.specs.declared.plan.Plan.{Plan}
-use Rattle.xfs_tree.specs.Rules.{can_hold, is_of_root_cluster}
+use Rattle.xfs_tree.specs.Rules.{is_of_root_cluster}
 use Rattle.xfs_tree.specs.Shape.{Shape}
 
 -- a block that can be one of a tree of a group lies in the volume

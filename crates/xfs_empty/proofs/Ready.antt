@@ -1,10 +1,10 @@
 -- An empty volume can be placed and written.
-use Rattle.std.proofs.Common.{◌≡◌, ℕ, zero, suc, ◌+◌, ◌-◌, ◌*◌, ◌^◌, ◌≤◌, ◌<◌, true, false, List, [], ◌∷◌, ◌++◌, length, get_or, replicate, Some, None, IsTrue, arith, refl, sym, subst, ap, ◌∙◌, lit<, lit≤}
+use Rattle.std.proofs.Common.{◌≡◌, ℕ, ◌^◌, ◌≤◌, ◌<◌, false, List, [], length, get_or, replicate, None, IsTrue, arith, refl, sym, subst, ap, ◌∙◌}
 use Rattle.std.specs.List.{All}
 use Rattle.std.specs.Option.{MatchOption}
 use Rattle.std.proofs.lemmas.List.{length-replicate}
 use Rattle.xfs_disk.specs.declared.stamp.Stamp.{Stamp}
-use Rattle.xfs_geom.specs.Volumes.{Volume, volume_of, stated_volume}
+use Rattle.xfs_geom.specs.Volumes.{volume_of, stated_volume}
 use Rattle.xfs_geom.specs.Writing.{IsAccepted}
 use Rattle.xfs_geom.specs.declared.geometry.Geometry.{Geometry}
 use Rattle.xfs_geom.specs.declared.records.InoRec.{InoRec}
@@ -12,12 +12,12 @@ use Rattle.xfs_kinds.specs.InodeTrees.{ino_shape}
 use Rattle.xfs_place.specs.declared.wanted.GroupInodes.{GroupInodes}
 use Rattle.xfs_render.specs.Clusters.{CanCluster}
 use Rattle.xfs_render.specs.Readiness.{HasBytes, IsOwned, IsWritable}
-use Rattle.xfs_render.specs.Rendering.{is_head, old_at, place_at}
+use Rattle.xfs_render.specs.Rendering.{is_head, old_at}
 use Rattle.xfs_render.specs.declared.bytes.Bytes.{Bytes}
 use Rattle.xfs_tree.specs.Rules.{are_lawful}
 use Rattle.xfs_empty.specs.Bytes.{IsEmptyBytes, empty_places}
 use Rattle.xfs_empty.specs.Geometry.{HasFirstChunk}
-use Rattle.xfs_empty.specs.Placing.{all_inodes, chunk_run, chunks_of, empty_wanted, group_inodes}
+use Rattle.xfs_empty.specs.Placing.{all_inodes, chunk_run, chunks_of, empty_wanted}
 use Rattle.xfs_empty.proofs.Chunk.{chunks_lawful}
 use Rattle.xfs_empty.proofs.Kept.{all_one, count_inodes, inodes_are, root_taken}
 use Rattle.xfs_empty.proofs.Places.{all_inside, numbered, places_can}

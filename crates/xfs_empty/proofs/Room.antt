@@ -1,9 +1,9 @@
 -- Where everything stands that is wanted, nothing is without room.
-use Rattle.std.proofs.Common.{◌≡◌, ℕ, ◌++◌, ◌<◌, ◌⊎◌, inl, inr, List, [], length, Option, Some, None, Result, Ok, Err, refl, sym, subst, ap, ◌∙◌}
+use Rattle.std.proofs.Common.{◌≡◌, ℕ, ◌++◌, inl, inr, List, [], length, Some, None, Result, Ok, Err, sym, subst, ap, ◌∙◌}
 use Rattle.xfs_geom.specs.Volumes.{volume_of}
 use Rattle.xfs_geom.specs.declared.records.Run.{Run}
 use Rattle.xfs_place.specs.Choice.{Group, IsChosen}
-use Rattle.xfs_place.specs.Wanted.{ArePlaced, FindsNoRoom, IsWithoutRoom, all_kept, kept_of, wanted_group}
+use Rattle.xfs_place.specs.Wanted.{FindsNoRoom, IsWithoutRoom, all_kept, kept_of, wanted_group}
 use Rattle.xfs_place.specs.declared.faults.Place.{Place}
 use Rattle.xfs_place.specs.declared.placed.Placed.{Placed}
 use Rattle.xfs_place.specs.declared.wanted.Wanted.{Wanted}

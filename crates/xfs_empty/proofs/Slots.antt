@@ -1,13 +1,12 @@
 -- What is wanted of the first slots can be made.
-use Rattle.std.proofs.Common.{◌≡◌, ℕ, zero, suc, ◌+◌, ◌-◌, ◌*◌, ◌/◌, ◌%◌, ◌^◌, ◌≤◌, ◌<◌, Bool, true, false, ◌==◌, ◌≢◌, cond, List, [], ◌∷◌, length, get_or, Option, Some, None, arith, refl, sym, subst, ap, ◌∙◌}
+use Rattle.std.proofs.Common.{◌≡◌, ℕ, zero, suc, ◌+◌, ◌%◌, ◌≤◌, ◌<◌, Bool, true, false, ◌==◌, ◌≢◌, cond, List, [], ◌∷◌, length, get_or, Some, arith, refl, sym, subst}
 use Rattle.std.specs.List.Sorted.{IsNonDecreasingBy}
-use Rattle.std.specs.Option.{MatchOption}
 use Rattle.std.proofs.lemmas.Bool.{eq-eqb, eqb-true, eqb-false, ne_eqb}
 use Rattle.xfs_disk.specs.declared.stamp.Stamp.{Stamp}
 use Rattle.xfs_geom.specs.Volumes.{Volume}
-use Rattle.xfs_render.specs.Slots.{CanFork, CanMake, CanSlot, IsFreshCore, wanted_of}
+use Rattle.xfs_render.specs.Slots.{CanMake, CanSlot, IsFreshCore, wanted_of}
 use Rattle.xfs_render.specs.declared.wanted_slots.SlotWanted.{SlotWanted}
-use Rattle.xfs_empty.specs.Inodes.{IsFirstSlot, IsRootFork, IsRootSlot, free_slot, root_core, system_core, system_slot}
+use Rattle.xfs_empty.specs.Inodes.{IsFirstSlot, IsRootSlot, free_slot, root_core, system_core, system_slot}
 
 -- slots with numbers that go up by one from a on
 pub record AreNumbered (a : ℕ) (slots : List SlotWanted) : Type 0 where

@@ -1,5 +1,5 @@
 -- The inodes of an empty volume: 64 slots from 128 on, of which the first three are in use (chapter "On-disk Inode").
-use Rattle.std.specs.Prelude.{◌≡◌, ℕ, ◌+◌, ◌*◌, ◌^◌, ◌≤◌, ◌<◌, ◌==◌, if◌then◌else◌, List, [], length, Some, None}
+use Rattle.std.specs.Prelude.{◌≡◌, ℕ, ◌+◌, ◌*◌, ◌^◌, ◌≤◌, ◌<◌, ◌==◌, if◌then◌else◌, [], length, Some, None}
 use Rattle.xfs_disk.specs.declared.stamp.Stamp.{Stamp}
 use Rattle.xfs_dirdata.specs.Short.{short_of}
 use Rattle.xfs_geom.specs.Volumes.{Volume}

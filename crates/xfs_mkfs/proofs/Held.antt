@@ -1,5 +1,5 @@
 -- An image holds the blocks of a plan once they were written, where no block is planned twice.
-use Rattle.std.proofs.Common.{◌≡◌, ℕ, zero, suc, ◌+◌, ◌<◌, ◌≤◌, ◌==◌, Bool, if◌then◌else◌, List, [], ◌∷◌, ◌++◌, length, map, get_or, set, refl, sym, ap, ◌∙◌, subst, arith}
+use Rattle.std.proofs.Common.{◌≡◌, ℕ, zero, suc, ◌+◌, ◌<◌, ◌≤◌, ◌==◌, Bool, if◌then◌else◌, List, [], ◌∷◌, length, map, get_or, set, refl, sym, ap, ◌∙◌, subst, arith}
 use Rattle.std.specs.Prelude.{count_by, drop, take}
 use Rattle.std.specs.List.{All, Contains, sum_by}
 use Rattle.std.specs.List.Sorted.{IsPermutation}
@@ -105,5 +105,5 @@ plan_held plan rows image are once inside = record { each = at_place }
         let count : length (writes_of plan.bank rows) ≡ length (first_last rows) = length-map (first_last rows) (write_of plan.bank) in
         ap (bytes_at (written (writes_of plan.bank rows) image)) (sym at)
         ∙ lands (writes_of plan.bank rows) image found.0 d (omega (arith, count, found.1)) (few (get_or (writes_of plan.bank rows) found.0 d).0)
-          (subst (λ (n : ℕ). n < length image) (sym at) (inside j 0 low))
+        (subst (λ (n : ℕ). n < length image) (sym at) (inside j 0 low))
         ∙ ap (λ (w : ℕ × List ℕ). w.1) is

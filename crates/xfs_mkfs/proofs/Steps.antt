@@ -1,10 +1,10 @@
 -- Writes, one after the other.
-use Rattle.std.proofs.Common.{◌≡◌, ℕ, zero, suc, ◌+◌, ◌-◌, ◌≤◌, ◌<◌, ◌⊎◌, inl, inr, List, [], ◌∷◌, ◌++◌, length, map, take, drop, get_or, min, slice_set, Option, Some, refl, ap, sym, subst, ◌∙◌, arith, length-append}
+use Rattle.std.proofs.Common.{◌≡◌, ℕ, ◌+◌, ◌≤◌, ◌<◌, ◌⊎◌, inl, inr, List, [], ◌∷◌, ◌++◌, length, map, take, drop, get_or, min, slice_set, Option, Some, refl, ap, sym, subst, ◌∙◌, arith}
 use Rattle.std.proofs.Math.Seq.{take-append-add}
 use Rattle.std.proofs.lemmas.Bool.{cases_lt}
-use Rattle.std.proofs.lemmas.List.{take_all, take_more, take-append-le, map-append, get_or-map, length-map, take-map}
+use Rattle.std.proofs.lemmas.List.{take_all, take_more, take-append-le, map-append, get_or-map, length-map}
 use Rattle.xfs_disk.specs.Blocks.{Image}
-use Rattle.xfs_mkfs.specs.Writing.{Writes, IsPartly, first_last, write_of, written, writes_of}
+use Rattle.xfs_mkfs.specs.Writing.{Writes, IsPartly, write_of, written, writes_of}
 use Rattle.xfs_mkfs.specs.declared.order.Row.{Row}
 
 -- some writes, one after the other

@@ -1,5 +1,5 @@
 -- The blocks of a plan in the order in which they are written, and what a disk then holds.
-use Rattle.std.specs.Prelude.{◌≡◌, ℕ, ◌+◌, ◌⊎◌, List, [], ◌∷◌, ◌++◌, length, map, take, drop, slice_index_or, slice_set, Option, Some}
+use Rattle.std.specs.Prelude.{◌≡◌, ℕ, ◌+◌, ◌⊎◌, List, [], ◌∷◌, ◌++◌, map, take, drop, slice_index_or, slice_set, Option, Some}
 use Rattle.std.specs.List.Sorted.{IsNonDecreasingBy, IsPermutation}
 use Rattle.xfs_disk.specs.Blocks.{Image}
 use Rattle.xfs_render.specs.Plans.{planned}

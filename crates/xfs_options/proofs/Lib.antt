@@ -6,4 +6,3 @@ pub mod Cutting
 pub mod Bad
 pub mod Few
 pub mod MakeLines
-pub mod Sound

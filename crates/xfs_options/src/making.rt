@@ -1,6 +1,6 @@
 //! The words of mkfs.xfs.
 
-ghost use Rattle.std.specs.Prelude.{◌≡◌, ℕ, ◌≤◌, ◌==◌, ◌&&◌, nat_le, length, if◌then◌else◌, Option, Some, None, Ok, Err, List, [], IfOk, IfErr};
+ghost use Rattle.std.specs.Prelude.{◌≡◌, ℕ, ◌≤◌, ◌==◌, ◌&&◌, nat_le, if◌then◌else◌, Option, Some, None, Ok, Err, List, [], IfOk, IfErr};
 ghost use Rattle.std.specs.List.{find};
 ghost use Rattle.std.specs.Option.{option_copied};
 ghost use Rattle.xfs_options.specs.Making.{counted, generated, identified, IsMakeCause, judged, last_value, make_line, make_of, make_options, OffendsFirstItem, sized, small, usage, value_in};
@@ -139,7 +139,6 @@ const MAKE_OPTIONS: [OptionRow; 13] = [
 /// Reads the words behind `mkfs.xfs`, whose numbers begin at 1.
 pub fn read_make_words(alloc: Global, rest: &[Word]) -> Result<MakeLine, MakeFault>
     ensures line { IfOk result (λ line. make_of rest.now ≡ Ok line) }
-    ensures label { IfOk result (λ line. length line.options.label ≤ 12) }
     ensures refusal { IfErr result (IsMakeCause (make_of rest.now)) }
     ensures offending { (n : ℕ) → result ≡ Err (MakeFault.Offends n) → OffendsFirst make_options rest.now n }
     ensures bad_item { (word item : ℕ) → result ≡ Err (MakeFault.BadOption word item) → OffendsFirstItem rest.now word item }

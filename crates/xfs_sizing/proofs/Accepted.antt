@@ -1,5 +1,5 @@
 -- A superblock with the numbers of a new volume is accepted, and states the volume.
-use Rattle.std.proofs.Common.{◌≡◌, ℕ, ◌+◌, ◌-◌, ◌*◌, ◌/◌, ◌%◌, ◌^◌, ◌≤◌, ◌<◌, Bool, true, false, not, ◌==◌, ◌&&◌, ◌||◌, leb, ltb, List, [], ◌∷◌, Option, Some, None, cond, IsTrue, arith, refl, sym, ap, ap₂, ◌∙◌}
+use Rattle.std.proofs.Common.{◌≡◌, ℕ, ◌+◌, ◌%◌, ◌≤◌, Bool, true, false, ◌==◌, ◌||◌, List, [], ◌∷◌, Option, Some, None, cond, IsTrue, arith, refl, sym, ap, ap₂, ◌∙◌}
 use Rattle.std.specs.Cmp.Derive.{both_true}
 use Rattle.std.proofs.Math.Nat.{zero-mod}
 use Rattle.std.proofs.lemmas.Bool.{eq-eqb, le-leb, lt-ltb, ne_eqb}
@@ -8,15 +8,14 @@ use Rattle.xfs_word.specs.Seal.{is_sealed, is_ready, has_magic}
 use Rattle.xfs_geom.specs.Conversions.{address_of}
 use Rattle.xfs_geom.specs.Features.{FeatureWord, feature_words, first_departure, refused_feature, or_else, departing_bits, departure_by}
 use Rattle.xfs_geom.specs.First.{first_false}
-use Rattle.xfs_geom.specs.Fixed.{fixed_words, fixed_tests, fixed_fault}
-use Rattle.xfs_geom.specs.Groups.{blocks_of_group}
-use Rattle.xfs_geom.specs.Shape.{HasGroups, HasLog, HasRoot, IsShaped}
+use Rattle.xfs_geom.specs.Fixed.{fixed_fault}
+use Rattle.xfs_geom.specs.Shape.{IsShaped}
 use Rattle.xfs_geom.specs.Stated.{stated, log_of, parts_fault, place_fault}
 use Rattle.xfs_geom.specs.Superblocks.{super_seal, progress_fault, feature_fault, shape_fault, super_fault}
 use Rattle.xfs_geom.specs.Volumes.{Volume, stated_volume}
 use Rattle.xfs_geom.specs.Writing.{IsAccepted}
 use Rattle.xfs_geom.specs.declared.reading.SuperFault.{SuperFault}
-use Rattle.xfs_geom.specs.declared.reading.SuperFault.TheVariants.{NotSealed, Shape}
+use Rattle.xfs_geom.specs.declared.reading.SuperFault.TheVariants.{NotSealed}
 use Rattle.xfs_geom.specs.declared.stated.Stated.{Stated}
 use Rattle.xfs_sizing.specs.Supers.{HasNumbers, Number, number, place_numbers, part_numbers, size_numbers, counter_numbers, feature_numbers}
 use Rattle.xfs_sizing.proofs.Numbers.{read}

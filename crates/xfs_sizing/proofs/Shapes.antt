@@ -1,12 +1,11 @@
 -- The shape of a new volume, from the bounds of its groups and its log.
-use Rattle.std.proofs.Common.{◌≡◌, ℕ, ◌+◌, ◌-◌, ◌*◌, ◌/◌, ◌%◌, ◌^◌, ◌≤◌, ◌<◌, zero, suc, Bool, true, false, ◌==◌, ◌&&◌, ◌||◌, leb, cond, Option, Some, None, IsTrue, arith, refl, sym, subst}
-use Rattle.std.proofs.Math.Nat.{div-eq_of_lt, mod-eq_of_lt, div-le_of_le-mul, lt-div-mul-add, mul-le-mul_right, mul-le-mul_left, div-lt_self, div-mul-le_self}
+use Rattle.std.proofs.Common.{◌≡◌, ℕ, ◌+◌, ◌-◌, ◌*◌, ◌/◌, ◌%◌, ◌^◌, ◌≤◌, ◌<◌, zero, suc, Bool, true, false, ◌==◌, ◌&&◌, ◌||◌, leb, cond, IsTrue, arith, refl}
+use Rattle.std.proofs.Math.Nat.{div-eq_of_lt, mod-eq_of_lt, div-le_of_le-mul, lt-div-mul-add, mul-le-mul_right}
 use Rattle.std.proofs.lemmas.Bool.{leb-true, le-leb, eqb-true}
-use Rattle.std.specs.Cmp.Derive.{both_true}
 use Rattle.xfs_geom.proofs.LogPlace.{place_of_block}
 use Rattle.xfs_geom.proofs.Votes.{left, right}
-use Rattle.xfs_geom.specs.Groups.{blocks_of_group, group_of_address, ag_block_of_address, block_of_address, address_of_inode}
-use Rattle.xfs_geom.specs.Shape.{HasAddresses, HasGroups, HasLog, HasRoot, IsShaped, chunk_of, is_apart}
+use Rattle.xfs_geom.specs.Groups.{blocks_of_group}
+use Rattle.xfs_geom.specs.Shape.{HasAddresses, HasGroups, HasLog, HasRoot, IsShaped, is_apart}
 use Rattle.xfs_sizing.specs.Sizes.{has_log, parts}
 use Rattle.xfs_sizing.specs.declared.sizes.Groups.{Groups}
 

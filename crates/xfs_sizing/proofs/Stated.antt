@@ -1,10 +1,10 @@
 -- What a new superblock states, by its numbers.
-use Rattle.std.proofs.Common.{◌≡◌, ℕ, ◌+◌, ◌-◌, ◌*◌, ◌/◌, ◌%◌, ◌^◌, ◌≤◌, ◌<◌, Bool, true, false, ◌==◌, ◌≢◌, cond, arith, refl, ap}
+use Rattle.std.proofs.Common.{◌≡◌, ℕ, ◌+◌, ◌-◌, ◌*◌, ◌/◌, ◌%◌, ◌^◌, ◌≤◌, ◌<◌, Bool, true, false, ◌==◌, ◌≢◌, cond, arith, refl}
 use Rattle.std.proofs.lemmas.Bool.{eqb-false}
 use Rattle.std.proofs.Math.Nat.{mod-lt, mul-le-mul_right}
 use Rattle.std.proofs.lemmas.Nat.{div-add-mod', div-mul-add, mod-mul-add}
 use Rattle.xfs_geom.specs.Conversions.{address_of}
-use Rattle.xfs_geom.specs.Groups.{blocks_of_group, group_of_address, ag_block_of_address, block_of_address}
+use Rattle.xfs_geom.specs.Groups.{group_of_address, ag_block_of_address, block_of_address}
 use Rattle.xfs_geom.specs.Shape.{HasGroups, HasLog}
 use Rattle.xfs_geom.specs.Volumes.{Volume}
 

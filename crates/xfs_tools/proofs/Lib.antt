@@ -1,3 +1,4 @@
+pub mod Labels
 pub mod Making
 pub mod Offending
 pub mod Refusing

@@ -137,11 +137,7 @@ fn made_answer(outcome: MakeOutcome) -> Answer
 }
 
 /// Puts the line of the answer, but not that of a volume that was made where it is to be left out.
-fn tell_making<O: Sink, E: Sink>(
-    out: &mut O,
-    err: &mut E,
-    making: Making,
-) -> Result<(), Failed>
+fn tell_making<O: Sink, E: Sink>(out: &mut O, err: &mut E, making: Making) -> Result<(), Failed>
     ensures { IsToldUnless (making.quiet && is_made making.answer) O.took O.faults E.took E.faults out.old out.new err.old err.new making.answer result }
 {
     if making.quiet && is_made(making.answer) {

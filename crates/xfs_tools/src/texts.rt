@@ -144,11 +144,7 @@ fn put_no_room<S: Sink>(sink: &mut S, place: Place) -> Result<(), Failed>
             &[("xfs: no room: directory ", Number::Decimal(ino))],
             "\n",
         ),
-        Place::File(ino) => put_line(
-            sink,
-            &[("xfs: no room: file ", Number::Decimal(ino))],
-            "\n",
-        ),
+        Place::File(ino) => put_line(sink, &[("xfs: no room: file ", Number::Decimal(ino))], "\n"),
         Place::Chunk => put_line(sink, &[], "xfs: no room: chunk\n"),
         Place::LostFound => put_line(sink, &[], "xfs: no room: lost+found\n"),
     }

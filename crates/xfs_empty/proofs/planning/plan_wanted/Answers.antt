@@ -1,7 +1,6 @@
-use Rattle.std.proofs.Common.{◌<◌, length, arith}
+use Rattle.std.proofs.Common.{arith}
 use Rattle.xfs_empty.proofs.Planned.{planned_low}
 use Rattle.xfs_empty.proofs.Room.{has_room}
-use Rattle.xfs_empty.specs.Planning.{StandsFor}
 use Rattle.xfs_empty.proofs.planning.plan_wanted.Goals as goal
 
 pub place-requires-clause-asks : goal.place-requires-clause-asks

@@ -1,4 +1,4 @@
-use Rattle.std.proofs.Common.{◌≡◌, ℕ, ◌≤◌, arith, sym, subst}
+use Rattle.std.proofs.Common.{ℕ, ◌≤◌, arith, sym, subst}
 use Rattle.xfs_geom.specs.Volumes.{volume_of}
 use Rattle.xfs_empty.proofs.Kept.{many}
 use Rattle.xfs_mkfs.proofs.Geometries.{on_disk}

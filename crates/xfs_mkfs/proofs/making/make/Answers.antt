@@ -1,4 +1,4 @@
-use Rattle.std.proofs.Common.{◌≡◌, ℕ, ◌≤◌, ◌<◌, List, Err, arith, sym, subst, ◌∙◌}
+use Rattle.std.proofs.Common.{◌≡◌, ℕ, List, Err, arith, sym, subst, ◌∙◌}
 use Rattle.xfs_disk.specs.Blocks.{IsImage}
 use Rattle.xfs_mkfs.specs.Outcome.{IsCaused, IsDue, IsPlanned, Leaves}
 use Rattle.xfs_mkfs.specs.Putting.{HasPutCause}

@@ -1,4 +1,4 @@
-use Rattle.std.proofs.Common.{◌≡◌, ◌∙◌, ◌++◌, ℕ, List, [], ap, ap₂, length}
+use Rattle.std.proofs.Common.{◌∙◌, ◌++◌, ℕ, List, ap, ap₂, length}
 use Rattle.xfs_mkfs.specs.Writing.{rows_from}
 use Rattle.xfs_mkfs.specs.declared.order.Row.{Row}
 use Rattle.xfs_mkfs.proofs.Rows.{both_parts}

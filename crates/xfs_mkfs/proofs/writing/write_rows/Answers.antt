@@ -1,4 +1,4 @@
-use Rattle.std.proofs.Common.{◌≡◌, ℕ, ◌+◌, ◌-◌, List, length, map, take, drop, Some, ap, subst}
+use Rattle.std.proofs.Common.{◌≡◌, ◌+◌, List, length, map, drop, Some, ap, subst}
 use Rattle.std.proofs.lemmas.List.{take_rest}
 use Rattle.xfs_mkfs.specs.Writing.{write_of, written}
 use Rattle.xfs_mkfs.specs.declared.order.Row.{Row}

@@ -1,5 +1,4 @@
 use Rattle.xfs_options.proofs.MakeLines.{item_first, make_first}
-use Rattle.xfs_options.proofs.Sound.{label_if}
 use Rattle.xfs_options.proofs.making.read_make_words.Goals as goal
 
 pub returns-clause-offending : goal.returns-clause-offending
@@ -7,6 +6,3 @@ returns-clause-offending c = λ n refusal. make_first c.args.rest.now n (rw refu
 
 pub returns-clause-bad_item : goal.returns-clause-bad_item
 returns-clause-bad_item c = λ word item refusal. item_first c.args.rest.now word item (rw refusal at c.read_line.ensures.refusal)
-
-pub returns-clause-label : goal.returns-clause-label
-returns-clause-label c = label_if c.args.rest.now c.read_line.result c.read_line.ensures.line

@@ -1,4 +1,4 @@
-use Rattle.std.proofs.Common.{◌≡◌, ℕ, ◌+◌, ◌-◌, inr, List, length, replicate, arith, refl, ◌∙◌}
+use Rattle.std.proofs.Common.{◌+◌, ◌-◌, inr, length, replicate, arith, refl, ◌∙◌}
 use Rattle.xfs_geom.specs.Volumes.{volume_of}
 use Rattle.xfs_sizing.proofs.Accepted.{HasAll, IsNew, accepted, ready, volume_stated}
 use Rattle.xfs_sizing.proofs.Carried.{HasParts, all_sealed, all_stand, new_super, uuid_stands}

@@ -1,3 +1,4 @@
+use Rattle.xfs_tools.proofs.Labels.{line_label}
 use Rattle.xfs_tools.proofs.Making.{line_is_making, refused_is_making}
 use Rattle.xfs_tools.proofs.maker.make_words.Goals as goal
 
@@ -7,3 +8,6 @@ returns-in-Ok-clause-ended g c =
 
 pub returns-in-Err-clause-ended : goal.returns-in-Err-clause-ended
 returns-in-Err-clause-ended g c = refused_is_making _ c.in-Err.fault c.in-Err.ensures.refusal _ _ _ _ c.refused.ensures
+
+pub make_line-requires : goal.make_line-requires
+make_line-requires g c = line_label c.args.words.now c.in-Ok.line c.in-Ok.ensures.line

@@ -1,16 +1,14 @@
--- The values of options that were read are of the forms that their rows state.
-use Rattle.std.proofs.Common.{◌≡◌, ℕ, ◌+◌, ◌≤◌, ◌==◌, ◌&&◌, Bool, true, false, cond, nat_le, not, List, [], ◌∷◌, ◌++◌, length, Option, Some, None, Result, Ok, Err, bytes_eq, codes, refl, sym, subst, arith}
-use Rattle.std.specs.Prelude.{IfOk}
+-- The label that words give is short, as the values of options that were read are of the forms that their rows state.
+use Rattle.std.proofs.Common.{◌≡◌, ℕ, ◌+◌, ◌≤◌, ◌==◌, Bool, true, false, cond, nat_le, not, List, [], ◌∷◌, ◌++◌, length, Option, Some, None, Result, Ok, Err, bytes_eq, codes, refl, sym, subst, arith}
 use Rattle.std.specs.List.{All, list_any}
 use Rattle.std.proofs.lemmas.Bool.{and_parts, eqb-true, leb-true}
 use Rattle.std.proofs.lemmas.List.Elements.{All-append, All-cons, All-head, All-nil, All-tail}
-use Rattle.xfs_options.specs.Making.{Refusal, judged_by, label_of, last_from, last_value, make_from, make_line, make_of, make_options}
+use Rattle.xfs_options.specs.Making.{judged_by, label_of, last_from, last_value, make_from, make_line, make_of, make_options}
 use Rattle.xfs_options.specs.Options.{accepts, is_label, row_of}
 use Rattle.xfs_options.specs.SubOptions.{first_bad, items_of}
-use Rattle.xfs_options.specs.Words.{Words, Read, after_form, after_letters, after_option, after_rest, after_row, after_value, after_word, after_words, free_row, is_free, is_option, options_of, reading_of, row_for, settled}
+use Rattle.xfs_options.specs.Words.{Words, Read, after_form, after_letters, after_option, after_rest, after_row, after_value, after_word, after_words, free_row, is_free, is_option, options_of, reading_of, settled}
 use Rattle.xfs_options.specs.Words.Read.{in_options, in_value, in_image, complete, offended}
 use Rattle.xfs_options.specs.declared.items.Item.{Item}
-use Rattle.xfs_options.specs.declared.making.MakeFault.{MakeFault}
 use Rattle.xfs_options.specs.declared.making.MakeLine.{MakeLine}
 use Rattle.xfs_options.specs.declared.options.OptionRow.{OptionRow}
 use Rattle.xfs_options.specs.declared.options.ValueForm.{ValueForm}
@@ -162,8 +160,3 @@ by_said rest (Err n) accepted line is = cc
 pub line_label : (rest : Words) (line : MakeLine) → make_of rest ≡ Ok line → length line.options.label ≤ 12
 unfolding make_of
 line_label rest line is = by_said rest (options_of make_options rest) refl line is
-
--- so is that of a line that was read
-pub label_if : (rest : Words) (read : Result MakeLine MakeFault) → IfOk read (λ line. make_of rest ≡ Ok line) → IfOk read (λ line. length line.options.label ≤ 12)
-label_if rest (Ok line) is = line_label rest line is
-label_if rest (Err fault) is = tt
