@@ -61,7 +61,7 @@ made_numbers made =
     ∷ (codes "+", Decimal made.logblocks) ∷ (codes " root=", Decimal made.rootino) ∷ []
 
 abbrev pub made_text : MadeSummary → List ℕ
-made_text made = line (made_numbers made) (codes " uuid=") ++ (hyphenated_text made.uuid ++ codes "\n")
+made_text made = line (made_numbers made) (codes " uuid=") ++ (hyphenated_text 97 made.uuid ++ codes "\n")
 
 -- the line of an answer
 abbrev pub text_of : Answer → List ℕ

@@ -1,6 +1,6 @@
 //! mkfs.xfs: the volume that words ask for, and the line that tells of it.
 
-ghost use Rattle.std.specs.Prelude.{◌≡◌, ◌≤◌, ◌&&◌, Bool, Result, length};
+ghost use Rattle.std.specs.Prelude.{◌≡◌, ◌≤◌, ◌&&◌, Bool, Result, false, length};
 ghost use Rattle.xfs_disk.specs.declared.failed.Failed.{Failed};
 ghost use Rattle.xfs_options.specs.Making.{make_of};
 ghost use Rattle.xfs_tools.specs.Answers.{status_of};

@@ -177,7 +177,7 @@ fn put_made_numbers<S: Sink>(sink: &mut S, made: &MadeSummary) -> Result<(), Fai
 
 /// Puts an identifier, and ends the line.
 fn put_identifier<S: Sink>(sink: &mut S, identifier: [u8; 16]) -> Result<(), Failed>
-    ensures { Puts (S.took sink.old) (S.took sink.new) (S.faults sink.old) (S.faults sink.new) (hyphenated_text identifier ++ codes "\n") result }
+    ensures { Puts (S.took sink.old) (S.took sink.new) (S.faults sink.old) (S.faults sink.new) (hyphenated_text 97 identifier ++ codes "\n") result }
 {
     let mut buffer = Uuid::encode_buffer();
     let hyphenated = Uuid::from_bytes(identifier).hyphenated();
