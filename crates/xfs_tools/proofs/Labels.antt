@@ -8,7 +8,6 @@ use Rattle.xfs_options.specs.Options.{accepts, is_label, row_of}
 use Rattle.xfs_options.specs.SubOptions.{first_bad, items_of}
 use Rattle.xfs_options.specs.Words.{Words, Read, after_form, after_letters, after_option, after_rest, after_row, after_value, after_word, after_words, free_row, is_free, is_option, options_of, reading_of, settled}
 use Rattle.xfs_options.specs.Words.Read.{in_options, in_value, in_image, complete, offended}
-use Rattle.xfs_options.specs.declared.items.Item.{Item}
 use Rattle.xfs_options.specs.declared.making.MakeLine.{MakeLine}
 use Rattle.xfs_options.specs.declared.options.OptionRow.{OptionRow}
 use Rattle.xfs_options.specs.declared.options.ValueForm.{ValueForm}
@@ -144,16 +143,23 @@ label_short : (label : Option (List ℕ)) → HasLabel label → length (label_o
 label_short None has = omega arith
 label_short (Some label) has = leb-true (length label) 12 (and_parts (nat_le (length label) 12) (not (list_any (λ byte. byte == 0) label)) has).0
 
-by_found : (found : Option Item) (given : List Given) (items : List Item) (line : MakeLine) → AreSound make_options given → judged_by found given items ≡ Ok line
-    → length line.options.label ≤ 12
-by_found None given items line sound is =
+-- what is said where nothing is found, of what says otherwise where something is
+none_found : {I : Type 0} (f : Option I → Result MakeLine Refusal) (line : MakeLine) → ((i : I) → f (Some i) ≡ Ok line → ⊥) → (found : Option I)
+    → f found ≡ Ok line → f None ≡ Ok line
+none_found f line never None is = is
+none_found f line never (Some i) is = absurd (never i is)
+
+by_given : (given : List Given) (line : MakeLine) → AreSound make_options given → judged given ≡ Ok line → length line.options.label ≤ 12
+by_given given line sound is =
+    let items = items_of given in
+    let said : judged_by None given items ≡ Ok line =
+    none_found (λ found. judged_by found given items) line (λ i refused. cc) (first_bad [] items) is in
     let same : make_line given items ≡ line = cc in
     subst (λ (l : MakeLine). length l.options.label ≤ 12) same (label_short (last_value 76 given) (last_label None given tt sound))
-by_found (Some item) given items line sound is = cc
 
 by_said : (rest : Words) (said : Result (List Given) ℕ) → options_of make_options rest ≡ said → (line : MakeLine) → make_from said ≡ Ok line → length line.options.label ≤ 12
 by_said rest (Ok given) accepted line is =
-    by_found (first_bad [] (items_of given)) given (items_of given) line (options_sound make_options rest given accepted) is
+    by_given given line (options_sound make_options rest given accepted) is
 by_said rest (Err n) accepted line is = cc
 
 -- the label of a command line is short

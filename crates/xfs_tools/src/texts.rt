@@ -158,7 +158,7 @@ fn put_made<S: Sink>(sink: &mut S, made: &MadeSummary) -> Result<(), Failed>
         Ok(()) => {}
         Err(Failed) => return Err(Failed),
     }
-    put_identifier(sink, made.uuid)
+    put_identifier_line(sink, made.uuid)
 }
 
 /// Puts the numbers of a volume that was made, and what stands before its identifier.
@@ -176,16 +176,23 @@ fn put_made_numbers<S: Sink>(sink: &mut S, made: &MadeSummary) -> Result<(), Fai
 }
 
 /// Puts an identifier, and ends the line.
-fn put_identifier<S: Sink>(sink: &mut S, identifier: [u8; 16]) -> Result<(), Failed>
+fn put_identifier_line<S: Sink>(sink: &mut S, identifier: [u8; 16]) -> Result<(), Failed>
     ensures { Puts (S.took sink.old) (S.took sink.new) (S.faults sink.old) (S.faults sink.new) (hyphenated_text 97 identifier ++ codes "\n") result }
 {
-    let mut buffer = Uuid::encode_buffer();
-    let hyphenated = Uuid::from_bytes(identifier).hyphenated();
-    match put_text(sink, hyphenated.encode_lower(&mut buffer)) {
+    match put_identifier(sink, identifier) {
         Ok(()) => {}
         Err(Failed) => return Err(Failed),
     }
     put_text(sink, "\n")
+}
+
+/// Puts an identifier, in lower case.
+fn put_identifier<S: Sink>(sink: &mut S, identifier: [u8; 16]) -> Result<(), Failed>
+    ensures { Puts (S.took sink.old) (S.took sink.new) (S.faults sink.old) (S.faults sink.new) (hyphenated_text 97 identifier) result }
+{
+    let mut buffer = Uuid::encode_buffer();
+    let hyphenated = Uuid::from_bytes(identifier).hyphenated();
+    put_text(sink, hyphenated.encode_lower(&mut buffer))
 }
 
 /// Puts the line of a finding.

@@ -1,8 +1,5 @@
-use Rattle.xfs_tools.proofs.Telling.{puts_failed, puts_then}
+use Rattle.xfs_tools.proofs.Telling.{puts_then}
 use Rattle.xfs_tools.proofs.texts.put_made.Goals as goal
 
 pub returns : goal.returns
-returns g c = puts_then _ _ _ _ _ _ _ _ _ _ c.in-Ok.ensures c.put_identifier.ensures
-
-pub returns-in-Err : goal.returns-in-Err
-returns-in-Err g c = puts_failed _ _ _ _ _ _ _ c.in-Err.ensures
+returns g c = puts_then _ _ _ _ _ _ _ _ _ _ c.in-Ok.ensures c.put_identifier_line.ensures
