@@ -3,7 +3,7 @@ use Rattle.std.proofs.Common.{◌≡◌, ℕ, ◌+◌, ◌≤◌, ◌==◌, Bool
 use Rattle.std.specs.List.{All, list_any}
 use Rattle.std.proofs.lemmas.Bool.{and_parts, eqb-true, leb-true}
 use Rattle.std.proofs.lemmas.List.Elements.{All-append, All-cons, All-head, All-nil, All-tail}
-use Rattle.xfs_options.specs.Making.{judged_by, label_of, last_from, last_value, make_from, make_line, make_of, make_options}
+use Rattle.xfs_options.specs.Making.{Refusal, judged, judged_by, label_of, last_from, last_value, make_from, make_line, make_of, make_options}
 use Rattle.xfs_options.specs.Options.{accepts, is_label, row_of}
 use Rattle.xfs_options.specs.SubOptions.{first_bad, items_of}
 use Rattle.xfs_options.specs.Words.{Words, Read, after_form, after_letters, after_option, after_rest, after_row, after_value, after_word, after_words, free_row, is_free, is_option, options_of, reading_of, settled}
