@@ -9,5 +9,5 @@ returns-in-Ok-clause-ended g c =
 pub returns-in-Err-clause-ended : goal.returns-in-Err-clause-ended
 returns-in-Err-clause-ended g c = refused_is_making _ c.in-Err.fault c.in-Err.ensures.refusal _ _ _ _ c.refused.ensures
 
-pub make_line-requires : goal.make_line-requires
-make_line-requires g c = line_label c.args.words.now c.in-Ok.line c.in-Ok.ensures.line
+pub make_line-requires-clause-label : goal.make_line-requires-clause-label
+make_line-requires-clause-label g c = line_label c.args.words.now c.in-Ok.line c.in-Ok.ensures.line
