@@ -10,4 +10,4 @@ pub returns-in-Err-clause-ended : goal.returns-in-Err-clause-ended
 returns-in-Err-clause-ended g c = refused_is_making _ c.in-Err.fault c.in-Err.ensures.refusal _ _ _ _ c.refused.ensures
 
 pub make_line-requires-clause-label : goal.make_line-requires-clause-label
-make_line-requires-clause-label g c = line_label c.args.words.now c.in-Ok.line c.in-Ok.ensures.line
+make_line-requires-clause-label g c = λ κs lives. line_label c.args.words.now c.in-Ok.line c.in-Ok.ensures.line
