@@ -7,10 +7,9 @@ set -eu
 top=$(cd "$(dirname "$0")/.." && pwd)
 work=$(mktemp -d)
 trap 'rm -rf "$work"' EXIT
-measure() { # COMMAND..: seconds, seconds of the processors and KiB of one run
-  local status=0
-  /usr/bin/time -f '%e %U %S %M' -o "$work/time" "$@" > "$work/out" 2>&1 || status=$?
-  tail -1 "$work/time" | awk -v status="$status" '{ print $1, $2 + $3, $4, status }'
+measure() { # COMMAND..: seconds, seconds of the processors and KiB of one run, whatever its status is
+  /usr/bin/time -f '%e %U %S %M' -o "$work/time" "$@" > "$work/out" 2>&1 || true
+  tail -1 "$work/time" | awk '{ print $1, $2 + $3, $4 }'
 }
 for image in "$@"; do
   cat "$image" > /dev/null
@@ -22,13 +21,5 @@ for image in "$@"; do
     measure xfs_repair -n -f "$image" >> "$work/theirs"
   done
   echo "$(basename "$image"): $(cat "$work/said")"
-  paste -d ' ' "$work/ours" "$work/theirs" | awk '
-    function least(now, was) { return NR == 1 || now < was ? now : was }
-    { for (i = 1; i <= 8; i++) best[i] = least($i, best[i]) }
-    function ratio(a, b) { return b > 0 ? sprintf("%.2f", a / b) : "-" }
-    END {
-      printf "  xfs        %6.2f s  %6.2f s of the processors  %8d KiB\n", best[1], best[2], best[3]
-      printf "  xfsprogs   %6.2f s  %6.2f s of the processors  %8d KiB  (status %d)\n", best[5], best[6], best[7], best[8]
-      printf "  ratio      %6s    %6s                       %8s\n", ratio(best[1], best[5]), ratio(best[2], best[6]), ratio(best[3], best[7])
-    }'
+  paste -d ' ' "$work/ours" "$work/theirs" | awk -f "$top/bench/beside.awk"
 done

@@ -24,13 +24,5 @@ for row in '1G 4' '16G 64'; do
       -i size=512,sparse=1,nrext64=0 -s size=512 "$work/image" >> "$work/theirs"
   done
   echo "$size, $groups groups"
-  paste -d ' ' "$work/ours" "$work/theirs" | awk '
-    function least(now, was) { return NR == 1 || now < was ? now : was }
-    { for (i = 1; i <= 6; i++) best[i] = least($i, best[i]) }
-    function ratio(a, b) { return b > 0 ? sprintf("%.2f", a / b) : "-" }
-    END {
-      printf "  xfs        %6.2f s  %6.2f s of the processors  %8d KiB\n", best[1], best[2], best[3]
-      printf "  xfsprogs   %6.2f s  %6.2f s of the processors  %8d KiB\n", best[4], best[5], best[6]
-      printf "  ratio      %6s    %6s                       %8s\n", ratio(best[1], best[4]), ratio(best[2], best[5]), ratio(best[3], best[6])
-    }'
+  paste -d ' ' "$work/ours" "$work/theirs" | awk -f "$top/bench/beside.awk"
 done
