@@ -10,36 +10,7 @@ work=$(mktemp -d)
 trap 'rm -rf "$work"' EXIT
 failed=0
 
-# a protofile of directories of every form: short, one block, with one index block, with a tree of them; files of some
-# sizes, links with short and long targets, devices, pipes
-protofile() { # COUNT: the names in the largest directory
-  head -c 10000 /dev/urandom > "$work/bytes"
-  : > "$work/empty"
-  printf 'x 0 0\nd--755 0 0\n'
-  printf 'bytes ---644 3 4 %s\nempty ---600 0 0 %s\n' "$work/bytes" "$work/empty"
-  printf 'short l--777 0 0 bytes\nlong l--777 0 0 %s\n' "$(printf 'd/%.0s' $(seq 1 160))"
-  printf 'pipe p--600 0 0\nblock b--600 0 0 8 1\ncharacter c--600 0 0 5 1\nset -ug755 1 1 %s\n' "$work/empty"
-  local count name
-  for count in 0 3 24 60 400 "$1"; do
-    printf 'names%d d--755 0 0\n' "$count"
-    for ((name = 0; name < count; name++)); do
-      printf 'file-%06d-of-a-directory ---644 0 0 %s\n' "$name" "$([ $((name % 50)) = 0 ] && echo "$work/bytes" || echo "$work/empty")"
-    done
-    printf '$\n'
-  done
-  printf 'deep d--755 0 0\n'
-  for name in 1 2 3 4 5 6 7 8; do printf 'd%d d--755 0 0\n' "$name"; done
-  for name in 1 2 3 4 5 6 7 8; do printf '$\n'; done
-  printf '$\n$\n'
-}
-make_image() { # IMAGE SIZE PROTOFILE OPTION..
-  local image=$1 size=$2 proto=$3
-  shift 3
-  rm -f "$image"
-  truncate -s "$size" "$image"
-  mkfs.xfs -q -f -m crc=1,finobt=1,rmapbt=1,reflink=0,bigtime=0,inobtcount=0 -i size=512,sparse=1,nrext64=0 -s size=512 \
-    ${proto:+-p "$proto"} "$@" "$image" > /dev/null
-}
+. "$top/examples/volumes.sh"
 expect() { # NAME PATTERN IMAGE
   local said
   said=$("$top/xfs" xfs_repair -n "$3" 2>&1) || true
