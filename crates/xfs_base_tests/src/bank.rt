@@ -3,6 +3,7 @@
 ghost use Rattle.std.specs.Prelude.{◌≡◌, ◌<◌, IfOk, length};
 ghost use Rattle.xfs_bank.specs.Bank.{AreCuts};
 
+use crate::checks::same;
 use std::alloc::Global;
 use std::process::Abort;
 use std::test::Fail;
@@ -26,7 +27,7 @@ fn assert_blocks(rt: &impl Abort, bank: &BlockBank, first: &[u8], others: &[u8])
     for (i, (first, other)) in first.iter().zip(others).enumerate() {
         assert!(rt; i < bank.len());
         let block = bank.view(i);
-        assert_eq!(rt; block[0], *first, "byte 0 of block {i}");
+        same!(rt; block[0], *first; i);
         assert!(rt; block[1..].iter().all(|byte| *byte == *other), "block {i}");
     }
 }
@@ -49,9 +50,9 @@ fn number_parts<R: Threads + Sync>(rt: &R, bank: &mut BlockBank, cuts: &[usize])
 fn filled_and_marked(rt: HostRuntime) -> Result<(), Fail> {
     let mut disk = three_blocks(rt.alloc())?;
     let mut bank = BlockBank::make(rt.alloc(), 3)?;
-    assert_eq!(rt; bank.len(), 3);
+    same!(rt; bank.len(), 3);
     assert_blocks(&rt, &bank, &[0, 0, 0], &[0, 0, 0]);
-    assert_eq!(rt; bank.fill(&mut disk, &[2, 0, 1]), Ok(()));
+    same!(rt; bank.fill(&mut disk, &[2, 0, 1]), Ok(()));
     assert_blocks(&rt, &bank, &[12, 10, 11], &[12, 10, 11]);
     bank.each_part(
         &rt,
@@ -87,8 +88,8 @@ fn filled_up_to_a_failed_read(rt: HostRuntime) -> Result<(), Fail> {
     let mut disk = three_blocks(rt.alloc())?;
     disk.fail(2)?;
     let mut bank = BlockBank::make(rt.alloc(), 3)?;
-    assert_eq!(rt; bank.fill(&mut disk, &[2, 0, 1]), Err(Failed));
-    assert_eq!(rt; disk.faults(), 1);
+    same!(rt; bank.fill(&mut disk, &[2, 0, 1]), Err(Failed));
+    same!(rt; disk.faults(), 1);
     assert_blocks(&rt, &bank, &[12, 0, 0], &[12, 0, 0]);
     Ok(())
 }

@@ -3,6 +3,7 @@
 ghost use Rattle.std.specs.Prelude.{◌+◌, ◌≤◌, IfOk};
 ghost use Rattle.xfs_geom.specs.Writing.{IsAccepted};
 
+use crate::checks::same;
 use std::alloc::Global;
 use std::process::Abort;
 use std::test::Fail;
@@ -194,7 +195,7 @@ fn elections(rt: HostRuntime) -> Result<(), Fail> {
     ];
     for (name, supers, answer) in cases {
         let elected = elect_of(&rt, rt.alloc(), &supers)?;
-        assert_eq!(rt; elected.map(|e| e.from), answer, "{name}");
+        same!(rt; elected.map(|e| e.from), answer; name);
     }
     Ok(())
 }
@@ -214,12 +215,12 @@ fn writing(rt: HostRuntime) -> Result<(), Fail> {
     };
     let mut sector = [0; SECTOR_SIZE];
     write_super(&elected.sector, &counts, &mut sector);
-    assert_eq!(rt; RBMINO.read(&sector), 129);
-    assert_eq!(rt; RSUMINO.read(&sector), 130);
-    assert_eq!(rt; ICOUNT.read(&sector), 32);
-    assert_eq!(rt; IFREE.read(&sector), 29);
-    assert_eq!(rt; FDBLOCKS.read(&sector), 7);
-    assert_eq!(rt; IMAX_PCT.read(&sector), 25);
+    same!(rt; RBMINO.read(&sector), 129);
+    same!(rt; RSUMINO.read(&sector), 130);
+    same!(rt; ICOUNT.read(&sector), 32);
+    same!(rt; IFREE.read(&sector), 29);
+    same!(rt; FDBLOCKS.read(&sector), 7);
+    same!(rt; IMAX_PCT.read(&sector), 25);
     assert!(rt; read_super(&sector, 0, 2048).is_ok());
     Ok(())
 }
@@ -227,9 +228,9 @@ fn writing(rt: HostRuntime) -> Result<(), Fail> {
 #[test]
 fn conversions(rt: HostRuntime) -> Result<(), Fail> {
     let geometry = read_super(&superblock(&UNEVEN_GROUPS), 0, 2000)?;
-    assert_eq!(rt; geometry.log, 1106);
-    assert_eq!(rt; geometry.group_length(0), 1100);
-    assert_eq!(rt; geometry.group_length(1), 900);
+    same!(rt; geometry.log, 1106);
+    same!(rt; geometry.group_length(0), 1100);
+    same!(rt; geometry.group_length(1), 900);
     let addresses = [
         (0, Some(0)),
         (1099, Some(1099)),
@@ -241,16 +242,12 @@ fn conversions(rt: HostRuntime) -> Result<(), Fail> {
         (4096, None),
     ];
     for (address, block) in addresses {
-        assert_eq!(rt; geometry.block_of_address(address), block, "{address}");
-        assert_eq!(rt;
-            geometry.slot_of_inode(address * 8 + 5),
-            block.map(|b| (b, 5)),
-            "{address}"
-        );
+        same!(rt; geometry.block_of_address(address), block; address);
+        same!(rt; geometry.slot_of_inode(address * 8 + 5), block.map(|b| (b, 5)); address);
         if let Some(block) = block {
             assert!(rt; block < geometry.dblocks);
-            assert_eq!(rt; geometry.address_of_block(block), address);
-            assert_eq!(rt; geometry.inode_of_slot(block, 5), address * 8 + 5);
+            same!(rt; geometry.address_of_block(block), address);
+            same!(rt; geometry.inode_of_slot(block, 5), address * 8 + 5);
         }
     }
     for (block, fixed) in [
@@ -263,7 +260,7 @@ fn conversions(rt: HostRuntime) -> Result<(), Fail> {
         (1618, false),
     ] {
         assert!(rt; block < geometry.dblocks);
-        assert_eq!(rt; geometry.is_fixed(block), fixed, "{block}");
+        same!(rt; geometry.is_fixed(block), fixed; block);
     }
     Ok(())
 }

@@ -1,5 +1,6 @@
 //! Whole command lines. Words stand between bars, and so do commands.
 
+use crate::checks::same;
 use std::alloc::Global;
 use std::test::Fail;
 use xfs_disk::{NoMemory, Word};
@@ -61,15 +62,12 @@ fn lines_of_the_debugger(rt: HostRuntime) -> Result<(), Fail> {
         let words = words(rt.alloc(), text)?;
         match (read_debug_words(rt.alloc(), &words), due) {
             (Ok(line), Ok((read_only, expert, commands))) => {
-                assert_eq!(rt; line.read_only, read_only);
-                assert_eq!(rt; line.expert, expert);
-                assert_eq!(rt;
-                    text_of(rt.alloc(), &line.commands)?.as_slice(),
-                    commands.as_bytes()
-                );
+                same!(rt; line.read_only, read_only);
+                same!(rt; line.expert, expert);
+                same!(rt; text_of(rt.alloc(), &line.commands)?.as_slice(), commands.as_bytes());
             }
-            (Err(fault), Err(word)) => assert_eq!(rt; fault, LineFault::Offends(word)),
-            _ => assert_eq!(rt; text, "another kind of answer"),
+            (Err(fault), Err(word)) => same!(rt; fault, LineFault::Offends(word)),
+            _ => same!(rt; text, "another kind of answer"),
         }
     }
     Ok(())
@@ -177,19 +175,16 @@ fn lines_of_the_maker(rt: HostRuntime) -> Result<(), Fail> {
             (Ok(line), Ok(numbers)) => {
                 let options = &line.options;
                 let files = options.generate.map(u64::from);
-                assert_eq!(rt;
-                    [
+                same!(rt; [
                         options.blocks,
                         options.agcount,
                         options.agblocks,
                         options.logblocks,
                         files
-                    ],
-                    numbers
-                );
+                    ], numbers);
             }
-            (Err(fault), Err(due)) => assert_eq!(rt; fault, due),
-            _ => assert_eq!(rt; text, "another kind of answer"),
+            (Err(fault), Err(due)) => same!(rt; fault, due),
+            _ => same!(rt; text, "another kind of answer"),
         }
     }
     Ok(())
@@ -214,12 +209,12 @@ fn values_of_the_maker(rt: HostRuntime) -> Result<(), Fail> {
     let uuid = [
         0, 0x11, 0x22, 0x33, 0x44, 0x55, 0x66, 0x77, 0x88, 0x99, 0xaa, 0xbb, 0xcc, 0xdd, 0xee, 0xff,
     ];
-    assert_eq!(rt; given, Some(uuid));
-    assert_eq!(rt; label.bytes(), b"b c".as_slice());
+    same!(rt; given, Some(uuid));
+    same!(rt; label.bytes(), b"b c".as_slice());
     let Some(proto) = proto else {
         return Err(Fail::from("no protofile is named"));
     };
-    assert_eq!(rt; proto.bytes(), b"P".as_slice());
+    same!(rt; proto.bytes(), b"P".as_slice());
     assert!(rt; force && quiet);
     Ok(())
 }

@@ -2,6 +2,7 @@
 
 ghost use Rattle.std.specs.Prelude.{◌≡◌, ◌+◌, ◌^◌, ◌<◌, ◌≤◌};
 
+use crate::checks::same;
 use std::alloc::Global;
 use std::marker::Brand;
 use std::mem;
@@ -67,13 +68,13 @@ fn try_all<L: Ledger, R: Abort>(rt: &R, alloc: Global, blank: Blank) -> Result<(
     for (start, count, met) in PUT {
         if count > 0 {
             let found = put(&mut set, u64::from(start), u64::from(count), &mut steps)?;
-            assert_eq!(rt; found, met, "{start}");
+            same!(rt; found, met; start);
         }
     }
     for (start, count, met) in ASKED {
         if count > 0 {
             let found = set.meets(u64::from(start), u64::from(count), &mut steps);
-            assert_eq!(rt; found, met, "{start}");
+            same!(rt; found, met; start);
         }
     }
     Ok(())
@@ -86,5 +87,5 @@ fn runs_in_turn(rt: HostRuntime) -> Result<(), Fail> {
 
 #[test]
 fn steps_take_no_bytes(rt: HostRuntime) {
-    assert_eq!(rt; mem::size_of::<Steps<Brand>>(), 0);
+    same!(rt; mem::size_of::<Steps<Brand>>(), 0);
 }

@@ -1,5 +1,6 @@
 //! Lists, there and back.
 
+use crate::checks::same;
 use std::alloc::Global;
 use std::process::Abort;
 use std::test::Fail;
@@ -15,10 +16,10 @@ fn lists(rt: HostRuntime) -> Result<(), Fail> {
         unwritten: false,
     };
     let extents = Extents::from_vec(vec![in rt.alloc(); extent]?);
-    assert_eq!(rt; extents.as_slice(), &[extent][..]);
-    assert_eq!(rt; extents.into_vec().as_slice(), &[extent][..]);
+    same!(rt; extents.as_slice(), &[extent][..]);
+    same!(rt; extents.into_vec().as_slice(), &[extent][..]);
     let blocks = Blocks::from_vec(vec![in rt.alloc(); 20, 24]?);
-    assert_eq!(rt; blocks.as_slice(), &[20, 24][..]);
-    assert_eq!(rt; blocks.into_vec().as_slice(), &[20, 24][..]);
+    same!(rt; blocks.as_slice(), &[20, 24][..]);
+    same!(rt; blocks.into_vec().as_slice(), &[20, 24][..]);
     Ok(())
 }

@@ -1,5 +1,6 @@
 //! Tests of the weave.
 
+use crate::checks::same;
 use std::test::Fail;
 use xfs_weave::Weave;
 
@@ -9,13 +10,13 @@ fn moves_a_node(rt: HostRuntime) -> Result<(), Fail> {
     weave.push_back(0, 2);
     weave.push_back(0, 1);
     weave.move_to(1, 2);
-    assert_eq!(rt; weave.first(0), Some(1));
-    assert_eq!(rt; weave.next(1), None);
-    assert_eq!(rt; weave.first(1), Some(2));
-    assert_eq!(rt; weave.next(2), None);
-    assert_eq!(rt; weave.list_of(1), Some(0));
-    assert_eq!(rt; weave.list_of(2), Some(1));
-    assert_eq!(rt; weave.list_of(3), None);
+    same!(rt; weave.first(0), Some(1));
+    same!(rt; weave.next(1), None);
+    same!(rt; weave.first(1), Some(2));
+    same!(rt; weave.next(2), None);
+    same!(rt; weave.list_of(1), Some(0));
+    same!(rt; weave.list_of(2), Some(1));
+    same!(rt; weave.list_of(3), None);
     Ok(())
 }
 
@@ -27,24 +28,12 @@ fn takes_from_the_front_and_the_middle(rt: HostRuntime) -> Result<(), Fail> {
     weave.push_back(0, 3);
     weave.push_back(0, 1);
     weave.unlink(3);
-    assert_eq!(rt;
-        (weave.list_of(3), weave.next(3), weave.prev(3)),
-        (None, None, None)
-    );
-    assert_eq!(rt;
-        (weave.next(4), weave.next(0), weave.next(1)),
-        (Some(0), Some(1), None)
-    );
-    assert_eq!(rt;
-        (weave.prev(4), weave.prev(0), weave.prev(1)),
-        (None, Some(4), Some(0))
-    );
-    assert_eq!(rt; weave.pop_front(0), Some(4));
+    same!(rt; (weave.list_of(3), weave.next(3), weave.prev(3)), (None, None, None));
+    same!(rt; (weave.next(4), weave.next(0), weave.next(1)), (Some(0), Some(1), None));
+    same!(rt; (weave.prev(4), weave.prev(0), weave.prev(1)), (None, Some(4), Some(0)));
+    same!(rt; weave.pop_front(0), Some(4));
     weave.move_to(0, 0);
-    assert_eq!(rt;
-        (weave.pop_front(0), weave.pop_front(0), weave.pop_front(0)),
-        (Some(1), Some(0), None)
-    );
-    assert_eq!(rt; weave.first(0), None);
+    same!(rt; (weave.pop_front(0), weave.pop_front(0), weave.pop_front(0)), (Some(1), Some(0), None));
+    same!(rt; weave.first(0), None);
     Ok(())
 }

@@ -1,5 +1,6 @@
 //! The words against values from outside: the format's worked examples and its tables.
 
+use crate::checks::same;
 use std::process::Abort;
 use xfs_word::*;
 
@@ -17,26 +18,26 @@ const LSN: [u8; 8] = [0x7f, 0xff, 0xff, 0xfe, 0xff, 0xff, 0xff, 0xff];
 
 #[test]
 fn checksums(rt: HostRuntime) {
-    assert_eq!(rt; crc32c(b"123456789"), 0xe306_9283);
-    assert_eq!(rt; crc32c(&[0; 32]), 0x8a91_36aa);
-    assert_eq!(rt; crc32c(&[]), 0);
+    same!(rt; crc32c(b"123456789"), 0xe306_9283);
+    same!(rt; crc32c(&[0; 32]), 0x8a91_36aa);
+    same!(rt; crc32c(&[]), 0);
     let mut bytes = [0; 32];
     put32(&mut bytes, 13, 0x1234_5678);
-    assert_eq!(rt; crc_skipping(&bytes, 13), 0x8a91_36aa);
+    same!(rt; crc_skipping(&bytes, 13), 0x8a91_36aa);
     put_checksum(&mut bytes, 13);
-    assert_eq!(rt; stored_checksum(&bytes, 13), 0x8a91_36aa);
-    assert_eq!(rt; get32(&bytes, 13), 0xaa36_918a);
+    same!(rt; stored_checksum(&bytes, 13), 0x8a91_36aa);
+    same!(rt; get32(&bytes, 13), 0xaa36_918a);
     assert!(rt; is_checksum_right(&bytes, 13));
 }
 
 #[test]
 fn fields_extents_and_names(rt: HostRuntime) {
     let mut bytes = [0x11, 0x22, 0x33, 0x44, 0x55, 0x66, 0x77, 0x88, 0x99];
-    assert_eq!(rt; get8(&bytes, 1), 0x22);
-    assert_eq!(rt; get16(&bytes, 1), 0x2233);
-    assert_eq!(rt; get32(&bytes, 1), 0x2233_4455);
-    assert_eq!(rt; get64(&bytes, 1), 0x2233_4455_6677_8899);
-    assert_eq!(rt; part(&bytes, 7, 2), [0x88, 0x99].as_slice());
+    same!(rt; get8(&bytes, 1), 0x22);
+    same!(rt; get16(&bytes, 1), 0x2233);
+    same!(rt; get32(&bytes, 1), 0x2233_4455);
+    same!(rt; get64(&bytes, 1), 0x2233_4455_6677_8899);
+    same!(rt; part(&bytes, 7, 2), [0x88, 0x99].as_slice());
     put8(&mut bytes, 0, 0xff);
     put16(&mut bytes, 1, 1);
     put_part(&mut bytes, 6, &[5, 6]);
@@ -47,8 +48,8 @@ fn fields_extents_and_names(rt: HostRuntime) {
         form: Form::Decimal,
     };
     layout.write(&mut bytes, 0x0102);
-    assert_eq!(rt; bytes, [0xff, 0, 1, 0x44, 1, 2, 5, 6, 0x99]);
-    assert_eq!(rt; layout.read(&bytes), 0x0102);
+    same!(rt; bytes, [0xff, 0, 1, 0x44, 1, 2, 5, 6, 0x99]);
+    same!(rt; layout.read(&bytes), 0x0102);
 
     let packed = [0, 0, 0, 0, 0, 0, 6, 0, 0, 0, 0, 0, 2, 0x80, 0, 5];
     let extent = Extent {
@@ -57,8 +58,8 @@ fn fields_extents_and_names(rt: HostRuntime) {
         count: 5,
         unwritten: false,
     };
-    assert_eq!(rt; pack_extent(&extent), packed);
-    assert_eq!(rt; unpack_extent(&packed), extent);
+    same!(rt; pack_extent(&extent), packed);
+    same!(rt; unpack_extent(&packed), extent);
     assert!(rt; unpack_extent(&[0xff; 16]).unwritten);
 
     let name: &[u8] = b"lost+found";
@@ -70,7 +71,7 @@ fn fields_extents_and_names(rt: HostRuntime) {
         (name, 0x021a_a60c),
     ];
     for (name, hash) in hashes {
-        assert_eq!(rt; name_hash(name), hash);
+        same!(rt; name_hash(name), hash);
     }
 }
 
@@ -109,8 +110,8 @@ fn check(rt: &impl Abort, row: &Row) {
         uuid: UUID,
     };
     let layout = what.kind.layout();
-    assert_eq!(rt; layout.size, row.size);
-    assert_eq!(rt; layout.checksum, row.checksum);
+    same!(rt; layout.size, row.size);
+    same!(rt; layout.checksum, row.checksum);
     assert!(rt; layout.size <= 4096);
     let mut buffer = [0; 4096];
     let object = &mut buffer[..layout.size];

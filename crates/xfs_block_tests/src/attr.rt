@@ -2,6 +2,7 @@
 
 mod real;
 
+use crate::checks::same;
 use std::process::Abort;
 use xfs_attr::*;
 use xfs_disk::BLOCK_SIZE;
@@ -25,14 +26,14 @@ fn expect(
 ) {
     match (read, due) {
         (Ok(attributes), Ok(stated)) => {
-            assert_eq!(rt; attributes.as_slice().len(), stated.len(), "{case}");
+            same!(rt; attributes.as_slice().len(), stated.len(); case);
             for (attribute, (flags, name, value)) in attributes.as_slice().iter().zip(stated) {
-                assert_eq!(rt; attribute.flags, *flags, "{case}");
-                assert_eq!(rt; attribute.name.bytes(), *name, "{case}");
-                assert_eq!(rt; attribute.value.bytes(), *value, "{case}");
+                same!(rt; attribute.flags, *flags; case);
+                same!(rt; attribute.name.bytes(), *name; case);
+                same!(rt; attribute.value.bytes(), *value; case);
             }
         }
-        (Err(fault), Err(wanted)) => assert_eq!(rt; fault, wanted, "{case}"),
+        (Err(fault), Err(wanted)) => same!(rt; fault, wanted; case),
         (Ok(_), Err(_)) => panic!(rt; "{case} is read"),
         (Err(_), Ok(_)) => panic!(rt; "{case} is not read"),
     }

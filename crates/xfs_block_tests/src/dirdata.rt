@@ -5,6 +5,7 @@ ghost use Rattle.xfs_dirdata.specs.Written.{IsWritable};
 
 mod real;
 
+use crate::checks::same;
 use real::{
     MADE, MADE_ENTRIES, Parts, Row, SHORT, SHORT_ENTRIES, WRITTEN, WRITTEN_ENTRIES, WRITTEN_FREE,
 };
@@ -61,12 +62,12 @@ fn block_of(rt: &impl Abort, parts: Parts) -> [u8; 4096] {
 
 /// Asserts that entries of directory 100 are these.
 fn assert_entries(rt: &impl Abort, entries: &[EntryRec], rows: &[Row]) {
-    assert_eq!(rt; entries.len(), rows.len());
+    same!(rt; entries.len(), rows.len());
     for (entry, (_, ino, name, ftype)) in entries.iter().zip(rows) {
-        assert_eq!(rt; entry.dir, 100);
-        assert_eq!(rt; entry.ino, *ino);
-        assert_eq!(rt; entry.name.bytes(), *name);
-        assert_eq!(rt; entry.ftype, *ftype);
+        same!(rt; entry.dir, 100);
+        same!(rt; entry.ino, *ino);
+        same!(rt; entry.name.bytes(), *name);
+        same!(rt; entry.ftype, *ftype);
     }
 }
 
@@ -74,10 +75,10 @@ fn assert_entries(rt: &impl Abort, entries: &[EntryRec], rows: &[Row]) {
 fn short_form(rt: HostRuntime) -> Result<(), Fail> {
     let rows: [Row; 2] = [(0, 131, b"a", 1), (0, 132, b"b", 1)];
     let read = read_short(rt.alloc(), 100, &TWO)?;
-    assert_eq!(rt; read.parent, 128);
+    same!(rt; read.parent, 128);
     assert_entries(&rt, &read.entries, &rows);
     let made = read_short(rt.alloc(), 100, SHORT)?;
-    assert_eq!(rt; made.parent, 128);
+    same!(rt; made.parent, 128);
     assert_entries(&rt, &made.entries, SHORT_ENTRIES);
     let entries = [
         entry(rt.alloc(), b"a", 131, 1)?,
@@ -85,9 +86,9 @@ fn short_form(rt: HostRuntime) -> Result<(), Fail> {
     ];
     let mut form = [0xee; 26];
     let size = put_short(128, &entries, &mut form);
-    assert_eq!(rt; size, 24);
-    assert_eq!(rt; &form[..24], TWO.as_slice());
-    assert_eq!(rt; &form[24..], [0xee, 0xee].as_slice());
+    same!(rt; size, 24);
+    same!(rt; &form[..24], TWO.as_slice());
+    same!(rt; &form[24..], [0xee, 0xee].as_slice());
     Ok(())
 }
 
@@ -110,11 +111,7 @@ fn short_form_rules(rt: HostRuntime) {
         let mut form = TWO;
         assert!(rt; at <= 22);
         put16(&mut form, at, number);
-        assert_eq!(rt;
-            read_short(rt.alloc(), 100, &form).is_ok(),
-            sound,
-            "{number} at {at}"
-        );
+        same!(rt; read_short(rt.alloc(), 100, &form).is_ok(), sound; (number, at));
     }
     for (form, sound) in [
         (&[0, 0, 0, 0, 0, 128][..], true),
@@ -123,7 +120,7 @@ fn short_form_rules(rt: HostRuntime) {
         (&[0, 0, 0, 0, 0, 128, 0][..], false),
     ] {
         let read = read_short(rt.alloc(), 100, form);
-        assert_eq!(rt; read.is_ok(), sound, "{} bytes", form.len());
+        same!(rt; read.is_ok(), sound; form.len());
     }
 }
 
@@ -136,19 +133,19 @@ fn real_blocks(rt: HostRuntime) -> Result<(), Fail> {
         let read = read_data(rt.alloc(), 100, &block_of(&rt, parts), whole)?;
         assert_entries(&rt, &read.entries, rows);
         for (place, (at, _, _, _)) in read.places.iter().zip(rows) {
-            assert_eq!(rt; place, at);
+            same!(rt; place, at);
         }
-        assert_eq!(rt; read.free.len(), spans.len());
+        same!(rt; read.free.len(), spans.len());
         for (span, (offset, length)) in read.free.iter().zip(spans) {
-            assert_eq!(rt; span.offset, *offset);
-            assert_eq!(rt; span.length, *length);
+            same!(rt; span.offset, *offset);
+            same!(rt; span.length, *length);
         }
-        assert_eq!(rt; read.bests, bestfree(&read.free));
+        same!(rt; read.bests, bestfree(&read.free));
     }
     let mut block = [0; 4096];
     let placed = put_data(&entries(&rt, rt.alloc(), MADE_ENTRIES)?, None, &mut block);
-    assert_eq!(rt; placed, 13);
-    assert_eq!(rt; block, block_of(&rt, MADE));
+    same!(rt; placed, 13);
+    same!(rt; block, block_of(&rt, MADE));
     Ok(())
 }
 
@@ -178,7 +175,7 @@ fn data_block_rules(rt: HostRuntime) {
             put16(&mut block, *at, *value);
         }
         let read = read_data(rt.alloc(), 100, &block, true);
-        assert_eq!(rt; read.is_ok(), *sound, "change {number}");
+        same!(rt; read.is_ok(), *sound; number);
     }
 }
 
@@ -201,16 +198,12 @@ fn filled_blocks(rt: HostRuntime) -> Result<(), Fail> {
     ] {
         let mut block = [0xee; 4096];
         assert!(rt; end % 8 == 0 && 96 <= end && end <= 4096);
-        assert_eq!(rt;
-            put_data(&entries, Some((100, 128)), &mut block[..end]),
-            placed,
-            "{end} bytes"
-        );
-        assert_eq!(rt; block[0], 0xee);
-        assert_eq!(rt; block[4095], 0xee);
+        same!(rt; put_data(&entries, Some((100, 128)), &mut block[..end]), placed; end);
+        same!(rt; block[0], 0xee);
+        same!(rt; block[4095], 0xee);
     }
     let mut block = [0; 4096];
-    assert_eq!(rt; put_data(&entries, Some((100, 128)), &mut block[..4048]), 3);
+    same!(rt; put_data(&entries, Some((100, 128)), &mut block[..4048]), 3);
     put32(&mut block, 4088, 5);
     let read = read_data(rt.alloc(), 100, &block, true)?;
     let all: [Row; 5] = [
@@ -232,8 +225,8 @@ fn largest_spans(rt: HostRuntime) {
         offset: 0,
         length: 0,
     };
-    assert_eq!(rt; bestfree(&[]), [none, none, none]);
-    assert_eq!(rt; bestfree(&free[..1]), [free[0], none, none]);
-    assert_eq!(rt; bestfree(&free[..3]), [free[1], free[0], free[2]]);
-    assert_eq!(rt; bestfree(&free), [free[3], free[1], free[4]]);
+    same!(rt; bestfree(&[]), [none, none, none]);
+    same!(rt; bestfree(&free[..1]), [free[0], none, none]);
+    same!(rt; bestfree(&free[..3]), [free[1], free[0], free[2]]);
+    same!(rt; bestfree(&free), [free[3], free[1], free[4]]);
 }

@@ -6,6 +6,7 @@ ghost use Rattle.xfs_word.specs.Seal.{layout_of};
 mod log;
 mod real;
 
+use crate::checks::same;
 use std::process::Abort;
 use std::test::Fail;
 use xfs_geom::Geometry;
@@ -80,10 +81,10 @@ fn free_space(rt: HostRuntime) -> Result<(), Fail> {
     assert!(rt; header.is_shaped(&g, 0));
     let mut sector = [0xff; 512];
     put_agf(&g, 0, &header, &mut sector);
-    assert_eq!(rt; get32(&sector, 52), 1004);
+    same!(rt; get32(&sector, 52), 1004);
     let crc = stored_checksum(&sector, 216);
-    assert_eq!(rt; read_agf(&g, 0, &sector), Some(Agf { crc, ..header }));
-    assert_eq!(rt; read_agf(&g, 1, &sector), None);
+    same!(rt; read_agf(&g, 0, &sector), Some(Agf { crc, ..header }));
+    same!(rt; read_agf(&g, 1, &sector), None);
     for (field, number, accepted) in [
         (agf::VERSIONNUM, 2, false),
         (agf::LENGTH, 1023, false),
@@ -102,12 +103,7 @@ fn free_space(rt: HostRuntime) -> Result<(), Fail> {
     ] {
         assert!(rt; field.offset <= 508);
         let changed = with_number(&sector, SealKind::Agf, field.offset, number);
-        assert_eq!(rt;
-            read_agf(&g, 0, &changed).is_some(),
-            accepted,
-            "{}",
-            field.name
-        );
+        same!(rt; read_agf(&g, 0, &changed).is_some(), accepted; field.name);
     }
     Ok(())
 }
@@ -138,10 +134,10 @@ fn inodes(rt: HostRuntime) -> Result<(), Fail> {
     assert!(rt; header.is_shaped(&g, 0));
     let mut sector = [0xff; 512];
     put_agi(&g, 0, &header, &mut sector);
-    assert_eq!(rt; get32(&sector, 292), 131);
+    same!(rt; get32(&sector, 292), 131);
     let crc = stored_checksum(&sector, 312);
-    assert_eq!(rt; read_agi(&g, 0, &sector), Some(Agi { crc, ..header }));
-    assert_eq!(rt; read_agi(&g, 1, &sector), None);
+    same!(rt; read_agi(&g, 0, &sector), Some(Agi { crc, ..header }));
+    same!(rt; read_agi(&g, 1, &sector), None);
     for (field, number, accepted) in [
         (agi::VERSIONNUM, 2, false),
         (agi::LENGTH, 1023, false),
@@ -156,12 +152,7 @@ fn inodes(rt: HostRuntime) -> Result<(), Fail> {
     ] {
         assert!(rt; field.offset <= 508);
         let changed = with_number(&sector, SealKind::Agi, field.offset, number);
-        assert_eq!(rt;
-            read_agi(&g, 0, &changed).is_some(),
-            accepted,
-            "{}",
-            field.name
-        );
+        same!(rt; read_agi(&g, 0, &changed).is_some(), accepted; field.name);
     }
     Ok(())
 }
@@ -217,14 +208,14 @@ fn free_lists(rt: HostRuntime) -> Result<(), Fail> {
             let Some(list) = read_agfl(&g, 0, &bounds(flfirst, flcount), &sector) else {
                 return Err(Fail::from("a free list is refused"));
             };
-            assert_eq!(rt; list.count, flcount);
+            same!(rt; list.count, flcount);
             for (index, entry) in list.entries.iter().enumerate() {
                 let due = if index < flcount as usize {
                     6 + index as u32
                 } else {
                     u32::MAX
                 };
-                assert_eq!(rt; *entry, due, "{flfirst} {index}");
+                same!(rt; *entry, due; (flfirst, index));
             }
         }
     }
@@ -245,13 +236,13 @@ fn listed_blocks(rt: HostRuntime) -> Result<(), Fail> {
         (1, 518, true),
     ] {
         let list = Agfl::new(&[519, block]);
-        assert_eq!(rt; list.has_blocks(&g, ag), accepted, "{block}");
+        same!(rt; list.has_blocks(&g, ag), accepted; block);
         if list.has_blocks(&g, ag) {
             let mut sector = [0xff; 512];
             put_agfl(&g, ag, &list, &mut sector);
-            assert_eq!(rt; get32(&sector, 4), ag);
-            assert_eq!(rt; read_agfl(&g, ag, &bounds(0, 2), &sector), Some(list));
-            assert_eq!(rt; read_agfl(&g, 1 - ag, &bounds(0, 2), &sector), None);
+            same!(rt; get32(&sector, 4), ag);
+            same!(rt; read_agfl(&g, ag, &bounds(0, 2), &sector), Some(list));
+            same!(rt; read_agfl(&g, 1 - ag, &bounds(0, 2), &sector), None);
         }
     }
     Ok(())

@@ -5,6 +5,7 @@ ghost use Rattle.xfs_kinds.specs.FreeRuns.{span};
 
 mod hostile;
 
+use crate::checks::same;
 use std::cmp::Ordering;
 use std::test::Fail;
 use xfs_geom::{Geometry, InoRec, RmapRec, Run, Span};
@@ -116,16 +117,16 @@ fn layouts_of_kinds(rt: HostRuntime) {
         ),
     ];
     for (layout, magic, long, high, record_len, key_len, leaf_cap, node_cap) in layouts {
-        assert_eq!(rt; layout.magic, magic);
-        assert_eq!(rt; layout.long, long, "{magic}");
-        assert_eq!(rt; layout.high, high, "{magic}");
-        assert_eq!(rt; layout.record_len, record_len, "{magic}");
-        assert_eq!(rt; layout.key_len, key_len, "{magic}");
-        assert_eq!(rt; layout.leaf_cap, leaf_cap, "{magic}");
-        assert_eq!(rt; layout.node_cap, node_cap, "{magic}");
+        same!(rt; layout.magic, magic);
+        same!(rt; layout.long, long; magic);
+        same!(rt; layout.high, high; magic);
+        same!(rt; layout.record_len, record_len; magic);
+        same!(rt; layout.key_len, key_len; magic);
+        same!(rt; layout.leaf_cap, leaf_cap; magic);
+        same!(rt; layout.node_cap, node_cap; magic);
     }
-    assert_eq!(rt; Rmap { ag: 1 }.owner(), 1);
-    assert_eq!(rt; Bmbt { ino: 9 }.owner(), 9);
+    same!(rt; Rmap { ag: 1 }.owner(), 1);
+    same!(rt; Bmbt { ino: 9 }.owner(), 9);
 }
 
 #[test]
@@ -134,8 +135,8 @@ fn free_trees(rt: HostRuntime) {
     let (bno, cnt) = (Bno { ag: 0 }, Cnt { ag: 0 });
     let mut bytes = [0; 8];
     bno.put_record(&span(0x0102_0304, 5), &mut bytes);
-    assert_eq!(rt; bytes, [1, 2, 3, 4, 0, 0, 0, 5]);
-    assert_eq!(rt; cnt.read_key(&bytes), span(0x0102_0304, 5));
+    same!(rt; bytes, [1, 2, 3, 4, 0, 0, 0, 5]);
+    same!(rt; cnt.read_key(&bytes), span(0x0102_0304, 5));
     assert!(rt; bno.order(&span(7, 9), &span(8, 1)) == Ordering::Less);
     assert!(rt; cnt.order(&span(7, 9), &span(8, 1)) == Ordering::Greater);
     assert!(rt; cnt.order(&span(7, 9), &span(8, 9)) == Ordering::Less);
@@ -149,8 +150,8 @@ fn free_trees(rt: HostRuntime) {
         (span(5, 7), span(4, 8), false, true),
         (span(5, 7), span(u32::MAX, u32::MAX), false, false),
     ] {
-        assert_eq!(rt; bno.lawful(&g, Some(&before), &run), by_start, "{run:?}");
-        assert_eq!(rt; cnt.lawful(&g, Some(&before), &run), by_length, "{run:?}");
+        same!(rt; bno.lawful(&g, Some(&before), &run), by_start; run);
+        same!(rt; cnt.lawful(&g, Some(&before), &run), by_length; run);
     }
     assert!(rt; bno.lawful(&g, None, &span(1, 1023)));
     assert!(rt; !cnt.lawful(&g, None, &span(0, 4)));
@@ -176,21 +177,15 @@ fn inode_trees(rt: HostRuntime) {
     };
     let mut bytes = [0; 16];
     Ino { ag: 0 }.put_record(&whole, &mut bytes);
-    assert_eq!(rt;
-        bytes,
-        [
+    same!(rt; bytes, [
             0, 0, 0, 128, 0, 0, 64, 61, 255, 255, 255, 255, 255, 255, 255, 248
-        ]
-    );
-    assert_eq!(rt; Fino { ag: 0 }.read_record(&bytes), whole);
+        ]);
+    same!(rt; Fino { ag: 0 }.read_record(&bytes), whole);
     Fino { ag: 0 }.put_record(&half, &mut bytes);
-    assert_eq!(rt;
-        bytes,
-        [0, 0, 0, 64, 255, 0, 32, 3, 255, 255, 255, 255, 0, 0, 0, 7]
-    );
+    same!(rt; bytes, [0, 0, 0, 64, 255, 0, 32, 3, 255, 255, 255, 255, 0, 0, 0, 7]);
     let mut key = [0; 4];
     Ino { ag: 0 }.put_key(&half.startino, &mut key);
-    assert_eq!(rt; Ino { ag: 0 }.read_key(&key), 64);
+    same!(rt; Ino { ag: 0 }.read_key(&key), 64);
     assert!(rt; Ino { ag: 0 }.lawful(&g, Some(&half), &whole));
     assert!(rt; !Ino { ag: 0 }.lawful(&g, Some(&whole), &half));
     for (ag, startino, holemask, count, lawful) in [
@@ -213,11 +208,7 @@ fn inode_trees(rt: HostRuntime) {
             count,
             ..half
         };
-        assert_eq!(rt;
-            Fino { ag }.lawful(&g, None, &chunk),
-            lawful,
-            "{ag} {chunk:?}"
-        );
+        same!(rt; Fino { ag }.lawful(&g, None, &chunk), lawful; (ag, chunk));
     }
 }
 
@@ -234,27 +225,21 @@ fn owner_trees(rt: HostRuntime) {
     let data = run(24, 3, 131, ATTRIBUTES + UNWRITTEN + 5);
     let mut bytes = [0; 24];
     rmap.put_record(&data, &mut bytes);
-    assert_eq!(rt;
-        bytes,
-        [
+    same!(rt; bytes, [
             0, 0, 0, 24, 0, 0, 0, 3, 0, 0, 0, 0, 0, 0, 0, 131, 160, 0, 0, 0, 0, 0, 0, 5
-        ]
-    );
-    assert_eq!(rt; rmap.read_record(&bytes), data);
+        ]);
+    same!(rt; rmap.read_record(&bytes), data);
     let high = rmap.high_key(&data);
     let mut key = [0; 20];
     rmap.put_key(&high, &mut key);
-    assert_eq!(rt;
-        key,
-        [
+    same!(rt; key, [
             0, 0, 0, 26, 0, 0, 0, 0, 0, 0, 0, 131, 128, 0, 0, 0, 0, 0, 0, 7
-        ]
-    );
+        ]);
     key[12] = 160;
-    assert_eq!(rt; rmap.read_key(&key), high);
+    same!(rt; rmap.read_key(&key), high);
     for (owner, word, last) in [(131, 5, 7), (131, TREE_BLOCK, TREE_BLOCK), (AG, 0, 0)] {
         let key = rmap.high_key(&run(24, 3, owner, word));
-        assert_eq!(rt; key.offset, last, "{owner} {word}");
+        same!(rt; key.offset, last; (owner, word));
     }
     for (next, lawful) in [
         (run(27, 1, AG, 0), true),
@@ -267,7 +252,7 @@ fn owner_trees(rt: HostRuntime) {
         (run(27, 1, 132, 1 << 54), false),
         (run(u32::MAX, 1, AG, 0), false),
     ] {
-        assert_eq!(rt; rmap.lawful(&g, Some(&data), &next), lawful, "{next:?}");
+        same!(rt; rmap.lawful(&g, Some(&data), &next), lawful; next);
         let order = rmap.order(&rmap.low_key(&data), &rmap.low_key(&next));
         assert!(rt; order == Ordering::Less, "{next:?}");
     }
@@ -286,7 +271,7 @@ fn keys_of_a_kernel(rt: HostRuntime) {
     let high = [
         0, 0, 5, 141, 0, 0, 0, 0, 0, 0, 0, 143, 0, 0, 0, 0, 0, 0, 0, 49,
     ];
-    assert_eq!(rt; key, high);
+    same!(rt; key, high);
     let written = [
         0, 0, 2, 61, 0, 0, 0, 1, 0, 0, 0, 0, 0, 0, 0, 148, 0, 0, 0, 0, 0, 0, 0, 44,
     ];
@@ -294,7 +279,7 @@ fn keys_of_a_kernel(rt: HostRuntime) {
         0, 0, 2, 61, 0, 0, 0, 0, 0, 0, 0, 148, 32, 0, 0, 0, 0, 0, 0, 44,
     ];
     let run = rmap.read_record(&written);
-    assert_eq!(rt; rmap.read_key(&low), rmap.low_key(&run));
+    same!(rt; rmap.read_key(&low), rmap.low_key(&run));
 }
 
 #[test]
@@ -310,11 +295,11 @@ fn extent_trees(rt: HostRuntime) {
     let first = extent(3, 20, 5);
     let mut bytes = [0; 16];
     bmbt.put_record(&first, &mut bytes);
-    assert_eq!(rt; bytes, [0, 0, 0, 0, 0, 0, 6, 0, 0, 0, 0, 0, 2, 128, 0, 5]);
-    assert_eq!(rt; bmbt.read_record(&bytes), first);
+    same!(rt; bytes, [0, 0, 0, 0, 0, 0, 6, 0, 0, 0, 0, 0, 2, 128, 0, 5]);
+    same!(rt; bmbt.read_record(&bytes), first);
     let mut key = [0; 8];
     bmbt.put_key(&bmbt.low_key(&first), &mut key);
-    assert_eq!(rt; bmbt.read_key(&key), 3);
+    same!(rt; bmbt.read_key(&key), 3);
     assert!(rt; bmbt.order(&3, &4) == Ordering::Less);
     for (next, lawful) in [
         (extent(8, 1000, 24), true),
@@ -328,7 +313,7 @@ fn extent_trees(rt: HostRuntime) {
         (extent((1 << 54) - 1, 30, 1), false),
         (extent(u64::MAX, u64::MAX, u64::MAX), false),
     ] {
-        assert_eq!(rt; bmbt.lawful(&g, Some(&first), &next), lawful, "{next:?}");
+        same!(rt; bmbt.lawful(&g, Some(&first), &next), lawful; next);
     }
 }
 
@@ -346,10 +331,10 @@ fn free_runs_of_a_group(rt: HostRuntime) -> Result<(), Fail> {
         span(20, 4),
     ];
     let free = free_runs(rt.alloc(), &used, 1024)?;
-    assert_eq!(rt; free.as_slice(), [span(12, 4), span(24, 1000)].as_slice());
+    same!(rt; free.as_slice(), [span(12, 4), span(24, 1000)].as_slice());
     let used = [span(3, 0), span(5, 2), span(9, u32::MAX)];
     let free = free_runs(rt.alloc(), &used, 8)?;
-    assert_eq!(rt; free.as_slice(), [span(0, 5), span(7, 1)].as_slice());
+    same!(rt; free.as_slice(), [span(0, 5), span(7, 1)].as_slice());
     Ok(())
 }
 
@@ -380,7 +365,7 @@ fn merged_runs_of_a_group(rt: HostRuntime) -> Result<(), Fail> {
         run(5, 7, AG, 0),
         run(16, 8, INODES, 0),
     ];
-    assert_eq!(rt; merged.as_slice(), expected.as_slice());
+    same!(rt; merged.as_slice(), expected.as_slice());
     for (offset, next, blocks) in [
         (5, 7, 3),
         (5, 8, 2),
@@ -391,11 +376,7 @@ fn merged_runs_of_a_group(rt: HostRuntime) -> Result<(), Fail> {
     ] {
         let pair = [run(24, 2, 131, offset), run(26, 1, 131, next)];
         let merged = merge_runs(rt.alloc(), &pair)?;
-        assert_eq!(rt;
-            merged.first(),
-            Some(&run(24, blocks, 131, offset)),
-            "{next}"
-        );
+        same!(rt; merged.first(), Some(&run(24, blocks, 131, offset)); next);
     }
     Ok(())
 }

@@ -4,8 +4,12 @@
 #[cfg(test)]
 mod attr;
 #[cfg(test)]
+mod checks;
+#[cfg(test)]
 mod dirdata;
 #[cfg(test)]
 mod heads;
 #[cfg(test)]
 mod kinds;
+#[cfg(test)]
+mod tree;

@@ -7,6 +7,7 @@ ghost use Rattle.xfs_inode.specs.Files.{are_extents};
 
 mod disks;
 
+use crate::checks::same;
 use disks::Untold;
 use std::alloc::Global;
 use std::marker::Brand;
@@ -230,9 +231,9 @@ fn single_block_form(rt: HostRuntime) -> Result<(), Fail> {
         let Ok(found) = read(&rt, rt.alloc(), &mut disk, &[0; 512], &file) else {
             panic!(rt; "{name}: it is not read");
         };
-        assert_eq!(rt; found.whole, *whole, "{name}");
-        assert_eq!(rt; found.entries.as_slice().len(), *kept as usize, "{name}");
-        assert_eq!(rt; found.parent, if *kept { 128 } else { 0 }, "{name}");
+        same!(rt; found.whole, *whole; name);
+        same!(rt; found.entries.as_slice().len(), *kept as usize; name);
+        same!(rt; found.parent, if *kept { 128 } else { 0 }; name);
     }
     Ok(())
 }
@@ -289,13 +290,9 @@ fn short_form(rt: HostRuntime) -> Result<(), Fail> {
         let Ok(found) = read(&rt, rt.alloc(), &mut disk, &slot, &file) else {
             panic!(rt; "{size} bytes are read");
         };
-        assert_eq!(rt; found.whole, whole, "{size} bytes");
-        assert_eq!(rt;
-            found.entries.as_slice().len(),
-            whole as usize,
-            "{size} bytes"
-        );
-        assert_eq!(rt; found.parent, if whole { 128 } else { 0 }, "{size} bytes");
+        same!(rt; found.whole, whole; size);
+        same!(rt; found.entries.as_slice().len(), whole as usize; size);
+        same!(rt; found.parent, if whole { 128 } else { 0 }; size);
     }
     Ok(())
 }

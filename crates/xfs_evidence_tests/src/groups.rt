@@ -3,6 +3,7 @@
 
 ghost use Rattle.std.specs.Prelude.{◌≡◌, ◌<◌, ◌≤◌};
 
+use crate::checks::same;
 use std::alloc::Global;
 use std::marker::Brand;
 use std::process::Abort;
@@ -267,25 +268,22 @@ fn see<D: Disk, L: Ledger>(alloc: Global, disk: &mut D, blank: Blank) -> Result<
 /// Tests that the groups are found to be as in a case.
 fn is_found(rt: &impl Abort, seen: &Groups, case: &Case) {
     match (&seen.groups, case.part) {
-        (Ok(groups), None) => assert_eq!(rt; groups.as_slice().len(), 2),
-        (Err(found), Some((part, place))) => assert_eq!(rt; *found, Finding::Part { part, place }),
+        (Ok(groups), None) => same!(rt; groups.as_slice().len(), 2),
+        (Err(found), Some((part, place))) => same!(rt; *found, Finding::Part { part, place }),
         _ => panic!(rt; "{:?}", case.part),
     }
     let clusters = seen.clusters.as_slice();
-    assert_eq!(rt; clusters.len(), case.clusters.len());
+    assert!(rt; clusters.len() == case.clusters.len());
     for (found, (block, recorded)) in clusters.iter().zip(case.clusters.iter()) {
-        assert_eq!(rt;
-            *found,
-            ClusterRec {
+        same!(rt; *found, ClusterRec {
                 block: *block,
                 recorded: *recorded
-            }
-        );
+            });
     }
     let trees = seen.trees.as_slice();
-    assert_eq!(rt; trees.len(), 2);
-    assert_eq!(rt; trees[0].reserved.as_slice(), case.reserved[0]);
-    assert_eq!(rt; trees[1].reserved.as_slice(), case.reserved[1]);
+    assert!(rt; trees.len() == 2);
+    same!(rt; trees[0].reserved.as_slice(), case.reserved[0]);
+    same!(rt; trees[1].reserved.as_slice(), case.reserved[1]);
 }
 
 #[test]

@@ -2,6 +2,7 @@
 
 ghost use Rattle.std.specs.Prelude.{◌≡◌, ◌<◌, ◌≤◌};
 
+use crate::checks::same;
 use std::alloc::Global;
 use std::marker::Brand;
 use std::process::Abort;
@@ -156,15 +157,12 @@ fn numbers(rt: HostRuntime) -> Result<(), Fail> {
         else {
             panic!(rt; "{mode}");
         };
-        assert_eq!(rt; lsns.as_slice().len(), due.len());
+        assert!(rt; lsns.as_slice().len() == due.len());
         for (found, (block, lsn)) in lsns.as_slice().iter().zip(due.iter()) {
-            assert_eq!(rt;
-                *found,
-                BlockLsn {
+            same!(rt; *found, BlockLsn {
                     block: *block,
                     lsn: *lsn
-                }
-            );
+                });
         }
     }
     Ok(())
@@ -198,7 +196,7 @@ fn logs(rt: HostRuntime) -> Result<(), Fail> {
         let Ok(state) = state_of::<MemoryDisk, Brand>(alloc, &mut disk, Blank::new(1)) else {
             panic!(rt; "{place}");
         };
-        assert_eq!(rt; state == LogState::Clean { head: 1 << 32 }, due);
+        same!(rt; state == LogState::Clean { head: 1 << 32 }, due);
     }
     Ok(())
 }

@@ -2,6 +2,8 @@
 #![tactic(auto)]
 
 #[cfg(test)]
+mod checks;
+#[cfg(test)]
 mod dirs;
 #[cfg(test)]
 mod groups;
@@ -9,3 +11,5 @@ mod groups;
 mod journal;
 #[cfg(test)]
 mod place;
+#[cfg(test)]
+mod scan;

@@ -5,6 +5,7 @@ ghost use Rattle.std.specs.Prelude.{◌≡◌, ◌≤◌, IfOk, [], ◌∷◌};
 mod groups;
 mod objects;
 
+use crate::checks::same;
 use std::alloc::{AllocError, Global};
 use std::test::Fail;
 use xfs_geom::{Geometry, Run};
@@ -69,7 +70,7 @@ fn lowest_chunks(rt: HostRuntime) -> Result<(), Fail> {
     for (size, from, count, due) in cases {
         let found = chunks(alloc, &ask(alloc, size.max(1), from, count)?);
         match found {
-            Ok(starts) => assert_eq!(rt; starts.as_slice(), due, "{size} {from}"),
+            Ok(starts) => same!(rt; starts.as_slice(), due; (size, from)),
             Err(fault) => panic!(rt; "{size} {from}: {fault:?}"),
         }
     }

@@ -5,6 +5,7 @@ ghost use Rattle.xfs_word.specs.Seal.{layout_of};
 ghost use Rattle.xfs_dirindex.specs.Mapped.{Ascend};
 ghost use Rattle.xfs_dirbuild.specs.Names.{IsNamed};
 
+use crate::checks::same;
 use std::alloc::{AllocError, Global};
 use std::process::Abort;
 use std::test::Fail;
@@ -160,14 +161,14 @@ fn placed(rt: &impl Abort, alloc: Global, image: DirImage) -> Result<DirSeen, Fa
         free_blocks: _,
         mut blocks,
     } = image;
-    assert_eq!(rt; offsets.len(), blocks.len());
+    assert!(rt; offsets.len() == blocks.len());
     for i in 0..offsets.len() {
         let offset = offsets[i];
         assert!(rt; offset < 0x200_0000);
         assert!(rt; i < blocks.len());
         assert!(rt; place(offset, blocks.view_mut(i)), "file block {offset}");
     }
-    assert_eq!(rt; offsets.len(), blocks.len());
+    assert!(rt; offsets.len() == blocks.len());
     Ok(DirSeen {
         dir: DIR,
         size: 4096 * data_blocks,
@@ -232,11 +233,7 @@ fn assert_shares(rt: &impl Abort, alloc: Global, count: u32, image: &DirImage) {
     for (names, first, end, due) in SHARES {
         if names == count {
             for block in first..end {
-                assert_eq!(rt;
-                    share(rt, alloc, image, block),
-                    due,
-                    "{count} names, block {block}"
-                );
+                same!(rt; share(rt, alloc, image, block), due; (count, block));
             }
         }
     }
@@ -247,29 +244,21 @@ fn assert_row(rt: &impl Abort, alloc: Global, row: &Row) -> Result<(), Fail> {
     let (count, form, data, index, free, short, block, at) = *row;
     assert!(rt; count <= 20000);
     let image = built(alloc, count)?;
-    assert_eq!(rt;
-        (image.data_blocks, image.index_blocks, image.free_blocks),
-        (data, index, free),
-        "{count} names"
-    );
-    assert_eq!(rt; image.short.len(), short, "{count} names");
+    same!(rt; (image.data_blocks, image.index_blocks, image.free_blocks), (data, index, free); count);
+    same!(rt; image.short.len(), short; count);
     assert_shares(rt, alloc, count, &image);
     let mut dir = placed(rt, alloc, image)?;
     if form == Form::Short {
         return Ok(());
     }
-    assert_eq!(rt; check(alloc, form, &dir), Ok(()), "{count} names");
+    same!(rt; check(alloc, form, &dir), Ok(()); count);
     assert!(rt; block < dir.blocks.len());
     assert!(rt; at < 4000);
     let bytes = dir.blocks.view_mut(block);
     let address = get32(bytes, at);
     put32(bytes, at, address.wrapping_add(1));
-    assert_eq!(rt; dir.blocks.len(), dir.offsets.len());
-    assert_eq!(rt;
-        check(alloc, form, &dir),
-        Err(IndexFault::Unsound),
-        "{count} names"
-    );
+    assert!(rt; dir.blocks.len() == dir.offsets.len());
+    same!(rt; check(alloc, form, &dir), Err(IndexFault::Unsound); count);
     Ok(())
 }
 

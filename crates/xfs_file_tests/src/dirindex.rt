@@ -3,6 +3,7 @@
 ghost use Rattle.std.specs.Prelude.{◌≡◌, ◌≤◌, length, IfOk};
 ghost use Rattle.xfs_dirindex.specs.Mapped.{Ascend};
 
+use crate::checks::same;
 use std::alloc::{AllocError, Global};
 use std::process::Abort;
 use std::test::Fail;
@@ -148,7 +149,7 @@ fn dir_of(
     put32(blocks.view_mut(1), 0, 0x5844_4433);
     change(rt, &mut blocks, form);
     change(rt, &mut blocks, changes);
-    assert_eq!(rt; blocks.len(), offsets.len());
+    assert!(rt; blocks.len() == offsets.len());
     Ok(DirSeen {
         dir: 100,
         size: 16384,
@@ -187,7 +188,7 @@ fn leaf_root(
 {
     let mut dir = dir_of(rt, alloc, &[0, 3, 0x80_0000, 0x100_0000], LEAF, FREE)?;
     change(rt, &mut dir.blocks, changes);
-    assert_eq!(rt; dir.blocks.len(), 4);
+    assert!(rt; dir.blocks.len() == 4);
     Ok(dir)
 }
 
@@ -203,7 +204,7 @@ fn single(rt: &impl Abort, alloc: Global, changes: &[(usize, usize, u16)]) -> Re
     blocks.view_mut(0).copy_from_slice(&block);
     change(rt, &mut blocks, SINGLE);
     change(rt, &mut blocks, changes);
-    assert_eq!(rt; blocks.len(), 1);
+    assert!(rt; blocks.len() == 1);
     Ok(DirSeen {
         dir: 100,
         size: 4096,
@@ -248,14 +249,10 @@ fn leaf_form(rt: HostRuntime) -> Result<(), Fail> {
     ];
     for (number, (changes, sound)) in table.iter().enumerate() {
         let dir = leaf(&rt, rt.alloc(), changes)?;
-        assert_eq!(rt;
-            check_leaf(rt.alloc(), &dir).is_ok(),
-            *sound,
-            "change {number}"
-        );
+        same!(rt; check_leaf(rt.alloc(), &dir).is_ok(), *sound; number);
     }
     let dir = leaf(&rt, rt.alloc(), &[])?;
-    assert_eq!(rt; check_block(rt.alloc(), &dir), Err(IndexFault::Unsound));
+    same!(rt; check_block(rt.alloc(), &dir), Err(IndexFault::Unsound));
     for (size, offsets, sound) in [
         (16384, [0, 3, 0x80_0000], true),
         (16383, [0, 3, 0x80_0000], false),
@@ -267,7 +264,7 @@ fn leaf_form(rt: HostRuntime) -> Result<(), Fail> {
         assert!(rt; offsets[0] < offsets[1] && offsets[1] < offsets[2]);
         dir.size = size;
         dir.offsets = Vec::from_slice(rt.alloc(), &offsets)?;
-        assert_eq!(rt; check_leaf(rt.alloc(), &dir).is_ok(), sound, "{size} bytes");
+        same!(rt; check_leaf(rt.alloc(), &dir).is_ok(), sound; size);
     }
     Ok(())
 }
@@ -308,14 +305,10 @@ fn node_form(rt: HostRuntime) -> Result<(), Fail> {
     ];
     for (number, (changes, sound)) in table.iter().enumerate() {
         let dir = node(&rt, rt.alloc(), changes)?;
-        assert_eq!(rt;
-            check_node(rt.alloc(), &dir).is_ok(),
-            *sound,
-            "change {number}"
-        );
+        same!(rt; check_node(rt.alloc(), &dir).is_ok(), *sound; number);
     }
     let dir = node(&rt, rt.alloc(), &[])?;
-    assert_eq!(rt; check_leaf(rt.alloc(), &dir), Err(IndexFault::Unsound));
+    same!(rt; check_leaf(rt.alloc(), &dir), Err(IndexFault::Unsound));
     Ok(())
 }
 
@@ -335,7 +328,7 @@ fn node_form_of_one_leaf(rt: HostRuntime) -> Result<(), Fail> {
         let mut dir = leaf_root(&rt, rt.alloc(), changes)?;
         assert!(rt; offsets[0] < offsets[1] && offsets[1] < offsets[2] && offsets[2] < offsets[3]);
         dir.offsets = Vec::from_slice(rt.alloc(), &offsets)?;
-        assert_eq!(rt; check_node(rt.alloc(), &dir).is_ok(), sound, "{offsets:?}");
+        same!(rt; check_node(rt.alloc(), &dir).is_ok(), sound; offsets);
     }
     Ok(())
 }
@@ -355,17 +348,13 @@ fn single_block_form(rt: HostRuntime) -> Result<(), Fail> {
     ];
     for (number, (changes, sound)) in table.iter().enumerate() {
         let dir = single(&rt, rt.alloc(), changes)?;
-        assert_eq!(rt;
-            check_block(rt.alloc(), &dir).is_ok(),
-            *sound,
-            "change {number}"
-        );
+        same!(rt; check_block(rt.alloc(), &dir).is_ok(), *sound; number);
     }
     let mut dir = single(&rt, rt.alloc(), &[])?;
     dir.size = 8192;
-    assert_eq!(rt; check_block(rt.alloc(), &dir), Err(IndexFault::Unsound));
+    same!(rt; check_block(rt.alloc(), &dir), Err(IndexFault::Unsound));
     dir.size = 4096;
     dir.offsets = Vec::from_slice(rt.alloc(), &[1])?;
-    assert_eq!(rt; check_block(rt.alloc(), &dir), Err(IndexFault::Unsound));
+    same!(rt; check_block(rt.alloc(), &dir), Err(IndexFault::Unsound));
     Ok(())
 }

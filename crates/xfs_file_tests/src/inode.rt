@@ -9,6 +9,7 @@ mod disks;
 mod files;
 mod real;
 
+use crate::checks::same;
 use std::alloc::Global;
 use std::process::Abort;
 use std::sync::ledger::{Blank, Ledger};
@@ -191,7 +192,7 @@ fn features(rt: HostRuntime) -> Result<(), Fail> {
     ];
     for (what, parts, due) in rows {
         let slot = file_with(&rt, parts);
-        assert_eq!(rt; refused(&rt, read_slot(&g, 131, &slot)), due, "{what}");
+        same!(rt; refused(&rt, read_slot(&g, 131, &slot)), due; what);
     }
     Ok(())
 }
@@ -210,11 +211,11 @@ fn seals(rt: HostRuntime) -> Result<(), Fail> {
     ];
     for (parts, ino, due) in rows {
         let slot = file_with(&rt, parts);
-        assert_eq!(rt; read_slot(&g, ino, &slot), due);
+        same!(rt; read_slot(&g, ino, &slot), due);
     }
     let mut slot = file_with(&rt, &[]);
     slot[511] = 1;
-    assert_eq!(rt; read_slot(&g, 131, &slot), SlotRead::Unsound);
+    same!(rt; read_slot(&g, 131, &slot), SlotRead::Unsound);
     Ok(())
 }
 
@@ -229,7 +230,7 @@ fn blank_slots(rt: HostRuntime) -> Result<(), Fail> {
     };
     let mut slot = [0xff; 512];
     free_slot(&g, 131, &stamp, &mut slot);
-    assert_eq!(rt; read_slot(&g, 131, &slot), SlotRead::Free);
+    same!(rt; read_slot(&g, 131, &slot), SlotRead::Free);
     let mut due = [0; 512];
     plant(
         &rt,
@@ -243,15 +244,12 @@ fn blank_slots(rt: HostRuntime) -> Result<(), Fail> {
     );
     put_part(&mut due, 100, &slot[100..104]);
     put_part(&mut due, 160, &IDENTIFIER);
-    assert_eq!(rt; slot, due);
+    same!(rt; slot, due);
     slot = [0xff; 512];
     fresh_slot(&g, &FRESH, &EXTENT, &mut slot);
     let crc = stored_checksum(&slot, 100);
-    assert_eq!(rt;
-        read_slot(&g, 131, &slot),
-        SlotRead::InUse(Core { crc, ..FRESH })
-    );
-    assert_eq!(rt; &slot[176..192], &EXTENT[..]);
+    same!(rt; read_slot(&g, 131, &slot), SlotRead::InUse(Core { crc, ..FRESH }));
+    same!(rt; &slot[176..192], &EXTENT[..]);
     assert!(rt; slot[192..].iter().all(|byte| *byte == 0));
     Ok(())
 }
@@ -290,7 +288,7 @@ fn changed_slots(rt: HostRuntime) -> Result<(), Fail> {
             &[(16, &[0, 0, 0, 9]), (96, &[0xff, 0xff, 0xff, 0xff])],
         );
         seal_file(&mut due);
-        assert_eq!(rt; slot, due);
+        same!(rt; slot, due);
         assert!(rt; get8(&slot, 82) <= 41);
         drop_attrs(&g, 131, 3, &mut slot);
         plant(
@@ -300,7 +298,7 @@ fn changed_slots(rt: HostRuntime) -> Result<(), Fail> {
         );
         due[end..].fill(0);
         seal_file(&mut due);
-        assert_eq!(rt; slot, due);
+        same!(rt; slot, due);
         assert!(rt; get8(&slot, 82) <= 41);
         set_fork(&g, 131, &wanted, &mut slot);
         plant(
@@ -316,7 +314,7 @@ fn changed_slots(rt: HostRuntime) -> Result<(), Fail> {
         due[176..].fill(0);
         plant(&rt, &mut due, &[(176, &[0xab, 0xcd])]);
         seal_file(&mut due);
-        assert_eq!(rt; slot, due);
+        same!(rt; slot, due);
     }
     Ok(())
 }

@@ -2,6 +2,8 @@
 #![tactic(auto)]
 
 #[cfg(test)]
+mod checks;
+#[cfg(test)]
 mod dirbuild;
 #[cfg(test)]
 mod dirindex;

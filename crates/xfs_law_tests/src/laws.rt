@@ -3,6 +3,7 @@
 mod changes;
 mod volumes;
 
+use crate::checks::same;
 use changes::{Change, apply};
 use std::alloc::Global;
 use std::process::Abort;
@@ -64,8 +65,8 @@ fn chunk(freecount: u8, free: u64) -> u128 {
 #[test]
 fn whole(rt: HostRuntime) -> Result<(), Fail> {
     let alloc = rt.alloc();
-    assert_eq!(rt; judged(&rt, alloc, &empty(alloc)?), None);
-    assert_eq!(rt; judged(&rt, alloc, &with_files(alloc)?), None);
+    same!(rt; judged(&rt, alloc, &empty(alloc)?), None);
+    same!(rt; judged(&rt, alloc, &with_files(alloc)?), None);
     Ok(())
 }
 
@@ -79,7 +80,7 @@ fn broken_when_empty(rt: HostRuntime) -> Result<(), Fail> {
     for (change, row) in rows {
         let mut parts = empty(alloc)?;
         apply(&rt, alloc, &mut parts, change);
-        assert_eq!(rt; judged(&rt, alloc, &parts), Some(row));
+        same!(rt; judged(&rt, alloc, &parts), Some(row));
     }
     Ok(())
 }
@@ -92,7 +93,7 @@ fn refused<R: Threads + Abort + Sync>(rt: &R, alloc: Global, rows: &[(Change, Ro
             Err(_) => panic!(rt; "there is memory"),
         };
         apply(rt, alloc, &mut parts, *change);
-        assert_eq!(rt; judged(rt, alloc, &parts), Some(*row));
+        same!(rt; judged(rt, alloc, &parts), Some(*row));
     }
 }
 
@@ -240,7 +241,7 @@ fn kept(rt: HostRuntime) -> Result<(), Fail> {
     ] {
         let mut parts = with_files(alloc)?;
         apply(&rt, alloc, &mut parts, change);
-        assert_eq!(rt; judged(&rt, alloc, &parts), None);
+        same!(rt; judged(&rt, alloc, &parts), None);
     }
     Ok(())
 }

@@ -3,6 +3,7 @@
 mod listed;
 mod worlds;
 
+use crate::checks::same;
 use itoa::Buffer;
 use listed::are_listed;
 use std::alloc::{AllocError, Global};
@@ -20,7 +21,7 @@ fn small_worlds(rt: HostRuntime) -> Result<(), Fail> {
         assert!(rt; are_listed(&files, &entries, world.root), "{}", world.what);
         let names = connect(rt.alloc(), &files, &entries, world.root)?;
         let told = told(rt.alloc(), &names)?;
-        assert_eq!(rt; told.as_slice(), world.told.as_bytes(), "{}", world.what);
+        same!(rt; told.as_slice(), world.told.as_bytes(); world.what);
     }
     Ok(())
 }

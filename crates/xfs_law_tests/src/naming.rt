@@ -3,6 +3,7 @@
 mod catalogs;
 mod worlds;
 
+use crate::checks::same;
 use catalogs::is_catalog;
 use std::alloc::{AllocError, Global};
 use std::process::Abort;
@@ -118,7 +119,7 @@ fn check_worlds(rt: &impl Abort, alloc: Global, worlds: &[World]) -> Result<(), 
         let found = check_names(alloc, 128, &files, &entries, &dirs)
             .ok()
             .ok_or("no memory")?;
-        assert_eq!(rt; found, law_of(world.broken), "{}", world.what);
+        same!(rt; found, law_of(world.broken); world.what);
     }
     Ok(())
 }

@@ -3,6 +3,7 @@
 mod judging;
 mod volumes;
 
+use crate::checks::same;
 use std::test::Fail;
 use volumes::{Owner, Sketch, law_of};
 use xfs_volume::Law;
@@ -78,16 +79,12 @@ const BEHIND: [(u32, u32); 2] = [(12, 4), (29, 995)];
 #[test]
 fn lawful_volumes(rt: HostRuntime) -> Result<(), Fail> {
     let alloc = rt.alloc();
-    assert_eq!(rt; law_of(&rt, alloc, &FIRST, &LAST, &[])?, None);
+    same!(rt; law_of(&rt, alloc, &FIRST, &LAST, &[])?, None);
     let twice = Sketch {
         listed: &[6, 7, 8, 9, 10, 11, 11],
         ..FIRST
     };
-    assert_eq!(rt;
-        law_of(&rt, alloc, &twice, &LAST, &[])?,
-        None,
-        "an entry stands twice"
-    );
+    same!(rt; law_of(&rt, alloc, &twice, &LAST, &[])?, None; "an entry stands twice");
     let half = Sketch {
         bno: &[(12, 4), (20, 1004)],
         cnt: &[(12, 4), (20, 1004)],
@@ -101,11 +98,7 @@ fn lawful_volumes(rt: HostRuntime) -> Result<(), Fail> {
         ],
         ..FIRST
     };
-    assert_eq!(rt;
-        law_of(&rt, alloc, &half, &LAST, &[])?,
-        None,
-        "half of a chunk"
-    );
+    same!(rt; law_of(&rt, alloc, &half, &LAST, &[])?, None; "half of a chunk");
     let file = Owner {
         ino: 131,
         extents: &[(30, 990, true)],
@@ -127,11 +120,7 @@ fn lawful_volumes(rt: HostRuntime) -> Result<(), Fail> {
         ],
         ..FIRST
     };
-    assert_eq!(rt;
-        law_of(&rt, alloc, &filled, &LAST, &[file])?,
-        None,
-        "all of a file"
-    );
+    same!(rt; law_of(&rt, alloc, &filled, &LAST, &[file])?, None; "all of a file");
     Ok(())
 }
 
@@ -139,10 +128,7 @@ fn lawful_volumes(rt: HostRuntime) -> Result<(), Fail> {
 fn shared_blocks(rt: HostRuntime) -> Result<(), Fail> {
     let alloc = rt.alloc();
     let other = Owner { ino: 132, ..FILE };
-    assert_eq!(rt;
-        law_of(&rt, alloc, &FIRST, &LAST, &[FILE, other])?,
-        law(1, 24, 2, 1)
-    );
+    same!(rt; law_of(&rt, alloc, &FIRST, &LAST, &[FILE, other])?, law(1, 24, 2, 1));
     let third = Owner {
         ino: 133,
         extents: &[(26, 1, false)],
@@ -153,30 +139,19 @@ fn shared_blocks(rt: HostRuntime) -> Result<(), Fail> {
         extents: &[(20, 7, false)],
         ..FILE
     };
-    assert_eq!(rt;
-        law_of(&rt, alloc, &FIRST, &LAST, &[third, FILE, longer])?,
-        law(1, 20, 2, 1),
-        "a cluster"
-    );
-    assert_eq!(rt;
-        law_of(
+    same!(rt; law_of(&rt, alloc, &FIRST, &LAST, &[third, FILE, longer])?, law(1, 20, 2, 1); "a cluster");
+    same!(rt; law_of(
             &rt,
             alloc,
             &FIRST,
             &LAST,
             &[third, FILE, Owner { ino: 135, ..third }]
-        )?,
-        law(1, 26, 3, 1)
-    );
+        )?, law(1, 26, 3, 1));
     let in_log = Owner {
         extents: &[(1541, 1, false)],
         ..FILE
     };
-    assert_eq!(rt;
-        law_of(&rt, alloc, &FIRST, &LAST, &[in_log])?,
-        law(1, 1541, 2, 1),
-        "the last block of the log"
-    );
+    same!(rt; law_of(&rt, alloc, &FIRST, &LAST, &[in_log])?, law(1, 1541, 2, 1); "the last block of the log");
     Ok(())
 }
 
@@ -188,27 +163,17 @@ fn free_space(rt: HostRuntime) -> Result<(), Fail> {
         bno: &[(12, 4)],
         ..FIRST
     };
-    assert_eq!(rt;
-        law_of(&rt, alloc, &lacking, &LAST, &[])?,
-        law(2, 0, NOTHING, run(24, 1000))
-    );
+    same!(rt; law_of(&rt, alloc, &lacking, &LAST, &[])?, law(2, 0, NOTHING, run(24, 1000)));
     let full = Owner {
         extents: &[(24, 1000, false)],
         ..FILE
     };
-    assert_eq!(rt;
-        law_of(&rt, alloc, &FIRST, &LAST, &[full])?,
-        law(2, 0, run(24, 1000), NOTHING),
-        "one too many"
-    );
+    same!(rt; law_of(&rt, alloc, &FIRST, &LAST, &[full])?, law(2, 0, run(24, 1000), NOTHING); "one too many");
     let shorter = Sketch {
         bno: &[(12, 3), (24, 1000)],
         ..FIRST
     };
-    assert_eq!(rt;
-        law_of(&rt, alloc, &shorter, &LAST, &[])?,
-        law(2, 0, run(12, 3), run(12, 4))
-    );
+    same!(rt; law_of(&rt, alloc, &shorter, &LAST, &[])?, law(2, 0, run(12, 3), run(12, 4)));
     let by_length = Sketch {
         bno: &[(12, 4), (24, 3), (30, 994)],
         cnt: &[(12, 4), (30, 994)],
@@ -218,20 +183,12 @@ fn free_space(rt: HostRuntime) -> Result<(), Fail> {
         extents: &[(27, 3, false)],
         ..FILE
     };
-    assert_eq!(rt;
-        law_of(&rt, alloc, &by_length, &LAST, &[between])?,
-        law(2, 1, run(12, 4), run(24, 3)),
-        "by length"
-    );
+    same!(rt; law_of(&rt, alloc, &by_length, &LAST, &[between])?, law(2, 1, run(12, 4), run(24, 3)); "by length");
     let last = Sketch {
         cnt: &[(524, 499)],
         ..LAST
     };
-    assert_eq!(rt;
-        law_of(&rt, alloc, &FIRST, &last, &[])?,
-        law(2, 3, run(524, 499), run(524, 500)),
-        "the last group"
-    );
+    same!(rt; law_of(&rt, alloc, &FIRST, &last, &[])?, law(2, 3, run(524, 499), run(524, 500)); "the last group");
     Ok(())
 }
 
@@ -258,10 +215,7 @@ fn recorded_owners(rt: HostRuntime) -> Result<(), Fail> {
         ],
         ..FIRST
     };
-    assert_eq!(rt;
-        law_of(&rt, alloc, &missing, &LAST, &[])?,
-        law(3, 16, NOTHING, owned(INODES, 0))
-    );
+    same!(rt; law_of(&rt, alloc, &missing, &LAST, &[])?, law(3, 16, NOTHING, owned(INODES, 0)));
     let other = Sketch {
         rmap: &[
             (0, 1, FS, 0),
@@ -271,10 +225,7 @@ fn recorded_owners(rt: HostRuntime) -> Result<(), Fail> {
         ],
         ..FIRST
     };
-    assert_eq!(rt;
-        law_of(&rt, alloc, &other, &LAST, &[])?,
-        law(3, 3, owned(AG, 0), owned(INOBT, 0))
-    );
+    same!(rt; law_of(&rt, alloc, &other, &LAST, &[])?, law(3, 3, owned(AG, 0), owned(INOBT, 0)));
     let moved = with_file(&[
         (0, 1, FS, 0),
         (1, 2, AG, 0),
@@ -284,11 +235,7 @@ fn recorded_owners(rt: HostRuntime) -> Result<(), Fail> {
         (24, 3, 131, 0),
         (27, 2, 131, 4),
     ]);
-    assert_eq!(rt;
-        law_of(&rt, alloc, &moved, &LAST, &[FILE])?,
-        law(3, 27, owned(131, 4), owned(131, 3)),
-        "an offset"
-    );
+    same!(rt; law_of(&rt, alloc, &moved, &LAST, &[FILE])?, law(3, 27, owned(131, 4), owned(131, 3)); "an offset");
     let written = with_file(&[
         (0, 1, FS, 0),
         (1, 2, AG, 0),
@@ -301,21 +248,14 @@ fn recorded_owners(rt: HostRuntime) -> Result<(), Fail> {
         extents: &[(24, 5, true)],
         ..FILE
     };
-    assert_eq!(rt; law_of(&rt, alloc, &written, &LAST, &[FILE])?, None);
-    assert_eq!(rt;
-        law_of(&rt, alloc, &written, &LAST, &[unwritten])?,
-        law(3, 24, owned(131, 0), owned(131, 1 << 61))
-    );
+    same!(rt; law_of(&rt, alloc, &written, &LAST, &[FILE])?, None);
+    same!(rt; law_of(&rt, alloc, &written, &LAST, &[unwritten])?, law(3, 24, owned(131, 0), owned(131, 1 << 61)));
     let tree = Owner {
         extents: &[(24, 4, false)],
         tree: &[28],
         ..FILE
     };
-    assert_eq!(rt;
-        law_of(&rt, alloc, &written, &LAST, &[tree])?,
-        law(3, 28, owned(131, 4), owned(131, 1 << 62)),
-        "a tree"
-    );
+    same!(rt; law_of(&rt, alloc, &written, &LAST, &[tree])?, law(3, 28, owned(131, 4), owned(131, 1 << 62)); "a tree");
     let past = Sketch {
         rmap: &[
             (0, 1, FS, 0),
@@ -328,10 +268,6 @@ fn recorded_owners(rt: HostRuntime) -> Result<(), Fail> {
         ],
         ..LAST
     };
-    assert_eq!(rt;
-        law_of(&rt, alloc, &FIRST, &past, &[])?,
-        law(3, 2024, owned(131, 0), NOTHING),
-        "past the last"
-    );
+    same!(rt; law_of(&rt, alloc, &FIRST, &past, &[])?, law(3, 2024, owned(131, 0), NOTHING); "past the last");
     Ok(())
 }

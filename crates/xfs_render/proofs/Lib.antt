@@ -10,7 +10,6 @@ pub mod PlanSteps
 pub mod LogSteps
 pub mod RenderSteps
 pub mod Marking
-pub mod Examples
 pub mod LawfulChunks
 pub mod LawfulRuns
 pub mod LawfulOwners

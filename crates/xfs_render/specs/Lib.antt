@@ -9,5 +9,4 @@ pub mod Logs
 pub mod Plans
 pub mod NewBlocks
 pub mod Rendering
-pub mod Examples
 pub mod Readiness

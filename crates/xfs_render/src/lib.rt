@@ -15,8 +15,6 @@ mod plan;
 mod readiness;
 mod rendering;
 mod slots;
-#[cfg(test)]
-mod tests;
 mod trees;
 mod wanted_slots;
 

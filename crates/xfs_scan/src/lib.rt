@@ -12,8 +12,6 @@ mod limits;
 mod recorded;
 mod scan;
 mod slots;
-#[cfg(test)]
-mod tests;
 mod view;
 mod whole;
 

@@ -8,16 +8,12 @@ mod kind;
 mod layout;
 mod level;
 mod met;
-#[cfg(test)]
-mod numbers;
 mod packing;
 mod places;
 mod reading;
 mod rules;
 mod seats;
 mod size;
-#[cfg(test)]
-mod tests;
 mod tree;
 mod unread;
 

@@ -3,6 +3,7 @@
 ghost use Rattle.std.specs.Prelude.{◌≡◌};
 ghost use Rattle.xfs_disk.specs.MemoryDisk.{size_of};
 
+use crate::checks::same;
 use std::test::Fail;
 use xfs_disk::{
     BLOCK_SIZE, Disk, Failed, Library, LibraryError, MemoryDisk, MemoryLibrary, MemorySink,
@@ -57,10 +58,10 @@ fn a_disk_fails_where_it_is_told_to(rt: HostRuntime) -> Result<(), Fail> {
         if let Some(writes) = writes {
             disk.stop_after(writes);
         }
-        assert_eq!(rt; outcomes(&mut disk), done);
-        assert_eq!(rt; disk.faults(), faults);
-        assert_eq!(rt; disk.image().get(0).copied(), Some(left[0]));
-        assert_eq!(rt; disk.image().get(BLOCK_SIZE).copied(), Some(left[1]));
+        same!(rt; outcomes(&mut disk), done);
+        same!(rt; disk.faults(), faults);
+        same!(rt; disk.image().get(0).copied(), Some(left[0]));
+        same!(rt; disk.image().get(BLOCK_SIZE).copied(), Some(left[1]));
     }
     assert!(rt; matches!(MemoryDisk::make(rt.alloc(), 1 << 52), Err(NoMemory)));
     Ok(())
@@ -80,9 +81,9 @@ fn streams_keep_their_bytes(rt: HostRuntime) -> Result<(), Fail> {
         (Ok(0), Err(Failed), b"helhell"),
     ];
     for (taken, put, bytes) in steps {
-        assert_eq!(rt; source.take(&mut part), taken);
-        assert_eq!(rt; sink.put(&part), put);
-        assert_eq!(rt; sink.bytes(), bytes);
+        same!(rt; source.take(&mut part), taken);
+        same!(rt; sink.put(&part), put);
+        same!(rt; sink.bytes(), bytes);
     }
     let name = Word::from_vec(Vec::new(rt.alloc()));
     let mut library = MemoryLibrary::make();

@@ -1,5 +1,6 @@
 //! The objects over the system, on files of the folder for temporary files.
 
+use crate::checks::same;
 use std::alloc::{AllocError, Global};
 use std::fs::{File, OpenOptions};
 use std::io::{ErrorKind, Write};
@@ -33,11 +34,11 @@ fn a_file_is_a_disk_of_its_whole_blocks(rt: HostRuntime) -> Result<(), Fail> {
     let mut block = [0; BLOCK_SIZE];
     let count = disk.blocks()?;
     assert!(rt; count == 2);
-    assert_eq!(rt; disk.write(1, &[2; BLOCK_SIZE]), Ok(()));
-    assert_eq!(rt; disk.sync(), Ok(()));
-    assert_eq!(rt; disk.read(1, &mut block), Ok(()));
+    same!(rt; disk.write(1, &[2; BLOCK_SIZE]), Ok(()));
+    same!(rt; disk.sync(), Ok(()));
+    same!(rt; disk.read(1, &mut block), Ok(()));
     assert!(rt; block == [2; BLOCK_SIZE]);
-    assert_eq!(rt; disk.read(0, &mut block), Ok(()));
+    same!(rt; disk.read(0, &mut block), Ok(()));
     assert!(rt; block == [1; BLOCK_SIZE]);
     for byte in bytes.iter_mut().skip(BLOCK_SIZE).take(BLOCK_SIZE) {
         *byte = 2;
@@ -47,14 +48,14 @@ fn a_file_is_a_disk_of_its_whole_blocks(rt: HostRuntime) -> Result<(), Fail> {
     options
         .open(&rt, path.as_path())?
         .set_len(BLOCK_SIZE as u64 + 1)?;
-    assert_eq!(rt; disk.faults(), 0);
-    assert_eq!(rt; disk.read(1, &mut block), Err(Failed));
-    assert_eq!(rt; disk.faults(), 1);
+    same!(rt; disk.faults(), 0);
+    same!(rt; disk.read(1, &mut block), Err(Failed));
+    same!(rt; disk.faults(), 1);
     fs::remove_file(&rt, path.as_path())?;
     let mut none = FileDisk::<File>::unopened();
-    assert_eq!(rt; none.blocks(), Err(Failed));
-    assert_eq!(rt; none.sync(), Err(Failed));
-    assert_eq!(rt; none.faults(), 1);
+    same!(rt; none.blocks(), Err(Failed));
+    same!(rt; none.sync(), Err(Failed));
+    same!(rt; none.faults(), 1);
     Ok(())
 }
 
@@ -65,8 +66,8 @@ fn a_file_that_is_only_read_takes_no_block(rt: HostRuntime) -> Result<(), Fail> 
     let mut disk = FileDisk::open(File::open(&rt, path.as_path())?)?;
     let count = disk.blocks()?;
     assert!(rt; count == 1);
-    assert_eq!(rt; disk.write(0, &[4; BLOCK_SIZE]), Err(Failed));
-    assert_eq!(rt; disk.faults(), 0);
+    same!(rt; disk.write(0, &[4; BLOCK_SIZE]), Err(Failed));
+    same!(rt; disk.faults(), 0);
     let now: Vec<u8> = fs::read(&rt, path.as_path())?;
     assert!(rt; now.as_slice() == [3; BLOCK_SIZE].as_slice());
     fs::remove_file(&rt, path.as_path())?;
@@ -99,17 +100,17 @@ impl Write for Narrow {
 fn streams_reach_the_system(rt: HostRuntime) -> Result<(), Fail> {
     let path = path_of(&rt, "streams")?;
     let mut sink = StreamSink::new(fs::create(&rt, path.as_path())?);
-    assert_eq!(rt; sink.put(b"four words "), Ok(()));
-    assert_eq!(rt; sink.put(b"of text"), Ok(()));
+    same!(rt; sink.put(b"four words "), Ok(()));
+    same!(rt; sink.put(b"of text"), Ok(()));
     let now: Vec<u8> = fs::read(&rt, path.as_path())?;
     assert!(rt; now.as_slice() == b"four words of text".as_slice());
     let mut source = StreamSource::new(File::open(&rt, path.as_path())?);
     let mut part = [0; 16];
-    assert_eq!(rt; source.take(&mut part), Ok(16));
+    same!(rt; source.take(&mut part), Ok(16));
     assert!(rt; part == *b"four words of te");
-    assert_eq!(rt; source.take(&mut part), Ok(2));
+    same!(rt; source.take(&mut part), Ok(2));
     assert!(rt; part == *b"xtur words of te");
-    assert_eq!(rt; source.take(&mut part), Ok(0));
+    same!(rt; source.take(&mut part), Ok(0));
     fs::remove_file(&rt, path.as_path())?;
     for (left, fault, put) in [
         (7, None, Ok(())),
@@ -117,7 +118,7 @@ fn streams_reach_the_system(rt: HostRuntime) -> Result<(), Fail> {
         (6, Some(ErrorKind::StorageFull), Err(Failed)),
     ] {
         let mut sink = StreamSink::new(Narrow { left, fault });
-        assert_eq!(rt; sink.put(b"letters"), put);
+        same!(rt; sink.put(b"letters"), put);
     }
     Ok(())
 }

@@ -3,6 +3,7 @@
 ghost use Rattle.std.specs.Prelude.{◌≡◌, ◌≤◌, ◌<◌, ◌^◌, length};
 
 use super::*;
+use crate::checks::same;
 use std::alloc::{AllocError, Global};
 use xfs_heads::{LogState, SectorSeen, blank_log_sector, log_state, see_sector};
 
@@ -133,7 +134,7 @@ fn unmounted_logs(rt: HostRuntime) -> Result<(), Fail> {
         ),
     ];
     for (name, runs, due) in rows {
-        assert_eq!(rt; log_state(&lay(rt.alloc(), runs)?), due, "{name}");
+        same!(rt; log_state(&lay(rt.alloc(), runs)?), due; name);
     }
     Ok(())
 }
@@ -201,7 +202,7 @@ fn records(rt: HostRuntime) -> Result<(), Fail> {
         for _ in seen.len()..64 {
             seen.push(data(2, 0))?;
         }
-        assert_eq!(rt; log_state(&seen), due, "{name}");
+        same!(rt; log_state(&seen), due; name);
     }
     Ok(())
 }
@@ -270,7 +271,7 @@ fn around_the_end(rt: HostRuntime) -> Result<(), Fail> {
         ),
     ];
     for (name, runs, due) in rows {
-        assert_eq!(rt; log_state(&lay(rt.alloc(), runs)?), due, "{name}");
+        same!(rt; log_state(&lay(rt.alloc(), runs)?), due; name);
     }
     Ok(())
 }
@@ -350,7 +351,7 @@ fn cleared_logs(rt: HostRuntime) -> Result<(), Fail> {
         ),
     ];
     for (name, runs, due) in rows {
-        assert_eq!(rt; log_state(&lay(rt.alloc(), runs)?), due, "{name}");
+        same!(rt; log_state(&lay(rt.alloc(), runs)?), due; name);
     }
     Ok(())
 }
@@ -421,7 +422,7 @@ fn real_logs(rt: HostRuntime) -> Result<(), Fail> {
         ),
     ];
     for (name, runs, due) in rows {
-        assert_eq!(rt; log_state(&lay(rt.alloc(), runs)?), due, "{name}");
+        same!(rt; log_state(&lay(rt.alloc(), runs)?), due; name);
     }
     Ok(())
 }
@@ -450,18 +451,18 @@ fn blank_sectors(rt: HostRuntime) -> Result<(), Fail> {
     put_part(&mut due, 0, &MADE_HEADER);
     put_part(&mut due, 300, &MADE_HEADER_END);
     blank_log_sector(1, 0, &IDENTIFIER, &mut sector);
-    assert_eq!(rt; sector, due);
+    same!(rt; sector, due);
     let mut due = [0; 512];
     put_part(&mut due, 0, &MADE_DATA);
     blank_log_sector(1, 1, &IDENTIFIER, &mut sector);
-    assert_eq!(rt; sector, due);
+    same!(rt; sector, due);
     for cycle in [1, 8, 0x7fff_ffff] {
         let mut seen = Vec::new(rt.alloc());
         for index in 0..64 {
             blank_log_sector(cycle, index, &IDENTIFIER, &mut sector);
             seen.push(see_sector(&sector))?;
         }
-        assert_eq!(rt; log_state(&seen), head(((cycle as u64) << 32) + 2));
+        same!(rt; log_state(&seen), head(((cycle as u64) << 32) + 2));
     }
     Ok(())
 }
@@ -475,7 +476,7 @@ fn seen_sectors(rt: HostRuntime) -> Result<(), Fail> {
     put32(&mut sector, 12, 2048);
     put32(&mut sector, 40, 16);
     put32(&mut sector, 320, 32768);
-    assert_eq!(rt; see_sector(&sector), header(7, 2048, 16));
+    same!(rt; see_sector(&sector), header(7, 2048, 16));
     put32(&mut sector, 0, 0xfeed_babd);
     put32(&mut sector, 8, 0xaa20_0000);
     let written = SectorSeen {
@@ -485,6 +486,6 @@ fn seen_sectors(rt: HostRuntime) -> Result<(), Fail> {
         flag: 0x20,
         ..header(0, 2048, 16)
     };
-    assert_eq!(rt; see_sector(&sector), written);
+    same!(rt; see_sector(&sector), written);
     Ok(())
 }

@@ -4,6 +4,7 @@
 ghost use Rattle.std.specs.Prelude.{◌≡◌, ◌≤◌};
 
 use super::*;
+use crate::checks::same;
 
 /// What of a sector is not a filling byte: at a byte offset, some bytes.
 type Parts = &'static [(usize, &'static [u8])];
@@ -178,7 +179,7 @@ fn headers_that_mkfs_made(rt: HostRuntime) -> Result<(), Fail> {
         crc: 0xbcb4_0733,
     };
     let sector = sector_of(&rt, 0, MADE_AGF);
-    assert_eq!(rt; read_agf(&g, 2, &sector), Some(agf));
+    same!(rt; read_agf(&g, 2, &sector), Some(agf));
     let agi = Agi {
         magicnum: 0x5841_4749,
         versionnum: 1,
@@ -198,10 +199,10 @@ fn headers_that_mkfs_made(rt: HostRuntime) -> Result<(), Fail> {
         free_level: 1,
     };
     let sector = sector_of(&rt, 0, MADE_AGI);
-    assert_eq!(rt; read_agi(&g, 2, &sector), Some(agi));
+    same!(rt; read_agi(&g, 2, &sector), Some(agi));
     let agfl = Agfl::new(&[884, 885, 886, 887, 888, 889]);
     let sector = sector_of(&rt, 0xff, MADE_AGFL);
-    assert_eq!(rt; read_agfl(&g, 2, &agf, &sector), Some(agfl));
+    same!(rt; read_agfl(&g, 2, &agf, &sector), Some(agfl));
     Ok(())
 }
 
@@ -231,9 +232,9 @@ fn headers_that_a_kernel_wrote(rt: HostRuntime) -> Result<(), Fail> {
         crc: 0xdbc5_8e10,
     };
     let sector = sector_of(&rt, 0, WRITTEN_AGF);
-    assert_eq!(rt; read_agf(&g, 0, &sector), Some(agf));
+    same!(rt; read_agf(&g, 0, &sector), Some(agf));
     let agfl = Agfl::new(&[790, 792, 794, 796, 798, 800, 802, 804]);
     let sector = sector_of(&rt, 0xff, WRITTEN_AGFL);
-    assert_eq!(rt; read_agfl(&g, 0, &agf, &sector), Some(agfl));
+    same!(rt; read_agfl(&g, 0, &agf, &sector), Some(agfl));
     Ok(())
 }

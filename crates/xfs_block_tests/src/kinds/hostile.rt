@@ -3,6 +3,7 @@
 ghost use Rattle.std.specs.Prelude.{◌≡◌, ◌+◌, ◌<◌, ◌≤◌, length};
 
 use super::volume;
+use crate::checks::same;
 use std::alloc::Global;
 use std::marker::Brand;
 use std::sync::ledger::{Blank, Ledger};
@@ -85,7 +86,7 @@ fn one_child_twice(rt: HostRuntime) {
     );
     let leaf = block(magic, 21, 0, 1, [NONE, 21], &[(56, 128), (60, 0x0000_4000)]);
     match reading::<Ino, Brand>(rt.alloc(), &Ino { ag: 0 }, &root, &leaf, Blank::new(1)) {
-        Err(fault) => assert_eq!(rt; fault, TreeError::Unread(Unread { block: 21, rule: 2 })),
+        Err(fault) => same!(rt; fault, TreeError::Unread(Unread { block: 21, rule: 2 })),
         Ok(_) => assert!(rt; false),
     }
 }
@@ -118,8 +119,8 @@ fn keys_of_owners(rt: HostRuntime) {
         ];
         let root = block(magic, 20, 1, 1, [NONE, NONE], &keys);
         match reading::<Rmap, Brand>(rt.alloc(), &Rmap { ag: 0 }, &root, &leaf, Blank::new(1)) {
-            Err(fault) => assert_eq!(rt; fault, TreeError::Unread(Unread { block: 21, rule })),
-            Ok(tree) => assert_eq!(rt; (tree.records.len(), rule), (1, 0)),
+            Err(fault) => same!(rt; fault, TreeError::Unread(Unread { block: 21, rule })),
+            Ok(tree) => same!(rt; (tree.records.len(), rule), (1, 0)),
         }
     }
 }

@@ -5,6 +5,7 @@ ghost use Rattle.xfs_geom.specs.Shape.{IsShaped};
 ghost use Rattle.xfs_place.specs.Objects.{IsAsk};
 
 use super::*;
+use crate::checks::same;
 use xfs_geom::{Counts, InoRec, RmapRec, Span};
 
 const FS: u64 = u64::MAX - 2;
@@ -157,14 +158,14 @@ fn compare(
     let groups = placed.groups.as_slice();
     assert!(rt; ag < groups.len());
     let placed = &groups[ag];
-    assert_eq!(rt; placed.bno.as_slice(), free);
-    assert_eq!(rt; placed.cnt.as_slice(), free);
-    assert_eq!(rt; placed.rmap.as_slice(), owners);
-    assert_eq!(rt; placed.agfl.as_slice(), due.list);
-    assert_eq!(rt; placed.fino.as_slice().len(), due.free_inodes);
-    assert_eq!(rt; placed.trees.as_slice().len(), 5);
+    same!(rt; placed.bno.as_slice(), free);
+    same!(rt; placed.cnt.as_slice(), free);
+    same!(rt; placed.rmap.as_slice(), owners);
+    same!(rt; placed.agfl.as_slice(), due.list);
+    assert!(rt; placed.fino.as_slice().len() == due.free_inodes);
+    assert!(rt; placed.trees.as_slice().len() == 5);
     for (tree, block) in placed.trees.as_slice().iter().zip(&due.trees) {
-        assert_eq!(rt; tree.blocks.as_slice(), [*block].as_slice());
+        same!(rt; tree.blocks.as_slice(), [*block].as_slice());
     }
 }
 
@@ -178,8 +179,8 @@ fn new_volume(rt: HostRuntime) -> Result<(), Fail> {
         ifree: 61,
         fdblocks: 1516,
     };
-    assert_eq!(rt; placed.counts, counts);
-    assert_eq!(rt; placed.groups.as_slice().len(), 2);
+    same!(rt; placed.counts, counts);
+    assert!(rt; placed.groups.as_slice().len() == 2);
     compare(
         &rt,
         &placed,
@@ -225,7 +226,7 @@ fn trees_beside_reserved_blocks(rt: HostRuntime) -> Result<(), Fail> {
     let alloc = rt.alloc();
     let reserved = vec![in alloc; 3, 5, 1027, 1029]?;
     let placed = place_beside(alloc, &SMALLEST, root_chunk(), reserved, Vec::new(alloc), 1)?;
-    assert_eq!(rt; placed.groups.as_slice().len(), 2);
+    assert!(rt; placed.groups.as_slice().len() == 2);
     compare(
         &rt,
         &placed,
@@ -293,7 +294,7 @@ fn small_last_group(rt: HostRuntime) -> Result<(), Fail> {
     let alloc = rt.alloc();
     let none = Vec::new(alloc);
     let placed = place_beside(alloc, &SMALL_LAST, file(1034, 54), none, Vec::new(alloc), 1)?;
-    assert_eq!(rt; placed.groups.as_slice().len(), 2);
+    assert!(rt; placed.groups.as_slice().len() == 2);
     compare(
         &rt,
         &placed,
@@ -349,7 +350,7 @@ fn groups_nearly_full(rt: HostRuntime) -> Result<(), Fail> {
             Err(PlaceFault::NoRoom(Place::Group(0))) => None,
             Err(fault) => panic!(rt; "{blocks}: {fault:?}"),
         };
-        assert_eq!(rt; seen, due, "{blocks}");
+        same!(rt; seen, due; blocks);
     }
     Ok(())
 }
@@ -368,8 +369,8 @@ fn four_groups(rt: HostRuntime) -> Result<(), Fail> {
     let alloc = rt.alloc();
     let none = Vec::new(alloc);
     let placed = place_beside(alloc, &FOUR_GROUPS, root_chunk(), none, Vec::new(alloc), 1)?;
-    assert_eq!(rt; placed.counts.fdblocks, 7648);
-    assert_eq!(rt; placed.groups.as_slice().len(), 4);
+    same!(rt; placed.counts.fdblocks, 7648);
+    assert!(rt; placed.groups.as_slice().len() == 4);
     let owners = [
         owned(0, 1, FS),
         owned(1, 2, AG),

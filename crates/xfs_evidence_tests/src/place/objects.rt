@@ -6,6 +6,7 @@ ghost use Rattle.xfs_place.specs.Objects.{IsAsk};
 
 use super::groups::{SMALLEST, Size, file, place_beside, root_chunk};
 use super::*;
+use crate::checks::same;
 
 /// An object that asks for runs of these lengths.
 fn object(alloc: Global, ino: u64, kind: ObjectKind, lengths: &[u32]) -> Result<Object, AllocError>
@@ -53,17 +54,17 @@ fn objects_before_trees(rt: HostRuntime) -> Result<(), Fail> {
         (1542, 500, 133),
     ];
     let runs = placed.runs.as_slice();
-    assert_eq!(rt; runs.len(), due.len());
+    assert!(rt; runs.len() == due.len());
     for (run, (start, count, owner)) in runs.iter().zip(&due) {
-        assert_eq!(rt; (run.start, run.count, run.owner), (*start, *count, *owner));
+        same!(rt; (run.start, run.count, run.owner), (*start, *count, *owner));
     }
     let lists = [
         [24, 1016, 1017, 1018, 1019, 1020],
         [1018, 1019, 1020, 1021, 1022, 1023],
     ];
-    assert_eq!(rt; placed.groups.as_slice().len(), 2);
+    assert!(rt; placed.groups.as_slice().len() == 2);
     for (group, list) in placed.groups.as_slice().iter().zip(&lists) {
-        assert_eq!(rt; group.agfl.as_slice(), list.as_slice());
+        same!(rt; group.agfl.as_slice(), list.as_slice());
     }
     Ok(())
 }
@@ -140,13 +141,9 @@ fn many_free_runs(rt: HostRuntime) -> Result<(), Fail> {
     let alloc = rt.alloc();
     for runs in [335, 336, 337] {
         let due = Some([1, 1, 1, 1, 4]);
-        assert_eq!(rt;
-            trees_beside(alloc, &SMALLEST, runs.min(400), 100)?,
-            due,
-            "{runs}"
-        );
+        same!(rt; trees_beside(alloc, &SMALLEST, runs.min(400), 100)?, due; runs);
     }
     let due = Some([400, 400, 1, 1, 1206]);
-    assert_eq!(rt; trees_beside(alloc, &LARGE, 200_000, 3000)?, due);
+    same!(rt; trees_beside(alloc, &LARGE, 200_000, 3000)?, due);
     Ok(())
 }

@@ -4,6 +4,7 @@ ghost use Rattle.std.specs.Prelude.{◌≤◌};
 ghost use Rattle.xfs_word.specs.Extent.{IsPackable};
 
 use super::*;
+use crate::checks::same;
 use std::alloc::Global;
 use std::marker::Brand;
 use std::sync::ledger::Blank;
@@ -95,11 +96,11 @@ fn read(
 
 /// Tests that the file is read whole.
 fn is_whole(rt: &impl Abort, file: &FileRec) {
-    assert_eq!(rt; file.core.size, 2_449_508);
-    assert_eq!(rt; file.core.nextents, 300);
-    assert_eq!(rt; file.core.nblocks, 302);
-    assert_eq!(rt; file.tree.as_slice(), &[300, 301][..]);
-    assert_eq!(rt; file.extents.as_slice().len(), 300);
+    same!(rt; file.core.size, 2_449_508);
+    same!(rt; file.core.nextents, 300);
+    same!(rt; file.core.nblocks, 302);
+    same!(rt; file.tree.as_slice(), &[300, 301][..]);
+    same!(rt; file.extents.as_slice().len(), 300);
     let mut i = 0;
     for found in file.extents.as_slice() {
         assert!(rt; i < EXTENTS && *found == extent(i));
@@ -127,9 +128,9 @@ fn a_file_of_two_leaves(rt: HostRuntime) -> Result<(), Fail> {
                 link: None,
             },
         ) => {
-            assert_eq!(rt; top.places.as_slice(), &[300, 301][..]);
-            assert_eq!(rt; top.lows.as_slice(), &[0, 300][..]);
-            assert_eq!(rt; top.level, 0);
+            same!(rt; top.places.as_slice(), &[300, 301][..]);
+            same!(rt; top.lows.as_slice(), &[0, 300][..]);
+            same!(rt; top.level, 0);
         }
         _ => panic!(rt; "a tree is named"),
     }

@@ -5,6 +5,7 @@ ghost use Rattle.std.specs.Option.{option_copied};
 ghost use Rattle.xfs_word.specs.Seal.{layout_of};
 
 use super::*;
+use crate::checks::same;
 use std::alloc::Global;
 use xfs_disk::{BLOCK_SIZE, NoMemory};
 use xfs_kinds::Bmbt;
@@ -328,7 +329,7 @@ fn read_rows(
     for (what, parts, due) in rows {
         let slot = file_with(rt, parts);
         let read = settle(alloc, &volume(IDENTIFIER), 131, &slot, tree, attr, link);
-        assert_eq!(rt; kind_of(rt, read), *due, "{what}");
+        same!(rt; kind_of(rt, read), *due; what);
     }
 }
 

@@ -4,6 +4,7 @@ ghost use Rattle.std.specs.Prelude.{◌≡◌, ◌<◌, length};
 
 use super::cuts::{BLOCKS, CUTS};
 use super::*;
+use crate::checks::same;
 use std::alloc::Global;
 use std::marker::Brand;
 use std::sync::ledger::Blank;
@@ -111,7 +112,7 @@ fn numbers(core: &Core) -> [u64; 29] {
 
 /// Tests that the fields of a core are those that are printed.
 fn same_core(rt: &impl Abort, core: &Core, due: &str) {
-    assert_eq!(rt; due.split_whitespace().count(), 29);
+    same!(rt; due.split_whitespace().count(), 29);
     for (number, due) in numbers(core).iter().zip(due.split_whitespace()) {
         assert!(rt;
             matches!(due.parse::<u64>(), Ok(due) if due == *number),
@@ -122,34 +123,34 @@ fn same_core(rt: &impl Abort, core: &Core, due: &str) {
 
 /// Tests that extents are those that are printed.
 fn same_extents(rt: &impl Abort, extents: &[Extent], due: &[[u64; 3]]) {
-    assert_eq!(rt; extents.len(), due.len());
+    same!(rt; extents.len(), due.len());
     for (extent, due) in extents.iter().zip(due) {
-        assert_eq!(rt; [extent.offset, extent.start, extent.count], *due);
+        same!(rt; [extent.offset, extent.start, extent.count], *due);
         assert!(rt; !extent.unwritten);
     }
 }
 
 /// Tests that attributes are those that are printed.
 fn same_attributes(rt: &impl Abort, attrs: &[Attr], due: &[(u8, &str, &str)]) {
-    assert_eq!(rt; attrs.len(), due.len());
+    same!(rt; attrs.len(), due.len());
     for (attr, due) in attrs.iter().zip(due) {
-        assert_eq!(rt; attr.flags, due.0);
-        assert_eq!(rt; attr.name.bytes(), due.1.as_bytes());
-        assert_eq!(rt; attr.value.bytes(), due.2.as_bytes());
+        same!(rt; attr.flags, due.0);
+        same!(rt; attr.name.bytes(), due.1.as_bytes());
+        same!(rt; attr.value.bytes(), due.2.as_bytes());
     }
 }
 
 /// Tests that a file is the one that is printed.
 fn same_file(rt: &impl Abort, file: &FileRec, due: &Cut) {
-    assert_eq!(rt; file.ino, due.ino);
+    same!(rt; file.ino, due.ino);
     same_core(rt, &file.core, due.core);
-    assert_eq!(rt; file.core.uuid, due.image);
+    same!(rt; file.core.uuid, due.image);
     same_extents(rt, file.extents.as_slice(), due.extents);
     same_extents(rt, file.attr.as_slice(), due.attr);
-    assert_eq!(rt; file.tree.as_slice(), due.tree);
+    same!(rt; file.tree.as_slice(), due.tree);
     same_attributes(rt, file.attrs.as_slice(), due.attrs);
-    assert_eq!(rt; file.target.bytes(), due.target.as_bytes());
-    assert_eq!(rt; file.device, due.device);
+    same!(rt; file.target.bytes(), due.target.as_bytes());
+    same!(rt; file.device, due.device);
 }
 
 /// Tests that inodes read as they are printed.

@@ -1,6 +1,7 @@
 //! Sessions over the volume, one row each.
 
 use super::volume::volume;
+use crate::checks::same;
 use std::alloc::{AllocError, Global};
 use std::process::Abort;
 use std::test::Fail;
@@ -167,8 +168,8 @@ fn check(rt: &impl Abort, alloc: Global, row: &Row) -> Result<(), Fail> {
     let mut input = MemorySource::make(alloc, row.input.as_bytes())?;
     let mut out = MemorySink::make(alloc, row.room)?;
     let outcome = shell(alloc, &mut disk, &mut input, &mut out, &options);
-    assert_eq!(rt; out.bytes(), row.told.as_bytes());
-    assert_eq!(rt; outcome, row.outcome);
+    same!(rt; out.bytes(), row.told.as_bytes());
+    same!(rt; outcome, row.outcome);
     Ok(())
 }
 
@@ -188,7 +189,7 @@ fn an_input_that_fails_runs_no_command(rt: HostRuntime) -> Result<(), Fail> {
     input.fail(1)?;
     let mut out = MemorySink::make(rt.alloc(), 80)?;
     let outcome = shell(rt.alloc(), &mut disk, &mut input, &mut out, &options);
-    assert_eq!(&rt; outcome, ShellOutcome::InputFault);
+    same!(&rt; outcome, ShellOutcome::InputFault);
     assert!(&rt; out.bytes().is_empty());
     Ok(())
 }
@@ -206,7 +207,7 @@ fn inputs_of_more_bytes_than_there_may_be_are_too_long(rt: HostRuntime) -> Resul
         let mut input = MemorySource::make(rt.alloc(), bytes.as_slice())?;
         let mut out = MemorySink::make(rt.alloc(), 80)?;
         let answer = shell(rt.alloc(), &mut disk, &mut input, &mut out, &options);
-        assert_eq!(&rt; answer, outcome);
+        same!(&rt; answer, outcome);
     }
     Ok(())
 }

@@ -3,6 +3,7 @@
 ghost use Rattle.std.specs.Prelude.{◌≡◌, ◌<◌};
 
 use super::sound::is_sound;
+use crate::checks::same;
 use std::alloc::{AllocError, Global};
 use std::marker::Brand;
 use std::process::Abort;
@@ -326,8 +327,8 @@ fn try_cases<R: Threads + Sync + Abort, L: Ledger>(
     for case in &CASES {
         let claims = claims_of(alloc, case)?;
         let kept = decide(rt, alloc, &claims, &mut steps)?;
-        assert_eq!(rt; kept.clusters.as_slice(), case.kept_clusters);
-        assert_eq!(rt; kept.files.as_slice(), case.kept_files);
+        same!(rt; kept.clusters.as_slice(), case.kept_clusters);
+        same!(rt; kept.files.as_slice(), case.kept_files);
     }
     Ok(())
 }

@@ -3,6 +3,7 @@
 ghost use Rattle.std.specs.Prelude.{◌≡◌, ◌<◌};
 
 use super::cases::decide;
+use crate::checks::same;
 use std::alloc::{AllocError, Global};
 use std::marker::Brand;
 use std::process::Abort;
@@ -80,8 +81,8 @@ fn try_one_run<R: Threads + Sync + Abort, L: Ledger>(
     let mut steps = Steps::<L>::from_blank(blank);
     let claims = claims_on_one_run(alloc)?;
     let kept = decide(rt, alloc, &claims, &mut steps)?;
-    assert_eq!(rt; kept.files.as_slice(), [131].as_slice());
-    assert_eq!(rt; kept.clusters.as_slice().len(), 3126);
+    same!(rt; kept.files.as_slice(), [131].as_slice());
+    same!(rt; kept.clusters.as_slice().len(), 3126);
     Ok(())
 }
 

@@ -71,7 +71,7 @@ pub fn law_of<R: Abort + Threads + Sync>(
     for owner in owners {
         files.push(file(alloc, owner)?)?;
     }
-    assert_eq!(rt; groups.len(), 2);
+    assert!(rt; groups.len() == 2);
     assert!(rt; are_groups(&g, &groups));
     assert!(rt; are_files(&g, &files));
     Ok(check_space(rt, alloc, &g, &groups, &files)?)
