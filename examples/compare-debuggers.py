@@ -6,18 +6,14 @@ flags as single bits, the bytes of a checksum, texts with zero bytes behind them
     examples/compare-debuggers.py IMAGE
 
 Needs xfsprogs and ./xfs. Prints how many fields are equal and each that is not; ends with 1 where one is not."""
-import calendar
 import os
 import re
 import subprocess
 import sys
-import time
+
+from xfsprogs import ENV, FLAGS, RENAMED, number, seconds
 
 TOP = os.path.join(os.path.dirname(os.path.abspath(__file__)), "..")
-ENV = dict(os.environ, TZ="UTC", LC_ALL="C")
-RENAMED = {"nlinkv2": "nlink", "naextents": "anextents", "change_count": "changecount", "inumber": "ino"}
-FLAGS = ["realtime", "prealloc", "newrtbm", "immutable", "append", "sync", "noatime", "nodump", "rtinherit", "projinherit",
-         "nosymlinks", "extsz", "extszinherit", "nodefrag", "filestream"]
 
 
 def lines_of(program, image, *commands):
@@ -26,16 +22,6 @@ def lines_of(program, image, *commands):
         words += ["-c", command]
     run = subprocess.run(words + ["-r", image], capture_output=True, text=True, env=ENV, check=False)
     return run.stdout.splitlines()
-
-
-def number(text):
-    """The number of a value in decimal, hexadecimal or octal, without what stands in brackets behind it."""
-    word = text.split(" ")[0]
-    if word.startswith("0x"):
-        return int(word, 16)
-    if re.fullmatch(r"0[0-7]+", word):
-        return int(word, 8)
-    return int(word)
 
 
 def swapped(checksum):
@@ -100,7 +86,7 @@ def theirs(image, *commands):
         name = name.split(".", 1)[1] if name.startswith(("core.", "v3.")) else name
         name = RENAMED.get(name, name)
         if name.endswith(".sec"):
-            found[name[:-4]] = (calendar.timegm(time.strptime(value.strip(), "%a %b %d %H:%M:%S %Y")) % 2**32) << 32
+            found[name[:-4]] = seconds(value)
         elif name.endswith(".nsec"):
             found[name[:-5]] |= int(value)
         elif name in FLAGS:

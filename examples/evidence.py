@@ -7,20 +7,15 @@ parent, and its entries in order. All directories are to be whole, and no file w
 
 In a group of which a cluster was found by its bytes, those clusters alone are due that have an inode in use. Prints how many items
 of each list there are and how many are not equal, with the first of these; ends with 1 where one is not."""
-import calendar
 import itertools
-import os
 import re
 import subprocess
 import sys
-import time
 
-ENV = dict(os.environ, TZ="UTC", LC_ALL="C")
-CORE = ["mode", "format", "uid", "gid", "nlink", "size", "nblocks", "extsize", "nextents", "naextents", "forkoff", "aformat", "gen",
+from xfsprogs import ENV, FLAGS, RENAMED, number, seconds
+
+CORE = ["mode", "format", "uid", "gid", "nlink", "size", "nblocks", "extsize", "nextents", "anextents", "forkoff", "aformat", "gen",
         "atime", "mtime", "ctime", "crtime", "flags", "flags2", "changecount"]
-RENAMED = {"nlinkv2": "nlink", "change_count": "changecount"}
-FLAGS = ["realtime", "prealloc", "newrtbm", "immutable", "append", "sync", "noatime", "nodump", "rtinherit", "projinherit",
-         "nosymlinks", "extsz", "extszinherit", "nodefrag", "filestream"]
 FTYPES = {"regular": 1, "directory": 2, "chardev": 3, "blkdev": 4, "fifo": 5, "socket": 6, "symlink": 7}
 ESCAPES = {bytes([97 + place]): bytes([7 + place]) for place in range(7)}  # bytes 7 to 13, as xfs_db writes them
 KINDS = ["cluster", "file", "extent", "tree", "attribute", "target", "dir", "entry"]
@@ -30,11 +25,6 @@ def debug(image, commands):
     """What xfs_db prints for these lines of input, in bytes."""
     run = subprocess.run(["xfs_db", "-r", image], input="\n".join(commands).encode() + b"\n", capture_output=True, env=ENV, check=False)
     return run.stdout
-
-
-def number(text):
-    word = text.split(" ")[0]
-    return int(word, 8) if re.fullmatch(r"0[0-7]+", word) else int(word, 0)
 
 
 def plain(text):
@@ -80,7 +70,7 @@ def core_of(lines):
         name = name.split(".", 1)[1]
         name = RENAMED.get(name, name)
         if name.endswith(".sec"):
-            found[name[:-4]] = (calendar.timegm(time.strptime(value.strip(), "%a %b %d %H:%M:%S %Y")) % 2**32) << 32
+            found[name[:-4]] = seconds(value)
         elif name.endswith(".nsec"):
             found[name[:-5]] |= int(value)
         elif name in FLAGS:
