@@ -1,4 +1,9 @@
 -- The bytes afterwards are those before with the block in its place.
+use Rattle.std.specs.List.{All, concat}
+use Rattle.xfs_disk.specs.Counts.{CountsFailure}
+use Rattle.xfs_disk.specs.Schedule.{after_write, CountsCall}
+use Rattle.xfs_disk.specs.MemoryImage.{is_told_image}
+use Rattle.xfs_disk.specs.MemoryDisk.{size_of, image_of, faults_of, write_faults_of, schedule_of, stop_of, IsStopped, FailsNext}
 use Rattle.std.proofs.Common.{◌≡◌, ◌<◌, length, rules, ap, ◌∙◌, arith}
 use Rattle.std.specs.Vec.{with_items}
 use Rattle.std.proofs.lemmas.List.Elements.{All-same}
@@ -26,3 +31,7 @@ returns-clause-written c =
     let long : length c.put_block.new.bytes ≡ before.bytes.len = search rules in
     let bytes : (with_items before.bytes c.put_block.new.bytes).items ≡ with_block before.bytes.items c.args.at c.args.from.now = items-with_block before.bytes _ _ c.args.from.now c.args.at long c.put_block.ensures c.deref_mut.ensures.value in
     image-with_block before.blocks c.args.at before.bytes.items _ c.args.from.now _ (omega arith) before.whole c.requires.whole bytes c.is_failing.ensures.disk.image
+
+-- src/memory_disk.rt:180:61
+pub returns-then-is_failing-clause-old : goal.returns-then-is_failing-clause-old
+returns-then-is_failing-clause-old c = search rules
