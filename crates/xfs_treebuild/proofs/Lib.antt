@@ -1,0 +1,16 @@
+pub mod Apart
+pub mod CleanRows
+pub mod PackedReads
+pub mod PackedTree
+pub mod PackingBytes
+pub mod PackingFaults
+pub mod PackingItems
+pub mod PackingLeaves
+pub mod PackingMade
+pub mod PackingNodes
+pub mod PackingOrder
+pub mod PackingReady
+pub mod PackingRows
+pub mod PackingShares
+pub mod PackingWhole
+pub mod Rows
