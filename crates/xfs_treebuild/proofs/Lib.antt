@@ -4,6 +4,7 @@ pub mod PackedReads
 pub mod PackedTree
 pub mod PackingBytes
 pub mod PackingFaults
+pub mod PackingHeads
 pub mod PackingItems
 pub mod PackingLeaves
 pub mod PackingMade
@@ -11,6 +12,7 @@ pub mod PackingNodes
 pub mod PackingOrder
 pub mod PackingReady
 pub mod PackingRows
+pub mod PackingSeats
 pub mod PackingShares
 pub mod PackingWhole
 pub mod Rows

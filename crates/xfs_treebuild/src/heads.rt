@@ -11,7 +11,7 @@ ghost use Rattle.xfs_tree.specs.Rules.{block_seal, can_hold, is_sibling};
 ghost use Rattle.xfs_treebuild.specs.Packing.{lsn_of};
 ghost use Rattle.xfs_treebuild.specs.Placed.{IsHeaded};
 
-use crate::shares::neighbours;
+use crate::shares::{left_of, right_of};
 use xfs_geom::Geometry;
 use xfs_tree::headers::{long, short};
 use xfs_tree::{Kind, Layout, layout_of};
@@ -54,13 +54,12 @@ pub(crate) fn put_head<K: Kind>(
 {
     let layout = layout_of(kind);
     let owner = kind.owner();
-    let beside = neighbours(row, i);
     let header = Header {
         magic: layout.magic,
         level: level as u16,
         count: short_count(&layout, level, count),
-        left: sibling(g, &layout, owner, beside.left),
-        right: sibling(g, &layout, owner, beside.right),
+        left: sibling(g, &layout, owner, left_of(row, i)),
+        right: sibling(g, &layout, owner, right_of(row, i)),
         place: row[i],
         owner,
     };
@@ -170,11 +169,51 @@ fn state_short(uuid: &[u8; 16], header: &Header, block: &mut [u8])
     ensures keeps { Keeps block.old block.new 0 52 }
     ensures keeps_parts { KeepsParts block.old block.new 0 52 }
 {
+    state_opening(header, block);
+    state_short_siblings(header, block);
+    state_short_place(uuid, header, block);
+}
+
+/// Writes what both headers begin with.
+fn state_opening(header: &Header, block: &mut [u8])
+    requires { length block.old ≡ 4096 }
+    ensures magic { field_of block.new 0 4 ≡ header.now.magic }
+    ensures level { field_of block.new 4 2 ≡ header.now.level }
+    ensures count { field_of block.new 6 2 ≡ header.now.count }
+    ensures keeps { Keeps block.old block.new 0 8 }
+    ensures keeps_parts { KeepsParts block.old block.new 0 8 }
+{
     short::MAGIC.write(block, header.magic as u64);
     short::LEVEL.write(block, header.level as u64);
     short::NUMRECS.write(block, header.count as u64);
+}
+
+/// Writes the siblings in a short header.
+fn state_short_siblings(header: &Header, block: &mut [u8])
+    requires block { length block.old ≡ 4096 }
+    requires left { header.now.left < 2 ^ 32 }
+    requires right { header.now.right < 2 ^ 32 }
+    ensures left { field_of block.new 8 4 ≡ header.now.left }
+    ensures right { field_of block.new 12 4 ≡ header.now.right }
+    ensures keeps { Keeps block.old block.new 8 8 }
+    ensures keeps_parts { KeepsParts block.old block.new 8 8 }
+{
     short::LEFTSIB.write(block, header.left);
     short::RIGHTSIB.write(block, header.right);
+}
+
+/// Writes the own address in a short header and what stands behind it, all but the checksum.
+fn state_short_place(uuid: &[u8; 16], header: &Header, block: &mut [u8])
+    requires block { length block.old ≡ 4096 }
+    requires inside { header.now.place < 2 ^ 26 }
+    requires owner { header.now.owner < 2 ^ 32 }
+    ensures place { field_of block.new 16 8 ≡ 8 * header.now.place }
+    ensures lsn { field_of block.new 24 8 ≡ 0 }
+    ensures uuid { part_of block.new 32 16 ≡ uuid.now }
+    ensures owner { field_of block.new 48 4 ≡ header.now.owner }
+    ensures keeps { Keeps block.old block.new 16 36 }
+    ensures keeps_parts { KeepsParts block.old block.new 16 36 }
+{
     short::BNO.write(block, 8 * header.place);
     short::LSN.write(block, 0);
     put_part(block, short::UUID.offset, uuid);
@@ -215,11 +254,34 @@ fn state_long(uuid: &[u8; 16], header: &Header, block: &mut [u8])
     ensures keeps { Keeps block.old block.new 0 64 }
     ensures keeps_parts { KeepsParts block.old block.new 0 64 }
 {
-    long::MAGIC.write(block, header.magic as u64);
-    long::LEVEL.write(block, header.level as u64);
-    long::NUMRECS.write(block, header.count as u64);
+    state_opening(header, block);
+    state_long_siblings(header, block);
+    state_long_place(uuid, header, block);
+}
+
+/// Writes the siblings in a long header.
+fn state_long_siblings(header: &Header, block: &mut [u8])
+    requires { length block.old ≡ 4096 }
+    ensures left { field_of block.new 8 8 ≡ header.now.left }
+    ensures right { field_of block.new 16 8 ≡ header.now.right }
+    ensures keeps { Keeps block.old block.new 8 16 }
+    ensures keeps_parts { KeepsParts block.old block.new 8 16 }
+{
     long::LEFTSIB.write(block, header.left);
     long::RIGHTSIB.write(block, header.right);
+}
+
+/// Writes the own address in a long header and what stands behind it, all but the checksum.
+fn state_long_place(uuid: &[u8; 16], header: &Header, block: &mut [u8])
+    requires block { length block.old ≡ 4096 }
+    requires inside { header.now.place < 2 ^ 26 }
+    ensures place { field_of block.new 24 8 ≡ 8 * header.now.place }
+    ensures lsn { field_of block.new 32 8 ≡ 0 }
+    ensures uuid { part_of block.new 40 16 ≡ uuid.now }
+    ensures owner { field_of block.new 56 8 ≡ header.now.owner }
+    ensures keeps { Keeps block.old block.new 24 40 }
+    ensures keeps_parts { KeepsParts block.old block.new 24 40 }
+{
     long::BNO.write(block, 8 * header.place);
     long::LSN.write(block, 0);
     put_part(block, long::UUID.offset, uuid);
