@@ -1,12 +1,12 @@
 #!/usr/bin/env bash
-# Measures xfs_tree: a million numbers packed into a tree, and the tree read from a disk in memory, beside a
+# Measures xfs_tree and xfs_treebuild: a million numbers packed into a tree, and the tree read from a disk in memory, beside a
 # plain C program (trees.c) that packs and reads the same blocks with the same checksums, eight bytes a step
 # as crc32c of xfs_word. Both must give the same bytes and numbers. The program that is measured lies in
 # tree_speed/, each file with .txt behind its name, and is proved in a copy of the crates, which is removed.
 set -eu
 . "$(dirname "$0")/crates.sh"
 gcc -O2 -Wall -Wextra -o plain "$top/bench/trees.c"
-take_program tree_speed xfs_word xfs_disk xfs_runs xfs_geom xfs_tree
+take_program tree_speed xfs_word xfs_disk xfs_runs xfs_geom xfs_tree xfs_treebuild
 prove_program tree_speed
 for turn in 1 2 3; do
   ours=$(crates/tree_speed/out/tree_speed)

@@ -13,6 +13,7 @@ use numbers::Numbers;
 use std::cmp::Ordering;
 use xfs_geom::Geometry;
 use xfs_tree::*;
+use xfs_treebuild::{pack, tree_size};
 use xfs_word::get16;
 
 #[test]

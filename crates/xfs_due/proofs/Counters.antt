@@ -5,8 +5,8 @@ use Rattle.std.proofs.lemmas.List.Sums.{sum-map}
 use Rattle.xfs_geom.specs.Volumes.{Volume}
 use Rattle.xfs_geom.specs.declared.records.InoRec.{InoRec}
 use Rattle.xfs_geom.specs.declared.records.Span.{Span}
-use Rattle.xfs_tree.specs.Packing.{rows_in, top_down}
-use Rattle.xfs_tree.specs.Size.{rows_of}
+use Rattle.xfs_treebuild.specs.Packing.{rows_in, top_down}
+use Rattle.xfs_treebuild.specs.Size.{rows_of}
 use Rattle.xfs_kinds.specs.InodeTrees.{settled_chunk}
 use Rattle.xfs_volume.specs.Laws.{AreKept}
 use Rattle.xfs_laws.specs.Counting as Laws

@@ -8,8 +8,8 @@ use Rattle.xfs_geom.specs.declared.records.InoRec.{InoRec}
 use Rattle.xfs_geom.specs.declared.records.RmapRec.{RmapRec}
 use Rattle.xfs_geom.specs.declared.records.Run.{Run}
 use Rattle.xfs_heads.specs.FreeList.{unused}
-use Rattle.xfs_tree.specs.Packing.{rows_in, top_down}
-use Rattle.xfs_tree.specs.Size.{rows_of}
+use Rattle.xfs_treebuild.specs.Packing.{rows_in, top_down}
+use Rattle.xfs_treebuild.specs.Size.{rows_of}
 use Rattle.xfs_kinds.specs.MergedRuns.{held_at}
 use Rattle.xfs_volume.specs.declared.groups.GroupRec.{GroupRec}
 use Rattle.xfs_volume.specs.declared.groups.TreeBlocks.{TreeBlocks}

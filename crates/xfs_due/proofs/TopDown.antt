@@ -8,7 +8,7 @@ use Rattle.std.proofs.lemmas.List.Sums.{sum_by-cons}
 use Rattle.xfs_geom.specs.Volumes.{Volume}
 use Rattle.xfs_geom.specs.declared.records.InoRec.{InoRec}
 use Rattle.xfs_geom.specs.declared.records.Run.{Run}
-use Rattle.xfs_tree.specs.Packing.{rows_in, top_down}
+use Rattle.xfs_treebuild.specs.Packing.{rows_in, top_down}
 use Rattle.xfs_volume.specs.declared.groups.TreeBlocks.{TreeBlocks}
 use Rattle.xfs_place.specs.Choice.{size_of}
 use Rattle.xfs_place.specs.Placing.{AreByLength, tree_sizes}

@@ -3,7 +3,7 @@ use Rattle.std.proofs.Common.{◌≡◌, ℕ, zero, suc, ◌+◌, ◌-◌, ◌*�
 use Rattle.std.specs.List.{fold, sum}
 use Rattle.std.proofs.lemmas.Bool.{eqb-true, leb-false}
 use Rattle.std.proofs.Math.Nat.{mul-le-mul_right}
-use Rattle.xfs_tree.specs.Size.{blocks_for, rows_above, rows_of}
+use Rattle.xfs_treebuild.specs.Size.{blocks_for, rows_above, rows_of}
 use Rattle.xfs_place.specs.Choice.{size_of}
 
 -- a sum begins with its first number

@@ -3,7 +3,7 @@
 use Rattle.std.specs.Prelude.{ℕ, zero, suc, Bool, true, false, not, ◌+◌, ◌-◌, ◌*◌, ◌≤◌, ◌<◌, ◌&&◌, ◌||◌, ◌==◌, ◌≡◌, ◌⊎◌, nat_le, nat_lt, if◌then◌else◌, List, length, Option, Some, None, slice_index}
 use Rattle.std.specs.List.{sum}
 use Rattle.std.specs.Option.{MatchOption, is_some}
-use Rattle.xfs_tree.specs.Size.{rows_of}
+use Rattle.xfs_treebuild.specs.Size.{rows_of}
 use Rattle.xfs_kinds.specs.OffsetWords.{offset_in_fork, flags_of, is_file_data}
 use Rattle.xfs_geom.specs.declared.records.Run.{Run}
 use Rattle.xfs_kinds.specs.MergedRuns.{held_at}

@@ -7,7 +7,7 @@ ghost use Rattle.xfs_place.specs.Pool.{is_open, use_at};
 use crate::uses::{Use, is_open};
 use std::alloc::Global;
 use xfs_disk::NoMemory;
-use xfs_tree::tree_size;
+use xfs_treebuild::tree_size;
 
 /// The lowest blocks of a group's pool.
 #[derive(Drop)]

@@ -3,7 +3,7 @@ use Rattle.std.proofs.Common.{◌≡◌, ℕ, zero, suc, ◌+◌, ◌*◌, ◌<�
 use Rattle.std.proofs.lemmas.List.{get_or_append_left, get_or-append-add, take-append-le, drop-append-le, length-drop}
 use Rattle.xfs_disk.specs.Blocks.{Image}
 use Rattle.xfs_word.specs.Field.{part_of}
-use Rattle.xfs_tree.specs.Packing.{Holds}
+use Rattle.xfs_treebuild.specs.Packing.{Holds}
 use Rattle.xfs_tree.specs.Reading.{bytes_at}
 use Rattle.xfs_render.specs.Drafts.{Adds, AddsPart, HoldsDraft, IsDraft}
 use Rattle.xfs_render.specs.declared.draft.Draft.{Draft}

@@ -2,8 +2,8 @@
 use Rattle.std.proofs.Common.{◌≡◌, ℕ, zero, suc, ◌+◌, ◌-◌, ◌*◌, ◌/◌, ◌^◌, ◌≤◌, ◌<◌, Bool, true, false, ◌==◌, nat_le, if◌then◌else◌, [], ◌∷◌, length, refl, ◌∙◌, ap, arith}
 use Rattle.std.proofs.lemmas.Bool.{leb-false}
 use Rattle.std.proofs.Math.Nat.{mul-le-mul_right}
-use Rattle.xfs_tree.specs.Size.{blocks_for, rows_above, rows_of}
-use Rattle.xfs_tree.proofs.Rows.{rows_end, rows_next}
+use Rattle.xfs_treebuild.specs.Size.{blocks_for, rows_above, rows_of}
+use Rattle.xfs_treebuild.proofs.Rows.{rows_end, rows_next}
 use Rattle.xfs_render.specs.Counters.{levels}
 
 -- at the leaves one level is counted

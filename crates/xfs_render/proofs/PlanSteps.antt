@@ -8,7 +8,7 @@ use Rattle.std.proofs.lemmas.List.{get_or-append-add, get_or-map, get_or_append_
 use Rattle.std.proofs.lemmas.List.Sorted.{All-permutation, Contains-permutation, IsPermutation-append, length_permutation, sum_by-IsPermutation}
 use Rattle.std.proofs.lemmas.List.Sums.{sum_by-cons}
 use Rattle.xfs_disk.specs.Blocks.{Image}
-use Rattle.xfs_tree.specs.Packing.{block_in}
+use Rattle.xfs_treebuild.specs.Packing.{block_in}
 use Rattle.xfs_tree.specs.Reading.{bytes_at}
 use Rattle.xfs_render.specs.Drafts.{HoldsDraft}
 use Rattle.xfs_render.specs.Plans.{AreRows, HasRows, IsArranged, IsOnce, planned}

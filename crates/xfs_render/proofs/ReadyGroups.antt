@@ -17,7 +17,7 @@ use Rattle.xfs_kinds.specs.InodeTrees.{ino_shape, fino_shape}
 use Rattle.xfs_kinds.specs.OwnerTrees.{rmap_shape}
 use Rattle.xfs_tree.specs.Rules.{are_lawful, can_hold, is_of_root_cluster}
 use Rattle.xfs_tree.specs.Shape.{Shape}
-use Rattle.xfs_tree.specs.Size.{rows_of}
+use Rattle.xfs_treebuild.specs.Size.{rows_of}
 use Rattle.xfs_volume.specs.declared.groups.TreeBlocks.{TreeBlocks}
 use Rattle.xfs_place.proofs.AllClaims.{all_each, is_volume}
 use Rattle.xfs_place.proofs.GroupIs.{group_is, length_uses}

@@ -4,7 +4,7 @@ use Rattle.std.specs.Prelude.{IsTrue}
 use Rattle.std.proofs.lemmas.Bool.{and_parts, or_parts, not-true, eqb-false, eqb-true, ltb-true}
 use Rattle.xfs_geom.specs.Conversions.{group_length}
 use Rattle.xfs_geom.specs.Volumes.{Volume}
-use Rattle.xfs_tree.specs.Packing.{root_of}
+use Rattle.xfs_treebuild.specs.Packing.{root_of}
 use Rattle.xfs_tree.specs.Rules.{can_hold}
 use Rattle.xfs_tree.specs.Shape.{Shape}
 use Rattle.xfs_tree.specs.declared.layout.Layout.{Layout}

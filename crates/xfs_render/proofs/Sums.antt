@@ -12,7 +12,7 @@ use Rattle.xfs_kinds.specs.FreeTrees.{bno_shape, is_free_run}
 use Rattle.xfs_place.proofs.Sizes.{size_small}
 use Rattle.xfs_place.specs.declared.placed.GroupPlaced.{GroupPlaced}
 use Rattle.xfs_tree.specs.Rules.{are_lawful}
-use Rattle.xfs_tree.specs.Size.{rows_of}
+use Rattle.xfs_treebuild.specs.Size.{rows_of}
 use Rattle.xfs_render.specs.Counters.{blocks_in}
 use Rattle.xfs_render.specs.Groups.{IsSound, tree_places}
 

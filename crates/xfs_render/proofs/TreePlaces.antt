@@ -11,7 +11,7 @@ use Rattle.xfs_geom.specs.Conversions.{group_length, is_fixed}
 use Rattle.xfs_geom.specs.Volumes.{Volume}
 use Rattle.xfs_geom.specs.declared.records.Run.{Run}
 use Rattle.xfs_heads.specs.Heads.{is_listable}
-use Rattle.xfs_tree.specs.Packing.{are_different}
+use Rattle.xfs_treebuild.specs.Packing.{are_different}
 use Rattle.xfs_tree.specs.Rules.{can_hold, is_of_root_cluster}
 use Rattle.xfs_tree.specs.declared.layout.Layout.{Layout}
 use Rattle.xfs_volume.specs.declared.groups.TreeBlocks.{TreeBlocks}

@@ -3,7 +3,7 @@ use Rattle.std.specs.Prelude.{ℕ, ◌-◌, ◌^◌, max, List, length, Option, 
 use Rattle.std.specs.List.{fold, sum_by}
 use Rattle.xfs_geom.specs.declared.records.InoRec.{InoRec}
 use Rattle.xfs_geom.specs.declared.records.Span.{Span}
-use Rattle.xfs_tree.specs.Size.{rows_of}
+use Rattle.xfs_treebuild.specs.Size.{rows_of}
 
 -- the blocks of some runs
 abbrev pub blocks_in : List Span → ℕ

@@ -1,7 +1,7 @@
 -- Blocks that are put down one after the other, each with its place.
 use Rattle.std.specs.Prelude.{◌≡◌, ℕ, ◌*◌, List, ◌++◌, length}
 use Rattle.xfs_disk.specs.Blocks.{Image}
-use Rattle.xfs_tree.specs.Packing.{Holds}
+use Rattle.xfs_treebuild.specs.Packing.{Holds}
 use Rattle.xfs_render.specs.declared.draft.Draft.{Draft}
 
 -- each place has 4096 bytes

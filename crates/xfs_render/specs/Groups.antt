@@ -13,10 +13,10 @@ use Rattle.xfs_heads.specs.declared.inodes.Agi.{Agi}
 use Rattle.xfs_kinds.specs.FreeTrees.{bno_shape, cnt_shape}
 use Rattle.xfs_kinds.specs.InodeTrees.{ino_shape, fino_shape}
 use Rattle.xfs_kinds.specs.OwnerTrees.{rmap_shape}
-use Rattle.xfs_tree.specs.Packing.{are_different, root_of}
+use Rattle.xfs_treebuild.specs.Packing.{are_different, root_of}
 use Rattle.xfs_tree.specs.Rules.{are_lawful, can_hold}
 use Rattle.xfs_tree.specs.Shape.{Shape}
-use Rattle.xfs_tree.specs.Size.{rows_of}
+use Rattle.xfs_treebuild.specs.Size.{rows_of}
 use Rattle.xfs_volume.specs.declared.groups.TreeBlocks.{TreeBlocks}
 use Rattle.xfs_place.specs.declared.placed.GroupPlaced.{GroupPlaced}
 use Rattle.xfs_render.specs.Counters.{blocks_in, free_inodes_in, inodes_in, levels, longest, newest}

@@ -2,7 +2,7 @@
 use Rattle.std.specs.Prelude.{◌≡◌, ℕ, ◌+◌, ◌≤◌, ◌<◌, ◌==◌, List, [], ◌++◌, length, slice_index_or, count_by}
 use Rattle.std.specs.List.Sorted.{IsNonDecreasingBy, IsPermutation, IsStrictlyIncreasing}
 use Rattle.xfs_disk.specs.Blocks.{Image}
-use Rattle.xfs_tree.specs.Packing.{block_in}
+use Rattle.xfs_treebuild.specs.Packing.{block_in}
 use Rattle.xfs_tree.specs.Reading.{bytes_at}
 use Rattle.xfs_render.specs.Drafts.{HoldsDraft}
 use Rattle.xfs_render.specs.declared.arranging.Row.{Row}

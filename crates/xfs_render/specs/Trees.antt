@@ -9,7 +9,7 @@ use Rattle.xfs_kinds.specs.FreeTrees.{bno_shape, cnt_shape}
 use Rattle.xfs_kinds.specs.InodeTrees.{ino_shape, fino_shape}
 use Rattle.xfs_kinds.specs.OwnerTrees.{rmap_shape}
 use Rattle.xfs_place.specs.declared.placed.GroupPlaced.{GroupPlaced}
-use Rattle.xfs_tree.specs.Packing.{lsn_of, root_of, rows_at, top_down}
+use Rattle.xfs_treebuild.specs.Packing.{lsn_of, root_of, rows_at, top_down}
 use Rattle.xfs_tree.specs.Reading.{Contents, bytes_at, reading, root_seat}
 use Rattle.xfs_tree.specs.Shape.{Shape}
 use Rattle.xfs_render.specs.Counters.{levels}

@@ -4,7 +4,7 @@ ghost use Rattle.std.specs.Prelude.{◌≡◌, ◌≤◌, ◌<◌, ◌^◌, leng
 ghost use Rattle.xfs_render.specs.Counters.{blocks_in, free_inodes_in, inodes_in, levels, longest, newest};
 
 use xfs_geom::{InoRec, Span};
-use xfs_tree::blocks_for;
+use xfs_treebuild::blocks_for;
 
 /// The blocks of some runs.
 pub fn blocks_in(runs: &[Span]) -> u32

@@ -13,7 +13,8 @@ use xfs_disk::{BLOCK_SIZE, NoMemory};
 use xfs_geom::{Geometry, InoRec};
 use xfs_kinds::{Bno, Cnt, Fino, Ino, Rmap};
 use xfs_place::GroupPlaced;
-use xfs_tree::{Kind, pack};
+use xfs_tree::Kind;
+use xfs_treebuild::pack;
 
 /// Puts down the five trees of a group.
 pub fn add_trees(

@@ -17,10 +17,10 @@ use Rattle.xfs_heads.specs.declared.inodes.Agi.{Agi}
 use Rattle.xfs_kinds.specs.FreeTrees.{bno_shape, cnt_shape}
 use Rattle.xfs_kinds.specs.InodeTrees.{ino_shape, fino_shape}
 use Rattle.xfs_kinds.specs.OwnerTrees.{rmap_shape}
-use Rattle.xfs_tree.specs.Packing.{lsn_of, rows_in, top_down}
+use Rattle.xfs_treebuild.specs.Packing.{lsn_of, rows_in, top_down}
 use Rattle.xfs_tree.specs.Reading.{bytes_at}
 use Rattle.xfs_tree.specs.Shape.{Shape}
-use Rattle.xfs_tree.specs.Size.{rows_of}
+use Rattle.xfs_treebuild.specs.Size.{rows_of}
 use Rattle.xfs_volume.specs.declared.groups.GroupRec.{GroupRec}
 use Rattle.xfs_place.specs.declared.placed.GroupPlaced.{GroupPlaced}
 use Rattle.xfs_place.specs.declared.placed.Placed.{Placed}

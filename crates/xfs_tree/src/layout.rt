@@ -50,7 +50,7 @@ impl Layout {
     }
 
     /// The pointer that names no block: all ones.
-    pub(crate) fn no_sibling(&self) -> u64
+    pub fn no_sibling(&self) -> u64
         ensures { result ≡ no_sibling self.now }
     {
         if self.long { u64::MAX } else { u32::MAX as u64 }
@@ -83,7 +83,7 @@ impl Layout {
     }
 
     /// The byte offset of a record.
-    pub(crate) fn record_place(&self, i: usize) -> usize
+    pub fn record_place(&self, i: usize) -> usize
         requires sound { IsLayout self.now }
         requires inside { i < self.now.leaf_cap }
         ensures place { result ≡ record_place self.now i }
@@ -105,7 +105,7 @@ impl Layout {
     }
 
     /// The byte offset of a child's key, or of its pair of keys.
-    pub(crate) fn key_place(&self, i: usize) -> usize
+    pub fn key_place(&self, i: usize) -> usize
         requires sound { IsLayout self.now }
         requires inside { i < self.now.node_cap }
         ensures place { result ≡ key_place self.now i }
@@ -115,7 +115,7 @@ impl Layout {
     }
 
     /// The byte offset of a child's pointer.
-    pub(crate) fn pointer_place(&self, i: usize) -> usize
+    pub fn pointer_place(&self, i: usize) -> usize
         requires sound { IsLayout self.now }
         requires inside { i < self.now.node_cap }
         ensures place { result ≡ pointer_place self.now i }

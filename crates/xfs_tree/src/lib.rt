@@ -1,19 +1,17 @@
-//! B+trees of any kind: what a kind is, and how many blocks a packed tree has (chapter "Common B+trees").
+//! B+trees of any kind: what a kind is, how its blocks are laid out, and how a tree is read (chapter "Common B+trees").
 #![tactic(auto)]
 
 mod frontier;
-mod headers;
+pub mod headers;
 mod items;
 mod kind;
 mod layout;
 mod level;
 mod met;
-mod packing;
 mod places;
 mod reading;
 mod rules;
 mod seats;
-mod size;
 mod tree;
 mod unread;
 
@@ -22,9 +20,8 @@ pub use headers::long::LONG;
 pub use headers::short::SHORT;
 pub use kind::{Kind, layout_of};
 pub use layout::Layout;
-pub use packing::pack;
 pub use reading::{read_below, read_tree};
+pub use rules::{high_of, low_of};
 pub use seats::Seat;
-pub use size::{blocks_for, tree_size};
 pub use tree::{Tree, TreeError};
 pub use unread::Unread;

@@ -169,7 +169,7 @@ fn agrees<K: Kind>(_kind: &K, due: Option<K::Key>, held: Option<K::Key>) -> bool
 }
 
 /// The low key of a block of a level: the first that it holds.
-pub(crate) fn low_of<K: Kind>(kind: &K, level: u32, block: &[u8]) -> Option<K::Key>
+pub fn low_of<K: Kind>(kind: &K, level: u32, block: &[u8]) -> Option<K::Key>
     requires block { length block.now ≡ 4096 }
     requires count { count_of block.now ≤ capacity (K.shape kind.now).layout level }
     ensures { result ≡ low_of (K.shape kind.now) level block.now }
@@ -182,7 +182,7 @@ pub(crate) fn low_of<K: Kind>(kind: &K, level: u32, block: &[u8]) -> Option<K::K
 }
 
 /// The high key of a block of a level, where keys are pairs: the greatest of those that it holds.
-pub(crate) fn high_of<K: Kind>(kind: &K, level: u32, block: &[u8]) -> Option<K::Key>
+pub fn high_of<K: Kind>(kind: &K, level: u32, block: &[u8]) -> Option<K::Key>
     requires block { length block.now ≡ 4096 }
     requires count { count_of block.now ≤ capacity (K.shape kind.now).layout level }
     requires pairs { (K.shape kind.now).layout.high ≡ true }

@@ -1,5 +1,5 @@
 use Rattle.std.proofs.Common.{List, [], ◌∷◌, refl}
-use Rattle.xfs_tree.proofs.Apart.{different_take}
+use Rattle.xfs_treebuild.proofs.Apart.{different_take}
 use Rattle.xfs_block_tests.proofs.tree.packs.Goals as goal
 
 pub pack-requires-clause-different : goal.pack-requires-clause-different

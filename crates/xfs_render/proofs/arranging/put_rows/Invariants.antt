@@ -1,5 +1,5 @@
 use Rattle.std.proofs.Common.{◌≡◌, ℕ, ◌+◌, ◌<◌, [], length, get_or}
-use Rattle.xfs_tree.specs.Packing.{block_in}
+use Rattle.xfs_treebuild.specs.Packing.{block_in}
 use Rattle.xfs_render.specs.declared.arranging.Row.{Row}
 use Rattle.xfs_render.proofs.arranging.put_rows.Given as goal
 

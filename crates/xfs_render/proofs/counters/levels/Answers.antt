@@ -1,5 +1,5 @@
 use Rattle.std.proofs.Common.{rules, ◌∙◌, ap, arith, ◌+◌, length}
-use Rattle.xfs_tree.specs.Size.{rows_above}
+use Rattle.xfs_treebuild.specs.Size.{rows_above}
 use Rattle.xfs_render.proofs.Levels.{levels_begin, level_more, levels_end, levels_few}
 use Rattle.xfs_render.proofs.counters.levels.Goals as goal
 

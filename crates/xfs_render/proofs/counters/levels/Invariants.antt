@@ -1,5 +1,5 @@
 use Rattle.std.proofs.Common.{◌≡◌, ◌+◌, ◌≤◌, ◌^◌, length}
-use Rattle.xfs_tree.specs.Size.{rows_above}
+use Rattle.xfs_treebuild.specs.Size.{rows_above}
 use Rattle.xfs_render.specs.Counters.{levels}
 use Rattle.xfs_render.proofs.counters.levels.Given as goal
 

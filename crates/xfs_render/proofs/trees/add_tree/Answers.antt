@@ -1,7 +1,7 @@
 use Rattle.std.proofs.Common.{◌≡◌, ◌∙◌, ◌≤◌, List, ℕ, length, drop, ap, subst, arith, take_all}
 use Rattle.std.proofs.lemmas.List.{take-append-le}
 use Rattle.std.proofs.lemmas.List.Elements.{All-from_get_or}
-use Rattle.xfs_tree.specs.Packing.{Holds, lsn_of}
+use Rattle.xfs_treebuild.specs.Packing.{Holds, lsn_of}
 use Rattle.xfs_tree.specs.Reading.{bytes_at}
 use Rattle.xfs_render.proofs.trees.add_tree.Goals as goal
 

@@ -5,7 +5,7 @@ use Rattle.xfs_tree.specs.Reading.{bytes_at}
 use Rattle.xfs_tree.specs.Rules.{last_of}
 use Rattle.xfs_tree.specs.Blocks.{records_of}
 use Rattle.xfs_tree.proofs.Causes.{reads_on, caused_before, fault_of_row}
-use Rattle.xfs_tree.proofs.RowSteps.{left_from, none_left, held_more, held_all, places_more, row_more, row_stops, row_ends}
+use Rattle.xfs_tree.proofs.RowSteps.{left_from, none_left, held_more, held_all, places_more, places_all, row_more, row_stops, row_ends}
 use Rattle.xfs_tree.proofs.level.read_leaves.Goals as goal
 
 pub returns-in-Err-clause-judged : goal.returns-in-Err-clause-judged
@@ -64,3 +64,16 @@ pub returns-clause-records : goal.returns-clause-records
 returns-clause-records g c = λ image told.
     held_all (λ (seat : Seat g.row.K-Key.Denot). records_of (g.K.Kind.shape c.args.kind.now) (bytes_at image seat.place)) (drop c.loop-i.i c.args.row.now) c.loop-i.records.items _
     (none_left c.args.row.now c.loop-i.i (search rules)) (c.loop-i.invariant.records image told)
+
+pub returns-clause-blocks : goal.returns-clause-blocks
+returns-clause-blocks g c =
+    places_all (drop c.loop-i.i c.args.row.now) c.loop-i.met.blocks.items _ (none_left c.args.row.now c.loop-i.i (search rules)) c.loop-i.invariant.blocks
+
+pub returns-clause-cause : goal.returns-clause-cause
+returns-clause-cause g c = c.loop-i.invariant.later
+
+pub returns-clause-disk : goal.returns-clause-disk
+returns-clause-disk g c = c.loop-i.invariant.disk
+
+pub returns-in-Err-push_records-clause-cause : goal.returns-in-Err-push_records-clause-cause
+returns-in-Err-push_records-clause-cause g c = let up = c.loop-i.invariant.later in let cause = c.in-Ok.ensures.cause in omega (arith, up, cause)

@@ -2,7 +2,7 @@ use Rattle.std.proofs.Common.{rules, ◌≡◌, ◌+◌, ◌∷◌, drop, None, 
 use Rattle.xfs_geom.specs.Volumes.{volume_of}
 use Rattle.xfs_tree.specs.Reading.{below}
 use Rattle.xfs_tree.proofs.Causes.{reads_on, caused_before, fault_of_row}
-use Rattle.xfs_tree.proofs.RowSteps.{capacity_node, left_from, none_left, held_more, places_more, behind_node, row_more, row_stops, row_ends}
+use Rattle.xfs_tree.proofs.RowSteps.{capacity_node, left_from, none_left, held_more, held_all, places_more, places_all, behind_node, row_more, row_stops, row_ends}
 use Rattle.xfs_tree.proofs.level.read_nodes.Goals as goal
 
 pub returns-in-Err-clause-judged : goal.returns-in-Err-clause-judged
@@ -62,3 +62,21 @@ pub returns-clause-judged : goal.returns-clause-judged
 returns-clause-judged g c = λ image told.
     row_ends (g.K.Kind.shape c.args.kind.now) (volume_of c.args.g.now) image c.args.level _ _ None None (drop c.loop-i.i c.args.row.now) _
     (none_left c.args.row.now c.loop-i.i (search rules)) (c.loop-i.invariant.judged image told)
+
+pub returns-clause-children : goal.returns-clause-children
+returns-clause-children g c = λ image told.
+    held_all (below (g.K.Kind.shape c.args.kind.now) (volume_of c.args.g.now) image) (drop c.loop-i.i c.args.row.now) c.loop-i.next.items _
+    (none_left c.args.row.now c.loop-i.i (search rules)) (c.loop-i.invariant.children image told)
+
+pub returns-clause-blocks : goal.returns-clause-blocks
+returns-clause-blocks g c =
+    places_all (drop c.loop-i.i c.args.row.now) c.loop-i.met.blocks.items _ (none_left c.args.row.now c.loop-i.i (search rules)) c.loop-i.invariant.blocks
+
+pub returns-clause-cause : goal.returns-clause-cause
+returns-clause-cause g c = c.loop-i.invariant.later
+
+pub returns-clause-disk : goal.returns-clause-disk
+returns-clause-disk g c = c.loop-i.invariant.disk
+
+pub returns-in-Err-push_children-clause-cause : goal.returns-in-Err-push_children-clause-cause
+returns-in-Err-push_children-clause-cause g c = let up = c.loop-i.invariant.later in let cause = c.in-Ok.ensures.cause in omega (arith, up, cause)
