@@ -1,5 +1,14 @@
 //! Entries of directories: short forms, which stand in the inode, and data blocks. They are read and
 //! written here; the indexes of directories, seals and places of blocks are the concern of others.
+//!
+//! Reads what stands in a directory's inode or in one of its data blocks as a list of entries, or says that it is
+//! unsound, and puts entries there, as many as fit.
+//!
+//! `xfs_dirs` gathers entries so:
+//!
+//! ```text
+//! let data = read_data(alloc, dir, block, whole)?; // entries, their places, unused spans
+//! ```
 #![tactic(auto)]
 
 mod best;

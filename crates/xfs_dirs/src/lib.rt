@@ -1,4 +1,17 @@
 //! Directories, read from a disk: their entries, the parent that they state, and whether they are whole.
+//!
+//! For whoever reads a volume file by file: hands in a directory's slot and its file, and gets what the directory says,
+//! also where it is damaged.
+//!
+//! `xfs_scan` reads each directory so:
+//!
+//! ```text
+//! match read_directory(alloc, g, disk, slot, file, steps) {
+//!     Ok(found) => ..,                    // its entries, the parent, whether it is whole
+//!     Err(DirError::ReadFault) => ..,
+//!     Err(DirError::NoMemory) => ..,
+//! }
+//! ```
 #![tactic(auto)]
 
 mod blocks;

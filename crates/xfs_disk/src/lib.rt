@@ -1,4 +1,19 @@
 //! The outside of the tools: disks, sources, sinks and libraries, with their contents and faults.
+//!
+//! A crate that touches an image, a stream or another file is generic over a trait of this one, so that its contract can
+//! say what was read, what is held afterwards, and that a fault was answered only where one was counted. `MemoryDisk`
+//! tells what it holds and fails where a test says; `FileDisk` is a file and tells nothing, so what contracts say of
+//! contents says nothing of it.
+//!
+//! A session of the debugger reads so:
+//!
+//! ```text
+//! let mut block = [0; BLOCK_SIZE];
+//! match disk.read(place, &mut block) {
+//!     Ok(()) => {}
+//!     Err(Failed) => return Err(Stop::ReadFault), // and disk.faults() has risen
+//! }
+//! ```
 #![tactic(auto)]
 
 mod counting;

@@ -1,4 +1,19 @@
 //! The geometry of a volume, as its superblocks state it.
+//!
+//! Where a volume begins: which superblock is believed, and the numbers that all places are reckoned by. A `Geometry`
+//! keeps its shape by its type, so that whoever is given one need not ask whether a group or a block can be there. The
+//! plain records that several crates share (spans, runs, records of trees) stand here.
+//!
+//! `xfs_mend` begins so:
+//!
+//! ```text
+//! let elected = match elect(alloc, disk) {
+//!     Ok(elected) => elected,
+//!     Err(ElectFault::NoGeometry) => return Outcome::NoGeometry,
+//!     ..
+//! };
+//! let block = elected.geometry.block_of_address(address); // None outside the volume
+//! ```
 #![tactic(auto)]
 
 mod backups;

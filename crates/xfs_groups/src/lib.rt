@@ -1,5 +1,15 @@
 //! The allocation groups of an image, read from a disk: their headers and trees, the clusters of inodes that they have, and the
 //! blocks on which nothing new is placed.
+//!
+//! The first look at a volume: all headers and trees are read, in the order in which they are judged, and from them, or
+//! where they fail from the bytes of the blocks, it is known where inodes may stand.
+//!
+//! `xfs_scan` begins so:
+//!
+//! ```text
+//! let seen = match see_groups(alloc, g, disk, steps) { .. };
+//! // seen.groups: each group, or the first part that does not read; seen.clusters; seen.trees
+//! ```
 #![tactic(auto)]
 
 mod faults;

@@ -1,5 +1,15 @@
 //! The headers of an allocation group: of its free space (AGF), of its inodes (AGI), and the list of the
 //! blocks that are kept ready for its trees (AGFL). Nothing here takes memory.
+//!
+//! Each header is read as a plain record, or as none where its seal or a bound fails, and written from one; the tables of
+//! their fields serve the debugger too. The state of the log is found from what is seen of its sectors, one by one.
+//!
+//! `xfs_groups` reads the first block of a group so:
+//!
+//! ```text
+//! let agf = read_agf(g, ag, part(block, 512, 512))?;
+//! let agfl = read_agfl(g, ag, &agf, part(block, 1536, 512))?;
+//! ```
 #![tactic(auto)]
 
 mod arrays;

@@ -1,4 +1,19 @@
 //! Inodes: the slots of 512 bytes that hold them, read and written, and the files that they hold.
+//!
+//! A slot is judged by its bytes alone (`read_slot`), it names the blocks beside it that have to be read (`needs`), and
+//! both together are a file (`settle`); `read_file` does the three over a disk. Slots are written too: free, fresh, or
+//! with a new fork, other links or no attributes.
+//!
+//! `xfs_scan` reads each slot of a cluster so:
+//!
+//! ```text
+//! match read_file(alloc, g, disk, ino, slot, steps) {
+//!     Ok(FileRead::File(file)) => ..,          // its extents lie in the volume, and none twice
+//!     Ok(FileRead::FileWithoutAttrs(file)) => ..,
+//!     Ok(FileRead::Free) => ..,
+//!     ..
+//! }
+//! ```
 #![tactic(auto)]
 
 mod attributes;

@@ -1,4 +1,17 @@
 //! The log of a volume, and the log sequence numbers that stand in its blocks, read from a disk.
+//!
+//! For whoever has to know whether a log is clean before anything is believed or written, and for the law on log sequence
+//! numbers. It reads block by block and holds what it saw of each sector, not the log.
+//!
+//! `xfs_mend` asks so where a volume is refused:
+//!
+//! ```text
+//! match read_log(alloc, g, disk, steps) {
+//!     Ok(LogState::Dirty) => ..,
+//!     Ok(LogState::Clean { head }) => ..,
+//!     Err(fault) => ..,
+//! }
+//! ```
 #![tactic(auto)]
 
 mod extents;

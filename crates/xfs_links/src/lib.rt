@@ -1,5 +1,15 @@
 //! Names: which entries of the directories stay, where each directory hangs, and which files have lost
 //! their names.
+//!
+//! From the files that are kept and the entries that were read to names that hang together: who repairs names writes the
+//! entries that stay, and puts the orphans into lost+found under the names that are given here. No tool calls it yet.
+//!
+//! A caller would write:
+//!
+//! ```text
+//! let names = connect(alloc, &files, &entries, root)?;
+//! // names.entries stay; names.orphans have lost their names; names.lost is the lost+found that is there
+//! ```
 #![tactic(auto)]
 
 mod candidates;

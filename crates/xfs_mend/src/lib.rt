@@ -1,4 +1,13 @@
 //! The repair of a volume: a check of all that it says, and what is written anew.
+//!
+//! What `xfs_repair` does, over any disk: it elects, gathers, judges, and where nothing but backup superblocks is wrong
+//! plans and writes these. Each outcome says what the disk then holds.
+//!
+//! `xfs_tools` calls it so:
+//!
+//! ```text
+//! let answer = Answer::of_outcome(repair(rt, alloc, disk, &words.options(), stamp, gate));
+//! ```
 #![tactic(auto)]
 
 mod backups;

@@ -1,5 +1,14 @@
 //! The laws of names: directories are whole and name files in use, they hang together as one tree below the root,
 //! and each file has as many links as names.
+//!
+//! Judges three laws of a volume over plain records of files and entries; where one is broken it tells the least inode at
+//! which that is so. Nothing is read.
+//!
+//! `xfs_laws` asks for them behind those of space and of counters:
+//!
+//! ```text
+//! if let Some(law) = check_names(alloc, root, files, entries, dirs)? { return Ok(Some(law)); }
+//! ```
 #![tactic(auto)]
 
 mod checks;

@@ -1,5 +1,16 @@
 //! Where new blocks of a volume stand: chunks of inodes, runs of files, and the trees and free lists of its
 //! allocation groups.
+//!
+//! Whoever writes a volume anew says what is kept, what is new and what is wanted, and gets a place for each, with the
+//! records that the trees of all groups then have and the counters: the lowest places that serve, or the first thing for
+//! which there is no room.
+//!
+//! `xfs_empty` places an empty volume so:
+//!
+//! ```text
+//! let placed = place(alloc, wanted)?; // PlaceFault::NoRoom(Place::Group(ag)) where that group is full
+//! let plan = render(rt, alloc, wanted, &placed, bytes, WORKERS, &NoGate)?;
+//! ```
 #![tactic(auto)]
 
 mod choice;

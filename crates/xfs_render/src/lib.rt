@@ -1,5 +1,16 @@
 //! The bytes of a volume that is written anew: the headers of its allocation groups, their trees, clusters of inodes,
 //! superblocks and a blank log.
+//!
+//! From what is wanted and where it is placed to blocks: a plan that names each block once and has its bytes, for a
+//! caller that writes it. An image that holds the planned blocks says just that volume.
+//!
+//! `xfs_empty` renders an empty volume so:
+//!
+//! ```text
+//! let placed = place(alloc, wanted)?;
+//! let plan = render(rt, alloc, wanted, &placed, bytes, WORKERS, &NoGate)?;
+//! // plan.fresh, plan.in_place: block numbers; plan.bank: their bytes, in that order
+//! ```
 #![tactic(auto)]
 
 mod arranging;

@@ -36,6 +36,10 @@ pub fn run<R: Threads + Sync, D: Disk, L: Library, S: Source, O: Sink, E: Sink, 
     stamp: &Stamp,
     gate: &G,
 ) -> Status
+    // For the words of `xfs_repair`, and those that name no tool: there is one answer, which is due to the words and the image; a
+    // fault only where the disk counted one; the image is what that answer leaves, and after a repair a stop of the machine leaves
+    // just that; its line is put to its stream and nothing to the other; and the status is its own, or that of an output fault
+    // where the line could not be put. Of a disk that does not tell what it holds, as a file, the parts on the image say nothing.
     ensures answer { is_debugger words.now ≡ false → is_maker words.now ≡ false → (answer : Answer) × (put : Result (Unit {0}) Failed)
         × ForSome (D.holds disk.old) (λ image. IsDue (judged words.now) image answer)
         × IsCaused (D.faults disk.old) (D.faults disk.new) (D.write_faults disk.old) (D.write_faults disk.new) answer
@@ -43,22 +47,32 @@ pub fn run<R: Threads + Sync, D: Disk, L: Library, S: Source, O: Sink, E: Sink, 
         × IsKept (D.tells_stops disk.old) (D.holds disk.new) (D.may_leave disk.new) answer
         × IsTold O.took O.faults E.took E.faults out.old out.new err.old err.new answer put
         × (result ≡ status_of (tells_repair words.now) answer put) }
+    // For the words of `xfs_db`: the session that they ask for was run, with what it prints, what it leaves on the disk and the
+    // faults that it counted; or they were refused, or memory lacked for them, and nothing was run. The line of its answer goes
+    // to `err`.
     ensures debugged { is_debugger words.now ≡ true → (answer : Answer) × (finished : ℕ) × (put : Result (Unit {0}) Failed)
         × IsDebugged (debug_of (drop 1 words.now)) (record { holds = D.holds disk.old; left = S.left input.old; took = O.took out.old }) (O.took out.new) (D.holds disk.new)
         (record { reads = D.faults disk.old; writes = D.write_faults disk.old; takes = S.faults input.old; puts = O.faults out.old })
         (record { reads = D.faults disk.new; writes = D.write_faults disk.new; takes = S.faults input.new; puts = O.faults out.new }) answer finished
         × Puts (E.took err.old) (E.took err.new) (E.faults err.old) (E.faults err.new) (text_of answer) put
         × (result ≡ session_status answer finished put) }
+    // For the words of `mkfs.xfs`: the volume that they ask for was made or refused, and the disk holds what that leaves; or the
+    // words were refused, or memory lacked for them, and nothing was done. The line is left out under `-q` where it was made.
     ensures made { is_debugger words.now ≡ false → is_maker words.now ≡ true → (answer : Answer) × (quiet : Bool) × (put : Result (Unit {0}) Failed)
         × IsMaking (make_of (drop 1 words.now)) stamp.now (D.size disk.old)
         (record { holds = D.holds disk.old; reads = D.faults disk.old; writes = D.write_faults disk.old })
         (record { holds = D.holds disk.new; reads = D.faults disk.new; writes = D.write_faults disk.new }) answer quiet
         × IsToldUnless (quiet && is_made answer) O.took O.faults E.took E.faults out.old out.new err.old err.new answer put
         × (result ≡ status_of false answer put) }
+    // The disk keeps its number of blocks.
     ensures size { D.size disk.new ≡ D.size disk.old }
+    // Where a volume is checked or repaired, the count of failed reads does not fall.
     ensures faults { is_debugger words.now ≡ false → is_maker words.now ≡ false → D.faults disk.old ≤ D.faults disk.new }
+    // Nor does that of failed writes and syncs.
     ensures write_faults { is_debugger words.now ≡ false → is_maker words.now ≡ false → D.write_faults disk.old ≤ D.write_faults disk.new }
+    // No file is taken from the library.
     ensures files { files.new ≡ files.old }
+    // Only the debugger takes from the input.
     ensures input { is_debugger words.now ≡ false → input.new ≡ input.old }
 {
     if is_debugger(words) {

@@ -1,4 +1,15 @@
 //! The plain types of a volume's content: inodes, files, directories, groups, and the catalog of them all.
+//!
+//! What the layers hand to one another once bytes were read: a file with its core, extents, attributes and target; a
+//! directory with the parent that it states; a group with its headers and the records of its trees; and the `Catalog` of
+//! all, which the laws judge. There is no code but what keeps lists; `Records` is a `Vec` that contracts see as its list.
+//!
+//! `xfs_scan` makes a catalog and `xfs_mend` judges it:
+//!
+//! ```text
+//! let catalog = Catalog { geometry, groups, files, entries, dirs, counts, log, lsns };
+//! match lawful(rt, alloc, &catalog) { .. }
+//! ```
 #![tactic(auto)]
 
 mod catalogs;

@@ -1,5 +1,18 @@
 //! The words of the XFS version 5 on-disk format: big-endian fields, checksums, seals, packed extents
 //! and hashes of names.
+//!
+//! Everything that is read or written goes through here: a number at an offset, an identifier, a checksum over a whole
+//! object, and the seal that says that these bytes are this object at this place in this volume. Who reads an object asks
+//! for its seal first, and then reads fields by the tables (`FieldLayout`) of its own crate; who writes one puts the
+//! fields and seals it last. Nothing takes memory.
+//!
+//! `xfs_heads` reads a header so:
+//!
+//! ```text
+//! let seal = Seal { kind: SealKind::Agf, place: ag as u64, owner: None, uuid: g.uuid };
+//! if !sealed(&seal, sector) { return None; }
+//! let length = get32(sector, 12);
+//! ```
 #![tactic(auto)]
 
 mod checksum;
