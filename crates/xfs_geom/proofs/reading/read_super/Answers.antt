@@ -2,6 +2,6 @@ use Rattle.std.proofs.Common.{rules}
 use Rattle.xfs_geom.specs.Superblocks.{super_fault}
 use Rattle.xfs_geom.proofs.reading.read_super.Goals as goal
 
-pub returns-then-stated-ne0-clause-refused : goal.returns-then-stated-ne0-clause-refused
+pub returns-in-Some-clause-refused : goal.returns-in-Some-clause-refused
 unfolding super_fault
-returns-then-stated-ne0-clause-refused c = search rules
+returns-in-Some-clause-refused c = search rules
