@@ -1,3 +1,4 @@
+pub mod Primary
 pub mod Addresses
 pub mod Bounds
 pub mod LogPlace
