@@ -1,4 +1,4 @@
-use Rattle.std.proofs.Common.{◌≡◌, ◌==◌, ◌∙◌, ap, sym, subst, ℕ, List, Result, Ok, Err, inr, length}
+use Rattle.std.proofs.Common.{◌==◌, ◌∙◌, ap, sym, subst, ℕ, List, Result, inr, length}
 use Rattle.xfs_geom.specs.Election.{Vote, elected}
 use Rattle.xfs_geom.specs.Volumes.{Volume, volume_of}
 use Rattle.xfs_geom.specs.declared.election.ElectFault.{ElectFault}
