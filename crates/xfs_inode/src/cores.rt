@@ -71,7 +71,8 @@ pub fn put_core(core: &Core, slot: &mut [u8])
     clear(slot);
     put_kind(core, slot);
     put_owner(core, slot);
-    put_file(core, slot);
+    put_times(core, slot);
+    put_counts(core, slot);
     put_flags(core, slot);
     put_birth(core, slot);
 }
@@ -110,26 +111,34 @@ fn put_owner(core: &Core, slot: &mut [u8])
     put16(slot, PROJID_HI.offset, core.projid_hi);
 }
 
-/// Writes the times of the file, and what its forks hold.
-fn put_file(core: &Core, slot: &mut [u8])
+/// Writes the times of the file, and its size.
+fn put_times(core: &Core, slot: &mut [u8])
     requires { length slot.old ≡ 512 }
     ensures atime { field_of slot.new 32 8 ≡ core.now.atime }
     ensures mtime { field_of slot.new 40 8 ≡ core.now.mtime }
     ensures ctime { field_of slot.new 48 8 ≡ core.now.ctime }
     ensures size { field_of slot.new 56 8 ≡ core.now.size }
+    ensures keeps { Keeps slot.old slot.new 32 32 }
+    ensures keeps_parts { KeepsParts slot.old slot.new 32 32 }
+{
+    put64(slot, ATIME.offset, core.atime);
+    put64(slot, MTIME.offset, core.mtime);
+    put64(slot, CTIME.offset, core.ctime);
+    put64(slot, SIZE.offset, core.size);
+}
+
+/// Writes how much the file and its forks hold.
+fn put_counts(core: &Core, slot: &mut [u8])
+    requires { length slot.old ≡ 512 }
     ensures nblocks { field_of slot.new 64 8 ≡ core.now.nblocks }
     ensures extsize { field_of slot.new 72 4 ≡ core.now.extsize }
     ensures nextents { field_of slot.new 76 4 ≡ core.now.nextents }
     ensures anextents { field_of slot.new 80 2 ≡ core.now.anextents }
     ensures forkoff { field_of slot.new 82 1 ≡ core.now.forkoff }
     ensures aformat { field_of slot.new 83 1 ≡ core.now.aformat }
-    ensures keeps { Keeps slot.old slot.new 32 52 }
-    ensures keeps_parts { KeepsParts slot.old slot.new 32 52 }
+    ensures keeps { Keeps slot.old slot.new 64 20 }
+    ensures keeps_parts { KeepsParts slot.old slot.new 64 20 }
 {
-    put64(slot, ATIME.offset, core.atime);
-    put64(slot, MTIME.offset, core.mtime);
-    put64(slot, CTIME.offset, core.ctime);
-    put64(slot, SIZE.offset, core.size);
     put64(slot, NBLOCKS.offset, core.nblocks);
     put32(slot, EXTSIZE.offset, core.extsize);
     put32(slot, NEXTENTS.offset, core.nextents);

@@ -1,10 +1,11 @@
 //! What a slot reads as whose data fork is that of a file.
 
-ghost use Rattle.std.specs.Prelude.{◌≡◌, ℕ, ◌≤◌, ◌&&◌, length, true, IfSome, IfOk};
+ghost use Rattle.std.specs.Prelude.{◌≡◌, ℕ, ◌≤◌, ◌&&◌, length, true, Some, IfSome, IfOk};
 ghost use Rattle.std.specs.Option.{option_copied};
 ghost use Rattle.xfs_geom.specs.Volumes.{volume_of};
 ghost use Rattle.xfs_inode.specs.Forks.{type_of};
-ghost use Rattle.xfs_inode.specs.Files.{has_leaf, is_clear, is_counted, is_placed, with_attrs};
+ghost use Rattle.xfs_inode.specs.Files.{file_of, has_leaf, is_clear, is_counted, is_placed, no_attrs, with_attrs};
+ghost use Rattle.xfs_inode.specs.declared.files.FileRead.TheVariants as Reads;
 
 use crate::attributes::AttrHeld;
 use crate::counts::{is_clear, is_counted};
@@ -34,17 +35,55 @@ pub fn with_attrs(
     requires placed { is_placed (volume_of g.now) held ≡ true }
     ensures { IfOk result (λ read. read ≡ with_attrs (volume_of g.now) ino core.now slot.now (option_copied link.entry) held fork) }
 {
-    let Some(fork) = fork else {
-        let file = file_of(alloc, ino, core, slot, link, held, AttrHeld::none(alloc))?;
-        return Ok(FileRead::FileWithoutAttrs(file));
-    };
+    match fork {
+        None => without_attrs(alloc, ino, core, slot, link, held),
+        Some(fork) => with_fork(alloc, g, ino, core, slot, link, held, fork),
+    }
+}
+
+/// What a slot reads as whose attributes can't be kept.
+fn without_attrs(
+    alloc: Global,
+    ino: u64,
+    core: &Core,
+    slot: &[u8],
+    link: Option<&[u8]>,
+    held: Held,
+) -> Result<FileRead, NoMemory>
+    requires slot { length slot.now ≡ 512 }
+    requires link { IfSome (option_copied link) (λ block. length block ≡ 4096) }
+    requires fits { core.now.format ≡ 1 → core.now.size ≤ 336 }
+    requires short { type_of core.now ≡ 10 → core.now.format ≡ 2 → core.now.size ≤ 1024 }
+    ensures { IfOk result (λ read. read ≡ Reads.FileWithoutAttrs (file_of ino core.now slot.now (option_copied link.entry) held no_attrs)) }
+{
+    let file = file_of(alloc, ino, core, slot, link, held, AttrHeld::none(alloc))?;
+    Ok(FileRead::FileWithoutAttrs(file))
+}
+
+/// What a slot reads as whose attribute fork reads.
+fn with_fork(
+    alloc: Global,
+    g: &Geometry,
+    ino: u64,
+    core: &Core,
+    slot: &[u8],
+    link: Option<&[u8]>,
+    held: Held,
+    fork: AttrHeld,
+) -> Result<FileRead, NoMemory>
+    requires slot { length slot.now ≡ 512 }
+    requires link { IfSome (option_copied link) (λ block. length block ≡ 4096) }
+    requires fits { core.now.format ≡ 1 → core.now.size ≤ 336 }
+    requires short { type_of core.now ≡ 10 → core.now.format ≡ 2 → core.now.size ≤ 1024 }
+    requires placed { is_placed (volume_of g.now) held ≡ true }
+    ensures { IfOk result (λ read. read ≡ with_attrs (volume_of g.now) ino core.now slot.now (option_copied link.entry) held (Some fork)) }
+{
     if is_settled(alloc, g, core, &held, &fork)? {
         let file = file_of(alloc, ino, core, slot, link, held, fork)?;
         return Ok(FileRead::File(file));
     }
     if has_leaf(&fork) {
-        let file = file_of(alloc, ino, core, slot, link, held, AttrHeld::none(alloc))?;
-        return Ok(FileRead::FileWithoutAttrs(file));
+        return without_attrs(alloc, ino, core, slot, link, held);
     }
     Ok(FileRead::Unsound)
 }

@@ -10,7 +10,7 @@ ghost use Rattle.xfs_tree.specs.Reading.{Contents};
 ghost use Rattle.xfs_inode.specs.Slots.{slot_read};
 ghost use Rattle.xfs_inode.specs.Forks.{type_of};
 ghost use Rattle.xfs_inode.specs.Sound.{IsSound};
-ghost use Rattle.xfs_inode.specs.Files.{contents_of, data_fork, file_read, is_placed, is_whole, used_file, with_attrs, with_data};
+ghost use Rattle.xfs_inode.specs.Files.{are_apart, contents_of, data_fork, file_read, is_placed, is_whole, runs_of, used_file, with_attrs, with_data};
 
 use crate::attributes::{attr_fork, feature_of};
 use crate::claims::{are_apart, is_placed};
@@ -146,6 +146,14 @@ fn is_whole(
     if !has_target(g, ino, core, slot, link) {
         return Ok(false);
     }
+    lies_apart(alloc, g, held)
+}
+
+/// Whether what a data fork holds lies in the volume, and no block in two of its runs.
+fn lies_apart(alloc: Global, g: &Geometry, held: &Held) -> Result<bool, AllocError>
+    ensures value { IfOk result (λ apart. apart ≡ (is_placed (volume_of g.now) held.now && are_apart (runs_of (volume_of g.now) held.now))) }
+    ensures placed { IfOk result (λ apart. apart ≡ true → is_placed (volume_of g.now) held.now ≡ true) }
+{
     if !is_placed(g, held) {
         return Ok(false);
     }

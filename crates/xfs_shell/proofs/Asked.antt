@@ -1,5 +1,5 @@
 -- Outcomes of a session by how its lines ended.
-use Rattle.std.proofs.Common.{◌≡◌, ◌==◌, ℕ, false, ◌≤◌, inl, inr, List, [], ◌∷◌, length, Option, Some, Result, Ok, Err, sym, subst}
+use Rattle.std.proofs.Common.{◌≡◌, ◌==◌, ℕ, false, ◌≤◌, inr, List, [], ◌∷◌, length, Option, Result, Ok, Err}
 use Rattle.std.proofs.lemmas.Bool.{true≢false}
 use Rattle.xfs_disk.specs.Blocks.{Image}
 use Rattle.xfs_geom.specs.Volumes.{Volume}
@@ -7,7 +7,6 @@ use Rattle.xfs_shell.specs.Ends.{IsEnd}
 use Rattle.xfs_shell.specs.Lines.{parts_of}
 use Rattle.xfs_shell.specs.Shells.{IsAsked, IsInput, IsLines, outcome_of}
 use Rattle.xfs_shell.specs.declared.lines.Cut.TheVariants.{LineFeeds}
-use Rattle.xfs_shell.specs.declared.outcomes.ShellOutcome.{ShellOutcome}
 use Rattle.xfs_shell.specs.declared.running.End.{End}
 use Rattle.xfs_shell.specs.declared.running.End.TheVariants.{Stopped, OutputFault}
 use Rattle.xfs_shell.specs.declared.session.Leave.{Leave}

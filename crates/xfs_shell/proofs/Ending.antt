@@ -1,13 +1,15 @@
 -- Runs over lines, one more line at a time.
-use Rattle.std.proofs.Common.{◌≡◌, ℕ, zero, suc, ◌+◌, ◌-◌, ◌≤◌, ◌<◌, ◌⊎◌, inl, inr, Bool, true, false, if◌then◌else◌, List, [], ◌∷◌, ◌++◌, length, take, drop, get_or, Option, Some, Result, Ok, Err, refl, sym, ◌∙◌, ap, subst, append_assoc, length-append, arith}
+use Rattle.std.proofs.Common.{◌≡◌, ℕ, zero, suc, ◌+◌, ◌-◌, ◌≤◌, ◌<◌, Bool, true, false, if◌then◌else◌, List, [], ◌∷◌, ◌++◌, length, take, drop, get_or, Option, Some, Ok, Err, refl, sym, ◌∙◌, ap, subst, append_assoc, length-append, arith}
 use Rattle.std.specs.List.{fold}
 use Rattle.std.proofs.lemmas.List.{take_more, take-append-drop, take_all, append-nil}
 use Rattle.std.proofs.Math.Seq.{take-append-add}
 use Rattle.xfs_disk.specs.Blocks.{Image}
 use Rattle.xfs_geom.specs.Volumes.{Volume}
-use Rattle.xfs_shell.specs.Commands.{Effect, Session}
+use Rattle.xfs_commands.specs.Commands.{Effect, Session}
 use Rattle.xfs_shell.specs.Ends.{end_behind, HasEndCause, HasLineCause, IsEnd, IsLine, IsPut, IsPrefixPut}
-use Rattle.xfs_shell.specs.Running.{Run, after_line, attempts, begun, block_at_place, extended, image_after, is_quit, shelled, word_at}
+use Rattle.xfs_shell.specs.Running.{Run, after_line, attempts, begun, block_at_place, extended, image_after, shelled}
+use Rattle.xfs_commands.specs.Cursors.{is_quit}
+use Rattle.xfs_commands.specs.Verbs.{word_at}
 use Rattle.xfs_shell.specs.Lines.{parts_of}
 use Rattle.xfs_shell.specs.Sessions.{IsWrittenBehind, Stays}
 use Rattle.xfs_disk.specs.Faults.{Rose}
@@ -17,7 +19,7 @@ use Rattle.xfs_shell.specs.declared.running.LineEnd.TheVariants as end
 use Rattle.xfs_shell.specs.declared.session.Stop.{Stop}
 use Rattle.xfs_shell.specs.declared.session.Stop.TheVariants as stop
 use Rattle.xfs_shell.specs.declared.lines.Cut.TheVariants.{Blanks}
-use Rattle.xfs_shell.specs.declared.cursor.Verdict.{Verdict}
+use Rattle.xfs_commands.specs.declared.cursor.Verdict.{Verdict}
 use Rattle.xfs_shell.specs.declared.session.Leave.{Leave}
 
 fold_append : {A B : Type 0} (f : B → A → B) (b : B) (xs ys : List A) → fold f b (xs ++ ys) ≡ fold f (fold f b xs) ys

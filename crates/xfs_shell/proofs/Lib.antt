@@ -1,14 +1,7 @@
 pub mod Cutting
-pub mod Capping
-pub mod Listing
-pub mod Fields
-pub mod Showing
-pub mod Groups
-pub mod InBlocks
 pub mod Settling
-pub mod KeptSessions
+pub mod KeptRuns
 pub mod Pushing
 pub mod Ending
 pub mod Filling
 pub mod Asked
-pub mod Resealing

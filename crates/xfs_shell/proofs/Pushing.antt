@@ -1,22 +1,24 @@
 -- Commands behind push.
-use Rattle.std.proofs.Common.{subst, ◌≡◌, ℕ, zero, suc, ◌+◌, ◌<◌, ◌≤◌, Bool, true, false, if◌then◌else◌, List, [], ◌∷◌, ◌++◌, length, drop, take, Option, Some, None, refl, sym, ◌∙◌, ap, arith, inl, inr, append_assoc, append-nil}
+use Rattle.std.proofs.Common.{subst, ◌≡◌, ℕ, zero, suc, ◌+◌, ◌<◌, ◌≤◌, Bool, true, false, if◌then◌else◌, List, [], ◌∷◌, ◌++◌, length, drop, Option, Some, None, refl, sym, ◌∙◌, ap, arith}
 use Rattle.std.proofs.lemmas.Bool.{true≢false}
 use Rattle.xfs_geom.specs.Volumes.{Volume}
 use Rattle.std.proofs.lemmas.List.{length-drop}
-use Rattle.std.proofs.lemmas.List.Elements.{All-push}
-use Rattle.xfs_shell.specs.Commands.{Session, Effect, no_address, IsPlace, IsWithin}
-use Rattle.xfs_shell.specs.Running.{accepted, attempts, is_push, is_push_verb, keeping, pushed, pushes, pushes_in, restored, back_to, block_at_place, image_after, settled_session, runs_placeless, runs_accepted, runs_first, runs_named, runs_words, saved}
+use Rattle.xfs_commands.specs.Commands.{Session, Effect, no_address}
+use Rattle.xfs_commands.specs.Verbs.{accepted}
+use Rattle.xfs_shell.specs.Running.{attempts, is_push, is_push_verb, keeping, pushes, pushes_in, restored, block_at_place, image_after, runs_placeless, runs_accepted, runs_first, runs_named, runs_words}
+use Rattle.xfs_commands.specs.Cursors.{pushed, back_to, settled_session, saved}
 use Rattle.xfs_shell.specs.Sessions.{IsRun, IsWrittenBehind, Stays}
 use Rattle.xfs_disk.specs.Blocks.{Image}
-use Rattle.std.proofs.Math.Seq.{take-append_seam}
 use Rattle.xfs_shell.specs.declared.session.Stop.{Stop}
 use Rattle.xfs_shell.specs.declared.session.Stop.TheVariants as stop
-use Rattle.xfs_shell.proofs.KeptSessions.{Keeps, runs_kept}
-use Rattle.xfs_shell.specs.declared.commands.Verb.{Verb}
-use Rattle.xfs_shell.specs.declared.commands.Verb.TheVariants as verb
-use Rattle.xfs_shell.specs.declared.cursor.Verdict.{Verdict}
-use Rattle.xfs_shell.specs.declared.cursor.Verdict.TheVariants.{Done, Refused, Quit}
-use Rattle.xfs_shell.specs.declared.objects.Place.{Place}
+use Rattle.xfs_commands.proofs.KeptSessions.{Keeps}
+use Rattle.xfs_commands.proofs.Stacking.{pushed_at, taken_back}
+use Rattle.xfs_shell.proofs.KeptRuns.{runs_kept}
+use Rattle.xfs_commands.specs.declared.commands.Verb.{Verb}
+use Rattle.xfs_commands.specs.declared.commands.Verb.TheVariants as verb
+use Rattle.xfs_commands.specs.declared.cursor.Verdict.{Verdict}
+use Rattle.xfs_commands.specs.declared.cursor.Verdict.TheVariants.{Done, Refused, Quit}
+use Rattle.xfs_objects.specs.declared.objects.Place.{Place}
 use Rattle.xfs_shell.specs.declared.session.Leave.{Leave}
 
 keeping_twice : (v : Verdict) (s t now : Session) → keeping v s (keeping v t now) ≡ keeping v s now
@@ -71,18 +73,6 @@ first_kept v leave (name ∷ args) block s = by_name (accepted name (length args
     by_name : (o : Option Verb) → Keeps s (runs_named v leave o name args block s)
     by_name None = λ refused. refl
     by_name (Some verb) = runs_kept v leave verb name args block s
-
-pub pushed_at : (n : ℕ) (place : Place) (s : Session) → (pushed n place s).at ≡ s.at
-pushed_at zero place s = refl
-pushed_at (suc n) place s = pushed_at n place (saved place s)
-
--- one more push
-pub pushed_more : (n : ℕ) (place : Place) (s : Session) → pushed (n + 1) place s ≡ saved place (pushed n place s)
-pushed_more n place s = let more : n + 1 ≡ suc n = omega arith in ap (λ (k : ℕ). pushed k place s) more ∙ by_count n s
-  where
-    by_count : (n : ℕ) (s : Session) → pushed (suc n) place s ≡ saved place (pushed n place s)
-    by_count zero s = refl
-    by_count (suc n) s = by_count n (saved place s)
 
 -- as many pushes as there are, and then the command behind them
 pushing : (v : Volume) (leave : Leave) (words : List (List ℕ)) (block : List ℕ) (s : Session) (place : Place) → s.at ≡ Some place
@@ -139,14 +129,6 @@ attempts_first v leave words block s is =
 pub behind_kept : (v : Volume) (leave : Leave) (words : List (List ℕ)) (block : List ℕ) (s : Session) → Keeps s (runs_first v leave words block s)
 behind_kept v leave words block s = first_kept v leave words block s
 
--- a place more is in the volume too
-saved_within : (n : ℕ) (place : Place) (s : Session) → IsWithin n s → IsPlace n place → IsWithin n (saved place s)
-saved_within n place s within inside = record { at_is = within.at_is; stack_is = All-push (IsPlace n) s.stack place within.stack_is inside }
-
-pub pushed_within : (n count : ℕ) (place : Place) (s : Session) → IsWithin n s → IsPlace n place → IsWithin n (pushed count place s)
-pushed_within n zero place s within inside = within
-pushed_within n (suc count) place s within inside = pushed_within n count place (saved place s) (saved_within n place s within inside) inside
-
 -- the words begin with one push more
 push_counts : (words : List (List ℕ)) → is_push words ≡ true → pushes_in words ≡ 1 + pushes_in (drop 1 words)
 push_counts [] is = absurd (true≢false (sym is))
@@ -184,22 +166,6 @@ attempts_placeless v leave words block s at = by_case (is_push words) refl
     by_case : (r : Bool) → is_push words ≡ r → attempts v leave words block s ≡ (if is_push words then no_address s else runs_first v leave words block s)
     by_case true is = rw is (attempts_none v leave words block s at is)
     by_case false is = rw is (attempts_first v leave words block s is)
-
--- what pushes put behind the stack
-abbrev behind : ℕ → Place → List Place
-behind zero place = []
-behind (suc n) place = place ∷ behind n place
-
-pushed_stack : (n : ℕ) (place : Place) (s : Session) → (pushed n place s).stack ≡ s.stack ++ behind n place
-pushed_stack zero place s = sym (append-nil s.stack)
-pushed_stack (suc n) place s = pushed_stack n place (saved place s) ∙ append_assoc s.stack (place ∷ []) (behind n place)
-
--- the stack without what pushes put there
-taken_back : (n : ℕ) (place : Place) (s : Session) → back_to (length s.stack) (pushed n place s) ≡ s
-taken_back n place s =
-    ap (λ (at : Option Place). let t : Session = record { at = at; stack = take (length s.stack) (pushed n place s).stack } in t) (pushed_at n place s)
-    ∙ ap (λ (stack : List Place). let t : Session = record { at = s.at; stack = take (length s.stack) stack } in t) (pushed_stack n place s)
-    ∙ ap (λ (stack : List Place). let t : Session = record { at = s.at; stack = stack } in t) (take-append_seam s.stack (behind n place))
 
 settled_kept : (verdict : Verdict) (s pushed_s now : Session) (n : ℕ) (place : Place) → pushed_s ≡ pushed n place s → (verdict ≡ Refused → now ≡ pushed_s)
     → settled_session verdict (length s.stack) now ≡ keeping verdict s now

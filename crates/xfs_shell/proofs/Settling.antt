@@ -1,11 +1,11 @@
 -- Commands that read and write nothing, as outcomes over a disk.
-use Rattle.std.proofs.Common.{◌≡◌, ℕ, List, Option, Some, None, Result, Ok, Err, IfOk, sym, ◌∙◌, ap}
+use Rattle.std.proofs.Common.{◌≡◌, ℕ, List, Option, Some, None, Result, Ok, Err, IfOk, ◌∙◌, ap}
 use Rattle.xfs_disk.specs.Blocks.{Image}
 use Rattle.xfs_disk.specs.declared.failed.NoMemory.{NoMemory}
-use Rattle.xfs_shell.specs.Commands.{Effect, Session, Put, IsEffect}
+use Rattle.xfs_commands.specs.Commands.{Effect, Session, Put, IsEffect}
 use Rattle.xfs_shell.specs.Running.{image_after}
 use Rattle.xfs_shell.specs.Sessions.{Outcome, stopped}
-use Rattle.xfs_shell.specs.declared.cursor.Verdict.{Verdict}
+use Rattle.xfs_commands.specs.declared.cursor.Verdict.{Verdict}
 
 pub settles : (e : Effect) (image : Image) (old new : List ℕ) (session : Session) (now : Option Image) (result : Result Verdict NoMemory)
     → IfOk result (λ verdict. IsEffect e verdict old new session None) → now ≡ Some image → Outcome e image old new session now (stopped result)

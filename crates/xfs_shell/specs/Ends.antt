@@ -3,10 +3,10 @@ use Rattle.std.specs.Prelude.{◌≡◌, ℕ, ◌+◌, ◌-◌, ◌≤◌, List,
 use Rattle.xfs_disk.specs.Blocks.{Image}
 use Rattle.xfs_disk.specs.Faults.{Rose}
 use Rattle.xfs_geom.specs.Volumes.{Volume}
-use Rattle.xfs_shell.specs.Commands.{Effect, Session}
+use Rattle.xfs_commands.specs.Commands.{Effect, Session}
 use Rattle.xfs_shell.specs.Running.{Run, image_after, shelled}
 use Rattle.xfs_shell.specs.Sessions.{IsWrittenBehind, Stays}
-use Rattle.xfs_shell.specs.declared.cursor.Verdict.{Verdict}
+use Rattle.xfs_commands.specs.declared.cursor.Verdict.{Verdict}
 use Rattle.xfs_shell.specs.declared.running.End.{End}
 use Rattle.xfs_shell.specs.declared.running.End.TheVariants.{Stopped, OutputFault}
 use Rattle.xfs_shell.specs.declared.running.LineEnd.{LineEnd}

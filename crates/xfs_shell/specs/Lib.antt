@@ -1,12 +1,4 @@
 pub mod Lines
-pub mod Numbers
-pub mod Objects
-pub mod Tables
-pub mod Items
-pub mod Values
-pub mod Hexadecimal
-pub mod Places
-pub mod Commands
 pub mod Running
 pub mod Sessions
 pub mod Ends

@@ -1,109 +1,27 @@
 -- The commands by their words, and what lines of them print and leave (xfs_db(8)).
-use Rattle.std.specs.Prelude.{◌≡◌, ℕ, zero, suc, ◌+◌, Bool, true, false, not, ◌==◌, ◌&&◌, nat_le, if◌then◌else◌, codes, bytes_eq, List, [], ◌∷◌, ◌++◌, length, take, Option, Some, None, unwrap_or, slice_get, slice_set}
-use Rattle.std.specs.List.{find, fold}
+use Rattle.std.specs.Prelude.{ℕ, suc, Bool, true, false, not, ◌&&◌, if◌then◌else◌, codes, List, [], ◌∷◌, ◌++◌, length, Option, Some, None, slice_set}
+use Rattle.std.specs.List.{fold}
 use Rattle.xfs_disk.specs.Blocks.{Image}
 use Rattle.xfs_geom.specs.Election.{block_of}
 use Rattle.xfs_geom.specs.Volumes.{Volume}
-use Rattle.xfs_shell.specs.Commands.{Session, Effect, Put, does, refuses, bad_command, no_address, to_head, to_number, addresses, types, prints, pops, stack_text, sets, converts, hash_text}
+use Rattle.xfs_commands.specs.Cursors.{is_quit, saved}
+use Rattle.xfs_commands.specs.Verbs.{accepted, at_place, runs_alone, word_at}
+use Rattle.xfs_commands.specs.Commands.{Session, Effect, Put, does, refuses, bad_command, no_address, addresses, prints, sets}
 use Rattle.xfs_shell.specs.Lines.{parts_of}
-use Rattle.xfs_shell.specs.Objects.{object_in}
-use Rattle.xfs_shell.specs.Places.{is_place, measure_named}
-use Rattle.xfs_shell.specs.declared.commands.Verb.{Verb}
-use Rattle.xfs_shell.specs.declared.commands.Verb.TheVariants.{Sb, Agf, Agi, Agfl, Inode, FsBlock, DiskAddress, Addr, Retype, Print, Push, Pop, Stack, Write, Convert, Hash, Quit}
-use Rattle.xfs_shell.specs.declared.convert.Measure.{Measure}
-use Rattle.xfs_shell.specs.declared.convert.Measure.TheVariants as measure
-use Rattle.xfs_shell.specs.declared.cursor.Verdict.{Verdict}
-use Rattle.xfs_shell.specs.declared.cursor.Verdict.TheVariants as verdict
+use Rattle.xfs_objects.specs.Objects.{object_in}
+use Rattle.xfs_commands.specs.declared.commands.Verb.{Verb}
+use Rattle.xfs_commands.specs.declared.commands.Verb.TheVariants.{Addr, Print, Push, Write, Quit}
+use Rattle.xfs_commands.specs.declared.cursor.Verdict.{Verdict}
+use Rattle.xfs_commands.specs.declared.cursor.Verdict.TheVariants as verdict
 use Rattle.xfs_shell.specs.declared.lines.Cut.TheVariants.{Blanks}
-use Rattle.xfs_shell.specs.declared.objects.ObjectType.TheVariants as kind
-use Rattle.xfs_shell.specs.declared.objects.Place.{Place}
+use Rattle.xfs_objects.specs.declared.objects.ObjectType.TheVariants as kind
+use Rattle.xfs_objects.specs.declared.objects.Place.{Place}
 use Rattle.xfs_shell.specs.declared.session.Leave.{Leave}
-
--- the name of a command
-abbrev pub verb_name : Verb → List ℕ
-verb_name Sb = codes "sb"
-verb_name Agf = codes "agf"
-verb_name Agi = codes "agi"
-verb_name Agfl = codes "agfl"
-verb_name Inode = codes "inode"
-verb_name FsBlock = codes "fsblock"
-verb_name DiskAddress = codes "daddr"
-verb_name Addr = codes "addr"
-verb_name Retype = codes "type"
-verb_name Print = codes "print"
-verb_name Push = codes "push"
-verb_name Pop = codes "pop"
-verb_name Stack = codes "stack"
-verb_name Write = codes "write"
-verb_name Convert = codes "convert"
-verb_name Hash = codes "hash"
-verb_name Quit = codes "quit"
-
-abbrev pub all_verbs : List Verb
-all_verbs =
-    Sb ∷ Agf ∷ Agi ∷ Agfl ∷ Inode ∷ FsBlock ∷ DiskAddress ∷ Addr ∷ Retype ∷ Print ∷ Push ∷ Pop ∷ Stack ∷ Write ∷ Convert ∷ Hash ∷ Quit ∷ []
-
--- the command takes so many words behind its name
-abbrev pub takes : Verb → ℕ → Bool
-takes Sb n = nat_le n 1
-takes Agf n = nat_le n 1
-takes Agi n = nat_le n 1
-takes Agfl n = nat_le n 1
-takes Retype n = nat_le n 1
-takes Print n = true
-takes Push n = true
-takes Pop n = n == 0
-takes Stack n = n == 0
-takes Quit n = n == 0
-takes Write n = n == 2
-takes Convert n = n == 3
-takes other n = n == 1
-
--- the command of a name with so many words behind it
-abbrev pub taking : Option Verb → ℕ → Option Verb
-taking None n = None
-taking (Some verb) n = if takes verb n then Some verb else None
-
-unfoldable pub accepted : List ℕ → ℕ → Option Verb
-accepted name n = taking (find (λ (v : Verb). bytes_eq (verb_name v) name) all_verbs) n
-
--- the word of this number
-abbrev pub word_at : List (List ℕ) → ℕ → List ℕ
-word_at words i = unwrap_or (slice_get words i) []
-
--- what is done at the current place
-abbrev pub at_place : Option Place → (Place → Effect) → Session → Effect
-at_place None next s = no_address s
-at_place (Some place) next s = next place
 
 -- the bytes of the block of the current place
 abbrev pub block_at_place : Image → Option Place → List ℕ
 block_at_place image None = []
 block_at_place image (Some place) = block_of image place.block
-
--- convert, where its measures are known
-abbrev pub converts_named : Volume → List ℕ → Option Measure → List ℕ → Option Measure → Session → Effect
-converts_named v name None word target s = bad_command name s
-converts_named v name (Some source) word None s = bad_command name s
-converts_named v name (Some source) word (Some target) s =
-    if is_place source then converts v source word target s else bad_command name s
-
--- a command that looks at no object
-abbrev pub runs_alone : Volume → Verb → List ℕ → List (List ℕ) → Session → Effect
-runs_alone v Sb name args s = to_head v kind.Sb 0 args s
-runs_alone v Agf name args s = to_head v kind.Agf 1 args s
-runs_alone v Agi name args s = to_head v kind.Agi 2 args s
-runs_alone v Agfl name args s = to_head v kind.Agfl 3 args s
-runs_alone v Inode name args s = to_number v measure.InodeNumber kind.Inode (word_at args 0) s
-runs_alone v FsBlock name args s = to_number v measure.FsBlock kind.Data (word_at args 0) s
-runs_alone v DiskAddress name args s = to_number v measure.DiskAddress kind.Data (word_at args 0) s
-runs_alone v Retype name args s = at_place s.at (λ place. types place args s) s
-runs_alone v Pop name args s = pops s
-runs_alone v Stack name args s = does (stack_text s.stack) s
-runs_alone v Convert name args s = converts_named v name (measure_named (word_at args 0)) (word_at args 1) (measure_named (word_at args 2)) s
-runs_alone v Hash name args s = does (hash_text (word_at args 0)) s
-runs_alone v Quit name args s = record { verdict = verdict.Quit; text = []; session = s; put = None }
-runs_alone v other name args s = bad_command name s
 
 -- the object at a place, of the bytes of its block
 abbrev pub object_at : Place → List ℕ → List ℕ
@@ -146,14 +64,6 @@ keeping verdict.Quit s now = now
 abbrev pub restored : Session → Effect → Effect
 restored s e = record e { session = keeping e.verdict s e.session }
 
--- with the place on the stack, once or more often
-abbrev pub saved : Place → Session → Session
-saved place s = record s { stack = s.stack ++ place ∷ [] }
-
-abbrev pub pushed : ℕ → Place → Session → Session
-pushed zero place s = s
-pushed (suc n) place s = pushed n place (saved place s)
-
 -- push: the command behind it is run with the current place on the stack
 abbrev pub pushes : Option Place → (Session → Effect) → Session → Effect
 pushes None inner s = no_address s
@@ -193,15 +103,6 @@ pushes_in (name ∷ args) = if is_push_verb (accepted name (length args)) then s
 abbrev pub runs_placeless : Volume → Leave → List (List ℕ) → List ℕ → Session → Effect
 runs_placeless v leave words block s = if is_push words then no_address s else runs_first v leave words block s
 
--- a stack without what lies above so many places, where a command was refused
-abbrev pub back_to : ℕ → Session → Session
-back_to kept s = record { at = s.at; stack = take kept s.stack }
-
-abbrev pub settled_session : Verdict → ℕ → Session → Session
-settled_session verdict.Refused kept s = back_to kept s
-settled_session verdict.Done kept s = s
-settled_session verdict.Quit kept s = s
-
 -- the words of a line
 abbrev pub runs_words : Volume → Leave → List (List ℕ) → List ℕ → Session → Effect
 runs_words v leave [] block s = does [] s
@@ -222,11 +123,6 @@ pub record Run : Type 0 where
   pub session : Session
   pub image : Image
   pub quit : Bool
-
-abbrev pub is_quit : Verdict → Bool
-is_quit verdict.Quit = true
-is_quit verdict.Done = false
-is_quit verdict.Refused = false
 
 abbrev pub extended : Run → Effect → Run
 extended r e = record {

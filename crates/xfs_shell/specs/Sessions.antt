@@ -3,9 +3,9 @@ use Rattle.std.specs.Prelude.{◌≡◌, ℕ, zero, suc, ◌≤◌, ◌⊎◌, L
 use Rattle.xfs_disk.specs.Blocks.{Image}
 use Rattle.xfs_disk.specs.Faults.{Rose}
 use Rattle.xfs_disk.specs.declared.failed.NoMemory.{NoMemory}
-use Rattle.xfs_shell.specs.Commands.{Effect, Session}
+use Rattle.xfs_commands.specs.Commands.{Effect, Session}
 use Rattle.xfs_shell.specs.Running.{image_after}
-use Rattle.xfs_shell.specs.declared.cursor.Verdict.{Verdict}
+use Rattle.xfs_commands.specs.declared.cursor.Verdict.{Verdict}
 use Rattle.xfs_shell.specs.declared.session.Stop.{Stop}
 use Rattle.xfs_shell.specs.declared.session.Stop.TheVariants as stop
 

@@ -5,7 +5,7 @@ ghost use Rattle.std.specs.Option.{ForSome};
 ghost use Rattle.xfs_geom.specs.Election.{elected};
 ghost use Rattle.xfs_geom.specs.Volumes.{volume_of};
 ghost use Rattle.xfs_shell.specs.Running.{may_write};
-ghost use Rattle.xfs_shell.specs.Shells.{leave_of, outcome_of, stopped_outcome, HasCause, IsInput, IsLines, IsSession};
+ghost use Rattle.xfs_shell.specs.Shells.{leave_of, outcome_of, stopped_outcome, HasCause, IsAsked, IsInput, IsLines, IsSession};
 ghost use Rattle.xfs_shell.specs.Ends.{HasCounts, IsEnd};
 
 use crate::input::{InputFault, read_input};
@@ -43,15 +43,35 @@ pub fn shell<D: Disk, S: Source, O: Sink>(
         Err(ElectFault::ReadFault) => return ShellOutcome::ReadFault { finished: 0 },
         Err(ElectFault::NoMemory) => return ShellOutcome::NoMemory { finished: 0 },
     };
+    run_asked(alloc, disk, input, out, &elected.geometry, options)
+}
+
+/// Runs the commands of the options, or where there is none those of an input, over a volume.
+fn run_asked<D: Disk, S: Source, O: Sink>(
+    alloc: Global,
+    disk: &mut D,
+    input: &mut S,
+    out: &mut O,
+    geometry: &Geometry,
+    options: &ShellOptions,
+) -> ShellOutcome
+    requires inside { geometry.now.dblocks ≤ D.size disk.old }
+    ensures session { ForSome (D.holds disk.old) (λ image. ForSome (S.left input.old) (λ left. ForSome (O.took out.old) (λ before.
+        IsAsked (volume_of geometry.now) (leave_of options.now) options.now.commands image left before (O.took out.new) (D.holds disk.new) result))) }
+    ensures stays { may_write (leave_of options.now) ≡ false → D.holds disk.new ≡ D.holds disk.old }
+    ensures cause { HasCause (D.faults disk.old) (D.faults disk.new) (D.write_faults disk.old) (D.write_faults disk.new)
+        (S.faults input.old) (S.faults input.new) (O.faults out.old) (O.faults out.new) result }
+    ensures size { D.size disk.new ≡ D.size disk.old }
+{
     let leave = Leave {
         expert: options.expert,
         read_only: options.read_only,
     };
     let commands = options.commands.as_slice();
     if commands.is_empty() {
-        run_input(alloc, disk, input, out, &elected.geometry, leave)
+        run_input(alloc, disk, input, out, geometry, leave)
     } else {
-        outcome_of(run_lines(alloc, disk, out, &elected.geometry, leave, commands))
+        outcome_of(run_lines(alloc, disk, out, geometry, leave, commands))
     }
 }
 

@@ -3,18 +3,17 @@
 ghost use Rattle.std.specs.Prelude.{◌≡◌, ℕ, ◌<◌, ◌≤◌, true, false, List, length, Some, OnOk};
 ghost use Rattle.std.specs.Option.{ForSome};
 ghost use Rattle.xfs_geom.specs.Volumes.{volume_of};
-ghost use Rattle.xfs_shell.specs.Commands.{session_of, IsWithin};
+ghost use Rattle.xfs_commands.specs.Commands.{session_of, IsWithin};
 ghost use Rattle.xfs_shell.specs.Running.{attempts, block_at_place, may_write};
 ghost use Rattle.xfs_shell.specs.Lines.{parts_of};
 ghost use Rattle.xfs_shell.specs.Sessions.{HasStopCause, Outcome};
 ghost use Rattle.xfs_shell.specs.Ends.{end_behind, HasCounts, HasEndCause, HasLineCause, IsEnd, IsLine};
 ghost use Rattle.xfs_shell.specs.declared.lines.Cut.TheVariants as Cut;
 
-use crate::commands::word_at;
-use crate::cursor::{Cursor, Verdict};
 use crate::lines::{Cut, parts};
 use crate::session::{Leave, Stop, run_words};
 use std::alloc::Global;
+use xfs_commands::{Cursor, Verdict, word_at};
 use xfs_disk::{Disk, Failed, NoMemory, Sink, Word};
 use xfs_geom::Geometry;
 

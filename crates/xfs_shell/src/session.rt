@@ -4,18 +4,18 @@ ghost use Rattle.std.specs.Prelude.{◌≡◌, ℕ, ◌<◌, ◌≤◌, List, le
 ghost use Rattle.std.specs.Option.{ForSome};
 ghost use Rattle.xfs_disk.specs.Faults.{HasCause};
 ghost use Rattle.xfs_geom.specs.Volumes.{volume_of};
-ghost use Rattle.xfs_shell.specs.Commands.{session_of, IsWithin};
-ghost use Rattle.xfs_shell.specs.Running.{accepted, attempts, block_at_place, is_push, is_push_verb, pushes_in, may_write, runs, runs_addr, runs_first, runs_named, runs_placeless, runs_print, sets_here, writes};
+ghost use Rattle.xfs_commands.specs.Commands.{session_of, IsWithin};
+ghost use Rattle.xfs_commands.specs.Verbs.{accepted};
+ghost use Rattle.xfs_shell.specs.Running.{attempts, block_at_place, is_push, is_push_verb, pushes_in, may_write, runs, runs_addr, runs_first, runs_named, runs_placeless, runs_print, sets_here, writes};
 ghost use Rattle.xfs_shell.specs.Sessions.{stopped, HasStopCause, IsWrittenBehind, Outcome};
 
-use crate::commands::{Verb, run_alone, word_at};
-use crate::cursor::{Cursor, Verdict, refuse, refuse_word};
-use crate::looks::{go_along, print};
-use crate::objects::Place;
-use crate::writes::set;
 use std::alloc::Global;
+use xfs_commands::{
+    Cursor, Verb, Verdict, go_along, print, refuse, refuse_word, run_alone, set, word_at,
+};
 use xfs_disk::{BLOCK_SIZE, Disk, Failed, NoMemory, Word};
 use xfs_geom::Geometry;
+use xfs_objects::Place;
 
 /// What the user may do.
 #[derive(Clone, Copy, Debug, PartialEq, Eq)]

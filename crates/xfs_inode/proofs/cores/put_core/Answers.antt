@@ -21,12 +21,14 @@ returns-clause-zero_before_crtime c =
 pub returns-clause-zero_forks : goal.returns-clause-zero_forks
 returns-clause-zero_forks c =
     λ at width low high.
-    let file : 32 + 52 ≤ at = omega (arith, low) in
+    let counts : 64 + 20 ≤ at = omega (arith, low) in
+    let times : 32 + 32 ≤ at = omega (arith, low) in
     let flags : 90 + 42 ≤ at = omega (arith, low) in
     let owner : 8 + 16 ≤ at = omega (arith, low) in
     let kind : 0 + 6 ≤ at = omega (arith, low) in
     c.put_birth.ensures.keeps_parts at width (inr low)
     ∙ (c.put_flags.ensures.keeps_parts at width (inr flags)
-    ∙ (c.put_file.ensures.keeps_parts at width (inr file)
+    ∙ (c.put_counts.ensures.keeps_parts at width (inr counts)
+    ∙ (c.put_times.ensures.keeps_parts at width (inr times)
     ∙ (c.put_owner.ensures.keeps_parts at width (inr owner)
-    ∙ (c.put_kind.ensures.keeps_parts at width (inr kind) ∙ c.clear.ensures at width high))))
+    ∙ (c.put_kind.ensures.keeps_parts at width (inr kind) ∙ c.clear.ensures at width high)))))

@@ -1,5 +1,6 @@
 use Rattle.std.proofs.Common.{◌∙◌, ap, option_map}
 use Rattle.xfs_geom.specs.Volumes.{volume_of}
+use Rattle.xfs_tree.proofs.Causes.{reads_on}
 use Rattle.xfs_tree.specs.Reading.{bytes_at}
 use Rattle.xfs_inode.specs.Files.{contents_of}
 use Rattle.xfs_inode.specs.Named.{named_top}
@@ -15,3 +16,22 @@ returns-in-Ok-settle-clause-read g c = λ image told.
     (ap (option_map contents_of) c.as_ref.ensures.value ∙ (c.in-Ok.ensures.read image told ∙ named_tree v image c.args.ino (named_top v c.args.ino c.args.slot.now) c.args.needs.now.top c.requires.top))
     (c.given.ensures ∙ (named_bytes image c.args.needs.now.attr _ (c.in-Ok-read_named.ensures.bytes image after_top) ∙ ap (option_map (bytes_at image)) c.requires.attr))
     (c.given-2.ensures ∙ (named_bytes image c.args.needs.now.link _ (c.in-Ok-read_named-2.ensures.bytes image after_attr) ∙ ap (option_map (bytes_at image)) c.requires.link))
+
+pub returns-in-Err-read_named-clause-disk : goal.returns-in-Err-read_named-clause-disk
+returns-in-Err-read_named-clause-disk g c =
+    let D = g.D.Disk in
+    reads_on D.size D.holds D.write_faults D.tells_stops D.may_leave c.args.disk.now c.read_top.new.disk c.read_named.new.disk c.in-Ok.ensures.disk c.in-Err-read_named.ensures.disk
+
+pub returns-in-Err-read_named-2-clause-disk : goal.returns-in-Err-read_named-2-clause-disk
+returns-in-Err-read_named-2-clause-disk g c =
+    let D = g.D.Disk in
+    reads_on D.size D.holds D.write_faults D.tells_stops D.may_leave c.args.disk.now c.read_named.new.disk c.read_named-2.new.disk
+    (reads_on D.size D.holds D.write_faults D.tells_stops D.may_leave c.args.disk.now c.read_top.new.disk c.read_named.new.disk c.in-Ok.ensures.disk c.in-Ok-read_named.ensures.disk)
+    c.in-Err-read_named-2.ensures.disk
+
+pub returns-in-Ok-settle-clause-disk : goal.returns-in-Ok-settle-clause-disk
+returns-in-Ok-settle-clause-disk g c =
+    let D = g.D.Disk in
+    reads_on D.size D.holds D.write_faults D.tells_stops D.may_leave c.args.disk.now c.read_named.new.disk c.read_named-2.new.disk
+    (reads_on D.size D.holds D.write_faults D.tells_stops D.may_leave c.args.disk.now c.read_top.new.disk c.read_named.new.disk c.in-Ok.ensures.disk c.in-Ok-read_named.ensures.disk)
+    c.in-Ok-read_named-2.ensures.disk

@@ -1,31 +1,18 @@
-use Rattle.std.proofs.Common.{◌≡◌, ◌==◌, ◌∙◌, ap, sym, subst, ℕ, List, Result, Ok, Err, inr, length}
-use Rattle.xfs_geom.specs.Election.{Vote, elected}
-use Rattle.xfs_geom.specs.Volumes.{Volume, volume_of}
+use Rattle.std.proofs.Common.{◌∙◌, sym, subst, ℕ, List, Result, inr}
+use Rattle.xfs_geom.specs.Election.{Vote}
+use Rattle.xfs_geom.specs.Volumes.{Volume}
 use Rattle.xfs_geom.specs.declared.election.ElectFault.{ElectFault}
-use Rattle.xfs_shell.specs.Ends.{IsEnd}
 use Rattle.xfs_shell.specs.Shells.{IsAsked, IsElected, leave_of}
-use Rattle.xfs_shell.specs.declared.outcomes.ShellOutcome.{ShellOutcome}
-use Rattle.xfs_shell.proofs.Asked.{commands_ran}
 use Rattle.xfs_shell.proofs.debugging.shell.Goals as goal
 
-pub returns-else-is_empty-clause-session : goal.returns-else-is_empty-clause-session
-returns-else-is_empty-clause-session g c =
+pub returns-clause-session : goal.returns-clause-session
+returns-clause-session g c =
     λ image told left told_left before put.
     let o = c.args.options.now in
-    let took = g.O.Sink.took c.run_lines.new.out in
-    let now = g.D.Disk.holds c.run_lines.new.disk in
-    inr (subst
-    (λ (due : Result Vote ElectFault). IsElected due (leave_of o) o.commands image left before took now c.outcome_of.result)
+    let took = g.O.Sink.took c.run_asked.new.out in
+    let now = g.D.Disk.holds c.run_asked.new.disk in
+    inr (subst (λ (due : Result Vote ElectFault). IsElected due (leave_of o) o.commands image left before took now c.run_asked.result)
     (sym (c.in-Ok.ensures.due image told))
-    (subst
-    (λ (v : Volume). IsAsked v (leave_of o) o.commands image left before took now c.outcome_of.result)
+    (subst (λ (v : Volume). IsAsked v (leave_of o) o.commands image left before took now c.run_asked.result)
     c.in-Ok.ensures.states
-    (subst
-    (λ (outcome : ShellOutcome). IsAsked (volume_of c.in-Ok.elected.geometry) (leave_of o) o.commands image left before took now outcome)
-    (sym c.outcome_of.ensures)
-    (commands_ran (volume_of c.in-Ok.elected.geometry) (leave_of o) o.commands image left before took now c.run_lines.result
-    (ap (λ (ls : List (List ℕ)). length ls == 0) (sym c.as_slice-commands.ensures) ∙ sym c.is_empty.ensures ∙ c.if-is_empty.false)
-    (subst
-    (λ (ls : List (List ℕ)). IsEnd (volume_of c.in-Ok.elected.geometry) (leave_of o) ls image before took now c.run_lines.result)
-    c.as_slice-commands.ensures
-    (c.run_lines.ensures.lines image (c.in-Ok.ensures.holds ∙ told) before put))))))
+    (c.run_asked.ensures.session image (c.in-Ok.ensures.holds ∙ told) left told_left before put)))

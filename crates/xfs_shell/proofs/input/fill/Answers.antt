@@ -1,4 +1,4 @@
-use Rattle.std.proofs.Common.{◌≡◌, ◌≤◌, ◌+◌, length, drop, rules, arith}
+use Rattle.std.proofs.Common.{drop, arith}
 use Rattle.xfs_shell.proofs.Filling.{more_filled}
 use Rattle.xfs_shell.proofs.input.fill.Goals as goal
 

@@ -1,4 +1,4 @@
-use Rattle.std.proofs.Common.{◌≡◌, ◌-◌, length, drop, rules, arith}
+use Rattle.std.proofs.Common.{rules, arith}
 use Rattle.xfs_shell.proofs.Filling.{behind_taken}
 use Rattle.xfs_shell.proofs.input.take_behind.Goals as goal
 

@@ -1,4 +1,3 @@
-use Rattle.std.proofs.Common.{rules, ◌≡◌, ◌∙◌}
 use Rattle.xfs_shell.proofs.Cutting.{begun}
 use Rattle.xfs_shell.proofs.lines.parts.Goals as goal
 

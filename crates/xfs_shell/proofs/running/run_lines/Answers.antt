@@ -1,6 +1,6 @@
-use Rattle.std.proofs.Common.{◌≡◌, ◌∙◌, ◌++◌, ◌≤◌, ◌+◌, ℕ, [], List, take, sym, subst, Err, arith}
+use Rattle.std.proofs.Common.{◌∙◌, ◌++◌, [], take, sym, subst, Err, arith}
 use Rattle.xfs_geom.specs.Volumes.{volume_of}
-use Rattle.xfs_shell.specs.Commands.{session_of}
+use Rattle.xfs_commands.specs.Commands.{session_of}
 use Rattle.xfs_shell.specs.Running.{shelled}
 use Rattle.xfs_shell.specs.Ends.{HasEndCause, IsEnd}
 use Rattle.xfs_shell.specs.declared.running.End.{End}

@@ -1,7 +1,7 @@
-use Rattle.std.proofs.Common.{◌≡◌, ◌-◌, ◌≤◌, false, List, ℕ, length, Some}
+use Rattle.std.proofs.Common.{◌≡◌, ◌-◌, false, List, ℕ, length, Some}
 use Rattle.xfs_disk.specs.Blocks.{Image}
 use Rattle.xfs_geom.specs.Volumes.{volume_of}
-use Rattle.xfs_shell.specs.Commands.{session_of, IsWithin}
+use Rattle.xfs_commands.specs.Commands.{session_of, IsWithin}
 use Rattle.xfs_shell.specs.Ends.{HasCounts}
 use Rattle.xfs_shell.specs.Running.{may_write}
 use Rattle.xfs_shell.proofs.Ending.{IsAt}

@@ -1,4 +1,4 @@
-use Rattle.std.proofs.Common.{◌≡◌, ◌∙◌, ap, sym, List, ℕ}
+use Rattle.std.proofs.Common.{◌∙◌, ap, sym, List, ℕ}
 use Rattle.xfs_shell.specs.Running.{is_push}
 use Rattle.xfs_shell.proofs.Pushing.{one_push, push_inside}
 use Rattle.xfs_shell.proofs.session.count_pushes.Goals as goal

@@ -1,9 +1,10 @@
 use Rattle.std.proofs.Common.{◌≡◌, ◌∙◌, ap, subst, sym, ℕ, List, length, drop}
 use Rattle.xfs_geom.specs.Volumes.{volume_of}
-use Rattle.xfs_shell.specs.Commands.{Session, session_of}
-use Rattle.xfs_shell.specs.Running.{attempts, block_at_place, pushed, pushes_in, runs_first, settled_session}
+use Rattle.xfs_commands.specs.Commands.{Session, session_of}
+use Rattle.xfs_shell.specs.Running.{attempts, block_at_place, pushes_in, runs_first}
+use Rattle.xfs_commands.specs.Cursors.{pushed, settled_session}
 use Rattle.xfs_shell.specs.Sessions.{IsRun, Stays}
-use Rattle.xfs_shell.specs.declared.objects.Place.{Place}
+use Rattle.xfs_objects.specs.declared.objects.Place.{Place}
 use Rattle.xfs_shell.proofs.Pushing.{behind_ran, behind_stays}
 use Rattle.xfs_shell.proofs.session.run_behind.Goals as goal
 

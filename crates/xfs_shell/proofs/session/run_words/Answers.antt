@@ -1,6 +1,5 @@
-use Rattle.std.proofs.Common.{◌≡◌}
 use Rattle.xfs_geom.specs.Volumes.{volume_of}
-use Rattle.xfs_shell.specs.Commands.{session_of}
+use Rattle.xfs_commands.specs.Commands.{session_of}
 use Rattle.xfs_shell.specs.Running.{block_at_place}
 use Rattle.xfs_shell.proofs.Pushing.{attempts_placeless}
 use Rattle.xfs_shell.proofs.session.run_words.Goals as goal

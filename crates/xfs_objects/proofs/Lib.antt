@@ -1,0 +1,4 @@
+pub mod Capping
+pub mod Listing
+pub mod Fields
+pub mod Showing

@@ -1,0 +1,17 @@
+//! The objects of a volume as xfs_db names and shows them: their types and places, what has a name in them, how that is
+//! printed, and the numbers that are typed.
+#![tactic(auto)]
+
+mod convert;
+mod hexadecimal;
+mod items;
+mod numbers;
+mod objects;
+mod values;
+
+pub use convert::{Measure, Spot, push_both, spot_of_address};
+pub use hexadecimal::push_hexadecimal;
+pub use items::{Item, Row, Shape, named_item, number_width};
+pub use numbers::{Typed, read_number};
+pub use objects::{ObjectType, Place, SECTOR_SIZE};
+pub use values::{push_decimal, push_line, push_whole};
