@@ -1,5 +1,5 @@
 -- One outcome is due to an image, clean where it is consistent.
-use Rattle.std.proofs.Common.{◌≡◌, ◌&&◌, Bool, true, false, if◌then◌else◌, Option, Some, None, Result, Ok, Err, refl, sym, ap, ◌∙◌, unwrap_or}
+use Rattle.std.proofs.Common.{◌≡◌, ◌&&◌, ℕ, length, Bool, true, false, if◌then◌else◌, Option, Some, None, Result, Ok, Err, refl, sym, ap, ◌∙◌, unwrap_or}
 use Rattle.xfs_disk.specs.Blocks.{Image}
 use Rattle.xfs_geom.specs.Election.{Vote, elected}
 use Rattle.xfs_geom.specs.Volumes.{volume_of}
@@ -15,10 +15,12 @@ use Rattle.xfs_scan.specs.Refused.{refused}
 use Rattle.xfs_scan.specs.declared.faults.ScanFault.{ScanFault}
 use Rattle.xfs_scan.specs.declared.faults.ScanFault.TheVariants as scan
 use Rattle.xfs_mend.proofs.Deciding.{answers, due_seen}
+use Rattle.xfs_mend.specs.Backups.{backup_plan}
 use Rattle.xfs_mend.specs.Due.{IsAnswer, asks_log, away_if, due_found, due_repair, due_volume, is_backup, is_dirty, turned_away}
 use Rattle.xfs_mend.specs.declared.outcome.Outcome.{Outcome}
-use Rattle.xfs_mend.specs.declared.outcome.Outcome.TheVariants.{Clean, Damaged}
+use Rattle.xfs_mend.specs.declared.outcome.Outcome.TheVariants.{Clean, Damaged, Repaired, Unbuilt}
 use Rattle.xfs_mend.specs.declared.outcome.RepairOptions.{RepairOptions}
+use Rattle.xfs_mend.specs.declared.outcome.Summary.TheVariants.{Backups}
 
 pub one_answer : (o : RepairOptions) (image : Image) (r : Result Vote ElectFault) (a b : Outcome) → IsAnswer o image r a → IsAnswer o image r b → a ≡ b
 one_answer o image (Ok vote) a b first second =
@@ -28,14 +30,14 @@ one_answer o image (Err fault.NoGeometry) a b first second = first ∙ sym secon
 one_answer o image (Err fault.ReadFault) a b first second = first ∙ sym second
 one_answer o image (Err fault.NoMemory) a b first second = first ∙ sym second
 
--- only where nothing is found the outcome is clean
-not_repaired : (image : Image) (found : Finding) (b : Bool) → is_backup found ≡ b → Clean ≡ due_repair image found → None ≡ Some found
-not_repaired image found true backup same = let other = rw backup at same in cc
-not_repaired image found false backup same = let other = rw backup at same in cc
+-- only where nothing is found the outcome is clean; the plan of a repair is a variable here, since it unfolds far
+never_clean : (found : Finding) (check backup : Bool) (count : ℕ) → Clean ≡ (if check then Damaged found else (if backup then Repaired (Backups count) else Unbuilt 8)) → None ≡ Some found
+never_clean found true backup count same = cc
+never_clean found false true count same = cc
+never_clean found false false count same = cc
 
 not_found : (image : Image) (found : Finding) (check : Bool) → Clean ≡ (if check then Damaged found else due_repair image found) → None ≡ Some found
-not_found image found true same = cc
-not_found image found false same = not_repaired image found (is_backup found) refl same
+not_found image found check same = never_clean found check (is_backup found) (length (backup_plan image)) same
 
 nothing : (o : RepairOptions) (image : Image) (found : Option Finding) → Clean ≡ due_found o image found → found ≡ None
 nothing o image None same = refl
@@ -67,8 +69,12 @@ pub consistent_answer : (o : RepairOptions) (g : Geometry) (image : Image) → I
 consistent_answer o g image is stays =
     answers o g image is.elected.vote Clean is.elected.due is.elected (due_seen o g image None stays (sym (nothing_found broken_law g image is)))
 
+damaged_if : (found : Finding) (check : Bool) (later : Outcome) → check ≡ true → Damaged found ≡ (if check then Damaged found else later)
+damaged_if found true later checks = refl
+damaged_if found false later checks = cc
+
 damaged_due : (o : RepairOptions) (image : Image) (found : Finding) → o.check ≡ true → Damaged found ≡ due_found o image (Some found)
-damaged_due o image found checks = rw checks refl
+damaged_due o image found checks = damaged_if found o.check (due_repair image found) checks
 
 pub found_answer : (o : RepairOptions) (image : Image) (found : Finding) (has : HasFinding broken_law image found) → turned_away o (volume_of has.geometry) image ≡ None
     → o.check ≡ true → IsAnswer o image (elected image) (Damaged found)

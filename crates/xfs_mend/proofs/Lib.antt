@@ -5,4 +5,5 @@ pub mod Electing
 pub mod Mending
 pub mod Planning
 pub mod Repaired
+pub mod Turning
 pub mod Writing

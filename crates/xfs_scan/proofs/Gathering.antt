@@ -1,5 +1,5 @@
 -- What slots give, taken one by one, is what all give.
-use Rattle.std.proofs.Common.{◌≡◌, ℕ, true, false, cond, List, [], ◌∷◌, ◌++◌, map, Option, Some, None, refl, sym, ap, ap₂, ◌∙◌}
+use Rattle.std.proofs.Common.{◌≡◌, ℕ, true, false, cond, List, [], ◌∷◌, ◌++◌, map, Option, Some, None, Result, Ok, Err, OnOk, refl, sym, ap, ap₂, ◌∙◌}
 use Rattle.std.specs.List.{filter, flat_map}
 use Rattle.std.specs.Option.{option_or}
 use Rattle.std.proofs.lemmas.List.{append_assoc, append-nil, map-append}
@@ -18,7 +18,7 @@ use Rattle.xfs_volume.specs.declared.directories.DirRec.{DirRec}
 use Rattle.xfs_image.specs.Claims.{file_if}
 use Rattle.xfs_image.specs.Files.{files_at, with_file}
 use Rattle.xfs_image.specs.Slots.{reads_as}
-use Rattle.xfs_scan.specs.Gathered.{Gathered, bare_if, feature_if, files_if, first_feature, gathered, joined, nothing, of_directory, of_found, of_read, of_slot}
+use Rattle.xfs_scan.specs.Gathered.{Gathered, bare_if, feature_if, files_if, first_feature, gathered, joined, nothing, of_directory, of_file, of_found, of_read, of_slot}
 
 or_none : {A : Type 0} (a : Option A) → option_or a None ≡ a
 or_none None = refl
@@ -47,6 +47,11 @@ joined_assoc a b c = λ i. record {
   unread = or_assoc a.unread b.unread c.unread i;
   feature = or_assoc a.feature b.feature c.feature i;
 }
+
+-- what follows where a call ended well
+pub on_ok : {T E : Type 0} (P Q : Type 0) (r : Result T E) → (P → Q) → OnOk r P → OnOk r Q
+on_ok P Q (Ok value) step held = step held
+on_ok P Q (Err fault) step held = held
 
 module _ (v : Volume) (image : Image) where
   pub gathered-append : (xs ys : List ℕ) → gathered v image (xs ++ ys) ≡ joined (gathered v image xs) (gathered v image ys)
@@ -87,6 +92,30 @@ module _ (v : Volume) (image : Image) where
 
   pub other_file : (f : FileRec) (old : Gathered) → is_directory f ≡ false → old ≡ joined old (of_directory v image f)
   other_file f old other = sym (ap (joined old) (no_directory f other) ∙ joined_nothing old)
+
+  -- what is found of a file as a directory, and then the file itself, are what the file gives
+  pub file_taken : (f : FileRec) (old mid new : Gathered) → mid ≡ joined old (of_directory v image f)
+      → new ≡ joined mid (record { files = f ∷ []; bare = []; entries = []; dirs = []; unread = None; feature = None })
+      → new ≡ joined old (of_file v image f [] None)
+  file_taken f old mid new found pushed =
+      let one : Gathered = record { files = f ∷ []; bare = []; entries = []; dirs = []; unread = None; feature = None } in
+      let both : joined (of_directory v image f) one ≡ of_file v image f [] None = λ i. record {
+        files = f ∷ [];
+        bare = [];
+        entries = append-nil (entries_read v image (f ∷ [])) i;
+        dirs = append-nil (dirs_read v image (f ∷ [])) i;
+        unread = None;
+        feature = None;
+      } in
+      pushed ∙ (ap (λ (a : Gathered). joined a one) found ∙ (joined_assoc old (of_directory v image f) one ∙ ap (joined old) both))
+
+  -- a file that is noted as one without attributes, and then taken up
+  pub bare_taken : (f : FileRec) (old mid new : Gathered)
+      → mid ≡ joined old (record { files = []; bare = f.ino ∷ []; entries = []; dirs = []; unread = Some f.ino; feature = None })
+      → new ≡ joined mid (of_file v image f [] None) → new ≡ joined old (of_file v image f (f.ino ∷ []) (Some f.ino))
+  bare_taken f old mid new noted taken =
+      let note : Gathered = record { files = []; bare = f.ino ∷ []; entries = []; dirs = []; unread = Some f.ino; feature = None } in
+      taken ∙ (ap (λ (a : Gathered). joined a (of_file v image f [] None)) noted ∙ joined_assoc old note (of_file v image f [] None))
 
   pub found_directory : (f : FileRec) (found : DirFound) → is_directory f ≡ true
       → found.entries ≡ entries_of v image f → found.parent ≡ parent_of v image f → found.whole ≡ is_whole v image f

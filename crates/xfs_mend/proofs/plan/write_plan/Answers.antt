@@ -25,3 +25,6 @@ loop-write-preserved g c =
       later = search rules;
       tells = search rules;
     }
+
+pub returns-in-Ok-kept-clause-kept : goal.returns-in-Ok-kept-clause-kept
+returns-in-Ok-kept-clause-kept g c = search rules
