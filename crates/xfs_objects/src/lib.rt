@@ -1,5 +1,17 @@
 //! The objects of a volume as xfs_db names and shows them: their types and places, what has a name in them, how that is
 //! printed, and the numbers that are typed.
+//!
+//! The names under which the debugger knows what stands on disk: types of objects, their fields and records, and how each
+//! is printed and typed. Nothing here goes to a disk; it works on the bytes of one object.
+//!
+//! `xfs_commands` prints a field so:
+//!
+//! ```text
+//! match named_item(alloc, place.kind, object, word)? {
+//!     Some(item) => push_line(text, object, &item)?,
+//!     None => return refuse_word(text, "no field: ", word),
+//! }
+//! ```
 #![tactic(auto)]
 
 mod convert;

@@ -1,4 +1,18 @@
 //! B+trees of any kind: what a kind is, how its blocks are laid out, and how a tree is read (chapter "Common B+trees").
+//!
+//! What all trees of a volume have in common. A kind says what its records and keys are, and with that its trees can be
+//! read, level by level: as the records of their leaves, with the blocks that were read, or as the first block that
+//! breaks a rule. Who reads a tree names its root and how many levels it has.
+//!
+//! `xfs_groups` reads the trees of a group so:
+//!
+//! ```text
+//! match read_tree(alloc, kind, g, disk, root, levels, steps) {
+//!     Ok(tree) => ..,                        // tree.records, tree.blocks
+//!     Err(TreeError::Unread(unread)) => ..,  // the block, and the rule that it breaks
+//!     ..
+//! }
+//! ```
 #![tactic(auto)]
 
 mod frontier;
