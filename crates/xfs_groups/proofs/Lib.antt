@@ -1,3 +1,4 @@
+pub mod Causes
 pub mod BlockSets
 pub mod Rows
 pub mod Sweeps

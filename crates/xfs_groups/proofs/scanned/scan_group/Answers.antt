@@ -3,6 +3,7 @@ use Rattle.xfs_geom.specs.Conversions.{group_length}
 use Rattle.xfs_geom.specs.Volumes.{volume_of}
 use Rattle.xfs_tree.proofs.Causes.{reads_none, reads_on}
 use Rattle.xfs_groups.specs.Chosen.{ArePlaced, chosen, is_chosen_as, place_at, withheld}
+use Rattle.xfs_groups.proofs.Causes.{caused_on, later}
 use Rattle.xfs_groups.proofs.Choosing.{chosen_more, none_chosen, none_withheld, placed_step, withheld_then}
 use Rattle.xfs_groups.proofs.Placed.{none_placed, root_chosen}
 use Rattle.xfs_groups.proofs.scanned.scan_group.Goals as goal
@@ -41,10 +42,56 @@ loop-i-preserved g c =
       disk = reads_on D.size D.holds D.write_faults D.tells_stops D.may_leave c.args.disk.now c.loop-i.disk c.look_at.new.disk before.disk c.in-Ok.ensures.disk;
     }
 
-pub returns-in-Err-push_chosen-clause-disk : goal.returns-in-Err-push_chosen-clause-disk
-returns-in-Err-push_chosen-clause-disk g c =
+pub look_at-requires-clause-inside : goal.look_at-requires-clause-inside
+look_at-requires-clause-inside g c = omega (arith, c.loop-i.invariant.disk.same_size, c.requires.inside)
+
+pub look_at-requires-2-clause-inside : goal.look_at-requires-2-clause-inside
+look_at-requires-2-clause-inside g c = omega (arith, c.loop-i.invariant.disk.same_size, c.requires.inside)
+
+pub returns-in-Err : goal.returns-in-Err
+returns-in-Err g c =
     let D = g.D.Disk in
-    reads_on D.size D.holds D.write_faults D.tells_stops D.may_leave c.args.disk.now c.loop-i.disk c.look_at.new.disk c.loop-i.invariant.disk c.in-Ok.ensures.disk
+    record {
+      chosen = tt;
+      withheld = tt;
+      placed = tt;
+      cause = caused_on (D.faults c.args.disk.now) (D.faults c.loop-i.disk) (D.faults c.look_at.new.disk) c.in-Err.fault c.loop-i.invariant.later c.in-Err.ensures.cause;
+      disk = reads_on D.size D.holds D.write_faults D.tells_stops D.may_leave c.args.disk.now c.loop-i.disk c.look_at.new.disk c.loop-i.invariant.disk c.in-Err.ensures.disk;
+    }
+
+pub returns-in-Err-push_chosen : goal.returns-in-Err-push_chosen
+returns-in-Err-push_chosen g c =
+    let D = g.D.Disk in
+    record {
+      chosen = tt;
+      withheld = tt;
+      placed = tt;
+      cause = later (D.faults c.args.disk.now) (D.faults c.loop-i.disk) (D.faults c.look_at.new.disk) c.loop-i.invariant.later c.in-Ok.ensures.cause;
+      disk = reads_on D.size D.holds D.write_faults D.tells_stops D.may_leave c.args.disk.now c.loop-i.disk c.look_at.new.disk c.loop-i.invariant.disk c.in-Ok.ensures.disk;
+    }
+
+pub returns-in-Err-look_at : goal.returns-in-Err-look_at
+returns-in-Err-look_at g c =
+    let D = g.D.Disk in
+    record {
+      chosen = tt;
+      withheld = tt;
+      placed = tt;
+      cause = caused_on (D.faults c.args.disk.now) (D.faults c.loop-i.disk) (D.faults c.look_at-2.new.disk) c.in-Err-look_at.fault c.loop-i.invariant.later
+          c.in-Err-look_at.ensures.cause;
+      disk = reads_on D.size D.holds D.write_faults D.tells_stops D.may_leave c.args.disk.now c.loop-i.disk c.look_at-2.new.disk c.loop-i.invariant.disk
+          c.in-Err-look_at.ensures.disk;
+    }
+
+pub returns-in-Ok-look_at-clause-cause : goal.returns-in-Ok-look_at-clause-cause
+returns-in-Ok-look_at-clause-cause g c =
+    let D = g.D.Disk in
+    later (D.faults c.args.disk.now) (D.faults c.loop-i.disk) (D.faults c.look_at-2.new.disk) c.loop-i.invariant.later c.in-Ok-look_at.ensures.cause
+
+pub returns-in-Ok-look_at-clause-disk : goal.returns-in-Ok-look_at-clause-disk
+returns-in-Ok-look_at-clause-disk g c =
+    let D = g.D.Disk in
+    reads_on D.size D.holds D.write_faults D.tells_stops D.may_leave c.args.disk.now c.loop-i.disk c.look_at-2.new.disk c.loop-i.invariant.disk c.in-Ok-look_at.ensures.disk
 
 pub returns-in-Ok-look_at-clause-chosen : goal.returns-in-Ok-look_at-clause-chosen
 returns-in-Ok-look_at-clause-chosen g c = λ image told.
