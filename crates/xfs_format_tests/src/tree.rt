@@ -1,0 +1,121 @@
+//! Sizes of packed trees, packing, and a kind of tree.
+
+ghost use Rattle.std.specs.Prelude.{ℕ, ◌≤◌, length, None, IsTrue};
+ghost use Rattle.xfs_geom.specs.Volumes.{Volume};
+ghost use Rattle.xfs_format_tests.specs.Numbers.{numbers};
+ghost use Rattle.xfs_tree.specs.Rules.{are_lawful};
+
+mod hostile;
+mod numbers;
+
+use crate::checks::same;
+use numbers::Numbers;
+use std::cmp::Ordering;
+use xfs_geom::Geometry;
+use xfs_tree::*;
+use xfs_word::get16;
+
+#[test]
+fn sizes(rt: HostRuntime) {
+    for (leaf_cap, node_cap, records, blocks) in [
+        (168, 91, 169, 3),
+        (505, 336, 0, 1),
+        (252, 505, 253, 3),
+        (505, 336, 505, 1),
+        (505, 336, 505 * 336, 337),
+        (505, 336, 505 * 336 + 1, 340),
+    ] {
+        same!(rt; tree_size(leaf_cap, node_cap, records), blocks; records);
+    }
+}
+
+#[test]
+fn a_kind(rt: HostRuntime) {
+    let kind = Numbers { ag: 3 };
+    let layout = layout_of(&kind);
+    same!(rt; layout.header_len(), 56);
+    same!(rt; layout.pointer_len(), 4);
+    same!(rt; layout.leaf_cap, 3);
+    same!(rt; kind.owner(), 3);
+    let mut bytes = [0; 4];
+    kind.put_record(&0x0102_0304, &mut bytes);
+    same!(rt; bytes, [1, 2, 3, 4]);
+    same!(rt; kind.read_record(&bytes), 0x0102_0304);
+    assert!(rt; kind.order(&7, &8) == Ordering::Less);
+}
+
+/// Places of blocks in the first group.
+const PLACES: [u64; 11] = [100, 101, 102, 103, 104, 105, 106, 107, 108, 109, 110];
+
+/// Packs numbers in the first group of a volume of two groups of 1024 blocks, with its log at AG block 6 of the
+/// second, and compares the level and the count of each block.
+fn packs(records: &[u32], blocks: &[(u32, u64)]) -> bool
+    requires lawful { (v : Volume) → IsTrue (are_lawful (numbers 0) v None records.now) }
+    requires few { length records.now ≤ 13 }
+{
+    let g = Geometry {
+        dblocks: 2048,
+        agblocks: 1024,
+        agcount: 2,
+        agblklog: 10,
+        log: 1030,
+        logblocks: 512,
+        rootino: 128,
+        logsectlog: 0,
+        uuid: [7; 16],
+    };
+    let size = tree_size(3, 2, records.len() as u64) as usize;
+    if size > 11 || size != blocks.len() {
+        return false;
+    }
+    let mut part = [0xaa; 45056];
+    pack(
+        &Numbers { ag: 0 },
+        &g,
+        records,
+        &PLACES[..size],
+        &mut part[..4096 * size],
+    );
+    for (j, (level, count)) in blocks.iter().enumerate() {
+        let block = &part[4096 * j..4096 * (j + 1)];
+        if get16(block, 4) as u32 != *level
+            || get16(block, 6) as u64 != *count
+            || block[4095] != 0
+        {
+            return false;
+        }
+    }
+    true
+}
+
+#[test]
+fn packed_blocks(rt: HostRuntime) {
+    assert!(rt; packs(&[], &[(0, 0)]));
+    assert!(rt; packs(&[5], &[(0, 1)]));
+    assert!(rt; packs(&[5, 6, 7], &[(0, 3)]));
+    assert!(rt; packs(&[5, 6, 7, 9], &[(0, 2), (0, 2), (1, 2)]));
+    assert!(rt;
+        packs(
+            &[1, 2, 3, 4, 5, 6, 7],
+            &[(0, 3), (0, 2), (0, 2), (1, 2), (1, 1), (2, 2)]
+        )
+    );
+    assert!(rt;
+        packs(
+            &[1, 2, 3, 4, 5, 6, 7, 8, 9, 10, 11, 12, 13],
+            &[
+                (0, 3),
+                (0, 3),
+                (0, 3),
+                (0, 2),
+                (0, 2),
+                (1, 2),
+                (1, 2),
+                (1, 1),
+                (2, 2),
+                (2, 1),
+                (3, 2)
+            ],
+        )
+    );
+}
