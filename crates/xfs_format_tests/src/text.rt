@@ -47,6 +47,13 @@ impl<'a> Row<'a> {
         text.trim()
     }
 
+    /// All that is left of the line.
+    pub fn rest(&mut self) -> &'a str {
+        let rest = self.rest;
+        self.rest = "";
+        rest
+    }
+
     /// The next word; a bar behind it is passed over.
     pub fn word(&mut self) -> &'a str {
         let words = self.rest.trim_start();
@@ -136,7 +143,9 @@ impl<'a> Row<'a> {
         ensures { length object.new ≡ length object.old }
     {
         let bytes = self.bytes(rt, rt.alloc())?;
-        let room = object.get_mut(at..).and_then(|rest| rest.get_mut(..bytes.len()));
+        let room = object
+            .get_mut(at..)
+            .and_then(|rest| rest.get_mut(..bytes.len()));
         match room {
             Some(room) => room.copy_from_slice(bytes.as_slice()),
             None => panic!(rt; "past the object: {:?}", self.line),
@@ -173,14 +182,42 @@ fn digit(rt: &impl Abort, byte: u8) -> u8
     }
 }
 
-/// Writes the parts of an object over its bytes. In each line stand a byte offset and the bytes from there on.
-pub fn put_parts(rt: &(impl Abort + AllocGlobal), object: &mut [u8], parts: &str) -> Result<(), AllocError>
+/// Writes the parts of an object over its bytes. The parts stand in lines or between commas, each as a byte offset and
+/// the bytes from there on. `ff*260` is a byte so many times.
+pub fn put_parts(
+    rt: &(impl Abort + AllocGlobal),
+    object: &mut [u8],
+    parts: &str,
+) -> Result<(), AllocError>
     ensures { length object.new ≡ length object.old }
 {
     for line in parts.lines() {
-        let mut row = Row::new(line);
-        let at = row.number(rt);
-        row.put(rt, object, at)?;
+        for part in line.split(',') {
+            put_part(rt, object, Row::new(part))?;
+        }
+    }
+    Ok(())
+}
+
+/// Writes one part, if there is one.
+fn put_part(
+    rt: &(impl Abort + AllocGlobal),
+    object: &mut [u8],
+    mut part: Row,
+) -> Result<(), AllocError>
+    ensures { length object.new ≡ length object.old }
+{
+    if part.is_read() {
+        return Ok(());
+    }
+    let at: usize = part.number(rt);
+    let text = part.text();
+    let (bytes, count) = match text.split_once('*') {
+        Some((byte, count)) => (byte, Row::new(count).number(rt)),
+        None => (text, 1),
+    };
+    for k in 0..count {
+        Row::new(bytes).put(rt, object, at.saturating_add(k))?;
     }
     Ok(())
 }

@@ -2,5 +2,5 @@ use Rattle.std.proofs.Common.{All}
 use Rattle.xfs_dirdata.specs.Written.{IsWritable}
 use Rattle.xfs_format_tests.proofs.dirdata.entries.Given as goal
 
-abbrev pub invariant-loop-ino : goal.invariant-loop-ino
-invariant-loop-ino g l = All IsWritable l.entries.items
+abbrev pub invariant-loop-line : goal.invariant-loop-ino
+invariant-loop-line g l = All IsWritable l.entries.items
