@@ -7,12 +7,13 @@ mod log;
 mod real;
 
 use crate::checks::same;
+use crate::text::Row;
 use std::process::Abort;
 use std::test::Fail;
 use xfs_geom::Geometry;
 use xfs_heads::layouts::{agf, agfl, agi};
 use xfs_heads::*;
-use xfs_word::{Seal, SealKind, get32, put_part, put32, put64, seal, stored_checksum};
+use xfs_word::{FieldLayout, Seal, SealKind, get32, put_part, put32, put64, seal, stored_checksum};
 
 /// The identifier of the volume.
 const IDENTIFIER: [u8; 16] = [
@@ -53,6 +54,37 @@ fn with_number(sector: &[u8; 512], kind: SealKind, at: usize, number: u32) -> [u
     changed
 }
 
+/// The byte offset of a field of four bytes.
+fn offset_of(rt: &impl Abort, layouts: &[FieldLayout], name: &str) -> usize
+    ensures { result ≤ 508 }
+{
+    for layout in layouts {
+        if layout.name == name {
+            assert!(rt; layout.offset <= 508);
+            return layout.offset;
+        }
+    }
+    panic!(rt; "no field: {name}")
+}
+
+/// Other numbers in fields of the header, and whether it is accepted then.
+const CHANGED_AGF: &str = "\
+versionnum 2 false
+length 1023 false
+bnolevel 0 false
+cntlevel 10 false
+rmaplevel 9 true
+bnoroot 0 false
+cntroot 1024 false
+rmaproot 1023 true
+flfirst 119 false
+fllast 119 false
+fllast 6 false
+flcount 120 false
+flcount 0 true
+freeblks 7 true
+";
+
 #[test]
 fn free_space(rt: HostRuntime) -> Result<(), Fail> {
     let g = volume();
@@ -85,28 +117,28 @@ fn free_space(rt: HostRuntime) -> Result<(), Fail> {
     let crc = stored_checksum(&sector, 216);
     same!(rt; read_agf(&g, 0, &sector), Some(Agf { crc, ..header }));
     same!(rt; read_agf(&g, 1, &sector), None);
-    for (field, number, accepted) in [
-        (agf::VERSIONNUM, 2, false),
-        (agf::LENGTH, 1023, false),
-        (agf::BNOLEVEL, 0, false),
-        (agf::CNTLEVEL, 10, false),
-        (agf::RMAPLEVEL, 9, true),
-        (agf::BNOROOT, 0, false),
-        (agf::CNTROOT, 1024, false),
-        (agf::RMAPROOT, 1023, true),
-        (agf::FLFIRST, 119, false),
-        (agf::FLLAST, 119, false),
-        (agf::FLLAST, 6, false),
-        (agf::FLCOUNT, 120, false),
-        (agf::FLCOUNT, 0, true),
-        (agf::FREEBLKS, 7, true),
-    ] {
-        assert!(rt; field.offset <= 508);
-        let changed = with_number(&sector, SealKind::Agf, field.offset, number);
-        same!(rt; read_agf(&g, 0, &changed).is_some(), accepted; field.name);
+    for line in CHANGED_AGF.lines() {
+        let mut row = Row::new(line);
+        let at = offset_of(&rt, &agf::AGF, row.word());
+        let changed = with_number(&sector, SealKind::Agf, at, row.number(&rt));
+        same!(rt; read_agf(&g, 0, &changed).is_some(), row.flag(&rt); line);
     }
     Ok(())
 }
+
+/// The same of the header of inodes.
+const CHANGED_AGI: &str = "\
+versionnum 2 false
+length 1023 false
+level 0 false
+level 10 false
+root 0 false
+root 1024 false
+free_level 10 false
+free_root 0 false
+newino 7 true
+dirino 7 true
+";
 
 #[test]
 fn inodes(rt: HostRuntime) -> Result<(), Fail> {
@@ -138,21 +170,11 @@ fn inodes(rt: HostRuntime) -> Result<(), Fail> {
     let crc = stored_checksum(&sector, 312);
     same!(rt; read_agi(&g, 0, &sector), Some(Agi { crc, ..header }));
     same!(rt; read_agi(&g, 1, &sector), None);
-    for (field, number, accepted) in [
-        (agi::VERSIONNUM, 2, false),
-        (agi::LENGTH, 1023, false),
-        (agi::LEVEL, 0, false),
-        (agi::LEVEL, 10, false),
-        (agi::ROOT, 0, false),
-        (agi::ROOT, 1024, false),
-        (agi::FREE_LEVEL, 10, false),
-        (agi::FREE_ROOT, 0, false),
-        (agi::NEWINO, 7, true),
-        (agi::DIRINO, 7, true),
-    ] {
-        assert!(rt; field.offset <= 508);
-        let changed = with_number(&sector, SealKind::Agi, field.offset, number);
-        same!(rt; read_agi(&g, 0, &changed).is_some(), accepted; field.name);
+    for line in CHANGED_AGI.lines() {
+        let mut row = Row::new(line);
+        let at = offset_of(&rt, &agi::AGI, row.word());
+        let changed = with_number(&sector, SealKind::Agi, at, row.number(&rt));
+        same!(rt; read_agi(&g, 0, &changed).is_some(), row.flag(&rt); line);
     }
     Ok(())
 }
@@ -222,21 +244,27 @@ fn free_lists(rt: HostRuntime) -> Result<(), Fail> {
     Ok(())
 }
 
+/// A group, a block of it, and whether a free list of the group may have it.
+const LISTED: &str = "\
+0 0 false
+0 1 true
+0 1023 true
+0 1024 false
+1 5 true
+1 6 false
+1 517 false
+1 518 true
+";
+
 #[test]
 fn listed_blocks(rt: HostRuntime) -> Result<(), Fail> {
     let g = volume();
-    for (ag, block, accepted) in [
-        (0, 0, false),
-        (0, 1, true),
-        (0, 1023, true),
-        (0, 1024, false),
-        (1, 5, true),
-        (1, 6, false),
-        (1, 517, false),
-        (1, 518, true),
-    ] {
+    for line in LISTED.lines() {
+        let mut row = Row::new(line);
+        let (ag, block): (u32, u32) = (row.number(&rt), row.number(&rt));
+        assert!(rt; ag < 2);
         let list = Agfl::new(&[519, block]);
-        same!(rt; list.has_blocks(&g, ag), accepted; block);
+        same!(rt; list.has_blocks(&g, ag), row.flag(&rt); line);
         if list.has_blocks(&g, ag) {
             let mut sector = [0xff; 512];
             put_agfl(&g, ag, &list, &mut sector);

@@ -1,146 +1,110 @@
 //! Headers cut from real images, and what the `xfs_db` of xfsprogs prints of them, but for the checksums: it
 //! prints their bytes in the order in which they are stored.
 
-ghost use Rattle.std.specs.Prelude.{◌≡◌, ◌≤◌};
+ghost use Rattle.std.specs.Prelude.{◌≡◌, ◌≤◌, IfOk};
 
 use super::*;
 use crate::checks::same;
-
-/// What of a sector is not a filling byte: at a byte offset, some bytes.
-type Parts = &'static [(usize, &'static [u8])];
+use crate::text::{put_parts, tells};
+use std::alloc::AllocError;
 
 /// Group 2 of 4 in an image that `mkfs.xfs` filled from a protofile. The group holds the log.
-const MADE: [u8; 16] = [
-    0x49, 0x7d, 0x6d, 0x7b, 0x11, 0x7f, 0x48, 0x04, 0x80, 0x9b, 0x9c, 0x7c, 0xe8, 0xea, 0x0e, 0x17,
-];
+const MADE: &str = "0 497d6d7b117f4804809b9c7ce8ea0e17";
 
-const MADE_AGF: Parts = &[
-    (
-        0,
-        &[
-            0x58, 0x41, 0x47, 0x46, 0x00, 0x00, 0x00, 0x01, 0x00, 0x00, 0x00, 0x02, 0x00, 0x00,
-            0x20, 0x00, 0x00, 0x00, 0x00, 0x01, 0x00, 0x00, 0x00, 0x02, 0x00, 0x00, 0x00, 0x05,
-            0x00, 0x00, 0x00, 0x01, 0x00, 0x00, 0x00, 0x01, 0x00, 0x00, 0x00, 0x01, 0x00, 0x00,
-            0x00, 0x01, 0x00, 0x00, 0x00, 0x06, 0x00, 0x00, 0x00, 0x06, 0x00, 0x00, 0x1b, 0x5b,
-            0x00, 0x00, 0x1b, 0x48, 0x00, 0x00, 0x00, 0x00, 0x49, 0x7d, 0x6d, 0x7b, 0x11, 0x7f,
-            0x48, 0x04, 0x80, 0x9b, 0x9c, 0x7c, 0xe8, 0xea, 0x0e, 0x17, 0x00, 0x00, 0x00, 0x01,
-        ],
-    ),
-    (216, &[0x33, 0x07, 0xb4, 0xbc]),
-];
+const MADE_AGF: &str = "\
+0 5841474600000001000000020000200000000001000000020000000500000001
+32 000000010000000100000001000000060000000600001b5b00001b4800000000
+64 497d6d7b117f4804809b9c7ce8ea0e1700000001
+216 3307b4bc
+";
 
-const MADE_AGI: Parts = &[
-    (
-        0,
-        &[
-            0x58, 0x41, 0x47, 0x49, 0x00, 0x00, 0x00, 0x01, 0x00, 0x00, 0x00, 0x02, 0x00, 0x00,
-            0x20, 0x00, 0x00, 0x00, 0x08, 0x80, 0x00, 0x00, 0x00, 0x03, 0x00, 0x00, 0x00, 0x01,
-            0x00, 0x00, 0x00, 0x0a, 0x00, 0x00, 0x25, 0x80,
-        ],
-    ),
-    (36, &[0xff; 260]),
-    (
-        296,
-        &[
-            0x49, 0x7d, 0x6d, 0x7b, 0x11, 0x7f, 0x48, 0x04, 0x80, 0x9b, 0x9c, 0x7c, 0xe8, 0xea,
-            0x0e, 0x17, 0xc5, 0x92, 0x7a, 0xcd, 0x00, 0x00, 0x00, 0x00, 0x00, 0x00, 0x00, 0x00,
-            0x00, 0x00, 0x00, 0x00, 0x00, 0x00, 0x00, 0x04, 0x00, 0x00, 0x00, 0x01,
-        ],
-    ),
-];
+const MADE_AGI: &str = "\
+0 584147490000000100000002000020000000088000000003000000010000000a
+32 00002580
+36 ff*260
+296 497d6d7b117f4804809b9c7ce8ea0e17c5927acd000000000000000000000000
+328 0000000400000001
+";
 
-const MADE_AGFL: Parts = &[
-    (
-        0,
-        &[
-            0x58, 0x41, 0x46, 0x4c, 0x00, 0x00, 0x00, 0x02, 0x49, 0x7d, 0x6d, 0x7b, 0x11, 0x7f,
-            0x48, 0x04, 0x80, 0x9b, 0x9c, 0x7c, 0xe8, 0xea, 0x0e, 0x17, 0x00, 0x00, 0x00, 0x00,
-            0x00, 0x00, 0x00, 0x00, 0x09, 0x8d, 0x06, 0x9c,
-        ],
-    ),
-    (
-        40,
-        &[
-            0x00, 0x00, 0x03, 0x74, 0x00, 0x00, 0x03, 0x75, 0x00, 0x00, 0x03, 0x76, 0x00, 0x00,
-            0x03, 0x77, 0x00, 0x00, 0x03, 0x78, 0x00, 0x00, 0x03, 0x79,
-        ],
-    ),
-];
+const MADE_AGFL: &str = "\
+0 5841464c00000002497d6d7b117f4804809b9c7ce8ea0e170000000000000000
+32 098d069c
+40 000003740000037500000376000003770000037800000379
+";
+
+/// What is printed of them.
+const MADE_AGF_PRINTED: &str = "\
+Agf { magicnum: 1480673094, versionnum: 1, seqno: 2, length: 8192, bnoroot: 1, cntroot: 2, rmaproot: 5, \
+bnolevel: 1, cntlevel: 1, rmaplevel: 1, flfirst: 1, fllast: 6, flcount: 6, freeblks: 7003, longest: \
+6984, btreeblks: 0, uuid: [73, 125, 109, 123, 17, 127, 72, 4, 128, 155, 156, 124, 232, 234, 14, 23], \
+rmapblocks: 1, lsn: 0, crc: 3165914931 }";
+
+const MADE_AGI_PRINTED: &str = "\
+Agi { magicnum: 1480673097, versionnum: 1, seqno: 2, length: 8192, count: 2176, root: 3, level: 1, \
+freecount: 10, newino: 9600, dirino: 4294967295, unlinked: [4294967295, 4294967295, 4294967295, \
+4294967295, 4294967295, 4294967295, 4294967295, 4294967295, 4294967295, 4294967295, 4294967295, \
+4294967295, 4294967295, 4294967295, 4294967295, 4294967295, 4294967295, 4294967295, 4294967295, \
+4294967295, 4294967295, 4294967295, 4294967295, 4294967295, 4294967295, 4294967295, 4294967295, \
+4294967295, 4294967295, 4294967295, 4294967295, 4294967295, 4294967295, 4294967295, 4294967295, \
+4294967295, 4294967295, 4294967295, 4294967295, 4294967295, 4294967295, 4294967295, 4294967295, \
+4294967295, 4294967295, 4294967295, 4294967295, 4294967295, 4294967295, 4294967295, 4294967295, \
+4294967295, 4294967295, 4294967295, 4294967295, 4294967295, 4294967295, 4294967295, 4294967295, \
+4294967295, 4294967295, 4294967295, 4294967295, 4294967295], uuid: [73, 125, 109, 123, 17, 127, 72, 4, \
+128, 155, 156, 124, 232, 234, 14, 23], crc: 3447362245, lsn: 0, free_root: 4, free_level: 1 }";
 
 /// Group 0 of 4 in an image that a kernel wrote to for long.
-const WRITTEN: [u8; 16] = [
-    0x12, 0x18, 0xdb, 0xea, 0x0d, 0xcc, 0x4a, 0xc6, 0xbe, 0x9e, 0x5c, 0x49, 0x5d, 0xff, 0xf5, 0x17,
-];
+const WRITTEN: &str = "0 1218dbea0dcc4ac6be9e5c495dfff517";
 
-const WRITTEN_AGF: Parts = &[
-    (
-        0,
-        &[
-            0x58, 0x41, 0x47, 0x46, 0x00, 0x00, 0x00, 0x01, 0x00, 0x00, 0x00, 0x00, 0x00, 0x00,
-            0x20, 0x00, 0x00, 0x00, 0x09, 0x4b, 0x00, 0x00, 0x09, 0x49, 0x00, 0x00, 0x00, 0x07,
-            0x00, 0x00, 0x00, 0x02, 0x00, 0x00, 0x00, 0x02, 0x00, 0x00, 0x00, 0x02, 0x00, 0x00,
-            0x00, 0x2c, 0x00, 0x00, 0x00, 0x33, 0x00, 0x00, 0x00, 0x08, 0x00, 0x00, 0x0a, 0x93,
-            0x00, 0x00, 0x00, 0x01, 0x00, 0x00, 0x00, 0x2b, 0x12, 0x18, 0xdb, 0xea, 0x0d, 0xcc,
-            0x4a, 0xc6, 0xbe, 0x9e, 0x5c, 0x49, 0x5d, 0xff, 0xf5, 0x17, 0x00, 0x00, 0x00, 0x1e,
-        ],
-    ),
-    (
-        208,
-        &[
-            0x00, 0x00, 0x00, 0x03, 0x00, 0x00, 0x04, 0x5c, 0x10, 0x8e, 0xc5, 0xdb,
-        ],
-    ),
-];
+const WRITTEN_AGF: &str = "\
+0 584147460000000100000000000020000000094b000009490000000700000002
+32 00000002000000020000002c000000330000000800000a93000000010000002b
+64 1218dbea0dcc4ac6be9e5c495dfff5170000001e
+208 000000030000045c108ec5db
+";
 
-const WRITTEN_AGFL: Parts = &[
-    (
-        0,
-        &[
-            0x58, 0x41, 0x46, 0x4c, 0x00, 0x00, 0x00, 0x00, 0x12, 0x18, 0xdb, 0xea, 0x0d, 0xcc,
-            0x4a, 0xc6, 0xbe, 0x9e, 0x5c, 0x49, 0x5d, 0xff, 0xf5, 0x17, 0x00, 0x00, 0x00, 0x03,
-            0x00, 0x00, 0x04, 0x5c, 0x5a, 0x24, 0xf4, 0x26,
-        ],
-    ),
-    (
-        40,
-        &[
-            0x00, 0x00, 0x00, 0x06, 0x00, 0x00, 0x00, 0x07, 0x00, 0x00, 0x00, 0x08, 0x00, 0x00,
-            0x00, 0x09, 0x00, 0x00, 0x00, 0x0a, 0x00, 0x00, 0x00, 0x0b, 0x00, 0x00, 0x09, 0x48,
-            0x00, 0x00, 0x09, 0x49, 0x00, 0x00, 0x09, 0x4a, 0x00, 0x00, 0x09, 0x4b, 0x00, 0x00,
-            0x09, 0x4e, 0x00, 0x00, 0x09, 0x51, 0x00, 0x00, 0x09, 0x54, 0x00, 0x00, 0x09, 0x56,
-            0x00, 0x00, 0x0f, 0x36, 0x00, 0x00, 0x0f, 0x37, 0x00, 0x00, 0x0f, 0x38, 0x00, 0x00,
-            0x0f, 0x39, 0x00, 0x00, 0x09, 0x57, 0x00, 0x00, 0x09, 0x5a, 0x00, 0x00, 0x13, 0xc7,
-            0x00, 0x00, 0x09, 0x5f, 0x00, 0x00, 0x09, 0x62, 0x00, 0x00, 0x09, 0x63, 0x00, 0x00,
-            0x09, 0x60, 0x00, 0x00, 0x0a, 0x41, 0x00, 0x00, 0x01, 0xd2, 0x00, 0x00, 0x02, 0xf6,
-            0x00, 0x00, 0x02, 0xf8, 0x00, 0x00, 0x02, 0xfa, 0x00, 0x00, 0x02, 0xfc, 0x00, 0x00,
-            0x02, 0xfe, 0x00, 0x00, 0x03, 0x00, 0x00, 0x00, 0x03, 0x02, 0x00, 0x00, 0x03, 0x04,
-            0x00, 0x00, 0x03, 0x06, 0x00, 0x00, 0x03, 0x08, 0x00, 0x00, 0x03, 0x0a, 0x00, 0x00,
-            0x03, 0x0c, 0x00, 0x00, 0x03, 0x0e, 0x00, 0x00, 0x03, 0x10, 0x00, 0x00, 0x03, 0x12,
-            0x00, 0x00, 0x03, 0x14, 0x00, 0x00, 0x03, 0x16, 0x00, 0x00, 0x03, 0x18, 0x00, 0x00,
-            0x03, 0x1a, 0x00, 0x00, 0x03, 0x1c, 0x00, 0x00, 0x03, 0x1e, 0x00, 0x00, 0x03, 0x20,
-            0x00, 0x00, 0x03, 0x22, 0x00, 0x00, 0x03, 0x24,
-        ],
-    ),
-];
+const WRITTEN_AGFL: &str = "\
+0 5841464c000000001218dbea0dcc4ac6be9e5c495dfff517000000030000045c
+32 5a24f426
+40 000000060000000700000008000000090000000a0000000b0000094800000949
+72 0000094a0000094b0000094e00000951000009540000095600000f3600000f37
+104 00000f3800000f39000009570000095a000013c70000095f0000096200000963
+136 0000096000000a41000001d2000002f6000002f8000002fa000002fc000002fe
+168 00000300000003020000030400000306000003080000030a0000030c0000030e
+200 00000310000003120000031400000316000003180000031a0000031c0000031e
+232 000003200000032200000324
+";
+
+/// What is printed of the first.
+const WRITTEN_AGF_PRINTED: &str = "\
+Agf { magicnum: 1480673094, versionnum: 1, seqno: 0, length: 8192, bnoroot: 2379, cntroot: 2377, \
+rmaproot: 7, bnolevel: 2, cntlevel: 2, rmaplevel: 2, flfirst: 44, fllast: 51, flcount: 8, freeblks: \
+2707, longest: 1, btreeblks: 43, uuid: [18, 24, 219, 234, 13, 204, 74, 198, 190, 158, 92, 73, 93, 255, \
+245, 23], rmapblocks: 30, lsn: 12884903004, crc: 3687157264 }";
 
 /// A sector that holds these parts, and `fill` elsewhere.
-fn sector_of(rt: &impl Abort, fill: u8, parts: Parts) -> [u8; 512] {
+fn sector_of(
+    rt: &(impl Abort + AllocGlobal),
+    fill: u8,
+    parts: &str,
+) -> Result<[u8; 512], AllocError> {
     let mut sector = [fill; 512];
-    for (at, bytes) in parts {
-        assert!(rt; *at <= 512);
-        assert!(rt; bytes.len() <= 512 - *at);
-        put_part(&mut sector, *at, bytes);
-    }
-    sector
+    put_parts(rt, &mut sector, parts)?;
+    Ok(sector)
 }
 
 /// The geometry of an image of 4 groups with 8192 blocks each, with its log in group 2.
-fn image(logblocks: u32, uuid: [u8; 16]) -> Geometry
+fn image(
+    rt: &(impl Abort + AllocGlobal),
+    logblocks: u32,
+    identifier: &str,
+) -> Result<Geometry, AllocError>
     requires few { logblocks ≤ 1000 }
     requires some { 512 ≤ logblocks }
-    ensures { result.agcount ≡ 4 }
+    ensures { IfOk result (λ g. g.agcount ≡ 4) }
 {
-    Geometry {
+    let mut uuid = [0; 16];
+    put_parts(rt, &mut uuid, identifier)?;
+    Ok(Geometry {
         dblocks: 32768,
         agblocks: 8192,
         agcount: 4,
@@ -150,91 +114,35 @@ fn image(logblocks: u32, uuid: [u8; 16]) -> Geometry
         rootino: 128,
         logsectlog: 0,
         uuid,
-    }
+    })
 }
 
 #[test]
 fn headers_that_mkfs_made(rt: HostRuntime) -> Result<(), Fail> {
-    let g = image(878, MADE);
-    let agf = Agf {
-        magicnum: 0x5841_4746,
-        versionnum: 1,
-        seqno: 2,
-        length: 8192,
-        bnoroot: 1,
-        cntroot: 2,
-        rmaproot: 5,
-        bnolevel: 1,
-        cntlevel: 1,
-        rmaplevel: 1,
-        flfirst: 1,
-        fllast: 6,
-        flcount: 6,
-        freeblks: 7003,
-        longest: 6984,
-        btreeblks: 0,
-        uuid: MADE,
-        rmapblocks: 1,
-        lsn: 0,
-        crc: 0xbcb4_0733,
+    let g = image(&rt, 878, MADE)?;
+    let Some(agf) = read_agf(&g, 2, &sector_of(&rt, 0, MADE_AGF)?) else {
+        return Err(Fail::from("the header of free space is refused"));
     };
-    let sector = sector_of(&rt, 0, MADE_AGF);
-    same!(rt; read_agf(&g, 2, &sector), Some(agf));
-    let agi = Agi {
-        magicnum: 0x5841_4749,
-        versionnum: 1,
-        seqno: 2,
-        length: 8192,
-        count: 2176,
-        root: 3,
-        level: 1,
-        freecount: 10,
-        newino: 9600,
-        dirino: u32::MAX,
-        unlinked: [u32::MAX; 64],
-        uuid: MADE,
-        crc: 0xcd7a_92c5,
-        lsn: 0,
-        free_root: 4,
-        free_level: 1,
+    tells(&rt, &agf, MADE_AGF_PRINTED, "free space");
+    let Some(agi) = read_agi(&g, 2, &sector_of(&rt, 0, MADE_AGI)?) else {
+        return Err(Fail::from("the header of inodes is refused"));
     };
-    let sector = sector_of(&rt, 0, MADE_AGI);
-    same!(rt; read_agi(&g, 2, &sector), Some(agi));
+    tells(&rt, &agi, MADE_AGI_PRINTED, "inodes");
     let agfl = Agfl::new(&[884, 885, 886, 887, 888, 889]);
-    let sector = sector_of(&rt, 0xff, MADE_AGFL);
+    let sector = sector_of(&rt, 0xff, MADE_AGFL)?;
     same!(rt; read_agfl(&g, 2, &agf, &sector), Some(agfl));
     Ok(())
 }
 
 #[test]
 fn headers_that_a_kernel_wrote(rt: HostRuntime) -> Result<(), Fail> {
-    let g = image(1000, WRITTEN);
-    let agf = Agf {
-        magicnum: 0x5841_4746,
-        versionnum: 1,
-        seqno: 0,
-        length: 8192,
-        bnoroot: 2379,
-        cntroot: 2377,
-        rmaproot: 7,
-        bnolevel: 2,
-        cntlevel: 2,
-        rmaplevel: 2,
-        flfirst: 44,
-        fllast: 51,
-        flcount: 8,
-        freeblks: 2707,
-        longest: 1,
-        btreeblks: 43,
-        uuid: WRITTEN,
-        rmapblocks: 30,
-        lsn: 0x3_0000_045c,
-        crc: 0xdbc5_8e10,
+    let g = image(&rt, 1000, WRITTEN)?;
+    let Some(agf) = read_agf(&g, 0, &sector_of(&rt, 0, WRITTEN_AGF)?) else {
+        return Err(Fail::from("the header of free space is refused"));
     };
-    let sector = sector_of(&rt, 0, WRITTEN_AGF);
-    same!(rt; read_agf(&g, 0, &sector), Some(agf));
+    tells(&rt, &agf, WRITTEN_AGF_PRINTED, "free space");
     let agfl = Agfl::new(&[790, 792, 794, 796, 798, 800, 802, 804]);
-    let sector = sector_of(&rt, 0xff, WRITTEN_AGFL);
+    let sector = sector_of(&rt, 0xff, WRITTEN_AGFL)?;
     same!(rt; read_agfl(&g, 0, &agf, &sector), Some(agfl));
     Ok(())
 }
