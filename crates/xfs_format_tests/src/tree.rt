@@ -9,23 +9,32 @@ mod hostile;
 mod numbers;
 
 use crate::checks::same;
+use crate::text::{Row, tells};
 use numbers::Numbers;
 use std::cmp::Ordering;
+use std::process::Abort;
 use xfs_geom::Geometry;
 use xfs_tree::*;
 use xfs_word::get16;
 
+/// The most records of a leaf and children of a node, the records of a tree and its blocks.
+const SIZES: &str = "\
+168 91 169 3
+505 336 0 1
+252 505 253 3
+505 336 505 1
+505 336 169680 337
+505 336 169681 340
+";
+
 #[test]
 fn sizes(rt: HostRuntime) {
-    for (leaf_cap, node_cap, records, blocks) in [
-        (168, 91, 169, 3),
-        (505, 336, 0, 1),
-        (252, 505, 253, 3),
-        (505, 336, 505, 1),
-        (505, 336, 505 * 336, 337),
-        (505, 336, 505 * 336 + 1, 340),
-    ] {
-        same!(rt; tree_size(leaf_cap, node_cap, records), blocks; records);
+    for line in SIZES.lines() {
+        let mut row = Row::new(line);
+        let (leaf_cap, node_cap) = (row.number(&rt), row.number(&rt));
+        let records = row.number(&rt);
+        assert!(rt; leaf_cap > 0 && node_cap > 1 && records < 1 << 62);
+        same!(rt; tree_size(leaf_cap, node_cap, records), row.number(&rt); line);
     }
 }
 
@@ -39,7 +48,7 @@ fn a_kind(rt: HostRuntime) {
     same!(rt; kind.owner(), 3);
     let mut bytes = [0; 4];
     kind.put_record(&0x0102_0304, &mut bytes);
-    same!(rt; bytes, [1, 2, 3, 4]);
+    tells(&rt, &bytes, "[1, 2, 3, 4]", "a number");
     same!(rt; kind.read_record(&bytes), 0x0102_0304);
     assert!(rt; kind.order(&7, &8) == Ordering::Less);
 }
@@ -49,7 +58,7 @@ const PLACES: [u64; 11] = [100, 101, 102, 103, 104, 105, 106, 107, 108, 109, 110
 
 /// Packs numbers in the first group of a volume of two groups of 1024 blocks, with its log at AG block 6 of the
 /// second, and compares the level and the count of each block.
-fn packs(records: &[u32], blocks: &[(u32, u64)]) -> bool
+fn assert_packed(rt: &impl Abort, records: &[u32], blocks: &str)
     requires lawful { (v : Volume) → IsTrue (are_lawful (numbers 0) v None records.now) }
     requires few { length records.now ≤ 13 }
 {
@@ -65,9 +74,7 @@ fn packs(records: &[u32], blocks: &[(u32, u64)]) -> bool
         uuid: [7; 16],
     };
     let size = tree_size(3, 2, records.len() as u64) as usize;
-    if size > 11 || size != blocks.len() {
-        return false;
-    }
+    assert!(rt; size <= 11 && size == blocks.split(',').count(), "{blocks}");
     let mut part = [0xaa; 45056];
     pack(
         &Numbers { ag: 0 },
@@ -76,46 +83,25 @@ fn packs(records: &[u32], blocks: &[(u32, u64)]) -> bool
         &PLACES[..size],
         &mut part[..4096 * size],
     );
-    for (j, (level, count)) in blocks.iter().enumerate() {
+    let mut dues = blocks.split(',');
+    for j in 0..size {
         let block = &part[4096 * j..4096 * (j + 1)];
-        if get16(block, 4) as u32 != *level
-            || get16(block, 6) as u64 != *count
-            || block[4095] != 0
-        {
-            return false;
-        }
+        let mut due = Row::new(dues.next().unwrap_or(""));
+        let numbers = (due.number(rt), due.number(rt), 0);
+        same!(rt; (get16(block, 4), get16(block, 6), block[4095]), numbers; blocks);
     }
-    true
 }
 
 #[test]
 fn packed_blocks(rt: HostRuntime) {
-    assert!(rt; packs(&[], &[(0, 0)]));
-    assert!(rt; packs(&[5], &[(0, 1)]));
-    assert!(rt; packs(&[5, 6, 7], &[(0, 3)]));
-    assert!(rt; packs(&[5, 6, 7, 9], &[(0, 2), (0, 2), (1, 2)]));
-    assert!(rt;
-        packs(
-            &[1, 2, 3, 4, 5, 6, 7],
-            &[(0, 3), (0, 2), (0, 2), (1, 2), (1, 1), (2, 2)]
-        )
-    );
-    assert!(rt;
-        packs(
-            &[1, 2, 3, 4, 5, 6, 7, 8, 9, 10, 11, 12, 13],
-            &[
-                (0, 3),
-                (0, 3),
-                (0, 3),
-                (0, 2),
-                (0, 2),
-                (1, 2),
-                (1, 2),
-                (1, 1),
-                (2, 2),
-                (2, 1),
-                (3, 2)
-            ],
-        )
+    assert_packed(&rt, &[], "0 0");
+    assert_packed(&rt, &[5], "0 1");
+    assert_packed(&rt, &[5, 6, 7], "0 3");
+    assert_packed(&rt, &[5, 6, 7, 9], "0 2, 0 2, 1 2");
+    assert_packed(&rt, &[1, 2, 3, 4, 5, 6, 7], "0 3, 0 2, 0 2, 1 2, 1 1, 2 2");
+    assert_packed(
+        &rt,
+        &[1, 2, 3, 4, 5, 6, 7, 8, 9, 10, 11, 12, 13],
+        "0 3, 0 3, 0 3, 0 2, 0 2, 1 2, 1 2, 1 1, 2 2, 2 1, 3 2",
     );
 }

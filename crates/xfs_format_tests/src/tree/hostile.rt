@@ -4,14 +4,16 @@ ghost use Rattle.std.specs.Prelude.{◌≡◌, ◌+◌, ◌*◌, ◌<◌, ◌≤
 
 use super::numbers::Numbers;
 use crate::checks::same;
-use std::alloc::Global;
+use crate::text::{Row, tells};
+use std::alloc::{AllocError, Global};
 use std::marker::Brand;
+use std::process::Abort;
 use std::sync::ledger::{Blank, Ledger};
 use std::test::Fail;
 use xfs_disk::{Disk, Failed, MemoryDisk, NoMemory};
 use xfs_geom::Geometry;
 use xfs_runs::Steps;
-use xfs_tree::{Tree, TreeError, Unread, read_tree};
+use xfs_tree::{Tree, TreeError, read_tree};
 use xfs_word::{Seal, SealKind, put_part, put16, put32, put64, seal};
 
 /// The identifier of the volume.
@@ -39,49 +41,32 @@ fn volume() -> Geometry
     }
 }
 
-/// A block of a tree of the first group, with its siblings and numbers of four bytes behind the header.
-fn block(place: u32, level: u16, count: u16, siblings: [u32; 2], numbers: &[u32]) -> [u8; 4096]
-    requires { length numbers.now ≤ 8 }
-{
+/// A block of a tree of the first group: its place, its level, how many it holds, its siblings, and at most eight numbers
+/// of four bytes behind the header.
+fn block(rt: &impl Abort, alloc: Global, text: &str) -> Result<[u8; 4096], AllocError> {
+    let mut row = Row::new(text);
+    let place = 8 * u64::from(row.number::<u32>(rt));
     let mut bytes = [0; 4096];
     put32(&mut bytes, 0, 7);
-    put16(&mut bytes, 4, level);
-    put16(&mut bytes, 6, count);
-    put32(&mut bytes, 8, siblings[0]);
-    put32(&mut bytes, 12, siblings[1]);
-    put64(&mut bytes, 16, 8 * place as u64);
+    put16(&mut bytes, 4, row.number(rt));
+    put16(&mut bytes, 6, row.number(rt));
+    put32(&mut bytes, 8, row.optional(rt).unwrap_or(NONE));
+    put32(&mut bytes, 12, row.optional(rt).unwrap_or(NONE));
+    put64(&mut bytes, 16, place);
     put_part(&mut bytes, 32, &IDENTIFIER);
+    let numbers: Vec<u32> = row.numbers(rt, alloc)?;
+    assert!(rt; numbers.len() <= 8, "{text}");
     for (i, number) in numbers.iter().enumerate() {
         put32(&mut bytes, 56 + 4 * i, *number);
     }
     let what = Seal {
         kind: SealKind::ShortTree { magic: 7 },
-        place: 8 * place as u64,
+        place,
         owner: Some(0),
         uuid: IDENTIFIER,
     };
     seal(&what, &mut bytes);
-    bytes
-}
-
-/// A root at block 20 over two leaves.
-fn root(keys: [u32; 2], children: [u32; 2]) -> [u8; 4096] {
-    let numbers = [keys[0], keys[1], children[0], children[1]];
-    block(20, 1, 2, [NONE, NONE], &numbers)
-}
-
-/// The leaf at block 21.
-fn first(siblings: [u32; 2], count: u16, numbers: &[u32]) -> [u8; 4096]
-    requires { length numbers.now ≤ 8 }
-{
-    block(21, 0, count, siblings, numbers)
-}
-
-/// The leaf at block 22.
-fn second(siblings: [u32; 2], count: u16, numbers: &[u32]) -> [u8; 4096]
-    requires { length numbers.now ≤ 8 }
-{
-    block(22, 0, count, siblings, numbers)
+    Ok(bytes)
 }
 
 /// What the tree of two levels at block 20 reads as, with its steps counted.
@@ -129,127 +114,41 @@ fn reading(
     }
 }
 
+/// The root and its two leaves, and the block and the rule that is broken.
+const BROKEN: &str = "\
+outside the group | 20 1 2 - - 10 30 21 5000 | 21 0 2 - 5000 10 20 | 22 0 1 21 - 30 | Unread { block: 5000, rule: 1 }
+the root's cluster | 20 1 2 - - 10 30 21 16 | 21 0 2 - 16 10 20 | 22 0 1 21 - 30 | Unread { block: 16, rule: 1 }
+a shared child | 20 1 2 - - 10 30 21 21 | 21 0 2 - 21 10 20 | 22 0 1 21 - 30 | Unread { block: 21, rule: 2 }
+parent as child | 20 1 2 - - 10 30 21 20 | 21 0 2 - 20 10 20 | 22 0 1 21 - 30 | Unread { block: 20, rule: 2 }
+checksum | 20 1 2 - - 10 30 21 22 | 21 0 2 - 22 10 20 | 22 0 1 21 - 30 | Unread { block: 22, rule: 3 }
+wrong level | 20 1 2 - - 10 30 21 22 | 21 0 2 - 22 10 20 | 22 1 1 21 - 30 | Unread { block: 22, rule: 4 }
+no record | 20 1 2 - - 10 30 21 22 | 21 0 2 - 22 10 20 | 22 0 0 21 - 30 | Unread { block: 22, rule: 5 }
+too many records | 20 1 2 - - 10 30 21 22 | 21 0 4 - 22 10 20 21 22 | 22 0 1 21 - 30 | Unread { block: 21, rule: 5 }
+keys descend | 20 1 2 - - 30 10 21 22 | 21 0 2 - 22 10 20 | 22 0 1 21 - 30 | Unread { block: 20, rule: 6 }
+records descend | 20 1 2 - - 10 30 21 22 | 21 0 2 - 22 20 10 | 22 0 1 21 - 30 | Unread { block: 21, rule: 6 }
+records descend across leaves | 20 1 2 - - 10 30 21 22 | 21 0 2 - 22 10 35 | 22 0 1 21 - 30 | Unread { block: 22, rule: 6 }
+low key of the first | 20 1 2 - - 11 30 21 22 | 21 0 2 - 22 10 20 | 22 0 1 21 - 30 | Unread { block: 21, rule: 7 }
+low key of the second | 20 1 2 - - 10 31 21 22 | 21 0 2 - 22 10 20 | 22 0 1 21 - 30 | Unread { block: 22, rule: 7 }
+itself as sibling | 20 1 2 - - 10 30 21 22 | 21 0 2 - 21 10 20 | 22 0 1 21 - 30 | Unread { block: 21, rule: 8 }
+sibling left of all | 20 1 2 - - 10 30 21 22 | 21 0 2 22 22 10 20 | 22 0 1 21 - 30 | Unread { block: 21, rule: 8 }
+sibling right of all | 20 1 2 - - 10 30 21 22 | 21 0 2 - 22 10 20 | 22 0 1 21 21 30 | Unread { block: 22, rule: 8 }
+";
+
 #[test]
 fn hostile(rt: HostRuntime) -> Result<(), Fail> {
-    let top = root([10, 30], [21, 22]);
-    let one = first([NONE, 22], 2, &[10, 20]);
-    let two = second([21, NONE], 1, &[30]);
-    let mut unsealed = two;
-    unsealed[4000] = 1;
-    for (what, at, left, right, block, rule) in [
-        (
-            "outside the group",
-            root([10, 30], [21, 5000]),
-            first([NONE, 5000], 2, &[10, 20]),
-            two,
-            5000,
-            1,
-        ),
-        (
-            "the root's cluster",
-            root([10, 30], [21, 16]),
-            first([NONE, 16], 2, &[10, 20]),
-            two,
-            16,
-            1,
-        ),
-        (
-            "a shared child",
-            root([10, 30], [21, 21]),
-            first([NONE, 21], 2, &[10, 20]),
-            two,
-            21,
-            2,
-        ),
-        (
-            "parent as child",
-            root([10, 30], [21, 20]),
-            first([NONE, 20], 2, &[10, 20]),
-            two,
-            20,
-            2,
-        ),
-        ("checksum", top, one, unsealed, 22, 3),
-        (
-            "wrong level",
-            top,
-            one,
-            block(22, 1, 1, [21, NONE], &[30]),
-            22,
-            4,
-        ),
-        ("no record", top, one, second([21, NONE], 0, &[30]), 22, 5),
-        (
-            "too many records",
-            top,
-            first([NONE, 22], 4, &[10, 20, 21, 22]),
-            two,
-            21,
-            5,
-        ),
-        ("keys descend", root([30, 10], [21, 22]), one, two, 20, 6),
-        (
-            "records descend",
-            top,
-            first([NONE, 22], 2, &[20, 10]),
-            two,
-            21,
-            6,
-        ),
-        (
-            "records descend across leaves",
-            top,
-            first([NONE, 22], 2, &[10, 35]),
-            two,
-            22,
-            6,
-        ),
-        (
-            "low key of the first",
-            root([11, 30], [21, 22]),
-            one,
-            two,
-            21,
-            7,
-        ),
-        (
-            "low key of the second",
-            root([10, 31], [21, 22]),
-            one,
-            two,
-            22,
-            7,
-        ),
-        (
-            "itself as sibling",
-            top,
-            first([NONE, 21], 2, &[10, 20]),
-            two,
-            21,
-            8,
-        ),
-        (
-            "sibling left of all",
-            top,
-            first([22, 22], 2, &[10, 20]),
-            two,
-            21,
-            8,
-        ),
-        (
-            "sibling right of all",
-            top,
-            one,
-            second([21, 21], 1, &[30]),
-            22,
-            8,
-        ),
-    ] {
-        let fault = match reading(rt.alloc(), &at, &left, &right) {
-            Err(TreeError::Unread(fault)) => Some(fault),
-            _ => None,
-        };
-        same!(rt; fault, Some(Unread { block, rule }); what);
+    for line in BROKEN.lines() {
+        let mut row = Row::new(line);
+        let what = row.text();
+        let top = block(&rt, rt.alloc(), row.text())?;
+        let left = block(&rt, rt.alloc(), row.text())?;
+        let mut right = block(&rt, rt.alloc(), row.text())?;
+        if what == "checksum" {
+            right[4000] = 1;
+        }
+        match reading(rt.alloc(), &top, &left, &right) {
+            Err(TreeError::Unread(fault)) => tells(&rt, &fault, row.text(), what),
+            _ => panic!(rt; "{what} is not found"),
+        }
     }
     Ok(())
 }
@@ -257,9 +156,9 @@ fn hostile(rt: HostRuntime) -> Result<(), Fail> {
 #[test]
 fn each_block_is_read_once(rt: HostRuntime) -> Result<(), Fail> {
     let mut disk = MemoryDisk::make(rt.alloc(), 2048)?;
-    disk.write(20, &root([10, 30], [21, 22]))?;
-    disk.write(21, &first([NONE, 22], 2, &[10, 20]))?;
-    disk.write(22, &second([21, NONE], 1, &[30]))?;
+    disk.write(20, &block(&rt, rt.alloc(), "20 1 2 - - 10 30 21 22")?)?;
+    disk.write(21, &block(&rt, rt.alloc(), "21 0 2 - 22 10 20")?)?;
+    disk.write(22, &block(&rt, rt.alloc(), "22 0 1 21 - 30")?)?;
     disk.fail(4)?;
     match read::<MemoryDisk, Brand>(rt.alloc(), &mut disk, Blank::new(1)) {
         Ok(tree) => {
