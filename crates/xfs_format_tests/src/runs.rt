@@ -3,6 +3,7 @@
 ghost use Rattle.std.specs.Prelude.{◌≡◌, ◌+◌, ◌^◌, ◌<◌, ◌≤◌};
 
 use crate::checks::same;
+use crate::text::Row;
 use std::alloc::Global;
 use std::marker::Brand;
 use std::mem;
@@ -13,33 +14,33 @@ use xfs_disk::NoMemory;
 use xfs_runs::*;
 
 /// The runs that are put into a set in turn: the first block, the number of blocks, and whether they meet what is there.
-const PUT: [(u32, u32, bool); 16] = [
-    (40, 10, false),
-    (50, 1, false),
-    (49, 1, true),
-    (39, 2, true),
-    (45, 2, true),
-    (30, 40, true),
-    (20, 20, false),
-    (51, 4, false),
-    (55, 0xffff_0000, false),
-    (54, 2, true),
-    (0, 1, false),
-    (1, 18, false),
-    (19, 1, false),
-    (0, 1, true),
-    (0xffff_0036, 1, true),
-    (0xffff_0037, 0xffc8, false),
-];
+const PUT: &str = "\
+40 10 false
+50 1 false
+49 1 true
+39 2 true
+45 2 true
+30 40 true
+20 20 false
+51 4 false
+55 0xffff0000 false
+54 2 true
+0 1 false
+1 18 false
+19 1 false
+0 1 true
+0xffff0036 1 true
+0xffff0037 0xffc8 false
+";
 
 /// The same of blocks that are only asked for, once all of these are there: all below 2^32 - 1 are.
-const ASKED: [(u32, u32, bool); 5] = [
-    (0, 1, true),
-    (19, 1, true),
-    (0xffff_fffe, 1, true),
-    (0xffff_ffff, 1, false),
-    (0xffff_ffff, 0xffff_ffff, false),
-];
+const ASKED: &str = "\
+0 1 true
+19 1 true
+0xfffffffe 1 true
+0xffffffff 1 false
+0xffffffff 0xffffffff false
+";
 
 /// Puts the run into the set where it does not meet it. Whether it met it.
 fn put<L: Ledger>(
@@ -65,17 +66,19 @@ fn try_all<L: Ledger, R: Abort>(rt: &R, alloc: Global, blank: Blank) -> Result<(
 {
     let mut steps = Steps::<L>::from_blank(blank);
     let mut set = RunSet::make(alloc);
-    for (start, count, met) in PUT {
-        if count > 0 {
-            let found = put(&mut set, u64::from(start), u64::from(count), &mut steps)?;
-            same!(rt; found, met; start);
-        }
+    for line in PUT.lines() {
+        let mut row = Row::new(line);
+        let (start, count): (u32, u32) = (row.number(rt), row.number(rt));
+        assert!(rt; count > 0);
+        let found = put(&mut set, u64::from(start), u64::from(count), &mut steps)?;
+        same!(rt; found, row.flag(rt); line);
     }
-    for (start, count, met) in ASKED {
-        if count > 0 {
-            let found = set.meets(u64::from(start), u64::from(count), &mut steps);
-            same!(rt; found, met; start);
-        }
+    for line in ASKED.lines() {
+        let mut row = Row::new(line);
+        let (start, count): (u32, u32) = (row.number(rt), row.number(rt));
+        assert!(rt; count > 0);
+        let found = set.meets(u64::from(start), u64::from(count), &mut steps);
+        same!(rt; found, row.flag(rt); line);
     }
     Ok(())
 }

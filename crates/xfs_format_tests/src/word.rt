@@ -1,20 +1,16 @@
 //! The words against values from outside: the format's worked examples and its tables.
 
+ghost use Rattle.std.specs.Prelude.{◌≡◌, length};
+
 use crate::checks::same;
+use crate::text::{Row, tells};
+use std::alloc::AllocError;
 use std::process::Abort;
+use std::test::Fail;
 use xfs_word::*;
 
 /// The identifier of the file system that the objects belong to.
 const UUID: [u8; 16] = [1, 2, 3, 4, 5, 6, 7, 8, 9, 10, 11, 12, 13, 14, 15, 16];
-
-/// The places of the objects, as 8 bytes.
-const PLACE: [u8; 8] = [0, 0, 0, 0, 0, 0, 0, 7];
-
-/// The owner of the objects, as 8 bytes.
-const OWNER: [u8; 8] = [0, 0, 0, 0, 0, 0, 0, 9];
-
-/// The last log sequence number of the last cycle that is allowed.
-const LSN: [u8; 8] = [0x7f, 0xff, 0xff, 0xfe, 0xff, 0xff, 0xff, 0xff];
 
 #[test]
 fn checksums(rt: HostRuntime) {
@@ -75,211 +71,91 @@ fn fields_extents_and_names(rt: HostRuntime) {
     }
 }
 
-/// A kind with its size, the offset of its checksum, and the parts that seal it: each with its
-/// offset, its bytes, and the bits of its first byte that make it wrong.
-#[derive(Drop)]
-struct Row {
-    kind: SealKind,
-    size: usize,
-    checksum: usize,
-    parts: &'static [(u16, &'static [u8], u8)],
-}
+/// The kinds of objects.
+const KINDS: [SealKind; 12] = [
+    SealKind::Super,
+    SealKind::Agf,
+    SealKind::Agi,
+    SealKind::Agfl,
+    SealKind::ShortTree { magic: 0x4142_3342 },
+    SealKind::LongTree,
+    SealKind::Slot,
+    SealKind::DirData,
+    SealKind::DirData,
+    SealKind::DirFree,
+    SealKind::Index { magic: 0x3dff },
+    SealKind::Symlink,
+];
 
-/// Writes `part` into `object` from `at` on.
-fn plant(object: &mut [u8], at: u16, part: &[u8]) {
-    for (k, byte) in part.iter().enumerate() {
-        if let Some(place) = object.get_mut(at as usize + k) {
-            *place = *byte;
-        }
-    }
-}
+/// Each kind with its size, the offset of its checksum, and the parts that seal it: each with its offset, the bits of its
+/// first byte that make it wrong, and its bytes. Among them are the identifier of the file system, the place 7, the owner
+/// 9, and the last log sequence number of the last cycle that is allowed.
+const SEALS: &str = "\
+Super | 512 224 | 0 1 58465342, 101 1 a5, 240 128 7ffffffeffffffff
+Agf | 512 216 | 0 1 58414746, 8 1 00000007, 64 1 0102030405060708090a0b0c0d0e0f10, 208 128 7ffffffeffffffff
+Agi | 512 312 | 0 1 58414749, 8 1 00000007, 296 1 0102030405060708090a0b0c0d0e0f10, 320 128 7ffffffeffffffff
+Agfl | 512 32 | 0 1 5841464c, 4 1 00000007, 8 1 0102030405060708090a0b0c0d0e0f10, 24 128 7ffffffeffffffff
+ShortTree { magic: 1094857538 } | 4096 52 | 0 1 41423342, 16 1 0000000000000007, 24 128 7ffffffeffffffff, 32 1 0102030405060708090a0b0c0d0e0f10, 48 1 00000009
+LongTree | 4096 64 | 0 1 424d4133, 24 1 0000000000000007, 32 128 7ffffffeffffffff, 40 1 0102030405060708090a0b0c0d0e0f10, 56 1 0000000000000009
+Slot | 512 100 | 0 1 494e, 4 1 03, 112 128 7ffffffeffffffff, 152 1 0000000000000007, 160 1 0102030405060708090a0b0c0d0e0f10
+DirData | 4096 4 | 0 1 58444433, 8 1 0000000000000007, 16 128 7ffffffeffffffff, 24 1 0102030405060708090a0b0c0d0e0f10, 40 1 0000000000000009
+DirData | 4096 4 | 0 1 58444233, 8 1 0000000000000007, 16 128 7ffffffeffffffff, 24 1 0102030405060708090a0b0c0d0e0f10, 40 1 0000000000000009
+DirFree | 4096 4 | 0 1 58444633, 8 1 0000000000000007, 16 128 7ffffffeffffffff, 24 1 0102030405060708090a0b0c0d0e0f10, 40 1 0000000000000009
+Index { magic: 15871 } | 4096 12 | 0 1 484e, 8 1 3dff, 16 1 0000000000000007, 24 128 7ffffffeffffffff, 32 1 0102030405060708090a0b0c0d0e0f10, 48 1 0000000000000009
+Symlink | 4096 12 | 0 1 58534c4d, 16 1 0102030405060708090a0b0c0d0e0f10, 32 1 0000000000000009, 40 1 0000000000000007, 48 128 7ffffffeffffffff
+";
 
 /// Turns the bits of `mask` in the byte at `at`.
-fn turn(object: &mut [u8], at: u16, mask: u8) {
-    if let Some(place) = object.get_mut(at as usize) {
+fn turn(object: &mut [u8], at: usize, mask: u8)
+    ensures { length object.new ≡ length object.old }
+{
+    if let Some(place) = object.get_mut(at) {
         *place ^= mask;
     }
 }
 
 /// Asserts that the row's object is sealed, and that it is not with any of its parts wrong.
-fn check(rt: &impl Abort, row: &Row) {
+fn check(rt: &(impl Abort + AllocGlobal), kind: SealKind, mut row: Row) -> Result<(), AllocError> {
     let what = Seal {
-        kind: row.kind,
+        kind,
         place: 7,
         owner: Some(9),
         uuid: UUID,
     };
     let layout = what.kind.layout();
-    same!(rt; layout.size, row.size);
-    same!(rt; layout.checksum, row.checksum);
+    let name = row.text();
+    tells(rt, &kind, name, name);
+    same!(rt; (layout.size, layout.checksum), (row.number(rt), row.number(rt)); name);
     assert!(rt; layout.size <= 4096);
     let mut buffer = [0; 4096];
     let object = &mut buffer[..layout.size];
-    for (at, part, _) in row.parts {
-        plant(object, *at, part);
+    let parts = row.rest();
+    for part in parts.split(',') {
+        let mut part = Row::new(part);
+        let at = part.number(rt);
+        let _wrong: u8 = part.number(rt);
+        part.put(rt, object, at)?;
     }
     seal(&what, object);
-    assert!(rt; sealed(&what, object), "{:?}", row.kind);
-    for (at, _, wrong) in row.parts {
-        turn(object, *at, *wrong);
+    assert!(rt; sealed(&what, object), "{name}");
+    for part in parts.split(',') {
+        let mut row = Row::new(part);
+        let (at, wrong) = (row.number(rt), row.number(rt));
+        turn(object, at, wrong);
         seal(&what, object);
-        assert!(rt;
-            !sealed(&what, object),
-            "{:?} with a wrong byte at {}",
-            row.kind,
-            at
-        );
-        turn(object, *at, *wrong);
+        assert!(rt; !sealed(&what, object), "{name} with {part} wrong");
+        turn(object, at, wrong);
     }
     turn(object, 511, 1);
-    assert!(rt;
-        !sealed(&what, object),
-        "{:?} with a wrong checksum",
-        row.kind
-    );
+    assert!(rt; !sealed(&what, object), "{name} with a wrong checksum");
+    Ok(())
 }
 
 #[test]
-fn seals_of_each_kind(rt: HostRuntime) {
-    let rows = [
-        Row {
-            kind: SealKind::Super,
-            size: 512,
-            checksum: 224,
-            parts: &[(0, b"XFSB", 1), (101, &[0xa5], 1), (240, &LSN, 0x80)],
-        },
-        Row {
-            kind: SealKind::Agf,
-            size: 512,
-            checksum: 216,
-            parts: &[
-                (0, b"XAGF", 1),
-                (8, &[0, 0, 0, 7], 1),
-                (64, &UUID, 1),
-                (208, &LSN, 0x80),
-            ],
-        },
-        Row {
-            kind: SealKind::Agi,
-            size: 512,
-            checksum: 312,
-            parts: &[
-                (0, b"XAGI", 1),
-                (8, &[0, 0, 0, 7], 1),
-                (296, &UUID, 1),
-                (320, &LSN, 0x80),
-            ],
-        },
-        Row {
-            kind: SealKind::Agfl,
-            size: 512,
-            checksum: 32,
-            parts: &[
-                (0, b"XAFL", 1),
-                (4, &[0, 0, 0, 7], 1),
-                (8, &UUID, 1),
-                (24, &LSN, 0x80),
-            ],
-        },
-        Row {
-            kind: SealKind::ShortTree { magic: 0x4142_3342 },
-            size: 4096,
-            checksum: 52,
-            parts: &[
-                (0, b"AB3B", 1),
-                (16, &PLACE, 1),
-                (24, &LSN, 0x80),
-                (32, &UUID, 1),
-                (48, &[0, 0, 0, 9], 1),
-            ],
-        },
-        Row {
-            kind: SealKind::LongTree,
-            size: 4096,
-            checksum: 64,
-            parts: &[
-                (0, b"BMA3", 1),
-                (24, &PLACE, 1),
-                (32, &LSN, 0x80),
-                (40, &UUID, 1),
-                (56, &OWNER, 1),
-            ],
-        },
-        Row {
-            kind: SealKind::Slot,
-            size: 512,
-            checksum: 100,
-            parts: &[
-                (0, b"IN", 1),
-                (4, &[3], 1),
-                (112, &LSN, 0x80),
-                (152, &PLACE, 1),
-                (160, &UUID, 1),
-            ],
-        },
-        Row {
-            kind: SealKind::DirData,
-            size: 4096,
-            checksum: 4,
-            parts: &[
-                (0, b"XDD3", 1),
-                (8, &PLACE, 1),
-                (16, &LSN, 0x80),
-                (24, &UUID, 1),
-                (40, &OWNER, 1),
-            ],
-        },
-        Row {
-            kind: SealKind::DirData,
-            size: 4096,
-            checksum: 4,
-            parts: &[
-                (0, b"XDB3", 1),
-                (8, &PLACE, 1),
-                (16, &LSN, 0x80),
-                (24, &UUID, 1),
-                (40, &OWNER, 1),
-            ],
-        },
-        Row {
-            kind: SealKind::DirFree,
-            size: 4096,
-            checksum: 4,
-            parts: &[
-                (0, b"XDF3", 1),
-                (8, &PLACE, 1),
-                (16, &LSN, 0x80),
-                (24, &UUID, 1),
-                (40, &OWNER, 1),
-            ],
-        },
-        Row {
-            kind: SealKind::Index { magic: 0x3dff },
-            size: 4096,
-            checksum: 12,
-            parts: &[
-                (0, b"HN", 1),
-                (8, &[0x3d, 0xff], 1),
-                (16, &PLACE, 1),
-                (24, &LSN, 0x80),
-                (32, &UUID, 1),
-                (48, &OWNER, 1),
-            ],
-        },
-        Row {
-            kind: SealKind::Symlink,
-            size: 4096,
-            checksum: 12,
-            parts: &[
-                (0, b"XSLM", 1),
-                (16, &UUID, 1),
-                (32, &OWNER, 1),
-                (40, &PLACE, 1),
-                (48, &LSN, 0x80),
-            ],
-        },
-    ];
-    for row in &rows {
-        check(&rt, row);
+fn seals_of_each_kind(rt: HostRuntime) -> Result<(), Fail> {
+    same!(rt; SEALS.lines().count(), KINDS.len());
+    for (kind, line) in KINDS.iter().zip(SEALS.lines()) {
+        check(&rt, *kind, Row::new(line))?;
     }
+    Ok(())
 }

@@ -4,6 +4,7 @@ ghost use Rattle.std.specs.Prelude.{◌≡◌};
 ghost use Rattle.xfs_disk.specs.MemoryDisk.{size_of};
 
 use crate::checks::same;
+use crate::text::{Row, tells};
 use std::test::Fail;
 use xfs_disk::{
     BLOCK_SIZE, Disk, Failed, Library, LibraryError, MemoryDisk, MemoryLibrary, MemorySink,
@@ -24,44 +25,37 @@ fn outcomes(disk: &mut MemoryDisk) -> [bool; 5]
     ]
 }
 
-/// A failing call and a stop that are asked for, and the outcomes, the first bytes of both blocks and
-/// the failed reads that they lead to.
-type Row = (Option<u64>, Option<u64>, [bool; 5], [u8; 2], u64);
+/// A failing call and a stop that are asked for, and the outcomes, the failed reads and the first bytes of both blocks that
+/// they lead to.
+const FAILING: &str = "\
+- - | ([true, true, true, true, true], 0, Some(7), Some(9))
+2 - | ([true, false, true, true, true], 1, Some(7), Some(9))
+1 - | ([false, true, true, true, true], 0, Some(0), Some(9))
+0 - | ([true, true, true, true, true], 0, Some(7), Some(9))
+5 1 | ([true, false, false, false, false], 2, Some(7), Some(0))
+- 0 | ([false, false, false, false, false], 2, Some(0), Some(0))
+";
 
 #[test]
 fn a_disk_fails_where_it_is_told_to(rt: HostRuntime) -> Result<(), Fail> {
-    let rows: [Row; 6] = [
-        (None, None, [true, true, true, true, true], [7, 9], 0),
-        (Some(2), None, [true, false, true, true, true], [7, 9], 1),
-        (Some(1), None, [false, true, true, true, true], [0, 9], 0),
-        (Some(0), None, [true, true, true, true, true], [7, 9], 0),
-        (
-            Some(5),
-            Some(1),
-            [true, false, false, false, false],
-            [7, 0],
-            2,
-        ),
-        (
-            None,
-            Some(0),
-            [false, false, false, false, false],
-            [0, 0],
-            2,
-        ),
-    ];
-    for (failing, writes, done, left, faults) in rows {
+    for line in FAILING.lines() {
+        let mut row = Row::new(line);
         let mut disk = MemoryDisk::make(rt.alloc(), 2)?;
-        if let Some(call) = failing {
+        if let Some(call) = row.optional(&rt) {
             disk.fail(call)?;
         }
-        if let Some(writes) = writes {
+        if let Some(writes) = row.optional(&rt) {
             disk.stop_after(writes);
         }
-        same!(rt; outcomes(&mut disk), done);
-        same!(rt; disk.faults(), faults);
-        same!(rt; disk.image().get(0).copied(), Some(left[0]));
-        same!(rt; disk.image().get(BLOCK_SIZE).copied(), Some(left[1]));
+        let done = outcomes(&mut disk);
+        let image = disk.image();
+        let left = (image.first().copied(), image.get(BLOCK_SIZE).copied());
+        tells(
+            &rt,
+            &(done, disk.faults(), left.0, left.1),
+            row.text(),
+            line,
+        );
     }
     assert!(rt; matches!(MemoryDisk::make(rt.alloc(), 1 << 52), Err(NoMemory)));
     Ok(())
