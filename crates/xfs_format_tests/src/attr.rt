@@ -34,21 +34,32 @@ fn expect_attributes(
     due: &str,
     case: &str,
 ) -> Result<(), AllocError> {
+    let mut dues = due.split(',');
+    for attribute in attributes {
+        expect_attribute(rt, attribute, Row::new(dues.next().unwrap_or("")), case)?;
+    }
     let count = if due.is_empty() {
         0
     } else {
         due.split(',').count()
     };
     same!(rt; attributes.len(), count; case);
-    for (attribute, due) in attributes.iter().zip(due.split(',')) {
-        let mut due = Row::new(due);
-        let flags: u8 = due.number(rt);
-        let (name, value) = due.text().split_once('=').unwrap_or(("", ""));
-        let value = Row::new(value).bytes(rt, rt.alloc())?;
-        same!(rt; attribute.flags, flags; case);
-        same!(rt; attribute.name.bytes(), name.as_bytes(); case);
-        same!(rt; attribute.value.bytes(), value.as_slice(); case);
-    }
+    Ok(())
+}
+
+/// Fails where an attribute is not the one that is due.
+fn expect_attribute(
+    rt: &(impl Abort + AllocGlobal),
+    attribute: &Attr,
+    mut due: Row,
+    case: &str,
+) -> Result<(), AllocError> {
+    let flags: u8 = due.number(rt);
+    let (name, value) = due.text().split_once('=').unwrap_or(("", ""));
+    let value = Row::new(value).bytes(rt, rt.alloc())?;
+    same!(rt; attribute.flags, flags; case);
+    same!(rt; attribute.name.bytes(), name.as_bytes(); case);
+    same!(rt; attribute.value.bytes(), value.as_slice(); case);
     Ok(())
 }
 

@@ -4,6 +4,7 @@ ghost use Rattle.std.specs.Prelude.{◌≡◌, ◌<◌, IfOk, length};
 ghost use Rattle.xfs_bank.specs.Bank.{AreCuts};
 
 use crate::checks::same;
+use crate::text::Row;
 use std::alloc::Global;
 use std::process::Abort;
 use std::test::Fail;
@@ -22,13 +23,15 @@ fn three_blocks(alloc: Global) -> Result<MemoryDisk, Fail>
     Ok(disk)
 }
 
-/// Asserts that the bank's blocks begin with these bytes, and go on with those of these blocks.
-fn assert_blocks(rt: &impl Abort, bank: &BlockBank, first: &[u8], others: &[u8]) {
-    for (i, (first, other)) in first.iter().zip(others).enumerate() {
+/// Asserts that of each of the bank's blocks the first byte and all others are these.
+fn assert_blocks(rt: &impl Abort, bank: &BlockBank, due: &str) {
+    for (i, text) in due.split(',').enumerate() {
         assert!(rt; i < bank.len());
-        let block = bank.view(i);
-        same!(rt; block[0], *first; i);
-        assert!(rt; block[1..].iter().all(|byte| *byte == *other), "block {i}");
+        let mut row = Row::new(text);
+        let first = row.number(rt);
+        let mut block = [row.number(rt); 4096];
+        block[0] = first;
+        same!(rt; bank.view(i), block.as_slice(); due);
     }
 }
 
@@ -51,9 +54,9 @@ fn filled_and_marked(rt: HostRuntime) -> Result<(), Fail> {
     let mut disk = three_blocks(rt.alloc())?;
     let mut bank = BlockBank::make(rt.alloc(), 3)?;
     same!(rt; bank.len(), 3);
-    assert_blocks(&rt, &bank, &[0, 0, 0], &[0, 0, 0]);
+    assert_blocks(&rt, &bank, "0 0, 0 0, 0 0");
     same!(rt; bank.fill(&mut disk, &[2, 0, 1]), Ok(()));
-    assert_blocks(&rt, &bank, &[12, 10, 11], &[12, 10, 11]);
+    assert_blocks(&rt, &bank, "12 12, 10 10, 11 11");
     bank.each_part(
         &rt,
         &[1],
@@ -63,9 +66,9 @@ fn filled_and_marked(rt: HostRuntime) -> Result<(), Fail> {
             }
         },
     );
-    assert_blocks(&rt, &bank, &[1, 2, 11], &[12, 10, 11]);
+    assert_blocks(&rt, &bank, "1 12, 2 10, 11 11");
     bank.view_mut(2)[0] = 7;
-    assert_blocks(&rt, &bank, &[1, 2, 7], &[12, 10, 11]);
+    assert_blocks(&rt, &bank, "1 12, 2 10, 7 11");
     Ok(())
 }
 
@@ -73,13 +76,13 @@ fn filled_and_marked(rt: HostRuntime) -> Result<(), Fail> {
 fn cut_into_parts(rt: HostRuntime) -> Result<(), Fail> {
     let mut bank = BlockBank::make(rt.alloc(), 3)?;
     number_parts(&rt, &mut bank, &[1]);
-    assert_blocks(&rt, &bank, &[1, 2, 2], &[1, 2, 2]);
+    assert_blocks(&rt, &bank, "1 1, 2 2, 2 2");
     number_parts(&rt, &mut bank, &[]);
-    assert_blocks(&rt, &bank, &[1, 1, 1], &[1, 1, 1]);
+    assert_blocks(&rt, &bank, "1 1, 1 1, 1 1");
     number_parts(&rt, &mut bank, &[1, 1]);
-    assert_blocks(&rt, &bank, &[1, 3, 3], &[1, 3, 3]);
+    assert_blocks(&rt, &bank, "1 1, 3 3, 3 3");
     number_parts(&rt, &mut bank, &[0, 2, 3]);
-    assert_blocks(&rt, &bank, &[2, 2, 3], &[2, 2, 3]);
+    assert_blocks(&rt, &bank, "2 2, 2 2, 3 3");
     Ok(())
 }
 
@@ -90,6 +93,6 @@ fn filled_up_to_a_failed_read(rt: HostRuntime) -> Result<(), Fail> {
     let mut bank = BlockBank::make(rt.alloc(), 3)?;
     same!(rt; bank.fill(&mut disk, &[2, 0, 1]), Err(Failed));
     same!(rt; disk.faults(), 1);
-    assert_blocks(&rt, &bank, &[12, 0, 0], &[12, 0, 0]);
+    assert_blocks(&rt, &bank, "12 12, 0 0, 0 0");
     Ok(())
 }

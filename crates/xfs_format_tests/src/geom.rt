@@ -4,7 +4,7 @@ ghost use Rattle.std.specs.Prelude.{◌+◌, ◌≤◌, IfOk};
 ghost use Rattle.xfs_geom.specs.Writing.{IsAccepted};
 
 use crate::checks::same;
-use crate::text::{Row, put_parts, tells};
+use crate::text::{Row, put_parts, refuse, tells};
 use std::alloc::AllocError;
 use std::process::Abort;
 use std::test::Fail;
@@ -123,7 +123,7 @@ fn named(rt: &(impl Abort + AllocGlobal), name: &str) -> Result<[u8; SECTOR_SIZE
         "no inodes" => no_inodes,
         "no root" => without(&no_inodes, ROOTINO.offset),
         "zeros" => [0; SECTOR_SIZE],
-        _ => panic!(rt; "no superblock: {name}"),
+        _ => refuse(rt, "no superblock", name),
     })
 }
 

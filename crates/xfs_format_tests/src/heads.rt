@@ -7,7 +7,7 @@ mod log;
 mod real;
 
 use crate::checks::same;
-use crate::text::Row;
+use crate::text::{Row, refuse};
 use std::process::Abort;
 use std::test::Fail;
 use xfs_geom::Geometry;
@@ -64,7 +64,7 @@ fn offset_of(rt: &impl Abort, layouts: &[FieldLayout], name: &str) -> usize
             return layout.offset;
         }
     }
-    panic!(rt; "no field: {name}")
+    refuse(rt, "no field", name)
 }
 
 /// Other numbers in fields of the header, and whether it is accepted then.

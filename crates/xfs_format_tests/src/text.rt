@@ -71,7 +71,7 @@ impl<'a> Row<'a> {
         let word = self.word();
         match number_of(word) {
             Some(number) => number,
-            None => panic!(rt; "no number: {word:?} in {:?}", self.line),
+            None => refuse(rt, "a word is no number", self.line),
         }
     }
 
@@ -93,7 +93,7 @@ impl<'a> Row<'a> {
         match self.word() {
             "true" => true,
             "false" => false,
-            word => panic!(rt; "no flag: {word:?} in {:?}", self.line),
+            _ => refuse(rt, "a word is no flag", self.line),
         }
     }
 
@@ -110,7 +110,7 @@ impl<'a> Row<'a> {
         for word in self.text().split_whitespace() {
             match number_of(word) {
                 Some(number) => numbers.push(number)?,
-                None => panic!(rt; "no number: {word:?} in {:?}", self.line),
+                None => refuse(rt, "a word is no number", self.line),
             }
         }
         Ok(numbers)
@@ -129,7 +129,9 @@ impl<'a> Row<'a> {
                 }
             }
         }
-        assert!(rt; high.is_none(), "half a byte in {:?}", self.line);
+        if high.is_some() {
+            refuse(rt, "half a byte", self.line);
+        }
         Ok(bytes)
     }
 
@@ -148,7 +150,7 @@ impl<'a> Row<'a> {
             .and_then(|rest| rest.get_mut(..bytes.len()));
         match room {
             Some(room) => room.copy_from_slice(bytes.as_slice()),
-            None => panic!(rt; "past the object: {:?}", self.line),
+            None => refuse(rt, "bytes lie past the object", self.line),
         }
         Ok(())
     }
@@ -157,6 +159,11 @@ impl<'a> Row<'a> {
     pub fn is_read(&self) -> bool {
         self.rest.trim().is_empty()
     }
+}
+
+/// Fails with what is wrong in a text.
+pub fn refuse(rt: &impl Abort, what: &str, text: &str) -> ! {
+    panic!(rt; "{what}: {text:?}")
 }
 
 /// A word as a number.
@@ -178,7 +185,7 @@ fn digit(rt: &impl Abort, byte: u8) -> u8
     match byte {
         b'0'..=b'9' => byte - b'0',
         b'a'..=b'f' => byte - b'a' + 10,
-        _ => panic!(rt; "no hexadecimal digit: {byte}"),
+        _ => refuse(rt, "a character is no hexadecimal digit", ""),
     }
 }
 
@@ -226,6 +233,6 @@ fn put_part(
 pub fn tells<T: Debug>(rt: &(impl Abort + AllocGlobal), held: &T, due: &str, place: &str) {
     match format!(in rt.alloc(); "{held:?}") {
         Ok(text) => compare_at(rt, &text.as_str(), &due, &place),
-        Err(_) => panic!(rt; "no memory at {place}"),
+        Err(_) => refuse(rt, "no memory", place),
     }
 }

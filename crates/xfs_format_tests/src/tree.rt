@@ -9,7 +9,7 @@ mod hostile;
 mod numbers;
 
 use crate::checks::same;
-use crate::text::{Row, tells};
+use crate::text::{Row, refuse, tells};
 use numbers::Numbers;
 use std::cmp::Ordering;
 use std::process::Abort;
@@ -74,7 +74,8 @@ fn assert_packed(rt: &impl Abort, records: &[u32], blocks: &str)
         uuid: [7; 16],
     };
     let size = tree_size(3, 2, records.len() as u64) as usize;
-    assert!(rt; size <= 11 && size == blocks.split(',').count(), "{blocks}");
+    same!(rt; size, blocks.split(',').count(); blocks);
+    assert!(rt; size <= 11);
     let mut part = [0xaa; 45056];
     pack(
         &Numbers { ag: 0 },
@@ -83,12 +84,20 @@ fn assert_packed(rt: &impl Abort, records: &[u32], blocks: &str)
         &PLACES[..size],
         &mut part[..4096 * size],
     );
-    let mut dues = blocks.split(',');
-    for j in 0..size {
-        let block = &part[4096 * j..4096 * (j + 1)];
-        let mut due = Row::new(dues.next().unwrap_or(""));
-        let numbers = (due.number(rt), due.number(rt), 0);
-        same!(rt; (get16(block, 4), get16(block, 6), block[4095]), numbers; blocks);
+    assert_rows(rt, &part[..4096 * size], blocks);
+}
+
+/// Compares the level, the count and the last byte of each block.
+fn assert_rows(rt: &impl Abort, part: &[u8], blocks: &str) {
+    for (j, text) in blocks.split(',').enumerate() {
+        match part.get(j.saturating_mul(4096)..) {
+            Some(block) if block.len() >= 4096 => {
+                let mut due = Row::new(text);
+                let numbers = (due.number(rt), due.number(rt), 0);
+                same!(rt; (get16(block, 4), get16(block, 6), block[4095]), numbers; blocks);
+            }
+            _ => refuse(rt, "there is no such block", text),
+        }
     }
 }
 

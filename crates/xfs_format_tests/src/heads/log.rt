@@ -4,7 +4,7 @@ ghost use Rattle.std.specs.Prelude.{◌≡◌, ◌≤◌, ◌<◌, ◌^◌, leng
 
 use super::*;
 use crate::checks::same;
-use crate::text::{Row, put_parts, tells};
+use crate::text::{Row, put_parts, refuse, tells};
 use std::alloc::AllocError;
 use xfs_heads::{LogState, SectorSeen, blank_log_sector, log_state, see_sector};
 
@@ -47,7 +47,7 @@ fn sector_of(rt: &impl Abort, mut row: Row) -> SectorSeen {
             size: row.number(rt),
             flag: row.number(rt),
         },
-        word => panic!(rt; "no sector: {word:?}"),
+        word => refuse(rt, "no sector", word),
     }
 }
 
@@ -78,7 +78,7 @@ fn state_of(rt: &impl Abort, mut row: Row) -> LogState {
                 head: u64::from(cycle) << 32 | u64::from(block),
             }
         }
-        word => panic!(rt; "no state: {word:?}"),
+        word => refuse(rt, "no state", word),
     }
 }
 

@@ -4,7 +4,7 @@ ghost use Rattle.std.specs.Prelude.{◌≡◌, ◌+◌, ◌*◌, ◌<◌, ◌≤
 
 use super::numbers::Numbers;
 use crate::checks::same;
-use crate::text::{Row, tells};
+use crate::text::{Row, refuse, tells};
 use std::alloc::{AllocError, Global};
 use std::marker::Brand;
 use std::process::Abort;
@@ -147,7 +147,7 @@ fn hostile(rt: HostRuntime) -> Result<(), Fail> {
         }
         match reading(rt.alloc(), &top, &left, &right) {
             Err(TreeError::Unread(fault)) => tells(&rt, &fault, row.text(), what),
-            _ => panic!(rt; "{what} is not found"),
+            _ => refuse(&rt, "this is not found", what),
         }
     }
     Ok(())
