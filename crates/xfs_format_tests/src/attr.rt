@@ -3,7 +3,7 @@
 mod real;
 
 use crate::checks::same;
-use crate::text::{Row, put_parts, tells};
+use crate::text::{Row, parts_of, put_parts, tells};
 use std::alloc::AllocError;
 use std::process::Abort;
 use std::test::Fail;
@@ -34,16 +34,11 @@ fn expect_attributes(
     due: &str,
     case: &str,
 ) -> Result<(), AllocError> {
-    let mut dues = due.split(',');
-    for attribute in attributes {
-        expect_attribute(rt, attribute, Row::new(dues.next().unwrap_or("")), case)?;
+    let dues = parts_of(rt.alloc(), due)?;
+    same!(rt; attributes.len(), dues.len(); case);
+    for (attribute, due) in attributes.iter().zip(dues.iter()) {
+        expect_attribute(rt, attribute, *due, case)?;
     }
-    let count = if due.is_empty() {
-        0
-    } else {
-        due.split(',').count()
-    };
-    same!(rt; attributes.len(), count; case);
     Ok(())
 }
 
@@ -57,8 +52,7 @@ fn expect_attribute(
     let flags: u8 = due.number(rt);
     let (name, value) = due.text().split_once('=').unwrap_or(("", ""));
     let value = Row::new(value).bytes(rt, rt.alloc())?;
-    same!(rt; attribute.flags, flags; case);
-    same!(rt; attribute.name.bytes(), name.as_bytes(); case);
+    same!(rt; (attribute.flags, attribute.name.bytes()), (flags, name.as_bytes()); case);
     same!(rt; attribute.value.bytes(), value.as_slice(); case);
     Ok(())
 }

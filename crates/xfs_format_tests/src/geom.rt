@@ -4,7 +4,7 @@ ghost use Rattle.std.specs.Prelude.{◌+◌, ◌≤◌, IfOk};
 ghost use Rattle.xfs_geom.specs.Writing.{IsAccepted};
 
 use crate::checks::same;
-use crate::text::{Row, put_parts, refuse, tells};
+use crate::text::{Row, parts_of, put_parts, refuse, tells};
 use std::alloc::AllocError;
 use std::process::Abort;
 use std::test::Fail;
@@ -135,8 +135,8 @@ fn elect_of(
     ensures { IfOk result (λ answer. IfOk answer (λ e. IsAccepted e.sector)) }
 {
     let mut disk = MemoryDisk::make(rt.alloc(), 4096)?;
-    for text in supers.split(',') {
-        let mut row = Row::new(text);
+    for row in parts_of(rt.alloc(), supers)?.iter() {
+        let mut row = *row;
         let at: u64 = row.number(rt);
         let mut block = [0; 4096];
         put_part(&mut block, 0, &named(rt, row.text())?);

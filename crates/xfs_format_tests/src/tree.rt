@@ -9,10 +9,12 @@ mod hostile;
 mod numbers;
 
 use crate::checks::same;
-use crate::text::{Row, refuse, tells};
+use crate::text::{Row, parts_of, tells};
 use numbers::Numbers;
+use std::alloc::AllocError;
 use std::cmp::Ordering;
 use std::process::Abort;
+use std::test::Fail;
 use xfs_geom::Geometry;
 use xfs_tree::*;
 use xfs_word::get16;
@@ -58,7 +60,11 @@ const PLACES: [u64; 11] = [100, 101, 102, 103, 104, 105, 106, 107, 108, 109, 110
 
 /// Packs numbers in the first group of a volume of two groups of 1024 blocks, with its log at AG block 6 of the
 /// second, and compares the level and the count of each block.
-fn assert_packed(rt: &impl Abort, records: &[u32], blocks: &str)
+fn assert_packed(
+    rt: &(impl Abort + AllocGlobal),
+    records: &[u32],
+    blocks: &str,
+) -> Result<(), AllocError>
     requires lawful { (v : Volume) → IsTrue (are_lawful (numbers 0) v None records.now) }
     requires few { length records.now ≤ 13 }
 {
@@ -74,7 +80,6 @@ fn assert_packed(rt: &impl Abort, records: &[u32], blocks: &str)
         uuid: [7; 16],
     };
     let size = tree_size(3, 2, records.len() as u64) as usize;
-    same!(rt; size, blocks.split(',').count(); blocks);
     assert!(rt; size <= 11);
     let mut part = [0xaa; 45056];
     pack(
@@ -84,33 +89,39 @@ fn assert_packed(rt: &impl Abort, records: &[u32], blocks: &str)
         &PLACES[..size],
         &mut part[..4096 * size],
     );
-    assert_rows(rt, &part[..4096 * size], blocks);
+    assert_rows(rt, &part[..4096 * size], blocks)
 }
 
 /// Compares the level, the count and the last byte of each block.
-fn assert_rows(rt: &impl Abort, part: &[u8], blocks: &str) {
-    for (j, text) in blocks.split(',').enumerate() {
-        match part.get(j.saturating_mul(4096)..) {
-            Some(block) if block.len() >= 4096 => {
-                let mut due = Row::new(text);
-                let numbers = (due.number(rt), due.number(rt), 0);
-                same!(rt; (get16(block, 4), get16(block, 6), block[4095]), numbers; blocks);
-            }
-            _ => refuse(rt, "there is no such block", text),
-        }
+fn assert_rows(
+    rt: &(impl Abort + AllocGlobal),
+    part: &[u8],
+    blocks: &str,
+) -> Result<(), AllocError> {
+    let dues = parts_of(rt.alloc(), blocks)?;
+    same!(rt; part.len(), dues.len().saturating_mul(4096); blocks);
+    let mut rest = part;
+    for due in dues.iter() {
+        assert!(rt; rest.len() >= 4096);
+        let mut due = *due;
+        let numbers = (due.number(rt), due.number(rt), 0);
+        same!(rt; (get16(rest, 4), get16(rest, 6), rest[4095]), numbers; blocks);
+        rest = &rest[4096..];
     }
+    Ok(())
 }
 
 #[test]
-fn packed_blocks(rt: HostRuntime) {
-    assert_packed(&rt, &[], "0 0");
-    assert_packed(&rt, &[5], "0 1");
-    assert_packed(&rt, &[5, 6, 7], "0 3");
-    assert_packed(&rt, &[5, 6, 7, 9], "0 2, 0 2, 1 2");
-    assert_packed(&rt, &[1, 2, 3, 4, 5, 6, 7], "0 3, 0 2, 0 2, 1 2, 1 1, 2 2");
+fn packed_blocks(rt: HostRuntime) -> Result<(), Fail> {
+    assert_packed(&rt, &[], "0 0")?;
+    assert_packed(&rt, &[5], "0 1")?;
+    assert_packed(&rt, &[5, 6, 7], "0 3")?;
+    assert_packed(&rt, &[5, 6, 7, 9], "0 2, 0 2, 1 2")?;
+    assert_packed(&rt, &[1, 2, 3, 4, 5, 6, 7], "0 3, 0 2, 0 2, 1 2, 1 1, 2 2")?;
     assert_packed(
         &rt,
         &[1, 2, 3, 4, 5, 6, 7, 8, 9, 10, 11, 12, 13],
         "0 3, 0 3, 0 3, 0 2, 0 2, 1 2, 1 2, 1 1, 2 2, 2 1, 3 2",
-    );
+    )?;
+    Ok(())
 }

@@ -3,7 +3,7 @@
 ghost use Rattle.std.specs.Prelude.{◌≡◌, length};
 
 use crate::checks::same;
-use crate::text::{Row, tells};
+use crate::text::{Row, parts_of, refuse, tells};
 use std::alloc::AllocError;
 use std::process::Abort;
 use std::test::Fail;
@@ -129,25 +129,31 @@ fn check(rt: &(impl Abort + AllocGlobal), kind: SealKind, mut row: Row) -> Resul
     assert!(rt; layout.size <= 4096);
     let mut buffer = [0; 4096];
     let object = &mut buffer[..layout.size];
-    let parts = row.rest();
-    for part in parts.split(',') {
-        let mut part = Row::new(part);
+    let parts = parts_of(rt.alloc(), row.rest())?;
+    for part in parts.iter() {
+        let mut part = *part;
         let at = part.number(rt);
         let _wrong: u8 = part.number(rt);
         part.put(rt, object, at)?;
     }
     seal(&what, object);
-    assert!(rt; sealed(&what, object), "{name}");
-    for part in parts.split(',') {
-        let mut row = Row::new(part);
+    if !sealed(&what, object) {
+        refuse(rt, name, "is not sealed");
+    }
+    for part in parts.iter() {
+        let mut row = *part;
         let (at, wrong) = (row.number(rt), row.number(rt));
         turn(object, at, wrong);
         seal(&what, object);
-        assert!(rt; !sealed(&what, object), "{name} with {part} wrong");
+        if sealed(&what, object) {
+            refuse(rt, name, row.rest());
+        }
         turn(object, at, wrong);
     }
     turn(object, 511, 1);
-    assert!(rt; !sealed(&what, object), "{name} with a wrong checksum");
+    if sealed(&what, object) {
+        refuse(rt, name, "a wrong checksum");
+    }
     Ok(())
 }
 

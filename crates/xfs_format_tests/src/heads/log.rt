@@ -4,7 +4,7 @@ ghost use Rattle.std.specs.Prelude.{◌≡◌, ◌≤◌, ◌<◌, ◌^◌, leng
 
 use super::*;
 use crate::checks::same;
-use crate::text::{Row, put_parts, refuse, tells};
+use crate::text::{Row, parts_of, put_parts, refuse, tells};
 use std::alloc::AllocError;
 use xfs_heads::{LogState, SectorSeen, blank_log_sector, log_state, see_sector};
 
@@ -54,11 +54,8 @@ fn sector_of(rt: &impl Abort, mut row: Row) -> SectorSeen {
 /// The sectors of these runs, in each of which so many are equal.
 fn lay(rt: &(impl Abort + AllocGlobal), runs: &str) -> Result<Vec<SectorSeen>, AllocError> {
     let mut seen = Vec::new(rt.alloc());
-    if runs.is_empty() {
-        return Ok(seen);
-    }
-    for run in runs.split(',') {
-        let mut run = Row::new(run);
+    for run in parts_of(rt.alloc(), runs)?.iter() {
+        let mut run = *run;
         let count: usize = run.number(rt);
         let sector = sector_of(rt, run);
         for _ in 0..count {
