@@ -1,6 +1,0 @@
-use Rattle.std.proofs.Common.{All}
-use Rattle.xfs_dirdata.specs.Written.{IsWritable}
-use Rattle.xfs_block_tests.proofs.dirdata.entries.Given as goal
-
-abbrev pub invariant-loop-ino : goal.invariant-loop-ino
-invariant-loop-ino g l = All IsWritable l.entries.items

@@ -1,0 +1,103 @@
+//! A bank filled from a disk of three blocks, and worked on in parts.
+
+ghost use Rattle.std.specs.Prelude.{◌≡◌, ◌<◌, IfOk, length};
+ghost use Rattle.xfs_bank.specs.Bank.{AreCuts};
+
+use crate::checks::same;
+use crate::text::parts_of;
+use std::alloc::{AllocError, Global};
+use std::process::Abort;
+use std::test::Fail;
+use std::thread::Threads;
+use xfs_bank::*;
+use xfs_disk::{Disk, Failed, MemoryDisk};
+
+/// A disk whose block b has the byte 10 + b everywhere.
+fn three_blocks(alloc: Global) -> Result<MemoryDisk, Fail>
+    ensures { IfOk result (λ disk. ⟦<MemoryDisk as Disk>⟧.size disk ≡ 3) }
+{
+    let mut disk = MemoryDisk::make(alloc, 3)?;
+    disk.write(0, &[10; 4096])?;
+    disk.write(1, &[11; 4096])?;
+    disk.write(2, &[12; 4096])?;
+    Ok(disk)
+}
+
+/// Asserts that of each of the bank's blocks the first byte and all others are these.
+fn assert_blocks(
+    rt: &(impl Abort + AllocGlobal),
+    bank: &BlockBank,
+    due: &str,
+) -> Result<(), AllocError> {
+    for (i, row) in parts_of(rt.alloc(), due)?.iter().enumerate() {
+        assert!(rt; i < bank.len());
+        let mut row = *row;
+        let first = row.number(rt);
+        let mut block = [row.number(rt); 4096];
+        block[0] = first;
+        same!(rt; bank.view(i), block.as_slice(); due);
+    }
+    Ok(())
+}
+
+/// Puts each part's number plus 1 into all of its bytes.
+fn number_parts<R: Threads + Sync>(rt: &R, bank: &mut BlockBank, cuts: &[usize])
+    requires { AreCuts 0 (length bank.old) cuts.now }
+    ensures { length bank.new ≡ length bank.old }
+{
+    bank.each_part(
+        rt,
+        cuts,
+        &|number: usize, part: &mut [u8]| {
+            part.fill(number.to_le_bytes()[0].wrapping_add(1));
+        },
+    );
+}
+
+#[test]
+fn filled_and_marked(rt: HostRuntime) -> Result<(), Fail> {
+    let mut disk = three_blocks(rt.alloc())?;
+    let mut bank = BlockBank::make(rt.alloc(), 3)?;
+    same!(rt; bank.len(), 3);
+    assert_blocks(&rt, &bank, "0 0, 0 0, 0 0")?;
+    same!(rt; bank.fill(&mut disk, &[2, 0, 1]), Ok(()));
+    assert_blocks(&rt, &bank, "12 12, 10 10, 11 11")?;
+    bank.each_part(
+        &rt,
+        &[1],
+        &|number: usize, part: &mut [u8]| {
+            if let Some(first) = part.first_mut() {
+                *first = number.to_le_bytes()[0].wrapping_add(1);
+            }
+        },
+    );
+    assert_blocks(&rt, &bank, "1 12, 2 10, 11 11")?;
+    bank.view_mut(2)[0] = 7;
+    assert_blocks(&rt, &bank, "1 12, 2 10, 7 11")?;
+    Ok(())
+}
+
+#[test]
+fn cut_into_parts(rt: HostRuntime) -> Result<(), Fail> {
+    let mut bank = BlockBank::make(rt.alloc(), 3)?;
+    number_parts(&rt, &mut bank, &[1]);
+    assert_blocks(&rt, &bank, "1 1, 2 2, 2 2")?;
+    number_parts(&rt, &mut bank, &[]);
+    assert_blocks(&rt, &bank, "1 1, 1 1, 1 1")?;
+    number_parts(&rt, &mut bank, &[1, 1]);
+    assert_blocks(&rt, &bank, "1 1, 3 3, 3 3")?;
+    number_parts(&rt, &mut bank, &[0, 2, 3]);
+    assert_blocks(&rt, &bank, "2 2, 2 2, 3 3")?;
+    Ok(())
+}
+
+#[test]
+fn filled_up_to_a_failed_read(rt: HostRuntime) -> Result<(), Fail> {
+    let mut disk = three_blocks(rt.alloc())?;
+    disk.fail(2)?;
+    let mut bank = BlockBank::make(rt.alloc(), 3)?;
+    same!(rt; bank.fill(&mut disk, &[2, 0, 1]), Err(Failed));
+    same!(rt; disk.faults(), 1);
+    assert_blocks(&rt, &bank, "12 12, 0 0, 0 0")?;
+    Ok(())
+}

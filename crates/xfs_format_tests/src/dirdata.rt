@@ -1,0 +1,258 @@
+//! Short forms and data blocks.
+
+ghost use Rattle.std.specs.Prelude.{◌≡◌, ◌<◌, ◌≤◌, ◌^◌, length, All, IfOk};
+ghost use Rattle.xfs_dirdata.specs.Written.{IsWritable};
+
+mod real;
+
+use crate::checks::same;
+use crate::text::{Row, put_parts};
+use real::{MADE, MADE_ENTRIES, SHORT, SHORT_ENTRIES, WRITTEN, WRITTEN_ENTRIES, WRITTEN_FREE};
+use std::alloc::{AllocError, Global};
+use std::process::Abort;
+use std::test::Fail;
+use xfs_dirdata::*;
+use xfs_disk::Word;
+use xfs_word::put32;
+
+/// A short form of two entries.
+const TWO: &str = "020000000080 01006061 0100000083 01007062 0100000084";
+
+/// Its entries.
+const TWO_ENTRIES: &str = "\
+0 131 1 a
+0 132 1 b
+";
+
+/// An entry that can be written.
+fn entry(alloc: Global, name: &[u8], ino: u32, ftype: u8) -> Result<EntryRec, AllocError>
+    requires { length name.now < 256 }
+    ensures writable { IfOk result IsWritable }
+    ensures name { IfOk result (λ entry. entry.name ≡ name.now) }
+{
+    Ok(EntryRec {
+        dir: 0,
+        name: Word::from_vec(Vec::from_slice(alloc, name)?),
+        ino: ino as u64,
+        ftype,
+    })
+}
+
+/// Entries that can be written, from rows with the offset, the inode number, the file type and the name.
+fn entries(rt: &impl Abort, alloc: Global, rows: &str) -> Result<Vec<EntryRec>, Fail>
+    ensures { IfOk result (λ entries. All IsWritable entries.items) }
+{
+    let mut entries = Vec::new(alloc);
+    for line in rows.lines() {
+        let mut row = Row::new(line);
+        let _at: u16 = row.number(rt);
+        let ino: u32 = row.number(rt);
+        let ftype: u8 = row.number(rt);
+        let name = row.text().as_bytes();
+        assert!(rt; name.len() < 256);
+        entries.push(entry(alloc, name, ino, ftype)?)?;
+    }
+    Ok(entries)
+}
+
+/// Asserts that entries of directory 100 are these.
+fn assert_entries(rt: &impl Abort, entries: &[EntryRec], rows: &str) {
+    same!(rt; entries.len(), rows.lines().count());
+    for (entry, line) in entries.iter().zip(rows.lines()) {
+        let mut row = Row::new(line);
+        let _at: u16 = row.number(rt);
+        let due: (u64, u64, u8) = (100, row.number(rt), row.number(rt));
+        same!(rt; (entry.dir, entry.ino, entry.ftype), due; line);
+        same!(rt; entry.name.bytes(), row.text().as_bytes(); line);
+    }
+}
+
+#[test]
+fn short_form(rt: HostRuntime) -> Result<(), Fail> {
+    let two = Row::new(TWO).bytes(&rt, rt.alloc())?;
+    let read = read_short(rt.alloc(), 100, &two)?;
+    same!(rt; read.parent, 128);
+    assert_entries(&rt, &read.entries, TWO_ENTRIES);
+    let made = read_short(rt.alloc(), 100, &Row::new(SHORT).bytes(&rt, rt.alloc())?)?;
+    same!(rt; made.parent, 128);
+    assert_entries(&rt, &made.entries, SHORT_ENTRIES);
+    let entries = [
+        entry(rt.alloc(), b"a", 131, 1)?,
+        entry(rt.alloc(), b"b", 132, 1)?,
+    ];
+    let mut form = [0xee; 26];
+    let size = put_short(128, &entries, &mut form);
+    same!(rt; size, 24);
+    same!(rt; &form[..24], two.as_slice());
+    same!(rt; &form[24..], [0xee, 0xee].as_slice());
+    Ok(())
+}
+
+/// At a byte offset of the short form of two entries, other bytes, and whether it is read then.
+const CHANGED_FORMS: &str = "\
+0 0201 | false
+0 0100 | false
+0 0300 | false
+7 0058 | false
+7 0061 | false
+7 0068 | false
+16 0060 | false
+16 0078 | true
+16 0fc8 | true
+16 0fd0 | false
+6 0200 | false
+";
+
+/// Short forms, and whether they are read.
+const FORMS: &str = "\
+000000000080 | true
+0000000080 | false
+0100000000800000600900000000 | true
+00000000008000 | false
+";
+
+#[test]
+fn short_form_rules(rt: HostRuntime) -> Result<(), Fail> {
+    for line in CHANGED_FORMS.lines() {
+        let mut row = Row::new(line);
+        let mut form = Row::new(TWO).bytes(&rt, rt.alloc())?;
+        put_parts(&rt, &mut form, row.text())?;
+        same!(rt; read_short(rt.alloc(), 100, &form).is_ok(), row.flag(&rt); line);
+    }
+    for line in FORMS.lines() {
+        let mut row = Row::new(line);
+        let form = row.bytes(&rt, rt.alloc())?;
+        same!(rt; read_short(rt.alloc(), 100, &form).is_ok(), row.flag(&rt); line);
+    }
+    Ok(())
+}
+
+/// Asserts that a block of these parts is read as these entries and spans.
+fn assert_block(
+    rt: &(impl Abort + AllocGlobal),
+    parts: &str,
+    rows: &str,
+    spans: &str,
+    whole: bool,
+) -> Result<(), Fail> {
+    let mut block = [0; 4096];
+    put_parts(rt, &mut block, parts)?;
+    let read = read_data(rt.alloc(), 100, &block, whole)?;
+    assert_entries(rt, &read.entries, rows);
+    for (place, line) in read.places.iter().zip(rows.lines()) {
+        same!(rt; *place, Row::new(line).number(rt); line);
+    }
+    same!(rt; read.free.len(), spans.lines().count());
+    for (span, line) in read.free.iter().zip(spans.lines()) {
+        let mut row = Row::new(line);
+        same!(rt; (span.offset, span.length), (row.number(rt), row.number(rt)); line);
+    }
+    same!(rt; read.bests, bestfree(&read.free));
+    Ok(())
+}
+
+#[test]
+fn real_blocks(rt: HostRuntime) -> Result<(), Fail> {
+    assert_block(&rt, MADE, MADE_ENTRIES, "552 3544", false)?;
+    assert_block(&rt, WRITTEN, WRITTEN_ENTRIES, WRITTEN_FREE, true)?;
+    let mut block = [0; 4096];
+    let placed = put_data(&entries(&rt, rt.alloc(), MADE_ENTRIES)?, None, &mut block);
+    same!(rt; placed, 13);
+    let mut due = [0; 4096];
+    put_parts(&rt, &mut due, MADE)?;
+    same!(rt; block, due);
+    Ok(())
+}
+
+/// At byte offsets of the block that a kernel wrote, other bytes, and whether it is read then.
+const CHANGED_BLOCKS: &str = "\
+| true
+78 0048 | false
+98 0030 | false
+98 0014, 114 0060 | false
+126 0068 | false
+128 ffff, 130 0010 | false
+4090 002b | false
+4090 01f8 | false
+4088 2000 | false
+56 00d0 | true
+56 0060, 58 0020 | false
+56 0000, 58 0000 | false
+52 00a0, 54 0010, 56 0060, 58 0020 | false
+48 03e8 | false
+";
+
+#[test]
+fn data_block_rules(rt: HostRuntime) -> Result<(), Fail> {
+    let mut whole = [0; 4096];
+    put_parts(&rt, &mut whole, WRITTEN)?;
+    for line in CHANGED_BLOCKS.lines() {
+        let mut row = Row::new(line);
+        let mut block = whole;
+        put_parts(&rt, &mut block, row.text())?;
+        let read = read_data(rt.alloc(), 100, &block, true);
+        same!(rt; read.is_ok(), row.flag(&rt); line);
+    }
+    Ok(())
+}
+
+/// Entries of a directory that stand behind its own and its parent's.
+const NAMED: &str = "\
+96 131 1 a
+112 132 7 bcdef
+136 133 2 g
+";
+
+/// The same with the directory's own and its parent's.
+const ALL_NAMED: &str = "\
+64 100 2 .
+80 128 2 ..
+96 131 1 a
+112 132 7 bcdef
+136 133 2 g
+";
+
+/// Where a block ends, and how many of the entries it takes.
+const ENDS: &str = "\
+96 0
+104 0
+112 1
+128 1
+136 2
+144 2
+152 3
+";
+
+#[test]
+fn filled_blocks(rt: HostRuntime) -> Result<(), Fail> {
+    let entries = entries(&rt, rt.alloc(), NAMED)?;
+    for line in ENDS.lines() {
+        let mut row = Row::new(line);
+        let end: usize = row.number(&rt);
+        let mut block = [0xee; 4096];
+        assert!(rt; end % 8 == 0 && 96 <= end && end <= 4096);
+        let placed = put_data(&entries, Some((100, 128)), &mut block[..end]);
+        same!(rt; placed, row.number(&rt); line);
+        same!(rt; (block[0], block[4095]), (0xee, 0xee); line);
+    }
+    let mut block = [0; 4096];
+    same!(rt; put_data(&entries, Some((100, 128)), &mut block[..4048]), 3);
+    put32(&mut block, 4088, 5);
+    let read = read_data(rt.alloc(), 100, &block, true)?;
+    assert_entries(&rt, &read.entries, ALL_NAMED);
+    Ok(())
+}
+
+#[test]
+fn largest_spans(rt: HostRuntime) {
+    let spans = [(64, 16), (96, 32), (160, 16), (200, 40), (300, 32)];
+    let free = spans.map(|(offset, length)| FreeSpan { offset, length });
+    let none = FreeSpan {
+        offset: 0,
+        length: 0,
+    };
+    same!(rt; bestfree(&[]), [none, none, none]);
+    same!(rt; bestfree(&free[..1]), [free[0], none, none]);
+    same!(rt; bestfree(&free[..3]), [free[1], free[0], free[2]]);
+    same!(rt; bestfree(&free), [free[3], free[1], free[4]]);
+}

@@ -1,0 +1,242 @@
+//! Superblocks and elections against values from outside.
+
+ghost use Rattle.std.specs.Prelude.{◌+◌, ◌≤◌, IfOk};
+ghost use Rattle.xfs_geom.specs.Writing.{IsAccepted};
+
+use crate::checks::same;
+use crate::text::{Row, parts_of, put_parts, refuse, tells};
+use std::alloc::AllocError;
+use std::process::Abort;
+use std::test::Fail;
+use xfs_disk::{Disk, MemoryDisk};
+use xfs_geom::superblock::*;
+use xfs_geom::*;
+use xfs_word::{Seal, SealKind, put_part, put64, seal};
+
+/// Two groups of 1024 blocks, with the log at AG block 6 of the second.
+const TWO_GROUPS: &str = "\
+8 0000000000000800 | dblocks
+48 0000000000000406 | logstart
+84 00000400 | agblocks
+88 00000002 | agcount
+124 0a | agblklog
+";
+
+/// Four groups of 1024 blocks.
+const FOUR_GROUPS: &str = "\
+8 0000000000001000 | dblocks
+48 0000000000000406 | logstart
+84 00000400 | agblocks
+88 00000004 | agcount
+124 0a | agblklog
+";
+
+/// A group of 1100 blocks and one of 900: an address has a bit more than 1024 blocks need.
+const UNEVEN_GROUPS: &str = "\
+8 00000000000007d0 | dblocks
+48 0000000000000806 | logstart
+84 0000044c | agblocks
+88 00000002 | agcount
+124 0b | agblklog
+";
+
+/// What the superblocks have in common.
+const COMMON: &str = "\
+0 58465342 | magicnum
+4 00001000 | blocksize
+32 00112233445566778899aabbccddeeff | uuid
+56 0000000000000080 | rootino
+64 0000000000000081 | rbmino
+72 0000000000000082 | rsumino
+80 00000001 | rextsize
+96 00000200 | logblocks
+100 b4a5 | versionnum
+102 0200 | sectsize
+104 0200 | inodesize
+106 0008 | inopblock
+120 0c | blocklog
+121 09 | sectlog
+122 09 | inodelog
+123 03 | inopblog
+127 19 | imax_pct
+128 0000000000000040 | icount
+136 000000000000003d | ifree
+144 00000000000005ec | fdblocks
+180 00000008 | inoalignmt
+196 00000001 | logsunit
+200 0000018a | features2
+204 0000018a | bad_features2
+212 00000003 | features_ro_compat
+216 00000003 | features_incompat
+228 00000004 | spino_align
+";
+
+/// A superblock of the shape, sealed.
+fn superblock(
+    rt: &(impl Abort + AllocGlobal),
+    shape: &str,
+) -> Result<[u8; SECTOR_SIZE], AllocError> {
+    let mut sector = [0; SECTOR_SIZE];
+    put_parts(rt, &mut sector, COMMON)?;
+    put_parts(rt, &mut sector, shape)?;
+    reseal(&mut sector);
+    Ok(sector)
+}
+
+fn reseal(sector: &mut [u8; SECTOR_SIZE]) {
+    let what = Seal {
+        kind: SealKind::Super,
+        place: 0,
+        owner: None,
+        uuid: [0; 16],
+    };
+    seal(&what, sector);
+}
+
+/// A superblock with another number in a field, sealed.
+fn with_number(sector: &[u8; SECTOR_SIZE], at: usize, number: u64) -> [u8; SECTOR_SIZE]
+    requires { at + 8 ≤ 512 }
+{
+    let mut changed = *sector;
+    put64(&mut changed, at, number);
+    reseal(&mut changed);
+    changed
+}
+
+/// A superblock with all ones in a field, sealed.
+fn without(sector: &[u8; SECTOR_SIZE], at: usize) -> [u8; SECTOR_SIZE]
+    requires { at + 8 ≤ 512 }
+{
+    with_number(sector, at, u64::MAX)
+}
+
+/// A superblock by its name in the table of elections.
+fn named(rt: &(impl Abort + AllocGlobal), name: &str) -> Result<[u8; SECTOR_SIZE], AllocError> {
+    let two = superblock(rt, TWO_GROUPS)?;
+    let four = superblock(rt, FOUR_GROUPS)?;
+    let no_inodes = without(&without(&two, RBMINO.offset), RSUMINO.offset);
+    Ok(match name {
+        "two" => two,
+        "four" => four,
+        "other" => with_number(&four, UUID.offset, 0),
+        "unsupported" => with_number(&two, FEATURES_RO_COMPAT.offset, 7 << 32 | 3),
+        "no inodes" => no_inodes,
+        "no root" => without(&no_inodes, ROOTINO.offset),
+        "zeros" => [0; SECTOR_SIZE],
+        _ => refuse(rt, "no superblock", name),
+    })
+}
+
+/// The answer of an election on a disk of 4096 blocks, of which some begin with a superblock.
+fn elect_of(
+    rt: &(impl Abort + AllocGlobal),
+    supers: &str,
+) -> Result<Result<Elected, ElectFault>, Fail>
+    ensures { IfOk result (λ answer. IfOk answer (λ e. IsAccepted e.sector)) }
+{
+    let mut disk = MemoryDisk::make(rt.alloc(), 4096)?;
+    for row in parts_of(rt.alloc(), supers)?.iter() {
+        let mut row = *row;
+        let at: u64 = row.number(rt);
+        let mut block = [0; 4096];
+        put_part(&mut block, 0, &named(rt, row.text())?);
+        let blocks = disk.blocks()?;
+        assert!(rt; at < blocks);
+        disk.write(at, &block)?;
+    }
+    Ok(elect(rt.alloc(), &mut disk))
+}
+
+/// At which blocks superblocks stand, and from which block what is elected is.
+const ELECTIONS: &str = "\
+two backups have more votes than one before them | 1024 other, 2048 four, 3072 four | Ok(2048)
+of as many votes the first block's are taken | 1024 other, 2048 four, 3072 zeros | Ok(1024)
+a primary that is accepted asks no backup | 0 other, 1024 four, 2048 four | Ok(0)
+a backup need not know the realtime inodes | 0 zeros, 0 zeros, 1024 no inodes | Ok(1024)
+a backup has to know one inode | 0 zeros, 0 zeros, 1024 no root | Err(NoGeometry)
+a refused feature of the primary asks no backup | 0 unsupported, 1024 two, 2048 four | \
+Err(Unsupported { word: 11, bits: 4 })
+";
+
+#[test]
+fn elections(rt: HostRuntime) -> Result<(), Fail> {
+    for line in ELECTIONS.lines() {
+        let mut row = Row::new(line);
+        let case = row.text();
+        let elected = elect_of(&rt, row.text())?;
+        tells(&rt, &elected.map(|e| e.from), row.text(), case);
+    }
+    Ok(())
+}
+
+#[test]
+fn writing(rt: HostRuntime) -> Result<(), Fail> {
+    let Ok(elected) = elect_of(&rt, "1024 no inodes")? else {
+        return Err(Fail::from("nothing is elected"));
+    };
+    let counts = Counts {
+        icount: 32,
+        ifree: 29,
+        fdblocks: 7,
+    };
+    let mut sector = [0; SECTOR_SIZE];
+    write_super(&elected.sector, &counts, &mut sector);
+    same!(rt; RBMINO.read(&sector), 129);
+    same!(rt; RSUMINO.read(&sector), 130);
+    same!(rt; ICOUNT.read(&sector), 32);
+    same!(rt; IFREE.read(&sector), 29);
+    same!(rt; FDBLOCKS.read(&sector), 7);
+    same!(rt; IMAX_PCT.read(&sector), 25);
+    assert!(rt; read_super(&sector, 0, 2048).is_ok());
+    Ok(())
+}
+
+/// Addresses in the uneven groups, and the blocks that they are of.
+const ADDRESSES: &str = "\
+0 0
+1099 1099
+1100 -
+2048 1100
+2054 1106
+2947 1999
+2948 -
+4096 -
+";
+
+/// Blocks of the uneven groups, and whether they are fixed.
+const FIXED: &str = "\
+0 true
+1 false
+1100 true
+1105 false
+1106 true
+1617 true
+1618 false
+";
+
+#[test]
+fn conversions(rt: HostRuntime) -> Result<(), Fail> {
+    let geometry = read_super(&superblock(&rt, UNEVEN_GROUPS)?, 0, 2000)?;
+    same!(rt; geometry.log, 1106);
+    same!(rt; geometry.group_length(0), 1100);
+    same!(rt; geometry.group_length(1), 900);
+    for line in ADDRESSES.lines() {
+        let mut row = Row::new(line);
+        let (address, block): (u64, Option<u64>) = (row.number(&rt), row.optional(&rt));
+        assert!(rt; address < 1 << 32);
+        same!(rt; geometry.block_of_address(address), block; address);
+        same!(rt; geometry.slot_of_inode(address * 8 + 5), block.map(|b| (b, 5)); address);
+        if let Some(block) = block {
+            assert!(rt; block < geometry.dblocks);
+            same!(rt; geometry.address_of_block(block), address);
+            same!(rt; geometry.inode_of_slot(block, 5), address * 8 + 5);
+        }
+    }
+    for line in FIXED.lines() {
+        let mut row = Row::new(line);
+        let block = row.number(&rt);
+        assert!(rt; block < geometry.dblocks);
+        same!(rt; geometry.is_fixed(block), row.flag(&rt); block);
+    }
+    Ok(())
+}
