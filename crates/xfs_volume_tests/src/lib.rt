@@ -2,9 +2,13 @@
 #![tactic(auto)]
 
 #[cfg(test)]
+mod catalogs;
+#[cfg(test)]
 mod checks;
 #[cfg(test)]
 mod claims;
+#[cfg(test)]
+mod items;
 #[cfg(test)]
 mod laws;
 #[cfg(test)]
@@ -13,3 +17,5 @@ mod links;
 mod naming;
 #[cfg(test)]
 mod space;
+#[cfg(test)]
+mod text;

@@ -4,54 +4,46 @@ mod listed;
 mod worlds;
 
 use crate::checks::same;
+use crate::items::{Item, items};
+use crate::text::Row;
 use itoa::Buffer;
 use listed::are_listed;
 use std::alloc::{AllocError, Global};
+use std::process::Abort;
 use std::test::Fail;
-use worlds::{WORLDS, World};
-use xfs_dirdata::EntryRec;
-use xfs_disk::Word;
+use worlds::WORLDS;
 use xfs_links::{Names, NodeRec, connect};
+
+/// The number of the root.
+const ROOT: u64 = 128;
 
 #[test]
 fn small_worlds(rt: HostRuntime) -> Result<(), Fail> {
-    for world in &WORLDS {
-        let files = files_of(rt.alloc(), world)?;
-        let entries = entries_of(rt.alloc(), world)?;
-        assert!(rt; are_listed(&files, &entries, world.root), "{}", world.what);
-        let names = connect(rt.alloc(), &files, &entries, world.root)?;
-        let told = told(rt.alloc(), &names)?;
-        same!(rt; told.as_slice(), world.told.as_bytes(); world.what);
+    let alloc = rt.alloc();
+    for line in WORLDS.lines() {
+        let mut row = Row::new(line);
+        let case = row.text();
+        let files = items(&rt, alloc, row.text())?;
+        let entries = items(&rt, alloc, row.text())?;
+        assert!(rt; are_listed(&files, &entries, ROOT), "{case}");
+        let names = connect(alloc, &files, &entries, ROOT)?;
+        same!(rt; told(alloc, &names)?.as_slice(), row.text().as_bytes(); case);
     }
     Ok(())
 }
 
-fn files_of(alloc: Global, world: &World) -> Result<Vec<NodeRec>, AllocError> {
-    let mut files = Vec::new(alloc);
-    for (ino, kind) in world.files {
-        files.push(NodeRec {
-            ino: *ino,
-            kind: *kind,
-        })?;
+/// A file: its number and its type.
+impl Item for NodeRec {
+    fn read(rt: &impl Abort, _alloc: Global, row: &mut Row) -> Result<Self, AllocError> {
+        Ok(NodeRec {
+            ino: row.number(rt),
+            kind: row.number(rt),
+        })
     }
-    Ok(files)
 }
 
-fn entries_of(alloc: Global, world: &World) -> Result<Vec<EntryRec>, AllocError> {
-    let mut entries = Vec::new(alloc);
-    for (dir, name, ino) in world.entries {
-        entries.push(EntryRec {
-            dir: *dir,
-            name: Word::from_vec(Vec::from_slice(alloc, name.as_bytes())?),
-            ino: *ino,
-            ftype: 0,
-        })?;
-    }
-    Ok(entries)
-}
-
-/// The names as a text: entries `directory/name>file`, directories `directory<parent`, orphans
-/// `file=name`, and `lost+found`, each with a blank behind it.
+/// The names as a text: entries `directory/name>file`, directories `directory<parent` and orphans `file=name`, each with
+/// a blank behind it, and `lost+found`, or `-` where there is none.
 fn told(alloc: Global, names: &Names) -> Result<Vec<u8>, AllocError> {
     let mut text = Vec::new(alloc);
     for entry in names.entries.as_slice() {
@@ -74,8 +66,9 @@ fn told(alloc: Global, names: &Names) -> Result<Vec<u8>, AllocError> {
         put(&mut text, name.bytes())?;
         put(&mut text, b" ")?;
     }
-    if let Some(lost) = names.lost {
-        put_number(&mut text, lost)?;
+    match names.lost {
+        Some(lost) => put_number(&mut text, lost)?,
+        None => put(&mut text, b"-")?,
     }
     Ok(text)
 }

@@ -1,376 +1,47 @@
-//! Small volumes with their root at 128, and the law that each breaks.
+//! Small volumes with their root at 128, and the first law of names that each breaks: names in directories, places in
+//! the tree of directories, links.
+//!
+//! In a row stand what the volume is, its parts, and the law with its place, what is held and what is due.
 
-/// A file: its number, its type, its links and its bytes.
-pub type File = (u64, u16, u32, u64);
-
-/// A directory: its number, its parent, and whether it is whole.
-pub type Dir = (u64, u64, bool);
-
-/// An entry: its directory, its name, what it names and the type that it states.
-pub type Entry = (u64, &'static [u8], u64, u8);
-
-/// A law with its place, what is held and what is due.
-pub type Broken = (u8, u64, u128, u128);
-
-/// A small volume.
-pub struct World {
-    pub what: &'static str,
-    pub files: &'static [File],
-    pub dirs: &'static [Dir],
-    pub entries: &'static [Entry],
-    pub broken: Option<Broken>,
-}
-
-/// An empty root, and the two files of the system's own.
-const ROOT: &[File] = &[(128, 4, 2, 6), (129, 8, 1, 0), (130, 8, 1, 0)];
-
-/// A root with a directory in it.
-const TWO: &[File] = &[
-    (128, 4, 3, 6),
-    (129, 8, 1, 0),
-    (130, 8, 1, 0),
-    (131, 4, 2, 6),
-];
-
-/// A root and two directories.
-const THREE: &[File] = &[
-    (128, 4, 3, 6),
-    (129, 8, 1, 0),
-    (130, 8, 1, 0),
-    (131, 4, 3, 6),
-    (132, 4, 2, 6),
-];
-
-/// A root with a file in it.
-const FILE: &[File] = &[
-    (128, 4, 2, 6),
-    (129, 8, 1, 0),
-    (130, 8, 1, 0),
-    (131, 8, 1, 5),
-];
-
-/// The root alone.
-const ONE: &[Dir] = &[(128, 128, true)];
-
-/// A root with a directory in it.
-const PAIR: &[Dir] = &[(128, 128, true), (131, 128, true)];
-
-/// Names in directories.
-pub const NAMES: &[World] = &[
-    World {
-        what: "an empty root",
-        files: ROOT,
-        dirs: ONE,
-        entries: &[],
-        broken: None,
-    },
-    World {
-        what: "a root that is not whole",
-        files: ROOT,
-        dirs: &[(128, 128, false)],
-        entries: &[],
-        broken: Some((7, 128, 1, 0)),
-    },
-    World {
-        what: "a file",
-        files: FILE,
-        dirs: ONE,
-        entries: &[(128, b"a", 131, 1)],
-        broken: None,
-    },
-    World {
-        what: "a file of no stated type",
-        files: FILE,
-        dirs: ONE,
-        entries: &[(128, b"a", 131, 0)],
-        broken: None,
-    },
-    World {
-        what: "a slash",
-        files: FILE,
-        dirs: ONE,
-        entries: &[(128, b"a/b", 131, 1)],
-        broken: Some((7, 128, 2, 0)),
-    },
-    World {
-        what: "a zero byte",
-        files: FILE,
-        dirs: ONE,
-        entries: &[(128, &[0x61, 0], 131, 1)],
-        broken: Some((7, 128, 2, 0)),
-    },
-    World {
-        what: "no bytes",
-        files: FILE,
-        dirs: ONE,
-        entries: &[(128, &[], 131, 1)],
-        broken: Some((7, 128, 2, 0)),
-    },
-    World {
-        what: "255 bytes",
-        files: FILE,
-        dirs: ONE,
-        entries: &[(128, &[0x61; 255], 131, 1)],
-        broken: None,
-    },
-    World {
-        what: "256 bytes",
-        files: FILE,
-        dirs: ONE,
-        entries: &[(128, &[0x61; 256], 131, 1)],
-        broken: Some((7, 128, 2, 0)),
-    },
-    World {
-        what: "a dot",
-        files: FILE,
-        dirs: ONE,
-        entries: &[(128, b".", 131, 1)],
-        broken: Some((7, 128, 2, 0)),
-    },
-    World {
-        what: "two dots",
-        files: FILE,
-        dirs: ONE,
-        entries: &[(128, b"..", 131, 1)],
-        broken: Some((7, 128, 2, 0)),
-    },
-    World {
-        what: "equal names",
-        files: FILE,
-        dirs: ONE,
-        entries: &[
-            (128, b"a", 131, 1),
-            (128, b"b", 131, 1),
-            (128, b"a", 131, 1),
-        ],
-        broken: Some((7, 128, 2, 0)),
-    },
-    World {
-        what: "a target that is not in use",
-        files: ROOT,
-        dirs: ONE,
-        entries: &[(128, b"a", 140, 1)],
-        broken: Some((7, 128, 3, 0)),
-    },
-    World {
-        what: "a target of the system's own",
-        files: ROOT,
-        dirs: ONE,
-        entries: &[(128, b"a", 130, 1)],
-        broken: Some((7, 128, 3, 0)),
-    },
-    World {
-        what: "a wrong type",
-        files: FILE,
-        dirs: ONE,
-        entries: &[(128, b"a", 131, 2)],
-        broken: Some((7, 128, 4, 0)),
-    },
-    World {
-        what: "a name that is wrong in two ways",
-        files: FILE,
-        dirs: ONE,
-        entries: &[(128, b"a", 131, 2), (128, b"a", 140, 1)],
-        broken: Some((7, 128, 2, 0)),
-    },
-    World {
-        what: "a pipe of its type",
-        files: &[
-            (128, 4, 2, 6),
-            (129, 8, 1, 0),
-            (130, 8, 1, 0),
-            (131, 1, 1, 0),
-        ],
-        dirs: ONE,
-        entries: &[(128, b"a", 131, 5)],
-        broken: None,
-    },
-];
-
-/// Places in the tree of directories.
-pub const PLACES: &[World] = &[
-    World {
-        what: "a directory",
-        files: TWO,
-        dirs: PAIR,
-        entries: &[(128, b"a", 131, 2)],
-        broken: None,
-    },
-    World {
-        what: "one below another",
-        files: THREE,
-        dirs: &[(128, 128, true), (131, 128, true), (132, 131, true)],
-        entries: &[(128, b"a", 131, 2), (131, b"b", 132, 2)],
-        broken: None,
-    },
-    World {
-        what: "no name",
-        files: TWO,
-        dirs: PAIR,
-        entries: &[],
-        broken: Some((8, 131, 1, 0)),
-    },
-    World {
-        what: "two names",
-        files: TWO,
-        dirs: PAIR,
-        entries: &[(128, b"a", 131, 2), (128, b"b", 131, 2)],
-        broken: Some((8, 131, 1, 0)),
-    },
-    World {
-        what: "another parent",
-        files: THREE,
-        dirs: &[(128, 128, true), (131, 132, true), (132, 128, true)],
-        entries: &[(128, b"a", 131, 2), (128, b"b", 132, 2)],
-        broken: Some((8, 131, 2, 0)),
-    },
-    World {
-        what: "a cycle of two",
-        files: THREE,
-        dirs: &[(128, 128, true), (131, 132, true), (132, 131, true)],
-        entries: &[(131, b"a", 132, 2), (132, b"b", 131, 2)],
-        broken: Some((8, 131, 3, 0)),
-    },
-    World {
-        what: "a cycle that the root leads to",
-        files: THREE,
-        dirs: &[(128, 128, true), (131, 132, true), (132, 131, true)],
-        entries: &[
-            (128, b"c", 132, 2),
-            (131, b"a", 132, 2),
-            (132, b"b", 131, 2),
-        ],
-        broken: Some((8, 132, 1, 0)),
-    },
-    World {
-        what: "a root with a name",
-        files: ROOT,
-        dirs: ONE,
-        entries: &[(128, b"a", 128, 2)],
-        broken: Some((8, 128, 1, 0)),
-    },
-    World {
-        what: "a root with another parent",
-        files: TWO,
-        dirs: &[(128, 131, true), (131, 128, true)],
-        entries: &[(128, b"a", 131, 2)],
-        broken: Some((8, 128, 2, 0)),
-    },
-    World {
-        what: "a regular root",
-        files: &[(128, 8, 1, 0), (129, 8, 1, 0), (130, 8, 1, 0)],
-        dirs: &[],
-        entries: &[],
-        broken: Some((8, 128, 3, 0)),
-    },
-    World {
-        what: "no root",
-        files: &[(129, 8, 1, 0), (130, 8, 1, 0)],
-        dirs: &[],
-        entries: &[],
-        broken: Some((8, 128, 3, 0)),
-    },
-    World {
-        what: "no root, and a file before it",
-        files: &[(64, 8, 0, 0), (129, 8, 1, 0)],
-        dirs: &[],
-        entries: &[],
-        broken: Some((8, 64, 4, 0)),
-    },
-    World {
-        what: "a file with no name and no link",
-        files: &[
-            (128, 4, 2, 6),
-            (129, 8, 1, 0),
-            (130, 8, 1, 0),
-            (131, 8, 0, 5),
-        ],
-        dirs: ONE,
-        entries: &[],
-        broken: Some((8, 131, 4, 0)),
-    },
-    World {
-        what: "nothing",
-        files: &[],
-        dirs: &[],
-        entries: &[],
-        broken: Some((8, 128, 3, 0)),
-    },
-];
-
-/// Links.
-pub const LINKS: &[World] = &[
-    World {
-        what: "three links of a root",
-        files: &[(128, 4, 3, 6), (129, 8, 1, 0), (130, 8, 1, 0)],
-        dirs: ONE,
-        entries: &[],
-        broken: Some((9, 128, 3, 2)),
-    },
-    World {
-        what: "two links of a root with a directory",
-        files: &[
-            (128, 4, 2, 6),
-            (129, 8, 1, 0),
-            (130, 8, 1, 0),
-            (131, 4, 2, 6),
-        ],
-        dirs: PAIR,
-        entries: &[(128, b"a", 131, 2)],
-        broken: Some((9, 128, 2, 3)),
-    },
-    World {
-        what: "two names of a file",
-        files: &[
-            (128, 4, 2, 6),
-            (129, 8, 1, 0),
-            (130, 8, 1, 0),
-            (131, 10, 2, 5),
-        ],
-        dirs: ONE,
-        entries: &[(128, b"a", 131, 7), (128, b"b", 131, 7)],
-        broken: None,
-    },
-    World {
-        what: "two names and a link",
-        files: FILE,
-        dirs: ONE,
-        entries: &[(128, b"a", 131, 1), (128, b"b", 131, 1)],
-        broken: Some((9, 131, 1, 2)),
-    },
-    World {
-        what: "the first of the system's is not there",
-        files: &[(128, 4, 2, 6), (130, 8, 1, 0)],
-        dirs: ONE,
-        entries: &[],
-        broken: Some((9, 129, 0, 1)),
-    },
-    World {
-        what: "the second is not there",
-        files: &[(128, 4, 2, 6), (129, 8, 1, 0)],
-        dirs: ONE,
-        entries: &[],
-        broken: Some((9, 130, 0, 1)),
-    },
-    World {
-        what: "the first has bytes",
-        files: &[(128, 4, 2, 6), (129, 8, 1, 4), (130, 8, 1, 0)],
-        dirs: ONE,
-        entries: &[],
-        broken: Some((9, 129, 0, 1)),
-    },
-    World {
-        what: "the second has two links",
-        files: &[(128, 4, 2, 6), (129, 8, 1, 0), (130, 8, 2, 0)],
-        dirs: ONE,
-        entries: &[],
-        broken: Some((9, 130, 2, 1)),
-    },
-    World {
-        what: "the first is a pipe",
-        files: &[(128, 4, 2, 6), (129, 1, 1, 0), (130, 8, 1, 0)],
-        dirs: ONE,
-        entries: &[],
-        broken: Some((9, 129, 0, 1)),
-    },
-];
+pub const WORLDS: &str = "\
+an empty root | volume files 128 0x4000 2 6, 129 0x8000 1 0, 130 0x8000 1 0 | -
+a root that is not whole | volume files 128 0x4000 2 6, 129 0x8000 1 0, 130 0x8000 1 0; volume dirs 128 128 false | 7 128 1 0
+a file | volume files 128 0x4000 2 6, 129 0x8000 1 0, 130 0x8000 1 0, 131 0x8000 1 5; volume entries 128 131 1 a | -
+a file of no stated type | volume files 128 0x4000 2 6, 129 0x8000 1 0, 130 0x8000 1 0, 131 0x8000 1 5; volume entries 128 131 0 a | -
+a slash | volume files 128 0x4000 2 6, 129 0x8000 1 0, 130 0x8000 1 0, 131 0x8000 1 5; volume entries 128 131 1 a/b | 7 128 2 0
+a zero byte | volume files 128 0x4000 2 6, 129 0x8000 1 0, 130 0x8000 1 0, 131 0x8000 1 5; volume entries 128 131 1 a\0 | 7 128 2 0
+no bytes | volume files 128 0x4000 2 6, 129 0x8000 1 0, 130 0x8000 1 0, 131 0x8000 1 5; volume entries 128 131 1 | 7 128 2 0
+255 bytes | volume files 128 0x4000 2 6, 129 0x8000 1 0, 130 0x8000 1 0, 131 0x8000 1 5; volume entries 128 131 1 aaaaaaaaaaaaaaaaaaaaaaaaaaaaaaaaaaaaaaaaaaaaaaaaaaaaaaaaaaaaaaaaaaaaaaaaaaaaaaaaaaaaaaaaaaaaaaaaaaaaaaaaaaaaaaaaaaaaaaaaaaaaaaaaaaaaaaaaaaaaaaaaaaaaaaaaaaaaaaaaaaaaaaaaaaaaaaaaaaaaaaaaaaaaaaaaaaaaaaaaaaaaaaaaaaaaaaaaaaaaaaaaaaaaaaaaaaaaaaaaaaaaaaaaaaaaaaa | -
+256 bytes | volume files 128 0x4000 2 6, 129 0x8000 1 0, 130 0x8000 1 0, 131 0x8000 1 5; volume entries 128 131 1 aaaaaaaaaaaaaaaaaaaaaaaaaaaaaaaaaaaaaaaaaaaaaaaaaaaaaaaaaaaaaaaaaaaaaaaaaaaaaaaaaaaaaaaaaaaaaaaaaaaaaaaaaaaaaaaaaaaaaaaaaaaaaaaaaaaaaaaaaaaaaaaaaaaaaaaaaaaaaaaaaaaaaaaaaaaaaaaaaaaaaaaaaaaaaaaaaaaaaaaaaaaaaaaaaaaaaaaaaaaaaaaaaaaaaaaaaaaaaaaaaaaaaaaaaaaaaaaa | 7 128 2 0
+a dot | volume files 128 0x4000 2 6, 129 0x8000 1 0, 130 0x8000 1 0, 131 0x8000 1 5; volume entries 128 131 1 . | 7 128 2 0
+two dots | volume files 128 0x4000 2 6, 129 0x8000 1 0, 130 0x8000 1 0, 131 0x8000 1 5; volume entries 128 131 1 .. | 7 128 2 0
+equal names | volume files 128 0x4000 2 6, 129 0x8000 1 0, 130 0x8000 1 0, 131 0x8000 1 5; volume entries 128 131 1 a, 128 131 1 b, 128 131 1 a | 7 128 2 0
+a target that is not in use | volume files 128 0x4000 2 6, 129 0x8000 1 0, 130 0x8000 1 0; volume entries 128 140 1 a | 7 128 3 0
+a target of the system's own | volume files 128 0x4000 2 6, 129 0x8000 1 0, 130 0x8000 1 0; volume entries 128 130 1 a | 7 128 3 0
+a wrong type | volume files 128 0x4000 2 6, 129 0x8000 1 0, 130 0x8000 1 0, 131 0x8000 1 5; volume entries 128 131 2 a | 7 128 4 0
+a name that is wrong in two ways | volume files 128 0x4000 2 6, 129 0x8000 1 0, 130 0x8000 1 0, 131 0x8000 1 5; volume entries 128 131 2 a, 128 140 1 a | 7 128 2 0
+a pipe of its type | volume files 128 0x4000 2 6, 129 0x8000 1 0, 130 0x8000 1 0, 131 0x1000 1 0; volume entries 128 131 5 a | -
+a directory | volume files 128 0x4000 3 6, 129 0x8000 1 0, 130 0x8000 1 0, 131 0x4000 2 6; volume dirs 128 128 true, 131 128 true; volume entries 128 131 2 a | -
+one below another | volume files 128 0x4000 3 6, 129 0x8000 1 0, 130 0x8000 1 0, 131 0x4000 3 6, 132 0x4000 2 6; volume dirs 128 128 true, 131 128 true, 132 131 true; volume entries 128 131 2 a, 131 132 2 b | -
+no name | volume files 128 0x4000 3 6, 129 0x8000 1 0, 130 0x8000 1 0, 131 0x4000 2 6; volume dirs 128 128 true, 131 128 true | 8 131 1 0
+two names | volume files 128 0x4000 3 6, 129 0x8000 1 0, 130 0x8000 1 0, 131 0x4000 2 6; volume dirs 128 128 true, 131 128 true; volume entries 128 131 2 a, 128 131 2 b | 8 131 1 0
+another parent | volume files 128 0x4000 3 6, 129 0x8000 1 0, 130 0x8000 1 0, 131 0x4000 3 6, 132 0x4000 2 6; volume dirs 128 128 true, 131 132 true, 132 128 true; volume entries 128 131 2 a, 128 132 2 b | 8 131 2 0
+a cycle of two | volume files 128 0x4000 3 6, 129 0x8000 1 0, 130 0x8000 1 0, 131 0x4000 3 6, 132 0x4000 2 6; volume dirs 128 128 true, 131 132 true, 132 131 true; volume entries 131 132 2 a, 132 131 2 b | 8 131 3 0
+a cycle that the root leads to | volume files 128 0x4000 3 6, 129 0x8000 1 0, 130 0x8000 1 0, 131 0x4000 3 6, 132 0x4000 2 6; volume dirs 128 128 true, 131 132 true, 132 131 true; volume entries 128 132 2 c, 131 132 2 a, 132 131 2 b | 8 132 1 0
+a root with a name | volume files 128 0x4000 2 6, 129 0x8000 1 0, 130 0x8000 1 0; volume entries 128 128 2 a | 8 128 1 0
+a root with another parent | volume files 128 0x4000 3 6, 129 0x8000 1 0, 130 0x8000 1 0, 131 0x4000 2 6; volume dirs 128 131 true, 131 128 true; volume entries 128 131 2 a | 8 128 2 0
+a regular root | volume files 128 0x8000 1 0, 129 0x8000 1 0, 130 0x8000 1 0; volume dirs | 8 128 3 0
+no root | volume files 129 0x8000 1 0, 130 0x8000 1 0; volume dirs | 8 128 3 0
+no root, and a file before it | volume files 64 0x8000 0 0, 129 0x8000 1 0; volume dirs | 8 64 4 0
+a file with no name and no link | volume files 128 0x4000 2 6, 129 0x8000 1 0, 130 0x8000 1 0, 131 0x8000 0 5 | 8 131 4 0
+nothing | volume files; volume dirs | 8 128 3 0
+three links of a root | volume files 128 0x4000 3 6, 129 0x8000 1 0, 130 0x8000 1 0 | 9 128 3 2
+two links of a root with a directory | volume files 128 0x4000 2 6, 129 0x8000 1 0, 130 0x8000 1 0, 131 0x4000 2 6; volume dirs 128 128 true, 131 128 true; volume entries 128 131 2 a | 9 128 2 3
+two names of a file | volume files 128 0x4000 2 6, 129 0x8000 1 0, 130 0x8000 1 0, 131 0xa000 2 5; volume entries 128 131 7 a, 128 131 7 b | -
+two names and a link | volume files 128 0x4000 2 6, 129 0x8000 1 0, 130 0x8000 1 0, 131 0x8000 1 5; volume entries 128 131 1 a, 128 131 1 b | 9 131 1 2
+the first of the system's is not there | volume files 128 0x4000 2 6, 130 0x8000 1 0 | 9 129 0 1
+the second is not there | volume files 128 0x4000 2 6, 129 0x8000 1 0 | 9 130 0 1
+the first has bytes | volume files 128 0x4000 2 6, 129 0x8000 1 4, 130 0x8000 1 0 | 9 129 0 1
+the second has two links | volume files 128 0x4000 2 6, 129 0x8000 1 0, 130 0x8000 2 0 | 9 130 2 1
+the first is a pipe | volume files 128 0x4000 2 6, 129 0x1000 1 0, 130 0x8000 1 0 | 9 129 0 1
+";
