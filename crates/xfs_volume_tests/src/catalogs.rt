@@ -8,6 +8,7 @@
 //!   owners and offset words), `trees` (the block of each tree);
 //! - of the `volume`: `files`, `dirs`, `entries`, `counts`, `head` (of the log, or `-` where it is dirty), `lsns`.
 
+use crate::checks::sure;
 use crate::items::{Item, items, records};
 use crate::text::Row;
 use std::alloc::{AllocError, Global};
@@ -64,10 +65,7 @@ impl<'a> Sketch<'a> {
         for change in changes.split_terminator(';') {
             let mut names = Row::new(change);
             let (owner, name) = (names.word(), names.word());
-            assert!(rt;
-                part_of(base, owner, name).is_some(),
-                "no part of a volume: {change}"
-            );
+            sure(rt, part_of(base, owner, name).is_some(), change);
         }
         Sketch { base, changes }
     }
@@ -225,7 +223,7 @@ fn chains(rt: &impl Abort, chain: &mut Row) -> [u32; 64] {
 
 fn agfl(rt: &impl Abort, alloc: Global, listed: &mut Row) -> Result<Agfl, AllocError> {
     let blocks = listed.numbers(rt, alloc)?;
-    assert!(rt; blocks.len() <= 119);
+    sure(rt, blocks.len() <= 119, "a free list");
     Ok(Agfl::new(blocks.as_slice()))
 }
 

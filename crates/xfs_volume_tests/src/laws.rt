@@ -3,7 +3,7 @@
 mod rows;
 
 use crate::catalogs::{EMPTY, Sketch, law_of};
-use crate::checks::same;
+use crate::checks::{same, sure};
 use crate::text::Row;
 use rows::{CHANGES, CHANGES_OF_EMPTY, WITH_FILES};
 use std::alloc::Global;
@@ -31,7 +31,7 @@ fn judge<R: Threads + Abort + Sync>(
         let mut row = Row::new(line);
         let case = row.text();
         let catalog = Sketch::new(rt, base, row.text()).catalog(rt, alloc)?;
-        assert!(rt; is_catalog(&catalog), "{case}");
+        sure(rt, is_catalog(&catalog), case);
         let due = match law_of(rt, &mut row) {
             Some(law) => Err(LawFault::Broken(law)),
             None => Ok(()),

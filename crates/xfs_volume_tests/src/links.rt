@@ -3,10 +3,9 @@
 mod listed;
 mod worlds;
 
-use crate::checks::same;
+use crate::checks::{same, sure};
 use crate::items::{Item, items};
 use crate::text::Row;
-use itoa::Buffer;
 use listed::are_listed;
 use std::alloc::{AllocError, Global};
 use std::process::Abort;
@@ -25,9 +24,9 @@ fn small_worlds(rt: HostRuntime) -> Result<(), Fail> {
         let case = row.text();
         let files = items(&rt, alloc, row.text())?;
         let entries = items(&rt, alloc, row.text())?;
-        assert!(rt; are_listed(&files, &entries, ROOT), "{case}");
+        sure(&rt, are_listed(&files, &entries, ROOT), case);
         let names = connect(alloc, &files, &entries, ROOT)?;
-        same!(rt; told(alloc, &names)?.as_slice(), row.text().as_bytes(); case);
+        tells_names(&rt, &names, &mut row, case);
     }
     Ok(())
 }
@@ -42,41 +41,35 @@ impl Item for NodeRec {
     }
 }
 
-/// The names as a text: entries `directory/name>file`, directories `directory<parent` and orphans `file=name`, each with
-/// a blank behind it, and `lost+found`, or `-` where there is none.
-fn told(alloc: Global, names: &Names) -> Result<Vec<u8>, AllocError> {
-    let mut text = Vec::new(alloc);
+/// Fails where these are not the names that a row tells.
+fn tells_names(rt: &impl Abort, names: &Names, row: &mut Row, case: &str) {
+    tells_entries(rt, names, &mut Row::new(row.text()), case);
+    tells_parents(rt, names, &mut Row::new(row.text()), case);
+    tells_orphans(rt, names, &mut Row::new(row.text()), case);
+    same!(rt; names.lost, row.optional(rt); case);
+}
+
+fn tells_entries(rt: &impl Abort, names: &Names, due: &mut Row, case: &str) {
     for entry in names.entries.as_slice() {
-        put_number(&mut text, entry.dir)?;
-        put(&mut text, b"/")?;
-        put(&mut text, entry.name.bytes())?;
-        put(&mut text, b">")?;
-        put_number(&mut text, entry.ino)?;
-        put(&mut text, b" ")?;
+        same!(rt; entry.dir, due.number(rt); case);
+        same!(rt; entry.ino, due.number(rt); case);
+        same!(rt; entry.name.bytes(), due.word().as_bytes(); case);
     }
+    sure(rt, due.is_read(), case);
+}
+
+fn tells_parents(rt: &impl Abort, names: &Names, due: &mut Row, case: &str) {
     for (directory, parent) in names.parents.as_slice() {
-        put_number(&mut text, *directory)?;
-        put(&mut text, b"<")?;
-        put_number(&mut text, *parent)?;
-        put(&mut text, b" ")?;
+        same!(rt; *directory, due.number(rt); case);
+        same!(rt; *parent, due.number(rt); case);
     }
+    sure(rt, due.is_read(), case);
+}
+
+fn tells_orphans(rt: &impl Abort, names: &Names, due: &mut Row, case: &str) {
     for (ino, name) in names.orphans.as_slice() {
-        put_number(&mut text, *ino)?;
-        put(&mut text, b"=")?;
-        put(&mut text, name.bytes())?;
-        put(&mut text, b" ")?;
+        same!(rt; *ino, due.number(rt); case);
+        same!(rt; name.bytes(), due.word().as_bytes(); case);
     }
-    match names.lost {
-        Some(lost) => put_number(&mut text, lost)?,
-        None => put(&mut text, b"-")?,
-    }
-    Ok(text)
-}
-
-fn put(text: &mut Vec<u8>, bytes: &[u8]) -> Result<(), AllocError> {
-    text.extend_from_slice(bytes)
-}
-
-fn put_number(text: &mut Vec<u8>, number: u64) -> Result<(), AllocError> {
-    text.extend_from_slice(Buffer::new().format(number).as_bytes())
+    sure(rt, due.is_read(), case);
 }

@@ -3,7 +3,7 @@
 mod worlds;
 
 use crate::catalogs::{EMPTY, Sketch, law_of};
-use crate::checks::same;
+use crate::checks::{same, sure};
 use crate::text::Row;
 use std::test::Fail;
 use worlds::WORLDS;
@@ -17,7 +17,7 @@ fn small_volumes(rt: HostRuntime) -> Result<(), Fail> {
         let mut row = Row::new(line);
         let case = row.text();
         let catalog = Sketch::new(&rt, EMPTY, row.text()).catalog(&rt, alloc)?;
-        assert!(rt; is_catalog(&catalog), "{case}");
+        sure(&rt, is_catalog(&catalog), case);
         let found = check_names(
             alloc,
             128,

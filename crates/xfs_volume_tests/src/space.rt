@@ -4,7 +4,7 @@ mod judging;
 mod rows;
 
 use crate::catalogs::{Sketch, law_of};
-use crate::checks::same;
+use crate::checks::{same, sure};
 use crate::items::items;
 use crate::text::Row;
 use judging::are_files;
@@ -21,8 +21,8 @@ fn small_volumes(rt: HostRuntime) -> Result<(), Fail> {
         let case = row.text();
         let catalog = Sketch::new(&rt, BASE, row.text()).catalog(&rt, alloc)?;
         let files = items(&rt, alloc, row.text())?;
-        assert!(rt; is_catalog(&catalog), "{case}");
-        assert!(rt; are_files(&catalog.geometry, &files), "{case}");
+        sure(&rt, is_catalog(&catalog), case);
+        sure(&rt, are_files(&catalog.geometry, &files), case);
         let found = check_space(
             &rt,
             alloc,
