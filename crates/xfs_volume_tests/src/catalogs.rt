@@ -187,6 +187,10 @@ fn geometry() -> Geometry {
 
 fn agf(rt: &impl Abort, counts: &mut Row) -> Agf {
     Agf {
+        freeblks: counts.number(rt),
+        longest: counts.number(rt),
+        btreeblks: counts.number(rt),
+        rmapblocks: counts.number(rt),
         magicnum: 0,
         versionnum: 1,
         seqno: 0,
@@ -200,11 +204,7 @@ fn agf(rt: &impl Abort, counts: &mut Row) -> Agf {
         flfirst: 0,
         fllast: 5,
         flcount: 6,
-        freeblks: counts.number(rt),
-        longest: counts.number(rt),
-        btreeblks: counts.number(rt),
         uuid: [7; 16],
-        rmapblocks: counts.number(rt),
         lsn: 0,
         crc: 0,
     }

@@ -6,7 +6,7 @@ use crate::catalogs::{EMPTY, Sketch, law_of};
 use crate::checks::{same, sure};
 use crate::text::Row;
 use rows::{CHANGES, CHANGES_OF_EMPTY, WITH_FILES};
-use std::alloc::Global;
+use std::alloc::{AllocError, Global};
 use std::process::Abort;
 use std::test::Fail;
 use std::thread::Threads;
@@ -15,28 +15,29 @@ use xfs_volume::LawFault;
 
 #[test]
 fn changed_volumes(rt: HostRuntime) -> Result<(), Fail> {
-    let alloc = rt.alloc();
-    judge(&rt, alloc, EMPTY, CHANGES_OF_EMPTY)?;
-    judge(&rt, alloc, WITH_FILES, CHANGES)
+    for line in CHANGES_OF_EMPTY.lines() {
+        try_row(&rt, rt.alloc(), EMPTY, line)?;
+    }
+    for line in CHANGES.lines() {
+        try_row(&rt, rt.alloc(), WITH_FILES, line)?;
+    }
+    Ok(())
 }
 
-/// Judges a volume with each of these changes.
-fn judge<R: Threads + Abort + Sync>(
+fn try_row<R: Threads + Abort + Sync>(
     rt: &R,
     alloc: Global,
     base: &str,
-    changes: &str,
-) -> Result<(), Fail> {
-    for line in changes.lines() {
-        let mut row = Row::new(line);
-        let case = row.text();
-        let catalog = Sketch::new(rt, base, row.text()).catalog(rt, alloc)?;
-        sure(rt, is_catalog(&catalog), case);
-        let due = match law_of(rt, &mut row) {
-            Some(law) => Err(LawFault::Broken(law)),
-            None => Ok(()),
-        };
-        same!(rt; lawful(rt, alloc, &catalog), due; case);
-    }
+    line: &str,
+) -> Result<(), AllocError> {
+    let mut row = Row::new(line);
+    let case = row.text();
+    let catalog = Sketch::new(rt, base, row.text()).catalog(rt, alloc)?;
+    sure(rt, is_catalog(&catalog), case);
+    let due = match law_of(rt, &mut row) {
+        Some(law) => Err(LawFault::Broken(law)),
+        None => Ok(()),
+    };
+    same!(rt; lawful(rt, alloc, &catalog), due; case);
     Ok(())
 }

@@ -11,6 +11,7 @@ use std::alloc::{AllocError, Global};
 use std::process::Abort;
 use std::test::Fail;
 use worlds::WORLDS;
+use xfs_disk::NoMemory;
 use xfs_links::{Names, NodeRec, connect};
 
 /// The number of the root.
@@ -18,16 +19,20 @@ const ROOT: u64 = 128;
 
 #[test]
 fn small_worlds(rt: HostRuntime) -> Result<(), Fail> {
-    let alloc = rt.alloc();
     for line in WORLDS.lines() {
-        let mut row = Row::new(line);
-        let case = row.text();
-        let files = items(&rt, alloc, row.text())?;
-        let entries = items(&rt, alloc, row.text())?;
-        sure(&rt, are_listed(&files, &entries, ROOT), case);
-        let names = connect(alloc, &files, &entries, ROOT)?;
-        tells_names(&rt, &names, &mut row, case);
+        try_world(&rt, rt.alloc(), line)?;
     }
+    Ok(())
+}
+
+fn try_world(rt: &impl Abort, alloc: Global, line: &str) -> Result<(), NoMemory> {
+    let mut row = Row::new(line);
+    let case = row.text();
+    let files = items(rt, alloc, row.text())?;
+    let entries = items(rt, alloc, row.text())?;
+    sure(rt, are_listed(&files, &entries, ROOT), case);
+    let names = connect(alloc, &files, &entries, ROOT)?;
+    tells_names(rt, &names, &mut row, case);
     Ok(())
 }
 

@@ -11,6 +11,7 @@ use std::sync::ledger::{Blank, Ledger};
 use std::test::Fail;
 use std::thread::Threads;
 use xfs_claims::{Claims, FileClaim};
+use xfs_disk::NoMemory;
 use xfs_geom::Run;
 use xfs_runs::Steps;
 use xfs_volume::{ClusterRec, Records};
@@ -73,14 +74,14 @@ fn try_one_run<R: Threads + Sync + Abort, L: Ledger>(
     rt: &R,
     alloc: Global,
     blank: Blank,
-) -> Result<(), Fail>
+) -> Result<(), NoMemory>
     requires name { blank.name ≡ L.name }
     requires parts { blank.parts ≡ L.parts }
     requires some { 0 < blank.parts }
 {
     let mut steps = Steps::<L>::from_blank(blank);
     let claims = claims_on_one_run(alloc)?;
-    let kept = decide(rt, alloc, &claims, &mut steps)?;
+    let kept = decide(rt, alloc, &claims, &mut steps, "many files")?;
     same!(rt; kept.files.as_slice(), [131].as_slice());
     same!(rt; kept.clusters.as_slice().len(), 3126);
     Ok(())
@@ -88,5 +89,6 @@ fn try_one_run<R: Threads + Sync + Abort, L: Ledger>(
 
 #[test]
 fn files_on_one_run(rt: HostRuntime) -> Result<(), Fail> {
-    try_one_run::<HostRuntime, Brand>(&rt, rt.alloc(), Blank::new(1))
+    try_one_run::<HostRuntime, Brand>(&rt, rt.alloc(), Blank::new(1))?;
+    Ok(())
 }
