@@ -10,7 +10,7 @@
 
 use crate::checks::sure;
 use crate::items::{Item, items, records};
-use crate::text::Row;
+use crate::text::{Row, refuse};
 use std::alloc::{AllocError, Global};
 use std::process::Abort;
 use xfs_attr::Attrs;
@@ -75,7 +75,7 @@ impl<'a> Sketch<'a> {
         let changed = part_of(self.changes, owner, name);
         match changed.or(part_of(self.base, owner, name)) {
             Some(part) => part,
-            None => panic!(rt; "a volume without {owner} {name}"),
+            None => refuse(rt, "a volume lacks a part", name),
         }
     }
 
@@ -216,7 +216,7 @@ fn chains(rt: &impl Abort, chain: &mut Row) -> [u32; 64] {
     let at: usize = chain.number(rt);
     match heads.get_mut(at) {
         Some(head) => *head = chain.number(rt),
-        None => panic!(rt; "no chain {at}"),
+        None => refuse(rt, "a group has no such chain", ""),
     }
     heads
 }
