@@ -8,7 +8,7 @@
 //!   owners and offset words), `trees` (the block of each tree);
 //! - of the `volume`: `files`, `dirs`, `entries`, `counts`, `head` (of the log, or `-` where it is dirty), `lsns`.
 
-use crate::checks::sure;
+use crate::checks::{same, sure};
 use crate::items::{Item, items, records};
 use crate::text::{Row, refuse};
 use std::alloc::{AllocError, Global};
@@ -376,8 +376,13 @@ fn core(rt: &impl Abort, row: &mut Row) -> Core {
     }
 }
 
+/// Fails where this is not the law that a row ends with.
+pub fn tells_law(rt: &impl Abort, found: Option<Law>, row: &mut Row, case: &str) {
+    same!(rt; found, law_of(rt, row); case);
+}
+
 /// The law that a row ends with: its number, its place, what is held and what is due; or none, as `-`.
-pub fn law_of(rt: &impl Abort, row: &mut Row) -> Option<Law> {
+fn law_of(rt: &impl Abort, row: &mut Row) -> Option<Law> {
     let law = row.optional(rt)?;
     let weight = if law == 3 { 1 << 64 } else { 1 << 32 };
     Some(Law {

@@ -2,14 +2,15 @@
 
 mod rows;
 
-use crate::catalogs::{EMPTY, Sketch, law_of};
-use crate::checks::{same, sure};
+use crate::catalogs::{EMPTY, Sketch, tells_law};
+use crate::checks::sure;
 use crate::text::Row;
 use rows::{CHANGES, CHANGES_OF_EMPTY, WITH_FILES};
-use std::alloc::{AllocError, Global};
+use std::alloc::Global;
 use std::process::Abort;
 use std::test::Fail;
 use std::thread::Threads;
+use xfs_disk::NoMemory;
 use xfs_laws::{is_catalog, lawful};
 use xfs_volume::LawFault;
 
@@ -29,15 +30,16 @@ fn try_row<R: Threads + Abort + Sync>(
     alloc: Global,
     base: &str,
     line: &str,
-) -> Result<(), AllocError> {
+) -> Result<(), NoMemory> {
     let mut row = Row::new(line);
     let case = row.text();
     let catalog = Sketch::new(rt, base, row.text()).catalog(rt, alloc)?;
     sure(rt, is_catalog(&catalog), case);
-    let due = match law_of(rt, &mut row) {
-        Some(law) => Err(LawFault::Broken(law)),
-        None => Ok(()),
+    let found = match lawful(rt, alloc, &catalog) {
+        Ok(()) => None,
+        Err(LawFault::Broken(law)) => Some(law),
+        Err(LawFault::NoMemory) => return Err(NoMemory),
     };
-    same!(rt; lawful(rt, alloc, &catalog), due; case);
+    tells_law(rt, found, &mut row, case);
     Ok(())
 }

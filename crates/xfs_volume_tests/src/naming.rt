@@ -2,8 +2,8 @@
 
 mod worlds;
 
-use crate::catalogs::{EMPTY, Sketch, law_of};
-use crate::checks::{same, sure};
+use crate::catalogs::{EMPTY, Sketch, tells_law};
+use crate::checks::sure;
 use crate::text::Row;
 use std::alloc::Global;
 use std::process::Abort;
@@ -33,6 +33,6 @@ fn try_world(rt: &impl Abort, alloc: Global, line: &str) -> Result<(), NoMemory>
         catalog.entries.as_slice(),
         catalog.dirs.as_slice(),
     )?;
-    same!(rt; found, law_of(rt, &mut row); case);
+    tells_law(rt, found, &mut row, case);
     Ok(())
 }

@@ -3,8 +3,8 @@
 mod judging;
 mod rows;
 
-use crate::catalogs::{Sketch, law_of};
-use crate::checks::{same, sure};
+use crate::catalogs::{Sketch, tells_law};
+use crate::checks::sure;
 use crate::items::items;
 use crate::text::Row;
 use judging::are_files;
@@ -39,6 +39,6 @@ fn try_row<R: Threads + Abort + Sync>(rt: &R, alloc: Global, line: &str) -> Resu
         catalog.groups.as_slice(),
         &files,
     )?;
-    same!(rt; found, law_of(rt, &mut row); case);
+    tells_law(rt, found, &mut row, case);
     Ok(())
 }
