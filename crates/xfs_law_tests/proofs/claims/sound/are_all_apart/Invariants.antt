@@ -1,6 +1,0 @@
-use Rattle.std.proofs.Common.{drop}
-use Rattle.xfs_claims.specs.Spans.{spans_of, AreApart}
-use Rattle.xfs_law_tests.proofs.claims.sound.are_all_apart.Given as goal
-
-abbrev pub invariant-loop-i : goal.invariant-loop-i
-invariant-loop-i l = AreApart (spans_of (drop l.i l.runs)) → AreApart (spans_of l.runs)

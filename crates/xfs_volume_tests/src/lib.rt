@@ -1,0 +1,21 @@
+//! Tests of all that judges, gathers, places and runs whole volumes. They stand in a crate of their own, since a crate is proved once more with its tests.
+#![tactic(auto)]
+
+#[cfg(test)]
+mod catalogs;
+#[cfg(test)]
+mod checks;
+#[cfg(test)]
+mod claims;
+#[cfg(test)]
+mod items;
+#[cfg(test)]
+mod laws;
+#[cfg(test)]
+mod links;
+#[cfg(test)]
+mod naming;
+#[cfg(test)]
+mod space;
+#[cfg(test)]
+mod text;
