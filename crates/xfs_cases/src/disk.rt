@@ -15,6 +15,8 @@ pub struct CaseDisk {
 }
 
 impl CaseDisk {
+    ghost use Rattle.xfs_disk.specs.MemoryDisk.{size_of};
+
     /// A disk of zeros.
     pub fn make(alloc: Global, held: u64, blocks: u64) -> Result<CaseDisk, Refusal> {
         Ok(CaseDisk {
@@ -47,7 +49,9 @@ impl CaseDisk {
     }
 
     /// How many blocks are in memory.
-    fn held(&self) -> u64 {
+    fn held(&self) -> u64
+        ensures { result ≡ size_of self.now.memory }
+    {
         (self.memory.image().len() / BLOCK_SIZE) as u64
     }
 }

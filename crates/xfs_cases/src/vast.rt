@@ -1,5 +1,7 @@
 //! The tree of a volume with one cluster of inodes too many: 65,537 of them are in the trees of its first group.
 
+ghost use Rattle.std.specs.Prelude.{◌<◌};
+
 use crate::refusal::Refusal;
 use crate::volume::{Disks, IDENTIFIER};
 use xfs_disk::BLOCK_SIZE;
@@ -47,7 +49,10 @@ pub fn put_chunks(disks: &mut Disks) -> Result<(), Refusal> {
 }
 
 /// Writes the record of a chunk at its place in a leaf.
-fn put_chunk(block: &mut [u8; BLOCK_SIZE], i: u32, chunk: u32) {
+fn put_chunk(block: &mut [u8; BLOCK_SIZE], i: u32, chunk: u32)
+    requires place { i < LEAF }
+    requires chunk { chunk < CHUNKS }
+{
     let last = chunk + 1 == CHUNKS;
     let at = 56 + 16 * i as usize;
     put32(block, at, 8 * FIRST + 64 * chunk);

@@ -9,7 +9,7 @@ mod disks;
 
 use crate::checks::same;
 use crate::small_volume::{ROOT, volume};
-use crate::text::{Row, put_parts};
+use crate::text::{Row, put_parts, refuse};
 use disks::Untold;
 use std::alloc::Global;
 use std::marker::Brand;
@@ -178,7 +178,7 @@ fn single_block_form(rt: HostRuntime) -> Result<(), Fail> {
         put_block(&rt, &mut disk, 24, 0x5844_4233, changes, &mut block)?;
         let file = directory(rt.alloc(), CORE, 1, number % 2 == 0)?;
         let Ok(found) = read(&rt, rt.alloc(), &mut disk, &[0; 512], &file) else {
-            panic!(rt; "{name}: it is not read");
+            refuse(&rt, "it is not read", line);
         };
         same!(rt; found.whole, whole; name);
         same!(rt; found.entries.as_slice().len(), kept as usize; name);
@@ -205,7 +205,7 @@ fn two_data_blocks(rt: HostRuntime) -> Result<(), Fail> {
     put_block(&rt, &mut disk, 25, 0x5844_4433, ("", ""), &mut block)?;
     let file = directory(rt.alloc(), CORE, 2, false)?;
     let Ok(found) = read(&rt, rt.alloc(), &mut disk, &[0; 512], &file) else {
-        panic!(rt; "it is read");
+        refuse(&rt, "it is not read", "two data blocks");
     };
     assert!(rt; !found.whole && found.parent == 0);
     let entries = found.entries.as_slice();
@@ -218,17 +218,22 @@ fn two_data_blocks(rt: HostRuntime) -> Result<(), Fail> {
     Ok(())
 }
 
+/// The size of a directory of 15 bytes, and whether it is whole.
+const SIZES: &str = "\
+15 true
+14 false
+16 false
+336 false
+0xffffffffffffffff false
+";
+
 #[test]
 fn short_form(rt: HostRuntime) -> Result<(), Fail> {
     let mut slot = [0; 512];
     put_short(128, &[entry(rt.alloc(), b"a", 140)?], &mut slot[176..]);
-    for (size, whole) in [
-        (15, true),
-        (14, false),
-        (16, false),
-        (336, false),
-        (u64::MAX, false),
-    ] {
+    for line in SIZES.lines() {
+        let mut row = Row::new(line);
+        let (size, whole) = (row.number(&rt), row.flag(&rt));
         let core = Core {
             format: 1,
             size,
@@ -237,7 +242,7 @@ fn short_form(rt: HostRuntime) -> Result<(), Fail> {
         let file = directory(rt.alloc(), core, 1, false)?;
         let mut disk = Untold::make(rt.alloc())?;
         let Ok(found) = read(&rt, rt.alloc(), &mut disk, &slot, &file) else {
-            panic!(rt; "{size} bytes are read");
+            refuse(&rt, "it is not read", line);
         };
         same!(rt; found.whole, whole; size);
         same!(rt; found.entries.as_slice().len(), whole as usize; size);

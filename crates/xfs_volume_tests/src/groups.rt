@@ -5,7 +5,7 @@ ghost use Rattle.std.specs.Prelude.{◌≡◌, ◌<◌, ◌≤◌};
 
 use crate::checks::same;
 use crate::small_volume::{put, volume};
-use crate::text::{Row, tells};
+use crate::text::{Row, refuse, tells};
 use std::alloc::Global;
 use std::marker::Brand;
 use std::process::Abort;
@@ -174,7 +174,7 @@ fn groups(rt: HostRuntime) -> Result<(), Fail> {
         assert!(rt; matches!(disk.blocks(), Ok(count) if 2048 <= count));
         match see::<MemoryDisk, Brand>(alloc, &mut disk, Blank::new(1)) {
             Ok(seen) => is_found(&rt, &seen, &mut row, line)?,
-            Err(fault) => panic!(rt; "{fault:?}"),
+            Err(_) => refuse(&rt, "the groups are not seen", line),
         }
     }
     Ok(())

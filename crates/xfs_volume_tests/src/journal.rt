@@ -4,7 +4,7 @@ ghost use Rattle.std.specs.Prelude.{◌≡◌, ◌<◌, ◌≤◌};
 
 use crate::checks::same;
 use crate::small_volume::{ROOT, put, volume};
-use crate::text::{Row, tells};
+use crate::text::{Row, refuse, tells};
 use std::alloc::Global;
 use std::marker::Brand;
 use std::process::Abort;
@@ -101,7 +101,7 @@ fn numbers(rt: HostRuntime) -> Result<(), Fail> {
         let files = [file(alloc, row.number(&rt), row.number(&rt))?];
         let Ok(lsns) = numbers_of::<MemoryDisk, Brand>(alloc, &mut disk, &files, Blank::new(1))
         else {
-            panic!(rt; "{line}");
+            refuse(&rt, "the numbers are not read", line);
         };
         let mut found = Vec::new(alloc);
         for number in lsns.as_slice() {
@@ -127,19 +127,29 @@ fn state_of<D: Disk, L: Ledger>(
     read_log(alloc, &volume([0; 16]), disk, &mut steps)
 }
 
+/// The block of a sector of cycle 1, and whether the log is clean.
+const LOGS: &str = "\
+1029 true
+1030 false
+1541 false
+1542 true
+";
+
 #[test]
 fn logs(rt: HostRuntime) -> Result<(), Fail> {
     let alloc = rt.alloc();
-    for (place, due) in [(1029, true), (1030, false), (1541, false), (1542, true)] {
+    for line in LOGS.lines() {
+        let mut row = Row::new(line);
+        let place = row.number(&rt);
         let mut disk = MemoryDisk::make(alloc, 2048)?;
         let mut block = [0; BLOCK_SIZE];
         put64(&mut block, 3584, 1 << 32);
         put(&rt, &mut disk, place, &block);
         assert!(rt; matches!(disk.blocks(), Ok(count) if 2048 <= count));
         let Ok(state) = state_of::<MemoryDisk, Brand>(alloc, &mut disk, Blank::new(1)) else {
-            panic!(rt; "{place}");
+            refuse(&rt, "the log is not read", line);
         };
-        same!(rt; state == LogState::Clean { head: 1 << 32 }, due);
+        same!(rt; state == LogState::Clean { head: 1 << 32 }, row.flag(&rt); line);
     }
     Ok(())
 }

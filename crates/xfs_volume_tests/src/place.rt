@@ -5,7 +5,7 @@ ghost use Rattle.std.specs.Prelude.{◌≡◌, ◌≤◌, IfOk, [], ◌∷◌};
 mod groups;
 mod objects;
 
-use crate::text::{Row, tells};
+use crate::text::{Row, refuse, tells};
 use std::alloc::{AllocError, Global};
 use std::test::Fail;
 use xfs_geom::{Geometry, Run};
@@ -74,7 +74,7 @@ fn lowest_chunks(rt: HostRuntime) -> Result<(), Fail> {
         let (size, from) = (row.number::<u32>(&rt), row.number(&rt));
         match chunks(alloc, &ask(alloc, size.max(1), from, row.number(&rt))?) {
             Ok(starts) => tells(&rt, &starts.as_slice(), row.text(), line),
-            Err(fault) => panic!(rt; "{line}: {fault:?}"),
+            Err(_) => refuse(&rt, "no chunks are found", line),
         }
     }
     Ok(())

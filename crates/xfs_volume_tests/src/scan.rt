@@ -5,6 +5,7 @@ ghost use Rattle.std.specs.Prelude.{◌≡◌, ◌<◌, ◌≤◌};
 
 use crate::checks::same;
 use crate::small_volume::{ROOT, put, volume};
+use crate::text::{refuse, tells};
 use std::alloc::Global;
 use std::marker::Brand;
 use std::process::Abort;
@@ -16,7 +17,7 @@ use xfs_image::Finding;
 use xfs_inode::fresh_slot;
 use xfs_runs::Steps;
 use xfs_scan::*;
-use xfs_volume::{ClusterRec, Core, DirRec};
+use xfs_volume::Core;
 use xfs_word::{put_checksum, put_part, put16};
 
 /// The identifier of the volume.
@@ -118,31 +119,25 @@ fn evidence(rt: HostRuntime) -> Result<(), Fail> {
     let alloc = rt.alloc();
     let mut disk = disk(&rt, alloc, &[(137, LOST_ATTRIBUTES)])?;
     let Ok(found) = seen(alloc, &rt, &mut disk) else {
-        panic!(rt; "the volume is refused");
+        refuse(&rt, "the volume is refused", "");
     };
-    let clusters = [(16, true), (24, false)].map(|(block, recorded)| ClusterRec {
-        block,
-        recorded,
-    });
-    same!(rt; found.clusters.as_slice(), &clusters[..]);
-    assert!(rt; found.slots.len() == 8);
+    let clusters =
+        "[ClusterRec { block: 16, recorded: true }, ClusterRec { block: 24, recorded: false }]";
+    tells(&rt, &found.clusters.as_slice(), clusters, "clusters");
+    same!(rt; found.slots.len(), 8);
     let files = found.files.as_slice();
-    assert!(rt; files.len() == 4);
+    same!(rt; files.len(), 4);
     for (file, ino) in files.iter().zip([128, 131, 137, 192]) {
         same!(rt; file.ino, ino);
     }
-    same!(rt; found.bare.as_slice(), &[137][..]);
+    tells(&rt, &found.bare.as_slice(), "[137]", "bare files");
     let entries = found.entries.as_slice();
     assert!(rt;
         entries.len() == 1 && entries[0].ino == 131 && entries[0].name.bytes() == b"a".as_slice()
     );
-    let root = DirRec {
-        ino: 128,
-        parent: 128,
-        whole: true,
-    };
-    same!(rt; found.dirs.as_slice(), &[root][..]);
-    assert!(rt; found.trees.as_slice().len() == 2);
+    let root = "[DirRec { ino: 128, parent: 128, whole: true }]";
+    tells(&rt, &found.dirs.as_slice(), root, "directories");
+    same!(rt; found.trees.as_slice().len(), 2);
     assert!(rt; matches!(found.catalog, Err(Finding::Part { part: 1, place: 0 })));
     same!(rt; found.log, LogState::Clean { head: 1 << 32 });
     Ok(())

@@ -287,8 +287,10 @@ fn groups_nearly_full(rt: HostRuntime) -> Result<(), Fail> {
                 let first = placed.groups.as_slice().first();
                 first.map(|group| (group.agfl.as_slice().len(), group.bno.as_slice().len()))
             }
-            Err(PlaceFault::NoRoom(Place::Group(0))) => None,
-            Err(fault) => panic!(rt; "{line}: {fault:?}"),
+            Err(fault) => {
+                tells(&rt, &fault, "NoRoom(Group(0))", line);
+                None
+            }
         };
         tells(&rt, &seen, row.text(), line);
     }
