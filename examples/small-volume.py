@@ -1,7 +1,7 @@
 #!/usr/bin/env python3
 """Writes the small volume of the tests as image files, by the on-disk format alone, with nothing of this project: V (empty, 2048 blocks
 in two groups), W (V with two files of one block), and images that differ from them in a few fields. It prints their bytes
-other than zero, and with -t the tables of the tests (crates/xfs_tools/src/tests).
+other than zero, and with -t the bytes as the cases of the tools have them (crates/xfs_cases/stdin).
 
     examples/small-volume.py FOLDER [-q] [-t]
 """
@@ -290,8 +290,8 @@ def base_image():
     return image
 
 
-def rust(old, new, skip=()):
-    """Rows (block, byte, text) of a table in Rattle: what is to be written over `old` so that it is `new`."""
+def lines(old, new, skip=()):
+    """Lines `bytes BLOCK OFFSET DIGITS`: what is to be written over `old` so that it is `new`."""
     for block in range(len(new) // BLOCK):
         a, b = old[block * BLOCK:(block + 1) * BLOCK], new[block * BLOCK:(block + 1) * BLOCK]
         if a == b or block in skip:
@@ -304,26 +304,26 @@ def rust(old, new, skip=()):
             else:
                 runs.append([w, w + 4])
         for start, end in runs:
-            print(f'    ({block}, {start}, "{bytes(b[start:end]).hex()}"),')
+            print("bytes", block, start, bytes(b[start:end]).hex())
 
 
 
 def tables_of_volumes():
     v, w = volume([]), volume([b"a", b"b"])
     print("== VOLUME")
-    rust(base_image(), v)
+    lines(base_image(), v)
     print("== FILES")
-    rust(v, w)
+    lines(v, w)
     folder = sys.argv[1]
     for name in ("shared_blocks", "dirty_log", "block_twice", "other_producers", "three_links", "refused_file"):
         print("==", name)
         image = open(os.path.join(folder, name), "rb").read()
-        rust(w if name in ("block_twice", "other_producers", "refused_file") else v, image, skip=range(1031, 1542))
+        lines(w if name in ("block_twice", "other_producers", "refused_file") else v, image, skip=range(1031, 1542))
     x = bytearray(v)
     x[512 + 52:512 + 56] = (5).to_bytes(4, "big")
     x[512:1024] = sealed(x[512:1024], 216)
     print("== count_written")
-    rust(v, x)
+    lines(v, x)
 
 
 def tables_of_a_vast_volume():
@@ -341,7 +341,7 @@ def tables_of_a_vast_volume():
         (0, 4, 0x58414749), (4, 4, 1), (12, 4, length), (20, 4, 2), (24, 4, 2), (296, 16, UUID), (328, 4, 1), (332, 4, 1)]), 312)
     x[4096:] = leaf(0, 1, 0x524d4233, [rmap(held, 4 * 65537, INODES)])
     print("== a cluster too many")
-    rust(bytes(2 * BLOCK), x)
+    lines(bytes(2 * BLOCK), x)
 
 
 main()

@@ -6,10 +6,9 @@ mod command_line;
 mod debugger;
 mod hexadecimal;
 mod maker;
-#[cfg(test)]
-mod tests;
 mod texts;
 mod top;
 
 pub use answer::{Answer, Status};
+pub use texts::put_answer;
 pub use top::run;

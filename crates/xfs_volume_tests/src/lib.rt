@@ -1,4 +1,5 @@
-//! Tests of all that judges, gathers, places and runs whole volumes. They stand in a crate of their own, since a crate is proved once more with its tests.
+//! Tests of all that judges, gathers, places and runs whole volumes. They stand in a crate of their own, since a crate is proved once more
+//! with its tests.
 #![tactic(auto)]
 
 #[cfg(test)]
@@ -8,7 +9,13 @@ mod checks;
 #[cfg(test)]
 mod claims;
 #[cfg(test)]
+mod dirs;
+#[cfg(test)]
+mod groups;
+#[cfg(test)]
 mod items;
+#[cfg(test)]
+mod journal;
 #[cfg(test)]
 mod laws;
 #[cfg(test)]
@@ -16,6 +23,14 @@ mod links;
 #[cfg(test)]
 mod naming;
 #[cfg(test)]
+mod place;
+#[cfg(test)]
+mod scan;
+#[cfg(test)]
+mod small_volume;
+#[cfg(test)]
 mod space;
 #[cfg(test)]
 mod text;
+#[cfg(test)]
+mod tools;

@@ -189,6 +189,17 @@ fn digit(rt: &impl Abort, byte: u8) -> u8
     }
 }
 
+/// The rows that stand between commas, of which there may be none.
+pub fn parts_of<'a>(alloc: Global, text: &'a str) -> Result<Vec<Row<'a>>, AllocError> {
+    let mut parts = Vec::new(alloc);
+    if !text.is_empty() {
+        for part in text.split(',') {
+            parts.push(Row::new(part))?;
+        }
+    }
+    Ok(parts)
+}
+
 /// Writes the parts of an object over its bytes. The parts stand in lines or between commas, each as a byte offset and
 /// the bytes from there on. `ff*260` is a byte so many times.
 pub fn put_parts(
@@ -199,14 +210,14 @@ pub fn put_parts(
     ensures { length object.new ≡ length object.old }
 {
     for line in parts.lines() {
-        for part in line.split(',') {
-            put_part(rt, object, Row::new(part))?;
+        for part in parts_of(rt.alloc(), line)?.iter() {
+            put_part(rt, object, *part)?;
         }
     }
     Ok(())
 }
 
-/// Writes one part, if there is one.
+/// Writes one part.
 fn put_part(
     rt: &(impl Abort + AllocGlobal),
     object: &mut [u8],
@@ -214,9 +225,6 @@ fn put_part(
 ) -> Result<(), AllocError>
     ensures { length object.new ≡ length object.old }
 {
-    if part.is_read() {
-        return Ok(());
-    }
     let at: usize = part.number(rt);
     let text = part.text();
     let (bytes, count) = match text.split_once('*') {

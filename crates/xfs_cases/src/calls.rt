@@ -1,0 +1,113 @@
+//! Calls, and what is due of them.
+
+use crate::disk::CaseDisk;
+use crate::refusal::Refusal;
+use std::alloc::{AllocError, Global};
+use std::thread::Threads;
+use xfs_disk::{MemoryLibrary, MemorySink, MemorySource, NoGate, Stamp, Word};
+use xfs_tools::{Status, run};
+
+/// What a call is given beside its words.
+#[derive(Drop)]
+pub struct Surroundings {
+    /// How many bytes standard output has room for.
+    pub room: usize,
+    /// What standard input holds.
+    pub input: String,
+    /// Whether reading standard input fails.
+    pub unreadable: bool,
+}
+
+/// What a call put and how it ended, and what is due of that.
+#[derive(Drop)]
+pub struct Call {
+    out: MemorySink,
+    err: MemorySink,
+    status: Status,
+    pub due: Due,
+}
+
+/// What is due of a call.
+#[derive(Drop)]
+pub struct Due {
+    pub out: String,
+    pub err: String,
+    pub code: u64,
+    pub finished: u64,
+}
+
+impl Call {
+    /// Makes the call of these words, with a bar between two of them. Nothing is due but the status 0.
+    pub fn make(
+        rt: &(impl Threads + Sync),
+        alloc: Global,
+        disk: &mut CaseDisk,
+        words: &str,
+        given: &Surroundings,
+    ) -> Result<Call, Refusal> {
+        let words = words_of(alloc, words)?;
+        let mut files = MemoryLibrary::make();
+        let mut input = MemorySource::make(alloc, given.input.as_bytes())?;
+        if given.unreadable {
+            input.fail(1)?;
+        }
+        let mut out = MemorySink::make(alloc, given.room)?;
+        let mut err = MemorySink::make(alloc, 80)?;
+        let stamp = Stamp {
+            seconds: 0,
+            nanos: 0,
+            generation: 0,
+            uuid: [0; 16],
+        };
+        let status = run(
+            rt, alloc, &words, disk, &mut files, &mut input, &mut out, &mut err, &stamp, &NoGate,
+        );
+        Ok(Call {
+            out,
+            err,
+            status,
+            due: Due {
+                out: String::new(alloc),
+                err: String::new(alloc),
+                code: 0,
+                finished: 0,
+            },
+        })
+    }
+
+    /// A line for each part that is not as it is due.
+    pub fn differences(&self, alloc: Global) -> Result<String, AllocError> {
+        let mut told = String::new(alloc);
+        for (stream, held, due) in [
+            ("output", self.out.bytes(), &self.due.out),
+            ("error", self.err.bytes(), &self.due.err),
+        ] {
+            if held != due.as_bytes() {
+                let held = str::from_utf8(held).unwrap_or("no text");
+                let line = format!(in alloc; "  {stream} {held:?}, due {due:?}\n")?;
+                told.push_str(line.as_str())?;
+            }
+        }
+        for (name, held, due) in [
+            ("code", self.status.code as u64, self.due.code),
+            ("finished", self.status.finished, self.due.finished),
+        ] {
+            if held != due {
+                let line = format!(in alloc; "  {name} {held}, due {due}\n")?;
+                told.push_str(line.as_str())?;
+            }
+        }
+        Ok(told)
+    }
+}
+
+/// The words of a text, with a bar between two of them.
+fn words_of(alloc: Global, text: &str) -> Result<Vec<Word>, AllocError> {
+    let mut words = Vec::new(alloc);
+    if !text.is_empty() {
+        for word in text.split('|') {
+            words.push(Word::from_vec(Vec::from_slice(alloc, word.as_bytes())?))?;
+        }
+    }
+    Ok(words)
+}

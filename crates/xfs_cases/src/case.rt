@@ -1,0 +1,167 @@
+//! A case: a disk, calls on it, and what is due of them.
+
+use crate::calls::{Call, Surroundings};
+use crate::numbers::number;
+use crate::refusal::Refusal;
+use crate::volume::Disks;
+use std::alloc::{AllocError, Global};
+use std::thread::Threads;
+
+/// The bytes that standard output has room for where a case does not say it.
+const ROOM: usize = 120;
+
+/// A case of which lines were taken.
+#[derive(Drop)]
+pub struct Case {
+    alloc: Global,
+    name: String,
+    disks: Disks,
+    given: Surroundings,
+    /// The last call.
+    call: Option<Call>,
+    calls: u64,
+    /// Whether what the disk holds in the end is not compared.
+    unseen: bool,
+    /// What is not as it is due.
+    told: String,
+}
+
+impl Case {
+    /// A case of which no line was taken, on a disk without blocks.
+    pub fn new(alloc: Global, name: &str) -> Result<Case, Refusal> {
+        Ok(Case {
+            alloc,
+            name: String::from_str(alloc, name)?,
+            disks: Disks::make(alloc)?,
+            given: Surroundings {
+                room: ROOM,
+                input: String::new(alloc),
+                unreadable: false,
+            },
+            call: None,
+            calls: 0,
+            unseen: false,
+            told: String::new(alloc),
+        })
+    }
+
+    /// Takes a line: its first word, and what is behind.
+    ///
+    /// What the disk holds: `zeros`, `bytes`, `slots`, `cycles` and `chunks` of `volume`; behind `then` they say what it must hold in
+    /// the end beside what it held, and `unseen` says that this is not compared.
+    ///
+    /// What a call is given: `fail N` makes the read, write or sync of the disk fail that has this number, counted from 1 from here on;
+    /// `room N` bytes are left for standard output from here on; `input LINE` and `tail TEXT` are added to standard input, which is not
+    /// read where the case has `unreadable`.
+    ///
+    /// `run WORD|WORD|..` makes a call. Behind it stands what is due of it: `out LINE` and `err LINE`, `cut TEXT` for output that has no end
+    /// of line, `code N` and `finished N` where they are not 0.
+    pub fn take(
+        &mut self,
+        rt: &(impl Threads + Sync),
+        word: &str,
+        rest: &str,
+    ) -> Result<(), Refusal> {
+        match word {
+            "zeros" => self.disks.zeros(rest),
+            "bytes" => self.disks.bytes(rest),
+            "slots" => self.disks.slots(rest),
+            "cycles" => self.disks.cycles(rest),
+            "chunks" => self.disks.chunks(),
+            "then" => {
+                self.disks.due_alone = true;
+                Ok(())
+            }
+            "unseen" => {
+                self.unseen = true;
+                Ok(())
+            }
+            "fail" => self.disks.held.fail(number(rest)?),
+            "run" => self.run(rt, rest),
+            "room" | "input" | "tail" | "unreadable" => self.give(word, rest),
+            _ => self.expect(word, rest),
+        }
+    }
+
+    /// Takes a line of what a call is given.
+    fn give(&mut self, word: &str, rest: &str) -> Result<(), Refusal> {
+        match word {
+            "room" => self.given.room = number(rest)? as usize,
+            "input" => {
+                self.given.input.push_str(rest)?;
+                self.given.input.push('\n')?;
+            }
+            "tail" => self.given.input.push_str(rest)?,
+            "unreadable" => self.given.unreadable = true,
+            _ => return Err(Refusal::Unknown),
+        }
+        Ok(())
+    }
+
+    /// Takes a line of what is due of the last call.
+    fn expect(&mut self, word: &str, rest: &str) -> Result<(), Refusal> {
+        let Some(call) = &mut self.call else {
+            return Err(Refusal::NoCall);
+        };
+        match word {
+            "out" => {
+                call.due.out.push_str(rest)?;
+                call.due.out.push('\n')?;
+            }
+            "cut" => call.due.out.push_str(rest)?,
+            "err" => {
+                call.due.err.push_str(rest)?;
+                call.due.err.push('\n')?;
+            }
+            "code" => call.due.code = number(rest)?,
+            "finished" => call.due.finished = number(rest)?,
+            _ => return Err(Refusal::Unknown),
+        }
+        Ok(())
+    }
+
+    /// Compares the last call, and makes another.
+    fn run(&mut self, rt: &(impl Threads + Sync), words: &str) -> Result<(), Refusal> {
+        self.end_call()?;
+        let call = Call::make(rt, self.alloc, &mut self.disks.held, words, &self.given)?;
+        self.call = Some(call);
+        self.calls = self.calls.saturating_add(1);
+        Ok(())
+    }
+
+    /// Tells what of the last call is not as it is due.
+    fn end_call(&mut self) -> Result<(), AllocError> {
+        if let Some(call) = self.call.take() {
+            let differences = call.differences(self.alloc)?;
+            if !differences.is_empty() {
+                let place = format!(in self.alloc; "  call {}:\n", self.calls)?;
+                self.told.push_str(place.as_str())?;
+                self.told.push_str(differences.as_str())?;
+            }
+        }
+        Ok(())
+    }
+
+    /// Tells that a line can't be done.
+    pub fn tell(&mut self, line: &str, refusal: Refusal) -> Result<(), AllocError> {
+        let told = format!(in self.alloc; "  {line}: {refusal}\n")?;
+        self.told.push_str(told.as_str())
+    }
+
+    /// Ends the case, and says how it went.
+    pub fn end(mut self) -> Result<String, AllocError> {
+        self.end_call()?;
+        if self.calls == 0 {
+            self.told.push_str("  no call\n")?;
+        }
+        if !self.unseen && !self.disks.agree() {
+            self.told
+                .push_str("  the disk does not hold what is due\n")?;
+        }
+        if self.told.is_empty() {
+            format!(in self.alloc; "ok {}", self.name)
+        } else {
+            format!(in self.alloc; "wrong {}\n{}", self.name, self.told)
+        }
+    }
+}

@@ -1,0 +1,102 @@
+//! A disk whose first blocks are in memory, and of which no contract tells what it holds.
+
+ghost use Rattle.std.specs.Prelude.{◌≡◌, ◌≤◌, None};
+ghost use Rattle.std.proofs.Common.{rules};
+
+use crate::refusal::Refusal;
+use std::alloc::Global;
+use xfs_disk::{BLOCK_SIZE, Disk, Failed, MemoryDisk};
+
+/// A disk of `blocks` blocks. Those behind the ones in memory are zeros, and stay so.
+#[derive(Drop)]
+pub struct CaseDisk {
+    memory: MemoryDisk,
+    blocks: u64,
+}
+
+impl CaseDisk {
+    ghost use Rattle.xfs_disk.specs.MemoryDisk.{size_of};
+
+    /// A disk of zeros.
+    pub fn make(alloc: Global, held: u64, blocks: u64) -> Result<CaseDisk, Refusal> {
+        Ok(CaseDisk {
+            memory: MemoryDisk::make(alloc, held)?,
+            blocks,
+        })
+    }
+
+    /// Makes the read, write or sync of this number fail, counted from 1 from now on.
+    pub fn fail(&mut self, call: u64) -> Result<(), Refusal> {
+        self.memory.fail(call)?;
+        Ok(())
+    }
+
+    /// The bytes in memory.
+    pub fn image(&self) -> &[u8] {
+        self.memory.image()
+    }
+
+    /// Writes bytes over those that a block in memory holds.
+    pub fn put(&mut self, place: u64, from: usize, bytes: &[u8]) -> Result<(), Refusal> {
+        let mut block = [0; BLOCK_SIZE];
+        if place >= self.memory.blocks()? || from > BLOCK_SIZE || bytes.len() > BLOCK_SIZE - from {
+            return Err(Refusal::Outside);
+        }
+        self.memory.read(place, &mut block)?;
+        block[from..from + bytes.len()].copy_from_slice(bytes);
+        self.memory.write(place, &block)?;
+        Ok(())
+    }
+
+    /// How many blocks are in memory.
+    fn held(&self) -> u64
+        ensures { result ≡ size_of self.now.memory }
+    {
+        (self.memory.image().len() / BLOCK_SIZE) as u64
+    }
+}
+
+impl Disk for CaseDisk {
+    ghost use Rattle.xfs_disk.specs.MemoryDisk.{faults_of, write_faults_of};
+
+    ghost size = { λ disk. disk.blocks };
+
+    ghost holds = { λ _. None };
+
+    ghost faults = { λ disk. faults_of disk.memory };
+
+    ghost write_faults = { λ disk. write_faults_of disk.memory };
+
+    fn faults(&self) -> u64 {
+        self.memory.faults()
+    }
+
+    fn blocks(&mut self) -> Result<u64, Failed> {
+        Ok(self.blocks)
+    }
+
+    fn read(&mut self, at: u64, into: &mut [u8]) -> Result<(), Failed> {
+        if at < self.held() {
+            return self.memory.read(at, into);
+        }
+        into.copy_from_slice(&[0; BLOCK_SIZE]);
+        Ok(())
+    }
+
+    fn write(&mut self, at: u64, from: &[u8]) -> Result<(), Failed> {
+        if at < self.held() {
+            return self.memory.write(at, from);
+        }
+        Ok(())
+    }
+
+    fn sync(&mut self) -> Result<(), Failed> {
+        self.memory.sync()
+    }
+
+    ghost shape = { λ disk image told. Prim.search rules };
+
+    ghost counts_now = { λ disk t image tells. absurd tells };
+
+    ghost only_now = { λ disk image tells. absurd tells };
+}

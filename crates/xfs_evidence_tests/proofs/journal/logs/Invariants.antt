@@ -1,4 +1,0 @@
-use Rattle.xfs_evidence_tests.proofs.journal.logs.Given as goal
-
-abbrev pub ghosts-state_of : goal.ghosts-state_of
-ghosts-state_of g a = record { name = a.blank.name; parts = a.blank.parts }

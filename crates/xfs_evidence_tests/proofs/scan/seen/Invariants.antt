@@ -1,4 +1,0 @@
-use Rattle.xfs_evidence_tests.proofs.scan.seen.Given as goal
-
-abbrev pub ghosts-gather_counted : goal.ghosts-gather_counted
-ghosts-gather_counted g a = record { name = a.blank.name; parts = a.blank.parts }

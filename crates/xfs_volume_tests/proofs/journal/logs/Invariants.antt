@@ -1,0 +1,4 @@
+use Rattle.xfs_volume_tests.proofs.journal.logs.Given as goal
+
+abbrev pub ghosts-state_of : goal.ghosts-state_of
+ghosts-state_of g a = record { name = a.blank.name; parts = a.blank.parts }

@@ -1,0 +1,155 @@
+//! The log and the log sequence numbers of a volume of two groups of 1024 blocks, with its log at AG block 6 of the second.
+
+ghost use Rattle.std.specs.Prelude.{◌≡◌, ◌<◌, ◌≤◌};
+
+use crate::checks::same;
+use crate::small_volume::{ROOT, put, volume};
+use crate::text::{Row, refuse, tells};
+use std::alloc::Global;
+use std::marker::Brand;
+use std::process::Abort;
+use std::sync::ledger::{Blank, Ledger};
+use std::test::Fail;
+use xfs_attr::Attrs;
+use xfs_disk::{BLOCK_SIZE, Disk, MemoryDisk, Word};
+use xfs_heads::LogState;
+use xfs_journal::*;
+use xfs_runs::Steps;
+use xfs_volume::{BlockLsn, Blocks, Core, Extents, FileRec, Records};
+use xfs_word::{Extent, put64};
+
+/// An extent of two blocks.
+fn extent(offset: u64, start: u64) -> Extent {
+    Extent {
+        offset,
+        start,
+        count: 2,
+        unwritten: false,
+    }
+}
+
+/// A file of this mode with data at block 40 and on, a tree of extents at block 30, and attributes at block 50 and on.
+fn file(alloc: Global, mode: u16, offset: u64) -> Result<FileRec, Fail> {
+    let mut data = Vec::new(alloc);
+    data.push(extent(offset, 40))?;
+    let mut attr = Vec::new(alloc);
+    attr.push(extent(0, 50))?;
+    let mut tree = Vec::new(alloc);
+    tree.push(30)?;
+    Ok(FileRec {
+        ino: 128,
+        core: Core {
+            mode,
+            format: 2,
+            nlink: 1,
+            size: 0,
+            uuid: [0; 16],
+            ..ROOT
+        },
+        extents: Extents::from_vec(data),
+        attr: Extents::from_vec(attr),
+        tree: Blocks::from_vec(tree),
+        attrs: Attrs::from_vec(Vec::new(alloc)),
+        target: Word::from_vec(Vec::new(alloc)),
+        device: 0,
+    })
+}
+
+/// A disk each of whose first blocks has at each eighth byte this byte's offset.
+fn disk(rt: &impl Abort, alloc: Global) -> Result<MemoryDisk, Fail> {
+    let mut disk = MemoryDisk::make(alloc, 2048)?;
+    let mut block = [0; BLOCK_SIZE];
+    for i in 0..512usize {
+        put64(&mut block, 8 * i, 8 * i as u64);
+    }
+    for place in [0, 30, 40, 41, 50, 51] {
+        put(rt, &mut disk, place, &block);
+    }
+    Ok(disk)
+}
+
+/// The numbers of files, with the steps counted.
+#[tactic(auto, unfolding(xfs_image::specs::Files::clusters_of))]
+fn numbers_of<D: Disk, L: Ledger>(
+    alloc: Global,
+    disk: &mut D,
+    files: &[FileRec],
+    blank: Blank,
+) -> Result<Records<BlockLsn>, JournalFault>
+    requires name { blank.name ≡ L.name }
+    requires parts { blank.parts ≡ L.parts }
+    requires some { 0 < blank.parts }
+{
+    let mut steps = Steps::<L>::from_blank(blank);
+    read_lsns(alloc, &volume([0; 16]), disk, &[], &[], files, &mut steps)
+}
+
+/// The mode of a file, the offset of its data, and the blocks that have a number, with the number.
+const NUMBERS: &str = "\
+0x41ed 0 | [(0, 240), (30, 32), (40, 16), (41, 16), (50, 24), (51, 24)]
+0x41ed 0xffffff | [(0, 240), (30, 32), (40, 24), (41, 16), (50, 24), (51, 24)]
+0xa1ff 0 | [(0, 240), (30, 32), (40, 48), (41, 48), (50, 24), (51, 24)]
+0x81a4 0 | [(0, 240), (30, 32), (50, 24), (51, 24)]
+";
+
+#[test]
+fn numbers(rt: HostRuntime) -> Result<(), Fail> {
+    let alloc = rt.alloc();
+    for line in NUMBERS.lines() {
+        let mut row = Row::new(line);
+        let mut disk = disk(&rt, alloc)?;
+        let files = [file(alloc, row.number(&rt), row.number(&rt))?];
+        let Ok(lsns) = numbers_of::<MemoryDisk, Brand>(alloc, &mut disk, &files, Blank::new(1))
+        else {
+            refuse(&rt, "the numbers are not read", line);
+        };
+        let mut found = Vec::new(alloc);
+        for number in lsns.as_slice() {
+            found.push((number.block, number.lsn))?;
+        }
+        tells(&rt, &found, row.text(), line);
+    }
+    Ok(())
+}
+
+/// The state of the log, with the steps counted.
+fn state_of<D: Disk, L: Ledger>(
+    alloc: Global,
+    disk: &mut D,
+    blank: Blank,
+) -> Result<LogState, JournalFault>
+    requires name { blank.name ≡ L.name }
+    requires parts { blank.parts ≡ L.parts }
+    requires some { 0 < blank.parts }
+    requires inside { 2048 ≤ D.size disk.old }
+{
+    let mut steps = Steps::<L>::from_blank(blank);
+    read_log(alloc, &volume([0; 16]), disk, &mut steps)
+}
+
+/// The block of a sector of cycle 1, and whether the log is clean.
+const LOGS: &str = "\
+1029 true
+1030 false
+1541 false
+1542 true
+";
+
+#[test]
+fn logs(rt: HostRuntime) -> Result<(), Fail> {
+    let alloc = rt.alloc();
+    for line in LOGS.lines() {
+        let mut row = Row::new(line);
+        let place = row.number(&rt);
+        let mut disk = MemoryDisk::make(alloc, 2048)?;
+        let mut block = [0; BLOCK_SIZE];
+        put64(&mut block, 3584, 1 << 32);
+        put(&rt, &mut disk, place, &block);
+        assert!(rt; matches!(disk.blocks(), Ok(count) if 2048 <= count));
+        let Ok(state) = state_of::<MemoryDisk, Brand>(alloc, &mut disk, Blank::new(1)) else {
+            refuse(&rt, "the log is not read", line);
+        };
+        same!(rt; state == LogState::Clean { head: 1 << 32 }, row.flag(&rt); line);
+    }
+    Ok(())
+}

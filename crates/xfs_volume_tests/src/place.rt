@@ -1,0 +1,92 @@
+//! A volume of two groups of 1024 and 1023 blocks, with its log at AG blocks 6 to 517 of the second.
+
+ghost use Rattle.std.specs.Prelude.{◌≡◌, ◌≤◌, IfOk, [], ◌∷◌};
+
+mod groups;
+mod objects;
+
+use crate::text::{Row, refuse, tells};
+use std::alloc::{AllocError, Global};
+use std::test::Fail;
+use xfs_geom::{Geometry, Run};
+use xfs_place::*;
+use xfs_volume::Records;
+
+/// The owner of clusters of inodes.
+const INODES: u64 = u64::MAX - 6;
+
+fn volume() -> Geometry
+    ensures { result.dblocks ≡ 2047 }
+{
+    Geometry {
+        dblocks: 2047,
+        agblocks: 1024,
+        agcount: 2,
+        agblklog: 10,
+        log: 1030,
+        logblocks: 512,
+        rootino: 128,
+        logsectlog: 0,
+        uuid: [7; 16],
+    }
+}
+
+/// A request for chunks of a volume with the root's chunk at blocks 16 to 23, and block 25 reserved.
+fn ask(alloc: Global, size: u32, from: u32, count: u32) -> Result<ChunkAsk, AllocError>
+    requires { 1 ≤ size }
+    ensures size { IfOk result (λ ask. ask.size ≡ size) }
+    ensures blocks { IfOk result (λ ask. ask.geometry.dblocks ≡ 2047) }
+    ensures runs { IfOk result (λ ask. ask.taken ≡ record { start = 16; count = 8; owner = INODES; offset = 0 } ∷ []) }
+{
+    let root = Run {
+        start: 16,
+        count: 8,
+        owner: INODES,
+        offset: 0,
+    };
+    Ok(ChunkAsk {
+        geometry: volume(),
+        taken: Records::from_vec(vec![in alloc; root]?),
+        reserved: Records::from_vec(vec![in alloc; 25, 5000]?),
+        size,
+        from,
+        count,
+        what: Place::LostFound,
+    })
+}
+
+/// The blocks of a chunk, the block from which on they are looked for, how many are wanted, and where they begin.
+const LOWEST: &str = "\
+8 0 0 | []
+8 0 3 | [8, 32, 40]
+8 24 2 | [32, 40]
+4 0 4 | [8, 12, 28, 32]
+3 0 3 | [9, 12, 27]
+8 1000 4 | [1000, 1008, 1016, 2024]
+504 0 1 | [504]
+";
+
+#[test]
+fn lowest_chunks(rt: HostRuntime) -> Result<(), Fail> {
+    let alloc = rt.alloc();
+    for line in LOWEST.lines() {
+        let mut row = Row::new(line);
+        let (size, from) = (row.number::<u32>(&rt), row.number(&rt));
+        match chunks(alloc, &ask(alloc, size.max(1), from, row.number(&rt))?) {
+            Ok(starts) => tells(&rt, &starts.as_slice(), row.text(), line),
+            Err(_) => refuse(&rt, "no chunks are found", line),
+        }
+    }
+    Ok(())
+}
+
+#[test]
+fn too_few_chunks(rt: HostRuntime) -> Result<(), Fail> {
+    let alloc = rt.alloc();
+    // AG blocks 8 to 1023 without 16 to 31, and of the second group 520 to 1015
+    let all = (1016 - 16) / 8 + (1016 - 520) / 8;
+    assert!(rt; chunks(alloc, &ask(alloc, 8, 0, all)?).is_ok());
+    let found = chunks(alloc, &ask(alloc, 8, 0, all + 1)?);
+    assert!(rt; matches!(found, Err(PlaceFault::NoRoom(Place::LostFound))));
+    Ok(())
+}

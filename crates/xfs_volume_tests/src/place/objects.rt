@@ -1,0 +1,155 @@
+//! Objects, and what they leave to the trees.
+
+ghost use Rattle.std.specs.Prelude.{◌≡◌, ◌≤◌, ◌<◌, ◌+◌, ◌*◌, ◌^◌, All, IfOk};
+ghost use Rattle.xfs_geom.specs.Shape.{IsShaped};
+ghost use Rattle.xfs_place.specs.Objects.{IsAsk};
+
+use super::groups::{SMALLEST, Size, file, place_beside, root_chunk};
+use super::*;
+use crate::checks::same;
+use crate::text::tells;
+
+/// An object that asks for runs of these lengths.
+fn object(alloc: Global, ino: u64, kind: ObjectKind, lengths: &[u32]) -> Result<Object, AllocError>
+    requires { All (λ blocks. 1 ≤ blocks) lengths.now }
+    ensures asks { IfOk result (λ object. All IsAsk object.runs) }
+{
+    let mut runs = Vec::new(alloc);
+    for blocks in lengths {
+        runs.push(RunAsk {
+            blocks: *blocks,
+            owner: ino,
+            offset: 0,
+        })?;
+    }
+    Ok(Object {
+        ino,
+        kind,
+        runs: Records::from_vec(runs),
+    })
+}
+
+/// A directory of three blocks in two runs, a symbolic link, and data in three runs of which the last is so long.
+fn three_objects(alloc: Global, last: u32) -> Result<Vec<Object>, AllocError>
+    requires { 1 ≤ last }
+    ensures { IfOk result (λ objects. All (λ object. All IsAsk object.runs) objects.items) }
+{
+    let directory = object(alloc, 131, ObjectKind::Directory, &[2, 1])?;
+    let link = object(alloc, 132, ObjectKind::Symlink, &[1])?;
+    let data = object(alloc, 133, ObjectKind::Data, &[6, 990, last])?;
+    Ok(vec![in alloc; directory, link, data]?)
+}
+
+/// The start, the blocks and the owner of each run.
+const RUNS: &str = "\
+(1, 2, 131)
+(3, 1, 131)
+(4, 1, 132)
+(5, 6, 133)
+(26, 990, 133)
+(1542, 500, 133)
+";
+
+/// The free lists of both groups.
+const LISTS: &str = "\
+[24, 1016, 1017, 1018, 1019, 1020]
+[1018, 1019, 1020, 1021, 1022, 1023]
+";
+
+#[test]
+fn objects_before_trees(rt: HostRuntime) -> Result<(), Fail> {
+    let alloc = rt.alloc();
+    let objects = three_objects(alloc, 500)?;
+    let reserved = vec![in alloc; 25]?;
+    let placed = place_beside(alloc, &SMALLEST, root_chunk(), reserved, objects, 1)?;
+    let runs = placed.runs.as_slice();
+    same!(rt; runs.len(), 6);
+    for (run, due) in runs.iter().zip(RUNS.lines()) {
+        tells(&rt, &(run.start, run.count, run.owner), due, "a run");
+    }
+    let groups = placed.groups.as_slice();
+    same!(rt; groups.len(), 2);
+    for (group, due) in groups.iter().zip(LISTS.lines()) {
+        tells(&rt, &group.agfl.as_slice(), due, "a free list");
+    }
+    Ok(())
+}
+
+#[test]
+fn objects_without_room(rt: HostRuntime) -> Result<(), Fail> {
+    let alloc = rt.alloc();
+    let reserved = vec![in alloc; 25]?;
+    let found = place_beside(
+        alloc,
+        &SMALLEST,
+        root_chunk(),
+        reserved,
+        three_objects(alloc, 507)?,
+        1,
+    );
+    assert!(rt; matches!(found, Err(PlaceFault::NoRoom(Place::File(133)))));
+    let directory = object(alloc, 131, ObjectKind::Directory, &[1, 1000])?;
+    let objects = vec![in alloc; directory]?;
+    let found = place_beside(alloc, &SMALLEST, root_chunk(), Vec::new(alloc), objects, 25);
+    assert!(rt; matches!(found, Err(PlaceFault::NoRoom(Place::Directory(131)))));
+    Ok(())
+}
+
+/// Two groups of 409,600 blocks.
+const LARGE: Size = Size {
+    dblocks: 819_200,
+    agblocks: 409_600,
+    agcount: 2,
+    agblklog: 19,
+    log: 409_606,
+};
+
+/// The blocks of the five trees of the first group where it has so many runs of free blocks: from AG block `from` on
+/// every second block is reserved, those between are an object's, and what is behind is a file's.
+fn trees_beside(
+    alloc: Global,
+    size: &Size,
+    runs: u32,
+    from: u32,
+) -> Result<Option<[usize; 5]>, PlaceFault>
+    requires shape { IsShaped size.now.dblocks size.now.agblocks size.now.agcount size.now.agblklog size.now.log 512 128 0 }
+    requires front { 1 ≤ from }
+    requires end { from + 2 * runs < size.now.agblocks }
+    requires inside { size.now.agblocks ≤ size.now.dblocks }
+    requires log { size.now.agblocks ≤ size.now.log }
+{
+    let mut reserved = Vec::new(alloc);
+    for i in 0..runs {
+        reserved.push((from + 2 * i) as u64)?;
+    }
+    let ones = vec![in alloc; 1; runs as usize]?;
+    let data = object(alloc, 133, ObjectKind::Data, &ones)?;
+    let objects = vec![in alloc; data]?;
+    let end = from + 2 * runs;
+    let rest = file(end as u64, (size.agblocks - end) as u64);
+    let placed = place_beside(alloc, size, rest, reserved, objects, from)?;
+    Ok(tree_blocks(&placed, runs as usize))
+}
+
+/// The blocks of the five trees of the first group, where it has so many runs of free blocks, and a free list of six.
+fn tree_blocks(placed: &Placed, runs: usize) -> Option<[usize; 5]> {
+    let group = placed.groups.as_slice().first()?;
+    let mut blocks = [0; 5];
+    for (tree, count) in group.trees.as_slice().iter().zip(&mut blocks) {
+        *count = tree.blocks.as_slice().len();
+    }
+    let as_wanted = group.bno.as_slice().len() == runs && group.agfl.as_slice().len() == 6;
+    if as_wanted { Some(blocks) } else { None }
+}
+
+#[test]
+fn many_free_runs(rt: HostRuntime) -> Result<(), Fail> {
+    let alloc = rt.alloc();
+    for runs in [335, 336, 337] {
+        let due = Some([1, 1, 1, 1, 4]);
+        same!(rt; trees_beside(alloc, &SMALLEST, runs.min(400), 100)?, due; runs);
+    }
+    let due = Some([400, 400, 1, 1, 1206]);
+    same!(rt; trees_beside(alloc, &LARGE, 200_000, 3000)?, due);
+    Ok(())
+}

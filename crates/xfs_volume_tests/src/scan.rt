@@ -1,0 +1,174 @@
+//! The evidence of a volume whose groups do not read: two groups of 1024 blocks, the root's cluster at block 16, one more that is
+//! found by its bytes at block 24.
+
+ghost use Rattle.std.specs.Prelude.{◌≡◌, ◌<◌, ◌≤◌};
+
+use crate::checks::same;
+use crate::small_volume::{ROOT, put, volume};
+use crate::text::{refuse, tells};
+use std::alloc::Global;
+use std::marker::Brand;
+use std::process::Abort;
+use std::sync::ledger::{Blank, Ledger};
+use std::test::Fail;
+use xfs_disk::{BLOCK_SIZE, Disk, MemoryDisk};
+use xfs_heads::LogState;
+use xfs_image::Finding;
+use xfs_inode::fresh_slot;
+use xfs_runs::Steps;
+use xfs_scan::*;
+use xfs_volume::Core;
+use xfs_word::{put_checksum, put_part, put16};
+
+/// The identifier of the volume.
+const IDENTIFIER: [u8; 16] = [7; 16];
+
+/// The bytes of the root's one entry `a` of inode 131.
+const ENTRY: [u8; 15] = [1, 0, 0, 0, 0, 128, 1, 0, 0x60, b'a', 1, 0, 0, 0, 131];
+
+/// An extent of block 30, the first of its file.
+const EXTENT: [u8; 16] = [0, 0, 0, 0, 0, 0, 0, 0, 0, 0, 0, 0, 3, 0xc0, 0, 1];
+
+/// A regular file of one block.
+fn file(ino: u64) -> Core {
+    Core {
+        mode: 0x81a4,
+        format: 2,
+        nlink: 1,
+        size: 4096,
+        nblocks: 1,
+        nextents: 1,
+        ino,
+        ..ROOT
+    }
+}
+
+/// Two bytes of a slot: their offset, and the number that they are.
+type Change = (usize, u16);
+
+/// No feature: the last bytes of the second flags, of which nothing is set.
+const PLAIN: Change = (126, 0);
+
+/// An attribute fork in the slot itself that states no size.
+const LOST_ATTRIBUTES: Change = (82, 0x1e01);
+
+/// Writes the slot of an inode with two bytes changed into a block.
+fn put_slot(
+    rt: &impl Abort,
+    block: &mut [u8; BLOCK_SIZE],
+    core: &Core,
+    fork: &[u8],
+    change: Change,
+) {
+    let core = Core {
+        uuid: IDENTIFIER,
+        ..*core
+    };
+    let mut slot = [0; 512];
+    assert!(rt; core.magic == 0x494e && core.version == 3 && core.mode != 0);
+    assert!(rt; core.lsn == 0 && core.forkoff == 0 && core.flags == 0 && core.flags2 == 0);
+    assert!(rt; fork.len() <= 336 && core.ino < 1024);
+    fresh_slot(&volume(IDENTIFIER), &core, fork, &mut slot);
+    assert!(rt; change.0 <= 510);
+    put16(&mut slot, change.0, change.1);
+    put_checksum(&mut slot, 100);
+    put_part(block, core.ino as usize % 8 * 512, &slot);
+}
+
+/// The volume, with files whose slots are changed so in block 17.
+fn disk(rt: &impl Abort, alloc: Global, changed: &[(u64, Change)]) -> Result<MemoryDisk, Fail> {
+    let mut disk = MemoryDisk::make(alloc, 2048)?;
+    let mut block = [0; BLOCK_SIZE];
+    put_slot(rt, &mut block, &ROOT, &ENTRY, PLAIN);
+    put_slot(rt, &mut block, &file(131), &EXTENT, PLAIN);
+    put(rt, &mut disk, 16, &block);
+    block = [0; BLOCK_SIZE];
+    for (ino, change) in changed {
+        put_slot(rt, &mut block, &file(*ino), &EXTENT, *change);
+    }
+    put(rt, &mut disk, 17, &block);
+    block = [0; BLOCK_SIZE];
+    put_slot(rt, &mut block, &file(192), &EXTENT, PLAIN);
+    put(rt, &mut disk, 24, &block);
+    Ok(disk)
+}
+
+/// The evidence of a disk, with the steps counted.
+fn gather_counted<D: Disk, L: Ledger>(
+    alloc: Global,
+    disk: &mut D,
+    blank: Blank,
+) -> Result<Evidence, ScanFault>
+    requires name { blank.name ≡ L.name }
+    requires parts { blank.parts ≡ L.parts }
+    requires some { 0 < blank.parts }
+    requires inside { 2048 ≤ D.size disk.old }
+{
+    let mut steps = Steps::<L>::from_blank(blank);
+    gather(alloc, &volume(IDENTIFIER), disk, &mut steps)
+}
+
+/// The evidence of the disk.
+fn seen(alloc: Global, rt: &impl Abort, disk: &mut MemoryDisk) -> Result<Evidence, ScanFault> {
+    assert!(rt; matches!(disk.blocks(), Ok(count) if 2048 <= count));
+    gather_counted::<MemoryDisk, Brand>(alloc, disk, Blank::new(1))
+}
+
+#[test]
+fn evidence(rt: HostRuntime) -> Result<(), Fail> {
+    let alloc = rt.alloc();
+    let mut disk = disk(&rt, alloc, &[(137, LOST_ATTRIBUTES)])?;
+    let Ok(found) = seen(alloc, &rt, &mut disk) else {
+        refuse(&rt, "the volume is refused", "");
+    };
+    let clusters =
+        "[ClusterRec { block: 16, recorded: true }, ClusterRec { block: 24, recorded: false }]";
+    tells(&rt, &found.clusters.as_slice(), clusters, "clusters");
+    same!(rt; found.slots.len(), 8);
+    let files = found.files.as_slice();
+    same!(rt; files.len(), 4);
+    for (file, ino) in files.iter().zip([128, 131, 137, 192]) {
+        same!(rt; file.ino, ino);
+    }
+    tells(&rt, &found.bare.as_slice(), "[137]", "bare files");
+    let entries = found.entries.as_slice();
+    assert!(rt;
+        entries.len() == 1 && entries[0].ino == 131 && entries[0].name.bytes() == b"a".as_slice()
+    );
+    let root = "[DirRec { ino: 128, parent: 128, whole: true }]";
+    tells(&rt, &found.dirs.as_slice(), root, "directories");
+    same!(rt; found.trees.as_slice().len(), 2);
+    assert!(rt; matches!(found.catalog, Err(Finding::Part { part: 1, place: 0 })));
+    same!(rt; found.log, LogState::Clean { head: 1 << 32 });
+    Ok(())
+}
+
+#[test]
+fn least_feature(rt: HostRuntime) -> Result<(), Fail> {
+    let alloc = rt.alloc();
+    let mut disk = disk(
+        &rt,
+        alloc,
+        &[(136, PLAIN), (138, (126, 2)), (141, (126, 8))],
+    )?;
+    let refused = seen(alloc, &rt, &mut disk);
+    assert!(rt;
+        matches!(
+            refused,
+            Err(ScanFault::UnsupportedFile { ino: 138, what: 4 })
+        )
+    );
+    Ok(())
+}
+
+#[test]
+fn failing_reads(rt: HostRuntime) -> Result<(), Fail> {
+    let alloc = rt.alloc();
+    for call in [1, 10, 40, 560] {
+        let mut disk = disk(&rt, alloc, &[])?;
+        disk.fail(call)?;
+        let refused = seen(alloc, &rt, &mut disk);
+        same!(rt; matches!(refused, Err(ScanFault::ReadFault)), true; call);
+    }
+    Ok(())
+}
