@@ -1,4 +1,13 @@
 //! The tools' top call.
+//!
+//! The one call that the program makes: words, a disk and the standard streams in; an answer, its line and an exit status
+//! out. Whoever wants the tools elsewhere, as in a test over a disk in memory, makes the same call.
+//!
+//! The program `xfs` calls it so:
+//!
+//! ```text
+//! let status = run(&rt, rt.alloc(), &words, &mut disk, &mut files, &mut input, &mut out, &mut err, &stamp, &NoGate);
+//! ```
 #![tactic(auto)]
 
 mod answer;
