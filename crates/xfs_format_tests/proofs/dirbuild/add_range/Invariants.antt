@@ -1,7 +1,7 @@
 use Rattle.std.proofs.Common.{◌+◌, ◌<◌}
 use Rattle.std.specs.List.{All}
 use Rattle.xfs_dirindex.specs.Mapped.{Ascend}
-use Rattle.xfs_file_tests.proofs.dirbuild.add_range.Given as goal
+use Rattle.xfs_format_tests.proofs.dirbuild.add_range.Given as goal
 
 abbrev pub invariant-loop-k : goal.invariant-loop-k
 invariant-loop-k l = record {

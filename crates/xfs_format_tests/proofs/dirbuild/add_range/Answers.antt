@@ -3,7 +3,7 @@ use Rattle.std.specs.List.{All}
 use Rattle.std.proofs.lemmas.List.Elements.{All-push, All-weaker}
 use Rattle.xfs_dirindex.specs.Mapped.{Ascend}
 use Rattle.xfs_dirbuild.proofs.Ascending.{ascend-push}
-use Rattle.xfs_file_tests.proofs.dirbuild.add_range.Goals as goal
+use Rattle.xfs_format_tests.proofs.dirbuild.add_range.Goals as goal
 
 pub loop-k-preserved : goal.loop-k-preserved
 loop-k-preserved c =
