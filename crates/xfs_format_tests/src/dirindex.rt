@@ -1,360 +1,239 @@
 //! Directories in single-block, leaf and node form, sound and with one number changed.
 
-ghost use Rattle.std.specs.Prelude.{◌≡◌, ◌≤◌, length, IfOk};
+ghost use Rattle.std.specs.Prelude.{◌≡◌, length, IfOk};
 ghost use Rattle.xfs_dirindex.specs.Mapped.{Ascend};
 
-use crate::checks::same;
+use crate::text::{Row, tells};
 use std::alloc::{AllocError, Global};
 use std::process::Abort;
 use std::test::Fail;
 use xfs_bank::BlockBank;
-use xfs_dirdata::{EntryRec, put_data};
 use xfs_dirindex::*;
-use xfs_disk::Word;
-use xfs_word::{put16, put32};
 
-/// The numbers of 2 bytes that stand at byte offsets of a block of so many.
-type Changes = &'static [(usize, usize, u16)];
+/// Data block 0 with `.`, `..` and `a`, and data block 3 with `b` and `c`, as mapped blocks 0 and 1. In each line stand
+/// a mapped block, a byte offset in it and the bytes from there on.
+const DATA: &str = "\
+0 0 58444433
+0 48 0070 0f90
+0 64 0000000000000064 01 2e 02 000000 0040
+0 80 0000000000000080 02 2e2e 02 0000 0050
+0 96 0000000000000083 01 61 01 000000 0060
+0 112 ffff 0f90
+0 4094 0070
+1 0 58444433
+1 48 0060 0fa0
+1 64 0000000000000083 01 62 01 000000 0040
+1 80 0000000000000083 01 63 01 000000 0050
+1 96 ffff 0fa0
+1 4094 0060
+";
 
 /// The index of the leaf form: six pairs, one of them stale, and four values.
-const LEAF: Changes = &[
-    (2, 8, 0x3df1),
-    (2, 56, 6),
-    (2, 58, 1),
-    (2, 66, 0x2e),
-    (2, 70, 8),
-    (2, 74, 0x61),
-    (2, 78, 12),
-    (2, 82, 0x62),
-    (2, 90, 0x62),
-    (2, 94, 1544),
-    (2, 98, 0x63),
-    (2, 102, 1546),
-    (2, 106, 0x172e),
-    (2, 110, 10),
-    (2, 4084, 3984),
-    (2, 4086, 0xffff),
-    (2, 4088, 0xffff),
-    (2, 4090, 4000),
-    (2, 4094, 4),
-];
+const LEAF: &str = "\
+2 8 3df1
+2 56 0006 0001
+2 64 0000002e 00000008 00000061 0000000c 00000062 00000000
+2 88 00000062 00000608 00000063 0000060a 0000172e 0000000a
+2 4084 0f90 ffff ffff 0fa0 00000004
+";
 
 /// The index of the node form: a node, two leaves of three pairs, and the free block.
-const NODE: Changes = &[
-    (2, 8, 0x3ebe),
-    (2, 56, 2),
-    (2, 58, 1),
-    (2, 66, 0x62),
-    (2, 68, 0x80),
-    (2, 70, 1),
-    (2, 74, 0x172e),
-    (2, 76, 0x80),
-    (2, 78, 2),
-    (3, 0, 0x80),
-    (3, 2, 2),
-    (3, 8, 0x3dff),
-    (3, 56, 3),
-    (3, 58, 1),
-    (3, 66, 0x2e),
-    (3, 70, 8),
-    (3, 74, 0x61),
-    (3, 78, 12),
-    (3, 82, 0x62),
-    (4, 4, 0x80),
-    (4, 6, 1),
-    (4, 8, 0x3dff),
-    (4, 56, 3),
-    (4, 66, 0x62),
-    (4, 70, 1544),
-    (4, 74, 0x63),
-    (4, 78, 1546),
-    (4, 82, 0x172e),
-    (4, 86, 10),
-    (5, 54, 4),
-    (5, 58, 2),
-    (5, 64, 3984),
-    (5, 66, 0xffff),
-    (5, 68, 0xffff),
-    (5, 70, 4000),
-];
+const NODE: &str = "\
+2 8 3ebe
+2 56 0002 0001
+2 64 00000062 00800001 0000172e 00800002
+3 0 00800002 00000000 3dff
+3 56 0003 0001
+3 64 0000002e 00000008 00000061 0000000c 00000062 00000000
+4 0 00000000 00800001 3dff
+4 56 0003 0000
+4 64 00000062 00000608 00000063 0000060a 0000172e 0000000a
+5 52 00000004 00000002
+5 64 0f90 ffff ffff 0fa0
+";
 
-/// A leaf as the root, and the free block.
-const FREE: Changes = &[
-    (2, 8, 0x3dff),
-    (3, 54, 4),
-    (3, 58, 2),
-    (3, 64, 3984),
-    (3, 66, 0xffff),
-    (3, 68, 0xffff),
-    (3, 70, 4000),
-];
+/// What makes a leaf the root of a node form, and its free block.
+const ROOT: &str = "\
+2 8 3dff
+3 52 00000004 00000002
+3 64 0f90 ffff ffff 0fa0
+";
 
-/// The tail and the index of the single-block form: three pairs and a stale one.
-const SINGLE: Changes = &[
-    (0, 4058, 0x2e),
-    (0, 4062, 8),
-    (0, 4066, 0x61),
-    (0, 4070, 12),
-    (0, 4074, 0x61),
-    (0, 4082, 0x172e),
-    (0, 4086, 10),
-    (0, 4090, 4),
-    (0, 4094, 1),
-];
+/// The single-block form with `.`, `..` and `a`, its index of three pairs and a stale one, and its tail.
+const SINGLE: &str = "\
+0 0 58444233
+0 48 0070 0f68
+0 64 0000000000000064 01 2e 02 000000 0040
+0 80 0000000000000080 02 2e2e 02 0000 0050
+0 96 0000000000000083 01 61 01 000000 0060
+0 112 ffff 0f68
+0 4054 0070
+0 4056 0000002e 00000008 00000061 0000000c 00000061 00000000 0000172e 0000000a
+0 4088 00000004 00000001
+";
 
-/// An entry of a file.
-fn entry(alloc: Global, name: u8) -> Result<EntryRec, AllocError>
-    ensures name { IfOk result (λ entry. length entry.name ≡ 1) }
-    ensures ino { IfOk result (λ entry. entry.ino ≡ 131) }
+/// The form, the check that is made, what it answers, the case, and what is changed: bytes of mapped blocks, and where
+/// they stand the size and the file blocks.
+const CASES: &str = "\
+leaf leaf | Ok(()) | the leaf form |
+leaf leaf | Err(Unsound) | an address | 2 78 000d
+leaf leaf | Err(Unsound) | its hash | 2 74 0060
+leaf leaf | Err(Unsound) | a stale pair with an address | 2 86 000c
+leaf leaf | Err(Unsound) | the number of pairs | 2 56 0005
+leaf leaf | Err(Unsound) | the number of stale pairs | 2 58 0002
+leaf leaf | Err(Unsound) | hashes that descend | 2 74 0062; 2 82 0061
+leaf leaf | Err(Unsound) | a pair that stands twice | 2 86 000c; 2 58 0000; 2 82 0061
+leaf leaf | Err(Unsound) | the value of data block 0 | 2 4084 0f88
+leaf leaf | Err(Unsound) | the value of data block 3 | 2 4090 0f98
+leaf leaf | Err(Unsound) | the value of a block that is not mapped | 2 4086 0000
+leaf leaf | Err(Unsound) | one value less | 2 4094 0003
+leaf leaf | Ok(()) | one value more | 2 4082 0f90; 2 4084 ffff; 2 4088 0fa0; 2 4090 ffff; 2 4094 0005
+leaf leaf | Err(Unsound) | another index block | 2 8 3dff
+leaf leaf | Err(Unsound) | another data block | 1 2 4233
+leaf leaf | Err(Unsound) | another directory | 0 70 0065
+leaf leaf | Err(Unsound) | another name of the parent | 0 90 2f02
+leaf single | Err(Unsound) | the leaf form as a single block |
+leaf leaf | Ok(()) | the size and the file blocks | | 16384 | 0 3 0x800000
+leaf leaf | Err(Unsound) | a size inside a block | | 16383 | 0 3 0x800000
+leaf leaf | Err(Unsound) | a size without the last data block | | 12288 | 0 3 0x800000
+leaf leaf | Err(Unsound) | an index block behind its place | | 16384 | 0 3 0x800001
+leaf leaf | Err(Unsound) | values of another data block | | 12288 | 0 2 0x800000
+node node | Ok(()) | the node form |
+node node | Err(Unsound) | an address | 4 70 0609
+node node | Err(Unsound) | a stale pair with an address | 3 86 000c
+node node | Err(Unsound) | the number of stale pairs | 4 58 0001
+node node | Err(Unsound) | the number of pairs | 4 56 0002; 2 74 0063
+node node | Err(Unsound) | hashes that descend from leaf to leaf | 3 82 0065; 2 66 0065
+node node | Ok(()) | another hash of a stale pair | 3 82 0061; 2 66 0061
+node node | Err(Unsound) | a leaf as the node | 2 8 3dff
+node node | Err(Unsound) | a node as a leaf | 3 8 3ebe
+node node | Err(Unsound) | the leaf of the leaf form as a leaf | 3 8 3df1
+node node | Err(Unsound) | a node of level 2 | 2 58 0002
+node node | Err(Unsound) | a node of level 0 | 2 58 0000
+node node | Err(Unsound) | the first hash of the node | 2 66 0063
+node node | Err(Unsound) | the last hash of the node | 2 74 172d
+node node | Err(Unsound) | a child that is not there | 2 78 0003
+node node | Err(Unsound) | a child twice | 2 78 0001; 2 74 0062
+node node | Err(Unsound) | the right neighbour of the first leaf | 3 2 0003
+node node | Err(Unsound) | the left neighbour of the last leaf | 4 6 0002
+node node | Err(Unsound) | a right neighbour of the last leaf | 4 0 0001
+node node | Err(Unsound) | a left neighbour of the node | 2 6 0001
+node node | Err(Unsound) | a value | 5 70 0fa8
+node node | Err(Unsound) | one value less | 5 54 0003; 5 58 0001
+node node | Err(Unsound) | the number of values in use | 5 58 0003
+node node | Err(Unsound) | the first data block of the values | 5 50 0001
+node node | Ok(()) | one value more | 5 54 0005; 5 72 ffff
+node leaf | Err(Unsound) | the node form as a leaf form |
+root node | Ok(()) | a leaf as the root |
+root node | Err(Unsound) | an address under a leaf as the root | 2 78 000d
+root node | Err(Unsound) | a left neighbour of the root | 2 6 0001
+root node | Err(Unsound) | a block behind the root that is not in the tree | | | 0 3 0x800000 0x800001
+root node | Err(Unsound) | a block in front of the root that is not in the tree | | | 0 3 0x7fffff 0x800000
+root node | Err(Unsound) | a free block of other data blocks | | | 0 3 0x800000 0x1000001
+root node | Err(Unsound) | a free block of other data blocks that says so | 3 50 07e0 | | 0 3 0x800000 0x1000001
+single single | Ok(()) | the single-block form |
+single single | Err(Unsound) | an address | 0 4070 000d
+single single | Err(Unsound) | a stale pair with an address | 0 4078 000c
+single single | Err(Unsound) | the number of stale pairs | 0 4094 0000
+single single | Err(Unsound) | another address of the last pair | 0 4086 000c
+single single | Err(Unsound) | the number of pairs | 0 4090 0003
+single single | Err(Unsound) | far more pairs | 0 4088 0001
+single single | Err(Unsound) | a data block of another form | 0 2 4433
+single single | Err(Unsound) | another inode of the directory | 0 64 0001
+single single | Err(Unsound) | a size of two blocks | | 8192 |
+single single | Err(Unsound) | file block 1 | | | 1
+";
+
+/// Fails where file blocks do not ascend from a least one on.
+pub fn assert_ascending(rt: &impl Abort, least: u64, offsets: &[u64])
+    ensures { Ascend least offsets.now }
 {
-    Ok(EntryRec {
-        dir: 100,
-        name: Word::from_vec(Vec::from_slice(alloc, &[name])?),
-        ino: 131,
-        ftype: 1,
-    })
-}
-
-/// Puts numbers into blocks.
-fn change(rt: &impl Abort, blocks: &mut BlockBank, changes: &[(usize, usize, u16)]) {
-    for (block, at, number) in changes {
-        assert!(rt; *block < blocks.len());
-        assert!(rt; *at <= 4094);
-        put16(blocks.view_mut(*block), *at, *number);
+    if let Some((first, rest)) = offsets.split_first() {
+        assert!(rt; least <= *first && *first < 0x1_0000_0000, "{offsets:?}");
+        assert_ascending(rt, *first + 1, rest);
     }
 }
 
-/// Directory 100 with data blocks 0 and 3 and further blocks, in which these numbers stand.
-fn dir_of(
-    rt: &impl Abort,
-    alloc: Global,
-    offsets: &[u64],
-    form: Changes,
-    changes: &[(usize, usize, u16)],
+/// Puts bytes into blocks: in each line, or behind each semicolon, stand a block, a byte offset and the bytes.
+fn put_blocks(
+    rt: &(impl Abort + AllocGlobal),
+    blocks: &mut BlockBank,
+    text: &str,
+) -> Result<(), AllocError> {
+    for line in text.lines() {
+        for part in line.split(';') {
+            let mut row = Row::new(part);
+            let (block, at) = (row.number(rt), row.number(rt));
+            assert!(rt; block < blocks.len(), "{part}");
+            row.put(rt, blocks.view_mut(block), at)?;
+        }
+    }
+    Ok(())
+}
+
+/// What stands in a row, or what else is so.
+fn or<'a>(text: &'a str, other: &'a str) -> &'a str {
+    if text.is_empty() { other } else { text }
+}
+
+/// Directory 100 in a form, with what a row changes.
+fn seen(
+    rt: &(impl Abort + AllocGlobal),
+    form: &str,
+    changes: &str,
+    size: &str,
+    offsets: &str,
 ) -> Result<DirSeen, Fail>
-    requires some { 2 ≤ length offsets.now }
-    requires ascending { Ascend 0 offsets.now }
     ensures mapped { IfOk result (λ dir. length dir.blocks ≡ length dir.offsets.items) }
-    ensures count { IfOk result (λ dir. length dir.blocks ≡ length offsets.now) }
     ensures ascending { IfOk result (λ dir. Ascend 0 dir.offsets.items) }
 {
-    let mut blocks = BlockBank::make(alloc, offsets.len())?;
-    put_data(&[entry(alloc, b'a')?], Some((100, 128)), blocks.view_mut(0));
-    put_data(
-        &[entry(alloc, b'b')?, entry(alloc, b'c')?],
-        None,
-        blocks.view_mut(1),
-    );
-    put32(blocks.view_mut(0), 0, 0x5844_4433);
-    put32(blocks.view_mut(1), 0, 0x5844_4433);
-    change(rt, &mut blocks, form);
-    change(rt, &mut blocks, changes);
+    let (parts, due_size, due_offsets) = match form {
+        "single" => ([SINGLE, "", ""], "4096", "0"),
+        "leaf" => ([DATA, LEAF, ""], "16384", "0 3 0x800000"),
+        "root" => ([DATA, LEAF, ROOT], "16384", "0 3 0x800000 0x1000000"),
+        _ => (
+            [DATA, NODE, ""],
+            "16384",
+            "0 3 0x800000 0x800001 0x800002 0x1000000",
+        ),
+    };
+    let offsets = Row::new(or(offsets, due_offsets)).numbers(rt, rt.alloc())?;
+    let mut blocks = BlockBank::make(rt.alloc(), offsets.len())?;
+    for part in parts {
+        put_blocks(rt, &mut blocks, part)?;
+    }
+    put_blocks(rt, &mut blocks, changes)?;
+    assert_ascending(rt, 0, offsets.as_slice());
     assert!(rt; blocks.len() == offsets.len());
     Ok(DirSeen {
         dir: 100,
-        size: 16384,
-        offsets: Vec::from_slice(alloc, offsets)?,
+        size: Row::new(or(size, due_size)).number(rt),
+        offsets,
         blocks,
     })
 }
 
-/// Directory 100 in leaf form.
-fn leaf(rt: &impl Abort, alloc: Global, changes: &[(usize, usize, u16)]) -> Result<DirSeen, Fail>
-    ensures mapped { IfOk result (λ dir. length dir.blocks ≡ length dir.offsets.items) }
-    ensures three { IfOk result (λ dir. length dir.blocks ≡ 3) }
-    ensures ascending { IfOk result (λ dir. Ascend 0 dir.offsets.items) }
+/// What the check of a form says.
+pub fn check(alloc: Global, form: &str, dir: &DirSeen) -> Result<(), IndexFault>
+    requires mapped { length dir.now.blocks ≡ length dir.now.offsets.items }
+    requires ascending { Ascend 0 dir.now.offsets.items }
 {
-    dir_of(rt, alloc, &[0, 3, 0x80_0000], LEAF, changes)
-}
-
-/// Directory 100 in node form: a node, two leaves and the free block.
-fn node(rt: &impl Abort, alloc: Global, changes: &[(usize, usize, u16)]) -> Result<DirSeen, Fail>
-    ensures mapped { IfOk result (λ dir. length dir.blocks ≡ length dir.offsets.items) }
-    ensures ascending { IfOk result (λ dir. Ascend 0 dir.offsets.items) }
-{
-    let offsets = [0, 3, 0x80_0000, 0x80_0001, 0x80_0002, 0x100_0000];
-    dir_of(rt, alloc, &offsets, NODE, changes)
-}
-
-/// Directory 100 in node form: a leaf as the root, and the free block.
-fn leaf_root(
-    rt: &impl Abort,
-    alloc: Global,
-    changes: &[(usize, usize, u16)],
-) -> Result<DirSeen, Fail>
-    ensures mapped { IfOk result (λ dir. length dir.blocks ≡ length dir.offsets.items) }
-    ensures four { IfOk result (λ dir. length dir.blocks ≡ 4) }
-    ensures ascending { IfOk result (λ dir. Ascend 0 dir.offsets.items) }
-{
-    let mut dir = dir_of(rt, alloc, &[0, 3, 0x80_0000, 0x100_0000], LEAF, FREE)?;
-    change(rt, &mut dir.blocks, changes);
-    assert!(rt; dir.blocks.len() == 4);
-    Ok(dir)
-}
-
-/// Directory 100 in single-block form.
-fn single(rt: &impl Abort, alloc: Global, changes: &[(usize, usize, u16)]) -> Result<DirSeen, Fail>
-    ensures one { IfOk result (λ dir. length dir.blocks ≡ 1) }
-    ensures mapped { IfOk result (λ dir. length dir.blocks ≡ length dir.offsets.items) }
-{
-    let mut block = [0; 4096];
-    put_data(&[entry(alloc, b'a')?], Some((100, 128)), &mut block[..4056]);
-    put32(&mut block, 0, 0x5844_4233);
-    let mut blocks = BlockBank::make(alloc, 1)?;
-    blocks.view_mut(0).copy_from_slice(&block);
-    change(rt, &mut blocks, SINGLE);
-    change(rt, &mut blocks, changes);
-    assert!(rt; blocks.len() == 1);
-    Ok(DirSeen {
-        dir: 100,
-        size: 4096,
-        offsets: Vec::from_slice(alloc, &[0])?,
-        blocks,
-    })
+    match form {
+        "single" => check_block(alloc, dir),
+        "leaf" => check_leaf(alloc, dir),
+        _ => check_node(alloc, dir),
+    }
 }
 
 #[test]
-fn leaf_form(rt: HostRuntime) -> Result<(), Fail> {
-    let table: [(Changes, bool); 17] = [
-        (&[], true),
-        // an address, its hash, a stale pair with an address, the numbers of pairs and stale ones
-        (&[(2, 78, 13)], false),
-        (&[(2, 74, 0x60)], false),
-        (&[(2, 86, 12)], false),
-        (&[(2, 56, 5)], false),
-        (&[(2, 58, 2)], false),
-        // hashes that descend, a pair that stands twice
-        (&[(2, 74, 0x62), (2, 82, 0x61)], false),
-        (&[(2, 86, 12), (2, 58, 0), (2, 82, 0x61)], false),
-        // the values of each data block and of one that is not mapped, and how many they are
-        (&[(2, 4084, 3976)], false),
-        (&[(2, 4090, 3992)], false),
-        (&[(2, 4086, 0)], false),
-        (&[(2, 4094, 3)], false),
-        (
-            &[
-                (2, 4082, 3984),
-                (2, 4084, 0xffff),
-                (2, 4088, 4000),
-                (2, 4090, 0xffff),
-                (2, 4094, 5),
-            ],
-            true,
-        ),
-        // what the blocks are, the directory, the parent's name
-        (&[(2, 8, 0x3dff)], false),
-        (&[(1, 2, 0x4233)], false),
-        (&[(0, 70, 101)], false),
-        (&[(0, 90, 0x2f02)], false),
-    ];
-    for (number, (changes, sound)) in table.iter().enumerate() {
-        let dir = leaf(&rt, rt.alloc(), changes)?;
-        same!(rt; check_leaf(rt.alloc(), &dir).is_ok(), *sound; number);
+fn forms_of_directories(rt: HostRuntime) -> Result<(), Fail> {
+    for line in CASES.lines() {
+        let mut row = Row::new(line);
+        let (form, by) = (row.word(), row.word());
+        let (answer, case) = (row.text(), row.text());
+        let (changes, size, offsets) = (row.text(), row.text(), row.text());
+        let dir = seen(&rt, form, changes, size, offsets)?;
+        tells(&rt, &check(rt.alloc(), by, &dir), answer, case);
     }
-    let dir = leaf(&rt, rt.alloc(), &[])?;
-    same!(rt; check_block(rt.alloc(), &dir), Err(IndexFault::Unsound));
-    for (size, offsets, sound) in [
-        (16384, [0, 3, 0x80_0000], true),
-        (16383, [0, 3, 0x80_0000], false),
-        (12288, [0, 3, 0x80_0000], false),
-        (16384, [0, 3, 0x80_0001], false),
-        (12288, [0, 2, 0x80_0000], false),
-    ] {
-        let mut dir = leaf(&rt, rt.alloc(), &[])?;
-        assert!(rt; offsets[0] < offsets[1] && offsets[1] < offsets[2]);
-        dir.size = size;
-        dir.offsets = Vec::from_slice(rt.alloc(), &offsets)?;
-        same!(rt; check_leaf(rt.alloc(), &dir).is_ok(), sound; size);
-    }
-    Ok(())
-}
-
-#[test]
-fn node_form(rt: HostRuntime) -> Result<(), Fail> {
-    let table: [(Changes, bool); 25] = [
-        (&[], true),
-        // an address, a stale pair with one, how many are stale and how many there are
-        (&[(4, 70, 1545)], false),
-        (&[(3, 86, 12)], false),
-        (&[(4, 58, 1)], false),
-        (&[(4, 56, 2), (2, 74, 0x63)], false),
-        // hashes that descend from leaf to leaf
-        (&[(3, 82, 0x65), (2, 66, 0x65)], false),
-        (&[(3, 82, 0x61), (2, 66, 0x61)], true),
-        // what the blocks are
-        (&[(2, 8, 0x3dff)], false),
-        (&[(3, 8, 0x3ebe)], false),
-        (&[(3, 8, 0x3df1)], false),
-        (&[(2, 58, 2)], false),
-        (&[(2, 58, 0)], false),
-        // the hashes that the node gives, its children and their neighbours
-        (&[(2, 66, 0x63)], false),
-        (&[(2, 74, 0x172d)], false),
-        (&[(2, 78, 3)], false),
-        (&[(2, 78, 1), (2, 74, 0x62)], false),
-        (&[(3, 2, 3)], false),
-        (&[(4, 6, 2)], false),
-        (&[(4, 0, 1)], false),
-        (&[(2, 6, 1)], false),
-        // the values, how many they are and from which block on
-        (&[(5, 70, 4008)], false),
-        (&[(5, 54, 3), (5, 58, 1)], false),
-        (&[(5, 58, 3)], false),
-        (&[(5, 50, 1)], false),
-        (&[(5, 54, 5), (5, 72, 0xffff)], true),
-    ];
-    for (number, (changes, sound)) in table.iter().enumerate() {
-        let dir = node(&rt, rt.alloc(), changes)?;
-        same!(rt; check_node(rt.alloc(), &dir).is_ok(), *sound; number);
-    }
-    let dir = node(&rt, rt.alloc(), &[])?;
-    same!(rt; check_leaf(rt.alloc(), &dir), Err(IndexFault::Unsound));
-    Ok(())
-}
-
-#[test]
-fn node_form_of_one_leaf(rt: HostRuntime) -> Result<(), Fail> {
-    for (changes, offsets, sound) in [
-        (&[] as Changes, [0, 3, 0x80_0000, 0x100_0000], true),
-        (&[(2, 78, 13)], [0, 3, 0x80_0000, 0x100_0000], false),
-        (&[(2, 6, 1)], [0, 3, 0x80_0000, 0x100_0000], false),
-        // a block that is not in the tree, in front of the root or behind it
-        (&[], [0, 3, 0x80_0000, 0x80_0001], false),
-        (&[], [0, 3, 0x7f_ffff, 0x80_0000], false),
-        // free blocks of other data blocks
-        (&[], [0, 3, 0x80_0000, 0x100_0001], false),
-        (&[(3, 50, 2016)], [0, 3, 0x80_0000, 0x100_0001], false),
-    ] {
-        let mut dir = leaf_root(&rt, rt.alloc(), changes)?;
-        assert!(rt; offsets[0] < offsets[1] && offsets[1] < offsets[2] && offsets[2] < offsets[3]);
-        dir.offsets = Vec::from_slice(rt.alloc(), &offsets)?;
-        same!(rt; check_node(rt.alloc(), &dir).is_ok(), sound; offsets);
-    }
-    Ok(())
-}
-
-#[test]
-fn single_block_form(rt: HostRuntime) -> Result<(), Fail> {
-    let table: [(Changes, bool); 9] = [
-        (&[], true),
-        (&[(0, 4070, 13)], false),
-        (&[(0, 4078, 12)], false),
-        (&[(0, 4094, 0)], false),
-        (&[(0, 4086, 12)], false),
-        (&[(0, 4090, 3)], false),
-        (&[(0, 4088, 1)], false),
-        (&[(0, 2, 0x4433)], false),
-        (&[(0, 64, 1)], false),
-    ];
-    for (number, (changes, sound)) in table.iter().enumerate() {
-        let dir = single(&rt, rt.alloc(), changes)?;
-        same!(rt; check_block(rt.alloc(), &dir).is_ok(), *sound; number);
-    }
-    let mut dir = single(&rt, rt.alloc(), &[])?;
-    dir.size = 8192;
-    same!(rt; check_block(rt.alloc(), &dir), Err(IndexFault::Unsound));
-    dir.size = 4096;
-    dir.offsets = Vec::from_slice(rt.alloc(), &[1])?;
-    same!(rt; check_block(rt.alloc(), &dir), Err(IndexFault::Unsound));
     Ok(())
 }

@@ -11,3 +11,5 @@ mod dirindex;
 mod inode;
 #[cfg(test)]
 mod shell;
+#[cfg(test)]
+mod text;

@@ -1,0 +1,200 @@
+//! Tables of tests, each as one text, which costs the prover almost nothing where each numeral costs it dear.
+//!
+//! A table is a constant with one case a line, read by a loop over its lines:
+//!
+//! ```text
+//! const RUNS: &str = "\
+//! it begins at the block | 40 10 | true | Some(Run { start: 40, count: 10 })
+//! it is empty | 0x28 0 | false | None
+//! ";
+//!
+//! for line in RUNS.lines() {
+//!     let mut row = Row::new(line);
+//!     let (case, start, count) = (row.text(), row.number(&rt), row.number(&rt));
+//!     let met = row.flag(&rt);
+//!     same!(rt; set.meets(start, count), met; case);
+//!     tells(&rt, &set.first(start), row.text(), case);
+//! }
+//! ```
+//!
+//! The fields stand from left to right, each as the call that reads it says: texts between bars, and words between
+//! blanks, behind which one bar may stand.
+
+ghost use Rattle.std.specs.Prelude.{◌≡◌, ◌<◌, length};
+
+use crate::checks::compare_at;
+use std::alloc::{AllocError, Global};
+use std::fmt::Debug;
+use std::process::Abort;
+
+/// The fields of a line that are not read yet.
+#[derive(Clone, Copy, Debug)]
+pub struct Row<'a> {
+    line: &'a str,
+    rest: &'a str,
+}
+
+impl<'a> Row<'a> {
+    /// All fields of a line.
+    pub fn new(line: &'a str) -> Row<'a> {
+        Row { line, rest: line }
+    }
+
+    /// The text up to the next bar or the end, without the blanks round it. It may be empty.
+    pub fn text(&mut self) -> &'a str {
+        let (text, rest) = self.rest.split_once('|').unwrap_or((self.rest, ""));
+        self.rest = rest;
+        text.trim()
+    }
+
+    /// The next word; a bar behind it is passed over.
+    pub fn word(&mut self) -> &'a str {
+        let words = self.rest.trim_start();
+        let (word, rest) = words.split_once(' ').unwrap_or((words, ""));
+        let rest = rest.trim_start();
+        self.rest = rest.strip_prefix('|').unwrap_or(rest);
+        word
+    }
+
+    /// The next word as a number of any integer type: decimal, or hexadecimal behind `0x`.
+    pub fn number<T: TryFrom<u64>>(&mut self, rt: &impl Abort) -> T
+    where
+        T::Error: Drop,
+    {
+        let word = self.word();
+        match number_of(word) {
+            Some(number) => number,
+            None => panic!(rt; "no number: {word:?} in {:?}", self.line),
+        }
+    }
+
+    /// The next word as a number, or nothing where it is `-`.
+    pub fn optional<T: TryFrom<u64>>(&mut self, rt: &impl Abort) -> Option<T>
+    where
+        T::Error: Drop,
+    {
+        let mut ahead = *self;
+        if ahead.word() == "-" {
+            *self = ahead;
+            return None;
+        }
+        Some(self.number(rt))
+    }
+
+    /// The next word as `true` or `false`.
+    pub fn flag(&mut self, rt: &impl Abort) -> bool {
+        match self.word() {
+            "true" => true,
+            "false" => false,
+            word => panic!(rt; "no flag: {word:?} in {:?}", self.line),
+        }
+    }
+
+    /// The words up to the next bar or the end as numbers.
+    pub fn numbers<T: TryFrom<u64> + Drop>(
+        &mut self,
+        rt: &impl Abort,
+        alloc: Global,
+    ) -> Result<Vec<T>, AllocError>
+    where
+        T::Error: Drop,
+    {
+        let mut numbers = Vec::new(alloc);
+        for word in self.text().split_whitespace() {
+            match number_of(word) {
+                Some(number) => numbers.push(number)?,
+                None => panic!(rt; "no number: {word:?} in {:?}", self.line),
+            }
+        }
+        Ok(numbers)
+    }
+
+    /// The text up to the next bar or the end as bytes, two hexadecimal digits each, with blanks anywhere.
+    pub fn bytes(&mut self, rt: &impl Abort, alloc: Global) -> Result<Vec<u8>, AllocError> {
+        let mut bytes = Vec::new(alloc);
+        let mut high = None;
+        for byte in self.text().as_bytes() {
+            if *byte != b' ' {
+                let low = digit(rt, *byte);
+                match high.take() {
+                    None => high = Some(low),
+                    Some(high) => bytes.push(high << 4 | low)?,
+                }
+            }
+        }
+        assert!(rt; high.is_none(), "half a byte in {:?}", self.line);
+        Ok(bytes)
+    }
+
+    /// Writes the same bytes over those of an object, from a byte offset on.
+    pub fn put(
+        &mut self,
+        rt: &(impl Abort + AllocGlobal),
+        object: &mut [u8],
+        at: usize,
+    ) -> Result<(), AllocError>
+        ensures { length object.new ≡ length object.old }
+    {
+        let bytes = self.bytes(rt, rt.alloc())?;
+        let room = object
+            .get_mut(at..)
+            .and_then(|rest| rest.get_mut(..bytes.len()));
+        match room {
+            Some(room) => room.copy_from_slice(bytes.as_slice()),
+            None => panic!(rt; "past the object: {:?}", self.line),
+        }
+        Ok(())
+    }
+
+    /// Whether no field is left.
+    pub fn is_read(&self) -> bool {
+        self.rest.trim().is_empty()
+    }
+}
+
+/// A word as a number.
+fn number_of<T: TryFrom<u64>>(word: &str) -> Option<T>
+where
+    T::Error: Drop,
+{
+    let number = match word.strip_prefix("0x") {
+        Some(digits) => u64::from_str_radix(digits, 16),
+        None => word.parse::<u64>(),
+    };
+    T::try_from(number.ok()?).ok()
+}
+
+/// The value of a hexadecimal digit.
+fn digit(rt: &impl Abort, byte: u8) -> u8
+    ensures { result < 16 }
+{
+    match byte {
+        b'0'..=b'9' => byte - b'0',
+        b'a'..=b'f' => byte - b'a' + 10,
+        _ => panic!(rt; "no hexadecimal digit: {byte}"),
+    }
+}
+
+/// Writes the parts of an object over its bytes. In each line stand a byte offset and the bytes from there on.
+pub fn put_parts(
+    rt: &(impl Abort + AllocGlobal),
+    object: &mut [u8],
+    parts: &str,
+) -> Result<(), AllocError>
+    ensures { length object.new ≡ length object.old }
+{
+    for line in parts.lines() {
+        let mut row = Row::new(line);
+        let at = row.number(rt);
+        row.put(rt, object, at)?;
+    }
+    Ok(())
+}
+
+/// Fails where a value is not told by this text, as `{:?}` writes it.
+pub fn tells<T: Debug>(rt: &(impl Abort + AllocGlobal), held: &T, due: &str, place: &str) {
+    match format!(in rt.alloc(); "{held:?}") {
+        Ok(text) => compare_at(rt, &text.as_str(), &due, &place),
+        Err(_) => panic!(rt; "no memory at {place}"),
+    }
+}
