@@ -10,7 +10,8 @@ mod files;
 mod real;
 
 use crate::checks::same;
-use std::alloc::Global;
+use crate::text::{Row, tells};
+use std::alloc::{AllocError, Global};
 use std::process::Abort;
 use std::sync::ledger::{Blank, Ledger};
 use std::test::Fail;
@@ -20,9 +21,6 @@ use xfs_inode::*;
 use xfs_runs::Steps;
 use xfs_volume::Core;
 use xfs_word::{Seal, SealKind, get8, put_part, seal, sealed, stored_checksum};
-
-/// What of a slot is of interest: at a byte offset, some bytes.
-type Parts = &'static [(usize, &'static [u8])];
 
 /// The identifier of the volume.
 const IDENTIFIER: [u8; 16] = [
@@ -63,8 +61,14 @@ const FRESH: Core = Core {
     uuid: IDENTIFIER,
 };
 
-/// The extent of block 24 at file block 0.
-const EXTENT: [u8; 16] = [0, 0, 0, 0, 0, 0, 0, 0, 0, 0, 0, 0, 3, 0, 0, 1];
+/// The slot of a fresh file of one block, inode 131, as the core above and the extent of block 24 at file block 0 make it,
+/// but for its checksum: byte offsets and the bytes from there on.
+const SLOT: &str = "\
+0 494e 81a4 03 02; 8 00000001 00000002 00000003;
+32 0000001000000005 0000001000000005 0000001000000005;
+56 0000000000001000 0000000000000001; 76 00000001 0000 00 02;
+92 00000007 ffffffff; 144 0000001000000005 0000000000000083;
+160 00112233445566778899aabbccddeeff; 188 03000001";
 
 /// The geometry of a volume with this identifier.
 fn volume(uuid: [u8; 16]) -> Geometry
@@ -84,21 +88,30 @@ fn volume(uuid: [u8; 16]) -> Geometry
     }
 }
 
-/// Writes these parts into a slot.
-fn plant(rt: &impl Abort, slot: &mut [u8; 512], parts: Parts) {
-    for (at, bytes) in parts {
-        assert!(rt; *at <= 512 && bytes.len() <= 512 - *at);
-        put_part(slot, *at, bytes);
+/// The geometry of the volume.
+fn geometry() -> Geometry {
+    volume(IDENTIFIER)
+}
+
+/// Puts bytes into an object: between semicolons stand a byte offset and the bytes from there on.
+fn plant(rt: &(impl Abort + AllocGlobal), object: &mut [u8], parts: &str) -> Result<(), AllocError>
+    ensures { length object.new ≡ length object.old }
+{
+    for part in parts.split_terminator(';') {
+        let mut row = Row::new(part);
+        let at = row.number(rt);
+        row.put(rt, object, at)?;
     }
+    Ok(())
 }
 
 /// The slot of the fresh file with these parts written into it, sealed as inode 131.
-fn file_with(rt: &impl Abort, parts: Parts) -> [u8; 512] {
-    let mut slot = [0xff; 512];
-    fresh_slot(&volume(IDENTIFIER), &FRESH, &EXTENT, &mut slot);
-    plant(rt, &mut slot, parts);
+fn file_with(rt: &(impl Abort + AllocGlobal), parts: &str) -> Result<[u8; 512], AllocError> {
+    let mut slot = [0; 512];
+    plant(rt, &mut slot, SLOT)?;
+    plant(rt, &mut slot, parts)?;
     seal_file(&mut slot);
-    slot
+    Ok(slot)
 }
 
 /// The seal of an inode's slot.
@@ -115,7 +128,7 @@ fn slot_seal(g: &Geometry, ino: u64) -> Seal
 
 /// Writes the checksum of a slot.
 fn seal_file(slot: &mut [u8; 512]) {
-    seal(&slot_seal(&volume(IDENTIFIER), 131), slot);
+    seal(&slot_seal(&geometry(), 131), slot);
 }
 
 /// What the slot of an inode reads as, with the steps counted.
@@ -136,92 +149,60 @@ fn read_counted<D: Disk, L: Ledger>(
     read_file(alloc, &volume(uuid), disk, ino, slot, &mut steps)
 }
 
-/// What is not supported in a slot in use.
-fn refused(rt: &impl Abort, read: SlotRead) -> Option<u8> {
+/// How a slot reads that is not in use.
+fn refused(read: SlotRead) -> Option<SlotRead> {
     match read {
         SlotRead::InUse(_) => None,
-        SlotRead::Unsupported { what } => Some(what),
-        SlotRead::Free | SlotRead::Unsound => panic!(rt; "the slot is not in use"),
+        other => Some(other),
     }
 }
 
-#[test]
-fn features(rt: HostRuntime) -> Result<(), Fail> {
-    let g = volume(IDENTIFIER);
-    let rows: [(&str, Parts, Option<u8>); 16] = [
-        ("none", &[], None),
-        ("real-time", &[(90, &[0, 1])], Some(3)),
-        ("other flags", &[(90, &[0xff, 0xfe])], None),
-        ("shared blocks", &[(127, &[2])], Some(4)),
-        ("long times", &[(127, &[8])], Some(5)),
-        ("long counts", &[(127, &[0x10])], Some(6)),
-        (
-            "other new flags",
-            &[(120, &[0xff, 0xff, 0xff, 0xff, 0xff, 0xff, 0xff, 0xe5])],
-            None,
-        ),
-        (
-            "all but the first",
-            &[(82, &[24, 3]), (127, &[0x1a])],
-            Some(4),
-        ),
-        (
-            "counts and attributes",
-            &[(82, &[24, 3]), (127, &[0x10])],
-            Some(6),
-        ),
-        ("a tree", &[(82, &[24, 3])], Some(2)),
-        ("no fork", &[(80, &[0, 2, 0, 3])], None),
-        ("two extents", &[(80, &[0, 2, 24, 2])], Some(2)),
-        ("two extents, short", &[(80, &[0, 2, 24, 1])], None),
-        (
-            "one block",
-            &[(80, &[0, 1, 24, 2]), (381, &[0xe0, 0, 1])],
-            None,
-        ),
-        (
-            "two blocks",
-            &[(80, &[0, 1, 40, 2]), (509, &[0xe0, 0, 2])],
-            Some(2),
-        ),
-        (
-            "an extent past the slot",
-            &[(80, &[0, 1, 41, 2]), (508, &[0, 0, 0, 2])],
-            None,
-        ),
-    ];
-    for (what, parts, due) in rows {
-        let slot = file_with(&rt, parts);
-        same!(rt; refused(&rt, read_slot(&g, 131, &slot)), due; what);
-    }
-    Ok(())
-}
+/// The inode that the slot is read as, the case, how it reads if not as in use, the bytes that differ from the fresh
+/// file's, and those that differ behind the seal.
+const SLOTS: &str = "\
+131 | none | None
+131 | real-time | Some(Unsupported { what: 3 }) | 90 0001
+131 | other flags | None | 90 fffe
+131 | shared blocks | Some(Unsupported { what: 4 }) | 127 02
+131 | long times | Some(Unsupported { what: 5 }) | 127 08
+131 | long counts | Some(Unsupported { what: 6 }) | 127 10
+131 | other new flags | None | 120 ffffffffffffffe5
+131 | all but the first | Some(Unsupported { what: 4 }) | 82 1803; 127 1a
+131 | counts and attributes | Some(Unsupported { what: 6 }) | 82 1803; 127 10
+131 | a tree | Some(Unsupported { what: 2 }) | 82 1803
+131 | no fork | None | 80 00020003
+131 | two extents | Some(Unsupported { what: 2 }) | 80 00021802
+131 | two extents, short | None | 80 00021801
+131 | one block | None | 80 00011802; 381 e00001
+131 | two blocks | Some(Unsupported { what: 2 }) | 80 00012802; 509 e00002
+131 | an extent past the slot | None | 80 00012902; 508 00000002
+131 | free | Some(Free) | 2 0000
+131 | free, with a flag | Some(Free) | 2 0000; 90 0001
+132 | another inode | Some(Unsound)
+131 | another magic number | Some(Unsound) | 0 494d
+131 | another version | Some(Unsound) | 4 02
+131 | a position of no log | Some(Unsound) | 112 7fffffff
+131 | another volume | Some(Unsound) | 160 01
+131 | another byte | Some(Unsound) | | 511 01
+";
 
 #[test]
-fn seals(rt: HostRuntime) -> Result<(), Fail> {
-    let g = volume(IDENTIFIER);
-    let rows: [(Parts, u64, SlotRead); 7] = [
-        (&[(2, &[0, 0])], 131, SlotRead::Free),
-        (&[(2, &[0, 0]), (90, &[0, 1])], 131, SlotRead::Free),
-        (&[], 132, SlotRead::Unsound),
-        (&[(0, &[0x49, 0x4d])], 131, SlotRead::Unsound),
-        (&[(4, &[2])], 131, SlotRead::Unsound),
-        (&[(112, &[0x7f, 0xff, 0xff, 0xff])], 131, SlotRead::Unsound),
-        (&[(160, &[1])], 131, SlotRead::Unsound),
-    ];
-    for (parts, ino, due) in rows {
-        let slot = file_with(&rt, parts);
-        same!(rt; read_slot(&g, ino, &slot), due);
+fn slots(rt: HostRuntime) -> Result<(), Fail> {
+    let g = geometry();
+    for line in SLOTS.lines() {
+        let mut row = Row::new(line);
+        let ino = row.number(&rt);
+        let (case, due) = (row.text(), row.text());
+        let mut slot = file_with(&rt, row.text())?;
+        plant(&rt, &mut slot, row.text())?;
+        tells(&rt, &refused(read_slot(&g, ino, &slot)), due, case);
     }
-    let mut slot = file_with(&rt, &[]);
-    slot[511] = 1;
-    same!(rt; read_slot(&g, 131, &slot), SlotRead::Unsound);
     Ok(())
 }
 
 #[test]
 fn blank_slots(rt: HostRuntime) -> Result<(), Fail> {
-    let g = volume(IDENTIFIER);
+    let g = geometry();
     let stamp = Stamp {
         seconds: 16,
         nanos: 5,
@@ -235,28 +216,41 @@ fn blank_slots(rt: HostRuntime) -> Result<(), Fail> {
     plant(
         &rt,
         &mut due,
-        &[
-            (0, b"IN"),
-            (4, &[3]),
-            (95, &[7, 0xff, 0xff, 0xff, 0xff]),
-            (159, &[131]),
-        ],
-    );
-    put_part(&mut due, 100, &slot[100..104]);
-    put_part(&mut due, 160, &IDENTIFIER);
+        "0 494e; 4 03; 95 07ffffffff; 159 83; 160 00112233445566778899aabbccddeeff",
+    )?;
+    seal_file(&mut due);
     same!(rt; slot, due);
+    due = file_with(&rt, "")?;
     slot = [0xff; 512];
-    fresh_slot(&g, &FRESH, &EXTENT, &mut slot);
+    fresh_slot(&g, &FRESH, &due[176..192], &mut slot);
     let crc = stored_checksum(&slot, 100);
     same!(rt; read_slot(&g, 131, &slot), SlotRead::InUse(Core { crc, ..FRESH }));
-    same!(rt; &slot[176..192], &EXTENT[..]);
-    assert!(rt; slot[192..].iter().all(|byte| *byte == 0));
+    same!(rt; slot, due);
     Ok(())
 }
 
+/// Tests that a slot is what is due, with zero from a byte on, these parts and its seal.
+fn is_due(
+    rt: &(impl Abort + AllocGlobal),
+    slot: &[u8; 512],
+    due: &mut [u8; 512],
+    end: usize,
+    parts: &str,
+) -> Result<(), AllocError> {
+    assert!(rt; end <= 512);
+    due[end..].fill(0);
+    plant(rt, due, parts)?;
+    seal_file(due);
+    same!(rt; *slot, *due; parts);
+    Ok(())
+}
+
+/// Where the attribute fork begins, in units of 8 bytes behind byte 176, and the byte behind the data fork.
+const FORKS: &str = "0 512; 6 224; 41 504";
+
 #[test]
 fn changed_slots(rt: HostRuntime) -> Result<(), Fail> {
-    let g = volume(IDENTIFIER);
+    let g = geometry();
     let wanted = ForkWanted {
         format: 1,
         size: 2,
@@ -264,57 +258,31 @@ fn changed_slots(rt: HostRuntime) -> Result<(), Fail> {
         nextents: 6,
         bytes: Word::from_vec(vec![in rt.alloc(); 0xab, 0xcd]?),
     };
-    let rows: [(Parts, usize); 3] = [
-        (&[(82, &[0])], 512),
-        (&[(82, &[6])], 224),
-        (&[(82, &[41])], 504),
-    ];
-    for (parts, end) in rows {
+    for fork in FORKS.split(';') {
+        let mut row = Row::new(fork);
         let mut slot = [0x5a; 512];
-        plant(
-            &rt,
-            &mut slot,
-            &[(0, b"IN"), (4, &[3]), (152, &[0, 0, 0, 0, 0, 0, 0, 131])],
-        );
-        put_part(&mut slot, 160, &IDENTIFIER);
-        plant(&rt, &mut slot, parts);
+        let parts = "0 494e; 4 03; 152 0000000000000083; 160 00112233445566778899aabbccddeeff";
+        plant(&rt, &mut slot, parts)?;
+        slot[82] = row.number(&rt);
         let mut due = slot;
         seal_file(&mut slot);
         assert!(rt; sealed(&slot_seal(&g, 131), &slot));
         set_links(&g, 131, 9, &mut slot);
-        plant(
-            &rt,
-            &mut due,
-            &[(16, &[0, 0, 0, 9]), (96, &[0xff, 0xff, 0xff, 0xff])],
-        );
-        seal_file(&mut due);
-        same!(rt; slot, due);
+        is_due(&rt, &slot, &mut due, 512, "16 00000009; 96 ffffffff")?;
         assert!(rt; get8(&slot, 82) <= 41);
         drop_attrs(&g, 131, 3, &mut slot);
-        plant(
+        let end = row.number(&rt);
+        is_due(
             &rt,
+            &slot,
             &mut due,
-            &[(64, &[0, 0, 0, 0, 0, 0, 0, 3]), (80, &[0, 0]), (83, &[2])],
-        );
-        due[end..].fill(0);
-        seal_file(&mut due);
-        same!(rt; slot, due);
+            end,
+            "64 0000000000000003; 80 0000; 83 02",
+        )?;
         assert!(rt; get8(&slot, 82) <= 41);
         set_fork(&g, 131, &wanted, &mut slot);
-        plant(
-            &rt,
-            &mut due,
-            &[
-                (5, &[1]),
-                (56, &[0, 0, 0, 0, 0, 0, 0, 2]),
-                (71, &[5]),
-                (76, &[0, 0, 0, 6]),
-            ],
-        );
-        due[176..].fill(0);
-        plant(&rt, &mut due, &[(176, &[0xab, 0xcd])]);
-        seal_file(&mut due);
-        same!(rt; slot, due);
+        let parts = "5 01; 56 0000000000000002; 71 05; 76 00000006; 176 abcd";
+        is_due(&rt, &slot, &mut due, 176, parts)?;
     }
     Ok(())
 }

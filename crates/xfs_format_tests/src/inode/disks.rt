@@ -5,7 +5,8 @@ ghost use Rattle.xfs_word.specs.Extent.{IsPackable};
 
 use super::*;
 use crate::checks::same;
-use std::alloc::Global;
+use crate::text::tells;
+use std::alloc::{AllocError, Global};
 use std::marker::Brand;
 use std::sync::ledger::Blank;
 use xfs_disk::{BLOCK_SIZE, Disk, MemoryDisk};
@@ -28,17 +29,21 @@ fn extent(i: u64) -> Extent
     }
 }
 
-/// A leaf of 150 extents, from the extent of a number on, with its siblings.
-fn leaf(rt: &impl Abort, place: u64, first: u64, left: u64, right: u64) -> [u8; BLOCK_SIZE] {
+/// A leaf of 150 extents, from the extent of a number on, with its siblings and its place.
+fn leaf(
+    rt: &(impl Abort + AllocGlobal),
+    place: u64,
+    parts: &str,
+    first: u64,
+) -> Result<[u8; BLOCK_SIZE], AllocError> {
     let mut block = [0; BLOCK_SIZE];
-    put_part(&mut block, 0, b"BMA3");
-    put_part(&mut block, 7, &[150]);
-    put_part(&mut block, 8, &left.to_be_bytes());
-    put_part(&mut block, 16, &right.to_be_bytes());
-    assert!(rt; place < 2048 && first <= 150);
-    put_part(&mut block, 24, &(8 * place).to_be_bytes());
-    put_part(&mut block, 40, &IDENTIFIER);
-    put_part(&mut block, 63, &[131]);
+    plant(
+        rt,
+        &mut block,
+        "0 424d4133; 6 0096; 40 00112233445566778899aabbccddeeff; 63 83",
+    )?;
+    plant(rt, &mut block, parts)?;
+    assert!(rt; first <= 150);
     for i in 0..150 {
         put_part(
             &mut block,
@@ -48,58 +53,44 @@ fn leaf(rt: &impl Abort, place: u64, first: u64, left: u64, right: u64) -> [u8; 
     }
     let wanted = Seal {
         kind: SealKind::LongTree,
-        place: 8 * place,
+        place,
         owner: Some(131),
         uuid: IDENTIFIER,
     };
     seal(&wanted, &mut block);
-    block
+    Ok(block)
 }
 
-/// The slot of the file, with the first key of its second leaf.
-fn slot_with(rt: &impl Abort, key: &'static [u8]) -> [u8; 512] {
-    let mut slot = file_with(
-        rt,
-        &[
-            (5, &[3]),
-            (60, &[0, 0x25, 0x60, 0x64]),
-            (70, &[1, 46]),
-            (78, &[1, 44]),
-            (176, &[0, 1, 0, 2]),
-            (188, &[0; 6]),
-            (340, &[0, 0, 0, 0, 0, 0, 1, 44, 0, 0, 0, 0, 0, 0, 1, 45]),
-        ],
-    );
-    assert!(rt; key.len() == 2);
-    put_part(&mut slot, 194, key);
+/// What in the slot of the file differs from the fresh file's, but for the first key of its second leaf.
+const SLOT: &str = "\
+5 03; 60 00256064; 70 012e; 78 012c;
+176 00010002; 188 000000000000;
+340 000000000000012c 000000000000012d";
+
+/// The slot of the file, with this key.
+fn slot_with(rt: &(impl Abort + AllocGlobal), key: &str) -> Result<[u8; 512], AllocError> {
+    let mut slot = file_with(rt, SLOT)?;
+    plant(rt, &mut slot, key)?;
     seal_file(&mut slot);
-    slot
+    Ok(slot)
 }
 
-/// What the slot reads as.
-fn read(
-    rt: &impl Abort,
-    alloc: Global,
+/// What the slot with a key reads as.
+fn reads(
+    rt: &(impl Abort + AllocGlobal),
     disk: &mut MemoryDisk,
-    key: &'static [u8],
-) -> Result<FileRead, InodeError> {
+    key: &str,
+) -> Result<Result<FileRead, InodeError>, AllocError> {
     assert!(rt; matches!(disk.blocks(), Ok(count) if 2048 <= count));
-    read_counted::<MemoryDisk, Brand>(
-        alloc,
-        IDENTIFIER,
-        disk,
-        131,
-        &slot_with(rt, key),
-        Blank::new(1),
-    )
+    let slot = slot_with(rt, key)?;
+    Ok(read_counted::<MemoryDisk, Brand>(rt.alloc(), IDENTIFIER, disk, 131, &slot, Blank::new(1)))
 }
 
 /// Tests that the file is read whole.
-fn is_whole(rt: &impl Abort, file: &FileRec) {
-    same!(rt; file.core.size, 2_449_508);
-    same!(rt; file.core.nextents, 300);
-    same!(rt; file.core.nblocks, 302);
-    same!(rt; file.tree.as_slice(), &[300, 301][..]);
+fn is_whole(rt: &(impl Abort + AllocGlobal), file: &FileRec) {
+    let core = (file.core.size, file.core.nextents, file.core.nblocks);
+    tells(rt, &core, "(2449508, 300, 302)", "core");
+    tells(rt, &file.tree.as_slice(), "[300, 301]", "tree");
     same!(rt; file.extents.as_slice().len(), 300);
     let mut i = 0;
     for found in file.extents.as_slice() {
@@ -108,19 +99,10 @@ fn is_whole(rt: &impl Abort, file: &FileRec) {
     }
 }
 
-#[test]
-fn a_file_of_two_leaves(rt: HostRuntime) -> Result<(), Fail> {
-    let mut disk = MemoryDisk::make(rt.alloc(), 2048)?;
-    let first = leaf(&rt, 300, 0, u64::MAX, 301);
-    let second = leaf(&rt, 301, 150, 300, u64::MAX);
-    assert!(rt; matches!(disk.blocks(), Ok(2048)) && disk.write(300, &first).is_ok());
-    assert!(rt; matches!(disk.blocks(), Ok(2048)) && disk.write(301, &second).is_ok());
-    match needs(
-        rt.alloc(),
-        &volume(IDENTIFIER),
-        131,
-        &slot_with(&rt, &[1, 44]),
-    ) {
+/// Tests what the slot of the file names.
+fn is_named(rt: &(impl Abort + AllocGlobal)) -> Result<(), Fail> {
+    let slot = slot_with(rt, "194 012c")?;
+    match needs(rt.alloc(), &geometry(), 131, &slot) {
         Ok(
             Needs {
                 top: Some(top),
@@ -128,28 +110,40 @@ fn a_file_of_two_leaves(rt: HostRuntime) -> Result<(), Fail> {
                 link: None,
             },
         ) => {
-            same!(rt; top.places.as_slice(), &[300, 301][..]);
-            same!(rt; top.lows.as_slice(), &[0, 300][..]);
-            same!(rt; top.level, 0);
+            let named = (top.places.as_slice(), top.lows.as_slice(), top.level);
+            tells(rt, &named, "([300, 301], [0, 300], 0)", "needs");
         }
         _ => panic!(rt; "a tree is named"),
     }
-    match read(&rt, rt.alloc(), &mut disk, &[1, 44]) {
+    Ok(())
+}
+
+#[test]
+fn a_file_of_two_leaves(rt: HostRuntime) -> Result<(), Fail> {
+    is_named(&rt)?;
+    let mut disk = MemoryDisk::make(rt.alloc(), 2048)?;
+    let first = leaf(
+        &rt,
+        2400,
+        "8 ffffffffffffffff 000000000000012d 0000000000000960",
+        0,
+    )?;
+    let second = leaf(
+        &rt,
+        2408,
+        "8 000000000000012c ffffffffffffffff 0000000000000968",
+        150,
+    )?;
+    assert!(rt; matches!(disk.blocks(), Ok(2048)) && disk.write(300, &first).is_ok());
+    assert!(rt; matches!(disk.blocks(), Ok(2048)) && disk.write(301, &second).is_ok());
+    match reads(&rt, &mut disk, "194 012c")? {
         Ok(FileRead::File(file)) => is_whole(&rt, &file),
         _ => panic!(rt; "the file is read"),
     }
-    assert!(rt;
-        matches!(
-            read(&rt, rt.alloc(), &mut disk, &[1, 45]),
-            Ok(FileRead::Unsound)
-        )
-    );
+    let other = reads(&rt, &mut disk, "194 012d")?;
+    tells(&rt, &other, "Ok(Unsound)", "another key");
     disk.fail(2)?;
-    assert!(rt;
-        matches!(
-            read(&rt, rt.alloc(), &mut disk, &[1, 44]),
-            Err(InodeError::ReadFault)
-        )
-    );
+    let failed = reads(&rt, &mut disk, "194 012c")?;
+    tells(&rt, &failed, "Err(ReadFault)", "a failing read");
     Ok(())
 }

@@ -5,15 +5,15 @@ ghost use Rattle.std.specs.Option.{option_copied};
 ghost use Rattle.xfs_word.specs.Seal.{layout_of};
 
 use super::*;
-use crate::checks::same;
-use std::alloc::Global;
+use crate::text::{Row, tells};
+use std::alloc::{AllocError, Global};
 use xfs_disk::{BLOCK_SIZE, NoMemory};
 use xfs_kinds::Bmbt;
 use xfs_tree::Tree;
 use xfs_word::{Extent, Seal, SealKind};
 
 /// How a slot reads.
-#[derive(Clone, Copy, Debug, PartialEq, Eq)]
+#[derive(Debug, Drop)]
 enum Kind {
     Free,
     File,
@@ -24,277 +24,92 @@ enum Kind {
     Unsound,
 }
 
-/// What of the fresh file is changed, and how it then reads.
-type Row = (&'static str, Parts, Kind);
+/// The files of a slot alone: the case, how it reads, and the bytes that differ from the fresh file's. Extents name block 24,
+/// 25 or 30, at file block 0 or 1.
+const OWN: &str = "\
+a file | File |
+free | Free | 2 0000
+another number | Unsound | 159 84
+shared blocks | Unsupported(4) | 127 02
+one block more | Unsound | 71 02
+all blocks | Unsound | 64 ffffffffffffffff
+another type | Unsound | 2 31
+a negative size | Unsound | 56 80
+the greatest size | File | 56 7fffffffffffffff
+two extents | File | 71 02; 79 02; 192 00000000000002000000000003200001
+a block twice | Unsound | 71 02; 79 02; 192 00000000000002000000000003000001
+an extent before | Unsound | 71 02; 79 02; 176 00000000000002000000000003200001; 192 00000000000000000000000003000001
+an extent of no block | Unsound | 71 00; 191 00
+more extents than fit | Unsound | 82 0102
+all extents | Unsound | 76 ffffffff
+an empty attribute fork | File | 82 2902
+a fork past the slot | Unsound | 82 2a02
+a fork far past the slot | Unsound | 82 ff02
+attributes of no fork | Unsound | 81 01
+a form of no fork | Unsound | 83 01
+another form of attributes | WithoutAttrs | 82 1804
+short attributes | File | 82 1801; 368 000f010007010473656c696e757878
+broken attributes | WithoutAttrs | 82 1801; 368 000e010007010473656c696e757878
+broken attributes and one block more | WithoutAttrs | 71 02; 82 1801
+a tree that does not read | Unsound | 5 03
+a device | File | 2 21; 5 00; 71 00; 79 00
+a device with an extent | Unsound | 2 21; 5 00; 71 00
+a device with extents | Unsound | 2 21
+a directory in short form | File | 2 41; 5 01; 62 0150; 71 00; 79 00
+a directory with too short a fork | Unsound | 2 41; 5 01; 62 0006; 71 00; 79 00; 82 0502
+";
 
-/// The extent of block 25 at file block 1.
-const SECOND: [u8; 16] = [0, 0, 0, 0, 0, 0, 2, 0, 0, 0, 0, 0, 3, 0x20, 0, 1];
-
-/// The extent of block 24 at file block 1.
-const AGAIN: [u8; 16] = [0, 0, 0, 0, 0, 0, 2, 0, 0, 0, 0, 0, 3, 0, 0, 1];
-
-/// The extent of block 30, and the same at file block 1.
-const NAMED: [u8; 16] = [0, 0, 0, 0, 0, 0, 0, 0, 0, 0, 0, 0, 3, 0xc0, 0, 1];
-
-const BEHIND: [u8; 16] = [0, 0, 0, 0, 0, 0, 2, 0, 0, 0, 0, 0, 3, 0xc0, 0, 1];
-
-/// The files of a slot alone.
-const OWN: [Row; 30] = [
-    ("a file", &[], Kind::File),
-    ("free", &[(2, &[0, 0])], Kind::Free),
-    ("another number", &[(159, &[132])], Kind::Unsound),
-    ("shared blocks", &[(127, &[2])], Kind::Unsupported(4)),
-    ("one block more", &[(71, &[2])], Kind::Unsound),
-    ("all blocks", &[(64, &[0xff; 8])], Kind::Unsound),
-    ("another type", &[(2, &[0x31])], Kind::Unsound),
-    ("a negative size", &[(56, &[0x80])], Kind::Unsound),
-    (
-        "the greatest size",
-        &[(56, &[0x7f, 0xff, 0xff, 0xff, 0xff, 0xff, 0xff, 0xff])],
-        Kind::File,
-    ),
-    (
-        "two extents",
-        &[(71, &[2]), (79, &[2]), (192, &SECOND)],
-        Kind::File,
-    ),
-    (
-        "a block twice",
-        &[(71, &[2]), (79, &[2]), (192, &AGAIN)],
-        Kind::Unsound,
-    ),
-    (
-        "an extent before",
-        &[(71, &[2]), (79, &[2]), (176, &SECOND), (192, &EXTENT)],
-        Kind::Unsound,
-    ),
-    (
-        "an extent of no block",
-        &[(71, &[0]), (191, &[0])],
-        Kind::Unsound,
-    ),
-    ("more extents than fit", &[(82, &[1, 2])], Kind::Unsound),
-    ("all extents", &[(76, &[0xff; 4])], Kind::Unsound),
-    ("an empty attribute fork", &[(82, &[41, 2])], Kind::File),
-    ("a fork past the slot", &[(82, &[42, 2])], Kind::Unsound),
-    (
-        "a fork far past the slot",
-        &[(82, &[0xff, 2])],
-        Kind::Unsound,
-    ),
-    ("attributes of no fork", &[(81, &[1])], Kind::Unsound),
-    ("a form of no fork", &[(83, &[1])], Kind::Unsound),
-    (
-        "another form of attributes",
-        &[(82, &[24, 4])],
-        Kind::WithoutAttrs,
-    ),
-    (
-        "short attributes",
-        &[(82, &[24, 1]), (368, b"\0\x0f\x01\0\x07\x01\x04selinuxx")],
-        Kind::File,
-    ),
-    (
-        "broken attributes",
-        &[(82, &[24, 1]), (368, b"\0\x0e\x01\0\x07\x01\x04selinuxx")],
-        Kind::WithoutAttrs,
-    ),
-    (
-        "broken attributes and one block more",
-        &[(71, &[2]), (82, &[24, 1])],
-        Kind::WithoutAttrs,
-    ),
-    ("a tree that does not read", &[(5, &[3])], Kind::Unsound),
-    (
-        "a device",
-        &[(2, &[0x21]), (5, &[0]), (71, &[0]), (79, &[0])],
-        Kind::File,
-    ),
-    (
-        "a device with an extent",
-        &[(2, &[0x21]), (5, &[0]), (71, &[0])],
-        Kind::Unsound,
-    ),
-    ("a device with extents", &[(2, &[0x21])], Kind::Unsound),
-    (
-        "a directory in short form",
-        &[
-            (2, &[0x41]),
-            (5, &[1]),
-            (62, &[1, 0x50]),
-            (71, &[0]),
-            (79, &[0]),
-        ],
-        Kind::File,
-    ),
-    (
-        "a directory with too short a fork",
-        &[
-            (2, &[0x41]),
-            (5, &[1]),
-            (62, &[0, 6]),
-            (71, &[0]),
-            (79, &[0]),
-            (82, &[5, 2]),
-        ],
-        Kind::Unsound,
-    ),
-];
-
-/// The files with this leaf of attributes in block 30.
-const WITH_LEAF: [Row; 6] = [
-    (
-        "a leaf",
-        &[(71, &[2]), (80, &[0, 1, 24, 2]), (368, &NAMED)],
-        Kind::File,
-    ),
-    (
-        "one block more",
-        &[(71, &[3]), (80, &[0, 1, 24, 2]), (368, &NAMED)],
-        Kind::WithoutAttrs,
-    ),
-    (
-        "a leaf behind",
-        &[(71, &[2]), (80, &[0, 1, 24, 2]), (368, &BEHIND)],
-        Kind::WithoutAttrs,
-    ),
-    (
-        "a leaf that is data too",
-        &[
-            (71, &[2]),
-            (80, &[0, 1, 24, 2]),
-            (176, &NAMED),
-            (368, &NAMED),
-        ],
-        Kind::WithoutAttrs,
-    ),
-    (
-        "all blocks",
-        &[(64, &[0xff; 8]), (80, &[0, 1, 24, 2]), (368, &NAMED)],
-        Kind::WithoutAttrs,
-    ),
-    (
-        "all leaves",
-        &[(80, &[0xff, 0xff, 24, 2]), (368, &NAMED)],
-        Kind::Unsupported(2),
-    ),
-];
+/// The files with a leaf of attributes in block 30.
+const WITH_LEAF: &str = "\
+a leaf | File | 71 02; 80 00011802; 368 00000000000000000000000003c00001
+one block more | WithoutAttrs | 71 03; 80 00011802; 368 00000000000000000000000003c00001
+a leaf behind | WithoutAttrs | 71 02; 80 00011802; 368 00000000000002000000000003c00001
+a leaf that is data too | WithoutAttrs | 71 02; 80 00011802; 176 00000000000000000000000003c00001; 368 00000000000000000000000003c00001
+all blocks | WithoutAttrs | 64 ffffffffffffffff; 80 00011802; 368 00000000000000000000000003c00001
+all leaves | Unsupported(2) | 80 ffff1802; 368 00000000000000000000000003c00001
+";
 
 /// A leaf of attributes without any, a node over leaves, and a leaf with an entry whose value lies outside it.
-const LEAF: Parts = &[
-    (8, &[0x3b, 0xee]),
-    (23, &[240]),
-    (32, &IDENTIFIER),
-    (55, &[131]),
-    (60, &[0x10, 0]),
-];
+const LEAF: &str = "8 3bee; 23 f0; 32 00112233445566778899aabbccddeeff; 55 83; 60 1000";
 
-const NODE: Parts = &[
-    (8, &[0x3e, 0xbe]),
-    (23, &[240]),
-    (32, &IDENTIFIER),
-    (55, &[131]),
-    (60, &[0x10, 0]),
-];
+const NODE: &str = "8 3ebe; 23 f0; 32 00112233445566778899aabbccddeeff; 55 83; 60 1000";
 
-const REMOTE: Parts = &[
-    (8, &[0x3b, 0xee]),
-    (23, &[240]),
-    (32, &IDENTIFIER),
-    (55, &[131, 0, 1]),
-];
+const REMOTE: &str = "8 3bee; 23 f0; 32 00112233445566778899aabbccddeeff; 55 830001";
 
 /// The files of which block 30 is no leaf, a node over leaves, and a leaf with a value outside it.
-const WITHOUT_LEAF: [Row; 1] = [(
-    "no leaf",
-    &[(71, &[2]), (80, &[0, 1, 24, 2]), (368, &NAMED)],
-    Kind::WithoutAttrs,
-)];
+const WITHOUT_LEAF: &str = "\
+no leaf | WithoutAttrs | 71 02; 80 00011802; 368 00000000000000000000000003c00001
+";
 
-const WITH_NODE: [Row; 2] = [
-    (
-        "a node",
-        &[(80, &[0, 1, 24, 2]), (368, &NAMED)],
-        Kind::Unsupported(2),
-    ),
-    (
-        "a node behind",
-        &[(5, &[9]), (80, &[0, 1, 24, 2]), (368, &BEHIND)],
-        Kind::Unsupported(2),
-    ),
-];
+const WITH_NODE: &str = "\
+a node | Unsupported(2) | 80 00011802; 368 00000000000000000000000003c00001
+a node behind | Unsupported(2) | 5 09; 80 00011802; 368 00000000000002000000000003c00001
+";
 
-const WITH_REMOTE: [Row; 1] = [(
-    "a remote value",
-    &[(80, &[0, 1, 24, 2]), (368, &NAMED)],
-    Kind::Unsupported(1),
-)];
+const WITH_REMOTE: &str = "\
+a remote value | Unsupported(1) | 80 00011802; 368 00000000000000000000000003c00001
+";
 
 /// Symbolic links.
-const LINKS: [Row; 6] = [
-    (
-        "a link of one block",
-        &[(2, &[0xa1]), (62, &[0, 5]), (176, &NAMED)],
-        Kind::Link,
-    ),
-    (
-        "one byte more",
-        &[(2, &[0xa1]), (62, &[0, 6]), (176, &NAMED)],
-        Kind::Unsound,
-    ),
-    (
-        "no bytes",
-        &[(2, &[0xa1]), (62, &[0, 0]), (176, &NAMED)],
-        Kind::Unsound,
-    ),
-    (
-        "a link behind",
-        &[(2, &[0xa1]), (62, &[0, 5]), (176, &BEHIND)],
-        Kind::Unsound,
-    ),
-    (
-        "a short link",
-        &[
-            (2, &[0xa1]),
-            (5, &[1]),
-            (62, &[0, 5]),
-            (71, &[0]),
-            (79, &[0]),
-            (176, b"a/b/c"),
-        ],
-        Kind::Link,
-    ),
-    (
-        "a short link of no bytes",
-        &[
-            (2, &[0xa1]),
-            (5, &[1]),
-            (62, &[0, 0]),
-            (71, &[0]),
-            (79, &[0]),
-        ],
-        Kind::Unsound,
-    ),
-];
+const LINKS: &str = "\
+a link of one block | Link | 2 a1; 62 0005; 176 00000000000000000000000003c00001
+one byte more | Unsound | 2 a1; 62 0006; 176 00000000000000000000000003c00001
+no bytes | Unsound | 2 a1; 62 0000; 176 00000000000000000000000003c00001
+a link behind | Unsound | 2 a1; 62 0005; 176 00000000000002000000000003c00001
+a short link | Link | 2 a1; 5 01; 62 0005; 71 00; 79 00; 176 612f622f63
+a short link of no bytes | Unsound | 2 a1; 5 01; 62 0000; 71 00; 79 00
+";
+
+/// The target of a symbolic link, `a/b/c`.
+const LINK: &str =
+    "0 58534c4d; 11 05; 16 00112233445566778899aabbccddeeff; 39 83; 47 f0; 56 612f622f63";
 
 /// The files with a tree of 300 extents.
-const TREES: [Row; 3] = [
-    (
-        "a tree",
-        &[(5, &[3]), (70, &[1, 46]), (78, &[1, 44])],
-        Kind::File,
-    ),
-    (
-        "one extent less",
-        &[(5, &[3]), (70, &[1, 46]), (78, &[1, 43])],
-        Kind::Unsound,
-    ),
-    (
-        "one block less",
-        &[(5, &[3]), (70, &[1, 45]), (78, &[1, 44])],
-        Kind::Unsound,
-    ),
-];
+const TREES: &str = "\
+a tree | File | 5 03; 70 012e; 78 012c
+one extent less | Unsound | 5 03; 70 012e; 78 012b
+one block less | Unsound | 5 03; 70 012d; 78 012c
+";
 
 /// How a slot reads.
 fn kind_of(rt: &impl Abort, read: Result<FileRead, NoMemory>) -> Kind {
@@ -316,32 +131,36 @@ fn kind_of(rt: &impl Abort, read: Result<FileRead, NoMemory>) -> Kind {
 
 /// Tests how slots read with an extent tree and the blocks that they name.
 fn read_rows(
-    rt: &impl Abort,
-    alloc: Global,
-    rows: &[Row],
+    rt: &(impl Abort + AllocGlobal),
+    rows: &str,
     tree: Option<&Tree<Bmbt>>,
     attr: Option<&[u8]>,
     link: Option<&[u8]>,
-)
+) -> Result<(), AllocError>
     requires attr { IfSome (option_copied attr) (λ block. length block ≡ 4096) }
     requires link { IfSome (option_copied link) (λ block. length block ≡ 4096) }
 {
-    for (what, parts, due) in rows {
-        let slot = file_with(rt, parts);
-        let read = settle(alloc, &volume(IDENTIFIER), 131, &slot, tree, attr, link);
-        same!(rt; kind_of(rt, read), *due; what);
+    let g = geometry();
+    for line in rows.lines() {
+        let mut row = Row::new(line);
+        let (case, due) = (row.text(), row.text());
+        let slot = file_with(rt, row.text())?;
+        let read = settle(rt.alloc(), &g, 131, &slot, tree, attr, link);
+        tells(rt, &kind_of(rt, read), due, case);
     }
+    Ok(())
 }
 
 /// Block 30 of inode 131 with these parts, sealed.
-fn block_with(rt: &impl Abort, kind: SealKind, parts: Parts) -> [u8; BLOCK_SIZE]
+fn block_with(
+    rt: &(impl Abort + AllocGlobal),
+    kind: SealKind,
+    parts: &str,
+) -> Result<[u8; BLOCK_SIZE], AllocError>
     requires { (layout_of kind).size ≡ 4096 }
 {
     let mut block = [0; BLOCK_SIZE];
-    for (at, bytes) in parts {
-        assert!(rt; *at <= 4096 && bytes.len() <= 4096 - *at);
-        put_part(&mut block, *at, bytes);
-    }
+    plant(rt, &mut block, parts)?;
     let wanted = Seal {
         kind,
         place: 240,
@@ -349,7 +168,7 @@ fn block_with(rt: &impl Abort, kind: SealKind, parts: Parts) -> [u8; BLOCK_SIZE]
         uuid: IDENTIFIER,
     };
     seal(&wanted, &mut block);
-    block
+    Ok(block)
 }
 
 /// A tree of 300 extents of one block at every other file block, in blocks from 302 on, with tree blocks 300 and 301.
@@ -369,35 +188,16 @@ fn tree(alloc: Global) -> Result<Tree<Bmbt>, Fail> {
 
 #[test]
 fn files(rt: HostRuntime) -> Result<(), Fail> {
-    let alloc = rt.alloc();
-    read_rows(&rt, alloc, &OWN, None, None, None);
-    let leaf = block_with(&rt, SealKind::Index { magic: 0x3bee }, LEAF);
-    let node = block_with(&rt, SealKind::Index { magic: 0x3ebe }, NODE);
-    let remote = block_with(&rt, SealKind::Index { magic: 0x3bee }, REMOTE);
-    read_rows(&rt, alloc, &WITH_LEAF, None, Some(&leaf), None);
-    read_rows(
-        &rt,
-        alloc,
-        &WITHOUT_LEAF,
-        None,
-        Some(&[0; BLOCK_SIZE]),
-        None,
-    );
-    read_rows(&rt, alloc, &WITH_NODE, None, Some(&node), None);
-    read_rows(&rt, alloc, &WITH_REMOTE, None, Some(&remote), None);
-    let link = block_with(
-        &rt,
-        SealKind::Symlink,
-        &[
-            (0, b"XSLM"),
-            (11, &[5]),
-            (16, &IDENTIFIER),
-            (39, &[131]),
-            (47, &[240]),
-            (56, b"a/b/c"),
-        ],
-    );
-    read_rows(&rt, alloc, &LINKS, None, None, Some(&link));
-    read_rows(&rt, alloc, &TREES, Some(&tree(alloc)?), None, None);
+    read_rows(&rt, OWN, None, None, None)?;
+    let leaf = block_with(&rt, SealKind::Index { magic: 0x3bee }, LEAF)?;
+    read_rows(&rt, WITH_LEAF, None, Some(&leaf), None)?;
+    read_rows(&rt, WITHOUT_LEAF, None, Some(&[0; BLOCK_SIZE]), None)?;
+    let node = block_with(&rt, SealKind::Index { magic: 0x3ebe }, NODE)?;
+    read_rows(&rt, WITH_NODE, None, Some(&node), None)?;
+    let remote = block_with(&rt, SealKind::Index { magic: 0x3bee }, REMOTE)?;
+    read_rows(&rt, WITH_REMOTE, None, Some(&remote), None)?;
+    let link = block_with(&rt, SealKind::Symlink, LINK)?;
+    read_rows(&rt, LINKS, None, None, Some(&link))?;
+    read_rows(&rt, TREES, Some(&tree(rt.alloc())?), None, None)?;
     Ok(())
 }
