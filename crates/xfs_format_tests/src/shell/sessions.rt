@@ -2,212 +2,115 @@
 
 use super::volume::volume;
 use crate::checks::same;
+use crate::text::{Row, tells};
 use std::alloc::{AllocError, Global};
 use std::process::Abort;
 use std::test::Fail;
 use xfs_disk::{MemorySink, MemorySource, Word};
-use xfs_shell::{ShellOptions, ShellOutcome, shell};
+use xfs_shell::{ShellOptions, shell};
 use xfs_volume::Records;
 
-/// A session.
-#[derive(Clone, Copy)]
-struct Row {
-    expert: bool,
-    read_only: bool,
-    commands: &'static [&'static str],
-    input: &'static str,
-    /// Which read, write or sync of the disk fails.
-    failing: Option<u64>,
-    /// How many bytes can be put.
-    room: usize,
-    told: &'static str,
-    outcome: ShellOutcome,
+/// The case; whether fields may be written, and whether nothing may be written; which call of the disk and which of the
+/// input fails, and how many bytes can be put; the outcome; the commands; the input; and what is put. `~` ends a line.
+const SESSIONS: &str = "\
+without -x, from lines | false false - - 400 | Done | | hash a~hash lost+found~convert fsblock 1030 daddr~write crc 1~pop~agf 2~ | 0x61~0x21aa60c~0x2030 (8240)~write: needs -x~no address~bad number: 2~
+commands as options | true false - - 400 | Done | agf 1~print freeblks longest~addr bnoroot~print recs[1] | | freeblks = 500~longest = 500~recs[1] = 524,500~
+a written number | true false - - 400 | Done | agf 0~write freeblks 5~print freeblks | | freeblks = 5~freeblks = 5~
+a blank line, texts and checksums | true false - - 400 | Done | | sb~~ \t~print uuid fname crc versionnum | uuid = 00112233-4455-6677-8899-aabbccddeeff~fname = \"a b\"\\001\\377\"~crc = 0x7ebccc98 (correct)~versionnum = 0xb4a5~
+a stack of places | true false - - 400 | Done | | sb~push agf 1~stack~type~pop~type inode~type~push x~push push addr freeblks~stack~quit~hash a | 0: block 0 sector 0 type sb~type = agf~type = inode~bad command: x~no field: freeblks~
+numbers that are refused | true false - - 400 | Done | | inode 128~stack 1~write gen 4294967296~write gen 0xffFFffff~print recs[1]~inode 5000000000000000000000~inode 0x~convert daddr 130 byte~convert ino 1 x~ | bad command: stack~bad number: 4294967296~gen = 4294967295~no field: recs[1]~out of image~bad number: 0x~0x10400 (66560)~bad command: convert~
+no address | true false - - 400 | Done | | addr bnoroot~type~print~push agf~write crc 1~sb~type x~write uuid 1~write crc 1~write x 1~addr x~ | no address~no address~no address~no address~no address~no type: x~no field: uuid~no field: crc~no field: x~no field: x~
+fields of a block of another type | true false - - 400 | Done | agf 1~addr bnoroot~write recs[1] 5~print recs[2] | | no field: recs[1]~no field: recs[2]~
+places out of the image | true false - - 400 | Done | | fsblock 2048~daddr 16384~convert fsblock 99999 ino~convert ino 16384 byte~convert x 1 ino~convert byte 1 ino~print | out of image~out of image~out of image~out of image~bad command: convert~bad command: convert~no address~
+zero bytes | true false - - 400 | Done | | ha\0sh a~hash a\0b~\0 | bad command: ha\0sh~0x184062~bad command: \0~
+a full output in a printed block | true false - - 77 | OutputFault { finished: 2 } | fsblock 5~print | | 000: 00000000 00000000 00000000 00000000 00000000 00000000 00000000 00000000~
+read-only | true true - - 400 | Done | write crc 1 | | write: read-only~
+a failing read | true false 2 - 400 | ReadFault { finished: 1 } | agf 0~print seqno | |
+a failing write | true false 3 - 400 | WriteFault { written: 0, finished: 1 } | agf 0~write freeblks 5 | |
+a failing sync | true false 4 - 400 | WriteFault { written: 1, finished: 1 } | agf 0~write freeblks 5 | |
+a full output in a line | true false - - 7 | OutputFault { finished: 2 } | hash a~hash a~hash a | | 0x61~0x
+a failing first read | true false 1 - 400 | ReadFault { finished: 0 } | agf 0 | |
+a failing input | true false - 1 80 | InputFault | | hash a~ |
+";
+
+/// The lines of a field, in which `~` ends each.
+fn lines_of(alloc: Global, text: &str) -> Result<Vec<u8>, AllocError> {
+    let mut lines = Vec::new(alloc);
+    for byte in text.as_bytes() {
+        lines.push(if *byte == b'~' { b'\n' } else { *byte })?;
+    }
+    Ok(lines)
 }
 
-/// A session that may write, without faults.
-const FREE: Row = Row {
-    expert: true,
-    read_only: false,
-    commands: &[],
-    input: "",
-    failing: None,
-    room: 400,
-    told: "",
-    outcome: ShellOutcome::Done,
-};
-
-const ROWS: [Row; 17] = [
-    Row {
-        expert: false,
-        input: "hash a\nhash lost+found\nconvert fsblock 1030 daddr\nwrite crc 1\npop\nagf 2\n",
-        told: "0x61\n0x21aa60c\n0x2030 (8240)\nwrite: needs -x\nno address\nbad number: 2\n",
-        ..FREE
-    },
-    Row {
-        commands: &[
-            "agf 1",
-            "print freeblks longest",
-            "addr bnoroot",
-            "print recs[1]",
-        ],
-        told: "freeblks = 500\nlongest = 500\nrecs[1] = 524,500\n",
-        ..FREE
-    },
-    Row {
-        commands: &["agf 0", "write freeblks 5", "print freeblks"],
-        told: "freeblks = 5\nfreeblks = 5\n",
-        ..FREE
-    },
-    Row {
-        input: "sb\n\n \t\nprint uuid fname crc versionnum",
-        told: "uuid = 00112233-4455-6677-8899-aabbccddeeff\nfname = \"a b\"\\001\\377\"\ncrc = 0x7ebccc98 (correct)\nversionnum = 0xb4a5\n",
-        ..FREE
-    },
-    Row {
-        input: "sb\npush agf 1\nstack\ntype\npop\ntype inode\ntype\npush x\npush push addr freeblks\nstack\nquit\nhash a",
-        told: "0: block 0 sector 0 type sb\ntype = agf\ntype = inode\nbad command: x\nno field: freeblks\n",
-        ..FREE
-    },
-    Row {
-        input: "inode 128\nstack 1\nwrite gen 4294967296\nwrite gen 0xffFFffff\nprint recs[1]\ninode 5000000000000000000000\ninode 0x\nconvert daddr 130 byte\nconvert ino 1 x\n",
-        told: "bad command: stack\nbad number: 4294967296\ngen = 4294967295\nno field: recs[1]\nout of image\nbad number: 0x\n0x10400 (66560)\nbad command: convert\n",
-        ..FREE
-    },
-    Row {
-        input: "addr bnoroot\ntype\nprint\npush agf\nwrite crc 1\nsb\ntype x\nwrite uuid 1\nwrite crc 1\nwrite x 1\naddr x\n",
-        told: "no address\nno address\nno address\nno address\nno address\nno type: x\nno field: uuid\nno field: crc\nno field: x\nno field: x\n",
-        ..FREE
-    },
-    Row {
-        commands: &["agf 1", "addr bnoroot", "write recs[1] 5", "print recs[2]"],
-        told: "no field: recs[1]\nno field: recs[2]\n",
-        ..FREE
-    },
-    Row {
-        input: "fsblock 2048\ndaddr 16384\nconvert fsblock 99999 ino\nconvert ino 16384 byte\nconvert x 1 ino\nconvert byte 1 ino\nprint",
-        told: "out of image\nout of image\nout of image\nout of image\nbad command: convert\nbad command: convert\nno address\n",
-        ..FREE
-    },
-    Row {
-        input: "ha\0sh a\nhash a\0b\n\0",
-        told: "bad command: ha\0sh\n0x184062\nbad command: \0\n",
-        ..FREE
-    },
-    Row {
-        commands: &["fsblock 5", "print"],
-        room: 77,
-        told: "000: 00000000 00000000 00000000 00000000 00000000 00000000 00000000 00000000\n",
-        outcome: ShellOutcome::OutputFault { finished: 2 },
-        ..FREE
-    },
-    Row {
-        read_only: true,
-        commands: &["write crc 1"],
-        told: "write: read-only\n",
-        ..FREE
-    },
-    Row {
-        commands: &["agf 0", "print seqno"],
-        failing: Some(2),
-        outcome: ShellOutcome::ReadFault { finished: 1 },
-        ..FREE
-    },
-    Row {
-        commands: &["agf 0", "write freeblks 5"],
-        failing: Some(3),
-        outcome: ShellOutcome::WriteFault {
-            written: 0,
-            finished: 1,
-        },
-        ..FREE
-    },
-    Row {
-        commands: &["agf 0", "write freeblks 5"],
-        failing: Some(4),
-        outcome: ShellOutcome::WriteFault {
-            written: 1,
-            finished: 1,
-        },
-        ..FREE
-    },
-    Row {
-        commands: &["hash a", "hash a", "hash a"],
-        room: 7,
-        told: "0x61\n0x",
-        outcome: ShellOutcome::OutputFault { finished: 2 },
-        ..FREE
-    },
-    Row {
-        commands: &["agf 0"],
-        failing: Some(1),
-        outcome: ShellOutcome::ReadFault { finished: 0 },
-        ..FREE
-    },
-];
-
-/// The options of a row.
-fn options_of(alloc: Global, row: &Row) -> Result<ShellOptions, AllocError> {
+/// The options of a session.
+fn options_of(
+    alloc: Global,
+    expert: bool,
+    read_only: bool,
+    texts: &str,
+) -> Result<ShellOptions, AllocError> {
     let mut commands = Vec::new(alloc);
-    for command in row.commands {
-        commands.push(Word::from_vec(Vec::from_slice(alloc, command.as_bytes())?))?;
+    for text in texts.split_terminator('~') {
+        commands.push(Word::from_vec(Vec::from_slice(alloc, text.as_bytes())?))?;
     }
     Ok(ShellOptions {
-        expert: row.expert,
-        read_only: row.read_only,
+        expert,
+        read_only,
         commands: Records::from_vec(commands),
     })
 }
 
-/// Runs the session of a row, and compares what it put and its outcome.
-fn check(rt: &impl Abort, alloc: Global, row: &Row) -> Result<(), Fail> {
-    let options = options_of(alloc, row)?;
-    let mut disk = volume(rt, alloc)?;
-    if let Some(call) = row.failing {
+/// Runs the session of a line, and compares what it put and its outcome.
+fn check(rt: &(impl Abort + AllocGlobal), line: &str) -> Result<(), Fail> {
+    let mut row = Row::new(line);
+    let case = row.text();
+    let (expert, read_only) = (row.flag(rt), row.flag(rt));
+    let (failing, failing_input) = (row.optional(rt), row.optional(rt));
+    let (room, outcome) = (row.number(rt), row.text());
+    let options = options_of(rt.alloc(), expert, read_only, row.text())?;
+    let mut disk = volume(rt)?;
+    if let Some(call) = failing {
         disk.fail(call)?;
     }
-    let mut input = MemorySource::make(alloc, row.input.as_bytes())?;
-    let mut out = MemorySink::make(alloc, row.room)?;
-    let outcome = shell(alloc, &mut disk, &mut input, &mut out, &options);
-    same!(rt; out.bytes(), row.told.as_bytes());
-    same!(rt; outcome, row.outcome);
+    let mut input = MemorySource::make(rt.alloc(), lines_of(rt.alloc(), row.text())?.as_slice())?;
+    if let Some(call) = failing_input {
+        input.fail(call)?;
+    }
+    let mut out = MemorySink::make(rt.alloc(), room)?;
+    let answer = shell(rt.alloc(), &mut disk, &mut input, &mut out, &options);
+    tells(rt, &answer, outcome, case);
+    let told = lines_of(rt.alloc(), row.text())?;
+    same!(rt; out.bytes(), told.as_slice(); case);
     Ok(())
 }
 
 #[test]
 fn sessions(rt: HostRuntime) -> Result<(), Fail> {
-    for row in &ROWS {
-        check(&rt, rt.alloc(), row)?;
+    for line in SESSIONS.lines() {
+        check(&rt, line)?;
     }
     Ok(())
 }
 
-#[test]
-fn an_input_that_fails_runs_no_command(rt: HostRuntime) -> Result<(), Fail> {
-    let options = options_of(rt.alloc(), &FREE)?;
-    let mut disk = volume(&rt, rt.alloc())?;
-    let mut input = MemorySource::make(rt.alloc(), b"hash a\n")?;
-    input.fail(1)?;
-    let mut out = MemorySink::make(rt.alloc(), 80)?;
-    let outcome = shell(rt.alloc(), &mut disk, &mut input, &mut out, &options);
-    same!(&rt; outcome, ShellOutcome::InputFault);
-    assert!(&rt; out.bytes().is_empty());
-    Ok(())
-}
+/// The letter that the input is made of, how often it stands there, and the outcome.
+const LONG: &str = "\
+0x20 1048576 | Done
+0x20 1048577 | InputLong
+0x78 1048576 | OutputFault { finished: 1 }
+";
 
 #[test]
 fn inputs_of_more_bytes_than_there_may_be_are_too_long(rt: HostRuntime) -> Result<(), Fail> {
-    let options = options_of(rt.alloc(), &FREE)?;
-    for (letter, count, outcome) in [
-        (b' ', 1_048_576, ShellOutcome::Done),
-        (b' ', 1_048_577, ShellOutcome::InputLong),
-        (b'x', 1_048_576, ShellOutcome::OutputFault { finished: 1 }),
-    ] {
-        let mut disk = volume(&rt, rt.alloc())?;
+    let options = options_of(rt.alloc(), true, false, "")?;
+    for line in LONG.lines() {
+        let mut row = Row::new(line);
+        let (letter, count) = (row.number(&rt), row.number(&rt));
+        let mut disk = volume(&rt)?;
         let bytes = vec![in rt.alloc(); letter; count]?;
         let mut input = MemorySource::make(rt.alloc(), bytes.as_slice())?;
         let mut out = MemorySink::make(rt.alloc(), 80)?;
         let answer = shell(rt.alloc(), &mut disk, &mut input, &mut out, &options);
-        same!(&rt; answer, outcome);
+        tells(&rt, &answer, row.text(), line);
     }
     Ok(())
 }

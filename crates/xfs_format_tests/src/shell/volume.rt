@@ -1,73 +1,75 @@
 //! A volume of two allocation groups, of which only what the sessions look at is there.
 
-use std::alloc::Global;
+use crate::text::Row;
 use std::process::Abort;
 use std::test::Fail;
 use xfs_disk::{BLOCK_SIZE, Disk, MemoryDisk};
-use xfs_geom::superblock::*;
-use xfs_heads::layouts::agf;
-use xfs_kinds::layouts::span;
-use xfs_tree::SHORT;
-use xfs_word::{FieldLayout, Seal, SealKind, put_part, seal};
+use xfs_word::{Seal, SealKind, put_part, seal};
 
-/// The identifier of the volume.
-const IDENTIFIER: [u8; 16] = [
-    0x00, 0x11, 0x22, 0x33, 0x44, 0x55, 0x66, 0x77, 0x88, 0x99, 0xaa, 0xbb, 0xcc, 0xdd, 0xee, 0xff,
-];
+/// The superblock, with a label: in each line stand a field, its byte offset and its bytes. Each other field is 0.
+const SUPERBLOCK: &str = "\
+magicnum 0 58465342
+blocksize 4 00001000
+dblocks 8 0000000000000800
+uuid 32 00112233445566778899aabbccddeeff
+logstart 48 0000000000000406
+rootino 56 0000000000000080
+rbmino 64 0000000000000081
+rsumino 72 0000000000000082
+rextsize 80 00000001
+agblocks 84 00000400
+agcount 88 00000002
+logblocks 96 00000200
+versionnum 100 b4a5
+sectsize 102 0200
+inodesize 104 0200
+inopblock 106 0008
+fname 108 6120622201ff
+blocklog 120 0c
+sectlog 121 09
+inodelog 122 09
+inopblog 123 03
+agblklog 124 0a
+imax_pct 127 19
+icount 128 0000000000000040
+ifree 136 000000000000003d
+fdblocks 144 00000000000005ec
+inoalignmt 180 00000008
+logsunit 196 00000001
+features2 200 0000018a
+bad_features2 204 0000018a
+features_ro_compat 212 00000003
+features_incompat 216 00000003
+spino_align 228 00000004
+";
 
-/// The numbers of its superblock; each other field is 0.
-const NUMBERS: [(FieldLayout, u64); 31] = [
-    (MAGICNUM, 0x5846_5342),
-    (BLOCKSIZE, 4096),
-    (DBLOCKS, 2048),
-    (LOGSTART, 1030),
-    (ROOTINO, 128),
-    (RBMINO, 129),
-    (RSUMINO, 130),
-    (REXTSIZE, 1),
-    (AGBLOCKS, 1024),
-    (AGCOUNT, 2),
-    (LOGBLOCKS, 512),
-    (VERSIONNUM, 0xb4a5),
-    (SECTSIZE, 512),
-    (INODESIZE, 512),
-    (INOPBLOCK, 8),
-    (BLOCKLOG, 12),
-    (SECTLOG, 9),
-    (INODELOG, 9),
-    (INOPBLOG, 3),
-    (AGBLKLOG, 10),
-    (IMAX_PCT, 25),
-    (ICOUNT, 64),
-    (IFREE, 61),
-    (FDBLOCKS, 1516),
-    (INOALIGNMT, 8),
-    (LOGSUNIT, 1),
-    (FEATURES2, 0x18a),
-    (BAD_FEATURES2, 0x18a),
-    (FEATURES_RO_COMPAT, 3),
-    (FEATURES_INCOMPAT, 3),
-    (SPINO_ALIGN, 4),
-];
+/// A header of free space.
+const HEADER: &str = "\
+magicnum 0 58414746
+bnoroot 16 00000001
+freeblks 52 000001f4
+longest 56 000001f4
+";
 
-/// The numbers of a header of free space.
-const HEADER: [(FieldLayout, u64); 4] = [
-    (agf::MAGICNUM, 0x5841_4746),
-    (agf::BNOROOT, 1),
-    (agf::FREEBLKS, 500),
-    (agf::LONGEST, 500),
-];
+/// The root of a tree of free runs: a leaf with one run.
+const ROOT: &str = "\
+numrecs 6 0001
+start 56 0000020c
+count 60 000001f4
+";
 
 /// The disk of the volume: the superblock with a label, both headers of free space, and in the second group the root of
 /// the tree of free runs, with one run.
-pub fn volume(rt: &impl Abort, alloc: Global) -> Result<MemoryDisk, Fail> {
-    let mut disk = MemoryDisk::make(alloc, 2048)?;
+pub fn volume(rt: &(impl Abort + AllocGlobal)) -> Result<MemoryDisk, Fail> {
+    let mut disk = MemoryDisk::make(rt.alloc(), 2048)?;
     let mut block = [0; BLOCK_SIZE];
-    put_part(&mut block, 512, &header(rt));
+    put_fields(rt, &mut block[512..], HEADER)?;
     put(rt, &mut disk, 1024, &block)?;
-    put_part(&mut block, 0, &superblock(rt));
+    put_part(&mut block, 0, &superblock(rt)?);
     put(rt, &mut disk, 0, &block)?;
-    put(rt, &mut disk, 1025, &root(rt))?;
+    block = [0; BLOCK_SIZE];
+    put_fields(rt, &mut block, ROOT)?;
+    put(rt, &mut disk, 1025, &block)?;
     Ok(disk)
 }
 
@@ -80,11 +82,9 @@ fn put(rt: &impl Abort, disk: &mut MemoryDisk, at: u64, block: &[u8; 4096]) -> R
 }
 
 /// The superblock.
-fn superblock(rt: &impl Abort) -> [u8; 512] {
+fn superblock(rt: &(impl Abort + AllocGlobal)) -> Result<[u8; 512], Fail> {
     let mut sector = [0; 512];
-    put_numbers(rt, &mut sector, &NUMBERS);
-    put_part(&mut sector, UUID.offset, &IDENTIFIER);
-    put_part(&mut sector, FNAME.offset, b"a b\"\x01\xff");
+    put_fields(rt, &mut sector, SUPERBLOCK)?;
     let what = Seal {
         kind: SealKind::Super,
         place: 0,
@@ -92,37 +92,20 @@ fn superblock(rt: &impl Abort) -> [u8; 512] {
         uuid: [0; 16],
     };
     seal(&what, &mut sector);
-    sector
+    Ok(sector)
 }
 
-/// A header of free space.
-fn header(rt: &impl Abort) -> [u8; 512] {
-    let mut sector = [0; 512];
-    put_numbers(rt, &mut sector, &HEADER);
-    sector
-}
-
-/// The root of a tree of free runs: a leaf with one run.
-fn root(rt: &impl Abort) -> [u8; 4096] {
-    let mut block = [0; BLOCK_SIZE];
-    put_numbers(rt, &mut block, &[(SHORT[2], 1)]);
-    put_numbers(
-        rt,
-        &mut block[56..],
-        &[(span::START, 524), (span::COUNT, 500)],
-    );
-    block
-}
-
-/// Puts numbers into the fields of an object.
-fn put_numbers(rt: &impl Abort, object: &mut [u8], numbers: &[(FieldLayout, u64)]) {
-    for (field, number) in numbers {
-        assert!(rt; field.width <= 8 && field.offset <= 4096);
-        assert!(rt; field.offset + field.width <= object.len());
-        put_part(
-            object,
-            field.offset,
-            &number.to_be_bytes()[8 - field.width..],
-        );
+/// Puts bytes into the fields of an object: in each line stand a field, its byte offset and its bytes.
+fn put_fields(
+    rt: &(impl Abort + AllocGlobal),
+    object: &mut [u8],
+    fields: &str,
+) -> Result<(), Fail> {
+    for line in fields.lines() {
+        let mut row = Row::new(line);
+        let _name = row.word();
+        let at = row.number(rt);
+        row.put(rt, object, at)?;
     }
+    Ok(())
 }
