@@ -171,8 +171,8 @@ const ROWS: &str = "\
 23 short | (0, 0, 0) | 328 |
 24 single | (1, 0, 0) | 0 | | 0 3892
 40 single | (1, 0, 0) | 0 | | 0 3764
-400 leaf | (3, 1, 0) | 0 | 0 2 168; 2 3 66 | 3 92
-20000 node | (120, 41, 1) | 0 | 0 119 168; 119 120 10; 120 121 40; 121 123 501; 123 161 500 | 125 92
+400 leaf | (3, 1, 0) | 0 | 0 2 168, 2 3 66 | 3 92
+20000 node | (120, 41, 1) | 0 | 0 119 168, 119 120 10, 120 121 40, 121 123 501, 123 161 500 | 125 92
 ";
 
 /// How many entries a block has: the names of a data block, the pairs of an index block.
@@ -190,7 +190,7 @@ fn share(rt: &impl Abort, alloc: Global, image: &DirImage, block: usize) -> usiz
 
 /// Asserts that the blocks of a directory have the entries that are due.
 fn assert_shares(rt: &impl Abort, alloc: Global, image: &DirImage, shares: &str) {
-    for part in shares.split_terminator(';') {
+    for part in shares.split_terminator(',') {
         let mut row = Row::new(part);
         let (first, end) = (row.number(rt), row.number(rt));
         let due = row.number(rt);

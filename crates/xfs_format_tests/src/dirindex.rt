@@ -81,13 +81,13 @@ leaf leaf | Err(Unsound) | its hash | 2 74 0060
 leaf leaf | Err(Unsound) | a stale pair with an address | 2 86 000c
 leaf leaf | Err(Unsound) | the number of pairs | 2 56 0005
 leaf leaf | Err(Unsound) | the number of stale pairs | 2 58 0002
-leaf leaf | Err(Unsound) | hashes that descend | 2 74 0062; 2 82 0061
-leaf leaf | Err(Unsound) | a pair that stands twice | 2 86 000c; 2 58 0000; 2 82 0061
+leaf leaf | Err(Unsound) | hashes that descend | 2 74 0062, 2 82 0061
+leaf leaf | Err(Unsound) | a pair that stands twice | 2 86 000c, 2 58 0000, 2 82 0061
 leaf leaf | Err(Unsound) | the value of data block 0 | 2 4084 0f88
 leaf leaf | Err(Unsound) | the value of data block 3 | 2 4090 0f98
 leaf leaf | Err(Unsound) | the value of a block that is not mapped | 2 4086 0000
 leaf leaf | Err(Unsound) | one value less | 2 4094 0003
-leaf leaf | Ok(()) | one value more | 2 4082 0f90; 2 4084 ffff; 2 4088 0fa0; 2 4090 ffff; 2 4094 0005
+leaf leaf | Ok(()) | one value more | 2 4082 0f90, 2 4084 ffff, 2 4088 0fa0, 2 4090 ffff, 2 4094 0005
 leaf leaf | Err(Unsound) | another index block | 2 8 3dff
 leaf leaf | Err(Unsound) | another data block | 1 2 4233
 leaf leaf | Err(Unsound) | another directory | 0 70 0065
@@ -102,9 +102,9 @@ node node | Ok(()) | the node form |
 node node | Err(Unsound) | an address | 4 70 0609
 node node | Err(Unsound) | a stale pair with an address | 3 86 000c
 node node | Err(Unsound) | the number of stale pairs | 4 58 0001
-node node | Err(Unsound) | the number of pairs | 4 56 0002; 2 74 0063
-node node | Err(Unsound) | hashes that descend from leaf to leaf | 3 82 0065; 2 66 0065
-node node | Ok(()) | another hash of a stale pair | 3 82 0061; 2 66 0061
+node node | Err(Unsound) | the number of pairs | 4 56 0002, 2 74 0063
+node node | Err(Unsound) | hashes that descend from leaf to leaf | 3 82 0065, 2 66 0065
+node node | Ok(()) | another hash of a stale pair | 3 82 0061, 2 66 0061
 node node | Err(Unsound) | a leaf as the node | 2 8 3dff
 node node | Err(Unsound) | a node as a leaf | 3 8 3ebe
 node node | Err(Unsound) | the leaf of the leaf form as a leaf | 3 8 3df1
@@ -113,16 +113,16 @@ node node | Err(Unsound) | a node of level 0 | 2 58 0000
 node node | Err(Unsound) | the first hash of the node | 2 66 0063
 node node | Err(Unsound) | the last hash of the node | 2 74 172d
 node node | Err(Unsound) | a child that is not there | 2 78 0003
-node node | Err(Unsound) | a child twice | 2 78 0001; 2 74 0062
+node node | Err(Unsound) | a child twice | 2 78 0001, 2 74 0062
 node node | Err(Unsound) | the right neighbour of the first leaf | 3 2 0003
 node node | Err(Unsound) | the left neighbour of the last leaf | 4 6 0002
 node node | Err(Unsound) | a right neighbour of the last leaf | 4 0 0001
 node node | Err(Unsound) | a left neighbour of the node | 2 6 0001
 node node | Err(Unsound) | a value | 5 70 0fa8
-node node | Err(Unsound) | one value less | 5 54 0003; 5 58 0001
+node node | Err(Unsound) | one value less | 5 54 0003, 5 58 0001
 node node | Err(Unsound) | the number of values in use | 5 58 0003
 node node | Err(Unsound) | the first data block of the values | 5 50 0001
-node node | Ok(()) | one value more | 5 54 0005; 5 72 ffff
+node node | Ok(()) | one value more | 5 54 0005, 5 72 ffff
 node leaf | Err(Unsound) | the node form as a leaf form |
 root node | Ok(()) | a leaf as the root |
 root node | Err(Unsound) | an address under a leaf as the root | 2 78 000d
@@ -154,14 +154,14 @@ pub fn assert_ascending(rt: &impl Abort, least: u64, offsets: &[u64])
     }
 }
 
-/// Puts bytes into blocks: in each line, or behind each semicolon, stand a block, a byte offset and the bytes.
+/// Puts bytes into blocks: in each line, or behind each comma, stand a block, a byte offset and the bytes.
 fn put_blocks(
     rt: &(impl Abort + AllocGlobal),
     blocks: &mut BlockBank,
     text: &str,
 ) -> Result<(), AllocError> {
     for line in text.lines() {
-        for part in line.split(';') {
+        for part in line.split(',') {
             let mut row = Row::new(part);
             let (block, at) = (row.number(rt), row.number(rt));
             assert!(rt; block < blocks.len(), "{part}");

@@ -10,7 +10,7 @@ mod files;
 mod real;
 
 use crate::checks::same;
-use crate::text::{Row, tells};
+use crate::text::{Row, put_parts, tells};
 use std::alloc::{AllocError, Global};
 use std::process::Abort;
 use std::sync::ledger::{Blank, Ledger};
@@ -64,11 +64,11 @@ const FRESH: Core = Core {
 /// The slot of a fresh file of one block, inode 131, as the core above and the extent of block 24 at file block 0 make it,
 /// but for its checksum: byte offsets and the bytes from there on.
 const SLOT: &str = "\
-0 494e 81a4 03 02; 8 00000001 00000002 00000003;
-32 0000001000000005 0000001000000005 0000001000000005;
-56 0000000000001000 0000000000000001; 76 00000001 0000 00 02;
-92 00000007 ffffffff; 144 0000001000000005 0000000000000083;
-160 00112233445566778899aabbccddeeff; 188 03000001";
+0 494e 81a4 03 02, 8 00000001 00000002 00000003
+32 0000001000000005 0000001000000005 0000001000000005
+56 0000000000001000 0000000000000001, 76 00000001 0000 00 02
+92 00000007 ffffffff, 144 0000001000000005 0000000000000083
+160 00112233445566778899aabbccddeeff, 188 03000001";
 
 /// The geometry of a volume with this identifier.
 fn volume(uuid: [u8; 16]) -> Geometry
@@ -93,23 +93,11 @@ fn geometry() -> Geometry {
     volume(IDENTIFIER)
 }
 
-/// Puts bytes into an object: between semicolons stand a byte offset and the bytes from there on.
-fn plant(rt: &(impl Abort + AllocGlobal), object: &mut [u8], parts: &str) -> Result<(), AllocError>
-    ensures { length object.new ≡ length object.old }
-{
-    for part in parts.split_terminator(';') {
-        let mut row = Row::new(part);
-        let at = row.number(rt);
-        row.put(rt, object, at)?;
-    }
-    Ok(())
-}
-
 /// The slot of the fresh file with these parts written into it, sealed as inode 131.
 fn file_with(rt: &(impl Abort + AllocGlobal), parts: &str) -> Result<[u8; 512], AllocError> {
     let mut slot = [0; 512];
-    plant(rt, &mut slot, SLOT)?;
-    plant(rt, &mut slot, parts)?;
+    put_parts(rt, &mut slot, SLOT)?;
+    put_parts(rt, &mut slot, parts)?;
     seal_file(&mut slot);
     Ok(slot)
 }
@@ -167,17 +155,17 @@ const SLOTS: &str = "\
 131 | long times | Some(Unsupported { what: 5 }) | 127 08
 131 | long counts | Some(Unsupported { what: 6 }) | 127 10
 131 | other new flags | None | 120 ffffffffffffffe5
-131 | all but the first | Some(Unsupported { what: 4 }) | 82 1803; 127 1a
-131 | counts and attributes | Some(Unsupported { what: 6 }) | 82 1803; 127 10
+131 | all but the first | Some(Unsupported { what: 4 }) | 82 1803, 127 1a
+131 | counts and attributes | Some(Unsupported { what: 6 }) | 82 1803, 127 10
 131 | a tree | Some(Unsupported { what: 2 }) | 82 1803
 131 | no fork | None | 80 00020003
 131 | two extents | Some(Unsupported { what: 2 }) | 80 00021802
 131 | two extents, short | None | 80 00021801
-131 | one block | None | 80 00011802; 381 e00001
-131 | two blocks | Some(Unsupported { what: 2 }) | 80 00012802; 509 e00002
-131 | an extent past the slot | None | 80 00012902; 508 00000002
+131 | one block | None | 80 00011802, 381 e00001
+131 | two blocks | Some(Unsupported { what: 2 }) | 80 00012802, 509 e00002
+131 | an extent past the slot | None | 80 00012902, 508 00000002
 131 | free | Some(Free) | 2 0000
-131 | free, with a flag | Some(Free) | 2 0000; 90 0001
+131 | free, with a flag | Some(Free) | 2 0000, 90 0001
 132 | another inode | Some(Unsound)
 131 | another magic number | Some(Unsound) | 0 494d
 131 | another version | Some(Unsound) | 4 02
@@ -194,7 +182,7 @@ fn slots(rt: HostRuntime) -> Result<(), Fail> {
         let ino = row.number(&rt);
         let (case, due) = (row.text(), row.text());
         let mut slot = file_with(&rt, row.text())?;
-        plant(&rt, &mut slot, row.text())?;
+        put_parts(&rt, &mut slot, row.text())?;
         tells(&rt, &refused(read_slot(&g, ino, &slot)), due, case);
     }
     Ok(())
@@ -213,10 +201,10 @@ fn blank_slots(rt: HostRuntime) -> Result<(), Fail> {
     free_slot(&g, 131, &stamp, &mut slot);
     same!(rt; read_slot(&g, 131, &slot), SlotRead::Free);
     let mut due = [0; 512];
-    plant(
+    put_parts(
         &rt,
         &mut due,
-        "0 494e; 4 03; 95 07ffffffff; 159 83; 160 00112233445566778899aabbccddeeff",
+        "0 494e, 4 03, 95 07ffffffff, 159 83, 160 00112233445566778899aabbccddeeff",
     )?;
     seal_file(&mut due);
     same!(rt; slot, due);
@@ -239,14 +227,14 @@ fn is_due(
 ) -> Result<(), AllocError> {
     assert!(rt; end <= 512);
     due[end..].fill(0);
-    plant(rt, due, parts)?;
+    put_parts(rt, due, parts)?;
     seal_file(due);
     same!(rt; *slot, *due; parts);
     Ok(())
 }
 
 /// Where the attribute fork begins, in units of 8 bytes behind byte 176, and the byte behind the data fork.
-const FORKS: &str = "0 512; 6 224; 41 504";
+const FORKS: &str = "0 512, 6 224, 41 504";
 
 #[test]
 fn changed_slots(rt: HostRuntime) -> Result<(), Fail> {
@@ -258,17 +246,17 @@ fn changed_slots(rt: HostRuntime) -> Result<(), Fail> {
         nextents: 6,
         bytes: Word::from_vec(vec![in rt.alloc(); 0xab, 0xcd]?),
     };
-    for fork in FORKS.split(';') {
+    for fork in FORKS.split(',') {
         let mut row = Row::new(fork);
         let mut slot = [0x5a; 512];
-        let parts = "0 494e; 4 03; 152 0000000000000083; 160 00112233445566778899aabbccddeeff";
-        plant(&rt, &mut slot, parts)?;
+        let parts = "0 494e, 4 03, 152 0000000000000083, 160 00112233445566778899aabbccddeeff";
+        put_parts(&rt, &mut slot, parts)?;
         slot[82] = row.number(&rt);
         let mut due = slot;
         seal_file(&mut slot);
         assert!(rt; sealed(&slot_seal(&g, 131), &slot));
         set_links(&g, 131, 9, &mut slot);
-        is_due(&rt, &slot, &mut due, 512, "16 00000009; 96 ffffffff")?;
+        is_due(&rt, &slot, &mut due, 512, "16 00000009, 96 ffffffff")?;
         assert!(rt; get8(&slot, 82) <= 41);
         drop_attrs(&g, 131, 3, &mut slot);
         let end = row.number(&rt);
@@ -277,11 +265,11 @@ fn changed_slots(rt: HostRuntime) -> Result<(), Fail> {
             &slot,
             &mut due,
             end,
-            "64 0000000000000003; 80 0000; 83 02",
+            "64 0000000000000003, 80 0000, 83 02",
         )?;
         assert!(rt; get8(&slot, 82) <= 41);
         set_fork(&g, 131, &wanted, &mut slot);
-        let parts = "5 01; 56 0000000000000002; 71 05; 76 00000006; 176 abcd";
+        let parts = "5 01, 56 0000000000000002, 71 05, 76 00000006, 176 abcd";
         is_due(&rt, &slot, &mut due, 176, parts)?;
     }
     Ok(())

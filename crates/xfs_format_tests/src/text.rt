@@ -47,6 +47,13 @@ impl<'a> Row<'a> {
         text.trim()
     }
 
+    /// All that is left of the line.
+    pub fn rest(&mut self) -> &'a str {
+        let rest = self.rest;
+        self.rest = "";
+        rest
+    }
+
     /// The next word; a bar behind it is passed over.
     pub fn word(&mut self) -> &'a str {
         let words = self.rest.trim_start();
@@ -64,7 +71,7 @@ impl<'a> Row<'a> {
         let word = self.word();
         match number_of(word) {
             Some(number) => number,
-            None => panic!(rt; "no number: {word:?} in {:?}", self.line),
+            None => refuse(rt, "a word is no number", self.line),
         }
     }
 
@@ -86,7 +93,7 @@ impl<'a> Row<'a> {
         match self.word() {
             "true" => true,
             "false" => false,
-            word => panic!(rt; "no flag: {word:?} in {:?}", self.line),
+            _ => refuse(rt, "a word is no flag", self.line),
         }
     }
 
@@ -103,7 +110,7 @@ impl<'a> Row<'a> {
         for word in self.text().split_whitespace() {
             match number_of(word) {
                 Some(number) => numbers.push(number)?,
-                None => panic!(rt; "no number: {word:?} in {:?}", self.line),
+                None => refuse(rt, "a word is no number", self.line),
             }
         }
         Ok(numbers)
@@ -122,7 +129,9 @@ impl<'a> Row<'a> {
                 }
             }
         }
-        assert!(rt; high.is_none(), "half a byte in {:?}", self.line);
+        if high.is_some() {
+            refuse(rt, "half a byte", self.line);
+        }
         Ok(bytes)
     }
 
@@ -141,7 +150,7 @@ impl<'a> Row<'a> {
             .and_then(|rest| rest.get_mut(..bytes.len()));
         match room {
             Some(room) => room.copy_from_slice(bytes.as_slice()),
-            None => panic!(rt; "past the object: {:?}", self.line),
+            None => refuse(rt, "bytes lie past the object", self.line),
         }
         Ok(())
     }
@@ -150,6 +159,11 @@ impl<'a> Row<'a> {
     pub fn is_read(&self) -> bool {
         self.rest.trim().is_empty()
     }
+}
+
+/// Fails with what is wrong in a text.
+pub fn refuse(rt: &impl Abort, what: &str, text: &str) -> ! {
+    panic!(rt; "{what}: {text:?}")
 }
 
 /// A word as a number.
@@ -171,11 +185,12 @@ fn digit(rt: &impl Abort, byte: u8) -> u8
     match byte {
         b'0'..=b'9' => byte - b'0',
         b'a'..=b'f' => byte - b'a' + 10,
-        _ => panic!(rt; "no hexadecimal digit: {byte}"),
+        _ => refuse(rt, "a character is no hexadecimal digit", ""),
     }
 }
 
-/// Writes the parts of an object over its bytes. In each line stand a byte offset and the bytes from there on.
+/// Writes the parts of an object over its bytes. The parts stand in lines or between commas, each as a byte offset and
+/// the bytes from there on. `ff*260` is a byte so many times.
 pub fn put_parts(
     rt: &(impl Abort + AllocGlobal),
     object: &mut [u8],
@@ -184,9 +199,32 @@ pub fn put_parts(
     ensures { length object.new ≡ length object.old }
 {
     for line in parts.lines() {
-        let mut row = Row::new(line);
-        let at = row.number(rt);
-        row.put(rt, object, at)?;
+        for part in line.split(',') {
+            put_part(rt, object, Row::new(part))?;
+        }
+    }
+    Ok(())
+}
+
+/// Writes one part, if there is one.
+fn put_part(
+    rt: &(impl Abort + AllocGlobal),
+    object: &mut [u8],
+    mut part: Row,
+) -> Result<(), AllocError>
+    ensures { length object.new ≡ length object.old }
+{
+    if part.is_read() {
+        return Ok(());
+    }
+    let at: usize = part.number(rt);
+    let text = part.text();
+    let (bytes, count) = match text.split_once('*') {
+        Some((byte, count)) => (byte, Row::new(count).number(rt)),
+        None => (text, 1),
+    };
+    for k in 0..count {
+        Row::new(bytes).put(rt, object, at.saturating_add(k))?;
     }
     Ok(())
 }
@@ -195,6 +233,6 @@ pub fn put_parts(
 pub fn tells<T: Debug>(rt: &(impl Abort + AllocGlobal), held: &T, due: &str, place: &str) {
     match format!(in rt.alloc(); "{held:?}") {
         Ok(text) => compare_at(rt, &text.as_str(), &due, &place),
-        Err(_) => panic!(rt; "no memory at {place}"),
+        Err(_) => refuse(rt, "no memory", place),
     }
 }

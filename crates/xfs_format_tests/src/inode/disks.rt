@@ -37,12 +37,12 @@ fn leaf(
     first: u64,
 ) -> Result<[u8; BLOCK_SIZE], AllocError> {
     let mut block = [0; BLOCK_SIZE];
-    plant(
+    put_parts(
         rt,
         &mut block,
-        "0 424d4133; 6 0096; 40 00112233445566778899aabbccddeeff; 63 83",
+        "0 424d4133, 6 0096, 40 00112233445566778899aabbccddeeff, 63 83",
     )?;
-    plant(rt, &mut block, parts)?;
+    put_parts(rt, &mut block, parts)?;
     assert!(rt; first <= 150);
     for i in 0..150 {
         put_part(
@@ -63,14 +63,14 @@ fn leaf(
 
 /// What in the slot of the file differs from the fresh file's, but for the first key of its second leaf.
 const SLOT: &str = "\
-5 03; 60 00256064; 70 012e; 78 012c;
-176 00010002; 188 000000000000;
+5 03, 60 00256064, 70 012e, 78 012c
+176 00010002, 188 000000000000
 340 000000000000012c 000000000000012d";
 
 /// The slot of the file, with this key.
 fn slot_with(rt: &(impl Abort + AllocGlobal), key: &str) -> Result<[u8; 512], AllocError> {
     let mut slot = file_with(rt, SLOT)?;
-    plant(rt, &mut slot, key)?;
+    put_parts(rt, &mut slot, key)?;
     seal_file(&mut slot);
     Ok(slot)
 }

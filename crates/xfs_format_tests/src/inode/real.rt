@@ -19,7 +19,7 @@ fn disk_of(rt: &(impl Abort + AllocGlobal)) -> Result<MemoryDisk, Fail> {
         let mut row = Row::new(line);
         let at = row.number(rt);
         let mut block = [0; BLOCK_SIZE];
-        plant(rt, &mut block, row.text())?;
+        put_parts(rt, &mut block, row.text())?;
         assert!(rt; matches!(disk.blocks(), Ok(count) if at < count));
         disk.write(at, &block)?;
     }
@@ -56,7 +56,7 @@ fn read_cut(rt: &(impl Abort + AllocGlobal), disk: &mut MemoryDisk, cut: &str) -
     let mut image = [0; 16];
     row.put(rt, &mut image, 0)?;
     let mut slot = [0; 512];
-    plant(rt, &mut slot, row.text())?;
+    put_parts(rt, &mut slot, row.text())?;
     assert!(rt; matches!(disk.blocks(), Ok(count) if 2048 <= count));
     let blank = Blank::new(1);
     match read_counted::<MemoryDisk, Brand>(rt.alloc(), image, disk, ino, &slot, blank) {
