@@ -147,10 +147,7 @@ fn placed(rt: &impl Abort, alloc: Global, image: DirImage) -> Result<DirSeen, Fa
     for i in 0..count {
         let offset = file_block(i, data_blocks, index_blocks);
         assert!(rt; (i as usize) < blocks.len());
-        assert!(rt;
-            place(offset, blocks.view_mut(i as usize)),
-            "file block {offset}"
-        );
+        same!(rt; place(offset, blocks.view_mut(i as usize)), true; offset);
         offsets.push(offset)?;
     }
     assert_ascending(rt, 0, offsets.as_slice());
@@ -184,7 +181,7 @@ fn share(rt: &impl Abort, alloc: Global, image: &DirImage, block: usize) -> usiz
     }
     match read_data(alloc, DIR, bytes, false) {
         Ok(data) => data.entries.len(),
-        Err(_) => panic!(rt; "block {block} is read"),
+        Err(_) => panic!(rt; "a block is not read"),
     }
 }
 

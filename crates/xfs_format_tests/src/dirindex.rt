@@ -72,8 +72,7 @@ const SINGLE: &str = "\
 0 4088 00000004 00000001
 ";
 
-/// The form, the check that is made, what it answers, the case, and what is changed: bytes of mapped blocks, and where
-/// they stand the size and the file blocks.
+/// The form, the check that is made, what it answers, the case, and what bytes of mapped blocks are changed.
 const CASES: &str = "\
 leaf leaf | Ok(()) | the leaf form |
 leaf leaf | Err(Unsound) | an address | 2 78 000d
@@ -93,11 +92,6 @@ leaf leaf | Err(Unsound) | another data block | 1 2 4233
 leaf leaf | Err(Unsound) | another directory | 0 70 0065
 leaf leaf | Err(Unsound) | another name of the parent | 0 90 2f02
 leaf single | Err(Unsound) | the leaf form as a single block |
-leaf leaf | Ok(()) | the size and the file blocks | | 16384 | 0 3 0x800000
-leaf leaf | Err(Unsound) | a size inside a block | | 16383 | 0 3 0x800000
-leaf leaf | Err(Unsound) | a size without the last data block | | 12288 | 0 3 0x800000
-leaf leaf | Err(Unsound) | an index block behind its place | | 16384 | 0 3 0x800001
-leaf leaf | Err(Unsound) | values of another data block | | 12288 | 0 2 0x800000
 node node | Ok(()) | the node form |
 node node | Err(Unsound) | an address | 4 70 0609
 node node | Err(Unsound) | a stale pair with an address | 3 86 000c
@@ -127,10 +121,6 @@ node leaf | Err(Unsound) | the node form as a leaf form |
 root node | Ok(()) | a leaf as the root |
 root node | Err(Unsound) | an address under a leaf as the root | 2 78 000d
 root node | Err(Unsound) | a left neighbour of the root | 2 6 0001
-root node | Err(Unsound) | a block behind the root that is not in the tree | | | 0 3 0x800000 0x800001
-root node | Err(Unsound) | a block in front of the root that is not in the tree | | | 0 3 0x7fffff 0x800000
-root node | Err(Unsound) | a free block of other data blocks | | | 0 3 0x800000 0x1000001
-root node | Err(Unsound) | a free block of other data blocks that says so | 3 50 07e0 | | 0 3 0x800000 0x1000001
 single single | Ok(()) | the single-block form |
 single single | Err(Unsound) | an address | 0 4070 000d
 single single | Err(Unsound) | a stale pair with an address | 0 4078 000c
@@ -140,8 +130,21 @@ single single | Err(Unsound) | the number of pairs | 0 4090 0003
 single single | Err(Unsound) | far more pairs | 0 4088 0001
 single single | Err(Unsound) | a data block of another form | 0 2 4433
 single single | Err(Unsound) | another inode of the directory | 0 64 0001
-single single | Err(Unsound) | a size of two blocks | | 8192 |
-single single | Err(Unsound) | file block 1 | | | 1
+";
+
+/// The same with the size and the file blocks before the changes.
+const SHAPES: &str = "\
+leaf leaf | Ok(()) | the size and the file blocks | 16384 | 0 3 0x800000 |
+leaf leaf | Err(Unsound) | a size inside a block | 16383 | 0 3 0x800000 |
+leaf leaf | Err(Unsound) | a size without the last data block | 12288 | 0 3 0x800000 |
+leaf leaf | Err(Unsound) | an index block behind its place | 16384 | 0 3 0x800001 |
+leaf leaf | Err(Unsound) | values of another data block | 12288 | 0 2 0x800000 |
+root node | Err(Unsound) | a block behind the root that is not in the tree | 16384 | 0 3 0x800000 0x800001 |
+root node | Err(Unsound) | a block in front of the root that is not in the tree | 16384 | 0 3 0x7fffff 0x800000 |
+root node | Err(Unsound) | a free block of other data blocks | 16384 | 0 3 0x800000 0x1000001 |
+root node | Err(Unsound) | a free block of other data blocks that says so | 16384 | 0 3 0x800000 0x1000001 | 3 50 07e0
+single single | Err(Unsound) | a size of two blocks | 8192 | 0 |
+single single | Err(Unsound) | file block 1 | 4096 | 1 |
 ";
 
 /// Fails where file blocks do not ascend from a least one on.
@@ -149,7 +152,7 @@ pub fn assert_ascending(rt: &impl Abort, least: u64, offsets: &[u64])
     ensures { Ascend least offsets.now }
 {
     if let Some((first, rest)) = offsets.split_first() {
-        assert!(rt; least <= *first && *first < 0x1_0000_0000, "{offsets:?}");
+        assert!(rt; least <= *first && *first < 0x1_0000_0000);
         assert_ascending(rt, *first + 1, rest);
     }
 }
@@ -161,53 +164,58 @@ fn put_blocks(
     text: &str,
 ) -> Result<(), AllocError> {
     for line in text.lines() {
-        for part in line.split(',') {
+        for part in line.split_terminator(',') {
             let mut row = Row::new(part);
             let (block, at) = (row.number(rt), row.number(rt));
-            assert!(rt; block < blocks.len(), "{part}");
+            assert!(rt; block < blocks.len());
             row.put(rt, blocks.view_mut(block), at)?;
         }
     }
     Ok(())
 }
 
-/// What stands in a row, or what else is so.
-fn or<'a>(text: &'a str, other: &'a str) -> &'a str {
-    if text.is_empty() { other } else { text }
+/// The size and the file blocks of a form.
+fn shape(form: &str) -> (&'static str, &'static str) {
+    match form {
+        "single" => ("4096", "0"),
+        "leaf" => ("16384", "0 3 0x800000"),
+        "root" => ("16384", "0 3 0x800000 0x1000000"),
+        _ => ("16384", "0 3 0x800000 0x800001 0x800002 0x1000000"),
+    }
 }
 
-/// Directory 100 in a form, with what a row changes.
+/// The parts of the mapped blocks of a form.
+fn parts_of(form: &str) -> [&'static str; 3] {
+    match form {
+        "single" => [SINGLE, "", ""],
+        "leaf" => [DATA, LEAF, ""],
+        "root" => [DATA, LEAF, ROOT],
+        _ => [DATA, NODE, ""],
+    }
+}
+
+/// Directory 100 in a form of this size, at these file blocks, with changes.
 fn seen(
     rt: &(impl Abort + AllocGlobal),
     form: &str,
-    changes: &str,
     size: &str,
     offsets: &str,
+    changes: &str,
 ) -> Result<DirSeen, Fail>
     ensures mapped { IfOk result (λ dir. length dir.blocks ≡ length dir.offsets.items) }
     ensures ascending { IfOk result (λ dir. Ascend 0 dir.offsets.items) }
 {
-    let (parts, due_size, due_offsets) = match form {
-        "single" => ([SINGLE, "", ""], "4096", "0"),
-        "leaf" => ([DATA, LEAF, ""], "16384", "0 3 0x800000"),
-        "root" => ([DATA, LEAF, ROOT], "16384", "0 3 0x800000 0x1000000"),
-        _ => (
-            [DATA, NODE, ""],
-            "16384",
-            "0 3 0x800000 0x800001 0x800002 0x1000000",
-        ),
-    };
-    let offsets = Row::new(or(offsets, due_offsets)).numbers(rt, rt.alloc())?;
+    let offsets = Row::new(offsets).numbers(rt, rt.alloc())?;
     let mut blocks = BlockBank::make(rt.alloc(), offsets.len())?;
-    for part in parts {
-        put_blocks(rt, &mut blocks, part)?;
+    for parts in parts_of(form) {
+        put_blocks(rt, &mut blocks, parts)?;
     }
     put_blocks(rt, &mut blocks, changes)?;
     assert_ascending(rt, 0, offsets.as_slice());
     assert!(rt; blocks.len() == offsets.len());
     Ok(DirSeen {
         dir: 100,
-        size: Row::new(or(size, due_size)).number(rt),
+        size: Row::new(size).number(rt),
         offsets,
         blocks,
     })
@@ -231,8 +239,21 @@ fn forms_of_directories(rt: HostRuntime) -> Result<(), Fail> {
         let mut row = Row::new(line);
         let (form, by) = (row.word(), row.word());
         let (answer, case) = (row.text(), row.text());
-        let (changes, size, offsets) = (row.text(), row.text(), row.text());
-        let dir = seen(&rt, form, changes, size, offsets)?;
+        let (size, offsets) = shape(form);
+        let dir = seen(&rt, form, size, offsets, row.text())?;
+        tells(&rt, &check(rt.alloc(), by, &dir), answer, case);
+    }
+    Ok(())
+}
+
+#[test]
+fn shapes_of_directories(rt: HostRuntime) -> Result<(), Fail> {
+    for line in SHAPES.lines() {
+        let mut row = Row::new(line);
+        let (form, by) = (row.word(), row.word());
+        let (answer, case) = (row.text(), row.text());
+        let (size, offsets) = (row.text(), row.text());
+        let dir = seen(&rt, form, size, offsets, row.text())?;
         tells(&rt, &check(rt.alloc(), by, &dir), answer, case);
     }
     Ok(())

@@ -5,7 +5,7 @@ ghost use Rattle.std.specs.Prelude.{◌≤◌};
 use super::cuts::{BLOCKS, CUTS};
 use super::*;
 use crate::checks::same;
-use crate::text::{Row, tells};
+use crate::text::{Row, refuse, tells};
 use std::marker::Brand;
 use std::sync::ledger::Blank;
 use xfs_attr::Attr;
@@ -64,7 +64,7 @@ fn read_cut(rt: &(impl Abort + AllocGlobal), disk: &mut MemoryDisk, cut: &str) -
             same!(rt; file.ino, ino; case);
             same_file(rt, &file, case, row);
         }
-        _ => panic!(rt; "{case} is a file"),
+        _ => refuse(rt, "no file is read", case),
     }
     Ok(())
 }
