@@ -8,7 +8,11 @@ mod bank;
 #[cfg(test)]
 mod checks;
 #[cfg(test)]
+mod dirbuild;
+#[cfg(test)]
 mod dirdata;
+#[cfg(test)]
+mod dirindex;
 #[cfg(test)]
 mod disk;
 #[cfg(test)]
@@ -16,11 +20,15 @@ mod geom;
 #[cfg(test)]
 mod heads;
 #[cfg(test)]
+mod inode;
+#[cfg(test)]
 mod kinds;
 #[cfg(test)]
 mod options;
 #[cfg(test)]
 mod runs;
+#[cfg(test)]
+mod shell;
 #[cfg(test)]
 mod text;
 #[cfg(test)]

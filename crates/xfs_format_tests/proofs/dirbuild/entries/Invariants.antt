@@ -1,7 +1,7 @@
 use Rattle.std.proofs.Common.{◌≡◌, length}
 use Rattle.std.specs.List.{All}
 use Rattle.xfs_dirbuild.specs.Names.{IsNamed}
-use Rattle.xfs_file_tests.proofs.dirbuild.entries.Given as goal
+use Rattle.xfs_format_tests.proofs.dirbuild.entries.Given as goal
 
 abbrev pub invariant-loop-number : goal.invariant-loop-number
 invariant-loop-number l = record {

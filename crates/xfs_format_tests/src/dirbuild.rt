@@ -6,13 +6,15 @@ ghost use Rattle.xfs_dirindex.specs.Mapped.{Ascend};
 ghost use Rattle.xfs_dirbuild.specs.Names.{IsNamed};
 
 use crate::checks::same;
+use crate::dirindex::{assert_ascending, check};
+use crate::text::{Row, tells};
 use std::alloc::{AllocError, Global};
 use std::process::Abort;
 use std::test::Fail;
 use xfs_bank::BlockBank;
 use xfs_dirbuild::*;
 use xfs_dirdata::{EntryRec, read_data};
-use xfs_dirindex::{DirSeen, IndexFault, check_block, check_leaf, check_node};
+use xfs_dirindex::DirSeen;
 use xfs_disk::Word;
 use xfs_word::{Seal, SealKind, get16, get32, put_part, put32, put64, seal, sealed};
 
@@ -70,32 +72,18 @@ fn built(alloc: Global, count: u32) -> Result<DirImage, Fail>
     Ok(build(alloc, &entries, DIR, DIR, FORK)?)
 }
 
-/// Adds so many numbers, one after the other.
-fn add_range(offsets: &mut Vec<u64>, first: u64, count: u64) -> Result<(), AllocError>
-    requires ascending { Ascend 0 offsets.old.items }
-    requires below { All (λ offset. offset < first) offsets.old.items }
-    requires fits { first + count < 2 ^ 32 }
-    ensures ascending { OnOk result (Ascend 0 offsets.new.items) }
-    ensures below { OnOk result (All (λ offset. offset < first + count) offsets.new.items) }
+/// The file block of a block of a directory with so many data and index blocks.
+fn file_block(place: u64, datas: u64, indexes: u64) -> u64
+    requires { place ≤ 0x2000000 }
+    ensures { result < 2 ^ 32 }
 {
-    for k in 0..count {
-        offsets.push(first + k)?;
+    if place < datas {
+        place
+    } else if place - datas < indexes {
+        0x80_0000 + (place - datas)
+    } else {
+        0x100_0000 + (place - datas - indexes)
     }
-    Ok(())
-}
-
-/// The file blocks of a directory.
-fn file_blocks(alloc: Global, datas: u64, indexes: u64, frees: u64) -> Result<Vec<u64>, AllocError>
-    requires datas { datas ≤ 0x800000 }
-    requires indexes { indexes ≤ 0x800000 }
-    requires frees { frees ≤ 0x800000 }
-    ensures { IfOk result (λ offsets. Ascend 0 offsets.items) }
-{
-    let mut offsets = Vec::new(alloc);
-    add_range(&mut offsets, 0, datas)?;
-    add_range(&mut offsets, 0x80_0000, indexes)?;
-    add_range(&mut offsets, 0x100_0000, frees)?;
-    Ok(offsets)
 }
 
 /// The kind of the block that stands at a file block.
@@ -145,29 +133,24 @@ fn placed(rt: &impl Abort, alloc: Global, image: DirImage) -> Result<DirSeen, Fa
     ensures mapped { IfOk result (λ dir. length dir.blocks ≡ length dir.offsets.items) }
     ensures ascending { IfOk result (λ dir. Ascend 0 dir.offsets.items) }
 {
-    assert!(rt; image.data_blocks <= 0x80_0000);
-    assert!(rt; image.index_blocks <= 0x80_0000);
-    assert!(rt; image.free_blocks <= 0x80_0000);
-    let offsets = file_blocks(
-        alloc,
-        image.data_blocks,
-        image.index_blocks,
-        image.free_blocks,
-    )?;
     let DirImage {
         short: _,
         data_blocks,
-        index_blocks: _,
-        free_blocks: _,
+        index_blocks,
+        free_blocks,
         mut blocks,
     } = image;
-    assert!(rt; offsets.len() == blocks.len());
-    for i in 0..offsets.len() {
-        let offset = offsets[i];
-        assert!(rt; offset < 0x200_0000);
-        assert!(rt; i < blocks.len());
-        assert!(rt; place(offset, blocks.view_mut(i)), "file block {offset}");
+    let most = 0x80_0000;
+    assert!(rt; data_blocks <= most && index_blocks <= most && free_blocks <= most);
+    let count = data_blocks + index_blocks + free_blocks;
+    let mut offsets = Vec::new(alloc);
+    for i in 0..count {
+        let offset = file_block(i, data_blocks, index_blocks);
+        assert!(rt; (i as usize) < blocks.len());
+        same!(rt; place(offset, blocks.view_mut(i as usize)), true; offset);
+        offsets.push(offset)?;
     }
+    assert_ascending(rt, 0, offsets.as_slice());
     assert!(rt; offsets.len() == blocks.len());
     Ok(DirSeen {
         dir: DIR,
@@ -177,43 +160,17 @@ fn placed(rt: &impl Abort, alloc: Global, image: DirImage) -> Result<DirSeen, Fa
     })
 }
 
-/// What the check of a form says.
-fn check(alloc: Global, form: Form, dir: &DirSeen) -> Result<(), IndexFault>
-    requires mapped { length dir.now.blocks ≡ length dir.now.offsets.items }
-    requires ascending { Ascend 0 dir.now.offsets.items }
-{
-    match form {
-        Form::Short => Ok(()),
-        Form::Single => check_block(alloc, dir),
-        Form::Leaf => check_leaf(alloc, dir),
-        Form::Node => check_node(alloc, dir),
-    }
-}
-
-/// How many names there are, the form, the numbers of data, index and free blocks, the bytes of the short form,
-/// and where an address of a pair stands: the block, and the byte offset in it.
-type Row = (u32, Form, u64, u64, u64, usize, usize, usize);
-
-const ROWS: [Row; 6] = [
-    (0, Form::Short, 0, 0, 0, 6, 0, 0),
-    (23, Form::Short, 0, 0, 0, 328, 0, 0),
-    (24, Form::Single, 1, 0, 0, 0, 0, 3892),
-    (40, Form::Single, 1, 0, 0, 0, 0, 3764),
-    (400, Form::Leaf, 3, 1, 0, 0, 3, 92),
-    (20000, Form::Node, 120, 41, 1, 0, 125, 92),
-];
-
-/// How many names there are, the first of some blocks, the one behind their last, and how many entries each of them has,
-/// `.` and `..` among those of the first data block.
-const SHARES: [(u32, usize, usize, usize); 7] = [
-    (400, 0, 2, 168),
-    (400, 2, 3, 66),
-    (20000, 0, 119, 168),
-    (20000, 119, 120, 10),
-    (20000, 120, 121, 40),
-    (20000, 121, 123, 501),
-    (20000, 123, 161, 500),
-];
+/// How many names there are, the form, the numbers of data, index and free blocks, the bytes of the short form, how many
+/// entries the blocks from one on up to another have each, `.` and `..` among those of the first data block, and where
+/// an address of a pair stands: the block, and the byte offset in it.
+const ROWS: &str = "\
+0 short | (0, 0, 0) | 6 |
+23 short | (0, 0, 0) | 328 |
+24 single | (1, 0, 0) | 0 | | 0 3892
+40 single | (1, 0, 0) | 0 | | 0 3764
+400 leaf | (3, 1, 0) | 0 | 0 2 168, 2 3 66 | 3 92
+20000 node | (120, 41, 1) | 0 | 0 119 168, 119 120 10, 120 121 40, 121 123 501, 123 161 500 | 125 92
+";
 
 /// How many entries a block has: the names of a data block, the pairs of an index block.
 fn share(rt: &impl Abort, alloc: Global, image: &DirImage, block: usize) -> usize {
@@ -224,48 +181,52 @@ fn share(rt: &impl Abort, alloc: Global, image: &DirImage, block: usize) -> usiz
     }
     match read_data(alloc, DIR, bytes, false) {
         Ok(data) => data.entries.len(),
-        Err(_) => panic!(rt; "block {block} is read"),
+        Err(_) => panic!(rt; "a block is not read"),
     }
 }
 
-/// Asserts that the blocks of a directory with so many names have the entries that are due.
-fn assert_shares(rt: &impl Abort, alloc: Global, count: u32, image: &DirImage) {
-    for (names, first, end, due) in SHARES {
-        if names == count {
-            for block in first..end {
-                same!(rt; share(rt, alloc, image, block), due; (count, block));
-            }
+/// Asserts that the blocks of a directory have the entries that are due.
+fn assert_shares(rt: &impl Abort, alloc: Global, image: &DirImage, shares: &str) {
+    for part in shares.split_terminator(',') {
+        let mut row = Row::new(part);
+        let (first, end) = (row.number(rt), row.number(rt));
+        let due = row.number(rt);
+        for block in first..end {
+            same!(rt; share(rt, alloc, image, block), due; (part, block));
         }
     }
 }
 
 /// Asserts that what is built of a row is as the row says, and whole, and is not with another address.
-fn assert_row(rt: &impl Abort, alloc: Global, row: &Row) -> Result<(), Fail> {
-    let (count, form, data, index, free, short, block, at) = *row;
+fn assert_row(rt: &(impl Abort + AllocGlobal), line: &str) -> Result<(), Fail> {
+    let mut row = Row::new(line);
+    let (count, form) = (row.number(rt), row.word());
     assert!(rt; count <= 20000);
-    let image = built(alloc, count)?;
-    same!(rt; (image.data_blocks, image.index_blocks, image.free_blocks), (data, index, free); count);
-    same!(rt; image.short.len(), short; count);
-    assert_shares(rt, alloc, count, &image);
-    let mut dir = placed(rt, alloc, image)?;
-    if form == Form::Short {
+    let image = built(rt.alloc(), count)?;
+    let blocks = (image.data_blocks, image.index_blocks, image.free_blocks);
+    tells(rt, &blocks, row.text(), line);
+    same!(rt; image.short.len(), row.number(rt); line);
+    assert_shares(rt, rt.alloc(), &image, row.text());
+    let mut dir = placed(rt, rt.alloc(), image)?;
+    if form == "short" {
         return Ok(());
     }
-    same!(rt; check(alloc, form, &dir), Ok(()); count);
+    tells(rt, &check(rt.alloc(), form, &dir), "Ok(())", line);
+    let (block, at) = (row.number(rt), row.number(rt));
     assert!(rt; block < dir.blocks.len());
     assert!(rt; at < 4000);
     let bytes = dir.blocks.view_mut(block);
     let address = get32(bytes, at);
     put32(bytes, at, address.wrapping_add(1));
     assert!(rt; dir.blocks.len() == dir.offsets.len());
-    same!(rt; check(alloc, form, &dir), Err(IndexFault::Unsound); count);
+    tells(rt, &check(rt.alloc(), form, &dir), "Err(Unsound)", line);
     Ok(())
 }
 
 #[test]
 fn forms(rt: HostRuntime) -> Result<(), Fail> {
-    for row in &ROWS {
-        assert_row(&rt, rt.alloc(), row)?;
+    for line in ROWS.lines() {
+        assert_row(&rt, line)?;
     }
     Ok(())
 }

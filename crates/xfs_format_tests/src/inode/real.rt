@@ -1,0 +1,79 @@
+//! Inodes of every type, as they stand in real images.
+
+ghost use Rattle.std.specs.Prelude.{◌≤◌};
+
+use super::cuts::{BLOCKS, CUTS};
+use super::*;
+use crate::checks::same;
+use crate::text::{Row, refuse, tells};
+use std::marker::Brand;
+use std::sync::ledger::Blank;
+use xfs_attr::Attr;
+use xfs_disk::{BLOCK_SIZE, Disk, MemoryDisk};
+use xfs_volume::FileRec;
+
+/// The blocks of an image, as a disk.
+fn disk_of(rt: &(impl Abort + AllocGlobal)) -> Result<MemoryDisk, Fail> {
+    let mut disk = MemoryDisk::make(rt.alloc(), 2048)?;
+    for line in BLOCKS.lines() {
+        let mut row = Row::new(line);
+        let at = row.number(rt);
+        let mut block = [0; BLOCK_SIZE];
+        put_parts(rt, &mut block, row.text())?;
+        assert!(rt; matches!(disk.blocks(), Ok(count) if at < count));
+        disk.write(at, &block)?;
+    }
+    Ok(disk)
+}
+
+/// Tests that attributes are those that are printed.
+fn same_attributes(rt: &impl Abort, attrs: &[Attr], due: &str) {
+    let mut due = Row::new(due);
+    for attr in attrs {
+        same!(rt; attr.flags, due.number(rt));
+        same!(rt; attr.name.bytes(), due.word().as_bytes());
+        same!(rt; attr.value.bytes(), due.word().as_bytes());
+    }
+    assert!(rt; due.is_read());
+}
+
+/// Tests that a file is the one that is printed: its core, its extents, those of its attributes, the blocks of its tree,
+/// its device, its attributes and its target.
+fn same_file(rt: &(impl Abort + AllocGlobal), file: &FileRec, case: &str, mut due: Row) {
+    tells(rt, &file.core, due.text(), case);
+    tells(rt, &file.extents.as_slice(), due.text(), case);
+    tells(rt, &file.attr.as_slice(), due.text(), case);
+    tells(rt, &file.tree.as_slice(), due.text(), case);
+    same!(rt; file.device, due.number(rt); case);
+    same_attributes(rt, file.attrs.as_slice(), due.text());
+    same!(rt; file.target.bytes(), due.text().as_bytes(); case);
+}
+
+/// Tests that an inode reads as it is printed.
+fn read_cut(rt: &(impl Abort + AllocGlobal), disk: &mut MemoryDisk, cut: &str) -> Result<(), Fail> {
+    let mut row = Row::new(cut);
+    let (case, ino) = (row.text(), row.number(rt));
+    let mut image = [0; 16];
+    row.put(rt, &mut image, 0)?;
+    let mut slot = [0; 512];
+    put_parts(rt, &mut slot, row.text())?;
+    assert!(rt; matches!(disk.blocks(), Ok(count) if 2048 <= count));
+    let blank = Blank::new(1);
+    match read_counted::<MemoryDisk, Brand>(rt.alloc(), image, disk, ino, &slot, blank) {
+        Ok(FileRead::File(file)) => {
+            same!(rt; file.ino, ino; case);
+            same_file(rt, &file, case, row);
+        }
+        _ => refuse(rt, "no file is read", case),
+    }
+    Ok(())
+}
+
+#[test]
+fn inodes_of_every_type(rt: HostRuntime) -> Result<(), Fail> {
+    let mut disk = disk_of(&rt)?;
+    for cut in CUTS.split('#') {
+        read_cut(&rt, &mut disk, cut)?;
+    }
+    Ok(())
+}

@@ -1,0 +1,116 @@
+//! Sessions over the volume, one row each.
+
+use super::volume::volume;
+use crate::checks::same;
+use crate::text::{Row, tells};
+use std::alloc::{AllocError, Global};
+use std::process::Abort;
+use std::test::Fail;
+use xfs_disk::{MemorySink, MemorySource, Word};
+use xfs_shell::{ShellOptions, shell};
+use xfs_volume::Records;
+
+/// The case; whether fields may be written, and whether nothing may be written; which call of the disk and which of the
+/// input fails, and how many bytes can be put; the outcome; the commands; the input; and what is put. `~` ends a line.
+const SESSIONS: &str = "\
+without -x, from lines | false false - - 400 | Done | | hash a~hash lost+found~convert fsblock 1030 daddr~write crc 1~pop~agf 2~ | 0x61~0x21aa60c~0x2030 (8240)~write: needs -x~no address~bad number: 2~
+commands as options | true false - - 400 | Done | agf 1~print freeblks longest~addr bnoroot~print recs[1] | | freeblks = 500~longest = 500~recs[1] = 524,500~
+a written number | true false - - 400 | Done | agf 0~write freeblks 5~print freeblks | | freeblks = 5~freeblks = 5~
+a blank line, texts and checksums | true false - - 400 | Done | | sb~~ \t~print uuid fname crc versionnum | uuid = 00112233-4455-6677-8899-aabbccddeeff~fname = \"a b\"\\001\\377\"~crc = 0x7ebccc98 (correct)~versionnum = 0xb4a5~
+a stack of places | true false - - 400 | Done | | sb~push agf 1~stack~type~pop~type inode~type~push x~push push addr freeblks~stack~quit~hash a | 0: block 0 sector 0 type sb~type = agf~type = inode~bad command: x~no field: freeblks~
+numbers that are refused | true false - - 400 | Done | | inode 128~stack 1~write gen 4294967296~write gen 0xffFFffff~print recs[1]~inode 5000000000000000000000~inode 0x~convert daddr 130 byte~convert ino 1 x~ | bad command: stack~bad number: 4294967296~gen = 4294967295~no field: recs[1]~out of image~bad number: 0x~0x10400 (66560)~bad command: convert~
+no address | true false - - 400 | Done | | addr bnoroot~type~print~push agf~write crc 1~sb~type x~write uuid 1~write crc 1~write x 1~addr x~ | no address~no address~no address~no address~no address~no type: x~no field: uuid~no field: crc~no field: x~no field: x~
+fields of a block of another type | true false - - 400 | Done | agf 1~addr bnoroot~write recs[1] 5~print recs[2] | | no field: recs[1]~no field: recs[2]~
+places out of the image | true false - - 400 | Done | | fsblock 2048~daddr 16384~convert fsblock 99999 ino~convert ino 16384 byte~convert x 1 ino~convert byte 1 ino~print | out of image~out of image~out of image~out of image~bad command: convert~bad command: convert~no address~
+zero bytes | true false - - 400 | Done | | ha\0sh a~hash a\0b~\0 | bad command: ha\0sh~0x184062~bad command: \0~
+a full output in a printed block | true false - - 77 | OutputFault { finished: 2 } | fsblock 5~print | | 000: 00000000 00000000 00000000 00000000 00000000 00000000 00000000 00000000~
+read-only | true true - - 400 | Done | write crc 1 | | write: read-only~
+a failing read | true false 2 - 400 | ReadFault { finished: 1 } | agf 0~print seqno | |
+a failing write | true false 3 - 400 | WriteFault { written: 0, finished: 1 } | agf 0~write freeblks 5 | |
+a failing sync | true false 4 - 400 | WriteFault { written: 1, finished: 1 } | agf 0~write freeblks 5 | |
+a full output in a line | true false - - 7 | OutputFault { finished: 2 } | hash a~hash a~hash a | | 0x61~0x
+a failing first read | true false 1 - 400 | ReadFault { finished: 0 } | agf 0 | |
+a failing input | true false - 1 80 | InputFault | | hash a~ |
+";
+
+/// The lines of a field, in which `~` ends each.
+fn lines_of(alloc: Global, text: &str) -> Result<Vec<u8>, AllocError> {
+    let mut lines = Vec::new(alloc);
+    for byte in text.as_bytes() {
+        lines.push(if *byte == b'~' { b'\n' } else { *byte })?;
+    }
+    Ok(lines)
+}
+
+/// The options of a session.
+fn options_of(
+    alloc: Global,
+    expert: bool,
+    read_only: bool,
+    texts: &str,
+) -> Result<ShellOptions, AllocError> {
+    let mut commands = Vec::new(alloc);
+    for text in texts.split_terminator('~') {
+        commands.push(Word::from_vec(Vec::from_slice(alloc, text.as_bytes())?))?;
+    }
+    Ok(ShellOptions {
+        expert,
+        read_only,
+        commands: Records::from_vec(commands),
+    })
+}
+
+/// Runs the session of a line, and compares what it put and its outcome.
+fn check(rt: &(impl Abort + AllocGlobal), line: &str) -> Result<(), Fail> {
+    let mut row = Row::new(line);
+    let case = row.text();
+    let (expert, read_only) = (row.flag(rt), row.flag(rt));
+    let (failing, failing_input) = (row.optional(rt), row.optional(rt));
+    let (room, outcome) = (row.number(rt), row.text());
+    let options = options_of(rt.alloc(), expert, read_only, row.text())?;
+    let mut disk = volume(rt)?;
+    if let Some(call) = failing {
+        disk.fail(call)?;
+    }
+    let mut input = MemorySource::make(rt.alloc(), lines_of(rt.alloc(), row.text())?.as_slice())?;
+    if let Some(call) = failing_input {
+        input.fail(call)?;
+    }
+    let mut out = MemorySink::make(rt.alloc(), room)?;
+    let answer = shell(rt.alloc(), &mut disk, &mut input, &mut out, &options);
+    tells(rt, &answer, outcome, case);
+    let told = lines_of(rt.alloc(), row.text())?;
+    same!(rt; out.bytes(), told.as_slice(); case);
+    Ok(())
+}
+
+#[test]
+fn sessions(rt: HostRuntime) -> Result<(), Fail> {
+    for line in SESSIONS.lines() {
+        check(&rt, line)?;
+    }
+    Ok(())
+}
+
+/// The letter that the input is made of, how often it stands there, and the outcome.
+const LONG: &str = "\
+0x20 1048576 | Done
+0x20 1048577 | InputLong
+0x78 1048576 | OutputFault { finished: 1 }
+";
+
+#[test]
+fn inputs_of_more_bytes_than_there_may_be_are_too_long(rt: HostRuntime) -> Result<(), Fail> {
+    let options = options_of(rt.alloc(), true, false, "")?;
+    for line in LONG.lines() {
+        let mut row = Row::new(line);
+        let (letter, count) = (row.number(&rt), row.number(&rt));
+        let mut disk = volume(&rt)?;
+        let bytes = vec![in rt.alloc(); letter; count]?;
+        let mut input = MemorySource::make(rt.alloc(), bytes.as_slice())?;
+        let mut out = MemorySink::make(rt.alloc(), 80)?;
+        let answer = shell(rt.alloc(), &mut disk, &mut input, &mut out, &options);
+        tells(&rt, &answer, row.text(), line);
+    }
+    Ok(())
+}
