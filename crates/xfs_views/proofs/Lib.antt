@@ -7,3 +7,7 @@ pub mod Numbers
 pub mod Lsns
 pub mod Catalogs
 pub mod Findings
+pub mod Tests
+pub mod Blocks
+pub mod Forms
+pub mod Wholes
