@@ -11,3 +11,5 @@ pub mod Tests
 pub mod Blocks
 pub mod Forms
 pub mod Wholes
+pub mod FileTests
+pub mod FileReads

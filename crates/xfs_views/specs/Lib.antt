@@ -1,1 +1,2 @@
 pub mod DirectoriesInWords
+pub mod FilesInWords
