@@ -1,14 +1,14 @@
 -- The data blocks of a directory and the pairs of its index: tests say what the words say.
-use Rattle.std.proofs.Common.{◌≡◌, ◌≢◌, ℕ, zero, suc, ◌+◌, ◌*◌, ◌<◌, ◌≤◌, Bool, true, false, not, ◌&&◌, ◌||◌, ◌==◌, nat_le, nat_lt, if◌then◌else◌, List, [], ◌∷◌, length, filter, count_by, slice_index, is_some, refl, sym, ap, ◌∙◌, subst, arith, inl, inr}
-use Rattle.std.specs.List.{All, list_all, list_any, range_with_len}
-use Rattle.std.proofs.lemmas.Bool.{and_parts, and_from, cases_Bool, eqb-true, eq-eqb, lt-ltb, ltb-true, not-true, not_from_false, or_from, or_parts, true≢false}
+use Rattle.std.proofs.Common.{◌≡◌, ℕ, ◌+◌, ◌*◌, ◌<◌, Bool, true, false, ◌&&◌, ◌==◌, nat_lt, if◌then◌else◌, List, [], ◌∷◌, length, filter, count_by, slice_index, is_some, refl, sym, ap, ◌∙◌, subst, arith}
+use Rattle.std.specs.List.{All, list_all, list_any}
+use Rattle.std.proofs.lemmas.Bool.{and_parts, and_from, eqb-true, eq-eqb, lt-ltb, ltb-true, not-true, not_from_false, or_from, or_parts, true≢false}
 use Rattle.std.proofs.lemmas.List.Elements.{All-cons, All-head, All-nil, All-tail}
 use Rattle.xfs_word.specs.Field.{field_of}
 use Rattle.xfs_dirdata.specs.Data.{data_of}
 use Rattle.xfs_dirdata.specs.declared.records.EntryRec.{EntryRec}
 use Rattle.xfs_dirindex.specs.Data.{are_data, area_in, begin_with_dots, have_no_dots, is_dots, is_first, is_later, is_parent, is_self, is_sound, magic_of}
 use Rattle.xfs_dirindex.specs.Leaf.{are_values, best_at}
-use Rattle.xfs_dirindex.specs.Mapped.{Mapped, is_data}
+use Rattle.xfs_dirindex.specs.Mapped.{Mapped}
 use Rattle.xfs_dirindex.specs.Pairs.{are_same, is_index, is_live, is_stale, rises}
 use Rattle.xfs_dirindex.specs.declared.data.Best.{Best}
 use Rattle.xfs_dirindex.specs.declared.pairs.Pair.{Pair}

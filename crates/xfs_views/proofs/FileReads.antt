@@ -1,5 +1,5 @@
 -- A slot reads as a file where it does in words.
-use Rattle.std.proofs.Common.{◌≡◌, inl, inr, ℕ, ◌+◌, Bool, true, false, not, ◌&&◌, ◌||◌, ◌==◌, if◌then◌else◌, List, length, Option, Some, None, refl, sym, ap, ◌∙◌, subst}
+use Rattle.std.proofs.Common.{◌≡◌, ℕ, ◌+◌, Bool, true, false, ◌&&◌, ◌==◌, if◌then◌else◌, List, length, Option, Some, None, refl, sym, ap, ◌∙◌}
 use Rattle.std.specs.List.{All, list_all}
 use Rattle.std.proofs.lemmas.Bool.{and_parts, and_from, eqb-true, eq-eqb}
 use Rattle.xfs_word.specs.declared.extents.Extent.{Extent}
@@ -10,7 +10,6 @@ use Rattle.xfs_volume.specs.declared.files.FileRec.{FileRec}
 use Rattle.xfs_inode.specs.Files.{AttrFork, are_apart, attr_fork, blocks_in, by_slot, data_fork, feature_of, file_of, file_read, has_leaf, has_target, is_apart, is_clear, is_core, is_counted, is_link, is_placed, is_whole, no_attrs, run_of_block, runs_of, used_file, with_attrs, with_data, with_feature}
 use Rattle.xfs_inode.specs.Forks.{attr_place, link_place, type_of}
 use Rattle.xfs_inode.specs.Slots.{slot_read}
-use Rattle.xfs_inode.specs.declared.claims.Run.{Run}
 use Rattle.xfs_inode.specs.declared.files.FileRead.{FileRead}
 use Rattle.xfs_inode.specs.declared.files.FileRead.TheVariants as Reads
 use Rattle.xfs_inode.specs.declared.reading.SlotRead.{SlotRead}
@@ -74,10 +73,10 @@ module _ (v : Volume) (ino : ℕ) (slot : List ℕ) (tree : Option (Contents Ext
         data_reads = has.reads;
         placed = placed_says v held parts.1 both.1;
         target = λ type format. asked_says (type_of core == 10 && core.format == 2) (is_link v ino core slot (link_place v core slot) link) parts.0
-        (and_from (type_of core == 10) (core.format == 2) (eq-eqb (type_of core) 10 type) (eq-eqb core.format 2 format));
+            (and_from (type_of core == 10) (core.format == 2) (eq-eqb (type_of core) 10 type) (eq-eqb core.format 2 format));
         attrs_read = has.attrs.reads;
         clear = all_say (λ block. list_all (is_apart (run_of_block block)) (runs_of v held)) (λ block. All (AreApart (run_of_block block)) (runs_of v held))
-        (λ block is. all_say (is_apart (run_of_block block)) (AreApart (run_of_block block)) (apart_says (run_of_block block)) (runs_of v held) is) fork.blocks has.attrs.clear;
+            (λ block is. all_say (is_apart (run_of_block block)) (AreApart (run_of_block block)) (apart_says (run_of_block block)) (runs_of v held) is) fork.blocks has.attrs.clear;
         counted = eqb-true core.nblocks (blocks_in held.records + length held.blocks + length fork.blocks) has.attrs.counted;
         is = has.attrs.is;
       }

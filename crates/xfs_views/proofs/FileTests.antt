@@ -1,7 +1,7 @@
 -- A slot reads as a file by its tests where it does in words, and the other way round.
-use Rattle.std.proofs.Common.{◌≡◌, ◌≢◌, ◌⊎◌, inl, inr, ℕ, zero, suc, ◌+◌, ◌^◌, ◌<◌, ◌≤◌, Bool, true, false, not, ◌&&◌, ◌||◌, ◌==◌, nat_le, nat_lt, if◌then◌else◌, List, [], ◌∷◌, length, Option, Some, None, refl, sym, ap, ◌∙◌, subst, arith}
+use Rattle.std.proofs.Common.{◌≡◌, ◌≢◌, ◌⊎◌, inl, inr, ℕ, suc, ◌+◌, ◌^◌, ◌<◌, ◌≤◌, Bool, true, false, not, ◌&&◌, ◌||◌, ◌==◌, nat_le, nat_lt, List, [], ◌∷◌, Option, Some, None, refl, sym, arith}
 use Rattle.std.specs.List.{All, AllPairs, list_all}
-use Rattle.std.proofs.lemmas.Bool.{and_parts, and_from, eqb-false, eqb-true, eq-eqb, le-leb, leb-true, lt-ltb, ltb-true, ne_eqb, or_cases, or_left, or_right, true≢false}
+use Rattle.std.proofs.lemmas.Bool.{and_parts, and_from, eqb-false, eqb-true, eq-eqb, le-leb, leb-true, lt-ltb, ltb-true, or_cases, or_left, or_right, true≢false}
 use Rattle.std.proofs.lemmas.List.Elements.{All-cons, All-head, All-nil, All-tail, All-weaker}
 use Rattle.std.proofs.lemmas.List.Kept.{AllPairs-cons}
 use Rattle.xfs_word.specs.declared.extents.Extent.{Extent}
@@ -9,17 +9,11 @@ use Rattle.xfs_geom.specs.Volumes.{Volume}
 use Rattle.xfs_tree.specs.Reading.{Contents}
 use Rattle.xfs_kinds.specs.FileTrees.{follows_offset, is_extent}
 use Rattle.xfs_volume.specs.declared.cores.Core.{Core}
-use Rattle.xfs_volume.specs.declared.files.FileRec.{FileRec}
-use Rattle.xfs_inode.specs.Files.{AttrFork, are_apart, are_blocks, are_extents, attr_fork, blocks_in, by_slot, data_fork, feature_of, file_of, file_read, has_format, has_forkoff, has_leaf, has_target, is_apart, is_clear, is_core, is_counted, is_link, is_local_whole, is_placed, is_whole, no_attrs, run_of_block, runs_of, states_no_fork, used_file, with_attrs, with_data, with_feature}
-use Rattle.xfs_inode.specs.Forks.{attr_place, link_place, type_of}
-use Rattle.xfs_inode.specs.Slots.{slot_read}
+use Rattle.xfs_inode.specs.Files.{are_apart, are_blocks, are_extents, has_format, has_forkoff, is_apart, is_core, is_local_whole, is_placed, runs_of, states_no_fork}
+use Rattle.xfs_inode.specs.Forks.{type_of}
 use Rattle.xfs_inode.specs.Writing.{fork_bytes}
 use Rattle.xfs_inode.specs.declared.claims.Run.{Run}
-use Rattle.xfs_inode.specs.declared.files.FileRead.{FileRead}
-use Rattle.xfs_inode.specs.declared.files.FileRead.TheVariants as Reads
-use Rattle.xfs_inode.specs.declared.reading.SlotRead.{SlotRead}
-use Rattle.xfs_inode.specs.declared.reading.SlotRead.TheVariants as Read
-use Rattle.xfs_views.specs.FilesInWords.{AreApart, IsDataPlaced, IsFileCore, IsReadFile}
+use Rattle.xfs_views.specs.FilesInWords.{AreApart, IsDataPlaced, IsFileCore}
 use Rattle.xfs_views.proofs.Tests.{all_pass, all_say}
 
 -- a test that is asked where another is passed
@@ -33,7 +27,7 @@ asked_passes false b each = refl
 
 -- the core
 either_says : (a b : ℕ) (t : ℕ) → (t == a || t == b) ≡ true → (t ≡ a) ⊎ (t ≡ b)
-either_says a b t is = elim (or_cases (t == a) (t == b) is) [ | inl one ↦ inl (eqb-true t a one) | inr two ↦ inr (eqb-true t b two) ]
+either_says a b t is = elim (or_cases (t == a) (t == b) is) [ inl one ↦ inl (eqb-true t a one) | inr two ↦ inr (eqb-true t b two) ]
 
 either_passes : (a b : ℕ) (t : ℕ) → (t ≡ a) ⊎ (t ≡ b) → (t == a || t == b) ≡ true
 either_passes a b t (inl one) = or_left (t == a) (t == b) (eq-eqb t a one)
@@ -103,7 +97,7 @@ core_passes core is =
 
 -- runs that are apart
 pub apart_says : (a b : Run) → is_apart a b ≡ true → AreApart a b
-apart_says a b is = elim (or_cases (nat_le a.end b.start) (nat_le b.end a.start) is) [ | inl one ↦ inl (leb-true a.end b.start one) | inr two ↦ inr (leb-true b.end a.start two) ]
+apart_says a b is = elim (or_cases (nat_le a.end b.start) (nat_le b.end a.start) is) [ inl one ↦ inl (leb-true a.end b.start one) | inr two ↦ inr (leb-true b.end a.start two) ]
 
 pub apart_passes : (a b : Run) → AreApart a b → is_apart a b ≡ true
 apart_passes a b (inl one) = or_left (nat_le a.end b.start) (nat_le b.end a.start) (le-leb a.end b.start one)
@@ -151,10 +145,11 @@ extents_say v before (e ∷ es) is =
     let both = and_parts (is_extent v e && follows_offset before e) (are_extents v (Some e) es) is in
     let parts = and_parts (is_extent v e) (follows_offset before e) both.0 in
     let rest = extents_say v (Some e) es both.1 in
-    let here = behind_one v before e parts.1 in
-    (All-cons (λ (e : Extent). is_extent v e ≡ true) e es parts.0 rest.0,
-    All-cons (Behind before) e es here (All-weaker (Ends e) (Behind before) (λ other more. behind_more before e other here more) es rest.1),
-    AllPairs-cons Ends e es rest.1 rest.2)
+    let here = behind_one v before e parts.1 in (
+      All-cons (λ (e : Extent). is_extent v e ≡ true) e es parts.0 rest.0,
+      All-cons (Behind before) e es here (All-weaker (Ends e) (Behind before) (λ other more. behind_more before e other here more) es rest.1),
+      AllPairs-cons Ends e es rest.1 rest.2,
+    )
 
 extents_pass : (v : Volume) (before : Option Extent) (es : List Extent) → All (λ (e : Extent). is_extent v e ≡ true) es → All (Behind before) es → AllPairs Ends es
     → are_extents v before es ≡ true

@@ -1,9 +1,9 @@
 -- The three forms of a directory with blocks: tests say what the words say.
-use Rattle.std.proofs.Common.{◌≡◌, ℕ, zero, suc, ◌+◌, ◌-◌, ◌*◌, ◌/◌, ◌%◌, ◌<◌, ◌≤◌, Bool, true, false, ◌&&◌, ◌||◌, ◌==◌, nat_le, nat_lt, if◌then◌else◌, List, [], ◌∷◌, length, filter, count_by, refl, sym, ap, ◌∙◌, subst, arith}
-use Rattle.std.specs.List.{All, list_all}
+use Rattle.std.proofs.Common.{◌≡◌, ℕ, zero, suc, ◌+◌, ◌-◌, ◌*◌, ◌/◌, ◌%◌, ◌≤◌, Bool, true, false, ◌&&◌, ◌||◌, ◌==◌, nat_le, nat_lt, if◌then◌else◌, List, [], ◌∷◌, length, filter, count_by, refl, sym, subst}
+use Rattle.std.specs.List.{list_all}
 use Rattle.std.proofs.lemmas.Bool.{and_parts, and_from, eqb-true, eq-eqb, le-leb, leb-true, lt-ltb, ltb-true, true≢false}
 use Rattle.xfs_word.specs.Field.{field_of}
-use Rattle.xfs_dirindex.specs.Block.{is_alone, is_single, is_whole_block, tail_count, tail_pairs}
+use Rattle.xfs_dirindex.specs.Block.{is_single, is_whole_block, tail_count, tail_pairs}
 use Rattle.xfs_dirindex.specs.Data.{all_bests, all_pairs, are_data, is_first, pairs_in}
 use Rattle.xfs_dirindex.specs.FreeBlocks.{are_free, free_count, has_value, has_values, is_covered, is_free_sound, used_in}
 use Rattle.xfs_dirindex.specs.IndexTree.{all_leaf_pairs, all_places, are_due, are_exactly, are_levels, are_members, form_of, has_form, has_greatest, has_neighbours, index_places, is_member, is_tree, keeps_rules, last_hash, next_of, pairs_below, root_level, root_links, stated_of}
@@ -11,10 +11,10 @@ use Rattle.xfs_dirindex.specs.Leaf.{are_values, end_of, is_leaf, is_only_leaf, i
 use Rattle.xfs_dirindex.specs.Lookup.{bytes_of, is_there}
 use Rattle.xfs_dirindex.specs.Mapped.{Mapped, is_beyond}
 use Rattle.xfs_dirindex.specs.Node.{is_whole_node}
-use Rattle.xfs_dirindex.specs.Pairs.{are_same, is_index, is_live, is_stale, pairs_at}
+use Rattle.xfs_dirindex.specs.Pairs.{are_same, is_index, is_stale, pairs_at}
 use Rattle.xfs_dirindex.specs.declared.data.Best.{Best}
 use Rattle.xfs_dirindex.specs.declared.pairs.Pair.{Pair}
-use Rattle.xfs_views.specs.DirectoriesInWords.{AreDataBlocks, AreFreeBlocks, AreLevels, AreMembers, HaveValues, IsCovered, IsFirstBlock, IsFreeBlock, IsIndex, IsIndexTree, IsLeafForm, IsMember, IsNodeForm, IsSingleForm}
+use Rattle.xfs_views.specs.DirectoriesInWords.{AreFreeBlocks, AreLevels, AreMembers, HaveValues, IsCovered, IsFreeBlock, IsIndex, IsIndexTree, IsLeafForm, IsMember, IsNodeForm, IsSingleForm}
 use Rattle.xfs_views.proofs.Blocks.{data_passes, data_says, first_passes, first_says, index_passes, index_says, values_pass, values_say}
 use Rattle.xfs_views.proofs.Tests.{all_pass, all_say, same_passes, same_says}
 

@@ -1,5 +1,5 @@
 -- A directory is whole by its tests where it is whole in words, and the other way round.
-use Rattle.std.proofs.Common.{◌≡◌, ◌⊎◌, inl, inr, ℕ, Bool, true, false, ◌&&◌, ◌||◌, ◌==◌, if◌then◌else◌, List, Option, Some, None, is_some, refl, sym, ap, ◌∙◌, subst}
+use Rattle.std.proofs.Common.{◌≡◌, inl, inr, ℕ, Bool, true, false, ◌&&◌, ◌||◌, if◌then◌else◌, List, Option, Some, None, is_some, refl, sym, subst}
 use Rattle.std.specs.List.{list_all}
 use Rattle.std.proofs.lemmas.Bool.{and_parts, and_from, eqb-false, eqb-true, eq-eqb, ne_eqb, or_cases, or_left, or_right, true≢false}
 use Rattle.std.proofs.lemmas.List.Folds.{Any-from_list_any, list_any-from_Any}
@@ -12,7 +12,7 @@ use Rattle.xfs_dirindex.specs.Mapped.{Mapped}
 use Rattle.xfs_dirindex.specs.Node.{is_whole_node}
 use Rattle.xfs_volume.specs.declared.files.FileRec.{FileRec}
 use Rattle.xfs_image.specs.Directories.{FileBlock, data_blocks, has_form, is_own, is_sealed_as, is_short, is_whole, kinds_at, mapped_blocks, short_form}
-use Rattle.xfs_views.specs.DirectoriesInWords.{HasForm, IsBlockDirectory, IsLeafForm, IsNodeForm, IsOwn, IsShortDirectory, IsSingleForm, IsWholeDirectory}
+use Rattle.xfs_views.specs.DirectoriesInWords.{HasForm, IsLeafForm, IsNodeForm, IsOwn, IsSingleForm, IsWholeDirectory}
 use Rattle.xfs_views.proofs.Forms.{leaf_form_passes, leaf_form_says, node_form_passes, node_form_says, single_passes, single_says}
 use Rattle.xfs_views.proofs.Tests.{all_pass, all_say}
 

@@ -1,5 +1,5 @@
 -- When a directory is whole, in the words of its blocks, its entries and its index (chapter "Directories").
-use Rattle.std.specs.Prelude.{ℕ, zero, suc, ◌≡◌, ◌≢◌, ◌⊎◌, ◌<◌, ◌≤◌, ◌+◌, ◌-◌, ◌*◌, ◌/◌, ◌%◌, Bool, true, false, List, [], ◌∷◌, filter, length, count_by, Option, Some, is_some}
+use Rattle.std.specs.Prelude.{ℕ, zero, suc, ◌≡◌, ◌≢◌, ◌⊎◌, ◌<◌, ◌≤◌, ◌+◌, ◌-◌, ◌*◌, ◌/◌, ◌%◌, Bool, true, false, List, [], ◌∷◌, filter, length, count_by, Some, is_some}
 use Rattle.std.specs.List.{All, AllPairs, Any}
 use Rattle.xfs_word.specs.Field.{field_of}
 use Rattle.xfs_word.specs.declared.kinds.SealKind.{SealKind}
