@@ -7,3 +7,9 @@ pub mod Numbers
 pub mod Lsns
 pub mod Catalogs
 pub mod Findings
+pub mod Tests
+pub mod Blocks
+pub mod Forms
+pub mod Wholes
+pub mod FileTests
+pub mod FileReads

@@ -14,5 +14,7 @@
 #![tactic(auto)]
 
 mod views;
+mod words;
 
 pub use views::{findings_by_cases, parts_are_lawful, trees_are_lawful, views_are_catalogs};
+pub use words::{files_in_words, whole_directories_in_words};

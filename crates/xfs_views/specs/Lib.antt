@@ -1,0 +1,2 @@
+pub mod DirectoriesInWords
+pub mod FilesInWords
