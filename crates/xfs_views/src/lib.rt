@@ -1,5 +1,5 @@
-//! What the view of an image is: a catalog whose laws can be judged. Nothing here computes; the functions carry laws about the
-//! definitions.
+//! What the view of an image is: a catalog whose laws can be judged; and, in words, when a slot reads as a file and a directory is
+//! whole. Nothing here computes; the functions carry laws about the definitions.
 //!
 //! Who has read an image and wants to judge its laws owes that what was read is a catalog: that holds of every image all
 //! of whose parts read, and this is the law that says so. `findings_by_cases` tells what is found first of an image, for
