@@ -34,7 +34,7 @@ fn expect_attributes(
     due: &str,
     case: &str,
 ) -> Result<(), AllocError> {
-    let dues = parts_of(rt.alloc(), due)?;
+    let dues = parts_of(rt, due);
     same!(rt; attributes.len(), dues.len(); case);
     for (attribute, due) in attributes.iter().zip(dues.iter()) {
         expect_attribute(rt, attribute, *due, case)?;

@@ -5,7 +5,7 @@ ghost use Rattle.xfs_bank.specs.Bank.{AreCuts};
 
 use crate::checks::same;
 use crate::text::parts_of;
-use std::alloc::{AllocError, Global};
+use std::alloc::Global;
 use std::process::Abort;
 use std::test::Fail;
 use std::thread::Threads;
@@ -24,12 +24,8 @@ fn three_blocks(alloc: Global) -> Result<MemoryDisk, Fail>
 }
 
 /// Asserts that of each of the bank's blocks the first byte and all others are these.
-fn assert_blocks(
-    rt: &(impl Abort + AllocGlobal),
-    bank: &BlockBank,
-    due: &str,
-) -> Result<(), AllocError> {
-    for (i, row) in parts_of(rt.alloc(), due)?.iter().enumerate() {
+fn assert_blocks(rt: &(impl Abort + AllocGlobal), bank: &BlockBank, due: &str) {
+    for (i, row) in parts_of(rt, due).iter().enumerate() {
         assert!(rt; i < bank.len());
         let mut row = *row;
         let first = row.number(rt);
@@ -37,7 +33,6 @@ fn assert_blocks(
         block[0] = first;
         same!(rt; bank.view(i), block.as_slice(); due);
     }
-    Ok(())
 }
 
 /// Puts each part's number plus 1 into all of its bytes.
@@ -59,9 +54,9 @@ fn filled_and_marked(rt: HostRuntime) -> Result<(), Fail> {
     let mut disk = three_blocks(rt.alloc())?;
     let mut bank = BlockBank::make(rt.alloc(), 3)?;
     same!(rt; bank.len(), 3);
-    assert_blocks(&rt, &bank, "0 0, 0 0, 0 0")?;
+    assert_blocks(&rt, &bank, "0 0, 0 0, 0 0");
     same!(rt; bank.fill(&mut disk, &[2, 0, 1]), Ok(()));
-    assert_blocks(&rt, &bank, "12 12, 10 10, 11 11")?;
+    assert_blocks(&rt, &bank, "12 12, 10 10, 11 11");
     bank.each_part(
         &rt,
         &[1],
@@ -71,9 +66,9 @@ fn filled_and_marked(rt: HostRuntime) -> Result<(), Fail> {
             }
         },
     );
-    assert_blocks(&rt, &bank, "1 12, 2 10, 11 11")?;
+    assert_blocks(&rt, &bank, "1 12, 2 10, 11 11");
     bank.view_mut(2)[0] = 7;
-    assert_blocks(&rt, &bank, "1 12, 2 10, 7 11")?;
+    assert_blocks(&rt, &bank, "1 12, 2 10, 7 11");
     Ok(())
 }
 
@@ -81,13 +76,13 @@ fn filled_and_marked(rt: HostRuntime) -> Result<(), Fail> {
 fn cut_into_parts(rt: HostRuntime) -> Result<(), Fail> {
     let mut bank = BlockBank::make(rt.alloc(), 3)?;
     number_parts(&rt, &mut bank, &[1]);
-    assert_blocks(&rt, &bank, "1 1, 2 2, 2 2")?;
+    assert_blocks(&rt, &bank, "1 1, 2 2, 2 2");
     number_parts(&rt, &mut bank, &[]);
-    assert_blocks(&rt, &bank, "1 1, 1 1, 1 1")?;
+    assert_blocks(&rt, &bank, "1 1, 1 1, 1 1");
     number_parts(&rt, &mut bank, &[1, 1]);
-    assert_blocks(&rt, &bank, "1 1, 3 3, 3 3")?;
+    assert_blocks(&rt, &bank, "1 1, 3 3, 3 3");
     number_parts(&rt, &mut bank, &[0, 2, 3]);
-    assert_blocks(&rt, &bank, "2 2, 2 2, 3 3")?;
+    assert_blocks(&rt, &bank, "2 2, 2 2, 3 3");
     Ok(())
 }
 
@@ -98,6 +93,6 @@ fn filled_up_to_a_failed_read(rt: HostRuntime) -> Result<(), Fail> {
     let mut bank = BlockBank::make(rt.alloc(), 3)?;
     same!(rt; bank.fill(&mut disk, &[2, 0, 1]), Err(Failed));
     same!(rt; disk.faults(), 1);
-    assert_blocks(&rt, &bank, "12 12, 0 0, 0 0")?;
+    assert_blocks(&rt, &bank, "12 12, 0 0, 0 0");
     Ok(())
 }

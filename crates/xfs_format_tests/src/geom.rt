@@ -127,6 +127,21 @@ fn named(rt: &(impl Abort + AllocGlobal), name: &str) -> Result<[u8; SECTOR_SIZE
     })
 }
 
+/// Puts a superblock at the front of a block.
+fn put_super(
+    rt: &(impl Abort + AllocGlobal),
+    disk: &mut MemoryDisk,
+    mut row: Row,
+) -> Result<(), Fail> {
+    let at: u64 = row.number(rt);
+    let mut block = [0; 4096];
+    put_part(&mut block, 0, &named(rt, row.text())?);
+    let blocks = disk.blocks()?;
+    assert!(rt; at < blocks);
+    disk.write(at, &block)?;
+    Ok(())
+}
+
 /// The answer of an election on a disk of 4096 blocks, of which some begin with a superblock.
 fn elect_of(
     rt: &(impl Abort + AllocGlobal),
@@ -135,14 +150,8 @@ fn elect_of(
     ensures { IfOk result (λ answer. IfOk answer (λ e. IsAccepted e.sector)) }
 {
     let mut disk = MemoryDisk::make(rt.alloc(), 4096)?;
-    for row in parts_of(rt.alloc(), supers)?.iter() {
-        let mut row = *row;
-        let at: u64 = row.number(rt);
-        let mut block = [0; 4096];
-        put_part(&mut block, 0, &named(rt, row.text())?);
-        let blocks = disk.blocks()?;
-        assert!(rt; at < blocks);
-        disk.write(at, &block)?;
+    for row in parts_of(rt, supers).iter() {
+        put_super(rt, &mut disk, *row)?;
     }
     Ok(elect(rt.alloc(), &mut disk))
 }

@@ -11,10 +11,8 @@ mod numbers;
 use crate::checks::same;
 use crate::text::{Row, parts_of, tells};
 use numbers::Numbers;
-use std::alloc::AllocError;
 use std::cmp::Ordering;
 use std::process::Abort;
-use std::test::Fail;
 use xfs_geom::Geometry;
 use xfs_tree::*;
 use xfs_treebuild::{pack, tree_size};
@@ -61,11 +59,7 @@ const PLACES: [u64; 11] = [100, 101, 102, 103, 104, 105, 106, 107, 108, 109, 110
 
 /// Packs numbers in the first group of a volume of two groups of 1024 blocks, with its log at AG block 6 of the
 /// second, and compares the level and the count of each block.
-fn assert_packed(
-    rt: &(impl Abort + AllocGlobal),
-    records: &[u32],
-    blocks: &str,
-) -> Result<(), AllocError>
+fn assert_packed(rt: &(impl Abort + AllocGlobal), records: &[u32], blocks: &str)
     requires lawful { (v : Volume) → IsTrue (are_lawful (numbers 0) v None records.now) }
     requires few { length records.now ≤ 13 }
 {
@@ -90,16 +84,12 @@ fn assert_packed(
         &PLACES[..size],
         &mut part[..4096 * size],
     );
-    assert_rows(rt, &part[..4096 * size], blocks)
+    assert_rows(rt, &part[..4096 * size], blocks);
 }
 
 /// Compares the level, the count and the last byte of each block.
-fn assert_rows(
-    rt: &(impl Abort + AllocGlobal),
-    part: &[u8],
-    blocks: &str,
-) -> Result<(), AllocError> {
-    let dues = parts_of(rt.alloc(), blocks)?;
+fn assert_rows(rt: &(impl Abort + AllocGlobal), part: &[u8], blocks: &str) {
+    let dues = parts_of(rt, blocks);
     same!(rt; part.len(), dues.len().saturating_mul(4096); blocks);
     let mut rest = part;
     for due in dues.iter() {
@@ -109,20 +99,18 @@ fn assert_rows(
         same!(rt; (get16(rest, 4), get16(rest, 6), rest[4095]), numbers; blocks);
         rest = &rest[4096..];
     }
-    Ok(())
 }
 
 #[test]
-fn packed_blocks(rt: HostRuntime) -> Result<(), Fail> {
-    assert_packed(&rt, &[], "0 0")?;
-    assert_packed(&rt, &[5], "0 1")?;
-    assert_packed(&rt, &[5, 6, 7], "0 3")?;
-    assert_packed(&rt, &[5, 6, 7, 9], "0 2, 0 2, 1 2")?;
-    assert_packed(&rt, &[1, 2, 3, 4, 5, 6, 7], "0 3, 0 2, 0 2, 1 2, 1 1, 2 2")?;
+fn packed_blocks(rt: HostRuntime) {
+    assert_packed(&rt, &[], "0 0");
+    assert_packed(&rt, &[5], "0 1");
+    assert_packed(&rt, &[5, 6, 7], "0 3");
+    assert_packed(&rt, &[5, 6, 7, 9], "0 2, 0 2, 1 2");
+    assert_packed(&rt, &[1, 2, 3, 4, 5, 6, 7], "0 3, 0 2, 0 2, 1 2, 1 1, 2 2");
     assert_packed(
         &rt,
         &[1, 2, 3, 4, 5, 6, 7, 8, 9, 10, 11, 12, 13],
         "0 3, 0 3, 0 3, 0 2, 0 2, 1 2, 1 2, 1 1, 2 2, 2 1, 3 2",
-    )?;
-    Ok(())
+    );
 }

@@ -129,7 +129,7 @@ fn check(rt: &(impl Abort + AllocGlobal), kind: SealKind, mut row: Row) -> Resul
     assert!(rt; layout.size <= 4096);
     let mut buffer = [0; 4096];
     let object = &mut buffer[..layout.size];
-    let parts = parts_of(rt.alloc(), row.rest())?;
+    let parts = parts_of(rt, row.rest());
     for part in parts.iter() {
         let mut part = *part;
         let at = part.number(rt);

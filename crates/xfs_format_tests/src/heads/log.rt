@@ -54,7 +54,7 @@ fn sector_of(rt: &impl Abort, mut row: Row) -> SectorSeen {
 /// The sectors of these runs, in each of which so many are equal.
 fn lay(rt: &(impl Abort + AllocGlobal), runs: &str) -> Result<Vec<SectorSeen>, AllocError> {
     let mut seen = Vec::new(rt.alloc());
-    for run in parts_of(rt.alloc(), runs)?.iter() {
+    for run in parts_of(rt, runs).iter() {
         let mut run = *run;
         let count: usize = run.number(rt);
         let sector = sector_of(rt, run);
