@@ -190,7 +190,7 @@ fn slots(rt: HostRuntime) -> Result<(), Fail> {
 
 #[test]
 fn blank_slots(rt: HostRuntime) -> Result<(), Fail> {
-    let g = geometry();
+    let g = volume(IDENTIFIER);
     let stamp = Stamp {
         seconds: 16,
         nanos: 5,

@@ -1,4 +1,4 @@
-use Rattle.xfs_format_tests.proofs.inode.disks.read.Given as goal
+use Rattle.xfs_format_tests.proofs.inode.disks.reads.Given as goal
 
 abbrev pub ghosts-read_counted : goal.ghosts-read_counted
 ghosts-read_counted g a = record { name = a.blank.name; parts = a.blank.parts }
