@@ -190,14 +190,16 @@ fn digit(rt: &impl Abort, byte: u8) -> u8
 }
 
 /// The rows that stand between commas, of which there may be none.
-pub fn parts_of<'a>(alloc: Global, text: &'a str) -> Result<Vec<Row<'a>>, AllocError> {
-    let mut parts = Vec::new(alloc);
+pub fn parts_of<'a>(rt: &(impl Abort + AllocGlobal), text: &'a str) -> Vec<Row<'a>> {
+    let mut parts = Vec::new(rt.alloc());
     if !text.is_empty() {
         for part in text.split(',') {
-            parts.push(Row::new(part))?;
+            if parts.push(Row::new(part)).is_err() {
+                refuse(rt, "no memory", text);
+            }
         }
     }
-    Ok(parts)
+    parts
 }
 
 /// Writes the parts of an object over its bytes. The parts stand in lines or between commas, each as a byte offset and
@@ -210,7 +212,7 @@ pub fn put_parts(
     ensures { length object.new ≡ length object.old }
 {
     for line in parts.lines() {
-        for part in parts_of(rt.alloc(), line)?.iter() {
+        for part in parts_of(rt, line).iter() {
             put_part(rt, object, *part)?;
         }
     }
