@@ -26,6 +26,25 @@ xfs: crates.txt HANDLES $(SOURCES)
 	(cd "$$copy" && $(RT) 2>&1 | tee log | sed -nu 's/^rt: \([a-z_]*\) \(proved\|is kept\).*/  \1/p') || { cat "$$copy/log"; exit 1; }; \
 	cp "$$copy/crates/xfs/out/xfs" $@
 
-.PHONY: clean
+# A link to the program with a tool's name is that tool. DESTDIR stands in front of each path where the files are to be packed. The
+# tools of xfsprogs have the same names: what is no link of ours is neither replaced nor taken away.
+PREFIX ?= /usr/local
+PROGRAMS = $(DESTDIR)$(PREFIX)/sbin
+PAGES = $(DESTDIR)$(PREFIX)/share/man/man8
+TOOLS := xfs_repair mkfs.xfs xfs_db
+
+.PHONY: install uninstall clean
+install: xfs
+	@for tool in $(TOOLS); do link="$(PROGRAMS)/$$tool"; \
+		if [ -e "$$link" ] && [ "$$(readlink "$$link")" != xfs ]; then echo "$$link is another program"; exit 1; fi; done
+	install -d "$(PROGRAMS)" "$(PAGES)"
+	install -m 755 xfs "$(PROGRAMS)/xfs"
+	for tool in $(TOOLS); do ln -sf xfs "$(PROGRAMS)/$$tool"; install -m 644 "man/$$tool.8" "$(PAGES)"; done
+
+uninstall:
+	for tool in $(TOOLS); do \
+		if [ "$$(readlink "$(PROGRAMS)/$$tool")" = xfs ]; then rm -f "$(PROGRAMS)/$$tool" "$(PAGES)/$$tool.8"; fi; done
+	rm -f "$(PROGRAMS)/xfs"
+
 clean:
 	rm -rf xfs crates/*/out

@@ -75,10 +75,11 @@ def variants(parts):
 
 
 def due(tool, answers):
-    """The lines that a tool prints: those of its answers, and that of the program where it has no random numbers."""
+    """The lines that a tool prints: those of its answers, and those of the program, with a hole for each value in them."""
     lines = {line for name in variants(TOOLS[tool]) | {"Usage"} for line in answers[name]
              if not any(line.startswith(later) for later in LATER.values()) and line}
-    return lines | {line + "\n" for line in re.findall(r'eprintln!\(rt; "([^"]*)"\)', read("crates/xfs/src/main.rt"))}
+    printed = re.findall(r'eprintln!\(rt; "([^"]*)"[,)]', read("crates/xfs/src/main.rt"))
+    return lines | {re.sub(r"\{\w*\}", HOLE, line) + "\n" for line in printed}
 
 
 def item(words):

@@ -1,12 +1,20 @@
 //! The words of the command line.
 
+ghost use Rattle.std.specs.Prelude.{◌≡◌, ◌||◌, bytes_eq, codes};
+
 use std::alloc::{AllocError, Global};
 use std::env::{Env, FillError};
 use xfs_disk::Word;
 
-/// The words behind the program's name, as the bytes that were given.
+/// The words, as the bytes that were given: those behind the program's name, and in front of them the
+/// tool where the program is called by its name, as through a link.
 pub fn read_words(rt: &impl Env, alloc: Global) -> Result<Vec<Word>, AllocError> {
     let mut words = Vec::new(alloc);
+    if let Some(name) = read_word(rt, alloc, 0)?
+        && is_tool(last_part(name.bytes()))
+    {
+        words.push(Word::from_vec(Vec::from_slice(alloc, last_part(name.bytes()))?))?;
+    }
     for at in 1..usize::MAX {
         match read_word(rt, alloc, at)? {
             Some(word) => words.push(word)?,
@@ -14,6 +22,23 @@ pub fn read_words(rt: &impl Env, alloc: Global) -> Result<Vec<Word>, AllocError>
         }
     }
     Ok(words)
+}
+
+/// Whether this is the name of a tool.
+fn is_tool(name: &[u8]) -> bool
+    ensures { result ≡ ((bytes_eq name.now (codes "xfs_repair") || bytes_eq name.now (codes "mkfs.xfs")) || bytes_eq name.now (codes "xfs_db")) }
+{
+    name == b"xfs_repair".as_slice()
+        || name == b"mkfs.xfs".as_slice()
+        || name == b"xfs_db".as_slice()
+}
+
+/// What stands behind the last slash of a path.
+fn last_part(path: &[u8]) -> &[u8] {
+    match path.iter().rposition(|byte| *byte == b'/') {
+        Some(at) => &path[at + 1..],
+        None => path,
+    }
 }
 
 /// The word at a place, or `None` behind the last.
