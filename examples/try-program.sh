@@ -48,17 +48,17 @@ trial 'a directory' 1 "xfs: $work/mnt: *is a directory* / xfs: read fault: 1" "$
 trial 'a directory, to be written' 1 "xfs: $work/mnt: *is a directory* / xfs: read fault: 1" "$top/xfs" mkfs.xfs -f "$work/mnt"
 trial 'words that are refused name no file' 1 'xfs: usage: word 1' "$top/xfs" xfs_repair -q "$work/none"
 
-installed() { make -s -C "$top" -o xfs "$1" DESTDIR="$work/root" PREFIX=/usr > "$work/make.log" 2>&1; }
+installed() { make -s -C "$top" -o xfs "$1" DESTDIR="$work/dest" PREFIX=/usr > "$work/make.log" 2>&1; }
 trial 'installed' 0 '' installed install
-trial 'the installed xfs_repair' 0 clean "$work/root/usr/sbin/xfs_repair" "$work/volume.img"
-trial 'its links' 0 'xfs / xfs / xfs' readlink "$work/root/usr/sbin/xfs_repair" "$work/root/usr/sbin/mkfs.xfs" "$work/root/usr/sbin/xfs_db"
-trial 'its pages' 0 'mkfs.xfs.8 / xfs_db.8 / xfs_repair.8' ls "$work/root/usr/share/man/man8"
+trial 'the installed xfs_repair' 0 clean "$work/dest/usr/sbin/xfs_repair" "$work/volume.img"
+trial 'its links' 0 'xfs / xfs / xfs' readlink "$work/dest/usr/sbin/xfs_repair" "$work/dest/usr/sbin/mkfs.xfs" "$work/dest/usr/sbin/xfs_db"
+trial 'its pages' 0 'mkfs.xfs.8 / xfs_db.8 / xfs_repair.8' ls "$work/dest/usr/share/man/man8"
 trial 'installed once more' 0 '' installed install
 trial 'uninstalled' 0 '' installed uninstall
-trial 'no file is left' 0 '' find "$work/root" ! -type d
-touch "$work/root/usr/sbin/xfs_db"
+trial 'no file is left' 0 '' find "$work/dest" ! -type d
+touch "$work/dest/usr/sbin/xfs_db"
 trial 'another program of that name is not replaced' 2 '' installed install
-trial 'nor taken away' 0 "$work/root/usr/sbin/xfs_db" sh -c "make -s -C '$top' uninstall DESTDIR='$work/root' PREFIX=/usr; find '$work/root' ! -type d"
+trial 'nor taken away' 0 "$work/dest/usr/sbin/xfs_db" sh -c "make -s -C '$top' uninstall DESTDIR='$work/dest' PREFIX=/usr; find '$work/dest' ! -type d"
 
 in_use() { # NAME IMAGE STATUS ANSWER: a mounted image is refused by what writes, and read by what reads
   trial "$1: xfs_repair" 1 "xfs: in use: $2" "$top/xfs" xfs_repair "$2"
