@@ -1,10 +1,9 @@
 -- A bank that is filled block by block from a disk.
-use Rattle.std.proofs.Common.{◌≡◌, ℕ, ◌+◌, ◌<◌, ◌≤◌, inl, inr, List, [], ◌∷◌, ◌++◌, take, drop, length, get_or, Some, arith, ap, sym, ◌∙◌}
+use Rattle.std.proofs.Common.{◌≡◌, ℕ, ◌+◌, ◌<◌, List, [], ◌∷◌, ◌++◌, take, drop, length, get_or, Some, arith, ap, sym, ◌∙◌}
 use Rattle.std.specs.Prelude.{slice_get, slice_set}
 use Rattle.std.proofs.lemmas.List.{take_more, take_more_set, drop-set-lt, drop-drop, map-append}
 use Rattle.std.proofs.lemmas.Option.{get_or_from_slice_get}
 use Rattle.xfs_disk.specs.Blocks.{Image}
-use Rattle.xfs_disk.specs.Stops.{Elapses}
 use Rattle.xfs_bank.specs.Bank.{blocks_at}
 
 -- the block of the next place stands behind the blocks of those before it
@@ -22,16 +21,3 @@ pub next_rest : (first old new : Image) (i : ℕ) (block : List ℕ) → new ≡
 next_rest first old new i block put before =
     let behind : (bank : Image) → drop (i + 1) bank ≡ drop 1 (drop i bank) = λ bank. sym (drop-drop 1 i bank) in
     ap (λ (bank : Image). drop (i + 1) bank) put ∙ drop-set-lt (i + 1) old i block (omega arith) ∙ behind old ∙ ap (λ (bank : Image). drop 1 bank) before ∙ sym (behind first)
-
--- time that went on twice went on, where a stop after the first while left no more than one before it
-pub elapses_on : (before middle now : ℕ) (past between since : ℕ → Image → Type 0) (might may will : Image → Type 0) →
-    ((image : Image) → may image → might image) → ((t : ℕ) (image : Image) → t ≤ before → might image → past t image) →
-    Elapses before middle past between may → Elapses middle now between since will → Elapses before now past since will
-elapses_on before middle now past between since might may will fewer counts one two = record {
-  later = omega (arith, one.later, two.later);
-  nothing_else = λ t image early left. elim (two.nothing_else t image (omega (arith, one.later)) left) [
-    | inl was ↦ elim (one.nothing_else t image early was) [ inl w ↦ inl w | inr m ↦ inl (counts t image early (fewer image m)) ]
-    | inr w ↦ inr w
-  ];
-  keeps = λ t image early left. two.keeps t image (omega (arith, one.later)) (one.keeps t image early left);
-}

@@ -5,7 +5,7 @@ ghost use Rattle.std.specs.List.{All, concat};
 ghost use Rattle.std.specs.Fork.{AcceptsEach, ChangesEach};
 ghost use Rattle.xfs_disk.specs.Blocks.{Image, IsImage};
 ghost use Rattle.xfs_disk.specs.Faults.{HasCause};
-ghost use Rattle.xfs_disk.specs.Stops.{EachOf, Elapses};
+ghost use Rattle.xfs_disk.specs.Reads.{OnlyReads};
 ghost use Rattle.xfs_bank.specs.Bank.{AreCuts, parts_of, overwritten, IsFilled};
 
 use crate::parts::change_parts;
@@ -107,13 +107,9 @@ impl BlockBank {
         ensures filled { OnOk result (IsFilled (D.holds disk.old) places.now self.old self.new) }
         ensures prefix { OnErr result ((n : ℕ) × (n < length places.now) × IsFilled (D.holds disk.old) (take n places.now) self.old self.new) }
         ensures len { length self.new ≡ length self.old }
-        ensures size { D.size disk.new ≡ D.size disk.old }
-        ensures holds { D.holds disk.new ≡ D.holds disk.old }
         ensures cause { HasCause (D.faults disk.old) (D.faults disk.new) result }
-        ensures write_faults { D.write_faults disk.new ≡ D.write_faults disk.old }
-        ensures stops { D.tells_stops disk.old → (b : ℕ) (v : List ℕ) → D.may_leave disk.new b v → D.may_leave disk.old b v }
-        ensures time { D.tells_stops disk.old → Elapses (D.moment disk.old) (D.moment disk.new) (D.left_since disk.old) (D.left_since disk.new) (EachOf (D.may_leave disk.new)) }
-        ensures tells { D.tells_stops disk.old → D.tells_stops disk.new }
+        ensures disk { OnlyReads D.size D.holds D.write_faults D.writes D.tells_stops D.moment D.may_leave D.left_since disk.old disk.new }
+        ensures reads { D.reads disk.new ≤ D.reads disk.old + length places.now }
     {
         let mut block = [0; BLOCK_SIZE];
         for (i, place) in places.iter().enumerate() {

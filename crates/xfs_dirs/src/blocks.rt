@@ -4,7 +4,7 @@ ghost use Rattle.std.specs.Prelude.{◌≡◌, ℕ, ◌+◌, ◌<◌, ◌≤◌,
 ghost use Rattle.std.specs.Option.{ForSome};
 ghost use Rattle.xfs_geom.specs.Groups.{block_of_address};
 ghost use Rattle.xfs_geom.specs.Volumes.{volume_of};
-ghost use Rattle.xfs_tree.specs.Answers.{OnlyReads};
+ghost use Rattle.xfs_disk.specs.Reads.{OnlyReads};
 ghost use Rattle.xfs_kinds.specs.FileTrees.{is_extent};
 ghost use Rattle.xfs_inode.specs.Files.{are_extents};
 ghost use Rattle.xfs_image.specs.Directories.{blocks_of};
@@ -36,7 +36,7 @@ pub fn read_extents<D: Disk, L: Ledger>(
     ensures found { IfOk result (λ gathered. ForSome (D.holds disk.old) (λ image. found_of gathered ≡ with_blocks (volume_of g.now) dir nothing (blocks_in (volume_of g.now) image extents.now))) }
     ensures order { IfOk result (λ gathered. AreInOrder gathered.kept) }
     ensures cause { HasDirCause (D.faults disk.old) (D.faults disk.new) result }
-    ensures disk { OnlyReads D.size D.holds D.write_faults D.tells_stops D.may_leave disk.old disk.new }
+    ensures disk { OnlyReads D.size D.holds D.write_faults D.writes D.tells_stops D.moment D.may_leave D.left_since disk.old disk.new }
 {
     let mut gathered = Gathered::new(alloc);
     for extent in extents {
@@ -64,7 +64,7 @@ fn read_extent<D: Disk, L: Ledger>(
     ensures found { OnOk result (ForSome (D.holds disk.old) (λ image. found_of gathered.new ≡ with_blocks (volume_of g.now) dir (found_of gathered.old) (blocks_of (volume_of g.now) image extent.now))) }
     ensures below { OnOk result (AreBelow gathered.new.kept (extent.now.offset + extent.now.count)) }
     ensures cause { HasDirCause (D.faults disk.old) (D.faults disk.new) result }
-    ensures disk { OnlyReads D.size D.holds D.write_faults D.tells_stops D.may_leave disk.old disk.new }
+    ensures disk { OnlyReads D.size D.holds D.write_faults D.writes D.tells_stops D.moment D.may_leave D.left_since disk.old disk.new }
 {
     let start = start_of(g, extent);
     let mut block = [0; BLOCK_SIZE];

@@ -3,7 +3,7 @@
 ghost use Rattle.std.specs.Prelude.{◌≡◌, ◌≤◌, true, None, length, unwrap_or, IfOk};
 ghost use Rattle.std.specs.Option.{ForSome};
 ghost use Rattle.xfs_geom.specs.Volumes.{volume_of};
-ghost use Rattle.xfs_tree.specs.Answers.{OnlyReads};
+ghost use Rattle.xfs_disk.specs.Reads.{OnlyReads};
 ghost use Rattle.xfs_inode.specs.Files.{are_extents};
 ghost use Rattle.xfs_image.specs.Directories.{entries_of, is_whole, parent_of};
 ghost use Rattle.xfs_image.specs.Slots.{slot_bytes};
@@ -41,7 +41,7 @@ pub fn read_directory<D: Disk, L: Ledger>(
     ensures parent { IfOk result (λ found. ForSome (D.holds disk.old) (λ image. found.parent ≡ parent_of (volume_of g.now) image file.now)) }
     ensures whole { IfOk result (λ found. ForSome (D.holds disk.old) (λ image. found.whole ≡ is_whole (volume_of g.now) image file.now)) }
     ensures cause { HasDirCause (D.faults disk.old) (D.faults disk.new) result }
-    ensures disk { OnlyReads D.size D.holds D.write_faults D.tells_stops D.may_leave disk.old disk.new }
+    ensures disk { OnlyReads D.size D.holds D.write_faults D.writes D.tells_stops D.moment D.may_leave D.left_since disk.old disk.new }
 {
     if file.core.format == 1 {
         return match read_form(alloc, file.ino, file.core.size, slot) {

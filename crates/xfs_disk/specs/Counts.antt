@@ -10,3 +10,12 @@ raised count = min (count + 1) (2 ^ 64 - 1)
 abbrev pub CountsFailure : {T E : Type 0} → ℕ → ℕ → Result T E → Type 0
 CountsFailure before now (Ok _) = now ≡ before
 CountsFailure before now (Err _) = (now ≤ before + 1) × Rose before now
+
+-- a call that went well raised the count by one, or it stands at the end of its type; else it stays
+abbrev pub CountsDone : {T E : Type 0} → ℕ → ℕ → Result T E → Type 0
+CountsDone before now (Ok _) = now ≡ raised before
+CountsDone before now (Err _) = now ≡ before
+
+-- a count after so many more, which stands at the end of its type
+abbrev pub raised_by : ℕ → ℕ → ℕ
+raised_by more count = min (count + more) (2 ^ 64 - 1)

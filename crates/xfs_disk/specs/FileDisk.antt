@@ -17,3 +17,10 @@ faults_of disk = disk.faults
 -- how many writes and syncs failed
 abbrev pub write_faults_of : {F : Type 0} → FileDisk F → ℕ
 write_faults_of disk = disk.write_faults
+
+-- how many blocks were read, and how many written
+abbrev pub reads_of : {F : Type 0} → FileDisk F → ℕ
+reads_of disk = disk.reads
+
+abbrev pub writes_of : {F : Type 0} → FileDisk F → ℕ
+writes_of disk = disk.writes

@@ -1,6 +1,7 @@
 pub mod Blocks
 pub mod Faults
 pub mod Stops
+pub mod Reads
 pub mod Files
 pub mod Counts
 pub mod Memory

@@ -22,6 +22,13 @@ faults_of disk = disk.faults
 abbrev pub write_faults_of : MemoryDisk → ℕ
 write_faults_of disk = disk.write_faults
 
+-- how many blocks were read, and how many written
+abbrev pub reads_of : MemoryDisk → ℕ
+reads_of disk = disk.reads
+
+abbrev pub writes_of : MemoryDisk → ℕ
+writes_of disk = disk.writes
+
 -- the reads, writes and syncs that were called and those that are to fail
 abbrev pub schedule_of : MemoryDisk → Schedule
 schedule_of disk = disk.schedule
@@ -38,9 +45,11 @@ IsStopped disk = stop_of disk ≡ Some 0
 abbrev pub FailsNext : MemoryDisk → Type 0
 FailsNext disk = IsStopped disk ⊎ IsDue (schedule_of disk)
 
--- size, contents and both counts are the same
+-- size, contents and all counts are the same
 pub record KeepsDisk (old new : MemoryDisk) : Type 0 where
   pub size : size_of new ≡ size_of old
   pub image : image_of new ≡ image_of old
   pub faults : faults_of new ≡ faults_of old
   pub write_faults : write_faults_of new ≡ write_faults_of old
+  pub reads : reads_of new ≡ reads_of old
+  pub writes : writes_of new ≡ writes_of old

@@ -11,3 +11,9 @@ pub record Elapses (before now : ℕ) (past since : ℕ → Image → Type 0) (m
   pub later : before ≤ now
   pub nothing_else : (t : ℕ) (image : Image) → t ≤ before → since t image → past t image ⊎ may_leave image
   pub keeps : (t : ℕ) (image : Image) → t ≤ before → past t image → since t image
+
+-- Time goes on while nothing is written: a stop since t might have left just what it might have left before.
+pub record GoesOn (before now : ℕ) (past since : ℕ → Image → Type 0) : Type 0 where
+  pub later : before ≤ now
+  pub nothing_new : (t : ℕ) (image : Image) → t ≤ before → since t image → past t image
+  pub keeps : (t : ℕ) (image : Image) → t ≤ before → past t image → since t image

@@ -1,8 +1,8 @@
-//! How failures are counted.
+//! How failures, and what went well, are counted.
 
 ghost use Rattle.std.specs.Prelude.{◌≡◌, ◌+◌, ◌≤◌};
 ghost use Rattle.std.specs.Result.{result_ok};
-ghost use Rattle.xfs_disk.specs.Counts.{CountsFailure};
+ghost use Rattle.xfs_disk.specs.Counts.{CountsDone, CountsFailure};
 ghost use Rattle.xfs_disk.specs.Faults.{Rose};
 
 use crate::failed::Failed;
@@ -25,5 +25,14 @@ pub(crate) fn counted<T: Drop>(outcome: io::Result<T>, faults: &mut u64) -> Resu
     match outcome {
         Ok(value) => Ok(value),
         Err(_) => Err(count_failure(faults)),
+    }
+}
+
+/// Counts a call where it went well.
+pub(crate) fn count_done<T>(outcome: &Result<T, Failed>, done: &mut u64)
+    ensures { CountsDone done.old done.new outcome.now }
+{
+    if outcome.is_ok() {
+        *done = done.saturating_add(1);
     }
 }

@@ -3,8 +3,9 @@
 ghost use Rattle.std.specs.Prelude.{◌≡◌, ℕ, ◌≤◌, ◌<◌, ◌⊎◌, List, length, Option, Some, OnOk, OnErr, IfOk, slice_get, slice_set};
 ghost use Rattle.std.specs.Option.{ForSome};
 ghost use Rattle.xfs_disk.specs.Blocks.{Image, IsImage};
+ghost use Rattle.xfs_disk.specs.Counts.{CountsDone};
 ghost use Rattle.xfs_disk.specs.Faults.{HasCause};
-ghost use Rattle.xfs_disk.specs.Stops.{EachOf, Elapses};
+ghost use Rattle.xfs_disk.specs.Stops.{EachOf, Elapses, GoesOn};
 
 use crate::failed::Failed;
 
@@ -13,9 +14,9 @@ pub const BLOCK_SIZE: usize = 4096;
 
 /// A disk of numbered blocks of 4096 bytes each.
 ///
-/// Contracts see its number of blocks `size`, its contents `holds` where it tells them, and two counts
-/// that never fall: `faults` of failed reads, `write_faults` of failed writes and syncs. A count that
-/// stands at 2^64 - 1 counts as risen. Where it tells its stops, `may_leave disk b v` says that a stop
+/// Contracts see its number of blocks `size`, its contents `holds` where it tells them, and four counts
+/// that never fall: `reads` and `writes` of the blocks that were read and written, `faults` of failed reads,
+/// `write_faults` of failed writes and syncs. A count that stands at 2^64 - 1 counts as risen. Where it tells its stops, `may_leave disk b v` says that a stop
 /// at this moment may leave the bytes v in block b, and `left_since disk t image` that a stop at some
 /// moment from t on might have left that image.
 pub trait Disk {
@@ -26,6 +27,10 @@ pub trait Disk {
     ghost faults: { Self → ℕ };
 
     ghost write_faults: { Self → ℕ };
+
+    ghost reads: { Self → ℕ };
+
+    ghost writes: { Self → ℕ };
 
     ghost tells_stops: { Self → Type 0 } = { λ _. ⊥ };
 
@@ -46,8 +51,10 @@ pub trait Disk {
         ensures holds { holds self.new ≡ holds self.old }
         ensures cause { HasCause (faults self.old) (faults self.new) result }
         ensures write_faults { write_faults self.new ≡ write_faults self.old }
+        ensures reads { reads self.new ≡ reads self.old }
+        ensures writes { writes self.new ≡ writes self.old }
         ensures stops { tells_stops self.old → (b : ℕ) (v : List ℕ) → may_leave self.new b v → may_leave self.old b v }
-        ensures time { tells_stops self.old → Elapses (moment self.old) (moment self.new) (left_since self.old) (left_since self.new) (EachOf (may_leave self.new)) }
+        ensures past { tells_stops self.old → GoesOn (moment self.old) (moment self.new) (left_since self.old) (left_since self.new) }
         ensures tells { tells_stops self.old → tells_stops self.new };
 
     /// Reads the block of number `at`.
@@ -59,8 +66,10 @@ pub trait Disk {
         ensures holds { holds self.new ≡ holds self.old }
         ensures cause { HasCause (faults self.old) (faults self.new) result }
         ensures write_faults { write_faults self.new ≡ write_faults self.old }
+        ensures reads { CountsDone (reads self.old) (reads self.new) result }
+        ensures writes { writes self.new ≡ writes self.old }
         ensures stops { tells_stops self.old → (b : ℕ) (v : List ℕ) → may_leave self.new b v → may_leave self.old b v }
-        ensures time { tells_stops self.old → Elapses (moment self.old) (moment self.new) (left_since self.old) (left_since self.new) (EachOf (may_leave self.new)) }
+        ensures past { tells_stops self.old → GoesOn (moment self.old) (moment self.new) (left_since self.old) (left_since self.new) }
         ensures tells { tells_stops self.old → tells_stops self.new };
 
     /// Writes the block of number `at`. After `Failed` it is old or new.
@@ -73,6 +82,8 @@ pub trait Disk {
         ensures size { size self.new ≡ size self.old }
         ensures faults { faults self.new ≡ faults self.old }
         ensures cause { HasCause (write_faults self.old) (write_faults self.new) result }
+        ensures reads { reads self.new ≡ reads self.old }
+        ensures writes { CountsDone (writes self.old) (writes self.new) result }
         ensures stops { tells_stops self.old → (b : ℕ) (v : List ℕ) → may_leave self.new b v → may_leave self.old b v ⊎ ((b ≡ at) × (v ≡ from.now)) }
         ensures time { tells_stops self.old → Elapses (moment self.old) (moment self.new) (left_since self.old) (left_since self.new) (EachOf (may_leave self.new)) }
         ensures tells { tells_stops self.old → tells_stops self.new };
@@ -83,10 +94,12 @@ pub trait Disk {
         ensures holds { holds self.new ≡ holds self.old }
         ensures faults { faults self.new ≡ faults self.old }
         ensures cause { HasCause (write_faults self.old) (write_faults self.new) result }
+        ensures reads { reads self.new ≡ reads self.old }
+        ensures writes { writes self.new ≡ writes self.old }
         ensures kept { OnOk result (tells_stops self.old → ForSome (holds self.old) (λ image.
             (b : ℕ) (v : List ℕ) → may_leave self.new b v → slice_get image b ≡ Some v)) }
         ensures stops { tells_stops self.old → (b : ℕ) (v : List ℕ) → may_leave self.new b v → may_leave self.old b v }
-        ensures time { tells_stops self.old → Elapses (moment self.old) (moment self.new) (left_since self.old) (left_since self.new) (EachOf (may_leave self.new)) }
+        ensures past { tells_stops self.old → GoesOn (moment self.old) (moment self.new) (left_since self.old) (left_since self.new) }
         ensures tells { tells_stops self.old → tells_stops self.new };
 
     // What the disk holds has its number of blocks, each whole.

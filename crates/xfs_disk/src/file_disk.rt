@@ -2,9 +2,9 @@
 
 ghost use Rattle.std.specs.Prelude.{◌≡◌, ◌*◌, ◌/◌, ◌^◌, ◌<◌, ◌↔◌, length, None, IsSome, IsNone, IfSome, IfOk, OnOk, IsErr};
 ghost use Rattle.std.proofs.Common.{rules};
-ghost use Rattle.xfs_disk.specs.Counts.{CountsFailure};
+ghost use Rattle.xfs_disk.specs.Counts.{CountsDone, CountsFailure};
 
-use crate::counting::counted;
+use crate::counting::{count_done, counted};
 use crate::disk::{BLOCK_SIZE, Disk};
 use crate::failed::Failed;
 use std::fs::OpenFile;
@@ -22,11 +22,13 @@ pub struct FileDisk<F> {
     blocks: u64,
     faults: u64,
     write_faults: u64,
+    reads: u64,
+    writes: u64,
     ghost in_range: { blocks * 4096 < 2 ^ 64 },
 }
 
 impl<F: Read + Write + Seek + OpenFile + Drop> FileDisk<F> {
-    ghost use Rattle.xfs_disk.specs.FileDisk.{file_of, size_of, faults_of, write_faults_of};
+    ghost use Rattle.xfs_disk.specs.FileDisk.{file_of, size_of, faults_of, write_faults_of, reads_of, writes_of};
 
     /// The disk of an opened file, with as many blocks as the file has whole blocks of 4096 bytes.
     pub fn open(mut file: F) -> io::Result<FileDisk<F>>
@@ -34,6 +36,8 @@ impl<F: Read + Write + Seek + OpenFile + Drop> FileDisk<F> {
         ensures size { IfSome (F.stream_position file) (λ _. IfSome (F.stream_bytes file) (λ bytes. IfOk result (λ disk. size_of disk ≡ length bytes / 4096))) }
         ensures faults { IfOk result (λ disk. faults_of disk ≡ 0) }
         ensures write_faults { IfOk result (λ disk. write_faults_of disk ≡ 0) }
+        ensures reads { IfOk result (λ disk. reads_of disk ≡ 0) }
+        ensures writes { IfOk result (λ disk. writes_of disk ≡ 0) }
     {
         let bytes = file.seek(SeekFrom::End(0))?;
         Ok(FileDisk {
@@ -41,6 +45,8 @@ impl<F: Read + Write + Seek + OpenFile + Drop> FileDisk<F> {
             blocks: bytes / BLOCK_BYTES,
             faults: 0,
             write_faults: 0,
+            reads: 0,
+            writes: 0,
         })
     }
 
@@ -50,18 +56,22 @@ impl<F: Read + Write + Seek + OpenFile + Drop> FileDisk<F> {
         ensures size { size_of result ≡ 0 }
         ensures faults { faults_of result ≡ 0 }
         ensures write_faults { write_faults_of result ≡ 0 }
+        ensures reads { reads_of result ≡ 0 }
+        ensures writes { writes_of result ≡ 0 }
     {
         FileDisk {
             file: None,
             blocks: 0,
             faults: 0,
             write_faults: 0,
+            reads: 0,
+            writes: 0,
         }
     }
 }
 
 impl<F: Read + Write + Seek + OpenFile + Drop> Disk for FileDisk<F> {
-    ghost use Rattle.xfs_disk.specs.FileDisk.{file_of, size_of, faults_of, write_faults_of};
+    ghost use Rattle.xfs_disk.specs.FileDisk.{file_of, size_of, faults_of, write_faults_of, reads_of, writes_of};
 
     ghost size = { size_of };
 
@@ -70,6 +80,10 @@ impl<F: Read + Write + Seek + OpenFile + Drop> Disk for FileDisk<F> {
     ghost faults = { faults_of };
 
     ghost write_faults = { write_faults_of };
+
+    ghost reads = { reads_of };
+
+    ghost writes = { writes_of };
 
     fn faults(&self) -> u64 {
         self.faults
@@ -81,6 +95,8 @@ impl<F: Read + Write + Seek + OpenFile + Drop> Disk for FileDisk<F> {
         ensures size { size_of self.new ≡ size_of self.old }
         ensures faults { CountsFailure (faults_of self.old) (faults_of self.new) result }
         ensures write_faults { write_faults_of self.new ≡ write_faults_of self.old }
+        ensures reads { reads_of self.new ≡ reads_of self.old }
+        ensures writes { writes_of self.new ≡ writes_of self.old }
     {
         let outcome = match &self.file {
             Some(_) => Ok(self.blocks),
@@ -96,12 +112,16 @@ impl<F: Read + Write + Seek + OpenFile + Drop> Disk for FileDisk<F> {
         ensures size { size_of self.new ≡ size_of self.old }
         ensures faults { CountsFailure (faults_of self.old) (faults_of self.new) result }
         ensures write_faults { write_faults_of self.new ≡ write_faults_of self.old }
+        ensures reads { CountsDone (reads_of self.old) (reads_of self.new) result }
+        ensures writes { writes_of self.new ≡ writes_of self.old }
     {
         let outcome = match &mut self.file {
             Some(file) => read_at(file, at * BLOCK_BYTES, into),
             None => Err(no_file()),
         };
-        counted(outcome, &mut self.faults)
+        let outcome = counted(outcome, &mut self.faults);
+        count_done(&outcome, &mut self.reads);
+        outcome
     }
 
     fn write(&mut self, at: u64, from: &[u8]) -> Result<(), Failed>
@@ -111,12 +131,16 @@ impl<F: Read + Write + Seek + OpenFile + Drop> Disk for FileDisk<F> {
         ensures size { size_of self.new ≡ size_of self.old }
         ensures faults { faults_of self.new ≡ faults_of self.old }
         ensures write_faults { CountsFailure (write_faults_of self.old) (write_faults_of self.new) result }
+        ensures reads { reads_of self.new ≡ reads_of self.old }
+        ensures writes { CountsDone (writes_of self.old) (writes_of self.new) result }
     {
         let outcome = match &mut self.file {
             Some(file) => write_at(file, at * BLOCK_BYTES, from),
             None => Err(no_file()),
         };
-        counted(outcome, &mut self.write_faults)
+        let outcome = counted(outcome, &mut self.write_faults);
+        count_done(&outcome, &mut self.writes);
+        outcome
     }
 
     fn sync(&mut self) -> Result<(), Failed>
@@ -124,6 +148,8 @@ impl<F: Read + Write + Seek + OpenFile + Drop> Disk for FileDisk<F> {
         ensures size { size_of self.new ≡ size_of self.old }
         ensures faults { faults_of self.new ≡ faults_of self.old }
         ensures write_faults { CountsFailure (write_faults_of self.old) (write_faults_of self.new) result }
+        ensures reads { reads_of self.new ≡ reads_of self.old }
+        ensures writes { writes_of self.new ≡ writes_of self.old }
     {
         let outcome = match &self.file {
             Some(file) => file.sync_all(),

@@ -2,7 +2,7 @@
 
 ghost use Rattle.std.specs.Prelude.{◌≡◌, ◌+◌, ◌*◌, ◌^◌, ◌<◌, ◌≤◌, [], length, replicate, Some, None, IsTrue, IsErr, IfOk, OnOk, OnErr, ◌↔◌, slice_get, slice_set};
 ghost use Rattle.std.specs.List.{All, concat};
-ghost use Rattle.xfs_disk.specs.Counts.{CountsFailure};
+ghost use Rattle.xfs_disk.specs.Counts.{CountsDone, CountsFailure};
 ghost use Rattle.xfs_disk.specs.Schedule.{after_write};
 ghost use Rattle.xfs_disk.specs.Memory.{with_block};
 ghost use Rattle.xfs_disk.specs.MemoryImage.{is_told_image};
@@ -20,6 +20,8 @@ pub struct MemoryDisk {
     blocks: u64,
     faults: u64,
     write_faults: u64,
+    reads: u64,
+    writes: u64,
     schedule: Schedule,
     /// After how many more writes every call fails.
     writes_left: Option<u64>,
@@ -38,6 +40,8 @@ impl MemoryDisk {
         ensures size { IfOk result (λ disk. ⟦<MemoryDisk as Disk>⟧.size disk ≡ blocks) }
         ensures faults { IfOk result (λ disk. ⟦<MemoryDisk as Disk>⟧.faults disk ≡ 0) }
         ensures write_faults { IfOk result (λ disk. ⟦<MemoryDisk as Disk>⟧.write_faults disk ≡ 0) }
+        ensures reads { IfOk result (λ disk. ⟦<MemoryDisk as Disk>⟧.reads disk ≡ 0) }
+        ensures writes { IfOk result (λ disk. ⟦<MemoryDisk as Disk>⟧.writes disk ≡ 0) }
         ensures calls { IfOk result (λ disk. calls_made (schedule_of disk) ≡ 0) }
         ensures failing { IfOk result (λ disk. failing_calls (schedule_of disk) ≡ []) }
         ensures stop { IfOk result (λ disk. stop_of disk ≡ None) }
@@ -52,6 +56,8 @@ impl MemoryDisk {
                 blocks,
                 faults: 0,
                 write_faults: 0,
+                reads: 0,
+                writes: 0,
                 schedule: Schedule::new(alloc),
                 writes_left: None,
             }),
@@ -108,7 +114,7 @@ impl MemoryDisk {
 }
 
 impl Disk for MemoryDisk {
-    ghost use Rattle.xfs_disk.specs.MemoryDisk.{size_of, image_of, faults_of, write_faults_of, schedule_of, stop_of, IsStopped, FailsNext};
+    ghost use Rattle.xfs_disk.specs.MemoryDisk.{size_of, image_of, faults_of, write_faults_of, reads_of, writes_of, schedule_of, stop_of, IsStopped, FailsNext};
     ghost use Rattle.xfs_disk.specs.Schedule.{CountsCall};
 
     ghost size = { size_of };
@@ -118,6 +124,10 @@ impl Disk for MemoryDisk {
     ghost faults = { faults_of };
 
     ghost write_faults = { write_faults_of };
+
+    ghost reads = { reads_of };
+
+    ghost writes = { writes_of };
 
     fn faults(&self) -> u64 {
         self.faults
@@ -131,6 +141,8 @@ impl Disk for MemoryDisk {
         ensures image { image_of self.new ≡ image_of self.old }
         ensures faults { CountsFailure (faults_of self.old) (faults_of self.new) result }
         ensures write_faults { write_faults_of self.new ≡ write_faults_of self.old }
+        ensures reads { reads_of self.new ≡ reads_of self.old }
+        ensures writes { writes_of self.new ≡ writes_of self.old }
         ensures schedule { schedule_of self.new ≡ schedule_of self.old }
         ensures stop { stop_of self.new ≡ stop_of self.old }
     {
@@ -151,6 +163,8 @@ impl Disk for MemoryDisk {
         ensures image { image_of self.new ≡ image_of self.old }
         ensures faults { CountsFailure (faults_of self.old) (faults_of self.new) result }
         ensures write_faults { write_faults_of self.new ≡ write_faults_of self.old }
+        ensures reads { CountsDone (reads_of self.old) (reads_of self.new) result }
+        ensures writes { writes_of self.new ≡ writes_of self.old }
         ensures counted { CountsCall (schedule_of self.old) (schedule_of self.new) }
         ensures stop { stop_of self.new ≡ stop_of self.old }
     {
@@ -159,6 +173,7 @@ impl Disk for MemoryDisk {
         }
         let start = at as usize * BLOCK_SIZE;
         into.copy_from_slice(&self.bytes[start..start + BLOCK_SIZE]);
+        self.reads = self.reads.saturating_add(1);
         Ok(())
     }
 
@@ -172,6 +187,8 @@ impl Disk for MemoryDisk {
         ensures size { size_of self.new ≡ size_of self.old }
         ensures faults { faults_of self.new ≡ faults_of self.old }
         ensures write_faults { CountsFailure (write_faults_of self.old) (write_faults_of self.new) result }
+        ensures reads { reads_of self.new ≡ reads_of self.old }
+        ensures writes { CountsDone (writes_of self.old) (writes_of self.new) result }
         ensures counted { CountsCall (schedule_of self.old) (schedule_of self.new) }
         ensures stop { OnOk result (stop_of self.new ≡ after_write (stop_of self.old)) }
         ensures stop_stays { OnErr result (stop_of self.new ≡ stop_of self.old) }
@@ -181,6 +198,7 @@ impl Disk for MemoryDisk {
         }
         put_block(&mut self.bytes, at as usize, from);
         self.writes_left = less_one(self.writes_left);
+        self.writes = self.writes.saturating_add(1);
         Ok(())
     }
 
@@ -190,6 +208,8 @@ impl Disk for MemoryDisk {
         ensures image { image_of self.new ≡ image_of self.old }
         ensures faults { faults_of self.new ≡ faults_of self.old }
         ensures write_faults { CountsFailure (write_faults_of self.old) (write_faults_of self.new) result }
+        ensures reads { reads_of self.new ≡ reads_of self.old }
+        ensures writes { writes_of self.new ≡ writes_of self.old }
         ensures counted { CountsCall (schedule_of self.old) (schedule_of self.new) }
         ensures stop { stop_of self.new ≡ stop_of self.old }
     {

@@ -2,6 +2,7 @@
 
 ghost use Rattle.std.specs.Prelude.{◌≡◌, ℕ, ◌+◌, ◌<◌, ◌≤◌, ◌⊎◌, List, length, None, IfOk, IfErr, OnOk};
 ghost use Rattle.std.specs.Option.{ForSome, ok_or};
+ghost use Rattle.xfs_disk.specs.Reads.{OnlyReads};
 ghost use Rattle.xfs_geom.specs.Superblocks.{super_fault};
 ghost use Rattle.xfs_geom.specs.Volumes.{volume_of, stated_volume};
 ghost use Rattle.xfs_geom.specs.Election.{super_of, elected, winner, votes_below};
@@ -51,11 +52,8 @@ pub fn elect<D: Disk>(alloc: Global, disk: &mut D) -> Result<Elected, ElectFault
     ensures states { IfOk result (λ e. volume_of e.geometry ≡ stated_volume e.sector) }
     ensures inside { IfOk result (λ e. e.geometry.dblocks ≤ D.size disk.old) }
     ensures cause { HasElectCause (D.faults disk.old) (D.faults disk.new) result }
-    ensures size { D.size disk.new ≡ D.size disk.old }
-    ensures holds { D.holds disk.new ≡ D.holds disk.old }
-    ensures write_faults { D.write_faults disk.new ≡ D.write_faults disk.old }
-    ensures tells { D.tells_stops disk.old → D.tells_stops disk.new }
-    ensures stops { D.tells_stops disk.old → (b : ℕ) (v : List ℕ) → D.may_leave disk.new b v → D.may_leave disk.old b v }
+    ensures disk { OnlyReads D.size D.holds D.write_faults D.writes D.tells_stops D.moment D.may_leave D.left_since disk.old disk.new }
+    ensures reads { D.reads disk.new ≤ D.reads disk.old + D.size disk.old }
 {
     let size = match disk.blocks() {
         Ok(size) => size,
@@ -85,11 +83,8 @@ fn elect_backup<D: Disk>(alloc: Global, disk: &mut D, size: u64) -> Result<Elect
     ensures states { IfOk result (λ e. volume_of e.geometry ≡ stated_volume e.sector) }
     ensures inside { IfOk result (λ e. e.geometry.dblocks ≤ size) }
     ensures cause { HasElectCause (D.faults disk.old) (D.faults disk.new) result }
-    ensures size { D.size disk.new ≡ D.size disk.old }
-    ensures holds { D.holds disk.new ≡ D.holds disk.old }
-    ensures write_faults { D.write_faults disk.new ≡ D.write_faults disk.old }
-    ensures tells { D.tells_stops disk.old → D.tells_stops disk.new }
-    ensures stops { D.tells_stops disk.old → (b : ℕ) (v : List ℕ) → D.may_leave disk.new b v → D.may_leave disk.old b v }
+    ensures disk { OnlyReads D.size D.holds D.write_faults D.writes D.tells_stops D.moment D.may_leave D.left_since disk.old disk.new }
+    ensures reads { D.reads disk.new + 1 ≤ D.reads disk.old + size }
 {
     let mut poll = Poll::new(alloc);
     for place in 1..size {
@@ -118,11 +113,8 @@ fn ask_block<D: Disk>(
     ensures polled { OnOk result (HasPolled (D.holds disk.old) size (place + 1) poll.new) }
     ensures fault { IfErr result (λ fault. (fault ≡ ElectFault.ReadFault) ⊎ (fault ≡ ElectFault.NoMemory)) }
     ensures cause { HasElectCause (D.faults disk.old) (D.faults disk.new) result }
-    ensures size { D.size disk.new ≡ D.size disk.old }
-    ensures holds { D.holds disk.new ≡ D.holds disk.old }
-    ensures write_faults { D.write_faults disk.new ≡ D.write_faults disk.old }
-    ensures tells { D.tells_stops disk.old → D.tells_stops disk.new }
-    ensures stops { D.tells_stops disk.old → (b : ℕ) (v : List ℕ) → D.may_leave disk.new b v → D.may_leave disk.old b v }
+    ensures disk { OnlyReads D.size D.holds D.write_faults D.writes D.tells_stops D.moment D.may_leave D.left_since disk.old disk.new }
+    ensures reads { D.reads disk.new ≤ D.reads disk.old + 1 }
 {
     let mut block = [0; BLOCK_SIZE];
     match disk.read(place, &mut block) {

@@ -3,7 +3,7 @@
 ghost use Rattle.std.specs.Prelude.{◌≡◌, ◌≤◌, IfOk, IsTrue};
 ghost use Rattle.std.specs.Option.{ForSome};
 ghost use Rattle.xfs_geom.specs.Volumes.{volume_of};
-ghost use Rattle.xfs_tree.specs.Answers.{OnlyReads};
+ghost use Rattle.xfs_disk.specs.Reads.{OnlyReads};
 ghost use Rattle.xfs_image.specs.Candidates.{Ascend, candidates};
 ghost use Rattle.xfs_image.specs.Groups.{groups_read};
 ghost use Rattle.xfs_groups.specs.Answers.{EndBelow, HasGroupsCause, has_root, lists_of, reserved_lists};
@@ -53,7 +53,7 @@ pub fn see_groups<D: Disk, L: Ledger>(
     ensures low { IfOk result (λ seen. EndBelow g.now.dblocks seen.clusters) }
     ensures root { IfOk result (λ seen. IsTrue (has_root (volume_of g.now) seen.clusters)) }
     ensures cause { HasGroupsCause (D.faults disk.old) (D.faults disk.new) result }
-    ensures disk { OnlyReads D.size D.holds D.write_faults D.tells_stops D.may_leave disk.old disk.new }
+    ensures disk { OnlyReads D.size D.holds D.write_faults D.writes D.tells_stops D.moment D.may_leave D.left_since disk.old disk.new }
 {
     let mut groups = Ok(Records::from_vec(Vec::new(alloc)));
     let mut clusters = Vec::new(alloc);

@@ -8,7 +8,7 @@ ghost use Rattle.xfs_heads.specs.FreeList.{agfl_of};
 ghost use Rattle.xfs_heads.specs.FreeSpace.{agf_of, is_agf_shaped};
 ghost use Rattle.xfs_heads.specs.Inodes.{agi_of, is_agi_shaped};
 ghost use Rattle.xfs_image.specs.Groups.{agf_at, agfl_at, agi_at};
-ghost use Rattle.xfs_tree.specs.Answers.{OnlyReads};
+ghost use Rattle.xfs_disk.specs.Reads.{OnlyReads};
 ghost use Rattle.xfs_tree.specs.Reading.{bytes_at};
 ghost use Rattle.xfs_word.specs.Field.{part_of};
 
@@ -42,7 +42,7 @@ pub(crate) fn read_heads<D: Disk, L: Ledger>(
     ensures agf_shaped { IfOk result (λ heads. IfSome heads.agf (λ agf. IsTrue (is_agf_shaped (volume_of g.now) ag agf))) }
     ensures agi_shaped { IfOk result (λ heads. IfSome heads.agi (λ agi. IsTrue (is_agi_shaped (volume_of g.now) ag agi))) }
     ensures cause { HasCause (D.faults disk.old) (D.faults disk.new) result }
-    ensures disk { OnlyReads D.size D.holds D.write_faults D.tells_stops D.may_leave disk.old disk.new }
+    ensures disk { OnlyReads D.size D.holds D.write_faults D.writes D.tells_stops D.moment D.may_leave D.left_since disk.old disk.new }
     ensures ticks { steps.new ≡ steps.old + 1 }
 {
     let mut block = [0; BLOCK_SIZE];
@@ -94,7 +94,7 @@ pub(crate) fn read_block<D: Disk, L: Ledger>(
     ensures bytes { OnOk result (ForSome (D.holds disk.old) (λ image. bytes_at image place ≡ block.new)) }
     ensures whole { length block.new ≡ 4096 }
     ensures cause { HasCause (D.faults disk.old) (D.faults disk.new) result }
-    ensures disk { OnlyReads D.size D.holds D.write_faults D.tells_stops D.may_leave disk.old disk.new }
+    ensures disk { OnlyReads D.size D.holds D.write_faults D.writes D.tells_stops D.moment D.may_leave D.left_since disk.old disk.new }
     ensures ticks { steps.new ≡ steps.old + 1 }
 {
     steps.tick();

@@ -8,7 +8,7 @@ ghost use Rattle.xfs_geom.specs.Conversions.{inode_of};
 ghost use Rattle.xfs_geom.specs.Volumes.{volume_of};
 ghost use Rattle.xfs_image.specs.Candidates.{is_used_slot, is_whole_block, owner_due, whole_seal};
 ghost use Rattle.xfs_inode.specs.Slots.{slot_seal};
-ghost use Rattle.xfs_tree.specs.Answers.{OnlyReads};
+ghost use Rattle.xfs_disk.specs.Reads.{OnlyReads};
 ghost use Rattle.xfs_tree.specs.Reading.{bytes_at};
 ghost use Rattle.xfs_word.specs.Field.{field_of};
 ghost use Rattle.xfs_word.specs.Seal.{is_sealed, layout_of};
@@ -73,7 +73,7 @@ pub(crate) fn look<D: Disk, L: Ledger>(
     requires inside { g.now.dblocks ≤ D.size disk.old }
     ensures seen { IfOk result (λ seen. ForSome (D.holds disk.old) (λ image. IsSeen (volume_of g.now) image place seen)) }
     ensures cause { HasCause (D.faults disk.old) (D.faults disk.new) result }
-    ensures disk { OnlyReads D.size D.holds D.write_faults D.tells_stops D.may_leave disk.old disk.new }
+    ensures disk { OnlyReads D.size D.holds D.write_faults D.writes D.tells_stops D.moment D.may_leave D.left_since disk.old disk.new }
     ensures ticks { steps.new ≡ steps.old + 1 }
 {
     let mut block = [0; BLOCK_SIZE];
@@ -94,7 +94,7 @@ pub(crate) fn look_whole<D: Disk, L: Ledger>(
     requires inside { g.now.dblocks ≤ D.size disk.old }
     ensures whole { IfOk result (λ whole. ForSome (D.holds disk.old) (λ image. whole ≡ is_whole_block (volume_of g.now) image place)) }
     ensures cause { HasCause (D.faults disk.old) (D.faults disk.new) result }
-    ensures disk { OnlyReads D.size D.holds D.write_faults D.tells_stops D.may_leave disk.old disk.new }
+    ensures disk { OnlyReads D.size D.holds D.write_faults D.writes D.tells_stops D.moment D.may_leave D.left_since disk.old disk.new }
     ensures ticks { steps.new ≡ steps.old + 1 }
 {
     let mut block = [0; BLOCK_SIZE];

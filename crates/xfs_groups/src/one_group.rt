@@ -6,7 +6,7 @@ ghost use Rattle.xfs_geom.specs.Conversions.{group_length};
 ghost use Rattle.xfs_geom.specs.Volumes.{volume_of};
 ghost use Rattle.xfs_image.specs.Groups.{group_read, head_block};
 ghost use Rattle.xfs_image.specs.Reserved.{reserved_in};
-ghost use Rattle.xfs_tree.specs.Answers.{OnlyReads};
+ghost use Rattle.xfs_disk.specs.Reads.{OnlyReads};
 ghost use Rattle.xfs_groups.specs.Answers.{HasGroupsCause};
 ghost use Rattle.xfs_groups.specs.Chosen.{ArePlaced, IsTold, candidates_in, chosen, withheld};
 ghost use Rattle.xfs_groups.specs.Named.{AreOwnersApart};
@@ -59,7 +59,7 @@ pub(crate) fn see_group<D: Disk, L: Ledger>(
     ensures reserved { IfOk result (λ seen. ForSome (D.holds disk.old) (λ image. seen.reserved.items ≡ reserved_in (volume_of g.now) image ag)) }
     ensures placed { IfOk result (λ seen. ArePlaced (volume_of g.now) ag (group_length (volume_of g.now) ag / 4) seen.clusters.items) }
     ensures cause { HasGroupsCause (D.faults disk.old) (D.faults disk.new) result }
-    ensures disk { OnlyReads D.size D.holds D.write_faults D.tells_stops D.may_leave disk.old disk.new }
+    ensures disk { OnlyReads D.size D.holds D.write_faults D.writes D.tells_stops D.moment D.may_leave D.left_since disk.old disk.new }
 {
     let heads = match read_heads(g, disk, ag, steps) {
         Ok(heads) => heads,
@@ -121,7 +121,7 @@ fn look_through<D: Disk, L: Ledger>(
         found.reserved.items ≡ withheld (volume_of g.now) image told.now.trusted told.now.held (head_block (volume_of g.now) ag) (group_length (volume_of g.now) ag))) }
     ensures placed { IfOk result (λ found. ArePlaced (volume_of g.now) ag (group_length (volume_of g.now) ag / 4) found.clusters.items) }
     ensures cause { HasGroupsCause (D.faults disk.old) (D.faults disk.new) result }
-    ensures disk { OnlyReads D.size D.holds D.write_faults D.tells_stops D.may_leave disk.old disk.new }
+    ensures disk { OnlyReads D.size D.holds D.write_faults D.writes D.tells_stops D.moment D.may_leave D.left_since disk.old disk.new }
 {
     if !told.trusted {
         return scan_group(alloc, g, disk, ag, &told.named, &told.held, steps);

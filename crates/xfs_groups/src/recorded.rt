@@ -7,7 +7,7 @@ ghost use Rattle.xfs_geom.specs.Conversions.{group_length};
 ghost use Rattle.xfs_geom.specs.Volumes.{volume_of};
 ghost use Rattle.xfs_image.specs.Candidates.{lies_in_chunk};
 ghost use Rattle.xfs_image.specs.Clusters.{root_cluster};
-ghost use Rattle.xfs_tree.specs.Answers.{OnlyReads};
+ghost use Rattle.xfs_disk.specs.Reads.{OnlyReads};
 ghost use Rattle.xfs_groups.specs.Answers.{HasGroupsCause};
 ghost use Rattle.xfs_groups.specs.Chosen.{ArePlaced, are_clear, chosen, chosen_rec, is_chosen, is_clear};
 
@@ -36,7 +36,7 @@ pub(crate) fn recorded_clusters<D: Disk, L: Ledger>(
         clusters.items ≡ chosen (volume_of g.now) image true named.now ag (group_length (volume_of g.now) ag / 4))) }
     ensures placed { IfOk result (λ clusters. ArePlaced (volume_of g.now) ag (group_length (volume_of g.now) ag / 4) clusters.items) }
     ensures cause { HasGroupsCause (D.faults disk.old) (D.faults disk.new) result }
-    ensures disk { OnlyReads D.size D.holds D.write_faults D.tells_stops D.may_leave disk.old disk.new }
+    ensures disk { OnlyReads D.size D.holds D.write_faults D.writes D.tells_stops D.moment D.may_leave D.left_since disk.old disk.new }
 {
     let start = g.start_of_group(ag);
     let mut clusters = Vec::new(alloc);
@@ -68,7 +68,7 @@ fn is_chosen<D: Disk, L: Ledger>(
     ensures chosen { IfOk result (λ is. ForSome (D.holds disk.old) (λ image. is ≡ is_chosen (volume_of g.now) image true named.now cluster)) }
     ensures root { IfOk result (λ is. cluster ≡ root_cluster (volume_of g.now) → is ≡ true) }
     ensures cause { HasCause (D.faults disk.old) (D.faults disk.new) result }
-    ensures disk { OnlyReads D.size D.holds D.write_faults D.tells_stops D.may_leave disk.old disk.new }
+    ensures disk { OnlyReads D.size D.holds D.write_faults D.writes D.tells_stops D.moment D.may_leave D.left_since disk.old disk.new }
 {
     if cluster == root_cluster(g) {
         return Ok(true);
@@ -94,7 +94,7 @@ fn are_clear<D: Disk, L: Ledger>(
     requires inside { g.now.dblocks ≤ D.size disk.old }
     ensures clear { IfOk result (λ clear. ForSome (D.holds disk.old) (λ image. clear ≡ are_clear (volume_of g.now) image first count)) }
     ensures cause { HasCause (D.faults disk.old) (D.faults disk.new) result }
-    ensures disk { OnlyReads D.size D.holds D.write_faults D.tells_stops D.may_leave disk.old disk.new }
+    ensures disk { OnlyReads D.size D.holds D.write_faults D.writes D.tells_stops D.moment D.may_leave D.left_since disk.old disk.new }
 {
     for k in 0..count {
         match is_clear(g, disk, first + k, steps) {
@@ -117,7 +117,7 @@ fn is_clear<D: Disk, L: Ledger>(
     requires inside { g.now.dblocks ≤ D.size disk.old }
     ensures clear { IfOk result (λ clear. ForSome (D.holds disk.old) (λ image. clear ≡ is_clear (volume_of g.now) image block)) }
     ensures cause { HasCause (D.faults disk.old) (D.faults disk.new) result }
-    ensures disk { OnlyReads D.size D.holds D.write_faults D.tells_stops D.may_leave disk.old disk.new }
+    ensures disk { OnlyReads D.size D.holds D.write_faults D.writes D.tells_stops D.moment D.may_leave D.left_since disk.old disk.new }
     ensures ticks { steps.new ≤ steps.old + 1 }
 {
     if g.is_fixed(block) {

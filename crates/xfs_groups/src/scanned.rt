@@ -5,7 +5,7 @@ ghost use Rattle.std.specs.Option.{ForSome};
 ghost use Rattle.xfs_geom.specs.Conversions.{group_length, is_fixed};
 ghost use Rattle.xfs_geom.specs.Volumes.{volume_of};
 ghost use Rattle.xfs_image.specs.Groups.{head_block};
-ghost use Rattle.xfs_tree.specs.Answers.{OnlyReads};
+ghost use Rattle.xfs_disk.specs.Reads.{OnlyReads};
 ghost use Rattle.xfs_groups.specs.Answers.{HasGroupsCause};
 ghost use Rattle.xfs_groups.specs.Chosen.{ArePlaced, are_clear, are_used, chosen, is_chosen_as, withheld};
 ghost use Rattle.xfs_groups.specs.Sets.{has};
@@ -55,7 +55,7 @@ pub(crate) fn scan_group<D: Disk, L: Ledger>(
         found.reserved.items ≡ withheld (volume_of g.now) image false held.now (head_block (volume_of g.now) ag) (group_length (volume_of g.now) ag))) }
     ensures placed { IfOk result (λ found. ArePlaced (volume_of g.now) ag (group_length (volume_of g.now) ag / 4) found.clusters.items) }
     ensures cause { HasGroupsCause (D.faults disk.old) (D.faults disk.new) result }
-    ensures disk { OnlyReads D.size D.holds D.write_faults D.tells_stops D.may_leave disk.old disk.new }
+    ensures disk { OnlyReads D.size D.holds D.write_faults D.writes D.tells_stops D.moment D.may_leave D.left_since disk.old disk.new }
 {
     let start = g.start_of_group(ag);
     let blocks = g.group_length(ag);
@@ -106,7 +106,7 @@ fn look_at<D: Disk, L: Ledger>(
     ensures withheld { IfOk result (λ seen. ForSome (D.holds disk.old) (λ image.
         reserved.new.items ≡ reserved.old.items ++ withheld (volume_of g.now) image false held.now first count)) }
     ensures cause { HasGroupsCause (D.faults disk.old) (D.faults disk.new) result }
-    ensures disk { OnlyReads D.size D.holds D.write_faults D.tells_stops D.may_leave disk.old disk.new }
+    ensures disk { OnlyReads D.size D.holds D.write_faults D.writes D.tells_stops D.moment D.may_leave D.left_since disk.old disk.new }
 {
     let mut all = ClusterSeen {
         used: false,

@@ -6,7 +6,7 @@ ghost use Rattle.xfs_geom.specs.Volumes.{volume_of};
 ghost use Rattle.xfs_heads.specs.FreeSpace.{is_agf_shaped};
 ghost use Rattle.xfs_heads.specs.Inodes.{is_agi_shaped};
 ghost use Rattle.xfs_image.specs.Groups.{blocks_in, bno_at, cnt_at, fino_at, ino_at, rmap_at, tree_at};
-ghost use Rattle.xfs_tree.specs.Answers.{OnlyReads};
+ghost use Rattle.xfs_disk.specs.Reads.{OnlyReads};
 ghost use Rattle.xfs_groups.specs.Answers.{HasGroupsCause};
 
 use crate::faults::GroupsFault;
@@ -92,7 +92,7 @@ pub(crate) fn read_trees<D: Disk, L: Ledger>(
     ensures fino { IfOk result (λ trees. ForSome (D.holds disk.old) (λ image. trees.fino ≡ option_and_then (fino_at (volume_of g.now) image ag) heads.now.agi)) }
     ensures rmap { IfOk result (λ trees. ForSome (D.holds disk.old) (λ image. trees.rmap ≡ option_and_then (rmap_at (volume_of g.now) image ag) heads.now.agf)) }
     ensures cause { HasGroupsCause (D.faults disk.old) (D.faults disk.new) result }
-    ensures disk { OnlyReads D.size D.holds D.write_faults D.tells_stops D.may_leave disk.old disk.new }
+    ensures disk { OnlyReads D.size D.holds D.write_faults D.writes D.tells_stops D.moment D.may_leave D.left_since disk.old disk.new }
 {
     let bno = match read_bno(alloc, g, disk, ag, &heads.agf, steps) {
         Ok(tree) => tree,
@@ -136,7 +136,7 @@ fn read_bno<D: Disk, L: Ledger>(
     requires inside { g.now.dblocks ≤ D.size disk.old }
     ensures read { IfOk result (λ tree. ForSome (D.holds disk.old) (λ image. tree ≡ option_and_then (bno_at (volume_of g.now) image ag) agf.now)) }
     ensures cause { HasGroupsCause (D.faults disk.old) (D.faults disk.new) result }
-    ensures disk { OnlyReads D.size D.holds D.write_faults D.tells_stops D.may_leave disk.old disk.new }
+    ensures disk { OnlyReads D.size D.holds D.write_faults D.writes D.tells_stops D.moment D.may_leave D.left_since disk.old disk.new }
 {
     match agf {
         None => Ok(None),
@@ -167,7 +167,7 @@ fn read_cnt<D: Disk, L: Ledger>(
     requires inside { g.now.dblocks ≤ D.size disk.old }
     ensures read { IfOk result (λ tree. ForSome (D.holds disk.old) (λ image. tree ≡ option_and_then (cnt_at (volume_of g.now) image ag) agf.now)) }
     ensures cause { HasGroupsCause (D.faults disk.old) (D.faults disk.new) result }
-    ensures disk { OnlyReads D.size D.holds D.write_faults D.tells_stops D.may_leave disk.old disk.new }
+    ensures disk { OnlyReads D.size D.holds D.write_faults D.writes D.tells_stops D.moment D.may_leave D.left_since disk.old disk.new }
 {
     match agf {
         None => Ok(None),
@@ -198,7 +198,7 @@ fn read_ino<D: Disk, L: Ledger>(
     requires inside { g.now.dblocks ≤ D.size disk.old }
     ensures read { IfOk result (λ tree. ForSome (D.holds disk.old) (λ image. tree ≡ option_and_then (ino_at (volume_of g.now) image ag) agi.now)) }
     ensures cause { HasGroupsCause (D.faults disk.old) (D.faults disk.new) result }
-    ensures disk { OnlyReads D.size D.holds D.write_faults D.tells_stops D.may_leave disk.old disk.new }
+    ensures disk { OnlyReads D.size D.holds D.write_faults D.writes D.tells_stops D.moment D.may_leave D.left_since disk.old disk.new }
 {
     match agi {
         None => Ok(None),
@@ -220,7 +220,7 @@ fn read_fino<D: Disk, L: Ledger>(
     requires inside { g.now.dblocks ≤ D.size disk.old }
     ensures read { IfOk result (λ tree. ForSome (D.holds disk.old) (λ image. tree ≡ option_and_then (fino_at (volume_of g.now) image ag) agi.now)) }
     ensures cause { HasGroupsCause (D.faults disk.old) (D.faults disk.new) result }
-    ensures disk { OnlyReads D.size D.holds D.write_faults D.tells_stops D.may_leave disk.old disk.new }
+    ensures disk { OnlyReads D.size D.holds D.write_faults D.writes D.tells_stops D.moment D.may_leave D.left_since disk.old disk.new }
 {
     match agi {
         None => Ok(None),
@@ -251,7 +251,7 @@ fn read_rmap<D: Disk, L: Ledger>(
     requires inside { g.now.dblocks ≤ D.size disk.old }
     ensures read { IfOk result (λ tree. ForSome (D.holds disk.old) (λ image. tree ≡ option_and_then (rmap_at (volume_of g.now) image ag) agf.now)) }
     ensures cause { HasGroupsCause (D.faults disk.old) (D.faults disk.new) result }
-    ensures disk { OnlyReads D.size D.holds D.write_faults D.tells_stops D.may_leave disk.old disk.new }
+    ensures disk { OnlyReads D.size D.holds D.write_faults D.writes D.tells_stops D.moment D.may_leave D.left_since disk.old disk.new }
 {
     match agf {
         None => Ok(None),
@@ -284,7 +284,7 @@ fn read_at<K: Kind, D: Disk, L: Ledger>(
     requires inside { g.now.dblocks ≤ D.size disk.old }
     ensures read { IfOk result (λ tree. ForSome (D.holds disk.old) (λ image. tree ≡ tree_at (K.shape kind.now) (volume_of g.now) image ag root levels)) }
     ensures cause { HasGroupsCause (D.faults disk.old) (D.faults disk.new) result }
-    ensures disk { OnlyReads D.size D.holds D.write_faults D.tells_stops D.may_leave disk.old disk.new }
+    ensures disk { OnlyReads D.size D.holds D.write_faults D.writes D.tells_stops D.moment D.may_leave D.left_since disk.old disk.new }
 {
     match read_tree(
         alloc,

@@ -4,7 +4,7 @@ ghost use Rattle.std.specs.Prelude.{◌≡◌, ℕ, ◌+◌, ◌<◌, ◌≤◌,
 ghost use Rattle.std.specs.Option.{ForSome, option_copied};
 ghost use Rattle.xfs_disk.specs.Faults.{HasCause};
 ghost use Rattle.xfs_geom.specs.Volumes.{volume_of};
-ghost use Rattle.xfs_tree.specs.Answers.{OnlyReads};
+ghost use Rattle.xfs_disk.specs.Reads.{OnlyReads};
 ghost use Rattle.xfs_tree.specs.Reading.{bytes_at};
 ghost use Rattle.xfs_inode.specs.Files.{contents_of};
 ghost use Rattle.xfs_inode.specs.Sound.{IsSound};
@@ -39,7 +39,7 @@ pub fn read_file<D: Disk, L: Ledger>(
     ensures read { IfOk result (λ read. ForSome (D.holds disk.old) (λ image. read ≡ slot_reads (volume_of g.now) image ino slot.now)) }
     ensures sound { IfOk result (λ read. IsSound (volume_of g.now) ino read) }
     ensures cause { HasInodeCause (D.faults disk.old) (D.faults disk.new) result }
-    ensures disk { OnlyReads D.size D.holds D.write_faults D.tells_stops D.may_leave disk.old disk.new }
+    ensures disk { OnlyReads D.size D.holds D.write_faults D.writes D.tells_stops D.moment D.may_leave D.left_since disk.old disk.new }
 {
     match needs(alloc, g, ino, slot) {
         Ok(needs) => read_needed(alloc, g, disk, ino, slot, &needs, steps),
@@ -67,7 +67,7 @@ fn read_needed<D: Disk, L: Ledger>(
     ensures read { IfOk result (λ read. ForSome (D.holds disk.old) (λ image. read ≡ slot_reads (volume_of g.now) image ino slot.now)) }
     ensures sound { IfOk result (λ read. IsSound (volume_of g.now) ino read) }
     ensures cause { HasInodeCause (D.faults disk.old) (D.faults disk.new) result }
-    ensures disk { OnlyReads D.size D.holds D.write_faults D.tells_stops D.may_leave disk.old disk.new }
+    ensures disk { OnlyReads D.size D.holds D.write_faults D.writes D.tells_stops D.moment D.may_leave D.left_since disk.old disk.new }
 {
     let tree = match read_top(alloc, g, disk, ino, &needs.top, steps) {
         Ok(tree) => tree,
@@ -109,7 +109,7 @@ fn read_top<D: Disk, L: Ledger>(
     requires { g.now.dblocks ≤ D.size disk.old }
     ensures read { IfOk result (λ tree. ForSome (D.holds disk.old) (λ image. option_map contents_of tree ≡ tree_at (volume_of g.now) image ino top.now)) }
     ensures cause { HasInodeCause (D.faults disk.old) (D.faults disk.new) result }
-    ensures disk { OnlyReads D.size D.holds D.write_faults D.tells_stops D.may_leave disk.old disk.new }
+    ensures disk { OnlyReads D.size D.holds D.write_faults D.writes D.tells_stops D.moment D.may_leave D.left_since disk.old disk.new }
 {
     match top {
         None => Ok(None),
@@ -136,7 +136,7 @@ fn read_named<D: Disk, L: Ledger>(
     ensures bytes { OnOk result (ForSome (D.holds disk.old) (λ image. IfSome named (λ place. bytes_at image place ≡ block.new))) }
     ensures whole { length block.new ≡ 4096 }
     ensures cause { HasCause (D.faults disk.old) (D.faults disk.new) result }
-    ensures disk { OnlyReads D.size D.holds D.write_faults D.tells_stops D.may_leave disk.old disk.new }
+    ensures disk { OnlyReads D.size D.holds D.write_faults D.writes D.tells_stops D.moment D.may_leave D.left_since disk.old disk.new }
     ensures ticks { steps.new ≤ steps.old + 1 }
 {
     match named {

@@ -5,7 +5,7 @@ ghost use Rattle.std.specs.Option.{ForSome};
 ghost use Rattle.xfs_disk.specs.Faults.{HasCause};
 ghost use Rattle.xfs_geom.specs.Volumes.{volume_of};
 ghost use Rattle.xfs_heads.specs.Log.{seen_of};
-ghost use Rattle.xfs_tree.specs.Answers.{OnlyReads};
+ghost use Rattle.xfs_disk.specs.Reads.{OnlyReads};
 ghost use Rattle.xfs_tree.specs.Blocks.{each_of};
 ghost use Rattle.xfs_tree.specs.Reading.{bytes_at};
 ghost use Rattle.xfs_image.specs.View.{log_of, log_sectors};
@@ -38,7 +38,7 @@ pub fn read_log<D: Disk, L: Ledger>(
     requires inside { g.now.dblocks ≤ D.size disk.old }
     ensures state { IfOk result (λ state. ForSome (D.holds disk.old) (λ image. state ≡ log_of (volume_of g.now) image)) }
     ensures cause { HasJournalCause (D.faults disk.old) (D.faults disk.new) result }
-    ensures disk { OnlyReads D.size D.holds D.write_faults D.tells_stops D.may_leave disk.old disk.new }
+    ensures disk { OnlyReads D.size D.holds D.write_faults D.writes D.tells_stops D.moment D.may_leave D.left_since disk.old disk.new }
 {
     match see_log(alloc, g, disk, steps) {
         Ok(seen) => Ok(log_state(&seen)),
@@ -56,7 +56,7 @@ fn see_log<D: Disk, L: Ledger>(
     requires inside { g.now.dblocks ≤ D.size disk.old }
     ensures seen { IfOk result (λ seen. ForSome (D.holds disk.old) (λ image. seen.items ≡ map seen_of (log_sectors (volume_of g.now) image))) }
     ensures cause { HasJournalCause (D.faults disk.old) (D.faults disk.new) result }
-    ensures disk { OnlyReads D.size D.holds D.write_faults D.tells_stops D.may_leave disk.old disk.new }
+    ensures disk { OnlyReads D.size D.holds D.write_faults D.writes D.tells_stops D.moment D.may_leave D.left_since disk.old disk.new }
 {
     let mut seen = Vec::new(alloc);
     let mut block = [0; BLOCK_SIZE];
@@ -87,7 +87,7 @@ fn read_block<D: Disk, L: Ledger>(
     ensures bytes { OnOk result (ForSome (D.holds disk.old) (λ image. bytes_at image (g.now.log + i) ≡ block.new)) }
     ensures whole { length block.new ≡ 4096 }
     ensures cause { HasCause (D.faults disk.old) (D.faults disk.new) result }
-    ensures disk { OnlyReads D.size D.holds D.write_faults D.tells_stops D.may_leave disk.old disk.new }
+    ensures disk { OnlyReads D.size D.holds D.write_faults D.writes D.tells_stops D.moment D.may_leave D.left_since disk.old disk.new }
     ensures ticks { steps.new ≡ steps.old + 1 }
 {
     steps.tick();

@@ -6,7 +6,7 @@ ghost use Rattle.std.specs.Option.{ForSome};
 ghost use Rattle.xfs_word.specs.Field.{field_of};
 ghost use Rattle.xfs_disk.specs.Faults.{HasCause};
 ghost use Rattle.xfs_geom.specs.Volumes.{volume_of};
-ghost use Rattle.xfs_tree.specs.Answers.{OnlyReads};
+ghost use Rattle.xfs_disk.specs.Reads.{OnlyReads};
 ghost use Rattle.xfs_tree.specs.Reading.{bytes_at};
 ghost use Rattle.xfs_image.specs.Files.{clusters_of};
 ghost use Rattle.xfs_image.specs.Lsns.{in_order, lsn_at, lsn_places, lsns_read};
@@ -42,7 +42,7 @@ pub fn read_lsns<D: Disk, L: Ledger>(
     requires low { All (λ cluster. cluster < 2 ^ 60) clusters.now }
     ensures lsns { IfOk result (λ lsns. ForSome (D.holds disk.old) (λ image. lsns ≡ lsns_read (volume_of g.now) image groups.now files.now)) }
     ensures cause { HasJournalCause (D.faults disk.old) (D.faults disk.new) result }
-    ensures disk { OnlyReads D.size D.holds D.write_faults D.tells_stops D.may_leave disk.old disk.new }
+    ensures disk { OnlyReads D.size D.holds D.write_faults D.writes D.tells_stops D.moment D.may_leave D.left_since disk.old disk.new }
 {
     let places = match ordered_places(alloc, g, groups, clusters, files) {
         Ok(places) => places,
@@ -82,7 +82,7 @@ fn read_places<D: Disk, L: Ledger>(
     requires inside { All IsInside places.now }
     ensures lsns { IfOk result (λ lsns. ForSome (D.holds disk.old) (λ image. lsns.items ≡ map (lsn_at image) (listed places.now))) }
     ensures cause { HasJournalCause (D.faults disk.old) (D.faults disk.new) result }
-    ensures disk { OnlyReads D.size D.holds D.write_faults D.tells_stops D.may_leave disk.old disk.new }
+    ensures disk { OnlyReads D.size D.holds D.write_faults D.writes D.tells_stops D.moment D.may_leave D.left_since disk.old disk.new }
 {
     let size = match disk.blocks() {
         Ok(size) => size,
@@ -136,7 +136,7 @@ fn read_lsn<D: Disk, L: Ledger>(
     ensures lsn { IfOk result (λ lsn. ForSome (D.holds disk.old) (λ image. lsn ≡ field_of (bytes_at image place.now.block) place.now.byte 8)) }
     ensures held { OnOk result (ForSome (D.holds disk.old) (λ image. HoldsBlock image held.new.block held.new.bytes)) }
     ensures cause { HasCause (D.faults disk.old) (D.faults disk.new) result }
-    ensures disk { OnlyReads D.size D.holds D.write_faults D.tells_stops D.may_leave disk.old disk.new }
+    ensures disk { OnlyReads D.size D.holds D.write_faults D.writes D.tells_stops D.moment D.may_leave D.left_since disk.old disk.new }
     ensures ticks { steps.new ≤ steps.old + 1 }
 {
     if place.block >= size {
@@ -160,7 +160,7 @@ fn hold<D: Disk, L: Ledger>(
     ensures bytes { OnOk result (ForSome (D.holds disk.old) (λ image. bytes_at image block ≡ held.new.bytes)) }
     ensures held { OnOk result (ForSome (D.holds disk.old) (λ image. HoldsBlock image held.new.block held.new.bytes)) }
     ensures cause { HasCause (D.faults disk.old) (D.faults disk.new) result }
-    ensures disk { OnlyReads D.size D.holds D.write_faults D.tells_stops D.may_leave disk.old disk.new }
+    ensures disk { OnlyReads D.size D.holds D.write_faults D.writes D.tells_stops D.moment D.may_leave D.left_since disk.old disk.new }
     ensures ticks { steps.new ≤ steps.old + 1 }
 {
     if held.block == Some(block) {

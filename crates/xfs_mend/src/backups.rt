@@ -6,7 +6,7 @@ ghost use Rattle.xfs_disk.specs.Faults.{HasCause};
 ghost use Rattle.xfs_geom.specs.Superblocks.{is_agreeing};
 ghost use Rattle.xfs_geom.specs.Volumes.{volume_of, stated_volume};
 ghost use Rattle.xfs_geom.specs.Election.{block_of, super_of};
-ghost use Rattle.xfs_tree.specs.Answers.{OnlyReads};
+ghost use Rattle.xfs_disk.specs.Reads.{OnlyReads};
 ghost use Rattle.xfs_mend.specs.Backups.{start_of, step_of, steps_from, with_super};
 ghost use Rattle.xfs_mend.specs.Due.{first_disagreeing};
 ghost use Rattle.xfs_mend.specs.Planning.{HasMendCause};
@@ -63,7 +63,7 @@ pub(crate) fn find_disagreeing<D: Disk>(
     ensures first { IfOk result (λ first. ForSome (D.holds disk.old) (λ image.
         first ≡ first_disagreeing primary.now image 1 (geometry.now.agcount - 1))) }
     ensures cause { HasCause (D.faults disk.old) (D.faults disk.new) result }
-    ensures disk { OnlyReads D.size D.holds D.write_faults D.tells_stops D.may_leave disk.old disk.new }
+    ensures disk { OnlyReads D.size D.holds D.write_faults D.writes D.tells_stops D.moment D.may_leave D.left_since disk.old disk.new }
 {
     for group in 1..geometry.agcount {
         let agreeing = match is_agreeing(disk, geometry, primary, group) {
@@ -92,7 +92,7 @@ fn is_agreeing<D: Disk>(
     ensures agreeing { IfOk result (λ agreeing. ForSome (D.holds disk.old) (λ image.
         agreeing ≡ is_agreeing (stated_volume primary.now) (super_of (block_of image (start_of primary.now group))))) }
     ensures cause { HasCause (D.faults disk.old) (D.faults disk.new) result }
-    ensures disk { OnlyReads D.size D.holds D.write_faults D.tells_stops D.may_leave disk.old disk.new }
+    ensures disk { OnlyReads D.size D.holds D.write_faults D.writes D.tells_stops D.moment D.may_leave D.left_since disk.old disk.new }
 {
     let mut block = [0; BLOCK_SIZE];
     match disk.read(geometry.start_of_group(group), &mut block) {

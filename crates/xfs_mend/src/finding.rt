@@ -5,7 +5,7 @@ ghost use Rattle.std.specs.Option.{ForSome};
 ghost use Rattle.xfs_geom.specs.Election.{elected};
 ghost use Rattle.xfs_geom.specs.Electing.{vote_of};
 ghost use Rattle.xfs_geom.specs.Volumes.{volume_of, stated_volume};
-ghost use Rattle.xfs_tree.specs.Answers.{OnlyReads};
+ghost use Rattle.xfs_disk.specs.Reads.{OnlyReads};
 ghost use Rattle.xfs_laws.specs.Lawful.{broken_law};
 ghost use Rattle.xfs_image.specs.Consistent.{backup_found, finding, law_found, view_found};
 ghost use Rattle.xfs_image.specs.View.{view};
@@ -38,7 +38,7 @@ pub(crate) fn find_first<R: Threads + Sync, D: Disk>(
     requires view { ForSome (D.holds disk.old) (λ image. seen.now ≡ view chosen.now.geometry image) }
     ensures found { IfOk result (λ found. ForSome (D.holds disk.old) (λ image. found ≡ finding broken_law chosen.now.geometry image)) }
     ensures cause { HasMendCause (D.faults disk.old) (D.faults disk.new) result }
-    ensures disk { OnlyReads D.size D.holds D.write_faults D.tells_stops D.may_leave disk.old disk.new }
+    ensures disk { OnlyReads D.size D.holds D.write_faults D.writes D.tells_stops D.moment D.may_leave D.left_since disk.old disk.new }
 {
     if chosen.from != 0 {
         return Ok(Some(Finding::Part { part: 0, place: 0 }));
@@ -97,7 +97,7 @@ fn find_backup<D: Disk>(
     ensures found { IfOk result (λ found. ForSome (D.holds disk.old) (λ image.
         found ≡ backup_found (first_disagreeing primary.now image 1 (geometry.now.agcount - 1)))) }
     ensures cause { HasMendCause (D.faults disk.old) (D.faults disk.new) result }
-    ensures disk { OnlyReads D.size D.holds D.write_faults D.tells_stops D.may_leave disk.old disk.new }
+    ensures disk { OnlyReads D.size D.holds D.write_faults D.writes D.tells_stops D.moment D.may_leave D.left_since disk.old disk.new }
 {
     match find_disagreeing(disk, geometry, primary) {
         Ok(None) => Ok(None),

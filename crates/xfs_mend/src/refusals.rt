@@ -3,7 +3,7 @@
 ghost use Rattle.std.specs.Prelude.{◌≡◌, ◌<◌, ◌≤◌, ◌&&◌, None, IfOk};
 ghost use Rattle.std.specs.Option.{ForSome};
 ghost use Rattle.xfs_geom.specs.Volumes.{volume_of};
-ghost use Rattle.xfs_tree.specs.Answers.{OnlyReads};
+ghost use Rattle.xfs_disk.specs.Reads.{OnlyReads};
 ghost use Rattle.xfs_image.specs.View.{view};
 ghost use Rattle.xfs_scan.specs.Refused.{refused};
 ghost use Rattle.xfs_mend.specs.Due.{asks_log, away_if, is_dirty, refusal_of};
@@ -48,7 +48,7 @@ pub(crate) fn admit<D: Disk>(
     requires inside { g.now.dblocks ≤ D.size disk.old }
     ensures admitted { IfOk result (λ admitted. ForSome (D.holds disk.old) (λ image. IsAdmission options.now g.now image admitted)) }
     ensures cause { HasMendCause (D.faults disk.old) (D.faults disk.new) result }
-    ensures disk { OnlyReads D.size D.holds D.write_faults D.tells_stops D.may_leave disk.old disk.new }
+    ensures disk { OnlyReads D.size D.holds D.write_faults D.writes D.tells_stops D.moment D.may_leave D.left_since disk.old disk.new }
 {
     admit_counted::<D, Brand>(alloc, disk, options, g, Blank::new(1))
 }
@@ -68,7 +68,7 @@ fn admit_counted<D: Disk, L: Ledger>(
     requires inside { g.now.dblocks ≤ D.size disk.old }
     ensures admitted { IfOk result (λ admitted. ForSome (D.holds disk.old) (λ image. IsAdmission options.now g.now image admitted)) }
     ensures cause { HasMendCause (D.faults disk.old) (D.faults disk.new) result }
-    ensures disk { OnlyReads D.size D.holds D.write_faults D.tells_stops D.may_leave disk.old disk.new }
+    ensures disk { OnlyReads D.size D.holds D.write_faults D.writes D.tells_stops D.moment D.may_leave D.left_since disk.old disk.new }
 {
     let mut steps = Steps::<L>::from_blank(blank);
     match gather(alloc, g, disk, &mut steps) {
@@ -133,7 +133,7 @@ fn unless_dirty<D: Disk, L: Ledger>(
     requires refused { ForSome (D.holds disk.old) (λ image. HasAdmitted (refusal_of (refused (volume_of g.now) image)) (view g.now image) refusal) }
     ensures admitted { IfOk result (λ admitted. ForSome (D.holds disk.old) (λ image. IsAdmission options.now g.now image admitted)) }
     ensures cause { HasMendCause (D.faults disk.old) (D.faults disk.new) result }
-    ensures disk { OnlyReads D.size D.holds D.write_faults D.tells_stops D.may_leave disk.old disk.new }
+    ensures disk { OnlyReads D.size D.holds D.write_faults D.writes D.tells_stops D.moment D.may_leave D.left_since disk.old disk.new }
 {
     if !asks_log(options) {
         return Ok(refusal);

@@ -1,6 +1,5 @@
 mod Banks
 mod Gathering
-mod Reading
 mod Outside
 mod Refusing
 mod Rests

@@ -5,7 +5,7 @@ ghost use Rattle.std.specs.List.{All};
 ghost use Rattle.std.specs.Option.{ForSome};
 ghost use Rattle.xfs_geom.specs.Conversions.{inode_of};
 ghost use Rattle.xfs_geom.specs.Volumes.{volume_of};
-ghost use Rattle.xfs_tree.specs.Answers.{OnlyReads};
+ghost use Rattle.xfs_disk.specs.Reads.{OnlyReads};
 ghost use Rattle.xfs_tree.specs.Reading.{bytes_at};
 ghost use Rattle.xfs_image.specs.Slots.{inodes_in};
 ghost use Rattle.xfs_scan.specs.Answers.{HasReadCause};
@@ -43,7 +43,7 @@ pub fn see_blocks<D: Disk, L: Ledger>(
     requires held { ForSome (D.holds disk.old) (λ image. bank.now ≡ map (bytes_at image) blocks.now) }
     ensures held { OnOk result (ForSome (D.holds disk.old) (λ image. held_in inodes.new ≡ joined (held_in inodes.old) (gathered (volume_of g.now) image (inodes_of_blocks (volume_of g.now) blocks.now)))) }
     ensures cause { HasReadCause (D.faults disk.old) (D.faults disk.new) result }
-    ensures disk { OnlyReads D.size D.holds D.write_faults D.tells_stops D.may_leave disk.old disk.new }
+    ensures disk { OnlyReads D.size D.holds D.write_faults D.writes D.tells_stops D.moment D.may_leave D.left_since disk.old disk.new }
 {
     for (i, block) in blocks.iter().enumerate() {
         match see_block(alloc, g, disk, *block, bank.view(i), inodes, steps) {
@@ -70,7 +70,7 @@ pub fn see_block<D: Disk, L: Ledger>(
     requires held { ForSome (D.holds disk.old) (λ image. bytes_at image block ≡ bytes.now) }
     ensures held { OnOk result (ForSome (D.holds disk.old) (λ image. held_in inodes.new ≡ joined (held_in inodes.old) (gathered (volume_of g.now) image (inodes_in (volume_of g.now) block)))) }
     ensures cause { HasReadCause (D.faults disk.old) (D.faults disk.new) result }
-    ensures disk { OnlyReads D.size D.holds D.write_faults D.tells_stops D.may_leave disk.old disk.new }
+    ensures disk { OnlyReads D.size D.holds D.write_faults D.writes D.tells_stops D.moment D.may_leave D.left_since disk.old disk.new }
 {
     for slot in 0..SLOTS {
         match see_part(alloc, g, disk, block, slot, bytes, inodes, steps) {
@@ -99,7 +99,7 @@ fn see_part<D: Disk, L: Ledger>(
     requires held { ForSome (D.holds disk.old) (λ image. bytes_at image block ≡ bytes.now) }
     ensures held { OnOk result (ForSome (D.holds disk.old) (λ image. held_in inodes.new ≡ joined (held_in inodes.old) (of_slot (volume_of g.now) image (inode_of (volume_of g.now) block slot)))) }
     ensures cause { HasReadCause (D.faults disk.old) (D.faults disk.new) result }
-    ensures disk { OnlyReads D.size D.holds D.write_faults D.tells_stops D.may_leave disk.old disk.new }
+    ensures disk { OnlyReads D.size D.holds D.write_faults D.writes D.tells_stops D.moment D.may_leave D.left_since disk.old disk.new }
 {
     let ino = g.inode_of_slot(block, slot);
     let start = SLOT_SIZE * slot as usize;

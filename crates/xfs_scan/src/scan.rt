@@ -5,7 +5,7 @@ ghost use Rattle.std.specs.List.{All, flat_map};
 ghost use Rattle.std.specs.Option.{ForSome};
 ghost use Rattle.xfs_disk.specs.Faults.{HasCause};
 ghost use Rattle.xfs_geom.specs.Volumes.{volume_of};
-ghost use Rattle.xfs_tree.specs.Answers.{OnlyReads};
+ghost use Rattle.xfs_disk.specs.Reads.{OnlyReads};
 ghost use Rattle.xfs_tree.specs.Reading.{bytes_at};
 ghost use Rattle.xfs_volume.specs.declared.clusters.ClusterRec.{ClusterRec};
 ghost use Rattle.xfs_image.specs.Slots.{cluster_blocks, cluster_inodes};
@@ -46,7 +46,7 @@ pub fn scan<D: Disk, L: Ledger>(
     ensures slots { IfOk result (λ scanned. ForSome (D.holds disk.old) (λ image. scanned.slots ≡ map (bytes_at image) (flat_map (λ (c : ClusterRec). cluster_blocks c.block) clusters.now))) }
     ensures inodes { IfOk result (λ scanned. ForSome (D.holds disk.old) (λ image. held_in scanned.inodes ≡ gathered (volume_of g.now) image (flat_map (λ (c : ClusterRec). cluster_inodes (volume_of g.now) c.block) clusters.now))) }
     ensures cause { HasReadCause (D.faults disk.old) (D.faults disk.new) result }
-    ensures disk { OnlyReads D.size D.holds D.write_faults D.tells_stops D.may_leave disk.old disk.new }
+    ensures disk { OnlyReads D.size D.holds D.write_faults D.writes D.tells_stops D.moment D.may_leave D.left_since disk.old disk.new }
 {
     let blocks = match blocks_of_candidates(alloc, clusters, g.dblocks) {
         Ok(blocks) => blocks,
@@ -74,7 +74,7 @@ fn read_bank<D: Disk, L: Ledger>(
     ensures many { IfOk result (λ bank. length bank ≡ length blocks.now) }
     ensures held { IfOk result (λ bank. ForSome (D.holds disk.old) (λ image. bank ≡ map (bytes_at image) blocks.now)) }
     ensures cause { HasReadCause (D.faults disk.old) (D.faults disk.new) result }
-    ensures disk { OnlyReads D.size D.holds D.write_faults D.tells_stops D.may_leave disk.old disk.new }
+    ensures disk { OnlyReads D.size D.holds D.write_faults D.writes D.tells_stops D.moment D.may_leave D.left_since disk.old disk.new }
 {
     let mut bank = match BlockBank::make(alloc, blocks.len()) {
         Ok(bank) => bank,
@@ -102,7 +102,7 @@ fn read_into<D: Disk, L: Ledger>(
     ensures put { OnOk result (ForSome (D.holds disk.old) (λ image. bank.new ≡ slice_set bank.old i (bytes_at image place))) }
     ensures many { length bank.new ≡ length bank.old }
     ensures cause { HasCause (D.faults disk.old) (D.faults disk.new) result }
-    ensures disk { OnlyReads D.size D.holds D.write_faults D.tells_stops D.may_leave disk.old disk.new }
+    ensures disk { OnlyReads D.size D.holds D.write_faults D.writes D.tells_stops D.moment D.may_leave D.left_since disk.old disk.new }
     ensures ticks { steps.new ≡ steps.old + 1 }
 {
     let mut block = [0; BLOCK_SIZE];

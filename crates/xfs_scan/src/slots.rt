@@ -3,7 +3,7 @@
 ghost use Rattle.std.specs.Prelude.{◌≡◌, ◌≤◌, [], ◌∷◌, true, Some, None, length, OnOk};
 ghost use Rattle.std.specs.Option.{ForSome};
 ghost use Rattle.xfs_geom.specs.Volumes.{volume_of};
-ghost use Rattle.xfs_tree.specs.Answers.{OnlyReads};
+ghost use Rattle.xfs_disk.specs.Reads.{OnlyReads};
 ghost use Rattle.xfs_inode.specs.Files.{are_extents};
 ghost use Rattle.xfs_inode.specs.Sound.{IsSound};
 ghost use Rattle.xfs_volume.specs.Names.{is_directory};
@@ -41,7 +41,7 @@ pub fn see_slot<D: Disk, L: Ledger>(
     requires held { ForSome (D.holds disk.old) (λ image. slot_bytes (volume_of g.now) image ino ≡ slot.now) }
     ensures held { OnOk result (ForSome (D.holds disk.old) (λ image. held_in inodes.new ≡ joined (held_in inodes.old) (of_slot (volume_of g.now) image ino))) }
     ensures cause { HasReadCause (D.faults disk.old) (D.faults disk.new) result }
-    ensures disk { OnlyReads D.size D.holds D.write_faults D.tells_stops D.may_leave disk.old disk.new }
+    ensures disk { OnlyReads D.size D.holds D.write_faults D.writes D.tells_stops D.moment D.may_leave D.left_since disk.old disk.new }
 {
     match read_file(alloc, g, disk, ino, slot, steps) {
         Ok(read) => take_read(alloc, g, disk, ino, slot, read, inodes, steps),
@@ -67,7 +67,7 @@ fn take_read<D: Disk, L: Ledger>(
     requires sound { IsSound (volume_of g.now) ino read }
     ensures held { OnOk result (ForSome (D.holds disk.old) (λ image. held_in inodes.new ≡ joined (held_in inodes.old) (of_read (volume_of g.now) image ino read))) }
     ensures cause { HasReadCause (D.faults disk.old) (D.faults disk.new) result }
-    ensures disk { OnlyReads D.size D.holds D.write_faults D.tells_stops D.may_leave disk.old disk.new }
+    ensures disk { OnlyReads D.size D.holds D.write_faults D.writes D.tells_stops D.moment D.may_leave D.left_since disk.old disk.new }
 {
     match read {
         FileRead::Free => Ok(()),
@@ -100,7 +100,7 @@ fn take_bare<D: Disk, L: Ledger>(
     requires extents { are_extents (volume_of g.now) None file.extents ≡ true }
     ensures held { OnOk result (ForSome (D.holds disk.old) (λ image. held_in inodes.new ≡ joined (held_in inodes.old) (of_file (volume_of g.now) image file (file.ino ∷ []) (Some file.ino)))) }
     ensures cause { HasReadCause (D.faults disk.old) (D.faults disk.new) result }
-    ensures disk { OnlyReads D.size D.holds D.write_faults D.tells_stops D.may_leave disk.old disk.new }
+    ensures disk { OnlyReads D.size D.holds D.write_faults D.writes D.tells_stops D.moment D.may_leave D.left_since disk.old disk.new }
 {
     match note_bare(file.ino, inodes) {
         Ok(()) => take_file(alloc, g, disk, slot, file, inodes, steps),
@@ -133,7 +133,7 @@ fn take_file<D: Disk, L: Ledger>(
     requires extents { are_extents (volume_of g.now) None file.extents ≡ true }
     ensures held { OnOk result (ForSome (D.holds disk.old) (λ image. held_in inodes.new ≡ joined (held_in inodes.old) (of_file (volume_of g.now) image file [] None))) }
     ensures cause { HasReadCause (D.faults disk.old) (D.faults disk.new) result }
-    ensures disk { OnlyReads D.size D.holds D.write_faults D.tells_stops D.may_leave disk.old disk.new }
+    ensures disk { OnlyReads D.size D.holds D.write_faults D.writes D.tells_stops D.moment D.may_leave D.left_since disk.old disk.new }
 {
     match take_directory(alloc, g, disk, slot, &file, inodes, steps) {
         Ok(()) => {}
@@ -169,7 +169,7 @@ fn take_directory<D: Disk, L: Ledger>(
     requires extents { are_extents (volume_of g.now) None file.now.extents ≡ true }
     ensures held { OnOk result (ForSome (D.holds disk.old) (λ image. held_in inodes.new ≡ joined (held_in inodes.old) (of_directory (volume_of g.now) image file.now))) }
     ensures cause { HasReadCause (D.faults disk.old) (D.faults disk.new) result }
-    ensures disk { OnlyReads D.size D.holds D.write_faults D.tells_stops D.may_leave disk.old disk.new }
+    ensures disk { OnlyReads D.size D.holds D.write_faults D.writes D.tells_stops D.moment D.may_leave D.left_since disk.old disk.new }
 {
     if !is_directory(file) {
         return Ok(());

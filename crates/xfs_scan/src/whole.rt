@@ -3,7 +3,7 @@
 ghost use Rattle.std.specs.Prelude.{◌≡◌, ◌≤◌, IfOk};
 ghost use Rattle.std.specs.Option.{ForSome};
 ghost use Rattle.xfs_geom.specs.Volumes.{volume_of};
-ghost use Rattle.xfs_tree.specs.Answers.{OnlyReads};
+ghost use Rattle.xfs_disk.specs.Reads.{OnlyReads};
 ghost use Rattle.xfs_groups.specs.Answers.{EndBelow};
 ghost use Rattle.xfs_image.specs.Claims.{candidate_inodes};
 ghost use Rattle.xfs_scan.specs.Answers.{HasReadCause, HasRefused, HasScanCause};
@@ -40,7 +40,7 @@ pub fn gather<D: Disk, L: Ledger>(
     ensures evidence { IfOk result (λ e. ForSome (D.holds disk.old) (λ image. IsEvidence g.now image e)) }
     ensures refused { ForSome (D.holds disk.old) (λ image. HasRefused (refused (volume_of g.now) image) result) }
     ensures cause { HasScanCause (D.faults disk.old) (D.faults disk.new) result }
-    ensures disk { OnlyReads D.size D.holds D.write_faults D.tells_stops D.may_leave disk.old disk.new }
+    ensures disk { OnlyReads D.size D.holds D.write_faults D.writes D.tells_stops D.moment D.may_leave D.left_since disk.old disk.new }
 {
     let seen = match see_groups(alloc, g, disk, steps) {
         Ok(seen) => seen,
@@ -73,7 +73,7 @@ fn gather_files<D: Disk, L: Ledger>(
     ensures evidence { IfOk result (λ e. ForSome (D.holds disk.old) (λ image. IsEvidence g.now image e)) }
     ensures refused { ForSome (D.holds disk.old) (λ image. HasRefused (refused_late (volume_of g.now) image) result) }
     ensures cause { HasScanCause (D.faults disk.old) (D.faults disk.new) result }
-    ensures disk { OnlyReads D.size D.holds D.write_faults D.tells_stops D.may_leave disk.old disk.new }
+    ensures disk { OnlyReads D.size D.holds D.write_faults D.writes D.tells_stops D.moment D.may_leave D.left_since disk.old disk.new }
 {
     let scanned = match scan(alloc, g, disk, seen.clusters.as_slice(), steps) {
         Ok(scanned) => scanned,
@@ -110,7 +110,7 @@ fn gather_view<D: Disk, L: Ledger>(
     requires inodes { ForSome (D.holds disk.old) (λ image. held_in scanned.inodes ≡ gathered (volume_of g.now) image (candidate_inodes (volume_of g.now) image)) }
     ensures evidence { IfOk result (λ e. ForSome (D.holds disk.old) (λ image. IsEvidence g.now image e)) }
     ensures cause { HasReadCause (D.faults disk.old) (D.faults disk.new) result }
-    ensures disk { OnlyReads D.size D.holds D.write_faults D.tells_stops D.may_leave disk.old disk.new }
+    ensures disk { OnlyReads D.size D.holds D.write_faults D.writes D.tells_stops D.moment D.may_leave D.left_since disk.old disk.new }
 {
     let log = match read_log(alloc, g, disk, steps) {
         Ok(log) => log,

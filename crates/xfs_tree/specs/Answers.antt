@@ -1,9 +1,8 @@
 -- What a reading of a tree answers, and why.
-use Rattle.std.specs.Prelude.{◌≡◌, ℕ, ◌≤◌, Option, Some, None, Result, Err, MatchResult, ◌==◌, List}
+use Rattle.std.specs.Prelude.{◌≡◌, ℕ, ◌≤◌, Option, Some, None, Result, Err, MatchResult, ◌==◌}
 use Rattle.std.specs.List.{list_any}
 use Rattle.std.specs.Ordering.{nat_cmp}
 use Rattle.std.specs.BTreeSet.{contains}
-use Rattle.xfs_disk.specs.Blocks.{Image}
 use Rattle.xfs_disk.specs.Faults.{Rose}
 use Rattle.xfs_tree.specs.declared.tree.TreeError.{TreeError}
 use Rattle.xfs_tree.specs.declared.tree.TreeError.TheVariants as errors
@@ -33,15 +32,6 @@ IsCaused before now (errors.Unread _) = before ≤ now
 
 abbrev pub HasTreeCause : {T : Type 0} → ℕ → ℕ → Result T TreeError → Type 0
 HasTreeCause before now result = MatchResult result (λ _. before ≤ now) (IsCaused before now)
-
--- a disk that was only read: its contents and its other count are as before, and a stop may leave no more
-pub record OnlyReads {D : Type 0} (size : D → ℕ) (holds : D → Option Image) (write_faults : D → ℕ) (tells_stops : D → Type 0)
-    (may_leave : D → ℕ → List ℕ → Type 0) (old new : D) : Type 0 where
-  pub same_size : size new ≡ size old
-  pub same_contents : holds new ≡ holds old
-  pub same_write_faults : write_faults new ≡ write_faults old
-  pub tells : tells_stops old → tells_stops new
-  pub leaves : tells_stops old → (b : ℕ) (v : List ℕ) → may_leave new b v → may_leave old b v
 
 -- the set has just the blocks of the list
 abbrev pub IsMet : Met → Type 0

@@ -4,7 +4,8 @@ ghost use Rattle.std.specs.Prelude.{◌≡◌, ℕ, ◌+◌, ◌<◌, ◌≤◌,
 ghost use Rattle.std.specs.List.{flat_map};
 ghost use Rattle.std.specs.Option.{ForSome};
 ghost use Rattle.xfs_geom.specs.Volumes.{volume_of};
-ghost use Rattle.xfs_tree.specs.Answers.{HasJudged, HasTreeCause, IsMet, OnlyReads};
+ghost use Rattle.xfs_tree.specs.Answers.{HasJudged, HasTreeCause, IsMet};
+ghost use Rattle.xfs_disk.specs.Reads.{OnlyReads};
 ghost use Rattle.xfs_tree.specs.Blocks.{capacity, count_of, records_of, children_of};
 ghost use Rattle.xfs_tree.specs.Reading.{bytes_at, next_of, places_of, at_block, below, rule_at, row_fault};
 ghost use Rattle.xfs_tree.specs.Rules.{last_of, place_fault};
@@ -43,7 +44,7 @@ pub(crate) fn read_nodes<K: Kind, D: Disk, L: Ledger>(
     ensures blocks { OnOk result (met.new.blocks.items ≡ met.old.blocks.items ++ places_of row.now) }
     ensures met { OnOk result (IsMet met.new) }
     ensures cause { HasTreeCause (D.faults disk.old) (D.faults disk.new) result }
-    ensures disk { OnlyReads D.size D.holds D.write_faults D.tells_stops D.may_leave disk.old disk.new }
+    ensures disk { OnlyReads D.size D.holds D.write_faults D.writes D.tells_stops D.moment D.may_leave D.left_since disk.old disk.new }
 {
     let mut next = Vec::new(alloc);
     let mut left = None;
@@ -87,7 +88,7 @@ pub(crate) fn read_leaves<K: Kind, D: Disk, L: Ledger>(
     ensures blocks { OnOk result (met.new.blocks.items ≡ met.old.blocks.items ++ places_of row.now) }
     ensures met { OnOk result (IsMet met.new) }
     ensures cause { HasTreeCause (D.faults disk.old) (D.faults disk.new) result }
-    ensures disk { OnlyReads D.size D.holds D.write_faults D.tells_stops D.may_leave disk.old disk.new }
+    ensures disk { OnlyReads D.size D.holds D.write_faults D.writes D.tells_stops D.moment D.may_leave D.left_since disk.old disk.new }
 {
     let mut records = Vec::new(alloc);
     let mut left = None;
@@ -140,7 +141,7 @@ fn enter<K: Kind, D: Disk, L: Ledger>(
     ensures blocks { OnOk result (met.new.blocks.items ≡ met.old.blocks.items ++ seat.now.place ∷ []) }
     ensures met { OnOk result (IsMet met.new) }
     ensures cause { HasTreeCause (D.faults disk.old) (D.faults disk.new) result }
-    ensures disk { OnlyReads D.size D.holds D.write_faults D.tells_stops D.may_leave disk.old disk.new }
+    ensures disk { OnlyReads D.size D.holds D.write_faults D.writes D.tells_stops D.moment D.may_leave D.left_since disk.old disk.new }
     ensures ticks { steps.new ≤ steps.old + 1 }
 {
     let place = seat.place;

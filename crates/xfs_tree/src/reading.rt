@@ -3,7 +3,8 @@
 ghost use Rattle.std.specs.Prelude.{◌≡◌, ℕ, ◌-◌, ◌≤◌, [], ◌∷◌, List, Ok, OnOk, MatchResult};
 ghost use Rattle.std.specs.Option.{ForSome};
 ghost use Rattle.xfs_geom.specs.Volumes.{volume_of};
-ghost use Rattle.xfs_tree.specs.Answers.{Fails, HasTreeCause, OnlyReads};
+ghost use Rattle.xfs_tree.specs.Answers.{Fails, HasTreeCause};
+ghost use Rattle.xfs_disk.specs.Reads.{OnlyReads};
 ghost use Rattle.xfs_tree.specs.Reading.{root_seat, reading};
 ghost use Rattle.xfs_tree.specs.Seats.{seats_of};
 
@@ -38,7 +39,7 @@ pub fn read_tree<K: Kind, D: Disk, L: Ledger>(
         (λ tree. reading (K.shape kind.now) (volume_of g.now) image (root_seat root ∷ []) (levels - 1) ≡ Ok (record { records = tree.records.items; blocks = tree.blocks.items }))
         (λ error. Fails error (reading (K.shape kind.now) (volume_of g.now) image (root_seat root ∷ []) (levels - 1)))) }
     ensures cause { HasTreeCause (D.faults disk.old) (D.faults disk.new) result }
-    ensures disk { OnlyReads D.size D.holds D.write_faults D.tells_stops D.may_leave disk.old disk.new }
+    ensures disk { OnlyReads D.size D.holds D.write_faults D.writes D.tells_stops D.moment D.may_leave D.left_since disk.old disk.new }
 {
     let mut row = Vec::new(alloc);
     match push_root(root, &mut row) {
@@ -62,7 +63,7 @@ pub fn read_below<K: Kind, D: Disk, L: Ledger>(
         (λ tree. reading (K.shape kind.now) (volume_of g.now) image (seats_of top.now.places.items top.now.lows.items top.now.highs.items) top.now.level ≡ Ok (record { records = tree.records.items; blocks = tree.blocks.items }))
         (λ error. Fails error (reading (K.shape kind.now) (volume_of g.now) image (seats_of top.now.places.items top.now.lows.items top.now.highs.items) top.now.level))) }
     ensures cause { HasTreeCause (D.faults disk.old) (D.faults disk.new) result }
-    ensures disk { OnlyReads D.size D.holds D.write_faults D.tells_stops D.may_leave disk.old disk.new }
+    ensures disk { OnlyReads D.size D.holds D.write_faults D.writes D.tells_stops D.moment D.may_leave D.left_since disk.old disk.new }
 {
     match top.seats(alloc) {
         Ok(row) => read_levels(alloc, kind, g, disk, row, top.level, steps),
@@ -85,7 +86,7 @@ fn read_levels<K: Kind, D: Disk, L: Ledger>(
         (λ tree. reading (K.shape kind.now) (volume_of g.now) image tops.items height ≡ Ok (record { records = tree.records.items; blocks = tree.blocks.items }))
         (λ error. Fails error (reading (K.shape kind.now) (volume_of g.now) image tops.items height))) }
     ensures cause { HasTreeCause (D.faults disk.old) (D.faults disk.new) result }
-    ensures disk { OnlyReads D.size D.holds D.write_faults D.tells_stops D.may_leave disk.old disk.new }
+    ensures disk { OnlyReads D.size D.holds D.write_faults D.writes D.tells_stops D.moment D.may_leave D.left_since disk.old disk.new }
 {
     let mut row = tops;
     let mut met = Met::new(alloc);

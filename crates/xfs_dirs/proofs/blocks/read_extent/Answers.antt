@@ -1,7 +1,7 @@
 use Rattle.std.proofs.Common.{◌∙◌, subst, arith}
 use Rattle.xfs_geom.specs.Volumes.{volume_of}
 use Rattle.xfs_image.specs.Directories.{block_in, blocks_of}
-use Rattle.xfs_tree.proofs.Causes.{reads_on}
+use Rattle.xfs_disk.proofs.Reading.{reads_on}
 use Rattle.xfs_tree.proofs.Rest.{rest_none, rest_of}
 use Rattle.xfs_dirs.specs.Gathered.{AreBelow, found_of, with_blocks}
 use Rattle.xfs_dirs.proofs.Extents.{is_inside}
@@ -43,8 +43,8 @@ loop-i-preserved g c =
       below = subst (AreBelow c.take_block.new.gathered.kept) (omega arith) c.in-Ok-take_block.ensures.below;
       block = c.read.auto.into ∙ before.block;
       later = let up = before.later in let cause = read.cause in omega (arith, up, cause);
-      disk = reads_on D.size D.holds D.write_faults D.tells_stops D.may_leave c.args.disk.now c.loop-i.disk c.read.new.self before.disk
-          (record { same_size = read.size; same_contents = read.holds; same_write_faults = read.write_faults; tells = read.tells; leaves = read.stops });
+      disk = reads_on D.size D.holds D.write_faults D.writes D.tells_stops D.moment D.may_leave D.left_since c.args.disk.now c.loop-i.disk c.read.new.self before.disk
+          (record { same_size = read.size; same_contents = read.holds; same_write_faults = read.write_faults; same_writes = read.writes; tells = read.tells; leaves = read.stops; past = read.past });
     }
 
 pub returns-clause-found : goal.returns-clause-found

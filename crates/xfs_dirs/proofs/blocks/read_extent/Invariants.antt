@@ -1,7 +1,7 @@
 use Rattle.std.proofs.Common.{◌≡◌, ◌+◌, ◌≤◌, length}
 use Rattle.std.specs.Option.{ForSome}
 use Rattle.xfs_geom.specs.Volumes.{volume_of}
-use Rattle.xfs_tree.specs.Answers.{OnlyReads}
+use Rattle.xfs_disk.specs.Reads.{OnlyReads}
 use Rattle.xfs_tree.proofs.Rest.{rest_of}
 use Rattle.xfs_image.specs.Directories.{block_in, blocks_of}
 use Rattle.xfs_dirs.specs.Gathered.{AreBelow, found_of, with_blocks}
@@ -16,5 +16,5 @@ invariant-loop-i g l = record {
   below : AreBelow l.gathered.kept (l.extent.offset + l.i);
   block : length l.block ≡ 4096;
   later : g.D.Disk.faults l.fn.disk ≤ g.D.Disk.faults l.disk;
-  disk : OnlyReads g.D.Disk.size g.D.Disk.holds g.D.Disk.write_faults g.D.Disk.tells_stops g.D.Disk.may_leave l.fn.disk l.disk;
+  disk : OnlyReads g.D.Disk.size g.D.Disk.holds g.D.Disk.write_faults g.D.Disk.writes g.D.Disk.tells_stops g.D.Disk.moment g.D.Disk.may_leave g.D.Disk.left_since l.fn.disk l.disk;
 }

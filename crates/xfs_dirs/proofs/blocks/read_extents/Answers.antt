@@ -2,7 +2,7 @@ use Rattle.std.proofs.Common.{◌≡◌, ◌+◌, true, false, None, List, ◌�
 use Rattle.std.proofs.lemmas.List.{at_drop_all, at_drop_more}
 use Rattle.xfs_word.specs.declared.extents.Extent.{Extent}
 use Rattle.xfs_geom.specs.Volumes.{volume_of}
-use Rattle.xfs_tree.proofs.Causes.{reads_on}
+use Rattle.xfs_disk.proofs.Reading.{reads_on}
 use Rattle.xfs_inode.specs.Files.{are_extents}
 use Rattle.xfs_dirs.specs.Gathered.{blocks_in, found_of, nothing, with_blocks}
 use Rattle.xfs_dirs.proofs.Order.{before_next, extents_rest}
@@ -31,7 +31,7 @@ loop-extent-preserved g c =
       lawful = extents_rest v e (drop (i + 1) es) lawful;
       before = before_next v c.read_extent.new.gathered.kept e (drop (i + 1) es) lawful read.below;
       later = let up = before.later in let cause = read.cause in omega (arith, up, cause);
-      disk = reads_on D.size D.holds D.write_faults D.tells_stops D.may_leave c.args.disk.now c.loop-extent.disk c.read_extent.new.disk before.disk read.disk;
+      disk = reads_on D.size D.holds D.write_faults D.writes D.tells_stops D.moment D.may_leave D.left_since c.args.disk.now c.loop-extent.disk c.read_extent.new.disk before.disk read.disk;
     }
 
 pub returns-clause-found : goal.returns-clause-found

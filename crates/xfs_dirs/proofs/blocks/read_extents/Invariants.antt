@@ -1,7 +1,7 @@
 use Rattle.std.proofs.Common.{◌≡◌, ◌≤◌, true, None, drop}
 use Rattle.std.specs.Option.{ForSome}
 use Rattle.xfs_geom.specs.Volumes.{volume_of}
-use Rattle.xfs_tree.specs.Answers.{OnlyReads}
+use Rattle.xfs_disk.specs.Reads.{OnlyReads}
 use Rattle.xfs_inode.specs.Files.{are_extents}
 use Rattle.xfs_dirs.specs.Gathered.{blocks_in, found_of, nothing, with_blocks}
 use Rattle.xfs_dirs.proofs.Order.{AreBefore}
@@ -15,5 +15,5 @@ invariant-loop-extent g l = record {
   lawful : are_extents (volume_of l.g) None (drop l.extent-index l.extents) ≡ true;
   before : AreBefore l.gathered.kept (drop l.extent-index l.extents);
   later : g.D.Disk.faults l.fn.disk ≤ g.D.Disk.faults l.disk;
-  disk : OnlyReads g.D.Disk.size g.D.Disk.holds g.D.Disk.write_faults g.D.Disk.tells_stops g.D.Disk.may_leave l.fn.disk l.disk;
+  disk : OnlyReads g.D.Disk.size g.D.Disk.holds g.D.Disk.write_faults g.D.Disk.writes g.D.Disk.tells_stops g.D.Disk.moment g.D.Disk.may_leave g.D.Disk.left_since l.fn.disk l.disk;
 }

@@ -1,4 +1,5 @@
 use Rattle.std.proofs.Common.{◌≡◌, ◌<◌, Some, sym, ◌∙◌, ap, arith}
+use Rattle.xfs_disk.proofs.Reading.{reads_on}
 use Rattle.xfs_geom.specs.Electing.{vote_of}
 use Rattle.xfs_geom.specs.Superblocks.{super_fault}
 use Rattle.xfs_geom.specs.declared.reading.SuperFault.{SuperFault}
@@ -6,20 +7,12 @@ use Rattle.xfs_geom.specs.declared.reading.SuperFault.TheVariants.{Unsupported}
 use Rattle.xfs_geom.proofs.Primary.{primary, primary_elected, feature_refused}
 use Rattle.xfs_geom.proofs.election.elect.Goals as goal
 
-pub returns-in-Err-read-clause-size : goal.returns-in-Err-read-clause-size
-returns-in-Err-read-clause-size g c = c.in-Err-read.ensures.size ∙ c.in-Ok.ensures.size
-
-pub returns-in-Err-read-clause-holds : goal.returns-in-Err-read-clause-holds
-returns-in-Err-read-clause-holds g c = c.in-Err-read.ensures.holds ∙ c.in-Ok.ensures.holds
-
-pub returns-in-Err-read-clause-write_faults : goal.returns-in-Err-read-clause-write_faults
-returns-in-Err-read-clause-write_faults g c = c.in-Err-read.ensures.write_faults ∙ c.in-Ok.ensures.write_faults
-
-pub returns-in-Err-read-clause-tells : goal.returns-in-Err-read-clause-tells
-returns-in-Err-read-clause-tells g c = λ tells. c.in-Err-read.ensures.tells (c.in-Ok.ensures.tells tells)
-
-pub returns-in-Err-read-clause-stops : goal.returns-in-Err-read-clause-stops
-returns-in-Err-read-clause-stops g c = λ tells b v leaves. c.in-Ok.ensures.stops tells b v (c.in-Err-read.ensures.stops (c.in-Ok.ensures.tells tells) b v leaves)
+pub returns-in-Err-read-clause-disk : goal.returns-in-Err-read-clause-disk
+returns-in-Err-read-clause-disk g c =
+    let D = g.D.Disk in
+    reads_on D.size D.holds D.write_faults D.writes D.tells_stops D.moment D.may_leave D.left_since c.args.disk.now _ c.read.new.self
+    (record { same_size = c.in-Ok.ensures.size; same_contents = c.in-Ok.ensures.holds; same_write_faults = c.in-Ok.ensures.write_faults; same_writes = c.in-Ok.ensures.writes; tells = c.in-Ok.ensures.tells; leaves = c.in-Ok.ensures.stops; past = c.in-Ok.ensures.past })
+    (record { same_size = c.in-Err-read.ensures.size; same_contents = c.in-Err-read.ensures.holds; same_write_faults = c.in-Err-read.ensures.write_faults; same_writes = c.in-Err-read.ensures.writes; tells = c.in-Err-read.ensures.tells; leaves = c.in-Err-read.ensures.stops; past = c.in-Err-read.ensures.past })
 
 pub returns-in-Ok-read_super-clause-due : goal.returns-in-Ok-read_super-clause-due
 returns-in-Ok-read_super-clause-due g c = λ image told.
@@ -32,23 +25,16 @@ returns-in-Ok-read_super-clause-due g c = λ image told.
 pub returns-in-Ok-read_super-clause-cause : goal.returns-in-Ok-read_super-clause-cause
 returns-in-Ok-read_super-clause-cause g c = let first = c.in-Ok.ensures.cause in let then = c.in-Ok-read.ensures.cause in omega (arith, first, then)
 
-pub returns-in-Ok-read_super-clause-size : goal.returns-in-Ok-read_super-clause-size
-returns-in-Ok-read_super-clause-size g c = c.in-Ok-read.ensures.size ∙ c.in-Ok.ensures.size
-
-pub returns-in-Ok-read_super-clause-holds : goal.returns-in-Ok-read_super-clause-holds
-returns-in-Ok-read_super-clause-holds g c = c.in-Ok-read.ensures.holds ∙ c.in-Ok.ensures.holds
-
-pub returns-in-Ok-read_super-clause-write_faults : goal.returns-in-Ok-read_super-clause-write_faults
-returns-in-Ok-read_super-clause-write_faults g c = c.in-Ok-read.ensures.write_faults ∙ c.in-Ok.ensures.write_faults
-
-pub returns-in-Ok-read_super-clause-tells : goal.returns-in-Ok-read_super-clause-tells
-returns-in-Ok-read_super-clause-tells g c = λ tells. c.in-Ok-read.ensures.tells (c.in-Ok.ensures.tells tells)
-
-pub returns-in-Ok-read_super-clause-stops : goal.returns-in-Ok-read_super-clause-stops
-returns-in-Ok-read_super-clause-stops g c = λ tells b v leaves. c.in-Ok.ensures.stops tells b v (c.in-Ok-read.ensures.stops (c.in-Ok.ensures.tells tells) b v leaves)
+pub returns-in-Ok-read_super-clause-disk : goal.returns-in-Ok-read_super-clause-disk
+returns-in-Ok-read_super-clause-disk g c =
+    let D = g.D.Disk in
+    reads_on D.size D.holds D.write_faults D.writes D.tells_stops D.moment D.may_leave D.left_since c.args.disk.now _ c.read.new.self
+    (record { same_size = c.in-Ok.ensures.size; same_contents = c.in-Ok.ensures.holds; same_write_faults = c.in-Ok.ensures.write_faults; same_writes = c.in-Ok.ensures.writes; tells = c.in-Ok.ensures.tells; leaves = c.in-Ok.ensures.stops; past = c.in-Ok.ensures.past })
+    (record { same_size = c.in-Ok-read.ensures.size; same_contents = c.in-Ok-read.ensures.holds; same_write_faults = c.in-Ok-read.ensures.write_faults; same_writes = c.in-Ok-read.ensures.writes; tells = c.in-Ok-read.ensures.tells; leaves = c.in-Ok-read.ensures.stops; past = c.in-Ok-read.ensures.past })
 
 pub returns-in-Err-Unsupported : goal.returns-in-Err-Unsupported
 returns-in-Err-Unsupported g c =
+    let D = g.D.Disk in
     let first = c.in-Ok.ensures in
     let then = c.in-Ok-read.ensures in
     record {
@@ -65,9 +51,8 @@ returns-in-Err-Unsupported g c =
       states = tt;
       inside = tt;
       cause = let up = first.cause in let more = then.cause in omega (arith, up, more);
-      size = then.size ∙ first.size;
-      holds = then.holds ∙ first.holds;
-      write_faults = then.write_faults ∙ first.write_faults;
-      tells = λ tells. then.tells (first.tells tells);
-      stops = λ tells b v leaves. first.stops tells b v (then.stops (first.tells tells) b v leaves);
+      disk = reads_on D.size D.holds D.write_faults D.writes D.tells_stops D.moment D.may_leave D.left_since c.args.disk.now _ c.read.new.self
+          (record { same_size = first.size; same_contents = first.holds; same_write_faults = first.write_faults; same_writes = first.writes; tells = first.tells; leaves = first.stops; past = first.past })
+          (record { same_size = then.size; same_contents = then.holds; same_write_faults = then.write_faults; same_writes = then.writes; tells = then.tells; leaves = then.stops; past = then.past });
+      reads = let same = first.reads in let more = then.reads in let some : 0 < c.in-Ok.size = omega arith in let is = first.count in omega (arith, same, more, some, is);
     }

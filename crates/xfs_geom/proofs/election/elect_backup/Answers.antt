@@ -1,4 +1,5 @@
 use Rattle.std.proofs.Common.{◌≡◌, ◌∙◌, [], Some, None, refl, arith}
+use Rattle.xfs_disk.proofs.Reading.{reads_none}
 use Rattle.xfs_geom.specs.Election.{votes_below}
 use Rattle.xfs_geom.specs.Electing.{vote_of}
 use Rattle.xfs_geom.proofs.Decided.{due_is, stopped}
@@ -9,12 +10,9 @@ unfolding votes_below
 loop-place-init g c =
     record {
       polled = record { votes = []; counted = c.new-poll.ensures c.args.size; told = λ image told. refl };
-      size = refl;
-      holds = refl;
       later = omega arith;
-      write_faults = refl;
-      tells = λ tells. tells;
-      stops = λ tells b v leaves. leaves;
+      disk = let D = g.D.Disk in reads_none D.size D.holds D.write_faults D.writes D.tells_stops D.moment D.may_leave D.left_since c.args.disk.now;
+      reads = omega arith;
     }
 
 pub returns-in-Err-clause-due : goal.returns-in-Err-clause-due
@@ -25,7 +23,7 @@ returns-in-Some-clause-due g c = λ image told.
     let polled = c.loop-place.invariant.polled in
     let last : c.loop-place.place ≡ c.args.size = omega arith in
     due_is image c.args.size c.loop-place.place polled.votes (Some (vote_of c.in-Some.elected)) last
-    (polled.told image (c.loop-place.invariant.holds ∙ told))
+    (polled.told image (c.loop-place.invariant.disk.same_contents ∙ told))
     (c.in-Some.ensures c.args.size c.loop-place.place polled.votes polled.counted).winner
 
 pub returns-in-Some-clause-accepted : goal.returns-in-Some-clause-accepted
@@ -48,5 +46,5 @@ returns-clause-due g c = λ image told.
     let polled = c.loop-place.invariant.polled in
     let last : c.loop-place.place ≡ c.args.size = omega arith in
     due_is image c.args.size c.loop-place.place polled.votes None last
-    (polled.told image (c.loop-place.invariant.holds ∙ told))
+    (polled.told image (c.loop-place.invariant.disk.same_contents ∙ told))
     (c.in-None.ensures c.args.size c.loop-place.place polled.votes polled.counted)

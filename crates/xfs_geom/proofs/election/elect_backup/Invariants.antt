@@ -1,4 +1,5 @@
-use Rattle.std.proofs.Common.{◌≡◌, ℕ, ◌≤◌, List}
+use Rattle.std.proofs.Common.{◌≤◌, ◌+◌}
+use Rattle.xfs_disk.specs.Reads.{OnlyReads}
 use Rattle.xfs_geom.specs.Polls.{HasPolled}
 use Rattle.xfs_geom.proofs.election.elect_backup.Given as goal
 
@@ -6,10 +7,7 @@ abbrev pub invariant-loop-place : goal.invariant-loop-place
 invariant-loop-place g l =
     record {
       polled : HasPolled (g.D.Disk.holds l.disk) l.size l.place l.poll;
-      size : g.D.Disk.size l.disk ≡ g.D.Disk.size l.fn.disk;
-      holds : g.D.Disk.holds l.disk ≡ g.D.Disk.holds l.fn.disk;
       later : g.D.Disk.faults l.fn.disk ≤ g.D.Disk.faults l.disk;
-      write_faults : g.D.Disk.write_faults l.disk ≡ g.D.Disk.write_faults l.fn.disk;
-      tells : g.D.Disk.tells_stops l.fn.disk → g.D.Disk.tells_stops l.disk;
-      stops : g.D.Disk.tells_stops l.fn.disk → (b : ℕ) (v : List ℕ) → g.D.Disk.may_leave l.disk b v → g.D.Disk.may_leave l.fn.disk b v;
+      disk : OnlyReads g.D.Disk.size g.D.Disk.holds g.D.Disk.write_faults g.D.Disk.writes g.D.Disk.tells_stops g.D.Disk.moment g.D.Disk.may_leave g.D.Disk.left_since l.fn.disk l.disk;
+      reads : g.D.Disk.reads l.disk + 1 ≤ g.D.Disk.reads l.fn.disk + l.place;
     }

@@ -2,7 +2,7 @@ use Rattle.std.proofs.Common.{◌≡◌, ℕ, ◌+◌, ◌<◌, List, ◌++◌, 
 use Rattle.std.proofs.lemmas.List.{map-append}
 use Rattle.std.specs.List.{range_with_len}
 use Rattle.xfs_geom.specs.Volumes.{volume_of}
-use Rattle.xfs_tree.proofs.Causes.{reads_on}
+use Rattle.xfs_disk.proofs.Reading.{reads_on}
 use Rattle.xfs_volume.specs.declared.clusters.ClusterRec.{ClusterRec}
 use Rattle.xfs_image.specs.Candidates.{Ascend}
 use Rattle.xfs_image.specs.Groups.{groups_from, groups_read}
@@ -37,7 +37,7 @@ loop-ag-preserved g c =
           (ap lists_of c.in-Ok-push.ensures.items ∙ map-append (λ (t : GroupTrees). t.reserved) c.loop-ag.trees.items _);
       placed = placed;
       later = let up = before.later in let cause = c.in-Ok.ensures.cause in omega (arith, up, cause);
-      disk = reads_on D.size D.holds D.write_faults D.tells_stops D.may_leave c.args.disk.now c.loop-ag.disk c.see_group.new.disk before.disk c.in-Ok.ensures.disk;
+      disk = reads_on D.size D.holds D.write_faults D.writes D.tells_stops D.moment D.may_leave D.left_since c.args.disk.now c.loop-ag.disk c.see_group.new.disk before.disk c.in-Ok.ensures.disk;
     }
 
 pub returns-clause-groups : goal.returns-clause-groups

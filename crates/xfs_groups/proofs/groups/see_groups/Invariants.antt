@@ -2,7 +2,7 @@ use Rattle.std.proofs.Common.{◌≡◌, ◌≤◌, map}
 use Rattle.std.specs.List.{flat_map, range_with_len}
 use Rattle.std.specs.Option.{ForSome}
 use Rattle.xfs_geom.specs.Volumes.{volume_of}
-use Rattle.xfs_tree.specs.Answers.{OnlyReads}
+use Rattle.xfs_disk.specs.Reads.{OnlyReads}
 use Rattle.xfs_image.specs.Groups.{groups_from}
 use Rattle.xfs_image.specs.Reserved.{reserved_in}
 use Rattle.xfs_groups.specs.Answers.{lists_of}
@@ -17,5 +17,5 @@ invariant-loop-ag g l = record {
   held_so : ForSome (g.D.Disk.holds l.fn.disk) (λ image. lists_of l.trees.items ≡ map (reserved_in (volume_of l.g) image) (range_with_len 0 l.ag));
   placed : GroupsPlaced l.g l.ag l.clusters.items;
   later : g.D.Disk.faults l.fn.disk ≤ g.D.Disk.faults l.disk;
-  disk : OnlyReads g.D.Disk.size g.D.Disk.holds g.D.Disk.write_faults g.D.Disk.tells_stops g.D.Disk.may_leave l.fn.disk l.disk;
+  disk : OnlyReads g.D.Disk.size g.D.Disk.holds g.D.Disk.write_faults g.D.Disk.writes g.D.Disk.tells_stops g.D.Disk.moment g.D.Disk.may_leave g.D.Disk.left_since l.fn.disk l.disk;
 }

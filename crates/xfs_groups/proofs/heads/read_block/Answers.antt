@@ -11,8 +11,10 @@ returns-in-Ok g c = record {
     same_size = c.in-Ok.ensures.size;
     same_contents = c.in-Ok.ensures.holds;
     same_write_faults = c.in-Ok.ensures.write_faults;
+    same_writes = c.in-Ok.ensures.writes;
     tells = c.in-Ok.ensures.tells;
     leaves = c.in-Ok.ensures.stops;
+    past = c.in-Ok.ensures.past;
   };
   ticks = c.tick.ensures;
 }
@@ -26,8 +28,10 @@ returns-in-Err g c = record {
     same_size = c.in-Err.ensures.size;
     same_contents = c.in-Err.ensures.holds;
     same_write_faults = c.in-Err.ensures.write_faults;
+    same_writes = c.in-Err.ensures.writes;
     tells = c.in-Err.ensures.tells;
     leaves = c.in-Err.ensures.stops;
+    past = c.in-Err.ensures.past;
   };
   ticks = c.tick.ensures;
 }

@@ -1,7 +1,7 @@
 use Rattle.std.proofs.Common.{◌≡◌, Some, ◌∙◌}
 use Rattle.xfs_disk.specs.Blocks.{Image}
 use Rattle.xfs_geom.specs.Volumes.{volume_of}
-use Rattle.xfs_tree.proofs.Causes.{reads_on}
+use Rattle.xfs_disk.proofs.Reading.{reads_on}
 use Rattle.xfs_groups.proofs.Lawful.{owners_apart}
 use Rattle.xfs_groups.proofs.Lengths.{short}
 use Rattle.xfs_groups.proofs.Wholes.{ReadSo, ToldSo, candidates_are, group_is, reserved_are, told_so}
@@ -52,6 +52,6 @@ returns-in-Ok-look_through-clause-reserved g c = λ image told.
 pub returns-in-Ok-look_through-clause-disk : goal.returns-in-Ok-look_through-clause-disk
 returns-in-Ok-look_through-clause-disk g c =
     let D = g.D.Disk in
-    reads_on D.size D.holds D.write_faults D.tells_stops D.may_leave c.args.disk.now c.read_trees.new.disk c.look_through.new.disk
-    (reads_on D.size D.holds D.write_faults D.tells_stops D.may_leave c.args.disk.now c.read_heads.new.disk c.read_trees.new.disk c.in-Ok.ensures.disk c.in-Ok-read_trees.ensures.disk)
+    reads_on D.size D.holds D.write_faults D.writes D.tells_stops D.moment D.may_leave D.left_since c.args.disk.now c.read_trees.new.disk c.look_through.new.disk
+    (reads_on D.size D.holds D.write_faults D.writes D.tells_stops D.moment D.may_leave D.left_since c.args.disk.now c.read_heads.new.disk c.read_trees.new.disk c.in-Ok.ensures.disk c.in-Ok-read_trees.ensures.disk)
     c.in-Ok-look_through.ensures.disk

@@ -2,7 +2,7 @@ use Rattle.std.proofs.Common.{◌≡◌, ℕ, ◌+◌, Bool, true, false, sym, �
 use Rattle.std.proofs.lemmas.Bool.{and_from}
 use Rattle.std.specs.List.{list_all, range_with_len}
 use Rattle.xfs_geom.specs.Volumes.{volume_of}
-use Rattle.xfs_tree.proofs.Causes.{reads_on}
+use Rattle.xfs_disk.proofs.Reading.{reads_on}
 use Rattle.xfs_groups.specs.Chosen.{is_clear}
 use Rattle.xfs_groups.proofs.Rows.{all_more, all_unless}
 use Rattle.xfs_groups.proofs.recorded.are_clear.Goals as goal
@@ -25,5 +25,5 @@ loop-k-preserved g c =
           all_more p c.args.first c.loop-k.k
           ∙ and_from (list_all p (range_with_len c.args.first c.loop-k.k)) (p (c.args.first + c.loop-k.k)) (before.clear image told) here;
       later = let up = before.later in let cause = c.in-Ok-true.ensures.cause in omega (arith, up, cause);
-      disk = reads_on D.size D.holds D.write_faults D.tells_stops D.may_leave c.args.disk.now c.loop-k.disk c.is_clear.new.disk before.disk c.in-Ok-true.ensures.disk;
+      disk = reads_on D.size D.holds D.write_faults D.writes D.tells_stops D.moment D.may_leave D.left_since c.args.disk.now c.loop-k.disk c.is_clear.new.disk before.disk c.in-Ok-true.ensures.disk;
     }

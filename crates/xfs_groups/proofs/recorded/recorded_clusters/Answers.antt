@@ -1,7 +1,7 @@
 use Rattle.std.proofs.Common.{◌≡◌, ℕ, ◌+◌, ◌*◌, ◌/◌, true, sym, ap, ◌∙◌, subst, arith}
 use Rattle.xfs_geom.specs.Conversions.{group_length}
 use Rattle.xfs_geom.specs.Volumes.{volume_of}
-use Rattle.xfs_tree.proofs.Causes.{reads_none, reads_on}
+use Rattle.xfs_disk.proofs.Reading.{reads_none, reads_on}
 use Rattle.xfs_groups.specs.Chosen.{ArePlaced, chosen, place_at}
 use Rattle.xfs_groups.proofs.Choosing.{chosen_more, none_chosen, placed_step}
 use Rattle.xfs_groups.proofs.Placed.{none_placed}
@@ -14,7 +14,7 @@ loop-i-init g c =
       chosen_so = λ image told. c.new-clusters.ensures.items ∙ sym (none_chosen (volume_of c.args.g.now) image true c.args.named.now c.args.ag);
       placed = subst (ArePlaced (volume_of c.args.g.now) c.args.ag 0) (sym c.new-clusters.ensures.items) (none_placed (volume_of c.args.g.now) c.args.ag);
       later = omega arith;
-      disk = reads_none D.size D.holds D.write_faults D.tells_stops D.may_leave c.args.disk.now;
+      disk = reads_none D.size D.holds D.write_faults D.writes D.tells_stops D.moment D.may_leave D.left_since c.args.disk.now;
     }
 
 pub loop-i-preserved : goal.loop-i-preserved
@@ -30,7 +30,7 @@ loop-i-preserved g c =
       placed = placed_step v c.args.ag c.loop-i.i (c.start_of_group-start.result + 4 * c.loop-i.i) c.args.named.now c.in-Ok.is_chosen c.loop-i.clusters.items
           c.push_chosen.new.clusters.items at before.placed c.in-Ok.ensures.root c.in-Ok-push_chosen.ensures;
       later = let up = before.later in let cause = c.in-Ok.ensures.cause in omega (arith, up, cause);
-      disk = reads_on D.size D.holds D.write_faults D.tells_stops D.may_leave c.args.disk.now c.loop-i.disk c.is_chosen.new.disk before.disk c.in-Ok.ensures.disk;
+      disk = reads_on D.size D.holds D.write_faults D.writes D.tells_stops D.moment D.may_leave D.left_since c.args.disk.now c.loop-i.disk c.is_chosen.new.disk before.disk c.in-Ok.ensures.disk;
     }
 
 pub returns-clause-chosen : goal.returns-clause-chosen

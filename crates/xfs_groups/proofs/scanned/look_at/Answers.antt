@@ -1,7 +1,7 @@
 use Rattle.std.proofs.Common.{◌≡◌, ℕ, ◌+◌, Bool, ◌&&◌, ◌||◌, not, false, List, ◌++◌, append-nil, sym, ap, ap₂, refl, ◌∙◌, arith}
 use Rattle.xfs_geom.specs.Conversions.{is_fixed}
 use Rattle.xfs_geom.specs.Volumes.{volume_of}
-use Rattle.xfs_tree.proofs.Causes.{reads_none, reads_on}
+use Rattle.xfs_disk.proofs.Reading.{reads_none, reads_on}
 use Rattle.xfs_groups.specs.Chosen.{are_clear, are_used, is_clear}
 use Rattle.xfs_groups.specs.Looking.{has_used}
 use Rattle.xfs_groups.specs.Sets.{has}
@@ -19,7 +19,7 @@ loop-k-init g c =
           sym (ap (λ (xs : List ℕ). c.args.reserved.now.items ++ xs) (none_withheld (volume_of c.args.g.now) image false c.args.held.now c.args.first)
           ∙ append-nil c.args.reserved.now.items);
       later = omega arith;
-      disk = reads_none D.size D.holds D.write_faults D.tells_stops D.may_leave c.args.disk.now;
+      disk = reads_none D.size D.holds D.write_faults D.writes D.tells_stops D.moment D.may_leave D.left_since c.args.disk.now;
     }
 
 pub loop-k-preserved : goal.loop-k-preserved
@@ -42,7 +42,7 @@ loop-k-preserved g c =
           (c.is_withheld-is_withheld.ensures ∙ ap₂ (λ (x y : Bool). has c.args.held.now block || (x || y)) seen.naming seen.used)
           (before.held_so image told) c.in-Ok-push_if.ensures;
       later = let up = before.later in let cause = c.in-Ok.ensures.cause in omega (arith, up, cause);
-      disk = reads_on D.size D.holds D.write_faults D.tells_stops D.may_leave c.args.disk.now c.loop-k.disk c.look.new.disk before.disk c.in-Ok.ensures.disk;
+      disk = reads_on D.size D.holds D.write_faults D.writes D.tells_stops D.moment D.may_leave D.left_since c.args.disk.now c.loop-k.disk c.look.new.disk before.disk c.in-Ok.ensures.disk;
     }
 
 pub returns-clause-used : goal.returns-clause-used

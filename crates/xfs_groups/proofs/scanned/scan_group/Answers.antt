@@ -1,7 +1,7 @@
 use Rattle.std.proofs.Common.{◌≡◌, ℕ, ◌+◌, ◌*◌, ◌/◌, ◌%◌, false, ap, ap₂, refl, sym, ◌∙◌, subst, arith}
 use Rattle.xfs_geom.specs.Conversions.{group_length}
 use Rattle.xfs_geom.specs.Volumes.{volume_of}
-use Rattle.xfs_tree.proofs.Causes.{reads_none, reads_on}
+use Rattle.xfs_disk.proofs.Reading.{reads_none, reads_on}
 use Rattle.xfs_groups.specs.Chosen.{ArePlaced, chosen, is_chosen_as, place_at, withheld}
 use Rattle.xfs_groups.proofs.Causes.{caused_on, later}
 use Rattle.xfs_groups.proofs.Choosing.{chosen_more, none_chosen, none_withheld, placed_step, withheld_then}
@@ -16,7 +16,7 @@ loop-i-init g c =
       held_so = λ image told. c.new-reserved.ensures.items ∙ sym (none_withheld (volume_of c.args.g.now) image false c.args.held.now c.start_of_group-start.result);
       placed = subst (ArePlaced (volume_of c.args.g.now) c.args.ag 0) (sym c.new-clusters.ensures.items) (none_placed (volume_of c.args.g.now) c.args.ag);
       later = omega arith;
-      disk = reads_none D.size D.holds D.write_faults D.tells_stops D.may_leave c.args.disk.now;
+      disk = reads_none D.size D.holds D.write_faults D.writes D.tells_stops D.moment D.may_leave D.left_since c.args.disk.now;
     }
 
 pub loop-i-preserved : goal.loop-i-preserved
@@ -39,7 +39,7 @@ loop-i-preserved g c =
       placed = placed_step v c.args.ag c.loop-i.i cluster named c.is_chosen-is_chosen.result c.loop-i.clusters.items c.push_chosen.new.clusters.items at before.placed
           (λ same. c.is_chosen-is_chosen.ensures ∙ root_chosen v named cluster c.in-Ok.seen.used c.in-Ok.seen.clear same) c.in-Ok-push_chosen.ensures;
       later = let up = before.later in let cause = c.in-Ok.ensures.cause in omega (arith, up, cause);
-      disk = reads_on D.size D.holds D.write_faults D.tells_stops D.may_leave c.args.disk.now c.loop-i.disk c.look_at.new.disk before.disk c.in-Ok.ensures.disk;
+      disk = reads_on D.size D.holds D.write_faults D.writes D.tells_stops D.moment D.may_leave D.left_since c.args.disk.now c.loop-i.disk c.look_at.new.disk before.disk c.in-Ok.ensures.disk;
     }
 
 pub look_at-requires-clause-inside : goal.look_at-requires-clause-inside
@@ -56,7 +56,7 @@ returns-in-Err g c =
       withheld = tt;
       placed = tt;
       cause = caused_on (D.faults c.args.disk.now) (D.faults c.loop-i.disk) (D.faults c.look_at.new.disk) c.in-Err.fault c.loop-i.invariant.later c.in-Err.ensures.cause;
-      disk = reads_on D.size D.holds D.write_faults D.tells_stops D.may_leave c.args.disk.now c.loop-i.disk c.look_at.new.disk c.loop-i.invariant.disk c.in-Err.ensures.disk;
+      disk = reads_on D.size D.holds D.write_faults D.writes D.tells_stops D.moment D.may_leave D.left_since c.args.disk.now c.loop-i.disk c.look_at.new.disk c.loop-i.invariant.disk c.in-Err.ensures.disk;
     }
 
 pub returns-in-Err-push_chosen : goal.returns-in-Err-push_chosen
@@ -67,7 +67,7 @@ returns-in-Err-push_chosen g c =
       withheld = tt;
       placed = tt;
       cause = later (D.faults c.args.disk.now) (D.faults c.loop-i.disk) (D.faults c.look_at.new.disk) c.loop-i.invariant.later c.in-Ok.ensures.cause;
-      disk = reads_on D.size D.holds D.write_faults D.tells_stops D.may_leave c.args.disk.now c.loop-i.disk c.look_at.new.disk c.loop-i.invariant.disk c.in-Ok.ensures.disk;
+      disk = reads_on D.size D.holds D.write_faults D.writes D.tells_stops D.moment D.may_leave D.left_since c.args.disk.now c.loop-i.disk c.look_at.new.disk c.loop-i.invariant.disk c.in-Ok.ensures.disk;
     }
 
 pub returns-in-Err-look_at : goal.returns-in-Err-look_at
@@ -79,7 +79,7 @@ returns-in-Err-look_at g c =
       placed = tt;
       cause = caused_on (D.faults c.args.disk.now) (D.faults c.loop-i.disk) (D.faults c.look_at-2.new.disk) c.in-Err-look_at.fault c.loop-i.invariant.later
           c.in-Err-look_at.ensures.cause;
-      disk = reads_on D.size D.holds D.write_faults D.tells_stops D.may_leave c.args.disk.now c.loop-i.disk c.look_at-2.new.disk c.loop-i.invariant.disk
+      disk = reads_on D.size D.holds D.write_faults D.writes D.tells_stops D.moment D.may_leave D.left_since c.args.disk.now c.loop-i.disk c.look_at-2.new.disk c.loop-i.invariant.disk
           c.in-Err-look_at.ensures.disk;
     }
 
@@ -91,7 +91,7 @@ returns-in-Ok-look_at-clause-cause g c =
 pub returns-in-Ok-look_at-clause-disk : goal.returns-in-Ok-look_at-clause-disk
 returns-in-Ok-look_at-clause-disk g c =
     let D = g.D.Disk in
-    reads_on D.size D.holds D.write_faults D.tells_stops D.may_leave c.args.disk.now c.loop-i.disk c.look_at-2.new.disk c.loop-i.invariant.disk c.in-Ok-look_at.ensures.disk
+    reads_on D.size D.holds D.write_faults D.writes D.tells_stops D.moment D.may_leave D.left_since c.args.disk.now c.loop-i.disk c.look_at-2.new.disk c.loop-i.invariant.disk c.in-Ok-look_at.ensures.disk
 
 pub returns-in-Ok-look_at-clause-chosen : goal.returns-in-Ok-look_at-clause-chosen
 returns-in-Ok-look_at-clause-chosen g c = λ image told.

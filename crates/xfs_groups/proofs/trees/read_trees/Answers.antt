@@ -1,5 +1,5 @@
 use Rattle.std.proofs.Common.{◌∙◌}
-use Rattle.xfs_tree.proofs.Causes.{reads_on}
+use Rattle.xfs_disk.proofs.Reading.{reads_on}
 use Rattle.xfs_groups.proofs.Causes.{caused_on, later}
 use Rattle.xfs_groups.proofs.trees.read_trees.Goals as goal
 
@@ -17,14 +17,14 @@ returns-in-Err-read_cnt g c =
       rmap = tt;
       cause = caused_on (D.faults c.args.disk.now) (D.faults c.read_bno.new.disk) (D.faults c.read_cnt.new.disk) c.in-Err-read_cnt.fault c.in-Ok.ensures.cause
           c.in-Err-read_cnt.ensures.cause;
-      disk = reads_on D.size D.holds D.write_faults D.tells_stops D.may_leave c.args.disk.now c.read_bno.new.disk c.read_cnt.new.disk c.in-Ok.ensures.disk
+      disk = reads_on D.size D.holds D.write_faults D.writes D.tells_stops D.moment D.may_leave D.left_since c.args.disk.now c.read_bno.new.disk c.read_cnt.new.disk c.in-Ok.ensures.disk
           c.in-Err-read_cnt.ensures.disk;
     }
 
 pub returns-in-Err-read_ino : goal.returns-in-Err-read_ino
 returns-in-Err-read_ino g c =
     let D = g.D.Disk in
-    let on = reads_on D.size D.holds D.write_faults D.tells_stops D.may_leave c.args.disk.now in
+    let on = reads_on D.size D.holds D.write_faults D.writes D.tells_stops D.moment D.may_leave D.left_since c.args.disk.now in
     let cnt = on c.read_bno.new.disk c.read_cnt.new.disk c.in-Ok.ensures.disk c.in-Ok-read_cnt.ensures.disk in
     let up = later (D.faults c.args.disk.now) (D.faults c.read_bno.new.disk) (D.faults c.read_cnt.new.disk) c.in-Ok.ensures.cause c.in-Ok-read_cnt.ensures.cause in
     record {
@@ -40,7 +40,7 @@ returns-in-Err-read_ino g c =
 pub returns-in-Err-read_fino : goal.returns-in-Err-read_fino
 returns-in-Err-read_fino g c =
     let D = g.D.Disk in
-    let on = reads_on D.size D.holds D.write_faults D.tells_stops D.may_leave c.args.disk.now in
+    let on = reads_on D.size D.holds D.write_faults D.writes D.tells_stops D.moment D.may_leave D.left_since c.args.disk.now in
     let cnt = on c.read_bno.new.disk c.read_cnt.new.disk c.in-Ok.ensures.disk c.in-Ok-read_cnt.ensures.disk in
     let ino = on c.read_cnt.new.disk c.read_ino.new.disk cnt c.in-Ok-read_ino.ensures.disk in
     let risen = later (D.faults c.args.disk.now) in
@@ -59,7 +59,7 @@ returns-in-Err-read_fino g c =
 pub returns-in-Err-read_rmap : goal.returns-in-Err-read_rmap
 returns-in-Err-read_rmap g c =
     let D = g.D.Disk in
-    let on = reads_on D.size D.holds D.write_faults D.tells_stops D.may_leave c.args.disk.now in
+    let on = reads_on D.size D.holds D.write_faults D.writes D.tells_stops D.moment D.may_leave D.left_since c.args.disk.now in
     let cnt = on c.read_bno.new.disk c.read_cnt.new.disk c.in-Ok.ensures.disk c.in-Ok-read_cnt.ensures.disk in
     let ino = on c.read_cnt.new.disk c.read_ino.new.disk cnt c.in-Ok-read_ino.ensures.disk in
     let fino = on c.read_ino.new.disk c.read_fino.new.disk ino c.in-Ok-read_fino.ensures.disk in
@@ -81,7 +81,7 @@ returns-in-Err-read_rmap g c =
 pub returns-in-Ok-read_rmap : goal.returns-in-Ok-read_rmap
 returns-in-Ok-read_rmap g c =
     let D = g.D.Disk in
-    let on = reads_on D.size D.holds D.write_faults D.tells_stops D.may_leave c.args.disk.now in
+    let on = reads_on D.size D.holds D.write_faults D.writes D.tells_stops D.moment D.may_leave D.left_since c.args.disk.now in
     let bno = c.in-Ok.ensures.disk in
     let cnt = on c.read_bno.new.disk c.read_cnt.new.disk bno c.in-Ok-read_cnt.ensures.disk in
     let ino = on c.read_cnt.new.disk c.read_ino.new.disk cnt c.in-Ok-read_ino.ensures.disk in

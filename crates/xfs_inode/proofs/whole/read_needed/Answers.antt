@@ -1,6 +1,6 @@
 use Rattle.std.proofs.Common.{◌∙◌, ap, option_map}
 use Rattle.xfs_geom.specs.Volumes.{volume_of}
-use Rattle.xfs_tree.proofs.Causes.{reads_on}
+use Rattle.xfs_disk.proofs.Reading.{reads_on}
 use Rattle.xfs_tree.specs.Reading.{bytes_at}
 use Rattle.xfs_inode.specs.Files.{contents_of}
 use Rattle.xfs_inode.specs.Named.{named_top}
@@ -20,18 +20,18 @@ returns-in-Ok-settle-clause-read g c = λ image told.
 pub returns-in-Err-read_named-clause-disk : goal.returns-in-Err-read_named-clause-disk
 returns-in-Err-read_named-clause-disk g c =
     let D = g.D.Disk in
-    reads_on D.size D.holds D.write_faults D.tells_stops D.may_leave c.args.disk.now c.read_top.new.disk c.read_named.new.disk c.in-Ok.ensures.disk c.in-Err-read_named.ensures.disk
+    reads_on D.size D.holds D.write_faults D.writes D.tells_stops D.moment D.may_leave D.left_since c.args.disk.now c.read_top.new.disk c.read_named.new.disk c.in-Ok.ensures.disk c.in-Err-read_named.ensures.disk
 
 pub returns-in-Err-read_named-2-clause-disk : goal.returns-in-Err-read_named-2-clause-disk
 returns-in-Err-read_named-2-clause-disk g c =
     let D = g.D.Disk in
-    reads_on D.size D.holds D.write_faults D.tells_stops D.may_leave c.args.disk.now c.read_named.new.disk c.read_named-2.new.disk
-    (reads_on D.size D.holds D.write_faults D.tells_stops D.may_leave c.args.disk.now c.read_top.new.disk c.read_named.new.disk c.in-Ok.ensures.disk c.in-Ok-read_named.ensures.disk)
+    reads_on D.size D.holds D.write_faults D.writes D.tells_stops D.moment D.may_leave D.left_since c.args.disk.now c.read_named.new.disk c.read_named-2.new.disk
+    (reads_on D.size D.holds D.write_faults D.writes D.tells_stops D.moment D.may_leave D.left_since c.args.disk.now c.read_top.new.disk c.read_named.new.disk c.in-Ok.ensures.disk c.in-Ok-read_named.ensures.disk)
     c.in-Err-read_named-2.ensures.disk
 
 pub returns-in-Ok-settle-clause-disk : goal.returns-in-Ok-settle-clause-disk
 returns-in-Ok-settle-clause-disk g c =
     let D = g.D.Disk in
-    reads_on D.size D.holds D.write_faults D.tells_stops D.may_leave c.args.disk.now c.read_named.new.disk c.read_named-2.new.disk
-    (reads_on D.size D.holds D.write_faults D.tells_stops D.may_leave c.args.disk.now c.read_top.new.disk c.read_named.new.disk c.in-Ok.ensures.disk c.in-Ok-read_named.ensures.disk)
+    reads_on D.size D.holds D.write_faults D.writes D.tells_stops D.moment D.may_leave D.left_since c.args.disk.now c.read_named.new.disk c.read_named-2.new.disk
+    (reads_on D.size D.holds D.write_faults D.writes D.tells_stops D.moment D.may_leave D.left_since c.args.disk.now c.read_top.new.disk c.read_named.new.disk c.in-Ok.ensures.disk c.in-Ok-read_named.ensures.disk)
     c.in-Ok-read_named-2.ensures.disk

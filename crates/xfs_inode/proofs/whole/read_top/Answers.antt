@@ -1,9 +1,9 @@
-use Rattle.xfs_tree.proofs.Causes.{reads_none}
+use Rattle.xfs_disk.proofs.Reading.{reads_none}
 use Rattle.xfs_inode.proofs.whole.read_top.Goals as goal
 
 pub returns-in-None-clause-disk : goal.returns-in-None-clause-disk
 returns-in-None-clause-disk g c =
-    let D = g.D.Disk in reads_none D.size D.holds D.write_faults D.tells_stops D.may_leave c.args.disk.now
+    let D = g.D.Disk in reads_none D.size D.holds D.write_faults D.writes D.tells_stops D.moment D.may_leave D.left_since c.args.disk.now
 
 pub returns-in-Ok-clause-disk : goal.returns-in-Ok-clause-disk
 returns-in-Ok-clause-disk g c =

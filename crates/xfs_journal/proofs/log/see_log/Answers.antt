@@ -5,7 +5,7 @@ use Rattle.xfs_tree.specs.Reading.{bytes_at}
 use Rattle.xfs_journal.specs.Placed.{seen_in}
 use Rattle.xfs_journal.proofs.Listing.{held_next, held_to_end}
 use Rattle.xfs_journal.proofs.LogSeen.{all_seen}
-use Rattle.xfs_journal.proofs.Reading.{reads_on}
+use Rattle.xfs_disk.proofs.Reading.{reads_on}
 use Rattle.xfs_journal.proofs.log.see_log.Goals as goal
 
 pub loop-i-preserved : goal.loop-i-preserved
@@ -19,7 +19,7 @@ loop-i-preserved g c =
           (search rules) (c.in-Ok-see_block.ensures ∙ ap (λ block. c.loop-i.seen.items ++ each_of 8 (seen_in block)) (sym (c.in-Ok.ensures.bytes image (before.disk.same_contents ∙ told)))) (before.seen image told);
       block = c.read_block.ensures.whole;
       later = let up = before.later in let cause = c.in-Ok.ensures.cause in omega (arith, up, cause);
-      disk = reads_on D.size D.holds D.write_faults D.tells_stops D.may_leave c.args.disk.now c.loop-i.disk c.read_block.new.disk before.disk c.read_block.ensures.disk;
+      disk = reads_on D.size D.holds D.write_faults D.writes D.tells_stops D.moment D.may_leave D.left_since c.args.disk.now c.loop-i.disk c.read_block.new.disk before.disk c.read_block.ensures.disk;
     }
 
 pub returns-clause-seen : goal.returns-clause-seen

@@ -1,7 +1,7 @@
 use Rattle.std.proofs.Common.{◌≡◌, ◌≤◌, ◌+◌, ◌-◌, ◌++◌, length}
 use Rattle.std.specs.List.{flat_map, range_with_len}
 use Rattle.std.specs.Option.{ForSome}
-use Rattle.xfs_tree.specs.Answers.{OnlyReads}
+use Rattle.xfs_disk.specs.Reads.{OnlyReads}
 use Rattle.xfs_tree.specs.Blocks.{each_of}
 use Rattle.xfs_tree.specs.Reading.{bytes_at}
 use Rattle.xfs_journal.specs.Placed.{seen_in}
@@ -15,5 +15,5 @@ invariant-loop-i g l = record {
       ≡ flat_map (λ block. each_of 8 (seen_in (bytes_at image block))) (range_with_len l.g.log l.g.logblocks));
   block : length l.block ≡ 4096;
   later : g.D.Disk.faults l.fn.disk ≤ g.D.Disk.faults l.disk;
-  disk : OnlyReads g.D.Disk.size g.D.Disk.holds g.D.Disk.write_faults g.D.Disk.tells_stops g.D.Disk.may_leave l.fn.disk l.disk;
+  disk : OnlyReads g.D.Disk.size g.D.Disk.holds g.D.Disk.write_faults g.D.Disk.writes g.D.Disk.tells_stops g.D.Disk.moment g.D.Disk.may_leave g.D.Disk.left_since l.fn.disk l.disk;
 }

@@ -1,6 +1,6 @@
 use Rattle.std.proofs.Common.{◌≡◌, ◌≤◌, ◌++◌, drop, map}
 use Rattle.std.specs.Option.{ForSome}
-use Rattle.xfs_tree.specs.Answers.{OnlyReads}
+use Rattle.xfs_disk.specs.Reads.{OnlyReads}
 use Rattle.xfs_image.specs.Lsns.{lsn_at}
 use Rattle.xfs_journal.specs.Placed.{HoldsBlock, listed}
 use Rattle.xfs_journal.proofs.lsns.read_places.Given as goal
@@ -11,5 +11,5 @@ invariant-loop-place g l = record {
   held : ForSome (g.D.Disk.holds l.fn.disk) (λ image. HoldsBlock image l.held.block l.held.bytes);
   size : l.size ≡ g.D.Disk.size l.fn.disk;
   later : g.D.Disk.faults l.fn.disk ≤ g.D.Disk.faults l.disk;
-  disk : OnlyReads g.D.Disk.size g.D.Disk.holds g.D.Disk.write_faults g.D.Disk.tells_stops g.D.Disk.may_leave l.fn.disk l.disk;
+  disk : OnlyReads g.D.Disk.size g.D.Disk.holds g.D.Disk.write_faults g.D.Disk.writes g.D.Disk.tells_stops g.D.Disk.moment g.D.Disk.may_leave g.D.Disk.left_since l.fn.disk l.disk;
 }

@@ -1,5 +1,5 @@
 use Rattle.std.proofs.Common.{rules, ◌≡◌, true, false, sym, ◌∙◌}
-use Rattle.xfs_tree.proofs.Causes.{reads_on}
+use Rattle.xfs_disk.proofs.Reading.{reads_on}
 use Rattle.xfs_mend.proofs.Planning.{agreeing_next, disagreeing_here}
 use Rattle.xfs_mend.proofs.backups.find_disagreeing.Goals as goal
 
@@ -14,7 +14,7 @@ loop-group-preserved g c =
       later = search rules;
       disk =
           let D = g.D.Disk in
-          reads_on D.size D.holds D.write_faults D.tells_stops D.may_leave c.args.disk.now c.loop-group.disk c.is_agreeing.new.disk
+          reads_on D.size D.holds D.write_faults D.writes D.tells_stops D.moment D.may_leave D.left_since c.args.disk.now c.loop-group.disk c.is_agreeing.new.disk
           c.loop-group.invariant.disk c.is_agreeing.ensures.disk;
     }
 

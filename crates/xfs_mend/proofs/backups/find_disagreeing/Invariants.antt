@@ -1,6 +1,6 @@
 use Rattle.std.proofs.Common.{◌≡◌, ◌-◌, ◌≤◌}
 use Rattle.std.specs.Option.{ForSome}
-use Rattle.xfs_tree.specs.Answers.{OnlyReads}
+use Rattle.xfs_disk.specs.Reads.{OnlyReads}
 use Rattle.xfs_mend.specs.Due.{first_disagreeing}
 use Rattle.xfs_mend.proofs.backups.find_disagreeing.Given as goal
 
@@ -11,5 +11,5 @@ invariant-loop-group g l =
           first_disagreeing l.primary image l.group (l.geometry.agcount - l.group)
           ≡ first_disagreeing l.primary image 1 (l.geometry.agcount - 1));
       later : g.D.Disk.faults l.fn.disk ≤ g.D.Disk.faults l.disk;
-      disk : OnlyReads g.D.Disk.size g.D.Disk.holds g.D.Disk.write_faults g.D.Disk.tells_stops g.D.Disk.may_leave l.fn.disk l.disk;
+      disk : OnlyReads g.D.Disk.size g.D.Disk.holds g.D.Disk.write_faults g.D.Disk.writes g.D.Disk.tells_stops g.D.Disk.moment g.D.Disk.may_leave g.D.Disk.left_since l.fn.disk l.disk;
     }

@@ -2,7 +2,7 @@ use Rattle.std.proofs.Common.{rules, ◌≤◌, Option, IfOk, subst}
 use Rattle.std.specs.Option.{ForSome}
 use Rattle.xfs_disk.specs.Blocks.{Image}
 use Rattle.xfs_geom.specs.Volumes.{volume_of}
-use Rattle.xfs_tree.proofs.Causes.{reads_on}
+use Rattle.xfs_disk.proofs.Reading.{reads_on}
 use Rattle.xfs_image.specs.View.{view}
 use Rattle.xfs_mend.specs.Refusing.{IsAdmission}
 use Rattle.xfs_mend.proofs.Turning.{by_evidence, mended_later}
@@ -28,5 +28,5 @@ returns-in-Err-TooLarge g c =
       admitted = subst (λ (h : Option Image). IfOk later.result (λ a. ForSome h (λ image. IsAdmission c.args.options.now c.args.g.now image a))) seen.same_contents
           later.ensures.admitted;
       cause = mended_later (D.faults c.args.disk.now) (D.faults c.gather.new.disk) (D.faults later.new.disk) later.result up later.ensures.cause;
-      disk = reads_on D.size D.holds D.write_faults D.tells_stops D.may_leave c.args.disk.now c.gather.new.disk later.new.disk seen later.ensures.disk;
+      disk = reads_on D.size D.holds D.write_faults D.writes D.tells_stops D.moment D.may_leave D.left_since c.args.disk.now c.gather.new.disk later.new.disk seen later.ensures.disk;
     }

@@ -1,6 +1,6 @@
 use Rattle.std.proofs.Common.{rules, ◌≡◌, true, false, Option, sym, ◌∙◌, subst, arith}
 use Rattle.xfs_geom.specs.Volumes.{volume_of}
-use Rattle.xfs_tree.proofs.Causes.{reads_none}
+use Rattle.xfs_disk.proofs.Reading.{reads_none}
 use Rattle.xfs_image.specs.View.{view}
 use Rattle.xfs_mend.specs.Due.{asks_log, is_dirty}
 use Rattle.xfs_mend.specs.Refusing.{HasAdmitted}
@@ -16,7 +16,7 @@ returns-then-not-asks_log g c =
       admitted = λ image told. subst (λ (away : Option Outcome). HasAdmitted away (view c.args.g.now image) c.args.refusal)
           (sym (not_asked o (volume_of c.args.g.now) image (sym c.asks_log.ensures ∙ c.if-not-asks_log.true))) (c.requires.refused image told);
       cause = omega arith;
-      disk = reads_none D.size D.holds D.write_faults D.tells_stops D.may_leave c.args.disk.now;
+      disk = reads_none D.size D.holds D.write_faults D.writes D.tells_stops D.moment D.may_leave D.left_since c.args.disk.now;
     }
 
 pub returns-in-Ok-Dirty : goal.returns-in-Ok-Dirty

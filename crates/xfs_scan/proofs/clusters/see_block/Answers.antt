@@ -3,7 +3,7 @@ use Rattle.xfs_geom.specs.Conversions.{inode_of}
 use Rattle.xfs_geom.specs.Volumes.{volume_of}
 use Rattle.xfs_scan.specs.Gathered.{held_in}
 use Rattle.xfs_scan.proofs.Gathering.{slot_more, slots_end}
-use Rattle.xfs_scan.proofs.Reading.{reads_on}
+use Rattle.xfs_disk.proofs.Reading.{reads_on}
 use Rattle.xfs_scan.proofs.Rests.{rest_next, rest_none, rest_of}
 use Rattle.xfs_scan.proofs.clusters.see_block.Goals as goal
 
@@ -18,7 +18,7 @@ loop-slot-preserved g c =
           (held_in c.loop-slot.inodes) (held_in c.see_part.new.inodes) _ (rest_next slot 8 (inode_of v c.args.block) (search rules))
           (c.in-Ok.ensures.held image (before.disk.same_contents ∙ told)) (before.held image told);
       later = let up = before.later in let cause = c.in-Ok.ensures.cause in omega (arith, up, cause);
-      disk = reads_on D.size D.holds D.write_faults D.tells_stops D.may_leave c.args.disk.now c.loop-slot.disk c.see_part.new.disk before.disk c.in-Ok.ensures.disk;
+      disk = reads_on D.size D.holds D.write_faults D.writes D.tells_stops D.moment D.may_leave D.left_since c.args.disk.now c.loop-slot.disk c.see_part.new.disk before.disk c.in-Ok.ensures.disk;
     }
 
 pub returns-clause-held : goal.returns-clause-held

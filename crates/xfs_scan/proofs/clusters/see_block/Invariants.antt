@@ -2,7 +2,7 @@ use Rattle.std.proofs.Common.{◌≡◌, ◌≤◌}
 use Rattle.std.specs.Option.{ForSome}
 use Rattle.xfs_geom.specs.Conversions.{inode_of}
 use Rattle.xfs_geom.specs.Volumes.{volume_of}
-use Rattle.xfs_tree.specs.Answers.{OnlyReads}
+use Rattle.xfs_disk.specs.Reads.{OnlyReads}
 use Rattle.xfs_image.specs.Slots.{inodes_in}
 use Rattle.xfs_scan.specs.Gathered.{gathered, held_in, joined}
 use Rattle.xfs_scan.proofs.Rests.{rest_of}
@@ -14,5 +14,5 @@ invariant-loop-slot g l = record {
       joined (held_in l.inodes) (gathered (volume_of l.g) image (rest_of l.slot 8 (inode_of (volume_of l.g) l.block)))
       ≡ joined (held_in l.fn.inodes) (gathered (volume_of l.g) image (inodes_in (volume_of l.g) l.block)));
   later : g.D.Disk.faults l.fn.disk ≤ g.D.Disk.faults l.disk;
-  disk : OnlyReads g.D.Disk.size g.D.Disk.holds g.D.Disk.write_faults g.D.Disk.tells_stops g.D.Disk.may_leave l.fn.disk l.disk;
+  disk : OnlyReads g.D.Disk.size g.D.Disk.holds g.D.Disk.write_faults g.D.Disk.writes g.D.Disk.tells_stops g.D.Disk.moment g.D.Disk.may_leave g.D.Disk.left_since l.fn.disk l.disk;
 }

@@ -1,7 +1,7 @@
 use Rattle.std.proofs.Common.{ℕ, List, ap, ◌∙◌}
 use Rattle.xfs_geom.specs.Volumes.{volume_of}
 use Rattle.xfs_scan.specs.Gathered.{Gathered, gathered, inodes_of_blocks, joined}
-use Rattle.xfs_scan.proofs.Reading.{reads_on}
+use Rattle.xfs_disk.proofs.Reading.{reads_on}
 use Rattle.xfs_scan.proofs.Rests.{inodes_of_candidates}
 use Rattle.xfs_scan.proofs.scan.scan.Goals as goal
 
@@ -16,9 +16,9 @@ returns-in-Ok-see_blocks-clause-inodes g c = λ image told.
 pub returns-in-Ok-see_blocks-clause-disk : goal.returns-in-Ok-see_blocks-clause-disk
 returns-in-Ok-see_blocks-clause-disk g c =
     let D = g.D.Disk in
-    reads_on D.size D.holds D.write_faults D.tells_stops D.may_leave c.args.disk.now c.read_bank.new.disk c.see_blocks.new.disk c.read_bank.ensures.disk c.see_blocks.ensures.disk
+    reads_on D.size D.holds D.write_faults D.writes D.tells_stops D.moment D.may_leave D.left_since c.args.disk.now c.read_bank.new.disk c.see_blocks.new.disk c.read_bank.ensures.disk c.see_blocks.ensures.disk
 
 pub returns-clause-disk : goal.returns-clause-disk
 returns-clause-disk g c =
     let D = g.D.Disk in
-    reads_on D.size D.holds D.write_faults D.tells_stops D.may_leave c.args.disk.now c.read_bank.new.disk c.see_blocks.new.disk c.read_bank.ensures.disk c.see_blocks.ensures.disk
+    reads_on D.size D.holds D.write_faults D.writes D.tells_stops D.moment D.may_leave D.left_since c.args.disk.now c.read_bank.new.disk c.see_blocks.new.disk c.read_bank.ensures.disk c.see_blocks.ensures.disk

@@ -2,7 +2,7 @@ use Rattle.std.proofs.Common.{◌≡◌, [], ◌∷◌, Some, None, arith}
 use Rattle.std.specs.Option.{ForSome}
 use Rattle.xfs_disk.specs.Blocks.{Image}
 use Rattle.xfs_geom.specs.Volumes.{volume_of}
-use Rattle.xfs_tree.proofs.Causes.{reads_none}
+use Rattle.xfs_disk.proofs.Reading.{reads_none}
 use Rattle.xfs_scan.specs.Gathered.{held_in, joined, of_file}
 use Rattle.xfs_scan.proofs.Gathering.{bare_taken, on_ok}
 use Rattle.xfs_scan.proofs.slots.take_bare.Goals as goal
@@ -26,4 +26,4 @@ returns-in-Ok g c =
 pub returns-in-Err : goal.returns-in-Err
 returns-in-Err g c =
     let D = g.D.Disk in
-    record { held = tt; cause = omega arith; disk = reads_none D.size D.holds D.write_faults D.tells_stops D.may_leave c.args.disk.now }
+    record { held = tt; cause = omega arith; disk = reads_none D.size D.holds D.write_faults D.writes D.tells_stops D.moment D.may_leave D.left_since c.args.disk.now }

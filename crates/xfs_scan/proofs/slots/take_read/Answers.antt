@@ -1,7 +1,7 @@
 use Rattle.std.proofs.Common.{◌≡◌, ℕ, [], ◌∷◌, Some, OnOk, ap, sym, subst, ◌∙◌, arith}
 use Rattle.std.specs.Option.{ForSome}
 use Rattle.xfs_geom.specs.Volumes.{volume_of}
-use Rattle.xfs_tree.proofs.Causes.{reads_none}
+use Rattle.xfs_disk.proofs.Reading.{reads_none}
 use Rattle.xfs_inode.specs.declared.files.FileRead.{FileRead}
 use Rattle.xfs_inode.specs.Sound.{IsSound}
 use Rattle.xfs_image.specs.Slots.{slot_bytes}
@@ -34,7 +34,7 @@ returns-in-Free g c =
     record {
       held = λ image told. sym (ap (λ (r : FileRead). joined old (of_read (volume_of c.args.g.now) image c.args.ino r)) c.in-Free.is ∙ joined_nothing old);
       cause = omega arith;
-      disk = reads_none D.size D.holds D.write_faults D.tells_stops D.may_leave c.args.disk.now;
+      disk = reads_none D.size D.holds D.write_faults D.writes D.tells_stops D.moment D.may_leave D.left_since c.args.disk.now;
     }
 
 pub returns-in-File : goal.returns-in-File
@@ -70,7 +70,7 @@ returns-in-Unsupported g c =
     record {
       held = λ image told. subst (λ (r : FileRead). held_in c.pass.new.self ≡ joined old (of_read (volume_of c.args.g.now) image c.args.ino r)) (sym c.in-Unsupported.is) c.pass.ensures;
       cause = omega arith;
-      disk = reads_none D.size D.holds D.write_faults D.tells_stops D.may_leave c.args.disk.now;
+      disk = reads_none D.size D.holds D.write_faults D.writes D.tells_stops D.moment D.may_leave D.left_since c.args.disk.now;
     }
 
 pub returns-in-Unsound : goal.returns-in-Unsound
@@ -80,5 +80,5 @@ returns-in-Unsound g c =
     record {
       held = λ image told. subst (λ (r : FileRead). held_in c.pass-in-Unsound.new.self ≡ joined old (of_read (volume_of c.args.g.now) image c.args.ino r)) (sym c.in-Unsound.is) c.pass-in-Unsound.ensures;
       cause = omega arith;
-      disk = reads_none D.size D.holds D.write_faults D.tells_stops D.may_leave c.args.disk.now;
+      disk = reads_none D.size D.holds D.write_faults D.writes D.tells_stops D.moment D.may_leave D.left_since c.args.disk.now;
     }

@@ -5,7 +5,7 @@ use Rattle.xfs_geom.specs.Volumes.{volume_of}
 use Rattle.xfs_image.specs.Slots.{inodes_in}
 use Rattle.xfs_scan.specs.Gathered.{held_in, inodes_of_blocks}
 use Rattle.xfs_scan.proofs.Gathering.{slots_end, slots_more}
-use Rattle.xfs_scan.proofs.Reading.{reads_on}
+use Rattle.xfs_disk.proofs.Reading.{reads_on}
 use Rattle.xfs_scan.proofs.Rests.{none_left}
 use Rattle.xfs_scan.proofs.view.look_at.Goals as goal
 
@@ -21,7 +21,7 @@ loop-block-preserved g c =
           (held_in c.loop-block.inodes) (held_in c.look_at_block.new.inodes) _ (ap (flat_map (inodes_in v)) (drop_more blocks i 0 (search rules)))
           (c.in-Ok.ensures.held image (before.disk.same_contents ∙ told)) (before.held image told);
       later = let up = before.later in let cause = c.in-Ok.ensures.cause in omega (arith, up, cause);
-      disk = reads_on D.size D.holds D.write_faults D.tells_stops D.may_leave c.args.disk.now c.loop-block.disk c.look_at_block.new.disk before.disk c.in-Ok.ensures.disk;
+      disk = reads_on D.size D.holds D.write_faults D.writes D.tells_stops D.moment D.may_leave D.left_since c.args.disk.now c.loop-block.disk c.look_at_block.new.disk before.disk c.in-Ok.ensures.disk;
     }
 
 pub returns-clause-held : goal.returns-clause-held

@@ -6,7 +6,7 @@ use Rattle.xfs_image.specs.Slots.{cluster_inodes}
 use Rattle.xfs_scan.specs.Gathered.{Gathered, files_if, held_in}
 use Rattle.xfs_image.specs.Directories.{dirs_read, entries_read}
 use Rattle.xfs_scan.proofs.Gathering.{dirs_of_files, entries_of_files}
-use Rattle.xfs_scan.proofs.Reading.{reads_on}
+use Rattle.xfs_disk.proofs.Reading.{reads_on}
 use Rattle.xfs_scan.proofs.Views.{all_read, file_missing, files_held}
 use Rattle.xfs_scan.proofs.view.see_catalog.Goals as goal
 
@@ -46,9 +46,9 @@ build-requires-clause-dirs g c = λ image told.
 pub returns-in-Ok-build-clause-disk : goal.returns-in-Ok-build-clause-disk
 returns-in-Ok-build-clause-disk g c =
     let D = g.D.Disk in
-    reads_on D.size D.holds D.write_faults D.tells_stops D.may_leave c.args.disk.now c.see_recorded.new.disk c.build.new.disk c.see_recorded.ensures.disk c.build.ensures.disk
+    reads_on D.size D.holds D.write_faults D.writes D.tells_stops D.moment D.may_leave D.left_since c.args.disk.now c.see_recorded.new.disk c.build.new.disk c.see_recorded.ensures.disk c.build.ensures.disk
 
 pub returns-clause-disk : goal.returns-clause-disk
 returns-clause-disk g c =
     let D = g.D.Disk in
-    reads_on D.size D.holds D.write_faults D.tells_stops D.may_leave c.args.disk.now c.see_recorded.new.disk c.build.new.disk c.see_recorded.ensures.disk c.build.ensures.disk
+    reads_on D.size D.holds D.write_faults D.writes D.tells_stops D.moment D.may_leave D.left_since c.args.disk.now c.see_recorded.new.disk c.build.new.disk c.see_recorded.ensures.disk c.build.ensures.disk

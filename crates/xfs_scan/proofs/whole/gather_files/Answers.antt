@@ -4,7 +4,7 @@ use Rattle.std.specs.List.{sum_by}
 use Rattle.xfs_volume.specs.declared.files.FileRec.{FileRec}
 use Rattle.xfs_scan.specs.Gathered.{held_in}
 use Rattle.xfs_scan.specs.Refused.{refused_late}
-use Rattle.xfs_scan.proofs.Reading.{reads_on}
+use Rattle.xfs_disk.proofs.Reading.{reads_on}
 use Rattle.xfs_scan.proofs.Refusing.{blocks_of_candidates, late_is, of_candidates, refusal_from}
 use Rattle.xfs_scan.proofs.whole.gather_files.Goals as goal
 
@@ -45,9 +45,9 @@ returns-in-Ok-gather_view-clause-evidence g c = λ image told.
 pub returns-in-Ok-gather_view-clause-disk : goal.returns-in-Ok-gather_view-clause-disk
 returns-in-Ok-gather_view-clause-disk g c =
     let D = g.D.Disk in
-    reads_on D.size D.holds D.write_faults D.tells_stops D.may_leave c.args.disk.now c.scan.new.disk c.gather_view.new.disk c.scan.ensures.disk c.gather_view.ensures.disk
+    reads_on D.size D.holds D.write_faults D.writes D.tells_stops D.moment D.may_leave D.left_since c.args.disk.now c.scan.new.disk c.gather_view.new.disk c.scan.ensures.disk c.gather_view.ensures.disk
 
 pub returns-in-Err-gather_view-clause-disk : goal.returns-in-Err-gather_view-clause-disk
 returns-in-Err-gather_view-clause-disk g c =
     let D = g.D.Disk in
-    reads_on D.size D.holds D.write_faults D.tells_stops D.may_leave c.args.disk.now c.scan.new.disk c.gather_view.new.disk c.scan.ensures.disk c.gather_view.ensures.disk
+    reads_on D.size D.holds D.write_faults D.writes D.tells_stops D.moment D.may_leave D.left_since c.args.disk.now c.scan.new.disk c.gather_view.new.disk c.scan.ensures.disk c.gather_view.ensures.disk

@@ -1,6 +1,6 @@
 use Rattle.std.proofs.Common.{sym, subst, ◌∙◌}
 use Rattle.xfs_scan.specs.Evidence.{IsEvidence}
-use Rattle.xfs_scan.proofs.Reading.{reads_on}
+use Rattle.xfs_disk.proofs.Reading.{reads_on}
 use Rattle.xfs_scan.proofs.Refusing.{is_evidence}
 use Rattle.xfs_scan.proofs.whole.gather_view.Goals as goal
 
@@ -13,9 +13,9 @@ returns-in-Ok-see_view-clause-evidence g c = λ image told.
 pub returns-in-Ok-see_view-clause-disk : goal.returns-in-Ok-see_view-clause-disk
 returns-in-Ok-see_view-clause-disk g c =
     let D = g.D.Disk in
-    reads_on D.size D.holds D.write_faults D.tells_stops D.may_leave c.args.disk.now c.read_log.new.disk c.see_view.new.disk c.read_log.ensures.disk c.see_view.ensures.disk
+    reads_on D.size D.holds D.write_faults D.writes D.tells_stops D.moment D.may_leave D.left_since c.args.disk.now c.read_log.new.disk c.see_view.new.disk c.read_log.ensures.disk c.see_view.ensures.disk
 
 pub returns-in-Err-clause-disk : goal.returns-in-Err-clause-disk
 returns-in-Err-clause-disk g c =
     let D = g.D.Disk in
-    reads_on D.size D.holds D.write_faults D.tells_stops D.may_leave c.args.disk.now c.read_log.new.disk c.see_view.new.disk c.read_log.ensures.disk c.see_view.ensures.disk
+    reads_on D.size D.holds D.write_faults D.writes D.tells_stops D.moment D.may_leave D.left_since c.args.disk.now c.read_log.new.disk c.see_view.new.disk c.read_log.ensures.disk c.see_view.ensures.disk

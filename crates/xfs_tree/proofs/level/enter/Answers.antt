@@ -3,7 +3,7 @@ use Rattle.std.proofs.lemmas.Option.{get_or_from_slice_get}
 use Rattle.xfs_geom.specs.Volumes.{volume_of}
 use Rattle.xfs_tree.specs.Reading.{bytes_at, at_block}
 use Rattle.xfs_tree.specs.Rules.{block_fault}
-use Rattle.xfs_tree.proofs.Causes.{reads_none}
+use Rattle.xfs_disk.proofs.Reading.{reads_none}
 use Rattle.xfs_tree.proofs.Judged.{place_judged, bytes_judged}
 use Rattle.xfs_tree.proofs.level.enter.Goals as goal
 
@@ -14,12 +14,12 @@ returns-in-Ok-Some-clause-judged g c = λ image told.
 pub returns-in-Ok-Some-clause-disk : goal.returns-in-Ok-Some-clause-disk
 returns-in-Ok-Some-clause-disk g c =
     let D = g.D.Disk in
-    reads_none D.size D.holds D.write_faults D.tells_stops D.may_leave c.args.disk.now
+    reads_none D.size D.holds D.write_faults D.writes D.tells_stops D.moment D.may_leave D.left_since c.args.disk.now
 
 pub returns-in-Err-clause-disk : goal.returns-in-Err-clause-disk
 returns-in-Err-clause-disk g c =
     let D = g.D.Disk in
-    reads_none D.size D.holds D.write_faults D.tells_stops D.may_leave c.args.disk.now
+    reads_none D.size D.holds D.write_faults D.writes D.tells_stops D.moment D.may_leave D.left_since c.args.disk.now
 
 pub returns-in-Err-read-clause-cause : goal.returns-in-Err-read-clause-cause
 returns-in-Err-read-clause-cause g c = c.in-Err-read.ensures.cause
@@ -27,7 +27,7 @@ returns-in-Err-read-clause-cause g c = c.in-Err-read.ensures.cause
 pub returns-in-Err-read-clause-disk : goal.returns-in-Err-read-clause-disk
 returns-in-Err-read-clause-disk g c =
     let e = c.in-Err-read.ensures in
-    record { same_size = e.size; same_contents = e.holds; same_write_faults = e.write_faults; tells = e.tells; leaves = e.stops }
+    record { same_size = e.size; same_contents = e.holds; same_write_faults = e.write_faults; same_writes = e.writes; tells = e.tells; leaves = e.stops; past = e.past }
 
 pub returns-in-None-clause-judged : goal.returns-in-None-clause-judged
 returns-in-None-clause-judged g c = λ image told.
@@ -46,7 +46,7 @@ returns-in-None-clause-cause g c = c.in-Ok.ensures.cause
 pub returns-in-None-clause-disk : goal.returns-in-None-clause-disk
 returns-in-None-clause-disk g c =
     let e = c.in-Ok.ensures in
-    record { same_size = e.size; same_contents = e.holds; same_write_faults = e.write_faults; tells = e.tells; leaves = e.stops }
+    record { same_size = e.size; same_contents = e.holds; same_write_faults = e.write_faults; same_writes = e.writes; tells = e.tells; leaves = e.stops; past = e.past }
 
 pub returns-in-Some-clause-judged : goal.returns-in-Some-clause-judged
 returns-in-Some-clause-judged g c = λ image told.
@@ -62,4 +62,4 @@ returns-in-Some-clause-cause g c = c.in-Ok.ensures.cause
 pub returns-in-Some-clause-disk : goal.returns-in-Some-clause-disk
 returns-in-Some-clause-disk g c =
     let e = c.in-Ok.ensures in
-    record { same_size = e.size; same_contents = e.holds; same_write_faults = e.write_faults; tells = e.tells; leaves = e.stops }
+    record { same_size = e.size; same_contents = e.holds; same_write_faults = e.write_faults; same_writes = e.writes; tells = e.tells; leaves = e.stops; past = e.past }

@@ -4,7 +4,8 @@ use Rattle.xfs_tree.specs.declared.seats.Seat.{Seat}
 use Rattle.xfs_tree.specs.Reading.{bytes_at}
 use Rattle.xfs_tree.specs.Rules.{last_of}
 use Rattle.xfs_tree.specs.Blocks.{records_of}
-use Rattle.xfs_tree.proofs.Causes.{reads_on, caused_before, fault_of_row}
+use Rattle.xfs_tree.proofs.Causes.{caused_before, fault_of_row}
+use Rattle.xfs_disk.proofs.Reading.{reads_on}
 use Rattle.xfs_tree.proofs.RowSteps.{left_from, none_left, held_more, held_all, places_more, places_all, row_more, row_stops, row_ends}
 use Rattle.xfs_tree.proofs.level.read_leaves.Goals as goal
 
@@ -24,12 +25,12 @@ returns-in-Err-clause-cause g c = caused_before _ _ _ c.in-Err.fault c.loop-i.in
 pub returns-in-Err-clause-disk : goal.returns-in-Err-clause-disk
 returns-in-Err-clause-disk g c =
     let D = g.D.Disk in
-    reads_on D.size D.holds D.write_faults D.tells_stops D.may_leave c.args.disk.now c.loop-i.disk c.enter.new.disk c.loop-i.invariant.disk c.in-Err.ensures.disk
+    reads_on D.size D.holds D.write_faults D.writes D.tells_stops D.moment D.may_leave D.left_since c.args.disk.now c.loop-i.disk c.enter.new.disk c.loop-i.invariant.disk c.in-Err.ensures.disk
 
 pub returns-in-Err-push_records-clause-disk : goal.returns-in-Err-push_records-clause-disk
 returns-in-Err-push_records-clause-disk g c =
     let D = g.D.Disk in
-    reads_on D.size D.holds D.write_faults D.tells_stops D.may_leave c.args.disk.now c.loop-i.disk c.enter.new.disk c.loop-i.invariant.disk c.in-Ok.ensures.disk
+    reads_on D.size D.holds D.write_faults D.writes D.tells_stops D.moment D.may_leave D.left_since c.args.disk.now c.loop-i.disk c.enter.new.disk c.loop-i.invariant.disk c.in-Ok.ensures.disk
 
 pub loop-i-preserved : goal.loop-i-preserved
 loop-i-preserved g c =
@@ -52,7 +53,7 @@ loop-i-preserved g c =
       blocks = places_more seat (drop i row) (drop (i + 1) row) c.loop-i.met.blocks.items c.enter.new.met.blocks.items _ split c.in-Ok.ensures.blocks before.blocks;
       block = c.in-Ok.ensures.whole;
       later = let up = before.later in let cause = c.in-Ok.ensures.cause in omega (arith, up, cause);
-      disk = reads_on D.size D.holds D.write_faults D.tells_stops D.may_leave c.args.disk.now c.loop-i.disk c.enter.new.disk before.disk c.in-Ok.ensures.disk;
+      disk = reads_on D.size D.holds D.write_faults D.writes D.tells_stops D.moment D.may_leave D.left_since c.args.disk.now c.loop-i.disk c.enter.new.disk before.disk c.in-Ok.ensures.disk;
     }
 
 pub returns-clause-judged : goal.returns-clause-judged

@@ -2,7 +2,8 @@ use Rattle.std.proofs.Common.{◌≡◌, ◌≤◌, ◌++◌, length, drop, None
 use Rattle.std.specs.List.{flat_map}
 use Rattle.std.specs.Option.{ForSome}
 use Rattle.xfs_geom.specs.Volumes.{volume_of}
-use Rattle.xfs_tree.specs.Answers.{IsMet, OnlyReads}
+use Rattle.xfs_tree.specs.Answers.{IsMet}
+use Rattle.xfs_disk.specs.Reads.{OnlyReads}
 use Rattle.xfs_tree.specs.Blocks.{records_of}
 use Rattle.xfs_tree.specs.Reading.{bytes_at, places_of, row_fault}
 use Rattle.xfs_tree.proofs.level.read_leaves.Given as goal
@@ -20,5 +21,5 @@ invariant-loop-i g l = record {
   blocks : l.met.blocks.items ++ places_of (drop l.i l.row) ≡ l.fn.met.blocks.items ++ places_of l.row;
   block : length l.block ≡ 4096;
   later : g.D.Disk.faults l.fn.disk ≤ g.D.Disk.faults l.disk;
-  disk : OnlyReads g.D.Disk.size g.D.Disk.holds g.D.Disk.write_faults g.D.Disk.tells_stops g.D.Disk.may_leave l.fn.disk l.disk;
+  disk : OnlyReads g.D.Disk.size g.D.Disk.holds g.D.Disk.write_faults g.D.Disk.writes g.D.Disk.tells_stops g.D.Disk.moment g.D.Disk.may_leave g.D.Disk.left_since l.fn.disk l.disk;
 }

@@ -1,7 +1,8 @@
 use Rattle.std.proofs.Common.{rules, ◌≡◌, ◌+◌, ◌∷◌, drop, None, ◌∙◌, arith}
 use Rattle.xfs_geom.specs.Volumes.{volume_of}
 use Rattle.xfs_tree.specs.Reading.{below}
-use Rattle.xfs_tree.proofs.Causes.{reads_on, caused_before, fault_of_row}
+use Rattle.xfs_tree.proofs.Causes.{caused_before, fault_of_row}
+use Rattle.xfs_disk.proofs.Reading.{reads_on}
 use Rattle.xfs_tree.proofs.RowSteps.{capacity_node, left_from, none_left, held_more, held_all, places_more, places_all, behind_node, row_more, row_stops, row_ends}
 use Rattle.xfs_tree.proofs.level.read_nodes.Goals as goal
 
@@ -21,7 +22,7 @@ returns-in-Err-clause-cause g c = caused_before _ _ _ c.in-Err.fault c.loop-i.in
 pub returns-in-Err-clause-disk : goal.returns-in-Err-clause-disk
 returns-in-Err-clause-disk g c =
     let D = g.D.Disk in
-    reads_on D.size D.holds D.write_faults D.tells_stops D.may_leave c.args.disk.now c.loop-i.disk c.enter.new.disk c.loop-i.invariant.disk c.in-Err.ensures.disk
+    reads_on D.size D.holds D.write_faults D.writes D.tells_stops D.moment D.may_leave D.left_since c.args.disk.now c.loop-i.disk c.enter.new.disk c.loop-i.invariant.disk c.in-Err.ensures.disk
 
 pub push_children-requires-clause-count : goal.push_children-requires-clause-count
 push_children-requires-clause-count g c =
@@ -32,7 +33,7 @@ push_children-requires-clause-count g c =
 pub returns-in-Err-push_children-clause-disk : goal.returns-in-Err-push_children-clause-disk
 returns-in-Err-push_children-clause-disk g c =
     let D = g.D.Disk in
-    reads_on D.size D.holds D.write_faults D.tells_stops D.may_leave c.args.disk.now c.loop-i.disk c.enter.new.disk c.loop-i.invariant.disk c.in-Ok.ensures.disk
+    reads_on D.size D.holds D.write_faults D.writes D.tells_stops D.moment D.may_leave D.left_since c.args.disk.now c.loop-i.disk c.enter.new.disk c.loop-i.invariant.disk c.in-Ok.ensures.disk
 
 pub loop-i-preserved : goal.loop-i-preserved
 loop-i-preserved g c =
@@ -55,7 +56,7 @@ loop-i-preserved g c =
       blocks = places_more seat (drop i row) (drop (i + 1) row) c.loop-i.met.blocks.items c.enter.new.met.blocks.items _ split c.in-Ok.ensures.blocks before.blocks;
       block = c.in-Ok.ensures.whole;
       later = let up = before.later in let cause = c.in-Ok.ensures.cause in omega (arith, up, cause);
-      disk = reads_on D.size D.holds D.write_faults D.tells_stops D.may_leave c.args.disk.now c.loop-i.disk c.enter.new.disk before.disk c.in-Ok.ensures.disk;
+      disk = reads_on D.size D.holds D.write_faults D.writes D.tells_stops D.moment D.may_leave D.left_since c.args.disk.now c.loop-i.disk c.enter.new.disk before.disk c.in-Ok.ensures.disk;
     }
 
 pub returns-clause-judged : goal.returns-clause-judged

@@ -1,7 +1,7 @@
--- The blocks passed are the disk's, the others are as they were, and the disk only counts its faults.
-use Rattle.std.proofs.Common.{◌≡◌, ◌≤◌, ℕ, List, length, take, drop}
+-- The blocks passed are the disk's, the others are as they were, and the disk is only read, once for each block passed.
+use Rattle.std.proofs.Common.{◌≡◌, ◌≤◌, ◌+◌, length, take, drop}
 use Rattle.std.specs.Option.{ForSome}
-use Rattle.xfs_disk.specs.Stops.{EachOf, Elapses}
+use Rattle.xfs_disk.specs.Reads.{OnlyReads}
 use Rattle.xfs_bank.specs.Bank.{blocks_at}
 use Rattle.xfs_bank.proofs.bank.BlockBank.fill.Given as goal
 
@@ -10,11 +10,7 @@ invariant-loop-i g l = record {
   first : ForSome (g.D.Disk.holds l.fn.disk) (λ image. take l.i l.self ≡ blocks_at image (take l.i l.places));
   rest : drop l.i l.self ≡ drop l.i l.fn.self;
   len : length l.self ≡ length l.fn.self;
-  size : g.D.Disk.size l.disk ≡ g.D.Disk.size l.fn.disk;
-  holds : g.D.Disk.holds l.disk ≡ g.D.Disk.holds l.fn.disk;
   faults : g.D.Disk.faults l.fn.disk ≤ g.D.Disk.faults l.disk;
-  write_faults : g.D.Disk.write_faults l.disk ≡ g.D.Disk.write_faults l.fn.disk;
-  stops : g.D.Disk.tells_stops l.fn.disk → (b : ℕ) (v : List ℕ) → g.D.Disk.may_leave l.disk b v → g.D.Disk.may_leave l.fn.disk b v;
-  time : g.D.Disk.tells_stops l.fn.disk → Elapses (g.D.Disk.moment l.fn.disk) (g.D.Disk.moment l.disk) (g.D.Disk.left_since l.fn.disk) (g.D.Disk.left_since l.disk) (EachOf (g.D.Disk.may_leave l.disk));
-  tells : g.D.Disk.tells_stops l.fn.disk → g.D.Disk.tells_stops l.disk;
+  disk : OnlyReads g.D.Disk.size g.D.Disk.holds g.D.Disk.write_faults g.D.Disk.writes g.D.Disk.tells_stops g.D.Disk.moment g.D.Disk.may_leave g.D.Disk.left_since l.fn.disk l.disk;
+  reads : g.D.Disk.reads l.disk ≤ g.D.Disk.reads l.fn.disk + l.i;
 }
