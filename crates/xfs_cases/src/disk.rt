@@ -12,6 +12,8 @@ use xfs_disk::{BLOCK_SIZE, Disk, Failed, MemoryDisk};
 pub struct CaseDisk {
     memory: MemoryDisk,
     blocks: u64,
+    reads: u64,
+    writes: u64,
 }
 
 impl CaseDisk {
@@ -22,6 +24,8 @@ impl CaseDisk {
         Ok(CaseDisk {
             memory: MemoryDisk::make(alloc, held)?,
             blocks,
+            reads: 0,
+            writes: 0,
         })
     }
 
@@ -67,6 +71,10 @@ impl Disk for CaseDisk {
 
     ghost write_faults = { λ disk. write_faults_of disk.memory };
 
+    ghost reads = { λ disk. disk.reads };
+
+    ghost writes = { λ disk. disk.writes };
+
     fn faults(&self) -> u64 {
         self.memory.faults()
     }
@@ -77,16 +85,25 @@ impl Disk for CaseDisk {
 
     fn read(&mut self, at: u64, into: &mut [u8]) -> Result<(), Failed> {
         if at < self.held() {
-            return self.memory.read(at, into);
+            match self.memory.read(at, into) {
+                Ok(()) => {}
+                Err(Failed) => return Err(Failed),
+            }
+        } else {
+            into.copy_from_slice(&[0; BLOCK_SIZE]);
         }
-        into.copy_from_slice(&[0; BLOCK_SIZE]);
+        self.reads = self.reads.saturating_add(1);
         Ok(())
     }
 
     fn write(&mut self, at: u64, from: &[u8]) -> Result<(), Failed> {
         if at < self.held() {
-            return self.memory.write(at, from);
+            match self.memory.write(at, from) {
+                Ok(()) => {}
+                Err(Failed) => return Err(Failed),
+            }
         }
+        self.writes = self.writes.saturating_add(1);
         Ok(())
     }
 

@@ -22,7 +22,7 @@ impl Untold {
 }
 
 impl Disk for Untold {
-    ghost use Rattle.xfs_disk.specs.MemoryDisk.{size_of, faults_of, write_faults_of};
+    ghost use Rattle.xfs_disk.specs.MemoryDisk.{size_of, faults_of, write_faults_of, reads_of, writes_of};
 
     ghost size = { λ untold. size_of untold.disk };
 
@@ -31,6 +31,10 @@ impl Disk for Untold {
     ghost faults = { λ untold. faults_of untold.disk };
 
     ghost write_faults = { λ untold. write_faults_of untold.disk };
+
+    ghost reads = { λ untold. reads_of untold.disk };
+
+    ghost writes = { λ untold. writes_of untold.disk };
 
     fn faults(&self) -> u64 {
         self.disk.faults()
