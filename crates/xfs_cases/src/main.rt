@@ -1,20 +1,9 @@
-//! Plays cases of the tools' top call on volumes in memory.
-//!
-//! Standard input has the cases, a few lines of text each; `case` and `player` say which lines there are. For each case standard output
-//! gets `ok` and its name where all goes as the case says, and else what does not.
+//! Plays cases of the tools' top call on volumes in memory: standard input has the cases, a few lines of text each, and standard output
+//! gets how each went (`xfs_player`).
 #![tactic(auto)]
 
-mod calls;
-mod case;
-mod disk;
-mod numbers;
-mod player;
-mod refusal;
-mod vast;
-mod volume;
-
-use player::Player;
 use std::io::{self, BufRead, BufReader};
+use xfs_player::Player;
 
 fn main(rt: HostRuntime) -> io::Result<()> {
     let alloc = rt.alloc();
