@@ -7,7 +7,7 @@ use crate::values::glyph;
 use xfs_disk::NoMemory;
 
 /// The most digits that a number of 64 bits has.
-const MOST_DIGITS: usize = 16;
+pub const MOST_DIGITS: usize = 16;
 
 /// Adds the digits of a number to a text.
 pub fn push_hexadecimal(text: &mut Vec<u8>, number: u64) -> Result<(), NoMemory>
@@ -19,8 +19,8 @@ pub fn push_hexadecimal(text: &mut Vec<u8>, number: u64) -> Result<(), NoMemory>
     Ok(())
 }
 
-/// Writes the digits of a number to the end of the buffer and says where they begin.
-fn write_hexadecimal(buffer: &mut [u8; MOST_DIGITS], number: u64) -> usize
+/// Writes the digits of a number to the end of the buffer and says where they begin. Takes no memory.
+pub fn write_hexadecimal(buffer: &mut [u8; MOST_DIGITS], number: u64) -> usize
     ensures digits { drop result buffer.new ≡ hexadecimal number }
     ensures within { result < 16 }
 {

@@ -22,7 +22,7 @@ mod objects;
 mod values;
 
 pub use convert::{Measure, Spot, push_both, spot_of_address};
-pub use hexadecimal::push_hexadecimal;
+pub use hexadecimal::{MOST_DIGITS, push_hexadecimal, write_hexadecimal};
 pub use items::{Item, Row, Shape, named_item, number_width};
 pub use numbers::{Typed, read_number};
 pub use objects::{ObjectType, Place, SECTOR_SIZE};

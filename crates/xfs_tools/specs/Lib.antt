@@ -1,6 +1,5 @@
 pub mod Answers
 pub mod CommandLine
-pub mod Hexadecimal
 pub mod Labels
 pub mod Texts
 pub mod Debugging

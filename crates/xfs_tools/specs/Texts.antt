@@ -14,7 +14,7 @@ use Rattle.xfs_image.specs.declared.findings.Finding.TheVariants as Found
 use Rattle.xfs_volume.specs.declared.findings.Law.{Law}
 use Rattle.xfs_tools.specs.declared.texts.Number.{Number}
 use Rattle.xfs_tools.specs.declared.texts.Number.TheVariants.{Decimal, Large, Hexadecimal}
-use Rattle.xfs_tools.specs.Hexadecimal.{hexadecimal}
+use Rattle.xfs_objects.specs.Hexadecimal.{hexadecimal}
 
 -- a number as text, in its base
 abbrev pub number_text : Number → List ℕ

@@ -13,7 +13,6 @@
 mod answer;
 mod command_line;
 mod debugger;
-mod hexadecimal;
 mod maker;
 mod texts;
 mod top;

@@ -7,13 +7,13 @@ ghost use Rattle.xfs_tools.specs.Texts.{finding_text, law_text, line, made_numbe
 ghost use Rattle.uuid.specs.Text.{hyphenated_text};
 
 use crate::answer::Answer;
-use crate::hexadecimal::{MOST_DIGITS, write_hexadecimal};
 use itoa::Buffer;
 use uuid::Uuid;
 use xfs_disk::{Failed, Sink};
 use xfs_image::Finding;
 use xfs_mend::Summary;
 use xfs_mkfs::MadeSummary;
+use xfs_objects::{MOST_DIGITS, write_hexadecimal};
 use xfs_place::Place;
 use xfs_volume::Law;
 
