@@ -1,3 +1,4 @@
+mod Checking
 pub mod Labels
 pub mod Making
 pub mod Offending

@@ -4,3 +4,4 @@ pub mod Labels
 pub mod Texts
 pub mod Debugging
 pub mod Making
+pub mod Repairing

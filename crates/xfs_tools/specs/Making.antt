@@ -1,7 +1,8 @@
 -- What a call of mkfs.xfs answers, puts and leaves (mkfs.xfs(8)).
-use Rattle.std.specs.Prelude.{◌≡◌, ℕ, Bool, true, false, MatchBool, ◌⊎◌, List, Option, Result, Ok, Err}
+use Rattle.std.specs.Prelude.{◌≡◌, ℕ, ◌≤◌, Bool, true, false, MatchBool, ◌⊎◌, List, Option, Result, Ok, Err}
 use Rattle.std.specs.Option.{ForSome}
 use Rattle.xfs_disk.specs.Blocks.{Image}
+use Rattle.xfs_disk.specs.Reads.{OnlyReads}
 use Rattle.xfs_disk.specs.declared.failed.Failed.{Failed}
 use Rattle.xfs_disk.specs.declared.stamp.Stamp.{Stamp}
 use Rattle.xfs_options.specs.Making.{Refusal, bad, usage}
@@ -9,7 +10,9 @@ use Rattle.xfs_options.specs.declared.making.MakeFault.{MakeFault}
 use Rattle.xfs_options.specs.declared.making.MakeFault.TheVariants as words
 use Rattle.xfs_options.specs.declared.making.MakeLine.{MakeLine}
 use Rattle.xfs_options.specs.declared.making.MakeOptions.{MakeOptions}
+use Rattle.xfs_mkfs.specs.Counts.{CountsBlocks, IsUnwritten, reads_at}
 use Rattle.xfs_mkfs.specs.Outcome as mkfs
+use Rattle.xfs_mkfs.specs.Stops.{IsKept, StopLeaves}
 use Rattle.xfs_mkfs.specs.declared.outcome.MakeOutcome.{MakeOutcome}
 use Rattle.xfs_mkfs.specs.declared.outcome.MakeOutcome.TheVariants as out
 use Rattle.xfs_tools.specs.Answers.{IsTold}
@@ -33,19 +36,21 @@ abbrev pub is_made : Answer → Bool
 is_made (Made summary) = true
 is_made answer = false
 
--- what a disk holds, and its counts of failed reads and of failed writes and syncs
-pub record Found : Type 0 where
-  pub holds : Option Image
-  pub reads : ℕ
-  pub writes : ℕ
-
--- what was asked of the volume was done, as its outcome says
-pub record IsOfMaking (o : MakeOptions) (s : Stamp) (blocks : ℕ) (was now : Found) (answer : Answer) : Type 0 where
-  pub outcome : MakeOutcome
-  pub due : ForSome was.holds (λ image. mkfs.IsDue o s blocks image outcome)
-  pub leaves : ForSome was.holds (λ image. mkfs.Leaves o s blocks image now.holds outcome)
-  pub cause : mkfs.IsCaused was.reads now.reads was.writes now.writes outcome
-  pub answer_is : answer ≡ made_answer outcome
+-- A volume was to be made on a disk, and this came of it. Whatever the disk tells: a fault only where its count rose, all blocks of
+-- the plan written, or as many as a write fault says, or none; block 0 alone is read; before every answer but made and a write fault the disk
+-- was only read. Of a disk that tells what it holds, also that the outcome is due and what it leaves; of one that tells its stops, also
+-- what a stop may leave.
+pub record IsMake {D : Type 0} (holds : D → Option Image) (size faults write_faults reads writes : D → ℕ) (tells_stops : D → Type 0)
+    (moment : D → ℕ) (may_leave : D → ℕ → List ℕ → Type 0) (left_since : D → ℕ → Image → Type 0) (s : Stamp) (old new : D) (o : MakeOptions) (outcome : MakeOutcome) : Type 0 where
+  pub due : ForSome (holds old) (λ image. mkfs.IsDue o s (size old) image outcome)
+  pub leaves : ForSome (holds old) (λ image. mkfs.Leaves o s (size old) image (holds new) outcome)
+  pub cause : mkfs.IsCaused (faults old) (faults new) (write_faults old) (write_faults new) outcome
+  pub counts : CountsBlocks o s (size old) (writes old) (writes new) outcome
+  pub reads : reads new ≡ reads_at o.force (reads old) outcome
+  pub unwritten : IsUnwritten outcome → OnlyReads size holds write_faults writes tells_stops moment may_leave left_since old new
+  pub kept : IsKept (tells_stops old) (holds new) (may_leave new) outcome
+  pub stops : tells_stops old → ForSome (holds old) (λ image. (t : ℕ) (stopped : Image) → t ≤ moment old → left_since new t stopped
+      → left_since old t stopped ⊎ StopLeaves o s (size old) image stopped outcome)
 
 -- the end of a call whose words were refused, or could not be read for want of memory
 abbrev pub refusal_of : MakeFault → Making
@@ -53,18 +58,24 @@ refusal_of (words.Offends n) = record { answer = Usage n; quiet = false }
 refusal_of (words.BadOption word item) = record { answer = BadOption word item; quiet = false }
 refusal_of words.NoMemory = record { answer = NoMemory; quiet = false }
 
--- nothing was made, for this answer
-pub record IsNoMaking (due : Answer) (was now : Found) (answer : Answer) : Type 0 where
+-- nothing was made, for this answer, and all is the same
+pub record IsNoMaking (due : Answer) (same : Type 0) (answer : Answer) : Type 0 where
   pub answer_is : (answer ≡ due) ⊎ (answer ≡ NoMemory)
-  pub found : now ≡ was
+  pub untouched : same
+
+-- what was asked of the volume was done, as its outcome says
+pub record IsOfMaking (line : MakeLine) (done : MakeOptions → MakeOutcome → Type 0) (answer : Answer) (quiet : Bool) : Type 0 where
+  pub outcome : MakeOutcome
+  pub answer_is : answer ≡ made_answer outcome
+  pub quiet_is : quiet ≡ line.quiet
+  pub is_done : done line.options outcome
 
 -- The words behind mkfs.xfs were refused, for the first that offends or else for its first bad item, or the volume that they ask for
 -- was made, unless memory lacked for the words.
-abbrev pub IsMaking : Result MakeLine Refusal → Stamp → ℕ → Found → Found → Answer → Bool → Type 0
-IsMaking (Err (usage n)) s blocks was now answer quiet = IsNoMaking (Usage n) was now answer
-IsMaking (Err (bad word item)) s blocks was now answer quiet = IsNoMaking (BadOption word item) was now answer
-IsMaking (Ok line) s blocks was now answer quiet =
-    IsNoMaking NoMemory was now answer ⊎ ((quiet ≡ line.quiet) × IsOfMaking line.options s blocks was now answer)
+abbrev pub IsMaking : Result MakeLine Refusal → Type 0 → (MakeOptions → MakeOutcome → Type 0) → Answer → Bool → Type 0
+IsMaking (Err (usage n)) same done answer quiet = IsNoMaking (Usage n) same answer
+IsMaking (Err (bad word item)) same done answer quiet = IsNoMaking (BadOption word item) same answer
+IsMaking (Ok line) same done answer quiet = IsNoMaking NoMemory same answer ⊎ IsOfMaking line done answer quiet
 
 -- the line of the answer was put to its stream, or it was left out
 abbrev pub IsToldUnless : {O E : Type 0} → Bool → (O → Option (List ℕ)) → (O → ℕ) → (E → Option (List ℕ)) → (E → ℕ) → O → O → E → E → Answer → Result (Unit {0}) Failed → Type 0

@@ -4,7 +4,7 @@ ghost use Rattle.std.specs.Prelude.{◌≡◌, ◌≤◌, ◌&&◌, Bool, Result
 ghost use Rattle.xfs_disk.specs.declared.failed.Failed.{Failed};
 ghost use Rattle.xfs_options.specs.Making.{make_of};
 ghost use Rattle.xfs_tools.specs.Answers.{status_of};
-ghost use Rattle.xfs_tools.specs.Making.{Found, IsMaking, IsOfMaking, IsToldUnless, is_made, made_answer, refusal_of};
+ghost use Rattle.xfs_tools.specs.Making.{IsMake, IsMaking, IsOfMaking, IsToldUnless, is_made, made_answer, refusal_of};
 ghost use Rattle.xfs_tools.specs.declared.answer.Answer.{Answer};
 
 use crate::answer::{Answer, Status};
@@ -37,9 +37,7 @@ pub(crate) fn run_maker<R: Threads + Sync, D: Disk, L: Library, O: Sink, E: Sink
     stamp: &Stamp,
 ) -> Status
     ensures ended { (answer : Answer) × (quiet : Bool) × (put : Result (Unit {0}) Failed)
-        × IsMaking (make_of words.now) stamp.now (D.size disk.old)
-        (record { holds = D.holds disk.old; reads = D.faults disk.old; writes = D.write_faults disk.old })
-        (record { holds = D.holds disk.new; reads = D.faults disk.new; writes = D.write_faults disk.new }) answer quiet
+        × IsMaking (make_of words.now) (disk.new ≡ disk.old) (IsMake D.holds D.size D.faults D.write_faults D.reads D.writes D.tells_stops D.moment D.may_leave D.left_since stamp.now disk.old disk.new) answer quiet
         × IsToldUnless (quiet && is_made answer) O.took O.faults E.took E.faults out.old out.new err.old err.new answer put
         × (result ≡ status_of false answer put) }
     ensures size { D.size disk.new ≡ D.size disk.old }
@@ -69,9 +67,7 @@ fn make_words<R: Threads + Sync, D: Disk, L: Library>(
     files: &mut L,
     stamp: &Stamp,
 ) -> Making
-    ensures ended { IsMaking (make_of words.now) stamp.now (D.size disk.old)
-        (record { holds = D.holds disk.old; reads = D.faults disk.old; writes = D.write_faults disk.old })
-        (record { holds = D.holds disk.new; reads = D.faults disk.new; writes = D.write_faults disk.new }) result.answer result.quiet }
+    ensures ended { IsMaking (make_of words.now) (disk.new ≡ disk.old) (IsMake D.holds D.size D.faults D.write_faults D.reads D.writes D.tells_stops D.moment D.may_leave D.left_since stamp.now disk.old disk.new) result.answer result.quiet }
     ensures size { D.size disk.new ≡ D.size disk.old }
     ensures files { files.new ≡ files.old }
 {
@@ -106,10 +102,7 @@ fn make_line<R: Threads + Sync, D: Disk, L: Library>(
     stamp: &Stamp,
 ) -> Making
     requires label { length line.now.options.label ≤ 12 }
-    ensures quiet { result.quiet ≡ line.now.quiet }
-    ensures made { IsOfMaking line.now.options stamp.now (D.size disk.old)
-        (record { holds = D.holds disk.old; reads = D.faults disk.old; writes = D.write_faults disk.old })
-        (record { holds = D.holds disk.new; reads = D.faults disk.new; writes = D.write_faults disk.new }) result.answer }
+    ensures made { IsOfMaking line.now (IsMake D.holds D.size D.faults D.write_faults D.reads D.writes D.tells_stops D.moment D.may_leave D.left_since stamp.now disk.old disk.new) result.answer result.quiet }
     ensures size { D.size disk.new ≡ D.size disk.old }
     ensures files { files.new ≡ files.old }
 {

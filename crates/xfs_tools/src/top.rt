@@ -1,15 +1,16 @@
 //! The top call: a command line and an image in, an answer, its line and an exit status out.
 
 ghost use Rattle.std.specs.Prelude.{◌≡◌, ℕ, ◌≤◌, ◌&&◌, Bool, true, false, drop, Result};
-ghost use Rattle.std.specs.Option.{ForSome};
+ghost use Rattle.xfs_disk.specs.Reads.{OnlyReads};
 ghost use Rattle.xfs_disk.specs.declared.failed.Failed.{Failed};
 ghost use Rattle.xfs_options.specs.Debugging.{debug_of};
 ghost use Rattle.xfs_options.specs.Making.{make_of};
 ghost use Rattle.xfs_tools.specs.CommandLine.{is_debugger, is_maker, judged, tells_in, tells_repair};
 ghost use Rattle.xfs_tools.specs.Debugging.{Counts, Found, IsDebugged, session_status};
-ghost use Rattle.xfs_tools.specs.Making.{IsMaking, IsToldUnless, is_made};
+ghost use Rattle.xfs_tools.specs.Making.{IsMake, IsMaking, IsToldUnless, is_made};
+ghost use Rattle.xfs_tools.specs.Repairing.{IsRepair, IsRepairing, only_checks};
 ghost use Rattle.xfs_tools.specs.Texts.{text_of};
-ghost use Rattle.xfs_tools.specs.Answers.{IsCaused, IsDue, IsKept, IsTold, Leaves, Puts, status_of};
+ghost use Rattle.xfs_tools.specs.Answers.{IsTold, Puts, status_of};
 ghost use Rattle.xfs_tools.specs.declared.answer.Answer.{Answer};
 
 use crate::answer::{Answer, Status};
@@ -36,17 +37,18 @@ pub fn run<R: Threads + Sync, D: Disk, L: Library, S: Source, O: Sink, E: Sink, 
     stamp: &Stamp,
     gate: &G,
 ) -> Status
-    // For the words of `xfs_repair`, and those that name no tool: there is one answer, which is due to the words and the image; a
-    // fault only where the disk counted one; the image is what that answer leaves, and after a repair a stop of the machine leaves
-    // just that; its line is put to its stream and nothing to the other; and the status is its own, or that of an output fault
-    // where the line could not be put. Of a disk that does not tell what it holds, as a file, the parts on the image say nothing.
+    // For the words of `xfs_repair`, and those that name no tool: the words are refused and the disk is the same, or the repair that
+    // they ask for was run: its outcome is due to the image, a fault comes only where the disk counted one, just so many blocks were
+    // written as it says, the image is what it leaves, and at each moment a stop of the machine leaves what it may. The answer's line is put
+    // to its stream and nothing to the other; and the status is its own, or that of an output fault where the line could not be
+    // put. Of a disk that does not tell what it holds, as a file, the parts on the image say nothing, and all others hold.
     ensures answer { is_debugger words.now ≡ false → is_maker words.now ≡ false → (answer : Answer) × (put : Result (Unit {0}) Failed)
-        × ForSome (D.holds disk.old) (λ image. IsDue (judged words.now) image answer)
-        × IsCaused (D.faults disk.old) (D.faults disk.new) (D.write_faults disk.old) (D.write_faults disk.new) answer
-        × ForSome (D.holds disk.old) (λ image. Leaves image (D.holds disk.new) answer)
-        × IsKept (D.tells_stops disk.old) (D.holds disk.new) (D.may_leave disk.new) answer
+        × IsRepairing (judged words.now) (disk.new ≡ disk.old) (IsRepair D.holds D.size D.faults D.write_faults D.writes D.tells_stops D.moment D.may_leave D.left_since disk.old disk.new) answer
         × IsTold O.took O.faults E.took E.faults out.old out.new err.old err.new answer put
         × (result ≡ status_of (tells_repair words.now) answer put) }
+    // Under `-n`, and where the words are refused, the disk is only read, whatever it tells: no block and no sync.
+    ensures checked { is_debugger words.now ≡ false → is_maker words.now ≡ false → only_checks (judged words.now) ≡ true
+        → OnlyReads D.size D.holds D.write_faults D.writes D.tells_stops D.moment D.may_leave D.left_since disk.old disk.new }
     // For the words of `xfs_db`: the session that they ask for was run, with what it prints, what it leaves on the disk and the
     // faults that it counted; or they were refused, or memory lacked for them, and nothing was run. The line of its answer goes
     // to `err`.
@@ -59,9 +61,7 @@ pub fn run<R: Threads + Sync, D: Disk, L: Library, S: Source, O: Sink, E: Sink, 
     // For the words of `mkfs.xfs`: the volume that they ask for was made or refused, and the disk holds what that leaves; or the
     // words were refused, or memory lacked for them, and nothing was done. The line is left out under `-q` where it was made.
     ensures made { is_debugger words.now ≡ false → is_maker words.now ≡ true → (answer : Answer) × (quiet : Bool) × (put : Result (Unit {0}) Failed)
-        × IsMaking (make_of (drop 1 words.now)) stamp.now (D.size disk.old)
-        (record { holds = D.holds disk.old; reads = D.faults disk.old; writes = D.write_faults disk.old })
-        (record { holds = D.holds disk.new; reads = D.faults disk.new; writes = D.write_faults disk.new }) answer quiet
+        × IsMaking (make_of (drop 1 words.now)) (disk.new ≡ disk.old) (IsMake D.holds D.size D.faults D.write_faults D.reads D.writes D.tells_stops D.moment D.may_leave D.left_since stamp.now disk.old disk.new) answer quiet
         × IsToldUnless (quiet && is_made answer) O.took O.faults E.took E.faults out.old out.new err.old err.new answer put
         × (result ≡ status_of false answer put) }
     // The disk keeps its number of blocks.
@@ -96,12 +96,10 @@ fn run_volume<R: Threads + Sync, D: Disk, O: Sink, E: Sink, G: Gate>(
     gate: &G,
 ) -> Status
     ensures answer { (answer : Answer) × (put : Result (Unit {0}) Failed)
-        × ForSome (D.holds disk.old) (λ image. IsDue (judged words.now) image answer)
-        × IsCaused (D.faults disk.old) (D.faults disk.new) (D.write_faults disk.old) (D.write_faults disk.new) answer
-        × ForSome (D.holds disk.old) (λ image. Leaves image (D.holds disk.new) answer)
-        × IsKept (D.tells_stops disk.old) (D.holds disk.new) (D.may_leave disk.new) answer
+        × IsRepairing (judged words.now) (disk.new ≡ disk.old) (IsRepair D.holds D.size D.faults D.write_faults D.writes D.tells_stops D.moment D.may_leave D.left_since disk.old disk.new) answer
         × IsTold O.took O.faults E.took E.faults out.old out.new err.old err.new answer put
         × (result ≡ status_of (tells_repair words.now) answer put) }
+    ensures checked { only_checks (judged words.now) ≡ true → OnlyReads D.size D.holds D.write_faults D.writes D.tells_stops D.moment D.may_leave D.left_since disk.old disk.new }
     ensures size { D.size disk.new ≡ D.size disk.old }
     ensures faults { D.faults disk.old ≤ D.faults disk.new }
     ensures write_faults { D.write_faults disk.old ≤ D.write_faults disk.new }
@@ -131,10 +129,8 @@ fn answer_to<R: Threads + Sync, D: Disk, G: Gate>(
     stamp: &Stamp,
     gate: &G,
 ) -> Answer
-    ensures due { ForSome (D.holds disk.old) (λ image. IsDue call.now image result) }
-    ensures cause { IsCaused (D.faults disk.old) (D.faults disk.new) (D.write_faults disk.old) (D.write_faults disk.new) result }
-    ensures leaves { ForSome (D.holds disk.old) (λ image. Leaves image (D.holds disk.new) result) }
-    ensures kept { IsKept (D.tells_stops disk.old) (D.holds disk.new) (D.may_leave disk.new) result }
+    ensures answer { IsRepairing call.now (disk.new ≡ disk.old) (IsRepair D.holds D.size D.faults D.write_faults D.writes D.tells_stops D.moment D.may_leave D.left_since disk.old disk.new) result }
+    ensures checked { only_checks call.now ≡ true → OnlyReads D.size D.holds D.write_faults D.writes D.tells_stops D.moment D.may_leave D.left_since disk.old disk.new }
     ensures size { D.size disk.new ≡ D.size disk.old }
     ensures faults { D.faults disk.old ≤ D.faults disk.new }
     ensures write_faults { D.write_faults disk.old ≤ D.write_faults disk.new }

@@ -1,10 +1,21 @@
+use Rattle.std.proofs.Common.{refl}
 use Rattle.xfs_tools.proofs.maker.make_line.Goals as goal
 
 pub returns-clause-made : goal.returns-clause-made
-returns-clause-made g c = record {
-  outcome = c.make-outcome.result;
-  due = c.make-outcome.ensures.due;
-  leaves = c.make-outcome.ensures.leaves;
-  cause = c.make-outcome.ensures.cause;
-  answer_is = c.made_answer.ensures;
-}
+returns-clause-made g c =
+    let made = c.make-outcome.ensures in
+    record {
+      outcome = c.make-outcome.result;
+      answer_is = c.made_answer.ensures;
+      quiet_is = refl;
+      is_done = record {
+        due = made.due;
+        leaves = made.leaves;
+        cause = made.cause;
+        counts = made.counts;
+        reads = made.reads;
+        unwritten = made.unwritten;
+        kept = made.kept;
+        stops = made.stops;
+      };
+    }

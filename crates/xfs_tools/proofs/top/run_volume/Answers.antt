@@ -1,31 +1,32 @@
-use Rattle.std.proofs.Common.{◌≡◌, Ok, Err, Some, refl, subst}
-use Rattle.xfs_disk.specs.Blocks.{Image}
-use Rattle.xfs_tools.specs.Answers.{IsDue}
+use Rattle.std.proofs.Common.{◌≡◌, Bool, true, Ok, Err, ap, refl, subst, sym, ◌∙◌}
+use Rattle.xfs_tools.specs.Repairing.{IsRepair, IsRepairing, only_checks}
 use Rattle.xfs_tools.specs.declared.command_line.Call.{Call}
 use Rattle.xfs_tools.proofs.top.run_volume.Goals as goal
 
 pub returns-in-Ok-clause-answer : goal.returns-in-Ok-clause-answer
-returns-in-Ok-clause-answer g c = (
-  c.answer_to-answer.result,
-  Ok c.in-Ok.field-0,
-  subst (λ (j : Call). (image : Image) → g.D.Disk.holds c.args.disk.now ≡ Some image → IsDue j image c.answer_to-answer.result)
-      c.judge-call.ensures.judged c.answer_to-answer.ensures.due,
-  c.answer_to-answer.ensures.cause,
-  c.answer_to-answer.ensures.leaves,
-  c.answer_to-answer.ensures.kept,
-  c.in-Ok.ensures,
-  rw (c.code.ensures, c.tells_repair.ensures, c.judge-call.ensures.judged) refl,
-)
+returns-in-Ok-clause-answer g c =
+    let D = g.D.Disk in (
+      c.answer_to-answer.result,
+      Ok c.in-Ok.field-0,
+      subst (λ (j : Call). IsRepairing j (c.answer_to-answer.new.disk ≡ c.args.disk.now) (IsRepair D.holds D.size D.faults D.write_faults D.writes D.tells_stops D.moment D.may_leave D.left_since c.args.disk.now c.answer_to-answer.new.disk) c.answer_to-answer.result)
+          c.judge-call.ensures.judged c.answer_to-answer.ensures.answer,
+      c.in-Ok.ensures,
+      rw (c.code.ensures, c.tells_repair.ensures, c.judge-call.ensures.judged) refl,
+    )
+
+pub returns-in-Ok-clause-checked : goal.returns-in-Ok-clause-checked
+returns-in-Ok-clause-checked g c = λ check. c.answer_to-answer.ensures.checked (ap only_checks c.judge-call.ensures.judged ∙ check)
 
 pub returns-in-Err-clause-answer : goal.returns-in-Err-clause-answer
-returns-in-Err-clause-answer g c = (
-  c.answer_to-answer.result,
-  Err c.in-Err.field-0,
-  subst (λ (j : Call). (image : Image) → g.D.Disk.holds c.args.disk.now ≡ Some image → IsDue j image c.answer_to-answer.result)
-      c.judge-call.ensures.judged c.answer_to-answer.ensures.due,
-  c.answer_to-answer.ensures.cause,
-  c.answer_to-answer.ensures.leaves,
-  c.answer_to-answer.ensures.kept,
-  c.in-Err.ensures,
-  refl,
-)
+returns-in-Err-clause-answer g c =
+    let D = g.D.Disk in (
+      c.answer_to-answer.result,
+      Err c.in-Err.field-0,
+      subst (λ (j : Call). IsRepairing j (c.answer_to-answer.new.disk ≡ c.args.disk.now) (IsRepair D.holds D.size D.faults D.write_faults D.writes D.tells_stops D.moment D.may_leave D.left_since c.args.disk.now c.answer_to-answer.new.disk) c.answer_to-answer.result)
+          c.judge-call.ensures.judged c.answer_to-answer.ensures.answer,
+      c.in-Err.ensures,
+      refl,
+    )
+
+pub returns-in-Err-clause-checked : goal.returns-in-Err-clause-checked
+returns-in-Err-clause-checked g c = λ check. c.answer_to-answer.ensures.checked (ap only_checks c.judge-call.ensures.judged ∙ check)
