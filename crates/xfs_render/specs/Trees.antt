@@ -9,7 +9,8 @@ use Rattle.xfs_kinds.specs.FreeTrees.{bno_shape, cnt_shape}
 use Rattle.xfs_kinds.specs.InodeTrees.{ino_shape, fino_shape}
 use Rattle.xfs_kinds.specs.OwnerTrees.{rmap_shape}
 use Rattle.xfs_place.specs.declared.placed.GroupPlaced.{GroupPlaced}
-use Rattle.xfs_treebuild.specs.Packing.{lsn_of, root_of, rows_at, top_down}
+use Rattle.xfs_treebuild.specs.Exact.{IsExact}
+use Rattle.xfs_treebuild.specs.Packing.{IsPacked, lsn_of, root_of, rows_at, top_down}
 use Rattle.xfs_tree.specs.Reading.{Contents, bytes_at, reading, root_seat}
 use Rattle.xfs_tree.specs.Shape.{Shape}
 use Rattle.xfs_render.specs.Counters.{levels}
@@ -25,10 +26,13 @@ packed_tree s records places = record { records = map s.settled records; blocks 
 abbrev pub ReadsFrom : {R K : Type 0} → Shape R K → Volume → Image → ℕ → ℕ → List R → List ℕ → Type 0
 ReadsFrom s v image root n records places = reading s v image (root_seat root ∷ []) (n - 1) ≡ Ok (packed_tree s records places)
 
--- the same, and none of the tree's blocks states a log sequence number
+-- the same, each block with its share of what its level holds; none of the tree's blocks states a log sequence number, and what neither
+-- the header nor the items of a block state is zero
 pub record HasTree {R K : Type 0} (s : Shape R K) (v : Volume) (image : Image) (root n : ℕ) (records : List R) (places : List ℕ) : Type 0 where
   pub reads : ReadsFrom s v image root n records places
+  pub packed : IsPacked s v image (map s.settled records) places
   pub lsns : All (λ place. lsn_of s.layout (bytes_at image place) ≡ 0) places
+  pub exact : All (λ place. IsExact s (bytes_at image place)) places
 
 -- a tree was put down: its root stands last
 pub record AddsTree {R K : Type 0} (s : Shape R K) (v : Volume) (old new : Draft) (records : List R) (places : List ℕ) : Type 0 where

@@ -6,6 +6,7 @@ ghost use Rattle.xfs_word.specs.Field.{KeepsParts, field_of, part_of};
 ghost use Rattle.xfs_geom.specs.Volumes.{volume_of};
 ghost use Rattle.xfs_heads.specs.FreeList.{agfl_of};
 ghost use Rattle.xfs_heads.specs.FreeSpace.{agf_of};
+ghost use Rattle.xfs_heads.specs.Heads.{IsZero, numbers};
 ghost use Rattle.xfs_heads.specs.Inodes.{agi_of};
 ghost use Rattle.xfs_render.specs.Groups.{IsSound, due_agf, due_agi, due_agfl};
 ghost use Rattle.xfs_render.specs.HeaderBlocks.{IsHeaderBlock};
@@ -48,6 +49,8 @@ fn put_free_space(g: &Geometry, ag: u32, inodes: &[InoRec], placed: &GroupPlaced
     requires block { length block.old ≡ 4096 }
     ensures agf { agf_of (volume_of g.now) ag (part_of block.new 512 512)
         ≡ Some (record (due_agf (volume_of g.now) ag placed.now) { crc = little_field_of (part_of block.new 512 512) 216 4 }) }
+    ensures zero_before_lsn { IsZero (part_of block.new 512 512) 84 124 }
+    ensures zero_behind_crc { IsZero (part_of block.new 512 512) 220 292 }
     ensures keeps { KeepsParts block.old block.new 512 512 }
 {
     let mut sector = [0; 512];
@@ -62,6 +65,8 @@ fn put_inodes(g: &Geometry, ag: u32, inodes: &[InoRec], placed: &GroupPlaced, bl
     requires block { length block.old ≡ 4096 }
     ensures agi { agi_of (volume_of g.now) ag (part_of block.new 1024 512)
         ≡ Some (record (due_agi (volume_of g.now) ag inodes.now placed.now) { crc = little_field_of (part_of block.new 1024 512) 312 4 }) }
+    ensures zero_behind_crc { IsZero (part_of block.new 1024 512) 316 4 }
+    ensures zero_behind_levels { IsZero (part_of block.new 1024 512) 336 176 }
     ensures keeps { KeepsParts block.old block.new 1024 512 }
 {
     let mut sector = [0; 512];
@@ -76,6 +81,7 @@ fn put_free_list(g: &Geometry, ag: u32, inodes: &[InoRec], placed: &GroupPlaced,
     requires block { length block.old ≡ 4096 }
     ensures agfl { (crc : ℕ) → agfl_of (volume_of g.now) ag (record (due_agf (volume_of g.now) ag placed.now) { crc = crc }) (part_of block.new 1536 512)
         ≡ Some (due_agfl placed.now) }
+    ensures entries { numbers (part_of block.new 1536 512) 36 119 ≡ (due_agfl placed.now).entries }
     ensures lsn { field_of (part_of block.new 1536 512) 24 8 ≡ 0 }
     ensures keeps { KeepsParts block.old block.new 1536 512 }
 {

@@ -3,6 +3,7 @@ pub mod CleanRows
 pub mod PackedReads
 pub mod PackedTree
 pub mod PackingBytes
+pub mod PackingExact
 pub mod PackingFaults
 pub mod PackingHeads
 pub mod PackingItems

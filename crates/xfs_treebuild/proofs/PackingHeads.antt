@@ -2,6 +2,7 @@
 use Rattle.std.proofs.Common.{◌≡◌, ℕ, ◌+◌, ◌-◌, ◌==◌, inl, inr, Bool, true, false, List, Option, None, IfSome, IsTrue, slice_get, get_or, if◌then◌else◌, sym, subst}
 use Rattle.std.specs.List.{All}
 use Rattle.std.proofs.lemmas.Option.{slice_get_cases}
+use Rattle.xfs_word.specs.Field.{field_of}
 use Rattle.xfs_word.specs.Seal.{is_sealed}
 use Rattle.xfs_geom.specs.Volumes.{Volume}
 use Rattle.xfs_tree.specs.declared.layout.Layout.{Layout}
@@ -31,13 +32,14 @@ right_held P row i o is all = subst (λ (q : Option ℕ). IfSome q P) (sym is) (
 pub headed_by : (v : Volume) (l due : Layout) (owner due_owner level : ℕ) (row : List ℕ) (i place left right : ℕ) (beside after : Option ℕ) (block : List ℕ)
     → l ≡ due → owner ≡ due_owner → place ≡ get_or row i 0 → beside ≡ left_in row i → after ≡ right_in row i
     → IsTrue (is_sealed (block_seal v l owner place) block) → level_of block ≡ level → lsn_of l block ≡ 0
-    → left_of l block ≡ left → IsTrue (is_sibling v l owner beside left) → right_of l block ≡ right → IsTrue (is_sibling v l owner after right)
+    → (l.long ≡ true → field_of block 68 4 ≡ 0) → left_of l block ≡ left → IsTrue (is_sibling v l owner beside left) → right_of l block ≡ right → IsTrue (is_sibling v l owner after right)
     → IsHeaded v due due_owner level row i block
-headed_by v l due owner due_owner level row i place left right beside after block l_is owner_is place_is beside_is after_is sealed at_level at_lsn left_is left_right right_is right_right =
+headed_by v l due owner due_owner level row i place left right beside after block l_is owner_is place_is beside_is after_is sealed at_level at_lsn at_pad left_is left_right right_is right_right =
     let written : IsHeaded v l owner level row i block = record {
       sealed = subst (λ (p : ℕ). IsTrue (is_sealed (block_seal v l owner p) block)) place_is sealed;
       at_level = at_level;
       at_lsn = at_lsn;
+      at_pad = at_pad;
       at_left = subst (λ (q : ℕ). IsTrue (is_sibling v l owner (left_in row i) q)) (sym left_is)
           (subst (λ (o : Option ℕ). IsTrue (is_sibling v l owner o left)) beside_is left_right);
       at_right = subst (λ (q : ℕ). IsTrue (is_sibling v l owner (right_in row i) q)) (sym right_is)

@@ -16,7 +16,7 @@ apart h w k i before =
     let next : (k + 1) * w ≤ i * w = mul-le-mul_right w (omega arith) in
     omega (arith, next)
 
-pairs_len : (l : Layout) → l.high ≡ true → keys_len l ≡ 2 * l.key_len
+pub pairs_len : (l : Layout) → l.high ≡ true → keys_len l ≡ 2 * l.key_len
 pairs_len l pairs = ap (λ (r : Bool). if r then 2 * l.key_len else l.key_len) pairs
 
 by_pairs : (r : Bool) (n : ℕ) → n ≤ (if r then 2 * n else n)

@@ -11,6 +11,7 @@ use Rattle.xfs_tree.specs.Layout.{header_len}
 use Rattle.xfs_tree.specs.Shape.{Shape}
 use Rattle.xfs_tree.specs.Blocks.{count_of, capacity, record_at, child_at, each_of}
 use Rattle.xfs_treebuild.specs.Packing.{share_of, first_of, block_in}
+use Rattle.xfs_treebuild.specs.Exact.{IsExact}
 use Rattle.xfs_treebuild.specs.Placed.{IsHeaded, IsLeafAt, IsNodeAt, IsChild, seat_of, seats_in}
 use Rattle.xfs_treebuild.proofs.PackingItems.{record_under_header, child_under_header}
 use Rattle.xfs_treebuild.proofs.PackingShares.{each_is, each_share, share_made}
@@ -54,9 +55,9 @@ module _ {R K : Type 0} (s : Shape R K) (v : Volume) where
       → share ≡ share_of (length records) (length row) i → first ≡ first_of (length records) (length row) i → first + share ≤ length records
       → ((k : ℕ) (d : R) → k < length (take (first + share - first) (drop first records))
       → record_at s mid k ≡ s.settled (get_or (take (first + share - first) (drop first records)) k d))
-      → IsHeaded v s.layout s.owner 0 row i new → count_of new ≡ share → KeepsParts mid new 0 (header_len s.layout)
+      → IsHeaded v s.layout s.owner 0 row i new → count_of new ≡ share → KeepsParts mid new 0 (header_len s.layout) → IsExact s new
       → IsLeafAt s v (map s.settled records) row i new
-  leaf_made records row i first share mid new share_is first_is inside at headed count same =
+  leaf_made records row i first share mid new share_is first_is inside at headed count same exact =
       let taken = take (first + share - first) (drop first records) in
       let rest = length-drop first records in
       let len : length taken ≡ first + share - first = length-take-le (first + share - first) (drop first records) (omega (arith, rest, inside)) in
@@ -65,6 +66,7 @@ module _ {R K : Type 0} (s : Shape R K) (v : Volume) where
         held = each_is s.settled (record_at s new) taken (count_of new) (omega (arith, count, len))
             (λ k d before. record_under_header s mid new k same ∙ at k d (omega (arith, before, count, len)))
             ∙ share_made s.settled records (length row) i first share share_is first_is;
+        exact = exact;
       }
 
   pub node_made : (level : ℕ) (below row : List ℕ) (i start from share : ℕ) (old now mid new : List ℕ)
@@ -73,9 +75,9 @@ module _ {R K : Type 0} (s : Shape R K) (v : Volume) where
       → ((k : ℕ) → k < length (take (from + share - from) (drop from below))
       → child_at s v mid k ≡ seat_of s level (get_or (take (from + share - from) (drop from below)) k 0) (block_in now (start + from + k)))
       → IsHeaded v s.layout s.owner (level + 1) row i new → count_of new ≡ share
-      → Keeps mid new 0 (header_len s.layout) → KeepsParts mid new 0 (header_len s.layout)
+      → Keeps mid new 0 (header_len s.layout) → KeepsParts mid new 0 (header_len s.layout) → IsExact s new
       → IsNodeAt s v (level + 1) (seats_in s level below start old) row i new
-  node_made level below row i start from share old now mid new share_is from_is inside before at headed count same same_parts =
+  node_made level below row i start from share old now mid new share_is from_is inside before at headed count same same_parts exact =
       let seat : ℕ → Seat K = λ j. seat_of s level (get_or below j 0) (block_in old (start + j)) in
       let seats = seats_in s level below start old in
       let taken = take (from + share - from) (drop from below) in
@@ -96,4 +98,5 @@ module _ {R K : Type 0} (s : Shape R K) (v : Volume) where
             ∙ ap₂ (λ (n a : ℕ). take n (drop a seats))
             (share_is ∙ ap (λ (n : ℕ). share_of n (length row) i) many)
             (from_is ∙ ap (λ (n : ℕ). first_of n (length row) i) many);
+        exact = exact;
       }

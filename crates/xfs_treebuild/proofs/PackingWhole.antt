@@ -8,14 +8,13 @@ use Rattle.std.proofs.lemmas.Bool.{cases_lt}
 use Rattle.std.proofs.lemmas.List.{length-take-le, length-drop, get_or-take, get_or-drop, drop-drop, take_all}
 use Rattle.xfs_disk.specs.Blocks.{Image}
 use Rattle.xfs_geom.specs.Volumes.{Volume}
-use Rattle.xfs_tree.specs.declared.layout.Layout.{Layout}
 use Rattle.xfs_tree.specs.declared.seats.Seat.{Seat}
 use Rattle.xfs_tree.specs.Shape.{Shape, IsKind}
 use Rattle.xfs_treebuild.specs.Size.{blocks_for, rows_above, rows_of}
 use Rattle.xfs_tree.specs.Blocks.{each_of, records_of, children_of}
 use Rattle.xfs_tree.specs.Rules.{are_lawful}
 use Rattle.xfs_tree.specs.Reading.{bytes_at}
-use Rattle.xfs_treebuild.specs.Packing.{block_in, lsn_of, Holds, rows_in, AreLeaves, AreNodes, AreRows, AreLevels, IsPacked}
+use Rattle.xfs_treebuild.specs.Packing.{block_in, Holds, rows_in, AreLeaves, AreNodes, AreRows, AreLevels, IsPacked}
 use Rattle.xfs_treebuild.specs.Placed.{share_in, seat_of, seats_in, IsLeafAt, IsNodeAt}
 use Rattle.xfs_treebuild.proofs.Rows.{rows_end, rows_next, levels_end}
 use Rattle.xfs_treebuild.proofs.PackingRows.{IsRising, rising_same}
@@ -172,17 +171,17 @@ module _ {R K : Type 0} (s : Shape R K) (v : Volume) where
   leaves_at xs places row part count is len at i less =
       subst (λ (r : List ℕ). IsLeafAt s v xs r i (block_in part i)) is (at i (omega (arith, less, len)))
 
--- no block has a log sequence number
-pub lsns_next : (l : Layout) (old new : List ℕ) (a b : ℕ) → ((k : ℕ) → k < a → block_in new k ≡ block_in old k)
-    → ((k : ℕ) → k < a → lsn_of l (block_in old k) ≡ 0) → ((i : ℕ) → i < b → lsn_of l (block_in new (a + i)) ≡ 0)
-    → (j : ℕ) → j < a + b → lsn_of l (block_in new j) ≡ 0
-lsns_next l old new a b before was next j less = by_place (cases_lt j a)
+-- what holds of each block of the rows below and of each of the next row
+pub each_next : (P : List ℕ → Type 0) (old new : List ℕ) (a b : ℕ) → ((k : ℕ) → k < a → block_in new k ≡ block_in old k)
+    → ((k : ℕ) → k < a → P (block_in old k)) → ((i : ℕ) → i < b → P (block_in new (a + i)))
+    → (j : ℕ) → j < a + b → P (block_in new j)
+each_next P old new a b before was next j less = by_place (cases_lt j a)
   where
-    by_place : (j < a) ⊎ (a ≤ j) → lsn_of l (block_in new j) ≡ 0
-    by_place (inl low) = ap (lsn_of l) (before j low) ∙ was j low
+    by_place : (j < a) ⊎ (a ≤ j) → P (block_in new j)
+    by_place (inl low) = subst P (sym (before j low)) (was j low)
     by_place (inr high) =
         let place : a + (j - a) ≡ j = omega arith in
-        subst (λ (k : ℕ). lsn_of l (block_in new k) ≡ 0) place (next (j - a) (omega arith))
+        subst (λ (k : ℕ). P (block_in new k)) place (next (j - a) (omega arith))
 
 -- the tree from its leaves on: what is packed once the rows above are
 module _ {R K : Type 0} (s : Shape R K) (v : Volume) (kind : IsKind s) (xs : List R) (lawful : are_lawful s v None xs ≡ true) (places : List ℕ) where

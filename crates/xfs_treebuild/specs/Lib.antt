@@ -1,3 +1,4 @@
 pub mod Size
 pub mod Packing
 pub mod Placed
+pub mod Exact

@@ -1,5 +1,6 @@
 -- What one block of a packed tree is, by its bytes and its place in a row (chapter "Common B+trees").
 use Rattle.std.specs.Prelude.{◌≡◌, ℕ, ◌+◌, ◌-◌, ◌≤◌, ◌==◌, true, if◌then◌else◌, List, length, take, drop, Option, Some, None, IsTrue, slice_get, slice_index_or}
+use Rattle.xfs_word.specs.Field.{field_of}
 use Rattle.xfs_word.specs.Seal.{is_sealed}
 use Rattle.xfs_geom.specs.Volumes.{Volume}
 use Rattle.xfs_tree.specs.declared.layout.Layout.{Layout}
@@ -8,6 +9,7 @@ use Rattle.xfs_tree.specs.Shape.{Shape}
 use Rattle.xfs_tree.specs.Blocks.{level_of, count_of, left_of, right_of, capacity, each_of, records_of, children_of}
 use Rattle.xfs_tree.specs.Rules.{block_seal, is_sibling, low_of, high_of}
 use Rattle.xfs_treebuild.specs.Packing.{share_of, first_of, block_in, lsn_of}
+use Rattle.xfs_treebuild.specs.Exact.{IsExact}
 
 -- the neighbours of the block at place i of a row
 abbrev pub left_in : List ℕ → ℕ → Option ℕ
@@ -20,11 +22,13 @@ right_in row i = slice_get row (i + 1)
 abbrev pub share_in : {A : Type 0} → List A → ℕ → ℕ → List A
 share_in items m i = take (share_of (length items) m i) (drop (first_of (length items) m i) items)
 
--- the block has the header of a block of the level at place i of a row, with no log sequence number, and is sealed
+-- the block has the header of a block of the level at place i of a row, with no log sequence number and
+-- with zeros where a long header has no field, and is sealed
 pub record IsHeaded (v : Volume) (l : Layout) (owner level : ℕ) (row : List ℕ) (i : ℕ) (block : List ℕ) : Type 0 where
   pub sealed : IsTrue (is_sealed (block_seal v l owner (slice_index_or row i 0)) block)
   pub at_level : level_of block ≡ level
   pub at_lsn : lsn_of l block ≡ 0
+  pub at_pad : l.long ≡ true → field_of block 68 4 ≡ 0
   pub at_left : IsTrue (is_sibling v l owner (left_in row i) (left_of l block))
   pub at_right : IsTrue (is_sibling v l owner (right_in row i) (right_of l block))
 
@@ -58,8 +62,10 @@ module _ {R K : Type 0} (s : Shape R K) (v : Volume) where
   pub record IsLeafAt (records : List R) (row : List ℕ) (i : ℕ) (block : List ℕ) : Type 0 where
     pub headed : IsHeaded v s.layout s.owner 0 row i block
     pub held : records_of s block ≡ share_in records (length row) i
+    pub exact : IsExact s block
 
   -- node i of the row of a level over these blocks
   pub record IsNodeAt (level : ℕ) (seats : List (Seat K)) (row : List ℕ) (i : ℕ) (block : List ℕ) : Type 0 where
     pub headed : IsHeaded v s.layout s.owner level row i block
     pub held : children_of s v block ≡ share_in seats (length row) i
+    pub exact : IsExact s block

@@ -1,9 +1,17 @@
 //! The blocks in a run of bytes.
 
 ghost use Rattle.std.specs.Prelude.{◌≡◌, ℕ, ◌+◌, ◌*◌, ◌<◌, ◌≤◌, ◌≢◌, length};
+ghost use Rattle.xfs_treebuild.specs.Exact.{IsClear};
 ghost use Rattle.xfs_treebuild.specs.Packing.{block_in};
 
 use xfs_word::put_part;
+
+/// A block of zeros.
+pub(crate) fn clear_block() -> [u8; 4096]
+    ensures { IsClear result }
+{
+    [0; 4096]
+}
 
 /// The block of a number.
 pub(crate) fn block_in(part: &[u8], j: usize) -> &[u8]

@@ -15,7 +15,10 @@ use crate::shares::{left_of, right_of};
 use xfs_geom::Geometry;
 use xfs_tree::headers::{long, short};
 use xfs_tree::{Kind, Layout, layout_of};
-use xfs_word::{Seal, SealKind, put_part, seal};
+use xfs_word::{Seal, SealKind, put_part, put32, seal};
+
+/// Where a long header has no field: its last 4 bytes.
+const LONG_PAD: usize = 68;
 
 /// What a header states beside the identifier of the volume.
 #[derive(Clone, Copy, Debug)]
@@ -117,6 +120,7 @@ pub(crate) fn put_header(g: &Geometry, layout: &Layout, header: &Header, block: 
     ensures lsn { lsn_of layout.now block.new ≡ 0 }
     ensures left { left_of layout.now block.new ≡ header.now.left }
     ensures right { right_of layout.now block.new ≡ header.now.right }
+    ensures pad { layout.now.long ≡ true → field_of block.new 68 4 ≡ 0 }
     ensures keeps { Keeps block.old block.new 0 (header_len layout.now) }
     ensures keeps_parts { KeepsParts block.old block.new 0 (header_len layout.now) }
 {
@@ -220,7 +224,7 @@ fn state_short_place(uuid: &[u8; 16], header: &Header, block: &mut [u8])
     short::OWNER.write(block, header.owner);
 }
 
-/// Writes and seals a header of a block whose tree belongs to an inode.
+/// Writes and seals a header of a block whose tree belongs to an inode, with zeros behind its fields.
 fn put_long(uuid: &[u8; 16], header: &Header, block: &mut [u8])
     requires block { length block.old ≡ 4096 }
     requires magic { header.now.magic ≡ 0x424d_4133 }
@@ -231,9 +235,11 @@ fn put_long(uuid: &[u8; 16], header: &Header, block: &mut [u8])
     ensures left { field_of block.new 8 8 ≡ header.now.left }
     ensures right { field_of block.new 16 8 ≡ header.now.right }
     ensures lsn { field_of block.new 32 8 ≡ 0 }
+    ensures pad { field_of block.new 68 4 ≡ 0 }
     ensures keeps { Keeps block.old block.new 0 72 }
     ensures keeps_parts { KeepsParts block.old block.new 0 72 }
 {
+    put32(block, LONG_PAD, 0);
     state_long(uuid, header, block);
     seal_block(SealKind::LongTree, uuid, header, block);
 }

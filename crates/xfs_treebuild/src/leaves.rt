@@ -4,12 +4,13 @@ ghost use Rattle.std.specs.Prelude.{◌≡◌, ℕ, ◌+◌, ◌*◌, ◌^◌, �
 ghost use Rattle.std.specs.List.{All};
 ghost use Rattle.xfs_word.specs.Field.{KeepsParts};
 ghost use Rattle.xfs_geom.specs.Volumes.{volume_of};
+ghost use Rattle.xfs_tree.specs.Layout.{header_len};
 ghost use Rattle.xfs_tree.specs.Blocks.{record_place, record_at};
 ghost use Rattle.xfs_tree.specs.Rules.{can_hold};
 ghost use Rattle.xfs_treebuild.specs.Packing.{block_in};
 ghost use Rattle.xfs_treebuild.specs.Placed.{IsLeafAt};
 
-use crate::blocks::put_block;
+use crate::blocks::{clear_block, put_block};
 use crate::heads::put_head;
 use crate::shares::share_of;
 use xfs_geom::Geometry;
@@ -34,7 +35,7 @@ pub(crate) fn write_leaves<K: Kind>(
     let mut first = 0;
     for i in 0..row.len() {
         let share = share_of(records.len(), row.len(), i);
-        let mut block = [0; 4096];
+        let mut block = clear_block();
         put_records(kind, &records[first..first + share], &mut block);
         put_head(kind, g, 0, share, row, i, &mut block);
         put_block(part, i, &block);
@@ -47,8 +48,9 @@ fn put_records<K: Kind>(kind: &K, records: &[K::Record], block: &mut [u8])
     requires block { length block.old ≡ 4096 }
     requires fits { All (λ r. IsTrue ((K.shape kind.now).fits r)) records.now }
     requires room { length records.now ≤ (K.shape kind.now).layout.leaf_cap }
-    ensures { (k : ℕ) (d : K.Record) → k < length records.now
+    ensures put { (k : ℕ) (d : K.Record) → k < length records.now
         → record_at (K.shape kind.now) block.new k ≡ (K.shape kind.now).settled (slice_index_or records.now k d) }
+    ensures keeps_parts { KeepsParts block.old block.new (header_len (K.shape kind.now).layout) (length records.now * (K.shape kind.now).layout.record_len) }
 {
     for (i, item) in records.iter().enumerate() {
         put_record_at(kind, item, i, block);

@@ -7,10 +7,11 @@ ghost use Rattle.xfs_geom.specs.Volumes.{volume_of};
 ghost use Rattle.xfs_tree.specs.Layout.{IsLayout, keys_len, pointer_len};
 ghost use Rattle.xfs_tree.specs.Blocks.{count_of, capacity, key_place, pointer_place, pointer_at, low_at, high_at, child_at};
 ghost use Rattle.xfs_tree.specs.Rules.{can_hold};
+ghost use Rattle.xfs_treebuild.specs.Exact.{KeepsBesideChild, KeepsBesideChildren, IsSpelt, HasSpeltKeys};
 ghost use Rattle.xfs_treebuild.specs.Packing.{block_in};
 ghost use Rattle.xfs_treebuild.specs.Placed.{IsNodeAt, IsChild, IsKey, seat_of, seats_in};
 
-use crate::blocks::{block_in, put_block};
+use crate::blocks::{block_in, clear_block, put_block};
 use crate::heads::{pointer_to, put_head};
 use crate::shares::share_of;
 use xfs_geom::Geometry;
@@ -41,7 +42,7 @@ pub(crate) fn write_nodes<K: Kind>(
     let mut from = 0;
     for i in 0..row.len() {
         let share = share_of(below.len(), row.len(), i);
-        let mut block = [0; 4096];
+        let mut block = clear_block();
         put_children(
             kind,
             g,
@@ -73,8 +74,10 @@ fn put_children<K: Kind>(
     requires room { length places.now ≤ (K.shape kind.now).layout.node_cap }
     requires can_hold { All (λ place. IsTrue (can_hold (volume_of g.now) (K.shape kind.now).layout (K.shape kind.now).owner place)) places.now }
     requires children { (j : ℕ) → j < length places.now → IsChild (K.shape kind.now) level (block_in part.now (from + j)) }
-    ensures { (k : ℕ) → k < length places.now → child_at (K.shape kind.now) (volume_of g.now) block.new k
+    ensures put { (k : ℕ) → k < length places.now → child_at (K.shape kind.now) (volume_of g.now) block.new k
         ≡ seat_of (K.shape kind.now) level (slice_index places.now k) (block_in part.now (from + k)) }
+    ensures spelt { (k : ℕ) → k < length places.now → HasSpeltKeys (K.shape kind.now) k block.new }
+    ensures keeps { KeepsBesideChildren (K.shape kind.now).layout (length places.now) block.old block.new }
 {
     for i in 0..places.len() {
         let seat = seat_of(kind, level, places[i], block_in(part, from + i));
@@ -110,6 +113,8 @@ fn put_child<K: Kind>(kind: &K, g: &Geometry, seat: &Seat<K::Key>, i: usize, blo
     requires one { (K.shape kind.now).layout.high ≡ false → seat.now.high ≡ None }
     ensures put { child_at (K.shape kind.now) (volume_of g.now) block.new i ≡ seat.now }
     ensures others { (k : ℕ) → k < i → child_at (K.shape kind.now) (volume_of g.now) block.new k ≡ child_at (K.shape kind.now) (volume_of g.now) block.old k }
+    ensures spelt { HasSpeltKeys (K.shape kind.now) i block.new }
+    ensures keeps { KeepsBesideChild (K.shape kind.now).layout i block.old block.new }
 {
     let layout = layout_of(kind);
     put_keys(kind, seat, i, block);
@@ -129,6 +134,9 @@ fn put_keys<K: Kind>(kind: &K, seat: &Seat<K::Key>, i: usize, block: &mut [u8])
     requires high { (K.shape kind.now).layout.high ≡ true → IsKey (K.shape kind.now) seat.now.high }
     ensures low { Some (low_at (K.shape kind.now) block.new i) ≡ seat.now.low }
     ensures high { (K.shape kind.now).layout.high ≡ true → Some (high_at (K.shape kind.now) block.new i) ≡ seat.now.high }
+    ensures spelt_low { IsSpelt (K.shape kind.now) (part_of block.new (key_place (K.shape kind.now).layout i) (K.shape kind.now).layout.key_len) }
+    ensures spelt_high { (K.shape kind.now).layout.high ≡ true
+        → IsSpelt (K.shape kind.now) (part_of block.new (key_place (K.shape kind.now).layout i + (K.shape kind.now).layout.key_len) (K.shape kind.now).layout.key_len) }
     ensures keeps { Keeps block.old block.new (key_place (K.shape kind.now).layout i) (keys_len (K.shape kind.now).layout) }
     ensures keeps_parts { KeepsParts block.old block.new (key_place (K.shape kind.now).layout i) (keys_len (K.shape kind.now).layout) }
 {
@@ -145,6 +153,7 @@ fn put_key<K: Kind>(kind: &K, key: Option<K::Key>, at: usize, block: &mut [u8])
     requires inside { at + (K.shape kind.now).layout.key_len ≤ length block.old }
     requires key { IsKey (K.shape kind.now) key }
     ensures put { Some ((K.shape kind.now).key_of (part_of block.new at (K.shape kind.now).layout.key_len)) ≡ key }
+    ensures spelt { IsSpelt (K.shape kind.now) (part_of block.new at (K.shape kind.now).layout.key_len) }
     ensures keeps { Keeps block.old block.new at (K.shape kind.now).layout.key_len }
     ensures keeps_parts { KeepsParts block.old block.new at (K.shape kind.now).layout.key_len }
 {

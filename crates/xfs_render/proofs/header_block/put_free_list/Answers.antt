@@ -5,6 +5,7 @@ use Rattle.xfs_word.specs.Field.{field_of}
 use Rattle.xfs_geom.specs.Volumes.{volume_of}
 use Rattle.xfs_heads.specs.FreeList.{agfl_of}
 use Rattle.xfs_heads.specs.FreeSpace.{has_free_list}
+use Rattle.xfs_heads.specs.Heads.{numbers}
 use Rattle.xfs_heads.specs.declared.free_list.Agfl.{Agfl}
 use Rattle.xfs_heads.specs.declared.free_space.Agf.{Agf}
 use Rattle.xfs_render.specs.Groups.{due_agf, due_agfl}
@@ -23,6 +24,16 @@ returns-clause-agfl c = λ crc.
     ap (agfl_of v c.args.ag agf) c.put_sector.ensures.put
     ∙ c.put_agfl.ensures.read agf refl (sym count) bounds
     ∙ ap (λ (a : Agfl). Some a) same
+
+pub returns-clause-entries : goal.returns-clause-entries
+returns-clause-entries c =
+    let p = c.args.placed.now in
+    let listed = c.as_slice.ensures in
+    let count : c.new.result.count ≡ length p.agfl = c.new.ensures.count ∙ ap length listed in
+    let same : c.new.result ≡ due_agfl p = agfl_is p c.new.result count (c.new.ensures.active ∙ listed) c.new.ensures.unused in
+    ap (λ (sector : List ℕ). numbers sector 36 119) c.put_sector.ensures.put
+    ∙ c.put_agfl.ensures.entries
+    ∙ ap (λ (a : Agfl). a.entries) same
 
 pub returns-clause-lsn : goal.returns-clause-lsn
 returns-clause-lsn c = ap (λ (sector : List ℕ). field_of sector 24 8) c.put_sector.ensures.put ∙ c.put_agfl.ensures.lsn

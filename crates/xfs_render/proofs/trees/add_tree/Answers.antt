@@ -1,6 +1,7 @@
-use Rattle.std.proofs.Common.{◌≡◌, ◌∙◌, ◌≤◌, List, ℕ, length, drop, ap, subst, arith, take_all}
+use Rattle.std.proofs.Common.{◌≡◌, ◌∙◌, ◌≤◌, List, ℕ, length, drop, ap, sym, subst, arith, take_all}
 use Rattle.std.proofs.lemmas.List.{take-append-le}
 use Rattle.std.proofs.lemmas.List.Elements.{All-from_get_or}
+use Rattle.xfs_treebuild.specs.Exact.{IsExact}
 use Rattle.xfs_treebuild.specs.Packing.{Holds, lsn_of}
 use Rattle.xfs_tree.specs.Reading.{bytes_at}
 use Rattle.xfs_render.proofs.trees.add_tree.Goals as goal
@@ -13,7 +14,8 @@ returns g c =
     let high : length part ≤ n = omega (arith, c.pack.ensures.len, c.deref_mut.ensures.len) in
     let same : c.deref.result.now ≡ part =
     c.deref.ensures.value ∙ take-append-le n part (drop (length part) c.in_ok-part.part.items) low ∙ take_all n part high in
-    let layout = (g.K.Kind.shape c.args.kind.now).layout in
+    let s = g.K.Kind.shape c.args.kind.now in
+    let layout = s.layout in
     let places = c.args.places.now in
     record {
       adds = c.in_ok-add.ensures.adds;
@@ -21,7 +23,10 @@ returns g c =
           let blocks : Holds image places part = subst (λ (b : List ℕ). Holds image places b) same (c.in_ok-add.ensures.held image held) in
           record {
             reads = c.pack.ensures.reads image blocks;
+            packed = c.pack.ensures.packed image blocks;
             lsns = All-from_get_or (λ place. lsn_of layout (bytes_at image place) ≡ 0) places 0
                 (λ j inside. ap (lsn_of layout) (blocks j inside) ∙ c.pack.ensures.lsns j inside);
+            exact = All-from_get_or (λ place. IsExact s (bytes_at image place)) places 0
+                (λ j inside. subst (IsExact s) (sym (blocks j inside)) (c.pack.ensures.exact j inside));
           };
     }

@@ -35,7 +35,7 @@ returns-clause-headed g c =
     headed_by (volume_of c.args.g.now) c.layout_of-layout.result s.layout c.owner-owner.result s.owner c.args.level row c.args.i (get_or row c.args.i 0)
     c.sibling.result c.sibling-2.result c.left_of.result c.right_of.result c.put_header.new.block
     c.layout_of-layout.ensures.value c.owner-owner.ensures.value refl c.left_of.ensures c.right_of.ensures
-    e.sealed e.level e.lsn e.left c.sibling.ensures.value e.right c.sibling-2.ensures.value
+    e.sealed e.level e.lsn e.pad e.left c.sibling.ensures.value e.right c.sibling-2.ensures.value
 
 pub returns-clause-keeps : goal.returns-clause-keeps
 returns-clause-keeps g c =

@@ -5,6 +5,7 @@ use Rattle.xfs_tree.specs.declared.layout.Layout.{Layout}
 use Rattle.xfs_tree.specs.Layout.{pointer_len}
 use Rattle.xfs_tree.specs.Blocks.{pointer_place, pointer_at, block_of_pointer}
 use Rattle.xfs_treebuild.proofs.PackingItems.{child_beside, child_put}
+use Rattle.xfs_treebuild.proofs.PackingExact.{keys_put}
 use Rattle.xfs_treebuild.proofs.nodes.put_child.Goals as goal
 
 pub returns-clause-others : goal.returns-clause-others
@@ -17,6 +18,21 @@ returns-clause-others g c =
     let pointers_parts = subst (λ (l : Layout). KeepsParts mid new (pointer_place l c.args.i) (pointer_len l)) value c.put_pointer.ensures.keeps_parts in
     λ k before.
     child_beside s (volume_of c.args.g.now) c.args.block.now mid new k c.args.i before c.requires.inside c.put_keys.ensures.keeps c.put_keys.ensures.keeps_parts pointers pointers_parts
+
+pub returns-clause-keeps : goal.returns-clause-keeps
+returns-clause-keeps g c =
+    let mid = c.put_keys.new.block in
+    let new = c.put_pointer.new.block in
+    let pointers = subst (λ (l : Layout). KeepsParts mid new (pointer_place l c.args.i) (pointer_len l)) c.layout_of-layout.ensures.value c.put_pointer.ensures.keeps_parts in
+    λ a w keys pointer. pointers a w pointer ∙ c.put_keys.ensures.keeps_parts a w keys
+
+pub returns-clause-spelt : goal.returns-clause-spelt
+returns-clause-spelt g c =
+    let mid = c.put_keys.new.block in
+    let new = c.put_pointer.new.block in
+    let pointers = subst (λ (l : Layout). KeepsParts mid new (pointer_place l c.args.i) (pointer_len l)) c.layout_of-layout.ensures.value c.put_pointer.ensures.keeps_parts in
+    keys_put (g.K.Kind.shape c.args.kind.now) mid new c.args.i c.requires.inside pointers
+    (record { low = c.put_keys.ensures.spelt_low; high = c.put_keys.ensures.spelt_high })
 
 pub returns-clause-put : goal.returns-clause-put
 returns-clause-put g c =

@@ -1,8 +1,9 @@
-use Rattle.std.proofs.Common.{◌≡◌, ℕ, ◌+◌, get_or, below_more, ◌∙◌, ap}
+use Rattle.std.proofs.Common.{◌≡◌, ℕ, ◌+◌, get_or, below_more, ◌<◌, ◌∙◌, ap, arith}
 use Rattle.xfs_geom.specs.Volumes.{volume_of}
 use Rattle.xfs_tree.specs.Blocks.{child_at}
 use Rattle.xfs_treebuild.specs.Packing.{block_in}
 use Rattle.xfs_treebuild.specs.Placed.{seat_of}
+use Rattle.xfs_treebuild.proofs.PackingExact.{children_on, keys_more}
 use Rattle.xfs_treebuild.proofs.PackingSeats.{seat_low, seat_high, seat_one}
 use Rattle.xfs_treebuild.proofs.nodes.put_children.Goals as goal
 
@@ -37,6 +38,11 @@ loop-i-preserved g c =
     let level = c.args.level in
     let places = c.args.places.now in
     let i = c.loop-i.i in
-    below_more (λ (k : ℕ). child_at s v c.put_child.new.block k ≡ seat_of s level (get_or places k 0) (block_in c.args.part.now (c.args.from + k))) i
-    (λ k before. c.put_child.ensures.others k before ∙ c.loop-i.invariant k before)
-    (c.put_child.ensures.put ∙ c.seat_of-seat.ensures ∙ ap (seat_of s level (get_or places i 0)) c.block_in.ensures.value)
+    let inside : i < s.layout.node_cap = omega (arith, c.loop-i-test.true, c.requires.room) in
+    record {
+      put = below_more (λ (k : ℕ). child_at s v c.put_child.new.block k ≡ seat_of s level (get_or places k 0) (block_in c.args.part.now (c.args.from + k))) i
+          (λ k before. c.put_child.ensures.others k before ∙ c.loop-i.invariant.put k before)
+          (c.put_child.ensures.put ∙ c.seat_of-seat.ensures ∙ ap (seat_of s level (get_or places i 0)) c.block_in.ensures.value);
+      spelt = keys_more s c.loop-i.block c.put_child.new.block i inside c.put_child.ensures.keeps c.loop-i.invariant.spelt c.put_child.ensures.spelt;
+      keeps = children_on s.layout c.args.block.now c.loop-i.block c.put_child.new.block i c.loop-i.invariant.keeps c.put_child.ensures.keeps;
+    }

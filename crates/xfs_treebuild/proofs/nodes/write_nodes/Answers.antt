@@ -1,7 +1,9 @@
-use Rattle.std.proofs.Common.{◌≤◌, ◌+◌, ◌≢◌, length, ℕ, sym, ◌∙◌, ap, subst, arith}
+use Rattle.std.proofs.Common.{◌≡◌, ◌≤◌, ◌+◌, ◌-◌, ◌≢◌, length, take, drop, ℕ, sym, ◌∙◌, ap, subst, arith}
 use Rattle.xfs_geom.specs.Volumes.{volume_of}
 use Rattle.xfs_treebuild.specs.Packing.{share_of}
 use Rattle.xfs_treebuild.specs.Placed.{IsNodeAt, seats_in}
+use Rattle.xfs_treebuild.specs.Exact.{KeepsBesideChildren}
+use Rattle.xfs_treebuild.proofs.PackingExact.{node_exact, share_length}
 use Rattle.xfs_treebuild.proofs.PackingMade.{children_here, node_made, node_room, one_more}
 use Rattle.xfs_treebuild.proofs.PackingShares.{share_most}
 use Rattle.xfs_treebuild.proofs.nodes.write_nodes.Goals as goal
@@ -26,10 +28,20 @@ loop-i-preserved g c =
     let share = c.share_of-share.ensures in
     let start = c.loop-i.invariant.start in
     let base = c.args.first + length c.args.below.now in
+    let law = g.met.K.Kind g.world.𝓛 g.world.𝓜 g.world.𝓡 ((λ s x. x), (λ x. x), (λ x. x), λ x. x) in
+    let most : share_of (length c.args.below.now) (length c.args.row.now) c.loop-i.i ≤ s.layout.node_cap =
+    share_most (length c.args.below.now) (length c.args.row.now) c.loop-i.i s.layout.node_cap c.loop-i-test.true c.requires.room in
+    let len : length (take (c.loop-i.from + c.share_of-share.result - c.loop-i.from) (drop c.loop-i.from c.args.below.now)) ≡ c.share_of-share.result =
+    share_length c.args.below.now c.loop-i.from c.share_of-share.result (omega (arith, share.inside, start)) in
+    let exact = node_exact s v c.args.level c.args.row.now c.loop-i.i c.share_of-share.result c.clear_block-block.result c.put_children.new.block c.put_head.new.block
+    (law.kind c.args.kind.now).laid_out (omega (arith, most, share.value)) c.clear_block-block.ensures
+    (subst (λ (n : ℕ). KeepsBesideChildren s.layout n c.clear_block-block.result c.put_children.new.block) len c.put_children.ensures.keeps)
+    c.put_head.ensures.keeps_parts (λ k less. c.put_children.ensures.spelt k (omega (arith, less, len)))
+    c.put_head.ensures.headed c.put_head.ensures.count in
     let made = node_made s v c.args.level c.args.below.now c.args.row.now c.loop-i.i c.args.first c.loop-i.from c.share_of-share.result
     c.args.part.now c.loop-i.part c.put_children.new.block c.put_head.new.block
-    share.value start (omega (arith, share.inside, start)) c.loop-i.invariant.before c.put_children.ensures
-    c.put_head.ensures.headed c.put_head.ensures.count c.put_head.ensures.keeps c.put_head.ensures.keeps_parts in
+    share.value start (omega (arith, share.inside, start)) c.loop-i.invariant.before c.put_children.ensures.put
+    c.put_head.ensures.headed c.put_head.ensures.count c.put_head.ensures.keeps c.put_head.ensures.keeps_parts exact in
     record {
       start = ap (λ (a : ℕ). a + c.share_of-share.result) start ∙ sym share.next;
       nodes = one_more (IsNodeAt s v (c.args.level + 1) (seats_in s c.args.level c.args.below.now c.args.first c.args.part.now) c.args.row.now)

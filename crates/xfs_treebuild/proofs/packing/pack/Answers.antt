@@ -4,13 +4,14 @@ use Rattle.std.proofs.lemmas.List.{length-map}
 use Rattle.xfs_geom.specs.Volumes.{volume_of}
 use Rattle.xfs_tree.specs.declared.layout.Layout.{Layout}
 use Rattle.xfs_treebuild.specs.Size.{blocks_for, rows_above}
-use Rattle.xfs_treebuild.specs.Packing.{block_in}
+use Rattle.xfs_treebuild.specs.Exact.{IsExact}
+use Rattle.xfs_treebuild.specs.Packing.{block_in, lsn_of}
 use Rattle.xfs_treebuild.proofs.Rows.{levels_begin, level_more, levels_end}
 use Rattle.xfs_treebuild.proofs.PackingShares.{blocks_room, blocks_few}
 use Rattle.xfs_treebuild.proofs.PackingOrder.{settled_lawful}
 use Rattle.xfs_treebuild.proofs.PackingLeaves.{fits}
 use Rattle.xfs_treebuild.proofs.PackedTree.{reads_where_held}
-use Rattle.xfs_treebuild.proofs.PackingWhole.{nodes_rising, nodes_at, low_level, next_low, leaves_at, lsns_next, begin_leads, begin_rises, next_leads, end_leads}
+use Rattle.xfs_treebuild.proofs.PackingWhole.{nodes_rising, nodes_at, low_level, next_low, leaves_at, each_next, begin_leads, begin_rises, next_leads, end_leads}
 use Rattle.xfs_treebuild.proofs.packing.pack.Goals as goal
 
 pub write_leaves-requires-clause-fits : goal.write_leaves-requires-clause-fits
@@ -69,6 +70,7 @@ loop-count-init g c =
       size = omega (arith, total);
       low = omega (arith, c.blocks_for-count.ensures.few, c.requires.few);
       lsns = λ j less. (at j (omega (arith, less))).headed.at_lsn;
+      exact = λ j less. (at j (omega (arith, less))).exact;
       rising = λ two.
           let few : blocks_for s.layout.leaf_cap (length xs) ≤ length xs = blocks_few s.layout.leaf_cap (length xs) (omega (arith, two, value)) in
           begin_rises s v kind xs lawful places part count some inside room (omega (arith, few, value)) at;
@@ -142,7 +144,8 @@ loop-count-preserved g c =
       some = some;
       size = size;
       low = next_low level count above half inv.low;
-      lsns = lsns_next s.layout old new (first + count) above before inv.lsns (λ i less. (at i less).headed.at_lsn);
+      lsns = each_next (λ block. lsn_of s.layout block ≡ 0) old new (first + count) above before inv.lsns (λ i less. (at i less).headed.at_lsn);
+      exact = each_next (IsExact s) old new (first + count) above before inv.exact (λ i less. (at i less).exact);
       rising = λ _. nodes_rising s v places old new level first count above some enough room inside (inv.rising more) at;
       rows = next_leads s v kind xs lawful places old new level first count above two more value some enough room inside (inv.rising more) before at inv.rows;
     }
@@ -154,6 +157,14 @@ returns-clause-lsns g c =
     let all : c.loop-count.first + c.loop-count.count ≡ length c.args.places.now =
     levels_end cap' c.loop-count.count (c.loop-count.first + c.loop-count.count) (length c.args.places.now) (omega (arith, c.loop-count-test.false)) inv.size in
     λ j less. inv.lsns j (omega (arith, less, all))
+
+pub returns-clause-exact : goal.returns-clause-exact
+returns-clause-exact g c =
+    let cap' = (g.K.Kind.shape c.args.kind.now).layout.node_cap in
+    let inv = c.loop-count.invariant in
+    let all : c.loop-count.first + c.loop-count.count ≡ length c.args.places.now =
+    levels_end cap' c.loop-count.count (c.loop-count.first + c.loop-count.count) (length c.args.places.now) (omega (arith, c.loop-count-test.false)) inv.size in
+    λ j less. inv.exact j (omega (arith, less, all))
 
 pub returns-clause-packed : goal.returns-clause-packed
 returns-clause-packed g c =
