@@ -7,3 +7,6 @@ pub mod Same
 pub mod Standing
 pub mod Placing
 pub mod Filling
+pub mod Spelling
+pub mod Bytes
+pub mod ShortBytes

@@ -4,3 +4,4 @@ pub mod Short
 pub mod Best
 pub mod Data
 pub mod Written
+pub mod Bytes

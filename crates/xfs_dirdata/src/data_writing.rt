@@ -6,6 +6,7 @@ ghost use Rattle.xfs_dirdata.specs.declared.records.EntryRec.{EntryRec};
 ghost use Rattle.xfs_dirdata.specs.Sizes.{data_size};
 ghost use Rattle.xfs_dirdata.specs.Best.{bests_of};
 ghost use Rattle.xfs_dirdata.specs.Data.{is_span, best_at, stated_bests, area_of};
+ghost use Rattle.xfs_dirdata.specs.Bytes.{data_bytes};
 ghost use Rattle.xfs_dirdata.specs.Written.{IsWritable, data_length, zeros, IsDataEntry, AreDataEntries, first_entries, placed_entries, IsUnused, rest_span, written_area};
 
 use crate::best::bestfree;
@@ -35,6 +36,9 @@ pub fn put_data(entries: &[EntryRec], first: Option<(u64, u64)>, block: &mut [u8
     ensures longest { result < length entries.now → length block.old < 64 + data_length (placed_entries first entries.now (result + 1)) }
     ensures read { (dir : ℕ) → area_of dir block.new ≡ Some (written_area dir (placed_entries first entries.now result) (length block.old)) }
     ensures stand { AreDataEntries block.new 64 (placed_entries first entries.now result) }
+
+    // Each byte that is written: no other byte of the old block is left behind the first 48.
+    ensures bytes { part_of block.new 48 (length block.old - 48) ≡ data_bytes (placed_entries first entries.now result) (length block.old) }
     ensures padding { field_of block.new 60 4 ≡ 0 }
     ensures others { SameBeside block.old block.new 48 (length block.old - 48) }
 {

@@ -4,6 +4,7 @@ ghost use Rattle.std.specs.Prelude.{◌≡◌, ℕ, ◌+◌, ◌<◌, ◌≤◌,
 ghost use Rattle.xfs_word.specs.Field.{field_of, part_of, SameBeside, Keeps, KeepsParts};
 ghost use Rattle.xfs_dirdata.specs.Sizes.{data_size, short_size};
 ghost use Rattle.xfs_dirdata.specs.Short.{short_of, index_size};
+ghost use Rattle.xfs_dirdata.specs.Bytes.{short_bytes};
 ghost use Rattle.xfs_dirdata.specs.Written.{IsWritable, in_directory, short_length, data_length, IsShortEntry, AreShortEntries};
 
 use crate::layouts::short_form::{COUNT, HEADER_SIZE, I8COUNT, NAME, NAMELEN, OFFSET, PARENT};
@@ -23,6 +24,9 @@ pub fn put_short(parent: u64, entries: &[EntryRec], form: &mut [u8]) -> usize
     ensures size { result ≡ 6 + short_length entries.now }
     ensures read { (dir : ℕ) → short_of dir (take result form.new) ≡ Some (record { parent = parent; entries = map (in_directory dir) entries.now }) }
     ensures stand { AreShortEntries form.new 6 96 entries.now }
+
+    // Each byte of the form.
+    ensures bytes { take result form.new ≡ short_bytes parent entries.now }
     ensures others { SameBeside form.old form.new 0 result }
 {
     put_header(parent, entries.len() as u8, form);
