@@ -1,17 +1,14 @@
 -- What the parts of a catalog keep gives what each check asks.
-use Rattle.std.proofs.Common.{◌≡◌, ℕ, zero, suc, ◌+◌, ◌<◌, ◌≤◌, Bool, true, false, ◌&&◌, List, [], ◌∷◌, length, map, get_or, Option, Some, None, IsTrue, refl, sym, ap, ◌∙◌, arith}
-use Rattle.std.specs.List.{All}
-use Rattle.std.proofs.lemmas.Bool.{and_from}
+use Rattle.std.proofs.Common.{ℕ, zero, suc, ◌+◌, ◌<◌, ◌≤◌, Bool, true, false, ◌&&◌, List, [], ◌∷◌, length, get_or, Option, Some, None, IsTrue, refl, arith}
 use Rattle.xfs_geom.specs.Volumes.{Volume}
 use Rattle.xfs_geom.specs.declared.records.InoRec.{InoRec}
 use Rattle.xfs_tree.specs.Rules.{are_lawful}
-use Rattle.xfs_tree.specs.Shape.{Shape}
 use Rattle.xfs_kinds.specs.InodeTrees.{inode_shape, is_holemask}
 use Rattle.xfs_volume.specs.declared.files.FileRec.{FileRec}
 use Rattle.xfs_volume.specs.declared.groups.GroupRec.{GroupRec}
-use Rattle.xfs_space.specs.Parts.{AreGroups, IsGroup}
+use Rattle.xfs_space.specs.Parts.{AreGroups}
 use Rattle.xfs_naming.specs.Naming.{Ascend, numbers_of}
-use Rattle.xfs_laws.specs.Counting.{AllHaveChunks, AreChunks, AreOrdered, AreShort, HasChunks}
+use Rattle.xfs_laws.specs.Counting.{AllHaveChunks, AreChunks, AreOrdered, AreShort}
 
 -- the first and the second of two tests that both pass
 left : (a b : Bool) → IsTrue (a && b) → IsTrue a

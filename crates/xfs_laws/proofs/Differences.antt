@@ -1,5 +1,5 @@
 -- The first of the places where two lists differ, as a law.
-use Rattle.std.proofs.Common.{◌≡◌, ℕ, ◌==◌, List, [], ◌∷◌, ◌≤◌, length, map, filter, drop, Bool, Option, None, refl, sym, ap, ◌∙◌}
+use Rattle.std.proofs.Common.{◌≡◌, ℕ, List, [], ◌∷◌, ◌≤◌, length, map, filter, drop, Bool, None, sym, ap, ◌∙◌}
 use Rattle.std.proofs.lemmas.List.{drop_all}
 use Rattle.xfs_volume.specs.Laws.{first_broken, first_difference, law_at}
 

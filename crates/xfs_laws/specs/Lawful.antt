@@ -1,7 +1,7 @@
 -- When a volume is lawful: ten laws, judged in this order, hold at each of their places.
-use Rattle.std.specs.Prelude.{ℕ, ◌≡◌, ◌≢◌, ◌<◌, List, ◌++◌, length, Option, Some, None, Result, Ok, Err}
+use Rattle.std.specs.Prelude.{◌≡◌, ◌≢◌, ◌<◌, List, ◌++◌, length, Option, Some, None, Result, Ok, Err}
 use Rattle.std.specs.List.{All}
-use Rattle.xfs_geom.specs.Volumes.{Volume, volume_of}
+use Rattle.xfs_geom.specs.Volumes.{volume_of}
 use Rattle.xfs_volume.specs.declared.catalogs.BlockLsn.{BlockLsn}
 use Rattle.xfs_volume.specs.declared.catalogs.Catalog.{Catalog}
 use Rattle.xfs_volume.specs.declared.findings.Law.{Law}

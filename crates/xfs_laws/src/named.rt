@@ -1,7 +1,7 @@
 //! What the names of a catalog keep by themselves, before any law: their order.
 
-ghost use Rattle.std.specs.Prelude.{◌≡◌, ◌+◌, ◌<◌, ◌≤◌, ◌==◌, true, map, filter, length, take, drop, slice_index_or, IsTrue};
-ghost use Rattle.std.specs.List.{list_all};
+ghost use Rattle.std.specs.Prelude.{◌≡◌, ◌+◌, ◌<◌, ◌≤◌, ◌==◌, ◌↔◌, map, filter, length, drop, slice_index_or, IsTrue};
+ghost use Rattle.std.specs.List.{prefix_len};
 ghost use Rattle.xfs_dirdata.specs.declared.records.EntryRec.{EntryRec};
 ghost use Rattle.xfs_volume.specs.Names.{is_directory};
 ghost use Rattle.xfs_volume.specs.declared.directories.DirRec.{DirRec};
@@ -14,7 +14,7 @@ use xfs_volume::{DirRec, FileRec};
 /// Whether files ascend by number, each directory among them has its record, and the entries of the directories stand in
 /// the same order.
 pub fn are_named(files: &[FileRec], entries: &[EntryRec], dirs: &[DirRec]) -> bool
-    ensures { IsTrue result → AreNamed files.now entries.now dirs.now }
+    ensures { IsTrue result ↔ AreNamed files.now entries.now dirs.now }
 {
     if !ascend(files) {
         return false;
@@ -27,21 +27,22 @@ pub fn are_named(files: &[FileRec], entries: &[EntryRec], dirs: &[DirRec]) -> bo
 
 /// Whether files ascend by number.
 fn ascend(files: &[FileRec]) -> bool
-    ensures { IsTrue result → Ascend 0 (numbers_of files.now) }
+    ensures { IsTrue result ↔ Ascend 0 (numbers_of files.now) }
 {
+    // Behind the last of all numbers none can come, so what may come next has more bits.
     let mut least = 0;
     for file in files {
-        if file.ino < least || file.ino == u64::MAX {
+        if (file.ino as u128) < least {
             return false;
         }
-        least = file.ino + 1;
+        least = file.ino as u128 + 1;
     }
     true
 }
 
 /// Whether these are the directories among the files.
 fn are_directories(files: &[FileRec], dirs: &[DirRec]) -> bool
-    ensures { IsTrue result → map (λ (d : DirRec). d.ino) dirs.now ≡ map (λ (f : FileRec). f.ino) (filter is_directory files.now) }
+    ensures { IsTrue result ↔ map (λ (d : DirRec). d.ino) dirs.now ≡ map (λ (f : FileRec). f.ino) (filter is_directory files.now) }
 {
     let mut at = 0;
     for file in files {
@@ -67,7 +68,7 @@ fn is_directory(file: &FileRec) -> bool
 
 /// Whether the entries are those of the directories, in their order.
 fn are_grouped(dirs: &[DirRec], entries: &[EntryRec]) -> bool
-    ensures { IsTrue result → AreGrouped dirs.now entries.now }
+    ensures { IsTrue result ↔ AreGrouped dirs.now entries.now }
 {
     let mut at = 0;
     for index in 0..dirs.len() {
@@ -80,7 +81,7 @@ fn are_grouped(dirs: &[DirRec], entries: &[EntryRec]) -> bool
 fn own_entries(dirs: &[DirRec], index: usize, entries: &[EntryRec], at: usize) -> usize
     requires index { index < length dirs.now }
     requires at { at ≤ length entries.now }
-    ensures own { (d : DirRec) → list_all (λ (e : EntryRec). e.dir == (slice_index_or dirs.now index d).ino) (take result (drop at entries.now)) ≡ true }
+    ensures own { (d : DirRec) → result ≡ prefix_len (λ (e : EntryRec). e.dir == (slice_index_or dirs.now index d).ino) (drop at entries.now) }
     ensures within { at + result ≤ length entries.now }
 {
     count_own(&entries[at..], dirs[index].ino)
@@ -88,15 +89,13 @@ fn own_entries(dirs: &[DirRec], index: usize, entries: &[EntryRec], at: usize) -
 
 /// How many entries at the start are those of a directory.
 fn count_own(entries: &[EntryRec], dir: u64) -> usize
-    ensures own { list_all (λ (e : EntryRec). e.dir == dir) (take result entries.now) ≡ true }
+    ensures own { result ≡ prefix_len (λ (e : EntryRec). e.dir == dir) entries.now }
     ensures within { result ≤ length entries.now }
 {
-    let mut count = 0;
-    for entry in entries {
+    for (index, entry) in entries.iter().enumerate() {
         if entry.dir != dir {
-            return count;
+            return index;
         }
-        count += 1;
     }
-    count
+    entries.len()
 }

@@ -1,6 +1,6 @@
 //! What the parts of a catalog keep by themselves, before any law.
 
-ghost use Rattle.std.specs.Prelude.{◌≡◌, ◌<◌, ◌≤◌, length, None, IsTrue};
+ghost use Rattle.std.specs.Prelude.{◌≡◌, ◌<◌, ◌≤◌, ◌↔◌, length, None, IsTrue};
 ghost use Rattle.std.specs.List.{All};
 ghost use Rattle.xfs_geom.specs.Volumes.{volume_of};
 ghost use Rattle.xfs_tree.specs.Rules.{are_lawful};
@@ -22,7 +22,7 @@ const ENTRIES: u32 = 119;
 /// Whether the groups of a volume, from the first on, are sound by themselves.
 pub fn are_groups(g: &Geometry, groups: &[GroupRec]) -> bool
     requires { length groups.now ≤ g.now.agcount }
-    ensures { IsTrue result → AreGroups (volume_of g.now) 0 groups.now }
+    ensures { IsTrue result ↔ AreGroups (volume_of g.now) 0 groups.now }
 {
     let mut ag = 0;
     for group in groups {
@@ -38,7 +38,7 @@ pub fn are_groups(g: &Geometry, groups: &[GroupRec]) -> bool
 /// its trees stand in the group.
 fn is_group(g: &Geometry, ag: u32, group: &GroupRec) -> bool
     requires { ag < g.now.agcount }
-    ensures { IsTrue result → IsGroup (volume_of g.now) ag group.now }
+    ensures { IsTrue result ↔ IsGroup (volume_of g.now) ag group.now }
 {
     if group.agfl.count > ENTRIES {
         return false;
@@ -83,7 +83,7 @@ fn are_lawful<K: Kind>(kind: &K, g: &Geometry, records: &[K::Record]) -> bool
 
 /// Whether all blocks of some trees lie in a group.
 fn are_trees(g: &Geometry, ag: u32, trees: &[TreeBlocks]) -> bool
-    ensures { IsTrue result → All (λ (tree : TreeBlocks). AreOfGroup (volume_of g.now) ag tree.blocks) trees.now }
+    ensures { IsTrue result ↔ All (λ (tree : TreeBlocks). AreOfGroup (volume_of g.now) ag tree.blocks) trees.now }
 {
     for tree in trees {
         if !are_of_group(g, ag, tree.blocks.as_slice()) {
@@ -95,7 +95,7 @@ fn are_trees(g: &Geometry, ag: u32, trees: &[TreeBlocks]) -> bool
 
 /// Whether some blocks lie in a group.
 fn are_of_group(g: &Geometry, ag: u32, blocks: &[u64]) -> bool
-    ensures { IsTrue result → AreOfGroup (volume_of g.now) ag blocks.now }
+    ensures { IsTrue result ↔ AreOfGroup (volume_of g.now) ag blocks.now }
 {
     for block in blocks {
         if *block >= g.dblocks || *block / g.agblocks as u64 != ag as u64 {
@@ -107,7 +107,7 @@ fn are_of_group(g: &Geometry, ag: u32, blocks: &[u64]) -> bool
 
 /// Whether some files are sound by themselves: their extents are lawful and their trees stand in the volume.
 pub fn are_files(g: &Geometry, files: &[FileRec]) -> bool
-    ensures { IsTrue result → All (IsFile (volume_of g.now)) files.now }
+    ensures { IsTrue result ↔ All (IsFile (volume_of g.now)) files.now }
 {
     for file in files {
         if !is_file(g, file) {
@@ -119,7 +119,7 @@ pub fn are_files(g: &Geometry, files: &[FileRec]) -> bool
 
 /// Whether a file is sound by itself.
 fn is_file(g: &Geometry, file: &FileRec) -> bool
-    ensures { IsTrue result → IsFile (volume_of g.now) file.now }
+    ensures { IsTrue result ↔ IsFile (volume_of g.now) file.now }
 {
     let kind = Bmbt { ino: file.ino };
     if !are_lawful(&kind, g, file.extents.as_slice()) {
@@ -133,7 +133,7 @@ fn is_file(g: &Geometry, file: &FileRec) -> bool
 
 /// Whether some blocks lie in the volume.
 fn are_of_volume(g: &Geometry, blocks: &[u64]) -> bool
-    ensures { IsTrue result → All (λ block. block < g.now.dblocks) blocks.now }
+    ensures { IsTrue result ↔ All (λ block. block < g.now.dblocks) blocks.now }
 {
     for block in blocks {
         if *block >= g.dblocks {
@@ -145,7 +145,7 @@ fn are_of_volume(g: &Geometry, blocks: &[u64]) -> bool
 
 /// Whether some log sequence numbers stand in blocks of the volume.
 pub fn are_lsns(g: &Geometry, lsns: &[BlockLsn]) -> bool
-    ensures { IsTrue result → All (λ (l : BlockLsn). l.block < g.now.dblocks) lsns.now }
+    ensures { IsTrue result ↔ All (λ (l : BlockLsn). l.block < g.now.dblocks) lsns.now }
 {
     for lsn in lsns {
         if lsn.block >= g.dblocks {

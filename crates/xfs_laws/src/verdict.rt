@@ -1,6 +1,6 @@
 //! Whether a volume is lawful.
 
-ghost use Rattle.std.specs.Prelude.{◌≡◌, None, IfErr, IfOk, IsTrue, OnOk};
+ghost use Rattle.std.specs.Prelude.{◌≡◌, ◌↔◌, None, IfErr, IfOk, IsTrue, OnOk};
 ghost use Rattle.xfs_geom.specs.Volumes.{volume_of};
 ghost use Rattle.xfs_naming.specs.Lawful.{IsNamingLawful};
 ghost use Rattle.xfs_space.specs.SpaceLaws.{IsSpaceLawful};
@@ -85,8 +85,10 @@ fn check_counts(catalog: &Catalog) -> Option<Law>
 /// Whether the parts of a catalog are sound by themselves, so that its laws can be judged: a group for each of the
 /// volume's, with lawful records; files with lawful extents, by number; a record for each directory, and the entries of
 /// these in the same order; blocks of the volume.
+///
+/// The view of an image always passes: that is the law `views_are_catalogs` of `xfs_views`.
 pub fn is_catalog(catalog: &Catalog) -> bool
-    ensures { IsTrue result → IsCatalog catalog.now }
+    ensures { IsTrue result ↔ IsCatalog catalog.now }
 {
     let g = &catalog.geometry;
     let groups = catalog.groups.as_slice();

@@ -1,6 +1,6 @@
-use Rattle.std.proofs.Common.{◌≡◌, ◌+◌, ◌*◌, ◌%◌, ◌^◌, ◌<◌, ◌≤◌, arith, sym, ap, ◌∙◌}
+use Rattle.std.proofs.Common.{◌*◌, ◌%◌, ◌^◌, ◌<◌, arith}
 use Rattle.xfs_geom.specs.Volumes.{volume_of}
-use Rattle.xfs_laws.specs.Counting.{bits_below, count_below, is_unused}
+use Rattle.xfs_laws.specs.Counting.{is_unused}
 use Rattle.xfs_laws.proofs.Bits.{count_small, bits_small, shifted_small, room, count_more, bits_more}
 use Rattle.xfs_laws.proofs.chunks.due_chunk.Goals as goal
 

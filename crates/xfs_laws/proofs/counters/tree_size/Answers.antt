@@ -1,4 +1,4 @@
-use Rattle.std.proofs.Common.{◌≡◌, length, arith, sym, ap, ◌∙◌}
+use Rattle.std.proofs.Common.{length, arith, sym, ap, ◌∙◌}
 use Rattle.xfs_laws.proofs.Trees.{size_past, size_at}
 use Rattle.xfs_laws.proofs.counters.tree_size.Goals as goal
 

@@ -1,5 +1,4 @@
-use Rattle.std.proofs.Common.{arith, sym, ap, ◌∙◌}
-use Rattle.xfs_volume.specs.Laws.{first_broken}
+use Rattle.std.proofs.Common.{arith, sym, ◌∙◌}
 use Rattle.xfs_laws.specs.Counting.{group_entries}
 use Rattle.xfs_laws.proofs.Groups.{group_broken, group_kept, groups_kept}
 use Rattle.xfs_laws.proofs.entries.check_lists.Goals as goal

@@ -1,4 +1,4 @@
-use Rattle.std.proofs.Common.{◌≡◌, ◌+◌, arith, sym, ◌∙◌}
+use Rattle.std.proofs.Common.{arith, sym, ◌∙◌}
 use Rattle.xfs_laws.proofs.Repeated.{again, new}
 use Rattle.xfs_laws.proofs.entries.count_different.Goals.{then-not-is_repeated, else-not-is_repeated}
 use Rattle.xfs_laws.proofs.entries.count_different.Goals as goal

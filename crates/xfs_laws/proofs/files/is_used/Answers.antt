@@ -1,5 +1,4 @@
-use Rattle.std.proofs.Common.{◌≡◌, ◌<◌, ◌≤◌, length, arith, get_or, sym, ◌∙◌}
-use Rattle.xfs_volume.specs.declared.files.FileRec.{FileRec}
+use Rattle.std.proofs.Common.{◌<◌, length, arith, get_or, sym}
 use Rattle.xfs_laws.proofs.Used.{found, used_none}
 use Rattle.xfs_laws.proofs.files.is_used.Goals as goal
 

@@ -1,10 +1,7 @@
-use Rattle.std.proofs.Common.{◌≡◌, ◌==◌, take, true}
-use Rattle.std.specs.List.{list_all}
+use Rattle.std.proofs.Common.{◌≡◌, ◌==◌, ◌+◌, drop}
+use Rattle.std.specs.List.{prefix_len}
 use Rattle.xfs_dirdata.specs.declared.records.EntryRec.{EntryRec}
 use Rattle.xfs_laws.proofs.named.count_own.Given as goal
 
-abbrev pub invariant-loop-entry : goal.invariant-loop-entry
-invariant-loop-entry l = record {
-  number : l.count ≡ l.entry-index;
-  own : list_all (λ (e : EntryRec). e.dir == l.dir) (take l.count l.entries) ≡ true;
-}
+abbrev pub invariant-loop-index : goal.invariant-loop-index
+invariant-loop-index l = l.index + prefix_len (λ (e : EntryRec). e.dir == l.dir) (drop l.index l.entries) ≡ prefix_len (λ (e : EntryRec). e.dir == l.dir) l.entries
