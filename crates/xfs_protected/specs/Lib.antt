@@ -1,0 +1,4 @@
+pub mod Guarded
+pub mod Claimed
+pub mod Standing
+pub mod Examples
