@@ -1,0 +1,25 @@
+-- Writes of whole blocks: what is due where, in which order, and what a disk then holds.
+use Rattle.std.specs.Prelude.{◌≡◌, ℕ, ◌+◌, ◌⊎◌, List, [], ◌∷◌, map, take, slice_index_or, slice_set, Option, Some}
+use Rattle.xfs_disk.specs.Blocks.{Image}
+use Rattle.xfs_writing.specs.declared.rows.Row.{Row}
+
+-- block numbers and the bytes that are due there, in the order of writing
+abbrev pub Writes : Type 0
+Writes = List (ℕ × List ℕ)
+
+-- the image once all is written
+abbrev pub written : Writes → Image → Image
+written [] image = image
+written (write ∷ writes) image = written writes (slice_set image write.0 write.1)
+
+-- the image once the first n blocks are written, the next one old or new, all others old
+abbrev pub IsPartly : Writes → Image → ℕ → Option Image → Type 0
+IsPartly writes image n now = (now ≡ Some (written (take n writes) image)) ⊎ (now ≡ Some (written (take (n + 1) writes) image))
+
+-- what is written of a row, where the bank has these blocks
+abbrev pub write_of : Image → Row → ℕ × List ℕ
+write_of bank r = (r.at, slice_index_or bank r.index [])
+
+-- what is written of rows, in their order
+abbrev pub writes_of : Image → List Row → Writes
+writes_of bank rows = map (write_of bank) rows
