@@ -16,6 +16,11 @@ written (write ∷ writes) image = written writes (slice_set image write.0 write
 abbrev pub IsPartly : Writes → Image → ℕ → Option Image → Type 0
 IsPartly writes image n now = (now ≡ Some (written (take n writes) image)) ⊎ (now ≡ Some (written (take (n + 1) writes) image))
 
+-- rows of blocks by their numbers, each with the index of its bytes, which are counted from an index on
+abbrev pub rows_from : ℕ → List ℕ → List Row
+rows_from index [] = []
+rows_from index (at ∷ places) = record { at = at; index = index } ∷ rows_from (index + 1) places
+
 -- what is written of a row, where the bank has these blocks
 abbrev pub write_of : Image → Row → ℕ × List ℕ
 write_of bank r = (r.at, slice_index_or bank r.index [])
