@@ -1,2 +1,3 @@
+mod Pieces
 mod Places
 pub mod Reading

@@ -1,10 +1,14 @@
 -- What contracts see of a disk that is a file of the system.
-use Rattle.std.specs.Prelude.{ℕ, Option}
+use Rattle.std.specs.Prelude.{ℕ, List, Option, option_and_then}
 use Rattle.xfs_disk.specs.declared.file_disk.FileDisk.{FileDisk}
 
 -- the opened file, or none
 abbrev pub file_of : {F : Type 0} → FileDisk F → Option F
 file_of disk = disk.file
+
+-- the bytes of the opened file, where there is one and it tells them
+abbrev pub bytes_of : {F : Type 0} → (F → Option (List ℕ)) → FileDisk F → Option (List ℕ)
+bytes_of bytes disk = option_and_then bytes disk.file
 
 -- how many blocks the disk has
 abbrev pub size_of : {F : Type 0} → FileDisk F → ℕ

@@ -12,4 +12,5 @@ pub mod MemorySource
 pub mod MemorySink
 pub mod FileDisk
 pub mod Streams
+pub mod System
 pub mod FileLibrary

@@ -2,8 +2,9 @@
 //!
 //! A crate that touches an image, a stream or another file is generic over a trait of this one, so that its contract can
 //! say what was read, what is held afterwards, and that a fault was answered only where one was counted. `MemoryDisk`
-//! tells what it holds and fails where a test says; `FileDisk` is a file and tells nothing, so what contracts say of
-//! contents says nothing of it.
+//! tells what it holds and fails where a test says; `FileDisk` is a file and tells no blocks, so what contracts say of
+//! contents says nothing of it. What its calls do to the bytes of the file, its own clauses say, of any `ByteFile` that
+//! tells them; the calls of the system that it is made of stand in `system.rt`, each alone in a function.
 //!
 //! A session of the debugger reads so:
 //!
@@ -31,6 +32,7 @@ mod schedule;
 mod stamp;
 mod stream;
 mod streams;
+mod system;
 mod word;
 
 pub use disk::{BLOCK_SIZE, Disk};
@@ -46,4 +48,5 @@ pub use memory_source::MemorySource;
 pub use stamp::Stamp;
 pub use stream::{Sink, Source};
 pub use streams::{StreamSink, StreamSource};
+pub use system::{ByteFile, Outlet};
 pub use word::Word;

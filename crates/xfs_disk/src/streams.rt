@@ -1,14 +1,16 @@
 //! The source and the sink over what the system reads and writes.
 
-ghost use Rattle.std.specs.Prelude.{◌≡◌, ◌≤◌, ◌<◌, length, None, IfOk, OnOk};
+ghost use Rattle.std.specs.Prelude.{◌≡◌, ℕ, ◌≤◌, ◌<◌, ◌++◌, length, take, Some, None, IfOk, OnOk, OnErr};
 ghost use Rattle.std.specs.Io.KnownBytes.{Appends, ReadConsumes};
+ghost use Rattle.std.specs.Option.{ForSome};
 ghost use Rattle.xfs_disk.specs.Counts.{CountsFailure};
 
 use crate::counting::counted;
 use crate::failed::Failed;
 use crate::stream::{Sink, Source};
+use crate::system::Outlet;
 use std::io;
-use std::io::{Read, Write};
+use std::io::{Error, ErrorKind, Read};
 
 /// A source over a reader. It tells nothing of the bytes that are left.
 #[derive(Drop)]
@@ -46,14 +48,14 @@ impl<R: Read> Source for StreamSource<R> {
     }
 }
 
-/// A sink over a writer. It tells nothing of the bytes that it took.
+/// A sink over a writer. It tells the bytes that it took where the writer tells what it was given.
 #[derive(Drop)]
 pub struct StreamSink<W> {
     writer: W,
     faults: u64,
 }
 
-impl<W: Write> StreamSink<W> {
+impl<W: Outlet> StreamSink<W> {
     ghost use Rattle.xfs_disk.specs.Streams.{writer_of, sink_faults};
 
     /// The sink that gives to the writer.
@@ -65,25 +67,43 @@ impl<W: Write> StreamSink<W> {
     }
 }
 
-impl<W: Write> Sink for StreamSink<W> {
+impl<W: Outlet> Sink for StreamSink<W> {
     ghost use Rattle.xfs_disk.specs.Streams.{writer_of, sink_faults};
 
-    ghost took = { λ _. None };
+    ghost took = { λ sink. W.contents (writer_of sink) };
 
     ghost faults = { sink_faults };
 
+    /// Takes the whole piece, and has then passed on all that it took, or fails after a prefix of it.
     fn put(&mut self, from: &[u8]) -> Result<(), Failed>
-        ensures writes { OnOk result (Appends (W.contents (writer_of self.old)) (W.contents (writer_of self.new)) from.now) }
+        ensures whole { OnOk result (ForSome (W.contents (writer_of self.old)) (λ before. W.contents (writer_of self.new) ≡ Some (before ++ from.now))) }
+        ensures part { OnErr result (ForSome (W.contents (writer_of self.old)) (λ before.
+            (n : ℕ) × (n ≤ length from.now) × (W.contents (writer_of self.new) ≡ Some (before ++ take n from.now)))) }
+        ensures flushed { OnOk result (W.is_flushed (writer_of self.new)) }
         ensures faults { CountsFailure (sink_faults self.old) (sink_faults self.new) result }
     {
         counted(write_whole(&mut self.writer, from), &mut self.faults)
     }
 }
 
-/// Writes the whole slice, past what the writer itself keeps back.
-fn write_whole<W: Write>(writer: &mut W, from: &[u8]) -> io::Result<()>
-    ensures { OnOk result (Appends (W.contents writer.old) (W.contents writer.new) from.now) }
+/// Writes the whole slice, past what the writer itself keeps back. A write that takes nothing is an error.
+fn write_whole<W: Outlet>(writer: &mut W, from: &[u8]) -> io::Result<()>
+    ensures whole { OnOk result (ForSome (W.contents writer.old) (λ before. W.contents writer.new ≡ Some (before ++ from.now))) }
+    ensures part { OnErr result (ForSome (W.contents writer.old) (λ before.
+        (n : ℕ) × (n ≤ length from.now) × (W.contents writer.new ≡ Some (before ++ take n from.now)))) }
+    ensures flushed { OnOk result (W.is_flushed writer.new) }
 {
-    writer.write_all(from)?;
-    writer.flush()
+    let mut done = 0;
+    for _ in 0..u64::MAX {
+        if done == from.len() {
+            return writer.pass_on();
+        }
+        match writer.give_some(&from[done..]) {
+            Ok(0) => return Err(Error::from(ErrorKind::WriteZero)),
+            Ok(count) => done += count,
+            Err(error) if error.kind() == ErrorKind::Interrupted => {}
+            Err(error) => return Err(error),
+        }
+    }
+    Err(Error::from(ErrorKind::Interrupted))
 }
