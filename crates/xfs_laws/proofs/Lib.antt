@@ -1,4 +1,3 @@
-pub mod Used
 pub mod Bits
 pub mod Differences
 pub mod Trees

@@ -1,7 +1,8 @@
 //! The laws of a volume: when all that its trees, inodes and directories say hangs together.
 //!
 //! The verdict on a catalog, as one call: nothing, or the first law that is broken, with what is held there and what is
-//! due. Its condition, that the parts of the catalog are sound by themselves, can be tested by `is_catalog`.
+//! due. Its condition, that the parts of the catalog are sound by themselves, can be tested by `is_catalog`,
+//! which is true exactly where they are.
 //!
 //! `xfs_mend` judges a volume so:
 //!

@@ -9,7 +9,7 @@ ghost use Rattle.xfs_volume.specs.declared.files.FileRec.{FileRec};
 ghost use Rattle.xfs_naming.specs.Naming.{AreGrouped, AreNamed, Ascend, numbers_of};
 
 use xfs_dirdata::EntryRec;
-use xfs_volume::{DirRec, FileRec};
+use xfs_volume::{DirRec, FileRec, is_directory};
 
 /// Whether files ascend by number, each directory among them has its record, and the entries of the directories stand in
 /// the same order.
@@ -57,13 +57,6 @@ fn are_directories(files: &[FileRec], dirs: &[DirRec]) -> bool
         }
     }
     at == dirs.len()
-}
-
-/// Whether a file is a directory.
-fn is_directory(file: &FileRec) -> bool
-    ensures { result ≡ is_directory file.now }
-{
-    file.core.mode >> 12 == 4
 }
 
 /// Whether the entries are those of the directories, in their order.

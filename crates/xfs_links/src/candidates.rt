@@ -1,9 +1,7 @@
 //! The candidates: the entries that can name their files, of equal names in a directory the first.
 
-ghost use Rattle.std.specs.Prelude.{◌≡◌, ℕ, ◌<◌, ◌+◌, ◌^◌, ◌==◌, ◌&&◌, ◌||◌, not, true, false, [], ◌∷◌, map, length, IfOk, MatchOption};
-ghost use Rattle.std.specs.List.{All, list_any};
-ghost use Rattle.std.specs.Str.{bytes_eq};
-ghost use Rattle.xfs_volume.specs.Names.{is_name};
+ghost use Rattle.std.specs.Prelude.{◌≡◌, ℕ, ◌<◌, ◌+◌, ◌^◌, ◌==◌, ◌||◌, true, false, map, length, IfOk, MatchOption};
+ghost use Rattle.std.specs.List.{All};
 ghost use Rattle.xfs_links.specs.Entries.{AreFiles, is_kept, passes, candidates};
 ghost use Rattle.xfs_links.specs.Places.{entry_of, IsPlaced, IsPlacedAt};
 
@@ -13,6 +11,7 @@ use crate::records::NodeRec;
 use std::alloc::Global;
 use xfs_dirdata::EntryRec;
 use xfs_disk::NoMemory;
+use xfs_volume::is_name;
 
 /// An entry that can name its file.
 #[derive(Clone, Copy, Debug)]
@@ -59,7 +58,7 @@ fn candidate_of(files: &[NodeRec], entry: &EntryRec, i: usize, root: u64) -> Opt
     requires root { root < 2 ^ 32 }
     ensures { MatchOption result (passes files.now root entry.now ≡ false) (λ c. (passes files.now root entry.now ≡ true) × IsPlacedAt files.now entry.now i c) }
 {
-    if !is_valid(entry.name.bytes()) || is_reserved(root, entry.ino) {
+    if !is_name(entry.name.bytes()) || is_reserved(root, entry.ino) {
         return None;
     }
     let target = place_of(files, entry.ino)?;
@@ -69,34 +68,6 @@ fn candidate_of(files: &[NodeRec], entry: &EntryRec, i: usize, root: u64) -> Opt
         directory,
         target,
     })
-}
-
-/// Whether a file can have the name.
-#[tactic(auto, unfolding(xfs_volume::specs::Names::is_name))]
-pub fn is_valid(name: &[u8]) -> bool
-    ensures { result ≡ is_name name.now }
-{
-    if name.is_empty() || name.len() > 255 {
-        return false;
-    }
-    if has_slash_or_zero(name) {
-        return false;
-    }
-    !is_dots(name)
-}
-
-/// Whether a byte of the name is 0 or a slash.
-fn has_slash_or_zero(name: &[u8]) -> bool
-    ensures { result ≡ list_any (λ byte. byte == 0 || byte == 0x2f) name.now }
-{
-    name.iter().any(|byte| *byte == 0 || *byte == b'/')
-}
-
-/// Whether the name is `.` or `..`.
-fn is_dots(name: &[u8]) -> bool
-    ensures { result ≡ (bytes_eq name.now (0x2e ∷ []) || bytes_eq name.now (0x2e ∷ 0x2e ∷ [])) }
-{
-    name == b".".as_slice() || name == b"..".as_slice()
 }
 
 /// Whether the number is the root's, or that of a system inode.

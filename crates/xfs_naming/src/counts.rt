@@ -7,12 +7,12 @@ ghost use Rattle.xfs_volume.specs.Laws.{first_broken};
 ghost use Rattle.xfs_naming.specs.Naming.{is_directory_at, is_empty_regular, entries_in, links_of, links_at, file_at};
 ghost use Rattle.xfs_naming.specs.Ordered.{IsOrdered};
 
-use crate::lookups::{file_at, is_directory, is_directory_at, is_system, type_of};
+use crate::lookups::{file_at, is_directory_at, is_system};
 use crate::naming::Names;
 use crate::places::names_of;
 use crate::runs::run_of;
 use xfs_dirdata::EntryRec;
-use xfs_volume::{FileRec, Law};
+use xfs_volume::{FileRec, Law, is_directory, type_of};
 
 /// The type of a regular file (chapter "On-disk Inode").
 const REGULAR: u16 = 8;

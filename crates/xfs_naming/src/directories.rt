@@ -9,14 +9,14 @@ ghost use Rattle.xfs_volume.specs.Names.{is_name, type_of, entry_type};
 ghost use Rattle.xfs_naming.specs.Naming.{has_target, has_type, first_failing, directory_tests, directory_at, directory_laws, names_differ};
 ghost use Rattle.xfs_naming.specs.Ordered.{IsOrdered};
 
-use crate::lookups::{entry_type, is_in_use, is_system, type_of};
+use crate::lookups::{entry_type, is_in_use, is_system};
 use crate::naming::Names;
 use crate::runs::run_of;
 use crate::texts::has_right_names;
 use std::alloc::Global;
 use xfs_dirdata::EntryRec;
 use xfs_disk::NoMemory;
-use xfs_volume::{DirRec, FileRec, Law};
+use xfs_volume::{DirRec, FileRec, Law, type_of};
 
 /// Whether an entry names a file in use that is not one of the system's.
 fn has_target(names: &Names, entry: &EntryRec) -> bool

@@ -24,3 +24,4 @@ mod texts;
 mod walks;
 
 pub use checks::check_names;
+pub use runs::{Numbered, run_of};

@@ -4,16 +4,13 @@ ghost use Rattle.std.specs.Prelude.{◌≡◌, ◌<◌, ◌^◌, ◌==◌};
 ghost use Rattle.std.specs.List.{list_any};
 ghost use Rattle.std.specs.Option.{option_copied};
 ghost use Rattle.xfs_volume.specs.declared.directories.DirRec.{DirRec};
-ghost use Rattle.xfs_volume.specs.Names.{type_of, is_directory, entry_type};
+ghost use Rattle.xfs_volume.specs.Names.{is_directory, entry_type};
 ghost use Rattle.xfs_naming.specs.Naming.{is_system, is_in_use, is_directory_at, file_at, states_parent};
 ghost use Rattle.xfs_naming.specs.Ordered.{IsOrdered};
 
 use crate::naming::Names;
 use crate::runs::run_of;
-use xfs_volume::{DirRec, FileRec};
-
-/// The type of a directory (chapter "On-disk Inode").
-const DIRECTORY: u16 = 4;
+use xfs_volume::{DirRec, FileRec, is_directory};
 
 /// Whether a number is that of one of the two files of the system's own, which stand behind the root.
 pub fn is_system(root: u64, ino: u64) -> bool
@@ -21,20 +18,6 @@ pub fn is_system(root: u64, ino: u64) -> bool
     ensures { result ≡ is_system root ino }
 {
     ino == root + 1 || ino == root + 2
-}
-
-/// The type of a file, in the upper four bits of its mode.
-pub fn type_of(file: &FileRec) -> u16
-    ensures { result ≡ type_of file.now }
-{
-    file.core.mode >> 12
-}
-
-/// Whether the file is a directory.
-pub fn is_directory(file: &FileRec) -> bool
-    ensures { result ≡ is_directory file.now }
-{
-    type_of(file) == DIRECTORY
 }
 
 /// The number by which an entry states a type; 0 for one that is not known.

@@ -7,6 +7,7 @@ ghost use Rattle.xfs_kinds.specs.OffsetWords.{is_file_data};
 ghost use Rattle.xfs_space.specs.SpaceLaws.{owner_number, recorded_run};
 ghost use Rattle.xfs_space.specs.Maps.{AreMapped, IsMapped};
 
+use crate::owners::TREE_BLOCK;
 use crate::sharing::covers;
 use xfs_geom::{RmapRec, Run};
 
@@ -15,9 +16,6 @@ const NOTHING: u128 = u128::MAX;
 
 /// The owners that are inodes are below this number.
 const NEGATIVE: u64 = 1 << 63;
-
-/// The flag of blocks of an extent tree, in an offset word.
-const TREE_BLOCK: u64 = 1 << 62;
 
 /// A record of the group that begins at block `base`, by block of the volume.
 pub fn recorded_run(base: u64, recorded: &RmapRec) -> Run

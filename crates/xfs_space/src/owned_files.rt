@@ -9,20 +9,11 @@ ghost use Rattle.xfs_space.specs.Owners.{attribute_flag, extent_run, extent_word
 ghost use Rattle.xfs_space.specs.Parts.{IsFile};
 ghost use Rattle.xfs_space.specs.Places.{IsPlaced};
 
-use crate::owners::{push_blocks, push_run};
+use crate::owners::{ATTRIBUTE, TREE_BLOCK, UNWRITTEN, push_blocks, push_run};
 use xfs_disk::NoMemory;
 use xfs_geom::{Geometry, Run};
 use xfs_volume::FileRec;
 use xfs_word::Extent;
-
-/// The flag of blocks that are not written yet, in an offset word.
-const UNWRITTEN: u64 = 1 << 61;
-
-/// The flag of blocks of an extent tree.
-const TREE_BLOCK: u64 = 1 << 62;
-
-/// The flag of blocks of the attribute fork.
-const ATTRIBUTE: u64 = 1 << 63;
 
 /// Adds what the files own.
 pub fn push_files(runs: &mut Vec<Run>, g: &Geometry, files: &[FileRec]) -> Result<(), NoMemory>

@@ -29,6 +29,15 @@ pub const INODE_TREES: u64 = u64::MAX - 5;
 /// The owner of the clusters of inodes.
 pub const CLUSTERS: u64 = u64::MAX - 6;
 
+/// The flag of blocks that are not written yet, in an offset word.
+pub const UNWRITTEN: u64 = 1 << 61;
+
+/// The flag of blocks of an extent tree.
+pub const TREE_BLOCK: u64 = 1 << 62;
+
+/// The flag of blocks of the attribute fork.
+pub const ATTRIBUTE: u64 = 1 << 63;
+
 /// All owned runs of a volume with these groups and files, in no order: blocks of the volume, with their
 /// owners and offset words. The groups are those of the volume in their order; each has lawful records in its
 /// trees and lists, and each file lawful extents.

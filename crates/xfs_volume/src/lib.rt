@@ -2,7 +2,8 @@
 //!
 //! What the layers hand to one another once bytes were read: a file with its core, extents, attributes and target; a
 //! directory with the parent that it states; a group with its headers and the records of its trees; and the `Catalog` of
-//! all, which the laws judge. There is no code but what keeps lists; `Records` is a `Vec` that contracts see as its list.
+//! all, which the laws judge. There is no code but what keeps lists, and what judges a name or the type of a file; `Records`
+//! is a `Vec` that contracts see as its list.
 //!
 //! `xfs_scan` makes a catalog and `xfs_mend` judges it:
 //!
@@ -20,6 +21,7 @@ mod files;
 mod findings;
 mod groups;
 mod lists;
+mod names;
 
 pub use catalogs::{BlockLsn, Catalog};
 pub use clusters::ClusterRec;
@@ -29,3 +31,4 @@ pub use files::FileRec;
 pub use findings::{Law, LawFault};
 pub use groups::{GroupRec, TreeBlocks};
 pub use lists::{Blocks, Extents, Records};
+pub use names::{is_directory, is_name, type_of};
