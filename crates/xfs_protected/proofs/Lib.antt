@@ -4,3 +4,6 @@ pub mod Guarded
 pub mod Addresses
 pub mod Claimed
 pub mod Images
+pub mod KeptInWords
+pub mod Taken
+pub mod Apart

@@ -2,3 +2,4 @@ pub mod Guarded
 pub mod Claimed
 pub mod Standing
 pub mod Examples
+pub mod KeptInWords

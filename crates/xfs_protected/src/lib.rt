@@ -1,7 +1,17 @@
-//! What it means that a file is protected, and that it is kept. Nothing here computes; the functions carry laws about the
-//! definitions of `xfs_image`.
+//! What it means that a file is protected, and that it is kept: laws that hold the definitions of `xfs_image` in place. Nothing here
+//! computes; the functions carry laws about the definitions.
+//!
+//! Who shows that a repair keeps protected files takes from here that they are kept of the claims on blocks
+//! (`protected_files_are_kept`, and `guarded_files_are_kept` for claims of any origin) and what is owed for a file that is kept
+//! (`kept_files_in_words`).
 #![tactic(auto)]
 
-mod laws;
+mod claims;
+mod examples;
+mod keeping;
+mod taking;
 
-pub use laws::guarded_files_are_kept;
+pub use claims::{guarded_files_are_kept, protected_files_are_kept, protected_files_by_lists};
+pub use examples::{guarded_examples, lost_examples};
+pub use keeping::{kept_files_in_words, keeping_is_an_order};
+pub use taking::{claims_take_protection, kinds_take_protection};
