@@ -1,13 +1,15 @@
 -- What a call of xfs_db answers, puts and leaves (xfs_db(8)).
-use Rattle.std.specs.Prelude.{◌≡◌, ℕ, false, ◌⊎◌, List, Option, Result, Ok, Err}
+use Rattle.std.specs.Prelude.{◌≡◌, ℕ, ◌+◌, false, ◌⊎◌, List, ◌++◌, Option, Some, Result, Ok, Err, IfOk}
 use Rattle.std.specs.Option.{ForSome}
 use Rattle.xfs_disk.specs.Blocks.{Image}
 use Rattle.xfs_disk.specs.declared.failed.Failed.{Failed}
+use Rattle.xfs_geom.specs.Election.{elected}
+use Rattle.xfs_geom.specs.Volumes.{stated_volume}
 use Rattle.xfs_options.specs.Debugging.{Debug}
 use Rattle.xfs_options.specs.declared.reading.LineFault.{LineFault}
 use Rattle.xfs_options.specs.declared.reading.LineFault.TheVariants as line
 use Rattle.xfs_shell.specs.Running.{may_write}
-use Rattle.xfs_shell.specs.Shells.{HasCause, IsSession, leave_of}
+use Rattle.xfs_shell.specs.Shells.{leave_of, most_of, told_lines, HasCause, HasElected, HasInput, IsEarly, LeavesDisk, Puts, RunsOver}
 use Rattle.xfs_shell.specs.declared.outcomes.ShellOptions.{ShellOptions}
 use Rattle.xfs_shell.specs.declared.outcomes.ShellOutcome.{ShellOutcome}
 use Rattle.xfs_shell.specs.declared.outcomes.ShellOutcome.TheVariants as shell
@@ -41,46 +43,48 @@ finished_of (shell.OutputFault k) = k
 finished_of (shell.NoMemory k) = k
 finished_of outcome = 0
 
--- what a call finds: what the disk holds, what the input has left and what was put
-pub record Found : Type 0 where
-  pub holds : Option Image
-  pub left : Option (List ℕ)
-  pub took : Option (List ℕ)
+-- A session over a disk, an input and an output came to this outcome. Whatever they tell: a fault only where its count rose, how many blocks
+-- were read and written, and what was put only behind what stood there. Each other part says what is due where that tells on which it
+-- rests: the disk, the output for the text, and the input unless there are commands.
+pub record IsShelled {D S O : Type 0} (holds : D → Option Image) (size faults write_faults reads writes : D → ℕ) (tells_stops : D → Type 0) (moment : D → ℕ)
+    (may_leave : D → ℕ → List ℕ → Type 0) (left_since : D → ℕ → Image → Type 0) (left : S → Option (List ℕ)) (takes : S → ℕ) (took : O → Option (List ℕ)) (puts : O → ℕ)
+    (old new : D) (input input_now : S) (out out_now : O) (options : ShellOptions) (outcome : ShellOutcome) : Type 0 where
+  pub elected : ForSome (holds old) (λ image. HasElected (elected image) outcome)
+  pub input : HasInput options.commands (left input) outcome
+  pub image : ForSome (holds old) (λ image. IfOk (elected image) (λ vote. ForSome (told_lines options.commands (left input)) (λ lines.
+      LeavesDisk (stated_volume vote.sector) (leave_of options) lines image (holds new) (writes old) (writes new) outcome)))
+  pub text : ForSome (holds old) (λ image. IfOk (elected image) (λ vote. ForSome (told_lines options.commands (left input)) (λ lines.
+      ForSome (took out) (λ before. Puts (stated_volume vote.sector) (leave_of options) lines image before (took out_now) outcome))))
+  pub silent : IsEarly outcome → took out_now ≡ took out
+  pub appends : ForSome (took out) (λ before. (rest : List ℕ) × (took out_now ≡ Some (before ++ rest)))
+  pub disk : RunsOver size holds reads writes write_faults tells_stops moment may_leave left_since (may_write (leave_of options))
+      (size old + most_of (told_lines options.commands (left input))) (most_of (told_lines options.commands (left input))) old new outcome
+  pub cause : HasCause (faults old) (faults new) (write_faults old) (write_faults new) (takes input) (takes input_now) (puts out) (puts out_now) outcome
 
--- the counts of failed reads, writes, calls of the input and of the output
-pub record Counts : Type 0 where
-  pub reads : ℕ
-  pub writes : ℕ
-  pub takes : ℕ
-  pub puts : ℕ
-
--- the session with these options was run
-pub record IsOfSession (options : ShellOptions) (was : Found) (took : Option (List ℕ)) (holds : Option Image) (before now : Counts) (answer : Answer) (finished : ℕ) : Type 0 where
+-- what was asked of a session was done, as its outcome says, where the disk has counted so many failed reads
+pub record IsOfSession (options : ShellOptions) (done : ShellOptions → ShellOutcome → Type 0) (faults : ℕ) (answer : Answer) (finished : ℕ) : Type 0 where
   pub outcome : ShellOutcome
-  pub session : ForSome was.holds (λ image. ForSome was.left (λ left. ForSome was.took (λ put. IsSession options image left put took holds outcome)))
-  pub stays : may_write (leave_of options) ≡ false → holds ≡ was.holds
-  pub cause : HasCause before.reads now.reads before.writes now.writes before.takes now.takes before.puts now.puts outcome
-  pub answer_is : answer ≡ session_answer now.reads outcome
+  pub answer_is : answer ≡ session_answer faults outcome
   pub finished_is : finished ≡ finished_of outcome
+  pub is_done : done options outcome
 
 -- the end of a call whose words were refused, or could not be read for want of memory
 abbrev pub refusal_of : LineFault → End
 refusal_of (line.Offends n) = record { answer = Usage n; finished = 0 }
 refusal_of line.NoMemory = record { answer = NoMemory; finished = 0 }
 
--- nothing was run, for this answer
-pub record IsNoSession (due : Answer) (was : Found) (took : Option (List ℕ)) (holds : Option Image) (answer : Answer) (finished : ℕ) : Type 0 where
+-- nothing was run, for this answer, and all is the same
+pub record IsNoSession (due : Answer) (same : Type 0) (answer : Answer) (finished : ℕ) : Type 0 where
   pub answer_is : (answer ≡ due) ⊎ (answer ≡ NoMemory)
   pub finished_is : finished ≡ 0
-  pub took_is : took ≡ was.took
-  pub holds_is : holds ≡ was.holds
+  pub untouched : same
 
 -- The words behind xfs_db were refused for the first that offends, or the session that they ask for was run, unless memory lacked
 -- for the words.
-abbrev pub IsDebugged : Result Debug ℕ → Found → Option (List ℕ) → Option Image → Counts → Counts → Answer → ℕ → Type 0
-IsDebugged (Err n) was took holds before now answer finished = IsNoSession (Usage n) was took holds answer finished
-IsDebugged (Ok line) was took holds before now answer finished =
-    IsNoSession NoMemory was took holds answer finished ⊎ IsOfSession (asked line) was took holds before now answer finished
+abbrev pub IsDebugged : Result Debug ℕ → Type 0 → (ShellOptions → ShellOutcome → Type 0) → ℕ → Answer → ℕ → Type 0
+IsDebugged (Err n) same done faults answer finished = IsNoSession (Usage n) same answer finished
+IsDebugged (Ok line) same done faults answer finished =
+    IsNoSession NoMemory same answer finished ⊎ IsOfSession (asked line) done faults answer finished
 
 -- the status of a session; where the line of its answer could not be put, an output fault stands in its place
 abbrev pub session_status : Answer → ℕ → Result (Unit {0}) Failed → Status

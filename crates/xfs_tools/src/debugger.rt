@@ -4,7 +4,7 @@ ghost use Rattle.std.specs.Prelude.{◌≡◌, ℕ, Result};
 ghost use Rattle.xfs_disk.specs.declared.failed.Failed.{Failed};
 ghost use Rattle.xfs_options.specs.Debugging.{debug_of, said};
 ghost use Rattle.xfs_tools.specs.Answers.{Puts};
-ghost use Rattle.xfs_tools.specs.Debugging.{Counts, Found, IsDebugged, IsOfSession, asked, finished_of, refusal_of, session_answer, session_status};
+ghost use Rattle.xfs_tools.specs.Debugging.{IsDebugged, IsOfSession, IsShelled, asked, finished_of, refusal_of, session_answer, session_status};
 ghost use Rattle.xfs_tools.specs.Texts.{text_of};
 ghost use Rattle.xfs_tools.specs.declared.answer.Answer.{Answer};
 
@@ -34,9 +34,8 @@ pub(crate) fn run_debugger<D: Disk, S: Source, O: Sink, E: Sink>(
     err: &mut E,
 ) -> Status
     ensures ended { (answer : Answer) × (finished : ℕ) × (put : Result (Unit {0}) Failed)
-        × IsDebugged (debug_of words.now) (record { holds = D.holds disk.old; left = S.left input.old; took = O.took out.old }) (O.took out.new) (D.holds disk.new)
-        (record { reads = D.faults disk.old; writes = D.write_faults disk.old; takes = S.faults input.old; puts = O.faults out.old })
-        (record { reads = D.faults disk.new; writes = D.write_faults disk.new; takes = S.faults input.new; puts = O.faults out.new }) answer finished
+        × IsDebugged (debug_of words.now) ((disk.new ≡ disk.old) × (input.new ≡ input.old) × (out.new ≡ out.old))
+        (IsShelled D.holds D.size D.faults D.write_faults D.reads D.writes D.tells_stops D.moment D.may_leave D.left_since S.left S.faults O.took O.faults disk.old disk.new input.old input.new out.old out.new) (D.faults disk.new) answer finished
         × Puts (E.took err.old) (E.took err.new) (E.faults err.old) (E.faults err.new) (text_of answer) put
         × (result ≡ session_status answer finished put) }
     ensures size { D.size disk.new ≡ D.size disk.old }
@@ -64,9 +63,8 @@ fn run_words<D: Disk, S: Source, O: Sink>(
     input: &mut S,
     out: &mut O,
 ) -> End
-    ensures ended { IsDebugged (debug_of words.now) (record { holds = D.holds disk.old; left = S.left input.old; took = O.took out.old }) (O.took out.new) (D.holds disk.new)
-        (record { reads = D.faults disk.old; writes = D.write_faults disk.old; takes = S.faults input.old; puts = O.faults out.old })
-        (record { reads = D.faults disk.new; writes = D.write_faults disk.new; takes = S.faults input.new; puts = O.faults out.new }) result.answer result.finished }
+    ensures ended { IsDebugged (debug_of words.now) ((disk.new ≡ disk.old) × (input.new ≡ input.old) × (out.new ≡ out.old))
+        (IsShelled D.holds D.size D.faults D.write_faults D.reads D.writes D.tells_stops D.moment D.may_leave D.left_since S.left S.faults O.took O.faults disk.old disk.new input.old input.new out.old out.new) (D.faults disk.new) result.answer result.finished }
     ensures size { D.size disk.new ≡ D.size disk.old }
 {
     match read_debug_words(alloc, words) {
@@ -108,9 +106,7 @@ fn run_session<D: Disk, S: Source, O: Sink>(
     input: &mut S,
     out: &mut O,
 ) -> End
-    ensures session { IsOfSession options.now (record { holds = D.holds disk.old; left = S.left input.old; took = O.took out.old }) (O.took out.new) (D.holds disk.new)
-        (record { reads = D.faults disk.old; writes = D.write_faults disk.old; takes = S.faults input.old; puts = O.faults out.old })
-        (record { reads = D.faults disk.new; writes = D.write_faults disk.new; takes = S.faults input.new; puts = O.faults out.new }) result.answer result.finished }
+    ensures session { IsOfSession options.now (IsShelled D.holds D.size D.faults D.write_faults D.reads D.writes D.tells_stops D.moment D.may_leave D.left_since S.left S.faults O.took O.faults disk.old disk.new input.old input.new out.old out.new) (D.faults disk.new) result.answer result.finished }
     ensures size { D.size disk.new ≡ D.size disk.old }
 {
     let outcome = shell(alloc, disk, input, out, options);
