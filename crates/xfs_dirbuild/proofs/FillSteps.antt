@@ -10,7 +10,9 @@ use Rattle.xfs_dirindex.specs.declared.pairs.Pair.{Pair}
 use Rattle.xfs_dirindex.specs.Data.{due_pairs}
 use Rattle.xfs_dirbuild.specs.Forms.{data_count}
 use Rattle.xfs_dirbuild.specs.Filling.{filled, shares, pairs_from, rest_in}
+use Rattle.xfs_dirbuild.specs.Blocks.{data_block, blocks_in}
 use Rattle.xfs_dirbuild.specs.Placed.{IsDataBlock}
+use Rattle.xfs_dirbuild.proofs.Sections.{section-push}
 use Rattle.xfs_dirbuild.proofs.Filled.{later, later-some, count-fits, count-full}
 
 pub left-on : (ss : List (List EntryRec)) (n : ℕ) (x : List EntryRec) (rest : List (List EntryRec)) → drop n ss ≡ x ∷ rest → drop (n + 1) ss ≡ rest
@@ -50,6 +52,21 @@ blocks-on ss n x rest old new at were same here k less =
           subst (λ (m : ℕ). IsDataBlock (get_or ss m []) (get_or new m [])) last
           (subst (λ (es : List EntryRec). IsDataBlock es (get_or new n [])) (sym (there-on ss n x rest at)) here)
     ]
+
+-- and these are its bytes
+pub bytes-on : (ss : List (List EntryRec)) (n : ℕ) (x : List EntryRec) (rest : List (List EntryRec)) (old new : List (List ℕ)) → drop n ss ≡ x ∷ rest
+    → length new ≡ length old → n < length old → ((k : ℕ) → k < n → get_or new k [] ≡ get_or old k []) → get_or new n [] ≡ data_block x
+    → blocks_in old 0 n ≡ map data_block (take n ss) → blocks_in new 0 (n + 1) ≡ map data_block (take (n + 1) ss)
+bytes-on ss n x rest old new at long room same put were =
+    let inside = room-on ss n x rest at in
+    let here : 0 + n ≡ n = omega arith in
+    section-push old new 0 n (data_block x) long (omega arith)
+    (λ k less.
+    let there : 0 + k ≡ k = omega arith in
+    ap (λ (m : ℕ). get_or new m []) there ∙ (same k less ∙ ap (λ (m : ℕ). get_or old m []) (sym there)))
+    (ap (λ (m : ℕ). get_or new m []) here ∙ put)
+    ∙ (ap₂ (λ (bs : List (List ℕ)) (y : List EntryRec). bs ++ data_block y ∷ []) were (sym (there-on ss n x rest at))
+    ∙ (sym (map-append data_block (take n ss) (get_or ss n [] ∷ [])) ∙ ap (map data_block) (sym (take_more ss n [] (omega arith)))))
 
 -- all blocks are filled
 pub all-done : (ss : List (List EntryRec)) (n start : ℕ) (es : List EntryRec) → drop n ss ≡ later (drop start es) → length es ≤ start → n ≤ length ss → n ≡ length ss

@@ -18,3 +18,7 @@ pub mod WholeNode
 pub mod WholeSingle
 pub mod Ascending
 pub mod Magics
+pub mod InRank
+pub mod Sections
+pub mod BlockBytes
+pub mod TreeBytes

@@ -1,8 +1,9 @@
 -- One block more of a row is written.
-use Rattle.std.proofs.Common.{◌≡◌, ℕ, ◌+◌, ◌-◌, ◌*◌, ◌<◌, ◌≤◌, inr, true, false, List, [], ◌∷◌, ◌++◌, length, take, drop, get_or, sym, ◌∙◌, ap, subst, arith}
-use Rattle.std.specs.List.{All}
+use Rattle.std.proofs.Common.{◌≡◌, ℕ, ◌+◌, ◌-◌, ◌*◌, ◌<◌, ◌≤◌, inr, true, false, List, [], ◌∷◌, ◌++◌, map, length, take, drop, get_or, sym, ◌∙◌, ap, ap₂, subst, arith}
+use Rattle.std.specs.List.{All, range_with_len}
 use Rattle.std.proofs.Math.Seq.{take-add}
 use Rattle.std.proofs.lemmas.List.{length-take-le, length-drop}
+use Rattle.std.proofs.lemmas.List.FromFn.{map-range_with_len_more}
 use Rattle.std.proofs.lemmas.Bool.Decides.{nat_tests}
 use Rattle.xfs_word.specs.Field.{field_of}
 use Rattle.xfs_word.proofs.Written.{keeps}
@@ -10,8 +11,11 @@ use Rattle.xfs_dirindex.specs.declared.pairs.Pair.{Pair}
 use Rattle.xfs_dirindex.specs.Mapped.{Mapped}
 use Rattle.xfs_dirindex.specs.Lookup.{bytes_of}
 use Rattle.xfs_dirindex.specs.IndexTree.{next_of, is_member, are_members, pairs_below}
+use Rattle.xfs_dirindex.specs.Pairs.{pairs_at}
+use Rattle.xfs_dirbuild.specs.Blocks.{index_block, row_block, share_at, last_hash, link_at}
 use Rattle.xfs_dirbuild.specs.Index.{IsPointer, IsIndexBlock, before_at, next_at, share_of, first_of, IsPlaced, Holds}
 use Rattle.xfs_dirbuild.proofs.Shares.{share_inside}
+use Rattle.xfs_dirbuild.proofs.BlockBytes.{last-part}
 use Rattle.xfs_dirbuild.proofs.Rows.{index-placed, member, members-more, below-more}
 
 -- how long a share is
@@ -75,3 +79,29 @@ row-below ms level before next start share pairs links x block were =
     let width : start + share - start ≡ share = omega arith in
     below-more ms links x level before next (take (start + share - start) (drop start pairs)) (take start pairs) (take (start + share) pairs) block.stands were
     (take-add start share pairs ∙ ap (λ (n : ℕ). take start pairs ++ take n (drop start pairs)) (sym width))
+
+-- what a block of the row has
+pub share-is : (pairs : List Pair) (m i start share : ℕ) → start ≡ first_of (length pairs) m i → share ≡ share_of (length pairs) m i
+    → take (start + share - start) (drop start pairs) ≡ share_at m pairs i
+share-is pairs m i start share start_is share_is =
+    let width : start + share - start ≡ share_of (length pairs) m i = omega (arith, share_is) in
+    ap₂ (λ (n a : ℕ). take n (drop a pairs)) width start_is
+
+-- its link, and its bytes
+pub link-is : (first m i share : ℕ) (pairs part : List Pair) (x : Pair) (block : List ℕ) → part ≡ share_at m pairs i → 1 ≤ share → length part ≡ share
+    → pairs_at block 64 (length part) ≡ part → x.hash ≡ field_of block (56 + 8 * share) 4 → x.address ≡ 0x800000 + (first + i) → x ≡ link_at first m pairs i
+link-is first m i share pairs part x block is some long stand hash address =
+    ap₂ (λ (h a : ℕ). let p : Pair = record { hash = h; address = a } in p) (hash ∙ (last-part block share part some long stand ∙ ap last_hash is)) address
+
+pub block-is : (level before next first m i : ℕ) (pairs part : List Pair) (block : List ℕ) → part ≡ share_at m pairs i → before ≡ before_at first i
+    → next ≡ next_at first m (i + 1) → block ≡ index_block level before next part → block ≡ row_block level first m pairs i
+block-is level before next first m i pairs part block is before_is next_is bytes =
+    bytes
+    ∙ (ap₂ (λ (b n : ℕ). index_block level b n part) before_is next_is ∙ ap (index_block level (before_at first i) (next_at first m (i + 1))) is)
+
+-- one link more
+pub links-more : (first m i : ℕ) (pairs old new : List Pair) (x : Pair) → new ≡ old ++ x ∷ [] → x ≡ link_at first m pairs i
+    → old ≡ map (link_at first m pairs) (range_with_len 0 i) → new ≡ map (link_at first m pairs) (range_with_len 0 (i + 1))
+links-more first m i pairs old new x pushed is were =
+    pushed
+    ∙ (ap₂ (λ (xs : List Pair) (y : Pair). xs ++ y ∷ []) were is ∙ sym (map-range_with_len_more (link_at first m pairs) 0 i i (omega arith)))

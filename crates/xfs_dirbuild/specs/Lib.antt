@@ -2,6 +2,8 @@ pub mod Filling
 pub mod Forms
 pub mod Index
 pub mod FreeBlocks
+pub mod Ranking
+pub mod Blocks
 pub mod Placed
 pub mod SingleBlock
 pub mod Names

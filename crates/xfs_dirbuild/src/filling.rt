@@ -1,15 +1,16 @@
 //! Data blocks, filled with entries one after the other.
 
 ghost use Rattle.std.specs.Prelude.{◌≡◌, ℕ, [], ◌∷◌, ◌++◌, ◌+◌, ◌-◌, ◌<◌, ◌≤◌, ◌^◌, length, map, All, Some, IfOk, IfSome, OnOk, IsPermutation, slice_index_or, slice_set, take};
-ghost use Rattle.xfs_dirdata.specs.Written.{IsWritable, data_length, first_entries, placed_entries, offsets};
+ghost use Rattle.xfs_dirdata.specs.Written.{IsWritable, zeros, data_length, first_entries, placed_entries, offsets};
 ghost use Rattle.xfs_word.specs.Hash.{hash_of};
 ghost use Rattle.xfs_dirindex.specs.Data.{due_pairs, address_of};
 ghost use Rattle.xfs_dirindex.specs.Sorted.{IsRanked};
+ghost use Rattle.xfs_dirbuild.specs.Blocks.{data_block, blocks_in};
 ghost use Rattle.xfs_dirbuild.specs.Filling.{shares, pairs_from, rest_in};
 ghost use Rattle.xfs_dirbuild.specs.Index.{IsPointer};
 ghost use Rattle.xfs_dirbuild.specs.Placed.{IsDataBlock};
 
-use crate::writing::put_block;
+use crate::writing::{blank, put_block};
 use std::alloc::Global;
 use xfs_bank::BlockBank;
 use xfs_dirdata::layouts::data_block::HEADER_SIZE;
@@ -46,6 +47,7 @@ pub fn fill_blocks(
     ensures added { IfOk result (λ stated. length stated.pairs.items ≡ length entries.now + 2) }
     ensures rests { IfOk result (λ stated. stated.rests.items ≡ map rest_in (shares dir parent entries.now)) }
     ensures blocks { OnOk result ((k : ℕ) → k < length (shares dir parent entries.now) → IsDataBlock (slice_index_or (shares dir parent entries.now) k []) (slice_index_or blocks.new k [])) }
+    ensures bytes { OnOk result (blocks_in blocks.new 0 (length (shares dir parent entries.now)) ≡ map data_block (shares dir parent entries.now)) }
     ensures count { length blocks.new ≡ length blocks.old }
 {
     let mut stated = Stated {
@@ -80,6 +82,7 @@ fn fill_block(
     ensures fits { IfOk result (λ count. 64 + data_length (placed_entries first entries.now count) ≤ 4096) }
     ensures longest { IfOk result (λ count. count < length entries.now → 4096 < 64 + data_length (placed_entries first entries.now (count + 1))) }
     ensures block { IfOk result (λ count. IsDataBlock (placed_entries first entries.now count) (slice_index_or blocks.new number [])) }
+    ensures bytes { IfOk result (λ count. slice_index_or blocks.new number [] ≡ data_block (placed_entries first entries.now count)) }
     ensures count { length blocks.new ≡ length blocks.old }
     ensures others { (k : ℕ) → k < number → slice_index_or blocks.new k [] ≡ slice_index_or blocks.old k [] }
     ensures pairs { IfOk result (λ count. stated.new.pairs.items ≡ stated.old.pairs.items ++ due_pairs number (placed_entries first entries.now count) (offsets 64 (placed_entries first entries.now count))) }
@@ -87,7 +90,7 @@ fn fill_block(
     ensures added { IfOk result (λ count. length stated.new.pairs.items ≡ length stated.old.pairs.items + length (first_entries first) + count) }
     ensures rests { IfOk result (λ count. stated.new.rests.items ≡ stated.old.rests.items ++ rest_in (placed_entries first entries.now count) ∷ []) }
 {
-    let mut block = [0; BLOCK_SIZE];
+    let mut block = blank();
     let count = put_data_block(entries, first, &mut block);
     put_block(number, &block, blocks);
     let start = add_first(first, number as u64, &mut stated.pairs)?;
@@ -102,10 +105,12 @@ fn put_data_block(entries: &[EntryRec], first: Option<(u64, u64)>, block: &mut [
     requires first { IfSome first (λ numbers. (numbers.0 < 2 ^ 32) × (numbers.1 < 2 ^ 32)) }
     requires room { data_length (first_entries first) ≤ 32 }
     requires long { length block.old ≡ 4096 }
+    requires blank { block.old ≡ zeros 4096 }
     ensures within { result ≤ length entries.now }
     ensures fits { 64 + data_length (placed_entries first entries.now result) ≤ 4096 }
     ensures longest { result < length entries.now → 4096 < 64 + data_length (placed_entries first entries.now (result + 1)) }
     ensures block { IsDataBlock (placed_entries first entries.now result) block.new }
+    ensures bytes { block.new ≡ data_block (placed_entries first entries.now result) }
 {
     put32(block, 0, data_magic(false));
     put_data(entries, first, block)

@@ -2,14 +2,15 @@
 
 ghost use Rattle.std.specs.Prelude.{◌≡◌, ℕ, [], ◌+◌, ◌*◌, ◌<◌, ◌≤◌, ◌^◌, length, slice_index_or};
 ghost use Rattle.std.specs.Prelude.{◌⊎◌};
+ghost use Rattle.xfs_dirdata.specs.Written.{zeros};
+ghost use Rattle.xfs_dirbuild.specs.Blocks.{free_block, free_blocks, blocks_in};
 ghost use Rattle.xfs_dirbuild.specs.Forms.{value_blocks};
 ghost use Rattle.xfs_dirbuild.specs.FreeBlocks.{IsFreeBlock, values_in};
 
 use crate::forms::value_blocks;
-use crate::writing::{put_block, put_values};
+use crate::writing::{blank, put_block, put_values};
 use xfs_bank::BlockBank;
 use xfs_dirindex::layouts::free_block::{FIRST, HEADER_SIZE, MOST_VALUES, USED, VALID};
-use xfs_disk::BLOCK_SIZE;
 use xfs_word::put32;
 
 /// The magic number of a free block.
@@ -22,13 +23,14 @@ pub fn put_free_blocks(values: &[u16], base: usize, blocks: &mut BlockBank)
     requires base { base ≤ 2 ^ 33 }
     requires room { base + value_blocks (length values.now) ≤ length blocks.old }
     ensures blocks { (i : ℕ) → i < value_blocks (length values.now) → IsFreeBlock (2016 * i) (values_in values.now i) (slice_index_or blocks.new (base + i) []) }
+    ensures bytes { blocks_in blocks.new base (value_blocks (length values.now)) ≡ free_blocks values.now }
     ensures count { length blocks.new ≡ length blocks.old }
     ensures others { (k : ℕ) → k < base → slice_index_or blocks.new k [] ≡ slice_index_or blocks.old k [] }
 {
     for i in 0..value_blocks(values.len()) {
         let first = MOST_VALUES * i;
         let end = (first + MOST_VALUES).min(values.len());
-        let mut block = [0; BLOCK_SIZE];
+        let mut block = blank();
         put_free(first as u32, &values[first..end], &mut block);
         put_block(base + i, &block, blocks);
     }
@@ -38,7 +40,9 @@ pub fn put_free_blocks(values: &[u16], base: usize, blocks: &mut BlockBank)
 fn put_free(first: u32, values: &[u16], block: &mut [u8])
     requires most { length values.now ≤ 2016 }
     requires long { length block.old ≡ 4096 }
-    ensures { IsFreeBlock first values.now block.new }
+    requires blank { block.old ≡ zeros 4096 }
+    ensures stands { IsFreeBlock first values.now block.new }
+    ensures bytes { block.new ≡ free_block first values.now }
 {
     put_values(values, HEADER_SIZE, block);
     put32(block, 0, FREE_MAGIC);

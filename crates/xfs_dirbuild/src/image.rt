@@ -2,10 +2,12 @@
 
 ghost use Rattle.std.specs.Prelude.{◌≡◌, ℕ, List, [], ◌+◌, ◌<◌, ◌≤◌, ◌^◌, length, map, All, Some, IfOk, IsTrue};
 ghost use Rattle.xfs_dirdata.specs.Short.{short_of};
+ghost use Rattle.xfs_dirdata.specs.Bytes.{short_bytes};
 ghost use Rattle.xfs_dirdata.specs.Written.{IsWritable, in_directory};
 ghost use Rattle.xfs_dirdata.specs.declared.records.EntryRec.{EntryRec};
 ghost use Rattle.xfs_dirindex.specs.Data.{have_no_dots};
 ghost use Rattle.xfs_dirbuild.specs.declared.forms.Form.TheVariants.{Short, Single, Leaf};
+ghost use Rattle.xfs_dirbuild.specs.Blocks.{dir_blocks};
 ghost use Rattle.xfs_dirbuild.specs.Forms.{fits_single, fits_leaf, form_of, data_blocks_of, index_blocks_of, free_blocks_of};
 ghost use Rattle.xfs_dirbuild.specs.Placed.{HaveMagics, IsBuilt};
 
@@ -51,6 +53,7 @@ pub fn build(
 
     ensures short { IfOk result (λ image. form_of entries.now fork ≡ Short → (d : ℕ) →
         short_of d image.short.items ≡ Some (record { parent = parent; entries = map (in_directory d) entries.now })) }
+    ensures short_bytes { IfOk result (λ image. form_of entries.now fork ≡ Short → image.short.items ≡ short_bytes parent entries.now) }
     ensures none { IfOk result (λ image. (form_of entries.now fork ≡ Short → ⊥) → image.short.items ≡ []) }
 
     ensures data { IfOk result (λ image. image.data_blocks ≡ data_blocks_of (form_of entries.now fork) entries.now) }
@@ -60,6 +63,9 @@ pub fn build(
 
     ensures magics { IfOk result (λ image. HaveMagics image.data_blocks image.index_blocks image.free_blocks image.blocks) }
     ensures whole { IfOk result (λ image. IsBuilt (form_of entries.now fork) dir parent image.data_blocks image.index_blocks image.free_blocks entries.now image.blocks) }
+
+    // Each byte of the blocks; those of their seals are zero.
+    ensures bytes { IfOk result (λ image. image.blocks ≡ dir_blocks (form_of entries.now fork) dir parent entries.now) }
 {
     let form = form_of(entries, fork);
     let short = build_short(alloc, form, entries, parent)?;
@@ -86,6 +92,7 @@ fn build_short(
     requires fits { form ≡ Short → IsTrue (fits_single entries.now) }
     ensures short { IfOk result (λ short. form ≡ Short → (d : ℕ) →
         short_of d short.items ≡ Some (record { parent = parent; entries = map (in_directory d) entries.now })) }
+    ensures bytes { IfOk result (λ short. form ≡ Short → short.items ≡ short_bytes parent entries.now) }
     ensures none { IfOk result (λ short. (form ≡ Short → ⊥) → short.items ≡ []) }
 {
     if form != Form::Short {
@@ -101,7 +108,8 @@ fn write_short(alloc: Global, entries: &[EntryRec], parent: u64) -> Result<Vec<u
     requires few { length entries.now ≤ 2 ^ 24 }
     requires parent { parent < 2 ^ 32 }
     requires fits { IsTrue (fits_single entries.now) }
-    ensures { IfOk result (λ short. (d : ℕ) → short_of d short.items ≡ Some (record { parent = parent; entries = map (in_directory d) entries.now })) }
+    ensures read { IfOk result (λ short. (d : ℕ) → short_of d short.items ≡ Some (record { parent = parent; entries = map (in_directory d) entries.now })) }
+    ensures bytes { IfOk result (λ short. short.items ≡ short_bytes parent entries.now) }
 {
     let mut short = vec![in alloc; 0; 6 + short_length(entries)]?;
     put_short(parent, entries, short.as_mut_slice());
@@ -126,6 +134,7 @@ fn build_blocks(
     ensures count { IfOk result (λ blocks. length blocks ≡ data_blocks_of form entries.now + index_blocks_of form entries.now + free_blocks_of form entries.now) }
     ensures magics { IfOk result (λ blocks. HaveMagics (data_blocks_of form entries.now) (index_blocks_of form entries.now) (free_blocks_of form entries.now) blocks) }
     ensures whole { IfOk result (λ blocks. IsBuilt form dir parent (data_blocks_of form entries.now) (index_blocks_of form entries.now) (free_blocks_of form entries.now) entries.now blocks) }
+    ensures bytes { IfOk result (λ blocks. blocks ≡ dir_blocks form dir parent entries.now) }
 {
     match form {
         Form::Short => no_blocks(alloc),
@@ -138,6 +147,7 @@ fn build_blocks(
 /// The blocks of a short form: none.
 #[tactic(auto, unfolding(crate::specs::Placed::entries_in))]
 fn no_blocks(alloc: Global) -> Result<BlockBank, NoMemory>
+    ensures none { IfOk result (λ blocks. blocks ≡ []) }
     ensures count { IfOk result (λ blocks. length blocks ≡ 0) }
     ensures magics { IfOk result (λ blocks. HaveMagics 0 0 0 blocks) }
     ensures whole { IfOk result (λ blocks. (dir parent : ℕ) (entries : List EntryRec) → IsBuilt Short dir parent 0 0 0 entries blocks) }

@@ -1,7 +1,9 @@
 //! The index blocks of the leaf form and of the tree of the node form, written.
 
 ghost use Rattle.std.specs.Prelude.{◌≡◌, ◌+◌, ◌*◌, ◌<◌, ◌≤◌, length, All};
+ghost use Rattle.xfs_dirdata.specs.Written.{zeros};
 ghost use Rattle.xfs_dirindex.specs.IndexTree.{form_of};
+ghost use Rattle.xfs_dirbuild.specs.Blocks.{index_block, leaf_block};
 ghost use Rattle.xfs_dirbuild.specs.Index.{IsPointer, IsIndexBlock, IsLeafBlock};
 
 use crate::writing::{put_pairs, put_values};
@@ -18,7 +20,9 @@ pub fn put_index(level: u16, pairs: &[Pair], before: u32, next: u32, block: &mut
     requires pointers { All IsPointer pairs.now }
     requires most { length pairs.now ≤ 504 }
     requires long { length block.old ≡ 4096 }
-    ensures { IsIndexBlock level before next pairs.now block.new }
+    requires blank { block.old ≡ zeros 4096 }
+    ensures stands { IsIndexBlock level before next pairs.now block.new }
+    ensures bytes { block.new ≡ index_block level before next pairs.now }
 {
     put32(block, FORW.offset, next);
     put32(block, BACK.offset, before);
@@ -44,7 +48,9 @@ pub fn put_leaf(pairs: &[Pair], values: &[u16], block: &mut [u8])
     requires pointers { All IsPointer pairs.now }
     requires fit { 64 + 8 * length pairs.now + 2 * length values.now + 4 ≤ 4096 }
     requires long { length block.old ≡ 4096 }
-    ensures { IsLeafBlock pairs.now values.now block.new }
+    requires blank { block.old ≡ zeros 4096 }
+    ensures stands { IsLeafBlock pairs.now values.now block.new }
+    ensures bytes { block.new ≡ leaf_block pairs.now values.now }
 {
     put_values(
         values,

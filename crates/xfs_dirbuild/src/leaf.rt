@@ -4,6 +4,7 @@ ghost use Rattle.std.specs.Prelude.{◌≡◌, ◌+◌, ◌<◌, ◌≤◌, ◌^
 ghost use Rattle.xfs_dirdata.specs.Written.{IsWritable};
 ghost use Rattle.xfs_dirindex.specs.Data.{have_no_dots};
 ghost use Rattle.xfs_dirbuild.specs.declared.forms.Form.TheVariants.{Leaf, Node};
+ghost use Rattle.xfs_dirbuild.specs.Blocks.{dir_blocks};
 ghost use Rattle.xfs_dirbuild.specs.Forms.{data_count, fits_leaf, tree_count, value_blocks};
 ghost use Rattle.xfs_dirbuild.specs.Placed.{HaveMagics, IsBuilt};
 
@@ -12,11 +13,11 @@ use crate::forms::{data_count, tree_count, value_blocks};
 use crate::free_blocks::put_free_blocks;
 use crate::index_blocks::put_leaf;
 use crate::tree::put_tree;
-use crate::writing::put_block;
+use crate::writing::{blank, put_block};
 use std::alloc::Global;
 use xfs_bank::BlockBank;
 use xfs_dirdata::EntryRec;
-use xfs_disk::{BLOCK_SIZE, NoMemory};
+use xfs_disk::NoMemory;
 
 /// The blocks of a directory whose index fits one block: data blocks, and behind them the index block.
 pub fn build_leaf(
@@ -34,12 +35,13 @@ pub fn build_leaf(
     ensures count { IfOk result (λ blocks. length blocks ≡ data_count entries.now + 1) }
     ensures magics { IfOk result (λ blocks. HaveMagics (data_count entries.now) 1 0 blocks) }
     ensures whole { IfOk result (λ blocks. IsBuilt Leaf dir parent (data_count entries.now) 1 0 entries.now blocks) }
+    ensures bytes { IfOk result (λ blocks. blocks ≡ dir_blocks Leaf dir parent entries.now) }
 {
     let data = data_count(entries);
     let mut blocks = BlockBank::make(alloc, data + 1)?;
     let mut stated = fill_blocks(alloc, entries, dir, parent, &mut blocks)?;
     sort_pairs(&mut stated.pairs)?;
-    let mut block = [0; BLOCK_SIZE];
+    let mut block = blank();
     put_leaf(&stated.pairs, &stated.rests, &mut block);
     put_block(data, &block, &mut blocks);
     Ok(blocks)
@@ -62,6 +64,7 @@ pub fn build_node(
     ensures count { IfOk result (λ blocks. length blocks ≡ data_count entries.now + tree_count (length entries.now + 2) + value_blocks (data_count entries.now)) }
     ensures magics { IfOk result (λ blocks. HaveMagics (data_count entries.now) (tree_count (length entries.now + 2)) (value_blocks (data_count entries.now)) blocks) }
     ensures whole { IfOk result (λ blocks. IsBuilt Node dir parent (data_count entries.now) (tree_count (length entries.now + 2)) (value_blocks (data_count entries.now)) entries.now blocks) }
+    ensures bytes { IfOk result (λ blocks. blocks ≡ dir_blocks Node dir parent entries.now) }
 {
     let data = data_count(entries);
     let index = tree_count(entries.len() + 2);

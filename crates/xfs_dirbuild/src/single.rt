@@ -7,6 +7,7 @@ ghost use Rattle.xfs_dirdata.specs.Written.{IsWritable, data_length, written_are
 ghost use Rattle.xfs_dirindex.specs.Pairs.{pairs_at};
 ghost use Rattle.xfs_dirindex.specs.Data.{have_no_dots};
 ghost use Rattle.xfs_dirbuild.specs.declared.forms.Form.TheVariants.{Single};
+ghost use Rattle.xfs_dirbuild.specs.Blocks.{area_bytes, single_block, dir_blocks};
 ghost use Rattle.xfs_dirbuild.specs.Filling.{all_entries};
 ghost use Rattle.xfs_dirbuild.specs.Index.{IsPointer};
 ghost use Rattle.xfs_dirbuild.specs.Placed.{HaveMagics, IsBuilt};
@@ -40,6 +41,7 @@ pub fn build_single(
     ensures count { IfOk result (λ blocks. length blocks ≡ 1) }
     ensures magics { IfOk result (λ blocks. HaveMagics 1 0 0 blocks) }
     ensures whole { IfOk result (λ blocks. IsBuilt Single dir parent 1 0 0 entries.now blocks) }
+    ensures bytes { IfOk result (λ blocks. blocks ≡ dir_blocks Single dir parent entries.now) }
 {
     let mut pairs = Vec::new(alloc);
     let start = add_first(Some((dir, parent)), 0, &mut pairs)?;
@@ -68,7 +70,8 @@ fn put_single(
     requires all { length pairs.now ≡ length entries.now + 2 }
     requires fit { 96 + data_length entries.now + 8 * length pairs.now + 8 ≤ 4096 }
     requires long { length block.old ≡ 4096 }
-    ensures { OnOk result (IsSingleBlock dir parent entries.now pairs.now block.new) }
+    ensures stands { OnOk result (IsSingleBlock dir parent entries.now pairs.now block.new) }
+    ensures bytes { OnOk result (block.new ≡ single_block (all_entries dir parent entries.now) pairs.now) }
 {
     let end = COUNT.offset - PAIR_SIZE * pairs.len();
     put_area(alloc, entries, dir, parent, end, block)?;
@@ -96,6 +99,7 @@ fn put_area(
     requires long { length block.old ≡ 4096 }
     ensures magic { OnOk result (field_of block.new 0 4 ≡ 0x58444233) }
     ensures area { OnOk result ((d : ℕ) → area_of d (part_of block.new 0 end) ≡ Some (written_area d (all_entries dir parent entries.now) end)) }
+    ensures bytes { OnOk result (part_of block.new 0 end ≡ area_bytes (all_entries dir parent entries.now) end) }
 {
     let mut bytes = vec![in alloc; 0; end]?;
     let area = bytes.as_mut_slice();

@@ -5,18 +5,19 @@ ghost use Rattle.std.specs.Prelude.{◌≡◌, ℕ, true, false, [], ◌+◌, �
 ghost use Rattle.xfs_word.specs.Field.{field_of};
 ghost use Rattle.xfs_dirindex.specs.Mapped.{Mapped};
 ghost use Rattle.xfs_dirindex.specs.IndexTree.{places_of, are_members, pairs_below};
+ghost use Rattle.xfs_dirbuild.specs.Blocks.{row_blocks, links_of, tree_blocks, blocks_in};
 ghost use Rattle.xfs_dirbuild.specs.Forms.{tree_count};
 ghost use Rattle.xfs_dirbuild.specs.Index.{IsPointer, IsIndexBlock, IsIndexed, before_at, next_at, share_of, Holds, places_in, IsTreeOf};
 
 use crate::forms::{leaf_blocks, nodes_above};
 use crate::index_blocks::put_index;
 use crate::sharing::share_of;
-use crate::writing::put_block;
+use crate::writing::{blank, put_block};
 use std::alloc::Global;
 use xfs_bank::BlockBank;
 use xfs_dirindex::layouts::INDEX_START;
 use xfs_dirindex::{PAIR_SIZE, Pair};
-use xfs_disk::{BLOCK_SIZE, NoMemory};
+use xfs_disk::NoMemory;
 use xfs_word::get32;
 
 /// Writes the tree over these pairs, which are in order, from block `base` of a bank on.
@@ -33,6 +34,7 @@ pub fn put_tree(
     requires base { base ≤ 2 ^ 32 }
     requires room { base + tree_count (length pairs.now) ≤ length blocks.old }
     ensures tree { OnOk result ((ms : List Mapped) → Holds ms blocks.new base 0 (tree_count (length pairs.now)) → IsTreeOf ms (tree_count (length pairs.now)) pairs.now) }
+    ensures bytes { OnOk result (blocks_in blocks.new base (tree_count (length pairs.now)) ≡ tree_blocks pairs.now) }
     ensures indexed { OnOk result ((k : ℕ) → k < tree_count (length pairs.now) → IsIndexed (slice_index_or blocks.new (base + k) [])) }
     ensures count { length blocks.new ≡ length blocks.old }
     ensures others { (k : ℕ) → k < base → slice_index_or blocks.new k [] ≡ slice_index_or blocks.old k [] }
@@ -76,6 +78,8 @@ fn put_row(
     ensures below { IfOk result (λ links. (ms : List Mapped) → Holds ms blocks.new base first count → pairs_below ms links.items ≡ pairs.now) }
     ensures places { IfOk result (λ links. places_of links.items ≡ places_in first count) }
     ensures pointers { IfOk result (λ links. All IsPointer links.items) }
+    ensures row { IfOk result (λ links. links.items ≡ links_of first count pairs.now) }
+    ensures bytes { OnOk result (blocks_in blocks.new (base + first) count ≡ row_blocks level first count pairs.now) }
     ensures indexed { OnOk result ((k : ℕ) → k < count → IsIndexed (slice_index_or blocks.new (base + first + k) [])) }
     ensures links { IfOk result (λ links. length links.items ≡ count) }
     ensures count { length blocks.new ≡ length blocks.old }
@@ -85,7 +89,7 @@ fn put_row(
     let mut start = 0;
     for i in 0..count {
         let share = share_of(pairs.len(), count, i);
-        let mut block = [0; BLOCK_SIZE];
+        let mut block = blank();
         let before = before_at(first, i);
         let next = next_at(first, count, i + 1);
         put_index(

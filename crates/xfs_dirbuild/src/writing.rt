@@ -2,11 +2,13 @@
 
 ghost use Rattle.std.specs.Prelude.{◌≡◌, ◌+◌, ◌*◌, ◌<◌, ◌≤◌, length, All, slice_set};
 ghost use Rattle.xfs_word.specs.Field.{SameBeside, Keeps, KeepsParts};
+ghost use Rattle.xfs_dirdata.specs.Written.{zeros};
 ghost use Rattle.xfs_dirindex.specs.Pairs.{pair_at, pairs_at};
 ghost use Rattle.xfs_dirbuild.specs.Index.{IsPointer, AreValues};
 
 use xfs_bank::BlockBank;
 use xfs_dirindex::{PAIR_SIZE, Pair};
+use xfs_disk::BLOCK_SIZE;
 use xfs_word::{put16, put32};
 
 /// Writes these pairs one behind the other from the byte offset `at` on.
@@ -52,11 +54,30 @@ fn put_pair(pair: Pair, at: usize, block: &mut [u8])
 pub fn put_values(values: &[u16], at: usize, block: &mut [u8])
     requires inside { at + 2 * length values.now ≤ length block.old }
     requires short { length block.old ≤ 4096 }
-    ensures { AreValues values.now at block.new }
+    ensures values { AreValues values.now at block.new }
+    ensures keeps_parts { KeepsParts block.old block.new at (2 * length values.now) }
+{
+    write_values(values, at, block);
+}
+
+/// Writes values, and leaves the bytes beside them.
+fn write_values(values: &[u16], at: usize, block: &mut [u8])
+    requires inside { at + 2 * length values.now ≤ length block.old }
+    requires short { length block.old ≤ 4096 }
+    ensures values { AreValues values.now at block.new }
+    ensures others { SameBeside block.old block.new at (2 * length values.now) }
 {
     for (j, value) in values.iter().enumerate() {
         put16(block, at + 2 * j, *value);
     }
+}
+
+/// A block of zeros.
+#[tactic(auto, unfolding(xfs_dirdata::specs::Written::zeros))]
+pub fn blank() -> [u8; BLOCK_SIZE]
+    ensures { result ≡ zeros 4096 }
+{
+    [0; BLOCK_SIZE]
 }
 
 /// Puts a block in the place of block `i` of a bank.

@@ -50,7 +50,7 @@ pair_trans x y z one other = on x.hash x.address y.hash y.address z.hash z.addre
     on : (a b c d e f : ℕ) → (nat_lt a c || (a == c && nat_le b d)) ≡ true → (nat_lt c e || (c == e && nat_le d f)) ≡ true → (nat_lt a e || (a == e && nat_le b f)) ≡ true
     on a b c d e f one other = grind (arith, nat_tests)
 
-order : IsOrder is_upto is_pair
+pub order : IsOrder is_upto is_pair
 order = record { itself = pair_itself; one = pair_one; both = pair_both; least = pair_least }
 
 upto_from_cmp : (x y : Pair) → is_lt (cmp-value.it y x) ≡ false → is_upto x y ≡ true
@@ -60,7 +60,7 @@ upto_from_cmp x y e = on x.hash x.address y.hash y.address e
     on a b c d e = grind (arith, nat_tests)
 
 -- what a sort gives is in order
-all_upto : (x y : Pair) → is_upto x y ≡ true → (ys : List Pair) → list_all (is_upto y) ys ≡ true → list_all (is_upto x) ys ≡ true
+pub all_upto : (x y : Pair) → is_upto x y ≡ true → (ys : List Pair) → list_all (is_upto y) ys ≡ true → list_all (is_upto x) ys ≡ true
 all_upto x y e [] all = refl
 all_upto x y e (z ∷ zs) all =
     let parts = and_parts (is_upto y z) (list_all (is_upto y) zs) all in
@@ -108,7 +108,7 @@ same_gives xs ys same p =
       | inr none ↦ omega arith
     ]
 
-times_moved : (p : Pair) (xs ys : List Pair) → IsPermutation xs ys → times p ys ≡ times p xs
+pub times_moved : (p : Pair) (xs ys : List Pair) → IsPermutation xs ys → times p ys ≡ times p xs
 times_moved p xs ys moved = sum_by-IsPermutation (λ q. cond (is_pair p q) 1 0) xs ys moved
 
 pub compared : (xs ys a b : List Pair) (same : Bool) → IsPermutation xs a → IsPermutation ys b → IsRanked a → IsRanked b → same ≡ pointwise eq-value.it a b → same ≡ are_same xs ys

@@ -13,7 +13,7 @@ pub record IsOrder {X : Type 0} (upto same : X → X → Bool) : Type 0 where
   pub least : (x : X) → upto x x ≡ true
 
 -- a list counts an element at its head, and one more further on
-count-cons : {X : Type 0} (p : X → Bool) (x : X) (xs : List X) → count_by p (x ∷ xs) ≡ cond (p x) 1 0 + count_by p xs
+pub count-cons : {X : Type 0} (p : X → Bool) (x : X) (xs : List X) → count_by p (x ∷ xs) ≡ cond (p x) 1 0 + count_by p xs
 count-cons p x xs = sum_by-cons (λ y. cond (p y) 1 0) x xs
 
 -- what is in a list whose elements all pass a test passes it

@@ -1,11 +1,12 @@
-use Rattle.std.proofs.Common.{◌≡◌, ℕ, ◌+◌, ◌-◌, ◌<◌, List, [], ◌∷◌, ◌++◌, take, drop, length, map, Option, Some, refl, ◌∙◌, ap, arith}
+use Rattle.std.proofs.Common.{◌≡◌, ℕ, ◌+◌, ◌-◌, ◌<◌, List, [], ◌∷◌, ◌++◌, take, drop, length, map, Option, Some, refl, sym, ◌∙◌, ap, arith}
 use Rattle.std.proofs.lemmas.List.{take_rest, take_all}
 use Rattle.xfs_dirdata.specs.Written.{first_entries, placed_entries, offsets}
 use Rattle.xfs_dirindex.specs.declared.pairs.Pair.{Pair}
 use Rattle.xfs_dirindex.specs.Data.{due_pairs}
 use Rattle.xfs_dirbuild.specs.Filling.{shares, all_entries, pairs_from, rest_in}
+use Rattle.xfs_dirbuild.specs.Blocks.{data_block, blocks_in}
 use Rattle.xfs_dirbuild.proofs.Filled.{later, filled-some, filled-front, next-share}
-use Rattle.xfs_dirbuild.proofs.FillSteps.{left-on, room-on, pairs-on, rests-on, blocks-on, all-done, next-block}
+use Rattle.xfs_dirbuild.proofs.FillSteps.{left-on, room-on, pairs-on, rests-on, blocks-on, bytes-on, all-done, next-block}
 use Rattle.xfs_dirbuild.proofs.filling.fill_blocks.Goals as goal
 
 pub fill_block-requires-clause-inside : goal.fill_block-requires-clause-inside
@@ -36,6 +37,8 @@ loop-start-init c =
       sound = c.in_ok-start.ensures.sound;
       rests = rests-on ss 0 x rest [] c.fill_block.new.stated.rests.items at rests refl;
       blocks_are = blocks-on ss 0 x rest c.args.blocks.now c.fill_block.new.blocks at (λ k none. absurd (omega arith)) (λ k none. absurd (omega arith)) c.in_ok-start.ensures.block;
+      bytes_are = bytes-on ss 0 x rest c.args.blocks.now c.fill_block.new.blocks at c.in_ok-start.ensures.count (omega (arith, room, c.requires.room))
+          (λ k none. absurd (omega arith)) c.in_ok-start.ensures.bytes refl;
       count = c.in_ok-start.ensures.count;
     }
 
@@ -72,6 +75,9 @@ loop-start-preserved c =
       sound = c.in_ok-taken.ensures.sound;
       rests = rests-on ss n x rest c.loop-start.stated.rests.items c.fill_block-in-loop-start.new.stated.rests.items at c.in_ok-taken.ensures.rests c.loop-start.invariant.rests;
       blocks_are = blocks-on ss n x rest c.loop-start.blocks c.fill_block-in-loop-start.new.blocks at c.loop-start.invariant.blocks_are c.in_ok-taken.ensures.others c.in_ok-taken.ensures.block;
+      bytes_are = bytes-on ss n x rest c.loop-start.blocks c.fill_block-in-loop-start.new.blocks at c.in_ok-taken.ensures.count
+          (omega (arith, room-on ss n x rest at, c.requires.room, c.loop-start.invariant.count))
+          c.in_ok-taken.ensures.others c.in_ok-taken.ensures.bytes c.loop-start.invariant.bytes_are;
       count = c.in_ok-taken.ensures.count ∙ c.loop-start.invariant.count;
     }
 
@@ -95,3 +101,10 @@ returns-clause-blocks c =
     let ss = shares c.args.dir c.args.parent c.args.entries.now in
     let end = all-done ss c.loop-start.number c.loop-start.start c.args.entries.now c.loop-start.invariant.left c.loop-start-test.false c.loop-start.invariant.number_in in
     λ k inside. c.loop-start.invariant.blocks_are k (omega (arith, end))
+
+pub returns-clause-bytes : goal.returns-clause-bytes
+returns-clause-bytes c =
+    let ss = shares c.args.dir c.args.parent c.args.entries.now in
+    let end = all-done ss c.loop-start.number c.loop-start.start c.args.entries.now c.loop-start.invariant.left c.loop-start-test.false c.loop-start.invariant.number_in in
+    ap (blocks_in c.loop-start.blocks 0) (sym end)
+    ∙ (c.loop-start.invariant.bytes_are ∙ ap (map data_block) (take_all c.loop-start.number ss (omega (arith, end))))

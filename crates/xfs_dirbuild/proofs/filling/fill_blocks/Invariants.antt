@@ -2,6 +2,7 @@ use Rattle.std.proofs.Common.{◌≡◌, ℕ, ◌++◌, ◌+◌, ◌-◌, ◌<�
 use Rattle.std.specs.List.{All}
 use Rattle.xfs_dirbuild.specs.Filling.{shares, pairs_from, rest_in}
 use Rattle.xfs_dirbuild.specs.Index.{IsPointer}
+use Rattle.xfs_dirbuild.specs.Blocks.{data_block, blocks_in}
 use Rattle.xfs_dirbuild.specs.Placed.{IsDataBlock}
 use Rattle.xfs_dirbuild.proofs.Filled.{later}
 use Rattle.xfs_dirbuild.proofs.filling.fill_blocks.Given as goal
@@ -16,6 +17,7 @@ invariant-loop-start l = record {
   sound : All IsPointer l.stated.pairs.items;
   rests : l.stated.rests.items ≡ map rest_in (take l.number (shares l.dir l.parent l.entries));
   blocks_are : (k : ℕ) → k < l.number → IsDataBlock (get_or (shares l.dir l.parent l.entries) k []) (get_or l.blocks k []);
+  bytes_are : blocks_in l.blocks 0 l.number ≡ map data_block (take l.number (shares l.dir l.parent l.entries));
   count : length l.blocks ≡ length l.fn.blocks;
 }
 

@@ -1,7 +1,11 @@
-use Rattle.std.proofs.Common.{◌≡◌, ℕ, ◌+◌, ◌-◌, ◌*◌, ◌<◌, inl, inr, List, [], length, take, drop, min, get_or, sym, ◌∙◌, ap, subst, arith}
+use Rattle.std.proofs.Common.{◌≡◌, ℕ, ◌+◌, ◌-◌, ◌*◌, ◌<◌, inl, inr, List, [], map, length, take, drop, min, get_or, sym, ◌∙◌, ap, subst, arith}
 use Rattle.std.proofs.lemmas.Bool.{cases_lt}
 use Rattle.std.proofs.lemmas.List.{take_min, length-drop}
+use Rattle.std.specs.List.{range_with_len}
+use Rattle.xfs_dirbuild.specs.Forms.{value_blocks}
 use Rattle.xfs_dirbuild.specs.FreeBlocks.{IsFreeBlock, values_in}
+use Rattle.xfs_dirbuild.specs.Blocks.{free_block, free_block_at, free_blocks, blocks_in}
+use Rattle.xfs_dirbuild.proofs.Sections.{section-more}
 use Rattle.xfs_dirbuild.proofs.Banks.{put-there, put-beside, put-count}
 use Rattle.xfs_dirbuild.proofs.free_blocks.put_free_blocks.Goals as goal
 
@@ -23,7 +27,7 @@ loop-i-preserved c =
     let inside : c.args.base + i < length old = omega (arith, c.value_blocks-i-end.ensures, c.requires.room, c.loop-i.invariant.count) in
     let here : IsFreeBlock (2016 * i) (values_in vs i) (get_or new (c.args.base + i) []) =
     subst (λ (b : List ℕ). IsFreeBlock (2016 * i) (values_in vs i) b) (sym (put-there old new at block is inside))
-    (subst (λ (xs : List ℕ). IsFreeBlock (2016 * i) xs block) part c.put_free.ensures) in
+    (subst (λ (xs : List ℕ). IsFreeBlock (2016 * i) xs block) part c.put_free.ensures.stands) in
     record {
       blocks_are = λ k less. elim (cases_lt k i) [
         | inl before ↦
@@ -33,6 +37,15 @@ loop-i-preserved c =
             let last : i ≡ k = omega arith in
             subst (λ (n : ℕ). IsFreeBlock (2016 * n) (values_in vs n) (get_or new (c.args.base + n) [])) last here
       ];
+      bytes_are = section-more old new c.args.base i block (free_block_at vs) (put-count old new at block is) inside
+          (λ k less. put-beside old new at (c.args.base + k) block is (inl (omega arith))) (put-there old new at block is inside)
+          (c.put_free.ensures.bytes ∙ ap (free_block (2016 * i)) part) c.loop-i.invariant.bytes_are;
       count = put-count old new at block is ∙ c.loop-i.invariant.count;
       others = λ k low. put-beside old new at k block is (inl (omega arith)) ∙ c.loop-i.invariant.others k low;
     }
+
+pub returns-clause-bytes : goal.returns-clause-bytes
+unfolding free_blocks
+returns-clause-bytes c =
+    let end : c.loop-i.i ≡ value_blocks (length c.args.values.now) = omega (arith, c.value_blocks-i-end.ensures) in
+    subst (λ (n : ℕ). blocks_in c.loop-i.blocks c.args.base n ≡ map (free_block_at c.args.values.now) (range_with_len 0 n)) end c.loop-i.invariant.bytes_are

@@ -1,4 +1,4 @@
-use Rattle.std.proofs.Common.{◌≡◌, ℕ, ◌+◌, ◌*◌, ◌<◌, ◌≤◌, length, map, replicate, List, [], get_or, sym, ap, ◌∙◌, subst, inl, arith}
+use Rattle.std.proofs.Common.{◌≡◌, ℕ, ◌+◌, ◌*◌, ◌<◌, ◌≤◌, length, map, replicate, List, [], ◌∷◌, ◌++◌, get_or, sym, ap, ap₂, ◌∙◌, subst, inl, arith}
 use Rattle.std.specs.List.Sorted.{IsPermutation}
 use Rattle.std.proofs.lemmas.List.{length-map, length-replicate}
 use Rattle.std.proofs.lemmas.Bool.{leb-true}
@@ -7,6 +7,10 @@ use Rattle.xfs_dirbuild.specs.Forms.{fits_leaf, data_count}
 use Rattle.xfs_dirbuild.specs.Filling.{shares, rest_in}
 use Rattle.xfs_dirbuild.specs.Index.{IsLeafBlock, IsIndexed}
 use Rattle.xfs_dirbuild.specs.Placed.{IsDataBlock}
+use Rattle.xfs_dirbuild.specs.Filling.{pairs_from}
+use Rattle.xfs_dirbuild.specs.Blocks.{leaf_block, index_of, dir_blocks, blocks_in}
+use Rattle.xfs_dirbuild.proofs.InRank.{ranked-is}
+use Rattle.xfs_dirbuild.proofs.Sections.{section-push, section-all}
 use Rattle.xfs_dirbuild.proofs.Banks.{put-there, put-beside, put-count}
 use Rattle.xfs_dirbuild.proofs.FillSteps.{shares-count, data_count-bound}
 use Rattle.xfs_dirbuild.proofs.Magics.{indexed, data-magic}
@@ -61,7 +65,7 @@ returns-clause-whole c =
     let rests : c.deref-2.result.now ≡ map rest_in ss = c.deref-2.ensures.value ∙ c.in_ok-stated.ensures.rests in
     let leaf : IsLeafBlock pairs (map rest_in ss) (get_or new (data_count es) []) =
     subst (λ (b : List ℕ). IsLeafBlock pairs (map rest_in ss) b) (sym (ap (λ (n : ℕ). get_or new n []) (sym value) ∙ put-there old new d block is (omega (arith, old_long))))
-    (subst (λ (vs : List ℕ). IsLeafBlock pairs vs block) rests (subst (λ (ps : List Pair). IsLeafBlock ps c.deref-2.result.now block) c.deref.ensures.value c.put_leaf.ensures)) in
+    (subst (λ (vs : List ℕ). IsLeafBlock pairs vs block) rests (subst (λ (ps : List Pair). IsLeafBlock ps c.deref-2.result.now block) c.deref.ensures.value c.put_leaf.ensures.stands)) in
     let fits : 64 + 8 * (length c.args.entries.now + 2) + 2 * data_count c.args.entries.now + 4 ≤ 4096 = leb-true _ _ c.requires.fits in
     let fit : 64 + 8 * length pairs + 2 * length (map rest_in ss) + 4 ≤ 4096 =
     omega (arith, fits, count, length-map ss rest_in, c.in_ok-stated.ensures.added, c.in_ok-sort_pairs.ensures.count) in
@@ -97,6 +101,34 @@ returns-clause-magics c =
       index_blocks = λ k less.
           let place : c.data_count-data.result ≡ data_count c.args.entries.now + k = omega (arith, value) in
           subst (λ (n : ℕ). IsIndexed (get_or new n [])) place
-          (subst (λ (b : List ℕ). IsIndexed b) (sym (put-there old new d block is inside)) (indexed block 0 c.put_leaf.ensures.forw (omega arith)));
+          (subst (λ (b : List ℕ). IsIndexed b) (sym (put-there old new d block is inside)) (indexed block 0 c.put_leaf.ensures.stands.forw (omega arith)));
       free_blocks = λ k less. absurd (omega arith);
     }
+
+pub returns-clause-bytes : goal.returns-clause-bytes
+unfolding dir_blocks
+returns-clause-bytes c =
+    let ss = shares c.args.dir c.args.parent c.args.entries.now in
+    let d = c.data_count-data.result in
+    let old = c.fill_blocks.new.blocks in
+    let new = c.put_block.new.blocks in
+    let block = c.put_leaf.new.block in
+    let pairs = c.sort_pairs.new.pairs.items in
+    let is = c.put_block.ensures in
+    let made : length c.in_ok-blocks.blocks ≡ c.data_count-data.result + 1 =
+    ap length c.in_ok-blocks.ensures ∙ length-replicate (c.data_count-data.result + 1) (replicate 4096 0) in
+    let old_long : length c.fill_blocks.new.blocks ≡ c.data_count-data.result + 1 = c.in_ok-stated.ensures.count ∙ made in
+    let count : length ss ≡ c.data_count-data.result = shares-count c.args.dir c.args.parent c.args.entries.now ∙ sym c.data_count-data.ensures.value in
+    let start : 0 + c.data_count-data.result ≡ c.data_count-data.result = omega arith in
+    let room : 0 + c.data_count-data.result < length c.fill_blocks.new.blocks = omega (arith, old_long) in
+    let put = ap (λ (n : ℕ). get_or new n []) start ∙ put-there old new d block is (omega (arith, old_long)) in
+    let ranked : pairs ≡ index_of ss =
+    ranked-is (pairs_from 0 ss) pairs (subst (λ (ps : List Pair). IsPermutation ps pairs) c.in_ok-stated.ensures.pairs c.in_ok-sort_pairs.ensures.moved)
+    c.in_ok-sort_pairs.ensures.ranked in
+    let leaf : block ≡ leaf_block (index_of ss) (map rest_in ss) =
+    c.put_leaf.ensures.bytes
+    ∙ ap₂ leaf_block (c.deref.ensures.value ∙ ranked) (c.deref-2.ensures.value ∙ c.in_ok-stated.ensures.rests) in
+    sym (section-all new (d + 1) (put-count old new d block is ∙ old_long))
+    ∙ (section-push old new 0 d block (put-count old new d block is) room
+    (λ k less. put-beside old new d (0 + k) block is (inl (omega arith))) put
+    ∙ ap₂ (λ (bs : List (List ℕ)) (b : List ℕ). bs ++ b ∷ []) (ap (blocks_in old 0) (sym count) ∙ c.in_ok-stated.ensures.bytes) leaf)

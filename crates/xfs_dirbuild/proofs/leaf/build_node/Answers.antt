@@ -1,4 +1,4 @@
-use Rattle.std.proofs.Common.{◌≡◌, ℕ, ◌+◌, ◌*◌, ◌<◌, ◌≤◌, length, map, replicate, List, [], get_or, refl, sym, ap, ◌∙◌, subst, arith}
+use Rattle.std.proofs.Common.{◌≡◌, ℕ, ◌+◌, ◌*◌, ◌<◌, ◌≤◌, length, map, replicate, List, [], ◌++◌, get_or, refl, sym, ap, ap₂, ◌∙◌, subst, arith}
 use Rattle.std.specs.List.Sorted.{IsPermutation}
 use Rattle.std.proofs.lemmas.List.{length-replicate, length-map}
 use Rattle.xfs_dirindex.specs.declared.pairs.Pair.{Pair}
@@ -7,6 +7,10 @@ use Rattle.xfs_dirbuild.specs.Filling.{shares, rest_in}
 use Rattle.xfs_dirbuild.specs.Index.{IsIndexed, Holds, IsTreeOf}
 use Rattle.xfs_dirbuild.specs.FreeBlocks.{IsFreeBlock, values_in}
 use Rattle.xfs_dirbuild.specs.Placed.{IsDataBlock}
+use Rattle.xfs_dirbuild.specs.Filling.{pairs_from}
+use Rattle.xfs_dirbuild.specs.Blocks.{data_block, tree_blocks, free_blocks, index_of, dir_blocks, blocks_in}
+use Rattle.xfs_dirbuild.proofs.InRank.{ranked-is}
+use Rattle.xfs_dirbuild.proofs.Sections.{section-join, section-same, section-all}
 use Rattle.xfs_dirbuild.proofs.Rows.{holds-part}
 use Rattle.xfs_dirbuild.proofs.TreeCounts.{total-is, above-most}
 use Rattle.xfs_dirbuild.proofs.FillSteps.{shares-count, data_count-bound}
@@ -149,3 +153,47 @@ returns-clause-magics c =
           free-magic (get_or new (data_count es + tree_count (length c.args.entries.now + 2) + k) [])
           (subst (λ (p : ℕ). IsFreeBlock (2016 * k) (values_in c.deref-2.result.now k) (get_or new p [])) place (c.put_free_blocks.ensures.blocks k inside)).magic;
     }
+
+pub returns-clause-bytes : goal.returns-clause-bytes
+unfolding dir_blocks
+returns-clause-bytes c =
+    let ss = shares c.args.dir c.args.parent c.args.entries.now in
+    let d = c.data_count-data.result in
+    let t = c.tree_count-index.result in
+    let v = c.value_blocks.result in
+    let filled = c.fill_blocks.new.blocks in
+    let treed = c.put_tree.new.blocks in
+    let new = c.put_free_blocks.new.blocks in
+    let pairs = c.sort_pairs.new.pairs.items in
+    let all = d + t + v in
+    let made : length c.in_ok-blocks.blocks ≡ c.data_count-data.result + c.tree_count-index.result + c.value_blocks.result =
+    ap length c.in_ok-blocks.ensures ∙ length-replicate all (replicate 4096 0) in
+    let filled_long : length c.fill_blocks.new.blocks ≡ c.data_count-data.result + c.tree_count-index.result + c.value_blocks.result = c.in_ok-stated.ensures.count ∙ made in
+    let treed_long : length c.put_tree.new.blocks ≡ c.data_count-data.result + c.tree_count-index.result + c.value_blocks.result = c.in_ok-put_tree.ensures.count ∙ filled_long in
+    let count : length ss ≡ c.data_count-data.result = shares-count c.args.dir c.args.parent c.args.entries.now ∙ sym c.data_count-data.ensures.value in
+    let rests : c.deref-2.result.now ≡ map rest_in ss = c.deref-2.ensures.value ∙ c.in_ok-stated.ensures.rests in
+    let ranked : pairs ≡ index_of ss =
+    ranked-is (pairs_from 0 ss) pairs (subst (λ (ps : List Pair). IsPermutation ps pairs) c.in_ok-stated.ensures.pairs c.in_ok-sort_pairs.ensures.moved)
+    c.in_ok-sort_pairs.ensures.ranked in
+    let deref : c.deref.result.now ≡ index_of ss = c.deref.ensures.value ∙ ranked in
+    let pairs_long : length c.sort_pairs.new.pairs.items ≡ length c.args.entries.now + 2 = omega (arith, c.in_ok-stated.ensures.added, c.in_ok-sort_pairs.ensures.count) in
+    let tree_size : c.tree_count-index.result ≡ tree_count (length c.deref.result.now) =
+    c.tree_count-index.ensures ∙ ap tree_count (sym (ap length c.deref.ensures.value ∙ pairs_long)) in
+    let free_size : c.value_blocks.result ≡ value_blocks (length c.deref-2.result.now) =
+    c.value_blocks.ensures ∙ ap value_blocks (sym (ap length rests ∙ (length-map ss rest_in ∙ count))) in
+    let first : blocks_in new 0 d ≡ map data_block ss =
+    section-same treed new 0 d c.put_free_blocks.ensures.count (omega (arith, treed_long)) (λ k less. c.put_free_blocks.ensures.others (0 + k) (omega arith))
+    ∙ (section-same filled treed 0 d c.in_ok-put_tree.ensures.count (omega (arith, filled_long)) (λ k less. c.in_ok-put_tree.ensures.others (0 + k) (omega arith))
+    ∙ (ap (blocks_in filled 0) (sym count) ∙ c.in_ok-stated.ensures.bytes)) in
+    let second : blocks_in new (0 + d) t ≡ tree_blocks (index_of ss) =
+    ap (λ (a : ℕ). blocks_in new a t) (omega arith)
+    ∙ (section-same treed new d t c.put_free_blocks.ensures.count (omega (arith, treed_long)) (λ k less. c.put_free_blocks.ensures.others (d + k) (omega arith))
+    ∙ (ap (blocks_in treed d) tree_size ∙ (c.in_ok-put_tree.ensures.bytes ∙ ap tree_blocks deref))) in
+    let third : blocks_in new (0 + d + t) v ≡ free_blocks (map rest_in ss) =
+    ap (λ (a : ℕ). blocks_in new a v) (omega arith)
+    ∙ (ap (blocks_in new (d + t)) free_size ∙ (c.put_free_blocks.ensures.bytes ∙ ap free_blocks rests)) in
+    let whole : d + (t + v) ≡ d + t + v = omega arith in
+    sym (section-all new (d + (t + v)) (c.put_free_blocks.ensures.count ∙ (treed_long ∙ sym whole)))
+    ∙ (section-join new 0 d (t + v)
+    ∙ ap₂ (λ (xs ys : List (List ℕ)). xs ++ ys) first
+    (section-join new (0 + d) t v ∙ ap₂ (λ (xs ys : List (List ℕ)). xs ++ ys) second third))

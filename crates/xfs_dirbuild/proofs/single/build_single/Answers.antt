@@ -1,4 +1,4 @@
-use Rattle.std.proofs.Common.{◌≡◌, ℕ, ◌+◌, ◌*◌, ◌≤◌, length, List, [], ◌++◌, get_or, Option, Some, sym, ap, ap₂, ◌∙◌, subst, arith}
+use Rattle.std.proofs.Common.{◌≡◌, ℕ, ◌+◌, ◌*◌, ◌≤◌, length, List, [], ◌∷◌, ◌++◌, get_or, Option, Some, sym, ap, ap₂, ◌∙◌, subst, arith}
 use Rattle.std.specs.List.Sorted.{IsPermutation}
 use Rattle.std.proofs.lemmas.Bool.{leb-true}
 use Rattle.xfs_dirdata.specs.Short.{index_size}
@@ -8,6 +8,11 @@ use Rattle.xfs_dirindex.specs.Data.{due_pairs}
 use Rattle.xfs_dirbuild.specs.Forms.{fits_single}
 use Rattle.xfs_dirbuild.specs.Filling.{all_entries}
 use Rattle.xfs_dirbuild.specs.SingleBlock.{IsSingleBlock}
+use Rattle.xfs_dirbuild.specs.Filling.{pairs_from}
+use Rattle.xfs_dirbuild.specs.Blocks.{single_block, index_of, dir_blocks}
+use Rattle.std.proofs.lemmas.List.{append-nil}
+use Rattle.xfs_dirbuild.proofs.InRank.{ranked-is}
+use Rattle.xfs_dirbuild.proofs.Sections.{section-push, section-all}
 use Rattle.xfs_dirbuild.proofs.Banks.{put-there, put-count}
 use Rattle.xfs_dirbuild.proofs.Filled.{due_pairs-append}
 use Rattle.xfs_word.specs.Field.{field_of}
@@ -42,7 +47,7 @@ returns-clause-whole c =
     ∙ sym (due_pairs-append 0 64 (first_entries first) es)) in
     let single : IsSingleBlock c.args.dir c.args.parent es pairs (get_or new 0 []) =
     subst (λ (b : List ℕ). IsSingleBlock c.args.dir c.args.parent es pairs b) (sym there)
-    (subst (λ (ps : List Pair). IsSingleBlock c.args.dir c.args.parent es ps block) c.deref.ensures.value c.in_ok-put_single.ensures) in
+    (subst (λ (ps : List Pair). IsSingleBlock c.args.dir c.args.parent es ps block) c.deref.ensures.value c.in_ok-put_single.ensures.stands) in
     whole-single c.args.dir c.args.parent es new placed pairs c.requires.names (put-count old new 0 block is ∙ made) (ap length there ∙ long) fit single
     (subst (λ (ps : List Pair). IsPermutation ps pairs) due c.in_ok-sort_pairs.ensures.moved)
     c.in_ok-sort_pairs.ensures.ranked c.in_ok-sort_pairs.ensures.sound are
@@ -54,7 +59,7 @@ returns-clause-magics c =
     let block = c.put_single.new.block in
     let made : length c.in_ok-blocks.blocks ≡ 1 = ap length c.in_ok-blocks.ensures in
     let there : get_or c.put_block.new.blocks 0 [] ≡ c.put_single.new.block = put-there old new 0 block c.put_block.ensures (omega (arith, made)) in
-    let single = c.in_ok-put_single.ensures in
+    let single = c.in_ok-put_single.ensures.stands in
     record {
       data_blocks = λ k less.
           let first : 0 ≡ k = omega arith in
@@ -62,3 +67,29 @@ returns-clause-magics c =
       index_blocks = λ k less. absurd (omega arith);
       free_blocks = λ k less. absurd (omega arith);
     }
+
+pub returns-clause-bytes : goal.returns-clause-bytes
+unfolding dir_blocks
+returns-clause-bytes c =
+    let es = c.args.entries.now in
+    let all = all_entries c.args.dir c.args.parent es in
+    let first : Option (ℕ × ℕ) = Some (c.args.dir, c.args.parent) in
+    let old = c.in_ok-blocks.blocks in
+    let new = c.put_block.new.blocks in
+    let block = c.put_single.new.block in
+    let pairs = c.sort_pairs.new.pairs.items in
+    let made : length c.in_ok-blocks.blocks ≡ 1 = ap length c.in_ok-blocks.ensures in
+    let is = c.put_block.ensures in
+    let there : get_or c.put_block.new.blocks 0 [] ≡ c.put_single.new.block = put-there old new 0 block is (omega (arith, made)) in
+    let first_pairs : c.add_first.new.pairs.items ≡ due_pairs 0 (first_entries first) (offsets 64 (first_entries first)) =
+    c.in_ok-start.ensures.pairs ∙ ap (λ (ps : List Pair). ps ++ due_pairs 0 (first_entries first) (offsets 64 (first_entries first))) c.new-pairs.ensures.items in
+    let due : c.add_pairs.new.pairs.items ≡ pairs_from 0 (all ∷ []) =
+    c.in_ok-add_pairs.ensures.pairs
+    ∙ (ap₂ (λ (ps : List Pair) (a : ℕ). ps ++ due_pairs 0 es (offsets a es)) first_pairs c.in_ok-start.ensures.end
+    ∙ (sym (due_pairs-append 0 64 (first_entries first) es) ∙ sym (append-nil (due_pairs 0 all (offsets 64 all))))) in
+    let ranked : pairs ≡ index_of (all ∷ []) =
+    ranked-is (pairs_from 0 (all ∷ [])) pairs (subst (λ (ps : List Pair). IsPermutation ps pairs) due c.in_ok-sort_pairs.ensures.moved)
+    c.in_ok-sort_pairs.ensures.ranked in
+    sym (section-all new 1 (put-count old new 0 block is ∙ made))
+    ∙ (section-push old new 0 0 block (put-count old new 0 block is) (omega (arith, made)) (λ k less. absurd (omega arith)) there
+    ∙ ap (λ (b : List ℕ). b ∷ []) (c.in_ok-put_single.ensures.bytes ∙ ap (single_block all) (c.deref.ensures.value ∙ ranked)))

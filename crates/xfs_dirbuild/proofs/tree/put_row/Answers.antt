@@ -1,5 +1,5 @@
-use Rattle.std.proofs.Common.{◌≡◌, ℕ, ◌+◌, ◌-◌, ◌<◌, ◌≤◌, inl, inr, true, false, List, [], ◌∷◌, ◌++◌, length, take, drop, get_or, refl, sym, ◌∙◌, ap, subst, arith}
-use Rattle.std.specs.List.{All}
+use Rattle.std.proofs.Common.{◌≡◌, ℕ, ◌+◌, ◌-◌, ◌<◌, ◌≤◌, inl, inr, true, false, List, [], ◌∷◌, ◌++◌, map, length, take, drop, get_or, refl, sym, ◌∙◌, ap, subst, arith}
+use Rattle.std.specs.List.{All, range_with_len}
 use Rattle.std.proofs.lemmas.List.{append-nil, length_push}
 use Rattle.std.proofs.lemmas.List.Elements.{All-push, All-take, All-drop}
 use Rattle.std.proofs.lemmas.Bool.Decides.{nat_tests}
@@ -7,11 +7,13 @@ use Rattle.xfs_dirindex.specs.declared.pairs.Pair.{Pair}
 use Rattle.xfs_dirindex.specs.Mapped.{Mapped}
 use Rattle.xfs_dirindex.specs.IndexTree.{places_of, are_members, pairs_below}
 use Rattle.xfs_dirbuild.specs.Index.{IsPointer, IsIndexed, next_at, share_of, first_of, Holds}
+use Rattle.xfs_dirbuild.specs.Blocks.{row_block, row_blocks, link_at, links_of, blocks_in}
 use Rattle.xfs_dirbuild.proofs.Banks.{put-there, put-beside, put-count}
 use Rattle.xfs_dirbuild.proofs.Shares.{share_next, share_some, share_most}
 use Rattle.xfs_dirbuild.proofs.Magics.{indexed, next-small, indexed-more}
 use Rattle.xfs_dirbuild.proofs.Rows.{places-more, places-none, holds-part}
-use Rattle.xfs_dirbuild.proofs.RowSteps.{share-long, IsWritten, seen, row-members, row-below}
+use Rattle.xfs_dirbuild.proofs.RowSteps.{share-long, IsWritten, seen, row-members, row-below, share-is, link-is, block-is, links-more}
+use Rattle.xfs_dirbuild.proofs.Sections.{section-more}
 use Rattle.xfs_dirbuild.proofs.tree.put_row.Goals as goal
 
 pub loop-i-init : goal.loop-i-init
@@ -25,6 +27,8 @@ loop-i-init c =
       places = ap places_of none ∙ sym (places-none c.args.first);
       pointers = λ k d inside. absurd (omega (arith, ap length none));
       indexed = λ k inside. absurd (omega arith);
+      row = none;
+      bytes_are = refl;
       links_are = ap length none;
       blocks_count = refl;
       others = λ k side. refl;
@@ -58,6 +62,7 @@ loop-i-preserved c =
     let start_is : start ≡ first_of (length c.args.pairs.now) c.args.count c.loop-i.i = c.loop-i.invariant.start_is in
     let share_is : share ≡ share_of (length c.args.pairs.now) c.args.count c.loop-i.i = c.share_of-share.ensures in
     let long = share-long pairs m i start share start_is share_is inside in
+    let here = share-is pairs m i start share start_is share_is in
     let some = share_some n m i c.requires.some c.requires.enough in
     let most = share_most n m i 504 inside c.requires.fit in
     let room : c.args.base + c.args.first + c.loop-i.i < length c.loop-i.blocks = omega (arith, c.loop-i.invariant.blocks_count, c.requires.room, c.loop-i-test.true) in
@@ -70,7 +75,7 @@ loop-i-preserved c =
       some = omega (arith, long, some, share_is);
       most = omega (arith, long, most, share_is);
       long = long;
-      stands = c.put_index.ensures;
+      stands = c.put_index.ensures.stands;
       hash = c.link_to.ensures.hash;
       address = c.link_to.ensures.address;
     } in
@@ -99,6 +104,14 @@ loop-i-preserved c =
           (subst (λ (b : List ℕ). IsIndexed b) (sym put)
           (indexed block c.next_at-next.result written.stands.forw
           (subst (λ (n : ℕ). n ≤ 0x1000000) (sym c.next_at-next.ensures) (next-small c.args.first c.args.count (c.loop-i.i + 1) c.requires.low))));
+      row = links-more c.args.first m i pairs c.loop-i.links.items c.push.new.self.items x links
+          (link-is c.args.first m i share pairs part x block here (omega (arith, some, share_is)) long c.put_index.ensures.stands.pairs_is c.link_to.ensures.hash c.link_to.ensures.address)
+          c.loop-i.invariant.row;
+      bytes_are = section-more old new (c.args.base + c.args.first) i block (row_block c.args.level c.args.first m pairs) (put-count old new at block is) room
+          (λ k less. put-beside old new at (c.args.base + c.args.first + k) block is (inl (omega arith))) put
+          (block-is c.args.level c.before_at-before.result c.next_at-next.result c.args.first m i pairs part block here
+          c.before_at-before.ensures c.next_at-next.ensures c.put_index.ensures.bytes)
+          c.loop-i.invariant.bytes_are;
       links_are = ap length links ∙ (length_push c.loop-i.links.items x ∙ ap (λ (k : ℕ). k + 1) c.loop-i.invariant.links_are);
       blocks_count = put-count old new at block is ∙ c.loop-i.invariant.blocks_count;
       others = λ k side. elim side [
@@ -114,3 +127,16 @@ returns-clause-members c =
     let last : 0 ≡ next_at c.args.first c.args.count c.loop-i.i = grind (arith, nat_tests) in
     let mine : Holds ms c.loop-i.blocks c.args.base c.args.first c.loop-i.i = subst (λ (n : ℕ). Holds ms c.loop-i.blocks c.args.base c.args.first n) (sym end) holds in
     subst (λ (ls : List Pair). are_members ms false c.args.level 0 ls ≡ true) (append-nil c.loop-i.links.items) (c.loop-i.invariant.members ms mine [] last refl)
+
+pub returns-clause-row : goal.returns-clause-row
+unfolding links_of
+returns-clause-row c =
+    let end : c.loop-i.i ≡ c.args.count = omega arith in
+    subst (λ (n : ℕ). c.loop-i.links.items ≡ map (link_at c.args.first c.args.count c.args.pairs.now) (range_with_len 0 n)) end c.loop-i.invariant.row
+
+pub returns-clause-bytes : goal.returns-clause-bytes
+unfolding row_blocks
+returns-clause-bytes c =
+    let end : c.loop-i.i ≡ c.args.count = omega arith in
+    subst (λ (n : ℕ). blocks_in c.loop-i.blocks (c.args.base + c.args.first) n ≡ map (row_block c.args.level c.args.first c.args.count c.args.pairs.now) (range_with_len 0 n))
+    end c.loop-i.invariant.bytes_are

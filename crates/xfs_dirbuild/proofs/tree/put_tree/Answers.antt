@@ -1,6 +1,9 @@
 use Rattle.std.proofs.Common.{◌≡◌, ℕ, ◌+◌, ◌<◌, ◌≤◌, inr, List, [], length, get_or, refl, sym, ◌∙◌, ap, ap₂, subst, arith}
 use Rattle.xfs_dirbuild.specs.Forms.{tree_count}
 use Rattle.xfs_dirbuild.specs.Index.{IsIndexed, places_in, IsTreeOf}
+use Rattle.xfs_dirbuild.specs.Blocks.{row_blocks, links_of}
+use Rattle.xfs_dirbuild.proofs.Sections.{section-same}
+use Rattle.xfs_dirbuild.proofs.TreeBytes.{row-none, rows-join, rows-are}
 use Rattle.xfs_dirbuild.proofs.Magics.{indexed-join}
 use Rattle.xfs_dirbuild.proofs.Rows.{holds-part}
 use Rattle.xfs_dirbuild.proofs.Trees.{tree-one, tree-two, tree-three}
@@ -135,3 +138,75 @@ returns-clause-indexed c =
     subst (λ (b : List ℕ). IsIndexed b)
     (sym (c.in_ok-put_row.ensures.others place (inr (omega arith)) ∙ c.in_ok-upper.ensures.others place (inr (omega arith))))
     (c.in_ok-below.ensures.indexed k less))
+
+pub returns-then-nodes-eq0-clause-bytes : goal.returns-then-nodes-eq0-clause-bytes
+returns-then-nodes-eq0-clause-bytes c =
+    let pairs = c.args.pairs.now in
+    let n = length c.args.pairs.now in
+    let leaves = c.leaf_blocks-leaves.result in
+    let nodes = c.nodes_above-nodes.result in
+    let tops = c.nodes_above-tops.result in
+    let base = c.args.base in
+    let bank = c.put_row.new.blocks in
+    let below = c.in_ok-below.below.items in
+    let all = total-is n leaves nodes tops c.leaf_blocks-leaves.ensures c.nodes_above-nodes.ensures c.nodes_above-tops.ensures in
+    let above = above-most nodes tops c.nodes_above-tops.ensures in
+    let none : c.nodes_above-tops.result ≡ 0 = omega (arith, above, c.if-nodes-eq0.true) in
+    rows-join bank base tops nodes leaves (tree_count n) pairs below (links_of tops nodes below) all
+    (row-none bank (base + 0) 2 0 tops (links_of tops nodes below) none) (row-none bank (base + tops) 1 tops nodes below c.if-nodes-eq0.true)
+    c.in_ok-below.ensures.bytes c.in_ok-below.ensures.row refl
+    ∙ rows-are pairs leaves nodes tops c.leaf_blocks-leaves.ensures c.nodes_above-nodes.ensures c.nodes_above-tops.ensures
+
+pub returns-then-tops-eq0-clause-bytes : goal.returns-then-tops-eq0-clause-bytes
+returns-then-tops-eq0-clause-bytes c =
+    let pairs = c.args.pairs.now in
+    let n = length c.args.pairs.now in
+    let leaves = c.leaf_blocks-leaves.result in
+    let nodes = c.nodes_above-nodes.result in
+    let tops = c.nodes_above-tops.result in
+    let base = c.args.base in
+    let row = c.put_row.new.blocks in
+    let bank = c.put_row-2.new.blocks in
+    let below = c.in_ok-below.below.items in
+    let all = total-is n leaves nodes tops c.leaf_blocks-leaves.ensures c.nodes_above-nodes.ensures c.nodes_above-tops.ensures in
+    let room : c.args.base + (c.nodes_above-tops.result + c.nodes_above-nodes.result) + c.leaf_blocks-leaves.result ≤ length c.put_row.new.blocks =
+    omega (arith, all, c.requires.room, c.in_ok-below.ensures.count) in
+    let stays = section-same row bank (base + (tops + nodes)) leaves c.in_ok-upper.ensures.count room
+    (λ k less. c.in_ok-upper.ensures.others (c.args.base + (c.nodes_above-tops.result + c.nodes_above-nodes.result) + k) (inr (omega arith))) in
+    rows-join bank base tops nodes leaves (tree_count n) pairs below (links_of tops nodes below) all
+    (row-none bank (base + 0) 2 0 tops (links_of tops nodes below) c.if-tops-eq0.true)
+    (c.in_ok-upper.ensures.bytes ∙ ap (row_blocks 1 tops nodes) c.deref.ensures.value)
+    (stays ∙ c.in_ok-below.ensures.bytes) c.in_ok-below.ensures.row refl
+    ∙ rows-are pairs leaves nodes tops c.leaf_blocks-leaves.ensures c.nodes_above-nodes.ensures c.nodes_above-tops.ensures
+
+pub returns-clause-bytes : goal.returns-clause-bytes
+returns-clause-bytes c =
+    let pairs = c.args.pairs.now in
+    let n = length c.args.pairs.now in
+    let leaves = c.leaf_blocks-leaves.result in
+    let nodes = c.nodes_above-nodes.result in
+    let tops = c.nodes_above-tops.result in
+    let base = c.args.base in
+    let row = c.put_row.new.blocks in
+    let next = c.put_row-2.new.blocks in
+    let bank = c.put_row-3.new.blocks in
+    let below = c.in_ok-below.below.items in
+    let upper = c.in_ok-upper.upper.items in
+    let all = total-is n leaves nodes tops c.leaf_blocks-leaves.ensures c.nodes_above-nodes.ensures c.nodes_above-tops.ensures in
+    let room : c.args.base + (c.nodes_above-tops.result + c.nodes_above-nodes.result) + c.leaf_blocks-leaves.result ≤ length c.put_row.new.blocks =
+    omega (arith, all, c.requires.room, c.in_ok-below.ensures.count) in
+    let room_next : c.args.base + c.nodes_above-tops.result + c.nodes_above-nodes.result ≤ length c.put_row-2.new.blocks =
+    omega (arith, room, c.in_ok-upper.ensures.count) in
+    let long : length c.put_row-3.new.blocks ≡ length c.put_row.new.blocks = c.in_ok-put_row.ensures.count ∙ c.in_ok-upper.ensures.count in
+    let low = section-same row bank (base + (tops + nodes)) leaves long room
+    (λ k less.
+    let place = c.args.base + (c.nodes_above-tops.result + c.nodes_above-nodes.result) + k in
+    c.in_ok-put_row.ensures.others place (inr (omega arith)) ∙ c.in_ok-upper.ensures.others place (inr (omega arith))) in
+    let middle = section-same next bank (base + tops) nodes c.in_ok-put_row.ensures.count room_next
+    (λ k less. c.in_ok-put_row.ensures.others (c.args.base + c.nodes_above-tops.result + k) (inr (omega arith))) in
+    rows-join bank base tops nodes leaves (tree_count n) pairs below upper all
+    (c.in_ok-put_row.ensures.bytes ∙ ap (row_blocks 2 0 tops) c.deref-2.ensures.value)
+    (middle ∙ (c.in_ok-upper.ensures.bytes ∙ ap (row_blocks 1 tops nodes) c.deref.ensures.value))
+    (low ∙ c.in_ok-below.ensures.bytes) c.in_ok-below.ensures.row
+    (c.in_ok-upper.ensures.row ∙ ap (links_of tops nodes) c.deref.ensures.value)
+    ∙ rows-are pairs leaves nodes tops c.leaf_blocks-leaves.ensures c.nodes_above-nodes.ensures c.nodes_above-tops.ensures
