@@ -7,3 +7,6 @@ pub mod Images
 pub mod KeptInWords
 pub mod Taken
 pub mod Apart
+pub mod Counted
+pub mod Chunks
+pub mod Spaces
