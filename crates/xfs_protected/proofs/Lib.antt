@@ -10,3 +10,6 @@ pub mod Apart
 pub mod Counted
 pub mod Chunks
 pub mod Spaces
+pub mod Places
+pub mod Lawful
+pub mod Held
