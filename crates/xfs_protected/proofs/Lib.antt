@@ -13,3 +13,4 @@ pub mod Spaces
 pub mod Places
 pub mod Lawful
 pub mod Held
+pub mod Owners
