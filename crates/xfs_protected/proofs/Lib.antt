@@ -14,3 +14,4 @@ pub mod Places
 pub mod Lawful
 pub mod Held
 pub mod Owners
+pub mod Trusted

@@ -153,19 +153,19 @@ owned_cluster g b groups files q are low is owner on =
     ]
 
 -- the offset word of a block of an owned run is not much above eight bytes; of an owner that is no inode it is that of the run
-word_low : (q : Run) (b : ℕ) → q.offset < 2 ^ 64 → q.count ≤ 2 ^ 54 → b < q.start + q.count → word_at q b < 2 ^ 64 + 2 ^ 54
+pub word_low : (q : Run) (b : ℕ) → q.offset < 2 ^ 64 → q.count ≤ 2 ^ 54 → b < q.start + q.count → word_at q b < 2 ^ 64 + 2 ^ 54
 word_low q b offset count inside = by_case (is_file_data q.owner q.offset)
   where
     by_case : (t : Bool) → (if t then q.offset + (b - q.start) else q.offset) < 2 ^ 64 + 2 ^ 54
     by_case true = omega (arith, offset, count, inside)
     by_case false = omega (arith, offset)
 
-word_own : (q : Run) (b : ℕ) → 2 ^ 63 ≤ q.owner → word_at q b ≡ q.offset
+pub word_own : (q : Run) (b : ℕ) → 2 ^ 63 ≤ q.owner → word_at q b ≡ q.offset
 word_own q b high =
     let t : nat_lt q.owner (2 ^ 63) ≡ false = grind (arith, nat_tests, high) in
     rw t refl
 
-on_parts : (b : ℕ) (r : Run) → covers b r ≡ true → (r.start ≤ b) × (b < r.start + r.count)
+pub on_parts : (b : ℕ) (r : Run) → covers b r ≡ true → (r.start ≤ b) × (b < r.start + r.count)
 on_parts b r on = let both = and_parts (nat_le r.start b) (nat_lt b (r.start + r.count)) on in (leb-true r.start b both.0, ltb-true b (r.start + r.count) both.1)
 
 -- the third law at a block of the volume
@@ -182,7 +182,7 @@ clusters_number w o x e low more =
     ]
 
 -- a block that is held for clusters among the owned runs is one of a cluster
-from_number : (g : Geometry) (image : Image) (groups : List GroupRec) (files : List FileRec) (b w : ℕ) → IsLawfulView g image groups files → w < 2 ^ 64
+pub from_number : (g : Geometry) (image : Image) (groups : List GroupRec) (files : List FileRec) (b w : ℕ) → IsLawfulView g image groups files → w < 2 ^ 64
     → owner_number (held_at (owned_runs (volume_of g) groups files) b) ≡ (2 ^ 64 - 7) * 2 ^ 64 + w → HasBlock (volume_of g) 0 groups b
 from_number g image groups files b w view low number =
     let runs = owned_runs (volume_of g) groups files in
