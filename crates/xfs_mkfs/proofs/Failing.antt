@@ -1,5 +1,5 @@
 -- What is answered where placing or writing fails.
-use Rattle.std.proofs.Common.{◌≡◌, ℕ, ◌⊎◌, inl, inr, Option, Some, None, Err, subst}
+use Rattle.std.proofs.Common.{◌≡◌, ℕ, ◌⊎◌, inl, inr, Bool, List, Option, None, Err, refl, subst}
 use Rattle.xfs_disk.specs.Blocks.{Image}
 use Rattle.xfs_disk.specs.declared.stamp.Stamp.{Stamp}
 use Rattle.xfs_geom.specs.declared.geometry.Geometry.{Geometry}
@@ -11,9 +11,11 @@ use Rattle.xfs_place.specs.declared.faults.PlaceFault.TheVariants as Placing
 use Rattle.xfs_render.specs.declared.plan.Plan.{Plan}
 use Rattle.xfs_empty.specs.Placing.{empty_wanted}
 use Rattle.xfs_empty.specs.Planning.{HasRoom}
+use Rattle.xfs_mkfs.specs.Counts.{CountsBlocks, IsUnwritten, looked, reads_at}
 use Rattle.xfs_mkfs.specs.Due.{IsGeometry, refusal}
-use Rattle.xfs_mkfs.specs.Outcome.{IsCaused, IsDue, IsPlanned, Leaves, place_answer, put_answer}
-use Rattle.xfs_mkfs.specs.Putting.{HasPutCause, LeavesUnput}
+use Rattle.xfs_mkfs.specs.Outcome.{IsCaused, IsDue, IsPlanOf, IsPlanned, Leaves, place_answer, put_answer}
+use Rattle.xfs_mkfs.specs.Putting.{CountsPut, HasPutCause, LeavesUnput}
+use Rattle.xfs_mkfs.specs.Stops.{IsKept, IsMadeStopped, StopLeaves}
 use Rattle.xfs_mkfs.specs.declared.volume.PutFault.{PutFault}
 use Rattle.xfs_mkfs.specs.declared.volume.PutFault.TheVariants as Put
 
@@ -38,11 +40,6 @@ due_placing o s blocks image g none chosen (Placing.NoRoom what) (inr found) = (
   },
 )
 
-pub leaves_placing : (o : MakeOptions) (s : Stamp) (blocks : ℕ) (image : Image) (now : Option Image) (fault : PlaceFault) → now ≡ Some image
-    → Leaves o s blocks image now (place_answer fault)
-leaves_placing o s blocks image now Placing.NoMemory held = held
-leaves_placing o s blocks image now (Placing.NoRoom what) held = held
-
 pub caused_placing : (a b c d : ℕ) (fault : PlaceFault) → IsCaused a b c d (place_answer fault)
 caused_placing a b c d Placing.NoMemory = tt
 caused_placing a b c d (Placing.NoRoom what) = tt
@@ -62,3 +59,38 @@ leaves_putting o s blocks image now g plan chosen is (Put.Failed n) left =
 pub caused_putting : (a b c d : ℕ) (fault : PutFault) → HasPutCause c d (Err fault) → IsCaused a b c d (put_answer fault)
 caused_putting a b c d Put.NoMemory cause = tt
 caused_putting a b c d (Put.Failed n) cause = cause
+
+-- nothing was written where placing failed
+pub unwritten_placing : (fault : PlaceFault) → IsUnwritten (place_answer fault)
+unwritten_placing Placing.NoMemory = tt
+unwritten_placing (Placing.NoRoom what) = tt
+
+pub reads_placing : (force : Bool) (before : ℕ) (fault : PlaceFault) → reads_at force before (place_answer fault) ≡ looked force before
+reads_placing force before Placing.NoMemory = refl
+reads_placing force before (Placing.NoRoom what) = refl
+
+-- what was read and written where writing failed
+pub reads_putting : (force : Bool) (before : ℕ) (fault : PutFault) → reads_at force before (put_answer fault) ≡ looked force before
+reads_putting force before Put.NoMemory = refl
+reads_putting force before (Put.Failed n) = refl
+
+pub counts_putting : (o : MakeOptions) (s : Stamp) (blocks before now : ℕ) (plan : Plan) → IsPlanOf o s blocks plan → (fault : PutFault)
+    → CountsPut plan before now (Err fault) → CountsBlocks o s blocks before now (put_answer fault)
+counts_putting o s blocks before now plan due Put.NoMemory counted = counted
+counts_putting o s blocks before now plan due (Put.Failed n) counted = record { plan = plan; due = due; most = counted.0; counted = counted.1 }
+
+pub kept_putting : (tells : Type 0) (now : Option Image) (may_leave : ℕ → List ℕ → Type 0) (fault : PutFault) → IsKept tells now may_leave (put_answer fault)
+kept_putting tells now may_leave Put.NoMemory = tt
+kept_putting tells now may_leave (Put.Failed n) = tt
+
+-- memory is wanting where nothing was written
+pub unwritten_putting : (fault : PutFault) → IsUnwritten (put_answer fault) → fault ≡ Put.NoMemory
+unwritten_putting Put.NoMemory is = refl
+unwritten_putting (Put.Failed n) is = absurd is
+
+-- what a stop leaves where writing failed
+pub stops_putting : (o : MakeOptions) (s : Stamp) (blocks : ℕ) (image stopped : Image) (fault : PutFault) (before now : Type 0)
+    → (fault ≡ Put.NoMemory → now → before) → (now → before ⊎ IsMadeStopped o s blocks image stopped) → now
+    → before ⊎ StopLeaves o s blocks image stopped (put_answer fault)
+stops_putting o s blocks image stopped Put.NoMemory before now same left it = inl (same refl it)
+stops_putting o s blocks image stopped (Put.Failed n) before now same left it = left it

@@ -1,5 +1,5 @@
 -- An image holds the blocks of a plan once they were written, where no block is planned twice.
-use Rattle.std.proofs.Common.{◌≡◌, ℕ, zero, suc, ◌+◌, ◌<◌, ◌≤◌, ◌==◌, Bool, if◌then◌else◌, List, [], ◌∷◌, length, map, get_or, set, refl, sym, ap, ◌∙◌, subst, arith}
+use Rattle.std.proofs.Common.{◌≡◌, ℕ, zero, suc, ◌+◌, ◌<◌, ◌≤◌, ◌==◌, Bool, if◌then◌else◌, List, [], ◌∷◌, ◌++◌, length, map, get_or, set, refl, sym, ap, ◌∙◌, subst, arith}
 use Rattle.std.specs.Prelude.{count_by, drop, take}
 use Rattle.std.specs.List.{All, Contains, sum_by}
 use Rattle.std.specs.List.Sorted.{IsPermutation}
@@ -12,10 +12,11 @@ use Rattle.xfs_tree.specs.Reading.{bytes_at}
 use Rattle.xfs_render.specs.Plans.{HoldsPlan, IsOnce, planned}
 use Rattle.xfs_render.specs.declared.plan.Plan.{Plan}
 use Rattle.xfs_mkfs.proofs.Rows.{count_from, row_is}
-use Rattle.xfs_mkfs.specs.Writing.{AreRows, Writes, first_last, rows_from, rows_of, write_of, writes_of, written}
-use Rattle.xfs_mkfs.specs.declared.order.Row.{Row}
+use Rattle.xfs_writing.specs.Writing.{Writes, write_of, written}
+use Rattle.xfs_writing.specs.declared.rows.Row.{Row}
+use Rattle.xfs_mkfs.specs.Order.{AreRows, all_writes, first_part, last_part, rows_from, rows_of}
 
-abbrev one_if : Bool → ℕ
+abbrev pub one_if : Bool → ℕ
 one_if t = if t then 1 else 0
 
 -- how many writes are at a block
@@ -63,7 +64,7 @@ count_writes bank at (r ∷ rows) =
     omega (arith, both, rest, count_writes bank at rows)
 
 -- and those are the planned blocks
-count_rows : (index at : ℕ) (places : List ℕ) → sum_by (λ (r : Row). one_if (r.at == at)) (rows_from index places) ≡ count_by (λ other. other == at) places
+pub count_rows : (index at : ℕ) (places : List ℕ) → sum_by (λ (r : Row). one_if (r.at == at)) (rows_from index places) ≡ count_by (λ other. other == at) places
 count_rows index at [] = refl
 count_rows index at (place ∷ places) =
     let one = λ (o : ℕ). one_if (o == at) in
@@ -72,38 +73,42 @@ count_rows index at (place ∷ places) =
     let both = sum_by-cons one place places in
     omega (arith, rows, both, count_rows (index + 1) at places)
 
+-- the rows in the order of writing
+abbrev in_order : List Row → List Row
+in_order rows = first_part rows ++ last_part rows
+
 zero_plus : (n : ℕ) → 0 + n ≡ n
 zero_plus n = omega arith
 
-last_moves : (rows : List Row) → IsPermutation rows (first_last rows)
-last_moves rows = subst (λ (xs : List Row). IsPermutation xs (first_last rows)) (take-append-drop 1 rows) (IsPermutation-append_comm (take 1 rows) (drop 1 rows))
+last_moves : (rows : List Row) → IsPermutation rows (in_order rows)
+last_moves rows = subst (λ (xs : List Row). IsPermutation xs (in_order rows)) (take-append-drop 1 rows) (IsPermutation-append_comm (take 1 rows) (drop 1 rows))
 
 pub plan_held : (plan : Plan) (rows : List Row) (image : Image) → AreRows plan rows → IsOnce (planned plan)
-    → All (λ place. place < length image) (planned plan) → HoldsPlan (written (writes_of plan.bank rows) image) plan
+    → All (λ place. place < length image) (planned plan) → HoldsPlan (written (all_writes plan rows) image) plan
 plan_held plan rows image are once inside = record { each = at_place }
   where
-    moved : IsPermutation (rows_of plan) (first_last rows)
-    moved = IsPermutation-trans (rows_of plan) rows (first_last rows) are.all (last_moves rows)
+    moved : IsPermutation (rows_of plan) (in_order rows)
+    moved = IsPermutation-trans (rows_of plan) rows (in_order rows) are.all (last_moves rows)
 
-    few : (at : ℕ) → count_at at (writes_of plan.bank rows) ≤ 1
+    few : (at : ℕ) → count_at at (all_writes plan rows) ≤ 1
     few at =
-        let writes = count_writes plan.bank at (first_last rows) in
-        let same = sum_by-IsPermutation (λ (r : Row). one_if (r.at == at)) (rows_of plan) (first_last rows) moved in
+        let writes = count_writes plan.bank at (in_order rows) in
+        let same = sum_by-IsPermutation (λ (r : Row). one_if (r.at == at)) (rows_of plan) (in_order rows) moved in
         let all = count_rows 0 at (planned plan) in
         omega (arith, writes, same, all, once.each at)
 
-    at_place : (j : ℕ) → j < length (planned plan) → bytes_at (written (writes_of plan.bank rows) image) (get_or (planned plan) j 0) ≡ get_or plan.bank j []
+    at_place : (j : ℕ) → j < length (planned plan) → bytes_at (written (all_writes plan rows) image) (get_or (planned plan) j 0) ≡ get_or plan.bank j []
     at_place j low =
         let place = get_or (planned plan) j 0 in
         let row : Row = record { at = place; index = j } in
         let d : ℕ × List ℕ = (0, []) in
         let there : Contains (rows_of plan) row = (j, omega (arith, count_from 0 (planned plan), low), row_is 0 (planned plan) j row low ∙ ap (λ (n : ℕ). record { at = place; index = n }) (zero_plus j)) in
-        let found = Contains-permutation (rows_of plan) (first_last rows) row moved there in
-        let is : get_or (writes_of plan.bank rows) found.0 d ≡ write_of plan.bank row =
-        get_or-map (write_of plan.bank) (first_last rows) found.0 row d found.1 ∙ ap (write_of plan.bank) found.2 in
-        let at : (get_or (writes_of plan.bank rows) found.0 d).0 ≡ place = ap (λ (w : ℕ × List ℕ). w.0) is in
-        let count : length (writes_of plan.bank rows) ≡ length (first_last rows) = length-map (first_last rows) (write_of plan.bank) in
-        ap (bytes_at (written (writes_of plan.bank rows) image)) (sym at)
-        ∙ lands (writes_of plan.bank rows) image found.0 d (omega (arith, count, found.1)) (few (get_or (writes_of plan.bank rows) found.0 d).0)
+        let found = Contains-permutation (rows_of plan) (in_order rows) row moved there in
+        let is : get_or (all_writes plan rows) found.0 d ≡ write_of plan.bank row =
+        get_or-map (write_of plan.bank) (in_order rows) found.0 row d found.1 ∙ ap (write_of plan.bank) found.2 in
+        let at : (get_or (all_writes plan rows) found.0 d).0 ≡ place = ap (λ (w : ℕ × List ℕ). w.0) is in
+        let count : length (all_writes plan rows) ≡ length (in_order rows) = length-map (in_order rows) (write_of plan.bank) in
+        ap (bytes_at (written (all_writes plan rows) image)) (sym at)
+        ∙ lands (all_writes plan rows) image found.0 d (omega (arith, count, found.1)) (few (get_or (all_writes plan rows) found.0 d).0)
         (subst (λ (n : ℕ). n < length image) (sym at) (inside j 0 low))
         ∙ ap (λ (w : ℕ × List ℕ). w.1) is

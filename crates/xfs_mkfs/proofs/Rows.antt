@@ -5,8 +5,8 @@ use Rattle.std.proofs.lemmas.List.{append_assoc, take_more}
 use Rattle.std.proofs.lemmas.List.Sorted.{All-permutation}
 use Rattle.xfs_render.specs.Plans.{planned}
 use Rattle.xfs_render.specs.declared.plan.Plan.{Plan}
-use Rattle.xfs_mkfs.specs.Writing.{AreRows, rows_from, rows_of}
-use Rattle.xfs_mkfs.specs.declared.order.Row.{Row}
+use Rattle.xfs_writing.specs.declared.rows.Row.{Row}
+use Rattle.xfs_mkfs.specs.Order.{AreRows, rows_from, rows_of}
 
 pub count_from : (index : ℕ) (places : List ℕ) → length (rows_from index places) ≡ length places
 count_from index [] = refl

@@ -12,16 +12,17 @@ use Rattle.xfs_empty.specs.Geometry.{HasFirstChunk}
 use Rattle.xfs_made.proofs.Made.{volume_made}
 use Rattle.xfs_made.proofs.Once.{planned_once}
 use Rattle.xfs_made.specs.Volumes.{IsMadeVolume}
+use Rattle.xfs_writing.specs.Writing.{written}
 use Rattle.xfs_mkfs.proofs.Held.{plan_held}
+use Rattle.xfs_mkfs.specs.Order.{all_writes}
 use Rattle.xfs_mkfs.specs.Outcome.{IsPlanned}
 use Rattle.xfs_mkfs.specs.Putting.{IsPut}
-use Rattle.xfs_mkfs.specs.Writing.{writes_of, written}
 
 pub put_is_volume : (g : Geometry) (label : List ℕ) (s : Stamp) (plan : Plan) (blocks : ℕ) (image : Image) (now : Option Image) → IsPlanned g label s plan
     → HasFirstChunk (volume_of g) → IsImage blocks image → g.dblocks ≤ blocks → All (λ place. place < g.dblocks) (planned plan) → IsPut plan image now
     → ((held : Image) → now ≡ Some held → IsImage blocks held) → ForSome now (IsMadeVolume g s)
 put_is_volume g label s plan blocks image now is first whole enough inside put whole_now held told =
-    let due : Image = written (writes_of plan.bank put.rows) image in
+    let due : Image = written (all_writes plan put.rows) image in
     let same : held ≡ due = some_same held due now told put.held in
     let low : All (λ place. place < length image) (planned plan) = λ k d within.
     let below = inside k d within in

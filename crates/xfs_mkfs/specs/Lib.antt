@@ -1,4 +1,6 @@
-pub mod Writing
+pub mod Order
 pub mod Putting
 pub mod Due
 pub mod Outcome
+pub mod Counts
+pub mod Stops

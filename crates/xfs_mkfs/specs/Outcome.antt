@@ -43,6 +43,12 @@ pub record IsPlanned (g : Geometry) (label : List ℕ) (s : Stamp) (plan : Plan)
   pub super : IsNewSuper (volume_of g) label sector
   pub empty : IsEmptyPlan g sector s plan
 
+-- the plan of the volume that is asked for
+pub record IsPlanOf (o : MakeOptions) (s : Stamp) (blocks : ℕ) (plan : Plan) : Type 0 where
+  pub geometry : Geometry
+  pub chosen : IsGeometry o s blocks geometry
+  pub rendered : IsPlanned geometry o.label s plan
+
 -- the volume of the geometry that is chosen has no room for this
 pub record HasNoRoom (o : MakeOptions) (s : Stamp) (blocks : ℕ) (what : Place) : Type 0 where
   pub geometry : Geometry

@@ -1,7 +1,8 @@
 //! Makes an empty volume on a disk.
 //!
 //! What `mkfs.xfs` does, over any disk: it chooses the sizes, looks whether there is a volume, plans all blocks, and
-//! writes them, block 0 last between two syncs. Each outcome says what the disk then holds.
+//! writes them between two syncs, and behind these block 0, which a third one keeps. Each outcome says what the disk then
+//! holds, how many blocks were written, and what a stop of the machine leaves.
 //!
 //! `xfs_tools` calls it so:
 //!
@@ -14,7 +15,6 @@ mod making;
 mod order;
 mod outcome;
 mod volume;
-mod writing;
 
 pub use making::make;
 pub use outcome::{MadeSummary, MakeOutcome};

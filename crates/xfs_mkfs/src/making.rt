@@ -1,8 +1,10 @@
 //! Makes a volume.
 
-ghost use Rattle.std.specs.Prelude.{◌≡◌, ◌≤◌, ◌<◌, ◌⊎◌, ◌&&◌, not, ℕ, length, All, Some, None, IfErr, IfOk, OnOk};
+ghost use Rattle.std.specs.Prelude.{◌≡◌, ◌≤◌, ◌<◌, ◌⊎◌, ◌&&◌, not, ℕ, length, All, Some, None, IfErr, IfOk, OnErr, OnOk};
 ghost use Rattle.std.specs.Option.{ForSome};
+ghost use Rattle.xfs_disk.specs.Blocks.{Image};
 ghost use Rattle.xfs_disk.specs.Faults.{HasCause};
+ghost use Rattle.xfs_disk.specs.Reads.{OnlyReads};
 ghost use Rattle.xfs_geom.specs.Volumes.{volume_of};
 ghost use Rattle.xfs_place.specs.Wanted.{FindsNoRoom};
 ghost use Rattle.xfs_place.specs.declared.faults.Place.{Place};
@@ -13,7 +15,9 @@ ghost use Rattle.xfs_sizing.specs.Sizes.{too_small};
 ghost use Rattle.xfs_empty.specs.Placing.{empty_wanted};
 ghost use Rattle.xfs_empty.specs.Planning.{HasRoom};
 ghost use Rattle.xfs_mkfs.specs.Due.{IsGeometry, asked_of, asks_files, begins_with_magic, identifier, refusal};
+ghost use Rattle.xfs_mkfs.specs.Counts.{CountsBlocks, IsUnwritten, looked, reads_at};
 ghost use Rattle.xfs_mkfs.specs.Outcome.{IsCaused, IsDue, IsPlanned, Leaves, place_answer, put_answer, summary_of};
+ghost use Rattle.xfs_mkfs.specs.Stops.{IsKept, StopLeaves};
 
 use crate::outcome::{MadeSummary, MakeOutcome};
 use crate::volume::{PutFault, put_plan};
@@ -32,13 +36,14 @@ use xfs_sizing::{Asked, choose, put_super};
 const FILES: u8 = 10;
 
 /// Makes a volume on a disk: an empty one, whose geometry is what is asked or follows from the disk's blocks. Its
-/// planned blocks are written in ascending order, but block 0 last, with a sync before it and one behind it; all other
-/// blocks stay.
+/// planned blocks are written in ascending order, but block 0 last, with a sync before all, one before block 0 and one
+/// behind it; all other blocks stay. Nothing is written, and no sync asked for, before an answer other than `Made` and
+/// `WriteFault`.
 ///
 /// A label has at most 12 bytes. `TooSmall` of the first bound that is broken, before anything is read but the disk's
 /// size; `HasVolume` where the disk begins with a superblock, unless it is to be written over; `NoRoom` of the first
 /// group without room for its trees; `ReadFault` and `WriteFault` only where the disk's counts rose; `NoMemory` where
-/// memory is wanting, and nothing was written. Files of a protofile and generated ones are not built yet: `Unbuilt`.
+/// memory is wanting. Files of a protofile and generated ones are not built yet: `Unbuilt`.
 pub fn make<R: Threads + Sync, D: Disk, L: Library>(
     rt: &R,
     alloc: Global,
@@ -51,7 +56,23 @@ pub fn make<R: Threads + Sync, D: Disk, L: Library>(
     ensures due { ForSome (D.holds disk.old) (λ image. IsDue options.now stamp.now (D.size disk.old) image result) }
     ensures leaves { ForSome (D.holds disk.old) (λ image. Leaves options.now stamp.now (D.size disk.old) image (D.holds disk.new) result) }
     ensures cause { IsCaused (D.faults disk.old) (D.faults disk.new) (D.write_faults disk.old) (D.write_faults disk.new) result }
+    // all planned blocks were written, or just as many as a write fault tells, or none
+    ensures counts { CountsBlocks options.now stamp.now (D.size disk.old) (D.writes disk.old) (D.writes disk.new) result }
+    // block 0 alone is read, once, and not where it is written over anyway
+    ensures reads { D.reads disk.new ≡ reads_at options.now.force (D.reads disk.old) result }
+    // nothing is written and no sync asked for, unless the volume was made or a write or a sync failed
+    ensures unwritten { IsUnwritten result → OnlyReads D.size D.holds D.write_faults D.writes D.tells_stops D.moment D.may_leave D.left_since disk.old disk.new }
+    // a volume that was made is kept: a stop leaves just what the disk holds
+    ensures kept { IsKept (D.tells_stops disk.old) (D.holds disk.new) (D.may_leave disk.new) result }
+    // a stop leaves what it might have left before, or blocks of the new volume, and block 0 as it was until all others are kept
+    ensures stops { D.tells_stops disk.old → ForSome (D.holds disk.old) (λ image.
+        (t : ℕ) (stopped : Image) → t ≤ D.moment disk.old → D.left_since disk.new t stopped
+        → D.left_since disk.old t stopped ⊎ StopLeaves options.now stamp.now (D.size disk.old) image stopped result) }
     ensures size { D.size disk.new ≡ D.size disk.old }
+    ensures faults { D.faults disk.old ≤ D.faults disk.new }
+    ensures write_faults { D.write_faults disk.old ≤ D.write_faults disk.new }
+    ensures later { D.tells_stops disk.old → D.moment disk.old ≤ D.moment disk.new }
+    ensures tells { D.tells_stops disk.old → D.tells_stops disk.new }
     ensures files { _files.new ≡ _files.old }
 {
     let g = match decide(disk, options, stamp) {
@@ -76,15 +97,15 @@ fn decide<D: Disk>(
     stamp: &Stamp,
 ) -> Result<Geometry, MakeOutcome>
     ensures due { IfErr result (λ outcome. ForSome (D.holds disk.old) (λ image. IsDue options.now stamp.now (D.size disk.old) image outcome)) }
-    ensures leaves { IfErr result (λ outcome. ForSome (D.holds disk.old) (λ image. Leaves options.now stamp.now (D.size disk.old) image (D.holds disk.new) outcome)) }
+    ensures early { IfErr result IsUnwritten }
     ensures cause { IfErr result (λ outcome. IsCaused (D.faults disk.old) (D.faults disk.new) (D.write_faults disk.old) (D.write_faults disk.new) outcome) }
     ensures none { OnOk result (ForSome (D.holds disk.old) (λ image. refusal options.now (D.size disk.old) image ≡ None)) }
     ensures fits { OnOk result (too_small (asked_of options.now) (D.size disk.old) ≡ None) }
     ensures chosen { IfOk result (λ g. IsGeometry options.now stamp.now (D.size disk.old) g) }
-    ensures holds { D.holds disk.new ≡ D.holds disk.old }
-    ensures size { D.size disk.new ≡ D.size disk.old }
+    ensures disk { OnlyReads D.size D.holds D.write_faults D.writes D.tells_stops D.moment D.may_leave D.left_since disk.old disk.new }
+    ensures reads { IfErr result (λ outcome. D.reads disk.new ≡ reads_at options.now.force (D.reads disk.old) outcome) }
+    ensures looked { OnOk result (D.reads disk.new ≡ looked options.now.force (D.reads disk.old)) }
     ensures faults { D.faults disk.old ≤ D.faults disk.new }
-    ensures write_faults { D.write_faults disk.new ≡ D.write_faults disk.old }
 {
     if asks_files(options) {
         return Err(MakeOutcome::Unbuilt { request: FILES });
@@ -141,7 +162,8 @@ fn read_fault<D: Disk>(disk: &D) -> MakeOutcome
 
 /// The answer where placing failed.
 fn place_answer(fault: PlaceFault) -> MakeOutcome
-    ensures { result ≡ place_answer fault }
+    ensures value { result ≡ place_answer fault }
+    ensures early { IsUnwritten result }
 {
     match fault {
         PlaceFault::NoRoom(what) => MakeOutcome::NoRoom(what),
@@ -163,10 +185,10 @@ fn put_answer(fault: PutFault) -> MakeOutcome
 fn has_volume<D: Disk>(disk: &mut D, force: bool) -> Result<bool, Failed>
     requires some { 0 < D.size disk.old }
     ensures value { IfOk result (λ there. ForSome (D.holds disk.old) (λ image. there ≡ (not force && begins_with_magic (bytes_at image 0)))) }
-    ensures size { D.size disk.new ≡ D.size disk.old }
-    ensures holds { D.holds disk.new ≡ D.holds disk.old }
+    ensures disk { OnlyReads D.size D.holds D.write_faults D.writes D.tells_stops D.moment D.may_leave D.left_since disk.old disk.new }
+    ensures looked { OnOk result (D.reads disk.new ≡ looked force (D.reads disk.old)) }
+    ensures failed { OnErr result (D.reads disk.new ≡ D.reads disk.old) }
     ensures cause { HasCause (D.faults disk.old) (D.faults disk.new) result }
-    ensures write_faults { D.write_faults disk.new ≡ D.write_faults disk.old }
 {
     if force {
         return Ok(false);

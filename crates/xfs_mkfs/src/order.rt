@@ -1,18 +1,12 @@
 //! The order in which planned blocks are written.
 
 ghost use Rattle.std.specs.Prelude.{◌≡◌, ◌++◌, length, IfOk, OnOk};
-ghost use Rattle.xfs_mkfs.specs.Writing.{AreRows, rows_from, rows_of};
+ghost use Rattle.xfs_mkfs.specs.Order.{AreRows, first_part, last_part, rows_from, rows_of};
 
 use std::alloc::Global;
 use xfs_disk::NoMemory;
 use xfs_render::Plan;
-
-/// A block that is to be written: its number on the disk, and its index in the plan's bank.
-#[derive(Clone, Copy, Debug, PartialEq, Eq)]
-pub struct Row {
-    pub at: u64,
-    pub index: usize,
-}
+use xfs_writing::Row;
 
 /// The blocks of a plan in ascending order.
 pub fn list_rows(alloc: Global, plan: &Plan) -> Result<Vec<Row>, NoMemory>
@@ -21,6 +15,20 @@ pub fn list_rows(alloc: Global, plan: &Plan) -> Result<Vec<Row>, NoMemory>
     let mut rows = with_index(alloc, plan)?;
     rows.sort_by_key(|row| row.at)?;
     Ok(rows)
+}
+
+/// All rows but the first: the blocks that are written before block 0.
+pub fn first_part(rows: &[Row]) -> &[Row]
+    ensures { result.now ≡ first_part rows.now }
+{
+    &rows[rows.len().min(1)..]
+}
+
+/// The first row alone: block 0, which makes the others a volume.
+pub fn last_part(rows: &[Row]) -> &[Row]
+    ensures { result.now ≡ last_part rows.now }
+{
+    &rows[..rows.len().min(1)]
 }
 
 /// The blocks of a plan in its order, each with its index.

@@ -1,7 +1,7 @@
 use Rattle.std.proofs.Common.{List, rules, subst}
 use Rattle.std.specs.List.Sorted.{IsPermutation}
 use Rattle.std.proofs.lemmas.List.Sorted.{IsNonDecreasingBy-from_sort_by_key}
-use Rattle.xfs_mkfs.specs.declared.order.Row.{Row}
+use Rattle.xfs_writing.specs.declared.rows.Row.{Row}
 use Rattle.xfs_mkfs.proofs.order.list_rows.Goals as goal
 
 pub returns : goal.returns

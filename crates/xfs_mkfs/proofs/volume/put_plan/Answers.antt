@@ -1,17 +1,62 @@
-use Rattle.std.proofs.Common.{ℕ, ◌<◌, List, length, sym, subst}
-use Rattle.std.specs.List.{All}
-use Rattle.xfs_mkfs.specs.declared.order.Row.{Row}
+use Rattle.std.proofs.Common.{ℕ, ◌≡◌, ◌+◌, ◌<◌, List, length, ap, ap₂, ◌∙◌, arith}
+use Rattle.xfs_writing.specs.declared.rows.Row.{Row}
+use Rattle.xfs_mkfs.specs.Order.{first_part, last_part}
+use Rattle.xfs_mkfs.proofs.Parts.{all_first, all_last, count_rows, counts_all, most_planned, stopped_put}
 use Rattle.xfs_mkfs.proofs.Rows.{all_at, all_index}
 use Rattle.xfs_mkfs.proofs.volume.put_plan.Goals as goal
 
-pub write_rows-requires-clause-places : goal.write_rows-requires-clause-places
-write_rows-requires-clause-places g c =
+pub write_parts-requires : goal.write_parts-requires
+write_parts-requires g c =
     let size = g.D.Disk.size c.args.disk.now in
-    subst (λ (rs : List Row). All (λ (r : Row). r.at < size) rs) (sym c.deref.ensures.value)
-    (all_at (λ (place : ℕ). place < size) c.args.plan.now c.in-Ok.rows.items c.in-Ok.ensures c.requires.inside)
-
-pub write_rows-requires-clause-inside : goal.write_rows-requires-clause-inside
-write_rows-requires-clause-inside g c =
     let count = length c.args.plan.now.bank in
-    subst (λ (rs : List Row). All (λ (r : Row). r.index < count) rs) (sym c.deref.ensures.value)
-    (all_index count c.args.plan.now c.in-Ok.rows.items c.in-Ok.ensures c.requires.count)
+    let plan = c.args.plan.now in
+    let rows = c.in-Ok.rows.items in
+    let first = c.first_part.result.now in
+    let last = c.last_part.result.now in
+    let one : first ≡ first_part rows = c.first_part.ensures ∙ ap first_part c.as_slice-rows.ensures.value in
+    let two : last ≡ last_part rows = c.last_part.ensures ∙ ap last_part c.as_slice-rows.ensures.value in
+    let places = all_at (λ (place : ℕ). place < size) plan rows c.in-Ok.ensures c.requires.inside in
+    let inside = all_index count plan rows c.in-Ok.ensures c.requires.count in
+    let both : length first + length last ≡ length (first_part rows) + length (last_part rows) =
+    ap₂ (λ (a b : List Row). length a + length b) one two in
+    record {
+      first_places = all_first plan rows first last c.in-Ok.ensures one two (λ (r : Row). r.at < size) places;
+      last_places = all_last plan rows first last c.in-Ok.ensures one two (λ (r : Row). r.at < size) places;
+      first_inside = all_first plan rows first last c.in-Ok.ensures one two (λ (r : Row). r.index < count) inside;
+      last_inside = all_last plan rows first last c.in-Ok.ensures one two (λ (r : Row). r.index < count) inside;
+      fit = omega (arith, both, count_rows rows);
+    }
+
+pub returns-in-Ok-write_parts-clause-counted : goal.returns-in-Ok-write_parts-clause-counted
+returns-in-Ok-write_parts-clause-counted g c =
+    let rows = c.in-Ok.rows.items in
+    let one : c.first_part.result.now ≡ first_part rows = c.first_part.ensures ∙ ap first_part c.as_slice-rows.ensures.value in
+    let two : c.last_part.result.now ≡ last_part rows = c.last_part.ensures ∙ ap last_part c.as_slice-rows.ensures.value in
+    counts_all c.args.plan.now rows c.first_part.result.now c.last_part.result.now c.in-Ok.ensures one two (g.D.Disk.writes c.args.disk.now)
+    (g.D.Disk.writes c.write_parts.new.disk) c.in-Ok-write_parts.ensures.counted
+
+pub returns-in-Ok-write_parts-clause-stops : goal.returns-in-Ok-write_parts-clause-stops
+returns-in-Ok-write_parts-clause-stops g c = λ tells image told t stopped low left.
+    let rows = c.in-Ok.rows.items in
+    let one : c.first_part.result.now ≡ first_part rows = c.first_part.ensures ∙ ap first_part c.as_slice-rows.ensures.value in
+    let two : c.last_part.result.now ≡ last_part rows = c.last_part.ensures ∙ ap last_part c.as_slice-rows.ensures.value in
+    stopped_put c.args.plan.now rows c.first_part.result.now c.last_part.result.now c.in-Ok.ensures one two image stopped
+    (g.D.Disk.left_since c.args.disk.now t stopped) (c.in-Ok-write_parts.ensures.stops tells image told t stopped low left)
+
+pub returns-clause-counted : goal.returns-clause-counted
+returns-clause-counted g c =
+    let rows = c.in-Ok.rows.items in
+    let one : c.first_part.result.now ≡ first_part rows = c.first_part.ensures ∙ ap first_part c.as_slice-rows.ensures.value in
+    let two : c.last_part.result.now ≡ last_part rows = c.last_part.ensures ∙ ap last_part c.as_slice-rows.ensures.value in (
+      most_planned c.args.plan.now rows c.first_part.result.now c.last_part.result.now c.in-Ok.ensures one two c.in-Err-write_parts.written
+          c.in-Err-write_parts.ensures.most,
+      c.in-Err-write_parts.ensures.counted,
+    )
+
+pub returns-clause-stops : goal.returns-clause-stops
+returns-clause-stops g c = λ tells image told t stopped low left.
+    let rows = c.in-Ok.rows.items in
+    let one : c.first_part.result.now ≡ first_part rows = c.first_part.ensures ∙ ap first_part c.as_slice-rows.ensures.value in
+    let two : c.last_part.result.now ≡ last_part rows = c.last_part.ensures ∙ ap last_part c.as_slice-rows.ensures.value in
+    stopped_put c.args.plan.now rows c.first_part.result.now c.last_part.result.now c.in-Ok.ensures one two image stopped
+    (g.D.Disk.left_since c.args.disk.now t stopped) (c.in-Err-write_parts.ensures.stops tells image told t stopped low left)

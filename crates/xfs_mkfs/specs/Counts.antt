@@ -1,0 +1,47 @@
+-- How many blocks a call reads and writes, by a disk's counts.
+use Rattle.std.specs.Prelude.{◌≡◌, ℕ, ◌≤◌, Bool, if◌then◌else◌, length}
+use Rattle.xfs_disk.specs.Counts.{raised}
+use Rattle.xfs_disk.specs.declared.stamp.Stamp.{Stamp}
+use Rattle.xfs_options.specs.declared.making.MakeOptions.{MakeOptions}
+use Rattle.xfs_render.specs.Plans.{planned}
+use Rattle.xfs_render.specs.declared.plan.Plan.{Plan}
+use Rattle.xfs_writing.specs.Counting.{raised_times}
+use Rattle.xfs_mkfs.specs.Outcome.{IsPlanOf}
+use Rattle.xfs_mkfs.specs.declared.outcome.MakeOutcome.{MakeOutcome}
+use Rattle.xfs_mkfs.specs.declared.outcome.MakeOutcome.TheVariants as Out
+
+-- the answer comes before anything is written
+abbrev pub IsUnwritten : MakeOutcome → Type 0
+IsUnwritten (Out.Made summary) = ⊥
+IsUnwritten (Out.WriteFault n) = ⊥
+IsUnwritten outcome = Unit {0}
+
+-- all blocks of the plan were written
+pub record WritesAll (o : MakeOptions) (s : Stamp) (blocks before now : ℕ) : Type 0 where
+  pub plan : Plan
+  pub due : IsPlanOf o s blocks plan
+  pub counted : now ≡ raised_times (length (planned plan)) before
+
+-- n blocks of the plan were written
+pub record WritesSome (o : MakeOptions) (s : Stamp) (blocks n before now : ℕ) : Type 0 where
+  pub plan : Plan
+  pub due : IsPlanOf o s blocks plan
+  pub most : n ≤ length (planned plan)
+  pub counted : now ≡ raised_times n before
+
+-- the count of writes: all blocks of the plan were written, or just as many as a write fault tells; after every other answer none was
+abbrev pub CountsBlocks : MakeOptions → Stamp → ℕ → ℕ → ℕ → MakeOutcome → Type 0
+CountsBlocks o s blocks before now (Out.Made summary) = WritesAll o s blocks before now
+CountsBlocks o s blocks before now (Out.WriteFault n) = WritesSome o s blocks n before now
+CountsBlocks o s blocks before now outcome = now ≡ before
+
+-- the count of reads once block 0 was looked at, which is not done where it is written over anyway
+abbrev pub looked : Bool → ℕ → ℕ
+looked force before = if force then before else raised before
+
+-- the count of reads at an answer: nothing is read for one that is due before the look, and nothing was where that failed
+abbrev pub reads_at : Bool → ℕ → MakeOutcome → ℕ
+reads_at force before (Out.Unbuilt request) = before
+reads_at force before (Out.TooSmall what) = before
+reads_at force before (Out.ReadFault faults) = before
+reads_at force before outcome = looked force before
