@@ -1,40 +1,122 @@
--- Outcomes of a session by how its lines ended.
-use Rattle.std.proofs.Common.{◌≡◌, ◌==◌, ℕ, false, ◌≤◌, inr, List, [], ◌∷◌, length, Option, Result, Ok, Err}
-use Rattle.std.proofs.lemmas.Bool.{true≢false}
-use Rattle.xfs_disk.specs.Blocks.{Image}
-use Rattle.xfs_geom.specs.Volumes.{Volume}
-use Rattle.xfs_shell.specs.Ends.{IsEnd}
+-- Outcomes of a session by what was asked for.
+use Rattle.std.proofs.Common.{◌≡◌, ◌==◌, ℕ, zero, suc, true, false, List, [], ◌∷◌, length, Option, Some, None, Result, Ok, Err, refl, inl, inr, sym, ◌∙◌, ap, arith}
+use Rattle.std.proofs.lemmas.Bool.{eqb-true, true≢false}
+use Rattle.xfs_geom.specs.Election.{Vote}
+use Rattle.xfs_geom.specs.declared.election.ElectFault.{ElectFault}
+use Rattle.xfs_geom.specs.declared.election.ElectFault.TheVariants as fault
+use Rattle.xfs_shell.specs.Shells.{HasElected, HasInput, IsOfLines, IsPastElection, IsShort, IsUndecided, input_lines, most_of, told_lines}
+use Rattle.xfs_shell.specs.Running.{until_quit}
 use Rattle.xfs_shell.specs.Lines.{parts_of}
-use Rattle.xfs_shell.specs.Shells.{IsAsked, IsInput, IsLines, outcome_of}
 use Rattle.xfs_shell.specs.declared.lines.Cut.TheVariants.{LineFeeds}
-use Rattle.xfs_shell.specs.declared.running.End.{End}
-use Rattle.xfs_shell.specs.declared.running.End.TheVariants.{Stopped, OutputFault}
-use Rattle.xfs_shell.specs.declared.session.Leave.{Leave}
-use Rattle.xfs_shell.specs.declared.session.Stop.TheVariants as stop
+use Rattle.xfs_shell.specs.declared.outcomes.ShellOutcome.{ShellOutcome}
+use Rattle.xfs_shell.specs.declared.outcomes.ShellOutcome.TheVariants.{Done, NoGeometry, Unsupported, ReadFault, WriteFault, InputFault, InputLong, OutputFault, NoMemory}
 
--- lines that were run have the outcome of their end
-pub lines_ran : (v : Volume) (leave : Leave) (lines : List (List ℕ)) (image : Image) (before : List ℕ) (took : Option (List ℕ)) (now : Option Image)
-    (result : Result (Unit {0}) End) → IsEnd v leave lines image before took now result → IsLines v leave lines image before took now (outcome_of result)
-lines_ran v leave lines image before took now (Ok done) ended = ended
-lines_ran v leave lines image before took now (Err (Stopped stop.ReadFault k)) ended = ended
-lines_ran v leave lines image before took now (Err (Stopped (stop.WriteFault written) k)) ended = ended
-lines_ran v leave lines image before took now (Err (Stopped stop.NoMemory k)) ended = ended
-lines_ran v leave lines image before took now (Err (OutputFault k)) ended = ended
+-- where there are commands they are the lines
+pub commands_told : (commands : List (List ℕ)) (left : Option (List ℕ)) → (length commands == 0) ≡ false → told_lines commands left ≡ Some commands
+commands_told [] left some = absurd (true≢false some)
+commands_told (command ∷ commands) left some = refl
 
--- also where they are those of an input
-pub input_ran : (v : Volume) (leave : Leave) (image : Image) (left before : List ℕ) (took : Option (List ℕ)) (now : Option Image)
-    (result : Result (Unit {0}) End) → length left ≤ 1048576 → IsEnd v leave (parts_of LineFeeds left) image before took now result
-    → IsInput v leave image left before took now (outcome_of result)
-input_ran v leave image left before took now (Ok done) short ended = (short, ended)
-input_ran v leave image left before took now (Err (Stopped stop.ReadFault k)) short ended = (short, ended)
-input_ran v leave image left before took now (Err (Stopped (stop.WriteFault written) k)) short ended = (short, ended)
-input_ran v leave image left before took now (Err (Stopped stop.NoMemory k)) short ended = inr (short, ended)
-input_ran v leave image left before took now (Err (OutputFault k)) short ended = (short, ended)
+-- lines are run past the election
+pub past_lines : (outcome : ShellOutcome) → IsOfLines outcome → IsPastElection outcome
+past_lines Done ran = tt
+past_lines NoGeometry ran = absurd ran
+past_lines (Unsupported word bits) ran = absurd ran
+past_lines (ReadFault k) ran = tt
+past_lines (WriteFault written k) ran = tt
+past_lines InputFault ran = tt
+past_lines InputLong ran = tt
+past_lines (OutputFault k) ran = tt
+past_lines (NoMemory k) ran = tt
 
--- also where they are the commands of the options
-pub commands_ran : (v : Volume) (leave : Leave) (commands : List (List ℕ)) (image : Image) (left before : List ℕ) (took : Option (List ℕ)) (now : Option Image)
-    (result : Result (Unit {0}) End) → (length commands == 0) ≡ false → IsEnd v leave commands image before took now result
-    → IsAsked v leave commands image left before took now (outcome_of result)
-commands_ran v leave [] image left before took now result some ended = absurd (true≢false some)
-commands_ran v leave (command ∷ commands) image left before took now result some ended =
-    lines_ran v leave (command ∷ commands) image before took now result ended
+-- and where they are those of an input, it was not too long
+pub input_lines_ran : (left : Option (List ℕ)) (outcome : ShellOutcome) → IsOfLines outcome → IsShort left → HasInput [] left outcome
+input_lines_ran left Done ran short = short
+input_lines_ran left NoGeometry ran short = tt
+input_lines_ran left (Unsupported word bits) ran short = tt
+input_lines_ran left (ReadFault zero) ran short = tt
+input_lines_ran left (ReadFault (suc k)) ran short = short
+input_lines_ran left (WriteFault written k) ran short = short
+input_lines_ran left InputFault ran short = tt
+input_lines_ran left InputLong ran short = absurd ran
+input_lines_ran left (OutputFault k) ran short = short
+input_lines_ran left (NoMemory zero) ran short = tt
+input_lines_ran left (NoMemory (suc k)) ran short = short
+
+-- where there are commands, the input is not read
+pub commands_ran : (commands : List (List ℕ)) (left : Option (List ℕ)) (outcome : ShellOutcome) → (length commands == 0) ≡ false → IsOfLines outcome
+    → HasInput commands left outcome
+commands_ran [] left outcome some ran = absurd (true≢false some)
+commands_ran (command ∷ commands) left Done some ran = tt
+commands_ran (command ∷ commands) left NoGeometry some ran = tt
+commands_ran (command ∷ commands) left (Unsupported word bits) some ran = tt
+commands_ran (command ∷ commands) left (ReadFault k) some ran = tt
+commands_ran (command ∷ commands) left (WriteFault written k) some ran = tt
+commands_ran (command ∷ commands) left InputFault some ran = ran
+commands_ran (command ∷ commands) left InputLong some ran = ran
+commands_ran (command ∷ commands) left (OutputFault k) some ran = tt
+commands_ran (command ∷ commands) left (NoMemory k) some ran = tt
+
+-- past the election there was one
+pub past_elected : (vote : Vote) (outcome : ShellOutcome) → IsPastElection outcome → HasElected (Ok vote) outcome
+past_elected vote Done past = tt
+past_elected vote NoGeometry past = past
+past_elected vote (Unsupported word bits) past = past
+past_elected vote (ReadFault k) past = tt
+past_elected vote (WriteFault written k) past = tt
+past_elected vote InputFault past = tt
+past_elected vote InputLong past = tt
+past_elected vote (OutputFault k) past = tt
+past_elected vote (NoMemory k) past = tt
+
+-- where there is none, the lines are those of the input
+pub input_told_lines : (commands : List (List ℕ)) (left : Option (List ℕ)) → (length commands == 0) ≡ true → told_lines commands left ≡ input_lines left
+input_told_lines [] left none = refl
+input_told_lines (command ∷ commands) left none =
+    let no : suc (length commands) ≡ 0 = eqb-true (suc (length commands)) 0 none in
+    absurd (omega (arith, no))
+
+pub input_asked : (commands : List (List ℕ)) (left : Option (List ℕ)) (outcome : ShellOutcome) → (length commands == 0) ≡ true → HasInput [] left outcome
+    → HasInput commands left outcome
+input_asked [] left outcome none had = had
+input_asked (command ∷ commands) left outcome none had =
+    let no : suc (length commands) ≡ 0 = eqb-true (suc (length commands)) 0 none in
+    absurd (omega (arith, no))
+
+-- the lines that were run are those that the input tells
+pub read_lines : (left : Option (List ℕ)) (bytes : List ℕ) (ran lines : List (List ℕ)) → ran ≡ parts_of LineFeeds bytes
+    → ((told : List ℕ) → left ≡ Some told → bytes ≡ told) → input_lines left ≡ Some lines → ran ≡ lines
+read_lines None bytes ran lines are told is = cc
+read_lines (Some told) bytes ran lines are same is =
+    let due : parts_of LineFeeds told ≡ lines = cc in
+    are ∙ ap (λ (b : List ℕ). parts_of LineFeeds b) (same told refl) ∙ due
+
+-- where it could not be decided whether there was one
+pub undecided : (due : Result Vote ElectFault) (outcome : ShellOutcome) → IsUndecided outcome → HasElected due outcome
+undecided (Ok vote) Done is = tt
+undecided (Ok vote) NoGeometry (inl is) = cc
+undecided (Ok vote) NoGeometry (inr is) = cc
+undecided (Ok vote) (Unsupported word bits) (inl is) = cc
+undecided (Ok vote) (Unsupported word bits) (inr is) = cc
+undecided (Ok vote) (ReadFault k) is = tt
+undecided (Ok vote) (WriteFault written k) is = tt
+undecided (Ok vote) InputFault is = tt
+undecided (Ok vote) InputLong is = tt
+undecided (Ok vote) (OutputFault k) is = tt
+undecided (Ok vote) (NoMemory k) is = tt
+undecided (Err fault.NoGeometry) outcome is = inr is
+undecided (Err (fault.Unsupported word bits)) outcome is = inr is
+undecided (Err fault.ReadFault) outcome is = is
+undecided (Err fault.NoMemory) outcome is = is
+
+-- the commands that were run are those that are asked for
+pub asked_lines : (commands : List (List ℕ)) (left : Option (List ℕ)) (ran lines : List (List ℕ)) → ran ≡ commands → (length commands == 0) ≡ false
+    → told_lines commands left ≡ Some lines → ran ≡ lines
+asked_lines commands left ran lines are some told =
+    let due : Some commands ≡ Some lines = sym (commands_told commands left some) ∙ told in
+    let same : commands ≡ lines = cc in
+    are ∙ same
+
+pub asked_most : (commands : List (List ℕ)) (left : Option (List ℕ)) (ran : List (List ℕ)) → ran ≡ commands → (length commands == 0) ≡ false
+    → until_quit ran ≡ most_of (told_lines commands left)
+asked_most commands left ran are some =
+    ap until_quit are ∙ ap (λ (ls : Option (List (List ℕ))). most_of ls) (sym (commands_told commands left some))

@@ -1,19 +1,22 @@
 -- Runs over lines, one more line at a time.
-use Rattle.std.proofs.Common.{◌≡◌, ℕ, zero, suc, ◌+◌, ◌-◌, ◌≤◌, ◌<◌, Bool, true, false, if◌then◌else◌, List, [], ◌∷◌, ◌++◌, length, take, drop, get_or, Option, Some, Ok, Err, refl, sym, ◌∙◌, ap, subst, append_assoc, length-append, arith}
+use Rattle.std.proofs.Common.{◌≡◌, ℕ, zero, suc, ◌+◌, ◌-◌, ◌≤◌, ◌<◌, Bool, true, false, if◌then◌else◌, List, [], ◌∷◌, ◌++◌, length, take, drop, get_or, Option, Some, None, Err, refl, sym, ◌∙◌, ap, subst, append_assoc, length-append, arith}
 use Rattle.std.specs.List.{fold}
 use Rattle.std.proofs.lemmas.List.{take_more, take-append-drop, take_all, append-nil}
 use Rattle.std.proofs.Math.Seq.{take-append-add}
 use Rattle.xfs_disk.specs.Blocks.{Image}
 use Rattle.xfs_geom.specs.Volumes.{Volume}
-use Rattle.xfs_commands.specs.Commands.{Effect, Session}
-use Rattle.xfs_shell.specs.Ends.{end_behind, HasEndCause, HasLineCause, IsEnd, IsLine, IsPut, IsPrefixPut}
-use Rattle.xfs_shell.specs.Running.{Run, after_line, attempts, begun, block_at_place, extended, image_after, shelled}
+use Rattle.xfs_commands.specs.Commands.{Effect, Put, Session}
+use Rattle.xfs_shell.specs.Ends.{HasLineCause, IsBehind, IsPrefixPut, IsStopped, LeavesLine, PutsLine}
+use Rattle.xfs_shell.specs.Running.{Run, after_line, attempts, begun, block_at_place, count_put, extended, image_after, shelled}
 use Rattle.xfs_commands.specs.Cursors.{is_quit}
 use Rattle.xfs_commands.specs.Verbs.{word_at}
 use Rattle.xfs_shell.specs.Lines.{parts_of}
-use Rattle.xfs_shell.specs.Sessions.{IsWrittenBehind, Stays}
+use Rattle.xfs_shell.specs.Sessions.{IsWrittenBehind, Stays, raised_put}
+use Rattle.xfs_shell.specs.Shells.{HasCause, IsEarly, IsGoing, IsOfLines, LeavesDisk, Puts, outcome_behind, stopped_outcome}
+use Rattle.xfs_shell.specs.Steps.{raised_times}
+use Rattle.xfs_shell.proofs.Stepping.{HasEndCount, HasStopCount}
 use Rattle.xfs_disk.specs.Faults.{Rose}
-use Rattle.xfs_shell.specs.declared.running.End.TheVariants.{Stopped, OutputFault}
+use Rattle.xfs_shell.specs.declared.outcomes.ShellOutcome.TheVariants.{Done, OutputFault}
 use Rattle.xfs_shell.specs.declared.running.LineEnd.{LineEnd}
 use Rattle.xfs_shell.specs.declared.running.LineEnd.TheVariants as end
 use Rattle.xfs_shell.specs.declared.session.Stop.{Stop}
@@ -56,27 +59,24 @@ next_run v leave lines image i d within on =
     ∙ goes_on v leave (shelled v leave (take i lines) image) (get_or lines i d) on
 
 -- where a run over the first lines stands
-pub record IsAt (v : Volume) (leave : Leave) (lines : List (List ℕ)) (image : Image) (before : List ℕ) (i : ℕ) (session : Session) (took : Option (List ℕ)) (now : Option Image) : Type 0 where
+pub record IsAt (v : Volume) (leave : Leave) (lines : List (List ℕ)) (image : Image) (i : ℕ) (session : Session) (now : Option Image) (writes writes_now : ℕ) : Type 0 where
   pub session_is : session ≡ (shelled v leave (take i lines) image).session
-  pub text_is : took ≡ Some (before ++ (shelled v leave (take i lines) image).text)
   pub image_is : now ≡ Some (shelled v leave (take i lines) image).image
+  pub writes_are : writes_now ≡ raised_times (shelled v leave (take i lines) image).writes writes
   pub goes : (shelled v leave (take i lines) image).quit ≡ false
 
-pub at_start : (v : Volume) (leave : Leave) (lines : List (List ℕ)) (image : Image) (before : List ℕ) (session : Session) (took : Option (List ℕ)) (now : Option Image)
-    → session ≡ (begun image).session → took ≡ Some before → now ≡ Some image → IsAt v leave lines image before 0 session took now
-at_start v leave lines image before session took now start told held =
-    record {
-      session_is = start;
-      text_is = told ∙ ap (λ (t : List ℕ). Some t) (sym (append-nil before));
-      image_is = held;
-      goes = refl;
-    }
+pub at_start : (v : Volume) (leave : Leave) (lines : List (List ℕ)) (image : Image) (session : Session) (now : Option Image) (writes : ℕ)
+    → session ≡ (begun image).session → now ≡ Some image → IsAt v leave lines image 0 session now writes writes
+at_start v leave lines image session now writes start held = record { session_is = start; image_is = held; writes_are = refl; goes = refl }
+
+pub text_at_start : (before : List ℕ) (took : Option (List ℕ)) → took ≡ Some before → took ≡ Some (before ++ [])
+text_at_start before took told = told ∙ ap (λ (t : List ℕ). Some t) (sym (append-nil before))
 
 -- where a run stands once the line behind the first i is run too
-pub record IsNext (r : Run) (before : List ℕ) (verdict : Verdict) (session : Session) (took : Option (List ℕ)) (now : Option Image) : Type 0 where
+pub record IsNext (r : Run) (verdict : Verdict) (session : Session) (now : Option Image) (writes writes_now : ℕ) : Type 0 where
   pub session_is : session ≡ r.session
-  pub text_is : took ≡ Some (before ++ r.text)
   pub image_is : now ≡ Some r.image
+  pub writes_are : writes_now ≡ raised_times r.writes writes
   pub quits : r.quit ≡ is_quit verdict
 
 -- the effect of a line is that of the run's session
@@ -89,138 +89,215 @@ due_effect : (v : Volume) (leave : Leave) (r : Run) (line other : List ℕ) (s :
     → attempts v leave (parts_of Blanks line) (block_at_place r.image s.at) s ≡ effect_at v leave r other
 due_effect v leave r line other s is line_is = same_effect v leave r line s is ∙ ap (λ (l : List ℕ). effect_at v leave r l) line_is
 
-extended_put : (r : Run) (e : Effect) (before : List ℕ) (verdict : Verdict) (session : Session) (took : Option (List ℕ)) (now : Option Image)
-    → IsPut e r.image (before ++ r.text) verdict session took now → IsNext (extended r e) before verdict session took now
-extended_put r e before verdict session took now put =
+-- one count of writes more, where a block is written
+raised_more : (put : Put) (n writes : ℕ) → raised_put put (raised_times n writes) ≡ raised_times (count_put put n) writes
+raised_more None n writes = refl
+raised_more (Some put) n writes = refl
+
+extended_put : (r : Run) (e : Effect) (verdict : Verdict) (session : Session) (now : Option Image) (writes writes_now writes_then : ℕ)
+    → writes_now ≡ raised_times r.writes writes → IsBehind e r.image verdict session now writes_now writes_then → IsNext (extended r e) verdict session now writes writes_then
+extended_put r e verdict session now writes writes_now writes_then counted put =
     record {
       session_is = put.session_is;
-      text_is = put.text_is ∙ ap (λ (t : List ℕ). Some t) (append_assoc before r.text e.text);
       image_is = put.image_is;
+      writes_are = put.writes_are ∙ ap (λ (n : ℕ). raised_put e.put n) counted ∙ raised_more e.put r.writes writes;
       quits = ap is_quit (sym put.verdict_is);
     }
 
-next_at : (v : Volume) (leave : Leave) (lines : List (List ℕ)) (image : Image) (before : List ℕ) (i : ℕ) (line d : List ℕ) (s : Session) (took : Option (List ℕ)) (now : Option Image)
-    (verdict : Verdict) (s' : Session) (took' : Option (List ℕ)) (now' : Option Image)
-    → i < length lines → line ≡ get_or lines i d → IsAt v leave lines image before i s took now
-    → IsPut (attempts v leave (parts_of Blanks line) (block_at_place (shelled v leave (take i lines) image).image s.at) s)
-    (shelled v leave (take i lines) image).image (before ++ (shelled v leave (take i lines) image).text) verdict s' took' now'
-    → IsNext (shelled v leave (take (i + 1) lines) image) before verdict s' took' now'
-next_at v leave lines image before i line d s took now verdict s' took' now' within line_is at put =
-    let r : Run = shelled v leave (take i lines) image in
-    let due : IsPut (effect_at v leave r (get_or lines i d)) r.image (before ++ r.text) verdict s' took' now' =
-    subst (λ (e : Effect). IsPut e r.image (before ++ r.text) verdict s' took' now') (due_effect v leave r line (get_or lines i d) s at.session_is line_is) put
-    in
-    subst (λ (q : Run). IsNext q before verdict s' took' now') (sym (next_run v leave lines image i d within at.goes))
-    (extended_put r (effect_at v leave r (get_or lines i d)) before verdict s' took' now' due)
+put_counts : (put : Put) (n : ℕ) → count_put put 0 ≡ 1 → count_put put n ≡ suc n
+put_counts None n one = cc
+put_counts (Some put) n one = refl
 
-pub stepped : (v : Volume) (leave : Leave) (lines : List (List ℕ)) (image : Image) (before : List ℕ) (i : ℕ) (line d : List ℕ) (s : Session) (took : Option (List ℕ)) (now : Option Image)
-    (verdict : Verdict) (s' : Session) (took' : Option (List ℕ)) (now' : Option Image)
-    → i < length lines → line ≡ get_or lines i d → IsAt v leave lines image before i s took now
-    → IsPut (attempts v leave (parts_of Blanks line) (block_at_place (shelled v leave (take i lines) image).image s.at) s)
-    (shelled v leave (take i lines) image).image (before ++ (shelled v leave (take i lines) image).text) verdict s' took' now'
-    → is_quit verdict ≡ false → IsAt v leave lines image before (i + 1) s' took' now'
-stepped v leave lines image before i line d s took now verdict s' took' now' within line_is at put on =
-    let n = next_at v leave lines image before i line d s took now verdict s' took' now' within line_is at put in
-    record { session_is = n.session_is; text_is = n.text_is; image_is = n.image_is; goes = n.quits ∙ on }
+-- the lines, one of them, and where a run over those before it stands
+module _ (v : Volume) (leave : Leave) (lines : List (List ℕ)) (image : Image) (i : ℕ) (line d : List ℕ) (s : Session) (now : Option Image) (writes writes_now : ℕ) where
+  abbrev pub line_effect : Effect
+  line_effect = attempts v leave (parts_of Blanks line) (block_at_place (shelled v leave (take i lines) image).image s.at) s
 
--- behind a quit the lines leave what they left there
-pub quitted : (v : Volume) (leave : Leave) (lines : List (List ℕ)) (image : Image) (before : List ℕ) (i : ℕ) (line d : List ℕ) (s : Session) (took : Option (List ℕ)) (now : Option Image)
-    (verdict : Verdict) (s' : Session) (took' : Option (List ℕ)) (now' : Option Image)
-    → i < length lines → line ≡ get_or lines i d → IsAt v leave lines image before i s took now
-    → IsPut (attempts v leave (parts_of Blanks line) (block_at_place (shelled v leave (take i lines) image).image s.at) s)
-    (shelled v leave (take i lines) image).image (before ++ (shelled v leave (take i lines) image).text) verdict s' took' now'
-    → is_quit verdict ≡ true → IsEnd v leave lines image before took' now' (Ok tt)
-quitted v leave lines image before i line d s took now verdict s' took' now' within line_is at put off =
-    let n = next_at v leave lines image before i line d s took now verdict s' took' now' within line_is at put in
-    let whole : shelled v leave lines image ≡ shelled v leave (take (i + 1) lines) image =
-    ap (λ (ls : List (List ℕ)). fold (after_line v leave) (begun image) ls) (sym (take-append-drop (i + 1) lines))
-    ∙ fold_append (after_line v leave) (begun image) (take (i + 1) lines) (drop (i + 1) lines)
-    ∙ ended_stays v leave (shelled v leave (take (i + 1) lines) image) (drop (i + 1) lines) (n.quits ∙ off)
-    in (
-      n.text_is ∙ ap (λ (q : Run). Some (before ++ q.text)) (sym whole),
-      n.image_is ∙ ap (λ (q : Run). Some q.image) (sym whole),
-    )
+  due_run : i < length lines → line ≡ get_or lines i d → IsAt v leave lines image i s now writes writes_now
+      → shelled v leave (take (i + 1) lines) image ≡ extended (shelled v leave (take i lines) image) line_effect
+  due_run within line_is at =
+      next_run v leave lines image i d within at.goes
+      ∙ ap (λ (f : Effect). extended (shelled v leave (take i lines) image) f)
+      (sym (due_effect v leave (shelled v leave (take i lines) image) line (get_or lines i d) s at.session_is line_is))
+
+  next_at : (verdict : Verdict) (s' : Session) (now' : Option Image) (writes' : ℕ)
+      → i < length lines → line ≡ get_or lines i d → IsAt v leave lines image i s now writes writes_now
+      → IsBehind line_effect (shelled v leave (take i lines) image).image verdict s' now' writes_now writes'
+      → IsNext (shelled v leave (take (i + 1) lines) image) verdict s' now' writes writes'
+  next_at verdict s' now' writes' within line_is at put =
+      subst (λ (q : Run). IsNext q verdict s' now' writes writes') (sym (due_run within line_is at))
+      (extended_put (shelled v leave (take i lines) image) line_effect verdict s' now' writes writes_now writes' at.writes_are put)
+
+  pub stepped : (verdict : Verdict) (s' : Session) (now' : Option Image) (writes' : ℕ)
+      → i < length lines → line ≡ get_or lines i d → IsAt v leave lines image i s now writes writes_now
+      → IsBehind line_effect (shelled v leave (take i lines) image).image verdict s' now' writes_now writes'
+      → is_quit verdict ≡ false → IsAt v leave lines image (i + 1) s' now' writes writes'
+  stepped verdict s' now' writes' within line_is at put on =
+      let n = next_at verdict s' now' writes' within line_is at put in
+      record { session_is = n.session_is; image_is = n.image_is; writes_are = n.writes_are; goes = n.quits ∙ on }
+
+  -- the text of one line more
+  pub text_stepped : (before : List ℕ) (took' : Option (List ℕ))
+      → i < length lines → line ≡ get_or lines i d → IsAt v leave lines image i s now writes writes_now
+      → took' ≡ Some (before ++ (shelled v leave (take i lines) image).text ++ line_effect.text)
+      → took' ≡ Some (before ++ (shelled v leave (take (i + 1) lines) image).text)
+  text_stepped before took' within line_is at put =
+      put
+      ∙ ap (λ (t : List ℕ). Some t) (append_assoc before (shelled v leave (take i lines) image).text line_effect.text)
+      ∙ ap (λ (q : Run). Some (before ++ q.text)) (sym (due_run within line_is at))
+
+  -- behind a quit the lines leave what they left there
+  ended_there : (verdict : Verdict) (s' : Session) (now' : Option Image) (writes' : ℕ)
+      → IsNext (shelled v leave (take (i + 1) lines) image) verdict s' now' writes writes' → is_quit verdict ≡ true
+      → shelled v leave lines image ≡ shelled v leave (take (i + 1) lines) image
+  ended_there verdict s' now' writes' n off =
+      ap (λ (ls : List (List ℕ)). fold (after_line v leave) (begun image) ls) (sym (take-append-drop (i + 1) lines))
+      ∙ fold_append (after_line v leave) (begun image) (take (i + 1) lines) (drop (i + 1) lines)
+      ∙ ended_stays v leave (shelled v leave (take (i + 1) lines) image) (drop (i + 1) lines) (n.quits ∙ off)
+
+  pub quitted : (verdict : Verdict) (s' : Session) (now' : Option Image) (writes' : ℕ)
+      → i < length lines → line ≡ get_or lines i d → IsAt v leave lines image i s now writes writes_now
+      → IsBehind line_effect (shelled v leave (take i lines) image).image verdict s' now' writes_now writes'
+      → is_quit verdict ≡ true → LeavesDisk v leave lines image now' writes writes' Done
+  quitted verdict s' now' writes' within line_is at put off =
+      let n = next_at verdict s' now' writes' within line_is at put in
+      let whole = ended_there verdict s' now' writes' n off in
+      record {
+        image_is = n.image_is ∙ ap (λ (q : Run). Some q.image) (sym whole);
+        writes_are = n.writes_are ∙ ap (λ (q : Run). raised_times q.writes writes) (sym whole);
+        finished_are = tt;
+      }
+
+  pub text_quitted : (verdict : Verdict) (s' : Session) (now' : Option Image) (writes' : ℕ) (before : List ℕ) (took' : Option (List ℕ))
+      → i < length lines → line ≡ get_or lines i d → IsAt v leave lines image i s now writes writes_now
+      → IsBehind line_effect (shelled v leave (take i lines) image).image verdict s' now' writes_now writes'
+      → is_quit verdict ≡ true
+      → took' ≡ Some (before ++ (shelled v leave (take i lines) image).text ++ line_effect.text)
+      → Puts v leave lines image before took' Done
+  text_quitted verdict s' now' writes' before took' within line_is at put off text =
+      let n = next_at verdict s' now' writes' within line_is at put in
+      text_stepped before took' within line_is at text
+      ∙ ap (λ (q : Run). Some (before ++ q.text)) (sym (ended_there verdict s' now' writes' n off))
+
+  -- a command was stopped
+  halted : (why : Stop) (now' : Option Image) (writes' : ℕ)
+      → i < length lines → line ≡ get_or lines i d → IsAt v leave lines image i s now writes writes_now
+      → HasStopCount writes_now writes' why
+      → Stays line_effect (shelled v leave (take i lines) image).image now' why
+      → LeavesDisk v leave lines image now' writes writes' (stopped_outcome why i)
+  halted stop.ReadFault now' writes' within line_is at count stays =
+      record { image_is = stays; writes_are = count ∙ at.writes_are; finished_are = (omega (arith, within), at.goes) }
+  halted stop.NoMemory now' writes' within line_is at count stays =
+      record { image_is = stays; writes_are = count ∙ at.writes_are; finished_are = (omega (arith, within), at.goes) }
+  halted (stop.WriteFault written) now' writes' within line_is at count stays =
+      let r : Run = shelled v leave (take i lines) image in
+      let next = due_run within line_is at in
+      record {
+        image_is = subst (λ (im : Image). IsWrittenBehind written r.image im now') (ap (λ (q : Run). q.image) (sym next)) stays.0;
+        writes_are = (
+          count ∙ ap (λ (n : ℕ). raised_times written n) at.writes_are,
+          ap (λ (q : Run). q.writes) next ∙ put_counts line_effect.put r.writes stays.1,
+        );
+        finished_are = (omega (arith, within), (omega (arith, within), at.goes));
+      }
+
+  -- lines could not be put
+  cut_short : (now' : Option Image) (writes' : ℕ)
+      → i < length lines → line ≡ get_or lines i d → IsAt v leave lines image i s now writes writes_now
+      → now' ≡ Some (image_after line_effect.put (shelled v leave (take i lines) image).image)
+      → writes' ≡ raised_put line_effect.put writes_now
+      → LeavesDisk v leave lines image now' writes writes' (OutputFault (i + 1))
+  cut_short now' writes' within line_is at held count =
+      let r : Run = shelled v leave (take i lines) image in
+      let next = due_run within line_is at in
+      let less : i ≡ i + 1 - 1 = omega arith in
+      record {
+        image_is = held ∙ ap (λ (q : Run). Some q.image) (sym next);
+        writes_are =
+            count
+            ∙ ap (λ (n : ℕ). raised_put line_effect.put n) at.writes_are
+            ∙ raised_more line_effect.put r.writes writes
+            ∙ ap (λ (q : Run). raised_times q.writes writes) (sym next);
+        finished_are = (omega arith, omega (arith, within), subst (λ (k : ℕ). IsGoing v leave lines image k) less (omega (arith, within), at.goes));
+      }
+
+  -- lines ended as one of them did
+  pub line_ended : (ended : LineEnd) (s' : Session) (now' : Option Image) (writes' : ℕ)
+      → i < length lines → line ≡ get_or lines i d → IsAt v leave lines image i s now writes writes_now
+      → HasEndCount writes_now writes' ended
+      → LeavesLine line_effect (shelled v leave (take i lines) image).image s' now' writes_now writes' (Err ended)
+      → LeavesDisk v leave lines image now' writes writes' (outcome_behind i ended)
+  line_ended (end.Stopped why) s' now' writes' within line_is at count stays = halted why now' writes' within line_is at count stays
+  line_ended end.OutputFault s' now' writes' within line_is at count left = cut_short now' writes' within line_is at left.0 left.1
+
+  pub text_ended : (ended : LineEnd) (before : List ℕ) (took' : Option (List ℕ))
+      → i < length lines → line ≡ get_or lines i d → IsAt v leave lines image i s now writes writes_now
+      → PutsLine line_effect (before ++ (shelled v leave (take i lines) image).text) took' (Err ended)
+      → Puts v leave lines image before took' (outcome_behind i ended)
+  text_ended (end.Stopped stop.ReadFault) before took' within line_is at put = put
+  text_ended (end.Stopped (stop.WriteFault written)) before took' within line_is at put = put
+  text_ended (end.Stopped stop.NoMemory) before took' within line_is at put = put
+  text_ended end.OutputFault before took' within line_is at put =
+      let r : Run = shelled v leave (take i lines) image in
+      let next = due_run within line_is at in
+      let less : i ≡ i + 1 - 1 = omega arith in
+      let prefix : IsPrefixPut before (length r.text) (extended r line_effect).text took' = (
+        length r.text + put.0,
+        omega arith,
+        rw length-append (omega (arith, put.2)),
+        put.3
+            ∙ ap (λ (t : List ℕ). Some t) (append_assoc before r.text (take put.0 line_effect.text))
+            ∙ ap (λ (t : List ℕ). Some (before ++ t)) (sym (take-append-add r.text line_effect.text put.0)),
+      )
+      in
+      subst (λ (k : ℕ). IsPrefixPut before (length (shelled v leave (take k lines) image).text) (shelled v leave (take (i + 1) lines) image).text took') less
+      (subst (λ (q : Run). IsPrefixPut before (length r.text) q.text took') (sym next) prefix)
 
 -- all lines were run
-pub at_end : (v : Volume) (leave : Leave) (lines : List (List ℕ)) (image : Image) (before : List ℕ) (i : ℕ) (s : Session) (took : Option (List ℕ)) (now : Option Image)
-    → length lines ≤ i → IsAt v leave lines image before i s took now → IsEnd v leave lines image before took now (Ok tt)
-at_end v leave lines image before i s took now all at =
-    let whole : take i lines ≡ lines = take_all i lines all in (
-      at.text_is ∙ ap (λ (ls : List (List ℕ)). Some (before ++ (shelled v leave ls image).text)) whole,
-      at.image_is ∙ ap (λ (ls : List (List ℕ)). Some (shelled v leave ls image).image) whole,
-    )
+pub at_end : (v : Volume) (leave : Leave) (lines : List (List ℕ)) (image : Image) (i : ℕ) (s : Session) (now : Option Image) (writes writes_now : ℕ)
+    → length lines ≤ i → IsAt v leave lines image i s now writes writes_now → LeavesDisk v leave lines image now writes writes_now Done
+at_end v leave lines image i s now writes writes_now all at =
+    let whole : take i lines ≡ lines = take_all i lines all in
+    record {
+      image_is = at.image_is ∙ ap (λ (ls : List (List ℕ)). Some (shelled v leave ls image).image) whole;
+      writes_are = at.writes_are ∙ ap (λ (ls : List (List ℕ)). raised_times (shelled v leave ls image).writes writes) whole;
+      finished_are = tt;
+    }
 
--- a command was stopped
-pub halted : (v : Volume) (leave : Leave) (lines : List (List ℕ)) (image : Image) (before : List ℕ) (i : ℕ) (line d : List ℕ) (s : Session) (took : Option (List ℕ)) (now : Option Image)
-    (why : Stop) (took' : Option (List ℕ)) (now' : Option Image)
-    → i < length lines → line ≡ get_or lines i d → IsAt v leave lines image before i s took now
-    → took' ≡ Some (before ++ (shelled v leave (take i lines) image).text)
-    → Stays (attempts v leave (parts_of Blanks line) (block_at_place (shelled v leave (take i lines) image).image s.at) s)
-    (shelled v leave (take i lines) image).image now' why
-    → IsEnd v leave lines image before took' now' (Err (Stopped why i))
-halted v leave lines image before i line d s took now stop.ReadFault took' now' within line_is at told stays = (told, stays)
-halted v leave lines image before i line d s took now stop.NoMemory took' now' within line_is at told stays = (told, stays)
-halted v leave lines image before i line d s took now (stop.WriteFault written) took' now' within line_is at told stays =
-    let r : Run = shelled v leave (take i lines) image in
-    let next : (image_after (attempts v leave (parts_of Blanks line) (block_at_place r.image s.at) s).put r.image) ≡ (shelled v leave (take (i + 1) lines) image).image =
-    ap (λ (e : Effect). image_after e.put r.image) (due_effect v leave r line (get_or lines i d) s at.session_is line_is)
-    ∙ ap (λ (q : Run). q.image) (sym (next_run v leave lines image i d within at.goes))
-    in
-    (told, subst (λ (im : Image). IsWrittenBehind written r.image im now') next stays)
-
--- lines could not be put
-pub cut_short : (v : Volume) (leave : Leave) (lines : List (List ℕ)) (image : Image) (before : List ℕ) (i : ℕ) (line d : List ℕ) (s : Session) (took : Option (List ℕ)) (now : Option Image)
-    (took' : Option (List ℕ)) (now' : Option Image)
-    → i < length lines → line ≡ get_or lines i d → IsAt v leave lines image before i s took now
-    → IsPrefixPut (before ++ (shelled v leave (take i lines) image).text) 0
-    (attempts v leave (parts_of Blanks line) (block_at_place (shelled v leave (take i lines) image).image s.at) s).text took'
-    → now' ≡ Some (image_after (attempts v leave (parts_of Blanks line) (block_at_place (shelled v leave (take i lines) image).image s.at) s).put
-    (shelled v leave (take i lines) image).image)
-    → IsEnd v leave lines image before took' now' (Err (OutputFault (i + 1)))
-cut_short v leave lines image before i line d s took now took' now' within line_is at put held =
-    let r : Run = shelled v leave (take i lines) image in
-    let e : Effect = attempts v leave (parts_of Blanks line) (block_at_place r.image s.at) s in
-    let next : shelled v leave (take (i + 1) lines) image ≡ extended r e =
-    next_run v leave lines image i d within at.goes ∙ ap (λ (f : Effect). extended r f) (sym (due_effect v leave r line (get_or lines i d) s at.session_is line_is))
-    in
-    let less : i + 1 - 1 ≡ i = omega arith in
-    let prefix : IsPrefixPut before (length r.text) (extended r e).text took' = (
-      length r.text + put.0,
-      omega arith,
-      rw length-append (omega (arith, put.2)),
-      put.3 ∙ ap (λ (t : List ℕ). Some t) (append_assoc before r.text (take put.0 e.text)) ∙ ap (λ (t : List ℕ). Some (before ++ t)) (sym (take-append-add r.text e.text put.0)),
-    )
-    in (
-      subst (λ (k : ℕ). IsPrefixPut before (length (shelled v leave (take k lines) image).text) (shelled v leave (take (i + 1) lines) image).text took') (sym less)
-          (subst (λ (q : Run). IsPrefixPut before (length r.text) q.text took') (sym next) prefix),
-      held ∙ ap (λ (q : Run). Some q.image) (sym next),
-    )
+pub text_at_end : (v : Volume) (leave : Leave) (lines : List (List ℕ)) (image : Image) (i : ℕ) (before : List ℕ) (took : Option (List ℕ))
+    → length lines ≤ i → took ≡ Some (before ++ (shelled v leave (take i lines) image).text) → Puts v leave lines image before took Done
+text_at_end v leave lines image i before took all text =
+    text ∙ ap (λ (ls : List (List ℕ)). Some (before ++ (shelled v leave ls image).text)) (take_all i lines all)
 
 -- the line of a number
-pub word_is : (lines : List (List ℕ)) (i : ℕ) → i < length lines → word_at lines i ≡ get_or lines i []
+word_is : (lines : List (List ℕ)) (i : ℕ) → i < length lines → word_at lines i ≡ get_or lines i []
 word_is [] i within = absurd (omega (arith, within))
 word_is (line ∷ lines) zero within = refl
 word_is (line ∷ lines) (suc i) within = word_is lines i (omega (arith, within))
 
--- lines ended as one of them did
-pub line_ended : (v : Volume) (leave : Leave) (lines : List (List ℕ)) (image : Image) (before : List ℕ) (i : ℕ) (line d : List ℕ) (s : Session) (took : Option (List ℕ)) (now : Option Image)
-    (ended : LineEnd) (s' : Session) (took' : Option (List ℕ)) (now' : Option Image)
-    → i < length lines → line ≡ get_or lines i d → IsAt v leave lines image before i s took now
-    → IsLine (attempts v leave (parts_of Blanks line) (block_at_place (shelled v leave (take i lines) image).image s.at) s)
-    (shelled v leave (take i lines) image).image (before ++ (shelled v leave (take i lines) image).text) s' took' now' (Err ended)
-    → IsEnd v leave lines image before took' now' (Err (end_behind i ended))
-line_ended v leave lines image before i line d s took now (end.Stopped why) s' took' now' within line_is at put =
-    halted v leave lines image before i line d s took now why took' now' within line_is at put.0 put.1
-line_ended v leave lines image before i line d s took now end.OutputFault s' took' now' within line_is at put =
-    cut_short v leave lines image before i line d s took now took' now' within line_is at put.0 put.1
+pub line_is : (lines : List (List ℕ)) (i : ℕ) (line : List ℕ) → line ≡ word_at lines i → i < length lines → line ≡ get_or lines i []
+line_is lines i line is within = is ∙ word_is lines i within
 
 rose_before : (a b c : ℕ) → a ≤ b → Rose b c → Rose a c
 rose_before a b c less rose = (omega (arith, less, rose.0), omega (arith, less, rose.1))
 
 -- a fault behind earlier lines has its cause
-pub cause_behind : (f m f' w n w' p q p' : ℕ) (ended : LineEnd) (k : ℕ) → f ≤ m → w ≤ n → p ≤ q → HasLineCause {T = Verdict} m f' n w' q p' (Err ended)
-    → HasEndCause {T = Unit {0}} f f' w w' p p' (Err (end_behind k ended))
-cause_behind f m f' w n w' p q p' (end.Stopped stop.ReadFault) k fm wn pq cause = rose_before f m f' fm cause
-cause_behind f m f' w n w' p q p' (end.Stopped (stop.WriteFault written)) k fm wn pq cause = rose_before w n w' wn cause
-cause_behind f m f' w n w' p q p' (end.Stopped stop.NoMemory) k fm wn pq cause = tt
-cause_behind f m f' w n w' p q p' end.OutputFault k fm wn pq cause = rose_before p q p' pq cause
+pub cause_behind : (f m f' w n w' t t' p q p' : ℕ) (ended : LineEnd) (k : ℕ) → f ≤ m → w ≤ n → p ≤ q → HasLineCause {T = Verdict} m f' n w' q p' (Err ended)
+    → HasCause f f' w w' t t' p p' (outcome_behind k ended)
+cause_behind f m f' w n w' t t' p q p' (end.Stopped stop.ReadFault) k fm wn pq cause = rose_before f m f' fm cause
+cause_behind f m f' w n w' t t' p q p' (end.Stopped (stop.WriteFault written)) k fm wn pq cause = rose_before w n w' wn cause
+cause_behind f m f' w n w' t t' p q p' (end.Stopped stop.NoMemory) k fm wn pq cause = tt
+cause_behind f m f' w n w' t t' p q p' end.OutputFault k fm wn pq cause = rose_before p q p' pq cause
+
+pub ran_lines : (k : ℕ) (ended : LineEnd) → IsOfLines (outcome_behind k ended)
+ran_lines k (end.Stopped stop.ReadFault) = tt
+ran_lines k (end.Stopped (stop.WriteFault written)) = tt
+ran_lines k (end.Stopped stop.NoMemory) = tt
+ran_lines k end.OutputFault = tt
+
+-- an early end is that of the first line, which was stopped
+pub early_first : (k : ℕ) (ended : LineEnd) → IsEarly (outcome_behind k ended) → (k ≡ 0) × IsStopped {T = Verdict} (Err ended)
+early_first k (end.Stopped stop.ReadFault) early = (early, tt)
+early_first k (end.Stopped (stop.WriteFault written)) early = absurd early
+early_first k (end.Stopped stop.NoMemory) early = (early, tt)
+early_first k end.OutputFault early = absurd early

@@ -6,8 +6,6 @@ use Rattle.xfs_commands.specs.Verbs.{word_at}
 use Rattle.xfs_shell.specs.Running.{runs, sets_here, writes, object_at}
 use Rattle.xfs_commands.specs.declared.commands.Verb.{Verb}
 use Rattle.xfs_commands.specs.declared.commands.Verb.TheVariants as verb
-use Rattle.xfs_commands.specs.declared.cursor.Verdict.TheVariants.{Quit}
-use Rattle.xfs_objects.specs.declared.objects.ObjectType.TheVariants as kind
 use Rattle.xfs_objects.specs.declared.objects.Place.{Place}
 use Rattle.xfs_shell.specs.declared.session.Leave.{Leave}
 use Rattle.xfs_commands.proofs.KeptSessions.{Keeps, prints_kept, addresses_kept, sets_kept, here_kept, alone_kept}

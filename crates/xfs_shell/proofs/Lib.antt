@@ -2,6 +2,8 @@ pub mod Cutting
 pub mod Settling
 pub mod KeptRuns
 pub mod Pushing
+pub mod Stepping
+pub mod Quitting
 pub mod Ending
 pub mod Filling
 pub mod Asked

@@ -7,7 +7,7 @@ use Rattle.xfs_commands.specs.Commands.{Session, Effect, no_address}
 use Rattle.xfs_commands.specs.Verbs.{accepted}
 use Rattle.xfs_shell.specs.Running.{attempts, is_push, is_push_verb, keeping, pushes, pushes_in, restored, block_at_place, image_after, runs_placeless, runs_accepted, runs_first, runs_named, runs_words}
 use Rattle.xfs_commands.specs.Cursors.{pushed, back_to, settled_session, saved}
-use Rattle.xfs_shell.specs.Sessions.{IsRun, IsWrittenBehind, Stays}
+use Rattle.xfs_shell.specs.Sessions.{IsRun, Stays, raised_put}
 use Rattle.xfs_disk.specs.Blocks.{Image}
 use Rattle.xfs_shell.specs.declared.session.Stop.{Stop}
 use Rattle.xfs_shell.specs.declared.session.Stop.TheVariants as stop
@@ -183,11 +183,11 @@ attempts_due v leave words image s t place at is =
     ∙ ap (λ (u : Session). restored s (runs_first v leave (drop (pushes_in words) words) (block_at_place image u.at) u)) (sym is)
 
 -- a command behind pushes was run
-pub behind_ran : (v : Volume) (leave : Leave) (words : List (List ℕ)) (image : Image) (s t now : Session) (place : Place) (verdict : Verdict) (old new : List ℕ) (held : Option Image)
+pub behind_ran : (v : Volume) (leave : Leave) (words : List (List ℕ)) (image : Image) (s t now : Session) (place : Place) (verdict : Verdict) (old new : List ℕ) (held : Option Image) (writes writes_now : ℕ)
     → s.at ≡ Some place → t ≡ pushed (pushes_in words) place s
-    → IsRun (runs_first v leave (drop (pushes_in words) words) (block_at_place image t.at) t) image verdict old new now held
-    → IsRun (attempts v leave words (block_at_place image s.at) s) image verdict old new (settled_session verdict (length s.stack) now) held
-behind_ran v leave words image s t now place verdict old new held at is run =
+    → IsRun (runs_first v leave (drop (pushes_in words) words) (block_at_place image t.at) t) image verdict old new now held writes writes_now
+    → IsRun (attempts v leave words (block_at_place image s.at) s) image verdict old new (settled_session verdict (length s.stack) now) held writes writes_now
+behind_ran v leave words image s t now place verdict old new held writes writes_now at is run =
     let e : Effect = runs_first v leave (drop (pushes_in words) words) (block_at_place image t.at) t in
     let due = attempts_due v leave words image s t place at is in
     let settled : settled_session verdict (length s.stack) now ≡ keeping verdict s now =
@@ -203,6 +203,7 @@ behind_ran v leave words image s t now place verdict old new held at is run =
           ∙ ap (λ (u : Session). keeping e.verdict s u) run.session_is
           ∙ ap (λ (f : Effect). f.session) (sym due);
       image_is = run.image_is ∙ ap (λ (f : Effect). Some (image_after f.put image)) (sym due);
+      writes_are = run.writes_are ∙ ap (λ (f : Effect). raised_put f.put writes) (sym due);
     }
 
 -- and stopped
@@ -214,4 +215,4 @@ behind_stays v leave words image s t place stop.ReadFault held at is stays = sta
 behind_stays v leave words image s t place stop.NoMemory held at is stays = stays
 behind_stays v leave words image s t place (stop.WriteFault written) held at is stays =
     let due = attempts_due v leave words image s t place at is in
-    subst (λ (f : Effect). IsWrittenBehind written image (image_after f.put image) held) (sym due) stays
+    subst (λ (f : Effect). Stays f image held (stop.WriteFault written)) (sym due) stays

@@ -1,5 +1,6 @@
 pub mod Lines
 pub mod Running
+pub mod Steps
 pub mod Sessions
 pub mod Ends
 pub mod Inputs

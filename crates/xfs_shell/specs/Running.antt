@@ -1,5 +1,5 @@
 -- The commands by their words, and what lines of them print and leave (xfs_db(8)).
-use Rattle.std.specs.Prelude.{ℕ, suc, Bool, true, false, not, ◌&&◌, if◌then◌else◌, codes, List, [], ◌∷◌, ◌++◌, length, Option, Some, None, slice_set}
+use Rattle.std.specs.Prelude.{ℕ, suc, Bool, true, false, not, ◌&&◌, if◌then◌else◌, codes, List, [], ◌∷◌, ◌++◌, length, take, Option, Some, None, slice_set}
 use Rattle.std.specs.List.{fold}
 use Rattle.xfs_disk.specs.Blocks.{Image}
 use Rattle.xfs_geom.specs.Election.{block_of}
@@ -14,7 +14,6 @@ use Rattle.xfs_commands.specs.declared.commands.Verb.TheVariants.{Addr, Print, P
 use Rattle.xfs_commands.specs.declared.cursor.Verdict.{Verdict}
 use Rattle.xfs_commands.specs.declared.cursor.Verdict.TheVariants as verdict
 use Rattle.xfs_shell.specs.declared.lines.Cut.TheVariants.{Blanks}
-use Rattle.xfs_objects.specs.declared.objects.ObjectType.TheVariants as kind
 use Rattle.xfs_objects.specs.declared.objects.Place.{Place}
 use Rattle.xfs_shell.specs.declared.session.Leave.{Leave}
 
@@ -117,11 +116,17 @@ abbrev pub image_after : Put → Image → Image
 image_after None image = image
 image_after (Some put) image = slice_set image put.0 put.1
 
--- what lines have printed, and what they leave
+-- a number of blocks with the one that is written, if any
+abbrev pub count_put : Put → ℕ → ℕ
+count_put None count = count
+count_put (Some put) count = suc count
+
+-- what lines have printed, what they leave, and how many blocks they wrote
 pub record Run : Type 0 where
   pub text : List ℕ
   pub session : Session
   pub image : Image
+  pub writes : ℕ
   pub quit : Bool
 
 abbrev pub extended : Run → Effect → Run
@@ -129,6 +134,7 @@ extended r e = record {
   text = r.text ++ e.text;
   session = e.session;
   image = image_after e.put r.image;
+  writes = count_put e.put r.writes;
   quit = is_quit e.verdict;
 }
 
@@ -140,8 +146,27 @@ after_line v leave r line =
 
 -- nothing was run yet
 abbrev pub begun : Image → Run
-begun image = record { text = []; session = record { at = None; stack = [] }; image = image; quit = false }
+begun image = record { text = []; session = record { at = None; stack = [] }; image = image; writes = 0; quit = false }
 
 -- what the lines print and leave
 abbrev pub shelled : Volume → Leave → List (List ℕ) → Image → Run
 shelled v leave lines image = fold (after_line v leave) (begun image) lines
+
+-- the run of the first lines
+abbrev pub shelled_first : Volume → Leave → List (List ℕ) → Image → ℕ → Run
+shelled_first v leave lines image k = shelled v leave (take k lines) image
+
+-- the words are the command quit, which ends a session wherever it stands
+abbrev pub is_quit_verb : Option Verb → Bool
+is_quit_verb None = false
+is_quit_verb (Some Quit) = true
+is_quit_verb (Some verb) = false
+
+abbrev pub is_quit_words : List (List ℕ) → Bool
+is_quit_words [] = false
+is_quit_words (name ∷ args) = is_quit_verb (accepted name (length args))
+
+-- how many lines there are up to and with the first that is the command quit
+abbrev pub until_quit : List (List ℕ) → ℕ
+until_quit [] = 0
+until_quit (line ∷ lines) = if is_quit_words (parts_of Blanks line) then 1 else suc (until_quit lines)

@@ -1,24 +1,26 @@
 //! A session of the debugger over the volume of a disk.
 
-ghost use Rattle.std.specs.Prelude.{◌≡◌, ℕ, ◌≤◌, false, List, [], length, Some, Ok, Result};
+ghost use Rattle.std.specs.Prelude.{◌≡◌, ℕ, ◌+◌, ◌≤◌, ◌++◌, [], List, Some, IfOk};
 ghost use Rattle.std.specs.Option.{ForSome};
 ghost use Rattle.xfs_geom.specs.Election.{elected};
-ghost use Rattle.xfs_geom.specs.Volumes.{volume_of};
+ghost use Rattle.xfs_geom.specs.Volumes.{stated_volume, volume_of};
 ghost use Rattle.xfs_shell.specs.Running.{may_write};
-ghost use Rattle.xfs_shell.specs.Shells.{leave_of, outcome_of, stopped_outcome, HasCause, IsAsked, IsInput, IsLines, IsSession};
-ghost use Rattle.xfs_shell.specs.Ends.{HasCounts, IsEnd};
+ghost use Rattle.xfs_shell.specs.Shells.{input_lines, leave_of, most_of, told_lines, HasCause, HasElected, HasInput, IsEarly, IsPastElection, LeavesDisk, Puts, RunsOver};
 
 use crate::input::{InputFault, read_input};
 use crate::lines::{Cut, parts};
 use crate::outcomes::{ShellOptions, ShellOutcome};
-use crate::running::{End, run_lines};
-use crate::session::{Leave, Stop};
+use crate::running::run_lines;
+use crate::session::Leave;
 use std::alloc::Global;
 use xfs_disk::{Disk, NoMemory, Sink, Source, Word};
 use xfs_geom::{ElectFault, Geometry, elect};
 
 /// Runs the commands of the options, or where there is none those of an input, over the volume of a disk. Each command
 /// is a line, and what it prints is put when it is done. An input is read whole before the first command.
+///
+/// Contracts say the outcome, the image that is left and the text that is put each where what it rests on tells: the disk, the
+/// output for the text, and the input unless there are commands.
 pub fn shell<D: Disk, S: Source, O: Sink>(
     alloc: Global,
     disk: &mut D,
@@ -26,12 +28,18 @@ pub fn shell<D: Disk, S: Source, O: Sink>(
     out: &mut O,
     options: &ShellOptions,
 ) -> ShellOutcome
-    ensures session { ForSome (D.holds disk.old) (λ image. ForSome (S.left input.old) (λ left. ForSome (O.took out.old) (λ before.
-        IsSession options.now image left before (O.took out.new) (D.holds disk.new) result))) }
-    ensures stays { may_write (leave_of options.now) ≡ false → D.holds disk.new ≡ D.holds disk.old }
+    ensures elected { ForSome (D.holds disk.old) (λ image. HasElected (elected image) result) }
+    ensures input { HasInput options.now.commands (S.left input.old) result }
+    ensures image { ForSome (D.holds disk.old) (λ image. IfOk (elected image) (λ vote. ForSome (told_lines options.now.commands (S.left input.old)) (λ lines.
+        LeavesDisk (stated_volume vote.sector) (leave_of options.now) lines image (D.holds disk.new) (D.writes disk.old) (D.writes disk.new) result))) }
+    ensures text { ForSome (D.holds disk.old) (λ image. IfOk (elected image) (λ vote. ForSome (told_lines options.now.commands (S.left input.old)) (λ lines.
+        ForSome (O.took out.old) (λ before. Puts (stated_volume vote.sector) (leave_of options.now) lines image before (O.took out.new) result)))) }
+    ensures silent { IsEarly result → O.took out.new ≡ O.took out.old }
+    ensures appends { ForSome (O.took out.old) (λ before. (rest : List ℕ) × (O.took out.new ≡ Some (before ++ rest))) }
+    ensures disk { RunsOver D.size D.holds D.reads D.writes D.write_faults D.tells_stops D.moment D.may_leave D.left_since (may_write (leave_of options.now))
+        (D.size disk.old + most_of (told_lines options.now.commands (S.left input.old))) (most_of (told_lines options.now.commands (S.left input.old))) disk.old disk.new result }
     ensures cause { HasCause (D.faults disk.old) (D.faults disk.new) (D.write_faults disk.old) (D.write_faults disk.new)
         (S.faults input.old) (S.faults input.new) (O.faults out.old) (O.faults out.new) result }
-    ensures size { D.size disk.new ≡ D.size disk.old }
 {
     let elected = match elect(alloc, disk) {
         Ok(elected) => elected,
@@ -56,12 +64,18 @@ fn run_asked<D: Disk, S: Source, O: Sink>(
     options: &ShellOptions,
 ) -> ShellOutcome
     requires inside { geometry.now.dblocks ≤ D.size disk.old }
-    ensures session { ForSome (D.holds disk.old) (λ image. ForSome (S.left input.old) (λ left. ForSome (O.took out.old) (λ before.
-        IsAsked (volume_of geometry.now) (leave_of options.now) options.now.commands image left before (O.took out.new) (D.holds disk.new) result))) }
-    ensures stays { may_write (leave_of options.now) ≡ false → D.holds disk.new ≡ D.holds disk.old }
+    ensures past { IsPastElection result }
+    ensures input { HasInput options.now.commands (S.left input.old) result }
+    ensures image { ForSome (D.holds disk.old) (λ image. ForSome (told_lines options.now.commands (S.left input.old)) (λ lines.
+        LeavesDisk (volume_of geometry.now) (leave_of options.now) lines image (D.holds disk.new) (D.writes disk.old) (D.writes disk.new) result)) }
+    ensures text { ForSome (D.holds disk.old) (λ image. ForSome (told_lines options.now.commands (S.left input.old)) (λ lines.
+        ForSome (O.took out.old) (λ before. Puts (volume_of geometry.now) (leave_of options.now) lines image before (O.took out.new) result))) }
+    ensures silent { IsEarly result → O.took out.new ≡ O.took out.old }
+    ensures appends { ForSome (O.took out.old) (λ before. (rest : List ℕ) × (O.took out.new ≡ Some (before ++ rest))) }
+    ensures disk { RunsOver D.size D.holds D.reads D.writes D.write_faults D.tells_stops D.moment D.may_leave D.left_since (may_write (leave_of options.now))
+        (most_of (told_lines options.now.commands (S.left input.old))) (most_of (told_lines options.now.commands (S.left input.old))) disk.old disk.new result }
     ensures cause { HasCause (D.faults disk.old) (D.faults disk.new) (D.write_faults disk.old) (D.write_faults disk.new)
         (S.faults input.old) (S.faults input.new) (O.faults out.old) (O.faults out.new) result }
-    ensures size { D.size disk.new ≡ D.size disk.old }
 {
     let leave = Leave {
         expert: options.expert,
@@ -71,7 +85,7 @@ fn run_asked<D: Disk, S: Source, O: Sink>(
     if commands.is_empty() {
         run_input(alloc, disk, input, out, geometry, leave)
     } else {
-        outcome_of(run_lines(alloc, disk, out, geometry, leave, commands))
+        run_lines(alloc, disk, out, geometry, leave, commands)
     }
 }
 
@@ -85,13 +99,18 @@ fn run_input<D: Disk, S: Source, O: Sink>(
     leave: Leave,
 ) -> ShellOutcome
     requires inside { geometry.now.dblocks ≤ D.size disk.old }
-    ensures session { ForSome (D.holds disk.old) (λ image. ForSome (S.left input.old) (λ left. ForSome (O.took out.old) (λ before.
-        IsInput (volume_of geometry.now) leave image left before (O.took out.new) (D.holds disk.new) result))) }
-    ensures stays { may_write leave ≡ false → D.holds disk.new ≡ D.holds disk.old }
-    ensures counts { HasCounts (D.faults disk.old) (D.faults disk.new) (D.write_faults disk.old) (D.write_faults disk.new) (O.faults out.old) (O.faults out.new) }
+    ensures past { IsPastElection result }
+    ensures input { HasInput [] (S.left input.old) result }
+    ensures image { ForSome (D.holds disk.old) (λ image. ForSome (input_lines (S.left input.old)) (λ lines.
+        LeavesDisk (volume_of geometry.now) leave lines image (D.holds disk.new) (D.writes disk.old) (D.writes disk.new) result)) }
+    ensures text { ForSome (D.holds disk.old) (λ image. ForSome (input_lines (S.left input.old)) (λ lines.
+        ForSome (O.took out.old) (λ before. Puts (volume_of geometry.now) leave lines image before (O.took out.new) result))) }
+    ensures silent { IsEarly result → O.took out.new ≡ O.took out.old }
+    ensures appends { ForSome (O.took out.old) (λ before. (rest : List ℕ) × (O.took out.new ≡ Some (before ++ rest))) }
+    ensures disk { RunsOver D.size D.holds D.reads D.writes D.write_faults D.tells_stops D.moment D.may_leave D.left_since (may_write leave)
+        (most_of (input_lines (S.left input.old))) (most_of (input_lines (S.left input.old))) disk.old disk.new result }
     ensures cause { HasCause (D.faults disk.old) (D.faults disk.new) (D.write_faults disk.old) (D.write_faults disk.new)
         (S.faults input.old) (S.faults input.new) (O.faults out.old) (O.faults out.new) result }
-    ensures size { D.size disk.new ≡ D.size disk.old }
 {
     let bytes = match read_input(alloc, input) {
         Ok(bytes) => bytes,
@@ -103,29 +122,5 @@ fn run_input<D: Disk, S: Source, O: Sink>(
         Ok(lines) => lines,
         Err(NoMemory) => return ShellOutcome::NoMemory { finished: 0 },
     };
-    outcome_of(run_lines(alloc, disk, out, geometry, leave, lines.as_slice()))
-}
-
-/// How a session ended whose lines ended so.
-fn outcome_of(end: Result<(), End>) -> ShellOutcome
-    ensures { result ≡ outcome_of end }
-{
-    match end {
-        Ok(()) => ShellOutcome::Done,
-        Err(End::OutputFault { finished }) => ShellOutcome::OutputFault {
-            finished: finished as u64,
-        },
-        Err(End::Stopped { stop, finished }) => stopped_outcome(stop, finished as u64),
-    }
-}
-
-/// How a session ended that was stopped behind so many commands.
-fn stopped_outcome(stop: Stop, finished: u64) -> ShellOutcome
-    ensures { result ≡ stopped_outcome stop finished }
-{
-    match stop {
-        Stop::ReadFault => ShellOutcome::ReadFault { finished },
-        Stop::WriteFault { written } => ShellOutcome::WriteFault { written, finished },
-        Stop::NoMemory => ShellOutcome::NoMemory { finished },
-    }
+    run_lines(alloc, disk, out, geometry, leave, lines.as_slice())
 }

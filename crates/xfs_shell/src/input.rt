@@ -1,6 +1,6 @@
 //! The input, read whole.
 
-ghost use Rattle.std.specs.Prelude.{◌≡◌, ℕ, ◌+◌, ◌^◌, ◌≤◌, ◌<◌, ◌++◌, [], length, take, drop, Some, IfOk, IfErr};
+ghost use Rattle.std.specs.Prelude.{◌≡◌, ℕ, ◌+◌, ◌^◌, ◌≤◌, ◌<◌, ◌++◌, [], length, take, drop, Some, IfOk, IfErr, IfSome};
 ghost use Rattle.std.specs.Option.{ForSome};
 ghost use Rattle.xfs_shell.specs.Inputs.{HasInputCause, IsFilled};
 ghost use Rattle.xfs_disk.specs.Faults.{HasCause};
@@ -23,6 +23,7 @@ pub(crate) enum InputFault {
 /// The bytes of the source, up to its end. At most one byte more than an input may have is asked for.
 pub(crate) fn read_input<S: Source>(alloc: Global, input: &mut S) -> Result<Vec<u8>, InputFault>
     ensures bytes { IfOk result (λ bytes. ForSome (S.left input.old) (λ left. (bytes.items ≡ left) × (length left ≤ 1048576))) }
+    ensures short { IfOk result (λ bytes. length bytes.items ≤ 1048576) }
     ensures long { IfErr result (λ fault. ForSome (S.left input.old) (λ left. fault ≡ InputFault.Long → 1048576 < length left)) }
     ensures cause { HasInputCause (S.faults input.old) (S.faults input.new) result }
 {
@@ -33,6 +34,7 @@ pub(crate) fn read_input<S: Source>(alloc: Global, input: &mut S) -> Result<Vec<
 fn read_up_to<S: Source>(alloc: Global, input: &mut S, most: usize) -> Result<Vec<u8>, InputFault>
     requires { most < 2 ^ 32 }
     ensures bytes { IfOk result (λ bytes. ForSome (S.left input.old) (λ left. (bytes.items ≡ left) × (length left ≤ most))) }
+    ensures short { IfOk result (λ bytes. length bytes.items ≤ most) }
     ensures long { IfErr result (λ fault. ForSome (S.left input.old) (λ left. fault ≡ InputFault.Long → most < length left)) }
     ensures cause { HasInputCause (S.faults input.old) (S.faults input.new) result }
 {
@@ -51,6 +53,7 @@ fn read_up_to<S: Source>(alloc: Global, input: &mut S, most: usize) -> Result<Ve
 
 /// Moves the bytes of the source to the start of a buffer, and says how many there are, or `None` where they fill it.
 fn fill<S: Source>(input: &mut S, buffer: &mut [u8]) -> Result<Option<usize>, Failed>
+    ensures within { IfOk result (λ end. IfSome end (λ count. count < length buffer.new)) }
     ensures filled { IfOk result (λ end. ForSome (S.left input.old) (λ left. IsFilled left buffer.new end)) }
     ensures cause { HasCause (S.faults input.old) (S.faults input.new) result }
 {

@@ -1,16 +1,20 @@
 //! Lines that are run one after the other.
 
-ghost use Rattle.std.specs.Prelude.{◌≡◌, ℕ, ◌<◌, ◌≤◌, true, false, List, length, Some, OnOk};
+ghost use Rattle.std.specs.Prelude.{◌≡◌, ℕ, ◌<◌, ◌≤◌, ◌++◌, true, List, length, Some, IfOk};
 ghost use Rattle.std.specs.Option.{ForSome};
 ghost use Rattle.xfs_geom.specs.Volumes.{volume_of};
 ghost use Rattle.xfs_commands.specs.Commands.{session_of, IsWithin};
-ghost use Rattle.xfs_shell.specs.Running.{attempts, block_at_place, may_write};
+ghost use Rattle.xfs_commands.specs.Cursors.{is_quit};
+ghost use Rattle.xfs_shell.specs.Running.{attempts, block_at_place, is_quit_words, may_write, until_quit};
 ghost use Rattle.xfs_shell.specs.Lines.{parts_of};
-ghost use Rattle.xfs_shell.specs.Sessions.{HasStopCause, Outcome};
-ghost use Rattle.xfs_shell.specs.Ends.{end_behind, HasCounts, HasEndCause, HasLineCause, IsEnd, IsLine};
+ghost use Rattle.xfs_shell.specs.Sessions.{Outcome};
+ghost use Rattle.xfs_shell.specs.Steps.{stop_of, stop_of_line, IsStep};
+ghost use Rattle.xfs_shell.specs.Ends.{HasCounts, HasLineCause, IsStopped, LeavesLine, PutsLine};
+ghost use Rattle.xfs_shell.specs.Shells.{outcome_behind, stopped_outcome, HasCause, IsEarly, IsOfLines, LeavesDisk, Puts, RunsOver};
 ghost use Rattle.xfs_shell.specs.declared.lines.Cut.TheVariants as Cut;
 
 use crate::lines::{Cut, parts};
+use crate::outcomes::ShellOutcome;
 use crate::session::{Leave, Stop, run_words};
 use std::alloc::Global;
 use xfs_commands::{Cursor, Verdict, word_at};
@@ -24,27 +28,29 @@ pub(crate) enum LineEnd {
     OutputFault,
 }
 
-/// Why not all lines were run and put.
-#[derive(Clone, Copy, Debug, PartialEq, Eq)]
-pub(crate) enum End {
-    /// The command behind so many was stopped.
-    Stopped { stop: Stop, finished: usize },
-    /// Lines of the last of so many commands could not be put.
-    OutputFault { finished: usize },
-}
-
 impl LineEnd {
-    /// How lines ended of which so many were finished before.
-    fn behind(self, finished: usize) -> End
+    /// The outcome of lines that ended so, of which so many were finished before.
+    fn behind(self, finished: usize) -> ShellOutcome
         requires { finished < usize.MAX }
-        ensures { result ≡ end_behind finished self }
+        ensures { result ≡ outcome_behind finished self }
     {
         match self {
-            LineEnd::Stopped(stop) => End::Stopped { stop, finished },
-            LineEnd::OutputFault => End::OutputFault {
-                finished: finished + 1,
+            LineEnd::Stopped(stop) => stopped_outcome(stop, finished as u64),
+            LineEnd::OutputFault => ShellOutcome::OutputFault {
+                finished: finished as u64 + 1,
             },
         }
+    }
+}
+
+/// The outcome of lines that were stopped behind so many commands.
+fn stopped_outcome(stop: Stop, finished: u64) -> ShellOutcome
+    ensures { result ≡ stopped_outcome stop finished }
+{
+    match stop {
+        Stop::ReadFault => ShellOutcome::ReadFault { finished },
+        Stop::WriteFault { written } => ShellOutcome::WriteFault { written, finished },
+        Stop::NoMemory => ShellOutcome::NoMemory { finished },
     }
 }
 
@@ -61,10 +67,9 @@ fn run_line<D: Disk>(
     requires inside { geometry.now.dblocks ≤ D.size disk.old }
     requires within { IsWithin geometry.now.dblocks (session_of cursor.old) }
     ensures within { IsWithin geometry.now.dblocks (session_of cursor.new) }
-    ensures outcome { ForSome (D.holds disk.old) (λ image. Outcome (attempts (volume_of geometry.now) leave (parts_of Cut.Blanks line.now) (block_at_place image (session_of cursor.old).at) (session_of cursor.old)) image text.old.items text.new.items (session_of cursor.new) (D.holds disk.new) result) }
-    ensures size { D.size disk.new ≡ D.size disk.old }
-    ensures stays { may_write leave ≡ false → D.holds disk.new ≡ D.holds disk.old }
-    ensures cause { HasStopCause (D.faults disk.old) (D.faults disk.new) (D.write_faults disk.old) (D.write_faults disk.new) result }
+    ensures outcome { ForSome (D.holds disk.old) (λ image. Outcome (attempts (volume_of geometry.now) leave (parts_of Cut.Blanks line.now) (block_at_place image (session_of cursor.old).at) (session_of cursor.old)) image text.old.items text.new.items (session_of cursor.new) (D.holds disk.new) (D.writes disk.old) (D.writes disk.new) result) }
+    ensures disk { IsStep D.size D.holds D.faults D.write_faults D.reads D.writes D.tells_stops D.moment D.may_leave D.left_since (may_write leave) disk.old disk.new (stop_of result) }
+    ensures quits { is_quit_words (parts_of Cut.Blanks line.now) ≡ true → IfOk result (λ verdict. is_quit verdict ≡ true) }
 {
     let words = match parts(alloc, Cut::Blanks, line) {
         Ok(words) => words,
@@ -86,9 +91,12 @@ fn run_and_put<D: Disk, O: Sink>(
     requires inside { geometry.now.dblocks ≤ D.size disk.old }
     requires within { IsWithin geometry.now.dblocks (session_of cursor.old) }
     ensures within { IsWithin geometry.now.dblocks (session_of cursor.new) }
-    ensures line { ForSome (D.holds disk.old) (λ image. ForSome (O.took out.old) (λ before. IsLine (attempts (volume_of geometry.now) leave (parts_of Cut.Blanks line.now) (block_at_place image (session_of cursor.old).at) (session_of cursor.old)) image before (session_of cursor.new) (O.took out.new) (D.holds disk.new) result)) }
-    ensures size { D.size disk.new ≡ D.size disk.old }
-    ensures stays { may_write leave ≡ false → D.holds disk.new ≡ D.holds disk.old }
+    ensures image { ForSome (D.holds disk.old) (λ image. LeavesLine (attempts (volume_of geometry.now) leave (parts_of Cut.Blanks line.now) (block_at_place image (session_of cursor.old).at) (session_of cursor.old)) image (session_of cursor.new) (D.holds disk.new) (D.writes disk.old) (D.writes disk.new) result) }
+    ensures text { ForSome (D.holds disk.old) (λ image. ForSome (O.took out.old) (λ before. PutsLine (attempts (volume_of geometry.now) leave (parts_of Cut.Blanks line.now) (block_at_place image (session_of cursor.old).at) (session_of cursor.old)) before (O.took out.new) result)) }
+    ensures silent { IsStopped result → O.took out.new ≡ O.took out.old }
+    ensures appends { ForSome (O.took out.old) (λ before. (rest : List ℕ) × (O.took out.new ≡ Some (before ++ rest))) }
+    ensures disk { IsStep D.size D.holds D.faults D.write_faults D.reads D.writes D.tells_stops D.moment D.may_leave D.left_since (may_write leave) disk.old disk.new (stop_of_line result) }
+    ensures quits { is_quit_words (parts_of Cut.Blanks line.now) ≡ true → IfOk result (λ verdict. is_quit verdict ≡ true) }
     ensures counts { HasCounts (D.faults disk.old) (D.faults disk.new) (D.write_faults disk.old) (D.write_faults disk.new) (O.faults out.old) (O.faults out.new) }
     ensures cause { HasLineCause (D.faults disk.old) (D.faults disk.new) (D.write_faults disk.old) (D.write_faults disk.new) (O.faults out.old) (O.faults out.new) result }
 {
@@ -111,13 +119,15 @@ pub(crate) fn run_lines<D: Disk, O: Sink>(
     geometry: &Geometry,
     leave: Leave,
     lines: &[Word],
-) -> Result<(), End>
+) -> ShellOutcome
     requires inside { geometry.now.dblocks ≤ D.size disk.old }
-    ensures lines { ForSome (D.holds disk.old) (λ image. ForSome (O.took out.old) (λ before. IsEnd (volume_of geometry.now) leave lines.now image before (O.took out.new) (D.holds disk.new) result)) }
-    ensures size { D.size disk.new ≡ D.size disk.old }
-    ensures stays { may_write leave ≡ false → D.holds disk.new ≡ D.holds disk.old }
-    ensures counts { HasCounts (D.faults disk.old) (D.faults disk.new) (D.write_faults disk.old) (D.write_faults disk.new) (O.faults out.old) (O.faults out.new) }
-    ensures cause { HasEndCause (D.faults disk.old) (D.faults disk.new) (D.write_faults disk.old) (D.write_faults disk.new) (O.faults out.old) (O.faults out.new) result }
+    ensures ran { IsOfLines result }
+    ensures image { ForSome (D.holds disk.old) (λ image. LeavesDisk (volume_of geometry.now) leave lines.now image (D.holds disk.new) (D.writes disk.old) (D.writes disk.new) result) }
+    ensures text { ForSome (D.holds disk.old) (λ image. ForSome (O.took out.old) (λ before. Puts (volume_of geometry.now) leave lines.now image before (O.took out.new) result)) }
+    ensures silent { IsEarly result → O.took out.new ≡ O.took out.old }
+    ensures appends { ForSome (O.took out.old) (λ before. (rest : List ℕ) × (O.took out.new ≡ Some (before ++ rest))) }
+    ensures disk { RunsOver D.size D.holds D.reads D.writes D.write_faults D.tells_stops D.moment D.may_leave D.left_since (may_write leave) (until_quit lines.now) (until_quit lines.now) disk.old disk.new result }
+    ensures cause { (takes takes_now : ℕ) → HasCause (D.faults disk.old) (D.faults disk.new) (D.write_faults disk.old) (D.write_faults disk.new) takes takes_now (O.faults out.old) (O.faults out.new) result }
 {
     let mut cursor = Cursor {
         at: None,
@@ -129,12 +139,12 @@ pub(crate) fn run_lines<D: Disk, O: Sink>(
         match run_and_put(alloc, disk, out, geometry, leave, &mut cursor, line) {
             Ok(verdict) => {
                 if verdict.is_quit() {
-                    return Ok(());
+                    return ShellOutcome::Done;
                 }
                 finished += 1;
             }
-            Err(end) => return Err(end.behind(finished)),
+            Err(end) => return end.behind(finished),
         }
     }
-    Ok(())
+    ShellOutcome::Done
 }

@@ -1,13 +1,14 @@
 //! The commands of a line over a disk.
 
-ghost use Rattle.std.specs.Prelude.{◌≡◌, ℕ, ◌<◌, ◌≤◌, List, length, Some, OnOk, IfErr, false, slice_get, slice_set};
+ghost use Rattle.std.specs.Prelude.{◌≡◌, ℕ, ◌<◌, ◌≤◌, List, length, Some, OnOk, IfOk, IfErr, true, slice_get, slice_set};
 ghost use Rattle.std.specs.Option.{ForSome};
-ghost use Rattle.xfs_disk.specs.Faults.{HasCause};
 ghost use Rattle.xfs_geom.specs.Volumes.{volume_of};
 ghost use Rattle.xfs_commands.specs.Commands.{session_of, IsWithin};
+ghost use Rattle.xfs_commands.specs.Cursors.{is_quit};
 ghost use Rattle.xfs_commands.specs.Verbs.{accepted};
-ghost use Rattle.xfs_shell.specs.Running.{attempts, block_at_place, is_push, is_push_verb, pushes_in, may_write, runs, runs_addr, runs_first, runs_named, runs_placeless, runs_print, sets_here, writes};
-ghost use Rattle.xfs_shell.specs.Sessions.{stopped, HasStopCause, IsWrittenBehind, Outcome};
+ghost use Rattle.xfs_shell.specs.Running.{attempts, block_at_place, is_push, is_push_verb, is_quit_verb, is_quit_words, pushes_in, may_write, runs, runs_addr, runs_first, runs_named, runs_placeless, runs_print, sets_here, writes};
+ghost use Rattle.xfs_shell.specs.Sessions.{stopped, IsWrittenBehind, Outcome};
+ghost use Rattle.xfs_shell.specs.Steps.{stop_of, IsRead, IsStep, IsWritten};
 
 use std::alloc::Global;
 use xfs_commands::{
@@ -61,10 +62,9 @@ fn run_verb<D: Disk>(
     requires inside { geometry.now.dblocks ≤ D.size disk.old }
     requires within { IsWithin geometry.now.dblocks (session_of cursor.old) }
     ensures within { IsWithin geometry.now.dblocks (session_of cursor.new) }
-    ensures outcome { ForSome (D.holds disk.old) (λ image. Outcome (runs (volume_of geometry.now) leave verb name.now arguments.now (block_at_place image (session_of cursor.old).at) (session_of cursor.old)) image text.old.items text.new.items (session_of cursor.new) (D.holds disk.new) result) }
-    ensures size { D.size disk.new ≡ D.size disk.old }
-    ensures stays { may_write leave ≡ false → D.holds disk.new ≡ D.holds disk.old }
-    ensures cause { HasStopCause (D.faults disk.old) (D.faults disk.new) (D.write_faults disk.old) (D.write_faults disk.new) result }
+    ensures outcome { ForSome (D.holds disk.old) (λ image. Outcome (runs (volume_of geometry.now) leave verb name.now arguments.now (block_at_place image (session_of cursor.old).at) (session_of cursor.old)) image text.old.items text.new.items (session_of cursor.new) (D.holds disk.new) (D.writes disk.old) (D.writes disk.new) result) }
+    ensures disk { IsStep D.size D.holds D.faults D.write_faults D.reads D.writes D.tells_stops D.moment D.may_leave D.left_since (may_write leave) disk.old disk.new (stop_of result) }
+    ensures quits { is_quit_verb (Some verb) ≡ true → IfOk result (λ verdict. is_quit verdict ≡ true) }
 {
     match verb {
         Verb::Addr => run_addr(alloc, disk, geometry, cursor, word_at(arguments, 0), text),
@@ -87,18 +87,16 @@ fn run_addr<D: Disk>(
     requires inside { geometry.now.dblocks ≤ D.size disk.old }
     requires within { IsWithin geometry.now.dblocks (session_of cursor.old) }
     ensures within { IsWithin geometry.now.dblocks (session_of cursor.new) }
-    ensures outcome { ForSome (D.holds disk.old) (λ image. Outcome (runs_addr (volume_of geometry.now) word.now (block_at_place image (session_of cursor.old).at) (session_of cursor.old)) image text.old.items text.new.items (session_of cursor.new) (D.holds disk.new) result) }
-    ensures size { D.size disk.new ≡ D.size disk.old }
-    ensures stays { D.holds disk.new ≡ D.holds disk.old }
-    ensures cause { HasStopCause (D.faults disk.old) (D.faults disk.new) (D.write_faults disk.old) (D.write_faults disk.new) result }
+    ensures outcome { ForSome (D.holds disk.old) (λ image. Outcome (runs_addr (volume_of geometry.now) word.now (block_at_place image (session_of cursor.old).at) (session_of cursor.old)) image text.old.items text.new.items (session_of cursor.new) (D.holds disk.new) (D.writes disk.old) (D.writes disk.new) result) }
+    ensures disk { IsRead D.size D.holds D.faults D.write_faults D.reads D.writes D.tells_stops D.moment D.may_leave D.left_since disk.old disk.new (stop_of result) }
 {
     let Some(place) = cursor.at else {
         return settled(refuse(text, "no address\n"));
     };
     let mut block = [0; BLOCK_SIZE];
-    match disk.read(place.block, &mut block) {
+    match read_block(disk, place.block, &mut block) {
         Ok(()) => {}
-        Err(Failed) => return Err(Stop::ReadFault),
+        Err(stop) => return Err(stop),
     }
     let object = place.kind.object(place.sector, &block);
     settled(go_along(alloc, text, geometry, cursor, place, object, word))
@@ -114,18 +112,16 @@ fn run_print<D: Disk>(
     text: &mut Vec<u8>,
 ) -> Result<Verdict, Stop>
     requires within { IsWithin (D.size disk.old) (session_of cursor.now) }
-    ensures outcome { ForSome (D.holds disk.old) (λ image. Outcome (runs_print arguments.now (block_at_place image (session_of cursor.now).at) (session_of cursor.now)) image text.old.items text.new.items (session_of cursor.now) (D.holds disk.new) result) }
-    ensures size { D.size disk.new ≡ D.size disk.old }
-    ensures stays { D.holds disk.new ≡ D.holds disk.old }
-    ensures cause { HasStopCause (D.faults disk.old) (D.faults disk.new) (D.write_faults disk.old) (D.write_faults disk.new) result }
+    ensures outcome { ForSome (D.holds disk.old) (λ image. Outcome (runs_print arguments.now (block_at_place image (session_of cursor.now).at) (session_of cursor.now)) image text.old.items text.new.items (session_of cursor.now) (D.holds disk.new) (D.writes disk.old) (D.writes disk.new) result) }
+    ensures disk { IsRead D.size D.holds D.faults D.write_faults D.reads D.writes D.tells_stops D.moment D.may_leave D.left_since disk.old disk.new (stop_of result) }
 {
     let Some(place) = cursor.at else {
         return settled(refuse(text, "no address\n"));
     };
     let mut block = [0; BLOCK_SIZE];
-    match disk.read(place.block, &mut block) {
+    match read_block(disk, place.block, &mut block) {
         Ok(()) => {}
-        Err(Failed) => return Err(Stop::ReadFault),
+        Err(stop) => return Err(stop),
     }
     let object = place.kind.object(place.sector, &block);
     settled(print(alloc, text, cursor, place.kind, object, arguments))
@@ -142,10 +138,8 @@ fn run_write<D: Disk>(
     text: &mut Vec<u8>,
 ) -> Result<Verdict, Stop>
     requires within { IsWithin (D.size disk.old) (session_of cursor.now) }
-    ensures outcome { ForSome (D.holds disk.old) (λ image. Outcome (writes leave (block_at_place image (session_of cursor.now).at) arguments.now (session_of cursor.now)) image text.old.items text.new.items (session_of cursor.now) (D.holds disk.new) result) }
-    ensures size { D.size disk.new ≡ D.size disk.old }
-    ensures stays { may_write leave ≡ false → D.holds disk.new ≡ D.holds disk.old }
-    ensures cause { HasStopCause (D.faults disk.old) (D.faults disk.new) (D.write_faults disk.old) (D.write_faults disk.new) result }
+    ensures outcome { ForSome (D.holds disk.old) (λ image. Outcome (writes leave (block_at_place image (session_of cursor.now).at) arguments.now (session_of cursor.now)) image text.old.items text.new.items (session_of cursor.now) (D.holds disk.new) (D.writes disk.old) (D.writes disk.new) result) }
+    ensures disk { IsStep D.size D.holds D.faults D.write_faults D.reads D.writes D.tells_stops D.moment D.may_leave D.left_since (may_write leave) disk.old disk.new (stop_of result) }
 {
     if !leave.expert {
         return settled(refuse(text, "write: needs -x\n"));
@@ -166,17 +160,16 @@ fn run_set<D: Disk>(
     text: &mut Vec<u8>,
 ) -> Result<Verdict, Stop>
     requires within { IsWithin (D.size disk.old) (session_of cursor.now) }
-    ensures outcome { ForSome (D.holds disk.old) (λ image. Outcome (sets_here (block_at_place image (session_of cursor.now).at) arguments.now (session_of cursor.now)) image text.old.items text.new.items (session_of cursor.now) (D.holds disk.new) result) }
-    ensures size { D.size disk.new ≡ D.size disk.old }
-    ensures cause { HasStopCause (D.faults disk.old) (D.faults disk.new) (D.write_faults disk.old) (D.write_faults disk.new) result }
+    ensures outcome { ForSome (D.holds disk.old) (λ image. Outcome (sets_here (block_at_place image (session_of cursor.now).at) arguments.now (session_of cursor.now)) image text.old.items text.new.items (session_of cursor.now) (D.holds disk.new) (D.writes disk.old) (D.writes disk.new) result) }
+    ensures disk { IsStep D.size D.holds D.faults D.write_faults D.reads D.writes D.tells_stops D.moment D.may_leave D.left_since true disk.old disk.new (stop_of result) }
 {
     let Some(place) = cursor.at else {
         return settled(refuse(text, "no address\n"));
     };
     let mut block = [0; BLOCK_SIZE];
-    match disk.read(place.block, &mut block) {
+    match read_block(disk, place.block, &mut block) {
         Ok(()) => {}
-        Err(Failed) => return Err(Stop::ReadFault),
+        Err(stop) => return Err(stop),
     }
     let name = word_at(arguments, 0);
     let value = word_at(arguments, 1);
@@ -189,31 +182,42 @@ fn run_set<D: Disk>(
     }
     match put_block(disk, place.block, &block) {
         Ok(()) => Ok(verdict),
-        Err(written) => Err(Stop::WriteFault { written }),
+        Err(stop) => Err(stop),
     }
 }
 
-/// Writes a block, and waits until it is kept. A failure tells how many blocks were written before.
-fn put_block<D: Disk>(disk: &mut D, at: u64, block: &[u8]) -> Result<(), u64>
+/// Reads a block.
+fn read_block<D: Disk>(disk: &mut D, at: u64, block: &mut [u8]) -> Result<(), Stop>
+    requires inside { at < D.size disk.old }
+    requires whole { length block.old ≡ 4096 }
+    ensures bytes { OnOk result (ForSome (D.holds disk.old) (λ image. slice_get image at ≡ Some block.new)) }
+    ensures fault { IfErr result (λ stop. stop ≡ Stop.ReadFault) }
+    ensures disk { IsRead D.size D.holds D.faults D.write_faults D.reads D.writes D.tells_stops D.moment D.may_leave D.left_since disk.old disk.new (stop_of result) }
+{
+    match disk.read(at, block) {
+        Ok(()) => Ok(()),
+        Err(Failed) => Err(Stop::ReadFault),
+    }
+}
+
+/// Writes a block, and waits until it is kept. A fault tells whether it was written before.
+fn put_block<D: Disk>(disk: &mut D, at: u64, block: &[u8]) -> Result<(), Stop>
     requires inside { at < D.size disk.old }
     requires whole { length block.now ≡ 4096 }
     ensures written { OnOk result (ForSome (D.holds disk.old) (λ image. D.holds disk.new ≡ Some (slice_set image at block.now))) }
-    ensures old_or_new { IfErr result (λ written. ForSome (D.holds disk.old) (λ image.
+    ensures fault { IfErr result (λ stop. (written : ℕ) × (stop ≡ Stop.WriteFault written) × ForSome (D.holds disk.old) (λ image.
         IsWrittenBehind written image (slice_set image at block.now) (D.holds disk.new))) }
-    ensures kept { OnOk result (D.tells_stops disk.old → ForSome (D.holds disk.new) (λ image.
-        (b : ℕ) (v : List ℕ) → D.may_leave disk.new b v → slice_get image b ≡ Some v)) }
-    ensures size { D.size disk.new ≡ D.size disk.old }
-    ensures faults { D.faults disk.new ≡ D.faults disk.old }
-    ensures cause { HasCause (D.write_faults disk.old) (D.write_faults disk.new) result }
+    ensures reads { D.reads disk.new ≡ D.reads disk.old }
+    ensures disk { IsWritten D.size D.holds D.faults D.write_faults D.reads D.writes D.tells_stops D.may_leave true disk.old disk.new (stop_of result) }
 {
     match disk.write(at, block) {
         Ok(()) => {}
-        Err(Failed) => return Err(0),
+        Err(Failed) => return Err(Stop::WriteFault { written: 0 }),
     }
     let kept = disk.sync();
     match kept {
         Ok(()) => Ok(()),
-        Err(Failed) => Err(1),
+        Err(Failed) => Err(Stop::WriteFault { written: 1 }),
     }
 }
 
@@ -230,10 +234,9 @@ fn run_command<D: Disk>(
     requires inside { geometry.now.dblocks ≤ D.size disk.old }
     requires within { IsWithin geometry.now.dblocks (session_of cursor.old) }
     ensures within { IsWithin geometry.now.dblocks (session_of cursor.new) }
-    ensures outcome { ForSome (D.holds disk.old) (λ image. Outcome (runs_first (volume_of geometry.now) leave words.now (block_at_place image (session_of cursor.old).at) (session_of cursor.old)) image text.old.items text.new.items (session_of cursor.new) (D.holds disk.new) result) }
-    ensures size { D.size disk.new ≡ D.size disk.old }
-    ensures stays { may_write leave ≡ false → D.holds disk.new ≡ D.holds disk.old }
-    ensures cause { HasStopCause (D.faults disk.old) (D.faults disk.new) (D.write_faults disk.old) (D.write_faults disk.new) result }
+    ensures outcome { ForSome (D.holds disk.old) (λ image. Outcome (runs_first (volume_of geometry.now) leave words.now (block_at_place image (session_of cursor.old).at) (session_of cursor.old)) image text.old.items text.new.items (session_of cursor.new) (D.holds disk.new) (D.writes disk.old) (D.writes disk.new) result) }
+    ensures disk { IsStep D.size D.holds D.faults D.write_faults D.reads D.writes D.tells_stops D.moment D.may_leave D.left_since (may_write leave) disk.old disk.new (stop_of result) }
+    ensures quits { is_quit_words words.now ≡ true → IfOk result (λ verdict. is_quit verdict ≡ true) }
 {
     let Some((name, arguments)) = words.split_first() else {
         return Ok(Verdict::Done);
@@ -265,10 +268,9 @@ fn run_named<D: Disk>(
     requires inside { geometry.now.dblocks ≤ D.size disk.old }
     requires within { IsWithin geometry.now.dblocks (session_of cursor.old) }
     ensures within { IsWithin geometry.now.dblocks (session_of cursor.new) }
-    ensures outcome { ForSome (D.holds disk.old) (λ image. Outcome (runs_named (volume_of geometry.now) leave (accepted name.now (length arguments.now)) name.now arguments.now (block_at_place image (session_of cursor.old).at) (session_of cursor.old)) image text.old.items text.new.items (session_of cursor.new) (D.holds disk.new) result) }
-    ensures size { D.size disk.new ≡ D.size disk.old }
-    ensures stays { may_write leave ≡ false → D.holds disk.new ≡ D.holds disk.old }
-    ensures cause { HasStopCause (D.faults disk.old) (D.faults disk.new) (D.write_faults disk.old) (D.write_faults disk.new) result }
+    ensures outcome { ForSome (D.holds disk.old) (λ image. Outcome (runs_named (volume_of geometry.now) leave (accepted name.now (length arguments.now)) name.now arguments.now (block_at_place image (session_of cursor.old).at) (session_of cursor.old)) image text.old.items text.new.items (session_of cursor.new) (D.holds disk.new) (D.writes disk.old) (D.writes disk.new) result) }
+    ensures disk { IsStep D.size D.holds D.faults D.write_faults D.reads D.writes D.tells_stops D.moment D.may_leave D.left_since (may_write leave) disk.old disk.new (stop_of result) }
+    ensures quits { is_quit_verb (accepted name.now (length arguments.now)) ≡ true → IfOk result (λ verdict. is_quit verdict ≡ true) }
 {
     match Verb::accepted(name, arguments.len()) {
         Some(verb) => run_verb(
@@ -292,10 +294,9 @@ pub(crate) fn run_words<D: Disk>(
     requires inside { geometry.now.dblocks ≤ D.size disk.old }
     requires within { IsWithin geometry.now.dblocks (session_of cursor.old) }
     ensures within { IsWithin geometry.now.dblocks (session_of cursor.new) }
-    ensures outcome { ForSome (D.holds disk.old) (λ image. Outcome (attempts (volume_of geometry.now) leave words.now (block_at_place image (session_of cursor.old).at) (session_of cursor.old)) image text.old.items text.new.items (session_of cursor.new) (D.holds disk.new) result) }
-    ensures size { D.size disk.new ≡ D.size disk.old }
-    ensures stays { may_write leave ≡ false → D.holds disk.new ≡ D.holds disk.old }
-    ensures cause { HasStopCause (D.faults disk.old) (D.faults disk.new) (D.write_faults disk.old) (D.write_faults disk.new) result }
+    ensures outcome { ForSome (D.holds disk.old) (λ image. Outcome (attempts (volume_of geometry.now) leave words.now (block_at_place image (session_of cursor.old).at) (session_of cursor.old)) image text.old.items text.new.items (session_of cursor.new) (D.holds disk.new) (D.writes disk.old) (D.writes disk.new) result) }
+    ensures disk { IsStep D.size D.holds D.faults D.write_faults D.reads D.writes D.tells_stops D.moment D.may_leave D.left_since (may_write leave) disk.old disk.new (stop_of result) }
+    ensures quits { is_quit_words words.now ≡ true → IfOk result (λ verdict. is_quit verdict ≡ true) }
 {
     match cursor.at {
         Some(place) => run_behind(alloc, disk, geometry, leave, cursor, place, words, text),
@@ -317,10 +318,9 @@ fn run_placeless<D: Disk>(
     requires inside { geometry.now.dblocks ≤ D.size disk.old }
     requires within { IsWithin geometry.now.dblocks (session_of cursor.old) }
     ensures within { IsWithin geometry.now.dblocks (session_of cursor.new) }
-    ensures outcome { ForSome (D.holds disk.old) (λ image. Outcome (runs_placeless (volume_of geometry.now) leave words.now (block_at_place image (session_of cursor.old).at) (session_of cursor.old)) image text.old.items text.new.items (session_of cursor.new) (D.holds disk.new) result) }
-    ensures size { D.size disk.new ≡ D.size disk.old }
-    ensures stays { may_write leave ≡ false → D.holds disk.new ≡ D.holds disk.old }
-    ensures cause { HasStopCause (D.faults disk.old) (D.faults disk.new) (D.write_faults disk.old) (D.write_faults disk.new) result }
+    ensures outcome { ForSome (D.holds disk.old) (λ image. Outcome (runs_placeless (volume_of geometry.now) leave words.now (block_at_place image (session_of cursor.old).at) (session_of cursor.old)) image text.old.items text.new.items (session_of cursor.new) (D.holds disk.new) (D.writes disk.old) (D.writes disk.new) result) }
+    ensures disk { IsStep D.size D.holds D.faults D.write_faults D.reads D.writes D.tells_stops D.moment D.may_leave D.left_since (may_write leave) disk.old disk.new (stop_of result) }
+    ensures quits { is_quit_words words.now ≡ true → IfOk result (λ verdict. is_quit verdict ≡ true) }
 {
     if is_push(words) {
         return settled(refuse(text, "no address\n"));
@@ -344,10 +344,9 @@ fn run_behind<D: Disk>(
     requires inside { geometry.now.dblocks ≤ D.size disk.old }
     requires within { IsWithin geometry.now.dblocks (session_of cursor.old) }
     ensures within { IsWithin geometry.now.dblocks (session_of cursor.new) }
-    ensures outcome { ForSome (D.holds disk.old) (λ image. Outcome (attempts (volume_of geometry.now) leave words.now (block_at_place image (session_of cursor.old).at) (session_of cursor.old)) image text.old.items text.new.items (session_of cursor.new) (D.holds disk.new) result) }
-    ensures size { D.size disk.new ≡ D.size disk.old }
-    ensures stays { may_write leave ≡ false → D.holds disk.new ≡ D.holds disk.old }
-    ensures cause { HasStopCause (D.faults disk.old) (D.faults disk.new) (D.write_faults disk.old) (D.write_faults disk.new) result }
+    ensures outcome { ForSome (D.holds disk.old) (λ image. Outcome (attempts (volume_of geometry.now) leave words.now (block_at_place image (session_of cursor.old).at) (session_of cursor.old)) image text.old.items text.new.items (session_of cursor.new) (D.holds disk.new) (D.writes disk.old) (D.writes disk.new) result) }
+    ensures disk { IsStep D.size D.holds D.faults D.write_faults D.reads D.writes D.tells_stops D.moment D.may_leave D.left_since (may_write leave) disk.old disk.new (stop_of result) }
+    ensures quits { is_quit_words words.now ≡ true → IfOk result (λ verdict. is_quit verdict ≡ true) }
 {
     let kept = cursor.stack.as_slice().len();
     let count = count_pushes(words);

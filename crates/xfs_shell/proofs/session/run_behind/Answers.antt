@@ -1,11 +1,12 @@
 use Rattle.std.proofs.Common.{◌≡◌, ◌∙◌, ap, subst, sym, ℕ, List, length, drop}
 use Rattle.xfs_geom.specs.Volumes.{volume_of}
 use Rattle.xfs_commands.specs.Commands.{Session, session_of}
-use Rattle.xfs_shell.specs.Running.{attempts, block_at_place, pushes_in, runs_first}
+use Rattle.xfs_shell.specs.Running.{attempts, block_at_place, is_quit_words, pushes_in, runs_first}
 use Rattle.xfs_commands.specs.Cursors.{pushed, settled_session}
 use Rattle.xfs_shell.specs.Sessions.{IsRun, Stays}
 use Rattle.xfs_objects.specs.declared.objects.Place.{Place}
 use Rattle.xfs_shell.proofs.Pushing.{behind_ran, behind_stays}
+use Rattle.xfs_shell.proofs.Quitting.{quit_no_push}
 use Rattle.xfs_shell.proofs.session.run_behind.Goals as goal
 
 pub returns-clause-outcome : goal.returns-clause-outcome
@@ -26,7 +27,7 @@ returns-clause-outcome g c =
     subst
     (λ (ws : List (List ℕ)).
     IsRun (runs_first v c.args.leave ws (block_at_place image t.at) t) image c.in-Ok-run_command.verdict c.args.text.now.items
-    c.run_command.new.text.items now (g.D.Disk.holds c.run_command.new.disk))
+    c.run_command.new.text.items now (g.D.Disk.holds c.run_command.new.disk) (g.D.Disk.writes c.args.disk.now) (g.D.Disk.writes c.run_command.new.disk))
     rest
     (c.in-Ok-run_command.ensures.outcome image told)
     in
@@ -37,10 +38,10 @@ returns-clause-outcome g c =
     subst
     (λ (u : Session).
     IsRun (attempts v c.args.leave words (block_at_place image s.at) s) image c.in-Ok-run_command.verdict c.args.text.now.items
-    c.run_command.new.text.items u (g.D.Disk.holds c.run_command.new.disk))
+    c.run_command.new.text.items u (g.D.Disk.holds c.run_command.new.disk) (g.D.Disk.writes c.args.disk.now) (g.D.Disk.writes c.run_command.new.disk))
     (sym settled)
     (behind_ran v c.args.leave words image s t now c.args.place c.in-Ok-run_command.verdict c.args.text.now.items c.run_command.new.text.items
-    (g.D.Disk.holds c.run_command.new.disk) c.requires.place pushed_is run)
+    (g.D.Disk.holds c.run_command.new.disk) (g.D.Disk.writes c.args.disk.now) (g.D.Disk.writes c.run_command.new.disk) c.requires.place pushed_is run)
 
 pub returns-in-Err-run_command-clause-outcome : goal.returns-in-Err-run_command-clause-outcome
 returns-in-Err-run_command-clause-outcome g c =
@@ -61,3 +62,11 @@ returns-in-Err-run_command-clause-outcome g c =
     Stays (runs_first v c.args.leave ws (block_at_place image t.at) t) image (g.D.Disk.holds c.run_command.new.disk) c.in-Err-run_command.stop)
     rest
     (c.in-Err-run_command.ensures.outcome image told))
+
+pub returns-clause-quits : goal.returns-clause-quits
+returns-clause-quits g c =
+    λ is.
+    c.in-Ok-run_command.ensures.quits
+    (ap (λ (ws : List (List ℕ)). is_quit_words ws)
+    (c.split_at.ensures.back ∙ ap (λ (n : ℕ). drop n c.args.words.now) (c.count_pushes-count.ensures.value ∙ quit_no_push c.args.words.now is))
+    ∙ is)
