@@ -1,5 +1,5 @@
 -- What the calls of a repair have told of the image.
-use Rattle.std.proofs.Common.{◌≡◌, ℕ, ◌-◌, ◌*◌, ◌<◌, ◌≤◌, List, length, Option, Some, Ok, sym, ap, ◌∙◌, subst, arith}
+use Rattle.std.proofs.Common.{◌≡◌, ℕ, ◌-◌, ◌*◌, ◌<◌, ◌≤◌, ◌⊎◌, inl, inr, false, List, [], length, Option, Some, Ok, sym, ap, ◌∙◌, subst, arith}
 use Rattle.xfs_disk.specs.Blocks.{Image}
 use Rattle.xfs_geom.proofs.Bounds.{group_start}
 use Rattle.xfs_geom.specs.Volumes.{Volume, volume_of, stated_volume}
@@ -9,8 +9,9 @@ use Rattle.xfs_mend.proofs.Electing.{IsPrimary, is_primary}
 use Rattle.xfs_mend.proofs.Repaired.{IsAccepted, is_repaired}
 use Rattle.xfs_mend.specs.Backups.{start_of, steps_from, backup_plan}
 use Rattle.xfs_mend.specs.Due.{IsOwed, first_disagreeing}
-use Rattle.xfs_mend.specs.Outcome.{IsCaused, IsKept, Leaves, Writes}
-use Rattle.xfs_mend.specs.Plans.{Plan, IsPartly, written}
+use Rattle.xfs_mend.specs.Outcome.{IsCaused, IsKept, Leaves, LeavesOf, StopsBy, StopsOf, is_quiet}
+use Rattle.xfs_writing.specs.Stopped.{IsStopped}
+use Rattle.xfs_writing.specs.Writing.{Writes, IsPartly, written}
 use Rattle.xfs_mend.specs.declared.outcome.Outcome.{Outcome}
 use Rattle.xfs_mend.specs.declared.outcome.Outcome.TheVariants.{NoGeometry, Unsupported, DirtyLog, TooLarge, UnsupportedFile, Clean, Damaged, Repaired, Unbuilt, ReadFault, WriteFault, NoMemory}
 
@@ -62,11 +63,11 @@ first_elected image v g elects from stated =
     ∙ ap (λ (p : List ℕ). first_disagreeing p image 1 ((stated_volume p).agcount - 1)) same
 
 -- what an outcome of the image's plan leaves
-pub written_leaves : (image : Image) (now : Option Image) (plan : Plan) (a : Outcome) → IsAccepted image → plan ≡ backup_plan image
-    → Writes plan image now a → Leaves image now a
+pub written_leaves : (image : Image) (now : Option Image) (plan : Writes) (a : Outcome) → IsAccepted image → plan ≡ backup_plan image
+    → LeavesOf plan image now a → Leaves image now a
 written_leaves image now plan (Repaired summary) known same writes =
-    is_repaired image now known (writes ∙ ap (λ (p : Plan). Some (written p image)) same)
-written_leaves image now plan (WriteFault blocks) known same writes = subst (λ (p : Plan). IsPartly p image blocks now) same writes
+    is_repaired image now known (writes ∙ ap (λ (p : Writes). Some (written p image)) same)
+written_leaves image now plan (WriteFault blocks) known same writes = subst (λ (p : Writes). IsPartly p image blocks now) same writes
 written_leaves image now plan NoGeometry known same writes = writes
 written_leaves image now plan (Unsupported word bits) known same writes = writes
 written_leaves image now plan DirtyLog known same writes = writes
@@ -112,3 +113,14 @@ caused_before earlier before now w0 w1 w2 Clean up more cause = cause
 caused_before earlier before now w0 w1 w2 (Damaged finding) up more cause = cause
 caused_before earlier before now w0 w1 w2 (Unbuilt request) up more cause = cause
 caused_before earlier before now w0 w1 w2 NoMemory up more cause = cause
+
+-- what a stop leaves while these steps are written is what it leaves by the plan
+pub stops_by_plan : (image : Image) (plan : Writes) (a : Outcome) (stopped : Image) (Before : Type 0) → plan ≡ backup_plan image
+    → Before ⊎ StopsOf plan image a stopped → Before ⊎ StopsBy image a stopped
+stops_by_plan image plan a stopped Before same left = subst (λ (p : Writes). Before ⊎ StopsOf p image a stopped) same left
+
+-- where blocks were written, what a stop leaves of these writes is what it leaves of the same steps
+pub stops_written : (image : Image) (writes steps : Writes) (a : Outcome) (stopped : Image) (Before : Type 0) → writes ≡ steps → is_quiet a ≡ false
+    → Before ⊎ IsStopped [] writes image stopped → Before ⊎ StopsOf steps image a stopped
+stops_written image writes steps a stopped Before same loud (inl was) = inl was
+stops_written image writes steps a stopped Before same loud (inr is) = inr (loud, subst (λ (p : Writes). IsStopped [] p image stopped) same is)

@@ -19,10 +19,10 @@ use Rattle.xfs_mend.specs.Backups.{backup_plan}
 use Rattle.xfs_mend.specs.Due.{IsAnswer, asks_log, away_if, due_found, due_repair, due_volume, is_backup, is_dirty, turned_away}
 use Rattle.xfs_mend.specs.declared.outcome.Outcome.{Outcome}
 use Rattle.xfs_mend.specs.declared.outcome.Outcome.TheVariants.{Clean, Damaged, Repaired, Unbuilt}
-use Rattle.xfs_mend.specs.declared.outcome.RepairOptions.{RepairOptions}
+use Rattle.xfs_mend.specs.Asked.{Asked}
 use Rattle.xfs_mend.specs.declared.outcome.Summary.TheVariants.{Backups}
 
-pub one_answer : (o : RepairOptions) (image : Image) (r : Result Vote ElectFault) (a b : Outcome) → IsAnswer o image r a → IsAnswer o image r b → a ≡ b
+pub one_answer : (o : Asked) (image : Image) (r : Result Vote ElectFault) (a b : Outcome) → IsAnswer o image r a → IsAnswer o image r b → a ≡ b
 one_answer o image (Ok vote) a b first second =
     first.is ∙ ap (λ (g : Geometry). due_volume o g image) (one_geometry first.geometry second.geometry image first.elected second.elected) ∙ sym second.is
 one_answer o image (Err (fault.Unsupported word bits)) a b first second = first ∙ sym second
@@ -39,11 +39,11 @@ never_clean found false false count same = cc
 not_found : (image : Image) (found : Finding) (check : Bool) → Clean ≡ (if check then Damaged found else due_repair image found) → None ≡ Some found
 not_found image found check same = never_clean found check (is_backup found) (length (backup_plan image)) same
 
-nothing : (o : RepairOptions) (image : Image) (found : Option Finding) → Clean ≡ due_found o image found → found ≡ None
+nothing : (o : Asked) (image : Image) (found : Option Finding) → Clean ≡ due_found o image found → found ≡ None
 nothing o image None same = refl
 nothing o image (Some found) same = sym (not_found image found o.check same)
 
-not_away : (o : RepairOptions) (image : Image) (found : Option Finding) (dirty : Bool) (due : Option ScanFault)
+not_away : (o : Asked) (image : Image) (found : Option Finding) (dirty : Bool) (due : Option ScanFault)
     → Clean ≡ unwrap_or (away_if dirty due) (due_found o image found) → found ≡ None
 not_away o image found true due same = cc
 not_away o image found false None same = nothing o image found same
@@ -52,19 +52,19 @@ not_away o image found false (Some (scan.TooLarge what count)) same = cc
 not_away o image found false (Some (scan.UnsupportedFile ino what)) same = cc
 not_away o image found false (Some scan.NoMemory) same = nothing o image found same
 
-nothing_in : (o : RepairOptions) (g : Geometry) (image : Image) → Clean ≡ due_volume o g image → finding broken_law g image ≡ None
+nothing_in : (o : Asked) (g : Geometry) (image : Image) → Clean ≡ due_volume o g image → finding broken_law g image ≡ None
 unfolding due_volume turned_away
 nothing_in o g image same =
     not_away o image (finding broken_law g image) (asks_log o && is_dirty (log_of (volume_of g) image)) (refused (volume_of g) image) same
 
-pub only_clean : (o : RepairOptions) (image : Image) (r : Result Vote ElectFault) → IsAnswer o image r Clean → IsConsistentImage broken_law image
+pub only_clean : (o : Asked) (image : Image) (r : Result Vote ElectFault) → IsAnswer o image r Clean → IsConsistentImage broken_law image
 only_clean o image (Ok vote) answer = (answer.geometry, consistent broken_law answer.geometry image (nothing_in o answer.geometry image answer.is))
 only_clean o image (Err (fault.Unsupported word bits)) answer = cc
 only_clean o image (Err fault.NoGeometry) answer = cc
 only_clean o image (Err fault.ReadFault) answer = cc
 only_clean o image (Err fault.NoMemory) answer = cc
 
-pub consistent_answer : (o : RepairOptions) (g : Geometry) (image : Image) → IsConsistent broken_law g image → turned_away o (volume_of g) image ≡ None
+pub consistent_answer : (o : Asked) (g : Geometry) (image : Image) → IsConsistent broken_law g image → turned_away o (volume_of g) image ≡ None
     → IsAnswer o image (elected image) Clean
 consistent_answer o g image is stays =
     answers o g image is.elected.vote Clean is.elected.due is.elected (due_seen o g image None stays (sym (nothing_found broken_law g image is)))
@@ -73,10 +73,10 @@ damaged_if : (found : Finding) (check : Bool) (later : Outcome) → check ≡ tr
 damaged_if found true later checks = refl
 damaged_if found false later checks = cc
 
-damaged_due : (o : RepairOptions) (image : Image) (found : Finding) → o.check ≡ true → Damaged found ≡ due_found o image (Some found)
+damaged_due : (o : Asked) (image : Image) (found : Finding) → o.check ≡ true → Damaged found ≡ due_found o image (Some found)
 damaged_due o image found checks = damaged_if found o.check (due_repair image found) checks
 
-pub found_answer : (o : RepairOptions) (image : Image) (found : Finding) (has : HasFinding broken_law image found) → turned_away o (volume_of has.geometry) image ≡ None
+pub found_answer : (o : Asked) (image : Image) (found : Finding) (has : HasFinding broken_law image found) → turned_away o (volume_of has.geometry) image ≡ None
     → o.check ≡ true → IsAnswer o image (elected image) (Damaged found)
 found_answer o image found has stays checks =
     answers o has.geometry image has.elected.vote (Damaged found) has.elected.due has.elected

@@ -22,13 +22,13 @@ use Rattle.xfs_image.specs.declared.findings.Finding.TheVariants as Found
 use Rattle.xfs_mend.proofs.Repaired.{first_sector}
 use Rattle.xfs_mend.specs.Backups.{backup_plan, start_of}
 use Rattle.xfs_mend.specs.Due.{IsAnswer, IsDue, IsOwed, disagrees, due_found, due_volume, first_disagreeing, is_backup, turned_away}
-use Rattle.xfs_mend.specs.Plans.{Plan}
+use Rattle.xfs_writing.specs.Writing.{Writes}
 use Rattle.xfs_mend.specs.Refusing.{IsAdmission}
 use Rattle.xfs_mend.specs.declared.refusals.Admitted.{Admitted}
 use Rattle.xfs_mend.specs.declared.refusals.Admitted.TheVariants.{View}
 use Rattle.xfs_mend.specs.declared.outcome.Outcome.{Outcome}
 use Rattle.xfs_mend.specs.declared.outcome.Outcome.TheVariants.{NoGeometry, Unsupported, DirtyLog, TooLarge, UnsupportedFile, Clean, Damaged, Repaired, Unbuilt, ReadFault, WriteFault, NoMemory}
-use Rattle.xfs_mend.specs.declared.outcome.RepairOptions.{RepairOptions}
+use Rattle.xfs_mend.specs.Asked.{Asked}
 use Rattle.xfs_mend.specs.declared.outcome.Summary.TheVariants.{Backups}
 
 -- what follows of a value that is there
@@ -119,36 +119,36 @@ from_primary g image vote (Found.Part part place) elects same backup =
     ap (λ (v : Vote). v.place) (some_vote vote fault.elected.vote (elected image) elects fault.elected.due) ∙ fault.first
 
 -- a volume whose view is given is not turned away
-pub admitted_stays : (o : RepairOptions) (g : Geometry) (image : Image) (a : Admitted) (seen : Result Catalog Finding) → a ≡ View seen
+pub admitted_stays : (o : Asked) (g : Geometry) (image : Image) (a : Admitted) (seen : Result Catalog Finding) → a ≡ View seen
     → IsAdmission o g image a → turned_away o (volume_of g) image ≡ None
 admitted_stays o g image a seen is held = (subst (λ (x : Admitted). IsAdmission o g image x) is held).0
 
 -- what is due to a volume that is turned away, and to any other
-pub due_away : (o : RepairOptions) (g : Geometry) (image : Image) (outcome : Outcome) → turned_away o (volume_of g) image ≡ Some outcome
+pub due_away : (o : Asked) (g : Geometry) (image : Image) (outcome : Outcome) → turned_away o (volume_of g) image ≡ Some outcome
     → outcome ≡ due_volume o g image
 unfolding due_volume
 due_away o g image outcome away = rw away refl
 
-pub due_seen : (o : RepairOptions) (g : Geometry) (image : Image) (found : Option Finding) → turned_away o (volume_of g) image ≡ None
+pub due_seen : (o : Asked) (g : Geometry) (image : Image) (found : Option Finding) → turned_away o (volume_of g) image ≡ None
     → found ≡ finding broken_law g image → due_found o image found ≡ due_volume o g image
 unfolding due_volume
 due_seen o g image found stays same = rw (stays, same) refl
 
 -- a repair is due where a backup is found and the image is not only checked
-pub due_of_plan : (o : RepairOptions) (image : Image) (found : Finding) (plan : Plan) → o.check ≡ false → is_backup found ≡ true → plan ≡ backup_plan image
+pub due_of_plan : (o : Asked) (image : Image) (found : Finding) (plan : Writes) → o.check ≡ false → is_backup found ≡ true → plan ≡ backup_plan image
     → Repaired (Backups (length plan)) ≡ due_found o image (Some found)
 due_of_plan o image found plan repairs backup same = rw (repairs, backup, same) refl
 
 -- what is owed by the geometry that is elected is due
-pub answers : (o : RepairOptions) (g : Geometry) (image : Image) (vote : Vote) (outcome : Outcome) → elected image ≡ Ok vote → IsElected (volume_of g) image
+pub answers : (o : Asked) (g : Geometry) (image : Image) (vote : Vote) (outcome : Outcome) → elected image ≡ Ok vote → IsElected (volume_of g) image
     → outcome ≡ due_volume o g image → IsAnswer o image (elected image) outcome
 answers o g image vote outcome elects is due =
     subst (λ (r : Result Vote ElectFault). IsAnswer o image r outcome) (sym elects) (record { geometry = g; elected = is; is = due })
 
-pub due_by : (o : RepairOptions) (g : Geometry) (image : Image) (vote : Vote) (outcome : Outcome) → elected image ≡ Ok vote → IsElected (volume_of g) image
+pub due_by : (o : Asked) (g : Geometry) (image : Image) (vote : Vote) (outcome : Outcome) → elected image ≡ Ok vote → IsElected (volume_of g) image
     → IsOwed (due_volume o g image) outcome → IsDue o image outcome
 due_by o g image vote (ReadFault faults) elects is owed = tt
-due_by o g image vote (WriteFault blocks) elects is (count, owed) = (count, answers o g image vote (Repaired (Backups count)) elects is (sym owed))
+due_by o g image vote (WriteFault blocks) elects is (count, most, owed) = (count, most, answers o g image vote (Repaired (Backups count)) elects is (sym owed))
 due_by o g image vote NoMemory elects is owed = tt
 due_by o g image vote NoGeometry elects is owed = answers o g image vote NoGeometry elects is owed
 due_by o g image vote (Unsupported word bits) elects is owed = answers o g image vote (Unsupported word bits) elects is owed
@@ -161,9 +161,9 @@ due_by o g image vote (Repaired summary) elects is owed = answers o g image vote
 due_by o g image vote (Unbuilt request) elects is owed = answers o g image vote (Unbuilt request) elects is owed
 
 -- what the election refuses is due
-pub due_unsupported : (o : RepairOptions) (image : Image) (word bits : ℕ) → elected image ≡ Err (fault.Unsupported word bits) → IsDue o image (Unsupported word bits)
+pub due_unsupported : (o : Asked) (image : Image) (word bits : ℕ) → elected image ≡ Err (fault.Unsupported word bits) → IsDue o image (Unsupported word bits)
 due_unsupported o image word bits refused =
     subst (λ (r : Result Vote ElectFault). IsAnswer o image r (Unsupported word bits)) (sym refused) refl
 
-pub due_no_geometry : (o : RepairOptions) (image : Image) → elected image ≡ Err fault.NoGeometry → IsDue o image NoGeometry
+pub due_no_geometry : (o : Asked) (image : Image) → elected image ≡ Err fault.NoGeometry → IsDue o image NoGeometry
 due_no_geometry o image refused = subst (λ (r : Result Vote ElectFault). IsAnswer o image r NoGeometry) (sym refused) refl

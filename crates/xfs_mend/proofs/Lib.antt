@@ -6,4 +6,5 @@ pub mod Mending
 pub mod Planning
 pub mod Repaired
 pub mod Turning
-pub mod Writing
+pub mod Rows
+pub mod Ending

@@ -6,10 +6,10 @@ use Rattle.std.proofs.lemmas.Option.{unwrap_or-slice_get}
 use Rattle.xfs_disk.specs.Blocks.{Image}
 use Rattle.xfs_geom.specs.Superblocks.{is_agreeing}
 use Rattle.xfs_geom.specs.Volumes.{stated_volume}
-use Rattle.xfs_mend.proofs.Writing.{written-append}
+use Rattle.xfs_writing.proofs.Steps.{written-append}
 use Rattle.xfs_geom.specs.Election.{block_of, super_of}
 use Rattle.xfs_mend.specs.Backups.{with_super, step_of, start_of, steps_from}
-use Rattle.xfs_mend.specs.Plans.{Plan, written}
+use Rattle.xfs_writing.specs.Writing.{Writes, written}
 
 pub block_set_same : (image : Image) (at : ℕ) (bytes : List ℕ) → at < length image → block_of (slice_set image at bytes) at ≡ bytes
 block_set_same image at bytes within =
@@ -20,7 +20,7 @@ block_set_other image at b bytes apart =
     unwrap_or-slice_get (slice_set image at bytes) b [] ∙ get_or-set_other image at b bytes [] apart ∙ sym (unwrap_or-slice_get image b [])
 
 -- a plan changes no number of blocks
-pub length-written : (plan : Plan) (image : Image) → length (written plan image) ≡ length image
+pub length-written : (plan : Writes) (image : Image) → length (written plan image) ≡ length image
 length-written [] image = refl
 length-written (write ∷ plan) image = length-written plan (slice_set image write.0 write.1) ∙ length-set image write.0 write.1
 
@@ -54,9 +54,9 @@ step_other primary at block image b apart = by_case (is_agreeing (stated_volume 
   where
     by_case : (r : Bool) → is_agreeing (stated_volume primary) (super_of block) ≡ r
         → block_of (written (step_of primary at block) image) b ≡ block_of image b
-    by_case true agreeing = ap (λ (p : Plan). block_of (written p image) b) (step_agreeing primary at block agreeing)
+    by_case true agreeing = ap (λ (p : Writes). block_of (written p image) b) (step_agreeing primary at block agreeing)
     by_case false agreeing =
-        ap (λ (p : Plan). block_of (written p image) b) (step_mending primary at block agreeing)
+        ap (λ (p : Writes). block_of (written p image) b) (step_mending primary at block agreeing)
         ∙ block_set_other image at b (with_super primary block) apart
 
 -- a step mends its own block
@@ -67,10 +67,10 @@ step_same primary at block image within held = by_case (is_agreeing (stated_volu
     by_case : (r : Bool) → is_agreeing (stated_volume primary) (super_of block) ≡ r
         → block_of (written (step_of primary at block) image) at ≡ mended_block primary block
     by_case true agreeing =
-        ap (λ (p : Plan). block_of (written p image) at) (step_agreeing primary at block agreeing)
+        ap (λ (p : Writes). block_of (written p image) at) (step_agreeing primary at block agreeing)
         ∙ held ∙ sym (mended_agreeing primary block agreeing)
     by_case false agreeing =
-        ap (λ (p : Plan). block_of (written p image) at) (step_mending primary at block agreeing)
+        ap (λ (p : Writes). block_of (written p image) at) (step_mending primary at block agreeing)
         ∙ block_set_same image at (with_super primary block) within ∙ sym (mended_other primary block agreeing)
 
 -- groups of some blocks begin at different blocks
@@ -89,7 +89,7 @@ pub steps_other : (primary : List ℕ) (image : Image) (n g : ℕ) (j : Image) (
     → block_of (written (steps_from primary image g n) j) b ≡ block_of j b
 steps_other primary image zero g j b apart = refl
 steps_other primary image (suc n) g j b apart =
-    let step : Plan = step_of primary (start_of primary g) (block_of image (start_of primary g)) in
+    let step : Writes = step_of primary (start_of primary g) (block_of image (start_of primary g)) in
     ap (λ (i : Image). block_of i b) (written-append step (steps_from primary image (g + 1) n) j)
     ∙ steps_other primary image n (g + 1) (written step j) b (λ k low high. apart k (omega arith) (omega arith))
     ∙ step_other primary (start_of primary g) (block_of image (start_of primary g)) j b (apart g (omega arith) (omega arith))
@@ -100,7 +100,7 @@ pub steps_same : (primary : List ℕ) (image : Image) (n g : ℕ) (j : Image) (k
     → block_of (written (steps_from primary image g n) j) (start_of primary k) ≡ mended_block primary (block_of image (start_of primary k))
 steps_same primary image zero g j k some low high within held = absurd (omega arith)
 steps_same primary image (suc n) g j k some low high within held =
-    let step : Plan = step_of primary (start_of primary g) (block_of image (start_of primary g)) in
+    let step : Writes = step_of primary (start_of primary g) (block_of image (start_of primary g)) in
     ap (λ (i : Image). block_of i (start_of primary k)) (written-append step (steps_from primary image (g + 1) n) j)
     ∙ first_or_later (cases_eq k g)
     (λ later.

@@ -6,10 +6,10 @@ use Rattle.xfs_geom.specs.Volumes.{stated_volume}
 use Rattle.xfs_geom.specs.Election.{block_of, super_of}
 use Rattle.xfs_mend.specs.Backups.{start_of, step_of, steps_from}
 use Rattle.xfs_mend.specs.Due.{first_disagreeing}
-use Rattle.xfs_mend.specs.Plans.{Plan}
+use Rattle.xfs_writing.specs.Writing.{Writes}
 
 -- one more group: its step stands behind the plan
-pub next_steps : (primary : List ℕ) (image : Image) (group count : ℕ) (before after step whole : Plan)
+pub next_steps : (primary : List ℕ) (image : Image) (group count : ℕ) (before after step whole : Writes)
     → group < count → step ≡ step_of primary (start_of primary group) (block_of image (start_of primary group)) → after ≡ before ++ step
     → before ++ steps_from primary image group (count - group) ≡ whole
     → after ++ steps_from primary image (group + 1) (count - (group + 1)) ≡ whole

@@ -21,7 +21,7 @@ use Rattle.xfs_mend.proofs.Electing.{elected_primary}
 use Rattle.xfs_mend.proofs.Mending.{length-written, mended_block, mended_agreeing, mended_other, steps_other, steps_same}
 use Rattle.xfs_mend.specs.Backups.{start_of, backup_plan}
 use Rattle.xfs_mend.specs.Outcome.{IsMended, IsRepaired}
-use Rattle.xfs_mend.specs.Plans.{written}
+use Rattle.xfs_writing.specs.Writing.{written}
 
 -- what is known of an image whose primary superblock is accepted
 pub record IsAccepted (image : Image) : Type 0 where

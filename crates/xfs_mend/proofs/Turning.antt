@@ -3,7 +3,6 @@ use Rattle.std.proofs.Common.{◌≡◌, ℕ, ◌≤◌, ◌&&◌, Bool, true, f
 use Rattle.xfs_disk.specs.Blocks.{Image}
 use Rattle.xfs_geom.specs.Volumes.{Volume}
 use Rattle.xfs_heads.specs.declared.log.state.LogState.{LogState}
-use Rattle.xfs_heads.specs.declared.log.state.LogState.TheVariants as Log
 use Rattle.xfs_volume.specs.declared.catalogs.Catalog.{Catalog}
 use Rattle.xfs_image.specs.View.{log_of}
 use Rattle.xfs_image.specs.declared.findings.Finding.{Finding}
@@ -17,19 +16,19 @@ use Rattle.xfs_mend.specs.declared.faults.MendFault.TheVariants as faults
 use Rattle.xfs_mend.specs.declared.outcome.Outcome.{Outcome}
 use Rattle.xfs_mend.specs.declared.outcome.Outcome.TheVariants.{DirtyLog}
 use Rattle.xfs_mend.specs.declared.refusals.Admitted.{Admitted}
-use Rattle.xfs_mend.specs.declared.outcome.RepairOptions.{RepairOptions}
+use Rattle.xfs_mend.specs.Asked.{Asked}
 
 both_false : (asks : Bool) → (asks && false) ≡ false
 both_false true = refl
 both_false false = refl
 
 -- the log is not asked
-pub not_asked : (o : RepairOptions) (v : Volume) (image : Image) → asks_log o ≡ false → turned_away o v image ≡ refusal_of (refused v image)
+pub not_asked : (o : Asked) (v : Volume) (image : Image) → asks_log o ≡ false → turned_away o v image ≡ refusal_of (refused v image)
 unfolding turned_away
 not_asked o v image asks = ap (λ (b : Bool). away_if (b && is_dirty (log_of v image)) (refused v image)) asks
 
 -- the log is clean
-pub not_dirty : (o : RepairOptions) (v : Volume) (image : Image) (log : LogState) → log ≡ log_of v image → is_dirty log ≡ false
+pub not_dirty : (o : Asked) (v : Volume) (image : Image) (log : LogState) → log ≡ log_of v image → is_dirty log ≡ false
     → turned_away o v image ≡ refusal_of (refused v image)
 unfolding turned_away
 not_dirty o v image log same clean =
@@ -37,7 +36,7 @@ not_dirty o v image log same clean =
     ∙ (ap (λ (b : Bool). away_if (asks_log o && b) (refused v image)) clean ∙ ap (λ (b : Bool). away_if b (refused v image)) (both_false (asks_log o)))
 
 -- the log is asked, and is not clean
-pub by_log : (o : RepairOptions) (v : Volume) (image : Image) (log : LogState) → log ≡ log_of v image → asks_log o ≡ true → is_dirty log ≡ true
+pub by_log : (o : Asked) (v : Volume) (image : Image) (log : LogState) → log ≡ log_of v image → asks_log o ≡ true → is_dirty log ≡ true
     → turned_away o v image ≡ Some DirtyLog
 unfolding turned_away
 by_log o v image log same asks dirty =
@@ -45,7 +44,7 @@ by_log o v image log same asks dirty =
     ∙ ap₂ (λ (a b : Bool). away_if (a && b) (refused v image)) asks dirty
 
 -- what an evidence says of the log and of the whole image decides
-pub by_evidence : (o : RepairOptions) (v : Volume) (image : Image) (log : LogState) (catalog seen : Result Catalog Finding) (admitted : Admitted) → log ≡ log_of v image
+pub by_evidence : (o : Asked) (v : Volume) (image : Image) (log : LogState) (catalog seen : Result Catalog Finding) (admitted : Admitted) → log ≡ log_of v image
     → refused v image ≡ None → catalog ≡ seen → HasAdmitted (away_if (asks_log o && is_dirty log) None) catalog admitted → HasAdmitted (turned_away o v image) seen admitted
 unfolding turned_away
 by_evidence o v image log catalog seen admitted same none is held =

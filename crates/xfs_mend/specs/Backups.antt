@@ -6,14 +6,14 @@ use Rattle.xfs_disk.specs.Blocks.{Image}
 use Rattle.xfs_geom.specs.Election.{block_of, super_of}
 use Rattle.xfs_geom.specs.Superblocks.{is_agreeing}
 use Rattle.xfs_geom.specs.Volumes.{stated_volume}
-use Rattle.xfs_mend.specs.Plans.{Plan}
+use Rattle.xfs_writing.specs.Writing.{Writes}
 
 -- a block with its first sector replaced by the primary superblock
 abbrev pub with_super : List ℕ → List ℕ → List ℕ
 with_super primary block = primary ++ drop 512 block
 
 -- the write that a backup in this block needs: none where it agrees with the primary
-unfoldable pub step_of : List ℕ → ℕ → List ℕ → Plan
+unfoldable pub step_of : List ℕ → ℕ → List ℕ → Writes
 step_of primary at block =
     if is_agreeing (stated_volume primary) (super_of block) then [] else (at, with_super primary block) ∷ []
 
@@ -22,12 +22,12 @@ unfoldable pub start_of : List ℕ → ℕ → ℕ
 start_of primary group = group * (stated_volume primary).agblocks
 
 -- the writes that the backups of n groups need, from a group on
-abbrev pub steps_from : List ℕ → Image → ℕ → ℕ → Plan
+abbrev pub steps_from : List ℕ → Image → ℕ → ℕ → Writes
 steps_from primary image group n =
     flat_map (λ (g : ℕ). step_of primary (start_of primary g) (block_of image (start_of primary g))) (range_with_len group n)
 
 -- the plan that makes every backup agree with the primary superblock of the image
-abbrev pub backup_plan : Image → Plan
+abbrev pub backup_plan : Image → Writes
 backup_plan image =
     let primary = super_of (block_of image 0) in
     steps_from primary image 1 ((stated_volume primary).agcount - 1)

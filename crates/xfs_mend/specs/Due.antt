@@ -1,5 +1,5 @@
 -- What is due to an image that is to be repaired.
-use Rattle.std.specs.Prelude.{◌≡◌, ℕ, ◌==◌, ◌&&◌, Bool, true, false, not, if◌then◌else◌, List, length, Option, Some, None, Result, Ok, Err, unwrap_or, ⊤}
+use Rattle.std.specs.Prelude.{◌≡◌, ℕ, ◌≤◌, ◌==◌, ◌&&◌, Bool, true, false, not, if◌then◌else◌, List, length, Option, Some, None, Result, Ok, Err, unwrap_or, ⊤}
 use Rattle.std.specs.List.{find, range_with_len}
 use Rattle.xfs_disk.specs.Blocks.{Image}
 use Rattle.xfs_geom.specs.Election.{Vote, block_of, elected, super_of}
@@ -21,8 +21,8 @@ use Rattle.xfs_scan.specs.declared.faults.ScanFault.TheVariants as scan
 use Rattle.xfs_mend.specs.Backups.{backup_plan, start_of}
 use Rattle.xfs_mend.specs.declared.outcome.Outcome.{Outcome}
 use Rattle.xfs_mend.specs.declared.outcome.Outcome.TheVariants.{NoGeometry, Unsupported, DirtyLog, TooLarge, UnsupportedFile, Clean, Damaged, Repaired, Unbuilt, ReadFault, WriteFault, NoMemory}
-use Rattle.xfs_mend.specs.declared.outcome.RepairOptions.{RepairOptions}
-use Rattle.xfs_mend.specs.declared.outcome.Summary.TheVariants.{Backups}
+use Rattle.xfs_mend.specs.Asked.{Asked}
+use Rattle.xfs_mend.specs.declared.outcome.Summary.TheVariants.{Backups, Rebuilt}
 
 -- the backup of the group does not agree with the primary
 abbrev pub disagrees : List ℕ → Image → ℕ → Bool
@@ -33,7 +33,7 @@ abbrev pub first_disagreeing : List ℕ → Image → ℕ → ℕ → Option ℕ
 first_disagreeing primary image group n = find (disagrees primary image) (range_with_len group n)
 
 -- a log that is not clean stands in the way: the image is not only checked, and the log is not to be dropped
-abbrev pub asks_log : RepairOptions → Bool
+abbrev pub asks_log : Asked → Bool
 asks_log o = not o.check && not o.drop_log
 
 abbrev pub is_dirty : LogState → Bool
@@ -52,7 +52,7 @@ abbrev pub away_if : Bool → Option ScanFault → Option Outcome
 away_if dirty due = if dirty then Some DirtyLog else refusal_of due
 
 -- the first cause for which the volume is not looked at further: its log, then its size and its files
-unfoldable pub turned_away : RepairOptions → Volume → Image → Option Outcome
+unfoldable pub turned_away : Asked → Volume → Image → Option Outcome
 turned_away o v image = away_if (asks_log o && is_dirty (log_of v image)) (refused v image)
 
 -- a backup superblock is found first
@@ -65,43 +65,53 @@ abbrev pub due_repair : Image → Finding → Outcome
 due_repair image found = if is_backup found then Repaired (Backups (length (backup_plan image))) else Unbuilt 8
 
 -- by what is found first: clean where nothing is, damaged where the image is only checked, else repaired
-abbrev pub due_found : RepairOptions → Image → Option Finding → Outcome
+abbrev pub due_found : Asked → Image → Option Finding → Outcome
 due_found o image None = Clean
 due_found o image (Some found) = if o.check then Damaged found else due_repair image found
 
 -- what is due to an image that elects this geometry
-unfoldable pub due_volume : RepairOptions → Geometry → Image → Outcome
+unfoldable pub due_volume : Asked → Geometry → Image → Outcome
 due_volume o g image = unwrap_or (turned_away o (volume_of g) image) (due_found o image (finding broken_law g image))
 
 -- the outcome is due by the geometry that the image elects
-pub record IsDueElected (o : RepairOptions) (image : Image) (outcome : Outcome) : Type 0 where
+pub record IsDueElected (o : Asked) (image : Image) (outcome : Outcome) : Type 0 where
   pub geometry : Geometry
   pub elected : IsElected (volume_of geometry) image
   pub is : outcome ≡ due_volume o geometry image
 
 -- the outcome is the one that is due, by what the image elects
-abbrev pub IsAnswer : RepairOptions → Image → Result Vote ElectFault → Outcome → Type 0
+abbrev pub IsAnswer : Asked → Image → Result Vote ElectFault → Outcome → Type 0
 IsAnswer o image (Err (fault.Unsupported word bits)) outcome = outcome ≡ Unsupported word bits
 IsAnswer o image (Err fault.NoGeometry) outcome = outcome ≡ NoGeometry
 IsAnswer o image (Err fault.ReadFault) outcome = outcome ≡ NoGeometry
 IsAnswer o image (Err fault.NoMemory) outcome = outcome ≡ NoGeometry
 IsAnswer o image (Ok vote) outcome = IsDueElected o image outcome
 
--- a repair is due
-abbrev pub IsRepairDue : RepairOptions → Image → Type 0
-IsRepairDue o image = (count : ℕ) × IsAnswer o image (elected image) (Repaired (Backups count))
+-- a repair is due, of at least so many blocks
+abbrev pub IsRepairDue : Asked → Image → ℕ → Type 0
+IsRepairDue o image blocks = (count : ℕ) × (blocks ≤ count) × IsAnswer o image (elected image) (Repaired (Backups count))
 
 -- The outcome is the one that is due; a failed read or want of memory may stand in its place, and a failed write in that of a
--- repair.
-abbrev pub IsDue : RepairOptions → Image → Outcome → Type 0
+-- repair, with no more blocks than those that the repair writes.
+abbrev pub IsDue : Asked → Image → Outcome → Type 0
 IsDue o image (ReadFault faults) = ⊤
-IsDue o image (WriteFault blocks) = IsRepairDue o image
+IsDue o image (WriteFault blocks) = IsRepairDue o image blocks
 IsDue o image NoMemory = ⊤
 IsDue o image outcome = IsAnswer o image (elected image) outcome
+
+-- The outcomes that may come of what is asked, whatever a disk tells: only a check finds damage, and a check repairs nothing, fails no
+-- write and never answers that a repair is not built.
+abbrev pub CanCome : Asked → Outcome → Type 0
+CanCome o (Damaged found) = o.check ≡ true
+CanCome o (Repaired (Backups count)) = o.check ≡ false
+CanCome o (Repaired (Rebuilt blocks kept cleared orphans)) = ⊥
+CanCome o (Unbuilt request) = (o.check ≡ false) × (request ≡ 8)
+CanCome o (WriteFault blocks) = o.check ≡ false
+CanCome o outcome = ⊤
 
 -- the same of a part of the work to which this outcome is due
 abbrev pub IsOwed : Outcome → Outcome → Type 0
 IsOwed due (ReadFault faults) = ⊤
-IsOwed due (WriteFault blocks) = (count : ℕ) × (due ≡ Repaired (Backups count))
+IsOwed due (WriteFault blocks) = (count : ℕ) × (blocks ≤ count) × (due ≡ Repaired (Backups count))
 IsOwed due NoMemory = ⊤
 IsOwed due outcome = outcome ≡ due

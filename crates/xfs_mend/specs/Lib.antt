@@ -1,6 +1,8 @@
+pub mod Asked
 pub mod Backups
 pub mod Due
+pub mod Ending
 pub mod Outcome
 pub mod Planning
-pub mod Plans
 pub mod Refusing
+pub mod Rows

@@ -1,5 +1,5 @@
 -- What an outcome says of the image and of the counts of faults.
-use Rattle.std.specs.Prelude.{◌≡◌, ℕ, ◌<◌, ◌≤◌, true, false, List, length, Option, Some, slice_get}
+use Rattle.std.specs.Prelude.{◌≡◌, ℕ, ◌<◌, ◌≤◌, Bool, true, false, List, [], length, Option, Some, slice_get}
 use Rattle.std.specs.Option.{ForSome}
 use Rattle.xfs_disk.specs.Blocks.{Image}
 use Rattle.xfs_disk.specs.Faults.{Rose}
@@ -11,9 +11,11 @@ use Rattle.xfs_laws.specs.Lawful.{broken_law}
 use Rattle.xfs_image.specs.Consistent.{HasFinding, IsElected, backup_agrees}
 use Rattle.xfs_image.specs.declared.findings.Finding.TheVariants.{Part}
 use Rattle.xfs_mend.specs.Backups.{with_super, start_of, backup_plan}
-use Rattle.xfs_mend.specs.Plans.{Plan, written, IsPartly}
+use Rattle.xfs_writing.specs.Writing.{Writes, written, IsPartly}
+use Rattle.xfs_writing.specs.Stopped.{IsStopped}
 use Rattle.xfs_mend.specs.declared.outcome.Outcome.{Outcome}
 use Rattle.xfs_mend.specs.declared.outcome.Outcome.TheVariants.{Repaired, ReadFault, WriteFault}
+use Rattle.xfs_mend.specs.declared.outcome.Summary.TheVariants.{Backups, Rebuilt}
 
 -- a fault of the disk is answered only where its count rose; a read fault tells the count
 abbrev pub IsCaused : ℕ → ℕ → ℕ → ℕ → Outcome → Type 0
@@ -48,16 +50,38 @@ pub record IsRepaired (image : Image) (now : Option Image) : Type 0 where
 
 -- what the disk holds after an outcome of the plan: the written plan after a repair, a part of it after a
 -- write fault, else what it held
-abbrev pub Writes : Plan → Image → Option Image → Outcome → Type 0
-Writes plan image now (Repaired summary) = now ≡ Some (written plan image)
-Writes plan image now (WriteFault blocks) = IsPartly plan image blocks now
-Writes plan image now outcome = now ≡ Some image
+abbrev pub LeavesOf : Writes → Image → Option Image → Outcome → Type 0
+LeavesOf plan image now (Repaired summary) = now ≡ Some (written plan image)
+LeavesOf plan image now (WriteFault blocks) = IsPartly plan image blocks now
+LeavesOf plan image now outcome = now ≡ Some image
 
 -- what the disk holds after the outcome: where it isn't a repair or a write fault, what it held
 abbrev pub Leaves : Image → Option Image → Outcome → Type 0
 Leaves image now (Repaired summary) = IsRepaired image now
 Leaves image now (WriteFault blocks) = IsPartly (backup_plan image) image blocks now
 Leaves image now outcome = now ≡ Some image
+
+-- nothing was written, as the outcome says
+abbrev pub is_quiet : Outcome → Bool
+is_quiet (Repaired summary) = false
+is_quiet (WriteFault blocks) = false
+is_quiet outcome = true
+
+-- how many blocks were written, as the outcome says
+abbrev pub blocks_told : Outcome → ℕ
+blocks_told (Repaired (Backups count)) = count
+blocks_told (Repaired (Rebuilt blocks kept cleared orphans)) = blocks
+blocks_told (WriteFault blocks) = blocks
+blocks_told outcome = 0
+
+-- a stop while this plan was written, by an outcome that says that something may have been
+abbrev pub StopsOf : Writes → Image → Outcome → Image → Type 0
+StopsOf plan image outcome stopped = (is_quiet outcome ≡ false) × IsStopped [] plan image stopped
+
+-- what a stop since the repair began may leave beside what it might have left before: after a repair or a write fault each block is
+-- that of the image or as the plan has it, and after every other outcome there is nothing beside
+abbrev pub StopsBy : Image → Outcome → Image → Type 0
+StopsBy image outcome stopped = StopsOf (backup_plan image) image outcome stopped
 
 -- after a repair a stop leaves just what the disk holds
 abbrev pub IsKept : Type 0 → Option Image → (ℕ → List ℕ → Type 0) → Outcome → Type 0

@@ -9,7 +9,7 @@ use Rattle.xfs_image.specs.declared.findings.Finding.{Finding}
 use Rattle.xfs_mend.specs.Due.{turned_away}
 use Rattle.xfs_mend.specs.declared.outcome.Outcome.{Outcome}
 use Rattle.xfs_mend.specs.declared.outcome.Outcome.TheVariants as out
-use Rattle.xfs_mend.specs.declared.outcome.RepairOptions.{RepairOptions}
+use Rattle.xfs_mend.specs.Asked.{Asked}
 use Rattle.xfs_mend.specs.declared.refusals.Admitted.{Admitted}
 use Rattle.xfs_mend.specs.declared.refusals.Admitted.TheVariants.{View, DirtyLog, TooLarge, UnsupportedFile}
 
@@ -20,5 +20,5 @@ HasAdmitted away seen DirtyLog = away ≡ Some out.DirtyLog
 HasAdmitted away seen (TooLarge what count) = away ≡ Some (out.TooLarge what count)
 HasAdmitted away seen (UnsupportedFile ino what) = away ≡ Some (out.UnsupportedFile ino what)
 
-abbrev pub IsAdmission : RepairOptions → Geometry → Image → Admitted → Type 0
+abbrev pub IsAdmission : Asked → Geometry → Image → Admitted → Type 0
 IsAdmission o g image admitted = HasAdmitted (turned_away o (volume_of g) image) (view g image) admitted

@@ -1,54 +1,141 @@
 //! Backup superblocks: which of them are to be written anew.
 
-ghost use Rattle.std.specs.Prelude.{◌≡◌, ℕ, ◌++◌, ◌-◌, ◌<◌, ◌≤◌, List, length, All, OnOk, IfOk, option_to_list, vec_len};
+ghost use Rattle.std.specs.Prelude.{◌≡◌, ℕ, ◌++◌, ◌-◌, ◌<◌, ◌≤◌, [], ◌∷◌, if◌then◌else◌, length, map, All, OnOk, IfOk, slice_index_or, slice_set};
 ghost use Rattle.std.specs.Option.{ForSome};
 ghost use Rattle.xfs_disk.specs.Faults.{HasCause};
+ghost use Rattle.xfs_disk.specs.Reads.{OnlyReads};
 ghost use Rattle.xfs_geom.specs.Superblocks.{is_agreeing};
 ghost use Rattle.xfs_geom.specs.Volumes.{volume_of, stated_volume};
 ghost use Rattle.xfs_geom.specs.Election.{block_of, super_of};
-ghost use Rattle.xfs_disk.specs.Reads.{OnlyReads};
-ghost use Rattle.xfs_mend.specs.Backups.{start_of, step_of, steps_from, with_super};
+ghost use Rattle.xfs_writing.specs.Writing.{rows_from, writes_of};
+ghost use Rattle.xfs_writing.specs.declared.rows.Row.{Row};
+ghost use Rattle.xfs_mend.specs.Backups.{start_of, steps_from, with_super};
 ghost use Rattle.xfs_mend.specs.Due.{first_disagreeing};
 ghost use Rattle.xfs_mend.specs.Planning.{HasMendCause};
+ghost use Rattle.xfs_mend.specs.Rows.{disagreeing_places};
 
 use crate::faults::MendFault;
-use crate::plan::Planned;
 use std::alloc::Global;
+use xfs_bank::BlockBank;
 use xfs_disk::{BLOCK_SIZE, Disk, Failed, NoMemory};
 use xfs_geom::superblock::SECTOR_SIZE;
 use xfs_geom::{Geometry, agrees};
+use xfs_writing::Row;
 
-/// The writes that make every backup agree with the primary superblock, in ascending order.
+/// What is to be written so that every backup agrees with the primary superblock: blocks, and a row for each in ascending order.
+#[derive(Drop)]
+pub(crate) struct BackupPlan {
+    pub(crate) bank: BlockBank,
+    pub(crate) rows: Vec<Row>,
+}
+
+/// The writes that make every backup agree with the primary superblock.
 pub(crate) fn plan_backups<D: Disk>(
     alloc: Global,
     disk: &mut D,
     geometry: &Geometry,
     primary: &[u8],
-) -> Result<Vec<Planned>, MendFault>
+) -> Result<BackupPlan, MendFault>
     requires sector { length primary.now ≡ 512 }
     requires stated { volume_of geometry.now ≡ stated_volume primary.now }
     requires inside { geometry.now.dblocks ≤ D.size disk.old }
     ensures plan { IfOk result (λ plan. ForSome (D.holds disk.old) (λ image.
-        plan.items ≡ steps_from primary.now image 1 (geometry.now.agcount - 1))) }
-    ensures inside { IfOk result (λ plan. All (λ (p : ℕ × List ℕ). p.0 < D.size disk.old) plan.items) }
-    ensures size { D.size disk.new ≡ D.size disk.old }
-    ensures holds { D.holds disk.new ≡ D.holds disk.old }
+        writes_of plan.bank plan.rows.items ≡ steps_from primary.now image 1 (geometry.now.agcount - 1))) }
+    ensures places { IfOk result (λ plan. All (λ (r : Row). r.at < D.size disk.old) plan.rows.items) }
+    ensures inside { IfOk result (λ plan. All (λ (r : Row). r.index < length plan.bank) plan.rows.items) }
     ensures cause { HasMendCause (D.faults disk.old) (D.faults disk.new) result }
-    ensures write_faults { D.write_faults disk.new ≡ D.write_faults disk.old }
-    ensures tells { D.tells_stops disk.old → D.tells_stops disk.new }
+    ensures disk { OnlyReads D.size D.holds D.write_faults D.writes D.tells_stops D.moment D.may_leave D.left_since disk.old disk.new }
 {
-    let mut plan = Vec::new(alloc);
+    let places = match list_places(alloc, disk, geometry, primary) {
+        Ok(places) => places,
+        Err(fault) => return Err(fault),
+    };
+    let mut bank = match BlockBank::make(alloc, places.len()) {
+        Ok(bank) => bank,
+        Err(NoMemory) => return Err(MendFault::NoMemory),
+    };
+    match bank.fill(disk, places.as_slice()) {
+        Ok(()) => {}
+        Err(Failed) => return Err(MendFault::ReadFault),
+    }
+    put_primary(&mut bank, primary);
+    match rows_of(alloc, places.as_slice()) {
+        Ok(rows) => Ok(BackupPlan { bank, rows }),
+        Err(NoMemory) => Err(MendFault::NoMemory),
+    }
+}
+
+/// The blocks at which groups begin whose backup does not agree with the primary superblock, in ascending order.
+fn list_places<D: Disk>(
+    alloc: Global,
+    disk: &mut D,
+    geometry: &Geometry,
+    primary: &[u8],
+) -> Result<Vec<u64>, MendFault>
+    requires sector { length primary.now ≡ 512 }
+    requires stated { volume_of geometry.now ≡ stated_volume primary.now }
+    requires inside { geometry.now.dblocks ≤ D.size disk.old }
+    ensures places { IfOk result (λ places. ForSome (D.holds disk.old) (λ image.
+        places.items ≡ disagreeing_places primary.now image 1 (geometry.now.agcount - 1))) }
+    ensures inside { IfOk result (λ places. All (λ (place : ℕ). place < D.size disk.old) places.items) }
+    ensures cause { HasMendCause (D.faults disk.old) (D.faults disk.new) result }
+    ensures disk { OnlyReads D.size D.holds D.write_faults D.writes D.tells_stops D.moment D.may_leave D.left_since disk.old disk.new }
+{
+    let mut places = Vec::new(alloc);
     for group in 1..geometry.agcount {
-        let step = match plan_backup(alloc, disk, geometry, primary, group) {
-            Ok(step) => step,
-            Err(fault) => return Err(fault),
+        let agreeing = match is_agreeing(disk, geometry, primary, group) {
+            Ok(agreeing) => agreeing,
+            Err(Failed) => return Err(MendFault::ReadFault),
         };
-        match push_step(&mut plan, step) {
+        match push_unless(&mut places, agreeing, geometry.start_of_group(group)) {
             Ok(()) => {}
             Err(NoMemory) => return Err(MendFault::NoMemory),
         }
     }
-    Ok(plan)
+    Ok(places)
+}
+
+/// Puts a place behind the others, unless its backup agrees.
+fn push_unless(places: &mut Vec<u64>, agreeing: bool, place: u64) -> Result<(), NoMemory>
+    ensures { OnOk result (places.new.items ≡ places.old.items ++ (if agreeing then [] else place ∷ [])) }
+{
+    if !agreeing {
+        places.push(place)?;
+    }
+    Ok(())
+}
+
+/// Puts the primary superblock in the place of the first sector of each block.
+fn put_primary(bank: &mut BlockBank, primary: &[u8])
+    requires sector { length primary.now ≡ 512 }
+    ensures { bank.new ≡ map (with_super primary.now) bank.old }
+{
+    for i in 0..bank.len() {
+        put_super(bank, i, primary);
+    }
+}
+
+/// Puts the primary superblock in the place of the first sector of block `i`.
+fn put_super(bank: &mut BlockBank, i: usize, primary: &[u8])
+    requires inside { i < length bank.old }
+    requires sector { length primary.now ≡ 512 }
+    ensures { bank.new ≡ slice_set bank.old i (with_super primary.now (slice_index_or bank.old i [])) }
+{
+    let block = bank.view_mut(i);
+    let (first, _) = block.split_at_mut(SECTOR_SIZE);
+    first.copy_from_slice(primary);
+}
+
+/// A row for each of these blocks, whose bytes stand in a bank one behind the other.
+fn rows_of(alloc: Global, places: &[u64]) -> Result<Vec<Row>, NoMemory>
+    ensures { IfOk result (λ rows. rows.items ≡ rows_from 0 places.now) }
+{
+    let mut rows = Vec::new(alloc);
+    for place in places {
+        let index = rows.len();
+        rows.push(Row { at: *place, index })?;
+    }
+    Ok(rows)
 }
 
 /// The first allocation group whose backup does not agree with the primary superblock.
@@ -101,53 +188,6 @@ fn is_agreeing<D: Disk>(
     }
 }
 
-/// Puts a write, where there is one, behind the plan.
-fn push_step(plan: &mut Vec<Planned>, step: Option<Planned>) -> Result<(), NoMemory>
-    ensures { OnOk result (plan.new.items ≡ plan.old.items ++ option_to_list step) }
-{
-    if let Some(write) = step {
-        plan.push(write)?;
-    }
-    Ok(())
-}
-
-/// The write that the backup of a group needs, or `None` where it agrees with the primary.
-#[tactic(auto, unfolding(crate::specs::Backups::step_of, crate::specs::Backups::start_of))]
-fn plan_backup<D: Disk>(
-    alloc: Global,
-    disk: &mut D,
-    geometry: &Geometry,
-    primary: &[u8],
-    group: u32,
-) -> Result<Option<Planned>, MendFault>
-    requires sector { length primary.now ≡ 512 }
-    requires stated { volume_of geometry.now ≡ stated_volume primary.now }
-    requires inside { geometry.now.dblocks ≤ D.size disk.old }
-    requires group { group < geometry.now.agcount }
-    ensures step { IfOk result (λ step. ForSome (D.holds disk.old) (λ image.
-        option_to_list step ≡ step_of primary.now (start_of primary.now group) (block_of image (start_of primary.now group)))) }
-    ensures inside { IfOk result (λ step. All (λ (p : ℕ × List ℕ). p.0 < D.size disk.old) (option_to_list step)) }
-    ensures size { D.size disk.new ≡ D.size disk.old }
-    ensures holds { D.holds disk.new ≡ D.holds disk.old }
-    ensures cause { HasMendCause (D.faults disk.old) (D.faults disk.new) result }
-    ensures write_faults { D.write_faults disk.new ≡ D.write_faults disk.old }
-    ensures tells { D.tells_stops disk.old → D.tells_stops disk.new }
-{
-    let at = geometry.start_of_group(group);
-    let mut block = [0; BLOCK_SIZE];
-    match disk.read(at, &mut block) {
-        Ok(()) => {}
-        Err(Failed) => return Err(MendFault::ReadFault),
-    }
-    if agrees(geometry, first_sector(&block)) {
-        return Ok(None);
-    }
-    match mended(alloc, &block, primary) {
-        Ok(bytes) => Ok(Some(Planned::new(at, bytes))),
-        Err(NoMemory) => Err(MendFault::NoMemory),
-    }
-}
-
 /// The first sector of a block, where a superblock stands.
 fn first_sector(block: &[u8]) -> &[u8]
     requires { length block.now ≡ 4096 }
@@ -155,18 +195,4 @@ fn first_sector(block: &[u8]) -> &[u8]
     ensures size { length result.now ≡ 512 }
 {
     block.split_at(SECTOR_SIZE).0
-}
-
-/// A block with its first sector replaced by the primary superblock.
-fn mended(alloc: Global, block: &[u8], primary: &[u8]) -> Result<Vec<u8>, NoMemory>
-    requires whole { length block.now ≡ 4096 }
-    requires sector { length primary.now ≡ 512 }
-    ensures bytes { IfOk result (λ bytes. bytes.items ≡ with_super primary.now block.now) }
-    ensures size { IfOk result (λ bytes. vec_len bytes ≡ 4096) }
-{
-    let (_, rest) = block.split_at(SECTOR_SIZE);
-    let mut bytes = Vec::with_capacity(alloc, BLOCK_SIZE)?;
-    bytes.extend_from_slice(primary)?;
-    bytes.extend_from_slice(rest)?;
-    Ok(bytes)
 }

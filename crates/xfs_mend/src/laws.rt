@@ -8,15 +8,16 @@ ghost use Rattle.xfs_geom.specs.declared.geometry.Geometry.{Geometry};
 ghost use Rattle.xfs_laws.specs.Lawful.{broken_law};
 ghost use Rattle.xfs_image.specs.Consistent.{HasFinding, IsConsistent, IsConsistentImage};
 ghost use Rattle.xfs_image.specs.declared.findings.Finding.{Finding};
+ghost use Rattle.xfs_mend.specs.Asked.{Asked};
 ghost use Rattle.xfs_mend.specs.Due.{IsAnswer, turned_away};
 
-use crate::outcome::{Outcome, RepairOptions};
+use crate::outcome::Outcome;
 
 /// One outcome is due to an image. Only a consistent image is clean, and each that is looked at is; a check finds what is found
 /// first, in each image in which something is.
 pub fn outcomes_by_rows()
-    ensures one { (o : RepairOptions) (image : Image) (a b : Outcome) → IsAnswer o image (elected image) a → IsAnswer o image (elected image) b → a ≡ b }
-    ensures clean { (o : RepairOptions) (image : Image) → IsAnswer o image (elected image) Outcome.Clean → IsConsistentImage broken_law image }
-    ensures consistent { (o : RepairOptions) (g : Geometry) (image : Image) → IsConsistent broken_law g image → turned_away o (volume_of g) image ≡ None → IsAnswer o image (elected image) Outcome.Clean }
-    ensures found { (o : RepairOptions) (image : Image) (found : Finding) (has : HasFinding broken_law image found) → turned_away o (volume_of has.geometry) image ≡ None → o.check ≡ true → IsAnswer o image (elected image) (Outcome.Damaged found) }
+    ensures one { (o : Asked) (image : Image) (a b : Outcome) → IsAnswer o image (elected image) a → IsAnswer o image (elected image) b → a ≡ b }
+    ensures clean { (o : Asked) (image : Image) → IsAnswer o image (elected image) Outcome.Clean → IsConsistentImage broken_law image }
+    ensures consistent { (o : Asked) (g : Geometry) (image : Image) → IsConsistent broken_law g image → turned_away o (volume_of g) image ≡ None → IsAnswer o image (elected image) Outcome.Clean }
+    ensures found { (o : Asked) (image : Image) (found : Finding) (has : HasFinding broken_law image found) → turned_away o (volume_of has.geometry) image ≡ None → o.check ≡ true → IsAnswer o image (elected image) (Outcome.Damaged found) }
 {}

@@ -15,7 +15,6 @@ mod faults;
 mod finding;
 mod laws;
 mod outcome;
-mod plan;
 mod refusals;
 mod repairing;
 

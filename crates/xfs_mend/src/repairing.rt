@@ -1,15 +1,20 @@
 //! The repair of a volume, so far of its backup superblocks alone.
 
-ghost use Rattle.std.specs.Prelude.{◌≡◌, ◌-◌, ◌≤◌, length, Ok, Some};
+ghost use Rattle.std.specs.Prelude.{◌≡◌, ◌-◌, ◌≤◌, ◌⊎◌, ℕ, false, true, length, Ok, Some};
 ghost use Rattle.std.specs.Option.{ForSome};
+ghost use Rattle.xfs_disk.specs.Blocks.{Image};
+ghost use Rattle.xfs_disk.specs.Reads.{OnlyReads};
 ghost use Rattle.xfs_geom.specs.Election.{elected};
 ghost use Rattle.xfs_geom.specs.Electing.{vote_of};
 ghost use Rattle.xfs_geom.specs.Volumes.{volume_of, stated_volume};
 ghost use Rattle.xfs_laws.specs.Lawful.{broken_law};
 ghost use Rattle.xfs_image.specs.Consistent.{finding};
+ghost use Rattle.xfs_writing.specs.Counting.{raised_times};
+ghost use Rattle.xfs_mend.specs.Asked.{Asked, asked_of};
 ghost use Rattle.xfs_mend.specs.Backups.{steps_from};
-ghost use Rattle.xfs_mend.specs.Due.{IsDue, IsOwed, due_found, due_volume, is_backup};
-ghost use Rattle.xfs_mend.specs.Outcome.{IsCaused, IsKept, Leaves, Writes};
+ghost use Rattle.xfs_mend.specs.Due.{CanCome, IsDue, IsOwed, due_found, due_volume, is_backup};
+ghost use Rattle.xfs_mend.specs.Ending.{Ends};
+ghost use Rattle.xfs_mend.specs.Outcome.{IsCaused, IsKept, Leaves, LeavesOf, StopsBy, StopsOf, blocks_told, is_quiet};
 ghost use Rattle.xfs_mend.specs.declared.outcome.Outcome.TheVariants.{Repaired};
 ghost use Rattle.xfs_mend.specs.declared.outcome.Summary.TheVariants.{Backups};
 
@@ -17,13 +22,13 @@ use crate::backups::plan_backups;
 use crate::faults::MendFault;
 use crate::finding::find_first;
 use crate::outcome::{Outcome, RepairOptions, Summary};
-use crate::plan::write_plan;
 use crate::refusals::{Admitted, admit};
 use std::alloc::Global;
 use std::thread::Threads;
 use xfs_disk::{Disk, Gate, Stamp};
 use xfs_geom::{ElectFault, Elected, Geometry, elect};
 use xfs_image::Finding;
+use xfs_writing::write_parts;
 
 /// Elects the geometry, and checks all that the volume says. With `check` nothing is written, and the first thing that is wrong
 /// is found. Else a volume in which nothing but backup superblocks is wrong is repaired: those that don't agree with the primary
@@ -38,13 +43,42 @@ pub fn repair<R: Threads + Sync, D: Disk, G: Gate>(
     _stamp: &Stamp,
     _gate: &G,
 ) -> Outcome
-    ensures due { ForSome (D.holds disk.old) (λ image. IsDue options.now image result) }
+    ensures due { ForSome (D.holds disk.old) (λ image. IsDue (asked_of options.now) image result) }
     ensures cause { IsCaused (D.faults disk.old) (D.faults disk.new) (D.write_faults disk.old) (D.write_faults disk.new) result }
     ensures leaves { ForSome (D.holds disk.old) (λ image. Leaves image (D.holds disk.new) result) }
     ensures kept { IsKept (D.tells_stops disk.old) (D.holds disk.new) (D.may_leave disk.new) result }
+    // just so many blocks were written as the outcome says: none after every outcome but a repair and a write fault
+    ensures counted { D.writes disk.new ≡ raised_times (blocks_told result) (D.writes disk.old) }
+    // after these outcomes the disk was only read
+    ensures only_read { is_quiet result ≡ true → OnlyReads D.size D.holds D.write_faults D.writes D.tells_stops D.moment D.may_leave D.left_since disk.old disk.new }
+    // where the image is only checked nothing is written, whatever the disk tells
+    ensures checked { options.now.check ≡ true → D.writes disk.new ≡ D.writes disk.old }
+    ensures possible { CanCome (asked_of options.now) result }
+    // a stop leaves what it might have left before, or, while the plan is written, old and planned blocks
+    ensures stops { D.tells_stops disk.old → ForSome (D.holds disk.old) (λ image.
+        (t : ℕ) (stopped : Image) → t ≤ D.moment disk.old → D.left_since disk.new t stopped → D.left_since disk.old t stopped ⊎ StopsBy image result stopped) }
     ensures size { D.size disk.new ≡ D.size disk.old }
     ensures faults { D.faults disk.old ≤ D.faults disk.new }
     ensures write_faults { D.write_faults disk.old ≤ D.write_faults disk.new }
+    ensures tells { D.tells_stops disk.old → D.tells_stops disk.new }
+    ensures later { D.tells_stops disk.old → D.moment disk.old ≤ D.moment disk.new }
+{
+    repair_disk(rt, alloc, disk, options)
+}
+
+/// The same. What is said of the disk beside its contents stands in one record, as in each part of a repair.
+fn repair_disk<R: Threads + Sync, D: Disk>(
+    rt: &R,
+    alloc: Global,
+    disk: &mut D,
+    options: &RepairOptions,
+) -> Outcome
+    ensures due { ForSome (D.holds disk.old) (λ image. IsDue (asked_of options.now) image result) }
+    ensures leaves { ForSome (D.holds disk.old) (λ image. Leaves image (D.holds disk.new) result) }
+    ensures stops { D.tells_stops disk.old → ForSome (D.holds disk.old) (λ image.
+        (t : ℕ) (stopped : Image) → t ≤ D.moment disk.old → D.left_since disk.new t stopped → D.left_since disk.old t stopped ⊎ StopsBy image result stopped) }
+    ensures possible { CanCome (asked_of options.now) result }
+    ensures ends { Ends D.size D.holds D.faults D.write_faults D.writes D.tells_stops D.moment D.may_leave D.left_since disk.old disk.new result }
 {
     let elected = match elect(alloc, disk) {
         Ok(elected) => elected,
@@ -71,13 +105,12 @@ fn repair_volume<R: Threads + Sync, D: Disk>(
     requires stated { volume_of chosen.now.geometry ≡ stated_volume chosen.now.sector }
     requires inside { chosen.now.geometry.dblocks ≤ D.size disk.old }
     requires elects { ForSome (D.holds disk.old) (λ image. elected image ≡ Ok (vote_of chosen.now)) }
-    ensures due { ForSome (D.holds disk.old) (λ image. IsOwed (due_volume options.now chosen.now.geometry image) result) }
-    ensures cause { IsCaused (D.faults disk.old) (D.faults disk.new) (D.write_faults disk.old) (D.write_faults disk.new) result }
+    ensures due { ForSome (D.holds disk.old) (λ image. IsOwed (due_volume (asked_of options.now) chosen.now.geometry image) result) }
     ensures leaves { ForSome (D.holds disk.old) (λ image. Leaves image (D.holds disk.new) result) }
-    ensures kept { IsKept (D.tells_stops disk.old) (D.holds disk.new) (D.may_leave disk.new) result }
-    ensures size { D.size disk.new ≡ D.size disk.old }
-    ensures faults { D.faults disk.old ≤ D.faults disk.new }
-    ensures write_faults { D.write_faults disk.old ≤ D.write_faults disk.new }
+    ensures stops { D.tells_stops disk.old → ForSome (D.holds disk.old) (λ image.
+        (t : ℕ) (stopped : Image) → t ≤ D.moment disk.old → D.left_since disk.new t stopped → D.left_since disk.old t stopped ⊎ StopsBy image result stopped) }
+    ensures possible { CanCome (asked_of options.now) result }
+    ensures ends { Ends D.size D.holds D.faults D.write_faults D.writes D.tells_stops D.moment D.may_leave D.left_since disk.old disk.new result }
 {
     let view = match admit(alloc, disk, options, &chosen.geometry) {
         Ok(Admitted::View(view)) => view,
@@ -115,13 +148,12 @@ fn settle<D: Disk>(
     requires inside { chosen.now.geometry.dblocks ≤ D.size disk.old }
     requires elects { ForSome (D.holds disk.old) (λ image. elected image ≡ Ok (vote_of chosen.now)) }
     requires found { ForSome (D.holds disk.old) (λ image. Some found ≡ finding broken_law chosen.now.geometry image) }
-    ensures due { ForSome (D.holds disk.old) (λ image. IsOwed (due_found options.now image (Some found)) result) }
-    ensures cause { IsCaused (D.faults disk.old) (D.faults disk.new) (D.write_faults disk.old) (D.write_faults disk.new) result }
+    ensures due { ForSome (D.holds disk.old) (λ image. IsOwed (due_found (asked_of options.now) image (Some found)) result) }
     ensures leaves { ForSome (D.holds disk.old) (λ image. Leaves image (D.holds disk.new) result) }
-    ensures kept { IsKept (D.tells_stops disk.old) (D.holds disk.new) (D.may_leave disk.new) result }
-    ensures size { D.size disk.new ≡ D.size disk.old }
-    ensures faults { D.faults disk.old ≤ D.faults disk.new }
-    ensures write_faults { D.write_faults disk.old ≤ D.write_faults disk.new }
+    ensures stops { D.tells_stops disk.old → ForSome (D.holds disk.old) (λ image.
+        (t : ℕ) (stopped : Image) → t ≤ D.moment disk.old → D.left_since disk.new t stopped → D.left_since disk.old t stopped ⊎ StopsBy image result stopped) }
+    ensures possible { CanCome (asked_of options.now) result }
+    ensures ends { Ends D.size D.holds D.faults D.write_faults D.writes D.tells_stops D.moment D.may_leave D.left_since disk.old disk.new result }
 {
     if options.check {
         return Outcome::Damaged(found);
@@ -151,13 +183,12 @@ fn repair_backups<D: Disk>(
     requires inside { geometry.now.dblocks ≤ D.size disk.old }
     ensures due { ForSome (D.holds disk.old) (λ image.
         IsOwed (Repaired (Backups (length (steps_from primary.now image 1 (geometry.now.agcount - 1))))) result) }
-    ensures cause { IsCaused (D.faults disk.old) (D.faults disk.new) (D.write_faults disk.old) (D.write_faults disk.new) result }
     ensures leaves { ForSome (D.holds disk.old) (λ image.
-        Writes (steps_from primary.now image 1 (geometry.now.agcount - 1)) image (D.holds disk.new) result) }
-    ensures kept { IsKept (D.tells_stops disk.old) (D.holds disk.new) (D.may_leave disk.new) result }
-    ensures size { D.size disk.new ≡ D.size disk.old }
-    ensures faults { D.faults disk.old ≤ D.faults disk.new }
-    ensures write_faults { D.write_faults disk.old ≤ D.write_faults disk.new }
+        LeavesOf (steps_from primary.now image 1 (geometry.now.agcount - 1)) image (D.holds disk.new) result) }
+    ensures stops { D.tells_stops disk.old → ForSome (D.holds disk.old) (λ image.
+        (t : ℕ) (stopped : Image) → t ≤ D.moment disk.old → D.left_since disk.new t stopped → D.left_since disk.old t stopped ⊎ StopsOf (steps_from primary.now image 1 (geometry.now.agcount - 1)) image result stopped) }
+    ensures possible { (o : Asked) → o.check ≡ false → CanCome o result }
+    ensures ends { Ends D.size D.holds D.faults D.write_faults D.writes D.tells_stops D.moment D.may_leave D.left_since disk.old disk.new result }
 {
     let plan = match plan_backups(alloc, disk, geometry, primary) {
         Ok(plan) => plan,
@@ -166,9 +197,9 @@ fn repair_backups<D: Disk>(
         },
         Err(MendFault::NoMemory) => return Outcome::NoMemory,
     };
-    match write_plan(disk, &plan) {
+    match write_parts(disk, &plan.bank, &[], plan.rows.as_slice()) {
         Ok(()) => Outcome::Repaired(Summary::Backups {
-            count: plan.len() as u64,
+            count: plan.rows.len() as u64,
         }),
         Err(written) => Outcome::WriteFault { written },
     }

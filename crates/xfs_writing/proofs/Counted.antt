@@ -5,17 +5,14 @@ use Rattle.xfs_writing.specs.Counting.{raised_times}
 
 -- not raised
 pub raised_none : (count : ℕ) → raised_times 0 count ≡ count
-unfolding raised_times
 raised_none count = refl
 
 -- once more
 pub raised_once : (n count : ℕ) → raised_times (n + 1) count ≡ raised (raised_times n count)
-unfolding raised_times
 raised_once n count = let step : n + 1 ≡ suc n = omega arith in ap (λ (k : ℕ). raised_times k count) step
 
 -- so many times, and then so many times more
 pub raised_further : (n m count : ℕ) → raised_times m (raised_times n count) ≡ raised_times (n + m) count
-unfolding raised_times
 raised_further n zero count = let none : n ≡ n + 0 = omega arith in ap (λ (k : ℕ). raised_times k count) none
 raised_further n (suc m) count =
     let step : suc (n + m) ≡ n + suc m = omega arith in
@@ -23,6 +20,5 @@ raised_further n (suc m) count =
 
 -- where the count stands within its type it is one more for each time, or stands at the end
 pub raised_in_all : (n count : ℕ) → count < 2 ^ 64 → raised_times n count ≡ raised_by n count
-unfolding raised_times
 raised_in_all zero count fits = omega arith
 raised_in_all (suc n) count fits = ap raised (raised_in_all n count fits) ∙ omega arith

@@ -3,7 +3,7 @@ use Rattle.std.specs.Prelude.{◌≡◌, ℕ, zero, suc, Result, Ok, Err}
 use Rattle.xfs_disk.specs.Counts.{raised}
 
 -- a count that was raised so many times
-unfoldable pub raised_times : ℕ → ℕ → ℕ
+abbrev pub raised_times : ℕ → ℕ → ℕ
 raised_times zero count = count
 raised_times (suc n) count = raised (raised_times n count)
 

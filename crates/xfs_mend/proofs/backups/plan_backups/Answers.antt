@@ -1,23 +1,50 @@
-use Rattle.std.proofs.Common.{rules, ℕ, ◌<◌, List, All, option_to_list, ◌∙◌, subst}
-use Rattle.std.proofs.lemmas.List.Elements.{All-append}
-use Rattle.xfs_mend.proofs.Planning.{next_steps}
+-- The rows and their bank are the plan.
+use Rattle.std.proofs.Common.{◌≡◌, ℕ, ◌<◌, ◌-◌, ◌∙◌, ap, sym, subst, List, length, map, All, arith}
+use Rattle.xfs_disk.proofs.Reading.{reads_on}
+use Rattle.xfs_writing.specs.Writing.{rows_from, writes_of}
+use Rattle.xfs_writing.specs.declared.rows.Row.{Row}
+use Rattle.xfs_writing.proofs.RowSteps.{rows_at, rows_below}
+use Rattle.xfs_mend.proofs.Rows.{filled_all, filled_count, rows_steps}
+use Rattle.xfs_mend.specs.Backups.{with_super}
 use Rattle.xfs_mend.proofs.backups.plan_backups.Goals as goal
 
-pub loop-group-preserved : goal.loop-group-preserved
-loop-group-preserved g c =
-    record {
-      plan =
-          λ image told.
-          next_steps c.args.primary.now image c.loop-group.group c.args.geometry.now.agcount c.loop-group.plan.items c.push_step.new.plan.items
-          (option_to_list c.in-Ok.step) _ c.loop-group-test.true (c.in-Ok.ensures.step image (c.loop-group.invariant.holds ∙ told))
-          c.in-Ok-push_step.ensures (c.loop-group.invariant.plan image told);
-      inside =
-          let held : All (λ (p : ℕ × List ℕ). p.0 < g.D.Disk.size c.args.disk.now) (option_to_list c.in-Ok.step) =
-          subst (λ (n : ℕ). All (λ (p : ℕ × List ℕ). p.0 < n) (option_to_list c.in-Ok.step)) c.loop-group.invariant.size c.in-Ok.ensures.inside in
-          rw c.in-Ok-push_step.ensures (All-append (λ (p : ℕ × List ℕ). p.0 < g.D.Disk.size c.args.disk.now) _ _ c.loop-group.invariant.inside held);
-      size = search rules;
-      holds = search rules;
-      later = search rules;
-      write_faults = search rules;
-      tells = search rules;
-    }
+pub returns-in-Ok-rows_of-clause-plan : goal.returns-in-Ok-rows_of-clause-plan
+returns-in-Ok-rows_of-clause-plan g c = λ image told.
+    let primary = c.args.primary.now in
+    let places = c.in-Ok.places.items in
+    let count : c.len.result ≡ length places = omega (arith, c.len.ensures, c.in-Ok.places.ok.0) in
+    let blocks = filled_all places c.as_slice.result.now c.in-Ok-make.bank c.fill.new.self image c.len.result _ c.as_slice.ensures.value count c.in-Ok-make.ensures
+    c.in-Ok-fill.ensures.len (c.in-Ok-fill.ensures.filled.first image (c.in-Ok.ensures.disk.same_contents ∙ told)) in
+    let rows : c.in-Ok-rows_of.rows.items ≡ rows_from 0 places = c.in-Ok-rows_of.ensures ∙ ap (rows_from 0) c.as_slice-2.ensures.value in
+    ap (writes_of c.put_primary.new.bank) rows
+    ∙ rows_steps primary image c.put_primary.new.bank places (c.args.geometry.now.agcount - 1) (c.in-Ok.ensures.places image told)
+    (c.put_primary.ensures ∙ ap (map (with_super primary)) blocks)
+
+pub returns-in-Ok-rows_of-clause-places : goal.returns-in-Ok-rows_of-clause-places
+returns-in-Ok-rows_of-clause-places g c =
+    let places = c.in-Ok.places.items in
+    let rows : c.in-Ok-rows_of.rows.items ≡ rows_from 0 places = c.in-Ok-rows_of.ensures ∙ ap (rows_from 0) c.as_slice-2.ensures.value in
+    subst (λ (rs : List Row). All (λ (r : Row). r.at < g.D.Disk.size c.args.disk.now) rs) (sym rows)
+    (rows_at (λ (p : ℕ). p < g.D.Disk.size c.args.disk.now) places 0 c.in-Ok.ensures.inside)
+
+pub returns-in-Ok-rows_of-clause-inside : goal.returns-in-Ok-rows_of-clause-inside
+returns-in-Ok-rows_of-clause-inside g c =
+    let places = c.in-Ok.places.items in
+    let count : c.len.result ≡ length places = omega (arith, c.len.ensures, c.in-Ok.places.ok.0) in
+    let rows : c.in-Ok-rows_of.rows.items ≡ rows_from 0 places = c.in-Ok-rows_of.ensures ∙ ap (rows_from 0) c.as_slice-2.ensures.value in
+    let few = filled_count places c.in-Ok-make.bank c.fill.new.self c.put_primary.new.bank (with_super c.args.primary.now) c.len.result _ count c.in-Ok-make.ensures
+    c.in-Ok-fill.ensures.len c.put_primary.ensures in
+    subst (λ (rs : List Row). All (λ (r : Row). r.index < length c.put_primary.new.bank) rs) (sym rows)
+    (rows_below places 0 (length c.put_primary.new.bank) (omega (arith, few)))
+
+pub returns-in-Ok-rows_of-clause-disk : goal.returns-in-Ok-rows_of-clause-disk
+returns-in-Ok-rows_of-clause-disk g c =
+    let D = g.D.Disk in
+    reads_on D.size D.holds D.write_faults D.writes D.tells_stops D.moment D.may_leave D.left_since c.args.disk.now c.list_places.new.disk c.fill.new.disk
+    c.in-Ok.ensures.disk c.in-Ok-fill.ensures.disk
+
+pub returns-clause-disk : goal.returns-clause-disk
+returns-clause-disk g c =
+    let D = g.D.Disk in
+    reads_on D.size D.holds D.write_faults D.writes D.tells_stops D.moment D.may_leave D.left_since c.args.disk.now c.list_places.new.disk c.fill.new.disk
+    c.in-Ok.ensures.disk c.in-Ok-fill.ensures.disk

@@ -1,16 +1,25 @@
-use Rattle.std.proofs.Common.{rules, ◌∙◌}
-use Rattle.xfs_geom.specs.Electing.{vote_of}
-use Rattle.xfs_mend.proofs.Deciding.{due_by, is_elected}
+-- What the parts say, clause by clause.
+use Rattle.xfs_mend.proofs.Ending.{check_quiet}
+use Rattle.xfs_mend.specs.Asked.{asked_of}
 use Rattle.xfs_mend.proofs.repairing.repair.Goals as goal
 
-pub returns-clause-due : goal.returns-clause-due
-returns-clause-due g c =
-    λ image told.
-    let vote = vote_of c.in-Ok.elected in
-    let geometry = c.in-Ok.elected.geometry in
-    let elects = c.in-Ok.ensures.due image told in
-    due_by c.args.options.now geometry image vote c.repair_volume.result elects (is_elected geometry image vote elects c.in-Ok.ensures.states)
-    (c.repair_volume.ensures.due image (c.in-Ok.ensures.holds ∙ told))
-
-pub returns-in-Err-NoGeometry-clause-cause : goal.returns-in-Err-NoGeometry-clause-cause
-returns-in-Err-NoGeometry-clause-cause g c = search rules
+pub returns : goal.returns
+returns g c =
+    let part = c.repair_disk.ensures in
+    let ends = part.ends in
+    record {
+      due = part.due;
+      cause = ends.cause;
+      leaves = part.leaves;
+      kept = ends.kept;
+      counted = ends.counted;
+      only_read = ends.only_read;
+      checked = λ checks. let disk = ends.only_read (check_quiet (asked_of c.args.options.now) c.repair_disk.result checks part.possible) in disk.same_writes;
+      possible = part.possible;
+      stops = part.stops;
+      size = ends.same_size;
+      faults = ends.more_faults;
+      write_faults = ends.more_write_faults;
+      tells = ends.tells;
+      later = ends.later;
+    }

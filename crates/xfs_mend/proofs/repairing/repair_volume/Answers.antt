@@ -1,97 +1,174 @@
-use Rattle.std.proofs.Common.{rules, ◌≡◌, Some, None, sym, ◌∙◌, subst, arith}
+-- What is refused, what is found, and what comes of it.
+use Rattle.std.proofs.Common.{rules, ◌≡◌, ◌≤◌, Some, None, refl, sym, ◌∙◌, subst, arith}
+use Rattle.xfs_disk.proofs.Reading.{reads_on}
 use Rattle.xfs_laws.specs.Lawful.{broken_law}
 use Rattle.xfs_image.specs.Consistent.{finding}
-use Rattle.xfs_mend.proofs.Accepted.{kept_before, owed_as}
+use Rattle.xfs_mend.proofs.Accepted.{owed_as}
 use Rattle.xfs_mend.proofs.Deciding.{admitted_stays, due_away, due_seen}
+use Rattle.xfs_mend.proofs.Ending.{ends_behind, ends_read, stops_behind, stops_read}
+use Rattle.xfs_mend.specs.Asked.{asked_of}
+use Rattle.xfs_mend.specs.Outcome.{StopsBy}
 use Rattle.xfs_mend.specs.Refusing.{IsAdmission}
 use Rattle.xfs_mend.specs.declared.outcome.Outcome.TheVariants as out
 use Rattle.xfs_mend.specs.declared.refusals.Admitted.{Admitted}
 use Rattle.xfs_mend.specs.declared.refusals.Admitted.TheVariants.{View, DirtyLog, TooLarge, UnsupportedFile}
 use Rattle.xfs_mend.proofs.repairing.repair_volume.Goals as goal
 
-pub returns-in-Ok-Some-clause-due : goal.returns-in-Ok-Some-clause-due
-returns-in-Ok-Some-clause-due g c =
-    λ image told.
-    let geometry = c.args.chosen.now.geometry in
-    let later = c.in-Ok-View.ensures.disk.same_contents ∙ told in
-    let given : c.in-Ok-View.field-0 ≡ View c.in-Ok-View.view = search rules in
-    let stays = admitted_stays c.args.options.now geometry image c.in-Ok-View.field-0 c.in-Ok-View.view given (c.in-Ok-View.ensures.admitted image told) in
-    let is : c.in-Ok-Some.field-0 ≡ Some c.in-Ok-Some.found = search rules in
-    let found : Some c.in-Ok-Some.found ≡ finding broken_law geometry image = sym is ∙ c.in-Ok-Some.ensures.found image later in
-    owed_as _ _ c.settle.result
-    (due_seen c.args.options.now geometry image (Some c.in-Ok-Some.found) stays found)
-    (c.settle.ensures.due image (c.in-Ok-Some.ensures.disk.same_contents ∙ later))
-
-pub returns-in-Ok-Some-clause-kept : goal.returns-in-Ok-Some-clause-kept
-returns-in-Ok-Some-clause-kept g c =
-    kept_before _ _ _ _ c.settle.result (λ told. c.in-Ok-Some.ensures.disk.tells (c.in-Ok-View.ensures.disk.tells told)) c.settle.ensures.kept
-
-pub returns-in-Ok-None : goal.returns-in-Ok-None
-returns-in-Ok-None g c =
-    let geometry = c.args.chosen.now.geometry in
-    let seen = c.in-Ok-View.ensures.disk in
-    let looked = c.in-Ok-None.ensures.disk in
-    record {
-      due = λ image told.
-          let given : c.in-Ok-View.field-0 ≡ View c.in-Ok-View.view = search rules in
-          let stays = admitted_stays c.args.options.now geometry image c.in-Ok-View.field-0 c.in-Ok-View.view given (c.in-Ok-View.ensures.admitted image told) in
-          let is : c.in-Ok-None.field-0 ≡ None = search rules in
-          due_seen c.args.options.now geometry image None stays (sym is ∙ c.in-Ok-None.ensures.found image (seen.same_contents ∙ told));
-      cause = tt;
-      leaves = λ image told. looked.same_contents ∙ (seen.same_contents ∙ told);
-      kept = tt;
-      size = looked.same_size ∙ seen.same_size;
-      faults = omega (arith, c.in-Ok-View.ensures.cause, c.in-Ok-None.ensures.cause);
-      write_faults = omega (arith, seen.same_write_faults, looked.same_write_faults);
-    }
-
 pub returns-in-Ok-DirtyLog : goal.returns-in-Ok-DirtyLog
 returns-in-Ok-DirtyLog g c =
-    let o = c.args.options.now in
-    let geometry = c.args.chosen.now.geometry in
-    let seen = c.in-Ok-DirtyLog.ensures.disk in
+    let D = g.D.Disk in
+    let disk = c.in-Ok-DirtyLog.ensures.disk in
+    let up : D.faults c.args.disk.now ≤ D.faults c.admit.new.disk = c.in-Ok-DirtyLog.ensures.cause in
     record {
       due = λ image told.
           let given : c.in-Ok-DirtyLog.field-0 ≡ DirtyLog = search rules in
-          due_away o geometry image out.DirtyLog (subst (λ (x : Admitted). IsAdmission o geometry image x) given (c.in-Ok-DirtyLog.ensures.admitted image told));
-      cause = tt;
-      leaves = λ image told. seen.same_contents ∙ told;
-      kept = tt;
-      size = seen.same_size;
-      faults = c.in-Ok-DirtyLog.ensures.cause;
-      write_faults = omega (arith, seen.same_write_faults);
+          due_away (asked_of c.args.options.now) c.args.chosen.now.geometry image out.DirtyLog
+          (subst (λ (x : Admitted). IsAdmission (asked_of c.args.options.now) c.args.chosen.now.geometry image x) given (c.in-Ok-DirtyLog.ensures.admitted image told));
+      leaves = λ image told. disk.same_contents ∙ told;
+      stops = λ tells image told t stopped low left.
+          stops_read D.size D.holds D.faults D.write_faults D.writes D.tells_stops D.moment D.may_leave D.left_since c.args.disk.now c.admit.new.disk t stopped (StopsBy image out.DirtyLog stopped) disk tells low left;
+      possible = tt;
+      ends = ends_read D.size D.holds D.faults D.write_faults D.writes D.tells_stops D.moment D.may_leave D.left_since c.args.disk.now c.admit.new.disk out.DirtyLog disk up refl tt;
     }
 
 pub returns-in-Ok-TooLarge : goal.returns-in-Ok-TooLarge
 returns-in-Ok-TooLarge g c =
-    let o = c.args.options.now in
-    let geometry = c.args.chosen.now.geometry in
-    let seen = c.in-Ok-TooLarge.ensures.disk in
+    let D = g.D.Disk in
+    let disk = c.in-Ok-TooLarge.ensures.disk in
+    let up : D.faults c.args.disk.now ≤ D.faults c.admit.new.disk = c.in-Ok-TooLarge.ensures.cause in
     record {
       due = λ image told.
           let given : c.in-Ok-TooLarge.field-0 ≡ TooLarge c.in-Ok-TooLarge.what c.in-Ok-TooLarge.count = search rules in
-          due_away o geometry image (out.TooLarge c.in-Ok-TooLarge.what c.in-Ok-TooLarge.count) (subst (λ (x : Admitted). IsAdmission o geometry image x) given (c.in-Ok-TooLarge.ensures.admitted image told));
-      cause = tt;
-      leaves = λ image told. seen.same_contents ∙ told;
-      kept = tt;
-      size = seen.same_size;
-      faults = c.in-Ok-TooLarge.ensures.cause;
-      write_faults = omega (arith, seen.same_write_faults);
+          due_away (asked_of c.args.options.now) c.args.chosen.now.geometry image (out.TooLarge c.in-Ok-TooLarge.what c.in-Ok-TooLarge.count)
+          (subst (λ (x : Admitted). IsAdmission (asked_of c.args.options.now) c.args.chosen.now.geometry image x) given (c.in-Ok-TooLarge.ensures.admitted image told));
+      leaves = λ image told. disk.same_contents ∙ told;
+      stops = λ tells image told t stopped low left.
+          stops_read D.size D.holds D.faults D.write_faults D.writes D.tells_stops D.moment D.may_leave D.left_since c.args.disk.now c.admit.new.disk t stopped (StopsBy image (out.TooLarge c.in-Ok-TooLarge.what c.in-Ok-TooLarge.count) stopped) disk tells low left;
+      possible = tt;
+      ends = ends_read D.size D.holds D.faults D.write_faults D.writes D.tells_stops D.moment D.may_leave D.left_since c.args.disk.now c.admit.new.disk (out.TooLarge c.in-Ok-TooLarge.what c.in-Ok-TooLarge.count) disk up refl tt;
     }
 
 pub returns-in-Ok-UnsupportedFile : goal.returns-in-Ok-UnsupportedFile
 returns-in-Ok-UnsupportedFile g c =
-    let o = c.args.options.now in
-    let geometry = c.args.chosen.now.geometry in
-    let seen = c.in-Ok-UnsupportedFile.ensures.disk in
+    let D = g.D.Disk in
+    let disk = c.in-Ok-UnsupportedFile.ensures.disk in
+    let up : D.faults c.args.disk.now ≤ D.faults c.admit.new.disk = c.in-Ok-UnsupportedFile.ensures.cause in
     record {
       due = λ image told.
           let given : c.in-Ok-UnsupportedFile.field-0 ≡ UnsupportedFile c.in-Ok-UnsupportedFile.ino c.in-Ok-UnsupportedFile.what = search rules in
-          due_away o geometry image (out.UnsupportedFile c.in-Ok-UnsupportedFile.ino c.in-Ok-UnsupportedFile.what) (subst (λ (x : Admitted). IsAdmission o geometry image x) given (c.in-Ok-UnsupportedFile.ensures.admitted image told));
-      cause = tt;
-      leaves = λ image told. seen.same_contents ∙ told;
-      kept = tt;
-      size = seen.same_size;
-      faults = c.in-Ok-UnsupportedFile.ensures.cause;
-      write_faults = omega (arith, seen.same_write_faults);
+          due_away (asked_of c.args.options.now) c.args.chosen.now.geometry image (out.UnsupportedFile c.in-Ok-UnsupportedFile.ino c.in-Ok-UnsupportedFile.what)
+          (subst (λ (x : Admitted). IsAdmission (asked_of c.args.options.now) c.args.chosen.now.geometry image x) given (c.in-Ok-UnsupportedFile.ensures.admitted image told));
+      leaves = λ image told. disk.same_contents ∙ told;
+      stops = λ tells image told t stopped low left.
+          stops_read D.size D.holds D.faults D.write_faults D.writes D.tells_stops D.moment D.may_leave D.left_since c.args.disk.now c.admit.new.disk t stopped (StopsBy image (out.UnsupportedFile c.in-Ok-UnsupportedFile.ino c.in-Ok-UnsupportedFile.what) stopped) disk tells low left;
+      possible = tt;
+      ends = ends_read D.size D.holds D.faults D.write_faults D.writes D.tells_stops D.moment D.may_leave D.left_since c.args.disk.now c.admit.new.disk (out.UnsupportedFile c.in-Ok-UnsupportedFile.ino c.in-Ok-UnsupportedFile.what) disk up refl tt;
     }
+
+pub returns-in-Err-ReadFault-clause-leaves : goal.returns-in-Err-ReadFault-clause-leaves
+returns-in-Err-ReadFault-clause-leaves g c = λ image told. let D = g.D.Disk in let disk = c.in-Err-ReadFault.ensures.disk in disk.same_contents ∙ told
+
+pub returns-in-Err-ReadFault-clause-stops : goal.returns-in-Err-ReadFault-clause-stops
+returns-in-Err-ReadFault-clause-stops g c = λ tells image told t stopped low left.
+    let D = g.D.Disk in
+    let disk = c.in-Err-ReadFault.ensures.disk in
+    stops_read D.size D.holds D.faults D.write_faults D.writes D.tells_stops D.moment D.may_leave D.left_since c.args.disk.now c.admit.new.disk t stopped _ disk tells low left
+
+pub returns-in-Err-ReadFault-clause-ends : goal.returns-in-Err-ReadFault-clause-ends
+returns-in-Err-ReadFault-clause-ends g c =
+    let D = g.D.Disk in
+    let disk = c.in-Err-ReadFault.ensures.disk in
+    let up : D.faults c.args.disk.now ≤ D.faults c.admit.new.disk = search rules in
+    ends_read D.size D.holds D.faults D.write_faults D.writes D.tells_stops D.moment D.may_leave D.left_since c.args.disk.now c.admit.new.disk _ disk up refl (search rules)
+
+pub returns-in-Err-NoMemory-clause-leaves : goal.returns-in-Err-NoMemory-clause-leaves
+returns-in-Err-NoMemory-clause-leaves g c = λ image told. let D = g.D.Disk in let disk = c.in-Err-NoMemory.ensures.disk in disk.same_contents ∙ told
+
+pub returns-in-Err-NoMemory-clause-stops : goal.returns-in-Err-NoMemory-clause-stops
+returns-in-Err-NoMemory-clause-stops g c = λ tells image told t stopped low left.
+    let D = g.D.Disk in
+    let disk = c.in-Err-NoMemory.ensures.disk in
+    stops_read D.size D.holds D.faults D.write_faults D.writes D.tells_stops D.moment D.may_leave D.left_since c.args.disk.now c.admit.new.disk t stopped _ disk tells low left
+
+pub returns-in-Err-NoMemory-clause-ends : goal.returns-in-Err-NoMemory-clause-ends
+returns-in-Err-NoMemory-clause-ends g c =
+    let D = g.D.Disk in
+    let disk = c.in-Err-NoMemory.ensures.disk in
+    let up : D.faults c.args.disk.now ≤ D.faults c.admit.new.disk = search rules in
+    ends_read D.size D.holds D.faults D.write_faults D.writes D.tells_stops D.moment D.may_leave D.left_since c.args.disk.now c.admit.new.disk out.NoMemory disk up refl tt
+
+pub returns-in-Ok-Some : goal.returns-in-Ok-Some
+returns-in-Ok-Some g c =
+    let D = g.D.Disk in
+    let o = asked_of c.args.options.now in
+    let geometry = c.args.chosen.now.geometry in
+    let disk = reads_on D.size D.holds D.write_faults D.writes D.tells_stops D.moment D.may_leave D.left_since c.args.disk.now c.admit.new.disk c.find_first.new.disk c.in-Ok-View.ensures.disk c.in-Ok-Some.ensures.disk in
+    let up : D.faults c.args.disk.now ≤ D.faults c.find_first.new.disk = omega (arith, c.in-Ok-View.ensures.cause, c.in-Ok-Some.ensures.cause) in
+    let later = c.settle.ensures in
+    record {
+      due = λ image told.
+          let seen = c.in-Ok-View.ensures.disk.same_contents ∙ told in
+          let given : c.in-Ok-View.field-0 ≡ View c.in-Ok-View.view = search rules in
+          let stays = admitted_stays o geometry image c.in-Ok-View.field-0 c.in-Ok-View.view given (c.in-Ok-View.ensures.admitted image told) in
+          let is : c.in-Ok-Some.field-0 ≡ Some c.in-Ok-Some.found = search rules in
+          let found : Some c.in-Ok-Some.found ≡ finding broken_law geometry image = sym is ∙ c.in-Ok-Some.ensures.found image seen in
+          owed_as _ _ c.settle.result (due_seen o geometry image (Some c.in-Ok-Some.found) stays found) (later.due image (disk.same_contents ∙ told));
+      leaves = λ image told. later.leaves image (disk.same_contents ∙ told);
+      stops = λ tells image told t stopped low left.
+          stops_behind D.size D.holds D.faults D.write_faults D.writes D.tells_stops D.moment D.may_leave D.left_since c.args.disk.now c.find_first.new.disk c.settle.new.disk t stopped (StopsBy image c.settle.result stopped) disk tells low
+          (later.stops (disk.tells tells) image (disk.same_contents ∙ told) t stopped) left;
+      possible = later.possible;
+      ends = ends_behind D.size D.holds D.faults D.write_faults D.writes D.tells_stops D.moment D.may_leave D.left_since c.args.disk.now c.find_first.new.disk c.settle.new.disk c.settle.result disk up later.ends;
+    }
+
+pub returns-in-Ok-None : goal.returns-in-Ok-None
+returns-in-Ok-None g c =
+    let D = g.D.Disk in
+    let disk = reads_on D.size D.holds D.write_faults D.writes D.tells_stops D.moment D.may_leave D.left_since c.args.disk.now c.admit.new.disk c.find_first.new.disk c.in-Ok-View.ensures.disk c.in-Ok-None.ensures.disk in
+    let up : D.faults c.args.disk.now ≤ D.faults c.find_first.new.disk = omega (arith, c.in-Ok-View.ensures.cause, c.in-Ok-None.ensures.cause) in
+    record {
+      due = λ image told.
+          let o = asked_of c.args.options.now in
+          let geometry = c.args.chosen.now.geometry in
+          let given : c.in-Ok-View.field-0 ≡ View c.in-Ok-View.view = search rules in
+          let stays = admitted_stays o geometry image c.in-Ok-View.field-0 c.in-Ok-View.view given (c.in-Ok-View.ensures.admitted image told) in
+          let is : c.in-Ok-None.field-0 ≡ None = search rules in
+          due_seen o geometry image None stays (sym is ∙ c.in-Ok-None.ensures.found image (c.in-Ok-View.ensures.disk.same_contents ∙ told));
+      leaves = λ image told. disk.same_contents ∙ told;
+      stops = λ tells image told t stopped low left.
+          stops_read D.size D.holds D.faults D.write_faults D.writes D.tells_stops D.moment D.may_leave D.left_since c.args.disk.now c.find_first.new.disk t stopped (StopsBy image out.Clean stopped) disk tells low left;
+      possible = tt;
+      ends = ends_read D.size D.holds D.faults D.write_faults D.writes D.tells_stops D.moment D.may_leave D.left_since c.args.disk.now c.find_first.new.disk out.Clean disk up refl tt;
+    }
+
+pub returns-in-Err-ReadFault-find_first-clause-leaves : goal.returns-in-Err-ReadFault-find_first-clause-leaves
+returns-in-Err-ReadFault-find_first-clause-leaves g c = λ image told. let D = g.D.Disk in let disk = reads_on D.size D.holds D.write_faults D.writes D.tells_stops D.moment D.may_leave D.left_since c.args.disk.now c.admit.new.disk c.find_first.new.disk c.in-Ok-View.ensures.disk c.in-Err-ReadFault-find_first.ensures.disk in disk.same_contents ∙ told
+
+pub returns-in-Err-ReadFault-find_first-clause-stops : goal.returns-in-Err-ReadFault-find_first-clause-stops
+returns-in-Err-ReadFault-find_first-clause-stops g c = λ tells image told t stopped low left.
+    let D = g.D.Disk in
+    let disk = reads_on D.size D.holds D.write_faults D.writes D.tells_stops D.moment D.may_leave D.left_since c.args.disk.now c.admit.new.disk c.find_first.new.disk c.in-Ok-View.ensures.disk c.in-Err-ReadFault-find_first.ensures.disk in
+    stops_read D.size D.holds D.faults D.write_faults D.writes D.tells_stops D.moment D.may_leave D.left_since c.args.disk.now c.find_first.new.disk t stopped _ disk tells low left
+
+pub returns-in-Err-ReadFault-find_first-clause-ends : goal.returns-in-Err-ReadFault-find_first-clause-ends
+returns-in-Err-ReadFault-find_first-clause-ends g c =
+    let D = g.D.Disk in
+    let disk = reads_on D.size D.holds D.write_faults D.writes D.tells_stops D.moment D.may_leave D.left_since c.args.disk.now c.admit.new.disk c.find_first.new.disk c.in-Ok-View.ensures.disk c.in-Err-ReadFault-find_first.ensures.disk in
+    let up : D.faults c.args.disk.now ≤ D.faults c.find_first.new.disk = search rules in
+    ends_read D.size D.holds D.faults D.write_faults D.writes D.tells_stops D.moment D.may_leave D.left_since c.args.disk.now c.find_first.new.disk _ disk up refl (search rules)
+
+pub returns-clause-leaves : goal.returns-clause-leaves
+returns-clause-leaves g c = λ image told. let D = g.D.Disk in let disk = reads_on D.size D.holds D.write_faults D.writes D.tells_stops D.moment D.may_leave D.left_since c.args.disk.now c.admit.new.disk c.find_first.new.disk c.in-Ok-View.ensures.disk c.in-Err-NoMemory-find_first.ensures.disk in disk.same_contents ∙ told
+
+pub returns-clause-stops : goal.returns-clause-stops
+returns-clause-stops g c = λ tells image told t stopped low left.
+    let D = g.D.Disk in
+    let disk = reads_on D.size D.holds D.write_faults D.writes D.tells_stops D.moment D.may_leave D.left_since c.args.disk.now c.admit.new.disk c.find_first.new.disk c.in-Ok-View.ensures.disk c.in-Err-NoMemory-find_first.ensures.disk in
+    stops_read D.size D.holds D.faults D.write_faults D.writes D.tells_stops D.moment D.may_leave D.left_since c.args.disk.now c.find_first.new.disk t stopped _ disk tells low left
+
+pub returns-clause-ends : goal.returns-clause-ends
+returns-clause-ends g c =
+    let D = g.D.Disk in
+    let disk = reads_on D.size D.holds D.write_faults D.writes D.tells_stops D.moment D.may_leave D.left_since c.args.disk.now c.admit.new.disk c.find_first.new.disk c.in-Ok-View.ensures.disk c.in-Err-NoMemory-find_first.ensures.disk in
+    let up : D.faults c.args.disk.now ≤ D.faults c.find_first.new.disk = search rules in
+    ends_read D.size D.holds D.faults D.write_faults D.writes D.tells_stops D.moment D.may_leave D.left_since c.args.disk.now c.find_first.new.disk out.NoMemory disk up refl tt
