@@ -88,6 +88,14 @@ candidate_placed g image c is =
       is = omega (arith, block, at, by_four);
     }
 
+pub candidate_is : (g : Geometry) (image : Image) (c : ClusterRec) → Member c (candidates (volume_of g) image) → is_candidate (volume_of g) image c.block ≡ true
+unfolding candidates
+candidate_is g image c is =
+    let v : Volume = volume_of g in
+    let of = map_member (cluster_rec v image) c (filter (is_candidate v image) (all_places v)) is in
+    let among = filter_member (is_candidate v image) of.0 (all_places v) of.1 in
+    ap (λ (x : ClusterRec). is_candidate v image x.block) (sym of.2) ∙ among.1
+
 place_member : (g : Geometry) (cluster : ℕ) → IsPlaced g cluster → Member cluster (all_places (volume_of g))
 place_member g cluster at =
     let v : Volume = volume_of g in

@@ -15,3 +15,4 @@ pub mod Lawful
 pub mod Held
 pub mod Owners
 pub mod Trusted
+pub mod Known

@@ -129,7 +129,7 @@ module _ (g : Geometry) (image : Image) (groups : List GroupRec) (files : List F
       from_number g image groups files b r.offset view good.offset due
 
   -- a cluster that the tree of owners names is one of the chunks of its group
-  given_chunk : (n x : ℕ) (h : HasGroup g image 0 groups n) → n < g.agcount → Member x (given_clusters (volume_of g) n h.group.rmap) → Member x (chunk_clusters (volume_of g) n h.group.ino)
+  pub given_chunk : (n x : ℕ) (h : HasGroup g image 0 groups n) → n < g.agcount → Member x (given_clusters (volume_of g) n h.group.rmap) → Member x (chunk_clusters (volume_of g) n h.group.ino)
   given_chunk n x h few is =
       let test : ℕ → Bool = λ place. list_all (is_given h.group.rmap) (range_with_len place 4) in
       let of = map_member (λ place. head_block (volume_of g) n + place) x (filter test (places_in (volume_of g) n)) is in
@@ -160,7 +160,7 @@ module _ (g : Geometry) (image : Image) (groups : List GroupRec) (files : List F
       h.clusters_back x (subst (λ (k : ℕ). Member k (clusters_from (volume_of g) 0 groups)) same found.is) group
 
   -- a block of a cluster of chunks is given to the clusters
-  chunk_given : (n x p : ℕ) (h : HasGroup g image 0 groups n) → n < g.agcount → Member x (chunk_clusters (volume_of g) n h.group.ino) → is_of_cluster x (n * g.agblocks + p) ≡ true → p < group_length (volume_of g) n
+  pub chunk_given : (n x p : ℕ) (h : HasGroup g image 0 groups n) → n < g.agcount → Member x (chunk_clusters (volume_of g) n h.group.ino) → is_of_cluster x (n * g.agblocks + p) ≡ true → p < group_length (volume_of g) n
       → is_given h.group.rmap p ≡ true
   chunk_given n x p h few is on inside =
       let base : ℕ = n * g.agblocks in
