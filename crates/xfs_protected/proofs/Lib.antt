@@ -16,3 +16,4 @@ pub mod Held
 pub mod Owners
 pub mod Trusted
 pub mod Known
+pub mod Sealed
