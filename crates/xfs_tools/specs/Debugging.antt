@@ -49,8 +49,8 @@ finished_of outcome = 0
 pub record IsShelled {D S O : Type 0} (holds : D → Option Image) (size faults write_faults reads writes : D → ℕ) (tells_stops : D → Type 0) (moment : D → ℕ)
     (may_leave : D → ℕ → List ℕ → Type 0) (left_since : D → ℕ → Image → Type 0) (left : S → Option (List ℕ)) (takes : S → ℕ) (took : O → Option (List ℕ)) (puts : O → ℕ)
     (old new : D) (input input_now : S) (out out_now : O) (options : ShellOptions) (outcome : ShellOutcome) : Type 0 where
-  pub elected : ForSome (holds old) (λ image. HasElected (elected image) outcome)
-  pub input : HasInput options.commands (left input) outcome
+  pub election : ForSome (holds old) (λ image. HasElected (elected image) outcome)
+  pub taken : HasInput options.commands (left input) outcome
   pub image : ForSome (holds old) (λ image. IfOk (elected image) (λ vote. ForSome (told_lines options.commands (left input)) (λ lines.
       LeavesDisk (stated_volume vote.sector) (leave_of options) lines image (holds new) (writes old) (writes new) outcome)))
   pub text : ForSome (holds old) (λ image. IfOk (elected image) (λ vote. ForSome (told_lines options.commands (left input)) (λ lines.

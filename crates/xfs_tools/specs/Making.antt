@@ -46,7 +46,7 @@ pub record IsMake {D : Type 0} (holds : D → Option Image) (size faults write_f
   pub leaves : ForSome (holds old) (λ image. mkfs.Leaves o s (size old) image (holds new) outcome)
   pub cause : mkfs.IsCaused (faults old) (faults new) (write_faults old) (write_faults new) outcome
   pub counts : CountsBlocks o s (size old) (writes old) (writes new) outcome
-  pub reads : reads new ≡ reads_at o.force (reads old) outcome
+  pub looked : reads new ≡ reads_at o.force (reads old) outcome
   pub unwritten : IsUnwritten outcome → OnlyReads size holds write_faults writes tells_stops moment may_leave left_since old new
   pub kept : IsKept (tells_stops old) (holds new) (may_leave new) outcome
   pub stops : tells_stops old → ForSome (holds old) (λ image. (t : ℕ) (stopped : Image) → t ≤ moment old → left_since new t stopped
