@@ -17,3 +17,4 @@ pub mod Owners
 pub mod Trusted
 pub mod Known
 pub mod Sealed
+pub mod Regular

@@ -16,6 +16,14 @@ contained {X = X} x (y ∷ ys) has = from (contained x ys) has.0 has.1 has.2
     from rest zero inside is = inl is
     from rest (suc k) inside is = inr (rest (k, omega (arith, inside), is))
 
+pub contains : {X : Type 0} (x : X) (xs : List X) → Member x xs → Contains xs x
+contains x [] is = absurd is
+contains x (y ∷ ys) is =
+    elim is [
+      | inl same ↦ (0, omega arith, same)
+      | inr there ↦ let rest = contains x ys there in let inside = rest.1 in (suc rest.0, omega (arith, inside), rest.2)
+    ]
+
 pub member_all : {X : Type 0} (P : X → Type 0) (x : X) (xs : List X) → AllByRecursion P xs → Member x xs → P x
 member_all P x [] all is = absurd is
 member_all P x (y ∷ ys) all is = elim is [ inl same ↦ subst P same all.0 | inr there ↦ member_all P x ys all.1 there ]

@@ -7,11 +7,13 @@
 #![tactic(auto)]
 
 mod claims;
+mod consistent;
 mod examples;
 mod keeping;
 mod taking;
 
 pub use claims::{guarded_files_are_kept, protected_files_are_kept, protected_files_by_lists};
+pub use consistent::files_of_consistent_images_are_protected;
 pub use examples::{guarded_examples, lost_examples};
 pub use keeping::{kept_files_in_words, keeping_is_an_order};
 pub use taking::{claims_take_protection, kinds_take_protection};
