@@ -1,9 +1,9 @@
 -- Examples of guarded files.
-use Rattle.std.proofs.Common.{◌≡◌, ℕ, Bool, true, false, ◌+◌, ◌≤◌, ◌<◌, inl, inr, ◌||◌, nat_le, List, [], ◌∷◌, refl, sym, ◌∙◌, arith}
+use Rattle.std.proofs.Common.{◌≡◌, ℕ, Bool, true, false, ◌+◌, inl, inr, nat_le, List, [], ◌∷◌, refl, arith}
 use Rattle.std.specs.List.{list_all}
 use Rattle.std.proofs.lemmas.Bool.{and_parts, leb-true, ltb-true, or_cases, or_from}
 use Rattle.std.proofs.lemmas.Bool.Decides.{nat_tests}
-use Rattle.xfs_runs.specs.Blocks.{has, is_block, is_in}
+use Rattle.xfs_runs.specs.Blocks.{has, is_in}
 use Rattle.xfs_claims.specs.Spans.{are_apart}
 use Rattle.xfs_image.specs.Claims.{AreApart}
 

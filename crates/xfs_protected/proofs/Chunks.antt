@@ -1,12 +1,10 @@
 -- The clusters of lawful chunks, as image and owners name them.
-use Rattle.std.proofs.Common.{◌≡◌, ℕ, zero, suc, Bool, true, false, ◌+◌, ◌*◌, ◌/◌, ◌^◌, ◌≤◌, ◌<◌, inl, inr, ◌&&◌, ◌||◌, ◌==◌, nat_le, nat_lt, if◌then◌else◌, List, [], ◌∷◌, ◌++◌, map, length, refl, sym, ◌∙◌, ap, ap₂, subst, arith, Option, Some, None}
+use Rattle.std.proofs.Common.{◌≡◌, ℕ, zero, suc, Bool, true, false, ◌+◌, ◌*◌, ◌/◌, ◌^◌, ◌≤◌, ◌<◌, inl, inr, ◌&&◌, ◌||◌, ◌==◌, nat_lt, if◌then◌else◌, List, [], ◌∷◌, ◌++◌, map, length, refl, sym, ◌∙◌, ap, ap₂, subst, arith, Option, Some, None}
 use Rattle.std.specs.List.{flat_map}
 use Rattle.std.proofs.lemmas.Bool.{and_parts, eqb-true, or_cases}
 use Rattle.std.proofs.lemmas.Bool.Decides.{nat_tests}
 use Rattle.std.proofs.lemmas.List.{map-append}
-use Rattle.xfs_geom.specs.Conversions.{group_length}
-use Rattle.xfs_geom.specs.Volumes.{Volume, volume_of}
-use Rattle.xfs_geom.specs.declared.geometry.Geometry.{Geometry}
+use Rattle.xfs_geom.specs.Volumes.{Volume}
 use Rattle.xfs_geom.specs.declared.records.InoRec.{InoRec}
 use Rattle.xfs_geom.specs.declared.records.Run.{Run}
 use Rattle.xfs_tree.specs.Rules.{are_lawful}
@@ -19,7 +17,7 @@ use Rattle.xfs_space.specs.SpaceLaws.{covers, runs_on}
 use Rattle.xfs_image.specs.Claims.{is_of_cluster}
 use Rattle.xfs_image.specs.Clusters.{chunk_clusters, clusters_in}
 use Rattle.xfs_image.specs.Files.{clusters_from}
-use Rattle.xfs_protected.proofs.Counted.{left_on, on_both, member_on, more_on, on_head, on_tail, right_on, two_on}
+use Rattle.xfs_protected.proofs.Counted.{left_on, on_both, member_on, more_on, on_head, right_on, two_on}
 use Rattle.xfs_protected.proofs.Members.{Member, map_member, member_either, member_map}
 
 -- a chunk of a mask that the trees have lacks a half just where the mask says so

@@ -1,26 +1,22 @@
 -- Claims as lists say what the claims of an image say.
-use Rattle.std.proofs.Common.{◌≡◌, ℕ, Bool, true, false, not, ◌↔◌, ◌+◌, ◌&&◌, ◌||◌, ◌==◌, List, [], ◌∷◌, ◌++◌, map, refl, sym, ◌∙◌, ap, ap₂, subst}
+use Rattle.std.proofs.Common.{◌≡◌, ℕ, Bool, true, false, not, ◌&&◌, ◌||◌, ◌==◌, List, [], ◌∷◌, ◌++◌, map, refl, sym, ◌∙◌, ap, ap₂, subst}
 use Rattle.std.specs.List.{list_any}
 use Rattle.std.proofs.lemmas.List.Folds.{list_any-append}
 use Rattle.xfs_disk.specs.Blocks.{Image}
 use Rattle.xfs_word.specs.declared.extents.Extent.{Extent}
-use Rattle.xfs_geom.specs.Conversions.{is_fixed}
 use Rattle.xfs_geom.specs.Volumes.{Volume}
 use Rattle.xfs_geom.specs.declared.records.Run.{Run}
-use Rattle.xfs_runs.specs.Blocks.{has, is_block, is_in}
+use Rattle.xfs_runs.specs.Blocks.{is_block, is_in}
 use Rattle.xfs_inode.specs.Files.{run_of, run_of_block}
-use Rattle.xfs_inode.specs.declared.claims.Run.{Run as Blocks}
 use Rattle.xfs_volume.specs.declared.files.FileRec.{FileRec}
 use Rattle.xfs_space.specs.Owners.{attribute_flag, blocks_of, extent_run, file_runs, tree_flag}
 use Rattle.xfs_claims.specs.Spans.{spans_of}
-use Rattle.xfs_claims.specs.declared.claimants.FileClaim.{FileClaim}
-use Rattle.xfs_image.specs.Candidates.{candidates}
-use Rattle.xfs_image.specs.Claims.{candidate_files, claims, lies_in} 
+use Rattle.xfs_image.specs.Claims.{candidate_files, claims, lies_in}
 use Rattle.xfs_image.specs.Claims as Image_claims
 use Rattle.xfs_image.specs.Clusters as Clusters
 use Rattle.xfs_image.specs.Keeping.{Protected}
 use Rattle.xfs_views.proofs.Files.{file_sound}
-use Rattle.xfs_protected.specs.Claimed.{IsGuardedFile, file_claim, file_claims}
+use Rattle.xfs_protected.specs.Claimed.{IsGuardedFile, file_claim}
 use Rattle.xfs_protected.specs.Guarded.{claimed_by, is_claimed, is_claimed_beside}
 
 -- a run has the block

@@ -1,6 +1,6 @@
 -- The cluster of a guarded file and the file are kept of all claims.
-use Rattle.std.proofs.Common.{◌≡◌, ℕ, Bool, true, false, not, cond, ◌+◌, ◌≤◌, ◌<◌, ◌⊎◌, inl, inr, ◌&&◌, ◌||◌, ◌==◌, nat_le, nat_lt, List, [], ◌∷◌, map, refl, sym, ◌∙◌, ap, subst, arith}
-use Rattle.std.specs.List.{AllByRecursion, Contains, filter, list_any}
+use Rattle.std.proofs.Common.{◌≡◌, ℕ, Bool, true, false, not, cond, ◌+◌, ◌≤◌, ◌<◌, inl, inr, ◌&&◌, ◌==◌, nat_le, nat_lt, List, [], ◌∷◌, map, refl, sym, ◌∙◌, subst, arith}
+use Rattle.std.specs.List.{AllByRecursion, filter}
 use Rattle.std.proofs.lemmas.Bool.{and_from, and_parts, cases_eq, eqb-true, false≢true, leb-true, ltb-true, ne_eqb, not_from_false, or_cases, or_parts}
 use Rattle.std.proofs.lemmas.Bool.Decides.{nat_tests}
 use Rattle.xfs_runs.specs.Blocks.{is_in}
@@ -39,9 +39,10 @@ other_files f (g ∷ gs) alone = (here, other_files f gs (λ b e. (parts b e).1)
 apart_clusters : (blocks : ℕ → Bool) (clusters : List ClusterRec) → AreApart blocks (is_of_any clusters)
     → AllByRecursion (λ (c : ClusterRec). AreApart blocks (is_of_cluster c.block)) clusters
 apart_clusters blocks [] apart = tt
-apart_clusters blocks (c ∷ cs) apart =
-    (λ b e. (or_parts (is_of_cluster c.block b) (is_of_any cs b) (apart b e)).0,
-    apart_clusters blocks cs (λ b e. (or_parts (is_of_cluster c.block b) (is_of_any cs b) (apart b e)).1))
+apart_clusters blocks (c ∷ cs) apart = (
+  λ b e. (or_parts (is_of_cluster c.block b) (is_of_any cs b) (apart b e)).0,
+  apart_clusters blocks cs (λ b e. (or_parts (is_of_cluster c.block b) (is_of_any cs b) (apart b e)).1),
+)
 
 apart_files : (blocks : ℕ → Bool) (files : List FileClaim) → AreApart blocks (is_claimed files) → AllByRecursion (λ g. AreApart blocks (claimed_by g)) files
 apart_files blocks [] apart = tt
@@ -173,9 +174,10 @@ module _ (claims : Claims) (file : FileClaim) (set : IsSet claims file) where
   outside = apart_clusters (claimed_by file) claims.clusters set.guarded.outside
 
   first_outside : AllByRecursion (λ j. AreApart (claimed_by file) (is_of_cluster j)) (claims.root ∷ recorded_clusters claims)
-  first_outside =
-      (of_root (λ j. AreApart (claimed_by file) (is_of_cluster j)) claims.root claims.clusters set.root outside,
-      clusters_in_order (λ j. AreApart (claimed_by file) (is_of_cluster j)) (is_other_recorded claims.root) claims.clusters outside)
+  first_outside = (
+    of_root (λ j. AreApart (claimed_by file) (is_of_cluster j)) claims.root claims.clusters set.root outside,
+    clusters_in_order (λ j. AreApart (claimed_by file) (is_of_cluster j)) (is_other_recorded claims.root) claims.clusters outside,
+  )
 
   files : AllByRecursion (OtherFile file) claims.files
   files = other_files file claims.files set.guarded.alone

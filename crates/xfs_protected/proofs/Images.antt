@@ -1,6 +1,6 @@
 -- A protected file of an image, its cluster and its number are kept of the image's claims.
-use Rattle.std.proofs.Common.{◌≡◌, ℕ, Bool, true, false, ◌+◌, ◌-◌, ◌*◌, ◌/◌, ◌%◌, ◌≤◌, ◌<◌, inl, inr, ◌==◌, ◌&&◌, ◌||◌, nat_le, nat_lt, List, [], ◌∷◌, ◌++◌, map, refl, sym, ◌∙◌, ap, subst, arith}
-use Rattle.std.specs.List.{filter, flat_map, list_any, range_with_len}
+use Rattle.std.proofs.Common.{◌≡◌, ℕ, Bool, true, false, ◌+◌, ◌-◌, ◌*◌, ◌/◌, ◌%◌, inl, inr, ◌==◌, ◌&&◌, nat_le, nat_lt, [], ◌∷◌, map, refl, sym, ◌∙◌, ap, subst, arith}
+use Rattle.std.specs.List.{filter, range_with_len}
 use Rattle.std.proofs.lemmas.Bool.{and_from, and_parts, eq-eqb, eqb-true, leb-true, ltb-true, or_left, or_right}
 use Rattle.std.proofs.lemmas.Nat.{mod-mul-add}
 use Rattle.xfs_disk.specs.Blocks.{Image}
@@ -27,12 +27,12 @@ use Rattle.xfs_image.specs.Groups.{head_block}
 use Rattle.xfs_image.specs.Keeping.{Protected}
 use Rattle.xfs_image.specs.Slots.{cluster_blocks, cluster_inodes, inodes_in, reads_as}
 use Rattle.xfs_views.proofs.Files.{file_sound}
-use Rattle.xfs_protected.specs.Claimed.{IsGuardedFile, file_claim, file_claims, fixed_runs, header_run, image_claims}
+use Rattle.xfs_protected.specs.Claimed.{IsGuardedFile, file_claim, fixed_runs, header_run, image_claims}
 use Rattle.xfs_protected.specs.Guarded.{has_cluster}
 use Rattle.xfs_protected.proofs.Addresses.{IsPlaced, own_cluster, root_placed}
 use Rattle.xfs_protected.proofs.Claimed.{by_lists, covers, spans_are}
-use Rattle.xfs_protected.proofs.Guarded.{AreKept, IsSet, are_kept}
-use Rattle.xfs_protected.proofs.Members.{IsInRow, Member, any_member, filter_member, flat_member, map_member, member_any, member_either, member_filter, member_flat, member_map, member_row, row_member}
+use Rattle.xfs_protected.proofs.Guarded.{IsSet, are_kept}
+use Rattle.xfs_protected.proofs.Members.{Member, any_member, filter_member, flat_member, map_member, member_any, member_either, member_filter, member_flat, member_map, member_row, row_member}
 
 -- a block of a fixed run is fixed
 run_fixed : (g : Geometry) (block : ℕ) (r : Run) → Member r (fixed_runs (volume_of g)) → covers block r ≡ true → is_fixed (volume_of g) block ≡ true

@@ -1,21 +1,16 @@
 -- What is guarded is kept: every step over the claims leaves a guarded cluster and its file alone, or keeps them.
-use Rattle.std.proofs.Common.{◌≡◌, ℕ, Bool, true, false, not, cond, ◌+◌, ◌≤◌, ◌<◌, ◌⊎◌, inl, inr, ◌&&◌, ◌||◌, ◌==◌, nat_le, nat_lt, List, [], ◌∷◌, map, refl, sym, ◌∙◌, ap, subst, arith}
-use Rattle.std.specs.List.{AllByRecursion, Contains, filter, list_any}
-use Rattle.std.proofs.lemmas.Bool.{and_from, and_parts, both_ways, cases_eq, eq-eqb, eqb-true, false≢true, le-leb, lt-ltb, ne_eqb, not_from_false, or_cases, or_from, or_left, or_parts, or_right}
+use Rattle.std.proofs.Common.{◌≡◌, ℕ, Bool, true, false, not, cond, ◌+◌, ◌⊎◌, inl, inr, ◌==◌, nat_le, nat_lt, List, [], ◌∷◌, refl, sym, ◌∙◌, subst}
+use Rattle.std.specs.List.{AllByRecursion}
+use Rattle.std.proofs.lemmas.Bool.{and_from, eq-eqb, le-leb, lt-ltb, not_from_false, or_from, or_left, or_right}
 use Rattle.xfs_runs.specs.Blocks.{has, is_block, is_in, meets}
 use Rattle.xfs_runs.proofs.Meeting.{meets_none}
-use Rattle.xfs_volume.specs.declared.clusters.ClusterRec.{ClusterRec}
-use Rattle.xfs_claims.specs.declared.claimants.Claims.{Claims}
 use Rattle.xfs_claims.specs.declared.claimants.FileClaim.{FileClaim}
-use Rattle.xfs_claims.specs.Keeping.{Holding, cluster_span, fixed_alone, is_among, is_kept, kept_of, recorded_kept, with_cluster, with_clusters, with_file, with_files, with_number}
-use Rattle.xfs_claims.specs.Ranks.{by_number, first_block, inode_number, is_other_recorded, is_recorded, is_scanned, lies_in_recorded, lies_in_scanned, own_number, recorded_clusters, recorded_files, scanned_clusters, scanned_files}
+use Rattle.xfs_claims.specs.Keeping.{Holding, cluster_span, is_among, is_kept, with_cluster, with_clusters, with_file, with_files, with_number}
 use Rattle.xfs_claims.specs.Spans.{meets_any, spans_of, with_blocks}
 use Rattle.xfs_claims.proofs.Numbers.{among_more}
-use Rattle.xfs_claims.proofs.Ordered.{to_order}
-use Rattle.xfs_image.specs.Candidates.{Ascend}
 use Rattle.xfs_image.specs.Claims.{AreApart, is_of_cluster}
-use Rattle.xfs_protected.specs.Guarded.{IsGuarded, claimed_by, has_cluster, is_claimed, is_claimed_beside, is_of_any}
-use Rattle.xfs_protected.proofs.Members.{Member, all_members, any_member, contained, member_all, member_any, member_filter, member_map, member_order}
+use Rattle.xfs_protected.specs.Guarded.{claimed_by}
+use Rattle.xfs_protected.proofs.Members.{Member}
 
 -- what has no block in common with a set does not meet it
 cluster_off : (k : ℕ) (set : ℕ → Bool) → AreApart (is_of_cluster k) set → meets set k 4 ≡ false
@@ -50,8 +45,6 @@ more_numbers n m numbers is = among_more n numbers m ∙ or_right (n == m) (is_a
 
 one_number : (n m : ℕ) (numbers : List ℕ) → n ≡ m → is_among (with_number n numbers) m ≡ true
 one_number n m numbers same = among_more n numbers m ∙ or_left (n == m) (is_among numbers m) (eq-eqb n m same)
-
-
 
 cluster_stays : (k : ℕ) (held : Holding) (j : ℕ) → is_among held.clusters k ≡ true → is_among (with_cluster held j).clusters k ≡ true
 cluster_stays k held j is = by_case (meets held.blocks j 4)

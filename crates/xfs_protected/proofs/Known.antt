@@ -1,6 +1,6 @@
 -- The candidate clusters of a consistent image are just those of its chunks.
-use Rattle.std.proofs.Common.{◌≡◌, ◌⊎◌, ℕ, zero, suc, Bool, true, false, not, ◌+◌, ◌-◌, ◌*◌, ◌/◌, ◌%◌, ◌^◌, ◌≤◌, ◌<◌, inl, inr, ◌&&◌, ◌||◌, ◌==◌, nat_le, nat_lt, List, [], ◌∷◌, ◌++◌, map, length, refl, sym, ◌∙◌, ap, subst, arith, Option, Some, None}
-use Rattle.std.specs.List.{filter, flat_map, list_all, list_any, range_with_len}
+use Rattle.std.proofs.Common.{◌≡◌, ℕ, zero, suc, Bool, true, not, ◌+◌, ◌*◌, ◌/◌, ◌≤◌, ◌<◌, inl, inr, ◌&&◌, ◌||◌, ◌==◌, nat_le, nat_lt, List, [], ◌∷◌, refl, sym, ◌∙◌, ap, subst, arith, Option, None}
+use Rattle.std.specs.List.{filter, list_all, list_any, range_with_len}
 use Rattle.std.proofs.lemmas.Bool.{and_from, and_parts, both_ways, eq-eqb, eqb-true, le-leb, lt-ltb, not-true, or_cases, or_left, or_right}
 use Rattle.xfs_disk.specs.Blocks.{Image}
 use Rattle.xfs_geom.specs.Conversions.{group_length}
@@ -11,8 +11,7 @@ use Rattle.xfs_volume.specs.declared.files.FileRec.{FileRec}
 use Rattle.xfs_volume.specs.declared.groups.GroupRec.{GroupRec}
 use Rattle.xfs_image.proofs.Roots.{chunks_name, owners_name}
 use Rattle.xfs_image.specs.Candidates.{can_hold_inodes, candidates, is_candidate, is_scanned, is_used_slot, lies_in_chunk}
-use Rattle.xfs_image.specs.Claims.{is_of_cluster}
-use Rattle.xfs_image.specs.Clusters.{are_same, chunk_clusters, cluster_of, given_clusters, is_among, is_given, is_recorded, is_trusted, named_by_chunks, named_by_owners, names, places_in, root_cluster}
+use Rattle.xfs_image.specs.Clusters.{chunk_clusters, cluster_of, given_clusters, is_among, is_given, is_recorded, is_trusted, named_by_chunks, named_by_owners, names, places_in, root_cluster}
 use Rattle.xfs_image.specs.Files.{clusters_from, clusters_of, inodes_of}
 use Rattle.xfs_image.specs.Groups.{head_block}
 use Rattle.xfs_image.specs.Slots.{cluster_inodes}

@@ -1,19 +1,17 @@
 -- What a consistent image says: groups and files in which no block has two owners, the owners are those that are recorded, and the
 -- root is a file.
-use Rattle.std.proofs.Common.{◌≡◌, ℕ, ◌+◌, ◌^◌, ◌≤◌, ◌<◌, List, ◌++◌, length, refl, sym, ◌∙◌, ap, subst, arith, None, Ok}
+use Rattle.std.proofs.Common.{◌≡◌, ◌^◌, ◌<◌, List, ◌++◌, sym, ◌∙◌, ap, subst, arith, None}
 use Rattle.std.specs.List.{All, Any}
 use Rattle.xfs_disk.specs.Blocks.{Image}
 use Rattle.xfs_geom.specs.Volumes.{Volume, volume_of}
 use Rattle.xfs_geom.specs.declared.geometry.Geometry.{Geometry}
-use Rattle.xfs_geom.specs.declared.records.Run.{Run}
 use Rattle.xfs_volume.specs.Laws.{first_broken}
 use Rattle.xfs_volume.specs.declared.catalogs.Catalog.{Catalog}
 use Rattle.xfs_volume.specs.declared.files.FileRec.{FileRec}
 use Rattle.xfs_volume.specs.declared.groups.GroupRec.{GroupRec}
 use Rattle.xfs_space.specs.Owners.{owned_runs}
-use Rattle.xfs_space.specs.Parts.{AreGroups, IsFile}
 use Rattle.xfs_space.specs.Sorted.{IsOwned}
-use Rattle.xfs_space.specs.SpaceLaws.{free_laws, owner_laws, recorded_runs, runs_on, sharing_laws, space_laws}
+use Rattle.xfs_space.specs.SpaceLaws.{free_laws, owner_laws, recorded_runs, sharing_laws, space_laws}
 use Rattle.xfs_space.proofs.GoodRuns.{good_all, owned_of}
 use Rattle.xfs_space.proofs.Moved.{kept_once}
 use Rattle.xfs_space.proofs.Shared.{none_outside}

@@ -1,40 +1,31 @@
 -- In a consistent image the tree of owners gives to clusters just the blocks of the clusters that the tree of chunks names.
-use Rattle.std.proofs.Common.{◌≡◌, ◌⊎◌, ℕ, zero, suc, Bool, true, false, ◌+◌, ◌-◌, ◌*◌, ◌/◌, ◌%◌, ◌^◌, ◌≤◌, ◌<◌, inl, inr, ◌&&◌, ◌||◌, ◌==◌, nat_le, nat_lt, if◌then◌else◌, List, [], ◌∷◌, ◌++◌, map, take, length, refl, sym, ◌∙◌, ap, subst, arith, Option, Some, None}
-use Rattle.std.specs.List.{All, filter, flat_map, list_all, list_any, range_with_len}
+use Rattle.std.proofs.Common.{◌≡◌, ◌⊎◌, ℕ, Bool, true, false, ◌+◌, ◌-◌, ◌*◌, ◌^◌, ◌≤◌, ◌<◌, inl, inr, nat_le, nat_lt, if◌then◌else◌, List, [], ◌∷◌, ◌++◌, map, take, refl, sym, ◌∙◌, ap, subst, arith, None}
+use Rattle.std.specs.List.{All, flat_map}
 use Rattle.std.proofs.lemmas.Bool.Decides.{nat_tests}
-use Rattle.std.proofs.lemmas.Bool.{and_from, and_parts, cases_lt, eq-eqb, eqb-true, le-leb, leb-true, lt-ltb, ltb-true}
+use Rattle.std.proofs.lemmas.Bool.{and_parts, cases_lt, leb-true, ltb-true}
 use Rattle.std.proofs.lemmas.List.Elements.{recursion_from_All}
-use Rattle.std.proofs.lemmas.Nat.{div-mul-add}
 use Rattle.xfs_disk.specs.Blocks.{Image}
-use Rattle.xfs_geom.specs.Conversions.{group_length}
 use Rattle.xfs_geom.specs.Volumes.{Volume, volume_of}
 use Rattle.xfs_geom.specs.declared.geometry.Geometry.{Geometry}
-use Rattle.xfs_geom.specs.declared.records.InoRec.{InoRec}
-use Rattle.xfs_geom.specs.declared.records.RmapRec.{RmapRec}
 use Rattle.xfs_geom.specs.declared.records.Run.{Run}
 use Rattle.xfs_kinds.specs.MergedRuns.{held_at, word_at}
-use Rattle.xfs_kinds.specs.OffsetWords.{is_file_data, is_tree_block, offset_in_fork}
-use Rattle.xfs_volume.specs.Laws.{first_broken, law_at}
+use Rattle.xfs_kinds.specs.OffsetWords.{is_file_data}
+use Rattle.xfs_volume.specs.Laws.{first_broken}
 use Rattle.xfs_volume.specs.declared.files.FileRec.{FileRec}
-use Rattle.xfs_volume.specs.declared.findings.Law.{Law}
 use Rattle.xfs_volume.specs.declared.groups.GroupRec.{GroupRec}
 use Rattle.xfs_volume.specs.declared.groups.TreeBlocks.{TreeBlocks}
-use Rattle.xfs_space.specs.Owners.{blocks_of, cluster_run, cluster_runs, clusters_of, clusters_owner, different, file_runs, extent_run, group_owner, group_runs, groups_runs, headers_owner, inode_trees_owner, listed_run, listed_runs, log_owner, owned_runs, run, tree_owners, tree_runs}
-use Rattle.xfs_space.specs.Parts.{AreGroups, IsGroup}
+use Rattle.xfs_space.specs.Owners.{blocks_of, cluster_run, cluster_runs, clusters_of, different, file_runs, extent_run, group_runs, groups_runs, headers_owner, listed_run, listed_runs, log_owner, owned_runs, run, tree_owners, tree_runs}
+use Rattle.xfs_space.specs.Parts.{AreGroups}
 use Rattle.xfs_space.specs.Sorted.{IsOwned}
-use Rattle.xfs_space.specs.SpaceLaws.{covers, owner_at, owner_laws, owner_number, recorded_run, recorded_runs, runs_on}
+use Rattle.xfs_space.specs.SpaceLaws.{covers, owner_at, owner_laws, owner_number}
 use Rattle.xfs_space.proofs.Broken.{each_kept}
-use Rattle.xfs_space.proofs.RecordedMaps.{IsRecorded, all_recorded}
 use Rattle.xfs_image.specs.Claims.{is_of_cluster}
-use Rattle.xfs_image.specs.Clusters.{chunk_clusters, clusters_in}
-use Rattle.xfs_image.specs.Clusters as Clusters
+use Rattle.xfs_image.specs.Clusters.{chunk_clusters}
 use Rattle.xfs_image.specs.Files.{clusters_from}
-use Rattle.xfs_image.specs.Groups.{head_block}
 use Rattle.xfs_protected.proofs.Chunks.{chunks_moved}
-use Rattle.xfs_protected.proofs.Held.{HasGroup, IsHeldBy, held_member, held_of, once_recorded}
+use Rattle.xfs_protected.proofs.Held.{held_of}
 use Rattle.xfs_protected.proofs.Lawful.{IsLawfulView}
-use Rattle.xfs_protected.proofs.Members.{Member, any_member, filter_member, map_member, member_all, member_any, member_either, flat_member, member_filter, member_left, member_map, member_right, member_row, row_member}
-use Rattle.xfs_protected.proofs.Places.{IsChunked, chunk_in, chunked, cluster_chunked}
+use Rattle.xfs_protected.proofs.Members.{Member, map_member, member_all, member_either, flat_member, member_left, member_map, member_right}
 
 -- the owners of a group's trees
 tree_owner : (owners : List ℕ) (trees : List TreeBlocks) (q : Run) → Member q (tree_runs owners trees) → Member q.owner owners

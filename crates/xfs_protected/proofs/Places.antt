@@ -1,6 +1,6 @@
 -- Where the clusters of lawful chunks stand, and what the inodes of a view read as.
-use Rattle.std.proofs.Common.{◌≡◌, ◌⊎◌, ℕ, zero, suc, Bool, true, false, ◌+◌, ◌-◌, ◌*◌, ◌/◌, ◌%◌, ◌^◌, ◌≤◌, ◌<◌, inl, inr, ◌&&◌, ◌||◌, ◌==◌, nat_le, nat_lt, if◌then◌else◌, List, [], ◌∷◌, ◌++◌, map, length, refl, sym, ◌∙◌, ap, ap₂, subst, arith, Option, Some, None}
-use Rattle.std.specs.List.{All, Any, AllByRecursion, flat_map, range_with_len}
+use Rattle.std.proofs.Common.{◌≡◌, ◌⊎◌, ℕ, Bool, true, false, ◌+◌, ◌*◌, ◌/◌, ◌%◌, ◌^◌, ◌≤◌, ◌<◌, inl, inr, ◌&&◌, ◌==◌, nat_le, nat_lt, if◌then◌else◌, List, [], ◌∷◌, ◌++◌, length, refl, sym, ◌∙◌, ap, subst, arith, Option, Some, None}
+use Rattle.std.specs.List.{All, flat_map, range_with_len}
 use Rattle.std.proofs.Math.Nat.{mul-le-mul_left}
 use Rattle.std.proofs.lemmas.Bool.{and_from, and_parts, eqb-true, le-leb, leb-true, ltb-true}
 use Rattle.std.proofs.lemmas.List.Elements.{All-from_recursion}
@@ -27,7 +27,7 @@ use Rattle.xfs_image.specs.Slots.{cluster_blocks, cluster_inodes, inodes_in, rea
 use Rattle.xfs_views.proofs.Files.{file_sound}
 use Rattle.xfs_protected.proofs.Addresses.{IsPlaced}
 use Rattle.xfs_protected.proofs.Chunks.{IsLawfulChunk, lawful_chunk}
-use Rattle.xfs_protected.proofs.Members.{Member, all_members, flat_member, map_member, member_either, member_flat, row_member}
+use Rattle.xfs_protected.proofs.Members.{Member, all_members, flat_member, map_member, member_either, row_member}
 
 -- a cluster of chunks is one of a lawful chunk of a group
 pub record IsNamed (v : Volume) (ag n x : ℕ) : Type 0 where

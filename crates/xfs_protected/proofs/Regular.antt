@@ -1,6 +1,6 @@
 -- Each file of a consistent image that is no directory and neither root nor system inode is protected.
-use Rattle.std.proofs.Common.{◌≡◌, ◌≢◌, ◌⊎◌, ℕ, Bool, true, false, not, ◌+◌, ◌≤◌, ◌<◌, inl, inr, ◌&&◌, ◌||◌, ◌==◌, nat_le, nat_lt, List, [], ◌∷◌, map, length, refl, sym, ◌∙◌, ap, subst, arith}
-use Rattle.std.specs.List.{Contains, flat_map, list_all, list_any, range_with_len}
+use Rattle.std.proofs.Common.{◌≡◌, ◌≢◌, ◌⊎◌, ℕ, true, false, not, ◌+◌, ◌≤◌, ◌<◌, inl, inr, ◌&&◌, ◌||◌, ◌==◌, nat_le, nat_lt, List, refl, sym, ◌∙◌, ap, subst, arith}
+use Rattle.std.specs.List.{Contains, range_with_len}
 use Rattle.std.proofs.lemmas.Bool.{and_from, and_parts, eq-eqb, eqb-false, false_from_ne_true, le-leb, lt-ltb, not-true, not_from_false, or_from, or_left, or_right}
 use Rattle.xfs_disk.specs.Blocks.{Image, IsImage}
 use Rattle.xfs_geom.specs.Conversions.{inode_of, is_fixed}
@@ -16,7 +16,7 @@ use Rattle.xfs_volume.specs.declared.groups.GroupRec.{GroupRec}
 use Rattle.xfs_space.proofs.RecordedMaps.{group_inside}
 use Rattle.xfs_laws.specs.Lawful.{broken_law}
 use Rattle.xfs_image.specs.Candidates.{can_hold_inodes, candidates, cluster_rec, is_candidate, is_scanned, is_whole_block, lies_in_chunk}
-use Rattle.xfs_image.specs.Claims.{AreApart, candidate_files, candidate_inodes, claims, file_if, is_candidate_inode, is_claimed, is_claimed_beside, is_of_candidate, is_of_cluster}
+use Rattle.xfs_image.specs.Claims.{candidate_files, candidate_inodes, claims, file_if, is_candidate_inode, is_claimed, is_claimed_beside, is_of_candidate, is_of_cluster}
 use Rattle.xfs_image.specs.Clusters.{cluster_of, is_recorded, root_cluster}
 use Rattle.xfs_image.specs.Consistent.{IsConsistent}
 use Rattle.xfs_image.specs.Files.{clusters_from, inodes_of}

@@ -1,18 +1,16 @@
 -- A block whose first slot reads is sealed as no other object.
-use Rattle.std.proofs.Common.{◌≡◌, ◌⊎◌, ℕ, zero, suc, Bool, true, false, not, ◌+◌, ◌*◌, ◌/◌, ◌%◌, ◌^◌, ◌≤◌, ◌<◌, inl, inr, ◌&&◌, ◌||◌, ◌==◌, List, [], ◌∷◌, length, take, drop, slice_index, refl, sym, ◌∙◌, ap, subst, arith, Option, Some, None, slice_get, slice_index_or}
+use Rattle.std.proofs.Common.{◌≡◌, ◌⊎◌, ℕ, zero, suc, true, false, not, ◌+◌, ◌*◌, ◌/◌, ◌%◌, ◌^◌, ◌≤◌, ◌<◌, inl, inr, ◌==◌, List, [], ◌∷◌, take, drop, slice_index, refl, sym, ◌∙◌, ap, arith, Some, slice_get}
 use Rattle.std.specs.List.{list_any}
-use Rattle.std.proofs.lemmas.Bool.{and_left, and_parts, and_right, both_ways, cases_Bool, cases_lt, eq-eqb, eqb-true, ne_eqb, not_from_true, or_from}
+use Rattle.std.proofs.lemmas.Bool.{and_left, and_parts, and_right, cases_Bool, eq-eqb, eqb-true, ne_eqb, not_from_true, or_from}
 use Rattle.std.proofs.lemmas.List.{get_or-drop, get_or-take}
 use Rattle.std.proofs.lemmas.Nat.{div-mul-add, mod-mul-add}
-use Rattle.xfs_disk.specs.Blocks.{Image, IsBlock, IsImage}
-use Rattle.xfs_word.specs.Crc.{has_checksum}
+use Rattle.xfs_disk.specs.Blocks.{Image, IsImage}
 use Rattle.xfs_word.specs.Field.{field_of, part_of}
-use Rattle.xfs_word.specs.Seal.{begins_as_slot, has_magic, identifier_is, is_lsn, is_ready, is_sealed, layout_of, number_is, owner_is}
-use Rattle.xfs_word.specs.declared.kinds.Seal.{Seal}
+use Rattle.xfs_word.specs.Seal.{begins_as_slot, has_magic, is_ready, is_sealed}
 use Rattle.xfs_word.specs.declared.kinds.SealKind.{SealKind}
 use Rattle.xfs_word.specs.declared.kinds.SealKind.TheVariants as Kind
 use Rattle.xfs_word.proofs.Written.{big_from-same}
-use Rattle.xfs_geom.specs.Conversions.{address_of, block_at, inode_of, slot_at, with_slot}
+use Rattle.xfs_geom.specs.Conversions.{address_of, inode_of, slot_at, with_slot}
 use Rattle.xfs_geom.specs.Volumes.{Volume, volume_of}
 use Rattle.xfs_geom.specs.declared.geometry.Geometry.{Geometry}
 use Rattle.xfs_geom.proofs.Addresses.{block_back}
@@ -21,7 +19,6 @@ use Rattle.xfs_inode.specs.Files.{file_read}
 use Rattle.xfs_inode.specs.Slots.{slot_read, slot_seal}
 use Rattle.xfs_inode.specs.declared.files.FileRead.{FileRead}
 use Rattle.xfs_inode.specs.declared.files.FileRead.TheVariants as Reads
-use Rattle.xfs_volume.specs.declared.files.FileRec.{FileRec}
 use Rattle.xfs_image.specs.Candidates.{is_whole_block, whole_kinds, whole_seal}
 use Rattle.xfs_image.specs.Sectors.{sector_in}
 use Rattle.xfs_image.specs.Slots.{bytes_in, reads_as, slot_bytes}
@@ -158,14 +155,31 @@ none_sealed v b bytes (kind ∷ kinds) none =
 
 no_kind : (bytes : List ℕ) → BeginsAsSlot bytes → NoneHas bytes whole_kinds
 unfolding NoneHas
-no_kind bytes is =
-    (short_tree bytes 0x4142_3342 is (below 0x4142_3342 (omega arith)),
-    (short_tree bytes 0x4142_3343 is (below 0x4142_3343 (omega arith)),
-    (short_tree bytes 0x4941_4233 is (below 0x4941_4233 (omega arith)),
-    (short_tree bytes 0x4649_4233 is (below 0x4649_4233 (omega arith)),
-    (short_tree bytes 0x524d_4233 is (above 0x524d_4233 (omega arith)),
-    (long_tree bytes is, (dir_data bytes is, (dir_free bytes is,
-    (index bytes 0x3df1 is, (index bytes 0x3dff is, (index bytes 0x3ebe is, (index bytes 0x3bee is, (symlink bytes is, tt)))))))))))))
+no_kind bytes is = (
+  short_tree bytes 0x4142_3342 is (below 0x4142_3342 (omega arith)),
+  (
+    short_tree bytes 0x4142_3343 is (below 0x4142_3343 (omega arith)),
+    (
+      short_tree bytes 0x4941_4233 is (below 0x4941_4233 (omega arith)),
+      (
+        short_tree bytes 0x4649_4233 is (below 0x4649_4233 (omega arith)),
+        (
+          short_tree bytes 0x524d_4233 is (above 0x524d_4233 (omega arith)),
+          (
+            long_tree bytes is,
+            (
+              dir_data bytes is,
+              (
+                dir_free bytes is,
+                (index bytes 0x3df1 is, (index bytes 0x3dff is, (index bytes 0x3ebe is, (index bytes 0x3bee is, (symlink bytes is, tt))))),
+              ),
+            ),
+          ),
+        ),
+      ),
+    ),
+  ),
+)
 
 pub no_whole_block : (g : Geometry) (blocks : ℕ) (image : Image) (b : ℕ) (read : FileRead) → IsImage blocks image → b < g.dblocks
     → reads_as (volume_of g) image (inode_of (volume_of g) b 0) ≡ read → (read ≡ Reads.Unsound → ⊥) → is_whole_block (volume_of g) image b ≡ false

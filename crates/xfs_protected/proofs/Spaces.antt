@@ -1,7 +1,7 @@
 -- What the law that no block has two owners says of files, clusters and fixed blocks.
-use Rattle.std.proofs.Common.{◌≡◌, ◌≢◌, ℕ, Bool, true, false, cond, ◌+◌, ◌*◌, ◌/◌, ◌%◌, ◌≤◌, ◌<◌, inl, inr, ◌&&◌, ◌||◌, ◌==◌, nat_le, nat_lt, List, [], ◌∷◌, ◌++◌, map, length, refl, sym, ◌∙◌, ap, subst, arith}
-use Rattle.std.specs.List.{flat_map, list_any}
-use Rattle.std.proofs.Math.Nat.{mod-lt, mul-le-mul_right}
+use Rattle.std.proofs.Common.{◌≡◌, ◌≢◌, ℕ, true, ◌+◌, ◌*◌, ◌/◌, ◌%◌, ◌≤◌, ◌<◌, inl, inr, ◌&&◌, ◌==◌, nat_le, nat_lt, List, ◌∷◌, length, sym, ◌∙◌, subst, arith}
+use Rattle.std.specs.List.{flat_map}
+use Rattle.std.proofs.Math.Nat.{mul-le-mul_right}
 use Rattle.std.proofs.lemmas.Bool.{cases_lt, eqb-true, or_cases}
 use Rattle.std.proofs.lemmas.Nat.{div-add-mod'}
 use Rattle.xfs_geom.specs.Conversions.{is_fixed}
@@ -12,7 +12,7 @@ use Rattle.xfs_volume.specs.declared.files.FileRec.{FileRec}
 use Rattle.xfs_volume.specs.declared.groups.GroupRec.{GroupRec}
 use Rattle.xfs_space.specs.Owners.{file_runs, groups_runs, log_owner, owned_runs, run}
 use Rattle.xfs_space.specs.Parts.{AreGroups}
-use Rattle.xfs_space.specs.SpaceLaws.{covers, runs_on}
+use Rattle.xfs_space.specs.SpaceLaws.{runs_on}
 use Rattle.xfs_space.proofs.Shared.{on-cons}
 use Rattle.xfs_image.specs.Claims.{claims, is_of_cluster}
 use Rattle.xfs_image.specs.Files.{clusters_from}

@@ -1,15 +1,13 @@
 -- What takes protection away.
-use Rattle.std.proofs.Common.{◌≡◌, ◌≢◌, ℕ, Bool, true, false, not, ◌==◌, ◌||◌, ◌+◌, if◌then◌else◌, List, [], ◌∷◌, refl, sym, ◌∙◌, ap, subst}
+use Rattle.std.proofs.Common.{◌≡◌, ℕ, Bool, true, false, ◌==◌, ◌||◌, ◌+◌, if◌then◌else◌, [], ◌∷◌, refl, sym, ◌∙◌, ap, subst}
 use Rattle.std.proofs.lemmas.Bool.{both_ways, ne_eqb}
 use Rattle.xfs_disk.specs.Blocks.{Image}
-use Rattle.xfs_geom.specs.Conversions.{is_fixed}
 use Rattle.xfs_geom.specs.Volumes.{Volume}
 use Rattle.xfs_inode.specs.declared.files.FileRead.TheVariants as Reads
 use Rattle.xfs_volume.specs.Names.{is_directory}
 use Rattle.xfs_volume.specs.declared.files.FileRec.{FileRec}
-use Rattle.xfs_naming.specs.Naming.{is_empty_regular, is_system}
-use Rattle.xfs_image.specs.Claims.{AreApart, claims, is_candidate_inode, is_claimed, is_claimed_beside, is_of_candidate, is_of_cluster}
-use Rattle.xfs_image.specs.Clusters.{cluster_of}
+use Rattle.xfs_naming.specs.Naming.{is_empty_regular}
+use Rattle.xfs_image.specs.Claims.{AreApart, claims}
 use Rattle.xfs_image.specs.Directories.{directories}
 use Rattle.xfs_image.specs.Keeping.{Protected}
 use Rattle.xfs_image.specs.Slots.{reads_as}

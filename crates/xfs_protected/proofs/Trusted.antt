@@ -1,8 +1,7 @@
 -- Each group of a consistent image says in full where its clusters are, and the candidate clusters are just those of its chunks.
-use Rattle.std.proofs.Common.{◌≡◌, ◌⊎◌, ℕ, zero, suc, Bool, true, false, not, ◌+◌, ◌-◌, ◌*◌, ◌/◌, ◌%◌, ◌^◌, ◌≤◌, ◌<◌, inl, inr, ◌&&◌, ◌||◌, ◌==◌, nat_le, nat_lt, if◌then◌else◌, List, [], ◌∷◌, ◌++◌, map, length, refl, sym, ◌∙◌, ap, subst, arith, Option, Some, None}
-use Rattle.std.specs.List.{All, Any, AllByRecursion, filter, flat_map, list_all, list_any, range_with_len}
-use Rattle.std.proofs.lemmas.Bool.Decides.{nat_tests}
-use Rattle.std.proofs.lemmas.Bool.{and_from, and_parts, both_ways, cases_lt, eq-eqb, eqb-true, le-leb, leb-true, lt-ltb, ltb-true, not-true, or_cases}
+use Rattle.std.proofs.Common.{◌≡◌, ℕ, Bool, true, ◌+◌, ◌-◌, ◌*◌, ◌/◌, ◌^◌, ◌≤◌, ◌<◌, inl, inr, ◌&&◌, ◌==◌, nat_le, nat_lt, List, [], ◌∷◌, ◌++◌, refl, sym, ◌∙◌, ap, subst, arith, Some, None}
+use Rattle.std.specs.List.{filter, flat_map, list_all, range_with_len}
+use Rattle.std.proofs.lemmas.Bool.{and_from, and_parts, cases_lt, eq-eqb, eqb-true, le-leb, leb-true, lt-ltb, ltb-true}
 use Rattle.std.proofs.lemmas.List.Elements.{recursion_from_All}
 use Rattle.std.proofs.lemmas.Nat.{div-mul-add}
 use Rattle.xfs_disk.specs.Blocks.{Image}
@@ -19,22 +18,16 @@ use Rattle.xfs_space.specs.Parts.{AreGroups}
 use Rattle.xfs_space.specs.SpaceLaws.{covers, owner_number, recorded_run, recorded_runs, runs_on}
 use Rattle.xfs_space.proofs.FreeSpans.{group_short}
 use Rattle.xfs_space.proofs.RecordedMaps.{IsRecorded, all_recorded, group_inside}
-use Rattle.xfs_naming.specs.Lawful.{IsDirectory}
-use Rattle.xfs_image.proofs.Roots.{chunks_name, owners_name}
-use Rattle.xfs_image.specs.Candidates.{is_candidate, is_scanned, lies_in_chunk, can_hold_inodes}
 use Rattle.xfs_image.specs.Claims.{is_of_cluster}
-use Rattle.xfs_image.specs.Clusters.{are_same, both_name, chunk_clusters, given_clusters, gives, is_among, is_given, is_recorded, is_trusted, named_by_chunks, named_by_owners, names, places_in, root_cluster, cluster_of}
-use Rattle.xfs_image.specs.Files.{clusters_from, clusters_of as volume_clusters, inodes_of}
+use Rattle.xfs_image.specs.Clusters.{chunk_clusters, given_clusters, gives, is_given, places_in}
+use Rattle.xfs_image.specs.Files.{clusters_from}
 use Rattle.xfs_image.specs.Groups.{head_block}
-use Rattle.xfs_image.specs.Slots.{cluster_inodes}
-use Rattle.xfs_protected.proofs.Addresses.{IsPlaced}
 use Rattle.xfs_protected.proofs.Chunks.{chunks_moved}
 use Rattle.xfs_protected.proofs.Held.{HasGroup, IsHeldBy, group_at, held_member, held_of, once_recorded}
-use Rattle.xfs_protected.proofs.Images.{inode_cluster}
 use Rattle.xfs_protected.proofs.Lawful.{IsLawfulView}
-use Rattle.xfs_protected.proofs.Members.{Member, all_members, any_member, contained, filter_member, flat_member, map_member, member_all, member_any, member_either, member_filter, member_left, member_map, member_right, member_row, row_member}
+use Rattle.xfs_protected.proofs.Members.{Member, any_member, filter_member, map_member, member_all, member_any, member_either, member_left, member_map, member_right, row_member}
 use Rattle.xfs_protected.proofs.Owners.{HasBlock, from_number, numbers_agree, on_parts, word_low, word_own}
-use Rattle.xfs_protected.proofs.Places.{IsChunked, as_placed, chunk_in, chunked, cluster_chunked, file_inode, group_is}
+use Rattle.xfs_protected.proofs.Places.{cluster_chunked, group_is}
 
 -- the run of a cluster among those of the groups
 pub record HasRun (x : ℕ) (rs : List Run) : Type 0 where

@@ -14,8 +14,9 @@ ghost use Rattle.xfs_image.specs.Consistent.{IsConsistent};
 ghost use Rattle.xfs_image.specs.Files.{clusters_of};
 ghost use Rattle.xfs_image.specs.Keeping.{Protected};
 
-/// In a consistent image each file that is no directory and neither the root nor a system inode is protected: regular files, symbolic
-/// links, devices, pipes and sockets. The candidate clusters of such an image are just those of its chunks.
+/// In a consistent image each file that is no directory and neither the root nor a system inode is protected:
+/// regular files, symbolic links, devices, pipes and sockets. The candidate clusters of such an image are just
+/// those of its chunks.
 pub fn files_of_consistent_images_are_protected()
     ensures protected { (g : Geometry) (image : Image) (blocks : ℕ) (is : IsConsistent broken_law g image) (file : FileRec) → IsImage blocks image → Contains is.catalog.files file → is_directory file ≡ false
         → file.ino ≢ g.rootino → file.ino ≢ g.rootino + 1 → file.ino ≢ g.rootino + 2 → Protected (volume_of g) image file.ino }

@@ -1,4 +1,3 @@
-use Rattle.std.proofs.Common.{ℕ}
 use Rattle.xfs_geom.specs.Volumes.{volume_of}
 use Rattle.xfs_image.specs.Candidates.{candidates}
 use Rattle.xfs_image.specs.Files.{clusters_from, clusters_of}
