@@ -1,5 +1,5 @@
 -- A protected file of an image, its cluster and its number are kept of the image's claims.
-use Rattle.std.proofs.Common.{◌≡◌, ℕ, Bool, true, false, ◌+◌, ◌-◌, ◌*◌, ◌/◌, ◌%◌, inl, inr, ◌==◌, ◌&&◌, nat_le, nat_lt, [], ◌∷◌, map, refl, sym, ◌∙◌, ap, subst, arith}
+use Rattle.std.proofs.Common.{◌≡◌, ℕ, Bool, true, false, ◌+◌, ◌-◌, ◌*◌, ◌/◌, ◌%◌, inl, inr, ◌==◌, ◌&&◌, nat_le, nat_lt, map, refl, sym, ◌∙◌, ap, subst, arith}
 use Rattle.std.specs.List.{filter, range_with_len}
 use Rattle.std.proofs.lemmas.Bool.{and_from, and_parts, eq-eqb, eqb-true, leb-true, ltb-true, or_left, or_right}
 use Rattle.std.proofs.lemmas.Nat.{mod-mul-add}
@@ -13,7 +13,6 @@ use Rattle.xfs_inode.specs.declared.files.FileRead.{FileRead}
 use Rattle.xfs_inode.specs.declared.files.FileRead.TheVariants as Reads
 use Rattle.xfs_volume.specs.declared.clusters.ClusterRec.{ClusterRec}
 use Rattle.xfs_volume.specs.declared.files.FileRec.{FileRec}
-use Rattle.xfs_space.specs.Owners.{log_owner, run}
 use Rattle.xfs_space.proofs.FreeSpans.{group_short}
 use Rattle.xfs_claims.specs.Keeping.{is_among, kept_of}
 use Rattle.xfs_claims.specs.Ranks as Ranks
@@ -32,14 +31,15 @@ use Rattle.xfs_protected.specs.Guarded.{has_cluster}
 use Rattle.xfs_protected.proofs.Addresses.{IsPlaced, own_cluster, root_placed}
 use Rattle.xfs_protected.proofs.Claimed.{by_lists, covers, spans_are}
 use Rattle.xfs_protected.proofs.Guarded.{IsSet, are_kept}
-use Rattle.xfs_protected.proofs.Members.{Member, any_member, filter_member, flat_member, map_member, member_any, member_either, member_filter, member_flat, member_map, member_row, row_member}
+use Rattle.xfs_protected.proofs.Members.{Member, any_member, filter_member, flat_member, map_member, member_any, member_filter, member_flat, member_map, member_row, row_member}
 
 -- a block of a fixed run is fixed
 run_fixed : (g : Geometry) (block : ℕ) (r : Run) → Member r (fixed_runs (volume_of g)) → covers block r ≡ true → is_fixed (volume_of g) block ≡ true
 run_fixed g block r is on =
     let v : Volume = volume_of g in
-    elim (member_either r (map (header_run v) (range_with_len 0 v.agcount)) (run v.log v.logblocks log_owner 0 ∷ []) is) [
-      | inl head ↦
+    elim is [
+      | inl same ↦ or_right (block % v.agblocks == 0) (nat_le v.log block && nat_lt block (v.log + v.logblocks)) (subst (λ (x : Run). covers block x ≡ true) (sym same) on)
+      | inr head ↦
           let from = map_member (header_run v) r (range_with_len 0 v.agcount) head in
           let on_head : is_block (from.0 * v.agblocks) 1 block ≡ true = subst (λ (x : Run). covers block x ≡ true) (sym from.2) on in
           let parts = and_parts (nat_le (from.0 * v.agblocks) block) (nat_lt block (from.0 * v.agblocks + 1)) on_head in
@@ -49,10 +49,6 @@ run_fixed g block r is on =
           let large = g.shape.groups.large in
           let none : block % v.agblocks ≡ 0 = ap (λ (n : ℕ). n % v.agblocks) same ∙ mod-mul-add from.0 v.agblocks 0 (omega (arith, large)) in
           or_left (block % v.agblocks == 0) (nat_le v.log block && nat_lt block (v.log + v.logblocks)) (eq-eqb (block % v.agblocks) 0 none)
-      | inr tail ↦ elim tail [
-        | inl same ↦ or_right (block % v.agblocks == 0) (nat_le v.log block && nat_lt block (v.log + v.logblocks)) (subst (λ (x : Run). covers block x ≡ true) (sym same) on)
-        | inr none ↦ absurd none
-      ]
     ]
 
 fixed_in : (g : Geometry) (blocks : ℕ → Bool) → AreApart blocks (is_fixed (volume_of g)) → AreApart blocks (is_in (spans_of (fixed_runs (volume_of g))))

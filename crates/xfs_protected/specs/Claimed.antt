@@ -1,5 +1,5 @@
 -- What claims blocks in an image, as what is kept is chosen from it: the fixed blocks, the candidate clusters, the candidate files.
-use Rattle.std.specs.Prelude.{◌≡◌, ◌≢◌, ℕ, true, false, ◌+◌, ◌*◌, List, [], ◌∷◌, ◌++◌, map}
+use Rattle.std.specs.Prelude.{◌≡◌, ◌≢◌, ℕ, true, false, ◌+◌, ◌*◌, List, ◌∷◌, map}
 use Rattle.std.specs.List.{range_with_len}
 use Rattle.xfs_disk.specs.Blocks.{Image}
 use Rattle.xfs_geom.specs.Conversions.{is_fixed}
@@ -26,8 +26,12 @@ file_claim v f = record { ino = f.ino; cluster = cluster_of v f.ino; runs = file
 abbrev pub header_run : Volume → ℕ → Run
 header_run v ag = run (ag * v.agblocks) 1 headers_owner 0
 
+abbrev pub log_run : Volume → Run
+log_run v = run v.log v.logblocks log_owner 0
+
+-- the runs of the blocks with a fixed use
 abbrev pub fixed_runs : Volume → List Run
-fixed_runs v = map (header_run v) (range_with_len 0 v.agcount) ++ run v.log v.logblocks log_owner 0 ∷ []
+fixed_runs v = log_run v ∷ map (header_run v) (range_with_len 0 v.agcount)
 
 -- what these clusters and files of a volume claim
 abbrev pub claims_in : Volume → List ClusterRec → List FileRec → Claims
