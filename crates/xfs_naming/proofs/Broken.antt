@@ -3,15 +3,12 @@ use Rattle.std.proofs.Common.{◌≡◌, ℕ, ◌+◌, ◌<◌, ◌≤◌, Bool,
 use Rattle.std.proofs.Math.Seq.{drop-cons}
 use Rattle.xfs_volume.specs.declared.findings.Law.{Law}
 use Rattle.xfs_volume.specs.Laws.{first_broken}
+use Rattle.xfs_volume.proofs.First.{first_behind, first_empty, first_in}
 
 -- a law is kept, or it is the first that is broken
 pub first_of : (l : Law) (ls : List Law) → first_broken (l ∷ ls) ≡ cond (l.held == l.due) (first_broken ls) (Some l)
 unfolding first_broken
 first_of l ls = refl
-
-pub none_first : first_broken [] ≡ None
-unfolding first_broken
-none_first = refl
 
 -- what is left at a place leads to what all leads to
 pub broken_here : {X : Type 0} (f : X → Law) (xs : List X) (i : ℕ) (d : X) (law : Law) (whole : Option Law) → i < length xs → law ≡ f (get_or xs i d)
@@ -32,37 +29,15 @@ pub broken_found : {X : Type 0} (f : X → Law) (xs : List X) (i : ℕ) (d : X) 
 broken_found f xs i d law whole low same broken before =
     sym (ap (λ (t : Bool). cond t (first_broken (map f (drop (i + 1) xs))) (Some law)) broken) ∙ broken_here f xs i d law whole low same before
 
--- laws behind others that are kept, and behind one that is broken
-pub broken_behind : (ls more : List Law) → first_broken ls ≡ None → first_broken (ls ++ more) ≡ first_broken more
-broken_behind [] more none = refl
-broken_behind (l ∷ ls) more none = first_of l (ls ++ more) ∙ either (l.held == l.due) (broken_behind ls more) (sym (first_of l ls) ∙ none)
-  where
-    either : (t : Bool) → (first_broken ls ≡ None → first_broken (ls ++ more) ≡ first_broken more) → cond t (first_broken ls) (Some l) ≡ None
-        → cond t (first_broken (ls ++ more)) (Some l) ≡ first_broken more
-    either true rest none = rest none
-    either false rest none = cc
-
-pub broken_before : (ls more : List Law) (law : Law) → first_broken ls ≡ Some law → first_broken (ls ++ more) ≡ Some law
-broken_before [] more law found = absurd (apart law (sym none_first ∙ found))
-  where
-    apart : (law : Law) → ◌≡◌ {A = Option Law} None (Some law) → ⊥
-    apart law e = cc
-broken_before (l ∷ ls) more law found = first_of l (ls ++ more) ∙ either (l.held == l.due) (broken_before ls more law) (sym (first_of l ls) ∙ found)
-  where
-    either : (t : Bool) → (first_broken ls ≡ Some law → first_broken (ls ++ more) ≡ Some law) → cond t (first_broken ls) (Some l) ≡ Some law
-        → cond t (first_broken (ls ++ more)) (Some l) ≡ Some law
-    either true rest found = rest found
-    either false rest found = found
-
 pub broken_end : {X : Type 0} (f : X → Law) (xs : List X) (i : ℕ) (whole : Option Law) → length xs ≤ i → first_broken (map f (drop i xs)) ≡ whole → None ≡ whole
-broken_end {X} f xs i whole past before = sym none_first ∙ ap (λ (ys : List X). first_broken (map f ys)) (sym (drop_of_length-le xs {i = i} past)) ∙ before
+broken_end {X} f xs i whole past before = sym first_empty ∙ ap (λ (ys : List X). first_broken (map f ys)) (sym (drop_of_length-le xs {i = i} past)) ∙ before
 
 -- the first law that is broken, of three lists of laws
 pub first_of_three : (a b c : List Law) (law : Law) → first_broken a ≡ Some law → Some law ≡ first_broken (a ++ b ++ c)
-first_of_three a b c law first = sym (broken_before (a ++ b) c law (broken_before a b law first))
+first_of_three a b c law first = sym (first_in (a ++ b) c law (first_in a b law first))
 
 pub second_of_three : (a b c : List Law) (law : Law) → first_broken a ≡ None → first_broken b ≡ Some law → Some law ≡ first_broken (a ++ b ++ c)
-second_of_three a b c law none second = sym (broken_before (a ++ b) c law (broken_behind a b none ∙ second))
+second_of_three a b c law none second = sym (first_in (a ++ b) c law (first_behind a b none ∙ second))
 
 pub third_of_three : (a b c : List Law) → first_broken a ≡ None → first_broken b ≡ None → first_broken c ≡ first_broken (a ++ b ++ c)
-third_of_three a b c none neither = sym (broken_behind (a ++ b) c (broken_behind a b none ∙ neither))
+third_of_three a b c none neither = sym (first_behind (a ++ b) c (first_behind a b none ∙ neither))

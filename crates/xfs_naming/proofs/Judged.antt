@@ -14,7 +14,8 @@ use Rattle.xfs_volume.specs.Names.{is_name, type_of, is_directory, entry_type}
 use Rattle.xfs_naming.specs.Lawful.{IsReached, IsOrdinary, IsSystemFile, HasLawfulEntries, HasLawfulPlaces, HasLawfulLinks, IsNamingLawful}
 use Rattle.xfs_naming.specs.Naming.{is_system, is_in_use, is_directory_at, entries_in, entries_of, names_differ, has_target, has_type, first_failing, directory_tests, directory_at, is_reached, states_parent, root_tests, other_directory_tests, other_file_tests, place_tests, place_at, with_number, numbers_of, links_of, is_empty_regular, links_at, file_at, directory_laws, place_laws, link_laws, naming_laws, AreNamed}
 use Rattle.xfs_naming.specs.Walking.{is_in}
-use Rattle.xfs_naming.proofs.Broken.{first_of, none_first, broken_behind}
+use Rattle.xfs_volume.proofs.First.{first_behind, first_empty}
+use Rattle.xfs_naming.proofs.Broken.{first_of}
 use Rattle.xfs_naming.proofs.Chosen.{any_in_run}
 use Rattle.xfs_naming.proofs.Grouped.{has_record_is}
 use Rattle.xfs_naming.proofs.Kept.{in_with, in_numbers}
@@ -25,11 +26,11 @@ kept_first : (l : Law) (ls : List Law) → l.held ≡ l.due → first_broken ls 
 kept_first l ls same rest = first_of l ls ∙ ap (λ (t : Bool). cond t (first_broken ls) (Some l)) (eq-eqb l.held l.due same) ∙ rest
 
 pub none_broken : {X : Type 0} (f : X → Law) (xs : List X) → All (λ (x : X). (f x).held ≡ (f x).due) xs → first_broken (map f xs) ≡ None
-none_broken f [] kept = none_first
+none_broken f [] kept = first_empty
 none_broken f (x ∷ xs) kept = kept_first (f x) (map f xs) (kept 0 x (omega arith)) (none_broken f xs (λ k d h. kept (suc k) d (omega arith)))
 
 pub none_broken_in : (f : ℕ → Law) (ns : List ℕ) → ((n : ℕ) → is_in ns n ≡ true → (f n).held ≡ (f n).due) → first_broken (map f ns) ≡ None
-none_broken_in f [] kept = none_first
+none_broken_in f [] kept = first_empty
 none_broken_in f (n ∷ ns) kept = kept_first (f n) (map f ns) (kept n (or_left (n == n) _ (eq-eqb n n refl))) (none_broken_in f ns (λ m h. kept m (or_right (m == n) _ h)))
 
 -- tests that all pass
@@ -243,6 +244,6 @@ module _ (root : ℕ) (files : List FileRec) (entries : List EntryRec) (dirs : L
       → IsNamingLawful root files entries dirs → first_broken (naming_laws root files entries dirs) ≡ None
   unfolding naming_laws
   judged_names ways says =
-      broken_behind (directory_laws root files entries dirs ++ place_laws root files entries dirs) (link_laws root files entries)
-      (broken_behind (directory_laws root files entries dirs) (place_laws root files entries dirs) (judged_entries says.directories) ∙ judged_places ways says.places)
+      first_behind (directory_laws root files entries dirs ++ place_laws root files entries dirs) (link_laws root files entries)
+      (first_behind (directory_laws root files entries dirs) (place_laws root files entries dirs) (judged_entries says.directories) ∙ judged_places ways says.places)
       ∙ judged_links says.links

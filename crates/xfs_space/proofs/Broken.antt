@@ -4,6 +4,7 @@ use Rattle.std.proofs.lemmas.Bool.{cases_lt, eq-eqb, eqb-true, true≢false}
 use Rattle.std.specs.List.{range_with_len}
 use Rattle.xfs_volume.specs.declared.findings.Law.{Law}
 use Rattle.xfs_volume.specs.Laws.{first_broken}
+use Rattle.xfs_volume.proofs.First.{first_empty}
 
 -- a law that is broken is not kept
 pub not_equal : (m n : ℕ) → m ≢ n → (m == n) ≡ false
@@ -21,10 +22,6 @@ first_next l ls same = let kept : (l.held == l.due) ≡ true = eq-eqb l.held l.d
 pub first_here : (l : Law) (ls : List Law) → l.held ≢ l.due → first_broken (l ∷ ls) ≡ Some l
 unfolding first_broken
 first_here l ls differ = let broken : (l.held == l.due) ≡ false = not_equal l.held l.due differ in rw broken refl
-
-pub first_empty : first_broken [] ≡ None
-unfolding first_broken
-first_empty = refl
 
 -- no place is broken
 pub none_broken : (f : ℕ → Law) (a n : ℕ) → ((b : ℕ) → a ≤ b → b < a + n → (f b).held ≡ (f b).due) → first_broken (map f (range_with_len a n)) ≡ None
@@ -67,36 +64,3 @@ each_kept f a (suc n) none b low high = by_case ((f a).held == (f a).due) refl (
         let broken = first_here (f a) rest (λ same. true≢false (sym (eq-eqb (f a).held (f a).due same) ∙ e)) in
         let both : Some (f a) ≡ None = sym broken ∙ none in
         absurd (cc)
-
--- laws before others
-pub first_of_two : (xs ys : List Law) → first_broken xs ≡ None → first_broken (xs ++ ys) ≡ first_broken ys
-unfolding first_broken
-first_of_two [] ys none = refl
-first_of_two (x ∷ xs) ys none = by_case (x.held == x.due) none (first_of_two xs ys)
-  where
-    by_case : (t : Bool) → (if t then first_broken xs else Some x) ≡ None → (first_broken xs ≡ None → first_broken (xs ++ ys) ≡ first_broken ys)
-        → (if t then first_broken (xs ++ ys) else Some x) ≡ first_broken ys
-    by_case true none rest = rest none
-    by_case false none rest = absurd (cc)
-
-pub first_of_first : (xs ys : List Law) (l : Law) → first_broken xs ≡ Some l → first_broken (xs ++ ys) ≡ Some l
-unfolding first_broken
-first_of_first [] ys l some = absurd (cc)
-first_of_first (x ∷ xs) ys l some = by_case (x.held == x.due) some (first_of_first xs ys l)
-  where
-    by_case : (t : Bool) → (if t then first_broken xs else Some x) ≡ Some l → (first_broken xs ≡ Some l → first_broken (xs ++ ys) ≡ Some l)
-        → (if t then first_broken (xs ++ ys) else Some x) ≡ Some l
-    by_case true some rest = rest some
-    by_case false some rest = some
-
--- a law that is broken first is broken
-pub first_differs : (ls : List Law) (l : Law) → first_broken ls ≡ Some l → l.held ≢ l.due
-unfolding first_broken
-first_differs [] l some = absurd (cc)
-first_differs (x ∷ xs) l some = by_case (x.held == x.due) refl some (first_differs xs l)
-  where
-    by_case : (t : Bool) → (x.held == x.due) ≡ t → (if t then first_broken xs else Some x) ≡ Some l → (first_broken xs ≡ Some l → l.held ≢ l.due) → l.held ≢ l.due
-    by_case true e some rest = rest some
-    by_case false e some rest =
-        let one : x ≡ l = cc in
-        subst (λ (k : Law). k.held ≢ k.due) one (λ same. true≢false (sym (eq-eqb x.held x.due same) ∙ e))

@@ -12,7 +12,8 @@ use Rattle.xfs_volume.specs.declared.groups.GroupRec.{GroupRec}
 use Rattle.xfs_volume.specs.Laws.{first_broken, first_difference, law_at}
 use Rattle.xfs_space.specs.SpaceLaws.{by_length, free_laws, free_spans, runs_on, span_number, spans_at}
 use Rattle.xfs_space.specs.Sorted.{Follow, IsOfOneGroup, IsSplit}
-use Rattle.xfs_space.proofs.Broken.{first_empty, first_here, first_next, first_of_first, first_of_two}
+use Rattle.xfs_volume.proofs.First.{first_behind, first_empty, first_in}
+use Rattle.xfs_space.proofs.Broken.{first_here, first_next}
 use Rattle.xfs_space.proofs.FreeSpans.{free_same, group_short}
 use Rattle.xfs_space.proofs.OwnedRuns.{from_head}
 use Rattle.xfs_space.proofs.Splits.{parts_of}
@@ -79,12 +80,12 @@ pub law_kept : (v : Volume) (ag : ℕ) (gs : List GroupRec) (g : GroupRec) (runs
     → free_spans v runs ag ≡ free_spans v front ag → first_broken (group_laws v ag g front) ≡ None → first_broken (free_laws v runs ag (drop ag gs)) ≡ whole
     → first_broken (free_laws v runs (ag + 1) (drop (ag + 1) gs)) ≡ whole
 law_kept v ag gs g runs front whole h is same none left =
-    sym (first_of_two (group_laws v ag g front) (free_laws v runs (ag + 1) (drop (ag + 1) gs)) none) ∙ ap first_broken (sym (laws_next v ag gs g runs front h is same)) ∙ left
+    sym (first_behind (group_laws v ag g front) (free_laws v runs (ag + 1) (drop (ag + 1) gs)) none) ∙ ap first_broken (sym (laws_next v ag gs g runs front h is same)) ∙ left
 
 pub law_broken : (v : Volume) (ag : ℕ) (gs : List GroupRec) (g : GroupRec) (runs front : List Run) (law : Law) (whole : Option Law) → ag < length gs → g ≡ get_or gs ag g
     → free_spans v runs ag ≡ free_spans v front ag → first_broken (group_laws v ag g front) ≡ Some law → first_broken (free_laws v runs ag (drop ag gs)) ≡ whole → Some law ≡ whole
 law_broken v ag gs g runs front law whole h is same some left =
-    sym (first_of_first (group_laws v ag g front) (free_laws v runs (ag + 1) (drop (ag + 1) gs)) law some) ∙ ap first_broken (sym (laws_next v ag gs g runs front h is same)) ∙ left
+    sym (first_in (group_laws v ag g front) (free_laws v runs (ag + 1) (drop (ag + 1) gs)) law some) ∙ ap first_broken (sym (laws_next v ag gs g runs front h is same)) ∙ left
 
 -- two lists of runs, from a place on
 pub equal_here : (held due : List Span) (i : ℕ) (d : Span) → i < length held → i < length due → span_number (get_or held i d) ≡ span_number (get_or due i d)
@@ -107,7 +108,7 @@ spans_broken place held due found is differ =
 pub first_tree : (v : Volume) (ag : ℕ) (g : GroupRec) (runs : List Run) (held due : List Span) (law : Law) → held ≡ g.bno → due ≡ free_spans v runs ag
     → Some law ≡ first_broken (spans_at (2 * ag) held due ∷ []) → Some law ≡ first_broken (group_laws v ag g runs)
 first_tree v ag g runs held due law is_held is_due some =
-    sym (first_of_first (spans_at (2 * ag) g.bno (free_spans v runs ag) ∷ []) (spans_at (2 * ag + 1) g.cnt (by_length (free_spans v runs ag)) ∷ []) law
+    sym (first_in (spans_at (2 * ag) g.bno (free_spans v runs ag) ∷ []) (spans_at (2 * ag + 1) g.cnt (by_length (free_spans v runs ag)) ∷ []) law
     (sym (some ∙ ap₂ (λ (h d : List Span). first_broken (spans_at (2 * ag) h d ∷ [])) is_held is_due)))
 
 pub second_tree : (v : Volume) (ag : ℕ) (g : GroupRec) (runs : List Run) (held due held_ranked due_ranked : List Span) (law : Option Law) → held ≡ g.bno → due ≡ free_spans v runs ag
@@ -115,5 +116,5 @@ pub second_tree : (v : Volume) (ag : ℕ) (g : GroupRec) (runs : List Run) (held
     → law ≡ first_broken (spans_at (2 * ag + 1) held_ranked due_ranked ∷ []) → law ≡ first_broken (group_laws v ag g runs)
 second_tree v ag g runs held due held_ranked due_ranked law is_held is_due is_ranked is_due_ranked none is =
     is ∙ ap₂ (λ (h d : List Span). first_broken (spans_at (2 * ag + 1) h d ∷ [])) is_ranked is_due_ranked
-    ∙ sym (first_of_two (spans_at (2 * ag) g.bno (free_spans v runs ag) ∷ []) (spans_at (2 * ag + 1) g.cnt (by_length (free_spans v runs ag)) ∷ [])
+    ∙ sym (first_behind (spans_at (2 * ag) g.bno (free_spans v runs ag) ∷ []) (spans_at (2 * ag + 1) g.cnt (by_length (free_spans v runs ag)) ∷ [])
     (sym (none ∙ ap₂ (λ (h d : List Span). first_broken (spans_at (2 * ag) h d ∷ [])) is_held is_due)))

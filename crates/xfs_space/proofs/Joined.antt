@@ -12,7 +12,7 @@ use Rattle.xfs_space.specs.Owners.{owned_runs}
 use Rattle.xfs_space.specs.RunLaws.{AreLawful, run_laws}
 use Rattle.xfs_space.specs.SpaceLaws.{IsSpaceLawful, free_laws, owner_laws, recorded_runs, sharing_laws, space_laws}
 use Rattle.xfs_space.specs.Sorted.{IsOwned}
-use Rattle.xfs_space.proofs.Broken.{first_differs, first_of_two}
+use Rattle.xfs_volume.proofs.First.{first_behind, first_differs}
 use Rattle.xfs_space.proofs.FreeKept.{free_none}
 use Rattle.xfs_space.proofs.Moved.{laws_moved, lawful_moved}
 use Rattle.xfs_space.proofs.OwnerLaws.{law_kept}
@@ -42,7 +42,7 @@ none_in_space v gs fs lawful =
     let free = free_none v runs 0 gs lawful.free in
     let owners = law_kept v (recorded_runs v.agblocks 0 gs) runs lawful.owners in
     ap first_broken (sym (space_of v gs fs))
-    ∙ first_of_two (sharing_laws v runs ++ free_laws v runs 0 gs) (owner_laws v (recorded_runs v.agblocks 0 gs) runs) (first_of_two (sharing_laws v runs) (free_laws v runs 0 gs) sharing ∙ free)
+    ∙ first_behind (sharing_laws v runs ++ free_laws v runs 0 gs) (owner_laws v (recorded_runs v.agblocks 0 gs) runs) (first_behind (sharing_laws v runs) (free_laws v runs 0 gs) sharing ∙ free)
     ∙ owners
 
 pub held_differs : (o : Option Law) (ls : List Law) → o ≡ first_broken ls → IfSome o (λ (l : Law). l.held ≢ l.due)

@@ -15,7 +15,8 @@ use Rattle.xfs_volume.specs.Laws.{first_broken}
 use Rattle.xfs_space.specs.RunLaws.{AreLawful, run_laws}
 use Rattle.xfs_space.specs.SpaceLaws.{AllAreFree, by_length, covers, free_laws, free_spans, owner_at, owner_laws, owner_number, recorded_runs, runs_on, sharing_at, sharing_laws, spans_at}
 use Rattle.xfs_space.specs.Sorted.{IsOwned}
-use Rattle.xfs_space.proofs.Broken.{each_kept, first_of_first}
+use Rattle.xfs_volume.proofs.First.{first_in}
+use Rattle.xfs_space.proofs.Broken.{each_kept}
 use Rattle.xfs_space.proofs.FreeSpans.{free_same}
 use Rattle.xfs_space.proofs.Shared.{none_outside, on-cons}
 
@@ -121,7 +122,7 @@ laws_moved v gs xs ys moved owned = by_case (first_broken (sharing_laws v xs)) r
     by_case : (o : Option Law) → first_broken (sharing_laws v xs) ≡ o → first_broken (run_laws v gs ys) ≡ first_broken (run_laws v gs xs)
     by_case (Some l) e =
         let all = λ (rs : List Run) (some : first_broken (sharing_laws v rs) ≡ Some l).
-        first_of_first (sharing_laws v rs ++ free_laws v rs 0 gs) (owner_laws v (recorded_runs v.agblocks 0 gs) rs) l (first_of_first (sharing_laws v rs) (free_laws v rs 0 gs) l some) in
+        first_in (sharing_laws v rs ++ free_laws v rs 0 gs) (owner_laws v (recorded_runs v.agblocks 0 gs) rs) l (first_in (sharing_laws v rs) (free_laws v rs 0 gs) l some) in
         all ys (ap first_broken (sharing_moved v xs ys moved) ∙ e) ∙ sym (all xs e)
     by_case None e =
         let owners = owners_moved v (recorded_runs v.agblocks 0 gs) xs ys moved (kept_once v xs owned e) in

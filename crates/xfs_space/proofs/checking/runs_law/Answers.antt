@@ -2,7 +2,7 @@ use Rattle.std.proofs.Common.{append_assoc, sym, ◌∙◌, ap, ◌++◌}
 use Rattle.xfs_geom.specs.Volumes.{volume_of}
 use Rattle.xfs_volume.specs.Laws.{first_broken}
 use Rattle.xfs_space.specs.SpaceLaws.{free_laws, owner_laws, recorded_runs, sharing_laws}
-use Rattle.xfs_space.proofs.Broken.{first_of_first, first_of_two}
+use Rattle.xfs_volume.proofs.First.{first_behind, first_in}
 use Rattle.xfs_space.proofs.Shared.{follow_once}
 use Rattle.xfs_space.proofs.checking.runs_law.Goals as goal
 
@@ -12,7 +12,7 @@ returns-in-Some-clause-law c =
     let sharing = sharing_laws v c.args.runs.now in
     let frees = free_laws v c.args.runs.now 0 c.args.groups.now in
     let owners = owner_laws v (recorded_runs c.args.g.now.agblocks 0 c.args.groups.now) c.args.runs.now in
-    sym (ap first_broken (append_assoc sharing frees owners) ∙ first_of_first sharing (frees ++ owners) c.in-Some.law (sym (c.in-Some.ensures.law v c.requires.owned)))
+    sym (ap first_broken (append_assoc sharing frees owners) ∙ first_in sharing (frees ++ owners) c.in-Some.law (sym (c.in-Some.ensures.law v c.requires.owned)))
 
 pub returns-in_ok-law-in-None-clause-law : goal.returns-in_ok-law-in-None-clause-law
 returns-in_ok-law-in-None-clause-law c =
@@ -21,7 +21,7 @@ returns-in_ok-law-in-None-clause-law c =
     let frees = free_laws v c.args.runs.now 0 c.args.groups.now in
     let owners = owner_laws v (recorded_runs c.args.g.now.agblocks 0 c.args.groups.now) c.args.runs.now in
     c.in_ok-law-in-None.ensures.law
-    ∙ sym (ap first_broken (append_assoc sharing frees owners) ∙ first_of_two sharing (frees ++ owners) (sym (c.in-None.ensures.law v c.requires.owned)))
+    ∙ sym (ap first_broken (append_assoc sharing frees owners) ∙ first_behind sharing (frees ++ owners) (sym (c.in-None.ensures.law v c.requires.owned)))
 
 pub returns-in_ok-law-in-None-clause-lawful : goal.returns-in_ok-law-in-None-clause-lawful
 returns-in_ok-law-in-None-clause-lawful c none =

@@ -3,21 +3,21 @@ use Rattle.xfs_geom.specs.Volumes.{volume_of}
 use Rattle.xfs_volume.specs.declared.findings.Law.{Law}
 use Rattle.xfs_space.specs.Maps.{AreAlike}
 use Rattle.xfs_space.specs.SpaceLaws.{free_laws, owner_laws, recorded_runs}
-use Rattle.xfs_space.proofs.Broken.{first_of_first, first_of_two}
+use Rattle.xfs_volume.proofs.First.{first_behind, first_in}
 use Rattle.xfs_space.proofs.FreeKept.{free_kept}
 use Rattle.xfs_space.proofs.checking.trees_law.Goals as goal
 
 pub returns-in-Some-clause-law : goal.returns-in-Some-clause-law
 returns-in-Some-clause-law c =
     let v = volume_of c.args.g.now in
-    sym (first_of_first (free_laws v c.args.runs.now 0 c.args.groups.now) (owner_laws v (recorded_runs c.args.g.now.agblocks 0 c.args.groups.now) c.args.runs.now) c.in-Some.law
+    sym (first_in (free_laws v c.args.runs.now 0 c.args.groups.now) (owner_laws v (recorded_runs c.args.g.now.agblocks 0 c.args.groups.now) c.args.runs.now) c.in-Some.law
     (sym c.in_ok-law.ensures ∙ c.in-Some.is))
 
 pub returns-in-None-clause-law : goal.returns-in-None-clause-law
 returns-in-None-clause-law c =
     let v = volume_of c.args.g.now in
     c.owner_law.ensures.law
-    ∙ sym (first_of_two (free_laws v c.args.runs.now 0 c.args.groups.now) (owner_laws v (recorded_runs c.args.g.now.agblocks 0 c.args.groups.now) c.args.runs.now)
+    ∙ sym (first_behind (free_laws v c.args.runs.now 0 c.args.groups.now) (owner_laws v (recorded_runs c.args.g.now.agblocks 0 c.args.groups.now) c.args.runs.now)
     (sym c.in_ok-law.ensures ∙ c.in-None.is))
 
 pub returns-in-None-clause-lawful : goal.returns-in-None-clause-lawful

@@ -5,7 +5,7 @@ use Rattle.xfs_volume.specs.declared.groups.GroupRec.{GroupRec}
 use Rattle.xfs_volume.specs.Laws.{first_broken}
 use Rattle.xfs_space.specs.SpaceLaws.{free_laws}
 use Rattle.xfs_space.specs.Sorted.{IsSplit}
-use Rattle.xfs_space.proofs.Broken.{first_empty}
+use Rattle.xfs_volume.proofs.First.{first_empty}
 use Rattle.xfs_space.proofs.FreeLaws.{apart, follow_low, free_front, law_broken, law_kept, rest_next}
 use Rattle.xfs_space.proofs.Splits.{parts_of}
 use Rattle.xfs_space.proofs.free_space.free_law.Goals as goal
