@@ -5,7 +5,7 @@ use Rattle.xfs_volume.specs.declared.findings.Law.{Law}
 use Rattle.xfs_volume.specs.declared.groups.GroupRec.{GroupRec}
 use Rattle.xfs_volume.specs.Laws.{first_broken}
 use Rattle.xfs_laws.specs.Counting.{by_group}
-use Rattle.xfs_laws.proofs.Firsts.{first_in, first_behind}
+use Rattle.xfs_volume.proofs.First.{first_behind, first_in}
 
 -- the laws of the groups from one on are its own and those of the groups behind it
 next : (laws : ℕ → GroupRec → List Law) (groups : List GroupRec) (i ag : ℕ) (d : GroupRec) → i < length groups
