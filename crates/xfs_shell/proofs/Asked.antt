@@ -1,5 +1,5 @@
 -- Outcomes of a session by what was asked for.
-use Rattle.std.proofs.Common.{◌≡◌, ◌==◌, ℕ, zero, suc, true, false, List, [], ◌∷◌, length, Option, Some, None, Result, Ok, Err, refl, inl, inr, sym, ◌∙◌, ap, arith}
+use Rattle.std.proofs.Common.{◌≡◌, ◌==◌, ℕ, zero, suc, true, false, List, [], ◌∷◌, length, Option, Some, None, Result, Ok, Err, IfOk, refl, inl, inr, sym, ◌∙◌, ap, arith}
 use Rattle.std.proofs.lemmas.Bool.{eqb-true, true≢false}
 use Rattle.xfs_geom.specs.Election.{Vote}
 use Rattle.xfs_geom.specs.declared.election.ElectFault.{ElectFault}
@@ -120,3 +120,8 @@ pub asked_most : (commands : List (List ℕ)) (left : Option (List ℕ)) (ran : 
     → until_quit ran ≡ most_of (told_lines commands left)
 asked_most commands left ran are some =
     ap until_quit are ∙ ap (λ (ls : Option (List (List ℕ))). most_of ls) (sym (commands_told commands left some))
+
+-- what holds of each vote holds of one that was elected
+pub whatever_elected : (due : Result Vote ElectFault) (P : Vote → Type 0) → ((vote : Vote) → P vote) → IfOk due P
+whatever_elected (Ok vote) P each = each vote
+whatever_elected (Err other) P each = tt

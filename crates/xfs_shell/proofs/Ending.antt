@@ -6,13 +6,13 @@ use Rattle.std.proofs.Math.Seq.{take-append-add}
 use Rattle.xfs_disk.specs.Blocks.{Image}
 use Rattle.xfs_geom.specs.Volumes.{Volume}
 use Rattle.xfs_commands.specs.Commands.{Effect, Put, Session}
-use Rattle.xfs_shell.specs.Ends.{HasLineCause, IsBehind, IsPrefixPut, IsStopped, LeavesLine, PutsLine}
+use Rattle.xfs_shell.specs.Ends.{HasLineCause, IsBehind, IsPrefixPut, IsHalted, LeavesLine, PrintsLine}
 use Rattle.xfs_shell.specs.Running.{Run, after_line, attempts, begun, block_at_place, count_put, extended, image_after, shelled}
 use Rattle.xfs_commands.specs.Cursors.{is_quit}
 use Rattle.xfs_commands.specs.Verbs.{word_at}
 use Rattle.xfs_shell.specs.Lines.{parts_of}
 use Rattle.xfs_shell.specs.Sessions.{IsWrittenBehind, Stays, raised_put}
-use Rattle.xfs_shell.specs.Shells.{HasCause, IsEarly, IsGoing, IsOfLines, LeavesDisk, Puts, outcome_behind, stopped_outcome}
+use Rattle.xfs_shell.specs.Shells.{HasCause, IsEarly, IsGoing, IsOfLines, LeavesDisk, Prints, outcome_behind, stopped_outcome}
 use Rattle.xfs_shell.specs.Steps.{raised_times}
 use Rattle.xfs_shell.proofs.Stepping.{HasEndCount, HasStopCount}
 use Rattle.xfs_disk.specs.Faults.{Rose}
@@ -120,6 +120,11 @@ module _ (v : Volume) (leave : Leave) (lines : List (List ℕ)) (image : Image) 
       ∙ ap (λ (f : Effect). extended (shelled v leave (take i lines) image) f)
       (sym (due_effect v leave (shelled v leave (take i lines) image) line (get_or lines i d) s at.session_is line_is))
 
+  -- the image behind the line
+  pub next_image : i < length lines → line ≡ get_or lines i d → IsAt v leave lines image i s now writes writes_now
+      → image_after line_effect.put (shelled v leave (take i lines) image).image ≡ (shelled v leave (take (i + 1) lines) image).image
+  next_image within line_is at = ap (λ (q : Run). q.image) (sym (due_run within line_is at))
+
   next_at : (verdict : Verdict) (s' : Session) (now' : Option Image) (writes' : ℕ)
       → i < length lines → line ≡ get_or lines i d → IsAt v leave lines image i s now writes writes_now
       → IsBehind line_effect (shelled v leave (take i lines) image).image verdict s' now' writes_now writes'
@@ -173,7 +178,7 @@ module _ (v : Volume) (leave : Leave) (lines : List (List ℕ)) (image : Image) 
       → IsBehind line_effect (shelled v leave (take i lines) image).image verdict s' now' writes_now writes'
       → is_quit verdict ≡ true
       → took' ≡ Some (before ++ (shelled v leave (take i lines) image).text ++ line_effect.text)
-      → Puts v leave lines image before took' Done
+      → Prints v leave lines image before took' Done
   text_quitted verdict s' now' writes' before took' within line_is at put off text =
       let n = next_at verdict s' now' writes' within line_is at put in
       text_stepped before took' within line_is at text
@@ -232,8 +237,8 @@ module _ (v : Volume) (leave : Leave) (lines : List (List ℕ)) (image : Image) 
 
   pub text_ended : (ended : LineEnd) (before : List ℕ) (took' : Option (List ℕ))
       → i < length lines → line ≡ get_or lines i d → IsAt v leave lines image i s now writes writes_now
-      → PutsLine line_effect (before ++ (shelled v leave (take i lines) image).text) took' (Err ended)
-      → Puts v leave lines image before took' (outcome_behind i ended)
+      → PrintsLine line_effect (before ++ (shelled v leave (take i lines) image).text) took' (Err ended)
+      → Prints v leave lines image before took' (outcome_behind i ended)
   text_ended (end.Stopped stop.ReadFault) before took' within line_is at put = put
   text_ended (end.Stopped (stop.WriteFault written)) before took' within line_is at put = put
   text_ended (end.Stopped stop.NoMemory) before took' within line_is at put = put
@@ -265,7 +270,7 @@ at_end v leave lines image i s now writes writes_now all at =
     }
 
 pub text_at_end : (v : Volume) (leave : Leave) (lines : List (List ℕ)) (image : Image) (i : ℕ) (before : List ℕ) (took : Option (List ℕ))
-    → length lines ≤ i → took ≡ Some (before ++ (shelled v leave (take i lines) image).text) → Puts v leave lines image before took Done
+    → length lines ≤ i → took ≡ Some (before ++ (shelled v leave (take i lines) image).text) → Prints v leave lines image before took Done
 text_at_end v leave lines image i before took all text =
     text ∙ ap (λ (ls : List (List ℕ)). Some (before ++ (shelled v leave ls image).text)) (take_all i lines all)
 
@@ -296,7 +301,7 @@ ran_lines k (end.Stopped stop.NoMemory) = tt
 ran_lines k end.OutputFault = tt
 
 -- an early end is that of the first line, which was stopped
-pub early_first : (k : ℕ) (ended : LineEnd) → IsEarly (outcome_behind k ended) → (k ≡ 0) × IsStopped {T = Verdict} (Err ended)
+pub early_first : (k : ℕ) (ended : LineEnd) → IsEarly (outcome_behind k ended) → (k ≡ 0) × IsHalted {T = Verdict} (Err ended)
 early_first k (end.Stopped stop.ReadFault) early = (early, tt)
 early_first k (end.Stopped (stop.WriteFault written)) early = absurd early
 early_first k (end.Stopped stop.NoMemory) early = (early, tt)

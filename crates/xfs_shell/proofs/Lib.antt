@@ -3,6 +3,7 @@ pub mod Settling
 pub mod KeptRuns
 pub mod Pushing
 pub mod Stepping
+pub mod Passing
 pub mod Quitting
 pub mod Ending
 pub mod Filling

@@ -216,3 +216,12 @@ behind_stays v leave words image s t place stop.NoMemory held at is stays = stay
 behind_stays v leave words image s t place (stop.WriteFault written) held at is stays =
     let due = attempts_due v leave words image s t place at is in
     subst (λ (f : Effect). Stays f image held (stop.WriteFault written)) (sym due) stays
+
+-- and the block that it writes
+pub behind_puts : (v : Volume) (leave : Leave) (words : List (List ℕ)) (image : Image) (s t : Session) (place : Place)
+    → s.at ≡ Some place → t ≡ pushed (pushes_in words) place s
+    → image_after (runs_first v leave (drop (pushes_in words) words) (block_at_place image t.at) t).put image
+    ≡ image_after (attempts v leave words (block_at_place image s.at) s).put image
+behind_puts v leave words image s t place at is =
+    let due = attempts_due v leave words image s t place at is in
+    ap (λ (f : Effect). image_after f.put image) (sym due)

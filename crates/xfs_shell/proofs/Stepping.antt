@@ -41,7 +41,7 @@ HasEndCount writes writes_now end.OutputFault = Unit {0}
 module _ {D : Type 0} (size : D → ℕ) (holds : D → Option Image) (faults write_faults reads writes : D → ℕ) (tells_stops : D → Type 0)
     (moment : D → ℕ) (may_leave : D → ℕ → List ℕ → Type 0) (left_since : D → ℕ → Image → Type 0) where
   -- what is kept stays so while the disk is read
-  kept_reads : (a b : D) → OnlyReads size holds write_faults writes tells_stops moment may_leave left_since a b → tells_stops a
+  pub kept_reads : (a b : D) → OnlyReads size holds write_faults writes tells_stops moment may_leave left_since a b → tells_stops a
       → IsKept holds may_leave a → IsKept holds may_leave b
   kept_reads a b only told kept = λ image held block bytes may. kept image (sym only.same_contents ∙ held) block bytes (only.leaves told block bytes may)
 

@@ -28,17 +28,17 @@ LeavesLine e image session now writes writes_now (Err (line.Stopped stop)) = Sta
 LeavesLine e image session now writes writes_now (Err line.OutputFault) =
     (now ≡ Some (image_after e.put image)) × (writes_now ≡ raised_put e.put writes)
 
--- what it puts
-abbrev pub PutsLine : Effect → List ℕ → Option (List ℕ) → Result Verdict LineEnd → Type 0
-PutsLine e before took (Ok verdict) = took ≡ Some (before ++ e.text)
-PutsLine e before took (Err (line.Stopped stop)) = took ≡ Some before
-PutsLine e before took (Err line.OutputFault) = IsPrefixPut before 0 e.text took
+-- what it prints
+abbrev pub PrintsLine : Effect → List ℕ → Option (List ℕ) → Result Verdict LineEnd → Type 0
+PrintsLine e before took (Ok verdict) = took ≡ Some (before ++ e.text)
+PrintsLine e before took (Err (line.Stopped stop)) = took ≡ Some before
+PrintsLine e before took (Err line.OutputFault) = IsPrefixPut before 0 e.text took
 
 -- nothing is put of a command that was stopped
-abbrev pub IsStopped : {T : Type 0} → Result T LineEnd → Type 0
-IsStopped (Ok _) = ⊥
-IsStopped (Err (line.Stopped stop)) = Unit {0}
-IsStopped (Err line.OutputFault) = ⊥
+abbrev pub IsHalted : {T : Type 0} → Result T LineEnd → Type 0
+IsHalted (Ok _) = ⊥
+IsHalted (Err (line.Stopped stop)) = Unit {0}
+IsHalted (Err line.OutputFault) = ⊥
 
 -- the counts of faults have not fallen
 pub record HasCounts (faults faults_now write_faults write_faults_now put_faults put_faults_now : ℕ) : Type 0 where

@@ -5,3 +5,4 @@ pub mod Sessions
 pub mod Ends
 pub mod Inputs
 pub mod Shells
+pub mod Stops

@@ -141,15 +141,15 @@ pub record LeavesDisk (v : Volume) (leave : Leave) (lines : List (List ℕ)) (im
   pub writes_are : CountsWrites v leave lines image writes writes_now outcome
   pub finished_are : Finishes v leave lines image outcome
 
--- what lines put: the text of the commands that were finished, or a part of it that has all but the last one's where that could not be put
-abbrev pub Puts : Volume → Leave → List (List ℕ) → Image → List ℕ → Option (List ℕ) → ShellOutcome → Type 0
-Puts v leave lines image before took Done = took ≡ Some (before ++ (shelled v leave lines image).text)
-Puts v leave lines image before took (ReadFault k) = took ≡ Some (before ++ (shelled_first v leave lines image k).text)
-Puts v leave lines image before took (WriteFault written k) = took ≡ Some (before ++ (shelled_first v leave lines image k).text)
-Puts v leave lines image before took (OutputFault k) =
+-- what lines print: the text of the commands that were finished, or a part of it that has all but the last one's where that could not be put
+abbrev pub Prints : Volume → Leave → List (List ℕ) → Image → List ℕ → Option (List ℕ) → ShellOutcome → Type 0
+Prints v leave lines image before took Done = took ≡ Some (before ++ (shelled v leave lines image).text)
+Prints v leave lines image before took (ReadFault k) = took ≡ Some (before ++ (shelled_first v leave lines image k).text)
+Prints v leave lines image before took (WriteFault written k) = took ≡ Some (before ++ (shelled_first v leave lines image k).text)
+Prints v leave lines image before took (OutputFault k) =
     IsPrefixPut before (length (shelled_first v leave lines image (k - 1)).text) (shelled_first v leave lines image k).text took
-Puts v leave lines image before took (NoMemory k) = took ≡ Some (before ++ (shelled_first v leave lines image k).text)
-Puts v leave lines image before took outcome = took ≡ Some before
+Prints v leave lines image before took (NoMemory k) = took ≡ Some (before ++ (shelled_first v leave lines image k).text)
+Prints v leave lines image before took outcome = took ≡ Some before
 
 -- a fault is answered only where its count rose
 abbrev pub HasCause : ℕ → ℕ → ℕ → ℕ → ℕ → ℕ → ℕ → ℕ → ShellOutcome → Type 0

@@ -5,7 +5,8 @@ ghost use Rattle.std.specs.Option.{ForSome};
 ghost use Rattle.xfs_geom.specs.Election.{elected};
 ghost use Rattle.xfs_geom.specs.Volumes.{stated_volume, volume_of};
 ghost use Rattle.xfs_shell.specs.Running.{may_write};
-ghost use Rattle.xfs_shell.specs.Shells.{input_lines, leave_of, most_of, told_lines, HasCause, HasElected, HasInput, IsEarly, IsPastElection, LeavesDisk, Puts, RunsOver};
+ghost use Rattle.xfs_shell.specs.Shells.{input_lines, leave_of, most_of, told_lines, HasCause, HasElected, HasInput, IsEarly, IsPastElection, LeavesDisk, Prints, RunsOver};
+ghost use Rattle.xfs_shell.specs.Stops.{HasPassed, StopsBetween};
 
 use crate::input::{InputFault, read_input};
 use crate::lines::{Cut, parts};
@@ -33,7 +34,9 @@ pub fn shell<D: Disk, S: Source, O: Sink>(
     ensures image { ForSome (D.holds disk.old) (λ image. IfOk (elected image) (λ vote. ForSome (told_lines options.now.commands (S.left input.old)) (λ lines.
         LeavesDisk (stated_volume vote.sector) (leave_of options.now) lines image (D.holds disk.new) (D.writes disk.old) (D.writes disk.new) result))) }
     ensures text { ForSome (D.holds disk.old) (λ image. IfOk (elected image) (λ vote. ForSome (told_lines options.now.commands (S.left input.old)) (λ lines.
-        ForSome (O.took out.old) (λ before. Puts (stated_volume vote.sector) (leave_of options.now) lines image before (O.took out.new) result)))) }
+        ForSome (O.took out.old) (λ before. Prints (stated_volume vote.sector) (leave_of options.now) lines image before (O.took out.new) result)))) }
+    ensures stops { ForSome (D.holds disk.old) (λ image. IfOk (elected image) (λ vote. ForSome (told_lines options.now.commands (S.left input.old)) (λ lines.
+        StopsBetween D.holds D.tells_stops D.moment D.may_leave D.left_since (stated_volume vote.sector) (leave_of options.now) lines image disk.old disk.new))) }
     ensures silent { IsEarly result → O.took out.new ≡ O.took out.old }
     ensures appends { ForSome (O.took out.old) (λ before. (rest : List ℕ) × (O.took out.new ≡ Some (before ++ rest))) }
     ensures disk { RunsOver D.size D.holds D.reads D.writes D.write_faults D.tells_stops D.moment D.may_leave D.left_since (may_write (leave_of options.now))
@@ -69,7 +72,9 @@ fn run_asked<D: Disk, S: Source, O: Sink>(
     ensures image { ForSome (D.holds disk.old) (λ image. ForSome (told_lines options.now.commands (S.left input.old)) (λ lines.
         LeavesDisk (volume_of geometry.now) (leave_of options.now) lines image (D.holds disk.new) (D.writes disk.old) (D.writes disk.new) result)) }
     ensures text { ForSome (D.holds disk.old) (λ image. ForSome (told_lines options.now.commands (S.left input.old)) (λ lines.
-        ForSome (O.took out.old) (λ before. Puts (volume_of geometry.now) (leave_of options.now) lines image before (O.took out.new) result))) }
+        ForSome (O.took out.old) (λ before. Prints (volume_of geometry.now) (leave_of options.now) lines image before (O.took out.new) result))) }
+    ensures stops { ForSome (D.holds disk.old) (λ image. ForSome (told_lines options.now.commands (S.left input.old)) (λ lines.
+        HasPassed D.holds D.tells_stops D.moment D.may_leave D.left_since (volume_of geometry.now) (leave_of options.now) lines image disk.old disk.new)) }
     ensures silent { IsEarly result → O.took out.new ≡ O.took out.old }
     ensures appends { ForSome (O.took out.old) (λ before. (rest : List ℕ) × (O.took out.new ≡ Some (before ++ rest))) }
     ensures disk { RunsOver D.size D.holds D.reads D.writes D.write_faults D.tells_stops D.moment D.may_leave D.left_since (may_write (leave_of options.now))
@@ -104,7 +109,9 @@ fn run_input<D: Disk, S: Source, O: Sink>(
     ensures image { ForSome (D.holds disk.old) (λ image. ForSome (input_lines (S.left input.old)) (λ lines.
         LeavesDisk (volume_of geometry.now) leave lines image (D.holds disk.new) (D.writes disk.old) (D.writes disk.new) result)) }
     ensures text { ForSome (D.holds disk.old) (λ image. ForSome (input_lines (S.left input.old)) (λ lines.
-        ForSome (O.took out.old) (λ before. Puts (volume_of geometry.now) leave lines image before (O.took out.new) result))) }
+        ForSome (O.took out.old) (λ before. Prints (volume_of geometry.now) leave lines image before (O.took out.new) result))) }
+    ensures stops { ForSome (D.holds disk.old) (λ image. ForSome (input_lines (S.left input.old)) (λ lines.
+        HasPassed D.holds D.tells_stops D.moment D.may_leave D.left_since (volume_of geometry.now) leave lines image disk.old disk.new)) }
     ensures silent { IsEarly result → O.took out.new ≡ O.took out.old }
     ensures appends { ForSome (O.took out.old) (λ before. (rest : List ℕ) × (O.took out.new ≡ Some (before ++ rest))) }
     ensures disk { RunsOver D.size D.holds D.reads D.writes D.write_faults D.tells_stops D.moment D.may_leave D.left_since (may_write leave)

@@ -6,8 +6,9 @@ ghost use Rattle.xfs_geom.specs.Volumes.{volume_of};
 ghost use Rattle.xfs_commands.specs.Commands.{session_of, IsWithin};
 ghost use Rattle.xfs_commands.specs.Cursors.{is_quit};
 ghost use Rattle.xfs_commands.specs.Verbs.{accepted};
-ghost use Rattle.xfs_shell.specs.Running.{attempts, block_at_place, is_push, is_push_verb, is_quit_verb, is_quit_words, pushes_in, may_write, runs, runs_addr, runs_first, runs_named, runs_placeless, runs_print, sets_here, writes};
+ghost use Rattle.xfs_shell.specs.Running.{attempts, block_at_place, image_after, is_push, is_push_verb, is_quit_verb, is_quit_words, pushes_in, may_write, runs, runs_addr, runs_first, runs_named, runs_placeless, runs_print, sets_here, writes};
 ghost use Rattle.xfs_shell.specs.Sessions.{stopped, IsWrittenBehind, Outcome};
+ghost use Rattle.xfs_shell.specs.Stops.{Passes};
 ghost use Rattle.xfs_shell.specs.Steps.{stop_of, IsRead, IsStep, IsWritten};
 
 use std::alloc::Global;
@@ -63,6 +64,7 @@ fn run_verb<D: Disk>(
     requires within { IsWithin geometry.now.dblocks (session_of cursor.old) }
     ensures within { IsWithin geometry.now.dblocks (session_of cursor.new) }
     ensures outcome { ForSome (D.holds disk.old) (λ image. Outcome (runs (volume_of geometry.now) leave verb name.now arguments.now (block_at_place image (session_of cursor.old).at) (session_of cursor.old)) image text.old.items text.new.items (session_of cursor.new) (D.holds disk.new) (D.writes disk.old) (D.writes disk.new) result) }
+    ensures passes { ForSome (D.holds disk.old) (λ image. Passes D.holds D.tells_stops D.moment D.may_leave D.left_since image (image_after (runs (volume_of geometry.now) leave verb name.now arguments.now (block_at_place image (session_of cursor.old).at) (session_of cursor.old)).put image) disk.old disk.new) }
     ensures disk { IsStep D.size D.holds D.faults D.write_faults D.reads D.writes D.tells_stops D.moment D.may_leave D.left_since (may_write leave) disk.old disk.new (stop_of result) }
     ensures quits { is_quit_verb (Some verb) ≡ true → IfOk result (λ verdict. is_quit verdict ≡ true) }
 {
@@ -139,6 +141,7 @@ fn run_write<D: Disk>(
 ) -> Result<Verdict, Stop>
     requires within { IsWithin (D.size disk.old) (session_of cursor.now) }
     ensures outcome { ForSome (D.holds disk.old) (λ image. Outcome (writes leave (block_at_place image (session_of cursor.now).at) arguments.now (session_of cursor.now)) image text.old.items text.new.items (session_of cursor.now) (D.holds disk.new) (D.writes disk.old) (D.writes disk.new) result) }
+    ensures passes { ForSome (D.holds disk.old) (λ image. Passes D.holds D.tells_stops D.moment D.may_leave D.left_since image (image_after (writes leave (block_at_place image (session_of cursor.now).at) arguments.now (session_of cursor.now)).put image) disk.old disk.new) }
     ensures disk { IsStep D.size D.holds D.faults D.write_faults D.reads D.writes D.tells_stops D.moment D.may_leave D.left_since (may_write leave) disk.old disk.new (stop_of result) }
 {
     if !leave.expert {
@@ -161,6 +164,7 @@ fn run_set<D: Disk>(
 ) -> Result<Verdict, Stop>
     requires within { IsWithin (D.size disk.old) (session_of cursor.now) }
     ensures outcome { ForSome (D.holds disk.old) (λ image. Outcome (sets_here (block_at_place image (session_of cursor.now).at) arguments.now (session_of cursor.now)) image text.old.items text.new.items (session_of cursor.now) (D.holds disk.new) (D.writes disk.old) (D.writes disk.new) result) }
+    ensures passes { ForSome (D.holds disk.old) (λ image. Passes D.holds D.tells_stops D.moment D.may_leave D.left_since image (image_after (sets_here (block_at_place image (session_of cursor.now).at) arguments.now (session_of cursor.now)).put image) disk.old disk.new) }
     ensures disk { IsStep D.size D.holds D.faults D.write_faults D.reads D.writes D.tells_stops D.moment D.may_leave D.left_since true disk.old disk.new (stop_of result) }
 {
     let Some(place) = cursor.at else {
@@ -208,6 +212,7 @@ fn put_block<D: Disk>(disk: &mut D, at: u64, block: &[u8]) -> Result<(), Stop>
     ensures fault { IfErr result (λ stop. (written : ℕ) × (stop ≡ Stop.WriteFault written) × ForSome (D.holds disk.old) (λ image.
         IsWrittenBehind written image (slice_set image at block.now) (D.holds disk.new))) }
     ensures reads { D.reads disk.new ≡ D.reads disk.old }
+    ensures passes { ForSome (D.holds disk.old) (λ image. Passes D.holds D.tells_stops D.moment D.may_leave D.left_since image (slice_set image at block.now) disk.old disk.new) }
     ensures disk { IsWritten D.size D.holds D.faults D.write_faults D.reads D.writes D.tells_stops D.may_leave true disk.old disk.new (stop_of result) }
 {
     match disk.write(at, block) {
@@ -235,6 +240,7 @@ fn run_command<D: Disk>(
     requires within { IsWithin geometry.now.dblocks (session_of cursor.old) }
     ensures within { IsWithin geometry.now.dblocks (session_of cursor.new) }
     ensures outcome { ForSome (D.holds disk.old) (λ image. Outcome (runs_first (volume_of geometry.now) leave words.now (block_at_place image (session_of cursor.old).at) (session_of cursor.old)) image text.old.items text.new.items (session_of cursor.new) (D.holds disk.new) (D.writes disk.old) (D.writes disk.new) result) }
+    ensures passes { ForSome (D.holds disk.old) (λ image. Passes D.holds D.tells_stops D.moment D.may_leave D.left_since image (image_after (runs_first (volume_of geometry.now) leave words.now (block_at_place image (session_of cursor.old).at) (session_of cursor.old)).put image) disk.old disk.new) }
     ensures disk { IsStep D.size D.holds D.faults D.write_faults D.reads D.writes D.tells_stops D.moment D.may_leave D.left_since (may_write leave) disk.old disk.new (stop_of result) }
     ensures quits { is_quit_words words.now ≡ true → IfOk result (λ verdict. is_quit verdict ≡ true) }
 {
@@ -269,6 +275,7 @@ fn run_named<D: Disk>(
     requires within { IsWithin geometry.now.dblocks (session_of cursor.old) }
     ensures within { IsWithin geometry.now.dblocks (session_of cursor.new) }
     ensures outcome { ForSome (D.holds disk.old) (λ image. Outcome (runs_named (volume_of geometry.now) leave (accepted name.now (length arguments.now)) name.now arguments.now (block_at_place image (session_of cursor.old).at) (session_of cursor.old)) image text.old.items text.new.items (session_of cursor.new) (D.holds disk.new) (D.writes disk.old) (D.writes disk.new) result) }
+    ensures passes { ForSome (D.holds disk.old) (λ image. Passes D.holds D.tells_stops D.moment D.may_leave D.left_since image (image_after (runs_named (volume_of geometry.now) leave (accepted name.now (length arguments.now)) name.now arguments.now (block_at_place image (session_of cursor.old).at) (session_of cursor.old)).put image) disk.old disk.new) }
     ensures disk { IsStep D.size D.holds D.faults D.write_faults D.reads D.writes D.tells_stops D.moment D.may_leave D.left_since (may_write leave) disk.old disk.new (stop_of result) }
     ensures quits { is_quit_verb (accepted name.now (length arguments.now)) ≡ true → IfOk result (λ verdict. is_quit verdict ≡ true) }
 {
@@ -295,6 +302,7 @@ pub(crate) fn run_words<D: Disk>(
     requires within { IsWithin geometry.now.dblocks (session_of cursor.old) }
     ensures within { IsWithin geometry.now.dblocks (session_of cursor.new) }
     ensures outcome { ForSome (D.holds disk.old) (λ image. Outcome (attempts (volume_of geometry.now) leave words.now (block_at_place image (session_of cursor.old).at) (session_of cursor.old)) image text.old.items text.new.items (session_of cursor.new) (D.holds disk.new) (D.writes disk.old) (D.writes disk.new) result) }
+    ensures passes { ForSome (D.holds disk.old) (λ image. Passes D.holds D.tells_stops D.moment D.may_leave D.left_since image (image_after (attempts (volume_of geometry.now) leave words.now (block_at_place image (session_of cursor.old).at) (session_of cursor.old)).put image) disk.old disk.new) }
     ensures disk { IsStep D.size D.holds D.faults D.write_faults D.reads D.writes D.tells_stops D.moment D.may_leave D.left_since (may_write leave) disk.old disk.new (stop_of result) }
     ensures quits { is_quit_words words.now ≡ true → IfOk result (λ verdict. is_quit verdict ≡ true) }
 {
@@ -319,6 +327,7 @@ fn run_placeless<D: Disk>(
     requires within { IsWithin geometry.now.dblocks (session_of cursor.old) }
     ensures within { IsWithin geometry.now.dblocks (session_of cursor.new) }
     ensures outcome { ForSome (D.holds disk.old) (λ image. Outcome (runs_placeless (volume_of geometry.now) leave words.now (block_at_place image (session_of cursor.old).at) (session_of cursor.old)) image text.old.items text.new.items (session_of cursor.new) (D.holds disk.new) (D.writes disk.old) (D.writes disk.new) result) }
+    ensures passes { ForSome (D.holds disk.old) (λ image. Passes D.holds D.tells_stops D.moment D.may_leave D.left_since image (image_after (runs_placeless (volume_of geometry.now) leave words.now (block_at_place image (session_of cursor.old).at) (session_of cursor.old)).put image) disk.old disk.new) }
     ensures disk { IsStep D.size D.holds D.faults D.write_faults D.reads D.writes D.tells_stops D.moment D.may_leave D.left_since (may_write leave) disk.old disk.new (stop_of result) }
     ensures quits { is_quit_words words.now ≡ true → IfOk result (λ verdict. is_quit verdict ≡ true) }
 {
@@ -328,7 +337,7 @@ fn run_placeless<D: Disk>(
     run_command(alloc, disk, geometry, leave, cursor, words, text)
 }
 
-/// Puts the current place onto the stack as often as words begin with `push`, and runs the command behind these. Where
+/// Prints the current place onto the stack as often as words begin with `push`, and runs the command behind these. Where
 /// it can't be run the stack is as before.
 fn run_behind<D: Disk>(
     alloc: Global,
@@ -345,6 +354,7 @@ fn run_behind<D: Disk>(
     requires within { IsWithin geometry.now.dblocks (session_of cursor.old) }
     ensures within { IsWithin geometry.now.dblocks (session_of cursor.new) }
     ensures outcome { ForSome (D.holds disk.old) (λ image. Outcome (attempts (volume_of geometry.now) leave words.now (block_at_place image (session_of cursor.old).at) (session_of cursor.old)) image text.old.items text.new.items (session_of cursor.new) (D.holds disk.new) (D.writes disk.old) (D.writes disk.new) result) }
+    ensures passes { ForSome (D.holds disk.old) (λ image. Passes D.holds D.tells_stops D.moment D.may_leave D.left_since image (image_after (attempts (volume_of geometry.now) leave words.now (block_at_place image (session_of cursor.old).at) (session_of cursor.old)).put image) disk.old disk.new) }
     ensures disk { IsStep D.size D.holds D.faults D.write_faults D.reads D.writes D.tells_stops D.moment D.may_leave D.left_since (may_write leave) disk.old disk.new (stop_of result) }
     ensures quits { is_quit_words words.now ≡ true → IfOk result (λ verdict. is_quit verdict ≡ true) }
 {

@@ -1,7 +1,8 @@
 use Rattle.std.proofs.Common.{◌==◌, ◌∙◌, ap, sym, subst, ℕ, List, Option, length}
 use Rattle.xfs_geom.specs.Volumes.{volume_of}
 use Rattle.xfs_shell.specs.Running.{may_write}
-use Rattle.xfs_shell.specs.Shells.{LeavesDisk, Puts, RunsOver, leave_of, most_of}
+use Rattle.xfs_shell.specs.Shells.{LeavesDisk, Prints, RunsOver, leave_of, most_of}
+use Rattle.xfs_shell.specs.Stops.{HasPassed}
 use Rattle.xfs_shell.proofs.Asked.{asked_lines, asked_most, commands_ran, input_asked, input_told_lines, past_lines}
 use Rattle.xfs_shell.proofs.debugging.run_asked.Goals as goal
 
@@ -61,7 +62,7 @@ pub returns-else-is_empty-clause-text : goal.returns-else-is_empty-clause-text
 returns-else-is_empty-clause-text g c =
     λ image told lines told_lines before put.
     subst (λ (ls : List (List ℕ)).
-    Puts (volume_of c.args.geometry.now) (leave_of c.args.options.now) ls image before (g.O.Sink.took c.run_lines.new.out) c.run_lines.result)
+    Prints (volume_of c.args.geometry.now) (leave_of c.args.options.now) ls image before (g.O.Sink.took c.run_lines.new.out) c.run_lines.result)
     (asked_lines c.args.options.now.commands (g.S.Source.left c.args.input.now) c.as_slice-commands.result.now lines c.as_slice-commands.ensures
     (ap (λ (ls : List (List ℕ)). length ls == 0) (sym c.as_slice-commands.ensures) ∙ sym c.is_empty.ensures ∙ c.if-is_empty.false)
     told_lines)
@@ -79,3 +80,20 @@ returns-else-is_empty-clause-disk g c =
 pub returns-else-is_empty-clause-cause : goal.returns-else-is_empty-clause-cause
 returns-else-is_empty-clause-cause g c =
     c.run_lines.ensures.cause (g.S.Source.faults c.args.input.now) (g.S.Source.faults c.args.input.now)
+
+pub returns-then-is_empty-clause-stops : goal.returns-then-is_empty-clause-stops
+returns-then-is_empty-clause-stops g c =
+    λ image told lines told_lines.
+    c.run_input.ensures.stops image told lines
+    (sym (input_told_lines c.args.options.now.commands (g.S.Source.left c.args.input.now)
+    (ap (λ (ls : List (List ℕ)). length ls == 0) (sym c.as_slice-commands.ensures) ∙ sym c.is_empty.ensures ∙ c.if-is_empty.true))
+    ∙ told_lines)
+
+pub returns-else-is_empty-clause-stops : goal.returns-else-is_empty-clause-stops
+returns-else-is_empty-clause-stops g c =
+    λ image told lines told_lines.
+    subst (λ (ls : List (List ℕ)). HasPassed g.D.Disk.holds g.D.Disk.tells_stops g.D.Disk.moment g.D.Disk.may_leave g.D.Disk.left_since (volume_of c.args.geometry.now) (leave_of c.args.options.now) ls image c.args.disk.now c.run_lines.new.disk)
+    (asked_lines c.args.options.now.commands (g.S.Source.left c.args.input.now) c.as_slice-commands.result.now lines c.as_slice-commands.ensures
+    (ap (λ (ls : List (List ℕ)). length ls == 0) (sym c.as_slice-commands.ensures) ∙ sym c.is_empty.ensures ∙ c.if-is_empty.false)
+    told_lines)
+    (c.run_lines.ensures.stops image told)

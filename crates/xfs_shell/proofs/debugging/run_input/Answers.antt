@@ -2,8 +2,9 @@ use Rattle.std.proofs.Common.{◌≡◌, ◌∙◌, ap, subst, ℕ, List}
 use Rattle.xfs_geom.specs.Volumes.{volume_of}
 use Rattle.xfs_shell.specs.Lines.{parts_of}
 use Rattle.xfs_shell.specs.Running.{may_write, until_quit}
-use Rattle.xfs_shell.specs.Shells.{LeavesDisk, Puts, input_lines, most_of}
+use Rattle.xfs_shell.specs.Shells.{LeavesDisk, Prints, input_lines, most_of}
 use Rattle.xfs_shell.specs.declared.lines.Cut.TheVariants.{LineFeeds}
+use Rattle.xfs_shell.specs.Stops.{HasPassed}
 use Rattle.xfs_shell.proofs.Asked.{input_lines_ran, past_lines, read_lines}
 use Rattle.xfs_shell.proofs.Quitting.{most_read}
 use Rattle.xfs_shell.proofs.Stepping.{over_more}
@@ -36,7 +37,7 @@ returns-clause-text g c =
     in
     subst
     (λ (ls : List (List ℕ)).
-    Puts (volume_of c.args.geometry.now) c.args.leave ls image before (g.O.Sink.took c.run_lines.new.out) c.run_lines.result)
+    Prints (volume_of c.args.geometry.now) c.args.leave ls image before (g.O.Sink.took c.run_lines.new.out) c.run_lines.result)
     (read_lines (g.S.Source.left c.args.input.now) c.in-Ok.bytes.items c.as_slice-2.result.now lines ran (λ left told. (c.in-Ok.ensures.bytes left told).0) told_lines)
     (c.run_lines.ensures.text image told before put)
 
@@ -53,3 +54,14 @@ returns-clause-disk g c =
 
 pub returns-clause-cause : goal.returns-clause-cause
 returns-clause-cause g c = c.run_lines.ensures.cause (g.S.Source.faults c.args.input.now) (g.S.Source.faults c.read_input.new.input)
+
+pub returns-clause-stops : goal.returns-clause-stops
+returns-clause-stops g c =
+    λ image told lines told_lines.
+    let ran : c.as_slice-2.result.now ≡ parts_of LineFeeds c.in-Ok.bytes.items =
+    c.as_slice-2.ensures.value ∙ c.in-Ok-parts.ensures ∙ ap (λ (bytes : List ℕ). parts_of LineFeeds bytes) c.as_slice.ensures.value
+    in
+    subst
+    (λ (ls : List (List ℕ)). HasPassed g.D.Disk.holds g.D.Disk.tells_stops g.D.Disk.moment g.D.Disk.may_leave g.D.Disk.left_since (volume_of c.args.geometry.now) c.args.leave ls image c.args.disk.now c.run_lines.new.disk)
+    (read_lines (g.S.Source.left c.args.input.now) c.in-Ok.bytes.items c.as_slice-2.result.now lines ran (λ left told. (c.in-Ok.ensures.bytes left told).0) told_lines)
+    (c.run_lines.ensures.stops image told)

@@ -4,10 +4,11 @@ use Rattle.xfs_commands.specs.Commands.{session_of}
 use Rattle.xfs_commands.specs.Cursors.{is_quit}
 use Rattle.xfs_shell.specs.Lines.{parts_of}
 use Rattle.xfs_shell.specs.Running.{is_quit_words, may_write, shelled, until_quit}
-use Rattle.xfs_shell.specs.Shells.{HasCause, IsEarly, IsOfLines, LeavesDisk, Puts, RunsOver}
+use Rattle.xfs_shell.specs.Shells.{HasCause, IsEarly, IsOfLines, LeavesDisk, Prints, RunsOver}
 use Rattle.xfs_shell.specs.declared.lines.Cut.TheVariants.{Blanks}
 use Rattle.xfs_shell.specs.declared.outcomes.ShellOutcome.{ShellOutcome}
-use Rattle.xfs_shell.proofs.Ending.{at_end, cause_behind, early_first, line_ended, line_is, quitted, ran_lines, stepped, text_at_end, text_ended, text_quitted, text_stepped}
+use Rattle.xfs_shell.proofs.Ending.{at_end, cause_behind, early_first, line_ended, line_is, next_image, quitted, ran_lines, stepped, text_at_end, text_ended, text_quitted, text_stepped}
+use Rattle.xfs_shell.proofs.Passing.{passed_more}
 use Rattle.xfs_shell.proofs.Quitting.{no_quit, quit_next, quit_some}
 use Rattle.xfs_shell.proofs.Stepping.{end_counted, over_done, over_ended, run_more}
 use Rattle.xfs_shell.proofs.running.run_lines.Goals as goal
@@ -104,7 +105,7 @@ returns-in-Err-clause-text g c =
     let r = shelled v leave (take i lines) image in
     let at = c.loop-finished.invariant.at image told in
     let same = line_is lines i c.word_at-line.result.now c.word_at-line.ensures c.loop-finished-test.true in
-    subst (λ (o : ShellOutcome). Puts v leave lines image before (g.O.Sink.took c.run_and_put.new.out) o) (sym c.behind.ensures)
+    subst (λ (o : ShellOutcome). Prints v leave lines image before (g.O.Sink.took c.run_and_put.new.out) o) (sym c.behind.ensures)
     (text_ended v leave lines image i c.word_at-line.result.now [] s (g.D.Disk.holds c.loop-finished.disk) (g.D.Disk.writes c.args.disk.now) (g.D.Disk.writes c.loop-finished.disk) c.in-Err.end before (g.O.Sink.took c.run_and_put.new.out)
     c.loop-finished-test.true same at
     (c.in-Err.ensures.text r.image at.image_is (before ++ r.text) (c.loop-finished.invariant.text image told before put)))
@@ -165,6 +166,19 @@ loop-finished-preserved g c =
           text_stepped v leave lines image i c.word_at-line.result.now [] s (g.D.Disk.holds c.loop-finished.disk) (g.D.Disk.writes c.args.disk.now) (g.D.Disk.writes c.loop-finished.disk) before (g.O.Sink.took c.run_and_put.new.out)
           c.loop-finished-test.true same at
           (c.in-Ok.ensures.text r.image at.image_is (before ++ r.text) (c.loop-finished.invariant.text image told before put));
+      passed =
+          λ image told.
+          let v = volume_of c.args.geometry.now in
+          let leave = c.args.leave in
+          let lines = c.args.lines.now in
+          let i = c.loop-finished.finished in
+          let s = session_of c.loop-finished.cursor in
+          let r = shelled v leave (take i lines) image in
+          let at = c.loop-finished.invariant.at image told in
+          let same = line_is lines i c.word_at-line.result.now c.word_at-line.ensures c.loop-finished-test.true in
+          passed_more g.D.Disk.size g.D.Disk.holds g.D.Disk.faults g.D.Disk.write_faults g.D.Disk.reads g.D.Disk.writes g.D.Disk.tells_stops g.D.Disk.moment g.D.Disk.may_leave g.D.Disk.left_since v leave lines image (may_write leave) i _ c.args.disk.now c.loop-finished.disk c.run_and_put.new.disk
+          c.loop-finished.invariant.run (c.loop-finished.invariant.passed image told) (c.in-Ok.ensures.passes r.image at.image_is)
+          (next_image v leave lines image i c.word_at-line.result.now [] s (g.D.Disk.holds c.loop-finished.disk) (g.D.Disk.writes c.args.disk.now) (g.D.Disk.writes c.loop-finished.disk) c.loop-finished-test.true same at);
       silent = λ none. absurd (omega (arith, none));
       appends =
           λ before put.
@@ -186,3 +200,33 @@ loop-finished-preserved g c =
             puts = omega (arith, c.loop-finished.invariant.counts.puts, c.run_and_put.ensures.counts.puts);
           };
     }
+
+pub returns-then-is_quit-clause-stops : goal.returns-then-is_quit-clause-stops
+returns-then-is_quit-clause-stops g c =
+    λ image told.
+    let v = volume_of c.args.geometry.now in
+    let leave = c.args.leave in
+    let lines = c.args.lines.now in
+    let i = c.loop-finished.finished in
+    let s = session_of c.loop-finished.cursor in
+    let r = shelled v leave (take i lines) image in
+    let at = c.loop-finished.invariant.at image told in
+    let same = line_is lines i c.word_at-line.result.now c.word_at-line.ensures c.loop-finished-test.true in
+    passed_more g.D.Disk.size g.D.Disk.holds g.D.Disk.faults g.D.Disk.write_faults g.D.Disk.reads g.D.Disk.writes g.D.Disk.tells_stops g.D.Disk.moment g.D.Disk.may_leave g.D.Disk.left_since v leave lines image (may_write leave) i _ c.args.disk.now c.loop-finished.disk c.run_and_put.new.disk
+    c.loop-finished.invariant.run (c.loop-finished.invariant.passed image told) (c.in-Ok.ensures.passes r.image at.image_is)
+    (next_image v leave lines image i c.word_at-line.result.now [] s (g.D.Disk.holds c.loop-finished.disk) (g.D.Disk.writes c.args.disk.now) (g.D.Disk.writes c.loop-finished.disk) c.loop-finished-test.true same at)
+
+pub returns-in-Err-clause-stops : goal.returns-in-Err-clause-stops
+returns-in-Err-clause-stops g c =
+    λ image told.
+    let v = volume_of c.args.geometry.now in
+    let leave = c.args.leave in
+    let lines = c.args.lines.now in
+    let i = c.loop-finished.finished in
+    let s = session_of c.loop-finished.cursor in
+    let r = shelled v leave (take i lines) image in
+    let at = c.loop-finished.invariant.at image told in
+    let same = line_is lines i c.word_at-line.result.now c.word_at-line.ensures c.loop-finished-test.true in
+    passed_more g.D.Disk.size g.D.Disk.holds g.D.Disk.faults g.D.Disk.write_faults g.D.Disk.reads g.D.Disk.writes g.D.Disk.tells_stops g.D.Disk.moment g.D.Disk.may_leave g.D.Disk.left_since v leave lines image (may_write leave) i _ c.args.disk.now c.loop-finished.disk c.run_and_put.new.disk
+    c.loop-finished.invariant.run (c.loop-finished.invariant.passed image told) (c.in-Err.ensures.passes r.image at.image_is)
+    (next_image v leave lines image i c.word_at-line.result.now [] s (g.D.Disk.holds c.loop-finished.disk) (g.D.Disk.writes c.args.disk.now) (g.D.Disk.writes c.loop-finished.disk) c.loop-finished-test.true same at)

@@ -4,6 +4,7 @@ use Rattle.xfs_geom.specs.Volumes.{volume_of}
 use Rattle.xfs_commands.specs.Commands.{session_of, IsWithin}
 use Rattle.xfs_shell.specs.Ends.{HasCounts}
 use Rattle.xfs_shell.specs.Running.{may_write, shelled, until_quit}
+use Rattle.xfs_shell.specs.Stops.{HasPassed}
 use Rattle.xfs_shell.proofs.Ending.{IsAt}
 use Rattle.xfs_shell.proofs.Stepping.{AreRun}
 use Rattle.xfs_shell.proofs.running.run_lines.Given as goal
@@ -15,6 +16,8 @@ invariant-loop-finished g l =
           → IsAt (volume_of l.geometry) l.leave l.lines image l.finished (session_of l.cursor) (g.D.Disk.holds l.disk) (g.D.Disk.writes l.fn.disk) (g.D.Disk.writes l.disk);
       text : (image : Image) → g.D.Disk.holds l.fn.disk ≡ Some image → (before : List ℕ) → g.O.Sink.took l.fn.out ≡ Some before
           → g.O.Sink.took l.out ≡ Some (before ++ (shelled (volume_of l.geometry) l.leave (take l.finished l.lines) image).text);
+      passed : (image : Image) → g.D.Disk.holds l.fn.disk ≡ Some image
+          → HasPassed g.D.Disk.holds g.D.Disk.tells_stops g.D.Disk.moment g.D.Disk.may_leave g.D.Disk.left_since (volume_of l.geometry) l.leave l.lines image l.fn.disk l.disk;
       silent : l.finished ≡ 0 → g.O.Sink.took l.out ≡ g.O.Sink.took l.fn.out;
       appends : (before : List ℕ) → g.O.Sink.took l.fn.out ≡ Some before → (rest : List ℕ) × (g.O.Sink.took l.out ≡ Some (before ++ rest));
       within : IsWithin l.geometry.dblocks (session_of l.cursor);

@@ -1,11 +1,13 @@
 use Rattle.std.proofs.Common.{◌≡◌, ◌∙◌, ap, subst, sym, ℕ, List, length, drop}
 use Rattle.xfs_geom.specs.Volumes.{volume_of}
 use Rattle.xfs_commands.specs.Commands.{Session, session_of}
-use Rattle.xfs_shell.specs.Running.{attempts, block_at_place, is_quit_words, pushes_in, runs_first}
+use Rattle.xfs_shell.specs.Running.{attempts, block_at_place, image_after, is_quit_words, pushes_in, runs_first}
 use Rattle.xfs_commands.specs.Cursors.{pushed, settled_session}
 use Rattle.xfs_shell.specs.Sessions.{IsRun, Stays}
 use Rattle.xfs_objects.specs.declared.objects.Place.{Place}
-use Rattle.xfs_shell.proofs.Pushing.{behind_ran, behind_stays}
+use Rattle.xfs_disk.specs.Blocks.{Image}
+use Rattle.xfs_shell.specs.Stops.{Passes}
+use Rattle.xfs_shell.proofs.Pushing.{behind_puts, behind_ran, behind_stays}
 use Rattle.xfs_shell.proofs.Quitting.{quit_no_push}
 use Rattle.xfs_shell.proofs.session.run_behind.Goals as goal
 
@@ -70,3 +72,43 @@ returns-clause-quits g c =
     (ap (λ (ws : List (List ℕ)). is_quit_words ws)
     (c.split_at.ensures.back ∙ ap (λ (n : ℕ). drop n c.args.words.now) (c.count_pushes-count.ensures.value ∙ quit_no_push c.args.words.now is))
     ∙ is)
+
+pub returns-clause-passes : goal.returns-clause-passes
+returns-clause-passes g c =
+    λ image told.
+    let v = volume_of c.args.geometry.now in
+    let words = c.args.words.now in
+    let s = session_of c.args.cursor.now in
+    let t = session_of c.save.new.self in
+    let rest : c.split_at.result.1.now ≡ drop (pushes_in words) words =
+    c.split_at.ensures.back ∙ ap (λ (n : ℕ). drop n words) c.count_pushes-count.ensures.value
+    in
+    let pushed_is : t ≡ pushed (pushes_in words) c.args.place s =
+    c.in-Ok.ensures.session ∙ ap (λ (n : ℕ). pushed n c.args.place s) c.count_pushes-count.ensures.value
+    in
+    let due =
+    ap (λ (ws : List (List ℕ)). image_after (runs_first v c.args.leave ws (block_at_place image t.at) t).put image) rest
+    ∙ behind_puts v c.args.leave words image s t c.args.place c.requires.place pushed_is
+    in
+    subst (λ (next : Image). Passes g.D.Disk.holds g.D.Disk.tells_stops g.D.Disk.moment g.D.Disk.may_leave g.D.Disk.left_since image next c.args.disk.now c.run_command.new.disk) due
+    (c.in-Ok-run_command.ensures.passes image told)
+
+pub returns-in-Err-run_command-clause-passes : goal.returns-in-Err-run_command-clause-passes
+returns-in-Err-run_command-clause-passes g c =
+    λ image told.
+    let v = volume_of c.args.geometry.now in
+    let words = c.args.words.now in
+    let s = session_of c.args.cursor.now in
+    let t = session_of c.save.new.self in
+    let rest : c.split_at.result.1.now ≡ drop (pushes_in words) words =
+    c.split_at.ensures.back ∙ ap (λ (n : ℕ). drop n words) c.count_pushes-count.ensures.value
+    in
+    let pushed_is : t ≡ pushed (pushes_in words) c.args.place s =
+    c.in-Ok.ensures.session ∙ ap (λ (n : ℕ). pushed n c.args.place s) c.count_pushes-count.ensures.value
+    in
+    let due =
+    ap (λ (ws : List (List ℕ)). image_after (runs_first v c.args.leave ws (block_at_place image t.at) t).put image) rest
+    ∙ behind_puts v c.args.leave words image s t c.args.place c.requires.place pushed_is
+    in
+    subst (λ (next : Image). Passes g.D.Disk.holds g.D.Disk.tells_stops g.D.Disk.moment g.D.Disk.may_leave g.D.Disk.left_since image next c.args.disk.now c.run_command.new.disk) due
+    (c.in-Err-run_command.ensures.passes image told)
