@@ -9,7 +9,7 @@ use Rattle.xfs_options.specs.Debugging.{Debug}
 use Rattle.xfs_options.specs.declared.reading.LineFault.{LineFault}
 use Rattle.xfs_options.specs.declared.reading.LineFault.TheVariants as line
 use Rattle.xfs_shell.specs.Running.{may_write}
-use Rattle.xfs_shell.specs.Shells.{leave_of, most_of, told_lines, HasCause, HasElected, HasInput, IsEarly, LeavesDisk, Puts, RunsOver}
+use Rattle.xfs_shell.specs.Shells.{leave_of, most_of, told_lines, HasCause, HasElected, HasInput, IsEarly, LeavesDisk, Prints, RunsOver, StopsBetween}
 use Rattle.xfs_shell.specs.declared.outcomes.ShellOptions.{ShellOptions}
 use Rattle.xfs_shell.specs.declared.outcomes.ShellOutcome.{ShellOutcome}
 use Rattle.xfs_shell.specs.declared.outcomes.ShellOutcome.TheVariants as shell
@@ -54,7 +54,9 @@ pub record IsShelled {D S O : Type 0} (holds : D → Option Image) (size faults 
   pub image : ForSome (holds old) (λ image. IfOk (elected image) (λ vote. ForSome (told_lines options.commands (left input)) (λ lines.
       LeavesDisk (stated_volume vote.sector) (leave_of options) lines image (holds new) (writes old) (writes new) outcome)))
   pub text : ForSome (holds old) (λ image. IfOk (elected image) (λ vote. ForSome (told_lines options.commands (left input)) (λ lines.
-      ForSome (took out) (λ before. Puts (stated_volume vote.sector) (leave_of options) lines image before (took out_now) outcome))))
+      ForSome (took out) (λ before. Prints (stated_volume vote.sector) (leave_of options) lines image before (took out_now) outcome))))
+  pub stops : ForSome (holds old) (λ image. IfOk (elected image) (λ vote. ForSome (told_lines options.commands (left input)) (λ lines.
+      StopsBetween holds tells_stops moment may_leave left_since (stated_volume vote.sector) (leave_of options) lines image old new)))
   pub silent : IsEarly outcome → took out_now ≡ took out
   pub appends : ForSome (took out) (λ before. (rest : List ℕ) × (took out_now ≡ Some (before ++ rest)))
   pub disk : RunsOver size holds reads writes write_faults tells_stops moment may_leave left_since (may_write (leave_of options))

@@ -14,6 +14,7 @@ returns-clause-session g c =
         taken = run.input;
         image = run.image;
         text = run.text;
+        stops = run.stops;
         silent = run.silent;
         appends = run.appends;
         disk = run.disk;
