@@ -9,7 +9,8 @@ use Rattle.xfs_options.specs.Debugging.{Debug}
 use Rattle.xfs_options.specs.declared.reading.LineFault.{LineFault}
 use Rattle.xfs_options.specs.declared.reading.LineFault.TheVariants as line
 use Rattle.xfs_shell.specs.Running.{may_write}
-use Rattle.xfs_shell.specs.Shells.{leave_of, most_of, told_lines, HasCause, HasElected, HasInput, IsEarly, LeavesDisk, Prints, RunsOver, StopsBetween}
+use Rattle.xfs_shell.specs.Shells.{leave_of, most_of, told_lines, HasCause, HasElected, HasInput, IsEarly, LeavesDisk, Prints, RunsOver}
+use Rattle.xfs_shell.specs.Stops.{StopsBetween}
 use Rattle.xfs_shell.specs.declared.outcomes.ShellOptions.{ShellOptions}
 use Rattle.xfs_shell.specs.declared.outcomes.ShellOutcome.{ShellOutcome}
 use Rattle.xfs_shell.specs.declared.outcomes.ShellOutcome.TheVariants as shell
