@@ -21,7 +21,7 @@ group_small d w n g covered = by_case (g + 1 == n) refl
     by_case false other = omega arith
 
 -- a block number gives back its group and its AG block
-pub place_of_block : (d w n l g b : ℕ) → d ≤ n * w → 512 ≤ l → g < n → 1 ≤ b → b + l ≤ blocks_of_group d w n g → l ≤ 2 ^ 20
+pub place_of_block : (d w n l g b : ℕ) → d ≤ n * w → 512 ≤ l → g < n → 1 ≤ b → b + l ≤ blocks_of_group d w n g → l ≤ 521728
     → HasLog d w n (g * w + b) l
 place_of_block d w n l g b covered large group behind inside small =
     let fits : blocks_of_group d w n g ≤ w = group_small d w n g covered in

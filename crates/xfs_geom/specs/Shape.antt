@@ -17,10 +17,10 @@ pub record HasAddresses (agblocks agblklog : ℕ) : Type 0 where
   pub enough : agblocks ≤ 2 ^ agblklog
   pub least : 2 ^ agblklog < 2 * agblocks
 
--- the log lies inside one group, behind its first block
+-- the log lies inside one group, behind its first block, and has at most 2038 MiB
 pub record HasLog (dblocks agblocks agcount log logblocks : ℕ) : Type 0 where
   pub large : 512 ≤ logblocks
-  pub small : logblocks ≤ 2 ^ 20
+  pub small : logblocks ≤ 521728
   pub group : log / agblocks < agcount
   pub behind : 1 ≤ log % agblocks
   pub inside : log % agblocks + logblocks ≤ blocks_of_group dblocks agblocks agcount (log / agblocks)

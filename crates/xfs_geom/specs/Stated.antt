@@ -39,10 +39,10 @@ has_addresses v = nat_le v.agblklog 26 && nat_le v.agblocks (2 ^ v.agblklog) && 
 abbrev pub has_log_sectors : Stated → Bool
 has_log_sectors v = (v.logsectlog == 0 && v.logsectsize == 0) || (v.logsectlog == 9 && v.logsectsize == 512)
 
--- the log has 512 to 2^20 blocks inside one group, from AG block 1 or later on
+-- the log has 512 to 521,728 blocks inside one group, from AG block 1 or later on
 abbrev pub has_log : Stated → Bool
 has_log v =
-    nat_le 512 v.logblocks && nat_le v.logblocks (2 ^ 20)
+    nat_le 512 v.logblocks && nat_le v.logblocks 521728
     && nat_lt (group_of_address v.agblklog v.logstart) v.agcount
     && nat_le 1 (ag_block_of_address v.agblklog v.logstart)
     && nat_le (ag_block_of_address v.agblklog v.logstart + v.logblocks) (blocks_of_group v.dblocks v.agblocks v.agcount (group_of_address v.agblklog v.logstart))

@@ -11,6 +11,11 @@ use crate::superblock::{
     RBMINO, ROOTINO, RSUMINO,
 };
 
+/// The least and the most blocks of a log. Kernels take no log of more than 2038 MiB.
+const LEAST_LOG: u32 = 512;
+
+const MOST_LOG: u32 = 521_728;
+
 /// The numbers that a superblock states of its volume, before any of them is judged.
 #[derive(Clone, Copy, Debug)]
 pub struct Stated {
@@ -188,13 +193,13 @@ impl Stated {
             || self.logsectlog == 9 && self.logsectsize == 512
     }
 
-    /// The log has 512 to 2^20 blocks inside one group, from AG block 1 or later on.
+    /// The log has 512 to 521,728 blocks inside one group, from AG block 1 or later on.
     fn has_log(&self) -> bool
         requires { self.now.agblklog ≤ 26 }
         ensures value { result ≡ has_log self.now }
         ensures kept { IsTrue result → HasLogAt self.now }
     {
-        if self.logblocks < 512 || self.logblocks > 1 << 20 {
+        if self.logblocks < LEAST_LOG || self.logblocks > MOST_LOG {
             return false;
         }
         let group = self.group_of(self.logstart);

@@ -24,7 +24,7 @@ on_disk a blocks h =
     let d = volume_blocks a blocks in
     let groups = groups_of a d in
     let fits : fits_disk d blocks ≡ true =
-    first_holds 1 (fits_disk d blocks) ((2, are_groups groups d) ∷ (3, has_log groups d (log_blocks a.logblocks d)) ∷ []) h in
+    first_holds 1 (fits_disk d blocks) ((2, are_groups groups d) ∷ (3, has_log groups d (log_blocks a.logblocks groups d)) ∷ []) h in
     leb-true d blocks (left (nat_le d blocks) (nat_le d (2 ^ 26)) fits)
 
 -- the geometry that is chosen has the first chunk before its log

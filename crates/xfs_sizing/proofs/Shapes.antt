@@ -63,16 +63,16 @@ new_root d w n b log l large two enough behind =
 -- the three bounds of the log
 pub record IsLogBound (g : Groups) (d l : ℕ) : Type 0 where
   pub large : 512 ≤ l
-  pub small : l ≤ 2 ^ 20
+  pub small : l ≤ 521728
   pub inside : 6 + l + 64 ≤ blocks_of_group d g.size g.count (g.count / 2)
 
 pub log_bound : (g : Groups) (d l : ℕ) → IsTrue (has_log g d l) → IsLogBound g d l
 log_bound g d l h =
     let first = left _ (leb (6 + l + 64) (blocks_of_group d g.size g.count (g.count / 2))) h in
     record {
-      large = leb-true 512 l (left _ (leb l (2 ^ 20)) first);
+      large = leb-true 512 l (left _ (leb l 521728) first);
       small = leb-true l (2 ^ 20) (right (leb 512 l) _ first);
-      inside = leb-true _ _ (right (leb 512 l && leb l (2 ^ 20)) _ h);
+      inside = leb-true _ _ (right (leb 512 l && leb l 521728) _ h);
     }
 
 -- the log at AG block 6 of the middle group

@@ -29,10 +29,6 @@ groups_by None count dblocks = so_many dblocks (unwrap_or count 4)
 abbrev pub groups_of : Asked → ℕ → Groups
 groups_of a dblocks = groups_by a.agblocks a.agcount dblocks
 
--- the blocks of the log: the greater of 512 and a 1024th of the volume where nothing is asked
-abbrev pub log_blocks : Option ℕ → ℕ → ℕ
-log_blocks asked dblocks = unwrap_or asked (max 512 (dblocks / 1024))
-
 -- the volume lies on the disk, and has at most 2^26 blocks
 abbrev pub fits_disk : ℕ → ℕ → Bool
 fits_disk dblocks blocks = nat_le dblocks blocks && nat_le dblocks (2 ^ 26)
@@ -44,17 +40,28 @@ are_groups g dblocks = nat_le 2 g.count && nat_le g.count 512 && nat_le 1024 g.s
 abbrev pub where_kept : Groups → ℕ → Option Groups
 where_kept g dblocks = if are_groups g dblocks then Some g else None
 
--- the log has 512 to 2^20 blocks, from AG block 6 of the middle group on, which has 64 blocks behind it
+-- a log from AG block 6 of the middle group on leaves 64 blocks behind it
+abbrev pub has_room : Groups → ℕ → ℕ → Bool
+has_room g dblocks log = nat_le (6 + log + 64) (blocks_of_group dblocks g.size g.count (g.count / 2))
+
+-- the log has 512 to 521,728 blocks, and its group has room for it
 abbrev pub has_log : Groups → ℕ → ℕ → Bool
-has_log g dblocks log =
-    nat_le 512 log && nat_le log (2 ^ 20) && nat_le (6 + log + 64) (blocks_of_group dblocks g.size g.count (g.count / 2))
+has_log g dblocks log = nat_le 512 log && nat_le log 521728 && has_room g dblocks log
+
+-- the log that kernels ask for, where groups have the 4096 blocks that they ask for too, and the log's has room for it
+abbrev pub kernel_log : Groups → ℕ → ℕ
+kernel_log g dblocks = if nat_le 4096 g.size && has_room g dblocks 2560 then 2560 else 0
+
+-- the blocks of the log: where nothing is asked the greatest of 512, a 1024th of the volume and what kernels ask for
+abbrev pub log_blocks : Option ℕ → Groups → ℕ → ℕ
+log_blocks asked g dblocks = unwrap_or asked (max (max 512 (dblocks / 1024)) (kernel_log g dblocks))
 
 -- the first bound that is broken: that of blocks (1), of groups (2), of the log (3)
 unfoldable pub too_small : Asked → ℕ → Option ℕ
 too_small a blocks =
     let dblocks = volume_blocks a blocks in
     let groups = groups_of a dblocks in
-    first_false ((1, fits_disk dblocks blocks) ∷ (2, are_groups groups dblocks) ∷ (3, has_log groups dblocks (log_blocks a.logblocks dblocks)) ∷ [])
+    first_false ((1, fits_disk dblocks blocks) ∷ (2, are_groups groups dblocks) ∷ (3, has_log groups dblocks (log_blocks a.logblocks groups dblocks)) ∷ [])
 
 -- the geometry that is chosen on a disk of so many blocks; its addresses have the least bits that hold an AG block, as in every geometry
 pub record IsChosen (a : Asked) (blocks : ℕ) (uuid : List ℕ) (g : Geometry) : Type 0 where
@@ -62,7 +69,7 @@ pub record IsChosen (a : Asked) (blocks : ℕ) (uuid : List ℕ) (g : Geometry) 
   pub agblocks : g.agblocks ≡ (groups_of a (volume_blocks a blocks)).size
   pub agcount : g.agcount ≡ (groups_of a (volume_blocks a blocks)).count
   pub log : g.log ≡ g.agcount / 2 * g.agblocks + 6
-  pub logblocks : g.logblocks ≡ log_blocks a.logblocks (volume_blocks a blocks)
+  pub logblocks : g.logblocks ≡ log_blocks a.logblocks (groups_of a (volume_blocks a blocks)) (volume_blocks a blocks)
   pub rootino : g.rootino ≡ 128
   pub logsectlog : g.logsectlog ≡ 0
   pub uuid' : g.uuid ≡ uuid

@@ -9,6 +9,7 @@ pub struct Asked {
     pub agcount: Option<u64>,
     /// The blocks of an allocation group, in place of their number.
     pub agblocks: Option<u64>,
-    /// The blocks of the log: by default the greater of 512 and a 1024th of the volume's.
+    /// The blocks of the log: by default the greatest of 512, a 1024th of the volume's and, where groups have 4096 blocks or more and the
+    /// log's has room, the 2560 that kernels ask for.
     pub logblocks: Option<u64>,
 }

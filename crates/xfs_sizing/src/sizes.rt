@@ -3,7 +3,7 @@
 ghost use Rattle.std.specs.Prelude.{◌≡◌, ℕ, ◌+◌, ◌-◌, ◌*◌, ◌/◌, ◌^◌, ◌≤◌, ◌<◌, IsTrue, Some, None, IfErr, IfOk, IfSome};
 ghost use Rattle.xfs_geom.specs.Groups.{blocks_of_group};
 ghost use Rattle.xfs_geom.specs.Shape.{HasAddresses, HasGroups};
-ghost use Rattle.xfs_sizing.specs.Sizes.{IsChosen, groups_by, has_log, log_blocks, of_size, so_many, too_small, where_kept};
+ghost use Rattle.xfs_sizing.specs.Sizes.{IsChosen, groups_by, has_log, has_room, kernel_log, log_blocks, of_size, so_many, too_small, where_kept};
 
 use crate::asked::Asked;
 use xfs_geom::Geometry;
@@ -27,13 +27,18 @@ const GROUPS: u64 = 4;
 /// blocks of its group are left behind it.
 const LEAST_LOG: u64 = 512;
 
-const MOST_LOG: u64 = 1 << 20;
+const MOST_LOG: u64 = 521_728;
 
 const LOG_PART: u64 = 1024;
 
 const LOG_START: u64 = 6;
 
 const BEHIND_LOG: u64 = 64;
+
+/// The blocks of a log that kernels ask for, and of the groups beside it.
+const KERNEL_LOG: u64 = 2560;
+
+const KERNEL_GROUP: u64 = 4096;
 
 /// The least and the greatest number of bits of an AG block.
 const LEAST_BITS: u8 = 10;
@@ -62,7 +67,7 @@ pub fn choose(asked: &Asked, blocks: u64, uuid: [u8; 16]) -> Result<Geometry, u8
     let Some(groups) = split(asked.agblocks, asked.agcount, dblocks) else {
         return Err(2);
     };
-    let logblocks = log_blocks(asked.logblocks, dblocks);
+    let logblocks = log_blocks(asked.logblocks, &groups, dblocks);
     if !has_log(&groups, dblocks, logblocks) {
         return Err(3);
     }
@@ -151,14 +156,37 @@ fn keep_groups(groups: Groups, dblocks: u64) -> Option<Groups>
     Some(groups)
 }
 
-/// The blocks of the log: those that are asked for, or else as many as the volume's blocks say.
-fn log_blocks(asked: Option<u64>, dblocks: u64) -> u64
-    ensures { result ≡ log_blocks asked dblocks }
+/// The blocks of the log: those that are asked for, or else as many as the volume and kernels say.
+fn log_blocks(asked: Option<u64>, groups: &Groups, dblocks: u64) -> u64
+    requires { HasGroups dblocks groups.now.size groups.now.count }
+    ensures { result ≡ log_blocks asked groups.now dblocks }
 {
-    asked.unwrap_or(LEAST_LOG.max(dblocks / LOG_PART))
+    let part = LEAST_LOG.max(dblocks / LOG_PART);
+    asked.unwrap_or(part.max(kernel_log(groups, dblocks)))
 }
 
-/// The log has 512 to 2^20 blocks, and its group has 64 behind it.
+/// The blocks of a log that kernels ask for, or 0 where groups are too small for kernels or for this log.
+fn kernel_log(groups: &Groups, dblocks: u64) -> u64
+    requires { HasGroups dblocks groups.now.size groups.now.count }
+    ensures { result ≡ kernel_log groups.now dblocks }
+{
+    if groups.size >= KERNEL_GROUP && has_room(groups, dblocks, KERNEL_LOG) {
+        KERNEL_LOG
+    } else {
+        0
+    }
+}
+
+/// The log's group has 64 blocks behind it.
+fn has_room(groups: &Groups, dblocks: u64, logblocks: u64) -> bool
+    requires groups { HasGroups dblocks groups.now.size groups.now.count }
+    requires log { logblocks ≤ 521728 }
+    ensures { result ≡ has_room groups.now dblocks logblocks }
+{
+    LOG_START + logblocks + BEHIND_LOG <= group_blocks(groups, dblocks, groups.count / 2)
+}
+
+/// The log has 512 to 521,728 blocks, and its group has room for it.
 fn has_log(groups: &Groups, dblocks: u64, logblocks: u64) -> bool
     requires { HasGroups dblocks groups.now.size groups.now.count }
     ensures { result ≡ has_log groups.now dblocks logblocks }
@@ -166,7 +194,7 @@ fn has_log(groups: &Groups, dblocks: u64, logblocks: u64) -> bool
     if logblocks < LEAST_LOG || logblocks > MOST_LOG {
         return false;
     }
-    LOG_START + logblocks + BEHIND_LOG <= group_blocks(groups, dblocks, groups.count / 2)
+    has_room(groups, dblocks, logblocks)
 }
 
 /// The blocks of a group: the last has what is left of the volume.
