@@ -12,7 +12,7 @@ use Rattle.xfs_dirdata.specs.Written.{in_directory, data_length, offsets, rest_s
 use Rattle.xfs_dirindex.specs.declared.pairs.Pair.{Pair}
 use Rattle.xfs_dirindex.specs.declared.data.Best.{Best}
 use Rattle.xfs_dirindex.specs.Mapped.{Mapped, block_of, is_data}
-use Rattle.xfs_dirindex.specs.Data.{is_self, is_parent, is_dots, have_no_dots, begin_with_dots, no_area, area_in, is_sound, is_first, is_later, due_pairs, pairs_in, longest, best_in}
+use Rattle.xfs_dirindex.specs.Data.{is_self, is_parent, is_dots, have_no_dots, begin_with_dots, stand_first, no_area, area_in, is_sound, is_first, is_later, due_pairs, pairs_in, longest, best_in}
 use Rattle.xfs_dirindex.specs.Leaf.{best_at, end_of}
 use Rattle.xfs_dirbuild.specs.Filling.{ahead, filled, pairs_from, rest_in}
 use Rattle.xfs_dirbuild.specs.Index.{IsPlaced}
@@ -68,6 +68,10 @@ best-is dir o es p block =
 pub entries-of-area : (dir end : ℕ) (es : List EntryRec) (area : DataArea) → area ≡ written_area dir es end → area.entries ≡ map (in_directory dir) es
 unfolding written_area
 entries-of-area dir end es area is = ap (λ (a : DataArea). a.entries) is
+
+pub places-of-area : (dir end : ℕ) (es : List EntryRec) (area : DataArea) → area ≡ written_area dir es end → area.places ≡ offsets 64 es
+unfolding written_area
+places-of-area dir end es area is = ap (λ (a : DataArea). a.places) is
 
 -- no entry is that of the directory or its parent
 no_dots-in : (dir : ℕ) (es : List EntryRec) → list_any is_dots (map (in_directory dir) es) ≡ list_any is_dots es
@@ -194,14 +198,19 @@ pub begins : (dir parent : ℕ) (es : List EntryRec) → have_no_dots es ≡ tru
 unfolding is_self is_parent
 begins dir parent es none = and_from _ _ (and_from _ _ (and_from _ _ refl (eq-eqb dir dir refl)) refl) (no-dots dir es none)
 
+pub stands : (dir parent : ℕ) (es : List EntryRec) → stand_first (offsets 64 (self_of dir ∷ parent_of dir parent ∷ es)) ≡ true
+stands dir parent es = refl
+
 pub first-one : (dir parent : ℕ) (es : List EntryRec) (p : List ℕ) → IsDataBlock (self_of dir ∷ parent_of dir parent ∷ es) p → have_no_dots es ≡ true
     → is_first dir false (block_of 0 p) ≡ true
 unfolding is_first
 first-one dir parent es p block none =
     let all = self_of dir ∷ parent_of dir parent ∷ es in
     let entries = entries-of-area dir 4096 all (area_in dir false (block_of 0 p)) (area-is dir 0 all p block) in
-    and_from _ _ (and_from _ _ refl (sound-is dir 0 all p block))
-    (ap (λ (xs : List EntryRec). begin_with_dots dir xs) entries ∙ begins dir parent es none)
+    let places = places-of-area dir 4096 all (area_in dir false (block_of 0 p)) (area-is dir 0 all p block) in
+    and_from _ _ (and_from _ _ (and_from _ _ refl (sound-is dir 0 all p block))
+    (ap (λ (xs : List EntryRec). begin_with_dots dir xs) entries ∙ begins dir parent es none))
+    (ap (λ (ps : List ℕ). stand_first ps) places ∙ stands dir parent es)
 
 -- the longest unused spans, by their blocks
 pub end-of : (first : ℕ) (ess : List (List EntryRec)) → 1 ≤ length ess → end_of (bests_from first ess) ≡ first + length ess

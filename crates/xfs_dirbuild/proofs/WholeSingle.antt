@@ -14,7 +14,7 @@ use Rattle.xfs_dirindex.specs.declared.pairs.Pair.{Pair}
 use Rattle.xfs_dirindex.specs.Mapped.{Mapped, block_of, mapped}
 use Rattle.xfs_dirindex.specs.Pairs.{pairs_at, is_index}
 use Rattle.xfs_dirindex.specs.Sorted.{IsRanked}
-use Rattle.xfs_dirindex.specs.Data.{have_no_dots, begin_with_dots, no_area, area_in, is_sound, is_first, due_pairs, pairs_in}
+use Rattle.xfs_dirindex.specs.Data.{have_no_dots, begin_with_dots, stand_first, no_area, area_in, is_sound, is_first, due_pairs, pairs_in}
 use Rattle.xfs_dirindex.specs.Block.{tail_count, tail_pairs, is_single}
 use Rattle.xfs_dirbuild.specs.declared.forms.Form.TheVariants.{Single}
 use Rattle.xfs_dirbuild.specs.Filling.{all_entries}
@@ -23,7 +23,7 @@ use Rattle.xfs_dirbuild.specs.SingleBlock.{IsSingleBlock}
 use Rattle.xfs_dirbuild.specs.Placed.{file_blocks, ArePlaced, IsWhole, entries_in}
 use Rattle.xfs_dirbuild.proofs.Pairs.{pairs_at-same}
 use Rattle.xfs_dirbuild.proofs.Areas.{SameBehind, same-behind, area-same}
-use Rattle.xfs_dirbuild.proofs.DataPlaced.{pairs-of-area, entries-of-area, begins}
+use Rattle.xfs_dirbuild.proofs.DataPlaced.{pairs-of-area, entries-of-area, places-of-area, stands, begins}
 use Rattle.xfs_dirbuild.proofs.Indexes.{index-sound}
 use Rattle.xfs_dirbuild.proofs.PlacedBlocks.{data-block}
 
@@ -70,7 +70,9 @@ first-read dir parent es pairs p none block =
     let sound : (field_of p 0 4 == 0x58444233 && is_some (data_of dir p true)) ≡ true =
     and_from _ _ (eq-eqb (field_of p 0 4) 0x58444233 block.magic) (ap (λ a. is_some a) (data-read dir parent es pairs p block)) in
     let entries = entries-of-area dir (4088 - 8 * length pairs) (all_entries dir parent es) (area_in dir true (block_of 0 p)) (area-read dir parent es pairs p block) in
-    and_from _ _ (and_from _ _ refl sound) (ap (λ (xs : List EntryRec). begin_with_dots dir xs) entries ∙ begins dir parent es none)
+    let places = places-of-area dir (4088 - 8 * length pairs) (all_entries dir parent es) (area_in dir true (block_of 0 p)) (area-read dir parent es pairs p block) in
+    and_from _ _ (and_from _ _ (and_from _ _ refl sound) (ap (λ (xs : List EntryRec). begin_with_dots dir xs) entries ∙ begins dir parent es none))
+    (ap (λ (ps : List ℕ). stand_first ps) places ∙ stands dir parent es)
 
 pairs-read : (dir parent : ℕ) (es : List EntryRec) (pairs : List Pair) (p : List ℕ) → IsSingleBlock dir parent es pairs p
     → pairs_in dir true (block_of 0 p) ≡ due_pairs 0 (all_entries dir parent es) (offsets 64 (all_entries dir parent es))

@@ -31,6 +31,12 @@ begin_with_dots dir [] = false
 begin_with_dots dir (a ∷ []) = false
 begin_with_dots dir (a ∷ b ∷ rest) = is_self a.name && a.ino == dir && is_parent b.name && have_no_dots rest
 
+-- the first two entries stand right behind the header, at bytes 64 and 80
+abbrev pub stand_first : List ℕ → Bool
+stand_first [] = false
+stand_first (a ∷ []) = false
+stand_first (a ∷ b ∷ rest) = a == 64 && b == 80
+
 -- the magic number with which a data block begins; whole in the single-block form
 abbrev pub magic_of : Bool → ℕ
 magic_of whole = if whole then 0x58444233 else 0x58444433
@@ -46,9 +52,10 @@ area_in dir whole m = unwrap_or (data_of dir m.bytes whole) no_area
 unfoldable pub is_sound : ℕ → Bool → Mapped → Bool
 is_sound dir whole m = field_of m.bytes 0 4 == magic_of whole && is_some (data_of dir m.bytes whole)
 
--- the first block of a directory stands at file block 0, and its first entries are those of the directory and its parent
+-- the first block of a directory stands at file block 0, and its first entries, at their places, are those of the directory and its parent
 unfoldable pub is_first : ℕ → Bool → Mapped → Bool
-is_first dir whole m = m.offset == 0 && is_sound dir whole m && begin_with_dots dir (area_in dir whole m).entries
+is_first dir whole m =
+    m.offset == 0 && is_sound dir whole m && begin_with_dots dir (area_in dir whole m).entries && stand_first (area_in dir whole m).places
 
 -- a later one has no such entry, if it is a data block
 unfoldable pub is_later : ℕ → Mapped → Bool

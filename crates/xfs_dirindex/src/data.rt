@@ -4,7 +4,7 @@ ghost use Rattle.std.specs.Prelude.{◌≡◌, ◌<◌, ◌++◌, [], ◌∷◌,
 ghost use Rattle.std.specs.List.{flat_map, list_any};
 ghost use Rattle.xfs_dirindex.specs.Faults.{OnUnsound};
 ghost use Rattle.xfs_dirindex.specs.Mapped.{block_of, mapped, is_data};
-ghost use Rattle.xfs_dirindex.specs.Data.{is_self, is_parent, is_dots, have_no_dots, begin_with_dots, magic_of, area_in, is_sound, is_first, is_later, are_data, due_pair, due_pairs, pairs_in, all_pairs, longest, best_in, all_bests};
+ghost use Rattle.xfs_dirindex.specs.Data.{is_self, is_parent, is_dots, have_no_dots, begin_with_dots, stand_first, magic_of, area_in, is_sound, is_first, is_later, are_data, due_pair, due_pairs, pairs_in, all_pairs, longest, best_in, all_bests};
 
 use crate::layouts::{INDEX_START, data_magic};
 use crate::pairs::Pair;
@@ -12,6 +12,11 @@ use crate::seen::{DirSeen, IndexFault};
 use std::alloc::{AllocError, Global};
 use xfs_dirdata::{DataBlock, DirFault, EntryRec, FreeSpan, read_data};
 use xfs_word::{get32, name_hash};
+
+/// The byte offsets of the entries of the directory itself and of its parent.
+const OWN_PLACE: u16 = 64;
+
+const PARENT_PLACE: u16 = 80;
 
 /// The longest unused span of a data block.
 #[derive(Clone, Copy, Debug, PartialEq, Eq)]
@@ -96,6 +101,9 @@ pub fn take_first(
     if !begin_with_dots(dir, &data.entries) {
         return Err(IndexFault::Unsound);
     }
+    if !stand_first(&data.places) {
+        return Err(IndexFault::Unsound);
+    }
     Ok(())
 }
 
@@ -139,6 +147,7 @@ fn take_block(
     ensures sound { OnOk result (is_sound dir whole (block_of offset block.now) ≡ true) }
     ensures unsound { IfErr result (λ fault. OnUnsound fault (is_sound dir whole (block_of offset block.now) ≡ false)) }
     ensures entries { IfOk result (λ read. read.entries.items ≡ (area_in dir whole (block_of offset block.now)).entries) }
+    ensures places { IfOk result (λ read. read.places.items ≡ (area_in dir whole (block_of offset block.now)).places) }
     ensures due { OnOk result (taken.new.due.items ≡ taken.old.due.items ++ pairs_in dir whole (block_of offset block.now)) }
     ensures bests { OnOk result (taken.new.bests.items ≡ taken.old.bests.items ++ best_in dir whole (block_of offset block.now) ∷ []) }
 {
@@ -215,6 +224,16 @@ fn begin_with_dots(dir: u64, entries: &[EntryRec]) -> bool
         return false;
     }
     have_no_dots(rest)
+}
+
+/// Whether the first two entries stand right behind the header, by their byte offsets.
+fn stand_first(places: &[u16]) -> bool
+    ensures { result ≡ stand_first places.now }
+{
+    match places {
+        [own, parent, ..] => *own == OWN_PLACE && *parent == PARENT_PLACE,
+        _ => false,
+    }
 }
 
 /// Whether no entry is that of the directory or of its parent.

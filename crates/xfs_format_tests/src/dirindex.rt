@@ -91,6 +91,7 @@ leaf leaf | Err(Unsound) | another index block | 2 8 3dff
 leaf leaf | Err(Unsound) | another data block | 1 2 4233
 leaf leaf | Err(Unsound) | another directory | 0 70 0065
 leaf leaf | Err(Unsound) | another name of the parent | 0 90 2f02
+leaf leaf | Err(Unsound) | an unused span in front of the directory's entry | 0 48 0080 0f80 0040 0010, 0 64 ffff 0010, 0 78 0040, 0 80 0000000000000064 01 2e 02 000000 0050, 0 96 0000000000000080 02 2e2e 02 0000 0060, 0 112 0000000000000083 01 61 01 000000 0070, 0 128 ffff 0f80, 0 4094 0080, 2 68 0000000a, 2 76 0000000e, 2 108 0000000c, 2 4084 0f80
 leaf single | Err(Unsound) | the leaf form as a single block |
 node node | Ok(()) | the node form |
 node node | Err(Unsound) | an address | 4 70 0609
@@ -130,6 +131,7 @@ single single | Err(Unsound) | the number of pairs | 0 4090 0003
 single single | Err(Unsound) | far more pairs | 0 4088 0001
 single single | Err(Unsound) | a data block of another form | 0 2 4433
 single single | Err(Unsound) | another inode of the directory | 0 64 0001
+single single | Err(Unsound) | an unused span in front of the parent's entry | 0 48 0080 0f58 0050 0010, 0 80 ffff 0010, 0 94 0050, 0 96 0000000000000080 02 2e2e 02 0000 0060, 0 112 0000000000000083 01 61 01 000000 0070, 0 128 ffff 0f58, 0 4054 0080, 0 4068 0000000e, 0 4084 0000000c
 ";
 
 /// The same with the size and the file blocks before the changes.

@@ -6,13 +6,13 @@ use Rattle.std.proofs.lemmas.List.Elements.{All-cons, All-head, All-nil, All-tai
 use Rattle.xfs_word.specs.Field.{field_of}
 use Rattle.xfs_dirdata.specs.Data.{data_of}
 use Rattle.xfs_dirdata.specs.declared.records.EntryRec.{EntryRec}
-use Rattle.xfs_dirindex.specs.Data.{are_data, area_in, begin_with_dots, have_no_dots, is_dots, is_first, is_later, is_parent, is_self, is_sound, magic_of}
+use Rattle.xfs_dirindex.specs.Data.{are_data, area_in, begin_with_dots, have_no_dots, is_dots, is_first, is_later, is_parent, is_self, is_sound, magic_of, stand_first}
 use Rattle.xfs_dirindex.specs.Leaf.{are_values, best_at}
 use Rattle.xfs_dirindex.specs.Mapped.{Mapped}
 use Rattle.xfs_dirindex.specs.Pairs.{are_same, is_index, is_live, is_stale, rises}
 use Rattle.xfs_dirindex.specs.declared.data.Best.{Best}
 use Rattle.xfs_dirindex.specs.declared.pairs.Pair.{Pair}
-use Rattle.xfs_views.specs.DirectoriesInWords.{AreDataBlocks, BeginWithDots, HaveValues, IsDataBlock, IsFirstBlock, IsIndex, IsLaterBlock, IsNamed}
+use Rattle.xfs_views.specs.DirectoriesInWords.{AreDataBlocks, BeginWithDots, HaveValues, IsDataBlock, IsFirstBlock, IsIndex, IsLaterBlock, IsNamed, StandFirst}
 use Rattle.xfs_views.proofs.Tests.{all_pass, all_say, range_passes, range_says, rise_passes, rise_says, same_passes, same_says}
 
 -- the names "." and ".."
@@ -117,19 +117,40 @@ sound_passes : (dir : ℕ) (whole : Bool) (m : Mapped) → IsDataBlock dir whole
 unfolding is_sound
 sound_passes dir whole m is = and_from (field_of m.bytes 0 4 == magic_of whole) (is_some (data_of dir m.bytes whole)) (eq-eqb (field_of m.bytes 0 4) (magic_of whole) is.magic) is.reads
 
+-- their places
+places_say : (places : List ℕ) → stand_first places ≡ true → StandFirst places
+places_say [] is = absurd (true≢false (sym is))
+places_say (a ∷ []) is = absurd (true≢false (sym is))
+places_say (a ∷ b ∷ rest) is =
+    let both = and_parts (a == 64) (b == 80) is in
+    record { rest = rest; stand = ap (λ (x : ℕ). x ∷ b ∷ rest) (eqb-true a 64 both.0) ∙ ap (λ (y : ℕ). 64 ∷ y ∷ rest) (eqb-true b 80 both.1) }
+
+places_pass : (places : List ℕ) → StandFirst places → stand_first places ≡ true
+places_pass places is = subst (λ (ps : List ℕ). stand_first ps ≡ true) (sym is.stand) refl
+
 pub first_says : (dir : ℕ) (whole : Bool) (m : Mapped) → is_first dir whole m ≡ true → IsFirstBlock dir whole m
 unfolding is_first
 first_says dir whole m is =
-    let both = and_parts (m.offset == 0 && is_sound dir whole m) (begin_with_dots dir (area_in dir whole m).entries) is in
+    let entries = begin_with_dots dir (area_in dir whole m).entries in
+    let all = and_parts (m.offset == 0 && is_sound dir whole m && entries) (stand_first (area_in dir whole m).places) is in
+    let both = and_parts (m.offset == 0 && is_sound dir whole m) entries all.0 in
     let parts = and_parts (m.offset == 0) (is_sound dir whole m) both.0 in
-    record { at_start = eqb-true m.offset 0 parts.0; sound = sound_says dir whole m parts.1; dots = dots_say dir (area_in dir whole m).entries both.1 }
+    record {
+      at_start = eqb-true m.offset 0 parts.0;
+      sound = sound_says dir whole m parts.1;
+      dots = dots_say dir (area_in dir whole m).entries both.1;
+      places = places_say (area_in dir whole m).places all.1;
+    }
 
 pub first_passes : (dir : ℕ) (whole : Bool) (m : Mapped) → IsFirstBlock dir whole m → is_first dir whole m ≡ true
 unfolding is_first
 first_passes dir whole m is =
-    and_from (m.offset == 0 && is_sound dir whole m) (begin_with_dots dir (area_in dir whole m).entries)
+    let entries = begin_with_dots dir (area_in dir whole m).entries in
+    and_from (m.offset == 0 && is_sound dir whole m && entries) (stand_first (area_in dir whole m).places)
+    (and_from (m.offset == 0 && is_sound dir whole m) entries
     (and_from (m.offset == 0) (is_sound dir whole m) (eq-eqb m.offset 0 is.at_start) (sound_passes dir whole m is.sound))
-    (dots_pass dir (area_in dir whole m).entries is.dots)
+    (dots_pass dir (area_in dir whole m).entries is.dots))
+    (places_pass (area_in dir whole m).places is.places)
 
 -- a test that is asked for numbers below a limit alone, or from one on
 below_says : (n limit : ℕ) (t : Bool) → (if nat_lt n limit then t else true) ≡ true → n < limit → t ≡ true

@@ -46,11 +46,17 @@ pub record IsDataBlock (dir : ℕ) (whole : Bool) (m : Mapped) : Type 0 where
   pub magic : field_of m.bytes 0 4 ≡ magic_of whole
   pub reads : is_some (data_of dir m.bytes whole) ≡ true
 
--- the first block of a directory stands at file block 0 and has the entries "." and ".."
+-- the first two entries stand at bytes 64 and 80, right behind the header
+pub record StandFirst (places : List ℕ) : Type 0 where
+  pub rest : List ℕ
+  pub stand : places ≡ 64 ∷ 80 ∷ rest
+
+-- the first block of a directory stands at file block 0 and has the entries "." and "..", at their places
 pub record IsFirstBlock (dir : ℕ) (whole : Bool) (m : Mapped) : Type 0 where
   pub at_start : m.offset ≡ 0
   pub sound : IsDataBlock dir whole m
   pub dots : BeginWithDots dir (area_in dir whole m).entries
+  pub places : StandFirst (area_in dir whole m).places
 
 -- a later one has no entry of these names
 pub record IsLaterBlock (dir : ℕ) (m : Mapped) : Type 0 where
