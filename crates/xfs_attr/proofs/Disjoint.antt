@@ -6,29 +6,29 @@ use Rattle.std.proofs.lemmas.Bool.{leb-true, ltb-true, le-leb, lt-ltb, and_parts
 use Rattle.std.proofs.lemmas.List.FromFn.{length-range_with_len, get_or-range_with_len}
 use Rattle.std.proofs.lemmas.List.Sums.{AllPass-from_list_all, list_all-from_AllPass}
 use Rattle.xfs_attr.specs.declared.entries.LeafEntry.{LeafEntry}
-use Rattle.xfs_attr.specs.Leaf.{entry_at, entries, size_of, holds_byte, are_apart, AreInside, AreDisjoint}
+use Rattle.xfs_attr.specs.Leaf.{leaf_entry_at, entries, leaf_entry_size, holds_byte, entries_apart, AreInside, AreDisjoint}
 use Rattle.xfs_attr.proofs.Steps.{some_bytes, sum_more}
 use Rattle.xfs_attr.proofs.Taken.{more_holds}
 
 -- the end of an entry's value
 abbrev end_of : List ℕ → ℕ → ℕ
-end_of block i = (entry_at block i).nameidx + size_of block (entry_at block i)
+end_of block i = (leaf_entry_at block i).nameidx + leaf_entry_size block (leaf_entry_at block i)
 
 -- a byte lies between the value's two ends
 record Lies (block : List ℕ) (b i : ℕ) : Type 0 where
-  from : (entry_at block i).nameidx ≤ b
+  from : (leaf_entry_at block i).nameidx ≤ b
   to : b < end_of block i
 
-lies : (block : List ℕ) (b i : ℕ) → holds_byte block b (entry_at block i) ≡ true → Lies block b i
+lies : (block : List ℕ) (b i : ℕ) → holds_byte block b (leaf_entry_at block i) ≡ true → Lies block b i
 lies block b i h =
-    let parts = and_parts (nat_le (entry_at block i).nameidx b) (nat_lt b (end_of block i)) h in
-    record { from = leb-true (entry_at block i).nameidx b parts.0; to = ltb-true b (end_of block i) parts.1 }
+    let parts = and_parts (nat_le (leaf_entry_at block i).nameidx b) (nat_lt b (end_of block i)) h in
+    record { from = leb-true (leaf_entry_at block i).nameidx b parts.0; to = ltb-true b (end_of block i) parts.1 }
 
-holds : (block : List ℕ) (b i : ℕ) → Lies block b i → holds_byte block b (entry_at block i) ≡ true
-holds block b i h = and_from _ _ (le-leb (entry_at block i).nameidx b h.from) (lt-ltb b (end_of block i) h.to)
+holds : (block : List ℕ) (b i : ℕ) → Lies block b i → holds_byte block b (leaf_entry_at block i) ≡ true
+holds block b i h = and_from _ _ (le-leb (leaf_entry_at block i).nameidx b h.from) (lt-ltb b (end_of block i) h.to)
 
 -- two entries that pass count twice
-twice : (p : LeafEntry → Bool) (block : List ℕ) (i j n : ℕ) → i < j → j < n → p (entry_at block i) ≡ true → p (entry_at block j) ≡ true
+twice : (p : LeafEntry → Bool) (block : List ℕ) (i j n : ℕ) → i < j → j < n → p (leaf_entry_at block i) ≡ true → p (leaf_entry_at block j) ≡ true
     → 2 ≤ count_by p (entries block n)
 twice p block i j n low high at_i at_j =
     let counted : LeafEntry → ℕ = λ (e : LeafEntry). cond (p e) 1 0 in
@@ -41,9 +41,9 @@ twice p block i j n low high at_i at_j =
     omega (arith, one, other, between, behind)
 
 -- a byte in no two of the values
-at_most_once : (block : List ℕ) (count b : ℕ) → are_apart block (entries block count) ≡ true → b < length block
+at_most_once : (block : List ℕ) (count b : ℕ) → entries_apart block (entries block count) ≡ true → b < length block
     → count_by (holds_byte block b) (entries block count) ≤ 1
-unfolding are_apart
+unfolding entries_apart
 at_most_once block count b apart low =
     let test : ℕ → Bool = λ (k : ℕ). nat_le (count_by (holds_byte block k) (entries block count)) 1 in
     let long = length-range_with_len 0 (length block) in
@@ -52,16 +52,16 @@ at_most_once block count b apart low =
     AllPass-from_list_all test (range_with_len 0 (length block)) apart b 0 (omega (arith, long)) in
     leb-true (count_by (holds_byte block b) (entries block count)) 1 (ap test (sym at) ∙ passes)
 
-disjoint_from : (block : List ℕ) (count : ℕ) → length block ≡ 4096 → AreInside block count → are_apart block (entries block count) ≡ true → AreDisjoint block count
+disjoint_from : (block : List ℕ) (count : ℕ) → length block ≡ 4096 → AreInside block count → entries_apart block (entries block count) ≡ true → AreDisjoint block count
 disjoint_from block count long inside apart i j low high =
-    elim (cases_lt (entry_at block j).nameidx (end_of block i)) [
+    elim (cases_lt (leaf_entry_at block j).nameidx (end_of block i)) [
       | inr behind ↦ inl behind
-      | inl before ↦ elim (cases_lt (entry_at block i).nameidx (end_of block j)) [
+      | inl before ↦ elim (cases_lt (leaf_entry_at block i).nameidx (end_of block j)) [
         | inr behind ↦ inr behind
         | inl after ↦
-            let b = max (entry_at block i).nameidx (entry_at block j).nameidx in
-            let some_i = some_bytes block (entry_at block i) in
-            let some_j = some_bytes block (entry_at block j) in
+            let b = max (leaf_entry_at block i).nameidx (leaf_entry_at block j).nameidx in
+            let some_i = some_bytes block (leaf_entry_at block i) in
+            let some_j = some_bytes block (leaf_entry_at block j) in
             let within_i = inside.each i (omega arith) in
             let in_i : Lies block b i = record { from = omega arith; to = omega (arith, some_i, before) } in
             let in_j : Lies block b j = record { from = omega arith; to = omega (arith, some_j, after) } in
@@ -74,10 +74,10 @@ disjoint_from block count long inside apart i j low high =
 -- no one of the first n entries passes, or just one does
 abbrev OneAtMost : (LeafEntry → Bool) → List ℕ → ℕ → Type 0
 OneAtMost p block n =
-    (count_by p (entries block n) ≡ 0) ⊎ ((count_by p (entries block n) ≡ 1) × (i : ℕ) × (i < n) × (p (entry_at block i) ≡ true))
+    (count_by p (entries block n) ≡ 0) ⊎ ((count_by p (entries block n) ≡ 1) × (i : ℕ) × (i < n) × (p (leaf_entry_at block i) ≡ true))
 
-pass_more : (p : LeafEntry → Bool) (block : List ℕ) (n : ℕ) (t : Bool) → p (entry_at block n) ≡ t
-    → ((i : ℕ) → i < n → p (entry_at block i) ≡ true → p (entry_at block n) ≡ true → ⊥) → OneAtMost p block n → OneAtMost p block (n + 1)
+pass_more : (p : LeafEntry → Bool) (block : List ℕ) (n : ℕ) (t : Bool) → p (leaf_entry_at block n) ≡ t
+    → ((i : ℕ) → i < n → p (leaf_entry_at block i) ≡ true → p (leaf_entry_at block n) ≡ true → ⊥) → OneAtMost p block n → OneAtMost p block (n + 1)
 pass_more p block n false last never (inl none) =
     let more = sum_more (λ (e : LeafEntry). cond (p e) 1 0) block n ∙ ap (λ (t : Bool). count_by p (entries block n) + cond t 1 0) last in
     inl (omega (arith, more, none))
@@ -90,11 +90,11 @@ pass_more p block n true last never (inl none) =
 pass_more p block n true last never (inr (one, i, low, passes)) = absurd (never i low passes last)
 
 one_at_most : (p : LeafEntry → Bool) (block : List ℕ) (n : ℕ)
-    → ((i j : ℕ) → i < j → j < n → p (entry_at block i) ≡ true → p (entry_at block j) ≡ true → ⊥) → OneAtMost p block n
+    → ((i j : ℕ) → i < j → j < n → p (leaf_entry_at block i) ≡ true → p (leaf_entry_at block j) ≡ true → ⊥) → OneAtMost p block n
 one_at_most p block zero never = inl refl
 one_at_most p block (suc n) never =
     subst (λ (k : ℕ). OneAtMost p block k) (add-one n)
-    (pass_more p block n (p (entry_at block n)) refl (λ i low one other. never i n low (omega arith) one other)
+    (pass_more p block n (p (leaf_entry_at block n)) refl (λ i low one other. never i n low (omega arith) one other)
     (one_at_most p block n (λ i j low high. never i j low (omega arith))))
 
 few : (p : LeafEntry → Bool) (block : List ℕ) (n : ℕ) → OneAtMost p block n → count_by p (entries block n) ≤ 1
@@ -102,7 +102,7 @@ few p block n (inl none) = omega (arith, none)
 few p block n (inr (one, i, low, passes)) = omega (arith, one)
 
 not_both : (block : List ℕ) (count b : ℕ) → AreDisjoint block count → (i j : ℕ) → i < j → j < count
-    → holds_byte block b (entry_at block i) ≡ true → holds_byte block b (entry_at block j) ≡ true → ⊥
+    → holds_byte block b (leaf_entry_at block i) ≡ true → holds_byte block b (leaf_entry_at block j) ≡ true → ⊥
 not_both block count b disjoint i j low high at_i at_j =
     let in_i = lies block b i at_i in
     let in_j = lies block b j at_j in
@@ -111,8 +111,8 @@ not_both block count b disjoint i j low high at_i at_j =
       | inr behind ↦ omega (arith, behind, in_j.to, in_i.from)
     ]
 
-apart_from : (block : List ℕ) (count : ℕ) → AreDisjoint block count → are_apart block (entries block count) ≡ true
-unfolding are_apart
+apart_from : (block : List ℕ) (count : ℕ) → AreDisjoint block count → entries_apart block (entries block count) ≡ true
+unfolding entries_apart
 apart_from block count disjoint =
     let test : ℕ → Bool = λ (k : ℕ). nat_le (count_by (holds_byte block k) (entries block count)) 1 in
     let long = length-range_with_len 0 (length block) in
@@ -124,5 +124,5 @@ apart_from block count disjoint =
     ap test at ∙ le-leb (count_by (holds_byte block k) (entries block count)) 1 most)
 
 -- no byte lies in two values exactly where these are disjoint
-pub disjoint : (block : List ℕ) (count : ℕ) → length block ≡ 4096 → AreInside block count → (are_apart block (entries block count) ≡ true) ↔ AreDisjoint block count
+pub disjoint : (block : List ℕ) (count : ℕ) → length block ≡ 4096 → AreInside block count → (entries_apart block (entries block count) ≡ true) ↔ AreDisjoint block count
 disjoint block count long inside = (disjoint_from block count long inside, apart_from block count)

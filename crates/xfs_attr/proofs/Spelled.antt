@@ -11,7 +11,7 @@ use Rattle.xfs_word.specs.Field.{field_of, part_of}
 use Rattle.xfs_attr.specs.declared.attributes.Attr.{Attr}
 use Rattle.xfs_attr.specs.declared.attributes.AttrFault.{AttrFault}
 use Rattle.xfs_attr.specs.declared.attributes.AttrFault.TheVariants.{Unsound}
-use Rattle.xfs_attr.specs.ShortForm.{size_of_entry, begin_with_entry, attribute_of_entry, attributes_of, short_of, entry_of, BeginsWith}
+use Rattle.xfs_attr.specs.ShortForm.{size_of_entry, begin_with_entry, attribute_of_entry, attributes_of, short_attributes, short_form_entry, BeginsWith}
 use Rattle.xfs_attr.proofs.Walked.{if_true, if_false}
 
 -- the first bytes, as fields
@@ -75,7 +75,7 @@ value_long : (a b : ℕ) (rest : List ℕ) → Bounds a b rest → length (take 
 value_long a b rest h = length-take-le b (drop a rest) (omega (arith, h.inside, length-drop a rest))
 
 -- bytes that begin with an entry are its attribute, spelled out, and the rest
-split : (bytes : List ℕ) → begin_with_entry bytes ≡ true → bytes ≡ entry_of (attribute_of_entry bytes) ++ drop (size_of_entry bytes) bytes
+split : (bytes : List ℕ) → begin_with_entry bytes ≡ true → bytes ≡ short_form_entry (attribute_of_entry bytes) ++ drop (size_of_entry bytes) bytes
 split [] h = cc
 split (a ∷ []) h = cc
 split (a ∷ b ∷ []) h = cc
@@ -85,7 +85,7 @@ split (a ∷ b ∷ f ∷ rest) h =
     let tail : (take a rest ++ take b (drop a rest)) ++ drop (3 + (a + b)) bytes ≡ rest =
     ap (λ (xs : List ℕ). (take a rest ++ take b (drop a rest)) ++ xs) (sym (drop-drop (a + b) 3 bytes)) ∙ cut a b rest bound.inside in
     sym
-    (ap₂ (λ (e : Attr) (n : ℕ). entry_of e ++ drop n bytes) (attribute_is a b f rest) (size_is a b f rest)
+    (ap₂ (λ (e : Attr) (n : ℕ). short_form_entry e ++ drop n bytes) (attribute_is a b f rest) (size_is a b f rest)
     ∙ (λ i. name_long a b rest bound i ∷ value_long a b rest bound i ∷ f ∷ tail i))
 
 has_name : (bytes : List ℕ) → begin_with_entry bytes ≡ true → 1 ≤ length (attribute_of_entry bytes).name
@@ -100,7 +100,7 @@ has_name (a ∷ b ∷ f ∷ rest) h =
 
 -- so many bytes are the entries of these attributes
 record Spelled (n : ℕ) (bytes : List ℕ) (attrs : List Attr) : Type 0 where
-  all : bytes ≡ flat_map entry_of attrs
+  all : bytes ≡ flat_map short_form_entry attrs
   count : n ≡ length attrs
   named : All (λ (a : Attr). 1 ≤ length a.name) attrs
 
@@ -115,7 +115,7 @@ spelled_more n bytes attrs true (Some xs) begins rest h =
     let behind = rest xs refl in
     subst (λ (ys : List Attr). Spelled (suc n) bytes ys) same
     (record {
-      all = split bytes begins ∙ ap (λ (ys : List ℕ). entry_of a ++ ys) behind.all;
+      all = split bytes begins ∙ ap (λ (ys : List ℕ). short_form_entry a ++ ys) behind.all;
       count = ap suc behind.count;
       named = All-cons (λ (e : Attr). 1 ≤ length e.name) a xs (has_name bytes begins) behind.named;
     })
@@ -136,7 +136,7 @@ spelled (suc n) bytes attrs h =
     (spelled n (drop (size_of_entry bytes) bytes)) h
 
 -- an attribute that is spelled out is read back
-attribute_back : (x : Attr) (tail : List ℕ) → attribute_of_entry (entry_of x ++ tail) ≡ x
+attribute_back : (x : Attr) (tail : List ℕ) → attribute_of_entry (short_form_entry x ++ tail) ≡ x
 attribute_back x tail =
     let rest = (x.name ++ x.value) ++ tail in
     let apart : rest ≡ x.name ++ (x.value ++ tail) = append_assoc x.name x.value tail in
@@ -145,31 +145,31 @@ attribute_back x tail =
     let value : take (length x.value) (drop (length x.name) rest) ≡ x.value = ap (take (length x.value)) behind ∙ take-append_seam x.value tail in
     attribute_is (length x.name) (length x.value) x.flags rest ∙ (λ i. record { flags = x.flags; name = name i; value = value i })
 
-tail_back : (x : Attr) (tail : List ℕ) → drop (size_of_entry (entry_of x ++ tail)) (entry_of x ++ tail) ≡ tail
+tail_back : (x : Attr) (tail : List ℕ) → drop (size_of_entry (short_form_entry x ++ tail)) (short_form_entry x ++ tail) ≡ tail
 tail_back x tail =
     let rest = (x.name ++ x.value) ++ tail in
-    let bytes = entry_of x ++ tail in
+    let bytes = short_form_entry x ++ tail in
     let long : length (x.name ++ x.value) ≡ length x.name + length x.value = length-append x.name x.value in
     ap (λ (n : ℕ). drop n bytes) (size_is (length x.name) (length x.value) x.flags rest)
     ∙ (sym (drop-drop (length x.name + length x.value) 3 bytes)
     ∙ (ap (λ (n : ℕ). drop n rest) (sym long) ∙ drop-append_seam (x.name ++ x.value) tail))
 
-begins_back : (x : Attr) (tail : List ℕ) → 1 ≤ length x.name → begin_with_entry (entry_of x ++ tail) ≡ true
+begins_back : (x : Attr) (tail : List ℕ) → 1 ≤ length x.name → begin_with_entry (short_form_entry x ++ tail) ≡ true
 begins_back x tail some =
     let rest = (x.name ++ x.value) ++ tail in
-    let bytes = entry_of x ++ tail in
+    let bytes = short_form_entry x ++ tail in
     let long : length rest ≡ length x.name + length x.value + length tail = length-append (x.name ++ x.value) tail ∙ ap (λ (n : ℕ). n + length tail) (length-append x.name x.value) in
     let name = first (length x.name) (length x.value ∷ x.flags ∷ rest) in
     let size = size_is (length x.name) (length x.value) x.flags rest in
     and_from _ _ (and_from _ _ (le-leb 3 (length bytes) (omega arith)) (le-leb 1 (field_of bytes 0 1) (omega (arith, name, some)))) (le-leb (size_of_entry bytes) (length bytes) (omega (arith, size, long)))
 
-spelled_back : (attrs : List Attr) → All (λ (a : Attr). 1 ≤ length a.name) attrs → attributes_of (length attrs) (flat_map entry_of attrs) ≡ Some attrs
+spelled_back : (attrs : List Attr) → All (λ (a : Attr). 1 ≤ length a.name) attrs → attributes_of (length attrs) (flat_map short_form_entry attrs) ≡ Some attrs
 unfolding attributes_of
 spelled_back [] named = refl
 spelled_back (x ∷ attrs) named =
-    let tail = flat_map entry_of attrs in
+    let tail = flat_map short_form_entry attrs in
     let rest = spelled_back attrs (λ k d h. named (suc k) d (omega (arith, h))) in
-    if_true (begin_with_entry (entry_of x ++ tail)) _ _ (begins_back x tail (named 0 x (omega arith)))
+    if_true (begin_with_entry (short_form_entry x ++ tail)) _ _ (begins_back x tail (named 0 x (omega arith)))
     ∙ (ap₂ (λ (a : Attr) (bytes : List ℕ). option_map (λ (xs : List Attr). a ∷ xs) (attributes_of (length attrs) bytes)) (attribute_back x tail) (tail_back x tail)
     ∙ ap (option_map (λ (xs : List Attr). x ∷ xs)) rest)
 
@@ -182,7 +182,7 @@ begins_from : (fork : List ℕ) (attrs : List Attr) → 4 ≤ field_of fork 0 2 
 begins_from fork attrs least most told =
     let size = field_of fork 0 2 in
     let long : length (part_of fork 4 (size - 4)) ≡ size - 4 = part_long fork 4 (size - 4) (omega arith) in
-    let same : length (flat_map entry_of attrs) ≡ size - 4 = ap length (sym told.all) ∙ long in
+    let same : length (flat_map short_form_entry attrs) ≡ size - 4 = ap length (sym told.all) ∙ long in
     record {
       inside = omega (arith, same);
       size = omega (arith, same);
@@ -201,20 +201,20 @@ began fork attrs true (Some xs) within told h =
     begins_from fork attrs (leb-true 4 (field_of fork 0 2) parts.0) (leb-true (field_of fork 0 2) (length fork) parts.1) (told cc)
 
 -- what is read of a fork is what it begins with
-pub begins_with : (fork : List ℕ) (attrs : List Attr) → short_of fork ≡ Ok attrs → BeginsWith fork attrs
-unfolding short_of
+pub begins_with : (fork : List ℕ) (attrs : List Attr) → short_attributes fork ≡ Ok attrs → BeginsWith fork attrs
+unfolding short_attributes
 begins_with fork attrs h =
     began fork attrs _ (attributes_of (field_of fork 2 1) (part_of fork 4 (field_of fork 0 2 - 4))) refl
     (spelled (field_of fork 2 1) (part_of fork 4 (field_of fork 0 2 - 4)) attrs) h
 
 -- what a fork begins with is read of it
-pub reads_back : (fork : List ℕ) (attrs : List Attr) → BeginsWith fork attrs → short_of fork ≡ Ok attrs
-unfolding short_of
+pub reads_back : (fork : List ℕ) (attrs : List Attr) → BeginsWith fork attrs → short_attributes fork ≡ Ok attrs
+unfolding short_attributes
 reads_back fork attrs begins =
     let size = field_of fork 0 2 in
     let least : nat_le 4 size ≡ true = le-leb 4 size (omega (arith, begins.size)) in
     let most : nat_le size (length fork) ≡ true = le-leb size (length fork) (omega (arith, begins.size, begins.inside)) in
-    let rest : size - 4 ≡ length (flat_map entry_of attrs) = omega (arith, begins.size) in
+    let rest : size - 4 ≡ length (flat_map short_form_entry attrs) = omega (arith, begins.size) in
     if_true _ _ _ (and_from _ _ least most)
     ∙ ap (λ (o : Option (List Attr)). ok_or o Unsound)
     (ap₂ attributes_of begins.count (ap (part_of fork 4) rest ∙ begins.entries) ∙ spelled_back attrs begins.named)

@@ -32,20 +32,20 @@ attributes_of (suc n) bytes =
     else None
 
 -- the attributes of a fork that begins with a short form of its own size
-unfoldable pub short_of : List ℕ → Result (List Attr) AttrFault
-short_of fork =
+unfoldable pub short_attributes : List ℕ → Result (List Attr) AttrFault
+short_attributes fork =
     if nat_le 4 (field_of fork 0 2) && nat_le (field_of fork 0 2) (length fork)
     then ok_or (attributes_of (field_of fork 2 1) (part_of fork 4 (field_of fork 0 2 - 4))) Unsound
     else Err Unsound
 
 -- an attribute's entry: the sizes of its name and its value, its flags, then the name and the value
-abbrev pub entry_of : Attr → List ℕ
-entry_of a = length a.name ∷ length a.value ∷ a.flags ∷ (a.name ++ a.value)
+abbrev pub short_form_entry : Attr → List ℕ
+short_form_entry a = length a.name ∷ length a.value ∷ a.flags ∷ (a.name ++ a.value)
 
 -- the fork begins with a short form that has just the entries of these attributes, which all have names
 pub record BeginsWith (fork : List ℕ) (attrs : List Attr) : Type 0 where
-  pub inside : 4 + length (flat_map entry_of attrs) ≤ length fork
-  pub size : field_of fork 0 2 ≡ 4 + length (flat_map entry_of attrs)
+  pub inside : 4 + length (flat_map short_form_entry attrs) ≤ length fork
+  pub size : field_of fork 0 2 ≡ 4 + length (flat_map short_form_entry attrs)
   pub count : field_of fork 2 1 ≡ length attrs
-  pub entries : part_of fork 4 (length (flat_map entry_of attrs)) ≡ flat_map entry_of attrs
+  pub entries : part_of fork 4 (length (flat_map short_form_entry attrs)) ≡ flat_map short_form_entry attrs
   pub named : All (λ a. 1 ≤ length a.name) attrs

@@ -1,7 +1,7 @@
 //! The entries of a leaf, and their values.
 
 ghost use Rattle.std.specs.Prelude.{◌≡◌, ℕ, ◌+◌, ◌*◌, ◌^◌, ◌<◌, ◌≤◌, length};
-ghost use Rattle.xfs_attr.specs.Leaf.{entry_at, is_local, is_complete, name_size, value_size, name_of, value_of, size_of};
+ghost use Rattle.xfs_attr.specs.Leaf.{leaf_entry_at, is_local, is_complete, name_size, value_size, leaf_entry_name, value_of, leaf_entry_size};
 
 use crate::layouts::leaf::{
     ENTRIES, ENTRY_SIZE, FLAGS, HASHVAL, NAMEIDX, NAMELEN, VALUE_SIZE, VALUELEN,
@@ -39,10 +39,10 @@ impl LeafEntry {
 }
 
 /// The entry at an index.
-#[tactic(auto, unfolding(crate::specs::Leaf::entry_at))]
+#[tactic(auto, unfolding(crate::specs::Leaf::leaf_entry_at))]
 pub fn read_entry(block: &[u8], index: usize) -> LeafEntry
     requires { 88 + 8 * index ≤ length block.now }
-    ensures { result ≡ entry_at block.now index }
+    ensures { result ≡ leaf_entry_at block.now index }
 {
     let at = ENTRIES + ENTRY_SIZE * index;
     LeafEntry {
@@ -53,10 +53,10 @@ pub fn read_entry(block: &[u8], index: usize) -> LeafEntry
 }
 
 /// The bytes that an entry's value takes, with what stands in front of it.
-#[tactic(auto, unfolding(crate::specs::Leaf::size_of))]
-pub fn size_of(block: &[u8], entry: LeafEntry) -> usize
+#[tactic(auto, unfolding(crate::specs::Leaf::leaf_entry_size))]
+pub fn leaf_entry_size(block: &[u8], entry: LeafEntry) -> usize
     requires { entry.nameidx + 3 ≤ length block.now }
-    ensures value { result ≡ size_of block.now entry }
+    ensures value { result ≡ leaf_entry_size block.now entry }
     ensures some { 4 ≤ result }
     ensures most { result < 2 ^ 17 }
 {
@@ -65,19 +65,19 @@ pub fn size_of(block: &[u8], entry: LeafEntry) -> usize
 }
 
 /// The name of an entry.
-#[tactic(auto, unfolding(crate::specs::Leaf::size_of))]
-pub fn name_of(block: &[u8], entry: LeafEntry) -> &[u8]
-    requires { entry.nameidx + size_of block.now entry ≤ length block.now }
-    ensures { result.now ≡ name_of block.now entry }
+#[tactic(auto, unfolding(crate::specs::Leaf::leaf_entry_size))]
+pub fn leaf_entry_name(block: &[u8], entry: LeafEntry) -> &[u8]
+    requires { entry.nameidx + leaf_entry_size block.now entry ≤ length block.now }
+    ensures { result.now ≡ leaf_entry_name block.now entry }
 {
     let at = entry.nameidx as usize + VALUE_SIZE;
     part(block, at, name_size(block, entry) as usize)
 }
 
 /// The value of an entry.
-#[tactic(auto, unfolding(crate::specs::Leaf::size_of))]
+#[tactic(auto, unfolding(crate::specs::Leaf::leaf_entry_size))]
 pub fn value_of(block: &[u8], entry: LeafEntry) -> &[u8]
-    requires { entry.nameidx + size_of block.now entry ≤ length block.now }
+    requires { entry.nameidx + leaf_entry_size block.now entry ≤ length block.now }
     ensures { result.now ≡ value_of block.now entry }
 {
     let at = entry.nameidx as usize + VALUE_SIZE + name_size(block, entry) as usize;

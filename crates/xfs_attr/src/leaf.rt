@@ -3,12 +3,12 @@
 ghost use Rattle.std.specs.Prelude.{◌≡◌, ◌↔◌, true, ℕ, ◌+◌, ◌*◌, ◌<◌, ◌≤◌, length, map, filter, min, not, IfOk};
 ghost use Rattle.std.specs.List.{list_all};
 ghost use Rattle.xfs_attr.specs.Readings.{IsReading};
-ghost use Rattle.xfs_attr.specs.Leaf.{entry_at, entries, size_of, is_local, is_complete, attribute_of, leaf_of, leaf_with, are_apart, AreInside, AreDisjoint};
+ghost use Rattle.xfs_attr.specs.Leaf.{leaf_entry_at, entries, leaf_entry_size, is_local, is_complete, attribute_of, leaf_of, leaf_with, entries_apart, AreInside, AreDisjoint};
 
 use crate::attributes::{Attr, AttrFault, Attrs};
-use crate::entries::{LeafEntry, name_of, read_entry, value_of};
+use crate::entries::{LeafEntry, leaf_entry_name, read_entry, value_of};
 use crate::layouts::leaf::{COUNT, MOST_ENTRIES};
-use crate::soundness::is_sound;
+use crate::soundness::is_sound_leaf;
 use std::alloc::Global;
 use xfs_disk::{NoMemory, Word};
 
@@ -23,13 +23,13 @@ const REMOTE: u8 = 1;
 pub fn read_leaf(alloc: Global, block: &[u8]) -> Result<Attrs, AttrFault>
     requires { length block.now ≡ 4096 }
     ensures due { IsReading (leaf_of block.now) result }
-    ensures disjoint { (count : ℕ) → AreInside block.now count → (are_apart block.now (entries block.now count) ≡ true) ↔ AreDisjoint block.now count }
+    ensures disjoint { (count : ℕ) → AreInside block.now count → (entries_apart block.now (entries block.now count) ≡ true) ↔ AreDisjoint block.now count }
 {
     let count = COUNT.read(block) as usize;
     if !are_local(block, count.min(MOST_ENTRIES)) {
         return Err(AttrFault::Unsupported { what: REMOTE });
     }
-    if !is_sound(block, count) {
+    if !is_sound_leaf(block, count) {
         return Err(AttrFault::Unsound);
     }
     match read_attributes(alloc, block, count) {
@@ -69,10 +69,10 @@ fn read_attributes(alloc: Global, block: &[u8], count: usize) -> Result<Vec<Attr
 
 /// The attribute of an entry.
 fn read_attribute(alloc: Global, block: &[u8], entry: LeafEntry) -> Result<Attr, NoMemory>
-    requires { entry.nameidx + size_of block.now entry ≤ length block.now }
+    requires { entry.nameidx + leaf_entry_size block.now entry ≤ length block.now }
     ensures { IfOk result (λ attribute. attribute ≡ attribute_of block.now entry) }
 {
-    let name = name_of(block, entry).to_vec(alloc)?;
+    let name = leaf_entry_name(block, entry).to_vec(alloc)?;
     let value = value_of(block, entry).to_vec(alloc)?;
     Ok(Attr {
         flags: entry.flags,

@@ -24,4 +24,4 @@ mod soundness;
 
 pub use attributes::{Attr, AttrFault, Attrs};
 pub use leaf::read_leaf;
-pub use short_form::read_short;
+pub use short_form::read_short_attributes;

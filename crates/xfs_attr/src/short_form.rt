@@ -5,7 +5,7 @@ ghost use Rattle.std.specs.Option.{ok_or};
 ghost use Rattle.xfs_word.specs.Field.{field_of, part_of};
 ghost use Rattle.xfs_attr.specs.declared.attributes.Attr.{Attr};
 ghost use Rattle.xfs_attr.specs.Readings.{IsReading};
-ghost use Rattle.xfs_attr.specs.ShortForm.{size_of_entry, begin_with_entry, attribute_of_entry, attributes_of, short_of, BeginsWith};
+ghost use Rattle.xfs_attr.specs.ShortForm.{size_of_entry, begin_with_entry, attribute_of_entry, attributes_of, short_attributes, BeginsWith};
 
 use crate::attributes::{Attr, AttrFault, Attrs};
 use crate::layouts::short_form::{
@@ -17,10 +17,10 @@ use xfs_word::part;
 
 /// The attributes of the short form that a fork begins with. `Unsound` where the form's size is not that of
 /// its header and entries or exceeds the fork, or a name is empty (chapter "Extended Attributes").
-#[tactic(auto, unfolding(crate::specs::ShortForm::short_of))]
-pub fn read_short(alloc: Global, fork: &[u8]) -> Result<Attrs, AttrFault>
-    ensures due { IsReading (short_of fork.now) result }
-    ensures spelled { (attributes : List Attr) → (short_of fork.now ≡ Ok attributes) ↔ BeginsWith fork.now attributes }
+#[tactic(auto, unfolding(crate::specs::ShortForm::short_attributes))]
+pub fn read_short_attributes(alloc: Global, fork: &[u8]) -> Result<Attrs, AttrFault>
+    ensures due { IsReading (short_attributes fork.now) result }
+    ensures spelled { (attributes : List Attr) → (short_attributes fork.now ≡ Ok attributes) ↔ BeginsWith fork.now attributes }
 {
     let Some(bytes) = entry_bytes(fork) else {
         return Err(AttrFault::Unsound);

@@ -3,19 +3,19 @@
 ghost use Rattle.std.specs.Prelude.{◌≡◌, ℕ, ◌+◌, ◌*◌, ◌^◌, ◌<◌, ◌≤◌, ◌==◌, ◌&&◌, ◌||◌, nat_le, nat_lt, true, false, length, IsTrue, slice_index_or};
 ghost use Rattle.std.specs.List.{list_all, sum_by, range_with_len};
 ghost use Rattle.xfs_word.specs.Field.{field_of};
-ghost use Rattle.xfs_attr.specs.Leaf.{entry_at, entries, size_of, is_whole, are_ascending, are_apart, is_sound, AreInside};
+ghost use Rattle.xfs_attr.specs.Leaf.{leaf_entry_at, entries, leaf_entry_size, is_whole_entry, are_ascending, entries_apart, is_sound_leaf, AreInside};
 
-use crate::entries::{LeafEntry, name_of, read_entry, size_of};
+use crate::entries::{LeafEntry, leaf_entry_name, read_entry, leaf_entry_size};
 use crate::layouts::leaf::{BACK, ENTRIES, ENTRY_SIZE, FIRSTUSED, FORW, USEDBYTES, VALUE_SIZE};
 use xfs_disk::BLOCK_SIZE;
 use xfs_word::name_hash;
 
 /// Whether a leaf with so many entries keeps the rules of its form.
-#[tactic(auto, unfolding(crate::specs::Leaf::is_sound))]
-pub fn is_sound(block: &[u8], count: usize) -> bool
+#[tactic(auto, unfolding(crate::specs::Leaf::is_sound_leaf))]
+pub fn is_sound_leaf(block: &[u8], count: usize) -> bool
     requires block { length block.now ≡ 4096 }
     requires count { count < 2 ^ 16 }
-    ensures value { result ≡ is_sound block.now count }
+    ensures value { result ≡ is_sound_leaf block.now count }
     ensures inside { IsTrue result → AreInside block.now count }
 {
     let first = FIRSTUSED.read(block) as usize;
@@ -31,7 +31,7 @@ pub fn is_sound(block: &[u8], count: usize) -> bool
     if !are_ascending(block, count) {
         return false;
     }
-    if !are_apart(block, count) {
+    if !entries_apart(block, count) {
         return false;
     }
     used_bytes(block, count) as u64 == USEDBYTES.read(block)
@@ -41,11 +41,11 @@ pub fn is_sound(block: &[u8], count: usize) -> bool
 fn are_whole(block: &[u8], first: usize, count: usize) -> bool
     requires block { length block.now ≡ 4096 }
     requires first { 80 + 8 * count ≤ first }
-    ensures value { result ≡ list_all (is_whole block.now first) (entries block.now count) }
+    ensures value { result ≡ list_all (is_whole_entry block.now first) (entries block.now count) }
     ensures inside { IsTrue result → AreInside block.now count }
 {
     for index in 0..count {
-        if !is_whole(block, first, index) {
+        if !is_whole_entry(block, first, index) {
             return false;
         }
     }
@@ -54,12 +54,12 @@ fn are_whole(block: &[u8], first: usize, count: usize) -> bool
 
 /// Whether the value of the entry at an index lies in the block from `first` on, and the hash is that of the
 /// name.
-fn is_whole(block: &[u8], first: usize, index: usize) -> bool
+fn is_whole_entry(block: &[u8], first: usize, index: usize) -> bool
     requires block { length block.now ≡ 4096 }
     requires first { 88 + 8 * index ≤ first }
-    ensures value { result ≡ is_whole block.now first (entry_at block.now index) }
+    ensures value { result ≡ is_whole_entry block.now first (leaf_entry_at block.now index) }
     ensures room { IsTrue result → first ≤ 4096 }
-    ensures inside { IsTrue result → (entry_at block.now index).nameidx + size_of block.now (entry_at block.now index) ≤ 4096 }
+    ensures inside { IsTrue result → (leaf_entry_at block.now index).nameidx + leaf_entry_size block.now (leaf_entry_at block.now index) ≤ 4096 }
 {
     if first > BLOCK_SIZE {
         return false;
@@ -68,15 +68,15 @@ fn is_whole(block: &[u8], first: usize, index: usize) -> bool
     if !lies_from(block, first, entry) {
         return false;
     }
-    name_hash(name_of(block, entry)) == entry.hash
+    name_hash(leaf_entry_name(block, entry)) == entry.hash
 }
 
 /// Whether an entry's value lies in the block from `first` on.
 fn lies_from(block: &[u8], first: usize, entry: LeafEntry) -> bool
     requires { length block.now ≡ 4096 }
-    ensures value { result ≡ (nat_le first entry.nameidx && nat_le (entry.nameidx + size_of block.now entry) 4096) }
+    ensures value { result ≡ (nat_le first entry.nameidx && nat_le (entry.nameidx + leaf_entry_size block.now entry) 4096) }
     ensures above { IsTrue result → first ≤ entry.nameidx }
-    ensures inside { IsTrue result → entry.nameidx + size_of block.now entry ≤ 4096 }
+    ensures inside { IsTrue result → entry.nameidx + leaf_entry_size block.now entry ≤ 4096 }
 {
     let at = entry.nameidx as usize;
     if at < first {
@@ -85,7 +85,7 @@ fn lies_from(block: &[u8], first: usize, entry: LeafEntry) -> bool
     if at + VALUE_SIZE > BLOCK_SIZE {
         return false;
     }
-    at + size_of(block, entry) <= BLOCK_SIZE
+    at + leaf_entry_size(block, entry) <= BLOCK_SIZE
 }
 
 /// Whether no entry has a lower hash than the one before it.
@@ -98,16 +98,16 @@ fn are_ascending(block: &[u8], count: usize) -> bool
 }
 
 /// Whether no two values overlap.
-fn are_apart(block: &[u8], count: usize) -> bool
+fn entries_apart(block: &[u8], count: usize) -> bool
     requires block { length block.now ≡ 4096 }
     requires inside { AreInside block.now count }
-    ensures { result ≡ are_apart block.now (entries block.now count) }
+    ensures { result ≡ entries_apart block.now (entries block.now count) }
 {
     let mut taken = [false; BLOCK_SIZE];
     for index in 0..count {
         let entry = read_entry(block, index);
         let at = entry.nameidx as usize;
-        if !claim(&mut taken, at, at + size_of(block, entry)) {
+        if !claim(&mut taken, at, at + leaf_entry_size(block, entry)) {
             return false;
         }
     }
@@ -136,11 +136,11 @@ fn claim(taken: &mut [bool; BLOCK_SIZE], start: usize, end: usize) -> bool
 fn used_bytes(block: &[u8], count: usize) -> usize
     requires block { length block.now ≡ 4096 }
     requires inside { AreInside block.now count }
-    ensures { result ≡ sum_by (size_of block.now) (entries block.now count) }
+    ensures { result ≡ sum_by (leaf_entry_size block.now) (entries block.now count) }
 {
     let mut used = 0;
     for index in 0..count {
-        used += size_of(block, read_entry(block, index));
+        used += leaf_entry_size(block, read_entry(block, index));
     }
     used
 }

@@ -8,7 +8,7 @@ use Rattle.std.proofs.lemmas.List.Folds.{concat-append}
 use denote.Ref.{MutBor}
 use denote.Param.Members.{Shared}
 use Rattle.xfs_disk.specs.Blocks.{Image}
-use Rattle.xfs_disk.specs.Memory.{blocks_of}
+use Rattle.xfs_disk.specs.Memory.{blocks_of_bytes}
 use Rattle.xfs_bank.specs.Bank.{AreCuts, parts_from}
 use Rattle.xfs_bank.specs.Parts.{flat_parts, EachFrom, EachPairFrom}
 use Rattle.xfs_bank.proofs.Blocks.{length-blocks_of, concat-blocks_of, take-blocks_of, drop-blocks_of}
@@ -30,18 +30,18 @@ AreCuts-append low middle high [] (c ∷ cs) up on = (omega (arith, up, on.0), o
 AreCuts-append low middle high (c ∷ cs) after up on = (up.0, AreCuts-append c middle high cs after up.1 on)
 
 -- the parts of a bank are the parts of its bytes
-pub parts_from-blocks_of : (low high n : ℕ) (cuts bytes : List ℕ) → low + n ≡ high → AreCuts low high cuts → length bytes ≡ n * 4096 → parts_from low cuts (blocks_of n bytes) ≡ flat_parts low cuts bytes
+pub parts_from-blocks_of : (low high n : ℕ) (cuts bytes : List ℕ) → low + n ≡ high → AreCuts low high cuts → length bytes ≡ n * 4096 → parts_from low cuts (blocks_of_bytes n bytes) ≡ flat_parts low cuts bytes
 parts_from-blocks_of low high n [] bytes ends are whole = ap (λ (xs : List ℕ). xs ∷ []) (concat-blocks_of n bytes ∙ take_all (n * 4096) bytes (omega arith))
 parts_from-blocks_of low high n (cut ∷ cuts) bytes ends are whole =
     let within : cut - low ≤ n = omega (arith, are.0, AreCuts-rises cut high cuts are.1) in
-    let part : concat (take (cut - low) (blocks_of n bytes)) ≡ take ((cut - low) * 4096) bytes = ap (λ (image : Image). concat image) (take-blocks_of (cut - low) n bytes within) ∙ concat-blocks_of (cut - low) bytes in
-    let others : parts_from cut cuts (drop (cut - low) (blocks_of n bytes)) ≡ flat_parts cut cuts (drop ((cut - low) * 4096) bytes) =
+    let part : concat (take (cut - low) (blocks_of_bytes n bytes)) ≡ take ((cut - low) * 4096) bytes = ap (λ (image : Image). concat image) (take-blocks_of (cut - low) n bytes within) ∙ concat-blocks_of (cut - low) bytes in
+    let others : parts_from cut cuts (drop (cut - low) (blocks_of_bytes n bytes)) ≡ flat_parts cut cuts (drop ((cut - low) * 4096) bytes) =
     ap (λ (image : Image). parts_from cut cuts image) (drop-blocks_of (cut - low) n bytes within)
     ∙ parts_from-blocks_of cut high (n - (cut - low)) cuts (drop ((cut - low) * 4096) bytes) (omega (arith, are.0)) are.1 (omega (arith, length-drop ((cut - low) * 4096) bytes)) in
     λ k. part k ∷ others k
 
 -- the parts of what a bank holds are those of its bytes
-pub held_parts : (n : ℕ) (bytes : List ℕ) (bank : Image) (cuts : List ℕ) → blocks_of n bytes ≡ bank → length bytes ≡ n * 4096 → AreCuts 0 (length bank) cuts → parts_from 0 cuts bank ≡ flat_parts 0 cuts bytes
+pub held_parts : (n : ℕ) (bytes : List ℕ) (bank : Image) (cuts : List ℕ) → blocks_of_bytes n bytes ≡ bank → length bytes ≡ n * 4096 → AreCuts 0 (length bank) cuts → parts_from 0 cuts bank ≡ flat_parts 0 cuts bytes
 held_parts n bytes bank cuts held whole are =
     let count : length bank ≡ n = ap length (sym held) ∙ length-blocks_of n bytes in
     ap (λ (image : Image). parts_from 0 cuts image) (sym held) ∙ parts_from-blocks_of 0 n n cuts bytes (omega arith) (subst (λ (m : ℕ). AreCuts 0 m cuts) count are) whole

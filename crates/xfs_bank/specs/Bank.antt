@@ -3,7 +3,7 @@ use Rattle.std.specs.Prelude.{◌≡◌, ℕ, ◌-◌, ◌≤◌, List, [], ◌�
 use Rattle.std.specs.List.{concat}
 use Rattle.std.specs.Option.{ForSome}
 use Rattle.xfs_disk.specs.Blocks.{Image}
-use Rattle.xfs_disk.specs.Memory.{blocks_of}
+use Rattle.xfs_disk.specs.Memory.{blocks_of_bytes}
 
 -- numbers of blocks at which a bank is cut: none is below the one before, none below the low end or above the high end
 abbrev pub AreCuts : ℕ → ℕ → List ℕ → Type 0
@@ -24,10 +24,10 @@ abbrev pub blocks_at : Image → List ℕ → Image
 blocks_at image places = map (λ place. slice_index_or image place []) places
 
 -- the first blocks of a bank became those of a disk at the places, where the disk tells what it holds, and the others stayed
-pub record IsFilled (held : Option Image) (places : List ℕ) (old new : Image) : Type 0 where
+pub record IsFilledBank (held : Option Image) (places : List ℕ) (old new : Image) : Type 0 where
   pub first : ForSome held (λ image. take (length places) new ≡ blocks_at image places)
   pub rest : drop (length places) new ≡ drop (length places) old
 
 -- a bank whose bytes were overwritten by these from block i on; where they are 4096, they are block i
 abbrev pub overwritten : Image → ℕ → List ℕ → Image
-overwritten bank i bytes = blocks_of (length bank) (take (i * 4096) (concat bank) ++ (bytes ++ drop (length bytes) (drop (i * 4096) (concat bank))))
+overwritten bank i bytes = blocks_of_bytes (length bank) (take (i * 4096) (concat bank) ++ (bytes ++ drop (length bytes) (drop (i * 4096) (concat bank))))

@@ -6,7 +6,7 @@ ghost use Rattle.std.specs.Fork.{AcceptsEach, ChangesEach};
 ghost use Rattle.xfs_disk.specs.Blocks.{Image, IsImage};
 ghost use Rattle.xfs_disk.specs.Faults.{HasCause};
 ghost use Rattle.xfs_disk.specs.Reads.{OnlyReads};
-ghost use Rattle.xfs_bank.specs.Bank.{AreCuts, parts_of, overwritten, IsFilled};
+ghost use Rattle.xfs_bank.specs.Bank.{AreCuts, parts_of, overwritten, IsFilledBank};
 
 use crate::parts::change_parts;
 use std::alloc::Global;
@@ -22,11 +22,11 @@ pub struct BlockBank {
 
 impl Model for BlockBank {
     ghost use Rattle.std.specs.Prelude.{◌≡◌, ◌/◌, ◌%◌, List, ℕ, length};
-    ghost use Rattle.xfs_disk.specs.Memory.{blocks_of};
+    ghost use Rattle.xfs_disk.specs.Memory.{blocks_of_bytes};
 
     ghost Value = { List (List ℕ) };
 
-    ghost view = { λ bank. blocks_of (length bank.bytes.items / 4096) bank.bytes.items };
+    ghost view = { λ bank. blocks_of_bytes (length bank.bytes.items / 4096) bank.bytes.items };
 
     ghost invariant = { λ bank. length bank.bytes.items % 4096 ≡ 0 };
 }
@@ -104,8 +104,8 @@ impl BlockBank {
     pub fn fill<D: Disk>(&mut self, disk: &mut D, places: &[u64]) -> Result<(), Failed>
         requires room { length places.now ≤ length self.old }
         requires inside { All (λ place. place < D.size disk.old) places.now }
-        ensures filled { OnOk result (IsFilled (D.holds disk.old) places.now self.old self.new) }
-        ensures prefix { OnErr result ((n : ℕ) × (n < length places.now) × IsFilled (D.holds disk.old) (take n places.now) self.old self.new) }
+        ensures filled { OnOk result (IsFilledBank (D.holds disk.old) places.now self.old self.new) }
+        ensures prefix { OnErr result ((n : ℕ) × (n < length places.now) × IsFilledBank (D.holds disk.old) (take n places.now) self.old self.new) }
         ensures len { length self.new ≡ length self.old }
         ensures cause { HasCause (D.faults disk.old) (D.faults disk.new) result }
         ensures disk { OnlyReads D.size D.holds D.write_faults D.writes D.tells_stops D.moment D.may_leave D.left_since disk.old disk.new }

@@ -6,7 +6,7 @@ use Rattle.std.proofs.lemmas.List.Elements.{All-cons, All-head, All-tail}
 use Rattle.std.specs.BTreeMap.{is_at}
 use Rattle.std.specs.BTreeSet.{insert_key}
 use Rattle.std.proofs.lemmas.Bool.{not-true}
-use Rattle.xfs_claims.specs.Keeping.{is_among}
+use Rattle.xfs_disk.specs.Lists.{is_among}
 use Rattle.xfs_claims.specs.Ranks.{AreDifferent, own_number}
 use Rattle.xfs_claims.proofs.Numbers.{insert_is, asked_is, among_more}
 use Rattle.xfs_claims.proofs.Ordered.{any_map}

@@ -6,9 +6,10 @@ use Rattle.std.specs.BTreeMap.{is_at}
 use Rattle.std.specs.BTreeSet.{insert_key}
 use Rattle.std.proofs.lemmas.Bool.{cases_order, both_ways}
 use Rattle.std.proofs.lemmas.Bool.Decides.{nat_tests}
+use Rattle.xfs_disk.specs.Lists.{is_among}
 use Rattle.xfs_volume.specs.declared.clusters.ClusterRec.{ClusterRec}
-use Rattle.xfs_claims.specs.Keeping.{with_number, is_among}
-use Rattle.xfs_claims.specs.Ranks.{is_recorded}
+use Rattle.xfs_claims.specs.Keeping.{with_number}
+use Rattle.xfs_claims.specs.Ranks.{is_recorded_cluster}
 
 abbrev pub no_cluster : ClusterRec
 no_cluster = record { block = 0; recorded = false }
@@ -89,16 +90,16 @@ or_grouped x y z false e = absurd (both_ways false refl e)
 -- a recorded cluster that is put among the blocks leaves what was told of all
 pub recorded_step : (clusters : List ClusterRec) (i b : ℕ) (keys new : List ℕ) → i < length clusters → (get_or clusters i no_cluster).recorded ≡ true
     → new ≡ insert_key nat_cmp keys (get_or clusters i no_cluster).block
-    → (is_among new b || is_recorded (drop (i + 1) clusters) b) ≡ (is_among keys b || is_recorded (drop i clusters) b)
+    → (is_among new b || is_recorded_cluster (drop (i + 1) clusters) b) ≡ (is_among keys b || is_recorded_cluster (drop i clusters) b)
 recorded_step clusters i b keys new inside recorded more =
     let c : ClusterRec = get_or clusters i no_cluster in
     let next : drop i clusters ≡ c ∷ drop (i + 1) clusters = rw (add-one, drop-cons clusters i no_cluster inside) refl in
     let among : is_among new b ≡ ((c.block == b) || is_among keys b) = ap (λ (x : List ℕ). is_among x b) (more ∙ insert_is c.block keys) ∙ among_more c.block keys b in
-    rw (among, next) (or_grouped (c.block == b) (is_among keys b) (is_recorded (drop (i + 1) clusters) b) c.recorded recorded)
+    rw (among, next) (or_grouped (c.block == b) (is_among keys b) (is_recorded_cluster (drop (i + 1) clusters) b) c.recorded recorded)
 
 -- and so does a scanned one that is passed over
 pub scanned_step : (clusters : List ClusterRec) (i b : ℕ) → i < length clusters → (get_or clusters i no_cluster).recorded ≡ false
-    → is_recorded (drop (i + 1) clusters) b ≡ is_recorded (drop i clusters) b
+    → is_recorded_cluster (drop (i + 1) clusters) b ≡ is_recorded_cluster (drop i clusters) b
 scanned_step clusters i b inside recorded =
     let c : ClusterRec = get_or clusters i no_cluster in
     let next : drop i clusters ≡ c ∷ drop (i + 1) clusters = rw (add-one, drop-cons clusters i no_cluster inside) refl in

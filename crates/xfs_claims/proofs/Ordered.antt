@@ -9,7 +9,7 @@ use Rattle.std.proofs.lemmas.List.Sums.{sum_by-cons}
 use Rattle.std.proofs.lemmas.Map.Keys.{IsDistinct-IsPermutation}
 use Rattle.std.proofs.lemmas.Bool.{cases_lt, or_parts, or_from, eqb-false}
 use Rattle.std.proofs.lemmas.Bool.Decides.{nat_tests}
-use Rattle.xfs_claims.specs.Ranks.{placed, by_number, AreDifferent}
+use Rattle.xfs_claims.specs.Ranks.{placed_by_number, by_number, AreDifferent}
 
 each_weaker : {X : Type 0} (P Q : X → Type 0) → ((x : X) → P x → Q x) → (xs : List X) → AllByRecursion P xs → AllByRecursion Q xs
 each_weaker P Q f [] h = tt
@@ -66,7 +66,7 @@ same_list {X = X} number (x ∷ xs) (y ∷ ys) a b to from =
     let rest = same_list number xs ys a.1 b.1 (tail_of number x y xs ys heads b to) (tail_of number y x ys xs (sym heads) a from) in
     ap₂ (λ (z : X) (zs : List X). z ∷ zs) heads rest
 
-placed_each : {X : Type 0} (number : X → ℕ) (P : X → Type 0) (x : X) (ys : List X) → P x → AllByRecursion P ys → AllByRecursion P (placed number x ys)
+placed_each : {X : Type 0} (number : X → ℕ) (P : X → Type 0) (x : X) (ys : List X) → P x → AllByRecursion P ys → AllByRecursion P (placed_by_number number x ys)
 placed_each number P x [] here each = (here, tt)
 placed_each number P x (y ∷ ys) here each =
     elim (cases_lt (number y) (number x)) [
@@ -74,12 +74,12 @@ placed_each number P x (y ∷ ys) here each =
       | inr ge ↦ let e : nat_lt (number y) (number x) ≡ false = grind (arith, nat_tests) in rw e (here, each)
     ]
 
-each_placed : {X : Type 0} (number : X → ℕ) (P : X → Type 0) (x : X) (ys : List X) → AllByRecursion P (placed number x ys) → P x × AllByRecursion P ys
+each_placed : {X : Type 0} (number : X → ℕ) (P : X → Type 0) (x : X) (ys : List X) → AllByRecursion P (placed_by_number number x ys) → P x × AllByRecursion P ys
 each_placed number P x [] each = each
 each_placed number P x (y ∷ ys) each =
     elim (cases_lt (number y) (number x)) [
       | inl lt ↦ let e : nat_lt (number y) (number x) ≡ true = grind (arith, nat_tests) in
-          let here : AllByRecursion P (y ∷ placed number x ys) = rw e at each in
+          let here : AllByRecursion P (y ∷ placed_by_number number x ys) = rw e at each in
           let rest = each_placed number P x ys here.1 in
           (rest.0, (here.0, rest.1))
       | inr ge ↦ let e : nat_lt (number y) (number x) ≡ false = grind (arith, nat_tests) in
@@ -97,7 +97,7 @@ from_order number P (x ∷ xs) each =
     let parts = each_placed number P x (by_number number xs) each in
     (parts.0, from_order number P xs parts.1)
 
-placed_ascends : {X : Type 0} (number : X → ℕ) (x : X) (ys : List X) → AllByRecursion (λ y. number y ≡ number x → ⊥) ys → Ascend number ys → Ascend number (placed number x ys)
+placed_ascends : {X : Type 0} (number : X → ℕ) (x : X) (ys : List X) → AllByRecursion (λ y. number y ≡ number x → ⊥) ys → Ascend number ys → Ascend number (placed_by_number number x ys)
 placed_ascends number x [] other up = (tt, tt)
 placed_ascends number x (y ∷ ys) other up =
     elim (cases_lt (number y) (number x)) [
@@ -200,12 +200,12 @@ pub map_differ : {X : Type 0} (number : X → ℕ) (xs : List X) → AreDifferen
 map_differ number [] differ = tt
 map_differ number (x ∷ xs) differ = (any_map number (number x) xs ∙ differ.0, map_differ number xs differ.1)
 
-sum_placed : {X : Type 0} (number f : X → ℕ) (x : X) (ys : List X) → sum_by f (placed number x ys) ≡ f x + sum_by f ys
+sum_placed : {X : Type 0} (number f : X → ℕ) (x : X) (ys : List X) → sum_by f (placed_by_number number x ys) ≡ f x + sum_by f ys
 sum_placed number f x [] = sum_by-cons f x []
 sum_placed number f x (y ∷ ys) =
     elim (cases_lt (number y) (number x)) [
       | inl lt ↦ let e : nat_lt (number y) (number x) ≡ true = grind (arith, nat_tests) in
-          let a = sum_by-cons f y (placed number x ys) in
+          let a = sum_by-cons f y (placed_by_number number x ys) in
           let b = sum_by-cons f y ys in
           let c = sum_placed number f x ys in
           rw e (omega (arith, a, b, c))

@@ -4,11 +4,12 @@ use Rattle.std.specs.Ordering.{nat_cmp}
 use Rattle.std.specs.BTreeSet.{insert_key}
 use Rattle.std.proofs.lemmas.Bool.{or_from}
 use Rattle.std.proofs.Math.Bool.{or-false}
+use Rattle.xfs_disk.specs.Lists.{is_in_range, is_among}
 use Rattle.xfs_runs.proofs.Meeting.{meets_none}
-use Rattle.xfs_runs.specs.Blocks.{is_block, is_in, meets}
+use Rattle.xfs_runs.specs.Blocks.{is_in, meets}
 use Rattle.xfs_claims.specs.declared.claimants.FileClaim.{FileClaim}
 use Rattle.xfs_claims.specs.Spans.{spans_of, meets_any, with_blocks}
-use Rattle.xfs_claims.specs.Keeping.{Holding, with_number, is_among, cluster_span, with_cluster, with_file, is_kept}
+use Rattle.xfs_claims.specs.Keeping.{Holding, with_number, cluster_span, with_cluster, with_file, is_kept}
 use Rattle.xfs_claims.proofs.Numbers.{insert_is}
 
 pub same_holding : (x y : Holding) → x.blocks ≡ y.blocks → x.clusters ≡ y.clusters → x.files ≡ y.files → x ≡ y
@@ -19,11 +20,11 @@ or_none true y = refl
 or_none false y = refl
 
 -- a cluster that meets nothing is kept
-pub cluster_kept : (held new : Holding) (block : ℕ) → meets held.blocks block 4 ≡ false → ((b : ℕ) → new.blocks b ≡ (is_block block 4 b || held.blocks b))
+pub cluster_kept : (held new : Holding) (block : ℕ) → meets held.blocks block 4 ≡ false → ((b : ℕ) → new.blocks b ≡ (is_in_range block 4 b || held.blocks b))
     → new.clusters ≡ insert_key nat_cmp held.clusters block → new.files ≡ held.files → new ≡ with_cluster held block
 cluster_kept held new block off more clusters files =
     rw off (same_holding new (record { blocks = with_blocks held.blocks (cluster_span block); clusters = with_number block held.clusters; files = held.files })
-    (λ k b. (more b ∙ or_none (is_block block 4 b) (held.blocks b)) k) (clusters ∙ insert_is block held.clusters) files)
+    (λ k b. (more b ∙ or_none (is_in_range block 4 b) (held.blocks b)) k) (clusters ∙ insert_is block held.clusters) files)
 
 -- a file whose cluster is kept and that meets nothing is kept
 pub file_kept : (held new : Holding) (file : FileClaim) → is_among held.clusters file.cluster ≡ true → meets_any held.blocks (spans_of file.runs) ≡ false

@@ -1,11 +1,12 @@
 -- What is kept of claims: in the order of their rank, a cluster is kept where it meets nothing kept before, and a file where its
 -- cluster is kept and its blocks meet nothing kept before.
 use Rattle.std.specs.Prelude.{ℕ, Bool, not, ◌+◌, ◌^◌, ◌<◌, ◌&&◌, ◌==◌, if◌then◌else◌, nat_lt, List, [], ◌∷◌}
-use Rattle.std.specs.List.{list_any, All}
+use Rattle.std.specs.List.{All}
+use Rattle.xfs_disk.specs.Lists.{is_among}
 use Rattle.xfs_runs.specs.Blocks.{is_in, meets}
 use Rattle.xfs_claims.specs.declared.claimants.FileClaim.{FileClaim}
 use Rattle.xfs_claims.specs.declared.claimants.Claims.{Claims}
-use Rattle.xfs_claims.specs.Spans.{spans_of, AreApart, IsRun, meets_any, with_blocks}
+use Rattle.xfs_claims.specs.Spans.{spans_of, SpansApart, IsRun, meets_any, with_blocks}
 use Rattle.xfs_claims.specs.Ranks.{recorded_clusters, scanned_clusters, recorded_files, scanned_files}
 
 -- what is kept so far: all blocks of it, the first blocks of the clusters and the numbers of the files, both ascending
@@ -18,9 +19,6 @@ pub record Holding : Type 0 where
 abbrev pub with_number : ℕ → List ℕ → List ℕ
 with_number n [] = n ∷ []
 with_number n (m ∷ rest) = if nat_lt n m then n ∷ m ∷ rest else (if n == m then m ∷ rest else (m ∷ with_number n rest))
-
-abbrev pub is_among : List ℕ → ℕ → Bool
-is_among numbers n = list_any (λ m. m == n) numbers
 
 -- a cluster has four blocks
 abbrev pub cluster_span : ℕ → List (ℕ × ℕ)
@@ -78,4 +76,4 @@ EndsLow block = block + 4 < 2 ^ 63
 -- a file's runs are runs of which no two meet
 pub record IsClaim (file : FileClaim) : Type 0 where
   pub runs : All IsRun file.runs
-  pub apart : AreApart (spans_of file.runs)
+  pub apart : SpansApart (spans_of file.runs)

@@ -1,5 +1,4 @@
 pub mod Spans
 pub mod Ranks
 pub mod Keeping
-pub mod Places
-pub mod Held
+pub mod Private

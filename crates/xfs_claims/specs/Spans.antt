@@ -5,20 +5,20 @@ use Rattle.xfs_geom.specs.declared.records.Run.{Run}
 use Rattle.xfs_runs.specs.Blocks.{is_in, meets}
 
 -- the first block of a run with its number of blocks
-abbrev pub span_of : Run → ℕ × ℕ
-span_of run = (run.start, run.count)
+abbrev pub span_pair : Run → ℕ × ℕ
+span_pair run = (run.start, run.count)
 
 abbrev pub spans_of : List Run → List (ℕ × ℕ)
-spans_of runs = map span_of runs
+spans_of runs = map span_pair runs
 
 -- two runs have no block in common
-abbrev pub are_apart : ℕ × ℕ → ℕ × ℕ → Bool
-are_apart x y = nat_le (x.0 + x.1) y.0 || nat_le (y.0 + y.1) x.0
+abbrev pub spans_apart : ℕ × ℕ → ℕ × ℕ → Bool
+spans_apart x y = nat_le (x.0 + x.1) y.0 || nat_le (y.0 + y.1) x.0
 
 -- no two of the runs have a block in common
-abbrev pub AreApart : List (ℕ × ℕ) → Type 0
-AreApart [] = Unit {0}
-AreApart (run ∷ rest) = (list_all (are_apart run) rest ≡ true) × AreApart rest
+abbrev pub SpansApart : List (ℕ × ℕ) → Type 0
+SpansApart [] = Unit {0}
+SpansApart (run ∷ rest) = (list_all (spans_apart run) rest ≡ true) × SpansApart rest
 
 -- the run has a block, and it ends below 2^63
 abbrev pub IsRun : Run → Type 0

@@ -28,7 +28,7 @@ pub struct Claims {
 
 /// What is kept of the claims.
 #[derive(Debug, Drop)]
-pub struct Kept {
+pub struct KeptClaims {
     /// The number of the first block of each kept cluster, ascending.
     pub clusters: Records<u64>,
     /// The number of the inode of each kept file, ascending.

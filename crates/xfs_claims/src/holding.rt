@@ -3,13 +3,13 @@
 ghost use Rattle.std.specs.Prelude.{◌≡◌, [], ◌+◌, ◌*◌, ◌^◌, ◌<◌, ◌≤◌, length, map, IfOk, OnOk};
 ghost use Rattle.std.specs.List.{All, sum_by};
 ghost use Rattle.xfs_runs.specs.Blocks.{is_in};
-ghost use Rattle.xfs_claims.specs.Spans.{spans_of, AreApart, IsRun};
+ghost use Rattle.xfs_claims.specs.Spans.{spans_of, SpansApart, IsRun};
 ghost use Rattle.xfs_claims.specs.Ranks.{run_count};
 ghost use Rattle.xfs_claims.specs.Keeping.{fixed_alone, with_cluster, with_clusters, with_file, with_files, EndsLow, IsClaim};
-ghost use Rattle.xfs_claims.specs.Places.{file_at, IsPlace};
+ghost use Rattle.xfs_claims.specs.Private.Places.{file_at_place, IsFilePlace};
 
-use crate::claimants::{FileClaim, Kept};
-use crate::ranks::Place;
+use crate::claimants::{FileClaim, KeptClaims};
+use crate::ranks::FilePlace;
 use crate::taking::{meets_runs, take_runs};
 use std::alloc::Global;
 use std::collections::BTreeSet;
@@ -24,7 +24,7 @@ const CLUSTER_BLOCKS: u64 = 4;
 
 /// What is kept so far.
 #[derive(Drop)]
-pub(crate) struct Taken {
+pub(crate) struct TakenBlocks {
     /// All blocks that are fixed or kept.
     blocks: RunSet,
     /// The first blocks of the kept clusters.
@@ -33,23 +33,23 @@ pub(crate) struct Taken {
     files: BTreeSet<u64>,
 }
 
-impl Taken {
-    ghost use Rattle.xfs_claims.specs.Held.{held_of};
+impl TakenBlocks {
+    ghost use Rattle.xfs_claims.specs.Private.Held.{held_of};
 
     /// The fixed blocks alone.
     pub(crate) fn with_fixed<L: Ledger>(
         alloc: Global,
         fixed: &[Run],
         steps: &mut Steps<L>,
-    ) -> Result<Taken, NoMemory>
+    ) -> Result<TakenBlocks, NoMemory>
         requires runs { All IsRun fixed.now }
-        requires apart { AreApart (spans_of fixed.now) }
+        requires apart { SpansApart (spans_of fixed.now) }
         ensures held { IfOk result (λ taken. held_of taken ≡ fixed_alone (spans_of fixed.now)) }
         ensures ticks { steps.new ≤ steps.old + length fixed.now }
     {
         let mut blocks = RunSet::make(alloc);
         take_runs(&mut blocks, fixed, steps)?;
-        Ok(Taken {
+        Ok(TakenBlocks {
             blocks,
             clusters: BTreeSet::new(alloc),
             files: BTreeSet::new(alloc),
@@ -111,13 +111,13 @@ impl Taken {
     pub(crate) fn keep_files<L: Ledger>(
         &mut self,
         files: &[FileClaim],
-        places: &[Place],
+        places: &[FilePlace],
         steps: &mut Steps<L>,
     ) -> Result<(), NoMemory>
         requires claims { All IsClaim files.now }
-        requires places { All (IsPlace files.now) places.now }
-        ensures held { OnOk result (held_of self.new ≡ with_files (held_of self.old) (map (file_at files.now) places.now)) }
-        ensures ticks { steps.new ≤ steps.old + 2 * sum_by run_count (map (file_at files.now) places.now) }
+        requires places { All (IsFilePlace files.now) places.now }
+        ensures held { OnOk result (held_of self.new ≡ with_files (held_of self.old) (map (file_at_place files.now) places.now)) }
+        ensures ticks { steps.new ≤ steps.old + 2 * sum_by run_count (map (file_at_place files.now) places.now) }
     {
         for place in places {
             self.keep_file(&files[place.at], steps)?;
@@ -126,13 +126,13 @@ impl Taken {
     }
 
     /// What is kept, as lists.
-    pub(crate) fn into_kept(self, alloc: Global) -> Result<Kept, NoMemory>
+    pub(crate) fn into_kept(self, alloc: Global) -> Result<KeptClaims, NoMemory>
         ensures clusters { IfOk result (λ kept. kept.clusters ≡ (held_of self).clusters) }
         ensures files { IfOk result (λ kept. kept.files ≡ (held_of self).files) }
     {
         let clusters = self.clusters.iter().copied().collect(alloc)?;
         let files = self.files.iter().copied().collect(alloc)?;
-        Ok(Kept {
+        Ok(KeptClaims {
             clusters: Records::from_vec(clusters),
             files: Records::from_vec(files),
         })

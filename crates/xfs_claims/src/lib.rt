@@ -16,5 +16,5 @@ mod ranks;
 mod salvage;
 mod taking;
 
-pub use claimants::{Claims, FileClaim, Kept};
+pub use claimants::{Claims, FileClaim, KeptClaims};
 pub use salvage::keep;

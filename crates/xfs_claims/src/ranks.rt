@@ -3,9 +3,9 @@
 ghost use Rattle.std.specs.Prelude.{◌≡◌, not, [], ◌∷◌, ◌++◌, if◌then◌else◌, map, length, IfOk, OnOk};
 ghost use Rattle.std.specs.List.{All, filter};
 ghost use Rattle.std.specs.List.Sorted.{IsPermutation, IsSorted};
-ghost use Rattle.xfs_claims.specs.Ranks.{AreDifferent, by_number, first_block, inode_number, is_other_recorded, is_recorded, is_scanned, own_number, recorded_clusters, recorded_files, scanned_clusters, scanned_files};
-ghost use Rattle.xfs_claims.specs.Keeping.{is_among};
-ghost use Rattle.xfs_claims.specs.Places.{file_at, ArePlaces, IsPlace};
+ghost use Rattle.xfs_disk.specs.Lists.{is_among};
+ghost use Rattle.xfs_claims.specs.Ranks.{AreDifferent, by_number, first_block, claimed_number, is_other_recorded, is_recorded_cluster, is_scanned_cluster, own_number, recorded_clusters, recorded_files, scanned_clusters, scanned_files};
+ghost use Rattle.xfs_claims.specs.Private.Places.{file_at_place, ArePlaces, IsFilePlace};
 
 use crate::claimants::{Claims, FileClaim};
 use rayon::prelude::*;
@@ -16,7 +16,7 @@ use xfs_volume::ClusterRec;
 
 /// Where a file stands among all.
 #[derive(Clone, Copy, PartialEq, Eq, PartialOrd, Ord)]
-pub(crate) struct Place {
+pub(crate) struct FilePlace {
     /// The number of its inode.
     pub(crate) number: u64,
     /// Its index.
@@ -26,15 +26,15 @@ pub(crate) struct Place {
 /// Files in recorded clusters, and files in scanned ones.
 #[derive(Drop)]
 pub(crate) struct FilePlaces {
-    pub(crate) recorded: Vec<Place>,
-    pub(crate) scanned: Vec<Place>,
+    pub(crate) recorded: Vec<FilePlace>,
+    pub(crate) scanned: Vec<FilePlace>,
 }
 
 impl FilePlaces {
     /// Puts a place behind those in recorded clusters, or behind the others.
-    fn put(&mut self, place: Place, is_recorded: bool) -> Result<(), AllocError>
-        ensures recorded { OnOk result (self.new.recorded.items ≡ (if is_recorded then self.old.recorded.items ++ place ∷ [] else self.old.recorded.items)) }
-        ensures scanned { OnOk result (self.new.scanned.items ≡ (if not is_recorded then self.old.scanned.items ++ place ∷ [] else self.old.scanned.items)) }
+    fn put(&mut self, place: FilePlace, is_recorded: bool) -> Result<(), AllocError>
+        ensures recorded { OnOk result (self.new.recorded.items ≡ (if is_recorded_cluster then self.old.recorded.items ++ place ∷ [] else self.old.recorded.items)) }
+        ensures scanned { OnOk result (self.new.scanned.items ≡ (if not is_recorded_cluster then self.old.scanned.items ++ place ∷ [] else self.old.scanned.items)) }
     {
         if is_recorded {
             self.recorded.push(place)?;
@@ -85,7 +85,7 @@ fn other_recorded(alloc: Global, clusters: &[ClusterRec], root: u64) -> Result<V
 
 /// The scanned clusters.
 fn scanned(alloc: Global, clusters: &[ClusterRec]) -> Result<Vec<u64>, AllocError>
-    ensures { IfOk result (λ blocks. blocks.items ≡ map first_block (filter is_scanned clusters.now)) }
+    ensures { IfOk result (λ blocks. blocks.items ≡ map first_block (filter is_scanned_cluster clusters.now)) }
 {
     clusters
         .iter()
@@ -115,7 +115,7 @@ pub(crate) fn scanned_in_order<R: Threads + Sync>(
     clusters: &[ClusterRec],
 ) -> Result<Vec<u64>, AllocError>
     requires { AreDifferent first_block clusters.now }
-    ensures { IfOk result (λ blocks. blocks.items ≡ by_number own_number (map first_block (filter is_scanned clusters.now))) }
+    ensures { IfOk result (λ blocks. blocks.items ≡ by_number own_number (map first_block (filter is_scanned_cluster clusters.now))) }
 {
     let blocks = scanned(alloc, clusters)?;
     Ok(numbers_in_order(rt, blocks))
@@ -126,7 +126,7 @@ pub(crate) fn recorded_blocks(
     alloc: Global,
     clusters: &[ClusterRec],
 ) -> Result<BTreeSet<u64>, AllocError>
-    ensures { IfOk result (λ blocks. (b : _) → is_among blocks.keys b ≡ is_recorded clusters.now b) }
+    ensures { IfOk result (λ blocks. (b : _) → is_among blocks.keys b ≡ is_recorded_cluster clusters.now b) }
 {
     let mut blocks = BTreeSet::new(alloc);
     for cluster in clusters {
@@ -151,7 +151,7 @@ fn places_of(
         scanned: Vec::new(alloc),
     };
     for (at, file) in files.iter().enumerate() {
-        let place = Place {
+        let place = FilePlace {
             number: file.ino,
             at,
         };
@@ -162,11 +162,11 @@ fn places_of(
 }
 
 /// Places of different files in ascending order of their numbers.
-fn places_in_order<R: Threads + Sync>(rt: &R, files: &[FileClaim], places: Vec<Place>) -> Vec<Place>
-    requires each { All (IsPlace files.now) places.items }
-    requires differ { AreDifferent inode_number (map (file_at files.now) places.items) }
-    ensures each { All (IsPlace files.now) result.items }
-    ensures ascending { map (file_at files.now) result.items ≡ by_number inode_number (map (file_at files.now) places.items) }
+fn places_in_order<R: Threads + Sync>(rt: &R, files: &[FileClaim], places: Vec<FilePlace>) -> Vec<FilePlace>
+    requires each { All (IsFilePlace files.now) places.items }
+    requires differ { AreDifferent claimed_number (map (file_at_place files.now) places.items) }
+    ensures each { All (IsFilePlace files.now) result.items }
+    ensures ascending { map (file_at_place files.now) result.items ≡ by_number claimed_number (map (file_at_place files.now) places.items) }
 {
     let _ = files;
     sorted(rt, places)
@@ -179,11 +179,11 @@ fn files_by_number<R: Threads + Sync>(
     files: &[FileClaim],
     recorded: &BTreeSet<u64>,
 ) -> Result<FilePlaces, AllocError>
-    requires { AreDifferent inode_number files.now }
-    ensures recorded { IfOk result (λ places. map (file_at files.now) places.recorded.items ≡ by_number inode_number (filter (λ f. is_among recorded.now.keys f.cluster) files.now)) }
-    ensures scanned { IfOk result (λ places. map (file_at files.now) places.scanned.items ≡ by_number inode_number (filter (λ f. not (is_among recorded.now.keys f.cluster)) files.now)) }
-    ensures recorded_places { IfOk result (λ places. All (IsPlace files.now) places.recorded.items) }
-    ensures scanned_places { IfOk result (λ places. All (IsPlace files.now) places.scanned.items) }
+    requires { AreDifferent claimed_number files.now }
+    ensures recorded { IfOk result (λ places. map (file_at_place files.now) places.recorded.items ≡ by_number claimed_number (filter (λ f. is_among recorded.now.keys f.cluster) files.now)) }
+    ensures scanned { IfOk result (λ places. map (file_at_place files.now) places.scanned.items ≡ by_number claimed_number (filter (λ f. not (is_among recorded.now.keys f.cluster)) files.now)) }
+    ensures recorded_places { IfOk result (λ places. All (IsFilePlace files.now) places.recorded.items) }
+    ensures scanned_places { IfOk result (λ places. All (IsFilePlace files.now) places.scanned.items) }
 {
     let FilePlaces { recorded, scanned } = places_of(alloc, files, recorded)?;
     let recorded = places_in_order(rt, files, recorded);
@@ -198,13 +198,13 @@ pub(crate) fn rank<R: Threads + Sync>(
     claims: &Claims,
 ) -> Result<Ranks, AllocError>
     requires clusters_differ { AreDifferent first_block claims.now.clusters }
-    requires files_differ { AreDifferent inode_number claims.now.files }
+    requires files_differ { AreDifferent claimed_number claims.now.files }
     ensures recorded { IfOk result (λ ranks. ranks.recorded.items ≡ recorded_clusters claims.now) }
     ensures scanned { IfOk result (λ ranks. ranks.scanned.items ≡ scanned_clusters claims.now) }
-    ensures recorded_files { IfOk result (λ ranks. map (file_at claims.now.files) ranks.files.recorded.items ≡ recorded_files claims.now) }
-    ensures scanned_files { IfOk result (λ ranks. map (file_at claims.now.files) ranks.files.scanned.items ≡ scanned_files claims.now) }
-    ensures recorded_places { IfOk result (λ ranks. All (IsPlace claims.now.files) ranks.files.recorded.items) }
-    ensures scanned_places { IfOk result (λ ranks. All (IsPlace claims.now.files) ranks.files.scanned.items) }
+    ensures recorded_files { IfOk result (λ ranks. map (file_at_place claims.now.files) ranks.files.recorded.items ≡ recorded_files claims.now) }
+    ensures scanned_files { IfOk result (λ ranks. map (file_at_place claims.now.files) ranks.files.scanned.items ≡ scanned_files claims.now) }
+    ensures recorded_places { IfOk result (λ ranks. All (IsFilePlace claims.now.files) ranks.files.recorded.items) }
+    ensures scanned_places { IfOk result (λ ranks. All (IsFilePlace claims.now.files) ranks.files.scanned.items) }
 {
     let clusters = claims.clusters.as_slice();
     let recorded = recorded_in_order(rt, alloc, clusters, claims.root)?;

@@ -2,13 +2,13 @@
 
 ghost use Rattle.std.specs.Prelude.{◌≡◌, true, ◌+◌, ◌*◌, ◌≤◌, IfOk};
 ghost use Rattle.std.specs.List.{All};
-ghost use Rattle.xfs_claims.specs.Held.{held_of};
+ghost use Rattle.xfs_claims.specs.Private.Held.{held_of};
 ghost use Rattle.xfs_claims.specs.Keeping.{kept_of, EndsLow, IsClaim};
-ghost use Rattle.xfs_claims.specs.Ranks.{AreDifferent, claimed_runs, first_block, inode_number, is_recorded};
-ghost use Rattle.xfs_claims.specs.Spans.{spans_of, AreApart, IsRun};
+ghost use Rattle.xfs_claims.specs.Ranks.{AreDifferent, claimed_runs, first_block, claimed_number, is_recorded_cluster};
+ghost use Rattle.xfs_claims.specs.Spans.{spans_of, SpansApart, IsRun};
 
-use crate::claimants::{Claims, Kept};
-use crate::holding::Taken;
+use crate::claimants::{Claims, KeptClaims};
+use crate::holding::TakenBlocks;
 use crate::ranks::rank;
 use std::alloc::Global;
 use std::sync::ledger::Ledger;
@@ -27,13 +27,13 @@ pub fn keep<R: Threads + Sync, L: Ledger>(
     alloc: Global,
     claims: &Claims,
     steps: &mut Steps<L>,
-) -> Result<Kept, NoMemory>
-    requires root { is_recorded claims.now.clusters claims.now.root ≡ true }
+) -> Result<KeptClaims, NoMemory>
+    requires root { is_recorded_cluster claims.now.clusters claims.now.root ≡ true }
     requires clusters_end { All (λ cluster. EndsLow cluster.block) claims.now.clusters }
     requires clusters_differ { AreDifferent first_block claims.now.clusters }
     requires fixed_runs { All IsRun claims.now.fixed }
-    requires fixed_apart { AreApart (spans_of claims.now.fixed) }
-    requires files_differ { AreDifferent inode_number claims.now.files }
+    requires fixed_apart { SpansApart (spans_of claims.now.fixed) }
+    requires files_differ { AreDifferent claimed_number claims.now.files }
     requires files_claim { All IsClaim claims.now.files }
 
     ensures clusters { IfOk result (λ kept. kept.clusters ≡ (kept_of claims.now).clusters) }
@@ -49,20 +49,20 @@ fn take_all<R: Threads + Sync, L: Ledger>(
     alloc: Global,
     claims: &Claims,
     steps: &mut Steps<L>,
-) -> Result<Taken, NoMemory>
-    requires root { is_recorded claims.now.clusters claims.now.root ≡ true }
+) -> Result<TakenBlocks, NoMemory>
+    requires root { is_recorded_cluster claims.now.clusters claims.now.root ≡ true }
     requires clusters_end { All (λ cluster. EndsLow cluster.block) claims.now.clusters }
     requires clusters_differ { AreDifferent first_block claims.now.clusters }
     requires fixed_runs { All IsRun claims.now.fixed }
-    requires fixed_apart { AreApart (spans_of claims.now.fixed) }
-    requires files_differ { AreDifferent inode_number claims.now.files }
+    requires fixed_apart { SpansApart (spans_of claims.now.fixed) }
+    requires files_differ { AreDifferent claimed_number claims.now.files }
     requires files_claim { All IsClaim claims.now.files }
     ensures kept { IfOk result (λ taken. held_of taken ≡ kept_of claims.now) }
     ensures ticks { steps.new ≤ steps.old + 2 * claimed_runs claims.now }
 {
     let ranks = rank(rt, alloc, claims)?;
     let files = claims.files.as_slice();
-    let mut taken = Taken::with_fixed(alloc, claims.fixed.as_slice(), steps)?;
+    let mut taken = TakenBlocks::with_fixed(alloc, claims.fixed.as_slice(), steps)?;
     taken.keep_cluster(claims.root, steps)?;
     taken.keep_clusters(&ranks.recorded, steps)?;
     taken.keep_files(files, &ranks.files.recorded, steps)?;

@@ -3,7 +3,7 @@
 ghost use Rattle.std.specs.Prelude.{◌≡◌, false, ◌+◌, ◌≤◌, length, OnOk};
 ghost use Rattle.std.specs.List.{All};
 ghost use Rattle.xfs_runs.specs.Blocks.{is_in};
-ghost use Rattle.xfs_claims.specs.Spans.{spans_of, AreApart, IsRun, meets_any, with_blocks};
+ghost use Rattle.xfs_claims.specs.Spans.{spans_of, SpansApart, IsRun, meets_any, with_blocks};
 
 use std::sync::ledger::Ledger;
 use xfs_disk::NoMemory;
@@ -31,7 +31,7 @@ pub(crate) fn take_runs<L: Ledger>(
     steps: &mut Steps<L>,
 ) -> Result<(), NoMemory>
     requires runs { All IsRun runs.now }
-    requires apart { AreApart (spans_of runs.now) }
+    requires apart { SpansApart (spans_of runs.now) }
     requires off { meets_any (is_in set.old) (spans_of runs.now) ≡ false }
     ensures blocks { OnOk result (is_in set.new ≡ with_blocks (is_in set.old) (spans_of runs.now)) }
     ensures ticks { steps.new ≤ steps.old + length runs.now }

@@ -20,7 +20,7 @@ use Rattle.xfs_objects.specs.declared.numbers.Typed.{Typed}
 use Rattle.xfs_objects.specs.declared.numbers.Typed.TheVariants.{NoNumber, TooLarge, Number}
 use Rattle.xfs_objects.specs.declared.objects.ObjectType.{ObjectType}
 use Rattle.xfs_objects.specs.declared.objects.ObjectType.TheVariants as kind
-use Rattle.xfs_objects.specs.declared.objects.Place.{Place}
+use Rattle.xfs_objects.specs.declared.objects.ObjectPlace.{ObjectPlace}
 
 -- the command was not refused, or it leaves where the language stands
 abbrev pub Keeps : Session → Effect → Type 0
@@ -88,7 +88,7 @@ named_kept v name (Some source) word (Some target) s = by_place (is_place source
     by_place true = converts_kept v source word target s
     by_place false = λ refused. refl
 
-pops_to_kept : (place : Option Place) (s : Session) → Keeps s (pops_to place s)
+pops_to_kept : (place : Option ObjectPlace) (s : Session) → Keeps s (pops_to place s)
 pops_to_kept None s = λ refused. refl
 pops_to_kept (Some place) s = λ refused. absurd (done refused)
 
@@ -96,11 +96,11 @@ pops_kept : (s : Session) → Keeps s (pops s)
 unfolding pops
 pops_kept s = pops_to_kept (slice_get s.stack (length s.stack - 1)) s
 
-sets_type_kept : (place : Place) (word : List ℕ) (kind : Option ObjectType) (s : Session) → Keeps s (sets_type place word kind s)
+sets_type_kept : (place : ObjectPlace) (word : List ℕ) (kind : Option ObjectType) (s : Session) → Keeps s (sets_type place word kind s)
 sets_type_kept place word None s = λ refused. refl
 sets_type_kept place word (Some kind) s = λ refused. absurd (done refused)
 
-types_kept : (place : Place) (args : List (List ℕ)) (s : Session) → Keeps s (types place args s)
+types_kept : (place : ObjectPlace) (args : List (List ℕ)) (s : Session) → Keeps s (types place args s)
 unfolding types
 types_kept place [] s = λ refused. absurd (done refused)
 types_kept place (word ∷ rest) s = sets_type_kept place word (type_named word) s
@@ -115,42 +115,42 @@ unfolding prints
 prints_kept kind object [] s = λ refused. absurd (done refused)
 prints_kept kind object (word ∷ words) s = prints_named_kept kind object (word ∷ words) (find (is_unknown kind object) (word ∷ words)) s
 
-follows_kept : (v : Volume) (place : Place) (object word : List ℕ) (offset : ℕ) (kind : Option ObjectType) (width : Option ℕ) (s : Session)
+follows_kept : (v : Volume) (place : ObjectPlace) (object word : List ℕ) (offset : ℕ) (kind : Option ObjectType) (width : Option ℕ) (s : Session)
     → Keeps s (follows v place object word offset kind width s)
 follows_kept v place object word offset (Some kind) (Some width) s =
     went kind (first_sector (target_block v place.kind place.block (field_of object offset width))) s
 follows_kept v place object word offset (Some kind) None s = λ refused. refl
 follows_kept v place object word offset None width s = λ refused. refl
 
-follows_item_kept : (v : Volume) (place : Place) (object word : List ℕ) (i : Option Item) (s : Session) → Keeps s (follows_item v place object word i s)
+follows_item_kept : (v : Volume) (place : ObjectPlace) (object word : List ℕ) (i : Option Item) (s : Session) → Keeps s (follows_item v place object word i s)
 follows_item_kept v place object word None s = λ refused. refl
 follows_item_kept v place object word (Some i) s =
     follows_kept v place object word i.offset (target_type place.kind word i.shape) (number_width i.shape) s
 
-pub addresses_kept : (v : Volume) (place : Place) (object word : List ℕ) (s : Session) → Keeps s (addresses v place object word s)
+pub addresses_kept : (v : Volume) (place : ObjectPlace) (object word : List ℕ) (s : Session) → Keeps s (addresses v place object word s)
 unfolding addresses
 addresses_kept v place object word s = follows_item_kept v place object word (item_named place.kind object word) s
 
-sets_fitting_kept : (place : Place) (block value : List ℕ) (i : Item) (width : ℕ) (n : Option ℕ) (s : Session)
+sets_fitting_kept : (place : ObjectPlace) (block value : List ℕ) (i : Item) (width : ℕ) (n : Option ℕ) (s : Session)
     → Keeps s (sets_fitting place block value i width n s)
 sets_fitting_kept place block value i width None s = λ refused. refl
 sets_fitting_kept place block value i width (Some n) s = λ refused. absurd (done refused)
 
-sets_width_kept : (place : Place) (block name value : List ℕ) (i : Item) (width : Option ℕ) (s : Session)
+sets_width_kept : (place : ObjectPlace) (block name value : List ℕ) (i : Item) (width : Option ℕ) (s : Session)
     → Keeps s (sets_width place block name value i width s)
 sets_width_kept place block name value i None s = λ refused. refl
 sets_width_kept place block name value i (Some width) s = sets_fitting_kept place block value i width (fitting width (typed value)) s
 
-sets_item_kept : (place : Place) (block name value : List ℕ) (i : Option Item) (s : Session) → Keeps s (sets_item place block name value i s)
+sets_item_kept : (place : ObjectPlace) (block name value : List ℕ) (i : Option Item) (s : Session) → Keeps s (sets_item place block name value i s)
 sets_item_kept place block name value None s = λ refused. refl
 sets_item_kept place block name value (Some i) s = sets_width_kept place block name value i (number_width i.shape) s
 
-pub sets_kept : (place : Place) (block name value : List ℕ) (s : Session) → Keeps s (sets place block name value s)
+pub sets_kept : (place : ObjectPlace) (block name value : List ℕ) (s : Session) → Keeps s (sets place block name value s)
 unfolding sets
 sets_kept place block name value s =
     sets_item_kept place block name value (item_named place.kind (object_in place.kind place.sector block) name) s
 
-pub here_kept : (at : Option Place) (next : Place → Effect) (s : Session) → ((place : Place) → Keeps s (next place)) → Keeps s (at_place at next s)
+pub here_kept : (at : Option ObjectPlace) (next : ObjectPlace → Effect) (s : Session) → ((place : ObjectPlace) → Keeps s (next place)) → Keeps s (at_place at next s)
 here_kept None next s kept = λ refused. refl
 here_kept (Some place) next s kept = kept place
 
@@ -162,7 +162,7 @@ alone_kept v verb.Agfl name args s = head_kept v kind.Agfl 3 args s
 alone_kept v verb.Inode name args s = number_kept v measure.InodeNumber kind.Inode (word_at args 0) s
 alone_kept v verb.FsBlock name args s = number_kept v measure.FsBlock kind.Data (word_at args 0) s
 alone_kept v verb.DiskAddress name args s = number_kept v measure.DiskAddress kind.Data (word_at args 0) s
-alone_kept v verb.Retype name args s = here_kept s.at (λ (place : Place). types place args s) s (λ place. types_kept place args s)
+alone_kept v verb.Retype name args s = here_kept s.at (λ (place : ObjectPlace). types place args s) s (λ place. types_kept place args s)
 alone_kept v verb.Pop name args s = pops_kept s
 alone_kept v verb.Stack name args s = λ refused. absurd (done refused)
 alone_kept v verb.Convert name args s =

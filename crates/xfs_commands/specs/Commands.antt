@@ -24,24 +24,24 @@ use Rattle.xfs_objects.specs.declared.numbers.Typed.{Typed}
 use Rattle.xfs_objects.specs.declared.numbers.Typed.TheVariants.{NoNumber, TooLarge, Number}
 use Rattle.xfs_objects.specs.declared.objects.ObjectType.{ObjectType}
 use Rattle.xfs_objects.specs.declared.objects.ObjectType.TheVariants as kind
-use Rattle.xfs_objects.specs.declared.objects.Place.{Place}
+use Rattle.xfs_objects.specs.declared.objects.ObjectPlace.{ObjectPlace}
 
 -- where the language stands: the current place, and the stack of places, the top last
 pub record Session : Type 0 where
-  pub at : Option Place
-  pub stack : List Place
+  pub at : Option ObjectPlace
+  pub stack : List ObjectPlace
 
 abbrev pub session_of : Cursor → Session
 session_of c = record { at = c.at; stack = c.stack.items }
 
 -- a place in a volume of so many blocks
-abbrev pub IsPlace : ℕ → Place → Type 0
-IsPlace dblocks place = (place.block < dblocks) × (place.sector < 8)
+abbrev pub IsSectorPlace : ℕ → ObjectPlace → Type 0
+IsSectorPlace dblocks place = (place.block < dblocks) × (place.sector < 8)
 
 -- every place is
 pub record IsWithin (dblocks : ℕ) (s : Session) : Type 0 where
-  pub at_is : IfSome s.at (IsPlace dblocks)
-  pub stack_is : All (IsPlace dblocks) s.stack
+  pub at_is : IfSome s.at (IsSectorPlace dblocks)
+  pub stack_is : All (IsSectorPlace dblocks) s.stack
 
 -- a block that is to be written: its number and its bytes
 abbrev pub Put : Type 0
@@ -139,7 +139,7 @@ unfoldable pub hash_text : List ℕ → List ℕ
 hash_text name = codes "0x" ++ hexadecimal (hash_of name) ++ codes "\n"
 
 -- pop
-abbrev pub pops_to : Option Place → Session → Effect
+abbrev pub pops_to : Option ObjectPlace → Session → Effect
 pops_to None s = no_address s
 pops_to (Some place) s = does [] (record { at = Some place; stack = take (length s.stack - 1) s.stack })
 
@@ -147,23 +147,23 @@ unfoldable pub pops : Session → Effect
 pops s = pops_to (slice_get s.stack (length s.stack - 1)) s
 
 -- stack: the top has number 0
-abbrev pub stack_line : ℕ → Option Place → List ℕ
+abbrev pub stack_line : ℕ → Option ObjectPlace → List ℕ
 stack_line i None = []
 stack_line i (Some place) =
     decimal i ++ codes ": block " ++ decimal place.block ++ codes " sector " ++ decimal place.sector ++ codes " type " ++ type_name place.kind ++ codes "\n"
 
-abbrev pub line_of_stack : List Place → ℕ → List ℕ
+abbrev pub line_of_stack : List ObjectPlace → ℕ → List ℕ
 line_of_stack stack i = stack_line i (slice_get stack (length stack - 1 - i))
 
-unfoldable pub stack_text : List Place → List ℕ
+unfoldable pub stack_text : List ObjectPlace → List ℕ
 stack_text stack = flat_map (line_of_stack stack) (range_with_len 0 (length stack))
 
 -- type
-abbrev pub sets_type : Place → List ℕ → Option ObjectType → Session → Effect
+abbrev pub sets_type : ObjectPlace → List ℕ → Option ObjectType → Session → Effect
 sets_type place word None s = refuses_word (codes "no type: ") word s
 sets_type place word (Some kind) s = does [] (record s { at = Some (record place { kind = kind }) })
 
-unfoldable pub types : Place → List (List ℕ) → Session → Effect
+unfoldable pub types : ObjectPlace → List (List ℕ) → Session → Effect
 types place [] s = does (codes "type = " ++ type_name place.kind ++ codes "\n") s
 types place (word ∷ rest) s = sets_type place word (type_named word) s
 
@@ -212,18 +212,18 @@ unfoldable pub target_block : Volume → ObjectType → ℕ → ℕ → Option �
 target_block v kind.Bmapbt block pointer = block_at v pointer
 target_block v other block pointer = in_group v (block / v.agblocks) pointer
 
-abbrev pub follows : Volume → Place → List ℕ → List ℕ → ℕ → Option ObjectType → Option ℕ → Session → Effect
+abbrev pub follows : Volume → ObjectPlace → List ℕ → List ℕ → ℕ → Option ObjectType → Option ℕ → Session → Effect
 follows v place object word offset (Some kind) (Some width) s =
     goes_to kind (first_sector (target_block v place.kind place.block (field_of object offset width))) s
 follows v place object word offset (Some kind) None s = no_field word s
 follows v place object word offset None width s = no_field word s
 
-abbrev pub follows_item : Volume → Place → List ℕ → List ℕ → Option Item → Session → Effect
+abbrev pub follows_item : Volume → ObjectPlace → List ℕ → List ℕ → Option Item → Session → Effect
 follows_item v place object word None s = no_field word s
 follows_item v place object word (Some i) s =
     follows v place object word i.offset (target_type place.kind word i.shape) (number_width i.shape) s
 
-unfoldable pub addresses : Volume → Place → List ℕ → List ℕ → Session → Effect
+unfoldable pub addresses : Volume → ObjectPlace → List ℕ → List ℕ → Session → Effect
 addresses v place object word s = follows_item v place object word (item_named place.kind object word) s
 
 -- write: bytes with others in their place
@@ -249,8 +249,8 @@ unfoldable pub resealed : ℕ → List ℕ → List ℕ
 resealed at object = patched object at (to_le_bytes w32 (crc_of (cleared object at)))
 
 -- an object with a number in the place of what was there, sealed anew
-unfoldable pub with_number : ObjectType → ℕ → ℕ → ℕ → List ℕ → List ℕ
-with_number kind offset width n object = resealed (checksum_at kind) (patched object offset (number_bytes width n))
+unfoldable pub with_field_number : ObjectType → ℕ → ℕ → ℕ → List ℕ → List ℕ
+with_field_number kind offset width n object = resealed (checksum_at kind) (patched object offset (number_bytes width n))
 
 -- a block with an object in a sector of it, or in its place
 unfoldable pub with_object : ObjectType → ℕ → List ℕ → List ℕ → List ℕ
@@ -262,24 +262,24 @@ fitting width NoNumber = None
 fitting width TooLarge = None
 fitting width (Number n) = if nat_lt n (256 ^ width) then Some n else None
 
-abbrev pub sets_number : Place → List ℕ → Item → ℕ → ℕ → Session → Effect
+abbrev pub sets_number : ObjectPlace → List ℕ → Item → ℕ → ℕ → Session → Effect
 sets_number place block i width n s =
-    let object = with_number place.kind i.offset width n (object_in place.kind place.sector block) in
+    let object = with_field_number place.kind i.offset width n (object_in place.kind place.sector block) in
     record { verdict = Done; text = item_line object i; session = s; put = Some (place.block, with_object place.kind place.sector object block) }
 
-abbrev pub sets_fitting : Place → List ℕ → List ℕ → Item → ℕ → Option ℕ → Session → Effect
+abbrev pub sets_fitting : ObjectPlace → List ℕ → List ℕ → Item → ℕ → Option ℕ → Session → Effect
 sets_fitting place block value i width None s = bad_number value s
 sets_fitting place block value i width (Some n) s = sets_number place block i width n s
 
-abbrev pub sets_width : Place → List ℕ → List ℕ → List ℕ → Item → Option ℕ → Session → Effect
+abbrev pub sets_width : ObjectPlace → List ℕ → List ℕ → List ℕ → Item → Option ℕ → Session → Effect
 sets_width place block name value i None s = no_field name s
 sets_width place block name value i (Some width) s = sets_fitting place block value i width (fitting width (typed value)) s
 
-abbrev pub sets_item : Place → List ℕ → List ℕ → List ℕ → Option Item → Session → Effect
+abbrev pub sets_item : ObjectPlace → List ℕ → List ℕ → List ℕ → Option Item → Session → Effect
 sets_item place block name value None s = no_field name s
 sets_item place block name value (Some i) s = sets_width place block name value i (number_width i.shape) s
 
-unfoldable pub sets : Place → List ℕ → List ℕ → List ℕ → Session → Effect
+unfoldable pub sets : ObjectPlace → List ℕ → List ℕ → List ℕ → Session → Effect
 sets place block name value s = sets_item place block name value (item_named place.kind (object_in place.kind place.sector block) name) s
 
 -- the block that is to be written where a command was run

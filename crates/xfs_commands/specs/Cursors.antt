@@ -3,7 +3,7 @@ use Rattle.std.specs.Prelude.{ℕ, zero, suc, Bool, true, false, [], ◌∷◌, 
 use Rattle.xfs_commands.specs.Commands.{Session}
 use Rattle.xfs_commands.specs.declared.cursor.Verdict.{Verdict}
 use Rattle.xfs_commands.specs.declared.cursor.Verdict.TheVariants as verdict
-use Rattle.xfs_objects.specs.declared.objects.Place.{Place}
+use Rattle.xfs_objects.specs.declared.objects.ObjectPlace.{ObjectPlace}
 
 -- no further command is to be run
 abbrev pub is_quit : Verdict → Bool
@@ -12,10 +12,10 @@ is_quit verdict.Done = false
 is_quit verdict.Refused = false
 
 -- with the place on the stack, once or more often
-abbrev pub saved : Place → Session → Session
+abbrev pub saved : ObjectPlace → Session → Session
 saved place s = record s { stack = s.stack ++ place ∷ [] }
 
-abbrev pub pushed : ℕ → Place → Session → Session
+abbrev pub pushed : ℕ → ObjectPlace → Session → Session
 pushed zero place s = s
 pushed (suc n) place s = pushed n place (saved place s)
 

@@ -6,7 +6,7 @@ use Rattle.xfs_objects.specs.Places.{is_place, measure_named}
 use Rattle.xfs_objects.specs.declared.convert.Measure.{Measure}
 use Rattle.xfs_objects.specs.declared.convert.Measure.TheVariants as measure
 use Rattle.xfs_objects.specs.declared.objects.ObjectType.TheVariants as kind
-use Rattle.xfs_objects.specs.declared.objects.Place.{Place}
+use Rattle.xfs_objects.specs.declared.objects.ObjectPlace.{ObjectPlace}
 use Rattle.xfs_commands.specs.Commands.{Session, Effect, does, bad_command, no_address, to_head, to_number, types, pops, stack_text, converts, hash_text}
 use Rattle.xfs_commands.specs.declared.commands.Verb.{Verb}
 use Rattle.xfs_commands.specs.declared.commands.Verb.TheVariants.{Sb, Agf, Agi, Agfl, Inode, FsBlock, DiskAddress, Addr, Retype, Print, Push, Pop, Stack, Write, Convert, Hash, Quit}
@@ -65,7 +65,7 @@ abbrev pub word_at : List (List ℕ) → ℕ → List ℕ
 word_at words i = unwrap_or (slice_get words i) []
 
 -- what is done at the current place
-abbrev pub at_place : Option Place → (Place → Effect) → Session → Effect
+abbrev pub at_place : Option ObjectPlace → (ObjectPlace → Effect) → Session → Effect
 at_place None next s = no_address s
 at_place (Some place) next s = next place
 

@@ -2,17 +2,17 @@
 
 ghost use Rattle.std.specs.Prelude.{◌≡◌, ℕ, ◌<◌, ◌++◌, codes, None, IfOk, OnOk};
 ghost use Rattle.xfs_commands.specs.declared.cursor.Verdict.TheVariants as Verdict;
-ghost use Rattle.xfs_commands.specs.Commands.{goes, pops, session_of, IsEffect, IsPlace, IsWithin};
+ghost use Rattle.xfs_commands.specs.Commands.{goes, pops, session_of, IsEffect, IsSectorPlace, IsWithin};
 ghost use Rattle.xfs_commands.specs.Cursors.{is_quit, pushed, settled_session};
 
 use xfs_disk::NoMemory;
-use xfs_objects::{ObjectType, Place, Spot};
+use xfs_objects::{ObjectType, ObjectPlace, Spot};
 
 /// The current place, and the stack of places, the top last.
 #[derive(Debug, Drop)]
 pub struct Cursor {
-    pub at: Option<Place>,
-    pub stack: Vec<Place>,
+    pub at: Option<ObjectPlace>,
+    pub stack: Vec<ObjectPlace>,
 }
 
 /// How a command ended.
@@ -43,7 +43,7 @@ impl Cursor {
         ensures session { session_of self.new ≡ (goes kind (spot.block, spot.sector) (session_of self.old)).session }
         ensures within { (n : ℕ) → IsWithin n (session_of self.old) → spot.block < n → spot.sector < 8 → IsWithin n (session_of self.new) }
     {
-        self.at = Some(Place {
+        self.at = Some(ObjectPlace {
             block: spot.block,
             sector: spot.sector,
             kind,
@@ -67,9 +67,9 @@ impl Cursor {
 
     /// Puts a place onto the stack so often.
     #[tactic(auto, using(crate::proofs::Stacking::pushed_more))]
-    pub fn save(&mut self, place: Place, count: usize) -> Result<(), NoMemory>
+    pub fn save(&mut self, place: ObjectPlace, count: usize) -> Result<(), NoMemory>
         ensures session { OnOk result (session_of self.new ≡ pushed count place (session_of self.old)) }
-        ensures within { (n : ℕ) → IsWithin n (session_of self.old) → IsPlace n place → IsWithin n (session_of self.new) }
+        ensures within { (n : ℕ) → IsWithin n (session_of self.old) → IsSectorPlace n place → IsWithin n (session_of self.new) }
     {
         for _ in 0..count {
             self.stack.push(place)?;
@@ -78,7 +78,7 @@ impl Cursor {
     }
 
     /// Takes from the stack what lies above so many places, where a command was refused.
-    pub fn settle(&mut self, verdict: Verdict, kept: usize)
+    pub fn drop_refused(&mut self, verdict: Verdict, kept: usize)
         ensures session { session_of self.new ≡ settled_session verdict kept (session_of self.old) }
         ensures within { (n : ℕ) → IsWithin n (session_of self.old) → IsWithin n (session_of self.new) }
     {

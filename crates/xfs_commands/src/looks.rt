@@ -17,7 +17,7 @@ use xfs_disk::{NoMemory, Word};
 use xfs_geom::Geometry;
 use xfs_heads::layouts::{agf, agi};
 use xfs_objects::{
-    Item, ObjectType, Place, Shape, Spot, named_item, number_width, push_line, push_whole,
+    Item, ObjectType, ObjectPlace, Shape, Spot, named_item, number_width, push_line, push_whole,
     spot_of_address,
 };
 use xfs_word::field;
@@ -131,7 +131,7 @@ pub fn go_along(
     text: &mut Vec<u8>,
     geometry: &Geometry,
     cursor: &mut Cursor,
-    place: Place,
+    place: ObjectPlace,
     object: &[u8],
     word: &[u8],
 ) -> Result<Verdict, NoMemory>
@@ -152,7 +152,7 @@ fn go_along_item(
     text: &mut Vec<u8>,
     geometry: &Geometry,
     cursor: &mut Cursor,
-    place: Place,
+    place: ObjectPlace,
     object: &[u8],
     word: &[u8],
     item: &Item,
@@ -179,7 +179,7 @@ fn go_along_pointer(
     text: &mut Vec<u8>,
     geometry: &Geometry,
     cursor: &mut Cursor,
-    place: Place,
+    place: ObjectPlace,
     kind: ObjectType,
     pointer: u64,
 ) -> Result<Verdict, NoMemory>
@@ -243,7 +243,7 @@ fn inode_root_type(name: &[u8]) -> Option<ObjectType>
 
 /// The block of a pointer that stands in the object at a place.
 #[tactic(auto, unfolding(crate::specs::Commands::target_block))]
-fn target(geometry: &Geometry, place: Place, pointer: u64) -> Option<Spot>
+fn target(geometry: &Geometry, place: ObjectPlace, pointer: u64) -> Option<Spot>
     requires { place.block < geometry.now.dblocks }
     ensures value { option_map pair_of result ≡ first_sector (target_block (volume_of geometry.now) place.kind place.block pointer) }
     ensures inside { IfSome result (λ spot. (spot.block < geometry.now.dblocks) × (spot.sector < 8)) }

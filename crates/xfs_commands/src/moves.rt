@@ -13,7 +13,7 @@ use crate::cursor::{Cursor, Verdict, refuse, refuse_word};
 use xfs_disk::{NoMemory, Word};
 use xfs_geom::Geometry;
 use xfs_objects::{
-    Measure, ObjectType, Place, Spot, Typed, push_both, push_decimal, push_hexadecimal, read_number,
+    Measure, ObjectType, ObjectPlace, Spot, Typed, push_both, push_decimal, push_hexadecimal, read_number,
 };
 use xfs_word::name_hash;
 
@@ -208,7 +208,7 @@ pub(crate) fn show_stack(text: &mut Vec<u8>, cursor: &Cursor) -> Result<Verdict,
 
 /// Adds a line for each place of a stack, the top first.
 #[tactic(auto, unfolding(crate::specs::Commands::stack_text))]
-fn push_stack(text: &mut Vec<u8>, stack: &[Place]) -> Result<(), NoMemory>
+fn push_stack(text: &mut Vec<u8>, stack: &[ObjectPlace]) -> Result<(), NoMemory>
     ensures { OnOk result (text.new.items ≡ text.old.items ++ stack_text stack.now) }
 {
     for i in 0..stack.len() {
@@ -218,7 +218,7 @@ fn push_stack(text: &mut Vec<u8>, stack: &[Place]) -> Result<(), NoMemory>
 }
 
 /// Adds the line of the place of this number from the top.
-fn push_place(text: &mut Vec<u8>, stack: &[Place], i: usize) -> Result<(), NoMemory>
+fn push_place(text: &mut Vec<u8>, stack: &[ObjectPlace], i: usize) -> Result<(), NoMemory>
     requires { i < length stack.now }
     ensures { OnOk result (text.new.items ≡ text.old.items ++ line_of_stack stack.now i) }
 {
@@ -229,7 +229,7 @@ fn push_place(text: &mut Vec<u8>, stack: &[Place], i: usize) -> Result<(), NoMem
 }
 
 /// Adds the line of a place of the stack.
-fn push_numbered(text: &mut Vec<u8>, i: usize, place: &Place) -> Result<(), NoMemory>
+fn push_numbered(text: &mut Vec<u8>, i: usize, place: &ObjectPlace) -> Result<(), NoMemory>
     ensures { OnOk result (text.new.items ≡ text.old.items ++ stack_line i (Some place.now)) }
 {
     push_decimal(text, i as u64)?;
@@ -248,7 +248,7 @@ fn push_numbered(text: &mut Vec<u8>, i: usize, place: &Place) -> Result<(), NoMe
 pub(crate) fn set_type(
     text: &mut Vec<u8>,
     cursor: &mut Cursor,
-    place: Place,
+    place: ObjectPlace,
     arguments: &[Word],
 ) -> Result<Verdict, NoMemory>
     requires place { cursor.old.at ≡ Some place }
@@ -268,7 +268,7 @@ pub(crate) fn set_type(
 fn set_type_named(
     text: &mut Vec<u8>,
     cursor: &mut Cursor,
-    place: Place,
+    place: ObjectPlace,
     word: &[u8],
 ) -> Result<Verdict, NoMemory>
     requires place { cursor.old.at ≡ Some place }
@@ -278,7 +278,7 @@ fn set_type_named(
     match ObjectType::named(word) {
         None => refuse_word(text, "no type: ", word),
         Some(kind) => {
-            cursor.at = Some(Place { kind, ..place });
+            cursor.at = Some(ObjectPlace { kind, ..place });
             Ok(Verdict::Done)
         }
     }

@@ -3,7 +3,7 @@
 ghost use Rattle.std.specs.Prelude.{◌≡◌, ℕ, ◌+◌, ◌-◌, ◌^◌, ◌<◌, ◌≤◌, ◌++◌, ◌*◌, nat_lt, if◌then◌else◌, length, Some, None, IfOk, IfSome, OnOk, IsTrue};
 ghost use Rattle.xfs_word.specs.Crc.{has_checksum};
 ghost use Rattle.xfs_word.specs.Field.{is_width};
-ghost use Rattle.xfs_commands.specs.Commands.{checksum_at, fitting, number_bytes, patched, put_of, resealed, sets, sets_fitting, sets_item, session_of, with_number, with_object, IsEffect};
+ghost use Rattle.xfs_commands.specs.Commands.{checksum_at, fitting, number_bytes, patched, put_of, resealed, sets, sets_fitting, sets_item, session_of, with_field_number, with_object, IsEffect};
 ghost use Rattle.xfs_objects.specs.Items.{is_inside, item_of, shape_len};
 ghost use Rattle.xfs_objects.specs.Numbers.{typed};
 ghost use Rattle.xfs_objects.specs.Objects.{object_in, object_size};
@@ -16,7 +16,7 @@ use xfs_geom::superblock;
 use xfs_heads::layouts::{agf, agfl, agi};
 use xfs_inode::layouts::inode;
 use xfs_objects::{
-    Item, ObjectType, Place, SECTOR_SIZE, Typed, named_item, number_width, push_line, read_number,
+    Item, ObjectType, ObjectPlace, SECTOR_SIZE, Typed, named_item, number_width, push_line, read_number,
 };
 use xfs_tree::{LONG, SHORT};
 use xfs_word::crc_skipping;
@@ -30,7 +30,7 @@ pub fn set(
     alloc: Global,
     text: &mut Vec<u8>,
     cursor: &Cursor,
-    place: Place,
+    place: ObjectPlace,
     block: &mut [u8],
     name: &[u8],
     value: &[u8],
@@ -50,7 +50,7 @@ pub fn set(
 fn set_item(
     text: &mut Vec<u8>,
     cursor: &Cursor,
-    place: Place,
+    place: ObjectPlace,
     block: &mut [u8],
     name: &[u8],
     value: &[u8],
@@ -71,7 +71,7 @@ fn set_item(
 fn set_typed(
     text: &mut Vec<u8>,
     cursor: &Cursor,
-    place: Place,
+    place: ObjectPlace,
     block: &mut [u8],
     value: &[u8],
     item: &Item,
@@ -119,7 +119,7 @@ fn fit(number: u64, width: usize) -> Option<u64>
 /// Writes a number of so many bytes into an item of an object, and adds its line.
 fn set_number(
     text: &mut Vec<u8>,
-    place: Place,
+    place: ObjectPlace,
     block: &mut [u8],
     item: &Item,
     width: usize,
@@ -130,8 +130,8 @@ fn set_number(
     requires inside { IsTrue (is_inside (object_size place.kind) (item_of item.now)) }
     requires width { IsTrue (is_width width) }
     requires long { width ≡ shape_len item.now.shape }
-    ensures text { OnOk result (text.new.items ≡ text.old.items ++ item_line (with_number place.kind item.now.offset width number (object_in place.kind place.sector block.old)) (item_of item.now)) }
-    ensures block { OnOk result (block.new ≡ with_object place.kind place.sector (with_number place.kind item.now.offset width number (object_in place.kind place.sector block.old)) block.old) }
+    ensures text { OnOk result (text.new.items ≡ text.old.items ++ item_line (with_field_number place.kind item.now.offset width number (object_in place.kind place.sector block.old)) (item_of item.now)) }
+    ensures block { OnOk result (block.new ≡ with_object place.kind place.sector (with_field_number place.kind item.now.offset width number (object_in place.kind place.sector block.old)) block.old) }
 {
     if place.kind.is_sector() {
         set_in_sector(text, place, block, item, width, number)
@@ -144,7 +144,7 @@ fn set_number(
 #[tactic(auto, unfolding(crate::specs::Commands::with_object))]
 fn set_in_sector(
     text: &mut Vec<u8>,
-    place: Place,
+    place: ObjectPlace,
     block: &mut [u8],
     item: &Item,
     width: usize,
@@ -156,8 +156,8 @@ fn set_in_sector(
     requires inside { IsTrue (is_inside 512 (item_of item.now)) }
     requires width { IsTrue (is_width width) }
     requires long { width ≡ shape_len item.now.shape }
-    ensures text { OnOk result (text.new.items ≡ text.old.items ++ item_line (with_number place.kind item.now.offset width number (object_in place.kind place.sector block.old)) (item_of item.now)) }
-    ensures block { OnOk result (block.new ≡ patched block.old (512 * place.sector) (with_number place.kind item.now.offset width number (object_in place.kind place.sector block.old))) }
+    ensures text { OnOk result (text.new.items ≡ text.old.items ++ item_line (with_field_number place.kind item.now.offset width number (object_in place.kind place.sector block.old)) (item_of item.now)) }
+    ensures block { OnOk result (block.new ≡ patched block.old (512 * place.sector) (with_field_number place.kind item.now.offset width number (object_in place.kind place.sector block.old))) }
 {
     let mut object = [0; SECTOR_SIZE];
     object.copy_from_slice(place.kind.object(place.sector, block));
@@ -167,7 +167,7 @@ fn set_in_sector(
 }
 
 /// Writes a number into an object, seals it anew, and adds the line of what was written.
-#[tactic(auto, unfolding(crate::specs::Commands::with_number))]
+#[tactic(auto, unfolding(crate::specs::Commands::with_field_number))]
 fn set_in_object(
     text: &mut Vec<u8>,
     kind: ObjectType,
@@ -180,8 +180,8 @@ fn set_in_object(
     requires inside { IsTrue (is_inside (object_size kind) (item_of item.now)) }
     requires width { IsTrue (is_width width) }
     requires long { width ≡ shape_len item.now.shape }
-    ensures text { OnOk result (text.new.items ≡ text.old.items ++ item_line (with_number kind item.now.offset width number object.old) (item_of item.now)) }
-    ensures object { OnOk result (object.new ≡ with_number kind item.now.offset width number object.old) }
+    ensures text { OnOk result (text.new.items ≡ text.old.items ++ item_line (with_field_number kind item.now.offset width number object.old) (item_of item.now)) }
+    ensures object { OnOk result (object.new ≡ with_field_number kind item.now.offset width number object.old) }
 {
     put_number(object, item.offset, width, number);
     reseal(object, checksum_at(kind));

@@ -6,7 +6,7 @@ use Rattle.xfs_dirdata.specs.declared.records.EntryRec.{EntryRec}
 use Rattle.xfs_dirdata.specs.declared.records.FreeSpan.{FreeSpan}
 use Rattle.xfs_dirdata.specs.Sizes.{data_size}
 use Rattle.xfs_dirdata.specs.Best.{are_bests}
-use Rattle.xfs_dirdata.specs.Data.{DataArea, is_span, is_entry, span_at, entry_at, entry_size_at, size_at, is_tagged, is_sound_span, is_item, best_at, stated_bests, stated, has_bests, area_of, Fill}
+use Rattle.xfs_dirdata.specs.Data.{DataArea, is_span, is_entry, span_at, entry_at, entry_size_at, size_at, is_tagged, is_sound_span, is_item, best_at, stated_bests, stated_area, has_bests, area_of, Fill}
 use Rattle.xfs_dirdata.proofs.Same.{same_between}
 use Rattle.xfs_dirdata.proofs.Filling.{states-from, read-from}
 
@@ -99,8 +99,8 @@ module _ (old new : List ℕ) (same : SameBehind 48 old new) where
       by_test true here rest = ap₂ ◌∷◌ here rest
       by_test false here rest = rest
 
-  stated-same : (dir : ℕ) (os : List ℕ) → Fill old 64 os → stated dir new os ≡ stated dir old os
-  unfolding stated
+  stated-same : (dir : ℕ) (os : List ℕ) → Fill old 64 os → stated_area dir new os ≡ stated_area dir old os
+  unfolding stated_area
   stated-same dir os fill =
       let places : filter (is_entry new) os ≡ filter (is_entry old) os = filter-same (is_entry new) (is_entry old) entry-same 64 os (omega arith) fill in
       let spans : filter (is_span new) os ≡ filter (is_span old) os = filter-same (is_span new) (is_span old) span-same 64 os (omega arith) fill in

@@ -2,15 +2,14 @@
 use Rattle.std.proofs.Common.{◌≡◌, ℕ, zero, suc, ◌+◌, ◌-◌, ◌*◌, ◌≤◌, List, [], ◌∷◌, ◌++◌, map, length, take, drop, refl, sym, ◌∙◌, ap, ap₂, arith}
 use Rattle.std.specs.List.{range_with_len}
 use Rattle.std.proofs.lemmas.List.{take_all, take-replicate, drop-replicate, length-replicate}
-use Rattle.xfs_word.specs.Field.{field_of, part_of}
+use Rattle.xfs_word.specs.Field.{field_of, part_of, zeros}
 use Rattle.xfs_word.proofs.Register.{AreBytes}
-use Rattle.xfs_dirdata.specs.Written.{zeros}
 use Rattle.xfs_dirdata.specs.Bytes.{big_endian}
 use Rattle.xfs_dirdata.proofs.Spelling.{part-join, part-none, number-part}
 use Rattle.xfs_dirindex.specs.declared.pairs.Pair.{Pair}
 use Rattle.xfs_dirindex.specs.Pairs.{pair_at, pairs_at}
 use Rattle.xfs_dirbuild.specs.Index.{AreValues}
-use Rattle.xfs_dirbuild.specs.Blocks.{pairs_bytes, values_bytes, last_hash}
+use Rattle.xfs_dirbuild.specs.Blocks.{pairs_bytes, values_bytes, last_pair_hash}
 
 -- parts of zeros
 pub blank-part : (n : ℕ) (bytes : List ℕ) (at width : ℕ) → bytes ≡ zeros n → at + width ≤ n → part_of bytes at width ≡ zeros width
@@ -55,17 +54,17 @@ pairs-part bytes at pairs all inside are =
     ∙ (pairs-from bytes at 0 (length pairs) all (omega arith) ∙ ap pairs_bytes are)
 
 -- the greatest hash of pairs that stand in a block
-last-from : (bytes : List ℕ) (at a n : ℕ) → last_hash (map (λ k. pair_at bytes (at + 8 * k)) (range_with_len a (suc n))) ≡ field_of bytes (at + 8 * (a + n)) 4
+last-from : (bytes : List ℕ) (at a n : ℕ) → last_pair_hash (map (λ k. pair_at bytes (at + 8 * k)) (range_with_len a (suc n))) ≡ field_of bytes (at + 8 * (a + n)) 4
 last-from bytes at a zero = ap (λ (p : ℕ). field_of bytes p 4) (omega arith)
 last-from bytes at a (suc n) = last-from bytes at (a + 1) n ∙ ap (λ (p : ℕ). field_of bytes p 4) (omega arith)
 
 pub last-part : (bytes : List ℕ) (count : ℕ) (pairs : List Pair) → 1 ≤ count → length pairs ≡ count → pairs_at bytes 64 (length pairs) ≡ pairs
-    → field_of bytes (56 + 8 * count) 4 ≡ last_hash pairs
+    → field_of bytes (56 + 8 * count) 4 ≡ last_pair_hash pairs
 unfolding pairs_at
 last-part bytes count pairs some long are =
     let place : 64 + 8 * (0 + (count - 1)) ≡ 56 + 8 * count = omega arith in
     let more : length pairs ≡ suc (count - 1) = omega arith in
-    sym (ap last_hash (sym are) ∙ (ap (λ (n : ℕ). last_hash (map (λ k. pair_at bytes (64 + 8 * k)) (range_with_len 0 n))) more
+    sym (ap last_pair_hash (sym are) ∙ (ap (λ (n : ℕ). last_pair_hash (map (λ k. pair_at bytes (64 + 8 * k)) (range_with_len 0 n))) more
     ∙ (last-from bytes 64 0 (count - 1) ∙ ap (λ (p : ℕ). field_of bytes p 4) place)))
 
 -- values

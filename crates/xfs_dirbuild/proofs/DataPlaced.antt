@@ -11,16 +11,16 @@ use Rattle.xfs_dirdata.specs.Data.{DataArea, data_of, data_area}
 use Rattle.xfs_dirdata.specs.Written.{in_directory, data_length, offsets, rest_span, written_area}
 use Rattle.xfs_dirindex.specs.declared.pairs.Pair.{Pair}
 use Rattle.xfs_dirindex.specs.declared.data.Best.{Best}
-use Rattle.xfs_dirindex.specs.Mapped.{Mapped, block_of, is_data}
-use Rattle.xfs_dirindex.specs.Data.{is_self, is_parent, is_dots, have_no_dots, begin_with_dots, stand_first, no_area, area_in, is_sound, is_first, is_later, due_pairs, pairs_in, longest, best_in}
-use Rattle.xfs_dirindex.specs.Leaf.{best_at, end_of}
+use Rattle.xfs_dirindex.specs.Mapped.{Mapped, mapped_block, is_data}
+use Rattle.xfs_dirindex.specs.Data.{is_self, is_parent_name, is_dots, have_no_dots, begin_with_dots, stand_first, no_area, area_in, is_sound_data, is_first_block, is_later, due_pairs, pairs_in, longest_span, best_in}
+use Rattle.xfs_dirindex.specs.Leaf.{best_length_of, end_of}
 use Rattle.xfs_dirbuild.specs.Filling.{ahead, filled, pairs_from, rest_in}
-use Rattle.xfs_dirbuild.specs.Index.{IsPlaced}
-use Rattle.xfs_dirbuild.specs.Placed.{IsDataBlock}
+use Rattle.xfs_dirbuild.specs.Index.{IsPlacedBlock}
+use Rattle.xfs_dirbuild.specs.Placed.{IsBuiltDataBlock}
 use Rattle.xfs_dirbuild.proofs.Areas.{same-behind, area-same}
 use Rattle.xfs_dirbuild.proofs.Standing.{stand}
 
-pub data-placed : (es : List EntryRec) (b p : List ℕ) → IsDataBlock es b → IsPlaced 4 b p → IsDataBlock es p
+pub data-placed : (es : List EntryRec) (b p : List ℕ) → IsBuiltDataBlock es b → IsPlacedBlock 4 b p → IsBuiltDataBlock es p
 data-placed es b p was placed =
     let same = same-behind 48 b p (placed.long ∙ sym was.long) (λ k low. placed.same k (inr low)) in
     record {
@@ -30,12 +30,12 @@ data-placed es b p was placed =
     }
 
 -- one block
-area-is : (dir o : ℕ) (es : List EntryRec) (p : List ℕ) → IsDataBlock es p → area_in dir false (block_of o p) ≡ written_area dir es 4096
+area-is : (dir o : ℕ) (es : List EntryRec) (p : List ℕ) → IsBuiltDataBlock es p → area_in dir false (mapped_block o p) ≡ written_area dir es 4096
 unfolding area_in data_of data_area
 area-is dir o es p block = ap (λ a. unwrap_or a no_area) (block.area dir)
 
-sound-is : (dir o : ℕ) (es : List EntryRec) (p : List ℕ) → IsDataBlock es p → is_sound dir false (block_of o p) ≡ true
-unfolding is_sound data_of data_area
+sound-is : (dir o : ℕ) (es : List EntryRec) (p : List ℕ) → IsBuiltDataBlock es p → is_sound_data dir false (mapped_block o p) ≡ true
+unfolding is_sound_data data_of data_area
 sound-is dir o es p block = and_from _ _ (eq-eqb (field_of p 0 4) 0x58444433 block.magic) (ap (λ a. is_some a) (block.area dir))
 
 due-in : (dir o : ℕ) (es : List EntryRec) (ps : List ℕ) → due_pairs o (map (in_directory dir) es) ps ≡ due_pairs o es ps
@@ -47,22 +47,22 @@ pub pairs-of-area : (dir o end : ℕ) (es : List EntryRec) (area : DataArea) →
 unfolding written_area
 pairs-of-area dir o end es area is = ap (λ (a : DataArea). due_pairs o a.entries a.places) is ∙ due-in dir o es (offsets 64 es)
 
-pairs-is : (dir o : ℕ) (es : List EntryRec) (p : List ℕ) → IsDataBlock es p → pairs_in dir false (block_of o p) ≡ due_pairs o es (offsets 64 es)
+pairs-is : (dir o : ℕ) (es : List EntryRec) (p : List ℕ) → IsBuiltDataBlock es p → pairs_in dir false (mapped_block o p) ≡ due_pairs o es (offsets 64 es)
 unfolding pairs_in
-pairs-is dir o es p block = pairs-of-area dir o 4096 es (area_in dir false (block_of o p)) (area-is dir o es p block)
+pairs-is dir o es p block = pairs-of-area dir o 4096 es (area_in dir false (mapped_block o p)) (area-is dir o es p block)
 
-longest-rest : (at : ℕ) → longest (rest_span at 4096) ≡ 4096 - at
+longest-rest : (at : ℕ) → longest_span (rest_span at 4096) ≡ 4096 - at
 longest-rest at = by_test (at == 4096) refl
   where
     by_test : (t : Bool) → (at == 4096) ≡ t
-        → longest (if t then [] else record { offset = at; length = 4096 - at } ∷ []) ≡ 4096 - at
+        → longest_span (if t then [] else record { offset = at; length = 4096 - at } ∷ []) ≡ 4096 - at
     by_test true is = let e : at ≡ 4096 = eqb-true at 4096 is in omega arith
     by_test false is = omega arith
 
-best-is : (dir o : ℕ) (es : List EntryRec) (p : List ℕ) → IsDataBlock es p → best_in dir false (block_of o p) ≡ record { offset = o; length = rest_in es }
+best-is : (dir o : ℕ) (es : List EntryRec) (p : List ℕ) → IsBuiltDataBlock es p → best_in dir false (mapped_block o p) ≡ record { offset = o; length = rest_in es }
 unfolding best_in written_area
 best-is dir o es p block =
-    ap (λ (a : DataArea). let b : Best = record { offset = o; length = longest a.free } in b) (area-is dir o es p block)
+    ap (λ (a : DataArea). let b : Best = record { offset = o; length = longest_span a.free } in b) (area-is dir o es p block)
     ∙ ap (λ (n : ℕ). let b : Best = record { offset = o; length = n } in b) (longest-rest (64 + data_length es))
 
 pub entries-of-area : (dir end : ℕ) (es : List EntryRec) (area : DataArea) → area ≡ written_area dir es end → area.entries ≡ map (in_directory dir) es
@@ -126,10 +126,10 @@ abbrev pub Both : List (List EntryRec) → List (List ℕ) → Type 0
 Both [] [] = Unit {0}
 Both [] (b ∷ bs) = ⊥
 Both (es ∷ ess) [] = ⊥
-Both (es ∷ ess) (b ∷ bs) = IsDataBlock es b × Both ess bs
+Both (es ∷ ess) (b ∷ bs) = IsBuiltDataBlock es b × Both ess bs
 
 pub both-from : (ess : List (List EntryRec)) (bs : List (List ℕ)) → length bs ≡ length ess
-    → ((k : ℕ) → k < length ess → IsDataBlock (get_or ess k []) (get_or bs k [])) → Both ess bs
+    → ((k : ℕ) → k < length ess → IsBuiltDataBlock (get_or ess k []) (get_or bs k [])) → Both ess bs
 both-from [] [] long each = tt
 both-from [] (b ∷ bs) long each = absurd (omega arith)
 both-from (es ∷ ess) [] long each = absurd (omega arith)
@@ -158,17 +158,17 @@ entries-all dir first [] [] both = refl
 entries-all dir first [] (b ∷ bs) both = absurd both
 entries-all dir first (es ∷ ess) [] both = absurd both
 entries-all dir first (es ∷ ess) (b ∷ bs) both =
-    ap₂ (λ (xs ys : List EntryRec). xs ++ ys) (entries-of-area dir 4096 es (area_in dir false (block_of first b)) (area-is dir first es b both.0))
+    ap₂ (λ (xs ys : List EntryRec). xs ++ ys) (entries-of-area dir 4096 es (area_in dir false (mapped_block first b)) (area-is dir first es b both.0))
     (entries-all dir (first + 1) ess bs both.1)
     ∙ sym (map-append (in_directory dir) es (flat_map (λ (xs : List EntryRec). xs) ess))
 
-later-one : (dir o : ℕ) (es : List EntryRec) (p : List ℕ) → IsDataBlock es p → have_no_dots es ≡ true → is_later dir (block_of o p) ≡ true
+later-one : (dir o : ℕ) (es : List EntryRec) (p : List ℕ) → IsBuiltDataBlock es p → have_no_dots es ≡ true → is_later dir (mapped_block o p) ≡ true
 unfolding is_later
 later-one dir o es p block none =
-    let entries = entries-of-area dir 4096 es (area_in dir false (block_of o p)) (area-is dir o es p block) in
-    let right : (is_sound dir false (block_of o p) && have_no_dots (area_in dir false (block_of o p)).entries) ≡ true =
+    let entries = entries-of-area dir 4096 es (area_in dir false (mapped_block o p)) (area-is dir o es p block) in
+    let right : (is_sound_data dir false (mapped_block o p) && have_no_dots (area_in dir false (mapped_block o p)).entries) ≡ true =
     and_from _ _ (sound-is dir o es p block) (ap (λ (xs : List EntryRec). have_no_dots xs) entries ∙ no-dots dir es none) in
-    ap (λ (b : Bool). if is_data (block_of o p) then b else true) right ∙ by_test (is_data (block_of o p))
+    ap (λ (b : Bool). if is_data (mapped_block o p) then b else true) right ∙ by_test (is_data (mapped_block o p))
   where
     by_test : (t : Bool) → (if t then true else true) ≡ true
     by_test true = refl
@@ -177,7 +177,7 @@ later-one dir o es p block none =
 pub later-beyond : (dir : ℕ) (m : Mapped) → is_data m ≡ false → is_later dir m ≡ true
 unfolding is_later
 later-beyond dir m beyond =
-    ap (λ (b : Bool). if b then is_sound dir false m && have_no_dots (area_in dir false m).entries else true) beyond
+    ap (λ (b : Bool). if b then is_sound_data dir false m && have_no_dots (area_in dir false m).entries else true) beyond
 
 pub later-all : (dir first : ℕ) (ess : List (List EntryRec)) (bs : List (List ℕ)) → Both ess bs → NoDots ess → list_all (is_later dir) (stand first bs) ≡ true
 later-all dir first [] [] both none = refl
@@ -195,19 +195,19 @@ parent_of dir parent = record { dir = dir; name = 46 ∷ 46 ∷ []; ino = parent
 
 pub begins : (dir parent : ℕ) (es : List EntryRec) → have_no_dots es ≡ true
     → begin_with_dots dir (map (in_directory dir) (self_of dir ∷ parent_of dir parent ∷ es)) ≡ true
-unfolding is_self is_parent
+unfolding is_self is_parent_name
 begins dir parent es none = and_from _ _ (and_from _ _ (and_from _ _ refl (eq-eqb dir dir refl)) refl) (no-dots dir es none)
 
 pub stands : (dir parent : ℕ) (es : List EntryRec) → stand_first (offsets 64 (self_of dir ∷ parent_of dir parent ∷ es)) ≡ true
 stands dir parent es = refl
 
-pub first-one : (dir parent : ℕ) (es : List EntryRec) (p : List ℕ) → IsDataBlock (self_of dir ∷ parent_of dir parent ∷ es) p → have_no_dots es ≡ true
-    → is_first dir false (block_of 0 p) ≡ true
-unfolding is_first
+pub first-one : (dir parent : ℕ) (es : List EntryRec) (p : List ℕ) → IsBuiltDataBlock (self_of dir ∷ parent_of dir parent ∷ es) p → have_no_dots es ≡ true
+    → is_first_block dir false (mapped_block 0 p) ≡ true
+unfolding is_first_block
 first-one dir parent es p block none =
     let all = self_of dir ∷ parent_of dir parent ∷ es in
-    let entries = entries-of-area dir 4096 all (area_in dir false (block_of 0 p)) (area-is dir 0 all p block) in
-    let places = places-of-area dir 4096 all (area_in dir false (block_of 0 p)) (area-is dir 0 all p block) in
+    let entries = entries-of-area dir 4096 all (area_in dir false (mapped_block 0 p)) (area-is dir 0 all p block) in
+    let places = places-of-area dir 4096 all (area_in dir false (mapped_block 0 p)) (area-is dir 0 all p block) in
     and_from _ _ (and_from _ _ (and_from _ _ refl (sound-is dir 0 all p block))
     (ap (λ (xs : List EntryRec). begin_with_dots dir xs) entries ∙ begins dir parent es none))
     (ap (λ (ps : List ℕ). stand_first ps) places ∙ stands dir parent es)
@@ -218,16 +218,16 @@ end-of first [] some = absurd (omega arith)
 end-of first (es ∷ []) some = refl
 end-of first (es ∷ fs ∷ ess) some = end-of (first + 1) (fs ∷ ess) (omega arith) ∙ omega arith
 
-pub best-at : (first : ℕ) (ess : List (List EntryRec)) (j : ℕ) → j < length ess → best_at (bests_from first ess) (first + j) ≡ get_or (map rest_in ess) j 0
+pub best-at : (first : ℕ) (ess : List (List EntryRec)) (j : ℕ) → j < length ess → best_length_of (bests_from first ess) (first + j) ≡ get_or (map rest_in ess) j 0
 best-at first [] j less = absurd (omega arith)
 best-at first (es ∷ ess) zero less =
     let here : (first == first + 0) ≡ true = grind (arith, nat_tests) in
-    ap (λ (t : Bool). if t then rest_in es else best_at (bests_from (first + 1) ess) (first + 0)) here
+    ap (λ (t : Bool). if t then rest_in es else best_length_of (bests_from (first + 1) ess) (first + 0)) here
 best-at first (es ∷ ess) (suc j) less =
     let other : (first == first + suc j) ≡ false = grind (arith, nat_tests) in
     let on : first + suc j ≡ first + 1 + j = omega arith in
-    ap (λ (t : Bool). if t then rest_in es else best_at (bests_from (first + 1) ess) (first + suc j)) other
-    ∙ (ap (best_at (bests_from (first + 1) ess)) on ∙ best-at (first + 1) ess j (omega arith))
+    ap (λ (t : Bool). if t then rest_in es else best_length_of (bests_from (first + 1) ess) (first + suc j)) other
+    ∙ (ap (best_length_of (bests_from (first + 1) ess)) on ∙ best-at (first + 1) ess j (omega arith))
 
 pub rest-small : (ess : List (List EntryRec)) (j : ℕ) → get_or (map rest_in ess) j 0 ≤ 4032
 rest-small [] j = omega arith

@@ -5,13 +5,13 @@ use Rattle.std.proofs.lemmas.List.{drop-drop, drop_all, length-drop, get_or-drop
 use Rattle.std.proofs.lemmas.List.Elements.{All-head, All-tail}
 use Rattle.std.proofs.lemmas.Bool.{cases_lt}
 use Rattle.xfs_dirdata.specs.declared.records.EntryRec.{EntryRec}
-use Rattle.xfs_dirdata.specs.Written.{IsWritable, data_size_of, offsets}
+use Rattle.xfs_dirdata.specs.Written.{IsWritableEntry, data_size_of, offsets}
 use Rattle.xfs_dirindex.specs.declared.pairs.Pair.{Pair}
 use Rattle.xfs_dirindex.specs.Data.{due_pairs}
 use Rattle.xfs_dirbuild.specs.Forms.{data_count}
-use Rattle.xfs_dirbuild.specs.Filling.{filled, shares, pairs_from, rest_in}
-use Rattle.xfs_dirbuild.specs.Blocks.{data_block, blocks_in}
-use Rattle.xfs_dirbuild.specs.Placed.{IsDataBlock}
+use Rattle.xfs_dirbuild.specs.Filling.{filled, filled_shares, pairs_from, rest_in}
+use Rattle.xfs_dirbuild.specs.Blocks.{data_block, bank_part}
+use Rattle.xfs_dirbuild.specs.Placed.{IsBuiltDataBlock}
 use Rattle.xfs_dirbuild.proofs.Sections.{section-push}
 use Rattle.xfs_dirbuild.proofs.Filled.{later, later-some, count-fits, count-full}
 
@@ -42,21 +42,21 @@ rests-on ss n x rest old new at made were =
     ∙ (sym (map-append rest_in (take n ss) (get_or ss n [] ∷ [])) ∙ ap (map rest_in) (sym (take_more ss n [] (omega arith)))))
 
 pub blocks-on : (ss : List (List EntryRec)) (n : ℕ) (x : List EntryRec) (rest : List (List EntryRec)) (old new : List (List ℕ)) → drop n ss ≡ x ∷ rest
-    → ((k : ℕ) → k < n → IsDataBlock (get_or ss k []) (get_or old k [])) → ((k : ℕ) → k < n → get_or new k [] ≡ get_or old k [])
-    → IsDataBlock x (get_or new n []) → (k : ℕ) → k < n + 1 → IsDataBlock (get_or ss k []) (get_or new k [])
+    → ((k : ℕ) → k < n → IsBuiltDataBlock (get_or ss k []) (get_or old k [])) → ((k : ℕ) → k < n → get_or new k [] ≡ get_or old k [])
+    → IsBuiltDataBlock x (get_or new n []) → (k : ℕ) → k < n + 1 → IsBuiltDataBlock (get_or ss k []) (get_or new k [])
 blocks-on ss n x rest old new at were same here k less =
     elim (cases_lt k n) [
-      | inl before ↦ subst (λ (b : List ℕ). IsDataBlock (get_or ss k []) b) (sym (same k before)) (were k before)
+      | inl before ↦ subst (λ (b : List ℕ). IsBuiltDataBlock (get_or ss k []) b) (sym (same k before)) (were k before)
       | inr behind ↦
           let last : n ≡ k = omega arith in
-          subst (λ (m : ℕ). IsDataBlock (get_or ss m []) (get_or new m [])) last
-          (subst (λ (es : List EntryRec). IsDataBlock es (get_or new n [])) (sym (there-on ss n x rest at)) here)
+          subst (λ (m : ℕ). IsBuiltDataBlock (get_or ss m []) (get_or new m [])) last
+          (subst (λ (es : List EntryRec). IsBuiltDataBlock es (get_or new n [])) (sym (there-on ss n x rest at)) here)
     ]
 
 -- and these are its bytes
 pub bytes-on : (ss : List (List EntryRec)) (n : ℕ) (x : List EntryRec) (rest : List (List EntryRec)) (old new : List (List ℕ)) → drop n ss ≡ x ∷ rest
     → length new ≡ length old → n < length old → ((k : ℕ) → k < n → get_or new k [] ≡ get_or old k []) → get_or new n [] ≡ data_block x
-    → blocks_in old 0 n ≡ map data_block (take n ss) → blocks_in new 0 (n + 1) ≡ map data_block (take (n + 1) ss)
+    → bank_part old 0 n ≡ map data_block (take n ss) → bank_part new 0 (n + 1) ≡ map data_block (take (n + 1) ss)
 bytes-on ss n x rest old new at long room same put were =
     let inside = room-on ss n x rest at in
     let here : 0 + n ≡ n = omega arith in
@@ -83,25 +83,25 @@ next-block ss n start es left before =
     omega (arith, long, later-some (drop start es) some, length-drop n ss)
 
 -- how many blocks there are
-pub shares-count : (dir parent : ℕ) (es : List EntryRec) → length (shares dir parent es) ≡ data_count es
+pub shares-count : (dir parent : ℕ) (es : List EntryRec) → length (filled_shares dir parent es) ≡ data_count es
 unfolding data_count
 shares-count dir parent es =
     let one : EntryRec = record { dir = dir; name = 46 ∷ []; ino = dir; ftype = 2 } in
     let two : EntryRec = record { dir = dir; name = 46 ∷ 46 ∷ []; ino = parent; ftype = 2 } in
     count-fits 64 one (two ∷ es) (omega arith) ∙ count-fits 80 two es (omega arith)
 
-filled-bound : (at : ℕ) (es : List EntryRec) → All IsWritable es → 3760 * length (filled at es) ≤ at + 272 * length es + 3760
+filled-bound : (at : ℕ) (es : List EntryRec) → All IsWritableEntry es → 3760 * length (filled at es) ≤ at + 272 * length es + 3760
 unfolding filled
 filled-bound at [] all = omega arith
 filled-bound at (e ∷ es) all =
-    let writable = All-head IsWritable e es all in
+    let writable = All-head IsWritableEntry e es all in
     let name : length e.name < 256 = writable.name in
-    let rest = All-tail IsWritable e es all in
+    let rest = All-tail IsWritableEntry e es all in
     elim (cases_lt 4096 (at + data_size_of e)) [
       | inl full ↦ let one = count-full at e es full in let more = filled-bound (64 + data_size_of e) es rest in omega (arith, one, more, name, full)
       | inr fits ↦ let one = count-fits at e es fits in let more = filled-bound (at + data_size_of e) es rest in omega (arith, one, more, name, fits)
     ]
 
-pub data_count-bound : (es : List EntryRec) → All IsWritable es → length es ≤ 16777216 → data_count es ≤ 0x800000
+pub data_count-bound : (es : List EntryRec) → All IsWritableEntry es → length es ≤ 16777216 → data_count es ≤ 0x800000
 unfolding data_count
 data_count-bound es all few = omega (arith, filled-bound 96 es all)

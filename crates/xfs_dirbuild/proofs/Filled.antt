@@ -6,7 +6,7 @@ use Rattle.std.proofs.lemmas.List.{length-drop, drop-drop}
 use Rattle.std.proofs.lemmas.List.Sums.{sum_by-cons}
 use Rattle.std.proofs.lemmas.Bool.Decides.{nat_tests}
 use Rattle.xfs_dirdata.specs.declared.records.EntryRec.{EntryRec}
-use Rattle.xfs_dirdata.specs.Written.{IsWritable, data_size_of, data_length, offsets}
+use Rattle.xfs_dirdata.specs.Written.{IsWritableEntry, data_size_of, data_length, offsets}
 use Rattle.xfs_dirindex.specs.Data.{due_pair, due_pairs}
 use Rattle.xfs_dirindex.specs.declared.pairs.Pair.{Pair}
 use Rattle.xfs_dirbuild.specs.Filling.{ahead, filled}
@@ -52,17 +52,17 @@ count-full at e es full =
     ap length (filled-full at e es full) ∙ ap suc (length-ahead e (filled (64 + data_size_of e) es) (filled-some (64 + data_size_of e) es))
 
 -- a writable entry fits a block
-entry-small : (e : EntryRec) → IsWritable e → 64 + data_size_of e ≤ 4096
+entry-small : (e : EntryRec) → IsWritableEntry e → 64 + data_size_of e ≤ 4096
 entry-small e writable = let name = writable.name in omega arith
 
 -- the first block takes as many as fit
-pub filled-prefix : (at : ℕ) (es : List EntryRec) (c : ℕ) → All IsWritable es → c ≤ length es → at + data_length (take c es) ≤ 4096
+pub filled-prefix : (at : ℕ) (es : List EntryRec) (c : ℕ) → All IsWritableEntry es → c ≤ length es → at + data_length (take c es) ≤ 4096
     → (c < length es → 4096 < at + data_length (take (c + 1) es)) → filled at es ≡ take c es ∷ later (drop c es)
 unfolding filled
 filled-prefix at [] zero writable within fits full = refl
 filled-prefix at [] (suc c) writable within fits full = absurd (omega arith)
 filled-prefix at (e ∷ es) zero writable within fits full =
-    let small = entry-small e (All-head IsWritable e es writable) in
+    let small = entry-small e (All-head IsWritableEntry e es writable) in
     let size = sum_by-cons data_size_of e [] in
     let over : 4096 < at + data_size_of e = omega (arith, full (omega arith), size) in
     filled-full at e es over ∙ ap (λ bs. [] ∷ bs) (sym (filled-fits 64 e es small))
@@ -75,10 +75,10 @@ filled-prefix at (e ∷ es) (suc c) writable within fits full =
     let one : at + data_size_of e ≤ 4096 = omega (arith, fits, size) in
     let rest : at + data_size_of e + data_length (take c es) ≤ 4096 = omega (arith, fits, size) in
     filled-fits at e es one
-    ∙ ap (ahead e) (filled-prefix (at + data_size_of e) es c (All-tail IsWritable e es writable) (omega arith) rest
+    ∙ ap (ahead e) (filled-prefix (at + data_size_of e) es c (All-tail IsWritableEntry e es writable) (omega arith) rest
     (λ less. omega (arith, over less, more)))
 
-pub filled-front : (at : ℕ) (front es : List EntryRec) (c : ℕ) → All IsWritable es → c ≤ length es → at + data_length (front ++ take c es) ≤ 4096
+pub filled-front : (at : ℕ) (front es : List EntryRec) (c : ℕ) → All IsWritableEntry es → c ≤ length es → at + data_length (front ++ take c es) ≤ 4096
     → (c < length es → 4096 < at + data_length (front ++ take (c + 1) es)) → filled at (front ++ es) ≡ (front ++ take c es) ∷ later (drop c es)
 filled-front at [] es c writable within fits full = filled-prefix at es c writable within fits full
 filled-front at (f ∷ fs) es c writable within fits full =
@@ -90,10 +90,10 @@ filled-front at (f ∷ fs) es c writable within fits full =
     ∙ ap (ahead f) (filled-front (at + data_size_of f) fs es c writable within rest (λ less. omega (arith, full less, more)))
 
 -- no block takes none of the entries that are left
-pub one-fits : (es : List EntryRec) (c : ℕ) → All IsWritable es → 1 ≤ length es → (c < length es → 4096 < 64 + data_length (take (c + 1) es)) → 1 ≤ c
+pub one-fits : (es : List EntryRec) (c : ℕ) → All IsWritableEntry es → 1 ≤ length es → (c < length es → 4096 < 64 + data_length (take (c + 1) es)) → 1 ≤ c
 one-fits [] c writable some full = absurd (omega arith)
 one-fits (e ∷ es) zero writable some full =
-    let small = entry-small e (All-head IsWritable e es writable) in
+    let small = entry-small e (All-head IsWritableEntry e es writable) in
     let size = sum_by-cons data_size_of e [] in
     absurd (omega (arith, full (omega arith), size, small))
 one-fits (e ∷ es) (suc c) writable some full = omega arith
@@ -144,11 +144,11 @@ later-is [] some = absurd (omega arith)
 later-is (e ∷ es) some = refl
 
 -- what the next block takes of what is left
-pub next-share : (es part : List EntryRec) (start c : ℕ) → part ≡ drop start es → All IsWritable es → start < length es → c ≤ length part
+pub next-share : (es part : List EntryRec) (start c : ℕ) → part ≡ drop start es → All IsWritableEntry es → start < length es → c ≤ length part
     → 64 + data_length (take c part) ≤ 4096 → (c < length part → 4096 < 64 + data_length (take (c + 1) part))
     → (later (drop start es) ≡ take c part ∷ later (drop (start + c) es)) × (1 ≤ c) × (start + c ≤ length es)
 next-share es part start c is writable left within fits full =
-    let all : All IsWritable part = subst (λ (xs : List EntryRec). All IsWritable xs) (sym is) (All-drop IsWritable start es writable) in
+    let all : All IsWritableEntry part = subst (λ (xs : List EntryRec). All IsWritableEntry xs) (sym is) (All-drop IsWritableEntry start es writable) in
     let long : length part ≡ length es - start = ap length is ∙ length-drop start es in
     let some : 1 ≤ length part = omega arith in
     let first : later (drop start es) ≡ filled 64 part = ap later (sym is) ∙ later-is part some in

@@ -3,7 +3,7 @@ use Rattle.std.proofs.Common.{◌≡◌, ℕ, suc, zero, ◌+◌, ◌*◌, ◌<�
 use Rattle.std.specs.List.{range_with_len}
 use Rattle.std.proofs.lemmas.List.{take_more}
 use Rattle.std.proofs.lemmas.List.FromFn.{map-range_with_len_more}
-use Rattle.xfs_word.specs.Field.{field_of, Keeps}
+use Rattle.xfs_word.specs.Field.{field_of, KeepsBeside}
 use Rattle.xfs_dirindex.specs.declared.pairs.Pair.{Pair}
 use Rattle.xfs_dirindex.specs.Pairs.{pair_at, pairs_at}
 
@@ -24,7 +24,7 @@ pairs_at-same old new at n same =
 
 -- one more pair stands behind
 pub pairs_at-more : (old new : List ℕ) (at k : ℕ) (pairs : List Pair) (d : Pair) → k < length pairs → pairs_at old at k ≡ take k pairs
-    → Keeps old new (at + 8 * k) 8 → pair_at new (at + 8 * k) ≡ get_or pairs k d → pairs_at new at (k + 1) ≡ take (k + 1) pairs
+    → KeepsBeside old new (at + 8 * k) 8 → pair_at new (at + 8 * k) ≡ get_or pairs k d → pairs_at new at (k + 1) ≡ take (k + 1) pairs
 unfolding pairs_at
 pairs_at-more old new at k pairs d inside were keeps put =
     map-range_with_len_more (λ j. pair_at new (at + 8 * j)) 0 k k (omega arith)

@@ -5,21 +5,22 @@ use Rattle.std.proofs.Math.Seq.{take-add}
 use Rattle.std.proofs.lemmas.List.{length-take-le, length-drop}
 use Rattle.std.proofs.lemmas.List.FromFn.{map-range_with_len_more}
 use Rattle.std.proofs.lemmas.Bool.Decides.{nat_tests}
+use Rattle.xfs_disk.specs.Shares.{share_of, first_of_share}
 use Rattle.xfs_word.specs.Field.{field_of}
 use Rattle.xfs_word.proofs.Written.{keeps}
 use Rattle.xfs_dirindex.specs.declared.pairs.Pair.{Pair}
 use Rattle.xfs_dirindex.specs.Mapped.{Mapped}
-use Rattle.xfs_dirindex.specs.Lookup.{bytes_of}
-use Rattle.xfs_dirindex.specs.IndexTree.{next_of, is_member, are_members, pairs_below}
+use Rattle.xfs_dirindex.specs.Lookup.{bytes_mapped}
+use Rattle.xfs_dirindex.specs.IndexTree.{next_link, is_member, are_members, pairs_below}
 use Rattle.xfs_dirindex.specs.Pairs.{pairs_at}
-use Rattle.xfs_dirbuild.specs.Blocks.{index_block, row_block, share_at, last_hash, link_at}
-use Rattle.xfs_dirbuild.specs.Index.{IsPointer, IsIndexBlock, before_at, next_at, share_of, first_of, IsPlaced, Holds}
+use Rattle.xfs_dirbuild.specs.Blocks.{index_block, row_block, share_at, last_pair_hash, link_at}
+use Rattle.xfs_dirbuild.specs.Index.{IsPointer, IsIndexBlock, before_at, next_at, IsPlacedBlock, HoldsIndex}
 use Rattle.xfs_dirbuild.proofs.Shares.{share_inside}
 use Rattle.xfs_dirbuild.proofs.BlockBytes.{last-part}
 use Rattle.xfs_dirbuild.proofs.Rows.{index-placed, member, members-more, below-more}
 
 -- how long a share is
-pub share-long : (pairs : List Pair) (m i start share : ℕ) → start ≡ first_of (length pairs) m i → share ≡ share_of (length pairs) m i → i < m
+pub share-long : (pairs : List Pair) (m i start share : ℕ) → start ≡ first_of_share (length pairs) m i → share ≡ share_of (length pairs) m i → i < m
     → length (take (start + share - start) (drop start pairs)) ≡ share
 share-long pairs m i start share start_is share_is inside =
     let room = share_inside (length pairs) m i inside in
@@ -40,20 +41,20 @@ pub record IsWritten (level before next first i share : ℕ) (part : List Pair) 
 -- and what of it wherever it stands
 pub record IsSeen (ms : List Mapped) (level before next : ℕ) (part : List Pair) (x : Pair) : Type 0 where
   pub one : is_member ms false level before x next ≡ true
-  pub stands : IsIndexBlock level before next part (bytes_of ms x.address)
+  pub stands : IsIndexBlock level before next part (bytes_mapped ms x.address)
 
 pub seen : (ms : List Mapped) (bank : List (List ℕ)) (base first i level before next share : ℕ) (part : List Pair) (x : Pair) (block : List ℕ)
-    → IsWritten level before next first i share part x block → get_or bank (base + first + i) [] ≡ block → Holds ms bank base first (i + 1)
+    → IsWritten level before next first i share part x block → get_or bank (base + first + i) [] ≡ block → HoldsIndex ms bank base first (i + 1)
     → IsSeen ms level before next part x
 seen ms bank base first i level before next share part x block was put holds =
     let place : 0x800000 + first + i ≡ x.address = omega (arith, was.address) in
-    let there : IsPlaced 12 (get_or bank (base + first + i) []) (bytes_of ms (0x800000 + first + i)) = holds.each i (omega arith) in
-    let placed : IsPlaced 12 block (bytes_of ms x.address) =
-    subst (λ (n : ℕ). IsPlaced 12 block (bytes_of ms n)) place (subst (λ (b : List ℕ). IsPlaced 12 b (bytes_of ms (0x800000 + first + i))) put there) in
-    let stands = index-placed level before next part block (bytes_of ms x.address) was.stands placed in
-    let hash : x.hash ≡ field_of (bytes_of ms x.address) (56 + 8 * length part) 4 =
-    was.hash ∙ (sym (keeps block (bytes_of ms x.address) 12 44 placed.same (56 + 8 * share) 4 (inr (omega arith)))
-    ∙ ap (λ (n : ℕ). field_of (bytes_of ms x.address) (56 + 8 * n) 4) (sym was.long)) in
+    let there : IsPlacedBlock 12 (get_or bank (base + first + i) []) (bytes_mapped ms (0x800000 + first + i)) = holds.each i (omega arith) in
+    let placed : IsPlacedBlock 12 block (bytes_mapped ms x.address) =
+    subst (λ (n : ℕ). IsPlacedBlock 12 block (bytes_mapped ms n)) place (subst (λ (b : List ℕ). IsPlacedBlock 12 b (bytes_mapped ms (0x800000 + first + i))) put there) in
+    let stands = index-placed level before next part block (bytes_mapped ms x.address) was.stands placed in
+    let hash : x.hash ≡ field_of (bytes_mapped ms x.address) (56 + 8 * length part) 4 =
+    was.hash ∙ (sym (keeps block (bytes_mapped ms x.address) 12 44 placed.same (56 + 8 * share) 4 (inr (omega arith)))
+    ∙ ap (λ (n : ℕ). field_of (bytes_mapped ms x.address) (56 + 8 * n) 4) (sym was.long)) in
     record {
       one = member ms level before next x part was.pointers was.some was.most placed.long stands hash;
       stands = stands;
@@ -62,8 +63,8 @@ seen ms bank base first i level before next share part x block was put holds =
 -- the row goes on
 pub row-members : (ms : List Mapped) (level before next first count i : ℕ) (part links rest : List Pair) (x : Pair) → IsSeen ms level before next part x
     → i < count → before ≡ before_at first i → next ≡ next_at first count (i + 1) → x.address ≡ 0x800000 + (first + i)
-    → ((more : List Pair) → next_of more ≡ next_at first count i → are_members ms false level (before_at first i) more ≡ true → are_members ms false level 0 (links ++ more) ≡ true)
-    → next_of rest ≡ next_at first count (i + 1) → are_members ms false level (before_at first (i + 1)) rest ≡ true
+    → ((more : List Pair) → next_link more ≡ next_at first count i → are_members ms false level (before_at first i) more ≡ true → are_members ms false level 0 (links ++ more) ≡ true)
+    → next_link rest ≡ next_at first count (i + 1) → are_members ms false level (before_at first (i + 1)) rest ≡ true
     → are_members ms false level 0 ((links ++ x ∷ []) ++ rest) ≡ true
 row-members ms level before next first count i part links rest x block inside before_is next_is address leads rest_next others =
     let here : before_at first (i + 1) ≡ x.address = grind (arith, nat_tests) in
@@ -81,7 +82,7 @@ row-below ms level before next start share pairs links x block were =
     (take-add start share pairs ∙ ap (λ (n : ℕ). take start pairs ++ take n (drop start pairs)) (sym width))
 
 -- what a block of the row has
-pub share-is : (pairs : List Pair) (m i start share : ℕ) → start ≡ first_of (length pairs) m i → share ≡ share_of (length pairs) m i
+pub share-is : (pairs : List Pair) (m i start share : ℕ) → start ≡ first_of_share (length pairs) m i → share ≡ share_of (length pairs) m i
     → take (start + share - start) (drop start pairs) ≡ share_at m pairs i
 share-is pairs m i start share start_is share_is =
     let width : start + share - start ≡ share_of (length pairs) m i = omega (arith, share_is) in
@@ -91,7 +92,7 @@ share-is pairs m i start share start_is share_is =
 pub link-is : (first m i share : ℕ) (pairs part : List Pair) (x : Pair) (block : List ℕ) → part ≡ share_at m pairs i → 1 ≤ share → length part ≡ share
     → pairs_at block 64 (length part) ≡ part → x.hash ≡ field_of block (56 + 8 * share) 4 → x.address ≡ 0x800000 + (first + i) → x ≡ link_at first m pairs i
 link-is first m i share pairs part x block is some long stand hash address =
-    ap₂ (λ (h a : ℕ). let p : Pair = record { hash = h; address = a } in p) (hash ∙ (last-part block share part some long stand ∙ ap last_hash is)) address
+    ap₂ (λ (h a : ℕ). let p : Pair = record { hash = h; address = a } in p) (hash ∙ (last-part block share part some long stand ∙ ap last_pair_hash is)) address
 
 pub block-is : (level before next first m i : ℕ) (pairs part : List Pair) (block : List ℕ) → part ≡ share_at m pairs i → before ≡ before_at first i
     → next ≡ next_at first m (i + 1) → block ≡ index_block level before next part → block ≡ row_block level first m pairs i

@@ -3,23 +3,23 @@ use Rattle.std.proofs.Common.{◌≡◌, ℕ, ◌+◌, ◌*◌, ◌/◌, ◌%◌
 use Rattle.std.proofs.Math.Nat.{div-add-mod', mod-lt, div-le_of_le-mul, lt_of_mul-lt-mul_right, mul-le-mul_right, lt-mul-div-succ}
 use Rattle.std.proofs.lemmas.Bool.{cases_lt}
 use Rattle.std.proofs.lemmas.Bool.Decides.{nat_tests}
-use Rattle.xfs_dirbuild.specs.Index.{share_of, first_of}
+use Rattle.xfs_disk.specs.Shares.{share_of, first_of_share}
 
-pub share_next : (n m i : ℕ) → first_of n m (i + 1) ≡ first_of n m i + share_of n m i
+pub share_next : (n m i : ℕ) → first_of_share n m (i + 1) ≡ first_of_share n m i + share_of n m i
 share_next n m i = grind (arith, nat_tests)
 
-pub first_end : (n m : ℕ) → 1 ≤ m → first_of n m m ≡ n
+pub first_end : (n m : ℕ) → 1 ≤ m → first_of_share n m m ≡ n
 first_end n m some =
     let whole : n / m * m + n % m ≡ n = div-add-mod' n m in
     let short : n % m < m = mod-lt n (omega arith) in
     omega (arith, whole, short)
 
-first_up : (n m i j : ℕ) → i ≤ j → first_of n m i ≤ first_of n m j
+first_up : (n m i j : ℕ) → i ≤ j → first_of_share n m i ≤ first_of_share n m j
 first_up n m i j up =
     let more : i * (n / m) ≤ j * (n / m) = mul-le-mul_right (n / m) up in
     omega (arith, more)
 
-pub share_inside : (n m i : ℕ) → i < m → first_of n m i + share_of n m i ≤ n
+pub share_inside : (n m i : ℕ) → i < m → first_of_share n m i + share_of n m i ≤ n
 share_inside n m i inside =
     let next = share_next n m i in
     let end = first_end n m (omega arith) in

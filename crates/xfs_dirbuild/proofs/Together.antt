@@ -7,10 +7,10 @@ use Rattle.std.proofs.lemmas.Bool.{and_from}
 use Rattle.std.proofs.lemmas.Bool.Decides.{nat_tests}
 use Rattle.xfs_dirdata.specs.declared.records.EntryRec.{EntryRec}
 use Rattle.xfs_dirdata.specs.Written.{in_directory}
-use Rattle.xfs_dirindex.specs.Mapped.{Mapped, block_of, is_data}
+use Rattle.xfs_dirindex.specs.Mapped.{Mapped, mapped_block, is_data}
 use Rattle.xfs_dirindex.specs.Data.{have_no_dots, area_in, is_later, are_data, pairs_in, all_pairs, best_in, all_bests}
-use Rattle.xfs_dirbuild.specs.Filling.{ahead, filled, all_entries, shares, pairs_from}
-use Rattle.xfs_dirbuild.specs.Placed.{entries_in}
+use Rattle.xfs_dirbuild.specs.Filling.{ahead, filled, all_entries, filled_shares, pairs_from}
+use Rattle.xfs_dirbuild.specs.Placed.{built_entries}
 use Rattle.xfs_dirbuild.proofs.Filled.{filled-fits, filled-some}
 use Rattle.xfs_dirbuild.proofs.Standing.{stand, filter-kept, filter-lost, all-stand, all-join}
 use Rattle.xfs_dirbuild.proofs.DataPlaced.{Both, NoDots, no-dots-each, flat-filled, pairs-all, bests_from, bests-all, entries-all, later-all, later-beyond, self_of, parent_of, first-one}
@@ -19,7 +19,7 @@ use Rattle.xfs_dirbuild.proofs.DataPlaced.{Both, NoDots, no-dots-each, flat-fill
 pub record IsHeaded (dir parent : ℕ) (es : List EntryRec) : Type 0 where
   pub x : List EntryRec
   pub rest : List (List EntryRec)
-  pub is : shares dir parent es ≡ (self_of dir ∷ parent_of dir parent ∷ x) ∷ rest
+  pub is : filled_shares dir parent es ≡ (self_of dir ∷ parent_of dir parent ∷ x) ∷ rest
   pub none : NoDots (x ∷ rest)
 
 headed-by : (dir parent : ℕ) (es : List EntryRec) (bs : List (List EntryRec)) → have_no_dots es ≡ true → filled 96 es ≡ bs → 1 ≤ length bs → IsHeaded dir parent es
@@ -40,9 +40,9 @@ headed dir parent es none = headed-by dir parent es (filled 96 es) none refl (fi
 -- what they state
 pub record IsTogether (dir parent : ℕ) (es : List EntryRec) (ms : List Mapped) : Type 0 where
   pub sound : are_data dir ms ≡ true
-  pub pairs_are : all_pairs dir ms ≡ pairs_from 0 (shares dir parent es)
-  pub bests_are : all_bests dir ms ≡ bests_from 0 (shares dir parent es)
-  pub entries_are : entries_in dir false ms ≡ map (in_directory dir) (all_entries dir parent es)
+  pub pairs_are : all_pairs dir ms ≡ pairs_from 0 (filled_shares dir parent es)
+  pub bests_are : all_bests dir ms ≡ bests_from 0 (filled_shares dir parent es)
+  pub entries_are : built_entries dir false ms ≡ map (in_directory dir) (all_entries dir parent es)
 
 sound-all : (dir parent : ℕ) (x : List EntryRec) (rest : List (List EntryRec)) (bs : List (List ℕ)) (others : List Mapped)
     → Both ((self_of dir ∷ parent_of dir parent ∷ x) ∷ rest) bs → NoDots (x ∷ rest) → list_all (is_later dir) others ≡ true
@@ -56,7 +56,7 @@ others-later : (dir first : ℕ) (bs : List (List ℕ)) → 0x800000 ≤ first �
 others-later dir first bs high =
     all-stand (is_later dir) first bs (λ k less.
     let beyond : nat_lt (first + k) 0x800000 ≡ false = grind (arith, nat_tests) in
-    later-beyond dir (block_of (first + k) _) beyond)
+    later-beyond dir (mapped_block (first + k) _) beyond)
 
 data-alone : (bs is fs : List (List ℕ)) → length bs ≤ 0x800000
     → filter is_data (stand 0 bs ++ (stand 0x800000 is ++ stand 0x1000000 fs)) ≡ stand 0 bs
@@ -69,11 +69,11 @@ data-alone bs is fs few =
     (filter-lost is_data 0x1000000 fs (λ m low high. grind (arith, nat_tests))))
     ∙ append-nil (stand 0 bs))
 
-pub together : (dir parent : ℕ) (es : List EntryRec) (bs is fs : List (List ℕ)) → have_no_dots es ≡ true → Both (shares dir parent es) bs
+pub together : (dir parent : ℕ) (es : List EntryRec) (bs is fs : List (List ℕ)) → have_no_dots es ≡ true → Both (filled_shares dir parent es) bs
     → length bs ≤ 0x800000 → IsTogether dir parent es (stand 0 bs ++ (stand 0x800000 is ++ stand 0x1000000 fs))
-unfolding all_pairs all_bests entries_in
+unfolding all_pairs all_bests built_entries
 together dir parent es bs is fs none both few =
-    let ss = shares dir parent es in
+    let ss = filled_shares dir parent es in
     let head = headed dir parent es none in
     let alone = data-alone bs is fs few in
     record {

@@ -11,15 +11,15 @@ use Rattle.xfs_word.proofs.Written.{keeps}
 use Rattle.xfs_dirdata.specs.declared.records.EntryRec.{EntryRec}
 use Rattle.xfs_dirindex.specs.declared.pairs.Pair.{Pair}
 use Rattle.xfs_dirindex.specs.declared.data.Best.{Best}
-use Rattle.xfs_dirindex.specs.Mapped.{Mapped, block_of, mapped, is_beyond}
+use Rattle.xfs_dirindex.specs.Mapped.{Mapped, mapped_block, mapped, is_beyond}
 use Rattle.xfs_dirindex.specs.Pairs.{pairs_at, is_index}
-use Rattle.xfs_dirindex.specs.Sorted.{IsRanked}
+use Rattle.xfs_dirindex.specs.Sorted.{PairsRanked}
 use Rattle.xfs_dirindex.specs.Data.{have_no_dots, all_pairs, all_bests}
 use Rattle.xfs_dirindex.specs.Leaf.{end_of, leaf_count, leaf_stale, value_count, are_values, is_leaf, is_only_leaf, is_whole_leaf}
-use Rattle.xfs_dirbuild.specs.declared.forms.Form.TheVariants.{Leaf}
-use Rattle.xfs_dirbuild.specs.Filling.{shares, all_entries, pairs_from, rest_in}
-use Rattle.xfs_dirbuild.specs.Index.{IsPointer, IsLeafBlock, IsPlaced}
-use Rattle.xfs_dirbuild.specs.Placed.{IsDataBlock, file_blocks, ArePlaced, IsWhole}
+use Rattle.xfs_dirbuild.specs.declared.forms.DirectoryForm.TheVariants.{Leaf}
+use Rattle.xfs_dirbuild.specs.Filling.{filled_shares, all_entries, pairs_from, rest_in}
+use Rattle.xfs_dirbuild.specs.Index.{IsPointer, IsLeafBlock, IsPlacedBlock}
+use Rattle.xfs_dirbuild.specs.Placed.{IsBuiltDataBlock, file_blocks, ArePlacedBlocks, IsWhole}
 use Rattle.xfs_dirbuild.proofs.Filled.{filled-some}
 use Rattle.xfs_dirbuild.proofs.Pairs.{pairs_at-same}
 use Rattle.xfs_dirbuild.proofs.Standing.{stand, split, filter-lost}
@@ -28,7 +28,7 @@ use Rattle.xfs_dirbuild.proofs.Indexes.{index-sound, values-are}
 use Rattle.xfs_dirbuild.proofs.Together.{together}
 use Rattle.xfs_dirbuild.proofs.PlacedBlocks.{data-blocks, index-block}
 
-leaf-placed : (pairs : List Pair) (values : List ℕ) (b p : List ℕ) → 64 + 8 * length pairs + 2 * length values + 4 ≤ 4096 → IsLeafBlock pairs values b → IsPlaced 12 b p
+leaf-placed : (pairs : List Pair) (values : List ℕ) (b p : List ℕ) → 64 + 8 * length pairs + 2 * length values + 4 ≤ 4096 → IsLeafBlock pairs values b → IsPlacedBlock 12 b p
     → IsLeafBlock pairs values p
 leaf-placed pairs values b p fit was placed =
     let stays = keeps b p 12 44 placed.same in
@@ -44,7 +44,7 @@ leaf-placed pairs values b p fit was placed =
     }
 
 leaf-sound : (ess : List (List EntryRec)) (pairs : List Pair) (p : List ℕ) → 1 ≤ length ess → 64 + 8 * length pairs + 2 * length (map rest_in ess) + 4 ≤ 4096
-    → IsPermutation (pairs_from 0 ess) pairs → IsRanked pairs → All IsPointer pairs → IsLeafBlock pairs (map rest_in ess) p
+    → IsPermutation (pairs_from 0 ess) pairs → PairsRanked pairs → All IsPointer pairs → IsLeafBlock pairs (map rest_in ess) p
     → is_leaf (bests_from 0 ess) (pairs_from 0 ess) p ≡ true
 unfolding is_leaf
 leaf-sound ess pairs p some fit moved ranked pointers block =
@@ -67,15 +67,15 @@ leaf-sound ess pairs p some fit moved ranked pointers block =
     and_from _ _ (and_from _ _ (and_from _ _ (and_from _ _ magic room) index) covers) right
 
 pub whole-leaf : (dir parent d : ℕ) (es : List EntryRec) (built placed : List (List ℕ)) (pairs : List Pair) → have_no_dots es ≡ true
-    → d ≡ length (shares dir parent es) → d ≤ 0x800000 → length built ≡ d + 1
-    → ((k : ℕ) → k < d → IsDataBlock (get_or (shares dir parent es) k []) (get_or built k []))
-    → IsLeafBlock pairs (map rest_in (shares dir parent es)) (get_or built d [])
-    → 64 + 8 * length pairs + 2 * length (map rest_in (shares dir parent es)) + 4 ≤ 4096
-    → IsPermutation (pairs_from 0 (shares dir parent es)) pairs → IsRanked pairs → All IsPointer pairs
-    → ArePlaced d 1 built placed → IsWhole Leaf dir parent (4096 * d) es (mapped (file_blocks d 1 0) placed)
+    → d ≡ length (filled_shares dir parent es) → d ≤ 0x800000 → length built ≡ d + 1
+    → ((k : ℕ) → k < d → IsBuiltDataBlock (get_or (filled_shares dir parent es) k []) (get_or built k []))
+    → IsLeafBlock pairs (map rest_in (filled_shares dir parent es)) (get_or built d [])
+    → 64 + 8 * length pairs + 2 * length (map rest_in (filled_shares dir parent es)) + 4 ≤ 4096
+    → IsPermutation (pairs_from 0 (filled_shares dir parent es)) pairs → PairsRanked pairs → All IsPointer pairs
+    → ArePlacedBlocks d 1 built placed → IsWhole Leaf dir parent (4096 * d) es (mapped (file_blocks d 1 0) placed)
 unfolding is_whole_leaf
 whole-leaf dir parent d es built placed pairs none count few long each leaf fit moved ranked pointers are =
-    let ss = shares dir parent es in
+    let ss = filled_shares dir parent es in
     let p = get_or placed d [] in
     let size : length placed ≡ d + 1 + 0 = omega (arith, are.count, long) in
     let front : drop d placed ≡ get_or placed d [] ∷ drop (d + 1) placed = drop_more placed d [] (omega arith) in
@@ -86,16 +86,16 @@ whole-leaf dir parent d es built placed pairs none count few long each leaf fit 
     ∙ ap₂ (λ (bs cs : List (List ℕ)). stand 0 (take d placed) ++ (stand 0x800000 (take 1 bs) ++ stand 0x1000000 cs)) front last in
     let both = data-blocks d 1 ss built placed are count (omega arith) each in
     let here : d + 0 ≡ d = omega arith in
-    let there : IsPlaced 12 (get_or built d []) (get_or placed d []) =
-    subst (λ (n : ℕ). IsPlaced 12 (get_or built n []) (get_or placed n [])) here (index-block d 1 0 built placed are (omega arith) (omega arith)) in
+    let there : IsPlacedBlock 12 (get_or built d []) (get_or placed d []) =
+    subst (λ (n : ℕ). IsPlacedBlock 12 (get_or built n []) (get_or placed n [])) here (index-block d 1 0 built placed are (omega arith) (omega arith)) in
     let block = leaf-placed pairs (map rest_in ss) (get_or built d []) p fit leaf there in
     let short : length (take d placed) ≤ 0x800000 = omega (arith, length-take-le d placed (omega arith)) in
     let all = together dir parent es (take d placed) (p ∷ []) [] none both short in
     let some = filled-some 64 (all_entries dir parent es) in
     let end : end_of (all_bests dir ms) ≡ d = ap end_of all.bests_are ∙ (end-of 0 ss some ∙ omega (arith, count)) in
-    let beyond : filter is_beyond ms ≡ block_of 0x800000 p ∷ [] =
+    let beyond : filter is_beyond ms ≡ mapped_block 0x800000 p ∷ [] =
     filter-append is_beyond (stand 0 (take d placed)) (stand 0x800000 (p ∷ []) ++ stand 0x1000000 [])
-    ∙ ap (λ (xs : List Mapped). xs ++ (block_of 0x800000 p ∷ [])) (filter-lost is_beyond 0 (take d placed) (λ m low high. grind (arith, nat_tests))) in
+    ∙ ap (λ (xs : List Mapped). xs ++ (mapped_block 0x800000 p ∷ [])) (filter-lost is_beyond 0 (take d placed) (λ m low high. grind (arith, nat_tests))) in
     let only : is_only_leaf (all_bests dir ms) (all_pairs dir ms) (filter is_beyond ms) ≡ true =
     ap₂ (λ (b : List Best) (q : List Pair). is_only_leaf b q (filter is_beyond ms)) all.bests_are all.pairs_are
     ∙ (ap (is_only_leaf (bests_from 0 ss) (pairs_from 0 ss)) beyond ∙ and_from _ _ refl (leaf-sound ss pairs p some fit moved ranked pointers block)) in

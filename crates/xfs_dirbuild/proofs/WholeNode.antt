@@ -11,20 +11,20 @@ use Rattle.xfs_word.proofs.Written.{keeps}
 use Rattle.xfs_dirdata.specs.declared.records.EntryRec.{EntryRec}
 use Rattle.xfs_dirindex.specs.declared.pairs.Pair.{Pair}
 use Rattle.xfs_dirindex.specs.declared.data.Best.{Best}
-use Rattle.xfs_dirindex.specs.Mapped.{Mapped, block_of, mapped, is_free, is_index_block}
-use Rattle.xfs_dirindex.specs.Lookup.{bytes_of}
-use Rattle.xfs_dirindex.specs.Pairs.{is_stale, are_same, is_index}
-use Rattle.xfs_dirindex.specs.Sorted.{IsRanked}
+use Rattle.xfs_dirindex.specs.Mapped.{Mapped, mapped_block, mapped, is_free_index, is_index_block}
+use Rattle.xfs_dirindex.specs.Lookup.{bytes_mapped}
+use Rattle.xfs_dirindex.specs.Pairs.{is_stale, same_pairs, is_index}
+use Rattle.xfs_dirindex.specs.Sorted.{PairsRanked}
 use Rattle.xfs_dirindex.specs.Data.{have_no_dots, all_pairs, all_bests}
-use Rattle.xfs_dirindex.specs.Leaf.{best_at, end_of, are_values}
-use Rattle.xfs_dirindex.specs.IndexTree.{place_of, all_places, index_places, are_exactly, are_due, is_tree}
-use Rattle.xfs_dirindex.specs.FreeBlocks.{free_count, is_used, used_in, has_values, is_free_sound, is_covered, has_value, are_free}
+use Rattle.xfs_dirindex.specs.Leaf.{best_length_of, end_of, are_values}
+use Rattle.xfs_dirindex.specs.IndexTree.{pair_of_place, index_tree_all_places, index_places, are_exactly, are_due, is_tree}
+use Rattle.xfs_dirindex.specs.FreeBlocks.{free_count, is_used_value, used_in, has_values, is_free_sound, is_covered, has_value, are_free}
 use Rattle.xfs_dirindex.specs.Node.{is_whole_node}
-use Rattle.xfs_dirbuild.specs.declared.forms.Form.TheVariants.{Node}
-use Rattle.xfs_dirbuild.specs.Filling.{shares, all_entries, pairs_from, rest_in}
-use Rattle.xfs_dirbuild.specs.Index.{IsPointer, IsPlaced, Holds, places_in, IsTreeOf}
-use Rattle.xfs_dirbuild.specs.FreeBlocks.{IsFreeBlock, values_in}
-use Rattle.xfs_dirbuild.specs.Placed.{IsDataBlock, file_blocks, ArePlaced, IsWhole}
+use Rattle.xfs_dirbuild.specs.declared.forms.DirectoryForm.TheVariants.{Node}
+use Rattle.xfs_dirbuild.specs.Filling.{filled_shares, all_entries, pairs_from, rest_in}
+use Rattle.xfs_dirbuild.specs.Index.{IsPointer, IsPlacedBlock, HoldsIndex, leaf_places, IsTreeOf}
+use Rattle.xfs_dirbuild.specs.FreeBlocks.{IsBuiltFreeBlock, values_in}
+use Rattle.xfs_dirbuild.specs.Placed.{IsBuiltDataBlock, file_blocks, ArePlacedBlocks, IsWhole}
 use Rattle.xfs_dirbuild.proofs.Filled.{filled-some}
 use Rattle.xfs_dirbuild.proofs.Rows.{none-stale}
 use Rattle.xfs_dirbuild.proofs.Standing.{stand, split, filter-kept, filter-lost, all-stand, all-join, bytes-there, bytes-past}
@@ -34,19 +34,19 @@ use Rattle.xfs_dirbuild.proofs.Together.{together}
 use Rattle.xfs_dirbuild.proofs.PlacedBlocks.{data-blocks, index-block, free-block}
 
 -- the places of the index blocks
-stand-places : (a : ℕ) (bs : List (List ℕ)) → map (λ (m : Mapped). place_of m.offset) (stand (0x800000 + a) bs)
-    ≡ map (λ k. place_of (0x800000 + k)) (range_with_len a (length bs))
+stand-places : (a : ℕ) (bs : List (List ℕ)) → map (λ (m : Mapped). pair_of_place m.offset) (stand (0x800000 + a) bs)
+    ≡ map (λ k. pair_of_place (0x800000 + k)) (range_with_len a (length bs))
 stand-places a [] = refl
 stand-places a (b ∷ bs) =
     let on : 0x800000 + a + 1 ≡ 0x800000 + (a + 1) = omega arith in
-    ap (λ (ps : List Pair). place_of (0x800000 + a) ∷ ps)
-    (ap (λ (n : ℕ). map (λ (m : Mapped). place_of m.offset) (stand n bs)) on ∙ stand-places (a + 1) bs)
+    ap (λ (ps : List Pair). pair_of_place (0x800000 + a) ∷ ps)
+    (ap (λ (n : ℕ). map (λ (m : Mapped). pair_of_place m.offset) (stand n bs)) on ∙ stand-places (a + 1) bs)
 
 index-alone : (bs is fs : List (List ℕ)) → length bs ≤ 0x800000 → length is ≤ 0x800000
-    → index_places (stand 0 bs ++ (stand 0x800000 is ++ stand 0x1000000 fs)) ≡ places_in 0 (length is)
-unfolding index_places places_in
+    → index_places (stand 0 bs ++ (stand 0x800000 is ++ stand 0x1000000 fs)) ≡ leaf_places 0 (length is)
+unfolding index_places leaf_places
 index-alone bs is fs few some =
-    ap (map (λ (m : Mapped). place_of m.offset))
+    ap (map (λ (m : Mapped). pair_of_place m.offset))
     (filter-append is_index_block (stand 0 bs) (stand 0x800000 is ++ stand 0x1000000 fs)
     ∙ (ap₂ (λ (xs ys : List Mapped). xs ++ ys) (filter-lost is_index_block 0 bs (λ m low high. grind (arith, nat_tests)))
     (filter-append is_index_block (stand 0x800000 is) (stand 0x1000000 fs)
@@ -58,19 +58,19 @@ index-alone bs is fs few some =
 exactly : (ms : List Mapped) (places : List Pair) (wanted : List Pair) → places ≡ wanted → index_places ms ≡ wanted → are_exactly ms places ≡ true
 unfolding are_exactly
 exactly ms places wanted one two =
-    ap₂ (λ (a b : List Pair). length a == length b && are_same a b) one two
+    ap₂ (λ (a b : List Pair). length a == length b && same_pairs a b) one two
     ∙ and_from _ _ (eq-eqb (length wanted) (length wanted) refl) (same-each wanted wanted (λ p. refl))
 
-tree-sound : (ms : List Mapped) (count : ℕ) (pairs due all : List Pair) → IsTreeOf ms count pairs → index_places ms ≡ places_in 0 count → all ≡ due
-    → IsPermutation due pairs → IsRanked pairs → All IsPointer pairs → is_tree ms all ≡ true
+tree-sound : (ms : List Mapped) (count : ℕ) (pairs due all : List Pair) → IsTreeOf ms count pairs → index_places ms ≡ leaf_places 0 count → all ≡ due
+    → IsPermutation due pairs → PairsRanked pairs → All IsPointer pairs → is_tree ms all ≡ true
 unfolding is_tree are_due
 tree-sound ms count pairs due all tree places all_is moved ranked pointers =
-    and_from _ _ (and_from _ _ tree.rules (exactly ms (all_places ms) (places_in 0 count) tree.places places))
+    and_from _ _ (and_from _ _ tree.rules (exactly ms (index_tree_all_places ms) (leaf_places 0 count) tree.places places))
     (ap₂ (λ (a b : List Pair). is_index a (count_by is_stale a) b) tree.pairs_are all_is
     ∙ index-sound pairs due (count_by is_stale pairs) moved ranked pointers (none-stale pairs pointers))
 
 -- the free blocks
-free-placed : (first : ℕ) (values b p : List ℕ) → IsFreeBlock first values b → IsPlaced 4 b p → IsFreeBlock first values p
+free-placed : (first : ℕ) (values b p : List ℕ) → IsBuiltFreeBlock first values b → IsPlacedBlock 4 b p → IsBuiltFreeBlock first values p
 free-placed first values b p was placed =
     let stays = keeps b p 4 44 placed.same in
     record {
@@ -91,18 +91,18 @@ value-in vs i j less =
       few,
     )
 
-used-all : (ess : List (List EntryRec)) (i : ℕ) (p : List ℕ) → IsFreeBlock (2016 * i) (values_in (map rest_in ess) i) p
+used-all : (ess : List (List EntryRec)) (i : ℕ) (p : List ℕ) → IsBuiltFreeBlock (2016 * i) (values_in (map rest_in ess) i) p
     → used_in p (length (values_in (map rest_in ess) i)) ≡ length (values_in (map rest_in ess) i)
 unfolding used_in
 used-all ess i p block =
-    range-count (is_used p) 0 (length (values_in (map rest_in ess) i)) (λ j low high.
+    range-count (is_used_value p) 0 (length (values_in (map rest_in ess) i)) (λ j low high.
     let less : j < length (values_in (map rest_in ess) i) = omega arith in
     let is = value-in (map rest_in ess) i j less in
     let value : field_of p (64 + 2 * j) 2 ≡ get_or (map rest_in ess) (2016 * i + j) 0 = block.values_are.each j less ∙ is.0 in
     let small = rest-small ess (2016 * i + j) in
     ap not (ne_eqb (field_of p (64 + 2 * j) 2) 0xffff (λ e. absurd (omega (arith, e, value, small)))))
 
-values-sound : (ess : List (List EntryRec)) (i : ℕ) (p : List ℕ) → IsFreeBlock (2016 * i) (values_in (map rest_in ess) i) p → has_values (bests_from 0 ess) i p ≡ true
+values-sound : (ess : List (List EntryRec)) (i : ℕ) (p : List ℕ) → IsBuiltFreeBlock (2016 * i) (values_in (map rest_in ess) i) p → has_values (bests_from 0 ess) i p ≡ true
 unfolding has_values
 values-sound ess i p block =
     let vs = values_in (map rest_in ess) i in
@@ -119,11 +119,11 @@ values-sound ess i p block =
     ∙ values-are bests vs 64 (2016 * i) p block.values_are (λ j less.
     let is = value-in (map rest_in ess) i j less in
     let number : 2016 * i + j ≡ 0 + (2016 * i + j) = omega arith in
-    ap (best_at (bests_from 0 ess)) number ∙ (best-at 0 ess (2016 * i + j) (omega (arith, is.1, long)) ∙ sym is.0)) in
+    ap (best_length_of (bests_from 0 ess)) number ∙ (best-at 0 ess (2016 * i + j) (omega (arith, is.1, long)) ∙ sym is.0)) in
     and_from _ _ (and_from _ _ (and_from _ _ first few) used) right
 
-free-sound : (ess : List (List EntryRec)) (k : ℕ) (p : List ℕ) → IsFreeBlock (2016 * k) (values_in (map rest_in ess) k) p
-    → is_free_sound (bests_from 0 ess) (block_of (0x1000000 + k) p) ≡ true
+free-sound : (ess : List (List EntryRec)) (k : ℕ) (p : List ℕ) → IsBuiltFreeBlock (2016 * k) (values_in (map rest_in ess) k) p
+    → is_free_sound (bests_from 0 ess) (mapped_block (0x1000000 + k) p) ≡ true
 unfolding is_free_sound
 free-sound ess k p block =
     let free : nat_le 0x1000000 (0x1000000 + k) ≡ true = grind (arith, nat_tests) in
@@ -131,7 +131,7 @@ free-sound ess k p block =
     ap (λ (t : Bool). if t then has_values (bests_from 0 ess) (0x1000000 + k - 0x1000000) p else true) free
     ∙ (ap (λ (n : ℕ). has_values (bests_from 0 ess) n p) number ∙ values-sound ess k p block)
 
-not-free : (bests : List Best) (m : Mapped) → is_free m ≡ false → is_free_sound bests m ≡ true
+not-free : (bests : List Best) (m : Mapped) → is_free_index m ≡ false → is_free_sound bests m ≡ true
 unfolding is_free_sound
 not-free bests m is = ap (λ (t : Bool). if t then has_values bests (m.offset - 0x1000000) m.bytes else true) is
 
@@ -144,7 +144,7 @@ covered b p n long count less =
 -- all free blocks hold what they have to
 pub record AreFree (ess : List (List EntryRec)) (fs : List (List ℕ)) : Type 0 where
   pub long : (k : ℕ) → k < length fs → length (get_or fs k []) ≡ 4096
-  pub each : (k : ℕ) → k < length fs → IsFreeBlock (2016 * k) (values_in (map rest_in ess) k) (get_or fs k [])
+  pub each : (k : ℕ) → k < length fs → IsBuiltFreeBlock (2016 * k) (values_in (map rest_in ess) k) (get_or fs k [])
   pub count : length fs ≡ (length ess + 2015) / 2016
 
 all-free : (ess : List (List EntryRec)) (bs is fs : List (List ℕ)) (bests : List Best) → length bs ≤ 0x800000 → length is ≤ 0x800000 → AreFree ess fs
@@ -156,11 +156,11 @@ all-free ess bs is fs bests few some free bests_are =
     let data_free : list_all (is_free_sound (bests_from 0 ess)) (stand 0 bs) ≡ true =
     all-stand (is_free_sound (bests_from 0 ess)) 0 bs (λ k less.
     let low : nat_le 0x1000000 (0 + k) ≡ false = grind (arith, nat_tests) in
-    not-free (bests_from 0 ess) (block_of (0 + k) (get_or bs k [])) low) in
+    not-free (bests_from 0 ess) (mapped_block (0 + k) (get_or bs k [])) low) in
     let index_free : list_all (is_free_sound (bests_from 0 ess)) (stand 0x800000 is) ≡ true =
     all-stand (is_free_sound (bests_from 0 ess)) 0x800000 is (λ k less.
     let low : nat_le 0x1000000 (0x800000 + k) ≡ false = grind (arith, nat_tests) in
-    not-free (bests_from 0 ess) (block_of (0x800000 + k) (get_or is k [])) low) in
+    not-free (bests_from 0 ess) (mapped_block (0x800000 + k) (get_or is k [])) low) in
     let free_free : list_all (is_free_sound (bests_from 0 ess)) (stand 0x1000000 fs) ≡ true =
     all-stand (is_free_sound (bests_from 0 ess)) 0x1000000 fs (λ k less. free-sound ess k (get_or fs k []) (free.each k less)) in
     let sound : list_all (is_free_sound (bests_from 0 ess)) ms ≡ true =
@@ -172,10 +172,10 @@ all-free ess bs is fs bests few some free bests_are =
     let q = (0 + k) / 2016 in
     let inside : (0 + k) / 2016 < length fs = omega (arith, free.count) in
     let p = get_or fs ((0 + k) / 2016) [] in
-    let bytes : bytes_of ms (0x1000000 + (0 + k) / 2016) ≡ get_or fs ((0 + k) / 2016) [] =
+    let bytes : bytes_mapped ms (0x1000000 + (0 + k) / 2016) ≡ get_or fs ((0 + k) / 2016) [] =
     bytes-past 0 bs (stand 0x800000 is ++ stand 0x1000000 fs) (0x1000000 + (0 + k) / 2016) (omega arith)
     ∙ (bytes-past 0x800000 is (stand 0x1000000 fs) (0x1000000 + (0 + k) / 2016) (omega arith)
-    ∙ (ap (λ (xs : List Mapped). bytes_of xs (0x1000000 + (0 + k) / 2016)) (sym (append-nil (stand 0x1000000 fs)))
+    ∙ (ap (λ (xs : List Mapped). bytes_mapped xs (0x1000000 + (0 + k) / 2016)) (sym (append-nil (stand 0x1000000 fs)))
     ∙ bytes-there 0x1000000 fs [] ((0 + k) / 2016) inside)) in
     let block = free.each ((0 + k) / 2016) inside in
     let most = length-take 2016 (drop (2016 * ((0 + k) / 2016)) (map rest_in ess)) in
@@ -186,15 +186,15 @@ all-free ess bs is fs bests few some free bests_are =
     ap (λ (b : List Best). list_all (is_free_sound b) ms && list_all (has_value ms) b) bests_are ∙ and_from _ _ sound valued
 
 pub whole-node : (dir parent d i f : ℕ) (es : List EntryRec) (built placed : List (List ℕ)) (pairs : List Pair) → have_no_dots es ≡ true
-    → d ≡ length (shares dir parent es) → d ≤ 0x800000 → i ≤ 0x800000 → f ≡ (d + 2015) / 2016 → length built ≡ d + i + f
-    → ((k : ℕ) → k < d → IsDataBlock (get_or (shares dir parent es) k []) (get_or built k []))
-    → ((ms : List Mapped) → Holds ms built d 0 i → IsTreeOf ms i pairs)
-    → ((k : ℕ) → k < f → IsFreeBlock (2016 * k) (values_in (map rest_in (shares dir parent es)) k) (get_or built (d + i + k) []))
-    → IsPermutation (pairs_from 0 (shares dir parent es)) pairs → IsRanked pairs → All IsPointer pairs
-    → ArePlaced d i built placed → IsWhole Node dir parent (4096 * d) es (mapped (file_blocks d i f) placed)
+    → d ≡ length (filled_shares dir parent es) → d ≤ 0x800000 → i ≤ 0x800000 → f ≡ (d + 2015) / 2016 → length built ≡ d + i + f
+    → ((k : ℕ) → k < d → IsBuiltDataBlock (get_or (filled_shares dir parent es) k []) (get_or built k []))
+    → ((ms : List Mapped) → HoldsIndex ms built d 0 i → IsTreeOf ms i pairs)
+    → ((k : ℕ) → k < f → IsBuiltFreeBlock (2016 * k) (values_in (map rest_in (filled_shares dir parent es)) k) (get_or built (d + i + k) []))
+    → IsPermutation (pairs_from 0 (filled_shares dir parent es)) pairs → PairsRanked pairs → All IsPointer pairs
+    → ArePlacedBlocks d i built placed → IsWhole Node dir parent (4096 * d) es (mapped (file_blocks d i f) placed)
 unfolding is_whole_node
 whole-node dir parent d i f es built placed pairs none count few some frees long each tree free moved ranked pointers are =
-    let ss = shares dir parent es in
+    let ss = filled_shares dir parent es in
     let bs = take d placed in
     let is = take i (drop d placed) in
     let fs = drop (d + i) placed in
@@ -210,29 +210,29 @@ whole-node dir parent d i f es built placed pairs none count few some frees long
     let all = together dir parent es bs is fs none both short in
     let any = filled-some 64 (all_entries dir parent es) in
     let end : end_of (all_bests dir ms) ≡ d = ap end_of all.bests_are ∙ (end-of 0 ss any ∙ omega (arith, count)) in
-    let holds : Holds ms built d 0 i = record {
+    let holds : HoldsIndex ms built d 0 i = record {
       each = λ k less.
           let inside : k < length (take i (drop d placed)) = omega (arith, is_long) in
           let there : d + k ≡ d + 0 + k = omega arith in
           let read : get_or (take i (drop d placed)) k [] ≡ get_or placed (d + k) [] =
           get_or-take i (drop d placed) k [] less ∙ get_or-drop d placed k [] in
-          let bytes : bytes_of ms (0x800000 + k) ≡ get_or placed (d + k) [] =
+          let bytes : bytes_mapped ms (0x800000 + k) ≡ get_or placed (d + k) [] =
           bytes-past 0 bs (stand 0x800000 is ++ stand 0x1000000 fs) (0x800000 + k) (omega (arith, short))
           ∙ (bytes-there 0x800000 is (stand 0x1000000 fs) k inside ∙ read) in
-          subst (λ (b : List ℕ). IsPlaced 12 (get_or built (d + 0 + k) []) b) (sym bytes)
-          (subst (λ (n : ℕ). IsPlaced 12 (get_or built n []) (get_or placed (d + k) [])) there (index-block d i k built placed are less (omega (arith, long))));
+          subst (λ (b : List ℕ). IsPlacedBlock 12 (get_or built (d + 0 + k) []) b) (sym bytes)
+          (subst (λ (n : ℕ). IsPlacedBlock 12 (get_or built n []) (get_or placed (d + k) [])) there (index-block d i k built placed are less (omega (arith, long))));
     } in
     let are_free_blocks : AreFree ss (drop (d + i) placed) = record {
       long = λ k less.
           ap length (get_or-drop (d + i) placed k [])
           ∙ (free-block d i k built placed are (omega (arith, fs_long, long))).long;
       each = λ k less.
-          subst (λ (b : List ℕ). IsFreeBlock (2016 * k) (values_in (map rest_in ss) k) b) (sym (get_or-drop (d + i) placed k []))
+          subst (λ (b : List ℕ). IsBuiltFreeBlock (2016 * k) (values_in (map rest_in ss) k) b) (sym (get_or-drop (d + i) placed k []))
           (free-placed (2016 * k) (values_in (map rest_in ss) k) (get_or built (d + i + k) []) (get_or placed (d + i + k) []) (free k (omega (arith, fs_long)))
           (free-block d i k built placed are (omega (arith, fs_long, long))));
       count = fs_long ∙ (frees ∙ ap (λ (n : ℕ). (n + 2015) / 2016) count);
     } in
-    let places = index-alone bs is fs short narrow ∙ ap (places_in 0) is_long in
+    let places = index-alone bs is fs short narrow ∙ ap (leaf_places 0) is_long in
     let index = tree-sound ms i pairs (pairs_from 0 ss) (all_pairs dir ms) (tree ms holds) places all.pairs_are moved ranked pointers in
     let right = all-free ss bs is fs (all_bests dir ms) short narrow are_free_blocks all.bests_are in
     subst (λ (xs : List Mapped). IsWhole Node dir parent (4096 * d) es xs) (sym (split d i f placed size)) (record {

@@ -2,18 +2,19 @@
 -- that no field has (chapter "Directories").
 use Rattle.std.specs.Prelude.{ℕ, ◌+◌, ◌-◌, ◌*◌, List, [], ◌∷◌, ◌++◌, map, length, take, drop}
 use Rattle.std.specs.List.{concat, flat_map, range_with_len}
+use Rattle.xfs_word.specs.Field.{zeros}
+use Rattle.xfs_disk.specs.Shares.{share_of, first_of_share}
 use Rattle.xfs_dirdata.specs.declared.records.EntryRec.{EntryRec}
-use Rattle.xfs_dirdata.specs.Written.{zeros}
 use Rattle.xfs_dirdata.specs.Bytes.{big_endian, data_bytes}
 use Rattle.xfs_dirindex.specs.declared.pairs.Pair.{Pair}
-use Rattle.xfs_dirindex.specs.IndexTree.{form_of}
+use Rattle.xfs_dirindex.specs.IndexTree.{magic_of_level}
 use Rattle.xfs_dirbuild.specs.Ranking.{in_rank}
-use Rattle.xfs_dirbuild.specs.declared.forms.Form.{Form}
-use Rattle.xfs_dirbuild.specs.declared.forms.Form.TheVariants.{Short, Single, Leaf, Node}
-use Rattle.xfs_dirbuild.specs.Filling.{all_entries, shares, pairs_from, rest_in}
+use Rattle.xfs_dirbuild.specs.declared.forms.DirectoryForm.{DirectoryForm}
+use Rattle.xfs_dirbuild.specs.declared.forms.DirectoryForm.TheVariants.{Short, Single, Leaf, Node}
+use Rattle.xfs_dirbuild.specs.Filling.{all_entries, filled_shares, pairs_from, rest_in}
 use Rattle.xfs_dirbuild.specs.Forms.{leaf_blocks, nodes_above, value_blocks}
 use Rattle.xfs_dirbuild.specs.FreeBlocks.{values_in}
-use Rattle.xfs_dirbuild.specs.Index.{share_of, first_of, before_at, next_at}
+use Rattle.xfs_dirbuild.specs.Index.{before_at, next_at}
 
 -- pairs one behind the other, of a hash and an address each
 unfoldable pub pairs_bytes : List Pair → List ℕ
@@ -47,7 +48,7 @@ leaf_block pairs values =
 -- level, and the pairs
 unfoldable pub index_block : ℕ → ℕ → ℕ → List Pair → List ℕ
 index_block level before next pairs =
-    concat (big_endian 4 next ∷ big_endian 4 before ∷ big_endian 2 (form_of level) ∷ zeros 46 ∷ big_endian 2 (length pairs)
+    concat (big_endian 4 next ∷ big_endian 4 before ∷ big_endian 2 (magic_of_level level) ∷ zeros 46 ∷ big_endian 2 (length pairs)
     ∷ big_endian 2 level ∷ zeros 4 ∷ pairs_bytes pairs ∷ zeros (4032 - 8 * length pairs) ∷ [])
 
 -- a free block: the magic number, the seal, the first data block whose value it has, the number of values, all of mapped
@@ -59,7 +60,7 @@ free_block first values =
 
 -- the pairs of block i of a row of so many blocks, among which pairs are shared out
 abbrev pub share_at : ℕ → List Pair → ℕ → List Pair
-share_at count pairs i = take (share_of (length pairs) count i) (drop (first_of (length pairs) count i) pairs)
+share_at count pairs i = take (share_of (length pairs) count i) (drop (first_of_share (length pairs) count i) pairs)
 
 -- block i of a row of the tree, which begins with block `first` of the index, and all blocks of the row
 abbrev pub row_block : ℕ → ℕ → ℕ → List Pair → ℕ → List ℕ
@@ -69,54 +70,54 @@ unfoldable pub row_blocks : ℕ → ℕ → ℕ → List Pair → List (List ℕ
 row_blocks level first count pairs = map (row_block level first count pairs) (range_with_len 0 count)
 
 -- the greatest hash of pairs in rank
-abbrev pub last_hash : List Pair → ℕ
-last_hash [] = 0
-last_hash (p ∷ []) = p.hash
-last_hash (p ∷ q ∷ ps) = last_hash (q ∷ ps)
+abbrev pub last_pair_hash : List Pair → ℕ
+last_pair_hash [] = 0
+last_pair_hash (p ∷ []) = p.hash
+last_pair_hash (p ∷ q ∷ ps) = last_pair_hash (q ∷ ps)
 
 -- the pair by which the row above names block i: its greatest hash, and its file block
 abbrev pub link_at : ℕ → ℕ → List Pair → ℕ → Pair
-link_at first count pairs i = record { hash = last_hash (share_at count pairs i); address = 0x800000 + (first + i) }
+link_at first count pairs i = record { hash = last_pair_hash (share_at count pairs i); address = 0x800000 + (first + i) }
 
 -- and those of all blocks of a row
-unfoldable pub links_of : ℕ → ℕ → List Pair → List Pair
-links_of first count pairs = map (link_at first count pairs) (range_with_len 0 count)
+unfoldable pub index_links : ℕ → ℕ → List Pair → List Pair
+index_links first count pairs = map (link_at first count pairs) (range_with_len 0 count)
 
 -- the tree over pairs in rank, with so many blocks in its rows: the root, and behind it level by level down to the leaves;
 -- two levels of nodes are enough for all that a directory can have
-abbrev pub rows_from : ℕ → ℕ → ℕ → List Pair → List (List ℕ)
-rows_from tops nodes leaves pairs =
-    let below = links_of (tops + nodes) leaves pairs in
-    row_blocks 2 0 tops (links_of tops nodes below) ++ (row_blocks 1 tops nodes below ++ row_blocks 0 (tops + nodes) leaves pairs)
+abbrev pub index_rows : ℕ → ℕ → ℕ → List Pair → List (List ℕ)
+index_rows tops nodes leaves pairs =
+    let below = index_links (tops + nodes) leaves pairs in
+    row_blocks 2 0 tops (index_links tops nodes below) ++ (row_blocks 1 tops nodes below ++ row_blocks 0 (tops + nodes) leaves pairs)
 
 -- the tree whose rows have as many blocks as they need
-unfoldable pub tree_blocks : List Pair → List (List ℕ)
-tree_blocks pairs =
+unfoldable pub index_tree_blocks : List Pair → List (List ℕ)
+index_tree_blocks pairs =
     let leaves = leaf_blocks (length pairs) in
-    rows_from (nodes_above (nodes_above leaves)) (nodes_above leaves) leaves pairs
+    index_rows (nodes_above (nodes_above leaves)) (nodes_above leaves) leaves pairs
 
 -- free block i of those with these values, and all of them
 abbrev pub free_block_at : List ℕ → ℕ → List ℕ
 free_block_at values i = free_block (2016 * i) (values_in values i)
 
-unfoldable pub free_blocks : List ℕ → List (List ℕ)
-free_blocks values = map (free_block_at values) (range_with_len 0 (value_blocks (length values)))
+unfoldable pub free_index_blocks : List ℕ → List (List ℕ)
+free_index_blocks values = map (free_block_at values) (range_with_len 0 (value_blocks (length values)))
 
 -- so many blocks of a bank from one on
-abbrev pub blocks_in : List (List ℕ) → ℕ → ℕ → List (List ℕ)
-blocks_in bank from count = take count (drop from bank)
+abbrev pub bank_part : List (List ℕ) → ℕ → ℕ → List (List ℕ)
+bank_part bank from count = take count (drop from bank)
 
 -- the pairs of the entries of data blocks, in rank
 abbrev pub index_of : List (List EntryRec) → List Pair
-index_of shares = in_rank (pairs_from 0 shares)
+index_of filled_shares = in_rank (pairs_from 0 filled_shares)
 
 -- the blocks that a directory has in a form
-unfoldable pub dir_blocks : Form → ℕ → ℕ → List EntryRec → List (List ℕ)
+unfoldable pub dir_blocks : DirectoryForm → ℕ → ℕ → List EntryRec → List (List ℕ)
 dir_blocks Short dir parent entries = []
 dir_blocks Single dir parent entries =
     single_block (all_entries dir parent entries) (index_of (all_entries dir parent entries ∷ [])) ∷ []
 dir_blocks Leaf dir parent entries =
-    map data_block (shares dir parent entries) ++ leaf_block (index_of (shares dir parent entries)) (map rest_in (shares dir parent entries)) ∷ []
+    map data_block (filled_shares dir parent entries) ++ leaf_block (index_of (filled_shares dir parent entries)) (map rest_in (filled_shares dir parent entries)) ∷ []
 dir_blocks Node dir parent entries =
-    map data_block (shares dir parent entries)
-    ++ (tree_blocks (index_of (shares dir parent entries)) ++ free_blocks (map rest_in (shares dir parent entries)))
+    map data_block (filled_shares dir parent entries)
+    ++ (index_tree_blocks (index_of (filled_shares dir parent entries)) ++ free_index_blocks (map rest_in (filled_shares dir parent entries)))

@@ -22,8 +22,8 @@ abbrev pub all_entries : ℕ → ℕ → List EntryRec → List EntryRec
 all_entries dir parent entries = first_entries (Some (dir, parent)) ++ entries
 
 -- the entries of each of its data blocks
-abbrev pub shares : ℕ → ℕ → List EntryRec → List (List EntryRec)
-shares dir parent entries = filled 64 (all_entries dir parent entries)
+abbrev pub filled_shares : ℕ → ℕ → List EntryRec → List (List EntryRec)
+filled_shares dir parent entries = filled 64 (all_entries dir parent entries)
 
 -- the pairs that are due for data blocks with these entries, from some block on
 abbrev pub pairs_from : ℕ → List (List EntryRec) → List Pair

@@ -3,8 +3,8 @@ use Rattle.std.specs.Prelude.{ℕ, Bool, ◌+◌, ◌*◌, ◌/◌, ◌&&◌, na
 use Rattle.xfs_dirdata.specs.Short.{index_size}
 use Rattle.xfs_dirdata.specs.Written.{data_length, short_length}
 use Rattle.xfs_dirdata.specs.declared.records.EntryRec.{EntryRec}
-use Rattle.xfs_dirbuild.specs.declared.forms.Form.{Form}
-use Rattle.xfs_dirbuild.specs.declared.forms.Form.TheVariants.{Short, Single, Leaf, Node}
+use Rattle.xfs_dirbuild.specs.declared.forms.DirectoryForm.{DirectoryForm}
+use Rattle.xfs_dirbuild.specs.declared.forms.DirectoryForm.TheVariants.{Short, Single, Leaf, Node}
 use Rattle.xfs_dirbuild.specs.Filling.{filled}
 
 -- a header, the entries with those of the directory and its parent, the pairs and the tail fit one block
@@ -24,7 +24,7 @@ unfoldable pub fits_leaf : List EntryRec → Bool
 fits_leaf entries = nat_le (64 + 8 * (length entries + 2) + 2 * data_count entries + 4) 4096
 
 -- the first form that fits
-abbrev pub form_of : List EntryRec → ℕ → Form
+abbrev pub form_of : List EntryRec → ℕ → DirectoryForm
 form_of entries fork =
     if fits_short entries fork then Short else if fits_single entries then Single else if fits_leaf entries then Leaf else Node
 
@@ -44,19 +44,19 @@ unfoldable pub value_blocks : ℕ → ℕ
 value_blocks values = (values + 2015) / 2016
 
 -- how many blocks of each kind a form has
-abbrev pub data_blocks_of : Form → List EntryRec → ℕ
+abbrev pub data_blocks_of : DirectoryForm → List EntryRec → ℕ
 data_blocks_of Short entries = 0
 data_blocks_of Single entries = 1
 data_blocks_of Leaf entries = data_count entries
 data_blocks_of Node entries = data_count entries
 
-abbrev pub index_blocks_of : Form → List EntryRec → ℕ
+abbrev pub index_blocks_of : DirectoryForm → List EntryRec → ℕ
 index_blocks_of Short entries = 0
 index_blocks_of Single entries = 0
 index_blocks_of Leaf entries = 1
 index_blocks_of Node entries = tree_count (length entries + 2)
 
-abbrev pub free_blocks_of : Form → List EntryRec → ℕ
+abbrev pub free_blocks_of : DirectoryForm → List EntryRec → ℕ
 free_blocks_of Short entries = 0
 free_blocks_of Single entries = 0
 free_blocks_of Leaf entries = 0

@@ -4,7 +4,7 @@ use Rattle.xfs_word.specs.Field.{field_of}
 use Rattle.xfs_dirbuild.specs.Index.{AreValues}
 
 -- a free block with these values, of data blocks from one on; all of them are mapped
-pub record IsFreeBlock (first : ℕ) (values : List ℕ) (bytes : List ℕ) : Type 0 where
+pub record IsBuiltFreeBlock (first : ℕ) (values : List ℕ) (bytes : List ℕ) : Type 0 where
   pub magic : field_of bytes 0 4 ≡ 0x58444633
   pub first_is : field_of bytes 48 4 ≡ first
   pub count : field_of bytes 52 4 ≡ length values

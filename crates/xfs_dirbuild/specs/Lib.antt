@@ -5,5 +5,5 @@ pub mod FreeBlocks
 pub mod Ranking
 pub mod Blocks
 pub mod Placed
-pub mod SingleBlock
 pub mod Names
+pub mod Private

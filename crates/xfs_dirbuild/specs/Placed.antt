@@ -12,13 +12,13 @@ use Rattle.xfs_dirindex.specs.Data.{area_in}
 use Rattle.xfs_dirindex.specs.Block.{is_whole_block}
 use Rattle.xfs_dirindex.specs.Leaf.{is_whole_leaf}
 use Rattle.xfs_dirindex.specs.Node.{is_whole_node}
-use Rattle.xfs_dirbuild.specs.declared.forms.Form.{Form}
-use Rattle.xfs_dirbuild.specs.declared.forms.Form.TheVariants.{Short, Single, Leaf, Node}
+use Rattle.xfs_dirbuild.specs.declared.forms.DirectoryForm.{DirectoryForm}
+use Rattle.xfs_dirbuild.specs.declared.forms.DirectoryForm.TheVariants.{Short, Single, Leaf, Node}
 use Rattle.xfs_dirbuild.specs.Filling.{all_entries}
-use Rattle.xfs_dirbuild.specs.Index.{IsPlaced, IsIndexed}
+use Rattle.xfs_dirbuild.specs.Index.{IsPlacedBlock, IsIndexed}
 
 -- a data block of the leaf and node form that has these entries
-pub record IsDataBlock (entries : List EntryRec) (bytes : List ℕ) : Type 0 where
+pub record IsBuiltDataBlock (entries : List EntryRec) (bytes : List ℕ) : Type 0 where
   pub magic : field_of bytes 0 4 ≡ 0x58444433
   pub long : length bytes ≡ 4096
   pub area : (dir : ℕ) → area_of dir bytes ≡ Some (written_area dir entries 4096)
@@ -39,41 +39,41 @@ abbrev pub seal_of : ℕ → ℕ → ℕ → ℕ
 seal_of datas indexes block = if nat_le datas block && nat_lt block (datas + indexes) then 12 else 4
 
 -- blocks are those that were built, but for their seals
-pub record ArePlaced (datas indexes : ℕ) (built placed : List (List ℕ)) : Type 0 where
+pub record ArePlacedBlocks (datas indexes : ℕ) (built placed : List (List ℕ)) : Type 0 where
   pub count : length placed ≡ length built
-  pub each : (k : ℕ) → k < length built → IsPlaced (seal_of datas indexes k) (slice_index_or built k []) (slice_index_or placed k [])
+  pub each : (k : ℕ) → k < length built → IsPlacedBlock (seal_of datas indexes k) (slice_index_or built k []) (slice_index_or placed k [])
 
 -- the entries of the data blocks
-unfoldable pub entries_in : ℕ → Bool → List Mapped → List EntryRec
-entries_in dir single ms = flat_map (λ m. (area_in dir single m).entries) (filter is_data ms)
+unfoldable pub built_entries : ℕ → Bool → List Mapped → List EntryRec
+built_entries dir single ms = flat_map (λ m. (area_in dir single m).entries) (filter is_data ms)
 
 -- a directory of a form is whole; a short form has no blocks
-abbrev pub is_whole : Form → ℕ → ℕ → List Mapped → Bool
-is_whole Short dir size ms = true
-is_whole Single dir size ms = is_whole_block dir size ms
-is_whole Leaf dir size ms = is_whole_leaf dir size ms
-is_whole Node dir size ms = is_whole_node dir size ms
+abbrev pub is_whole_in_form : DirectoryForm → ℕ → ℕ → List Mapped → Bool
+is_whole_in_form Short dir size ms = true
+is_whole_in_form Single dir size ms = is_whole_block dir size ms
+is_whole_in_form Leaf dir size ms = is_whole_leaf dir size ms
+is_whole_in_form Node dir size ms = is_whole_node dir size ms
 
-abbrev pub is_single_form : Form → Bool
-is_single_form Short = false
-is_single_form Single = true
-is_single_form Leaf = false
-is_single_form Node = false
+abbrev pub has_single_form : DirectoryForm → Bool
+has_single_form Short = false
+has_single_form Single = true
+has_single_form Leaf = false
+has_single_form Node = false
 
 -- the entries that a form has in blocks
-abbrev pub entries_of : Form → ℕ → ℕ → List EntryRec → List EntryRec
-entries_of Short dir parent entries = []
-entries_of Single dir parent entries = map (in_directory dir) (all_entries dir parent entries)
-entries_of Leaf dir parent entries = map (in_directory dir) (all_entries dir parent entries)
-entries_of Node dir parent entries = map (in_directory dir) (all_entries dir parent entries)
+abbrev pub form_entries : DirectoryForm → ℕ → ℕ → List EntryRec → List EntryRec
+form_entries Short dir parent entries = []
+form_entries Single dir parent entries = map (in_directory dir) (all_entries dir parent entries)
+form_entries Leaf dir parent entries = map (in_directory dir) (all_entries dir parent entries)
+form_entries Node dir parent entries = map (in_directory dir) (all_entries dir parent entries)
 
 -- mapped blocks are the whole directory, with exactly these entries
-pub record IsWhole (form : Form) (dir parent size : ℕ) (entries : List EntryRec) (ms : List Mapped) : Type 0 where
-  pub rules : is_whole form dir size ms ≡ true
-  pub entries_are : entries_in dir (is_single_form form) ms ≡ entries_of form dir parent entries
+pub record IsWhole (form : DirectoryForm) (dir parent size : ℕ) (entries : List EntryRec) (ms : List Mapped) : Type 0 where
+  pub rules : is_whole_in_form form dir size ms ≡ true
+  pub entries_are : built_entries dir (has_single_form form) ms ≡ form_entries form dir parent entries
 
 -- so they are, whatever their seals and places
-abbrev pub IsBuilt : Form → ℕ → ℕ → ℕ → ℕ → ℕ → List EntryRec → List (List ℕ) → Type 0
+abbrev pub IsBuilt : DirectoryForm → ℕ → ℕ → ℕ → ℕ → ℕ → List EntryRec → List (List ℕ) → Type 0
 IsBuilt form dir parent datas indexes frees entries built =
-    (placed : List (List ℕ)) → ArePlaced datas indexes built placed
+    (placed : List (List ℕ)) → ArePlacedBlocks datas indexes built placed
     → IsWhole form dir parent (4096 * datas) entries (mapped (file_blocks datas indexes frees) placed)

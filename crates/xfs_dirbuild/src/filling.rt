@@ -1,14 +1,15 @@
 //! Data blocks, filled with entries one after the other.
 
 ghost use Rattle.std.specs.Prelude.{◌≡◌, ℕ, [], ◌∷◌, ◌++◌, ◌+◌, ◌-◌, ◌<◌, ◌≤◌, ◌^◌, length, map, All, Some, IfOk, IfSome, OnOk, IsPermutation, slice_index_or, slice_set, take};
-ghost use Rattle.xfs_dirdata.specs.Written.{IsWritable, zeros, data_length, first_entries, placed_entries, offsets};
+ghost use Rattle.xfs_word.specs.Field.{zeros};
+ghost use Rattle.xfs_dirdata.specs.Written.{IsWritableEntry, data_length, first_entries, placed_entries, offsets};
 ghost use Rattle.xfs_word.specs.Hash.{hash_of};
-ghost use Rattle.xfs_dirindex.specs.Data.{due_pairs, address_of};
-ghost use Rattle.xfs_dirindex.specs.Sorted.{IsRanked};
-ghost use Rattle.xfs_dirbuild.specs.Blocks.{data_block, blocks_in};
-ghost use Rattle.xfs_dirbuild.specs.Filling.{shares, pairs_from, rest_in};
+ghost use Rattle.xfs_dirindex.specs.Data.{due_pairs, entry_address};
+ghost use Rattle.xfs_dirindex.specs.Sorted.{PairsRanked};
+ghost use Rattle.xfs_dirbuild.specs.Blocks.{data_block, bank_part};
+ghost use Rattle.xfs_dirbuild.specs.Filling.{filled_shares, pairs_from, rest_in};
 ghost use Rattle.xfs_dirbuild.specs.Index.{IsPointer};
-ghost use Rattle.xfs_dirbuild.specs.Placed.{IsDataBlock};
+ghost use Rattle.xfs_dirbuild.specs.Placed.{IsBuiltDataBlock};
 
 use crate::writing::{blank, put_block};
 use std::alloc::Global;
@@ -22,7 +23,7 @@ use xfs_word::{name_hash, put32};
 
 /// What an index has to say of data blocks that were filled.
 #[derive(Debug, Drop)]
-pub struct Stated {
+pub struct StatedBlocks {
     /// The pair of each entry.
     pub pairs: Vec<Pair>,
     /// How many bytes each block has left.
@@ -36,21 +37,21 @@ pub fn fill_blocks(
     dir: u64,
     parent: u64,
     blocks: &mut BlockBank,
-) -> Result<Stated, NoMemory>
-    requires writable { All IsWritable entries.now }
+) -> Result<StatedBlocks, NoMemory>
+    requires writable { All IsWritableEntry entries.now }
     requires dir { dir < 2 ^ 32 }
     requires parent { parent < 2 ^ 32 }
-    requires room { length (shares dir parent entries.now) ≤ length blocks.old }
-    requires low { length (shares dir parent entries.now) ≤ 0x800000 }
-    ensures pairs { IfOk result (λ stated. stated.pairs.items ≡ pairs_from 0 (shares dir parent entries.now)) }
+    requires room { length (filled_shares dir parent entries.now) ≤ length blocks.old }
+    requires low { length (filled_shares dir parent entries.now) ≤ 0x800000 }
+    ensures pairs { IfOk result (λ stated. stated.pairs.items ≡ pairs_from 0 (filled_shares dir parent entries.now)) }
     ensures sound { IfOk result (λ stated. All IsPointer stated.pairs.items) }
     ensures added { IfOk result (λ stated. length stated.pairs.items ≡ length entries.now + 2) }
-    ensures rests { IfOk result (λ stated. stated.rests.items ≡ map rest_in (shares dir parent entries.now)) }
-    ensures blocks { OnOk result ((k : ℕ) → k < length (shares dir parent entries.now) → IsDataBlock (slice_index_or (shares dir parent entries.now) k []) (slice_index_or blocks.new k [])) }
-    ensures bytes { OnOk result (blocks_in blocks.new 0 (length (shares dir parent entries.now)) ≡ map data_block (shares dir parent entries.now)) }
+    ensures rests { IfOk result (λ stated. stated.rests.items ≡ map rest_in (filled_shares dir parent entries.now)) }
+    ensures blocks { OnOk result ((k : ℕ) → k < length (filled_shares dir parent entries.now) → IsBuiltDataBlock (slice_index_or (filled_shares dir parent entries.now) k []) (slice_index_or blocks.new k [])) }
+    ensures bytes { OnOk result (bank_part blocks.new 0 (length (filled_shares dir parent entries.now)) ≡ map data_block (filled_shares dir parent entries.now)) }
     ensures count { length blocks.new ≡ length blocks.old }
 {
-    let mut stated = Stated {
+    let mut stated = StatedBlocks {
         pairs: Vec::new(alloc),
         rests: Vec::new(alloc),
     };
@@ -70,9 +71,9 @@ fn fill_block(
     first: Option<(u64, u64)>,
     number: usize,
     blocks: &mut BlockBank,
-    stated: &mut Stated,
+    stated: &mut StatedBlocks,
 ) -> Result<usize, NoMemory>
-    requires writable { All IsWritable entries.now }
+    requires writable { All IsWritableEntry entries.now }
     requires first { IfSome first (λ numbers. (numbers.0 < 2 ^ 32) × (numbers.1 < 2 ^ 32)) }
     requires long { data_length (first_entries first) ≤ 32 }
     requires inside { number < length blocks.old }
@@ -81,7 +82,7 @@ fn fill_block(
     ensures within { IfOk result (λ count. count ≤ length entries.now) }
     ensures fits { IfOk result (λ count. 64 + data_length (placed_entries first entries.now count) ≤ 4096) }
     ensures longest { IfOk result (λ count. count < length entries.now → 4096 < 64 + data_length (placed_entries first entries.now (count + 1))) }
-    ensures block { IfOk result (λ count. IsDataBlock (placed_entries first entries.now count) (slice_index_or blocks.new number [])) }
+    ensures block { IfOk result (λ count. IsBuiltDataBlock (placed_entries first entries.now count) (slice_index_or blocks.new number [])) }
     ensures bytes { IfOk result (λ count. slice_index_or blocks.new number [] ≡ data_block (placed_entries first entries.now count)) }
     ensures count { length blocks.new ≡ length blocks.old }
     ensures others { (k : ℕ) → k < number → slice_index_or blocks.new k [] ≡ slice_index_or blocks.old k [] }
@@ -101,7 +102,7 @@ fn fill_block(
 
 /// Writes a data block with as many of these entries as fit, and returns how many those are.
 fn put_data_block(entries: &[EntryRec], first: Option<(u64, u64)>, block: &mut [u8]) -> usize
-    requires writable { All IsWritable entries.now }
+    requires writable { All IsWritableEntry entries.now }
     requires first { IfSome first (λ numbers. (numbers.0 < 2 ^ 32) × (numbers.1 < 2 ^ 32)) }
     requires room { data_length (first_entries first) ≤ 32 }
     requires long { length block.old ≡ 4096 }
@@ -109,7 +110,7 @@ fn put_data_block(entries: &[EntryRec], first: Option<(u64, u64)>, block: &mut [
     ensures within { result ≤ length entries.now }
     ensures fits { 64 + data_length (placed_entries first entries.now result) ≤ 4096 }
     ensures longest { result < length entries.now → 4096 < 64 + data_length (placed_entries first entries.now (result + 1)) }
-    ensures block { IsDataBlock (placed_entries first entries.now result) block.new }
+    ensures block { IsBuiltDataBlock (placed_entries first entries.now result) block.new }
     ensures bytes { block.new ≡ data_block (placed_entries first entries.now result) }
 {
     put32(block, 0, data_magic(false));
@@ -146,7 +147,7 @@ pub fn add_pairs(
     start: usize,
     pairs: &mut Vec<Pair>,
 ) -> Result<usize, NoMemory>
-    requires writable { All IsWritable entries.now }
+    requires writable { All IsWritableEntry entries.now }
     requires low { number < 0x800000 }
     requires inside { start + data_length entries.now ≤ 4096 }
     requires behind { 64 ≤ start }
@@ -171,7 +172,7 @@ fn add_pair(name: &[u8], number: u64, at: usize, pairs: &mut Vec<Pair>) -> Resul
     requires inside { at < 4096 }
     requires behind { 64 ≤ at }
     requires sound { All IsPointer pairs.old.items }
-    ensures pair { OnOk result (pairs.new.items ≡ pairs.old.items ++ (record { hash = hash_of name.now; address = address_of number at }) ∷ []) }
+    ensures pair { OnOk result (pairs.new.items ≡ pairs.old.items ++ (record { hash = hash_of name.now; address = entry_address number at }) ∷ []) }
     ensures sound { OnOk result (All IsPointer pairs.new.items) }
 {
     pairs.push(Pair {
@@ -185,7 +186,7 @@ fn add_pair(name: &[u8], number: u64, at: usize, pairs: &mut Vec<Pair>) -> Resul
 pub fn sort_pairs(pairs: &mut Vec<Pair>) -> Result<(), NoMemory>
     requires sound { All IsPointer pairs.old.items }
     ensures moved { OnOk result (IsPermutation pairs.old.items pairs.new.items) }
-    ensures ranked { OnOk result (IsRanked pairs.new.items) }
+    ensures ranked { OnOk result (PairsRanked pairs.new.items) }
     ensures sound { OnOk result (All IsPointer pairs.new.items) }
     ensures count { OnOk result (length pairs.new.items ≡ length pairs.old.items) }
 {

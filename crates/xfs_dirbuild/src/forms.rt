@@ -1,7 +1,7 @@
 //! Which form a directory gets.
 
 ghost use Rattle.std.specs.Prelude.{◌≡◌, ◌+◌, ◌*◌, ◌≤◌, ◌^◌, length, All};
-ghost use Rattle.xfs_dirdata.specs.Written.{IsWritable, short_length, data_length};
+ghost use Rattle.xfs_dirdata.specs.Written.{IsWritableEntry, short_length, data_length};
 ghost use Rattle.xfs_dirbuild.specs.Forms.{fits_single, data_count, fits_leaf, form_of, leaf_blocks, nodes_above, tree_count, value_blocks, data_blocks_of, index_blocks_of, free_blocks_of};
 
 use xfs_dirdata::{EntryRec, data_size, short_size};
@@ -9,7 +9,7 @@ use xfs_disk::BLOCK_SIZE;
 
 /// The form of a directory (chapter "Directories").
 #[derive(Clone, Copy, Debug, PartialEq, Eq)]
-pub enum Form {
+pub enum DirectoryForm {
     /// The entries stand in the inode.
     Short,
     /// The entries and their index stand in one block.
@@ -22,21 +22,21 @@ pub enum Form {
 
 /// The form of a directory with these entries, beside those of itself and its parent, whose data fork has so
 /// many bytes: the first form that fits (chapter "Directories").
-pub fn form_of(entries: &[EntryRec], fork: usize) -> Form
-    requires writable { All IsWritable entries.now }
+pub fn form_of(entries: &[EntryRec], fork: usize) -> DirectoryForm
+    requires writable { All IsWritableEntry entries.now }
     requires few { length entries.now ≤ 2 ^ 24 }
     ensures { result ≡ form_of entries.now fork }
 {
     if fits_single(entries) {
         if HEADER_OF_SHORT + short_length(entries) <= fork {
-            return Form::Short;
+            return DirectoryForm::Short;
         }
-        return Form::Single;
+        return DirectoryForm::Single;
     }
     if fits_leaf(entries) {
-        Form::Leaf
+        DirectoryForm::Leaf
     } else {
-        Form::Node
+        DirectoryForm::Node
     }
 }
 
@@ -46,7 +46,7 @@ const HEADER_OF_SHORT: usize = 6;
 /// Whether the entries and their index fit one block.
 #[tactic(auto, unfolding(crate::specs::Forms::fits_single))]
 fn fits_single(entries: &[EntryRec]) -> bool
-    requires writable { All IsWritable entries.now }
+    requires writable { All IsWritableEntry entries.now }
     requires few { length entries.now ≤ 2 ^ 24 }
     ensures { result ≡ fits_single entries.now }
 {
@@ -56,7 +56,7 @@ fn fits_single(entries: &[EntryRec]) -> bool
 /// Whether the index fits one block.
 #[tactic(auto, unfolding(crate::specs::Forms::fits_leaf))]
 fn fits_leaf(entries: &[EntryRec]) -> bool
-    requires writable { All IsWritable entries.now }
+    requires writable { All IsWritableEntry entries.now }
     requires few { length entries.now ≤ 2 ^ 24 }
     ensures { result ≡ fits_leaf entries.now }
 {
@@ -65,7 +65,7 @@ fn fits_leaf(entries: &[EntryRec]) -> bool
 
 /// How many bytes the entries have in a short form.
 pub fn short_length(entries: &[EntryRec]) -> usize
-    requires writable { All IsWritable entries.now }
+    requires writable { All IsWritableEntry entries.now }
     requires few { length entries.now ≤ 2 ^ 24 }
     ensures value { result ≡ short_length entries.now }
     ensures bound { result ≤ 263 * length entries.now }
@@ -79,7 +79,7 @@ pub fn short_length(entries: &[EntryRec]) -> usize
 
 /// How many bytes the entries have in data blocks.
 fn data_length(entries: &[EntryRec]) -> usize
-    requires writable { All IsWritable entries.now }
+    requires writable { All IsWritableEntry entries.now }
     requires few { length entries.now ≤ 2 ^ 24 }
     ensures value { result ≡ data_length entries.now }
     ensures bound { result ≤ 274 * length entries.now }
@@ -94,7 +94,7 @@ fn data_length(entries: &[EntryRec]) -> usize
 /// How many data blocks the entries fill, behind those of the directory and its parent.
 #[tactic(auto, unfolding(crate::specs::Forms::data_count))]
 pub fn data_count(entries: &[EntryRec]) -> usize
-    requires writable { All IsWritable entries.now }
+    requires writable { All IsWritableEntry entries.now }
     requires few { length entries.now ≤ 2 ^ 24 }
     ensures value { result ≡ data_count entries.now }
     ensures some { 1 ≤ result }
@@ -114,39 +114,39 @@ pub fn data_count(entries: &[EntryRec]) -> usize
 }
 
 /// How many data blocks a form has for these entries.
-pub fn data_blocks_of(form: Form, entries: &[EntryRec]) -> usize
-    requires writable { All IsWritable entries.now }
+pub fn data_blocks_of(form: DirectoryForm, entries: &[EntryRec]) -> usize
+    requires writable { All IsWritableEntry entries.now }
     requires few { length entries.now ≤ 2 ^ 24 }
     ensures { result ≡ data_blocks_of form entries.now }
 {
     match form {
-        Form::Short => 0,
-        Form::Single => 1,
-        Form::Leaf | Form::Node => data_count(entries),
+        DirectoryForm::Short => 0,
+        DirectoryForm::Single => 1,
+        DirectoryForm::Leaf | DirectoryForm::Node => data_count(entries),
     }
 }
 
 /// How many index blocks a form has for these entries.
-pub fn index_blocks_of(form: Form, entries: &[EntryRec]) -> usize
+pub fn index_blocks_of(form: DirectoryForm, entries: &[EntryRec]) -> usize
     requires few { length entries.now ≤ 2 ^ 24 }
     ensures { result ≡ index_blocks_of form entries.now }
 {
     match form {
-        Form::Short | Form::Single => 0,
-        Form::Leaf => 1,
-        Form::Node => tree_count(entries.len() + 2),
+        DirectoryForm::Short | DirectoryForm::Single => 0,
+        DirectoryForm::Leaf => 1,
+        DirectoryForm::Node => tree_count(entries.len() + 2),
     }
 }
 
 /// How many free blocks a form has for these entries.
-pub fn free_blocks_of(form: Form, entries: &[EntryRec]) -> usize
-    requires writable { All IsWritable entries.now }
+pub fn free_blocks_of(form: DirectoryForm, entries: &[EntryRec]) -> usize
+    requires writable { All IsWritableEntry entries.now }
     requires few { length entries.now ≤ 2 ^ 24 }
     ensures { result ≡ free_blocks_of form entries.now }
 {
     match form {
-        Form::Short | Form::Single | Form::Leaf => 0,
-        Form::Node => value_blocks(data_count(entries)),
+        DirectoryForm::Short | DirectoryForm::Single | DirectoryForm::Leaf => 0,
+        DirectoryForm::Node => value_blocks(data_count(entries)),
     }
 }
 

@@ -2,10 +2,10 @@
 
 ghost use Rattle.std.specs.Prelude.{◌≡◌, ℕ, [], ◌+◌, ◌*◌, ◌<◌, ◌≤◌, ◌^◌, length, slice_index_or};
 ghost use Rattle.std.specs.Prelude.{◌⊎◌};
-ghost use Rattle.xfs_dirdata.specs.Written.{zeros};
-ghost use Rattle.xfs_dirbuild.specs.Blocks.{free_block, free_blocks, blocks_in};
+ghost use Rattle.xfs_word.specs.Field.{zeros};
+ghost use Rattle.xfs_dirbuild.specs.Blocks.{free_block, free_index_blocks, bank_part};
 ghost use Rattle.xfs_dirbuild.specs.Forms.{value_blocks};
-ghost use Rattle.xfs_dirbuild.specs.FreeBlocks.{IsFreeBlock, values_in};
+ghost use Rattle.xfs_dirbuild.specs.FreeBlocks.{IsBuiltFreeBlock, values_in};
 
 use crate::forms::value_blocks;
 use crate::writing::{blank, put_block, put_values};
@@ -22,8 +22,8 @@ pub fn put_free_blocks(values: &[u16], base: usize, blocks: &mut BlockBank)
     requires few { length values.now ≤ 2 ^ 24 }
     requires base { base ≤ 2 ^ 33 }
     requires room { base + value_blocks (length values.now) ≤ length blocks.old }
-    ensures blocks { (i : ℕ) → i < value_blocks (length values.now) → IsFreeBlock (2016 * i) (values_in values.now i) (slice_index_or blocks.new (base + i) []) }
-    ensures bytes { blocks_in blocks.new base (value_blocks (length values.now)) ≡ free_blocks values.now }
+    ensures blocks { (i : ℕ) → i < value_blocks (length values.now) → IsBuiltFreeBlock (2016 * i) (values_in values.now i) (slice_index_or blocks.new (base + i) []) }
+    ensures bytes { bank_part blocks.new base (value_blocks (length values.now)) ≡ free_index_blocks values.now }
     ensures count { length blocks.new ≡ length blocks.old }
     ensures others { (k : ℕ) → k < base → slice_index_or blocks.new k [] ≡ slice_index_or blocks.old k [] }
 {
@@ -41,7 +41,7 @@ fn put_free(first: u32, values: &[u16], block: &mut [u8])
     requires most { length values.now ≤ 2016 }
     requires long { length block.old ≡ 4096 }
     requires blank { block.old ≡ zeros 4096 }
-    ensures stands { IsFreeBlock first values.now block.new }
+    ensures stands { IsBuiltFreeBlock first values.now block.new }
     ensures bytes { block.new ≡ free_block first values.now }
 {
     put_values(values, HEADER_SIZE, block);

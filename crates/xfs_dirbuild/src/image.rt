@@ -3,15 +3,15 @@
 ghost use Rattle.std.specs.Prelude.{◌≡◌, ℕ, List, [], ◌+◌, ◌<◌, ◌≤◌, ◌^◌, length, map, All, Some, IfOk, IsTrue};
 ghost use Rattle.xfs_dirdata.specs.Short.{short_of};
 ghost use Rattle.xfs_dirdata.specs.Bytes.{short_bytes};
-ghost use Rattle.xfs_dirdata.specs.Written.{IsWritable, in_directory};
+ghost use Rattle.xfs_dirdata.specs.Written.{IsWritableEntry, in_directory};
 ghost use Rattle.xfs_dirdata.specs.declared.records.EntryRec.{EntryRec};
 ghost use Rattle.xfs_dirindex.specs.Data.{have_no_dots};
-ghost use Rattle.xfs_dirbuild.specs.declared.forms.Form.TheVariants.{Short, Single, Leaf};
+ghost use Rattle.xfs_dirbuild.specs.declared.forms.DirectoryForm.TheVariants.{Short, Single, Leaf};
 ghost use Rattle.xfs_dirbuild.specs.Blocks.{dir_blocks};
 ghost use Rattle.xfs_dirbuild.specs.Forms.{fits_single, fits_leaf, form_of, data_blocks_of, index_blocks_of, free_blocks_of};
 ghost use Rattle.xfs_dirbuild.specs.Placed.{HaveMagics, IsBuilt};
 
-use crate::forms::{Form, data_blocks_of, form_of, free_blocks_of, index_blocks_of, short_length};
+use crate::forms::{DirectoryForm, data_blocks_of, form_of, free_blocks_of, index_blocks_of, short_length};
 use crate::leaf::{build_leaf, build_node};
 use crate::single::build_single;
 use std::alloc::Global;
@@ -45,7 +45,7 @@ pub fn build(
     parent: u64,
     fork: usize,
 ) -> Result<DirImage, NoMemory>
-    requires writable { All IsWritable entries.now }
+    requires writable { All IsWritableEntry entries.now }
     requires names { IsTrue (have_no_dots entries.now) }
     requires few { length entries.now ≤ 2 ^ 24 }
     requires dir { dir < 2 ^ 32 }
@@ -82,11 +82,11 @@ pub fn build(
 /// The bytes of the short form; none of another form.
 fn build_short(
     alloc: Global,
-    form: Form,
+    form: DirectoryForm,
     entries: &[EntryRec],
     parent: u64,
 ) -> Result<Vec<u8>, NoMemory>
-    requires writable { All IsWritable entries.now }
+    requires writable { All IsWritableEntry entries.now }
     requires few { length entries.now ≤ 2 ^ 24 }
     requires parent { parent < 2 ^ 32 }
     requires fits { form ≡ Short → IsTrue (fits_single entries.now) }
@@ -95,7 +95,7 @@ fn build_short(
     ensures bytes { IfOk result (λ short. form ≡ Short → short.items ≡ short_bytes parent entries.now) }
     ensures none { IfOk result (λ short. (form ≡ Short → ⊥) → short.items ≡ []) }
 {
-    if form != Form::Short {
+    if form != DirectoryForm::Short {
         return Ok(Vec::new(alloc));
     }
     write_short(alloc, entries, parent)
@@ -104,7 +104,7 @@ fn build_short(
 /// The bytes of the short form.
 #[tactic(auto, unfolding(crate::specs::Forms::fits_single))]
 fn write_short(alloc: Global, entries: &[EntryRec], parent: u64) -> Result<Vec<u8>, NoMemory>
-    requires writable { All IsWritable entries.now }
+    requires writable { All IsWritableEntry entries.now }
     requires few { length entries.now ≤ 2 ^ 24 }
     requires parent { parent < 2 ^ 32 }
     requires fits { IsTrue (fits_single entries.now) }
@@ -119,12 +119,12 @@ fn write_short(alloc: Global, entries: &[EntryRec], parent: u64) -> Result<Vec<u
 /// The blocks of a form.
 fn build_blocks(
     alloc: Global,
-    form: Form,
+    form: DirectoryForm,
     entries: &[EntryRec],
     dir: u64,
     parent: u64,
 ) -> Result<BlockBank, NoMemory>
-    requires writable { All IsWritable entries.now }
+    requires writable { All IsWritableEntry entries.now }
     requires names { IsTrue (have_no_dots entries.now) }
     requires few { length entries.now ≤ 2 ^ 24 }
     requires dir { dir < 2 ^ 32 }
@@ -137,15 +137,15 @@ fn build_blocks(
     ensures bytes { IfOk result (λ blocks. blocks ≡ dir_blocks form dir parent entries.now) }
 {
     match form {
-        Form::Short => no_blocks(alloc),
-        Form::Single => build_single(alloc, entries, dir, parent),
-        Form::Leaf => build_leaf(alloc, entries, dir, parent),
-        Form::Node => build_node(alloc, entries, dir, parent),
+        DirectoryForm::Short => no_blocks(alloc),
+        DirectoryForm::Single => build_single(alloc, entries, dir, parent),
+        DirectoryForm::Leaf => build_leaf(alloc, entries, dir, parent),
+        DirectoryForm::Node => build_node(alloc, entries, dir, parent),
     }
 }
 
 /// The blocks of a short form: none.
-#[tactic(auto, unfolding(crate::specs::Placed::entries_in))]
+#[tactic(auto, unfolding(crate::specs::Placed::built_entries))]
 fn no_blocks(alloc: Global) -> Result<BlockBank, NoMemory>
     ensures none { IfOk result (λ blocks. blocks ≡ []) }
     ensures count { IfOk result (λ blocks. length blocks ≡ 0) }

@@ -1,8 +1,8 @@
 //! The index blocks of the leaf form and of the tree of the node form, written.
 
 ghost use Rattle.std.specs.Prelude.{◌≡◌, ◌+◌, ◌*◌, ◌<◌, ◌≤◌, length, All};
-ghost use Rattle.xfs_dirdata.specs.Written.{zeros};
-ghost use Rattle.xfs_dirindex.specs.IndexTree.{form_of};
+ghost use Rattle.xfs_word.specs.Field.{zeros};
+ghost use Rattle.xfs_dirindex.specs.IndexTree.{magic_of_level};
 ghost use Rattle.xfs_dirbuild.specs.Blocks.{index_block, leaf_block};
 ghost use Rattle.xfs_dirbuild.specs.Index.{IsPointer, IsIndexBlock, IsLeafBlock};
 
@@ -34,7 +34,7 @@ pub fn put_index(level: u16, pairs: &[Pair], before: u32, next: u32, block: &mut
 
 /// The magic number of the blocks of a level.
 fn magic_of(level: u16) -> u16
-    ensures { result ≡ form_of level }
+    ensures { result ≡ magic_of_level level }
 {
     if level == 0 {
         NODE_LEAF_MAGIC

@@ -1,9 +1,9 @@
 //! The leaf form and the node form of a directory, built.
 
 ghost use Rattle.std.specs.Prelude.{◌≡◌, ◌+◌, ◌<◌, ◌≤◌, ◌^◌, length, All, IfOk, IsTrue};
-ghost use Rattle.xfs_dirdata.specs.Written.{IsWritable};
+ghost use Rattle.xfs_dirdata.specs.Written.{IsWritableEntry};
 ghost use Rattle.xfs_dirindex.specs.Data.{have_no_dots};
-ghost use Rattle.xfs_dirbuild.specs.declared.forms.Form.TheVariants.{Leaf, Node};
+ghost use Rattle.xfs_dirbuild.specs.declared.forms.DirectoryForm.TheVariants.{Leaf, Node};
 ghost use Rattle.xfs_dirbuild.specs.Blocks.{dir_blocks};
 ghost use Rattle.xfs_dirbuild.specs.Forms.{data_count, fits_leaf, tree_count, value_blocks};
 ghost use Rattle.xfs_dirbuild.specs.Placed.{HaveMagics, IsBuilt};
@@ -26,7 +26,7 @@ pub fn build_leaf(
     dir: u64,
     parent: u64,
 ) -> Result<BlockBank, NoMemory>
-    requires writable { All IsWritable entries.now }
+    requires writable { All IsWritableEntry entries.now }
     requires names { IsTrue (have_no_dots entries.now) }
     requires few { length entries.now ≤ 2 ^ 24 }
     requires dir { dir < 2 ^ 32 }
@@ -56,7 +56,7 @@ pub fn build_node(
     dir: u64,
     parent: u64,
 ) -> Result<BlockBank, NoMemory>
-    requires writable { All IsWritable entries.now }
+    requires writable { All IsWritableEntry entries.now }
     requires names { IsTrue (have_no_dots entries.now) }
     requires few { length entries.now ≤ 2 ^ 24 }
     requires dir { dir < 2 ^ 32 }

@@ -24,5 +24,5 @@ mod single;
 mod tree;
 mod writing;
 
-pub use forms::{Form, form_of};
+pub use forms::{DirectoryForm, form_of};
 pub use image::{DirImage, build};

@@ -1,7 +1,7 @@
 //! Items shared out over blocks as evenly as can be.
 
 ghost use Rattle.std.specs.Prelude.{◌≡◌, ◌+◌, ◌<◌, ◌≤◌, ◌^◌};
-ghost use Rattle.xfs_dirbuild.specs.Index.{share_of};
+ghost use Rattle.xfs_disk.specs.Shares.{share_of};
 
 /// How many of `count` items block `i` of `blocks` has: the first ones have one more where they do not come
 /// out even.

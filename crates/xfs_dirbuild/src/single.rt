@@ -3,15 +3,15 @@
 ghost use Rattle.std.specs.Prelude.{◌≡◌, ℕ, [], ◌+◌, ◌-◌, ◌*◌, ◌<◌, ◌≤◌, ◌^◌, ◌%◌, length, All, IfOk, OnOk, IsTrue, Some, slice_index_or};
 ghost use Rattle.xfs_word.specs.Field.{field_of, part_of};
 ghost use Rattle.xfs_dirdata.specs.Data.{area_of};
-ghost use Rattle.xfs_dirdata.specs.Written.{IsWritable, data_length, written_area};
+ghost use Rattle.xfs_dirdata.specs.Written.{IsWritableEntry, data_length, written_area};
 ghost use Rattle.xfs_dirindex.specs.Pairs.{pairs_at};
 ghost use Rattle.xfs_dirindex.specs.Data.{have_no_dots};
-ghost use Rattle.xfs_dirbuild.specs.declared.forms.Form.TheVariants.{Single};
+ghost use Rattle.xfs_dirbuild.specs.declared.forms.DirectoryForm.TheVariants.{Single};
 ghost use Rattle.xfs_dirbuild.specs.Blocks.{area_bytes, single_block, dir_blocks};
 ghost use Rattle.xfs_dirbuild.specs.Filling.{all_entries};
 ghost use Rattle.xfs_dirbuild.specs.Index.{IsPointer};
 ghost use Rattle.xfs_dirbuild.specs.Placed.{HaveMagics, IsBuilt};
-ghost use Rattle.xfs_dirbuild.specs.SingleBlock.{IsSingleBlock};
+ghost use Rattle.xfs_dirbuild.specs.Private.SingleBlock.{IsSingleBlock};
 ghost use Rattle.xfs_dirbuild.specs.Forms.{fits_single};
 
 use crate::filling::{add_first, add_pairs, sort_pairs};
@@ -33,7 +33,7 @@ pub fn build_single(
     dir: u64,
     parent: u64,
 ) -> Result<BlockBank, NoMemory>
-    requires writable { All IsWritable entries.now }
+    requires writable { All IsWritableEntry entries.now }
     requires names { IsTrue (have_no_dots entries.now) }
     requires dir { dir < 2 ^ 32 }
     requires parent { parent < 2 ^ 32 }
@@ -63,7 +63,7 @@ fn put_single(
     pairs: &[Pair],
     block: &mut [u8],
 ) -> Result<(), NoMemory>
-    requires writable { All IsWritable entries.now }
+    requires writable { All IsWritableEntry entries.now }
     requires dir { dir < 2 ^ 32 }
     requires parent { parent < 2 ^ 32 }
     requires pointers { All IsPointer pairs.now }
@@ -90,7 +90,7 @@ fn put_area(
     end: usize,
     block: &mut [u8],
 ) -> Result<(), NoMemory>
-    requires writable { All IsWritable entries.now }
+    requires writable { All IsWritableEntry entries.now }
     requires dir { dir < 2 ^ 32 }
     requires parent { parent < 2 ^ 32 }
     requires fit { 96 + data_length entries.now ≤ end }

@@ -2,12 +2,13 @@
 //! each level from the left.
 
 ghost use Rattle.std.specs.Prelude.{◌≡◌, ℕ, true, false, [], ◌+◌, ◌*◌, ◌<◌, ◌≤◌, ◌⊎◌, ◌^◌, List, length, All, IfOk, OnOk, slice_index_or};
+ghost use Rattle.xfs_disk.specs.Shares.{share_of};
 ghost use Rattle.xfs_word.specs.Field.{field_of};
 ghost use Rattle.xfs_dirindex.specs.Mapped.{Mapped};
-ghost use Rattle.xfs_dirindex.specs.IndexTree.{places_of, are_members, pairs_below};
-ghost use Rattle.xfs_dirbuild.specs.Blocks.{row_blocks, links_of, tree_blocks, blocks_in};
+ghost use Rattle.xfs_dirindex.specs.IndexTree.{pairs_of_places, are_members, pairs_below};
+ghost use Rattle.xfs_dirbuild.specs.Blocks.{row_blocks, index_links, index_tree_blocks, bank_part};
 ghost use Rattle.xfs_dirbuild.specs.Forms.{tree_count};
-ghost use Rattle.xfs_dirbuild.specs.Index.{IsPointer, IsIndexBlock, IsIndexed, before_at, next_at, share_of, Holds, places_in, IsTreeOf};
+ghost use Rattle.xfs_dirbuild.specs.Index.{IsPointer, IsIndexBlock, IsIndexed, before_at, next_at, HoldsIndex, leaf_places, IsTreeOf};
 
 use crate::forms::{leaf_blocks, nodes_above};
 use crate::index_blocks::put_index;
@@ -33,8 +34,8 @@ pub fn put_tree(
     requires few { length pairs.now ≤ 2 ^ 24 + 2 }
     requires base { base ≤ 2 ^ 32 }
     requires room { base + tree_count (length pairs.now) ≤ length blocks.old }
-    ensures tree { OnOk result ((ms : List Mapped) → Holds ms blocks.new base 0 (tree_count (length pairs.now)) → IsTreeOf ms (tree_count (length pairs.now)) pairs.now) }
-    ensures bytes { OnOk result (blocks_in blocks.new base (tree_count (length pairs.now)) ≡ tree_blocks pairs.now) }
+    ensures tree { OnOk result ((ms : List Mapped) → HoldsIndex ms blocks.new base 0 (tree_count (length pairs.now)) → IsTreeOf ms (tree_count (length pairs.now)) pairs.now) }
+    ensures bytes { OnOk result (bank_part blocks.new base (tree_count (length pairs.now)) ≡ index_tree_blocks pairs.now) }
     ensures indexed { OnOk result ((k : ℕ) → k < tree_count (length pairs.now) → IsIndexed (slice_index_or blocks.new (base + k) [])) }
     ensures count { length blocks.new ≡ length blocks.old }
     ensures others { (k : ℕ) → k < base → slice_index_or blocks.new k [] ≡ slice_index_or blocks.old k [] }
@@ -74,12 +75,12 @@ fn put_row(
     requires base { base ≤ 2 ^ 32 }
     requires room { base + first + count ≤ length blocks.old }
     requires low { first + count ≤ 0x800000 }
-    ensures members { IfOk result (λ links. (ms : List Mapped) → Holds ms blocks.new base first count → are_members ms false level 0 links.items ≡ true) }
-    ensures below { IfOk result (λ links. (ms : List Mapped) → Holds ms blocks.new base first count → pairs_below ms links.items ≡ pairs.now) }
-    ensures places { IfOk result (λ links. places_of links.items ≡ places_in first count) }
+    ensures members { IfOk result (λ links. (ms : List Mapped) → HoldsIndex ms blocks.new base first count → are_members ms false level 0 links.items ≡ true) }
+    ensures below { IfOk result (λ links. (ms : List Mapped) → HoldsIndex ms blocks.new base first count → pairs_below ms links.items ≡ pairs.now) }
+    ensures places { IfOk result (λ links. pairs_of_places links.items ≡ leaf_places first count) }
     ensures pointers { IfOk result (λ links. All IsPointer links.items) }
-    ensures row { IfOk result (λ links. links.items ≡ links_of first count pairs.now) }
-    ensures bytes { OnOk result (blocks_in blocks.new (base + first) count ≡ row_blocks level first count pairs.now) }
+    ensures row { IfOk result (λ links. links.items ≡ index_links first count pairs.now) }
+    ensures bytes { OnOk result (bank_part blocks.new (base + first) count ≡ row_blocks level first count pairs.now) }
     ensures indexed { OnOk result ((k : ℕ) → k < count → IsIndexed (slice_index_or blocks.new (base + first + k) [])) }
     ensures links { IfOk result (λ links. length links.items ≡ count) }
     ensures count { length blocks.new ≡ length blocks.old }

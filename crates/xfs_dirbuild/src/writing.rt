@@ -1,8 +1,7 @@
 //! Pairs and values, written into blocks, and blocks put into a bank.
 
 ghost use Rattle.std.specs.Prelude.{◌≡◌, ◌+◌, ◌*◌, ◌<◌, ◌≤◌, length, All, slice_set};
-ghost use Rattle.xfs_word.specs.Field.{SameBeside, Keeps, KeepsParts};
-ghost use Rattle.xfs_dirdata.specs.Written.{zeros};
+ghost use Rattle.xfs_word.specs.Field.{SameBeside, KeepsBeside, KeepsParts, zeros};
 ghost use Rattle.xfs_dirindex.specs.Pairs.{pair_at, pairs_at};
 ghost use Rattle.xfs_dirbuild.specs.Index.{IsPointer, AreValues};
 
@@ -17,7 +16,7 @@ pub fn put_pairs(pairs: &[Pair], at: usize, block: &mut [u8])
     requires inside { at + 8 * length pairs.now ≤ length block.old }
     requires short { length block.old ≤ 4096 }
     ensures pairs { pairs_at block.new at (length pairs.now) ≡ pairs.now }
-    ensures keeps { Keeps block.old block.new at (8 * length pairs.now) }
+    ensures keeps { KeepsBeside block.old block.new at (8 * length pairs.now) }
     ensures keeps_parts { KeepsParts block.old block.new at (8 * length pairs.now) }
 {
     write_pairs(pairs, at, block);
@@ -43,7 +42,7 @@ fn put_pair(pair: Pair, at: usize, block: &mut [u8])
     requires inside { at + 8 ≤ length block.old }
     requires short { length block.old ≤ 4096 }
     ensures pair { pair_at block.new at ≡ pair }
-    ensures keeps { Keeps block.old block.new at 8 }
+    ensures keeps { KeepsBeside block.old block.new at 8 }
     ensures others { SameBeside block.old block.new at 8 }
 {
     put32(block, at, pair.hash);
@@ -73,7 +72,7 @@ fn write_values(values: &[u16], at: usize, block: &mut [u8])
 }
 
 /// A block of zeros.
-#[tactic(auto, unfolding(xfs_dirdata::specs::Written::zeros))]
+#[tactic(auto, unfolding(xfs_word::specs::Field::zeros))]
 pub fn blank() -> [u8; BLOCK_SIZE]
     ensures { result ≡ zeros 4096 }
 {

@@ -5,14 +5,14 @@ use Rattle.std.proofs.lemmas.Bool.{cases_lt, eqb-true}
 use Rattle.std.proofs.lemmas.Bool.Decides.{nat_tests}
 use Rattle.std.proofs.lemmas.List.{append-nil}
 use Rattle.std.proofs.lemmas.List.Sums.{sum_by-cons}
-use Rattle.xfs_word.specs.Field.{field_of, part_of}
+use Rattle.xfs_word.specs.Field.{field_of, part_of, zeros}
 use Rattle.xfs_word.proofs.Register.{AreBytes}
 use Rattle.xfs_dirdata.specs.declared.records.EntryRec.{EntryRec}
 use Rattle.xfs_dirdata.specs.declared.records.FreeSpan.{FreeSpan}
 use Rattle.xfs_dirdata.specs.Best.{bests_of}
 use Rattle.xfs_dirdata.specs.Data.{is_span, best_at, stated_bests}
-use Rattle.xfs_dirdata.specs.Written.{data_size_of, data_length, zeros, IsDataEntry, AreDataEntries, IsUnused, rest_span}
-use Rattle.xfs_dirdata.specs.Bytes.{big_endian, entry_bytes, entries_bytes, span_bytes, best_bytes, data_bytes}
+use Rattle.xfs_dirdata.specs.Written.{data_size_of, data_length, IsDataEntry, AreDataEntries, IsUnused, rest_span}
+use Rattle.xfs_dirdata.specs.Bytes.{big_endian, entry_bytes, entries_bytes, free_span_bytes, best_bytes, data_bytes}
 use Rattle.xfs_dirdata.proofs.Spelling.{total, Lie, part-join, part-none, parts-join, number-part, number-at, part-at}
 
 -- an entry
@@ -60,8 +60,8 @@ entries-part bytes at (e ∷ es) all inside stand =
 
 -- an unused span
 pub span-part : (bytes : List ℕ) (at size : ℕ) → AreBytes bytes → 8 ≤ size → at + size ≤ length bytes → IsUnused bytes at size
-    → part_of bytes at size ≡ span_bytes (record { offset = at; length = size })
-unfolding span_bytes is_span
+    → part_of bytes at size ≡ free_span_bytes (record { offset = at; length = size })
+unfolding free_span_bytes is_span
 span-part bytes at size all some inside unused =
     let parts : List (ℕ × List ℕ) = (2, big_endian 2 0xffff) ∷ (2, big_endian 2 size) ∷ (size - 6, zeros (size - 6)) ∷ (2, big_endian 2 at) ∷ [] in
     let whole : size ≡ total parts = omega arith in
@@ -83,7 +83,7 @@ span-part bytes at size all some inside unused =
 
 -- what is left behind the entries
 pub rest-part : (bytes : List ℕ) (at end : ℕ) → AreBytes bytes → at ≤ end → at % 8 ≡ 0 → end % 8 ≡ 0 → end ≤ length bytes
-    → (at < end → IsUnused bytes at (end - at)) → part_of bytes at (end - at) ≡ flat_map span_bytes (rest_span at end)
+    → (at < end → IsUnused bytes at (end - at)) → part_of bytes at (end - at) ≡ flat_map free_span_bytes (rest_span at end)
 rest-part bytes at end all order aligned whole inside unused =
     elim (cases_lt at end) [
       | inl before ↦
@@ -91,12 +91,12 @@ rest-part bytes at end all order aligned whole inside unused =
           let span : FreeSpan = record { offset = at; length = end - at } in
           let rest : rest_span at end ≡ span ∷ [] = rw test refl in
           span-part bytes at (end - at) all (omega arith) (omega arith) (unused before)
-          ∙ (sym (append-nil (span_bytes span)) ∙ sym (ap (flat_map span_bytes) rest))
+          ∙ (sym (append-nil (free_span_bytes span)) ∙ sym (ap (flat_map free_span_bytes) rest))
       | inr full ↦
           let same : at ≡ end = omega arith in
           let test : (at == end) ≡ true = grind (arith, nat_tests) in
           let rest : rest_span at end ≡ [] = rw test refl in
-          ap (part_of bytes at) (omega arith) ∙ (part-none bytes at ∙ sym (ap (flat_map span_bytes) rest))
+          ap (part_of bytes at) (omega arith) ∙ (part-none bytes at ∙ sym (ap (flat_map free_span_bytes) rest))
     ]
 
 -- the table of the largest unused spans
@@ -123,7 +123,7 @@ data-part bytes es at end all long stand place order aligned whole unused bests 
     let free = rest_span at end in
     let parts : List (ℕ × List ℕ) =
     (12, flat_map best_bytes (bests_of (rest_span at end))) ∷ (4, zeros 4) ∷ (data_length es, entries_bytes 64 es)
-    ∷ (end - at, flat_map span_bytes (rest_span at end)) ∷ [] in
+    ∷ (end - at, flat_map free_span_bytes (rest_span at end)) ∷ [] in
     let size : end - 48 ≡ total parts = omega arith in
     let lie : Lie bytes 48 parts = (
       bests-part bytes (bests_of free) all (omega arith) bests,
@@ -132,7 +132,7 @@ data-part bytes es at end all long stand place order aligned whole unused bests 
         (
           entries-part bytes 64 es all (omega arith) stand,
           (
-            part-at bytes (64 + data_length es) at (end - at) (end - at) (flat_map span_bytes free) place refl
+            part-at bytes (64 + data_length es) at (end - at) (end - at) (flat_map free_span_bytes free) place refl
                 (rest-part bytes at end all order aligned whole (omega arith) unused),
             tt,
           ),
@@ -141,5 +141,5 @@ data-part bytes es at end all long stand place order aligned whole unused bests 
     ) in
     ap (part_of bytes 48) size
     ∙ (parts-join bytes 48 parts lie
-    ∙ ap (λ (fs : List FreeSpan). concat (flat_map best_bytes (bests_of fs) ∷ zeros 4 ∷ entries_bytes 64 es ∷ flat_map span_bytes fs ∷ []))
+    ∙ ap (λ (fs : List FreeSpan). concat (flat_map best_bytes (bests_of fs) ∷ zeros 4 ∷ entries_bytes 64 es ∷ flat_map free_span_bytes fs ∷ []))
     (ap (λ (a : ℕ). rest_span a end) (sym place)))

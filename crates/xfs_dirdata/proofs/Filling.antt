@@ -3,7 +3,7 @@ use Rattle.std.proofs.Common.{◌≡◌, ℕ, suc, zero, Bool, true, false, ◌+
 use Rattle.std.specs.Option.{option_map, option_and_then}
 use Rattle.std.proofs.lemmas.Bool.{cond-true, and_parts, eqb-true, leb-true}
 use Rattle.xfs_word.specs.Field.{field_of}
-use Rattle.xfs_dirdata.specs.Data.{DataArea, is_span, is_entry, is_item, is_tagged, is_sound_span, size_at, entry_size_at, items, stated, has_bests, with_bests, area_of, Fill, States, StatesNothing}
+use Rattle.xfs_dirdata.specs.Data.{DataArea, is_span, is_entry, is_item, is_tagged, is_sound_span, size_at, entry_size_at, items, stated_area, has_bests, with_bests, area_of, Fill, States, StatesNothing}
 use Rattle.xfs_dirdata.proofs.Items.{items-end, items-step, area-is}
 
 first_and_third : (a b c d : Bool) → (a && b && c && d) ≡ true → (a ≡ true) × (c ≡ true)
@@ -81,9 +81,9 @@ fill-from (suc most) bytes at os found =
 
 -- so the bytes state what is read, and nothing else
 bests-case : (dir : ℕ) (bytes os : List ℕ) (area : DataArea) (right : Bool) → 64 ≤ length bytes → Fill bytes 64 os
-    → has_bests bytes (stated dir bytes os).free ≡ right → (if right then Some (stated dir bytes os) else None) ≡ Some area → States dir bytes area
+    → has_bests bytes (stated_area dir bytes os).free ≡ right → (if right then Some (stated_area dir bytes os) else None) ≡ Some area → States dir bytes area
 bests-case dir bytes os area true long fill right_is read =
-    let same : stated dir bytes os ≡ area = cc in
+    let same : stated_area dir bytes os ≡ area = cc in
     record {
       header = long;
       offsets = os;
@@ -95,10 +95,10 @@ bests-case dir bytes os area false long fill right_is read = cc
 
 area-case : (dir : ℕ) (bytes : List ℕ) (area : DataArea) (long : Bool) (found : Option (List ℕ)) → nat_le 64 (length bytes) ≡ long
     → items (length bytes) bytes 64 ≡ found
-    → (if long then option_and_then (λ offsets. with_bests bytes (stated dir bytes offsets)) found else None) ≡ Some area → States dir bytes area
+    → (if long then option_and_then (λ offsets. with_bests bytes (stated_area dir bytes offsets)) found else None) ≡ Some area → States dir bytes area
 area-case dir bytes area true None long_is found_is read = cc
 area-case dir bytes area true (Some os) long_is found_is read =
-    bests-case dir bytes os area (has_bests bytes (stated dir bytes os).free) (leb-true 64 (length bytes) long_is)
+    bests-case dir bytes os area (has_bests bytes (stated_area dir bytes os).free) (leb-true 64 (length bytes) long_is)
     (fill-from (length bytes) bytes 64 os found_is) refl read
 area-case dir bytes area false found long_is found_is read = cc
 

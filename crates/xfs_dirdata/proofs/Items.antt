@@ -5,7 +5,7 @@ use Rattle.std.specs.Option.{option_map}
 use Rattle.std.proofs.lemmas.Bool.Decides.{nat_tests}
 use Rattle.xfs_dirdata.specs.declared.records.EntryRec.{EntryRec}
 use Rattle.xfs_dirdata.specs.declared.records.FreeSpan.{FreeSpan}
-use Rattle.xfs_dirdata.specs.Data.{DataArea, is_span, is_entry, is_item, size_at, span_at, entry_at, stated_bests, items, stated, has_bests, with_bests, area_of}
+use Rattle.xfs_dirdata.specs.Data.{DataArea, is_span, is_entry, is_item, size_at, span_at, entry_at, stated_bests, items, stated_area, has_bests, with_bests, area_of}
 use Rattle.xfs_dirdata.proofs.Leading.{behind, behind-more}
 
 -- one item more
@@ -47,7 +47,7 @@ area-unsound dir bytes done most at leads before unsound =
 
 -- what is stated where all keep the rules
 pub area-is : (dir : ℕ) (bytes done : List ℕ) → items (length bytes) bytes 64 ≡ Some done → 64 ≤ length bytes
-    → area_of dir bytes ≡ with_bests bytes (stated dir bytes done)
+    → area_of dir bytes ≡ with_bests bytes (stated_area dir bytes done)
 unfolding area_of
 area-is dir bytes done all long = let e : nat_le 64 (length bytes) ≡ true = grind (arith, nat_tests) in rw (e, all) refl
 
@@ -55,8 +55,8 @@ area-is dir bytes done all long = let e : nat_le 64 (length bytes) ≡ true = gr
 stated-is : (dir : ℕ) (bytes done : List ℕ) (entries : List EntryRec) (places : List ℕ) (free bests : List FreeSpan)
     → entries ≡ map (entry_at dir bytes) (filter (is_entry bytes) done) → places ≡ filter (is_entry bytes) done
     → free ≡ map (span_at bytes) (filter (is_span bytes) done) → bests ≡ stated_bests bytes
-    → stated dir bytes done ≡ record { entries = entries; places = places; free = free; bests = bests }
-unfolding stated
+    → stated_area dir bytes done ≡ record { entries = entries; places = places; free = free; bests = bests }
+unfolding stated_area
 stated-is dir bytes done entries places free bests e p f b = rw (e, p, f, b) refl
 
 pub area-read : (dir : ℕ) (bytes done : List ℕ) (entries : List EntryRec) (places : List ℕ) (free bests : List FreeSpan)

@@ -2,8 +2,9 @@
 use Rattle.std.specs.Prelude.{ℕ, ◌+◌, ◌-◌, List, [], ◌∷◌, ◌++◌, length}
 use Rattle.std.specs.Int.{bytes_high_first}
 use Rattle.std.specs.List.{concat, flat_map}
+use Rattle.xfs_word.specs.Field.{zeros}
 use Rattle.xfs_dirdata.specs.Best.{bests_of}
-use Rattle.xfs_dirdata.specs.Written.{data_size_of, data_length, zeros, rest_span}
+use Rattle.xfs_dirdata.specs.Written.{data_size_of, data_length, rest_span}
 use Rattle.xfs_dirdata.specs.declared.records.EntryRec.{EntryRec}
 use Rattle.xfs_dirdata.specs.declared.records.FreeSpan.{FreeSpan}
 
@@ -24,8 +25,8 @@ entries_bytes at [] = []
 entries_bytes at (e ∷ es) = entry_bytes at e ++ entries_bytes (at + data_size_of e) es
 
 -- an unused span: its mark, its length, zeros up to the tag, and the tag
-unfoldable pub span_bytes : FreeSpan → List ℕ
-span_bytes s = concat (big_endian 2 0xffff ∷ big_endian 2 s.length ∷ zeros (s.length - 6) ∷ big_endian 2 s.offset ∷ [])
+unfoldable pub free_span_bytes : FreeSpan → List ℕ
+free_span_bytes s = concat (big_endian 2 0xffff ∷ big_endian 2 s.length ∷ zeros (s.length - 6) ∷ big_endian 2 s.offset ∷ [])
 
 -- a span as the header states it
 abbrev pub best_bytes : FreeSpan → List ℕ
@@ -36,7 +37,7 @@ best_bytes s = big_endian 2 s.offset ++ big_endian 2 s.length
 unfoldable pub data_bytes : List EntryRec → ℕ → List ℕ
 data_bytes entries end =
     let free = rest_span (64 + data_length entries) end in
-    concat (flat_map best_bytes (bests_of free) ∷ zeros 4 ∷ entries_bytes 64 entries ∷ flat_map span_bytes free ∷ [])
+    concat (flat_map best_bytes (bests_of free) ∷ zeros 4 ∷ entries_bytes 64 entries ∷ flat_map free_span_bytes free ∷ [])
 
 -- an entry of a short form, with its offset in a data block: the length of the name, that offset, the name, the file type
 -- and the inode number

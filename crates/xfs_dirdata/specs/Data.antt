@@ -74,8 +74,8 @@ abbrev pub stated_bests : List ℕ → List FreeSpan
 stated_bests bytes = best_at bytes 0 ∷ best_at bytes 1 ∷ best_at bytes 2 ∷ []
 
 -- what the bytes state by the entries and unused spans at these offsets
-unfoldable pub stated : ℕ → List ℕ → List ℕ → DataArea
-stated dir bytes offsets = record {
+unfoldable pub stated_area : ℕ → List ℕ → List ℕ → DataArea
+stated_area dir bytes offsets = record {
   entries = map (entry_at dir bytes) (filter (is_entry bytes) offsets);
   places = filter (is_entry bytes) offsets;
   free = map (span_at bytes) (filter (is_span bytes) offsets);
@@ -94,7 +94,7 @@ with_bests bytes area = if has_bests bytes area.free then Some area else None
 unfoldable pub area_of : ℕ → List ℕ → Option DataArea
 area_of dir bytes =
     if nat_le 64 (length bytes)
-    then option_and_then (λ offsets. with_bests bytes (stated dir bytes offsets)) (items (length bytes) bytes 64)
+    then option_and_then (λ offsets. with_bests bytes (stated_area dir bytes offsets)) (items (length bytes) bytes 64)
     else None
 
 -- the bytes of a block up to the end of its entries and unused spans: all, or in the single-block form those before the
@@ -117,7 +117,7 @@ pub record States (dir : ℕ) (bytes : List ℕ) (area : DataArea) : Type 0 wher
   pub header : 64 ≤ length bytes
   pub offsets : List ℕ
   pub fill : Fill bytes 64 offsets
-  pub is : area ≡ stated dir bytes offsets
+  pub is : area ≡ stated_area dir bytes offsets
   pub bests : has_bests bytes area.free ≡ true
 
 -- bytes state nothing

@@ -1,7 +1,7 @@
 -- Entries of directories as they are written (chapter "Directories").
-use Rattle.std.specs.Prelude.{◌≡◌, ℕ, ◌+◌, ◌-◌, ◌<◌, ◌^◌, ◌==◌, true, false, if◌then◌else◌, List, [], ◌∷◌, ◌++◌, length, map, take, replicate, Option, Some, None}
+use Rattle.std.specs.Prelude.{◌≡◌, ℕ, ◌+◌, ◌-◌, ◌<◌, ◌^◌, ◌==◌, true, false, if◌then◌else◌, List, [], ◌∷◌, ◌++◌, length, map, take, Option, Some, None}
 use Rattle.std.specs.List.{sum_by}
-use Rattle.xfs_word.specs.Field.{field_of, part_of}
+use Rattle.xfs_word.specs.Field.{field_of, part_of, zeros}
 use Rattle.xfs_dirdata.specs.Sizes.{data_size, short_size}
 use Rattle.xfs_dirdata.specs.Best.{bests_of}
 use Rattle.xfs_dirdata.specs.Data.{DataArea, is_span}
@@ -9,7 +9,7 @@ use Rattle.xfs_dirdata.specs.declared.records.EntryRec.{EntryRec}
 use Rattle.xfs_dirdata.specs.declared.records.FreeSpan.{FreeSpan}
 
 -- an entry can be written: its name has at most 255 bytes, and its inode number at most 4
-pub record IsWritable (e : EntryRec) : Type 0 where
+pub record IsWritableEntry (e : EntryRec) : Type 0 where
   pub name : length e.name < 256
   pub ino : e.ino < 2 ^ 32
 
@@ -43,10 +43,6 @@ abbrev pub AreShortEntries : List ℕ → ℕ → ℕ → List EntryRec → Type
 AreShortEntries form at offset [] = Unit {0}
 AreShortEntries form at offset (e ∷ es) =
     IsShortEntry form at offset e × AreShortEntries form (at + short_size_of e) (offset + data_size_of e) es
-
--- bytes that are zero
-unfoldable pub zeros : ℕ → List ℕ
-zeros count = replicate count 0
 
 -- an entry stands in a data block at a byte offset, with zeros between its file type and its tag, and is not taken for an
 -- unused span

@@ -3,7 +3,7 @@
 ghost use Rattle.std.specs.Prelude.{◌≡◌, ◌∷◌, [], List, length, take, ◌++◌};
 ghost use Rattle.std.specs.List.{list_any, list_all};
 ghost use Rattle.xfs_dirdata.specs.declared.records.FreeSpan.{FreeSpan};
-ghost use Rattle.xfs_dirdata.specs.Best.{missing, is_same, is_before, with_span, bests_of, Lead, is_among, are_apart, is_other, are_bests};
+ghost use Rattle.xfs_dirdata.specs.Best.{missing, is_same_span, is_before, with_span, bests_of, Lead, is_best_or_missing, bests_apart, is_other, are_bests};
 
 use crate::records::FreeSpan;
 
@@ -59,22 +59,22 @@ fn is_before(a: FreeSpan, b: FreeSpan) -> bool
 pub fn are_bests(free: &[FreeSpan], a: FreeSpan, b: FreeSpan, c: FreeSpan) -> bool
     ensures { result ≡ are_bests free.now a b c }
 {
-    if !is_among(free, a) {
+    if !is_best_or_missing(free, a) {
         return false;
     }
-    if !is_among(free, b) {
+    if !is_best_or_missing(free, b) {
         return false;
     }
-    if !is_among(free, c) {
+    if !is_best_or_missing(free, c) {
         return false;
     }
-    if !are_apart(a, b) {
+    if !bests_apart(a, b) {
         return false;
     }
-    if !are_apart(a, c) {
+    if !bests_apart(a, c) {
         return false;
     }
-    if !are_apart(b, c) {
+    if !bests_apart(b, c) {
         return false;
     }
     if b.length > a.length {
@@ -100,20 +100,20 @@ fn is_other(a: FreeSpan, b: FreeSpan, c: FreeSpan, span: FreeSpan) -> bool
     if span.length <= c.length {
         return true;
     }
-    if is_same(span, a) {
+    if is_same_span(span, a) {
         return true;
     }
-    if is_same(span, b) {
+    if is_same_span(span, b) {
         return true;
     }
-    is_same(span, c)
+    is_same_span(span, c)
 }
 
 /// Whether a span is one of these or missing.
-fn is_among(free: &[FreeSpan], span: FreeSpan) -> bool
-    ensures { result ≡ is_among free.now span }
+fn is_best_or_missing(free: &[FreeSpan], span: FreeSpan) -> bool
+    ensures { result ≡ is_best_or_missing free.now span }
 {
-    if is_same(span, MISSING) {
+    if is_same_span(span, MISSING) {
         return true;
     }
     has_span(free, span)
@@ -121,21 +121,21 @@ fn is_among(free: &[FreeSpan], span: FreeSpan) -> bool
 
 /// Whether a span is one of these.
 fn has_span(free: &[FreeSpan], span: FreeSpan) -> bool
-    ensures { result ≡ list_any (is_same span) free.now }
+    ensures { result ≡ list_any (is_same_span span) free.now }
 {
-    free.iter().any(|other| is_same(span, *other))
+    free.iter().any(|other| is_same_span(span, *other))
 }
 
 /// Whether two spans are not one, or are missing.
-fn are_apart(a: FreeSpan, b: FreeSpan) -> bool
-    ensures { result ≡ are_apart a b }
+fn bests_apart(a: FreeSpan, b: FreeSpan) -> bool
+    ensures { result ≡ bests_apart a b }
 {
-    is_same(a, MISSING) || !is_same(a, b)
+    is_same_span(a, MISSING) || !is_same_span(a, b)
 }
 
 /// Whether two spans are one.
-fn is_same(a: FreeSpan, b: FreeSpan) -> bool
-    ensures { result ≡ is_same a b }
+fn is_same_span(a: FreeSpan, b: FreeSpan) -> bool
+    ensures { result ≡ is_same_span a b }
 {
     a.offset == b.offset && a.length == b.length
 }

@@ -6,14 +6,14 @@ ghost use Rattle.std.specs.List.{filter};
 ghost use Rattle.xfs_word.specs.Field.{field_of, part_of};
 ghost use Rattle.xfs_dirdata.specs.Sizes.{data_size};
 ghost use Rattle.xfs_dirdata.specs.Faults.{OnUnsound};
-ghost use Rattle.xfs_dirdata.specs.Data.{DataArea, is_span, span_at, entry_at, entry_size_at, size_at, is_tagged, is_sound_span, is_entry, is_item, HasSize, items, best_at, has_bests, stated, area_of, data_area, data_of, States, StatesNothing};
+ghost use Rattle.xfs_dirdata.specs.Data.{DataArea, is_span, span_at, entry_at, entry_size_at, size_at, is_tagged, is_sound_span, is_entry, is_item, HasSize, items, best_at, has_bests, stated_area, area_of, data_area, data_of, States, StatesNothing};
 
 use crate::best::are_bests;
 use crate::layouts::data_block::{
     BESTFREE, COUNT, FREETAG, HEADER_SIZE, INUMBER, LENGTH, NAME, NAMELEN, PAIR_SIZE, TAG_SIZE,
     UNUSED,
 };
-use crate::records::{DirFault, EntryRec, FreeSpan};
+use crate::records::{DirDataFault, EntryRec, FreeSpan};
 use crate::sizes::data_size;
 use std::alloc::{AllocError, Global};
 use xfs_disk::Word;
@@ -35,7 +35,7 @@ pub struct DataBlock {
 /// Reads a data block of the directory `dir`, without its seal; `whole` in the single-block form, whose
 /// tail says where the entries end. `Unsound` where the block breaks a rule (chapter "Directories").
 #[tactic(auto, unfolding(crate::specs::Data::data_of, crate::specs::Data::data_area))]
-pub fn read_data(alloc: Global, dir: u64, block: &[u8], whole: bool) -> Result<DataBlock, DirFault>
+pub fn read_data(alloc: Global, dir: u64, block: &[u8], whole: bool) -> Result<DataBlock, DirDataFault>
     requires { length block.now ≡ 4096 }
     ensures read { IfOk result (λ d. data_of dir block.now whole
         ≡ Some (record { entries = d.entries.items; places = d.places.items; free = d.free.items; bests = d.bests })) }
@@ -49,13 +49,13 @@ pub fn read_data(alloc: Global, dir: u64, block: &[u8], whole: bool) -> Result<D
     }
     let index = get32(block, COUNT.offset) as usize * PAIR_SIZE;
     if COUNT.offset - HEADER_SIZE < index {
-        return Err(DirFault::Unsound);
+        return Err(DirDataFault::Unsound);
     }
     read_area(alloc, dir, part(block, 0, COUNT.offset - index))
 }
 
 /// Reads the entries and unused spans that fill the bytes behind a header.
-fn read_area(alloc: Global, dir: u64, bytes: &[u8]) -> Result<DataBlock, DirFault>
+fn read_area(alloc: Global, dir: u64, bytes: &[u8]) -> Result<DataBlock, DirDataFault>
     requires long { 64 ≤ length bytes.now }
     requires short { length bytes.now ≤ 4096 }
     requires whole { length bytes.now % 8 ≡ 0 }
@@ -76,7 +76,7 @@ fn read_area(alloc: Global, dir: u64, bytes: &[u8]) -> Result<DataBlock, DirFaul
     while at < bytes.len() {
         let size = match sound_size(bytes, at) {
             Some(size) => size,
-            None => return Err(DirFault::Unsound),
+            None => return Err(DirDataFault::Unsound),
         };
         take_item(alloc, dir, bytes, at, &mut taken)?;
         at += size;
@@ -84,7 +84,7 @@ fn read_area(alloc: Global, dir: u64, bytes: &[u8]) -> Result<DataBlock, DirFaul
     if has_bests(bytes, &taken.free) {
         Ok(taken)
     } else {
-        Err(DirFault::Unsound)
+        Err(DirDataFault::Unsound)
     }
 }
 
@@ -95,7 +95,7 @@ fn take_item(
     bytes: &[u8],
     at: usize,
     taken: &mut DataBlock,
-) -> Result<(), DirFault>
+) -> Result<(), DirDataFault>
     requires inside { at + 8 ≤ length bytes.now }
     requires entry { is_span bytes.now at ≡ false → at + entry_size_at bytes.now at ≤ length bytes.now }
     requires below { at < 2 ^ 16 }
@@ -103,7 +103,7 @@ fn take_item(
     ensures places { OnOk result (taken.new.places.items ≡ taken.old.places.items ++ filter (is_entry bytes.now) (at ∷ [])) }
     ensures free { OnOk result (taken.new.free.items ≡ taken.old.free.items ++ map (span_at bytes.now) (filter (is_span bytes.now) (at ∷ []))) }
     ensures bests { taken.new.bests ≡ taken.old.bests }
-    ensures fault { IfErr result (λ fault. fault ≡ DirFault.NoMemory) }
+    ensures fault { IfErr result (λ fault. fault ≡ DirDataFault.NoMemory) }
 {
     if is_span(bytes, at) {
         take_span(bytes, at, &mut taken.free)
@@ -113,11 +113,11 @@ fn take_item(
 }
 
 /// Takes up the unused span at a byte offset.
-fn take_span(bytes: &[u8], at: usize, free: &mut Vec<FreeSpan>) -> Result<(), DirFault>
+fn take_span(bytes: &[u8], at: usize, free: &mut Vec<FreeSpan>) -> Result<(), DirDataFault>
     requires inside { at + 4 ≤ length bytes.now }
     requires below { at < 2 ^ 16 }
     ensures free { OnOk result (free.new.items ≡ free.old.items ++ span_at bytes.now at ∷ []) }
-    ensures fault { IfErr result (λ fault. fault ≡ DirFault.NoMemory) }
+    ensures fault { IfErr result (λ fault. fault ≡ DirDataFault.NoMemory) }
 {
     free.push(FreeSpan {
         offset: at as u16,
@@ -133,14 +133,14 @@ fn take_entry(
     bytes: &[u8],
     at: usize,
     taken: &mut DataBlock,
-) -> Result<(), DirFault>
+) -> Result<(), DirDataFault>
     requires inside { at + entry_size_at bytes.now at ≤ length bytes.now }
     requires below { at < 2 ^ 16 }
     ensures entries { OnOk result (taken.new.entries.items ≡ taken.old.entries.items ++ entry_at dir bytes.now at ∷ []) }
     ensures places { OnOk result (taken.new.places.items ≡ taken.old.places.items ++ at ∷ []) }
     ensures free { taken.new.free.items ≡ taken.old.free.items }
     ensures bests { taken.new.bests ≡ taken.old.bests }
-    ensures fault { IfErr result (λ fault. fault ≡ DirFault.NoMemory) }
+    ensures fault { IfErr result (λ fault. fault ≡ DirDataFault.NoMemory) }
 {
     let entry = read_entry(alloc, dir, bytes, at)?;
     taken.entries.push(entry)?;

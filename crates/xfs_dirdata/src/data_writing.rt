@@ -1,13 +1,13 @@
 //! Data blocks of a directory, written.
 
 ghost use Rattle.std.specs.Prelude.{◌≡◌, ℕ, ◌+◌, ◌-◌, ◌*◌, ◌%◌, ◌<◌, ◌≤◌, ◌^◌, ◌++◌, [], ◌∷◌, length, map, take, All, Some, IfSome, slice_index};
-ghost use Rattle.xfs_word.specs.Field.{field_of, part_of, SameBeside, Keeps, KeepsParts};
+ghost use Rattle.xfs_word.specs.Field.{field_of, part_of, SameBeside, KeepsBeside, KeepsParts, zeros};
 ghost use Rattle.xfs_dirdata.specs.declared.records.EntryRec.{EntryRec};
 ghost use Rattle.xfs_dirdata.specs.Sizes.{data_size};
 ghost use Rattle.xfs_dirdata.specs.Best.{bests_of};
 ghost use Rattle.xfs_dirdata.specs.Data.{is_span, best_at, stated_bests, area_of};
 ghost use Rattle.xfs_dirdata.specs.Bytes.{data_bytes};
-ghost use Rattle.xfs_dirdata.specs.Written.{IsWritable, data_length, zeros, IsDataEntry, AreDataEntries, first_entries, placed_entries, IsUnused, rest_span, written_area};
+ghost use Rattle.xfs_dirdata.specs.Written.{IsWritableEntry, data_length, IsDataEntry, AreDataEntries, first_entries, placed_entries, IsUnused, rest_span, written_area};
 
 use crate::best::bestfree;
 use crate::layouts::data_block::{
@@ -26,7 +26,7 @@ const DIRECTORY: u8 = 2;
 /// single-block form those before the index. What is left is one unused span. The first 48 bytes stay. Names
 /// have at most 255 bytes and inode numbers at most 4 (chapter "Directories").
 pub fn put_data(entries: &[EntryRec], first: Option<(u64, u64)>, block: &mut [u8]) -> usize
-    requires writable { All IsWritable entries.now }
+    requires writable { All IsWritableEntry entries.now }
     requires first { IfSome first (λ numbers. (numbers.0 < 2 ^ 32) × (numbers.1 < 2 ^ 32)) }
     requires long { 64 + data_length (first_entries first) ≤ length block.old }
     requires short { length block.old ≤ 4096 }
@@ -51,7 +51,7 @@ pub fn put_data(entries: &[EntryRec], first: Option<(u64, u64)>, block: &mut [u8
 
 /// How many of these entries have so many bytes at most, from the first on.
 fn count_fitting(entries: &[EntryRec], room: usize) -> usize
-    requires writable { All IsWritable entries.now }
+    requires writable { All IsWritableEntry entries.now }
     requires room { room ≤ 4096 }
     ensures within { result ≤ length entries.now }
     ensures fits { data_length (take result entries.now) ≤ room }
@@ -86,7 +86,7 @@ fn put_first(first: Option<(u64, u64)>, block: &mut [u8]) -> usize
 
 /// Writes these entries from the byte offset `start` on, and returns where they end.
 fn put_entries(entries: &[EntryRec], start: usize, block: &mut [u8]) -> usize
-    requires writable { All IsWritable entries.now }
+    requires writable { All IsWritableEntry entries.now }
     requires room { start + data_length entries.now ≤ length block.old }
     requires short { length block.old ≤ 4096 }
     ensures end { result ≡ start + data_length entries.now }
@@ -151,7 +151,7 @@ fn put_span(span: FreeSpan, block: &mut [u8])
     requires some { 8 ≤ span.length }
     requires inside { span.offset + span.length ≤ length block.old }
     ensures unused { IsUnused block.new span.offset span.length }
-    ensures keeps { Keeps block.old block.new span.offset span.length }
+    ensures keeps { KeepsBeside block.old block.new span.offset span.length }
     ensures others { SameBeside block.old block.new span.offset span.length }
 {
     let at = span.offset as usize;
@@ -181,7 +181,7 @@ fn put_best(index: usize, span: FreeSpan, block: &mut [u8])
     requires block { 64 ≤ length block.old }
     requires index { index < 3 }
     ensures best { best_at block.new index ≡ span }
-    ensures keeps { Keeps block.old block.new (48 + 4 * index) 4 }
+    ensures keeps { KeepsBeside block.old block.new (48 + 4 * index) 4 }
     ensures others { SameBeside block.old block.new (48 + 4 * index) 4 }
 {
     put16(block, BESTFREE + 4 * index, span.offset);
@@ -193,7 +193,7 @@ fn put_zeros(from: usize, to: usize, block: &mut [u8])
     requires order { from ≤ to }
     requires inside { to ≤ length block.old }
     ensures zeros { part_of block.new from (to - from) ≡ zeros (to - from) }
-    ensures keeps { Keeps block.old block.new from (to - from) }
+    ensures keeps { KeepsBeside block.old block.new from (to - from) }
     ensures keeps_parts { KeepsParts block.old block.new from (to - from) }
     ensures others { SameBeside block.old block.new from (to - from) }
 {
@@ -201,7 +201,7 @@ fn put_zeros(from: usize, to: usize, block: &mut [u8])
 }
 
 /// Makes bytes zero, and leaves the bytes beside them.
-#[tactic(auto, unfolding(xfs_word::specs::Field::part_of, crate::specs::Written::zeros))]
+#[tactic(auto, unfolding(xfs_word::specs::Field::part_of, xfs_word::specs::Field::zeros))]
 fn clear(from: usize, to: usize, block: &mut [u8])
     requires order { from ≤ to }
     requires inside { to ≤ length block.old }

@@ -23,7 +23,7 @@ mod sizes;
 pub use best::bestfree;
 pub use data::{DataBlock, read_data};
 pub use data_writing::put_data;
-pub use records::{DirFault, EntryRec, FreeSpan};
+pub use records::{DirDataFault, EntryRec, FreeSpan};
 pub use short::{ShortDir, read_short};
 pub use short_writing::put_short;
 pub use sizes::{data_size, short_size};

@@ -29,29 +29,29 @@ pub struct FreeSpan {
 
 /// Why a short form or a data block is not read.
 #[derive(Clone, Copy, Debug, PartialEq, Eq)]
-pub enum DirFault {
+pub enum DirDataFault {
     /// It breaks a rule of its format.
     Unsound,
     /// There is not enough memory.
     NoMemory,
 }
 
-impl From<AllocError> for DirFault {
-    ghost use Rattle.xfs_dirdata.specs.declared.records.DirFault.TheVariants.{NoMemory};
+impl From<AllocError> for DirDataFault {
+    ghost use Rattle.xfs_dirdata.specs.declared.records.DirDataFault.TheVariants.{NoMemory};
 
     ghost from_gives = { λ _ fault. fault ≡ NoMemory };
 
-    fn from(_error: AllocError) -> DirFault {
-        DirFault::NoMemory
+    fn from(_error: AllocError) -> DirDataFault {
+        DirDataFault::NoMemory
     }
 }
 
-impl<T: Drop> From<AllocFailed<T>> for DirFault {
-    ghost use Rattle.xfs_dirdata.specs.declared.records.DirFault.TheVariants.{NoMemory};
+impl<T: Drop> From<AllocFailed<T>> for DirDataFault {
+    ghost use Rattle.xfs_dirdata.specs.declared.records.DirDataFault.TheVariants.{NoMemory};
 
     ghost from_gives = { λ _ fault. fault ≡ NoMemory };
 
-    fn from(_error: AllocFailed<T>) -> DirFault {
-        DirFault::NoMemory
+    fn from(_error: AllocFailed<T>) -> DirDataFault {
+        DirDataFault::NoMemory
     }
 }

@@ -8,7 +8,7 @@ ghost use Rattle.xfs_dirdata.specs.Faults.{OnUnsound};
 ghost use Rattle.xfs_dirdata.specs.Short.{short_entry, is_short_entry, short_entries, short_size_at, data_offset_at, data_end_at, index_size, short_of};
 
 use crate::layouts::short_form::{COUNT, HEADER_SIZE, I8COUNT, NAME, NAMELEN, OFFSET, PARENT};
-use crate::records::{DirFault, EntryRec};
+use crate::records::{DirDataFault, EntryRec};
 use crate::sizes::{data_size, short_size};
 use std::alloc::{AllocError, Global};
 use xfs_disk::{BLOCK_SIZE, Word};
@@ -29,15 +29,15 @@ pub struct ShortDir {
 /// Reads the short form of the directory `dir` from its bytes, which are as many as the directory's size.
 /// `Unsound` where it breaks a rule (chapter "Directories").
 #[tactic(auto, unfolding(crate::specs::Short::short_of))]
-pub fn read_short(alloc: Global, dir: u64, form: &[u8]) -> Result<ShortDir, DirFault>
+pub fn read_short_entries(alloc: Global, dir: u64, form: &[u8]) -> Result<ShortDir, DirDataFault>
     ensures read { IfOk result (λ d. short_of dir form.now ≡ Some (record { parent = d.parent; entries = d.entries.items })) }
     ensures unsound { IfErr result (λ fault. OnUnsound fault (short_of dir form.now ≡ None)) }
 {
     if form.len() < HEADER_SIZE {
-        return Err(DirFault::Unsound);
+        return Err(DirDataFault::Unsound);
     }
     if get8(form, I8COUNT.offset) != 0 {
-        return Err(DirFault::Unsound);
+        return Err(DirDataFault::Unsound);
     }
     match read_entries(alloc, dir, form, get8(form, COUNT.offset)) {
         Ok(entries) => Ok(ShortDir {
@@ -49,7 +49,7 @@ pub fn read_short(alloc: Global, dir: u64, form: &[u8]) -> Result<ShortDir, DirF
 }
 
 /// Reads the entries, of which there are `count`.
-fn read_entries(alloc: Global, dir: u64, form: &[u8], count: u8) -> Result<Vec<EntryRec>, DirFault>
+fn read_entries(alloc: Global, dir: u64, form: &[u8], count: u8) -> Result<Vec<EntryRec>, DirDataFault>
     requires { 6 ≤ length form.now }
     ensures read { IfOk result (λ entries. short_entries dir form.now (index_size count) count 6 96 ≡ Some entries.items) }
     ensures unsound { IfErr result (λ fault. OnUnsound fault (short_entries dir form.now (index_size count) count 6 96 ≡ None)) }
@@ -59,7 +59,7 @@ fn read_entries(alloc: Global, dir: u64, form: &[u8], count: u8) -> Result<Vec<E
     let mut least = FIRST_OFFSET;
     while entries.len() < count as usize {
         if !is_entry(form, at, least) {
-            return Err(DirFault::Unsound);
+            return Err(DirDataFault::Unsound);
         }
         let name_length = get8(form, at + NAMELEN.offset) as usize;
         entries.push(read_entry(alloc, dir, form, at)?)?;
@@ -69,7 +69,7 @@ fn read_entries(alloc: Global, dir: u64, form: &[u8], count: u8) -> Result<Vec<E
     if fills(form, at, least, count) {
         Ok(entries)
     } else {
-        Err(DirFault::Unsound)
+        Err(DirDataFault::Unsound)
     }
 }
 

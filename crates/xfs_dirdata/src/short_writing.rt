@@ -1,11 +1,11 @@
 //! The short form of a directory, written.
 
 ghost use Rattle.std.specs.Prelude.{◌≡◌, ℕ, ◌+◌, ◌<◌, ◌≤◌, ◌^◌, length, map, take, All, Some};
-ghost use Rattle.xfs_word.specs.Field.{field_of, part_of, SameBeside, Keeps, KeepsParts};
+ghost use Rattle.xfs_word.specs.Field.{field_of, part_of, SameBeside, KeepsBeside, KeepsParts};
 ghost use Rattle.xfs_dirdata.specs.Sizes.{data_size, short_size};
 ghost use Rattle.xfs_dirdata.specs.Short.{short_of, index_size};
 ghost use Rattle.xfs_dirdata.specs.Bytes.{short_bytes};
-ghost use Rattle.xfs_dirdata.specs.Written.{IsWritable, in_directory, short_length, data_length, IsShortEntry, AreShortEntries};
+ghost use Rattle.xfs_dirdata.specs.Written.{IsWritableEntry, in_directory, short_length, data_length, IsShortEntry, AreShortEntries};
 
 use crate::layouts::short_form::{COUNT, HEADER_SIZE, I8COUNT, NAME, NAMELEN, OFFSET, PARENT};
 use crate::records::EntryRec;
@@ -18,7 +18,7 @@ use xfs_word::{put_part, put8, put16, put32};
 /// entries fit a single block (chapter "Directories").
 pub fn put_short(parent: u64, entries: &[EntryRec], form: &mut [u8]) -> usize
     requires parent { parent < 2 ^ 32 }
-    requires writable { All IsWritable entries.now }
+    requires writable { All IsWritableEntry entries.now }
     requires room { 6 + short_length entries.now ≤ length form.old }
     requires single { 96 + data_length entries.now + index_size (length entries.now) ≤ 4096 }
     ensures size { result ≡ 6 + short_length entries.now }
@@ -49,7 +49,7 @@ fn put_header(parent: u64, count: u8, form: &mut [u8])
 
 /// Writes the entries behind the header, and returns where they end.
 fn put_entries(entries: &[EntryRec], form: &mut [u8]) -> usize
-    requires writable { All IsWritable entries.now }
+    requires writable { All IsWritableEntry entries.now }
     requires room { 6 + short_length entries.now ≤ length form.old }
     requires single { 96 + data_length entries.now ≤ 4096 }
     ensures size { result ≡ 6 + short_length entries.now }
@@ -69,7 +69,7 @@ fn put_entries(entries: &[EntryRec], form: &mut [u8]) -> usize
 
 /// Writes an entry at the byte offset `at`, with its offset in a data block.
 fn put_entry(entry: &EntryRec, at: usize, offset: u16, form: &mut [u8])
-    requires writable { IsWritable entry.now }
+    requires writable { IsWritableEntry entry.now }
     requires inside { at + short_size (length entry.now.name) ≤ length form.old }
     ensures stands { IsShortEntry form.new at offset entry.now }
     ensures others { SameBeside form.old form.new at (short_size (length entry.now.name)) }

@@ -9,9 +9,9 @@ use Rattle.std.proofs.lemmas.Bool.Decides.{nat_tests}
 use Rattle.xfs_dirdata.specs.declared.records.EntryRec.{EntryRec}
 use Rattle.xfs_dirindex.specs.declared.seen.IndexFault.{IndexFault}
 use Rattle.xfs_dirindex.specs.declared.seen.IndexFault.TheVariants.{Unsound, NoMemory}
-use Rattle.xfs_dirindex.specs.Faults.{OnUnsound}
-use Rattle.xfs_dirindex.specs.Mapped.{Mapped, block_of, mapped, is_data}
-use Rattle.xfs_dirindex.specs.Data.{is_first, is_later, is_sound, are_data, begin_with_dots, area_in, due_pairs, pairs_in, best_in}
+use Rattle.xfs_dirindex.specs.Faults.{OnUnsoundIndex}
+use Rattle.xfs_dirindex.specs.Mapped.{Mapped, mapped_block, mapped, is_data}
+use Rattle.xfs_dirindex.specs.Data.{is_first_block, is_later, is_sound_data, are_data, begin_with_dots, area_in, due_pairs, pairs_in, best_in}
 
 -- no pairs are left where one of the lists is at its end
 pub due-end : (offset : ℕ) (es : List EntryRec) (places : List ℕ) (i : ℕ) → min (length es) (length places) ≤ i → due_pairs offset (drop i es) (drop i places) ≡ []
@@ -27,15 +27,15 @@ due-end offset es places i past =
 
 -- one mapped block after the other
 pub mapped-step : (offsets : List ℕ) (blocks : List (List ℕ)) (i o : ℕ) (b : List ℕ) → i < length offsets
-    → o ≡ get_or offsets i o → slice_get blocks i ≡ Some b → drop i (mapped offsets blocks) ≡ block_of o b ∷ drop (i + 1) (mapped offsets blocks)
+    → o ≡ get_or offsets i o → slice_get blocks i ≡ Some b → drop i (mapped offsets blocks) ≡ mapped_block o b ∷ drop (i + 1) (mapped offsets blocks)
 mapped-step [] blocks i o b low at_o at_b = absurd (omega arith)
 mapped-step (x ∷ offsets) [] i o b low at_o at_b = cc
 mapped-step (x ∷ offsets) (y ∷ blocks) zero o b low at_o at_b =
     let block : y ≡ b = cc in
-    ap₂ (λ (m : ℕ) (n : List ℕ). block_of m n ∷ mapped offsets blocks) (sym at_o) block
+    ap₂ (λ (m : ℕ) (n : List ℕ). mapped_block m n ∷ mapped offsets blocks) (sym at_o) block
 mapped-step (x ∷ offsets) (y ∷ blocks) (suc i) o b low at_o at_b =
     let next : suc i + 1 ≡ suc (i + 1) = omega arith in
-    mapped-step offsets blocks i o b (omega arith) at_o at_b ∙ ap (λ (n : ℕ). block_of o b ∷ drop n (mapped (x ∷ offsets) (y ∷ blocks))) (sym next)
+    mapped-step offsets blocks i o b (omega arith) at_o at_b ∙ ap (λ (n : ℕ). mapped_block o b ∷ drop n (mapped (x ∷ offsets) (y ∷ blocks))) (sym next)
 
 pub length-mapped : (offsets : List ℕ) (blocks : List (List ℕ)) → length blocks ≡ length offsets → length (mapped offsets blocks) ≡ length offsets
 length-mapped [] blocks same = refl
@@ -66,16 +66,16 @@ pub joins_bests : (dir : ℕ) (ms ns : List Mapped) → map (best_in dir false) 
 joins_bests dir ms ns = ap (map (best_in dir false)) (filter-append is_data ms ns) ∙ map-append (best_in dir false) (filter is_data ms) (filter is_data ns)
 
 -- what a fault says of one fact it says of what follows from it
-pub on_unsound : {P Q : Type 0} (fault : IndexFault) → (P → Q) → OnUnsound fault P → OnUnsound fault Q
+pub on_unsound : {P Q : Type 0} (fault : IndexFault) → (P → Q) → OnUnsoundIndex fault P → OnUnsoundIndex fault Q
 on_unsound Unsound turn p = turn p
 on_unsound NoMemory turn p = tt
 
 -- the first block, and then the later ones
-pub sound-first : (dir : ℕ) (ms : List Mapped) (m : Mapped) → ms ≡ m ∷ drop 1 ms → is_first dir false m ≡ true → are_data dir ms ≡ list_all (is_later dir) (drop 1 ms)
-sound-first dir ms m step first = ap (are_data dir) step ∙ and-true (is_first dir false m) (list_all (is_later dir) (drop 1 ms)) first
+pub sound-first : (dir : ℕ) (ms : List Mapped) (m : Mapped) → ms ≡ m ∷ drop 1 ms → is_first_block dir false m ≡ true → are_data dir ms ≡ list_all (is_later dir) (drop 1 ms)
+sound-first dir ms m step first = ap (are_data dir) step ∙ and-true (is_first_block dir false m) (list_all (is_later dir) (drop 1 ms)) first
 
-pub unsound-first : (dir : ℕ) (ms : List Mapped) (m : Mapped) → ms ≡ m ∷ drop 1 ms → is_first dir false m ≡ false → are_data dir ms ≡ false
-unsound-first dir ms m step first = ap (are_data dir) step ∙ and_left (is_first dir false m) (list_all (is_later dir) (drop 1 ms)) first
+pub unsound-first : (dir : ℕ) (ms : List Mapped) (m : Mapped) → ms ≡ m ∷ drop 1 ms → is_first_block dir false m ≡ false → are_data dir ms ≡ false
+unsound-first dir ms m step first = ap (are_data dir) step ∙ and_left (is_first_block dir false m) (list_all (is_later dir) (drop 1 ms)) first
 
 pub sound-later : (dir : ℕ) (ms : List Mapped) (i : ℕ) (m : Mapped) (all : Bool) → drop i ms ≡ m ∷ drop (i + 1) ms → is_later dir m ≡ true
     → all ≡ list_all (is_later dir) (drop i ms) → all ≡ list_all (is_later dir) (drop (i + 1) ms)
@@ -86,11 +86,11 @@ pub unsound-later : (dir : ℕ) (ms : List Mapped) (i : ℕ) (m : Mapped) (all :
 unsound-later dir ms i m all step before later = before ∙ (ap (list_all (is_later dir)) step ∙ and_left (is_later dir m) (list_all (is_later dir) (drop (i + 1) ms)) later)
 
 -- the first block is a data block
-pub first-data : (dir : ℕ) (m : Mapped) → is_first dir false m ≡ true → is_data m ≡ true
-unfolding is_first
+pub first-data : (dir : ℕ) (m : Mapped) → is_first_block dir false m ≡ true → is_data m ≡ true
+unfolding is_first_block
 first-data dir m first =
-    let parts = and_parts (m.offset == 0 && is_sound dir false m) (begin_with_dots dir (area_in dir false m).entries) first in
-    let front = and_parts (m.offset == 0) (is_sound dir false m) parts.0 in
+    let parts = and_parts (m.offset == 0 && is_sound_data dir false m) (begin_with_dots dir (area_in dir false m).entries) first in
+    let front = and_parts (m.offset == 0) (is_sound_data dir false m) parts.0 in
     let zero_offset : m.offset ≡ 0 = eqb-true m.offset 0 front.0 in
     grind (arith, nat_tests)
 

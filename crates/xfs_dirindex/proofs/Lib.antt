@@ -1,4 +1,3 @@
-pub mod Ranked
 pub mod Compared
 pub mod Gathered
 pub mod Longest

@@ -6,7 +6,7 @@ use Rattle.std.proofs.lemmas.List.{map-id}
 use Rattle.std.proofs.lemmas.List.FromFn.{map-range_with_len_more, length-range_with_len, get_or-range_with_len}
 use Rattle.std.proofs.lemmas.Bool.{cases_eq, eq-eqb, ne_eqb, cond-true, cond-false}
 use Rattle.xfs_dirindex.specs.declared.data.Best.{Best}
-use Rattle.xfs_dirindex.specs.Leaf.{best_at, end_of}
+use Rattle.xfs_dirindex.specs.Leaf.{best_length_of, end_of}
 
 -- a test of each number below one more
 both : (a b : Bool) → (a && (b && true)) ≡ (a && b)
@@ -31,18 +31,18 @@ not_all p n i low fails =
 
 -- the value of a block
 pub best_at-found : (bests : List Best) (block k : ℕ) (d : Best) → ((j : ℕ) → j < k → (get_or bests j d).offset < block) → k < length bests
-    → (get_or bests k d).offset ≡ block → best_at bests block ≡ (get_or bests k d).length
+    → (get_or bests k d).offset ≡ block → best_length_of bests block ≡ (get_or bests k d).length
 best_at-found [] block k d before low here = absurd (omega arith)
-best_at-found (b ∷ bests) block zero d before low here = cond-true (b.offset == block) b.length (best_at bests block) (eq-eqb b.offset block here)
+best_at-found (b ∷ bests) block zero d before low here = cond-true (b.offset == block) b.length (best_length_of bests block) (eq-eqb b.offset block here)
 best_at-found (b ∷ bests) block (suc k) d before low here =
     let first : b.offset < block = before 0 (omega arith) in
-    cond-false (b.offset == block) b.length (best_at bests block) (ne_eqb b.offset block (λ e. omega arith))
+    cond-false (b.offset == block) b.length (best_length_of bests block) (ne_eqb b.offset block (λ e. omega arith))
     ∙ best_at-found bests block k d (λ j h. before (suc j) (omega arith)) (omega arith) here
 
-pub best_at-none : (bests : List Best) (block : ℕ) (d : Best) → ((j : ℕ) → j < length bests → (get_or bests j d).offset ≡ block → ⊥) → best_at bests block ≡ 0xffff
+pub best_at-none : (bests : List Best) (block : ℕ) (d : Best) → ((j : ℕ) → j < length bests → (get_or bests j d).offset ≡ block → ⊥) → best_length_of bests block ≡ 0xffff
 best_at-none [] block d none = refl
 best_at-none (b ∷ bests) block d none =
-    cond-false (b.offset == block) b.length (best_at bests block) (ne_eqb b.offset block (none 0 (omega arith)))
+    cond-false (b.offset == block) b.length (best_length_of bests block) (ne_eqb b.offset block (none 0 (omega arith)))
     ∙ best_at-none bests block d (λ j h. none (suc j) (omega arith))
 
 -- the end is behind the last of the data blocks

@@ -4,7 +4,7 @@ use Rattle.xfs_word.specs.Field.{field_of}
 use Rattle.xfs_dirindex.specs.declared.pairs.Pair.{Pair}
 use Rattle.xfs_dirindex.specs.Pairs.{pairs_at, is_index}
 use Rattle.xfs_dirindex.specs.Mapped.{Mapped}
-use Rattle.xfs_dirindex.specs.Data.{is_first, pairs_in}
+use Rattle.xfs_dirindex.specs.Data.{is_first_block, pairs_in}
 
 -- the last 8 bytes of the block say how many pairs stand in front of them, and how many of these are stale
 abbrev pub tail_count : List ℕ → ℕ
@@ -17,7 +17,7 @@ tail_pairs block = pairs_at block (4088 - 8 * tail_count block) (tail_count bloc
 unfoldable pub is_single : ℕ → Mapped → Bool
 is_single dir m =
     nat_le (64 + 8 * tail_count m.bytes) 4088
-    && is_first dir true m
+    && is_first_block dir true m
     && is_index (tail_pairs m.bytes) (field_of m.bytes 4092 4) (pairs_in dir true m)
 
 -- it is the only block that is mapped

@@ -14,12 +14,12 @@ use Rattle.xfs_dirindex.specs.Mapped.{Mapped, is_data}
 unfoldable pub is_self : List ℕ → Bool
 is_self name = length name == 1 && slice_index name 0 == 46
 
-unfoldable pub is_parent : List ℕ → Bool
-is_parent name = length name == 2 && slice_index name 0 == 46 && slice_index name 1 == 46
+unfoldable pub is_parent_name : List ℕ → Bool
+is_parent_name name = length name == 2 && slice_index name 0 == 46 && slice_index name 1 == 46
 
 -- an entry has one of these two names
 unfoldable pub is_dots : EntryRec → Bool
-is_dots e = is_self e.name || is_parent e.name
+is_dots e = is_self e.name || is_parent_name e.name
 
 -- no entry has
 abbrev pub have_no_dots : List EntryRec → Bool
@@ -29,7 +29,7 @@ have_no_dots entries = not (list_any is_dots entries)
 abbrev pub begin_with_dots : ℕ → List EntryRec → Bool
 begin_with_dots dir [] = false
 begin_with_dots dir (a ∷ []) = false
-begin_with_dots dir (a ∷ b ∷ rest) = is_self a.name && a.ino == dir && is_parent b.name && have_no_dots rest
+begin_with_dots dir (a ∷ b ∷ rest) = is_self a.name && a.ino == dir && is_parent_name b.name && have_no_dots rest
 
 -- the first two entries stand right behind the header, at bytes 64 and 80
 abbrev pub stand_first : List ℕ → Bool
@@ -49,30 +49,30 @@ unfoldable pub area_in : ℕ → Bool → Mapped → DataArea
 area_in dir whole m = unwrap_or (data_of dir m.bytes whole) no_area
 
 -- it begins with its magic number and keeps the rules of data blocks
-unfoldable pub is_sound : ℕ → Bool → Mapped → Bool
-is_sound dir whole m = field_of m.bytes 0 4 == magic_of whole && is_some (data_of dir m.bytes whole)
+unfoldable pub is_sound_data : ℕ → Bool → Mapped → Bool
+is_sound_data dir whole m = field_of m.bytes 0 4 == magic_of whole && is_some (data_of dir m.bytes whole)
 
 -- the first block of a directory stands at file block 0, and its first entries, at their places, are those of the directory and its parent
-unfoldable pub is_first : ℕ → Bool → Mapped → Bool
-is_first dir whole m =
-    m.offset == 0 && is_sound dir whole m && begin_with_dots dir (area_in dir whole m).entries && stand_first (area_in dir whole m).places
+unfoldable pub is_first_block : ℕ → Bool → Mapped → Bool
+is_first_block dir whole m =
+    m.offset == 0 && is_sound_data dir whole m && begin_with_dots dir (area_in dir whole m).entries && stand_first (area_in dir whole m).places
 
 -- a later one has no such entry, if it is a data block
 unfoldable pub is_later : ℕ → Mapped → Bool
-is_later dir m = if is_data m then is_sound dir false m && have_no_dots (area_in dir false m).entries else true
+is_later dir m = if is_data m then is_sound_data dir false m && have_no_dots (area_in dir false m).entries else true
 
 -- the data blocks are sound
 abbrev pub are_data : ℕ → List Mapped → Bool
 are_data dir [] = false
-are_data dir (m ∷ ms) = is_first dir false m && list_all (is_later dir) ms
+are_data dir (m ∷ ms) = is_first_block dir false m && list_all (is_later dir) ms
 
 -- the address of what stands at a byte offset of a file block: its offset in the file, in units of 8 bytes
-abbrev pub address_of : ℕ → ℕ → ℕ
-address_of offset place = (offset * 4096 + place) / 8
+abbrev pub entry_address : ℕ → ℕ → ℕ
+entry_address offset place = (offset * 4096 + place) / 8
 
 -- the pair that is due for an entry at a byte offset in a file block, and those for entries at their byte offsets
 abbrev pub due_pair : ℕ → EntryRec → ℕ → Pair
-due_pair offset e place = record { hash = hash_of e.name; address = address_of offset place }
+due_pair offset e place = record { hash = hash_of e.name; address = entry_address offset place }
 
 abbrev pub due_pairs : ℕ → List EntryRec → List ℕ → List Pair
 due_pairs offset [] places = []
@@ -87,13 +87,13 @@ unfoldable pub all_pairs : ℕ → List Mapped → List Pair
 all_pairs dir ms = flat_map (pairs_in dir false) (filter is_data ms)
 
 -- how many bytes the longest of some unused spans has
-abbrev pub longest : List FreeSpan → ℕ
-longest [] = 0
-longest (s ∷ ss) = max s.length (longest ss)
+abbrev pub longest_span : List FreeSpan → ℕ
+longest_span [] = 0
+longest_span (s ∷ ss) = max s.length (longest_span ss)
 
 -- the longest unused span of a data block, with its file block, and those of all
 unfoldable pub best_in : ℕ → Bool → Mapped → Best
-best_in dir whole m = record { offset = m.offset; length = longest (area_in dir whole m).free }
+best_in dir whole m = record { offset = m.offset; length = longest_span (area_in dir whole m).free }
 
 unfoldable pub all_bests : ℕ → List Mapped → List Best
 all_bests dir ms = map (best_in dir false) (filter is_data ms)

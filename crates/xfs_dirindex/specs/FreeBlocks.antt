@@ -3,20 +3,20 @@ use Rattle.std.specs.Prelude.{ℕ, Bool, true, not, ◌+◌, ◌-◌, ◌*◌, �
 use Rattle.std.specs.List.{list_all, range_with_len}
 use Rattle.xfs_word.specs.Field.{field_of}
 use Rattle.xfs_dirindex.specs.declared.data.Best.{Best}
-use Rattle.xfs_dirindex.specs.Mapped.{Mapped, is_free}
+use Rattle.xfs_dirindex.specs.Mapped.{Mapped, is_free_index}
 use Rattle.xfs_dirindex.specs.Leaf.{are_values}
-use Rattle.xfs_dirindex.specs.Lookup.{bytes_of, is_there}
+use Rattle.xfs_dirindex.specs.Lookup.{bytes_mapped, is_mapped}
 
 -- how many values a free block has
 abbrev pub free_count : List ℕ → ℕ
 free_count bytes = field_of bytes 52 4
 
 -- its values are numbers of 2 bytes behind its header; 0xffff stands for a data block that is not mapped
-abbrev pub is_used : List ℕ → ℕ → Bool
-is_used bytes j = not (field_of bytes (64 + 2 * j) 2 == 0xffff)
+abbrev pub is_used_value : List ℕ → ℕ → Bool
+is_used_value bytes j = not (field_of bytes (64 + 2 * j) 2 == 0xffff)
 
 unfoldable pub used_in : List ℕ → ℕ → ℕ
-used_in bytes count = count_by (is_used bytes) (range_with_len 0 count)
+used_in bytes count = count_by (is_used_value bytes) (range_with_len 0 count)
 
 -- free block i has the values of up to 2016 data blocks from data block 2016 * i on; it states that first one, how many
 -- they are and how many of them are mapped
@@ -29,14 +29,14 @@ has_values bests i bytes =
 
 -- free block i stands at file block 0x1000000 + i; other blocks are none
 unfoldable pub is_free_sound : List Best → Mapped → Bool
-is_free_sound bests m = if is_free m then has_values bests (m.offset - 0x1000000) m.bytes else true
+is_free_sound bests m = if is_free_index m then has_values bests (m.offset - 0x1000000) m.bytes else true
 
 -- a data block has its value in its free block
 unfoldable pub is_covered : Best → List ℕ → Bool
-is_covered b bytes = is_there bytes && nat_lt (b.offset % 2016) (free_count bytes)
+is_covered b bytes = is_mapped bytes && nat_lt (b.offset % 2016) (free_count bytes)
 
 abbrev pub has_value : List Mapped → Best → Bool
-has_value ms b = is_covered b (bytes_of ms (0x1000000 + b.offset / 2016))
+has_value ms b = is_covered b (bytes_mapped ms (0x1000000 + b.offset / 2016))
 
 -- the free blocks are sound, and each data block has its value in one
 unfoldable pub are_free : List Best → List Mapped → Bool

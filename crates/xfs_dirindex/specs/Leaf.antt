@@ -9,13 +9,13 @@ use Rattle.xfs_dirindex.specs.Mapped.{Mapped, is_beyond}
 use Rattle.xfs_dirindex.specs.Data.{are_data, all_pairs, all_bests}
 
 -- the longest unused span of a data block, or 0xffff where it is not mapped
-abbrev pub best_at : List Best → ℕ → ℕ
-best_at [] block = 0xffff
-best_at (b ∷ bs) block = if b.offset == block then b.length else best_at bs block
+abbrev pub best_length_of : List Best → ℕ → ℕ
+best_length_of [] block = 0xffff
+best_length_of (b ∷ bs) block = if b.offset == block then b.length else best_length_of bs block
 
 -- so many values from a byte offset on are those of the data blocks from some block on
 unfoldable pub are_values : List Best → List ℕ → ℕ → ℕ → ℕ → Bool
-are_values bests bytes at first count = list_all (λ j. field_of bytes (at + 2 * j) 2 == best_at bests (first + j)) (range_with_len 0 count)
+are_values bests bytes at first count = list_all (λ j. field_of bytes (at + 2 * j) 2 == best_length_of bests (first + j)) (range_with_len 0 count)
 
 -- how many file blocks there are up to the last data block
 abbrev pub end_of : List Best → ℕ

@@ -33,10 +33,10 @@ abbrev pub times : Pair → List Pair → ℕ
 times pair pairs = count_by (is_pair pair) pairs
 
 -- two lists have the same pairs in any order: each pair stands in one as often as in the other
-unfoldable pub are_same : List Pair → List Pair → Bool
-are_same xs ys = list_all (λ p. times p xs == times p ys) (xs ++ ys)
+unfoldable pub same_pairs : List Pair → List Pair → Bool
+same_pairs xs ys = list_all (λ p. times p xs == times p ys) (xs ++ ys)
 
 -- the pairs of an index are sound: the hashes do not descend, the stale ones are as many as stated, and the others are
 -- exactly those of the entries
 unfoldable pub is_index : List Pair → ℕ → List Pair → Bool
-is_index pairs stale due = rises 0 pairs && count_by is_stale pairs == stale && are_same (filter is_live pairs) due
+is_index pairs stale due = rises 0 pairs && count_by is_stale pairs == stale && same_pairs (filter is_live pairs) due

@@ -1,11 +1,11 @@
 //! The single-block form of a directory.
 
 ghost use Rattle.std.specs.Prelude.{◌≡◌, true, false, length, IfErr, OnOk};
-ghost use Rattle.xfs_dirindex.specs.Faults.{OnUnsound};
-ghost use Rattle.xfs_dirindex.specs.Mapped.{block_of, mapped};
+ghost use Rattle.xfs_dirindex.specs.Faults.{OnUnsoundIndex};
+ghost use Rattle.xfs_dirindex.specs.Mapped.{mapped_block, mapped};
 ghost use Rattle.xfs_dirindex.specs.Block.{is_single, is_whole_block};
 
-use crate::data::{Taken, take_first};
+use crate::data::{StatedData, take_first};
 use crate::pairs::{PAIR_SIZE, is_index, read_pairs};
 use crate::seen::{DirSeen, IndexFault};
 use std::alloc::Global;
@@ -18,7 +18,7 @@ use xfs_word::get32;
 pub fn check_block(alloc: Global, dir: &DirSeen) -> Result<(), IndexFault>
     requires mapped { length dir.now.blocks ≡ length dir.now.offsets.items }
     ensures whole { OnOk result (is_whole_block dir.now.dir dir.now.size (mapped dir.now.offsets.items dir.now.blocks) ≡ true) }
-    ensures unsound { IfErr result (λ fault. OnUnsound fault (is_whole_block dir.now.dir dir.now.size (mapped dir.now.offsets.items dir.now.blocks) ≡ false)) }
+    ensures unsound { IfErr result (λ fault. OnUnsoundIndex fault (is_whole_block dir.now.dir dir.now.size (mapped dir.now.offsets.items dir.now.blocks) ≡ false)) }
 {
     if dir.size != BLOCK_SIZE as u64 {
         return Err(IndexFault::Unsound);
@@ -33,14 +33,14 @@ pub fn check_block(alloc: Global, dir: &DirSeen) -> Result<(), IndexFault>
 #[tactic(auto, unfolding(crate::specs::Block::is_single))]
 fn check_single(alloc: Global, dir: u64, offset: u64, block: &[u8]) -> Result<(), IndexFault>
     requires { length block.now ≡ 4096 }
-    ensures whole { OnOk result (is_single dir (block_of offset block.now) ≡ true) }
-    ensures unsound { IfErr result (λ fault. OnUnsound fault (is_single dir (block_of offset block.now) ≡ false)) }
+    ensures whole { OnOk result (is_single dir (mapped_block offset block.now) ≡ true) }
+    ensures unsound { IfErr result (λ fault. OnUnsoundIndex fault (is_single dir (mapped_block offset block.now) ≡ false)) }
 {
     let count = get32(block, COUNT.offset) as usize;
     if COUNT.offset - HEADER_SIZE < PAIR_SIZE * count {
         return Err(IndexFault::Unsound);
     }
-    let mut taken = Taken::new(alloc);
+    let mut taken = StatedData::new(alloc);
     match take_first(alloc, dir, true, offset, block, &mut taken) {
         Ok(()) => {}
         Err(fault) => return Err(fault),

@@ -2,15 +2,15 @@
 
 ghost use Rattle.std.specs.Prelude.{◌≡◌, ◌<◌, ◌++◌, [], ◌∷◌, true, false, not, length, map, filter, IfOk, IfErr, OnOk};
 ghost use Rattle.std.specs.List.{flat_map, list_any};
-ghost use Rattle.xfs_dirindex.specs.Faults.{OnUnsound};
-ghost use Rattle.xfs_dirindex.specs.Mapped.{block_of, mapped, is_data};
-ghost use Rattle.xfs_dirindex.specs.Data.{is_self, is_parent, is_dots, have_no_dots, begin_with_dots, stand_first, magic_of, area_in, is_sound, is_first, is_later, are_data, due_pair, due_pairs, pairs_in, all_pairs, longest, best_in, all_bests};
+ghost use Rattle.xfs_dirindex.specs.Faults.{OnUnsoundIndex};
+ghost use Rattle.xfs_dirindex.specs.Mapped.{mapped_block, mapped, is_data};
+ghost use Rattle.xfs_dirindex.specs.Data.{is_self, is_parent_name, is_dots, have_no_dots, begin_with_dots, stand_first, magic_of, area_in, is_sound_data, is_first_block, is_later, are_data, due_pair, due_pairs, pairs_in, all_pairs, longest_span, best_in, all_bests};
 
 use crate::layouts::{INDEX_START, data_magic};
 use crate::pairs::Pair;
 use crate::seen::{DirSeen, IndexFault};
 use std::alloc::{AllocError, Global};
-use xfs_dirdata::{DataBlock, DirFault, EntryRec, FreeSpan, read_data};
+use xfs_dirdata::{DataBlock, DirDataFault, EntryRec, FreeSpan, read_data};
 use xfs_word::{get32, name_hash};
 
 /// The byte offsets of the entries of the directory itself and of its parent.
@@ -29,20 +29,20 @@ pub struct Best {
 
 /// What data blocks state.
 #[derive(Debug, Drop)]
-pub struct Taken {
+pub struct StatedData {
     /// The pairs that an index has to have.
     pub due: Vec<Pair>,
     /// The longest unused span of each block.
     pub bests: Vec<Best>,
 }
 
-impl Taken {
+impl StatedData {
     /// What no block states.
-    pub fn new(alloc: Global) -> Taken
+    pub fn new(alloc: Global) -> StatedData
         ensures due { result.due.items ≡ [] }
         ensures bests { result.bests.items ≡ [] }
     {
-        Taken {
+        StatedData {
             due: Vec::new(alloc),
             bests: Vec::new(alloc),
         }
@@ -51,10 +51,10 @@ impl Taken {
 
 /// Reads the data blocks of a directory in leaf or node form.
 #[tactic(auto, unfolding(crate::specs::Data::all_pairs, crate::specs::Data::all_bests))]
-pub fn read_blocks(alloc: Global, dir: &DirSeen) -> Result<Taken, IndexFault>
+pub fn read_blocks(alloc: Global, dir: &DirSeen) -> Result<StatedData, IndexFault>
     requires mapped { length dir.now.blocks ≡ length dir.now.offsets.items }
     ensures sound { OnOk result (are_data dir.now.dir (mapped dir.now.offsets.items dir.now.blocks) ≡ true) }
-    ensures unsound { IfErr result (λ fault. OnUnsound fault (are_data dir.now.dir (mapped dir.now.offsets.items dir.now.blocks) ≡ false)) }
+    ensures unsound { IfErr result (λ fault. OnUnsoundIndex fault (are_data dir.now.dir (mapped dir.now.offsets.items dir.now.blocks) ≡ false)) }
     ensures due { IfOk result (λ taken. taken.due.items ≡ all_pairs dir.now.dir (mapped dir.now.offsets.items dir.now.blocks)) }
     ensures bests { IfOk result (λ taken. taken.bests.items ≡ all_bests dir.now.dir (mapped dir.now.offsets.items dir.now.blocks)) }
 {
@@ -62,7 +62,7 @@ pub fn read_blocks(alloc: Global, dir: &DirSeen) -> Result<Taken, IndexFault>
     if count == 0 {
         return Err(IndexFault::Unsound);
     }
-    let mut taken = Taken::new(alloc);
+    let mut taken = StatedData::new(alloc);
     let first = dir.blocks.view(0);
     match take_first(alloc, dir.dir, false, dir.offsets[0], first, &mut taken) {
         Ok(()) => {}
@@ -79,20 +79,20 @@ pub fn read_blocks(alloc: Global, dir: &DirSeen) -> Result<Taken, IndexFault>
 }
 
 /// Takes up the first block of a directory.
-#[tactic(auto, unfolding(crate::specs::Data::is_first))]
+#[tactic(auto, unfolding(crate::specs::Data::is_first_block))]
 pub fn take_first(
     alloc: Global,
     dir: u64,
     whole: bool,
     offset: u64,
     block: &[u8],
-    taken: &mut Taken,
+    taken: &mut StatedData,
 ) -> Result<(), IndexFault>
     requires { length block.now ≡ 4096 }
-    ensures sound { OnOk result (is_first dir whole (block_of offset block.now) ≡ true) }
-    ensures unsound { IfErr result (λ fault. OnUnsound fault (is_first dir whole (block_of offset block.now) ≡ false)) }
-    ensures due { OnOk result (taken.new.due.items ≡ taken.old.due.items ++ pairs_in dir whole (block_of offset block.now)) }
-    ensures bests { OnOk result (taken.new.bests.items ≡ taken.old.bests.items ++ best_in dir whole (block_of offset block.now) ∷ []) }
+    ensures sound { OnOk result (is_first_block dir whole (mapped_block offset block.now) ≡ true) }
+    ensures unsound { IfErr result (λ fault. OnUnsoundIndex fault (is_first_block dir whole (mapped_block offset block.now) ≡ false)) }
+    ensures due { OnOk result (taken.new.due.items ≡ taken.old.due.items ++ pairs_in dir whole (mapped_block offset block.now)) }
+    ensures bests { OnOk result (taken.new.bests.items ≡ taken.old.bests.items ++ best_in dir whole (mapped_block offset block.now) ∷ []) }
 {
     if offset != 0 {
         return Err(IndexFault::Unsound);
@@ -114,13 +114,13 @@ fn take_later(
     dir: u64,
     offset: u64,
     block: &[u8],
-    taken: &mut Taken,
+    taken: &mut StatedData,
 ) -> Result<(), IndexFault>
     requires { length block.now ≡ 4096 }
-    ensures sound { OnOk result (is_later dir (block_of offset block.now) ≡ true) }
-    ensures unsound { IfErr result (λ fault. OnUnsound fault (is_later dir (block_of offset block.now) ≡ false)) }
-    ensures due { OnOk result (taken.new.due.items ≡ taken.old.due.items ++ flat_map (pairs_in dir false) (filter is_data (block_of offset block.now ∷ []))) }
-    ensures bests { OnOk result (taken.new.bests.items ≡ taken.old.bests.items ++ map (best_in dir false) (filter is_data (block_of offset block.now ∷ []))) }
+    ensures sound { OnOk result (is_later dir (mapped_block offset block.now) ≡ true) }
+    ensures unsound { IfErr result (λ fault. OnUnsoundIndex fault (is_later dir (mapped_block offset block.now) ≡ false)) }
+    ensures due { OnOk result (taken.new.due.items ≡ taken.old.due.items ++ flat_map (pairs_in dir false) (filter is_data (mapped_block offset block.now ∷ []))) }
+    ensures bests { OnOk result (taken.new.bests.items ≡ taken.old.bests.items ++ map (best_in dir false) (filter is_data (mapped_block offset block.now ∷ []))) }
 {
     if offset >= INDEX_START {
         return Ok(());
@@ -133,36 +133,36 @@ fn take_later(
 }
 
 /// Takes up what a data block states.
-#[tactic(auto, unfolding(crate::specs::Data::is_sound, crate::specs::Data::area_in, crate::specs::Data::pairs_in, crate::specs::Data::best_in))]
+#[tactic(auto, unfolding(crate::specs::Data::is_sound_data, crate::specs::Data::area_in, crate::specs::Data::pairs_in, crate::specs::Data::best_in))]
 fn take_block(
     alloc: Global,
     dir: u64,
     whole: bool,
     offset: u64,
     block: &[u8],
-    taken: &mut Taken,
+    taken: &mut StatedData,
 ) -> Result<DataBlock, IndexFault>
     requires block { length block.now ≡ 4096 }
     requires low { offset < 0x800000 }
-    ensures sound { OnOk result (is_sound dir whole (block_of offset block.now) ≡ true) }
-    ensures unsound { IfErr result (λ fault. OnUnsound fault (is_sound dir whole (block_of offset block.now) ≡ false)) }
-    ensures entries { IfOk result (λ read. read.entries.items ≡ (area_in dir whole (block_of offset block.now)).entries) }
-    ensures places { IfOk result (λ read. read.places.items ≡ (area_in dir whole (block_of offset block.now)).places) }
-    ensures due { OnOk result (taken.new.due.items ≡ taken.old.due.items ++ pairs_in dir whole (block_of offset block.now)) }
-    ensures bests { OnOk result (taken.new.bests.items ≡ taken.old.bests.items ++ best_in dir whole (block_of offset block.now) ∷ []) }
+    ensures sound { OnOk result (is_sound_data dir whole (mapped_block offset block.now) ≡ true) }
+    ensures unsound { IfErr result (λ fault. OnUnsoundIndex fault (is_sound_data dir whole (mapped_block offset block.now) ≡ false)) }
+    ensures entries { IfOk result (λ read. read.entries.items ≡ (area_in dir whole (mapped_block offset block.now)).entries) }
+    ensures places { IfOk result (λ read. read.places.items ≡ (area_in dir whole (mapped_block offset block.now)).places) }
+    ensures due { OnOk result (taken.new.due.items ≡ taken.old.due.items ++ pairs_in dir whole (mapped_block offset block.now)) }
+    ensures bests { OnOk result (taken.new.bests.items ≡ taken.old.bests.items ++ best_in dir whole (mapped_block offset block.now) ∷ []) }
 {
     if get32(block, 0) != data_magic(whole) {
         return Err(IndexFault::Unsound);
     }
     let data = match read_data(alloc, dir, block, whole) {
         Ok(data) => data,
-        Err(DirFault::Unsound) => return Err(IndexFault::Unsound),
-        Err(DirFault::NoMemory) => return Err(IndexFault::NoMemory),
+        Err(DirDataFault::Unsound) => return Err(IndexFault::Unsound),
+        Err(DirDataFault::NoMemory) => return Err(IndexFault::NoMemory),
     };
     take_pairs(offset, &data.entries, &data.places, &mut taken.due)?;
     taken.bests.push(Best {
         offset,
-        length: longest(&data.free),
+        length: longest_span(&data.free),
     })?;
     Ok(data)
 }
@@ -196,8 +196,8 @@ fn due_pair(offset: u64, entry: &EntryRec, place: u16) -> Pair
 }
 
 /// How many bytes the longest of these unused spans has.
-fn longest(free: &[FreeSpan]) -> u16
-    ensures { result ≡ longest free.now }
+fn longest_span(free: &[FreeSpan]) -> u16
+    ensures { result ≡ longest_span free.now }
 {
     let mut length = 0;
     for span in free {
@@ -220,7 +220,7 @@ fn begin_with_dots(dir: u64, entries: &[EntryRec]) -> bool
     if own.ino != dir {
         return false;
     }
-    if !is_parent(parent.name.bytes()) {
+    if !is_parent_name(parent.name.bytes()) {
         return false;
     }
     have_no_dots(rest)
@@ -256,7 +256,7 @@ fn is_dots(entry: &EntryRec) -> bool
     ensures { result ≡ is_dots entry.now }
 {
     let name = entry.name.bytes();
-    is_self(name) || is_parent(name)
+    is_self(name) || is_parent_name(name)
 }
 
 /// Whether a name is ".".
@@ -268,9 +268,9 @@ fn is_self(name: &[u8]) -> bool
 }
 
 /// Whether a name is "..".
-#[tactic(auto, unfolding(crate::specs::Data::is_parent))]
-fn is_parent(name: &[u8]) -> bool
-    ensures { result ≡ is_parent name.now }
+#[tactic(auto, unfolding(crate::specs::Data::is_parent_name))]
+fn is_parent_name(name: &[u8]) -> bool
+    ensures { result ≡ is_parent_name name.now }
 {
     if name.len() != 2 {
         return false;

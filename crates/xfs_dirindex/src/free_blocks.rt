@@ -4,13 +4,13 @@ ghost use Rattle.std.specs.Prelude.{◌≡◌, ◌+◌, ◌*◌, ◌≤◌, ◌=
 ghost use Rattle.std.specs.List.{list_all};
 ghost use Rattle.std.specs.List.Sorted.{IsNonDecreasingBy};
 ghost use Rattle.xfs_dirindex.specs.declared.data.Best.{Best};
-ghost use Rattle.xfs_dirindex.specs.Mapped.{Ascend, block_of, mapped};
+ghost use Rattle.xfs_dirindex.specs.Mapped.{OffsetsAscend, mapped_block, mapped};
 ghost use Rattle.xfs_dirindex.specs.FreeBlocks.{used_in, has_values, is_free_sound, is_covered, has_value, are_free};
 
 use crate::data::Best;
 use crate::layouts::FREE_START;
 use crate::layouts::free_block::{FIRST, HEADER_SIZE, MOST_VALUES, USED, VALID, VALUE_SIZE};
-use crate::lookup::bytes_of;
+use crate::lookup::bytes_mapped;
 use crate::seen::DirSeen;
 use crate::values::{UNMAPPED, are_values};
 use xfs_disk::BLOCK_SIZE;
@@ -20,7 +20,7 @@ use xfs_word::{get16, get32};
 #[tactic(auto, unfolding(crate::specs::FreeBlocks::are_free))]
 pub fn are_free(dir: &DirSeen, bests: &[Best]) -> bool
     requires mapped { length dir.now.blocks ≡ length dir.now.offsets.items }
-    requires ascending { Ascend 0 dir.now.offsets.items }
+    requires ascending { OffsetsAscend 0 dir.now.offsets.items }
     requires rise { IsNonDecreasingBy (λ (b : Best). b.offset) bests.now }
     ensures { result ≡ are_free bests.now (mapped dir.now.offsets.items dir.now.blocks) }
 {
@@ -33,7 +33,7 @@ pub fn are_free(dir: &DirSeen, bests: &[Best]) -> bool
 /// Whether each data block has its value in a free block.
 fn have_values(dir: &DirSeen, bests: &[Best]) -> bool
     requires mapped { length dir.now.blocks ≡ length dir.now.offsets.items }
-    requires ascending { Ascend 0 dir.now.offsets.items }
+    requires ascending { OffsetsAscend 0 dir.now.offsets.items }
     ensures { result ≡ list_all (has_value (mapped dir.now.offsets.items dir.now.blocks)) bests.now }
 {
     bests.iter().all(|best| has_value(dir, *best))
@@ -58,7 +58,7 @@ fn are_sound(dir: &DirSeen, bests: &[Best]) -> bool
 fn is_free_sound(bests: &[Best], offset: u64, bytes: &[u8]) -> bool
     requires size { length bytes.now ≡ 4096 }
     requires rise { IsNonDecreasingBy (λ (b : Best). b.offset) bests.now }
-    ensures { result ≡ is_free_sound bests.now (block_of offset bytes.now) }
+    ensures { result ≡ is_free_sound bests.now (mapped_block offset bytes.now) }
 {
     if offset < FREE_START {
         return true;
@@ -111,11 +111,11 @@ fn used_in(bytes: &[u8], count: usize) -> usize
 /// Whether a data block has its value in its free block.
 fn has_value(dir: &DirSeen, best: Best) -> bool
     requires mapped { length dir.now.blocks ≡ length dir.now.offsets.items }
-    requires ascending { Ascend 0 dir.now.offsets.items }
+    requires ascending { OffsetsAscend 0 dir.now.offsets.items }
     ensures { result ≡ has_value (mapped dir.now.offsets.items dir.now.blocks) best }
 {
     let i = best.offset / MOST_VALUES as u64;
-    is_covered(best, bytes_of(dir, FREE_START + i))
+    is_covered(best, bytes_mapped(dir, FREE_START + i))
 }
 
 /// Whether a free block reaches as far as the value of a data block.

@@ -2,18 +2,18 @@
 
 ghost use Rattle.std.specs.Prelude.{◌≡◌, ◌+◌, ◌≤◌, ◌&&◌, ◌++◌, ◌==◌, [], ◌∷◌, true, false, nat_le, nat_lt, if◌then◌else◌, length, count_by, IfOk, IfErr, OnOk};
 ghost use Rattle.xfs_word.specs.Field.{field_of};
-ghost use Rattle.xfs_dirindex.specs.Faults.{OnUnsound};
-ghost use Rattle.xfs_dirindex.specs.Mapped.{Ascend, mapped};
+ghost use Rattle.xfs_dirindex.specs.Faults.{OnUnsoundIndex};
+ghost use Rattle.xfs_dirindex.specs.Mapped.{OffsetsAscend, mapped};
 ghost use Rattle.xfs_dirindex.specs.Pairs.{is_stale};
-ghost use Rattle.xfs_dirindex.specs.IndexTree.{pairs_of, form_of, has_form, has_neighbours, has_greatest, next_of, are_members, pairs_below, place_of, places_of, level_in, root_level, keeps_rules, all_places, all_leaf_pairs, index_places, is_tree};
+ghost use Rattle.xfs_dirindex.specs.IndexTree.{pairs_of, magic_of_level, has_index_form, has_neighbours, has_greatest, next_link, are_members, pairs_below, pair_of_place, pairs_of_places, level_in, index_level, keeps_rules, index_tree_all_places, all_leaf_pairs, index_places, is_tree};
 
 use crate::layouts::index_block::{
     BACK, COUNT, FORW, HEADER_SIZE, MAGIC, NODE_LEAF_MAGIC, NODE_MAGIC, STALE,
 };
 use crate::layouts::{FREE_START, INDEX_START};
-use crate::lookup::bytes_of;
+use crate::lookup::bytes_mapped;
 use crate::pairs::{PAIR_SIZE, Pair, count_stale, is_index, read_pairs};
-use crate::same::are_same;
+use crate::same::same_pairs;
 use crate::seen::{DirSeen, IndexFault};
 use std::alloc::{AllocError, Global};
 use xfs_disk::BLOCK_SIZE;
@@ -24,7 +24,7 @@ const MOST_PAIRS: usize = 504;
 
 /// What a tree of index blocks states.
 #[derive(Debug, Drop)]
-struct Tree {
+struct StatedTree {
     /// Its blocks, as pairs that have no hash.
     places: Vec<Pair>,
     /// The pairs of its leaves, from the left.
@@ -35,19 +35,19 @@ struct Tree {
 #[tactic(auto, unfolding(crate::specs::IndexTree::is_tree, crate::specs::IndexTree::are_exactly, crate::specs::IndexTree::are_due))]
 pub fn check_tree(alloc: Global, dir: &DirSeen, due: &[Pair]) -> Result<(), IndexFault>
     requires mapped { length dir.now.blocks ≡ length dir.now.offsets.items }
-    requires ascending { Ascend 0 dir.now.offsets.items }
+    requires ascending { OffsetsAscend 0 dir.now.offsets.items }
     ensures sound { OnOk result (is_tree (mapped dir.now.offsets.items dir.now.blocks) due.now ≡ true) }
-    ensures unsound { IfErr result (λ fault. OnUnsound fault (is_tree (mapped dir.now.offsets.items dir.now.blocks) due.now ≡ false)) }
+    ensures unsound { IfErr result (λ fault. OnUnsoundIndex fault (is_tree (mapped dir.now.offsets.items dir.now.blocks) due.now ≡ false)) }
 {
     let places = index_places(alloc, dir)?;
-    let tree = match read_tree(alloc, dir, places.len()) {
+    let tree = match read_index_tree(alloc, dir, places.len()) {
         Ok(tree) => tree,
         Err(fault) => return Err(fault),
     };
     if tree.places.len() != places.len() {
         return Err(IndexFault::Unsound);
     }
-    if !are_same(alloc, &tree.places, &places)? {
+    if !same_pairs(alloc, &tree.places, &places)? {
         return Err(IndexFault::Unsound);
     }
     if is_index(alloc, &tree.pairs, count_stale(&tree.pairs), due)? {
@@ -72,10 +72,10 @@ fn index_places(alloc: Global, dir: &DirSeen) -> Result<Vec<Pair>, AllocError>
 
 /// Adds a file block, if it is one of the index.
 fn add_index_place(offset: u64, places: &mut Vec<Pair>) -> Result<(), AllocError>
-    ensures { OnOk result (places.new.items ≡ places.old.items ++ (if nat_le 0x800000 offset && nat_lt offset 0x1000000 then place_of offset ∷ [] else [])) }
+    ensures { OnOk result (places.new.items ≡ places.old.items ++ (if nat_le 0x800000 offset && nat_lt offset 0x1000000 then pair_of_place offset ∷ [] else [])) }
 {
     if is_index_place(offset) {
-        places.push(place_of(offset))?;
+        places.push(pair_of_place(offset))?;
     }
     Ok(())
 }
@@ -88,8 +88,8 @@ fn is_index_place(offset: u64) -> bool
 }
 
 /// A file block as a pair that has no hash.
-fn place_of(block: u64) -> Pair
-    ensures { result ≡ place_of block }
+fn pair_of_place(block: u64) -> Pair
+    ensures { result ≡ pair_of_place block }
 {
     Pair {
         hash: 0,
@@ -99,18 +99,18 @@ fn place_of(block: u64) -> Pair
 
 /// Reads the tree, level by level. `Unsound` also where it has more than `most` blocks: a node may name
 /// one child many times.
-#[tactic(auto, unfolding(crate::specs::IndexTree::keeps_rules, crate::specs::IndexTree::all_places, crate::specs::IndexTree::all_leaf_pairs))]
-fn read_tree(alloc: Global, dir: &DirSeen, most: usize) -> Result<Tree, IndexFault>
+#[tactic(auto, unfolding(crate::specs::IndexTree::keeps_rules, crate::specs::IndexTree::index_tree_all_places, crate::specs::IndexTree::all_leaf_pairs))]
+fn read_index_tree(alloc: Global, dir: &DirSeen, most: usize) -> Result<StatedTree, IndexFault>
     requires mapped { length dir.now.blocks ≡ length dir.now.offsets.items }
-    requires ascending { Ascend 0 dir.now.offsets.items }
+    requires ascending { OffsetsAscend 0 dir.now.offsets.items }
     ensures sound { OnOk result (keeps_rules (mapped dir.now.offsets.items dir.now.blocks) ≡ true) }
-    ensures unsound { IfErr result (λ fault. OnUnsound fault ((keeps_rules (mapped dir.now.offsets.items dir.now.blocks) && nat_le (length (all_places (mapped dir.now.offsets.items dir.now.blocks))) most) ≡ false)) }
-    ensures places { IfOk result (λ tree. tree.places.items ≡ all_places (mapped dir.now.offsets.items dir.now.blocks)) }
+    ensures unsound { IfErr result (λ fault. OnUnsoundIndex fault ((keeps_rules (mapped dir.now.offsets.items dir.now.blocks) && nat_le (length (index_tree_all_places (mapped dir.now.offsets.items dir.now.blocks))) most) ≡ false)) }
+    ensures places { IfOk result (λ tree. tree.places.items ≡ index_tree_all_places (mapped dir.now.offsets.items dir.now.blocks)) }
     ensures pairs { IfOk result (λ tree. tree.pairs.items ≡ all_leaf_pairs (mapped dir.now.offsets.items dir.now.blocks)) }
 {
     let mut places = Vec::new(alloc);
-    let mut links = Vec::from_slice(alloc, &[place_of(INDEX_START)])?;
-    let mut level = root_level(dir);
+    let mut links = Vec::from_slice(alloc, &[pair_of_place(INDEX_START)])?;
+    let mut level = index_level(dir);
     let mut root = true;
     while level > 0 {
         links = match take_level(alloc, dir, root, level, &links, most, &mut places) {
@@ -124,16 +124,16 @@ fn read_tree(alloc: Global, dir: &DirSeen, most: usize) -> Result<Tree, IndexFau
         Ok(pairs) => pairs,
         Err(fault) => return Err(fault),
     };
-    Ok(Tree { places, pairs })
+    Ok(StatedTree { places, pairs })
 }
 
 /// The level of the root; leaves are of level 0.
-fn root_level(dir: &DirSeen) -> u16
+fn index_level(dir: &DirSeen) -> u16
     requires mapped { length dir.now.blocks ≡ length dir.now.offsets.items }
-    requires ascending { Ascend 0 dir.now.offsets.items }
-    ensures { result ≡ root_level (mapped dir.now.offsets.items dir.now.blocks) }
+    requires ascending { OffsetsAscend 0 dir.now.offsets.items }
+    ensures { result ≡ index_level (mapped dir.now.offsets.items dir.now.blocks) }
 {
-    level_in(bytes_of(dir, INDEX_START))
+    level_in(bytes_mapped(dir, INDEX_START))
 }
 
 /// The level that a block states as the root.
@@ -161,11 +161,11 @@ fn take_level(
     places: &mut Vec<Pair>,
 ) -> Result<Vec<Pair>, IndexFault>
     requires mapped { length dir.now.blocks ≡ length dir.now.offsets.items }
-    requires ascending { Ascend 0 dir.now.offsets.items }
+    requires ascending { OffsetsAscend 0 dir.now.offsets.items }
     ensures few { OnOk result (length places.old.items + length links.now ≤ most) }
     ensures sound { OnOk result (are_members (mapped dir.now.offsets.items dir.now.blocks) root level 0 links.now ≡ true) }
-    ensures unsound { IfErr result (λ fault. OnUnsound fault ((nat_le (length places.old.items + length links.now) most && are_members (mapped dir.now.offsets.items dir.now.blocks) root level 0 links.now) ≡ false)) }
-    ensures places { OnOk result (places.new.items ≡ places.old.items ++ places_of links.now) }
+    ensures unsound { IfErr result (λ fault. OnUnsoundIndex fault ((nat_le (length places.old.items + length links.now) most && are_members (mapped dir.now.offsets.items dir.now.blocks) root level 0 links.now) ≡ false)) }
+    ensures places { OnOk result (places.new.items ≡ places.old.items ++ pairs_of_places links.now) }
     ensures pairs { IfOk result (λ below. below.items ≡ pairs_below (mapped dir.now.offsets.items dir.now.blocks) links.now) }
 {
     if most < places.len() {
@@ -180,10 +180,10 @@ fn take_level(
 
 /// Adds the file blocks that pairs name.
 fn add_places(links: &[Pair], places: &mut Vec<Pair>) -> Result<(), AllocError>
-    ensures { OnOk result (places.new.items ≡ places.old.items ++ places_of links.now) }
+    ensures { OnOk result (places.new.items ≡ places.old.items ++ pairs_of_places links.now) }
 {
     for link in links {
-        places.push(place_of(link.address))?;
+        places.push(pair_of_place(link.address))?;
     }
     Ok(())
 }
@@ -197,17 +197,17 @@ fn read_level(
     links: &[Pair],
 ) -> Result<Vec<Pair>, IndexFault>
     requires mapped { length dir.now.blocks ≡ length dir.now.offsets.items }
-    requires ascending { Ascend 0 dir.now.offsets.items }
+    requires ascending { OffsetsAscend 0 dir.now.offsets.items }
     ensures sound { OnOk result (are_members (mapped dir.now.offsets.items dir.now.blocks) root level 0 links.now ≡ true) }
-    ensures unsound { IfErr result (λ fault. OnUnsound fault (are_members (mapped dir.now.offsets.items dir.now.blocks) root level 0 links.now ≡ false)) }
+    ensures unsound { IfErr result (λ fault. OnUnsoundIndex fault (are_members (mapped dir.now.offsets.items dir.now.blocks) root level 0 links.now ≡ false)) }
     ensures pairs { IfOk result (λ below. below.items ≡ pairs_below (mapped dir.now.offsets.items dir.now.blocks) links.now) }
 {
     let mut below = Vec::new(alloc);
     let mut before = 0;
     for i in 0..links.len() {
         let link = links[i];
-        let next = next_of(&links[i + 1..]);
-        let block = bytes_of(dir, link.address);
+        let next = next_link(&links[i + 1..]);
+        let block = bytes_mapped(dir, link.address);
         match take_member(
             alloc, root, level, before, link.hash, next, block, &mut below,
         ) {
@@ -220,8 +220,8 @@ fn read_level(
 }
 
 /// The file block that the first pair names; 0 where there is none.
-fn next_of(links: &[Pair]) -> u64
-    ensures { result ≡ next_of links.now }
+fn next_link(links: &[Pair]) -> u64
+    ensures { result ≡ next_link links.now }
 {
     if links.is_empty() {
         return 0;
@@ -240,8 +240,8 @@ fn take_member(
     bytes: &[u8],
     below: &mut Vec<Pair>,
 ) -> Result<(), IndexFault>
-    ensures sound { OnOk result ((has_form level bytes.now && has_neighbours before next bytes.now && has_greatest root hash bytes.now) ≡ true) }
-    ensures unsound { IfErr result (λ fault. OnUnsound fault ((has_form level bytes.now && has_neighbours before next bytes.now && has_greatest root hash bytes.now) ≡ false)) }
+    ensures sound { OnOk result ((has_index_form level bytes.now && has_neighbours before next bytes.now && has_greatest root hash bytes.now) ≡ true) }
+    ensures unsound { IfErr result (λ fault. OnUnsoundIndex fault ((has_index_form level bytes.now && has_neighbours before next bytes.now && has_greatest root hash bytes.now) ≡ false)) }
     ensures pairs { OnOk result (below.new.items ≡ below.old.items ++ pairs_of bytes.now) }
 {
     let pairs = match read_form(alloc, level, bytes) {
@@ -259,10 +259,10 @@ fn take_member(
 }
 
 /// The pairs of a block that has the form of its level.
-#[tactic(auto, unfolding(crate::specs::IndexTree::has_form, crate::specs::IndexTree::pairs_of))]
+#[tactic(auto, unfolding(crate::specs::IndexTree::has_index_form, crate::specs::IndexTree::pairs_of))]
 fn read_form(alloc: Global, level: u16, bytes: &[u8]) -> Result<Vec<Pair>, IndexFault>
-    ensures sound { OnOk result (has_form level bytes.now ≡ true) }
-    ensures unsound { IfErr result (λ fault. OnUnsound fault (has_form level bytes.now ≡ false)) }
+    ensures sound { OnOk result (has_index_form level bytes.now ≡ true) }
+    ensures unsound { IfErr result (λ fault. OnUnsoundIndex fault (has_index_form level bytes.now ≡ false)) }
     ensures size { OnOk result (length bytes.now ≡ 4096) }
     ensures some { OnOk result (1 ≤ field_of bytes.now 56 2) }
     ensures few { OnOk result (field_of bytes.now 56 2 ≤ 504) }
@@ -271,7 +271,7 @@ fn read_form(alloc: Global, level: u16, bytes: &[u8]) -> Result<Vec<Pair>, Index
     if bytes.len() != BLOCK_SIZE {
         return Err(IndexFault::Unsound);
     }
-    if get16(bytes, MAGIC.offset) != form_of(level) {
+    if get16(bytes, MAGIC.offset) != magic_of_level(level) {
         return Err(IndexFault::Unsound);
     }
     let count = get16(bytes, COUNT.offset) as usize;
@@ -289,8 +289,8 @@ fn read_form(alloc: Global, level: u16, bytes: &[u8]) -> Result<Vec<Pair>, Index
 }
 
 /// The magic number of the blocks of a level.
-fn form_of(level: u16) -> u16
-    ensures { result ≡ form_of level }
+fn magic_of_level(level: u16) -> u16
+    ensures { result ≡ magic_of_level level }
 {
     if level == 0 {
         NODE_LEAF_MAGIC

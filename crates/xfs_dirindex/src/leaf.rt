@@ -3,11 +3,11 @@
 ghost use Rattle.std.specs.Prelude.{◌≡◌, ◌*◌, true, false, length, IfOk, IfErr, OnOk};
 ghost use Rattle.std.specs.List.Sorted.{IsNonDecreasingBy};
 ghost use Rattle.xfs_dirindex.specs.declared.data.Best.{Best};
-ghost use Rattle.xfs_dirindex.specs.Faults.{OnUnsound};
-ghost use Rattle.xfs_dirindex.specs.Mapped.{Ascend, mapped};
+ghost use Rattle.xfs_dirindex.specs.Faults.{OnUnsoundIndex};
+ghost use Rattle.xfs_dirindex.specs.Mapped.{OffsetsAscend, mapped};
 ghost use Rattle.xfs_dirindex.specs.Leaf.{end_of, is_leaf, is_whole_leaf};
 
-use crate::data::{Taken, read_blocks};
+use crate::data::{StatedData, read_blocks};
 use crate::layouts::INDEX_START;
 use crate::layouts::index_block::{
     COUNT, HEADER_SIZE, LEAF_MAGIC, MAGIC, STALE, VALUE_COUNT, VALUE_SIZE,
@@ -24,9 +24,9 @@ use xfs_word::{get16, get32};
 #[tactic(auto, unfolding(crate::specs::Leaf::is_whole_leaf))]
 pub fn check_leaf(alloc: Global, dir: &DirSeen) -> Result<(), IndexFault>
     requires mapped { length dir.now.blocks ≡ length dir.now.offsets.items }
-    requires ascending { Ascend 0 dir.now.offsets.items }
+    requires ascending { OffsetsAscend 0 dir.now.offsets.items }
     ensures whole { OnOk result (is_whole_leaf dir.now.dir dir.now.size (mapped dir.now.offsets.items dir.now.blocks) ≡ true) }
-    ensures unsound { IfErr result (λ fault. OnUnsound fault (is_whole_leaf dir.now.dir dir.now.size (mapped dir.now.offsets.items dir.now.blocks) ≡ false)) }
+    ensures unsound { IfErr result (λ fault. OnUnsoundIndex fault (is_whole_leaf dir.now.dir dir.now.size (mapped dir.now.offsets.items dir.now.blocks) ≡ false)) }
 {
     let taken = match read_blocks(alloc, dir) {
         Ok(taken) => taken,
@@ -53,7 +53,7 @@ pub fn check_leaf(alloc: Global, dir: &DirSeen) -> Result<(), IndexFault>
 /// Whether the index block of a directory keeps the rules of this form; `end` is the number of file
 /// blocks up to the last data block.
 #[tactic(auto, unfolding(crate::specs::Leaf::is_leaf))]
-fn is_leaf(alloc: Global, taken: &Taken, end: u64, bytes: &[u8]) -> Result<bool, AllocError>
+fn is_leaf(alloc: Global, taken: &StatedData, end: u64, bytes: &[u8]) -> Result<bool, AllocError>
     requires block { length bytes.now ≡ 4096 }
     requires end { end ≡ end_of taken.now.bests.items }
     requires rise { IsNonDecreasingBy (λ (b : Best). b.offset) taken.now.bests.items }

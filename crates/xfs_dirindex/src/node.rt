@@ -1,8 +1,8 @@
 //! The node form of a directory.
 
 ghost use Rattle.std.specs.Prelude.{◌≡◌, true, false, length, IfErr, OnOk};
-ghost use Rattle.xfs_dirindex.specs.Faults.{OnUnsound};
-ghost use Rattle.xfs_dirindex.specs.Mapped.{Ascend, mapped};
+ghost use Rattle.xfs_dirindex.specs.Faults.{OnUnsoundIndex};
+ghost use Rattle.xfs_dirindex.specs.Mapped.{OffsetsAscend, mapped};
 ghost use Rattle.xfs_dirindex.specs.Node.{is_whole_node};
 
 use crate::data::read_blocks;
@@ -17,9 +17,9 @@ use std::alloc::Global;
 #[tactic(auto, unfolding(crate::specs::Node::is_whole_node))]
 pub fn check_node(alloc: Global, dir: &DirSeen) -> Result<(), IndexFault>
     requires mapped { length dir.now.blocks ≡ length dir.now.offsets.items }
-    requires ascending { Ascend 0 dir.now.offsets.items }
+    requires ascending { OffsetsAscend 0 dir.now.offsets.items }
     ensures whole { OnOk result (is_whole_node dir.now.dir dir.now.size (mapped dir.now.offsets.items dir.now.blocks) ≡ true) }
-    ensures unsound { IfErr result (λ fault. OnUnsound fault (is_whole_node dir.now.dir dir.now.size (mapped dir.now.offsets.items dir.now.blocks) ≡ false)) }
+    ensures unsound { IfErr result (λ fault. OnUnsoundIndex fault (is_whole_node dir.now.dir dir.now.size (mapped dir.now.offsets.items dir.now.blocks) ≡ false)) }
 {
     let taken = match read_blocks(alloc, dir) {
         Ok(taken) => taken,

@@ -1,9 +1,9 @@
 //! The pairs of an index.
 
 ghost use Rattle.std.specs.Prelude.{◌≡◌, ◌+◌, ◌*◌, ◌≤◌, ◌<◌, ◌^◌, length, filter, count_by, IfOk};
-ghost use Rattle.xfs_dirindex.specs.Pairs.{pair_at, pairs_at, is_stale, is_live, rises, are_same, is_index};
+ghost use Rattle.xfs_dirindex.specs.Pairs.{pair_at, pairs_at, is_stale, is_live, rises, same_pairs, is_index};
 
-use crate::same::are_same;
+use crate::same::same_pairs;
 use std::alloc::{AllocError, Global};
 use xfs_word::get32;
 
@@ -36,7 +36,7 @@ pub fn is_index(
     if count_stale(pairs) != stale {
         return Ok(false);
     }
-    are_same(alloc, &live(alloc, pairs)?, due)
+    same_pairs(alloc, &live(alloc, pairs)?, due)
 }
 
 /// So many pairs that stand from a byte offset on.

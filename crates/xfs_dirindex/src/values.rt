@@ -4,7 +4,7 @@ ghost use Rattle.std.specs.Prelude.{◌≡◌, ◌+◌, ◌*◌, ◌<◌, ◌≤
 ghost use Rattle.std.specs.List.{AllWithin};
 ghost use Rattle.std.specs.List.Sorted.{IsNonDecreasingBy};
 ghost use Rattle.xfs_dirindex.specs.declared.data.Best.{Best};
-ghost use Rattle.xfs_dirindex.specs.Leaf.{best_at, are_values, end_of};
+ghost use Rattle.xfs_dirindex.specs.Leaf.{best_length_of, are_values, end_of};
 
 use crate::data::Best;
 use xfs_disk::BLOCK_SIZE;
@@ -40,7 +40,7 @@ pub fn are_values(bests: &[Best], bytes: &[u8], at: usize, first: u64, count: us
     ensures { result ≡ are_values bests.now bytes.now at first count }
 {
     for j in 0..count {
-        if get16(bytes, at + 2 * j) != best_at(bests, first + j as u64) {
+        if get16(bytes, at + 2 * j) != best_length_of(bests, first + j as u64) {
             return false;
         }
     }
@@ -48,9 +48,9 @@ pub fn are_values(bests: &[Best], bytes: &[u8], at: usize, first: u64, count: us
 }
 
 /// The longest unused span of a data block, in bytes, or `UNMAPPED`.
-fn best_at(bests: &[Best], block: u64) -> u16
+fn best_length_of(bests: &[Best], block: u64) -> u16
     requires { IsNonDecreasingBy (λ (b : Best). b.offset) bests.now }
-    ensures { result ≡ best_at bests.now block }
+    ensures { result ≡ best_length_of bests.now block }
 {
     let k = place_of(bests, block);
     if k == bests.len() {

@@ -4,7 +4,7 @@ use Rattle.std.proofs.lemmas.Bool.Decides.{nat_tests}
 use Rattle.std.proofs.lemmas.List.Sums.{length-filter}
 use Rattle.xfs_dirindex.specs.Data.{all_bests, all_pairs, are_data}
 use Rattle.xfs_dirindex.specs.Leaf.{end_of, is_only_leaf, is_whole_leaf}
-use Rattle.xfs_dirindex.specs.Mapped.{Mapped, block_of, is_beyond, mapped}
+use Rattle.xfs_dirindex.specs.Mapped.{Mapped, mapped_block, is_beyond, mapped}
 use Rattle.xfs_dirindex.specs.declared.data.Best.{Best}
 use Rattle.xfs_dirindex.specs.declared.pairs.Pair.{Pair}
 use Rattle.xfs_dirs.proofs.Readings.{with_false}
@@ -25,7 +25,7 @@ count_beyond : (offsets : List ℕ) (blocks : List (List ℕ)) → length blocks
 count_beyond [] blocks as_many = refl
 count_beyond (o ∷ os) [] as_many = absurd (omega (arith, as_many))
 count_beyond (o ∷ os) (b ∷ bs) as_many =
-    counted (not (nat_lt o 0x800000)) (nat_le 0x800000 o) (block_of o b) (filter is_beyond (mapped os bs)) o (filter (nat_le 0x800000) os)
+    counted (not (nat_lt o 0x800000)) (nat_le 0x800000 o) (mapped_block o b) (filter is_beyond (mapped os bs)) o (filter (nat_le 0x800000) os)
     (beyond_is o 0x800000) (count_beyond os bs (omega (arith, as_many)))
 
 only_one : (bests : List Best) (due : List Pair) (ms : List Mapped) → (length ms ≡ 1 → ⊥) → is_only_leaf bests due ms ≡ false

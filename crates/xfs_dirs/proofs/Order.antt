@@ -6,35 +6,35 @@ use Rattle.xfs_word.specs.declared.extents.Extent.{Extent}
 use Rattle.xfs_geom.specs.Volumes.{Volume}
 use Rattle.xfs_kinds.specs.FileTrees.{follows_offset, is_extent}
 use Rattle.xfs_inode.specs.Files.{are_extents}
-use Rattle.xfs_dirindex.specs.Mapped.{Ascend, Mapped, mapped}
-use Rattle.xfs_dirs.specs.declared.gathered.Kept.{Kept}
+use Rattle.xfs_dirindex.specs.Mapped.{OffsetsAscend, Mapped, mapped}
+use Rattle.xfs_dirs.specs.declared.gathered.KeptBlocks.{KeptBlocks}
 use Rattle.xfs_dirs.specs.declared.gathered.KeptBlock.{KeptBlock}
-use Rattle.xfs_dirs.specs.Gathered.{AreBelow, AreInOrder, AscendWhole, Rise, mapped_of}
+use Rattle.xfs_dirs.specs.Gathered.{AreBelow, BlocksInOrder, AscendWhole, OffsetsRise, mapped_of}
 
 -- one more behind their end
-pub rise_more : (least end : ℕ) (ks : List KeptBlock) (k : KeptBlock) → end ≤ k.offset → length k.bytes ≡ 4096 → Rise least ks end → Rise least (ks ++ k ∷ []) (k.offset + 1)
+pub rise_more : (least end : ℕ) (ks : List KeptBlock) (k : KeptBlock) → end ≤ k.offset → length k.bytes ≡ 4096 → OffsetsRise least ks end → OffsetsRise least (ks ++ k ∷ []) (k.offset + 1)
 rise_more least end [] k behind whole rise = (omega (arith, behind, rise), whole, omega arith)
 rise_more least end (x ∷ ks) k behind whole rise = (rise.0, rise.1, rise_more (x.offset + 1) end ks k behind whole rise.2)
 
 -- the end may lie further behind
-rise_later : (least a b : ℕ) (ks : List KeptBlock) → a ≤ b → Rise least ks a → Rise least ks b
+rise_later : (least a b : ℕ) (ks : List KeptBlock) → a ≤ b → OffsetsRise least ks a → OffsetsRise least ks b
 rise_later least a b [] later rise = omega (arith, later, rise)
 rise_later least a b (x ∷ ks) later rise = (rise.0, rise.1, rise_later (x.offset + 1) a b ks later rise.2)
 
-pub below_later : (kept : Option Kept) (a b : ℕ) → a ≤ b → AreBelow kept a → AreBelow kept b
+pub below_later : (kept : Option KeptBlocks) (a b : ℕ) → a ≤ b → AreBelow kept a → AreBelow kept b
 below_later None a b later below = tt
 below_later (Some k) a b later below = rise_later 0 a b k.blocks.items later below
 
-rise_ordered : (least end : ℕ) (ks : List KeptBlock) → Rise least ks end → AscendWhole least ks
+rise_ordered : (least end : ℕ) (ks : List KeptBlock) → OffsetsRise least ks end → AscendWhole least ks
 rise_ordered least end [] rise = tt
 rise_ordered least end (x ∷ ks) rise = (rise.0, rise.1, rise_ordered (x.offset + 1) end ks rise.2)
 
-pub below_ordered : (kept : Option Kept) (end : ℕ) → AreBelow kept end → AreInOrder kept
+pub below_ordered : (kept : Option KeptBlocks) (end : ℕ) → AreBelow kept end → BlocksInOrder kept
 below_ordered None end below = tt
 below_ordered (Some k) end below = rise_ordered 0 end k.blocks.items below
 
 -- their file blocks ascend, and each has all its bytes
-pub offsets_ascend : (least : ℕ) (ks : List KeptBlock) → AscendWhole least ks → Ascend least (map (λ (k : KeptBlock). k.offset) ks)
+pub offsets_ascend : (least : ℕ) (ks : List KeptBlock) → AscendWhole least ks → OffsetsAscend least (map (λ (k : KeptBlock). k.offset) ks)
 offsets_ascend least [] order = tt
 offsets_ascend least (x ∷ ks) order = (order.0, offsets_ascend (x.offset + 1) ks order.2)
 
@@ -49,15 +49,15 @@ all_mapped [] = refl
 all_mapped (k ∷ ks) = ap (λ (ms : List Mapped). mapped_of k ∷ ms) (all_mapped ks)
 
 -- blocks that were kept stand in front of the extents that are left
-abbrev pub AreBefore : Option Kept → List Extent → Type 0
-AreBefore kept [] = AreInOrder kept
+abbrev pub AreBefore : Option KeptBlocks → List Extent → Type 0
+AreBefore kept [] = BlocksInOrder kept
 AreBefore kept (e ∷ es) = AreBelow kept e.offset
 
-pub before_all : (kept : Option Kept) (es : List Extent) → AreBelow kept 0 → AreBefore kept es
+pub before_all : (kept : Option KeptBlocks) (es : List Extent) → AreBelow kept 0 → AreBefore kept es
 before_all kept [] below = below_ordered kept 0 below
 before_all kept (e ∷ es) below = below_later kept 0 e.offset (omega arith) below
 
-pub before_next : (v : Volume) (kept : Option Kept) (e : Extent) (es : List Extent) → are_extents v None (e ∷ es) ≡ true
+pub before_next : (v : Volume) (kept : Option KeptBlocks) (e : Extent) (es : List Extent) → are_extents v None (e ∷ es) ≡ true
     → AreBelow kept (e.offset + e.count) → AreBefore kept es
 before_next v kept e [] lawful below = below_ordered kept (e.offset + e.count) below
 before_next v kept e (f ∷ es) lawful below =

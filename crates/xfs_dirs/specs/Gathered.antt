@@ -7,16 +7,16 @@ use Rattle.xfs_disk.specs.Blocks.{Image}
 use Rattle.xfs_geom.specs.Volumes.{Volume}
 use Rattle.xfs_dirdata.specs.Data.{data_of}
 use Rattle.xfs_dirdata.specs.declared.records.EntryRec.{EntryRec}
-use Rattle.xfs_dirindex.specs.Data.{is_parent}
-use Rattle.xfs_dirindex.specs.Mapped.{Mapped, block_of, is_data}
-use Rattle.xfs_image.specs.Directories.{FileBlock, blocks_of, entries_in, entries_of_area, has_form, is_named, is_own, is_single_form}
+use Rattle.xfs_dirindex.specs.Data.{is_parent_name}
+use Rattle.xfs_dirindex.specs.Mapped.{Mapped, mapped_block, is_data}
+use Rattle.xfs_image.specs.Directories.{FileBlock, blocks_of_extent, entries_in_block, entries_of_area, has_whole_form, is_beside_dots, is_own, is_single_form}
 use Rattle.xfs_dirs.specs.declared.gathered.Gathered.{Gathered}
-use Rattle.xfs_dirs.specs.declared.gathered.Kept.{Kept}
+use Rattle.xfs_dirs.specs.declared.gathered.KeptBlocks.{KeptBlocks}
 use Rattle.xfs_dirs.specs.declared.gathered.KeptBlock.{KeptBlock}
 
 -- the block of this number, which stands at this block of the file
 abbrev pub file_block : ℕ → ℕ → List ℕ → FileBlock
-file_block block offset bytes = record { block = block; mapped = block_of offset bytes }
+file_block block offset bytes = record { block = block; mapped = mapped_block offset bytes }
 
 -- what blocks give: the entries, the target of the first ".." among them, and all the blocks, where each is sealed for the
 -- directory
@@ -25,8 +25,8 @@ pub record Found : Type 0 where
   pub parent : Option ℕ
   pub kept : Option (List Mapped)
 
-abbrev pub nothing : Found
-nothing = record { entries = []; parent = None; kept = Some [] }
+abbrev pub found_nothing : Found
+found_nothing = record { entries = []; parent = None; kept = Some [] }
 
 -- the entries of a block, where it is its directory's
 abbrev pub entries_where : Bool → ℕ → Mapped → List EntryRec
@@ -35,7 +35,7 @@ entries_where own dir m =
 
 -- the target of the first ".."
 abbrev pub parent_in : List EntryRec → Option ℕ
-parent_in entries = option_map (λ (e : EntryRec). e.ino) (find (λ (e : EntryRec). is_parent e.name) entries)
+parent_in entries = option_map (λ (e : EntryRec). e.ino) (find (λ (e : EntryRec). is_parent_name e.name) entries)
 
 -- one more block is kept, where it is its directory's; else none is
 abbrev pub kept_with : Bool → Mapped → Option (List Mapped) → Option (List Mapped)
@@ -43,52 +43,52 @@ kept_with own m None = None
 kept_with own m (Some ms) = if own then Some (ms ++ m ∷ []) else None
 
 -- the blocks of extents, in file order
-abbrev pub blocks_in : Volume → Image → List Extent → List FileBlock
-blocks_in v image extents = flat_map (blocks_of v image) extents
+abbrev pub blocks_in_extents : Volume → Image → List Extent → List FileBlock
+blocks_in_extents v image extents = flat_map (blocks_of_extent v image) extents
 
 -- what one more block gives, and some more in turn
-unfoldable pub with_block : Volume → ℕ → Found → FileBlock → Found
-with_block v dir found b = record {
-  entries = found.entries ++ filter is_named (entries_in v dir b);
-  parent = option_or found.parent (parent_in (entries_in v dir b));
+unfoldable pub with_file_block : Volume → ℕ → Found → FileBlock → Found
+with_file_block v dir found b = record {
+  entries = found.entries ++ filter is_beside_dots (entries_in_block v dir b);
+  parent = option_or found.parent (parent_in (entries_in_block v dir b));
   kept = kept_with (is_own v dir b) b.mapped found.kept;
 }
 
-unfoldable pub with_blocks : Volume → ℕ → Found → List FileBlock → Found
-with_blocks v dir found [] = found
-with_blocks v dir found (b ∷ bs) = with_blocks v dir (with_block v dir found b) bs
+unfoldable pub with_file_blocks : Volume → ℕ → Found → List FileBlock → Found
+with_file_blocks v dir found [] = found
+with_file_blocks v dir found (b ∷ bs) = with_file_blocks v dir (with_file_block v dir found b) bs
 
 -- what is gathered, and the blocks among it
 abbrev pub mapped_of : KeptBlock → Mapped
-mapped_of k = block_of k.offset k.bytes
+mapped_of k = mapped_block k.offset k.bytes
 
-abbrev pub kept_of : Option Kept → Option (List Mapped)
-kept_of None = None
-kept_of (Some k) = Some (map mapped_of k.blocks.items)
+abbrev pub mapped_of_kept : Option KeptBlocks → Option (List Mapped)
+mapped_of_kept None = None
+mapped_of_kept (Some k) = Some (map mapped_of k.blocks.items)
 
 abbrev pub found_of : Gathered → Found
-found_of gathered = record { entries = gathered.entries.items; parent = gathered.parent; kept = kept_of gathered.kept }
+found_of gathered = record { entries = gathered.entries.items; parent = gathered.parent; kept = mapped_of_kept gathered.kept }
 
 -- blocks are whole, and ascend in the file from a least one on, below an end
-abbrev pub Rise : ℕ → List KeptBlock → ℕ → Type 0
-Rise least [] end = least ≤ end
-Rise least (k ∷ ks) end = (least ≤ k.offset) × (length k.bytes ≡ 4096) × Rise (k.offset + 1) ks end
+abbrev pub OffsetsRise : ℕ → List KeptBlock → ℕ → Type 0
+OffsetsRise least [] end = least ≤ end
+OffsetsRise least (k ∷ ks) end = (least ≤ k.offset) × (length k.bytes ≡ 4096) × OffsetsRise (k.offset + 1) ks end
 
 -- those that are kept do
-abbrev pub AreBelow : Option Kept → ℕ → Type 0
+abbrev pub AreBelow : Option KeptBlocks → ℕ → Type 0
 AreBelow None end = Unit {0}
-AreBelow (Some k) end = Rise 0 k.blocks.items end
+AreBelow (Some k) end = OffsetsRise 0 k.blocks.items end
 
 -- blocks are whole, and ascend in the file from a least one on
 abbrev pub AscendWhole : ℕ → List KeptBlock → Type 0
 AscendWhole least [] = Unit {0}
 AscendWhole least (k ∷ ks) = (least ≤ k.offset) × (length k.bytes ≡ 4096) × AscendWhole (k.offset + 1) ks
 
-abbrev pub AreInOrder : Option Kept → Type 0
-AreInOrder None = Unit {0}
-AreInOrder (Some k) = AscendWhole 0 k.blocks.items
+abbrev pub BlocksInOrder : Option KeptBlocks → Type 0
+BlocksInOrder None = Unit {0}
+BlocksInOrder (Some k) = AscendWhole 0 k.blocks.items
 
 -- blocks that are kept are whole in one of the forms
 abbrev pub is_whole_kept : ℕ → ℕ → Option (List Mapped) → Bool
 is_whole_kept dir size None = false
-is_whole_kept dir size (Some ms) = has_form dir size ms
+is_whole_kept dir size (Some ms) = has_whole_form dir size ms

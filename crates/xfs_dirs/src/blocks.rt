@@ -7,12 +7,12 @@ ghost use Rattle.xfs_geom.specs.Volumes.{volume_of};
 ghost use Rattle.xfs_disk.specs.Reads.{OnlyReads};
 ghost use Rattle.xfs_kinds.specs.FileTrees.{is_extent};
 ghost use Rattle.xfs_inode.specs.Files.{are_extents};
-ghost use Rattle.xfs_image.specs.Directories.{blocks_of};
+ghost use Rattle.xfs_image.specs.Directories.{blocks_of_extent};
 ghost use Rattle.xfs_dirs.specs.Answers.{HasDirCause};
-ghost use Rattle.xfs_dirs.specs.Gathered.{AreBelow, AreInOrder, file_block, found_of, nothing, with_block, with_blocks, blocks_in};
+ghost use Rattle.xfs_dirs.specs.Gathered.{AreBelow, BlocksInOrder, file_block, found_of, found_nothing, with_file_block, with_file_blocks, blocks_in_extents};
 
 use crate::entries::entries_where;
-use crate::found::DirError;
+use crate::found::DirectoryFault;
 use crate::gathered::{Gathered, keep};
 use crate::seals::is_own;
 use std::alloc::Global;
@@ -30,11 +30,11 @@ pub fn read_extents<D: Disk, L: Ledger>(
     dir: u64,
     extents: &[Extent],
     steps: &mut Steps<L>,
-) -> Result<Gathered, DirError>
+) -> Result<Gathered, DirectoryFault>
     requires extents { are_extents (volume_of g.now) None extents.now ≡ true }
     requires inside { g.now.dblocks ≤ D.size disk.old }
-    ensures found { IfOk result (λ gathered. ForSome (D.holds disk.old) (λ image. found_of gathered ≡ with_blocks (volume_of g.now) dir nothing (blocks_in (volume_of g.now) image extents.now))) }
-    ensures order { IfOk result (λ gathered. AreInOrder gathered.kept) }
+    ensures found { IfOk result (λ gathered. ForSome (D.holds disk.old) (λ image. found_of gathered ≡ with_file_blocks (volume_of g.now) dir found_nothing (blocks_in_extents (volume_of g.now) image extents.now))) }
+    ensures order { IfOk result (λ gathered. BlocksInOrder gathered.kept) }
     ensures cause { HasDirCause (D.faults disk.old) (D.faults disk.new) result }
     ensures disk { OnlyReads D.size D.holds D.write_faults D.writes D.tells_stops D.moment D.may_leave D.left_since disk.old disk.new }
 {
@@ -57,11 +57,11 @@ fn read_extent<D: Disk, L: Ledger>(
     extent: &Extent,
     gathered: &mut Gathered,
     steps: &mut Steps<L>,
-) -> Result<(), DirError>
+) -> Result<(), DirectoryFault>
     requires extent { is_extent (volume_of g.now) extent.now ≡ true }
     requires inside { g.now.dblocks ≤ D.size disk.old }
     requires below { AreBelow gathered.old.kept extent.now.offset }
-    ensures found { OnOk result (ForSome (D.holds disk.old) (λ image. found_of gathered.new ≡ with_blocks (volume_of g.now) dir (found_of gathered.old) (blocks_of (volume_of g.now) image extent.now))) }
+    ensures found { OnOk result (ForSome (D.holds disk.old) (λ image. found_of gathered.new ≡ with_file_blocks (volume_of g.now) dir (found_of gathered.old) (blocks_of_extent (volume_of g.now) image extent.now))) }
     ensures below { OnOk result (AreBelow gathered.new.kept (extent.now.offset + extent.now.count)) }
     ensures cause { HasDirCause (D.faults disk.old) (D.faults disk.new) result }
     ensures disk { OnlyReads D.size D.holds D.write_faults D.writes D.tells_stops D.moment D.may_leave D.left_since disk.old disk.new }
@@ -72,7 +72,7 @@ fn read_extent<D: Disk, L: Ledger>(
         steps.tick();
         match disk.read(start + i, &mut block) {
             Ok(()) => {}
-            Err(Failed) => return Err(DirError::ReadFault),
+            Err(Failed) => return Err(DirectoryFault::ReadFault),
         }
         match take_block(
             alloc,
@@ -84,7 +84,7 @@ fn read_extent<D: Disk, L: Ledger>(
             gathered,
         ) {
             Ok(()) => {}
-            Err(NoMemory) => return Err(DirError::NoMemory),
+            Err(NoMemory) => return Err(DirectoryFault::NoMemory),
         }
     }
     Ok(())
@@ -103,7 +103,7 @@ fn take_block(
     requires size { length block.now ≡ 4096 }
     requires inside { place < g.now.dblocks }
     requires below { AreBelow gathered.old.kept offset }
-    ensures found { OnOk result (found_of gathered.new ≡ with_block (volume_of g.now) dir (found_of gathered.old) (file_block place offset block.now)) }
+    ensures found { OnOk result (found_of gathered.new ≡ with_file_block (volume_of g.now) dir (found_of gathered.old) (file_block place offset block.now)) }
     ensures below { OnOk result (AreBelow gathered.new.kept (offset + 1)) }
 {
     let own = is_own(g, dir, place, offset, block);

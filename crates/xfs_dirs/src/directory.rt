@@ -8,13 +8,13 @@ ghost use Rattle.xfs_inode.specs.Files.{are_extents};
 ghost use Rattle.xfs_image.specs.Directories.{entries_of, is_whole, parent_of};
 ghost use Rattle.xfs_image.specs.Slots.{slot_bytes};
 ghost use Rattle.xfs_dirs.specs.Answers.{HasDirCause};
-ghost use Rattle.xfs_dirs.specs.Gathered.{AreInOrder, is_whole_kept, kept_of};
+ghost use Rattle.xfs_dirs.specs.Gathered.{BlocksInOrder, is_whole_kept, mapped_of_kept};
 
 use crate::blocks::read_extents;
-use crate::found::{DirError, DirFound};
+use crate::found::{DirectoryFault, DirFound};
 use crate::gathered::Gathered;
 use crate::short::read_form;
-use crate::whole::is_whole;
+use crate::whole_forms::is_whole_directory;
 use std::alloc::Global;
 use std::sync::ledger::Ledger;
 use xfs_disk::{Disk, NoMemory};
@@ -32,7 +32,7 @@ pub fn read_directory<D: Disk, L: Ledger>(
     slot: &[u8],
     file: &FileRec,
     steps: &mut Steps<L>,
-) -> Result<DirFound, DirError>
+) -> Result<DirFound, DirectoryFault>
     requires slot { length slot.now ≡ 512 }
     requires inside { g.now.dblocks ≤ D.size disk.old }
     requires held { ForSome (D.holds disk.old) (λ image. slot_bytes (volume_of g.now) image file.now.ino ≡ slot.now) }
@@ -46,7 +46,7 @@ pub fn read_directory<D: Disk, L: Ledger>(
     if file.core.format == 1 {
         return match read_form(alloc, file.ino, file.core.size, slot) {
             Ok(found) => Ok(found),
-            Err(NoMemory) => Err(DirError::NoMemory),
+            Err(NoMemory) => Err(DirectoryFault::NoMemory),
         };
     }
     let gathered = match read_extents(alloc, g, disk, file.ino, file.extents.as_slice(), steps) {
@@ -55,18 +55,18 @@ pub fn read_directory<D: Disk, L: Ledger>(
     };
     match judged(alloc, file.ino, file.core.size, gathered) {
         Ok(found) => Ok(found),
-        Err(NoMemory) => Err(DirError::NoMemory),
+        Err(NoMemory) => Err(DirectoryFault::NoMemory),
     }
 }
 
 /// What was gathered of a directory of this size, in bytes, with the check of its blocks.
 fn judged(alloc: Global, dir: u64, size: u64, gathered: Gathered) -> Result<DirFound, NoMemory>
-    requires { AreInOrder gathered.kept }
+    requires { BlocksInOrder gathered.kept }
     ensures entries { IfOk result (λ found. found.entries ≡ gathered.entries.items) }
     ensures parent { IfOk result (λ found. found.parent ≡ unwrap_or gathered.parent 0) }
-    ensures whole { IfOk result (λ found. found.whole ≡ is_whole_kept dir size (kept_of gathered.kept)) }
+    ensures whole { IfOk result (λ found. found.whole ≡ is_whole_kept dir size (mapped_of_kept gathered.kept)) }
 {
-    let whole = is_whole(alloc, dir, size, &gathered.kept)?;
+    let whole = is_whole_directory(alloc, dir, size, &gathered.kept)?;
     Ok(DirFound {
         parent: gathered.parent.unwrap_or(0),
         whole,

@@ -1,13 +1,13 @@
 //! Entries, taken from a data block.
 
 ghost use Rattle.std.specs.Prelude.{◌≡◌, ◌++◌, length, filter, IfOk, OnOk};
-ghost use Rattle.xfs_dirindex.specs.Data.{is_dots, is_parent, is_self};
-ghost use Rattle.xfs_dirindex.specs.Mapped.{block_of};
-ghost use Rattle.xfs_image.specs.Directories.{is_named};
+ghost use Rattle.xfs_dirindex.specs.Data.{is_dots, is_parent_name, is_self};
+ghost use Rattle.xfs_dirindex.specs.Mapped.{mapped_block};
+ghost use Rattle.xfs_image.specs.Directories.{is_beside_dots};
 ghost use Rattle.xfs_dirs.specs.Gathered.{entries_where, parent_in};
 
 use std::alloc::Global;
-use xfs_dirdata::{DirFault, EntryRec, read_data};
+use xfs_dirdata::{DirDataFault, EntryRec, read_data};
 use xfs_dirindex::layouts::{INDEX_START, data_magic};
 use xfs_disk::NoMemory;
 use xfs_word::get32;
@@ -22,7 +22,7 @@ pub fn entries_where(
     block: &[u8],
 ) -> Result<Vec<EntryRec>, NoMemory>
     requires { length block.now ≡ 4096 }
-    ensures { IfOk result (λ entries. entries.items ≡ entries_where own dir (block_of offset block.now)) }
+    ensures { IfOk result (λ entries. entries.items ≡ entries_where own dir (mapped_block offset block.now)) }
 {
     if offset >= INDEX_START || !own {
         return Ok(Vec::new(alloc));
@@ -30,8 +30,8 @@ pub fn entries_where(
     let whole = get32(block, 0) == data_magic(true);
     match read_data(alloc, dir, block, whole) {
         Ok(data) => Ok(data.entries),
-        Err(DirFault::Unsound) => Ok(Vec::new(alloc)),
-        Err(DirFault::NoMemory) => Err(NoMemory),
+        Err(DirDataFault::Unsound) => Ok(Vec::new(alloc)),
+        Err(DirDataFault::NoMemory) => Err(NoMemory),
     }
 }
 
@@ -49,7 +49,7 @@ pub fn parent_in(entries: &[EntryRec]) -> Option<u64>
 
 /// Adds the entries but those of the directory itself and its parent.
 pub fn push_named(entries: Vec<EntryRec>, named: &mut Vec<EntryRec>) -> Result<(), NoMemory>
-    ensures { OnOk result (named.new.items ≡ named.old.items ++ filter is_named entries.items) }
+    ensures { OnOk result (named.new.items ≡ named.old.items ++ filter is_beside_dots entries.items) }
 {
     for entry in entries {
         if !is_dots(&entry) {
@@ -77,9 +77,9 @@ fn is_self(name: &[u8]) -> bool
 }
 
 /// Whether a name is that of the parent.
-#[tactic(auto, unfolding(xfs_dirindex::specs::Data::is_parent))]
+#[tactic(auto, unfolding(xfs_dirindex::specs::Data::is_parent_name))]
 fn is_parent(name: &[u8]) -> bool
-    ensures { result ≡ is_parent name.now }
+    ensures { result ≡ is_parent_name name.now }
 {
     name.len() == 2 && name[0] == b'.' && name[1] == b'.'
 }

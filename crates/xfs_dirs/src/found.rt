@@ -16,7 +16,7 @@ pub struct DirFound {
 
 /// Why a directory is not read.
 #[derive(Clone, Copy, Debug, PartialEq, Eq)]
-pub enum DirError {
+pub enum DirectoryFault {
     /// A read failed.
     ReadFault,
     /// There is not enough memory.

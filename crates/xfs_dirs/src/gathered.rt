@@ -2,9 +2,9 @@
 
 ghost use Rattle.std.specs.Prelude.{◌≡◌, ◌+◌, ◌++◌, [], ◌∷◌, length, filter, OnOk};
 ghost use Rattle.std.specs.Option.{option_or};
-ghost use Rattle.xfs_dirindex.specs.Mapped.{block_of};
-ghost use Rattle.xfs_image.specs.Directories.{is_named};
-ghost use Rattle.xfs_dirs.specs.Gathered.{AreBelow, Rise, found_of, kept_of, kept_with, nothing, parent_in};
+ghost use Rattle.xfs_dirindex.specs.Mapped.{mapped_block};
+ghost use Rattle.xfs_image.specs.Directories.{is_beside_dots};
+ghost use Rattle.xfs_dirs.specs.Gathered.{AreBelow, OffsetsRise, found_of, mapped_of_kept, kept_with, found_nothing, parent_in};
 
 use crate::entries::{parent_in, push_named};
 use std::alloc::Global;
@@ -22,7 +22,7 @@ pub struct KeptBlock {
 
 /// The blocks that are kept for the check, in file order.
 #[derive(Debug, Drop)]
-pub struct Kept {
+pub struct KeptBlocks {
     pub blocks: Vec<KeptBlock>,
 }
 
@@ -34,19 +34,19 @@ pub struct Gathered {
     /// The target of the first entry of the parent.
     pub parent: Option<u64>,
     /// All blocks, as long as each is sealed for the directory as what it has to be.
-    pub kept: Option<Kept>,
+    pub kept: Option<KeptBlocks>,
 }
 
 impl Gathered {
     /// What no block gives.
     pub fn new(alloc: Global) -> Gathered
-        ensures found { found_of result ≡ nothing }
+        ensures found { found_of result ≡ found_nothing }
         ensures below { AreBelow result.kept 0 }
     {
         Gathered {
             entries: Vec::new(alloc),
             parent: None,
-            kept: Some(Kept {
+            kept: Some(KeptBlocks {
                 blocks: Vec::new(alloc),
             }),
         }
@@ -54,7 +54,7 @@ impl Gathered {
 
     /// Adds the entries of one more block.
     pub fn take(&mut self, entries: Vec<EntryRec>) -> Result<(), NoMemory>
-        ensures entries { OnOk result (self.new.entries.items ≡ self.old.entries.items ++ filter is_named entries.items) }
+        ensures entries { OnOk result (self.new.entries.items ≡ self.old.entries.items ++ filter is_beside_dots entries.items) }
         ensures parent { OnOk result (self.new.parent ≡ option_or self.old.parent (parent_in entries.items)) }
         ensures kept { self.new.kept ≡ self.old.kept }
     {
@@ -71,11 +71,11 @@ pub fn keep(
     own: bool,
     offset: u64,
     block: &[u8],
-    kept: &mut Option<Kept>,
+    kept: &mut Option<KeptBlocks>,
 ) -> Result<(), NoMemory>
     requires size { length block.now ≡ 4096 }
     requires below { AreBelow kept.old offset }
-    ensures kept { OnOk result (kept_of kept.new ≡ kept_with own (block_of offset block.now) (kept_of kept.old)) }
+    ensures kept { OnOk result (mapped_of_kept kept.new ≡ kept_with own (mapped_block offset block.now) (mapped_of_kept kept.old)) }
     ensures below { OnOk result (AreBelow kept.new (offset + 1)) }
 {
     if !own {
@@ -96,9 +96,9 @@ fn push_block(
     blocks: &mut Vec<KeptBlock>,
 ) -> Result<(), NoMemory>
     requires size { length block.now ≡ 4096 }
-    requires below { Rise 0 blocks.old.items offset }
+    requires below { OffsetsRise 0 blocks.old.items offset }
     ensures added { OnOk result (blocks.new.items ≡ blocks.old.items ++ record { offset = offset; bytes = block.now } ∷ []) }
-    ensures below { OnOk result (Rise 0 blocks.new.items (offset + 1)) }
+    ensures below { OnOk result (OffsetsRise 0 blocks.new.items (offset + 1)) }
 {
     let bytes = Word::from_vec(Vec::from_slice(alloc, block)?);
     blocks.push(KeptBlock { offset, bytes })?;

@@ -8,8 +8,8 @@
 //! ```text
 //! match read_directory(alloc, g, disk, slot, file, steps) {
 //!     Ok(found) => ..,                    // its entries, the parent, whether it is whole
-//!     Err(DirError::ReadFault) => ..,
-//!     Err(DirError::NoMemory) => ..,
+//!     Err(DirectoryFault::ReadFault) => ..,
+//!     Err(DirectoryFault::NoMemory) => ..,
 //! }
 //! ```
 #![tactic(auto)]
@@ -21,7 +21,7 @@ mod found;
 mod gathered;
 mod seals;
 mod short;
-mod whole;
+mod whole_forms;
 
 pub use directory::read_directory;
-pub use found::{DirError, DirFound};
+pub use found::{DirectoryFault, DirFound};

@@ -24,13 +24,13 @@ pub fn is_own(g: &Geometry, dir: u64, place: u64, offset: u64, block: &[u8]) -> 
     if offset >= FREE_START {
         return is_sealed_as(g, dir, place, SealKind::DirFree, block);
     }
-    is_index(g, dir, place, LEAF_MAGIC, block)
-        || is_index(g, dir, place, NODE_LEAF_MAGIC, block)
-        || is_index(g, dir, place, NODE_MAGIC, block)
+    is_index_sealed(g, dir, place, LEAF_MAGIC, block)
+        || is_index_sealed(g, dir, place, NODE_LEAF_MAGIC, block)
+        || is_index_sealed(g, dir, place, NODE_MAGIC, block)
 }
 
 /// Whether a block is sealed for the directory as a block of an index with this magic number.
-fn is_index(g: &Geometry, dir: u64, place: u64, magic: u16, block: &[u8]) -> bool
+fn is_index_sealed(g: &Geometry, dir: u64, place: u64, magic: u16, block: &[u8]) -> bool
     requires size { length block.now ≡ 4096 }
     requires inside { place < g.now.dblocks }
     ensures { result ≡ is_sealed (record { kind = SealKind.Index magic; place = 8 * place; owner = Some dir; uuid = g.now.uuid }) block.now }

@@ -7,7 +7,7 @@ ghost use Rattle.xfs_image.specs.Directories.{entries_of_form, parent_of_form};
 
 use crate::found::DirFound;
 use std::alloc::Global;
-use xfs_dirdata::{DirFault, read_short};
+use xfs_dirdata::{DirDataFault, read_short_entries};
 use xfs_disk::NoMemory;
 use xfs_inode::layouts::inode::{DATA_FORK, FORKS_SIZE};
 use xfs_volume::Records;
@@ -20,18 +20,18 @@ pub fn read_form(alloc: Global, dir: u64, size: u64, slot: &[u8]) -> Result<DirF
     ensures parent { IfOk result (λ found. found.parent ≡ parent_of_form (short_of dir (part_of slot.now 176 size))) }
     ensures whole { IfOk result (λ found. found.whole ≡ is_some (short_of dir (part_of slot.now 176 size))) }
 {
-    match read_short(alloc, dir, form_in(slot, size)) {
+    match read_short_entries(alloc, dir, form_in(slot, size)) {
         Ok(form) => Ok(DirFound {
             parent: form.parent,
             whole: true,
             entries: Records::from_vec(form.entries),
         }),
-        Err(DirFault::Unsound) => Ok(DirFound {
+        Err(DirDataFault::Unsound) => Ok(DirFound {
             parent: 0,
             whole: false,
             entries: Records::from_vec(Vec::new(alloc)),
         }),
-        Err(DirFault::NoMemory) => Err(NoMemory),
+        Err(DirDataFault::NoMemory) => Err(NoMemory),
     }
 }
 

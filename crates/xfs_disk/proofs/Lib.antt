@@ -1,3 +1,4 @@
 mod Pieces
 mod Places
 pub mod Reading
+pub mod OneOrder

@@ -1,5 +1,5 @@
 -- Counts of faults, exactly.
-use Rattle.std.specs.Prelude.{◌≡◌, ℕ, ◌+◌, ◌-◌, ◌^◌, ◌≤◌, min, Result, Ok, Err}
+use Rattle.std.specs.Prelude.{◌≡◌, ℕ, ◌+◌, ◌-◌, ◌^◌, ◌≤◌, min, Result, Ok, Err, zero, suc}
 use Rattle.xfs_disk.specs.Faults.{Rose}
 
 -- a count after one more, which stands at the end of its type
@@ -16,6 +16,7 @@ abbrev pub CountsDone : {T E : Type 0} → ℕ → ℕ → Result T E → Type 0
 CountsDone before now (Ok _) = now ≡ raised before
 CountsDone before now (Err _) = now ≡ before
 
--- a count after so many more, which stands at the end of its type
-abbrev pub raised_by : ℕ → ℕ → ℕ
-raised_by more count = min (count + more) (2 ^ 64 - 1)
+-- a count that was raised so many times
+abbrev pub raised_times : ℕ → ℕ → ℕ
+raised_times zero count = count
+raised_times (suc n) count = raised (raised_times n count)

@@ -14,3 +14,5 @@ pub mod FileDisk
 pub mod Streams
 pub mod System
 pub mod FileLibrary
+pub mod Lists
+pub mod Shares

@@ -1,8 +1,8 @@
 -- What contracts see of a disk in memory.
 use Rattle.std.specs.Prelude.{◌≡◌, ℕ, ◌⊎◌, Option, Some}
 use Rattle.xfs_disk.specs.Blocks.{Image}
-use Rattle.xfs_disk.specs.Memory.{blocks_of}
-use Rattle.xfs_disk.specs.Schedule.{IsDue}
+use Rattle.xfs_disk.specs.Memory.{blocks_of_bytes}
+use Rattle.xfs_disk.specs.Schedule.{IsToFail}
 use Rattle.xfs_disk.specs.declared.schedule.Schedule.{Schedule}
 use Rattle.xfs_disk.specs.declared.memory_disk.MemoryDisk.{MemoryDisk}
 
@@ -12,7 +12,7 @@ size_of disk = disk.blocks
 
 -- the blocks that the disk holds
 abbrev pub image_of : MemoryDisk → Image
-image_of disk = blocks_of disk.blocks disk.bytes.items
+image_of disk = blocks_of_bytes disk.blocks disk.bytes.items
 
 -- how many reads failed
 abbrev pub faults_of : MemoryDisk → ℕ
@@ -38,12 +38,12 @@ abbrev pub stop_of : MemoryDisk → Option ℕ
 stop_of disk = disk.writes_left
 
 -- every call fails
-abbrev pub IsStopped : MemoryDisk → Type 0
-IsStopped disk = stop_of disk ≡ Some 0
+abbrev pub HasStopped : MemoryDisk → Type 0
+HasStopped disk = stop_of disk ≡ Some 0
 
 -- the next read, write or sync fails: the disk is stopped, or this call was named
 abbrev pub FailsNext : MemoryDisk → Type 0
-FailsNext disk = IsStopped disk ⊎ IsDue (schedule_of disk)
+FailsNext disk = HasStopped disk ⊎ IsToFail (schedule_of disk)
 
 -- size, contents and all counts are the same
 pub record KeepsDisk (old new : MemoryDisk) : Type 0 where

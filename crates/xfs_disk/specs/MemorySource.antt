@@ -4,8 +4,8 @@ use Rattle.xfs_disk.specs.declared.schedule.Schedule.{Schedule}
 use Rattle.xfs_disk.specs.declared.memory_source.MemorySource.{MemorySource}
 
 -- the bytes that are left
-abbrev pub left_of : MemorySource → List ℕ
-left_of source = drop source.given source.bytes.items
+abbrev pub left_to_take : MemorySource → List ℕ
+left_to_take source = drop source.given source.bytes.items
 
 -- how many calls failed
 abbrev pub faults_of : MemorySource → ℕ

@@ -13,8 +13,8 @@ abbrev pub failing_calls : Schedule → List ℕ
 failing_calls schedule = schedule.failing.items
 
 -- the next call is to fail
-abbrev pub IsDue : Schedule → Type 0
-IsDue schedule = Contains (failing_calls schedule) (raised (calls_made schedule))
+abbrev pub IsToFail : Schedule → Type 0
+IsToFail schedule = Contains (failing_calls schedule) (raised (calls_made schedule))
 
 -- one call was made, and the same calls are to fail
 pub record CountsCall (old new : Schedule) : Type 0 where

@@ -5,7 +5,7 @@ ghost use Rattle.std.specs.Str.{IsUtf8};
 ghost use Rattle.xfs_disk.specs.Files.{HasLibraryCause};
 
 use crate::counting::count_failure;
-use crate::library::{Library, LibraryError};
+use crate::library::{Library, LibraryFault};
 use crate::word::Word;
 use std::alloc::Global;
 use std::fs::Files;
@@ -41,14 +41,14 @@ impl<'a, R: Files> Library for FileLibrary<'a, R> {
     ghost faults = { faults_of };
 
     /// A path that isn't text fails.
-    fn file(&mut self, alloc: Global, name: &Word) -> Result<Vec<u8>, LibraryError>
-        ensures text { (IsUtf8 name.now → ⊥) → result ≡ Err LibraryError.Failed }
+    fn file(&mut self, alloc: Global, name: &Word) -> Result<Vec<u8>, LibraryFault>
+        ensures text { (IsUtf8 name.now → ⊥) → result ≡ Err LibraryFault.Failed }
         ensures largest { IfOk result (λ bytes. vec_len bytes ≤ 2 ^ 38) }
         ensures cause { HasLibraryCause (faults_of self.old) (faults_of self.new) result }
         ensures once { faults_of self.new ≤ faults_of self.old + 1 }
     {
         let outcome = read_file(alloc, self.system, name.bytes());
-        if let Err(LibraryError::Failed) = outcome {
+        if let Err(LibraryFault::Failed) = outcome {
             count_failure(&mut self.faults);
         }
         outcome
@@ -56,36 +56,36 @@ impl<'a, R: Files> Library for FileLibrary<'a, R> {
 }
 
 /// The bytes of the file of this path, which is text.
-fn read_file<R: Files>(alloc: Global, system: &R, path: &[u8]) -> Result<Vec<u8>, LibraryError>
-    ensures text { (IsUtf8 path.now → ⊥) → result ≡ Err LibraryError.Failed }
+fn read_file<R: Files>(alloc: Global, system: &R, path: &[u8]) -> Result<Vec<u8>, LibraryFault>
+    ensures text { (IsUtf8 path.now → ⊥) → result ≡ Err LibraryFault.Failed }
     ensures largest { IfOk result (λ bytes. vec_len bytes ≤ 2 ^ 38) }
 {
     let Ok(path) = str::from_utf8(path) else {
-        return Err(LibraryError::Failed);
+        return Err(LibraryFault::Failed);
     };
     match fs::open(system, path) {
         Ok(file) => read_whole(alloc, file),
-        Err(error) if error.kind() == ErrorKind::NotFound => Err(LibraryError::Missing),
+        Err(error) if error.kind() == ErrorKind::NotFound => Err(LibraryFault::Missing),
         Err(error) => Err(failure(&error)),
     }
 }
 
 /// All bytes of the file. More than the most that a library gives are a failure.
-fn read_whole<F: Read + Drop>(alloc: Global, file: F) -> Result<Vec<u8>, LibraryError>
+fn read_whole<F: Read + Drop>(alloc: Global, file: F) -> Result<Vec<u8>, LibraryFault>
     ensures { IfOk result (λ bytes. vec_len bytes ≤ 2 ^ 38) }
 {
     let mut bytes = Vec::new(alloc);
     match file.take(LARGEST_FILE + 1).read_to_end(&mut bytes) {
         Ok(count) if count as u64 <= LARGEST_FILE => Ok(bytes),
-        Ok(_) => Err(LibraryError::Failed),
+        Ok(_) => Err(LibraryFault::Failed),
         Err(error) => Err(failure(&error)),
     }
 }
 
 /// What an error of the system other than a missing file is to a caller.
-fn failure(error: &io::Error) -> LibraryError {
+fn failure(error: &io::Error) -> LibraryFault {
     match error.kind() {
-        ErrorKind::OutOfMemory => LibraryError::NoMemory,
-        _ => LibraryError::Failed,
+        ErrorKind::OutOfMemory => LibraryFault::NoMemory,
+        _ => LibraryFault::Failed,
     }
 }

@@ -40,7 +40,7 @@ pub use failed::{Failed, NoMemory};
 pub use file_disk::FileDisk;
 pub use file_library::FileLibrary;
 pub use gate::{Gate, NoGate};
-pub use library::{Library, LibraryError};
+pub use library::{Library, LibraryFault};
 pub use memory_disk::MemoryDisk;
 pub use memory_library::MemoryLibrary;
 pub use memory_sink::MemorySink;

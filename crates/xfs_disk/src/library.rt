@@ -2,14 +2,14 @@
 
 ghost use Rattle.std.specs.Prelude.{◌≡◌, ℕ, List, Option, Some, None, Err, IfOk};
 ghost use Rattle.std.specs.Option.{ForSome};
-ghost use Rattle.xfs_disk.specs.Files.{Files, file_of, HasLibraryCause};
+ghost use Rattle.xfs_disk.specs.Files.{Files, file_named, HasLibraryCause};
 
 use crate::word::Word;
 use std::alloc::Global;
 
 /// Why a library gives no file.
 #[derive(Clone, Copy, Debug, PartialEq, Eq)]
-pub enum LibraryError {
+pub enum LibraryFault {
     /// There is no file of this name.
     Missing,
     /// The library failed. Its count of faults has risen.
@@ -25,9 +25,9 @@ pub trait Library {
     ghost faults: { Self → ℕ };
 
     /// The bytes of the file of this name.
-    fn file(&mut self, alloc: Global, name: &Word) -> Result<Vec<u8>, LibraryError>
-        ensures bytes { IfOk result (λ bytes. ForSome (files self.old) (λ map. file_of name.now map ≡ Some bytes.items)) }
-        ensures missing { result ≡ Err LibraryError.Missing → ForSome (files self.old) (λ map. file_of name.now map ≡ None) }
+    fn file(&mut self, alloc: Global, name: &Word) -> Result<Vec<u8>, LibraryFault>
+        ensures bytes { IfOk result (λ bytes. ForSome (files self.old) (λ map. file_named name.now map ≡ Some bytes.items)) }
+        ensures missing { result ≡ Err LibraryFault.Missing → ForSome (files self.old) (λ map. file_named name.now map ≡ None) }
         ensures files { files self.new ≡ files self.old }
         ensures cause { HasLibraryCause (faults self.old) (faults self.new) result };
 }

@@ -31,7 +31,7 @@ pub struct MemoryDisk {
 }
 
 impl MemoryDisk {
-    ghost use Rattle.xfs_disk.specs.MemoryDisk.{image_of, schedule_of, stop_of, IsStopped, FailsNext, KeepsDisk};
+    ghost use Rattle.xfs_disk.specs.MemoryDisk.{image_of, schedule_of, stop_of, HasStopped, FailsNext, KeepsDisk};
     ghost use Rattle.xfs_disk.specs.Schedule.{calls_made, failing_calls, CountsCall, AddsCall, sooner};
 
     /// A disk of so many blocks of zeros, with no call that is to fail.
@@ -96,7 +96,7 @@ impl MemoryDisk {
 
     /// Whether every call fails now.
     fn is_stopped(&self) -> bool
-        ensures { IsTrue result ↔ IsStopped self.now }
+        ensures { IsTrue result ↔ HasStopped self.now }
     {
         self.writes_left == Some(0)
     }
@@ -114,7 +114,7 @@ impl MemoryDisk {
 }
 
 impl Disk for MemoryDisk {
-    ghost use Rattle.xfs_disk.specs.MemoryDisk.{size_of, image_of, faults_of, write_faults_of, reads_of, writes_of, schedule_of, stop_of, IsStopped, FailsNext};
+    ghost use Rattle.xfs_disk.specs.MemoryDisk.{size_of, image_of, faults_of, write_faults_of, reads_of, writes_of, schedule_of, stop_of, HasStopped, FailsNext};
     ghost use Rattle.xfs_disk.specs.Schedule.{CountsCall};
 
     ghost size = { size_of };
@@ -135,7 +135,7 @@ impl Disk for MemoryDisk {
 
     /// Fails exactly where the disk is stopped.
     fn blocks(&mut self) -> Result<u64, Failed>
-        ensures fails { IsErr result ↔ IsStopped self.old }
+        ensures fails { IsErr result ↔ HasStopped self.old }
         ensures count { IfOk result (λ n. n ≡ size_of self.old) }
         ensures size { size_of self.new ≡ size_of self.old }
         ensures image { image_of self.new ≡ image_of self.old }

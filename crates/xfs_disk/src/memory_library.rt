@@ -2,7 +2,7 @@
 
 ghost use Rattle.std.specs.Prelude.{◌≡◌, [], Some, Err};
 
-use crate::library::{Library, LibraryError};
+use crate::library::{Library, LibraryFault};
 use crate::word::Word;
 use std::alloc::Global;
 
@@ -24,9 +24,9 @@ impl Library for MemoryLibrary {
 
     ghost faults = { λ _. 0 };
 
-    fn file(&mut self, _alloc: Global, _name: &Word) -> Result<Vec<u8>, LibraryError>
-        ensures { result ≡ Err LibraryError.Missing }
+    fn file(&mut self, _alloc: Global, _name: &Word) -> Result<Vec<u8>, LibraryFault>
+        ensures { result ≡ Err LibraryFault.Missing }
     {
-        Err(LibraryError::Missing)
+        Err(LibraryFault::Missing)
     }
 }

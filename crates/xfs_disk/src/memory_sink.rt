@@ -65,7 +65,7 @@ impl MemorySink {
 
 impl Sink for MemorySink {
     ghost use Rattle.xfs_disk.specs.MemorySink.{took_of, room_of, room_left, faults_of, schedule_of};
-    ghost use Rattle.xfs_disk.specs.Schedule.{IsDue, CountsCall};
+    ghost use Rattle.xfs_disk.specs.Schedule.{IsToFail, CountsCall};
 
     ghost took = { λ sink. Some (took_of sink) };
 
@@ -73,11 +73,11 @@ impl Sink for MemorySink {
 
     /// Takes what there is room for, and fails where that isn't all. It takes no memory.
     fn put(&mut self, from: &[u8]) -> Result<(), Failed>
-        ensures fails { IsErr result ↔ (IsDue (schedule_of self.old) ⊎ (room_left self.old < length from.now)) }
+        ensures fails { IsErr result ↔ (IsToFail (schedule_of self.old) ⊎ (room_left self.old < length from.now)) }
         ensures whole { OnOk result (took_of self.new ≡ took_of self.old ++ from.now) }
-        ensures part { (IsDue (schedule_of self.old) → ⊥) → took_of self.new ≡ took_of self.old ++ take (room_left self.old) from.now }
+        ensures part { (IsToFail (schedule_of self.old) → ⊥) → took_of self.new ≡ took_of self.old ++ take (room_left self.old) from.now }
         ensures prefix { OnErr result ((n : ℕ) × (n ≤ length from.now) × (took_of self.new ≡ took_of self.old ++ take n from.now)) }
-        ensures nothing { IsDue (schedule_of self.old) → took_of self.new ≡ took_of self.old }
+        ensures nothing { IsToFail (schedule_of self.old) → took_of self.new ≡ took_of self.old }
         ensures room { room_of self.new ≡ room_of self.old }
         ensures faults { CountsFailure (faults_of self.old) (faults_of self.new) result }
         ensures counted { CountsCall (schedule_of self.old) (schedule_of self.new) }

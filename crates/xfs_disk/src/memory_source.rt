@@ -22,7 +22,7 @@ pub struct MemorySource {
 }
 
 impl MemorySource {
-    ghost use Rattle.xfs_disk.specs.MemorySource.{left_of, faults_of, schedule_of};
+    ghost use Rattle.xfs_disk.specs.MemorySource.{left_to_take, faults_of, schedule_of};
     ghost use Rattle.xfs_disk.specs.Schedule.{calls_made, failing_calls, AddsCall};
 
     /// A source of these bytes, with no call that is to fail.
@@ -46,7 +46,7 @@ impl MemorySource {
     /// Makes the call of this number fail and do nothing else, counted from 1 from now on.
     pub fn fail(&mut self, call: u64) -> Result<(), NoMemory>
         ensures added { AddsCall call (schedule_of self.old) (schedule_of self.new) result }
-        ensures left { left_of self.new ≡ left_of self.old }
+        ensures left { left_to_take self.new ≡ left_to_take self.old }
         ensures faults { faults_of self.new ≡ faults_of self.old }
     {
         self.schedule.fail(call)
@@ -54,21 +54,21 @@ impl MemorySource {
 }
 
 impl Source for MemorySource {
-    ghost use Rattle.xfs_disk.specs.MemorySource.{left_of, faults_of, schedule_of};
-    ghost use Rattle.xfs_disk.specs.Schedule.{IsDue, CountsCall};
+    ghost use Rattle.xfs_disk.specs.MemorySource.{left_to_take, faults_of, schedule_of};
+    ghost use Rattle.xfs_disk.specs.Schedule.{IsToFail, CountsCall};
 
-    ghost left = { λ source. Some (left_of source) };
+    ghost left = { λ source. Some (left_to_take source) };
 
     ghost faults = { faults_of };
 
     /// Moves as many bytes as are left and as there is room for.
     fn take(&mut self, into: &mut [u8]) -> Result<usize, Failed>
         requires { 0 < length into.old }
-        ensures fails { IsErr result ↔ IsDue (schedule_of self.old) }
-        ensures most { IfOk result (λ n. n ≡ min (length into.old) (length (left_of self.old))) }
-        ensures moved { IfOk result (λ n. into.new ≡ take n (left_of self.old) ++ drop n into.old) }
-        ensures left { IfOk result (λ n. left_of self.new ≡ drop n (left_of self.old)) }
-        ensures stays { OnErr result (left_of self.new ≡ left_of self.old) }
+        ensures fails { IsErr result ↔ IsToFail (schedule_of self.old) }
+        ensures most { IfOk result (λ n. n ≡ min (length into.old) (length (left_to_take self.old))) }
+        ensures moved { IfOk result (λ n. into.new ≡ take n (left_to_take self.old) ++ drop n into.old) }
+        ensures left { IfOk result (λ n. left_to_take self.new ≡ drop n (left_to_take self.old)) }
+        ensures stays { OnErr result (left_to_take self.new ≡ left_to_take self.old) }
         ensures untouched { OnErr result (into.new ≡ into.old) }
         ensures faults { CountsFailure (faults_of self.old) (faults_of self.new) result }
         ensures counted { CountsCall (schedule_of self.old) (schedule_of self.new) }

@@ -15,7 +15,7 @@ pub(crate) struct Schedule {
 }
 
 impl Schedule {
-    ghost use Rattle.xfs_disk.specs.Schedule.{calls_made, failing_calls, IsDue, CountsCall, AddsCall};
+    ghost use Rattle.xfs_disk.specs.Schedule.{calls_made, failing_calls, IsToFail, CountsCall, AddsCall};
 
     /// No call is to fail.
     pub(crate) fn new(alloc: Global) -> Schedule
@@ -41,7 +41,7 @@ impl Schedule {
 
     /// Counts a call, and says whether it is to fail.
     pub(crate) fn count(&mut self) -> bool
-        ensures due { IsTrue result ↔ IsDue self.old }
+        ensures due { IsTrue result ↔ IsToFail self.old }
         ensures counted { CountsCall self.old self.new }
     {
         self.calls = self.calls.saturating_add(1);

@@ -8,7 +8,7 @@ use Rattle.xfs_kinds.specs.InodeTrees.{ino_shape}
 use Rattle.xfs_volume.specs.declared.files.FileRec.{FileRec}
 use Rattle.xfs_space.specs.Owners.{cluster_runs, file_runs, groups_runs, owned_runs}
 use Rattle.xfs_space.specs.SpaceLaws.{recorded_run, recorded_runs}
-use Rattle.xfs_place.specs.Wanted.{fixed_runs, header_run, inodes_of, log_run}
+use Rattle.xfs_place.specs.Wanted.{fixed_runs, header_run, inodes_in_group, log_run}
 use Rattle.xfs_place.specs.declared.placed.GroupPlaced.{GroupPlaced}
 use Rattle.xfs_place.specs.declared.wanted.GroupInodes.{GroupInodes}
 use Rattle.xfs_due.specs.Groups.{due_group_at, due_groups}
@@ -45,7 +45,7 @@ module _ (v : Volume) (inodes : List GroupInodes) (groups : List GroupPlaced) (a
   standing ag = standing_runs (ag * v.agblocks) (due_group_at v inodes groups agf_crc agi_crc ag)
 
   abbrev clusters : ℕ → List Run
-  clusters ag = cluster_runs (ag * v.agblocks) (map (ino_shape ag).settled (inodes_of inodes ag))
+  clusters ag = cluster_runs (ag * v.agblocks) (map (ino_shape ag).settled (inodes_in_group inodes ag))
 
   abbrev pub recorded : ℕ → List Run
   recorded ag = map (recorded_run (ag * v.agblocks)) (due_group_at v inodes groups agf_crc agi_crc ag).rmap

@@ -2,14 +2,15 @@
 use Rattle.std.proofs.Common.{◌≡◌, ℕ, ◌<◌, Bool, true, false, if◌then◌else◌, nat_lt, List, [], ◌∷◌, get_or, map, refl, sym, ◌∙◌, ap, ap₂, arith}
 use Rattle.std.specs.List.{All, filter}
 use Rattle.std.proofs.lemmas.List.Elements.{All-head, All-tail}
+use Rattle.xfs_geom.specs.Sums.{has_free}
 use Rattle.xfs_geom.specs.Volumes.{Volume}
 use Rattle.xfs_geom.specs.declared.records.InoRec.{InoRec}
 use Rattle.xfs_geom.specs.declared.records.Run.{Run}
 use Rattle.xfs_kinds.specs.InodeTrees.{settled_chunk}
 use Rattle.xfs_volume.specs.Laws.{AreKept}
 use Rattle.xfs_volume.specs.declared.files.FileRec.{FileRec}
-use Rattle.xfs_laws.specs.Counting.{chunk_laws, chunk_number, due_chunk, group_chunks, has_free}
-use Rattle.xfs_place.specs.Wanted.{ArePlaced, inodes_of}
+use Rattle.xfs_laws.specs.Counting.{chunk_laws, chunk_number, due_chunk, group_chunks}
+use Rattle.xfs_place.specs.Wanted.{ArePlaced, inodes_in_group}
 use Rattle.xfs_place.specs.declared.placed.GroupPlaced.{GroupPlaced}
 use Rattle.xfs_place.specs.declared.wanted.GroupInodes.{GroupInodes}
 use Rattle.xfs_render.specs.Rendering.{no_group}
@@ -37,13 +38,13 @@ free_stay (r ∷ rs) = by_case (nat_lt 0 r.freecount) (free_stay rs)
 
 pub chunks_kept : (v : Volume) (kept : List Run) (reserved : List ℕ) (inodes : List GroupInodes) (groups : List GroupPlaced) (files : List FileRec) (agf_crc agi_crc : ℕ → ℕ)
     → ArePlaced v kept reserved inodes v.agcount groups
-    → ((ag : ℕ) → ag < v.agcount → All (IsDue (due_chunk v files ag)) (inodes_of inodes ag))
+    → ((ag : ℕ) → ag < v.agcount → All (IsDue (due_chunk v files ag)) (inodes_in_group inodes ag))
     → AreKept (chunk_laws v files (due_groups v inodes groups agf_crc agi_crc))
 chunks_kept v kept reserved inodes groups files agf_crc agi_crc placed due =
     groups_kept (group_chunks v files) (due_group_at v inodes groups agf_crc agi_crc) 0 v.agcount (λ ag low high.
     let p = get_or groups ag no_group in
     let inside : ag < v.agcount = omega (arith, high) in
-    let rs = inodes_of inodes ag in
+    let rs = inodes_in_group inodes ag in
     let fino : p.fino ≡ filter has_free rs = (placed.each ag no_group inside).fino in (
       no_difference (map chunk_number (map settled_chunk rs)) (map chunk_number (map (due_chunk v files ag) (map settled_chunk rs))) (chunks_due (due_chunk v files ag) rs (due ag inside)),
       (

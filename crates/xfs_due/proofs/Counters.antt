@@ -56,7 +56,7 @@ module _ (v : Volume) (ag : ℕ) (inodes : List InoRec) (p : GroupPlaced) (agf_c
   pub free_slots_are : Laws.free_slots (due_group v ag inodes p agf_crc agi_crc).ino ≡ Placed.free_slots inodes
   free_slots_are = ap sum (free_settled inodes)
 
-  pub room_is : Laws.room (due_group v ag inodes p agf_crc agi_crc) ≡ Placed.room p
+  pub room_is : Laws.room (due_group v ag inodes p agf_crc agi_crc) ≡ Placed.room_placed p
   room_is = ap₂ (λ (m n : ℕ). m + length p.agfl + n) free_is spare_is
 
   longest_is : longest p.bno ≡ Laws.longest (map (λ (s : Span). s) p.bno)

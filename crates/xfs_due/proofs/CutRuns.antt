@@ -4,10 +4,11 @@ use Rattle.std.specs.List.{range_with_len, sum}
 use Rattle.std.proofs.lemmas.Bool.{and_from, and_right, le-leb, le-ltb, lt-leb, lt-ltb}
 use Rattle.std.proofs.lemmas.List.{drop-drop, map-append}
 use Rattle.std.proofs.lemmas.List.Sums.{sum_by-cons}
+use Rattle.xfs_kinds.specs.Owners.{group_owner, inode_trees_owner}
 use Rattle.xfs_geom.specs.declared.records.Run.{Run}
 use Rattle.xfs_place.specs.Choice.{owner_of}
-use Rattle.xfs_place.specs.Placing.{cut, tree_at}
-use Rattle.xfs_space.specs.Owners.{blocks_of, group_owner, inode_trees_owner, run, tree_owners, tree_runs}
+use Rattle.xfs_place.specs.Placing.{cut, tree_blocks_at}
+use Rattle.xfs_space.specs.Owners.{runs_of_blocks, run, tree_owners, tree_runs}
 use Rattle.xfs_due.proofs.MovedRuns.{moved}
 
 -- single blocks from a rank on, with the owners of their ranks
@@ -32,7 +33,7 @@ ranked_both own k (x ∷ xs) ys =
 
 -- blocks of one owner
 ranked_of : (own : ℕ → ℕ) (owner base k : ℕ) (xs : List ℕ) → ((j : ℕ) → k ≤ j → j < k + length xs → own j ≡ owner)
-    → map (moved base) (ranked own k xs) ≡ blocks_of owner 0 (map (λ b. base + b) xs)
+    → map (moved base) (ranked own k xs) ≡ runs_of_blocks owner 0 (map (λ b. base + b) xs)
 ranked_of own owner base k [] owns = refl
 ranked_of own owner base k (x ∷ xs) owns =
     let others = ranked_of own owner base (k + 1) xs (λ j low high. owns j (omega (arith, low)) (omega (arith, high))) in
@@ -46,7 +47,7 @@ AreOwners own rest k (o ∷ os) [] = ⊥
 AreOwners own rest k (o ∷ os) (s ∷ ss) = ((j : ℕ) → k ≤ j → j < k + s → own j ≡ o) × AreOwners own rest (k + s) os ss
 
 pub cut_runs : (own : ℕ → ℕ) (rest base k : ℕ) (os ss bs : List ℕ) → AreOwners own rest k os ss → sum ss ≤ length bs
-    → tree_runs os (map (tree_at base) (cut ss bs)) ++ blocks_of rest 0 (map (λ b. base + b) (drop (sum ss) bs)) ≡ map (moved base) (ranked own k bs)
+    → tree_runs os (map (tree_blocks_at base) (cut ss bs)) ++ runs_of_blocks rest 0 (map (λ b. base + b) (drop (sum ss) bs)) ≡ map (moved base) (ranked own k bs)
 cut_runs own rest base k [] [] bs owns fit = sym (ranked_of own rest base k bs (λ j low high. owns j low))
 cut_runs own rest base k [] (s ∷ ss) bs owns fit = absurd owns
 cut_runs own rest base k (o ∷ os) [] bs owns fit = absurd owns
@@ -56,11 +57,11 @@ cut_runs own rest base k (o ∷ os) (s ∷ ss) bs owns fit =
     let long : length (take s bs) ≡ s = omega (arith, length-take s bs, whole, fit) in
     let behind : drop (sum (s ∷ ss)) bs ≡ drop (sum ss) (drop s bs) = ap (λ (n : ℕ). drop n bs) whole ∙ sym (drop-drop (sum ss) s bs) in
     let others = cut_runs own rest base (k + s) os ss (drop s bs) owns.1 (omega (arith, length-drop s bs, whole, fit)) in
-    let first : blocks_of o 0 (map f (take s bs)) ≡ map (moved base) (ranked own k (take s bs)) =
+    let first : runs_of_blocks o 0 (map f (take s bs)) ≡ map (moved base) (ranked own k (take s bs)) =
     sym (ranked_of own o base k (take s bs) (λ j low high. owns.0 j low (omega (arith, high, long)))) in
     let next : k + s ≡ k + length (take s bs) = omega (arith, long) in
-    ap (λ (xs : List ℕ). (blocks_of o 0 (map f (take s bs)) ++ tree_runs os (map (tree_at base) (cut ss (drop s bs)))) ++ blocks_of rest 0 (map f xs)) behind
-    ∙ append_assoc (blocks_of o 0 (map f (take s bs))) (tree_runs os (map (tree_at base) (cut ss (drop s bs)))) (blocks_of rest 0 (map f (drop (sum ss) (drop s bs))))
+    ap (λ (xs : List ℕ). (runs_of_blocks o 0 (map f (take s bs)) ++ tree_runs os (map (tree_blocks_at base) (cut ss (drop s bs)))) ++ runs_of_blocks rest 0 (map f xs)) behind
+    ∙ append_assoc (runs_of_blocks o 0 (map f (take s bs))) (tree_runs os (map (tree_blocks_at base) (cut ss (drop s bs)))) (runs_of_blocks rest 0 (map f (drop (sum ss) (drop s bs))))
     ∙ ap₂ (λ (xs ys : List Run). xs ++ ys) first (others ∙ ap (λ (j : ℕ). map (moved base) (ranked own j (drop s bs))) next)
     ∙ sym (map-append (moved base) (ranked own k (take s bs)) (ranked own (k + length (take s bs)) (drop s bs)))
     ∙ ap (map (moved base)) (sym (ranked_both own k (take s bs) (drop s bs)) ∙ ap (ranked own k) (take-append-drop s bs))

@@ -12,7 +12,7 @@ use Rattle.xfs_volume.specs.declared.groups.TreeBlocks.{TreeBlocks}
 use Rattle.xfs_space.specs.Owners.{different}
 use Rattle.xfs_laws.specs.Counting.{by_group, chains_at, group_chains, group_entries}
 use Rattle.xfs_place.specs.Standing.{AreOfPool, IsOfPool}
-use Rattle.xfs_place.specs.Wanted.{inodes_of}
+use Rattle.xfs_place.specs.Wanted.{inodes_in_group}
 use Rattle.xfs_place.specs.declared.placed.GroupPlaced.{GroupPlaced}
 use Rattle.xfs_place.specs.declared.wanted.GroupInodes.{GroupInodes}
 use Rattle.xfs_render.specs.Rendering.{no_group}
@@ -54,7 +54,7 @@ pub lists_kept : (v : Volume) (kept : List Run) (reserved : List ℕ) (inodes : 
 lists_kept v kept reserved inodes groups agf_crc agi_crc pool =
     groups_kept group_entries (due_group_at v inodes groups agf_crc agi_crc) 0 v.agcount (λ ag low high.
     let p = get_or groups ag no_group in
-    (entries_kept ag p.agfl (list_ascends v kept reserved (ag * v.agblocks) (inodes_of inodes ag) p (pool.each ag no_group (omega (arith, high)))), tt))
+    (entries_kept ag p.agfl (list_ascends v kept reserved (ag * v.agblocks) (inodes_in_group inodes ag) p (pool.each ag no_group (omega (arith, high)))), tt))
 
 -- the heads of chains that are all ones
 ones_kept : (place n : ℕ) → AreKept (chains_at place (unused n))

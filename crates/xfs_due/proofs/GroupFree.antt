@@ -1,14 +1,14 @@
 -- The blocks of a group that are free are those without an owner.
 use Rattle.std.proofs.Common.{◌≡◌, ◌≢◌, ℕ, ◌<◌, inl, inr, Bool, true, false, not, ◌&&◌, ◌||◌, ◌==◌, nat_le, nat_lt, if◌then◌else◌, List, length, Option, Some, None, is_some, refl, sym, ◌∙◌, ap, true≢false}
 use Rattle.std.proofs.lemmas.Bool.{cases_eq, cases_lt, eq-eqb, le-leb, le-ltb, lt-leb, lt-ltb, ne_eqb}
+use Rattle.xfs_geom.specs.Runs.{runs_on}
 use Rattle.xfs_geom.specs.declared.records.Run.{Run}
 use Rattle.xfs_kinds.specs.MergedRuns.{held_at}
-use Rattle.xfs_place.specs.Choice.{Group, IsGroup, in_pool, is_free_at, is_spare, owned_at, owner_by, rank}
+use Rattle.xfs_place.specs.Choice.{Group, IsPlacingGroup, in_pool, is_free_at, is_spare, owned_at, owner_by, rank}
 use Rattle.xfs_place.specs.Pool.{is_open, use_at}
 use Rattle.xfs_place.specs.declared.uses.Use.{Use}
 use Rattle.xfs_place.specs.declared.uses.Use.TheVariants.{Pool, Reserved, Claimed, ForSpace, ForInodes}
 use Rattle.xfs_place.proofs.Ordered.{none_held, none_on}
-use Rattle.xfs_space.specs.SpaceLaws.{runs_on}
 
 open_closed : (w : Use) → is_open w ≡ true → is_spare w ≡ false
 open_closed Pool h = refl
@@ -41,7 +41,7 @@ shut true (Some p) free only = absurd (none_some p (Some p) refl (free refl))
 shut false None free only = absurd (true≢false (sym (only refl)))
 shut false (Some p) free only = refl
 
-pub free_is : (g : Group) → IsGroup g → (space n b : ℕ) → b < length g.uses → is_free_at g.uses n b ≡ not (is_some (owned_at g space n b))
+pub free_is : (g : Group) → IsPlacingGroup g → (space n b : ℕ) → b < length g.uses → is_free_at g.uses n b ≡ not (is_some (owned_at g space n b))
 free_is g good space n b inside = by_case (in_pool g.uses b) refl
   where
     by_case : (t : Bool) → in_pool g.uses b ≡ t → (is_spare (use_at g.uses b) || (t && nat_le n (rank g.uses b)))

@@ -6,24 +6,26 @@ use Rattle.std.proofs.lemmas.Bool.{and_parts, cases_Bool, cases_eq, cases_lt, lt
 use Rattle.std.proofs.lemmas.Bool.Decides.{nat_tests}
 use Rattle.std.proofs.lemmas.List.Elements.{All-weaker}
 use Rattle.std.proofs.Math.Nat.{mul-le-mul_right}
+use Rattle.xfs_geom.specs.Runs.{runs_on}
+use Rattle.xfs_disk.specs.Lists.{is_in_range}
 use Rattle.xfs_geom.specs.Conversions.{group_length}
 use Rattle.xfs_geom.specs.Shape.{HasGroups, HasLog}
 use Rattle.xfs_geom.specs.Volumes.{Volume}
 use Rattle.xfs_geom.specs.declared.records.RmapRec.{RmapRec}
 use Rattle.xfs_geom.specs.declared.records.Run.{Run}
-use Rattle.xfs_kinds.specs.FreeRuns.{is_block, is_in, runs_of}
+use Rattle.xfs_kinds.specs.FreeRuns.{is_in_spans, runs_where}
 use Rattle.xfs_kinds.specs.MergedRuns.{held_at}
 use Rattle.xfs_kinds.proofs.Blocks.{in_runs, runs_separate}
 use Rattle.xfs_volume.specs.declared.files.FileRec.{FileRec}
 use Rattle.xfs_volume.specs.declared.groups.GroupRec.{GroupRec}
 use Rattle.xfs_space.specs.Owners.{owned_runs}
-use Rattle.xfs_space.specs.SpaceLaws.{AllAreFree, AreFree, IsSpaceLawful, by_length, free_spans, recorded_run, recorded_runs, runs_on}
+use Rattle.xfs_space.specs.SpaceLaws.{AllAreFree, HasFreeTrees, IsSpaceLawful, by_length, free_spans, recorded_run, recorded_runs}
 use Rattle.xfs_space.proofs.FreeSpans.{group_short}
 use Rattle.xfs_space.proofs.Splits.{EndsBy, none_on_front}
-use Rattle.xfs_place.specs.Choice.{IsGroup, in_pool, one_if, owned_at, owner_by, rank, space_blocks}
-use Rattle.xfs_place.specs.Claims.{IsClaim}
+use Rattle.xfs_place.specs.Choice.{IsPlacingGroup, in_pool, one_if, owned_at, owner_by, rank, space_blocks}
+use Rattle.xfs_place.specs.Claims.{IsClaimedRun}
 use Rattle.xfs_place.specs.Placing.{inner_blocks}
-use Rattle.xfs_place.specs.Wanted.{AreKept, ArePlaced, claim_in, fixed_runs, inodes_of, uses_in, wanted_group}
+use Rattle.xfs_place.specs.Wanted.{CanBeKept, ArePlaced, claim_in, fixed_runs, inodes_in_group, uses_in, wanted_group}
 use Rattle.xfs_place.specs.declared.placed.GroupPlaced.{GroupPlaced}
 use Rattle.xfs_place.specs.declared.wanted.GroupInodes.{GroupInodes}
 use Rattle.xfs_place.proofs.AllClaims.{all_apart, all_each, group_ends, is_volume}
@@ -56,13 +58,13 @@ placed_or false mine None (Some p) claim is free = sym is
 placed_or false mine None None claim is free = sym is
 
 -- groups from one on whose trees have just the blocks without an owner
-all_free : (v : Volume) (runs : List Run) (group : ℕ → GroupRec) (a n : ℕ) → ((ag : ℕ) → a ≤ ag → ag < a + n → AreFree v runs ag (group ag)) → AllAreFree v runs a (map group (range_with_len a n))
+all_free : (v : Volume) (runs : List Run) (group : ℕ → GroupRec) (a n : ℕ) → ((ag : ℕ) → a ≤ ag → ag < a + n → HasFreeTrees v runs ag (group ag)) → AllAreFree v runs a (map group (range_with_len a n))
 all_free v runs group a zero each = tt
 all_free v runs group a (suc n) each =
     (each a (omega arith) (omega arith), all_free v runs group (a + 1) n (λ ag low high. each ag (omega (arith, low)) (omega (arith, high))))
 
 module _ (v : Volume) (shape : HasGroups v.dblocks v.agblocks v.agcount) (log : HasLog v.dblocks v.agblocks v.agcount v.log v.logblocks) (kept : List Run) (reserved : List ℕ)
-    (inodes : List GroupInodes) (groups : List GroupPlaced) (files : List FileRec) (agf_crc agi_crc : ℕ → ℕ) (are : AreKept v kept)
+    (inodes : List GroupInodes) (groups : List GroupPlaced) (files : List FileRec) (agf_crc agi_crc : ℕ → ℕ) (are : CanBeKept v kept)
     (placed : ArePlaced v kept reserved inodes v.agcount groups) (just : KeepsJust v kept inodes files) where
   -- the groups before and after placing
   length_some : (ag : ℕ) → ag < v.agcount → 1 ≤ group_length v ag
@@ -73,8 +75,8 @@ module _ (v : Volume) (shape : HasGroups v.dblocks v.agblocks v.agcount) (log : 
     | inr next ↦ omega (arith, next, shape.large)
   ]
 
-  good : (ag : ℕ) → ag < v.agcount → IsGroup (wanted_group v kept reserved inodes ag)
-  good ag low = group_is v kept reserved ag (inner_blocks (inodes_of inodes ag)) are low (omega (arith, shape.large)) (length_some ag low) (group_short v ag shape.covered)
+  good : (ag : ℕ) → ag < v.agcount → IsPlacingGroup (wanted_group v kept reserved inodes ag)
+  good ag low = group_is v kept reserved ag (inner_blocks (inodes_in_group inodes ag)) are low (omega (arith, shape.large)) (length_some ag low) (group_short v ag shape.covered)
 
   abbrev taken : (ag : ℕ) → ag < v.agcount → ℕ
   taken ag low = length (placed.each ag no_group low).blocks
@@ -85,7 +87,7 @@ module _ (v : Volume) (shape : HasGroups v.dblocks v.agblocks v.agcount) (log : 
   standing_of : (ag : ℕ) (low : ag < v.agcount) → IsOwnedBy (wanted_group v kept reserved inodes ag) (space ag low) (taken ag low) (ag * v.agblocks) (standing v inodes groups agf_crc agi_crc ag)
   standing_of ag low =
       let p = get_or groups ag no_group in
-      let records = inodes_of inodes ag in
+      let records = inodes_in_group inodes ag in
       let pool = all_of_pool v kept reserved inodes v.agcount groups placed in
       owned_by v ag (ag * v.agblocks) records p (agf_crc ag) (agi_crc ag) (wanted_group v kept reserved inodes ag) (placed.each ag no_group low)
       (sized v kept reserved inodes groups agf_crc agi_crc placed ag low) (list_ascends v kept reserved (ag * v.agblocks) records p (pool.each ag no_group low)) refl (good ag low)
@@ -186,7 +188,7 @@ module _ (v : Volume) (shape : HasGroups v.dblocks v.agblocks v.agcount) (log : 
   none_outside : (x : ℕ) → v.dblocks ≤ x → runs_on all_runs x ≡ 0
   none_outside x outside =
       let claims = fixed_runs v ++ kept in
-      let ends : All (EndsBy v.dblocks) claims = All-weaker (IsClaim v.dblocks) (EndsBy v.dblocks) (λ r claim. claim.inside) claims (all_each v (is_volume v shape log) kept are) in
+      let ends : All (EndsBy v.dblocks) claims = All-weaker (IsClaimedRun v.dblocks) (EndsBy v.dblocks) (λ r claim. claim.inside) claims (all_each v (is_volume v shape log) kept are) in
       let none : runs_on claims x ≡ 0 = none_on_front claims v.dblocks x ends outside in
       let no_standing : runs_on all_standing x ≡ 0 = of_none v shape (standing v inodes groups agf_crc agi_crc) standing_apart x outside in
       omega (arith, all_on x, unclaimed x none, no_standing)
@@ -231,7 +233,7 @@ module _ (v : Volume) (shape : HasGroups v.dblocks v.agblocks v.agcount) (log : 
   ]
 
   -- the free runs of a group are those of the blocks without an owner
-  free_in : (ag b : ℕ) → ag < v.agcount → b < group_length v ag → is_in (get_or groups ag no_group).bno b ≡ (runs_on owned (ag * v.agblocks + b) == 0)
+  free_in : (ag b : ℕ) → ag < v.agcount → b < group_length v ag → is_in_spans (get_or groups ag no_group).bno b ≡ (runs_on owned (ag * v.agblocks + b) == 0)
   free_in ag b low inside =
       let g = wanted_group v kept reserved inodes ag in
       let here : b < length (uses_in v kept reserved ag) = omega (arith, inside, length_uses v kept reserved ag) in
@@ -246,16 +248,16 @@ module _ (v : Volume) (shape : HasGroups v.dblocks v.agblocks v.agcount) (log : 
       let bno = (get_or groups ag no_group).bno in
       let n = group_length v ag in
       let test : ℕ → Bool = λ block. runs_on owned (ag * v.agblocks + block) == 0 in
-      one_separate 0 bno (runs_of test 0 n) (placed.each ag no_group low).bno.separate (runs_separate test 0 n) (λ b. elim (cases_lt b n) [
+      one_separate 0 bno (runs_where test 0 n) (placed.each ag no_group low).bno.separate (runs_separate test 0 n) (λ b. elim (cases_lt b n) [
         | inl inside ↦
-            let here : is_block 0 n b ≡ true = grind (arith, nat_tests, inside) in
+            let here : is_in_range 0 n b ≡ true = grind (arith, nat_tests, inside) in
             free_in ag b low inside ∙ sym (in_runs test 0 n b ∙ ap (λ (t : Bool). t && test b) here)
         | inr outside ↦
-            let out : is_block 0 n b ≡ false = grind (arith, nat_tests, outside) in
+            let out : is_in_range 0 n b ≡ false = grind (arith, nat_tests, outside) in
             (placed.each ag no_group low).bno.inside b (omega (arith, outside, length_uses v kept reserved ag)) ∙ sym (in_runs test 0 n b ∙ ap (λ (t : Bool). t && test b) out)
       ])
 
-  free_group : (ag : ℕ) → ag < v.agcount → AreFree v owned ag (due_group_at v inodes groups agf_crc agi_crc ag)
+  free_group : (ag : ℕ) → ag < v.agcount → HasFreeTrees v owned ag (due_group_at v inodes groups agf_crc agi_crc ag)
   free_group ag low =
       let p = get_or groups ag no_group in
       record {

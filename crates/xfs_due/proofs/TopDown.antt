@@ -10,7 +10,7 @@ use Rattle.xfs_geom.specs.declared.records.InoRec.{InoRec}
 use Rattle.xfs_geom.specs.declared.records.Run.{Run}
 use Rattle.xfs_treebuild.specs.Packing.{rows_in, top_down}
 use Rattle.xfs_volume.specs.declared.groups.TreeBlocks.{TreeBlocks}
-use Rattle.xfs_place.specs.Choice.{size_of}
+use Rattle.xfs_place.specs.Choice.{blocks_of_size}
 use Rattle.xfs_place.specs.Placing.{AreByLength, tree_sizes}
 use Rattle.xfs_place.specs.Standing.{IsOfPool}
 use Rattle.xfs_place.specs.declared.placed.GroupPlaced.{GroupPlaced}
@@ -33,11 +33,11 @@ as_many_blocks sizes places all = length_permutation places (top_down (rows_in s
 
 -- each of the five trees has as many blocks as its records need
 pub record AreSized (inodes : List InoRec) (p : GroupPlaced) : Type 0 where
-  pub bno : length (tree_places p 0) ≡ size_of 505 336 (length p.bno)
-  pub cnt : length (tree_places p 1) ≡ size_of 505 336 (length p.cnt)
-  pub ino : length (tree_places p 2) ≡ size_of 252 505 (length inodes)
-  pub fino : length (tree_places p 3) ≡ size_of 252 505 (length p.fino)
-  pub rmap : length (tree_places p 4) ≡ size_of 168 91 (length p.rmap)
+  pub bno : length (tree_places p 0) ≡ blocks_of_size 505 336 (length p.bno)
+  pub cnt : length (tree_places p 1) ≡ blocks_of_size 505 336 (length p.cnt)
+  pub ino : length (tree_places p 2) ≡ blocks_of_size 252 505 (length inodes)
+  pub fino : length (tree_places p 3) ≡ blocks_of_size 252 505 (length p.fino)
+  pub rmap : length (tree_places p 4) ≡ blocks_of_size 168 91 (length p.rmap)
 
 size_read : (ts : List TreeBlocks) (i : ℕ) → get_or (map (λ (t : TreeBlocks). length t.blocks) ts) i 0 ≡ length (get_or ts i no_tree).blocks
 size_read [] i = refl
@@ -51,7 +51,7 @@ are_sized v kept reserved base inodes p pool by =
     let at = λ (i : ℕ). sym (size_read p.trees i) ∙ ap (λ (ns : List ℕ). get_or ns i 0) pool.sizes in
     record {
       bno = at 0;
-      cnt = at 1 ∙ ap (size_of 505 336) (sym (as_many p.bno p.cnt by));
+      cnt = at 1 ∙ ap (blocks_of_size 505 336) (sym (as_many p.bno p.cnt by));
       ino = at 2;
       fino = at 3;
       rmap = at 4;

@@ -8,9 +8,9 @@ use Rattle.xfs_volume.specs.Laws.{AreKept}
 use Rattle.xfs_volume.specs.declared.groups.GroupRec.{GroupRec}
 use Rattle.xfs_laws.specs.Counting as Laws
 use Rattle.xfs_place.specs.Counts as Placed
-use Rattle.xfs_place.specs.Counts.{counts_of}
+use Rattle.xfs_place.specs.Counts.{placed_counts}
 use Rattle.xfs_place.specs.Standing.{AreOfPool}
-use Rattle.xfs_place.specs.Wanted.{ArePlaced, inodes_of}
+use Rattle.xfs_place.specs.Wanted.{ArePlaced, inodes_in_group}
 use Rattle.xfs_place.specs.declared.placed.GroupPlaced.{GroupPlaced}
 use Rattle.xfs_place.specs.declared.wanted.GroupInodes.{GroupInodes}
 use Rattle.xfs_place.proofs.OfPool.{all_of_pool}
@@ -38,9 +38,9 @@ module _ (v : Volume) (kept : List Run) (reserved : List ℕ) (inodes : List Gro
   pool : AreOfPool v kept reserved inodes v.agcount groups
   pool = all_of_pool v kept reserved inodes v.agcount groups placed
 
-  pub sized : (ag : ℕ) → ag < v.agcount → AreSized (inodes_of inodes ag) (get_or groups ag no_group)
+  pub sized : (ag : ℕ) → ag < v.agcount → AreSized (inodes_in_group inodes ag) (get_or groups ag no_group)
   sized ag low =
-      are_sized v kept reserved (ag * v.agblocks) (inodes_of inodes ag) (get_or groups ag no_group) (pool.each ag no_group low) (placed.each ag no_group low).cnt
+      are_sized v kept reserved (ag * v.agblocks) (inodes_in_group inodes ag) (get_or groups ag no_group) (pool.each ag no_group low) (placed.each ag no_group low).cnt
 
   same_at : (due : GroupRec → ℕ) (k : ℕ) → due (due_group_at v inodes groups agf_crc agi_crc k) ≡ due (due_group_at v inodes groups agf_crc agi_crc (0 + k))
   same_at due k = let start : k ≡ 0 + k = omega arith in ap (λ (j : ℕ). due (due_group_at v inodes groups agf_crc agi_crc j)) start
@@ -48,24 +48,24 @@ module _ (v : Volume) (kept : List Run) (reserved : List ℕ) (inodes : List Gro
   groups_counted : AreKept (Laws.by_group Laws.group_counts 0 (due_groups v inodes groups agf_crc agi_crc))
   groups_counted =
       groups_kept Laws.group_counts (due_group_at v inodes groups agf_crc agi_crc) 0 v.agcount (λ ag low high.
-      counts_kept v ag (inodes_of inodes ag) (get_or groups ag no_group) (agf_crc ag) (agi_crc ag) (sized ag (omega (arith, high))))
+      counts_kept v ag (inodes_in_group inodes ag) (get_or groups ag no_group) (agf_crc ag) (agi_crc ag) (sized ag (omega (arith, high))))
 
   all_slots : length inodes ≡ v.agcount → sum (map (λ (g : GroupInodes). Placed.slots g.records) inodes) ≡ sum (map (λ (g : GroupRec). Laws.slots g.ino) (due_groups v inodes groups agf_crc agi_crc))
   all_slots all =
       ap sum (numbers_are (λ (g : GroupInodes). Placed.slots g.records) (λ (g : GroupRec). Laws.slots g.ino) (due_group_at v inodes groups agf_crc agi_crc) inodes (record { records = [] }) 0 v.agcount all
-      (λ k low. sym (slots_are v k (inodes_of inodes k) (get_or groups k no_group) (agf_crc k) (agi_crc k) (sized k low)) ∙ same_at (λ (g : GroupRec). Laws.slots g.ino) k))
+      (λ k low. sym (slots_are v k (inodes_in_group inodes k) (get_or groups k no_group) (agf_crc k) (agi_crc k) (sized k low)) ∙ same_at (λ (g : GroupRec). Laws.slots g.ino) k))
 
   all_free_slots : length inodes ≡ v.agcount → sum (map (λ (g : GroupInodes). Placed.free_slots g.records) inodes) ≡ sum (map (λ (g : GroupRec). Laws.free_slots g.ino) (due_groups v inodes groups agf_crc agi_crc))
   all_free_slots all =
       ap sum (numbers_are (λ (g : GroupInodes). Placed.free_slots g.records) (λ (g : GroupRec). Laws.free_slots g.ino) (due_group_at v inodes groups agf_crc agi_crc) inodes (record { records = [] }) 0 v.agcount all
-      (λ k low. sym (free_slots_are v k (inodes_of inodes k) (get_or groups k no_group) (agf_crc k) (agi_crc k) (sized k low)) ∙ same_at (λ (g : GroupRec). Laws.free_slots g.ino) k))
+      (λ k low. sym (free_slots_are v k (inodes_in_group inodes k) (get_or groups k no_group) (agf_crc k) (agi_crc k) (sized k low)) ∙ same_at (λ (g : GroupRec). Laws.free_slots g.ino) k))
 
-  all_room : sum (map Placed.room groups) ≡ sum (map Laws.room (due_groups v inodes groups agf_crc agi_crc))
+  all_room : sum (map Placed.room_placed groups) ≡ sum (map Laws.room (due_groups v inodes groups agf_crc agi_crc))
   all_room =
-      ap sum (numbers_are Placed.room Laws.room (due_group_at v inodes groups agf_crc agi_crc) groups no_group 0 v.agcount placed.all
-      (λ k low. sym (room_is v k (inodes_of inodes k) (get_or groups k no_group) (agf_crc k) (agi_crc k) (sized k low)) ∙ same_at Laws.room k))
+      ap sum (numbers_are Placed.room_placed Laws.room (due_group_at v inodes groups agf_crc agi_crc) groups no_group 0 v.agcount placed.all
+      (λ k low. sym (room_is v k (inodes_in_group inodes k) (get_or groups k no_group) (agf_crc k) (agi_crc k) (sized k low)) ∙ same_at Laws.room k))
 
-  pub counters_kept : (counts : Counts) → length inodes ≡ v.agcount → counts ≡ counts_of inodes groups → AreKept (Laws.counter_laws v (due_groups v inodes groups agf_crc agi_crc) counts)
+  pub counters_kept : (counts : Counts) → length inodes ≡ v.agcount → counts ≡ placed_counts inodes groups → AreKept (Laws.counter_laws v (due_groups v inodes groups agf_crc agi_crc) counts)
   counters_kept counts all are =
       both_kept (Laws.by_group Laws.group_counts 0 (due_groups v inodes groups agf_crc agi_crc)) (Laws.volume_counts v (due_groups v inodes groups agf_crc agi_crc) counts) groups_counted
       (ap (λ (c : Counts). c.icount) are ∙ all_slots all, (ap (λ (c : Counts). c.ifree) are ∙ all_free_slots all, (ap (λ (c : Counts). c.fdblocks) are ∙ all_room, tt)))

@@ -6,15 +6,16 @@ use Rattle.std.proofs.lemmas.Bool.{leb-true, ltb-true, le-leb, lt-ltb}
 use Rattle.std.proofs.lemmas.List.FromFn.{get_or-map-range_with_len, length-map-range_with_len}
 use Rattle.std.proofs.lemmas.List.Sums.{count_by-le-length}
 use Rattle.std.specs.Cmp.Derive.{both_true}
+use Rattle.xfs_geom.specs.Runs.{covers}
 use Rattle.xfs_geom.proofs.Votes.{left, right}
 use Rattle.xfs_geom.specs.Shape.{HasGroups, HasAddresses}
 use Rattle.xfs_geom.specs.Volumes.{Volume}
 use Rattle.xfs_geom.specs.declared.geometry.Geometry.{Geometry}
 use Rattle.xfs_geom.specs.declared.records.Run.{Run}
-use Rattle.xfs_place.specs.Claims.{IsClaim}
+use Rattle.xfs_place.specs.Claims.{IsClaimedRun}
 use Rattle.xfs_place.specs.Objects.{keep_with}
-use Rattle.xfs_place.specs.Pool.{is_of, is_taken}
-use Rattle.xfs_place.specs.Wanted.{AreKept, IsClear, all_kept}
+use Rattle.xfs_place.specs.Pool.{is_taken}
+use Rattle.xfs_place.specs.Wanted.{CanBeKept, IsOffFixed, all_kept}
 use Rattle.xfs_place.specs.declared.wanted.GroupInodes.{GroupInodes}
 use Rattle.xfs_tree.specs.Rules.{is_of_root_cluster}
 use Rattle.xfs_empty.specs.Geometry.{HasFirstChunk}
@@ -26,7 +27,7 @@ pub all_one : {X : Type 0} (P : X → Type 0) (x : X) → P x → All P (x ∷ [
 all_one P x p zero d low = p
 all_one P x p (suc k) d low = absurd (omega (arith, low))
 
-chunk_claim : (d : ℕ) → 24 ≤ d → IsClaim d chunk_run
+chunk_claim : (d : ℕ) → 24 ≤ d → IsClaimedRun d chunk_run
 chunk_claim d enough =
     record {
       some = omega arith;
@@ -35,7 +36,7 @@ chunk_claim d enough =
       plain = λ is. refl;
     }
 
-chunk_clear : (v : Volume) → HasGroups v.dblocks v.agblocks v.agcount → HasFirstChunk v → IsClear v chunk_run
+chunk_clear : (v : Volume) → HasGroups v.dblocks v.agblocks v.agcount → HasFirstChunk v → IsOffFixed v chunk_run
 chunk_clear v groups first block is =
     chunk_free v block groups first (leb-true 16 block (left _ (nat_lt block 24) is)) (ltb-true block 24 (right (nat_le 16 block) _ is))
 
@@ -45,12 +46,12 @@ many v groups =
     let most : 1 * v.agblocks ≤ (v.agcount - 1) * v.agblocks = mul-le-mul_right v.agblocks (omega (arith, groups.two)) in
     omega (arith, groups.last, groups.large, most)
 
-pub chunk_kept : (v : Volume) → HasGroups v.dblocks v.agblocks v.agcount → HasFirstChunk v → AreKept v (chunk_run ∷ [])
+pub chunk_kept : (v : Volume) → HasGroups v.dblocks v.agblocks v.agcount → HasFirstChunk v → CanBeKept v (chunk_run ∷ [])
 chunk_kept v groups first =
     record {
-      each = all_one (IsClaim v.dblocks) chunk_run (chunk_claim v.dblocks (omega (arith, many v groups)));
-      clear = all_one (IsClear v) chunk_run (chunk_clear v groups first);
-      apart = record { once = λ block. count_by-le-length (is_of block) (chunk_run ∷ []) };
+      each = all_one (IsClaimedRun v.dblocks) chunk_run (chunk_claim v.dblocks (omega (arith, many v groups)));
+      clear = all_one (IsOffFixed v) chunk_run (chunk_clear v groups first);
+      apart = record { once = λ block. count_by-le-length (covers block) (chunk_run ∷ []) };
     }
 
 -- the root's cluster is of the first chunk
@@ -71,7 +72,7 @@ root_taken v block groups addresses first is = taken (rw (first.root, group, res
     left_or : (a b : Bool) → a ≡ true → (a || b) ≡ true
     left_or a b h = rw h refl
 
-    taken : (nat_le (0 * v.agblocks + 16) block && nat_lt block (0 * v.agblocks + 16 + 4)) ≡ true → (is_of block chunk_run || false) ≡ true
+    taken : (nat_le (0 * v.agblocks + 16) block && nat_lt block (0 * v.agblocks + 16 + 4)) ≡ true → (covers block chunk_run || false) ≡ true
     taken h =
         let low : 0 * v.agblocks + 16 ≤ block = leb-true _ _ (left _ _ h) in
         let high : block < 0 * v.agblocks + 16 + 4 = ltb-true _ _ (right (nat_le (0 * v.agblocks + 16) block) _ h) in

@@ -14,7 +14,7 @@ use Rattle.xfs_geom.specs.declared.geometry.Geometry.{Geometry}
 use Rattle.xfs_render.specs.Clusters.{CanCluster}
 use Rattle.xfs_render.specs.Rendering.{is_head}
 use Rattle.xfs_render.specs.declared.wanted_slots.SlotWanted.{SlotWanted}
-use Rattle.xfs_empty.specs.Bytes.{AreFirstSlots, empty_places, head_places}
+use Rattle.xfs_empty.specs.Bytes.{AreFirstSlots, empty_places, header_places}
 use Rattle.xfs_empty.specs.Inodes.{free_slot}
 use Rattle.xfs_empty.proofs.Kept.{many}
 use Rattle.xfs_empty.proofs.Slots.{AreNumbered, first_can, slot_can, wanted_is}
@@ -30,34 +30,34 @@ pub record IsChunkAt (g : Geometry) (i : ℕ) : Type 0 where
   pub at : i ≡ g.agcount + block
   pub is : get_or (empty_places g) i 0 ≡ 16 + block
 
-heads : (g : Geometry) → length (head_places g.agblocks g.agcount) ≡ g.agcount
+heads : (g : Geometry) → length (header_places g.agblocks g.agcount) ≡ g.agcount
 heads g = length-map-range_with_len (λ ag. ag * g.agblocks) 0 g.agcount
 
 pub count_places : (g : Geometry) → length (empty_places g) ≡ g.agcount + 8
 count_places g =
-    let all = length-append (head_places g.agblocks g.agcount) (range_with_len 16 8) in
+    let all = length-append (header_places g.agblocks g.agcount) (range_with_len 16 8) in
     omega (arith, all, heads g)
 
 pub head_at : (g : Geometry) (i : ℕ) → i < g.agcount → IsHeadAt g i
 head_at g i low =
-    let inside : i < length (head_places g.agblocks g.agcount) = omega (arith, heads g, low) in
+    let inside : i < length (header_places g.agblocks g.agcount) = omega (arith, heads g, low) in
     record {
       low = low;
       is =
-          get_or_append_left (head_places g.agblocks g.agcount) (range_with_len 16 8) 0 i inside
+          get_or_append_left (header_places g.agblocks g.agcount) (range_with_len 16 8) 0 i inside
           ∙ get_or-map-range_with_len (λ ag. ag * g.agblocks) 0 g.agcount i i 0 low (omega arith);
     }
 
 pub chunk_at : (g : Geometry) (i block : ℕ) → block < 8 → i ≡ g.agcount + block → IsChunkAt g i
 chunk_at g i block few at =
-    let there : i ≡ length (head_places g.agblocks g.agcount) + block = omega (arith, heads g, at) in
+    let there : i ≡ length (header_places g.agblocks g.agcount) + block = omega (arith, heads g, at) in
     record {
       block = block;
       few = few;
       at = at;
       is =
           ap (λ (n : ℕ). get_or (empty_places g) n 0) there
-          ∙ (get_or-append-add (head_places g.agblocks g.agcount) (range_with_len 16 8) block 0
+          ∙ (get_or-append-add (header_places g.agblocks g.agcount) (range_with_len 16 8) block 0
           ∙ get_or-range_with_len 16 8 block 0 few);
     }
 

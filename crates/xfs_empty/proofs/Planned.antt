@@ -17,10 +17,10 @@ use Rattle.xfs_place.specs.Pool.{is_taken}
 use Rattle.xfs_place.specs.declared.placed.GroupPlaced.{GroupPlaced}
 use Rattle.xfs_place.specs.declared.placed.Placed.{Placed}
 use Rattle.xfs_place.specs.declared.wanted.Wanted.{Wanted}
-use Rattle.xfs_render.specs.Groups.{CanPack, IsSound, tree_places}
+use Rattle.xfs_render.specs.Groups.{CanPack, IsSoundGroup, tree_places}
 use Rattle.xfs_render.specs.Plans.{planned}
-use Rattle.xfs_render.specs.Rendering.{IsReady, IsRendered, blocks_in_place, fresh_blocks, group_in, inodes_in, kept_blocks, log_blocks, new_blocks, no_group, tree_blocks, volume}
-use Rattle.xfs_render.specs.Trees.{all_places}
+use Rattle.xfs_render.specs.Rendering.{IsReady, IsRendered, blocks_in_place, fresh_blocks, group_placed, wanted_inodes, kept_blocks, log_places, new_blocks, no_group, tree_blocks, volume}
+use Rattle.xfs_render.specs.Trees.{group_tree_places}
 use Rattle.xfs_render.specs.declared.bytes.Bytes.{Bytes}
 use Rattle.xfs_render.specs.declared.plan.Plan.{Plan}
 use Rattle.xfs_tree.specs.Rules.{is_of_root_cluster}
@@ -33,7 +33,7 @@ held_low s v records places can = λ k d low.
     let held = can.held k d low in
     ltb-true _ _ (left _ _ (left _ _ (left _ (not (is_of_root_cluster v (get_or places k d))) held)))
 
-group_low : (v : Volume) (ag : ℕ) (inodes : List InoRec) (p : GroupPlaced) → IsSound v ag inodes p → All (λ place. place < v.dblocks) (all_places p)
+group_low : (v : Volume) (ag : ℕ) (inodes : List InoRec) (p : GroupPlaced) → IsSoundGroup v ag inodes p → All (λ place. place < v.dblocks) (group_tree_places p)
 group_low v ag inodes p sound =
     let P : ℕ → Type 0 = λ place. place < v.dblocks in
     All-append P _ (tree_places p 4)
@@ -53,11 +53,11 @@ all_flat P f (x ∷ xs) each =
 
 trees_low : (w : Wanted) (p : Placed) (b : Bytes) → IsReady w p b → All (λ place. place < w.geometry.dblocks) (tree_blocks p)
 trees_low w p b ready =
-    all_flat (λ place. place < w.geometry.dblocks) all_places p.groups (λ k d low.
+    all_flat (λ place. place < w.geometry.dblocks) group_tree_places p.groups (λ k d low.
     let inside : k < w.geometry.agcount = omega (arith, ready.groups, low) in
     let same : get_or p.groups k no_group ≡ get_or p.groups k d = get_or_default p.groups k no_group d low in
-    subst (λ (q : GroupPlaced). All (λ place. place < w.geometry.dblocks) (all_places q)) same
-    (group_low (volume w) k (inodes_in w k) (group_in p k) (ready.sound k inside)))
+    subst (λ (q : GroupPlaced). All (λ place. place < w.geometry.dblocks) (group_tree_places q)) same
+    (group_low (volume w) k (wanted_inodes w k) (group_placed p k) (ready.sound k inside)))
 
 -- the log ends in the volume
 log_ends : (d w n log l : ℕ) → HasGroups d w n → HasLog d w n log l → log + l ≤ d
@@ -82,7 +82,7 @@ log_low g = λ k d low.
     omega (arith, at, few, end)
 
 -- the log where it is to be blank, and nothing where it stays
-blank_low : (w : Wanted) (cycle : Option ℕ) → All (λ place. place < w.geometry.dblocks) (log_blocks w cycle)
+blank_low : (w : Wanted) (cycle : Option ℕ) → All (λ place. place < w.geometry.dblocks) (log_places w cycle)
 blank_low w None = λ k d low. absurd (omega (arith, low))
 blank_low w (Some cycle) = log_low w.geometry
 
@@ -95,5 +95,5 @@ planned_low w p b plan ready rendered =
     (All-permutation P (fresh_blocks w p b) plan.fresh rendered.fresh
     (All-append P (tree_blocks p) (new_blocks w b) (trees_low w p b ready) (All-filter (is_taken w.new) P b.places ready.inside)))
     (All-permutation P (blocks_in_place w b) plan.in_place rendered.in_place
-    (All-append P (kept_blocks w b) (log_blocks w b.cycle) (All-filter (λ place. not (is_taken w.new place)) P b.places ready.inside)
+    (All-append P (kept_blocks w b) (log_places w b.cycle) (All-filter (λ place. not (is_taken w.new place)) P b.places ready.inside)
     (blank_low w b.cycle)))

@@ -5,13 +5,13 @@ use Rattle.std.specs.Option.{MatchOption}
 use Rattle.std.proofs.lemmas.List.{length-replicate}
 use Rattle.xfs_disk.specs.declared.stamp.Stamp.{Stamp}
 use Rattle.xfs_geom.specs.Volumes.{volume_of, stated_volume}
-use Rattle.xfs_geom.specs.Writing.{IsAccepted}
+use Rattle.xfs_geom.specs.Writing.{IsAcceptedSector}
 use Rattle.xfs_geom.specs.declared.geometry.Geometry.{Geometry}
 use Rattle.xfs_geom.specs.declared.records.InoRec.{InoRec}
 use Rattle.xfs_kinds.specs.InodeTrees.{ino_shape}
 use Rattle.xfs_place.specs.declared.wanted.GroupInodes.{GroupInodes}
 use Rattle.xfs_render.specs.Clusters.{CanCluster}
-use Rattle.xfs_render.specs.Readiness.{HasBytes, IsOwned, IsWritable}
+use Rattle.xfs_render.specs.Readiness.{HasBytes, HasOwner, IsWritable}
 use Rattle.xfs_render.specs.Rendering.{is_head, old_at}
 use Rattle.xfs_render.specs.declared.bytes.Bytes.{Bytes}
 use Rattle.xfs_tree.specs.Rules.{are_lawful}
@@ -23,7 +23,7 @@ use Rattle.xfs_empty.proofs.Kept.{all_one, count_inodes, inodes_are, root_taken}
 use Rattle.xfs_empty.proofs.Places.{all_inside, numbered, places_can}
 use Rattle.xfs_empty.proofs.Slots.{in_order}
 
-chunk_owned : IsOwned chunk_run
+chunk_owned : HasOwner chunk_run
 chunk_owned = record { owner = omega arith; offset = omega arith }
 
 abbrev no_group : GroupInodes
@@ -39,15 +39,15 @@ writable g first =
           ap (λ (r : GroupInodes). r.records) (inodes_are g.agcount ag no_group low) in
           subst (λ (rs : List InoRec). IsTrue (are_lawful (ino_shape ag) (volume_of g) None rs)) (sym is)
           (chunks_lawful (volume_of g) ag g.shape.groups first);
-      owned = all_one IsOwned chunk_run chunk_owned;
+      owned = all_one HasOwner chunk_run chunk_owned;
       root = λ block is. root_taken (volume_of g) block g.shape.groups g.shape.addresses first is;
     }
 
-pub has_bytes : (g : Geometry) (sector : List ℕ) (s : Stamp) (b : Bytes) → IsEmptyBytes g sector s b → IsAccepted sector
+pub has_bytes : (g : Geometry) (sector : List ℕ) (s : Stamp) (b : Bytes) → IsEmptyBytes g sector s b → IsAcceptedSector sector
     → stated_volume sector ≡ volume_of g → HasBytes (empty_wanted g) b
 has_bytes g sector s b made accepted states =
     record {
-      accepted = subst IsAccepted (sym made.sector') accepted;
+      accepted = subst IsAcceptedSector (sym made.sector') accepted;
       states = ap stated_volume made.sector' ∙ states;
       old = ap length made.old ∙ length-replicate (length b.places) (replicate 4096 0);
       inside = subst (λ (ps : List ℕ). All (λ place. place < g.dblocks) ps) (sym made.places') (all_inside g);

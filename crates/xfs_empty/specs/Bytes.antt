@@ -9,11 +9,11 @@ use Rattle.xfs_render.specs.declared.wanted_slots.SlotWanted.{SlotWanted}
 use Rattle.xfs_empty.specs.Inodes.{IsFirstSlot}
 
 -- the first blocks of the groups, and behind them the blocks of the first chunk
-abbrev pub head_places : ℕ → ℕ → List ℕ
-head_places agblocks agcount = map (λ ag. ag * agblocks) (range_with_len 0 agcount)
+abbrev pub header_places : ℕ → ℕ → List ℕ
+header_places agblocks agcount = map (λ ag. ag * agblocks) (range_with_len 0 agcount)
 
 abbrev pub empty_places : Geometry → List ℕ
-empty_places g = head_places g.agblocks g.agcount ++ range_with_len 16 8
+empty_places g = header_places g.agblocks g.agcount ++ range_with_len 16 8
 
 -- the first 64 slots, by number
 pub record AreFirstSlots (g : Geometry) (s : Stamp) (slots : List SlotWanted) : Type 0 where

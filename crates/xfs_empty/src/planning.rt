@@ -2,9 +2,9 @@
 
 ghost use Rattle.std.specs.Prelude.{◌≡◌, ◌<◌, ◌⊎◌, All, length, IfErr, IfOk};
 ghost use Rattle.xfs_geom.specs.Volumes.{stated_volume, volume_of};
-ghost use Rattle.xfs_geom.specs.Writing.{IsAccepted};
-ghost use Rattle.xfs_place.specs.Wanted.{AreKept, FindsNoRoom, kept_of};
-ghost use Rattle.xfs_place.specs.declared.faults.Place.{Place};
+ghost use Rattle.xfs_geom.specs.Writing.{IsAcceptedSector};
+ghost use Rattle.xfs_place.specs.Wanted.{CanBeKept, FindsNoRoom, kept_runs};
+ghost use Rattle.xfs_place.specs.declared.faults.Unplaced.{Unplaced};
 ghost use Rattle.xfs_render.specs.Plans.{planned};
 ghost use Rattle.xfs_render.specs.Readiness.{HasBytes, IsWritable};
 ghost use Rattle.xfs_empty.specs.Geometry.{HasFirstChunk};
@@ -35,14 +35,14 @@ pub fn plan_empty<R: Threads + Sync>(
     sector: &[u8; 512],
     stamp: &Stamp,
 ) -> Result<Plan, PlaceFault>
-    requires accepted { IsAccepted sector.now }
+    requires accepted { IsAcceptedSector sector.now }
     requires states { stated_volume sector.now ≡ volume_of g.now }
     requires chunk { HasFirstChunk (volume_of g.now) }
     ensures rendered { IfOk result (λ plan. IsEmptyPlan g.now sector.now stamp.now plan) }
     ensures inside { IfOk result (λ plan. All (λ place. place < g.now.dblocks) (planned plan)) }
     ensures count { IfOk result (λ plan. length plan.bank ≡ length (planned plan)) }
     ensures room { IfOk result (λ plan. HasRoom (empty_wanted g.now)) }
-    ensures cause { IfErr result (λ fault. (fault ≡ PlaceFault.NoMemory) ⊎ ((what : Place) × (fault ≡ PlaceFault.NoRoom what) × FindsNoRoom (empty_wanted g.now) what)) }
+    ensures cause { IfErr result (λ fault. (fault ≡ PlaceFault.NoMemory) ⊎ ((what : Unplaced) × (fault ≡ PlaceFault.NoRoom what) × FindsNoRoom (empty_wanted g.now) what)) }
 {
     let wanted = empty_wanted(alloc, g)?;
     let bytes = empty_bytes(alloc, g, sector, stamp)?;
@@ -56,14 +56,14 @@ fn plan_wanted<R: Threads + Sync>(
     wanted: &Wanted,
     bytes: &Bytes,
 ) -> Result<Plan, PlaceFault>
-    requires kept { AreKept (volume_of wanted.now.geometry) (kept_of wanted.now) }
+    requires kept { CanBeKept (volume_of wanted.now.geometry) (kept_runs wanted.now) }
     requires writable { IsWritable wanted.now }
     requires held { HasBytes wanted.now bytes.now }
     ensures rendered { IfOk result (λ plan. IsPlanFor wanted.now bytes.now plan) }
     ensures inside { IfOk result (λ plan. All (λ place. place < wanted.now.geometry.dblocks) (planned plan)) }
     ensures count { IfOk result (λ plan. length plan.bank ≡ length (planned plan)) }
     ensures room { IfOk result (λ plan. HasRoom wanted.now) }
-    ensures cause { IfErr result (λ fault. (fault ≡ PlaceFault.NoMemory) ⊎ ((what : Place) × (fault ≡ PlaceFault.NoRoom what) × FindsNoRoom wanted.now what)) }
+    ensures cause { IfErr result (λ fault. (fault ≡ PlaceFault.NoMemory) ⊎ ((what : Unplaced) × (fault ≡ PlaceFault.NoRoom what) × FindsNoRoom wanted.now what)) }
 {
     chunks_are_few(wanted);
     let placed = place(alloc, wanted)?;

@@ -6,7 +6,7 @@ use Rattle.std.proofs.lemmas.Bool.{ltb-true}
 use Rattle.std.proofs.lemmas.Nat.{from_be_bytes-to_be_bytes_4}
 use Rattle.std.proofs.lemmas.Cmp.{nat_cmp_total, nat_eq_equiv}
 use Rattle.xfs_tree.specs.Shape.{IsKind}
-use Rattle.xfs_format_tests.specs.Numbers.{numbers, is_number, is_next}
+use Rattle.xfs_format_tests.specs.Numbers.{numbers_shape, is_number, is_next}
 
 left : (a b : Bool) → (a && b) ≡ true → a ≡ true
 left true b h = refl
@@ -23,7 +23,7 @@ fits_of (Some before) n h = right (nat_lt before n) (is_number n) h
 above : (a b : ℕ) → IsTrue (is_next (Some a) b) → a < b
 above a b h = ltb-true a b (left (nat_lt a b) (is_number b) h)
 
-pub numbers_kind : (owner : ℕ) → IsKind (numbers owner)
+pub numbers_kind : (owner : ℕ) → IsKind (numbers_shape owner)
 numbers_kind owner = record {
   laid_out = record {
     some_bytes = omega arith;

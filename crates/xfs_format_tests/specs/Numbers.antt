@@ -16,8 +16,8 @@ abbrev pub is_next : Option ℕ → ℕ → Bool
 is_next None n = is_number n
 is_next (Some before) n = nat_lt before n && is_number n
 
-abbrev pub numbers : ℕ → Shape ℕ ℕ
-numbers owner = record {
+abbrev pub numbers_shape : ℕ → Shape ℕ ℕ
+numbers_shape owner = record {
   layout = numbers_layout;
   owner = owner;
   record_of = λ bytes. from_be_bytes w32 bytes;

@@ -2,8 +2,8 @@
 
 ghost use Rattle.std.specs.Prelude.{◌≡◌, ◌+◌, ◌*◌, ◌<◌, ◌≤◌, ◌^◌, length, All, IfOk, OnOk};
 ghost use Rattle.xfs_word.specs.Seal.{layout_of};
-ghost use Rattle.xfs_dirindex.specs.Mapped.{Ascend};
-ghost use Rattle.xfs_dirbuild.specs.Names.{IsNamed};
+ghost use Rattle.xfs_dirindex.specs.Mapped.{OffsetsAscend};
+ghost use Rattle.xfs_dirbuild.specs.Names.{HasNameOfSix};
 
 use crate::checks::same;
 use crate::dirindex::{assert_ascending, check};
@@ -55,7 +55,7 @@ fn entry(alloc: Global, number: u32) -> Result<EntryRec, AllocError>
 /// So many entries.
 fn entries(alloc: Global, count: u32) -> Result<Vec<EntryRec>, AllocError>
     ensures count { IfOk result (λ entries. length entries.items ≡ count) }
-    ensures each { IfOk result (λ entries. All IsNamed entries.items) }
+    ensures each { IfOk result (λ entries. All HasNameOfSix entries.items) }
 {
     let mut entries = Vec::new(alloc);
     for number in 0..count {
@@ -131,7 +131,7 @@ fn place(offset: u64, block: &mut [u8]) -> bool
 /// The directory as it is seen once its blocks are placed and sealed.
 fn placed(rt: &impl Abort, alloc: Global, image: DirImage) -> Result<DirSeen, Fail>
     ensures mapped { IfOk result (λ dir. length dir.blocks ≡ length dir.offsets.items) }
-    ensures ascending { IfOk result (λ dir. Ascend 0 dir.offsets.items) }
+    ensures ascending { IfOk result (λ dir. OffsetsAscend 0 dir.offsets.items) }
 {
     let DirImage {
         short: _,

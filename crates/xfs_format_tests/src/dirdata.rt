@@ -1,7 +1,7 @@
 //! Short forms and data blocks.
 
 ghost use Rattle.std.specs.Prelude.{◌≡◌, ◌<◌, ◌≤◌, ◌^◌, length, All, IfOk};
-ghost use Rattle.xfs_dirdata.specs.Written.{IsWritable};
+ghost use Rattle.xfs_dirdata.specs.Written.{IsWritableEntry};
 
 mod real;
 
@@ -27,7 +27,7 @@ const TWO_ENTRIES: &str = "\
 /// An entry that can be written.
 fn entry(alloc: Global, name: &[u8], ino: u32, ftype: u8) -> Result<EntryRec, AllocError>
     requires { length name.now < 256 }
-    ensures writable { IfOk result IsWritable }
+    ensures writable { IfOk result IsWritableEntry }
     ensures name { IfOk result (λ entry. entry.name ≡ name.now) }
 {
     Ok(EntryRec {
@@ -40,7 +40,7 @@ fn entry(alloc: Global, name: &[u8], ino: u32, ftype: u8) -> Result<EntryRec, Al
 
 /// Entries that can be written, from rows with the offset, the inode number, the file type and the name.
 fn entries(rt: &impl Abort, alloc: Global, rows: &str) -> Result<Vec<EntryRec>, Fail>
-    ensures { IfOk result (λ entries. All IsWritable entries.items) }
+    ensures { IfOk result (λ entries. All IsWritableEntry entries.items) }
 {
     let mut entries = Vec::new(alloc);
     for line in rows.lines() {
@@ -70,10 +70,10 @@ fn assert_entries(rt: &impl Abort, entries: &[EntryRec], rows: &str) {
 #[test]
 fn short_form(rt: HostRuntime) -> Result<(), Fail> {
     let two = Row::new(TWO).bytes(&rt, rt.alloc())?;
-    let read = read_short(rt.alloc(), 100, &two)?;
+    let read = read_short_entries(rt.alloc(), 100, &two)?;
     same!(rt; read.parent, 128);
     assert_entries(&rt, &read.entries, TWO_ENTRIES);
-    let made = read_short(rt.alloc(), 100, &Row::new(SHORT).bytes(&rt, rt.alloc())?)?;
+    let made = read_short_entries(rt.alloc(), 100, &Row::new(SHORT).bytes(&rt, rt.alloc())?)?;
     same!(rt; made.parent, 128);
     assert_entries(&rt, &made.entries, SHORT_ENTRIES);
     let entries = [
@@ -117,12 +117,12 @@ fn short_form_rules(rt: HostRuntime) -> Result<(), Fail> {
         let mut row = Row::new(line);
         let mut form = Row::new(TWO).bytes(&rt, rt.alloc())?;
         put_parts(&rt, &mut form, row.text())?;
-        same!(rt; read_short(rt.alloc(), 100, &form).is_ok(), row.flag(&rt); line);
+        same!(rt; read_short_entries(rt.alloc(), 100, &form).is_ok(), row.flag(&rt); line);
     }
     for line in FORMS.lines() {
         let mut row = Row::new(line);
         let form = row.bytes(&rt, rt.alloc())?;
-        same!(rt; read_short(rt.alloc(), 100, &form).is_ok(), row.flag(&rt); line);
+        same!(rt; read_short_entries(rt.alloc(), 100, &form).is_ok(), row.flag(&rt); line);
     }
     Ok(())
 }

@@ -1,7 +1,7 @@
 //! Directories in single-block, leaf and node form, sound and with one number changed.
 
 ghost use Rattle.std.specs.Prelude.{◌≡◌, length, IfOk};
-ghost use Rattle.xfs_dirindex.specs.Mapped.{Ascend};
+ghost use Rattle.xfs_dirindex.specs.Mapped.{OffsetsAscend};
 
 use crate::text::{Row, tells};
 use std::alloc::{AllocError, Global};
@@ -151,7 +151,7 @@ single single | Err(Unsound) | file block 1 | 4096 | 1 |
 
 /// Fails where file blocks do not ascend from a least one on.
 pub fn assert_ascending(rt: &impl Abort, least: u64, offsets: &[u64])
-    ensures { Ascend least offsets.now }
+    ensures { OffsetsAscend least offsets.now }
 {
     if let Some((first, rest)) = offsets.split_first() {
         assert!(rt; least <= *first && *first < 0x1_0000_0000);
@@ -205,7 +205,7 @@ fn seen(
     changes: &str,
 ) -> Result<DirSeen, Fail>
     ensures mapped { IfOk result (λ dir. length dir.blocks ≡ length dir.offsets.items) }
-    ensures ascending { IfOk result (λ dir. Ascend 0 dir.offsets.items) }
+    ensures ascending { IfOk result (λ dir. OffsetsAscend 0 dir.offsets.items) }
 {
     let offsets = Row::new(offsets).numbers(rt, rt.alloc())?;
     let mut blocks = BlockBank::make(rt.alloc(), offsets.len())?;
@@ -226,7 +226,7 @@ fn seen(
 /// What the check of a form says.
 pub fn check(alloc: Global, form: &str, dir: &DirSeen) -> Result<(), IndexFault>
     requires mapped { length dir.now.blocks ≡ length dir.now.offsets.items }
-    requires ascending { Ascend 0 dir.now.offsets.items }
+    requires ascending { OffsetsAscend 0 dir.now.offsets.items }
 {
     match form {
         "single" => check_block(alloc, dir),

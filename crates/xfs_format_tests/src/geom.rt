@@ -1,7 +1,7 @@
 //! Superblocks and elections against values from outside.
 
 ghost use Rattle.std.specs.Prelude.{◌+◌, ◌≤◌, IfOk};
-ghost use Rattle.xfs_geom.specs.Writing.{IsAccepted};
+ghost use Rattle.xfs_geom.specs.Writing.{IsAcceptedSector};
 
 use crate::checks::same;
 use crate::text::{Row, parts_of, put_parts, refuse, tells};
@@ -147,7 +147,7 @@ fn elect_of(
     rt: &(impl Abort + AllocGlobal),
     supers: &str,
 ) -> Result<Result<Elected, ElectFault>, Fail>
-    ensures { IfOk result (λ answer. IfOk answer (λ e. IsAccepted e.sector)) }
+    ensures { IfOk result (λ answer. IfOk answer (λ e. IsAcceptedSector e.sector)) }
 {
     let mut disk = MemoryDisk::make(rt.alloc(), 4096)?;
     for row in parts_of(rt, supers).iter() {

@@ -127,7 +127,7 @@ fn read_counted<D: Disk, L: Ledger>(
     ino: u64,
     slot: &[u8; 512],
     blank: Blank,
-) -> Result<FileRead, InodeError>
+) -> Result<FileRead, InodeFault>
     requires name { blank.name ≡ L.name }
     requires parts { blank.parts ≡ L.parts }
     requires some { 0 < blank.parts }

@@ -2,7 +2,7 @@
 
 ghost use Rattle.std.specs.Prelude.{ℕ, ◌≤◌, length, None, IsTrue};
 ghost use Rattle.xfs_geom.specs.Volumes.{Volume};
-ghost use Rattle.xfs_format_tests.specs.Numbers.{numbers};
+ghost use Rattle.xfs_format_tests.specs.Numbers.{numbers_shape};
 ghost use Rattle.xfs_tree.specs.Rules.{are_lawful};
 
 mod hostile;
@@ -60,7 +60,7 @@ const PLACES: [u64; 11] = [100, 101, 102, 103, 104, 105, 106, 107, 108, 109, 110
 /// Packs numbers in the first group of a volume of two groups of 1024 blocks, with its log at AG block 6 of the
 /// second, and compares the level and the count of each block.
 fn assert_packed(rt: &(impl Abort + AllocGlobal), records: &[u32], blocks: &str)
-    requires lawful { (v : Volume) → IsTrue (are_lawful (numbers 0) v None records.now) }
+    requires lawful { (v : Volume) → IsTrue (are_lawful (numbers_shape 0) v None records.now) }
     requires few { length records.now ≤ 13 }
 {
     let g = Geometry {

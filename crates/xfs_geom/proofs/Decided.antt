@@ -6,7 +6,7 @@ use Rattle.xfs_disk.specs.Blocks.{Image}
 use Rattle.xfs_geom.specs.Election.{Vote, votes_below, winner}
 use Rattle.xfs_geom.specs.Electing.{vote_of, IsElection}
 use Rattle.xfs_geom.specs.Polls.{IsAmong, Ascends, Leads, HasLeader, IsDecided}
-use Rattle.xfs_geom.specs.Stated.{stated, place_fault, place_tests}
+use Rattle.xfs_geom.specs.Stated.{stated, first_place_fault, shape_tests}
 use Rattle.xfs_geom.specs.Superblocks.{super_fault}
 use Rattle.xfs_geom.specs.Volumes.{Volume}
 use Rattle.xfs_geom.specs.declared.election.ElectFault.{ElectFault}
@@ -17,10 +17,10 @@ use Rattle.xfs_geom.proofs.OwnVolume.{has_passed, each_holds}
 
 -- an accepted superblock's volume lies in the image
 pub volume_inside : (sector : List ℕ) (place blocks : ℕ) → super_fault sector place blocks ≡ None → (stated sector).dblocks ≤ blocks
-unfolding place_fault
+unfolding first_place_fault
 volume_inside sector place blocks accepted =
     let passed = has_passed sector place blocks accepted in
-    leb-true (stated sector).dblocks blocks (each_holds (place_tests (stated sector) place blocks) passed.standing 1 (0, true) (omega arith))
+    leb-true (stated sector).dblocks blocks (each_holds (shape_tests (stated sector) place blocks) passed.standing 1 (0, true) (omega arith))
 
 decide : (blocks : ℕ) (votes : List Vote) (leader : Tally) → Ascends votes
     → ((vote : Vote) → IsAmong vote votes → super_fault vote.sector vote.place blocks ≡ None) → Leads votes leader → IsDecided blocks votes leader.first

@@ -6,7 +6,7 @@ use Rattle.std.specs.Prelude.{if◌then◌else◌}
 use Rattle.xfs_geom.specs.Groups.{blocks_of_group, group_of_address, ag_block_of_address}
 use Rattle.xfs_geom.specs.Parts.{HasParts}
 use Rattle.xfs_geom.specs.Shape.{HasLog}
-use Rattle.xfs_geom.specs.Stated.{log_of}
+use Rattle.xfs_geom.specs.Stated.{stated_log}
 use Rattle.xfs_geom.specs.declared.stated.Stated.{Stated}
 
 -- no group is longer than agblocks
@@ -36,7 +36,7 @@ place_of_block d w n l g b covered large group behind inside small =
       inside = rw (rest, quotient) inside;
     }
 
-pub log_kept : (v : Stated) → HasParts v → HasLog v.dblocks v.agblocks v.agcount (log_of v) v.logblocks
+pub log_kept : (v : Stated) → HasParts v → HasLog v.dblocks v.agblocks v.agcount (stated_log v) v.logblocks
 log_kept v parts =
     place_of_block v.dblocks v.agblocks v.agcount v.logblocks (group_of_address v.agblklog v.logstart) (ag_block_of_address v.agblklog v.logstart)
     parts.groups.covered parts.log_at.large parts.log_at.group parts.log_at.behind parts.log_at.inside parts.log_at.small

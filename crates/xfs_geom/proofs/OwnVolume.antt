@@ -8,7 +8,7 @@ use Rattle.xfs_word.specs.Seal.{is_sealed}
 use Rattle.xfs_geom.specs.Features.{or_else, refused_feature}
 use Rattle.xfs_geom.specs.First.{first_false}
 use Rattle.xfs_geom.specs.Fixed.{fixed_fault}
-use Rattle.xfs_geom.specs.Stated.{stated, log_of, parts_fault, place_fault, place_tests}
+use Rattle.xfs_geom.specs.Stated.{stated, stated_log, parts_fault, first_place_fault, shape_tests}
 use Rattle.xfs_geom.specs.Superblocks.{super_seal, progress_fault, feature_fault, shape_fault, super_fault, is_agreeing, agrees_on_inode, states_volume}
 use Rattle.xfs_geom.specs.Volumes.{stated_volume}
 use Rattle.xfs_geom.specs.declared.features.Departure.{Departure}
@@ -46,7 +46,7 @@ pub record HasPassed (sector : List ℕ) (place blocks : ℕ) : Type 0 where
   pub features : refused_feature sector ≡ None
   pub fixed : fixed_fault sector ≡ None
   pub parts : parts_fault (stated sector) ≡ None
-  pub standing : place_fault (stated sector) place blocks ≡ None
+  pub standing : first_place_fault (stated sector) place blocks ≡ None
 
 pub has_passed : (sector : List ℕ) (place blocks : ℕ) → super_fault sector place blocks ≡ None → HasPassed sector place blocks
 unfolding super_fault
@@ -77,12 +77,12 @@ left_alone true h = refl
 left_alone false h = h
 
 -- the words on the system inodes, at the primary's place
-pub system_inodes : (sector : List ℕ) (blocks : ℕ) → place_fault (stated sector) 0 blocks ≡ None
+pub system_inodes : (sector : List ℕ) (blocks : ℕ) → first_place_fault (stated sector) 0 blocks ≡ None
     → (((stated sector).rbmino == (stated sector).rootino + 1) ≡ true) × (((stated sector).rsumino == (stated sector).rootino + 2) ≡ true)
-unfolding place_fault
+unfolding first_place_fault
 system_inodes sector blocks none = (
-  left_alone _ (each_holds (place_tests (stated sector) 0 blocks) none 3 (0, true) (omega arith)),
-  left_alone _ (each_holds (place_tests (stated sector) 0 blocks) none 4 (0, true) (omega arith)),
+  left_alone _ (each_holds (shape_tests (stated sector) 0 blocks) none 3 (0, true) (omega arith)),
+  left_alone _ (each_holds (shape_tests (stated sector) 0 blocks) none 4 (0, true) (omega arith)),
 )
 
 -- a conjunction of comparisons of things with themselves, and of three tests that hold
@@ -95,12 +95,12 @@ all_same a b c d e f g u p q r hp hq hr =
     ((bytes_eq-Decides u u).1 refl)) hp) hq) hr
 
 -- it states its own volume
-pub states_itself : (sector : List ℕ) (blocks : ℕ) → place_fault (stated sector) 0 blocks ≡ None
+pub states_itself : (sector : List ℕ) (blocks : ℕ) → first_place_fault (stated sector) 0 blocks ≡ None
     → states_volume (stated_volume sector) sector ≡ true
 states_itself sector blocks none =
     let inodes = system_inodes sector blocks none in
     let v = stated sector in
-    all_same v.dblocks v.agblocks v.agcount v.agblklog (log_of v) v.logblocks v.logsectlog (part_of sector 32 16)
+    all_same v.dblocks v.agblocks v.agcount v.agblklog (stated_log v) v.logblocks v.logsectlog (part_of sector 32 16)
     (agrees_on_inode v.rootino v.rootino) (agrees_on_inode (v.rootino + 1) v.rbmino) (agrees_on_inode (v.rootino + 2) v.rsumino)
     (left_true (v.rootino == v.rootino) (v.rootino == 2 ^ 64 - 1) (same v.rootino))
     (left_true (v.rbmino == v.rootino + 1) (v.rbmino == 2 ^ 64 - 1) inodes.0)

@@ -8,9 +8,9 @@ use Rattle.xfs_word.specs.Seal.{is_sealed, is_ready, has_magic}
 use Rattle.xfs_geom.specs.Features.{FeatureWord, feature_words, first_departure, refused_feature, or_else, departure_by, departing_bits}
 use Rattle.xfs_geom.specs.First.{first_false}
 use Rattle.xfs_geom.specs.Fixed.{FixedWord, fixed_words, fixed_tests, fixed_fault}
-use Rattle.xfs_geom.specs.Stated.{stated, has_root, parts_fault, place_fault, place_tests, is_system_inode}
+use Rattle.xfs_geom.specs.Stated.{stated, has_root, parts_fault, first_place_fault, shape_tests, is_system_inode}
 use Rattle.xfs_geom.specs.Superblocks.{super_seal, progress_fault, feature_fault, shape_fault, super_fault}
-use Rattle.xfs_geom.specs.Writing.{IsAccepted, IsSuperOf, is_beside, is_kept}
+use Rattle.xfs_geom.specs.Writing.{IsAcceptedSector, IsSuperOf, is_beside, is_kept_field}
 use Rattle.xfs_geom.specs.declared.features.Departure.{Departure}
 use Rattle.xfs_geom.specs.declared.reading.SuperFault.{SuperFault}
 use Rattle.xfs_geom.specs.declared.reading.SuperFault.TheVariants.{NotSealed, Shape}
@@ -35,7 +35,7 @@ pub record IsApart (a w : ℕ) : Type 0 where
   pub checksum : Beside 224 4 a w
   pub lsn : Beside 240 8 a w
 
-pub apart : (a w : ℕ) → is_kept a w ≡ true → IsApart a w
+pub apart : (a w : ℕ) → is_kept_field a w ≡ true → IsApart a w
 apart a w h =
     let four = left _ (is_beside 240 8 a w) h in
     let three = left _ (is_beside 224 4 a w) four in
@@ -57,7 +57,7 @@ read_through read b0 b1 b2 b3 b4 a w h inodes progress counters lsn =
     lsn h.lsn ∙ (counters h.counters ∙ (progress h.progress ∙ inodes h.inodes))
 
 -- a superblock is ready to be sealed where its magic number and version are a sealed one's and its log number is 0
-pub ready : (base new : List ℕ) → IsAccepted base → field_of new 0 4 ≡ field_of base 0 4 → field_of new 100 2 ≡ field_of base 100 2
+pub ready : (base new : List ℕ) → IsAcceptedSector base → field_of new 0 4 ≡ field_of base 0 4 → field_of new 100 2 ≡ field_of base 100 2
     → field_of new 240 8 ≡ 0 → IsTrue (is_ready super_seal new)
 unfolding is_ready has_magic is_sealed
 ready base new accepted magic version lsn =
@@ -66,28 +66,28 @@ ready base new accepted magic version lsn =
     let magic_was : has_magic super_seal.kind base ≡ true = left _ _ (left _ _ (left _ _ (left _ _ was))) in
     rw (magic, version, lsn) (both_true (both_true (both_true (both_true magic_was refl) refl) refl) refl)
 
-same_departure : (words : List FeatureWord) (new base : List ℕ) → ((a w : ℕ) → is_kept a w ≡ true → field_of new a w ≡ field_of base a w)
-    → list_all (λ (f : FeatureWord). is_kept f.offset f.width) words ≡ true → first_departure words new ≡ first_departure words base
+same_departure : (words : List FeatureWord) (new base : List ℕ) → ((a w : ℕ) → is_kept_field a w ≡ true → field_of new a w ≡ field_of base a w)
+    → list_all (λ (f : FeatureWord). is_kept_field f.offset f.width) words ≡ true → first_departure words new ≡ first_departure words base
 same_departure [] new base same all = refl
 same_departure (f ∷ words) new base same all =
     ap₂ (λ (n : ℕ) (rest : Option Departure). or_else (departure_by f.word (departing_bits f.rule n)) rest)
-    (same f.offset f.width (left (is_kept f.offset f.width) _ all))
-    (same_departure words new base same (right (is_kept f.offset f.width) _ all))
+    (same f.offset f.width (left (is_kept_field f.offset f.width) _ all))
+    (same_departure words new base same (right (is_kept_field f.offset f.width) _ all))
 
-same_features : (new base : List ℕ) → ((a w : ℕ) → is_kept a w ≡ true → field_of new a w ≡ field_of base a w)
+same_features : (new base : List ℕ) → ((a w : ℕ) → is_kept_field a w ≡ true → field_of new a w ≡ field_of base a w)
     → refused_feature new ≡ refused_feature base
 unfolding refused_feature
 same_features new base same = same_departure feature_words new base same refl
 
-same_tests : (words : List FixedWord) (new base : List ℕ) → ((a w : ℕ) → is_kept a w ≡ true → field_of new a w ≡ field_of base a w)
-    → list_all (λ (f : FixedWord). is_kept f.offset f.width) words ≡ true → fixed_tests words new ≡ fixed_tests words base
+same_tests : (words : List FixedWord) (new base : List ℕ) → ((a w : ℕ) → is_kept_field a w ≡ true → field_of new a w ≡ field_of base a w)
+    → list_all (λ (f : FixedWord). is_kept_field f.offset f.width) words ≡ true → fixed_tests words new ≡ fixed_tests words base
 same_tests [] new base same all = refl
 same_tests (f ∷ words) new base same all =
     ap₂ (λ (n : ℕ) (rest : List (ℕ × Bool)). (f.word, n == f.number) ∷ rest)
-    (same f.offset f.width (left (is_kept f.offset f.width) _ all))
-    (same_tests words new base same (right (is_kept f.offset f.width) _ all))
+    (same f.offset f.width (left (is_kept_field f.offset f.width) _ all))
+    (same_tests words new base same (right (is_kept_field f.offset f.width) _ all))
 
-same_fixed : (new base : List ℕ) → ((a w : ℕ) → is_kept a w ≡ true → field_of new a w ≡ field_of base a w)
+same_fixed : (new base : List ℕ) → ((a w : ℕ) → is_kept_field a w ≡ true → field_of new a w ≡ field_of base a w)
     → fixed_fault new ≡ fixed_fault base
 unfolding fixed_fault
 same_fixed new base same = ap first_false (same_tests fixed_words new base same refl)
@@ -133,30 +133,30 @@ system_inode : (place due ino : ℕ) → ino ≡ due → is_system_inode place d
 system_inode place due ino same = left_or (ino == due) _ (eq-eqb ino due same)
 
 -- the root's test at an accepted superblock
-root_holds : (base : List ℕ) → IsAccepted base → has_root (stated base) ≡ true
-unfolding place_fault
+root_holds : (base : List ℕ) → IsAcceptedSector base → has_root (stated base) ≡ true
+unfolding first_place_fault
 root_holds base accepted =
     let passed = has_passed base accepted.place accepted.blocks accepted.none in
-    each_holds (place_tests (stated base) accepted.place accepted.blocks) passed.standing 2 (0, true) (omega arith)
+    each_holds (shape_tests (stated base) accepted.place accepted.blocks) passed.standing 2 (0, true) (omega arith)
 
 -- the root inode and the two after it lie in one cluster
-pub low_root : (base : List ℕ) → IsAccepted base → (stated base).rootino % 32 ≤ 29
+pub low_root : (base : List ℕ) → IsAcceptedSector base → (stated base).rootino % 32 ≤ 29
 low_root base accepted =
     leb-true ((stated base).rootino % 32) 29 (left _ _ (left _ _ (left _ _ (left _ _ (root_holds base accepted)))))
 
 -- the volume has a block
-pub some_blocks : (base : List ℕ) → IsAccepted base → 0 < (stated base).dblocks
-unfolding place_fault
+pub some_blocks : (base : List ℕ) → IsAcceptedSector base → 0 < (stated base).dblocks
+unfolding first_place_fault
 some_blocks base accepted =
     let passed = has_passed base accepted.place accepted.blocks accepted.none in
-    let place = each_holds (place_tests (stated base) accepted.place accepted.blocks) passed.standing 0 (0, true) (omega arith) in
+    let place = each_holds (shape_tests (stated base) accepted.place accepted.blocks) passed.standing 0 (0, true) (omega arith) in
     let inside : accepted.place < (stated base).dblocks = ltb-true _ _ (right _ _ place) in
     omega arith
 
-stands : (base : List ℕ) (counts : Counts) (new : List ℕ) (place blocks : ℕ) → IsAccepted base → IsSuperOf base counts new
+stands : (base : List ℕ) (counts : Counts) (new : List ℕ) (place blocks : ℕ) → IsAcceptedSector base → IsSuperOf base counts new
     → place % (stated base).agblocks ≡ 0 → place < (stated base).dblocks → (stated base).dblocks ≤ blocks
-    → place_fault (stated new) place blocks ≡ None
-unfolding place_fault
+    → first_place_fault (stated new) place blocks ≡ None
+unfolding first_place_fault
 stands base counts new place blocks accepted w first inside enough =
     let rootino = w.numbers 56 8 refl in
     none_fails _ _ _ _ _
@@ -170,14 +170,14 @@ all_pass : (s : Bool) (p f x y z : Option SuperFault) → s ≡ true → p ≡ N
     → cond s (or_else p (or_else f (or_else x (or_else y z)))) (Some NotSealed) ≡ None
 all_pass s p f x y z hs hp hf hx hy hz = rw (hs, hp, hf, hx, hy, hz) refl
 
-pub accepted_anew : (base : List ℕ) (counts : Counts) (new : List ℕ) (place blocks : ℕ) → IsAccepted base → IsSuperOf base counts new
+pub accepted_anew : (base : List ℕ) (counts : Counts) (new : List ℕ) (place blocks : ℕ) → IsAcceptedSector base → IsSuperOf base counts new
     → place % (stated base).agblocks ≡ 0 → place < (stated base).dblocks → (stated base).dblocks ≤ blocks
     → super_fault new place blocks ≡ None
 unfolding super_fault
 accepted_anew base counts new place blocks accepted w first inside enough =
     let passed = has_passed base accepted.place accepted.blocks accepted.none in
     all_pass (is_sealed super_seal new) (progress_fault place new) (feature_fault (refused_feature new)) (shape_fault (fixed_fault new))
-    (shape_fault (parts_fault (stated new))) (shape_fault (place_fault (stated new) place blocks))
+    (shape_fault (parts_fault (stated new))) (shape_fault (first_place_fault (stated new) place blocks))
     w.sealed
     (progress place new w.inprogress)
     (ap feature_fault (same_features new base w.numbers ∙ passed.features))

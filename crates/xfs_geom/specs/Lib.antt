@@ -1,6 +1,5 @@
 pub mod First
 pub mod Features
-pub mod Words
 pub mod Groups
 pub mod Shape
 pub mod Stated
@@ -13,3 +12,6 @@ pub mod Writing
 pub mod Election
 pub mod Electing
 pub mod Polls
+pub mod Runs
+pub mod Sums
+pub mod Private

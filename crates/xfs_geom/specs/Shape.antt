@@ -30,8 +30,8 @@ abbrev pub chunk_of : ℕ → ℕ
 chunk_of block = block / 8 * 8
 
 -- four blocks lie before the log or behind it
-abbrev pub is_apart : ℕ → ℕ → ℕ → Bool
-is_apart cluster log logblocks = nat_le (cluster + 4) log || nat_le (log + logblocks) cluster
+abbrev pub is_off_log : ℕ → ℕ → ℕ → Bool
+is_off_log cluster log logblocks = nat_le (cluster + 4) log || nat_le (log + logblocks) cluster
 
 -- The root inode and the two after it lie in one cluster, inside a chunk of the volume that does not
 -- begin at AG block 0; the cluster is clear of the log.
@@ -41,7 +41,7 @@ pub record HasRoot (dblocks agblocks agcount agblklog log logblocks rootino : �
   pub behind : 8 ≤ ag_block_of_address agblklog (address_of_inode rootino)
   pub inside : chunk_of (ag_block_of_address agblklog (address_of_inode rootino)) + 8
       ≤ blocks_of_group dblocks agblocks agcount (group_of_address agblklog (address_of_inode rootino))
-  pub apart : IsTrue (is_apart (block_of_address agblocks agblklog (rootino / 32 * 4)) log logblocks)
+  pub apart : IsTrue (is_off_log (block_of_address agblocks agblklog (rootino / 32 * 4)) log logblocks)
 
 -- what the numbers of an accepted geometry keep
 pub record IsShaped (dblocks agblocks agcount agblklog log logblocks rootino logsectlog : ℕ) : Type 0 where

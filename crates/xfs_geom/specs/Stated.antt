@@ -3,7 +3,7 @@ use Rattle.std.specs.Prelude.{ℕ, Bool, ◌+◌, ◌-◌, ◌*◌, ◌/◌, ◌
 use Rattle.xfs_word.specs.Field.{field_of}
 use Rattle.xfs_geom.specs.First.{first_false}
 use Rattle.xfs_geom.specs.Groups.{blocks_of_group, group_of_address, ag_block_of_address, block_of_address, address_of_inode}
-use Rattle.xfs_geom.specs.Shape.{chunk_of, is_apart}
+use Rattle.xfs_geom.specs.Shape.{chunk_of, is_off_log}
 use Rattle.xfs_geom.specs.declared.stated.Stated.{Stated}
 
 -- the numbers that a superblock states
@@ -24,8 +24,8 @@ stated sector = record {
 }
 
 -- the number of the log's first block
-abbrev pub log_of : Stated → ℕ
-log_of v = block_of_address v.agblocks v.agblklog v.logstart
+abbrev pub stated_log : Stated → ℕ
+stated_log v = block_of_address v.agblocks v.agblklog v.logstart
 
 -- dblocks is within its bounds and those of the groups
 abbrev pub is_filled : Stated → Bool
@@ -55,7 +55,7 @@ has_root v =
     && nat_lt (group_of_address v.agblklog (address_of_inode v.rootino)) v.agcount
     && nat_le 8 (ag_block_of_address v.agblklog (address_of_inode v.rootino))
     && nat_le (chunk_of (ag_block_of_address v.agblklog (address_of_inode v.rootino)) + 8) (blocks_of_group v.dblocks v.agblocks v.agcount (group_of_address v.agblklog (address_of_inode v.rootino)))
-    && is_apart (block_of_address v.agblocks v.agblklog (v.rootino / 32 * 4)) (log_of v) v.logblocks
+    && is_off_log (block_of_address v.agblocks v.agblklog (v.rootino / 32 * 4)) (stated_log v) v.logblocks
 
 -- a system inode stands behind the root, or in a backup may be left out as all ones
 abbrev pub is_system_inode : ℕ → ℕ → ℕ → Bool
@@ -72,11 +72,11 @@ unfoldable pub parts_fault : Stated → Option ℕ
 parts_fault v = first_false (parts_tests v)
 
 -- shape words 14 to 18, with whether they hold: those of the superblock's place, the image's blocks and the first inodes
-abbrev pub place_tests : Stated → ℕ → ℕ → List (ℕ × Bool)
-place_tests v place blocks =
+abbrev pub shape_tests : Stated → ℕ → ℕ → List (ℕ × Bool)
+shape_tests v place blocks =
     (14, place % v.agblocks == 0 && nat_lt place v.dblocks) ∷ (15, nat_le v.dblocks blocks) ∷ (16, has_root v)
     ∷ (17, is_system_inode place (v.rootino + 1) v.rbmino) ∷ (18, is_system_inode place (v.rootino + 2) v.rsumino) ∷ []
 
 -- the first of shape words 14 to 18 that fails
-unfoldable pub place_fault : Stated → ℕ → ℕ → Option ℕ
-place_fault v place blocks = first_false (place_tests v place blocks)
+unfoldable pub first_place_fault : Stated → ℕ → ℕ → Option ℕ
+first_place_fault v place blocks = first_false (shape_tests v place blocks)

@@ -5,7 +5,7 @@ use Rattle.xfs_word.specs.declared.kinds.Seal.{Seal}
 use Rattle.xfs_word.specs.declared.kinds.SealKind.TheVariants.{Super}
 use Rattle.xfs_geom.specs.Features.{or_else, refused_feature}
 use Rattle.xfs_geom.specs.Fixed.{fixed_fault}
-use Rattle.xfs_geom.specs.Stated.{stated, parts_fault, place_fault}
+use Rattle.xfs_geom.specs.Stated.{stated, parts_fault, first_place_fault}
 use Rattle.xfs_geom.specs.Volumes.{Volume, stated_volume}
 use Rattle.xfs_geom.specs.declared.features.Departure.{Departure}
 use Rattle.xfs_geom.specs.declared.reading.SuperFault.{SuperFault}
@@ -38,7 +38,7 @@ super_fault sector place blocks =
     (or_else (feature_fault (refused_feature sector))
     (or_else (shape_fault (fixed_fault sector))
     (or_else (shape_fault (parts_fault (stated sector)))
-    (shape_fault (place_fault (stated sector) place blocks)))))
+    (shape_fault (first_place_fault (stated sector) place blocks)))))
     else Some NotSealed
 
 -- an inode number of a backup is the primary's, or all ones

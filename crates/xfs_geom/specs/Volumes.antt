@@ -1,7 +1,7 @@
 -- A volume by the numbers of its geometry.
 use Rattle.std.specs.Prelude.{ℕ, List}
 use Rattle.xfs_word.specs.Field.{part_of}
-use Rattle.xfs_geom.specs.Stated.{stated, log_of}
+use Rattle.xfs_geom.specs.Stated.{stated, stated_log}
 use Rattle.xfs_geom.specs.declared.geometry.Geometry.{Geometry}
 
 -- the numbers of a geometry; log is a block number
@@ -37,7 +37,7 @@ stated_volume sector = record {
   agblocks = (stated sector).agblocks;
   agcount = (stated sector).agcount;
   agblklog = (stated sector).agblklog;
-  log = log_of (stated sector);
+  log = stated_log (stated sector);
   logblocks = (stated sector).logblocks;
   rootino = (stated sector).rootino;
   logsectlog = (stated sector).logsectlog;

@@ -7,7 +7,7 @@ ghost use Rattle.xfs_geom.specs.Superblocks.{super_fault};
 ghost use Rattle.xfs_geom.specs.Volumes.{volume_of, stated_volume};
 ghost use Rattle.xfs_geom.specs.Election.{super_of, elected, winner, votes_below};
 ghost use Rattle.xfs_geom.specs.Electing.{IsElection, HasElectCause};
-ghost use Rattle.xfs_geom.specs.Writing.{IsAccepted};
+ghost use Rattle.xfs_geom.specs.Writing.{IsAcceptedSector};
 ghost use Rattle.xfs_geom.specs.Polls.{HasPolled};
 
 use crate::geometry::Geometry;
@@ -48,7 +48,7 @@ pub enum ElectFault {
 pub fn elect<D: Disk>(alloc: Global, disk: &mut D) -> Result<Elected, ElectFault>
     ensures due { ForSome (D.holds disk.old) (λ image. IsElection (elected image) result) }
     ensures accepted { IfOk result (λ e. super_fault e.sector e.from (D.size disk.old) ≡ None) }
-    ensures base { IfOk result (λ e. IsAccepted e.sector) }
+    ensures base { IfOk result (λ e. IsAcceptedSector e.sector) }
     ensures states { IfOk result (λ e. volume_of e.geometry ≡ stated_volume e.sector) }
     ensures inside { IfOk result (λ e. e.geometry.dblocks ≤ D.size disk.old) }
     ensures cause { HasElectCause (D.faults disk.old) (D.faults disk.new) result }

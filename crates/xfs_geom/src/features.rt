@@ -3,7 +3,7 @@
 ghost use Rattle.std.specs.Prelude.{◌≡◌, ℕ, ◌+◌, ◌<◌, ◌≤◌, ◌^◌, length, map, All, Option, Some, None, IsTrue};
 ghost use Rattle.xfs_word.specs.Field.{field_of, is_width};
 ghost use Rattle.xfs_geom.specs.Features.{departing_bits, departure_by, first_departure, is_readable, refused_feature};
-ghost use Rattle.xfs_geom.specs.Words.{word_of};
+ghost use Rattle.xfs_geom.specs.Private.Words.{word_of};
 
 use crate::superblock::{
     BLOCKSIZE, DIRBLKLOG, FEATURES_COMPAT, FEATURES_INCOMPAT, FEATURES_LOG_INCOMPAT,

@@ -2,7 +2,7 @@
 
 ghost use Rattle.std.specs.Prelude.{◌≡◌, ℕ, ◌+◌, ◌*◌, ◌/◌, ◌%◌, ◌^◌, ◌<◌, ◌≤◌, ◌==◌, ◌||◌, length, Option, IfNone, IsTrue};
 ghost use Rattle.xfs_geom.specs.Groups.{blocks_of_group, group_of_address, ag_block_of_address, block_of_address};
-ghost use Rattle.xfs_geom.specs.Shape.{HasGroups, HasAddresses, HasRoot, is_apart};
+ghost use Rattle.xfs_geom.specs.Shape.{HasGroups, HasAddresses, HasRoot, is_off_log};
 ghost use Rattle.xfs_geom.specs.Stated.{is_system_inode};
 
 use crate::geometry::Geometry;
@@ -39,7 +39,7 @@ pub struct Stated {
 }
 
 impl Stated {
-    ghost use Rattle.xfs_geom.specs.Stated.{stated, log_of, is_filled, has_addresses, has_log_sectors, has_log, has_root, parts_fault, place_fault};
+    ghost use Rattle.xfs_geom.specs.Stated.{stated, stated_log, is_filled, has_addresses, has_log_sectors, has_log, has_root, parts_fault, first_place_fault};
     ghost use Rattle.xfs_geom.specs.Parts.{HasLogAt, HasParts};
     ghost use Rattle.xfs_geom.specs.Volumes.{volume_of};
 
@@ -93,12 +93,12 @@ impl Stated {
 
     /// The first of shape words 14 to 18 that fails, in a superblock that stands at the block `place`
     /// of an image of so many blocks.
-    #[tactic(auto, unfolding(crate::specs::Stated::place_fault))]
+    #[tactic(auto, unfolding(crate::specs::Stated::first_place_fault))]
     pub fn place_fault(&self, place: u64, blocks: u64) -> Option<u8>
         requires { HasParts self.now }
-        ensures first { result ≡ place_fault self.now place blocks }
+        ensures first { result ≡ first_place_fault self.now place blocks }
         ensures inside { IfNone result (self.now.dblocks ≤ blocks) }
-        ensures kept { IfNone result (HasRoot self.now.dblocks self.now.agblocks self.now.agcount self.now.agblklog (log_of self.now) self.now.logblocks self.now.rootino) }
+        ensures kept { IfNone result (HasRoot self.now.dblocks self.now.agblocks self.now.agcount self.now.agblklog (stated_log self.now) self.now.logblocks self.now.rootino) }
     {
         if place % self.agblocks as u64 != 0 || place >= self.dblocks {
             return Some(14);
@@ -121,13 +121,13 @@ impl Stated {
     /// The geometry of these numbers.
     pub fn geometry(&self, uuid: [u8; 16]) -> Geometry
         requires parts { HasParts self.now }
-        requires root { HasRoot self.now.dblocks self.now.agblocks self.now.agcount self.now.agblklog (log_of self.now) self.now.logblocks self.now.rootino }
+        requires root { HasRoot self.now.dblocks self.now.agblocks self.now.agcount self.now.agblklog (stated_log self.now) self.now.logblocks self.now.rootino }
         ensures { volume_of result ≡ record {
           dblocks = self.now.dblocks;
           agblocks = self.now.agblocks;
           agcount = self.now.agcount;
           agblklog = self.now.agblklog;
-          log = log_of self.now;
+          log = stated_log self.now;
           logblocks = self.now.logblocks;
           rootino = self.now.rootino;
           logsectlog = self.now.logsectlog;
@@ -150,7 +150,7 @@ impl Stated {
     /// The number of the log's first block.
     pub fn log(&self) -> u64
         requires { HasParts self.now }
-        ensures value { result ≡ log_of self.now }
+        ensures value { result ≡ stated_log self.now }
         ensures low { result < 2 ^ 63 }
     {
         self.block_of_address(self.logstart)
@@ -216,7 +216,7 @@ impl Stated {
         requires { HasParts self.now }
         ensures value { result ≡ has_root self.now }
         ensures low { IsTrue result → self.now.rootino < 2 ^ 38 }
-        ensures kept { IsTrue result → HasRoot self.now.dblocks self.now.agblocks self.now.agcount self.now.agblklog (log_of self.now) self.now.logblocks self.now.rootino }
+        ensures kept { IsTrue result → HasRoot self.now.dblocks self.now.agblocks self.now.agcount self.now.agblklog (stated_log self.now) self.now.logblocks self.now.rootino }
     {
         if self.rootino % 32 > 29 {
             return false;
@@ -236,7 +236,7 @@ impl Stated {
     fn is_clear_of_log(&self, cluster: u64) -> bool
         requires parts { HasParts self.now }
         requires low { cluster < 2 ^ 63 }
-        ensures { result ≡ is_apart cluster (log_of self.now) self.now.logblocks }
+        ensures { result ≡ is_off_log cluster (stated_log self.now) self.now.logblocks }
     {
         let log = self.log();
         cluster + 4 <= log || log + self.logblocks as u64 <= cluster

@@ -1,12 +1,12 @@
 //! Superblocks that are written anew from an accepted one.
 
 ghost use Rattle.std.specs.Prelude.{◌≡◌, ℕ, ◌+◌, ◌%◌, ◌^◌, ◌<◌, ◌≤◌, length, None, IsTrue};
-ghost use Rattle.xfs_word.specs.Field.{field_of, Keeps, KeepsParts};
+ghost use Rattle.xfs_word.specs.Field.{field_of, KeepsBeside, KeepsParts};
 ghost use Rattle.xfs_word.specs.Seal.{is_ready, is_sealed};
 ghost use Rattle.xfs_geom.specs.Stated.{stated};
 ghost use Rattle.xfs_geom.specs.Superblocks.{super_fault, super_seal};
 ghost use Rattle.xfs_geom.specs.Volumes.{stated_volume};
-ghost use Rattle.xfs_geom.specs.Writing.{IsAccepted, IsSuperOf};
+ghost use Rattle.xfs_geom.specs.Writing.{IsAcceptedSector, IsSuperOf};
 
 use crate::reading::super_seal;
 use crate::records::Counts;
@@ -19,7 +19,7 @@ use xfs_word::seal;
 /// states its system inodes, no log sequence number, and that it is complete.
 pub fn write_super(base: &[u8], counts: &Counts, sector: &mut [u8])
     requires base { length base.now ≡ 512 }
-    requires accepted { IsAccepted base.now }
+    requires accepted { IsAcceptedSector base.now }
     requires sector { length sector.old ≡ 512 }
     ensures written { IsSuperOf base.now counts.now sector.new }
     ensures accepted { (place blocks : ℕ) → place % (stated base.now).agblocks ≡ 0 → place < (stated base.now).dblocks → (stated base.now).dblocks ≤ blocks
@@ -41,7 +41,7 @@ fn seal_super(sector: &mut [u8])
     requires sector { length sector.old ≡ 512 }
     requires ready { IsTrue (is_ready super_seal sector.old) }
     ensures sealed { IsTrue (is_sealed super_seal sector.new) }
-    ensures keeps { Keeps sector.old sector.new 224 4 }
+    ensures keeps { KeepsBeside sector.old sector.new 224 4 }
     ensures keeps_parts { KeepsParts sector.old sector.new 224 4 }
 {
     seal(&super_seal(), sector);
@@ -53,7 +53,7 @@ fn put_system_inodes(sector: &mut [u8], rootino: u64)
     requires low { rootino + 2 < 2 ^ 64 }
     ensures rbmino { field_of sector.new 64 8 ≡ rootino + 1 }
     ensures rsumino { field_of sector.new 72 8 ≡ rootino + 2 }
-    ensures keeps { Keeps sector.old sector.new 64 16 }
+    ensures keeps { KeepsBeside sector.old sector.new 64 16 }
     ensures keeps_parts { KeepsParts sector.old sector.new 64 16 }
 {
     RBMINO.write(sector, rootino + 1);
@@ -67,7 +67,7 @@ fn put_counters(sector: &mut [u8], counts: &Counts)
     ensures ifree { field_of sector.new 136 8 ≡ counts.now.ifree }
     ensures fdblocks { field_of sector.new 144 8 ≡ counts.now.fdblocks }
     ensures frextents { field_of sector.new 152 8 ≡ 0 }
-    ensures keeps { Keeps sector.old sector.new 128 32 }
+    ensures keeps { KeepsBeside sector.old sector.new 128 32 }
     ensures keeps_parts { KeepsParts sector.old sector.new 128 32 }
 {
     ICOUNT.write(sector, counts.icount);

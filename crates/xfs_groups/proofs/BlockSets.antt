@@ -8,8 +8,8 @@ use Rattle.std.specs.BTreeSet.{insert_key}
 use Rattle.std.proofs.lemmas.Bool.{and_parts, cases_lt, cases_order, eq-eqb, leb-true, ltb-true, ne_eqb}
 use Rattle.std.proofs.lemmas.Bool.Decides.{nat_tests}
 use Rattle.std.proofs.lemmas.Map.Keys.{sorted_head, sorted_tail}
+use Rattle.xfs_disk.specs.Lists.{is_among}
 use Rattle.xfs_image.specs.Claims.{is_of_cluster}
-use Rattle.xfs_groups.specs.Sets.{has}
 
 or_last : (x y z : Bool) → (x || (y || z)) ≡ ((y || z) || x)
 or_last true true z = refl
@@ -33,18 +33,18 @@ or_none true = refl
 or_none false = refl
 
 -- a set has what it had, and the block that is added
-pub inserted : (n : ℕ) (xs : List ℕ) (q : ℕ) → has (insert_key nat_cmp xs n) q ≡ (has xs q || n == q)
+pub inserted : (n : ℕ) (xs : List ℕ) (q : ℕ) → is_among (insert_key nat_cmp xs n) q ≡ (is_among xs q || n == q)
 inserted n [] q = or_none (n == q)
 inserted n (m ∷ rest) q =
     elim (cases_order n m) [
       | inl same ↦ let e : nat_lt n m ≡ false = grind (arith, nat_tests) in
           let f : (n == m) ≡ true = grind (arith, nat_tests) in
-          rw (e, f) (or_same (m == q) (has rest q) ∙ ap (λ (k : ℕ). (m == q || has rest q) || k == q) (sym same))
+          rw (e, f) (or_same (m == q) (is_among rest q) ∙ ap (λ (k : ℕ). (m == q || is_among rest q) || k == q) (sym same))
       | inr other ↦ elim other [
-        | inl lt ↦ let e : nat_lt n m ≡ true = grind (arith, nat_tests) in rw e (or_last (n == q) (m == q) (has rest q))
+        | inl lt ↦ let e : nat_lt n m ≡ true = grind (arith, nat_tests) in rw e (or_last (n == q) (m == q) (is_among rest q))
         | inr gt ↦ let e : nat_lt n m ≡ false = grind (arith, nat_tests) in
             let f : (n == m) ≡ false = grind (arith, nat_tests) in
-            rw (e, f) (ap (λ (t : Bool). m == q || t) (inserted n rest q) ∙ or_moved (m == q) (has rest q) (n == q))
+            rw (e, f) (ap (λ (t : Bool). m == q || t) (inserted n rest q) ∙ or_moved (m == q) (is_among rest q) (n == q))
       ]
     ]
 
@@ -65,7 +65,7 @@ from_lower : (low high : ℕ) (xs : List ℕ) → low ≤ high → Rising high x
 from_lower low high [] le up = tt
 from_lower low high (x ∷ xs) le up = (let first = up.0 in omega (arith, le, first), up.1)
 
-none_below : (q low : ℕ) (xs : List ℕ) → q < low → Rising low xs → has xs q ≡ false
+none_below : (q low : ℕ) (xs : List ℕ) → q < low → Rising low xs → is_among xs q ≡ false
 none_below q low [] lt up = refl
 none_below q low (x ∷ xs) lt up =
     let first : low ≤ x = up.0 in
@@ -74,7 +74,7 @@ none_below q low (x ∷ xs) lt up =
 
 -- numbers in a row that pass a test are those that ascend and pass it
 filter_rising : (p : ℕ → Bool) (n a : ℕ) (xs : List ℕ) → Rising a xs → AllByRecursion (λ x. x < a + n) xs
-    → ((q : ℕ) → a ≤ q → q < a + n → p q ≡ has xs q) → filter p (range_with_len a n) ≡ xs
+    → ((q : ℕ) → a ≤ q → q < a + n → p q ≡ is_among xs q) → filter p (range_with_len a n) ≡ xs
 filter_rising p zero a [] up low is = refl
 filter_rising p zero a (x ∷ xs) up low is = let first = up.0 in let last = low.0 in absurd (omega (arith, first, last))
 filter_rising p (suc n) a [] up low is =
@@ -83,7 +83,7 @@ filter_rising p (suc n) a [] up low is =
 filter_rising p (suc n) a (x ∷ xs) up low is =
     elim (cases_lt a x) [
       | inl lt ↦
-          let none : has (x ∷ xs) a ≡ false = none_below a (a + 1) (x ∷ xs) (omega arith) (omega (arith, lt), up.1) in
+          let none : is_among (x ∷ xs) a ≡ false = none_below a (a + 1) (x ∷ xs) (omega arith) (omega (arith, lt), up.1) in
           let e : p a ≡ false = is a (omega arith) (omega arith) ∙ none in
           rw e (filter_rising p n (a + 1) (x ∷ xs) (omega (arith, lt), up.1) (subst (λ (m : ℕ). AllByRecursion (λ y. y < m) (x ∷ xs)) (omega arith) low)
           (λ q from upto. is q (omega (arith, from)) (omega (arith, upto))))
@@ -91,13 +91,13 @@ filter_rising p (suc n) a (x ∷ xs) up low is =
           let first : a ≤ x = up.0 in
           let same : a ≡ x = omega (arith, ge, first) in
           let here : (x == a) ≡ true = eq-eqb x a (sym same) in
-          let e : p a ≡ true = is a (omega arith) (omega arith) ∙ ap (λ (t : Bool). t || has xs a) here in
+          let e : p a ≡ true = is a (omega arith) (omega arith) ∙ ap (λ (t : Bool). t || is_among xs a) here in
           let rest : filter p (range_with_len (a + 1) n) ≡ xs =
           filter_rising p n (a + 1) xs (from_lower (a + 1) (x + 1) xs (omega (arith, same)) up.1)
           (subst (λ (m : ℕ). AllByRecursion (λ y. y < m) xs) (omega arith) low.1)
           (λ q from upto.
           let other : (x == q) ≡ false = ne_eqb x q (λ is. omega (arith, is, same, from)) in
-          is q (omega (arith, from)) (omega (arith, upto)) ∙ ap (λ (t : Bool). t || has xs q) other) in
+          is q (omega (arith, from)) (omega (arith, upto)) ∙ ap (λ (t : Bool). t || is_among xs q) other) in
           rw e (ap₂ (λ (y : ℕ) (ys : List ℕ). y ∷ ys) same rest)
     ]
 
@@ -135,12 +135,12 @@ end_in first count (x ∷ xs) = by_case (lies first count x) refl (end_in first 
     by_case true e rest = (ltb-true x (first + count) (and_parts (nat_le first x) (nat_lt x (first + count)) e).1, rest)
     by_case false e rest = rest
 
-has_lying : (first count q : ℕ) (xs : List ℕ) → first ≤ q → q < first + count → has xs q ≡ has (filter (lies first count) xs) q
+has_lying : (first count q : ℕ) (xs : List ℕ) → first ≤ q → q < first + count → is_among xs q ≡ is_among (filter (lies first count) xs) q
 has_lying first count q [] from upto = refl
 has_lying first count q (x ∷ xs) from upto = by_case (lies first count x) refl (has_lying first count q xs from upto)
   where
-    by_case : (b : Bool) → lies first count x ≡ b → has xs q ≡ has (filter (lies first count) xs) q
-        → (x == q || has xs q) ≡ has (cond b (x ∷ filter (lies first count) xs) (filter (lies first count) xs)) q
+    by_case : (b : Bool) → lies first count x ≡ b → is_among xs q ≡ is_among (filter (lies first count) xs) q
+        → (x == q || is_among xs q) ≡ is_among (cond b (x ∷ filter (lies first count) xs) (filter (lies first count) xs)) q
     by_case true e rest = ap (λ (t : Bool). x == q || t) rest
     by_case false e rest =
         let other : (x == q) ≡ false = grind (arith, nat_tests) in
@@ -160,8 +160,8 @@ any_from_zero (x ∷ xs) = (omega arith, any_from_zero xs)
 
 -- of a set, those in a range are the numbers of the range that it has
 pub lying : (first count : ℕ) (xs : List ℕ) → IsStrictlySortedBy nat_cmp xs
-    → filter (λ q. nat_le first q && nat_lt q (first + count)) xs ≡ filter (has xs) (range_with_len first count)
+    → filter (λ q. nat_le first q && nat_lt q (first + count)) xs ≡ filter (is_among xs) (range_with_len first count)
 lying first count xs up =
     let rising : Rising 0 xs = sorted_rises 0 xs (any_from_zero xs) up in
-    sym (filter_rising (has xs) count first (filter (lies first count) xs) (starts_in first count xs rising) (end_in first count xs)
+    sym (filter_rising (is_among xs) count first (filter (lies first count) xs) (starts_in first count xs rising) (end_in first count xs)
     (λ q from upto. has_lying first count q xs from upto))

@@ -1,6 +1,6 @@
 -- The causes of what is answered after several readings.
 use Rattle.std.proofs.Common.{ℕ, ◌≤◌, arith}
-use Rattle.xfs_groups.specs.Answers.{IsCaused}
+use Rattle.xfs_groups.specs.Answers.{IsGroupsCause}
 use Rattle.xfs_groups.specs.declared.faults.GroupsFault.{GroupsFault}
 use Rattle.xfs_groups.specs.declared.faults.GroupsFault.TheVariants as faults
 
@@ -9,6 +9,6 @@ pub later : (a b c : ℕ) → a ≤ b → b ≤ c → a ≤ c
 later a b c first then = omega arith
 
 -- a cause that is seen from an earlier count on
-pub caused_on : (a b c : ℕ) (fault : GroupsFault) → a ≤ b → IsCaused b c fault → IsCaused a c fault
+pub caused_on : (a b c : ℕ) (fault : GroupsFault) → a ≤ b → IsGroupsCause b c fault → IsGroupsCause a c fault
 caused_on a b c faults.ReadFault up (le, rose) = (omega (arith, up, le), omega (arith, up, le, rose))
 caused_on a b c faults.NoMemory up le = omega (arith, up, le)

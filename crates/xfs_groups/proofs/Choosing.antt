@@ -2,12 +2,12 @@
 use Rattle.std.proofs.Common.{◌≡◌, ℕ, zero, suc, Bool, true, false, ◌+◌, ◌||◌, if◌then◌else◌, List, [], ◌∷◌, ◌++◌, append_assoc, refl, sym, ap, ap₂, ◌∙◌, subst, arith}
 use Rattle.std.specs.List.{filter, range_with_len}
 use Rattle.std.proofs.lemmas.List.Elements.{filter-append, filter_agree}
+use Rattle.xfs_disk.specs.Lists.{is_among}
 use Rattle.xfs_disk.specs.Blocks.{Image}
 use Rattle.xfs_geom.specs.Volumes.{Volume}
 use Rattle.xfs_volume.specs.declared.clusters.ClusterRec.{ClusterRec}
 use Rattle.xfs_image.specs.Clusters.{root_cluster}
-use Rattle.xfs_groups.specs.Chosen.{ArePlaced, chosen, chosen_rec, is_chosen, is_withheld, place_at, withheld}
-use Rattle.xfs_groups.specs.Sets.{has}
+use Rattle.xfs_groups.specs.Private.Chosen.{ClustersPlaced, chosen, chosen_rec, is_chosen, is_withheld, cluster_place, withheld}
 use Rattle.xfs_groups.proofs.Placed.{placed_more}
 use Rattle.xfs_groups.proofs.Rows.{filter_more, kept_more}
 
@@ -16,22 +16,22 @@ unfolding chosen
 none_chosen v image trusted named ag = refl
 
 pub chosen_more : (v : Volume) (image : Image) (trusted : Bool) (named : List ℕ) (ag n cluster : ℕ) (b : Bool) (cs new : List ClusterRec)
-    → cluster ≡ place_at v ag n → b ≡ is_chosen v image trusted named cluster → cs ≡ chosen v image trusted named ag n
+    → cluster ≡ cluster_place v ag n → b ≡ is_chosen v image trusted named cluster → cs ≡ chosen v image trusted named ag n
     → new ≡ cs ++ (if b then (chosen_rec v named cluster ∷ []) else []) → new ≡ chosen v image trusted named ag (n + 1)
 unfolding chosen
 chosen_more v image trusted named ag n cluster b cs new at is held more =
     more
     ∙ (ap (λ (c : ℕ). cs ++ (if b then (chosen_rec v named c ∷ []) else [])) at
-    ∙ (ap (λ (xs : List ClusterRec). xs ++ (if b then (chosen_rec v named (place_at v ag n) ∷ []) else [])) held
-    ∙ kept_more (chosen_rec v named) (is_chosen v image trusted named) (place_at v ag) n b (is ∙ ap (is_chosen v image trusted named) at)))
+    ∙ (ap (λ (xs : List ClusterRec). xs ++ (if b then (chosen_rec v named (cluster_place v ag n) ∷ []) else [])) held
+    ∙ kept_more (chosen_rec v named) (is_chosen v image trusted named) (cluster_place v ag) n b (is ∙ ap (is_chosen v image trusted named) at)))
 
 pub placed_step : (v : Volume) (ag n cluster : ℕ) (named : List ℕ) (b : Bool) (cs new : List ClusterRec)
-    → cluster ≡ place_at v ag n → ArePlaced v ag n cs → (cluster ≡ root_cluster v → b ≡ true)
-    → new ≡ cs ++ (if b then (chosen_rec v named cluster ∷ []) else []) → ArePlaced v ag (n + 1) new
+    → cluster ≡ cluster_place v ag n → ClustersPlaced v ag n cs → (cluster ≡ root_cluster v → b ≡ true)
+    → new ≡ cs ++ (if b then (chosen_rec v named cluster ∷ []) else []) → ClustersPlaced v ag (n + 1) new
 placed_step v ag n cluster named b cs new at placed is more =
-    let same : new ≡ cs ++ (if b then (chosen_rec v named (place_at v ag n) ∷ []) else []) =
+    let same : new ≡ cs ++ (if b then (chosen_rec v named (cluster_place v ag n) ∷ []) else []) =
     more ∙ ap (λ (c : ℕ). cs ++ (if b then (chosen_rec v named c ∷ []) else [])) at in
-    subst (ArePlaced v ag (n + 1)) (sym same) (placed_more v ag n named cs b placed (λ root. is (at ∙ root)))
+    subst (ClustersPlaced v ag (n + 1)) (sym same) (placed_more v ag n named cs b placed (λ root. is (at ∙ root)))
 
 pub none_withheld : (v : Volume) (image : Image) (trusted : Bool) (held : List ℕ) (first : ℕ) → withheld v image trusted held first 0 ≡ []
 unfolding withheld
@@ -73,8 +73,8 @@ or_nothing false = refl
 
 -- bytes withhold nothing in a group that is trusted
 pub held_withheld : (v : Volume) (image : Image) (trusted : Bool) (held : List ℕ) (first count : ℕ) → trusted ≡ true
-    → filter (has held) (range_with_len first count) ≡ withheld v image trusted held first count
+    → filter (is_among held) (range_with_len first count) ≡ withheld v image trusted held first count
 unfolding withheld
 held_withheld v image trusted held first count is =
-    filter_agree (has held) (is_withheld v image true held) (λ b. or_nothing (has held b)) (range_with_len first count)
+    filter_agree (is_among held) (is_withheld v image true held) (λ b. or_nothing (is_among held b)) (range_with_len first count)
     ∙ ap (λ (t : Bool). filter (is_withheld v image t held) (range_with_len first count)) (sym is)

@@ -11,13 +11,13 @@ use Rattle.xfs_geom.specs.Volumes.{Volume, volume_of}
 use Rattle.xfs_geom.specs.declared.geometry.Geometry.{Geometry}
 use Rattle.xfs_volume.specs.declared.clusters.ClusterRec.{ClusterRec}
 use Rattle.xfs_volume.specs.declared.groups.GroupRec.{GroupRec}
-use Rattle.xfs_image.specs.Candidates.{Ascend, candidates, cluster_rec, is_candidate}
+use Rattle.xfs_image.specs.Candidates.{ClustersAscend, candidates, cluster_rec, is_candidate}
 use Rattle.xfs_image.specs.Clusters.{places_in}
 use Rattle.xfs_image.specs.Groups.{group_read, groups_from, head_block, read_then}
 use Rattle.xfs_image.specs.declared.findings.Finding.{Finding}
-use Rattle.xfs_groups.specs.Answers.{EndBelow, has_root}
-use Rattle.xfs_groups.specs.Chosen.{ArePlaced, candidates_in, place_at}
-use Rattle.xfs_groups.specs.Parts.{then_read}
+use Rattle.xfs_groups.specs.Answers.{EndBelow, has_root_cluster}
+use Rattle.xfs_groups.specs.Private.Chosen.{ClustersPlaced, candidates_in, cluster_place}
+use Rattle.xfs_groups.specs.Private.Parts.{then_read}
 use Rattle.xfs_groups.proofs.Lengths.{root_place, short, within}
 use Rattle.xfs_groups.proofs.Placed.{ascend_then, root_comes, root_stays}
 use Rattle.xfs_groups.proofs.Rows.{range_more}
@@ -77,10 +77,10 @@ all_candidates v image n cs last is =
 
 -- the clusters of the first groups: they ascend, each lies in the volume, and that of the root is among them where its group is
 pub record GroupsPlaced (g : Geometry) (n : ℕ) (clusters : List ClusterRec) : Type 0 where
-  pub ascend : Ascend 0 clusters
+  pub ascend : ClustersAscend 0 clusters
   pub low : EndBelow (n * g.agblocks) clusters
   pub inside : EndBelow g.dblocks clusters
-  pub root : (root_place g).group < n → IsTrue (has_root (volume_of g) clusters)
+  pub root : (root_place g).group < n → IsTrue (has_root_cluster (volume_of g) clusters)
 
 pub none_placed : (g : Geometry) → GroupsPlaced g 0 []
 none_placed g = record {
@@ -94,27 +94,27 @@ end_later : (low high : ℕ) (cs : List ClusterRec) → low ≤ high → EndBelo
 end_later low high cs le end = λ k d inside. let here = end k d inside in omega (arith, le, here)
 
 pub placed_on : (g : Geometry) (n : ℕ) (cs ys : List ClusterRec) → n < g.agcount → GroupsPlaced g n cs
-    → ArePlaced (volume_of g) n (group_length (volume_of g) n / 4) ys → GroupsPlaced g (n + 1) (cs ++ ys)
+    → ClustersPlaced (volume_of g) n (group_length (volume_of g) n / 4) ys → GroupsPlaced g (n + 1) (cs ++ ys)
 placed_on g n cs ys there first after =
     let v = volume_of g in
     let start = n * g.agblocks in
     let next : (n + 1) * g.agblocks ≡ start + g.agblocks = grind arith in
     let small : group_length v n ≤ g.agblocks = short g n there in
     let end : start + group_length v n ≤ g.dblocks = within g n there in
-    let last : place_at v n (group_length v n / 4) ≤ start + group_length v n = omega arith in
+    let last : cluster_place v n (group_length v n / 4) ≤ start + group_length v n = omega arith in
     record {
       ascend = ascend_then 0 start cs ys (omega arith) first.ascend first.low after.ascend;
       low = All-append (λ (c : ClusterRec). c.block + 4 ≤ (n + 1) * g.agblocks) cs ys
           (end_later start ((n + 1) * g.agblocks) cs (omega (arith, next)) first.low)
-          (end_later (place_at v n (group_length v n / 4)) ((n + 1) * g.agblocks) ys (omega (arith, next, small, last)) after.low);
+          (end_later (cluster_place v n (group_length v n / 4)) ((n + 1) * g.agblocks) ys (omega (arith, next, small, last)) after.low);
       inside = All-append (λ (c : ClusterRec). c.block + 4 ≤ g.dblocks) cs ys first.inside
-          (end_later (place_at v n (group_length v n / 4)) g.dblocks ys (omega (arith, end, last)) after.low);
+          (end_later (cluster_place v n (group_length v n / 4)) g.dblocks ys (omega (arith, end, last)) after.low);
       root = λ before.
           elim (cases_lt (root_place g).group n) [
             | inl lt ↦ root_stays v cs ys (first.root lt)
             | inr ge ↦ let same : (root_place g).group ≡ n = omega (arith, before, ge) in
                 root_comes v cs ys (after.root (root_place g).place
                 (subst (λ (m : ℕ). (root_place g).place < group_length v m / 4) same (root_place g).inside)
-                (ap (λ (m : ℕ). place_at v m (root_place g).place) (sym same) ∙ (root_place g).at))
+                (ap (λ (m : ℕ). cluster_place v m (root_place g).place) (sym same) ∙ (root_place g).at))
           ];
     }

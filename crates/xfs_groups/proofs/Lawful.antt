@@ -3,6 +3,7 @@ use Rattle.std.proofs.Common.{◌≡◌, ℕ, suc, ◌+◌, ◌-◌, ◌&&◌, �
 use Rattle.std.specs.List.{flat_map}
 use Rattle.std.specs.Option.{option_and_then}
 use Rattle.std.proofs.lemmas.Bool.{and_from, and_parts, leb-true}
+use Rattle.xfs_geom.specs.Features.{or_else}
 use Rattle.xfs_word.specs.Seal.{is_sealed}
 use Rattle.xfs_disk.specs.Blocks.{Image}
 use Rattle.xfs_geom.specs.First.{first_false}
@@ -14,18 +15,18 @@ use Rattle.xfs_kinds.specs.OwnerTrees.{follows_end, is_owned_run, rmap_shape}
 use Rattle.xfs_tree.specs.declared.seats.Seat.{Seat}
 use Rattle.xfs_tree.specs.declared.unread.Unread.{Unread}
 use Rattle.xfs_tree.specs.Blocks.{capacity, count_of, left_of, level_of, records_of, right_of}
-use Rattle.xfs_tree.specs.Reading.{Contents, at_block, bytes_at, fault_above, first_of, met_above, next_of, reading, records_under, row_fault, row_of, rule_at, unless}
+use Rattle.xfs_tree.specs.Reading.{Contents, at_block, bytes_of_block, fault_above, met_above, next_of, reading, records_under, row_fault, level_row, rule_at, unless}
 use Rattle.xfs_tree.specs.Rules.{agrees, are_lawful, block_fault, block_seal, high_of, is_ordered, is_sibling, last_of, least_of, low_of, place_fault}
 use Rattle.xfs_tree.specs.Shape.{Shape}
 use Rattle.xfs_tree.proofs.Depths.{records_from}
 use Rattle.xfs_image.specs.Groups.{contents, rmap_at}
-use Rattle.xfs_groups.specs.Named.{AreApart, AreOwnersApart}
+use Rattle.xfs_groups.specs.Named.{RecordsApart, AreOwnersApart}
 
 no_fault : (block : ℕ) (rule : Option ℕ) (later : Option Unread) → at_block block rule later ≡ None → (rule ≡ None) × (later ≡ None)
 no_fault block None later h = (refl, h)
 no_fault block (Some rule) later h = absurd (cc)
 
-second_none : {A : Type 0} (first later : Option A) → first_of first later ≡ None → later ≡ None
+second_none : {A : Type 0} (first later : Option A) → or_else first later ≡ None → later ≡ None
 second_none None later h = h
 second_none (Some fault) later h = absurd (cc)
 
@@ -68,23 +69,23 @@ module _ {R K : Type 0} (s : Shape R K) (v : Volume) where
     row_lawful met left right before [] h = refl
     row_lawful met left right before (seat ∷ seats) h =
         let parts = no_fault seat.place (rule_at s v image 0 met left (next_of right seats) before seat) _ h in
-        let sound = second_none (place_fault s v met seat.place) (block_fault s v 0 left (next_of right seats) before seat (bytes_at image seat.place)) parts.0 in
-        let here = ordered left (next_of right seats) before seat (bytes_at image seat.place) sound in
-        lawful_then before (records_of s (bytes_at image seat.place)) (flat_map (records_under s v image 0) seats) here
-        (row_lawful (met ++ seat.place ∷ []) (Some seat.place) right (last_of before (records_of s (bytes_at image seat.place))) seats parts.1)
+        let sound = second_none (place_fault s v met seat.place) (block_fault s v 0 left (next_of right seats) before seat (bytes_of_block image seat.place)) parts.0 in
+        let here = ordered left (next_of right seats) before seat (bytes_of_block image seat.place) sound in
+        lawful_then before (records_of s (bytes_of_block image seat.place)) (flat_map (records_under s v image 0) seats) here
+        (row_lawful (met ++ seat.place ∷ []) (Some seat.place) right (last_of before (records_of s (bytes_of_block image seat.place))) seats parts.1)
 
     pub reads_lawful : (tops : List (Seat K)) (height : ℕ) (tree : Contents R) → reading s v image tops height ≡ Ok tree → are_lawful s v None tree.records ≡ true
     unfolding fault_above
     reads_lawful tops height tree reads =
         let parts = held_by (fault_above s v image tops height (height + 1)) _ tree reads in
         let all : fault_above s v image tops height (suc height) ≡ None = ap (fault_above s v image tops height) (sym (add-one height)) ∙ parts.0 in
-        let leaves : row_fault s v image (height - height) (met_above s v image tops height) None None None (row_of s v image tops height) ≡ None =
+        let leaves : row_fault s v image (height - height) (met_above s v image tops height) None None None (level_row s v image tops height) ≡ None =
         second_none (fault_above s v image tops height height) _ all in
         let last : height - height ≡ 0 = omega arith in
-        let row : row_fault s v image 0 (met_above s v image tops height) None None None (row_of s v image tops height) ≡ None =
-        subst (λ (n : ℕ). row_fault s v image n (met_above s v image tops height) None None None (row_of s v image tops height) ≡ None) last leaves in
-        let lawful = row_lawful (met_above s v image tops height) None None None (row_of s v image tops height) row in
-        let under : flat_map (records_under s v image 0) (row_of s v image tops height) ≡ tree.records =
+        let row : row_fault s v image 0 (met_above s v image tops height) None None None (level_row s v image tops height) ≡ None =
+        subst (λ (n : ℕ). row_fault s v image n (met_above s v image tops height) None None None (level_row s v image tops height) ≡ None) last leaves in
+        let lawful = row_lawful (met_above s v image tops height) None None None (level_row s v image tops height) row in
+        let under : flat_map (records_under s v image 0) (level_row s v image tops height) ≡ tree.records =
         records_from s v image 0 height height tops (omega arith) ∙ ap (λ (t : Contents R). t.records) parts.1 in
         subst (λ (rs : List R). are_lawful s v None rs ≡ true) under lawful
 
@@ -93,7 +94,7 @@ abbrev end_of : Option RmapRec → ℕ
 end_of None = 0
 end_of (Some r) = r.start + r.count
 
-lawful_apart : (v : Volume) (ag : ℕ) (before : Option RmapRec) (rs : List RmapRec) → are_lawful (rmap_shape ag) v before rs ≡ true → AreApart (end_of before) rs
+lawful_apart : (v : Volume) (ag : ℕ) (before : Option RmapRec) (rs : List RmapRec) → are_lawful (rmap_shape ag) v before rs ≡ true → RecordsApart (end_of before) rs
 lawful_apart v ag before [] h = tt
 lawful_apart v ag None (r ∷ rs) h =
     (omega arith, lawful_apart v ag (Some r) rs (and_parts ((rmap_shape ag).lawful v None r) (are_lawful (rmap_shape ag) v (Some r) rs) h).1)

@@ -6,7 +6,7 @@ use Rattle.xfs_geom.specs.Conversions.{group_length}
 use Rattle.xfs_geom.specs.Volumes.{volume_of}
 use Rattle.xfs_geom.specs.declared.geometry.Geometry.{Geometry}
 use Rattle.xfs_image.specs.Clusters.{root_cluster}
-use Rattle.xfs_groups.specs.Chosen.{place_at}
+use Rattle.xfs_groups.specs.Private.Chosen.{cluster_place}
 
 pub of_group : (ag w k : ℕ) → k < w → (ag * w + k) / w ≡ ag
 of_group ag w k inside = grind (arith, inside)
@@ -67,7 +67,7 @@ pub record RootPlace (g : Geometry) : Type 0 where
   pub place : ℕ
   pub there : group < g.agcount
   pub inside : place < group_length (volume_of g) group / 4
-  pub at : place_at (volume_of g) group place ≡ root_cluster (volume_of g)
+  pub at : cluster_place (volume_of g) group place ≡ root_cluster (volume_of g)
 
 pub root_place : (g : Geometry) → RootPlace g
 root_place g =

@@ -3,9 +3,10 @@ use Rattle.std.proofs.Common.{◌≡◌, ℕ, zero, suc, Bool, true, false, ◌+
 use Rattle.std.proofs.lemmas.List.{drop_all}
 use Rattle.std.proofs.lemmas.Bool.{leb-false, leb-true}
 use Rattle.std.proofs.lemmas.Bool.Decides.{nat_tests}
+use Rattle.xfs_kinds.specs.Owners.{clusters_owner}
 use Rattle.xfs_geom.specs.declared.records.RmapRec.{RmapRec}
-use Rattle.xfs_image.specs.Clusters.{clusters_owner, gives, is_given}
-use Rattle.xfs_groups.specs.Named.{AreApart, EndBehind, GiveAlike, begins_by, ends_before}
+use Rattle.xfs_image.specs.Clusters.{gives_block, is_given_block}
+use Rattle.xfs_groups.specs.Named.{RecordsApart, EndBehind, GiveAlike, begins_by, ends_before}
 
 and_none : (x y : Bool) → (x && y && false) ≡ false
 and_none true true = refl
@@ -22,7 +23,7 @@ or_never true = refl
 or_never false = refl
 
 -- a record that ends at a block or before it gives none from there on
-gives_none : (block b : ℕ) (r : RmapRec) → ends_before block r ≡ true → block ≤ b → gives b r ≡ false
+gives_none : (block b : ℕ) (r : RmapRec) → ends_before block r ≡ true → block ≤ b → gives_block b r ≡ false
 gives_none block b r ends from =
     let end : r.start + r.count ≤ block = leb-true (r.start + r.count) block ends in
     let late : nat_lt b (r.start + r.count) ≡ false = grind (arith, nat_tests) in
@@ -32,9 +33,9 @@ gives_none block b r ends from =
 pub passed : (block i : ℕ) (rs : List RmapRec) (d : RmapRec) → i < length rs → ends_before block (get_or rs i d) ≡ true → GiveAlike block (drop i rs) (drop (i + 1) rs)
 passed block i rs d inside ends = λ b from.
     let next : drop (i + 1) rs ≡ drop (suc i) rs = ap (λ (k : ℕ). drop k rs) (add-one i) in
-    ap (λ (xs : List RmapRec). is_given xs b) next
-    ∙ sym (ap (λ (xs : List RmapRec). is_given xs b) (drop-cons rs i d inside)
-    ∙ ap (λ (t : Bool). t || is_given (drop (suc i) rs) b) (gives_none block b (get_or rs i d) ends from))
+    ap (λ (xs : List RmapRec). is_given_block xs b) next
+    ∙ sym (ap (λ (xs : List RmapRec). is_given_block xs b) (drop-cons rs i d inside)
+    ∙ ap (λ (t : Bool). t || is_given_block (drop (suc i) rs) b) (gives_none block b (get_or rs i d) ends from))
 
 pub alike_on : (block : ℕ) (xs ys zs : List RmapRec) → GiveAlike block xs ys → GiveAlike block ys zs → GiveAlike block xs zs
 alike_on block xs ys zs first then = λ b from. then b from ∙ first b from
@@ -45,22 +46,22 @@ alike_later block later xs ys le alike = λ b from. alike b (omega (arith, le, f
 pub ends_at : (block i : ℕ) (rs : List RmapRec) (d : RmapRec) → i < length rs → ends_before block (get_or rs i d) ≡ false → EndBehind block (drop i rs)
 ends_at block i rs d inside ends = subst (EndBehind block) (sym (drop-cons rs i d inside)) ends
 
-pub apart_lower : (low high : ℕ) (rs : List RmapRec) → low ≤ high → AreApart high rs → AreApart low rs
+pub apart_lower : (low high : ℕ) (rs : List RmapRec) → low ≤ high → RecordsApart high rs → RecordsApart low rs
 apart_lower low high [] le apart = tt
 apart_lower low high (r ∷ rs) le apart = (let first = apart.0 in omega (arith, le, first), apart.1)
 
-pub apart_dropped : (n low : ℕ) (rs : List RmapRec) → AreApart low rs → AreApart 0 (drop n rs)
+pub apart_dropped : (n low : ℕ) (rs : List RmapRec) → RecordsApart low rs → RecordsApart 0 (drop n rs)
 apart_dropped zero low rs apart = apart_lower 0 low rs (omega arith) apart
 apart_dropped (suc n) low [] apart = tt
 apart_dropped (suc n) low (r ∷ rs) apart = apart_dropped n (r.start + r.count) rs apart.1
 
 -- records behind a block do not give it
-none_given : (block low : ℕ) (rs : List RmapRec) → block < low → AreApart low rs → is_given rs block ≡ false
+none_given : (block low : ℕ) (rs : List RmapRec) → block < low → RecordsApart low rs → is_given_block rs block ≡ false
 none_given block low [] lt apart = refl
 none_given block low (r ∷ rs) lt apart =
     let first : low ≤ r.start = apart.0 in
     let early : nat_le r.start block ≡ false = grind (arith, nat_tests) in
-    let not : gives block r ≡ false = ap (λ (t : Bool). r.owner == clusters_owner && t && nat_lt block (r.start + r.count)) early ∙ never (r.owner == clusters_owner) (nat_lt block (r.start + r.count)) in
+    let not : gives_block block r ≡ false = ap (λ (t : Bool). r.owner == clusters_owner && t && nat_lt block (r.start + r.count)) early ∙ never (r.owner == clusters_owner) (nat_lt block (r.start + r.count)) in
     rw not (none_given block (r.start + r.count) rs (omega (arith, lt, first)) apart.1)
   where
     never : (x y : Bool) → (x && false && y) ≡ false
@@ -68,22 +69,22 @@ none_given block low (r ∷ rs) lt apart =
     never false y = refl
 
 -- whether a block is given that the first record ends behind
-pub first_gives : (low block : ℕ) (r : RmapRec) (rs : List RmapRec) → AreApart low (r ∷ rs) → EndBehind block (r ∷ rs)
-    → (r.owner == clusters_owner && nat_le r.start block) ≡ is_given (r ∷ rs) block
+pub first_gives : (low block : ℕ) (r : RmapRec) (rs : List RmapRec) → RecordsApart low (r ∷ rs) → EndBehind block (r ∷ rs)
+    → (r.owner == clusters_owner && nat_le r.start block) ≡ is_given_block (r ∷ rs) block
 first_gives low block r rs apart behind =
     let end : block < r.start + r.count = leb-false (r.start + r.count) block behind in
     let late : nat_lt block (r.start + r.count) ≡ true = grind (arith, nat_tests) in
-    let rest : is_given rs block ≡ false = none_given block (r.start + r.count) rs end apart.1 in
+    let rest : is_given_block rs block ≡ false = none_given block (r.start + r.count) rs end apart.1 in
     and_sure (r.owner == clusters_owner) (nat_le r.start block)
     ∙ (ap (λ (t : Bool). r.owner == clusters_owner && nat_le r.start block && t) (sym late)
-    ∙ (or_never (gives block r) ∙ ap (λ (t : Bool). gives block r || t) (sym rest)))
+    ∙ (or_never (gives_block block r) ∙ ap (λ (t : Bool). gives_block block r || t) (sym rest)))
 
-pub given_at : (block i : ℕ) (rs : List RmapRec) (d : RmapRec) → i < length rs → AreApart 0 (drop i rs) → EndBehind block (drop i rs)
-    → begins_by block (get_or rs i d) ≡ is_given (drop i rs) block
+pub given_at : (block i : ℕ) (rs : List RmapRec) (d : RmapRec) → i < length rs → RecordsApart 0 (drop i rs) → EndBehind block (drop i rs)
+    → begins_by block (get_or rs i d) ≡ is_given_block (drop i rs) block
 given_at block i rs d inside apart behind =
     let cut : drop i rs ≡ get_or rs i d ∷ drop (suc i) rs = drop-cons rs i d inside in
-    first_gives 0 block (get_or rs i d) (drop (suc i) rs) (subst (AreApart 0) cut apart) (subst (EndBehind block) cut behind)
-    ∙ ap (λ (xs : List RmapRec). is_given xs block) (sym cut)
+    first_gives 0 block (get_or rs i d) (drop (suc i) rs) (subst (RecordsApart 0) cut apart) (subst (EndBehind block) cut behind)
+    ∙ ap (λ (xs : List RmapRec). is_given_block xs block) (sym cut)
 
-pub none_at : (block i : ℕ) (rs : List RmapRec) → length rs ≤ i → is_given (drop i rs) block ≡ false
-none_at block i rs past = ap (λ (xs : List RmapRec). is_given xs block) (drop_all i rs past)
+pub none_at : (block i : ℕ) (rs : List RmapRec) → length rs ≤ i → is_given_block (drop i rs) block ≡ false
+none_at block i rs past = ap (λ (xs : List RmapRec). is_given_block xs block) (drop_all i rs past)

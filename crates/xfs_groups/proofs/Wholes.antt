@@ -3,12 +3,13 @@ use Rattle.std.proofs.Common.{◌≡◌, ℕ, zero, suc, Bool, true, false, not,
 use Rattle.std.specs.List.{filter, flat_map, list_any, range_with_len}
 use Rattle.std.specs.Option.{option_and_then}
 use Rattle.std.proofs.lemmas.List.Folds.{list_any-append}
+use Rattle.xfs_disk.specs.Lists.{is_among}
 use Rattle.xfs_disk.specs.Blocks.{Image}
 use Rattle.xfs_geom.specs.Conversions.{group_length}
 use Rattle.xfs_geom.specs.Volumes.{Volume}
 use Rattle.xfs_geom.specs.declared.records.InoRec.{InoRec}
 use Rattle.xfs_geom.specs.declared.records.RmapRec.{RmapRec}
-use Rattle.xfs_tree.specs.Reading.{Contents, bytes_at}
+use Rattle.xfs_tree.specs.Reading.{Contents, bytes_of_block}
 use Rattle.xfs_volume.specs.declared.clusters.ClusterRec.{ClusterRec}
 use Rattle.xfs_word.specs.Seal.{is_sealed}
 use Rattle.xfs_word.specs.declared.kinds.SealKind.TheVariants as Kind
@@ -16,13 +17,12 @@ use Rattle.xfs_image.specs.Candidates.{cluster_rec, is_candidate, is_scanned, is
 use Rattle.xfs_image.specs.Clusters.{both_name, is_recorded, is_trusted, named_by_chunks, named_by_owners, names, places_in, root_cluster}
 use Rattle.xfs_image.specs.Groups.{agf_at, agfl_at, agi_at, bno_at, cnt_at, fino_at, group_read, head_block, ino_at, rmap_at, with_part}
 use Rattle.xfs_image.specs.Reserved.{is_held_by_bytes, is_held_by_trees, is_of_named, is_of_tree, is_reserved, reserved_in}
-use Rattle.xfs_image.specs.Slots.{cluster_blocks, cluster_inodes, inodes_in}
+use Rattle.xfs_image.specs.Slots.{cluster_blocks, cluster_inodes, inodes_of_block}
 use Rattle.xfs_image.specs.declared.findings.Finding.{Finding}
-use Rattle.xfs_groups.specs.Chosen.{IsTold, are_clear, are_used, candidates_in, chosen, chosen_rec, is_chosen, is_withheld, place_at, withheld}
-use Rattle.xfs_groups.specs.Looking.{has_used, is_naming}
+use Rattle.xfs_groups.specs.Private.Chosen.{IsToldOfGroup, are_clear, are_used, candidates_in, chosen, chosen_rec, is_chosen, is_withheld, cluster_place, withheld}
+use Rattle.xfs_groups.specs.Private.Looking.{has_used, is_naming}
 use Rattle.xfs_groups.specs.Named.{chunks_in, owners_in}
-use Rattle.xfs_groups.specs.Parts.{group_with}
-use Rattle.xfs_groups.specs.Sets.{has}
+use Rattle.xfs_groups.specs.Private.Parts.{group_with}
 use Rattle.xfs_groups.proofs.Lengths.{of_group}
 use Rattle.xfs_groups.specs.declared.heads.Heads.{Heads}
 use Rattle.xfs_groups.specs.declared.one_group.Told.{Told}
@@ -65,12 +65,12 @@ group_is v image ag h t so =
 -- what is told of a group is what its trees say in an image
 pub record ToldSo (v : Volume) (image : Image) (ag : ℕ) (told : Told) : Type 0 where
   pub trusted : told.trusted ≡ is_trusted v image ag
-  pub named : (q : ℕ) → has told.named q ≡ (names (named_by_chunks v image ag) q || names (named_by_owners v image ag) q)
-  pub held : (q : ℕ) → has told.held q
+  pub named : (q : ℕ) → is_among told.named q ≡ (names (named_by_chunks v image ag) q || names (named_by_owners v image ag) q)
+  pub held : (q : ℕ) → is_among told.held q
       ≡ (is_of_tree (option_and_then (ino_at v image ag) (agi_at v image ag)) q || is_of_tree (option_and_then (rmap_at v image ag) (agf_at v image ag)) q
       || is_of_named (named_by_chunks v image ag) q || is_of_named (named_by_owners v image ag) q)
 
-pub told_so : (v : Volume) (image : Image) (ag : ℕ) (h : Heads) (t : Trees) (told : Told) → ReadSo v image ag h t → IsTold v ag t told → ToldSo v image ag told
+pub told_so : (v : Volume) (image : Image) (ag : ℕ) (h : Heads) (t : Trees) (told : Told) → ReadSo v image ag h t → IsToldOfGroup v ag t told → ToldSo v image ag told
 unfolding is_trusted named_by_chunks named_by_owners
 told_so v image ag h t told so is =
     let ino : t.ino ≡ option_and_then (ino_at v image ag) (agi_at v image ag) = so.ino ∙ ap (option_and_then (ino_at v image ag)) so.agi in
@@ -123,7 +123,7 @@ by_bytes false false u = refl
 
 used_are : (v : Volume) (image : Image) (cluster : ℕ) → are_used v image cluster 4 ≡ list_any (is_used_slot v image) (cluster_inodes v cluster)
 unfolding cluster_inodes
-used_are v image cluster = sym (any_flat (is_used_slot v image) (inodes_in v) (cluster_blocks cluster))
+used_are v image cluster = sym (any_flat (is_used_slot v image) (inodes_of_block v) (cluster_blocks cluster))
 
 chosen_is : (v : Volume) (image : Image) (ag : ℕ) (told : Told) (cluster : ℕ) → ToldSo v image ag told → cluster / v.agblocks ≡ ag
     → is_chosen v image told.trusted told.named cluster ≡ is_candidate v image cluster
@@ -134,7 +134,7 @@ chosen_is v image ag told cluster so of =
     let b = names (named_by_owners v image ag) cluster in
     let l = lies_in_chunk v cluster in
     let c = are_clear v image cluster 4 in
-    regrouped r (has told.named cluster) a b (not told.trusted && are_used v image cluster 4) l c (so.named cluster)
+    regrouped r (is_among told.named cluster) a b (not told.trusted && are_used v image cluster 4) l c (so.named cluster)
     ∙ (ap₂ (λ (x y : Bool). r || ((((r || a) || b) || (not x && y)) && l && c)) so.trusted (used_are v image cluster)
     ∙ ap (λ (n : ℕ). r || ((((r || names (named_by_chunks v image n) cluster) || names (named_by_owners v image n) cluster)
     || (not (is_trusted v image n) && list_any (is_used_slot v image) (cluster_inodes v cluster))) && l && c)) (sym of))
@@ -144,8 +144,8 @@ rec_is : (v : Volume) (image : Image) (ag : ℕ) (told : Told) (cluster : ℕ) �
 unfolding is_recorded
 rec_is v image ag told cluster so of =
     let r = cluster == root_cluster v in
-    let same : (r || has told.named cluster) ≡ ((r || names (named_by_chunks v image (cluster / v.agblocks)) cluster) || names (named_by_owners v image (cluster / v.agblocks)) cluster) =
-    moved r (has told.named cluster) (names (named_by_chunks v image ag) cluster) (names (named_by_owners v image ag) cluster) (so.named cluster)
+    let same : (r || is_among told.named cluster) ≡ ((r || names (named_by_chunks v image (cluster / v.agblocks)) cluster) || names (named_by_owners v image (cluster / v.agblocks)) cluster) =
+    moved r (is_among told.named cluster) (names (named_by_chunks v image ag) cluster) (names (named_by_owners v image ag) cluster) (so.named cluster)
     ∙ ap (λ (n : ℕ). (r || names (named_by_chunks v image n) cluster) || names (named_by_owners v image n) cluster) (sym of) in
     ap (rec_of cluster) same
   where
@@ -158,19 +158,19 @@ pub candidates_are : (v : Volume) (image : Image) (ag : ℕ) (told : Told) → T
 unfolding chosen candidates_in
 candidates_are v image ag told so short =
     let n = group_length v ag / 4 in
-    let all : map (λ place. head_block v ag + place) (places_in v ag) ≡ map (place_at v ag) (range_with_len 0 n) = map_twice (λ i. 4 * i) (λ place. head_block v ag + place) (range_with_len 0 n) in
-    let inside : (i : ℕ) → i < 0 + n → place_at v ag i / v.agblocks ≡ ag = λ i high. of_group ag v.agblocks (4 * i) (omega (arith, high, short)) in
-    kept_same (chosen_rec v told.named) (cluster_rec v image) (is_chosen v image told.trusted told.named) (is_candidate v image) (place_at v ag) 0 n
-    (λ i low high. chosen_is v image ag told (place_at v ag i) so (inside i high))
-    (λ i low high. rec_is v image ag told (place_at v ag i) so (inside i high))
+    let all : map (λ place. head_block v ag + place) (places_in v ag) ≡ map (cluster_place v ag) (range_with_len 0 n) = map_twice (λ i. 4 * i) (λ place. head_block v ag + place) (range_with_len 0 n) in
+    let inside : (i : ℕ) → i < 0 + n → cluster_place v ag i / v.agblocks ≡ ag = λ i high. of_group ag v.agblocks (4 * i) (omega (arith, high, short)) in
+    kept_same (chosen_rec v told.named) (cluster_rec v image) (is_chosen v image told.trusted told.named) (is_candidate v image) (cluster_place v ag) 0 n
+    (λ i low high. chosen_is v image ag told (cluster_place v ag i) so (inside i high))
+    (λ i low high. rec_is v image ag told (cluster_place v ag i) so (inside i high))
     ∙ ap (λ (xs : List ℕ). map (cluster_rec v image) (filter (is_candidate v image) xs)) (sym all)
 
 withheld_is : (v : Volume) (image : Image) (ag : ℕ) (told : Told) (block : ℕ) → ToldSo v image ag told → block / v.agblocks ≡ ag
     → is_withheld v image told.trusted told.held block ≡ is_reserved v image block
 unfolding is_reserved is_held_by_trees is_held_by_bytes
 withheld_is v image ag told block so of =
-    let a = is_sealed (whole_seal v block (Kind.ShortTree 0x4941_4233)) (bytes_at image block) in
-    let b = is_sealed (whole_seal v block (Kind.ShortTree 0x524d_4233)) (bytes_at image block) in
+    let a = is_sealed (whole_seal v block (Kind.ShortTree 0x4941_4233)) (bytes_of_block image block) in
+    let b = is_sealed (whole_seal v block (Kind.ShortTree 0x524d_4233)) (bytes_of_block image block) in
     let u = has_used v image block in
     ap₂ (λ (x y : Bool). x || (not y && (is_naming v image block || u))) (so.held block) so.trusted
     ∙ (ap (λ (t : Bool). (is_of_tree (option_and_then (ino_at v image ag) (agi_at v image ag)) block

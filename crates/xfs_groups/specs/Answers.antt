@@ -12,12 +12,12 @@ use Rattle.xfs_groups.specs.declared.faults.GroupsFault.TheVariants as faults
 use Rattle.xfs_groups.specs.declared.groups.GroupTrees.{GroupTrees}
 
 -- a read fault is answered only where the count of failed reads rose
-abbrev pub IsCaused : ℕ → ℕ → GroupsFault → Type 0
-IsCaused before now faults.ReadFault = Rose before now
-IsCaused before now faults.NoMemory = before ≤ now
+abbrev pub IsGroupsCause : ℕ → ℕ → GroupsFault → Type 0
+IsGroupsCause before now faults.ReadFault = Rose before now
+IsGroupsCause before now faults.NoMemory = before ≤ now
 
 abbrev pub HasGroupsCause : {T : Type 0} → ℕ → ℕ → Result T GroupsFault → Type 0
-HasGroupsCause before now result = MatchResult result (λ _. before ≤ now) (IsCaused before now)
+HasGroupsCause before now result = MatchResult result (λ _. before ≤ now) (IsGroupsCause before now)
 
 -- the reserved blocks of each of some groups
 abbrev pub lists_of : List GroupTrees → List (List ℕ)
@@ -32,5 +32,5 @@ abbrev pub EndBelow : ℕ → List ClusterRec → Type 0
 EndBelow limit clusters = All (λ (c : ClusterRec). c.block + 4 ≤ limit) clusters
 
 -- the cluster of the root is there, as one that a tree names
-abbrev pub has_root : Volume → List ClusterRec → Bool
-has_root v clusters = list_any (λ (c : ClusterRec). c.recorded && c.block == root_cluster v) clusters
+abbrev pub has_root_cluster : Volume → List ClusterRec → Bool
+has_root_cluster v clusters = list_any (λ (c : ClusterRec). c.recorded && c.block == root_cluster v) clusters

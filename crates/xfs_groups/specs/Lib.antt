@@ -1,6 +1,4 @@
 pub mod Answers
-pub mod Parts
 pub mod Sets
 pub mod Named
-pub mod Looking
-pub mod Chosen
+pub mod Private

@@ -4,10 +4,10 @@ ghost use Rattle.std.specs.Prelude.{◌≡◌, ◌≤◌, IfOk, IsTrue};
 ghost use Rattle.std.specs.Option.{ForSome};
 ghost use Rattle.xfs_geom.specs.Volumes.{volume_of};
 ghost use Rattle.xfs_disk.specs.Reads.{OnlyReads};
-ghost use Rattle.xfs_image.specs.Candidates.{Ascend, candidates};
+ghost use Rattle.xfs_image.specs.Candidates.{ClustersAscend, candidates};
 ghost use Rattle.xfs_image.specs.Groups.{groups_read};
-ghost use Rattle.xfs_groups.specs.Answers.{EndBelow, HasGroupsCause, has_root, lists_of, reserved_lists};
-ghost use Rattle.xfs_groups.specs.Parts.{then_read};
+ghost use Rattle.xfs_groups.specs.Answers.{EndBelow, HasGroupsCause, has_root_cluster, lists_of, reserved_lists};
+ghost use Rattle.xfs_groups.specs.Private.Parts.{then_read};
 
 use crate::faults::GroupsFault;
 use crate::one_group::see_group;
@@ -49,9 +49,9 @@ pub fn see_groups<D: Disk, L: Ledger>(
     ensures groups { IfOk result (λ seen. ForSome (D.holds disk.old) (λ image. seen.groups ≡ groups_read (volume_of g.now) image)) }
     ensures clusters { IfOk result (λ seen. ForSome (D.holds disk.old) (λ image. seen.clusters ≡ candidates (volume_of g.now) image)) }
     ensures trees { IfOk result (λ seen. ForSome (D.holds disk.old) (λ image. lists_of seen.trees ≡ reserved_lists (volume_of g.now) image)) }
-    ensures ascend { IfOk result (λ seen. Ascend 0 seen.clusters) }
+    ensures ascend { IfOk result (λ seen. ClustersAscend 0 seen.clusters) }
     ensures low { IfOk result (λ seen. EndBelow g.now.dblocks seen.clusters) }
-    ensures root { IfOk result (λ seen. IsTrue (has_root (volume_of g.now) seen.clusters)) }
+    ensures root { IfOk result (λ seen. IsTrue (has_root_cluster (volume_of g.now) seen.clusters)) }
     ensures cause { HasGroupsCause (D.faults disk.old) (D.faults disk.new) result }
     ensures disk { OnlyReads D.size D.holds D.write_faults D.writes D.tells_stops D.moment D.may_leave D.left_since disk.old disk.new }
 {

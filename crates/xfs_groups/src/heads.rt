@@ -9,7 +9,7 @@ ghost use Rattle.xfs_heads.specs.FreeSpace.{agf_of, is_agf_shaped};
 ghost use Rattle.xfs_heads.specs.Inodes.{agi_of, is_agi_shaped};
 ghost use Rattle.xfs_image.specs.Groups.{agf_at, agfl_at, agi_at};
 ghost use Rattle.xfs_disk.specs.Reads.{OnlyReads};
-ghost use Rattle.xfs_tree.specs.Reading.{bytes_at};
+ghost use Rattle.xfs_tree.specs.Reading.{bytes_of_block};
 ghost use Rattle.xfs_word.specs.Field.{part_of};
 
 use std::sync::ledger::Ledger;
@@ -91,7 +91,7 @@ pub(crate) fn read_block<D: Disk, L: Ledger>(
 ) -> Result<(), Failed>
     requires inside { place < D.size disk.old }
     requires block { length block.old ≡ 4096 }
-    ensures bytes { OnOk result (ForSome (D.holds disk.old) (λ image. bytes_at image place ≡ block.new)) }
+    ensures bytes { OnOk result (ForSome (D.holds disk.old) (λ image. bytes_of_block image place ≡ block.new)) }
     ensures whole { length block.new ≡ 4096 }
     ensures cause { HasCause (D.faults disk.old) (D.faults disk.new) result }
     ensures disk { OnlyReads D.size D.holds D.write_faults D.writes D.tells_stops D.moment D.may_leave D.left_since disk.old disk.new }

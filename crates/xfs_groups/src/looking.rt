@@ -6,13 +6,13 @@ ghost use Rattle.std.specs.Option.{ForSome};
 ghost use Rattle.xfs_disk.specs.Faults.{HasCause};
 ghost use Rattle.xfs_geom.specs.Conversions.{inode_of};
 ghost use Rattle.xfs_geom.specs.Volumes.{volume_of};
-ghost use Rattle.xfs_image.specs.Candidates.{is_used_slot, is_whole_block, owner_due, whole_seal};
+ghost use Rattle.xfs_image.specs.Candidates.{is_used_slot, has_whole_seal, owner_due, whole_seal};
 ghost use Rattle.xfs_inode.specs.Slots.{slot_seal};
 ghost use Rattle.xfs_disk.specs.Reads.{OnlyReads};
-ghost use Rattle.xfs_tree.specs.Reading.{bytes_at};
+ghost use Rattle.xfs_tree.specs.Reading.{bytes_of_block};
 ghost use Rattle.xfs_word.specs.Field.{field_of};
 ghost use Rattle.xfs_word.specs.Seal.{is_sealed, layout_of};
-ghost use Rattle.xfs_groups.specs.Looking.{IsSeen, has_used};
+ghost use Rattle.xfs_groups.specs.Private.Looking.{IsSeen, has_used};
 
 use crate::heads::read_block;
 use std::sync::ledger::Ledger;
@@ -92,14 +92,14 @@ pub(crate) fn look_whole<D: Disk, L: Ledger>(
 ) -> Result<bool, Failed>
     requires place { place < g.now.dblocks }
     requires inside { g.now.dblocks ≤ D.size disk.old }
-    ensures whole { IfOk result (λ whole. ForSome (D.holds disk.old) (λ image. whole ≡ is_whole_block (volume_of g.now) image place)) }
+    ensures whole { IfOk result (λ whole. ForSome (D.holds disk.old) (λ image. whole ≡ has_whole_seal (volume_of g.now) image place)) }
     ensures cause { HasCause (D.faults disk.old) (D.faults disk.new) result }
     ensures disk { OnlyReads D.size D.holds D.write_faults D.writes D.tells_stops D.moment D.may_leave D.left_since disk.old disk.new }
     ensures ticks { steps.new ≡ steps.old + 1 }
 {
     let mut block = [0; BLOCK_SIZE];
     match read_block(disk, place, &mut block, steps) {
-        Ok(()) => Ok(is_whole(g, place, &block)),
+        Ok(()) => Ok(has_whole_seal(g, place, &block)),
         Err(Failed) => Err(Failed),
     }
 }
@@ -108,21 +108,21 @@ pub(crate) fn look_whole<D: Disk, L: Ledger>(
 fn seen(g: &Geometry, place: u64, block: &[u8]) -> BlockSeen
     requires place { place < g.now.dblocks }
     requires block { length block.now ≡ 4096 }
-    ensures { (image : List (List ℕ)) → bytes_at image place ≡ block.now → IsSeen (volume_of g.now) image place result }
+    ensures { (image : List (List ℕ)) → bytes_of_block image place ≡ block.now → IsSeen (volume_of g.now) image place result }
 {
     BlockSeen {
         used: has_used_slot(g, place, block),
         naming: is_any(g, place, &NAMING_KINDS, block),
-        whole: is_whole(g, place, block),
+        whole: has_whole_seal(g, place, block),
     }
 }
 
 /// Whether a block is sealed as one object.
-#[tactic(auto, unfolding(xfs_image::specs::Candidates::is_whole_block))]
-fn is_whole(g: &Geometry, place: u64, block: &[u8]) -> bool
+#[tactic(auto, unfolding(xfs_image::specs::Candidates::has_whole_seal))]
+fn has_whole_seal(g: &Geometry, place: u64, block: &[u8]) -> bool
     requires place { place < g.now.dblocks }
     requires block { length block.now ≡ 4096 }
-    ensures { (image : List (List ℕ)) → bytes_at image place ≡ block.now → result ≡ is_whole_block (volume_of g.now) image place }
+    ensures { (image : List (List ℕ)) → bytes_of_block image place ≡ block.now → result ≡ has_whole_seal (volume_of g.now) image place }
 {
     is_any(g, place, &WHOLE_KINDS, block)
 }
@@ -170,7 +170,7 @@ fn owner_due(g: &Geometry, place: u64, kind: SealKind) -> Option<u64>
 fn has_used_slot(g: &Geometry, place: u64, block: &[u8]) -> bool
     requires place { place < g.now.dblocks }
     requires block { length block.now ≡ 4096 }
-    ensures { (image : List (List ℕ)) → bytes_at image place ≡ block.now → result ≡ has_used (volume_of g.now) image place }
+    ensures { (image : List (List ℕ)) → bytes_of_block image place ≡ block.now → result ≡ has_used (volume_of g.now) image place }
 {
     is_any_used(g, place, 8, block)
 }
@@ -180,7 +180,7 @@ fn is_any_used(g: &Geometry, place: u64, count: u8, block: &[u8]) -> bool
     requires place { place < g.now.dblocks }
     requires count { count ≤ 8 }
     requires block { length block.now ≡ 4096 }
-    ensures { (image : List (List ℕ)) → bytes_at image place ≡ block.now
+    ensures { (image : List (List ℕ)) → bytes_of_block image place ≡ block.now
         → result ≡ list_any (λ slot. is_used_slot (volume_of g.now) image (inode_of (volume_of g.now) place slot)) (range_with_len 0 count) }
 {
     for slot in 0..count {
@@ -196,7 +196,7 @@ fn is_used(g: &Geometry, place: u64, slot: u8, block: &[u8]) -> bool
     requires place { place < g.now.dblocks }
     requires slot { slot < 8 }
     requires block { length block.now ≡ 4096 }
-    ensures { (image : List (List ℕ)) → bytes_at image place ≡ block.now → result ≡ is_used_slot (volume_of g.now) image (inode_of (volume_of g.now) place slot) }
+    ensures { (image : List (List ℕ)) → bytes_of_block image place ≡ block.now → result ≡ is_used_slot (volume_of g.now) image (inode_of (volume_of g.now) place slot) }
 {
     let ino = g.inode_of_slot(place, slot);
     is_used_as(g, ino, part(block, SLOT_SIZE * slot as usize, SLOT_SIZE))

@@ -2,12 +2,12 @@
 
 ghost use Rattle.std.specs.Prelude.{◌≡◌, ◌++◌, ◌*◌, ◌^◌, ◌<◌, ◌||◌, ℕ, IfOk, IfSome, OnOk, option_map};
 ghost use Rattle.std.specs.List.{All, list_all};
+ghost use Rattle.xfs_disk.specs.Lists.{is_among};
 ghost use Rattle.xfs_geom.specs.Volumes.{volume_of};
 ghost use Rattle.xfs_kinds.specs.InodeTrees.{is_missing};
-ghost use Rattle.xfs_image.specs.Clusters.{are_same, both_name, chunk_clusters, clusters_in, given_clusters, is_among};
+ghost use Rattle.xfs_image.specs.Clusters.{same_clusters, both_name, chunk_clusters, clusters_in, given_clusters};
 ghost use Rattle.xfs_image.specs.Reserved.{is_of_named, is_of_tree};
 ghost use Rattle.xfs_groups.specs.Named.{AreOwnersApart, is_named};
-ghost use Rattle.xfs_groups.specs.Sets.{has};
 
 use crate::sets::BlockSet;
 use crate::sweep::given_clusters;
@@ -118,13 +118,13 @@ impl Named {
         };
         match &self.owners {
             None => Ok(false),
-            Some(owners) => are_same(alloc, chunks.as_slice(), owners.as_slice()),
+            Some(owners) => same_clusters(alloc, chunks.as_slice(), owners.as_slice()),
         }
     }
 
     /// The clusters that a tree names.
     pub fn clusters(&self, alloc: Global) -> Result<BlockSet, NoMemory>
-        ensures { IfOk result (λ set. (q : ℕ) → has set q ≡ is_named self.now.chunks self.now.owners q) }
+        ensures { IfOk result (λ set. (q : ℕ) → is_among set q ≡ is_named self.now.chunks self.now.owners q) }
     {
         let mut set = BlockSet::new(alloc);
         if let Some(chunks) = &self.chunks {
@@ -138,8 +138,8 @@ impl Named {
 }
 
 /// Whether two lists name the same clusters.
-fn are_same(alloc: Global, xs: &[u64], ys: &[u64]) -> Result<bool, NoMemory>
-    ensures { IfOk result (λ same. same ≡ are_same xs.now ys.now) }
+fn same_clusters(alloc: Global, xs: &[u64], ys: &[u64]) -> Result<bool, NoMemory>
+    ensures { IfOk result (λ same. same ≡ same_clusters xs.now ys.now) }
 {
     if !are_among(alloc, xs, ys)? {
         return Ok(false);
@@ -170,7 +170,7 @@ pub(crate) fn held_by_trees(
 ) -> Result<BlockSet, NoMemory>
     requires chunks { IfSome named.now.chunks (λ clusters. All (λ cluster. cluster < 2 ^ 32) clusters) }
     requires owners { IfSome named.now.owners (λ clusters. All (λ cluster. cluster < 2 ^ 32) clusters) }
-    ensures { IfOk result (λ set. (q : ℕ) → has set q
+    ensures { IfOk result (λ set. (q : ℕ) → is_among set q
         ≡ (is_of_tree ino.now q || is_of_tree rmap.now q || is_of_named named.now.chunks q || is_of_named named.now.owners q)) }
 {
     let mut set = BlockSet::new(alloc);
@@ -183,7 +183,7 @@ pub(crate) fn held_by_trees(
 
 /// Adds the blocks of a tree, where it reads.
 fn add_tree<R: Drop>(set: &mut BlockSet, tree: &Option<TreeSeen<R>>) -> Result<(), NoMemory>
-    ensures { OnOk result ((q : ℕ) → has set.new q ≡ (has set.old q || is_of_tree tree.now q)) }
+    ensures { OnOk result ((q : ℕ) → is_among set.new q ≡ (is_among set.old q || is_of_tree tree.now q)) }
 {
     match tree {
         None => Ok(()),
@@ -194,7 +194,7 @@ fn add_tree<R: Drop>(set: &mut BlockSet, tree: &Option<TreeSeen<R>>) -> Result<(
 /// Adds the blocks of clusters, where a tree names them.
 fn add_named(set: &mut BlockSet, named: &Option<Blocks>) -> Result<(), NoMemory>
     requires { IfSome named.now (λ clusters. All (λ cluster. cluster < 2 ^ 32) clusters) }
-    ensures { OnOk result ((q : ℕ) → has set.new q ≡ (has set.old q || is_of_named named.now q)) }
+    ensures { OnOk result ((q : ℕ) → is_among set.new q ≡ (is_among set.old q || is_of_named named.now q)) }
 {
     match named {
         None => Ok(()),

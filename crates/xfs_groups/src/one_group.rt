@@ -8,7 +8,7 @@ ghost use Rattle.xfs_image.specs.Groups.{group_read, head_block};
 ghost use Rattle.xfs_image.specs.Reserved.{reserved_in};
 ghost use Rattle.xfs_disk.specs.Reads.{OnlyReads};
 ghost use Rattle.xfs_groups.specs.Answers.{HasGroupsCause};
-ghost use Rattle.xfs_groups.specs.Chosen.{ArePlaced, IsTold, candidates_in, chosen, withheld};
+ghost use Rattle.xfs_groups.specs.Private.Chosen.{ClustersPlaced, IsToldOfGroup, candidates_in, chosen, withheld};
 ghost use Rattle.xfs_groups.specs.Named.{AreOwnersApart};
 
 use crate::faults::GroupsFault;
@@ -16,7 +16,7 @@ use crate::heads::read_heads;
 use crate::named::{Named, held_by_trees, named_by_chunks, named_by_owners};
 use crate::parts::group_with;
 use crate::recorded::recorded_clusters;
-use crate::scanned::{Scanned, scan_group};
+use crate::scanned::{ScannedGroup, scan_group};
 use crate::sets::BlockSet;
 use crate::trees::{Trees, read_trees};
 use std::alloc::Global;
@@ -57,7 +57,7 @@ pub(crate) fn see_group<D: Disk, L: Ledger>(
     ensures record { IfOk result (λ seen. ForSome (D.holds disk.old) (λ image. seen.record ≡ group_read (volume_of g.now) image ag)) }
     ensures clusters { IfOk result (λ seen. ForSome (D.holds disk.old) (λ image. seen.clusters.items ≡ candidates_in (volume_of g.now) image ag)) }
     ensures reserved { IfOk result (λ seen. ForSome (D.holds disk.old) (λ image. seen.reserved.items ≡ reserved_in (volume_of g.now) image ag)) }
-    ensures placed { IfOk result (λ seen. ArePlaced (volume_of g.now) ag (group_length (volume_of g.now) ag / 4) seen.clusters.items) }
+    ensures placed { IfOk result (λ seen. ClustersPlaced (volume_of g.now) ag (group_length (volume_of g.now) ag / 4) seen.clusters.items) }
     ensures cause { HasGroupsCause (D.faults disk.old) (D.faults disk.new) result }
     ensures disk { OnlyReads D.size D.holds D.write_faults D.writes D.tells_stops D.moment D.may_leave D.left_since disk.old disk.new }
 {
@@ -78,7 +78,7 @@ pub(crate) fn see_group<D: Disk, L: Ledger>(
         Err(NoMemory) => return Err(GroupsFault::NoMemory),
     };
     match look_through(alloc, g, disk, ag, &told, steps) {
-        Ok(Scanned { clusters, reserved }) => Ok(GroupSeen {
+        Ok(ScannedGroup { clusters, reserved }) => Ok(GroupSeen {
             record,
             clusters,
             reserved,
@@ -90,7 +90,7 @@ pub(crate) fn see_group<D: Disk, L: Ledger>(
 /// What the trees of a group say.
 fn told_by(alloc: Global, g: &Geometry, ag: u32, trees: &Trees) -> Result<Told, NoMemory>
     requires { ag < g.now.agcount }
-    ensures { AreOwnersApart trees.now.rmap → IfOk result (λ told. IsTold (volume_of g.now) ag trees.now told) }
+    ensures { AreOwnersApart trees.now.rmap → IfOk result (λ told. IsToldOfGroup (volume_of g.now) ag trees.now told) }
 {
     let named = Named {
         chunks: named_by_chunks(alloc, g, ag, &trees.ino)?,
@@ -112,14 +112,14 @@ fn look_through<D: Disk, L: Ledger>(
     ag: u32,
     told: &Told,
     steps: &mut Steps<L>,
-) -> Result<Scanned, GroupsFault>
+) -> Result<ScannedGroup, GroupsFault>
     requires group { ag < g.now.agcount }
     requires inside { g.now.dblocks ≤ D.size disk.old }
     ensures chosen { IfOk result (λ found. ForSome (D.holds disk.old) (λ image.
         found.clusters.items ≡ chosen (volume_of g.now) image told.now.trusted told.now.named ag (group_length (volume_of g.now) ag / 4))) }
     ensures withheld { IfOk result (λ found. ForSome (D.holds disk.old) (λ image.
         found.reserved.items ≡ withheld (volume_of g.now) image told.now.trusted told.now.held (head_block (volume_of g.now) ag) (group_length (volume_of g.now) ag))) }
-    ensures placed { IfOk result (λ found. ArePlaced (volume_of g.now) ag (group_length (volume_of g.now) ag / 4) found.clusters.items) }
+    ensures placed { IfOk result (λ found. ClustersPlaced (volume_of g.now) ag (group_length (volume_of g.now) ag / 4) found.clusters.items) }
     ensures cause { HasGroupsCause (D.faults disk.old) (D.faults disk.new) result }
     ensures disk { OnlyReads D.size D.holds D.write_faults D.writes D.tells_stops D.moment D.may_leave D.left_since disk.old disk.new }
 {
@@ -134,7 +134,7 @@ fn look_through<D: Disk, L: Ledger>(
         Err(NoMemory) => return Err(GroupsFault::NoMemory),
     };
     match recorded_clusters(alloc, g, disk, ag, &told.named, steps) {
-        Ok(clusters) => Ok(Scanned { clusters, reserved }),
+        Ok(clusters) => Ok(ScannedGroup { clusters, reserved }),
         Err(fault) => Err(fault),
     }
 }

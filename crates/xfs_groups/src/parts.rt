@@ -4,7 +4,7 @@ ghost use Rattle.std.specs.Prelude.{◌≡◌, List, Result, IfOk};
 ghost use Rattle.xfs_heads.specs.declared.free_list.Agfl.{Agfl};
 ghost use Rattle.xfs_heads.specs.declared.free_space.Agf.{Agf};
 ghost use Rattle.xfs_heads.specs.declared.inodes.Agi.{Agi};
-ghost use Rattle.xfs_groups.specs.Parts.{group_with, with_trees};
+ghost use Rattle.xfs_groups.specs.Private.Parts.{group_with, with_trees};
 
 use crate::heads::Heads;
 use crate::trees::Trees;

@@ -9,7 +9,7 @@ ghost use Rattle.xfs_image.specs.Candidates.{lies_in_chunk};
 ghost use Rattle.xfs_image.specs.Clusters.{root_cluster};
 ghost use Rattle.xfs_disk.specs.Reads.{OnlyReads};
 ghost use Rattle.xfs_groups.specs.Answers.{HasGroupsCause};
-ghost use Rattle.xfs_groups.specs.Chosen.{ArePlaced, are_clear, chosen, chosen_rec, is_chosen, is_clear};
+ghost use Rattle.xfs_groups.specs.Private.Chosen.{ClustersPlaced, are_clear, chosen, chosen_rec, is_chosen, can_hold_cluster};
 
 use crate::faults::GroupsFault;
 use crate::looking::look_whole;
@@ -34,7 +34,7 @@ pub(crate) fn recorded_clusters<D: Disk, L: Ledger>(
     requires inside { g.now.dblocks ≤ D.size disk.old }
     ensures chosen { IfOk result (λ clusters. ForSome (D.holds disk.old) (λ image.
         clusters.items ≡ chosen (volume_of g.now) image true named.now ag (group_length (volume_of g.now) ag / 4))) }
-    ensures placed { IfOk result (λ clusters. ArePlaced (volume_of g.now) ag (group_length (volume_of g.now) ag / 4) clusters.items) }
+    ensures placed { IfOk result (λ clusters. ClustersPlaced (volume_of g.now) ag (group_length (volume_of g.now) ag / 4) clusters.items) }
     ensures cause { HasGroupsCause (D.faults disk.old) (D.faults disk.new) result }
     ensures disk { OnlyReads D.size D.holds D.write_faults D.writes D.tells_stops D.moment D.may_leave D.left_since disk.old disk.new }
 {
@@ -97,7 +97,7 @@ fn are_clear<D: Disk, L: Ledger>(
     ensures disk { OnlyReads D.size D.holds D.write_faults D.writes D.tells_stops D.moment D.may_leave D.left_since disk.old disk.new }
 {
     for k in 0..count {
-        match is_clear(g, disk, first + k, steps) {
+        match can_hold_cluster(g, disk, first + k, steps) {
             Ok(true) => {}
             Ok(false) => return Ok(false),
             Err(Failed) => return Err(Failed),
@@ -107,7 +107,7 @@ fn are_clear<D: Disk, L: Ledger>(
 }
 
 /// Whether a block has no fixed use and is not sealed as one object.
-fn is_clear<D: Disk, L: Ledger>(
+fn can_hold_cluster<D: Disk, L: Ledger>(
     g: &Geometry,
     disk: &mut D,
     block: u64,
@@ -115,7 +115,7 @@ fn is_clear<D: Disk, L: Ledger>(
 ) -> Result<bool, Failed>
     requires block { block < g.now.dblocks }
     requires inside { g.now.dblocks ≤ D.size disk.old }
-    ensures clear { IfOk result (λ clear. ForSome (D.holds disk.old) (λ image. clear ≡ is_clear (volume_of g.now) image block)) }
+    ensures clear { IfOk result (λ clear. ForSome (D.holds disk.old) (λ image. clear ≡ can_hold_cluster (volume_of g.now) image block)) }
     ensures cause { HasCause (D.faults disk.old) (D.faults disk.new) result }
     ensures disk { OnlyReads D.size D.holds D.write_faults D.writes D.tells_stops D.moment D.may_leave D.left_since disk.old disk.new }
     ensures ticks { steps.new ≤ steps.old + 1 }

@@ -2,13 +2,13 @@
 
 ghost use Rattle.std.specs.Prelude.{◌≡◌, ◌+◌, ◌/◌, ◌<◌, ◌≤◌, ◌++◌, ◌&&◌, ◌||◌, not, false, IfOk};
 ghost use Rattle.std.specs.Option.{ForSome};
+ghost use Rattle.xfs_disk.specs.Lists.{is_among};
 ghost use Rattle.xfs_geom.specs.Conversions.{group_length, is_fixed};
 ghost use Rattle.xfs_geom.specs.Volumes.{volume_of};
 ghost use Rattle.xfs_image.specs.Groups.{head_block};
 ghost use Rattle.xfs_disk.specs.Reads.{OnlyReads};
 ghost use Rattle.xfs_groups.specs.Answers.{HasGroupsCause};
-ghost use Rattle.xfs_groups.specs.Chosen.{ArePlaced, are_clear, are_used, chosen, is_chosen_as, withheld};
-ghost use Rattle.xfs_groups.specs.Sets.{has};
+ghost use Rattle.xfs_groups.specs.Private.Chosen.{ClustersPlaced, are_clear, are_used, chosen, is_chosen_as, withheld};
 
 use crate::faults::GroupsFault;
 use crate::looking::{BlockSeen, look};
@@ -23,7 +23,7 @@ use xfs_volume::ClusterRec;
 
 /// The clusters of a group whose slots are read, and the blocks of it on which nothing new is placed.
 #[derive(Drop)]
-pub(crate) struct Scanned {
+pub(crate) struct ScannedGroup {
     pub clusters: Vec<ClusterRec>,
     pub reserved: Vec<u64>,
 }
@@ -46,14 +46,14 @@ pub(crate) fn scan_group<D: Disk, L: Ledger>(
     named: &BlockSet,
     held: &BlockSet,
     steps: &mut Steps<L>,
-) -> Result<Scanned, GroupsFault>
+) -> Result<ScannedGroup, GroupsFault>
     requires group { ag < g.now.agcount }
     requires inside { g.now.dblocks ≤ D.size disk.old }
     ensures chosen { IfOk result (λ found. ForSome (D.holds disk.old) (λ image.
         found.clusters.items ≡ chosen (volume_of g.now) image false named.now ag (group_length (volume_of g.now) ag / 4))) }
     ensures withheld { IfOk result (λ found. ForSome (D.holds disk.old) (λ image.
         found.reserved.items ≡ withheld (volume_of g.now) image false held.now (head_block (volume_of g.now) ag) (group_length (volume_of g.now) ag))) }
-    ensures placed { IfOk result (λ found. ArePlaced (volume_of g.now) ag (group_length (volume_of g.now) ag / 4) found.clusters.items) }
+    ensures placed { IfOk result (λ found. ClustersPlaced (volume_of g.now) ag (group_length (volume_of g.now) ag / 4) found.clusters.items) }
     ensures cause { HasGroupsCause (D.faults disk.old) (D.faults disk.new) result }
     ensures disk { OnlyReads D.size D.holds D.write_faults D.writes D.tells_stops D.moment D.may_leave D.left_since disk.old disk.new }
 {
@@ -75,7 +75,7 @@ pub(crate) fn scan_group<D: Disk, L: Ledger>(
     }
     let rest = start + (blocks / 4 * 4) as u64;
     match look_at(g, disk, held, rest, blocks % 4, &mut reserved, steps) {
-        Ok(_) => Ok(Scanned { clusters, reserved }),
+        Ok(_) => Ok(ScannedGroup { clusters, reserved }),
         Err(fault) => Err(fault),
     }
 }
@@ -130,7 +130,7 @@ fn look_at<D: Disk, L: Ledger>(
 
 /// Whether nothing new is placed on a block, since trees hold it, or its bytes do.
 fn is_withheld(held: &BlockSet, block: u64, seen: &BlockSeen) -> bool
-    ensures { result ≡ (has held.now block || (seen.now.naming || seen.now.used)) }
+    ensures { result ≡ (is_among held.now block || (seen.now.naming || seen.now.used)) }
 {
     held.has(block) || seen.naming || seen.used
 }

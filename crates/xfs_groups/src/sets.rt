@@ -4,8 +4,8 @@ ghost use Rattle.std.specs.Prelude.{◌≡◌, ◌+◌, ◌*◌, ◌^◌, ◌<�
 ghost use Rattle.std.specs.List.{All, filter, list_any, range_with_len};
 ghost use Rattle.std.specs.List.Sorted.{IsStrictlySortedBy};
 ghost use Rattle.std.specs.Ordering.{nat_cmp};
+ghost use Rattle.xfs_disk.specs.Lists.{is_among};
 ghost use Rattle.xfs_image.specs.Claims.{is_of_cluster};
-ghost use Rattle.xfs_groups.specs.Sets.{has};
 
 use std::alloc::Global;
 use std::collections::BTreeSet;
@@ -38,14 +38,14 @@ impl BlockSet {
 
     /// Whether the block is one of the set.
     pub fn has(&self, block: u64) -> bool
-        ensures { result ≡ has self.now block }
+        ensures { result ≡ is_among self.now block }
     {
         self.set.contains(&block)
     }
 
     /// Adds a block.
     pub fn add(&mut self, block: u64) -> Result<(), NoMemory>
-        ensures { OnOk result ((q : ℕ) → has self.new q ≡ (has self.old q || block == q)) }
+        ensures { OnOk result ((q : ℕ) → is_among self.new q ≡ (is_among self.old q || block == q)) }
     {
         self.set.insert(block)?;
         Ok(())
@@ -53,7 +53,7 @@ impl BlockSet {
 
     /// Adds some blocks.
     pub fn add_all(&mut self, blocks: &[u64]) -> Result<(), NoMemory>
-        ensures { OnOk result ((q : ℕ) → has self.new q ≡ (has self.old q || has blocks.now q)) }
+        ensures { OnOk result ((q : ℕ) → is_among self.new q ≡ (is_among self.old q || is_among blocks.now q)) }
     {
         for block in blocks {
             self.add(*block)?;
@@ -64,7 +64,7 @@ impl BlockSet {
     /// Adds the four blocks of each of some clusters.
     pub fn add_clusters(&mut self, clusters: &[u64]) -> Result<(), NoMemory>
         requires { All (λ cluster. cluster < 2 ^ 32) clusters.now }
-        ensures { OnOk result ((q : ℕ) → has self.new q ≡ (has self.old q || list_any (λ cluster. is_of_cluster cluster q) clusters.now)) }
+        ensures { OnOk result ((q : ℕ) → is_among self.new q ≡ (is_among self.old q || list_any (λ cluster. is_of_cluster cluster q) clusters.now)) }
     {
         for cluster in clusters {
             self.add_cluster(*cluster)?;
@@ -76,7 +76,7 @@ impl BlockSet {
     #[tactic(auto, using(crate::proofs::BlockSets::four_blocks))]
     fn add_cluster(&mut self, cluster: u64) -> Result<(), NoMemory>
         requires { cluster < 2 ^ 32 }
-        ensures { OnOk result ((q : ℕ) → has self.new q ≡ (has self.old q || is_of_cluster cluster q)) }
+        ensures { OnOk result ((q : ℕ) → is_among self.new q ≡ (is_among self.old q || is_of_cluster cluster q)) }
     {
         self.add(cluster)?;
         self.add(cluster + 1)?;
@@ -87,7 +87,7 @@ impl BlockSet {
     /// Those of the set that are one of so many blocks from a first one on, ascending.
     pub fn within(&self, alloc: Global, first: u64, count: u32) -> Result<Vec<u64>, NoMemory>
         requires { first < 2 ^ 32 }
-        ensures { IfOk result (λ blocks. blocks.items ≡ filter (has self.now) (range_with_len first count)) }
+        ensures { IfOk result (λ blocks. blocks.items ≡ filter (is_among self.now) (range_with_len first count)) }
     {
         self.between(alloc, first, first + count as u64)
     }

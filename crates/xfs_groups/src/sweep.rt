@@ -3,8 +3,8 @@
 ghost use Rattle.std.specs.Prelude.{◌≡◌, ◌+◌, ◌^◌, ◌<◌, ◌≤◌, ℕ, drop, length, IfOk};
 ghost use Rattle.std.specs.List.{All, list_all, range_with_len};
 ghost use Rattle.xfs_geom.specs.Volumes.{volume_of};
-ghost use Rattle.xfs_image.specs.Clusters.{given_clusters, is_given};
-ghost use Rattle.xfs_groups.specs.Named.{AreApart, EndBehind, GiveAlike, begins_by, ends_before};
+ghost use Rattle.xfs_image.specs.Clusters.{given_clusters, is_given_block};
+ghost use Rattle.xfs_groups.specs.Named.{RecordsApart, EndBehind, GiveAlike, begins_by, ends_before};
 
 use crate::sets::push_if;
 use std::alloc::Global;
@@ -24,7 +24,7 @@ pub(crate) fn given_clusters(
     records: &[RmapRec],
 ) -> Result<Blocks, NoMemory>
     requires { ag < g.now.agcount }
-    ensures given { AreApart 0 records.now → IfOk result (λ clusters. clusters ≡ given_clusters (volume_of g.now) ag records.now) }
+    ensures given { RecordsApart 0 records.now → IfOk result (λ clusters. clusters ≡ given_clusters (volume_of g.now) ag records.now) }
     ensures low { IfOk result (λ clusters. All (λ cluster. cluster < 2 ^ 32) clusters) }
 {
     let start = g.start_of_group(ag);
@@ -42,7 +42,7 @@ pub(crate) fn given_clusters(
 fn are_given(records: &[RmapRec], from: usize, place: u32, count: u32) -> bool
     requires from { from ≤ length records.now }
     requires place { place + count < 2 ^ 32 }
-    ensures { AreApart 0 records.now → result ≡ list_all (is_given (drop from records.now)) (range_with_len place count) }
+    ensures { RecordsApart 0 records.now → result ≡ list_all (is_given_block (drop from records.now)) (range_with_len place count) }
 {
     let mut next = from;
     for k in 0..count {
@@ -57,7 +57,7 @@ fn are_given(records: &[RmapRec], from: usize, place: u32, count: u32) -> bool
 /// Whether an AG block is given, where the record at an index is the first that ends behind it.
 fn is_given_at(records: &[RmapRec], at: usize, block: u32) -> bool
     requires { at ≤ length records.now }
-    ensures { AreApart 0 (drop at records.now) → EndBehind block (drop at records.now) → result ≡ is_given (drop at records.now) block }
+    ensures { RecordsApart 0 (drop at records.now) → EndBehind block (drop at records.now) → result ≡ is_given_block (drop at records.now) block }
 {
     if at == records.len() {
         return false;

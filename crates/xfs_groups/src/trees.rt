@@ -5,7 +5,7 @@ ghost use Rattle.std.specs.Option.{ForSome, option_and_then};
 ghost use Rattle.xfs_geom.specs.Volumes.{volume_of};
 ghost use Rattle.xfs_heads.specs.FreeSpace.{is_agf_shaped};
 ghost use Rattle.xfs_heads.specs.Inodes.{is_agi_shaped};
-ghost use Rattle.xfs_image.specs.Groups.{blocks_in, bno_at, cnt_at, fino_at, ino_at, rmap_at, tree_at};
+ghost use Rattle.xfs_image.specs.Groups.{blocks_in_tree, bno_at, cnt_at, fino_at, ino_at, rmap_at, tree_at};
 ghost use Rattle.xfs_disk.specs.Reads.{OnlyReads};
 ghost use Rattle.xfs_groups.specs.Answers.{HasGroupsCause};
 
@@ -19,7 +19,7 @@ use xfs_geom::{Geometry, InoRec, RmapRec, Span};
 use xfs_heads::{Agf, Agi};
 use xfs_kinds::{Bno, Cnt, Fino, Ino, Rmap};
 use xfs_runs::Steps;
-use xfs_tree::{Kind, Tree, TreeError, read_tree};
+use xfs_tree::{Kind, Tree, TreeFault, read_tree};
 use xfs_volume::{Blocks, Records, TreeBlocks};
 
 /// A tree that reads: its records in order, and its blocks by number.
@@ -55,7 +55,7 @@ impl<R: Drop> TreeSeen<R> {
     /// Both.
     pub fn into_parts(self) -> (Records<R>, TreeBlocks)
         ensures records { result.0 ≡ self.records }
-        ensures blocks { result.1 ≡ blocks_in self }
+        ensures blocks { result.1 ≡ blocks_in_tree self }
     {
         let TreeSeen { records, blocks } = self;
         let blocks = Blocks::from_vec(blocks);
@@ -296,9 +296,9 @@ fn read_at<K: Kind, D: Disk, L: Ledger>(
         steps,
     ) {
         Ok(tree) => Ok(Some(seen(tree))),
-        Err(TreeError::Unread(_)) => Ok(None),
-        Err(TreeError::ReadFault) => Err(GroupsFault::ReadFault),
-        Err(TreeError::NoMemory) => Err(GroupsFault::NoMemory),
+        Err(TreeFault::Unread(_)) => Ok(None),
+        Err(TreeFault::ReadFault) => Err(GroupsFault::ReadFault),
+        Err(TreeFault::NoMemory) => Err(GroupsFault::NoMemory),
     }
 }
 

@@ -3,7 +3,7 @@ use Rattle.std.proofs.Common.{◌≡◌, ℕ, zero, suc, ◌+◌, ◌-◌, ◌<�
 use Rattle.std.specs.Prelude.{nat_le, nat_lt}
 use Rattle.std.specs.List.{list_all, prefix_len}
 use Rattle.std.proofs.lemmas.Bool.{leb-true, ltb-true, eqb-true}
-use Rattle.xfs_heads.specs.Log.{is_unwritten, is_of_cycle, first_cycle, front, ends_in_unmount, is_record, is_unmounted, has_cleared_cycles, is_cleared, HasHead, IsAlone}
+use Rattle.xfs_heads.specs.Log.{is_unwritten_sector, is_of_cycle, first_cycle, front, ends_in_unmount, is_record, is_unmounted, has_cleared_cycles, is_cleared, HasHead, IsAlone}
 use Rattle.xfs_heads.specs.declared.log.SectorSeen.{SectorSeen}
 
 pub left : (a b : Bool) → (a && b) ≡ true → a ≡ true
@@ -40,12 +40,12 @@ before_stop cycle (x ∷ xs) later all =
     let not_it : is_of_cycle cycle x ≡ false = grind (arith, is) in
     ap (λ (b : Bool). cond b (1 + prefix_len (is_of_cycle cycle) xs) 0) not_it
 
-unwritten_stop : (cycle n : ℕ) (xs : List SectorSeen) → 1 ≤ cycle → 1 ≤ n → list_all is_unwritten (take n xs) ≡ true
+unwritten_stop : (cycle n : ℕ) (xs : List SectorSeen) → 1 ≤ cycle → 1 ≤ n → list_all is_unwritten_sector (take n xs) ≡ true
     → prefix_len (is_of_cycle cycle) xs ≡ 0
 unwritten_stop cycle n [] later some all = refl
 unwritten_stop cycle zero (x ∷ xs) later some all = absurd (omega arith)
 unwritten_stop cycle (suc n) (x ∷ xs) later some all =
-    let is : x.cycle ≡ 0 = eqb-true _ _ (left _ (not x.header) (left (is_unwritten x) _ all)) in
+    let is : x.cycle ≡ 0 = eqb-true _ _ (left _ (not x.header) (left (is_unwritten_sector x) _ all)) in
     let not_it : is_of_cycle cycle x ≡ false = grind (arith, is) in
     ap (λ (b : Bool). cond b (1 + prefix_len (is_of_cycle cycle) xs) 0) not_it
 
@@ -60,12 +60,12 @@ front_is seen cycle head f =
     let first = first_of_front seen cycle head f.some f.inside f.first in
     sym (prefix_stop (is_of_cycle cycle) head seen f.inside f.first f.stop) ∙ ap (λ (c : ℕ). prefix_len (is_of_cycle c) seen) first
 
-written : (seen : List SectorSeen) (cycle head : ℕ) → Front seen cycle head → list_all is_unwritten seen ≡ false
+written : (seen : List SectorSeen) (cycle head : ℕ) → Front seen cycle head → list_all is_unwritten_sector seen ≡ false
 written [] cycle head f = absurd (omega (arith, f.some, f.inside))
 written (x ∷ xs) cycle head f =
     let first : cycle ≡ x.cycle = first_of_front (x ∷ xs) cycle head f.some f.inside f.first in
-    let not_it : is_unwritten x ≡ false = grind (arith, first, f.later) in
-    ap (λ (b : Bool). b && list_all is_unwritten xs) not_it
+    let not_it : is_unwritten_sector x ≡ false = grind (arith, first, f.later) in
+    ap (λ (b : Bool). b && list_all is_unwritten_sector xs) not_it
 
 six : (a b d e f g : Bool) → (a && b && d && e && f && g) ≡ true → (a ≡ true) × (b ≡ true) × (d ≡ true) × (e ≡ true) × (f ≡ true) × (g ≡ true)
 six a b d e f g h =
@@ -106,13 +106,13 @@ record Cleared (seen : List SectorSeen) (cycle head : ℕ) : Type 0 where
   some : 1 ≤ head
   small : head < 512
   first : list_all (is_of_cycle cycle) (take head seen) ≡ true
-  unwritten : list_all is_unwritten (take (512 - head) (drop head seen)) ≡ true
+  unwritten : list_all is_unwritten_sector (take (512 - head) (drop head seen)) ≡ true
 
 cleared : (seen : List SectorSeen) (cycle head : ℕ) → is_cleared seen cycle head ≡ true → Cleared seen cycle head
 unfolding is_cleared has_cleared_cycles
 cleared seen cycle head h =
     let first = list_all (is_of_cycle cycle) (take head seen) in
-    let unwritten = list_all is_unwritten (take (512 - head) (drop head seen)) in
+    let unwritten = list_all is_unwritten_sector (take (512 - head) (drop head seen)) in
     let others = list_all (is_of_cycle (cycle - 1)) (drop 512 seen) in
     let is =
     six (nat_le 512 (length seen)) (nat_le 2 cycle) (nat_le 1 head) (nat_lt head 512) (first && unwritten && others) (is_record seen head) h in
@@ -143,12 +143,12 @@ of_head seen cycle head h = elim h [ inl u ↦ of_unmounted seen cycle head u | 
 
 -- sectors cannot have the cycle before a late one, and never be written
 clash : (cycle n : ℕ) (xs : List SectorSeen) → 2 ≤ cycle → 1 ≤ n → 1 ≤ length xs → list_all (is_of_cycle (cycle - 1)) xs ≡ true
-    → list_all is_unwritten (take n xs) ≡ true → ⊥
+    → list_all is_unwritten_sector (take n xs) ≡ true → ⊥
 clash cycle n [] later some long all unwritten = omega (arith, long)
 clash cycle zero (x ∷ xs) later some long all unwritten = omega (arith, some)
 clash cycle (suc n) (x ∷ xs) later some long all unwritten =
     let is : x.cycle ≡ cycle - 1 = eqb-true _ _ (left (is_of_cycle (cycle - 1) x) _ all) in
-    let none : x.cycle ≡ 0 = eqb-true _ _ (left _ (not x.header) (left (is_unwritten x) _ unwritten)) in
+    let none : x.cycle ≡ 0 = eqb-true _ _ (left _ (not x.header) (left (is_unwritten_sector x) _ unwritten)) in
     omega (arith, is, none, later)
 
 not_both : (seen : List SectorSeen) (cycle head other place : ℕ) → is_unmounted seen cycle head ≡ true → is_cleared seen other place ≡ true → ⊥
@@ -163,7 +163,7 @@ not_both seen cycle head other place u d =
     let rest : 1 ≤ 512 - head = omega (arith, is.small, same_place) in
     let long : 1 ≤ length (drop head seen) = omega (arith, is.small, is.long, same_place, length-drop {A = SectorSeen}) in
     clash cycle (512 - head) (drop head seen) later rest long (unmounted seen cycle head u).4
-    (ap (λ (h : ℕ). list_all is_unwritten (take (512 - h) (drop h seen))) same_place ∙ is.unwritten)
+    (ap (λ (h : ℕ). list_all is_unwritten_sector (take (512 - h) (drop h seen))) same_place ∙ is.unwritten)
 
 pub alone : (seen : List SectorSeen) → IsAlone seen
 alone seen = record {

@@ -1,8 +1,7 @@
 -- Fields of bytes that are zero, and a byte of a field.
 use Rattle.std.proofs.Common.{◌≡◌, ℕ, ◌+◌, ◌-◌, ◌/◌, ◌%◌, ◌^◌, ◌<◌, ◌≤◌, List, drop, get_or, get_or-take, get_or-drop, sym, ap, ◌∙◌, arith}
 use Rattle.std.proofs.lemmas.List.{get_or-replicate}
-use Rattle.xfs_word.specs.Field.{field_of, part_of}
-use Rattle.xfs_heads.specs.Heads.{zeros, IsZero}
+use Rattle.xfs_word.specs.Field.{field_of, part_of, zeros, IsZero}
 
 zero_byte : (bytes : List ℕ) (at width k : ℕ) → IsZero bytes at width → at ≤ k → k < at + width → get_or bytes k 0 ≡ 0
 unfolding part_of zeros

@@ -2,7 +2,7 @@
 use Rattle.std.proofs.Common.{◌≡◌, ℕ, ◌^◌, Bool, true, false, ◌||◌, ◌⊎◌, cond, List, length, inl, inr, refl, sym, ap, ap₂, ◌∙◌}
 use Rattle.std.specs.List.{list_all}
 use Rattle.std.proofs.lemmas.Bool.{cond-true, cond-false}
-use Rattle.xfs_heads.specs.Log.{is_unwritten, first_cycle, front, is_unmounted, is_cleared, head_number, IsHead, state_of}
+use Rattle.xfs_heads.specs.Log.{is_unwritten_sector, first_cycle, front, is_unmounted, is_cleared, head_number, IsHead, state_of}
 use Rattle.xfs_heads.specs.declared.log.SectorSeen.{SectorSeen}
 use Rattle.xfs_heads.specs.declared.log.state.LogState.{LogState}
 use Rattle.xfs_heads.specs.declared.log.state.LogState.TheVariants.{Clean, Dirty}
@@ -28,7 +28,7 @@ either : (a b : Bool) → (a ≡ true) ⊎ (b ≡ true) → (a || b) ≡ true
 either true b h = refl
 either false b h = elim h [ inl wrong ↦ absurd (differ wrong) | inr is ↦ is ]
 
-found : (seen : List SectorSeen) (number : ℕ) (r s : Bool) → list_all is_unwritten seen ≡ r
+found : (seen : List SectorSeen) (number : ℕ) (r s : Bool) → list_all is_unwritten_sector seen ≡ r
     → (is_unmounted seen (first_cycle seen) (front seen) || is_cleared seen (first_cycle seen) (front seen)) ≡ s
     → cond r (Clean (2 ^ 32)) (cond s (Clean (head_number (first_cycle seen) (front seen) (length seen))) Dirty) ≡ Clean number
     → IsHead seen number

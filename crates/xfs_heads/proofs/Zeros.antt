@@ -1,8 +1,7 @@
 -- Parts of bytes that are zero.
 use Rattle.std.proofs.Common.{◌≡◌, ℕ, ◌+◌, ◌≤◌, ◌-◌, List, take, drop, replicate, ◌∙◌, ap, arith}
 use Rattle.std.proofs.lemmas.List.{take-replicate, drop-replicate}
-use Rattle.xfs_word.specs.Field.{part_of}
-use Rattle.xfs_heads.specs.Heads.{zeros, IsZero}
+use Rattle.xfs_word.specs.Field.{part_of, zeros, IsZero}
 
 pub zero_part : (bytes : List ℕ) (n at width : ℕ) → bytes ≡ replicate n 0 → at + width ≤ n → IsZero bytes at width
 unfolding part_of zeros

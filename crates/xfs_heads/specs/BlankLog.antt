@@ -1,8 +1,7 @@
 -- A blank log: an unmount record of one cycle at its start, and nothing else (chapter "Journaling Log").
 use Rattle.std.specs.Prelude.{◌≡◌, ℕ, zero, suc, ◌-◌, ◌*◌, ◌^◌, true, false, List, map}
 use Rattle.std.specs.List.{range_with_len}
-use Rattle.xfs_word.specs.Field.{field_of, part_of}
-use Rattle.xfs_heads.specs.Heads.{IsZero}
+use Rattle.xfs_word.specs.Field.{field_of, part_of, IsZero}
 use Rattle.xfs_heads.specs.declared.log.SectorSeen.{SectorSeen}
 
 -- the header of a blank log's record, in the cycle of this number, with zeros beside its fields

@@ -6,7 +6,7 @@ use Rattle.xfs_word.specs.Seal.{is_sealed}
 use Rattle.xfs_word.specs.declared.kinds.SealKind.TheVariants as Kind
 use Rattle.xfs_geom.specs.Conversions.{group_length}
 use Rattle.xfs_geom.specs.Volumes.{Volume}
-use Rattle.xfs_heads.specs.Heads.{head_seal, is_level, is_root}
+use Rattle.xfs_heads.specs.Heads.{head_seal, is_level, is_root_block}
 use Rattle.xfs_heads.specs.declared.free_space.Agf.{Agf}
 
 -- the values that a sector states
@@ -49,9 +49,9 @@ is_agf_shaped v ag agf =
     && is_level agf.bnolevel
     && is_level agf.cntlevel
     && is_level agf.rmaplevel
-    && is_root agf.bnoroot agf.length
-    && is_root agf.cntroot agf.length
-    && is_root agf.rmaproot agf.length
+    && is_root_block agf.bnoroot agf.length
+    && is_root_block agf.cntroot agf.length
+    && is_root_block agf.rmaproot agf.length
     && has_free_list agf
 
 -- the header of a group's free space, where the sector is sealed as it and has its shape

@@ -6,7 +6,7 @@ use Rattle.xfs_word.specs.Seal.{is_sealed}
 use Rattle.xfs_word.specs.declared.kinds.SealKind.TheVariants as Kind
 use Rattle.xfs_geom.specs.Conversions.{group_length}
 use Rattle.xfs_geom.specs.Volumes.{Volume}
-use Rattle.xfs_heads.specs.Heads.{head_seal, is_level, is_root, numbers}
+use Rattle.xfs_heads.specs.Heads.{head_seal, is_level, is_root_block, numbers}
 use Rattle.xfs_heads.specs.declared.inodes.Agi.{Agi}
 
 -- the values that a sector states
@@ -37,8 +37,8 @@ is_agi_shaped v ag agi =
     && agi.length == group_length v ag
     && is_level agi.level
     && is_level agi.free_level
-    && is_root agi.root agi.length
-    && is_root agi.free_root agi.length
+    && is_root_block agi.root agi.length
+    && is_root_block agi.free_root agi.length
 
 -- the header of a group's inodes, where the sector is sealed as it and has its shape
 unfoldable pub agi_of : Volume → ℕ → List ℕ → Option Agi

@@ -2,6 +2,7 @@
 use Rattle.std.specs.Prelude.{◌≡◌, ℕ, ◌+◌, ◌-◌, ◌*◌, ◌/◌, ◌%◌, ◌^◌, ◌⊎◌, Bool, false, not, ◌&&◌, ◌||◌, ◌==◌, nat_le, nat_lt, min, if◌then◌else◌, List, [], ◌∷◌, length, take, drop, slice_index_or, Option, Some, None, IsTrue}
 use Rattle.std.specs.List.{list_all, prefix_len}
 use Rattle.std.specs.Int.RustNames.{bit_and}
+use Rattle.xfs_geom.specs.Features.{or_else}
 use Rattle.xfs_word.specs.Field.{field_of}
 use Rattle.xfs_heads.specs.declared.log.SectorSeen.{SectorSeen}
 use Rattle.xfs_heads.specs.declared.log.state.LogState.{LogState}
@@ -37,8 +38,8 @@ unfoldable pub has_unmount_flag : SectorSeen → Bool
 has_unmount_flag sector = not (bit_and sector.flag 0x20 == 0)
 
 -- a sector that was never written
-abbrev pub is_unwritten : SectorSeen → Bool
-is_unwritten sector = sector.cycle == 0 && not sector.header
+abbrev pub is_unwritten_sector : SectorSeen → Bool
+is_unwritten_sector sector = sector.cycle == 0 && not sector.header
 
 -- a sector of this cycle
 abbrev pub is_of_cycle : ℕ → SectorSeen → Bool
@@ -66,11 +67,6 @@ one_further None first = if first then Some 0 else None
 unfoldable pub last_header : List SectorSeen → Option ℕ
 last_header [] = None
 last_header (sector ∷ sectors) = one_further (last_header sectors) sector.header
-
--- the one, or where there is none the other
-abbrev pub or_else : Option ℕ → Option ℕ → Option ℕ
-or_else (Some place) other = Some place
-or_else None other = other
 
 -- the place of the nearest header, going back from the sector before this one and around the start
 unfoldable pub nearest_header : List SectorSeen → ℕ → Option ℕ
@@ -112,20 +108,20 @@ is_unmounted seen cycle head =
     && ends_in_unmount seen head
 
 -- the place, where there is one, is the first
-abbrev pub is_first : Option ℕ → Bool
-is_first None = false
-is_first (Some place) = place == 0
+abbrev pub is_at_start : Option ℕ → Bool
+is_at_start None = false
+is_at_start (Some place) = place == 0
 
 -- the first sectors, so many, are an unmount record alone, with one header
 unfoldable pub is_record : List SectorSeen → ℕ → Bool
-is_record seen head = is_first (last_header (take head seen)) && record_sectors (sector_at seen 0) == head && is_unmount seen 0
+is_record seen head = is_at_start (last_header (take head seen)) && record_sectors (sector_at seen 0) == head && is_unmount seen 0
 
 -- the first sectors, so many, have this cycle, those behind them up to sector 512 were never written, and all others have
 -- the cycle before it
 unfoldable pub has_cleared_cycles : List SectorSeen → ℕ → ℕ → Bool
 has_cleared_cycles seen cycle head =
     list_all (is_of_cycle cycle) (take head seen)
-    && list_all is_unwritten (take (512 - head) (drop head seen))
+    && list_all is_unwritten_sector (take (512 - head) (drop head seen))
     && list_all (is_of_cycle (cycle - 1)) (drop 512 seen)
 
 -- the tools of XFS cleared the log: they write 512 sectors at once, of which the first, so many, are an unmount record
@@ -149,7 +145,7 @@ HasHead seen cycle head = IsTrue (is_unmounted seen cycle head) ⊎ IsTrue (is_c
 -- the log is clean, and this is the number of its head
 abbrev pub IsHead : List SectorSeen → ℕ → Type 0
 IsHead seen number =
-    (IsTrue (list_all is_unwritten seen) × (number ≡ 2 ^ 32))
+    (IsTrue (list_all is_unwritten_sector seen) × (number ≡ 2 ^ 32))
     ⊎ ((cycle head : ℕ) × HasHead seen cycle head × (number ≡ head_number cycle head (length seen)))
 
 -- how many sectors from the start on have the cycle of the first
@@ -158,7 +154,7 @@ front seen = prefix_len (is_of_cycle (first_cycle seen)) seen
 
 -- no two of the cases hold at once, and each holds of one cycle and one sector alone
 pub record IsAlone (seen : List SectorSeen) : Type 0 where
-  pub written : (cycle head : ℕ) → HasHead seen cycle head → list_all is_unwritten seen ≡ false
+  pub written : (cycle head : ℕ) → HasHead seen cycle head → list_all is_unwritten_sector seen ≡ false
   pub apart : (cycle head other place : ℕ) → IsTrue (is_unmounted seen cycle head) → is_cleared seen other place ≡ false
   pub cycle : (cycle head : ℕ) → HasHead seen cycle head → cycle ≡ first_cycle seen
   pub place : (cycle head : ℕ) → HasHead seen cycle head → head ≡ front seen
@@ -166,7 +162,7 @@ pub record IsAlone (seen : List SectorSeen) : Type 0 where
 -- whether a log is clean, and where its head is
 unfoldable pub state_of : List SectorSeen → LogState
 state_of seen =
-    if list_all is_unwritten seen then Clean (2 ^ 32)
+    if list_all is_unwritten_sector seen then Clean (2 ^ 32)
     else if is_unmounted seen (first_cycle seen) (front seen) || is_cleared seen (first_cycle seen) (front seen)
     then Clean (head_number (first_cycle seen) (front seen) (length seen))
     else Dirty

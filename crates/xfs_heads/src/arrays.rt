@@ -1,7 +1,7 @@
 //! Arrays of numbers in on-disk objects.
 
 ghost use Rattle.std.specs.Prelude.{◌≡◌, ℕ, ◌+◌, ◌*◌, ◌<◌, ◌≤◌, length};
-ghost use Rattle.xfs_word.specs.Field.{field_of, Keeps, KeepsParts};
+ghost use Rattle.xfs_word.specs.Field.{field_of, KeepsBeside, KeepsParts};
 ghost use Rattle.xfs_heads.specs.Heads.{numbers};
 
 use xfs_word::{Form, get32, put32};
@@ -29,7 +29,7 @@ impl ArrayLayout {
     pub fn write(&self, bytes: &mut [u8], index: usize, value: u32)
         requires { self.now.offset + 4 * index + 4 ≤ length bytes.old }
         ensures put { field_of bytes.new (self.now.offset + 4 * index) 4 ≡ value }
-        ensures keeps { Keeps bytes.old bytes.new (self.now.offset + 4 * index) 4 }
+        ensures keeps { KeepsBeside bytes.old bytes.new (self.now.offset + 4 * index) 4 }
         ensures keeps_parts { KeepsParts bytes.old bytes.new (self.now.offset + 4 * index) 4 }
     {
         put32(bytes, self.offset + 4 * index, value);
@@ -51,7 +51,7 @@ impl ArrayLayout {
     pub fn write_all(&self, bytes: &mut [u8], values: &[u32])
         requires { self.now.offset + 4 * length values.now ≤ length bytes.old }
         ensures put { numbers bytes.new self.now.offset (length values.now) ≡ values.now }
-        ensures keeps { Keeps bytes.old bytes.new self.now.offset (4 * length values.now) }
+        ensures keeps { KeepsBeside bytes.old bytes.new self.now.offset (4 * length values.now) }
         ensures keeps_parts { KeepsParts bytes.old bytes.new self.now.offset (4 * length values.now) }
     {
         for (index, value) in values.iter().enumerate() {

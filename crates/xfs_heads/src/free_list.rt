@@ -2,7 +2,7 @@
 
 ghost use Rattle.std.specs.Prelude.{◌≡◌, ℕ, ◌-◌, ◌<◌, ◌≤◌, length, take, drop, Some, IfSome, IsTrue};
 ghost use Rattle.std.specs.List.{list_all};
-ghost use Rattle.xfs_word.specs.Field.{field_of, part_of, Keeps, KeepsParts};
+ghost use Rattle.xfs_word.specs.Field.{field_of, part_of, KeepsBeside, KeepsParts};
 ghost use Rattle.xfs_word.specs.Seal.{is_ready, is_sealed};
 ghost use Rattle.xfs_word.specs.declared.kinds.SealKind.TheVariants as Kind;
 ghost use Rattle.xfs_geom.specs.Volumes.{volume_of};
@@ -157,7 +157,7 @@ fn put_head(g: &Geometry, ag: u32, sector: &mut [u8])
 fn put_entries(entries: &[u32; 119], sector: &mut [u8])
     requires { length sector.old ≡ 512 }
     ensures put { numbers sector.new 36 119 ≡ entries.now }
-    ensures keeps { Keeps sector.old sector.new 36 476 }
+    ensures keeps { KeepsBeside sector.old sector.new 36 476 }
     ensures keeps_parts { KeepsParts sector.old sector.new 36 476 }
 {
     BNO.write_all(sector, entries);
@@ -169,7 +169,7 @@ fn seal_agfl(g: &Geometry, ag: u32, sector: &mut [u8])
     requires ready { IsTrue (is_ready (head_seal Kind.Agfl (volume_of g.now) ag) sector.old) }
     ensures sealed { IsTrue (is_sealed (head_seal Kind.Agfl (volume_of g.now) ag) sector.new) }
     ensures entries { numbers sector.new 36 119 ≡ numbers sector.old 36 119 }
-    ensures keeps { Keeps sector.old sector.new 32 4 }
+    ensures keeps { KeepsBeside sector.old sector.new 32 4 }
 {
     seal_head(SealKind::Agfl, g, ag, sector);
 }

@@ -2,14 +2,14 @@
 
 ghost use Rattle.std.specs.Prelude.{◌≡◌, ℕ, ◌<◌, ◌≤◌, length, Some, IfSome, IsTrue};
 ghost use Rattle.xfs_word.specs.Crc.{little_field_of};
-ghost use Rattle.xfs_word.specs.Field.{field_of, part_of, Keeps, KeepsParts};
+ghost use Rattle.xfs_word.specs.Field.{field_of, part_of, KeepsBeside, KeepsParts, IsZero};
 ghost use Rattle.xfs_word.specs.Seal.{is_lsn, is_ready, is_sealed};
 ghost use Rattle.xfs_word.specs.declared.kinds.SealKind.TheVariants as Kind;
 ghost use Rattle.xfs_geom.specs.Volumes.{volume_of};
-ghost use Rattle.xfs_heads.specs.Heads.{head_seal, IsZero};
+ghost use Rattle.xfs_heads.specs.Heads.{head_seal};
 ghost use Rattle.xfs_heads.specs.FreeSpace.{stated_agf, is_agf_shaped, agf_of};
 
-use crate::heads::{clear, head_seal, is_level, is_root, seal_head};
+use crate::heads::{clear, head_seal, is_level, is_root_block, seal_head};
 use crate::layouts::agf::{
     BNOLEVEL, BNOROOT, BTREEBLKS, CNTLEVEL, CNTROOT, CRC, FLCOUNT, FLFIRST, FLLAST, FREEBLKS,
     LENGTH, LONGEST, LSN, MAGICNUM, RMAPBLOCKS, RMAPLEVEL, RMAPROOT, SEQNO, UUID, VERSIONNUM,
@@ -68,9 +68,9 @@ impl Agf {
             && is_level(self.bnolevel)
             && is_level(self.cntlevel)
             && is_level(self.rmaplevel)
-            && is_root(self.bnoroot, self.length)
-            && is_root(self.cntroot, self.length)
-            && is_root(self.rmaproot, self.length)
+            && is_root_block(self.bnoroot, self.length)
+            && is_root_block(self.cntroot, self.length)
+            && is_root_block(self.rmaproot, self.length)
             && self.has_free_list()
     }
 
@@ -192,7 +192,7 @@ fn put_trees(agf: &Agf, sector: &mut [u8])
     ensures bnolevel { field_of sector.new 28 4 ≡ agf.now.bnolevel }
     ensures cntlevel { field_of sector.new 32 4 ≡ agf.now.cntlevel }
     ensures rmaplevel { field_of sector.new 36 4 ≡ agf.now.rmaplevel }
-    ensures keeps { Keeps sector.old sector.new 0 40 }
+    ensures keeps { KeepsBeside sector.old sector.new 0 40 }
     ensures keeps_parts { KeepsParts sector.old sector.new 0 40 }
 {
     put32(sector, MAGICNUM.offset, agf.magicnum);
@@ -216,7 +216,7 @@ fn put_counts(agf: &Agf, sector: &mut [u8])
     ensures freeblks { field_of sector.new 52 4 ≡ agf.now.freeblks }
     ensures longest { field_of sector.new 56 4 ≡ agf.now.longest }
     ensures btreeblks { field_of sector.new 60 4 ≡ agf.now.btreeblks }
-    ensures keeps { Keeps sector.old sector.new 40 24 }
+    ensures keeps { KeepsBeside sector.old sector.new 40 24 }
     ensures keeps_parts { KeepsParts sector.old sector.new 40 24 }
 {
     put32(sector, FLFIRST.offset, agf.flfirst);

@@ -1,10 +1,10 @@
 //! What the headers of an allocation group have in common.
 
 ghost use Rattle.std.specs.Prelude.{◌≡◌, ℕ, ◌+◌, ◌<◌, ◌≤◌, length, IsTrue};
-ghost use Rattle.xfs_word.specs.Field.{Keeps, KeepsParts};
+ghost use Rattle.xfs_word.specs.Field.{KeepsBeside, KeepsParts, IsZero};
 ghost use Rattle.xfs_word.specs.Seal.{layout_of, is_ready, is_sealed};
 ghost use Rattle.xfs_geom.specs.Volumes.{volume_of};
-ghost use Rattle.xfs_heads.specs.Heads.{head_seal, is_level, is_root, is_listable, IsZero};
+ghost use Rattle.xfs_heads.specs.Heads.{head_seal, is_level, is_root_block, is_listable};
 
 use xfs_geom::Geometry;
 use xfs_word::{Seal, SealKind, seal};
@@ -26,7 +26,7 @@ pub fn seal_head(kind: SealKind, g: &Geometry, ag: u32, sector: &mut [u8])
     requires sector { length sector.old ≡ (layout_of kind).size }
     requires ready { IsTrue (is_ready (head_seal kind (volume_of g.now) ag) sector.old) }
     ensures sealed { IsTrue (is_sealed (head_seal kind (volume_of g.now) ag) sector.new) }
-    ensures keeps { Keeps sector.old sector.new (layout_of kind).checksum 4 }
+    ensures keeps { KeepsBeside sector.old sector.new (layout_of kind).checksum 4 }
     ensures keeps_parts { KeepsParts sector.old sector.new (layout_of kind).checksum 4 }
 {
     seal(&head_seal(kind, g, ag), sector);
@@ -40,8 +40,8 @@ pub fn is_level(level: u32) -> bool
 }
 
 /// Whether an AG block can be a tree's root in a group of `length` blocks.
-pub fn is_root(root: u32, length: u32) -> bool
-    ensures { result ≡ is_root root length }
+pub fn is_root_block(root: u32, length: u32) -> bool
+    ensures { result ≡ is_root_block root length }
 {
     1 <= root && root < length
 }

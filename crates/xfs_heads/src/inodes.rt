@@ -2,14 +2,14 @@
 
 ghost use Rattle.std.specs.Prelude.{◌≡◌, ℕ, ◌<◌, ◌≤◌, length, Some, IfSome, IsTrue};
 ghost use Rattle.xfs_word.specs.Crc.{little_field_of};
-ghost use Rattle.xfs_word.specs.Field.{field_of, part_of, Keeps, KeepsParts};
+ghost use Rattle.xfs_word.specs.Field.{field_of, part_of, KeepsBeside, KeepsParts, IsZero};
 ghost use Rattle.xfs_word.specs.Seal.{is_lsn, is_ready, is_sealed};
 ghost use Rattle.xfs_word.specs.declared.kinds.SealKind.TheVariants as Kind;
 ghost use Rattle.xfs_geom.specs.Volumes.{volume_of};
-ghost use Rattle.xfs_heads.specs.Heads.{head_seal, numbers, IsZero};
+ghost use Rattle.xfs_heads.specs.Heads.{head_seal, numbers};
 ghost use Rattle.xfs_heads.specs.Inodes.{stated_agi, is_agi_shaped, agi_of};
 
-use crate::heads::{clear, head_seal, is_level, is_root, seal_head};
+use crate::heads::{clear, head_seal, is_level, is_root_block, seal_head};
 use crate::layouts::agi::{
     COUNT, CRC, DIRINO, FREE_LEVEL, FREE_ROOT, FREECOUNT, LENGTH, LEVEL, LSN, MAGICNUM, NEWINO,
     ROOT, SEQNO, UNLINKED, UUID, VERSIONNUM,
@@ -57,8 +57,8 @@ impl Agi {
             && self.length == g.group_length(ag)
             && is_level(self.level)
             && is_level(self.free_level)
-            && is_root(self.root, self.length)
-            && is_root(self.free_root, self.length)
+            && is_root_block(self.root, self.length)
+            && is_root_block(self.free_root, self.length)
     }
 }
 
@@ -168,7 +168,7 @@ fn put_trees(agi: &Agi, sector: &mut [u8])
     ensures freecount { field_of sector.new 28 4 ≡ agi.now.freecount }
     ensures newino { field_of sector.new 32 4 ≡ agi.now.newino }
     ensures dirino { field_of sector.new 36 4 ≡ agi.now.dirino }
-    ensures keeps { Keeps sector.old sector.new 0 40 }
+    ensures keeps { KeepsBeside sector.old sector.new 0 40 }
     ensures keeps_parts { KeepsParts sector.old sector.new 0 40 }
 {
     put32(sector, MAGICNUM.offset, agi.magicnum);
@@ -187,7 +187,7 @@ fn put_trees(agi: &Agi, sector: &mut [u8])
 fn put_unlinked(unlinked: &[u32; 64], sector: &mut [u8])
     requires { length sector.old ≡ 512 }
     ensures put { numbers sector.new 40 64 ≡ unlinked.now }
-    ensures keeps { Keeps sector.old sector.new 40 256 }
+    ensures keeps { KeepsBeside sector.old sector.new 40 256 }
     ensures keeps_parts { KeepsParts sector.old sector.new 40 256 }
 {
     UNLINKED.write_all(sector, unlinked);

@@ -4,11 +4,15 @@
 //! Each header is read as a plain record, or as none where its seal or a bound fails, and written from one; the tables of
 //! their fields serve the debugger too. The state of the log is found from what is seen of its sectors, one by one.
 //!
-//! `xfs_groups` reads the first block of a group so:
+//! `xfs_groups` reads the first block of a group so, with `part` of `xfs_word`; a header that does not read takes no other with it,
+//! but the list of a group is read only beside its free space:
 //!
 //! ```text
-//! let agf = read_agf(g, ag, part(block, 512, 512))?;
-//! let agfl = read_agfl(g, ag, &agf, part(block, 1536, 512))?;
+//! let agf = read_agf(g, ag, part(block, 512, 512));
+//! let agfl = match agf {
+//!     Some(agf) => read_agfl(g, ag, &agf, part(block, 1536, 512)),
+//!     None => None,
+//! };
 //! ```
 #![tactic(auto)]
 

@@ -6,7 +6,7 @@ use Rattle.xfs_disk.specs.Blocks.{Image}
 use Rattle.xfs_geom.specs.Conversions.{group_length}
 use Rattle.xfs_geom.specs.Volumes.{Volume, volume_of}
 use Rattle.xfs_geom.specs.declared.geometry.Geometry.{Geometry}
-use Rattle.xfs_image.specs.Candidates.{Ascend, all_places, candidates, cluster_rec, is_candidate}
+use Rattle.xfs_image.specs.Candidates.{ClustersAscend, possible_clusters, candidates, cluster_rec, is_candidate}
 use Rattle.xfs_image.specs.Clusters.{places_in}
 use Rattle.xfs_image.specs.Groups.{head_block}
 
@@ -27,7 +27,7 @@ rise_filtered p low (x ∷ xs) rise = by_case (p x) (rise_filtered p (x + 4) xs 
     by_case true rest = (rise.0, rest)
     by_case false rest = let first = rise.0 in from_lower low (x + 4) (filter p xs) (omega (arith, first)) rest
 
-as_clusters : (v : Volume) (image : Image) (low : ℕ) (xs : List ℕ) → Rise low xs → Ascend low (map (cluster_rec v image) xs)
+as_clusters : (v : Volume) (image : Image) (low : ℕ) (xs : List ℕ) → Rise low xs → ClustersAscend low (map (cluster_rec v image) xs)
 as_clusters v image low [] rise = tt
 as_clusters v image low (x ∷ xs) rise = (rise.0, as_clusters v image (x + 4) xs rise.1)
 
@@ -60,9 +60,9 @@ groups_rise g ag (suc n) inside =
     (flat_map (λ group. map (λ place. head_block (volume_of g) group + place) (places_in (volume_of g) group)) (range_with_len (ag + 1) n))
     (omega arith) (next_head ag g.agblocks (group_length (volume_of g) ag) 0 short) (groups_rise g (ag + 1) n (omega (arith, inside)))
 
-pub candidates_ascend : (g : Geometry) (image : Image) → Ascend 0 (candidates (volume_of g) image)
+pub candidates_ascend : (g : Geometry) (image : Image) → ClustersAscend 0 (candidates (volume_of g) image)
 unfolding candidates
 candidates_ascend g image =
-    let all : Rise 0 (all_places (volume_of g)) = from_lower 0 (0 * g.agblocks) (all_places (volume_of g)) (omega arith) (groups_rise g 0 g.agcount (omega arith)) in
-    as_clusters (volume_of g) image 0 (filter (is_candidate (volume_of g) image) (all_places (volume_of g)))
-    (rise_filtered (is_candidate (volume_of g) image) 0 (all_places (volume_of g)) all)
+    let all : Rise 0 (possible_clusters (volume_of g)) = from_lower 0 (0 * g.agblocks) (possible_clusters (volume_of g)) (omega arith) (groups_rise g 0 g.agcount (omega arith)) in
+    as_clusters (volume_of g) image 0 (filter (is_candidate (volume_of g) image) (possible_clusters (volume_of g)))
+    (rise_filtered (is_candidate (volume_of g) image) 0 (possible_clusters (volume_of g)) all)

@@ -3,12 +3,12 @@ use Rattle.std.proofs.Common.{◌≡◌, true, false, [], ◌∷◌, refl, slice
 use Rattle.std.specs.List.{range_with_len}
 use Rattle.xfs_disk.specs.Blocks.{Image}
 use Rattle.xfs_geom.specs.Conversions.{address_of, inode_of}
-use Rattle.xfs_tree.specs.Reading.{bytes_at}
+use Rattle.xfs_tree.specs.Reading.{bytes_of_block}
 use Rattle.xfs_image.specs.Candidates.{lies_in_chunk}
 use Rattle.xfs_image.specs.Clusters.{cluster_of, clusters_in, given_clusters, root_cluster}
-use Rattle.xfs_image.specs.Examples.{chunk, extents, given, place, small}
+use Rattle.xfs_image.specs.Examples.{chunk, extents, given, place, small_example}
 use Rattle.xfs_image.specs.Keeping.{byte_over}
-use Rattle.xfs_image.specs.Lsns.{in_order}
+use Rattle.xfs_image.specs.Lsns.{lsn_places_in_order}
 use Rattle.xfs_image.specs.Slots.{cluster_inodes}
 
 pub both : clusters_in 1024 (chunk 0) ≡ 1040 ∷ 1044 ∷ []
@@ -20,39 +20,39 @@ second = refl
 pub first : clusters_in 1024 (chunk 0xff00) ≡ 1040 ∷ []
 first = refl
 
-pub root : root_cluster small ≡ 16
+pub root : root_cluster small_example ≡ 16
 root = refl
 
-pub own : cluster_of small 8325 ≡ 1040
+pub own : cluster_of small_example 8325 ≡ 1040
 own = refl
 
-pub inodes : cluster_inodes small 1040 ≡ range_with_len 8320 32
+pub inodes : cluster_inodes small_example 1040 ≡ range_with_len 8320 32
 unfolding cluster_inodes inode_of address_of
 inodes = refl
 
-pub given_two : given_clusters small 1 (given 16 8 ∷ []) ≡ 1040 ∷ 1044 ∷ []
+pub given_two : given_clusters small_example 1 (given 16 8 ∷ []) ≡ 1040 ∷ 1044 ∷ []
 given_two = refl
 
-pub given_part : given_clusters small 1 (given 14 6 ∷ given 20 2 ∷ []) ≡ 1040 ∷ []
+pub given_part : given_clusters small_example 1 (given 14 6 ∷ given 20 2 ∷ []) ≡ 1040 ∷ []
 given_part = refl
 
-pub last_chunk : lies_in_chunk small 1020 ≡ true
+pub last_chunk : lies_in_chunk small_example 1020 ≡ true
 last_chunk = refl
 
-pub before_chunks : lies_in_chunk small 1028 ≡ false
+pub before_chunks : lies_in_chunk small_example 1028 ≡ false
 before_chunks = refl
 
-pub hole : (image : Image) → byte_over small image extents 4095 ≡ 0
+pub hole : (image : Image) → byte_over small_example image extents 4095 ≡ 0
 unfolding byte_over
 hole image = refl
 
-pub written : (image : Image) → byte_over small image extents 8199 ≡ slice_index_or (bytes_at image 25) 7 0
+pub written : (image : Image) → byte_over small_example image extents 8199 ≡ slice_index_or (bytes_of_block image 25) 7 0
 unfolding byte_over
 written image = refl
 
-pub unwritten : (image : Image) → byte_over small image extents 20481 ≡ 0
+pub unwritten : (image : Image) → byte_over small_example image extents 20481 ≡ 0
 unfolding byte_over
 unwritten image = refl
 
-pub ordered : in_order (place 5 24 ∷ place 0 720 ∷ place 5 16 ∷ place 0 240 ∷ []) ≡ place 0 240 ∷ place 0 720 ∷ place 5 16 ∷ place 5 24 ∷ []
+pub ordered : lsn_places_in_order (place 5 24 ∷ place 0 720 ∷ place 5 16 ∷ place 0 240 ∷ []) ≡ place 0 240 ∷ place 0 720 ∷ place 5 16 ∷ place 5 24 ∷ []
 ordered = refl

@@ -5,7 +5,7 @@ use Rattle.xfs_disk.specs.Blocks.{Image}
 use Rattle.xfs_geom.specs.Volumes.{Volume}
 use Rattle.xfs_volume.specs.declared.groups.GroupRec.{GroupRec}
 use Rattle.xfs_image.specs.GroupParts.{AreGroupsRead, IsGroupRead}
-use Rattle.xfs_image.specs.Groups.{agf_at, agi_at, agfl_at, bno_at, cnt_at, ino_at, fino_at, rmap_at, group_of, group_read, groups_from, groups_read, read_then, with_part}
+use Rattle.xfs_image.specs.Groups.{agf_at, agi_at, agfl_at, bno_at, cnt_at, ino_at, fino_at, rmap_at, group_record, group_read, groups_from, groups_read, read_then, with_part}
 use Rattle.xfs_image.specs.declared.findings.Finding.{Finding}
 use Rattle.xfs_image.specs.declared.findings.Finding.TheVariants as Found
 
@@ -35,7 +35,7 @@ group_has_parts v image ag g reads =
     let ino = part_reads ag 6 (ino_at v image ag agi.0) _ g cnt.2 in
     let fino = part_reads ag 7 (fino_at v image ag agi.0) _ g ino.2 in
     let rmap = part_reads ag 8 (rmap_at v image ag agf.0) _ g fino.2 in
-    let held : GroupRec = group_of agf.0 agi.0 agfl.0 bno.0 cnt.0 ino.0 fino.0 rmap.0 in
+    let held : GroupRec = group_record agf.0 agi.0 agfl.0 bno.0 cnt.0 ino.0 fino.0 rmap.0 in
     let is : held ≡ g = one held g rmap.2 in
     let all : IsGroupRead v image ag held = record {
       bno_blocks = bno.0.blocks;

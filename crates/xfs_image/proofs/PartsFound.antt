@@ -9,7 +9,7 @@ use Rattle.xfs_inode.specs.declared.files.FileRead.TheVariants as Reads
 use Rattle.xfs_volume.specs.declared.files.FileRec.{FileRec}
 use Rattle.xfs_volume.specs.declared.groups.GroupRec.{GroupRec}
 use Rattle.xfs_image.specs.Consistent.{IsPartOf}
-use Rattle.xfs_image.specs.Files.{files_at, files_read, inodes_of, with_file}
+use Rattle.xfs_image.specs.Files.{files_at, files_read, inodes_of, with_file_read}
 use Rattle.xfs_image.specs.Groups.{group_read, groups_from, groups_read, read_then, with_part, agf_at, agi_at, agfl_at, bno_at, cnt_at, ino_at, fino_at, rmap_at}
 use Rattle.xfs_image.specs.Slots.{reads_as}
 use Rattle.xfs_image.specs.View.{if_read, view}
@@ -52,7 +52,7 @@ of_groups v image ag (suc n) inside =
     of_first (IsPartOf v) (group_read v image ag) (groups_from v image (range_with_len (ag + 1) n))
     (of_group v image ag (omega (arith, inside))) (of_groups v image (ag + 1) n (omega (arith, inside)))
 
-of_slot : (v : Volume) (ino : ℕ) (read : FileRead) (rest : Result (List FileRec) Finding) → AllFound (IsPartOf v) rest → AllFound (IsPartOf v) (with_file ino read rest)
+of_slot : (v : Volume) (ino : ℕ) (read : FileRead) (rest : Result (List FileRec) Finding) → AllFound (IsPartOf v) rest → AllFound (IsPartOf v) (with_file_read ino read rest)
 of_slot v ino Reads.Free rest all = all
 of_slot v ino (Reads.File file) (Ok others) all = tt
 of_slot v ino (Reads.File file) (Err found) all = all

@@ -10,7 +10,7 @@ use Rattle.xfs_inode.specs.declared.files.FileRead.TheVariants as Reads
 use Rattle.xfs_inode.specs.Sound.{IsSound}
 use Rattle.xfs_inode.proofs.Sound.{always_sound}
 use Rattle.xfs_volume.specs.declared.files.FileRec.{FileRec}
-use Rattle.xfs_image.specs.Claims.{AreApart, candidate_files, candidate_inodes, claims, file_if, is_candidate_inode, is_claimed_beside}
+use Rattle.xfs_image.specs.Claims.{AreDisjointSets, candidate_files, candidate_inodes, claims, file_if, is_candidate_inode, is_claimed_beside}
 use Rattle.xfs_image.specs.Keeping.{Protected}
 use Rattle.xfs_image.specs.Slots.{reads_as, slot_bytes}
 
@@ -62,7 +62,7 @@ both_ways : (b : Bool) → b ≡ true → b ≡ false → ⊥
 both_ways b is other = cc
 
 pub protected_apart : (v : Volume) (image : Image) (a b : ℕ) (first : Protected v image a) (second : Protected v image b) → a ≢ b
-    → AreApart (claims v first.file) (claims v second.file)
+    → AreDisjointSets (claims v first.file) (claims v second.file)
 protected_apart v image a b first second differ block claimed = by_case (claims v second.file block) refl
   where
     by_case : (c : Bool) → claims v second.file block ≡ c → c ≡ false

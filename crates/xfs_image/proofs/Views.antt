@@ -8,7 +8,7 @@ use Rattle.xfs_volume.specs.declared.files.FileRec.{FileRec}
 use Rattle.xfs_volume.specs.declared.groups.GroupRec.{GroupRec}
 use Rattle.xfs_inode.specs.declared.files.FileRead.{FileRead}
 use Rattle.xfs_inode.specs.declared.files.FileRead.TheVariants as Reads
-use Rattle.xfs_image.specs.Files.{AreFilesRead, files_at, files_read, inodes_of, with_file}
+use Rattle.xfs_image.specs.Files.{AreFilesRead, files_at, files_read, inodes_of, with_file_read}
 use Rattle.xfs_image.specs.Groups.{groups_read}
 use Rattle.xfs_image.specs.Slots.{reads_as}
 use Rattle.xfs_image.specs.View.{IsRead, catalog_of, if_read, view}
@@ -51,7 +51,7 @@ one_list x y e = cc
 no_files : (found : Finding) (files : List FileRec) → Err found ≡ ok_files files → ⊥
 no_files found files e = cc
 
-slot_reads_so : (ino : ℕ) (read : FileRead) (rest : Result (List FileRec) Finding) (files : List FileRec) → with_file ino read rest ≡ ok_files files
+slot_reads_so : (ino : ℕ) (read : FileRead) (rest : Result (List FileRec) Finding) (files : List FileRec) → with_file_read ino read rest ≡ ok_files files
     → ((read ≡ Reads.Free) × (rest ≡ ok_files files))
     ⊎ ((file : FileRec) × (others : List FileRec) × (read ≡ Reads.File file) × (files ≡ file ∷ others) × (rest ≡ ok_files others))
 slot_reads_so ino Reads.Free rest files e = inl (refl, e)

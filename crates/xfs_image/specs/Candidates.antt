@@ -11,7 +11,7 @@ use Rattle.xfs_disk.specs.Blocks.{Image}
 use Rattle.xfs_geom.specs.Conversions.{group_length, is_fixed}
 use Rattle.xfs_geom.specs.Shape.{chunk_of}
 use Rattle.xfs_geom.specs.Volumes.{Volume}
-use Rattle.xfs_tree.specs.Reading.{bytes_at}
+use Rattle.xfs_tree.specs.Reading.{bytes_of_block}
 use Rattle.xfs_inode.specs.Slots.{slot_seal}
 use Rattle.xfs_volume.specs.declared.clusters.ClusterRec.{ClusterRec}
 use Rattle.xfs_image.specs.Groups.{head_block}
@@ -44,8 +44,8 @@ abbrev pub whole_seal : Volume → ℕ → SealKind → Seal
 whole_seal v block kind = record { kind = kind; place = 8 * block; owner = owner_due v block kind; uuid = v.uuid }
 
 -- the block is sealed at its place as one object
-unfoldable pub is_whole_block : Volume → Image → ℕ → Bool
-is_whole_block v image block = list_any (λ kind. is_sealed (whole_seal v block kind) (bytes_at image block)) whole_kinds
+unfoldable pub has_whole_seal : Volume → Image → ℕ → Bool
+has_whole_seal v image block = list_any (λ kind. is_sealed (whole_seal v block kind) (bytes_of_block image block)) whole_kinds
 
 -- the cluster lies in a chunk: the eight blocks from a multiple of eight on, behind the first eight of its group
 abbrev pub lies_in_chunk : Volume → ℕ → Bool
@@ -55,7 +55,7 @@ lies_in_chunk v cluster =
 -- no block of it has a fixed use or is another object
 abbrev pub can_hold_inodes : Volume → Image → ℕ → Bool
 can_hold_inodes v image cluster =
-    list_all (λ block. not (is_fixed v block || is_whole_block v image block)) (cluster_blocks cluster)
+    list_all (λ block. not (is_fixed v block || has_whole_seal v image block)) (cluster_blocks cluster)
 
 -- the cluster is one whose slots are read
 unfoldable pub is_candidate : Volume → Image → ℕ → Bool
@@ -64,17 +64,17 @@ is_candidate v image cluster =
     || ((is_recorded v image cluster || is_scanned v image cluster) && lies_in_chunk v cluster && can_hold_inodes v image cluster)
 
 -- all that could be clusters of a volume, by their first blocks
-abbrev pub all_places : Volume → List ℕ
-all_places v = flat_map (λ ag. map (λ place. head_block v ag + place) (places_in v ag)) (range_with_len 0 v.agcount)
+abbrev pub possible_clusters : Volume → List ℕ
+possible_clusters v = flat_map (λ ag. map (λ place. head_block v ag + place) (places_in v ag)) (range_with_len 0 v.agcount)
 
 abbrev pub cluster_rec : Volume → Image → ℕ → ClusterRec
 cluster_rec v image cluster = record { block = cluster; recorded = is_recorded v image cluster }
 
 -- the clusters whose slots are read, by block, each with whether a tree names it
 unfoldable pub candidates : Volume → Image → List ClusterRec
-candidates v image = map (cluster_rec v image) (filter (is_candidate v image) (all_places v))
+candidates v image = map (cluster_rec v image) (filter (is_candidate v image) (possible_clusters v))
 
 -- the clusters ascend, and no two have a block in common; the first begins at a block or behind it
-abbrev pub Ascend : ℕ → List ClusterRec → Type 0
-Ascend low [] = Unit {0}
-Ascend low (c ∷ cs) = (low ≤ c.block) × Ascend (c.block + 4) cs
+abbrev pub ClustersAscend : ℕ → List ClusterRec → Type 0
+ClustersAscend low [] = Unit {0}
+ClustersAscend low (c ∷ cs) = (low ≤ c.block) × ClustersAscend (c.block + 4) cs

@@ -4,7 +4,7 @@ use Rattle.std.specs.List.{flat_map, list_any, sum_by}
 use Rattle.xfs_disk.specs.Blocks.{Image}
 use Rattle.xfs_geom.specs.Volumes.{Volume}
 use Rattle.xfs_inode.specs.Sound.{claims_of}
-use Rattle.xfs_inode.specs.declared.claims.Run.{Run}
+use Rattle.xfs_inode.specs.declared.claims.BlockRange.{BlockRange}
 use Rattle.xfs_inode.specs.declared.files.FileRead.{FileRead}
 use Rattle.xfs_inode.specs.declared.files.FileRead.TheVariants as Reads
 use Rattle.xfs_volume.specs.declared.clusters.ClusterRec.{ClusterRec}
@@ -36,14 +36,14 @@ candidate_files v image = flat_map (λ ino. file_if (reads_as v image ino)) (can
 unfoldable pub inode_count : Volume → Image → ℕ
 inode_count v image = 32 * length (candidates v image)
 
-unfoldable pub extent_count : Volume → Image → ℕ
-extent_count v image = sum_by (λ (f : FileRec). length f.extents + length f.attr) (candidate_files v image)
+unfoldable pub total_extents : Volume → Image → ℕ
+total_extents v image = sum_by (λ (f : FileRec). length f.extents + length f.attr_extents) (candidate_files v image)
 
 unfoldable pub entry_count : Volume → Image → ℕ
 entry_count v image = length (entries_read v image (candidate_files v image))
 
 -- the block is one of a run, and one that a file claims: for its data, the tree of its extents, or its attributes
-abbrev pub lies_in : ℕ → Run → Bool
+abbrev pub lies_in : ℕ → BlockRange → Bool
 lies_in block run = nat_le run.start block && nat_lt block run.end
 
 abbrev pub claims : Volume → FileRec → ℕ → Bool
@@ -65,5 +65,5 @@ is_claimed_beside v image ino block =
     list_any (λ (f : FileRec). not (f.ino == ino) && claims v f block) (candidate_files v image)
 
 -- two sets of blocks have none in common
-abbrev pub AreApart : (ℕ → Bool) → (ℕ → Bool) → Type 0
-AreApart xs ys = (block : ℕ) → xs block ≡ true → ys block ≡ false
+abbrev pub AreDisjointSets : (ℕ → Bool) → (ℕ → Bool) → Type 0
+AreDisjointSets xs ys = (block : ℕ) → xs block ≡ true → ys block ≡ false

@@ -1,8 +1,10 @@
 -- The clusters of inodes that an image has, as its trees name them or as they are found by their bytes (chapter "AG Inode
 -- Management"). A cluster is four blocks, given by the first of them, with 32 slots.
-use Rattle.std.specs.Prelude.{ℕ, Bool, false, ◌+◌, ◌*◌, ◌/◌, ◌^◌, ◌-◌, ◌==◌, ◌&&◌, ◌||◌, nat_le, nat_lt, if◌then◌else◌, List, [], ◌∷◌, ◌++◌, map, Option, Some, None}
+use Rattle.std.specs.Prelude.{ℕ, Bool, false, ◌+◌, ◌*◌, ◌/◌, ◌==◌, ◌&&◌, ◌||◌, nat_le, nat_lt, if◌then◌else◌, List, [], ◌∷◌, ◌++◌, map, Option, Some, None}
 use Rattle.std.specs.List.{filter, flat_map, list_all, list_any, range_with_len}
 use Rattle.std.specs.Option.{option_and_then, option_map}
+use Rattle.xfs_kinds.specs.Owners.{clusters_owner}
+use Rattle.xfs_disk.specs.Lists.{is_among}
 use Rattle.xfs_disk.specs.Blocks.{Image}
 use Rattle.xfs_geom.specs.Conversions.{group_length}
 use Rattle.xfs_geom.specs.Groups.{block_of_address}
@@ -29,16 +31,12 @@ unfoldable pub named_by_chunks : Volume → Image → ℕ → Option (List ℕ)
 named_by_chunks v image ag =
     option_map (λ tree. chunk_clusters v ag tree.records) (option_and_then (ino_at v image ag) (agi_at v image ag))
 
--- the owner of clusters in the tree of owners
-abbrev pub clusters_owner : ℕ
-clusters_owner = 2 ^ 64 - 7
-
 -- an AG block is given to the clusters
-abbrev pub gives : ℕ → RmapRec → Bool
-gives block r = r.owner == clusters_owner && nat_le r.start block && nat_lt block (r.start + r.count)
+abbrev pub gives_block : ℕ → RmapRec → Bool
+gives_block block r = r.owner == clusters_owner && nat_le r.start block && nat_lt block (r.start + r.count)
 
-abbrev pub is_given : List RmapRec → ℕ → Bool
-is_given records block = list_any (gives block) records
+abbrev pub is_given_block : List RmapRec → ℕ → Bool
+is_given_block records block = list_any (gives_block block) records
 
 -- all that could be clusters of a group, by their first AG blocks: four blocks of it from a multiple of four on
 abbrev pub places_in : Volume → ℕ → List ℕ
@@ -47,19 +45,15 @@ places_in v ag = each_of (group_length v ag / 4) (λ i. 4 * i)
 -- the clusters whose four blocks are given
 abbrev pub given_clusters : Volume → ℕ → List RmapRec → List ℕ
 given_clusters v ag records =
-    map (λ place. head_block v ag + place) (filter (λ place. list_all (is_given records) (range_with_len place 4)) (places_in v ag))
+    map (λ place. head_block v ag + place) (filter (λ place. list_all (is_given_block records) (range_with_len place 4)) (places_in v ag))
 
 -- the clusters that the tree of owners names, where it reads
 unfoldable pub named_by_owners : Volume → Image → ℕ → Option (List ℕ)
 named_by_owners v image ag =
     option_map (λ tree. given_clusters v ag tree.records) (option_and_then (rmap_at v image ag) (agf_at v image ag))
 
--- the cluster is one of these, and two lists name the same clusters
-abbrev pub is_among : List ℕ → ℕ → Bool
-is_among clusters cluster = list_any (λ other. other == cluster) clusters
-
-abbrev pub are_same : List ℕ → List ℕ → Bool
-are_same xs ys = list_all (is_among ys) xs && list_all (is_among xs) ys
+abbrev pub same_clusters : List ℕ → List ℕ → Bool
+same_clusters xs ys = list_all (is_among ys) xs && list_all (is_among xs) ys
 
 -- a tree that reads names the cluster
 abbrev pub names : Option (List ℕ) → ℕ → Bool
@@ -70,7 +64,7 @@ names (Some clusters) cluster = is_among clusters cluster
 abbrev pub both_name : Option (List ℕ) → Option (List ℕ) → Bool
 both_name None owners = false
 both_name (Some chunks) None = false
-both_name (Some chunks) (Some owners) = are_same chunks owners
+both_name (Some chunks) (Some owners) = same_clusters chunks owners
 
 -- the group says in full where its clusters are
 unfoldable pub is_trusted : Volume → Image → ℕ → Bool

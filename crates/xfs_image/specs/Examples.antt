@@ -6,8 +6,8 @@ use Rattle.xfs_geom.specs.declared.records.InoRec.{InoRec}
 use Rattle.xfs_geom.specs.declared.records.RmapRec.{RmapRec}
 use Rattle.xfs_image.specs.Lsns.{LsnPlace}
 
-abbrev pub small : Volume
-small = record {
+abbrev pub small_example : Volume
+small_example = record {
   dblocks = 2048;
   agblocks = 1024;
   agcount = 2;

@@ -26,18 +26,18 @@ unfoldable pub inodes_of : Volume → List GroupRec → List ℕ
 inodes_of v groups = flat_map (cluster_inodes v) (clusters_of v groups)
 
 -- a free slot has no file, a file with its attributes is one, and all else is found at the inode
-abbrev pub with_file : ℕ → FileRead → Result (List FileRec) Finding → Result (List FileRec) Finding
-with_file ino Reads.Free rest = rest
-with_file ino (Reads.File file) (Ok rest) = Ok (file ∷ rest)
-with_file ino (Reads.File file) (Err found) = Err found
-with_file ino (Reads.FileWithoutAttrs file) rest = Err (Found.Part 9 ino)
-with_file ino (Reads.Unsupported what) rest = Err (Found.Part 9 ino)
-with_file ino Reads.Unsound rest = Err (Found.Part 9 ino)
+abbrev pub with_file_read : ℕ → FileRead → Result (List FileRec) Finding → Result (List FileRec) Finding
+with_file_read ino Reads.Free rest = rest
+with_file_read ino (Reads.File file) (Ok rest) = Ok (file ∷ rest)
+with_file_read ino (Reads.File file) (Err found) = Err found
+with_file_read ino (Reads.FileWithoutAttrs file) rest = Err (Found.Part 9 ino)
+with_file_read ino (Reads.Unsupported what) rest = Err (Found.Part 9 ino)
+with_file_read ino Reads.Unsound rest = Err (Found.Part 9 ino)
 
 -- the files among some inodes, in order; or the first inode that is neither free nor a file
 abbrev pub files_at : Volume → Image → List ℕ → Result (List FileRec) Finding
 files_at v image [] = Ok []
-files_at v image (ino ∷ inos) = with_file ino (reads_as v image ino) (files_at v image inos)
+files_at v image (ino ∷ inos) = with_file_read ino (reads_as v image ino) (files_at v image inos)
 
 -- all files of a volume, by number
 unfoldable pub files_read : Volume → Image → List GroupRec → Result (List FileRec) Finding

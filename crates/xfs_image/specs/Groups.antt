@@ -69,12 +69,12 @@ abbrev pub with_part : {A B : Type 0} → ℕ → ℕ → Option A → (A → Re
 with_part ag part None next = Err (Found.Part part ag)
 with_part ag part (Some a) next = next a
 
-abbrev pub blocks_in : {R : Type 0} → Contents R → TreeBlocks
-blocks_in tree = record { blocks = tree.blocks }
+abbrev pub blocks_in_tree : {R : Type 0} → Contents R → TreeBlocks
+blocks_in_tree tree = record { blocks = tree.blocks }
 
 -- a group whose headers and trees are these
-abbrev pub group_of : Agf → Agi → Agfl → Contents Span → Contents Span → Contents InoRec → Contents InoRec → Contents RmapRec → GroupRec
-group_of agf agi agfl bno cnt ino fino rmap = record {
+abbrev pub group_record : Agf → Agi → Agfl → Contents Span → Contents Span → Contents InoRec → Contents InoRec → Contents RmapRec → GroupRec
+group_record agf agi agfl bno cnt ino fino rmap = record {
   agf = agf;
   agi = agi;
   agfl = agfl;
@@ -83,7 +83,7 @@ group_of agf agi agfl bno cnt ino fino rmap = record {
   ino = ino.records;
   fino = fino.records;
   rmap = rmap.records;
-  blocks = blocks_in bno ∷ blocks_in cnt ∷ blocks_in ino ∷ blocks_in fino ∷ blocks_in rmap ∷ [];
+  blocks = blocks_in_tree bno ∷ blocks_in_tree cnt ∷ blocks_in_tree ino ∷ blocks_in_tree fino ∷ blocks_in_tree rmap ∷ [];
 }
 
 -- a group, or the first of its eight parts that does not read
@@ -97,7 +97,7 @@ group_read v image ag =
     with_part ag 6 (ino_at v image ag agi) (λ ino.
     with_part ag 7 (fino_at v image ag agi) (λ fino.
     with_part ag 8 (rmap_at v image ag agf) (λ rmap.
-    Ok (group_of agf agi agfl bno cnt ino fino rmap)))))))))
+    Ok (group_record agf agi agfl bno cnt ino fino rmap)))))))))
 
 -- what comes of one that reads, and of those behind it; or the first finding
 abbrev pub read_then : {A E : Type 0} → Result A E → Result (List A) E → Result (List A) E

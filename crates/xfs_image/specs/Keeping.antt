@@ -6,12 +6,12 @@ use Rattle.xfs_disk.specs.Blocks.{Image}
 use Rattle.xfs_geom.specs.Conversions.{is_fixed}
 use Rattle.xfs_geom.specs.Groups.{block_of_address}
 use Rattle.xfs_geom.specs.Volumes.{Volume}
-use Rattle.xfs_tree.specs.Reading.{bytes_at}
+use Rattle.xfs_tree.specs.Reading.{bytes_of_block}
 use Rattle.xfs_inode.specs.declared.files.FileRead.TheVariants as Reads
 use Rattle.xfs_volume.specs.Names.{is_directory}
 use Rattle.xfs_volume.specs.declared.cores.Core.{Core}
 use Rattle.xfs_volume.specs.declared.files.FileRec.{FileRec}
-use Rattle.xfs_image.specs.Claims.{AreApart, claims, is_candidate_inode, is_claimed, is_claimed_beside, is_of_candidate, is_of_cluster}
+use Rattle.xfs_image.specs.Claims.{AreDisjointSets, claims, is_candidate_inode, is_claimed, is_claimed_beside, is_of_candidate, is_of_cluster}
 use Rattle.xfs_image.specs.Clusters.{cluster_of}
 use Rattle.xfs_image.specs.Slots.{reads_as}
 
@@ -22,7 +22,7 @@ has_block e offset = nat_le e.offset offset && nat_lt offset (e.offset + e.count
 -- a byte of the block that stands in the image for a block of the file
 abbrev pub byte_in : Volume → Image → Extent → ℕ → ℕ
 byte_in v image e i =
-    slice_index_or (bytes_at image (block_of_address v.agblocks v.agblklog e.start + (i / 4096 - e.offset))) (i % 4096) 0
+    slice_index_or (bytes_of_block image (block_of_address v.agblocks v.agblklog e.start + (i / 4096 - e.offset))) (i % 4096) 0
 
 -- byte i of a file with these extents: that of the written extent over it, else 0
 unfoldable pub byte_over : Volume → Image → List Extent → ℕ → ℕ
@@ -49,11 +49,11 @@ pub record Protected (v : Volume) (image : Image) (ino : ℕ) : Type 0 where
   pub no_root : ino ≢ v.rootino
   pub no_bitmap : ino ≢ v.rootino + 1
   pub no_summary : ino ≢ v.rootino + 2
-  pub unfixed : AreApart (claims v file) (is_fixed v)
-  pub outside : AreApart (claims v file) (is_of_candidate v image)
-  pub alone : AreApart (claims v file) (is_claimed_beside v image ino)
-  pub cluster_unfixed : AreApart (is_of_cluster (cluster_of v ino)) (is_fixed v)
-  pub cluster_unclaimed : AreApart (is_of_cluster (cluster_of v ino)) (is_claimed v image)
+  pub unfixed : AreDisjointSets (claims v file) (is_fixed v)
+  pub outside : AreDisjointSets (claims v file) (is_of_candidate v image)
+  pub alone : AreDisjointSets (claims v file) (is_claimed_beside v image ino)
+  pub cluster_unfixed : AreDisjointSets (is_of_cluster (cluster_of v ino)) (is_fixed v)
+  pub cluster_unclaimed : AreDisjointSets (is_of_cluster (cluster_of v ino)) (is_claimed v image)
 
 -- the file of an inode is kept from one image to another: it reads whole in both, with the same bytes, attributes, target and
 -- device, and the same core but for the fields that may change

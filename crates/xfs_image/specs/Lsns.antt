@@ -7,7 +7,7 @@ use Rattle.xfs_disk.specs.Blocks.{Image}
 use Rattle.xfs_geom.specs.Groups.{block_of_address}
 use Rattle.xfs_geom.specs.Volumes.{Volume}
 use Rattle.xfs_tree.specs.Blocks.{each_of}
-use Rattle.xfs_tree.specs.Reading.{bytes_at}
+use Rattle.xfs_tree.specs.Reading.{bytes_of_block}
 use Rattle.xfs_volume.specs.Names.{type_of}
 use Rattle.xfs_volume.specs.declared.catalogs.BlockLsn.{BlockLsn}
 use Rattle.xfs_volume.specs.declared.files.FileRec.{FileRec}
@@ -30,12 +30,12 @@ abbrev pub head_places : Volume → ℕ → List LsnPlace
 head_places v ag = at 720 (head_block v ag) ∷ at 1344 (head_block v ag) ∷ at 1560 (head_block v ag) ∷ []
 
 -- those of the blocks of a group's trees
-abbrev pub tree_places : GroupRec → List LsnPlace
-tree_places g = flat_map (λ (tree : TreeBlocks). map (at 24) tree.blocks) g.blocks
+abbrev pub tree_lsn_places : GroupRec → List LsnPlace
+tree_lsn_places g = flat_map (λ (tree : TreeBlocks). map (at 24) tree.blocks) g.blocks
 
 abbrev pub groups_places : Volume → ℕ → List GroupRec → List LsnPlace
 groups_places v ag [] = []
-groups_places v ag (g ∷ gs) = head_places v ag ++ tree_places g ++ groups_places v (ag + 1) gs
+groups_places v ag (g ∷ gs) = head_places v ag ++ tree_lsn_places g ++ groups_places v (ag + 1) gs
 
 -- those of the eight slots of a block, and of all slots of a cluster
 abbrev pub slot_place : ℕ → ℕ → LsnPlace
@@ -64,7 +64,7 @@ data_places v f =
 
 -- those of a file: of its data fork, of the blocks of its extent tree, of its attributes
 abbrev pub file_places : Volume → FileRec → List LsnPlace
-file_places v f = data_places v f ++ map (at 32) f.tree ++ flat_map (extent_places v (λ offset. 24)) f.attr
+file_places v f = data_places v f ++ map (at 32) f.tree ++ flat_map (extent_places v (λ offset. 24)) f.attr_extents
 
 -- all places: of the primary superblock, the groups, the slots of recorded chunks, the files; backups have none
 abbrev pub lsn_places : Volume → List GroupRec → List FileRec → List LsnPlace
@@ -72,31 +72,31 @@ lsn_places v groups files =
     at 240 0 ∷ groups_places v 0 groups ++ flat_map cluster_places (clusters_of v groups) ++ flat_map (file_places v) files
 
 -- a place comes no later than another: its block does, or it is the same block and its byte does
-abbrev pub is_upto : LsnPlace → LsnPlace → Bool
-is_upto a b = nat_lt a.block b.block || (a.block == b.block && nat_le a.byte b.byte)
+abbrev pub is_place_upto : LsnPlace → LsnPlace → Bool
+is_place_upto a b = nat_lt a.block b.block || (a.block == b.block && nat_le a.byte b.byte)
 
 -- a place among places in order
 abbrev pub with_place : LsnPlace → List LsnPlace → List LsnPlace
 with_place p [] = p ∷ []
-with_place p (q ∷ qs) = if is_upto p q then p ∷ q ∷ qs else (q ∷ with_place p qs)
+with_place p (q ∷ qs) = if is_place_upto p q then p ∷ q ∷ qs else (q ∷ with_place p qs)
 
-abbrev pub in_order : List LsnPlace → List LsnPlace
-in_order [] = []
-in_order (p ∷ ps) = with_place p (in_order ps)
+abbrev pub lsn_places_in_order : List LsnPlace → List LsnPlace
+lsn_places_in_order [] = []
+lsn_places_in_order (p ∷ ps) = with_place p (lsn_places_in_order ps)
 
 -- a place comes no later than any of these, and each no later than those behind it
 abbrev pub IsUptoAll : LsnPlace → List LsnPlace → Type 0
 IsUptoAll p [] = Unit {0}
-IsUptoAll p (q ∷ qs) = (is_upto p q ≡ true) × IsUptoAll p qs
+IsUptoAll p (q ∷ qs) = (is_place_upto p q ≡ true) × IsUptoAll p qs
 
-abbrev pub AreInOrder : List LsnPlace → Type 0
-AreInOrder [] = Unit {0}
-AreInOrder (p ∷ ps) = IsUptoAll p ps × AreInOrder ps
+abbrev pub PlacesInOrder : List LsnPlace → Type 0
+PlacesInOrder [] = Unit {0}
+PlacesInOrder (p ∷ ps) = IsUptoAll p ps × PlacesInOrder ps
 
 -- the number that stands at a place
 abbrev pub lsn_at : Image → LsnPlace → BlockLsn
-lsn_at image p = record { block = p.block; lsn = field_of (bytes_at image p.block) p.byte 8 }
+lsn_at image p = record { block = p.block; lsn = field_of (bytes_of_block image p.block) p.byte 8 }
 
 -- all log sequence numbers, in order
 unfoldable pub lsns_read : Volume → Image → List GroupRec → List FileRec → List BlockLsn
-lsns_read v image groups files = map (lsn_at image) (in_order (lsn_places v groups files))
+lsns_read v image groups files = map (lsn_at image) (lsn_places_in_order (lsn_places v groups files))

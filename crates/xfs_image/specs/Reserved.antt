@@ -8,12 +8,12 @@ use Rattle.xfs_word.specs.declared.kinds.SealKind.TheVariants as Kind
 use Rattle.xfs_disk.specs.Blocks.{Image}
 use Rattle.xfs_geom.specs.Conversions.{group_length}
 use Rattle.xfs_geom.specs.Volumes.{Volume}
-use Rattle.xfs_tree.specs.Reading.{Contents, bytes_at}
+use Rattle.xfs_tree.specs.Reading.{Contents, bytes_of_block}
 use Rattle.xfs_image.specs.Candidates.{is_used_slot, whole_seal}
 use Rattle.xfs_image.specs.Claims.{is_of_cluster}
 use Rattle.xfs_image.specs.Clusters.{is_trusted, named_by_chunks, named_by_owners}
 use Rattle.xfs_image.specs.Groups.{agf_at, agi_at, head_block, ino_at, rmap_at}
-use Rattle.xfs_image.specs.Slots.{inodes_in}
+use Rattle.xfs_image.specs.Slots.{inodes_of_block}
 
 -- the block is one of a tree that reads
 abbrev pub is_of_tree : {R : Type 0} → Option (Contents R) → ℕ → Bool
@@ -37,9 +37,9 @@ is_held_by_trees v image block =
 -- the block is sealed as one of the tree of chunks or that of owners of its group, or a slot in it is sealed and holds a file
 unfoldable pub is_held_by_bytes : Volume → Image → ℕ → Bool
 is_held_by_bytes v image block =
-    is_sealed (whole_seal v block (Kind.ShortTree 0x4941_4233)) (bytes_at image block)
-    || is_sealed (whole_seal v block (Kind.ShortTree 0x524d_4233)) (bytes_at image block)
-    || list_any (is_used_slot v image) (inodes_in v block)
+    is_sealed (whole_seal v block (Kind.ShortTree 0x4941_4233)) (bytes_of_block image block)
+    || is_sealed (whole_seal v block (Kind.ShortTree 0x524d_4233)) (bytes_of_block image block)
+    || list_any (is_used_slot v image) (inodes_of_block v block)
 
 -- nothing new is placed on the block: bytes alone count in a group that is not trusted
 unfoldable pub is_reserved : Volume → Image → ℕ → Bool

@@ -23,11 +23,11 @@ unfoldable pub reads_as : Volume → Image → ℕ → FileRead
 reads_as v image ino = slot_reads v image ino (slot_bytes v image ino)
 
 -- the eight inodes of a block, and the 32 of the four blocks of a cluster, which is given by its first block
-abbrev pub inodes_in : Volume → ℕ → List ℕ
-inodes_in v block = each_of 8 (inode_of v block)
+abbrev pub inodes_of_block : Volume → ℕ → List ℕ
+inodes_of_block v block = each_of 8 (inode_of v block)
 
 abbrev pub cluster_blocks : ℕ → List ℕ
 cluster_blocks cluster = range_with_len cluster 4
 
 unfoldable pub cluster_inodes : Volume → ℕ → List ℕ
-cluster_inodes v cluster = flat_map (inodes_in v) (cluster_blocks cluster)
+cluster_inodes v cluster = flat_map (inodes_of_block v) (cluster_blocks cluster)

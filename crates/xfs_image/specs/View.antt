@@ -9,7 +9,7 @@ use Rattle.xfs_geom.specs.declared.records.Counts.{Counts}
 use Rattle.xfs_heads.specs.Log.{seen_of, state_of}
 use Rattle.xfs_heads.specs.declared.log.state.LogState.{LogState}
 use Rattle.xfs_tree.specs.Blocks.{each_of}
-use Rattle.xfs_tree.specs.Reading.{bytes_at}
+use Rattle.xfs_tree.specs.Reading.{bytes_of_block}
 use Rattle.xfs_volume.specs.declared.catalogs.Catalog.{Catalog}
 use Rattle.xfs_volume.specs.declared.files.FileRec.{FileRec}
 use Rattle.xfs_volume.specs.declared.groups.GroupRec.{GroupRec}
@@ -23,9 +23,9 @@ use Rattle.xfs_image.specs.Sectors.{sector_in}
 -- the counters of the primary superblock
 abbrev pub counts_of : Image → Counts
 counts_of image = record {
-  icount = field_of (bytes_at image 0) 128 8;
-  ifree = field_of (bytes_at image 0) 136 8;
-  fdblocks = field_of (bytes_at image 0) 144 8;
+  icount = field_of (bytes_of_block image 0) 128 8;
+  ifree = field_of (bytes_of_block image 0) 136 8;
+  fdblocks = field_of (bytes_of_block image 0) 144 8;
 }
 
 -- all sectors of the log, in order

@@ -6,21 +6,21 @@ ghost use Rattle.std.specs.List.Sorted.{IsPermutation};
 ghost use Rattle.xfs_disk.specs.Blocks.{Image};
 ghost use Rattle.xfs_geom.specs.Volumes.{Volume, volume_of};
 ghost use Rattle.xfs_geom.specs.declared.geometry.Geometry.{Geometry};
-ghost use Rattle.xfs_tree.specs.Reading.{bytes_at};
+ghost use Rattle.xfs_tree.specs.Reading.{bytes_of_block};
 ghost use Rattle.xfs_volume.specs.declared.catalogs.Catalog.{Catalog};
 ghost use Rattle.xfs_volume.specs.declared.findings.Law.{Law};
 ghost use Rattle.xfs_volume.specs.declared.files.FileRec.{FileRec};
 ghost use Rattle.xfs_volume.specs.declared.groups.GroupRec.{GroupRec};
-ghost use Rattle.xfs_image.specs.Claims.{AreApart, claims};
-ghost use Rattle.xfs_image.specs.Candidates.{Ascend, candidates, is_candidate, lies_in_chunk};
+ghost use Rattle.xfs_image.specs.Claims.{AreDisjointSets, claims};
+ghost use Rattle.xfs_image.specs.Candidates.{ClustersAscend, candidates, is_candidate, lies_in_chunk};
 ghost use Rattle.xfs_image.specs.Clusters.{chunk_clusters, cluster_of, clusters_in, given_clusters, is_recorded, named_by_chunks, named_by_owners, root_cluster};
 ghost use Rattle.xfs_image.specs.Consistent.{HasBackupFault, HasFinding, IsConsistent, IsConsistentImage, IsElected, IsPartOf, finding};
-ghost use Rattle.xfs_image.specs.Examples.{chunk, extents, given, place, small};
+ghost use Rattle.xfs_image.specs.Examples.{chunk, extents, given, place, small_example};
 ghost use Rattle.xfs_image.specs.Files.{AreFilesRead, files_read, inodes_of};
 ghost use Rattle.xfs_image.specs.GroupParts.{AreGroupsRead, IsGroupRead};
 ghost use Rattle.xfs_image.specs.Groups.{groups_read};
 ghost use Rattle.xfs_image.specs.Keeping.{Keeps, Protected, byte_over, file_bytes};
-ghost use Rattle.xfs_image.specs.Lsns.{AreInOrder, LsnPlace, in_order};
+ghost use Rattle.xfs_image.specs.Lsns.{PlacesInOrder, LsnPlace, lsn_places_in_order};
 ghost use Rattle.xfs_image.specs.Slots.{cluster_inodes};
 ghost use Rattle.xfs_image.specs.View.{IsRead, view};
 
@@ -52,8 +52,8 @@ pub fn view_is_of_what_reads()
 /// The places of log sequence numbers in order are all the places, by block and then by byte.
 #[tactic(auto, using(crate::proofs::Places::are_in_order, crate::proofs::Places::all_moved))]
 pub fn places_are_ordered()
-    ensures order { (places : List LsnPlace) → AreInOrder (in_order places) }
-    ensures all { (places : List LsnPlace) → IsPermutation places (in_order places) }
+    ensures order { (places : List LsnPlace) → PlacesInOrder (lsn_places_in_order places) }
+    ensures all { (places : List LsnPlace) → IsPermutation places (lsn_places_in_order places) }
 {}
 
 /// A protected file keeps itself, a file that is kept twice is kept, no block is claimed by two protected files, and a file has
@@ -61,7 +61,7 @@ pub fn places_are_ordered()
 pub fn keeping_goes_on()
     ensures itself { (v : Volume) (image : Image) (ino : ℕ) → Protected v image ino → Keeps v image image ino }
     ensures onward { (v : Volume) (a b c : Image) (ino : ℕ) → Keeps v a b ino → Keeps v b c ino → Keeps v a c ino }
-    ensures apart { (v : Volume) (image : Image) (a b : ℕ) (first : Protected v image a) (second : Protected v image b) → a ≢ b → AreApart (claims v first.file) (claims v second.file) }
+    ensures apart { (v : Volume) (image : Image) (a b : ℕ) (first : Protected v image a) (second : Protected v image b) → a ≢ b → AreDisjointSets (claims v first.file) (claims v second.file) }
     ensures size { (v : Volume) (image : Image) (f : FileRec) → length (file_bytes v image f) ≡ f.core.size }
 {}
 
@@ -71,7 +71,7 @@ pub fn clusters_are_named()
     ensures chunks { (v : Volume) (image : Image) (ag : ℕ) (g : GroupRec) → IsGroupRead v image ag g → named_by_chunks v image ag ≡ Some (chunk_clusters v ag g.ino) }
     ensures owners { (v : Volume) (image : Image) (ag : ℕ) (g : GroupRec) → IsGroupRead v image ag g → named_by_owners v image ag ≡ Some (given_clusters v ag g.rmap) }
     ensures recorded { (v : Volume) (image : Image) → is_recorded v image (root_cluster v) ≡ true }
-    ensures ascend { (g : Geometry) (image : Image) → Ascend 0 (candidates (volume_of g) image) }
+    ensures ascend { (g : Geometry) (image : Image) → ClustersAscend 0 (candidates (volume_of g) image) }
     ensures candidate { (v : Volume) (image : Image) → is_candidate v image (root_cluster v) ≡ true }
 {}
 
@@ -81,15 +81,15 @@ pub fn worked_examples()
     ensures both { clusters_in 1024 (chunk 0) ≡ 1040 ∷ 1044 ∷ [] }
     ensures second { clusters_in 1024 (chunk 0x00ff) ≡ 1044 ∷ [] }
     ensures first { clusters_in 1024 (chunk 0xff00) ≡ 1040 ∷ [] }
-    ensures root { root_cluster small ≡ 16 }
-    ensures own { cluster_of small 8325 ≡ 1040 }
-    ensures inodes { cluster_inodes small 1040 ≡ range_with_len 8320 32 }
-    ensures given_two { given_clusters small 1 (given 16 8 ∷ []) ≡ 1040 ∷ 1044 ∷ [] }
-    ensures given_part { given_clusters small 1 (given 14 6 ∷ given 20 2 ∷ []) ≡ 1040 ∷ [] }
-    ensures last_chunk { lies_in_chunk small 1020 ≡ true }
-    ensures before_chunks { lies_in_chunk small 1028 ≡ false }
-    ensures hole { (image : Image) → byte_over small image extents 4095 ≡ 0 }
-    ensures written { (image : Image) → byte_over small image extents 8199 ≡ slice_index_or (bytes_at image 25) 7 0 }
-    ensures unwritten { (image : Image) → byte_over small image extents 20481 ≡ 0 }
-    ensures ordered { in_order (place 5 24 ∷ place 0 720 ∷ place 5 16 ∷ place 0 240 ∷ []) ≡ place 0 240 ∷ place 0 720 ∷ place 5 16 ∷ place 5 24 ∷ [] }
+    ensures root { root_cluster small_example ≡ 16 }
+    ensures own { cluster_of small_example 8325 ≡ 1040 }
+    ensures inodes { cluster_inodes small_example 1040 ≡ range_with_len 8320 32 }
+    ensures given_two { given_clusters small_example 1 (given 16 8 ∷ []) ≡ 1040 ∷ 1044 ∷ [] }
+    ensures given_part { given_clusters small_example 1 (given 14 6 ∷ given 20 2 ∷ []) ≡ 1040 ∷ [] }
+    ensures last_chunk { lies_in_chunk small_example 1020 ≡ true }
+    ensures before_chunks { lies_in_chunk small_example 1028 ≡ false }
+    ensures hole { (image : Image) → byte_over small_example image extents 4095 ≡ 0 }
+    ensures written { (image : Image) → byte_over small_example image extents 8199 ≡ slice_index_or (bytes_of_block image 25) 7 0 }
+    ensures unwritten { (image : Image) → byte_over small_example image extents 20481 ≡ 0 }
+    ensures ordered { lsn_places_in_order (place 5 24 ∷ place 0 720 ∷ place 5 16 ∷ place 0 240 ∷ []) ≡ place 0 240 ∷ place 0 720 ∷ place 5 16 ∷ place 5 24 ∷ [] }
 {}

@@ -1,8 +1,7 @@
 -- Parts of bytes that are zero.
 use Rattle.std.proofs.Common.{◌≡◌, ℕ, ◌+◌, ◌≤◌, ◌-◌, List, length, take, drop, replicate, sym, ◌∙◌, ap, subst, arith}
 use Rattle.std.proofs.lemmas.List.{take-replicate, drop-replicate, length-replicate}
-use Rattle.xfs_word.specs.Field.{part_of}
-use Rattle.xfs_inode.specs.Writing.{zeros, IsZero}
+use Rattle.xfs_word.specs.Field.{part_of, zeros, IsZero}
 
 -- a part of a run of zeros
 pub zero_part : (bytes : List ℕ) (n at width : ℕ) → bytes ≡ replicate n 0 → at + width ≤ n → IsZero bytes at width

@@ -12,8 +12,8 @@ use Rattle.xfs_inode.specs.Slots.{attribute_start}
 use Rattle.xfs_inode.specs.Writing.{fork_bytes}
 
 -- the type of a file, in the upper four bits of its mode
-abbrev pub type_of : Core → ℕ
-type_of core = core.mode / 4096
+abbrev pub core_type : Core → ℕ
+core_type core = core.mode / 4096
 
 -- extent i of the data fork
 abbrev pub fork_extent : List ℕ → ℕ → Extent
@@ -41,13 +41,13 @@ unfoldable pub keys_ascend : List ℕ → Bool
 keys_ascend slot = list_all (λ i. nat_lt (root_key slot (i - 1)) (root_key slot i)) (range_with_len 1 (root_count slot - 1))
 
 -- there is a block
-abbrev pub is_there : Option ℕ → Bool
-is_there None = false
-is_there (Some block) = true
+abbrev pub names_block : Option ℕ → Bool
+names_block None = false
+names_block (Some block) = true
 
 -- each address is one of the volume
 unfoldable pub are_addresses : Volume → ℕ → List ℕ → Bool
-are_addresses v capacity slot = list_all (λ i. is_there (block_at v (root_pointer capacity slot i))) (range_with_len 0 (root_count slot))
+are_addresses v capacity slot = list_all (λ i. names_block (block_at v (root_pointer capacity slot i))) (range_with_len 0 (root_count slot))
 
 -- a root has one to nine levels under it, and one child up to its capacity
 abbrev pub has_children : ℕ → List ℕ → Bool
@@ -55,8 +55,8 @@ has_children capacity slot =
     nat_le 1 (root_level slot) && nat_le (root_level slot) 9 && nat_le 1 (root_count slot) && nat_le (root_count slot) capacity
 
 -- the root of a data fork that lies inside the slot keeps the rules
-abbrev pub is_root : Volume → Core → List ℕ → Bool
-is_root v core slot =
+abbrev pub is_fork_root : Volume → Core → List ℕ → Bool
+is_fork_root v core slot =
     nat_le core.forkoff 41
     && has_children (root_capacity core.forkoff) slot
     && keys_ascend slot
@@ -80,7 +80,7 @@ level_under v capacity slot = record {
 
 -- the level under the root of a data fork in tree format, where the root keeps the rules
 abbrev pub top_of : Volume → Core → List ℕ → Option Top
-top_of v core slot = if core.format == 3 && is_root v core slot then Some (level_under v (root_capacity core.forkoff) slot) else None
+top_of v core slot = if core.format == 3 && is_fork_root v core slot then Some (level_under v (root_capacity core.forkoff) slot) else None
 
 -- the block of an extent of one block, where it lies in the volume
 abbrev pub only_block : Volume → Extent → Option ℕ
@@ -101,7 +101,7 @@ attr_place v core slot = if has_attr_extent core then only_block v (attr_extent 
 -- the data fork of a symbolic link has one extent, and it lies inside the fork
 abbrev pub has_link_extent : Core → Bool
 has_link_extent core =
-    type_of core == 10 && core.format == 2 && core.nextents == 1 && nat_le core.forkoff 41 && nat_le 16 (fork_bytes core.forkoff)
+    core_type core == 10 && core.format == 2 && core.nextents == 1 && nat_le core.forkoff 41 && nat_le 16 (fork_bytes core.forkoff)
 
 -- the block of a symbolic link's target
 abbrev pub link_place : Volume → Core → List ℕ → Option ℕ

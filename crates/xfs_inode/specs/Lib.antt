@@ -3,6 +3,6 @@ pub mod Slots
 pub mod Writing
 pub mod Forks
 pub mod Files
-pub mod Claims
 pub mod Named
 pub mod Sound
+pub mod Private

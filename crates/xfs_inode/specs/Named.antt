@@ -3,7 +3,7 @@ use Rattle.std.specs.Prelude.{◌≡◌, ℕ, ◌≤◌, MatchResult, List, [], 
 use Rattle.xfs_disk.specs.Blocks.{Image}
 use Rattle.xfs_word.specs.declared.extents.Extent.{Extent}
 use Rattle.xfs_geom.specs.Volumes.{Volume}
-use Rattle.xfs_tree.specs.Reading.{Contents, bytes_at, reading}
+use Rattle.xfs_tree.specs.Reading.{Contents, bytes_of_block, reading}
 use Rattle.xfs_tree.specs.Seats.{seats_of}
 use Rattle.xfs_tree.specs.declared.unread.Unread.{Unread}
 use Rattle.xfs_tree.specs.declared.frontier.Frontier.{Frontier}
@@ -15,8 +15,8 @@ use Rattle.xfs_inode.specs.Files.{file_read}
 use Rattle.xfs_inode.specs.declared.reading.SlotRead.{SlotRead}
 use Rattle.xfs_inode.specs.declared.reading.SlotRead.TheVariants as Read
 use Rattle.xfs_disk.specs.Faults.{Rose}
-use Rattle.xfs_inode.specs.declared.errors.InodeError.{InodeError}
-use Rattle.xfs_inode.specs.declared.errors.InodeError.TheVariants as errors
+use Rattle.xfs_inode.specs.declared.faults.InodeFault.{InodeFault}
+use Rattle.xfs_inode.specs.declared.faults.InodeFault.TheVariants as errors
 use Rattle.xfs_inode.specs.declared.files.FileRead.{FileRead}
 
 -- a run of blocks is the whole of a level under a root
@@ -70,23 +70,23 @@ abbrev pub slot_reads : Volume → Image → ℕ → List ℕ → FileRead
 slot_reads v image ino slot =
     file_read v ino slot
     (tree_under v image ino (named_top v ino slot))
-    (option_map (bytes_at image) (named_attr v ino slot))
-    (option_map (bytes_at image) (named_link v ino slot))
+    (option_map (bytes_of_block image) (named_attr v ino slot))
+    (option_map (bytes_of_block image) (named_link v ino slot))
 
 -- what reads from a run of blocks that is a whole level
-abbrev pub tree_at : Volume → Image → ℕ → Option (Frontier Bmbt Extent ℕ) → Option (Contents Extent)
-tree_at v image ino None = None
-tree_at v image ino (Some f) = held_by (reading (bmbt_shape ino) v image (seats_of f.places.items f.lows.items f.highs.items) f.level)
+abbrev pub tree_below : Volume → Image → ℕ → Option (Frontier Bmbt Extent ℕ) → Option (Contents Extent)
+tree_below v image ino None = None
+tree_below v image ino (Some f) = held_by (reading (bmbt_shape ino) v image (seats_of f.places.items f.lows.items f.highs.items) f.level)
 
 -- the blocks that are named, as a run of blocks
-abbrev pub AreNamed : Option Top → Option (Frontier Bmbt Extent ℕ) → Type 0
-AreNamed top None = top ≡ None
-AreNamed top (Some f) = IsTop top f
+abbrev pub IsTopNamed : Option Top → Option (Frontier Bmbt Extent ℕ) → Type 0
+IsTopNamed top None = top ≡ None
+IsTopNamed top (Some f) = IsTop top f
 
 -- a read fault is answered only where the count of failed reads rose
-abbrev pub IsInodeCause : ℕ → ℕ → InodeError → Type 0
+abbrev pub IsInodeCause : ℕ → ℕ → InodeFault → Type 0
 IsInodeCause before now errors.ReadFault = Rose before now
 IsInodeCause before now errors.NoMemory = before ≤ now
 
-abbrev pub HasInodeCause : {T : Type 0} → ℕ → ℕ → Result T InodeError → Type 0
+abbrev pub HasInodeCause : {T : Type 0} → ℕ → ℕ → Result T InodeFault → Type 0
 HasInodeCause before now result = MatchResult result (λ _. before ≤ now) (IsInodeCause before now)

@@ -3,31 +3,31 @@
 use Rattle.std.specs.Prelude.{◌≡◌, ℕ, ◌+◌, true, List, [], ◌++◌, length, map, None}
 use Rattle.xfs_geom.specs.Volumes.{Volume}
 use Rattle.xfs_volume.specs.declared.files.FileRec.{FileRec}
-use Rattle.xfs_inode.specs.Files.{are_apart, are_blocks, are_extents, blocks_in, run_of, runs_of}
-use Rattle.xfs_inode.specs.declared.claims.Run.{Run}
+use Rattle.xfs_inode.specs.Files.{ranges_apart, are_blocks, are_extents, extent_blocks, range_of, ranges_of}
+use Rattle.xfs_inode.specs.declared.claims.BlockRange.{BlockRange}
 use Rattle.xfs_inode.specs.declared.files.FileRead.{FileRead}
 use Rattle.xfs_inode.specs.declared.files.FileRead.TheVariants as Reads
 
 -- all that a file claims: the blocks of its data, of the tree of their extents, and of its attributes
-abbrev pub claims_of : Volume → FileRec → List Run
-claims_of v file = runs_of v (record { records = file.extents; blocks = file.tree }) ++ map (run_of v) file.attr
+abbrev pub claims_of : Volume → FileRec → List BlockRange
+claims_of v file = ranges_of v (record { records = file.extents; blocks = file.tree }) ++ map (range_of v) file.attr_extents
 
 -- a file of this inode, whose extents lie in the volume in file order, and no block of which has two uses in it
 pub record IsFile (v : Volume) (ino : ℕ) (file : FileRec) : Type 0 where
   pub number : file.ino ≡ ino
   pub extents : are_extents v None file.extents ≡ true
   pub tree : are_blocks v file.tree ≡ true
-  pub apart : are_apart (claims_of v file) ≡ true
+  pub apart : ranges_apart (claims_of v file) ≡ true
 
 -- with all its attributes: its blocks are as many as its core states
 pub record IsWholeFile (v : Volume) (ino : ℕ) (file : FileRec) : Type 0 where
   pub keeps : IsFile v ino file
-  pub counted : file.core.nblocks ≡ blocks_in file.extents + length file.tree + blocks_in file.attr
+  pub counted : file.core.nblocks ≡ extent_blocks file.extents + length file.tree + extent_blocks file.attr_extents
 
 -- without its attributes: none are given, and no block of theirs
 pub record IsBareFile (v : Volume) (ino : ℕ) (file : FileRec) : Type 0 where
   pub keeps : IsFile v ino file
-  pub no_extents : file.attr ≡ []
+  pub no_extents : file.attr_extents ≡ []
   pub no_attrs : file.attrs ≡ []
 
 -- what a slot reads as is a file, as it says, or none

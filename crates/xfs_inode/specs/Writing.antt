@@ -1,13 +1,13 @@
 -- What is written into the slot of an inode (chapter "On-disk Inode").
-use Rattle.std.specs.Prelude.{◌≡◌, ℕ, ◌*◌, ◌==◌, if◌then◌else◌, List, [], ◌∷◌, replicate}
+use Rattle.std.specs.Prelude.{◌≡◌, ℕ, ◌*◌, ◌==◌, if◌then◌else◌, List, [], ◌∷◌}
 use Rattle.xfs_word.specs.Field.{field_of, part_of, Beside}
 use Rattle.xfs_word.specs.declared.kinds.FieldPlace.{FieldPlace}
 use Rattle.xfs_geom.specs.Volumes.{Volume}
 use Rattle.xfs_volume.specs.declared.cores.Core.{Core}
 
 -- the width many bytes from an offset on
-abbrev pub bytes_at : ℕ → ℕ → FieldPlace
-bytes_at offset width = record { offset = offset; width = width }
+abbrev pub field_place : ℕ → ℕ → FieldPlace
+field_place offset width = record { offset = offset; width = width }
 
 -- the w bytes from a on lie beside each of these places
 abbrev pub IsBesideEach : List FieldPlace → ℕ → ℕ → Type 0
@@ -18,14 +18,6 @@ IsBesideEach (place ∷ places) a w = Beside place.offset place.width a w × IsB
 abbrev pub KeepsOthers : List ℕ → List ℕ → List FieldPlace → Type 0
 KeepsOthers old new places =
     (a w : ℕ) → IsBesideEach places a w → (field_of new a w ≡ field_of old a w) × (part_of new a w ≡ part_of old a w)
-
--- bytes that are zero
-unfoldable pub zeros : ℕ → List ℕ
-zeros count = replicate count 0
-
--- the width bytes from an offset on are zero
-abbrev pub IsZero : List ℕ → ℕ → ℕ → Type 0
-IsZero bytes at width = part_of bytes at width ≡ zeros width
 
 -- the bytes of the data fork, which begins at byte 176: it reaches up to the attribute fork, or to the slot's end
 abbrev pub fork_bytes : ℕ → ℕ

@@ -4,14 +4,14 @@ ghost use Rattle.std.specs.Prelude.{◌≡◌, ℕ, ◌+◌, ◌*◌, ◌<◌, �
 ghost use Rattle.std.specs.Option.{option_copied};
 ghost use Rattle.xfs_word.specs.declared.extents.Extent.{Extent};
 ghost use Rattle.xfs_attr.specs.Leaf.{leaf_of};
-ghost use Rattle.xfs_attr.specs.ShortForm.{short_of};
+ghost use Rattle.xfs_attr.specs.ShortForm.{short_attributes};
 ghost use Rattle.xfs_attr.specs.Readings.{IsReading};
 ghost use Rattle.xfs_attr.specs.declared.attributes.Attr.{Attr};
 ghost use Rattle.xfs_attr.specs.declared.attributes.AttrFault.{AttrFault};
 ghost use Rattle.xfs_geom.specs.Volumes.{volume_of};
 ghost use Rattle.xfs_inode.specs.Slots.{attribute_start};
 ghost use Rattle.xfs_inode.specs.Forks.{attr_extent, attr_place};
-ghost use Rattle.xfs_inode.specs.Files.{attr_fork, feature_of, fork_with, index_seal, is_leaf, leaf_feature, leaf_held, no_attrs, remote};
+ghost use Rattle.xfs_inode.specs.Files.{attr_fork, feature_of, fork_with, index_seal, is_attr_leaf, leaf_feature, leaf_held, no_attrs, remote};
 ghost use Rattle.xfs_word.specs.Field.{part_of};
 
 use crate::extents::{attr_extent, attr_place};
@@ -19,7 +19,7 @@ use crate::layouts::inode::SLOT_SIZE;
 use crate::support::attribute_start;
 use std::alloc::{AllocError, Global};
 use std::marker::Model;
-use xfs_attr::{AttrFault, Attrs, read_leaf, read_short};
+use xfs_attr::{AttrFault, Attrs, read_leaf, read_short_attributes};
 use xfs_disk::NoMemory;
 use xfs_geom::Geometry;
 use xfs_volume::{Core, Extents};
@@ -82,13 +82,13 @@ pub fn feature_of(
     g: &Geometry,
     ino: u64,
     place: Option<u64>,
-    attr: Option<&[u8]>,
+    attr_leaf: Option<&[u8]>,
 ) -> Result<Option<u8>, NoMemory>
     requires place { IfSome place (λ place. place < g.now.dblocks) }
-    requires attr { IfSome (option_copied attr) (λ block. length block ≡ 4096) }
-    ensures { IfOk result (λ what. what ≡ feature_of (volume_of g.now) ino place (option_copied attr.entry)) }
+    requires attr_leaf { IfSome (option_copied attr_leaf) (λ block. length block ≡ 4096) }
+    ensures { IfOk result (λ what. what ≡ feature_of (volume_of g.now) ino place (option_copied attr_leaf.entry)) }
 {
-    match (place, attr) {
+    match (place, attr_leaf) {
         (Some(place), Some(block)) => leaf_feature(alloc, g, ino, place, block),
         _ => Ok(None),
     }
@@ -127,12 +127,12 @@ pub fn attr_fork(
     ino: u64,
     core: &Core,
     slot: &[u8],
-    attr: Option<&[u8]>,
+    attr_leaf: Option<&[u8]>,
 ) -> Result<Option<AttrHeld>, NoMemory>
     requires slot { length slot.now ≡ 512 }
     requires forkoff { core.now.forkoff ≤ 41 }
-    requires attr { IfSome (option_copied attr) (λ block. length block ≡ 4096) }
-    ensures { IfOk result (λ held. held ≡ attr_fork (volume_of g.now) ino core.now slot.now (option_copied attr.entry)) }
+    requires attr_leaf { IfSome (option_copied attr_leaf) (λ block. length block ≡ 4096) }
+    ensures { IfOk result (λ held. held ≡ attr_fork (volume_of g.now) ino core.now slot.now (option_copied attr_leaf.entry)) }
 {
     if core.forkoff == 0 {
         return Ok(Some(AttrHeld::none(alloc)));
@@ -140,7 +140,7 @@ pub fn attr_fork(
     match core.aformat {
         1 => short_held(alloc, core, slot),
         2 if core.anextents == 0 => Ok(Some(AttrHeld::none(alloc))),
-        2 => leaf_held(alloc, g, ino, core, slot, attr),
+        2 => leaf_held(alloc, g, ino, core, slot, attr_leaf),
         _ => Ok(None),
     }
 }
@@ -149,10 +149,10 @@ pub fn attr_fork(
 fn short_held(alloc: Global, core: &Core, slot: &[u8]) -> Result<Option<AttrHeld>, NoMemory>
     requires slot { length slot.now ≡ 512 }
     requires forkoff { core.now.forkoff ≤ 41 }
-    ensures { IfOk result (λ held. held ≡ fork_with [] [] (short_of (part_of slot.now (attribute_start core.now.forkoff) (512 - attribute_start core.now.forkoff)))) }
+    ensures { IfOk result (λ held. held ≡ fork_with [] [] (short_attributes (part_of slot.now (attribute_start core.now.forkoff) (512 - attribute_start core.now.forkoff)))) }
 {
     let start = attribute_start(core.forkoff);
-    match read_short(alloc, part(slot, start, SLOT_SIZE - start)) {
+    match read_short_attributes(alloc, part(slot, start, SLOT_SIZE - start)) {
         Ok(attrs) => Ok(Some(AttrHeld {
             attrs,
             extents: Vec::new(alloc),
@@ -170,13 +170,13 @@ fn leaf_held(
     ino: u64,
     core: &Core,
     slot: &[u8],
-    attr: Option<&[u8]>,
+    attr_leaf: Option<&[u8]>,
 ) -> Result<Option<AttrHeld>, NoMemory>
     requires slot { length slot.now ≡ 512 }
-    requires attr { IfSome (option_copied attr) (λ block. length block ≡ 4096) }
-    ensures { IfOk result (λ held. held ≡ leaf_held (volume_of g.now) ino core.now slot.now (attr_place (volume_of g.now) core.now slot.now) (option_copied attr.entry)) }
+    requires attr_leaf { IfSome (option_copied attr_leaf) (λ block. length block ≡ 4096) }
+    ensures { IfOk result (λ held. held ≡ leaf_held (volume_of g.now) ino core.now slot.now (attr_place (volume_of g.now) core.now slot.now) (option_copied attr_leaf.entry)) }
 {
-    match (attr_place(g, core, slot), attr) {
+    match (attr_place(g, core, slot), attr_leaf) {
         (Some(place), Some(block)) => placed_leaf(alloc, g, ino, core, slot, place, block),
         _ => Ok(None),
     }

@@ -2,12 +2,12 @@
 
 ghost use Rattle.std.specs.Prelude.{◌≡◌, ℕ, ◌+◌, ◌-◌, ◌%◌, ◌<◌, ◌≤◌, length, IsTrue};
 ghost use Rattle.xfs_word.specs.Crc.{little_field_of};
-ghost use Rattle.xfs_word.specs.Field.{part_of};
+ghost use Rattle.xfs_word.specs.Field.{part_of, IsZero};
 ghost use Rattle.xfs_word.specs.Seal.{is_lsn, is_sealed};
 ghost use Rattle.xfs_geom.specs.Volumes.{volume_of};
 ghost use Rattle.xfs_inode.specs.Cores.{stated_core};
 ghost use Rattle.xfs_inode.specs.Slots.{has_bit, slot_read, slot_seal};
-ghost use Rattle.xfs_inode.specs.Writing.{free_core, IsZero};
+ghost use Rattle.xfs_inode.specs.Writing.{free_core};
 ghost use Rattle.xfs_inode.specs.declared.reading.SlotRead.TheVariants as Read;
 
 use crate::cores::put_core;

@@ -1,8 +1,7 @@
 //! Runs of bytes that are made zero.
 
 ghost use Rattle.std.specs.Prelude.{◌≡◌, ℕ, ◌+◌, ◌≤◌, length};
-ghost use Rattle.xfs_word.specs.Field.{Keeps, KeepsParts};
-ghost use Rattle.xfs_inode.specs.Writing.{IsZero};
+ghost use Rattle.xfs_word.specs.Field.{KeepsBeside, KeepsParts, IsZero};
 
 use xfs_word::put_part;
 
@@ -19,7 +18,7 @@ pub fn clear_part(slot: &mut [u8], at: usize, width: usize)
     requires slot { length slot.old ≡ 512 }
     requires inside { at + width ≤ 512 }
     ensures zero { IsZero slot.new at width }
-    ensures keeps { Keeps slot.old slot.new at width }
+    ensures keeps { KeepsBeside slot.old slot.new at width }
     ensures keeps_parts { KeepsParts slot.old slot.new at width }
 {
     put_part(slot, at, &[0; 512][..width]);

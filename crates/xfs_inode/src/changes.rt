@@ -2,14 +2,14 @@
 
 ghost use Rattle.std.specs.Prelude.{◌≡◌, ℕ, ◌+◌, ◌-◌, ◌*◌, ◌≤◌, length, IsTrue, [], ◌∷◌};
 ghost use Rattle.xfs_word.specs.Crc.{little_field_of};
-ghost use Rattle.xfs_word.specs.Field.{field_of};
+ghost use Rattle.xfs_word.specs.Field.{field_of, IsZero};
 ghost use Rattle.xfs_word.specs.Seal.{is_sealed};
 ghost use Rattle.xfs_geom.specs.Volumes.{volume_of};
 ghost use Rattle.xfs_inode.specs.Cores.{stated_core};
 ghost use Rattle.xfs_inode.specs.Slots.{slot_read, slot_seal};
 ghost use Rattle.xfs_inode.specs.declared.reading.SlotRead.TheVariants as Read;
 ghost use Rattle.xfs_volume.specs.declared.cores.Core.{Core};
-ghost use Rattle.xfs_inode.specs.Writing.{bytes_at, fork_bytes, IsZero, KeepsOthers};
+ghost use Rattle.xfs_inode.specs.Writing.{field_place, fork_bytes, KeepsOthers};
 
 use crate::bytes::clear_part;
 use crate::forks::fork_bytes;
@@ -28,7 +28,7 @@ pub fn set_links(g: &Geometry, ino: u64, nlink: u32, slot: &mut [u8])
     ensures sealed { IsTrue (is_sealed (slot_seal (volume_of g.now) ino) slot.new) }
     ensures read { (core : Core) → slot_read (volume_of g.now) ino slot.old ≡ Read.InUse core → slot_read (volume_of g.now) ino slot.new ≡ Read.InUse (stated_core slot.new) }
     ensures stated { stated_core slot.new ≡ record (stated_core slot.old) { nlink = nlink; next_unlinked = 0xffff_ffff; crc = little_field_of slot.new 100 4 } }
-    ensures others { KeepsOthers slot.old slot.new (bytes_at 16 4 ∷ bytes_at 96 4 ∷ bytes_at 100 4 ∷ []) }
+    ensures others { KeepsOthers slot.old slot.new (field_place 16 4 ∷ field_place 96 4 ∷ field_place 100 4 ∷ []) }
 {
     put_links(nlink, slot);
     seal_slot(g, ino, slot);
@@ -38,7 +38,7 @@ pub fn set_links(g: &Geometry, ino: u64, nlink: u32, slot: &mut [u8])
 fn put_links(nlink: u32, slot: &mut [u8])
     requires { length slot.old ≡ 512 }
     ensures stated { stated_core slot.new ≡ record (stated_core slot.old) { nlink = nlink; next_unlinked = 0xffff_ffff; crc = little_field_of slot.new 100 4 } }
-    ensures others { KeepsOthers slot.old slot.new (bytes_at 16 4 ∷ bytes_at 96 4 ∷ []) }
+    ensures others { KeepsOthers slot.old slot.new (field_place 16 4 ∷ field_place 96 4 ∷ []) }
 {
     put32(slot, NLINK.offset, nlink);
     put32(slot, NEXT_UNLINKED.offset, u32::MAX);
@@ -55,7 +55,7 @@ pub fn drop_attrs(g: &Geometry, ino: u64, nblocks: u64, slot: &mut [u8])
     ensures read { (core : Core) → slot_read (volume_of g.now) ino slot.old ≡ Read.InUse core → slot_read (volume_of g.now) ino slot.new ≡ Read.InUse (stated_core slot.new) }
     ensures stated { stated_core slot.new ≡ record (stated_core slot.old) { nblocks = nblocks; anextents = 0; aformat = 2; crc = little_field_of slot.new 100 4 } }
     ensures zero { let bytes = fork_bytes (field_of slot.old 82 1) in IsZero slot.new (176 + bytes) (336 - bytes) }
-    ensures others { let bytes = fork_bytes (field_of slot.old 82 1) in KeepsOthers slot.old slot.new (bytes_at 64 8 ∷ bytes_at 80 2 ∷ bytes_at 83 1 ∷ bytes_at (176 + bytes) (336 - bytes) ∷ bytes_at 100 4 ∷ []) }
+    ensures others { let bytes = fork_bytes (field_of slot.old 82 1) in KeepsOthers slot.old slot.new (field_place 64 8 ∷ field_place 80 2 ∷ field_place 83 1 ∷ field_place (176 + bytes) (336 - bytes) ∷ field_place 100 4 ∷ []) }
 {
     put_no_attrs(nblocks, slot);
     seal_slot(g, ino, slot);
@@ -67,7 +67,7 @@ fn put_no_attrs(nblocks: u64, slot: &mut [u8])
     requires forkoff { field_of slot.old 82 1 ≤ 41 }
     ensures stated { stated_core slot.new ≡ record (stated_core slot.old) { nblocks = nblocks; anextents = 0; aformat = 2; crc = little_field_of slot.new 100 4 } }
     ensures zero { let bytes = fork_bytes (field_of slot.old 82 1) in IsZero slot.new (176 + bytes) (336 - bytes) }
-    ensures others { let bytes = fork_bytes (field_of slot.old 82 1) in KeepsOthers slot.old slot.new (bytes_at 64 8 ∷ bytes_at 80 2 ∷ bytes_at 83 1 ∷ bytes_at (176 + bytes) (336 - bytes) ∷ []) }
+    ensures others { let bytes = fork_bytes (field_of slot.old 82 1) in KeepsOthers slot.old slot.new (field_place 64 8 ∷ field_place 80 2 ∷ field_place 83 1 ∷ field_place (176 + bytes) (336 - bytes) ∷ []) }
 {
     let bytes = fork_bytes(get8(slot, FORKOFF.offset));
     put64(slot, NBLOCKS.offset, nblocks);

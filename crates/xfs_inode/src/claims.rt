@@ -5,10 +5,10 @@ ghost use Rattle.std.specs.List.{All, list_all};
 ghost use Rattle.xfs_word.specs.declared.extents.Extent.{Extent};
 ghost use Rattle.xfs_geom.specs.Volumes.{volume_of};
 ghost use Rattle.xfs_kinds.specs.FileTrees.{is_extent};
-ghost use Rattle.xfs_inode.specs.Claims.{IsRanked, in_turn};
-ghost use Rattle.xfs_inode.specs.Files.{are_apart, are_blocks, are_extents, is_apart, is_placed, run_of, run_of_block, runs_of};
+ghost use Rattle.xfs_inode.specs.Private.Claims.{RangesRanked, in_turn};
+ghost use Rattle.xfs_inode.specs.Files.{ranges_apart, are_blocks, are_extents, is_apart, is_placed, range_of, range_of_block, ranges_of};
 
-use crate::held::Held;
+use crate::held::DataHeld;
 use std::alloc::{AllocError, Global};
 use xfs_geom::Geometry;
 use xfs_kinds::Bmbt;
@@ -17,7 +17,7 @@ use xfs_word::Extent;
 
 /// A run of blocks, by block numbers.
 #[derive(Clone, Copy, Debug, PartialEq, Eq, PartialOrd, Ord)]
-pub struct Run {
+pub struct BlockRange {
     /// The first block.
     pub start: u64,
     /// The block behind the last.
@@ -25,7 +25,7 @@ pub struct Run {
 }
 
 /// Whether what a data fork holds lies in the volume.
-pub fn is_placed(g: &Geometry, held: &Held) -> bool
+pub fn is_placed(g: &Geometry, held: &DataHeld) -> bool
     ensures { result ≡ is_placed (volume_of g.now) held.now }
 {
     are_extents(g, held.extents()) && are_blocks(g, held.blocks())
@@ -53,19 +53,19 @@ fn are_blocks(g: &Geometry, blocks: &[u64]) -> bool
 }
 
 /// Whether no block lies in two of the runs of what a data fork holds.
-pub fn are_apart(alloc: Global, g: &Geometry, held: &Held) -> Result<bool, AllocError>
+pub fn ranges_apart(alloc: Global, g: &Geometry, held: &DataHeld) -> Result<bool, AllocError>
     requires { is_placed (volume_of g.now) held.now ≡ true }
-    ensures { IfOk result (λ apart. apart ≡ are_apart (runs_of (volume_of g.now) held.now)) }
+    ensures { IfOk result (λ apart. apart ≡ ranges_apart (ranges_of (volume_of g.now) held.now)) }
 {
-    let runs = runs_of(alloc, g, held)?;
+    let runs = ranges_of(alloc, g, held)?;
     let ranked = sorted(alloc, &runs)?;
     Ok(in_turn(&ranked))
 }
 
 /// All runs of what a data fork holds.
-pub fn runs_of(alloc: Global, g: &Geometry, held: &Held) -> Result<Vec<Run>, AllocError>
+pub fn ranges_of(alloc: Global, g: &Geometry, held: &DataHeld) -> Result<Vec<BlockRange>, AllocError>
     requires { is_placed (volume_of g.now) held.now ≡ true }
-    ensures { IfOk result (λ runs. runs.items ≡ runs_of (volume_of g.now) held.now) }
+    ensures { IfOk result (λ runs. runs.items ≡ ranges_of (volume_of g.now) held.now) }
 {
     let mut runs = Vec::new(alloc);
     push_extents(g, held.extents(), &mut runs)?;
@@ -74,56 +74,56 @@ pub fn runs_of(alloc: Global, g: &Geometry, held: &Held) -> Result<Vec<Run>, All
 }
 
 /// Adds the runs of extents.
-fn push_extents(g: &Geometry, extents: &[Extent], runs: &mut Vec<Run>) -> Result<(), AllocError>
+fn push_extents(g: &Geometry, extents: &[Extent], runs: &mut Vec<BlockRange>) -> Result<(), AllocError>
     requires { All (λ (e : Extent). IsTrue (is_extent (volume_of g.now) e)) extents.now }
-    ensures { OnOk result (runs.new.items ≡ runs.old.items ++ map (run_of (volume_of g.now)) extents.now) }
+    ensures { OnOk result (runs.new.items ≡ runs.old.items ++ map (range_of (volume_of g.now)) extents.now) }
 {
     for extent in extents {
-        runs.push(run_of(g, extent))?;
+        runs.push(range_of(g, extent))?;
     }
     Ok(())
 }
 
 /// Adds the runs of blocks.
-fn push_blocks(g: &Geometry, blocks: &[u64], runs: &mut Vec<Run>) -> Result<(), AllocError>
+fn push_blocks(g: &Geometry, blocks: &[u64], runs: &mut Vec<BlockRange>) -> Result<(), AllocError>
     requires { All (λ (b : ℕ). IsTrue (nat_lt b g.now.dblocks)) blocks.now }
-    ensures { OnOk result (runs.new.items ≡ runs.old.items ++ map run_of_block blocks.now) }
+    ensures { OnOk result (runs.new.items ≡ runs.old.items ++ map range_of_block blocks.now) }
 {
     for block in blocks {
-        runs.push(run_of_block(g, *block))?;
+        runs.push(range_of_block(g, *block))?;
     }
     Ok(())
 }
 
 /// The blocks of an extent.
-pub fn run_of(g: &Geometry, extent: &Extent) -> Run
+pub fn range_of(g: &Geometry, extent: &Extent) -> BlockRange
     requires { IsTrue (is_extent (volume_of g.now) extent.now) }
-    ensures { result ≡ run_of (volume_of g.now) extent.now }
+    ensures { result ≡ range_of (volume_of g.now) extent.now }
 {
     let size = 1u64 << g.agblklog;
     let group = (extent.start / size) as u32;
     let start = g.start_of_group(group) + extent.start % size;
-    Run {
+    BlockRange {
         start,
         end: start + extent.count,
     }
 }
 
 /// One block.
-fn run_of_block(g: &Geometry, block: u64) -> Run
+fn range_of_block(g: &Geometry, block: u64) -> BlockRange
     requires { IsTrue (nat_lt block g.now.dblocks) }
-    ensures { result ≡ run_of_block block }
+    ensures { result ≡ range_of_block block }
 {
-    Run {
+    BlockRange {
         start: block,
         end: block + 1,
     }
 }
 
 /// These runs, in order.
-fn sorted(alloc: Global, runs: &[Run]) -> Result<Vec<Run>, AllocError>
+fn sorted(alloc: Global, runs: &[BlockRange]) -> Result<Vec<BlockRange>, AllocError>
     ensures moved { IfOk result (λ sorted. IsPermutation runs.now sorted.items) }
-    ensures ranked { IfOk result (λ sorted. IsRanked sorted.items) }
+    ensures ranked { IfOk result (λ sorted. RangesRanked sorted.items) }
 {
     let mut sorted = Vec::from_slice(alloc, runs)?;
     sorted.sort()?;
@@ -131,7 +131,7 @@ fn sorted(alloc: Global, runs: &[Run]) -> Result<Vec<Run>, AllocError>
 }
 
 /// Whether each run begins where the one in front of it ends, or behind.
-fn in_turn(runs: &[Run]) -> bool
+fn in_turn(runs: &[BlockRange]) -> bool
     ensures { result ≡ in_turn 0 runs.now }
 {
     let mut end = 0;

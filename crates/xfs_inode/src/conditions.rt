@@ -3,10 +3,10 @@
 ghost use Rattle.std.specs.Prelude.{◌≡◌, ℕ, ◌<◌, ◌≤◌, ◌+◌, ◌*◌, length, true, IfSome};
 ghost use Rattle.std.specs.Option.{option_copied};
 ghost use Rattle.xfs_geom.specs.Volumes.{volume_of};
-ghost use Rattle.xfs_inode.specs.Files.{device_of, has_format, has_forkoff, has_target, holds_target, is_core, is_link, is_local_whole, link_seal, states_no_fork};
-ghost use Rattle.xfs_inode.specs.Forks.{link_place, type_of};
+ghost use Rattle.xfs_inode.specs.Files.{device_of, has_format, has_forkoff, has_link_target, holds_target, is_core, is_link, is_local_whole, link_seal, states_no_fork};
+ghost use Rattle.xfs_inode.specs.Forks.{link_place, core_type};
 
-use crate::extents::{fork_extent, link_place, type_of};
+use crate::extents::{fork_extent, link_place, core_type};
 use crate::forks::fork_bytes;
 use crate::layouts::link::{BYTES, LONGEST_TARGET, OFFSET};
 use xfs_geom::Geometry;
@@ -19,7 +19,7 @@ pub fn is_core(core: &Core) -> bool
     ensures forkoff { result ≡ true → core.now.forkoff ≤ 41 }
     ensures fits { result ≡ true → core.now.format ≡ 1 → core.now.size ≤ 336 }
 {
-    if !has_format(type_of(core), core.format) || !has_forkoff(type_of(core), core.forkoff) {
+    if !has_format(core_type(core), core.format) || !has_forkoff(core_type(core), core.forkoff) {
         return false;
     }
     if core.size >= 1 << 63 {
@@ -66,17 +66,17 @@ fn is_local_whole(core: &Core) -> bool
     if core.format != 1 {
         return true;
     }
-    core.size <= fork_bytes(core.forkoff) as u64 && (type_of(core) != 10 || 1 <= core.size)
+    core.size <= fork_bytes(core.forkoff) as u64 && (core_type(core) != 10 || 1 <= core.size)
 }
 
 /// Whether a symbolic link of one block has one that holds its target.
-pub fn has_target(g: &Geometry, ino: u64, core: &Core, slot: &[u8], link: Option<&[u8]>) -> bool
+pub fn has_link_target(g: &Geometry, ino: u64, core: &Core, slot: &[u8], link: Option<&[u8]>) -> bool
     requires slot { length slot.now ≡ 512 }
     requires link { IfSome (option_copied link) (λ block. length block ≡ 4096) }
-    ensures value { result ≡ has_target (volume_of g.now) ino core.now slot.now (option_copied link.entry) }
-    ensures short { result ≡ true → type_of core.now ≡ 10 → core.now.format ≡ 2 → core.now.size ≤ 1024 }
+    ensures value { result ≡ has_link_target (volume_of g.now) ino core.now slot.now (option_copied link.entry) }
+    ensures short { result ≡ true → core_type core.now ≡ 10 → core.now.format ≡ 2 → core.now.size ≤ 1024 }
 {
-    if type_of(core) != 10 || core.format != 2 {
+    if core_type(core) != 10 || core.format != 2 {
         return true;
     }
     match (link_place(g, core, slot), link) {

@@ -2,9 +2,8 @@
 
 ghost use Rattle.std.specs.Prelude.{◌≡◌, ℕ, ◌+◌, ◌≤◌, length};
 ghost use Rattle.xfs_word.specs.Crc.{little_field_of};
-ghost use Rattle.xfs_word.specs.Field.{field_of, part_of, Keeps, KeepsParts};
+ghost use Rattle.xfs_word.specs.Field.{field_of, part_of, KeepsBeside, KeepsParts, IsZero};
 ghost use Rattle.xfs_inode.specs.Cores.{stated_core};
-ghost use Rattle.xfs_inode.specs.Writing.{IsZero};
 
 use crate::bytes::clear;
 use crate::layouts::inode::{
@@ -84,7 +83,7 @@ fn put_kind(core: &Core, slot: &mut [u8])
     ensures mode { field_of slot.new 2 2 ≡ core.now.mode }
     ensures version { field_of slot.new 4 1 ≡ core.now.version }
     ensures format { field_of slot.new 5 1 ≡ core.now.format }
-    ensures keeps { Keeps slot.old slot.new 0 6 }
+    ensures keeps { KeepsBeside slot.old slot.new 0 6 }
     ensures keeps_parts { KeepsParts slot.old slot.new 0 6 }
 {
     put16(slot, MAGIC.offset, core.magic);
@@ -101,7 +100,7 @@ fn put_owner(core: &Core, slot: &mut [u8])
     ensures nlink { field_of slot.new 16 4 ≡ core.now.nlink }
     ensures projid_lo { field_of slot.new 20 2 ≡ core.now.projid_lo }
     ensures projid_hi { field_of slot.new 22 2 ≡ core.now.projid_hi }
-    ensures keeps { Keeps slot.old slot.new 8 16 }
+    ensures keeps { KeepsBeside slot.old slot.new 8 16 }
     ensures keeps_parts { KeepsParts slot.old slot.new 8 16 }
 {
     put32(slot, UID.offset, core.uid);
@@ -118,7 +117,7 @@ fn put_times(core: &Core, slot: &mut [u8])
     ensures mtime { field_of slot.new 40 8 ≡ core.now.mtime }
     ensures ctime { field_of slot.new 48 8 ≡ core.now.ctime }
     ensures size { field_of slot.new 56 8 ≡ core.now.size }
-    ensures keeps { Keeps slot.old slot.new 32 32 }
+    ensures keeps { KeepsBeside slot.old slot.new 32 32 }
     ensures keeps_parts { KeepsParts slot.old slot.new 32 32 }
 {
     put64(slot, ATIME.offset, core.atime);
@@ -136,7 +135,7 @@ fn put_counts(core: &Core, slot: &mut [u8])
     ensures anextents { field_of slot.new 80 2 ≡ core.now.anextents }
     ensures forkoff { field_of slot.new 82 1 ≡ core.now.forkoff }
     ensures aformat { field_of slot.new 83 1 ≡ core.now.aformat }
-    ensures keeps { Keeps slot.old slot.new 64 20 }
+    ensures keeps { KeepsBeside slot.old slot.new 64 20 }
     ensures keeps_parts { KeepsParts slot.old slot.new 64 20 }
 {
     put64(slot, NBLOCKS.offset, core.nblocks);
@@ -157,7 +156,7 @@ fn put_flags(core: &Core, slot: &mut [u8])
     ensures lsn { field_of slot.new 112 8 ≡ core.now.lsn }
     ensures flags2 { field_of slot.new 120 8 ≡ core.now.flags2 }
     ensures cowextsize { field_of slot.new 128 4 ≡ core.now.cowextsize }
-    ensures keeps { Keeps slot.old slot.new 90 42 }
+    ensures keeps { KeepsBeside slot.old slot.new 90 42 }
     ensures keeps_parts { KeepsParts slot.old slot.new 90 42 }
 {
     put16(slot, FLAGS.offset, core.flags);
@@ -175,7 +174,7 @@ fn put_birth(core: &Core, slot: &mut [u8])
     ensures crtime { field_of slot.new 144 8 ≡ core.now.crtime }
     ensures ino { field_of slot.new 152 8 ≡ core.now.ino }
     ensures uuid { part_of slot.new 160 16 ≡ core.now.uuid }
-    ensures keeps { Keeps slot.old slot.new 144 32 }
+    ensures keeps { KeepsBeside slot.old slot.new 144 32 }
     ensures keeps_parts { KeepsParts slot.old slot.new 144 32 }
 {
     put64(slot, CRTIME.offset, core.crtime);

@@ -3,18 +3,18 @@
 ghost use Rattle.std.specs.Prelude.{◌≡◌, ℕ, ◌+◌, ◌<◌, ◌≤◌, ◌==◌, length, true, MatchOption, IfOk};
 ghost use Rattle.std.specs.List.{list_all};
 ghost use Rattle.xfs_geom.specs.Volumes.{volume_of};
-ghost use Rattle.xfs_inode.specs.Files.{blocks_in, is_apart, is_clear, is_counted, is_placed, run_of_block};
+ghost use Rattle.xfs_inode.specs.Files.{extent_blocks, is_apart, is_off_attributes, is_counted, is_placed, range_of_block};
 
 use crate::attributes::AttrHeld;
-use crate::claims::{Run, runs_of};
-use crate::held::Held;
+use crate::claims::{BlockRange, ranges_of};
+use crate::held::DataHeld;
 use std::alloc::{AllocError, Global};
 use xfs_geom::Geometry;
 use xfs_volume::Core;
 use xfs_word::Extent;
 
 /// Whether the blocks of data, of their tree and of attributes are as many as the core states.
-pub fn is_counted(core: &Core, held: &Held, fork: &AttrHeld) -> bool
+pub fn is_counted(core: &Core, held: &DataHeld, fork: &AttrHeld) -> bool
     ensures { result ≡ is_counted core.now held.now fork.now }
 {
     match left_behind(core.nblocks, held.extents()) {
@@ -33,7 +33,7 @@ fn is_sum(sum: u64, one: usize, other: usize) -> bool
 
 /// How many of some blocks are left without those of the extents, where there are as many.
 fn left_behind(blocks: u64, extents: &[Extent]) -> Option<u64>
-    ensures { MatchOption result (blocks < blocks_in extents.now) (λ left. left + blocks_in extents.now ≡ blocks) }
+    ensures { MatchOption result (blocks < extent_blocks extents.now) (λ left. left + extent_blocks extents.now ≡ blocks) }
 {
     let mut left = blocks;
     for extent in extents {
@@ -46,36 +46,36 @@ fn left_behind(blocks: u64, extents: &[Extent]) -> Option<u64>
 }
 
 /// Whether no block of attributes is one of the data or of their tree.
-pub fn is_clear(
+pub fn is_off_attributes(
     alloc: Global,
     g: &Geometry,
-    held: &Held,
+    held: &DataHeld,
     fork: &AttrHeld,
 ) -> Result<bool, AllocError>
     requires { is_placed (volume_of g.now) held.now ≡ true }
-    ensures { IfOk result (λ clear. clear ≡ is_clear (volume_of g.now) held.now fork.now) }
+    ensures { IfOk result (λ clear. clear ≡ is_off_attributes (volume_of g.now) held.now fork.now) }
 {
-    let runs = runs_of(alloc, g, held)?;
+    let runs = ranges_of(alloc, g, held)?;
     Ok(miss(fork.blocks(), &runs))
 }
 
 /// Whether no block lies in one of the runs.
-fn miss(blocks: &[u64], runs: &[Run]) -> bool
-    ensures { result ≡ list_all (λ block. list_all (is_apart (run_of_block block)) runs.now) blocks.now }
+fn miss(blocks: &[u64], runs: &[BlockRange]) -> bool
+    ensures { result ≡ list_all (λ block. list_all (is_apart (range_of_block block)) runs.now) blocks.now }
 {
     blocks.iter().all(|block| misses(*block, runs))
 }
 
 /// Whether a block lies in none of the runs.
-fn misses(block: u64, runs: &[Run]) -> bool
-    ensures { result ≡ list_all (is_apart (run_of_block block)) runs.now }
+fn misses(block: u64, runs: &[BlockRange]) -> bool
+    ensures { result ≡ list_all (is_apart (range_of_block block)) runs.now }
 {
     runs.iter().all(|run| is_beside(block, *run))
 }
 
 /// Whether a block does not lie in a run.
-fn is_beside(block: u64, run: Run) -> bool
-    ensures { result ≡ is_apart (run_of_block block) run }
+fn is_beside(block: u64, run: BlockRange) -> bool
+    ensures { result ≡ is_apart (range_of_block block) run }
 {
     block < run.start || run.end <= block
 }

@@ -4,7 +4,7 @@ ghost use Rattle.std.specs.Prelude.{◌≡◌, ℕ, ◌+◌, ◌*◌, ◌<◌, �
 ghost use Rattle.xfs_word.specs.Field.{part_of};
 ghost use Rattle.xfs_geom.specs.Volumes.{volume_of};
 ghost use Rattle.xfs_kinds.specs.FileTrees.{extent_of};
-ghost use Rattle.xfs_inode.specs.Forks.{attr_extent, attr_place, fork_extent, has_attr_extent, has_link_extent, link_place, only_block, type_of};
+ghost use Rattle.xfs_inode.specs.Forks.{attr_extent, attr_place, fork_extent, has_attr_extent, has_link_extent, link_place, only_block, core_type};
 
 use crate::forks::fork_bytes;
 use crate::layouts::inode::{DATA_FORK, EXTENT_SIZE, SLOT_SIZE};
@@ -16,8 +16,8 @@ use xfs_volume::Core;
 use xfs_word::{Extent, part};
 
 /// The type of a file, in the upper four bits of its mode.
-pub fn type_of(core: &Core) -> u16
-    ensures { result ≡ type_of core.now }
+pub fn core_type(core: &Core) -> u16
+    ensures { result ≡ core_type core.now }
 {
     core.mode / 4096
 }
@@ -79,7 +79,7 @@ pub fn link_place(g: &Geometry, core: &Core, slot: &[u8]) -> Option<u64>
 fn has_link_extent(core: &Core) -> bool
     ensures { result ≡ has_link_extent core.now }
 {
-    if type_of(core) != 10 || core.format != 2 {
+    if core_type(core) != 10 || core.format != 2 {
         return false;
     }
     core.nextents == 1 && core.forkoff <= 41 && EXTENT_SIZE <= fork_bytes(core.forkoff)

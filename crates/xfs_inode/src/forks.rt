@@ -2,14 +2,14 @@
 
 ghost use Rattle.std.specs.Prelude.{◌≡◌, ℕ, ◌+◌, ◌-◌, ◌*◌, ◌<◌, ◌≤◌, ◌^◌, length, IsTrue, [], ◌∷◌};
 ghost use Rattle.xfs_word.specs.Crc.{little_field_of};
-ghost use Rattle.xfs_word.specs.Field.{field_of, part_of};
+ghost use Rattle.xfs_word.specs.Field.{field_of, part_of, IsZero};
 ghost use Rattle.xfs_word.specs.Seal.{is_sealed};
 ghost use Rattle.xfs_geom.specs.Volumes.{volume_of};
 ghost use Rattle.xfs_inode.specs.Cores.{stated_core};
 ghost use Rattle.xfs_inode.specs.Slots.{slot_read, slot_seal};
 ghost use Rattle.xfs_inode.specs.declared.reading.SlotRead.TheVariants as Read;
 ghost use Rattle.xfs_volume.specs.declared.cores.Core.{Core};
-ghost use Rattle.xfs_inode.specs.Writing.{bytes_at, fork_bytes, IsZero, KeepsOthers};
+ghost use Rattle.xfs_inode.specs.Writing.{field_place, fork_bytes, KeepsOthers};
 
 use crate::bytes::clear_part;
 use crate::layouts::inode::{DATA_FORK, FORKOFF, FORKS_SIZE, FORMAT, NBLOCKS, NEXTENTS, SIZE};
@@ -46,7 +46,7 @@ pub fn set_fork(g: &Geometry, ino: u64, fork: &ForkWanted, slot: &mut [u8])
     ensures stated { stated_core slot.new ≡ record (stated_core slot.old) { format = fork.now.format; size = fork.now.size; nblocks = fork.now.nblocks; nextents = fork.now.nextents; crc = little_field_of slot.new 100 4 } }
     ensures put { part_of slot.new 176 (length fork.now.bytes) ≡ fork.now.bytes }
     ensures zero { IsZero slot.new (176 + length fork.now.bytes) (fork_bytes (field_of slot.old 82 1) - length fork.now.bytes) }
-    ensures others { KeepsOthers slot.old slot.new (bytes_at 5 1 ∷ bytes_at 56 8 ∷ bytes_at 64 8 ∷ bytes_at 76 4 ∷ bytes_at 176 (fork_bytes (field_of slot.old 82 1)) ∷ bytes_at 100 4 ∷ []) }
+    ensures others { KeepsOthers slot.old slot.new (field_place 5 1 ∷ field_place 56 8 ∷ field_place 64 8 ∷ field_place 76 4 ∷ field_place 176 (fork_bytes (field_of slot.old 82 1)) ∷ field_place 100 4 ∷ []) }
 {
     put_fork(fork, slot);
     seal_slot(g, ino, slot);
@@ -61,7 +61,7 @@ fn put_fork(fork: &ForkWanted, slot: &mut [u8])
     ensures stated { stated_core slot.new ≡ record (stated_core slot.old) { format = fork.now.format; size = fork.now.size; nblocks = fork.now.nblocks; nextents = fork.now.nextents; crc = little_field_of slot.new 100 4 } }
     ensures put { part_of slot.new 176 (length fork.now.bytes) ≡ fork.now.bytes }
     ensures zero { IsZero slot.new (176 + length fork.now.bytes) (fork_bytes (field_of slot.old 82 1) - length fork.now.bytes) }
-    ensures others { KeepsOthers slot.old slot.new (bytes_at 5 1 ∷ bytes_at 56 8 ∷ bytes_at 64 8 ∷ bytes_at 76 4 ∷ bytes_at 176 (fork_bytes (field_of slot.old 82 1)) ∷ []) }
+    ensures others { KeepsOthers slot.old slot.new (field_place 5 1 ∷ field_place 56 8 ∷ field_place 64 8 ∷ field_place 76 4 ∷ field_place 176 (fork_bytes (field_of slot.old 82 1)) ∷ []) }
 {
     let room = fork_bytes(get8(slot, FORKOFF.offset));
     let bytes = fork.bytes.bytes();

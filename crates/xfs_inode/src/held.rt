@@ -20,12 +20,12 @@ use xfs_word::Extent;
 
 /// The extents of a data fork, and the blocks of their tree.
 #[derive(Drop)]
-pub struct Held {
+pub struct DataHeld {
     extents: Vec<Extent>,
     blocks: Vec<u64>,
 }
 
-impl Model for Held {
+impl Model for DataHeld {
     ghost use Rattle.xfs_tree.specs.Reading.{Contents};
     ghost use Rattle.xfs_word.specs.declared.extents.Extent.{Extent};
 
@@ -34,7 +34,7 @@ impl Model for Held {
     ghost view = { λ held. record { records = held.extents.items; blocks = held.blocks.items } };
 }
 
-impl Held {
+impl DataHeld {
     /// The extents, in file order.
     pub fn extents(&self) -> &[Extent]
         ensures { result.now ≡ self.now.records }
@@ -54,7 +54,7 @@ impl Held {
         ensures extents { result.0 ≡ self.records }
         ensures blocks { result.1 ≡ self.blocks }
     {
-        let Held { extents, blocks } = self;
+        let DataHeld { extents, blocks } = self;
         (Extents::from_vec(extents), Blocks::from_vec(blocks))
     }
 }
@@ -65,7 +65,7 @@ pub fn data_fork(
     core: &Core,
     slot: &[u8],
     tree: Option<&Tree<Bmbt>>,
-) -> Result<Option<Held>, AllocError>
+) -> Result<Option<DataHeld>, AllocError>
     requires slot { length slot.now ≡ 512 }
     requires forkoff { core.now.forkoff ≤ 41 }
     ensures { IfOk result (λ held. held ≡ data_fork core.now slot.now (option_map contents_of (option_copied tree.entry))) }
@@ -78,7 +78,7 @@ pub fn data_fork(
 }
 
 /// What a fork of extents holds.
-fn extents_held(alloc: Global, core: &Core, slot: &[u8]) -> Result<Option<Held>, AllocError>
+fn extents_held(alloc: Global, core: &Core, slot: &[u8]) -> Result<Option<DataHeld>, AllocError>
     requires slot { length slot.now ≡ 512 }
     requires forkoff { core.now.forkoff ≤ 41 }
     ensures { IfOk result (λ held. held ≡ extents_held core.now slot.now) }
@@ -88,7 +88,7 @@ fn extents_held(alloc: Global, core: &Core, slot: &[u8]) -> Result<Option<Held>,
         return Ok(None);
     }
     let extents = list_extents(alloc, slot, count)?;
-    Ok(Some(Held {
+    Ok(Some(DataHeld {
         extents,
         blocks: Vec::new(alloc),
     }))
@@ -107,7 +107,7 @@ fn tree_held(
     alloc: Global,
     core: &Core,
     tree: Option<&Tree<Bmbt>>,
-) -> Result<Option<Held>, AllocError>
+) -> Result<Option<DataHeld>, AllocError>
     ensures { IfOk result (λ held. held ≡ tree_held core.now (option_map contents_of (option_copied tree.entry))) }
 {
     match tree {
@@ -117,7 +117,7 @@ fn tree_held(
 }
 
 /// What a tree holds, where it has as many extents as the core states.
-fn whole_tree(alloc: Global, core: &Core, tree: &Tree<Bmbt>) -> Result<Option<Held>, AllocError>
+fn whole_tree(alloc: Global, core: &Core, tree: &Tree<Bmbt>) -> Result<Option<DataHeld>, AllocError>
     ensures { IfOk result (λ held. held ≡ tree_held core.now (Some (contents_of tree.now))) }
 {
     if tree.records.len() != core.nextents as usize {
@@ -125,17 +125,17 @@ fn whole_tree(alloc: Global, core: &Core, tree: &Tree<Bmbt>) -> Result<Option<He
     }
     let extents = Vec::from_slice(alloc, tree.records.as_slice())?;
     let blocks = Vec::from_slice(alloc, tree.blocks.as_slice())?;
-    Ok(Some(Held { extents, blocks }))
+    Ok(Some(DataHeld { extents, blocks }))
 }
 
 /// What a fork without extents holds.
-fn none_held(alloc: Global, core: &Core) -> Option<Held>
+fn none_held(alloc: Global, core: &Core) -> Option<DataHeld>
     ensures { result ≡ none_held core.now }
 {
     if core.nextents != 0 {
         return None;
     }
-    Some(Held {
+    Some(DataHeld {
         extents: Vec::new(alloc),
         blocks: Vec::new(alloc),
     })

@@ -1,7 +1,7 @@
 //! Inodes: the slots of 512 bytes that hold them, read and written, and the files that they hold.
 //!
 //! A slot is judged by its bytes alone (`read_slot`), it names the blocks beside it that have to be read (`needs`), and
-//! both together are a file (`settle`); `read_file` does the three over a disk. Slots are written too: free, fresh, or
+//! both together are a file (`decide_file`); `read_file` does the three over a disk. Slots are written too: free, fresh, or
 //! with a new fork, other links or no attributes.
 //!
 //! `xfs_scan` reads each slot of a cluster so:
@@ -24,7 +24,7 @@ mod claims;
 mod conditions;
 mod cores;
 mod counts;
-mod errors;
+mod faults;
 mod extents;
 mod files;
 mod forks;
@@ -37,17 +37,17 @@ mod reading;
 mod records;
 mod roots;
 mod seals;
-mod settling;
+mod deciding;
 mod support;
-mod whole;
+mod file_reading;
 
 pub use blank::{free_slot, fresh_slot};
 pub use changes::{drop_attrs, set_links};
-pub use errors::InodeError;
+pub use faults::InodeFault;
 pub use files::FileRead;
 pub use forks::{ForkWanted, set_fork};
 pub use named::Needs;
 pub use naming::needs;
 pub use reading::{SlotRead, read_slot};
-pub use settling::settle;
-pub use whole::read_file;
+pub use deciding::decide_file;
+pub use file_reading::read_file;

@@ -9,7 +9,7 @@ pub struct Needs {
     /// The level under the root of the data fork, where that is a tree whose root keeps the rules.
     pub top: Option<Frontier<Bmbt>>,
     /// The block of a leaf of attributes.
-    pub attr: Option<u64>,
+    pub attr_leaf: Option<u64>,
     /// The block of a symbolic link's target.
     pub link: Option<u64>,
 }

@@ -2,7 +2,7 @@
 
 ghost use Rattle.std.specs.Prelude.{◌≡◌, ℕ, ◌<◌, Some, None, IfOk, IfSome, length};
 ghost use Rattle.xfs_geom.specs.Volumes.{volume_of};
-ghost use Rattle.xfs_inode.specs.Named.{AreNamed, named_attr, named_link, named_top};
+ghost use Rattle.xfs_inode.specs.Named.{IsTopNamed, named_attr, named_link, named_top};
 
 use crate::extents::{attr_place, link_place};
 use crate::named::Needs;
@@ -17,10 +17,10 @@ use xfs_geom::Geometry;
 #[tactic(auto, unfolding(crate::specs::Named::named_top, crate::specs::Named::named_attr, crate::specs::Named::named_link))]
 pub fn needs(alloc: Global, g: &Geometry, ino: u64, slot: &[u8]) -> Result<Needs, NoMemory>
     requires { length slot.now ≡ 512 }
-    ensures top { IfOk result (λ needs. AreNamed (named_top (volume_of g.now) ino slot.now) needs.top) }
-    ensures attr { IfOk result (λ needs. needs.attr ≡ named_attr (volume_of g.now) ino slot.now) }
+    ensures top { IfOk result (λ needs. IsTopNamed (named_top (volume_of g.now) ino slot.now) needs.top) }
+    ensures attr_leaf { IfOk result (λ needs. needs.attr_leaf ≡ named_attr (volume_of g.now) ino slot.now) }
     ensures link { IfOk result (λ needs. needs.link ≡ named_link (volume_of g.now) ino slot.now) }
-    ensures attr_inside { IfOk result (λ needs. IfSome needs.attr (λ block. block < g.now.dblocks)) }
+    ensures attr_inside { IfOk result (λ needs. IfSome needs.attr_leaf (λ block. block < g.now.dblocks)) }
     ensures link_inside { IfOk result (λ needs. IfSome needs.link (λ block. block < g.now.dblocks)) }
 {
     match read_slot(g, ino, slot) {
@@ -28,13 +28,13 @@ pub fn needs(alloc: Global, g: &Geometry, ino: u64, slot: &[u8]) -> Result<Needs
             let top = top_of(alloc, g, &core, slot)?;
             Ok(Needs {
                 top,
-                attr: attr_place(g, &core, slot),
+                attr_leaf: attr_place(g, &core, slot),
                 link: link_place(g, &core, slot),
             })
         }
         SlotRead::Unsound | SlotRead::Free | SlotRead::Unsupported { .. } => Ok(Needs {
             top: None,
-            attr: None,
+            attr_leaf: None,
             link: None,
         }),
     }

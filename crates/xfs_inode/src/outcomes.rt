@@ -3,15 +3,15 @@
 ghost use Rattle.std.specs.Prelude.{◌≡◌, ℕ, ◌≤◌, ◌&&◌, length, true, Some, IfSome, IfOk};
 ghost use Rattle.std.specs.Option.{option_copied};
 ghost use Rattle.xfs_geom.specs.Volumes.{volume_of};
-ghost use Rattle.xfs_inode.specs.Forks.{type_of};
-ghost use Rattle.xfs_inode.specs.Files.{file_of, has_leaf, is_clear, is_counted, is_placed, no_attrs, with_attrs};
+ghost use Rattle.xfs_inode.specs.Forks.{core_type};
+ghost use Rattle.xfs_inode.specs.Files.{file_record, has_leaf, is_off_attributes, is_counted, is_placed, no_attrs, with_attrs};
 ghost use Rattle.xfs_inode.specs.declared.files.FileRead.TheVariants as Reads;
 
 use crate::attributes::AttrHeld;
-use crate::counts::{is_clear, is_counted};
+use crate::counts::{is_off_attributes, is_counted};
 use crate::files::FileRead;
-use crate::held::Held;
-use crate::records::file_of;
+use crate::held::DataHeld;
+use crate::records::file_record;
 use std::alloc::{AllocError, Global};
 use xfs_disk::NoMemory;
 use xfs_geom::Geometry;
@@ -25,13 +25,13 @@ pub fn with_attrs(
     core: &Core,
     slot: &[u8],
     link: Option<&[u8]>,
-    held: Held,
+    held: DataHeld,
     fork: Option<AttrHeld>,
 ) -> Result<FileRead, NoMemory>
     requires slot { length slot.now ≡ 512 }
     requires link { IfSome (option_copied link) (λ block. length block ≡ 4096) }
     requires fits { core.now.format ≡ 1 → core.now.size ≤ 336 }
-    requires short { type_of core.now ≡ 10 → core.now.format ≡ 2 → core.now.size ≤ 1024 }
+    requires short { core_type core.now ≡ 10 → core.now.format ≡ 2 → core.now.size ≤ 1024 }
     requires placed { is_placed (volume_of g.now) held ≡ true }
     ensures { IfOk result (λ read. read ≡ with_attrs (volume_of g.now) ino core.now slot.now (option_copied link.entry) held fork) }
 {
@@ -48,15 +48,15 @@ fn without_attrs(
     core: &Core,
     slot: &[u8],
     link: Option<&[u8]>,
-    held: Held,
+    held: DataHeld,
 ) -> Result<FileRead, NoMemory>
     requires slot { length slot.now ≡ 512 }
     requires link { IfSome (option_copied link) (λ block. length block ≡ 4096) }
     requires fits { core.now.format ≡ 1 → core.now.size ≤ 336 }
-    requires short { type_of core.now ≡ 10 → core.now.format ≡ 2 → core.now.size ≤ 1024 }
-    ensures { IfOk result (λ read. read ≡ Reads.FileWithoutAttrs (file_of ino core.now slot.now (option_copied link.entry) held no_attrs)) }
+    requires short { core_type core.now ≡ 10 → core.now.format ≡ 2 → core.now.size ≤ 1024 }
+    ensures { IfOk result (λ read. read ≡ Reads.FileWithoutAttrs (file_record ino core.now slot.now (option_copied link.entry) held no_attrs)) }
 {
-    let file = file_of(alloc, ino, core, slot, link, held, AttrHeld::none(alloc))?;
+    let file = file_record(alloc, ino, core, slot, link, held, AttrHeld::none(alloc))?;
     Ok(FileRead::FileWithoutAttrs(file))
 }
 
@@ -68,18 +68,18 @@ fn with_fork(
     core: &Core,
     slot: &[u8],
     link: Option<&[u8]>,
-    held: Held,
+    held: DataHeld,
     fork: AttrHeld,
 ) -> Result<FileRead, NoMemory>
     requires slot { length slot.now ≡ 512 }
     requires link { IfSome (option_copied link) (λ block. length block ≡ 4096) }
     requires fits { core.now.format ≡ 1 → core.now.size ≤ 336 }
-    requires short { type_of core.now ≡ 10 → core.now.format ≡ 2 → core.now.size ≤ 1024 }
+    requires short { core_type core.now ≡ 10 → core.now.format ≡ 2 → core.now.size ≤ 1024 }
     requires placed { is_placed (volume_of g.now) held ≡ true }
     ensures { IfOk result (λ read. read ≡ with_attrs (volume_of g.now) ino core.now slot.now (option_copied link.entry) held (Some fork)) }
 {
     if is_settled(alloc, g, core, &held, &fork)? {
-        let file = file_of(alloc, ino, core, slot, link, held, fork)?;
+        let file = file_record(alloc, ino, core, slot, link, held, fork)?;
         return Ok(FileRead::File(file));
     }
     if has_leaf(&fork) {
@@ -93,16 +93,16 @@ fn is_settled(
     alloc: Global,
     g: &Geometry,
     core: &Core,
-    held: &Held,
+    held: &DataHeld,
     fork: &AttrHeld,
 ) -> Result<bool, AllocError>
     requires { is_placed (volume_of g.now) held.now ≡ true }
-    ensures { IfOk result (λ settled. settled ≡ (is_counted core.now held.now fork.now && is_clear (volume_of g.now) held.now fork.now)) }
+    ensures { IfOk result (λ settled. settled ≡ (is_counted core.now held.now fork.now && is_off_attributes (volume_of g.now) held.now fork.now)) }
 {
     if !is_counted(core, held, fork) {
         return Ok(false);
     }
-    is_clear(alloc, g, held, fork)
+    is_off_attributes(alloc, g, held, fork)
 }
 
 /// Whether an attribute fork has a leaf.

@@ -2,12 +2,12 @@
 
 ghost use Rattle.std.specs.Prelude.{◌≡◌, ℕ, ◌≤◌, length, IfSome, IfOk};
 ghost use Rattle.std.specs.Option.{option_copied};
-ghost use Rattle.xfs_inode.specs.Forks.{type_of};
-ghost use Rattle.xfs_inode.specs.Files.{device_of, file_of, target_in, target_of};
+ghost use Rattle.xfs_inode.specs.Forks.{core_type};
+ghost use Rattle.xfs_inode.specs.Files.{device_of, file_record, target_in, link_target};
 
 use crate::attributes::AttrHeld;
-use crate::extents::type_of;
-use crate::held::Held;
+use crate::extents::core_type;
+use crate::held::DataHeld;
 use crate::layouts::inode::{DATA_FORK, DEVICE};
 use crate::layouts::link::TARGET;
 use std::alloc::{AllocError, Global};
@@ -16,29 +16,29 @@ use xfs_volume::{Core, FileRec};
 use xfs_word::{get32, part};
 
 /// The record of a file whose data fork and attribute fork hold this.
-pub fn file_of(
+pub fn file_record(
     alloc: Global,
     ino: u64,
     core: &Core,
     slot: &[u8],
     link: Option<&[u8]>,
-    held: Held,
+    held: DataHeld,
     fork: AttrHeld,
 ) -> Result<FileRec, AllocError>
     requires slot { length slot.now ≡ 512 }
     requires link { IfSome (option_copied link) (λ block. length block ≡ 4096) }
     requires fits { core.now.format ≡ 1 → core.now.size ≤ 336 }
-    requires short { type_of core.now ≡ 10 → core.now.format ≡ 2 → core.now.size ≤ 1024 }
-    ensures { IfOk result (λ file. file ≡ file_of ino core.now slot.now (option_copied link.entry) held fork) }
+    requires short { core_type core.now ≡ 10 → core.now.format ≡ 2 → core.now.size ≤ 1024 }
+    ensures { IfOk result (λ file. file ≡ file_record ino core.now slot.now (option_copied link.entry) held fork) }
 {
-    let target = target_of(alloc, core, slot, link)?;
+    let target = link_target(alloc, core, slot, link)?;
     let (extents, tree) = held.into_lists();
-    let (attrs, attr) = fork.into_lists();
+    let (attrs, attr_extents) = fork.into_lists();
     Ok(FileRec {
         ino,
         core: *core,
         extents,
-        attr,
+        attr_extents,
         tree,
         attrs,
         target,
@@ -47,7 +47,7 @@ pub fn file_of(
 }
 
 /// The target of a symbolic link; empty for another file.
-fn target_of(
+fn link_target(
     alloc: Global,
     core: &Core,
     slot: &[u8],
@@ -56,13 +56,13 @@ fn target_of(
     requires slot { length slot.now ≡ 512 }
     requires link { IfSome (option_copied link) (λ block. length block ≡ 4096) }
     requires fits { core.now.format ≡ 1 → core.now.size ≤ 336 }
-    requires short { type_of core.now ≡ 10 → core.now.format ≡ 2 → core.now.size ≤ 1024 }
-    ensures { IfOk result (λ target. target ≡ target_of core.now slot.now (option_copied link.entry)) }
+    requires short { core_type core.now ≡ 10 → core.now.format ≡ 2 → core.now.size ≤ 1024 }
+    ensures { IfOk result (λ target. target ≡ link_target core.now slot.now (option_copied link.entry)) }
 {
-    if type_of(core) == 10 && core.format == 1 {
+    if core_type(core) == 10 && core.format == 1 {
         return copied(alloc, part(slot, DATA_FORK, core.size as usize));
     }
-    if type_of(core) == 10 && core.format == 2 {
+    if core_type(core) == 10 && core.format == 2 {
         return target_in(alloc, core, link);
     }
     Ok(Word::from_vec(Vec::new(alloc)))
@@ -92,7 +92,7 @@ fn device_of(core: &Core, slot: &[u8]) -> u32
     requires { length slot.now ≡ 512 }
     ensures { result ≡ device_of core.now slot.now }
 {
-    if type_of(core) == 2 || type_of(core) == 6 {
+    if core_type(core) == 2 || core_type(core) == 6 {
         get32(slot, DEVICE.offset)
     } else {
         0

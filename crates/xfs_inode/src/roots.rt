@@ -4,8 +4,8 @@ ghost use Rattle.std.specs.Prelude.{◌≡◌, ℕ, ◌+◌, ◌-◌, ◌*◌, �
 ghost use Rattle.xfs_geom.specs.Conversions.{block_at};
 ghost use Rattle.xfs_geom.specs.Volumes.{volume_of};
 ghost use Rattle.xfs_tree.specs.Blocks.{each_of};
-ghost use Rattle.xfs_inode.specs.Forks.{are_addresses, has_children, is_root, is_there, keys_ascend, level_under, place_under, root_capacity, root_count, root_key, root_level, root_pointer, top_of};
-ghost use Rattle.xfs_inode.specs.Named.{AreNamed, IsTop};
+ghost use Rattle.xfs_inode.specs.Forks.{are_addresses, has_children, is_fork_root, names_block, keys_ascend, level_under, place_under, root_capacity, root_count, root_key, root_level, root_pointer, top_of};
+ghost use Rattle.xfs_inode.specs.Named.{IsTopNamed, IsTop};
 
 use crate::forks::fork_bytes;
 use crate::layouts::root::{HEADER_SIZE, KEYS, LEVEL, NUMRECS, WIDTH};
@@ -28,9 +28,9 @@ pub fn top_of(
     slot: &[u8],
 ) -> Result<Option<Frontier<Bmbt>>, AllocError>
     requires { length slot.now ≡ 512 }
-    ensures { IfOk result (λ top. AreNamed (top_of (volume_of g.now) core.now slot.now) top) }
+    ensures { IfOk result (λ top. IsTopNamed (top_of (volume_of g.now) core.now slot.now) top) }
 {
-    if core.format != 3 || !is_root(g, core, slot) {
+    if core.format != 3 || !is_fork_root(g, core, slot) {
         return Ok(None);
     }
     let top = level_under(alloc, g, root_capacity(core.forkoff), slot)?;
@@ -38,9 +38,9 @@ pub fn top_of(
 }
 
 /// Whether the root of a data fork that lies inside the slot keeps the rules.
-fn is_root(g: &Geometry, core: &Core, slot: &[u8]) -> bool
+fn is_fork_root(g: &Geometry, core: &Core, slot: &[u8]) -> bool
     requires { length slot.now ≡ 512 }
-    ensures value { result ≡ is_root (volume_of g.now) core.now slot.now }
+    ensures value { result ≡ is_fork_root (volume_of g.now) core.now slot.now }
     ensures count { result ≡ true → root_count slot.now ≤ root_capacity core.now.forkoff }
     ensures room { result ≡ true → 180 + 16 * root_capacity core.now.forkoff ≤ 512 }
     ensures level { result ≡ true → 1 ≤ root_level slot.now }
@@ -131,7 +131,7 @@ fn are_addresses(g: &Geometry, capacity: usize, slot: &[u8]) -> bool
 
 /// Whether an address is one of the volume.
 fn is_address(g: &Geometry, address: u64) -> bool
-    ensures { result ≡ is_there (block_at (volume_of g.now) address) }
+    ensures { result ≡ names_block (block_at (volume_of g.now) address) }
 {
     match g.block_of_address(address) {
         Some(_) => true,

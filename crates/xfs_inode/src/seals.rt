@@ -2,7 +2,7 @@
 
 ghost use Rattle.std.specs.Prelude.{◌≡◌, ℕ, length, IsTrue};
 ghost use Rattle.xfs_word.specs.Crc.{little_field_of};
-ghost use Rattle.xfs_word.specs.Field.{Keeps, KeepsParts};
+ghost use Rattle.xfs_word.specs.Field.{KeepsBeside, KeepsParts};
 ghost use Rattle.xfs_word.specs.Seal.{is_ready, is_sealed};
 ghost use Rattle.xfs_geom.specs.Volumes.{volume_of};
 ghost use Rattle.xfs_inode.specs.Cores.{stated_core};
@@ -29,7 +29,7 @@ pub fn seal_slot(g: &Geometry, ino: u64, slot: &mut [u8])
     requires ready { IsTrue (is_ready (slot_seal (volume_of g.now) ino) slot.old) }
     ensures sealed { IsTrue (is_sealed (slot_seal (volume_of g.now) ino) slot.new) }
     ensures stated { stated_core slot.new ≡ record (stated_core slot.old) { crc = little_field_of slot.new 100 4 } }
-    ensures keeps { Keeps slot.old slot.new 100 4 }
+    ensures keeps { KeepsBeside slot.old slot.new 100 4 }
     ensures keeps_parts { KeepsParts slot.old slot.new 100 4 }
 {
     seal(&slot_seal(g, ino), slot);

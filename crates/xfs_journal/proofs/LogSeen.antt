@@ -5,13 +5,13 @@ use Rattle.std.proofs.lemmas.List.{map-append}
 use Rattle.xfs_disk.specs.Blocks.{Image}
 use Rattle.xfs_heads.specs.Log.{seen_of}
 use Rattle.xfs_tree.specs.Blocks.{each_of}
-use Rattle.xfs_tree.specs.Reading.{bytes_at}
+use Rattle.xfs_tree.specs.Reading.{bytes_of_block}
 use Rattle.xfs_image.specs.Sectors.{sector_in}
 use Rattle.xfs_journal.specs.Placed.{seen_in}
 
 pub all_seen : (image : Image) (blocks : List ℕ)
-    → map seen_of (flat_map (λ block. each_of 8 (sector_in image block)) blocks) ≡ flat_map (λ block. each_of 8 (seen_in (bytes_at image block))) blocks
+    → map seen_of (flat_map (λ block. each_of 8 (sector_in image block)) blocks) ≡ flat_map (λ block. each_of 8 (seen_in (bytes_of_block image block))) blocks
 all_seen image [] = refl
 all_seen image (b ∷ bs) =
     map-append seen_of (each_of 8 (sector_in image b)) (flat_map (λ block. each_of 8 (sector_in image block)) bs)
-    ∙ ap (λ xs. each_of 8 (seen_in (bytes_at image b)) ++ xs) (all_seen image bs)
+    ∙ ap (λ xs. each_of 8 (seen_in (bytes_of_block image b)) ++ xs) (all_seen image bs)

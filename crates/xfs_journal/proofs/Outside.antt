@@ -6,24 +6,24 @@ use Rattle.std.proofs.lemmas.Bool.{eqb-true}
 use Rattle.std.specs.Option.{option_eq}
 use Rattle.xfs_word.specs.Field.{field_of}
 use Rattle.xfs_disk.specs.Blocks.{Image}
-use Rattle.xfs_tree.specs.Reading.{bytes_at}
+use Rattle.xfs_tree.specs.Reading.{bytes_of_block}
 use Rattle.xfs_journal.specs.Placed.{HoldsBlock}
 
-past_end : (image : Image) (block : ℕ) → length image ≤ block → bytes_at image block ≡ []
+past_end : (image : Image) (block : ℕ) → length image ≤ block → bytes_of_block image block ≡ []
 past_end image block past = get_or_past image block [] past
 
 nothing_held : (at : ℕ) → field_of [] at 8 ≡ 0
 unfolding field_of
 nothing_held at = let none : drop {A = ℕ} at [] ≡ [] = drop_all at [] (omega arith) in rw none refl
 
-pub no_number : (image : Image) (block at : ℕ) → length image ≤ block → field_of (bytes_at image block) at 8 ≡ 0
+pub no_number : (image : Image) (block at : ℕ) → length image ≤ block → field_of (bytes_of_block image block) at 8 ≡ 0
 no_number image block at past = ap (λ (bytes : List ℕ). field_of bytes at 8) (past_end image block past) ∙ nothing_held at
 
 -- a block that was read
-pub read_bytes : (image : Image) (at : ℕ) (block : List ℕ) → slice_get image at ≡ Some block → bytes_at image at ≡ block
+pub read_bytes : (image : Image) (at : ℕ) (block : List ℕ) → slice_get image at ≡ Some block → bytes_of_block image at ≡ block
 read_bytes image at block is = get_or_from_slice_get image at block [] is
 
 -- the block that is held is the one that is asked
-pub is_held : (image : Image) (held : Option ℕ) (block : ℕ) (bytes : List ℕ) → option_eq eqb held (Some block) ≡ true → HoldsBlock image held bytes → bytes_at image block ≡ bytes
+pub is_held : (image : Image) (held : Option ℕ) (block : ℕ) (bytes : List ℕ) → option_eq eqb held (Some block) ≡ true → HoldsBlock image held bytes → bytes_of_block image block ≡ bytes
 is_held image None block bytes same holds = cc
-is_held image (Some at) block bytes same holds = subst (λ (b : ℕ). bytes_at image b ≡ bytes) (eqb-true at block same) holds
+is_held image (Some at) block bytes same holds = subst (λ (b : ℕ). bytes_of_block image b ≡ bytes) (eqb-true at block same) holds

@@ -7,21 +7,21 @@ use Rattle.xfs_heads.specs.declared.log.SectorSeen.{SectorSeen}
 use Rattle.xfs_word.specs.declared.extents.Extent.{Extent}
 use Rattle.xfs_disk.specs.Blocks.{Image}
 use Rattle.xfs_geom.specs.Volumes.{Volume}
-use Rattle.xfs_tree.specs.Reading.{bytes_at}
+use Rattle.xfs_tree.specs.Reading.{bytes_of_block}
 use Rattle.xfs_image.specs.Lsns.{LsnPlace, dir_byte, extent_places}
 use Rattle.xfs_journal.specs.declared.extents.Owner.{Owner}
 use Rattle.xfs_journal.specs.declared.extents.Owner.TheVariants as owners
-use Rattle.xfs_journal.specs.declared.places.Place.{Place}
+use Rattle.xfs_journal.specs.declared.places.LsnPosition.{LsnPosition}
 
-abbrev pub place_of : Place → LsnPlace
-place_of p = record { block = p.block; byte = p.byte }
+abbrev pub lsn_place_of : LsnPosition → LsnPlace
+lsn_place_of p = record { block = p.block; byte = p.byte }
 
-abbrev pub listed : List Place → List LsnPlace
-listed places = map place_of places
+abbrev pub listed : List LsnPosition → List LsnPlace
+listed places = map lsn_place_of places
 
 -- the number lies in the block
-abbrev pub IsInside : Place → Type 0
-IsInside p = p.byte + 8 ≤ 4096
+abbrev pub IsInBlock : LsnPosition → Type 0
+IsInBlock p = p.byte + 8 ≤ 4096
 
 -- where a block of a fork has its number
 abbrev pub byte_of : Owner → ℕ → ℕ
@@ -35,7 +35,7 @@ fork_places v owner extents = flat_map (extent_places v (byte_of owner)) extents
 -- the block that is held has these bytes in the image
 abbrev pub HoldsBlock : Image → Option ℕ → List ℕ → Type 0
 HoldsBlock image None bytes = ⊤
-HoldsBlock image (Some block) bytes = bytes_at image block ≡ bytes
+HoldsBlock image (Some block) bytes = bytes_of_block image block ≡ bytes
 
 -- what is seen of a sector of a block
 abbrev pub seen_in : List ℕ → ℕ → SectorSeen

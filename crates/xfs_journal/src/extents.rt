@@ -5,9 +5,9 @@ ghost use Rattle.std.specs.List.{All};
 ghost use Rattle.xfs_geom.specs.Groups.{block_of_address};
 ghost use Rattle.xfs_geom.specs.Volumes.{volume_of};
 ghost use Rattle.xfs_image.specs.Lsns.{dir_byte, extent_places};
-ghost use Rattle.xfs_journal.specs.Placed.{IsInside, byte_of, fork_places, listed};
+ghost use Rattle.xfs_journal.specs.Placed.{IsInBlock, byte_of, fork_places, listed};
 
-use crate::places::{Place, push};
+use crate::places::{LsnPosition, push};
 use xfs_disk::NoMemory;
 use xfs_geom::Geometry;
 use xfs_word::Extent;
@@ -39,11 +39,11 @@ pub fn push_fork(
     g: &Geometry,
     owner: Owner,
     extents: &[Extent],
-    places: &mut Vec<Place>,
+    places: &mut Vec<LsnPosition>,
 ) -> Result<(), NoMemory>
-    requires inside { All IsInside places.old.items }
+    requires inside { All IsInBlock places.old.items }
     ensures listed { OnOk result (listed places.new.items ≡ listed places.old.items ++ fork_places (volume_of g.now) owner extents.now) }
-    ensures inside { All IsInside places.new.items }
+    ensures inside { All IsInBlock places.new.items }
 {
     for extent in extents {
         push_extent(g, owner, extent, places)?;
@@ -56,11 +56,11 @@ fn push_extent(
     g: &Geometry,
     owner: Owner,
     extent: &Extent,
-    places: &mut Vec<Place>,
+    places: &mut Vec<LsnPosition>,
 ) -> Result<(), NoMemory>
-    requires inside { All IsInside places.old.items }
+    requires inside { All IsInBlock places.old.items }
     ensures listed { OnOk result (listed places.new.items ≡ listed places.old.items ++ extent_places (volume_of g.now) (byte_of owner) extent.now) }
-    ensures inside { All IsInside places.new.items }
+    ensures inside { All IsInBlock places.new.items }
 {
     let start = start_of(g, extent.start);
     if sum_of(start, extent.count).is_none() || sum_of(extent.offset, extent.count).is_none() {

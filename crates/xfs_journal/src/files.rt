@@ -4,10 +4,10 @@ ghost use Rattle.std.specs.Prelude.{◌≡◌, ◌++◌, OnOk};
 ghost use Rattle.std.specs.List.{All, flat_map};
 ghost use Rattle.xfs_geom.specs.Volumes.{volume_of};
 ghost use Rattle.xfs_image.specs.Lsns.{data_places, file_places};
-ghost use Rattle.xfs_journal.specs.Placed.{IsInside, listed};
+ghost use Rattle.xfs_journal.specs.Placed.{IsInBlock, listed};
 
 use crate::extents::{Owner, push_fork};
-use crate::places::{Place, push_each};
+use crate::places::{LsnPosition, push_each};
 use xfs_disk::NoMemory;
 use xfs_geom::Geometry;
 use xfs_volume::FileRec;
@@ -21,10 +21,10 @@ const LINK: u16 = 10;
 const TREE_LSN: u16 = 32;
 
 /// Adds the places of files.
-pub fn push_files(g: &Geometry, files: &[FileRec], places: &mut Vec<Place>) -> Result<(), NoMemory>
-    requires inside { All IsInside places.old.items }
+pub fn push_files(g: &Geometry, files: &[FileRec], places: &mut Vec<LsnPosition>) -> Result<(), NoMemory>
+    requires inside { All IsInBlock places.old.items }
     ensures listed { OnOk result (listed places.new.items ≡ listed places.old.items ++ flat_map (file_places (volume_of g.now)) files.now) }
-    ensures inside { All IsInside places.new.items }
+    ensures inside { All IsInBlock places.new.items }
 {
     for file in files {
         push_file(g, file, places)?;
@@ -33,22 +33,22 @@ pub fn push_files(g: &Geometry, files: &[FileRec], places: &mut Vec<Place>) -> R
 }
 
 /// Adds the places of a file: of its data, of the tree of its extents, of its attributes.
-fn push_file(g: &Geometry, file: &FileRec, places: &mut Vec<Place>) -> Result<(), NoMemory>
-    requires inside { All IsInside places.old.items }
+fn push_file(g: &Geometry, file: &FileRec, places: &mut Vec<LsnPosition>) -> Result<(), NoMemory>
+    requires inside { All IsInBlock places.old.items }
     ensures listed { OnOk result (listed places.new.items ≡ listed places.old.items ++ file_places (volume_of g.now) file.now) }
-    ensures inside { All IsInside places.new.items }
+    ensures inside { All IsInBlock places.new.items }
 {
     push_data(g, file, places)?;
     push_each(file.tree.as_slice(), TREE_LSN, places)?;
-    push_fork(g, Owner::Attributes, file.attr.as_slice(), places)?;
+    push_fork(g, Owner::Attributes, file.attr_extents.as_slice(), places)?;
     Ok(())
 }
 
 /// Adds the places of a file's data: those of a directory or a symbolic link alone are objects with such a number.
-fn push_data(g: &Geometry, file: &FileRec, places: &mut Vec<Place>) -> Result<(), NoMemory>
-    requires inside { All IsInside places.old.items }
+fn push_data(g: &Geometry, file: &FileRec, places: &mut Vec<LsnPosition>) -> Result<(), NoMemory>
+    requires inside { All IsInBlock places.old.items }
     ensures listed { OnOk result (listed places.new.items ≡ listed places.old.items ++ data_places (volume_of g.now) file.now) }
-    ensures inside { All IsInside places.new.items }
+    ensures inside { All IsInBlock places.new.items }
 {
     match file.core.mode >> 12 {
         DIRECTORY => push_fork(g, Owner::Directory, file.extents.as_slice(), places),

@@ -4,10 +4,10 @@ ghost use Rattle.std.specs.Prelude.{◌≡◌, ◌^◌, ◌≤◌, ◌<◌, ◌+
 ghost use Rattle.std.specs.List.{All, flat_map};
 ghost use Rattle.xfs_geom.specs.Volumes.{volume_of};
 ghost use Rattle.xfs_tree.specs.Blocks.{each_of};
-ghost use Rattle.xfs_image.specs.Lsns.{at, cluster_places, groups_places, slot_place, tree_places};
-ghost use Rattle.xfs_journal.specs.Placed.{IsInside, listed};
+ghost use Rattle.xfs_image.specs.Lsns.{at, cluster_places, groups_places, slot_place, tree_lsn_places};
+ghost use Rattle.xfs_journal.specs.Placed.{IsInBlock, listed};
 
-use crate::places::{Place, push, push_each};
+use crate::places::{LsnPosition, push, push_each};
 use xfs_disk::NoMemory;
 use xfs_geom::Geometry;
 use xfs_volume::GroupRec;
@@ -32,12 +32,12 @@ const SLOT_SIZE: u16 = 512;
 pub fn push_groups(
     g: &Geometry,
     groups: &[GroupRec],
-    places: &mut Vec<Place>,
+    places: &mut Vec<LsnPosition>,
 ) -> Result<(), NoMemory>
     requires few { length groups.now ≤ 512 }
-    requires inside { All IsInside places.old.items }
+    requires inside { All IsInBlock places.old.items }
     ensures listed { OnOk result (listed places.new.items ≡ listed places.old.items ++ groups_places (volume_of g.now) 0 groups.now) }
-    ensures inside { All IsInside places.new.items }
+    ensures inside { All IsInBlock places.new.items }
 {
     for (ag, group) in groups.iter().enumerate() {
         push_heads(ag as u64 * g.agblocks as u64, places)?;
@@ -47,10 +47,10 @@ pub fn push_groups(
 }
 
 /// Adds the places of the headers of a group, which stand in this block.
-fn push_heads(block: u64, places: &mut Vec<Place>) -> Result<(), NoMemory>
-    requires inside { All IsInside places.old.items }
+fn push_heads(block: u64, places: &mut Vec<LsnPosition>) -> Result<(), NoMemory>
+    requires inside { All IsInBlock places.old.items }
     ensures listed { OnOk result (listed places.new.items ≡ listed places.old.items ++ at 720 block ∷ at 1344 block ∷ at 1560 block ∷ []) }
-    ensures inside { All IsInside places.new.items }
+    ensures inside { All IsInBlock places.new.items }
 {
     push(block, AGF_LSN, places)?;
     push(block, AGI_LSN, places)?;
@@ -58,10 +58,10 @@ fn push_heads(block: u64, places: &mut Vec<Place>) -> Result<(), NoMemory>
 }
 
 /// Adds the places of the blocks of a group's trees.
-fn push_trees(group: &GroupRec, places: &mut Vec<Place>) -> Result<(), NoMemory>
-    requires inside { All IsInside places.old.items }
-    ensures listed { OnOk result (listed places.new.items ≡ listed places.old.items ++ tree_places group.now) }
-    ensures inside { All IsInside places.new.items }
+fn push_trees(group: &GroupRec, places: &mut Vec<LsnPosition>) -> Result<(), NoMemory>
+    requires inside { All IsInBlock places.old.items }
+    ensures listed { OnOk result (listed places.new.items ≡ listed places.old.items ++ tree_lsn_places group.now) }
+    ensures inside { All IsInBlock places.new.items }
 {
     for tree in group.blocks.as_slice() {
         push_each(tree.blocks.as_slice(), TREE_LSN, places)?;
@@ -70,11 +70,11 @@ fn push_trees(group: &GroupRec, places: &mut Vec<Place>) -> Result<(), NoMemory>
 }
 
 /// Adds the places of all slots of clusters.
-pub fn push_clusters(clusters: &[u64], places: &mut Vec<Place>) -> Result<(), NoMemory>
+pub fn push_clusters(clusters: &[u64], places: &mut Vec<LsnPosition>) -> Result<(), NoMemory>
     requires low { All (λ cluster. cluster < 2 ^ 60) clusters.now }
-    requires inside { All IsInside places.old.items }
+    requires inside { All IsInBlock places.old.items }
     ensures listed { OnOk result (listed places.new.items ≡ listed places.old.items ++ flat_map cluster_places clusters.now) }
-    ensures inside { All IsInside places.new.items }
+    ensures inside { All IsInBlock places.new.items }
 {
     for cluster in clusters {
         push_cluster(*cluster, places)?;
@@ -83,11 +83,11 @@ pub fn push_clusters(clusters: &[u64], places: &mut Vec<Place>) -> Result<(), No
 }
 
 /// Adds the places of the slots of a cluster.
-fn push_cluster(cluster: u64, places: &mut Vec<Place>) -> Result<(), NoMemory>
+fn push_cluster(cluster: u64, places: &mut Vec<LsnPosition>) -> Result<(), NoMemory>
     requires low { cluster < 2 ^ 60 }
-    requires inside { All IsInside places.old.items }
+    requires inside { All IsInBlock places.old.items }
     ensures listed { OnOk result (listed places.new.items ≡ listed places.old.items ++ cluster_places cluster) }
-    ensures inside { All IsInside places.new.items }
+    ensures inside { All IsInBlock places.new.items }
 {
     push_slots(cluster, places)?;
     push_slots(cluster + 1, places)?;
@@ -97,10 +97,10 @@ fn push_cluster(cluster: u64, places: &mut Vec<Place>) -> Result<(), NoMemory>
 }
 
 /// Adds the places of the eight slots of a block.
-fn push_slots(block: u64, places: &mut Vec<Place>) -> Result<(), NoMemory>
-    requires inside { All IsInside places.old.items }
+fn push_slots(block: u64, places: &mut Vec<LsnPosition>) -> Result<(), NoMemory>
+    requires inside { All IsInBlock places.old.items }
     ensures listed { OnOk result (listed places.new.items ≡ listed places.old.items ++ each_of 8 (slot_place block)) }
-    ensures inside { All IsInside places.new.items }
+    ensures inside { All IsInBlock places.new.items }
 {
     for slot in 0..8u16 {
         push(block, SLOT_SIZE * slot + SLOT_LSN, places)?;

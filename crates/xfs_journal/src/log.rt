@@ -7,7 +7,7 @@ ghost use Rattle.xfs_geom.specs.Volumes.{volume_of};
 ghost use Rattle.xfs_heads.specs.Log.{seen_of};
 ghost use Rattle.xfs_disk.specs.Reads.{OnlyReads};
 ghost use Rattle.xfs_tree.specs.Blocks.{each_of};
-ghost use Rattle.xfs_tree.specs.Reading.{bytes_at};
+ghost use Rattle.xfs_tree.specs.Reading.{bytes_of_block};
 ghost use Rattle.xfs_image.specs.View.{log_of, log_sectors};
 ghost use Rattle.xfs_journal.specs.Answers.{HasJournalCause};
 ghost use Rattle.xfs_journal.specs.Placed.{seen_in};
@@ -84,7 +84,7 @@ fn read_block<D: Disk, L: Ledger>(
     requires inside { g.now.dblocks ≤ D.size disk.old }
     requires log { i < g.now.logblocks }
     requires whole { length block.old ≡ 4096 }
-    ensures bytes { OnOk result (ForSome (D.holds disk.old) (λ image. bytes_at image (g.now.log + i) ≡ block.new)) }
+    ensures bytes { OnOk result (ForSome (D.holds disk.old) (λ image. bytes_of_block image (g.now.log + i) ≡ block.new)) }
     ensures whole { length block.new ≡ 4096 }
     ensures cause { HasCause (D.faults disk.old) (D.faults disk.new) result }
     ensures disk { OnlyReads D.size D.holds D.write_faults D.writes D.tells_stops D.moment D.may_leave D.left_since disk.old disk.new }

@@ -7,15 +7,15 @@ ghost use Rattle.xfs_word.specs.Field.{field_of};
 ghost use Rattle.xfs_disk.specs.Faults.{HasCause};
 ghost use Rattle.xfs_geom.specs.Volumes.{volume_of};
 ghost use Rattle.xfs_disk.specs.Reads.{OnlyReads};
-ghost use Rattle.xfs_tree.specs.Reading.{bytes_at};
+ghost use Rattle.xfs_tree.specs.Reading.{bytes_of_block};
 ghost use Rattle.xfs_image.specs.Files.{clusters_of};
-ghost use Rattle.xfs_image.specs.Lsns.{in_order, lsn_at, lsn_places, lsns_read};
+ghost use Rattle.xfs_image.specs.Lsns.{lsn_places_in_order, lsn_at, lsn_places, lsns_read};
 ghost use Rattle.xfs_journal.specs.Answers.{HasJournalCause};
-ghost use Rattle.xfs_journal.specs.Placed.{HoldsBlock, IsInside, listed};
+ghost use Rattle.xfs_journal.specs.Placed.{HoldsBlock, IsInBlock, listed};
 
 use crate::faults::JournalFault;
-use crate::places::{Place, all_places};
-use crate::sorting::in_order;
+use crate::places::{LsnPosition, all_places};
+use crate::sorting::sort_places;
 use std::alloc::Global;
 use std::sync::ledger::Ledger;
 use xfs_disk::{BLOCK_SIZE, Disk, Failed, NoMemory};
@@ -61,25 +61,25 @@ fn ordered_places(
     groups: &[GroupRec],
     clusters: &[u64],
     files: &[FileRec],
-) -> Result<Vec<Place>, NoMemory>
+) -> Result<Vec<LsnPosition>, NoMemory>
     requires few { length groups.now ≤ 512 }
     requires clusters { clusters.now ≡ clusters_of (volume_of g.now) groups.now }
     requires low { All (λ cluster. cluster < 2 ^ 60) clusters.now }
-    ensures listed { IfOk result (λ places. listed places.items ≡ in_order (lsn_places (volume_of g.now) groups.now files.now)) }
-    ensures inside { IfOk result (λ places. All IsInside places.items) }
+    ensures listed { IfOk result (λ places. listed places.items ≡ lsn_places_in_order (lsn_places (volume_of g.now) groups.now files.now)) }
+    ensures inside { IfOk result (λ places. All IsInBlock places.items) }
 {
     let places = all_places(alloc, g, groups, clusters, files)?;
-    in_order(places)
+    sort_places(places)
 }
 
 /// The numbers that stand at these places. Places that follow one another in one block share a read.
 fn read_places<D: Disk, L: Ledger>(
     alloc: Global,
     disk: &mut D,
-    places: &[Place],
+    places: &[LsnPosition],
     steps: &mut Steps<L>,
 ) -> Result<Vec<BlockLsn>, JournalFault>
-    requires inside { All IsInside places.now }
+    requires inside { All IsInBlock places.now }
     ensures lsns { IfOk result (λ lsns. ForSome (D.holds disk.old) (λ image. lsns.items ≡ map (lsn_at image) (listed places.now))) }
     ensures cause { HasJournalCause (D.faults disk.old) (D.faults disk.new) result }
     ensures disk { OnlyReads D.size D.holds D.write_faults D.writes D.tells_stops D.moment D.may_leave D.left_since disk.old disk.new }
@@ -89,7 +89,7 @@ fn read_places<D: Disk, L: Ledger>(
         Err(Failed) => return Err(JournalFault::ReadFault),
     };
     let mut lsns = Vec::new(alloc);
-    let mut held = Held {
+    let mut held = LastBlock {
         block: None,
         bytes: [0; BLOCK_SIZE],
     };
@@ -116,7 +116,7 @@ fn push_lsn(block: u64, lsn: u64, lsns: &mut Vec<BlockLsn>) -> Result<(), NoMemo
 
 /// The block that was read last.
 #[derive(Drop)]
-struct Held {
+struct LastBlock {
     /// Its number.
     block: Option<u64>,
     bytes: [u8; BLOCK_SIZE],
@@ -126,14 +126,14 @@ struct Held {
 fn read_lsn<D: Disk, L: Ledger>(
     disk: &mut D,
     size: u64,
-    place: &Place,
-    held: &mut Held,
+    place: &LsnPosition,
+    held: &mut LastBlock,
     steps: &mut Steps<L>,
 ) -> Result<u64, Failed>
     requires size { size ≡ D.size disk.old }
-    requires inside { IsInside place.now }
+    requires inside { IsInBlock place.now }
     requires held { ForSome (D.holds disk.old) (λ image. HoldsBlock image held.old.block held.old.bytes) }
-    ensures lsn { IfOk result (λ lsn. ForSome (D.holds disk.old) (λ image. lsn ≡ field_of (bytes_at image place.now.block) place.now.byte 8)) }
+    ensures lsn { IfOk result (λ lsn. ForSome (D.holds disk.old) (λ image. lsn ≡ field_of (bytes_of_block image place.now.block) place.now.byte 8)) }
     ensures held { OnOk result (ForSome (D.holds disk.old) (λ image. HoldsBlock image held.new.block held.new.bytes)) }
     ensures cause { HasCause (D.faults disk.old) (D.faults disk.new) result }
     ensures disk { OnlyReads D.size D.holds D.write_faults D.writes D.tells_stops D.moment D.may_leave D.left_since disk.old disk.new }
@@ -152,12 +152,12 @@ fn read_lsn<D: Disk, L: Ledger>(
 fn hold<D: Disk, L: Ledger>(
     disk: &mut D,
     block: u64,
-    held: &mut Held,
+    held: &mut LastBlock,
     steps: &mut Steps<L>,
 ) -> Result<(), Failed>
     requires inside { block < D.size disk.old }
     requires held { ForSome (D.holds disk.old) (λ image. HoldsBlock image held.old.block held.old.bytes) }
-    ensures bytes { OnOk result (ForSome (D.holds disk.old) (λ image. bytes_at image block ≡ held.new.bytes)) }
+    ensures bytes { OnOk result (ForSome (D.holds disk.old) (λ image. bytes_of_block image block ≡ held.new.bytes)) }
     ensures held { OnOk result (ForSome (D.holds disk.old) (λ image. HoldsBlock image held.new.block held.new.bytes)) }
     ensures cause { HasCause (D.faults disk.old) (D.faults disk.new) result }
     ensures disk { OnlyReads D.size D.holds D.write_faults D.writes D.tells_stops D.moment D.may_leave D.left_since disk.old disk.new }

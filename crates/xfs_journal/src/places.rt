@@ -5,7 +5,7 @@ ghost use Rattle.std.specs.List.{All};
 ghost use Rattle.xfs_geom.specs.Volumes.{volume_of};
 ghost use Rattle.xfs_image.specs.Files.{clusters_of};
 ghost use Rattle.xfs_image.specs.Lsns.{at, lsn_places};
-ghost use Rattle.xfs_journal.specs.Placed.{IsInside, listed};
+ghost use Rattle.xfs_journal.specs.Placed.{IsInBlock, listed};
 
 use crate::files::push_files;
 use crate::groups::{push_clusters, push_groups};
@@ -19,7 +19,7 @@ const SUPER_LSN: u16 = 240;
 
 /// Where a log sequence number stands.
 #[derive(Clone, Copy, Debug, PartialEq, Eq, PartialOrd, Ord)]
-pub struct Place {
+pub struct LsnPosition {
     /// The block number.
     pub block: u64,
     /// The offset in the block, in bytes.
@@ -33,12 +33,12 @@ pub fn all_places(
     groups: &[GroupRec],
     clusters: &[u64],
     files: &[FileRec],
-) -> Result<Vec<Place>, NoMemory>
+) -> Result<Vec<LsnPosition>, NoMemory>
     requires few { length groups.now ≤ 512 }
     requires clusters { clusters.now ≡ clusters_of (volume_of g.now) groups.now }
     requires low { All (λ cluster. cluster < 2 ^ 60) clusters.now }
     ensures listed { IfOk result (λ places. listed places.items ≡ lsn_places (volume_of g.now) groups.now files.now) }
-    ensures inside { IfOk result (λ places. All IsInside places.items) }
+    ensures inside { IfOk result (λ places. All IsInBlock places.items) }
 {
     let mut places = Vec::new(alloc);
     push(0, SUPER_LSN, &mut places)?;
@@ -49,22 +49,22 @@ pub fn all_places(
 }
 
 /// Adds the place at this byte of a block.
-pub fn push(block: u64, byte: u16, places: &mut Vec<Place>) -> Result<(), NoMemory>
+pub fn push(block: u64, byte: u16, places: &mut Vec<LsnPosition>) -> Result<(), NoMemory>
     requires byte { byte + 8 ≤ 4096 }
-    requires inside { All IsInside places.old.items }
+    requires inside { All IsInBlock places.old.items }
     ensures listed { OnOk result (listed places.new.items ≡ listed places.old.items ++ at byte block ∷ []) }
-    ensures inside { All IsInside places.new.items }
+    ensures inside { All IsInBlock places.new.items }
 {
-    places.push(Place { block, byte })?;
+    places.push(LsnPosition { block, byte })?;
     Ok(())
 }
 
 /// Adds the place at this byte of each block.
-pub fn push_each(blocks: &[u64], byte: u16, places: &mut Vec<Place>) -> Result<(), NoMemory>
+pub fn push_each(blocks: &[u64], byte: u16, places: &mut Vec<LsnPosition>) -> Result<(), NoMemory>
     requires byte { byte + 8 ≤ 4096 }
-    requires inside { All IsInside places.old.items }
+    requires inside { All IsInBlock places.old.items }
     ensures listed { OnOk result (listed places.new.items ≡ listed places.old.items ++ map (at byte) blocks.now) }
-    ensures inside { All IsInside places.new.items }
+    ensures inside { All IsInBlock places.new.items }
 {
     for block in blocks {
         push(*block, byte, places)?;

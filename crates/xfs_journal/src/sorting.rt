@@ -2,18 +2,18 @@
 
 ghost use Rattle.std.specs.Prelude.{◌≡◌, IfOk};
 ghost use Rattle.std.specs.List.{All};
-ghost use Rattle.xfs_image.specs.Lsns.{in_order};
-ghost use Rattle.xfs_journal.specs.Placed.{IsInside, listed};
+ghost use Rattle.xfs_image.specs.Lsns.{lsn_places_in_order};
+ghost use Rattle.xfs_journal.specs.Placed.{IsInBlock, listed};
 
-use crate::places::Place;
+use crate::places::LsnPosition;
 use xfs_disk::NoMemory;
 use xfs_image::places_are_ordered;
 
 /// The places by block, and those of one block by byte.
-pub fn in_order(places: Vec<Place>) -> Result<Vec<Place>, NoMemory>
-    requires inside { All IsInside places.items }
-    ensures listed { IfOk result (λ sorted. listed sorted.items ≡ in_order (listed places.items)) }
-    ensures inside { IfOk result (λ sorted. All IsInside sorted.items) }
+pub fn sort_places(places: Vec<LsnPosition>) -> Result<Vec<LsnPosition>, NoMemory>
+    requires inside { All IsInBlock places.items }
+    ensures listed { IfOk result (λ sorted. listed sorted.items ≡ lsn_places_in_order (listed places.items)) }
+    ensures inside { IfOk result (λ sorted. All IsInBlock sorted.items) }
 {
     let mut sorted = places;
     sorted.sort()?;

@@ -2,10 +2,10 @@
 use Rattle.std.proofs.Common.{◌≡◌, ℕ, Bool, true, false, not, ◌+◌, ◌-◌, ◌/◌, ◌%◌, ◌^◌, ◌≤◌, ◌&&◌, ◌||◌, ◌==◌, if◌then◌else◌, nat_lt, List, [], ◌∷◌, Option, Some, refl, sym, ◌∙◌, ap, ap₂, subst, arith}
 use Rattle.std.proofs.lemmas.Bool.{and_parts, eqb-true, true≢false}
 use Rattle.std.proofs.lemmas.Bool.Decides.{nat_tests}
+use Rattle.xfs_disk.specs.Lists.{is_in_range}
 use Rattle.xfs_geom.specs.declared.records.Run.{Run}
-use Rattle.xfs_kinds.specs.FreeRuns.{is_block}
 use Rattle.xfs_kinds.specs.OffsetWords.{offset_in_fork, flags_of, is_file_data}
-use Rattle.xfs_kinds.specs.MergedRuns.{NoneJoin, OffsetsAreOfData, held_at, joins, longer, merged, offsets_follow, with_run, word_at}
+use Rattle.xfs_kinds.specs.MergedRuns.{NoneJoin, OffsetsAreOfData, held_at, joins, longer, merged, offsets_follow, with_run, offset_word_at}
 
 -- what joined runs agree in
 record Joined (x y : Run) : Type 0 where
@@ -127,7 +127,7 @@ whole_flags x z flags none_x none_z = omega (arith, flags, none_x, none_z)
 
 -- joined runs give the blocks of the second one word
 same_word : (x z : Run) (b : ℕ) → Joined x z → (is_file_data x.owner x.offset ≡ false → offset_in_fork x.offset ≡ 0)
-    → (is_file_data z.owner z.offset ≡ false → offset_in_fork z.offset ≡ 0) → z.start ≤ b → word_at x b ≡ word_at z b
+    → (is_file_data z.owner z.offset ≡ false → offset_in_fork z.offset ≡ 0) → z.start ≤ b → offset_word_at x b ≡ offset_word_at z b
 same_word x z b j none_x none_z h =
     by_case (is_file_data x.owner x.offset) refl (is_file_data z.owner z.offset) refl (same_data x z j) j.offsets
   where
@@ -143,25 +143,25 @@ same_word x z b j none_x none_z h =
     by_case false p true q same follow = absurd (true≢false (sym q ∙ sym same ∙ p))
     by_case false p false q same follow = whole_flags x.offset z.offset j.flags (none_x p) (none_z q)
 
-both_held : (x z : Run) (rest : List Run) (b : ℕ) → Joined x z → (z.start ≤ b → word_at x b ≡ word_at z b)
+both_held : (x z : Run) (rest : List Run) (b : ℕ) → Joined x z → (z.start ≤ b → offset_word_at x b ≡ offset_word_at z b)
     → held_at (longer x z.count ∷ rest) b ≡ held_at (x ∷ z ∷ rest) b
-both_held x z rest b j word = by_case (is_block x.start x.count b) refl (is_block z.start z.count b) refl
+both_held x z rest b j word = by_case (is_in_range x.start x.count b) refl (is_in_range z.start z.count b) refl
   where
-    by_case : (t : Bool) → is_block x.start x.count b ≡ t → (u : Bool) → is_block z.start z.count b ≡ u
-        → (if is_block x.start (x.count + z.count) b then Some (x.owner, word_at x b) else held_at rest b)
-        ≡ (if t then Some (x.owner, word_at x b) else (if u then Some (z.owner, word_at z b) else held_at rest b))
+    by_case : (t : Bool) → is_in_range x.start x.count b ≡ t → (u : Bool) → is_in_range z.start z.count b ≡ u
+        → (if is_in_range x.start (x.count + z.count) b then Some (x.owner, offset_word_at x b) else held_at rest b)
+        ≡ (if t then Some (x.owner, offset_word_at x b) else (if u then Some (z.owner, offset_word_at z b) else held_at rest b))
     by_case true p u q =
-        let there : is_block x.start (x.count + z.count) b ≡ true = grind (arith, nat_tests, p) in
+        let there : is_in_range x.start (x.count + z.count) b ≡ true = grind (arith, nat_tests, p) in
         rw there refl
     by_case false p true q =
         let start = j.start in
-        let there : is_block x.start (x.count + z.count) b ≡ true = grind (arith, nat_tests, q, start) in
+        let there : is_in_range x.start (x.count + z.count) b ≡ true = grind (arith, nat_tests, q, start) in
         let low : z.start ≤ b = grind (arith, nat_tests, q) in
         let said = λ (o w : ℕ). let r : Option (ℕ × ℕ) = Some (o, w) in r in
         rw there (ap₂ said j.owner (word low))
     by_case false p false q =
         let start = j.start in
-        let none : is_block x.start (x.count + z.count) b ≡ false = grind (arith, nat_tests, p, q, start) in
+        let none : is_in_range x.start (x.count + z.count) b ≡ false = grind (arith, nat_tests, p, q, start) in
         rw none refl
 
 held_with : (x : Run) (zs : List Run) (b : ℕ) → (is_file_data x.owner x.offset ≡ false → offset_in_fork x.offset ≡ 0) → OffsetsAreOfData zs
@@ -194,4 +194,4 @@ unfolding merged
 held_merged [] b offsets = refl
 held_merged (x ∷ rest) b offsets =
     held_with x (merged rest) b offsets.0 (offsets_merged rest offsets.1)
-    ∙ ap (λ (o : Option (ℕ × ℕ)). if is_block x.start x.count b then Some (x.owner, word_at x b) else o) (held_merged rest b offsets.1)
+    ∙ ap (λ (o : Option (ℕ × ℕ)). if is_in_range x.start x.count b then Some (x.owner, offset_word_at x b) else o) (held_merged rest b offsets.1)

@@ -6,7 +6,7 @@ use Rattle.std.proofs.lemmas.Bool.Decides.{nat_tests}
 use Rattle.std.proofs.lemmas.Cmp.{nat_cmp_total, nat_eq_equiv}
 use Rattle.byteorder.specs.Endian.{big_number}
 use Rattle.byteorder.specs.Numbers.{big_from-lt, length-bytes_high_first}
-use Rattle.xfs_word.specs.Extent.{packed, number_of, IsPackable}
+use Rattle.xfs_word.specs.Extent.{packed, extent_number, IsPackable}
 use Rattle.xfs_word.specs.Field.{field_of}
 use Rattle.xfs_word.specs.declared.extents.Extent.{Extent}
 use Rattle.xfs_word.proofs.Parts.{unpacked, unpacked-packed, packed-unpacked}
@@ -26,7 +26,7 @@ packable e h =
 
 extent_len : (e : Extent) → length (packed e) ≡ 16
 unfolding packed
-extent_len e = length-bytes_high_first 16 (number_of e)
+extent_len e = length-bytes_high_first 16 (extent_number e)
 
 extent_again : (e : Extent) → IsTrue (fits_extent e) → extent_of (packed e) ≡ e
 unfolding extent_of unpacked

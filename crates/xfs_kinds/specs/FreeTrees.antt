@@ -7,7 +7,7 @@ use Rattle.xfs_geom.specs.declared.records.Span.{Span}
 use Rattle.xfs_tree.specs.declared.layout.Layout.{Layout}
 use Rattle.xfs_tree.specs.Shape.{Shape}
 use Rattle.xfs_kinds.specs.Groups.{lies_in_group}
-use Rattle.xfs_kinds.specs.Spans.{span_of, span_bytes, fits_span}
+use Rattle.xfs_kinds.specs.Spans.{span_at_bytes, span_bytes, fits_span}
 
 -- leaves of 505 records of eight bytes, nodes of 336 keys of eight bytes
 abbrev pub free_layout : ℕ → Layout
@@ -42,9 +42,9 @@ abbrev pub free_shape : ℕ → (Span → Span → Ordering) → (Option Span �
 free_shape magic order follows ag = record {
   layout = free_layout magic;
   owner = ag;
-  record_of = span_of;
+  record_of = span_at_bytes;
   record_bytes = span_bytes;
-  key_of = span_of;
+  key_of = span_at_bytes;
   key_bytes = span_bytes;
   low = λ s. s;
   high = λ s. s;

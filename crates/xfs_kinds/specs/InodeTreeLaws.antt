@@ -11,7 +11,7 @@ use Rattle.xfs_geom.specs.Volumes.{Volume}
 use Rattle.xfs_geom.specs.declared.records.InoRec.{InoRec}
 use Rattle.xfs_tree.specs.Shape.{IsKind}
 use Rattle.xfs_kinds.specs.Groups.{lies_in_group}
-use Rattle.xfs_kinds.specs.InodeTrees.{four_each, missing_bits, is_holemask, chunk_of_bytes, settled_chunk, chunk_rows, chunk_bytes, fits_chunk, has_count, is_first_inode, is_clear, is_chunk, ascends_inode, startino_of, startino_bytes, inode_shape, ino_shape, fino_shape}
+use Rattle.xfs_kinds.specs.InodeTrees.{four_each, missing_bits, is_holemask, chunk_of_bytes, settled_chunk, chunk_rows, chunk_bytes, fits_chunk, has_count, is_first_inode, is_chunk_clear, is_chunk, ascends_inode, startino_of, startino_bytes, inode_shape, ino_shape, fino_shape}
 use Rattle.xfs_kinds.specs.SpelledLaws.{AllFit, length-spelled, spelled_again, spelled_from}
 
 pub no_bits : missing_bits 0 ≡ 0
@@ -139,7 +139,7 @@ chunk_fits v ag r h =
     let c = has_count r.holemask r.count in
     let m = is_first_inode r.startino in
     let g = lies_in_group v ag (r.startino / 8) 8 in
-    let a = and_parts (fits_chunk r && c && m && g) (is_clear v ag r) h in
+    let a = and_parts (fits_chunk r && c && m && g) (is_chunk_clear v ag r) h in
     let b = and_parts (fits_chunk r && c && m) g a.0 in
     let e = and_parts (fits_chunk r && c) m b.0 in
     (and_parts (fits_chunk r) c e.0).0
@@ -149,7 +149,7 @@ settled_chunk_is : (v : Volume) (ag : ℕ) (r : InoRec) → IsTrue (is_chunk v a
 settled_chunk_is v ag r h =
     let fits = chunk_fits v ag r h in
     let again = settled_fits r fits in
-    let chunk = λ (b : Bool). b && has_count r.holemask r.count && is_first_inode r.startino && lies_in_group v ag (r.startino / 8) 8 && is_clear v ag r in
+    let chunk = λ (b : Bool). b && has_count r.holemask r.count && is_first_inode r.startino && lies_in_group v ag (r.startino / 8) 8 && is_chunk_clear v ag r in
     ap chunk (again ∙ sym fits) ∙ h
 
 -- a settled chunk stands behind what the chunk stands behind

@@ -71,13 +71,13 @@ unfoldable pub are_free_of_use : Volume → ℕ → ℕ → Bool
 are_free_of_use v holemask start = list_all (is_block_free_of_use v holemask start) (range_with_len 0 8)
 
 -- no block of the chunk but the missing ones has a fixed use
-abbrev pub is_clear : Volume → ℕ → InoRec → Bool
-is_clear v ag r = are_free_of_use v r.holemask (ag * v.agblocks + r.startino / 8)
+abbrev pub is_chunk_clear : Volume → ℕ → InoRec → Bool
+is_chunk_clear v ag r = are_free_of_use v r.holemask (ag * v.agblocks + r.startino / 8)
 
 -- the inodes are those of eight blocks of the group from a multiple of eight on, behind its first eight blocks
 abbrev pub is_chunk : Volume → ℕ → InoRec → Bool
 is_chunk v ag r =
-    fits_chunk r && has_count r.holemask r.count && is_first_inode r.startino && lies_in_group v ag (r.startino / 8) 8 && is_clear v ag r
+    fits_chunk r && has_count r.holemask r.count && is_first_inode r.startino && lies_in_group v ag (r.startino / 8) 8 && is_chunk_clear v ag r
 
 abbrev pub ascends_inode : Option InoRec → InoRec → Bool
 ascends_inode None r = true

@@ -14,3 +14,4 @@ pub mod OwnerTrees
 pub mod OwnerTreeLaws
 pub mod FreeRuns
 pub mod MergedRuns
+pub mod Owners

@@ -1,7 +1,7 @@
 -- Runs of blocks with their owners, joined where they follow each other (chapter "Reverse-Mapping B+tree").
 use Rattle.std.specs.Prelude.{ℕ, Bool, false, not, ◌+◌, ◌-◌, ◌^◌, ◌≤◌, ◌<◌, ◌&&◌, ◌||◌, ◌==◌, ◌≡◌, if◌then◌else◌, List, [], ◌∷◌, Option, Some, None}
+use Rattle.xfs_disk.specs.Lists.{is_in_range}
 use Rattle.xfs_geom.specs.declared.records.Run.{Run}
-use Rattle.xfs_kinds.specs.FreeRuns.{is_block}
 use Rattle.xfs_kinds.specs.OffsetWords.{offset_in_fork, flags_of, is_file_data}
 
 -- the runs ascend, no two have a block in common, and they end below 2^63; the first begins at low or behind
@@ -43,10 +43,10 @@ OffsetsAreOfData [] = Unit {0}
 OffsetsAreOfData (r ∷ rest) = (is_file_data r.owner r.offset ≡ false → offset_in_fork r.offset ≡ 0) × OffsetsAreOfData rest
 
 -- the offset word of a block of the run: the offset of file data goes up with the block
-abbrev pub word_at : Run → ℕ → ℕ
-word_at r block = if is_file_data r.owner r.offset then r.offset + (block - r.start) else r.offset
+abbrev pub offset_word_at : Run → ℕ → ℕ
+offset_word_at r block = if is_file_data r.owner r.offset then r.offset + (block - r.start) else r.offset
 
 -- the owner and the offset word that the runs give a block
 abbrev pub held_at : List Run → ℕ → Option (ℕ × ℕ)
 held_at [] block = None
-held_at (r ∷ rest) block = if is_block r.start r.count block then Some (r.owner, word_at r block) else held_at rest block
+held_at (r ∷ rest) block = if is_in_range r.start r.count block then Some (r.owner, offset_word_at r block) else held_at rest block

@@ -12,7 +12,7 @@ use Rattle.xfs_geom.specs.declared.records.RmapRec.{RmapRec}
 use Rattle.xfs_tree.specs.Shape.{IsKind}
 use Rattle.xfs_kinds.specs.Groups.{lies_in_group}
 use Rattle.xfs_kinds.specs.OffsetWords.{offset_in_fork, is_unwritten, is_file_data, key_word}
-use Rattle.xfs_kinds.specs.OwnerTrees.{owner_of_bytes, owner_rows, owner_bytes, key_of_bytes, key_rows, key_bytes, fits_owner, fits_key, last_of, last_word, low_key, high_key, key_order, is_owner, is_owned_run, follows_end, rmap_shape}
+use Rattle.xfs_kinds.specs.OwnerTrees.{owner_of_bytes, owner_rows, owner_bytes, key_of_bytes, key_rows, key_bytes, fits_owner, fits_key, last_block_of, last_word, low_key, high_key, key_order, is_owner, is_owned_run, follows_end, rmap_shape}
 use Rattle.xfs_kinds.specs.SpelledLaws.{AllFit, length-spelled, spelled_again, spelled_from}
 use Rattle.xfs_kinds.specs.declared.owners.RmapKey.{RmapKey}
 
@@ -145,13 +145,13 @@ key_word-lt w h = grind (arith, nat_tests)
 key_word_written : (w : ℕ) → IsTrue (not (is_unwritten (key_word w)))
 key_word_written w = grind (arith, nat_tests)
 
-last-lt : (most first count : ℕ) → last_of most first count < most + 1
+last-lt : (most first count : ℕ) → last_block_of most first count < most + 1
 last-lt most first count = omega arith
 
 last_word-lt : (r : RmapRec) → r.offset < 2 ^ 64 → last_word r < 2 ^ 64
 last_word-lt r h = by_case (is_file_data r.owner r.offset)
   where
-    by_case : (b : Bool) → (if b then last_of (2 ^ 64 - 1) r.offset r.count else r.offset) < 2 ^ 64
+    by_case : (b : Bool) → (if b then last_block_of (2 ^ 64 - 1) r.offset r.count else r.offset) < 2 ^ 64
     by_case true = last-lt (2 ^ 64 - 1) r.offset r.count
     by_case false = h
 

@@ -43,19 +43,19 @@ abbrev pub fits_key : RmapKey → Bool
 fits_key k = nat_lt k.start (2 ^ 32) && nat_lt k.owner (2 ^ 64) && nat_lt k.offset (2 ^ 64) && not (is_unwritten k.offset)
 
 -- the last of so many numbers from the first on; or the most that a field holds, which no lawful run comes to
-abbrev pub last_of : ℕ → ℕ → ℕ → ℕ
-last_of most first count = min (first + (count - 1)) most
+abbrev pub last_block_of : ℕ → ℕ → ℕ → ℕ
+last_block_of most first count = min (first + (count - 1)) most
 
 -- the word of the last block: the offset of file data goes up with the block
 abbrev pub last_word : RmapRec → ℕ
-last_word r = if is_file_data r.owner r.offset then last_of (2 ^ 64 - 1) r.offset r.count else r.offset
+last_word r = if is_file_data r.owner r.offset then last_block_of (2 ^ 64 - 1) r.offset r.count else r.offset
 
 -- the key of the first block, and of the last
 abbrev pub low_key : RmapRec → RmapKey
 low_key r = record { start = r.start; owner = r.owner; offset = key_word r.offset }
 
 abbrev pub high_key : RmapRec → RmapKey
-high_key r = record { start = last_of (2 ^ 32 - 1) r.start r.count; owner = r.owner; offset = key_word (last_word r) }
+high_key r = record { start = last_block_of (2 ^ 32 - 1) r.start r.count; owner = r.owner; offset = key_word (last_word r) }
 
 -- by block, then by owner, then by offset word
 abbrev pub block_order : RmapKey → RmapKey → Ordering

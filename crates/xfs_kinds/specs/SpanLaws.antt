@@ -5,7 +5,7 @@ use Rattle.xfs_geom.specs.declared.records.Span.{Span}
 use Rattle.xfs_word.specs.Field.{field_of}
 use Rattle.xfs_word.proofs.Register.{AreBytes}
 use Rattle.xfs_kinds.specs.SpelledLaws.{length-spelled, spelled_again, spelled_from}
-use Rattle.xfs_kinds.specs.Spans.{span_of, span_bytes, fits_span}
+use Rattle.xfs_kinds.specs.Spans.{span_at_bytes, span_bytes, fits_span}
 
 -- runs with the same numbers are the same
 same_span : (s : Span) (start count : ℕ) → start ≡ s.start → count ≡ s.count → record { start = start; count = count } ≡ s
@@ -18,7 +18,7 @@ pub span_len : (s : Span) → length (span_bytes s) ≡ 8
 unfolding span_bytes
 span_len s = length-spelled ((4, s.start) ∷ (4, s.count) ∷ [])
 
-pub span_again : (s : Span) → IsTrue (fits_span s) → span_of (span_bytes s) ≡ s
+pub span_again : (s : Span) → IsTrue (fits_span s) → span_at_bytes (span_bytes s) ≡ s
 unfolding span_bytes
 span_again s fits =
     let parts = and_parts (nat_lt s.start (2 ^ 32)) (nat_lt s.count (2 ^ 32)) fits in

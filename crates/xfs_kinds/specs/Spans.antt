@@ -5,8 +5,8 @@ use Rattle.xfs_geom.specs.declared.records.Span.{Span}
 use Rattle.xfs_kinds.specs.Spelled.{spelled}
 
 -- the start and the count of a run, each in four bytes
-abbrev pub span_of : List ℕ → Span
-span_of bytes = record { start = field_of bytes 0 4; count = field_of bytes 4 4 }
+abbrev pub span_at_bytes : List ℕ → Span
+span_at_bytes bytes = record { start = field_of bytes 0 4; count = field_of bytes 4 4 }
 
 unfoldable pub span_bytes : Span → List ℕ
 span_bytes s = spelled ((4, s.start) ∷ (4, s.count) ∷ [])

@@ -9,9 +9,9 @@ use Rattle.xfs_word.proofs.Register.{AreBytes}
 use Rattle.xfs_kinds.specs.Spelled.{spelled}
 
 -- how many bytes the numbers take
-abbrev pub total : List (ℕ × ℕ) → ℕ
-total [] = 0
-total ((width, number) ∷ rest) = width + total rest
+abbrev pub total_width : List (ℕ × ℕ) → ℕ
+total_width [] = 0
+total_width ((width, number) ∷ rest) = width + total_width rest
 
 -- each number fits its width
 abbrev pub AllFit : List (ℕ × ℕ) → Type 0
@@ -23,7 +23,7 @@ abbrev pub Stand : List ℕ → ℕ → List (ℕ × ℕ) → Type 0
 Stand bytes at [] = Unit {0}
 Stand bytes at ((width, number) ∷ rest) = (field_of bytes at width ≡ number) × Stand bytes (at + width) rest
 
-pub length-spelled : (rows : List (ℕ × ℕ)) → length (spelled rows) ≡ total rows
+pub length-spelled : (rows : List (ℕ × ℕ)) → length (spelled rows) ≡ total_width rows
 unfolding spelled
 length-spelled [] = refl
 length-spelled ((width, number) ∷ rest) =
@@ -68,11 +68,11 @@ front_bytes width number ys all long is =
     sym (big_bytes-big_number width (take width ys) size byte) ∙ ap (big_bytes width) (same ∙ is)
 
 -- bytes in which the numbers stand one behind the other, up to the end, are those of the numbers
-pub spelled_from : (rows : List (ℕ × ℕ)) (bytes : List ℕ) (at : ℕ) → AreBytes bytes → length bytes ≡ at + total rows → Stand bytes at rows → drop at bytes ≡ spelled rows
+pub spelled_from : (rows : List (ℕ × ℕ)) (bytes : List ℕ) (at : ℕ) → AreBytes bytes → length bytes ≡ at + total_width rows → Stand bytes at rows → drop at bytes ≡ spelled rows
 unfolding spelled field_of
 spelled_from [] bytes at all long stand = drop_all at bytes (omega (arith, long))
 spelled_from ((width, number) ∷ rest) bytes at all long stand =
-    let after : length bytes ≡ (at + width) + total rest = omega (arith, long) in
+    let after : length bytes ≡ (at + width) + total_width rest = omega (arith, long) in
     let more = spelled_from rest bytes (at + width) all after stand.1 in
     let cut = length-drop at bytes in
     let enough : width ≤ length (drop at bytes) = omega (arith, cut, long) in

@@ -3,7 +3,7 @@
 ghost use Rattle.std.specs.Prelude.{◌≡◌, ◌+◌, ◌*◌, ◌/◌, ◌<◌, ◌≤◌, bit_or, length, IsTrue};
 ghost use Rattle.std.specs.Option.{option_copied};
 ghost use Rattle.xfs_geom.specs.Volumes.{volume_of};
-ghost use Rattle.xfs_kinds.specs.InodeTrees.{ascends_inode, chunk_bytes, chunk_of_bytes, fits_chunk, has_count, are_free_of_use, is_block_free_of_use, is_chunk, is_clear, is_first_inode, is_holemask, is_missing, missing_bits, startino_bytes};
+ghost use Rattle.xfs_kinds.specs.InodeTrees.{ascends_inode, chunk_bytes, chunk_of_bytes, fits_chunk, has_count, are_free_of_use, is_block_free_of_use, is_chunk, is_chunk_clear, is_first_inode, is_holemask, is_missing, missing_bits, startino_bytes};
 
 use crate::groups::lies_in_group;
 use crate::layouts::inode_chunk::{COUNT, FREE, FREECOUNT, HOLEMASK, STARTINO};
@@ -64,7 +64,7 @@ pub fn is_chunk(g: &Geometry, ag: u32, chunk: &InoRec) -> bool
         && has_count(chunk.holemask, chunk.count)
         && is_first_inode(chunk.startino)
         && lies_in_group(g, ag as u64, chunk.startino as u64 / 8, 8)
-        && is_clear(g, ag, chunk)
+        && is_chunk_clear(g, ag, chunk)
 }
 
 /// Whether a chunk begins behind the one before it.
@@ -119,10 +119,10 @@ fn has_count(holemask: u16, count: u8) -> bool
 }
 
 /// Whether no block of the chunk but the missing ones has a fixed use.
-fn is_clear(g: &Geometry, ag: u32, chunk: &InoRec) -> bool
+fn is_chunk_clear(g: &Geometry, ag: u32, chunk: &InoRec) -> bool
     requires group { ag < g.now.agcount }
     requires inside { ag * g.now.agblocks + (chunk.now.startino / 8 + 8) ≤ g.now.dblocks }
-    ensures { result ≡ is_clear (volume_of g.now) ag chunk.now }
+    ensures { result ≡ is_chunk_clear (volume_of g.now) ag chunk.now }
 {
     let start = g.start_of_group(ag) + chunk.startino as u64 / 8;
     are_free_of_use(g, chunk.holemask, start)

@@ -1,7 +1,7 @@
 //! The free runs between those that are used (chapter "AG Free Space Management").
 
 ghost use Rattle.std.specs.Prelude.{◌≡◌, ℕ, ◌++◌, ◌&&◌, nat_lt, min, not, IfOk, OnOk};
-ghost use Rattle.xfs_kinds.specs.FreeRuns.{Ascend, AreSeparate, free_of, gap, is_in};
+ghost use Rattle.xfs_kinds.specs.FreeRuns.{SpansAscend, AreSeparate, free_of, gap, is_in_spans};
 
 use std::alloc::Global;
 use xfs_disk::NoMemory;
@@ -12,9 +12,9 @@ use xfs_geom::Span;
 ///
 /// `NoMemory` where memory is wanting.
 pub fn free_runs(alloc: Global, used: &[Span], length: u32) -> Result<Vec<Span>, NoMemory>
-    requires { Ascend 0 used.now }
+    requires { SpansAscend 0 used.now }
     ensures runs { IfOk result (λ free. free.items ≡ free_of used.now length) }
-    ensures blocks { IfOk result (λ free. (block : ℕ) → is_in free.items block ≡ (nat_lt block length && not (is_in used.now block))) }
+    ensures blocks { IfOk result (λ free. (block : ℕ) → is_in_spans free.items block ≡ (nat_lt block length && not (is_in_spans used.now block))) }
     ensures separate { IfOk result (λ free. AreSeparate 0 free.items) }
 {
     let mut free = Vec::new(alloc);

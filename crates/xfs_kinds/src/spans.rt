@@ -1,7 +1,7 @@
 //! Records of the free space trees.
 
 ghost use Rattle.std.specs.Prelude.{◌≡◌, length};
-ghost use Rattle.xfs_kinds.specs.Spans.{span_of, span_bytes};
+ghost use Rattle.xfs_kinds.specs.Spans.{span_at_bytes, span_bytes};
 
 use crate::layouts::span::{COUNT, START};
 use xfs_geom::Span;
@@ -10,7 +10,7 @@ use xfs_word::{get32, put32};
 /// The run in its 8 bytes.
 pub fn read_span(bytes: &[u8]) -> Span
     requires { length bytes.now ≡ 8 }
-    ensures { result ≡ span_of bytes.now }
+    ensures { result ≡ span_at_bytes bytes.now }
 {
     Span {
         start: get32(bytes, START.offset),

@@ -7,8 +7,8 @@ use Rattle.xfs_kinds.specs.InodeTrees.{inode_shape, is_holemask}
 use Rattle.xfs_volume.specs.declared.files.FileRec.{FileRec}
 use Rattle.xfs_volume.specs.declared.groups.GroupRec.{GroupRec}
 use Rattle.xfs_space.specs.Parts.{AreGroups}
-use Rattle.xfs_naming.specs.Naming.{Ascend, numbers_of}
-use Rattle.xfs_laws.specs.Counting.{AllHaveChunks, AreChunks, AreOrdered, AreShort}
+use Rattle.xfs_naming.specs.Naming.{NumbersAscend, numbers_of}
+use Rattle.xfs_laws.specs.Counting.{AllHaveChunks, AreChunks, FilesOrdered, AreShort}
 
 -- the first and the second of two tests that both pass
 left : (a b : Bool) → IsTrue (a && b) → IsTrue a
@@ -20,14 +20,14 @@ right true b both = both
 right false b both = cc
 
 -- numbers that ascend from a least one on are not below it
-from_least : (files : List FileRec) (least k : ℕ) (d : FileRec) → Ascend least (numbers_of files) → k < length files → least ≤ (get_or files k d).ino
+from_least : (files : List FileRec) (least k : ℕ) (d : FileRec) → NumbersAscend least (numbers_of files) → k < length files → least ≤ (get_or files k d).ino
 from_least [] least k d up inside = absurd (omega arith)
 from_least (f ∷ fs) least zero d up inside = up.0
 from_least (f ∷ fs) least (suc k) d up inside =
     let rest : f.ino + 1 ≤ (get_or fs k d).ino = from_least fs (f.ino + 1) k d up.1 (omega arith) in
     omega (arith, up.0)
 
-pub ordered : (files : List FileRec) (least : ℕ) → Ascend least (numbers_of files) → AreOrdered files
+pub ordered : (files : List FileRec) (least : ℕ) → NumbersAscend least (numbers_of files) → FilesOrdered files
 ordered [] least up i j d le inside = absurd (omega arith)
 ordered (f ∷ fs) least up zero zero d le inside = omega arith
 ordered (f ∷ fs) least up zero (suc j) d le inside =

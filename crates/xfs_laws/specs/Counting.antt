@@ -1,8 +1,9 @@
 -- The laws of counts: chunks of inodes say which slots are in use, counters are sums, free lists name each block once, and the
 -- log ends behind everything (chapters "AG Inode Management", "AG Free Space Management" and "Journaling Log").
-use Rattle.std.specs.Prelude.{ℕ, zero, suc, bit_or, Bool, not, max, ◌+◌, ◌-◌, ◌*◌, ◌^◌, ◌≤◌, ◌==◌, ◌||◌, nat_le, nat_lt, if◌then◌else◌, List, [], ◌∷◌, ◌++◌, map, take, filter, length, sum, IsTrue}
+use Rattle.std.specs.Prelude.{ℕ, zero, suc, bit_or, Bool, not, max, ◌+◌, ◌-◌, ◌*◌, ◌^◌, ◌≤◌, ◌==◌, ◌||◌, nat_le, if◌then◌else◌, List, [], ◌∷◌, ◌++◌, map, take, filter, length, sum, IsTrue}
 use Rattle.std.specs.List.{All, list_any}
 use Rattle.std.specs.List.Sorted.{IsNonDecreasingBy}
+use Rattle.xfs_geom.specs.Sums.{free_blocks, slots, free_slots, has_free}
 use Rattle.xfs_geom.specs.Volumes.{Volume}
 use Rattle.xfs_geom.specs.declared.records.Counts.{Counts}
 use Rattle.xfs_geom.specs.declared.records.InoRec.{InoRec}
@@ -68,9 +69,6 @@ chunks_at place held due =
     let difference = first_difference (map chunk_number held) (map chunk_number due) in
     law_at 4 place difference.0 difference.1
 
-abbrev pub has_free : InoRec → Bool
-has_free r = nat_lt 0 r.freecount
-
 -- the fourth law for a group: each chunk has the right numbers, and the other tree has the chunks with a free inode
 abbrev pub group_chunks : Volume → List FileRec → ℕ → GroupRec → List Law
 group_chunks v files ag g =
@@ -80,10 +78,6 @@ group_chunks v files ag g =
 
 abbrev pub chunk_laws : Volume → List FileRec → List GroupRec → List Law
 chunk_laws v files groups = by_group (group_chunks v files) 0 groups
-
--- the sums that counters state: free blocks; the longest free run; blocks of a tree; slots of inodes, and free ones
-abbrev pub free_blocks : List Span → ℕ
-free_blocks spans = sum (map (λ (s : Span). s.count) spans)
 
 abbrev pub longest : List Span → ℕ
 longest [] = 0
@@ -97,12 +91,6 @@ tree_size (t ∷ ts) (suc tree) = tree_size ts tree
 -- the blocks of the trees by start, by length and by owner, but for one each
 abbrev pub spare_tree_blocks : List TreeBlocks → ℕ
 spare_tree_blocks trees = tree_size trees 0 + tree_size trees 1 + tree_size trees 4 - 3
-
-abbrev pub slots : List InoRec → ℕ
-slots chunks = sum (map (λ (r : InoRec). r.count) chunks)
-
-abbrev pub free_slots : List InoRec → ℕ
-free_slots chunks = sum (map (λ (r : InoRec). r.freecount) chunks)
 
 -- the fifth law for the counters of a group
 abbrev pub group_counts : ℕ → GroupRec → List Law
@@ -158,15 +146,15 @@ group_chains ag g = chains_at (1 + 64 * ag) g.agi.unlinked
 abbrev pub is_behind : ℕ → ℕ → Bool
 is_behind head lsn = lsn == 2 ^ 64 - 1 || nat_le lsn head
 
-abbrev pub lsn_at : ℕ → BlockLsn → Law
-lsn_at head l = law_at 10 (2 ^ 40 + l.block) l.lsn (if is_behind head l.lsn then l.lsn else head)
+abbrev pub lsn_law : ℕ → BlockLsn → Law
+lsn_law head l = law_at 10 (2 ^ 40 + l.block) l.lsn (if is_behind head l.lsn then l.lsn else head)
 
 abbrev pub log_laws : List GroupRec → LogState → List BlockLsn → List Law
-log_laws groups log lsns = log_at log ∷ by_group group_chains 0 groups ++ map (lsn_at (head_of log)) lsns
+log_laws groups log lsns = log_at log ∷ by_group group_chains 0 groups ++ map (lsn_law (head_of log)) lsns
 
 -- no file has a number below that of one before it
-abbrev pub AreOrdered : List FileRec → Type 0
-AreOrdered files = IsNonDecreasingBy (λ (f : FileRec). f.ino) files
+abbrev pub FilesOrdered : List FileRec → Type 0
+FilesOrdered files = IsNonDecreasingBy (λ (f : FileRec). f.ino) files
 
 -- each chunk has a mask that the trees have
 abbrev pub AreChunks : List InoRec → Type 0

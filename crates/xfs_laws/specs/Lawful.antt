@@ -8,7 +8,7 @@ use Rattle.xfs_volume.specs.declared.findings.Law.{Law}
 use Rattle.xfs_volume.specs.declared.findings.LawFault.{LawFault}
 use Rattle.xfs_volume.specs.declared.findings.LawFault.TheVariants.{Broken, NoMemory}
 use Rattle.xfs_volume.specs.Laws.{first_broken}
-use Rattle.xfs_space.specs.Parts.{AreGroups, IsFile}
+use Rattle.xfs_space.specs.Parts.{AreGroups, HasLawfulForks}
 use Rattle.xfs_space.specs.SpaceLaws.{space_laws}
 use Rattle.xfs_naming.specs.Naming.{AreNamed, naming_laws}
 use Rattle.xfs_laws.specs.Counting.{chunk_laws, counter_laws, list_laws, log_laws}
@@ -36,7 +36,7 @@ broken_law c = first_broken (laws_of c)
 pub record IsCatalog (c : Catalog) : Type 0 where
   pub count : length c.groups ≡ c.geometry.agcount
   pub groups : AreGroups (volume_of c.geometry) 0 c.groups
-  pub files : All (IsFile (volume_of c.geometry)) c.files
+  pub files : All (HasLawfulForks (volume_of c.geometry)) c.files
   pub names : AreNamed c.files c.entries c.dirs
   pub lsns : All (λ (l : BlockLsn). l.block < c.geometry.dblocks) c.lsns
 

@@ -1,10 +1,11 @@
 //! Chunks of inodes: which of their slots are in use (chapter "AG Inode Management").
 
 ghost use Rattle.std.specs.Prelude.{◌≡◌, ◌+◌, ◌*◌, ◌^◌, ◌<◌, ◌≤◌, [], ◌∷◌, filter, length, map, IsTrue};
+ghost use Rattle.xfs_geom.specs.Sums.{has_free};
 ghost use Rattle.xfs_geom.specs.Volumes.{volume_of};
 ghost use Rattle.xfs_kinds.specs.InodeTrees.{is_holemask, is_missing, missing_bits};
 ghost use Rattle.xfs_volume.specs.Laws.{first_broken, law_at};
-ghost use Rattle.xfs_laws.specs.Counting.{AllHaveChunks, AreChunks, AreOrdered, HasChunks, bit_of, chunk_laws, chunk_number, chunks_at, due_chunk, group_chunks, has_free, inode_number, is_unused};
+ghost use Rattle.xfs_laws.specs.Counting.{AllHaveChunks, AreChunks, FilesOrdered, HasChunks, bit_of, chunk_laws, chunk_number, chunks_at, due_chunk, group_chunks, inode_number, is_unused};
 
 use crate::broken::broken;
 use crate::files::is_used;
@@ -30,7 +31,7 @@ fn inode_number(g: &Geometry, ag: u32, agino: u64) -> u64
 /// Whether an inode of a chunk is there and not in use.
 fn is_unused(g: &Geometry, files: &[FileRec], ag: u32, chunk: &InoRec, inode: u32) -> bool
     requires group { ag < g.now.agcount }
-    requires files { AreOrdered files.now }
+    requires files { FilesOrdered files.now }
     requires inode { inode < 64 }
     ensures { result ≡ is_unused (volume_of g.now) files.now ag chunk.now inode }
 {
@@ -46,7 +47,7 @@ fn is_unused(g: &Geometry, files: &[FileRec], ag: u32, chunk: &InoRec, inode: u3
 #[tactic(auto, unfolding(crate::specs::Counting::due_chunk))]
 fn due_chunk(g: &Geometry, files: &[FileRec], ag: u32, chunk: &InoRec) -> InoRec
     requires group { ag < g.now.agcount }
-    requires files { AreOrdered files.now }
+    requires files { FilesOrdered files.now }
     ensures value { result ≡ due_chunk (volume_of g.now) files.now ag chunk.now }
     ensures mask { result.holemask ≡ chunk.now.holemask }
 {
@@ -88,7 +89,7 @@ fn chunk_number(chunk: &InoRec) -> u128
 /// The first chunk of a group whose numbers are not those that it should have.
 fn check_chunks(g: &Geometry, files: &[FileRec], ag: u32, chunks: &[InoRec]) -> Option<Law>
     requires group { ag < g.now.agcount }
-    requires files { AreOrdered files.now }
+    requires files { FilesOrdered files.now }
     requires chunks { AreChunks chunks.now }
     ensures { result ≡ first_broken (chunks_at (2 * ag) chunks.now (map (due_chunk (volume_of g.now) files.now ag) chunks.now) ∷ []) }
 {
@@ -140,7 +141,7 @@ fn has_free(chunk: &InoRec) -> bool
 /// a free inode.
 pub fn check_inodes(g: &Geometry, files: &[FileRec], groups: &[GroupRec]) -> Option<Law>
     requires groups { length groups.now ≤ g.now.agcount }
-    requires files { AreOrdered files.now }
+    requires files { FilesOrdered files.now }
     requires chunks { AllHaveChunks groups.now }
     ensures { result ≡ first_broken (chunk_laws (volume_of g.now) files.now groups.now) }
 {
@@ -158,7 +159,7 @@ pub fn check_inodes(g: &Geometry, files: &[FileRec], groups: &[GroupRec]) -> Opt
 #[tactic(auto, using(crate::proofs::Firsts::joined))]
 fn check_group(g: &Geometry, files: &[FileRec], ag: u32, group: &GroupRec) -> Option<Law>
     requires group { ag < g.now.agcount }
-    requires files { AreOrdered files.now }
+    requires files { FilesOrdered files.now }
     requires chunks { HasChunks group.now }
     ensures { result ≡ first_broken (group_chunks (volume_of g.now) files.now ag group.now) }
 {

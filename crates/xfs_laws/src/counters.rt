@@ -1,9 +1,10 @@
 //! Counters of groups and of the superblock.
 
 ghost use Rattle.std.specs.Prelude.{◌≡◌, ◌+◌, ◌*◌, ◌^◌, ◌<◌, ◌≤◌, length, sum, map};
+ghost use Rattle.xfs_geom.specs.Sums.{slots, free_slots};
 ghost use Rattle.xfs_geom.specs.Volumes.{volume_of};
 ghost use Rattle.xfs_volume.specs.Laws.{first_broken};
-ghost use Rattle.xfs_laws.specs.Counting.{counter_laws, by_group, group_counts, room, slots, free_slots, spare_tree_blocks, tree_size, volume_counts};
+ghost use Rattle.xfs_laws.specs.Counting.{counter_laws, by_group, group_counts, room, spare_tree_blocks, tree_size, volume_counts};
 ghost use Rattle.xfs_volume.specs.Laws.{law_at};
 
 use crate::broken::first_broken;

@@ -3,7 +3,7 @@
 ghost use Rattle.std.specs.Prelude.{◌≡◌, ◌+◌, ◌*◌, ◌^◌, ◌<◌, ◌≤◌, ◌++◌, length, map, [], ◌∷◌};
 ghost use Rattle.std.specs.List.{All};
 ghost use Rattle.xfs_volume.specs.Laws.{first_broken};
-ghost use Rattle.xfs_laws.specs.Counting.{by_group, chains_at, group_chains, head_of, is_behind, log_at, log_laws, lsn_at};
+ghost use Rattle.xfs_laws.specs.Counting.{by_group, chains_at, group_chains, head_of, is_behind, log_at, log_laws, lsn_law};
 
 use crate::broken::broken;
 use xfs_heads::LogState;
@@ -40,7 +40,7 @@ pub fn check_log(groups: &[GroupRec], log: &LogState, lsns: &[BlockLsn]) -> Opti
 fn check_behind(head: u64, groups: &[GroupRec], lsns: &[BlockLsn]) -> Option<Law>
     requires few { length groups.now ≤ 512 }
     requires inside { All (λ l. l.block < 2 ^ 26) lsns.now }
-    ensures { result ≡ first_broken (by_group group_chains 0 groups.now ++ map (lsn_at head) lsns.now) }
+    ensures { result ≡ first_broken (by_group group_chains 0 groups.now ++ map (lsn_law head) lsns.now) }
 {
     match check_chains(groups) {
         Some(law) => Some(law),
@@ -83,7 +83,7 @@ fn check_group(ag: u32, heads: &[u32; 64]) -> Option<Law>
 #[tactic(auto, unfolding(xfs_volume::specs::Laws::first_broken))]
 fn check_lsns(head: u64, lsns: &[BlockLsn]) -> Option<Law>
     requires { All (λ l. l.block < 2 ^ 26) lsns.now }
-    ensures { result ≡ first_broken (map (lsn_at head) lsns.now) }
+    ensures { result ≡ first_broken (map (lsn_law head) lsns.now) }
 {
     for lsn in lsns {
         if !is_behind(head, lsn.lsn) {

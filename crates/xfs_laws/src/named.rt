@@ -6,7 +6,7 @@ ghost use Rattle.xfs_dirdata.specs.declared.records.EntryRec.{EntryRec};
 ghost use Rattle.xfs_volume.specs.Names.{is_directory};
 ghost use Rattle.xfs_volume.specs.declared.directories.DirRec.{DirRec};
 ghost use Rattle.xfs_volume.specs.declared.files.FileRec.{FileRec};
-ghost use Rattle.xfs_naming.specs.Naming.{AreGrouped, AreNamed, Ascend, numbers_of};
+ghost use Rattle.xfs_naming.specs.Naming.{AreGrouped, AreNamed, NumbersAscend, numbers_of};
 
 use xfs_dirdata::EntryRec;
 use xfs_volume::{DirRec, FileRec, is_directory};
@@ -27,7 +27,7 @@ pub fn are_named(files: &[FileRec], entries: &[EntryRec], dirs: &[DirRec]) -> bo
 
 /// Whether files ascend by number.
 fn ascend(files: &[FileRec]) -> bool
-    ensures { IsTrue result ↔ Ascend 0 (numbers_of files.now) }
+    ensures { IsTrue result ↔ NumbersAscend 0 (numbers_of files.now) }
 {
     // Behind the last of all numbers none can come, so what may come next has more bits.
     let mut least = 0;

@@ -4,7 +4,7 @@ ghost use Rattle.std.specs.Prelude.{◌≡◌, ◌<◌, ◌≤◌, ◌↔◌, le
 ghost use Rattle.std.specs.List.{All};
 ghost use Rattle.xfs_geom.specs.Volumes.{volume_of};
 ghost use Rattle.xfs_tree.specs.Rules.{are_lawful};
-ghost use Rattle.xfs_space.specs.Parts.{AreGroups, AreOfGroup, IsFile, IsGroup};
+ghost use Rattle.xfs_space.specs.Parts.{AreGroups, AreOfGroup, HasLawfulForks, IsLawfulGroup};
 ghost use Rattle.xfs_volume.specs.declared.catalogs.BlockLsn.{BlockLsn};
 ghost use Rattle.xfs_volume.specs.declared.groups.TreeBlocks.{TreeBlocks};
 
@@ -38,7 +38,7 @@ pub fn are_groups(g: &Geometry, groups: &[GroupRec]) -> bool
 /// its trees stand in the group.
 fn is_group(g: &Geometry, ag: u32, group: &GroupRec) -> bool
     requires { ag < g.now.agcount }
-    ensures { IsTrue result ↔ IsGroup (volume_of g.now) ag group.now }
+    ensures { IsTrue result ↔ IsLawfulGroup (volume_of g.now) ag group.now }
 {
     if group.agfl.count > ENTRIES {
         return false;
@@ -107,7 +107,7 @@ fn are_of_group(g: &Geometry, ag: u32, blocks: &[u64]) -> bool
 
 /// Whether some files are sound by themselves: their extents are lawful and their trees stand in the volume.
 pub fn are_files(g: &Geometry, files: &[FileRec]) -> bool
-    ensures { IsTrue result ↔ All (IsFile (volume_of g.now)) files.now }
+    ensures { IsTrue result ↔ All (HasLawfulForks (volume_of g.now)) files.now }
 {
     for file in files {
         if !is_file(g, file) {
@@ -119,13 +119,13 @@ pub fn are_files(g: &Geometry, files: &[FileRec]) -> bool
 
 /// Whether a file is sound by itself.
 fn is_file(g: &Geometry, file: &FileRec) -> bool
-    ensures { IsTrue result ↔ IsFile (volume_of g.now) file.now }
+    ensures { IsTrue result ↔ HasLawfulForks (volume_of g.now) file.now }
 {
     let kind = Bmbt { ino: file.ino };
     if !are_lawful(&kind, g, file.extents.as_slice()) {
         return false;
     }
-    if !are_lawful(&kind, g, file.attr.as_slice()) {
+    if !are_lawful(&kind, g, file.attr_extents.as_slice()) {
         return false;
     }
     are_of_volume(g, file.tree.as_slice())

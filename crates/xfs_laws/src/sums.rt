@@ -1,7 +1,8 @@
 //! Sums over the records of a group.
 
 ghost use Rattle.std.specs.Prelude.{◌≡◌, ◌*◌, ◌^◌, ◌≤◌, length};
-ghost use Rattle.xfs_laws.specs.Counting.{free_blocks, free_slots, longest, slots};
+ghost use Rattle.xfs_geom.specs.Sums.{free_blocks, free_slots, slots};
+ghost use Rattle.xfs_laws.specs.Counting.{longest};
 
 use xfs_geom::{InoRec, Span};
 

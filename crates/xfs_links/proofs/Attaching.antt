@@ -6,11 +6,11 @@ use Rattle.std.proofs.lemmas.Bool.Decides.{nat_tests}
 use Rattle.std.proofs.lemmas.List.{get_or-set_other, get_or-set_same, drop_more, get_or_default}
 use Rattle.std.proofs.Math.ListN.{length-set, length-map, get_or-map}
 use Rattle.std.proofs.lemmas.List.Folds.{list_any-append}
-use Rattle.xfs_weave.specs.Lists.{Woven, has, without, list_at, put_last, taken_off}
+use Rattle.xfs_weave.specs.Lists.{Woven, has_node, without, list_at, put_last, taken_off}
 use Rattle.xfs_links.specs.declared.records.NodeRec.{NodeRec}
 use Rattle.xfs_links.specs.declared.candidates.Candidate.{Candidate}
 use Rattle.xfs_links.specs.declared.walk.Attached.{Attached}
-use Rattle.xfs_links.specs.Entries.{at_place}
+use Rattle.xfs_links.specs.Entries.{is_directory_at_place}
 use Rattle.xfs_links.specs.Walk.{is_attached, attached_at, see, see_all, turn_at, turns, begin, walk, start_at}
 use Rattle.xfs_links.specs.Places.{IsSteady, targets}
 
@@ -24,17 +24,17 @@ attached_last s a p = list_any-append (λ (b : Attached). b.directory == p) s (a
     plain : (q r : Bool) → (q || (r || false)) ≡ (q || r)
     plain q r = grind (arith, nat_tests)
 
-has_without : (x y : ℕ) (xs : List ℕ) → has y (without x xs) ≡ (not (y == x) && has y xs)
+has_without : (x y : ℕ) (xs : List ℕ) → has_node y (without x xs) ≡ (not (y == x) && has_node y xs)
 has_without x y [] = grind (arith, nat_tests)
 has_without x y (z ∷ zs) = either (z == x) refl (has_without x y zs)
   where
-    either : (t : Bool) → (z == x) ≡ t → has y (without x zs) ≡ (not (y == x) && has y zs)
-        → has y (cond (not t) (z ∷ without x zs) (without x zs)) ≡ (not (y == x) && ((z == y) || has y zs))
+    either : (t : Bool) → (z == x) ≡ t → has_node y (without x zs) ≡ (not (y == x) && has_node y zs)
+        → has_node y (cond (not t) (z ∷ without x zs) (without x zs)) ≡ (not (y == x) && ((z == y) || has_node y zs))
     either true e h = grind (arith, nat_tests)
     either false e h = grind (arith, nat_tests)
 
 -- to take one off the unattached is to attach it
-without_unattached : (s : List Attached) (d : ℕ) (parent : Option ℕ) (xs : List ℕ) → ((x : ℕ) → has x xs ≡ true → is_attached s x ≡ false)
+without_unattached : (s : List Attached) (d : ℕ) (parent : Option ℕ) (xs : List ℕ) → ((x : ℕ) → has_node x xs ≡ true → is_attached s x ≡ false)
     → without d xs ≡ filter (unattached (s ++ attached_at d parent ∷ [])) xs
 without_unattached s d parent [] h = refl
 without_unattached s d parent (x ∷ xs) h =
@@ -46,7 +46,7 @@ without_unattached s d parent (x ∷ xs) h =
     turned : is_attached s x ≡ false → (x == d) ≡ (is_attached s x || d == x)
     turned e = grind (arith, nat_tests)
 
-    either : (y : ℕ) → has y xs ≡ true → ((x == y) || has y xs) ≡ true
+    either : (y : ℕ) → has_node y xs ≡ true → ((x == y) || has_node y xs) ≡ true
     either y m = grind (arith, nat_tests)
 
 first_list : (w : Woven) (k d : ℕ) → 1 ≤ k → list_at (put_last (taken_off w d) k d) 0 ≡ without d (list_at w 0)
@@ -58,25 +58,25 @@ pub moved_pending : (files : List NodeRec) (w v : Woven) (s : List Attached) (k 
 moved_pending files w v s k d parent steady some is =
     ap (λ u. list_at u 0) is ∙ first_list w k d some ∙ without_unattached s d parent (list_at w 0) free
   where
-    free : (x : ℕ) → has x (list_at w 0) ≡ true → is_attached s x ≡ false
-    free x h = let both : (at_place files x && not (is_attached s x)) ≡ true = sym (steady.pending x) ∙ h in grind (arith, nat_tests)
+    free : (x : ℕ) → has_node x (list_at w 0) ≡ true → is_attached s x ≡ false
+    free x h = let both : (is_directory_at_place files x && not (is_attached s x)) ≡ true = sym (steady.pending x) ∙ h in grind (arith, nat_tests)
 
 pub moved_steady : (files : List NodeRec) (w v : Woven) (s : List Attached) (k d : ℕ) (parent : Option ℕ) → IsSteady files w s → 1 ≤ k → v ≡ put_last (taken_off w d) k d
     → IsSteady files v (s ++ attached_at d parent ∷ [])
 moved_steady files w v s k d parent steady some is = record {
   nodes = ap (λ (u : Woven). u.nodes) is ∙ steady.nodes;
   lists = ap (λ (u : Woven). length u.lists) is ∙ length-set _ _ _ ∙ length-map _ _ ∙ steady.lists;
-  pending = λ p. ap (λ u. has p (list_at u 0)) is ∙ ap (has p) (first_list w k d some) ∙ has_without d p (list_at w 0) ∙ ap (λ r. not (p == d) && r) (steady.pending p)
-      ∙ turned p ∙ ap (λ r. at_place files p && not r) (sym (attached_last s (attached_at d parent) p));
+  pending = λ p. ap (λ u. has_node p (list_at u 0)) is ∙ ap (has_node p) (first_list w k d some) ∙ has_without d p (list_at w 0) ∙ ap (λ r. not (p == d) && r) (steady.pending p)
+      ∙ turned p ∙ ap (λ r. is_directory_at_place files p && not r) (sym (attached_last s (attached_at d parent) p));
 }
   where
-    turned : (p : ℕ) → (not (p == d) && (at_place files p && not (is_attached s p))) ≡ (at_place files p && not (is_attached s p || d == p))
+    turned : (p : ℕ) → (not (p == d) && (is_directory_at_place files p && not (is_attached s p))) ≡ (is_directory_at_place files p && not (is_attached s p || d == p))
     turned p = elim (cases_eq p d) [ inl e ↦ plain (p == d) (d == p) (grind (arith, nat_tests)) (grind (arith, nat_tests)) | inr n ↦ other (p == d) (d == p) (grind (arith, nat_tests)) (grind (arith, nat_tests)) ]
       where
-        plain : (q r : Bool) → q ≡ true → r ≡ true → (not q && (at_place files p && not (is_attached s p))) ≡ (at_place files p && not (is_attached s p || r))
+        plain : (q r : Bool) → q ≡ true → r ≡ true → (not q && (is_directory_at_place files p && not (is_attached s p))) ≡ (is_directory_at_place files p && not (is_attached s p || r))
         plain q r e f = grind (arith, nat_tests)
 
-        other : (q r : Bool) → q ≡ false → r ≡ false → (not q && (at_place files p && not (is_attached s p))) ≡ (at_place files p && not (is_attached s p || r))
+        other : (q r : Bool) → q ≡ false → r ≡ false → (not q && (is_directory_at_place files p && not (is_attached s p))) ≡ (is_directory_at_place files p && not (is_attached s p || r))
         other q r e f = grind (arith, nat_tests)
 
 -- what passes the second test, and so the first, is picked twice
@@ -93,11 +93,11 @@ filter_twice f g (x ∷ xs) h = either (f x) refl (g x) refl (filter_twice f g x
     either false e false k r = r
 
 -- all stay where none fails
-pub filter_all : (f : ℕ → Bool) (xs : List ℕ) → ((x : ℕ) → has x xs ≡ true → f x ≡ true) → filter f xs ≡ xs
+pub filter_all : (f : ℕ → Bool) (xs : List ℕ) → ((x : ℕ) → has_node x xs ≡ true → f x ≡ true) → filter f xs ≡ xs
 filter_all f [] h = refl
 filter_all f (x ∷ xs) h = ap (λ r. cond r (x ∷ filter f xs) (filter f xs)) (h x (grind (arith, nat_tests))) ∙ ap (λ r. x ∷ r) (filter_all f xs (λ y m. h y (either y m)))
   where
-    either : (y : ℕ) → has y xs ≡ true → ((x == y) || has y xs) ≡ true
+    either : (y : ℕ) → has_node y xs ≡ true → ((x == y) || has_node y xs) ≡ true
     either y m = grind (arith, nat_tests)
 
 -- fewer stay where one fails
@@ -109,7 +109,7 @@ filter_most f (x ∷ xs) = either (f x) (filter_most f xs)
     either true h = omega arith
     either false h = omega arith
 
-pub filter_fewer : (f : ℕ → Bool) (xs : List ℕ) (y : ℕ) → has y xs ≡ true → f y ≡ false → length (filter f xs) < length xs
+pub filter_fewer : (f : ℕ → Bool) (xs : List ℕ) (y : ℕ) → has_node y xs ≡ true → f y ≡ false → length (filter f xs) < length xs
 filter_fewer f [] y h e = cc
 filter_fewer f (x ∷ xs) y h e = elim (cases_eq x y) [
   | inl s ↦ subst (λ r. length (cond r (x ∷ filter f xs) (filter f xs)) < suc (length xs)) (sym (ap f s ∙ e)) (omega (arith, filter_most f xs))
@@ -122,7 +122,7 @@ filter_fewer f (x ∷ xs) y h e = elim (cases_eq x y) [
 
 -- at the start all that are pending are unattached
 pub pending_same : (files : List NodeRec) (w : Woven) (s : List Attached) → IsSteady files w s → list_at w 0 ≡ filter (unattached s) (list_at w 0)
-pending_same files w s steady = sym (filter_all (unattached s) (list_at w 0) (λ x h. let both : (at_place files x && not (is_attached s x)) ≡ true = sym (steady.pending x) ∙ h in grind (arith, nat_tests)))
+pending_same files w s steady = sym (filter_all (unattached s) (list_at w 0) (λ x h. let both : (is_directory_at_place files x && not (is_attached s x)) ≡ true = sym (steady.pending x) ∙ h in grind (arith, nat_tests)))
 
 -- once more
 pub pending_twice : (s t : List Attached) (xs ys zs : List ℕ) → ((p : ℕ) → is_attached s p ≡ true → is_attached t p ≡ true) → ys ≡ filter (unattached s) xs → zs ≡ filter (unattached t) ys
@@ -212,7 +212,7 @@ walk_next named steps root s t total (x ∷ xs) ys n first is left leads =
     turned : (y : ℕ) → unattached t y ≡ false → is_attached t y ≡ true
     turned y e = grind (arith, nat_tests)
 
-pub first_has : (n : ℕ) (xs : List ℕ) → slice_get xs 0 ≡ Some n → has n xs ≡ true
+pub first_has : (n : ℕ) (xs : List ℕ) → slice_get xs 0 ≡ Some n → has_node n xs ≡ true
 first_has n [] e = cc
 first_has n (x ∷ xs) e = let s : x ≡ n = cc in grind (arith, nat_tests)
 
@@ -221,38 +221,38 @@ none_first [] e = refl
 none_first (x ∷ xs) e = cc
 
 -- a starting point that has been attached is no longer pending
-pub pending_fewer : (named : ℕ → List ℕ) (steps root : ℕ) (s t : List Attached) (xs ys : List ℕ) (n : ℕ) → has n xs ≡ true → t ≡ begin named steps root s n → ys ≡ filter (unattached t) xs → length ys < length xs
+pub pending_fewer : (named : ℕ → List ℕ) (steps root : ℕ) (s t : List Attached) (xs ys : List ℕ) (n : ℕ) → has_node n xs ≡ true → t ≡ begin named steps root s n → ys ≡ filter (unattached t) xs → length ys < length xs
 pending_fewer named steps root s t xs ys n h is left =
     subst (λ r. length r < length xs) (sym left) (filter_fewer (unattached t) xs n h (ap not (ap (λ r. is_attached r n) is ∙ begin_attaches named steps root s n)))
 
 -- the directories that the candidates from the i-th on name
 pub targets_next : (files : List NodeRec) (cs : List Candidate) (i : ℕ) (c : Candidate) → i < length cs → c ≡ slice_index_or cs i c
-    → targets files (drop i cs) ≡ cond (at_place files c.target) (c.target ∷ targets files (drop (i + 1) cs)) (targets files (drop (i + 1) cs))
-targets_next files cs i c h is = ap (targets files) (drop_more cs i c h) ∙ ap (λ (k : Candidate). targets files (k ∷ drop (i + 1) cs)) (sym is) ∙ either (at_place files c.target) refl
+    → targets files (drop i cs) ≡ cond (is_directory_at_place files c.target) (c.target ∷ targets files (drop (i + 1) cs)) (targets files (drop (i + 1) cs))
+targets_next files cs i c h is = ap (targets files) (drop_more cs i c h) ∙ ap (λ (k : Candidate). targets files (k ∷ drop (i + 1) cs)) (sym is) ∙ either (is_directory_at_place files c.target) refl
   where
-    either : (t : Bool) → at_place files c.target ≡ t → map (λ (c : Candidate). c.target) (cond t (c ∷ filter (λ c. at_place files c.target) (drop (i + 1) cs)) (filter (λ c. at_place files c.target) (drop (i + 1) cs)))
+    either : (t : Bool) → is_directory_at_place files c.target ≡ t → map (λ (c : Candidate). c.target) (cond t (c ∷ filter (λ c. is_directory_at_place files c.target) (drop (i + 1) cs)) (filter (λ c. is_directory_at_place files c.target) (drop (i + 1) cs)))
         ≡ cond t (c.target ∷ targets files (drop (i + 1) cs)) (targets files (drop (i + 1) cs))
     either true e = refl
     either false e = refl
 
 -- a candidate whose file is pending
 pub seen_pending : (files : List NodeRec) (cs : List Candidate) (i d : ℕ) (c : Candidate) (s total : List Attached) → i < length cs → c ≡ slice_index_or cs i c
-    → (at_place files c.target && not (is_attached s c.target)) ≡ true → see_all d s (targets files (drop i cs)) ≡ total
+    → (is_directory_at_place files c.target && not (is_attached s c.target)) ≡ true → see_all d s (targets files (drop i cs)) ≡ total
     → see_all d (s ++ attached_at c.target (Some d) ∷ []) (targets files (drop (i + 1) cs)) ≡ total
-seen_pending files cs i d c s total h is p leads = sym (ap (see_all d s) (targets_next files cs i c h is) ∙ either (at_place files c.target) refl (is_attached s c.target) refl p) ∙ leads
+seen_pending files cs i d c s total h is p leads = sym (ap (see_all d s) (targets_next files cs i c h is) ∙ either (is_directory_at_place files c.target) refl (is_attached s c.target) refl p) ∙ leads
   where
-    either : (t : Bool) → at_place files c.target ≡ t → (u : Bool) → is_attached s c.target ≡ u → (t && not u) ≡ true → see_all d s (cond t (c.target ∷ targets files (drop (i + 1) cs)) (targets files (drop (i + 1) cs))) ≡ see_all d (s ++ attached_at c.target (Some d) ∷ []) (targets files (drop (i + 1) cs))
+    either : (t : Bool) → is_directory_at_place files c.target ≡ t → (u : Bool) → is_attached s c.target ≡ u → (t && not u) ≡ true → see_all d s (cond t (c.target ∷ targets files (drop (i + 1) cs)) (targets files (drop (i + 1) cs))) ≡ see_all d (s ++ attached_at c.target (Some d) ∷ []) (targets files (drop (i + 1) cs))
     either true e true k q = cc
     either true e false k q = ap (λ r. see_all d (if r then s else (s ++ attached_at c.target (Some d) ∷ [])) (targets files (drop (i + 1) cs))) k
     either false e u k q = cc
 
 -- and one whose file is not
 pub seen_other : (files : List NodeRec) (cs : List Candidate) (i d : ℕ) (c : Candidate) (s total : List Attached) → i < length cs → c ≡ slice_index_or cs i c
-    → (at_place files c.target && not (is_attached s c.target)) ≡ false → see_all d s (targets files (drop i cs)) ≡ total
+    → (is_directory_at_place files c.target && not (is_attached s c.target)) ≡ false → see_all d s (targets files (drop i cs)) ≡ total
     → see_all d s (targets files (drop (i + 1) cs)) ≡ total
-seen_other files cs i d c s total h is p leads = sym (ap (see_all d s) (targets_next files cs i c h is) ∙ either (at_place files c.target) refl (is_attached s c.target) refl p) ∙ leads
+seen_other files cs i d c s total h is p leads = sym (ap (see_all d s) (targets_next files cs i c h is) ∙ either (is_directory_at_place files c.target) refl (is_attached s c.target) refl p) ∙ leads
   where
-    either : (t : Bool) → at_place files c.target ≡ t → (u : Bool) → is_attached s c.target ≡ u → (t && not u) ≡ false → see_all d s (cond t (c.target ∷ targets files (drop (i + 1) cs)) (targets files (drop (i + 1) cs))) ≡ see_all d s (targets files (drop (i + 1) cs))
+    either : (t : Bool) → is_directory_at_place files c.target ≡ t → (u : Bool) → is_attached s c.target ≡ u → (t && not u) ≡ false → see_all d s (cond t (c.target ∷ targets files (drop (i + 1) cs)) (targets files (drop (i + 1) cs))) ≡ see_all d s (targets files (drop (i + 1) cs))
     either true e true k q = ap (λ r. see_all d (if r then s else (s ++ attached_at c.target (Some d) ∷ [])) (targets files (drop (i + 1) cs))) k
     either true e false k q = cc
     either false e u k q = refl
@@ -279,12 +279,12 @@ turns_done named (suc steps) k s h = let out : nat_lt k (length s) ≡ false = g
 
 -- the same for the candidate at a place
 pub pending_at : (files : List NodeRec) (cs : List Candidate) (i d : ℕ) (e : Candidate) (s total : List Attached) → i < length cs
-    → (at_place files (slice_index_or cs i e).target && not (is_attached s (slice_index_or cs i e).target)) ≡ true → see_all d s (targets files (drop i cs)) ≡ total
+    → (is_directory_at_place files (slice_index_or cs i e).target && not (is_attached s (slice_index_or cs i e).target)) ≡ true → see_all d s (targets files (drop i cs)) ≡ total
     → see_all d (s ++ attached_at (slice_index_or cs i e).target (Some d) ∷ []) (targets files (drop (i + 1) cs)) ≡ total
 pending_at files cs i d e s total h = seen_pending files cs i d (slice_index_or cs i e) s total h (get_or_default cs i e (slice_index_or cs i e) h)
 
 pub other_at : (files : List NodeRec) (cs : List Candidate) (i d : ℕ) (e : Candidate) (s total : List Attached) → i < length cs
-    → (at_place files (slice_index_or cs i e).target && not (is_attached s (slice_index_or cs i e).target)) ≡ false → see_all d s (targets files (drop i cs)) ≡ total
+    → (is_directory_at_place files (slice_index_or cs i e).target && not (is_attached s (slice_index_or cs i e).target)) ≡ false → see_all d s (targets files (drop i cs)) ≡ total
     → see_all d s (targets files (drop (i + 1) cs)) ≡ total
 other_at files cs i d e s total h = seen_other files cs i d (slice_index_or cs i e) s total h (get_or_default cs i e (slice_index_or cs i e) h)
 
@@ -307,14 +307,14 @@ turn_over s u k r same e n = subst (λ v. length v ≤ k) same (either (nat_lt k
     either false h e = grind (arith, nat_tests)
 
 -- a starting point that is pending is not attached
-pub begin_is : (files : List NodeRec) (w : Woven) (named : ℕ → List ℕ) (steps root n from : ℕ) (s t u : List Attached) (parent : Option ℕ) → IsSteady files w s → has n (list_at w 0) ≡ true
+pub begin_is : (files : List NodeRec) (w : Woven) (named : ℕ → List ℕ) (steps root n from : ℕ) (s t u : List Attached) (parent : Option ℕ) → IsSteady files w s → has_node n (list_at w 0) ≡ true
     → u ≡ s → from ≡ length u → parent ≡ (if n == root then Some root else None) → t ≡ s ++ attached_at n parent ∷ [] → turns named steps from t ≡ begin named steps root s n
 begin_is files w named steps root n from s t u parent steady there same at is made =
     ap (turns named steps from) (made ∙ ap (λ r. s ++ attached_at n r ∷ []) is) ∙ ap (λ r. turns named steps r (s ++ start_at root n ∷ [])) (at ∙ ap (λ (r : List Attached). length r) same)
     ∙ sym (ap (λ r. if r then s else turns named steps (length s) (s ++ start_at root n ∷ [])) free)
   where
     free : is_attached s n ≡ false
-    free = let both : (at_place files n && not (is_attached s n)) ≡ true = sym (steady.pending n) ∙ there in grind (arith, nat_tests)
+    free = let both : (is_directory_at_place files n && not (is_attached s n)) ≡ true = sym (steady.pending n) ∙ there in grind (arith, nat_tests)
 
 -- a starting point that is put behind those that are pending
 pub moved_first : (w v : Woven) (n : ℕ) → 0 < length w.lists → v ≡ put_last (taken_off w n) 0 n → list_at v 0 ≡ without n (list_at w 0) ++ n ∷ []

@@ -14,7 +14,7 @@ use Rattle.xfs_dirdata.specs.declared.records.EntryRec.{EntryRec}
 use Rattle.xfs_links.specs.declared.records.NodeRec.{NodeRec}
 use Rattle.xfs_links.specs.declared.candidates.Candidate.{Candidate}
 use Rattle.xfs_links.specs.Entries.{passes, firsts, same_name}
-use Rattle.xfs_links.specs.Places.{entry_of, IsPlaced, IsPlacedAt, no_entry}
+use Rattle.xfs_links.specs.Places.{candidate_entry, IsPlacedCandidate, IsPlacedAt, no_entry}
 use Rattle.xfs_links.specs.Met.{name_cmp}
 
 -- names are one where neither comes first
@@ -37,13 +37,13 @@ firsts_met met es e t = ap (λ r. cond r (firsts met es) (e ∷ firsts (met ++ e
 pub firsts_new : (met es : List EntryRec) (e : EntryRec) → list_any (λ f. same_name f e) met ≡ false → firsts met (e ∷ es) ≡ e ∷ firsts (met ++ e ∷ []) es
 firsts_new met es e t = ap (λ r. cond r (firsts met es) (e ∷ firsts (met ++ e ∷ []) es)) t
 
-pub map_last : (entries : List EntryRec) (cs : List Candidate) (c : Candidate) → map (entry_of entries) (cs ++ c ∷ []) ≡ map (entry_of entries) cs ++ entry_of entries c ∷ []
+pub map_last : (entries : List EntryRec) (cs : List Candidate) (c : Candidate) → map (candidate_entry entries) (cs ++ c ∷ []) ≡ map (candidate_entry entries) cs ++ candidate_entry entries c ∷ []
 map_last entries [] c = refl
-map_last entries (b ∷ cs) c = ap (λ (r : List EntryRec). entry_of entries b ∷ r) (map_last entries cs c)
+map_last entries (b ∷ cs) c = ap (λ (r : List EntryRec). candidate_entry entries b ∷ r) (map_last entries cs c)
 
 -- a candidate at its entry's place is placed
 pub placed_at : (files : List NodeRec) (entries : List EntryRec) (e : EntryRec) (i : ℕ) (c : Candidate) → i < length entries → e ≡ slice_index_or entries i e
-    → IsPlacedAt files e i c → IsPlaced files entries c × (entry_of entries c ≡ e)
+    → IsPlacedAt files e i c → IsPlacedCandidate files entries c × (candidate_entry entries c ≡ e)
 placed_at files entries e i c h is p = (
   record {
     entry = omega (arith, p.entry);
@@ -55,7 +55,7 @@ placed_at files entries e i c h is p = (
   same,
 )
   where
-    same : entry_of entries c ≡ e
+    same : candidate_entry entries c ≡ e
     same = ap (λ k. slice_index_or entries k no_entry) p.entry ∙ get_or_default entries i no_entry e h ∙ sym is
 
 pub leads_met : (files : List NodeRec) (root i : ℕ) (entries met total : List EntryRec) (e : EntryRec) → i < length entries → e ≡ slice_index_or entries i e
@@ -74,21 +74,21 @@ leads_new files root i entries met total e h is t m leads =
 
 -- the candidate of a new entry, put behind those that are found
 pub found_next : (files : List NodeRec) (root i : ℕ) (entries total : List EntryRec) (found : List Candidate) (e : EntryRec) (c : Candidate) → i < length entries → e ≡ slice_index_or entries i e
-    → passes files root e ≡ true → IsPlacedAt files e i c → list_any (λ f. same_name f e) (map (entry_of entries) found) ≡ false
-    → map (entry_of entries) found ++ firsts (map (entry_of entries) found) (filter (passes files root) (drop i entries)) ≡ total
-    → map (entry_of entries) (found ++ c ∷ []) ++ firsts (map (entry_of entries) (found ++ c ∷ [])) (filter (passes files root) (drop (i + 1) entries)) ≡ total
+    → passes files root e ≡ true → IsPlacedAt files e i c → list_any (λ f. same_name f e) (map (candidate_entry entries) found) ≡ false
+    → map (candidate_entry entries) found ++ firsts (map (candidate_entry entries) found) (filter (passes files root) (drop i entries)) ≡ total
+    → map (candidate_entry entries) (found ++ c ∷ []) ++ firsts (map (candidate_entry entries) (found ++ c ∷ [])) (filter (passes files root) (drop (i + 1) entries)) ≡ total
 found_next files root i entries total found e c h is t p m leads =
     subst (λ r. r ++ firsts r (filter (passes files root) (drop (i + 1) entries)) ≡ total)
-    (sym (map_last entries found c ∙ ap (λ (k : EntryRec). map (entry_of entries) found ++ k ∷ []) (placed_at files entries e i c h is p).1))
-    (leads_new files root i entries (map (entry_of entries) found) total e h is t m leads)
+    (sym (map_last entries found c ∙ ap (λ (k : EntryRec). map (candidate_entry entries) found ++ k ∷ []) (placed_at files entries e i c h is p).1))
+    (leads_new files root i entries (map (candidate_entry entries) found) total e h is t m leads)
 
 -- the names met, with one more
 pub met_next : (files : List NodeRec) (i : ℕ) (entries : List EntryRec) (found : List Candidate) (e : EntryRec) (c : Candidate) (d : ℕ) (q : List ℕ) → i < length entries → e ≡ slice_index_or entries i e
     → IsPlacedAt files e i c
-    → list_any (λ (f : EntryRec). f.dir == d && bytes_eq f.name q) (map (entry_of entries) (found ++ c ∷ [])) ≡ ((e.dir == d && bytes_eq e.name q) || list_any (λ (f : EntryRec). f.dir == d && bytes_eq f.name q) (map (entry_of entries) found))
+    → list_any (λ (f : EntryRec). f.dir == d && bytes_eq f.name q) (map (candidate_entry entries) (found ++ c ∷ [])) ≡ ((e.dir == d && bytes_eq e.name q) || list_any (λ (f : EntryRec). f.dir == d && bytes_eq f.name q) (map (candidate_entry entries) found))
 met_next files i entries found e c d q h is p =
-    ap (list_any test) (map_last entries found c ∙ ap (λ (k : EntryRec). map (entry_of entries) found ++ k ∷ []) (placed_at files entries e i c h is p).1)
-    ∙ list_any-append test (map (entry_of entries) found) (e ∷ []) ∙ turned (list_any test (map (entry_of entries) found)) (test e)
+    ap (list_any test) (map_last entries found c ∙ ap (λ (k : EntryRec). map (candidate_entry entries) found ++ k ∷ []) (placed_at files entries e i c h is p).1)
+    ∙ list_any-append test (map (candidate_entry entries) found) (e ∷ []) ∙ turned (list_any test (map (candidate_entry entries) found)) (test e)
   where
     test : EntryRec → Bool
     test = λ (f : EntryRec). f.dir == d && bytes_eq f.name q

@@ -7,9 +7,9 @@ use Rattle.std.proofs.lemmas.Bool.Decides.{nat_tests}
 use Rattle.std.proofs.lemmas.List.Elements.{filter-append, All-filter}
 use Rattle.std.proofs.lemmas.List.{get_or-drop, map-append}
 use Rattle.std.proofs.Common.{length-drop}
-use Rattle.xfs_weave.specs.Lists.{has, AreOnce, without}
+use Rattle.xfs_weave.specs.Lists.{has_node, AreOnce, without}
 use Rattle.xfs_links.specs.declared.candidates.Candidate.{Candidate}
-use Rattle.xfs_links.specs.Places.{group}
+use Rattle.xfs_links.specs.Places.{candidates_at}
 
 abbrev pub no_candidate : Candidate
 no_candidate = record { entry = 0; directory = 0; target = 0 }
@@ -21,26 +21,26 @@ pub parted_below : (cs : List Candidate) (d : ℕ) → IsNonDecreasingBy (λ (c 
 parted_below cs d sorted i j e le inside t = grind (arith, nat_tests, sorted i j e le inside, t)
 
 -- those in front of a place, of which none has the directory, may be left out
-pub low_group : (cs : List Candidate) (low d : ℕ) → ((k : ℕ) → k < low → directory_of cs k < d) → low ≤ length cs → group (drop low cs) d ≡ group cs d
+pub low_group : (cs : List Candidate) (low d : ℕ) → ((k : ℕ) → k < low → directory_of cs k < d) → low ≤ length cs → candidates_at (drop low cs) d ≡ candidates_at cs d
 low_group [] zero d e h = refl
 low_group [] (suc low) d e h = refl
 low_group (c ∷ cs) zero d e h = refl
 low_group (c ∷ cs) (suc low) d e h =
     let off : (c.directory == d) ≡ false = grind (arith, nat_tests, e 0 (omega arith)) in
-    low_group cs low d (λ k l. e (suc k) (omega arith)) (omega arith) ∙ sym (ap (λ r. cond r (c ∷ group cs d) (group cs d)) off)
+    low_group cs low d (λ k l. e (suc k) (omega arith)) (omega arith) ∙ sym (ap (λ r. cond r (c ∷ candidates_at cs d) (candidates_at cs d)) off)
 
 -- of candidates from the directory on those up to a place have it
 pub high_group : (cs : List Candidate) (n d : ℕ) → ((k : ℕ) → k < length cs → d ≤ directory_of cs k)
-    → ((k : ℕ) → k < n → directory_of cs k ≤ d) → ((k : ℕ) → n ≤ k → k < length cs → d < directory_of cs k) → n ≤ length cs → take n cs ≡ group cs d
+    → ((k : ℕ) → k < n → directory_of cs k ≤ d) → ((k : ℕ) → n ≤ k → k < length cs → d < directory_of cs k) → n ≤ length cs → take n cs ≡ candidates_at cs d
 high_group [] zero d f g h b = refl
 high_group [] (suc n) d f g h b = refl
 high_group (c ∷ cs) zero d f g h b =
     let off : (c.directory == d) ≡ false = grind (arith, nat_tests, h 0 (omega arith) (omega arith)) in
-    high_group cs zero d (λ k l. f (suc k) (omega arith)) (λ k l. absurd (omega arith)) (λ k l m. h (suc k) (omega arith) (omega arith)) (omega arith) ∙ sym (ap (λ r. cond r (c ∷ group cs d) (group cs d)) off)
+    high_group cs zero d (λ k l. f (suc k) (omega arith)) (λ k l. absurd (omega arith)) (λ k l m. h (suc k) (omega arith) (omega arith)) (omega arith) ∙ sym (ap (λ r. cond r (c ∷ candidates_at cs d) (candidates_at cs d)) off)
 high_group (c ∷ cs) (suc n) d f g h b =
     let on : (c.directory == d) ≡ true = grind (arith, nat_tests, f 0 (omega arith), g 0 (omega arith)) in
     ap (λ (r : List Candidate). c ∷ r) (high_group cs n d (λ k l. f (suc k) (omega arith)) (λ k l. g (suc k) (omega arith)) (λ k l m. h (suc k) (omega arith) (omega arith)) (omega arith))
-    ∙ sym (ap (λ r. cond r (c ∷ group cs d) (group cs d)) on)
+    ∙ sym (ap (λ r. cond r (c ∷ candidates_at cs d) (candidates_at cs d)) on)
 
 pub sorted_rest : (cs : List Candidate) (low : ℕ) → IsNonDecreasingBy (λ (c : Candidate). c.directory) cs → IsNonDecreasingBy (λ (c : Candidate). c.directory) (drop low cs)
 sorted_rest cs low sorted i j d e h =
@@ -51,7 +51,7 @@ sorted_rest cs low sorted i j d e h =
 pub found_group : (cs : List Candidate) (low n d : ℕ) → low ≤ length cs → n ≤ length (drop low cs)
     → IsPartitionPoint (λ (c : Candidate). ltb c.directory d ≡ true) (λ (c : Candidate). ltb c.directory d ≡ false) cs low
     → IsPartitionPoint (λ (c : Candidate). leb c.directory d ≡ true) (λ (c : Candidate). leb c.directory d ≡ false) (drop low cs) n
-    → take n (drop low cs) ≡ group cs d
+    → take n (drop low cs) ≡ candidates_at cs d
 found_group cs low n d b m p q =
     high_group (drop low cs) n d
     (λ k l. let e : ltb (directory_of cs (low + k)) d ≡ false = p.1 (low + k) no_candidate (omega arith) (omega (arith, simp length-drop at l)) in
@@ -82,28 +82,28 @@ picked_more f n = ap (filter f) (range_more 0 n ∙ ap (λ k. range_with_len 0 n
     the_same n = omega arith
 
 -- a list in which each stands once, up to a place
-pub once_before : (xs : List ℕ) (i : ℕ) → AreOnce xs → i < length xs → has (slice_index_or xs i 0) (take i xs) ≡ false
+pub once_before : (xs : List ℕ) (i : ℕ) → AreOnce xs → i < length xs → has_node (slice_index_or xs i 0) (take i xs) ≡ false
 once_before [] i o h = absurd (omega arith)
 once_before (x ∷ xs) zero o h = refl
 once_before (x ∷ xs) (suc i) o h =
-    let rest : has (slice_index_or xs i 0) (take i xs) ≡ false = once_before xs i o.1 (omega arith) in
+    let rest : has_node (slice_index_or xs i 0) (take i xs) ≡ false = once_before xs i o.1 (omega arith) in
     let off : (x == slice_index_or xs i 0) ≡ false = apart x xs i o.0 (omega arith) in
     grind (arith, nat_tests)
   where
-    apart : (x : ℕ) (ys : List ℕ) (i : ℕ) → has x ys ≡ false → i < length ys → (x == slice_index_or ys i 0) ≡ false
+    apart : (x : ℕ) (ys : List ℕ) (i : ℕ) → has_node x ys ≡ false → i < length ys → (x == slice_index_or ys i 0) ≡ false
     apart x [] i e h = absurd (omega arith)
     apart x (y ∷ ys) zero e h = grind (arith, nat_tests)
     apart x (y ∷ ys) (suc i) e h = apart x ys i (grind (arith, nat_tests)) (omega arith)
 
-pub without_absent : (x : ℕ) (xs : List ℕ) → has x xs ≡ false → without x xs ≡ xs
+pub without_absent : (x : ℕ) (xs : List ℕ) → has_node x xs ≡ false → without x xs ≡ xs
 without_absent x [] h = refl
 without_absent x (y ∷ ys) h =
     let off : (y == x) ≡ false = grind (arith, nat_tests) in
-    let rest : has x ys ≡ false = grind (arith, nat_tests) in
+    let rest : has_node x ys ≡ false = grind (arith, nat_tests) in
     ap (λ r. cond (not r) (y ∷ without x ys) (without x ys)) off ∙ ap (λ r. y ∷ r) (without_absent x ys rest)
 
 -- the files that the candidates of a directory name are among the files
-pub targets_inside : (cs : List Candidate) (d n : ℕ) → All (λ (c : Candidate). c.target < n) cs → All (λ (c : Candidate). c.target < n) (group cs d)
+pub targets_inside : (cs : List Candidate) (d n : ℕ) → All (λ (c : Candidate). c.target < n) cs → All (λ (c : Candidate). c.target < n) (candidates_at cs d)
 targets_inside cs d n h = All-filter (λ (c : Candidate). c.directory == d) (λ (c : Candidate). c.target < n) cs h
 
 pub picked_next : (f : ℕ → Bool) (n : ℕ) (front xs ys : List ℕ) → f n ≡ true → xs ≡ front ++ filter f (range_with_len 0 n) → ys ≡ xs ++ n ∷ [] → ys ≡ front ++ filter f (range_with_len 0 (n + 1))

@@ -6,9 +6,9 @@ use Rattle.std.proofs.lemmas.List.{map-append}
 use Rattle.std.proofs.Math.ListN.{length-map}
 use Rattle.xfs_links.specs.declared.records.NodeRec.{NodeRec}
 use Rattle.xfs_links.specs.declared.walk.Attached.{Attached}
-use Rattle.xfs_links.specs.Entries.{number, Ascend}
-use Rattle.xfs_links.specs.Walk.{is_attached, attached_at, see, see_all, turn_at, turns, start_at, begin, walk, parent_of}
-use Rattle.xfs_links.specs.Places.{by_number}
+use Rattle.xfs_links.specs.Entries.{node_number, NodesAscend}
+use Rattle.xfs_links.specs.Walk.{is_attached, attached_at, see, see_all, turn_at, turns, start_at, begin, walk, attached_parent}
+use Rattle.xfs_links.specs.Places.{attached_numbers}
 use Rattle.xfs_links.proofs.Files.{number_one}
 
 -- all directories and their parents are among the first n files
@@ -66,84 +66,84 @@ pub in_walk : (n : ℕ) (named : ℕ → List ℕ) (steps root : ℕ) (s : List 
 in_walk n named steps root s [] low h r l = h
 in_walk n named steps root s (p ∷ ps) low h r l = in_walk n named steps root (begin named steps root s p) ps low (in_begin n named steps root s p low h r l.0) r l.1
 
-module _ (files : List NodeRec) (ascend : Ascend 0 files) where
+module _ (files : List NodeRec) (ascend : NodesAscend 0 files) where
   -- two places have one number exactly where they are one
-  pub same_number : (p q : ℕ) → p < length files → q < length files → (number files p == number files q) ≡ (p == q)
+  pub same_number : (p q : ℕ) → p < length files → q < length files → (node_number files p == node_number files q) ≡ (p == q)
   same_number p q h k = elim (cases_eq p q) [
-    | inl e ↦ let s : number files p ≡ number files q = ap (number files) e in grind (arith, nat_tests)
-    | inr n ↦ let s : number files p ≢ number files q = λ e. n (number_one files p q ascend h k e) in grind (arith, nat_tests)
+    | inl e ↦ let s : node_number files p ≡ node_number files q = ap (node_number files) e in grind (arith, nat_tests)
+    | inr n ↦ let s : node_number files p ≢ node_number files q = λ e. n (number_one files p q ascend h k e) in grind (arith, nat_tests)
   ]
 
-  pub attached_renamed : (s : List Attached) (p : ℕ) → AreIn (length files) s → p < length files → is_attached (map (by_number files) s) (number files p) ≡ is_attached s p
+  pub attached_renamed : (s : List Attached) (p : ℕ) → AreIn (length files) s → p < length files → is_attached (map (attached_numbers files) s) (node_number files p) ≡ is_attached s p
   attached_renamed [] p h l = refl
-  attached_renamed (a ∷ s) p h l = ap (λ r. r || is_attached (map (by_number files) s) (number files p)) (same_number a.directory p h.0 l) ∙ ap (λ r. a.directory == p || r) (attached_renamed s p h.2 l)
+  attached_renamed (a ∷ s) p h l = ap (λ r. r || is_attached (map (attached_numbers files) s) (node_number files p)) (same_number a.directory p h.0 l) ∙ ap (λ r. a.directory == p || r) (attached_renamed s p h.2 l)
 
-  see_renamed : (d p : ℕ) (s : List Attached) → AreIn (length files) s → p < length files → map (by_number files) (see d s p) ≡ see (number files d) (map (by_number files) s) (number files p)
-  see_renamed d p s h l = either (is_attached s p) ∙ ap (λ r. if r then map (by_number files) s else (map (by_number files) s ++ attached_at (number files p) (Some (number files d)) ∷ [])) (sym (attached_renamed s p h l))
+  see_renamed : (d p : ℕ) (s : List Attached) → AreIn (length files) s → p < length files → map (attached_numbers files) (see d s p) ≡ see (node_number files d) (map (attached_numbers files) s) (node_number files p)
+  see_renamed d p s h l = either (is_attached s p) ∙ ap (λ r. if r then map (attached_numbers files) s else (map (attached_numbers files) s ++ attached_at (node_number files p) (Some (node_number files d)) ∷ [])) (sym (attached_renamed s p h l))
     where
-      either : (t : Bool) → map (by_number files) (if t then s else (s ++ attached_at p (Some d) ∷ [])) ≡ (if t then map (by_number files) s else (map (by_number files) s ++ attached_at (number files p) (Some (number files d)) ∷ []))
+      either : (t : Bool) → map (attached_numbers files) (if t then s else (s ++ attached_at p (Some d) ∷ [])) ≡ (if t then map (attached_numbers files) s else (map (attached_numbers files) s ++ attached_at (node_number files p) (Some (node_number files d)) ∷ []))
       either true = refl
-      either false = map-append (by_number files) s (attached_at p (Some d) ∷ [])
+      either false = map-append (attached_numbers files) s (attached_at p (Some d) ∷ [])
 
   all_renamed : (d : ℕ) (ps : List ℕ) (s : List Attached) → AreIn (length files) s → d < length files → AreLow (length files) ps
-      → map (by_number files) (see_all d s ps) ≡ see_all (number files d) (map (by_number files) s) (map (number files) ps)
+      → map (attached_numbers files) (see_all d s ps) ≡ see_all (node_number files d) (map (attached_numbers files) s) (map (node_number files) ps)
   all_renamed d [] s h l k = refl
-  all_renamed d (p ∷ ps) s h l k = all_renamed d ps (see d s p) (in_see (length files) d p s h l k.0) l k.1 ∙ ap (λ r. see_all (number files d) r (map (number files) ps)) (see_renamed d p s h k.0)
+  all_renamed d (p ∷ ps) s h l k = all_renamed d ps (see d s p) (in_see (length files) d p s h l k.0) l k.1 ∙ ap (λ r. see_all (node_number files d) r (map (node_number files) ps)) (see_renamed d p s h k.0)
 
-  turn_renamed : (s : List Attached) (k : ℕ) → k < length s → turn_at (map (by_number files) s) k ≡ number files (turn_at s k)
+  turn_renamed : (s : List Attached) (k : ℕ) → k < length s → turn_at (map (attached_numbers files) s) k ≡ node_number files (turn_at s k)
   turn_renamed [] k l = absurd (omega arith)
   turn_renamed (a ∷ s) zero l = refl
   turn_renamed (a ∷ s) (suc k) l = turn_renamed s k (omega arith)
 
-  pub parent_renamed : (s : List Attached) (p : ℕ) → AreIn (length files) s → p < length files → parent_of (map (by_number files) s) (number files p) ≡ option_map (number files) (parent_of s p)
+  pub parent_renamed : (s : List Attached) (p : ℕ) → AreIn (length files) s → p < length files → attached_parent (map (attached_numbers files) s) (node_number files p) ≡ option_map (node_number files) (attached_parent s p)
   parent_renamed [] p h l = refl
-  parent_renamed (a ∷ s) p h l = ap (λ r. if r then option_map (number files) a.parent else parent_of (map (by_number files) s) (number files p)) (same_number a.directory p h.0 l) ∙ either (a.directory == p) (parent_renamed s p h.2 l)
+  parent_renamed (a ∷ s) p h l = ap (λ r. if r then option_map (node_number files) a.parent else attached_parent (map (attached_numbers files) s) (node_number files p)) (same_number a.directory p h.0 l) ∙ either (a.directory == p) (parent_renamed s p h.2 l)
     where
-      either : (t : Bool) → parent_of (map (by_number files) s) (number files p) ≡ option_map (number files) (parent_of s p)
-          → (if t then option_map (number files) a.parent else parent_of (map (by_number files) s) (number files p)) ≡ option_map (number files) (if t then a.parent else parent_of s p)
+      either : (t : Bool) → attached_parent (map (attached_numbers files) s) (node_number files p) ≡ option_map (node_number files) (attached_parent s p)
+          → (if t then option_map (node_number files) a.parent else attached_parent (map (attached_numbers files) s) (node_number files p)) ≡ option_map (node_number files) (if t then a.parent else attached_parent s p)
       either true h = refl
       either false h = h
 
-  module _ (named at : ℕ → List ℕ) (low : (p : ℕ) → AreLow (length files) (at p)) (same : (p : ℕ) → p < length files → named (number files p) ≡ map (number files) (at p)) where
-    turns_renamed : (steps k : ℕ) (s : List Attached) → AreIn (length files) s → map (by_number files) (turns at steps k s) ≡ turns named steps k (map (by_number files) s)
+  module _ (named at : ℕ → List ℕ) (low : (p : ℕ) → AreLow (length files) (at p)) (same : (p : ℕ) → p < length files → named (node_number files p) ≡ map (node_number files) (at p)) where
+    turns_renamed : (steps k : ℕ) (s : List Attached) → AreIn (length files) s → map (attached_numbers files) (turns at steps k s) ≡ turns named steps k (map (attached_numbers files) s)
     turns_renamed zero k s h = refl
     turns_renamed (suc steps) k s h = either (nat_lt k (length s)) refl
         (λ l. turns_renamed steps (k + 1) (see_all (turn_at s k) s (at (turn_at s k))) (in_all (length files) (turn_at s k) (at (turn_at s k)) s h (turn_low (length files) s k h l) (low (turn_at s k))))
       where
-        step : k < length s → map (by_number files) (see_all (turn_at s k) s (at (turn_at s k))) ≡ see_all (turn_at (map (by_number files) s) k) (map (by_number files) s) (named (turn_at (map (by_number files) s) k))
+        step : k < length s → map (attached_numbers files) (see_all (turn_at s k) s (at (turn_at s k))) ≡ see_all (turn_at (map (attached_numbers files) s) k) (map (attached_numbers files) s) (named (turn_at (map (attached_numbers files) s) k))
         step l = all_renamed (turn_at s k) (at (turn_at s k)) s h (turn_low (length files) s k h l) (low (turn_at s k))
-            ∙ ap (see_all (number files (turn_at s k)) (map (by_number files) s)) (sym (same (turn_at s k) (turn_low (length files) s k h l)))
-            ∙ ap (λ r. see_all r (map (by_number files) s) (named r)) (sym (turn_renamed s k l))
+            ∙ ap (see_all (node_number files (turn_at s k)) (map (attached_numbers files) s)) (sym (same (turn_at s k) (turn_low (length files) s k h l)))
+            ∙ ap (λ r. see_all r (map (attached_numbers files) s) (named r)) (sym (turn_renamed s k l))
 
         either : (t : Bool) → nat_lt k (length s) ≡ t
-            → (k < length s → map (by_number files) (turns at steps (k + 1) (see_all (turn_at s k) s (at (turn_at s k)))) ≡ turns named steps (k + 1) (map (by_number files) (see_all (turn_at s k) s (at (turn_at s k)))))
-            → map (by_number files) (if t then turns at steps (k + 1) (see_all (turn_at s k) s (at (turn_at s k))) else s)
-            ≡ (if nat_lt k (length (map (by_number files) s)) then turns named steps (k + 1) (see_all (turn_at (map (by_number files) s) k) (map (by_number files) s) (named (turn_at (map (by_number files) s) k))) else map (by_number files) s)
+            → (k < length s → map (attached_numbers files) (turns at steps (k + 1) (see_all (turn_at s k) s (at (turn_at s k)))) ≡ turns named steps (k + 1) (map (attached_numbers files) (see_all (turn_at s k) s (at (turn_at s k)))))
+            → map (attached_numbers files) (if t then turns at steps (k + 1) (see_all (turn_at s k) s (at (turn_at s k))) else s)
+            ≡ (if nat_lt k (length (map (attached_numbers files) s)) then turns named steps (k + 1) (see_all (turn_at (map (attached_numbers files) s) k) (map (attached_numbers files) s) (named (turn_at (map (attached_numbers files) s) k))) else map (attached_numbers files) s)
         either true e r = let l : k < length s = grind (arith, nat_tests) in
-            r l ∙ ap (turns named steps (k + 1)) (step l) ∙ sym (ap (λ b. if b then turns named steps (k + 1) (see_all (turn_at (map (by_number files) s) k) (map (by_number files) s) (named (turn_at (map (by_number files) s) k))) else map (by_number files) s) (ap (nat_lt k) (length-map _ _) ∙ e))
-        either false e r = sym (ap (λ b. if b then turns named steps (k + 1) (see_all (turn_at (map (by_number files) s) k) (map (by_number files) s) (named (turn_at (map (by_number files) s) k))) else map (by_number files) s) (ap (nat_lt k) (length-map _ _) ∙ e))
+            r l ∙ ap (turns named steps (k + 1)) (step l) ∙ sym (ap (λ b. if b then turns named steps (k + 1) (see_all (turn_at (map (attached_numbers files) s) k) (map (attached_numbers files) s) (named (turn_at (map (attached_numbers files) s) k))) else map (attached_numbers files) s) (ap (nat_lt k) (length-map _ _) ∙ e))
+        either false e r = sym (ap (λ b. if b then turns named steps (k + 1) (see_all (turn_at (map (attached_numbers files) s) k) (map (attached_numbers files) s) (named (turn_at (map (attached_numbers files) s) k))) else map (attached_numbers files) s) (ap (nat_lt k) (length-map _ _) ∙ e))
 
     begin_renamed : (steps root : ℕ) (s : List Attached) (p : ℕ) → AreIn (length files) s → root < length files → p < length files
-        → map (by_number files) (begin at steps root s p) ≡ begin named steps (number files root) (map (by_number files) s) (number files p)
+        → map (attached_numbers files) (begin at steps root s p) ≡ begin named steps (node_number files root) (map (attached_numbers files) s) (node_number files p)
     begin_renamed steps root s p h r l = either (is_attached s p)
-        ∙ ap (λ b. if b then map (by_number files) s else turns named steps (length (map (by_number files) s)) (map (by_number files) s ++ start_at (number files root) (number files p) ∷ [])) (sym (attached_renamed s p h l))
+        ∙ ap (λ b. if b then map (attached_numbers files) s else turns named steps (length (map (attached_numbers files) s)) (map (attached_numbers files) s ++ start_at (node_number files root) (node_number files p) ∷ [])) (sym (attached_renamed s p h l))
       where
-        start : by_number files (start_at root p) ≡ start_at (number files root) (number files p)
-        start = ap (attached_at (number files p)) (choose (p == root) ∙ ap (λ b. if b then Some (number files root) else None) (sym (same_number p root l r)))
+        start : attached_numbers files (start_at root p) ≡ start_at (node_number files root) (node_number files p)
+        start = ap (attached_at (node_number files p)) (choose (p == root) ∙ ap (λ b. if b then Some (node_number files root) else None) (sym (same_number p root l r)))
           where
-            choose : (t : Bool) → option_map (number files) (if t then Some root else None) ≡ (if t then Some (number files root) else None)
+            choose : (t : Bool) → option_map (node_number files) (if t then Some root else None) ≡ (if t then Some (node_number files root) else None)
             choose true = refl
             choose false = refl
 
-        either : (t : Bool) → map (by_number files) (if t then s else turns at steps (length s) (s ++ start_at root p ∷ []))
-            ≡ (if t then map (by_number files) s else turns named steps (length (map (by_number files) s)) (map (by_number files) s ++ start_at (number files root) (number files p) ∷ []))
+        either : (t : Bool) → map (attached_numbers files) (if t then s else turns at steps (length s) (s ++ start_at root p ∷ []))
+            ≡ (if t then map (attached_numbers files) s else turns named steps (length (map (attached_numbers files) s)) (map (attached_numbers files) s ++ start_at (node_number files root) (node_number files p) ∷ []))
         either true = refl
         either false = turns_renamed steps (length s) (s ++ start_at root p ∷ []) (in_last (length files) s (start_at root p) h l (start_low (length files) root p r))
-            ∙ ap (λ k. turns named steps k (map (by_number files) (s ++ start_at root p ∷ []))) (sym (length-map _ _))
-            ∙ ap (turns named steps (length (map (by_number files) s))) (map-append (by_number files) s (start_at root p ∷ []) ∙ ap (λ (a : Attached). map (by_number files) s ++ a ∷ []) start)
+            ∙ ap (λ k. turns named steps k (map (attached_numbers files) (s ++ start_at root p ∷ []))) (sym (length-map _ _))
+            ∙ ap (turns named steps (length (map (attached_numbers files) s))) (map-append (attached_numbers files) s (start_at root p ∷ []) ∙ ap (λ (a : Attached). map (attached_numbers files) s ++ a ∷ []) start)
 
     pub walk_renamed : (steps root : ℕ) (s : List Attached) (ps : List ℕ) → AreIn (length files) s → root < length files → AreLow (length files) ps
-        → map (by_number files) (walk at steps root s ps) ≡ walk named steps (number files root) (map (by_number files) s) (map (number files) ps)
+        → map (attached_numbers files) (walk at steps root s ps) ≡ walk named steps (node_number files root) (map (attached_numbers files) s) (map (node_number files) ps)
     walk_renamed steps root s [] h r l = refl
     walk_renamed steps root s (p ∷ ps) h r l = walk_renamed steps root (begin at steps root s p) ps (in_begin (length files) at steps root s p low h r l.0) r l.1
-        ∙ ap (λ k. walk named steps (number files root) k (map (number files) ps)) (begin_renamed steps root s p h r l.0)
+        ∙ ap (λ k. walk named steps (node_number files root) k (map (node_number files) ps)) (begin_renamed steps root s p h r l.0)

@@ -5,30 +5,30 @@ use Rattle.std.specs.Str.{bytes_eq}
 use Rattle.xfs_dirdata.specs.declared.records.EntryRec.{EntryRec}
 use Rattle.xfs_links.specs.declared.records.NodeRec.{NodeRec}
 use Rattle.xfs_links.specs.declared.walk.Attached.{Attached}
-use Rattle.xfs_links.specs.Entries.{is_directory, is_reserved, candidates}
-use Rattle.xfs_links.specs.Walk.{walk, parent_of}
+use Rattle.xfs_links.specs.Entries.{is_directory_number, is_reserved_inode, candidate_entries}
+use Rattle.xfs_links.specs.Walk.{walk, attached_parent}
 
 -- an entry among these names the file
-abbrev pub is_named : List EntryRec → ℕ → Bool
-is_named es n = list_any (λ e. e.ino == n) es
+abbrev pub has_entry : List EntryRec → ℕ → Bool
+has_entry es n = list_any (λ e. e.ino == n) es
 
 -- the directories that the entries of directory d name, in their order
 abbrev pub named_by : List NodeRec → List EntryRec → ℕ → List ℕ
-named_by files es d = map (λ e. e.ino) (filter (λ e. e.dir == d && is_directory files e.ino) es)
+named_by files es d = map (λ e. e.ino) (filter (λ e. e.dir == d && is_directory_number files e.ino) es)
 
 -- the directories by number
-abbrev pub directories : List NodeRec → List ℕ
-directories files = map (λ f. f.ino) (filter (λ f. f.kind == 4) files)
+abbrev pub directory_numbers : List NodeRec → List ℕ
+directory_numbers files = map (λ f. f.ino) (filter (λ f. f.kind == 4) files)
 
 -- the starting points: the root, the directories that no candidate names, all other directories
 abbrev pub starts : List NodeRec → List EntryRec → ℕ → List ℕ
 starts files es root =
-    (root ∷ filter (λ n. not (n == root) && not (is_named es n)) (directories files))
-    ++ filter (λ n. not (n == root) && is_named es n) (directories files)
+    (root ∷ filter (λ n. not (n == root) && not (has_entry es n)) (directory_numbers files))
+    ++ filter (λ n. not (n == root) && has_entry es n) (directory_numbers files)
 
 -- the directories as they are attached
 abbrev pub attached : List NodeRec → List EntryRec → ℕ → List Attached
-attached files es root = walk (named_by files es) (length (directories files)) root [] (starts files es root)
+attached files es root = walk (named_by files es) (length (directory_numbers files)) root [] (starts files es root)
 
 -- whether d is the parent
 abbrev pub is_parent : ℕ → Option ℕ → Bool
@@ -38,7 +38,7 @@ is_parent d (Some p) = p == d
 -- an entry stays: one that names a directory where its own is the parent and no entry that stays before it names the directory
 abbrev pub stays : List NodeRec → List Attached → List EntryRec → EntryRec → Bool
 stays files s before e =
-    if is_directory files e.ino then (is_parent e.dir (parent_of s e.ino) && not (is_named before e.ino)) else true
+    if is_directory_number files e.ino then (is_parent e.dir (attached_parent s e.ino) && not (has_entry before e.ino)) else true
 
 -- those that stay, behind those that stay before them
 abbrev pub staying : List NodeRec → List Attached → List EntryRec → List EntryRec → List EntryRec
@@ -49,7 +49,7 @@ staying files s before (e ∷ es) =
 -- a directory without a parent, or a file that is neither a directory nor reserved and that no entry names
 abbrev pub is_orphan : List NodeRec → ℕ → List Attached → List EntryRec → ℕ → Bool
 is_orphan files root s es n =
-    if is_directory files n then not (is_some (parent_of s n)) else (not (is_reserved root n) && not (is_named es n))
+    if is_directory_number files n then not (is_some (attached_parent s n)) else (not (is_reserved_inode root n) && not (has_entry es n))
 
 abbrev pub lost_found : List ℕ
 lost_found = codes "lost+found"
@@ -59,11 +59,11 @@ names_lost_found root e = e.dir == root && bytes_eq e.name lost_found
 
 -- the entry `lost+found` of the root, where it names no directory
 abbrev pub is_in_the_way : List NodeRec → ℕ → EntryRec → Bool
-is_in_the_way files root e = names_lost_found root e && not (is_directory files e.ino)
+is_in_the_way files root e = names_lost_found root e && not (is_directory_number files e.ino)
 
 -- the entries that stay, without one that is in the way of orphans
-abbrev pub cleared : List NodeRec → ℕ → List Attached → List EntryRec → List EntryRec
-cleared files root s es =
+abbrev pub cleared_entries : List NodeRec → ℕ → List Attached → List EntryRec → List EntryRec
+cleared_entries files root s es =
     if list_any (λ f. is_orphan files root s es f.ino) files then filter (λ e. not (is_in_the_way files root e)) es else es
 
 -- the orphans by number
@@ -72,36 +72,36 @@ orphans files root s es = filter (is_orphan files root s es) (map (λ f. f.ino) 
 
 -- each directory that has a parent, with the parent
 abbrev pub parents : List NodeRec → List Attached → List (ℕ × ℕ)
-parents files s = filter_map (λ n. option_map (λ p. (n, p)) (parent_of s n)) (directories files)
+parents files s = filter_map (λ n. option_map (λ p. (n, p)) (attached_parent s n)) (directory_numbers files)
 
 -- the directory lost+found of the root
 abbrev pub lost_of : List NodeRec → ℕ → List EntryRec → Option ℕ
-lost_of files root es = option_map (λ e. e.ino) (find (λ e. names_lost_found root e && is_directory files e.ino) es)
+lost_of files root es = option_map (λ e. e.ino) (find (λ e. names_lost_found root e && is_directory_number files e.ino) es)
 
 -- the name is that of an entry of the directory
-abbrev pub is_taken : List EntryRec → Option ℕ → List ℕ → Bool
-is_taken es lost name = list_any (λ e. is_parent e.dir lost && bytes_eq e.name name) es
+abbrev pub is_taken_name : List EntryRec → Option ℕ → List ℕ → Bool
+is_taken_name es lost name = list_any (λ e. is_parent e.dir lost && bytes_eq e.name name) es
 
 -- the k-th name that an orphan may get: its number, `n.1`, `n.2` and so on
-abbrev pub name_of : ℕ → ℕ → List ℕ
-name_of n zero = decimal n
-name_of n (suc k) = decimal n ++ codes "." ++ decimal (suc k)
+abbrev pub lost_name : ℕ → ℕ → List ℕ
+lost_name n zero = decimal n
+lost_name n (suc k) = decimal n ++ codes "." ++ decimal (suc k)
 
 -- the first of the names from the k-th on that is free
 abbrev pub free_name : (List ℕ → Bool) → ℕ → ℕ → ℕ → List ℕ
-free_name taken n zero k = name_of n k
-free_name taken n (suc steps) k = if taken (name_of n k) then free_name taken n steps (k + 1) else name_of n k
+free_name taken n zero k = lost_name n k
+free_name taken n (suc steps) k = if taken (lost_name n k) then free_name taken n steps (k + 1) else lost_name n k
 
 -- the orphans with their names
 abbrev pub named_orphans : List NodeRec → ℕ → List Attached → List EntryRec → List (ℕ × List ℕ)
 named_orphans files root s es =
-    map (λ n. (n, free_name (is_taken es (lost_of files root es)) n (length es) 0)) (orphans files root s es)
+    map (λ n. (n, free_name (is_taken_name es (lost_of files root es)) n (length es) 0)) (orphans files root s es)
 
 -- the directories as they are attached, from the entries as they are listed
 abbrev pub attached_directories : List NodeRec → List EntryRec → ℕ → List Attached
-attached_directories files entries root = attached files (candidates files root entries) root
+attached_directories files entries root = attached files (candidate_entries files root entries) root
 
 -- the entries that stay in the end
 abbrev pub kept_entries : List NodeRec → List EntryRec → ℕ → List EntryRec
 kept_entries files entries root =
-    cleared files root (attached_directories files entries root) (staying files (attached_directories files entries root) [] (candidates files root entries))
+    cleared_entries files root (attached_directories files entries root) (staying files (attached_directories files entries root) [] (candidate_entries files root entries))

@@ -3,5 +3,4 @@ pub mod Walk
 pub mod Connected
 pub mod Places
 pub mod Met
-pub mod Decision
-pub mod Taken
+pub mod Private

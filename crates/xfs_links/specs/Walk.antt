@@ -43,6 +43,6 @@ walk named steps root s [] = s
 walk named steps root s (n ∷ ns) = walk named steps root (begin named steps root s n) ns
 
 -- the parent of a directory; none where it has none
-abbrev pub parent_of : List Attached → ℕ → Option ℕ
-parent_of [] n = None
-parent_of (a ∷ s) n = if a.directory == n then a.parent else parent_of s n
+abbrev pub attached_parent : List Attached → ℕ → Option ℕ
+attached_parent [] n = None
+attached_parent (a ∷ s) n = if a.directory == n then a.parent else attached_parent s n

@@ -2,11 +2,11 @@
 
 ghost use Rattle.std.specs.Prelude.{◌≡◌, ℕ, ◌<◌, ◌+◌, ◌^◌, ◌==◌, ◌||◌, true, false, map, length, IfOk, MatchOption};
 ghost use Rattle.std.specs.List.{All};
-ghost use Rattle.xfs_links.specs.Entries.{AreFiles, is_kept, passes, candidates};
-ghost use Rattle.xfs_links.specs.Places.{entry_of, IsPlaced, IsPlacedAt};
+ghost use Rattle.xfs_links.specs.Entries.{AreFiles, is_kept_node, passes, candidate_entries};
+ghost use Rattle.xfs_links.specs.Places.{candidate_entry, IsPlacedCandidate, IsPlacedAt};
 
 use crate::lookup::place_of;
-use crate::met::Met;
+use crate::met::MetNames;
 use crate::records::NodeRec;
 use std::alloc::Global;
 use xfs_dirdata::EntryRec;
@@ -32,12 +32,12 @@ pub fn find_candidates(
     root: u64,
 ) -> Result<Vec<Candidate>, NoMemory>
     requires files { AreFiles files.now }
-    requires known { All (λ e. is_kept files.now e.dir ≡ true) entries.now }
+    requires known { All (λ e. is_kept_node files.now e.dir ≡ true) entries.now }
     requires root { root < 2 ^ 32 }
-    ensures list { IfOk result (λ found. map (entry_of entries.now) found.items ≡ candidates files.now root entries.now) }
-    ensures placed { IfOk result (λ found. All (IsPlaced files.now entries.now) found.items) }
+    ensures list { IfOk result (λ found. map (candidate_entry entries.now) found.items ≡ candidate_entries files.now root entries.now) }
+    ensures placed { IfOk result (λ found. All (IsPlacedCandidate files.now entries.now) found.items) }
 {
-    let mut met = Met::new(alloc);
+    let mut met = MetNames::new(alloc);
     let mut found = Vec::new(alloc);
     for (i, entry) in entries.iter().enumerate() {
         let Some(candidate) = candidate_of(files, entry, i, root) else {
@@ -54,11 +54,11 @@ pub fn find_candidates(
 /// The entry as a candidate, where it can name its file.
 fn candidate_of(files: &[NodeRec], entry: &EntryRec, i: usize, root: u64) -> Option<Candidate>
     requires files { AreFiles files.now }
-    requires known { is_kept files.now entry.now.dir ≡ true }
+    requires known { is_kept_node files.now entry.now.dir ≡ true }
     requires root { root < 2 ^ 32 }
     ensures { MatchOption result (passes files.now root entry.now ≡ false) (λ c. (passes files.now root entry.now ≡ true) × IsPlacedAt files.now entry.now i c) }
 {
-    if !is_name(entry.name.bytes()) || is_reserved(root, entry.ino) {
+    if !is_name(entry.name.bytes()) || is_reserved_inode(root, entry.ino) {
         return None;
     }
     let target = place_of(files, entry.ino)?;
@@ -71,7 +71,7 @@ fn candidate_of(files: &[NodeRec], entry: &EntryRec, i: usize, root: u64) -> Opt
 }
 
 /// Whether the number is the root's, or that of a system inode.
-pub fn is_reserved(root: u64, ino: u64) -> bool
+pub fn is_reserved_inode(root: u64, ino: u64) -> bool
     requires { root < 2 ^ 32 }
     ensures { result ≡ (ino == root || (ino == root + 1 || ino == root + 2)) }
 {

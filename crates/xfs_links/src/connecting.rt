@@ -1,15 +1,15 @@
-//! Names, directories and orphans.
+//! DecidedNames, directories and orphans.
 
 ghost use Rattle.std.specs.Prelude.{◌≡◌, ℕ, ◌<◌, true, length, Option, option_map, IfOk, IfSome};
-ghost use Rattle.xfs_links.specs.Entries.{AreFiles, AreEntries, is_directory, number};
+ghost use Rattle.xfs_links.specs.Entries.{AreFiles, AreEntries, is_directory_number, node_number};
 ghost use Rattle.xfs_links.specs.Connected.{kept_entries, attached_directories, parents as due_parents, named_orphans as due_orphans, lost_of};
-ghost use Rattle.xfs_links.specs.Decision.{IsDecision};
+ghost use Rattle.xfs_links.specs.Private.Decision.{IsDecision};
 
 use crate::candidates::{Candidate, find_candidates};
 use crate::lookup::place_of;
 use crate::orphans::named_orphans;
-use crate::records::{Names, NodeRec};
-use crate::remaining::{cleared, copied, find_lost, listed_parents, staying};
+use crate::records::{DecidedNames, NodeRec};
+use crate::remaining::{cleared_entries, copied, find_lost, listed_parents, staying};
 use crate::walk::{attach_all, parents_of};
 use std::alloc::Global;
 use xfs_dirdata::EntryRec;
@@ -31,10 +31,10 @@ pub fn connect(
     files: &[NodeRec],
     entries: &[EntryRec],
     root: u64,
-) -> Result<Names, NoMemory>
+) -> Result<DecidedNames, NoMemory>
     requires files { AreFiles files.now }
     requires entries { AreEntries files.now entries.now }
-    requires root { is_directory files.now root ≡ true }
+    requires root { is_directory_number files.now root ≡ true }
     ensures entries { IfOk result (λ names. names.entries ≡ kept_entries files.now entries.now root) }
     ensures parents { IfOk result (λ names. names.parents ≡ due_parents files.now (attached_directories files.now entries.now root)) }
     ensures orphans { IfOk result (λ names. names.orphans ≡ due_orphans files.now root (attached_directories files.now entries.now root) (kept_entries files.now entries.now root)) }
@@ -46,7 +46,7 @@ pub fn connect(
     let entries = copied(alloc, entries, &kept)?;
     let parents = listed_parents(alloc, files, &parents)?;
     let lost = number_of(files, lost);
-    Ok(Names {
+    Ok(DecidedNames {
         entries,
         parents,
         orphans,
@@ -63,7 +63,7 @@ fn decide(
 ) -> Result<Decision, NoMemory>
     requires files { AreFiles files.now }
     requires entries { AreEntries files.now entries.now }
-    requires root { is_directory files.now root ≡ true }
+    requires root { is_directory_number files.now root ≡ true }
     ensures { IfOk result (λ d. IsDecision files.now entries.now root d.parents.items d.kept.items) }
 {
     let candidates = find_candidates(alloc, files, entries, root)?;
@@ -71,14 +71,14 @@ fn decide(
     let turn = attach_all(alloc, files, &candidates, place)?;
     let parents = parents_of(alloc, files.len(), &turn)?;
     let staying = staying(alloc, files, &parents, &candidates)?;
-    let kept = cleared(alloc, files, entries, root, &parents, staying)?;
+    let kept = cleared_entries(alloc, files, entries, root, &parents, staying)?;
     Ok(Decision { parents, kept })
 }
 
 /// The number of the file at a place.
 fn number_of(files: &[NodeRec], place: Option<u32>) -> Option<u64>
     requires { IfSome place (λ p. p < length files.now) }
-    ensures { result ≡ option_map (number files.now) place }
+    ensures { result ≡ option_map (node_number files.now) place }
 {
     match place {
         Some(place) => Some(files[place as usize].ino),

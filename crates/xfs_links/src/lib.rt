@@ -1,4 +1,4 @@
-//! Names: which entries of the directories stay, where each directory hangs, and which files have lost
+//! DecidedNames: which entries of the directories stay, where each directory hangs, and which files have lost
 //! their names.
 //!
 //! From the files that are kept and the entries that were read to names that hang together: who repairs names writes the
@@ -24,4 +24,4 @@ mod walk;
 
 pub use connecting::connect;
 pub use laws::names_hold;
-pub use records::{Names, NodeRec};
+pub use records::{DecidedNames, NodeRec};

@@ -11,16 +11,16 @@ use xfs_disk::NoMemory;
 
 /// Names of entries, each with the directory's number.
 #[derive(Drop)]
-pub struct Met<'a> {
+pub struct MetNames<'a> {
     names: BTreeSet<(u64, &'a [u8])>,
 }
 
-impl<'a> Met<'a> {
+impl<'a> MetNames<'a> {
     /// No name.
-    pub fn new(alloc: Global) -> Met<'a>
+    pub fn new(alloc: Global) -> MetNames<'a>
         ensures { (d : ℕ) (q : List ℕ) → is_met result d q ≡ false }
     {
-        Met {
+        MetNames {
             names: BTreeSet::new(alloc),
         }
     }

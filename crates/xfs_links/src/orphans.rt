@@ -2,11 +2,11 @@
 
 ghost use Rattle.std.specs.Prelude.{◌≡◌, ℕ, ◌<◌, ◌≤◌, ◌^◌, ◌&&◌, List, Bool, false, length, map, IfOk, Option, None, slice_index_or};
 ghost use Rattle.std.specs.List.{All, filter, list_any, range_with_len};
-ghost use Rattle.xfs_links.specs.Connected.{name_of as name_at, free_name as first_free, is_parent};
+ghost use Rattle.xfs_links.specs.Connected.{lost_name as name_at, free_name as first_free, is_parent};
 ghost use Rattle.xfs_links.specs.Places.{orphan_told, orphan_at, taken_at, named_orphan_at};
-ghost use Rattle.xfs_links.specs.Taken.{AreTaken};
+ghost use Rattle.xfs_links.specs.Private.Taken.{AreTaken};
 
-use crate::candidates::{Candidate, is_reserved};
+use crate::candidates::{Candidate, is_reserved_inode};
 use crate::lookup::is_directory_at;
 use crate::records::NodeRec;
 use crate::walk::named_places;
@@ -34,7 +34,7 @@ pub fn is_orphan(
     if is_directory_at(files, place) {
         parents[place as usize].is_none()
     } else {
-        !is_reserved(root, files[place as usize].ino) && !named[place as usize]
+        !is_reserved_inode(root, files[place as usize].ino) && !named[place as usize]
     }
 }
 
@@ -126,16 +126,16 @@ fn free_name(
     ensures { (f : List ℕ → Bool) → AreTaken taken.now f → IfOk result (λ name. name ≡ first_free f ino steps 0) }
 {
     for k in 0..steps as u64 {
-        let name = name_of(alloc, ino, k)?;
+        let name = lost_name(alloc, ino, k)?;
         if !taken.contains(&name) {
             return Ok(Word::from_vec(name));
         }
     }
-    Ok(Word::from_vec(name_of(alloc, ino, steps as u64)?))
+    Ok(Word::from_vec(lost_name(alloc, ino, steps as u64)?))
 }
 
 /// The `k`-th name that an orphan may get: `n`, `n.1`, `n.2` and so on.
-fn name_of(alloc: Global, ino: u64, k: u64) -> Result<Vec<u8>, NoMemory>
+fn lost_name(alloc: Global, ino: u64, k: u64) -> Result<Vec<u8>, NoMemory>
     ensures { IfOk result (λ name. name.items ≡ name_at ino k) }
 {
     let mut name = Vec::from_slice(alloc, Buffer::new().format(ino).as_bytes())?;

@@ -15,7 +15,7 @@ pub struct NodeRec {
 
 /// What is decided about the names of all files.
 #[derive(Debug, Drop)]
-pub struct Names {
+pub struct DecidedNames {
     /// The entries that stay, in the order in which they came.
     pub entries: Records<EntryRec>,
     /// Each directory that has a parent, and its parent, by the directory's number. The root is its own

@@ -2,9 +2,9 @@
 
 ghost use Rattle.std.specs.Prelude.{◌≡◌, ℕ, ◌<◌, ◌^◌, ◌&&◌, not, length, map, IfOk, Option, None, IfSome, true, false, [], if◌then◌else◌, slice_index_or};
 ghost use Rattle.std.specs.List.{All, filter, filter_map, list_any, range_with_len};
-ghost use Rattle.xfs_links.specs.Entries.{at_place};
+ghost use Rattle.xfs_links.specs.Entries.{is_directory_at_place};
 ghost use Rattle.xfs_links.specs.Connected.{names_lost_found as names_lost, is_parent};
-ghost use Rattle.xfs_links.specs.Places.{entry_of, parent_at, staying_at, cleared_at, in_the_way_at, lost_at, listed_at, pair_at};
+ghost use Rattle.xfs_links.specs.Places.{candidate_entry, parent_at, staying_at, cleared_at, in_the_way_at, lost_at, listed_at, listed_pair};
 
 use crate::candidates::Candidate;
 use crate::lookup::is_directory_at;
@@ -45,7 +45,7 @@ fn stays(files: &[NodeRec], parents: &[Option<u32>], met: &[bool], candidate: &C
     requires target { candidate.now.target < length files.now }
     requires size { length parents.now ≡ length files.now }
     requires flags { length met.now ≡ length files.now }
-    ensures { result ≡ (if at_place files.now candidate.now.target then (is_parent candidate.now.directory (parent_at parents.now candidate.now.target) && not (slice_index_or met.now candidate.now.target false)) else true) }
+    ensures { result ≡ (if is_directory_at_place files.now candidate.now.target then (is_parent candidate.now.directory (parent_at parents.now candidate.now.target) && not (slice_index_or met.now candidate.now.target false)) else true) }
 {
     if !is_directory_at(files, candidate.target) {
         return true;
@@ -57,7 +57,7 @@ fn stays(files: &[NodeRec], parents: &[Option<u32>], met: &[bool], candidate: &C
 }
 
 /// The entries that stay, without one that is in the way of orphans.
-pub fn cleared(
+pub fn cleared_entries(
     alloc: Global,
     files: &[NodeRec],
     entries: &[EntryRec],
@@ -104,7 +104,7 @@ fn without_way(
 /// Whether the entry is the root's `lost+found`.
 pub fn names_lost_found(entries: &[EntryRec], root: u64, candidate: &Candidate) -> bool
     requires { candidate.now.entry < length entries.now }
-    ensures { result ≡ names_lost root (entry_of entries.now candidate.now) }
+    ensures { result ≡ names_lost root (candidate_entry entries.now candidate.now) }
 {
     let entry = &entries[candidate.entry];
     entry.dir == root && entry.name.bytes() == b"lost+found".as_slice()
@@ -123,7 +123,7 @@ fn is_in_the_way(files: &[NodeRec], entries: &[EntryRec], root: u64, candidate: 
 fn is_lost(files: &[NodeRec], entries: &[EntryRec], root: u64, candidate: &Candidate) -> bool
     requires entry { candidate.now.entry < length entries.now }
     requires target { candidate.now.target < length files.now }
-    ensures { result ≡ (names_lost root (entry_of entries.now candidate.now) && at_place files.now candidate.now.target) }
+    ensures { result ≡ (names_lost root (candidate_entry entries.now candidate.now) && is_directory_at_place files.now candidate.now.target) }
 {
     names_lost_found(entries, root, candidate) && is_directory_at(files, candidate.target)
 }
@@ -154,7 +154,7 @@ pub fn copied(
     candidates: &[Candidate],
 ) -> Result<Records<EntryRec>, NoMemory>
     requires entries { All (λ c. c.entry < length entries.now) candidates.now }
-    ensures { IfOk result (λ copies. copies ≡ map (entry_of entries.now) candidates.now) }
+    ensures { IfOk result (λ copies. copies ≡ map (candidate_entry entries.now) candidates.now) }
 {
     let mut copies = Vec::with_capacity(alloc, candidates.len())?;
     for candidate in candidates {
@@ -178,7 +178,7 @@ pub fn listed_parents(
     requires few { length files.now < 2 ^ 32 }
     requires size { length parents.now ≡ length files.now }
     requires inside { All (λ parent. IfSome parent (λ p. p < length files.now)) parents.now }
-    ensures { IfOk result (λ listed. listed ≡ filter_map (pair_at files.now parents.now) (range_with_len 0 (length files.now))) }
+    ensures { IfOk result (λ listed. listed ≡ filter_map (listed_pair files.now parents.now) (range_with_len 0 (length files.now))) }
 {
     let mut listed = Vec::new(alloc);
     for place in 0..files.len() as u32 {

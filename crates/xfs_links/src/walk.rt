@@ -3,10 +3,10 @@
 ghost use Rattle.std.specs.Prelude.{◌≡◌, ℕ, ◌<◌, ◌≤◌, ◌^◌, ◌+◌, ◌==◌, ◌&&◌, not, true, false, List, [], ◌∷◌, ◌++◌, map, length, IfOk, OnOk, Option, None, Some, IfSome, nat_lt, if◌then◌else◌, slice_index_or, count_by};
 ghost use Rattle.std.specs.List.{All, filter, list_any, range_with_len};
 ghost use Rattle.std.specs.List.Sorted.{IsNonDecreasingBy};
-ghost use Rattle.xfs_weave.specs.Lists.{has, list_at, AreOnce};
-ghost use Rattle.xfs_links.specs.Entries.{at_place};
-ghost use Rattle.xfs_links.specs.Walk.{is_attached, see_all, turn_at, attached_at, begin as begun, walk as walked, parent_of};
-ghost use Rattle.xfs_links.specs.Places.{targets, group as group_at, named_at, is_target, starts_at, is_same, IsSteady};
+ghost use Rattle.xfs_weave.specs.Lists.{has_node, list_at, AreOnce};
+ghost use Rattle.xfs_links.specs.Entries.{is_directory_at_place};
+ghost use Rattle.xfs_links.specs.Walk.{is_attached, see_all, turn_at, attached_at, begin as begun, walk as walked, attached_parent};
+ghost use Rattle.xfs_links.specs.Places.{targets, candidates_at as group_at, named_at, is_target, starts_at, are_equal, IsSteady};
 
 use crate::candidates::Candidate;
 use crate::lookup::is_directory_at;
@@ -45,7 +45,7 @@ pub fn attach_all(
     requires targets { All (λ c. c.target < length files.now) candidates.now }
     requires sorted { IsNonDecreasingBy (λ (c : Candidate). c.directory) candidates.now }
     requires root { root < length files.now }
-    requires directory { at_place files.now root ≡ true }
+    requires directory { is_directory_at_place files.now root ≡ true }
     ensures turn { IfOk result (λ turn. turn.items ≡ walked (named_at files.now candidates.now) (count_by (λ f. f.kind == 4) files.now) root [] (starts_at files.now candidates.now root)) }
 {
     let starts = starts(alloc, files, candidates, root)?;
@@ -84,7 +84,7 @@ fn pending(alloc: Global, count: u32, starts: &[u32]) -> Result<Weave, NoMemory>
 fn is_pending(weave: &Weave, place: u32) -> bool
     requires node { place < weave.now.nodes }
     requires lists { length weave.now.lists ≡ 3 }
-    ensures { result ≡ has place (list_at weave.now 0) }
+    ensures { result ≡ has_node place (list_at weave.now 0) }
 {
     match weave.list_of(place) {
         Some(list) => list == PENDING,
@@ -108,7 +108,7 @@ fn begin(
     requires sorted { IsNonDecreasingBy (λ (c : Candidate). c.directory) candidates.now }
     requires steady { IsSteady files.now weave.old turn.old.items }
     requires inside { start < length files.now }
-    requires start { has start (list_at weave.old 0) ≡ true }
+    requires start { has_node start (list_at weave.old 0) ≡ true }
     requires steps { steps < 2 ^ 32 }
     ensures turn { OnOk result (turn.new.items ≡ begun (named_at files.now candidates.now) steps root turn.old.items start) }
     ensures steady { OnOk result (IsSteady files.now weave.new turn.new.items) }
@@ -174,7 +174,7 @@ fn attach(
 ) -> Result<(), NoMemory>
     requires steady { IsSteady files.now weave.old turn.old.items }
     requires inside { directory < length files.now }
-    requires pending { has directory (list_at weave.old 0) ≡ true }
+    requires pending { has_node directory (list_at weave.old 0) ≡ true }
     requires list { (1 ≤ list) × (list < 3) }
     ensures turn { OnOk result (turn.new.items ≡ turn.old.items ++ attached_at directory parent ∷ []) }
     ensures steady { OnOk result (IsSteady files.now weave.new turn.new.items) }
@@ -249,7 +249,7 @@ fn push_starts(
 ) -> Result<(), NoMemory>
     requires few { length files.now < 2 ^ 32 }
     requires size { length named.now ≡ length files.now }
-    ensures starts { OnOk result (starts.new.items ≡ starts.old.items ++ filter (λ p. at_place files.now p && (not (p == root) && is_same is_named (slice_index_or named.now p false))) (range_with_len 0 (length files.now))) }
+    ensures starts { OnOk result (starts.new.items ≡ starts.old.items ++ filter (λ p. is_directory_at_place files.now p && (not (p == root) && are_equal is_named (slice_index_or named.now p false))) (range_with_len 0 (length files.now))) }
 {
     for place in 0..files.len() as u32 {
         if !is_start(files, named, root, is_named, place) {
@@ -264,7 +264,7 @@ fn push_starts(
 fn is_start(files: &[NodeRec], named: &[bool], root: u32, is_named: bool, place: u32) -> bool
     requires size { length named.now ≡ length files.now }
     requires inside { place < length files.now }
-    ensures { result ≡ (at_place files.now place && (not (place == root) && is_same is_named (slice_index_or named.now place false))) }
+    ensures { result ≡ (is_directory_at_place files.now place && (not (place == root) && are_equal is_named (slice_index_or named.now place false))) }
 {
     is_directory_at(files, place) && place != root && named[place as usize] == is_named
 }
@@ -294,7 +294,7 @@ pub fn parents_of(
 ) -> Result<Vec<Option<u32>>, NoMemory>
     requires inside { All (λ a. a.directory < count) turn.now }
     ensures size { IfOk result (λ parents. length parents.items ≡ count) }
-    ensures parents { IfOk result (λ parents. (p : ℕ) → p < count → slice_index_or parents.items p None ≡ parent_of turn.now p) }
+    ensures parents { IfOk result (λ parents. (p : ℕ) → p < count → slice_index_or parents.items p None ≡ attached_parent turn.now p) }
 {
     let mut parents = vec![in alloc; None; count]?;
     let mut left = turn.len();

@@ -11,8 +11,8 @@ use Rattle.xfs_kinds.specs.InodeTrees.{ino_shape}
 use Rattle.xfs_volume.specs.declared.groups.GroupRec.{GroupRec}
 use Rattle.xfs_image.specs.Clusters.{chunk_clusters, clusters_in}
 use Rattle.xfs_image.specs.Files.{clusters_from, clusters_of, inodes_of}
-use Rattle.xfs_image.specs.Slots.{cluster_inodes, inodes_in}
-use Rattle.xfs_place.specs.Wanted.{inodes_of as records_of}
+use Rattle.xfs_image.specs.Slots.{cluster_inodes, inodes_of_block}
+use Rattle.xfs_place.specs.Wanted.{inodes_in_group as records_of}
 use Rattle.xfs_place.specs.declared.placed.GroupPlaced.{GroupPlaced}
 use Rattle.xfs_place.specs.declared.wanted.GroupInodes.{GroupInodes}
 use Rattle.xfs_due.specs.Groups.{due_group_at, due_groups}
@@ -37,13 +37,13 @@ some_inodes v block k (suc n) a short enough at =
 
 -- those of some blocks in a row
 blocks_inodes : (v : Volume) (block n a : ℕ) → block + n ≤ v.agblocks → v.agblocks ≤ 2 ^ v.agblklog → a ≡ 8 * block
-    → flat_map (inodes_in v) (range_with_len block n) ≡ range_with_len a (8 * n)
+    → flat_map (inodes_of_block v) (range_with_len block n) ≡ range_with_len a (8 * n)
 blocks_inodes v block zero a short enough at = refl
 blocks_inodes v block (suc n) a short enough at =
-    let first : inodes_in v block ≡ range_with_len a 8 = some_inodes v block 0 8 a (omega (arith, short)) enough (omega (arith, at)) in
-    let behind : flat_map (inodes_in v) (range_with_len (block + 1) n) ≡ range_with_len (a + 8) (8 * n) =
+    let first : inodes_of_block v block ≡ range_with_len a 8 = some_inodes v block 0 8 a (omega (arith, short)) enough (omega (arith, at)) in
+    let behind : flat_map (inodes_of_block v) (range_with_len (block + 1) n) ≡ range_with_len (a + 8) (8 * n) =
     blocks_inodes v (block + 1) n (a + 8) (omega (arith, short)) enough (omega (arith, at)) in
-    ap (λ (xs : List ℕ). xs ++ flat_map (inodes_in v) (range_with_len (block + 1) n)) first
+    ap (λ (xs : List ℕ). xs ++ flat_map (inodes_of_block v) (range_with_len (block + 1) n)) first
     ∙ (ap (λ (xs : List ℕ). range_with_len a 8 ++ xs) behind ∙ range_on a 8 (a + 8) (8 * n) (8 * suc n) refl (omega arith))
 
 cluster_inodes_are : (v : Volume) (cluster a : ℕ) → cluster + 4 ≤ v.agblocks → v.agblocks ≤ 2 ^ v.agblklog → a ≡ 8 * cluster

@@ -1,19 +1,20 @@
 -- The first chunk says which of its inodes are in use, and its two clusters are what is kept.
 use Rattle.std.proofs.Common.{◌≡◌, ℕ, ◌+◌, ◌*◌, ◌≤◌, ◌<◌, Bool, true, false, not, ◌&&◌, ◌||◌, cond, List, [], ◌∷◌, ◌++◌, map, Option, Some, None, refl, sym, ap, ◌∙◌, subst, arith}
 use Rattle.std.proofs.lemmas.Bool.Decides.{nat_tests}
+use Rattle.xfs_kinds.specs.Owners.{clusters_owner}
+use Rattle.xfs_geom.specs.Runs.{runs_on}
+use Rattle.xfs_disk.specs.Lists.{is_in_range}
 use Rattle.xfs_disk.specs.declared.stamp.Stamp.{Stamp}
 use Rattle.xfs_geom.specs.Volumes.{Volume, volume_of}
 use Rattle.xfs_geom.specs.declared.geometry.Geometry.{Geometry}
 use Rattle.xfs_geom.specs.declared.records.InoRec.{InoRec}
 use Rattle.xfs_geom.specs.declared.records.Run.{Run}
-use Rattle.xfs_kinds.specs.FreeRuns.{is_block}
 use Rattle.xfs_kinds.specs.InodeTrees.{four_each, ino_shape, is_missing}
 use Rattle.xfs_kinds.specs.MergedRuns.{held_at}
 use Rattle.xfs_volume.specs.declared.files.FileRec.{FileRec}
 use Rattle.xfs_laws.specs.Counting.{bits_below, chunk_number, count_below, due_chunk, inode_number, is_unused, is_used}
-use Rattle.xfs_space.specs.Owners.{cluster_run, cluster_runs, clusters_owner, run}
-use Rattle.xfs_space.specs.SpaceLaws.{runs_on}
-use Rattle.xfs_place.specs.Wanted.{inodes_of}
+use Rattle.xfs_space.specs.Owners.{cluster_run, cluster_runs, run}
+use Rattle.xfs_place.specs.Wanted.{inodes_in_group}
 use Rattle.xfs_due.specs.Keeping.{KeepsJust, all_clusters, all_used}
 use Rattle.xfs_empty.specs.Placing.{all_inodes, chunk_run, chunks_of, first_chunk}
 use Rattle.xfs_made.specs.Files.{first_files}
@@ -47,7 +48,7 @@ abbrev two_runs : List Run
 two_runs = run 16 4 clusters_owner 0 ∷ run 20 4 clusters_owner 0 ∷ []
 
 group_runs : (g : Geometry) (ag : ℕ) (chunks : List InoRec) → ag < g.agcount → chunks_of ag ≡ chunks
-    → cluster_runs (ag * g.agblocks) (map (ino_shape ag).settled (inodes_of (all_inodes g.agcount) ag))
+    → cluster_runs (ag * g.agblocks) (map (ino_shape ag).settled (inodes_in_group (all_inodes g.agcount) ag))
     ≡ cluster_runs (ag * g.agblocks) (map (ino_shape ag).settled chunks)
 group_runs g ag chunks low are =
     ap (λ (rs : List InoRec). cluster_runs (ag * g.agblocks) (map (ino_shape ag).settled rs)) (records_are g.agcount ag low ∙ are)
@@ -59,7 +60,7 @@ first_runs w =
 
 clusters_are : (g : Geometry) → all_clusters (volume_of g) (all_inodes g.agcount) ≡ two_runs
 clusters_are g =
-    flat_first (λ ag. cluster_runs (ag * g.agblocks) (map (ino_shape ag).settled (inodes_of (all_inodes g.agcount) ag)))
+    flat_first (λ ag. cluster_runs (ag * g.agblocks) (map (ino_shape ag).settled (inodes_in_group (all_inodes g.agcount) ag)))
     g.agcount two_runs (omega (arith, g.shape.groups.two))
     (group_runs g 0 (first_chunk ∷ []) (omega (arith, g.shape.groups.two)) refl ∙ first_runs g.agblocks)
     (λ ag other low. group_runs g ag [] low (no_chunks ag other))
@@ -80,13 +81,13 @@ either_of_two false b held = refl
 
 runs_once : (block : ℕ) → runs_on two_runs block ≤ 1
 runs_once block =
-    let apart : (is_block 16 4 block && is_block 20 4 block) ≡ false = grind (arith, nat_tests) in
-    one_of_two (is_block 16 4 block) (is_block 20 4 block) apart
+    let apart : (is_in_range 16 4 block && is_in_range 20 4 block) ≡ false = grind (arith, nat_tests) in
+    one_of_two (is_in_range 16 4 block) (is_in_range 20 4 block) apart
 
 runs_held : (block : ℕ) → held_at two_runs block ≡ held_at (chunk_run ∷ []) block
 runs_held block =
-    let all : (is_block 16 4 block || is_block 20 4 block) ≡ is_block 16 8 block = grind (arith, nat_tests) in
-    either_of_two (is_block 16 4 block) (is_block 20 4 block) (Some (clusters_owner, 0))
+    let all : (is_in_range 16 4 block || is_in_range 20 4 block) ≡ is_in_range 16 8 block = grind (arith, nat_tests) in
+    either_of_two (is_in_range 16 4 block) (is_in_range 20 4 block) (Some (clusters_owner, 0))
     ∙ ap (λ (b : Bool). cond b (Some (clusters_owner, 0)) None) all
 
 pub clusters_kept : (g : Geometry) (s : Stamp) (crc : ℕ → ℕ)

@@ -12,7 +12,7 @@ use Rattle.xfs_geom.specs.Volumes.{Volume, volume_of}
 use Rattle.xfs_geom.specs.declared.geometry.Geometry.{Geometry}
 use Rattle.xfs_inode.specs.Cores.{stated_core}
 use Rattle.xfs_tree.specs.Blocks.{each_of}
-use Rattle.xfs_tree.specs.Reading.{bytes_at}
+use Rattle.xfs_tree.specs.Reading.{bytes_of_block}
 use Rattle.xfs_volume.specs.declared.cores.Core.{Core}
 use Rattle.xfs_image.specs.Files.{clusters_of}
 use Rattle.xfs_image.specs.Lsns.{LsnPlace, cluster_places, file_places, lsn_at, slot_place}
@@ -55,10 +55,10 @@ module _ (v : Volume) (s : Stamp) (image : Image) (slots : HasFirstSlots v s ima
   place_lsn : HasGroups v.dblocks v.agblocks v.agcount → HasAddresses v.agblocks v.agblklog → (block k : ℕ) → 16 ≤ block → block < 24 → k < 8
       → (lsn_at image (slot_place block k)).lsn ≡ 0
   place_lsn groups addresses block k low high inside =
-      let bytes : slot_bytes v image (8 * block + k) ≡ part_of (bytes_at image block) (512 * k) 512 =
+      let bytes : slot_bytes v image (8 * block + k) ≡ part_of (bytes_of_block image block) (512 * k) 512 =
       ap (bytes_in image) (slot_is v block k (8 * block + k) groups addresses (omega (arith, high)) inside refl) in
       let stated : field_of (slot_bytes v image (8 * block + k)) 112 8 ≡ 0 = slot_lsn (8 * block + k) (omega (arith, low)) (omega (arith, high, inside)) in
-      sym (number_in_part (bytes_at image block) (512 * k) 512 112 8 (omega arith))
+      sym (number_in_part (bytes_of_block image block) (512 * k) 512 112 8 (omega arith))
       ∙ (ap (λ (slot : List ℕ). field_of slot 112 8) (sym bytes) ∙ stated)
 
 abbrev IsZeroAt : Image → LsnPlace → Type 0

@@ -6,7 +6,7 @@ use Rattle.xfs_disk.specs.declared.stamp.Stamp.{Stamp}
 use Rattle.xfs_word.specs.Field.{part_of}
 use Rattle.xfs_dirdata.specs.Short.{ShortForm, short_of}
 use Rattle.xfs_geom.specs.Volumes.{Volume}
-use Rattle.xfs_inode.specs.Files.{are_apart, by_slot, file_read}
+use Rattle.xfs_inode.specs.Files.{ranges_apart, by_slot, file_read}
 use Rattle.xfs_inode.specs.Slots.{slot_read}
 use Rattle.xfs_inode.specs.declared.files.FileRead.TheVariants as Reads
 use Rattle.xfs_inode.specs.declared.reading.SlotRead.{SlotRead}
@@ -24,22 +24,22 @@ use Rattle.xfs_made.specs.Files.{HasFirstSlots, first_dirs, first_files, plain_f
 use Rattle.xfs_made.proofs.FirstSlots.{empty_form, free_slot_is, root_slot_is, slot_of, system_slot_is}
 
 -- what a slot reads as by itself decides what it reads as with the blocks that it names
-free_reads : (v : Volume) (ino : ℕ) (slot : List ℕ) (tree : Option (Contents Extent)) (attr link : Option (List ℕ)) → slot_read v ino slot ≡ Read.Free
-    → file_read v ino slot tree attr link ≡ Reads.Free
+free_reads : (v : Volume) (ino : ℕ) (slot : List ℕ) (tree : Option (Contents Extent)) (attr_leaf link : Option (List ℕ)) → slot_read v ino slot ≡ Read.Free
+    → file_read v ino slot tree attr_leaf link ≡ Reads.Free
 unfolding file_read
-free_reads v ino slot tree attr link free = ap (λ (r : SlotRead). by_slot v ino r slot tree attr link) free
+free_reads v ino slot tree attr_leaf link free = ap (λ (r : SlotRead). by_slot v ino r slot tree attr_leaf link) free
 
-system_reads : (v : Volume) (s : Stamp) (ino crc : ℕ) (slot : List ℕ) (tree : Option (Contents Extent)) (attr link : Option (List ℕ))
+system_reads : (v : Volume) (s : Stamp) (ino crc : ℕ) (slot : List ℕ) (tree : Option (Contents Extent)) (attr_leaf link : Option (List ℕ))
     → slot_read v ino slot ≡ Read.InUse (record (system_core v s ino) { crc = crc })
-    → file_read v ino slot tree attr link ≡ Reads.File (plain_file (system_core v s ino) crc)
-unfolding file_read are_apart
-system_reads v s ino crc slot tree attr link used = ap (λ (r : SlotRead). by_slot v ino r slot tree attr link) used
+    → file_read v ino slot tree attr_leaf link ≡ Reads.File (plain_file (system_core v s ino) crc)
+unfolding file_read ranges_apart
+system_reads v s ino crc slot tree attr_leaf link used = ap (λ (r : SlotRead). by_slot v ino r slot tree attr_leaf link) used
 
-root_reads : (v : Volume) (s : Stamp) (crc : ℕ) (slot : List ℕ) (tree : Option (Contents Extent)) (attr link : Option (List ℕ))
+root_reads : (v : Volume) (s : Stamp) (crc : ℕ) (slot : List ℕ) (tree : Option (Contents Extent)) (attr_leaf link : Option (List ℕ))
     → slot_read v 128 slot ≡ Read.InUse (record (root_core v s) { crc = crc })
-    → file_read v 128 slot tree attr link ≡ Reads.File (plain_file (root_core v s) crc)
-unfolding file_read are_apart
-root_reads v s crc slot tree attr link used = ap (λ (r : SlotRead). by_slot v 128 r slot tree attr link) used
+    → file_read v 128 slot tree attr_leaf link ≡ Reads.File (plain_file (root_core v s) crc)
+unfolding file_read ranges_apart
+root_reads v s crc slot tree attr_leaf link used = ap (λ (r : SlotRead). by_slot v 128 r slot tree attr_leaf link) used
 
 module _ (v : Volume) (s : Stamp) (image : Image) (slots : HasFirstSlots v s image) where
   free_at : (ino : ℕ) → 131 ≤ ino → ino < 192 → reads_as v image ino ≡ Reads.Free

@@ -17,7 +17,7 @@ use Rattle.xfs_inode.specs.declared.forks.ForkWanted.{ForkWanted}
 use Rattle.xfs_inode.specs.declared.reading.SlotRead.TheVariants as Read
 use Rattle.xfs_volume.specs.declared.cores.Core.{Core}
 use Rattle.xfs_image.specs.Slots.{slot_bytes}
-use Rattle.xfs_render.specs.Slots.{IsFreeSlot, IsFreshSlot, IsMade, SetsFork}
+use Rattle.xfs_render.specs.Slots.{IsFreeSlot, IsFreshSlot, IsMadeSlot, SetsFork}
 use Rattle.xfs_render.specs.declared.wanted_slots.SlotBase.TheVariants as Base
 use Rattle.xfs_render.specs.declared.wanted_slots.SlotWanted.{SlotWanted}
 use Rattle.xfs_empty.specs.Inodes.{IsRootFork, IsRootSlot, free_slot, root_core, system_core, system_slot}
@@ -45,13 +45,13 @@ slot_is v block k ino groups addresses few inside at =
     (omega arith))
 
 -- a free slot
-made_free : (v : Volume) (generation ino : ℕ) (old new : List ℕ) → IsMade v generation (free_slot ino) old new → IsFreeSlot v ino generation new
+made_free : (v : Volume) (generation ino : ℕ) (old new : List ℕ) → IsMadeSlot v generation (free_slot ino) old new → IsFreeSlot v ino generation new
 made_free v generation ino old new made =
     let same : new ≡ made.based = made.links ∙ (made.fork ∙ made.attrs) in
     subst (λ (slot : List ℕ). IsFreeSlot v ino generation slot) (sym same) made.base
 
 -- the slot of a system inode
-made_system : (v : Volume) (s : Stamp) (generation ino : ℕ) (old new : List ℕ) → IsMade v generation (system_slot v s ino) old new
+made_system : (v : Volume) (s : Stamp) (generation ino : ℕ) (old new : List ℕ) → IsMadeSlot v generation (system_slot v s ino) old new
     → IsFreshSlot v (system_core v s ino) new
 made_system v s generation ino old new made =
     let same : new ≡ made.based = made.links ∙ (made.fork ∙ made.attrs) in
@@ -103,11 +103,11 @@ root_set v s fork old new root fresh sets =
       form = root_form v fork old new root sets;
     }
 
-made_root : (v : Volume) (s : Stamp) (generation : ℕ) (w : SlotWanted) (old new : List ℕ) → IsRootSlot v s w → IsMade v generation w old new
+made_root : (v : Volume) (s : Stamp) (generation : ℕ) (w : SlotWanted) (old new : List ℕ) → IsRootSlot v s w → IsMadeSlot v generation w old new
     → IsRootMade v s new
-made_root v s generation w old new root made = with_parts (subst (λ (x : SlotWanted). IsMade v generation x old new) root.is made)
+made_root v s generation w old new root made = with_parts (subst (λ (x : SlotWanted). IsMadeSlot v generation x old new) root.is made)
   where
-    with_parts : IsMade v generation (record { ino = 128; base = Base.Fresh (root_core v s); drop_attrs = None; fork = Some root.fork; nlink = None }) old new
+    with_parts : IsMadeSlot v generation (record { ino = 128; base = Base.Fresh (root_core v s); drop_attrs = None; fork = Some root.fork; nlink = None }) old new
         → IsRootMade v s new
     with_parts parts =
         let fresh : IsFreshSlot v (root_core v s) parts.bare =
@@ -121,13 +121,13 @@ pub free_slot_is : (v : Volume) (s : Stamp) (image : Image) (ino : ℕ) → 131 
     → IsFreeSlot v ino s.generation (slot_bytes v image ino)
 free_slot_is v s image ino free slot =
     made_free v s.generation ino slot.old (slot_bytes v image ino)
-    (subst (λ (w : SlotWanted). IsMade v s.generation w slot.old (slot_bytes v image ino)) (slot.first.free free) slot.made)
+    (subst (λ (w : SlotWanted). IsMadeSlot v s.generation w slot.old (slot_bytes v image ino)) (slot.first.free free) slot.made)
 
 pub system_slot_is : (v : Volume) (s : Stamp) (image : Image) (ino : ℕ) → 129 ≤ ino → ino < 131 → HasFirstSlot v s image ino
     → IsFreshSlot v (system_core v s ino) (slot_bytes v image ino)
 system_slot_is v s image ino low high slot =
     made_system v s s.generation ino slot.old (slot_bytes v image ino)
-    (subst (λ (w : SlotWanted). IsMade v s.generation w slot.old (slot_bytes v image ino)) (slot.first.system low high) slot.made)
+    (subst (λ (w : SlotWanted). IsMadeSlot v s.generation w slot.old (slot_bytes v image ino)) (slot.first.system low high) slot.made)
 
 pub root_slot_is : (v : Volume) (s : Stamp) (image : Image) (ino : ℕ) → ino ≡ 128 → HasFirstSlot v s image ino
     → IsRootMade v s (slot_bytes v image ino)

@@ -2,6 +2,7 @@
 use Rattle.std.proofs.Common.{◌≡◌, ℕ, ◌+◌, ◌≤◌, Bool, true, false, cond, nat_lt, if◌then◌else◌, List, [], ◌∷◌, ◌++◌, map, None, refl, ap, arith}
 use Rattle.std.specs.List.{range_with_len}
 use Rattle.std.proofs.lemmas.Bool.{eq-eqb, le-leb, ltb-true}
+use Rattle.xfs_geom.specs.Runs.{runs_on}
 use Rattle.xfs_geom.specs.Volumes.{Volume}
 use Rattle.xfs_geom.specs.declared.records.Run.{Run}
 use Rattle.xfs_heads.specs.declared.log.state.LogState.TheVariants.{Clean}
@@ -10,8 +11,8 @@ use Rattle.xfs_volume.specs.declared.files.FileRec.{FileRec}
 use Rattle.xfs_volume.specs.declared.findings.Law.{Law}
 use Rattle.xfs_volume.specs.declared.groups.GroupRec.{GroupRec}
 use Rattle.xfs_space.specs.Owners.{owned_runs}
-use Rattle.xfs_space.specs.SpaceLaws.{AllAreFree, IsSpaceLawful, by_length, free_laws, free_spans, owner_at, owner_laws, owner_number, recorded_runs, runs_on, sharing_at, sharing_laws, space_laws, span_number}
-use Rattle.xfs_laws.specs.Counting.{by_group, group_chains, is_behind, log_laws, lsn_at}
+use Rattle.xfs_space.specs.SpaceLaws.{AllAreFree, IsSpaceLawful, by_length, free_laws, free_spans, owner_at, owner_laws, owner_number, recorded_runs, sharing_at, sharing_laws, space_laws, span_number}
+use Rattle.xfs_laws.specs.Counting.{by_group, group_chains, is_behind, log_laws, lsn_law}
 use Rattle.xfs_image.specs.Lsns.{LsnPlace}
 use Rattle.xfs_due.proofs.KeptLaws.{both_kept, no_difference}
 use Rattle.xfs_made.specs.Volumes.{no_lsn}
@@ -61,11 +62,11 @@ behind : (test : Bool) (head : ℕ) → test ≡ true → 0 ≡ (if test then 0 
 behind true head is = refl
 behind false head is = cc
 
-no_lsns_kept : (head : ℕ) (places : List LsnPlace) → AreKept (map (lsn_at head) (map no_lsn places))
+no_lsns_kept : (head : ℕ) (places : List LsnPlace) → AreKept (map (lsn_law head) (map no_lsn places))
 no_lsns_kept head [] = tt
 no_lsns_kept head (p ∷ ps) = (behind (is_behind head 0) head (le-leb 0 head (omega arith)), no_lsns_kept head ps)
 
 -- the laws of the log, where it is clean and no log sequence number stands anywhere
 pub log_kept : (groups : List GroupRec) (head : ℕ) (places : List LsnPlace) → AreKept (by_group group_chains 0 groups)
     → AreKept (log_laws groups (Clean head) (map no_lsn places))
-log_kept groups head places chains = (refl, both_kept (by_group group_chains 0 groups) (map (lsn_at head) (map no_lsn places)) chains (no_lsns_kept head places))
+log_kept groups head places chains = (refl, both_kept (by_group group_chains 0 groups) (map (lsn_law head) (map no_lsn places)) chains (no_lsns_kept head places))

@@ -21,10 +21,10 @@ use Rattle.xfs_space.specs.SpaceLaws.{space_laws}
 use Rattle.xfs_image.proofs.Places.{all_moved}
 use Rattle.xfs_image.specs.Consistent.{IsConsistent}
 use Rattle.xfs_image.specs.Files.{clusters_of}
-use Rattle.xfs_image.specs.Lsns.{LsnPlace, at, cluster_places, file_places, groups_places, in_order, lsn_at, lsn_places, lsns_read}
+use Rattle.xfs_image.specs.Lsns.{LsnPlace, at, cluster_places, file_places, groups_places, lsn_places_in_order, lsn_at, lsn_places, lsns_read}
 use Rattle.xfs_image.specs.View.{view}
 use Rattle.xfs_place.specs.Standing.{AreOfPool}
-use Rattle.xfs_place.specs.Wanted.{AreKept as AreKeptRuns, ArePlaced, inodes_of, kept_of}
+use Rattle.xfs_place.specs.Wanted.{CanBeKept as AreKeptRuns, ArePlaced, inodes_in_group, kept_runs}
 use Rattle.xfs_place.specs.declared.placed.Placed.{Placed}
 use Rattle.xfs_render.specs.Plans.{HoldsPlan}
 use Rattle.xfs_render.specs.declared.plan.Plan.{Plan}
@@ -65,9 +65,9 @@ group_due v s crc (suc n) =
     (All-nil (IsChunkDue v (first_files v s crc) (suc n)))
 
 chunks_due : (g : Geometry) (s : Stamp) (crc : ℕ → ℕ) (ag : ℕ) → ag < g.agcount
-    → All (IsChunkDue (volume_of g) (first_files (volume_of g) s crc) ag) (inodes_of (all_inodes g.agcount) ag)
+    → All (IsChunkDue (volume_of g) (first_files (volume_of g) s crc) ag) (inodes_in_group (all_inodes g.agcount) ag)
 chunks_due g s crc ag low =
-    All-same (IsChunkDue (volume_of g) (first_files (volume_of g) s crc) ag) (inodes_of (all_inodes g.agcount) ag) (chunks_of ag)
+    All-same (IsChunkDue (volume_of g) (first_files (volume_of g) s crc) ag) (inodes_in_group (all_inodes g.agcount) ag) (chunks_of ag)
     (records_are g.agcount ag low) (group_due (volume_of g) s crc ag)
 
 abbrev IsZeroAt : Image → LsnPlace → Type 0
@@ -111,15 +111,15 @@ module _ (g : Geometry) (sector : List ℕ) (s : Stamp) (plan : Plan) (blocks : 
       (All-append (IsZeroAt image) trees clusters (All-tail (IsZeroAt image) (at 240 0) trees heads) (lsns_zero g s image p.groups crcs.agf crcs.agi slots))
       (All-same (IsZeroAt image) own [] (no_file_places v s crcs.slot) (All-nil (IsZeroAt image))))
 
-  lsns_are : lsns_read v image groups files ≡ map no_lsn (in_order (lsn_places v groups files))
+  lsns_are : lsns_read v image groups files ≡ map no_lsn (lsn_places_in_order (lsn_places v groups files))
   unfolding lsns_read
   lsns_are =
-      no_lsns image (in_order (lsn_places v groups files))
-      (All-permutation (IsZeroAt image) (lsn_places v groups files) (in_order (lsn_places v groups files)) (all_moved (lsn_places v groups files)) places_zero)
+      no_lsns image (lsn_places_in_order (lsn_places v groups files))
+      (All-permutation (IsZeroAt image) (lsn_places v groups files) (lsn_places_in_order (lsn_places v groups files)) (all_moved (lsn_places v groups files)) places_zero)
 
   says : view g image ≡ Ok (made_catalog g s p crcs)
   says =
-      reads_as g image groups files [] first_dirs p.counts (Clean (2 ^ 32 + 2)) (map no_lsn (in_order (lsn_places v groups files)))
+      reads_as g image groups files [] first_dirs p.counts (Clean (2 ^ 32 + 2)) (map no_lsn (lsn_places_in_order (lsn_places v groups files)))
       (groups_stand (empty_wanted g) p is.bytes super image stands)
       (files_are v s image groups slots (inodes_are_first g p.groups crcs.agf crcs.agi))
       (no_entries v s image crcs.slot slots) (root_whole v s image crcs.slot slots)
@@ -129,7 +129,7 @@ module _ (g : Geometry) (sector : List ℕ) (s : Stamp) (plan : Plan) (blocks : 
   placed : StandsFor (empty_wanted g) p
   placed = is.is.stands
 
-  only_chunk : kept_of (empty_wanted g) ++ p.runs ≡ chunk_run ∷ []
+  only_chunk : kept_runs (empty_wanted g) ++ p.runs ≡ chunk_run ∷ []
   only_chunk = ap (λ (rs : List Run). chunk_run ∷ rs) (none_placed g p.runs placed.runs')
 
   apart : AreKeptRuns v (chunk_run ∷ [])
@@ -158,14 +158,14 @@ module _ (g : Geometry) (sector : List ℕ) (s : Stamp) (plan : Plan) (blocks : 
   naming : AreKept (naming_laws v.rootino files [] first_dirs)
   naming = subst (λ (root : ℕ). AreKept (naming_laws root files [] first_dirs)) (sym first.root) (names_kept v s crcs.slot)
 
-  log : AreKept (log_laws groups (Clean (2 ^ 32 + 2)) (map no_lsn (in_order (lsn_places v groups files))))
-  log = log_kept groups (2 ^ 32 + 2) (in_order (lsn_places v groups files)) (chains_kept v (all_inodes g.agcount) p.groups crcs.agf crcs.agi)
+  log : AreKept (log_laws groups (Clean (2 ^ 32 + 2)) (map no_lsn (lsn_places_in_order (lsn_places v groups files))))
+  log = log_kept groups (2 ^ 32 + 2) (lsn_places_in_order (lsn_places v groups files)) (chains_kept v (all_inodes g.agcount) p.groups crcs.agf crcs.agi)
 
   lawful : broken_law (made_catalog g s p crcs) ≡ None
   unfolding broken_law
   lawful =
       let names = naming_laws v.rootino files [] first_dirs in
-      let logs = log_laws groups (Clean (2 ^ 32 + 2)) (map no_lsn (in_order (lsn_places v groups files))) in
+      let logs = log_laws groups (Clean (2 ^ 32 + 2)) (map no_lsn (lsn_places_in_order (lsn_places v groups files))) in
       let counts = counting_laws (made_catalog g s p crcs) in
       none_broken (laws_of (made_catalog g s p crcs))
       (both_kept (space_laws v groups files) (counts ++ (names ++ logs)) space

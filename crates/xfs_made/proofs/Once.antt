@@ -14,14 +14,14 @@ use Rattle.xfs_geom.specs.declared.geometry.Geometry.{Geometry}
 use Rattle.xfs_geom.specs.declared.records.Run.{Run}
 use Rattle.xfs_place.specs.Pool.{is_taken}
 use Rattle.xfs_place.specs.Standing.{AreOfPool}
-use Rattle.xfs_place.specs.Wanted.{ArePlaced, kept_of}
+use Rattle.xfs_place.specs.Wanted.{ArePlaced, kept_runs}
 use Rattle.xfs_place.specs.declared.placed.Placed.{Placed}
 use Rattle.xfs_render.specs.Plans.{IsOnce, planned}
-use Rattle.xfs_render.specs.Rendering.{log_blocks, tree_blocks}
+use Rattle.xfs_render.specs.Rendering.{log_places, tree_blocks}
 use Rattle.xfs_render.specs.declared.bytes.Bytes.{Bytes}
 use Rattle.xfs_render.specs.declared.plan.Plan.{Plan}
 use Rattle.xfs_empty.proofs.Kept.{none_placed}
-use Rattle.xfs_empty.specs.Bytes.{empty_places, head_places}
+use Rattle.xfs_empty.specs.Bytes.{empty_places, header_places}
 use Rattle.xfs_empty.specs.Geometry.{HasFirstChunk}
 use Rattle.xfs_empty.specs.Placing.{all_inodes, chunk_run, empty_wanted}
 use Rattle.xfs_empty.specs.Planning.{IsEmptyPlan, StandsFor}
@@ -78,7 +78,7 @@ module _ (g : Geometry) (first : HasFirstChunk (volume_of g)) where
   IsOfLog block = (g.log ≤ block) × (block < g.log + g.logblocks)
 
   abbrev heads : List ℕ
-  heads = head_places g.agblocks g.agcount
+  heads = header_places g.agblocks g.agcount
 
   all_heads : (P : ℕ → Type 0) → ((ag : ℕ) → P (ag * g.agblocks)) → All P heads
   all_heads P each = all_items P (λ ag. ag * g.agblocks) 0 g.agcount (λ k low high. each k)
@@ -135,7 +135,7 @@ module _ (g : Geometry) (first : HasFirstChunk (volume_of g)) where
 
 pub planned_once : (g : Geometry) (sector : List ℕ) (s : Stamp) (plan : Plan) → IsEmptyPlan g sector s plan → HasFirstChunk (volume_of g) → IsOnce (planned plan)
 planned_once g sector s plan is first =
-    is.is.rendered.apart (in_parts (is_taken (chunk_run ∷ [])) (tree_blocks p) b.places (log_blocks (empty_wanted g) b.cycle) here)
+    is.is.rendered.apart (in_parts (is_taken (chunk_run ∷ [])) (tree_blocks p) b.places (log_places (empty_wanted g) b.cycle) here)
   where
     v : Volume
     v = volume_of g
@@ -149,7 +149,7 @@ planned_once g sector s plan is first =
     placed : StandsFor (empty_wanted g) p
     placed = is.is.stands
 
-    only_chunk : kept_of (empty_wanted g) ++ p.runs ≡ chunk_run ∷ []
+    only_chunk : kept_runs (empty_wanted g) ++ p.runs ≡ chunk_run ∷ []
     only_chunk = ap (λ (rs : List Run). chunk_run ∷ rs) (none_placed g p.runs placed.runs')
 
     trees : AreBehind v (0 * v.agblocks) (tree_blocks p)
@@ -161,7 +161,7 @@ planned_once g sector s plan is first =
     whole : IsOnce (tree_blocks p ++ (empty_places g ++ range_with_len g.log g.logblocks))
     whole = joined (IsFree v) (tree_blocks p) (empty_places g ++ range_with_len g.log g.logblocks) trees.once (with_log_once g first) trees.free (all_used g first)
 
-    here : IsOnce (tree_blocks p ++ (b.places ++ log_blocks (empty_wanted g) b.cycle))
+    here : IsOnce (tree_blocks p ++ (b.places ++ log_places (empty_wanted g) b.cycle))
     here =
-        subst (λ (ps : List ℕ). IsOnce (tree_blocks p ++ (ps ++ log_blocks (empty_wanted g) b.cycle))) (sym is.made.places')
-        (subst (λ (cycle : Option ℕ). IsOnce (tree_blocks p ++ (empty_places g ++ log_blocks (empty_wanted g) cycle))) (sym is.made.cycle') whole)
+        subst (λ (ps : List ℕ). IsOnce (tree_blocks p ++ (ps ++ log_places (empty_wanted g) b.cycle))) (sym is.made.places')
+        (subst (λ (cycle : Option ℕ). IsOnce (tree_blocks p ++ (empty_places g ++ log_places (empty_wanted g) cycle))) (sym is.made.cycle') whole)

@@ -11,8 +11,8 @@ use Rattle.xfs_image.specs.Slots.{slot_bytes}
 use Rattle.xfs_place.specs.declared.placed.Placed.{Placed}
 use Rattle.xfs_render.specs.Clusters.{slot_in}
 use Rattle.xfs_render.specs.Plans.{HoldsPlan}
-use Rattle.xfs_render.specs.Rendering.{is_head, old_at, place_at}
-use Rattle.xfs_render.specs.Slots.{IsMade, IsSlotDue, wanted_of}
+use Rattle.xfs_render.specs.Rendering.{is_head, old_at, byte_place}
+use Rattle.xfs_render.specs.Slots.{IsMadeSlot, IsSlotDue, wanted_of}
 use Rattle.xfs_render.specs.declared.bytes.Bytes.{Bytes}
 use Rattle.xfs_render.specs.declared.plan.Plan.{Plan}
 use Rattle.xfs_render.specs.declared.wanted_slots.SlotWanted.{SlotWanted}
@@ -49,7 +49,7 @@ no_slot = free_slot 0
 
 -- what is wanted of a slot was made
 due_made : (v : Volume) (generation : ℕ) (slots : List SlotWanted) (ino : ℕ) (old new : List ℕ) (w : SlotWanted) → wanted_of slots ino ≡ Some w
-    → IsSlotDue v generation slots ino old new → IsMade v generation w old new
+    → IsSlotDue v generation slots ino old new → IsMadeSlot v generation w old new
 due_made v generation slots ino old new w is due = rw is at due
 
 module _ (g : Geometry) (sector : List ℕ) (s : Stamp) (p : Placed) (b : Bytes) (super : List ℕ) (image : Image) (made : IsEmptyBytes g sector s b)
@@ -75,24 +75,24 @@ module _ (g : Geometry) (sector : List ℕ) (s : Stamp) (p : Placed) (b : Bytes)
       let count : length b.places ≡ g.agcount + 8 = ap length made.places' ∙ count_places g in
       omega (arith, count, few)
 
-  place : place_at b index ≡ 16 + i / 8
+  place : byte_place b index ≡ 16 + i / 8
   place =
       let chunk = chunk_at g index (i / 8) few refl in
       let there = chunk.at in
       let same : chunk.block ≡ i / 8 = omega (arith, there) in
       ap (λ (ps : List ℕ). get_or ps index 0) made.places' ∙ (chunk.is ∙ ap (λ (n : ℕ). 16 + n) same)
 
-  other : is_head v (place_at b index) ≡ false
+  other : is_head v (byte_place b index) ≡ false
   other =
       let large = g.shape.groups.large in
       let short : 16 + i / 8 < g.agblocks = omega (arith, large, few) in
-      let rest : place_at b index % g.agblocks ≡ 16 + i / 8 = ap (λ (n : ℕ). n % g.agblocks) place ∙ mod-eq_of_lt short in
-      ne_eqb (place_at b index % g.agblocks) 0 (λ same. absurd (omega (arith, rest, same)))
+      let rest : byte_place b index % g.agblocks ≡ 16 + i / 8 = ap (λ (n : ℕ). n % g.agblocks) place ∙ mod-eq_of_lt short in
+      ne_eqb (byte_place b index % g.agblocks) 0 (λ same. absurd (omega (arith, rest, same)))
 
-  here : place_at b index < g.dblocks
+  here : byte_place b index < g.dblocks
   here = let enough = many v g.shape.groups in omega (arith, place, few, enough)
 
-  number : inode_of v (place_at b index) k ≡ 128 + i
+  number : inode_of v (byte_place b index) k ≡ 128 + i
   number = ap (λ (n : ℕ). inode_of v n k) place ∙ chunk_inode v (i / 8) k g.shape.groups few ∙ omega arith
 
   wanted : wanted_of b.slots (128 + i) ≡ Some (get_or b.slots i no_slot)
@@ -114,7 +114,7 @@ module _ (g : Geometry) (sector : List ℕ) (s : Stamp) (p : Placed) (b : Bytes)
         old = old;
         first = made.slots'.each i no_slot low;
         made =
-            subst (λ (n : ℕ). IsMade v n (get_or b.slots i no_slot) old (slot_bytes v image (128 + i))) generation
+            subst (λ (n : ℕ). IsMadeSlot v n (get_or b.slots i no_slot) old (slot_bytes v image (128 + i))) generation
             (due_made v b.stamp.generation b.slots (128 + i) old (slot_bytes v image (128 + i)) (get_or b.slots i no_slot) wanted due);
       }
 

@@ -12,16 +12,16 @@ use Rattle.xfs_volume.specs.declared.groups.TreeBlocks.{TreeBlocks}
 use Rattle.xfs_place.proofs.GroupIs.{length_uses, use_in}
 use Rattle.xfs_place.proofs.OpenRuns.{open_inside}
 use Rattle.xfs_place.proofs.Rooms.{open_is}
-use Rattle.xfs_place.specs.Placing.{IsPlaced, inner_blocks, tree_sizes}
+use Rattle.xfs_place.specs.Placing.{IsPlacedGroup, inner_blocks, tree_sizes}
 use Rattle.xfs_place.specs.Pool.{is_open, is_pool, is_taken}
-use Rattle.xfs_place.specs.Standing.{AreOfPool, IsOfPool, blocks_of}
-use Rattle.xfs_place.specs.Wanted.{ArePlaced, group_in, inodes_of, uses_in}
+use Rattle.xfs_place.specs.Standing.{AreOfPool, IsOfPool, standing_blocks}
+use Rattle.xfs_place.specs.Wanted.{ArePlaced, group_in, inodes_in_group, uses_in}
 use Rattle.xfs_place.specs.declared.placed.GroupPlaced.{GroupPlaced}
 use Rattle.xfs_place.specs.declared.wanted.GroupInodes.{GroupInodes}
 use Rattle.xfs_render.proofs.TreePlaces.{all_of_cut, pool_parts}
 use Rattle.xfs_render.specs.Groups.{no_tree, tree_places}
 use Rattle.xfs_render.specs.Plans.{IsOnce}
-use Rattle.xfs_render.specs.Trees.{all_places}
+use Rattle.xfs_render.specs.Trees.{group_tree_places}
 use Rattle.xfs_empty.specs.Placing.{chunk_run}
 use Rattle.xfs_made.proofs.OnceLists.{ascend_once, counted, counted_append, joined}
 
@@ -74,7 +74,7 @@ five_counted at (a ∷ b ∷ c ∷ d ∷ e ∷ []) five =
 
 -- the blocks of the trees of a group
 module _ (v : Volume) (groups : HasGroups v.dblocks v.agblocks v.agcount) (ag : ℕ) (inodes : List InoRec) (p : GroupPlaced)
-    (placed : IsPlaced (group_in v (chunk_run ∷ []) [] ag (inner_blocks inodes)) (ag * v.agblocks) inodes p)
+    (placed : IsPlacedGroup (group_in v (chunk_run ∷ []) [] ag (inner_blocks inodes)) (ag * v.agblocks) inodes p)
     (pool : IsOfPool v (chunk_run ∷ []) [] (ag * v.agblocks) inodes p) where
   blocks_are : All (λ b. IsTreeBlock v ag (ag * v.agblocks + b)) placed.blocks
   blocks_are =
@@ -102,7 +102,7 @@ module _ (v : Volume) (groups : HasGroups v.dblocks v.agblocks v.agcount) (ag : 
   five : length p.trees ≡ 5
   five = ap length placed.trees
 
-  group_blocks : AreTreeBlocks v ag (all_places p)
+  group_blocks : AreTreeBlocks v ag (group_tree_places p)
   group_blocks =
       let P = IsTreeBlock v ag in
       record {
@@ -110,7 +110,7 @@ module _ (v : Volume) (groups : HasGroups v.dblocks v.agblocks v.agcount) (ag : 
           each = λ at.
               let list = map (λ block. ag * v.agblocks + block) p.agfl in
               let part = counted_append at (flat_map blocks_in p.trees) list in
-              let all = (ascend_once (blocks_of (ag * v.agblocks) p) pool.ascend).each at in
+              let all = (ascend_once (standing_blocks (ag * v.agblocks) p) pool.ascend).each at in
               omega (arith, part, all, five_counted at p.trees five);
         };
         all =
@@ -130,18 +130,18 @@ pub record AreBehind (v : Volume) (start : ℕ) (blocks : List ℕ) : Type 0 whe
   pub from : All (λ block. start ≤ block) blocks
 
 groups_blocks : (v : Volume) (ag : ℕ) (ps : List GroupPlaced)
-    → ((k n : ℕ) (d : GroupPlaced) → n ≡ ag + k → k < length ps → AreTreeBlocks v n (all_places (get_or ps k d))) → AreBehind v (ag * v.agblocks) (flat_map all_places ps)
+    → ((k n : ℕ) (d : GroupPlaced) → n ≡ ag + k → k < length ps → AreTreeBlocks v n (group_tree_places (get_or ps k d))) → AreBehind v (ag * v.agblocks) (flat_map group_tree_places ps)
 groups_blocks v ag [] each = record {
   once = record { each = λ at. omega arith };
   free = All-nil (IsFree v);
   from = All-nil (λ block. ag * v.agblocks ≤ block);
 }
 groups_blocks v ag (p ∷ ps) each =
-    let first : AreTreeBlocks v ag (all_places p) = each zero ag p (omega arith) (omega arith) in
-    let rest : AreBehind v ((ag + 1) * v.agblocks) (flat_map all_places ps) =
+    let first : AreTreeBlocks v ag (group_tree_places p) = each zero ag p (omega arith) (omega arith) in
+    let rest : AreBehind v ((ag + 1) * v.agblocks) (flat_map group_tree_places ps) =
     groups_blocks v (ag + 1) ps (λ k n d at low. each (suc k) n d (omega (arith, at)) (omega (arith, low))) in
-    let mine = all_places p in
-    let others = flat_map all_places ps in
+    let mine = group_tree_places p in
+    let others = flat_map group_tree_places ps in
     record {
       once =
           joined (λ block. block < (ag + 1) * v.agblocks) mine others first.once rest.once
@@ -157,10 +157,10 @@ groups_blocks v ag (p ∷ ps) each =
 
 -- the blocks of the trees of all groups
 pub trees_once : (v : Volume) (groups : HasGroups v.dblocks v.agblocks v.agcount) (inodes : List GroupInodes) (n : ℕ) (ps : List GroupPlaced)
-    → ArePlaced v (chunk_run ∷ []) [] inodes n ps → AreOfPool v (chunk_run ∷ []) [] inodes n ps → AreBehind v (0 * v.agblocks) (flat_map all_places ps)
+    → ArePlaced v (chunk_run ∷ []) [] inodes n ps → AreOfPool v (chunk_run ∷ []) [] inodes n ps → AreBehind v (0 * v.agblocks) (flat_map group_tree_places ps)
 trees_once v groups inodes n ps placed pool =
     groups_blocks v 0 ps (λ k ag d at low.
     let inside : k < n = omega (arith, low, placed.all) in
     let same : k ≡ ag = omega (arith, at) in
-    subst (λ (m : ℕ). AreTreeBlocks v m (all_places (get_or ps k d))) same
-    (group_blocks v groups k (inodes_of inodes k) (get_or ps k d) (placed.each k d inside) (pool.each k d inside)))
+    subst (λ (m : ℕ). AreTreeBlocks v m (group_tree_places (get_or ps k d))) same
+    (group_blocks v groups k (inodes_in_group inodes k) (get_or ps k d) (placed.each k d inside) (pool.each k d inside)))

@@ -8,7 +8,7 @@ use Rattle.xfs_volume.specs.declared.cores.Core.{Core}
 use Rattle.xfs_volume.specs.declared.directories.DirRec.{DirRec}
 use Rattle.xfs_volume.specs.declared.files.FileRec.{FileRec}
 use Rattle.xfs_image.specs.Slots.{slot_bytes}
-use Rattle.xfs_render.specs.Slots.{IsMade}
+use Rattle.xfs_render.specs.Slots.{IsMadeSlot}
 use Rattle.xfs_render.specs.declared.wanted_slots.SlotWanted.{SlotWanted}
 use Rattle.xfs_empty.specs.Inodes.{IsFirstSlot, root_core, system_core}
 
@@ -17,7 +17,7 @@ pub record HasFirstSlot (v : Volume) (s : Stamp) (image : Image) (ino : ℕ) : T
   pub wanted : SlotWanted
   pub old : List ℕ
   pub first : IsFirstSlot v s ino wanted
-  pub made : IsMade v s.generation wanted old (slot_bytes v image ino)
+  pub made : IsMadeSlot v s.generation wanted old (slot_bytes v image ino)
 
 -- so are all 64
 pub record HasFirstSlots (v : Volume) (s : Stamp) (image : Image) : Type 0 where
@@ -29,7 +29,7 @@ plain_file core crc = record {
   ino = core.ino;
   core = record core { crc = crc };
   extents = [];
-  attr = [];
+  attr_extents = [];
   tree = [];
   attrs = [];
   target = [];

@@ -9,7 +9,7 @@ use Rattle.xfs_volume.specs.declared.catalogs.BlockLsn.{BlockLsn}
 use Rattle.xfs_volume.specs.declared.catalogs.Catalog.{Catalog}
 use Rattle.xfs_laws.specs.Lawful.{broken_law}
 use Rattle.xfs_image.specs.Consistent.{IsConsistent}
-use Rattle.xfs_image.specs.Lsns.{LsnPlace, in_order, lsn_places}
+use Rattle.xfs_image.specs.Lsns.{LsnPlace, lsn_places_in_order, lsn_places}
 use Rattle.xfs_image.specs.View.{view}
 use Rattle.xfs_place.specs.declared.placed.Placed.{Placed}
 use Rattle.xfs_due.specs.Groups.{due_groups}
@@ -40,7 +40,7 @@ made_catalog g s p crcs =
       dirs = first_dirs;
       counts = p.counts;
       log = Clean (2 ^ 32 + 2);
-      lsns = map no_lsn (in_order (lsn_places (volume_of g) groups files));
+      lsns = map no_lsn (lsn_places_in_order (lsn_places (volume_of g) groups files));
     }
 
 -- an image says just that, and it is consistent

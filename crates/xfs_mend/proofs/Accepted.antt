@@ -9,7 +9,7 @@ use Rattle.xfs_mend.proofs.Electing.{IsPrimary, is_primary}
 use Rattle.xfs_mend.proofs.Repaired.{IsAccepted, is_repaired}
 use Rattle.xfs_mend.specs.Backups.{start_of, steps_from, backup_plan}
 use Rattle.xfs_mend.specs.Due.{IsOwed, first_disagreeing}
-use Rattle.xfs_mend.specs.Outcome.{IsCaused, IsKept, Leaves, LeavesOf, StopsBy, StopsOf, is_quiet}
+use Rattle.xfs_mend.specs.Outcome.{IsRepairCause, IsDurableRepair, RepairLeaves, LeavesOf, StopsBy, StopsOf, is_quiet}
 use Rattle.xfs_writing.specs.Stopped.{IsStopped}
 use Rattle.xfs_writing.specs.Writing.{Writes, IsPartly, written}
 use Rattle.xfs_mend.specs.declared.outcome.Outcome.{Outcome}
@@ -64,7 +64,7 @@ first_elected image v g elects from stated =
 
 -- what an outcome of the image's plan leaves
 pub written_leaves : (image : Image) (now : Option Image) (plan : Writes) (a : Outcome) → IsAccepted image → plan ≡ backup_plan image
-    → LeavesOf plan image now a → Leaves image now a
+    → LeavesOf plan image now a → RepairLeaves image now a
 written_leaves image now plan (Repaired summary) known same writes =
     is_repaired image now known (writes ∙ ap (λ (p : Writes). Some (written p image)) same)
 written_leaves image now plan (WriteFault blocks) known same writes = subst (λ (p : Writes). IsPartly p image blocks now) same writes
@@ -81,7 +81,7 @@ written_leaves image now plan NoMemory known same writes = writes
 
 -- what is kept by a disk that tells its stops
 pub kept_before : (before after : Type 0) (now : Option Image) (may_leave : ℕ → List ℕ → Type 0) (a : Outcome) → (before → after)
-    → IsKept after now may_leave a → IsKept before now may_leave a
+    → IsDurableRepair after now may_leave a → IsDurableRepair before now may_leave a
 kept_before before after now may_leave (Repaired summary) tells kept = λ told. kept (tells told)
 kept_before before after now may_leave (WriteFault blocks) tells kept = kept
 kept_before before after now may_leave NoGeometry tells kept = kept
@@ -100,7 +100,7 @@ pub owed_as : (due other outcome : Outcome) → due ≡ other → IsOwed due out
 owed_as due other outcome same owed = subst (λ (d : Outcome). IsOwed d outcome) same owed
 
 -- the causes that are seen from an earlier count on
-pub caused_before : (earlier before now w0 w1 w2 : ℕ) (a : Outcome) → earlier ≤ before → w0 ≤ w1 → IsCaused before now w1 w2 a → IsCaused earlier now w0 w2 a
+pub caused_before : (earlier before now w0 w1 w2 : ℕ) (a : Outcome) → earlier ≤ before → w0 ≤ w1 → IsRepairCause before now w1 w2 a → IsRepairCause earlier now w0 w2 a
 caused_before earlier before now w0 w1 w2 (ReadFault faults) up more ((le, rose), told) = ((omega (arith, up, le), omega (arith, up, le, rose)), told)
 caused_before earlier before now w0 w1 w2 (WriteFault blocks) up more (le, rose) = (omega (arith, more, le), omega (arith, more, le, rose))
 caused_before earlier before now w0 w1 w2 (Repaired summary) up more cause = cause

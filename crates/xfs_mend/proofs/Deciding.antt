@@ -21,9 +21,9 @@ use Rattle.xfs_image.specs.declared.findings.Finding.{Finding}
 use Rattle.xfs_image.specs.declared.findings.Finding.TheVariants as Found
 use Rattle.xfs_mend.proofs.Repaired.{first_sector}
 use Rattle.xfs_mend.specs.Backups.{backup_plan, start_of}
-use Rattle.xfs_mend.specs.Due.{IsAnswer, IsDue, IsOwed, disagrees, due_found, due_volume, first_disagreeing, is_backup, turned_away}
+use Rattle.xfs_mend.specs.Due.{IsAnswer, IsDueRepair, IsOwed, disagrees, due_found, due_volume, first_disagreeing, is_backup, turned_away}
 use Rattle.xfs_writing.specs.Writing.{Writes}
-use Rattle.xfs_mend.specs.Refusing.{IsAdmission}
+use Rattle.xfs_mend.specs.Private.Refusing.{IsAdmission}
 use Rattle.xfs_mend.specs.declared.refusals.Admitted.{Admitted}
 use Rattle.xfs_mend.specs.declared.refusals.Admitted.TheVariants.{View}
 use Rattle.xfs_mend.specs.declared.outcome.Outcome.{Outcome}
@@ -146,7 +146,7 @@ answers o g image vote outcome elects is due =
     subst (λ (r : Result Vote ElectFault). IsAnswer o image r outcome) (sym elects) (record { geometry = g; elected = is; is = due })
 
 pub due_by : (o : Asked) (g : Geometry) (image : Image) (vote : Vote) (outcome : Outcome) → elected image ≡ Ok vote → IsElected (volume_of g) image
-    → IsOwed (due_volume o g image) outcome → IsDue o image outcome
+    → IsOwed (due_volume o g image) outcome → IsDueRepair o image outcome
 due_by o g image vote (ReadFault faults) elects is owed = tt
 due_by o g image vote (WriteFault blocks) elects is (count, most, owed) = (count, most, answers o g image vote (Repaired (Backups count)) elects is (sym owed))
 due_by o g image vote NoMemory elects is owed = tt
@@ -161,9 +161,9 @@ due_by o g image vote (Repaired summary) elects is owed = answers o g image vote
 due_by o g image vote (Unbuilt request) elects is owed = answers o g image vote (Unbuilt request) elects is owed
 
 -- what the election refuses is due
-pub due_unsupported : (o : Asked) (image : Image) (word bits : ℕ) → elected image ≡ Err (fault.Unsupported word bits) → IsDue o image (Unsupported word bits)
+pub due_unsupported : (o : Asked) (image : Image) (word bits : ℕ) → elected image ≡ Err (fault.Unsupported word bits) → IsDueRepair o image (Unsupported word bits)
 due_unsupported o image word bits refused =
     subst (λ (r : Result Vote ElectFault). IsAnswer o image r (Unsupported word bits)) (sym refused) refl
 
-pub due_no_geometry : (o : Asked) (image : Image) → elected image ≡ Err fault.NoGeometry → IsDue o image NoGeometry
+pub due_no_geometry : (o : Asked) (image : Image) → elected image ≡ Err fault.NoGeometry → IsDueRepair o image NoGeometry
 due_no_geometry o image refused = subst (λ (r : Result Vote ElectFault). IsAnswer o image r NoGeometry) (sym refused) refl

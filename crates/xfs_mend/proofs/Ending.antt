@@ -1,20 +1,20 @@
 -- How the parts of a repair end, and what that says of the whole.
 use Rattle.std.proofs.Common.{◌≡◌, ℕ, ◌≤◌, ◌⊎◌, inl, inr, Bool, true, false, List, Option, refl, ap, sym, ◌∙◌, arith}
+use Rattle.xfs_disk.specs.Counts.{raised_times}
 use Rattle.xfs_disk.specs.Blocks.{Image}
 use Rattle.xfs_disk.specs.Reads.{OnlyReads}
 use Rattle.xfs_disk.proofs.Reading.{reads_on}
-use Rattle.xfs_writing.specs.Counting.{raised_times}
 use Rattle.xfs_mend.proofs.Accepted.{caused_before, kept_before}
 use Rattle.xfs_mend.specs.Asked.{Asked}
 use Rattle.xfs_mend.specs.Due.{CanCome}
-use Rattle.xfs_mend.specs.Ending.{Ends}
-use Rattle.xfs_mend.specs.Outcome.{IsCaused, IsKept, blocks_told, is_quiet}
+use Rattle.xfs_mend.specs.Private.Ending.{Ends}
+use Rattle.xfs_mend.specs.Outcome.{IsRepairCause, IsDurableRepair, blocks_told, is_quiet}
 use Rattle.xfs_mend.specs.declared.outcome.Outcome.{Outcome}
 use Rattle.xfs_mend.specs.declared.outcome.Outcome.TheVariants.{NoGeometry, Unsupported, DirtyLog, TooLarge, UnsupportedFile, Clean, Damaged, Repaired, Unbuilt, ReadFault, WriteFault, NoMemory}
 use Rattle.xfs_mend.specs.declared.outcome.Summary.TheVariants.{Backups, Rebuilt}
 
 -- where nothing was written nothing is kept or told
-kept_quiet : (tells : Type 0) (now : Option Image) (may_leave : ℕ → List ℕ → Type 0) (a : Outcome) → is_quiet a ≡ true → IsKept tells now may_leave a
+kept_quiet : (tells : Type 0) (now : Option Image) (may_leave : ℕ → List ℕ → Type 0) (a : Outcome) → is_quiet a ≡ true → IsDurableRepair tells now may_leave a
 kept_quiet tells now may_leave (Repaired summary) quiet = cc
 kept_quiet tells now may_leave (WriteFault blocks) quiet = cc
 kept_quiet tells now may_leave NoGeometry quiet = tt
@@ -66,7 +66,7 @@ module _ {D : Type 0} (size : D → ℕ) (holds : D → Option Image) (faults wr
     (moment : D → ℕ) (may_leave : D → ℕ → List ℕ → Type 0) (left_since : D → ℕ → Image → Type 0) where
   -- a disk that was only read
   pub ends_read : (a b : D) (outcome : Outcome) → OnlyReads size holds write_faults writes tells_stops moment may_leave left_since a b
-      → faults a ≤ faults b → is_quiet outcome ≡ true → IsCaused (faults a) (faults b) (write_faults a) (write_faults b) outcome
+      → faults a ≤ faults b → is_quiet outcome ≡ true → IsRepairCause (faults a) (faults b) (write_faults a) (write_faults b) outcome
       → Ends size holds faults write_faults writes tells_stops moment may_leave left_since a b outcome
   ends_read a b outcome disk up quiet cause = record {
     cause = cause;

@@ -9,10 +9,10 @@ use Rattle.xfs_bank.specs.Bank.{blocks_at}
 use Rattle.xfs_geom.specs.Superblocks.{is_agreeing}
 use Rattle.xfs_geom.specs.Volumes.{stated_volume}
 use Rattle.xfs_geom.specs.Election.{block_of, super_of}
-use Rattle.xfs_writing.specs.Writing.{Writes, rows_from, writes_of}
+use Rattle.xfs_writing.specs.Writing.{Writes, rows_from, writes_of_rows}
 use Rattle.xfs_writing.proofs.RowSteps.{writes_behind}
 use Rattle.xfs_mend.specs.Backups.{start_of, step_of, steps_from, with_super}
-use Rattle.xfs_mend.specs.Rows.{disagreeing_places}
+use Rattle.xfs_mend.specs.Private.Rows.{disagreeing_places}
 
 -- one more group: its place stands behind the others, where its backup does not agree
 pub next_place : (primary : List ℕ) (image : Image) (group count at : ℕ) (agreeing : Bool) (before after whole : List ℕ) → group < count
@@ -51,9 +51,9 @@ places_steps primary image (suc n) group = one_more primary image n group (place
 -- all blocks of a bank that have the primary in place of their first sector
 pub rows_steps : (primary : List ℕ) (image bank : Image) (places : List ℕ) (count : ℕ)
     → places ≡ disagreeing_places primary image 1 count → bank ≡ map (with_super primary) (blocks_at image places)
-    → writes_of bank (rows_from 0 places) ≡ steps_from primary image 1 count
+    → writes_of_rows bank (rows_from 0 places) ≡ steps_from primary image 1 count
 rows_steps primary image bank places count same filled =
-    ap (λ (b : Image). writes_of b (rows_from 0 places)) (filled ∙ blocks places)
+    ap (λ (b : Image). writes_of_rows b (rows_from 0 places)) (filled ∙ blocks places)
     ∙ writes_behind (λ (at : ℕ). with_super primary (block_of image at)) places [] 0 refl
     ∙ ap (map (λ (at : ℕ). (at, with_super primary (block_of image at)))) same
     ∙ places_steps primary image count 1

@@ -8,9 +8,9 @@ use Rattle.xfs_image.specs.View.{log_of}
 use Rattle.xfs_image.specs.declared.findings.Finding.{Finding}
 use Rattle.xfs_scan.specs.Refused.{refused}
 use Rattle.xfs_scan.specs.declared.faults.ScanFault.{ScanFault}
-use Rattle.xfs_mend.specs.Due.{asks_log, away_if, is_dirty, refusal_of, turned_away}
-use Rattle.xfs_mend.specs.Planning.{HasMendCause}
-use Rattle.xfs_mend.specs.Refusing.{HasAdmitted}
+use Rattle.xfs_mend.specs.Due.{asks_log, away_if, is_dirty, scan_refusal, turned_away}
+use Rattle.xfs_mend.specs.Private.Planning.{HasMendCause}
+use Rattle.xfs_mend.specs.Private.Refusing.{HasAdmitted}
 use Rattle.xfs_mend.specs.declared.faults.MendFault.{MendFault}
 use Rattle.xfs_mend.specs.declared.faults.MendFault.TheVariants as faults
 use Rattle.xfs_mend.specs.declared.outcome.Outcome.{Outcome}
@@ -23,13 +23,13 @@ both_false true = refl
 both_false false = refl
 
 -- the log is not asked
-pub not_asked : (o : Asked) (v : Volume) (image : Image) → asks_log o ≡ false → turned_away o v image ≡ refusal_of (refused v image)
+pub not_asked : (o : Asked) (v : Volume) (image : Image) → asks_log o ≡ false → turned_away o v image ≡ scan_refusal (refused v image)
 unfolding turned_away
 not_asked o v image asks = ap (λ (b : Bool). away_if (b && is_dirty (log_of v image)) (refused v image)) asks
 
 -- the log is clean
 pub not_dirty : (o : Asked) (v : Volume) (image : Image) (log : LogState) → log ≡ log_of v image → is_dirty log ≡ false
-    → turned_away o v image ≡ refusal_of (refused v image)
+    → turned_away o v image ≡ scan_refusal (refused v image)
 unfolding turned_away
 not_dirty o v image log same clean =
     ap (λ (l : LogState). away_if (asks_log o && is_dirty l) (refused v image)) (sym same)

@@ -8,5 +8,5 @@ pub record Asked : Type 0 where
   pub drop_log : Bool
 
 -- what these options ask
-abbrev pub asked_of : RepairOptions → Asked
-asked_of o = record { check = o.check; drop_log = o.drop_log }
+abbrev pub repair_asked : RepairOptions → Asked
+repair_asked o = record { check = o.check; drop_log = o.drop_log }

@@ -41,15 +41,15 @@ is_dirty Log.Dirty = true
 is_dirty (Log.Clean head) = false
 
 -- the refusal of a volume that is too large or has a file that is not supported
-abbrev pub refusal_of : Option ScanFault → Option Outcome
-refusal_of None = None
-refusal_of (Some scan.ReadFault) = None
-refusal_of (Some (scan.TooLarge what count)) = Some (TooLarge what count)
-refusal_of (Some (scan.UnsupportedFile ino what)) = Some (UnsupportedFile ino what)
-refusal_of (Some scan.NoMemory) = None
+abbrev pub scan_refusal : Option ScanFault → Option Outcome
+scan_refusal None = None
+scan_refusal (Some scan.ReadFault) = None
+scan_refusal (Some (scan.TooLarge what count)) = Some (TooLarge what count)
+scan_refusal (Some (scan.UnsupportedFile ino what)) = Some (UnsupportedFile ino what)
+scan_refusal (Some scan.NoMemory) = None
 
 abbrev pub away_if : Bool → Option ScanFault → Option Outcome
-away_if dirty due = if dirty then Some DirtyLog else refusal_of due
+away_if dirty due = if dirty then Some DirtyLog else scan_refusal due
 
 -- the first cause for which the volume is not looked at further: its log, then its size and its files
 unfoldable pub turned_away : Asked → Volume → Image → Option Outcome
@@ -93,11 +93,11 @@ IsRepairDue o image blocks = (count : ℕ) × (blocks ≤ count) × IsAnswer o i
 
 -- The outcome is the one that is due; a failed read or want of memory may stand in its place, and a failed write in that of a
 -- repair, with no more blocks than those that the repair writes.
-abbrev pub IsDue : Asked → Image → Outcome → Type 0
-IsDue o image (ReadFault faults) = ⊤
-IsDue o image (WriteFault blocks) = IsRepairDue o image blocks
-IsDue o image NoMemory = ⊤
-IsDue o image outcome = IsAnswer o image (elected image) outcome
+abbrev pub IsDueRepair : Asked → Image → Outcome → Type 0
+IsDueRepair o image (ReadFault faults) = ⊤
+IsDueRepair o image (WriteFault blocks) = IsRepairDue o image blocks
+IsDueRepair o image NoMemory = ⊤
+IsDueRepair o image outcome = IsAnswer o image (elected image) outcome
 
 -- The outcomes that may come of what is asked, whatever a disk tells: only a check finds damage, and a check repairs nothing, fails no
 -- write and never answers that a repair is not built.

@@ -1,8 +1,5 @@
 pub mod Asked
 pub mod Backups
 pub mod Due
-pub mod Ending
 pub mod Outcome
-pub mod Planning
-pub mod Refusing
-pub mod Rows
+pub mod Private

@@ -18,10 +18,10 @@ use Rattle.xfs_mend.specs.declared.outcome.Outcome.TheVariants.{Repaired, ReadFa
 use Rattle.xfs_mend.specs.declared.outcome.Summary.TheVariants.{Backups, Rebuilt}
 
 -- a fault of the disk is answered only where its count rose; a read fault tells the count
-abbrev pub IsCaused : ℕ → ℕ → ℕ → ℕ → Outcome → Type 0
-IsCaused faults faults_now write_faults write_faults_now (ReadFault told) = Rose faults faults_now × (told ≡ faults_now)
-IsCaused faults faults_now write_faults write_faults_now (WriteFault blocks) = Rose write_faults write_faults_now
-IsCaused faults faults_now write_faults write_faults_now outcome = Unit {0}
+abbrev pub IsRepairCause : ℕ → ℕ → ℕ → ℕ → Outcome → Type 0
+IsRepairCause faults faults_now write_faults write_faults_now (ReadFault told) = Rose faults faults_now × (told ≡ faults_now)
+IsRepairCause faults faults_now write_faults write_faults_now (WriteFault blocks) = Rose write_faults write_faults_now
+IsRepairCause faults faults_now write_faults write_faults_now outcome = Unit {0}
 
 -- Every backup agrees with the primary: those that did are as before, of the others the first sector is
 -- the primary's. All other blocks are as before.
@@ -56,10 +56,10 @@ LeavesOf plan image now (WriteFault blocks) = IsPartly plan image blocks now
 LeavesOf plan image now outcome = now ≡ Some image
 
 -- what the disk holds after the outcome: where it isn't a repair or a write fault, what it held
-abbrev pub Leaves : Image → Option Image → Outcome → Type 0
-Leaves image now (Repaired summary) = IsRepaired image now
-Leaves image now (WriteFault blocks) = IsPartly (backup_plan image) image blocks now
-Leaves image now outcome = now ≡ Some image
+abbrev pub RepairLeaves : Image → Option Image → Outcome → Type 0
+RepairLeaves image now (Repaired summary) = IsRepaired image now
+RepairLeaves image now (WriteFault blocks) = IsPartly (backup_plan image) image blocks now
+RepairLeaves image now outcome = now ≡ Some image
 
 -- nothing was written, as the outcome says
 abbrev pub is_quiet : Outcome → Bool
@@ -84,7 +84,7 @@ abbrev pub StopsBy : Image → Outcome → Image → Type 0
 StopsBy image outcome stopped = StopsOf (backup_plan image) image outcome stopped
 
 -- after a repair a stop leaves just what the disk holds
-abbrev pub IsKept : Type 0 → Option Image → (ℕ → List ℕ → Type 0) → Outcome → Type 0
-IsKept tells now may_leave (Repaired summary) =
+abbrev pub IsDurableRepair : Type 0 → Option Image → (ℕ → List ℕ → Type 0) → Outcome → Type 0
+IsDurableRepair tells now may_leave (Repaired summary) =
     tells → ForSome now (λ image. (b : ℕ) (v : List ℕ) → may_leave b v → slice_get image b ≡ Some v)
-IsKept tells now may_leave outcome = Unit {0}
+IsDurableRepair tells now may_leave outcome = Unit {0}

@@ -7,12 +7,12 @@ ghost use Rattle.xfs_disk.specs.Reads.{OnlyReads};
 ghost use Rattle.xfs_geom.specs.Superblocks.{is_agreeing};
 ghost use Rattle.xfs_geom.specs.Volumes.{volume_of, stated_volume};
 ghost use Rattle.xfs_geom.specs.Election.{block_of, super_of};
-ghost use Rattle.xfs_writing.specs.Writing.{rows_from, writes_of};
+ghost use Rattle.xfs_writing.specs.Writing.{rows_from, writes_of_rows};
 ghost use Rattle.xfs_writing.specs.declared.rows.Row.{Row};
 ghost use Rattle.xfs_mend.specs.Backups.{start_of, steps_from, with_super};
 ghost use Rattle.xfs_mend.specs.Due.{first_disagreeing};
-ghost use Rattle.xfs_mend.specs.Planning.{HasMendCause};
-ghost use Rattle.xfs_mend.specs.Rows.{disagreeing_places};
+ghost use Rattle.xfs_mend.specs.Private.Planning.{HasMendCause};
+ghost use Rattle.xfs_mend.specs.Private.Rows.{disagreeing_places};
 
 use crate::faults::MendFault;
 use std::alloc::Global;
@@ -40,7 +40,7 @@ pub(crate) fn plan_backups<D: Disk>(
     requires stated { volume_of geometry.now ≡ stated_volume primary.now }
     requires inside { geometry.now.dblocks ≤ D.size disk.old }
     ensures plan { IfOk result (λ plan. ForSome (D.holds disk.old) (λ image.
-        writes_of plan.bank plan.rows.items ≡ steps_from primary.now image 1 (geometry.now.agcount - 1))) }
+        writes_of_rows plan.bank plan.rows.items ≡ steps_from primary.now image 1 (geometry.now.agcount - 1))) }
     ensures places { IfOk result (λ plan. All (λ (r : Row). r.at < D.size disk.old) plan.rows.items) }
     ensures inside { IfOk result (λ plan. All (λ (r : Row). r.index < length plan.bank) plan.rows.items) }
     ensures cause { HasMendCause (D.faults disk.old) (D.faults disk.new) result }
@@ -111,12 +111,12 @@ fn put_primary(bank: &mut BlockBank, primary: &[u8])
     ensures { bank.new ≡ map (with_super primary.now) bank.old }
 {
     for i in 0..bank.len() {
-        put_super(bank, i, primary);
+        put_backup(bank, i, primary);
     }
 }
 
 /// Puts the primary superblock in the place of the first sector of block `i`.
-fn put_super(bank: &mut BlockBank, i: usize, primary: &[u8])
+fn put_backup(bank: &mut BlockBank, i: usize, primary: &[u8])
     requires inside { i < length bank.old }
     requires sector { length primary.now ≡ 512 }
     ensures { bank.new ≡ slice_set bank.old i (with_super primary.now (slice_index_or bank.old i [])) }

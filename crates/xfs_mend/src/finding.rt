@@ -10,7 +10,7 @@ ghost use Rattle.xfs_laws.specs.Lawful.{broken_law};
 ghost use Rattle.xfs_image.specs.Consistent.{backup_found, finding, law_found, view_found};
 ghost use Rattle.xfs_image.specs.View.{view};
 ghost use Rattle.xfs_mend.specs.Due.{first_disagreeing};
-ghost use Rattle.xfs_mend.specs.Planning.{HasMendCause};
+ghost use Rattle.xfs_mend.specs.Private.Planning.{HasMendCause};
 
 use crate::backups::find_disagreeing;
 use crate::faults::MendFault;

@@ -6,10 +6,10 @@ ghost use Rattle.xfs_geom.specs.Volumes.{volume_of};
 ghost use Rattle.xfs_disk.specs.Reads.{OnlyReads};
 ghost use Rattle.xfs_image.specs.View.{view};
 ghost use Rattle.xfs_scan.specs.Refused.{refused};
-ghost use Rattle.xfs_mend.specs.Asked.{asked_of};
-ghost use Rattle.xfs_mend.specs.Due.{asks_log, away_if, is_dirty, refusal_of};
-ghost use Rattle.xfs_mend.specs.Planning.{HasMendCause};
-ghost use Rattle.xfs_mend.specs.Refusing.{HasAdmitted, IsAdmission};
+ghost use Rattle.xfs_mend.specs.Asked.{repair_asked};
+ghost use Rattle.xfs_mend.specs.Due.{asks_log, away_if, is_dirty, scan_refusal};
+ghost use Rattle.xfs_mend.specs.Private.Planning.{HasMendCause};
+ghost use Rattle.xfs_mend.specs.Private.Refusing.{HasAdmitted, IsAdmission};
 
 use crate::faults::MendFault;
 use crate::outcome::RepairOptions;
@@ -47,7 +47,7 @@ pub(crate) fn admit<D: Disk>(
     g: &Geometry,
 ) -> Result<Admitted, MendFault>
     requires inside { g.now.dblocks ≤ D.size disk.old }
-    ensures admitted { IfOk result (λ admitted. ForSome (D.holds disk.old) (λ image. IsAdmission (asked_of options.now) g.now image admitted)) }
+    ensures admitted { IfOk result (λ admitted. ForSome (D.holds disk.old) (λ image. IsAdmission (repair_asked options.now) g.now image admitted)) }
     ensures cause { HasMendCause (D.faults disk.old) (D.faults disk.new) result }
     ensures disk { OnlyReads D.size D.holds D.write_faults D.writes D.tells_stops D.moment D.may_leave D.left_since disk.old disk.new }
 {
@@ -67,7 +67,7 @@ fn admit_counted<D: Disk, L: Ledger>(
     requires parts { blank.parts ≡ L.parts }
     requires some { 0 < blank.parts }
     requires inside { g.now.dblocks ≤ D.size disk.old }
-    ensures admitted { IfOk result (λ admitted. ForSome (D.holds disk.old) (λ image. IsAdmission (asked_of options.now) g.now image admitted)) }
+    ensures admitted { IfOk result (λ admitted. ForSome (D.holds disk.old) (λ image. IsAdmission (repair_asked options.now) g.now image admitted)) }
     ensures cause { HasMendCause (D.faults disk.old) (D.faults disk.new) result }
     ensures disk { OnlyReads D.size D.holds D.write_faults D.writes D.tells_stops D.moment D.may_leave D.left_since disk.old disk.new }
 {
@@ -97,7 +97,7 @@ fn admit_counted<D: Disk, L: Ledger>(
 
 /// Whether a log that is not clean stands in the way.
 fn asks_log(options: &RepairOptions) -> bool
-    ensures { result ≡ asks_log (asked_of options.now) }
+    ensures { result ≡ asks_log (repair_asked options.now) }
 {
     !options.check && !options.drop_log
 }
@@ -111,7 +111,7 @@ fn is_dirty(log: LogState) -> bool
 
 /// A volume that is neither too large nor has a file that is not supported.
 fn take_view(options: &RepairOptions, log: LogState, catalog: Result<Catalog, Finding>) -> Admitted
-    ensures { HasAdmitted (away_if (asks_log (asked_of options.now) && is_dirty log) None) catalog result }
+    ensures { HasAdmitted (away_if (asks_log (repair_asked options.now) && is_dirty log) None) catalog result }
 {
     if asks_log(options) && is_dirty(log) {
         Admitted::DirtyLog
@@ -131,8 +131,8 @@ fn unless_dirty<D: Disk, L: Ledger>(
     steps: &mut Steps<L>,
 ) -> Result<Admitted, MendFault>
     requires inside { g.now.dblocks ≤ D.size disk.old }
-    requires refused { ForSome (D.holds disk.old) (λ image. HasAdmitted (refusal_of (refused (volume_of g.now) image)) (view g.now image) refusal) }
-    ensures admitted { IfOk result (λ admitted. ForSome (D.holds disk.old) (λ image. IsAdmission (asked_of options.now) g.now image admitted)) }
+    requires refused { ForSome (D.holds disk.old) (λ image. HasAdmitted (scan_refusal (refused (volume_of g.now) image)) (view g.now image) refusal) }
+    ensures admitted { IfOk result (λ admitted. ForSome (D.holds disk.old) (λ image. IsAdmission (repair_asked options.now) g.now image admitted)) }
     ensures cause { HasMendCause (D.faults disk.old) (D.faults disk.new) result }
     ensures disk { OnlyReads D.size D.holds D.write_faults D.writes D.tells_stops D.moment D.may_leave D.left_since disk.old disk.new }
 {

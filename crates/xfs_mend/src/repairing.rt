@@ -2,6 +2,7 @@
 
 ghost use Rattle.std.specs.Prelude.{◌≡◌, ◌-◌, ◌≤◌, ◌⊎◌, ℕ, false, true, length, Ok, Some};
 ghost use Rattle.std.specs.Option.{ForSome};
+ghost use Rattle.xfs_disk.specs.Counts.{raised_times};
 ghost use Rattle.xfs_disk.specs.Blocks.{Image};
 ghost use Rattle.xfs_disk.specs.Reads.{OnlyReads};
 ghost use Rattle.xfs_geom.specs.Election.{elected};
@@ -9,12 +10,11 @@ ghost use Rattle.xfs_geom.specs.Electing.{vote_of};
 ghost use Rattle.xfs_geom.specs.Volumes.{volume_of, stated_volume};
 ghost use Rattle.xfs_laws.specs.Lawful.{broken_law};
 ghost use Rattle.xfs_image.specs.Consistent.{finding};
-ghost use Rattle.xfs_writing.specs.Counting.{raised_times};
-ghost use Rattle.xfs_mend.specs.Asked.{Asked, asked_of};
+ghost use Rattle.xfs_mend.specs.Asked.{Asked, repair_asked};
 ghost use Rattle.xfs_mend.specs.Backups.{steps_from};
-ghost use Rattle.xfs_mend.specs.Due.{CanCome, IsDue, IsOwed, due_found, due_volume, is_backup};
-ghost use Rattle.xfs_mend.specs.Ending.{Ends};
-ghost use Rattle.xfs_mend.specs.Outcome.{IsCaused, IsKept, Leaves, LeavesOf, StopsBy, StopsOf, blocks_told, is_quiet};
+ghost use Rattle.xfs_mend.specs.Due.{CanCome, IsDueRepair, IsOwed, due_found, due_volume, is_backup};
+ghost use Rattle.xfs_mend.specs.Private.Ending.{Ends};
+ghost use Rattle.xfs_mend.specs.Outcome.{IsRepairCause, IsDurableRepair, RepairLeaves, LeavesOf, StopsBy, StopsOf, blocks_told, is_quiet};
 ghost use Rattle.xfs_mend.specs.declared.outcome.Outcome.TheVariants.{Repaired};
 ghost use Rattle.xfs_mend.specs.declared.outcome.Summary.TheVariants.{Backups};
 
@@ -43,17 +43,17 @@ pub fn repair<R: Threads + Sync, D: Disk, G: Gate>(
     _stamp: &Stamp,
     _gate: &G,
 ) -> Outcome
-    ensures due { ForSome (D.holds disk.old) (λ image. IsDue (asked_of options.now) image result) }
-    ensures cause { IsCaused (D.faults disk.old) (D.faults disk.new) (D.write_faults disk.old) (D.write_faults disk.new) result }
-    ensures leaves { ForSome (D.holds disk.old) (λ image. Leaves image (D.holds disk.new) result) }
-    ensures kept { IsKept (D.tells_stops disk.old) (D.holds disk.new) (D.may_leave disk.new) result }
+    ensures due { ForSome (D.holds disk.old) (λ image. IsDueRepair (repair_asked options.now) image result) }
+    ensures cause { IsRepairCause (D.faults disk.old) (D.faults disk.new) (D.write_faults disk.old) (D.write_faults disk.new) result }
+    ensures leaves { ForSome (D.holds disk.old) (λ image. RepairLeaves image (D.holds disk.new) result) }
+    ensures kept { IsDurableRepair (D.tells_stops disk.old) (D.holds disk.new) (D.may_leave disk.new) result }
     // just so many blocks were written as the outcome says: none after every outcome but a repair and a write fault
     ensures counted { D.writes disk.new ≡ raised_times (blocks_told result) (D.writes disk.old) }
     // after these outcomes the disk was only read
     ensures only_read { is_quiet result ≡ true → OnlyReads D.size D.holds D.write_faults D.writes D.tells_stops D.moment D.may_leave D.left_since disk.old disk.new }
     // where the image is only checked nothing is written, whatever the disk tells
     ensures checked { options.now.check ≡ true → D.writes disk.new ≡ D.writes disk.old }
-    ensures possible { CanCome (asked_of options.now) result }
+    ensures possible { CanCome (repair_asked options.now) result }
     // a stop leaves what it might have left before, or, while the plan is written, old and planned blocks
     ensures stops { D.tells_stops disk.old → ForSome (D.holds disk.old) (λ image.
         (t : ℕ) (stopped : Image) → t ≤ D.moment disk.old → D.left_since disk.new t stopped → D.left_since disk.old t stopped ⊎ StopsBy image result stopped) }
@@ -73,11 +73,11 @@ fn repair_disk<R: Threads + Sync, D: Disk>(
     disk: &mut D,
     options: &RepairOptions,
 ) -> Outcome
-    ensures due { ForSome (D.holds disk.old) (λ image. IsDue (asked_of options.now) image result) }
-    ensures leaves { ForSome (D.holds disk.old) (λ image. Leaves image (D.holds disk.new) result) }
+    ensures due { ForSome (D.holds disk.old) (λ image. IsDueRepair (repair_asked options.now) image result) }
+    ensures leaves { ForSome (D.holds disk.old) (λ image. RepairLeaves image (D.holds disk.new) result) }
     ensures stops { D.tells_stops disk.old → ForSome (D.holds disk.old) (λ image.
         (t : ℕ) (stopped : Image) → t ≤ D.moment disk.old → D.left_since disk.new t stopped → D.left_since disk.old t stopped ⊎ StopsBy image result stopped) }
-    ensures possible { CanCome (asked_of options.now) result }
+    ensures possible { CanCome (repair_asked options.now) result }
     ensures ends { Ends D.size D.holds D.faults D.write_faults D.writes D.tells_stops D.moment D.may_leave D.left_since disk.old disk.new result }
 {
     let elected = match elect(alloc, disk) {
@@ -105,11 +105,11 @@ fn repair_volume<R: Threads + Sync, D: Disk>(
     requires stated { volume_of chosen.now.geometry ≡ stated_volume chosen.now.sector }
     requires inside { chosen.now.geometry.dblocks ≤ D.size disk.old }
     requires elects { ForSome (D.holds disk.old) (λ image. elected image ≡ Ok (vote_of chosen.now)) }
-    ensures due { ForSome (D.holds disk.old) (λ image. IsOwed (due_volume (asked_of options.now) chosen.now.geometry image) result) }
-    ensures leaves { ForSome (D.holds disk.old) (λ image. Leaves image (D.holds disk.new) result) }
+    ensures due { ForSome (D.holds disk.old) (λ image. IsOwed (due_volume (repair_asked options.now) chosen.now.geometry image) result) }
+    ensures leaves { ForSome (D.holds disk.old) (λ image. RepairLeaves image (D.holds disk.new) result) }
     ensures stops { D.tells_stops disk.old → ForSome (D.holds disk.old) (λ image.
         (t : ℕ) (stopped : Image) → t ≤ D.moment disk.old → D.left_since disk.new t stopped → D.left_since disk.old t stopped ⊎ StopsBy image result stopped) }
-    ensures possible { CanCome (asked_of options.now) result }
+    ensures possible { CanCome (repair_asked options.now) result }
     ensures ends { Ends D.size D.holds D.faults D.write_faults D.writes D.tells_stops D.moment D.may_leave D.left_since disk.old disk.new result }
 {
     let view = match admit(alloc, disk, options, &chosen.geometry) {
@@ -126,7 +126,7 @@ fn repair_volume<R: Threads + Sync, D: Disk>(
         Err(MendFault::NoMemory) => return Outcome::NoMemory,
     };
     match find_first(rt, alloc, disk, chosen, &view) {
-        Ok(Some(found)) => settle(alloc, disk, options, chosen, found),
+        Ok(Some(found)) => answer_found(alloc, disk, options, chosen, found),
         Ok(None) => Outcome::Clean,
         Err(MendFault::ReadFault) => Outcome::ReadFault {
             faults: disk.faults(),
@@ -136,7 +136,7 @@ fn repair_volume<R: Threads + Sync, D: Disk>(
 }
 
 /// What comes of a volume in which this is found first.
-fn settle<D: Disk>(
+fn answer_found<D: Disk>(
     alloc: Global,
     disk: &mut D,
     options: &RepairOptions,
@@ -148,11 +148,11 @@ fn settle<D: Disk>(
     requires inside { chosen.now.geometry.dblocks ≤ D.size disk.old }
     requires elects { ForSome (D.holds disk.old) (λ image. elected image ≡ Ok (vote_of chosen.now)) }
     requires found { ForSome (D.holds disk.old) (λ image. Some found ≡ finding broken_law chosen.now.geometry image) }
-    ensures due { ForSome (D.holds disk.old) (λ image. IsOwed (due_found (asked_of options.now) image (Some found)) result) }
-    ensures leaves { ForSome (D.holds disk.old) (λ image. Leaves image (D.holds disk.new) result) }
+    ensures due { ForSome (D.holds disk.old) (λ image. IsOwed (due_found (repair_asked options.now) image (Some found)) result) }
+    ensures leaves { ForSome (D.holds disk.old) (λ image. RepairLeaves image (D.holds disk.new) result) }
     ensures stops { D.tells_stops disk.old → ForSome (D.holds disk.old) (λ image.
         (t : ℕ) (stopped : Image) → t ≤ D.moment disk.old → D.left_since disk.new t stopped → D.left_since disk.old t stopped ⊎ StopsBy image result stopped) }
-    ensures possible { CanCome (asked_of options.now) result }
+    ensures possible { CanCome (repair_asked options.now) result }
     ensures ends { Ends D.size D.holds D.faults D.write_faults D.writes D.tells_stops D.moment D.may_leave D.left_since disk.old disk.new result }
 {
     if options.check {

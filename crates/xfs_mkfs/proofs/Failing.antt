@@ -3,9 +3,9 @@ use Rattle.std.proofs.Common.{◌≡◌, ℕ, ◌⊎◌, inl, inr, Bool, List, O
 use Rattle.xfs_disk.specs.Blocks.{Image}
 use Rattle.xfs_disk.specs.declared.stamp.Stamp.{Stamp}
 use Rattle.xfs_geom.specs.declared.geometry.Geometry.{Geometry}
-use Rattle.xfs_options.specs.declared.making.MakeOptions.{MakeOptions}
+use Rattle.xfs_options.specs.declared.make_words.MakeOptions.{MakeOptions}
 use Rattle.xfs_place.specs.Wanted.{FindsNoRoom}
-use Rattle.xfs_place.specs.declared.faults.Place.{Place}
+use Rattle.xfs_place.specs.declared.faults.Unplaced.{Unplaced}
 use Rattle.xfs_place.specs.declared.faults.PlaceFault.{PlaceFault}
 use Rattle.xfs_place.specs.declared.faults.PlaceFault.TheVariants as Placing
 use Rattle.xfs_render.specs.declared.plan.Plan.{Plan}
@@ -13,22 +13,22 @@ use Rattle.xfs_empty.specs.Placing.{empty_wanted}
 use Rattle.xfs_empty.specs.Planning.{HasRoom}
 use Rattle.xfs_mkfs.specs.Counts.{CountsBlocks, IsUnwritten, looked, reads_at}
 use Rattle.xfs_mkfs.specs.Due.{IsGeometry, refusal}
-use Rattle.xfs_mkfs.specs.Outcome.{IsCaused, IsDue, IsPlanOf, IsPlanned, Leaves, place_answer, put_answer}
+use Rattle.xfs_mkfs.specs.Outcome.{IsMakingCause, IsDueMake, IsPlanOf, IsPlanned, MakeLeaves, place_answer, put_answer}
 use Rattle.xfs_mkfs.specs.Putting.{CountsPut, HasPutCause, LeavesUnput}
-use Rattle.xfs_mkfs.specs.Stops.{IsKept, IsMadeStopped, StopLeaves}
+use Rattle.xfs_mkfs.specs.Stops.{IsDurableMake, IsMadeStopped, StopLeaves}
 use Rattle.xfs_mkfs.specs.declared.volume.PutFault.{PutFault}
 use Rattle.xfs_mkfs.specs.declared.volume.PutFault.TheVariants as Put
 
-same_place : (what other : Place) → Placing.NoRoom what ≡ Placing.NoRoom other → other ≡ what
+same_place : (what other : Unplaced) → Placing.NoRoom what ≡ Placing.NoRoom other → other ≡ what
 same_place what other h = cc
 
-no_memory : (what : Place) → Placing.NoRoom what ≡ Placing.NoMemory → ⊥
+no_memory : (what : Unplaced) → Placing.NoRoom what ≡ Placing.NoMemory → ⊥
 no_memory what h = cc
 
 pub due_placing : (o : MakeOptions) (s : Stamp) (blocks : ℕ) (image : Image) (g : Geometry) → refusal o blocks image ≡ None → IsGeometry o s blocks g
     → (fault : PlaceFault)
-    → (fault ≡ Placing.NoMemory) ⊎ ((what : Place) × (fault ≡ Placing.NoRoom what) × FindsNoRoom (empty_wanted g) what)
-    → IsDue o s blocks image (place_answer fault)
+    → (fault ≡ Placing.NoMemory) ⊎ ((what : Unplaced) × (fault ≡ Placing.NoRoom what) × FindsNoRoom (empty_wanted g) what)
+    → IsDueMake o s blocks image (place_answer fault)
 due_placing o s blocks image g none chosen Placing.NoMemory cause = tt
 due_placing o s blocks image g none chosen (Placing.NoRoom what) (inl is) = absurd (no_memory what is)
 due_placing o s blocks image g none chosen (Placing.NoRoom what) (inr found) = (
@@ -36,27 +36,27 @@ due_placing o s blocks image g none chosen (Placing.NoRoom what) (inr found) = (
   record {
     geometry = g;
     chosen = chosen;
-    none = subst (λ (w : Place). FindsNoRoom (empty_wanted g) w) (same_place what found.0 found.1) found.2;
+    none = subst (λ (w : Unplaced). FindsNoRoom (empty_wanted g) w) (same_place what found.0 found.1) found.2;
   },
 )
 
-pub caused_placing : (a b c d : ℕ) (fault : PlaceFault) → IsCaused a b c d (place_answer fault)
+pub caused_placing : (a b c d : ℕ) (fault : PlaceFault) → IsMakingCause a b c d (place_answer fault)
 caused_placing a b c d Placing.NoMemory = tt
 caused_placing a b c d (Placing.NoRoom what) = tt
 
 pub due_putting : (o : MakeOptions) (s : Stamp) (blocks : ℕ) (image : Image) (g : Geometry) → refusal o blocks image ≡ None → IsGeometry o s blocks g
-    → HasRoom (empty_wanted g) → (fault : PutFault) → IsDue o s blocks image (put_answer fault)
+    → HasRoom (empty_wanted g) → (fault : PutFault) → IsDueMake o s blocks image (put_answer fault)
 due_putting o s blocks image g none chosen room Put.NoMemory = tt
 due_putting o s blocks image g none chosen room (Put.Failed n) = (none, record { geometry = g; chosen = chosen; room = room })
 
 pub leaves_putting : (o : MakeOptions) (s : Stamp) (blocks : ℕ) (image : Image) (now : Option Image) (g : Geometry) (plan : Plan)
     → IsGeometry o s blocks g → IsPlanned g o.label s plan → (fault : PutFault) → LeavesUnput plan image now fault
-    → Leaves o s blocks image now (put_answer fault)
+    → MakeLeaves o s blocks image now (put_answer fault)
 leaves_putting o s blocks image now g plan chosen is Put.NoMemory left = left
 leaves_putting o s blocks image now g plan chosen is (Put.Failed n) left =
     record { geometry = g; chosen = chosen; plan = plan; planned = is; put = left }
 
-pub caused_putting : (a b c d : ℕ) (fault : PutFault) → HasPutCause c d (Err fault) → IsCaused a b c d (put_answer fault)
+pub caused_putting : (a b c d : ℕ) (fault : PutFault) → HasPutCause c d (Err fault) → IsMakingCause a b c d (put_answer fault)
 caused_putting a b c d Put.NoMemory cause = tt
 caused_putting a b c d (Put.Failed n) cause = cause
 
@@ -79,7 +79,7 @@ pub counts_putting : (o : MakeOptions) (s : Stamp) (blocks before now : ℕ) (pl
 counts_putting o s blocks before now plan due Put.NoMemory counted = counted
 counts_putting o s blocks before now plan due (Put.Failed n) counted = record { plan = plan; due = due; most = counted.0; counted = counted.1 }
 
-pub kept_putting : (tells : Type 0) (now : Option Image) (may_leave : ℕ → List ℕ → Type 0) (fault : PutFault) → IsKept tells now may_leave (put_answer fault)
+pub kept_putting : (tells : Type 0) (now : Option Image) (may_leave : ℕ → List ℕ → Type 0) (fault : PutFault) → IsDurableMake tells now may_leave (put_answer fault)
 kept_putting tells now may_leave Put.NoMemory = tt
 kept_putting tells now may_leave (Put.Failed n) = tt
 

@@ -6,9 +6,9 @@ use Rattle.xfs_geom.proofs.Votes.{left}
 use Rattle.xfs_geom.specs.First.{first_false}
 use Rattle.xfs_geom.specs.Volumes.{volume_of}
 use Rattle.xfs_geom.specs.declared.geometry.Geometry.{Geometry}
-use Rattle.xfs_options.specs.declared.making.MakeOptions.{MakeOptions}
+use Rattle.xfs_options.specs.declared.make_words.MakeOptions.{MakeOptions}
 use Rattle.xfs_sizing.proofs.Shapes.{log_behind}
-use Rattle.xfs_sizing.specs.Sizes.{are_groups, fits_disk, groups_of, has_log, log_blocks, too_small, volume_blocks}
+use Rattle.xfs_sizing.specs.Sizes.{are_groups, fits_disk, groups_of, has_log_room, log_blocks, too_small, volume_blocks}
 use Rattle.xfs_sizing.specs.declared.asked.Asked.{Asked}
 use Rattle.xfs_empty.specs.Geometry.{HasFirstChunk}
 use Rattle.xfs_mkfs.specs.Due.{IsGeometry, asked_of}
@@ -24,7 +24,7 @@ on_disk a blocks h =
     let d = volume_blocks a blocks in
     let groups = groups_of a d in
     let fits : fits_disk d blocks ≡ true =
-    first_holds 1 (fits_disk d blocks) ((2, are_groups groups d) ∷ (3, has_log groups d (log_blocks a.logblocks groups d)) ∷ []) h in
+    first_holds 1 (fits_disk d blocks) ((2, are_groups groups d) ∷ (3, has_log_room groups d (log_blocks a.logblocks groups d)) ∷ []) h in
     leb-true d blocks (left (nat_le d blocks) (nat_le d (2 ^ 26)) fits)
 
 -- the geometry that is chosen has the first chunk before its log

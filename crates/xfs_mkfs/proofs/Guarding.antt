@@ -12,26 +12,26 @@ use Rattle.xfs_disk.specs.declared.stamp.Stamp.{Stamp}
 use Rattle.xfs_geom.specs.declared.geometry.Geometry.{Geometry}
 use Rattle.xfs_place.specs.Pool.{is_taken}
 use Rattle.xfs_render.specs.Plans.{IsOnce, planned}
-use Rattle.xfs_render.specs.Rendering.{blocks_in_place, log_blocks}
+use Rattle.xfs_render.specs.Rendering.{blocks_in_place, log_places}
 use Rattle.xfs_render.specs.declared.bytes.Bytes.{Bytes}
 use Rattle.xfs_render.specs.declared.plan.Plan.{Plan}
-use Rattle.xfs_empty.specs.Bytes.{head_places}
+use Rattle.xfs_empty.specs.Bytes.{header_places}
 use Rattle.xfs_empty.specs.Placing.{chunk_run, empty_wanted}
 use Rattle.xfs_empty.specs.Planning.{IsEmptyPlan}
 use Rattle.xfs_made.proofs.Once.{planned_once}
 use Rattle.xfs_writing.proofs.Steps.{written-append}
 use Rattle.xfs_writing.specs.Stopped.{IsStopped}
-use Rattle.xfs_writing.specs.Writing.{Writes, write_of, written, writes_of}
+use Rattle.xfs_writing.specs.Writing.{Writes, write_of, written, writes_of_rows}
 use Rattle.xfs_writing.specs.declared.rows.Row.{Row}
-use Rattle.xfs_options.specs.declared.making.MakeOptions.{MakeOptions}
+use Rattle.xfs_options.specs.declared.make_words.MakeOptions.{MakeOptions}
 use Rattle.xfs_mkfs.proofs.Geometries.{first_chunk}
 use Rattle.xfs_mkfs.proofs.Held.{count_rows, one_if}
 use Rattle.xfs_mkfs.proofs.Rows.{count_from, row_is}
 use Rattle.xfs_mkfs.specs.Due.{IsGeometry}
-use Rattle.xfs_mkfs.specs.Order.{AreRows, all_writes, first_part, last_part, rows_of}
+use Rattle.xfs_mkfs.specs.Order.{AreRowsOfPlan, all_writes, first_part, last_part, plan_rows}
 use Rattle.xfs_mkfs.specs.Outcome.{IsPlanned}
 use Rattle.xfs_mkfs.specs.Putting.{IsPutStopped}
-use Rattle.xfs_mkfs.specs.Stops.{IsGuarded, IsMadeStopped}
+use Rattle.xfs_mkfs.specs.Stops.{HasPrimaryLast, IsMadeStopped}
 
 -- what stands first in a list and passes is kept
 kept_first : (p : ℕ → Bool) (x : ℕ) (xs ys : List ℕ) → p x ≡ true → Contains (filter p (x ∷ xs) ++ ys) x
@@ -45,10 +45,10 @@ zero_open : (place : ℕ) → place ≡ 0 → is_open place ≡ true
 unfolding is_taken
 zero_open place none = subst (λ (n : ℕ). is_open n ≡ true) (sym none) refl
 
-zero_kept : (w n : ℕ) (rest log : List ℕ) → 2 ≤ n → Contains (filter is_open (head_places w n ++ rest) ++ log) 0
+zero_kept : (w n : ℕ) (rest log : List ℕ) → 2 ≤ n → Contains (filter is_open (header_places w n ++ rest) ++ log) 0
 zero_kept w zero rest log some = absurd (omega (arith, some))
 zero_kept w (suc n) rest log some =
-    subst (λ (place : ℕ). Contains (filter is_open (head_places w (suc n) ++ rest) ++ log) place) (no_group w)
+    subst (λ (place : ℕ). Contains (filter is_open (header_places w (suc n) ++ rest) ++ log) place) (no_group w)
     (kept_first is_open (0 * w) (map (λ ag. ag * w) (range_with_len 1 n) ++ rest) log (zero_open (0 * w) (no_group w)))
   where
     no_group : (w : ℕ) → 0 * w ≡ 0
@@ -59,8 +59,8 @@ has_zero g sector s plan is =
     let b : Bytes = is.bytes in
     let w = empty_wanted g in
     let here : Contains (blocks_in_place w b) 0 =
-    subst (λ (ps : List ℕ). Contains (filter is_open ps ++ log_blocks w b.cycle) 0) (sym is.made.places')
-    (zero_kept g.agblocks g.agcount (range_with_len 16 8) (log_blocks w b.cycle) g.shape.groups.two) in
+    subst (λ (ps : List ℕ). Contains (filter is_open ps ++ log_places w b.cycle) 0) (sym is.made.places')
+    (zero_kept g.agblocks g.agcount (range_with_len 16 8) (log_places w b.cycle) g.shape.groups.two) in
     Contains-append_right plan.fresh plan.in_place 0 (Contains-permutation (blocks_in_place w b) plan.in_place 0 is.is.rendered.in_place here)
 
 -- the first of rows that ascend is at block 0, where one is
@@ -97,7 +97,7 @@ pub record AreGuarded (rows : List Row) : Type 0 where
   pub last : All (λ (r : Row). r.at ≡ 0) (last_part rows)
   pub first : All (λ (r : Row). 1 ≤ r.at) (first_part rows)
 
-pub guarded_rows : (plan : Plan) (rows : List Row) → AreRows plan rows → IsOnce (planned plan) → Contains (planned plan) 0 → AreGuarded rows
+pub guarded_rows : (plan : Plan) (rows : List Row) → AreRowsOfPlan plan rows → IsOnce (planned plan) → Contains (planned plan) 0 → AreGuarded rows
 guarded_rows plan rows are once there =
     record { last = low; first = first_above rows low few }
   where
@@ -107,18 +107,18 @@ guarded_rows plan rows are once there =
     low : All (λ (r : Row). r.at ≡ 0) (last_part rows)
     low =
         last_zero rows row are.ascend there.2
-        (Contains-permutation (rows_of plan) rows row are.all
+        (Contains-permutation (plan_rows plan) rows row are.all
         (there.0, omega (arith, count_from 0 (planned plan), there.1), row_is 0 (planned plan) there.0 row there.1))
 
     few : sum_by (λ (r : Row). one_if (r.at == 0)) rows ≤ 1
     few =
-        let same = sum_by-IsPermutation (λ (r : Row). one_if (r.at == 0)) (rows_of plan) rows are.all in
+        let same = sum_by-IsPermutation (λ (r : Row). one_if (r.at == 0)) (plan_rows plan) rows are.all in
         let all = count_rows 0 0 (planned plan) in
         omega (arith, same, all, once.each 0)
 
 -- what holds of the blocks of rows holds of each that is written
 written_at : (P : ℕ → Type 0) (bank : Image) (rows : List Row) (b : ℕ) (v : List ℕ) → All (λ (r : Row). P r.at) rows
-    → Contains (writes_of bank rows) (b, v) → P b
+    → Contains (writes_of_rows bank rows) (b, v) → P b
 written_at P bank rows b v all there =
     let d : Row = record { at = 0; index = 0 } in
     let low : there.0 < length rows = omega (arith, length-map rows (write_of bank), there.1) in
@@ -133,15 +133,15 @@ set_first (block ∷ image) bytes zero zero low some = absurd (omega (arith, som
 set_first (block ∷ image) bytes zero (suc b) low some = refl
 
 others_stay : (bank : Image) (rows : List Row) (image : Image) (b : ℕ) → All (λ (r : Row). r.at ≡ 0) rows → 1 ≤ b
-    → slice_get (written (writes_of bank rows) image) b ≡ slice_get image b
+    → slice_get (written (writes_of_rows bank rows) image) b ≡ slice_get image b
 others_stay bank [] image b low some = refl
 others_stay bank (r ∷ rows) image b low some =
     others_stay bank rows (slice_set image r.at (get_or bank r.index [])) b (All-tail (λ (o : Row). o.at ≡ 0) r rows low) some
     ∙ set_first image (get_or bank r.index []) r.at b (All-head (λ (o : Row). o.at ≡ 0) r rows low) some
 
 pub guarded_stop : (plan : Plan) (rows : List Row) (image stopped : Image) → AreGuarded rows
-    → IsStopped (writes_of plan.bank (first_part rows)) (writes_of plan.bank (last_part rows)) image stopped
-    → IsGuarded image (written (all_writes plan rows) image) stopped
+    → IsStopped (writes_of_rows plan.bank (first_part rows)) (writes_of_rows plan.bank (last_part rows)) image stopped
+    → HasPrimaryLast image (written (all_writes plan rows) image) stopped
 guarded_stop plan rows image stopped are (inl mixed) = inl (λ v is. elim (mixed.each 0 v is) [
   | inl old ↦ old
   | inr new ↦ let above = written_at (λ (at : ℕ). 1 ≤ at) plan.bank (first_part rows) 0 v are.first new in absurd (omega (arith, above))
@@ -151,8 +151,8 @@ guarded_stop plan rows image stopped are (inr mixed) = inr (λ b v some is. elim
       let first = first_part rows in
       let last = last_part rows in
       ap (λ (ws : Writes). slice_get (written ws image) b) (map-append (write_of plan.bank) first last)
-      ∙ (ap (λ (i : Image). slice_get i b) (written-append (writes_of plan.bank first) (writes_of plan.bank last) image)
-      ∙ (others_stay plan.bank last (written (writes_of plan.bank first) image) b are.last some ∙ old))
+      ∙ (ap (λ (i : Image). slice_get i b) (written-append (writes_of_rows plan.bank first) (writes_of_rows plan.bank last) image)
+      ∙ (others_stay plan.bank last (written (writes_of_rows plan.bank first) image) b are.last some ∙ old))
   | inr new ↦ let zero : b ≡ 0 = written_at (λ (at : ℕ). at ≡ 0) plan.bank (last_part rows) b v are.last new in absurd (omega (arith, zero, some))
 ])
 

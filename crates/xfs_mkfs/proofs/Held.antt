@@ -8,13 +8,13 @@ use Rattle.std.proofs.lemmas.List.{get_or-map, get_or-set_other, get_or-set_same
 use Rattle.std.proofs.lemmas.List.Sorted.{Contains-permutation, IsPermutation-append_comm, IsPermutation-trans, sum_by-IsPermutation}
 use Rattle.std.proofs.lemmas.List.Sums.{sum_by-cons}
 use Rattle.xfs_disk.specs.Blocks.{Image}
-use Rattle.xfs_tree.specs.Reading.{bytes_at}
+use Rattle.xfs_tree.specs.Reading.{bytes_of_block}
 use Rattle.xfs_render.specs.Plans.{HoldsPlan, IsOnce, planned}
 use Rattle.xfs_render.specs.declared.plan.Plan.{Plan}
 use Rattle.xfs_mkfs.proofs.Rows.{count_from, row_is}
-use Rattle.xfs_writing.specs.Writing.{Writes, write_of, written}
+use Rattle.xfs_writing.specs.Writing.{Writes, write_of, written, rows_from}
 use Rattle.xfs_writing.specs.declared.rows.Row.{Row}
-use Rattle.xfs_mkfs.specs.Order.{AreRows, all_writes, first_part, last_part, rows_from, rows_of}
+use Rattle.xfs_mkfs.specs.Order.{AreRowsOfPlan, all_writes, first_part, last_part, plan_rows}
 
 abbrev pub one_if : Bool → ℕ
 one_if t = if t then 1 else 0
@@ -30,7 +30,7 @@ differs : (a b : ℕ) → one_if (a == b) ≡ 0 → b ≡ a → ⊥
 differs a b none same = absurd (omega (arith, none, is_one a b (sym same)))
 
 -- a block stays at which nothing is written
-stays : (writes : Writes) (image : Image) (at : ℕ) → count_at at writes ≡ 0 → bytes_at (written writes image) at ≡ bytes_at image at
+stays : (writes : Writes) (image : Image) (at : ℕ) → count_at at writes ≡ 0 → bytes_of_block (written writes image) at ≡ bytes_of_block image at
 stays [] image at none = refl
 stays (w ∷ ws) image at none =
     let one = λ (o : ℕ × List ℕ). one_if (o.0 == at) in
@@ -40,7 +40,7 @@ stays (w ∷ ws) image at none =
 
 -- a block has what was written at it, where that was one write
 lands : (writes : Writes) (image : Image) (k : ℕ) (d : ℕ × List ℕ) → k < length writes → count_at (get_or writes k d).0 writes ≤ 1
-    → (get_or writes k d).0 < length image → bytes_at (written writes image) (get_or writes k d).0 ≡ (get_or writes k d).1
+    → (get_or writes k d).0 < length image → bytes_of_block (written writes image) (get_or writes k d).0 ≡ (get_or writes k d).1
 lands [] image k d low once inside = absurd (omega (arith, low))
 lands (w ∷ ws) image zero d low once inside =
     let one = λ (o : ℕ × List ℕ). one_if (o.0 == w.0) in
@@ -83,32 +83,32 @@ zero_plus n = omega arith
 last_moves : (rows : List Row) → IsPermutation rows (in_order rows)
 last_moves rows = subst (λ (xs : List Row). IsPermutation xs (in_order rows)) (take-append-drop 1 rows) (IsPermutation-append_comm (take 1 rows) (drop 1 rows))
 
-pub plan_held : (plan : Plan) (rows : List Row) (image : Image) → AreRows plan rows → IsOnce (planned plan)
+pub plan_held : (plan : Plan) (rows : List Row) (image : Image) → AreRowsOfPlan plan rows → IsOnce (planned plan)
     → All (λ place. place < length image) (planned plan) → HoldsPlan (written (all_writes plan rows) image) plan
 plan_held plan rows image are once inside = record { each = at_place }
   where
-    moved : IsPermutation (rows_of plan) (in_order rows)
-    moved = IsPermutation-trans (rows_of plan) rows (in_order rows) are.all (last_moves rows)
+    moved : IsPermutation (plan_rows plan) (in_order rows)
+    moved = IsPermutation-trans (plan_rows plan) rows (in_order rows) are.all (last_moves rows)
 
     few : (at : ℕ) → count_at at (all_writes plan rows) ≤ 1
     few at =
         let writes = count_writes plan.bank at (in_order rows) in
-        let same = sum_by-IsPermutation (λ (r : Row). one_if (r.at == at)) (rows_of plan) (in_order rows) moved in
+        let same = sum_by-IsPermutation (λ (r : Row). one_if (r.at == at)) (plan_rows plan) (in_order rows) moved in
         let all = count_rows 0 at (planned plan) in
         omega (arith, writes, same, all, once.each at)
 
-    at_place : (j : ℕ) → j < length (planned plan) → bytes_at (written (all_writes plan rows) image) (get_or (planned plan) j 0) ≡ get_or plan.bank j []
+    at_place : (j : ℕ) → j < length (planned plan) → bytes_of_block (written (all_writes plan rows) image) (get_or (planned plan) j 0) ≡ get_or plan.bank j []
     at_place j low =
         let place = get_or (planned plan) j 0 in
         let row : Row = record { at = place; index = j } in
         let d : ℕ × List ℕ = (0, []) in
-        let there : Contains (rows_of plan) row = (j, omega (arith, count_from 0 (planned plan), low), row_is 0 (planned plan) j row low ∙ ap (λ (n : ℕ). record { at = place; index = n }) (zero_plus j)) in
-        let found = Contains-permutation (rows_of plan) (in_order rows) row moved there in
+        let there : Contains (plan_rows plan) row = (j, omega (arith, count_from 0 (planned plan), low), row_is 0 (planned plan) j row low ∙ ap (λ (n : ℕ). record { at = place; index = n }) (zero_plus j)) in
+        let found = Contains-permutation (plan_rows plan) (in_order rows) row moved there in
         let is : get_or (all_writes plan rows) found.0 d ≡ write_of plan.bank row =
         get_or-map (write_of plan.bank) (in_order rows) found.0 row d found.1 ∙ ap (write_of plan.bank) found.2 in
         let at : (get_or (all_writes plan rows) found.0 d).0 ≡ place = ap (λ (w : ℕ × List ℕ). w.0) is in
         let count : length (all_writes plan rows) ≡ length (in_order rows) = length-map (in_order rows) (write_of plan.bank) in
-        ap (bytes_at (written (all_writes plan rows) image)) (sym at)
+        ap (bytes_of_block (written (all_writes plan rows) image)) (sym at)
         ∙ lands (all_writes plan rows) image found.0 d (omega (arith, count, found.1)) (few (get_or (all_writes plan rows) found.0 d).0)
         (subst (λ (n : ℕ). n < length image) (sym at) (inside j 0 low))
         ∙ ap (λ (w : ℕ × List ℕ). w.1) is

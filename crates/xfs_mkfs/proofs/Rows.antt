@@ -3,10 +3,11 @@ use Rattle.std.proofs.Common.{◌≡◌, ℕ, zero, suc, ◌+◌, ◌<◌, List,
 use Rattle.std.specs.List.{All}
 use Rattle.std.proofs.lemmas.List.{append_assoc, take_more}
 use Rattle.std.proofs.lemmas.List.Sorted.{All-permutation}
+use Rattle.xfs_writing.specs.Writing.{rows_from}
 use Rattle.xfs_render.specs.Plans.{planned}
 use Rattle.xfs_render.specs.declared.plan.Plan.{Plan}
 use Rattle.xfs_writing.specs.declared.rows.Row.{Row}
-use Rattle.xfs_mkfs.specs.Order.{AreRows, rows_from, rows_of}
+use Rattle.xfs_mkfs.specs.Order.{AreRowsOfPlan, plan_rows}
 
 pub count_from : (index : ℕ) (places : List ℕ) → length (rows_from index places) ≡ length places
 count_from index [] = refl
@@ -58,17 +59,17 @@ both_parts first all a b begun ended =
     ended ∙ ap₂ (λ (rows : List Row) (n : ℕ). rows ++ rows_from n b) begun count ∙ sym (from_append 0 a b)
 
 -- what holds of the numbers of all blocks
-pub all_at : (P : ℕ → Type 0) (plan : Plan) (rows : List Row) → AreRows plan rows → All P (planned plan) → All (λ (r : Row). P r.at) rows
+pub all_at : (P : ℕ → Type 0) (plan : Plan) (rows : List Row) → AreRowsOfPlan plan rows → All P (planned plan) → All (λ (r : Row). P r.at) rows
 all_at P plan rows are all =
-    All-permutation (λ (r : Row). P r.at) (rows_of plan) rows are.all
+    All-permutation (λ (r : Row). P r.at) (plan_rows plan) rows are.all
     (λ k d low.
     let inside : k < length (planned plan) = omega (arith, count_from 0 (planned plan), low) in
     subst (λ (r : Row). P r.at) (sym (row_is 0 (planned plan) k d inside)) (all k 0 inside))
 
 -- what holds of the indices
-pub all_index : (n : ℕ) (plan : Plan) (rows : List Row) → AreRows plan rows → n ≡ length (planned plan) → All (λ (r : Row). r.index < n) rows
+pub all_index : (n : ℕ) (plan : Plan) (rows : List Row) → AreRowsOfPlan plan rows → n ≡ length (planned plan) → All (λ (r : Row). r.index < n) rows
 all_index n plan rows are count =
-    All-permutation (λ (r : Row). r.index < n) (rows_of plan) rows are.all
+    All-permutation (λ (r : Row). r.index < n) (plan_rows plan) rows are.all
     (λ k d low.
     let inside : k < length (planned plan) = omega (arith, count_from 0 (planned plan), low) in
     subst (λ (r : Row). r.index < n) (sym (row_is 0 (planned plan) k d inside)) (omega (arith, inside, count)))

@@ -2,16 +2,16 @@
 use Rattle.std.proofs.Common.{◌≡◌, ℕ, List, Option, Some}
 use Rattle.xfs_disk.specs.Blocks.{Image}
 use Rattle.xfs_disk.specs.declared.stamp.Stamp.{Stamp}
-use Rattle.xfs_options.specs.declared.making.MakeOptions.{MakeOptions}
+use Rattle.xfs_options.specs.declared.make_words.MakeOptions.{MakeOptions}
 use Rattle.xfs_mkfs.specs.Counts.{CountsBlocks, IsUnwritten}
-use Rattle.xfs_mkfs.specs.Outcome.{Leaves}
-use Rattle.xfs_mkfs.specs.Stops.{IsKept}
+use Rattle.xfs_mkfs.specs.Outcome.{MakeLeaves}
+use Rattle.xfs_mkfs.specs.Stops.{IsDurableMake}
 use Rattle.xfs_mkfs.specs.declared.outcome.MakeOutcome.{MakeOutcome}
 use Rattle.xfs_mkfs.specs.declared.outcome.MakeOutcome.TheVariants as Out
 
 -- the disk holds what it held
 pub leaves_unwritten : (o : MakeOptions) (s : Stamp) (blocks : ℕ) (image : Image) (now : Option Image) (outcome : MakeOutcome) → IsUnwritten outcome
-    → now ≡ Some image → Leaves o s blocks image now outcome
+    → now ≡ Some image → MakeLeaves o s blocks image now outcome
 leaves_unwritten o s blocks image now (Out.Made summary) is held = absurd is
 leaves_unwritten o s blocks image now (Out.WriteFault n) is held = absurd is
 leaves_unwritten o s blocks image now (Out.TooSmall what) is held = held
@@ -35,7 +35,7 @@ counts_unwritten o s blocks before now (Out.Unbuilt request) is same = same
 
 -- nothing has to be kept
 pub kept_unwritten : (tells : Type 0) (now : Option Image) (may_leave : ℕ → List ℕ → Type 0) (outcome : MakeOutcome) → IsUnwritten outcome
-    → IsKept tells now may_leave outcome
+    → IsDurableMake tells now may_leave outcome
 kept_unwritten tells now may_leave (Out.Made summary) is = absurd is
 kept_unwritten tells now may_leave (Out.WriteFault n) is = tt
 kept_unwritten tells now may_leave (Out.TooSmall what) is = tt

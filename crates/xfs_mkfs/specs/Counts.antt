@@ -1,11 +1,10 @@
 -- How many blocks a call reads and writes, by a disk's counts.
 use Rattle.std.specs.Prelude.{◌≡◌, ℕ, ◌≤◌, Bool, if◌then◌else◌, length}
-use Rattle.xfs_disk.specs.Counts.{raised}
+use Rattle.xfs_disk.specs.Counts.{raised, raised_times}
 use Rattle.xfs_disk.specs.declared.stamp.Stamp.{Stamp}
-use Rattle.xfs_options.specs.declared.making.MakeOptions.{MakeOptions}
+use Rattle.xfs_options.specs.declared.make_words.MakeOptions.{MakeOptions}
 use Rattle.xfs_render.specs.Plans.{planned}
 use Rattle.xfs_render.specs.declared.plan.Plan.{Plan}
-use Rattle.xfs_writing.specs.Counting.{raised_times}
 use Rattle.xfs_mkfs.specs.Outcome.{IsPlanOf}
 use Rattle.xfs_mkfs.specs.declared.outcome.MakeOutcome.{MakeOutcome}
 use Rattle.xfs_mkfs.specs.declared.outcome.MakeOutcome.TheVariants as Out

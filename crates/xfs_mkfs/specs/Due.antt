@@ -4,10 +4,10 @@ use Rattle.std.specs.Option.{unwrap_or}
 use Rattle.xfs_disk.specs.Blocks.{Image}
 use Rattle.xfs_disk.specs.declared.stamp.Stamp.{Stamp}
 use Rattle.xfs_geom.specs.declared.geometry.Geometry.{Geometry}
-use Rattle.xfs_tree.specs.Reading.{bytes_at}
-use Rattle.xfs_sizing.specs.Sizes.{IsChosen, too_small}
+use Rattle.xfs_tree.specs.Reading.{bytes_of_block}
+use Rattle.xfs_sizing.specs.Sizes.{IsChosenGeometry, too_small}
 use Rattle.xfs_sizing.specs.declared.asked.Asked.{Asked}
-use Rattle.xfs_options.specs.declared.making.MakeOptions.{MakeOptions}
+use Rattle.xfs_options.specs.declared.make_words.MakeOptions.{MakeOptions}
 use Rattle.xfs_mkfs.specs.declared.outcome.MakeOutcome.{MakeOutcome}
 use Rattle.xfs_mkfs.specs.declared.outcome.MakeOutcome.TheVariants.{HasVolume, TooSmall, Unbuilt}
 
@@ -39,8 +39,8 @@ by_size None later = later
 unfoldable pub refusal : MakeOptions → ℕ → Image → Option MakeOutcome
 refusal o blocks image =
     if asks_files o then Some (Unbuilt 10)
-    else by_size (too_small (asked_of o) blocks) (by_volume (not o.force && begins_with_magic (bytes_at image 0)))
+    else by_size (too_small (asked_of o) blocks) (by_volume (not o.force && begins_with_magic (bytes_of_block image 0)))
 
 -- the geometry of the volume that is made on a disk of so many blocks
 abbrev pub IsGeometry : MakeOptions → Stamp → ℕ → Geometry → Type 0
-IsGeometry o s blocks g = IsChosen (asked_of o) blocks (identifier o s) g
+IsGeometry o s blocks g = IsChosenGeometry (asked_of o) blocks (identifier o s) g

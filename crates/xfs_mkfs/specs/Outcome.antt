@@ -7,7 +7,7 @@ use Rattle.xfs_disk.specs.declared.stamp.Stamp.{Stamp}
 use Rattle.xfs_geom.specs.Volumes.{volume_of}
 use Rattle.xfs_geom.specs.declared.geometry.Geometry.{Geometry}
 use Rattle.xfs_place.specs.Wanted.{FindsNoRoom}
-use Rattle.xfs_place.specs.declared.faults.Place.{Place}
+use Rattle.xfs_place.specs.declared.faults.Unplaced.{Unplaced}
 use Rattle.xfs_place.specs.declared.faults.PlaceFault.{PlaceFault}
 use Rattle.xfs_place.specs.declared.faults.PlaceFault.TheVariants as Placing
 use Rattle.xfs_render.specs.declared.plan.Plan.{Plan}
@@ -17,7 +17,7 @@ use Rattle.xfs_empty.specs.Planning.{HasRoom, IsEmptyPlan}
 use Rattle.xfs_made.specs.Volumes.{IsMadeVolume}
 use Rattle.xfs_mkfs.specs.Due.{IsGeometry, refusal}
 use Rattle.xfs_mkfs.specs.Putting.{IsPut, IsPutPartly}
-use Rattle.xfs_options.specs.declared.making.MakeOptions.{MakeOptions}
+use Rattle.xfs_options.specs.declared.make_words.MakeOptions.{MakeOptions}
 use Rattle.xfs_mkfs.specs.declared.outcome.MadeSummary.{MadeSummary}
 use Rattle.xfs_mkfs.specs.declared.outcome.MakeOutcome.{MakeOutcome}
 use Rattle.xfs_mkfs.specs.declared.outcome.MakeOutcome.TheVariants as Out
@@ -50,7 +50,7 @@ pub record IsPlanOf (o : MakeOptions) (s : Stamp) (blocks : ℕ) (plan : Plan) :
   pub rendered : IsPlanned geometry o.label s plan
 
 -- the volume of the geometry that is chosen has no room for this
-pub record HasNoRoom (o : MakeOptions) (s : Stamp) (blocks : ℕ) (what : Place) : Type 0 where
+pub record HasNoRoom (o : MakeOptions) (s : Stamp) (blocks : ℕ) (what : Unplaced) : Type 0 where
   pub geometry : Geometry
   pub chosen : IsGeometry o s blocks geometry
   pub none : FindsNoRoom (empty_wanted geometry) what
@@ -69,26 +69,26 @@ pub record HasSummary (o : MakeOptions) (s : Stamp) (blocks : ℕ) (summary : Ma
   pub is : summary ≡ summary_of geometry
 
 -- a refusal comes exactly where it is due, no room exactly where placing finds none, and a volume is made where nothing is refused
-abbrev pub IsDue : MakeOptions → Stamp → ℕ → Image → MakeOutcome → Type 0
-IsDue o s blocks image (Out.Made summary) = (refusal o blocks image ≡ None) × HasSummary o s blocks summary
-IsDue o s blocks image (Out.TooSmall what) = refusal o blocks image ≡ Some (Out.TooSmall what)
-IsDue o s blocks image Out.HasVolume = refusal o blocks image ≡ Some Out.HasVolume
-IsDue o s blocks image (Out.NoRoom what) = (refusal o blocks image ≡ None) × HasNoRoom o s blocks what
-IsDue o s blocks image (Out.ReadFault faults) = Unit {0}
-IsDue o s blocks image (Out.WriteFault n) = (refusal o blocks image ≡ None) × HasAllRoom o s blocks
-IsDue o s blocks image Out.NoMemory = Unit {0}
-IsDue o s blocks image (Out.Unbuilt request) = refusal o blocks image ≡ Some (Out.Unbuilt request)
+abbrev pub IsDueMake : MakeOptions → Stamp → ℕ → Image → MakeOutcome → Type 0
+IsDueMake o s blocks image (Out.Made summary) = (refusal o blocks image ≡ None) × HasSummary o s blocks summary
+IsDueMake o s blocks image (Out.TooSmall what) = refusal o blocks image ≡ Some (Out.TooSmall what)
+IsDueMake o s blocks image Out.HasVolume = refusal o blocks image ≡ Some Out.HasVolume
+IsDueMake o s blocks image (Out.NoRoom what) = (refusal o blocks image ≡ None) × HasNoRoom o s blocks what
+IsDueMake o s blocks image (Out.ReadFault faults) = Unit {0}
+IsDueMake o s blocks image (Out.WriteFault n) = (refusal o blocks image ≡ None) × HasAllRoom o s blocks
+IsDueMake o s blocks image Out.NoMemory = Unit {0}
+IsDueMake o s blocks image (Out.Unbuilt request) = refusal o blocks image ≡ Some (Out.Unbuilt request)
 
 -- a read fault comes only where a read failed, and it tells how many have; a write fault only where a write or a sync failed
-abbrev pub IsCaused : ℕ → ℕ → ℕ → ℕ → MakeOutcome → Type 0
-IsCaused faults_before faults writes_before writes (Out.ReadFault n) = Rose faults_before faults × (n ≡ faults)
-IsCaused faults_before faults writes_before writes (Out.WriteFault n) = Rose writes_before writes
-IsCaused faults_before faults writes_before writes (Out.Made summary) = Unit {0}
-IsCaused faults_before faults writes_before writes (Out.TooSmall what) = Unit {0}
-IsCaused faults_before faults writes_before writes Out.HasVolume = Unit {0}
-IsCaused faults_before faults writes_before writes (Out.NoRoom what) = Unit {0}
-IsCaused faults_before faults writes_before writes Out.NoMemory = Unit {0}
-IsCaused faults_before faults writes_before writes (Out.Unbuilt request) = Unit {0}
+abbrev pub IsMakingCause : ℕ → ℕ → ℕ → ℕ → MakeOutcome → Type 0
+IsMakingCause faults_before faults writes_before writes (Out.ReadFault n) = Rose faults_before faults × (n ≡ faults)
+IsMakingCause faults_before faults writes_before writes (Out.WriteFault n) = Rose writes_before writes
+IsMakingCause faults_before faults writes_before writes (Out.Made summary) = Unit {0}
+IsMakingCause faults_before faults writes_before writes (Out.TooSmall what) = Unit {0}
+IsMakingCause faults_before faults writes_before writes Out.HasVolume = Unit {0}
+IsMakingCause faults_before faults writes_before writes (Out.NoRoom what) = Unit {0}
+IsMakingCause faults_before faults writes_before writes Out.NoMemory = Unit {0}
+IsMakingCause faults_before faults writes_before writes (Out.Unbuilt request) = Unit {0}
 
 -- the volume was made on a disk that held an image: its plan was written, and what the disk then holds says just that and is consistent
 pub record IsMade (o : MakeOptions) (s : Stamp) (blocks : ℕ) (image : Image) (now : Option Image) (summary : MadeSummary) : Type 0 where
@@ -109,12 +109,12 @@ pub record IsMadePartly (o : MakeOptions) (s : Stamp) (blocks : ℕ) (image : Im
   pub put : IsPutPartly plan image n now
 
 -- what the disk holds: the whole plan, or the first n blocks of it and the next one old or new; after every other answer what it held
-abbrev pub Leaves : MakeOptions → Stamp → ℕ → Image → Option Image → MakeOutcome → Type 0
-Leaves o s blocks image now (Out.Made summary) = IsMade o s blocks image now summary
-Leaves o s blocks image now (Out.WriteFault n) = IsMadePartly o s blocks image now n
-Leaves o s blocks image now (Out.TooSmall what) = now ≡ Some image
-Leaves o s blocks image now Out.HasVolume = now ≡ Some image
-Leaves o s blocks image now (Out.NoRoom what) = now ≡ Some image
-Leaves o s blocks image now (Out.ReadFault faults) = now ≡ Some image
-Leaves o s blocks image now Out.NoMemory = now ≡ Some image
-Leaves o s blocks image now (Out.Unbuilt request) = now ≡ Some image
+abbrev pub MakeLeaves : MakeOptions → Stamp → ℕ → Image → Option Image → MakeOutcome → Type 0
+MakeLeaves o s blocks image now (Out.Made summary) = IsMade o s blocks image now summary
+MakeLeaves o s blocks image now (Out.WriteFault n) = IsMadePartly o s blocks image now n
+MakeLeaves o s blocks image now (Out.TooSmall what) = now ≡ Some image
+MakeLeaves o s blocks image now Out.HasVolume = now ≡ Some image
+MakeLeaves o s blocks image now (Out.NoRoom what) = now ≡ Some image
+MakeLeaves o s blocks image now (Out.ReadFault faults) = now ≡ Some image
+MakeLeaves o s blocks image now Out.NoMemory = now ≡ Some image
+MakeLeaves o s blocks image now (Out.Unbuilt request) = now ≡ Some image

@@ -11,10 +11,10 @@
 //! ```
 #![tactic(auto)]
 
-mod making;
+mod volume_making;
 mod order;
 mod outcome;
 mod volume;
 
-pub use making::make;
+pub use volume_making::make;
 pub use outcome::{MadeSummary, MakeOutcome};

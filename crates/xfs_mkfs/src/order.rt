@@ -1,7 +1,8 @@
 //! The order in which planned blocks are written.
 
 ghost use Rattle.std.specs.Prelude.{◌≡◌, ◌++◌, length, IfOk, OnOk};
-ghost use Rattle.xfs_mkfs.specs.Order.{AreRows, first_part, last_part, rows_from, rows_of};
+ghost use Rattle.xfs_writing.specs.Writing.{rows_from};
+ghost use Rattle.xfs_mkfs.specs.Order.{AreRowsOfPlan, first_part, last_part, plan_rows};
 
 use std::alloc::Global;
 use xfs_disk::NoMemory;
@@ -10,7 +11,7 @@ use xfs_writing::Row;
 
 /// The blocks of a plan in ascending order.
 pub fn list_rows(alloc: Global, plan: &Plan) -> Result<Vec<Row>, NoMemory>
-    ensures { IfOk result (λ rows. AreRows plan.now rows.items) }
+    ensures { IfOk result (λ rows. AreRowsOfPlan plan.now rows.items) }
 {
     let mut rows = with_index(alloc, plan)?;
     rows.sort_by_key(|row| row.at)?;
@@ -33,7 +34,7 @@ pub fn last_part(rows: &[Row]) -> &[Row]
 
 /// The blocks of a plan in its order, each with its index.
 fn with_index(alloc: Global, plan: &Plan) -> Result<Vec<Row>, NoMemory>
-    ensures { IfOk result (λ rows. rows.items ≡ rows_of plan.now) }
+    ensures { IfOk result (λ rows. rows.items ≡ plan_rows plan.now) }
 {
     let mut rows = Vec::new(alloc);
     push_rows(plan.fresh.as_slice(), &mut rows)?;

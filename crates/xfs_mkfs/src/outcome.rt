@@ -1,6 +1,6 @@
 //! What comes of making a volume.
 
-use xfs_place::Place;
+use xfs_place::Unplaced;
 
 /// A volume that was made.
 #[derive(Clone, Copy, Debug, PartialEq, Eq)]
@@ -29,7 +29,7 @@ pub enum MakeOutcome {
     /// The disk begins with a superblock.
     HasVolume,
     /// There is no room for this.
-    NoRoom(Place),
+    NoRoom(Unplaced),
     /// A read failed; so many have failed.
     ReadFault { faults: u64 },
     /// A write or a sync failed once so many blocks were written.

@@ -3,16 +3,16 @@ use Rattle.std.proofs.Common.{◌≡◌, ℕ, zero, suc, ◌+◌, ◌<◌, ◌�
 use Rattle.std.specs.List.{insert}
 use Rattle.std.proofs.lemmas.Bool.{cases_order}
 use Rattle.std.proofs.lemmas.Bool.Decides.{nat_tests}
-use Rattle.xfs_naming.specs.Naming.{Ascend, with_number}
+use Rattle.xfs_naming.specs.Naming.{NumbersAscend, with_number}
 
 -- none is below the first bound
-pub ascend_low : (low : ℕ) (xs : List ℕ) → Ascend low xs → (k : ℕ) → k < length xs → low ≤ get_or xs k 0
+pub ascend_low : (low : ℕ) (xs : List ℕ) → NumbersAscend low xs → (k : ℕ) → k < length xs → low ≤ get_or xs k 0
 ascend_low low [] up k h = absurd (omega arith)
 ascend_low low (x ∷ xs) up zero h = up.0
 ascend_low low (x ∷ xs) up (suc k) h = let next : x + 1 ≤ get_or xs k 0 = ascend_low (x + 1) xs up.1 k (omega arith) in omega (arith, up.0)
 
 -- they rise
-pub ascend_rises : (low : ℕ) (xs : List ℕ) → Ascend low xs → (i j : ℕ) → i ≤ j → j < length xs → get_or xs i 0 ≤ get_or xs j 0
+pub ascend_rises : (low : ℕ) (xs : List ℕ) → NumbersAscend low xs → (i j : ℕ) → i ≤ j → j < length xs → get_or xs i 0 ≤ get_or xs j 0
 ascend_rises low [] up i j le h = absurd (omega arith)
 ascend_rises low (x ∷ xs) up zero zero le h = omega arith
 ascend_rises low (x ∷ xs) up zero (suc j) le h = let next : x + 1 ≤ get_or xs j 0 = ascend_low (x + 1) xs up.1 j (omega arith) in omega arith
@@ -20,7 +20,7 @@ ascend_rises low (x ∷ xs) up (suc i) zero le h = absurd (omega arith)
 ascend_rises low (x ∷ xs) up (suc i) (suc j) le h = ascend_rises (x + 1) xs up.1 i j (omega arith) (omega arith)
 
 -- a number that is there
-pub already : (low n : ℕ) (xs : List ℕ) (i : ℕ) → Ascend low xs → i < length xs → get_or xs i 0 ≡ n → xs ≡ with_number n xs
+pub already : (low n : ℕ) (xs : List ℕ) (i : ℕ) → NumbersAscend low xs → i < length xs → get_or xs i 0 ≡ n → xs ≡ with_number n xs
 already low n [] i up h e = absurd (omega arith)
 already low n (x ∷ xs) zero up h e =
     let above : nat_lt x n ≡ false = grind (arith, nat_tests) in
@@ -46,7 +46,7 @@ placed n (x ∷ xs) (suc i) h before after =
     rw below (ap (λ (ys : List ℕ). x ∷ ys) (placed n xs i (omega arith) (λ k l. before (suc k) (omega arith)) (λ k l m. after (suc k) (omega arith) (omega arith))))
 
 -- with a number they still ascend
-pub ascend_with : (low n : ℕ) (xs : List ℕ) → Ascend low xs → low ≤ n → Ascend low (with_number n xs)
+pub ascend_with : (low n : ℕ) (xs : List ℕ) → NumbersAscend low xs → low ≤ n → NumbersAscend low (with_number n xs)
 ascend_with low n [] up le = (le, tt)
 ascend_with low n (x ∷ xs) up le = elim (cases_order x n) [
   | inl same ↦ (let above : nat_lt x n ≡ false = grind (arith, nat_tests) in let here : x == n ≡ true = grind (arith, nat_tests) in rw (above, here) up)

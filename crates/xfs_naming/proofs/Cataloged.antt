@@ -6,7 +6,7 @@ use Rattle.xfs_dirdata.specs.declared.records.EntryRec.{EntryRec}
 use Rattle.xfs_volume.specs.declared.directories.DirRec.{DirRec}
 use Rattle.xfs_volume.specs.declared.files.FileRec.{FileRec}
 use Rattle.xfs_volume.specs.Names.{is_directory}
-use Rattle.xfs_naming.specs.Naming.{Ascend, numbers_of, AreGrouped}
+use Rattle.xfs_naming.specs.Naming.{NumbersAscend, numbers_of, AreGrouped}
 
 -- a list at a place
 front : {X : Type 0} (xs : List X) (i : ℕ) (d : X) → i < length xs → drop i xs ≡ get_or xs i d ∷ drop (i + 1) xs
@@ -17,13 +17,13 @@ past xs i h = drop_of_length-le xs {i = i} h
 
 -- files that are left ascend from a number on
 pub record LeadsUp (files : List FileRec) (i low : ℕ) : Type 0 where
-  pub leads : Ascend low (numbers_of (drop i files)) → Ascend 0 (numbers_of files)
+  pub leads : NumbersAscend low (numbers_of (drop i files)) → NumbersAscend 0 (numbers_of files)
 
 pub up_more : (files : List FileRec) (i low : ℕ) (d : FileRec) → i < length files → low ≤ (get_or files i d).ino → LeadsUp files i low → LeadsUp files (i + 1) ((get_or files i d).ino + 1)
-up_more files i low d h le before = record { leads = λ up. before.leads (subst (λ (fs : List FileRec). Ascend low (numbers_of fs)) (sym (front files i d h)) (le, up)) }
+up_more files i low d h le before = record { leads = λ up. before.leads (subst (λ (fs : List FileRec). NumbersAscend low (numbers_of fs)) (sym (front files i d h)) (le, up)) }
 
-pub up_all : (files : List FileRec) (i low : ℕ) → length files ≤ i → LeadsUp files i low → Ascend 0 (numbers_of files)
-up_all files i low h before = before.leads (subst (λ (fs : List FileRec). Ascend low (numbers_of fs)) (sym (past files i h)) tt)
+pub up_all : (files : List FileRec) (i low : ℕ) → length files ≤ i → LeadsUp files i low → NumbersAscend 0 (numbers_of files)
+up_all files i low h before = before.leads (subst (λ (fs : List FileRec). NumbersAscend low (numbers_of fs)) (sym (past files i h)) tt)
 
 -- directories that are left are those of the files that are left
 abbrev pub dir_numbers : List DirRec → List ℕ

@@ -12,8 +12,8 @@ use Rattle.xfs_volume.specs.declared.findings.Law.{Law}
 use Rattle.xfs_volume.specs.Laws.{first_broken, law_at}
 use Rattle.xfs_volume.specs.Names.{is_name, type_of, is_directory, entry_type}
 use Rattle.xfs_naming.specs.Lawful.{IsReached, IsOrdinary, IsSystemFile, HasLawfulEntries, HasLawfulPlaces, HasLawfulLinks, IsNamingLawful}
-use Rattle.xfs_naming.specs.Naming.{is_system, is_in_use, is_directory_at, entries_in, entries_of, names_differ, has_target, has_type, first_failing, directory_tests, directory_at, is_reached, states_parent, root_tests, other_directory_tests, other_file_tests, place_tests, place_at, with_number, numbers_of, links_of, is_empty_regular, links_at, file_at, directory_laws, place_laws, link_laws, naming_laws, AreNamed}
-use Rattle.xfs_naming.specs.Walking.{is_in}
+use Rattle.xfs_naming.specs.Naming.{is_system, is_in_use, is_directory_at, entries_in, entries_to, names_differ, has_target, has_type, first_failing, directory_tests, directory_at, is_reached, states_parent, root_tests, other_directory_tests, other_file_tests, place_tests, place_law, with_number, numbers_of, links_of, is_empty_regular, links_at, file_at, directory_laws, place_laws, link_laws, naming_laws, AreNamed}
+use Rattle.xfs_naming.specs.Private.Walking.{is_walked}
 use Rattle.xfs_volume.proofs.First.{first_behind, first_empty}
 use Rattle.xfs_naming.proofs.Broken.{first_of}
 use Rattle.xfs_naming.proofs.Chosen.{any_in_run}
@@ -29,7 +29,7 @@ pub none_broken : {X : Type 0} (f : X → Law) (xs : List X) → All (λ (x : X)
 none_broken f [] kept = first_empty
 none_broken f (x ∷ xs) kept = kept_first (f x) (map f xs) (kept 0 x (omega arith)) (none_broken f xs (λ k d h. kept (suc k) d (omega arith)))
 
-pub none_broken_in : (f : ℕ → Law) (ns : List ℕ) → ((n : ℕ) → is_in ns n ≡ true → (f n).held ≡ (f n).due) → first_broken (map f ns) ≡ None
+pub none_broken_in : (f : ℕ → Law) (ns : List ℕ) → ((n : ℕ) → is_walked ns n ≡ true → (f n).held ≡ (f n).due) → first_broken (map f ns) ≡ None
 none_broken_in f [] kept = first_empty
 none_broken_in f (n ∷ ns) kept = kept_first (f n) (map f ns) (kept n (or_left (n == n) _ (eq-eqb n n refl))) (none_broken_in f ns (λ m h. kept m (or_right (m == n) _ h)))
 
@@ -123,13 +123,13 @@ module _ (root : ℕ) (files : List FileRec) (entries : List EntryRec) (dirs : L
           (all_filter (has_target root files) (λ (e : EntryRec). e.dir == d.ino) entries (λ k e h at. target k e h))
           (all_filter (has_type files) (λ (e : EntryRec). e.dir == d.ino) entries (λ k e h at. typed k e h))
 
-  no_names : (x : ℕ) → list_any (λ (e : EntryRec). e.ino == x) entries ≡ false → length (entries_of entries x) == 0 ≡ true
-  no_names x none = not-false (length (entries_of entries x) == 0) (any_in_run (λ (e : EntryRec). e.ino == x) entries ∙ none)
+  no_names : (x : ℕ) → list_any (λ (e : EntryRec). e.ino == x) entries ≡ false → length (entries_to entries x) == 0 ≡ true
+  no_names x none = not-false (length (entries_to entries x) == 0) (any_in_run (λ (e : EntryRec). e.ino == x) entries ∙ none)
 
-  some_names : (x : ℕ) → list_any (λ (e : EntryRec). e.ino == x) entries ≡ true → nat_le 1 (length (entries_of entries x)) ≡ true
+  some_names : (x : ℕ) → list_any (λ (e : EntryRec). e.ino == x) entries ≡ true → nat_le 1 (length (entries_to entries x)) ≡ true
   some_names x some =
-      let none : length (entries_of entries x) == 0 ≡ false = not-true (length (entries_of entries x) == 0) (any_in_run (λ (e : EntryRec). e.ino == x) entries ∙ some) in
-      le-leb 1 (length (entries_of entries x)) (positive (length (entries_of entries x)) (eqb-false (length (entries_of entries x)) 0 none))
+      let none : length (entries_to entries x) == 0 ≡ false = not-true (length (entries_to entries x) == 0) (any_in_run (λ (e : EntryRec). e.ino == x) entries ∙ some) in
+      le-leb 1 (length (entries_to entries x)) (positive (length (entries_to entries x)) (eqb-false (length (entries_to entries x)) 0 none))
     where
       positive : (n : ℕ) → (n ≡ 0 → ⊥) → 1 ≤ n
       positive zero apart = absurd (apart refl)
@@ -138,7 +138,7 @@ module _ (root : ℕ) (files : List FileRec) (entries : List EntryRec) (dirs : L
   pub judged_places : ((x : ℕ) → is_directory_at files x ≡ true → IsReached entries root x → is_reached dirs entries root x ≡ true)
       → HasLawfulPlaces root files entries dirs → first_broken (place_laws root files entries dirs) ≡ None
   unfolding place_laws
-  judged_places ways says = none_broken_in (place_at root files entries dirs) (with_number root (numbers_of files))
+  judged_places ways says = none_broken_in (place_law root files entries dirs) (with_number root (numbers_of files))
       (λ x h. at x (sym (in_with root (numbers_of files) x ∙ ap (λ (t : Bool). x == root || t) (in_numbers files x)) ∙ h))
     where
       unnamed : list_any (λ (e : EntryRec). e.ino == root) entries ≡ false
@@ -146,7 +146,7 @@ module _ (root : ℕ) (files : List FileRec) (entries : List EntryRec) (dirs : L
           says.root_unnamed found.0 found.1 found.2 (ap (λ (e : EntryRec). e.ino) found.3 ∙ eqb-true found.1.ino root found.4))
 
       at_the_root : first_failing (root_tests root files entries dirs) ≡ 0
-      at_the_root = three_hold (length (entries_of entries root) == 0) (not (is_directory_at files root) || states_parent dirs root root) (is_directory_at files root)
+      at_the_root = three_hold (length (entries_to entries root) == 0) (not (is_directory_at files root) || states_parent dirs root root) (is_directory_at files root)
           (no_names root unnamed)
           (or_right (not (is_directory_at files root)) _ (any_from (λ (d : DirRec). d.ino == root && d.parent == root) _ dirs (λ d e. and_from (d.ino == root) _ (eq-eqb d.ino root e.0) (eq-eqb d.parent root e.1)) says.root_parent))
           (any_from (λ (f : FileRec). f.ino == root && is_directory f) _ files (λ f e. and_from (f.ino == root) _ (eq-eqb f.ino root e.0) (eq-eqb (type_of f) 4 e.1)) says.root_directory)
@@ -155,8 +155,8 @@ module _ (root : ℕ) (files : List FileRec) (entries : List EntryRec) (dirs : L
       at_other x apart dir =
           let found = Any-from_list_any (λ (d : DirRec). d.ino == x) dirs (has_record_is files entries dirs named x ∙ dir) in
           let same : (get_or dirs found.0 found.1).ino ≡ x = ap (λ (d : DirRec). d.ino) found.3 ∙ eqb-true found.1.ino x found.4 in
-          three_hold (length (entries_of entries x) == 1) (list_all (λ (e : EntryRec). states_parent dirs x e.dir) (entries_of entries x)) (is_reached dirs entries root x)
-          (eq-eqb (length (entries_of entries x)) 1 (subst (λ (n : ℕ). length (entries_of entries n) ≡ 1) same (says.once found.0 found.1 found.2 (λ e. apart (sym same ∙ e)))))
+          three_hold (length (entries_to entries x) == 1) (list_all (λ (e : EntryRec). states_parent dirs x e.dir) (entries_to entries x)) (is_reached dirs entries root x)
+          (eq-eqb (length (entries_to entries x)) 1 (subst (λ (n : ℕ). length (entries_to entries n) ≡ 1) same (says.once found.0 found.1 found.2 (λ e. apart (sym same ∙ e)))))
           (all_filter (λ (e : EntryRec). states_parent dirs x e.dir) (λ (e : EntryRec). e.ino == x) entries (λ k e h at. below k e h (eqb-true (get_or entries k e).ino x at)))
           (ways x dir (subst (IsReached entries root) same (says.reached found.0 found.1 found.2)))
         where
@@ -165,7 +165,7 @@ module _ (root : ℕ) (files : List FileRec) (entries : List EntryRec) (dirs : L
               (λ d f. and_from (d.ino == x) _ (eq-eqb d.ino x (f.0 ∙ same)) (eq-eqb d.parent _ f.1)) (says.by_parent k e h (ap (is_directory_at files) same ∙ dir))
 
       at_file : (x : ℕ) → is_directory_at files x ≡ false → is_in_use files x ≡ true → first_failing (other_file_tests root entries x) ≡ 0
-      at_file x other used = one_holds (is_system root x || nat_le 1 (length (entries_of entries x))) (elim (cases_Bool (is_system root x)) [
+      at_file x other used = one_holds (is_system root x || nat_le 1 (length (entries_to entries x))) (elim (cases_Bool (is_system root x)) [
         | inl system ↦ or_left (is_system root x) _ system
         | inr ordinary ↦ or_right (is_system root x) _ (some_names x (any_from (λ (e : EntryRec). e.ino == x) _ entries (λ e f. eq-eqb e.ino x f) (has_one ordinary)))
       ])
@@ -218,8 +218,8 @@ module _ (root : ℕ) (files : List FileRec) (entries : List EntryRec) (dirs : L
         where
           as_many : (k : ℕ) (d : FileRec) → k < length files → IsOrdinary root (get_or files k d).ino → (get_or files k d).core.nlink ≡ links_of files entries (get_or files k d)
           as_many k d h plain = elim (cases_eq (type_of (get_or files k d)) 4) [
-            | inl dir ↦ says.of_directories k d h dir ∙ sym (ap (λ (t : Bool). cond t (2 + count_by (λ (e : EntryRec). is_directory_at files e.ino) (entries_in entries (get_or files k d).ino)) (length (entries_of entries (get_or files k d).ino))) (eq-eqb (type_of (get_or files k d)) 4 dir))
-            | inr other ↦ says.of_others k d h other plain ∙ sym (ap (λ (t : Bool). cond t (2 + count_by (λ (e : EntryRec). is_directory_at files e.ino) (entries_in entries (get_or files k d).ino)) (length (entries_of entries (get_or files k d).ino))) (ne_eqb (type_of (get_or files k d)) 4 other))
+            | inl dir ↦ says.of_directories k d h dir ∙ sym (ap (λ (t : Bool). cond t (2 + count_by (λ (e : EntryRec). is_directory_at files e.ino) (entries_in entries (get_or files k d).ino)) (length (entries_to entries (get_or files k d).ino))) (eq-eqb (type_of (get_or files k d)) 4 dir))
+            | inr other ↦ says.of_others k d h other plain ∙ sym (ap (λ (t : Bool). cond t (2 + count_by (λ (e : EntryRec). is_directory_at files e.ino) (entries_in entries (get_or files k d).ino)) (length (entries_to entries (get_or files k d).ino))) (ne_eqb (type_of (get_or files k d)) 4 other))
           ]
 
           on : (t : Bool) → t ≡ false → (f : FileRec) → f.core.nlink ≡ links_of files entries f

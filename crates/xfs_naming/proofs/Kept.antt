@@ -7,7 +7,7 @@ use Rattle.xfs_volume.specs.declared.files.FileRec.{FileRec}
 use Rattle.xfs_volume.specs.declared.findings.Law.{Law}
 use Rattle.xfs_volume.specs.Laws.{first_broken}
 use Rattle.xfs_naming.specs.Naming.{first_failing, with_number, numbers_of, is_in_use}
-use Rattle.xfs_naming.specs.Walking.{is_in}
+use Rattle.xfs_naming.specs.Private.Walking.{is_walked}
 use Rattle.xfs_naming.proofs.Broken.{first_of}
 
 -- lists of which no law is broken, one behind the other
@@ -46,9 +46,9 @@ kept_each {X} f (x ∷ xs) none (suc k) d h = kept_each f xs (rest ((f x).held =
     rest true none = none
     rest false none = cc
 
-pub kept_at : (f : ℕ → Law) (ns : List ℕ) → first_broken (map f ns) ≡ None → (n : ℕ) → is_in ns n ≡ true → (f n).held ≡ (f n).due
+pub kept_at : (f : ℕ → Law) (ns : List ℕ) → first_broken (map f ns) ≡ None → (n : ℕ) → is_walked ns n ≡ true → (f n).held ≡ (f n).due
 kept_at f [] none n h = absurd (true≢false (sym h))
-kept_at f (m ∷ ns) none n h = elim (or_cases (n == m) (is_in ns n) h) [
+kept_at f (m ∷ ns) none n h = elim (or_cases (n == m) (is_walked ns n) h) [
   | inl here ↦ subst (λ (x : ℕ). (f x).held ≡ (f x).due) (sym (eqb-true n m here)) (kept_each f (m ∷ ns) none 0 0 (omega arith))
   | inr later ↦ kept_at f ns (rest ((f m).held == (f m).due) (sym (first_of (f m) (map f ns)) ∙ none)) n later
 ]
@@ -76,14 +76,14 @@ one_pass true none = refl
 one_pass false none = absurd (omega arith)
 
 -- the numbers that are looked at
-pub in_with : (r : ℕ) (ns : List ℕ) (x : ℕ) → is_in (with_number r ns) x ≡ (x == r || is_in ns x)
+pub in_with : (r : ℕ) (ns : List ℕ) (x : ℕ) → is_walked (with_number r ns) x ≡ (x == r || is_walked ns x)
 in_with r [] x = refl
 in_with r (n ∷ ns) x = elim (cases_order n r) [
   | inl same ↦ (let above : nat_lt n r ≡ false = grind (arith, nat_tests) in let here : n == r ≡ true = grind (arith, nat_tests) in
-      rw (above, here) (let e : x == n ≡ x == r = ap (λ (m : ℕ). x == m) same in twice (x == n) (x == r) (is_in ns x) e))
+      rw (above, here) (let e : x == n ≡ x == r = ap (λ (m : ℕ). x == m) same in twice (x == n) (x == r) (is_walked ns x) e))
   | inr apart ↦ elim apart [
     | inl less ↦ (let below : nat_lt n r ≡ true = grind (arith, nat_tests) in
-        rw below (ap (λ (t : Bool). x == n || t) (in_with r ns x) ∙ swapped (x == n) (x == r) (is_in ns x)))
+        rw below (ap (λ (t : Bool). x == n || t) (in_with r ns x) ∙ swapped (x == n) (x == r) (is_walked ns x)))
     | inr more ↦ (let above : nat_lt n r ≡ false = grind (arith, nat_tests) in let there : n == r ≡ false = grind (arith, nat_tests) in rw (above, there) refl)
   ]
 ]
@@ -98,9 +98,9 @@ in_with r (n ∷ ns) x = elim (cases_order n r) [
     swapped true false c = refl
     swapped false b c = refl
 
-pub in_numbers : (files : List FileRec) (x : ℕ) → is_in (numbers_of files) x ≡ is_in_use files x
+pub in_numbers : (files : List FileRec) (x : ℕ) → is_walked (numbers_of files) x ≡ is_in_use files x
 in_numbers [] x = refl
-in_numbers (f ∷ fs) x = ap (λ (t : Bool). t || is_in (numbers_of fs) x) (flip x f.ino) ∙ ap (λ (t : Bool). f.ino == x || t) (in_numbers fs x)
+in_numbers (f ∷ fs) x = ap (λ (t : Bool). t || is_walked (numbers_of fs) x) (flip x f.ino) ∙ ap (λ (t : Bool). f.ino == x || t) (in_numbers fs x)
   where
     flip : (a b : ℕ) → a == b ≡ b == a
     flip a b = grind (arith, nat_tests)

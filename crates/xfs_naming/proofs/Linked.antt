@@ -6,7 +6,7 @@ use Rattle.std.proofs.lemmas.List.Sums.{length-filter}
 use Rattle.std.proofs.lemmas.List.Sorted.{list_any-IsPermutation, sum_by-IsPermutation}
 use Rattle.xfs_dirdata.specs.declared.records.EntryRec.{EntryRec}
 use Rattle.xfs_naming.specs.declared.runs.Link.{Link}
-use Rattle.xfs_naming.specs.Naming.{entries_of}
+use Rattle.xfs_naming.specs.Naming.{entries_to}
 use Rattle.xfs_naming.specs.Ordered.{AreLinks, link_of, links_to}
 
 -- all of a run pass where none of it fails
@@ -29,12 +29,12 @@ any_link : (p : Link → Bool) (es : List EntryRec) → list_any p (map link_of 
 any_link p [] = refl
 any_link p (e ∷ es) = ap (λ (t : Bool). p (link_of e) || t) (any_link p es)
 
-as_many_links : (ino : ℕ) (es : List EntryRec) → length (links_to (map link_of es) ino) ≡ length (entries_of es ino)
+as_many_links : (ino : ℕ) (es : List EntryRec) → length (links_to (map link_of es) ino) ≡ length (entries_to es ino)
 as_many_links ino [] = refl
 as_many_links ino (e ∷ es) = either (e.ino == ino) (as_many_links ino es)
   where
-    either : (t : Bool) → length (links_to (map link_of es) ino) ≡ length (entries_of es ino)
-        → length (cond t (link_of e ∷ links_to (map link_of es) ino) (links_to (map link_of es) ino)) ≡ length (cond t (e ∷ entries_of es ino) (entries_of es ino))
+    either : (t : Bool) → length (links_to (map link_of es) ino) ≡ length (entries_to es ino)
+        → length (cond t (link_of e ∷ links_to (map link_of es) ino) (links_to (map link_of es) ino)) ≡ length (cond t (e ∷ entries_to es ino) (entries_to es ino))
     either true rest = ap suc rest
     either false rest = rest
 

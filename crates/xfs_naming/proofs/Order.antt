@@ -8,7 +8,7 @@ use Rattle.xfs_volume.specs.declared.directories.DirRec.{DirRec}
 use Rattle.xfs_volume.specs.declared.files.FileRec.{FileRec}
 use Rattle.xfs_volume.specs.Names.{is_directory}
 use Rattle.xfs_naming.specs.declared.runs.Link.{Link}
-use Rattle.xfs_naming.specs.Naming.{Ascend, AreGrouped, AreNamed, numbers_of}
+use Rattle.xfs_naming.specs.Naming.{NumbersAscend, AreGrouped, AreNamed, numbers_of}
 use Rattle.xfs_naming.specs.Ordered.{AreOrdered, AreLinks}
 
 -- the numbers rise, or stay
@@ -20,20 +20,20 @@ rises_lower : (low v : ℕ) (xs : List ℕ) → low ≤ v → Rises v xs → Ris
 rises_lower low v [] le up = tt
 rises_lower low v (x ∷ xs) le up = (omega (arith, up.0), up.1)
 
-ascend_rise : (low : ℕ) (xs : List ℕ) → Ascend low xs → Rises low xs
+ascend_rise : (low : ℕ) (xs : List ℕ) → NumbersAscend low xs → Rises low xs
 ascend_rise low [] up = tt
 ascend_rise low (x ∷ xs) up = (up.0, rises_lower x (x + 1) xs (omega arith) (ascend_rise (x + 1) xs up.1))
 
-ascend_lower : (low v : ℕ) (xs : List ℕ) → low ≤ v → Ascend v xs → Ascend low xs
+ascend_lower : (low v : ℕ) (xs : List ℕ) → low ≤ v → NumbersAscend v xs → NumbersAscend low xs
 ascend_lower low v [] le up = tt
 ascend_lower low v (x ∷ xs) le up = (omega (arith, up.0), up.1)
 
 -- some of those that ascend do
-ascend_filter : {X : Type 0} (n : X → ℕ) (p : X → Bool) (low : ℕ) (xs : List X) → Ascend low (map n xs) → Ascend low (map n (filter p xs))
+ascend_filter : {X : Type 0} (n : X → ℕ) (p : X → Bool) (low : ℕ) (xs : List X) → NumbersAscend low (map n xs) → NumbersAscend low (map n (filter p xs))
 ascend_filter n p low [] up = tt
 ascend_filter {X = X} n p low (x ∷ xs) up = either (p x) (ascend_filter n p (n x + 1) xs up.1)
   where
-    either : (t : Bool) → Ascend (n x + 1) (map n (filter p xs)) → Ascend low (map n (cond t (x ∷ filter p xs) (filter p xs)))
+    either : (t : Bool) → NumbersAscend (n x + 1) (map n (filter p xs)) → NumbersAscend low (map n (cond t (x ∷ filter p xs) (filter p xs)))
     either true rest = (up.0, rest)
     either false rest = ascend_lower low (n x + 1) (map n (filter p xs)) (omega (arith, up.0)) rest
 
@@ -61,7 +61,7 @@ own_rises low v (e ∷ es) rest all le up =
     let same : e.dir ≡ v = eqb-true e.dir v parts.0 in
     (omega arith, own_rises e.dir v es rest parts.1 (omega arith) up)
 
-grouped_rise : (low : ℕ) (dirs : List DirRec) (entries : List EntryRec) → Ascend low (map (λ (d : DirRec). d.ino) dirs) → AreGrouped dirs entries → Rises low (dirs_of entries)
+grouped_rise : (low : ℕ) (dirs : List DirRec) (entries : List EntryRec) → NumbersAscend low (map (λ (d : DirRec). d.ino) dirs) → AreGrouped dirs entries → Rises low (dirs_of entries)
 grouped_rise low [] entries up none = subst (λ (es : List EntryRec). Rises low (dirs_of es)) (sym none) tt
 grouped_rise low (d ∷ ds) entries up (own, rest, is, all, more) =
     subst (λ (es : List EntryRec). Rises low (dirs_of es)) (sym is)
@@ -79,5 +79,5 @@ ordered root files entries dirs links named low rise linked = record {
   linked = linked;
 }
   where
-    dirs_ascend : Ascend 0 (map (λ (d : DirRec). d.ino) dirs)
-    dirs_ascend = subst (Ascend 0) (sym named.directories) (ascend_filter (λ (f : FileRec). f.ino) is_directory 0 files named.files_ascend)
+    dirs_ascend : NumbersAscend 0 (map (λ (d : DirRec). d.ino) dirs)
+    dirs_ascend = subst (NumbersAscend 0) (sym named.directories) (ascend_filter (λ (f : FileRec). f.ino) is_directory 0 files named.files_ascend)

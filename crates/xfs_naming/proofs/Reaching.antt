@@ -15,7 +15,7 @@ use Rattle.xfs_volume.specs.declared.files.FileRec.{FileRec}
 use Rattle.xfs_naming.specs.Naming.{is_directory_at, reached_in, is_reached, AreNamed, entries_in}
 use Rattle.xfs_naming.specs.Lawful.{IsReached}
 use Rattle.xfs_naming.specs.Lawful.IsReached.{at_root, by_entry}
-use Rattle.xfs_naming.specs.Walking.{is_in, leads, HasMarked, IsWalking}
+use Rattle.xfs_naming.specs.Private.Walking.{is_walked, leads, HasMarked, IsWalking}
 use Rattle.xfs_naming.proofs.Grouped.{has_record, has_record_is, grouped_dir}
 
 -- an entry that leads on from a number that passes
@@ -75,7 +75,7 @@ found_record (d ∷ ds) q has = either (found_record ds q) (q == d.ino) (sym (ap
 
 -- no more are reached than there are directories, and the root
 pub few_reached : (root : ℕ) (files : List FileRec) (entries : List EntryRec) (dirs : List DirRec) (seen : List ℕ) → AreNamed files entries dirs → IsDistinct nat_eq seen
-    → ((x : ℕ) → is_in seen x ≡ true → (x == root || is_directory_at files x) ≡ true) → length seen ≤ length dirs + 1
+    → ((x : ℕ) → is_walked seen x ≡ true → (x == root || is_directory_at files x) ≡ true) → length seen ≤ length dirs + 1
 few_reached root files entries dirs seen named distinct inside =
     let many : length (records_of dirs) ≡ length dirs = many_records dirs in
     let less : length seen ≤ suc (length (records_of dirs)) = length-le_from_keys nat_eq_equiv seen ((root, 0) ∷ records_of dirs) distinct (λ q h. found q (q == root) (inside q h)) in
@@ -95,20 +95,20 @@ at_most_one keys n added empty is = either added is
 
 -- the start of the walk
 pub walk_starts : (root : ℕ) (files : List FileRec) (entries : List EntryRec) (dirs : List DirRec) (none seen stack : List ℕ) → none ≡ []
-    → ((q : ℕ) → is_in seen q ≡ cond (root == q) true (is_in none q)) → length seen ≤ 1 → IsDistinct nat_eq seen → stack ≡ root ∷ []
+    → ((q : ℕ) → is_walked seen q ≡ cond (root == q) true (is_walked none q)) → length seen ≤ 1 → IsDistinct nat_eq seen → stack ≡ root ∷ []
     → IsWalking root files entries dirs seen stack
 walk_starts root files entries dirs none seen stack empty grows one distinct only = record {
   from_root = is root ∙ eq-eqb root root refl;
   inside = λ x h. or_left (x == root) _ (flip x ∙ sym (is x) ∙ h);
-  waiting = λ x h. is x ∙ sym (flip x) ∙ kept (x == root) (sym (ap (λ (xs : List ℕ). is_in xs x) only) ∙ h);
+  waiting = λ x h. is x ∙ sym (flip x) ∙ kept (x == root) (sym (ap (λ (xs : List ℕ). is_walked xs x) only) ∙ h);
   unique = distinct;
   few = omega arith;
   sound = λ m x low h. at m x (flip x ∙ sym (is x) ∙ h);
-  closed = λ x y h led dir. or_right (is_in seen y) _ (ap (λ (xs : List ℕ). is_in xs x) only ∙ or_left (x == root) false (flip x ∙ sym (is x) ∙ h));
+  closed = λ x y h led dir. or_right (is_walked seen y) _ (ap (λ (xs : List ℕ). is_walked xs x) only ∙ or_left (x == root) false (flip x ∙ sym (is x) ∙ h));
 }
   where
-    is : (q : ℕ) → is_in seen q ≡ root == q
-    is q = grows q ∙ ap (λ (xs : List ℕ). cond (root == q) true (is_in xs q)) empty ∙ either (root == q)
+    is : (q : ℕ) → is_walked seen q ≡ root == q
+    is q = grows q ∙ ap (λ (xs : List ℕ). cond (root == q) true (is_walked xs q)) empty ∙ either (root == q)
       where
         either : (t : Bool) → cond t true false ≡ t
         either true = refl
@@ -132,61 +132,61 @@ pub walk_goes : (root : ℕ) (files : List FileRec) (entries : List EntryRec) (d
 walk_goes root files entries dirs seen more stack rest next dir named before popped marked = record {
   from_root = kept root before.from_root;
   inside = all_inside;
-  waiting = λ x h. elim (or_cases (is_in rest x) _ (sym (marked.waiting x) ∙ h)) [
+  waiting = λ x h. elim (or_cases (is_walked rest x) _ (sym (marked.waiting x) ∙ h)) [
     | inl old ↦ kept x (before.waiting x (in_stack x old))
-    | inr new ↦ marked.reached x ∙ or_right (is_in seen x) _ (and_parts (is_directory_at files x && leads entries dir x) _ new).0
+    | inr new ↦ marked.reached x ∙ or_right (is_walked seen x) _ (and_parts (is_directory_at files x && leads entries dir x) _ new).0
   ];
   unique = marked.unique before.unique;
   few = few_reached root files entries dirs more named (marked.unique before.unique) all_inside;
-  sound = λ m x low h. elim (cases_Bool (is_in seen x)) [
+  sound = λ m x low h. elim (cases_Bool (is_walked seen x)) [
     | inl old ↦ before.sound m x (omega (arith, marked.longer)) old
     | inr fresh ↦ newly m x low h fresh
   ];
-  closed = λ x y h led is_dir. elim (cases_Bool (is_in seen x)) [
-    | inl old ↦ (elim (or_cases (is_in seen y) (is_in stack x) (before.closed x y old led is_dir)) [
-      | inl seen_y ↦ or_left (is_in more y) _ (kept y seen_y)
-      | inr waits ↦ (elim (or_cases (is_in rest x) (x == dir || false) (sym (split x) ∙ waits)) [
-        | inl stays ↦ or_right (is_in more y) _ (marked.waiting x ∙ or_left (is_in rest x) _ stays)
-        | inr last ↦ or_left (is_in more y) _ (marked.reached y ∙ or_right (is_in seen y) _ (and_from _ _ is_dir (subst (λ (z : ℕ). leads entries z y ≡ true) (eqb-true x dir (only (x == dir) last)) led)))
+  closed = λ x y h led is_dir. elim (cases_Bool (is_walked seen x)) [
+    | inl old ↦ (elim (or_cases (is_walked seen y) (is_walked stack x) (before.closed x y old led is_dir)) [
+      | inl seen_y ↦ or_left (is_walked more y) _ (kept y seen_y)
+      | inr waits ↦ (elim (or_cases (is_walked rest x) (x == dir || false) (sym (split x) ∙ waits)) [
+        | inl stays ↦ or_right (is_walked more y) _ (marked.waiting x ∙ or_left (is_walked rest x) _ stays)
+        | inr last ↦ or_left (is_walked more y) _ (marked.reached y ∙ or_right (is_walked seen y) _ (and_from _ _ is_dir (subst (λ (z : ℕ). leads entries z y ≡ true) (eqb-true x dir (only (x == dir) last)) led)))
       ])
     ])
-    | inr fresh ↦ or_right (is_in more y) _ (marked.waiting x ∙ or_right (is_in rest x) _ (and_from _ _ (new_is x h fresh) (ap not fresh)))
+    | inr fresh ↦ or_right (is_walked more y) _ (marked.waiting x ∙ or_right (is_walked rest x) _ (and_from _ _ (new_is x h fresh) (ap not fresh)))
   ];
 }
   where
-    kept : (x : ℕ) → is_in seen x ≡ true → is_in more x ≡ true
-    kept x h = marked.reached x ∙ or_left (is_in seen x) _ h
+    kept : (x : ℕ) → is_walked seen x ≡ true → is_walked more x ≡ true
+    kept x h = marked.reached x ∙ or_left (is_walked seen x) _ h
 
-    split : (x : ℕ) → is_in stack x ≡ (is_in rest x || (x == dir || false))
-    split x = ap (λ (xs : List ℕ). is_in xs x) popped ∙ list_any-append (nat_eq x) rest (dir ∷ [])
+    split : (x : ℕ) → is_walked stack x ≡ (is_walked rest x || (x == dir || false))
+    split x = ap (λ (xs : List ℕ). is_walked xs x) popped ∙ list_any-append (nat_eq x) rest (dir ∷ [])
 
-    in_stack : (x : ℕ) → is_in rest x ≡ true → is_in stack x ≡ true
-    in_stack x h = split x ∙ or_left (is_in rest x) _ h
+    in_stack : (x : ℕ) → is_walked rest x ≡ true → is_walked stack x ≡ true
+    in_stack x h = split x ∙ or_left (is_walked rest x) _ h
 
     only : (t : Bool) → (t || false) ≡ true → t ≡ true
     only true h = refl
     only false h = h
 
-    all_inside : (x : ℕ) → is_in more x ≡ true → (x == root || is_directory_at files x) ≡ true
-    all_inside x h = elim (or_cases (is_in seen x) _ (sym (marked.reached x) ∙ h)) [
+    all_inside : (x : ℕ) → is_walked more x ≡ true → (x == root || is_directory_at files x) ≡ true
+    all_inside x h = elim (or_cases (is_walked seen x) _ (sym (marked.reached x) ∙ h)) [
       | inl old ↦ before.inside x old
       | inr new ↦ or_right (x == root) _ (and_parts (is_directory_at files x) _ new).0
     ]
 
-    new_is : (x : ℕ) → is_in more x ≡ true → is_in seen x ≡ false → (is_directory_at files x && leads entries dir x) ≡ true
-    new_is x h fresh = elim (or_cases (is_in seen x) _ (sym (marked.reached x) ∙ h)) [
+    new_is : (x : ℕ) → is_walked more x ≡ true → is_walked seen x ≡ false → (is_directory_at files x && leads entries dir x) ≡ true
+    new_is x h fresh = elim (or_cases (is_walked seen x) _ (sym (marked.reached x) ∙ h)) [
       | inl old ↦ absurd (true≢false (sym old ∙ fresh))
       | inr new ↦ new
     ]
 
-    dir_seen : is_in seen dir ≡ true
-    dir_seen = before.waiting dir (split dir ∙ or_right (is_in rest dir) _ (or_left (dir == dir) false (eq-eqb dir dir refl)))
+    dir_seen : is_walked seen dir ≡ true
+    dir_seen = before.waiting dir (split dir ∙ or_right (is_walked rest dir) _ (or_left (dir == dir) false (eq-eqb dir dir refl)))
 
-    some : (xs : List ℕ) (x : ℕ) → is_in xs x ≡ true → 1 ≤ length xs
+    some : (xs : List ℕ) (x : ℕ) → is_walked xs x ≡ true → 1 ≤ length xs
     some [] x h = absurd (true≢false (sym h))
     some (y ∷ ys) x h = omega arith
 
-    newly : (m x : ℕ) → length more ≤ m + 1 → is_in more x ≡ true → is_in seen x ≡ false → reached_in m entries root x ≡ true
+    newly : (m x : ℕ) → length more ≤ m + 1 → is_walked more x ≡ true → is_walked seen x ≡ false → reached_in m entries root x ≡ true
     newly m x low h fresh = elim (marked.grown x h) [
       | inl old ↦ absurd (true≢false (sym old ∙ fresh))
       | inr less ↦ by_steps m low less
@@ -199,13 +199,13 @@ walk_goes root files entries dirs seen more stack rest next dir named before pop
 
 -- what is reached by any number of steps is reached by the walk
 pub walk_finds : (root : ℕ) (files : List FileRec) (entries : List EntryRec) (dirs : List DirRec) (seen : List ℕ) → AreNamed files entries dirs → IsWalking root files entries dirs seen []
-    → (n x : ℕ) → is_directory_at files x ≡ true → reached_in n entries root x ≡ true → is_in seen x ≡ true
-walk_finds root files entries dirs seen named walked zero x dir way = subst (λ (y : ℕ). is_in seen y ≡ true) (sym (eqb-true x root way)) walked.from_root
+    → (n x : ℕ) → is_directory_at files x ≡ true → reached_in n entries root x ≡ true → is_walked seen x ≡ true
+walk_finds root files entries dirs seen named walked zero x dir way = subst (λ (y : ℕ). is_walked seen y ≡ true) (sym (eqb-true x root way)) walked.from_root
 walk_finds root files entries dirs seen named walked (suc n) x dir way = elim (or_cases (x == root) _ way) [
-  | inl here ↦ subst (λ (y : ℕ). is_in seen y ≡ true) (sym (eqb-true x root here)) walked.from_root
+  | inl here ↦ subst (λ (y : ℕ). is_walked seen y ≡ true) (sym (eqb-true x root here)) walked.from_root
   | inr later ↦ (let from = leads_from entries x (reached_in n entries root) later in
       let is_dir : is_directory_at files from.0 ≡ true = sym (has_record_is files entries dirs named from.0) ∙ grouped_dir dirs entries named.grouped from.0 from.3 in
-      only (is_in seen x) (walked.closed from.0 x (walk_finds root files entries dirs seen named walked n from.0 is_dir from.1) from.2 dir))
+      only (is_walked seen x) (walked.closed from.0 x (walk_finds root files entries dirs seen named walked n from.0 is_dir from.1) from.2 dir))
 ]
   where
     only : (t : Bool) → (t || false) ≡ true → t ≡ true
@@ -214,8 +214,8 @@ walk_finds root files entries dirs seen named walked (suc n) x dir way = elim (o
 
 -- the end of the walk
 pub walk_ends : (root : ℕ) (files : List FileRec) (entries : List EntryRec) (dirs : List DirRec) (seen stack : List ℕ) → AreNamed files entries dirs → IsWalking root files entries dirs seen stack → stack ≡ []
-    → (x : ℕ) → is_directory_at files x ≡ true → is_in seen x ≡ is_reached dirs entries root x
-walk_ends root files entries dirs seen stack named walked empty x dir = both (is_in seen x) (is_reached dirs entries root x)
+    → (x : ℕ) → is_directory_at files x ≡ true → is_walked seen x ≡ is_reached dirs entries root x
+walk_ends root files entries dirs seen stack named walked empty x dir = both (is_walked seen x) (is_reached dirs entries root x)
     (λ h. walked.sound (length dirs) x walked.few h)
     (λ h. walk_finds root files entries dirs seen named (subst (IsWalking root files entries dirs seen) empty walked) (length dirs) x dir h)
   where

@@ -6,7 +6,7 @@ use Rattle.std.proofs.lemmas.Bool.{and_parts, or_cases, or_left, or_right, eqb-t
 use Rattle.std.proofs.lemmas.Bool.Decides.{nat_tests}
 use Rattle.xfs_volume.specs.declared.files.FileRec.{FileRec}
 use Rattle.xfs_volume.specs.Names.{is_directory}
-use Rattle.xfs_naming.specs.Naming.{Ascend, numbers_of, file_at, is_in_use, is_directory_at}
+use Rattle.xfs_naming.specs.Naming.{NumbersAscend, numbers_of, file_at, is_in_use, is_directory_at}
 use Rattle.xfs_naming.proofs.Ascending.{ascend_low}
 
 -- an element of which a test tells
@@ -14,7 +14,7 @@ pub any_of : {X : Type 0} (p : X → Bool) (P : X → Type 0) (xs : List X) → 
 any_of p P xs says any = let found = Any-from_list_any p xs any in (found.0, found.1, found.2, found.3, says found.1 found.4)
 
 -- none has a number that is lower
-none_lower : (q : FileRec → Bool) (low x : ℕ) (files : List FileRec) → Ascend low (numbers_of files) → x < low → list_any (λ (f : FileRec). f.ino == x && q f) files ≡ false
+none_lower : (q : FileRec → Bool) (low x : ℕ) (files : List FileRec) → NumbersAscend low (numbers_of files) → x < low → list_any (λ (f : FileRec). f.ino == x && q f) files ≡ false
 none_lower q low x [] up less = refl
 none_lower q low x (f ∷ fs) up less =
     let apart : f.ino == x ≡ false = grind (arith, nat_tests, up.0) in
@@ -29,12 +29,12 @@ many_numbers : (files : List FileRec) → length (numbers_of files) ≡ length f
 many_numbers [] = refl
 many_numbers (f ∷ fs) = ap suc (many_numbers fs)
 
-above : (low : ℕ) (files : List FileRec) → Ascend low (numbers_of files) → (k : ℕ) (d : FileRec) → k < length files → low ≤ (get_or files k d).ino
+above : (low : ℕ) (files : List FileRec) → NumbersAscend low (numbers_of files) → (k : ℕ) (d : FileRec) → k < length files → low ≤ (get_or files k d).ino
 above low files up k d h =
     subst (λ (n : ℕ). low ≤ n) (number_at files k d h) (ascend_low low (numbers_of files) up k (subst (λ (n : ℕ). k < n) (sym (many_numbers files)) h))
 
 -- what a file of a number passes, the file that stands there passes
-pub own_test : (q : FileRec → Bool) (low : ℕ) (files : List FileRec) → Ascend low (numbers_of files) → (k : ℕ) (d : FileRec) → k < length files
+pub own_test : (q : FileRec → Bool) (low : ℕ) (files : List FileRec) → NumbersAscend low (numbers_of files) → (k : ℕ) (d : FileRec) → k < length files
     → list_any (λ (f : FileRec). f.ino == (get_or files k d).ino && q f) files ≡ q (get_or files k d)
 own_test q low [] up k d h = absurd (omega arith)
 own_test q low (f ∷ fs) up zero d h =
@@ -50,7 +50,7 @@ own_test q low (f ∷ fs) up (suc k) d h =
     ap (λ (t : Bool). (t && q f) || list_any (λ (g : FileRec). g.ino == (get_or fs k d).ino && q g) fs) apart ∙ own_test q (f.ino + 1) fs up.1 k d (omega arith)
 
 -- the file of its number
-pub own_file : (low : ℕ) (files : List FileRec) → Ascend low (numbers_of files) → (k : ℕ) (d : FileRec) → k < length files → file_at files (get_or files k d).ino ≡ Some (get_or files k d)
+pub own_file : (low : ℕ) (files : List FileRec) → NumbersAscend low (numbers_of files) → (k : ℕ) (d : FileRec) → k < length files → file_at files (get_or files k d).ino ≡ Some (get_or files k d)
 own_file low [] up k d h = absurd (omega arith)
 own_file low (f ∷ fs) up zero d h = ap (λ (t : Bool). cond t (Some f) (file_at fs f.ino)) (eq-eqb f.ino f.ino refl)
 own_file low (f ∷ fs) up (suc k) d h =

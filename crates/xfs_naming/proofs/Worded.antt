@@ -12,7 +12,7 @@ use Rattle.xfs_volume.specs.Laws.{first_broken, law_at}
 use Rattle.xfs_volume.specs.Names.{is_name, type_of, is_directory}
 use Rattle.xfs_naming.specs.Lawful.{IsReached, IsOrdinary, IsSystemFile, HasLawfulEntries, HasLawfulPlaces, HasLawfulLinks, IsNamingLawful}
 use Rattle.xfs_naming.specs.Lawful.IsReached.{at_root, by_entry}
-use Rattle.xfs_naming.specs.Naming.{is_system, is_in_use, is_directory_at, entries_in, entries_of, names_differ, has_target, has_type, first_failing, directory_tests, directory_at, reached_in, is_reached, states_parent, root_tests, other_directory_tests, other_file_tests, place_tests, place_at, with_number, numbers_of, links_of, is_empty_regular, links_at, file_at, directory_laws, place_laws, link_laws, naming_laws, AreNamed}
+use Rattle.xfs_naming.specs.Naming.{is_system, is_in_use, is_directory_at, entries_in, entries_to, names_differ, has_target, has_type, first_failing, directory_tests, directory_at, reached_in, is_reached, states_parent, root_tests, other_directory_tests, other_file_tests, place_tests, place_law, with_number, numbers_of, links_of, is_empty_regular, links_at, file_at, directory_laws, place_laws, link_laws, naming_laws, AreNamed}
 use Rattle.xfs_naming.proofs.Chosen.{any_in_run}
 use Rattle.xfs_naming.proofs.Grouped.{has_record_is, grouped_dir}
 use Rattle.xfs_naming.proofs.Kept.{kept_front, kept_behind, kept_each, kept_at, four_pass, three_pass, one_pass, in_with, in_numbers, passes_at}
@@ -123,34 +123,34 @@ module _ (root : ℕ) (files : List FileRec) (entries : List EntryRec) (dirs : L
   -- what the eighth law says of a number
   placed : first_broken (place_laws root files entries dirs) ≡ None → (x : ℕ) → (x == root || is_in_use files x) ≡ true → first_failing (place_tests root files entries dirs x) ≡ 0
   unfolding place_laws
-  placed none x there = kept_at (place_at root files entries dirs) (with_number root (numbers_of files)) none x (in_with root (numbers_of files) x ∙ ap (λ (t : Bool). x == root || t) (in_numbers files x) ∙ there)
+  placed none x there = kept_at (place_law root files entries dirs) (with_number root (numbers_of files)) none x (in_with root (numbers_of files) x ∙ ap (λ (t : Bool). x == root || t) (in_numbers files x) ∙ there)
 
   root_pass : first_broken (place_laws root files entries dirs) ≡ None
-      → (length (entries_of entries root) == 0 ≡ true) × ((not (is_directory_at files root) || states_parent dirs root root) ≡ true) × (is_directory_at files root ≡ true)
-  root_pass none = three_pass (length (entries_of entries root) == 0) (not (is_directory_at files root) || states_parent dirs root root) (is_directory_at files root)
+      → (length (entries_to entries root) == 0 ≡ true) × ((not (is_directory_at files root) || states_parent dirs root root) ≡ true) × (is_directory_at files root ≡ true)
+  root_pass none = three_pass (length (entries_to entries root) == 0) (not (is_directory_at files root) || states_parent dirs root root) (is_directory_at files root)
       (sym (ap (λ (t : Bool). first_failing (cond t (root_tests root files entries dirs)
       (cond (is_directory_at files root) (other_directory_tests root entries dirs root) (other_file_tests root entries root)))) (eq-eqb root root refl))
       ∙ placed none root (or_left (root == root) _ (eq-eqb root root refl)))
 
   other_pass : first_broken (place_laws root files entries dirs) ≡ None → (x : ℕ) → (x ≡ root → ⊥) → is_directory_at files x ≡ true
-      → (length (entries_of entries x) == 1 ≡ true) × (list_all (λ (e : EntryRec). states_parent dirs x e.dir) (entries_of entries x) ≡ true) × (is_reached dirs entries root x ≡ true)
-  other_pass none x apart dir = three_pass (length (entries_of entries x) == 1) (list_all (λ (e : EntryRec). states_parent dirs x e.dir) (entries_of entries x)) (is_reached dirs entries root x)
+      → (length (entries_to entries x) == 1 ≡ true) × (list_all (λ (e : EntryRec). states_parent dirs x e.dir) (entries_to entries x) ≡ true) × (is_reached dirs entries root x ≡ true)
+  other_pass none x apart dir = three_pass (length (entries_to entries x) == 1) (list_all (λ (e : EntryRec). states_parent dirs x e.dir) (entries_to entries x)) (is_reached dirs entries root x)
       (sym (ap (λ (t : Bool). first_failing (cond (x == root) (root_tests root files entries dirs) (cond t (other_directory_tests root entries dirs x) (other_file_tests root entries x)))) dir
       ∙ ap (λ (t : Bool). first_failing (cond t (root_tests root files entries dirs) (other_directory_tests root entries dirs x))) (ne_eqb x root apart))
       ∙ placed none x (or_right (x == root) _ (dir_in_use files x dir)))
 
   file_pass : first_broken (place_laws root files entries dirs) ≡ None → (x : ℕ) → (x ≡ root → ⊥) → is_directory_at files x ≡ false → is_in_use files x ≡ true
-      → (is_system root x || nat_le 1 (length (entries_of entries x))) ≡ true
-  file_pass none x apart other used = one_pass (is_system root x || nat_le 1 (length (entries_of entries x)))
+      → (is_system root x || nat_le 1 (length (entries_to entries x))) ≡ true
+  file_pass none x apart other used = one_pass (is_system root x || nat_le 1 (length (entries_to entries x)))
       (sym (ap (λ (t : Bool). first_failing (cond (x == root) (root_tests root files entries dirs) (cond t (other_directory_tests root entries dirs x) (other_file_tests root entries x)))) other
       ∙ ap (λ (t : Bool). first_failing (cond t (root_tests root files entries dirs) (other_file_tests root entries x))) (ne_eqb x root apart))
       ∙ placed none x (or_right (x == root) _ used))
 
   -- some entry names a number, or none
-  some_named : (x : ℕ) → 1 ≤ length (entries_of entries x) → list_any (λ (e : EntryRec). e.ino == x) entries ≡ true
-  some_named x some = sym (any_in_run (λ (e : EntryRec). e.ino == x) entries) ∙ ap not (ne_eqb (length (entries_of entries x)) 0 (λ e. absurd (omega arith)))
+  some_named : (x : ℕ) → 1 ≤ length (entries_to entries x) → list_any (λ (e : EntryRec). e.ino == x) entries ≡ true
+  some_named x some = sym (any_in_run (λ (e : EntryRec). e.ino == x) entries) ∙ ap not (ne_eqb (length (entries_to entries x)) 0 (λ e. absurd (omega arith)))
 
-  none_named : (x : ℕ) → length (entries_of entries x) == 0 ≡ true → list_any (λ (e : EntryRec). e.ino == x) entries ≡ false
+  none_named : (x : ℕ) → length (entries_to entries x) == 0 ≡ true → list_any (λ (e : EntryRec). e.ino == x) entries ≡ false
   none_named x none = sym (any_in_run (λ (e : EntryRec). e.ino == x) entries) ∙ ap not none
 
   pub lawful_places : first_broken (place_laws root files entries dirs) ≡ None → HasLawfulPlaces root files entries dirs
@@ -158,7 +158,7 @@ module _ (root : ℕ) (files : List FileRec) (entries : List EntryRec) (dirs : L
     root_directory = any_of (λ (f : FileRec). f.ino == root && is_directory f) _ files (λ f e. let parts = and_parts (f.ino == root) (is_directory f) e in (eqb-true f.ino root parts.0, eqb-true (type_of f) 4 parts.1)) root_dir;
     root_unnamed = unnamed;
     root_parent = any_of (λ (d : DirRec). d.ino == root && d.parent == root) _ dirs (λ d e. let parts = and_parts (d.ino == root) (d.parent == root) e in (eqb-true d.ino root parts.0, eqb-true d.parent root parts.1)) root_states;
-    once = λ k d h apart. eqb-true (length (entries_of entries (get_or dirs k d).ino)) 1 (other_pass none (get_or dirs k d).ino apart (recorded k d h)).0;
+    once = λ k d h apart. eqb-true (length (entries_to entries (get_or dirs k d).ino)) 1 (other_pass none (get_or dirs k d).ino apart (recorded k d h)).0;
     by_parent = λ k d h dir. any_of (λ (r : DirRec). r.ino == (get_or entries k d).ino && r.parent == (get_or entries k d).dir) _ dirs
         (λ r e. let parts = and_parts (r.ino == (get_or entries k d).ino) (r.parent == (get_or entries k d).dir) e in (eqb-true r.ino _ parts.0, eqb-true r.parent _ parts.1))
         (passes_at (λ (e : EntryRec). states_parent dirs (get_or entries k d).ino e.dir) (λ (e : EntryRec). e.ino == (get_or entries k d).ino) entries
@@ -256,11 +256,11 @@ module _ (root : ℕ) (files : List FileRec) (entries : List EntryRec) (dirs : L
     of_directories = λ k d h dir. elim (cases_Bool (is_system root (get_or files k d).ino)) [
       | inl system ↦ absurd (four_eight (type_of (get_or files k d)) dir (empty_type (get_or files k d) (system_links (get_or files k d) (get_or files k d).ino system (own_linked none k d h)).0).0)
       | inr ordinary ↦ ordinary_links (get_or files k d) (get_or files k d).ino ordinary (own_linked none k d h)
-          ∙ ap (λ (t : Bool). cond t (2 + count_by (λ (e : EntryRec). is_directory_at files e.ino) (entries_in entries (get_or files k d).ino)) (length (entries_of entries (get_or files k d).ino))) (eq-eqb (type_of (get_or files k d)) 4 dir)
+          ∙ ap (λ (t : Bool). cond t (2 + count_by (λ (e : EntryRec). is_directory_at files e.ino) (entries_in entries (get_or files k d).ino)) (length (entries_to entries (get_or files k d).ino))) (eq-eqb (type_of (get_or files k d)) 4 dir)
     ];
     of_others = λ k d h other ordinary.
         ordinary_links (get_or files k d) (get_or files k d).ino (ordinary_is root (get_or files k d).ino ordinary) (own_linked none k d h)
-        ∙ ap (λ (t : Bool). cond t (2 + count_by (λ (e : EntryRec). is_directory_at files e.ino) (entries_in entries (get_or files k d).ino)) (length (entries_of entries (get_or files k d).ino))) (ne_eqb (type_of (get_or files k d)) 4 other);
+        ∙ ap (λ (t : Bool). cond t (2 + count_by (λ (e : EntryRec). is_directory_at files e.ino) (entries_in entries (get_or files k d).ino)) (length (entries_to entries (get_or files k d).ino))) (ne_eqb (type_of (get_or files k d)) 4 other);
     first = system_file none (root + 1) (or_left (root + 1 == root + 1) _ (eq-eqb (root + 1) (root + 1) refl));
     second = system_file none (root + 2) (or_right (root + 2 == root + 1) _ (eq-eqb (root + 2) (root + 2) refl));
   }

@@ -5,7 +5,7 @@ use Rattle.xfs_dirdata.specs.declared.records.EntryRec.{EntryRec}
 use Rattle.xfs_volume.specs.declared.directories.DirRec.{DirRec}
 use Rattle.xfs_volume.specs.declared.files.FileRec.{FileRec}
 use Rattle.xfs_volume.specs.Names.{is_name, type_of, entry_type}
-use Rattle.xfs_naming.specs.Naming.{is_directory_at, entries_of, entries_in}
+use Rattle.xfs_naming.specs.Naming.{is_directory_at, entries_to, entries_in}
 
 -- a way of entries leads from the root: each is in the directory to which those before it lead
 pub data IsReached : List EntryRec → ℕ → ℕ → Type 0 where
@@ -48,7 +48,7 @@ pub record HasLawfulPlaces (root : ℕ) (files : List FileRec) (entries : List E
   pub root_directory : Any (λ (f : FileRec). (f.ino ≡ root) × IsDirectory f) files
   pub root_unnamed : All (λ (e : EntryRec). e.ino ≢ root) entries
   pub root_parent : Any (λ (d : DirRec). (d.ino ≡ root) × (d.parent ≡ root)) dirs
-  pub once : All (λ (d : DirRec). d.ino ≢ root → length (entries_of entries d.ino) ≡ 1) dirs
+  pub once : All (λ (d : DirRec). d.ino ≢ root → length (entries_to entries d.ino) ≡ 1) dirs
   pub by_parent : All (λ (e : EntryRec). is_directory_at files e.ino ≡ true → Any (λ (d : DirRec). (d.ino ≡ e.ino) × (d.parent ≡ e.dir)) dirs) entries
   pub reached : All (λ (d : DirRec). IsReached entries root d.ino) dirs
   pub named : All (λ (f : FileRec). IsOther f → IsOrdinary root f.ino → Any (λ (e : EntryRec). e.ino ≡ f.ino) entries) files
@@ -56,7 +56,7 @@ pub record HasLawfulPlaces (root : ℕ) (files : List FileRec) (entries : List E
 -- a directory has two links and one for each directory in it, another file one for each name; the system's two files are there
 pub record HasLawfulLinks (root : ℕ) (files : List FileRec) (entries : List EntryRec) : Type 0 where
   pub of_directories : All (λ (f : FileRec). IsDirectory f → f.core.nlink ≡ 2 + count_by (λ (e : EntryRec). is_directory_at files e.ino) (entries_in entries f.ino)) files
-  pub of_others : All (λ (f : FileRec). IsOther f → IsOrdinary root f.ino → f.core.nlink ≡ length (entries_of entries f.ino)) files
+  pub of_others : All (λ (f : FileRec). IsOther f → IsOrdinary root f.ino → f.core.nlink ≡ length (entries_to entries f.ino)) files
   pub first : Any (IsSystemFile (root + 1)) files
   pub second : Any (IsSystemFile (root + 2)) files
 

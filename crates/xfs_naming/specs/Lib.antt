@@ -1,4 +1,4 @@
 pub mod Naming
 pub mod Ordered
-pub mod Walking
 pub mod Lawful
+pub mod Private

@@ -27,8 +27,8 @@ is_directory_at files ino = list_any (λ (f : FileRec). f.ino == ino && is_direc
 abbrev pub entries_in : List EntryRec → ℕ → List EntryRec
 entries_in entries dir = filter (λ (e : EntryRec). e.dir == dir) entries
 
-abbrev pub entries_of : List EntryRec → ℕ → List EntryRec
-entries_of entries ino = filter (λ (e : EntryRec). e.ino == ino) entries
+abbrev pub entries_to : List EntryRec → ℕ → List EntryRec
+entries_to entries ino = filter (λ (e : EntryRec). e.ino == ino) entries
 
 -- no two entries have one name
 abbrev pub names_differ : List EntryRec → Bool
@@ -44,12 +44,12 @@ abbrev pub has_type : List FileRec → EntryRec → Bool
 has_type files e = e.ftype == 0 || list_any (λ (f : FileRec). f.ino == e.ino && entry_type (type_of f) == e.ftype) files
 
 -- the tests by number: the number of the first that fails, or 0
-abbrev pub number_of : Option ℕ → ℕ
-number_of None = 0
-number_of (Some number) = number
+abbrev pub number_or_zero : Option ℕ → ℕ
+number_or_zero None = 0
+number_or_zero (Some number) = number
 
 abbrev pub first_failing : List (ℕ × Bool) → ℕ
-first_failing tests = number_of (first_false tests)
+first_failing tests = number_or_zero (first_false tests)
 
 -- the seventh law: a directory is whole, its names can be names and differ, its targets are in use, its types are right
 abbrev pub directory_tests : ℕ → List FileRec → List EntryRec → DirRec → List (ℕ × Bool)
@@ -81,7 +81,7 @@ states_parent dirs ino parent = list_any (λ (d : DirRec). d.ino == ino && d.par
 -- the eighth law for the root: no entry names it, it is its own parent, it is a directory
 abbrev pub root_tests : ℕ → List FileRec → List EntryRec → List DirRec → List (ℕ × Bool)
 root_tests root files entries dirs =
-    (1, length (entries_of entries root) == 0)
+    (1, length (entries_to entries root) == 0)
     ∷ (2, not (is_directory_at files root) || states_parent dirs root root)
     ∷ (3, is_directory_at files root)
     ∷ []
@@ -89,22 +89,22 @@ root_tests root files entries dirs =
 -- for another directory: one entry names it, that entry's directory is its parent, it is reached from the root
 abbrev pub other_directory_tests : ℕ → List EntryRec → List DirRec → ℕ → List (ℕ × Bool)
 other_directory_tests root entries dirs ino =
-    (1, length (entries_of entries ino) == 1)
-    ∷ (2, list_all (λ (e : EntryRec). states_parent dirs ino e.dir) (entries_of entries ino))
+    (1, length (entries_to entries ino) == 1)
+    ∷ (2, list_all (λ (e : EntryRec). states_parent dirs ino e.dir) (entries_to entries ino))
     ∷ (3, is_reached dirs entries root ino)
     ∷ []
 
 -- for a file that is no directory: an entry names it, unless it is one of the system's
 abbrev pub other_file_tests : ℕ → List EntryRec → ℕ → List (ℕ × Bool)
-other_file_tests root entries ino = (4, is_system root ino || nat_le 1 (length (entries_of entries ino))) ∷ []
+other_file_tests root entries ino = (4, is_system root ino || nat_le 1 (length (entries_to entries ino))) ∷ []
 
 abbrev pub place_tests : ℕ → List FileRec → List EntryRec → List DirRec → ℕ → List (ℕ × Bool)
 place_tests root files entries dirs ino =
     if ino == root then root_tests root files entries dirs
     else (if is_directory_at files ino then other_directory_tests root entries dirs ino else other_file_tests root entries ino)
 
-abbrev pub place_at : ℕ → List FileRec → List EntryRec → List DirRec → ℕ → Law
-place_at root files entries dirs ino = law_at 8 ino (first_failing (place_tests root files entries dirs ino)) 0
+abbrev pub place_law : ℕ → List FileRec → List EntryRec → List DirRec → ℕ → Law
+place_law root files entries dirs ino = law_at 8 ino (first_failing (place_tests root files entries dirs ino)) 0
 
 -- a number at its place among ascending ones
 abbrev pub with_number : ℕ → List ℕ → List ℕ
@@ -119,7 +119,7 @@ numbers_of files = map (λ (f : FileRec). f.ino) files
 abbrev pub links_of : List FileRec → List EntryRec → FileRec → ℕ
 links_of files entries f =
     if is_directory f then 2 + count_by (λ (e : EntryRec). is_directory_at files e.ino) (entries_in entries f.ino)
-    else length (entries_of entries f.ino)
+    else length (entries_to entries f.ino)
 
 -- a file of the system's own is regular and empty: no bytes, no data, no tree of extents
 abbrev pub is_empty_regular : FileRec → Bool
@@ -141,7 +141,7 @@ unfoldable pub directory_laws : ℕ → List FileRec → List EntryRec → List 
 directory_laws root files entries dirs = map (directory_at root files entries) dirs
 
 unfoldable pub place_laws : ℕ → List FileRec → List EntryRec → List DirRec → List Law
-place_laws root files entries dirs = map (place_at root files entries dirs) (with_number root (numbers_of files))
+place_laws root files entries dirs = map (place_law root files entries dirs) (with_number root (numbers_of files))
 
 unfoldable pub link_laws : ℕ → List FileRec → List EntryRec → List Law
 link_laws root files entries =
@@ -153,9 +153,9 @@ naming_laws root files entries dirs =
     directory_laws root files entries dirs ++ place_laws root files entries dirs ++ link_laws root files entries
 
 -- the numbers ascend
-abbrev pub Ascend : ℕ → List ℕ → Type 0
-Ascend low [] = Unit {0}
-Ascend low (x ∷ xs) = (low ≤ x) × Ascend (x + 1) xs
+abbrev pub NumbersAscend : ℕ → List ℕ → Type 0
+NumbersAscend low [] = Unit {0}
+NumbersAscend low (x ∷ xs) = (low ≤ x) × NumbersAscend (x + 1) xs
 
 -- the entries stand by directory, in the order of the directories
 abbrev pub AreGrouped : List DirRec → List EntryRec → Type 0
@@ -167,6 +167,6 @@ AreGrouped (d ∷ ds) entries =
 -- files ascend by number; there is a record for each directory among them, and no other; the entries are of these directories,
 -- grouped in their order
 pub record AreNamed (files : List FileRec) (entries : List EntryRec) (dirs : List DirRec) : Type 0 where
-  pub files_ascend : Ascend 0 (numbers_of files)
+  pub files_ascend : NumbersAscend 0 (numbers_of files)
   pub directories : map (λ (d : DirRec). d.ino) dirs ≡ map (λ (f : FileRec). f.ino) (filter is_directory files)
   pub grouped : AreGrouped dirs entries

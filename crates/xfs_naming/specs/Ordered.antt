@@ -8,7 +8,7 @@ use Rattle.xfs_volume.specs.declared.files.FileRec.{FileRec}
 use Rattle.xfs_naming.specs.declared.runs.Link.{Link}
 use Rattle.xfs_naming.specs.declared.naming.Names.{Names}
 use Rattle.xfs_naming.specs.Lawful.{IsReached}
-use Rattle.xfs_naming.specs.Naming.{entries_of, is_directory_at, is_reached}
+use Rattle.xfs_naming.specs.Naming.{entries_to, is_directory_at, is_reached}
 
 -- the link that an entry is
 abbrev pub link_of : EntryRec → Link
@@ -20,9 +20,9 @@ links_to links ino = filter (λ (l : Link). l.target == ino) links
 
 -- there is a link for each entry: as many to a number, and from the same directories
 pub record AreLinks (entries : List EntryRec) (links : List Link) : Type 0 where
-  pub as_many : (ino : ℕ) → length (links_to links ino) ≡ length (entries_of entries ino)
+  pub as_many : (ino : ℕ) → length (links_to links ino) ≡ length (entries_to entries ino)
   pub alike : (ino : ℕ) (passes : ℕ → Bool)
-      → list_all (λ (l : Link). passes l.dir) (links_to links ino) ≡ list_all (λ (e : EntryRec). passes e.dir) (entries_of entries ino)
+      → list_all (λ (l : Link). passes l.dir) (links_to links ino) ≡ list_all (λ (e : EntryRec). passes e.dir) (entries_to entries ino)
 
 -- all that is looked at by number is in its order
 pub record AreOrdered (root : ℕ) (files : List FileRec) (entries : List EntryRec) (dirs : List DirRec) (links : List Link) : Type 0 where

@@ -10,7 +10,7 @@ ghost use Rattle.xfs_naming.specs.Ordered.{IsOrdered};
 use crate::lookups::{file_at, is_directory_at, is_system};
 use crate::naming::Names;
 use crate::places::names_of;
-use crate::runs::run_of;
+use crate::runs::records_by_number;
 use xfs_dirdata::EntryRec;
 use xfs_volume::{FileRec, Law, is_directory, type_of};
 
@@ -34,7 +34,7 @@ fn links_due(names: &Names, file: &FileRec) -> u128
     ensures { result ≡ links_of names.now.files.now names.now.entries.now file.now }
 {
     if is_directory(file) {
-        2 + count_directories(names, run_of(names.entries, file.ino)) as u128
+        2 + count_directories(names, records_by_number(names.entries, file.ino)) as u128
     } else {
         names_of(names, file.ino) as u128
     }

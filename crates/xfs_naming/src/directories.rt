@@ -11,7 +11,7 @@ ghost use Rattle.xfs_naming.specs.Ordered.{IsOrdered};
 
 use crate::lookups::{entry_type, is_in_use, is_system};
 use crate::naming::Names;
-use crate::runs::run_of;
+use crate::runs::records_by_number;
 use crate::texts::has_right_names;
 use std::alloc::Global;
 use xfs_dirdata::EntryRec;
@@ -38,7 +38,7 @@ fn has_type(names: &Names, entry: &EntryRec) -> bool
     requires { IsOrdered names.now }
     ensures { result ≡ has_type names.now.files.now entry.now }
 {
-    entry.ftype == 0 || have_type(run_of(names.files, entry.ino), entry.ftype)
+    entry.ftype == 0 || have_type(records_by_number(names.files, entry.ino), entry.ftype)
 }
 
 /// Whether each entry names a file in use that is not one of the system's.
@@ -87,7 +87,7 @@ fn directory_at(alloc: Global, names: &Names, dir: &DirRec) -> Result<Law, NoMem
     requires { IsOrdered names.now }
     ensures { IfOk result (λ law. law ≡ directory_at names.now.root names.now.files.now names.now.entries.now dir.now) }
 {
-    let number = first_failing(alloc, names, run_of(names.entries, dir.ino), dir)?;
+    let number = first_failing(alloc, names, records_by_number(names.entries, dir.ino), dir)?;
     Ok(Law {
         law: 7,
         place: dir.ino,

@@ -9,7 +9,7 @@ ghost use Rattle.xfs_naming.specs.Naming.{is_system, is_in_use, is_directory_at,
 ghost use Rattle.xfs_naming.specs.Ordered.{IsOrdered};
 
 use crate::naming::Names;
-use crate::runs::run_of;
+use crate::runs::records_by_number;
 use xfs_volume::{DirRec, FileRec, is_directory};
 
 /// Whether a number is that of one of the two files of the system's own, which stand behind the root.
@@ -42,7 +42,7 @@ pub fn file_at<'a>(names: &Names<'a>, ino: u64) -> Option<&'a FileRec>
     requires { IsOrdered names.now }
     ensures { option_copied result ≡ file_at names.now.files.now ino }
 {
-    run_of(names.files, ino).first()
+    records_by_number(names.files, ino).first()
 }
 
 /// Whether a file with the number is in use.
@@ -50,7 +50,7 @@ pub fn is_in_use(names: &Names, ino: u64) -> bool
     requires { IsOrdered names.now }
     ensures { result ≡ is_in_use names.now.files.now ino }
 {
-    !run_of(names.files, ino).is_empty()
+    !records_by_number(names.files, ino).is_empty()
 }
 
 /// Whether one of these files is a directory.
@@ -72,7 +72,7 @@ pub fn is_directory_at(names: &Names, ino: u64) -> bool
     requires { IsOrdered names.now }
     ensures { result ≡ is_directory_at names.now.files.now ino }
 {
-    have_directory(run_of(names.files, ino))
+    have_directory(records_by_number(names.files, ino))
 }
 
 /// Whether a directory states this parent.
@@ -80,5 +80,5 @@ pub fn states_parent(names: &Names, ino: u64, parent: u64) -> bool
     requires { IsOrdered names.now }
     ensures { result ≡ states_parent names.now.dirs.now ino parent }
 {
-    have_parent(run_of(names.dirs, ino), parent)
+    have_parent(records_by_number(names.dirs, ino), parent)
 }

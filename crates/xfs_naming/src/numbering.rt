@@ -1,7 +1,7 @@
 //! The numbers of files, and of some that should be.
 
 ghost use Rattle.std.specs.Prelude.{◌≡◌, ℕ, ◌<◌, length, slice_index, IfOk, MatchResult};
-ghost use Rattle.xfs_naming.specs.Naming.{Ascend, numbers_of, with_number};
+ghost use Rattle.xfs_naming.specs.Naming.{NumbersAscend, numbers_of, with_number};
 ghost use Rattle.xfs_naming.specs.Ordered.{IsPlaceFor};
 
 use std::alloc::{AllocError, AllocFailed, Global};
@@ -16,7 +16,7 @@ pub fn numbers_of(alloc: Global, files: &[FileRec]) -> Result<Vec<u64>, AllocErr
 
 /// Where a number stands among ascending ones, or where it has to stand.
 fn place_of(numbers: &[u64], number: u64) -> Result<usize, usize>
-    requires { Ascend 0 numbers.now }
+    requires { NumbersAscend 0 numbers.now }
     ensures { MatchResult result (λ i. (i < length numbers.now) × (slice_index numbers.now i ≡ number)) (IsPlaceFor numbers.now number) }
 {
     numbers.binary_search(&number)
@@ -24,9 +24,9 @@ fn place_of(numbers: &[u64], number: u64) -> Result<usize, usize>
 
 /// A number at its place among ascending ones.
 pub fn with_number(numbers: Vec<u64>, number: u64) -> Result<Vec<u64>, AllocFailed<u64>>
-    requires { Ascend 0 numbers.items }
+    requires { NumbersAscend 0 numbers.items }
     ensures placed { IfOk result (λ more. more.items ≡ with_number number numbers.items) }
-    ensures ascend { IfOk result (λ more. Ascend 0 more.items) }
+    ensures ascend { IfOk result (λ more. NumbersAscend 0 more.items) }
 {
     let mut numbers = numbers;
     match place_of(numbers.as_slice(), number) {

@@ -5,21 +5,21 @@ ghost use Rattle.std.specs.List.{list_all};
 ghost use Rattle.xfs_dirdata.specs.declared.records.EntryRec.{EntryRec};
 ghost use Rattle.xfs_volume.specs.Laws.{first_broken};
 ghost use Rattle.xfs_naming.specs.declared.runs.Link.{Link};
-ghost use Rattle.xfs_naming.specs.Naming.{states_parent, is_directory_at, first_failing, root_tests, other_directory_tests, other_file_tests, place_tests, place_at, place_laws, entries_of, with_number, numbers_of};
+ghost use Rattle.xfs_naming.specs.Naming.{states_parent, is_directory_at, first_failing, root_tests, other_directory_tests, other_file_tests, place_tests, place_law, place_laws, entries_to, with_number, numbers_of};
 ghost use Rattle.xfs_naming.specs.Ordered.{IsOrdered, IsWalked, links_to};
 
 use crate::lookups::{is_directory_at, is_system, states_parent};
 use crate::naming::Names;
-use crate::runs::{Link, run_of};
+use crate::runs::{Link, records_by_number};
 use std::collections::HashSet;
 use xfs_volume::Law;
 
 /// How many entries name a file.
 pub fn names_of(names: &Names, ino: u64) -> usize
     requires { IsOrdered names.now }
-    ensures { result ≡ length (entries_of names.now.entries.now ino) }
+    ensures { result ≡ length (entries_to names.now.entries.now ino) }
 {
-    run_of(names.links, ino).len()
+    records_by_number(names.links, ino).len()
 }
 
 /// Whether each of these links is from a directory that a directory states as its parent.
@@ -33,9 +33,9 @@ fn are_from_parent(names: &Names, ino: u64, links: &[Link]) -> bool
 /// Whether each entry that names a directory is in the one that it states as its parent.
 fn is_below_parent(names: &Names, ino: u64) -> bool
     requires { IsOrdered names.now }
-    ensures { result ≡ list_all (λ (e : EntryRec). states_parent names.now.dirs.now ino e.dir) (entries_of names.now.entries.now ino) }
+    ensures { result ≡ list_all (λ (e : EntryRec). states_parent names.now.dirs.now ino e.dir) (entries_to names.now.entries.now ino) }
 {
-    are_from_parent(names, ino, run_of(names.links, ino))
+    are_from_parent(names, ino, records_by_number(names.links, ino))
 }
 
 /// The number of the first test that the root fails, or 0.
@@ -105,10 +105,10 @@ fn first_failing(names: &Names, reached: &HashSet<u64>, ino: u64) -> u8
 }
 
 /// What the eighth law says of a file.
-fn place_at(names: &Names, reached: &HashSet<u64>, ino: u64) -> Law
+fn place_law(names: &Names, reached: &HashSet<u64>, ino: u64) -> Law
     requires ordered { IsOrdered names.now }
     requires walked { IsWalked names.now reached.now.keys }
-    ensures { result ≡ place_at names.now.root names.now.files.now names.now.entries.now names.now.dirs.now ino }
+    ensures { result ≡ place_law names.now.root names.now.files.now names.now.entries.now names.now.dirs.now ino }
 {
     Law {
         law: 8,
@@ -122,10 +122,10 @@ fn place_at(names: &Names, reached: &HashSet<u64>, ino: u64) -> Law
 pub fn broken_place(names: &Names, reached: &HashSet<u64>, numbers: &[u64]) -> Option<Law>
     requires ordered { IsOrdered names.now }
     requires walked { IsWalked names.now reached.now.keys }
-    ensures { result ≡ first_broken (map (place_at names.now.root names.now.files.now names.now.entries.now names.now.dirs.now) numbers.now) }
+    ensures { result ≡ first_broken (map (place_law names.now.root names.now.files.now names.now.entries.now names.now.dirs.now) numbers.now) }
 {
     for ino in numbers {
-        let law = place_at(names, reached, *ino);
+        let law = place_law(names, reached, *ino);
         if law.held != law.due {
             return Some(law);
         }

@@ -73,7 +73,7 @@ fn run_length<T: Numbered>(records: &[T], number: u64) -> usize
 
 /// The records that go by a number, of records in order. The search takes the steps of one among all, and one for each
 /// record that is found.
-pub fn run_of<T: Numbered>(records: &[T], number: u64) -> &[T]
+pub fn records_by_number<T: Numbered>(records: &[T], number: u64) -> &[T]
     requires { IsNonDecreasingBy T.key records.now }
     ensures { result.now ≡ filter (λ x. T.key x == number) records.now }
 {

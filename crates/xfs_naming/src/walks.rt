@@ -5,11 +5,11 @@ ghost use Rattle.std.specs.List.{list_any};
 ghost use Rattle.xfs_dirdata.specs.declared.records.EntryRec.{EntryRec};
 ghost use Rattle.xfs_naming.specs.Naming.{AreNamed};
 ghost use Rattle.xfs_naming.specs.Ordered.{IsOrdered, IsWalked, HasShortWays};
-ghost use Rattle.xfs_naming.specs.Walking.{HasMarked};
+ghost use Rattle.xfs_naming.specs.Private.Walking.{HasMarked};
 
 use crate::lookups::is_directory_at;
 use crate::naming::Names;
-use crate::runs::run_of;
+use crate::runs::records_by_number;
 use std::alloc::Global;
 use std::collections::HashSet;
 use xfs_dirdata::EntryRec;
@@ -64,7 +64,7 @@ pub fn walk(alloc: Global, names: &Names) -> Result<HashSet<u64>, NoMemory>
     while let Some(dir) = waiting.pop() {
         mark_named(
             names,
-            run_of(names.entries, dir),
+            records_by_number(names.entries, dir),
             &mut reached,
             &mut waiting,
         )?;

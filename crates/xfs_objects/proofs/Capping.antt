@@ -2,7 +2,7 @@
 use Rattle.std.proofs.Common.{◌≡◌, ℕ, suc, ◌+◌, ◌*◌, ◌^◌, ◌<◌, List, [], ◌∷◌, refl, sym, ◌∙◌, ap, min, arith, Bool, true, false, nat_le, length, drop, get_or, drop-cons, nat_lt, if◌then◌else◌, Option, Some, None}
 use Rattle.std.proofs.Math.Nat.{mul-le-mul_left}
 use Rattle.std.proofs.lemmas.Bool.Decides.{nat_tests}
-use Rattle.xfs_objects.specs.Numbers.{capped, capped_number, number_of, typed, typed_number}
+use Rattle.xfs_objects.specs.Numbers.{capped, capped_number, number_of_word, typed, typed_number}
 use Rattle.xfs_objects.specs.declared.numbers.Typed.{Typed}
 use Rattle.xfs_objects.specs.declared.numbers.Typed.TheVariants.{NoNumber, TooLarge, Number}
 use Rattle.std.specs.Char.{digit_value}
@@ -59,14 +59,14 @@ unfolding capped_number capped
 by_number None = refl
 by_number (Some n) = capped_fits n
 
-typed_is : (word : List ℕ) (number : Option ℕ) → number ≡ capped_number (number_of word) → typed_of number ≡ typed word
+typed_is : (word : List ℕ) (number : Option ℕ) → number ≡ capped_number (number_of_word word) → typed_of number ≡ typed word
 unfolding typed
-typed_is word number is = ap typed_of is ∙ by_number (number_of word)
+typed_is word number is = ap typed_of is ∙ by_number (number_of_word word)
 
-pub typed_none : (word : List ℕ) (number : Option ℕ) → number ≡ capped_number (number_of word) → number ≡ None → NoNumber ≡ typed word
+pub typed_none : (word : List ℕ) (number : Option ℕ) → number ≡ capped_number (number_of_word word) → number ≡ None → NoNumber ≡ typed word
 typed_none word number is none = ap typed_of (sym none) ∙ typed_is word number is
 
-pub typed_some : (word : List ℕ) (number : Option ℕ) (n : ℕ) → number ≡ capped_number (number_of word) → number ≡ Some n
+pub typed_some : (word : List ℕ) (number : Option ℕ) (n : ℕ) → number ≡ capped_number (number_of_word word) → number ≡ Some n
     → (if nat_lt n (2 ^ 64) then Number n else TooLarge) ≡ typed word
 typed_some word number n is some = ap typed_of (sym some) ∙ typed_is word number is
 

@@ -17,9 +17,9 @@ use Rattle.xfs_kinds.specs.InodeTrees.{inode_layout}
 use Rattle.xfs_kinds.specs.OwnerTrees.{owner_layout}
 use Rattle.xfs_objects.specs.declared.items.Shape.{Shape}
 use Rattle.xfs_objects.specs.declared.items.Shape.TheVariants.{Field, Pointer, Numbers}
-use Rattle.xfs_objects.specs.declared.items.Row.{Row}
-use Rattle.xfs_objects.specs.declared.items.Row.TheVariants.{Span, Chunk, ChunkStart, Owner, OwnerKeys, FileExtent, FileOffset}
-use Rattle.xfs_objects.specs.declared.items.Run.{Run}
+use Rattle.xfs_objects.specs.declared.items.PrintedRow.{PrintedRow}
+use Rattle.xfs_objects.specs.declared.items.PrintedRow.TheVariants.{Span, Chunk, ChunkStart, Owner, OwnerKeys, FileExtent, FileOffset}
+use Rattle.xfs_objects.specs.declared.items.ItemRun.{ItemRun}
 use Rattle.xfs_objects.specs.declared.items.Item as code
 use Rattle.xfs_objects.specs.Tables.{Item, super_fields, agf_fields, agi_front, agi_back, agfl_fields, short_fields, long_fields, inode_fields}
 use Rattle.xfs_objects.specs.declared.objects.ObjectType.{ObjectType}
@@ -47,27 +47,27 @@ row_items name first count offset step shape =
     map (λ (i : ℕ). record { name = indexed name (first + i); offset = offset + i * step; shape = shape }) (range_with_len 0 count)
 
 -- a run of the code
-abbrev pub run_items : Run → List Item
+abbrev pub run_items : ItemRun → List Item
 run_items r = row_items r.name.now r.first r.count r.offset r.step r.shape
 
 abbrev pub array_items : ArrayLayout → List Item
 array_items a = row_items a.name.now 0 a.count a.offset 4 (Field 4 a.form)
 
 -- the records of a leaf: as many as the block says, at most its capacity
-abbrev pub record_items : Layout → Row → List ℕ → List Item
+abbrev pub record_items : Layout → PrintedRow → List ℕ → List Item
 record_items l row block = row_items (codes "recs") 1 (min (count_of block) l.leaf_cap) (record_place l 0) l.record_len (Numbers row)
 
 -- the keys and the pointers of a node
-abbrev pub child_items : Layout → Row → List ℕ → List Item
+abbrev pub child_items : Layout → PrintedRow → List ℕ → List Item
 child_items l row block =
     row_items (codes "keys") 1 (min (count_of block) l.node_cap) (key_place l 0) (keys_len l) (Numbers row)
     ++ row_items (codes "ptrs") 1 (min (count_of block) l.node_cap) (pointer_place l 0) (pointer_len l) (Pointer (pointer_len l))
 
 -- a block whose level is 0 is a leaf
-unfoldable pub tree_items : Layout → Row → Row → List ℕ → List Item
+unfoldable pub tree_items : Layout → PrintedRow → PrintedRow → List ℕ → List Item
 tree_items l leaf_row node_row block = if level_of block == 0 then record_items l leaf_row block else child_items l node_row block
 
-abbrev pub block_items : List Item → Layout → Row → Row → List ℕ → List Item
+abbrev pub block_items : List Item → Layout → PrintedRow → PrintedRow → List ℕ → List Item
 block_items fields l leaf_row node_row block = fields ++ tree_items l leaf_row node_row block
 
 -- 64 chains of unlinked inodes
@@ -94,7 +94,7 @@ items_of Inode object = inode_fields
 items_of Data object = []
 
 -- the bytes of a row of numbers
-abbrev pub row_len : Row → ℕ
+abbrev pub row_len : PrintedRow → ℕ
 row_len Span = 8
 row_len Chunk = 16
 row_len ChunkStart = 4

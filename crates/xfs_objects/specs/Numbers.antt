@@ -7,12 +7,12 @@ use Rattle.xfs_objects.specs.declared.numbers.Typed.{Typed}
 use Rattle.xfs_objects.specs.declared.numbers.Typed.TheVariants.{NoNumber, TooLarge, Number}
 
 -- the byte is a digit in the base; both cases of letters count
-abbrev pub is_digit : ℕ → ℕ → Bool
-is_digit base byte = nat_lt (digit_value byte) base
+abbrev pub is_digit_of : ℕ → ℕ → Bool
+is_digit_of base byte = nat_lt (digit_value byte) base
 
 -- one digit or more, and nothing else
 abbrev pub is_numeral : ℕ → List ℕ → Bool
-is_numeral base digits = not (length digits == 0) && list_all (is_digit base) digits
+is_numeral base digits = not (length digits == 0) && list_all (is_digit_of base) digits
 
 abbrev pub is_decimal : List ℕ → Bool
 is_decimal word = is_numeral 10 word && (length word == 1 || not (bytes_eq (take 1 word) (codes "0")))
@@ -21,8 +21,8 @@ abbrev pub is_hexadecimal : List ℕ → Bool
 is_hexadecimal word = bytes_eq (take 2 word) (codes "0x") && is_numeral 16 (drop 2 word)
 
 -- the number that a word writes, however large
-unfoldable pub number_of : List ℕ → Option ℕ
-number_of word =
+unfoldable pub number_of_word : List ℕ → Option ℕ
+number_of_word word =
     if is_decimal word then Some (digits_value 10 word)
     else if is_hexadecimal word then Some (digits_value 16 (drop 2 word))
     else None
@@ -41,4 +41,4 @@ typed_number None = NoNumber
 typed_number (Some n) = if nat_lt n (2 ^ 64) then Number n else TooLarge
 
 unfoldable pub typed : List ℕ → Typed
-typed word = typed_number (number_of word)
+typed word = typed_number (number_of_word word)

@@ -29,14 +29,14 @@ abbrev pub first_sector : Option ℕ → Option (ℕ × ℕ)
 first_sector None = None
 first_sector (Some block) = Some (block, 0)
 
-unfoldable pub sector_at : Volume → ℕ → Option (ℕ × ℕ)
-sector_at v daddr = if nat_lt (daddr / 8) v.dblocks then Some (daddr / 8, daddr % 8) else None
+unfoldable pub sector_at_daddr : Volume → ℕ → Option (ℕ × ℕ)
+sector_at_daddr v daddr = if nat_lt (daddr / 8) v.dblocks then Some (daddr / 8, daddr % 8) else None
 
 -- where a number of the measure points: numbers of inodes, addresses of blocks and sectors of the disk do
 unfoldable pub spot_of : Volume → Measure → ℕ → Option (ℕ × ℕ)
 spot_of v InodeNumber n = slot_at v n
 spot_of v FsBlock n = first_sector (block_at v n)
-spot_of v DiskAddress n = sector_at v n
+spot_of v DiskAddress n = sector_at_daddr v n
 spot_of v other n = None
 
 -- the measure can be converted from

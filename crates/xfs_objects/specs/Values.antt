@@ -16,8 +16,8 @@ use Rattle.xfs_objects.specs.declared.objects.ObjectType.{ObjectType}
 use Rattle.xfs_objects.specs.declared.objects.ObjectType.TheVariants as kind
 use Rattle.xfs_objects.specs.declared.items.Shape.{Shape}
 use Rattle.xfs_objects.specs.declared.items.Shape.TheVariants.{Field, Pointer, Numbers}
-use Rattle.xfs_objects.specs.declared.items.Row.{Row}
-use Rattle.xfs_objects.specs.declared.items.Row.TheVariants.{Span, Chunk, ChunkStart, Owner, OwnerKeys, FileExtent, FileOffset}
+use Rattle.xfs_objects.specs.declared.items.PrintedRow.{PrintedRow}
+use Rattle.xfs_objects.specs.declared.items.PrintedRow.TheVariants.{Span, Chunk, ChunkStart, Owner, OwnerKeys, FileExtent, FileOffset}
 
 -- a byte in two digits, lower case
 abbrev pub pair : ℕ → List ℕ
@@ -38,24 +38,24 @@ unfoldable pub quoted : List ℕ → List ℕ
 quoted bytes = codes "\"" ++ flat_map escaped (take_while (λ byte. not (byte == 0)) bytes) ++ codes "\""
 
 -- numbers with commas between them
-unfoldable pub joined : List ℕ → List ℕ
-joined [] = []
-joined (first ∷ rest) = decimal first ++ flat_map (λ n. 44 ∷ decimal n) rest
+unfoldable pub joined_numbers : List ℕ → List ℕ
+joined_numbers [] = []
+joined_numbers (first ∷ rest) = decimal first ++ flat_map (λ n. 44 ∷ decimal n) rest
 
 -- an extent's numbers, of which the first is 1 where it is unwritten
 abbrev pub extent_numbers : Extent → List ℕ
 extent_numbers e = (if e.unwritten then 1 else 0) ∷ e.offset ∷ e.start ∷ e.count ∷ []
 
 -- the numbers of a record or a key
-abbrev pub numbers_of : Row → List ℕ → ℕ → List ℕ
-numbers_of Span b at = field_of b at 4 ∷ field_of b (at + 4) 4 ∷ []
-numbers_of Chunk b at = field_of b at 4 ∷ field_of b (at + 4) 2 ∷ field_of b (at + 6) 1 ∷ field_of b (at + 7) 1 ∷ field_of b (at + 8) 8 ∷ []
-numbers_of ChunkStart b at = field_of b at 4 ∷ []
-numbers_of Owner b at = field_of b at 4 ∷ field_of b (at + 4) 4 ∷ field_of b (at + 8) 8 ∷ field_of b (at + 16) 8 ∷ []
-numbers_of OwnerKeys b at =
+abbrev pub row_numbers : PrintedRow → List ℕ → ℕ → List ℕ
+row_numbers Span b at = field_of b at 4 ∷ field_of b (at + 4) 4 ∷ []
+row_numbers Chunk b at = field_of b at 4 ∷ field_of b (at + 4) 2 ∷ field_of b (at + 6) 1 ∷ field_of b (at + 7) 1 ∷ field_of b (at + 8) 8 ∷ []
+row_numbers ChunkStart b at = field_of b at 4 ∷ []
+row_numbers Owner b at = field_of b at 4 ∷ field_of b (at + 4) 4 ∷ field_of b (at + 8) 8 ∷ field_of b (at + 16) 8 ∷ []
+row_numbers OwnerKeys b at =
     field_of b at 4 ∷ field_of b (at + 4) 8 ∷ field_of b (at + 12) 8 ∷ field_of b (at + 20) 4 ∷ field_of b (at + 24) 8 ∷ field_of b (at + 32) 8 ∷ []
-numbers_of FileExtent b at = extent_numbers (extent_of (part_of b at 16))
-numbers_of FileOffset b at = field_of b at 8 ∷ []
+row_numbers FileExtent b at = extent_numbers (extent_of (part_of b at 16))
+row_numbers FileOffset b at = field_of b at 8 ∷ []
 
 -- a checksum as the number that it is, and whether it is right
 abbrev pub verdict : Bool → List ℕ
@@ -72,7 +72,7 @@ field_text Checksum object at width = codes "0x" ++ pairs (to_be_bytes w32 (litt
 abbrev pub shape_text : Shape → List ℕ → ℕ → List ℕ
 shape_text (Field width form) object at = field_text form object at width
 shape_text (Pointer width) object at = decimal (field_of object at width)
-shape_text (Numbers row) object at = joined (numbers_of row object at)
+shape_text (Numbers row) object at = joined_numbers (row_numbers row object at)
 
 -- the value of an item of an object
 abbrev pub value_text : List ℕ → Item → List ℕ

@@ -5,7 +5,7 @@ ghost use Rattle.std.specs.List.{find};
 ghost use Rattle.std.specs.Option.{option_map};
 ghost use Rattle.xfs_geom.specs.Conversions.{block_at, slot_at};
 ghost use Rattle.xfs_geom.specs.Volumes.{volume_of};
-ghost use Rattle.xfs_objects.specs.Places.{both_bases, first_sector, is_place, number_in, pair_of, sector_at, spot_of, measure_name, measure_named};
+ghost use Rattle.xfs_objects.specs.Places.{both_bases, first_sector, is_place, number_in, pair_of, sector_at_daddr, spot_of, measure_name, measure_named};
 ghost use Rattle.xfs_objects.specs.declared.convert.Measure.{Measure};
 
 use crate::hexadecimal::push_hexadecimal;
@@ -159,9 +159,9 @@ pub fn spot_of_address(geometry: &Geometry, address: u64) -> Option<Spot>
 }
 
 /// A sector of the disk, where it is in the volume.
-#[tactic(auto, unfolding(crate::specs::Places::sector_at))]
+#[tactic(auto, unfolding(crate::specs::Places::sector_at_daddr))]
 fn spot_of_sector(geometry: &Geometry, daddr: u64) -> Option<Spot>
-    ensures value { option_map pair_of result ≡ sector_at (volume_of geometry.now) daddr }
+    ensures value { option_map pair_of result ≡ sector_at_daddr (volume_of geometry.now) daddr }
     ensures inside { IfSome result (λ spot. spot.block < geometry.now.dblocks) }
     ensures sector { IfSome result (λ spot. spot.sector < 8) }
 {

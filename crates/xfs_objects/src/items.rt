@@ -34,7 +34,7 @@ const NUMRECS: usize = SHORT[2].offset;
 
 /// Numbers that stand side by side and are printed as one.
 #[derive(Clone, Copy, Debug, PartialEq, Eq)]
-pub enum Row {
+pub enum PrintedRow {
     /// A record or key of the trees of free runs.
     Span,
     /// A record of the trees of inodes.
@@ -59,7 +59,7 @@ pub enum Shape {
     /// A pointer to a block of a tree.
     Pointer { width: usize },
     /// A record or a key.
-    Numbers(Row),
+    Numbers(PrintedRow),
 }
 
 /// What has a name in an object: where it stands there, in bytes, and how it is shown.
@@ -88,48 +88,48 @@ pub(crate) fn items(alloc: Global, kind: ObjectType, object: &[u8]) -> Result<Ve
             alloc,
             &SHORT,
             &layout_of(&Bno { ag: 0 }),
-            Row::Span,
-            Row::Span,
+            PrintedRow::Span,
+            PrintedRow::Span,
             object,
         ),
         ObjectType::Cntbt => block_items(
             alloc,
             &SHORT,
             &layout_of(&Cnt { ag: 0 }),
-            Row::Span,
-            Row::Span,
+            PrintedRow::Span,
+            PrintedRow::Span,
             object,
         ),
         ObjectType::Inobt => block_items(
             alloc,
             &SHORT,
             &layout_of(&Ino { ag: 0 }),
-            Row::Chunk,
-            Row::ChunkStart,
+            PrintedRow::Chunk,
+            PrintedRow::ChunkStart,
             object,
         ),
         ObjectType::Finobt => block_items(
             alloc,
             &SHORT,
             &layout_of(&Fino { ag: 0 }),
-            Row::Chunk,
-            Row::ChunkStart,
+            PrintedRow::Chunk,
+            PrintedRow::ChunkStart,
             object,
         ),
         ObjectType::Rmapbt => block_items(
             alloc,
             &SHORT,
             &layout_of(&Rmap { ag: 0 }),
-            Row::Owner,
-            Row::OwnerKeys,
+            PrintedRow::Owner,
+            PrintedRow::OwnerKeys,
             object,
         ),
         ObjectType::Bmapbt => block_items(
             alloc,
             &LONG,
             &layout_of(&Bmbt { ino: 0 }),
-            Row::FileExtent,
-            Row::FileOffset,
+            PrintedRow::FileExtent,
+            PrintedRow::FileOffset,
             object,
         ),
         ObjectType::Inode => sector_items(alloc, &INODE),
@@ -177,8 +177,8 @@ fn block_items(
     alloc: Global,
     fields: &[FieldLayout],
     layout: &Layout,
-    leaf_row: Row,
-    node_row: Row,
+    leaf_row: PrintedRow,
+    node_row: PrintedRow,
     block: &[u8],
 ) -> Result<Vec<Item>, NoMemory>
     requires fields { IsTrue (list_all (λ (f : FieldLayout). is_inside 4096 (field_item f)) fields.now) }
@@ -203,7 +203,7 @@ fn block_items(
 fn push_records(
     items: &mut Vec<Item>,
     layout: &Layout,
-    row: Row,
+    row: PrintedRow,
     block: &[u8],
 ) -> Result<(), NoMemory>
     requires layout { IsLayout layout.now }
@@ -213,7 +213,7 @@ fn push_records(
     ensures items { OnOk result (map item_of items.new.items ≡ map item_of items.old.items ++ record_items layout.now row block.now) }
     ensures inside { OnOk result (AllInside 4096 items.new.items) }
 {
-    let run = Run {
+    let run = ItemRun {
         name: "recs",
         first: 1,
         count: (get16(block, NUMRECS) as u64).min(layout.leaf_cap) as u32,
@@ -228,7 +228,7 @@ fn push_records(
 fn push_children(
     items: &mut Vec<Item>,
     layout: &Layout,
-    row: Row,
+    row: PrintedRow,
     block: &[u8],
 ) -> Result<(), NoMemory>
     requires layout { IsLayout layout.now }
@@ -240,7 +240,7 @@ fn push_children(
 {
     let count = (get16(block, NUMRECS) as u64).min(layout.node_cap) as u32;
     let keys_len = keys_len(layout);
-    let keys = Run {
+    let keys = ItemRun {
         name: "keys",
         first: 1,
         count,
@@ -249,7 +249,7 @@ fn push_children(
         shape: Shape::Numbers(row),
     };
     push_run(items, &keys, 4096)?;
-    let pointers = Run {
+    let pointers = ItemRun {
         name: "ptrs",
         first: 1,
         count,
@@ -276,7 +276,7 @@ fn keys_len(layout: &Layout) -> usize
 
 /// Items of one name that stand side by side, `step` bytes from one to the next, with indexes from the first on.
 #[derive(Clone, Copy, Debug)]
-struct Run {
+struct ItemRun {
     name: &'static str,
     first: u32,
     count: u32,
@@ -293,7 +293,7 @@ fn push_array(items: &mut Vec<Item>, array: &ArrayLayout) -> Result<(), NoMemory
     ensures items { OnOk result (map item_of items.new.items ≡ map item_of items.old.items ++ array_items array.now) }
     ensures inside { OnOk result (AllInside 512 items.new.items) }
 {
-    let run = Run {
+    let run = ItemRun {
         name: array.name,
         first: 0,
         count: array.count as u32,
@@ -308,7 +308,7 @@ fn push_array(items: &mut Vec<Item>, array: &ArrayLayout) -> Result<(), NoMemory
 }
 
 /// Adds the items of a run, which lies in an object of so many bytes.
-fn push_run(items: &mut Vec<Item>, run: &Run, size: usize) -> Result<(), NoMemory>
+fn push_run(items: &mut Vec<Item>, run: &ItemRun, size: usize) -> Result<(), NoMemory>
     requires indexes { run.now.first + run.now.count < 2 ^ 32 }
     requires run { run.now.offset + run.now.count * run.now.step ≤ size }
     requires object { size ≤ 4096 }

@@ -4,7 +4,7 @@ ghost use Rattle.std.specs.Prelude.{◌≡◌, ◌+◌, ◌^◌, ◌<◌, ◌≤
 ghost use Rattle.std.specs.Char.{digit_value};
 ghost use Rattle.std.specs.List.{list_all};
 ghost use Rattle.std.specs.Str.Parse.{digits_value};
-ghost use Rattle.xfs_objects.specs.Numbers.{is_decimal, is_digit, is_hexadecimal, is_numeral, number_of, capped, capped_number, typed};
+ghost use Rattle.xfs_objects.specs.Numbers.{is_decimal, is_digit_of, is_hexadecimal, is_numeral, number_of_word, capped, capped_number, typed};
 ghost use Rattle.xfs_objects.specs.declared.numbers.Typed.TheVariants as Typed;
 
 /// What numbers of more than 64 bits count as.
@@ -42,9 +42,9 @@ fn narrowed(number: u128) -> Typed
 }
 
 /// The number that a word writes, decimal or behind `0x` hexadecimal. One of more than 64 bits is 2^64.
-#[tactic(auto, unfolding(crate::specs::Numbers::number_of, crate::specs::Numbers::capped_number))]
+#[tactic(auto, unfolding(crate::specs::Numbers::number_of_word, crate::specs::Numbers::capped_number))]
 fn number(word: &[u8]) -> Option<u128>
-    ensures value { result ≡ capped_number (number_of word.now) }
+    ensures value { result ≡ capped_number (number_of_word word.now) }
     ensures most { IfSome result (λ n. n ≤ 2 ^ 64) }
 {
     if is_decimal(word) {
@@ -79,14 +79,14 @@ fn is_numeral(digits: &[u8], base: u8) -> bool
 
 /// Whether each byte is a digit of the base.
 fn are_digits(base: u8, digits: &[u8]) -> bool
-    ensures { result ≡ list_all (is_digit base) digits.now }
+    ensures { result ≡ list_all (is_digit_of base) digits.now }
 {
-    digits.iter().all(|digit| is_digit(base, *digit))
+    digits.iter().all(|digit| is_digit_of(base, *digit))
 }
 
 /// Whether a byte is a digit of the base.
-fn is_digit(base: u8, byte: u8) -> bool
-    ensures { result ≡ is_digit base byte }
+fn is_digit_of(base: u8, byte: u8) -> bool
+    ensures { result ≡ is_digit_of base byte }
 {
     digit_value(byte) < base
 }

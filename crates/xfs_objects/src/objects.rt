@@ -44,7 +44,7 @@ pub const SECTOR_SIZE: usize = 512;
 
 /// Where an object stands: a block of the image, a sector of the block, and the object's type.
 #[derive(Clone, Copy, Debug, PartialEq, Eq)]
-pub struct Place {
+pub struct ObjectPlace {
     pub block: u64,
     pub sector: u8,
     pub kind: ObjectType,

@@ -7,12 +7,12 @@ ghost use Rattle.xfs_word.specs.Field.{field_of, is_width};
 ghost use Rattle.xfs_objects.specs.Items.{is_inside, is_shown, item_of, row_len, AllInside};
 ghost use Rattle.xfs_objects.specs.Objects.{object_size};
 ghost use Rattle.uuid.specs.Text.{hyphenated_text};
-ghost use Rattle.xfs_objects.specs.declared.items.Row.TheVariants as Row;
+ghost use Rattle.xfs_objects.specs.declared.items.PrintedRow.TheVariants as PrintedRow;
 ghost use Rattle.xfs_objects.specs.declared.items.Shape.TheVariants as Shape;
 ghost use Rattle.xfs_word.specs.declared.layout.Form.TheVariants as Form;
-ghost use Rattle.xfs_objects.specs.Values.{dump, dump_line, escaped, field_text, group_text, item_line, item_lines, joined, numbers_of, offset_text, pair, pairs, quoted, shape_text, value_text, whole_text};
+ghost use Rattle.xfs_objects.specs.Values.{dump, dump_line, escaped, field_text, group_text, item_line, item_lines, joined_numbers, row_numbers, offset_text, pair, pairs, quoted, shape_text, value_text, whole_text};
 
-use crate::items::{Item, Row, Shape, items, push_name};
+use crate::items::{Item, PrintedRow, Shape, items, push_name};
 use crate::objects::ObjectType;
 use itoa::Buffer;
 use std::alloc::Global;
@@ -222,25 +222,25 @@ fn push_checksum(text: &mut Vec<u8>, object: &[u8], at: usize) -> Result<(), NoM
 }
 
 /// Adds the numbers of a record or a key, with commas between them.
-fn push_row(text: &mut Vec<u8>, object: &[u8], row: Row, at: usize) -> Result<(), NoMemory>
+fn push_row(text: &mut Vec<u8>, object: &[u8], row: PrintedRow, at: usize) -> Result<(), NoMemory>
     requires { at + row_len row ≤ length object.now }
-    ensures { OnOk result (text.new.items ≡ text.old.items ++ joined (numbers_of row object.now at)) }
+    ensures { OnOk result (text.new.items ≡ text.old.items ++ joined_numbers (row_numbers row object.now at)) }
 {
     match row {
-        Row::Span => push_span(text, object, at),
-        Row::Chunk => push_chunk(text, object, at),
-        Row::ChunkStart => push_numbers(text, &[read(object, at, &inode_chunk::STARTINO)]),
-        Row::Owner => push_owner(text, object, at),
-        Row::OwnerKeys => push_owner_keys(text, object, at),
-        Row::FileExtent => push_extent(text, object, at),
-        Row::FileOffset => push_numbers(text, &[read(object, at, &extent_key::OFFSET)]),
+        PrintedRow::Span => push_span(text, object, at),
+        PrintedRow::Chunk => push_chunk(text, object, at),
+        PrintedRow::ChunkStart => push_numbers(text, &[read(object, at, &inode_chunk::STARTINO)]),
+        PrintedRow::Owner => push_owner(text, object, at),
+        PrintedRow::OwnerKeys => push_owner_keys(text, object, at),
+        PrintedRow::FileExtent => push_extent(text, object, at),
+        PrintedRow::FileOffset => push_numbers(text, &[read(object, at, &extent_key::OFFSET)]),
     }
 }
 
 /// Adds the numbers of a run of free blocks.
 fn push_span(text: &mut Vec<u8>, object: &[u8], at: usize) -> Result<(), NoMemory>
     requires { at + 8 ≤ length object.now }
-    ensures { OnOk result (text.new.items ≡ text.old.items ++ joined (numbers_of Row.Span object.now at)) }
+    ensures { OnOk result (text.new.items ≡ text.old.items ++ joined_numbers (row_numbers PrintedRow.Span object.now at)) }
 {
     let start = read(object, at, &span::START);
     let count = read(object, at, &span::COUNT);
@@ -250,7 +250,7 @@ fn push_span(text: &mut Vec<u8>, object: &[u8], at: usize) -> Result<(), NoMemor
 /// Adds the numbers of a record of the trees of inodes.
 fn push_chunk(text: &mut Vec<u8>, object: &[u8], at: usize) -> Result<(), NoMemory>
     requires { at + 16 ≤ length object.now }
-    ensures { OnOk result (text.new.items ≡ text.old.items ++ joined (numbers_of Row.Chunk object.now at)) }
+    ensures { OnOk result (text.new.items ≡ text.old.items ++ joined_numbers (row_numbers PrintedRow.Chunk object.now at)) }
 {
     let numbers = [
         read(object, at, &inode_chunk::STARTINO),
@@ -265,7 +265,7 @@ fn push_chunk(text: &mut Vec<u8>, object: &[u8], at: usize) -> Result<(), NoMemo
 /// Adds the numbers of a record of the tree of owners.
 fn push_owner(text: &mut Vec<u8>, object: &[u8], at: usize) -> Result<(), NoMemory>
     requires { at + 24 ≤ length object.now }
-    ensures { OnOk result (text.new.items ≡ text.old.items ++ joined (numbers_of Row.Owner object.now at)) }
+    ensures { OnOk result (text.new.items ≡ text.old.items ++ joined_numbers (row_numbers PrintedRow.Owner object.now at)) }
 {
     let numbers = [
         read(object, at, &owner::START),
@@ -279,7 +279,7 @@ fn push_owner(text: &mut Vec<u8>, object: &[u8], at: usize) -> Result<(), NoMemo
 /// Adds the numbers of the low and the high key of the tree of owners.
 fn push_owner_keys(text: &mut Vec<u8>, object: &[u8], at: usize) -> Result<(), NoMemory>
     requires { at + 40 ≤ length object.now }
-    ensures { OnOk result (text.new.items ≡ text.old.items ++ joined (numbers_of Row.OwnerKeys object.now at)) }
+    ensures { OnOk result (text.new.items ≡ text.old.items ++ joined_numbers (row_numbers PrintedRow.OwnerKeys object.now at)) }
 {
     let high = at + HIGH_KEY;
     let numbers = [
@@ -296,7 +296,7 @@ fn push_owner_keys(text: &mut Vec<u8>, object: &[u8], at: usize) -> Result<(), N
 /// Adds the numbers of a record of the tree of a file's extents.
 fn push_extent(text: &mut Vec<u8>, object: &[u8], at: usize) -> Result<(), NoMemory>
     requires { at + 16 ≤ length object.now }
-    ensures { OnOk result (text.new.items ≡ text.old.items ++ joined (numbers_of Row.FileExtent object.now at)) }
+    ensures { OnOk result (text.new.items ≡ text.old.items ++ joined_numbers (row_numbers PrintedRow.FileExtent object.now at)) }
 {
     let extent = Bmbt { ino: 0 }.read_record(part(object, at, 16));
     let unwritten = extent.unwritten as u64;
@@ -319,10 +319,10 @@ fn read(object: &[u8], at: usize, layout: &FieldLayout) -> u64
 }
 
 /// Adds numbers, with commas between them.
-#[tactic(auto, unfolding(crate::specs::Values::joined))]
+#[tactic(auto, unfolding(crate::specs::Values::joined_numbers))]
 fn push_numbers(text: &mut Vec<u8>, numbers: &[u64]) -> Result<(), NoMemory>
     requires { 0 < length numbers.now }
-    ensures { OnOk result (text.new.items ≡ text.old.items ++ joined numbers.now) }
+    ensures { OnOk result (text.new.items ≡ text.old.items ++ joined_numbers numbers.now) }
 {
     push_decimal(text, numbers[0])?;
     push_listed(text, &numbers[1..])

@@ -1,7 +1,7 @@
 -- What a command line of xfs_db says, by what is read of it.
 use Rattle.std.proofs.Common.{◌≡◌, ℕ, List, Result, Ok, Err, refl, sym, ap, ◌∙◌}
 use Rattle.xfs_options.proofs.Offending.{refusal_first}
-use Rattle.xfs_options.specs.Debugging.{debug_from, debug_of, debug_options}
+use Rattle.xfs_options.specs.DebugWords.{debug_from, debug_of, debug_options}
 use Rattle.xfs_options.specs.Words.{OffendsFirst, Words, options_of}
 use Rattle.xfs_options.specs.declared.reading.Given.{Given}
 

@@ -1,8 +1,8 @@
 -- The number of the first bad item is small: each item before it gives another of the sub-options.
 use Rattle.std.proofs.Common.{◌≡◌, ℕ, ◌+◌, ◌≤◌, ◌==◌, Bool, true, false, ◌&&◌, ◌||◌, not, cond, List, [], ◌∷◌, ◌++◌, length, Option, Some, None, refl, sym, ap, ◌∙◌, subst, length-append, arith}
 use Rattle.std.specs.List.{find, list_any}
-use Rattle.xfs_options.specs.SubOptions.{all_sub_options, first_bad, fits, form_of, gives, is_fine, is_fine_as, is_list, items_from, items_in, items_of, new_item, opposes, rest_of, rival_of, sub_of}
-use Rattle.xfs_options.specs.declared.items.Item.{Item}
+use Rattle.xfs_options.specs.SubOptions.{all_sub_options, first_bad, fits, item_form, is_item_of, is_fine, is_fine_as, is_list_letter, items_from, items_in, items_given, new_item, opposes, rest_of, rival_of, sub_of}
+use Rattle.xfs_options.specs.declared.items.OptionItem.{OptionItem}
 use Rattle.xfs_options.specs.declared.reading.Given.{Given}
 use Rattle.xfs_options.specs.declared.sub_options.SubOption.{SubOption}
 
@@ -34,11 +34,11 @@ not_true : (b : Bool) → not b ≡ true → b ≡ false
 not_true true h = cc
 not_true false h = refl
 
-any_new : (p : Item → Bool) (xs : List Item) (x : Item) → p x ≡ true → list_any p (xs ++ x ∷ []) ≡ true
+any_new : (p : OptionItem → Bool) (xs : List OptionItem) (x : OptionItem) → p x ≡ true → list_any p (xs ++ x ∷ []) ≡ true
 any_new p [] x h = or_left (p x) false h
 any_new p (y ∷ ys) x h = or_right (p y) (list_any p (ys ++ x ∷ [])) (any_new p ys x h)
 
-any_more : (p : Item → Bool) (xs : List Item) (x : Item) → list_any p xs ≡ true → list_any p (xs ++ x ∷ []) ≡ true
+any_more : (p : OptionItem → Bool) (xs : List OptionItem) (x : OptionItem) → list_any p xs ≡ true → list_any p (xs ++ x ∷ []) ≡ true
 any_more p [] x h = cc
 any_more p (y ∷ ys) x h = or_more (p y) (list_any p ys) (list_any p (ys ++ x ∷ [])) (any_more p ys x) h
 
@@ -47,9 +47,9 @@ bit true = 0
 bit false = 1
 
 -- how many of these sub-options no item gives
-untaken : List SubOption → List Item → ℕ
+untaken : List SubOption → List OptionItem → ℕ
 untaken [] before = 0
-untaken (sub ∷ subs) before = bit (list_any (gives sub) before) + untaken subs before
+untaken (sub ∷ subs) before = bit (list_any (is_item_of sub) before) + untaken subs before
 
 less : (a b : Bool) → (a ≡ true → b ≡ true) → bit b ≤ bit a
 less true true f = omega arith
@@ -57,46 +57,46 @@ less true false f = let no : false ≡ true = f refl in cc
 less false true f = omega arith
 less false false f = omega arith
 
-untaken_less : (subs : List SubOption) (before : List Item) (item : Item) → untaken subs (before ++ item ∷ []) ≤ untaken subs before
+untaken_less : (subs : List SubOption) (before : List OptionItem) (item : OptionItem) → untaken subs (before ++ item ∷ []) ≤ untaken subs before
 unfolding untaken
 untaken_less [] before item = omega arith
 untaken_less (s ∷ ss) before item =
-    let h = less (list_any (gives s) before) (list_any (gives s) (before ++ item ∷ [])) (any_more (gives s) before item) in
+    let h = less (list_any (is_item_of s) before) (list_any (is_item_of s) (before ++ item ∷ [])) (any_more (is_item_of s) before item) in
     let r = untaken_less ss before item in
     omega (arith, h, r)
 
-untaken_falls : (subs : List SubOption) (before : List Item) (item : Item) (sub : SubOption) → find (λ (s : SubOption). gives s item) subs ≡ Some sub
-    → list_any (gives sub) before ≡ false → untaken subs (before ++ item ∷ []) + 1 ≤ untaken subs before
+untaken_falls : (subs : List SubOption) (before : List OptionItem) (item : OptionItem) (sub : SubOption) → find (λ (s : SubOption). is_item_of s item) subs ≡ Some sub
+    → list_any (is_item_of sub) before ≡ false → untaken subs (before ++ item ∷ []) + 1 ≤ untaken subs before
 unfolding untaken
 untaken_falls [] before item sub found free = cc
 untaken_falls (s ∷ ss) before item sub found free =
-    by_case (gives s item) refl (λ found'. untaken_falls ss before item sub found' free)
+    by_case (is_item_of s item) refl (λ found'. untaken_falls ss before item sub found' free)
   where
-    by_case : (r : Bool) → gives s item ≡ r
-        → (find (λ (s : SubOption). gives s item) ss ≡ Some sub → untaken ss (before ++ item ∷ []) + 1 ≤ untaken ss before)
-        → bit (list_any (gives s) (before ++ item ∷ [])) + untaken ss (before ++ item ∷ []) + 1 ≤ bit (list_any (gives s) before) + untaken ss before
+    by_case : (r : Bool) → is_item_of s item ≡ r
+        → (find (λ (s : SubOption). is_item_of s item) ss ≡ Some sub → untaken ss (before ++ item ∷ []) + 1 ≤ untaken ss before)
+        → bit (list_any (is_item_of s) (before ++ item ∷ [])) + untaken ss (before ++ item ∷ []) + 1 ≤ bit (list_any (is_item_of s) before) + untaken ss before
     by_case true is rest =
-        let found' : Some s ≡ Some sub = subst (λ (b : Bool). cond b (Some s) (find (λ (s : SubOption). gives s item) ss) ≡ Some sub) is found in
+        let found' : Some s ≡ Some sub = subst (λ (b : Bool). cond b (Some s) (find (λ (s : SubOption). is_item_of s item) ss) ≡ Some sub) is found in
         let same : s ≡ sub = cc in
-        let free' : list_any (gives s) before ≡ false = subst (λ (t : SubOption). list_any (gives t) before ≡ false) (sym same) free in
-        let h : bit (list_any (gives s) before) ≡ 1 = ap bit free' in
-        let g : bit (list_any (gives s) (before ++ item ∷ [])) ≡ 0 = ap bit (any_new (gives s) before item is) in
+        let free' : list_any (is_item_of s) before ≡ false = subst (λ (t : SubOption). list_any (is_item_of t) before ≡ false) (sym same) free in
+        let h : bit (list_any (is_item_of s) before) ≡ 1 = ap bit free' in
+        let g : bit (list_any (is_item_of s) (before ++ item ∷ [])) ≡ 0 = ap bit (any_new (is_item_of s) before item is) in
         let r = untaken_less ss before item in
         omega (arith, h, g, r)
     by_case false is rest =
-        let found' : find (λ (s : SubOption). gives s item) ss ≡ Some sub =
-        subst (λ (b : Bool). cond b (Some s) (find (λ (s : SubOption). gives s item) ss) ≡ Some sub) is found in
-        let h = less (list_any (gives s) before) (list_any (gives s) (before ++ item ∷ [])) (any_more (gives s) before item) in
+        let found' : find (λ (s : SubOption). is_item_of s item) ss ≡ Some sub =
+        subst (λ (b : Bool). cond b (Some s) (find (λ (s : SubOption). is_item_of s item) ss) ≡ Some sub) is found in
+        let h = less (list_any (is_item_of s) before) (list_any (is_item_of s) (before ++ item ∷ [])) (any_more (is_item_of s) before item) in
         let r = rest found' in
         omega (arith, h, r)
 
-unopposed : (sub : SubOption) (before : List Item) → list_any (opposes sub) before ≡ false → list_any (gives sub) before ≡ false
+unopposed : (sub : SubOption) (before : List OptionItem) → list_any (opposes sub) before ≡ false → list_any (is_item_of sub) before ≡ false
 unopposed sub [] h = refl
 unopposed sub (x ∷ xs) h =
     let o = or_false (opposes sub x) (list_any (opposes sub) xs) h in
-    none_or (gives sub x) (list_any (gives sub) xs) (or_false (gives sub x) (gives (rival_of sub) x) o.0).0 (unopposed sub xs o.1)
+    none_or (is_item_of sub x) (list_any (is_item_of sub) xs) (or_false (is_item_of sub x) (is_item_of (rival_of sub) x) o.0).0 (unopposed sub xs o.1)
 
-fine_falls : (before : List Item) (item : Item) → is_fine before item ≡ true
+fine_falls : (before : List OptionItem) (item : OptionItem) → is_fine before item ≡ true
     → untaken all_sub_options (before ++ item ∷ []) + 1 ≤ untaken all_sub_options before
 unfolding sub_of
 fine_falls before item fine = by_sub (sub_of item) refl fine
@@ -107,14 +107,14 @@ fine_falls before item fine = by_sub (sub_of item) refl fine
     by_sub (Some sub) is fine =
         untaken_falls all_sub_options before item sub is
         (unopposed sub before
-        (not_true (list_any (opposes sub) before) (and_right (fits (form_of sub) (rest_of sub item)) (not (list_any (opposes sub) before)) fine)))
+        (not_true (list_any (opposes sub) before) (and_right (fits (item_form sub) (rest_of sub item)) (not (list_any (opposes sub) before)) fine)))
 
 -- the numbers of items are no more than those of their places
-Numbered : ℕ → List Item → Type 0
+Numbered : ℕ → List OptionItem → Type 0
 Numbered n [] = Unit {0}
 Numbered n (item ∷ items) = (item.number ≤ n + 1) × Numbered (n + 1) items
 
-either : (n : ℕ) (b : Bool) (xs ys : List Item) → Numbered n xs → Numbered n ys → Numbered n (cond b xs ys)
+either : (n : ℕ) (b : Bool) (xs ys : List OptionItem) → Numbered n xs → Numbered n ys → Numbered n (cond b xs ys)
 either n true xs ys hx hy = hx
 either n false xs ys hx hy = hy
 
@@ -126,21 +126,21 @@ from_numbered given number n text (byte ∷ bytes) h =
     (h, from_numbered given (number + 1) (n + 1) [] bytes (omega (arith, h)))
     (from_numbered given number n (text ++ byte ∷ []) bytes h)
 
-append_numbered : (n : ℕ) (xs ys : List Item) → Numbered n xs → ((m : ℕ) → Numbered m ys) → Numbered n (xs ++ ys)
+append_numbered : (n : ℕ) (xs ys : List OptionItem) → Numbered n xs → ((m : ℕ) → Numbered m ys) → Numbered n (xs ++ ys)
 unfolding Numbered
 append_numbered n [] ys hx hy = hy n
 append_numbered n (x ∷ xs) ys hx hy = (hx.0, append_numbered (n + 1) xs ys hx.1 hy)
 
 in_numbered : (n : ℕ) (given : Given) → Numbered n (items_in given)
 unfolding Numbered
-in_numbered n given = either n (is_list given.letter) (items_from given 1 [] given.value) [] (from_numbered given 1 n [] given.value (omega arith)) tt
+in_numbered n given = either n (is_list_letter given.letter) (items_from given 1 [] given.value) [] (from_numbered given 1 n [] given.value (omega arith)) tt
 
-items_numbered : (given : List Given) (n : ℕ) → Numbered n (items_of given)
+items_numbered : (given : List Given) (n : ℕ) → Numbered n (items_given given)
 unfolding Numbered
 items_numbered [] n = tt
-items_numbered (g ∷ gs) n = append_numbered n (items_in g) (items_of gs) (in_numbered n g) (items_numbered gs)
+items_numbered (g ∷ gs) n = append_numbered n (items_in g) (items_given gs) (in_numbered n g) (items_numbered gs)
 
-bad_number : (before items : List Item) (item : Item) → Numbered (length before) items → length before + untaken all_sub_options before ≤ 17
+bad_number : (before items : List OptionItem) (item : OptionItem) → Numbered (length before) items → length before + untaken all_sub_options before ≤ 17
     → first_bad before items ≡ Some item → item.number ≤ 18
 unfolding Numbered
 bad_number before [] item numbered few found = cc
@@ -161,9 +161,9 @@ bad_number before (x ∷ xs) item numbered few found =
     by_case false is rest =
         let found' : Some x ≡ Some item = subst (λ (b : Bool). cond b (first_bad (before ++ x ∷ []) xs) (Some x) ≡ Some item) is found in
         let same : x ≡ item = cc in
-        subst (λ (y : Item). y.number ≤ 18) same (omega (arith, numbered.0, few))
+        subst (λ (y : OptionItem). y.number ≤ 18) same (omega (arith, numbered.0, few))
 
 -- the number of the first bad item fits a byte
-pub small_number : (given : List Given) (item : Item) → first_bad [] (items_of given) ≡ Some item → item.number ≤ 18
+pub small_number : (given : List Given) (item : OptionItem) → first_bad [] (items_given given) ≡ Some item → item.number ≤ 18
 unfolding untaken
-small_number given item found = bad_number [] (items_of given) item (items_numbered given 0) (omega arith) found
+small_number given item found = bad_number [] (items_given given) item (items_numbered given 0) (omega arith) found

@@ -2,9 +2,9 @@
 use Rattle.std.proofs.Common.{◌≡◌, ℕ, suc, ◌+◌, ◌-◌, ◌<◌, ◌≤◌, ◌==◌, Bool, true, false, cond, List, [], ◌∷◌, ◌++◌, length, take, Option, Some, None, Result, Ok, Err, bytes_eq, codes, add-zero, refl, sym, ap, ◌∙◌, subst, arith}
 use Rattle.std.proofs.lemmas.List.{append-nil, take_all}
 use Rattle.std.proofs.lemmas.Bool.Decides.{nat_tests}
-use Rattle.xfs_options.specs.Numbers.{number_of}
+use Rattle.xfs_options.specs.Numbers.{bounded_number}
 use Rattle.xfs_options.specs.Options.{HasValue, HaveValues, accepts, row_of}
-use Rattle.xfs_options.specs.Words.{Words, Read, IsBegun, OffendsFirst, after_form, after_letters, after_option, after_rest, after_row, after_value, after_word, after_words, free_row, is_free, is_option, options_of, reading_of, row_for, settled}
+use Rattle.xfs_options.specs.Words.{Words, Read, IsBegun, OffendsFirst, after_form, after_letters, after_option, after_rest, after_row, after_value, after_word, after_words, free_row, is_not_excluded, is_option, options_of, reading_of, row_for, finished_reading}
 use Rattle.xfs_options.specs.Words.Read.{in_options, in_value, in_image, complete, offended}
 use Rattle.xfs_options.specs.declared.options.OptionRow.{OptionRow}
 use Rattle.xfs_options.specs.declared.options.ValueForm.{ValueForm}
@@ -38,7 +38,7 @@ row_can letter (row ∷ rows) have = either (row.letter == letter) (Some row) (r
 
 free_can : (row : Option OptionRow) (given : List Given) → CanBeGiven row → CanBeGiven (free_row row given)
 free_can None given can = tt
-free_can (Some row) given can = either (is_free row.excludes given) (Some row) None can tt
+free_can (Some row) given can = either (is_not_excluded row.excludes given) (Some row) None can tt
 
 choice : (at : ℕ) (b : Bool) (r s : Read) → StandsOr at r → StandsOr at s → StandsOr at (cond b r s)
 choice at true r s hr hs = hr
@@ -168,7 +168,7 @@ sample Label = []
 sample (Number most) = 49 ∷ []
 
 sampled : (form : ValueForm) → HasValue (Some form) → accepts form (sample form) ≡ true
-unfolding sample number_of
+unfolding sample bounded_number
 sampled Any has = refl
 sampled Label has = refl
 sampled (Number most) has = grind (arith, nat_tests)
@@ -276,7 +276,7 @@ words_keep rows have at (word ∷ words) r keeps =
 
 -- the number of a refusal
 refused_first : (rows : List OptionRow) → HaveValues rows → (rest : Words) (r : Read) (n : ℕ) → reading_of rows rest ≡ r → Keeps r
-    → settled (length rest + 1) r ≡ Err n → OffendsFirst rows rest n
+    → finished_reading (length rest + 1) r ≡ Err n → OffendsFirst rows rest n
 refused_first rows have rest (complete given) n same keeps refusal = cc
 refused_first rows have rest (offended k) n same keeps refusal =
     let number : k ≡ n = cc in

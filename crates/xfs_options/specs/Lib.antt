@@ -1,8 +1,8 @@
 pub mod Numbers
 pub mod Options
 pub mod Words
-pub mod Debugging
+pub mod DebugWords
 pub mod Sizes
 pub mod Identifiers
 pub mod SubOptions
-pub mod Making
+pub mod MakeWords

@@ -22,5 +22,5 @@ below_limit None = None
 below_limit (Some n) = if nat_lt n (2 ^ 63) then Some n else None
 
 -- the number of a word, where it is below 2^63
-unfoldable pub number_of : List ℕ → Option ℕ
-number_of word = below_limit (decimal_of word)
+unfoldable pub bounded_number : List ℕ → Option ℕ
+bounded_number word = below_limit (decimal_of word)

@@ -1,7 +1,7 @@
 -- The options of a tool, and what their values may be (mkfs.xfs(8), xfs_db(8)).
 use Rattle.std.specs.Prelude.{ℕ, ◌≤◌, Bool, true, false, ◌==◌, ◌&&◌, nat_le, not, List, [], ◌∷◌, length, Option, Some, None}
 use Rattle.std.specs.List.{find, list_any}
-use Rattle.xfs_options.specs.Numbers.{number_of}
+use Rattle.xfs_options.specs.Numbers.{bounded_number}
 use Rattle.xfs_options.specs.declared.options.OptionRow.{OptionRow}
 use Rattle.xfs_options.specs.declared.options.ValueForm.{ValueForm}
 use Rattle.xfs_options.specs.declared.options.ValueForm.TheVariants.{Any, Label, Number}
@@ -19,7 +19,7 @@ is_up_to most None = false
 abbrev pub accepts : ValueForm → List ℕ → Bool
 accepts Any value = true
 accepts Label value = is_label value
-accepts (Number most) value = is_up_to most (number_of value)
+accepts (Number most) value = is_up_to most (bounded_number value)
 
 -- the row of a letter
 abbrev pub row_of : ℕ → List OptionRow → Option OptionRow

@@ -1,7 +1,7 @@
 -- Sizes in words: a decimal number, and a letter for what it counts (mkfs.xfs(8)).
 use Rattle.std.specs.Prelude.{ℕ, ◌-◌, ◌*◌, ◌/◌, ◌%◌, ◌^◌, Bool, ◌==◌, ◌&&◌, nat_lt, if◌then◌else◌, List, length, take, Option, Some, None}
 use Rattle.std.specs.List.{slice_get}
-use Rattle.xfs_options.specs.Numbers.{number_of}
+use Rattle.xfs_options.specs.Numbers.{bounded_number}
 
 -- the bytes of a unit: b blocks, s sectors, k, m and g powers of 1024
 abbrev pub unit_of : ℕ → Option ℕ
@@ -22,15 +22,15 @@ abbrev pub unit_behind : List ℕ → Option ℕ
 unit_behind text = unit_named (slice_get text (length text - 1))
 
 -- the blocks of so many units, where they are whole blocks and below 2^63 bytes
-abbrev pub blocks_of : ℕ → Option ℕ → Option ℕ
-blocks_of unit None = None
-blocks_of unit (Some number) =
+abbrev pub blocks_of_number : ℕ → Option ℕ → Option ℕ
+blocks_of_number unit None = None
+blocks_of_number unit (Some number) =
     if (number * unit) % 4096 == 0 && nat_lt (number * unit) (2 ^ 63) then Some ((number * unit) / 4096) else None
 
 abbrev pub size_with : List ℕ → Option ℕ → Option ℕ
-size_with text (Some unit) = blocks_of unit (number_of (take (length text - 1) text))
-size_with text None = blocks_of 1 (number_of text)
+size_with text (Some unit) = blocks_of_number unit (bounded_number (take (length text - 1) text))
+size_with text None = blocks_of_number 1 (bounded_number text)
 
 -- the number of blocks of 4096 bytes that a size names
-unfoldable pub size_of : List ℕ → Option ℕ
-size_of text = size_with text (unit_behind text)
+unfoldable pub blocks_of_text : List ℕ → Option ℕ
+blocks_of_text text = size_with text (unit_behind text)

@@ -8,8 +8,8 @@ use Rattle.xfs_options.specs.declared.options.ValueForm.{ValueForm}
 use Rattle.xfs_options.specs.declared.reading.Given.{Given}
 use Rattle.xfs_options.specs.declared.reading.LineFault.{LineFault}
 use Rattle.xfs_options.specs.declared.reading.LineFault.TheVariants.{Offends, NoMemory}
-use Rattle.xfs_options.specs.declared.reading.Place.{Place}
-use Rattle.xfs_options.specs.declared.reading.Place.TheVariants.{Options, Value, Image, Complete, Offended}
+use Rattle.xfs_options.specs.declared.reading.Expected.{Expected}
+use Rattle.xfs_options.specs.declared.reading.Expected.TheVariants.{Options, Value, Image, Complete, Offended}
 use Rattle.xfs_options.specs.declared.reading.Reading.{Reading}
 
 -- words, each a list of bytes
@@ -24,7 +24,7 @@ pub data Read : Type 0 where
   complete : List Given → Read
   offended : ℕ → Read
 
-abbrev pub read_of : Place → List Given → Read
+abbrev pub read_of : Expected → List Given → Read
 read_of Options given = in_options given
 read_of (Value letter form) given = in_value letter form given
 read_of Image given = in_image given
@@ -39,13 +39,13 @@ abbrev pub is_given : ℕ → List Given → Bool
 is_given letter given = list_any (λ (g : Given). g.letter == letter) given
 
 -- the excluded option isn't given
-abbrev pub is_free : Option ℕ → List Given → Bool
-is_free None given = true
-is_free (Some letter) given = not (is_given letter given)
+abbrev pub is_not_excluded : Option ℕ → List Given → Bool
+is_not_excluded None given = true
+is_not_excluded (Some letter) given = not (is_given letter given)
 
 abbrev pub free_row : Option OptionRow → List Given → Option OptionRow
 free_row None given = None
-free_row (Some row) given = if is_free row.excludes given then Some row else None
+free_row (Some row) given = if is_not_excluded row.excludes given then Some row else None
 
 -- the row of a letter that may stand behind what was given
 abbrev pub row_for : ℕ → List OptionRow → List Given → Option OptionRow
@@ -109,14 +109,14 @@ abbrev pub reading_of : List OptionRow → Words → Read
 reading_of rows rest = after_words rows 1 rest (in_options [])
 
 -- the options, or the number of the first word that offends, which is that of all words where one lacks
-abbrev pub settled : ℕ → Read → Result (List Given) ℕ
-settled count (complete given) = Ok given
-settled count (offended n) = Err n
-settled count read = Err count
+abbrev pub finished_reading : ℕ → Read → Result (List Given) ℕ
+finished_reading count (complete given) = Ok given
+finished_reading count (offended n) = Err n
+finished_reading count read = Err count
 
 -- the options that words give in front of an image, or the number of the first word that offends
 unfoldable pub options_of : List OptionRow → Words → Result (List Given) ℕ
-options_of rows rest = settled (length rest + 1) (reading_of rows rest)
+options_of rows rest = finished_reading (length rest + 1) (reading_of rows rest)
 
 -- why words are refused
 abbrev pub IsCause : {A : Type 0} → Result A ℕ → LineFault → Type 0

@@ -3,7 +3,7 @@
 ghost use Rattle.std.specs.Prelude.{◌≡◌, ◌++◌, ◌==◌, [], length, not, drop, IfOk};
 ghost use Rattle.std.specs.List.{list_any};
 ghost use Rattle.std.specs.Option.{option_copied};
-ghost use Rattle.xfs_options.specs.SubOptions.{first_bad, fits, form_of, is_fine, is_fine_as, is_list, items_from, items_in, items_of, new_item, opposes, rest_of};
+ghost use Rattle.xfs_options.specs.SubOptions.{first_bad, fits, item_form, is_fine, is_fine_as, is_list_letter, items_from, items_in, items_given, new_item, opposes, rest_of};
 
 use crate::reading::Given;
 use crate::sub_options::SubOption;
@@ -12,7 +12,7 @@ use xfs_disk::{NoMemory, Word};
 
 /// An item of a list.
 #[derive(Debug, Drop)]
-pub(crate) struct Item {
+pub(crate) struct OptionItem {
     /// The letter of the option.
     pub option: u8,
     /// The number of the word in which it stands.
@@ -24,8 +24,8 @@ pub(crate) struct Item {
 
 /// The items of all options.
 #[tactic(auto, using(crate::proofs::Cutting::pushed))]
-pub(crate) fn items_of(alloc: Global, given: &[Given]) -> Result<Vec<Item>, NoMemory>
-    ensures { IfOk result (λ items. items.items ≡ items_of given.now) }
+pub(crate) fn items_given(alloc: Global, given: &[Given]) -> Result<Vec<OptionItem>, NoMemory>
+    ensures { IfOk result (λ items. items.items ≡ items_given given.now) }
 {
     let mut items = Vec::new(alloc);
     for option in given {
@@ -35,17 +35,17 @@ pub(crate) fn items_of(alloc: Global, given: &[Given]) -> Result<Vec<Item>, NoMe
 }
 
 /// Whether an option takes a list.
-fn is_list(letter: u8) -> bool
-    ensures { result ≡ is_list letter }
+fn is_list_letter(letter: u8) -> bool
+    ensures { result ≡ is_list_letter letter }
 {
     matches!(letter, b'd' | b'l' | b'm' | b'i' | b's' | b'b' | b'n')
 }
 
 /// Adds the items of an option, where it takes a list.
-fn push_items(alloc: Global, items: &mut Vec<Item>, given: &Given) -> Result<(), NoMemory>
+fn push_items(alloc: Global, items: &mut Vec<OptionItem>, given: &Given) -> Result<(), NoMemory>
     ensures { IfOk result (λ _. items.new.items ≡ items.old.items ++ items_in given.now) }
 {
-    if is_list(given.letter) {
+    if is_list_letter(given.letter) {
         push_parts(alloc, items, given, given.value.bytes())?;
     }
     Ok(())
@@ -55,7 +55,7 @@ fn push_items(alloc: Global, items: &mut Vec<Item>, given: &Given) -> Result<(),
 #[tactic(auto, using(crate::proofs::Cutting::ended, crate::proofs::Cutting::grown))]
 fn push_parts(
     alloc: Global,
-    items: &mut Vec<Item>,
+    items: &mut Vec<OptionItem>,
     given: &Given,
     bytes: &[u8],
 ) -> Result<(), NoMemory>
@@ -77,10 +77,10 @@ fn push_parts(
 }
 
 /// An item of an option.
-fn new_item(given: &Given, number: usize, text: Vec<u8>) -> Item
+fn new_item(given: &Given, number: usize, text: Vec<u8>) -> OptionItem
     ensures { result ≡ new_item given.now number text.items }
 {
-    Item {
+    OptionItem {
         option: given.letter,
         word: given.word,
         number,
@@ -90,7 +90,7 @@ fn new_item(given: &Given, number: usize, text: Vec<u8>) -> Item
 
 /// The first of the items that can't stand behind those before it.
 #[tactic(auto, using(crate::proofs::Bad::fine_next, crate::proofs::Bad::bad_here))]
-pub(crate) fn first_bad(items: &[Item]) -> Option<&Item>
+pub(crate) fn first_bad(items: &[OptionItem]) -> Option<&OptionItem>
     ensures { option_copied result ≡ first_bad [] items.now }
 {
     for (at, item) in items.iter().enumerate() {
@@ -102,7 +102,7 @@ pub(crate) fn first_bad(items: &[Item]) -> Option<&Item>
 }
 
 /// Whether an item can stand behind these.
-fn is_fine(before: &[Item], item: &Item) -> bool
+fn is_fine(before: &[OptionItem], item: &OptionItem) -> bool
     ensures { result ≡ is_fine before.now item.now }
 {
     match SubOption::of(item) {
@@ -112,7 +112,7 @@ fn is_fine(before: &[Item], item: &Item) -> bool
 }
 
 /// What stands behind the text of the sub-option that an item gives.
-pub(crate) fn rest_of(sub: SubOption, item: &Item) -> &[u8]
+pub(crate) fn rest_of(sub: SubOption, item: &OptionItem) -> &[u8]
     ensures { result.now ≡ rest_of sub item.now }
 {
     let text = item.text.bytes();
@@ -125,14 +125,14 @@ pub(crate) fn rest_of(sub: SubOption, item: &Item) -> &[u8]
 }
 
 /// Whether one of these items gives the sub-option or the one that can't stand beside it.
-fn is_opposed(sub: SubOption, items: &[Item]) -> bool
+fn is_opposed(sub: SubOption, items: &[OptionItem]) -> bool
     ensures { result ≡ list_any (opposes sub) items.now }
 {
     items.iter().any(|item| opposes(sub, item))
 }
 
 /// Whether an item gives the sub-option or the one that can't stand beside it.
-fn opposes(sub: SubOption, item: &Item) -> bool
+fn opposes(sub: SubOption, item: &OptionItem) -> bool
     ensures { result ≡ opposes sub item.now }
 {
     sub.is_given(item) || sub.rival().is_given(item)

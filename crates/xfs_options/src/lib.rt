@@ -15,17 +15,17 @@
 //! ```
 #![tactic(auto)]
 
-mod debugging;
+mod debug_words;
 mod identifiers;
 mod items;
-mod making;
+mod make_words;
 mod numbers;
 mod options;
 mod reading;
 mod sizes;
 mod sub_options;
 
-pub use debugging::{DebugLine, read_debug_words};
-pub use making::{MakeFault, MakeLine, MakeOptions, read_make_words};
+pub use debug_words::{DebugLine, read_debug_words};
+pub use make_words::{MakeFault, MakeLine, MakeOptions, read_make_words};
 pub use options::{OptionRow, ValueForm};
 pub use reading::{Given, LineFault, read_options};

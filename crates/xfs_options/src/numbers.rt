@@ -1,15 +1,15 @@
 //! Decimal numbers in words.
 
 ghost use Rattle.std.specs.Prelude.{◌≡◌, ◌-◌, ◌&&◌, nat_le};
-ghost use Rattle.xfs_options.specs.Numbers.{below_limit, digits_from, is_digit, number_of};
+ghost use Rattle.xfs_options.specs.Numbers.{below_limit, digits_from, is_digit, bounded_number};
 
 /// Numbers of words are below 2^63.
 const LIMIT: u128 = 1 << 63;
 
 /// The number that a word writes in decimal, without a sign or a leading zero, where it is below 2^63.
-#[tactic(auto, unfolding(crate::specs::Numbers::number_of))]
+#[tactic(auto, unfolding(crate::specs::Numbers::bounded_number))]
 pub(crate) fn number(word: &[u8]) -> Option<u64>
-    ensures { result ≡ number_of word.now }
+    ensures { result ≡ bounded_number word.now }
 {
     match word {
         [] => None,

@@ -3,7 +3,7 @@
 ghost use Rattle.std.specs.Prelude.{◌≡◌, ◌==◌, ◌&&◌, nat_le, length, not};
 ghost use Rattle.std.specs.List.{find, list_any};
 ghost use Rattle.xfs_options.specs.Options.{accepts, is_label, is_up_to, row_of};
-ghost use Rattle.xfs_options.specs.Numbers.{number_of};
+ghost use Rattle.xfs_options.specs.Numbers.{bounded_number};
 
 use crate::numbers::number;
 

@@ -3,7 +3,7 @@
 ghost use Rattle.std.specs.Prelude.{◌≡◌, ℕ, ◌+◌, Result, Ok, Err, List, [], ◌∷◌, ◌++◌, codes, length, not, ◌==◌, IfOk, IfErr};
 ghost use Rattle.std.specs.List.{list_any};
 ghost use Rattle.xfs_options.specs.Options.{HaveValues};
-ghost use Rattle.xfs_options.specs.Words.{after_letters, after_option, after_rest, after_value, after_word, after_words, held, is_free, is_given, IsCause, OffendsFirst, options_of, read_of, reading_of, row_for, settled, Words};
+ghost use Rattle.xfs_options.specs.Words.{after_letters, after_option, after_rest, after_value, after_word, after_words, held, is_not_excluded, is_given, IsCause, OffendsFirst, options_of, read_of, reading_of, row_for, finished_reading, Words};
 ghost use Rattle.xfs_options.specs.Words.Read.{in_options, complete};
 
 use crate::options::{OptionRow, ValueForm, row_of};
@@ -32,7 +32,7 @@ pub enum LineFault {
 
 /// What may follow.
 #[derive(Clone, Copy, Debug)]
-enum Place {
+enum Expected {
     /// An option or the image.
     Options,
     /// The value of an option.
@@ -48,7 +48,7 @@ enum Place {
 /// How far words have been read.
 #[derive(Debug, Drop)]
 struct Reading {
-    place: Place,
+    place: Expected,
     given: Vec<Given>,
 }
 
@@ -73,7 +73,7 @@ fn read_given(alloc: Global, rows: &[OptionRow], rest: &[Word]) -> Result<Vec<Gi
     ensures refusal { IfErr result (IsCause (options_of rows.now rest.now)) }
 {
     match read_all(alloc, rows, rest) {
-        Ok(reading) => reading.settle(rest.len() + 1),
+        Ok(reading) => reading.finish(rest.len() + 1),
         Err(NoMemory) => Err(LineFault::NoMemory),
     }
 }
@@ -83,7 +83,7 @@ fn read_all(alloc: Global, rows: &[OptionRow], rest: &[Word]) -> Result<Reading,
     ensures { IfOk result (λ reading. held reading ≡ reading_of rows.now rest.now) }
 {
     let mut reading = Reading {
-        place: Place::Options,
+        place: Expected::Options,
         given: Vec::new(alloc),
     };
     for (before, word) in rest.iter().enumerate() {
@@ -111,11 +111,11 @@ impl Reading {
         ensures { IfOk result (λ _. held self.new ≡ after_word rows.now at word.now (held self.old)) }
     {
         match self.place {
-            Place::Options => self.take_option(alloc, rows, at, word)?,
-            Place::Value { letter, form } => self.take_value(alloc, at, letter, form, word)?,
-            Place::Image => self.place = Place::Complete,
-            Place::Complete => self.place = Place::Offended(at),
-            Place::Offended(_) => {}
+            Expected::Options => self.take_option(alloc, rows, at, word)?,
+            Expected::Value { letter, form } => self.take_value(alloc, at, letter, form, word)?,
+            Expected::Image => self.place = Expected::Complete,
+            Expected::Complete => self.place = Expected::Offended(at),
+            Expected::Offended(_) => {}
         }
         Ok(())
     }
@@ -131,7 +131,7 @@ impl Reading {
         ensures { IfOk result (λ _. held self.new ≡ after_option rows.now at word.now self.old.given.items) }
     {
         if word == b"--".as_slice() {
-            self.place = Place::Image;
+            self.place = Expected::Image;
             return Ok(());
         }
         match word {
@@ -139,7 +139,7 @@ impl Reading {
                 alloc, rows, at, letters,
             ),
             _ => {
-                self.place = Place::Complete;
+                self.place = Expected::Complete;
                 Ok(())
             }
         }
@@ -155,10 +155,10 @@ impl Reading {
     ) -> Result<(), NoMemory>
         ensures { IfOk result (λ _. held self.new ≡ after_letters rows.now at letters.now self.old.given.items) }
     {
-        self.place = Place::Options;
+        self.place = Expected::Options;
         for (before, letter) in letters.iter().enumerate() {
             let Some(row) = self.row_for(rows, *letter) else {
-                self.place = Place::Offended(at);
+                self.place = Expected::Offended(at);
                 return Ok(());
             };
             match row.value {
@@ -189,7 +189,7 @@ impl Reading {
 
     /// Whether the excluded option isn't given.
     fn is_free(&self, excluded: Option<u8>) -> bool
-        ensures { result ≡ is_free excluded self.now.given.items }
+        ensures { result ≡ is_not_excluded excluded self.now.given.items }
     {
         match excluded {
             None => true,
@@ -210,7 +210,7 @@ impl Reading {
         ensures { IfOk result (λ _. held self.new ≡ after_rest at letter form rest.now self.old.given.items) }
     {
         if rest.is_empty() {
-            self.place = Place::Value { letter, form };
+            self.place = Expected::Value { letter, form };
             return Ok(());
         }
         self.take_value(alloc, at, letter, form, rest)
@@ -228,10 +228,10 @@ impl Reading {
         ensures { IfOk result (λ _. held self.new ≡ after_value at letter form value.now self.old.given.items) }
     {
         if !form.accepts(value) {
-            self.place = Place::Offended(at);
+            self.place = Expected::Offended(at);
             return Ok(());
         }
-        self.place = Place::Options;
+        self.place = Expected::Options;
         self.give(alloc, letter, at, value)
     }
 
@@ -250,14 +250,14 @@ impl Reading {
     }
 
     /// The options, or the number of the first word that offends: that of all words where one lacks.
-    fn settle(self, count: usize) -> Result<Vec<Given>, LineFault>
-        ensures given { IfOk result (λ given. settled count (held self) ≡ Ok given.items) }
-        ensures refusal { IfErr result (IsCause (settled count (held self))) }
+    fn finish(self, count: usize) -> Result<Vec<Given>, LineFault>
+        ensures given { IfOk result (λ given. finished_reading count (held self) ≡ Ok given.items) }
+        ensures refusal { IfErr result (IsCause (finished_reading count (held self))) }
     {
         match self.place {
-            Place::Complete => Ok(self.given),
-            Place::Offended(word) => Err(LineFault::Offends(word)),
-            Place::Options | Place::Value { .. } | Place::Image => Err(LineFault::Offends(count)),
+            Expected::Complete => Ok(self.given),
+            Expected::Offended(word) => Err(LineFault::Offends(word)),
+            Expected::Options | Expected::Value { .. } | Expected::Image => Err(LineFault::Offends(count)),
         }
     }
 }

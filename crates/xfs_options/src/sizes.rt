@@ -1,8 +1,8 @@
 //! Sizes of bytes in words.
 
 ghost use Rattle.std.specs.Prelude.{◌≡◌, ◌*◌, ◌/◌, ◌%◌, ◌<◌, ◌==◌, ◌&&◌, nat_lt, if◌then◌else◌, length, OnSome};
-ghost use Rattle.xfs_options.specs.Numbers.{number_of};
-ghost use Rattle.xfs_options.specs.Sizes.{blocks_of, size_of, unit_behind, unit_of};
+ghost use Rattle.xfs_options.specs.Numbers.{bounded_number};
+ghost use Rattle.xfs_options.specs.Sizes.{blocks_of_number, blocks_of_text, unit_behind, unit_of};
 
 use crate::numbers::number;
 
@@ -11,9 +11,9 @@ const LIMIT: u128 = 1 << 63;
 
 /// The number of blocks of 4096 bytes that a size names: a decimal number with a unit behind it, or of
 /// bytes. There is none where it isn't a whole number of blocks, or not below 2^63 bytes.
-#[tactic(auto, unfolding(crate::specs::Sizes::size_of))]
+#[tactic(auto, unfolding(crate::specs::Sizes::blocks_of_text))]
 pub(crate) fn size(text: &[u8]) -> Option<u64>
-    ensures { result ≡ size_of text.now }
+    ensures { result ≡ blocks_of_text text.now }
 {
     match unit_behind(text) {
         Some(unit) => blocks(number(&text[..text.len() - 1]), unit),
@@ -48,7 +48,7 @@ fn unit_of(letter: u8) -> Option<u32>
 
 /// The blocks of so many units.
 fn blocks(number: Option<u64>, unit: u32) -> Option<u64>
-    ensures { result ≡ blocks_of unit number }
+    ensures { result ≡ blocks_of_number unit number }
 {
     let bytes = number? as u128 * unit as u128;
     if bytes % 4096 == 0 && bytes < LIMIT {

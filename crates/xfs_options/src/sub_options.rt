@@ -2,11 +2,11 @@
 
 ghost use Rattle.std.specs.Prelude.{◌≡◌, ◌==◌, ◌&&◌, bytes_eq, length, take};
 ghost use Rattle.std.specs.List.{find};
-ghost use Rattle.xfs_options.specs.SubOptions.{all_sub_options, fits, form_of, gives, list_of, rival_of, sub_of, text_of};
+ghost use Rattle.xfs_options.specs.SubOptions.{all_sub_options, fits, item_form, is_item_of, option_of, rival_of, sub_of, item_text};
 ghost use Rattle.xfs_options.specs.declared.sub_options.SubOption.{SubOption};
 
 use crate::identifiers::identifier;
-use crate::items::Item;
+use crate::items::OptionItem;
 use crate::numbers::number;
 use crate::sizes::size;
 
@@ -68,22 +68,22 @@ pub(crate) const ALL: [SubOption; 17] = [
 impl SubOption {
     /// The sub-option that an item gives.
     #[tactic(auto, unfolding(crate::specs::SubOptions::sub_of))]
-    pub fn of(item: &Item) -> Option<SubOption>
+    pub fn of(item: &OptionItem) -> Option<SubOption>
         ensures { result ≡ sub_of item.now }
     {
         find_given(&ALL, item)
     }
 
     /// Whether an item gives the sub-option.
-    pub fn is_given(self, item: &Item) -> bool
-        ensures { result ≡ gives self item.now }
+    pub fn is_given(self, item: &OptionItem) -> bool
+        ensures { result ≡ is_item_of self item.now }
     {
         self.list() == item.option && begins(item.text.bytes(), self.text().as_bytes())
     }
 
     /// The letter of the option in whose lists it stands.
     fn list(self) -> u8
-        ensures { result ≡ list_of self }
+        ensures { result ≡ option_of self }
     {
         match self {
             SubOption::DataSize | SubOption::AgCount | SubOption::AgSize => b'd',
@@ -98,7 +98,7 @@ impl SubOption {
 
     /// The text with which its items begin.
     pub fn text(self) -> &'static str
-        ensures { result.now ≡ text_of self }
+        ensures { result.now ≡ item_text self }
     {
         match self {
             SubOption::DataSize | SubOption::LogSize => "size=",
@@ -121,7 +121,7 @@ impl SubOption {
 
     /// What follows the text.
     pub fn form(self) -> ItemForm
-        ensures { result ≡ form_of self }
+        ensures { result ≡ item_form self }
     {
         match self {
             SubOption::DataSize | SubOption::AgSize | SubOption::LogSize => ItemForm::Size,
@@ -176,8 +176,8 @@ fn head(text: &[u8], most: usize) -> &[u8]
 }
 
 /// The first of these sub-options that an item gives.
-fn find_given(subs: &[SubOption], item: &Item) -> Option<SubOption>
-    ensures { result ≡ find (λ (sub : SubOption). gives sub item.now) subs.now }
+fn find_given(subs: &[SubOption], item: &OptionItem) -> Option<SubOption>
+    ensures { result ≡ find (λ (sub : SubOption). is_item_of sub item.now) subs.now }
 {
     for sub in subs {
         if sub.is_given(item) {

@@ -6,18 +6,18 @@ use Rattle.std.proofs.lemmas.Bool.Decides.{nat_tests}
 use Rattle.std.proofs.lemmas.List.Elements.{All-append, All-cons, All-head, All-nil, All-tail}
 use Rattle.std.proofs.lemmas.List.Sums.{sum_by-append}
 use Rattle.std.proofs.Math.Nat.{mul-le-mul_right, mul-mod_left}
+use Rattle.xfs_geom.specs.Runs.{covers, runs_on}
+use Rattle.xfs_disk.specs.Lists.{is_in_range}
 use Rattle.xfs_geom.specs.Conversions.{group_length, is_fixed}
 use Rattle.xfs_geom.specs.Groups.{blocks_of_group}
 use Rattle.xfs_geom.specs.Shape.{HasGroups, HasLog}
 use Rattle.xfs_geom.specs.Volumes.{Volume}
 use Rattle.xfs_geom.specs.declared.records.Run.{Run}
-use Rattle.xfs_kinds.specs.FreeRuns.{is_block}
 use Rattle.xfs_kinds.specs.OffsetWords.{is_file_data}
-use Rattle.xfs_kinds.specs.MergedRuns.{AreRuns, held_at, word_at}
-use Rattle.xfs_place.specs.Pool.{is_of}
+use Rattle.xfs_kinds.specs.MergedRuns.{AreRuns, held_at, offset_word_at}
 use Rattle.xfs_place.specs.Choice.{one_if}
-use Rattle.xfs_place.specs.Claims.{AreApart, IsClaim, runs_on}
-use Rattle.xfs_place.specs.Wanted.{AreKept, IsClear, StaysInGroup, begins_in, fixed_runs, header_run, in_group, log_run}
+use Rattle.xfs_place.specs.Claims.{ClaimedOnce, IsClaimedRun}
+use Rattle.xfs_place.specs.Wanted.{CanBeKept, IsOffFixed, StaysInGroup, begins_in, fixed_runs, header_run, run_in_group, log_run}
 use Rattle.xfs_place.proofs.GroupIs.{fixed_none, headers_none}
 use Rattle.xfs_place.proofs.Marking.{log_end}
 use Rattle.xfs_place.proofs.Ordered.{none_held, on_first}
@@ -50,7 +50,7 @@ module _ (v : Volume) (is : IsVolume v) where
       (omega arith, header_small a (omega (arith, few)), runs_lower (a * v.agblocks + 1) ((a + 1) * v.agblocks) (map (header_run v) (range_with_len (a + 1) n)) (headers_ascend (a + 1) n (omega (arith, few))) next)
 
   -- a block of the log is no header's
-  log_apart : (x : ℕ) → is_of x (log_run v) ≡ true → (ag : ℕ) → x ≢ ag * v.agblocks
+  log_apart : (x : ℕ) → covers x (log_run v) ≡ true → (ag : ℕ) → x ≢ ag * v.agblocks
   log_apart x in' ag at =
       let parts = and_parts (nat_le v.log x) (nat_lt x (v.log + v.logblocks)) in' in
       let low = leb-true v.log x parts.0 in
@@ -72,44 +72,44 @@ module _ (v : Volume) (is : IsVolume v) where
       let sums = on_first (log_run v) headers x in
       let from : 0 * v.agblocks ≡ 0 = omega arith in
       let once = (once_each 0 headers x (subst (λ (n : ℕ). AreRuns n headers) from (headers_ascend 0 v.agcount (omega arith)))).0 in
-      elim (cases_Bool (is_of x (log_run v))) [
+      elim (cases_Bool (covers x (log_run v))) [
         | inl in' ↦
-            let one : one_if (is_of x (log_run v)) ≡ 1 = ap one_if in' in
+            let one : one_if (covers x (log_run v)) ≡ 1 = ap one_if in' in
             let none = none_held headers x (headers_none v 0 v.agcount x (log_apart x in')) in
             omega (arith, sums, one, none)
         | inr out ↦
-            let zero' : one_if (is_of x (log_run v)) ≡ 0 = ap one_if out in
+            let zero' : one_if (covers x (log_run v)) ≡ 0 = ap one_if out in
             omega (arith, sums, zero', once)
       ]
 
-  kept_none : (kept : List Run) (x : ℕ) → All (IsClear v) kept → is_fixed v x ≡ true → runs_on kept x ≡ 0
+  kept_none : (kept : List Run) (x : ℕ) → All (IsOffFixed v) kept → is_fixed v x ≡ true → runs_on kept x ≡ 0
   kept_none [] x clear fixed = refl
   kept_none (r ∷ rest) x clear fixed =
-      let out : is_of x r ≡ false = false_from_ne_true (is_of x r) (λ h. true≢false (sym fixed ∙ All-head (IsClear v) r rest clear x h)) in
-      let zero' : one_if (is_of x r) ≡ 0 = ap one_if out in
-      omega (arith, on_first r rest x, zero', kept_none rest x (All-tail (IsClear v) r rest clear) fixed)
+      let out : covers x r ≡ false = false_from_ne_true (covers x r) (λ h. true≢false (sym fixed ∙ All-head (IsOffFixed v) r rest clear x h)) in
+      let zero' : one_if (covers x r) ≡ 0 = ap one_if out in
+      omega (arith, on_first r rest x, zero', kept_none rest x (All-tail (IsOffFixed v) r rest clear) fixed)
 
-  pub all_apart : (kept : List Run) → AreKept v kept → AreApart (fixed_runs v ++ kept)
+  pub all_apart : (kept : List Run) → CanBeKept v kept → ClaimedOnce (fixed_runs v ++ kept)
   all_apart kept are = record {
     once = λ x.
-        let parts : runs_on (fixed_runs v ++ kept) x ≡ runs_on (fixed_runs v) x + runs_on kept x = sum_by-append (λ (r : Run). if is_of x r then 1 else 0) (fixed_runs v) kept in
+        let parts : runs_on (fixed_runs v ++ kept) x ≡ runs_on (fixed_runs v) x + runs_on kept x = sum_by-append (λ (r : Run). if covers x r then 1 else 0) (fixed_runs v) kept in
         elim (cases_Bool (is_fixed v x)) [
           | inl fixed ↦ omega (arith, parts, fixed_once x, kept_none kept x are.clear fixed)
           | inr free ↦ omega (arith, parts, none_held (fixed_runs v) x (fixed_none v x free), are.apart.once x)
         ];
   }
 
-  headers_each : (a n : ℕ) → a + n ≤ v.agcount → All (IsClaim v.dblocks) (map (header_run v) (range_with_len a n))
-  headers_each a zero few = All-nil (IsClaim v.dblocks)
+  headers_each : (a n : ℕ) → a + n ≤ v.agcount → All (IsClaimedRun v.dblocks) (map (header_run v) (range_with_len a n))
+  headers_each a zero few = All-nil (IsClaimedRun v.dblocks)
   headers_each a (suc n) few =
-      All-cons (IsClaim v.dblocks) (header_run v a) (map (header_run v) (range_with_len (a + 1) n))
+      All-cons (IsClaimedRun v.dblocks) (header_run v a) (map (header_run v) (range_with_len (a + 1) n))
       (record { some = omega arith; inside = header_inside a (omega (arith, few)); fits = λ h. absurd (true≢false (sym h)); plain = λ h. refl })
       (headers_each (a + 1) n (omega (arith, few)))
 
-  pub all_each : (kept : List Run) → AreKept v kept → All (IsClaim v.dblocks) (fixed_runs v ++ kept)
+  pub all_each : (kept : List Run) → CanBeKept v kept → All (IsClaimedRun v.dblocks) (fixed_runs v ++ kept)
   all_each kept are =
-      All-append (IsClaim v.dblocks) (fixed_runs v) kept
-      (All-cons (IsClaim v.dblocks) (log_run v) (map (header_run v) (range_with_len 0 v.agcount))
+      All-append (IsClaimedRun v.dblocks) (fixed_runs v) kept
+      (All-cons (IsClaimedRun v.dblocks) (log_run v) (map (header_run v) (range_with_len 0 v.agcount))
       (record { some = omega (arith, is.log_inside.large); inside = log_end v.dblocks v.agblocks v.agcount v.log v.logblocks is.groups is.log_inside; fits = λ h. absurd (true≢false (sym h)); plain = λ h. refl })
       (headers_each 0 v.agcount (omega arith)))
       are.each
@@ -141,23 +141,23 @@ module _ (v : Volume) (is : IsVolume v) where
         absurd (omega (arith, most, low, some))
   ]
 
-  clear_stays : (r : Run) → IsClaim v.dblocks r → IsClear v r → StaysInGroup v r
+  clear_stays : (r : Run) → IsClaimedRun v.dblocks r → IsOffFixed v r → StaysInGroup v r
   clear_stays r claim clear = λ ag low. elim (cases_lt (ag * v.agblocks) (r.start + r.count)) [
     | inr far ↦ far
     | inl near ↦
-        let has : is_of (ag * v.agblocks) r ≡ true = grind (arith, nat_tests, low, near) in
+        let has : covers (ag * v.agblocks) r ≡ true = grind (arith, nat_tests, low, near) in
         let rest : ag * v.agblocks % v.agblocks ≡ 0 = mul-mod_left ag v.agblocks in
         let fixed : is_fixed v (ag * v.agblocks) ≡ true = or_left (ag * v.agblocks % v.agblocks == 0) (nat_le v.log (ag * v.agblocks) && nat_lt (ag * v.agblocks) (v.log + v.logblocks)) (eq-eqb (ag * v.agblocks % v.agblocks) 0 rest) in
         absurd (true≢false (sym fixed ∙ clear (ag * v.agblocks) has))
   ]
 
-  kept_stay : (kept : List Run) → All (IsClaim v.dblocks) kept → All (IsClear v) kept → All (StaysInGroup v) kept
+  kept_stay : (kept : List Run) → All (IsClaimedRun v.dblocks) kept → All (IsOffFixed v) kept → All (StaysInGroup v) kept
   kept_stay [] each clear = All-nil (StaysInGroup v)
   kept_stay (r ∷ rest) each clear =
-      All-cons (StaysInGroup v) r rest (clear_stays r (All-head (IsClaim v.dblocks) r rest each) (All-head (IsClear v) r rest clear))
-      (kept_stay rest (All-tail (IsClaim v.dblocks) r rest each) (All-tail (IsClear v) r rest clear))
+      All-cons (StaysInGroup v) r rest (clear_stays r (All-head (IsClaimedRun v.dblocks) r rest each) (All-head (IsOffFixed v) r rest clear))
+      (kept_stay rest (All-tail (IsClaimedRun v.dblocks) r rest each) (All-tail (IsOffFixed v) r rest clear))
 
-  pub all_stay : (kept : List Run) → AreKept v kept → All (StaysInGroup v) (fixed_runs v ++ kept)
+  pub all_stay : (kept : List Run) → CanBeKept v kept → All (StaysInGroup v) (fixed_runs v ++ kept)
   all_stay kept are =
       All-append (StaysInGroup v) (fixed_runs v) kept
       (All-cons (StaysInGroup v) (log_run v) (map (header_run v) (range_with_len 0 v.agcount)) log_stays (headers_stay 0 v.agcount))
@@ -194,17 +194,17 @@ group_ends v ag groups low = by_case (ag + 1 == v.agcount) refl
 
 module _ (v : Volume) (ag : ℕ) (groups : HasGroups v.dblocks v.agblocks v.agcount) (low : ag < v.agcount) where
   part : List Run → List Run
-  part rs = map (in_group (ag * v.agblocks)) (filter (begins_in (ag * v.agblocks) (group_length v ag)) rs)
+  part rs = map (run_in_group (ag * v.agblocks)) (filter (begins_in (ag * v.agblocks) (group_length v ag)) rs)
 
   part_in : (r : Run) (rest : List Run) → begins_in (ag * v.agblocks) (group_length v ag) r ≡ true
-      → map (in_group (ag * v.agblocks)) (filter (begins_in (ag * v.agblocks) (group_length v ag)) (r ∷ rest)) ≡ in_group (ag * v.agblocks) r ∷ map (in_group (ag * v.agblocks)) (filter (begins_in (ag * v.agblocks) (group_length v ag)) rest)
-  part_in r rest h = ap (λ (t : Bool). map (in_group (ag * v.agblocks)) (if t then r ∷ filter (begins_in (ag * v.agblocks) (group_length v ag)) rest else filter (begins_in (ag * v.agblocks) (group_length v ag)) rest)) h
+      → map (run_in_group (ag * v.agblocks)) (filter (begins_in (ag * v.agblocks) (group_length v ag)) (r ∷ rest)) ≡ run_in_group (ag * v.agblocks) r ∷ map (run_in_group (ag * v.agblocks)) (filter (begins_in (ag * v.agblocks) (group_length v ag)) rest)
+  part_in r rest h = ap (λ (t : Bool). map (run_in_group (ag * v.agblocks)) (if t then r ∷ filter (begins_in (ag * v.agblocks) (group_length v ag)) rest else filter (begins_in (ag * v.agblocks) (group_length v ag)) rest)) h
 
   part_out : (r : Run) (rest : List Run) → begins_in (ag * v.agblocks) (group_length v ag) r ≡ false
-      → map (in_group (ag * v.agblocks)) (filter (begins_in (ag * v.agblocks) (group_length v ag)) (r ∷ rest)) ≡ map (in_group (ag * v.agblocks)) (filter (begins_in (ag * v.agblocks) (group_length v ag)) rest)
-  part_out r rest h = ap (λ (t : Bool). map (in_group (ag * v.agblocks)) (if t then r ∷ filter (begins_in (ag * v.agblocks) (group_length v ag)) rest else filter (begins_in (ag * v.agblocks) (group_length v ag)) rest)) h
+      → map (run_in_group (ag * v.agblocks)) (filter (begins_in (ag * v.agblocks) (group_length v ag)) (r ∷ rest)) ≡ map (run_in_group (ag * v.agblocks)) (filter (begins_in (ag * v.agblocks) (group_length v ag)) rest)
+  part_out r rest h = ap (λ (t : Bool). map (run_in_group (ag * v.agblocks)) (if t then r ∷ filter (begins_in (ag * v.agblocks) (group_length v ag)) rest else filter (begins_in (ag * v.agblocks) (group_length v ag)) rest)) h
 
-  moved_word : (r : Run) (b base : ℕ) → base ≤ r.start → word_at (in_group base r) b ≡ word_at r (base + b)
+  moved_word : (r : Run) (b base : ℕ) → base ≤ r.start → offset_word_at (run_in_group base r) b ≡ offset_word_at r (base + b)
   moved_word r b base from = by_case (is_file_data r.owner r.offset)
     where
       by_case : (t : Bool) → (if t then r.offset + (b - (r.start - base)) else r.offset) ≡ (if t then r.offset + (base + b - r.start) else r.offset)
@@ -212,7 +212,7 @@ module _ (v : Volume) (ag : ℕ) (groups : HasGroups v.dblocks v.agblocks v.agco
       by_case false = refl
 
   pub part_held : (rs : List Run) (b : ℕ) → All (StaysInGroup v) rs → b < group_length v ag
-      → held_at (map (in_group (ag * v.agblocks)) (filter (begins_in (ag * v.agblocks) (group_length v ag)) rs)) b ≡ held_at rs (ag * v.agblocks + b)
+      → held_at (map (run_in_group (ag * v.agblocks)) (filter (begins_in (ag * v.agblocks) (group_length v ag)) rs)) b ≡ held_at rs (ag * v.agblocks + b)
   part_held [] b stay in' = refl
   part_held (r ∷ rest) b stay in' =
       let base = ag * v.agblocks in
@@ -221,27 +221,27 @@ module _ (v : Volume) (ag : ℕ) (groups : HasGroups v.dblocks v.agblocks v.agco
         | inl begins ↦
             let parts = and_parts (nat_le base r.start) (nat_lt r.start (base + group_length v ag)) begins in
             let from = leb-true base r.start parts.0 in
-            let block : is_block (r.start - base) r.count b ≡ is_block r.start r.count (base + b) = grind (arith, nat_tests, from) in
+            let block : is_in_range (r.start - base) r.count b ≡ is_in_range r.start r.count (base + b) = grind (arith, nat_tests, from) in
             let word = moved_word r b base from in
             ap (λ (rs : List Run). held_at rs b) (part_in r rest begins)
-            ∙ ap (λ (t : Bool). if t then Some (r.owner, word_at (in_group base r) b) else held_at (map (in_group base) (filter (begins_in base (group_length v ag)) rest)) b) block
-            ∙ ap₂ (λ (w : ℕ) (o : Option (ℕ × ℕ)). if is_block r.start r.count (base + b) then Some (r.owner, w) else o) word so
+            ∙ ap (λ (t : Bool). if t then Some (r.owner, offset_word_at (run_in_group base r) b) else held_at (map (run_in_group base) (filter (begins_in base (group_length v ag)) rest)) b) block
+            ∙ ap₂ (λ (w : ℕ) (o : Option (ℕ × ℕ)). if is_in_range r.start r.count (base + b) then Some (r.owner, w) else o) word so
         | inr not' ↦
-            let out : is_block r.start r.count (base + b) ≡ false = elim (cases_lt r.start base) [
+            let out : is_in_range r.start r.count (base + b) ≡ false = elim (cases_lt r.start base) [
               | inl before ↦
                   let end = All-head (StaysInGroup v) r rest stay ag before in
-                  let p : is_block r.start r.count (base + b) ≡ false = grind (arith, nat_tests, end) in p
+                  let p : is_in_range r.start r.count (base + b) ≡ false = grind (arith, nat_tests, end) in p
               | inr from ↦ elim (cases_lt r.start (base + group_length v ag)) [
                 | inl in'' ↦ absurd (true≢false (sym (and_from (nat_le base r.start) (nat_lt r.start (base + group_length v ag)) (le-leb base r.start from) (lt-ltb r.start (base + group_length v ag) in'')) ∙ not'))
                 | inr behind ↦
-                    let p : is_block r.start r.count (base + b) ≡ false = grind (arith, nat_tests, behind, in') in p
+                    let p : is_in_range r.start r.count (base + b) ≡ false = grind (arith, nat_tests, behind, in') in p
               ]
             ] in
             ap (λ (rs : List Run). held_at rs b) (part_out r rest not') ∙ so
-            ∙ sym (ap (λ (t : Bool). if t then Some (r.owner, word_at r (base + b)) else held_at rest (base + b)) out)
+            ∙ sym (ap (λ (t : Bool). if t then Some (r.owner, offset_word_at r (base + b)) else held_at rest (base + b)) out)
       ]
 
-  pub part_ascends : (rs : List Run) (from : ℕ) → AreRuns from rs → AreRuns (from - ag * v.agblocks) (map (in_group (ag * v.agblocks)) (filter (begins_in (ag * v.agblocks) (group_length v ag)) rs))
+  pub part_ascends : (rs : List Run) (from : ℕ) → AreRuns from rs → AreRuns (from - ag * v.agblocks) (map (run_in_group (ag * v.agblocks)) (filter (begins_in (ag * v.agblocks) (group_length v ag)) rs))
   part_ascends [] from runs = tt
   part_ascends (r ∷ rest) from runs =
       let base = ag * v.agblocks in
@@ -251,30 +251,30 @@ module _ (v : Volume) (ag : ℕ) (groups : HasGroups v.dblocks v.agblocks v.agco
             let at = leb-true base r.start (and_parts (nat_le base r.start) (nat_lt r.start (base + group_length v ag)) begins).0 in
             let end : r.start + r.count - base ≡ r.start - base + r.count = omega (arith, at) in
             subst (AreRuns (from - base)) (sym (part_in r rest begins))
-            (omega (arith, runs.0), omega (arith, runs.1), subst (λ (n : ℕ). AreRuns n (map (in_group base) (filter (begins_in base (group_length v ag)) rest))) end so)
+            (omega (arith, runs.0), omega (arith, runs.1), subst (λ (n : ℕ). AreRuns n (map (run_in_group base) (filter (begins_in base (group_length v ag)) rest))) end so)
         | inr not' ↦
             subst (AreRuns (from - base)) (sym (part_out r rest not'))
-            (runs_lower (from - base) (r.start + r.count - base) (map (in_group base) (filter (begins_in base (group_length v ag)) rest)) so (omega (arith, runs.0)))
+            (runs_lower (from - base) (r.start + r.count - base) (map (run_in_group base) (filter (begins_in base (group_length v ag)) rest)) so (omega (arith, runs.0)))
       ]
 
-  pub part_each : (rs : List Run) → All (IsClaim v.dblocks) rs → All (StaysInGroup v) rs
-      → All (IsClaim (group_length v ag)) (map (in_group (ag * v.agblocks)) (filter (begins_in (ag * v.agblocks) (group_length v ag)) rs))
-  part_each [] each stay = All-nil (IsClaim (group_length v ag))
+  pub part_each : (rs : List Run) → All (IsClaimedRun v.dblocks) rs → All (StaysInGroup v) rs
+      → All (IsClaimedRun (group_length v ag)) (map (run_in_group (ag * v.agblocks)) (filter (begins_in (ag * v.agblocks) (group_length v ag)) rs))
+  part_each [] each stay = All-nil (IsClaimedRun (group_length v ag))
   part_each (r ∷ rest) each stay =
       let base = ag * v.agblocks in
-      let so = part_each rest (All-tail (IsClaim v.dblocks) r rest each) (All-tail (StaysInGroup v) r rest stay) in
+      let so = part_each rest (All-tail (IsClaimedRun v.dblocks) r rest each) (All-tail (StaysInGroup v) r rest stay) in
       elim (cases_Bool (begins_in base (group_length v ag) r)) [
         | inl begins ↦
             let parts = and_parts (nat_le base r.start) (nat_lt r.start (base + group_length v ag)) begins in
             let at = leb-true base r.start parts.0 in
             let before = ltb-true r.start (base + group_length v ag) parts.1 in
-            let mine = All-head (IsClaim v.dblocks) r rest each in
+            let mine = All-head (IsClaimedRun v.dblocks) r rest each in
             let end : r.start + r.count ≤ base + group_length v ag = elim (group_ends v ag groups low) [
               | inl last ↦ omega (arith, last, mine.inside)
               | inr next ↦ omega (arith, next, All-head (StaysInGroup v) r rest stay (ag + 1) (omega (arith, next, before)))
             ] in
-            subst (All (IsClaim (group_length v ag))) (sym (part_in r rest begins))
-            (All-cons (IsClaim (group_length v ag)) (in_group base r) (map (in_group base) (filter (begins_in base (group_length v ag)) rest))
+            subst (All (IsClaimedRun (group_length v ag))) (sym (part_in r rest begins))
+            (All-cons (IsClaimedRun (group_length v ag)) (run_in_group base r) (map (run_in_group base) (filter (begins_in base (group_length v ag)) rest))
             (record { some = mine.some; inside = omega (arith, end, at); fits = mine.fits; plain = mine.plain }) so)
-        | inr not' ↦ subst (All (IsClaim (group_length v ag))) (sym (part_out r rest not')) so
+        | inr not' ↦ subst (All (IsClaimedRun (group_length v ag))) (sym (part_out r rest not')) so
       ]

@@ -3,11 +3,11 @@ use Rattle.std.proofs.Common.{◌≡◌, ℕ, zero, suc, ◌+◌, ◌-◌, ◌/�
 use Rattle.std.specs.Option.{is_some}
 use Rattle.std.proofs.lemmas.Bool.{cases_lt, cases_eq, eq-eqb, lt-ltb, le-ltb}
 use Rattle.std.proofs.lemmas.Bool.Decides.{nat_tests}
+use Rattle.xfs_disk.specs.Lists.{is_in_range}
 use Rattle.xfs_geom.specs.declared.records.Run.{Run}
-use Rattle.xfs_kinds.specs.FreeRuns.{is_block}
 use Rattle.xfs_kinds.specs.OffsetWords.{offset_in_fork, flags_of, is_file_data}
-use Rattle.xfs_kinds.specs.MergedRuns.{AreRuns, NoneJoin, held_at, joins, word_at}
-use Rattle.xfs_place.specs.Choice.{begins_owned, goes_on, joined, one_if, total}
+use Rattle.xfs_kinds.specs.MergedRuns.{AreRuns, NoneJoin, held_at, joins, offset_word_at}
+use Rattle.xfs_place.specs.Choice.{begins_owned, goes_on, is_joined, one_if, total}
 use Rattle.xfs_place.proofs.Totals.{total_more}
 
 -- the runs have some blocks each and end by a block
@@ -23,20 +23,20 @@ OffsetsFit (r ∷ rest) = (is_file_data r.owner r.offset ≡ true → offset_in_
 -- the first run does not go on where something ends before it
 abbrev pub FirstApart : (ℕ → Option (ℕ × ℕ)) → List Run → Type 0
 FirstApart owned [] = Unit {0}
-FirstApart owned (r ∷ rest) = 0 < r.start → joined (owned (r.start - 1)) (Some (r.owner, r.offset)) ≡ false
+FirstApart owned (r ∷ rest) = 0 < r.start → is_joined (owned (r.start - 1)) (Some (r.owner, r.offset)) ≡ false
 
 pub held_before : (rs : List Run) (low b : ℕ) → AreRuns low rs → b < low → held_at rs b ≡ None
 held_before [] low b runs h = refl
 held_before (r ∷ rest) low b runs h =
-    let out : is_block r.start r.count b ≡ false = grind (arith, nat_tests, runs.0, h) in
+    let out : is_in_range r.start r.count b ≡ false = grind (arith, nat_tests, runs.0, h) in
     let next = held_before rest (r.start + r.count) b runs.2 (omega (arith, runs.0, h)) in
     rw out next
 
-held_in : (r : Run) (rest : List Run) (b : ℕ) → r.start ≤ b → b < r.start + r.count → held_at (r ∷ rest) b ≡ Some (r.owner, word_at r b)
-held_in r rest b low high = let here : is_block r.start r.count b ≡ true = grind (arith, nat_tests, low, high) in rw here refl
+held_in : (r : Run) (rest : List Run) (b : ℕ) → r.start ≤ b → b < r.start + r.count → held_at (r ∷ rest) b ≡ Some (r.owner, offset_word_at r b)
+held_in r rest b low high = let here : is_in_range r.start r.count b ≡ true = grind (arith, nat_tests, low, high) in rw here refl
 
 held_behind : (r : Run) (rest : List Run) (b : ℕ) → r.start + r.count ≤ b → held_at (r ∷ rest) b ≡ held_at rest b
-held_behind r rest b h = let out : is_block r.start r.count b ≡ false = grind (arith, nat_tests, h) in rw out refl
+held_behind r rest b h = let out : is_in_range r.start r.count b ≡ false = grind (arith, nat_tests, h) in rw out refl
 
 -- a row in which nothing passes, and one in which one does
 total_stays : (f : ℕ → ℕ) (from k : ℕ) → ((b : ℕ) → from ≤ b → b < from + k → f b ≡ 0) → total f (from + k) ≡ total f from
@@ -57,7 +57,7 @@ either false = refl
 
 -- the block behind one of a run goes on where it ends
 word_goes_on : (r : Run) (b : ℕ) → (is_file_data r.owner r.offset ≡ true → offset_in_fork r.offset + r.count ≤ 2 ^ 54) → r.start < b → b < r.start + r.count
-    → goes_on (r.owner, word_at r (b - 1)) (r.owner, word_at r b) ≡ true
+    → goes_on (r.owner, offset_word_at r (b - 1)) (r.owner, offset_word_at r b) ≡ true
 word_goes_on r b fits low high = by_case (is_file_data r.owner r.offset) refl
   where
     by_case : (t : Bool) → is_file_data r.owner r.offset ≡ t
@@ -77,7 +77,7 @@ word_goes_on r b fits low high = by_case (is_file_data r.owner r.offset) refl
 
 -- the first block of the next run goes on where the last of this one ends, where the runs join
 last_goes_on : (r y : Run) → (is_file_data r.owner r.offset ≡ true → offset_in_fork r.offset + r.count ≤ 2 ^ 54) → 1 ≤ r.count → r.start + r.count ≡ y.start
-    → goes_on (r.owner, word_at r (y.start - 1)) (y.owner, y.offset) ≡ joins r y
+    → goes_on (r.owner, offset_word_at r (y.start - 1)) (y.owner, y.offset) ≡ joins r y
 last_goes_on r y fits some next = by_case (is_file_data r.owner r.offset) refl
   where
     at : (r.start + r.count == y.start) ≡ true
@@ -95,14 +95,14 @@ last_goes_on r y fits some next = by_case (is_file_data r.owner r.offset) refl
         let n : offset_in_fork w + 1 ≡ offset_in_fork r.offset + r.count = omega (arith, small, next, some) in
         rw (at, h, same, f, n) refl
 
-word_start : (r : Run) → word_at r r.start ≡ r.offset
+word_start : (r : Run) → offset_word_at r r.start ≡ r.offset
 word_start r = by_case (is_file_data r.owner r.offset)
   where
     by_case : (t : Bool) → (if t then r.offset + (r.start - r.start) else r.offset) ≡ r.offset
     by_case true = omega arith
     by_case false = refl
 
-start_begins : (o : ℕ → Option (ℕ × ℕ)) (s : Run) → o s.start ≡ Some (s.owner, word_at s s.start) → (0 < s.start → joined (o (s.start - 1)) (Some (s.owner, s.offset)) ≡ false)
+start_begins : (o : ℕ → Option (ℕ × ℕ)) (s : Run) → o s.start ≡ Some (s.owner, offset_word_at s s.start) → (0 < s.start → is_joined (o (s.start - 1)) (Some (s.owner, s.offset)) ≡ false)
     → one_if (begins_owned o s.start) ≡ 1
 start_begins o s here apart =
     let at : o s.start ≡ Some (s.owner, s.offset) = here ∙ ap (λ (w : ℕ). let p : Option (ℕ × ℕ) = Some (s.owner, w) in p) (word_start s) in
@@ -117,11 +117,11 @@ start_begins o s here apart =
     ]
 
 inner_goes_on : (o : ℕ → Option (ℕ × ℕ)) (s : Run) (b : ℕ) → (is_file_data s.owner s.offset ≡ true → offset_in_fork s.offset + s.count ≤ 2 ^ 54) → s.start < b → b < s.start + s.count
-    → o (b - 1) ≡ Some (s.owner, word_at s (b - 1)) → o b ≡ Some (s.owner, word_at s b) → one_if (begins_owned o b) ≡ 0
+    → o (b - 1) ≡ Some (s.owner, offset_word_at s (b - 1)) → o b ≡ Some (s.owner, offset_word_at s b) → one_if (begins_owned o b) ≡ 0
 inner_goes_on o s b fit l h was now =
     let pos : nat_lt 0 b ≡ true = lt-ltb 0 b (omega (arith, l)) in
     let on = word_goes_on s b fit l h in
-    let both : joined (o (b - 1)) (o b) ≡ true = ap₂ joined was now ∙ on in
+    let both : is_joined (o (b - 1)) (o b) ≡ true = ap₂ is_joined was now ∙ on in
     rw (pos, both) (never (is_some (o b)))
   where
     never : (t : Bool) → one_if (t && not (true && true)) ≡ 0
@@ -137,15 +137,15 @@ first_rest : (o : ℕ → Option (ℕ × ℕ)) (x : Run) (ys : List Run) (l t : 
 first_rest o x [] l t rs sm fit n held = tt
 first_rest o x (y ∷ ys) l t rs sm fit n held = λ pos. elim (cases_eq (x.start + x.count) y.start) [
   | inl next ↦
-      let was : o (y.start - 1) ≡ Some (x.owner, word_at x (y.start - 1)) =
+      let was : o (y.start - 1) ≡ Some (x.owner, offset_word_at x (y.start - 1)) =
       held (y.start - 1) (omega (arith, rs.0, sm.0, next)) (omega (arith, sm.2.1, sm.2.0)) ∙ held_in x (y ∷ ys) (y.start - 1) (omega (arith, sm.0, next)) (omega (arith, next, sm.0)) in
-      ap (λ (p : Option (ℕ × ℕ)). joined p (Some (y.owner, y.offset))) was ∙ last_goes_on x y fit sm.0 next ∙ n.0
+      ap (λ (p : Option (ℕ × ℕ)). is_joined p (Some (y.owner, y.offset))) was ∙ last_goes_on x y fit sm.0 next ∙ n.0
   | inr gap ↦
       let far : x.start + x.count < y.start = omega (arith, rs.2.0, gap) in
       let was : o (y.start - 1) ≡ None =
       held (y.start - 1) (omega (arith, rs.0, far)) (omega (arith, sm.2.1, sm.2.0, pos)) ∙ held_behind x (y ∷ ys) (y.start - 1) (omega (arith, far))
       ∙ held_before (y ∷ ys) y.start (y.start - 1) (omega arith, rs.2.1, rs.2.2) (omega (arith, pos)) in
-      ap (λ (p : Option (ℕ × ℕ)). joined p (Some (y.owner, y.offset))) was
+      ap (λ (p : Option (ℕ × ℕ)). is_joined p (Some (y.owner, y.offset))) was
 ]
 
 -- The blocks that begin a run, of blocks that the runs own from low on, are as many as the runs.

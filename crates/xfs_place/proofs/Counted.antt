@@ -4,12 +4,14 @@ use Rattle.std.specs.List.{filter, sum}
 use Rattle.std.proofs.lemmas.List.{length-map}
 use Rattle.std.proofs.lemmas.Bool.{cases_lt, lt-ltb, le-ltb, true≢false}
 use Rattle.std.proofs.lemmas.Bool.Decides.{nat_tests}
+use Rattle.xfs_geom.specs.Sums.{has_free}
+use Rattle.xfs_disk.specs.Lists.{is_in_range}
 use Rattle.xfs_geom.specs.declared.records.Span.{Span}
 use Rattle.xfs_geom.specs.declared.records.InoRec.{InoRec}
 use Rattle.xfs_geom.specs.declared.records.RmapRec.{RmapRec}
-use Rattle.xfs_kinds.specs.FreeRuns.{AreSeparate, is_block, is_in}
-use Rattle.xfs_place.specs.Choice.{Group, IsChosen, free_count, is_free_at, need, one_if, owned_at, owner_count, size_of, space_blocks, total}
-use Rattle.xfs_place.specs.Placing.{AreFree, AreRecords, has_free, inner_blocks, run_of, tree_sizes}
+use Rattle.xfs_kinds.specs.FreeRuns.{AreSeparate, is_in_spans}
+use Rattle.xfs_place.specs.Choice.{Group, IsChosenCount, free_run_count, is_free_at, need, one_if, owned_at, owner_count, blocks_of_size, space_blocks, total}
+use Rattle.xfs_place.specs.Placing.{AreFreeRuns, AreRecords, inner_blocks, run_of_record, tree_sizes}
 use Rattle.xfs_place.proofs.Begun.{stays_to}
 use Rattle.xfs_place.proofs.Ordered.{begun_all}
 use Rattle.xfs_place.proofs.Totals.{total_more, total_none}
@@ -18,18 +20,18 @@ use Rattle.xfs_place.proofs.Totals.{total_more, total_none}
 abbrev begins : (ℕ → Bool) → ℕ → Bool
 begins free b = free b && not (nat_lt 0 b && free (b - 1))
 
-in_before : (rs : List Span) (low b : ℕ) → AreSeparate low rs → b < low → is_in rs b ≡ false
+in_before : (rs : List Span) (low b : ℕ) → AreSeparate low rs → b < low → is_in_spans rs b ≡ false
 in_before [] low b apart h = refl
 in_before (r ∷ rest) low b apart h =
-    let out : is_block r.start r.count b ≡ false = grind (arith, nat_tests, apart.0, h) in
+    let out : is_in_range r.start r.count b ≡ false = grind (arith, nat_tests, apart.0, h) in
     let next = in_before rest (r.start + r.count + 1) b apart.2 (omega (arith, apart.0, h)) in
     rw out next
 
-in_first : (r : Span) (rest : List Span) (b : ℕ) → r.start ≤ b → b < r.start + r.count → is_in (r ∷ rest) b ≡ true
-in_first r rest b low high = let here : is_block r.start r.count b ≡ true = grind (arith, nat_tests, low, high) in rw here refl
+in_first : (r : Span) (rest : List Span) (b : ℕ) → r.start ≤ b → b < r.start + r.count → is_in_spans (r ∷ rest) b ≡ true
+in_first r rest b low high = let here : is_in_range r.start r.count b ≡ true = grind (arith, nat_tests, low, high) in rw here refl
 
-pub in_behind : (r : Span) (rest : List Span) (b : ℕ) → r.start + r.count ≤ b → is_in (r ∷ rest) b ≡ is_in rest b
-in_behind r rest b h = let out : is_block r.start r.count b ≡ false = grind (arith, nat_tests, h) in rw out refl
+pub in_behind : (r : Span) (rest : List Span) (b : ℕ) → r.start + r.count ≤ b → is_in_spans (r ∷ rest) b ≡ is_in_spans rest b
+in_behind r rest b h = let out : is_in_range r.start r.count b ≡ false = grind (arith, nat_tests, h) in rw out refl
 
 -- the first run does not follow a block that passes
 abbrev FirstAlone : (ℕ → Bool) → List Span → Type 0
@@ -37,7 +39,7 @@ FirstAlone free [] = Unit {0}
 FirstAlone free (r ∷ rest) = 0 < r.start → free (r.start - 1) ≡ false
 
 -- the runs end by a block
-pub ends : (r : Span) (rest : List Span) (low top : ℕ) → AreSeparate low (r ∷ rest) → ((b : ℕ) → top ≤ b → is_in (r ∷ rest) b ≡ false) → r.start + r.count ≤ top
+pub ends : (r : Span) (rest : List Span) (low top : ℕ) → AreSeparate low (r ∷ rest) → ((b : ℕ) → top ≤ b → is_in_spans (r ∷ rest) b ≡ false) → r.start + r.count ≤ top
 ends r rest low top apart out = elim (cases_lt top (r.start + r.count)) [
   | inr inside ↦ inside
   | inl far ↦
@@ -62,7 +64,7 @@ goes_on_at free b pos here before =
     rw (here, e, before) refl
 
 begun_spans : (free : ℕ → Bool) (rs : List Span) (low at top : ℕ) → AreSeparate low rs → FirstAlone free rs → at ≤ low → at ≤ top
-    → ((b : ℕ) → at ≤ b → b < top → free b ≡ is_in rs b) → ((b : ℕ) → top ≤ b → is_in rs b ≡ false)
+    → ((b : ℕ) → at ≤ b → b < top → free b ≡ is_in_spans rs b) → ((b : ℕ) → top ≤ b → is_in_spans rs b ≡ false)
     → total (λ b. one_if (begins free b)) top ≡ total (λ b. one_if (begins free b)) at + length rs
 begun_spans free [] low at top apart first from up is out =
     let zero' = stays_to (λ b. one_if (begins free b)) at top up (λ b l h. let e : free b ≡ false = is b l h in rw e refl) in
@@ -84,22 +86,22 @@ begun_spans free (r ∷ rest) low at top apart first from up is out =
     (λ b l h. is b (omega (arith, l, from, apart.0)) h ∙ in_behind r rest b l) rest_out in
     omega (arith, before, starts, step, within, next)
   where
-    alone : (ys : List Span) → AreSeparate (r.start + r.count + 1) ys → ((b : ℕ) → top ≤ b → is_in ys b ≡ false)
-        → ((b : ℕ) → r.start + r.count ≤ b → b < top → free b ≡ is_in ys b) → FirstAlone free ys
+    alone : (ys : List Span) → AreSeparate (r.start + r.count + 1) ys → ((b : ℕ) → top ≤ b → is_in_spans ys b ≡ false)
+        → ((b : ℕ) → r.start + r.count ≤ b → b < top → free b ≡ is_in_spans ys b) → FirstAlone free ys
     alone [] ys far held = tt
     alone (y ∷ ys) sep far held = λ pos.
         let there = ends y ys (r.start + r.count + 1) top sep far in
         held (y.start - 1) (omega (arith, sep.0)) (omega (arith, there, sep.1, pos)) ∙ in_before (y ∷ ys) y.start (y.start - 1) (omega arith, sep.1, sep.2) (omega (arith, pos))
 
 -- the runs of free blocks are as many as the blocks that begin one
-pub free_all : (g : Group) (n : ℕ) (runs : List Span) → AreFree g n runs → free_count g.uses n ≡ length runs
-unfolding free_count
+pub free_all : (g : Group) (n : ℕ) (runs : List Span) → AreFreeRuns g n runs → free_run_count g.uses n ≡ length runs
+unfolding free_run_count
 free_all g n runs are =
     let so = begun_spans (is_free_at g.uses n) runs 0 0 (length g.uses) are.separate (first runs are.separate are.inside (λ b h. sym (are.blocks b h))) (omega arith) (omega arith)
     (λ b low high. sym (are.blocks b high)) are.inside in
     omega (arith, so, total_none (λ b. one_if (begins (is_free_at g.uses n) b)))
   where
-    first : (ys : List Span) → AreSeparate 0 ys → ((b : ℕ) → length g.uses ≤ b → is_in ys b ≡ false) → ((b : ℕ) → b < length g.uses → is_free_at g.uses n b ≡ is_in ys b)
+    first : (ys : List Span) → AreSeparate 0 ys → ((b : ℕ) → length g.uses ≤ b → is_in_spans ys b ≡ false) → ((b : ℕ) → b < length g.uses → is_free_at g.uses n b ≡ is_in_spans ys b)
         → FirstAlone (is_free_at g.uses n) ys
     first [] sep far held = tt
     first (y ∷ ys) sep far held = λ pos.
@@ -107,24 +109,24 @@ free_all g n runs are =
         held (y.start - 1) (omega (arith, there, sep.1, pos)) ∙ in_before (y ∷ ys) y.start (y.start - 1) (omega arith, sep.1, sep.2) (omega (arith, pos))
 
 -- the records of owners are as many as the blocks that begin one
-pub owners_all : (g : Group) (space n : ℕ) (records : List RmapRec) → AreRecords g space n records → owner_count g space n ≡ length (map run_of records)
+pub owners_all : (g : Group) (space n : ℕ) (records : List RmapRec) → AreRecords g space n records → owner_count g space n ≡ length (map run_of_record records)
 unfolding owner_count
 owners_all g space n records are =
-    begun_all (owned_at g space n) (length g.uses) (map run_of records) are.owned.claims are.apart (λ b h. sym (are.owned.held b h))
+    begun_all (owned_at g space n) (length g.uses) (map run_of_record records) are.owned.claims are.apart (λ b h. sym (are.owned.held b h))
 
 -- the blocks of the trees by their records are those by which they were chosen
 pub sizes_all : (g : Group) (n : ℕ) (bno : List Span) (inodes fino : List InoRec) (rmap : List RmapRec) → g.inner ≡ inner_blocks inodes → fino ≡ filter has_free inodes
-    → AreFree g n bno → AreRecords g (space_blocks g n) n rmap → sum (tree_sizes (length bno) (length inodes) (length fino) (length rmap)) ≡ need g n
+    → AreFreeRuns g n bno → AreRecords g (space_blocks g n) n rmap → sum (tree_sizes (length bno) (length inodes) (length fino) (length rmap)) ≡ need g n
 unfolding need
 sizes_all g n bno inodes fino rmap inner free frees owners =
-    let a : size_of 505 336 (length bno) ≡ size_of 505 336 (free_count g.uses n) = ap (size_of 505 336) (sym (free_all g n bno frees)) in
-    let b : size_of 168 91 (length rmap) ≡ size_of 168 91 (owner_count g (space_blocks g n) n) =
-    ap (size_of 168 91) (sym (owners_all g (space_blocks g n) n rmap owners ∙ length-map rmap run_of)) in
-    let c : size_of 252 505 (length fino) ≡ size_of 252 505 (length (filter has_free inodes)) = ap (λ (xs : List InoRec). size_of 252 505 (length xs)) free in
+    let a : blocks_of_size 505 336 (length bno) ≡ blocks_of_size 505 336 (free_run_count g.uses n) = ap (blocks_of_size 505 336) (sym (free_all g n bno frees)) in
+    let b : blocks_of_size 168 91 (length rmap) ≡ blocks_of_size 168 91 (owner_count g (space_blocks g n) n) =
+    ap (blocks_of_size 168 91) (sym (owners_all g (space_blocks g n) n rmap owners ∙ length-map rmap run_of_record)) in
+    let c : blocks_of_size 252 505 (length fino) ≡ blocks_of_size 252 505 (length (filter has_free inodes)) = ap (λ (xs : List InoRec). blocks_of_size 252 505 (length xs)) free in
     let parts : sum (tree_sizes (length bno) (length inodes) (length fino) (length rmap))
-    ≡ 0 + size_of 505 336 (length bno) + size_of 505 336 (length bno) + size_of 252 505 (length inodes) + size_of 252 505 (length fino) + size_of 168 91 (length rmap) = refl in
+    ≡ 0 + blocks_of_size 505 336 (length bno) + blocks_of_size 505 336 (length bno) + blocks_of_size 252 505 (length inodes) + blocks_of_size 252 505 (length fino) + blocks_of_size 168 91 (length rmap) = refl in
     omega (arith, a, b, c, inner, parts)
 
-pub chosen_fits : (g : Group) (n : ℕ) → IsChosen g (Some n) → need g n ≤ n
+pub chosen_fits : (g : Group) (n : ℕ) → IsChosenCount g (Some n) → need g n ≤ n
 chosen_fits g n (inl rich) = omega (arith, rich.0.1)
 chosen_fits g n (inr little) = omega (arith, little.1.0.1)

@@ -5,7 +5,7 @@ use Rattle.std.proofs.lemmas.List.{get_or_append_left, get_or_push, get_or_read}
 use Rattle.xfs_place.specs.declared.uses.Use.{Use}
 use Rattle.xfs_place.specs.declared.uses.Use.TheVariants.{Claimed}
 use Rattle.xfs_place.specs.Pool.{use_at}
-use Rattle.xfs_place.specs.Choice.{Group, begins_owned, claim_count, AreFound, AreSums, NoneOpen, begins_free, free_count, in_pool, is_for_inodes, is_for_space, is_spare, meets, one_if, rank, total}
+use Rattle.xfs_place.specs.Choice.{Group, begins_owned, claim_count, AreFound, AreSums, NoneOpen, begins_free, free_run_count, in_pool, is_for_inodes, is_for_space, is_spare, met_neighbours, one_if, rank, total}
 use Rattle.xfs_place.proofs.Totals.{rank_up, total_more, total_none, total_same}
 use Rattle.xfs_place.proofs.Ranks.{free_step}
 
@@ -29,11 +29,11 @@ sums_none uses t blocks sums hb hs = record {
   each = λ n few.
       let none : n ≡ 0 = omega (arith, few, ap length hb) in
       let first : get_or sums 0 0 ≡ 0 = ap (λ (xs : List ℕ). get_or xs 0 0) hs in
-      subst (λ (k : ℕ). get_or sums k 0 ≡ total (λ j. meets uses t (get_or blocks j 0)) k) (sym none) (first ∙ sym (total_none (λ j. meets uses t (get_or blocks j 0))));
+      subst (λ (k : ℕ). get_or sums k 0 ≡ total (λ j. met_neighbours uses t (get_or blocks j 0)) k) (sym none) (first ∙ sym (total_none (λ j. met_neighbours uses t (get_or blocks j 0))));
 }
 
 -- none is found yet
-pub found_none : (uses : List Use) (blocks space inodes : List ℕ) (free : ℕ) → blocks ≡ [] → space ≡ 0 ∷ [] → inodes ≡ 0 ∷ [] → free ≡ free_count uses 0
+pub found_none : (uses : List Use) (blocks space inodes : List ℕ) (free : ℕ) → blocks ≡ [] → space ≡ 0 ∷ [] → inodes ≡ 0 ∷ [] → free ≡ free_run_count uses 0
     → AreFound uses blocks space inodes 0 free
 found_none uses blocks space inodes free hb hs hi hf = record {
   low = record {
@@ -44,22 +44,22 @@ found_none uses blocks space inodes free hb hs hi hf = record {
   inodes' = sums_none uses true blocks inodes hb hi;
   at = total_none (λ b. one_if (in_pool uses b)) ∙ sym (ap length hb);
   inside = omega arith;
-  free' = hf ∙ ap (free_count uses) (sym (ap length hb));
+  free' = hf ∙ ap (free_run_count uses) (sym (ap length hb));
 }
 
-sums_more : (uses : List Use) (t : Bool) (blocks sums : List ℕ) (x s : ℕ) → AreSums uses t blocks sums → s ≡ get_or sums (length blocks) 0 + meets uses t x
+sums_more : (uses : List Use) (t : Bool) (blocks sums : List ℕ) (x s : ℕ) → AreSums uses t blocks sums → s ≡ get_or sums (length blocks) 0 + met_neighbours uses t x
     → AreSums uses t (blocks ++ x ∷ []) (sums ++ s ∷ [])
 sums_more uses t blocks sums x s are is =
     let long : length (blocks ++ x ∷ []) ≡ length blocks + 1 = length-append blocks (x ∷ []) in
-    let old : ℕ → ℕ = λ k. meets uses t (get_or blocks k 0) in
-    let now : ℕ → ℕ = λ k. meets uses t (get_or (blocks ++ x ∷ []) k 0) in
-    let same = λ (n : ℕ) (few : n ≤ length blocks). total_same now old n (λ k h. ap (meets uses t) (get_or_append_left blocks (x ∷ []) 0 k (omega (arith, few, h)))) in
+    let old : ℕ → ℕ = λ k. met_neighbours uses t (get_or blocks k 0) in
+    let now : ℕ → ℕ = λ k. met_neighbours uses t (get_or (blocks ++ x ∷ []) k 0) in
+    let same = λ (n : ℕ) (few : n ≤ length blocks). total_same now old n (λ k h. ap (met_neighbours uses t) (get_or_append_left blocks (x ∷ []) 0 k (omega (arith, few, h)))) in
     record {
       all = length-append sums (s ∷ []) ∙ (omega (arith, are.all, long));
       each = λ n few. elim (cases_eq n (length blocks + 1)) [
         | inl last ↦
             let put : get_or (sums ++ s ∷ []) (length blocks + 1) 0 ≡ s = get_or_push sums s 0 (length blocks + 1) are.all in
-            let here : now (length blocks) ≡ meets uses t x = ap (meets uses t) (get_or_push blocks x 0 (length blocks) refl) in
+            let here : now (length blocks) ≡ met_neighbours uses t x = ap (met_neighbours uses t) (get_or_push blocks x 0 (length blocks) refl) in
             subst (λ (k : ℕ). get_or (sums ++ s ∷ []) k 0 ≡ total now k) (sym last)
             (put ∙ (omega (arith, is, are.each (length blocks) (omega arith), same (length blocks) (omega arith), total_more now (length blocks), here)))
         | inr other ↦
@@ -71,7 +71,7 @@ sums_more uses t blocks sums x s are is =
 -- one block more is found
 pub found_more : (uses : List Use) (blocks space inodes : List ℕ) (next free x s i f : ℕ) → use_at uses 0 ≡ Claimed → AreFound uses blocks space inodes next free
     → next ≤ x → x < length uses → in_pool uses x ≡ true → NoneOpen uses next x
-    → s ≡ get_or space (length blocks) 0 + meets uses false x → i ≡ get_or inodes (length blocks) 0 + meets uses true x
+    → s ≡ get_or space (length blocks) 0 + met_neighbours uses false x → i ≡ get_or inodes (length blocks) 0 + met_neighbours uses true x
     → f ≡ free + (one_if (is_spare (use_at uses (x - 1))) + one_if (is_spare (use_at uses (x + 1)) || in_pool uses (x + 1))) - 1
     → AreFound uses (blocks ++ x ∷ []) (space ++ s ∷ []) (inodes ++ i ∷ []) (x + 1) f
 found_more uses blocks space inodes next free x s i f header found low in' open' none hs hi hf =
@@ -94,7 +94,7 @@ found_more uses blocks space inodes next free x s i f header found low in' open'
       inodes' = sums_more uses true blocks inodes x i found.inodes' hi;
       at = total_more (λ b. one_if (in_pool uses b)) x ∙ (omega (arith, at, one, long));
       inside = omega (arith, in');
-      free' = subst (λ (n : ℕ). f ≡ free_count uses n) (sym long) (omega (arith, step, found.free', hf));
+      free' = subst (λ (n : ℕ). f ≡ free_run_count uses n) (sym long) (omega (arith, step, found.free', hf));
     }
 
 -- sums of small numbers are small
@@ -108,13 +108,13 @@ pub one_small : (t : Bool) → one_if t ≤ 1
 one_small true = omega arith
 one_small false = omega arith
 
-meets_small : (uses : List Use) (t : Bool) (x : ℕ) → meets uses t x ≤ 2
+meets_small : (uses : List Use) (t : Bool) (x : ℕ) → met_neighbours uses t x ≤ 2
 meets_small uses true x = omega (arith, one_small (in_pool uses (x - 1) || is_for_inodes (use_at uses (x - 1))), one_small (is_for_inodes (use_at uses (x + 1))))
 meets_small uses false x = omega (arith, one_small (in_pool uses (x - 1) || is_for_space (use_at uses (x - 1))), one_small (is_for_space (use_at uses (x + 1))))
 
 pub sums_small : (uses : List Use) (t : Bool) (blocks sums : List ℕ) (n : ℕ) → AreSums uses t blocks sums → n ≤ length blocks → get_or sums n 0 ≤ 2 * n
 sums_small uses t blocks sums n are few =
-    let small = total_small (λ k. meets uses t (get_or blocks k 0)) 2 n (λ k. meets_small uses t (get_or blocks k 0)) in
+    let small = total_small (λ k. met_neighbours uses t (get_or blocks k 0)) 2 n (λ k. meets_small uses t (get_or blocks k 0)) in
     omega (arith, are.each n few, small)
 
 -- no more blocks are found than the group has, nor more runs of free ones
@@ -123,8 +123,8 @@ found_few uses blocks space inodes next free found =
     let small = total_small (λ b. one_if (in_pool uses b)) 1 next (λ b. one_small (in_pool uses b)) in
     omega (arith, small, found.at, found.inside)
 
-pub free_few : (uses : List Use) (n : ℕ) → free_count uses n ≤ length uses
-unfolding free_count
+pub free_few : (uses : List Use) (n : ℕ) → free_run_count uses n ≤ length uses
+unfolding free_run_count
 free_few uses n =
     let small = total_small (λ b. one_if (begins_free uses n b)) 1 (length uses) (λ b. one_small (begins_free uses n b)) in
     omega (arith, small)

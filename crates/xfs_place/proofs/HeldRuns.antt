@@ -6,6 +6,8 @@ use Rattle.std.proofs.lemmas.Bool.{and_parts, cases_eq, cases_lt, cases_Bool, eq
 use Rattle.std.proofs.lemmas.List.{drop_more, take-append-le, take_all}
 use Rattle.std.proofs.lemmas.List.Elements.{All-push}
 use Rattle.std.proofs.lemmas.Nat.{mod-mul-add}
+use Rattle.xfs_geom.specs.Runs.{covers, runs_on}
+use Rattle.xfs_disk.specs.Lists.{is_in_range}
 use Rattle.xfs_geom.specs.Conversions.{group_length, is_fixed}
 use Rattle.xfs_geom.specs.Shape.{HasGroups}
 use Rattle.xfs_geom.specs.Volumes.{Volume}
@@ -14,19 +16,19 @@ use Rattle.xfs_place.specs.declared.object_placing.AskFor.{AskFor}
 use Rattle.xfs_place.specs.declared.uses.Use.{Use}
 use Rattle.xfs_place.specs.declared.uses.Use.TheVariants.{Claimed}
 use Rattle.xfs_place.specs.declared.wanted.RunAsk.{RunAsk}
-use Rattle.xfs_place.specs.Pool.{Marks, Shows, is_among, is_listed, is_of, is_open, is_pool, is_taken, use_at, use_of}
+use Rattle.xfs_place.specs.Pool.{MarksUses, Shows, is_listed, is_open, is_pool, is_taken, use_at, use_of}
 use Rattle.xfs_place.specs.Choice.{IsLeast, IsNone, in_pool, one_if}
-use Rattle.xfs_place.specs.Claims.{IsClaim, runs_on}
-use Rattle.xfs_place.specs.Objects.{AllOpen, AreStarts, HasRun, IsAsk, Opens, can_hold, first_of, keep_with, lowest_run, most_blocks, run_at, with_start}
-use Rattle.xfs_place.specs.Wanted.{AreKept, IsClear}
+use Rattle.xfs_place.specs.Claims.{IsClaimedRun}
+use Rattle.xfs_place.specs.Objects.{AllOpen, AreStarts, HasRun, IsAsk, Opens, can_hold_object, first_with, keep_with, lowest_run, most_blocks, run_at, with_start}
+use Rattle.xfs_place.specs.Wanted.{CanBeKept, IsOffFixed}
 use Rattle.xfs_place.proofs.Found.{one_small}
 use Rattle.xfs_place.proofs.OpenRuns.{open_inside}
 use Rattle.xfs_place.proofs.Ordered.{on_first}
 use Rattle.xfs_place.proofs.Ranges.{all_pass}
 use Rattle.xfs_place.proofs.Rooms.{open_is}
 
-first_is : (test : ℕ → Bool) (i n s : ℕ) → i ≤ s → s < i + n → test s ≡ true → ((k : ℕ) → i ≤ k → k < s → test k ≡ false) → first_of test i n ≡ Some s
-unfolding first_of
+first_is : (test : ℕ → Bool) (i n s : ℕ) → i ≤ s → s < i + n → test s ≡ true → ((k : ℕ) → i ≤ k → k < s → test k ≡ false) → first_with test i n ≡ Some s
+unfolding first_with
 first_is test i zero s low high passes before = absurd (omega (arith, low, high))
 first_is test i (suc n) s low high passes before = elim (cases_eq s i) [
   | inl here ↦
@@ -37,8 +39,8 @@ first_is test i (suc n) s low high passes before = elim (cases_eq s i) [
       rw first (first_is test (i + 1) n s (omega (arith, low, there)) (omega (arith, high)) passes (λ k from to. before k (omega (arith, from)) to))
 ]
 
-first_none : (test : ℕ → Bool) (i n : ℕ) → ((k : ℕ) → i ≤ k → k < i + n → test k ≡ false) → first_of test i n ≡ None
-unfolding first_of
+first_none : (test : ℕ → Bool) (i n : ℕ) → ((k : ℕ) → i ≤ k → k < i + n → test k ≡ false) → first_with test i n ≡ None
+unfolding first_with
 first_none test i zero none = refl
 first_none test i (suc n) none =
     let first : test i ≡ false = none i (omega arith) (omega arith) in
@@ -72,7 +74,7 @@ pool_parts v kept reserved b free = by_case (is_fixed v b) (is_taken kept b) (is
     by_case false true false h = absurd (true≢false (sym h))
     by_case false false l h = (refl, refl)
 
-on_more : (rs : List Run) (r : Run) (b : ℕ) → runs_on (rs ++ r ∷ []) b ≡ runs_on rs b + one_if (is_of b r)
+on_more : (rs : List Run) (r : Run) (b : ℕ) → runs_on (rs ++ r ∷ []) b ≡ runs_on rs b + one_if (covers b r)
 on_more [] r b = let none : runs_on [] b ≡ 0 = refl in omega (arith, on_first r [] b, none)
 on_more (x ∷ rs) r b = omega (arith, on_first x (rs ++ r ∷ []) b, on_first x rs b, on_more rs r b)
 
@@ -80,27 +82,27 @@ none_there : (rs : List Run) (b : ℕ) → is_taken rs b ≡ false → runs_on r
 unfolding is_taken
 none_there [] b out = refl
 none_there (x ∷ rs) b out =
-    let parts = or_false_parts (is_of b x) (list_any (is_of b) rs) out in
-    let first : one_if (is_of b x) ≡ 0 = ap one_if parts.0 in
+    let parts = or_false_parts (covers b x) (list_any (covers b) rs) out in
+    let first : one_if (covers b x) ≡ 0 = ap one_if parts.0 in
     omega (arith, on_first x rs b, first, none_there rs b parts.1)
 
-taken_more : (rs : List Run) (r : Run) (b : ℕ) → is_taken (rs ++ r ∷ []) b ≡ (is_taken rs b || is_of b r)
+taken_more : (rs : List Run) (r : Run) (b : ℕ) → is_taken (rs ++ r ∷ []) b ≡ (is_taken rs b || covers b r)
 unfolding is_taken
-taken_more [] r b = or_none (is_of b r)
+taken_more [] r b = or_none (covers b r)
   where
     or_none : (x : Bool) → (x || false) ≡ x
     or_none true = refl
     or_none false = refl
-taken_more (x ∷ rs) r b = ap (λ (t : Bool). is_of b x || t) (taken_more rs r b) ∙ or_moved (is_of b x) (list_any (is_of b) rs) (is_of b r)
+taken_more (x ∷ rs) r b = ap (λ (t : Bool). covers b x || t) (taken_more rs r b) ∙ or_moved (covers b x) (list_any (covers b) rs) (covers b r)
   where
     or_moved : (x y z : Bool) → (x || (y || z)) ≡ ((x || y) || z)
     or_moved true y z = refl
     or_moved false y z = refl
 
-pool_more : (v : Volume) (kept : List Run) (reserved : List ℕ) (r : Run) (b : ℕ) → is_pool v (kept ++ r ∷ []) reserved b ≡ (is_pool v kept reserved b && not (is_of b r))
+pool_more : (v : Volume) (kept : List Run) (reserved : List ℕ) (r : Run) (b : ℕ) → is_pool v (kept ++ r ∷ []) reserved b ≡ (is_pool v kept reserved b && not (covers b r))
 unfolding is_pool
 pool_more v kept reserved r b =
-    ap (λ (t : Bool). not (is_fixed v b) && not t && not (is_listed reserved b)) (taken_more kept r b) ∙ by_cases (is_fixed v b) (is_taken kept b) (is_listed reserved b) (is_of b r)
+    ap (λ (t : Bool). not (is_fixed v b) && not t && not (is_listed reserved b)) (taken_more kept r b) ∙ by_cases (is_fixed v b) (is_taken kept b) (is_listed reserved b) (covers b r)
   where
     by_cases : (f t l a : Bool) → (not f && not (t || a) && not l) ≡ ((not f && not t && not l) && not a)
     by_cases true true true a = refl
@@ -157,7 +159,7 @@ module _ (v : Volume) (groups : HasGroups v.dblocks v.agblocks v.agcount) (kept 
           (omega (arith, most, groups.last), omega arith)
 
   -- a run of the definition is one of open blocks
-  holds_back : (blocks b : ℕ) → 1 ≤ blocks → b < v.dblocks → can_hold v pool from blocks b ≡ true → HasRun uses blocks b
+  holds_back : (blocks b : ℕ) → 1 ≤ blocks → b < v.dblocks → can_hold_object v pool from blocks b ≡ true → HasRun uses blocks b
   holds_back blocks b many low can =
       let few = and_parts (nat_le blocks most_blocks) _ can in
       let late = and_parts (nat_le from (b % v.agblocks)) _ few.1 in
@@ -205,7 +207,7 @@ module _ (v : Volume) (groups : HasGroups v.dblocks v.agblocks v.agcount) (kept 
             absurd (first_fixed x none here.loose)
       ]
 
-  holds_there : (blocks b : ℕ) → 1 ≤ blocks → HasRun uses blocks b → can_hold v pool from blocks b ≡ true
+  holds_there : (blocks b : ℕ) → 1 ≤ blocks → HasRun uses blocks b → can_hold_object v pool from blocks b ≡ true
   holds_there blocks b many has =
       let in' = stays_in blocks b many has.1 in
       let first = open_at b (has.1 b (omega arith) (omega (arith, many))) in
@@ -219,43 +221,43 @@ module _ (v : Volume) (groups : HasGroups v.dblocks v.agblocks v.agcount) (kept 
   unfolding lowest_run
   lowest_is blocks s many least =
       let in' = stays_in blocks s many least.0.1 in
-      first_is (can_hold v pool from blocks) 0 v.dblocks s (omega arith) (omega (arith, in'.0, many)) (holds_there blocks s many least.0)
-      (λ k low before. false_from_ne_true (can_hold v pool from blocks k) (λ can. least.1 k before (holds_back blocks k many (omega (arith, before, in'.0)) can)))
+      first_is (can_hold_object v pool from blocks) 0 v.dblocks s (omega arith) (omega (arith, in'.0, many)) (holds_there blocks s many least.0)
+      (λ k low before. false_from_ne_true (can_hold_object v pool from blocks k) (λ can. least.1 k before (holds_back blocks k many (omega (arith, before, in'.0)) can)))
 
   pub lowest_none : (blocks : ℕ) → 1 ≤ blocks → IsNone (HasRun uses blocks) → lowest_run v (is_pool v kept reserved) from blocks ≡ None
   unfolding lowest_run
   lowest_none blocks many none =
-      first_none (can_hold v pool from blocks) 0 v.dblocks
-      (λ k low before. false_from_ne_true (can_hold v pool from blocks k) (λ can. none k (holds_back blocks k many (omega (arith, before)) can)))
+      first_none (can_hold_object v pool from blocks) 0 v.dblocks
+      (λ k low before. false_from_ne_true (can_hold_object v pool from blocks k) (λ can. none k (holds_back blocks k many (omega (arith, before)) can)))
 
   -- what is kept with one more run
-  pub kept_more : (ask : RunAsk) (s : ℕ) → IsAsk ask → HasRun uses ask.blocks s → AreKept v kept → AreKept v (kept ++ run_at s ask ∷ [])
+  pub kept_more : (ask : RunAsk) (s : ℕ) → IsAsk ask → HasRun uses ask.blocks s → CanBeKept v kept → CanBeKept v (kept ++ run_at s ask ∷ [])
   kept_more ask s is has old = record {
-    each = All-push (IsClaim v.dblocks) kept (run_at s ask) old.each (record { some = is.some; inside = (stays_in ask.blocks s is.some has.1).0; fits = is.fits; plain = is.plain });
-    clear = All-push (IsClear v) kept (run_at s ask) old.clear (λ b of. (open_of b of).loose);
+    each = All-push (IsClaimedRun v.dblocks) kept (run_at s ask) old.each (record { some = is.some; inside = (stays_in ask.blocks s is.some has.1).0; fits = is.fits; plain = is.plain });
+    clear = All-push (IsOffFixed v) kept (run_at s ask) old.clear (λ b of. (open_of b of).loose);
     apart = record {
-      once = λ b. elim (cases_Bool (is_of b (run_at s ask))) [
+      once = λ b. elim (cases_Bool (covers b (run_at s ask))) [
         | inl of ↦
-            let one : one_if (is_of b (run_at s ask)) ≤ 1 = one_small (is_of b (run_at s ask)) in
+            let one : one_if (covers b (run_at s ask)) ≤ 1 = one_small (covers b (run_at s ask)) in
             omega (arith, on_more kept (run_at s ask) b, none_there kept b (pool_parts v kept reserved b (open_of b of).free).1, one)
         | inr out ↦
-            let none : one_if (is_of b (run_at s ask)) ≡ 0 = ap one_if out in
+            let none : one_if (covers b (run_at s ask)) ≡ 0 = ap one_if out in
             omega (arith, on_more kept (run_at s ask) b, none, old.apart.once b)
       ];
     };
   }
     where
-      open_of : (b : ℕ) → is_of b (run_at s ask) ≡ true → IsOpenAt b
+      open_of : (b : ℕ) → covers b (run_at s ask) ≡ true → IsOpenAt b
       open_of b of =
           let parts = and_parts (nat_le s b) (nat_lt b (s + ask.blocks)) of in
           open_at b (has.1 b (leb-true s b parts.0) (ltb-true b (s + ask.blocks) parts.1))
 
   -- the list of uses once the run is marked
-  pub opens_more : (ask : RunAsk) (s : ℕ) (now : List Use) → Marks uses now (is_among s ask.blocks) Claimed → Opens v (kept ++ run_at s ask ∷ []) reserved from now
+  pub opens_more : (ask : RunAsk) (s : ℕ) (now : List Use) → MarksUses uses now (is_in_range s ask.blocks) Claimed → Opens v (kept ++ run_at s ask ∷ []) reserved from now
   opens_more ask s now marks = record {
     all = marks.all ∙ opens.all;
     each = λ b low.
-        by_case (is_among s ask.blocks b) (use_at uses b) (use_at now b) (pool b) (nat_le from (b % v.agblocks)) (marks.each b (omega (arith, low, opens.all))) (opens.each b low)
+        by_case (is_in_range s ask.blocks b) (use_at uses b) (use_at now b) (pool b) (nat_le from (b % v.agblocks)) (marks.each b (omega (arith, low, opens.all))) (opens.each b low)
         ∙ ap (λ (t : Bool). t && nat_le from (b % v.agblocks)) (sym (pool_more v kept reserved (run_at s ask) b));
   }
     where
@@ -267,7 +269,7 @@ module _ (v : Volume) (groups : HasGroups v.dblocks v.agblocks v.agcount) (kept 
 
 -- the list of uses once the fronts of the groups are closed
 pub opens_first : (v : Volume) (kept : List Run) (reserved : List ℕ) (from : ℕ) (uses now : List Use) → Shows uses v.dblocks (use_of v kept reserved)
-    → Marks uses now (λ b. nat_lt (b % v.agblocks) from) Claimed → Opens v kept reserved from now
+    → MarksUses uses now (λ b. nat_lt (b % v.agblocks) from) Claimed → Opens v kept reserved from now
 opens_first v kept reserved from uses now shows marks = record {
   all = marks.all ∙ shows.all;
   each = λ b low. elim (cases_lt (b % v.agblocks) from) [
@@ -295,7 +297,7 @@ opens_first v kept reserved from uses now shows marks = record {
 -- the runs so far, and those that are left
 pub record Keeping (v : Volume) (reserved : List ℕ) (from : ℕ) (first : List Run) (asks : List AskFor) (i : ℕ) (starts : List ℕ) (all : List Run) (uses : List Use) : Type 0 where
   pub same : keep_with v reserved from first asks ≡ keep_with v reserved from all (drop i asks)
-  pub kept : AreKept v all
+  pub kept : CanBeKept v all
   pub behind : take (length first) all ≡ first
   pub long : length first ≤ length all
   pub opens : Opens v all reserved from uses
@@ -327,8 +329,8 @@ pub written : {X : Type 0} (n : ℕ) (new rest : List X) → n ≡ length new �
 written n new rest long = take-append-le n new rest (omega (arith, long)) ∙ take_all n new (omega (arith, long))
 
 -- nothing is placed yet
-pub keeping_first : (v : Volume) (reserved : List ℕ) (from : ℕ) (first : List Run) (asks : List AskFor) (uses marked now : List Use) → AreKept v first
-    → Shows uses v.dblocks (use_of v first reserved) → Marks uses marked (λ b. nat_lt (b % v.agblocks) from) Claimed → now ≡ marked → (starts : List ℕ) → AreStarts now 65536 starts → Keeping v reserved from first asks 0 starts first now
+pub keeping_first : (v : Volume) (reserved : List ℕ) (from : ℕ) (first : List Run) (asks : List AskFor) (uses marked now : List Use) → CanBeKept v first
+    → Shows uses v.dblocks (use_of v first reserved) → MarksUses uses marked (λ b. nat_lt (b % v.agblocks) from) Claimed → now ≡ marked → (starts : List ℕ) → AreStarts now 65536 starts → Keeping v reserved from first asks 0 starts first now
 keeping_first v reserved from first asks uses marked now kept shows marks is starts none = record {
   same = refl;
   kept = kept;
@@ -341,14 +343,14 @@ keeping_first v reserved from first asks uses marked now kept shows marks is sta
 -- the run is put behind the others
 pub keeping_next : (v : Volume) (groups : HasGroups v.dblocks v.agblocks v.agcount) (reserved : List ℕ) (from : ℕ) (first : List Run) (asks : List AskFor) (i : ℕ) (starts next : List ℕ) (all now : List Run) (uses marked written : List Use)
     (d : AskFor) (s : ℕ) → Keeping v reserved from first asks i starts all uses → i < length asks → IsAsk (get_or asks i d).run → AreStarts marked 65536 next
-    → IsLeast (HasRun uses (get_or asks i d).run.blocks) s → Marks uses marked (is_among s (get_or asks i d).run.blocks) Claimed → now ≡ all ++ run_at s (get_or asks i d).run ∷ [] → written ≡ marked
+    → IsLeast (HasRun uses (get_or asks i d).run.blocks) s → MarksUses uses marked (is_in_range s (get_or asks i d).run.blocks) Claimed → now ≡ all ++ run_at s (get_or asks i d).run ∷ [] → written ≡ marked
     → Keeping v reserved from first asks (i + 1) next now written
 keeping_next v groups reserved from first asks i starts next all now uses marked written d s old in' ask none least marks put is =
     let a = get_or asks i d in
     record {
       same = old.same ∙ keep_next v reserved from all asks i d s in' (lowest_is v groups all reserved from uses old.opens a.run.blocks s ask.some least)
           ∙ ap (λ (rs : List Run). keep_with v reserved from rs (drop (i + 1) asks)) (sym put);
-      kept = subst (AreKept v) (sym put) (kept_more v groups all reserved from uses old.opens a.run s ask least.0 old.kept);
+      kept = subst (CanBeKept v) (sym put) (kept_more v groups all reserved from uses old.opens a.run s ask least.0 old.kept);
       behind = ap (take (length first)) put ∙ take-append-le (length first) all (run_at s a.run ∷ []) old.long ∙ old.behind;
       long = let more = ap length put ∙ length-append all (run_at s a.run ∷ []) in omega (arith, more, old.long);
       opens = subst (λ (us : List Use). Opens v now reserved from us) (sym is)

@@ -4,17 +4,17 @@ use Rattle.std.proofs.lemmas.Bool.{or_cases, and_parts, eqb-true, leb-true, ltb-
 use Rattle.std.proofs.Math.Nat.{div-add-mod'}
 use Rattle.std.proofs.lemmas.Nat.{mod-mul-add}
 use Rattle.std.proofs.lemmas.List.Elements.{All-cons, All-nil}
+use Rattle.xfs_geom.specs.Runs.{covers, runs_on}
 use Rattle.xfs_geom.specs.Conversions.{is_fixed}
 use Rattle.xfs_geom.specs.Volumes.{Volume}
 use Rattle.xfs_geom.specs.declared.records.Run.{Run}
-use Rattle.xfs_place.specs.Pool.{is_of}
-use Rattle.xfs_place.specs.Claims.{IsClaim, runs_on}
-use Rattle.xfs_place.specs.Wanted.{AreKept, IsClear}
+use Rattle.xfs_place.specs.Claims.{IsClaimedRun}
+use Rattle.xfs_place.specs.Wanted.{CanBeKept, IsOffFixed}
 use Rattle.xfs_place.proofs.Found.{one_small}
 use Rattle.xfs_place.proofs.Ordered.{on_first}
 
 clear_alone : (v : Volume) (r : Run) → 1 ≤ r.start % v.agblocks → r.start % v.agblocks + r.count ≤ v.agblocks
-    → (r.start + r.count ≤ v.log) ⊎ (v.log + v.logblocks ≤ r.start) → IsClear v r
+    → (r.start + r.count ≤ v.log) ⊎ (v.log + v.logblocks ≤ r.start) → IsOffFixed v r
 clear_alone v r behind within log = λ x has. false_from_ne_true (is_fixed v x) (λ fixed.
     let parts = and_parts (nat_le r.start x) (nat_lt x (r.start + r.count)) has in
     let low : r.start ≤ x = leb-true r.start x parts.0 in
@@ -36,12 +36,12 @@ clear_alone v r behind within log = λ x has. false_from_ne_true (is_fixed v x) 
           ]
     ])
 
-pub kept_alone : (v : Volume) (r : Run) → IsClaim v.dblocks r → 1 ≤ r.start % v.agblocks → r.start % v.agblocks + r.count ≤ v.agblocks
-    → (r.start + r.count ≤ v.log) ⊎ (v.log + v.logblocks ≤ r.start) → AreKept v (r ∷ [])
+pub kept_alone : (v : Volume) (r : Run) → IsClaimedRun v.dblocks r → 1 ≤ r.start % v.agblocks → r.start % v.agblocks + r.count ≤ v.agblocks
+    → (r.start + r.count ≤ v.log) ⊎ (v.log + v.logblocks ≤ r.start) → CanBeKept v (r ∷ [])
 kept_alone v r claim behind within log = record {
-  each = All-cons (IsClaim v.dblocks) r [] claim (All-nil (IsClaim v.dblocks));
-  clear = All-cons (IsClear v) r [] (clear_alone v r behind within log) (All-nil (IsClear v));
-  apart = record { once = λ block. omega (arith, on_first r [] block, one_small (is_of block r), none block) };
+  each = All-cons (IsClaimedRun v.dblocks) r [] claim (All-nil (IsClaimedRun v.dblocks));
+  clear = All-cons (IsOffFixed v) r [] (clear_alone v r behind within log) (All-nil (IsOffFixed v));
+  apart = record { once = λ block. omega (arith, on_first r [] block, one_small (covers block r), none block) };
 }
   where
     none : (block : ℕ) → runs_on [] block ≡ 0

@@ -9,20 +9,22 @@ use Rattle.std.proofs.lemmas.Bool.{cases_eq, cases_lt, eq-eqb, ne_eqb, eqb-false
 use Rattle.std.proofs.lemmas.Bool.Decides.{nat_tests}
 use Rattle.std.proofs.lemmas.List.Folds.{list_any_more}
 use Rattle.std.proofs.lemmas.Nat.{mod-mul-add}
+use Rattle.xfs_geom.specs.Runs.{covers}
+use Rattle.xfs_disk.specs.Lists.{is_in_range}
 use Rattle.xfs_geom.specs.Conversions.{is_fixed}
 use Rattle.xfs_geom.specs.Shape.{HasGroups, HasLog}
 use Rattle.xfs_geom.specs.Volumes.{Volume}
 use Rattle.xfs_geom.specs.declared.records.Run.{Run}
 use Rattle.xfs_place.specs.declared.uses.Use.{Use}
 use Rattle.xfs_place.specs.declared.uses.Use.TheVariants.{Pool, Reserved, Claimed}
-use Rattle.xfs_place.specs.Pool.{Marks, Puts, Shows, is_among, is_listed, is_of, use_at, use_by, use_held, use_of, use_of_run}
+use Rattle.xfs_place.specs.Pool.{MarksUses, PutsUses, Shows, is_listed, use_at, use_by, use_held, use_of, use_of_run}
 
 -- where no block passes, nothing is marked
-pub marks_none : (uses : List Use) (test : ℕ → Bool) (now : Use) → ((b : ℕ) → test b ≡ false) → Marks uses uses test now
+pub marks_none : (uses : List Use) (test : ℕ → Bool) (now : Use) → ((b : ℕ) → test b ≡ false) → MarksUses uses uses test now
 marks_none uses test now none = record { all = refl; each = λ b in'. rw (none b) refl }
 
 -- one block is marked
-pub marks_set : (uses : List Use) (i : ℕ) (now : Use) → i < length uses → Marks uses (set uses i now) (λ b. b == i) now
+pub marks_set : (uses : List Use) (i : ℕ) (now : Use) → i < length uses → MarksUses uses (set uses i now) (λ b. b == i) now
 marks_set uses i now in' = record {
   all = length-set uses i now;
   each = λ b h. elim (cases_eq b i) [
@@ -42,8 +44,8 @@ two_marks false true u v w now hv hw = hw
 two_marks false false u v w now hv hw = hw ∙ hv
 
 -- some blocks are marked, then others
-pub marks_then : (old mid new : List Use) (p q r : ℕ → Bool) (now : Use) → Marks old mid p now → Marks mid new q now
-    → ((b : ℕ) → b < length old → r b ≡ (p b || q b)) → Marks old new r now
+pub marks_then : (old mid new : List Use) (p q r : ℕ → Bool) (now : Use) → MarksUses old mid p now → MarksUses mid new q now
+    → ((b : ℕ) → b < length old → r b ≡ (p b || q b)) → MarksUses old new r now
 marks_then old mid new p q r now first next both = record {
   all = next.all ∙ first.all;
   each = λ b h.
@@ -70,16 +72,16 @@ one_more_passes test i b passes = elim (cases_eq b i) [
     or_false true y h = refl
     or_false false y h = sym h
 
-pub marks_put : (old mid new : List Use) (test : ℕ → Bool) (i : ℕ) (now : Use) → i < length old → test i ≡ true → Marks old mid (λ b. test b && nat_lt b i) now → new ≡ set mid i now
-    → Marks old new (λ b. test b && nat_lt b (i + 1)) now
+pub marks_put : (old mid new : List Use) (test : ℕ → Bool) (i : ℕ) (now : Use) → i < length old → test i ≡ true → MarksUses old mid (λ b. test b && nat_lt b i) now → new ≡ set mid i now
+    → MarksUses old new (λ b. test b && nat_lt b (i + 1)) now
 marks_put old mid new test i now low passes first is =
-    let next : Marks mid new (λ b. b == i) now = subst (λ (us : List Use). Marks mid us (λ b. b == i) now) (sym is) (marks_set mid i now (omega (arith, low, first.all))) in
+    let next : MarksUses mid new (λ b. b == i) now = subst (λ (us : List Use). MarksUses mid us (λ b. b == i) now) (sym is) (marks_set mid i now (omega (arith, low, first.all))) in
     marks_then old mid new (λ b. test b && nat_lt b i) (λ b. b == i) (λ b. test b && nat_lt b (i + 1)) now first next (λ b h. one_more_passes test i b passes)
 
-pub marks_passed : (old mid new : List Use) (test : ℕ → Bool) (i : ℕ) (now : Use) → test i ≡ false → Marks old mid (λ b. test b && nat_lt b i) now → new ≡ mid
-    → Marks old new (λ b. test b && nat_lt b (i + 1)) now
+pub marks_passed : (old mid new : List Use) (test : ℕ → Bool) (i : ℕ) (now : Use) → test i ≡ false → MarksUses old mid (λ b. test b && nat_lt b i) now → new ≡ mid
+    → MarksUses old new (λ b. test b && nat_lt b (i + 1)) now
 marks_passed old mid new test i now fails first is =
-    subst (λ (us : List Use). Marks old us (λ b. test b && nat_lt b (i + 1)) now) (sym is) (record {
+    subst (λ (us : List Use). MarksUses old us (λ b. test b && nat_lt b (i + 1)) now) (sym is) (record {
       all = first.all;
       each = λ b h. rw (none_more b) (first.each b h);
     })
@@ -106,36 +108,36 @@ unfolding is_listed
 none_listed b = refl
 
 -- where nothing is said, nothing changes
-pub puts_none : (uses : List Use) → Puts uses uses (use_held [])
+pub puts_none : (uses : List Use) → PutsUses uses uses (use_held [])
 unfolding use_held
 puts_none uses = record { all = refl; each = λ b h. refl }
 
 -- one run in front of those that are said already
-pub puts_more : (old mid new : List Use) (r : Run) (rest : List Run) → Puts old mid (use_held rest) → Marks mid new (is_among r.start r.count) (use_of_run r)
-    → Puts old new (use_held (r ∷ rest))
+pub puts_more : (old mid new : List Use) (r : Run) (rest : List Run) → PutsUses old mid (use_held rest) → MarksUses mid new (is_in_range r.start r.count) (use_of_run r)
+    → PutsUses old new (use_held (r ∷ rest))
 unfolding use_held
 puts_more old mid new r rest first next = record {
   all = next.all ∙ first.all;
   each = λ b h.
       let here : b < length mid = omega (arith, first.all, h) in
-      by_case (is_of b r) (use_held rest b) (use_of_run r) (use_at old b) (use_at mid b) (use_at new b) (first.each b h) (next.each b here);
+      by_case (covers b r) (use_held rest b) (use_of_run r) (use_at old b) (use_at mid b) (use_at new b) (first.each b h) (next.each b here);
 }
   where
     by_case : (t : Bool) (said : Option Use) (now u v w : Use) → v ≡ unwrap_or said u → w ≡ (if t then now else v) → w ≡ unwrap_or (if t then Some now else said) u
     by_case true said now u v w hv hw = hw
     by_case false said now u v w hv hw = hw ∙ hv
 
-pub puts_at : (old mid new : List Use) (runs : List Run) (i : ℕ) (none : Run) → i < length runs → Puts old mid (use_held (drop (length runs - i) runs))
-    → Marks mid new (is_among (get_or runs (length runs - 1 - i) none).start (get_or runs (length runs - 1 - i) none).count) (use_of_run (get_or runs (length runs - 1 - i) none))
-    → Puts old new (use_held (drop (length runs - (i + 1)) runs))
+pub puts_at : (old mid new : List Use) (runs : List Run) (i : ℕ) (none : Run) → i < length runs → PutsUses old mid (use_held (drop (length runs - i) runs))
+    → MarksUses mid new (is_in_range (get_or runs (length runs - 1 - i) none).start (get_or runs (length runs - 1 - i) none).count) (use_of_run (get_or runs (length runs - 1 - i) none))
+    → PutsUses old new (use_held (drop (length runs - (i + 1)) runs))
 puts_at old mid new runs i none in' first next =
     let at = length runs - 1 - i in
     let step : drop at runs ≡ get_or runs at none ∷ drop (at + 1) runs = drop_more runs at none (omega (arith, in')) in
     let after : at + 1 ≡ length runs - i = omega (arith, in') in
     let before : at ≡ length runs - (i + 1) = omega (arith, in') in
-    let rest : Puts old mid (use_held (drop (at + 1) runs)) = subst (λ (k : ℕ). Puts old mid (use_held (drop k runs))) (sym after) first in
+    let rest : PutsUses old mid (use_held (drop (at + 1) runs)) = subst (λ (k : ℕ). PutsUses old mid (use_held (drop k runs))) (sym after) first in
     let whole = puts_more old mid new (get_or runs at none) (drop (at + 1) runs) rest next in
-    subst (λ (rs : List Run). Puts old new (use_held rs)) (sym step ∙ ap (λ (k : ℕ). drop k runs) before) whole
+    subst (λ (rs : List Run). PutsUses old new (use_held rs)) (sym step ∙ ap (λ (k : ℕ). drop k runs) before) whole
 
 -- a block beyond the list is not there
 or_false : (x y : Bool) → y ≡ false → x ≡ (x || y)
@@ -182,7 +184,7 @@ headers_more width ag at b is some = elim (cases_lt b (ag * width)) [
 
 -- the uses after all three marks
 pub uses_set : (v : Volume) (runs : List Run) (reserved : List ℕ) (fresh kept fixed claimed : List Use) → Shows fresh v.dblocks (λ _. Pool)
-    → Marks fresh kept (is_listed reserved) Reserved → Marks kept fixed (is_fixed v) Claimed → Puts fixed claimed (use_held runs)
+    → MarksUses fresh kept (is_listed reserved) Reserved → MarksUses kept fixed (is_fixed v) Claimed → PutsUses fixed claimed (use_held runs)
     → Shows claimed v.dblocks (use_of v runs reserved)
 unfolding use_of
 uses_set v runs reserved fresh kept fixed claimed all first second third = record {

@@ -14,10 +14,10 @@ use Rattle.xfs_place.specs.declared.placed.GroupPlaced.{GroupPlaced}
 use Rattle.xfs_place.specs.declared.uses.Use.{Use}
 use Rattle.xfs_place.specs.declared.wanted.GroupInodes.{GroupInodes}
 use Rattle.xfs_place.specs.Choice.{AreLowest, in_pool, one_if}
-use Rattle.xfs_place.specs.Placing.{IsPlaced, cut, inner_blocks, tree_at, tree_sizes}
+use Rattle.xfs_place.specs.Placing.{IsPlacedGroup, cut, inner_blocks, tree_blocks_at, tree_sizes}
 use Rattle.xfs_place.specs.Pool.{is_open, is_pool}
-use Rattle.xfs_place.specs.Standing.{AreOfPool, IsOfPool, blocks_of}
-use Rattle.xfs_place.specs.Wanted.{ArePlaced, group_in, inodes_of, uses_in}
+use Rattle.xfs_place.specs.Standing.{AreOfPool, IsOfPool, standing_blocks}
+use Rattle.xfs_place.specs.Wanted.{ArePlaced, group_in, inodes_in_group, uses_in}
 use Rattle.xfs_place.proofs.Counted.{sizes_all}
 use Rattle.xfs_place.proofs.GroupIs.{length_uses, use_in}
 use Rattle.xfs_place.proofs.OpenRuns.{open_inside}
@@ -32,19 +32,19 @@ sum_first s ss = sum_by-cons (λ (x : ℕ). x) s ss
 
 -- the parts of a list and what is behind them are the list
 parts_are : (base : ℕ) (sizes blocks : List ℕ)
-    → flat_map blocks_in (map (tree_at base) (cut sizes blocks)) ++ map (λ block. base + block) (drop (sum sizes) blocks) ≡ map (λ block. base + block) blocks
+    → flat_map blocks_in (map (tree_blocks_at base) (cut sizes blocks)) ++ map (λ block. base + block) (drop (sum sizes) blocks) ≡ map (λ block. base + block) blocks
 parts_are base [] blocks = refl
 parts_are base (s ∷ ss) blocks =
     let f : ℕ → ℕ = λ block. base + block in
     let rest : drop (sum (s ∷ ss)) blocks ≡ drop (sum ss) (drop s blocks) = ap (λ (n : ℕ). drop n blocks) (sum_first s ss) ∙ sym (drop-drop (sum ss) s blocks) in
-    ap (λ (xs : List ℕ). (map f (take s blocks) ++ flat_map blocks_in (map (tree_at base) (cut ss (drop s blocks)))) ++ map f xs) rest
-    ∙ append_assoc (map f (take s blocks)) (flat_map blocks_in (map (tree_at base) (cut ss (drop s blocks)))) (map f (drop (sum ss) (drop s blocks)))
+    ap (λ (xs : List ℕ). (map f (take s blocks) ++ flat_map blocks_in (map (tree_blocks_at base) (cut ss (drop s blocks)))) ++ map f xs) rest
+    ∙ append_assoc (map f (take s blocks)) (flat_map blocks_in (map (tree_blocks_at base) (cut ss (drop s blocks)))) (map f (drop (sum ss) (drop s blocks)))
     ∙ ap (λ (xs : List ℕ). map f (take s blocks) ++ xs) (parts_are base ss (drop s blocks))
     ∙ sym (map-append f (take s blocks) (drop s blocks))
     ∙ ap (map f) (take-append-drop s blocks)
 
 -- parts that fit have the lengths that they are cut to
-lengths_are : (base : ℕ) (sizes blocks : List ℕ) → sum sizes ≤ length blocks → map (λ (t : TreeBlocks). length t.blocks) (map (tree_at base) (cut sizes blocks)) ≡ sizes
+lengths_are : (base : ℕ) (sizes blocks : List ℕ) → sum sizes ≤ length blocks → map (λ (t : TreeBlocks). length t.blocks) (map (tree_blocks_at base) (cut sizes blocks)) ≡ sizes
 lengths_are base [] blocks fit = refl
 lengths_are base (s ∷ ss) blocks fit =
     let whole = sum_first s ss in
@@ -77,12 +77,12 @@ low_pool v kept reserved ag blocks low =
     sym (open_is v kept reserved (ag * v.agblocks + b)) ∙ ap is_open (sym (use_in v kept reserved ag b here)) ∙ open'))
 
 of_pool : (v : Volume) (kept : List Run) (reserved : List ℕ) (ag : ℕ) (inodes : List InoRec) (p : GroupPlaced)
-    → IsPlaced (group_in v kept reserved ag (inner_blocks inodes)) (ag * v.agblocks) inodes p → IsOfPool v kept reserved (ag * v.agblocks) inodes p
+    → IsPlacedGroup (group_in v kept reserved ag (inner_blocks inodes)) (ag * v.agblocks) inodes p → IsOfPool v kept reserved (ag * v.agblocks) inodes p
 of_pool v kept reserved ag inodes p is =
     let g = group_in v kept reserved ag (inner_blocks inodes) in
     let base = ag * v.agblocks in
     let sizes = tree_sizes (length p.bno) (length inodes) (length p.fino) (length p.rmap) in
-    let whole : blocks_of base p ≡ map (λ block. base + block) is.blocks =
+    let whole : standing_blocks base p ≡ map (λ block. base + block) is.blocks =
     ap₂ (λ (ts : List TreeBlocks) (xs : List ℕ). flat_map blocks_in ts ++ map (λ block. base + block) xs) is.trees is.agfl ∙ parts_are base sizes is.blocks in
     let fit : sum sizes ≤ length is.blocks = omega (arith, sizes_all g (length is.blocks) p.bno inodes p.fino p.rmap refl is.fino is.bno is.rmap, is.left) in
     record {
@@ -94,5 +94,5 @@ of_pool v kept reserved ag inodes p is =
 pub all_of_pool : (v : Volume) (kept : List Run) (reserved : List ℕ) (inodes : List GroupInodes) (n : ℕ) (groups : List GroupPlaced)
     → ArePlaced v kept reserved inodes n groups → AreOfPool v kept reserved inodes n groups
 all_of_pool v kept reserved inodes n groups placed = record {
-  each = λ ag d low. of_pool v kept reserved ag (inodes_of inodes ag) (get_or groups ag d) (placed.each ag d low);
+  each = λ ag d low. of_pool v kept reserved ag (inodes_in_group inodes ag) (get_or groups ag d) (placed.each ag d low);
 }

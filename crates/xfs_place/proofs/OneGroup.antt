@@ -4,23 +4,23 @@ use Rattle.std.specs.List.{filter}
 use Rattle.std.proofs.lemmas.Bool.{cases_lt, lt-ltb, le-ltb}
 use Rattle.std.proofs.lemmas.List.FromFn.{fill_by_all}
 use Rattle.std.proofs.lemmas.Bool.Decides.{nat_tests}
+use Rattle.xfs_disk.specs.Lists.{is_in_range}
 use Rattle.xfs_geom.specs.Conversions.{group_length}
 use Rattle.xfs_geom.specs.Shape.{HasGroups}
 use Rattle.xfs_geom.specs.Volumes.{Volume}
 use Rattle.xfs_geom.specs.declared.records.Run.{Run}
-use Rattle.xfs_kinds.specs.FreeRuns.{is_block}
 use Rattle.xfs_kinds.specs.MergedRuns.{AreRuns, held_at}
 use Rattle.xfs_place.specs.declared.uses.Use.{Use}
 use Rattle.xfs_place.specs.declared.uses.Use.TheVariants.{Claimed}
 use Rattle.xfs_place.specs.Pool.{Shows, use_of}
-use Rattle.xfs_place.specs.Choice.{Group, IsChosen, group, group_of}
-use Rattle.xfs_place.specs.Placing.{IsPlaced}
+use Rattle.xfs_place.specs.Choice.{Group, IsChosenCount, group, group_claimed}
+use Rattle.xfs_place.specs.Placing.{IsPlacedGroup}
 use Rattle.xfs_place.specs.declared.placed.GroupPlaced.{GroupPlaced}
 use Rattle.xfs_geom.specs.declared.records.InoRec.{InoRec}
 use Rattle.std.specs.Option.{MatchOption}
 use Rattle.xfs_place.proofs.GroupIs.{length_uses}
 use Rattle.xfs_place.specs.Claims.{AreClaims}
-use Rattle.xfs_place.specs.Wanted.{AreAllClaims, begins_in, claim_in, fixed_runs, group_in, in_group, uses_in}
+use Rattle.xfs_place.specs.Wanted.{AreAllClaims, begins_in, claim_in, fixed_runs, group_in, run_in_group, uses_in}
 use Rattle.xfs_place.proofs.AllClaims.{part_ascends, part_each, part_held}
 use Rattle.xfs_place.proofs.Begun.{AreSome}
 use Rattle.xfs_place.proofs.Ordered.{are_some}
@@ -29,14 +29,14 @@ held_beyond : (top : ℕ) (rs : List Run) (b : ℕ) → AreSome top rs → top �
 held_beyond top [] b some far = refl
 held_beyond top (r ∷ rest) b some far =
     let end = some.1 in
-    let out : is_block r.start r.count b ≡ false = grind (arith, nat_tests, end, far) in
+    let out : is_in_range r.start r.count b ≡ false = grind (arith, nat_tests, end, far) in
     rw out (held_beyond top rest b some.2 far)
 
 module _ (v : Volume) (kept : List Run) (reserved : List ℕ) (claims : List Run) (ag : ℕ) (groups : HasGroups v.dblocks v.agblocks v.agcount) (low : ag < v.agcount)
-    (all : AreAllClaims v kept claims) (part : List Run) (is : part ≡ map (in_group (ag * v.agblocks)) (filter (begins_in (ag * v.agblocks) (group_length v ag)) claims)) where
+    (all : AreAllClaims v kept claims) (part : List Run) (is : part ≡ map (run_in_group (ag * v.agblocks)) (filter (begins_in (ag * v.agblocks) (group_length v ag)) claims)) where
   pub part_claims : AreClaims (group_length v ag) part
   part_claims = subst (AreClaims (group_length v ag)) (sym is) (record {
-    ascend = subst (λ (n : ℕ). AreRuns n (map (in_group (ag * v.agblocks)) (filter (begins_in (ag * v.agblocks) (group_length v ag)) claims))) none (part_ascends v ag groups low claims 0 all.claims'.ascend);
+    ascend = subst (λ (n : ℕ). AreRuns n (map (run_in_group (ag * v.agblocks)) (filter (begins_in (ag * v.agblocks) (group_length v ag)) claims))) none (part_ascends v ag groups low claims 0 all.claims'.ascend);
     each = part_each v ag groups low claims all.claims'.each all.stay;
   })
     where
@@ -66,15 +66,15 @@ module _ (v : Volume) (kept : List Run) (reserved : List ℕ) (claims : List Run
       (λ k h. get_or-take n (drop base uses) k Claimed h ∙ get_or-drop base uses k Claimed ∙ shows.each (base + k) (omega (arith, h, inside)))
 
   -- the group that is placed is that of the volume
-  pub same_group : (uses : List Use) (inner : ℕ) → uses ≡ uses_in v kept reserved ag → group_of uses part inner ≡ group_in v kept reserved ag inner
+  pub same_group : (uses : List Use) (inner : ℕ) → uses ≡ uses_in v kept reserved ag → group_claimed uses part inner ≡ group_in v kept reserved ag inner
   same_group uses inner hu = ap₂ (λ (us : List Use) (claim : ℕ → Option (ℕ × ℕ)). group us claim inner) hu (λ k b. part_claim b k)
 
 -- by the numbers and the lists that the code has
 module _ (v : Volume) (kept : List Run) (reserved : List ℕ) (claims : List Run) (ag : ℕ) (groups : HasGroups v.dblocks v.agblocks v.agcount) (low : ag < v.agcount)
     (all : AreAllClaims v kept claims) (base blocks : ℕ) (hb : base ≡ ag * v.agblocks) (hn : blocks ≡ group_length v ag) (mine part : List Run) (here : part ≡ mine)
-    (is : mine ≡ map (in_group base) (filter (begins_in base blocks) claims)) where
-  part_is : part ≡ map (in_group (ag * v.agblocks)) (filter (begins_in (ag * v.agblocks) (group_length v ag)) claims)
-  part_is = here ∙ is ∙ ap₂ (λ (b n : ℕ). map (in_group b) (filter (begins_in b n) claims)) hb hn
+    (is : mine ≡ map (run_in_group base) (filter (begins_in base blocks) claims)) where
+  part_is : part ≡ map (run_in_group (ag * v.agblocks)) (filter (begins_in (ag * v.agblocks) (group_length v ag)) claims)
+  part_is = here ∙ is ∙ ap₂ (λ (b n : ℕ). map (run_in_group b) (filter (begins_in b n) claims)) hb hn
 
   slice_is : (uses : List Use) → Shows uses v.dblocks (use_of v kept reserved) → ag * v.agblocks + group_length v ag ≤ v.dblocks
       → take (base + blocks - base) (drop base uses) ≡ uses_in v kept reserved ag
@@ -83,7 +83,7 @@ module _ (v : Volume) (kept : List Run) (reserved : List ℕ) (claims : List Run
       ap₂ (λ (n b : ℕ). take n (drop b uses)) count hb ∙ part_uses v kept reserved claims ag groups low all part part_is uses shows inside
 
   pub same_here : (uses : List Use) (inner : ℕ) → Shows uses v.dblocks (use_of v kept reserved) → ag * v.agblocks + group_length v ag ≤ v.dblocks
-      → group_of (take (base + blocks - base) (drop base uses)) part inner ≡ group_in v kept reserved ag inner
+      → group_claimed (take (base + blocks - base) (drop base uses)) part inner ≡ group_in v kept reserved ag inner
   same_here uses inner shows inside =
       same_group v kept reserved claims ag groups low all part part_is (take (base + blocks - base) (drop base uses)) inner (slice_is uses shows inside)
 
@@ -94,6 +94,6 @@ module _ (v : Volume) (kept : List Run) (reserved : List ℕ) (claims : List Run
       subst (λ (n : ℕ). AreClaims n part) (sym long) (part_claims v kept reserved claims ag groups low all part part_is)
 
 pub placed_here : (o : Option GroupPlaced) (g h : Group) (base due : ℕ) (inodes : List InoRec) → h ≡ g → base ≡ due
-    → MatchOption o (IsChosen h None) (IsPlaced h base inodes) → MatchOption o (IsChosen g None) (IsPlaced g due inodes)
+    → MatchOption o (IsChosenCount h None) (IsPlacedGroup h base inodes) → MatchOption o (IsChosenCount g None) (IsPlacedGroup g due inodes)
 placed_here o g h base due inodes hg hb placed =
-    subst (λ (x : Group). MatchOption o (IsChosen x None) (IsPlaced x due inodes)) hg (subst (λ (b : ℕ). MatchOption o (IsChosen h None) (IsPlaced h b inodes)) hb placed)
+    subst (λ (x : Group). MatchOption o (IsChosenCount x None) (IsPlacedGroup x due inodes)) hg (subst (λ (b : ℕ). MatchOption o (IsChosenCount h None) (IsPlacedGroup h b inodes)) hb placed)

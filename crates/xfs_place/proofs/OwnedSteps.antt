@@ -5,7 +5,7 @@ use Rattle.std.proofs.lemmas.Bool.{cases_lt, cases_eq, lt-ltb, le-ltb}
 use Rattle.std.proofs.lemmas.Bool.Decides.{nat_tests}
 use Rattle.xfs_place.specs.declared.uses.Use.{Use}
 use Rattle.xfs_place.specs.Pool.{use_at}
-use Rattle.xfs_place.specs.Choice.{AreLowest, IsGroup, Group, begins_owned, claim_count, goes_on, group, how_many, in_pool, is_for_inodes, is_for_space, is_inner, joined, meets, one_if, owned_at, owner_by, owner_count, owner_of, rank, total}
+use Rattle.xfs_place.specs.Choice.{AreLowest, IsPlacingGroup, Group, begins_owned, claim_count, goes_on, group, how_many, in_pool, is_for_inodes, is_for_space, is_inner, is_joined, met_neighbours, one_if, owned_at, owner_by, owner_count, owner_of, rank, total}
 use Rattle.xfs_place.proofs.Totals.{OneMore, one_rank, put_one, total_mixed, total_more, total_none, total_same}
 use Rattle.xfs_place.proofs.Ranks.{pool_behind, pool_inside}
 
@@ -13,7 +13,7 @@ use Rattle.xfs_place.proofs.Ranks.{pool_behind, pool_inside}
 abbrev pub same_kind : Bool → Bool → Bool
 same_kind s t = if s then t else not t
 
-joined_kinds : (s t : Bool) → joined (Some (owner_of s, 0)) (Some (owner_of t, 0)) ≡ same_kind s t
+joined_kinds : (s t : Bool) → is_joined (Some (owner_of s, 0)) (Some (owner_of t, 0)) ≡ same_kind s t
 joined_kinds true true = refl
 joined_kinds true false = refl
 joined_kinds false true = refl
@@ -23,7 +23,7 @@ joined_kinds false false = refl
 abbrev pub is_for : Bool → Use → Bool
 is_for inodes u = if inodes then is_for_inodes u else is_for_space u
 
-meets_kind : (g : Group) (t : Bool) (x : ℕ) → meets g.uses t x ≡ one_if (in_pool g.uses (x - 1) || is_for t (use_at g.uses (x - 1))) + one_if (is_for t (use_at g.uses (x + 1)))
+meets_kind : (g : Group) (t : Bool) (x : ℕ) → met_neighbours g.uses t x ≡ one_if (in_pool g.uses (x - 1) || is_for t (use_at g.uses (x - 1))) + one_if (is_for t (use_at g.uses (x + 1)))
 meets_kind g true x = refl
 meets_kind g false x = refl
 
@@ -34,7 +34,7 @@ and_true false = refl
 plus_none : (n : ℕ) → n + 0 ≡ n
 plus_none n = omega arith
 
-none_behind : (o : ℕ × ℕ) (c : Option (ℕ × ℕ)) → one_if (is_some c && not (true && joined (Some o) c)) + one_if (joined (Some o) c) ≡ one_if (is_some c && not (true && joined None c))
+none_behind : (o : ℕ × ℕ) (c : Option (ℕ × ℕ)) → one_if (is_some c && not (true && is_joined (Some o) c)) + one_if (is_joined (Some o) c) ≡ one_if (is_some c && not (true && is_joined None c))
 none_behind o None = refl
 none_behind o (Some d) = by_case (goes_on o d)
   where
@@ -106,12 +106,12 @@ borders touch f e some more (suc n) =
       ]
     ])
 
-module _ (g : Group) (is : IsGroup g) (space : ℕ) where
-  claim_joins : (t : Bool) (b : ℕ) → joined (g.claim b) (Some (owner_of t, 0)) ≡ is_for t (use_at g.uses b)
+module _ (g : Group) (is : IsPlacingGroup g) (space : ℕ) where
+  claim_joins : (t : Bool) (b : ℕ) → is_joined (g.claim b) (Some (owner_of t, 0)) ≡ is_for t (use_at g.uses b)
   claim_joins true b = is.inodes b
   claim_joins false b = is.space b
 
-  claim_joins_behind : (t : Bool) (b : ℕ) → joined (Some (owner_of t, 0)) (g.claim b) ≡ is_for t (use_at g.uses b)
+  claim_joins_behind : (t : Bool) (b : ℕ) → is_joined (Some (owner_of t, 0)) (g.claim b) ≡ is_for t (use_at g.uses b)
   claim_joins_behind true b = is.inodes_behind b
   claim_joins_behind false b = is.space_behind b
 
@@ -150,7 +150,7 @@ module _ (g : Group) (is : IsGroup g) (space : ℕ) where
 
   -- whether it joins the block before it
   joins_before : (j x : ℕ) → in_pool g.uses x ≡ true → rank g.uses x ≡ j → 0 < x
-      → one_if (joined (owned_at g space j (x - 1)) (Some (owner_by g space j, 0))) + one_if (in_pool g.uses (x - 1) && not (same_kind (is_inner g space (j - 1)) (is_inner g space j)))
+      → one_if (is_joined (owned_at g space j (x - 1)) (Some (owner_by g space j, 0))) + one_if (in_pool g.uses (x - 1) && not (same_kind (is_inner g space (j - 1)) (is_inner g space j)))
       ≡ one_if (in_pool g.uses (x - 1) || is_for (is_inner g space j) (use_at g.uses (x - 1)))
   joins_before j x open' at some = by_case (in_pool g.uses (x - 1)) refl
     where
@@ -159,7 +159,7 @@ module _ (g : Group) (is : IsGroup g) (space : ℕ) where
       turned false = refl
 
       by_case : (t : Bool) → in_pool g.uses (x - 1) ≡ t
-          → one_if (joined (if t && nat_lt (rank g.uses (x - 1)) j then Some (owner_by g space (rank g.uses (x - 1)), 0) else g.claim (x - 1)) (Some (owner_by g space j, 0)))
+          → one_if (is_joined (if t && nat_lt (rank g.uses (x - 1)) j then Some (owner_by g space (rank g.uses (x - 1)), 0) else g.claim (x - 1)) (Some (owner_by g space j, 0)))
           + one_if (t && not (same_kind (is_inner g space (j - 1)) (is_inner g space j)))
           ≡ one_if (t || is_for (is_inner g space j) (use_at g.uses (x - 1)))
       by_case false h = let e = claim_joins (is_inner g space j) (x - 1) in rw e (plus_none (one_if (is_for (is_inner g space j) (use_at g.uses (x - 1)))))
@@ -174,7 +174,7 @@ module _ (g : Group) (is : IsGroup g) (space : ℕ) where
 
   -- one block more is taken: the records before and after
   pub owned_step : (j x : ℕ) → in_pool g.uses x ≡ true → rank g.uses x ≡ j
-      → owner_count g space (j + 1) + meets g.uses (is_inner g space j) x
+      → owner_count g space (j + 1) + met_neighbours g.uses (is_inner g space j) x
       ≡ owner_count g space j + 1 + one_if (in_pool g.uses (x - 1) && not (same_kind (is_inner g space (j - 1)) (is_inner g space j)))
   unfolding owner_count
   owned_step j x open' at =
@@ -184,8 +184,8 @@ module _ (g : Group) (is : IsGroup g) (space : ℕ) where
       let p = begins_owned now in
       let q = begins_owned was in
       let mine : Option (ℕ × ℕ) = Some (owner_by g space j, 0) in
-      let a = joined (was (x - 1)) mine in
-      let c = joined mine (g.claim (x + 1)) in
+      let a = is_joined (was (x - 1)) mine in
+      let c = is_joined mine (g.claim (x + 1)) in
       let put : OneMore p q x a c = record {
         same = λ b other after.
             let same = owned_other j x b open' at other in
@@ -210,7 +210,7 @@ module _ (g : Group) (is : IsGroup g) (space : ℕ) where
             rw (e, back, after, owned_behind j x open' at, owned_here j x open' at, owned_not j x open' at) (none_behind (owner_by g space j, 0) (g.claim (x + 1)));
       } in
       let change = put_one p q x a c put (length g.uses) (pool_inside g.uses is.header x open')
-      (λ last. ap (joined mine) (is.inside (x + 1) (omega (arith, last)))) in
+      (λ last. ap (is_joined mine) (is.inside (x + 1) (omega (arith, last)))) in
       let beside = ap one_if (claim_joins_behind (is_inner g space j) (x + 1)) in
       omega (arith, change, joins_before j x open' at some, meets_kind g (is_inner g space j) x, beside)
 
@@ -219,7 +219,7 @@ module _ (g : Group) (is : IsGroup g) (space : ℕ) where
   unfolding owner_count
   owned_none =
       total_same (λ b. one_if (begins_owned (owned_at g space 0) b)) (λ b. one_if (begins_owned g.claim b)) (length g.uses)
-      (λ b h. ap₂ (λ (o p : Option (ℕ × ℕ)). one_if (is_some o && not (nat_lt 0 b && joined p o))) (claimed b) (claimed (b - 1)))
+      (λ b h. ap₂ (λ (o p : Option (ℕ × ℕ)). one_if (is_some o && not (nat_lt 0 b && is_joined p o))) (claimed b) (claimed (b - 1)))
     where
       claimed : (b : ℕ) → owned_at g space 0 b ≡ g.claim b
       claimed b =
@@ -232,13 +232,13 @@ module _ (g : Group) (is : IsGroup g) (space : ℕ) where
 
   -- all of the lowest blocks are taken
   pub owned_all : (blocks : List ℕ) → AreLowest g.uses blocks → (n : ℕ) → n ≤ length blocks
-      → owner_count g space n + total (λ k. meets g.uses (is_inner g space k) (get_or blocks k 0)) n
+      → owner_count g space n + total (λ k. met_neighbours g.uses (is_inner g space k) (get_or blocks k 0)) n
       ≡ how_many (begins_owned g.claim) (length g.uses) + n
       + total (λ k. one_if (in_pool g.uses (get_or blocks k 0 - 1) && not (same_kind (is_inner g space (k - 1)) (is_inner g space k)))) n
   owned_all blocks low zero few = omega (
     arith,
     owned_none,
-    total_none (λ k. meets g.uses (is_inner g space k) (get_or blocks k 0)),
+    total_none (λ k. met_neighbours g.uses (is_inner g space k) (get_or blocks k 0)),
     total_none (λ k. one_if (in_pool g.uses (get_or blocks k 0 - 1) && not (same_kind (is_inner g space (k - 1)) (is_inner g space k)))),
   )
   owned_all blocks low (suc n) few =
@@ -250,47 +250,47 @@ module _ (g : Group) (is : IsGroup g) (space : ℕ) where
         arith,
         step,
         so,
-        total_more (λ k. meets g.uses (is_inner g space k) (get_or blocks k 0)) n,
+        total_more (λ k. met_neighbours g.uses (is_inner g space k) (get_or blocks k 0)) n,
         total_more (λ k. one_if (in_pool g.uses (get_or blocks k 0 - 1) && not (same_kind (is_inner g space (k - 1)) (is_inner g space k)))) n,
       ))
 
   -- the records by the sums for the two kinds of owners: a is where the blocks of the inode trees begin, b where they end, or n
   pub owned_sums : (blocks : List ℕ) → AreLowest g.uses blocks → (n a b : ℕ) → n ≤ length blocks → 0 < space → 0 < g.inner → a ≡ min space n → b ≡ min (space + g.inner) n
-      → owner_count g space n + total (λ k. meets g.uses false (get_or blocks k 0)) a + total (λ k. meets g.uses true (get_or blocks k 0)) b
-      + total (λ k. meets g.uses false (get_or blocks k 0)) n
+      → owner_count g space n + total (λ k. met_neighbours g.uses false (get_or blocks k 0)) a + total (λ k. met_neighbours g.uses true (get_or blocks k 0)) b
+      + total (λ k. met_neighbours g.uses false (get_or blocks k 0)) n
       ≡ claim_count g + n + one_if (nat_lt space n && in_pool g.uses (get_or blocks space 0 - 1))
       + one_if (nat_lt (space + g.inner) n && in_pool g.uses (get_or blocks (space + g.inner) 0 - 1))
-      + total (λ k. meets g.uses true (get_or blocks k 0)) a + total (λ k. meets g.uses false (get_or blocks k 0)) b
+      + total (λ k. met_neighbours g.uses true (get_or blocks k 0)) a + total (λ k. met_neighbours g.uses false (get_or blocks k 0)) b
   unfolding claim_count
   owned_sums blocks low n a b few some inner ha hb =
-      let one : ℕ → ℕ = λ k. meets g.uses false (get_or blocks k 0) in
-      let two : ℕ → ℕ = λ k. meets g.uses true (get_or blocks k 0) in
-      let mix : ℕ → ℕ = λ k. meets g.uses (is_inner g space k) (get_or blocks k 0) in
+      let one : ℕ → ℕ = λ k. met_neighbours g.uses false (get_or blocks k 0) in
+      let two : ℕ → ℕ = λ k. met_neighbours g.uses true (get_or blocks k 0) in
+      let mix : ℕ → ℕ = λ k. met_neighbours g.uses (is_inner g space k) (get_or blocks k 0) in
       let touch : ℕ → Bool = λ k. in_pool g.uses (get_or blocks k 0 - 1) in
       let all = owned_all blocks low n few in
       let mixed = total_mixed mix one two space (space + g.inner) (omega arith)
-      (λ k from to. ap (λ (t : Bool). meets g.uses t (get_or blocks k 0)) (inner_is space (space + g.inner) k from to))
-      (λ k to. ap (λ (t : Bool). meets g.uses t (get_or blocks k 0)) (inner_before space (space + g.inner) k to))
-      (λ k from. ap (λ (t : Bool). meets g.uses t (get_or blocks k 0)) (inner_behind space (space + g.inner) k from)) n a b ha hb in
+      (λ k from to. ap (λ (t : Bool). met_neighbours g.uses t (get_or blocks k 0)) (inner_is space (space + g.inner) k from to))
+      (λ k to. ap (λ (t : Bool). met_neighbours g.uses t (get_or blocks k 0)) (inner_before space (space + g.inner) k to))
+      (λ k from. ap (λ (t : Bool). met_neighbours g.uses t (get_or blocks k 0)) (inner_behind space (space + g.inner) k from)) n a b ha hb in
       let ends = borders touch space (space + g.inner) some (omega (arith, inner)) n in
       omega (arith, all, mixed, ends)
 
 -- the number of records, from the numbers that the code has
-pub owners_are : (uses : List Use) (claim : ℕ → Option (ℕ × ℕ)) (inner space : ℕ) → IsGroup (group uses claim inner) → (blocks : List ℕ) → AreLowest uses blocks
+pub owners_are : (uses : List Use) (claim : ℕ → Option (ℕ × ℕ)) (inner space : ℕ) → IsPlacingGroup (group uses claim inner) → (blocks : List ℕ) → AreLowest uses blocks
     → (a b records t u i s' s j r result : ℕ) → 0 < space → 0 < inner → a ≡ min space (length blocks) → b ≡ min (space + inner) (length blocks)
     → claim_count (group uses claim inner) ≡ records
     → t ≡ one_if (nat_lt space (length blocks) && in_pool uses (get_or blocks space 0 - 1))
     → u ≡ one_if (nat_lt (space + inner) (length blocks) && in_pool uses (get_or blocks (space + inner) 0 - 1))
-    → i ≡ total (λ k. meets uses true (get_or blocks k 0)) a → s' ≡ total (λ k. meets uses false (get_or blocks k 0)) b
-    → s ≡ total (λ k. meets uses false (get_or blocks k 0)) a → j ≡ total (λ k. meets uses true (get_or blocks k 0)) b
-    → r ≡ total (λ k. meets uses false (get_or blocks k 0)) (length blocks)
+    → i ≡ total (λ k. met_neighbours uses true (get_or blocks k 0)) a → s' ≡ total (λ k. met_neighbours uses false (get_or blocks k 0)) b
+    → s ≡ total (λ k. met_neighbours uses false (get_or blocks k 0)) a → j ≡ total (λ k. met_neighbours uses true (get_or blocks k 0)) b
+    → r ≡ total (λ k. met_neighbours uses false (get_or blocks k 0)) (length blocks)
     → result ≡ records + length blocks + t + u + i + s' - (s + j + r) → result ≡ owner_count (group uses claim inner) space (length blocks)
 owners_are uses claim inner space is blocks low a b records t u i s' s j r result some inner' ha hb hc ht hu hi hs' hs hj hr says =
     let n = length blocks in
-    let so : owner_count (group uses claim inner) space n + total (λ k. meets uses false (get_or blocks k 0)) a + total (λ k. meets uses true (get_or blocks k 0)) b
-    + total (λ k. meets uses false (get_or blocks k 0)) n
+    let so : owner_count (group uses claim inner) space n + total (λ k. met_neighbours uses false (get_or blocks k 0)) a + total (λ k. met_neighbours uses true (get_or blocks k 0)) b
+    + total (λ k. met_neighbours uses false (get_or blocks k 0)) n
     ≡ claim_count (group uses claim inner) + n + one_if (nat_lt space n && in_pool uses (get_or blocks space 0 - 1))
     + one_if (nat_lt (space + inner) n && in_pool uses (get_or blocks (space + inner) 0 - 1))
-    + total (λ k. meets uses true (get_or blocks k 0)) a + total (λ k. meets uses false (get_or blocks k 0)) b
+    + total (λ k. met_neighbours uses true (get_or blocks k 0)) a + total (λ k. met_neighbours uses false (get_or blocks k 0)) b
     = owned_sums (group uses claim inner) is space blocks low n a b (omega arith) some inner' ha hb in
     omega (arith, so, hc, ht, hu, hi, hs', hs, hj, hr, says)

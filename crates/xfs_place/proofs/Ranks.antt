@@ -6,7 +6,7 @@ use Rattle.std.proofs.lemmas.List.{get_or_past}
 use Rattle.xfs_place.specs.declared.uses.Use.{Use}
 use Rattle.xfs_place.specs.declared.uses.Use.TheVariants.{Pool, Reserved, Claimed, ForSpace, ForInodes}
 use Rattle.xfs_place.specs.Pool.{is_open, use_at}
-use Rattle.xfs_place.specs.Choice.{begins_free, free_count, in_pool, is_free_at, is_spare, one_if, rank}
+use Rattle.xfs_place.specs.Choice.{begins_free, free_run_count, in_pool, is_free_at, is_spare, one_if, rank}
 use Rattle.xfs_place.proofs.Totals.{OneMore, one_rank, put_one, total_more}
 
 or_true : (x : Bool) → (x || (true && true)) ≡ true
@@ -91,8 +91,8 @@ module _ (u : List Use) (first : use_at u 0 ≡ Claimed) where
 
   -- one block more is taken: the runs of free blocks before and after
   pub free_step : (n x : ℕ) → in_pool u x ≡ true → rank u x ≡ n
-      → free_count u n + one_if (is_spare (use_at u (x - 1))) + one_if (is_spare (use_at u (x + 1)) || in_pool u (x + 1)) ≡ free_count u (n + 1) + 1
-  unfolding free_count
+      → free_run_count u n + one_if (is_spare (use_at u (x - 1))) + one_if (is_spare (use_at u (x + 1)) || in_pool u (x + 1)) ≡ free_run_count u (n + 1) + 1
+  unfolding free_run_count
   free_step n x open' at =
       let some = pool_behind x open' in
       let p = begins_free u n in

@@ -5,17 +5,19 @@ use Rattle.std.specs.List.{filter, list_all, list_any, range_with_len}
 use Rattle.std.proofs.lemmas.List.{append-nil, map-append, take_all}
 use Rattle.std.proofs.lemmas.List.Elements.{filter-append}
 use Rattle.std.proofs.Math.Nat.{mul-le-mul_right}
+use Rattle.xfs_kinds.specs.Owners.{inode_trees_owner, group_owner}
+use Rattle.xfs_geom.specs.Runs.{covers}
 use Rattle.xfs_geom.specs.Volumes.{Volume}
 use Rattle.xfs_geom.specs.Conversions.{group_length, is_fixed}
 use Rattle.xfs_geom.specs.declared.records.Run.{Run}
 use Rattle.xfs_place.specs.declared.uses.Use.{Use}
 use Rattle.xfs_place.specs.declared.uses.Use.TheVariants.{Pool, Reserved, Claimed, ForSpace, ForInodes}
-use Rattle.xfs_place.specs.Pool.{Shows, inode_tree_owner, is_listed, is_of, is_open, is_pool, is_taken, space_owner, use_at, use_held, use_of, use_of_run}
+use Rattle.xfs_place.specs.Pool.{Shows, is_listed, is_open, is_pool, is_taken, use_at, use_held, use_of, use_of_run}
 use Rattle.xfs_place.specs.Chunks.{is_room, lies_in_chunks, rooms_below}
 use Rattle.xfs_place.proofs.Ranges.{range_more, range_split, same_tests, take_full, take_open}
 
 never_open : (r : Run) → is_open (use_of_run r) ≡ false
-never_open r = by_cases (nat_lt r.offset (2 ^ 61)) (r.owner == space_owner) (r.owner == inode_tree_owner)
+never_open r = by_cases (nat_lt r.offset (2 ^ 61)) (r.owner == group_owner) (r.owner == inode_trees_owner)
   where
     by_cases : (f s i : Bool) → is_open (if f then (if s then ForSpace else (if i then ForInodes else Claimed)) else Claimed) ≡ false
     by_cases true true i = refl
@@ -27,10 +29,10 @@ never_open r = by_cases (nat_lt r.offset (2 ^ 61)) (r.owner == space_owner) (r.o
 held_open : (runs : List Run) (b : ℕ) (u : Use) → is_open (unwrap_or (use_held runs b) u) ≡ (not (is_taken runs b) && is_open u)
 unfolding use_held is_taken
 held_open [] b u = refl
-held_open (r ∷ rest) b u = by_case (is_of b r) (held_open rest b u)
+held_open (r ∷ rest) b u = by_case (covers b r) (held_open rest b u)
   where
     by_case : (t : Bool) → is_open (unwrap_or (use_held rest b) u) ≡ (not (is_taken rest b) && is_open u)
-        → is_open (unwrap_or (if t then Some (use_of_run r) else use_held rest b) u) ≡ (not (t || list_any (is_of b) rest) && is_open u)
+        → is_open (unwrap_or (if t then Some (use_of_run r) else use_held rest b) u) ≡ (not (t || list_any (covers b) rest) && is_open u)
     by_case true others = never_open r
     by_case false others = others
 

@@ -4,7 +4,7 @@ use Rattle.std.specs.List.{fold, sum}
 use Rattle.std.proofs.lemmas.Bool.{eqb-true, leb-false}
 use Rattle.std.proofs.Math.Nat.{mul-le-mul_right}
 use Rattle.xfs_treebuild.specs.Size.{blocks_for, rows_above, rows_of}
-use Rattle.xfs_place.specs.Choice.{size_of}
+use Rattle.xfs_place.specs.Choice.{blocks_of_size}
 
 -- a sum begins with its first number
 sum_from : (a : ℕ) (rows : List ℕ) → fold ◌+◌ a rows ≡ a + sum rows
@@ -48,7 +48,7 @@ above_small (suc fuel) most m two some =
     by_case true h so first = omega arith
     by_case false h so first = omega (arith, so, first, half most m two some, leb-false m 1 h)
 
-pub size_small : (leaf node n : ℕ) → 1 ≤ leaf → 2 ≤ node → (0 < size_of leaf node n) × (size_of leaf node n ≤ 3 * n + 3)
+pub size_small : (leaf node n : ℕ) → 1 ≤ leaf → 2 ≤ node → (0 < blocks_of_size leaf node n) × (blocks_of_size leaf node n ≤ 3 * n + 3)
 unfolding rows_of
 size_small leaf node n some two =
     let b = blocks_for leaf n in

@@ -3,6 +3,7 @@
 use Rattle.std.specs.Prelude.{ℕ, zero, suc, Bool, true, false, not, ◌+◌, ◌-◌, ◌*◌, ◌≤◌, ◌<◌, ◌&&◌, ◌||◌, ◌==◌, ◌≡◌, ◌⊎◌, nat_le, nat_lt, if◌then◌else◌, List, length, Option, Some, None, slice_index}
 use Rattle.std.specs.List.{sum}
 use Rattle.std.specs.Option.{MatchOption, is_some}
+use Rattle.xfs_kinds.specs.Owners.{inode_trees_owner, group_owner}
 use Rattle.xfs_treebuild.specs.Size.{rows_of}
 use Rattle.xfs_kinds.specs.OffsetWords.{offset_in_fork, flags_of, is_file_data}
 use Rattle.xfs_geom.specs.declared.records.Run.{Run}
@@ -10,7 +11,7 @@ use Rattle.xfs_kinds.specs.MergedRuns.{held_at}
 use Rattle.xfs_place.specs.declared.lowest.Lowest.{Lowest}
 use Rattle.xfs_place.specs.declared.uses.Use.{Use}
 use Rattle.xfs_place.specs.declared.uses.Use.TheVariants.{Pool, Reserved, Claimed, ForSpace, ForInodes}
-use Rattle.xfs_place.specs.Pool.{inode_tree_owner, is_open, space_owner, use_at}
+use Rattle.xfs_place.specs.Pool.{is_open, use_at}
 
 -- the sum of a number for each number below n
 unfoldable pub total : (ℕ → ℕ) → ℕ → ℕ
@@ -62,18 +63,18 @@ is_for_inodes ForSpace = false
 abbrev pub goes_on : ℕ × ℕ → ℕ × ℕ → Bool
 goes_on (o, w) (p, x) = o == p && flags_of w == flags_of x && (not (is_file_data o w) || offset_in_fork w + 1 == offset_in_fork x)
 
-abbrev pub joined : Option (ℕ × ℕ) → Option (ℕ × ℕ) → Bool
-joined (Some a) (Some b) = goes_on a b
-joined (Some a) None = false
-joined None b = false
+abbrev pub is_joined : Option (ℕ × ℕ) → Option (ℕ × ℕ) → Bool
+is_joined (Some a) (Some b) = goes_on a b
+is_joined (Some a) None = false
+is_joined None b = false
 
 -- the blocks of a packed tree
-abbrev pub size_of : ℕ → ℕ → ℕ → ℕ
-size_of leaf_cap node_cap records = sum (rows_of leaf_cap node_cap records)
+abbrev pub blocks_of_size : ℕ → ℕ → ℕ → ℕ
+blocks_of_size leaf_cap node_cap records = sum (rows_of leaf_cap node_cap records)
 
 -- the owner of the blocks of the inode trees, or of the other trees and the free list
 abbrev pub owner_of : Bool → ℕ
-owner_of inodes = if inodes then inode_tree_owner else space_owner
+owner_of inodes = if inodes then inode_trees_owner else group_owner
 
 module _ (uses : List Use) where
   abbrev pub in_pool : ℕ → Bool
@@ -96,12 +97,12 @@ module _ (uses : List Use) where
   begins_free n block = is_free_at n block && not (nat_lt 0 block && is_free_at n (block - 1))
 
   -- how many runs of free blocks there are then
-  unfoldable pub free_count : ℕ → ℕ
-  free_count n = how_many (begins_free n) (length uses)
+  unfoldable pub free_run_count : ℕ → ℕ
+  free_run_count n = how_many (begins_free n) (length uses)
 
   -- with how many of the two blocks beside it a block would be one record, as a block of the inode trees or of the others
-  abbrev pub meets : Bool → ℕ → ℕ
-  meets inodes x = if inodes
+  abbrev pub met_neighbours : Bool → ℕ → ℕ
+  met_neighbours inodes x = if inodes
       then one_if (in_pool (x - 1) || is_for_inodes (use_at uses (x - 1))) + one_if (is_for_inodes (use_at uses (x + 1)))
       else (one_if (in_pool (x - 1) || is_for_space (use_at uses (x - 1))) + one_if (is_for_space (use_at uses (x + 1))))
 
@@ -113,11 +114,11 @@ module _ (uses : List Use) where
   -- the sums of these numbers for the first blocks of the list, for none to all of them
   pub record AreSums (inodes : Bool) (blocks sums : List ℕ) : Type 0 where
     pub all : length sums ≡ length blocks + 1
-    pub each : (n : ℕ) → n ≤ length blocks → slice_index sums n ≡ total (λ k. meets inodes (slice_index blocks k)) n
+    pub each : (n : ℕ) → n ≤ length blocks → slice_index sums n ≡ total (λ k. met_neighbours inodes (slice_index blocks k)) n
 
 -- a block with an owner that does not go on where the one before it ends
 abbrev pub begins_owned : (ℕ → Option (ℕ × ℕ)) → ℕ → Bool
-begins_owned owned block = is_some (owned block) && not (nat_lt 0 block && joined (owned (block - 1)) (owned block))
+begins_owned owned block = is_some (owned block) && not (nat_lt 0 block && is_joined (owned (block - 1)) (owned block))
 
 -- a group before its trees are placed: what its blocks are for, the owner and the offset word of those that are claimed, and how many
 -- blocks its two inode trees take
@@ -129,7 +130,7 @@ pub record Group : Type 0 where
 module _ (g : Group) where
   -- the blocks of the two trees of free space: these runs stand in each of them
   abbrev pub space_blocks : ℕ → ℕ
-  space_blocks n = 2 * size_of 505 336 (free_count g.uses n)
+  space_blocks n = 2 * blocks_of_size 505 336 (free_run_count g.uses n)
 
   -- the inode trees stand behind the trees of free space, and the tree of owners and the free list behind those: the block of a rank is of
   -- the inode trees
@@ -151,23 +152,23 @@ module _ (g : Group) where
 
   -- the blocks of all five trees
   unfoldable pub need : ℕ → ℕ
-  need n = space_blocks n + g.inner + size_of 168 91 (owner_count (space_blocks n) n)
+  need n = space_blocks n + g.inner + blocks_of_size 168 91 (owner_count (space_blocks n) n)
 
   -- the n lowest blocks of the pool hold the trees, and leave the free list from low to high of them
-  abbrev pub Leaves : ℕ → ℕ → ℕ → Type 0
-  Leaves low high n = (n ≤ rank g.uses (length g.uses)) × (need n + low ≤ n) × (n ≤ need n + high)
+  abbrev pub LeavesFree : ℕ → ℕ → ℕ → Type 0
+  LeavesFree low high n = (n ≤ rank g.uses (length g.uses)) × (need n + low ≤ n) × (n ≤ need n + high)
 
   -- the least number of blocks that leaves the free list 6 to 118 of them; where there is none, the greatest that leaves it 0 to 5
-  abbrev pub IsChosen : Option ℕ → Type 0
-  IsChosen (Some n) = IsLeast (Leaves 6 118) n ⊎ (IsNone (Leaves 6 118) × IsGreatest (Leaves 0 5) n)
-  IsChosen None = IsNone (Leaves 6 118) × IsNone (Leaves 0 5)
+  abbrev pub IsChosenCount : Option ℕ → Type 0
+  IsChosenCount (Some n) = IsLeast (LeavesFree 6 118) n ⊎ (IsNone (LeavesFree 6 118) × IsGreatest (LeavesFree 0 5) n)
+  IsChosenCount None = IsNone (LeavesFree 6 118) × IsNone (LeavesFree 0 5)
 
 abbrev pub group : List Use → (ℕ → Option (ℕ × ℕ)) → ℕ → Group
 group uses claim inner = record { uses = uses; claim = claim; inner = inner }
 
 -- the group by the uses of its blocks, its claims, and the blocks that its two inode trees take
-abbrev pub group_of : List Use → List Run → ℕ → Group
-group_of uses claims inner = group uses (held_at claims) inner
+abbrev pub group_claimed : List Use → List Run → ℕ → Group
+group_claimed uses claims inner = group uses (held_at claims) inner
 
 -- how many records of owners there are before anything is placed
 unfoldable pub claim_count : Group → ℕ
@@ -181,29 +182,29 @@ pub record AreFound (uses : List Use) (blocks space inodes : List ℕ) (next fre
   pub inodes' : AreSums uses true blocks inodes
   pub at : rank uses next ≡ length blocks
   pub inside : next ≤ length uses
-  pub free' : free ≡ free_count uses (length blocks)
+  pub free' : free ≡ free_run_count uses (length blocks)
 
 abbrev pub Stands : List Use → Lowest → Type 0
 Stands uses l = AreFound uses l.blocks.items l.space.items l.inodes.items l.next l.free
 
 -- what the uses of a group and its claims keep: the first block is claimed, a block of the pool has no owner, nothing stands behind the
 -- group, and the uses tell where a new block of the trees would join what is claimed
-pub record IsGroup (g : Group) : Type 0 where
+pub record IsPlacingGroup (g : Group) : Type 0 where
   pub header : use_at g.uses 0 ≡ Claimed
   pub free : (b : ℕ) → in_pool g.uses b ≡ true → g.claim b ≡ None
   pub inside : (b : ℕ) → length g.uses ≤ b → g.claim b ≡ None
   pub spare : (b : ℕ) → is_spare (use_at g.uses b) ≡ true → g.claim b ≡ None
   pub rest : (b : ℕ) → b < length g.uses → g.claim b ≡ None → (in_pool g.uses b || is_spare (use_at g.uses b)) ≡ true
-  pub space : (b : ℕ) → joined (g.claim b) (Some (space_owner, 0)) ≡ is_for_space (use_at g.uses b)
-  pub space_behind : (b : ℕ) → joined (Some (space_owner, 0)) (g.claim b) ≡ is_for_space (use_at g.uses b)
-  pub inodes : (b : ℕ) → joined (g.claim b) (Some (inode_tree_owner, 0)) ≡ is_for_inodes (use_at g.uses b)
-  pub inodes_behind : (b : ℕ) → joined (Some (inode_tree_owner, 0)) (g.claim b) ≡ is_for_inodes (use_at g.uses b)
+  pub space : (b : ℕ) → is_joined (g.claim b) (Some (group_owner, 0)) ≡ is_for_space (use_at g.uses b)
+  pub space_behind : (b : ℕ) → is_joined (Some (group_owner, 0)) (g.claim b) ≡ is_for_space (use_at g.uses b)
+  pub inodes : (b : ℕ) → is_joined (g.claim b) (Some (inode_trees_owner, 0)) ≡ is_for_inodes (use_at g.uses b)
+  pub inodes_behind : (b : ℕ) → is_joined (Some (inode_trees_owner, 0)) (g.claim b) ≡ is_for_inodes (use_at g.uses b)
 
 -- none of the numbers below n leaves the free list enough; and the greatest of them that leaves it little, if there is one
 pub record IsJudged (g : Group) (n : ℕ) (poor : Option ℕ) : Type 0 where
-  pub rich : (k : ℕ) → k < n → Leaves g 6 118 k → ⊥
-  pub little : MatchOption poor ((k : ℕ) → k < n → Leaves g 0 5 k → ⊥) (λ p. Leaves g 0 5 p × (p < n) × ((k : ℕ) → p < k → k < n → Leaves g 0 5 k → ⊥))
+  pub rich : (k : ℕ) → k < n → LeavesFree g 6 118 k → ⊥
+  pub little : MatchOption poor ((k : ℕ) → k < n → LeavesFree g 0 5 k → ⊥) (λ p. LeavesFree g 0 5 p × (p < n) × ((k : ℕ) → p < k → k < n → LeavesFree g 0 5 k → ⊥))
 
 -- the same of each group with these uses, of which so many records of owners are there before anything is placed
 pub record AreJudged (uses : List Use) (inner records n : ℕ) (poor : Option ℕ) : Type 0 where
-  pub each : (claim : ℕ → Option (ℕ × ℕ)) → IsGroup (group uses claim inner) → claim_count (group uses claim inner) ≡ records → IsJudged (group uses claim inner) n poor
+  pub each : (claim : ℕ → Option (ℕ × ℕ)) → IsPlacingGroup (group uses claim inner) → claim_count (group uses claim inner) ≡ records → IsJudged (group uses claim inner) n poor

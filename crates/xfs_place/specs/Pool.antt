@@ -1,54 +1,34 @@
 -- Which blocks of a volume may be given to something new.
-use Rattle.std.specs.Prelude.{◌≡◌, ℕ, Bool, true, false, not, ◌+◌, ◌≤◌, ◌<◌, ◌&&◌, ◌==◌, nat_le, nat_lt, if◌then◌else◌, List, [], ◌∷◌, length, slice_index_or, ◌-◌, ◌^◌, Option, Some, None}
+use Rattle.std.specs.Prelude.{◌≡◌, ℕ, Bool, true, false, not, ◌+◌, ◌≤◌, ◌<◌, ◌&&◌, ◌==◌, nat_lt, if◌then◌else◌, List, [], ◌∷◌, length, slice_index_or, ◌^◌, Option, Some, None}
 use Rattle.std.specs.List.{list_any}
 use Rattle.std.specs.Option.{unwrap_or}
+use Rattle.xfs_kinds.specs.Owners.{group_owner, inode_trees_owner}
+use Rattle.xfs_geom.specs.Runs.{covers}
 use Rattle.xfs_geom.specs.Volumes.{Volume}
 use Rattle.xfs_geom.specs.Conversions.{is_fixed}
 use Rattle.xfs_geom.specs.declared.records.Run.{Run}
 use Rattle.xfs_place.specs.declared.uses.Use.{Use}
 use Rattle.xfs_place.specs.declared.uses.Use.TheVariants.{Pool, Reserved, Claimed, ForSpace, ForInodes}
 
--- the block is one of the count blocks from start on
-abbrev pub is_among : ℕ → ℕ → ℕ → Bool
-is_among start count block = nat_le start block && nat_lt block (start + count)
-
--- the block is one of the run
-abbrev pub is_of : ℕ → Run → Bool
-is_of block r = is_among r.start r.count block
-
 -- the block is one of the runs
 unfoldable pub is_taken : List Run → ℕ → Bool
-is_taken runs block = list_any (is_of block) runs
+is_taken runs block = list_any (covers block) runs
 
 -- the block stands in the list
 unfoldable pub is_listed : List ℕ → ℕ → Bool
 is_listed blocks block = list_any (λ b. b == block) blocks
 
--- the owners of what is no inode's: the header block of a group, the log, the blocks of the trees of free space and of owners with the
--- free list, the blocks of the inode trees (chapter "Reverse-Mapping B+tree")
-abbrev pub header_owner : ℕ
-header_owner = 2 ^ 64 - 3
-
-abbrev pub log_owner : ℕ
-log_owner = 2 ^ 64 - 4
-
-abbrev pub space_owner : ℕ
-space_owner = 2 ^ 64 - 5
-
-abbrev pub inode_tree_owner : ℕ
-inode_tree_owner = 2 ^ 64 - 6
-
 -- what the blocks of a run are for: they are claimed, and some by an owner whose new blocks would join them
-abbrev pub claimed_by : ℕ → Use
-claimed_by owner = if owner == space_owner then ForSpace else (if owner == inode_tree_owner then ForInodes else Claimed)
+abbrev pub use_claimed_by : ℕ → Use
+use_claimed_by owner = if owner == group_owner then ForSpace else (if owner == inode_trees_owner then ForInodes else Claimed)
 
 abbrev pub use_of_run : Run → Use
-use_of_run r = if nat_lt r.offset (2 ^ 61) then claimed_by r.owner else Claimed
+use_of_run r = if nat_lt r.offset (2 ^ 61) then use_claimed_by r.owner else Claimed
 
 -- what the first run that has a block makes of it
 unfoldable pub use_held : List Run → ℕ → Option Use
 use_held [] block = None
-use_held (r ∷ rest) block = if is_of block r then Some (use_of_run r) else use_held rest block
+use_held (r ∷ rest) block = if covers block r then Some (use_of_run r) else use_held rest block
 
 -- a block of no run is claimed where it has a fixed use; else it may be reserved; else it is of the pool, from which new blocks are
 -- taken
@@ -76,12 +56,12 @@ pub record Shows (uses : List Use) (blocks : ℕ) (due : ℕ → Use) : Type 0 w
   pub each : (block : ℕ) → block < blocks → use_at uses block ≡ due block
 
 -- the blocks that pass a test have a use now, the others the one that they had
-pub record Marks (old new : List Use) (test : ℕ → Bool) (now : Use) : Type 0 where
+pub record MarksUses (old new : List Use) (test : ℕ → Bool) (now : Use) : Type 0 where
   pub all : length new ≡ length old
   pub each : (block : ℕ) → block < length old → use_at new block ≡ (if test block then now else use_at old block)
 
 -- the blocks of which something is said have that use now, the others the one that they had
-pub record Puts (old new : List Use) (said : ℕ → Option Use) : Type 0 where
+pub record PutsUses (old new : List Use) (said : ℕ → Option Use) : Type 0 where
   pub all : length new ≡ length old
   pub each : (block : ℕ) → block < length old → use_at new block ≡ unwrap_or (said block) (use_at old block)
 

@@ -1,25 +1,27 @@
 -- What a volume holds before its trees are placed, group by group.
 use Rattle.std.specs.Prelude.{◌≡◌, ℕ, Bool, true, false, ◌+◌, ◌-◌, ◌*◌, ◌≤◌, ◌<◌, ◌⊎◌, ◌&&◌, nat_le, nat_lt, if◌then◌else◌, List, [], ◌∷◌, ◌++◌, length, map, Option, Some, None, slice_index_or, Result, Ok, Err}
 use Rattle.std.specs.List.{All, range_with_len}
+use Rattle.xfs_kinds.specs.Owners.{headers_owner, log_owner}
+use Rattle.xfs_geom.specs.Runs.{covers}
 use Rattle.xfs_geom.specs.Conversions.{group_length, is_fixed}
 use Rattle.xfs_geom.specs.Volumes.{Volume, volume_of}
 use Rattle.xfs_geom.specs.declared.records.Run.{Run}
 use Rattle.xfs_kinds.specs.MergedRuns.{held_at}
 use Rattle.xfs_geom.specs.declared.records.InoRec.{InoRec}
 use Rattle.xfs_place.specs.declared.placed.GroupPlaced.{GroupPlaced}
-use Rattle.xfs_place.specs.declared.faults.Place.{Place}
+use Rattle.xfs_place.specs.declared.faults.Unplaced.{Unplaced}
 use Rattle.xfs_place.specs.declared.wanted.GroupInodes.{GroupInodes}
 use Rattle.xfs_place.specs.declared.wanted.Wanted.{Wanted}
 use Rattle.xfs_place.specs.Objects.{asks_of, keep_with}
-use Rattle.xfs_place.specs.Placing.{IsPlaced, inner_blocks}
+use Rattle.xfs_place.specs.Placing.{IsPlacedGroup, inner_blocks}
 use Rattle.xfs_place.specs.declared.uses.Use.{Use}
-use Rattle.xfs_place.specs.Pool.{header_owner, is_of, log_owner, use_of}
-use Rattle.xfs_place.specs.Choice.{Group, IsChosen, group}
-use Rattle.xfs_place.specs.Claims.{AreApart, AreClaims, IsClaim}
+use Rattle.xfs_place.specs.Pool.{use_of}
+use Rattle.xfs_place.specs.Choice.{Group, IsChosenCount, group}
+use Rattle.xfs_place.specs.Claims.{ClaimedOnce, AreClaims, IsClaimedRun}
 
 -- the first block of a group, and the log
 abbrev pub header_run : Volume → ℕ → Run
-header_run v ag = record { start = ag * v.agblocks; count = 1; owner = header_owner; offset = 0 }
+header_run v ag = record { start = ag * v.agblocks; count = 1; owner = headers_owner; offset = 0 }
 
 abbrev pub log_run : Volume → Run
 log_run v = record { start = v.log; count = v.logblocks; owner = log_owner; offset = 0 }
@@ -29,14 +31,14 @@ abbrev pub fixed_runs : Volume → List Run
 fixed_runs v = log_run v ∷ map (header_run v) (range_with_len 0 v.agcount)
 
 -- no block of the run has a fixed use
-abbrev pub IsClear : Volume → Run → Type 0
-IsClear v r = (block : ℕ) → is_of block r ≡ true → is_fixed v block ≡ false
+abbrev pub IsOffFixed : Volume → Run → Type 0
+IsOffFixed v r = (block : ℕ) → covers block r ≡ true → is_fixed v block ≡ false
 
 -- runs of blocks of the volume that belong to something: no two have a block in common, and none has a block with a fixed use
-pub record AreKept (v : Volume) (kept : List Run) : Type 0 where
-  pub each : All (IsClaim v.dblocks) kept
-  pub clear : All (IsClear v) kept
-  pub apart : AreApart kept
+pub record CanBeKept (v : Volume) (kept : List Run) : Type 0 where
+  pub each : All (IsClaimedRun v.dblocks) kept
+  pub clear : All (IsOffFixed v) kept
+  pub apart : ClaimedOnce kept
 
 -- the uses of the blocks of a group, and the owners and offset words of those that are claimed
 unfoldable pub uses_in : Volume → List Run → List ℕ → ℕ → List Use
@@ -60,40 +62,40 @@ pub record AreAllClaims (v : Volume) (kept claims : List Run) : Type 0 where
   pub stay : All (StaysInGroup v) claims
 
 -- a run of a group by its AG blocks
-abbrev pub in_group : ℕ → Run → Run
-in_group base r = record r { start = r.start - base }
+abbrev pub run_in_group : ℕ → Run → Run
+run_in_group base r = record r { start = r.start - base }
 
 abbrev pub begins_in : ℕ → ℕ → Run → Bool
 begins_in base length r = nat_le base r.start && nat_lt r.start (base + length)
 
 -- the records of inodes of a group
-abbrev pub inodes_of : List GroupInodes → ℕ → List InoRec
-inodes_of inodes ag = (slice_index_or inodes ag (record { records = [] })).records
+abbrev pub inodes_in_group : List GroupInodes → ℕ → List InoRec
+inodes_in_group inodes ag = (slice_index_or inodes ag (record { records = [] })).records
 
 -- a group of the volume, before its trees are placed
 abbrev pub wanted_group : Volume → List Run → List ℕ → List GroupInodes → ℕ → Group
-wanted_group v kept reserved inodes ag = group_in v kept reserved ag (inner_blocks (inodes_of inodes ag))
+wanted_group v kept reserved inodes ag = group_in v kept reserved ag (inner_blocks (inodes_in_group inodes ag))
 
 -- the trees of each group stand
 pub record ArePlaced (v : Volume) (kept : List Run) (reserved : List ℕ) (inodes : List GroupInodes) (n : ℕ) (groups : List GroupPlaced) : Type 0 where
   pub all : length groups ≡ n
-  pub each : (ag : ℕ) (d : GroupPlaced) → ag < n → IsPlaced (wanted_group v kept reserved inodes ag) (ag * v.agblocks) (inodes_of inodes ag) (slice_index_or groups ag d)
+  pub each : (ag : ℕ) (d : GroupPlaced) → ag < n → IsPlacedGroup (wanted_group v kept reserved inodes ag) (ag * v.agblocks) (inodes_in_group inodes ag) (slice_index_or groups ag d)
 
 -- what is kept of what a request names, with the new chunks
-abbrev pub kept_of : Wanted → List Run
-kept_of w = w.taken ++ w.new
+abbrev pub kept_runs : Wanted → List Run
+kept_runs w = w.taken ++ w.new
 
 -- the same with the runs of the objects; or the first object that finds no room
-abbrev pub all_kept : Wanted → Result (List Run) Place
-all_kept w = keep_with (volume_of w.geometry) w.reserved w.from (kept_of w) (asks_of w.objects)
+abbrev pub all_kept : Wanted → Result (List Run) Unplaced
+all_kept w = keep_with (volume_of w.geometry) w.reserved w.from (kept_runs w) (asks_of w.objects)
 
 -- the first group whose trees have no room
 pub record IsWithoutRoom (v : Volume) (kept : List Run) (reserved : List ℕ) (inodes : List GroupInodes) (ag : ℕ) : Type 0 where
   pub inside : ag < v.agcount
-  pub none : IsChosen (wanted_group v kept reserved inodes ag) None
-  pub others : (k : ℕ) → k < ag → (n : ℕ) × IsChosen (wanted_group v kept reserved inodes k) (Some n)
+  pub none : IsChosenCount (wanted_group v kept reserved inodes ag) None
+  pub others : (k : ℕ) → k < ag → (n : ℕ) × IsChosenCount (wanted_group v kept reserved inodes k) (Some n)
 
 -- what a request finds no room for: an object, or the trees and the free list of a group beside all objects
-abbrev pub FindsNoRoom : Wanted → Place → Type 0
+abbrev pub FindsNoRoom : Wanted → Unplaced → Type 0
 FindsNoRoom w what = (all_kept w ≡ Err what)
-    ⊎ ((all : List Run) × (ag : ℕ) × (all_kept w ≡ Ok all) × (what ≡ Place.Group ag) × IsWithoutRoom (volume_of w.geometry) all w.reserved w.inodes ag)
+    ⊎ ((all : List Run) × (ag : ℕ) × (all_kept w ≡ Ok all) × (what ≡ Unplaced.Group ag) × IsWithoutRoom (volume_of w.geometry) all w.reserved w.inodes ag)

@@ -1,7 +1,7 @@
 //! How many blocks of its pool a group gives to its trees and its free list.
 
 ghost use Rattle.std.specs.Prelude.{◌≡◌, ◌≤◌, ◌<◌, ◌+◌, ◌^◌, ◌&&◌, ℕ, Option, nat_le, if◌then◌else◌, length, IfOk, MatchOption};
-ghost use Rattle.xfs_place.specs.Choice.{IsChosen, IsGroup, Stands, claim_count, group};
+ghost use Rattle.xfs_place.specs.Choice.{IsChosenCount, IsPlacingGroup, Stands, claim_count, group};
 ghost use Rattle.xfs_place.specs.Pool.{use_at};
 
 use crate::lowest::Lowest;
@@ -17,7 +17,7 @@ const MOST: u64 = 118;
 /// Finds how many of the lowest blocks of the pool go to the trees and the free list, and those blocks. The two inode
 /// trees take `inner` blocks, and there are so many records of owners before anything is placed. `None` where the trees
 /// have no room.
-pub fn choose(
+pub fn choose_count(
     lowest: &mut Lowest,
     uses: &[Use],
     inner: u64,
@@ -31,8 +31,8 @@ pub fn choose(
     requires none { length lowest.old.blocks.items ≡ 0 }
     ensures stands { IfOk result (λ chosen. Stands uses.now lowest.new) }
     ensures there { IfOk result (λ chosen. MatchOption chosen (Unit {0}) (λ n. n ≤ length lowest.new.blocks.items)) }
-    ensures chosen { IfOk result (λ chosen. (claim : ℕ → Option (ℕ × ℕ)) → IsGroup (group uses.now claim inner)
-        → claim_count (group uses.now claim inner) ≡ records → IsChosen (group uses.now claim inner) chosen) }
+    ensures chosen { IfOk result (λ chosen. (claim : ℕ → Option (ℕ × ℕ)) → IsPlacingGroup (group uses.now claim inner)
+        → claim_count (group uses.now claim inner) ≡ records → IsChosenCount (group uses.now claim inner) chosen) }
 {
     let mut poor = None;
     for n in 0..uses.len() + 1 {

@@ -7,7 +7,7 @@ ghost use Rattle.xfs_geom.specs.Volumes.{volume_of};
 ghost use Rattle.xfs_place.specs.Chunks.{asked_pool, asked_rooms, is_room, lies_in_chunks, rooms_of};
 ghost use Rattle.xfs_place.specs.Pool.{IsRunOf, Shows, is_open, is_pool, use_at, use_of};
 
-use crate::faults::{Place, PlaceFault};
+use crate::faults::{Unplaced, PlaceFault};
 use crate::uses::{Use, is_open, list_uses};
 use std::alloc::Global;
 use xfs_disk::NoMemory;
@@ -29,7 +29,7 @@ pub struct ChunkAsk {
     /// How many chunks are wanted.
     pub count: u32,
     /// What they are for.
-    pub what: Place,
+    pub what: Unplaced,
 }
 
 /// The first blocks of the `count` lowest chunks, ascending, by their numbers. A chunk is `size` blocks of the

@@ -5,9 +5,9 @@ ghost use Rattle.std.specs.List.{filter};
 ghost use Rattle.std.specs.List.Sorted.{IsNonDecreasingBy, IsPermutation};
 ghost use Rattle.xfs_geom.specs.Volumes.{volume_of};
 ghost use Rattle.xfs_kinds.specs.MergedRuns.{held_at};
-ghost use Rattle.xfs_place.specs.Choice.{claim_count, group_of};
-ghost use Rattle.xfs_place.specs.Claims.{AreApart, AreClaims, IsClaim};
-ghost use Rattle.xfs_place.specs.Wanted.{AreAllClaims, AreKept, begins_in, fixed_runs, in_group};
+ghost use Rattle.xfs_place.specs.Choice.{claim_count, group_claimed};
+ghost use Rattle.xfs_place.specs.Claims.{ClaimedOnce, AreClaims, IsClaimedRun};
+ghost use Rattle.xfs_place.specs.Wanted.{AreAllClaims, CanBeKept, begins_in, fixed_runs, run_in_group};
 ghost use Rattle.xfs_place.specs.declared.uses.Use.{Use};
 
 use crate::uses::{HEADER_OWNER, LOG_OWNER};
@@ -17,10 +17,10 @@ use xfs_geom::{Geometry, Run};
 use xfs_kinds::merge_runs;
 
 /// The runs by their first blocks.
-pub fn in_order(runs: Vec<Run>) -> Result<Vec<Run>, NoMemory>
-    ensures ascend { IfOk result (λ sorted. (top : ℕ) → top < 2 ^ 63 → AreApart runs.items → All (IsClaim top) runs.items → AreClaims top sorted.items) }
+pub fn sort_runs(runs: Vec<Run>) -> Result<Vec<Run>, NoMemory>
+    ensures ascend { IfOk result (λ sorted. (top : ℕ) → top < 2 ^ 63 → ClaimedOnce runs.items → All (IsClaimedRun top) runs.items → AreClaims top sorted.items) }
     ensures same { IfOk result (λ sorted. IsPermutation runs.items sorted.items) }
-    ensures held { IfOk result (λ sorted. AreApart runs.items → (block : ℕ) → held_at sorted.items block ≡ held_at runs.items block) }
+    ensures held { IfOk result (λ sorted. ClaimedOnce runs.items → (block : ℕ) → held_at sorted.items block ≡ held_at runs.items block) }
 {
     let mut sorted = runs;
     sorted.sort_by_key(|run| run.start)?;
@@ -31,19 +31,19 @@ pub fn in_order(runs: Vec<Run>) -> Result<Vec<Run>, NoMemory>
 pub fn count_records(alloc: Global, claims: &[Run], blocks: u64) -> Result<u64, NoMemory>
     requires claims { AreClaims blocks claims.now }
     requires blocks { blocks < 2 ^ 63 }
-    ensures { IfOk result (λ records. (uses : List Use) (inner : ℕ) → length uses ≡ blocks → claim_count (group_of uses claims.now inner) ≡ records) }
+    ensures { IfOk result (λ records. (uses : List Use) (inner : ℕ) → length uses ≡ blocks → claim_count (group_claimed uses claims.now inner) ≡ records) }
 {
     Ok(merge_runs(alloc, claims)?.len() as u64)
 }
 
 /// The claims of a volume in order: the first block of each group, the log and what is kept.
 pub fn list_claims(alloc: Global, g: &Geometry, kept: &[Run]) -> Result<Vec<Run>, NoMemory>
-    requires { AreKept (volume_of g.now) kept.now }
+    requires { CanBeKept (volume_of g.now) kept.now }
     ensures { IfOk result (λ claims. AreAllClaims (volume_of g.now) kept.now claims.items) }
 {
     let mut claims = list_fixed(alloc, g)?;
     claims.extend_from_slice(kept)?;
-    Ok(in_order(claims)?)
+    Ok(sort_runs(claims)?)
 }
 
 /// The runs of the blocks with a fixed use.
@@ -77,10 +77,10 @@ pub fn list_group(
 ) -> Result<Vec<Run>, NoMemory>
     requires bounds { (base < 2 ^ 60) × (blocks < 2 ^ 60) }
     requires order { IsNonDecreasingBy (λ r. r.start) claims.now }
-    ensures { IfOk result (λ group. group.items ≡ map (in_group base) (filter (begins_in base blocks) claims.now)) }
+    ensures { IfOk result (λ group. group.items ≡ map (run_in_group base) (filter (begins_in base blocks) claims.now)) }
 {
     let part = claims_in(claims, base, blocks);
-    Ok(part.iter().map(|run| in_group(*run, base)).collect(alloc)?)
+    Ok(part.iter().map(|run| run_in_group(*run, base)).collect(alloc)?)
 }
 
 /// The claims that begin in the `blocks` blocks from block `base` on.
@@ -96,8 +96,8 @@ fn claims_in(claims: &[Run], base: u64, blocks: u64) -> &[Run]
 }
 
 /// The run by its AG blocks.
-fn in_group(run: Run, base: u64) -> Run
-    ensures { result ≡ in_group base run }
+fn run_in_group(run: Run, base: u64) -> Run
+    ensures { result ≡ run_in_group base run }
 {
     Run {
         start: run.start.saturating_sub(base),

@@ -1,7 +1,8 @@
 //! The counters of a volume once all is placed (chapter "Superblocks").
 
 ghost use Rattle.std.specs.Prelude.{◌≡◌, ◌≤◌, ◌<◌, ◌*◌, ◌^◌, [], length, All};
-ghost use Rattle.xfs_place.specs.Counts.{blocks_of_tree, counts_of, free_blocks, free_slots, room, slots, spare_blocks};
+ghost use Rattle.xfs_geom.specs.Sums.{free_blocks, free_slots, slots};
+ghost use Rattle.xfs_place.specs.Counts.{tree_block_count, placed_counts, room_placed, spare_blocks};
 
 use crate::placed::GroupPlaced;
 use crate::wanted::GroupInodes;
@@ -12,8 +13,8 @@ use xfs_volume::TreeBlocks;
 pub fn count_all(inodes: &[GroupInodes], groups: &[GroupPlaced]) -> Counts
     requires groups { (length inodes.now ≤ 512) × (length groups.now ≤ 512) }
     requires few { All (λ group. length group.records < 2 ^ 32) inodes.now }
-    requires small { (counts_of [] groups.now).fdblocks < 2 ^ 64 }
-    ensures { result ≡ counts_of inodes.now groups.now }
+    requires small { (placed_counts [] groups.now).fdblocks < 2 ^ 64 }
+    ensures { result ≡ placed_counts inodes.now groups.now }
 {
     let (icount, ifree) = count_inodes(inodes);
     Counts {
@@ -27,8 +28,8 @@ pub fn count_all(inodes: &[GroupInodes], groups: &[GroupPlaced]) -> Counts
 fn count_inodes(inodes: &[GroupInodes]) -> (u128, u128)
     requires groups { length inodes.now ≤ 512 }
     requires few { All (λ group. length group.records < 2 ^ 32) inodes.now }
-    ensures all { result.0 ≡ (counts_of inodes.now []).icount }
-    ensures free { result.1 ≡ (counts_of inodes.now []).ifree }
+    ensures all { result.0 ≡ (placed_counts inodes.now []).icount }
+    ensures free { result.1 ≡ (placed_counts inodes.now []).ifree }
     ensures small { (result.0 < 2 ^ 64) × (result.1 < 2 ^ 64) }
 {
     let mut all = 0;
@@ -43,18 +44,18 @@ fn count_inodes(inodes: &[GroupInodes]) -> (u128, u128)
 /// The free blocks of all groups.
 fn count_rooms(groups: &[GroupPlaced]) -> u128
     requires { length groups.now ≤ 512 }
-    ensures { result ≡ (counts_of [] groups.now).fdblocks }
+    ensures { result ≡ (placed_counts [] groups.now).fdblocks }
 {
     let mut blocks = 0;
     for group in groups {
-        blocks += room(group);
+        blocks += room_placed(group);
     }
     blocks
 }
 
 /// The free blocks of a group, those of its free list and those that its trees could spare.
-fn room(group: &GroupPlaced) -> u128
-    ensures value { result ≡ room group.now }
+fn room_placed(group: &GroupPlaced) -> u128
+    ensures value { result ≡ room_placed group.now }
     ensures less { result < 2 ^ 100 }
 {
     free_blocks(group.bno.as_slice())
@@ -67,13 +68,13 @@ fn spare_blocks(trees: &[TreeBlocks]) -> u128
     ensures value { result ≡ spare_blocks trees.now }
     ensures less { result < 2 ^ 66 }
 {
-    let all = blocks_of_tree(trees, 0) + blocks_of_tree(trees, 1) + blocks_of_tree(trees, 4);
+    let all = tree_block_count(trees, 0) + tree_block_count(trees, 1) + tree_block_count(trees, 4);
     all.saturating_sub(3)
 }
 
 /// The blocks of one of the trees, by its place among them.
-fn blocks_of_tree(trees: &[TreeBlocks], tree: usize) -> u128
-    ensures value { result ≡ blocks_of_tree trees.now tree }
+fn tree_block_count(trees: &[TreeBlocks], tree: usize) -> u128
+    ensures value { result ≡ tree_block_count trees.now tree }
     ensures less { result < 2 ^ 64 }
 {
     match trees.get(tree) {

@@ -5,7 +5,7 @@ use xfs_disk::NoMemory;
 
 /// What is placed.
 #[derive(Clone, Copy, Debug, PartialEq, Eq)]
-pub enum Place {
+pub enum Unplaced {
     /// The trees and the free list of an allocation group, by its number.
     Group(u32),
     /// The blocks of a directory, by its inode's number.
@@ -22,7 +22,7 @@ pub enum Place {
 #[derive(Clone, Copy, Debug, PartialEq, Eq)]
 pub enum PlaceFault {
     /// The volume has no room for this, the first that finds none.
-    NoRoom(Place),
+    NoRoom(Unplaced),
     /// Memory is wanting.
     NoMemory,
 }

@@ -2,10 +2,11 @@
 
 ghost use Rattle.std.specs.Prelude.{◌≡◌, ◌≤◌, ◌<◌, ◌+◌, ◌^◌, ◌&&◌, ℕ, nat_lt, true, map, take, drop, length, IfOk, None};
 ghost use Rattle.std.specs.List.{filter};
-ghost use Rattle.xfs_kinds.specs.FreeRuns.{AreSeparate, is_in};
+ghost use Rattle.xfs_geom.specs.Sums.{has_free};
+ghost use Rattle.xfs_kinds.specs.FreeRuns.{AreSeparate, is_in_spans};
 ghost use Rattle.xfs_kinds.specs.MergedRuns.{NoneJoin, held_at};
-ghost use Rattle.xfs_place.specs.Claims.{AreClaims, span_of};
-ghost use Rattle.xfs_place.specs.Placing.{AreByLength, has_free, run_of};
+ghost use Rattle.xfs_place.specs.Claims.{AreClaims, span_of_run};
+ghost use Rattle.xfs_place.specs.Placing.{AreByLength, run_of_record};
 
 use std::alloc::Global;
 use xfs_disk::NoMemory;
@@ -15,8 +16,8 @@ use xfs_kinds::{free_runs, merge_runs};
 /// The maximal runs of the AG blocks below `end` that none of the runs has.
 pub fn list_free(alloc: Global, owned: &[Run], end: u32) -> Result<Vec<Span>, NoMemory>
     requires { AreClaims end owned.now }
-    ensures held { IfOk result (λ free. (block : ℕ) → block < end → held_at owned.now block ≡ None → is_in free.items block ≡ true) }
-    ensures taken { IfOk result (λ free. (block : ℕ) → is_in free.items block ≡ true → (block < end) × (held_at owned.now block ≡ None)) }
+    ensures held { IfOk result (λ free. (block : ℕ) → block < end → held_at owned.now block ≡ None → is_in_spans free.items block ≡ true) }
+    ensures taken { IfOk result (λ free. (block : ℕ) → is_in_spans free.items block ≡ true → (block < end) × (held_at owned.now block ≡ None)) }
     ensures separate { IfOk result (λ free. AreSeparate 0 free.items) }
     ensures few { IfOk result (λ free. length free.items ≤ end + 1) }
 {
@@ -27,7 +28,7 @@ pub fn list_free(alloc: Global, owned: &[Run], end: u32) -> Result<Vec<Span>, No
 /// The blocks of the runs.
 fn list_spans(alloc: Global, owned: &[Run], end: u32) -> Result<Vec<Span>, NoMemory>
     requires { AreClaims end owned.now }
-    ensures { IfOk result (λ spans. spans.items ≡ map span_of owned.now) }
+    ensures { IfOk result (λ spans. spans.items ≡ map span_of_run owned.now) }
 {
     let mut spans = Vec::new(alloc);
     for run in owned {
@@ -65,9 +66,9 @@ pub fn with_free(alloc: Global, inodes: &[InoRec]) -> Result<Vec<InoRec>, NoMemo
 /// The records of owners: the runs, with those joined that go on where the one before ends.
 pub fn list_records(alloc: Global, owned: &[Run], end: u32) -> Result<Vec<RmapRec>, NoMemory>
     requires { AreClaims end owned.now }
-    ensures claims { IfOk result (λ records. AreClaims end (map run_of records.items)) }
-    ensures held { IfOk result (λ records. (block : ℕ) → held_at (map run_of records.items) block ≡ held_at owned.now block) }
-    ensures apart { IfOk result (λ records. NoneJoin (map run_of records.items)) }
+    ensures claims { IfOk result (λ records. AreClaims end (map run_of_record records.items)) }
+    ensures held { IfOk result (λ records. (block : ℕ) → held_at (map run_of_record records.items) block ≡ held_at owned.now block) }
+    ensures apart { IfOk result (λ records. NoneJoin (map run_of_record records.items)) }
     ensures few { IfOk result (λ records. length records.items ≤ end) }
 {
     let joined = merge_runs(alloc, owned)?;
@@ -77,7 +78,7 @@ pub fn list_records(alloc: Global, owned: &[Run], end: u32) -> Result<Vec<RmapRe
 /// The runs of AG blocks as records.
 fn to_records(alloc: Global, runs: &[Run], end: u32) -> Result<Vec<RmapRec>, NoMemory>
     requires { AreClaims end runs.now }
-    ensures { IfOk result (λ records. map run_of records.items ≡ runs.now) }
+    ensures { IfOk result (λ records. map run_of_record records.items ≡ runs.now) }
 {
     let mut records = Vec::new(alloc);
     for run in runs {

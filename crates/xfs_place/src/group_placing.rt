@@ -2,11 +2,12 @@
 
 ghost use Rattle.std.specs.Prelude.{◌≡◌, ◌≤◌, ◌<◌, ◌+◌, ◌++◌, ◌^◌, ℕ, map, drop, length, take, IfOk, MatchOption, None};
 ghost use Rattle.std.specs.List.{filter, sum};
-ghost use Rattle.xfs_place.specs.Choice.{IsChosen, IsGroup, Stands, group_of, rank};
+ghost use Rattle.xfs_geom.specs.Sums.{has_free};
+ghost use Rattle.xfs_place.specs.Choice.{IsChosenCount, IsPlacingGroup, Stands, group_claimed, rank};
 ghost use Rattle.xfs_place.specs.Claims.{AreClaims};
-ghost use Rattle.xfs_place.specs.Placing.{IsPlaced, cut, has_free, inner_blocks, tree_at, tree_sizes};
+ghost use Rattle.xfs_place.specs.Placing.{IsPlacedGroup, cut, inner_blocks, tree_blocks_at, tree_sizes};
 
-use crate::choice::choose;
+use crate::choice::choose_count;
 use crate::claims::count_records;
 use crate::group_lists::{by_length, list_free, list_records, take_blocks, with_free};
 use crate::lowest::{Lowest, tree_blocks};
@@ -29,16 +30,16 @@ pub fn place_group(
 ) -> Result<Option<GroupPlaced>, NoMemory>
     requires few { (length uses.now < 2 ^ 32) × (length inodes.now < 2 ^ 32) }
     requires base { base < 2 ^ 40 }
-    requires group { IsGroup (group_of uses.now claims.now (inner_blocks inodes.now)) }
+    requires group { IsPlacingGroup (group_claimed uses.now claims.now (inner_blocks inodes.now)) }
     requires claims { AreClaims (length uses.now) claims.now }
-    ensures { IfOk result (λ placed. MatchOption placed (IsChosen (group_of uses.now claims.now (inner_blocks inodes.now)) None)
-        (IsPlaced (group_of uses.now claims.now (inner_blocks inodes.now)) base inodes.now)) }
+    ensures { IfOk result (λ placed. MatchOption placed (IsChosenCount (group_claimed uses.now claims.now (inner_blocks inodes.now)) None)
+        (IsPlacedGroup (group_claimed uses.now claims.now (inner_blocks inodes.now)) base inodes.now)) }
 {
     let fino = with_free(alloc, inodes)?;
     let inner = inner_size(inodes, &fino);
     let records = count_records(alloc, claims, uses.len() as u64)?;
     let mut lowest = Lowest::new(alloc, uses)?;
-    let Some(blocks) = choose(&mut lowest, uses, inner, records)? else {
+    let Some(blocks) = choose_count(&mut lowest, uses, inner, records)? else {
         return Ok(None);
     };
     let taken = Lowest::first(alloc, uses, blocks)?;
@@ -58,12 +59,12 @@ fn fill_group(
 ) -> Result<GroupPlaced, NoMemory>
     requires few { (length uses.now < 2 ^ 32) × (length inodes.now < 2 ^ 32) }
     requires base { base < 2 ^ 40 }
-    requires group { IsGroup (group_of uses.now claims.now (inner_blocks inodes.now)) }
+    requires group { IsPlacingGroup (group_claimed uses.now claims.now (inner_blocks inodes.now)) }
     requires claims { AreClaims (length uses.now) claims.now }
     requires free { fino.items ≡ filter has_free inodes.now }
     requires taken { Stands uses.now taken.now }
-    ensures { IfOk result (λ placed. IsChosen (group_of uses.now claims.now (inner_blocks inodes.now)) (Some (length taken.now.blocks.items))
-        → IsPlaced (group_of uses.now claims.now (inner_blocks inodes.now)) base inodes.now placed) }
+    ensures { IfOk result (λ placed. IsChosenCount (group_claimed uses.now claims.now (inner_blocks inodes.now)) (Some (length taken.now.blocks.items))
+        → IsPlacedGroup (group_claimed uses.now claims.now (inner_blocks inodes.now)) base inodes.now placed) }
 {
     let inner = inner_size(inodes, &fino);
     let space = taken.space_blocks(uses);
@@ -129,7 +130,7 @@ fn cut_trees(
 ) -> Result<Vec<TreeBlocks>, NoMemory>
     requires base { base < 2 ^ 40 }
     requires sizes { sum sizes.now < 2 ^ 40 }
-    ensures { IfOk result (λ trees. trees.items ≡ map (tree_at base) (cut sizes.now blocks.now)) }
+    ensures { IfOk result (λ trees. trees.items ≡ map (tree_blocks_at base) (cut sizes.now blocks.now)) }
 {
     let mut trees = Vec::new(alloc);
     let mut from = 0;

@@ -8,7 +8,7 @@
 //! `xfs_empty` places an empty volume so:
 //!
 //! ```text
-//! let placed = place(alloc, wanted)?; // PlaceFault::NoRoom(Place::Group(ag)) where that group is full
+//! let placed = place(alloc, wanted)?; // PlaceFault::NoRoom(Unplaced::Group(ag)) where that group is full
 //! let plan = render(rt, alloc, wanted, &placed, bytes, WORKERS, &NoGate)?;
 //! ```
 #![tactic(auto)]
@@ -30,7 +30,7 @@ mod volume_placing;
 mod wanted;
 
 pub use chunk_search::{ChunkAsk, chunks};
-pub use faults::{Place, PlaceFault};
+pub use faults::{Unplaced, PlaceFault};
 pub use placed::{GroupPlaced, Placed};
 pub use placing::place;
 pub use wanted::{GroupInodes, Object, ObjectKind, RunAsk, Wanted};

@@ -1,7 +1,7 @@
 //! The lowest blocks of a group's pool, one after another, and what is left when they are taken.
 
 ghost use Rattle.std.specs.Prelude.{◌≡◌, ◌≤◌, ◌<◌, ◌+◌, ◌^◌, ◌++◌, [], ◌∷◌, length, true, IfOk, MatchOption, false, ◌||◌, ◌&&◌, ◌-◌, ◌*◌, nat_lt, slice_index, Option, ℕ};
-ghost use Rattle.xfs_place.specs.Choice.{IsGroup, NoneOpen, Stands, begins_free, claim_count, group, need, owner_count, size_of, free_count, in_pool, is_for_inodes, is_for_space, is_spare, meets, one_if, rank, total};
+ghost use Rattle.xfs_place.specs.Choice.{IsPlacingGroup, NoneOpen, Stands, begins_free, claim_count, group, need, owner_count, blocks_of_size, free_run_count, in_pool, is_for_inodes, is_for_space, is_spare, met_neighbours, one_if, rank, total};
 ghost use Rattle.xfs_place.specs.Pool.{is_open, use_at};
 
 use crate::uses::{Use, is_open};
@@ -87,7 +87,7 @@ impl Lowest {
         requires inner { (0 < inner) × (inner < 2 ^ 40) }
         requires records { records < 2 ^ 40 }
         requires stands { Stands uses.now self.now }
-        ensures value { (claim : ℕ → Option (ℕ × ℕ)) → IsGroup (group uses.now claim inner) → claim_count (group uses.now claim inner) ≡ records
+        ensures value { (claim : ℕ → Option (ℕ × ℕ)) → IsPlacingGroup (group uses.now claim inner) → claim_count (group uses.now claim inner) ≡ records
             → result ≡ need (group uses.now claim inner) (length self.now.blocks.items) }
         ensures small { result < 2 ^ 50 }
     {
@@ -100,7 +100,7 @@ impl Lowest {
     pub fn space_blocks(&self, uses: &[Use]) -> u64
         requires few { length uses.now ≤ 2 ^ 32 }
         requires stands { Stands uses.now self.now }
-        ensures value { result ≡ 2 * size_of 505 336 (free_count uses.now (length self.now.blocks.items)) }
+        ensures value { result ≡ 2 * blocks_of_size 505 336 (free_run_count uses.now (length self.now.blocks.items)) }
         ensures some { 0 < result }
         ensures small { result < 2 ^ 36 }
     {
@@ -115,7 +115,7 @@ impl Lowest {
         requires inner { (0 < inner) × (inner < 2 ^ 40) }
         requires records { records < 2 ^ 40 }
         requires stands { Stands uses.now self.now }
-        ensures value { (claim : ℕ → Option (ℕ × ℕ)) → IsGroup (group uses.now claim inner) → claim_count (group uses.now claim inner) ≡ records
+        ensures value { (claim : ℕ → Option (ℕ × ℕ)) → IsPlacingGroup (group uses.now claim inner) → claim_count (group uses.now claim inner) ≡ records
             → result ≡ owner_count (group uses.now claim inner) space (length self.now.blocks.items) }
         ensures small { result < 2 ^ 42 }
     {
@@ -138,7 +138,7 @@ impl Lowest {
         requires few { blocks ≤ length self.now.blocks.items }
         requires all { length uses.now ≤ 2 ^ 32 }
         requires stands { Stands uses.now self.now }
-        ensures value { result ≡ total (λ k. meets uses.now false (slice_index self.now.blocks.items k)) blocks }
+        ensures value { result ≡ total (λ k. met_neighbours uses.now false (slice_index self.now.blocks.items k)) blocks }
         ensures small { result ≤ 2 ^ 34 }
     {
         self.space[blocks]
@@ -149,7 +149,7 @@ impl Lowest {
         requires few { blocks ≤ length self.now.blocks.items }
         requires all { length uses.now ≤ 2 ^ 32 }
         requires stands { Stands uses.now self.now }
-        ensures value { result ≡ total (λ k. meets uses.now true (slice_index self.now.blocks.items k)) blocks }
+        ensures value { result ≡ total (λ k. met_neighbours uses.now true (slice_index self.now.blocks.items k)) blocks }
         ensures small { result ≤ 2 ^ 34 }
     {
         self.inodes[blocks]
@@ -184,7 +184,7 @@ fn next_open(uses: &[Use], from: usize) -> Option<usize>
 /// With how many of the blocks beside it a block would be one record, as one of the trees of free space or of owners.
 fn meets_space(uses: &[Use], block: usize) -> u64
     requires { (0 < block) × (block < length uses.now) }
-    ensures value { result ≡ meets uses.now false block }
+    ensures value { result ≡ met_neighbours uses.now false block }
     ensures small { result ≤ 2 }
 {
     let before = uses[block - 1];
@@ -195,7 +195,7 @@ fn meets_space(uses: &[Use], block: usize) -> u64
 /// The same as one of the inode trees.
 fn meets_inodes(uses: &[Use], block: usize) -> u64
     requires { (0 < block) × (block < length uses.now) }
-    ensures value { result ≡ meets uses.now true block }
+    ensures value { result ≡ met_neighbours uses.now true block }
     ensures small { result ≤ 2 }
 {
     let before = uses[block - 1];
@@ -216,7 +216,7 @@ fn free_beside(uses: &[Use], block: usize) -> u64
 /// How many runs of free blocks a group has where nothing is taken of its pool.
 fn count_free(uses: &[Use]) -> u64
     requires { length uses.now ≤ 2 ^ 32 }
-    ensures { result ≡ free_count uses.now 0 }
+    ensures { result ≡ free_run_count uses.now 0 }
 {
     let mut runs = 0;
     for block in 0..uses.len() {
@@ -293,7 +293,7 @@ pub fn tree_blocks(leaf_cap: u64, node_cap: u64, records: u64) -> u64
     requires leaves { 1 ≤ leaf_cap }
     requires nodes { 2 ≤ node_cap }
     requires records { records < 2 ^ 44 }
-    ensures value { result ≡ size_of leaf_cap node_cap records }
+    ensures value { result ≡ blocks_of_size leaf_cap node_cap records }
     ensures some { 0 < result }
     ensures small { result ≤ 3 * records + 3 }
 {

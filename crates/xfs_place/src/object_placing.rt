@@ -3,13 +3,13 @@
 ghost use Rattle.std.specs.Prelude.{◌≡◌, ◌≤◌, ◌<◌, ◌+◌, ◌++◌, ◌%◌, ◌^◌, ◌⊎◌, ℕ, min, nat_lt, slice_index, if◌then◌else◌, length, take, All, IfErr, IfOk, IfSome, MatchOption, OnOk, Ok, Err};
 ghost use Rattle.xfs_geom.specs.Volumes.{volume_of};
 ghost use Rattle.xfs_place.specs.Choice.{IsLeast, IsNone};
-ghost use Rattle.xfs_place.specs.Objects.{HasRun, IsAsk, NoneBefore, asks_by, asks_of, keep_with, place_of, run_at};
-ghost use Rattle.xfs_place.specs.Pool.{Marks};
-ghost use Rattle.xfs_place.specs.Wanted.{AreKept};
-ghost use Rattle.xfs_place.specs.declared.faults.Place.{Place};
+ghost use Rattle.xfs_place.specs.Objects.{HasRun, IsAsk, NoRoomBefore, asks_by, asks_of, keep_with, place_of_object, run_at};
+ghost use Rattle.xfs_place.specs.Pool.{MarksUses};
+ghost use Rattle.xfs_place.specs.Wanted.{CanBeKept};
+ghost use Rattle.xfs_place.specs.declared.faults.Unplaced.{Unplaced};
 ghost use Rattle.xfs_place.specs.declared.uses.Use.TheVariants.{Claimed};
 
-use crate::faults::{Place, PlaceFault};
+use crate::faults::{Unplaced, PlaceFault};
 use crate::uses::{Use, is_open, list_uses, mark};
 use crate::wanted::{Object, ObjectKind, RunAsk};
 use std::alloc::Global;
@@ -26,7 +26,7 @@ const LENGTHS: usize = 1 << 16;
 /// A run that is asked for, and what it is for.
 #[derive(Clone, Copy)]
 pub struct AskFor {
-    pub what: Place,
+    pub what: Unplaced,
     pub run: RunAsk,
 }
 
@@ -47,7 +47,7 @@ fn push_asks(asks: &mut Vec<AskFor>, object: &Object) -> Result<(), NoMemory>
 {
     for run in object.runs.as_slice() {
         asks.push(AskFor {
-            what: place_of(object),
+            what: place_of_object(object),
             run: *run,
         })?;
     }
@@ -55,12 +55,12 @@ fn push_asks(asks: &mut Vec<AskFor>, object: &Object) -> Result<(), NoMemory>
 }
 
 /// What the runs of an object are for.
-fn place_of(object: &Object) -> Place
-    ensures { result ≡ place_of object.now.kind object.now.ino }
+fn place_of_object(object: &Object) -> Unplaced
+    ensures { result ≡ place_of_object object.now.kind object.now.ino }
 {
     match object.kind {
-        ObjectKind::Directory => Place::Directory(object.ino),
-        ObjectKind::Symlink | ObjectKind::Data => Place::File(object.ino),
+        ObjectKind::Directory => Unplaced::Directory(object.ino),
+        ObjectKind::Symlink | ObjectKind::Data => Unplaced::File(object.ino),
     }
 }
 
@@ -76,13 +76,13 @@ pub fn keep_with(
     from: u32,
     asks: &[AskFor],
 ) -> Result<Vec<Run>, PlaceFault>
-    requires kept { AreKept (volume_of g.now) kept.items }
+    requires kept { CanBeKept (volume_of g.now) kept.items }
     requires asks { All (λ ask. IsAsk ask.run) asks.now }
     ensures placed { IfOk result (λ all. keep_with (volume_of g.now) reserved.now from kept.items asks.now ≡ Ok all.items) }
-    ensures kept { IfOk result (λ all. AreKept (volume_of g.now) all.items) }
+    ensures kept { IfOk result (λ all. CanBeKept (volume_of g.now) all.items) }
     ensures behind { IfOk result (λ all. take (length kept.items) all.items ≡ kept.items) }
     ensures cause { IfErr result (λ fault. (fault ≡ PlaceFault.NoMemory)
-        ⊎ ((what : Place) × (fault ≡ PlaceFault.NoRoom what) × (keep_with (volume_of g.now) reserved.now from kept.items asks.now ≡ Err what))) }
+        ⊎ ((what : Unplaced) × (fault ≡ PlaceFault.NoRoom what) × (keep_with (volume_of g.now) reserved.now from kept.items asks.now ≡ Err what))) }
 {
     let mut all = kept;
     let mut uses = list_uses(alloc, g, &all, reserved)?;
@@ -103,7 +103,7 @@ pub fn keep_with(
 
 /// Closes the blocks of each group before AG block `from`.
 fn close_fronts(uses: &mut [Use], g: &Geometry, from: u32)
-    ensures { Marks uses.old uses.new (λ block. nat_lt (block % g.now.agblocks) from) Claimed }
+    ensures { MarksUses uses.old uses.new (λ block. nat_lt (block % g.now.agblocks) from) Claimed }
 {
     for block in 0..uses.len() {
         if (block as u64 % g.agblocks as u64) < from as u64 {
@@ -142,7 +142,7 @@ fn start_behind(before: usize, start: u64, blocks: u64) -> usize
 /// The first block of the lowest run of so many open blocks, where none begins before block `next`.
 fn find_run(uses: &[Use], next: usize, blocks: u64) -> Option<u64>
     requires some { 1 ≤ blocks }
-    requires next { NoneBefore uses.now blocks next }
+    requires next { NoRoomBefore uses.now blocks next }
     ensures lowest { MatchOption result (IsNone (HasRun uses.now blocks)) (IsLeast (HasRun uses.now blocks)) }
     ensures inside { IfSome result (λ start. start + blocks ≤ length uses.now) }
 {

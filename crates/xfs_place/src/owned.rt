@@ -1,12 +1,12 @@
 //! The owners of a group's blocks once its trees and its free list are placed.
 
 ghost use Rattle.std.specs.Prelude.{◌≡◌, ◌≤◌, ◌<◌, ◌+◌, ◌++◌, ◌^◌, ◌&&◌, ℕ, Option, List, nat_le, nat_lt, length, IfOk};
-ghost use Rattle.xfs_place.specs.Choice.{AreLowest, IsGroup, group_of, owner_of};
+ghost use Rattle.xfs_place.specs.Choice.{AreLowest, IsPlacingGroup, group_claimed, owner_of};
 ghost use Rattle.xfs_place.specs.Claims.{AreClaims};
-ghost use Rattle.xfs_place.specs.Placing.{AreOwned, tree_runs};
+ghost use Rattle.xfs_place.specs.Placing.{AreOwned, tree_claims};
 ghost use Rattle.xfs_place.specs.declared.uses.Use.{Use};
 
-use crate::claims::in_order;
+use crate::claims::sort_runs;
 use crate::uses::{INODE_TREE_OWNER, SPACE_OWNER};
 use std::alloc::Global;
 use xfs_disk::NoMemory;
@@ -22,11 +22,11 @@ pub fn list_owned(
     inner: u64,
 ) -> Result<Vec<Run>, NoMemory>
     requires space { (space < 2 ^ 40) × (inner < 2 ^ 40) }
-    ensures { IfOk result (λ owned. (uses : List Use) → length uses < 2 ^ 63 → IsGroup (group_of uses claims.now inner) → AreClaims (length uses) claims.now
-        → AreLowest uses blocks.now → AreOwned (group_of uses claims.now inner) space (length blocks.now) owned.items) }
+    ensures { IfOk result (λ owned. (uses : List Use) → length uses < 2 ^ 63 → IsPlacingGroup (group_claimed uses claims.now inner) → AreClaims (length uses) claims.now
+        → AreLowest uses blocks.now → AreOwned (group_claimed uses claims.now inner) space (length blocks.now) owned.items) }
 {
     let runs = add_blocks(alloc, claims, blocks, space, inner)?;
-    Ok(in_order(runs)?)
+    Ok(sort_runs(runs)?)
 }
 
 /// The claims, and a run for each of the blocks.
@@ -38,7 +38,7 @@ fn add_blocks(
     inner: u64,
 ) -> Result<Vec<Run>, NoMemory>
     requires space { (space < 2 ^ 40) × (inner < 2 ^ 40) }
-    ensures { IfOk result (λ runs. (uses : List Use) → runs.items ≡ claims.now ++ tree_runs (group_of uses claims.now inner) space blocks.now (length blocks.now)) }
+    ensures { IfOk result (λ runs. (uses : List Use) → runs.items ≡ claims.now ++ tree_claims (group_claimed uses claims.now inner) space blocks.now (length blocks.now)) }
 {
     let mut runs = Vec::new(alloc);
     runs.extend_from_slice(claims)?;

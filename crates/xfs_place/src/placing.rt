@@ -2,11 +2,11 @@
 
 ghost use Rattle.std.specs.Prelude.{◌≡◌, ◌<◌, ◌++◌, ◌^◌, ◌⊎◌, length, All, IfErr, IfOk, Ok};
 ghost use Rattle.xfs_geom.specs.Volumes.{volume_of};
-ghost use Rattle.xfs_place.specs.Counts.{counts_of};
+ghost use Rattle.xfs_place.specs.Counts.{placed_counts};
 ghost use Rattle.xfs_place.specs.Objects.{IsAsk};
 ghost use Rattle.xfs_place.specs.Standing.{AreOfPool};
-ghost use Rattle.xfs_place.specs.Wanted.{AreKept, ArePlaced, FindsNoRoom, all_kept, kept_of};
-ghost use Rattle.xfs_place.specs.declared.faults.Place.{Place};
+ghost use Rattle.xfs_place.specs.Wanted.{CanBeKept, ArePlaced, FindsNoRoom, all_kept, kept_runs};
+ghost use Rattle.xfs_place.specs.declared.faults.Unplaced.{Unplaced};
 
 use crate::counting::count_all;
 use crate::faults::PlaceFault;
@@ -28,18 +28,18 @@ use xfs_volume::Records;
 ///
 /// `NoRoom` of the first object that finds no room, else of the first group; `NoMemory` where memory is wanting.
 pub fn place(alloc: Global, wanted: &Wanted) -> Result<Placed, PlaceFault>
-    requires kept { AreKept (volume_of wanted.now.geometry) (kept_of wanted.now) }
+    requires kept { CanBeKept (volume_of wanted.now.geometry) (kept_runs wanted.now) }
     requires asks { All (λ object. All IsAsk object.runs) wanted.now.objects }
     requires inodes { length wanted.now.inodes ≡ wanted.now.geometry.agcount }
     requires few { All (λ group. length group.records < 2 ^ 32) wanted.now.inodes }
-    ensures runs { IfOk result (λ placed. all_kept wanted.now ≡ Ok (kept_of wanted.now ++ placed.runs)) }
-    ensures groups { IfOk result (λ placed. ArePlaced (volume_of wanted.now.geometry) (kept_of wanted.now ++ placed.runs) wanted.now.reserved wanted.now.inodes
+    ensures runs { IfOk result (λ placed. all_kept wanted.now ≡ Ok (kept_runs wanted.now ++ placed.runs)) }
+    ensures groups { IfOk result (λ placed. ArePlaced (volume_of wanted.now.geometry) (kept_runs wanted.now ++ placed.runs) wanted.now.reserved wanted.now.inodes
         wanted.now.geometry.agcount placed.groups) }
-    ensures apart { IfOk result (λ placed. AreKept (volume_of wanted.now.geometry) (kept_of wanted.now ++ placed.runs)) }
-    ensures pool { IfOk result (λ placed. AreOfPool (volume_of wanted.now.geometry) (kept_of wanted.now ++ placed.runs) wanted.now.reserved wanted.now.inodes
+    ensures apart { IfOk result (λ placed. CanBeKept (volume_of wanted.now.geometry) (kept_runs wanted.now ++ placed.runs)) }
+    ensures pool { IfOk result (λ placed. AreOfPool (volume_of wanted.now.geometry) (kept_runs wanted.now ++ placed.runs) wanted.now.reserved wanted.now.inodes
         wanted.now.geometry.agcount placed.groups) }
-    ensures counts { IfOk result (λ placed. placed.counts ≡ counts_of wanted.now.inodes placed.groups) }
-    ensures cause { IfErr result (λ fault. (fault ≡ PlaceFault.NoMemory) ⊎ ((what : Place) × (fault ≡ PlaceFault.NoRoom what) × FindsNoRoom wanted.now what)) }
+    ensures counts { IfOk result (λ placed. placed.counts ≡ placed_counts wanted.now.inodes placed.groups) }
+    ensures cause { IfErr result (λ fault. (fault ≡ PlaceFault.NoMemory) ⊎ ((what : Unplaced) × (fault ≡ PlaceFault.NoRoom what) × FindsNoRoom wanted.now what)) }
 {
     let g = &wanted.geometry;
     let reserved = wanted.reserved.as_slice();
@@ -60,7 +60,7 @@ pub fn place(alloc: Global, wanted: &Wanted) -> Result<Placed, PlaceFault>
 
 /// The runs of what is kept, with those of new chunks behind them.
 fn list_kept(alloc: Global, wanted: &Wanted) -> Result<Vec<Run>, NoMemory>
-    ensures { IfOk result (λ kept. kept.items ≡ kept_of wanted.now) }
+    ensures { IfOk result (λ kept. kept.items ≡ kept_runs wanted.now) }
 {
     let mut kept = Vec::from_slice(alloc, wanted.taken.as_slice())?;
     kept.extend_from_slice(wanted.new.as_slice())?;

@@ -1,9 +1,10 @@
 //! What each block of a volume is for, in one list: a byte a block.
 
 ghost use Rattle.std.specs.Prelude.{◌≡◌, ◌+◌, ◌%◌, ◌==◌, ◌≤◌, ◌<◌, length, All, IfOk};
+ghost use Rattle.xfs_disk.specs.Lists.{is_in_range};
 ghost use Rattle.xfs_geom.specs.Volumes.{volume_of};
 ghost use Rattle.xfs_geom.specs.Conversions.{is_fixed};
-ghost use Rattle.xfs_place.specs.Pool.{IsRunOf, Marks, Puts, Shows, is_among, is_listed, is_open, use_held, use_of, use_of_run};
+ghost use Rattle.xfs_place.specs.Pool.{IsRunOf, MarksUses, PutsUses, Shows, is_listed, is_open, use_held, use_of, use_of_run};
 
 use std::alloc::Global;
 use xfs_disk::NoMemory;
@@ -71,7 +72,7 @@ fn set_uses(uses: &mut [Use], g: &Geometry, runs: &[Run], reserved: &[u64])
 /// Gives the `count` blocks from `start` on a use.
 pub fn mark(uses: &mut [Use], start: u64, count: u64, now: Use)
     requires { start + count ≤ length uses.old }
-    ensures { Marks uses.old uses.new (is_among start count) now }
+    ensures { MarksUses uses.old uses.new (is_in_range start count) now }
 {
     for block in start..start + count {
         uses[block as usize] = now;
@@ -80,7 +81,7 @@ pub fn mark(uses: &mut [Use], start: u64, count: u64, now: Use)
 
 /// Reserves the listed blocks of the volume.
 fn reserve(uses: &mut [Use], reserved: &[u64])
-    ensures { Marks uses.old uses.new (is_listed reserved.now) Use.Reserved }
+    ensures { MarksUses uses.old uses.new (is_listed reserved.now) Use.Reserved }
 {
     for block in reserved {
         if *block < uses.len() as u64 {
@@ -92,7 +93,7 @@ fn reserve(uses: &mut [Use], reserved: &[u64])
 /// Claims the blocks of the runs. A block of several runs goes by the first of them.
 pub fn claim_runs(uses: &mut [Use], runs: &[Run])
     requires { All (IsRunOf (length uses.old)) runs.now }
-    ensures { Puts uses.old uses.new (use_held runs.now) }
+    ensures { PutsUses uses.old uses.new (use_held runs.now) }
 {
     for i in 0..runs.len() {
         let run = &runs[runs.len() - 1 - i];
@@ -117,7 +118,7 @@ fn use_of_run(run: &Run) -> Use
 /// Claims the blocks that have a fixed use: the first of each group, and the log.
 fn claim_fixed(uses: &mut [Use], g: &Geometry)
     requires { length uses.old ≡ g.now.dblocks }
-    ensures { Marks uses.old uses.new (is_fixed (volume_of g.now)) Use.Claimed }
+    ensures { MarksUses uses.old uses.new (is_fixed (volume_of g.now)) Use.Claimed }
 {
     claim_headers(uses, g);
     mark(uses, g.log, g.logblocks as u64, Use::Claimed);
@@ -126,7 +127,7 @@ fn claim_fixed(uses: &mut [Use], g: &Geometry)
 /// Claims the first block of each group.
 fn claim_headers(uses: &mut [Use], g: &Geometry)
     requires { length uses.old ≡ g.now.dblocks }
-    ensures { Marks uses.old uses.new (λ block. block % g.now.agblocks == 0) Use.Claimed }
+    ensures { MarksUses uses.old uses.new (λ block. block % g.now.agblocks == 0) Use.Claimed }
 {
     for ag in 0..g.agcount {
         uses[g.start_of_group(ag) as usize] = Use::Claimed;

@@ -2,14 +2,14 @@
 
 ghost use Rattle.std.specs.Prelude.{◌≡◌, ◌≤◌, ◌<◌, ◌*◌, ◌^◌, ◌⊎◌, ℕ, List, length, slice_index_or, All, IfOk, IfErr, MatchOption, None, Some};
 ghost use Rattle.xfs_geom.specs.Volumes.{volume_of};
-ghost use Rattle.xfs_place.specs.Choice.{IsChosen};
-ghost use Rattle.xfs_place.specs.Placing.{IsPlaced, inner_blocks};
+ghost use Rattle.xfs_place.specs.Choice.{IsChosenCount};
+ghost use Rattle.xfs_place.specs.Placing.{IsPlacedGroup, inner_blocks};
 ghost use Rattle.xfs_place.specs.Standing.{AreOfPool};
 ghost use Rattle.xfs_place.specs.Pool.{Shows, use_of};
-ghost use Rattle.xfs_place.specs.Wanted.{AreAllClaims, AreKept, ArePlaced, IsWithoutRoom, group_in};
+ghost use Rattle.xfs_place.specs.Wanted.{AreAllClaims, CanBeKept, ArePlaced, IsWithoutRoom, group_in};
 
 use crate::claims::{list_claims, list_group};
-use crate::faults::{Place, PlaceFault};
+use crate::faults::{Unplaced, PlaceFault};
 use crate::group_placing::place_group;
 use crate::placed::GroupPlaced;
 use crate::uses::{Use, list_uses};
@@ -29,13 +29,13 @@ pub fn place_groups(
     reserved: &[u64],
     inodes: &[GroupInodes],
 ) -> Result<Vec<GroupPlaced>, PlaceFault>
-    requires kept { AreKept (volume_of g.now) kept.now }
+    requires kept { CanBeKept (volume_of g.now) kept.now }
     requires inodes { length inodes.now ≡ g.now.agcount }
     requires few { All (λ group. length group.records < 2 ^ 32) inodes.now }
     ensures placed { IfOk result (λ groups. ArePlaced (volume_of g.now) kept.now reserved.now inodes.now g.now.agcount groups.items) }
     ensures pool { IfOk result (λ groups. AreOfPool (volume_of g.now) kept.now reserved.now inodes.now g.now.agcount groups.items) }
     ensures cause { IfErr result (λ fault. (fault ≡ PlaceFault.NoMemory)
-        ⊎ ((ag : ℕ) × (fault ≡ PlaceFault.NoRoom (Place.Group ag)) × IsWithoutRoom (volume_of g.now) kept.now reserved.now inodes.now ag)) }
+        ⊎ ((ag : ℕ) × (fault ≡ PlaceFault.NoRoom (Unplaced.Group ag)) × IsWithoutRoom (volume_of g.now) kept.now reserved.now inodes.now ag)) }
 {
     let uses = list_uses(alloc, g, kept, reserved)?;
     let claims = list_claims(alloc, g, kept)?;
@@ -50,7 +50,7 @@ pub fn place_groups(
     for ag in 0..g.agcount {
         let Some(placed) = place_one(alloc, &work, ag, inodes[ag as usize].records.as_slice())?
         else {
-            return Err(PlaceFault::NoRoom(Place::Group(ag)));
+            return Err(PlaceFault::NoRoom(Unplaced::Group(ag)));
         };
         groups.push(placed)?;
     }
@@ -79,12 +79,12 @@ fn place_one(
 ) -> Result<Option<GroupPlaced>, NoMemory>
     requires group { ag < work.now.geometry.now.agcount }
     requires few { length inodes.now < 2 ^ 32 }
-    requires kept { AreKept (volume_of work.now.geometry.now) work.now.kept.now }
+    requires kept { CanBeKept (volume_of work.now.geometry.now) work.now.kept.now }
     requires uses { Shows work.now.uses.now work.now.geometry.now.dblocks (use_of (volume_of work.now.geometry.now) work.now.kept.now work.now.reserved.now) }
     requires claims { AreAllClaims (volume_of work.now.geometry.now) work.now.kept.now work.now.claims.now }
     ensures { IfOk result (λ placed. MatchOption placed
-        (IsChosen (group_in (volume_of work.now.geometry.now) work.now.kept.now work.now.reserved.now ag (inner_blocks inodes.now)) None)
-        (IsPlaced (group_in (volume_of work.now.geometry.now) work.now.kept.now work.now.reserved.now ag (inner_blocks inodes.now)) (ag * work.now.geometry.now.agblocks) inodes.now)) }
+        (IsChosenCount (group_in (volume_of work.now.geometry.now) work.now.kept.now work.now.reserved.now ag (inner_blocks inodes.now)) None)
+        (IsPlacedGroup (group_in (volume_of work.now.geometry.now) work.now.kept.now work.now.reserved.now ag (inner_blocks inodes.now)) (ag * work.now.geometry.now.agblocks) inodes.now)) }
 {
     let base = work.geometry.start_of_group(ag);
     let blocks = work.geometry.group_length(ag) as u64;

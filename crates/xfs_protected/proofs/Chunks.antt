@@ -4,16 +4,17 @@ use Rattle.std.specs.List.{flat_map}
 use Rattle.std.proofs.lemmas.Bool.{and_parts, eqb-true, or_cases}
 use Rattle.std.proofs.lemmas.Bool.Decides.{nat_tests}
 use Rattle.std.proofs.lemmas.List.{map-append}
+use Rattle.xfs_kinds.specs.Owners.{headers_owner}
+use Rattle.xfs_geom.specs.Runs.{covers, runs_on}
 use Rattle.xfs_geom.specs.Volumes.{Volume}
 use Rattle.xfs_geom.specs.declared.records.InoRec.{InoRec}
 use Rattle.xfs_geom.specs.declared.records.Run.{Run}
 use Rattle.xfs_tree.specs.Rules.{are_lawful}
 use Rattle.xfs_kinds.specs.Groups.{lies_in_group}
-use Rattle.xfs_kinds.specs.InodeTrees.{ascends_inode, fits_chunk, has_count, ino_shape, is_chunk, is_clear, is_first_inode, is_holemask, is_missing}
+use Rattle.xfs_kinds.specs.InodeTrees.{ascends_inode, fits_chunk, has_count, ino_shape, is_chunk, is_chunk_clear, is_first_inode, is_holemask, is_missing}
 use Rattle.xfs_volume.specs.declared.groups.GroupRec.{GroupRec}
-use Rattle.xfs_space.specs.Owners.{cluster_run, cluster_runs, clusters_of, group_runs, groups_runs, headers_owner, listed_runs, run, tree_owners, tree_runs}
+use Rattle.xfs_space.specs.Owners.{cluster_run, cluster_runs, clusters_of_chunk, group_runs, groups_runs, listed_runs, run, tree_owners, tree_runs}
 use Rattle.xfs_space.specs.Parts.{AreGroups}
-use Rattle.xfs_space.specs.SpaceLaws.{covers, runs_on}
 use Rattle.xfs_image.specs.Claims.{is_of_cluster}
 use Rattle.xfs_image.specs.Clusters.{chunk_clusters, clusters_in}
 use Rattle.xfs_image.specs.Files.{clusters_from}
@@ -42,7 +43,7 @@ moved true false base p = let e : base + p + 4 ≡ base + (p + 4) = omega arith 
 moved false true base p = refl
 moved false false base p = let e : base + p + 4 ≡ base + (p + 4) = omega arith in ap (λ (n : ℕ). (base + p) ∷ n ∷ []) e
 
-clusters_moved : (base : ℕ) (r : InoRec) → is_holemask r.holemask ≡ true → clusters_in base r ≡ map (λ k. base + k) (clusters_of r)
+clusters_moved : (base : ℕ) (r : InoRec) → is_holemask r.holemask ≡ true → clusters_in base r ≡ map (λ k. base + k) (clusters_of_chunk r)
 clusters_moved base r is =
     let half = halves r.holemask is in
     ap₂ (λ (a b : Bool). (if a then [] else ((base + r.startino / 8) ∷ [])) ++ (if b then [] else ((base + r.startino / 8 + 4) ∷ []))) half.first half.second
@@ -61,7 +62,7 @@ lawful_chunk v ag before r lawful =
     let first = is_first_inode r.startino in
     let lies = lies_in_group v ag (r.startino / 8) 8 in
     let a = and_parts (is_chunk v ag r) (ascends_inode before r) lawful in
-    let b = and_parts (fits && count && first && lies) (is_clear v ag r) a.0 in
+    let b = and_parts (fits && count && first && lies) (is_chunk_clear v ag r) a.0 in
     let c = and_parts (fits && count && first) lies b.0 in
     let d = and_parts (fits && count) first c.0 in
     let e = and_parts fits count d.0 in
@@ -72,19 +73,19 @@ lawful_chunk v ag before r lawful =
     record { mask = i.1; first = d.1; lies = c.1 }
 
 pub chunks_moved : (v : Volume) (ag base : ℕ) (before : Option InoRec) (rs : List InoRec) → are_lawful (ino_shape ag) v before rs ≡ true
-    → flat_map (clusters_in base) rs ≡ map (λ k. base + k) (flat_map clusters_of rs)
+    → flat_map (clusters_in base) rs ≡ map (λ k. base + k) (flat_map clusters_of_chunk rs)
 chunks_moved v ag base before [] lawful = refl
 chunks_moved v ag base before (r ∷ rs) lawful =
     let parts = and_parts (is_chunk v ag r && ascends_inode before r) (are_lawful (ino_shape ag) v (Some r) rs) lawful in
     ap₂ (λ (xs ys : List ℕ). xs ++ ys) (clusters_moved base r (lawful_chunk v ag before r parts.0).mask) (chunks_moved v ag base (Some r) rs parts.1)
-    ∙ sym (map-append (λ k. base + k) (clusters_of r) (flat_map clusters_of rs))
+    ∙ sym (map-append (λ k. base + k) (clusters_of_chunk r) (flat_map clusters_of_chunk rs))
 
 -- a block of a cluster of a group's chunks is one of its runs
 pub group_cluster_on : (v : Volume) (ag base x b : ℕ) (rs : List InoRec) → are_lawful (ino_shape ag) v None rs ≡ true → Member x (flat_map (clusters_in base) rs) → is_of_cluster x b ≡ true
     → 1 ≤ runs_on (cluster_runs base rs) b
 group_cluster_on v ag base x b rs lawful is on =
-    let of = map_member (λ k. base + k) x (flat_map clusters_of rs) (subst (λ (xs : List ℕ). Member x xs) (chunks_moved v ag base None rs lawful) is) in
-    member_on (cluster_run base of.0) (cluster_runs base rs) b (member_map (cluster_run base) of.0 (flat_map clusters_of rs) of.1)
+    let of = map_member (λ k. base + k) x (flat_map clusters_of_chunk rs) (subst (λ (xs : List ℕ). Member x xs) (chunks_moved v ag base None rs lawful) is) in
+    member_on (cluster_run base of.0) (cluster_runs base rs) b (member_map (cluster_run base) of.0 (flat_map clusters_of_chunk rs) of.1)
     (subst (λ (n : ℕ). is_of_cluster n b ≡ true) (sym of.2) on)
 
 -- what a group owns in front of its clusters

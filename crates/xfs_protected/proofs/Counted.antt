@@ -2,8 +2,8 @@
 use Rattle.std.proofs.Common.{◌≡◌, ◌≢◌, ℕ, Bool, true, cond, ◌+◌, ◌≤◌, inl, inr, List, [], ◌∷◌, ◌++◌, refl, sym, ◌∙◌, ap, arith}
 use Rattle.std.specs.List.{flat_map, list_any}
 use Rattle.std.proofs.lemmas.List.Sums.{sum_by-append}
+use Rattle.xfs_geom.specs.Runs.{covers, runs_on}
 use Rattle.xfs_geom.specs.declared.records.Run.{Run}
-use Rattle.xfs_space.specs.SpaceLaws.{covers, runs_on}
 use Rattle.xfs_space.proofs.Shared.{on-cons}
 use Rattle.xfs_protected.proofs.Members.{Member, any_member}
 

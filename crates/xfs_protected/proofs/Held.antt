@@ -3,14 +3,15 @@ use Rattle.std.proofs.Common.{◌≡◌, ◌⊎◌, ℕ, Bool, true, false, ◌+
 use Rattle.std.proofs.Math.Nat.{mul-le-mul_right}
 use Rattle.std.proofs.lemmas.Bool.{and_parts, cases_eq, cases_lt, leb-true, ltb-true}
 use Rattle.std.proofs.lemmas.List.Elements.{recursion_from_All}
+use Rattle.xfs_geom.specs.Runs.{covers, runs_on}
 use Rattle.xfs_disk.specs.Blocks.{Image}
 use Rattle.xfs_geom.specs.Volumes.{Volume, volume_of}
 use Rattle.xfs_geom.specs.declared.geometry.Geometry.{Geometry}
 use Rattle.xfs_geom.specs.declared.records.Run.{Run}
-use Rattle.xfs_kinds.specs.MergedRuns.{held_at, word_at}
+use Rattle.xfs_kinds.specs.MergedRuns.{held_at, offset_word_at}
 use Rattle.xfs_volume.specs.declared.groups.GroupRec.{GroupRec}
-use Rattle.xfs_space.specs.Parts.{AreGroups, IsGroup}
-use Rattle.xfs_space.specs.SpaceLaws.{covers, recorded_run, recorded_runs, runs_on}
+use Rattle.xfs_space.specs.Parts.{AreGroups, IsLawfulGroup}
+use Rattle.xfs_space.specs.SpaceLaws.{recorded_run, recorded_runs}
 use Rattle.xfs_space.proofs.RecordedMaps.{ends_by, group_inside, mapped_group, starts_from}
 use Rattle.xfs_space.proofs.Shared.{follow_once, on-cons}
 use Rattle.xfs_space.proofs.Splits.{EndsBy, StartsFrom, none_on_back, none_on_front}
@@ -26,7 +27,7 @@ use Rattle.xfs_protected.proofs.Places.{as_placed, chunk_in, chunked, group_is, 
 pub record IsHeldBy (rs : List Run) (b : ℕ) (r : Run) : Type 0 where
   pub is : Member r rs
   pub on : covers b r ≡ true
-  pub held : held_at rs b ≡ Some (r.owner, word_at r b)
+  pub held : held_at rs b ≡ Some (r.owner, offset_word_at r b)
 
 pub held_of : (rs : List Run) (b : ℕ) → (held_at rs b ≡ None) ⊎ ((r : Run) × IsHeldBy rs b r)
 held_of [] b = inl refl
@@ -41,15 +42,15 @@ held_of (r ∷ rs) b = by_case (covers b r) refl (held_of rs b)
         ]
 
 -- where no more than one run has the block, that is each that has it
-pub held_member : (r : Run) (rs : List Run) (b : ℕ) → Member r rs → covers b r ≡ true → runs_on rs b ≤ 1 → held_at rs b ≡ Some (r.owner, word_at r b)
+pub held_member : (r : Run) (rs : List Run) (b : ℕ) → Member r rs → covers b r ≡ true → runs_on rs b ≤ 1 → held_at rs b ≡ Some (r.owner, offset_word_at r b)
 held_member r [] b is on most = absurd is
 held_member r (x ∷ xs) b is on most =
     elim is [
-      | inl same ↦ subst (λ (y : Run). held_at (x ∷ xs) b ≡ Some (y.owner, word_at y b)) same (let e : covers b x ≡ true = ap (covers b) same ∙ on in rw e refl)
+      | inl same ↦ subst (λ (y : Run). held_at (x ∷ xs) b ≡ Some (y.owner, offset_word_at y b)) same (let e : covers b x ≡ true = ap (covers b) same ∙ on in rw e refl)
       | inr there ↦ by_case (covers b x) refl there (λ few. held_member r xs b there on few)
     ]
   where
-    by_case : (t : Bool) → covers b x ≡ t → Member r xs → (runs_on xs b ≤ 1 → held_at xs b ≡ Some (r.owner, word_at r b)) → held_at (x ∷ xs) b ≡ Some (r.owner, word_at r b)
+    by_case : (t : Bool) → covers b x ≡ t → Member r xs → (runs_on xs b ≤ 1 → held_at xs b ≡ Some (r.owner, offset_word_at r b)) → held_at (x ∷ xs) b ≡ Some (r.owner, offset_word_at r b)
     by_case true e there rest =
         let all = on_head x xs b e in
         let more = member_on r xs b there on in
@@ -85,7 +86,7 @@ once_recorded g ag b (one ∷ gs) few are =
 pub record HasGroup (g : Geometry) (image : Image) (a : ℕ) (gs : List GroupRec) (n : ℕ) : Type 0 where
   pub group : GroupRec
   pub read : IsGroupRead (volume_of g) image n group
-  pub is : IsGroup (volume_of g) n group
+  pub is : IsLawfulGroup (volume_of g) n group
   pub clusters : (x : ℕ) → Member x (chunk_clusters (volume_of g) n group.ino) → Member x (clusters_from (volume_of g) a gs)
   pub clusters_back : (x : ℕ) → Member x (clusters_from (volume_of g) a gs) → x / g.agblocks ≡ n → Member x (chunk_clusters (volume_of g) n group.ino)
   pub records : (r : Run) → Member r (map (recorded_run (n * g.agblocks)) group.rmap) → Member r (recorded_runs g.agblocks (a * g.agblocks) gs)
@@ -95,7 +96,7 @@ pub record HasGroup (g : Geometry) (image : Image) (a : ℕ) (gs : List GroupRec
 covers_parts : (b : ℕ) (r : Run) → covers b r ≡ true → (r.start ≤ b) × (b < r.start + r.count)
 covers_parts b r on = let both = and_parts (nat_le r.start b) (nat_lt b (r.start + r.count)) on in (leb-true r.start b both.0, ltb-true b (r.start + r.count) both.1)
 
-cluster_group : (g : Geometry) (a x : ℕ) (one : GroupRec) → IsGroup (volume_of g) a one → Member x (chunk_clusters (volume_of g) a one.ino) → x / g.agblocks ≡ a
+cluster_group : (g : Geometry) (a x : ℕ) (one : GroupRec) → IsLawfulGroup (volume_of g) a one → Member x (chunk_clusters (volume_of g) a one.ino) → x / g.agblocks ≡ a
 cluster_group g a x one is here =
     let of = chunk_in (volume_of g) a (head_block (volume_of g) a) x None one.ino is.ino here in
     group_is g x (as_placed g a x (chunked g a x of.chunk of.lawful of.is))
@@ -106,7 +107,7 @@ cluster_later g a x gs are is =
     let at = group_is g x (as_placed g (a + of.j) x (chunked g (a + of.j) x of.chunk of.lawful of.is)) in
     omega (arith, at)
 
-first_group : (g : Geometry) (image : Image) (a : ℕ) (one : GroupRec) (gs : List GroupRec) → IsGroupRead (volume_of g) image a one → IsGroup (volume_of g) a one → AreGroups (volume_of g) (a + 1) gs
+first_group : (g : Geometry) (image : Image) (a : ℕ) (one : GroupRec) (gs : List GroupRec) → IsGroupRead (volume_of g) image a one → IsLawfulGroup (volume_of g) a one → AreGroups (volume_of g) (a + 1) gs
     → HasGroup g image a (one ∷ gs) a
 first_group g image a one gs read is are =
     let v : Volume = volume_of g in
@@ -134,7 +135,7 @@ first_group g image a one gs read is are =
           ];
     }
 
-later_group : (g : Geometry) (image : Image) (a n : ℕ) (one : GroupRec) (gs : List GroupRec) → a + 1 ≤ n → IsGroup (volume_of g) a one → HasGroup g image (a + 1) gs n → HasGroup g image a (one ∷ gs) n
+later_group : (g : Geometry) (image : Image) (a n : ℕ) (one : GroupRec) (gs : List GroupRec) → a + 1 ≤ n → IsLawfulGroup (volume_of g) a one → HasGroup g image (a + 1) gs n → HasGroup g image a (one ∷ gs) n
 later_group g image a n one gs behind is rest =
     let v : Volume = volume_of g in
     let base : ℕ = a * g.agblocks in

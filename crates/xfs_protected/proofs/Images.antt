@@ -3,28 +3,29 @@ use Rattle.std.proofs.Common.{◌≡◌, ℕ, Bool, true, false, ◌+◌, ◌-�
 use Rattle.std.specs.List.{filter, range_with_len}
 use Rattle.std.proofs.lemmas.Bool.{and_from, and_parts, eq-eqb, eqb-true, leb-true, ltb-true, or_left, or_right}
 use Rattle.std.proofs.lemmas.Nat.{mod-mul-add}
+use Rattle.xfs_disk.specs.Lists.{is_in_range, is_among}
 use Rattle.xfs_disk.specs.Blocks.{Image}
 use Rattle.xfs_geom.specs.Conversions.{group_length, inode_of, is_fixed}
 use Rattle.xfs_geom.specs.Volumes.{Volume, volume_of}
 use Rattle.xfs_geom.specs.declared.geometry.Geometry.{Geometry}
 use Rattle.xfs_geom.specs.declared.records.Run.{Run}
-use Rattle.xfs_runs.specs.Blocks.{is_block, is_in}
+use Rattle.xfs_runs.specs.Blocks.{is_in}
 use Rattle.xfs_inode.specs.declared.files.FileRead.{FileRead}
 use Rattle.xfs_inode.specs.declared.files.FileRead.TheVariants as Reads
 use Rattle.xfs_volume.specs.declared.clusters.ClusterRec.{ClusterRec}
 use Rattle.xfs_volume.specs.declared.files.FileRec.{FileRec}
 use Rattle.xfs_space.proofs.FreeSpans.{group_short}
-use Rattle.xfs_claims.specs.Keeping.{is_among, kept_of}
+use Rattle.xfs_claims.specs.Keeping.{kept_of}
 use Rattle.xfs_claims.specs.Ranks as Ranks
 use Rattle.xfs_claims.specs.Spans.{spans_of}
 use Rattle.xfs_image.proofs.Ascending.{candidates_ascend}
 use Rattle.xfs_image.proofs.Roots.{root_candidate, root_recorded}
-use Rattle.xfs_image.specs.Candidates.{all_places, candidates, cluster_rec, is_candidate}
-use Rattle.xfs_image.specs.Claims.{AreApart, candidate_files, candidate_inodes, file_if, is_candidate_inode}
+use Rattle.xfs_image.specs.Candidates.{possible_clusters, candidates, cluster_rec, is_candidate}
+use Rattle.xfs_image.specs.Claims.{AreDisjointSets, candidate_files, candidate_inodes, file_if, is_candidate_inode}
 use Rattle.xfs_image.specs.Clusters.{cluster_of, is_recorded, places_in, root_cluster}
 use Rattle.xfs_image.specs.Groups.{head_block}
 use Rattle.xfs_image.specs.Keeping.{Protected}
-use Rattle.xfs_image.specs.Slots.{cluster_blocks, cluster_inodes, inodes_in, reads_as}
+use Rattle.xfs_image.specs.Slots.{cluster_blocks, cluster_inodes, inodes_of_block, reads_as}
 use Rattle.xfs_views.proofs.Files.{file_sound}
 use Rattle.xfs_protected.specs.Claimed.{IsGuardedFile, file_claim, fixed_runs, header_run, image_claims}
 use Rattle.xfs_protected.specs.Guarded.{has_cluster}
@@ -41,7 +42,7 @@ run_fixed g block r is on =
       | inl same ↦ or_right (block % v.agblocks == 0) (nat_le v.log block && nat_lt block (v.log + v.logblocks)) (subst (λ (x : Run). covers block x ≡ true) (sym same) on)
       | inr head ↦
           let from = map_member (header_run v) r (range_with_len 0 v.agcount) head in
-          let on_head : is_block (from.0 * v.agblocks) 1 block ≡ true = subst (λ (x : Run). covers block x ≡ true) (sym from.2) on in
+          let on_head : is_in_range (from.0 * v.agblocks) 1 block ≡ true = subst (λ (x : Run). covers block x ≡ true) (sym from.2) on in
           let parts = and_parts (nat_le (from.0 * v.agblocks) block) (nat_lt block (from.0 * v.agblocks + 1)) on_head in
           let low = leb-true (from.0 * v.agblocks) block parts.0 in
           let high = ltb-true block (from.0 * v.agblocks + 1) parts.1 in
@@ -51,7 +52,7 @@ run_fixed g block r is on =
           or_left (block % v.agblocks == 0) (nat_le v.log block && nat_lt block (v.log + v.logblocks)) (eq-eqb (block % v.agblocks) 0 none)
     ]
 
-fixed_in : (g : Geometry) (blocks : ℕ → Bool) → AreApart blocks (is_fixed (volume_of g)) → AreApart blocks (is_in (spans_of (fixed_runs (volume_of g))))
+fixed_in : (g : Geometry) (blocks : ℕ → Bool) → AreDisjointSets blocks (is_fixed (volume_of g)) → AreDisjointSets blocks (is_in (spans_of (fixed_runs (volume_of g))))
 fixed_in g blocks apart block e = by_case (is_in (spans_of (fixed_runs (volume_of g))) block) refl
   where
     by_case : (t : Bool) → is_in (spans_of (fixed_runs (volume_of g))) block ≡ t → t ≡ false
@@ -65,8 +66,8 @@ pub candidate_placed : (g : Geometry) (image : Image) (c : ClusterRec) → Membe
 unfolding candidates
 candidate_placed g image c is =
     let v : Volume = volume_of g in
-    let of = map_member (cluster_rec v image) c (filter (is_candidate v image) (all_places v)) is in
-    let among = filter_member (is_candidate v image) of.0 (all_places v) of.1 in
+    let of = map_member (cluster_rec v image) c (filter (is_candidate v image) (possible_clusters v)) is in
+    let among = filter_member (is_candidate v image) of.0 (possible_clusters v) of.1 in
     let group = flat_member (λ ag. map (λ place. head_block v ag + place) (places_in v ag)) of.0 (range_with_len 0 v.agcount) among.0 in
     let place = map_member (λ place. head_block v group.0 + place) of.0 (places_in v group.0) group.2 in
     let index = map_member (λ i. 4 * i) place.0 (range_with_len 0 (group_length v group.0 / 4)) place.1 in
@@ -88,11 +89,11 @@ pub candidate_is : (g : Geometry) (image : Image) (c : ClusterRec) → Member c 
 unfolding candidates
 candidate_is g image c is =
     let v : Volume = volume_of g in
-    let of = map_member (cluster_rec v image) c (filter (is_candidate v image) (all_places v)) is in
-    let among = filter_member (is_candidate v image) of.0 (all_places v) of.1 in
+    let of = map_member (cluster_rec v image) c (filter (is_candidate v image) (possible_clusters v)) is in
+    let among = filter_member (is_candidate v image) of.0 (possible_clusters v) of.1 in
     ap (λ (x : ClusterRec). is_candidate v image x.block) (sym of.2) ∙ among.1
 
-place_member : (g : Geometry) (cluster : ℕ) → IsPlaced g cluster → Member cluster (all_places (volume_of g))
+place_member : (g : Geometry) (cluster : ℕ) → IsPlaced g cluster → Member cluster (possible_clusters (volume_of g))
 place_member g cluster at =
     let v : Volume = volume_of g in
     let inside = at.inside in
@@ -101,10 +102,10 @@ place_member g cluster at =
     let block : Member (head_block v at.ag + 4 * at.i) (map (λ place. head_block v at.ag + place) (places_in v at.ag)) =
     member_map (λ place. head_block v at.ag + place) (4 * at.i) (places_in v at.ag) place in
     let group = at.group in
-    let here : Member (head_block v at.ag + 4 * at.i) (all_places v) =
+    let here : Member (head_block v at.ag + 4 * at.i) (possible_clusters v) =
     member_flat (λ ag. map (λ place. head_block v ag + place) (places_in v ag)) at.ag (head_block v at.ag + 4 * at.i) (range_with_len 0 v.agcount)
     (member_row at.ag 0 v.agcount (omega arith) (omega (arith, group))) block in
-    subst (λ (n : ℕ). Member n (all_places v)) (sym at.is) here
+    subst (λ (n : ℕ). Member n (possible_clusters v)) (sym at.is) here
 
 -- a cluster that is one whose slots are read stands among the candidates
 pub candidate_member : (g : Geometry) (image : Image) (cluster : ℕ) → IsPlaced g cluster → is_candidate (volume_of g) image cluster ≡ true
@@ -112,10 +113,10 @@ pub candidate_member : (g : Geometry) (image : Image) (cluster : ℕ) → IsPlac
 unfolding candidates
 candidate_member g image cluster at is =
     let v : Volume = volume_of g in
-    member_map (cluster_rec v image) cluster (filter (is_candidate v image) (all_places v))
-    (member_filter (is_candidate v image) cluster (all_places v) (place_member g cluster at) is)
+    member_map (cluster_rec v image) cluster (filter (is_candidate v image) (possible_clusters v))
+    (member_filter (is_candidate v image) cluster (possible_clusters v) (place_member g cluster at) is)
 
-root_among : (g : Geometry) (image : Image) → Ranks.is_recorded (candidates (volume_of g) image) (root_cluster (volume_of g)) ≡ true
+root_among : (g : Geometry) (image : Image) → Ranks.is_recorded_cluster (candidates (volume_of g) image) (root_cluster (volume_of g)) ≡ true
 root_among g image =
     let v : Volume = volume_of g in
     member_any (λ (c : ClusterRec). c.recorded && c.block == root_cluster v) (cluster_rec v image (root_cluster v)) (candidates v image)
@@ -127,7 +128,7 @@ pub inode_cluster : (g : Geometry) (cluster ino : ℕ) → IsPlaced g cluster �
 unfolding cluster_inodes
 inode_cluster g cluster ino at is =
     let v : Volume = volume_of g in
-    let in_block = flat_member (inodes_in v) ino (cluster_blocks cluster) is in
+    let in_block = flat_member (inodes_of_block v) ino (cluster_blocks cluster) is in
     let slot = map_member (inode_of v in_block.0) ino (range_with_len 0 8) in_block.2 in
     let b = row_member in_block.0 cluster 4 in_block.1 in
     let s = row_member slot.0 0 8 slot.1 in

@@ -2,37 +2,38 @@
 use Rattle.std.proofs.Common.{◌≡◌, ℕ, Bool, true, false, not, cond, ◌+◌, ◌⊎◌, inl, inr, ◌==◌, nat_le, nat_lt, List, [], ◌∷◌, refl, sym, ◌∙◌, subst}
 use Rattle.std.specs.List.{AllByRecursion}
 use Rattle.std.proofs.lemmas.Bool.{and_from, eq-eqb, le-leb, lt-ltb, not_from_false, or_from, or_left, or_right}
-use Rattle.xfs_runs.specs.Blocks.{has, is_block, is_in, meets}
+use Rattle.xfs_disk.specs.Lists.{is_in_range, is_among}
+use Rattle.xfs_runs.specs.Blocks.{run_has, is_in, meets}
 use Rattle.xfs_runs.proofs.Meeting.{meets_none}
 use Rattle.xfs_claims.specs.declared.claimants.FileClaim.{FileClaim}
-use Rattle.xfs_claims.specs.Keeping.{Holding, cluster_span, is_among, is_kept, with_cluster, with_clusters, with_file, with_files, with_number}
+use Rattle.xfs_claims.specs.Keeping.{Holding, cluster_span, is_kept, with_cluster, with_clusters, with_file, with_files, with_number}
 use Rattle.xfs_claims.specs.Spans.{meets_any, spans_of, with_blocks}
 use Rattle.xfs_claims.proofs.Numbers.{among_more}
-use Rattle.xfs_image.specs.Claims.{AreApart, is_of_cluster}
+use Rattle.xfs_image.specs.Claims.{AreDisjointSets, is_of_cluster}
 use Rattle.xfs_protected.specs.Guarded.{claimed_by}
 use Rattle.xfs_protected.proofs.Members.{Member}
 
 -- what has no block in common with a set does not meet it
-cluster_off : (k : ℕ) (set : ℕ → Bool) → AreApart (is_of_cluster k) set → meets set k 4 ≡ false
+cluster_off : (k : ℕ) (set : ℕ → Bool) → AreDisjointSets (is_of_cluster k) set → meets set k 4 ≡ false
 cluster_off k set apart = meets_none set k 4 (λ b low high. apart b (and_from (nat_le k b) (nat_lt b (k + 4)) (le-leb k b low) (lt-ltb b (k + 4) high)))
 
-spans_off : (spans : List (ℕ × ℕ)) (set : ℕ → Bool) → AreApart (is_in spans) set → meets_any set spans ≡ false
+spans_off : (spans : List (ℕ × ℕ)) (set : ℕ → Bool) → AreDisjointSets (is_in spans) set → meets_any set spans ≡ false
 spans_off [] set apart = refl
 spans_off (run ∷ rest) set apart =
     or_from (meets set run.0 run.1) (meets_any set rest)
     (meets_none set run.0 run.1
-    (λ b low high. apart b (or_left (has b run) (is_in rest b) (and_from (nat_le run.0 b) (nat_lt b (run.0 + run.1)) (le-leb run.0 b low) (lt-ltb b (run.0 + run.1) high)))))
-    (spans_off rest set (λ b e. apart b (or_right (has b run) (is_in rest b) e)))
+    (λ b low high. apart b (or_left (run_has b run) (is_in rest b) (and_from (nat_le run.0 b) (nat_lt b (run.0 + run.1)) (le-leb run.0 b low) (lt-ltb b (run.0 + run.1) high)))))
+    (spans_off rest set (λ b e. apart b (or_right (run_has b run) (is_in rest b) e)))
 
 -- some blocks stay apart from what is held where they are apart from what is looked at
-cluster_leaves : (blocks : ℕ → Bool) (held : Holding) (j : ℕ) → AreApart blocks held.blocks → AreApart blocks (is_of_cluster j) → AreApart blocks (with_cluster held j).blocks
+cluster_leaves : (blocks : ℕ → Bool) (held : Holding) (j : ℕ) → AreDisjointSets blocks held.blocks → AreDisjointSets blocks (is_of_cluster j) → AreDisjointSets blocks (with_cluster held j).blocks
 cluster_leaves blocks held j apart other b e = by_case (meets held.blocks j 4)
   where
     by_case : (t : Bool) → (cond t held (record { blocks = with_blocks held.blocks (cluster_span j); clusters = with_number j held.clusters; files = held.files })).blocks b ≡ false
     by_case true = apart b e
-    by_case false = or_from (is_in (cluster_span j) b) (held.blocks b) (or_from (is_block j 4 b) false (other b e) refl) (apart b e)
+    by_case false = or_from (is_in (cluster_span j) b) (held.blocks b) (or_from (is_in_range j 4 b) false (other b e) refl) (apart b e)
 
-file_leaves : (blocks : ℕ → Bool) (held : Holding) (g : FileClaim) → AreApart blocks held.blocks → AreApart blocks (claimed_by g) → AreApart blocks (with_file held g).blocks
+file_leaves : (blocks : ℕ → Bool) (held : Holding) (g : FileClaim) → AreDisjointSets blocks held.blocks → AreDisjointSets blocks (claimed_by g) → AreDisjointSets blocks (with_file held g).blocks
 file_leaves blocks held g apart other b e = by_case (is_kept held g)
   where
     by_case : (t : Bool) → (cond t (record { blocks = with_blocks held.blocks (spans_of g.runs); clusters = held.clusters; files = with_number g.ino held.files }) held).blocks b ≡ false
@@ -75,10 +76,10 @@ file_stays_on ino held g is = by_case (is_kept held g)
     by_case false = is
 
 -- a cluster, and a file, that meets nothing is kept
-cluster_taken : (held : Holding) (j : ℕ) → AreApart (is_of_cluster j) held.blocks → is_among (with_cluster held j).clusters j ≡ true
+cluster_taken : (held : Holding) (j : ℕ) → AreDisjointSets (is_of_cluster j) held.blocks → is_among (with_cluster held j).clusters j ≡ true
 cluster_taken held j apart = rw (cluster_off j held.blocks apart) (one_number j j held.clusters refl)
 
-kept_alone : (held : Holding) (g : FileClaim) → is_among held.clusters g.cluster ≡ true → AreApart (claimed_by g) held.blocks → is_kept held g ≡ true
+kept_alone : (held : Holding) (g : FileClaim) → is_among held.clusters g.cluster ≡ true → AreDisjointSets (claimed_by g) held.blocks → is_kept held g ≡ true
 kept_alone held g stands apart = and_from (is_among held.clusters g.cluster) (not (meets_any held.blocks (spans_of g.runs))) stands (not_from_false (meets_any held.blocks (spans_of g.runs)) (spans_off (spans_of g.runs) held.blocks apart))
 
 file_taken : (held : Holding) (g : FileClaim) → is_kept held g ≡ true → is_among (with_file held g).files g.ino ≡ true
@@ -86,17 +87,17 @@ file_taken held g kept = rw kept (one_number g.ino g.ino held.files refl)
 
 -- the cluster is kept, or nothing that is held has a block of it; likewise the file
 abbrev pub ClusterSafe : ℕ → Holding → Type 0
-ClusterSafe k held = (is_among held.clusters k ≡ true) ⊎ AreApart (is_of_cluster k) held.blocks
+ClusterSafe k held = (is_among held.clusters k ≡ true) ⊎ AreDisjointSets (is_of_cluster k) held.blocks
 
 abbrev pub FileSafe : FileClaim → Holding → Type 0
-FileSafe f held = (is_among held.files f.ino ≡ true) ⊎ AreApart (claimed_by f) held.blocks
+FileSafe f held = (is_among held.files f.ino ≡ true) ⊎ AreDisjointSets (claimed_by f) held.blocks
 
 -- another cluster is this one or has no block of it; another file has the same number or claims no block of it
 abbrev pub OtherCluster : ℕ → ℕ → Type 0
-OtherCluster k j = (j ≡ k) ⊎ AreApart (is_of_cluster k) (is_of_cluster j)
+OtherCluster k j = (j ≡ k) ⊎ AreDisjointSets (is_of_cluster k) (is_of_cluster j)
 
 abbrev pub OtherFile : FileClaim → FileClaim → Type 0
-OtherFile f g = (g.ino ≡ f.ino) ⊎ AreApart (claimed_by f) (claimed_by g)
+OtherFile f g = (g.ino ≡ f.ino) ⊎ AreDisjointSets (claimed_by f) (claimed_by g)
 
 cluster_by_cluster : (k : ℕ) (held : Holding) (j : ℕ) → OtherCluster k j → ClusterSafe k held → ClusterSafe k (with_cluster held j)
 cluster_by_cluster k held j other safe =
@@ -112,7 +113,7 @@ pub cluster_by_clusters : (k : ℕ) (held : Holding) (js : List ℕ) → AllByRe
 cluster_by_clusters k held [] others safe = safe
 cluster_by_clusters k held (j ∷ js) others safe = cluster_by_clusters k (with_cluster held j) js others.1 (cluster_by_cluster k held j others.0 safe)
 
-pub cluster_by_files : (k : ℕ) (held : Holding) (gs : List FileClaim) → AllByRecursion (λ g. AreApart (is_of_cluster k) (claimed_by g)) gs → ClusterSafe k held → ClusterSafe k (with_files held gs)
+pub cluster_by_files : (k : ℕ) (held : Holding) (gs : List FileClaim) → AllByRecursion (λ g. AreDisjointSets (is_of_cluster k) (claimed_by g)) gs → ClusterSafe k held → ClusterSafe k (with_files held gs)
 cluster_by_files k held [] others safe = safe
 cluster_by_files k held (g ∷ gs) others safe = cluster_by_files k (with_file held g) gs others.1 next
   where
@@ -147,7 +148,7 @@ clusters_stay_on k held [] is = is
 clusters_stay_on k held (j ∷ js) is = clusters_stay_on k (with_cluster held j) js (cluster_stays k held j is)
 
 -- the same for a file
-pub file_by_clusters : (f : FileClaim) (held : Holding) (js : List ℕ) → AllByRecursion (λ j. AreApart (claimed_by f) (is_of_cluster j)) js → FileSafe f held → FileSafe f (with_clusters held js)
+pub file_by_clusters : (f : FileClaim) (held : Holding) (js : List ℕ) → AllByRecursion (λ j. AreDisjointSets (claimed_by f) (is_of_cluster j)) js → FileSafe f held → FileSafe f (with_clusters held js)
 file_by_clusters f held [] others safe = safe
 file_by_clusters f held (j ∷ js) others safe = file_by_clusters f (with_cluster held j) js others.1 next
   where
@@ -164,7 +165,7 @@ file_by_file f held g other safe =
       ]
     ]
   where
-    by_case : (t : Bool) → is_kept held g ≡ t → g.ino ≡ f.ino → AreApart (claimed_by f) held.blocks → FileSafe f (with_file held g)
+    by_case : (t : Bool) → is_kept held g ≡ t → g.ino ≡ f.ino → AreDisjointSets (claimed_by f) held.blocks → FileSafe f (with_file held g)
     by_case true e same apart = inl (subst (λ (n : ℕ). is_among (with_file held g).files n ≡ true) same (file_taken held g e))
     by_case false e same apart = inr (rw e apart)
 

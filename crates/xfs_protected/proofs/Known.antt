@@ -2,6 +2,7 @@
 use Rattle.std.proofs.Common.{◌≡◌, ℕ, zero, suc, Bool, true, not, ◌+◌, ◌*◌, ◌/◌, ◌≤◌, ◌<◌, inl, inr, ◌&&◌, ◌||◌, ◌==◌, nat_le, nat_lt, List, [], ◌∷◌, refl, sym, ◌∙◌, ap, subst, arith, Option, None}
 use Rattle.std.specs.List.{filter, list_all, list_any, range_with_len}
 use Rattle.std.proofs.lemmas.Bool.{and_from, and_parts, both_ways, eq-eqb, eqb-true, le-leb, lt-ltb, not-true, or_cases, or_left, or_right}
+use Rattle.xfs_disk.specs.Lists.{is_among}
 use Rattle.xfs_disk.specs.Blocks.{Image}
 use Rattle.xfs_geom.specs.Conversions.{group_length}
 use Rattle.xfs_geom.specs.Volumes.{Volume, volume_of}
@@ -11,7 +12,7 @@ use Rattle.xfs_volume.specs.declared.files.FileRec.{FileRec}
 use Rattle.xfs_volume.specs.declared.groups.GroupRec.{GroupRec}
 use Rattle.xfs_image.proofs.Roots.{chunks_name, owners_name}
 use Rattle.xfs_image.specs.Candidates.{can_hold_inodes, candidates, is_candidate, is_scanned, is_used_slot, lies_in_chunk}
-use Rattle.xfs_image.specs.Clusters.{chunk_clusters, cluster_of, given_clusters, is_among, is_given, is_recorded, is_trusted, named_by_chunks, named_by_owners, names, places_in, root_cluster}
+use Rattle.xfs_image.specs.Clusters.{chunk_clusters, cluster_of, given_clusters, is_given_block, is_recorded, is_trusted, named_by_chunks, named_by_owners, names, places_in, root_cluster}
 use Rattle.xfs_image.specs.Files.{clusters_from, clusters_of, inodes_of}
 use Rattle.xfs_image.specs.Groups.{head_block}
 use Rattle.xfs_image.specs.Slots.{cluster_inodes}
@@ -48,9 +49,9 @@ module _ (g : Geometry) (image : Image) (groups : List GroupRec) (files : List F
       let at = chunked g n x of.chunk of.lawful of.is in
       let inside = at.inside in
       let start = at.is in
-      let test : ℕ → Bool = λ place. list_all (is_given h.group.rmap) (range_with_len place 4) in
+      let test : ℕ → Bool = λ place. list_all (is_given_block h.group.rmap) (range_with_len place 4) in
       let four : test (4 * at.i) ≡ true =
-      all_in_row (is_given h.group.rmap) (4 * at.i) 4
+      all_in_row (is_given_block h.group.rmap) (4 * at.i) 4
       (λ p low high.
       chunk_given g image groups files view n x p h few is
       (and_from (nat_le x (n * g.agblocks + p)) (nat_lt (n * g.agblocks + p) (x + 4)) (le-leb x (n * g.agblocks + p) (omega (arith, start, low)))

@@ -2,7 +2,7 @@
 use Rattle.std.proofs.Common.{◌≡◌, ℕ, zero, suc, Bool, true, false, cond, ◌+◌, ◌≤◌, ◌<◌, ◌⊎◌, inl, inr, nat_lt, List, [], ◌∷◌, ◌++◌, map, length, slice_index_or, refl, sym, ◌∙◌, ap, subst, arith}
 use Rattle.std.specs.List.{AllByRecursion, Contains, filter, flat_map, list_any, range_with_len}
 use Rattle.std.proofs.lemmas.Bool.{cases_eq, false≢true, or_cases, or_left, or_right}
-use Rattle.xfs_claims.specs.Ranks.{by_number, placed}
+use Rattle.xfs_claims.specs.Ranks.{by_number, placed_by_number}
 
 abbrev pub Member : {X : Type 0} → X → List X → Type 0
 Member x [] = ⊥
@@ -119,19 +119,19 @@ flat_member f y (x ∷ xs) is =
     ]
 
 -- an order keeps what a list has
-placed_here : {X : Type 0} (number : X → ℕ) (x : X) (ys : List X) → Member x (placed number x ys)
+placed_here : {X : Type 0} (number : X → ℕ) (x : X) (ys : List X) → Member x (placed_by_number number x ys)
 placed_here number x [] = inl refl
 placed_here {X = X} number x (y ∷ ys) = either (nat_lt (number y) (number x)) (placed_here number x ys)
   where
-    either : (t : Bool) → Member x (placed number x ys) → Member x (cond t (y ∷ placed number x ys) (x ∷ y ∷ ys))
+    either : (t : Bool) → Member x (placed_by_number number x ys) → Member x (cond t (y ∷ placed_by_number number x ys) (x ∷ y ∷ ys))
     either true rest = inr rest
     either false rest = inl refl
 
-placed_there : {X : Type 0} (number : X → ℕ) (z x : X) (ys : List X) → Member z ys → Member z (placed number x ys)
+placed_there : {X : Type 0} (number : X → ℕ) (z x : X) (ys : List X) → Member z ys → Member z (placed_by_number number x ys)
 placed_there number z x [] is = absurd is
 placed_there {X = X} number z x (y ∷ ys) is = either (nat_lt (number y) (number x)) (placed_there number z x ys)
   where
-    either : (t : Bool) → (Member z ys → Member z (placed number x ys)) → Member z (cond t (y ∷ placed number x ys) (x ∷ y ∷ ys))
+    either : (t : Bool) → (Member z ys → Member z (placed_by_number number x ys)) → Member z (cond t (y ∷ placed_by_number number x ys) (x ∷ y ∷ ys))
     either true rest = elim is [ inl same ↦ inl same | inr there ↦ inr (rest there) ]
     either false rest = inr is
 
@@ -139,7 +139,7 @@ pub member_order : {X : Type 0} (number : X → ℕ) (x : X) (xs : List X) → M
 member_order number x [] is = is
 member_order {X = X} number x (y ∷ ys) is =
     elim is [
-      | inl same ↦ subst (λ (z : X). Member x (placed number z (by_number number ys))) (sym same) (placed_here number x (by_number number ys))
+      | inl same ↦ subst (λ (z : X). Member x (placed_by_number number z (by_number number ys))) (sym same) (placed_here number x (by_number number ys))
       | inr there ↦ placed_there number x y (by_number number ys) (member_order number x ys there)
     ]
 

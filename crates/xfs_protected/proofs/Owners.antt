@@ -4,20 +4,22 @@ use Rattle.std.specs.List.{All, flat_map}
 use Rattle.std.proofs.lemmas.Bool.Decides.{nat_tests}
 use Rattle.std.proofs.lemmas.Bool.{and_parts, cases_lt, leb-true, ltb-true}
 use Rattle.std.proofs.lemmas.List.Elements.{recursion_from_All}
+use Rattle.xfs_kinds.specs.Owners.{headers_owner, log_owner}
+use Rattle.xfs_geom.specs.Runs.{covers}
 use Rattle.xfs_disk.specs.Blocks.{Image}
 use Rattle.xfs_geom.specs.Volumes.{Volume, volume_of}
 use Rattle.xfs_geom.specs.declared.geometry.Geometry.{Geometry}
 use Rattle.xfs_geom.specs.declared.records.Run.{Run}
-use Rattle.xfs_kinds.specs.MergedRuns.{held_at, word_at}
+use Rattle.xfs_kinds.specs.MergedRuns.{held_at, offset_word_at}
 use Rattle.xfs_kinds.specs.OffsetWords.{is_file_data}
 use Rattle.xfs_volume.specs.Laws.{first_broken}
 use Rattle.xfs_volume.specs.declared.files.FileRec.{FileRec}
 use Rattle.xfs_volume.specs.declared.groups.GroupRec.{GroupRec}
 use Rattle.xfs_volume.specs.declared.groups.TreeBlocks.{TreeBlocks}
-use Rattle.xfs_space.specs.Owners.{blocks_of, cluster_run, cluster_runs, clusters_of, different, file_runs, extent_run, group_runs, groups_runs, headers_owner, listed_run, listed_runs, log_owner, owned_runs, run, tree_owners, tree_runs}
+use Rattle.xfs_space.specs.Owners.{runs_of_blocks, cluster_run, cluster_runs, clusters_of_chunk, different, file_runs, extent_run, group_runs, groups_runs, listed_run, listed_runs, owned_runs, run, tree_owners, tree_runs}
 use Rattle.xfs_space.specs.Parts.{AreGroups}
 use Rattle.xfs_space.specs.Sorted.{IsOwned}
-use Rattle.xfs_space.specs.SpaceLaws.{covers, owner_at, owner_laws, owner_number}
+use Rattle.xfs_space.specs.SpaceLaws.{owner_at, owner_laws, owner_number}
 use Rattle.xfs_space.proofs.Broken.{each_kept}
 use Rattle.xfs_image.specs.Claims.{is_of_cluster}
 use Rattle.xfs_image.specs.Clusters.{chunk_clusters}
@@ -32,7 +34,7 @@ tree_owner : (owners : List ℕ) (trees : List TreeBlocks) (q : Run) → Member 
 tree_owner [] trees q is = absurd is
 tree_owner (o ∷ os) [] q is = absurd is
 tree_owner (o ∷ os) (t ∷ ts) q is =
-    elim (member_either q (blocks_of o 0 t.blocks) (tree_runs os ts) is) [
+    elim (member_either q (runs_of_blocks o 0 t.blocks) (tree_runs os ts) is) [
       | inl here ↦ let of = map_member (λ block. run block 1 o 0) q t.blocks here in inl (ap (λ (r : Run). r.owner) of.2)
       | inr there ↦ inr (tree_owner os ts q there)
     ]
@@ -99,9 +101,9 @@ groups_cluster v a b (g ∷ gs) q are is owner on =
     elim (member_either q (group_runs (a * v.agblocks) g) (groups_runs v.agblocks (a * v.agblocks + v.agblocks) gs) is) [
       | inl here ↦
           let base : ℕ = a * v.agblocks in
-          let of = map_member (cluster_run base) q (flat_map clusters_of g.ino) (group_cluster base g q here owner) in
+          let of = map_member (cluster_run base) q (flat_map clusters_of_chunk g.ino) (group_cluster base g q here owner) in
           let among : Member (base + of.0) (chunk_clusters v a g.ino) =
-          subst (λ (xs : List ℕ). Member (base + of.0) xs) (sym (chunks_moved v a base None g.ino are.0.ino)) (member_map (λ k. base + k) of.0 (flat_map clusters_of g.ino) of.1) in
+          subst (λ (xs : List ℕ). Member (base + of.0) xs) (sym (chunks_moved v a base None g.ino are.0.ino)) (member_map (λ k. base + k) of.0 (flat_map clusters_of_chunk g.ino) of.1) in
           record {
             cluster = base + of.0;
             is = member_left (base + of.0) (chunk_clusters v a g.ino) (clusters_from v (a + 1) gs) among;
@@ -115,10 +117,10 @@ groups_cluster v a b (g ∷ gs) q are is owner on =
 -- the runs of a file have its number as owner
 file_owner : (v : Volume) (f : FileRec) (q : Run) → Member q (file_runs v f) → q.owner ≡ f.ino
 file_owner v f q is =
-    elim (member_either q (map (extent_run v f.ino 0) f.extents ++ map (extent_run v f.ino (2 ^ 63)) f.attr) (blocks_of f.ino (2 ^ 62) f.tree) is) [
-      | inl forks ↦ elim (member_either q (map (extent_run v f.ino 0) f.extents) (map (extent_run v f.ino (2 ^ 63)) f.attr) forks) [
+    elim (member_either q (map (extent_run v f.ino 0) f.extents ++ map (extent_run v f.ino (2 ^ 63)) f.attr_extents) (runs_of_blocks f.ino (2 ^ 62) f.tree) is) [
+      | inl forks ↦ elim (member_either q (map (extent_run v f.ino 0) f.extents) (map (extent_run v f.ino (2 ^ 63)) f.attr_extents) forks) [
         | inl a ↦ let of = map_member (extent_run v f.ino 0) q f.extents a in sym (ap (λ (r : Run). r.owner) of.2)
-        | inr a ↦ let of = map_member (extent_run v f.ino (2 ^ 63)) q f.attr a in sym (ap (λ (r : Run). r.owner) of.2)
+        | inr a ↦ let of = map_member (extent_run v f.ino (2 ^ 63)) q f.attr_extents a in sym (ap (λ (r : Run). r.owner) of.2)
       ]
       | inr a ↦ let of = map_member (λ block. run block 1 f.ino (2 ^ 62)) q f.tree a in sym (ap (λ (r : Run). r.owner) of.2)
     ]
@@ -144,14 +146,14 @@ owned_cluster g b groups files q are low is owner on =
     ]
 
 -- the offset word of a block of an owned run is not much above eight bytes; of an owner that is no inode it is that of the run
-pub word_low : (q : Run) (b : ℕ) → q.offset < 2 ^ 64 → q.count ≤ 2 ^ 54 → b < q.start + q.count → word_at q b < 2 ^ 64 + 2 ^ 54
+pub word_low : (q : Run) (b : ℕ) → q.offset < 2 ^ 64 → q.count ≤ 2 ^ 54 → b < q.start + q.count → offset_word_at q b < 2 ^ 64 + 2 ^ 54
 word_low q b offset count inside = by_case (is_file_data q.owner q.offset)
   where
     by_case : (t : Bool) → (if t then q.offset + (b - q.start) else q.offset) < 2 ^ 64 + 2 ^ 54
     by_case true = omega (arith, offset, count, inside)
     by_case false = omega (arith, offset)
 
-pub word_own : (q : Run) (b : ℕ) → 2 ^ 63 ≤ q.owner → word_at q b ≡ q.offset
+pub word_own : (q : Run) (b : ℕ) → 2 ^ 63 ≤ q.owner → offset_word_at q b ≡ q.offset
 word_own q b high =
     let t : nat_lt q.owner (2 ^ 63) ≡ false = grind (arith, nat_tests, high) in
     rw t refl
@@ -184,6 +186,6 @@ from_number g image groups files b w view low number =
           let fork = owned.fork in
           let at = on_parts b one.0 one.1.on in
           let small = word_low one.0 b owned.offset (omega (arith, fork)) at.1 in
-          let e : one.0.owner * 2 ^ 64 + word_at one.0 b ≡ (2 ^ 64 - 7) * 2 ^ 64 + w = ap owner_number (sym one.1.held) ∙ number in
-          owned_cluster g b groups files one.0 view.space.are view.low one.1.is (clusters_number w one.0.owner (word_at one.0 b) e low small) one.1.on
+          let e : one.0.owner * 2 ^ 64 + offset_word_at one.0 b ≡ (2 ^ 64 - 7) * 2 ^ 64 + w = ap owner_number (sym one.1.held) ∙ number in
+          owned_cluster g b groups files one.0 view.space.are view.low one.1.is (clusters_number w one.0.owner (offset_word_at one.0 b) e low small) one.1.on
     ]

@@ -23,7 +23,7 @@ use Rattle.xfs_image.specs.Candidates.{lies_in_chunk}
 use Rattle.xfs_image.specs.Clusters.{chunk_clusters, clusters_in}
 use Rattle.xfs_image.specs.Files.{AreFilesRead, clusters_from, clusters_of, inodes_of}
 use Rattle.xfs_image.specs.Groups.{head_block}
-use Rattle.xfs_image.specs.Slots.{cluster_blocks, cluster_inodes, inodes_in, reads_as}
+use Rattle.xfs_image.specs.Slots.{cluster_blocks, cluster_inodes, inodes_of_block, reads_as}
 use Rattle.xfs_views.proofs.Files.{file_sound}
 use Rattle.xfs_protected.proofs.Addresses.{IsPlaced}
 use Rattle.xfs_protected.proofs.Chunks.{IsLawfulChunk, lawful_chunk}
@@ -205,7 +205,7 @@ pub inode_small : (g : Geometry) (ag x ino : ℕ) → IsChunked g ag x → Membe
 unfolding cluster_inodes inode_of address_of
 inode_small g ag x ino at is =
     let v : Volume = volume_of g in
-    let in_block = flat_member (inodes_in v) ino (cluster_blocks x) is in
+    let in_block = flat_member (inodes_of_block v) ino (cluster_blocks x) is in
     let slot = map_member (inode_of v in_block.0) ino (range_with_len 0 8) in_block.2 in
     let b = row_member in_block.0 x 4 in_block.1 in
     let s = row_member slot.0 0 8 slot.1 in

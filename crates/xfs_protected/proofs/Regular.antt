@@ -15,13 +15,13 @@ use Rattle.xfs_volume.specs.declared.files.FileRec.{FileRec}
 use Rattle.xfs_volume.specs.declared.groups.GroupRec.{GroupRec}
 use Rattle.xfs_space.proofs.RecordedMaps.{group_inside}
 use Rattle.xfs_laws.specs.Lawful.{broken_law}
-use Rattle.xfs_image.specs.Candidates.{can_hold_inodes, candidates, cluster_rec, is_candidate, is_scanned, is_whole_block, lies_in_chunk}
+use Rattle.xfs_image.specs.Candidates.{can_hold_inodes, candidates, cluster_rec, is_candidate, is_scanned, has_whole_seal, lies_in_chunk}
 use Rattle.xfs_image.specs.Claims.{candidate_files, candidate_inodes, claims, file_if, is_candidate_inode, is_claimed, is_claimed_beside, is_of_candidate, is_of_cluster}
 use Rattle.xfs_image.specs.Clusters.{cluster_of, is_recorded, root_cluster}
 use Rattle.xfs_image.specs.Consistent.{IsConsistent}
 use Rattle.xfs_image.specs.Files.{clusters_from, inodes_of}
 use Rattle.xfs_image.specs.Keeping.{Protected}
-use Rattle.xfs_image.specs.Slots.{cluster_blocks, cluster_inodes, inodes_in, reads_as}
+use Rattle.xfs_image.specs.Slots.{cluster_blocks, cluster_inodes, inodes_of_block, reads_as}
 use Rattle.xfs_protected.proofs.Images.{candidate_has, candidate_member}
 use Rattle.xfs_protected.proofs.Known.{HasCluster, all_in_row, candidate_known, chunk_recorded, inode_has, inode_of_view}
 use Rattle.xfs_protected.proofs.Lawful.{IsLawfulView, lawful_view}
@@ -69,13 +69,13 @@ module _ (g : Geometry) (image : Image) (groups : List GroupRec) (files : List F
   block_inode : (x b : ℕ) → x ≤ b → b < x + 4 → Member (inode_of (volume_of g) b 0) (cluster_inodes (volume_of g) x)
   unfolding cluster_inodes
   block_inode x b low high =
-      member_flat (inodes_in (volume_of g)) b (inode_of (volume_of g) b 0) (cluster_blocks x) (member_row b x 4 low high)
+      member_flat (inodes_of_block (volume_of g)) b (inode_of (volume_of g) b 0) (cluster_blocks x) (member_row b x 4 low high)
       (member_map (inode_of (volume_of g) b) 0 (range_with_len 0 8) (member_row 0 0 8 (omega arith) (omega arith)))
 
   -- a cluster of chunks can hold inodes, so it is a candidate
   holds : (blocks x ag : ℕ) → IsImage blocks image → IsChunked g ag x → Member x (clusters_from (volume_of g) 0 groups) → can_hold_inodes (volume_of g) image x ≡ true
   holds blocks x ag bytes at is =
-      all_in_row (λ block. not (is_fixed (volume_of g) block || is_whole_block (volume_of g) image block)) x 4
+      all_in_row (λ block. not (is_fixed (volume_of g) block || has_whole_seal (volume_of g) image block)) x 4
       (λ b low high.
       let ends = group_inside (volume_of g) ag at.group g.shape.groups.last in
       let inside = at.inside in
@@ -84,9 +84,9 @@ module _ (g : Geometry) (image : Image) (groups : List GroupRec) (files : List F
       let unfixed : is_fixed (volume_of g) b ≡ false = false_from_ne_true (is_fixed (volume_of g) b) (λ e. cluster_unfixed g groups files view.space x b is on e) in
       let ino : ℕ = inode_of (volume_of g) b 0 in
       let mine : Member ino (inodes_of (volume_of g) groups) = inode_of_view g image groups files view x ino is (block_inode x b low high) in
-      let whole : is_whole_block (volume_of g) image b ≡ false =
+      let whole : has_whole_seal (volume_of g) image b ≡ false =
       no_whole_block g blocks image b (reads_as (volume_of g) image ino) bytes (omega (arith, ends, inside, start, high)) refl (not_unsound ino mine) in
-      not_from_false (is_fixed (volume_of g) b || is_whole_block (volume_of g) image b) (or_from (is_fixed (volume_of g) b) (is_whole_block (volume_of g) image b) unfixed whole))
+      not_from_false (is_fixed (volume_of g) b || has_whole_seal (volume_of g) image b) (or_from (is_fixed (volume_of g) b) (has_whole_seal (volume_of g) image b) unfixed whole))
 
   chunk_candidate : (blocks x ag : ℕ) → IsImage blocks image → IsChunked g ag x → Member x (clusters_from (volume_of g) 0 groups) → is_candidate (volume_of g) image x ≡ true
   unfolding is_candidate

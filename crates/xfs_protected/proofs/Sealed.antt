@@ -14,12 +14,12 @@ use Rattle.xfs_geom.specs.Conversions.{address_of, inode_of, slot_at, with_slot}
 use Rattle.xfs_geom.specs.Volumes.{Volume, volume_of}
 use Rattle.xfs_geom.specs.declared.geometry.Geometry.{Geometry}
 use Rattle.xfs_geom.proofs.Addresses.{block_back}
-use Rattle.xfs_tree.specs.Reading.{bytes_at}
+use Rattle.xfs_tree.specs.Reading.{bytes_of_block}
 use Rattle.xfs_inode.specs.Files.{file_read}
 use Rattle.xfs_inode.specs.Slots.{slot_read, slot_seal}
 use Rattle.xfs_inode.specs.declared.files.FileRead.{FileRead}
 use Rattle.xfs_inode.specs.declared.files.FileRead.TheVariants as Reads
-use Rattle.xfs_image.specs.Candidates.{is_whole_block, whole_kinds, whole_seal}
+use Rattle.xfs_image.specs.Candidates.{has_whole_seal, whole_kinds, whole_seal}
 use Rattle.xfs_image.specs.Sectors.{sector_in}
 use Rattle.xfs_image.specs.Slots.{bytes_in, reads_as, slot_bytes}
 
@@ -71,19 +71,19 @@ first_slot g b inside =
     rw (slot, block) (ap (with_slot 0) (block_back v b g.shape.groups.large g.shape.groups.covered g.shape.addresses.enough inside))
 
 begins : (g : Geometry) (image : Image) (b : ℕ) (read : FileRead) → b < g.dblocks → reads_as (volume_of g) image (inode_of (volume_of g) b 0) ≡ read → (read ≡ Reads.Unsound → ⊥)
-    → field_of (bytes_at image b) 0 2 ≡ 0x494e
+    → field_of (bytes_of_block image b) 0 2 ≡ 0x494e
 begins g image b read inside reads sound =
     let v : Volume = volume_of g in
     let ino : ℕ = inode_of v b 0 in
     let bytes : slot_bytes v image ino ≡ sector_in image b 0 = ap (bytes_in image) (first_slot g b inside) in
     let magic = slot_magic v ino (slot_bytes v image ino) (sealed_slot v image ino read reads sound) in
-    sym (number_in_part (bytes_at image b) 0 512 0 2 (omega arith)) ∙ ap (λ (xs : List ℕ). field_of xs 0 2) (sym bytes) ∙ magic
+    sym (number_in_part (bytes_of_block image b) 0 512 0 2 (omega arith)) ∙ ap (λ (xs : List ℕ). field_of xs 0 2) (sym bytes) ∙ magic
 
 -- the bytes of an image are below 256
-bytes_low : (blocks : ℕ) (image : Image) (b i : ℕ) → IsImage blocks image → slice_index (bytes_at image b) i < 256
+bytes_low : (blocks : ℕ) (image : Image) (b i : ℕ) → IsImage blocks image → slice_index (bytes_of_block image b) i < 256
 bytes_low blocks image b i is = in_block image b (λ block there. (is.each b block there).bytes i)
   where
-    in_block : (image : Image) (b : ℕ) → ((block : List ℕ) → slice_get image b ≡ Some block → slice_index block i < 256) → slice_index (bytes_at image b) i < 256
+    in_block : (image : Image) (b : ℕ) → ((block : List ℕ) → slice_get image b ≡ Some block → slice_index block i < 256) → slice_index (bytes_of_block image b) i < 256
     in_block [] b each = omega arith
     in_block (x ∷ xs) zero each = each x refl
     in_block (x ∷ xs) (suc b) each = in_block xs b each
@@ -182,10 +182,10 @@ no_kind bytes is = (
 )
 
 pub no_whole_block : (g : Geometry) (blocks : ℕ) (image : Image) (b : ℕ) (read : FileRead) → IsImage blocks image → b < g.dblocks
-    → reads_as (volume_of g) image (inode_of (volume_of g) b 0) ≡ read → (read ≡ Reads.Unsound → ⊥) → is_whole_block (volume_of g) image b ≡ false
-unfolding is_whole_block
+    → reads_as (volume_of g) image (inode_of (volume_of g) b 0) ≡ read → (read ≡ Reads.Unsound → ⊥) → has_whole_seal (volume_of g) image b ≡ false
+unfolding has_whole_seal
 no_whole_block g blocks image b read is inside reads sound =
-    let bytes : List ℕ = bytes_at image b in
+    let bytes : List ℕ = bytes_of_block image b in
     let two = begins g image b read inside reads sound in
     let four = four_bytes bytes in
     let third = bytes_low blocks image b 2 is in

@@ -4,15 +4,16 @@ use Rattle.std.specs.List.{flat_map}
 use Rattle.std.proofs.Math.Nat.{mul-le-mul_right}
 use Rattle.std.proofs.lemmas.Bool.{cases_lt, eqb-true, or_cases}
 use Rattle.std.proofs.lemmas.Nat.{div-add-mod'}
+use Rattle.xfs_kinds.specs.Owners.{log_owner}
+use Rattle.xfs_geom.specs.Runs.{runs_on}
 use Rattle.xfs_geom.specs.Conversions.{is_fixed}
 use Rattle.xfs_geom.specs.Volumes.{Volume, volume_of}
 use Rattle.xfs_geom.specs.declared.geometry.Geometry.{Geometry}
 use Rattle.xfs_geom.specs.declared.records.Run.{Run}
 use Rattle.xfs_volume.specs.declared.files.FileRec.{FileRec}
 use Rattle.xfs_volume.specs.declared.groups.GroupRec.{GroupRec}
-use Rattle.xfs_space.specs.Owners.{file_runs, groups_runs, log_owner, owned_runs, run}
+use Rattle.xfs_space.specs.Owners.{file_runs, groups_runs, owned_runs, run}
 use Rattle.xfs_space.specs.Parts.{AreGroups}
-use Rattle.xfs_space.specs.SpaceLaws.{runs_on}
 use Rattle.xfs_space.proofs.Shared.{on-cons}
 use Rattle.xfs_image.specs.Claims.{claims, is_of_cluster}
 use Rattle.xfs_image.specs.Files.{clusters_from}

@@ -7,7 +7,7 @@ use Rattle.xfs_inode.specs.declared.files.FileRead.TheVariants as Reads
 use Rattle.xfs_volume.specs.Names.{is_directory}
 use Rattle.xfs_volume.specs.declared.files.FileRec.{FileRec}
 use Rattle.xfs_naming.specs.Naming.{is_empty_regular}
-use Rattle.xfs_image.specs.Claims.{AreApart, claims}
+use Rattle.xfs_image.specs.Claims.{AreDisjointSets, claims}
 use Rattle.xfs_image.specs.Directories.{directories}
 use Rattle.xfs_image.specs.Keeping.{Protected}
 use Rattle.xfs_image.specs.Slots.{reads_as}
@@ -19,12 +19,12 @@ one_file a b e = cc
 
 -- where a file claims one of some blocks, all that it claims is not apart from them
 pub claimed : (v : Volume) (image : Image) (ino block : ℕ) (file : FileRec) (set : ℕ → Bool) → reads_as v image ino ≡ Reads.File file → claims v file block ≡ true → set block ≡ true
-    → (is : Protected v image ino) → AreApart (claims v is.file) set → ⊥
+    → (is : Protected v image ino) → AreDisjointSets (claims v is.file) set → ⊥
 claimed v image ino block file set reads claims_it in_set is apart =
     let same : file ≡ is.file = one_file file is.file (sym reads ∙ is.reads) in
     both_ways (set block) (apart block (subst (λ (f : FileRec). claims v f block ≡ true) same claims_it)) in_set
 
-pub met : (xs ys : ℕ → Bool) (block : ℕ) → xs block ≡ true → ys block ≡ true → AreApart xs ys → ⊥
+pub met : (xs ys : ℕ → Bool) (block : ℕ) → xs block ≡ true → ys block ≡ true → AreDisjointSets xs ys → ⊥
 met xs ys block one other apart = both_ways (ys block) (apart block one) other
 
 pub directory : (v : Volume) (image : Image) (ino : ℕ) (file : FileRec) → reads_as v image ino ≡ Reads.File file → is_directory file ≡ true → Protected v image ino → ⊥

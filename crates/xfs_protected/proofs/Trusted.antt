@@ -4,22 +4,24 @@ use Rattle.std.specs.List.{filter, flat_map, list_all, range_with_len}
 use Rattle.std.proofs.lemmas.Bool.{and_from, and_parts, cases_lt, eq-eqb, eqb-true, le-leb, leb-true, lt-ltb, ltb-true}
 use Rattle.std.proofs.lemmas.List.Elements.{recursion_from_All}
 use Rattle.std.proofs.lemmas.Nat.{div-mul-add}
+use Rattle.xfs_kinds.specs.Owners.{headers_owner, log_owner}
+use Rattle.xfs_geom.specs.Runs.{covers, runs_on}
 use Rattle.xfs_disk.specs.Blocks.{Image}
 use Rattle.xfs_geom.specs.Conversions.{group_length}
 use Rattle.xfs_geom.specs.Volumes.{Volume, volume_of}
 use Rattle.xfs_geom.specs.declared.geometry.Geometry.{Geometry}
 use Rattle.xfs_geom.specs.declared.records.RmapRec.{RmapRec}
 use Rattle.xfs_geom.specs.declared.records.Run.{Run}
-use Rattle.xfs_kinds.specs.MergedRuns.{held_at, word_at}
+use Rattle.xfs_kinds.specs.MergedRuns.{held_at, offset_word_at}
 use Rattle.xfs_volume.specs.declared.files.FileRec.{FileRec}
 use Rattle.xfs_volume.specs.declared.groups.GroupRec.{GroupRec}
-use Rattle.xfs_space.specs.Owners.{cluster_run, cluster_runs, clusters_of, file_runs, group_runs, groups_runs, headers_owner, listed_runs, log_owner, owned_runs, run, tree_owners, tree_runs}
+use Rattle.xfs_space.specs.Owners.{cluster_run, cluster_runs, clusters_of_chunk, file_runs, group_runs, groups_runs, listed_runs, owned_runs, run, tree_owners, tree_runs}
 use Rattle.xfs_space.specs.Parts.{AreGroups}
-use Rattle.xfs_space.specs.SpaceLaws.{covers, owner_number, recorded_run, recorded_runs, runs_on}
+use Rattle.xfs_space.specs.SpaceLaws.{owner_number, recorded_run, recorded_runs}
 use Rattle.xfs_space.proofs.FreeSpans.{group_short}
 use Rattle.xfs_space.proofs.RecordedMaps.{IsRecorded, all_recorded, group_inside}
 use Rattle.xfs_image.specs.Claims.{is_of_cluster}
-use Rattle.xfs_image.specs.Clusters.{chunk_clusters, given_clusters, gives, is_given, places_in}
+use Rattle.xfs_image.specs.Clusters.{chunk_clusters, given_clusters, gives_block, is_given_block, places_in}
 use Rattle.xfs_image.specs.Files.{clusters_from}
 use Rattle.xfs_image.specs.Groups.{head_block}
 use Rattle.xfs_protected.proofs.Chunks.{chunks_moved}
@@ -47,12 +49,12 @@ cluster_has v a x (g ∷ gs) are is =
     let base : ℕ = a * v.agblocks in
     elim (member_either x (chunk_clusters v a g.ino) (clusters_from v (a + 1) gs) is) [
       | inl here ↦
-          let of = map_member (λ k. base + k) x (flat_map clusters_of g.ino) (subst (λ (xs : List ℕ). Member x xs) (chunks_moved v a base None g.ino are.0.ino) here) in
+          let of = map_member (λ k. base + k) x (flat_map clusters_of_chunk g.ino) (subst (λ (xs : List ℕ). Member x xs) (chunks_moved v a base None g.ino are.0.ino) here) in
           record {
             run_is = cluster_run base of.0;
             is = member_left (cluster_run base of.0) (group_runs base g) (groups_runs v.agblocks (base + v.agblocks) gs)
                 (member_right (cluster_run base of.0) (run base 1 headers_owner 0 ∷ tree_runs tree_owners g.blocks ++ listed_runs base g.agfl) (cluster_runs base g.ino)
-                (member_map (cluster_run base) of.0 (flat_map clusters_of g.ino) of.1));
+                (member_map (cluster_run base) of.0 (flat_map clusters_of_chunk g.ino) of.1));
             start = of.2;
             count = refl;
             owner = refl;
@@ -98,7 +100,7 @@ module _ (g : Geometry) (image : Image) (groups : List GroupRec) (files : List F
   group_of n few = let count = view.space.count in group_at g image 0 n groups view.groups_read view.space.are (omega arith) (omega (arith, few, count))
 
   -- a block that a record gives to the clusters is one of a cluster of chunks
-  given_block : (n p : ℕ) (h : HasGroup g image 0 groups n) (r : RmapRec) → n < g.agcount → Member r h.group.rmap → gives p r ≡ true → HasBlock (volume_of g) 0 groups (n * g.agblocks + p)
+  given_block : (n p : ℕ) (h : HasGroup g image 0 groups n) (r : RmapRec) → n < g.agcount → Member r h.group.rmap → gives_block p r ≡ true → HasBlock (volume_of g) 0 groups (n * g.agblocks + p)
   given_block n p h r few is given =
       let a = and_parts (r.owner == 2 ^ 64 - 7 && nat_le r.start p) (nat_lt p (r.start + r.count)) given in
       let c = and_parts (r.owner == 2 ^ 64 - 7) (nat_le r.start p) a.0 in
@@ -114,9 +116,9 @@ module _ (g : Geometry) (image : Image) (groups : List GroupRec) (files : List F
       let ends = group_inside (volume_of g) n few g.shape.groups.last in
       let on : covers b q ≡ true = and_from (nat_le (base + r.start) b) (nat_lt b (base + r.start + r.count)) (le-leb (base + r.start) b (omega (arith, low))) (lt-ltb b (base + r.start + r.count) (omega (arith, high))) in
       let among : Member q total = subst (λ (k : ℕ). Member q (recorded_runs g.agblocks k groups)) zero_base (h.records q (member_map (recorded_run base) r h.group.rmap is)) in
-      let held : held_at total b ≡ Some (q.owner, word_at q b) = held_member q total b among on (once_total b) in
-      let word : word_at q b ≡ r.offset = word_own q b (omega (arith, owner)) in
-      let number : owner_number (held_at total b) ≡ r.owner * 2 ^ 64 + word_at q b = ap owner_number held in
+      let held : held_at total b ≡ Some (q.owner, offset_word_at q b) = held_member q total b among on (once_total b) in
+      let word : offset_word_at q b ≡ r.offset = word_own q b (omega (arith, owner)) in
+      let number : owner_number (held_at total b) ≡ r.owner * 2 ^ 64 + offset_word_at q b = ap owner_number held in
       let agree = numbers_agree (volume_of g) total owned b view.owners (omega (arith, inside, ends, high)) in
       let due : owner_number (held_at owned b) ≡ (2 ^ 64 - 7) * 2 ^ 64 + r.offset = omega (arith, agree, number, word, owner) in
       from_number g image groups files b r.offset view good.offset due
@@ -124,13 +126,13 @@ module _ (g : Geometry) (image : Image) (groups : List GroupRec) (files : List F
   -- a cluster that the tree of owners names is one of the chunks of its group
   pub given_chunk : (n x : ℕ) (h : HasGroup g image 0 groups n) → n < g.agcount → Member x (given_clusters (volume_of g) n h.group.rmap) → Member x (chunk_clusters (volume_of g) n h.group.ino)
   given_chunk n x h few is =
-      let test : ℕ → Bool = λ place. list_all (is_given h.group.rmap) (range_with_len place 4) in
+      let test : ℕ → Bool = λ place. list_all (is_given_block h.group.rmap) (range_with_len place 4) in
       let of = map_member (λ place. head_block (volume_of g) n + place) x (filter test (places_in (volume_of g) n)) is in
       let place = filter_member test of.0 (places_in (volume_of g) n) of.1 in
       let index = map_member (λ i. 4 * i) of.0 (range_with_len 0 (group_length (volume_of g) n / 4)) place.0 in
       let row = row_member index.0 0 (group_length (volume_of g) n / 4) index.1 in
-      let first : is_given h.group.rmap of.0 ≡ true = (and_parts (is_given h.group.rmap of.0) (list_all (is_given h.group.rmap) (range_with_len (of.0 + 1) 3)) place.1).0 in
-      let one = any_member (gives of.0) h.group.rmap first in
+      let first : is_given_block h.group.rmap of.0 ≡ true = (and_parts (is_given_block h.group.rmap of.0) (list_all (is_given_block h.group.rmap) (range_with_len (of.0 + 1) 3)) place.1).0 in
+      let one = any_member (gives_block of.0) h.group.rmap first in
       let found = given_block n of.0 h one.0 few one.1 one.2 in
       let at = cluster_chunked g found.cluster groups view.space.are found.is in
       let inside = at.1.inside in
@@ -154,7 +156,7 @@ module _ (g : Geometry) (image : Image) (groups : List GroupRec) (files : List F
 
   -- a block of a cluster of chunks is given to the clusters
   pub chunk_given : (n x p : ℕ) (h : HasGroup g image 0 groups n) → n < g.agcount → Member x (chunk_clusters (volume_of g) n h.group.ino) → is_of_cluster x (n * g.agblocks + p) ≡ true → p < group_length (volume_of g) n
-      → is_given h.group.rmap p ≡ true
+      → is_given_block h.group.rmap p ≡ true
   chunk_given n x p h few is on inside =
       let base : ℕ = n * g.agblocks in
       let b : ℕ = base + p in
@@ -171,9 +173,9 @@ module _ (g : Geometry) (image : Image) (groups : List GroupRec) (files : List F
       let low = leb-true x b parts.0 in
       let high = ltb-true b (x + 4) parts.1 in
       let on_run : covers b q ≡ true = and_from (nat_le q.start b) (nat_lt b (q.start + q.count)) (le-leb q.start b (omega (arith, start, low))) (lt-ltb b (q.start + q.count) (omega (arith, start, count, high))) in
-      let held : held_at owned b ≡ Some (q.owner, word_at q b) = held_member q owned b among on_run (view.space.once b) in
-      let word : word_at q b ≡ q.offset = word_own q b (omega (arith, owner)) in
-      let number : owner_number (held_at owned b) ≡ q.owner * 2 ^ 64 + word_at q b = ap owner_number held in
+      let held : held_at owned b ≡ Some (q.owner, offset_word_at q b) = held_member q owned b among on_run (view.space.once b) in
+      let word : offset_word_at q b ≡ q.offset = word_own q b (omega (arith, owner)) in
+      let number : owner_number (held_at owned b) ≡ q.owner * 2 ^ 64 + offset_word_at q b = ap owner_number held in
       let agree = numbers_agree (volume_of g) total owned b view.owners (omega (arith, inside, ends)) in
       let due : owner_number (held_at total b) ≡ (2 ^ 64 - 7) * 2 ^ 64 = omega (arith, agree, number, word, owner, offset) in
       elim (held_of total b) [
@@ -182,7 +184,7 @@ module _ (g : Geometry) (image : Image) (groups : List GroupRec) (files : List F
       ]
     where
       recorded_given : (n p : ℕ) (h : HasGroup g image 0 groups n) (q : Run) → IsHeldBy total (n * g.agblocks + p) q → owner_number (held_at total (n * g.agblocks + p)) ≡ (2 ^ 64 - 7) * 2 ^ 64
-          → p < g.agblocks → is_given h.group.rmap p ≡ true
+          → p < g.agblocks → is_given_block h.group.rmap p ≡ true
       recorded_given n p h q one due short =
           let base : ℕ = n * g.agblocks in
           let b : ℕ = base + p in
@@ -198,14 +200,14 @@ module _ (g : Geometry) (image : Image) (groups : List GroupRec) (files : List F
           let last = at.1 in
           let fork = good.fork in
           let offset = good.offset in
-          let number : of.0.owner * 2 ^ 64 + word_at r b ≡ (2 ^ 64 - 7) * 2 ^ 64 =
-          subst (λ (x : Run). x.owner * 2 ^ 64 + word_at x b ≡ (2 ^ 64 - 7) * 2 ^ 64) (sym of.2) (ap owner_number (sym one.held) ∙ due) in
+          let number : of.0.owner * 2 ^ 64 + offset_word_at r b ≡ (2 ^ 64 - 7) * 2 ^ 64 =
+          subst (λ (x : Run). x.owner * 2 ^ 64 + offset_word_at x b ≡ (2 ^ 64 - 7) * 2 ^ 64) (sym of.2) (ap owner_number (sym one.held) ∙ due) in
           let owner : of.0.owner ≡ 2 ^ 64 - 7 =
           elim (cases_lt of.0.owner (2 ^ 63)) [
             | inl less ↦ let low = word_low r b offset (omega (arith, fork)) last in absurd (omega (arith, number, low, less))
             | inr high ↦ let word = word_own r b high in omega (arith, number, word, offset)
           ] in
-          member_any (gives p) of.0 h.group.rmap of.1
+          member_any (gives_block p) of.0 h.group.rmap of.1
           (and_from (of.0.owner == 2 ^ 64 - 7 && nat_le of.0.start p) (nat_lt p (of.0.start + of.0.count))
           (and_from (of.0.owner == 2 ^ 64 - 7) (nat_le of.0.start p) (eq-eqb of.0.owner (2 ^ 64 - 7) owner) (le-leb of.0.start p (omega (arith, first))))
           (lt-ltb p (of.0.start + of.0.count) (omega (arith, last))))

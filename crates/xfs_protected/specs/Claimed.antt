@@ -1,6 +1,7 @@
 -- What claims blocks in an image, as what is kept is chosen from it: the fixed blocks, the candidate clusters, the candidate files.
 use Rattle.std.specs.Prelude.{◌≡◌, ◌≢◌, ℕ, true, false, ◌+◌, ◌*◌, List, ◌∷◌, map}
 use Rattle.std.specs.List.{range_with_len}
+use Rattle.xfs_kinds.specs.Owners.{headers_owner, log_owner}
 use Rattle.xfs_disk.specs.Blocks.{Image}
 use Rattle.xfs_geom.specs.Conversions.{is_fixed}
 use Rattle.xfs_geom.specs.Volumes.{Volume}
@@ -9,7 +10,7 @@ use Rattle.xfs_inode.specs.declared.files.FileRead.TheVariants as Reads
 use Rattle.xfs_volume.specs.Names.{is_directory}
 use Rattle.xfs_volume.specs.declared.clusters.ClusterRec.{ClusterRec}
 use Rattle.xfs_volume.specs.declared.files.FileRec.{FileRec}
-use Rattle.xfs_space.specs.Owners.{file_runs, headers_owner, log_owner, run}
+use Rattle.xfs_space.specs.Owners.{file_runs, run}
 use Rattle.xfs_claims.specs.declared.claimants.Claims.{Claims}
 use Rattle.xfs_claims.specs.declared.claimants.FileClaim.{FileClaim}
 use Rattle.xfs_image.specs.Candidates.{candidates}

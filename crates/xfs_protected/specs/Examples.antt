@@ -29,11 +29,11 @@ abbrev pub two_clusters : List ClusterRec
 two_clusters = recorded 16 ∷ scanned 20 ∷ []
 
 -- the claims of some clusters, that of the root at 16 among them, and some files; and of the two clusters
-abbrev pub with_clusters : List ClusterRec → List FileClaim → Claims
-with_clusters clusters files = record { root = 16; fixed = header_and_log; clusters = clusters; files = files }
+abbrev pub claims_with : List ClusterRec → List FileClaim → Claims
+claims_with clusters files = record { root = 16; fixed = header_and_log; clusters = clusters; files = files }
 
-abbrev pub small : List FileClaim → Claims
-small files = with_clusters two_clusters files
+abbrev pub small_claims : List FileClaim → Claims
+small_claims files = claims_with two_clusters files
 
 -- a file of claims is guarded in them
 abbrev pub IsGuardedIn : Claims → FileClaim → Type 0

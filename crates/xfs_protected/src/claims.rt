@@ -2,16 +2,17 @@
 
 ghost use Rattle.std.specs.Prelude.{◌≡◌, ◌↔◌, ℕ, true, [], ◌∷◌};
 ghost use Rattle.std.specs.List.{Contains};
+ghost use Rattle.xfs_disk.specs.Lists.{is_among};
 ghost use Rattle.xfs_disk.specs.Blocks.{Image};
 ghost use Rattle.xfs_geom.specs.Volumes.{Volume, volume_of};
 ghost use Rattle.xfs_geom.specs.declared.geometry.Geometry.{Geometry};
 ghost use Rattle.xfs_runs.specs.Blocks.{is_in};
-ghost use Rattle.xfs_claims.specs.Keeping.{is_among, kept_of};
-ghost use Rattle.xfs_claims.specs.Ranks.{is_recorded};
+ghost use Rattle.xfs_claims.specs.Keeping.{kept_of};
+ghost use Rattle.xfs_claims.specs.Ranks.{is_recorded_cluster};
 ghost use Rattle.xfs_claims.specs.Spans.{spans_of};
 ghost use Rattle.xfs_claims.specs.declared.claimants.Claims.{Claims};
 ghost use Rattle.xfs_claims.specs.declared.claimants.FileClaim.{FileClaim};
-ghost use Rattle.xfs_image.specs.Candidates.{Ascend};
+ghost use Rattle.xfs_image.specs.Candidates.{ClustersAscend};
 ghost use Rattle.xfs_image.specs.Clusters.{cluster_of};
 ghost use Rattle.xfs_image.specs.Directories.{directories};
 ghost use Rattle.xfs_image.specs.Keeping.{Protected};
@@ -28,10 +29,10 @@ pub fn protected_files_by_lists()
 /// Of all claims the cluster of a guarded file and the file are kept, whatever else is claimed: the clusters
 /// ascend, that of the root is a recorded one, the file and its cluster are among the claims.
 pub fn guarded_files_are_kept()
-    ensures cluster { (claims : Claims) (file : FileClaim) → is_recorded claims.clusters claims.root ≡ true → Ascend 0 claims.clusters → Contains claims.files file
+    ensures cluster { (claims : Claims) (file : FileClaim) → is_recorded_cluster claims.clusters claims.root ≡ true → ClustersAscend 0 claims.clusters → Contains claims.files file
         → has_cluster claims.clusters file.cluster ≡ true → IsGuarded (is_in (spans_of claims.fixed)) claims.clusters claims.files file
         → is_among (kept_of claims).clusters file.cluster ≡ true }
-    ensures file { (claims : Claims) (file : FileClaim) → is_recorded claims.clusters claims.root ≡ true → Ascend 0 claims.clusters → Contains claims.files file
+    ensures file { (claims : Claims) (file : FileClaim) → is_recorded_cluster claims.clusters claims.root ≡ true → ClustersAscend 0 claims.clusters → Contains claims.files file
         → has_cluster claims.clusters file.cluster ≡ true → IsGuarded (is_in (spans_of claims.fixed)) claims.clusters claims.files file
         → is_among (kept_of claims).files file.ino ≡ true }
 {}

@@ -3,8 +3,8 @@ use Rattle.std.proofs.Common.{◌≡◌, ℕ, zero, suc, ◌+◌, ◌*◌, ◌<�
 use Rattle.std.proofs.lemmas.List.{get_or_append_left, get_or-append-add, take-append-le, drop-append-le, length-drop}
 use Rattle.xfs_disk.specs.Blocks.{Image}
 use Rattle.xfs_word.specs.Field.{part_of}
-use Rattle.xfs_treebuild.specs.Packing.{Holds}
-use Rattle.xfs_tree.specs.Reading.{bytes_at}
+use Rattle.xfs_treebuild.specs.Packing.{HoldsParts}
+use Rattle.xfs_tree.specs.Reading.{bytes_of_block}
 use Rattle.xfs_render.specs.Drafts.{Adds, AddsPart, HoldsDraft, IsDraft}
 use Rattle.xfs_render.specs.declared.draft.Draft.{Draft}
 
@@ -27,26 +27,26 @@ unfolding part_of
 part_behind a b n at width len = ap (take width) (drop_behind a b (n + at) at (omega (arith, len)))
 
 -- an image that has all has those before, and has what was put
-pub held_before : (image : Image) (ps qs bs cs : List ℕ) → length bs ≡ 4096 * length ps → Holds image (ps ++ qs) (bs ++ cs) → Holds image ps bs
+pub held_before : (image : Image) (ps qs bs cs : List ℕ) → length bs ≡ 4096 * length ps → HoldsParts image (ps ++ qs) (bs ++ cs) → HoldsParts image ps bs
 held_before image ps qs bs cs whole held = λ j inside.
     let there : j < length (ps ++ qs) = omega (arith, inside, length-append ps qs) in
     let place : get_or (ps ++ qs) j 0 ≡ get_or ps j 0 = get_or_append_left ps qs 0 j inside in
-    ap (bytes_at image) (sym place) ∙ held j there ∙ part_before bs cs (4096 * j) 4096 (omega (arith, whole, inside))
+    ap (bytes_of_block image) (sym place) ∙ held j there ∙ part_before bs cs (4096 * j) 4096 (omega (arith, whole, inside))
 
-pub held_behind : (image : Image) (ps qs bs cs : List ℕ) → length bs ≡ 4096 * length ps → Holds image (ps ++ qs) (bs ++ cs) → Holds image qs cs
+pub held_behind : (image : Image) (ps qs bs cs : List ℕ) → length bs ≡ 4096 * length ps → HoldsParts image (ps ++ qs) (bs ++ cs) → HoldsParts image qs cs
 held_behind image ps qs bs cs whole held = λ j inside.
     let there : length ps + j < length (ps ++ qs) = omega (arith, inside, length-append ps qs) in
     let place : get_or (ps ++ qs) (length ps + j) 0 ≡ get_or qs j 0 = get_or-append-add ps qs j 0 in
     let at : 4096 * (length ps + j) ≡ 4096 * length ps + 4096 * j = omega arith in
-    ap (bytes_at image) (sym place) ∙ held (length ps + j) there ∙ ap (λ n. part_of (bs ++ cs) n 4096) at
+    ap (bytes_of_block image) (sym place) ∙ held (length ps + j) there ∙ ap (λ n. part_of (bs ++ cs) n 4096) at
     ∙ part_behind bs cs (4096 * length ps) (4096 * j) 4096 whole
 
 pub added : (old new : Draft) (places part : List ℕ) → IsDraft old → length part ≡ 4096 * length places → new.places.items ≡ old.places.items ++ places
     → new.bytes.items ≡ old.bytes.items ++ part → AddsPart old new places part
 added old new places part was whole at bytes =
     let move = λ (image : Image) (held : HoldsDraft image new).
-    let here : Holds image (old.places.items ++ places) new.bytes.items = subst (λ (ps : List ℕ). Holds image ps new.bytes.items) at held in
-    let all : Holds image (old.places.items ++ places) (old.bytes.items ++ part) = subst (λ (bs : List ℕ). Holds image (old.places.items ++ places) bs) bytes here in
+    let here : HoldsParts image (old.places.items ++ places) new.bytes.items = subst (λ (ps : List ℕ). HoldsParts image ps new.bytes.items) at held in
+    let all : HoldsParts image (old.places.items ++ places) (old.bytes.items ++ part) = subst (λ (bs : List ℕ). HoldsParts image (old.places.items ++ places) bs) bytes here in
     all in
     record {
       adds = record {
@@ -73,5 +73,5 @@ whole_block : (block : List ℕ) → length block ≡ 4096 → part_of block 0 4
 unfolding part_of
 whole_block block size = take_all 4096 block (omega (arith, size))
 
-pub held_one : (image : Image) (place : ℕ) (block : List ℕ) → length block ≡ 4096 → Holds image (place ∷ []) block → bytes_at image place ≡ block
+pub held_one : (image : Image) (place : ℕ) (block : List ℕ) → length block ≡ 4096 → HoldsParts image (place ∷ []) block → bytes_of_block image place ≡ block
 held_one image place block size held = held 0 (omega arith) ∙ whole_block block size

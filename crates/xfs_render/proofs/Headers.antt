@@ -10,7 +10,7 @@ use Rattle.xfs_geom.specs.declared.records.InoRec.{InoRec}
 use Rattle.xfs_heads.specs.FreeList.{unused}
 use Rattle.xfs_heads.specs.FreeSpace.{is_agf_shaped}
 use Rattle.xfs_heads.specs.declared.free_list.Agfl.{Agfl}
-use Rattle.xfs_heads.specs.Heads.{is_level, is_root}
+use Rattle.xfs_heads.specs.Heads.{is_level, is_root_block}
 use Rattle.xfs_heads.specs.Inodes.{is_agi_shaped}
 use Rattle.xfs_kinds.specs.FreeTrees.{bno_shape, cnt_shape}
 use Rattle.xfs_kinds.specs.InodeTrees.{ino_shape, fino_shape}
@@ -19,7 +19,7 @@ use Rattle.xfs_place.specs.declared.placed.GroupPlaced.{GroupPlaced}
 use Rattle.xfs_treebuild.specs.Packing.{root_of}
 use Rattle.xfs_tree.specs.Shape.{Shape}
 use Rattle.xfs_render.specs.Counters.{levels}
-use Rattle.xfs_render.specs.Groups.{CanPack, IsSound, due_agf, due_agfl, due_agi, last_entry, tree_places}
+use Rattle.xfs_render.specs.Groups.{CanPack, IsSoundGroup, due_agf, due_agfl, due_agi, last_entry, tree_places}
 use Rattle.xfs_render.proofs.Levels.{levels_few}
 use Rattle.xfs_render.proofs.Roots.{root_in_group}
 use Rattle.xfs_render.proofs.Sums.{tree_small}
@@ -31,7 +31,7 @@ level_fits leaf_cap node_cap records leaves nodes few =
 
 -- the root of a tree that can be packed is an AG block behind the first
 root_fits : {R K : Type 0} (s : Shape R K) (v : Volume) (ag : ℕ) (records : List R) (places : List ℕ) → 1 ≤ v.agblocks → s.layout.long ≡ false → s.owner ≡ ag
-    → 1 ≤ s.layout.leaf_cap → 2 ≤ s.layout.node_cap → CanPack s v records places → is_root (root_of places % v.agblocks) (group_length v ag) ≡ true
+    → 1 ≤ s.layout.leaf_cap → 2 ≤ s.layout.node_cap → CanPack s v records places → is_root_block (root_of places % v.agblocks) (group_length v ag) ≡ true
 root_fits s v ag records places some short owner leaves nodes can =
     let there = (tree_small s.layout.leaf_cap s.layout.node_cap (length records) (length places) leaves nodes can.few can.size).0 in
     let root = root_in_group s v ag records places some short owner there can in
@@ -50,7 +50,7 @@ list_fits n short = by_case (n == 0) refl
         let turn : (n - 1 + 119 - 0) % 119 + 1 ≡ n = omega (arith, some, short) in
         both_true (both_true (lt-ltb (n - 1) 119 low) (le-leb n 119 (omega (arith, short)))) (eq-eqb _ n turn)
 
-module _ (v : Volume) (ag : ℕ) (inodes : List InoRec) (p : GroupPlaced) (some : 1 ≤ v.agblocks) (sound : IsSound v ag inodes p) where
+module _ (v : Volume) (ag : ℕ) (inodes : List InoRec) (p : GroupPlaced) (some : 1 ≤ v.agblocks) (sound : IsSoundGroup v ag inodes p) where
   pub agf_shaped : IsTrue (is_agf_shaped v ag (due_agf v ag p))
   agf_shaped =
       let whole = eq-eqb (group_length v ag) (group_length v ag) refl in

@@ -5,20 +5,20 @@ use Rattle.std.specs.List.{All, range_with_len}
 use Rattle.std.proofs.lemmas.Bool.{and_from, le-leb, lt-ltb, ne_eqb, not_from_false}
 use Rattle.std.proofs.lemmas.Bool.Decides.{nat_tests}
 use Rattle.std.proofs.lemmas.List.Elements.{All-append, All-cons, All-head, All-nil, All-tail}
+use Rattle.xfs_disk.specs.Lists.{is_in_range}
 use Rattle.xfs_geom.specs.Conversions.{group_length}
 use Rattle.xfs_geom.specs.Volumes.{Volume}
 use Rattle.xfs_geom.specs.declared.records.RmapRec.{RmapRec}
 use Rattle.xfs_geom.specs.declared.records.Run.{Run}
-use Rattle.xfs_kinds.specs.FreeRuns.{is_block}
-use Rattle.xfs_kinds.specs.MergedRuns.{AreRuns, held_at, word_at}
+use Rattle.xfs_kinds.specs.MergedRuns.{AreRuns, held_at, offset_word_at}
 use Rattle.xfs_kinds.specs.OffsetWords.{is_file_data, offset_in_fork}
 use Rattle.xfs_kinds.specs.OwnerTrees.{follows_end, is_owned_run, rmap_shape}
 use Rattle.xfs_tree.specs.Rules.{are_lawful}
 use Rattle.xfs_place.specs.Choice.{Group, in_pool, is_inner, owned_at, owner_by, owner_of, rank}
-use Rattle.xfs_place.specs.Claims.{IsClaim}
-use Rattle.xfs_place.specs.Placing.{run_of}
+use Rattle.xfs_place.specs.Claims.{IsClaimedRun}
+use Rattle.xfs_place.specs.Placing.{run_of_record}
 use Rattle.xfs_place.specs.Wanted.{claim_in, fixed_runs, header_run, log_run}
-use Rattle.xfs_render.specs.Readiness.{IsOwned}
+use Rattle.xfs_render.specs.Readiness.{HasOwner}
 
 -- an owner and an offset word that a record can have
 pub record IsWord (owner word : ℕ) : Type 0 where
@@ -34,7 +34,7 @@ word_in None = 0
 word_in (Some p) = p.1
 
 -- the words of a run do not leave their bits
-word_small : (top : ℕ) (r : Run) (b : ℕ) → IsOwned r → IsClaim top r → is_block r.start r.count b ≡ true → word_at r b < 2 ^ 64
+word_small : (top : ℕ) (r : Run) (b : ℕ) → HasOwner r → IsClaimedRun top r → is_in_range r.start r.count b ≡ true → offset_word_at r b < 2 ^ 64
 word_small top r b owned claim inside = by_case (is_file_data r.owner r.offset) refl
   where
     near : b < r.start + r.count
@@ -46,37 +46,37 @@ word_small top r b owned claim inside = by_case (is_file_data r.owner r.offset) 
         omega (arith, fits, owned.offset, near)
     by_case false h = owned.offset
 
-pub held_owned : (top : ℕ) (rs : List Run) (b o w : ℕ) → All IsOwned rs → All (IsClaim top) rs → held_at rs b ≡ Some (o, w) → IsWord o w
+pub held_owned : (top : ℕ) (rs : List Run) (b o w : ℕ) → All HasOwner rs → All (IsClaimedRun top) rs → held_at rs b ≡ Some (o, w) → IsWord o w
 unfolding owner_in word_in
 held_owned top [] b o w owned each held = absurd cc
 held_owned top (r ∷ rest) b o w owned each held =
-    by_case (is_block r.start r.count b) refl held (held_owned top rest b o w (All-tail IsOwned r rest owned) (All-tail (IsClaim top) r rest each))
+    by_case (is_in_range r.start r.count b) refl held (held_owned top rest b o w (All-tail HasOwner r rest owned) (All-tail (IsClaimedRun top) r rest each))
   where
-    mine : IsOwned r
-    mine = All-head IsOwned r rest owned
+    mine : HasOwner r
+    mine = All-head HasOwner r rest owned
 
-    by_case : (t : Bool) → is_block r.start r.count b ≡ t → (if t then Some (r.owner, word_at r b) else held_at rest b) ≡ Some (o, w)
+    by_case : (t : Bool) → is_in_range r.start r.count b ≡ t → (if t then Some (r.owner, offset_word_at r b) else held_at rest b) ≡ Some (o, w)
         → (held_at rest b ≡ Some (o, w) → IsWord o w) → IsWord o w
     by_case true inside same next =
         let owner : r.owner ≡ o = ap owner_in same in
-        let word : word_at r b ≡ w = ap word_in same in
-        let small = word_small top r b mine (All-head (IsClaim top) r rest each) inside in
+        let word : offset_word_at r b ≡ w = ap word_in same in
+        let small = word_small top r b mine (All-head (IsClaimedRun top) r rest each) inside in
         record { owner' = subst (λ (n : ℕ). n < 2 ^ 64 - 1) owner mine.owner; word' = subst (λ (n : ℕ). n < 2 ^ 64) word small }
     by_case false out same next = next same
 
-headers_owned : (v : Volume) (a n : ℕ) → All IsOwned (map (header_run v) (range_with_len a n))
-headers_owned v a zero = All-nil IsOwned
+headers_owned : (v : Volume) (a n : ℕ) → All HasOwner (map (header_run v) (range_with_len a n))
+headers_owned v a zero = All-nil HasOwner
 headers_owned v a (suc n) =
-    All-cons IsOwned (header_run v a) (map (header_run v) (range_with_len (a + 1) n)) (record { owner = omega arith; offset = omega arith }) (headers_owned v (a + 1) n)
+    All-cons HasOwner (header_run v a) (map (header_run v) (range_with_len (a + 1) n)) (record { owner = omega arith; offset = omega arith }) (headers_owned v (a + 1) n)
 
-pub fixed_owned : (v : Volume) (kept : List Run) → All IsOwned kept → All IsOwned (fixed_runs v ++ kept)
+pub fixed_owned : (v : Volume) (kept : List Run) → All HasOwner kept → All HasOwner (fixed_runs v ++ kept)
 fixed_owned v kept owned =
-    All-append IsOwned (fixed_runs v) kept
-    (All-cons IsOwned (log_run v) (map (header_run v) (range_with_len 0 v.agcount)) (record { owner = omega arith; offset = omega arith }) (headers_owned v 0 v.agcount))
+    All-append HasOwner (fixed_runs v) kept
+    (All-cons HasOwner (log_run v) (map (header_run v) (range_with_len 0 v.agcount)) (record { owner = omega arith; offset = omega arith }) (headers_owned v 0 v.agcount))
     owned
 
 -- what the claims of a group say
-pub claim_owned : (v : Volume) (kept : List Run) (ag b o w : ℕ) → All IsOwned (fixed_runs v ++ kept) → All (IsClaim v.dblocks) (fixed_runs v ++ kept)
+pub claim_owned : (v : Volume) (kept : List Run) (ag b o w : ℕ) → All HasOwner (fixed_runs v ++ kept) → All (IsClaimedRun v.dblocks) (fixed_runs v ++ kept)
     → claim_in v kept ag b ≡ Some (o, w) → IsWord o w
 unfolding claim_in
 claim_owned v kept ag b o w owned each held = by_case (nat_lt b (group_length v ag)) held
@@ -103,22 +103,22 @@ placed_owned g space n b o w claimed held = by_case (in_pool g.uses b && nat_lt 
     by_case false same = claimed same
 
 -- the first block of a run has its owner and its word
-held_first : (r : RmapRec) (rest : List Run) → 1 ≤ r.count → held_at (run_of r ∷ rest) r.start ≡ Some (r.owner, r.offset)
+held_first : (r : RmapRec) (rest : List Run) → 1 ≤ r.count → held_at (run_of_record r ∷ rest) r.start ≡ Some (r.owner, r.offset)
 held_first r rest some =
-    let here : is_block r.start r.count r.start ≡ true = grind (arith, nat_tests, some) in
-    ap (λ (t : Bool). if t then Some (r.owner, word_at (run_of r) r.start) else held_at rest r.start) here
+    let here : is_in_range r.start r.count r.start ≡ true = grind (arith, nat_tests, some) in
+    ap (λ (t : Bool). if t then Some (r.owner, offset_word_at (run_of_record r) r.start) else held_at rest r.start) here
     ∙ ap (λ (w : ℕ). Some (r.owner, w)) (by_case (is_file_data r.owner r.offset))
   where
     by_case : (t : Bool) → (if t then r.offset + (r.start - r.start) else r.offset) ≡ r.offset
     by_case true = omega arith
     by_case false = refl
 
-held_later : (r : RmapRec) (rest : List Run) (b : ℕ) → r.start + r.count ≤ b → held_at (run_of r ∷ rest) b ≡ held_at rest b
+held_later : (r : RmapRec) (rest : List Run) (b : ℕ) → r.start + r.count ≤ b → held_at (run_of_record r ∷ rest) b ≡ held_at rest b
 held_later r rest b past =
-    let out : is_block r.start r.count b ≡ false = grind (arith, nat_tests, past) in
-    ap (λ (t : Bool). if t then Some (r.owner, word_at (run_of r) b) else held_at rest b) out
+    let out : is_in_range r.start r.count b ≡ false = grind (arith, nat_tests, past) in
+    ap (λ (t : Bool). if t then Some (r.owner, offset_word_at (run_of_record r) b) else held_at rest b) out
 
-offset_small : (top : ℕ) (r : Run) → top < 2 ^ 32 → IsClaim top r → offset_in_fork r.offset + r.count ≤ 2 ^ 54
+offset_small : (top : ℕ) (r : Run) → top < 2 ^ 32 → IsClaimedRun top r → offset_in_fork r.offset + r.count ≤ 2 ^ 54
 offset_small top r small claim = by_case (is_file_data r.owner r.offset) refl
   where
     by_case : (t : Bool) → is_file_data r.owner r.offset ≡ t → offset_in_fork r.offset + r.count ≤ 2 ^ 54
@@ -126,13 +126,13 @@ offset_small top r small claim = by_case (is_file_data r.owner r.offset) refl
     by_case false h = omega (arith, claim.plain h, claim.inside, small)
 
 module _ (v : Volume) (ag : ℕ) (there : ag < v.agcount) (small : group_length v ag < 2 ^ 32) where
-  owned_run : (r : RmapRec) → IsClaim (group_length v ag) (run_of r) → IsWord r.owner r.offset → is_owned_run v ag r ≡ true
+  owned_run : (r : RmapRec) → IsClaimedRun (group_length v ag) (run_of_record r) → IsWord r.owner r.offset → is_owned_run v ag r ≡ true
   owned_run r claim word =
       let fits = and_from _ _
       (and_from _ _ (and_from _ _ (lt-ltb r.start (2 ^ 32) (omega (arith, claim.inside, small))) (lt-ltb r.count (2 ^ 32) (omega (arith, claim.inside, small)))) (lt-ltb r.owner (2 ^ 64) (omega (arith, word.owner'))))
       (lt-ltb r.offset (2 ^ 64) word.word') in
       let owner = not_from_false (r.owner == 2 ^ 64 - 1) (ne_eqb r.owner (2 ^ 64 - 1) (λ e. absurd (omega (arith, e, word.owner')))) in
-      let offset = le-leb (offset_in_fork r.offset + r.count) (2 ^ 54) (offset_small (group_length v ag) (run_of r) small claim) in
+      let offset = le-leb (offset_in_fork r.offset + r.count) (2 ^ 54) (offset_small (group_length v ag) (run_of_record r) small claim) in
       and_from _ _
       (and_from _ _ (and_from _ _ (and_from _ _ fits (le-leb 1 r.count claim.some)) owner) offset)
       (and_from _ _ (lt-ltb ag v.agcount there) (le-leb (r.start + r.count) (group_length v ag) claim.inside))
@@ -146,13 +146,13 @@ module _ (v : Volume) (ag : ℕ) (there : ag < v.agcount) (small : group_length 
   follows (Some b) low r end from = le-leb (b.start + b.count) r.start (omega (arith, end, from))
 
   pub owners_lawful : (owned : ℕ → Option (ℕ × ℕ)) (low : ℕ) (before : Option RmapRec) (rs : List RmapRec) → ((b o w : ℕ) → owned b ≡ Some (o, w) → IsWord o w)
-      → EndsBy before low → AreRuns low (map run_of rs) → All (IsClaim (group_length v ag)) (map run_of rs)
-      → ((b : ℕ) → low ≤ b → b < group_length v ag → held_at (map run_of rs) b ≡ owned b) → IsTrue (are_lawful (rmap_shape ag) v before rs)
+      → EndsBy before low → AreRuns low (map run_of_record rs) → All (IsClaimedRun (group_length v ag)) (map run_of_record rs)
+      → ((b : ℕ) → low ≤ b → b < group_length v ag → held_at (map run_of_record rs) b ≡ owned b) → IsTrue (are_lawful (rmap_shape ag) v before rs)
   owners_lawful owned low before [] words end runs each held = refl
   owners_lawful owned low before (r ∷ rest) words end runs each held =
-      let claim = All-head (IsClaim (group_length v ag)) (run_of r) (map run_of rest) each in
-      let first = held_first r (map run_of rest) claim.some in
+      let claim = All-head (IsClaimedRun (group_length v ag)) (run_of_record r) (map run_of_record rest) each in
+      let first = held_first r (map run_of_record rest) claim.some in
       let word = words r.start r.owner r.offset (sym (held r.start runs.0 (omega (arith, claim.inside, claim.some))) ∙ first) in
-      let so = owners_lawful owned (r.start + r.count) (Some r) rest words (omega arith) runs.2 (All-tail (IsClaim (group_length v ag)) (run_of r) (map run_of rest) each)
-      (λ b from inside. sym (held_later r (map run_of rest) b from) ∙ held b (omega (arith, from, runs.0)) inside) in
+      let so = owners_lawful owned (r.start + r.count) (Some r) rest words (omega arith) runs.2 (All-tail (IsClaimedRun (group_length v ag)) (run_of_record r) (map run_of_record rest) each)
+      (λ b from inside. sym (held_later r (map run_of_record rest) b from) ∙ held b (omega (arith, from, runs.0)) inside) in
       and_from _ _ (and_from _ _ (owned_run r claim word) (follows before low r end runs.0)) so

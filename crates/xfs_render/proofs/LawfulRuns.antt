@@ -7,10 +7,11 @@ use Rattle.std.proofs.lemmas.Bool.{and_from, cases_lt, le-leb, lt-ltb, or_left, 
 use Rattle.std.proofs.lemmas.Bool.Decides.{nat_tests}
 use Rattle.std.proofs.lemmas.List.Elements.{All-cons, All-head, All-nil, All-tail}
 use Rattle.std.proofs.lemmas.List.Sorted.{All-permutation, length_permutation}
+use Rattle.xfs_disk.specs.Lists.{is_in_range}
 use Rattle.xfs_geom.specs.Conversions.{group_length}
 use Rattle.xfs_geom.specs.Volumes.{Volume}
 use Rattle.xfs_geom.specs.declared.records.Span.{Span}
-use Rattle.xfs_kinds.specs.FreeRuns.{AreSeparate, is_block, is_in}
+use Rattle.xfs_kinds.specs.FreeRuns.{AreSeparate, is_in_spans}
 use Rattle.xfs_kinds.specs.FreeTrees.{begins_behind, bno_shape, cnt_shape, is_free_run, ranks_behind}
 use Rattle.xfs_tree.specs.Rules.{are_lawful}
 use Rattle.xfs_place.proofs.Counted.{ends, in_behind}
@@ -33,7 +34,7 @@ module _ (v : Volume) (ag : ℕ) (there : ag < v.agcount) (small : group_length 
   follows low (Some b) s below from = lt-ltb (b.start + b.count) s.start (omega (arith, below, from))
 
   by_start : (low : ℕ) (before : Option Span) (rs : List Span) → 1 ≤ low → IsBelow low before → AreSeparate low rs
-      → ((b : ℕ) → group_length v ag ≤ b → is_in rs b ≡ false) → IsTrue (are_lawful (bno_shape ag) v before rs)
+      → ((b : ℕ) → group_length v ag ≤ b → is_in_spans rs b ≡ false) → IsTrue (are_lawful (bno_shape ag) v before rs)
   by_start low before [] some below apart far = refl
   by_start low before (s ∷ rest) some below apart far =
       let end = ends s rest low (group_length v ag) apart far in
@@ -42,7 +43,7 @@ module _ (v : Volume) (ag : ℕ) (there : ag < v.agcount) (small : group_length 
       let so = by_start (s.start + s.count + 1) (Some s) rest (omega arith) behind apart.2 (λ b past. sym (in_behind s rest b (omega (arith, end, past))) ∙ far b past) in
       and_from _ _ (and_from _ _ own (follows low before s below apart.0)) so
 
-  each_run : (low : ℕ) (rs : List Span) → 1 ≤ low → AreSeparate low rs → ((b : ℕ) → group_length v ag ≤ b → is_in rs b ≡ false)
+  each_run : (low : ℕ) (rs : List Span) → 1 ≤ low → AreSeparate low rs → ((b : ℕ) → group_length v ag ≤ b → is_in_spans rs b ≡ false)
       → All (λ s. is_free_run v ag s ≡ true) rs
   each_run low [] some apart far = All-nil (λ s. is_free_run v ag s ≡ true)
   each_run low (s ∷ rest) some apart far =
@@ -51,20 +52,20 @@ module _ (v : Volume) (ag : ℕ) (there : ag < v.agcount) (small : group_length 
       (each_run (s.start + s.count + 1) rest (omega arith) apart.2 (λ b past. sym (in_behind s rest b (omega (arith, end, past))) ∙ far b past))
 
   -- no run has the first block of the group
-  behind_first : (rs : List Span) → AreSeparate 0 rs → is_in rs 0 ≡ false → AreSeparate 1 rs
+  behind_first : (rs : List Span) → AreSeparate 0 rs → is_in_spans rs 0 ≡ false → AreSeparate 1 rs
   behind_first [] apart none = tt
   behind_first (s ∷ rest) apart none = (
     elim (cases_lt 0 s.start) [
       | inl later ↦ omega (arith, later)
       | inr first ↦
-          let has : is_block s.start s.count 0 ≡ true = grind (arith, nat_tests, first, apart.1) in
-          absurd (true≢false (sym (or_left (is_block s.start s.count 0) (is_in rest 0) has) ∙ none))
+          let has : is_in_range s.start s.count 0 ≡ true = grind (arith, nat_tests, first, apart.1) in
+          absurd (true≢false (sym (or_left (is_in_range s.start s.count 0) (is_in_spans rest 0) has) ∙ none))
     ],
     apart.1,
     apart.2,
   )
 
-  pub runs_lawful : (rs : List Span) → AreSeparate 0 rs → is_in rs 0 ≡ false → ((b : ℕ) → group_length v ag ≤ b → is_in rs b ≡ false)
+  pub runs_lawful : (rs : List Span) → AreSeparate 0 rs → is_in_spans rs 0 ≡ false → ((b : ℕ) → group_length v ag ≤ b → is_in_spans rs b ≡ false)
       → IsTrue (are_lawful (bno_shape ag) v None rs)
   runs_lawful rs apart none far = by_start 1 None rs (omega arith) tt (behind_first rs apart none) far
 
@@ -81,7 +82,7 @@ module _ (v : Volume) (ag : ℕ) (there : ag < v.agcount) (small : group_length 
       let so = by_length (Some s) rest next (All-tail (λ t. is_free_run v ag t ≡ true) s rest each) tail in
       and_from _ _ (and_from _ _ (All-head (λ t. is_free_run v ag t ≡ true) s rest each) (first s rest refl)) so
 
-  pub lengths_lawful : (rs sorted : List Span) → AreSeparate 0 rs → is_in rs 0 ≡ false → ((b : ℕ) → group_length v ag ≤ b → is_in rs b ≡ false)
+  pub lengths_lawful : (rs sorted : List Span) → AreSeparate 0 rs → is_in_spans rs 0 ≡ false → ((b : ℕ) → group_length v ag ≤ b → is_in_spans rs b ≡ false)
       → AreByLength rs sorted → IsTrue (are_lawful (cnt_shape ag) v None sorted)
   lengths_lawful rs sorted apart none far by =
       by_length None sorted (λ s rest e. refl)

@@ -4,9 +4,10 @@ use Rattle.std.specs.List.{list_any}
 use Rattle.std.proofs.lemmas.Bool.{cases_eq}
 use Rattle.std.proofs.lemmas.Bool.Decides.{nat_tests}
 use Rattle.std.proofs.lemmas.List.Folds.{list_any_more}
+use Rattle.xfs_geom.specs.Runs.{covers}
 use Rattle.xfs_geom.specs.declared.records.Run.{Run}
-use Rattle.xfs_place.specs.Pool.{is_of, is_taken}
-use Rattle.xfs_render.specs.NewBlocks.{AreMarked, Marks}
+use Rattle.xfs_place.specs.Pool.{is_taken}
+use Rattle.xfs_render.specs.NewBlocks.{AreMarked, MarksNew}
 
 or_false : (x : Bool) → x ≡ (x || false)
 or_false true = refl
@@ -36,13 +37,13 @@ more_marked marks first block b m low inside there before = elim (cases_eq b blo
 
 -- one run more
 pub runs_more : (blocks : ℕ) (runs : List Run) (i : ℕ) (r : Run) (old new : List Bool) → i < length runs → r ≡ get_or runs i r → AreMarked blocks (take i runs) old
-    → Marks (λ b. is_of b r) old new → AreMarked blocks (take (i + 1) runs) new
+    → MarksNew (λ b. covers b r) old new → AreMarked blocks (take (i + 1) runs) new
 unfolding is_taken
 runs_more blocks runs i r old new inside is first next = record {
   all = next.all ∙ first.all;
   each = λ b low.
-      next.each b (omega (arith, first.all, low)) ∙ ap (λ (t : Bool). t || is_of b r) (first.each b low)
-      ∙ ap (λ (x : Run). list_any (is_of b) (take i runs) || is_of b x) is ∙ sym (list_any_more (is_of b) runs i r inside);
+      next.each b (omega (arith, first.all, low)) ∙ ap (λ (t : Bool). t || covers b r) (first.each b low)
+      ∙ ap (λ (x : Run). list_any (covers b) (take i runs) || covers b x) is ∙ sym (list_any_more (covers b) runs i r inside);
 }
 
 pub none_marked : (blocks : ℕ) (marks : List Bool) → length marks ≡ blocks → ((b : ℕ) → b < blocks → get_or marks b false ≡ false) → AreMarked blocks [] marks

@@ -8,30 +8,30 @@ use Rattle.std.proofs.lemmas.List.{get_or-append-add, get_or-map, get_or_append_
 use Rattle.std.proofs.lemmas.List.Sorted.{All-permutation, Contains-permutation, IsPermutation-append, length_permutation, sum_by-IsPermutation}
 use Rattle.std.proofs.lemmas.List.Sums.{sum_by-cons}
 use Rattle.xfs_disk.specs.Blocks.{Image}
-use Rattle.xfs_treebuild.specs.Packing.{block_in}
-use Rattle.xfs_tree.specs.Reading.{bytes_at}
+use Rattle.xfs_treebuild.specs.Packing.{block_of_part}
+use Rattle.xfs_tree.specs.Reading.{bytes_of_block}
 use Rattle.xfs_render.specs.Drafts.{HoldsDraft}
-use Rattle.xfs_render.specs.Plans.{AreRows, HasRows, IsArranged, IsOnce, planned}
-use Rattle.xfs_render.specs.declared.arranging.Row.{Row}
+use Rattle.xfs_render.specs.Plans.{AreSortedRows, HasRows, IsArranged, IsOnce, planned}
+use Rattle.xfs_render.specs.declared.arranging.DraftRow.{DraftRow}
 use Rattle.xfs_render.specs.declared.draft.Draft.{Draft}
 use Rattle.xfs_render.specs.declared.plan.Plan.{Plan}
 
 -- a row names a place by its index
-record Names (places : List ℕ) (r : Row) : Type 0 where
+record Names (places : List ℕ) (r : DraftRow) : Type 0 where
   inside : r.index < length places
   is : get_or places r.index 0 ≡ r.place
 
 -- rows in the order of their places
-pub rows_sorted : (places : List ℕ) (rows sorted : List Row) → map (λ (r : Row). r.place) rows ≡ places → ((k : ℕ) (d : Row) → k < length rows → (get_or rows k d).index ≡ k)
-    → IsPermutation rows sorted → IsNonDecreasingBy (λ (r : Row). r.place) sorted → AreRows places sorted
+pub rows_sorted : (places : List ℕ) (rows sorted : List DraftRow) → map (λ (r : DraftRow). r.place) rows ≡ places → ((k : ℕ) (d : DraftRow) → k < length rows → (get_or rows k d).index ≡ k)
+    → IsPermutation rows sorted → IsNonDecreasingBy (λ (r : DraftRow). r.place) sorted → AreSortedRows places sorted
 rows_sorted places rows sorted all index moved order =
-    let count : length places ≡ length rows = sym (ap length all) ∙ length-map rows (λ (r : Row). r.place) in
+    let count : length places ≡ length rows = sym (ap length all) ∙ length-map rows (λ (r : DraftRow). r.place) in
     let same : length sorted ≡ length rows = length_permutation rows sorted moved in
     let names : All (Names places) rows = λ k d inside.
     let at : (get_or rows k d).index ≡ k = index k d inside in
     record {
       inside = omega (arith, at, count, inside);
-      is = ap (λ n. get_or places n 0) at ∙ ap (λ (xs : List ℕ). get_or xs k 0) (sym all) ∙ get_or-map (λ (r : Row). r.place) rows k d 0 inside;
+      is = ap (λ n. get_or places n 0) at ∙ ap (λ (xs : List ℕ). get_or xs k 0) (sym all) ∙ get_or-map (λ (r : DraftRow). r.place) rows k d 0 inside;
     } in
     let moved_names : All (Names places) sorted = All-permutation (Names places) rows sorted moved names in
     record {
@@ -42,7 +42,7 @@ rows_sorted places rows sorted all index moved order =
       covers = λ j d inside.
           let there : j < length rows = omega (arith, count, inside) in
           let found = Contains-permutation rows sorted (get_or rows j d) moved (j, there, get_or_default rows j (get_or rows j d) d there) in
-          (found.0, found.1, ap (λ (r : Row). r.index) (get_or_default sorted found.0 d (get_or rows j d) found.1 ∙ found.2) ∙ index j d there);
+          (found.0, found.1, ap (λ (r : DraftRow). r.index) (get_or_default sorted found.0 d (get_or rows j d) found.1 ∙ found.2) ∙ index j d there);
     }
 
 abbrev one_if : Bool → ℕ
@@ -65,15 +65,15 @@ twice (x ∷ y ∷ xs) (suc k) (suc j) p e inside here next =
     omega (arith, sum_by-cons one x (y ∷ xs), twice (y ∷ xs) k j p (omega (arith, e)) (omega (arith, inside)) here next)
 
 -- places that stand once each ascend strictly
-pub strictly : (places : List ℕ) (rows : List Row) → IsOnce places → IsPermutation places (map (λ (r : Row). r.place) rows) → IsNonDecreasingBy (λ (r : Row). r.place) rows
-    → IsStrictlyIncreasing (map (λ (r : Row). r.place) rows)
+pub strictly : (places : List ℕ) (rows : List DraftRow) → IsOnce places → IsPermutation places (map (λ (r : DraftRow). r.place) rows) → IsNonDecreasingBy (λ (r : DraftRow). r.place) rows
+    → IsStrictlyIncreasing (map (λ (r : DraftRow). r.place) rows)
 strictly places rows once moved order = λ k inside.
-    let xs = map (λ (r : Row). r.place) rows in
-    let d : Row = record { place = 0; index = 0 } in
-    let long : length xs ≡ length rows = length-map rows (λ (r : Row). r.place) in
+    let xs = map (λ (r : DraftRow). r.place) rows in
+    let d : DraftRow = record { place = 0; index = 0 } in
+    let long : length xs ≡ length rows = length-map rows (λ (r : DraftRow). r.place) in
     let up : (get_or rows k d).place ≤ (get_or rows (k + 1) d).place = order k (k + 1) d (omega arith) (omega (arith, long, inside)) in
-    let here : get_or xs k 0 ≡ (get_or rows k d).place = get_or-map (λ (r : Row). r.place) rows k d 0 (omega (arith, long, inside)) in
-    let next : get_or xs (k + 1) 0 ≡ (get_or rows (k + 1) d).place = get_or-map (λ (r : Row). r.place) rows (k + 1) d 0 (omega (arith, long, inside)) in
+    let here : get_or xs k 0 ≡ (get_or rows k d).place = get_or-map (λ (r : DraftRow). r.place) rows k d 0 (omega (arith, long, inside)) in
+    let next : get_or xs (k + 1) 0 ≡ (get_or rows (k + 1) d).place = get_or-map (λ (r : DraftRow). r.place) rows (k + 1) d 0 (omega (arith, long, inside)) in
     let p = get_or xs k 0 in
     let count : count_by (λ o. o == p) xs ≡ count_by (λ o. o == p) places = sum_by-IsPermutation (λ (o : ℕ). one_if (o == p)) places xs moved in
     let few = once.each p in
@@ -86,22 +86,22 @@ strictly places rows once moved order = λ k inside.
     ]
 
 -- an image that has the rows of a draft from some index of a plan on has the draft
-held_rows : (image : Image) (d : Draft) (rows : List Row) → AreRows d.places.items rows
-    → ((k : ℕ) (r : Row) → k < length rows → bytes_at image (get_or rows k r).place ≡ block_in d.bytes.items (get_or rows k r).index) → HoldsDraft image d
+held_rows : (image : Image) (d : Draft) (rows : List DraftRow) → AreSortedRows d.places.items rows
+    → ((k : ℕ) (r : DraftRow) → k < length rows → bytes_of_block image (get_or rows k r).place ≡ block_of_part d.bytes.items (get_or rows k r).index) → HoldsDraft image d
 held_rows image d rows are held = λ j inside.
-    let r : Row = record { place = 0; index = 0 } in
+    let r : DraftRow = record { place = 0; index = 0 } in
     let found = are.covers j r inside in
     let k = found.0 in
     let index : (get_or rows k r).index ≡ j = found.2 in
     let at : get_or d.places.items j 0 ≡ (get_or rows k r).place = ap (λ n. get_or d.places.items n 0) (sym index) ∙ are.named k r found.1 in
-    ap (bytes_at image) at ∙ held k r found.1 ∙ ap (block_in d.bytes.items) index
+    ap (bytes_of_block image) at ∙ held k r found.1 ∙ ap (block_of_part d.bytes.items) index
 
-pub arranged : (fresh rest : Draft) (first second : List Row) (plan : Plan) → AreRows fresh.places.items first → AreRows rest.places.items second
-    → IsPermutation fresh.places.items (map (λ (r : Row). r.place) first) → IsPermutation rest.places.items (map (λ (r : Row). r.place) second)
-    → plan.fresh ≡ map (λ (r : Row). r.place) first → plan.in_place ≡ map (λ (r : Row). r.place) second
+pub arranged : (fresh rest : Draft) (first second : List DraftRow) (plan : Plan) → AreSortedRows fresh.places.items first → AreSortedRows rest.places.items second
+    → IsPermutation fresh.places.items (map (λ (r : DraftRow). r.place) first) → IsPermutation rest.places.items (map (λ (r : DraftRow). r.place) second)
+    → plan.fresh ≡ map (λ (r : DraftRow). r.place) first → plan.in_place ≡ map (λ (r : DraftRow). r.place) second
     → HasRows first fresh 0 plan.bank → HasRows second rest (length first) plan.bank → length plan.bank ≡ length first + length second → IsArranged fresh rest plan
 arranged fresh rest first second plan are_first are_second moved_first moved_second is_fresh is_rest has_first has_second count =
-    let place = λ (r : Row). r.place in
+    let place = λ (r : DraftRow). r.place in
     let long_fresh : length plan.fresh ≡ length first = ap length is_fresh ∙ length-map first place in
     let long_rest : length plan.in_place ≡ length second = ap length is_rest ∙ length-map second place in
     let long : length (planned plan) ≡ length first + length second = length-append plan.fresh plan.in_place ∙ (omega (arith, long_fresh, long_rest)) in
@@ -125,10 +125,10 @@ arranged fresh rest first second plan are_first are_second moved_first moved_sec
           ∙ get_or-map place first k r 0 inside in
           let bytes = has_first.each k r inside in
           let at : 0 + k ≡ k = omega arith in
-          ap (bytes_at image) (sym here) ∙ held.each k (omega (arith, long, inside)) ∙ ap (λ n. get_or plan.bank n []) (sym at) ∙ bytes);
+          ap (bytes_of_block image) (sym here) ∙ held.each k (omega (arith, long, inside)) ∙ ap (λ n. get_or plan.bank n []) (sym at) ∙ bytes);
       held_rest = λ image held. held_rows image rest second are_second (λ k r inside.
           let here : get_or (planned plan) (length first + k) 0 ≡ (get_or second k r).place =
           ap (λ n. get_or (planned plan) (n + k) 0) (sym long_fresh) ∙ get_or-append-add plan.fresh plan.in_place k 0
           ∙ ap (λ (xs : List ℕ). get_or xs k 0) is_rest ∙ get_or-map place second k r 0 inside in
-          ap (bytes_at image) (sym here) ∙ held.each (length first + k) (omega (arith, long, inside)) ∙ has_second.each k r inside);
+          ap (bytes_of_block image) (sym here) ∙ held.each (length first + k) (omega (arith, long, inside)) ∙ has_second.each k r inside);
     }

@@ -6,12 +6,13 @@ use Rattle.std.proofs.lemmas.Bool.{cases_lt, eqb-true, eqb-false, true≢false}
 use Rattle.std.proofs.lemmas.List.{get_or-map, length-map}
 use Rattle.std.proofs.lemmas.List.Elements.{All-drop, All-from_get_or, All-weaker}
 use Rattle.std.proofs.Math.Nat.{mul-le-mul_right}
+use Rattle.xfs_geom.specs.Sums.{has_free}
 use Rattle.xfs_geom.specs.Conversions.{group_length, is_fixed}
 use Rattle.xfs_geom.specs.Shape.{HasGroups, HasLog}
 use Rattle.xfs_geom.specs.Volumes.{Volume}
 use Rattle.xfs_geom.specs.declared.records.InoRec.{InoRec}
 use Rattle.xfs_geom.specs.declared.records.Run.{Run}
-use Rattle.xfs_kinds.specs.FreeRuns.{is_in}
+use Rattle.xfs_kinds.specs.FreeRuns.{is_in_spans}
 use Rattle.xfs_kinds.specs.FreeTrees.{bno_shape, cnt_shape}
 use Rattle.xfs_kinds.specs.InodeTrees.{ino_shape, fino_shape}
 use Rattle.xfs_kinds.specs.OwnerTrees.{rmap_shape}
@@ -24,17 +25,17 @@ use Rattle.xfs_place.proofs.GroupIs.{group_is, length_uses}
 use Rattle.xfs_place.proofs.OpenRuns.{open_inside}
 use Rattle.xfs_place.proofs.Ordered.{claims_few}
 use Rattle.xfs_place.proofs.Spanned.{separate_few}
-use Rattle.xfs_place.specs.Choice.{Group, IsChosen, is_spare, need, owned_at, rank, space_blocks}
-use Rattle.xfs_place.specs.Claims.{IsClaim}
-use Rattle.xfs_place.specs.Placing.{IsPlaced, has_free, inner_blocks, run_of, tree_sizes}
+use Rattle.xfs_place.specs.Choice.{Group, IsChosenCount, is_spare, need, owned_at, rank, space_blocks}
+use Rattle.xfs_place.specs.Claims.{IsClaimedRun}
+use Rattle.xfs_place.specs.Placing.{IsPlacedGroup, inner_blocks, run_of_record, tree_sizes}
 use Rattle.xfs_place.specs.Pool.{is_open, is_pool, is_taken, use_at}
 use Rattle.xfs_place.specs.Standing.{IsOfPool}
-use Rattle.xfs_place.specs.Wanted.{AreKept, claim_in, group_in, uses_in}
+use Rattle.xfs_place.specs.Wanted.{CanBeKept, claim_in, group_in, uses_in}
 use Rattle.xfs_place.specs.declared.placed.GroupPlaced.{GroupPlaced}
 use Rattle.xfs_place.specs.declared.uses.Use.{Use}
 use Rattle.xfs_place.specs.declared.uses.Use.TheVariants.{Claimed}
-use Rattle.xfs_render.specs.Groups.{CanPack, IsSound, no_tree, tree_places}
-use Rattle.xfs_render.specs.Readiness.{IsOwned}
+use Rattle.xfs_render.specs.Groups.{CanPack, IsSoundGroup, no_tree, tree_places}
+use Rattle.xfs_render.specs.Readiness.{HasOwner}
 use Rattle.xfs_render.proofs.LawfulChunks.{chunks_few, chunks_kept}
 use Rattle.xfs_render.proofs.LawfulOwners.{IsWord, claim_owned, fixed_owned, owners_lawful, placed_owned}
 use Rattle.xfs_render.proofs.LawfulRuns.{as_many, lengths_lawful, runs_lawful}
@@ -55,7 +56,7 @@ record IsGiven (v : Volume) (kept : List Run) (reserved : List ℕ) (ag : ℕ) (
   words : (b o w : ℕ) → claim_in v kept ag b ≡ Some (o, w) → IsWord o w
   root : (b : ℕ) → is_of_root_cluster v b ≡ true → is_taken kept b ≡ true
   chunks : IsTrue (are_lawful (ino_shape ag) v None inodes)
-  placed : IsPlaced (group_in v kept reserved ag (inner_blocks inodes)) (ag * v.agblocks) inodes p
+  placed : IsPlacedGroup (group_in v kept reserved ag (inner_blocks inodes)) (ag * v.agblocks) inodes p
   pool : IsOfPool v kept reserved (ag * v.agblocks) inodes p
 
 module _ (v : Volume) (kept : List Run) (reserved : List ℕ) (ag : ℕ) (inodes : List InoRec) (p : GroupPlaced) (is : IsGiven v kept reserved ag inodes p) where
@@ -63,10 +64,10 @@ module _ (v : Volume) (kept : List Run) (reserved : List ℕ) (ag : ℕ) (inodes
   small = omega (arith, is.few)
 
   -- no free run has a block behind the group, or its first
-  far : (b : ℕ) → group_length v ag ≤ b → is_in p.bno b ≡ false
+  far : (b : ℕ) → group_length v ag ≤ b → is_in_spans p.bno b ≡ false
   far b past = is.placed.bno.inside b (omega (arith, past, length_uses v kept reserved ag))
 
-  none : is_in p.bno 0 ≡ false
+  none : is_in_spans p.bno 0 ≡ false
   none =
       let n = length is.placed.blocks in
       let uses = uses_in v kept reserved ag in
@@ -118,13 +119,13 @@ module _ (v : Volume) (kept : List Run) (reserved : List ℕ) (ag : ℕ) (inodes
       ]) in
       omega (arith, so, is.few)
 
-  claims : All (IsClaim (group_length v ag)) (map run_of p.rmap)
-  claims = subst (λ (n : ℕ). All (IsClaim n) (map run_of p.rmap)) (length_uses v kept reserved ag) is.placed.rmap.owned.claims.each
+  claims : All (IsClaimedRun (group_length v ag)) (map run_of_record p.rmap)
+  claims = subst (λ (n : ℕ). All (IsClaimedRun n) (map run_of_record p.rmap)) (length_uses v kept reserved ag) is.placed.rmap.owned.claims.each
 
   owners_few : length p.rmap ≤ 2 ^ 26 + 1
   owners_few =
-      let so = claims_few 0 (group_length v ag) (map run_of p.rmap) is.placed.rmap.owned.claims.ascend claims (omega arith) in
-      omega (arith, so, length-map p.rmap run_of, is.few)
+      let so = claims_few 0 (group_length v ag) (map run_of_record p.rmap) is.placed.rmap.owned.claims.ascend claims (omega arith) in
+      omega (arith, so, length-map p.rmap run_of_record, is.few)
 
   owners_are : IsTrue (are_lawful (rmap_shape ag) v None p.rmap)
   owners_are =
@@ -140,11 +141,11 @@ module _ (v : Volume) (kept : List Run) (reserved : List ℕ) (ag : ℕ) (inodes
   list_short : length p.agfl ≤ 118
   list_short = by_case is.placed.chosen
     where
-      by_case : IsChosen (group_in v kept reserved ag (inner_blocks inodes)) (Some (length is.placed.blocks)) → length p.agfl ≤ 118
+      by_case : IsChosenCount (group_in v kept reserved ag (inner_blocks inodes)) (Some (length is.placed.blocks)) → length p.agfl ≤ 118
       by_case (inl rich) = omega (arith, rich.0.2, is.placed.left)
       by_case (inr little) = omega (arith, little.1.0.2, is.placed.left)
 
-  given_sound : IsSound v ag inodes p
+  given_sound : IsSoundGroup v ag inodes p
   given_sound =
       let base = ag * v.agblocks in
       let many = as_many p.bno p.cnt is.placed.cnt in
@@ -194,9 +195,9 @@ pub length_small : (v : Volume) (ag : ℕ) → HasGroups v.dblocks v.agblocks v.
 length_small v ag groups there = omega (arith, (has_length v ag groups there).inside, groups.small)
 
 pub group_sound : (v : Volume) (kept : List Run) (reserved : List ℕ) (ag : ℕ) (inodes : List InoRec) (p : GroupPlaced) → HasGroups v.dblocks v.agblocks v.agcount
-    → HasLog v.dblocks v.agblocks v.agcount v.log v.logblocks → ag < v.agcount → AreKept v kept → All IsOwned kept
+    → HasLog v.dblocks v.agblocks v.agcount v.log v.logblocks → ag < v.agcount → CanBeKept v kept → All HasOwner kept
     → ((b : ℕ) → is_of_root_cluster v b ≡ true → is_taken kept b ≡ true) → IsTrue (are_lawful (ino_shape ag) v None inodes)
-    → IsPlaced (group_in v kept reserved ag (inner_blocks inodes)) (ag * v.agblocks) inodes p → IsOfPool v kept reserved (ag * v.agblocks) inodes p → IsSound v ag inodes p
+    → IsPlacedGroup (group_in v kept reserved ag (inner_blocks inodes)) (ag * v.agblocks) inodes p → IsOfPool v kept reserved (ag * v.agblocks) inodes p → IsSoundGroup v ag inodes p
 group_sound v kept reserved ag inodes p groups log there are owned root chunks placed pool =
     let has = has_length v ag groups there in
     given_sound v kept reserved ag inodes p (record {

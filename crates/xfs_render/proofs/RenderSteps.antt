@@ -15,13 +15,13 @@ use Rattle.xfs_place.specs.Pool.{is_taken}
 use Rattle.xfs_place.specs.declared.placed.GroupPlaced.{GroupPlaced}
 use Rattle.xfs_place.specs.declared.placed.Placed.{Placed}
 use Rattle.xfs_place.specs.declared.wanted.Wanted.{Wanted}
-use Rattle.xfs_tree.specs.Reading.{bytes_at}
+use Rattle.xfs_tree.specs.Reading.{bytes_of_block}
 use Rattle.xfs_render.specs.Clusters.{IsClusterBlock}
 use Rattle.xfs_render.specs.Drafts.{Adds, AddsPart, IsDraft}
 use Rattle.xfs_render.specs.HeaderBlocks.{IsHeaderBlock}
 use Rattle.xfs_render.specs.Plans.{IsArranged, IsOnce}
-use Rattle.xfs_render.specs.Rendering.{AddsBlank, AddsGroups, AddsPlaces, IsDueSuper, IsPlaceDue, IsRendered, blocks_in_place, fresh_blocks, group_in, inodes_in, is_head, kept_blocks, log_blocks, new_blocks, no_group, old_at, place_at, tree_blocks, volume}
-use Rattle.xfs_render.specs.Trees.{AddsTrees, HasTrees, all_places}
+use Rattle.xfs_render.specs.Rendering.{AddsBlank, AddsGroups, AddsPlaces, IsDueSuper, IsPlaceDue, IsRendered, blocks_in_place, fresh_blocks, group_placed, wanted_inodes, is_head, kept_blocks, log_places, new_blocks, no_group, old_at, byte_place, tree_blocks, volume}
+use Rattle.xfs_render.specs.Trees.{AddsTrees, HasTrees, group_tree_places}
 use Rattle.xfs_render.specs.declared.bytes.Bytes.{Bytes}
 use Rattle.xfs_render.specs.declared.draft.Draft.{Draft}
 use Rattle.xfs_render.specs.declared.plan.Plan.{Plan}
@@ -33,21 +33,21 @@ group_below v place shape inside = div_below place v.agblocks v.agcount (omega (
 
 module _ (w : Wanted) (p : Placed) (b : Bytes) (super : List ℕ) where
   -- the first block of a group
-  pub head_due : (i ag : ℕ) (old block : List ℕ) (inodes : List InoRec) (group : GroupPlaced) → 1 ≤ w.geometry.agblocks → place_at b i % w.geometry.agblocks ≡ 0
-      → ag ≡ place_at b i / w.geometry.agblocks → old ≡ old_at b i → inodes ≡ inodes_in w ag → group ≡ group_in p ag
+  pub head_due : (i ag : ℕ) (old block : List ℕ) (inodes : List InoRec) (group : GroupPlaced) → 1 ≤ w.geometry.agblocks → byte_place b i % w.geometry.agblocks ≡ 0
+      → ag ≡ byte_place b i / w.geometry.agblocks → old ≡ old_at b i → inodes ≡ wanted_inodes w ag → group ≡ group_placed p ag
       → IsHeaderBlock (volume w) ag super old inodes group block → IsPlaceDue w p b super i block
   head_due i ag old block inodes group some head is_ag is_old is_inodes is_group due =
       let first = subst (λ (x : List ℕ). IsHeaderBlock (volume w) ag super x inodes group block) is_old due in
       let second = subst (λ (x : List InoRec). IsHeaderBlock (volume w) ag super (old_at b i) x group block) is_inodes first in
-      let third = subst (λ (x : GroupPlaced). IsHeaderBlock (volume w) ag super (old_at b i) (inodes_in w ag) x block) is_group second in
+      let third = subst (λ (x : GroupPlaced). IsHeaderBlock (volume w) ag super (old_at b i) (wanted_inodes w ag) x block) is_group second in
       record {
         heads = λ other at.
             let here : (other * w.geometry.agblocks + 0) / w.geometry.agblocks ≡ other = div-mul-add other w.geometry.agblocks 0 (omega (arith, some)) in
-            let place : other * w.geometry.agblocks + 0 ≡ place_at b i = omega (arith, at) in
+            let place : other * w.geometry.agblocks + 0 ≡ byte_place b i = omega (arith, at) in
             let same : ag ≡ other = is_ag ∙ ap (λ n. n / w.geometry.agblocks) (sym place) ∙ here in
-            subst (λ (n : ℕ). IsHeaderBlock (volume w) n super (old_at b i) (inodes_in w n) (group_in p n) block) same third;
+            subst (λ (n : ℕ). IsHeaderBlock (volume w) n super (old_at b i) (wanted_inodes w n) (group_placed p n) block) same third;
         clusters = λ no.
-            let yes : is_head (volume w) (place_at b i) ≡ true = eq-eqb _ 0 head in
+            let yes : is_head (volume w) (byte_place b i) ≡ true = eq-eqb _ 0 head in
             absurd (true_false (sym yes ∙ no));
       }
     where
@@ -55,28 +55,28 @@ module _ (w : Wanted) (p : Placed) (b : Bytes) (super : List ℕ) where
       true_false e = cc
 
   -- a block of a cluster
-  pub cluster_due : (i : ℕ) (old block : List ℕ) → 1 ≤ w.geometry.agblocks → (place_at b i % w.geometry.agblocks ≡ 0 → ⊥) → old ≡ old_at b i
-      → IsClusterBlock (volume w) b.stamp.generation b.slots (place_at b i) old block → IsPlaceDue w p b super i block
+  pub cluster_due : (i : ℕ) (old block : List ℕ) → 1 ≤ w.geometry.agblocks → (byte_place b i % w.geometry.agblocks ≡ 0 → ⊥) → old ≡ old_at b i
+      → IsClusterBlock (volume w) b.stamp.generation b.slots (byte_place b i) old block → IsPlaceDue w p b super i block
   cluster_due i old block some other is_old due = record {
     heads = λ ag at.
         let here : (ag * w.geometry.agblocks + 0) % w.geometry.agblocks ≡ 0 = mod-mul-add ag w.geometry.agblocks 0 (omega (arith, some)) in
-        let place : ag * w.geometry.agblocks + 0 ≡ place_at b i = omega (arith, at) in
+        let place : ag * w.geometry.agblocks + 0 ≡ byte_place b i = omega (arith, at) in
         absurd (other (ap (λ n. n % w.geometry.agblocks) (sym place) ∙ here));
-    clusters = λ no. subst (λ (x : List ℕ). IsClusterBlock (volume w) b.stamp.generation b.slots (place_at b i) x block) is_old due;
+    clusters = λ no. subst (λ (x : List ℕ). IsClusterBlock (volume w) b.stamp.generation b.slots (byte_place b i) x block) is_old due;
   }
 
   -- one place more: its block is fresh, or it is not
-  one_due : (i : ℕ) (block : List ℕ) (image : Image) → bytes_at image (place_at b i) ≡ block → IsPlaceDue w p b super i block → (j : ℕ) → i ≤ j → j < i + 1
-      → IsPlaceDue w p b super j (bytes_at image (place_at b j))
+  one_due : (i : ℕ) (block : List ℕ) (image : Image) → bytes_of_block image (byte_place b i) ≡ block → IsPlaceDue w p b super i block → (j : ℕ) → i ≤ j → j < i + 1
+      → IsPlaceDue w p b super j (bytes_of_block image (byte_place b j))
   one_due i block image is due j low high =
       let same : i ≡ j = omega (arith, low, high) in
       let here = subst (λ (x : List ℕ). IsPlaceDue w p b super i x) (sym is) due in
-      subst (λ (n : ℕ). IsPlaceDue w p b super n (bytes_at image (place_at b n))) same here
+      subst (λ (n : ℕ). IsPlaceDue w p b super n (bytes_of_block image (byte_place b n))) same here
 
-  pub adds_fresh : (i : ℕ) (block : List ℕ) (fresh new rest : Draft) → is_taken w.new (place_at b i) ≡ true → AddsPart fresh new (place_at b i ∷ []) block
-      → IsDraft rest → length block ≡ 4096 → IsPlaceDue w p b super i block → AddsPlaces w p b super i (i + 1) (place_at b i ∷ []) fresh rest new rest
+  pub adds_fresh : (i : ℕ) (block : List ℕ) (fresh new rest : Draft) → is_taken w.new (byte_place b i) ≡ true → AddsPart fresh new (byte_place b i ∷ []) block
+      → IsDraft rest → length block ≡ 4096 → IsPlaceDue w p b super i block → AddsPlaces w p b super i (i + 1) (byte_place b i ∷ []) fresh rest new rest
   adds_fresh i block fresh new rest taken added was size due =
-      let x = place_at b i in
+      let x = byte_place b i in
       let yes : filter (is_taken w.new) (x ∷ []) ≡ x ∷ [] = ap (λ (t : Bool). cond t (x ∷ []) []) taken in
       let no : filter (λ place. not (is_taken w.new place)) (x ∷ []) ≡ [] = ap (λ (t : Bool). cond (not t) (x ∷ []) []) taken in
       record {
@@ -85,10 +85,10 @@ module _ (w : Wanted) (p : Placed) (b : Bytes) (super : List ℕ) where
         due = λ image in_fresh in_rest j low high. one_due i block image (held_one image x block size (added.held image in_fresh)) due j low high;
       }
 
-  pub adds_rest : (i : ℕ) (block : List ℕ) (fresh rest new : Draft) → is_taken w.new (place_at b i) ≡ false → AddsPart rest new (place_at b i ∷ []) block
-      → IsDraft fresh → length block ≡ 4096 → IsPlaceDue w p b super i block → AddsPlaces w p b super i (i + 1) (place_at b i ∷ []) fresh rest fresh new
+  pub adds_rest : (i : ℕ) (block : List ℕ) (fresh rest new : Draft) → is_taken w.new (byte_place b i) ≡ false → AddsPart rest new (byte_place b i ∷ []) block
+      → IsDraft fresh → length block ≡ 4096 → IsPlaceDue w p b super i block → AddsPlaces w p b super i (i + 1) (byte_place b i ∷ []) fresh rest fresh new
   adds_rest i block fresh rest new taken added was size due =
-      let x = place_at b i in
+      let x = byte_place b i in
       let no : filter (is_taken w.new) (x ∷ []) ≡ [] = ap (λ (t : Bool). cond t (x ∷ []) []) taken in
       let yes : filter (λ place. not (is_taken w.new place)) (x ∷ []) ≡ x ∷ [] = ap (λ (t : Bool). cond (not t) (x ∷ []) []) taken in
       record {
@@ -106,12 +106,12 @@ module _ (w : Wanted) (p : Placed) (b : Bytes) (super : List ℕ) where
   }
 
   pub places_more : (i : ℕ) (f0 r0 f1 r1 f2 r2 : Draft) → i < length b.places → AddsPlaces w p b super 0 i (take i b.places) f0 r0 f1 r1
-      → AddsPlaces w p b super i (i + 1) (place_at b i ∷ []) f1 r1 f2 r2 → AddsPlaces w p b super 0 (i + 1) (take (i + 1) b.places) f0 r0 f2 r2
+      → AddsPlaces w p b super i (i + 1) (byte_place b i ∷ []) f1 r1 f2 r2 → AddsPlaces w p b super 0 (i + 1) (take (i + 1) b.places) f0 r0 f2 r2
   places_more i f0 r0 f1 r1 f2 r2 inside first next =
       let new = is_taken w.new in
       let old = λ (place : ℕ). not (is_taken w.new place) in
       let front = take i b.places in
-      let x = place_at b i in
+      let x = byte_place b i in
       let more : take (i + 1) b.places ≡ front ++ x ∷ [] = take_more b.places i 0 inside in
       let fresh = adds_then f0 f1 f2 (filter new front) (filter new (x ∷ [])) first.fresh' next.fresh' in
       let rest = adds_then r0 r1 r2 (filter old front) (filter old (x ∷ [])) first.rest' next.rest' in
@@ -128,24 +128,24 @@ module _ (w : Wanted) (p : Placed) (b : Bytes) (super : List ℕ) where
   pub groups_none : (draft : Draft) → IsDraft draft → AddsGroups w p 0 draft draft
   groups_none draft was = record { adds = adds_none draft was; reads = λ image held ag low. absurd (omega (arith, low)) }
 
-  pub groups_more : (n : ℕ) (a c d : Draft) (inodes : List InoRec) (group : GroupPlaced) → n < length p.groups → inodes ≡ inodes_in w n → group ≡ group_in p n
+  pub groups_more : (n : ℕ) (a c d : Draft) (inodes : List InoRec) (group : GroupPlaced) → n < length p.groups → inodes ≡ wanted_inodes w n → group ≡ group_placed p n
       → AddsGroups w p n a c → AddsTrees (volume w) n inodes group c d → AddsGroups w p (n + 1) a d
   groups_more n a c d inodes group inside is_inodes is_group first next =
-      let named = subst (λ (x : GroupPlaced). AddsTrees (volume w) n (inodes_in w n) x c d) is_group
+      let named = subst (λ (x : GroupPlaced). AddsTrees (volume w) n (wanted_inodes w n) x c d) is_group
       (subst (λ (x : List InoRec). AddsTrees (volume w) n x group c d) is_inodes next) in
       let front = take n p.groups in
-      let g = group_in p n in
+      let g = group_placed p n in
       let more : take (n + 1) p.groups ≡ front ++ g ∷ [] = take_more p.groups n no_group inside in
-      let alone : flat_map all_places (g ∷ []) ≡ all_places g = append-nil (all_places g) in
-      let both = adds_then a c d (flat_map all_places front) (all_places g) first.adds named.adds in
+      let alone : flat_map group_tree_places (g ∷ []) ≡ group_tree_places g = append-nil (group_tree_places g) in
+      let both = adds_then a c d (flat_map group_tree_places front) (group_tree_places g) first.adds named.adds in
       record {
         adds = subst (λ (xs : List ℕ). Adds a d xs)
-            (ap (λ (xs : List ℕ). flat_map all_places front ++ xs) (sym alone) ∙ sym (flat_map-append all_places front (g ∷ [])) ∙ ap (flat_map all_places) (sym more)) both;
+            (ap (λ (xs : List ℕ). flat_map group_tree_places front ++ xs) (sym alone) ∙ sym (flat_map-append group_tree_places front (g ∷ [])) ∙ ap (flat_map group_tree_places) (sym more)) both;
         reads = λ image held k low. elim (cases_lt k n) [
           | inl early ↦ first.reads image (named.adds.before image held) k early
           | inr late ↦
               let same : n ≡ k = omega (arith, low, late) in
-              subst (λ (m : ℕ). HasTrees (volume w) image m (inodes_in w m) (group_in p m)) same (named.reads image held)
+              subst (λ (m : ℕ). HasTrees (volume w) image m (wanted_inodes w m) (group_placed p m)) same (named.reads image held)
         ];
       }
 
@@ -156,10 +156,10 @@ module _ (w : Wanted) (p : Placed) (b : Bytes) (super : List ℕ) where
   rendered none f1 f2 none_too r1 r2 plan empty empty_too all due groups places blank arranged =
       let whole : take w.geometry.agcount p.groups ≡ p.groups = take_all w.geometry.agcount p.groups (omega (arith, all)) in
       let trees : f1.places.items ≡ tree_blocks p =
-      groups.adds.places' ∙ ap (λ (xs : List ℕ). xs ++ flat_map all_places (take w.geometry.agcount p.groups)) empty ∙ ap (flat_map all_places) whole in
+      groups.adds.places' ∙ ap (λ (xs : List ℕ). xs ++ flat_map group_tree_places (take w.geometry.agcount p.groups)) empty ∙ ap (flat_map group_tree_places) whole in
       let fresh : f2.places.items ≡ fresh_blocks w p b = places.fresh'.places' ∙ ap (λ (xs : List ℕ). xs ++ new_blocks w b) trees in
       let kept : r1.places.items ≡ kept_blocks w b = places.rest'.places' ∙ ap (λ (xs : List ℕ). xs ++ kept_blocks w b) empty_too in
-      let rest : r2.places.items ≡ blocks_in_place w b = blank.adds.places' ∙ ap (λ (xs : List ℕ). xs ++ log_blocks w b.cycle) kept in
+      let rest : r2.places.items ≡ blocks_in_place w b = blank.adds.places' ∙ ap (λ (xs : List ℕ). xs ++ log_places w b.cycle) kept in
       record {
         super = super;
         due = due;

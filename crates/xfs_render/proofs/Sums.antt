@@ -13,8 +13,8 @@ use Rattle.xfs_place.proofs.Sizes.{size_small}
 use Rattle.xfs_place.specs.declared.placed.GroupPlaced.{GroupPlaced}
 use Rattle.xfs_tree.specs.Rules.{are_lawful}
 use Rattle.xfs_treebuild.specs.Size.{rows_of}
-use Rattle.xfs_render.specs.Counters.{blocks_in}
-use Rattle.xfs_render.specs.Groups.{IsSound, tree_places}
+use Rattle.xfs_render.specs.Counters.{span_blocks}
+use Rattle.xfs_render.specs.Groups.{IsSoundGroup, tree_places}
 
 -- a lawful run ends inside the group, and begins behind the one before
 run_inside : (v : Volume) (ag : ℕ) (s : Span) → is_free_run v ag s ≡ true → s.start + s.count ≤ group_length v ag
@@ -23,7 +23,7 @@ run_inside v ag s lawful =
     leb-true (s.start + s.count) (group_length v ag) ((and_parts _ _ inside).1)
 
 free_behind : (v : Volume) (ag : ℕ) (before : Span) (runs : List Span) → before.start + before.count ≤ group_length v ag
-    → IsTrue (are_lawful (bno_shape ag) v (Some before) runs) → before.start + before.count + blocks_in runs ≤ group_length v ag
+    → IsTrue (are_lawful (bno_shape ag) v (Some before) runs) → before.start + before.count + span_blocks runs ≤ group_length v ag
 free_behind v ag before [] inside lawful = omega (arith, inside)
 free_behind v ag before (s ∷ runs) inside lawful =
     let parts = and_parts _ _ lawful in
@@ -32,7 +32,7 @@ free_behind v ag before (s ∷ runs) inside lawful =
     let rest = free_behind v ag s runs (run_inside v ag s own.0) parts.1 in
     omega (arith, behind, rest, sum_by-cons (λ (x : Span). x.count) s runs)
 
-pub free_small : (v : Volume) (ag : ℕ) (runs : List Span) → IsTrue (are_lawful (bno_shape ag) v None runs) → blocks_in runs ≤ group_length v ag
+pub free_small : (v : Volume) (ag : ℕ) (runs : List Span) → IsTrue (are_lawful (bno_shape ag) v None runs) → span_blocks runs ≤ group_length v ag
 free_small v ag [] lawful = omega arith
 free_small v ag (s ∷ runs) lawful =
     let parts = and_parts _ _ lawful in
@@ -48,7 +48,7 @@ tree_small leaf_cap node_cap records blocks leaves nodes few size =
     (omega (arith, size, small.0), omega (arith, size, small.1))
 
 -- the trees of free space and of owners have some blocks each, and together fewer than 2^32
-pub space_trees : (v : Volume) (ag : ℕ) (inodes : List InoRec) (p : GroupPlaced) → IsSound v ag inodes p
+pub space_trees : (v : Volume) (ag : ℕ) (inodes : List InoRec) (p : GroupPlaced) → IsSoundGroup v ag inodes p
     → (0 < length (tree_places p 0)) × (0 < length (tree_places p 1)) × (0 < length (tree_places p 4))
     × (length (tree_places p 0) + length (tree_places p 1) + length (tree_places p 4) < 2 ^ 32)
 space_trees v ag inodes p sound =
@@ -58,7 +58,7 @@ space_trees v ag inodes p sound =
     (bno.0, cnt.0, rmap.0, omega (arith, bno.1, cnt.1, rmap.1))
 
 -- the trees of inodes have some
-pub inode_trees : (v : Volume) (ag : ℕ) (inodes : List InoRec) (p : GroupPlaced) → IsSound v ag inodes p
+pub inode_trees : (v : Volume) (ag : ℕ) (inodes : List InoRec) (p : GroupPlaced) → IsSoundGroup v ag inodes p
     → (0 < length (tree_places p 2)) × (0 < length (tree_places p 3))
 inode_trees v ag inodes p sound =
     let ino = tree_small 252 505 (length inodes) (length (tree_places p 2)) (omega arith) (omega arith) sound.ino.few sound.ino.size in

@@ -15,7 +15,7 @@ use Rattle.xfs_treebuild.specs.Packing.{are_different}
 use Rattle.xfs_tree.specs.Rules.{can_hold, is_of_root_cluster}
 use Rattle.xfs_tree.specs.declared.layout.Layout.{Layout}
 use Rattle.xfs_volume.specs.declared.groups.TreeBlocks.{TreeBlocks}
-use Rattle.xfs_place.specs.Placing.{cut, tree_at}
+use Rattle.xfs_place.specs.Placing.{cut, tree_blocks_at}
 use Rattle.xfs_place.specs.Pool.{is_listed, is_pool, is_taken}
 use Rattle.xfs_render.specs.Groups.{no_tree}
 
@@ -57,7 +57,7 @@ pairs_of_tree R (t ∷ ts) rest (suc i) all =
 
 -- the blocks of a tree that is cut out of some
 pub all_of_cut : (P : ℕ → Type 0) (base : ℕ) (sizes blocks : List ℕ) (i : ℕ) → All (λ b. P (base + b)) blocks
-    → All P (get_or (map (tree_at base) (cut sizes blocks)) i no_tree).blocks
+    → All P (get_or (map (tree_blocks_at base) (cut sizes blocks)) i no_tree).blocks
 all_of_cut P base [] blocks i all = All-nil P
 all_of_cut P base (s ∷ ss) blocks zero all = All-map P (λ b. base + b) (take s blocks) (All-take (λ b. P (base + b)) s blocks all)
 all_of_cut P base (s ∷ ss) blocks (suc i) all = all_of_cut P base ss (drop s blocks) i (All-drop (λ b. P (base + b)) s blocks all)

@@ -10,7 +10,7 @@ use Rattle.xfs_place.specs.declared.placed.GroupPlaced.{GroupPlaced}
 use Rattle.xfs_treebuild.specs.Packing.{root_of}
 use Rattle.xfs_tree.specs.Shape.{Shape}
 use Rattle.xfs_render.specs.Counters.{levels}
-use Rattle.xfs_render.specs.Groups.{CanPack, IsSound, tree_places}
+use Rattle.xfs_render.specs.Groups.{CanPack, IsSoundGroup, tree_places}
 use Rattle.xfs_render.specs.Trees.{AddsTree, AddsTrees, HasTree, block_in_group}
 use Rattle.xfs_render.specs.declared.draft.Draft.{Draft}
 use Rattle.xfs_render.proofs.DraftSteps.{adds_then}
@@ -32,7 +32,7 @@ from_root s v image ag records places n some short owner there can has =
     let root = root_in_group s v ag records places some short owner there can in
     subst (λ (r : ℕ). HasTree s v image r n records places) (sym root.is) has
 
-module _ (v : Volume) (ag : ℕ) (inodes : List InoRec) (p : GroupPlaced) (some : 1 ≤ v.agblocks) (sound : IsSound v ag inodes p) where
+module _ (v : Volume) (ag : ℕ) (inodes : List InoRec) (p : GroupPlaced) (some : 1 ≤ v.agblocks) (sound : IsSoundGroup v ag inodes p) where
   pub five_trees : (a b c d e f : Draft) → AddsTree (bno_shape ag) v a b p.bno (tree_places p 0) → AddsTree (cnt_shape ag) v b c p.cnt (tree_places p 1)
       → AddsTree (ino_shape ag) v c d inodes (tree_places p 2) → AddsTree (fino_shape ag) v d e p.fino (tree_places p 3)
       → AddsTree (rmap_shape ag) v e f p.rmap (tree_places p 4) → AddsTrees v ag inodes p a f

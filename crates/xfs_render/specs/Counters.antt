@@ -6,16 +6,16 @@ use Rattle.xfs_geom.specs.declared.records.Span.{Span}
 use Rattle.xfs_treebuild.specs.Size.{rows_of}
 
 -- the blocks of some runs
-abbrev pub blocks_in : List Span → ℕ
-blocks_in runs = sum_by (λ (s : Span). s.count) runs
+abbrev pub span_blocks : List Span → ℕ
+span_blocks runs = sum_by (λ (s : Span). s.count) runs
 
 -- the blocks of the longest run, or none
 abbrev pub longest : List Span → ℕ
 longest runs = fold (λ (best : ℕ) (s : Span). max best s.count) 0 runs
 
 -- the inodes of some chunks, and those of them that are free
-abbrev pub inodes_in : List InoRec → ℕ
-inodes_in records = sum_by (λ (r : InoRec). r.count) records
+abbrev pub chunk_inodes : List InoRec → ℕ
+chunk_inodes records = sum_by (λ (r : InoRec). r.count) records
 
 abbrev pub free_inodes_in : List InoRec → ℕ
 free_inodes_in records = sum_by (λ (r : InoRec). r.freecount) records

@@ -1,7 +1,7 @@
 -- Blocks that are put down one after the other, each with its place.
 use Rattle.std.specs.Prelude.{◌≡◌, ℕ, ◌*◌, List, ◌++◌, length}
 use Rattle.xfs_disk.specs.Blocks.{Image}
-use Rattle.xfs_treebuild.specs.Packing.{Holds}
+use Rattle.xfs_treebuild.specs.Packing.{HoldsParts}
 use Rattle.xfs_render.specs.declared.draft.Draft.{Draft}
 
 -- each place has 4096 bytes
@@ -10,7 +10,7 @@ pub record IsDraft (d : Draft) : Type 0 where
 
 -- the image has the blocks of a draft at their places
 abbrev pub HoldsDraft : Image → Draft → Type 0
-HoldsDraft image d = Holds image d.places.items d.bytes.items
+HoldsDraft image d = HoldsParts image d.places.items d.bytes.items
 
 -- blocks at these places were put behind the others: an image that has all of them has those before, and has what was put
 pub record Adds (old new : Draft) (places : List ℕ) : Type 0 where
@@ -20,4 +20,4 @@ pub record Adds (old new : Draft) (places : List ℕ) : Type 0 where
 
 pub record AddsPart (old new : Draft) (places part : List ℕ) : Type 0 where
   pub adds : Adds old new places
-  pub held : (image : Image) → HoldsDraft image new → Holds image places part
+  pub held : (image : Image) → HoldsDraft image new → HoldsParts image places part

@@ -19,7 +19,7 @@ use Rattle.xfs_tree.specs.Shape.{Shape}
 use Rattle.xfs_treebuild.specs.Size.{rows_of}
 use Rattle.xfs_volume.specs.declared.groups.TreeBlocks.{TreeBlocks}
 use Rattle.xfs_place.specs.declared.placed.GroupPlaced.{GroupPlaced}
-use Rattle.xfs_render.specs.Counters.{blocks_in, free_inodes_in, inodes_in, levels, longest, newest}
+use Rattle.xfs_render.specs.Counters.{span_blocks, free_inodes_in, chunk_inodes, levels, longest, newest}
 
 -- the blocks of one of the five trees of a group: free runs by start and by length, chunks of inodes, those with a free inode, owners
 abbrev pub no_tree : TreeBlocks
@@ -37,7 +37,7 @@ pub record CanPack {R K : Type 0} (s : Shape R K) (v : Volume) (records : List R
   pub different : IsTrue (are_different places)
 
 -- the five trees of a group can be packed, and its free list can be written
-pub record IsSound (v : Volume) (ag : ℕ) (inodes : List InoRec) (p : GroupPlaced) : Type 0 where
+pub record IsSoundGroup (v : Volume) (ag : ℕ) (inodes : List InoRec) (p : GroupPlaced) : Type 0 where
   pub five : length p.trees ≡ 5
   pub bno : CanPack (bno_shape ag) v p.bno (tree_places p 0)
   pub cnt : CanPack (cnt_shape ag) v p.cnt (tree_places p 1)
@@ -53,8 +53,8 @@ abbrev pub root_in : Volume → GroupPlaced → ℕ → ℕ
 root_in v p i = root_of (tree_places p i) % v.agblocks
 
 -- the blocks of a tree
-abbrev pub blocks_of_tree : GroupPlaced → ℕ → ℕ
-blocks_of_tree p i = length (tree_places p i)
+abbrev pub group_tree_count : GroupPlaced → ℕ → ℕ
+group_tree_count p i = length (tree_places p i)
 
 -- the last active entry of a free list of 119 entries that begins at entry 0
 abbrev pub last_entry : ℕ → ℕ
@@ -77,11 +77,11 @@ due_agf v ag p = record {
   flfirst = 0;
   fllast = last_entry (length p.agfl);
   flcount = length p.agfl;
-  freeblks = blocks_in p.bno;
+  freeblks = span_blocks p.bno;
   longest = longest p.bno;
-  btreeblks = blocks_of_tree p 0 + blocks_of_tree p 1 + blocks_of_tree p 4 - 3;
+  btreeblks = group_tree_count p 0 + group_tree_count p 1 + group_tree_count p 4 - 3;
   uuid = v.uuid;
-  rmapblocks = blocks_of_tree p 4;
+  rmapblocks = group_tree_count p 4;
   lsn = 0;
   crc = 0;
 }
@@ -93,7 +93,7 @@ due_agi v ag inodes p = record {
   versionnum = 1;
   seqno = ag;
   length = group_length v ag;
-  count = inodes_in inodes;
+  count = chunk_inodes inodes;
   root = root_in v p 2;
   level = levels 252 505 (length inodes);
   freecount = free_inodes_in inodes;

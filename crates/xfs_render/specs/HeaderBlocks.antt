@@ -1,12 +1,12 @@
 -- The first block of an allocation group: eight sectors, of which the first four are headers (chapter "Allocation Groups").
 use Rattle.std.specs.Prelude.{◌≡◌, ℕ, List, length, Some}
 use Rattle.xfs_word.specs.Crc.{little_field_of}
-use Rattle.xfs_word.specs.Field.{field_of, part_of}
+use Rattle.xfs_word.specs.Field.{field_of, part_of, IsZero}
 use Rattle.xfs_geom.specs.Volumes.{Volume}
 use Rattle.xfs_geom.specs.declared.records.InoRec.{InoRec}
 use Rattle.xfs_heads.specs.FreeList.{agfl_of}
 use Rattle.xfs_heads.specs.FreeSpace.{agf_of}
-use Rattle.xfs_heads.specs.Heads.{IsZero, numbers}
+use Rattle.xfs_heads.specs.Heads.{numbers}
 use Rattle.xfs_heads.specs.Inodes.{agi_of}
 use Rattle.xfs_place.specs.declared.placed.GroupPlaced.{GroupPlaced}
 use Rattle.xfs_render.specs.Groups.{due_agf, due_agi, due_agfl}

@@ -8,7 +8,7 @@ use Rattle.xfs_heads.specs.BlankLog.{IsBlank, blank_seen}
 use Rattle.xfs_heads.specs.Log.{seen_of, state_of}
 use Rattle.xfs_heads.specs.declared.log.state.LogState.TheVariants.{Clean}
 use Rattle.xfs_tree.specs.Blocks.{each_of}
-use Rattle.xfs_tree.specs.Reading.{bytes_at}
+use Rattle.xfs_tree.specs.Reading.{bytes_of_block}
 use Rattle.xfs_render.specs.Drafts.{Adds, HoldsDraft}
 use Rattle.xfs_render.specs.declared.draft.Draft.{Draft}
 
@@ -27,11 +27,11 @@ pub record IsBlankBlock (cycle : ℕ) (uuid : List ℕ) (number : ℕ) (block : 
 
 -- all sectors of the log, in order
 abbrev pub log_sectors : Volume → Image → List (List ℕ)
-log_sectors v image = flat_map (λ block. each_of 8 (λ k. part_of (bytes_at image block) (512 * k) 512)) (range_with_len v.log v.logblocks)
+log_sectors v image = flat_map (λ block. each_of 8 (λ k. part_of (bytes_of_block image block) (512 * k) 512)) (range_with_len v.log v.logblocks)
 
 -- the log is blank, and so it is clean
 pub record IsBlankLog (v : Volume) (cycle : ℕ) (image : Image) : Type 0 where
-  pub blank : (i : ℕ) → i < v.logblocks → IsBlankBlock cycle v.uuid i (bytes_at image (v.log + i))
+  pub blank : (i : ℕ) → i < v.logblocks → IsBlankBlock cycle v.uuid i (bytes_of_block image (v.log + i))
   pub clean : state_of (map seen_of (log_sectors v image)) ≡ Clean (cycle * 2 ^ 32 + 2)
 
 -- the blocks of a blank log were put down

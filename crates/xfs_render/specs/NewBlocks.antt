@@ -4,7 +4,7 @@ use Rattle.xfs_geom.specs.declared.records.Run.{Run}
 use Rattle.xfs_place.specs.Pool.{is_taken}
 
 -- the blocks that pass a test are marked, besides those that were
-pub record Marks (test : ℕ → Bool) (old new : List Bool) : Type 0 where
+pub record MarksNew (test : ℕ → Bool) (old new : List Bool) : Type 0 where
   pub all : length new ≡ length old
   pub each : (block : ℕ) → block < length old → slice_index_or new block false ≡ (slice_index_or old block false || test block)
 

@@ -3,20 +3,20 @@ use Rattle.std.specs.Prelude.{◌≡◌, ℕ, ◌-◌, ◌^◌, ◌≤◌, ◌<�
 use Rattle.std.specs.List.{All}
 use Rattle.std.specs.List.Sorted.{IsNonDecreasingBy}
 use Rattle.xfs_geom.specs.Volumes.{stated_volume}
-use Rattle.xfs_geom.specs.Writing.{IsAccepted}
+use Rattle.xfs_geom.specs.Writing.{IsAcceptedSector}
 use Rattle.xfs_geom.specs.declared.records.Run.{Run}
 use Rattle.xfs_kinds.specs.InodeTrees.{ino_shape}
 use Rattle.xfs_place.specs.Pool.{is_taken}
-use Rattle.xfs_place.specs.Wanted.{kept_of}
+use Rattle.xfs_place.specs.Wanted.{kept_runs}
 use Rattle.xfs_place.specs.declared.wanted.Wanted.{Wanted}
 use Rattle.xfs_tree.specs.Rules.{are_lawful, is_of_root_cluster}
 use Rattle.xfs_render.specs.Clusters.{CanCluster}
-use Rattle.xfs_render.specs.Rendering.{inodes_in, is_head, old_at, place_at, volume}
+use Rattle.xfs_render.specs.Rendering.{wanted_inodes, is_head, old_at, byte_place, volume}
 use Rattle.xfs_render.specs.declared.bytes.Bytes.{Bytes}
 use Rattle.xfs_render.specs.declared.wanted_slots.SlotWanted.{SlotWanted}
 
 -- a run has an owner, which is not all ones; both its words have 64 bits (chapter "Reverse-Mapping B+tree")
-pub record IsOwned (r : Run) : Type 0 where
+pub record HasOwner (r : Run) : Type 0 where
   pub owner : r.owner < 2 ^ 64 - 1
   pub offset : r.offset < 2 ^ 64
 
@@ -25,17 +25,17 @@ pub record IsOwned (r : Run) : Type 0 where
 pub record IsWritable (w : Wanted) : Type 0 where
   pub objects : length w.objects ≡ 0
   pub inodes : length w.inodes ≡ w.geometry.agcount
-  pub chunks : (ag : ℕ) → ag < w.geometry.agcount → IsTrue (are_lawful (ino_shape ag) (volume w) None (inodes_in w ag))
-  pub owned : All IsOwned (kept_of w)
-  pub root : (block : ℕ) → is_of_root_cluster (volume w) block ≡ true → is_taken (kept_of w) block ≡ true
+  pub chunks : (ag : ℕ) → ag < w.geometry.agcount → IsTrue (are_lawful (ino_shape ag) (volume w) None (wanted_inodes w ag))
+  pub owned : All HasOwner (kept_runs w)
+  pub root : (block : ℕ) → is_of_root_cluster (volume w) block ≡ true → is_taken (kept_runs w) block ≡ true
 
 -- the superblock is accepted and states the volume, the bytes of each place are at hand, what is wanted of slots can be made of them, and
 -- the cycle of a blank log is one
 pub record HasBytes (w : Wanted) (b : Bytes) : Type 0 where
-  pub accepted : IsAccepted b.sector
+  pub accepted : IsAcceptedSector b.sector
   pub states : stated_volume b.sector ≡ volume w
   pub old : length b.old ≡ length b.places
   pub inside : All (λ place. place < w.geometry.dblocks) b.places
   pub order : IsNonDecreasingBy (λ (s : SlotWanted). s.ino) b.slots
-  pub slots : (i : ℕ) → i < length b.places → is_head (volume w) (place_at b i) ≡ false → CanCluster (volume w) b.slots (place_at b i) (old_at b i)
+  pub slots : (i : ℕ) → i < length b.places → is_head (volume w) (byte_place b i) ≡ false → CanCluster (volume w) b.slots (byte_place b i) (old_at b i)
   pub cycle : MatchOption b.cycle (Unit {0}) (λ cycle. (1 ≤ cycle) × (cycle < 2 ^ 31))

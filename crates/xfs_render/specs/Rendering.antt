@@ -4,43 +4,43 @@ use Rattle.std.specs.List.{All, filter, flat_map, range_with_len}
 use Rattle.std.specs.List.Sorted.{IsNonDecreasingBy, IsPermutation, IsStrictlyIncreasing}
 use Rattle.xfs_disk.specs.Blocks.{Image}
 use Rattle.xfs_geom.specs.Volumes.{Volume, stated_volume, volume_of}
-use Rattle.xfs_geom.specs.Writing.{IsAccepted, IsSuperOf}
+use Rattle.xfs_geom.specs.Writing.{IsAcceptedSector, IsSuperOf}
 use Rattle.xfs_geom.specs.Superblocks.{super_fault}
 use Rattle.xfs_geom.specs.declared.records.InoRec.{InoRec}
 use Rattle.xfs_place.specs.Pool.{IsRunOf, is_taken}
 use Rattle.xfs_place.specs.declared.placed.GroupPlaced.{GroupPlaced}
 use Rattle.xfs_place.specs.declared.placed.Placed.{Placed}
 use Rattle.xfs_place.specs.declared.wanted.Wanted.{Wanted}
-use Rattle.xfs_tree.specs.Reading.{bytes_at}
+use Rattle.xfs_tree.specs.Reading.{bytes_of_block}
 use Rattle.xfs_render.specs.Clusters.{CanCluster, IsClusterBlock}
 use Rattle.xfs_render.specs.Drafts.{Adds, HoldsDraft}
-use Rattle.xfs_render.specs.Groups.{IsSound}
+use Rattle.xfs_render.specs.Groups.{IsSoundGroup}
 use Rattle.xfs_render.specs.HeaderBlocks.{IsHeaderBlock}
 use Rattle.xfs_render.specs.Logs.{IsBlankLog}
 use Rattle.xfs_render.specs.Plans.{HoldsPlan, IsOnce, planned}
-use Rattle.xfs_render.specs.Trees.{HasTrees, all_places}
+use Rattle.xfs_render.specs.Trees.{HasTrees, group_tree_places}
 use Rattle.xfs_render.specs.declared.bytes.Bytes.{Bytes}
 use Rattle.xfs_render.specs.declared.draft.Draft.{Draft}
 use Rattle.xfs_render.specs.declared.plan.Plan.{Plan}
 use Rattle.xfs_render.specs.declared.wanted_slots.SlotWanted.{SlotWanted}
 
 -- the records of inodes of a group, and what is placed in it
-abbrev pub inodes_in : Wanted → ℕ → List InoRec
-inodes_in w ag = (slice_index_or w.inodes ag (record { records = [] })).records
+abbrev pub wanted_inodes : Wanted → ℕ → List InoRec
+wanted_inodes w ag = (slice_index_or w.inodes ag (record { records = [] })).records
 
 abbrev pub no_group : GroupPlaced
 no_group = record { bno = []; cnt = []; fino = []; rmap = []; trees = []; agfl = [] }
 
-abbrev pub group_in : Placed → ℕ → GroupPlaced
-group_in p ag = slice_index_or p.groups ag no_group
+abbrev pub group_placed : Placed → ℕ → GroupPlaced
+group_placed p ag = slice_index_or p.groups ag no_group
 
 -- a block that is the first of its group
 abbrev pub is_head : Volume → ℕ → Bool
 is_head v place = place % v.agblocks == 0
 
 -- the place of a number among those whose bytes are at hand, and its bytes
-abbrev pub place_at : Bytes → ℕ → ℕ
-place_at b i = slice_index_or b.places i 0
+abbrev pub byte_place : Bytes → ℕ → ℕ
+byte_place b i = slice_index_or b.places i 0
 
 abbrev pub old_at : Bytes → ℕ → List ℕ
 old_at b i = slice_index_or b.old i []
@@ -54,19 +54,19 @@ pub record IsReady (w : Wanted) (p : Placed) (b : Bytes) : Type 0 where
   pub objects : length w.objects ≡ 0
   pub inodes : length w.inodes ≡ w.geometry.agcount
   pub groups : length p.groups ≡ w.geometry.agcount
-  pub sound : (ag : ℕ) → ag < w.geometry.agcount → IsSound (volume w) ag (inodes_in w ag) (group_in p ag)
-  pub accepted : IsAccepted b.sector
+  pub sound : (ag : ℕ) → ag < w.geometry.agcount → IsSoundGroup (volume w) ag (wanted_inodes w ag) (group_placed p ag)
+  pub accepted : IsAcceptedSector b.sector
   pub states : stated_volume b.sector ≡ volume w
   pub new : All (IsRunOf w.geometry.dblocks) w.new
   pub old : length b.old ≡ length b.places
   pub inside : All (λ place. place < w.geometry.dblocks) b.places
   pub order : IsNonDecreasingBy (λ (s : SlotWanted). s.ino) b.slots
-  pub slots : (i : ℕ) → i < length b.places → is_head (volume w) (place_at b i) ≡ false → CanCluster (volume w) b.slots (place_at b i) (old_at b i)
+  pub slots : (i : ℕ) → i < length b.places → is_head (volume w) (byte_place b i) ≡ false → CanCluster (volume w) b.slots (byte_place b i) (old_at b i)
   pub cycle : MatchOption b.cycle (Unit {0}) (λ cycle. (1 ≤ cycle) × (cycle < 2 ^ 31))
 
 -- the blocks of the trees of all groups, of clusters in new chunks, and of what is written in place
 abbrev pub tree_blocks : Placed → List ℕ
-tree_blocks p = flat_map all_places p.groups
+tree_blocks p = flat_map group_tree_places p.groups
 
 abbrev pub new_blocks : Wanted → Bytes → List ℕ
 new_blocks w b = filter (is_taken w.new) b.places
@@ -74,9 +74,9 @@ new_blocks w b = filter (is_taken w.new) b.places
 abbrev pub kept_blocks : Wanted → Bytes → List ℕ
 kept_blocks w b = filter (λ place. not (is_taken w.new place)) b.places
 
-abbrev pub log_blocks : Wanted → Option ℕ → List ℕ
-log_blocks w None = []
-log_blocks w (Some cycle) = range_with_len w.geometry.log w.geometry.logblocks
+abbrev pub log_places : Wanted → Option ℕ → List ℕ
+log_places w None = []
+log_places w (Some cycle) = range_with_len w.geometry.log w.geometry.logblocks
 
 -- a superblock as it is due: accepted wherever a group begins, it states the volume and the counts
 pub record IsDueSuper (w : Wanted) (p : Placed) (b : Bytes) (super : List ℕ) : Type 0 where
@@ -86,14 +86,14 @@ pub record IsDueSuper (w : Wanted) (p : Placed) (b : Bytes) (super : List ℕ) :
 
 -- what an image has at one of the places whose bytes were at hand
 pub record IsPlaceDue (w : Wanted) (p : Placed) (b : Bytes) (super : List ℕ) (i : ℕ) (block : List ℕ) : Type 0 where
-  pub heads : (ag : ℕ) → place_at b i ≡ ag * w.geometry.agblocks → IsHeaderBlock (volume w) ag super (old_at b i) (inodes_in w ag) (group_in p ag) block
-  pub clusters : is_head (volume w) (place_at b i) ≡ false → IsClusterBlock (volume w) b.stamp.generation b.slots (place_at b i) (old_at b i) block
+  pub heads : (ag : ℕ) → byte_place b i ≡ ag * w.geometry.agblocks → IsHeaderBlock (volume w) ag super (old_at b i) (wanted_inodes w ag) (group_placed p ag) block
+  pub clusters : is_head (volume w) (byte_place b i) ≡ false → IsClusterBlock (volume w) b.stamp.generation b.slots (byte_place b i) (old_at b i) block
 
 -- what an image has: the trees of each group; at the places whose bytes were at hand the headers of groups, with one superblock, and the
 -- blocks of clusters; and the log, where it is to be blank
 pub record HasVolume (w : Wanted) (p : Placed) (b : Bytes) (super : List ℕ) (image : Image) : Type 0 where
-  pub trees : (ag : ℕ) → ag < w.geometry.agcount → HasTrees (volume w) image ag (inodes_in w ag) (group_in p ag)
-  pub places : (i : ℕ) → i < length b.places → IsPlaceDue w p b super i (bytes_at image (place_at b i))
+  pub trees : (ag : ℕ) → ag < w.geometry.agcount → HasTrees (volume w) image ag (wanted_inodes w ag) (group_placed p ag)
+  pub places : (i : ℕ) → i < length b.places → IsPlaceDue w p b super i (bytes_of_block image (byte_place b i))
   pub log : MatchOption b.cycle (Unit {0}) (λ cycle. IsBlankLog (volume w) cycle image)
 
 -- the blocks that nothing kept stands on, and those that are written in place
@@ -101,7 +101,7 @@ abbrev pub fresh_blocks : Wanted → Placed → Bytes → List ℕ
 fresh_blocks w p b = tree_blocks p ++ new_blocks w b
 
 abbrev pub blocks_in_place : Wanted → Bytes → List ℕ
-blocks_in_place w b = kept_blocks w b ++ log_blocks w b.cycle
+blocks_in_place w b = kept_blocks w b ++ log_places w b.cycle
 
 -- a plan of just these blocks, in two lists that ascend where no block is planned twice; an image that has them has the volume
 pub record IsRendered (w : Wanted) (p : Placed) (b : Bytes) (plan : Plan) : Type 0 where
@@ -117,17 +117,17 @@ pub record IsRendered (w : Wanted) (p : Placed) (b : Bytes) (plan : Plan) : Type
 
 -- the blocks of the trees of the first groups were put down
 pub record AddsGroups (w : Wanted) (p : Placed) (n : ℕ) (old new : Draft) : Type 0 where
-  pub adds : Adds old new (flat_map all_places (take n p.groups))
-  pub reads : (image : Image) → HoldsDraft image new → (ag : ℕ) → ag < n → HasTrees (volume w) image ag (inodes_in w ag) (group_in p ag)
+  pub adds : Adds old new (flat_map group_tree_places (take n p.groups))
+  pub reads : (image : Image) → HoldsDraft image new → (ag : ℕ) → ag < n → HasTrees (volume w) image ag (wanted_inodes w ag) (group_placed p ag)
 
 -- blocks were put down, some in one draft and some in the other: those at the places of a list
 pub record AddsPlaces (w : Wanted) (p : Placed) (b : Bytes) (super : List ℕ) (from to : ℕ) (places : List ℕ) (fresh rest new_fresh new_rest : Draft) : Type 0 where
   pub fresh' : Adds fresh new_fresh (filter (is_taken w.new) places)
   pub rest' : Adds rest new_rest (filter (λ place. not (is_taken w.new place)) places)
   pub due : (image : Image) → HoldsDraft image new_fresh → HoldsDraft image new_rest → (i : ℕ) → from ≤ i → i < to
-      → IsPlaceDue w p b super i (bytes_at image (place_at b i))
+      → IsPlaceDue w p b super i (bytes_of_block image (byte_place b i))
 
 -- the blocks of the log were put down, where it is to be blank
 pub record AddsBlank (w : Wanted) (cycle : Option ℕ) (old new : Draft) : Type 0 where
-  pub adds : Adds old new (log_blocks w cycle)
+  pub adds : Adds old new (log_places w cycle)
   pub reads : (image : Image) → HoldsDraft image new → MatchOption cycle (Unit {0}) (λ n. IsBlankLog (volume w) n image)

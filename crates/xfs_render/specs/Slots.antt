@@ -1,12 +1,12 @@
 -- What is made of the slot of an inode (chapter "On-disk Inode").
 use Rattle.std.specs.Prelude.{◌≡◌, ℕ, ◌+◌, ◌-◌, ◌%◌, ◌^◌, ◌≤◌, ◌<◌, ◌==◌, if◌then◌else◌, IsTrue, List, [], ◌∷◌, length, Option, Some, None, MatchOption}
 use Rattle.xfs_word.specs.Crc.{little_field_of}
-use Rattle.xfs_word.specs.Field.{field_of, part_of}
+use Rattle.xfs_word.specs.Field.{field_of, part_of, IsZero}
 use Rattle.xfs_word.specs.Seal.{is_lsn, is_sealed}
 use Rattle.xfs_geom.specs.Volumes.{Volume}
 use Rattle.xfs_inode.specs.Cores.{stated_core}
 use Rattle.xfs_inode.specs.Slots.{slot_read, slot_seal}
-use Rattle.xfs_inode.specs.Writing.{IsZero, KeepsOthers, bytes_at, fork_bytes, free_core}
+use Rattle.xfs_inode.specs.Writing.{KeepsOthers, field_place, fork_bytes, free_core}
 use Rattle.xfs_inode.specs.declared.forks.ForkWanted.{ForkWanted}
 use Rattle.xfs_inode.specs.declared.reading.SlotRead.TheVariants as Read
 use Rattle.xfs_volume.specs.declared.cores.Core.{Core}
@@ -84,7 +84,7 @@ pub record DropsAttrs (v : Volume) (ino nblocks : ℕ) (old new : List ℕ) : Ty
   pub stated : stated_core new ≡ record (stated_core old) { nblocks = nblocks; anextents = 0; aformat = 2; crc = little_field_of new 100 4 }
   pub zero' : let bytes = fork_bytes (field_of old 82 1) in IsZero new (176 + bytes) (336 - bytes)
   pub others : let bytes = fork_bytes (field_of old 82 1) in
-      KeepsOthers old new (bytes_at 64 8 ∷ bytes_at 80 2 ∷ bytes_at 83 1 ∷ bytes_at (176 + bytes) (336 - bytes) ∷ bytes_at 100 4 ∷ [])
+      KeepsOthers old new (field_place 64 8 ∷ field_place 80 2 ∷ field_place 83 1 ∷ field_place (176 + bytes) (336 - bytes) ∷ field_place 100 4 ∷ [])
 
 -- a slot whose data fork was replaced, and the numbers that go with it; all else stayed
 pub record SetsFork (v : Volume) (ino : ℕ) (fork : ForkWanted) (old new : List ℕ) : Type 0 where
@@ -95,17 +95,17 @@ pub record SetsFork (v : Volume) (ino : ℕ) (fork : ForkWanted) (old new : List
   pub put : part_of new 176 (length fork.bytes) ≡ fork.bytes
   pub zero' : IsZero new (176 + length fork.bytes) (fork_bytes (field_of old 82 1) - length fork.bytes)
   pub others : KeepsOthers old new
-      (bytes_at 5 1 ∷ bytes_at 56 8 ∷ bytes_at 64 8 ∷ bytes_at 76 4 ∷ bytes_at 176 (fork_bytes (field_of old 82 1)) ∷ bytes_at 100 4 ∷ [])
+      (field_place 5 1 ∷ field_place 56 8 ∷ field_place 64 8 ∷ field_place 76 4 ∷ field_place 176 (fork_bytes (field_of old 82 1)) ∷ field_place 100 4 ∷ [])
 
 -- a slot whose file has so many names, and is not unlinked; all else stayed
 pub record SetsLinks (v : Volume) (ino nlink : ℕ) (old new : List ℕ) : Type 0 where
   pub sealed : IsTrue (is_sealed (slot_seal v ino) new)
   pub read : KeepsUse v ino old new
   pub stated : stated_core new ≡ record (stated_core old) { nlink = nlink; next_unlinked = 0xffff_ffff; crc = little_field_of new 100 4 }
-  pub others : KeepsOthers old new (bytes_at 16 4 ∷ bytes_at 96 4 ∷ bytes_at 100 4 ∷ [])
+  pub others : KeepsOthers old new (field_place 16 4 ∷ field_place 96 4 ∷ field_place 100 4 ∷ [])
 
 -- the slot is what its changes make of it, one after the other: the base, no attributes, the data fork, the number of names
-pub record IsMade (v : Volume) (generation : ℕ) (w : SlotWanted) (old new : List ℕ) : Type 0 where
+pub record IsMadeSlot (v : Volume) (generation : ℕ) (w : SlotWanted) (old new : List ℕ) : Type 0 where
   pub based : List ℕ
   pub bare : List ℕ
   pub forked : List ℕ
@@ -121,7 +121,7 @@ wanted_of (w ∷ rest) ino = if w.ino == ino then Some w else wanted_of rest ino
 
 -- a slot is what is wanted of it, and where nothing is, it is as it was
 abbrev pub IsSlotDue : Volume → ℕ → List SlotWanted → ℕ → List ℕ → List ℕ → Type 0
-IsSlotDue v generation slots ino old new = MatchOption (wanted_of slots ino) (new ≡ old) (λ w. IsMade v generation w old new)
+IsSlotDue v generation slots ino old new = MatchOption (wanted_of slots ino) (new ≡ old) (λ w. IsMadeSlot v generation w old new)
 
 -- what is wanted of a slot can be made of it
 abbrev pub CanSlot : Volume → List SlotWanted → ℕ → List ℕ → Type 0

@@ -11,7 +11,7 @@ use Rattle.xfs_kinds.specs.OwnerTrees.{rmap_shape}
 use Rattle.xfs_place.specs.declared.placed.GroupPlaced.{GroupPlaced}
 use Rattle.xfs_treebuild.specs.Exact.{IsExact}
 use Rattle.xfs_treebuild.specs.Packing.{IsPacked, lsn_of, root_of, rows_at, top_down}
-use Rattle.xfs_tree.specs.Reading.{Contents, bytes_at, reading, root_seat}
+use Rattle.xfs_tree.specs.Reading.{Contents, bytes_of_block, reading, root_seat}
 use Rattle.xfs_tree.specs.Shape.{Shape}
 use Rattle.xfs_render.specs.Counters.{levels}
 use Rattle.xfs_render.specs.Drafts.{Adds, HoldsDraft}
@@ -31,8 +31,8 @@ ReadsFrom s v image root n records places = reading s v image (root_seat root �
 pub record HasTree {R K : Type 0} (s : Shape R K) (v : Volume) (image : Image) (root n : ℕ) (records : List R) (places : List ℕ) : Type 0 where
   pub reads : ReadsFrom s v image root n records places
   pub packed : IsPacked s v image (map s.settled records) places
-  pub lsns : All (λ place. lsn_of s.layout (bytes_at image place) ≡ 0) places
-  pub exact : All (λ place. IsExact s (bytes_at image place)) places
+  pub lsns : All (λ place. lsn_of s.layout (bytes_of_block image place) ≡ 0) places
+  pub exact : All (λ place. IsExact s (bytes_of_block image place)) places
 
 -- a tree was put down: its root stands last
 pub record AddsTree {R K : Type 0} (s : Shape R K) (v : Volume) (old new : Draft) (records : List R) (places : List ℕ) : Type 0 where
@@ -41,8 +41,8 @@ pub record AddsTree {R K : Type 0} (s : Shape R K) (v : Volume) (old new : Draft
       → HasTree s v image (root_of places) (levels s.layout.leaf_cap s.layout.node_cap (length records)) records places
 
 -- the blocks of the five trees of a group
-abbrev pub all_places : GroupPlaced → List ℕ
-all_places p = tree_places p 0 ++ tree_places p 1 ++ tree_places p 2 ++ tree_places p 3 ++ tree_places p 4
+abbrev pub group_tree_places : GroupPlaced → List ℕ
+group_tree_places p = tree_places p 0 ++ tree_places p 1 ++ tree_places p 2 ++ tree_places p 3 ++ tree_places p 4
 
 -- the AG block in the group
 abbrev pub block_in_group : Volume → ℕ → ℕ → ℕ
@@ -58,5 +58,5 @@ pub record HasTrees (v : Volume) (image : Image) (ag : ℕ) (inodes : List InoRe
 
 -- the trees of a group were put down
 pub record AddsTrees (v : Volume) (ag : ℕ) (inodes : List InoRec) (p : GroupPlaced) (old new : Draft) : Type 0 where
-  pub adds : Adds old new (all_places p)
+  pub adds : Adds old new (group_tree_places p)
   pub reads : (image : Image) → HoldsDraft image new → HasTrees v image ag inodes p

@@ -3,8 +3,8 @@
 ghost use Rattle.std.specs.Prelude.{◌≡◌, ℕ, ◌≤◌, ◌<◌, ◌+◌, ◌^◌, length, map, slice_index_or, slice_set, [], IfOk};
 ghost use Rattle.std.specs.List.Sorted.{IsPermutation};
 ghost use Rattle.xfs_render.specs.Drafts.{IsDraft};
-ghost use Rattle.xfs_render.specs.Plans.{AreRows, HasRows, IsArranged};
-ghost use Rattle.xfs_render.specs.declared.arranging.Row.{Row};
+ghost use Rattle.xfs_render.specs.Plans.{AreSortedRows, HasRows, IsArranged};
+ghost use Rattle.xfs_render.specs.declared.arranging.DraftRow.{DraftRow};
 
 use crate::draft::Draft;
 use crate::plan::Plan;
@@ -16,7 +16,7 @@ use xfs_word::part;
 
 /// A block that was put down: its place, and its index among those of its draft.
 #[derive(Clone, Copy, Debug, PartialEq, Eq)]
-pub struct Row {
+pub struct DraftRow {
     pub place: u64,
     pub index: usize,
 }
@@ -27,8 +27,8 @@ pub fn arrange(alloc: Global, fresh: &Draft, rest: &Draft) -> Result<Plan, NoMem
     requires rest { IsDraft rest.now }
     ensures { IfOk result (λ plan. IsArranged fresh.now rest.now plan) }
 {
-    let first = in_order(alloc, &fresh.places)?;
-    let second = in_order(alloc, &rest.places)?;
+    let first = sort_rows(alloc, &fresh.places)?;
+    let second = sort_rows(alloc, &rest.places)?;
     let Some(blocks) = first.len().checked_add(second.len()) else {
         return Err(NoMemory);
     };
@@ -43,9 +43,9 @@ pub fn arrange(alloc: Global, fresh: &Draft, rest: &Draft) -> Result<Plan, NoMem
 }
 
 /// The places in ascending order, each with its index.
-fn in_order(alloc: Global, places: &[u64]) -> Result<Vec<Row>, NoMemory>
-    ensures rows { IfOk result (λ rows. AreRows places.now rows.items) }
-    ensures same { IfOk result (λ rows. IsPermutation places.now (map (λ (r : Row). r.place) rows.items)) }
+fn sort_rows(alloc: Global, places: &[u64]) -> Result<Vec<DraftRow>, NoMemory>
+    ensures rows { IfOk result (λ rows. AreSortedRows places.now rows.items) }
+    ensures same { IfOk result (λ rows. IsPermutation places.now (map (λ (r : DraftRow). r.place) rows.items)) }
 {
     let mut rows = with_index(alloc, places)?;
     rows.sort_by_key(|row| row.place)?;
@@ -53,13 +53,13 @@ fn in_order(alloc: Global, places: &[u64]) -> Result<Vec<Row>, NoMemory>
 }
 
 /// The places, each with its index.
-fn with_index(alloc: Global, places: &[u64]) -> Result<Vec<Row>, NoMemory>
-    ensures all { IfOk result (λ rows. map (λ (r : Row). r.place) rows.items ≡ places.now) }
-    ensures index { IfOk result (λ rows. (k : ℕ) (d : Row) → k < length rows.items → (slice_index_or rows.items k d).index ≡ k) }
+fn with_index(alloc: Global, places: &[u64]) -> Result<Vec<DraftRow>, NoMemory>
+    ensures all { IfOk result (λ rows. map (λ (r : DraftRow). r.place) rows.items ≡ places.now) }
+    ensures index { IfOk result (λ rows. (k : ℕ) (d : DraftRow) → k < length rows.items → (slice_index_or rows.items k d).index ≡ k) }
 {
     let mut rows = Vec::new(alloc);
     for (index, place) in places.iter().enumerate() {
-        rows.push(Row {
+        rows.push(DraftRow {
             place: *place,
             index,
         })?;
@@ -68,8 +68,8 @@ fn with_index(alloc: Global, places: &[u64]) -> Result<Vec<Row>, NoMemory>
 }
 
 /// The places of rows.
-fn places_of(alloc: Global, rows: &[Row]) -> Result<Vec<u64>, NoMemory>
-    ensures { IfOk result (λ places. places.items ≡ map (λ (r : Row). r.place) rows.now) }
+fn places_of(alloc: Global, rows: &[DraftRow]) -> Result<Vec<u64>, NoMemory>
+    ensures { IfOk result (λ places. places.items ≡ map (λ (r : DraftRow). r.place) rows.now) }
 {
     let mut places = Vec::new(alloc);
     for row in rows {
@@ -79,11 +79,11 @@ fn places_of(alloc: Global, rows: &[Row]) -> Result<Vec<u64>, NoMemory>
 }
 
 /// Puts the blocks of rows into a bank, from block `at` on.
-fn put_rows(rows: &[Row], draft: &Draft, at: usize, bank: &mut BlockBank)
+fn put_rows(rows: &[DraftRow], draft: &Draft, at: usize, bank: &mut BlockBank)
     requires draft { IsDraft draft.now }
     requires inside { at + length rows.now ≤ length bank.old }
     requires few { at + length rows.now < 2 ^ 64 }
-    requires rows { (k : ℕ) (d : Row) → k < length rows.now → (slice_index_or rows.now k d).index < length draft.now.places.items }
+    requires rows { (k : ℕ) (d : DraftRow) → k < length rows.now → (slice_index_or rows.now k d).index < length draft.now.places.items }
     ensures rows { HasRows rows.now draft.now at bank.new }
     ensures before { (k : ℕ) → k < at → slice_index_or bank.new k [] ≡ slice_index_or bank.old k [] }
     ensures count { length bank.new ≡ length bank.old }

@@ -1,15 +1,15 @@
 //! What the headers of a group count.
 
 ghost use Rattle.std.specs.Prelude.{◌≡◌, ◌≤◌, ◌<◌, ◌^◌, length};
-ghost use Rattle.xfs_render.specs.Counters.{blocks_in, free_inodes_in, inodes_in, levels, longest, newest};
+ghost use Rattle.xfs_render.specs.Counters.{span_blocks, free_inodes_in, chunk_inodes, levels, longest, newest};
 
 use xfs_geom::{InoRec, Span};
 use xfs_treebuild::blocks_for;
 
 /// The blocks of some runs.
-pub fn blocks_in(runs: &[Span]) -> u32
-    requires { blocks_in runs.now < 2 ^ 32 }
-    ensures { result ≡ blocks_in runs.now }
+pub fn span_blocks(runs: &[Span]) -> u32
+    requires { span_blocks runs.now < 2 ^ 32 }
+    ensures { result ≡ span_blocks runs.now }
 {
     let mut blocks = 0;
     for run in runs {
@@ -30,9 +30,9 @@ pub fn longest(runs: &[Span]) -> u32
 }
 
 /// The inodes of some chunks.
-pub fn inodes_in(records: &[InoRec]) -> u32
+pub fn chunk_inodes(records: &[InoRec]) -> u32
     requires { length records.now < 2 ^ 24 }
-    ensures { result ≡ inodes_in records.now }
+    ensures { result ≡ chunk_inodes records.now }
 {
     let mut inodes = 0;
     for record in records {

@@ -2,13 +2,13 @@
 
 ghost use Rattle.std.specs.Prelude.{◌≡◌, ℕ, ◌+◌, ◌<◌, ◌≤◌, length, Some};
 ghost use Rattle.xfs_word.specs.Crc.{little_field_of};
-ghost use Rattle.xfs_word.specs.Field.{KeepsParts, field_of, part_of};
+ghost use Rattle.xfs_word.specs.Field.{KeepsParts, field_of, part_of, IsZero};
 ghost use Rattle.xfs_geom.specs.Volumes.{volume_of};
 ghost use Rattle.xfs_heads.specs.FreeList.{agfl_of};
 ghost use Rattle.xfs_heads.specs.FreeSpace.{agf_of};
-ghost use Rattle.xfs_heads.specs.Heads.{IsZero, numbers};
+ghost use Rattle.xfs_heads.specs.Heads.{numbers};
 ghost use Rattle.xfs_heads.specs.Inodes.{agi_of};
-ghost use Rattle.xfs_render.specs.Groups.{IsSound, due_agf, due_agi, due_agfl};
+ghost use Rattle.xfs_render.specs.Groups.{IsSoundGroup, due_agf, due_agi, due_agfl};
 ghost use Rattle.xfs_render.specs.HeaderBlocks.{IsHeaderBlock};
 
 use crate::heads::{due_agf, due_agi};
@@ -29,7 +29,7 @@ pub fn put_headers(
     block: &mut [u8],
 )
     requires group { ag < g.now.agcount }
-    requires sound { IsSound (volume_of g.now) ag inodes.now placed.now }
+    requires sound { IsSoundGroup (volume_of g.now) ag inodes.now placed.now }
     requires sector { length sector.now ≡ 512 }
     requires old { length old.now ≡ 4096 }
     requires block { length block.old ≡ 4096 }
@@ -45,7 +45,7 @@ pub fn put_headers(
 /// Writes the header of free space into its sector.
 fn put_free_space(g: &Geometry, ag: u32, inodes: &[InoRec], placed: &GroupPlaced, block: &mut [u8])
     requires group { ag < g.now.agcount }
-    requires sound { IsSound (volume_of g.now) ag inodes.now placed.now }
+    requires sound { IsSoundGroup (volume_of g.now) ag inodes.now placed.now }
     requires block { length block.old ≡ 4096 }
     ensures agf { agf_of (volume_of g.now) ag (part_of block.new 512 512)
         ≡ Some (record (due_agf (volume_of g.now) ag placed.now) { crc = little_field_of (part_of block.new 512 512) 216 4 }) }
@@ -61,7 +61,7 @@ fn put_free_space(g: &Geometry, ag: u32, inodes: &[InoRec], placed: &GroupPlaced
 /// Writes the header of inodes into its sector.
 fn put_inodes(g: &Geometry, ag: u32, inodes: &[InoRec], placed: &GroupPlaced, block: &mut [u8])
     requires group { ag < g.now.agcount }
-    requires sound { IsSound (volume_of g.now) ag inodes.now placed.now }
+    requires sound { IsSoundGroup (volume_of g.now) ag inodes.now placed.now }
     requires block { length block.old ≡ 4096 }
     ensures agi { agi_of (volume_of g.now) ag (part_of block.new 1024 512)
         ≡ Some (record (due_agi (volume_of g.now) ag inodes.now placed.now) { crc = little_field_of (part_of block.new 1024 512) 312 4 }) }
@@ -77,7 +77,7 @@ fn put_inodes(g: &Geometry, ag: u32, inodes: &[InoRec], placed: &GroupPlaced, bl
 /// Writes the free list into its sector.
 fn put_free_list(g: &Geometry, ag: u32, inodes: &[InoRec], placed: &GroupPlaced, block: &mut [u8])
     requires group { ag < g.now.agcount }
-    requires sound { IsSound (volume_of g.now) ag inodes.now placed.now }
+    requires sound { IsSoundGroup (volume_of g.now) ag inodes.now placed.now }
     requires block { length block.old ≡ 4096 }
     ensures agfl { (crc : ℕ) → agfl_of (volume_of g.now) ag (record (due_agf (volume_of g.now) ag placed.now) { crc = crc }) (part_of block.new 1536 512)
         ≡ Some (due_agfl placed.now) }

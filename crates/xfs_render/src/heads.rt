@@ -3,9 +3,9 @@
 ghost use Rattle.std.specs.Prelude.{◌≡◌, ◌<◌, length};
 ghost use Rattle.xfs_geom.specs.Volumes.{volume_of};
 ghost use Rattle.xfs_heads.specs.FreeList.{unused};
-ghost use Rattle.xfs_render.specs.Groups.{IsSound, due_agf, due_agi, last_entry, root_in, tree_places};
+ghost use Rattle.xfs_render.specs.Groups.{IsSoundGroup, due_agf, due_agi, last_entry, root_in, tree_places};
 
-use crate::counters::{blocks_in, free_inodes_in, inodes_in, levels, longest, newest};
+use crate::counters::{span_blocks, free_inodes_in, chunk_inodes, levels, longest, newest};
 use xfs_geom::{Geometry, InoRec};
 use xfs_heads::{Agf, Agi};
 use xfs_place::GroupPlaced;
@@ -21,7 +21,7 @@ pub fn tree_places(placed: &GroupPlaced, tree: usize) -> &[u64]
 /// The header of free space, apart from its checksum.
 pub fn due_agf(g: &Geometry, ag: u32, inodes: &[InoRec], placed: &GroupPlaced) -> Agf
     requires group { ag < g.now.agcount }
-    requires sound { IsSound (volume_of g.now) ag inodes.now placed.now }
+    requires sound { IsSoundGroup (volume_of g.now) ag inodes.now placed.now }
     ensures { result ≡ due_agf (volume_of g.now) ag placed.now }
 {
     let bno = tree_places(placed, 0).len();
@@ -42,7 +42,7 @@ pub fn due_agf(g: &Geometry, ag: u32, inodes: &[InoRec], placed: &GroupPlaced) -
         flfirst: 0,
         fllast: last_entry(listed),
         flcount: listed,
-        freeblks: blocks_in(placed.bno.as_slice()),
+        freeblks: span_blocks(placed.bno.as_slice()),
         longest: longest(placed.bno.as_slice()),
         btreeblks: (bno + cnt + rmap - 3) as u32,
         uuid: g.uuid,
@@ -72,7 +72,7 @@ fn last_entry(count: u32) -> u32
 /// The header of inodes, apart from its checksum.
 pub fn due_agi(g: &Geometry, ag: u32, inodes: &[InoRec], placed: &GroupPlaced) -> Agi
     requires group { ag < g.now.agcount }
-    requires sound { IsSound (volume_of g.now) ag inodes.now placed.now }
+    requires sound { IsSoundGroup (volume_of g.now) ag inodes.now placed.now }
     ensures { result ≡ due_agi (volume_of g.now) ag inodes.now placed.now }
 {
     Agi {
@@ -80,7 +80,7 @@ pub fn due_agi(g: &Geometry, ag: u32, inodes: &[InoRec], placed: &GroupPlaced) -
         versionnum: 1,
         seqno: ag,
         length: g.group_length(ag),
-        count: inodes_in(inodes),
+        count: chunk_inodes(inodes),
         root: root_in(g, placed, 2),
         level: levels(252, 505, inodes.len()),
         freecount: free_inodes_in(inodes),

@@ -1,8 +1,9 @@
 //! Which blocks of a volume are those of new chunks.
 
 ghost use Rattle.std.specs.Prelude.{◌≡◌, ◌≤◌, ◌+◌, ℕ, ◌<◌, length, All, IfOk, OnOk, false, slice_index_or};
-ghost use Rattle.xfs_place.specs.Pool.{IsRunOf, is_of, is_taken};
-ghost use Rattle.xfs_render.specs.NewBlocks.{AreMarked, Marks};
+ghost use Rattle.xfs_geom.specs.Runs.{covers};
+ghost use Rattle.xfs_place.specs.Pool.{IsRunOf, is_taken};
+ghost use Rattle.xfs_render.specs.NewBlocks.{AreMarked, MarksNew};
 
 use std::alloc::Global;
 use xfs_disk::NoMemory;
@@ -35,7 +36,7 @@ fn no_marks(alloc: Global, blocks: u64) -> Result<Vec<bool>, NoMemory>
 /// Marks the blocks of a run.
 fn mark_run(run: &Run, marks: &mut Vec<bool>)
     requires { run.now.start + run.now.count ≤ length marks.old.items }
-    ensures { Marks (λ block. is_of block run.now) marks.old.items marks.new.items }
+    ensures { MarksNew (λ block. covers block run.now) marks.old.items marks.new.items }
 {
     for block in run.start..run.start + run.count {
         marks[block as usize] = true;

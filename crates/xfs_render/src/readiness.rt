@@ -4,7 +4,7 @@ ghost use Rattle.std.specs.Prelude.{◌≡◌, ◌<◌, ◌++◌, ◌^◌, lengt
 ghost use Rattle.std.specs.List.{All};
 ghost use Rattle.xfs_geom.specs.Volumes.{volume_of};
 ghost use Rattle.xfs_place.specs.Standing.{AreOfPool};
-ghost use Rattle.xfs_place.specs.Wanted.{AreKept, ArePlaced, all_kept, kept_of};
+ghost use Rattle.xfs_place.specs.Wanted.{CanBeKept, ArePlaced, all_kept, kept_runs};
 ghost use Rattle.xfs_render.specs.Readiness.{HasBytes, IsWritable};
 ghost use Rattle.xfs_render.specs.Rendering.{IsReady};
 
@@ -16,11 +16,11 @@ use xfs_place::{Placed, Wanted};
 /// of the volume and blocks of which the slots can be made. It does nothing.
 pub fn placed_is_ready(_wanted: &Wanted, _placed: &Placed, _bytes: &Bytes)
     requires wanted { IsWritable _wanted.now }
-    requires runs { all_kept _wanted.now ≡ Ok (kept_of _wanted.now ++ _placed.now.runs) }
-    requires groups { ArePlaced (volume_of _wanted.now.geometry) (kept_of _wanted.now ++ _placed.now.runs) _wanted.now.reserved _wanted.now.inodes
+    requires runs { all_kept _wanted.now ≡ Ok (kept_runs _wanted.now ++ _placed.now.runs) }
+    requires groups { ArePlaced (volume_of _wanted.now.geometry) (kept_runs _wanted.now ++ _placed.now.runs) _wanted.now.reserved _wanted.now.inodes
         _wanted.now.geometry.agcount _placed.now.groups }
-    requires apart { AreKept (volume_of _wanted.now.geometry) (kept_of _wanted.now ++ _placed.now.runs) }
-    requires pool { AreOfPool (volume_of _wanted.now.geometry) (kept_of _wanted.now ++ _placed.now.runs) _wanted.now.reserved _wanted.now.inodes
+    requires apart { CanBeKept (volume_of _wanted.now.geometry) (kept_runs _wanted.now ++ _placed.now.runs) }
+    requires pool { AreOfPool (volume_of _wanted.now.geometry) (kept_runs _wanted.now ++ _placed.now.runs) _wanted.now.reserved _wanted.now.inodes
         _wanted.now.geometry.agcount _placed.now.groups }
     requires bytes { HasBytes _wanted.now _bytes.now }
     ensures { IsReady _wanted.now _placed.now _bytes.now }

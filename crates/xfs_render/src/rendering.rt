@@ -4,7 +4,7 @@ ghost use Rattle.std.specs.Prelude.{◌≡◌, ◌≤◌, ◌<◌, ◌+◌, ◌^
 ghost use Rattle.xfs_geom.specs.Volumes.{volume_of};
 ghost use Rattle.xfs_render.specs.Drafts.{IsDraft};
 ghost use Rattle.xfs_render.specs.NewBlocks.{AreMarked};
-ghost use Rattle.xfs_render.specs.Rendering.{AddsBlank, AddsGroups, AddsPlaces, IsPlaceDue, IsReady, IsRendered, group_in, inodes_in, old_at, place_at};
+ghost use Rattle.xfs_render.specs.Rendering.{AddsBlank, AddsGroups, AddsPlaces, IsPlaceDue, IsReady, IsRendered, group_placed, wanted_inodes, old_at, byte_place};
 ghost use Rattle.xfs_render.specs.Trees.{AddsTrees};
 
 use crate::arranging::arrange;
@@ -72,25 +72,25 @@ struct Work<'a> {
 }
 
 /// The records of inodes of a group.
-fn inodes_in(wanted: &Wanted, ag: u32) -> &[InoRec]
+fn wanted_inodes(wanted: &Wanted, ag: u32) -> &[InoRec]
     requires { ag < length wanted.now.inodes }
-    ensures { result.now ≡ inodes_in wanted.now ag }
+    ensures { result.now ≡ wanted_inodes wanted.now ag }
 {
     wanted.inodes.as_slice()[ag as usize].records.as_slice()
 }
 
 /// What is placed in a group.
-fn group_in(placed: &Placed, ag: u32) -> &GroupPlaced
+fn group_placed(placed: &Placed, ag: u32) -> &GroupPlaced
     requires { ag < length placed.now.groups }
-    ensures { result.now ≡ group_in placed.now ag }
+    ensures { result.now ≡ group_placed placed.now ag }
 {
     &placed.groups.as_slice()[ag as usize]
 }
 
 /// The number of the block at a place, by its index.
-fn place_at(bytes: &Bytes, i: usize) -> u64
+fn byte_place(bytes: &Bytes, i: usize) -> u64
     requires { i < length bytes.now.places }
-    ensures { result ≡ place_at bytes.now i }
+    ensures { result ≡ byte_place bytes.now i }
 {
     bytes.places.as_slice()[i]
 }
@@ -122,8 +122,8 @@ fn add_groups(
             alloc,
             g,
             ag,
-            inodes_in(wanted, ag),
-            group_in(placed, ag),
+            wanted_inodes(wanted, ag),
+            group_placed(placed, ag),
             draft,
         )?;
     }
@@ -155,9 +155,9 @@ fn add_place(work: &Work<'_>, i: usize, fresh: &mut Draft, rest: &mut Draft) -> 
     requires fresh { IsDraft fresh.old }
     requires rest { IsDraft rest.old }
     ensures { OnOk result (AddsPlaces work.now.wanted.now work.now.placed.now work.now.bytes.now work.now.sector.now i (i + 1)
-        (place_at work.now.bytes.now i ∷ []) fresh.old rest.old fresh.new rest.new) }
+        (byte_place work.now.bytes.now i ∷ []) fresh.old rest.old fresh.new rest.new) }
 {
-    let place = place_at(work.bytes, i);
+    let place = byte_place(work.bytes, i);
     let mut block = [0; BLOCK_SIZE];
     put_place(work, i, &mut block);
     if work.marks[place as usize] {
@@ -177,15 +177,15 @@ fn put_place(work: &Work<'_>, i: usize, block: &mut [u8])
     ensures due { IsPlaceDue work.now.wanted.now work.now.placed.now work.now.bytes.now work.now.sector.now i block.new }
 {
     let g = &work.wanted.geometry;
-    let place = place_at(work.bytes, i);
+    let place = byte_place(work.bytes, i);
     let old = old_at(work.bytes, i);
     if place % g.agblocks as u64 == 0 {
         let ag = (place / g.agblocks as u64) as u32;
         put_headers(
             g,
             ag,
-            inodes_in(work.wanted, ag),
-            group_in(work.placed, ag),
+            wanted_inodes(work.wanted, ag),
+            group_placed(work.placed, ag),
             work.sector,
             old,
             block,

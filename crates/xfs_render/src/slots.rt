@@ -5,7 +5,7 @@ ghost use Rattle.xfs_word.specs.Field.{field_of};
 ghost use Rattle.xfs_word.specs.Seal.{is_sealed};
 ghost use Rattle.xfs_geom.specs.Volumes.{volume_of};
 ghost use Rattle.xfs_inode.specs.Slots.{slot_seal};
-ghost use Rattle.xfs_render.specs.Slots.{CanBase, CanFork, CanMake, DropsAttrs, IsBased, IsMade, SetsFork, SetsLinks, forkoff_of};
+ghost use Rattle.xfs_render.specs.Slots.{CanBase, CanFork, CanMake, DropsAttrs, IsBased, IsMadeSlot, SetsFork, SetsLinks, forkoff_of};
 
 use crate::wanted_slots::{SlotBase, SlotWanted};
 use xfs_disk::Stamp;
@@ -16,7 +16,7 @@ use xfs_inode::{ForkWanted, drop_attrs, free_slot, fresh_slot, set_fork, set_lin
 pub fn make_slot(g: &Geometry, wanted: &SlotWanted, stamp: &Stamp, slot: &mut [u8])
     requires slot { length slot.old ≡ 512 }
     requires can { CanMake (volume_of g.now) wanted.now slot.old }
-    ensures { IsMade (volume_of g.now) stamp.now.generation wanted.now slot.old slot.new }
+    ensures { IsMadeSlot (volume_of g.now) stamp.now.generation wanted.now slot.old slot.new }
 {
     put_base(g, wanted.ino, &wanted.base, stamp, slot);
     put_attrs(g, wanted.ino, wanted.drop_attrs, slot);

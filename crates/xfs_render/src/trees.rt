@@ -3,7 +3,7 @@
 ghost use Rattle.std.specs.Prelude.{◌<◌, OnOk};
 ghost use Rattle.xfs_geom.specs.Volumes.{volume_of};
 ghost use Rattle.xfs_render.specs.Drafts.{IsDraft};
-ghost use Rattle.xfs_render.specs.Groups.{CanPack, IsSound};
+ghost use Rattle.xfs_render.specs.Groups.{CanPack, IsSoundGroup};
 ghost use Rattle.xfs_render.specs.Trees.{AddsTree, AddsTrees};
 
 use crate::draft::Draft;
@@ -26,7 +26,7 @@ pub fn add_trees(
     draft: &mut Draft,
 ) -> Result<(), NoMemory>
     requires group { ag < g.now.agcount }
-    requires sound { IsSound (volume_of g.now) ag inodes.now placed.now }
+    requires sound { IsSoundGroup (volume_of g.now) ag inodes.now placed.now }
     requires draft { IsDraft draft.old }
     ensures { OnOk result (AddsTrees (volume_of g.now) ag inodes.now placed.now draft.old draft.new) }
 {

@@ -14,18 +14,18 @@ use Rattle.xfs_heads.specs.declared.log.state.LogState.TheVariants.{Clean}
 use Rattle.xfs_kinds.specs.FreeTrees.{bno_shape, cnt_shape}
 use Rattle.xfs_kinds.specs.InodeTrees.{ino_shape, fino_shape}
 use Rattle.xfs_kinds.specs.OwnerTrees.{rmap_shape}
-use Rattle.xfs_tree.specs.Reading.{Contents, bytes_at}
+use Rattle.xfs_tree.specs.Reading.{Contents, bytes_of_block}
 use Rattle.xfs_tree.specs.Shape.{Shape}
 use Rattle.xfs_volume.specs.declared.groups.GroupRec.{GroupRec}
 use Rattle.xfs_place.specs.declared.placed.GroupPlaced.{GroupPlaced}
 use Rattle.xfs_place.specs.declared.placed.Placed.{Placed}
 use Rattle.xfs_place.specs.declared.wanted.Wanted.{Wanted}
-use Rattle.xfs_image.specs.Groups.{agf_at, agi_at, agfl_at, bno_at, cnt_at, contents, fino_at, group_of, group_read, groups_from, groups_read, head_block, ino_at, read_then, rmap_at, tree_at}
+use Rattle.xfs_image.specs.Groups.{agf_at, agi_at, agfl_at, bno_at, cnt_at, contents, fino_at, group_record, group_read, groups_from, groups_read, head_block, ino_at, read_then, rmap_at, tree_at}
 use Rattle.xfs_image.specs.View.{log_of}
 use Rattle.xfs_render.specs.Groups.{due_agf, due_agfl, due_agi, tree_places}
 use Rattle.xfs_render.specs.HeaderBlocks.{IsHeaderBlock}
 use Rattle.xfs_render.specs.Logs.{IsBlankLog}
-use Rattle.xfs_render.specs.Rendering.{group_in, inodes_in, volume}
+use Rattle.xfs_render.specs.Rendering.{group_placed, wanted_inodes, volume}
 use Rattle.xfs_render.specs.Trees.{HasTrees, ReadsFrom, block_in_group, packed_tree}
 use Rattle.xfs_render.specs.declared.bytes.Bytes.{Bytes}
 use Rattle.xfs_due.specs.Groups.{due_group, due_group_at, due_groups}
@@ -36,7 +36,7 @@ use Rattle.xfs_rendered.proofs.Headers.{headers_stand}
 group_is : (v : Volume) (image : Image) (ag : ℕ) (agf : Agf) (agi : Agi) (agfl : Agfl) (bno cnt : Contents Span) (ino fino : Contents InoRec) (rmap : Contents RmapRec)
     → agf_at v image ag ≡ Some agf → agi_at v image ag ≡ Some agi → agfl_at v image ag agf ≡ Some agfl
     → bno_at v image ag agf ≡ Some bno → cnt_at v image ag agf ≡ Some cnt → ino_at v image ag agi ≡ Some ino → fino_at v image ag agi ≡ Some fino
-    → rmap_at v image ag agf ≡ Some rmap → group_read v image ag ≡ Ok (group_of agf agi agfl bno cnt ino fino rmap)
+    → rmap_at v image ag agf ≡ Some rmap → group_read v image ag ≡ Ok (group_record agf agi agfl bno cnt ino fino rmap)
 unfolding group_read
 group_is v image ag agf agi agfl bno cnt ino fino rmap is_agf is_agi is_agfl is_bno is_cnt is_ino is_fino is_rmap =
     rw (is_agf, is_agi, is_agfl, is_bno, is_cnt, is_ino, is_fino, is_rmap) refl
@@ -47,7 +47,7 @@ tree_is s v image ag root n records places reads = ap contents reads
 
 -- a group with its headers and trees reads as it was placed
 group_stands : (v : Volume) (image : Image) (ag : ℕ) (super old : List ℕ) (inodes : List InoRec) (p : GroupPlaced)
-    → IsHeaderBlock v ag super old inodes p (bytes_at image (head_block v ag)) → HasTrees v image ag inodes p
+    → IsHeaderBlock v ag super old inodes p (bytes_of_block image (head_block v ag)) → HasTrees v image ag inodes p
     → group_read v image ag ≡ Ok (due_group v ag inodes p (agf_crc_at v image ag) (agi_crc_at v image ag))
 group_stands v image ag super old inodes p head trees =
     let agf : Agf = record (due_agf v ag p) { crc = agf_crc_at v image ag } in
@@ -83,7 +83,7 @@ groups_stand w p b super image is =
     (λ ag low high.
     let inside : ag < w.geometry.agcount = omega (arith, high) in
     let head = headers_stand w p b super image is ag inside in
-    group_stands v image ag super head.0 (inodes_in w ag) (group_in p ag) head.1 (is.volume'.trees ag inside))
+    group_stands v image ag super head.0 (wanted_inodes w ag) (group_placed p ag) head.1 (is.volume'.trees ag inside))
 
 pub log_stands : (w : Wanted) (p : Placed) (b : Bytes) (super : List ℕ) (image : Image) (cycle : ℕ) → IsStanding w p b super image → b.cycle ≡ Some cycle
     → log_of (volume w) image ≡ Clean (cycle * 2 ^ 32 + 2)

@@ -18,7 +18,7 @@ use Rattle.xfs_kinds.specs.FreeTrees.{bno_shape, cnt_shape}
 use Rattle.xfs_kinds.specs.InodeTrees.{ino_shape, fino_shape}
 use Rattle.xfs_kinds.specs.OwnerTrees.{rmap_shape}
 use Rattle.xfs_treebuild.specs.Packing.{lsn_of, rows_in, top_down}
-use Rattle.xfs_tree.specs.Reading.{bytes_at}
+use Rattle.xfs_tree.specs.Reading.{bytes_of_block}
 use Rattle.xfs_tree.specs.Shape.{Shape}
 use Rattle.xfs_treebuild.specs.Size.{rows_of}
 use Rattle.xfs_volume.specs.declared.groups.GroupRec.{GroupRec}
@@ -26,10 +26,10 @@ use Rattle.xfs_place.specs.declared.placed.GroupPlaced.{GroupPlaced}
 use Rattle.xfs_place.specs.declared.placed.Placed.{Placed}
 use Rattle.xfs_place.specs.declared.wanted.Wanted.{Wanted}
 use Rattle.xfs_image.specs.Groups.{head_block}
-use Rattle.xfs_image.specs.Lsns.{LsnPlace, at, groups_places, head_places, lsn_at, tree_places}
+use Rattle.xfs_image.specs.Lsns.{LsnPlace, at, groups_places, head_places, lsn_at, tree_lsn_places}
 use Rattle.xfs_render.specs.Groups.{due_agf, due_agi, tree_places as placed_blocks}
 use Rattle.xfs_render.specs.HeaderBlocks.{IsHeaderBlock}
-use Rattle.xfs_render.specs.Rendering.{group_in, inodes_in, volume}
+use Rattle.xfs_render.specs.Rendering.{group_placed, wanted_inodes, volume}
 use Rattle.xfs_render.specs.Trees.{HasTrees, packed_tree}
 use Rattle.xfs_render.specs.declared.bytes.Bytes.{Bytes}
 use Rattle.xfs_due.specs.Groups.{due_group, due_group_at, due_groups}
@@ -66,19 +66,19 @@ all_in_rows P (size ∷ sizes) places all =
 
 -- the blocks of a tree whose blocks have short headers
 tree_zero : {R K : Type 0} (s : Shape R K) (image : Image) (records : List R) (places : List ℕ) → s.layout.long ≡ false
-    → All (λ place. lsn_of s.layout (bytes_at image place) ≡ 0) places → All (IsZeroAt image) (map (at 24) (packed_tree s records places).blocks)
+    → All (λ place. lsn_of s.layout (bytes_of_block image place) ≡ 0) places → All (IsZeroAt image) (map (at 24) (packed_tree s records places).blocks)
 tree_zero s image records places short all =
-    let here : ℕ → Type 0 = λ place. field_of (bytes_at image place) 24 8 ≡ 0 in
-    let each : All here places = All-weaker (λ place. lsn_of s.layout (bytes_at image place) ≡ 0) here
-    (λ place zero. subst (λ (long : Bool). field_of (bytes_at image place) (if long then 32 else 24) 8 ≡ 0) short zero) places all in
+    let here : ℕ → Type 0 = λ place. field_of (bytes_of_block image place) 24 8 ≡ 0 in
+    let each : All here places = All-weaker (λ place. lsn_of s.layout (bytes_of_block image place) ≡ 0) here
+    (λ place zero. subst (λ (long : Bool). field_of (bytes_of_block image place) (if long then 32 else 24) 8 ≡ 0) short zero) places all in
     All-map (IsZeroAt image) (at 24) (packed_tree s records places).blocks
     (all_in_rows here (rows_of s.layout.leaf_cap s.layout.node_cap (length records)) places each)
 
 module _ (v : Volume) (image : Image) (ag : ℕ) (super old : List ℕ) (inodes : List InoRec) (p : GroupPlaced) where
   -- the headers of a group
-  heads_zero : IsHeaderBlock v ag super old inodes p (bytes_at image (head_block v ag)) → All (IsZeroAt image) (head_places v ag)
+  heads_zero : IsHeaderBlock v ag super old inodes p (bytes_of_block image (head_block v ag)) → All (IsZeroAt image) (head_places v ag)
   heads_zero head =
-      let block = bytes_at image (head_block v ag) in
+      let block = bytes_of_block image (head_block v ag) in
       let agf : Agf = record (due_agf v ag p) { crc = little_field_of (part_of block 512 512) 216 4 } in
       let agi : Agi = record (due_agi v ag inodes p) { crc = little_field_of (part_of block 1024 512) 312 4 } in
       let first : field_of block 720 8 ≡ 0 = sym (number_in_part block 512 512 208 8 (omega arith)) ∙ agf_lsn v ag (part_of block 512 512) agf head.agf in
@@ -90,7 +90,7 @@ module _ (v : Volume) (image : Image) (ag : ℕ) (super old : List ℕ) (inodes 
       (All-cons P (at 1344 place) (at 1560 place ∷ []) second (All-cons P (at 1560 place) [] third (All-nil P)))
 
   -- the blocks of its trees
-  trees_zero : (agf_crc agi_crc : ℕ) → HasTrees v image ag inodes p → All (IsZeroAt image) (tree_places (due_group v ag inodes p agf_crc agi_crc))
+  trees_zero : (agf_crc agi_crc : ℕ) → HasTrees v image ag inodes p → All (IsZeroAt image) (tree_lsn_places (due_group v ag inodes p agf_crc agi_crc))
   trees_zero agf_crc agi_crc trees =
       let P = IsZeroAt image in
       let bno = packed_tree (bno_shape ag) p.bno (placed_blocks p 0) in
@@ -106,27 +106,27 @@ module _ (v : Volume) (image : Image) (ag : ℕ) (super old : List ℕ) (inodes 
 
 -- groups in a row
 groups_zero : (v : Volume) (image : Image) (due : ℕ → GroupRec) (ag n : ℕ)
-    → ((k : ℕ) → ag ≤ k → k < ag + n → All (IsZeroAt image) (head_places v k) × All (IsZeroAt image) (tree_places (due k)))
+    → ((k : ℕ) → ag ≤ k → k < ag + n → All (IsZeroAt image) (head_places v k) × All (IsZeroAt image) (tree_lsn_places (due k)))
     → All (IsZeroAt image) (groups_places v ag (map due (range_with_len ag n)))
 groups_zero v image due ag zero each = All-nil (IsZeroAt image)
 groups_zero v image due ag (suc n) each =
     let P = IsZeroAt image in
     let here = each ag (omega arith) (omega arith) in
     let rest = groups_zero v image due (ag + 1) n (λ k low high. each k (omega (arith, low)) (omega (arith, high))) in
-    All-append P (head_places v ag ++ tree_places (due ag)) (groups_places v (ag + 1) (map due (range_with_len (ag + 1) n)))
-    (All-append P (head_places v ag) (tree_places (due ag)) here.0 here.1) rest
+    All-append P (head_places v ag ++ tree_lsn_places (due ag)) (groups_places v (ag + 1) (map due (range_with_len (ag + 1) n)))
+    (All-append P (head_places v ag) (tree_lsn_places (due ag)) here.0 here.1) rest
 
 pub lsns_stand : (w : Wanted) (p : Placed) (b : Bytes) (super : List ℕ) (image : Image) (agf_crc agi_crc : ℕ → ℕ) → IsStanding w p b super image
     → All (λ (place : LsnPlace). (lsn_at image place).lsn ≡ 0) (at 240 0 ∷ groups_places (volume w) 0 (due_groups (volume w) w.inodes p.groups agf_crc agi_crc))
 lsns_stand w p b super image agf_crc agi_crc is =
     let v = volume w in
     let due = due_group_at v w.inodes p.groups agf_crc agi_crc in
-    let first : field_of (bytes_at image 0) 240 8 ≡ 0 = number_of_super w p b super image is 240 8 (omega arith) ∙ is.due.written.lsn in
+    let first : field_of (bytes_of_block image 0) 240 8 ≡ 0 = number_of_super w p b super image is 240 8 (omega arith) ∙ is.due.written.lsn in
     All-cons (IsZeroAt image) (at 240 0) (groups_places v 0 (due_groups v w.inodes p.groups agf_crc agi_crc)) first
     (groups_zero v image due 0 w.geometry.agcount
     (λ ag low high.
     let inside : ag < w.geometry.agcount = omega (arith, high) in
     let head = headers_stand w p b super image is ag inside in (
-      heads_zero v image ag super head.0 (inodes_in w ag) (group_in p ag) head.1,
-      trees_zero v image ag super head.0 (inodes_in w ag) (group_in p ag) (agf_crc ag) (agi_crc ag) (is.volume'.trees ag inside),
+      heads_zero v image ag super head.0 (wanted_inodes w ag) (group_placed p ag) head.1,
+      trees_zero v image ag super head.0 (wanted_inodes w ag) (group_placed p ag) (agf_crc ag) (agi_crc ag) (is.volume'.trees ag inside),
     )))

@@ -13,7 +13,7 @@ use Rattle.xfs_geom.proofs.OwnVolume.{agrees_with_itself}
 use Rattle.xfs_geom.proofs.Votes.{same_itself}
 use Rattle.xfs_place.specs.declared.placed.Placed.{Placed}
 use Rattle.xfs_place.specs.declared.wanted.Wanted.{Wanted}
-use Rattle.xfs_tree.specs.Reading.{bytes_at}
+use Rattle.xfs_tree.specs.Reading.{bytes_of_block}
 use Rattle.xfs_image.specs.Consistent.{IsElected, backup_agrees}
 use Rattle.xfs_image.specs.Groups.{head_block}
 use Rattle.xfs_image.specs.Sectors.{sector_in}
@@ -25,7 +25,7 @@ use Rattle.xfs_rendered.proofs.Headers.{headers_stand}
 use Rattle.xfs_rendered.proofs.Numbers.{number_in_part}
 
 -- the first block, in the words of the election
-first_block : (image : Image) → block_of image 0 ≡ bytes_at image 0
+first_block : (image : Image) → block_of image 0 ≡ bytes_of_block image 0
 first_block [] = refl
 first_block (block ∷ blocks) = refl
 
@@ -50,10 +50,10 @@ module _ (w : Wanted) (p : Placed) (b : Bytes) (super : List ℕ) (image : Image
   super_at : (ag : ℕ) → ag < w.geometry.agcount → sector_in image (head_block (volume w) ag) 0 ≡ super
   super_at ag inside = (headers_stand w p b super image is ag inside).1.super'
 
-  super_first : part_of (bytes_at image 0) 0 512 ≡ super
+  super_first : part_of (bytes_of_block image 0) 0 512 ≡ super
   super_first =
       let none : 0 * w.geometry.agblocks ≡ 0 = omega arith in
-      ap (λ (place : ℕ). part_of (bytes_at image place) 0 512) (sym none) ∙ super_at 0 some_groups
+      ap (λ (place : ℕ). part_of (bytes_of_block image place) 0 512) (sym none) ∙ super_at 0 some_groups
 
   accepted : (blocks : ℕ) → w.geometry.dblocks ≤ blocks → super_fault super 0 blocks ≡ None
   accepted blocks enough =
@@ -77,11 +77,11 @@ module _ (w : Wanted) (p : Placed) (b : Bytes) (super : List ℕ) (image : Image
       ∙ subst (λ (v : Volume). is_agreeing v super ≡ true) is.due.states (agrees_with_itself super w.geometry.dblocks (accepted w.geometry.dblocks (omega arith)))
 
   -- a number of the superblock stands in the first block
-  pub number_of_super : (at width : ℕ) → at + width ≤ 512 → field_of (bytes_at image 0) at width ≡ field_of super at width
+  pub number_of_super : (at width : ℕ) → at + width ≤ 512 → field_of (bytes_of_block image 0) at width ≡ field_of super at width
   number_of_super at width inside =
       let front : 0 + at ≡ at = omega arith in
-      ap (λ (k : ℕ). field_of (bytes_at image 0) k width) (sym front)
-      ∙ sym (number_in_part (bytes_at image 0) 0 512 at width inside)
+      ap (λ (k : ℕ). field_of (bytes_of_block image 0) k width) (sym front)
+      ∙ sym (number_in_part (bytes_of_block image 0) 0 512 at width inside)
       ∙ ap (λ (sector : List ℕ). field_of sector at width) super_first
 
   pub counts_stand : counts_of image ≡ p.counts

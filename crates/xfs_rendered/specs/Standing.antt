@@ -7,7 +7,7 @@ use Rattle.xfs_place.specs.declared.placed.Placed.{Placed}
 use Rattle.xfs_place.specs.declared.wanted.Wanted.{Wanted}
 use Rattle.xfs_image.specs.Groups.{head_block}
 use Rattle.xfs_image.specs.Sectors.{sector_in}
-use Rattle.xfs_render.specs.Rendering.{HasVolume, IsDueSuper, place_at}
+use Rattle.xfs_render.specs.Rendering.{HasVolume, IsDueSuper, byte_place}
 use Rattle.xfs_render.specs.declared.bytes.Bytes.{Bytes}
 
 -- the checksums of the headers of a group, as an image has them
@@ -19,7 +19,7 @@ agi_crc_at v image ag = little_field_of (sector_in image (head_block v ag) 2) 31
 
 -- the bytes of the first block of each group were at hand
 abbrev pub HasHeads : Wanted → Bytes → Type 0
-HasHeads w b = (ag : ℕ) → ag < w.geometry.agcount → (i : ℕ) × (i < length b.places) × (place_at b i ≡ ag * w.geometry.agblocks)
+HasHeads w b = (ag : ℕ) → ag < w.geometry.agcount → (i : ℕ) × (i < length b.places) × (byte_place b i ≡ ag * w.geometry.agblocks)
 
 -- an image, as large as the volume, that has what was rendered for a request, with the first block of each group
 pub record IsStanding (w : Wanted) (p : Placed) (b : Bytes) (super : List ℕ) (image : Image) : Type 0 where

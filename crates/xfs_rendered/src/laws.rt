@@ -13,7 +13,7 @@ ghost use Rattle.xfs_image.specs.Lsns.{LsnPlace, at, groups_places, lsn_at};
 ghost use Rattle.xfs_image.specs.Slots.{slot_bytes};
 ghost use Rattle.xfs_image.specs.View.{counts_of, log_of};
 ghost use Rattle.xfs_render.specs.Clusters.{slot_in};
-ghost use Rattle.xfs_render.specs.Rendering.{is_head, old_at, place_at, volume};
+ghost use Rattle.xfs_render.specs.Rendering.{is_head, old_at, byte_place, volume};
 ghost use Rattle.xfs_render.specs.Slots.{IsSlotDue};
 ghost use Rattle.xfs_render.specs.declared.bytes.Bytes.{Bytes};
 ghost use Rattle.xfs_due.specs.Groups.{due_groups};
@@ -45,7 +45,7 @@ pub fn rendered_lsns_are_zero()
 /// Each slot of a block whose bytes were at hand is what was wanted of it, or as it was.
 pub fn rendered_slots_stand()
     ensures { (w : Wanted) (p : Placed) (b : Bytes) (super : List ℕ) (image : Image) → IsStanding w p b super image
-        → (i k : ℕ) → i < length b.places → k < 8 → is_head (volume w) (place_at b i) ≡ false → place_at b i < w.geometry.dblocks
-        → IsSlotDue (volume w) b.stamp.generation b.slots (inode_of (volume w) (place_at b i) k) (slot_in (old_at b i) k)
-        (slot_bytes (volume w) image (inode_of (volume w) (place_at b i) k)) }
+        → (i k : ℕ) → i < length b.places → k < 8 → is_head (volume w) (byte_place b i) ≡ false → byte_place b i < w.geometry.dblocks
+        → IsSlotDue (volume w) b.stamp.generation b.slots (inode_of (volume w) (byte_place b i) k) (slot_in (old_at b i) k)
+        (slot_bytes (volume w) image (inode_of (volume w) (byte_place b i) k)) }
 {}

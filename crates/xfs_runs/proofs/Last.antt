@@ -7,22 +7,23 @@ use Rattle.std.specs.declared.ops.Bound.TheVariants.{Unbounded, Excluded}
 use Rattle.std.proofs.lemmas.Bool.{cases_lt, cases_order, or_from}
 use Rattle.std.proofs.lemmas.Bool.Decides.{nat_tests}
 use Rattle.std.proofs.Math.Bool.{or-false}
-use Rattle.xfs_runs.specs.Blocks.{is_block, has, is_in, meets, Ascend}
+use Rattle.xfs_disk.specs.Lists.{is_in_range}
+use Rattle.xfs_runs.specs.Blocks.{run_has, is_in, meets, RunsAscend}
 use Rattle.xfs_runs.proofs.Meeting.{meets_none, meets_some}
 
 -- no block before the first run is in the set
-pub none_before : (low : ℕ) (runs : List (ℕ × ℕ)) (b : ℕ) → Ascend low runs → b < low → is_in runs b ≡ false
+pub none_before : (low : ℕ) (runs : List (ℕ × ℕ)) (b : ℕ) → RunsAscend low runs → b < low → is_in runs b ≡ false
 none_before low [] b up h = refl
 none_before low (run ∷ rest) b up h =
-    let here : has b run ≡ false = grind (arith, nat_tests, up.0) in
-    or_from (has b run) (is_in rest b) here (none_before (run.0 + run.1) rest b up.2 (omega (arith, up.0, h)))
+    let here : run_has b run ≡ false = grind (arith, nat_tests, up.0) in
+    or_from (run_has b run) (is_in rest b) here (none_before (run.0 + run.1) rest b up.2 (omega (arith, up.0, h)))
 
 -- the test passes the runs that begin before the end
 abbrev IsBefore : ℕ → (ℕ × ℕ → Bool) → Type 0
 IsBefore end test = (run : ℕ × ℕ) → test run ≡ nat_lt run.0 end
 
 -- where no run begins before the end, no block before it is in the set
-none_passes : (end : ℕ) (test : ℕ × ℕ → Bool) → IsBefore end test → (low : ℕ) (runs : List (ℕ × ℕ)) → Ascend low runs → filter test runs ≡ []
+none_passes : (end : ℕ) (test : ℕ × ℕ → Bool) → IsBefore end test → (low : ℕ) (runs : List (ℕ × ℕ)) → RunsAscend low runs → filter test runs ≡ []
     → (b : ℕ) → b < end → is_in runs b ≡ false
 none_passes end test before low [] up none b h = refl
 none_passes end test before low (run ∷ rest) up none b h =
@@ -38,21 +39,21 @@ pub record IsLast (end low : ℕ) (runs : List (ℕ × ℕ)) (last : ℕ × ℕ)
   pub from : low ≤ last.0
   pub below : last.0 < end
   pub some : 1 ≤ last.1
-  pub has_block : (b : ℕ) → last.0 ≤ b → b < end → is_in runs b ≡ is_block last.0 last.1 b
+  pub has_block : (b : ℕ) → last.0 ≤ b → b < end → is_in runs b ≡ is_in_range last.0 last.1 b
 
-first_last : (end low : ℕ) (run last : ℕ × ℕ) (rest : List (ℕ × ℕ)) → run.0 < end → Ascend low (run ∷ rest) → IsLast end (run.0 + run.1) rest last → IsLast end low (run ∷ rest) last
+first_last : (end low : ℕ) (run last : ℕ × ℕ) (rest : List (ℕ × ℕ)) → run.0 < end → RunsAscend low (run ∷ rest) → IsLast end (run.0 + run.1) rest last → IsLast end low (run ∷ rest) last
 first_last end low run last rest lt up is = record {
   from = omega (arith, up.0, is.from);
   below = is.below;
   some = is.some;
   has_block = λ b from before.
-      let here : has b run ≡ false = grind (arith, nat_tests, is.from, from) in
+      let here : run_has b run ≡ false = grind (arith, nat_tests, is.from, from) in
       let there = is.has_block b from before in
       rw here there;
 }
 
 pub last_of : (end : ℕ) (test : ℕ × ℕ → Bool) → IsBefore end test → (low : ℕ) (runs : List (ℕ × ℕ)) (front : List (ℕ × ℕ)) (last : ℕ × ℕ)
-    → Ascend low runs → filter test runs ≡ front ++ last ∷ [] → IsLast end low runs last
+    → RunsAscend low runs → filter test runs ≡ front ++ last ∷ [] → IsLast end low runs last
 last_of end test before low [] [] last up is = absurd (cc)
 last_of end test before low [] (x ∷ front) last up is = absurd (cc)
 last_of end test before low (run ∷ rest) [] last up is =
@@ -68,7 +69,7 @@ last_of end test before low (run ∷ rest) [] last up is =
             some = up.1;
             has_block = λ b from h.
                 let there : is_in rest b ≡ false = none_passes end test before (run.0 + run.1) rest up.2 none b h in
-                rw there (or-false (has b run));
+                rw there (or-false (run_has b run));
           })
       | inr ge ↦ let e : nat_lt run.0 end ≡ false = grind (arith, nat_tests) in
           let fails : test run ≡ false = before run ∙ e in
@@ -97,18 +98,18 @@ last_meets low runs last start count some is =
     elim (cases_lt start (last.0 + last.1)) [
       | inl behind ↦ let e : nat_lt start (last.0 + last.1) ≡ true = grind (arith, nat_tests) in
           elim (cases_lt start last.0) [
-            | inl lt ↦ let there : is_block last.0 last.1 last.0 ≡ true = grind (arith, nat_tests, is.some) in
+            | inl lt ↦ let there : is_in_range last.0 last.1 last.0 ≡ true = grind (arith, nat_tests, is.some) in
                 rw e (meets_some (is_in runs) start count last.0 (omega arith) is.below (is.has_block last.0 (omega arith) is.below ∙ there))
-            | inr ge ↦ let there : is_block last.0 last.1 start ≡ true = grind (arith, nat_tests) in
+            | inr ge ↦ let there : is_in_range last.0 last.1 start ≡ true = grind (arith, nat_tests) in
                 rw e (meets_some (is_in runs) start count start (omega arith) (omega arith) (is.has_block start ge (omega arith) ∙ there))
           ]
       | inr ends ↦ let e : nat_lt start (last.0 + last.1) ≡ false = grind (arith, nat_tests) in
           rw e (meets_none (is_in runs) start count (λ b low high.
-          let there : is_block last.0 last.1 b ≡ false = grind (arith, nat_tests) in
+          let there : is_in_range last.0 last.1 b ≡ false = grind (arith, nat_tests) in
           is.has_block b (omega (arith, is.some)) high ∙ there))
     ]
 
-pub none_meets : (low : ℕ) (runs : List (ℕ × ℕ)) (start count : ℕ) (test : ℕ × ℕ → Bool) → IsBefore (start + count) test → Ascend low runs → filter test runs ≡ []
+pub none_meets : (low : ℕ) (runs : List (ℕ × ℕ)) (start count : ℕ) (test : ℕ × ℕ → Bool) → IsBefore (start + count) test → RunsAscend low runs → filter test runs ≡ []
     → meets (is_in runs) start count ≡ false
 none_meets low runs start count test before up none =
     meets_none (is_in runs) start count (λ b from h. none_passes (start + count) test before low runs up none b h)

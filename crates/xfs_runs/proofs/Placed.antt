@@ -4,7 +4,8 @@ use Rattle.std.specs.Ordering.{nat_cmp}
 use Rattle.std.specs.BTreeMap.{insert_entry}
 use Rattle.std.proofs.lemmas.Bool.{cases_lt, cases_order, or_parts, both_ways}
 use Rattle.std.proofs.lemmas.Bool.Decides.{nat_tests}
-use Rattle.xfs_runs.specs.Blocks.{is_block, has, is_in, placed, Ascend}
+use Rattle.xfs_disk.specs.Lists.{is_in_range}
+use Rattle.xfs_runs.specs.Blocks.{run_has, is_in, placed, RunsAscend}
 
 -- none of the blocks is in the set
 abbrev pub IsApart : ℕ → ℕ → List (ℕ × ℕ) → Type 0
@@ -16,28 +17,28 @@ or_swap true false z = refl
 or_swap false true z = refl
 or_swap false false z = refl
 
-pub placed_blocks : (start count : ℕ) (runs : List (ℕ × ℕ)) (b : ℕ) → is_in (placed (start, count) runs) b ≡ (is_block start count b || is_in runs b)
+pub placed_blocks : (start count : ℕ) (runs : List (ℕ × ℕ)) (b : ℕ) → is_in (placed (start, count) runs) b ≡ (is_in_range start count b || is_in runs b)
 placed_blocks start count [] b = refl
 placed_blocks start count (next ∷ rest) b =
     elim (cases_lt next.0 start) [
       | inl lt ↦ let e : nat_lt next.0 start ≡ true = grind (arith, nat_tests) in
-          rw (e, placed_blocks start count rest b) (or_swap (has b next) (is_block start count b) (is_in rest b))
+          rw (e, placed_blocks start count rest b) (or_swap (run_has b next) (is_in_range start count b) (is_in rest b))
       | inr ge ↦ let e : nat_lt next.0 start ≡ false = grind (arith, nat_tests) in rw e refl
     ]
 
 -- the blocks apart from a first run, and from the rest
 apart_rest : (start count : ℕ) (next : ℕ × ℕ) (rest : List (ℕ × ℕ)) → IsApart start count (next ∷ rest) → IsApart start count rest
-apart_rest start count next rest apart b low high = (or_parts (has b next) (is_in rest b) (apart b low high)).1
+apart_rest start count next rest apart b low high = (or_parts (run_has b next) (is_in rest b) (apart b low high)).1
 
-apart_first : (start count : ℕ) (next : ℕ × ℕ) (rest : List (ℕ × ℕ)) → IsApart start count (next ∷ rest) → (b : ℕ) → start ≤ b → b < start + count → has b next ≡ false
-apart_first start count next rest apart b low high = (or_parts (has b next) (is_in rest b) (apart b low high)).0
+apart_first : (start count : ℕ) (next : ℕ × ℕ) (rest : List (ℕ × ℕ)) → IsApart start count (next ∷ rest) → (b : ℕ) → start ≤ b → b < start + count → run_has b next ≡ false
+apart_first start count next rest apart b low high = (or_parts (run_has b next) (is_in rest b) (apart b low high)).0
 
 -- a run that begins before the blocks ends before them
 ends_before : (start count : ℕ) (next : ℕ × ℕ) (rest : List (ℕ × ℕ)) → 1 ≤ count → IsApart start count (next ∷ rest) → next.0 ≤ start → next.0 + next.1 ≤ start
 ends_before start count next rest some apart from =
     elim (cases_lt start (next.0 + next.1)) [
-      | inl inside ↦ let there : has start next ≡ true = grind (arith, nat_tests) in
-          absurd (both_ways (has start next) (apart_first start count next rest apart start (omega arith) (omega arith)) there)
+      | inl inside ↦ let there : run_has start next ≡ true = grind (arith, nat_tests) in
+          absurd (both_ways (run_has start next) (apart_first start count next rest apart start (omega arith) (omega arith)) there)
       | inr ends ↦ ends
     ]
 
@@ -45,12 +46,12 @@ ends_before start count next rest some apart from =
 begins_behind : (start count : ℕ) (next : ℕ × ℕ) (rest : List (ℕ × ℕ)) → 1 ≤ next.1 → IsApart start count (next ∷ rest) → start ≤ next.0 → start + count ≤ next.0
 begins_behind start count next rest some apart from =
     elim (cases_lt next.0 (start + count)) [
-      | inl inside ↦ let there : has next.0 next ≡ true = grind (arith, nat_tests) in
-          absurd (both_ways (has next.0 next) (apart_first start count next rest apart next.0 from inside) there)
+      | inl inside ↦ let there : run_has next.0 next ≡ true = grind (arith, nat_tests) in
+          absurd (both_ways (run_has next.0 next) (apart_first start count next rest apart next.0 from inside) there)
       | inr behind ↦ behind
     ]
 
-pub placed_ascends : (low start count : ℕ) (runs : List (ℕ × ℕ)) → low ≤ start → 1 ≤ count → Ascend low runs → IsApart start count runs → Ascend low (placed (start, count) runs)
+pub placed_ascends : (low start count : ℕ) (runs : List (ℕ × ℕ)) → low ≤ start → 1 ≤ count → RunsAscend low runs → IsApart start count runs → RunsAscend low (placed (start, count) runs)
 placed_ascends low start count [] from some up apart = (from, some, tt)
 placed_ascends low start count (next ∷ rest) from some up apart =
     elim (cases_lt next.0 start) [
@@ -64,7 +65,7 @@ placed_ascends low start count (next ∷ rest) from some up apart =
     ]
 
 -- the map puts the run at that place
-pub insert_is : (low start count : ℕ) (runs : List (ℕ × ℕ)) → 1 ≤ count → Ascend low runs → IsApart start count runs → insert_entry nat_cmp runs start count ≡ placed (start, count) runs
+pub insert_is : (low start count : ℕ) (runs : List (ℕ × ℕ)) → 1 ≤ count → RunsAscend low runs → IsApart start count runs → insert_entry nat_cmp runs start count ≡ placed (start, count) runs
 insert_is low start count [] some up apart = refl
 insert_is low start count (next ∷ rest) some up apart =
     elim (cases_order start next.0) [

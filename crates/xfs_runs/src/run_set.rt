@@ -1,7 +1,8 @@
 //! Sets of blocks, as runs in an ordered map from the first block of each to its number of blocks.
 
 ghost use Rattle.std.specs.Prelude.{◌≡◌, ℕ, false, ◌+◌, ◌^◌, ◌<◌, ◌≤◌, ◌||◌, nat_lt, [], OnOk, OnErr};
-ghost use Rattle.xfs_runs.specs.Blocks.{is_block, is_in, meets, placed, Ascend};
+ghost use Rattle.xfs_disk.specs.Lists.{is_in_range};
+ghost use Rattle.xfs_runs.specs.Blocks.{is_in, meets, placed, RunsAscend};
 
 use crate::counting::Steps;
 use std::alloc::Global;
@@ -20,13 +21,13 @@ pub struct RunSet {
 
 impl Model for RunSet {
     ghost use Rattle.std.specs.Prelude.{ℕ, List};
-    ghost use Rattle.xfs_runs.specs.Blocks.{Ascend};
+    ghost use Rattle.xfs_runs.specs.Blocks.{RunsAscend};
 
     ghost Value = { List (ℕ × ℕ) };
 
     ghost view = { λ s. s.runs.entries };
 
-    ghost invariant = { λ s. Ascend 0 s.runs.entries };
+    ghost invariant = { λ s. RunsAscend 0 s.runs.entries };
 }
 
 /// Whether the run of `count` blocks from `first` on ends behind a block.
@@ -51,7 +52,7 @@ impl RunSet {
         requires some { 1 ≤ count }
         requires end { start + count < 2 ^ 63 }
         ensures met { result ≡ meets (is_in self.now) start count }
-        ensures ascending { Ascend 0 self.now }
+        ensures ascending { RunsAscend 0 self.now }
         ensures ticks { steps.new ≡ steps.old + 1 }
     {
         steps.tick();
@@ -74,7 +75,7 @@ impl RunSet {
         requires end { start + count < 2 ^ 63 }
         requires apart { meets (is_in self.old) start count ≡ false }
         ensures placed { OnOk result (self.new ≡ placed (start, count) self.old) }
-        ensures blocks { OnOk result ((b : ℕ) → is_in self.new b ≡ (is_block start count b || is_in self.old b)) }
+        ensures blocks { OnOk result ((b : ℕ) → is_in self.new b ≡ (is_in_range start count b || is_in self.old b)) }
         ensures same { OnErr result (self.new ≡ self.old) }
         ensures ticks { steps.new ≡ steps.old + 1 }
     {

@@ -16,9 +16,9 @@ use Rattle.xfs_inode.specs.declared.files.FileRead.{FileRead}
 use Rattle.xfs_inode.specs.declared.files.FileRead.TheVariants as Reads
 use Rattle.xfs_volume.specs.declared.directories.DirRec.{DirRec}
 use Rattle.xfs_image.specs.Claims.{file_if}
-use Rattle.xfs_image.specs.Files.{files_at, with_file}
+use Rattle.xfs_image.specs.Files.{files_at, with_file_read}
 use Rattle.xfs_image.specs.Slots.{reads_as}
-use Rattle.xfs_scan.specs.Gathered.{Gathered, bare_if, feature_if, files_if, first_feature, gathered, joined, nothing, of_directory, of_file, of_found, of_read, of_slot}
+use Rattle.xfs_scan.specs.Gathered.{Gathered, bare_if, feature_if, files_if, first_feature, gathered, gathered_both, nothing_gathered, of_directory, of_file, of_found, of_read, of_slot}
 
 or_none : {A : Type 0} (a : Option A) → option_or a None ≡ a
 or_none None = refl
@@ -28,7 +28,7 @@ or_assoc : {A : Type 0} (a b c : Option A) → option_or (option_or a b) c ≡ o
 or_assoc None b c = refl
 or_assoc (Some x) b c = refl
 
-pub joined_nothing : (a : Gathered) → joined a nothing ≡ a
+pub joined_nothing : (a : Gathered) → gathered_both a nothing_gathered ≡ a
 joined_nothing a = λ i. record {
   files = append-nil a.files i;
   bare = append-nil a.bare i;
@@ -38,7 +38,7 @@ joined_nothing a = λ i. record {
   feature = or_none a.feature i;
 }
 
-pub joined_assoc : (a b c : Gathered) → joined (joined a b) c ≡ joined a (joined b c)
+pub joined_assoc : (a b c : Gathered) → gathered_both (gathered_both a b) c ≡ gathered_both a (gathered_both b c)
 joined_assoc a b c = λ i. record {
   files = append_assoc a.files b.files c.files i;
   bare = append_assoc a.bare b.bare c.bare i;
@@ -54,32 +54,32 @@ on_ok P Q (Ok value) step held = step held
 on_ok P Q (Err fault) step held = held
 
 module _ (v : Volume) (image : Image) where
-  pub gathered-append : (xs ys : List ℕ) → gathered v image (xs ++ ys) ≡ joined (gathered v image xs) (gathered v image ys)
+  pub gathered-append : (xs ys : List ℕ) → gathered v image (xs ++ ys) ≡ gathered_both (gathered v image xs) (gathered v image ys)
   unfolding gathered
   gathered-append [] ys = refl
   gathered-append (x ∷ xs) ys =
-      ap (joined (of_slot v image x)) (gathered-append xs ys) ∙ sym (joined_assoc (of_slot v image x) (gathered v image xs) (gathered v image ys))
+      ap (gathered_both (of_slot v image x)) (gathered-append xs ys) ∙ sym (joined_assoc (of_slot v image x) (gathered v image xs) (gathered v image ys))
 
   -- one slot more, some slots more, and none more
-  pub slot_more : (ino : ℕ) (inos rest : List ℕ) (old new all : Gathered) → inos ≡ ino ∷ rest → new ≡ joined old (of_slot v image ino)
-      → joined old (gathered v image inos) ≡ all → joined new (gathered v image rest) ≡ all
+  pub slot_more : (ino : ℕ) (inos rest : List ℕ) (old new all : Gathered) → inos ≡ ino ∷ rest → new ≡ gathered_both old (of_slot v image ino)
+      → gathered_both old (gathered v image inos) ≡ all → gathered_both new (gathered v image rest) ≡ all
   unfolding gathered
   slot_more ino inos rest old new all split more held =
-      ap (λ a. joined a (gathered v image rest)) more ∙ joined_assoc old (of_slot v image ino) (gathered v image rest)
-      ∙ ap (λ xs. joined old (gathered v image xs)) (sym split) ∙ held
+      ap (λ a. gathered_both a (gathered v image rest)) more ∙ joined_assoc old (of_slot v image ino) (gathered v image rest)
+      ∙ ap (λ xs. gathered_both old (gathered v image xs)) (sym split) ∙ held
 
-  pub slots_more : (part inos rest : List ℕ) (old new all : Gathered) → inos ≡ part ++ rest → new ≡ joined old (gathered v image part)
-      → joined old (gathered v image inos) ≡ all → joined new (gathered v image rest) ≡ all
+  pub slots_more : (part inos rest : List ℕ) (old new all : Gathered) → inos ≡ part ++ rest → new ≡ gathered_both old (gathered v image part)
+      → gathered_both old (gathered v image inos) ≡ all → gathered_both new (gathered v image rest) ≡ all
   slots_more part inos rest old new all split more held =
-      ap (λ a. joined a (gathered v image rest)) more ∙ joined_assoc old (gathered v image part) (gathered v image rest)
-      ∙ ap (joined old) (sym (gathered-append part rest)) ∙ ap (λ xs. joined old (gathered v image xs)) (sym split) ∙ held
+      ap (λ a. gathered_both a (gathered v image rest)) more ∙ joined_assoc old (gathered v image part) (gathered v image rest)
+      ∙ ap (gathered_both old) (sym (gathered-append part rest)) ∙ ap (λ xs. gathered_both old (gathered v image xs)) (sym split) ∙ held
 
-  pub slots_end : (rest : List ℕ) (new all : Gathered) → rest ≡ [] → joined new (gathered v image rest) ≡ all → new ≡ all
+  pub slots_end : (rest : List ℕ) (new all : Gathered) → rest ≡ [] → gathered_both new (gathered v image rest) ≡ all → new ≡ all
   unfolding gathered
-  slots_end rest new all none held = sym (joined_nothing new) ∙ ap (λ xs. joined new (gathered v image xs)) (sym none) ∙ held
+  slots_end rest new all none held = sym (joined_nothing new) ∙ ap (λ xs. gathered_both new (gathered v image xs)) (sym none) ∙ held
 
   -- a file that is no directory has no entries, and one that is has those that are found
-  no_directory : (f : FileRec) → is_directory f ≡ false → of_directory v image f ≡ nothing
+  no_directory : (f : FileRec) → is_directory f ≡ false → of_directory v image f ≡ nothing_gathered
   unfolding entries_read dirs_read directories
   no_directory f other = λ i. record {
     files = [];
@@ -90,16 +90,16 @@ module _ (v : Volume) (image : Image) where
     feature = None;
   }
 
-  pub other_file : (f : FileRec) (old : Gathered) → is_directory f ≡ false → old ≡ joined old (of_directory v image f)
-  other_file f old other = sym (ap (joined old) (no_directory f other) ∙ joined_nothing old)
+  pub other_file : (f : FileRec) (old : Gathered) → is_directory f ≡ false → old ≡ gathered_both old (of_directory v image f)
+  other_file f old other = sym (ap (gathered_both old) (no_directory f other) ∙ joined_nothing old)
 
   -- what is found of a file as a directory, and then the file itself, are what the file gives
-  pub file_taken : (f : FileRec) (old mid new : Gathered) → mid ≡ joined old (of_directory v image f)
-      → new ≡ joined mid (record { files = f ∷ []; bare = []; entries = []; dirs = []; unread = None; feature = None })
-      → new ≡ joined old (of_file v image f [] None)
+  pub file_taken : (f : FileRec) (old mid new : Gathered) → mid ≡ gathered_both old (of_directory v image f)
+      → new ≡ gathered_both mid (record { files = f ∷ []; bare = []; entries = []; dirs = []; unread = None; feature = None })
+      → new ≡ gathered_both old (of_file v image f [] None)
   file_taken f old mid new found pushed =
       let one : Gathered = record { files = f ∷ []; bare = []; entries = []; dirs = []; unread = None; feature = None } in
-      let both : joined (of_directory v image f) one ≡ of_file v image f [] None = λ i. record {
+      let both : gathered_both (of_directory v image f) one ≡ of_file v image f [] None = λ i. record {
         files = f ∷ [];
         bare = [];
         entries = append-nil (entries_read v image (f ∷ [])) i;
@@ -107,15 +107,15 @@ module _ (v : Volume) (image : Image) where
         unread = None;
         feature = None;
       } in
-      pushed ∙ (ap (λ (a : Gathered). joined a one) found ∙ (joined_assoc old (of_directory v image f) one ∙ ap (joined old) both))
+      pushed ∙ (ap (λ (a : Gathered). gathered_both a one) found ∙ (joined_assoc old (of_directory v image f) one ∙ ap (gathered_both old) both))
 
   -- a file that is noted as one without attributes, and then taken up
   pub bare_taken : (f : FileRec) (old mid new : Gathered)
-      → mid ≡ joined old (record { files = []; bare = f.ino ∷ []; entries = []; dirs = []; unread = Some f.ino; feature = None })
-      → new ≡ joined mid (of_file v image f [] None) → new ≡ joined old (of_file v image f (f.ino ∷ []) (Some f.ino))
+      → mid ≡ gathered_both old (record { files = []; bare = f.ino ∷ []; entries = []; dirs = []; unread = Some f.ino; feature = None })
+      → new ≡ gathered_both mid (of_file v image f [] None) → new ≡ gathered_both old (of_file v image f (f.ino ∷ []) (Some f.ino))
   bare_taken f old mid new noted taken =
       let note : Gathered = record { files = []; bare = f.ino ∷ []; entries = []; dirs = []; unread = Some f.ino; feature = None } in
-      taken ∙ (ap (λ (a : Gathered). joined a (of_file v image f [] None)) noted ∙ joined_assoc old note (of_file v image f [] None))
+      taken ∙ (ap (λ (a : Gathered). gathered_both a (of_file v image f [] None)) noted ∙ joined_assoc old note (of_file v image f [] None))
 
   pub found_directory : (f : FileRec) (found : DirFound) → is_directory f ≡ true
       → found.entries ≡ entries_of v image f → found.parent ≡ parent_of v image f → found.whole ≡ is_whole v image f
@@ -144,14 +144,14 @@ module _ (v : Volume) (image : Image) where
   pub files_read_so : (inos : List ℕ) → files_at v image inos ≡ files_if (gathered v image inos).unread (gathered v image inos).files
   unfolding gathered
   files_read_so [] = refl
-  files_read_so (ino ∷ inos) = ap (with_file ino (reads_as v image ino)) (files_read_so inos) ∙ by_read (reads_as v image ino) (gathered v image inos)
+  files_read_so (ino ∷ inos) = ap (with_file_read ino (reads_as v image ino)) (files_read_so inos) ∙ by_read (reads_as v image ino) (gathered v image inos)
     where
-      by_file : (file : FileRec) (unread : Option ℕ) (files : List FileRec) → with_file ino (Reads.File file) (files_if unread files) ≡ files_if unread (file ∷ files)
+      by_file : (file : FileRec) (unread : Option ℕ) (files : List FileRec) → with_file_read ino (Reads.File file) (files_if unread files) ≡ files_if unread (file ∷ files)
       by_file file None files = refl
       by_file file (Some other) files = refl
 
       by_read : (read : FileRead) (rest : Gathered)
-          → with_file ino read (files_if rest.unread rest.files) ≡ files_if (joined (of_read v image ino read) rest).unread (joined (of_read v image ino read) rest).files
+          → with_file_read ino read (files_if rest.unread rest.files) ≡ files_if (gathered_both (of_read v image ino read) rest).unread (gathered_both (of_read v image ino read) rest).files
       by_read Reads.Free rest = refl
       by_read (Reads.File file) rest = by_file file rest.unread rest.files
       by_read (Reads.FileWithoutAttrs file) rest = refl
@@ -171,7 +171,7 @@ module _ (v : Volume) (image : Image) where
     pub entries : g.entries ≡ entries_read v image g.files
     pub dirs : g.dirs ≡ dirs_read v image g.files
 
-  none_of_files : AreOfFiles nothing
+  none_of_files : AreOfFiles nothing_gathered
   unfolding entries_read dirs_read directories
   none_of_files = record { entries = refl; dirs = refl }
 

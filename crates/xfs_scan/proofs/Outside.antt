@@ -17,9 +17,9 @@ use Rattle.xfs_inode.specs.Named.{slot_reads, tree_under, named_top, named_attr,
 use Rattle.xfs_inode.specs.declared.files.FileRead.TheVariants as Reads
 use Rattle.xfs_inode.specs.declared.reading.SlotRead.TheVariants as Read
 use Rattle.std.specs.List.{range_with_len}
-use Rattle.xfs_tree.specs.Reading.{bytes_at}
-use Rattle.xfs_image.specs.Slots.{bytes_in, inodes_in, reads_as}
-use Rattle.xfs_scan.specs.Gathered.{gathered, joined, nothing, of_none, of_read}
+use Rattle.xfs_tree.specs.Reading.{bytes_of_block}
+use Rattle.xfs_image.specs.Slots.{bytes_in, inodes_of_block, reads_as}
+use Rattle.xfs_scan.specs.Gathered.{gathered, gathered_both, nothing_gathered, of_none, of_read}
 
 abbrev AllBelow : List ℕ → Type 0
 AllBelow [] = Unit {0}
@@ -82,19 +82,19 @@ no_file : (v : Volume) (image : Image) (ino : ℕ) → slot_at v ino ≡ None �
 unfolding reads_as file_read
 no_file v image ino missing =
     ap (λ place. slot_reads v image ino (bytes_in image place)) missing
-    ∙ ap (λ read. by_slot v ino read [] (tree_under v image ino (named_top v ino [])) (option_map (bytes_at image) (named_attr v ino [])) (option_map (bytes_at image) (named_link v ino []))) (unread v ino)
+    ∙ ap (λ read. by_slot v ino read [] (tree_under v image ino (named_top v ino [])) (option_map (bytes_of_block image) (named_attr v ino [])) (option_map (bytes_of_block image) (named_link v ino []))) (unread v ino)
 
 module _ (v : Volume) (image : Image) (block : ℕ) (missing : (slot : ℕ) → slot < 8 → reads_as v image (inode_of v block slot) ≡ Reads.Unsound) where
   -- of slots that do not read the first counts
   none_of : (slot : ℕ) (slots : List ℕ) → AllBelow (slot ∷ slots) → gathered v image (map (inode_of v block) (slot ∷ slots)) ≡ of_none (inode_of v block slot) None
   unfolding gathered
-  none_of slot [] below = ap (λ read. joined (of_read v image (inode_of v block slot) read) nothing) (missing slot below.0)
+  none_of slot [] below = ap (λ read. gathered_both (of_read v image (inode_of v block slot) read) nothing_gathered) (missing slot below.0)
   none_of slot (next ∷ slots) below =
-      ap (λ read. joined (of_read v image (inode_of v block slot) read) (gathered v image (map (inode_of v block) (next ∷ slots)))) (missing slot below.0)
-      ∙ ap (joined (of_none (inode_of v block slot) None)) (none_of next slots below.1)
+      ap (λ read. gathered_both (of_read v image (inode_of v block slot) read) (gathered v image (map (inode_of v block) (next ∷ slots)))) (missing slot below.0)
+      ∙ ap (gathered_both (of_none (inode_of v block slot) None)) (none_of next slots below.1)
 
 pub none_read : (v : Volume) (image : Image) (block : ℕ) → HasGroups v.dblocks v.agblocks v.agcount → HasAddresses v.agblocks v.agblklog → v.dblocks ≤ block
-    → gathered v image (inodes_in v block) ≡ of_none (inode_of v block 0) None
+    → gathered v image (inodes_of_block v block) ≡ of_none (inode_of v block 0) None
 none_read v image block shape addresses outside =
     none_of v image block (λ slot few. no_file v image (inode_of v block slot) (no_slot v block slot shape addresses outside few)) 0 (range_with_len 1 7)
     (omega arith, (omega arith, (omega arith, (omega arith, (omega arith, (omega arith, (omega arith, (omega arith, tt))))))))

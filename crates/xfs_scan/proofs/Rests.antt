@@ -5,9 +5,9 @@ use Rattle.std.proofs.lemmas.Grind.{flat_map-append}
 use Rattle.std.proofs.lemmas.Option.{get_or_from_slice_get}
 use Rattle.xfs_disk.specs.Blocks.{Image}
 use Rattle.xfs_geom.specs.Volumes.{Volume}
-use Rattle.xfs_tree.specs.Reading.{bytes_at}
+use Rattle.xfs_tree.specs.Reading.{bytes_of_block}
 use Rattle.xfs_volume.specs.declared.clusters.ClusterRec.{ClusterRec}
-use Rattle.xfs_image.specs.Slots.{cluster_blocks, cluster_inodes, inodes_in}
+use Rattle.xfs_image.specs.Slots.{cluster_blocks, cluster_inodes, inodes_of_block}
 use Rattle.xfs_image.specs.Candidates.{candidates}
 use Rattle.xfs_image.specs.Claims.{candidate_inodes}
 use Rattle.xfs_scan.specs.Gathered.{Gathered, gathered, inodes_of_blocks}
@@ -28,10 +28,10 @@ rest_none i n item end =
     ap (λ k. map item (range_with_len i k)) none
 
 -- block i of a bank of the blocks at these places
-pub bank_at : (image : Image) (blocks : List ℕ) (bank : List (List ℕ)) (i : ℕ) (bytes : List ℕ) → bank ≡ map (bytes_at image) blocks → i < length blocks
-    → slice_get bank i ≡ Some bytes → bytes_at image (get_or blocks i 0) ≡ bytes
+pub bank_at : (image : Image) (blocks : List ℕ) (bank : List (List ℕ)) (i : ℕ) (bytes : List ℕ) → bank ≡ map (bytes_of_block image) blocks → i < length blocks
+    → slice_get bank i ≡ Some bytes → bytes_of_block image (get_or blocks i 0) ≡ bytes
 bank_at image blocks bank i bytes whole inside is =
-    sym (get_or-map (bytes_at image) blocks i 0 [] inside) ∙ ap (λ (b : List (List ℕ)). get_or b i []) (sym whole) ∙ get_or_from_slice_get bank i bytes [] is
+    sym (get_or-map (bytes_of_block image) blocks i 0 [] inside) ∙ ap (λ (b : List (List ℕ)). get_or b i []) (sym whole) ∙ get_or_from_slice_get bank i bytes [] is
 
 pub none_left : {A : Type 0} (xs : List A) (i : ℕ) → length xs ≤ i → drop i xs ≡ []
 none_left xs i past = drop_all i xs past
@@ -48,7 +48,7 @@ number_more first i n old new all inside more held =
     ∙ append_assoc old ((first + i) ∷ []) (range_with_len (first + (i + 1)) (n - (i + 1))) ∙ ap (λ xs. old ++ xs) (sym split) ∙ held
 
 -- a block that was read
-pub read_bytes : (image : Image) (at : ℕ) (block : List ℕ) → slice_get image at ≡ Some block → bytes_at image at ≡ block
+pub read_bytes : (image : Image) (at : ℕ) (block : List ℕ) → slice_get image at ≡ Some block → bytes_of_block image at ≡ block
 read_bytes image at block is = get_or_from_slice_get image at block [] is
 
 -- the inodes of the blocks of clusters
@@ -56,16 +56,16 @@ pub inodes_of_firsts : (v : Volume) (clusters : List ℕ) → inodes_of_blocks v
 unfolding cluster_inodes
 inodes_of_firsts v [] = refl
 inodes_of_firsts v (c ∷ cs) =
-    flat_map-append (inodes_in v) (cluster_blocks c) (flat_map cluster_blocks cs)
-    ∙ ap (λ xs. flat_map (inodes_in v) (cluster_blocks c) ++ xs) (inodes_of_firsts v cs)
+    flat_map-append (inodes_of_block v) (cluster_blocks c) (flat_map cluster_blocks cs)
+    ∙ ap (λ xs. flat_map (inodes_of_block v) (cluster_blocks c) ++ xs) (inodes_of_firsts v cs)
 
 pub inodes_of_candidates : (v : Volume) (clusters : List ClusterRec)
     → inodes_of_blocks v (flat_map (λ (c : ClusterRec). cluster_blocks c.block) clusters) ≡ flat_map (λ (c : ClusterRec). cluster_inodes v c.block) clusters
 unfolding cluster_inodes
 inodes_of_candidates v [] = refl
 inodes_of_candidates v (c ∷ cs) =
-    flat_map-append (inodes_in v) (cluster_blocks c.block) (flat_map (λ (c : ClusterRec). cluster_blocks c.block) cs)
-    ∙ ap (λ xs. flat_map (inodes_in v) (cluster_blocks c.block) ++ xs) (inodes_of_candidates v cs)
+    flat_map-append (inodes_of_block v) (cluster_blocks c.block) (flat_map (λ (c : ClusterRec). cluster_blocks c.block) cs)
+    ∙ ap (λ xs. flat_map (inodes_of_block v) (cluster_blocks c.block) ++ xs) (inodes_of_candidates v cs)
 
 -- two lists of clusters that agree from a place on agree from the one before on, where they agree there
 pub agree_before : (xs : List ℕ) (cs : List ClusterRec) (i : ℕ) (c : ClusterRec) → i < length xs → i < length cs → get_or xs i 0 ≡ (get_or cs i c).block

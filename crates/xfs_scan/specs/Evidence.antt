@@ -17,7 +17,7 @@ use Rattle.xfs_image.specs.Directories.{dirs_read, entries_read}
 use Rattle.xfs_image.specs.View.{log_of, view}
 use Rattle.xfs_scan.specs.Gathered.{bare_inodes, candidate_slots}
 use Rattle.xfs_scan.specs.declared.evidence.Evidence.{Evidence}
-use Rattle.xfs_scan.specs.declared.scan.Scanned.{Scanned}
+use Rattle.xfs_scan.specs.declared.scan.ScannedSlots.{ScannedSlots}
 
 -- the candidate clusters with the blocks of their slots; the candidate files, those without attributes, their directories with
 -- the entries of these; the reserved blocks of each group; what the whole image says; whether its log is clean
@@ -39,7 +39,7 @@ pub record AreSeen (g : Geometry) (image : Image) (seen : Groups) : Type 0 where
   pub trees : lists_of seen.trees ≡ reserved_lists (volume_of g) image
 
 -- the evidence from its parts
-abbrev pub joined_parts : List ClusterRec → List GroupTrees → Scanned → Result Catalog Finding → LogState → Evidence
+abbrev pub joined_parts : List ClusterRec → List GroupTrees → ScannedSlots → Result Catalog Finding → LogState → Evidence
 joined_parts clusters trees scanned catalog log = record {
   clusters = clusters;
   slots = scanned.slots;

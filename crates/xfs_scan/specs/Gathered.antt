@@ -6,7 +6,7 @@ use Rattle.xfs_dirdata.specs.declared.records.EntryRec.{EntryRec}
 use Rattle.xfs_dirs.specs.declared.found.DirFound.{DirFound}
 use Rattle.xfs_disk.specs.Blocks.{Image}
 use Rattle.xfs_geom.specs.Volumes.{Volume}
-use Rattle.xfs_tree.specs.Reading.{bytes_at}
+use Rattle.xfs_tree.specs.Reading.{bytes_of_block}
 use Rattle.xfs_inode.specs.declared.files.FileRead.{FileRead}
 use Rattle.xfs_inode.specs.declared.files.FileRead.TheVariants as Reads
 use Rattle.xfs_volume.specs.declared.clusters.ClusterRec.{ClusterRec}
@@ -17,8 +17,8 @@ use Rattle.xfs_image.specs.declared.findings.Finding.TheVariants as Found
 use Rattle.xfs_image.specs.Candidates.{candidates}
 use Rattle.xfs_image.specs.Claims.{candidate_inodes}
 use Rattle.xfs_image.specs.Directories.{dirs_read, entries_read}
-use Rattle.xfs_image.specs.Slots.{cluster_blocks, inodes_in, reads_as}
-use Rattle.xfs_scan.specs.declared.inodes.Feature.{Feature}
+use Rattle.xfs_image.specs.Slots.{cluster_blocks, inodes_of_block, reads_as}
+use Rattle.xfs_scan.specs.declared.inodes.InodeFeature.{InodeFeature}
 use Rattle.xfs_scan.specs.declared.inodes.Inodes.{Inodes}
 
 -- what slots give: the files, with their attributes or without; the inodes of those without; the entries and the directories
@@ -30,14 +30,14 @@ pub record Gathered : Type 0 where
   pub entries : List EntryRec
   pub dirs : List DirRec
   pub unread : Option ℕ
-  pub feature : Option Feature
+  pub feature : Option InodeFeature
 
-abbrev pub nothing : Gathered
-nothing = record { files = []; bare = []; entries = []; dirs = []; unread = None; feature = None }
+abbrev pub nothing_gathered : Gathered
+nothing_gathered = record { files = []; bare = []; entries = []; dirs = []; unread = None; feature = None }
 
 -- what some slots give, and what those behind them give
-abbrev pub joined : Gathered → Gathered → Gathered
-joined a b = record {
+abbrev pub gathered_both : Gathered → Gathered → Gathered
+gathered_both a b = record {
   files = a.files ++ b.files;
   bare = a.bare ++ b.bare;
   entries = a.entries ++ b.entries;
@@ -57,11 +57,11 @@ of_file v image file bare unread = record {
   feature = None;
 }
 
-abbrev pub of_none : ℕ → Option Feature → Gathered
+abbrev pub of_none : ℕ → Option InodeFeature → Gathered
 of_none ino feature = record { files = []; bare = []; entries = []; dirs = []; unread = Some ino; feature = feature }
 
 abbrev pub of_read : Volume → Image → ℕ → FileRead → Gathered
-of_read v image ino Reads.Free = nothing
+of_read v image ino Reads.Free = nothing_gathered
 of_read v image ino (Reads.File file) = of_file v image file [] None
 of_read v image ino (Reads.FileWithoutAttrs file) = of_file v image file (ino ∷ []) (Some ino)
 of_read v image ino (Reads.Unsupported what) = of_none ino (Some (record { ino = ino; what = what }))
@@ -72,8 +72,8 @@ abbrev pub of_slot : Volume → Image → ℕ → Gathered
 of_slot v image ino = of_read v image ino (reads_as v image ino)
 
 unfoldable pub gathered : Volume → Image → List ℕ → Gathered
-gathered v image [] = nothing
-gathered v image (ino ∷ inos) = joined (of_slot v image ino) (gathered v image inos)
+gathered v image [] = nothing_gathered
+gathered v image (ino ∷ inos) = gathered_both (of_slot v image ino) (gathered v image inos)
 
 -- what is held of them
 abbrev pub held_in : Inodes → Gathered
@@ -93,14 +93,14 @@ files_if (Some ino) files = Err (Found.Part 9 ino)
 
 -- the inodes of some blocks
 abbrev pub inodes_of_blocks : Volume → List ℕ → List ℕ
-inodes_of_blocks v blocks = flat_map (inodes_in v) blocks
+inodes_of_blocks v blocks = flat_map (inodes_of_block v) blocks
 
 -- the blocks of all candidate clusters, in order, and their bytes
 abbrev pub candidate_blocks : Volume → Image → List ℕ
 candidate_blocks v image = flat_map (λ (c : ClusterRec). cluster_blocks c.block) (candidates v image)
 
 abbrev pub candidate_slots : Volume → Image → List (List ℕ)
-candidate_slots v image = map (bytes_at image) (candidate_blocks v image)
+candidate_slots v image = map (bytes_of_block image) (candidate_blocks v image)
 
 -- the candidate files that read without their attributes, by number
 abbrev pub bare_if : ℕ → FileRead → List ℕ
@@ -114,14 +114,14 @@ unfoldable pub bare_inodes : Volume → Image → List ℕ
 bare_inodes v image = flat_map (λ ino. bare_if ino (reads_as v image ino)) (candidate_inodes v image)
 
 -- the first of some inodes with a feature that is not supported
-abbrev pub feature_if : ℕ → FileRead → Option Feature
+abbrev pub feature_if : ℕ → FileRead → Option InodeFeature
 feature_if ino Reads.Free = None
 feature_if ino (Reads.File file) = None
 feature_if ino (Reads.FileWithoutAttrs file) = None
 feature_if ino (Reads.Unsupported what) = Some (record { ino = ino; what = what })
 feature_if ino Reads.Unsound = None
 
-abbrev pub first_feature : Volume → Image → List ℕ → Option Feature
+abbrev pub first_feature : Volume → Image → List ℕ → Option InodeFeature
 first_feature v image [] = None
 first_feature v image (ino ∷ inos) = option_or (feature_if ino (reads_as v image ino)) (first_feature v image inos)
 

@@ -3,17 +3,17 @@
 use Rattle.std.specs.Prelude.{ℕ, ◌^◌, nat_lt, if◌then◌else◌, Option, Some, None}
 use Rattle.xfs_disk.specs.Blocks.{Image}
 use Rattle.xfs_geom.specs.Volumes.{Volume}
-use Rattle.xfs_image.specs.Claims.{candidate_inodes, entry_count, extent_count, inode_count}
+use Rattle.xfs_image.specs.Claims.{candidate_inodes, entry_count, total_extents, inode_count}
 use Rattle.xfs_scan.specs.Gathered.{first_feature}
 use Rattle.xfs_scan.specs.declared.faults.ScanFault.{ScanFault}
 use Rattle.xfs_scan.specs.declared.faults.ScanFault.TheVariants as faults
-use Rattle.xfs_scan.specs.declared.inodes.Feature.{Feature}
+use Rattle.xfs_scan.specs.declared.inodes.InodeFeature.{InodeFeature}
 
 -- a count above its limit is refused, else what comes later
 abbrev pub unless_more : ℕ → ℕ → ℕ → Option ScanFault → Option ScanFault
 unless_more limit what count later = if nat_lt limit count then Some (faults.TooLarge what count) else later
 
-abbrev pub feature_refused : Option Feature → Option ScanFault
+abbrev pub feature_refused : Option InodeFeature → Option ScanFault
 feature_refused None = None
 feature_refused (Some f) = Some (faults.UnsupportedFile f.ino f.what)
 
@@ -21,7 +21,7 @@ feature_refused (Some f) = Some (faults.UnsupportedFile f.ino f.what)
 -- feature that is not supported
 unfoldable pub refused_late : Volume → Image → Option ScanFault
 refused_late v image =
-    unless_more (2 ^ 23) 2 (extent_count v image) (
+    unless_more (2 ^ 23) 2 (total_extents v image) (
     unless_more (2 ^ 23) 3 (entry_count v image) (
     feature_refused (first_feature v image (candidate_inodes v image))))
 

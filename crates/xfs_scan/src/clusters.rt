@@ -6,12 +6,12 @@ ghost use Rattle.std.specs.Option.{ForSome};
 ghost use Rattle.xfs_geom.specs.Conversions.{inode_of};
 ghost use Rattle.xfs_geom.specs.Volumes.{volume_of};
 ghost use Rattle.xfs_disk.specs.Reads.{OnlyReads};
-ghost use Rattle.xfs_tree.specs.Reading.{bytes_at};
-ghost use Rattle.xfs_image.specs.Slots.{inodes_in};
+ghost use Rattle.xfs_tree.specs.Reading.{bytes_of_block};
+ghost use Rattle.xfs_image.specs.Slots.{inodes_of_block};
 ghost use Rattle.xfs_scan.specs.Answers.{HasReadCause};
-ghost use Rattle.xfs_scan.specs.Gathered.{gathered, held_in, inodes_of_blocks, joined, of_slot};
+ghost use Rattle.xfs_scan.specs.Gathered.{gathered, held_in, inodes_of_blocks, gathered_both, of_slot};
 
-use crate::faults::ReadError;
+use crate::faults::PartFault;
 use crate::inodes::Inodes;
 use crate::slots::see_slot;
 use std::alloc::Global;
@@ -36,12 +36,12 @@ pub fn see_blocks<D: Disk, L: Ledger>(
     bank: &BlockBank,
     inodes: &mut Inodes,
     steps: &mut Steps<L>,
-) -> Result<(), ReadError>
+) -> Result<(), PartFault>
     requires inside { g.now.dblocks ≤ D.size disk.old }
     requires volume { All (λ block. block < g.now.dblocks) blocks.now }
     requires many { length bank.now ≡ length blocks.now }
-    requires held { ForSome (D.holds disk.old) (λ image. bank.now ≡ map (bytes_at image) blocks.now) }
-    ensures held { OnOk result (ForSome (D.holds disk.old) (λ image. held_in inodes.new ≡ joined (held_in inodes.old) (gathered (volume_of g.now) image (inodes_of_blocks (volume_of g.now) blocks.now)))) }
+    requires held { ForSome (D.holds disk.old) (λ image. bank.now ≡ map (bytes_of_block image) blocks.now) }
+    ensures held { OnOk result (ForSome (D.holds disk.old) (λ image. held_in inodes.new ≡ gathered_both (held_in inodes.old) (gathered (volume_of g.now) image (inodes_of_blocks (volume_of g.now) blocks.now)))) }
     ensures cause { HasReadCause (D.faults disk.old) (D.faults disk.new) result }
     ensures disk { OnlyReads D.size D.holds D.write_faults D.writes D.tells_stops D.moment D.may_leave D.left_since disk.old disk.new }
 {
@@ -63,12 +63,12 @@ pub fn see_block<D: Disk, L: Ledger>(
     bytes: &[u8],
     inodes: &mut Inodes,
     steps: &mut Steps<L>,
-) -> Result<(), ReadError>
+) -> Result<(), PartFault>
     requires inside { g.now.dblocks ≤ D.size disk.old }
     requires volume { block < g.now.dblocks }
     requires whole { length bytes.now ≡ 4096 }
-    requires held { ForSome (D.holds disk.old) (λ image. bytes_at image block ≡ bytes.now) }
-    ensures held { OnOk result (ForSome (D.holds disk.old) (λ image. held_in inodes.new ≡ joined (held_in inodes.old) (gathered (volume_of g.now) image (inodes_in (volume_of g.now) block)))) }
+    requires held { ForSome (D.holds disk.old) (λ image. bytes_of_block image block ≡ bytes.now) }
+    ensures held { OnOk result (ForSome (D.holds disk.old) (λ image. held_in inodes.new ≡ gathered_both (held_in inodes.old) (gathered (volume_of g.now) image (inodes_of_block (volume_of g.now) block)))) }
     ensures cause { HasReadCause (D.faults disk.old) (D.faults disk.new) result }
     ensures disk { OnlyReads D.size D.holds D.write_faults D.writes D.tells_stops D.moment D.may_leave D.left_since disk.old disk.new }
 {
@@ -91,13 +91,13 @@ fn see_part<D: Disk, L: Ledger>(
     bytes: &[u8],
     inodes: &mut Inodes,
     steps: &mut Steps<L>,
-) -> Result<(), ReadError>
+) -> Result<(), PartFault>
     requires inside { g.now.dblocks ≤ D.size disk.old }
     requires volume { block < g.now.dblocks }
     requires slot { slot < 8 }
     requires whole { length bytes.now ≡ 4096 }
-    requires held { ForSome (D.holds disk.old) (λ image. bytes_at image block ≡ bytes.now) }
-    ensures held { OnOk result (ForSome (D.holds disk.old) (λ image. held_in inodes.new ≡ joined (held_in inodes.old) (of_slot (volume_of g.now) image (inode_of (volume_of g.now) block slot)))) }
+    requires held { ForSome (D.holds disk.old) (λ image. bytes_of_block image block ≡ bytes.now) }
+    ensures held { OnOk result (ForSome (D.holds disk.old) (λ image. held_in inodes.new ≡ gathered_both (held_in inodes.old) (of_slot (volume_of g.now) image (inode_of (volume_of g.now) block slot)))) }
     ensures cause { HasReadCause (D.faults disk.old) (D.faults disk.new) result }
     ensures disk { OnlyReads D.size D.holds D.write_faults D.writes D.tells_stops D.moment D.may_leave D.left_since disk.old disk.new }
 {

@@ -41,7 +41,7 @@ fn copy_file(alloc: Global, file: &FileRec) -> Result<FileRec, NoMemory>
         ino: file.ino,
         core: file.core,
         extents: Extents::from_vec(Vec::from_slice(alloc, file.extents.as_slice())?),
-        attr: Extents::from_vec(Vec::from_slice(alloc, file.attr.as_slice())?),
+        attr_extents: Extents::from_vec(Vec::from_slice(alloc, file.attr_extents.as_slice())?),
         tree: Blocks::from_vec(Vec::from_slice(alloc, file.tree.as_slice())?),
         attrs: copy_attrs(alloc, file.attrs.as_slice())?,
         target: copy_word(alloc, &file.target)?,

@@ -1,7 +1,7 @@
 //! Why no evidence is gathered.
 
 ghost use Rattle.std.specs.Prelude.{◌≡◌};
-ghost use Rattle.xfs_scan.specs.Answers.{answer_of};
+ghost use Rattle.xfs_scan.specs.Answers.{scan_fault_of};
 
 /// Why no evidence is gathered.
 #[derive(Clone, Copy, Debug, PartialEq, Eq)]
@@ -20,21 +20,21 @@ pub enum ScanFault {
 
 /// Why something is not read.
 #[derive(Clone, Copy, Debug, PartialEq, Eq)]
-pub(crate) enum ReadError {
+pub(crate) enum PartFault {
     /// A read failed.
     ReadFault,
     /// There is not enough memory.
     NoMemory,
 }
 
-impl ReadError {
+impl PartFault {
     /// The same, as the answer of the whole.
     pub(crate) fn answer(self) -> ScanFault
-        ensures { result ≡ answer_of self }
+        ensures { result ≡ scan_fault_of self }
     {
         match self {
-            ReadError::ReadFault => ScanFault::ReadFault,
-            ReadError::NoMemory => ScanFault::NoMemory,
+            PartFault::ReadFault => ScanFault::ReadFault,
+            PartFault::NoMemory => ScanFault::NoMemory,
         }
     }
 }

@@ -1,7 +1,7 @@
 //! What the slots of inodes give.
 
 ghost use Rattle.std.specs.Prelude.{◌≡◌};
-ghost use Rattle.xfs_scan.specs.Gathered.{held_in, joined, nothing, of_none};
+ghost use Rattle.xfs_scan.specs.Gathered.{held_in, gathered_both, nothing_gathered, of_none};
 
 use std::alloc::Global;
 use xfs_dirdata::EntryRec;
@@ -9,7 +9,7 @@ use xfs_volume::{DirRec, FileRec};
 
 /// An inode with a feature that is not supported.
 #[derive(Clone, Copy, Debug, PartialEq, Eq)]
-pub struct Feature {
+pub struct InodeFeature {
     /// The number of the inode.
     pub ino: u64,
     /// The number of the feature.
@@ -30,13 +30,13 @@ pub struct Inodes {
     /// The first inode that is neither free nor a file with its attributes.
     pub unread: Option<u64>,
     /// The first inode with a feature that is not supported.
-    pub feature: Option<Feature>,
+    pub feature: Option<InodeFeature>,
 }
 
 impl Inodes {
     /// What no slot gives.
     pub fn new(alloc: Global) -> Inodes
-        ensures { held_in result ≡ nothing }
+        ensures { held_in result ≡ nothing_gathered }
     {
         Inodes {
             files: Vec::new(alloc),
@@ -49,8 +49,8 @@ impl Inodes {
     }
 
     /// Passes over an inode that has no file to be read.
-    pub fn pass(&mut self, ino: u64, feature: Option<Feature>)
-        ensures { held_in self.new ≡ joined (held_in self.old) (of_none ino feature) }
+    pub fn pass(&mut self, ino: u64, feature: Option<InodeFeature>)
+        ensures { held_in self.new ≡ gathered_both (held_in self.old) (of_none ino feature) }
     {
         if self.unread.is_none() {
             self.unread = Some(ino);

@@ -28,8 +28,8 @@ mod recorded;
 mod scan;
 mod slots;
 mod view;
-mod whole;
+mod gather_evidence;
 
 pub use evidence::Evidence;
 pub use faults::ScanFault;
-pub use whole::gather;
+pub use gather_evidence::gather;

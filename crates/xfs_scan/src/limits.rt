@@ -6,7 +6,7 @@ ghost use Rattle.xfs_volume.specs.declared.files.FileRec.{FileRec};
 ghost use Rattle.xfs_scan.specs.Refused.{feature_refused, unless_more};
 
 use crate::faults::ScanFault;
-use crate::inodes::Feature;
+use crate::inodes::InodeFeature;
 use xfs_volume::{ClusterRec, FileRec};
 
 /// The most inodes of clusters, extents of files and entries of directories.
@@ -35,18 +35,18 @@ pub fn count_inodes(clusters: &[ClusterRec]) -> Option<u64>
 
 /// The extents of both forks of files, where eight bytes hold their number.
 pub fn count_extents(files: &[FileRec]) -> Option<u64>
-    ensures { IfSome result (λ count. count ≡ sum_by (λ (f : FileRec). length f.extents + length f.attr) files.now) }
+    ensures { IfSome result (λ count. count ≡ sum_by (λ (f : FileRec). length f.extents + length f.attr_extents) files.now) }
 {
     let mut count = 0u64;
     for file in files {
-        let extents = file.extents.as_slice().len() as u64 + file.attr.as_slice().len() as u64;
+        let extents = file.extents.as_slice().len() as u64 + file.attr_extents.as_slice().len() as u64;
         count = count.checked_add(extents)?;
     }
     Some(count)
 }
 
 /// Why a volume is refused whose clusters are not too many.
-pub fn refusal(extents: u64, entries: u64, feature: Option<Feature>) -> Option<ScanFault>
+pub fn refusal(extents: u64, entries: u64, feature: Option<InodeFeature>) -> Option<ScanFault>
     ensures { result ≡ unless_more (2 ^ 23) 2 extents (unless_more (2 ^ 23) 3 entries (feature_refused feature)) }
 {
     if extents > MOST_EXTENTS {
@@ -63,6 +63,6 @@ pub fn refusal(extents: u64, entries: u64, feature: Option<Feature>) -> Option<S
     }
     match feature {
         None => None,
-        Some(Feature { ino, what }) => Some(ScanFault::UnsupportedFile { ino, what }),
+        Some(InodeFeature { ino, what }) => Some(ScanFault::UnsupportedFile { ino, what }),
     }
 }

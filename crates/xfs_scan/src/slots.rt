@@ -9,16 +9,16 @@ ghost use Rattle.xfs_inode.specs.Sound.{IsSound};
 ghost use Rattle.xfs_volume.specs.Names.{is_directory};
 ghost use Rattle.xfs_image.specs.Slots.{slot_bytes};
 ghost use Rattle.xfs_scan.specs.Answers.{HasReadCause};
-ghost use Rattle.xfs_scan.specs.Gathered.{held_in, joined, of_directory, of_file, of_found, of_read, of_slot};
+ghost use Rattle.xfs_scan.specs.Gathered.{held_in, gathered_both, of_directory, of_file, of_found, of_read, of_slot};
 
-use crate::faults::ReadError;
-use crate::inodes::{Feature, Inodes};
+use crate::faults::PartFault;
+use crate::inodes::{InodeFeature, Inodes};
 use std::alloc::Global;
 use std::sync::ledger::Ledger;
-use xfs_dirs::{DirError, DirFound, read_directory};
+use xfs_dirs::{DirectoryFault, DirFound, read_directory};
 use xfs_disk::{Disk, NoMemory};
 use xfs_geom::Geometry;
-use xfs_inode::{FileRead, InodeError, read_file};
+use xfs_inode::{FileRead, InodeFault, read_file};
 use xfs_runs::Steps;
 use xfs_volume::{DirRec, FileRec};
 
@@ -35,18 +35,18 @@ pub fn see_slot<D: Disk, L: Ledger>(
     slot: &[u8],
     inodes: &mut Inodes,
     steps: &mut Steps<L>,
-) -> Result<(), ReadError>
+) -> Result<(), PartFault>
     requires slot { length slot.now ≡ 512 }
     requires inside { g.now.dblocks ≤ D.size disk.old }
     requires held { ForSome (D.holds disk.old) (λ image. slot_bytes (volume_of g.now) image ino ≡ slot.now) }
-    ensures held { OnOk result (ForSome (D.holds disk.old) (λ image. held_in inodes.new ≡ joined (held_in inodes.old) (of_slot (volume_of g.now) image ino))) }
+    ensures held { OnOk result (ForSome (D.holds disk.old) (λ image. held_in inodes.new ≡ gathered_both (held_in inodes.old) (of_slot (volume_of g.now) image ino))) }
     ensures cause { HasReadCause (D.faults disk.old) (D.faults disk.new) result }
     ensures disk { OnlyReads D.size D.holds D.write_faults D.writes D.tells_stops D.moment D.may_leave D.left_since disk.old disk.new }
 {
     match read_file(alloc, g, disk, ino, slot, steps) {
         Ok(read) => take_read(alloc, g, disk, ino, slot, read, inodes, steps),
-        Err(InodeError::ReadFault) => Err(ReadError::ReadFault),
-        Err(InodeError::NoMemory) => Err(ReadError::NoMemory),
+        Err(InodeFault::ReadFault) => Err(PartFault::ReadFault),
+        Err(InodeFault::NoMemory) => Err(PartFault::NoMemory),
     }
 }
 
@@ -60,12 +60,12 @@ fn take_read<D: Disk, L: Ledger>(
     read: FileRead,
     inodes: &mut Inodes,
     steps: &mut Steps<L>,
-) -> Result<(), ReadError>
+) -> Result<(), PartFault>
     requires slot { length slot.now ≡ 512 }
     requires inside { g.now.dblocks ≤ D.size disk.old }
     requires held { ForSome (D.holds disk.old) (λ image. slot_bytes (volume_of g.now) image ino ≡ slot.now) }
     requires sound { IsSound (volume_of g.now) ino read }
-    ensures held { OnOk result (ForSome (D.holds disk.old) (λ image. held_in inodes.new ≡ joined (held_in inodes.old) (of_read (volume_of g.now) image ino read))) }
+    ensures held { OnOk result (ForSome (D.holds disk.old) (λ image. held_in inodes.new ≡ gathered_both (held_in inodes.old) (of_read (volume_of g.now) image ino read))) }
     ensures cause { HasReadCause (D.faults disk.old) (D.faults disk.new) result }
     ensures disk { OnlyReads D.size D.holds D.write_faults D.writes D.tells_stops D.moment D.may_leave D.left_since disk.old disk.new }
 {
@@ -74,7 +74,7 @@ fn take_read<D: Disk, L: Ledger>(
         FileRead::File(file) => take_file(alloc, g, disk, slot, file, inodes, steps),
         FileRead::FileWithoutAttrs(file) => take_bare(alloc, g, disk, slot, file, inodes, steps),
         FileRead::Unsupported { what } => {
-            inodes.pass(ino, Some(Feature { ino, what }));
+            inodes.pass(ino, Some(InodeFeature { ino, what }));
             Ok(())
         }
         FileRead::Unsound => {
@@ -93,24 +93,24 @@ fn take_bare<D: Disk, L: Ledger>(
     file: FileRec,
     inodes: &mut Inodes,
     steps: &mut Steps<L>,
-) -> Result<(), ReadError>
+) -> Result<(), PartFault>
     requires slot { length slot.now ≡ 512 }
     requires inside { g.now.dblocks ≤ D.size disk.old }
     requires held { ForSome (D.holds disk.old) (λ image. slot_bytes (volume_of g.now) image file.ino ≡ slot.now) }
     requires extents { are_extents (volume_of g.now) None file.extents ≡ true }
-    ensures held { OnOk result (ForSome (D.holds disk.old) (λ image. held_in inodes.new ≡ joined (held_in inodes.old) (of_file (volume_of g.now) image file (file.ino ∷ []) (Some file.ino)))) }
+    ensures held { OnOk result (ForSome (D.holds disk.old) (λ image. held_in inodes.new ≡ gathered_both (held_in inodes.old) (of_file (volume_of g.now) image file (file.ino ∷ []) (Some file.ino)))) }
     ensures cause { HasReadCause (D.faults disk.old) (D.faults disk.new) result }
     ensures disk { OnlyReads D.size D.holds D.write_faults D.writes D.tells_stops D.moment D.may_leave D.left_since disk.old disk.new }
 {
     match note_bare(file.ino, inodes) {
         Ok(()) => take_file(alloc, g, disk, slot, file, inodes, steps),
-        Err(NoMemory) => Err(ReadError::NoMemory),
+        Err(NoMemory) => Err(PartFault::NoMemory),
     }
 }
 
 /// Notes that an inode's file has lost its attributes.
 fn note_bare(ino: u64, inodes: &mut Inodes) -> Result<(), NoMemory>
-    ensures { OnOk result (held_in inodes.new ≡ joined (held_in inodes.old) (record { files = []; bare = ino ∷ []; entries = []; dirs = []; unread = Some ino; feature = None })) }
+    ensures { OnOk result (held_in inodes.new ≡ gathered_both (held_in inodes.old) (record { files = []; bare = ino ∷ []; entries = []; dirs = []; unread = Some ino; feature = None })) }
 {
     inodes.bare.push(ino)?;
     inodes.pass(ino, None);
@@ -126,12 +126,12 @@ fn take_file<D: Disk, L: Ledger>(
     file: FileRec,
     inodes: &mut Inodes,
     steps: &mut Steps<L>,
-) -> Result<(), ReadError>
+) -> Result<(), PartFault>
     requires slot { length slot.now ≡ 512 }
     requires inside { g.now.dblocks ≤ D.size disk.old }
     requires held { ForSome (D.holds disk.old) (λ image. slot_bytes (volume_of g.now) image file.ino ≡ slot.now) }
     requires extents { are_extents (volume_of g.now) None file.extents ≡ true }
-    ensures held { OnOk result (ForSome (D.holds disk.old) (λ image. held_in inodes.new ≡ joined (held_in inodes.old) (of_file (volume_of g.now) image file [] None))) }
+    ensures held { OnOk result (ForSome (D.holds disk.old) (λ image. held_in inodes.new ≡ gathered_both (held_in inodes.old) (of_file (volume_of g.now) image file [] None))) }
     ensures cause { HasReadCause (D.faults disk.old) (D.faults disk.new) result }
     ensures disk { OnlyReads D.size D.holds D.write_faults D.writes D.tells_stops D.moment D.may_leave D.left_since disk.old disk.new }
 {
@@ -141,13 +141,13 @@ fn take_file<D: Disk, L: Ledger>(
     }
     match push_file(file, inodes) {
         Ok(()) => Ok(()),
-        Err(NoMemory) => Err(ReadError::NoMemory),
+        Err(NoMemory) => Err(PartFault::NoMemory),
     }
 }
 
 /// Adds a file.
 fn push_file(file: FileRec, inodes: &mut Inodes) -> Result<(), NoMemory>
-    ensures { OnOk result (held_in inodes.new ≡ joined (held_in inodes.old) (record { files = file ∷ []; bare = []; entries = []; dirs = []; unread = None; feature = None })) }
+    ensures { OnOk result (held_in inodes.new ≡ gathered_both (held_in inodes.old) (record { files = file ∷ []; bare = []; entries = []; dirs = []; unread = None; feature = None })) }
 {
     inodes.files.push(file)?;
     Ok(())
@@ -162,12 +162,12 @@ fn take_directory<D: Disk, L: Ledger>(
     file: &FileRec,
     inodes: &mut Inodes,
     steps: &mut Steps<L>,
-) -> Result<(), ReadError>
+) -> Result<(), PartFault>
     requires slot { length slot.now ≡ 512 }
     requires inside { g.now.dblocks ≤ D.size disk.old }
     requires held { ForSome (D.holds disk.old) (λ image. slot_bytes (volume_of g.now) image file.now.ino ≡ slot.now) }
     requires extents { are_extents (volume_of g.now) None file.now.extents ≡ true }
-    ensures held { OnOk result (ForSome (D.holds disk.old) (λ image. held_in inodes.new ≡ joined (held_in inodes.old) (of_directory (volume_of g.now) image file.now))) }
+    ensures held { OnOk result (ForSome (D.holds disk.old) (λ image. held_in inodes.new ≡ gathered_both (held_in inodes.old) (of_directory (volume_of g.now) image file.now))) }
     ensures cause { HasReadCause (D.faults disk.old) (D.faults disk.new) result }
     ensures disk { OnlyReads D.size D.holds D.write_faults D.writes D.tells_stops D.moment D.may_leave D.left_since disk.old disk.new }
 {
@@ -177,16 +177,16 @@ fn take_directory<D: Disk, L: Ledger>(
     match read_directory(alloc, g, disk, slot, file, steps) {
         Ok(found) => match push_directory(file.ino, found, inodes) {
             Ok(()) => Ok(()),
-            Err(NoMemory) => Err(ReadError::NoMemory),
+            Err(NoMemory) => Err(PartFault::NoMemory),
         },
-        Err(DirError::ReadFault) => Err(ReadError::ReadFault),
-        Err(DirError::NoMemory) => Err(ReadError::NoMemory),
+        Err(DirectoryFault::ReadFault) => Err(PartFault::ReadFault),
+        Err(DirectoryFault::NoMemory) => Err(PartFault::NoMemory),
     }
 }
 
 /// Adds what is found of a directory, and its entries.
 fn push_directory(ino: u64, found: DirFound, inodes: &mut Inodes) -> Result<(), NoMemory>
-    ensures { OnOk result (held_in inodes.new ≡ joined (held_in inodes.old) (of_found ino found)) }
+    ensures { OnOk result (held_in inodes.new ≡ gathered_both (held_in inodes.old) (of_found ino found)) }
 {
     let DirFound {
         parent,

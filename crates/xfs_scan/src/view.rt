@@ -13,15 +13,15 @@ ghost use Rattle.xfs_image.specs.Claims.{candidate_inodes};
 ghost use Rattle.xfs_image.specs.Directories.{dirs_read, entries_read};
 ghost use Rattle.xfs_image.specs.Files.{clusters_of};
 ghost use Rattle.xfs_image.specs.Groups.{groups_read};
-ghost use Rattle.xfs_image.specs.Slots.{cluster_inodes, inodes_in};
+ghost use Rattle.xfs_image.specs.Slots.{cluster_inodes, inodes_of_block};
 ghost use Rattle.xfs_image.specs.View.{catalog_of, counts_of, log_of, view};
 ghost use Rattle.xfs_scan.specs.Answers.{HasReadCause};
-ghost use Rattle.xfs_scan.specs.Gathered.{gathered, held_in, inodes_of_blocks, joined};
+ghost use Rattle.xfs_scan.specs.Gathered.{gathered, held_in, inodes_of_blocks, gathered_both};
 
 use crate::blocks::blocks_of;
 use crate::clusters::see_block;
 use crate::copies::copy_inodes;
-use crate::faults::ReadError;
+use crate::faults::PartFault;
 use crate::inodes::Inodes;
 use crate::recorded::clusters_of;
 use std::alloc::Global;
@@ -51,7 +51,7 @@ pub fn see_view<D: Disk, L: Ledger>(
     scanned: &Inodes,
     log: LogState,
     steps: &mut Steps<L>,
-) -> Result<Result<Catalog, Finding>, ReadError>
+) -> Result<Result<Catalog, Finding>, PartFault>
     requires inside { g.now.dblocks ≤ D.size disk.old }
     requires groups { ForSome (D.holds disk.old) (λ image. groups ≡ groups_read (volume_of g.now) image) }
     requires candidates { ForSome (D.holds disk.old) (λ image. scanned_clusters.now ≡ candidates (volume_of g.now) image) }
@@ -86,7 +86,7 @@ fn see_catalog<D: Disk, L: Ledger>(
     scanned: &Inodes,
     log: LogState,
     steps: &mut Steps<L>,
-) -> Result<Result<Catalog, Finding>, ReadError>
+) -> Result<Result<Catalog, Finding>, PartFault>
     requires inside { g.now.dblocks ≤ D.size disk.old }
     requires groups { ForSome (D.holds disk.old) (λ image. groups_read (volume_of g.now) image ≡ Ok groups) }
     requires candidates { ForSome (D.holds disk.old) (λ image. scanned_clusters.now ≡ candidates (volume_of g.now) image) }
@@ -97,11 +97,11 @@ fn see_catalog<D: Disk, L: Ledger>(
     ensures disk { OnlyReads D.size D.holds D.write_faults D.writes D.tells_stops D.moment D.may_leave D.left_since disk.old disk.new }
 {
     if groups.as_slice().len() > MOST_GROUPS {
-        return Err(ReadError::NoMemory);
+        return Err(PartFault::NoMemory);
     }
     let clusters = match clusters_of(alloc, g, groups.as_slice()) {
         Ok(clusters) => clusters,
-        Err(NoMemory) => return Err(ReadError::NoMemory),
+        Err(NoMemory) => return Err(PartFault::NoMemory),
     };
     let inodes = match see_recorded(alloc, g, disk, &clusters, scanned_clusters, scanned, steps) {
         Ok(inodes) => inodes,
@@ -116,14 +116,14 @@ fn see_catalog<D: Disk, L: Ledger>(
         }
         None => {}
     }
-    match build(alloc, g, disk, groups, &clusters, inodes, log, steps) {
+    match build_view(alloc, g, disk, groups, &clusters, inodes, log, steps) {
         Ok(catalog) => Ok(Ok(catalog)),
         Err(fault) => Err(fault),
     }
 }
 
 /// The catalog of groups and inodes that all read.
-fn build<D: Disk, L: Ledger>(
+fn build_view<D: Disk, L: Ledger>(
     alloc: Global,
     g: &Geometry,
     disk: &mut D,
@@ -132,7 +132,7 @@ fn build<D: Disk, L: Ledger>(
     inodes: Inodes,
     log: LogState,
     steps: &mut Steps<L>,
-) -> Result<Catalog, ReadError>
+) -> Result<Catalog, PartFault>
     requires inside { g.now.dblocks ≤ D.size disk.old }
     requires few { length groups ≤ 512 }
     requires clusters { clusters.now ≡ clusters_of (volume_of g.now) groups }
@@ -154,12 +154,12 @@ fn build<D: Disk, L: Ledger>(
         steps,
     ) {
         Ok(lsns) => lsns,
-        Err(JournalFault::ReadFault) => return Err(ReadError::ReadFault),
-        Err(JournalFault::NoMemory) => return Err(ReadError::NoMemory),
+        Err(JournalFault::ReadFault) => return Err(PartFault::ReadFault),
+        Err(JournalFault::NoMemory) => return Err(PartFault::NoMemory),
     };
     let counts = match read_counts(g, disk, steps) {
         Ok(counts) => counts,
-        Err(Failed) => return Err(ReadError::ReadFault),
+        Err(Failed) => return Err(PartFault::ReadFault),
     };
     Ok(Catalog {
         geometry: *g,
@@ -206,7 +206,7 @@ fn see_recorded<D: Disk, L: Ledger>(
     scanned_clusters: &[ClusterRec],
     scanned: &Inodes,
     steps: &mut Steps<L>,
-) -> Result<Inodes, ReadError>
+) -> Result<Inodes, PartFault>
     requires inside { g.now.dblocks ≤ D.size disk.old }
     requires low { All (λ cluster. cluster < 2 ^ 42) clusters.now }
     requires candidates { ForSome (D.holds disk.old) (λ image. scanned_clusters.now ≡ candidates (volume_of g.now) image) }
@@ -220,7 +220,7 @@ fn see_recorded<D: Disk, L: Ledger>(
     }
     match copy_inodes(alloc, scanned) {
         Ok(inodes) => Ok(inodes),
-        Err(NoMemory) => Err(ReadError::NoMemory),
+        Err(NoMemory) => Err(PartFault::NoMemory),
     }
 }
 
@@ -246,7 +246,7 @@ fn see_clusters<D: Disk, L: Ledger>(
     disk: &mut D,
     clusters: &[u64],
     steps: &mut Steps<L>,
-) -> Result<Inodes, ReadError>
+) -> Result<Inodes, PartFault>
     requires inside { g.now.dblocks ≤ D.size disk.old }
     requires low { All (λ cluster. cluster < 2 ^ 42) clusters.now }
     ensures inodes { IfOk result (λ inodes. ForSome (D.holds disk.old) (λ image. held_in inodes ≡ gathered (volume_of g.now) image (flat_map (cluster_inodes (volume_of g.now)) clusters.now))) }
@@ -255,7 +255,7 @@ fn see_clusters<D: Disk, L: Ledger>(
 {
     let blocks = match blocks_of(alloc, clusters) {
         Ok(blocks) => blocks,
-        Err(NoMemory) => return Err(ReadError::NoMemory),
+        Err(NoMemory) => return Err(PartFault::NoMemory),
     };
     let mut inodes = Inodes::new(alloc);
     match look_at(alloc, g, disk, &blocks, &mut inodes, steps) {
@@ -272,10 +272,10 @@ fn look_at<D: Disk, L: Ledger>(
     blocks: &[u64],
     inodes: &mut Inodes,
     steps: &mut Steps<L>,
-) -> Result<(), ReadError>
+) -> Result<(), PartFault>
     requires inside { g.now.dblocks ≤ D.size disk.old }
     requires low { All (λ block. block < 2 ^ 43) blocks.now }
-    ensures held { OnOk result (ForSome (D.holds disk.old) (λ image. held_in inodes.new ≡ joined (held_in inodes.old) (gathered (volume_of g.now) image (inodes_of_blocks (volume_of g.now) blocks.now)))) }
+    ensures held { OnOk result (ForSome (D.holds disk.old) (λ image. held_in inodes.new ≡ gathered_both (held_in inodes.old) (gathered (volume_of g.now) image (inodes_of_blocks (volume_of g.now) blocks.now)))) }
     ensures cause { HasReadCause (D.faults disk.old) (D.faults disk.new) result }
     ensures disk { OnlyReads D.size D.holds D.write_faults D.writes D.tells_stops D.moment D.may_leave D.left_since disk.old disk.new }
 {
@@ -296,10 +296,10 @@ fn look_at_block<D: Disk, L: Ledger>(
     block: u64,
     inodes: &mut Inodes,
     steps: &mut Steps<L>,
-) -> Result<(), ReadError>
+) -> Result<(), PartFault>
     requires inside { g.now.dblocks ≤ D.size disk.old }
     requires low { block < 2 ^ 43 }
-    ensures held { OnOk result (ForSome (D.holds disk.old) (λ image. held_in inodes.new ≡ joined (held_in inodes.old) (gathered (volume_of g.now) image (inodes_in (volume_of g.now) block)))) }
+    ensures held { OnOk result (ForSome (D.holds disk.old) (λ image. held_in inodes.new ≡ gathered_both (held_in inodes.old) (gathered (volume_of g.now) image (inodes_of_block (volume_of g.now) block)))) }
     ensures cause { HasReadCause (D.faults disk.old) (D.faults disk.new) result }
     ensures disk { OnlyReads D.size D.holds D.write_faults D.writes D.tells_stops D.moment D.may_leave D.left_since disk.old disk.new }
 {
@@ -311,7 +311,7 @@ fn look_at_block<D: Disk, L: Ledger>(
     steps.tick();
     match disk.read(block, &mut bytes) {
         Ok(()) => see_block(alloc, g, disk, block, &bytes, inodes, steps),
-        Err(Failed) => Err(ReadError::ReadFault),
+        Err(Failed) => Err(PartFault::ReadFault),
     }
 }
 

@@ -6,7 +6,7 @@ use Rattle.xfs_geom.specs.declared.election.ElectFault.{ElectFault}
 use Rattle.xfs_geom.specs.declared.election.ElectFault.TheVariants as fault
 use Rattle.xfs_shell.specs.Shells.{HasElected, HasInput, IsOfLines, IsPastElection, IsShort, IsUndecided, input_lines, most_of, told_lines}
 use Rattle.xfs_shell.specs.Running.{until_quit}
-use Rattle.xfs_shell.specs.Lines.{parts_of}
+use Rattle.xfs_shell.specs.Lines.{line_parts}
 use Rattle.xfs_shell.specs.declared.lines.Cut.TheVariants.{LineFeeds}
 use Rattle.xfs_shell.specs.declared.outcomes.ShellOutcome.{ShellOutcome}
 use Rattle.xfs_shell.specs.declared.outcomes.ShellOutcome.TheVariants.{Done, NoGeometry, Unsupported, ReadFault, WriteFault, InputFault, InputLong, OutputFault, NoMemory}
@@ -83,12 +83,12 @@ input_asked (command ∷ commands) left outcome none had =
     absurd (omega (arith, no))
 
 -- the lines that were run are those that the input tells
-pub read_lines : (left : Option (List ℕ)) (bytes : List ℕ) (ran lines : List (List ℕ)) → ran ≡ parts_of LineFeeds bytes
+pub read_lines : (left : Option (List ℕ)) (bytes : List ℕ) (ran lines : List (List ℕ)) → ran ≡ line_parts LineFeeds bytes
     → ((told : List ℕ) → left ≡ Some told → bytes ≡ told) → input_lines left ≡ Some lines → ran ≡ lines
 read_lines None bytes ran lines are told is = cc
 read_lines (Some told) bytes ran lines are same is =
-    let due : parts_of LineFeeds told ≡ lines = cc in
-    are ∙ ap (λ (b : List ℕ). parts_of LineFeeds b) (same told refl) ∙ due
+    let due : line_parts LineFeeds told ≡ lines = cc in
+    are ∙ ap (λ (b : List ℕ). line_parts LineFeeds b) (same told refl) ∙ due
 
 -- where it could not be decided whether there was one
 pub undecided : (due : Result Vote ElectFault) (outcome : ShellOutcome) → IsUndecided outcome → HasElected due outcome

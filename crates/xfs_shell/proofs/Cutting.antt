@@ -2,7 +2,7 @@
 use Rattle.std.proofs.Common.{◌≡◌, ℕ, Bool, true, false, cond, List, [], ◌∷◌, ◌++◌, refl, sym, ◌∙◌, ap, append_assoc}
 use Rattle.std.specs.List.{filter, slice_split, onto_first}
 use Rattle.std.proofs.lemmas.List.{append-nil}
-use Rattle.xfs_shell.specs.Lines.{is_cut, is_some, parts_of}
+use Rattle.xfs_shell.specs.Lines.{is_cut, is_some, line_parts}
 use Rattle.xfs_shell.specs.declared.lines.Cut.{Cut}
 
 -- the parts, with these bytes before the first
@@ -63,8 +63,8 @@ passed cut part byte rest cuts none =
     ∙ ap (λ (parts : List (List ℕ)). filter is_some parts) (sym (split_some (is_cut cut) rest))
 
 -- all bytes are still to come
-pub begun : (cut : Cut) (bytes : List ℕ) → ahead cut [] bytes ≡ parts_of cut bytes
-unfolding parts_of
+pub begun : (cut : Cut) (bytes : List ℕ) → ahead cut [] bytes ≡ line_parts cut bytes
+unfolding line_parts
 begun cut bytes = ap (λ (parts : List (List ℕ)). filter is_some parts) (split_some (is_cut cut) bytes)
 
 -- no byte is still to come

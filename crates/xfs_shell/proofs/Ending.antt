@@ -3,6 +3,7 @@ use Rattle.std.proofs.Common.{◌≡◌, ℕ, zero, suc, ◌+◌, ◌-◌, ◌�
 use Rattle.std.specs.List.{fold}
 use Rattle.std.proofs.lemmas.List.{take_more, take-append-drop, take_all, append-nil}
 use Rattle.std.proofs.Math.Seq.{take-append-add}
+use Rattle.xfs_disk.specs.Counts.{raised_times}
 use Rattle.xfs_disk.specs.Blocks.{Image}
 use Rattle.xfs_geom.specs.Volumes.{Volume}
 use Rattle.xfs_commands.specs.Commands.{Effect, Put, Session}
@@ -10,10 +11,9 @@ use Rattle.xfs_shell.specs.Ends.{HasLineCause, IsBehind, IsPrefixPut, IsHalted, 
 use Rattle.xfs_shell.specs.Running.{Run, after_line, attempts, begun, block_at_place, count_put, extended, image_after, shelled}
 use Rattle.xfs_commands.specs.Cursors.{is_quit}
 use Rattle.xfs_commands.specs.Verbs.{word_at}
-use Rattle.xfs_shell.specs.Lines.{parts_of}
+use Rattle.xfs_shell.specs.Lines.{line_parts}
 use Rattle.xfs_shell.specs.Sessions.{IsWrittenBehind, Stays, raised_put}
-use Rattle.xfs_shell.specs.Shells.{HasCause, IsEarly, IsGoing, IsOfLines, LeavesDisk, Prints, outcome_behind, stopped_outcome}
-use Rattle.xfs_shell.specs.Steps.{raised_times}
+use Rattle.xfs_shell.specs.Shells.{HasSessionCause, IsEarly, IsGoing, IsOfLines, LeavesDisk, Prints, outcome_behind, stopped_outcome}
 use Rattle.xfs_shell.proofs.Stepping.{HasEndCount, HasStopCount}
 use Rattle.xfs_disk.specs.Faults.{Rose}
 use Rattle.xfs_shell.specs.declared.outcomes.ShellOutcome.TheVariants.{Done, OutputFault}
@@ -32,7 +32,7 @@ fold_append f b (x ∷ xs) ys = fold_append f (f b x) xs ys
 one_stays : (v : Volume) (leave : Leave) (r : Run) (line : List ℕ) → r.quit ≡ true → after_line v leave r line ≡ r
 unfolding after_line
 one_stays v leave r line ended =
-    ap (λ (q : Bool). if q then r else extended r (attempts v leave (parts_of Blanks line) (block_at_place r.image r.session.at) r.session)) ended
+    ap (λ (q : Bool). if q then r else extended r (attempts v leave (line_parts Blanks line) (block_at_place r.image r.session.at) r.session)) ended
 
 -- a run that has ended stays
 ended_stays : (v : Volume) (leave : Leave) (r : Run) (lines : List (List ℕ)) → r.quit ≡ true → fold (after_line v leave) r lines ≡ r
@@ -41,14 +41,14 @@ ended_stays v leave r (line ∷ lines) ended =
     ap (λ (q : Run). fold (after_line v leave) q lines) (one_stays v leave r line ended) ∙ ended_stays v leave r lines ended
 
 goes_on : (v : Volume) (leave : Leave) (r : Run) (line : List ℕ) → r.quit ≡ false
-    → after_line v leave r line ≡ extended r (attempts v leave (parts_of Blanks line) (block_at_place r.image r.session.at) r.session)
+    → after_line v leave r line ≡ extended r (attempts v leave (line_parts Blanks line) (block_at_place r.image r.session.at) r.session)
 unfolding after_line
 goes_on v leave r line on =
-    ap (λ (q : Bool). if q then r else extended r (attempts v leave (parts_of Blanks line) (block_at_place r.image r.session.at) r.session)) on
+    ap (λ (q : Bool). if q then r else extended r (attempts v leave (line_parts Blanks line) (block_at_place r.image r.session.at) r.session)) on
 
 -- the effect of the line of this number
 abbrev pub effect_at : Volume → Leave → Run → List ℕ → Effect
-effect_at v leave r line = attempts v leave (parts_of Blanks line) (block_at_place r.image r.session.at) r.session
+effect_at v leave r line = attempts v leave (line_parts Blanks line) (block_at_place r.image r.session.at) r.session
 
 next_run : (v : Volume) (leave : Leave) (lines : List (List ℕ)) (image : Image) (i : ℕ) (d : List ℕ) → i < length lines
     → (shelled v leave (take i lines) image).quit ≡ false
@@ -81,12 +81,12 @@ pub record IsNext (r : Run) (verdict : Verdict) (session : Session) (now : Optio
 
 -- the effect of a line is that of the run's session
 same_effect : (v : Volume) (leave : Leave) (r : Run) (line : List ℕ) (s : Session) → s ≡ r.session
-    → attempts v leave (parts_of Blanks line) (block_at_place r.image s.at) s ≡ effect_at v leave r line
-same_effect v leave r line s is = ap (λ (t : Session). attempts v leave (parts_of Blanks line) (block_at_place r.image t.at) t) is
+    → attempts v leave (line_parts Blanks line) (block_at_place r.image s.at) s ≡ effect_at v leave r line
+same_effect v leave r line s is = ap (λ (t : Session). attempts v leave (line_parts Blanks line) (block_at_place r.image t.at) t) is
 
 -- also where the line is known by another name
 due_effect : (v : Volume) (leave : Leave) (r : Run) (line other : List ℕ) (s : Session) → s ≡ r.session → line ≡ other
-    → attempts v leave (parts_of Blanks line) (block_at_place r.image s.at) s ≡ effect_at v leave r other
+    → attempts v leave (line_parts Blanks line) (block_at_place r.image s.at) s ≡ effect_at v leave r other
 due_effect v leave r line other s is line_is = same_effect v leave r line s is ∙ ap (λ (l : List ℕ). effect_at v leave r l) line_is
 
 -- one count of writes more, where a block is written
@@ -111,7 +111,7 @@ put_counts (Some put) n one = refl
 -- the lines, one of them, and where a run over those before it stands
 module _ (v : Volume) (leave : Leave) (lines : List (List ℕ)) (image : Image) (i : ℕ) (line d : List ℕ) (s : Session) (now : Option Image) (writes writes_now : ℕ) where
   abbrev pub line_effect : Effect
-  line_effect = attempts v leave (parts_of Blanks line) (block_at_place (shelled v leave (take i lines) image).image s.at) s
+  line_effect = attempts v leave (line_parts Blanks line) (block_at_place (shelled v leave (take i lines) image).image s.at) s
 
   due_run : i < length lines → line ≡ get_or lines i d → IsAt v leave lines image i s now writes writes_now
       → shelled v leave (take (i + 1) lines) image ≡ extended (shelled v leave (take i lines) image) line_effect
@@ -288,7 +288,7 @@ rose_before a b c less rose = (omega (arith, less, rose.0), omega (arith, less, 
 
 -- a fault behind earlier lines has its cause
 pub cause_behind : (f m f' w n w' t t' p q p' : ℕ) (ended : LineEnd) (k : ℕ) → f ≤ m → w ≤ n → p ≤ q → HasLineCause {T = Verdict} m f' n w' q p' (Err ended)
-    → HasCause f f' w w' t t' p p' (outcome_behind k ended)
+    → HasSessionCause f f' w w' t t' p p' (outcome_behind k ended)
 cause_behind f m f' w n w' t t' p q p' (end.Stopped stop.ReadFault) k fm wn pq cause = rose_before f m f' fm cause
 cause_behind f m f' w n w' t t' p q p' (end.Stopped (stop.WriteFault written)) k fm wn pq cause = rose_before w n w' wn cause
 cause_behind f m f' w n w' t t' p q p' (end.Stopped stop.NoMemory) k fm wn pq cause = tt

@@ -6,7 +6,7 @@ use Rattle.xfs_commands.specs.Verbs.{word_at}
 use Rattle.xfs_shell.specs.Running.{runs, sets_here, writes, object_at}
 use Rattle.xfs_commands.specs.declared.commands.Verb.{Verb}
 use Rattle.xfs_commands.specs.declared.commands.Verb.TheVariants as verb
-use Rattle.xfs_objects.specs.declared.objects.Place.{Place}
+use Rattle.xfs_objects.specs.declared.objects.ObjectPlace.{ObjectPlace}
 use Rattle.xfs_shell.specs.declared.session.Leave.{Leave}
 use Rattle.xfs_commands.proofs.KeptSessions.{Keeps, prints_kept, addresses_kept, sets_kept, here_kept, alone_kept}
 
@@ -17,17 +17,17 @@ writes_kept leave block args s = by_leave leave.expert leave.read_only
         → Keeps s (if expert then (if read_only then refuses (codes "write: read-only\n") s else sets_here block args s) else refuses (codes "write: needs -x\n") s)
     by_leave true true = λ refused. refl
     by_leave true false =
-        here_kept s.at (λ (place : Place). sets place block (word_at args 0) (word_at args 1) s) s
+        here_kept s.at (λ (place : ObjectPlace). sets place block (word_at args 0) (word_at args 1) s) s
         (λ place. sets_kept place block (word_at args 0) (word_at args 1) s)
     by_leave false read_only = λ refused. refl
 
 pub runs_kept : (v : Volume) (leave : Leave) (verb : Verb) (name : List ℕ) (args : List (List ℕ)) (block : List ℕ) (s : Session)
     → Keeps s (runs v leave verb name args block s)
 runs_kept v leave verb.Addr name args block s =
-    here_kept s.at (λ (place : Place). addresses v place (object_at place block) (word_at args 0) s) s
+    here_kept s.at (λ (place : ObjectPlace). addresses v place (object_at place block) (word_at args 0) s) s
     (λ place. addresses_kept v place (object_at place block) (word_at args 0) s)
 runs_kept v leave verb.Print name args block s =
-    here_kept s.at (λ (place : Place). prints place.kind (object_at place block) args s) s (λ place. prints_kept place.kind (object_at place block) args s)
+    here_kept s.at (λ (place : ObjectPlace). prints place.kind (object_at place block) args s) s (λ place. prints_kept place.kind (object_at place block) args s)
 runs_kept v leave verb.Write name args block s = writes_kept leave block args s
 runs_kept v leave verb.Sb name args block s = alone_kept v verb.Sb name args s
 runs_kept v leave verb.Agf name args block s = alone_kept v verb.Agf name args s

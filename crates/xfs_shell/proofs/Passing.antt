@@ -9,9 +9,9 @@ use Rattle.xfs_commands.specs.Commands.{Effect, Put, Session, put_of, sets}
 use Rattle.xfs_commands.specs.Verbs.{at_place, word_at}
 use Rattle.xfs_commands.specs.declared.cursor.Verdict.{Verdict}
 use Rattle.xfs_commands.specs.declared.cursor.Verdict.TheVariants.{Done}
-use Rattle.xfs_objects.specs.declared.objects.Place.{Place}
+use Rattle.xfs_objects.specs.declared.objects.ObjectPlace.{ObjectPlace}
 use Rattle.xfs_shell.specs.Running.{block_at_place, image_after, sets_here, shelled_first}
-use Rattle.xfs_shell.specs.Steps.{IsKept}
+use Rattle.xfs_shell.specs.Steps.{IsDurable}
 use Rattle.xfs_shell.specs.Stops.{HasPassed, IsEither, Passes, StopsBetween}
 use Rattle.xfs_shell.specs.declared.session.Leave.{Leave}
 use Rattle.xfs_shell.proofs.Stepping.{AreRun, kept_reads}
@@ -45,7 +45,7 @@ module _ {D : Type 0} (size : D → ℕ) (holds : D → Option Image) (faults wr
         ];
   }
     where
-      by_block : IsKept holds may_leave a → (n : ℕ) (v : List ℕ) → may_leave a n v ⊎ ((n ≡ at) × (v ≡ block))
+      by_block : IsDurable holds may_leave a → (n : ℕ) (v : List ℕ) → may_leave a n v ⊎ ((n ≡ at) × (v ≡ block))
           → (slice_get image n ≡ Some v) ⊎ (slice_get (slice_set image at block) n ≡ Some v)
       by_block kept n v (inl may) = inl (kept image held n v may)
       by_block kept n v (inr new) =
@@ -121,7 +121,7 @@ module _ {D : Type 0} (size : D → ℕ) (holds : D → Option Image) (faults wr
     }
 
 -- the image with the block that `write` puts
-pub sets_image : (image : Image) (s : Session) (place : Place) (block new : List ℕ) (args : List (List ℕ)) (name value : List ℕ) (verdict : Verdict) → s.at ≡ Some place
+pub sets_image : (image : Image) (s : Session) (place : ObjectPlace) (block new : List ℕ) (args : List (List ℕ)) (name value : List ℕ) (verdict : Verdict) → s.at ≡ Some place
     → slice_get image place.block ≡ Some block → verdict ≡ Done → name ≡ word_at args 0 → value ≡ word_at args 1
     → put_of verdict place.block new ≡ (sets place block name value s).put
     → slice_set image place.block new ≡ image_after (sets_here (block_at_place image s.at) args s).put image
@@ -130,7 +130,7 @@ sets_image image s place block new args name value verdict at read done name_is 
     ap (λ (n : List ℕ). sets place block n value s) name_is ∙ ap (λ (w : List ℕ). sets place block (word_at args 0) w s) value_is
     in
     let due : sets_here (block_at_place image s.at) args s ≡ sets place block (word_at args 0) (word_at args 1) s =
-    ap (λ (a : Option Place). at_place a (λ p. sets p (block_at_place image a) (word_at args 0) (word_at args 1) s) s) at
+    ap (λ (a : Option ObjectPlace). at_place a (λ p. sets p (block_at_place image a) (word_at args 0) (word_at args 1) s) s) at
     ∙ ap (λ (o : Option (List ℕ)). sets place (unwrap_or o []) (word_at args 0) (word_at args 1) s) read
     in
     ap (λ (p : Put). image_after p image) (ap (λ (v : Verdict). put_of v place.block new) (sym done) ∙ put ∙ ap (λ (e : Effect). e.put) (words ∙ sym due))

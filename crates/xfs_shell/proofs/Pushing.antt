@@ -7,7 +7,7 @@ use Rattle.xfs_commands.specs.Commands.{Session, Effect, no_address}
 use Rattle.xfs_commands.specs.Verbs.{accepted}
 use Rattle.xfs_shell.specs.Running.{attempts, is_push, is_push_verb, keeping, pushes, pushes_in, restored, block_at_place, image_after, runs_placeless, runs_accepted, runs_first, runs_named, runs_words}
 use Rattle.xfs_commands.specs.Cursors.{pushed, back_to, settled_session, saved}
-use Rattle.xfs_shell.specs.Sessions.{IsRun, Stays, raised_put}
+use Rattle.xfs_shell.specs.Sessions.{IsRunCommand, Stays, raised_put}
 use Rattle.xfs_disk.specs.Blocks.{Image}
 use Rattle.xfs_shell.specs.declared.session.Stop.{Stop}
 use Rattle.xfs_shell.specs.declared.session.Stop.TheVariants as stop
@@ -18,7 +18,7 @@ use Rattle.xfs_commands.specs.declared.commands.Verb.{Verb}
 use Rattle.xfs_commands.specs.declared.commands.Verb.TheVariants as verb
 use Rattle.xfs_commands.specs.declared.cursor.Verdict.{Verdict}
 use Rattle.xfs_commands.specs.declared.cursor.Verdict.TheVariants.{Done, Refused, Quit}
-use Rattle.xfs_objects.specs.declared.objects.Place.{Place}
+use Rattle.xfs_objects.specs.declared.objects.ObjectPlace.{ObjectPlace}
 use Rattle.xfs_shell.specs.declared.session.Leave.{Leave}
 
 keeping_twice : (v : Verdict) (s t now : Session) → keeping v s (keeping v t now) ≡ keeping v s now
@@ -75,7 +75,7 @@ first_kept v leave (name ∷ args) block s = by_name (accepted name (length args
     by_name (Some verb) = runs_kept v leave verb name args block s
 
 -- as many pushes as there are, and then the command behind them
-pushing : (v : Volume) (leave : Leave) (words : List (List ℕ)) (block : List ℕ) (s : Session) (place : Place) → s.at ≡ Some place
+pushing : (v : Volume) (leave : Leave) (words : List (List ℕ)) (block : List ℕ) (s : Session) (place : ObjectPlace) → s.at ≡ Some place
     → restored s (runs_words v leave words block s)
     ≡ restored s (runs_words v leave (drop (pushes_in words) words) block (pushed (pushes_in words) place s))
 pushing v leave [] block s place at = refl
@@ -90,7 +90,7 @@ pushing v leave (name ∷ args) block s place at = by_case (is_push_verb (accept
         ap (λ (b : Bool). restored s (runs_words v leave (drop (if b then suc (pushes_in args) else 0) (name ∷ args)) block (pushed (if b then suc (pushes_in args) else 0) place s))) (sym is)
     by_case true is rest =
         ap (λ (o : Option Verb). restored s (runs_accepted v leave o name args block (λ now. runs_words v leave args block now) s)) (push_is (accepted name (length args)) is)
-        ∙ ap (λ (o : Option Place). restored s (pushes o (λ now. runs_words v leave args block now) s)) at
+        ∙ ap (λ (o : Option ObjectPlace). restored s (pushes o (λ now. runs_words v leave args block now) s)) at
         ∙ absorb s s (runs_words v leave args block (saved place s))
         ∙ sym (absorb s (saved place s) (runs_words v leave args block (saved place s)))
         ∙ ap (λ (e : Effect). restored s e) rest
@@ -98,7 +98,7 @@ pushing v leave (name ∷ args) block s place at = by_case (is_push_verb (accept
         ∙ ap (λ (b : Bool). restored s (runs_words v leave (drop (if b then suc (pushes_in args) else 0) (name ∷ args)) block (pushed (if b then suc (pushes_in args) else 0) place s))) (sym is)
 
 -- with a place, the command behind the pushes decides
-pub attempts_behind : (v : Volume) (leave : Leave) (words : List (List ℕ)) (block : List ℕ) (s : Session) (place : Place) → s.at ≡ Some place
+pub attempts_behind : (v : Volume) (leave : Leave) (words : List (List ℕ)) (block : List ℕ) (s : Session) (place : ObjectPlace) → s.at ≡ Some place
     → attempts v leave words block s ≡ restored s (runs_first v leave (drop (pushes_in words) words) block (pushed (pushes_in words) place s))
 unfolding attempts
 attempts_behind v leave words block s place at =
@@ -116,7 +116,7 @@ unfolding attempts
 attempts_none v leave [] block s at is = absurd (true≢false (sym is))
 attempts_none v leave (name ∷ args) block s at is =
     ap (λ (o : Option Verb). restored s (runs_accepted v leave o name args block (λ now. runs_words v leave args block now) s)) (push_is (accepted name (length args)) is)
-    ∙ ap (λ (o : Option Place). restored s (pushes o (λ now. runs_words v leave args block now) s)) at
+    ∙ ap (λ (o : Option ObjectPlace). restored s (pushes o (λ now. runs_words v leave args block now) s)) at
 
 -- without a push, the words are a command
 pub attempts_first : (v : Volume) (leave : Leave) (words : List (List ℕ)) (block : List ℕ) (s : Session) → is_push words ≡ false
@@ -167,26 +167,26 @@ attempts_placeless v leave words block s at = by_case (is_push words) refl
     by_case true is = rw is (attempts_none v leave words block s at is)
     by_case false is = rw is (attempts_first v leave words block s is)
 
-settled_kept : (verdict : Verdict) (s pushed_s now : Session) (n : ℕ) (place : Place) → pushed_s ≡ pushed n place s → (verdict ≡ Refused → now ≡ pushed_s)
+settled_kept : (verdict : Verdict) (s pushed_s now : Session) (n : ℕ) (place : ObjectPlace) → pushed_s ≡ pushed n place s → (verdict ≡ Refused → now ≡ pushed_s)
     → settled_session verdict (length s.stack) now ≡ keeping verdict s now
 settled_kept Done s t now n place is kept = refl
 settled_kept Quit s t now n place is kept = refl
 settled_kept Refused s t now n place is kept = ap (λ (u : Session). back_to (length s.stack) u) (kept refl ∙ is) ∙ taken_back n place s
 
-attempts_due : (v : Volume) (leave : Leave) (words : List (List ℕ)) (image : Image) (s t : Session) (place : Place) → s.at ≡ Some place → t ≡ pushed (pushes_in words) place s
+attempts_due : (v : Volume) (leave : Leave) (words : List (List ℕ)) (image : Image) (s t : Session) (place : ObjectPlace) → s.at ≡ Some place → t ≡ pushed (pushes_in words) place s
     → attempts v leave words (block_at_place image s.at) s
     ≡ restored s (runs_first v leave (drop (pushes_in words) words) (block_at_place image t.at) t)
 attempts_due v leave words image s t place at is =
     let same : (pushed (pushes_in words) place s).at ≡ s.at = pushed_at (pushes_in words) place s in
     attempts_behind v leave words (block_at_place image s.at) s place at
-    ∙ ap (λ (a : Option Place). restored s (runs_first v leave (drop (pushes_in words) words) (block_at_place image a) (pushed (pushes_in words) place s))) (sym same)
+    ∙ ap (λ (a : Option ObjectPlace). restored s (runs_first v leave (drop (pushes_in words) words) (block_at_place image a) (pushed (pushes_in words) place s))) (sym same)
     ∙ ap (λ (u : Session). restored s (runs_first v leave (drop (pushes_in words) words) (block_at_place image u.at) u)) (sym is)
 
 -- a command behind pushes was run
-pub behind_ran : (v : Volume) (leave : Leave) (words : List (List ℕ)) (image : Image) (s t now : Session) (place : Place) (verdict : Verdict) (old new : List ℕ) (held : Option Image) (writes writes_now : ℕ)
+pub behind_ran : (v : Volume) (leave : Leave) (words : List (List ℕ)) (image : Image) (s t now : Session) (place : ObjectPlace) (verdict : Verdict) (old new : List ℕ) (held : Option Image) (writes writes_now : ℕ)
     → s.at ≡ Some place → t ≡ pushed (pushes_in words) place s
-    → IsRun (runs_first v leave (drop (pushes_in words) words) (block_at_place image t.at) t) image verdict old new now held writes writes_now
-    → IsRun (attempts v leave words (block_at_place image s.at) s) image verdict old new (settled_session verdict (length s.stack) now) held writes writes_now
+    → IsRunCommand (runs_first v leave (drop (pushes_in words) words) (block_at_place image t.at) t) image verdict old new now held writes writes_now
+    → IsRunCommand (attempts v leave words (block_at_place image s.at) s) image verdict old new (settled_session verdict (length s.stack) now) held writes writes_now
 behind_ran v leave words image s t now place verdict old new held writes writes_now at is run =
     let e : Effect = runs_first v leave (drop (pushes_in words) words) (block_at_place image t.at) t in
     let due = attempts_due v leave words image s t place at is in
@@ -207,7 +207,7 @@ behind_ran v leave words image s t now place verdict old new held writes writes_
     }
 
 -- and stopped
-pub behind_stays : (v : Volume) (leave : Leave) (words : List (List ℕ)) (image : Image) (s t : Session) (place : Place) (why : Stop) (held : Option Image)
+pub behind_stays : (v : Volume) (leave : Leave) (words : List (List ℕ)) (image : Image) (s t : Session) (place : ObjectPlace) (why : Stop) (held : Option Image)
     → s.at ≡ Some place → t ≡ pushed (pushes_in words) place s
     → Stays (runs_first v leave (drop (pushes_in words) words) (block_at_place image t.at) t) image held why
     → Stays (attempts v leave words (block_at_place image s.at) s) image held why
@@ -218,7 +218,7 @@ behind_stays v leave words image s t place (stop.WriteFault written) held at is 
     subst (λ (f : Effect). Stays f image held (stop.WriteFault written)) (sym due) stays
 
 -- and the block that it writes
-pub behind_puts : (v : Volume) (leave : Leave) (words : List (List ℕ)) (image : Image) (s t : Session) (place : Place)
+pub behind_puts : (v : Volume) (leave : Leave) (words : List (List ℕ)) (image : Image) (s t : Session) (place : ObjectPlace)
     → s.at ≡ Some place → t ≡ pushed (pushes_in words) place s
     → image_after (runs_first v leave (drop (pushes_in words) words) (block_at_place image t.at) t).put image
     ≡ image_after (attempts v leave words (block_at_place image s.at) s).put image

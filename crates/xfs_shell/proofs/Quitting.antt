@@ -6,7 +6,7 @@ use Rattle.std.specs.List.{filter, slice_split, onto_first}
 use Rattle.xfs_commands.specs.Verbs.{accepted}
 use Rattle.xfs_commands.specs.declared.commands.Verb.{Verb}
 use Rattle.xfs_commands.specs.declared.commands.Verb.TheVariants as verb
-use Rattle.xfs_shell.specs.Lines.{is_cut, is_some, parts_of}
+use Rattle.xfs_shell.specs.Lines.{is_cut, is_some, line_parts}
 use Rattle.xfs_shell.specs.Running.{is_quit_verb, is_quit_words, is_push_verb, pushes_in, until_quit}
 use Rattle.xfs_shell.specs.Shells.{input_lines, most_of}
 use Rattle.xfs_shell.specs.declared.lines.Cut.{Cut}
@@ -33,7 +33,7 @@ no_quit words ends quits on = by_case (is_quit_words words) refl
     by_case false is = is
 
 -- behind a line that is no quit there is one line less
-pub quit_next : (lines : List (List ℕ)) (i : ℕ) (d : List ℕ) → i < length lines → is_quit_words (parts_of Blanks (get_or lines i d)) ≡ false
+pub quit_next : (lines : List (List ℕ)) (i : ℕ) (d : List ℕ) → i < length lines → is_quit_words (line_parts Blanks (get_or lines i d)) ≡ false
     → i + 1 + until_quit (drop (i + 1) lines) ≡ i + until_quit (drop i lines)
 quit_next lines i d within none =
     let one : suc i ≡ i + 1 = omega arith in
@@ -44,7 +44,7 @@ quit_next lines i d within none =
     omega (arith, counted)
 
 some_left : (line : List ℕ) (lines : List (List ℕ)) → 1 ≤ until_quit (line ∷ lines)
-some_left line lines = by_case (is_quit_words (parts_of Blanks line))
+some_left line lines = by_case (is_quit_words (line_parts Blanks line))
   where
     by_case : (b : Bool) → 1 ≤ (if b then 1 else suc (until_quit lines))
     by_case true = omega arith
@@ -57,7 +57,7 @@ quit_some lines i d within =
 
 until_short : (lines : List (List ℕ)) → until_quit lines ≤ length lines
 until_short [] = omega arith
-until_short (line ∷ lines) = by_case (is_quit_words (parts_of Blanks line)) (until_short lines)
+until_short (line ∷ lines) = by_case (is_quit_words (line_parts Blanks line)) (until_short lines)
   where
     by_case : (b : Bool) → until_quit lines ≤ length lines → (if b then 1 else suc (until_quit lines)) ≤ suc (length lines)
     by_case true less = omega arith
@@ -86,15 +86,15 @@ few_parts cut (b ∷ bs) = by_case (is_cut cut b) (few_parts cut bs)
     by_case true less = omega (arith, less)
     by_case false less = omega (arith, less, onto_more b (slice_split (is_cut cut) bs))
 
-parts_few : (cut : Cut) (bytes : List ℕ) → length (parts_of cut bytes) ≤ length bytes
-unfolding parts_of
+parts_few : (cut : Cut) (bytes : List ℕ) → length (line_parts cut bytes) ≤ length bytes
+unfolding line_parts
 parts_few cut bytes = few_parts cut bytes
 
 -- the lines of an input that was read are as many as are told, or not more than it may have bytes
-pub most_read : (left : Option (List ℕ)) (bytes : List ℕ) (lines : List (List ℕ)) → lines ≡ parts_of LineFeeds bytes → length bytes ≤ 1048576
+pub most_read : (left : Option (List ℕ)) (bytes : List ℕ) (lines : List (List ℕ)) → lines ≡ line_parts LineFeeds bytes → length bytes ≤ 1048576
     → ((told : List ℕ) → left ≡ Some told → bytes ≡ told) → until_quit lines ≤ most_of (input_lines left)
 most_read None bytes lines are short told =
     omega (arith, ap length are, until_short lines, parts_few LineFeeds bytes, short)
 most_read (Some told) bytes lines are short is =
-    let same : until_quit lines ≡ until_quit (parts_of LineFeeds told) = ap until_quit are ∙ ap (λ (b : List ℕ). until_quit (parts_of LineFeeds b)) (is told refl) in
+    let same : until_quit lines ≡ until_quit (line_parts LineFeeds told) = ap until_quit are ∙ ap (λ (b : List ℕ). until_quit (line_parts LineFeeds b)) (is told refl) in
     omega (arith, same)

@@ -5,7 +5,7 @@ use Rattle.xfs_disk.specs.declared.failed.NoMemory.{NoMemory}
 use Rattle.xfs_commands.specs.Commands.{Effect, Session, Put, IsEffect}
 use Rattle.xfs_shell.specs.Running.{image_after}
 use Rattle.xfs_shell.specs.Sessions.{Outcome, raised_put, stopped}
-use Rattle.xfs_shell.specs.Steps.{IsRead}
+use Rattle.xfs_shell.specs.Steps.{IsOneRead}
 use Rattle.xfs_shell.specs.Stops.{Passes}
 use Rattle.xfs_shell.specs.declared.session.Stop.{Stop}
 use Rattle.xfs_shell.proofs.Passing.{reads_pass}
@@ -32,7 +32,7 @@ still_passes holds tells_stops moment may_leave left_since image next a =
 
 pub read_passed : {D : Type 0} (size : D → ℕ) (holds : D → Option Image) (faults write_faults reads writes : D → ℕ) (tells_stops : D → Type 0)
     (moment : D → ℕ) (may_leave : D → ℕ → List ℕ → Type 0) (left_since : D → ℕ → Image → Type 0) (image next : Image) (a b : D) (why : Option Stop)
-    → IsRead size holds faults write_faults reads writes tells_stops moment may_leave left_since a b why
+    → IsOneRead size holds faults write_faults reads writes tells_stops moment may_leave left_since a b why
     → Passes holds tells_stops moment may_leave left_since image next a b
 read_passed size holds faults write_faults reads writes tells_stops moment may_leave left_since image next a b why read =
     reads_pass size holds faults write_faults reads writes tells_stops moment may_leave left_since image next a b read.only_reads

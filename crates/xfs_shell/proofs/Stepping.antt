@@ -2,14 +2,14 @@
 use Rattle.std.proofs.Common.{◌≡◌, ℕ, suc, ◌+◌, ◌≤◌, Bool, true, false, List, Option, Some, None, Result, Ok, Err, refl, sym, ◌∙◌, ap, inl, inr, subst, arith}
 use Rattle.std.proofs.lemmas.Bool.{true≢false}
 use Rattle.xfs_disk.specs.Blocks.{Image}
-use Rattle.xfs_disk.specs.Counts.{raised}
+use Rattle.xfs_disk.specs.Counts.{raised, raised_times}
 use Rattle.xfs_disk.specs.Reads.{OnlyReads}
 use Rattle.xfs_disk.proofs.Reading.{reads_none, reads_on}
 use Rattle.xfs_disk.specs.declared.failed.NoMemory.{NoMemory}
 use Rattle.xfs_commands.specs.declared.cursor.Verdict.{Verdict}
 use Rattle.xfs_shell.specs.Sessions.{stopped}
 use Rattle.xfs_shell.specs.Shells.{IsEarly, RunsOver, finished_in, most_finished, outcome_behind, stopped_outcome, written_in}
-use Rattle.xfs_shell.specs.Steps.{CountsPut, HasStopCause, IsKept, IsRead, IsStep, IsWritten, raised_times, stop_of, stop_of_line}
+use Rattle.xfs_shell.specs.Steps.{CountsStep, HasStopCause, IsDurable, IsOneRead, IsStep, IsWritten, stop_told, stop_of_line}
 use Rattle.xfs_shell.specs.declared.outcomes.ShellOutcome.{ShellOutcome}
 use Rattle.xfs_shell.specs.declared.outcomes.ShellOutcome.TheVariants as outcome
 use Rattle.xfs_shell.specs.declared.running.LineEnd.{LineEnd}
@@ -26,7 +26,7 @@ pub record AreRun {D : Type 0} (size : D → ℕ) (holds : D → Option Image) (
   pub few_writes : (m : ℕ) × (m ≤ k) × (writes new ≡ raised_times m (writes old))
   pub barred : may ≡ false → OnlyReads size holds write_faults writes tells_stops moment may_leave left_since old new
   pub early : k ≡ 0 → OnlyReads size holds write_faults writes tells_stops moment may_leave left_since old new
-  pub kept : tells_stops old → IsKept holds may_leave old → IsKept holds may_leave new
+  pub kept : tells_stops old → IsDurable holds may_leave old → IsDurable holds may_leave new
 
 -- how far a command that was stopped raised the count of writes
 abbrev pub HasStopCount : ℕ → ℕ → Stop → Type 0
@@ -42,12 +42,12 @@ module _ {D : Type 0} (size : D → ℕ) (holds : D → Option Image) (faults wr
     (moment : D → ℕ) (may_leave : D → ℕ → List ℕ → Type 0) (left_since : D → ℕ → Image → Type 0) where
   -- what is kept stays so while the disk is read
   pub kept_reads : (a b : D) → OnlyReads size holds write_faults writes tells_stops moment may_leave left_since a b → tells_stops a
-      → IsKept holds may_leave a → IsKept holds may_leave b
+      → IsDurable holds may_leave a → IsDurable holds may_leave b
   kept_reads a b only told kept = λ image held block bytes may. kept image (sym only.same_contents ∙ held) block bytes (only.leaves told block bytes may)
 
   -- nothing was done
   pub rests : (a : D) → (result : Result Verdict NoMemory)
-      → IsRead size holds faults write_faults reads writes tells_stops moment may_leave left_since a a (stop_of (stopped result))
+      → IsOneRead size holds faults write_faults reads writes tells_stops moment may_leave left_since a a (stop_told (stopped result))
   rests a (Ok verdict) = record {
     cause = (omega arith, omega arith);
     no_write_fault = tt;
@@ -63,8 +63,8 @@ module _ {D : Type 0} (size : D → ℕ) (holds : D → Option Image) (faults wr
 
   -- nothing but a read was done
   pub read_then : (a b : D) → (result : Result Verdict NoMemory)
-      → IsRead size holds faults write_faults reads writes tells_stops moment may_leave left_since a b None
-      → IsRead size holds faults write_faults reads writes tells_stops moment may_leave left_since a b (stop_of (stopped result))
+      → IsOneRead size holds faults write_faults reads writes tells_stops moment may_leave left_since a b None
+      → IsOneRead size holds faults write_faults reads writes tells_stops moment may_leave left_since a b (stop_told (stopped result))
   read_then a b (Ok verdict) read = read
   read_then a b (Err e) read = record { cause = read.cause; no_write_fault = tt; one_read = read.one_read; only_reads = read.only_reads }
 
@@ -76,7 +76,7 @@ module _ {D : Type 0} (size : D → ℕ) (holds : D → Option Image) (faults wr
 
   -- a block was read, and then one was written
   pub read_written : (a b c : D) → (why : Option Stop)
-      → IsRead size holds faults write_faults reads writes tells_stops moment may_leave left_since a b None
+      → IsOneRead size holds faults write_faults reads writes tells_stops moment may_leave left_since a b None
       → IsWritten size holds faults write_faults reads writes tells_stops may_leave true b c why → reads c ≡ reads b → faults c ≡ faults b
       → IsWritten size holds faults write_faults reads writes tells_stops may_leave true a c why
   read_written a b c why read put same_reads same_faults = record {
@@ -89,13 +89,13 @@ module _ {D : Type 0} (size : D → ℕ) (holds : D → Option Image) (faults wr
         subst (λ (f : ℕ). HasStopCause (faults a) f (write_faults a) (write_faults c) why) (sym same_faults)
         (causes_on (faults a) (faults b) (write_faults a) (write_faults b) (write_faults c) why read.cause.0 read.cause.1 from_b);
     one_read = omega (arith, read.one_read, same_reads);
-    one_write = subst (λ (n : ℕ). CountsPut n (writes c) why) read.only_reads.same_writes put.one_write;
+    one_write = subst (λ (n : ℕ). CountsStep n (writes c) why) read.only_reads.same_writes put.one_write;
     kept = λ done told. put.kept done (read.only_reads.tells told);
   }
 
   -- a command that only reads is one
   pub reads_step : (may : Bool) → (a b : D) → (why : Option Stop)
-      → IsRead size holds faults write_faults reads writes tells_stops moment may_leave left_since a b why
+      → IsOneRead size holds faults write_faults reads writes tells_stops moment may_leave left_since a b why
       → IsStep size holds faults write_faults reads writes tells_stops moment may_leave left_since may a b why
   reads_step may a b why read = inl read
 
@@ -166,7 +166,7 @@ module _ {D : Type 0} (size : D → ℕ) (holds : D → Option Image) (faults wr
   stopped_reading : (may : Bool) → (k most : ℕ) → (ended : ShellOutcome) → (a b c : D)
       → AreRun size holds reads writes write_faults tells_stops moment may_leave left_since may k a b
       → k + 1 ≤ most → finished_in ended ≡ k → most_finished most ended ≡ k → written_in ended ≡ 0 → (IsEarly ended → k ≡ 0)
-      → (why : Option Stop) → IsRead size holds faults write_faults reads writes tells_stops moment may_leave left_since b c why
+      → (why : Option Stop) → IsOneRead size holds faults write_faults reads writes tells_stops moment may_leave left_since b c why
       → RunsOver size holds reads writes write_faults tells_stops moment may_leave left_since may most most a c ended
   stopped_reading may k most ended a b c run few finished finished_most none first why read = record {
     same_size = read.only_reads.same_size ∙ run.same_size;

@@ -3,6 +3,6 @@ pub mod Running
 pub mod Steps
 pub mod Sessions
 pub mod Ends
-pub mod Inputs
 pub mod Shells
 pub mod Stops
+pub mod Private

@@ -13,5 +13,5 @@ abbrev pub is_some : List ℕ → Bool
 is_some part = not (length part == 0)
 
 -- the parts between the bytes that cut, without the empty ones
-unfoldable pub parts_of : Cut → List ℕ → List (List ℕ)
-parts_of cut bytes = filter is_some (slice_split (is_cut cut) bytes)
+unfoldable pub line_parts : Cut → List ℕ → List (List ℕ)
+line_parts cut bytes = filter is_some (slice_split (is_cut cut) bytes)

@@ -7,23 +7,23 @@ use Rattle.xfs_geom.specs.Volumes.{Volume}
 use Rattle.xfs_commands.specs.Cursors.{is_quit, saved}
 use Rattle.xfs_commands.specs.Verbs.{accepted, at_place, runs_alone, word_at}
 use Rattle.xfs_commands.specs.Commands.{Session, Effect, Put, does, refuses, bad_command, no_address, addresses, prints, sets}
-use Rattle.xfs_shell.specs.Lines.{parts_of}
+use Rattle.xfs_shell.specs.Lines.{line_parts}
 use Rattle.xfs_objects.specs.Objects.{object_in}
 use Rattle.xfs_commands.specs.declared.commands.Verb.{Verb}
 use Rattle.xfs_commands.specs.declared.commands.Verb.TheVariants.{Addr, Print, Push, Write, Quit}
 use Rattle.xfs_commands.specs.declared.cursor.Verdict.{Verdict}
 use Rattle.xfs_commands.specs.declared.cursor.Verdict.TheVariants as verdict
 use Rattle.xfs_shell.specs.declared.lines.Cut.TheVariants.{Blanks}
-use Rattle.xfs_objects.specs.declared.objects.Place.{Place}
+use Rattle.xfs_objects.specs.declared.objects.ObjectPlace.{ObjectPlace}
 use Rattle.xfs_shell.specs.declared.session.Leave.{Leave}
 
 -- the bytes of the block of the current place
-abbrev pub block_at_place : Image → Option Place → List ℕ
+abbrev pub block_at_place : Image → Option ObjectPlace → List ℕ
 block_at_place image None = []
 block_at_place image (Some place) = block_of image place.block
 
 -- the object at a place, of the bytes of its block
-abbrev pub object_at : Place → List ℕ → List ℕ
+abbrev pub object_at : ObjectPlace → List ℕ → List ℕ
 object_at place block = object_in place.kind place.sector block
 
 abbrev pub runs_addr : Volume → List ℕ → List ℕ → Session → Effect
@@ -64,7 +64,7 @@ abbrev pub restored : Session → Effect → Effect
 restored s e = record e { session = keeping e.verdict s e.session }
 
 -- push: the command behind it is run with the current place on the stack
-abbrev pub pushes : Option Place → (Session → Effect) → Session → Effect
+abbrev pub pushes : Option ObjectPlace → (Session → Effect) → Session → Effect
 pushes None inner s = no_address s
 pushes (Some place) inner s = restored s (inner (saved place s))
 
@@ -142,7 +142,7 @@ extended r e = record {
 unfoldable pub after_line : Volume → Leave → Run → List ℕ → Run
 after_line v leave r line =
     if r.quit then r
-    else extended r (attempts v leave (parts_of Blanks line) (block_at_place r.image r.session.at) r.session)
+    else extended r (attempts v leave (line_parts Blanks line) (block_at_place r.image r.session.at) r.session)
 
 -- nothing was run yet
 abbrev pub begun : Image → Run
@@ -169,4 +169,4 @@ is_quit_words (name ∷ args) = is_quit_verb (accepted name (length args))
 -- how many lines there are up to and with the first that is the command quit
 abbrev pub until_quit : List (List ℕ) → ℕ
 until_quit [] = 0
-until_quit (line ∷ lines) = if is_quit_words (parts_of Blanks line) then 1 else suc (until_quit lines)
+until_quit (line ∷ lines) = if is_quit_words (line_parts Blanks line) then 1 else suc (until_quit lines)

@@ -20,7 +20,7 @@ raised_put None count = count
 raised_put (Some put) count = raised count
 
 -- a command was run, with this effect on an image, and on the disk's count of writes
-pub record IsRun (e : Effect) (image : Image) (verdict : Verdict) (old new : List ℕ) (session : Session) (now : Option Image) (writes writes_now : ℕ) : Type 0 where
+pub record IsRunCommand (e : Effect) (image : Image) (verdict : Verdict) (old new : List ℕ) (session : Session) (now : Option Image) (writes writes_now : ℕ) : Type 0 where
   pub verdict_is : verdict ≡ e.verdict
   pub text_is : new ≡ old ++ e.text
   pub session_is : session ≡ e.session
@@ -39,5 +39,5 @@ Stays e image now stop.NoMemory = now ≡ Some image
 Stays e image now (stop.WriteFault written) = IsWrittenBehind written image (image_after e.put image) now × (count_put e.put 0 ≡ 1)
 
 abbrev pub Outcome : Effect → Image → List ℕ → List ℕ → Session → Option Image → ℕ → ℕ → Result Verdict Stop → Type 0
-Outcome e image old new session now writes writes_now (Ok verdict) = IsRun e image verdict old new session now writes writes_now
+Outcome e image old new session now writes writes_now (Ok verdict) = IsRunCommand e image verdict old new session now writes writes_now
 Outcome e image old new session now writes writes_now (Err stop) = Stays e image now stop

@@ -1,6 +1,7 @@
 -- What a session answers, prints and leaves (xfs_db(8)), one fact for each part that tells.
 use Rattle.std.specs.Prelude.{◌≡◌, ℕ, zero, suc, ◌+◌, ◌-◌, ◌≤◌, ◌<◌, ◌⊎◌, Bool, false, List, [], ◌∷◌, ◌++◌, length, Option, Some, None, Result, Ok, Err}
 use Rattle.std.specs.Option.{ForSome}
+use Rattle.xfs_disk.specs.Counts.{raised_times}
 use Rattle.xfs_disk.specs.Blocks.{Image}
 use Rattle.xfs_disk.specs.Faults.{Rose}
 use Rattle.xfs_disk.specs.Reads.{OnlyReads}
@@ -9,10 +10,10 @@ use Rattle.xfs_geom.specs.Volumes.{Volume}
 use Rattle.xfs_geom.specs.declared.election.ElectFault.{ElectFault}
 use Rattle.xfs_geom.specs.declared.election.ElectFault.TheVariants as fault
 use Rattle.xfs_shell.specs.Ends.{IsPrefixPut}
-use Rattle.xfs_shell.specs.Lines.{parts_of}
+use Rattle.xfs_shell.specs.Lines.{line_parts}
 use Rattle.xfs_shell.specs.Running.{shelled, shelled_first, until_quit}
 use Rattle.xfs_shell.specs.Sessions.{IsWrittenBehind}
-use Rattle.xfs_shell.specs.Steps.{IsKept, raised_times}
+use Rattle.xfs_shell.specs.Steps.{IsDurable}
 use Rattle.xfs_shell.specs.declared.lines.Cut.TheVariants.{LineFeeds}
 use Rattle.xfs_shell.specs.declared.outcomes.ShellOptions.{ShellOptions}
 use Rattle.xfs_shell.specs.declared.outcomes.ShellOutcome.{ShellOutcome}
@@ -41,7 +42,7 @@ outcome_behind k line.OutputFault = OutputFault (k + 1)
 -- the lines of an input that tells them
 abbrev pub input_lines : Option (List ℕ) → Option (List (List ℕ))
 input_lines None = None
-input_lines (Some left) = Some (parts_of LineFeeds left)
+input_lines (Some left) = Some (line_parts LineFeeds left)
 
 -- the lines of a session, where they are told: the commands, or where there is none those of the input
 abbrev pub told_lines : List (List ℕ) → Option (List ℕ) → Option (List (List ℕ))
@@ -103,25 +104,25 @@ HasInput [] left (WriteFault written k) = IsShort left
 HasInput [] left (OutputFault k) = IsShort left
 
 -- what lines leave of the image: that behind the commands that were finished, or after a fault of writing maybe with the next one's block
-abbrev pub Leaves : Volume → Leave → List (List ℕ) → Image → Option Image → ShellOutcome → Type 0
-Leaves v leave lines image now Done = now ≡ Some (shelled v leave lines image).image
-Leaves v leave lines image now (ReadFault k) = now ≡ Some (shelled_first v leave lines image k).image
-Leaves v leave lines image now (WriteFault written k) =
+abbrev pub SessionLeaves : Volume → Leave → List (List ℕ) → Image → Option Image → ShellOutcome → Type 0
+SessionLeaves v leave lines image now Done = now ≡ Some (shelled v leave lines image).image
+SessionLeaves v leave lines image now (ReadFault k) = now ≡ Some (shelled_first v leave lines image k).image
+SessionLeaves v leave lines image now (WriteFault written k) =
     IsWrittenBehind written (shelled_first v leave lines image k).image (shelled_first v leave lines image (k + 1)).image now
-Leaves v leave lines image now (OutputFault k) = now ≡ Some (shelled_first v leave lines image k).image
-Leaves v leave lines image now (NoMemory k) = now ≡ Some (shelled_first v leave lines image k).image
-Leaves v leave lines image now outcome = now ≡ Some image
+SessionLeaves v leave lines image now (OutputFault k) = now ≡ Some (shelled_first v leave lines image k).image
+SessionLeaves v leave lines image now (NoMemory k) = now ≡ Some (shelled_first v leave lines image k).image
+SessionLeaves v leave lines image now outcome = now ≡ Some image
 
 -- how far the disk's count of writes rose: by one for each finished command that writes, and by the block of one that failed to be kept
-abbrev pub CountsWrites : Volume → Leave → List (List ℕ) → Image → ℕ → ℕ → ShellOutcome → Type 0
-CountsWrites v leave lines image writes writes_now Done = writes_now ≡ raised_times (shelled v leave lines image).writes writes
-CountsWrites v leave lines image writes writes_now (ReadFault k) = writes_now ≡ raised_times (shelled_first v leave lines image k).writes writes
-CountsWrites v leave lines image writes writes_now (WriteFault written k) =
+abbrev pub CountsSession : Volume → Leave → List (List ℕ) → Image → ℕ → ℕ → ShellOutcome → Type 0
+CountsSession v leave lines image writes writes_now Done = writes_now ≡ raised_times (shelled v leave lines image).writes writes
+CountsSession v leave lines image writes writes_now (ReadFault k) = writes_now ≡ raised_times (shelled_first v leave lines image k).writes writes
+CountsSession v leave lines image writes writes_now (WriteFault written k) =
     (writes_now ≡ raised_times written (raised_times (shelled_first v leave lines image k).writes writes))
     × ((shelled_first v leave lines image (k + 1)).writes ≡ suc (shelled_first v leave lines image k).writes)
-CountsWrites v leave lines image writes writes_now (OutputFault k) = writes_now ≡ raised_times (shelled_first v leave lines image k).writes writes
-CountsWrites v leave lines image writes writes_now (NoMemory k) = writes_now ≡ raised_times (shelled_first v leave lines image k).writes writes
-CountsWrites v leave lines image writes writes_now outcome = writes_now ≡ writes
+CountsSession v leave lines image writes writes_now (OutputFault k) = writes_now ≡ raised_times (shelled_first v leave lines image k).writes writes
+CountsSession v leave lines image writes writes_now (NoMemory k) = writes_now ≡ raised_times (shelled_first v leave lines image k).writes writes
+CountsSession v leave lines image writes writes_now outcome = writes_now ≡ writes
 
 -- so many of the lines are run, and none of them ended the session
 abbrev pub IsGoing : Volume → Leave → List (List ℕ) → Image → ℕ → Type 0
@@ -137,8 +138,8 @@ Finishes v leave lines image outcome = Unit {0}
 
 -- what lines leave on a disk that tells
 pub record LeavesDisk (v : Volume) (leave : Leave) (lines : List (List ℕ)) (image : Image) (now : Option Image) (writes writes_now : ℕ) (outcome : ShellOutcome) : Type 0 where
-  pub image_is : Leaves v leave lines image now outcome
-  pub writes_are : CountsWrites v leave lines image writes writes_now outcome
+  pub image_is : SessionLeaves v leave lines image now outcome
+  pub writes_are : CountsSession v leave lines image writes writes_now outcome
   pub finished_are : Finishes v leave lines image outcome
 
 -- what lines print: the text of the commands that were finished, or a part of it that has all but the last one's where that could not be put
@@ -152,12 +153,12 @@ Prints v leave lines image before took (NoMemory k) = took ≡ Some (before ++ (
 Prints v leave lines image before took outcome = took ≡ Some before
 
 -- a fault is answered only where its count rose
-abbrev pub HasCause : ℕ → ℕ → ℕ → ℕ → ℕ → ℕ → ℕ → ℕ → ShellOutcome → Type 0
-HasCause reads reads' writes writes' takes takes' puts puts' (ReadFault k) = Rose reads reads'
-HasCause reads reads' writes writes' takes takes' puts puts' (WriteFault written k) = Rose writes writes'
-HasCause reads reads' writes writes' takes takes' puts puts' InputFault = Rose takes takes'
-HasCause reads reads' writes writes' takes takes' puts puts' (OutputFault k) = Rose puts puts'
-HasCause reads reads' writes writes' takes takes' puts puts' other = Unit {0}
+abbrev pub HasSessionCause : ℕ → ℕ → ℕ → ℕ → ℕ → ℕ → ℕ → ℕ → ShellOutcome → Type 0
+HasSessionCause reads reads' writes writes' takes takes' puts puts' (ReadFault k) = Rose reads reads'
+HasSessionCause reads reads' writes writes' takes takes' puts puts' (WriteFault written k) = Rose writes writes'
+HasSessionCause reads reads' writes writes' takes takes' puts puts' InputFault = Rose takes takes'
+HasSessionCause reads reads' writes writes' takes takes' puts puts' (OutputFault k) = Rose puts puts'
+HasSessionCause reads reads' writes writes' takes takes' puts puts' other = Unit {0}
 
 -- how many commands were finished, where the outcome tells
 abbrev pub finished_in : ShellOutcome → ℕ
@@ -205,4 +206,4 @@ pub record RunsOver {D : Type 0} (size : D → ℕ) (holds : D → Option Image)
   pub one_written : written_in outcome ≤ 1
   pub barred : may ≡ false → OnlyReads size holds write_faults writes tells_stops moment may_leave left_since old new
   pub early : IsEarly outcome → OnlyReads size holds write_faults writes tells_stops moment may_leave left_since old new
-  pub kept : IsSynced outcome → tells_stops old → IsKept holds may_leave old → IsKept holds may_leave new
+  pub kept : IsSynced outcome → tells_stops old → IsDurable holds may_leave old → IsDurable holds may_leave new

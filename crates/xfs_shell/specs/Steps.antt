@@ -1,8 +1,8 @@
 -- What a command does to a disk, also to one that tells nothing.
-use Rattle.std.specs.Prelude.{◌≡◌, ℕ, zero, suc, ◌+◌, ◌≤◌, ◌⊎◌, Bool, true, List, Option, Some, None, Result, Ok, Err, slice_get}
+use Rattle.std.specs.Prelude.{◌≡◌, ℕ, ◌+◌, ◌≤◌, ◌⊎◌, Bool, true, List, Option, Some, None, Result, Ok, Err, slice_get}
 use Rattle.std.specs.Option.{ForSome}
 use Rattle.xfs_disk.specs.Blocks.{Image}
-use Rattle.xfs_disk.specs.Counts.{raised}
+use Rattle.xfs_disk.specs.Counts.{raised, raised_times}
 use Rattle.xfs_disk.specs.Faults.{Rose}
 use Rattle.xfs_disk.specs.Reads.{OnlyReads}
 use Rattle.xfs_shell.specs.declared.running.LineEnd.{LineEnd}
@@ -10,19 +10,14 @@ use Rattle.xfs_shell.specs.declared.running.LineEnd.TheVariants as line
 use Rattle.xfs_shell.specs.declared.session.Stop.{Stop}
 use Rattle.xfs_shell.specs.declared.session.Stop.TheVariants as stop
 
--- a count after so many calls that went well
-abbrev pub raised_times : ℕ → ℕ → ℕ
-raised_times zero count = count
-raised_times (suc n) count = raised (raised_times n count)
-
 -- a stop of the machine leaves just what the disk holds, where it tells that
-abbrev pub IsKept : {D : Type 0} → (D → Option Image) → (D → ℕ → List ℕ → Type 0) → D → Type 0
-IsKept holds may_leave disk = ForSome (holds disk) (λ image. (b : ℕ) (v : List ℕ) → may_leave disk b v → slice_get image b ≡ Some v)
+abbrev pub IsDurable : {D : Type 0} → (D → Option Image) → (D → ℕ → List ℕ → Type 0) → D → Type 0
+IsDurable holds may_leave disk = ForSome (holds disk) (λ image. (b : ℕ) (v : List ℕ) → may_leave disk b v → slice_get image b ≡ Some v)
 
 -- what stopped a command, if anything did
-abbrev pub stop_of : {T : Type 0} → Result T Stop → Option Stop
-stop_of (Ok _) = None
-stop_of (Err stop) = Some stop
+abbrev pub stop_told : {T : Type 0} → Result T Stop → Option Stop
+stop_told (Ok _) = None
+stop_told (Err stop) = Some stop
 
 -- what stopped the command of a line; that its lines could not be put did not
 abbrev pub stop_of_line : {T : Type 0} → Result T LineEnd → Option Stop
@@ -45,14 +40,14 @@ IsNoWriteFault (Some (stop.WriteFault written)) = ⊥
 IsNoWriteFault (Some stop.NoMemory) = Unit {0}
 
 -- one block was written, or as many as a fault tells, which are one at most
-abbrev pub CountsPut : ℕ → ℕ → Option Stop → Type 0
-CountsPut before now None = now ≡ raised before
-CountsPut before now (Some stop.ReadFault) = ⊥
-CountsPut before now (Some (stop.WriteFault written)) = (written ≤ 1) × (now ≡ raised_times written before)
-CountsPut before now (Some stop.NoMemory) = ⊥
+abbrev pub CountsStep : ℕ → ℕ → Option Stop → Type 0
+CountsStep before now None = now ≡ raised before
+CountsStep before now (Some stop.ReadFault) = ⊥
+CountsStep before now (Some (stop.WriteFault written)) = (written ≤ 1) × (now ≡ raised_times written before)
+CountsStep before now (Some stop.NoMemory) = ⊥
 
 -- a command that reads at most one block, and writes nothing
-pub record IsRead {D : Type 0} (size : D → ℕ) (holds : D → Option Image) (faults write_faults reads writes : D → ℕ) (tells_stops : D → Type 0)
+pub record IsOneRead {D : Type 0} (size : D → ℕ) (holds : D → Option Image) (faults write_faults reads writes : D → ℕ) (tells_stops : D → Type 0)
     (moment : D → ℕ) (may_leave : D → ℕ → List ℕ → Type 0) (left_since : D → ℕ → Image → Type 0) (old new : D) (stop : Option Stop) : Type 0 where
   pub cause : HasStopCause (faults old) (faults new) (write_faults old) (write_faults new) stop
   pub no_write_fault : IsNoWriteFault stop
@@ -68,12 +63,12 @@ pub record IsWritten {D : Type 0} (size : D → ℕ) (holds : D → Option Image
   pub tells : tells_stops old → tells_stops new
   pub cause : HasStopCause (faults old) (faults new) (write_faults old) (write_faults new) stop
   pub one_read : reads new ≤ reads old + 1
-  pub one_write : CountsPut (writes old) (writes new) stop
-  pub kept : stop ≡ None → tells_stops old → IsKept holds may_leave new
+  pub one_write : CountsStep (writes old) (writes new) stop
+  pub kept : stop ≡ None → tells_stops old → IsDurable holds may_leave new
 
 -- a command reads, or it writes one block, where it may
 abbrev pub IsStep : {D : Type 0} → (D → ℕ) → (D → Option Image) → (D → ℕ) → (D → ℕ) → (D → ℕ) → (D → ℕ) → (D → Type 0) → (D → ℕ)
     → (D → ℕ → List ℕ → Type 0) → (D → ℕ → Image → Type 0) → Bool → D → D → Option Stop → Type 0
 IsStep size holds faults write_faults reads writes tells_stops moment may_leave left_since may old new stop =
-    IsRead size holds faults write_faults reads writes tells_stops moment may_leave left_since old new stop
+    IsOneRead size holds faults write_faults reads writes tells_stops moment may_leave left_since old new stop
     ⊎ IsWritten size holds faults write_faults reads writes tells_stops may_leave may old new stop

@@ -5,7 +5,7 @@ ghost use Rattle.std.specs.Option.{ForSome};
 ghost use Rattle.xfs_geom.specs.Election.{elected};
 ghost use Rattle.xfs_geom.specs.Volumes.{stated_volume, volume_of};
 ghost use Rattle.xfs_shell.specs.Running.{may_write};
-ghost use Rattle.xfs_shell.specs.Shells.{input_lines, leave_of, most_of, told_lines, HasCause, HasElected, HasInput, IsEarly, IsPastElection, LeavesDisk, Prints, RunsOver};
+ghost use Rattle.xfs_shell.specs.Shells.{input_lines, leave_of, most_of, told_lines, HasSessionCause, HasElected, HasInput, IsEarly, IsPastElection, LeavesDisk, Prints, RunsOver};
 ghost use Rattle.xfs_shell.specs.Stops.{HasPassed, StopsBetween};
 
 use crate::input::{InputFault, read_input};
@@ -41,7 +41,7 @@ pub fn shell<D: Disk, S: Source, O: Sink>(
     ensures appends { ForSome (O.took out.old) (λ before. (rest : List ℕ) × (O.took out.new ≡ Some (before ++ rest))) }
     ensures disk { RunsOver D.size D.holds D.reads D.writes D.write_faults D.tells_stops D.moment D.may_leave D.left_since (may_write (leave_of options.now))
         (D.size disk.old + most_of (told_lines options.now.commands (S.left input.old))) (most_of (told_lines options.now.commands (S.left input.old))) disk.old disk.new result }
-    ensures cause { HasCause (D.faults disk.old) (D.faults disk.new) (D.write_faults disk.old) (D.write_faults disk.new)
+    ensures cause { HasSessionCause (D.faults disk.old) (D.faults disk.new) (D.write_faults disk.old) (D.write_faults disk.new)
         (S.faults input.old) (S.faults input.new) (O.faults out.old) (O.faults out.new) result }
 {
     let elected = match elect(alloc, disk) {
@@ -79,7 +79,7 @@ fn run_asked<D: Disk, S: Source, O: Sink>(
     ensures appends { ForSome (O.took out.old) (λ before. (rest : List ℕ) × (O.took out.new ≡ Some (before ++ rest))) }
     ensures disk { RunsOver D.size D.holds D.reads D.writes D.write_faults D.tells_stops D.moment D.may_leave D.left_since (may_write (leave_of options.now))
         (most_of (told_lines options.now.commands (S.left input.old))) (most_of (told_lines options.now.commands (S.left input.old))) disk.old disk.new result }
-    ensures cause { HasCause (D.faults disk.old) (D.faults disk.new) (D.write_faults disk.old) (D.write_faults disk.new)
+    ensures cause { HasSessionCause (D.faults disk.old) (D.faults disk.new) (D.write_faults disk.old) (D.write_faults disk.new)
         (S.faults input.old) (S.faults input.new) (O.faults out.old) (O.faults out.new) result }
 {
     let leave = Leave {
@@ -116,7 +116,7 @@ fn run_input<D: Disk, S: Source, O: Sink>(
     ensures appends { ForSome (O.took out.old) (λ before. (rest : List ℕ) × (O.took out.new ≡ Some (before ++ rest))) }
     ensures disk { RunsOver D.size D.holds D.reads D.writes D.write_faults D.tells_stops D.moment D.may_leave D.left_since (may_write leave)
         (most_of (input_lines (S.left input.old))) (most_of (input_lines (S.left input.old))) disk.old disk.new result }
-    ensures cause { HasCause (D.faults disk.old) (D.faults disk.new) (D.write_faults disk.old) (D.write_faults disk.new)
+    ensures cause { HasSessionCause (D.faults disk.old) (D.faults disk.new) (D.write_faults disk.old) (D.write_faults disk.new)
         (S.faults input.old) (S.faults input.new) (O.faults out.old) (O.faults out.new) result }
 {
     let bytes = match read_input(alloc, input) {

@@ -2,7 +2,7 @@
 
 ghost use Rattle.std.specs.Prelude.{◌≡◌, ℕ, ◌+◌, ◌^◌, ◌≤◌, ◌<◌, ◌++◌, [], length, take, drop, Some, IfOk, IfErr, IfSome};
 ghost use Rattle.std.specs.Option.{ForSome};
-ghost use Rattle.xfs_shell.specs.Inputs.{HasInputCause, IsFilled};
+ghost use Rattle.xfs_shell.specs.Private.Inputs.{HasInputCause, IsFilledBuffer};
 ghost use Rattle.xfs_disk.specs.Faults.{HasCause};
 
 use std::alloc::Global;
@@ -54,7 +54,7 @@ fn read_up_to<S: Source>(alloc: Global, input: &mut S, most: usize) -> Result<Ve
 /// Moves the bytes of the source to the start of a buffer, and says how many there are, or `None` where they fill it.
 fn fill<S: Source>(input: &mut S, buffer: &mut [u8]) -> Result<Option<usize>, Failed>
     ensures within { IfOk result (λ end. IfSome end (λ count. count < length buffer.new)) }
-    ensures filled { IfOk result (λ end. ForSome (S.left input.old) (λ left. IsFilled left buffer.new end)) }
+    ensures filled { IfOk result (λ end. ForSome (S.left input.old) (λ left. IsFilledBuffer left buffer.new end)) }
     ensures cause { HasCause (S.faults input.old) (S.faults input.new) result }
 {
     let mut count = 0;

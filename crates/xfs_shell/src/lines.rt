@@ -1,7 +1,7 @@
 //! Lines, and the words of a line.
 
 ghost use Rattle.std.specs.Prelude.{◌≡◌, IfOk};
-ghost use Rattle.xfs_shell.specs.Lines.{is_cut, parts_of};
+ghost use Rattle.xfs_shell.specs.Lines.{is_cut, line_parts};
 
 use std::alloc::Global;
 use xfs_disk::{NoMemory, Word};
@@ -29,7 +29,7 @@ impl Cut {
 
 /// The parts between the bytes that cut, without the empty ones.
 pub(crate) fn parts(alloc: Global, cut: Cut, bytes: &[u8]) -> Result<Vec<Word>, NoMemory>
-    ensures { IfOk result (λ parts. parts.items ≡ parts_of cut bytes.now) }
+    ensures { IfOk result (λ parts. parts.items ≡ line_parts cut bytes.now) }
 {
     let mut parts = Vec::new(alloc);
     let mut part = Vec::new(alloc);

@@ -6,12 +6,12 @@ ghost use Rattle.xfs_geom.specs.Volumes.{volume_of};
 ghost use Rattle.xfs_commands.specs.Commands.{session_of, IsWithin};
 ghost use Rattle.xfs_commands.specs.Cursors.{is_quit};
 ghost use Rattle.xfs_shell.specs.Running.{attempts, block_at_place, image_after, is_quit_words, may_write, until_quit};
-ghost use Rattle.xfs_shell.specs.Lines.{parts_of};
+ghost use Rattle.xfs_shell.specs.Lines.{line_parts};
 ghost use Rattle.xfs_shell.specs.Sessions.{Outcome};
-ghost use Rattle.xfs_shell.specs.Steps.{stop_of, stop_of_line, IsStep};
+ghost use Rattle.xfs_shell.specs.Steps.{stop_told, stop_of_line, IsStep};
 ghost use Rattle.xfs_shell.specs.Stops.{HasPassed, Passes};
 ghost use Rattle.xfs_shell.specs.Ends.{HasCounts, HasLineCause, IsHalted, LeavesLine, PrintsLine};
-ghost use Rattle.xfs_shell.specs.Shells.{outcome_behind, stopped_outcome, HasCause, IsEarly, IsOfLines, LeavesDisk, Prints, RunsOver};
+ghost use Rattle.xfs_shell.specs.Shells.{outcome_behind, stopped_outcome, HasSessionCause, IsEarly, IsOfLines, LeavesDisk, Prints, RunsOver};
 ghost use Rattle.xfs_shell.specs.declared.lines.Cut.TheVariants as Cut;
 
 use crate::lines::{Cut, parts};
@@ -68,10 +68,10 @@ fn run_line<D: Disk>(
     requires inside { geometry.now.dblocks ≤ D.size disk.old }
     requires within { IsWithin geometry.now.dblocks (session_of cursor.old) }
     ensures within { IsWithin geometry.now.dblocks (session_of cursor.new) }
-    ensures outcome { ForSome (D.holds disk.old) (λ image. Outcome (attempts (volume_of geometry.now) leave (parts_of Cut.Blanks line.now) (block_at_place image (session_of cursor.old).at) (session_of cursor.old)) image text.old.items text.new.items (session_of cursor.new) (D.holds disk.new) (D.writes disk.old) (D.writes disk.new) result) }
-    ensures passes { ForSome (D.holds disk.old) (λ image. Passes D.holds D.tells_stops D.moment D.may_leave D.left_since image (image_after (attempts (volume_of geometry.now) leave (parts_of Cut.Blanks line.now) (block_at_place image (session_of cursor.old).at) (session_of cursor.old)).put image) disk.old disk.new) }
-    ensures disk { IsStep D.size D.holds D.faults D.write_faults D.reads D.writes D.tells_stops D.moment D.may_leave D.left_since (may_write leave) disk.old disk.new (stop_of result) }
-    ensures quits { is_quit_words (parts_of Cut.Blanks line.now) ≡ true → IfOk result (λ verdict. is_quit verdict ≡ true) }
+    ensures outcome { ForSome (D.holds disk.old) (λ image. Outcome (attempts (volume_of geometry.now) leave (line_parts Cut.Blanks line.now) (block_at_place image (session_of cursor.old).at) (session_of cursor.old)) image text.old.items text.new.items (session_of cursor.new) (D.holds disk.new) (D.writes disk.old) (D.writes disk.new) result) }
+    ensures passes { ForSome (D.holds disk.old) (λ image. Passes D.holds D.tells_stops D.moment D.may_leave D.left_since image (image_after (attempts (volume_of geometry.now) leave (line_parts Cut.Blanks line.now) (block_at_place image (session_of cursor.old).at) (session_of cursor.old)).put image) disk.old disk.new) }
+    ensures disk { IsStep D.size D.holds D.faults D.write_faults D.reads D.writes D.tells_stops D.moment D.may_leave D.left_since (may_write leave) disk.old disk.new (stop_told result) }
+    ensures quits { is_quit_words (line_parts Cut.Blanks line.now) ≡ true → IfOk result (λ verdict. is_quit verdict ≡ true) }
 {
     let words = match parts(alloc, Cut::Blanks, line) {
         Ok(words) => words,
@@ -93,13 +93,13 @@ fn run_and_put<D: Disk, O: Sink>(
     requires inside { geometry.now.dblocks ≤ D.size disk.old }
     requires within { IsWithin geometry.now.dblocks (session_of cursor.old) }
     ensures within { IsWithin geometry.now.dblocks (session_of cursor.new) }
-    ensures image { ForSome (D.holds disk.old) (λ image. LeavesLine (attempts (volume_of geometry.now) leave (parts_of Cut.Blanks line.now) (block_at_place image (session_of cursor.old).at) (session_of cursor.old)) image (session_of cursor.new) (D.holds disk.new) (D.writes disk.old) (D.writes disk.new) result) }
-    ensures text { ForSome (D.holds disk.old) (λ image. ForSome (O.took out.old) (λ before. PrintsLine (attempts (volume_of geometry.now) leave (parts_of Cut.Blanks line.now) (block_at_place image (session_of cursor.old).at) (session_of cursor.old)) before (O.took out.new) result)) }
+    ensures image { ForSome (D.holds disk.old) (λ image. LeavesLine (attempts (volume_of geometry.now) leave (line_parts Cut.Blanks line.now) (block_at_place image (session_of cursor.old).at) (session_of cursor.old)) image (session_of cursor.new) (D.holds disk.new) (D.writes disk.old) (D.writes disk.new) result) }
+    ensures text { ForSome (D.holds disk.old) (λ image. ForSome (O.took out.old) (λ before. PrintsLine (attempts (volume_of geometry.now) leave (line_parts Cut.Blanks line.now) (block_at_place image (session_of cursor.old).at) (session_of cursor.old)) before (O.took out.new) result)) }
     ensures silent { IsHalted result → O.took out.new ≡ O.took out.old }
     ensures appends { ForSome (O.took out.old) (λ before. (rest : List ℕ) × (O.took out.new ≡ Some (before ++ rest))) }
-    ensures passes { ForSome (D.holds disk.old) (λ image. Passes D.holds D.tells_stops D.moment D.may_leave D.left_since image (image_after (attempts (volume_of geometry.now) leave (parts_of Cut.Blanks line.now) (block_at_place image (session_of cursor.old).at) (session_of cursor.old)).put image) disk.old disk.new) }
+    ensures passes { ForSome (D.holds disk.old) (λ image. Passes D.holds D.tells_stops D.moment D.may_leave D.left_since image (image_after (attempts (volume_of geometry.now) leave (line_parts Cut.Blanks line.now) (block_at_place image (session_of cursor.old).at) (session_of cursor.old)).put image) disk.old disk.new) }
     ensures disk { IsStep D.size D.holds D.faults D.write_faults D.reads D.writes D.tells_stops D.moment D.may_leave D.left_since (may_write leave) disk.old disk.new (stop_of_line result) }
-    ensures quits { is_quit_words (parts_of Cut.Blanks line.now) ≡ true → IfOk result (λ verdict. is_quit verdict ≡ true) }
+    ensures quits { is_quit_words (line_parts Cut.Blanks line.now) ≡ true → IfOk result (λ verdict. is_quit verdict ≡ true) }
     ensures counts { HasCounts (D.faults disk.old) (D.faults disk.new) (D.write_faults disk.old) (D.write_faults disk.new) (O.faults out.old) (O.faults out.new) }
     ensures cause { HasLineCause (D.faults disk.old) (D.faults disk.new) (D.write_faults disk.old) (D.write_faults disk.new) (O.faults out.old) (O.faults out.new) result }
 {
@@ -131,7 +131,7 @@ pub(crate) fn run_lines<D: Disk, O: Sink>(
     ensures appends { ForSome (O.took out.old) (λ before. (rest : List ℕ) × (O.took out.new ≡ Some (before ++ rest))) }
     ensures stops { ForSome (D.holds disk.old) (λ image. HasPassed D.holds D.tells_stops D.moment D.may_leave D.left_since (volume_of geometry.now) leave lines.now image disk.old disk.new) }
     ensures disk { RunsOver D.size D.holds D.reads D.writes D.write_faults D.tells_stops D.moment D.may_leave D.left_since (may_write leave) (until_quit lines.now) (until_quit lines.now) disk.old disk.new result }
-    ensures cause { (takes takes_now : ℕ) → HasCause (D.faults disk.old) (D.faults disk.new) (D.write_faults disk.old) (D.write_faults disk.new) takes takes_now (O.faults out.old) (O.faults out.new) result }
+    ensures cause { (takes takes_now : ℕ) → HasSessionCause (D.faults disk.old) (D.faults disk.new) (D.write_faults disk.old) (D.write_faults disk.new) takes takes_now (O.faults out.old) (O.faults out.new) result }
 {
     let mut cursor = Cursor {
         at: None,

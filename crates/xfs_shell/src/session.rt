@@ -9,7 +9,7 @@ ghost use Rattle.xfs_commands.specs.Verbs.{accepted};
 ghost use Rattle.xfs_shell.specs.Running.{attempts, block_at_place, image_after, is_push, is_push_verb, is_quit_verb, is_quit_words, pushes_in, may_write, runs, runs_addr, runs_first, runs_named, runs_placeless, runs_print, sets_here, writes};
 ghost use Rattle.xfs_shell.specs.Sessions.{stopped, IsWrittenBehind, Outcome};
 ghost use Rattle.xfs_shell.specs.Stops.{Passes};
-ghost use Rattle.xfs_shell.specs.Steps.{stop_of, IsRead, IsStep, IsWritten};
+ghost use Rattle.xfs_shell.specs.Steps.{stop_told, IsOneRead, IsStep, IsWritten};
 
 use std::alloc::Global;
 use xfs_commands::{
@@ -17,7 +17,7 @@ use xfs_commands::{
 };
 use xfs_disk::{BLOCK_SIZE, Disk, Failed, NoMemory, Word};
 use xfs_geom::Geometry;
-use xfs_objects::Place;
+use xfs_objects::ObjectPlace;
 
 /// What the user may do.
 #[derive(Clone, Copy, Debug, PartialEq, Eq)]
@@ -38,7 +38,7 @@ pub(crate) enum Stop {
 }
 
 /// The outcome of a command that reads and writes nothing.
-fn settled(outcome: Result<Verdict, NoMemory>) -> Result<Verdict, Stop>
+fn or_stop(outcome: Result<Verdict, NoMemory>) -> Result<Verdict, Stop>
     ensures { result ≡ stopped outcome }
 {
     match outcome {
@@ -65,14 +65,14 @@ fn run_verb<D: Disk>(
     ensures within { IsWithin geometry.now.dblocks (session_of cursor.new) }
     ensures outcome { ForSome (D.holds disk.old) (λ image. Outcome (runs (volume_of geometry.now) leave verb name.now arguments.now (block_at_place image (session_of cursor.old).at) (session_of cursor.old)) image text.old.items text.new.items (session_of cursor.new) (D.holds disk.new) (D.writes disk.old) (D.writes disk.new) result) }
     ensures passes { ForSome (D.holds disk.old) (λ image. Passes D.holds D.tells_stops D.moment D.may_leave D.left_since image (image_after (runs (volume_of geometry.now) leave verb name.now arguments.now (block_at_place image (session_of cursor.old).at) (session_of cursor.old)).put image) disk.old disk.new) }
-    ensures disk { IsStep D.size D.holds D.faults D.write_faults D.reads D.writes D.tells_stops D.moment D.may_leave D.left_since (may_write leave) disk.old disk.new (stop_of result) }
+    ensures disk { IsStep D.size D.holds D.faults D.write_faults D.reads D.writes D.tells_stops D.moment D.may_leave D.left_since (may_write leave) disk.old disk.new (stop_told result) }
     ensures quits { is_quit_verb (Some verb) ≡ true → IfOk result (λ verdict. is_quit verdict ≡ true) }
 {
     match verb {
         Verb::Addr => run_addr(alloc, disk, geometry, cursor, word_at(arguments, 0), text),
         Verb::Print => run_print(alloc, disk, cursor, arguments, text),
         Verb::Write => run_write(alloc, disk, leave, cursor, arguments, text),
-        _ => settled(run_alone(text, geometry, cursor, verb, name, arguments)),
+        _ => or_stop(run_alone(text, geometry, cursor, verb, name, arguments)),
     }
 }
 
@@ -90,10 +90,10 @@ fn run_addr<D: Disk>(
     requires within { IsWithin geometry.now.dblocks (session_of cursor.old) }
     ensures within { IsWithin geometry.now.dblocks (session_of cursor.new) }
     ensures outcome { ForSome (D.holds disk.old) (λ image. Outcome (runs_addr (volume_of geometry.now) word.now (block_at_place image (session_of cursor.old).at) (session_of cursor.old)) image text.old.items text.new.items (session_of cursor.new) (D.holds disk.new) (D.writes disk.old) (D.writes disk.new) result) }
-    ensures disk { IsRead D.size D.holds D.faults D.write_faults D.reads D.writes D.tells_stops D.moment D.may_leave D.left_since disk.old disk.new (stop_of result) }
+    ensures disk { IsOneRead D.size D.holds D.faults D.write_faults D.reads D.writes D.tells_stops D.moment D.may_leave D.left_since disk.old disk.new (stop_told result) }
 {
     let Some(place) = cursor.at else {
-        return settled(refuse(text, "no address\n"));
+        return or_stop(refuse(text, "no address\n"));
     };
     let mut block = [0; BLOCK_SIZE];
     match read_block(disk, place.block, &mut block) {
@@ -101,7 +101,7 @@ fn run_addr<D: Disk>(
         Err(stop) => return Err(stop),
     }
     let object = place.kind.object(place.sector, &block);
-    settled(go_along(alloc, text, geometry, cursor, place, object, word))
+    or_stop(go_along(alloc, text, geometry, cursor, place, object, word))
 }
 
 /// Prints items of the current object.
@@ -115,10 +115,10 @@ fn run_print<D: Disk>(
 ) -> Result<Verdict, Stop>
     requires within { IsWithin (D.size disk.old) (session_of cursor.now) }
     ensures outcome { ForSome (D.holds disk.old) (λ image. Outcome (runs_print arguments.now (block_at_place image (session_of cursor.now).at) (session_of cursor.now)) image text.old.items text.new.items (session_of cursor.now) (D.holds disk.new) (D.writes disk.old) (D.writes disk.new) result) }
-    ensures disk { IsRead D.size D.holds D.faults D.write_faults D.reads D.writes D.tells_stops D.moment D.may_leave D.left_since disk.old disk.new (stop_of result) }
+    ensures disk { IsOneRead D.size D.holds D.faults D.write_faults D.reads D.writes D.tells_stops D.moment D.may_leave D.left_since disk.old disk.new (stop_told result) }
 {
     let Some(place) = cursor.at else {
-        return settled(refuse(text, "no address\n"));
+        return or_stop(refuse(text, "no address\n"));
     };
     let mut block = [0; BLOCK_SIZE];
     match read_block(disk, place.block, &mut block) {
@@ -126,7 +126,7 @@ fn run_print<D: Disk>(
         Err(stop) => return Err(stop),
     }
     let object = place.kind.object(place.sector, &block);
-    settled(print(alloc, text, cursor, place.kind, object, arguments))
+    or_stop(print(alloc, text, cursor, place.kind, object, arguments))
 }
 
 /// Writes a number into the current object, where that is allowed.
@@ -142,13 +142,13 @@ fn run_write<D: Disk>(
     requires within { IsWithin (D.size disk.old) (session_of cursor.now) }
     ensures outcome { ForSome (D.holds disk.old) (λ image. Outcome (writes leave (block_at_place image (session_of cursor.now).at) arguments.now (session_of cursor.now)) image text.old.items text.new.items (session_of cursor.now) (D.holds disk.new) (D.writes disk.old) (D.writes disk.new) result) }
     ensures passes { ForSome (D.holds disk.old) (λ image. Passes D.holds D.tells_stops D.moment D.may_leave D.left_since image (image_after (writes leave (block_at_place image (session_of cursor.now).at) arguments.now (session_of cursor.now)).put image) disk.old disk.new) }
-    ensures disk { IsStep D.size D.holds D.faults D.write_faults D.reads D.writes D.tells_stops D.moment D.may_leave D.left_since (may_write leave) disk.old disk.new (stop_of result) }
+    ensures disk { IsStep D.size D.holds D.faults D.write_faults D.reads D.writes D.tells_stops D.moment D.may_leave D.left_since (may_write leave) disk.old disk.new (stop_told result) }
 {
     if !leave.expert {
-        return settled(refuse(text, "write: needs -x\n"));
+        return or_stop(refuse(text, "write: needs -x\n"));
     }
     if leave.read_only {
-        return settled(refuse(text, "write: read-only\n"));
+        return or_stop(refuse(text, "write: read-only\n"));
     }
     run_set(alloc, disk, cursor, arguments, text)
 }
@@ -165,10 +165,10 @@ fn run_set<D: Disk>(
     requires within { IsWithin (D.size disk.old) (session_of cursor.now) }
     ensures outcome { ForSome (D.holds disk.old) (λ image. Outcome (sets_here (block_at_place image (session_of cursor.now).at) arguments.now (session_of cursor.now)) image text.old.items text.new.items (session_of cursor.now) (D.holds disk.new) (D.writes disk.old) (D.writes disk.new) result) }
     ensures passes { ForSome (D.holds disk.old) (λ image. Passes D.holds D.tells_stops D.moment D.may_leave D.left_since image (image_after (sets_here (block_at_place image (session_of cursor.now).at) arguments.now (session_of cursor.now)).put image) disk.old disk.new) }
-    ensures disk { IsStep D.size D.holds D.faults D.write_faults D.reads D.writes D.tells_stops D.moment D.may_leave D.left_since true disk.old disk.new (stop_of result) }
+    ensures disk { IsStep D.size D.holds D.faults D.write_faults D.reads D.writes D.tells_stops D.moment D.may_leave D.left_since true disk.old disk.new (stop_told result) }
 {
     let Some(place) = cursor.at else {
-        return settled(refuse(text, "no address\n"));
+        return or_stop(refuse(text, "no address\n"));
     };
     let mut block = [0; BLOCK_SIZE];
     match read_block(disk, place.block, &mut block) {
@@ -196,7 +196,7 @@ fn read_block<D: Disk>(disk: &mut D, at: u64, block: &mut [u8]) -> Result<(), St
     requires whole { length block.old ≡ 4096 }
     ensures bytes { OnOk result (ForSome (D.holds disk.old) (λ image. slice_get image at ≡ Some block.new)) }
     ensures fault { IfErr result (λ stop. stop ≡ Stop.ReadFault) }
-    ensures disk { IsRead D.size D.holds D.faults D.write_faults D.reads D.writes D.tells_stops D.moment D.may_leave D.left_since disk.old disk.new (stop_of result) }
+    ensures disk { IsOneRead D.size D.holds D.faults D.write_faults D.reads D.writes D.tells_stops D.moment D.may_leave D.left_since disk.old disk.new (stop_told result) }
 {
     match disk.read(at, block) {
         Ok(()) => Ok(()),
@@ -213,7 +213,7 @@ fn put_block<D: Disk>(disk: &mut D, at: u64, block: &[u8]) -> Result<(), Stop>
         IsWrittenBehind written image (slice_set image at block.now) (D.holds disk.new))) }
     ensures reads { D.reads disk.new ≡ D.reads disk.old }
     ensures passes { ForSome (D.holds disk.old) (λ image. Passes D.holds D.tells_stops D.moment D.may_leave D.left_since image (slice_set image at block.now) disk.old disk.new) }
-    ensures disk { IsWritten D.size D.holds D.faults D.write_faults D.reads D.writes D.tells_stops D.may_leave true disk.old disk.new (stop_of result) }
+    ensures disk { IsWritten D.size D.holds D.faults D.write_faults D.reads D.writes D.tells_stops D.may_leave true disk.old disk.new (stop_told result) }
 {
     match disk.write(at, block) {
         Ok(()) => {}
@@ -241,7 +241,7 @@ fn run_command<D: Disk>(
     ensures within { IsWithin geometry.now.dblocks (session_of cursor.new) }
     ensures outcome { ForSome (D.holds disk.old) (λ image. Outcome (runs_first (volume_of geometry.now) leave words.now (block_at_place image (session_of cursor.old).at) (session_of cursor.old)) image text.old.items text.new.items (session_of cursor.new) (D.holds disk.new) (D.writes disk.old) (D.writes disk.new) result) }
     ensures passes { ForSome (D.holds disk.old) (λ image. Passes D.holds D.tells_stops D.moment D.may_leave D.left_since image (image_after (runs_first (volume_of geometry.now) leave words.now (block_at_place image (session_of cursor.old).at) (session_of cursor.old)).put image) disk.old disk.new) }
-    ensures disk { IsStep D.size D.holds D.faults D.write_faults D.reads D.writes D.tells_stops D.moment D.may_leave D.left_since (may_write leave) disk.old disk.new (stop_of result) }
+    ensures disk { IsStep D.size D.holds D.faults D.write_faults D.reads D.writes D.tells_stops D.moment D.may_leave D.left_since (may_write leave) disk.old disk.new (stop_told result) }
     ensures quits { is_quit_words words.now ≡ true → IfOk result (λ verdict. is_quit verdict ≡ true) }
 {
     let Some((name, arguments)) = words.split_first() else {
@@ -276,14 +276,14 @@ fn run_named<D: Disk>(
     ensures within { IsWithin geometry.now.dblocks (session_of cursor.new) }
     ensures outcome { ForSome (D.holds disk.old) (λ image. Outcome (runs_named (volume_of geometry.now) leave (accepted name.now (length arguments.now)) name.now arguments.now (block_at_place image (session_of cursor.old).at) (session_of cursor.old)) image text.old.items text.new.items (session_of cursor.new) (D.holds disk.new) (D.writes disk.old) (D.writes disk.new) result) }
     ensures passes { ForSome (D.holds disk.old) (λ image. Passes D.holds D.tells_stops D.moment D.may_leave D.left_since image (image_after (runs_named (volume_of geometry.now) leave (accepted name.now (length arguments.now)) name.now arguments.now (block_at_place image (session_of cursor.old).at) (session_of cursor.old)).put image) disk.old disk.new) }
-    ensures disk { IsStep D.size D.holds D.faults D.write_faults D.reads D.writes D.tells_stops D.moment D.may_leave D.left_since (may_write leave) disk.old disk.new (stop_of result) }
+    ensures disk { IsStep D.size D.holds D.faults D.write_faults D.reads D.writes D.tells_stops D.moment D.may_leave D.left_since (may_write leave) disk.old disk.new (stop_told result) }
     ensures quits { is_quit_verb (accepted name.now (length arguments.now)) ≡ true → IfOk result (λ verdict. is_quit verdict ≡ true) }
 {
     match Verb::accepted(name, arguments.len()) {
         Some(verb) => run_verb(
             alloc, disk, geometry, leave, cursor, verb, name, arguments, text,
         ),
-        None => settled(refuse_word(text, "bad command: ", name)),
+        None => or_stop(refuse_word(text, "bad command: ", name)),
     }
 }
 
@@ -303,7 +303,7 @@ pub(crate) fn run_words<D: Disk>(
     ensures within { IsWithin geometry.now.dblocks (session_of cursor.new) }
     ensures outcome { ForSome (D.holds disk.old) (λ image. Outcome (attempts (volume_of geometry.now) leave words.now (block_at_place image (session_of cursor.old).at) (session_of cursor.old)) image text.old.items text.new.items (session_of cursor.new) (D.holds disk.new) (D.writes disk.old) (D.writes disk.new) result) }
     ensures passes { ForSome (D.holds disk.old) (λ image. Passes D.holds D.tells_stops D.moment D.may_leave D.left_since image (image_after (attempts (volume_of geometry.now) leave words.now (block_at_place image (session_of cursor.old).at) (session_of cursor.old)).put image) disk.old disk.new) }
-    ensures disk { IsStep D.size D.holds D.faults D.write_faults D.reads D.writes D.tells_stops D.moment D.may_leave D.left_since (may_write leave) disk.old disk.new (stop_of result) }
+    ensures disk { IsStep D.size D.holds D.faults D.write_faults D.reads D.writes D.tells_stops D.moment D.may_leave D.left_since (may_write leave) disk.old disk.new (stop_told result) }
     ensures quits { is_quit_words words.now ≡ true → IfOk result (λ verdict. is_quit verdict ≡ true) }
 {
     match cursor.at {
@@ -328,11 +328,11 @@ fn run_placeless<D: Disk>(
     ensures within { IsWithin geometry.now.dblocks (session_of cursor.new) }
     ensures outcome { ForSome (D.holds disk.old) (λ image. Outcome (runs_placeless (volume_of geometry.now) leave words.now (block_at_place image (session_of cursor.old).at) (session_of cursor.old)) image text.old.items text.new.items (session_of cursor.new) (D.holds disk.new) (D.writes disk.old) (D.writes disk.new) result) }
     ensures passes { ForSome (D.holds disk.old) (λ image. Passes D.holds D.tells_stops D.moment D.may_leave D.left_since image (image_after (runs_placeless (volume_of geometry.now) leave words.now (block_at_place image (session_of cursor.old).at) (session_of cursor.old)).put image) disk.old disk.new) }
-    ensures disk { IsStep D.size D.holds D.faults D.write_faults D.reads D.writes D.tells_stops D.moment D.may_leave D.left_since (may_write leave) disk.old disk.new (stop_of result) }
+    ensures disk { IsStep D.size D.holds D.faults D.write_faults D.reads D.writes D.tells_stops D.moment D.may_leave D.left_since (may_write leave) disk.old disk.new (stop_told result) }
     ensures quits { is_quit_words words.now ≡ true → IfOk result (λ verdict. is_quit verdict ≡ true) }
 {
     if is_push(words) {
-        return settled(refuse(text, "no address\n"));
+        return or_stop(refuse(text, "no address\n"));
     }
     run_command(alloc, disk, geometry, leave, cursor, words, text)
 }
@@ -345,7 +345,7 @@ fn run_behind<D: Disk>(
     geometry: &Geometry,
     leave: Leave,
     cursor: &mut Cursor,
-    place: Place,
+    place: ObjectPlace,
     words: &[Word],
     text: &mut Vec<u8>,
 ) -> Result<Verdict, Stop>
@@ -355,7 +355,7 @@ fn run_behind<D: Disk>(
     ensures within { IsWithin geometry.now.dblocks (session_of cursor.new) }
     ensures outcome { ForSome (D.holds disk.old) (λ image. Outcome (attempts (volume_of geometry.now) leave words.now (block_at_place image (session_of cursor.old).at) (session_of cursor.old)) image text.old.items text.new.items (session_of cursor.new) (D.holds disk.new) (D.writes disk.old) (D.writes disk.new) result) }
     ensures passes { ForSome (D.holds disk.old) (λ image. Passes D.holds D.tells_stops D.moment D.may_leave D.left_since image (image_after (attempts (volume_of geometry.now) leave words.now (block_at_place image (session_of cursor.old).at) (session_of cursor.old)).put image) disk.old disk.new) }
-    ensures disk { IsStep D.size D.holds D.faults D.write_faults D.reads D.writes D.tells_stops D.moment D.may_leave D.left_since (may_write leave) disk.old disk.new (stop_of result) }
+    ensures disk { IsStep D.size D.holds D.faults D.write_faults D.reads D.writes D.tells_stops D.moment D.may_leave D.left_since (may_write leave) disk.old disk.new (stop_told result) }
     ensures quits { is_quit_words words.now ≡ true → IfOk result (λ verdict. is_quit verdict ≡ true) }
 {
     let kept = cursor.stack.as_slice().len();
@@ -376,7 +376,7 @@ fn run_behind<D: Disk>(
         Ok(verdict) => verdict,
         Err(stop) => return Err(stop),
     };
-    cursor.settle(verdict, kept);
+    cursor.drop_refused(verdict, kept);
     Ok(verdict)
 }
 

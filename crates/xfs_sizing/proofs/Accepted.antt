@@ -10,10 +10,10 @@ use Rattle.xfs_geom.specs.Features.{FeatureWord, feature_words, first_departure,
 use Rattle.xfs_geom.specs.First.{first_false}
 use Rattle.xfs_geom.specs.Fixed.{fixed_fault}
 use Rattle.xfs_geom.specs.Shape.{IsShaped}
-use Rattle.xfs_geom.specs.Stated.{stated, log_of, parts_fault, place_fault}
+use Rattle.xfs_geom.specs.Stated.{stated, stated_log, parts_fault, first_place_fault}
 use Rattle.xfs_geom.specs.Superblocks.{super_seal, progress_fault, feature_fault, shape_fault, super_fault}
 use Rattle.xfs_geom.specs.Volumes.{Volume, stated_volume}
-use Rattle.xfs_geom.specs.Writing.{IsAccepted}
+use Rattle.xfs_geom.specs.Writing.{IsAcceptedSector}
 use Rattle.xfs_geom.specs.declared.reading.SuperFault.{SuperFault}
 use Rattle.xfs_geom.specs.declared.reading.SuperFault.TheVariants.{NotSealed}
 use Rattle.xfs_geom.specs.declared.stated.Stated.{Stated}
@@ -221,8 +221,8 @@ parts_hold v new =
     (both_true (both_true (both_true (both_true (le-leb _ _ log.large) (le-leb _ _ log.small)) (lt-ltb _ _ log.group)) (le-leb _ _ log.behind))
     (le-leb _ _ log.inside)))
 
-pub place_holds : (v : Volume) → IsNew v → place_fault (new_stated v) 0 v.dblocks ≡ None
-unfolding place_fault new_stated
+pub place_holds : (v : Volume) → IsNew v → first_place_fault (new_stated v) 0 v.dblocks ≡ None
+unfolding first_place_fault new_stated
 place_holds v new =
     let groups = new.shape.groups in
     let addresses = new.shape.addresses in
@@ -244,7 +244,7 @@ all_pass s p f x y z hs hp hf hx hy hz = rw (hs, hp, hf, hx, hy, hz) refl
 progress : (s : List ℕ) → field_of s 126 1 ≡ 0 → progress_fault 0 s ≡ None
 progress s h = rw h refl
 
-pub accepted : (v : Volume) (s : List ℕ) → IsNew v → HasAll v s → IsTrue (is_sealed super_seal s) → IsAccepted s
+pub accepted : (v : Volume) (s : List ℕ) → IsNew v → HasAll v s → IsTrue (is_sealed super_seal s) → IsAcceptedSector s
 unfolding super_fault
 accepted v s new h sealed =
     record {
@@ -256,7 +256,7 @@ accepted v s new h sealed =
           (ap feature_fault (no_feature v s new h))
           (ap shape_fault (no_fixed v s h))
           (ap shape_fault (ap parts_fault (states v s h) ∙ parts_hold v new))
-          (ap shape_fault (ap (λ (n : Stated). place_fault n 0 v.dblocks) (states v s h) ∙ place_holds v new));
+          (ap shape_fault (ap (λ (n : Stated). first_place_fault n 0 v.dblocks) (states v s h) ∙ place_holds v new));
     }
 
 -- it states the volume
@@ -264,13 +264,13 @@ pub volume_stated : (v : Volume) (s : List ℕ) → IsNew v → HasAll v s → p
 unfolding new_stated
 volume_stated v s new h uuid =
     let is = states v s h in
-    let log : log_of (new_stated v) ≡ v.log = block_of v v.log new.shape.groups.large new.shape.addresses.enough in
+    let log : stated_log (new_stated v) ≡ v.log = block_of v v.log new.shape.groups.large new.shape.addresses.enough in
     λ i. record {
       dblocks = (is i).dblocks;
       agblocks = (is i).agblocks;
       agcount = (is i).agcount;
       agblklog = (is i).agblklog;
-      log = (ap log_of is ∙ log) i;
+      log = (ap stated_log is ∙ log) i;
       logblocks = (is i).logblocks;
       rootino = (is i).rootino;
       logsectlog = (ap (λ (n : Stated). n.logsectlog) is ∙ sym new.no_sectors) i;

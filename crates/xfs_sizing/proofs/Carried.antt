@@ -2,7 +2,7 @@
 use Rattle.std.proofs.Common.{◌≡◌, ℕ, ◌+◌, ◌-◌, ◌≤◌, inl, inr, List, length, replicate, arith, refl, ◌∙◌, IsTrue}
 use Rattle.xfs_geom.specs.Superblocks.{super_seal}
 use Rattle.xfs_geom.specs.Volumes.{Volume}
-use Rattle.xfs_word.specs.Field.{part_of, Keeps, KeepsParts}
+use Rattle.xfs_word.specs.Field.{part_of, KeepsBeside, KeepsParts}
 use Rattle.xfs_word.specs.Seal.{is_sealed}
 use Rattle.xfs_sizing.specs.Supers.{HasLabel, HasNumbers, IsNewSuper, place_numbers, part_numbers, size_numbers, counter_numbers, feature_numbers}
 use Rattle.xfs_sizing.proofs.Accepted.{HasAll}
@@ -11,7 +11,7 @@ use Rattle.xfs_sizing.proofs.Numbers.{part_of_zeros, still}
 -- all numbers stand once the features are written
 pub all_stand : (v : Volume) (s1 s2 s3 s4 s5 : List ℕ) → HasNumbers s1 (place_numbers v) → HasNumbers s2 (part_numbers v)
     → HasNumbers s3 (size_numbers v) → HasNumbers s4 counter_numbers → HasNumbers s5 feature_numbers
-    → Keeps s1 s2 56 44 → Keeps s2 s3 100 28 → Keeps s3 s4 128 52 → Keeps s4 s5 180 84 → HasAll v s5
+    → KeepsBeside s1 s2 56 44 → KeepsBeside s2 s3 100 28 → KeepsBeside s3 s4 128 52 → KeepsBeside s4 s5 180 84 → HasAll v s5
 all_stand v s1 s2 s3 s4 s5 places parts sizes counters features keeps2 keeps3 keeps4 keeps5 =
     record {
       places =
@@ -27,7 +27,7 @@ all_stand v s1 s2 s3 s4 s5 places parts sizes counters features keeps2 keeps3 ke
     }
 
 -- a seal changes none of them
-pub all_sealed : (v : Volume) (s t : List ℕ) → Keeps s t 224 4 → HasAll v s → HasAll v t
+pub all_sealed : (v : Volume) (s t : List ℕ) → KeepsBeside s t 224 4 → HasAll v s → HasAll v t
 all_sealed v s t keeps h =
     record {
       places = still s t 224 4 (place_numbers v) keeps refl h.places;

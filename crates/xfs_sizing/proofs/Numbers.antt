@@ -4,7 +4,7 @@ use Rattle.std.proofs.lemmas.Bool.{leb-true}
 use Rattle.std.proofs.lemmas.List.{take-replicate, drop-replicate}
 use Rattle.std.specs.List.{list_all}
 use Rattle.xfs_geom.proofs.Votes.{left, right}
-use Rattle.xfs_word.specs.Field.{field_of, part_of, Beside, Keeps}
+use Rattle.xfs_word.specs.Field.{field_of, part_of, Beside, KeepsBeside}
 use Rattle.xfs_sizing.specs.Supers.{HasNumbers, Number}
 
 -- the bytes of a number lie beside some others
@@ -20,7 +20,7 @@ beside at width n h =
     elim (either (leb (n.offset + n.width) at) (leb (at + width) n.offset) h) [ inl p ↦ inl (leb-true _ _ p) | inr p ↦ inr (leb-true _ _ p) ]
 
 -- numbers beside a write stay
-pub still : (old new : List ℕ) (at width : ℕ) (ns : List Number) → Keeps old new at width
+pub still : (old new : List ℕ) (at width : ℕ) (ns : List Number) → KeepsBeside old new at width
     → list_all (lies_beside at width) ns ≡ true → HasNumbers old ns → HasNumbers new ns
 still old new at width [] keeps all has = tt
 still old new at width (n ∷ ns) keeps all has = (

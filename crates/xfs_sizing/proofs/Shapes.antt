@@ -5,9 +5,9 @@ use Rattle.std.proofs.lemmas.Bool.{leb-true, le-leb, eqb-true}
 use Rattle.xfs_geom.proofs.LogPlace.{place_of_block}
 use Rattle.xfs_geom.proofs.Votes.{left, right}
 use Rattle.xfs_geom.specs.Groups.{blocks_of_group}
-use Rattle.xfs_geom.specs.Shape.{HasAddresses, HasGroups, HasLog, HasRoot, IsShaped, is_apart}
-use Rattle.xfs_sizing.specs.Sizes.{has_log, parts}
-use Rattle.xfs_sizing.specs.declared.sizes.Groups.{Groups}
+use Rattle.xfs_geom.specs.Shape.{HasAddresses, HasGroups, HasLog, HasRoot, IsShaped, is_off_log}
+use Rattle.xfs_sizing.specs.Sizes.{has_log_room, parts}
+use Rattle.xfs_sizing.specs.declared.sizes.GroupSizes.{GroupSizes}
 
 -- so many parts of a size hold all blocks
 pub parts_cover : (d s : ℕ) → 1 ≤ s → d ≤ parts d s * s
@@ -57,16 +57,16 @@ new_root d w n b log l large two enough behind =
     or_true : (a b : Bool) → a ≡ true → (a || b) ≡ true
     or_true a b h = rw h refl
 
-    before : (log l : ℕ) → 1030 ≤ log → IsTrue (is_apart (0 * w + 16) log l)
+    before : (log l : ℕ) → 1030 ≤ log → IsTrue (is_off_log (0 * w + 16) log l)
     before log l low = or_true (leb (0 * w + 16 + 4) log) _ (le-leb _ _ (omega arith))
 
 -- the three bounds of the log
-pub record IsLogBound (g : Groups) (d l : ℕ) : Type 0 where
+pub record IsLogBound (g : GroupSizes) (d l : ℕ) : Type 0 where
   pub large : 512 ≤ l
   pub small : l ≤ 521728
   pub inside : 6 + l + 64 ≤ blocks_of_group d g.size g.count (g.count / 2)
 
-pub log_bound : (g : Groups) (d l : ℕ) → IsTrue (has_log g d l) → IsLogBound g d l
+pub log_bound : (g : GroupSizes) (d l : ℕ) → IsTrue (has_log_room g d l) → IsLogBound g d l
 log_bound g d l h =
     let first = left _ (leb (6 + l + 64) (blocks_of_group d g.size g.count (g.count / 2))) h in
     record {
@@ -76,7 +76,7 @@ log_bound g d l h =
     }
 
 -- the log at AG block 6 of the middle group
-pub new_log : (g : Groups) (d l : ℕ) → HasGroups d g.size g.count → IsTrue (has_log g d l)
+pub new_log : (g : GroupSizes) (d l : ℕ) → HasGroups d g.size g.count → IsTrue (has_log_room g d l)
     → HasLog d g.size g.count (g.count / 2 * g.size + 6) l
 new_log g d l groups h =
     let bound = log_bound g d l h in
@@ -90,7 +90,7 @@ log_behind n w two large =
     let most : 1 * w ≤ n / 2 * w = mul-le-mul_right w one in
     omega arith
 
-pub new_shape : (g : Groups) (d b l : ℕ) → HasGroups d g.size g.count → HasAddresses g.size b → IsTrue (has_log g d l)
+pub new_shape : (g : GroupSizes) (d b l : ℕ) → HasGroups d g.size g.count → HasAddresses g.size b → IsTrue (has_log_room g d l)
     → IsShaped d g.size g.count b (g.count / 2 * g.size + 6) l 128 0
 new_shape g d b l groups addresses log =
     record {

@@ -3,7 +3,7 @@
 ghost use Rattle.std.specs.Prelude.{◌≡◌, ℕ, ◌+◌, ◌-◌, ◌*◌, ◌/◌, ◌^◌, ◌≤◌, ◌<◌, IsTrue, Some, None, IfErr, IfOk, IfSome};
 ghost use Rattle.xfs_geom.specs.Groups.{blocks_of_group};
 ghost use Rattle.xfs_geom.specs.Shape.{HasAddresses, HasGroups};
-ghost use Rattle.xfs_sizing.specs.Sizes.{IsChosen, groups_by, has_log, has_room, kernel_log, log_blocks, of_size, so_many, too_small, where_kept};
+ghost use Rattle.xfs_sizing.specs.Sizes.{IsChosenGeometry, groups_by, has_log_room, has_room, kernel_log, log_blocks, of_size, so_many, too_small, where_kept};
 
 use crate::asked::Asked;
 use xfs_geom::Geometry;
@@ -47,7 +47,7 @@ const MOST_BITS: u8 = 26;
 
 /// The allocation groups of a volume: the blocks of each, but the last may have fewer, and how many they are.
 #[derive(Clone, Copy, Debug)]
-pub struct Groups {
+pub struct GroupSizes {
     pub size: u64,
     pub count: u64,
 }
@@ -58,7 +58,7 @@ pub struct Groups {
 pub fn choose(asked: &Asked, blocks: u64, uuid: [u8; 16]) -> Result<Geometry, u8>
     ensures refused { IfErr result (λ what. too_small asked.now blocks ≡ Some what) }
     ensures fits { IfOk result (λ g. too_small asked.now blocks ≡ None) }
-    ensures chosen { IfOk result (λ g. IsChosen asked.now blocks uuid g) }
+    ensures chosen { IfOk result (λ g. IsChosenGeometry asked.now blocks uuid g) }
 {
     let dblocks = asked.blocks.unwrap_or(blocks);
     if dblocks > blocks || dblocks > MOST_BLOCKS {
@@ -68,16 +68,16 @@ pub fn choose(asked: &Asked, blocks: u64, uuid: [u8; 16]) -> Result<Geometry, u8
         return Err(2);
     };
     let logblocks = log_blocks(asked.logblocks, &groups, dblocks);
-    if !has_log(&groups, dblocks, logblocks) {
+    if !has_log_room(&groups, dblocks, logblocks) {
         return Err(3);
     }
     Ok(geometry(dblocks, &groups, logblocks, uuid))
 }
 
 /// The geometry of a volume of these groups and this log.
-fn geometry(dblocks: u64, groups: &Groups, logblocks: u64, uuid: [u8; 16]) -> Geometry
+fn geometry(dblocks: u64, groups: &GroupSizes, logblocks: u64, uuid: [u8; 16]) -> Geometry
     requires groups { HasGroups dblocks groups.now.size groups.now.count }
-    requires log { IsTrue (has_log groups.now dblocks logblocks) }
+    requires log { IsTrue (has_log_room groups.now dblocks logblocks) }
     ensures dblocks { result.dblocks ≡ dblocks }
     ensures agblocks { result.agblocks ≡ groups.now.size }
     ensures agcount { result.agcount ≡ groups.now.count }
@@ -101,7 +101,7 @@ fn geometry(dblocks: u64, groups: &Groups, logblocks: u64, uuid: [u8; 16]) -> Ge
 }
 
 /// The groups of a volume of so many blocks, where they keep their bounds.
-fn split(size: Option<u64>, count: Option<u64>, dblocks: u64) -> Option<Groups>
+fn split(size: Option<u64>, count: Option<u64>, dblocks: u64) -> Option<GroupSizes>
     requires { dblocks ≤ 2 ^ 26 }
     ensures value { result ≡ where_kept (groups_by size count dblocks) dblocks }
     ensures kept { IfSome result (λ g. HasGroups dblocks g.size g.count) }
@@ -112,8 +112,8 @@ fn split(size: Option<u64>, count: Option<u64>, dblocks: u64) -> Option<Groups>
     }
 }
 
-/// Groups of so many blocks, where these and their number keep their bounds.
-fn split_by_size(dblocks: u64, size: u64) -> Option<Groups>
+/// GroupSizes of so many blocks, where these and their number keep their bounds.
+fn split_by_size(dblocks: u64, size: u64) -> Option<GroupSizes>
     requires { dblocks ≤ 2 ^ 26 }
     ensures value { result ≡ where_kept (of_size dblocks size) dblocks }
     ensures kept { IfSome result (λ g. HasGroups dblocks g.size g.count) }
@@ -122,11 +122,11 @@ fn split_by_size(dblocks: u64, size: u64) -> Option<Groups>
         return None;
     }
     let count = (dblocks + size - 1) / size;
-    keep_groups(Groups { size, count }, dblocks)
+    keep_groups(GroupSizes { size, count }, dblocks)
 }
 
 /// So many groups, where their number and their blocks keep their bounds.
-fn split_by_count(dblocks: u64, count: u64) -> Option<Groups>
+fn split_by_count(dblocks: u64, count: u64) -> Option<GroupSizes>
     requires { dblocks ≤ 2 ^ 26 }
     ensures value { result ≡ where_kept (so_many dblocks count) dblocks }
     ensures kept { IfSome result (λ g. HasGroups dblocks g.size g.count) }
@@ -135,18 +135,18 @@ fn split_by_count(dblocks: u64, count: u64) -> Option<Groups>
         return None;
     }
     let size = (dblocks + count - 1) / count;
-    keep_groups(Groups { size, count }, dblocks)
+    keep_groups(GroupSizes { size, count }, dblocks)
 }
 
 /// The groups, where they keep their bounds.
-fn keep_groups(groups: Groups, dblocks: u64) -> Option<Groups>
+fn keep_groups(groups: GroupSizes, dblocks: u64) -> Option<GroupSizes>
     requires few { dblocks ≤ 2 ^ 26 }
     requires size { groups.size ≤ 2 ^ 26 }
     requires covered { dblocks ≤ groups.count * groups.size }
     ensures value { result ≡ where_kept groups dblocks }
     ensures kept { IfSome result (λ g. HasGroups dblocks g.size g.count) }
 {
-    let Groups { size, count } = groups;
+    let GroupSizes { size, count } = groups;
     if count < LEAST_GROUPS || count > MOST_GROUPS || size < LEAST_GROUP_BLOCKS {
         return None;
     }
@@ -157,7 +157,7 @@ fn keep_groups(groups: Groups, dblocks: u64) -> Option<Groups>
 }
 
 /// The blocks of the log: those that are asked for, or else as many as the volume and kernels say.
-fn log_blocks(asked: Option<u64>, groups: &Groups, dblocks: u64) -> u64
+fn log_blocks(asked: Option<u64>, groups: &GroupSizes, dblocks: u64) -> u64
     requires { HasGroups dblocks groups.now.size groups.now.count }
     ensures { result ≡ log_blocks asked groups.now dblocks }
 {
@@ -166,7 +166,7 @@ fn log_blocks(asked: Option<u64>, groups: &Groups, dblocks: u64) -> u64
 }
 
 /// The blocks of a log that kernels ask for, or 0 where groups are too small for kernels or for this log.
-fn kernel_log(groups: &Groups, dblocks: u64) -> u64
+fn kernel_log(groups: &GroupSizes, dblocks: u64) -> u64
     requires { HasGroups dblocks groups.now.size groups.now.count }
     ensures { result ≡ kernel_log groups.now dblocks }
 {
@@ -178,7 +178,7 @@ fn kernel_log(groups: &Groups, dblocks: u64) -> u64
 }
 
 /// The log's group has 64 blocks behind it.
-fn has_room(groups: &Groups, dblocks: u64, logblocks: u64) -> bool
+fn has_room(groups: &GroupSizes, dblocks: u64, logblocks: u64) -> bool
     requires groups { HasGroups dblocks groups.now.size groups.now.count }
     requires log { logblocks ≤ 521728 }
     ensures { result ≡ has_room groups.now dblocks logblocks }
@@ -187,9 +187,9 @@ fn has_room(groups: &Groups, dblocks: u64, logblocks: u64) -> bool
 }
 
 /// The log has 512 to 521,728 blocks, and its group has room for it.
-fn has_log(groups: &Groups, dblocks: u64, logblocks: u64) -> bool
+fn has_log_room(groups: &GroupSizes, dblocks: u64, logblocks: u64) -> bool
     requires { HasGroups dblocks groups.now.size groups.now.count }
-    ensures { result ≡ has_log groups.now dblocks logblocks }
+    ensures { result ≡ has_log_room groups.now dblocks logblocks }
 {
     if logblocks < LEAST_LOG || logblocks > MOST_LOG {
         return false;
@@ -198,7 +198,7 @@ fn has_log(groups: &Groups, dblocks: u64, logblocks: u64) -> bool
 }
 
 /// The blocks of a group: the last has what is left of the volume.
-fn group_blocks(groups: &Groups, dblocks: u64, group: u64) -> u64
+fn group_blocks(groups: &GroupSizes, dblocks: u64, group: u64) -> u64
     requires inside { group < groups.now.count }
     requires bounds { HasGroups dblocks groups.now.size groups.now.count }
     ensures { result ≡ blocks_of_group dblocks groups.now.size groups.now.count group }

@@ -1,11 +1,11 @@
 //! The superblock of a new volume (chapter "Superblocks").
 
 ghost use Rattle.std.specs.Prelude.{◌≡◌, ℕ, ◌+◌, ◌-◌, ◌≤◌, ◌<◌, ◌^◌, length, replicate, IsTrue};
-ghost use Rattle.xfs_word.specs.Field.{Keeps, KeepsParts, part_of};
+ghost use Rattle.xfs_word.specs.Field.{KeepsBeside, KeepsParts, part_of};
 ghost use Rattle.xfs_word.specs.Seal.{is_ready, is_sealed};
 ghost use Rattle.xfs_geom.specs.Superblocks.{super_seal};
 ghost use Rattle.xfs_geom.specs.Volumes.{stated_volume, volume_of};
-ghost use Rattle.xfs_geom.specs.Writing.{IsAccepted};
+ghost use Rattle.xfs_geom.specs.Writing.{IsAcceptedSector};
 ghost use Rattle.xfs_sizing.specs.Supers.{HasLabel, HasNumbers, IsNewSuper, counter_numbers, feature_numbers, part_numbers, place_numbers, size_numbers};
 
 use xfs_geom::Geometry;
@@ -18,7 +18,7 @@ pub fn put_super(g: &Geometry, label: &[u8], sector: &mut [u8; 512])
     requires no_sectors { g.now.logsectlog ≡ 0 }
     requires low { g.now.rootino < 2 ^ 32 }
     ensures fields { IsNewSuper (volume_of g.now) label.now sector.new }
-    ensures accepted { IsAccepted sector.new }
+    ensures accepted { IsAcceptedSector sector.new }
     ensures states { stated_volume sector.new ≡ volume_of g.now }
 {
     *sector = [0; SECTOR_SIZE];
@@ -35,7 +35,7 @@ fn put_places(g: &Geometry, sector: &mut [u8])
     requires sector { length sector.old ≡ 512 }
     ensures numbers { HasNumbers sector.new (place_numbers (volume_of g.now)) }
     ensures uuid { part_of sector.new 32 16 ≡ g.now.uuid }
-    ensures keeps { Keeps sector.old sector.new 0 56 }
+    ensures keeps { KeepsBeside sector.old sector.new 0 56 }
     ensures keeps_parts { KeepsParts sector.old sector.new 0 56 }
 {
     MAGICNUM.write(sector, 0x5846_5342);
@@ -52,7 +52,7 @@ fn put_parts(g: &Geometry, sector: &mut [u8])
     requires sector { length sector.old ≡ 512 }
     requires low { g.now.rootino < 2 ^ 32 }
     ensures numbers { HasNumbers sector.new (part_numbers (volume_of g.now)) }
-    ensures keeps { Keeps sector.old sector.new 56 44 }
+    ensures keeps { KeepsBeside sector.old sector.new 56 44 }
     ensures keeps_parts { KeepsParts sector.old sector.new 56 44 }
 {
     ROOTINO.write(sector, g.rootino);
@@ -72,7 +72,7 @@ fn put_sizes(g: &Geometry, label: &[u8], sector: &mut [u8])
     requires blank { part_of sector.old (108 + length label.now) (12 - length label.now) ≡ replicate (12 - length label.now) 0 }
     ensures numbers { HasNumbers sector.new (size_numbers (volume_of g.now)) }
     ensures label { HasLabel label.now sector.new }
-    ensures keeps { Keeps sector.old sector.new 100 28 }
+    ensures keeps { KeepsBeside sector.old sector.new 100 28 }
     ensures keeps_parts { KeepsParts sector.old sector.new 100 28 }
 {
     VERSIONNUM.write(sector, 0xb4a5);
@@ -94,7 +94,7 @@ fn put_sizes(g: &Geometry, label: &[u8], sector: &mut [u8])
 fn put_counters(sector: &mut [u8])
     requires sector { length sector.old ≡ 512 }
     ensures numbers { HasNumbers sector.new counter_numbers }
-    ensures keeps { Keeps sector.old sector.new 128 52 }
+    ensures keeps { KeepsBeside sector.old sector.new 128 52 }
     ensures keeps_parts { KeepsParts sector.old sector.new 128 52 }
 {
     ICOUNT.write(sector, 0);
@@ -113,7 +113,7 @@ fn put_features(sector: &mut [u8])
     requires sector { length sector.old ≡ 512 }
     ensures numbers { HasNumbers sector.new feature_numbers }
     ensures no_uuid { part_of sector.new 248 16 ≡ replicate 16 0 }
-    ensures keeps { Keeps sector.old sector.new 180 84 }
+    ensures keeps { KeepsBeside sector.old sector.new 180 84 }
     ensures keeps_parts { KeepsParts sector.old sector.new 180 84 }
 {
     INOALIGNMT.write(sector, 8);
@@ -140,7 +140,7 @@ fn seal_super(sector: &mut [u8])
     requires sector { length sector.old ≡ 512 }
     requires ready { IsTrue (is_ready super_seal sector.old) }
     ensures sealed { IsTrue (is_sealed super_seal sector.new) }
-    ensures keeps { Keeps sector.old sector.new 224 4 }
+    ensures keeps { KeepsBeside sector.old sector.new 224 4 }
     ensures keeps_parts { KeepsParts sector.old sector.new 224 4 }
 {
     let what = Seal {

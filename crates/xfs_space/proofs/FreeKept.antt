@@ -3,11 +3,12 @@ use Rattle.std.proofs.Common.{◌≡◌, ℕ, zero, suc, Bool, true, false, ◌+
 use Rattle.std.specs.List.{All}
 use Rattle.std.proofs.lemmas.Bool.{and_parts, eq-eqb, eqb-true, ltb-true, true≢false}
 use Rattle.std.proofs.lemmas.List.Elements.{All-cons, All-head, All-nil, All-tail}
+use Rattle.xfs_geom.specs.Runs.{runs_on}
 use Rattle.xfs_geom.specs.Conversions.{group_length}
 use Rattle.xfs_geom.specs.Volumes.{Volume}
 use Rattle.xfs_geom.specs.declared.records.Run.{Run}
 use Rattle.xfs_geom.specs.declared.records.Span.{Span}
-use Rattle.xfs_kinds.specs.FreeRuns.{runs_of, span, with_block}
+use Rattle.xfs_kinds.specs.FreeRuns.{runs_where, span, with_free_block}
 use Rattle.xfs_kinds.specs.FreeTrees.{begins_behind, bno_shape, cnt_shape, is_free_run, ranks_behind}
 use Rattle.xfs_kinds.specs.Groups.{lies_in_group}
 use Rattle.xfs_kinds.specs.Spans.{fits_span}
@@ -15,7 +16,7 @@ use Rattle.xfs_volume.specs.declared.findings.Law.{Law}
 use Rattle.xfs_volume.specs.declared.groups.GroupRec.{GroupRec}
 use Rattle.xfs_volume.specs.Laws.{first_broken, first_difference}
 use Rattle.xfs_space.specs.Parts.{AreGroups}
-use Rattle.xfs_space.specs.SpaceLaws.{AllAreFree, by_length, free_laws, free_spans, is_shorter, put_by_length, runs_on, span_number, spans_at}
+use Rattle.xfs_space.specs.SpaceLaws.{AllAreFree, by_length, free_laws, free_spans, is_shorter, put_by_length, span_number, spans_at}
 use Rattle.xfs_volume.proofs.First.{first_empty}
 use Rattle.xfs_space.proofs.Broken.{first_here, first_next}
 use Rattle.xfs_space.proofs.Lawful.{each_lawful}
@@ -72,7 +73,7 @@ itself (x ∷ xs) = let same : (x == x) ≡ true = eq-eqb x x refl in rw same (i
 abbrev EndsIn : ℕ → Span → Type 0
 EndsIn end s = s.start + s.count ≤ end
 
-with_ends : (b end : ℕ) (ss : List Span) → b + 1 ≤ end → All (EndsIn end) ss → All (EndsIn end) (with_block b ss)
+with_ends : (b end : ℕ) (ss : List Span) → b + 1 ≤ end → All (EndsIn end) ss → All (EndsIn end) (with_free_block b ss)
 with_ends b end [] h all = All-cons (EndsIn end) (span b 1) [] h (All-nil (EndsIn end))
 with_ends b end (s ∷ ss) h all = by_case (s.start == b + 1) refl
   where
@@ -83,12 +84,12 @@ with_ends b end (s ∷ ss) h all = by_case (s.start == b + 1) refl
         All-cons (EndsIn end) (span b (s.count + 1)) ss (omega (arith, start, here)) (All-tail (EndsIn end) s ss all)
     by_case false e = All-cons (EndsIn end) (span b 1) (s ∷ ss) h all
 
-runs_end : (test : ℕ → Bool) (b n end : ℕ) → b + n ≡ end → All (EndsIn end) (runs_of test b n)
+runs_end : (test : ℕ → Bool) (b n end : ℕ) → b + n ≡ end → All (EndsIn end) (runs_where test b n)
 runs_end test b zero end e = All-nil (EndsIn end)
 runs_end test b (suc n) end e = by_case (test b) (runs_end test (b + 1) n end (omega (arith, e)))
   where
-    by_case : (t : Bool) → All (EndsIn end) (runs_of test (b + 1) n) → All (EndsIn end) (if t then with_block b (runs_of test (b + 1) n) else runs_of test (b + 1) n)
-    by_case true rest = with_ends b end (runs_of test (b + 1) n) (omega (arith, e)) rest
+    by_case : (t : Bool) → All (EndsIn end) (runs_where test (b + 1) n) → All (EndsIn end) (if t then with_free_block b (runs_where test (b + 1) n) else runs_where test (b + 1) n)
+    by_case true rest = with_ends b end (runs_where test (b + 1) n) (omega (arith, e)) rest
     by_case false rest = rest
 
 free_small : (v : Volume) (runs : List Run) (ag : ℕ) → group_length v ag ≤ 2 ^ 26 → All IsSmall (free_spans v runs ag)
@@ -96,7 +97,7 @@ unfolding free_spans
 free_small v runs ag small = λ k d less.
     let none : 0 + group_length v ag ≡ group_length v ag = omega arith in
     let test = λ (block : ℕ). runs_on runs (ag * v.agblocks + block) == 0 in
-    let s = get_or (runs_of test 0 (group_length v ag)) k d in
+    let s = get_or (runs_where test 0 (group_length v ag)) k d in
     let end : s.start + s.count ≤ group_length v ag = runs_end test 0 (group_length v ag) (group_length v ag) none k d less in
     let m : IsSmall s = record { start = omega (arith, end, small); count = omega (arith, end, small) } in
     m

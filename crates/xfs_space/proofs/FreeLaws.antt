@@ -3,6 +3,7 @@ use Rattle.std.proofs.Common.{◌≡◌, ◌≢◌, ℕ, true, ◌+◌, ◌*◌,
 use Rattle.std.specs.List.{All}
 use Rattle.std.proofs.lemmas.Bool.Decides.{nat_tests}
 use Rattle.std.proofs.lemmas.List.Elements.{All-tail}
+use Rattle.xfs_geom.specs.Runs.{runs_on}
 use Rattle.xfs_geom.specs.Volumes.{Volume}
 use Rattle.xfs_geom.specs.declared.records.Run.{Run}
 use Rattle.xfs_geom.specs.declared.records.Span.{Span}
@@ -10,7 +11,7 @@ use Rattle.xfs_kinds.specs.MergedRuns.{held_at}
 use Rattle.xfs_volume.specs.declared.findings.Law.{Law}
 use Rattle.xfs_volume.specs.declared.groups.GroupRec.{GroupRec}
 use Rattle.xfs_volume.specs.Laws.{first_broken, first_difference, law_at}
-use Rattle.xfs_space.specs.SpaceLaws.{by_length, free_laws, free_spans, runs_on, span_number, spans_at}
+use Rattle.xfs_space.specs.SpaceLaws.{by_length, free_laws, free_spans, span_number, spans_at}
 use Rattle.xfs_space.specs.Sorted.{Follow, IsOfOneGroup, IsSplit}
 use Rattle.xfs_volume.proofs.First.{first_behind, first_empty, first_in}
 use Rattle.xfs_space.proofs.Broken.{first_here, first_next}

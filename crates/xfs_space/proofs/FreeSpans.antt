@@ -4,27 +4,29 @@ use Rattle.std.specs.List.{All}
 use Rattle.std.proofs.lemmas.Bool.{eqb-true}
 use Rattle.std.proofs.lemmas.Bool.Decides.{nat_tests}
 use Rattle.std.proofs.lemmas.List.Elements.{All-head, All-tail}
+use Rattle.xfs_geom.specs.Runs.{covers, runs_on}
+use Rattle.xfs_disk.specs.Lists.{is_in_range}
 use Rattle.xfs_geom.specs.Conversions.{group_length}
 use Rattle.xfs_geom.specs.Volumes.{Volume}
 use Rattle.xfs_geom.specs.declared.records.Run.{Run}
-use Rattle.xfs_kinds.specs.FreeRuns.{Ascend, is_block, is_in, is_free, free_of, runs_of}
-use Rattle.xfs_space.specs.SpaceLaws.{covers, free_spans, runs_on}
+use Rattle.xfs_kinds.specs.FreeRuns.{SpansAscend, is_in_spans, is_outside_spans, free_of, runs_where}
+use Rattle.xfs_space.specs.SpaceLaws.{free_spans}
 use Rattle.xfs_space.specs.Sorted.{Follow, span_in}
 use Rattle.xfs_space.proofs.Shared.{on-cons}
 use Rattle.xfs_space.proofs.Splits.{StartsFrom, all_behind}
 
 -- runs of a group ascend as AG blocks
-pub ascends : (base n low : ℕ) (rs : List Run) → n + base ≤ low → Follow low rs → Ascend n (map (span_in base) rs)
+pub ascends : (base n low : ℕ) (rs : List Run) → n + base ≤ low → Follow low rs → SpansAscend n (map (span_in base) rs)
 ascends base n low [] h follow = tt
 ascends base n low (r ∷ rs) h follow =
     (omega (arith, h, follow.0), ascends base (r.start - base + r.count) (r.start + r.count) rs (omega (arith, h, follow.0)) follow.2)
 
 -- an AG block is in them where a run has the block
-pub used_is : (base : ℕ) (rs : List Run) (b : ℕ) → All (StartsFrom base) rs → is_in (map (span_in base) rs) b ≡ not (runs_on rs (base + b) == 0)
+pub used_is : (base : ℕ) (rs : List Run) (b : ℕ) → All (StartsFrom base) rs → is_in_spans (map (span_in base) rs) b ≡ not (runs_on rs (base + b) == 0)
 used_is base [] b starts = refl
 used_is base (r ∷ rs) b starts =
     let start : base ≤ r.start = All-head (StartsFrom base) r rs starts in
-    let same : is_block (r.start - base) r.count b ≡ covers (base + b) r = grind (arith, nat_tests, start) in
+    let same : is_in_range (r.start - base) r.count b ≡ covers (base + b) r = grind (arith, nat_tests, start) in
     let count : runs_on (r ∷ rs) (base + b) ≡ cond (covers (base + b) r) 1 0 + runs_on rs (base + b) = on-cons r rs (base + b) in
     ap₂ ◌||◌ same (used_is base rs b (All-tail (StartsFrom base) r rs starts)) ∙ either (covers (base + b) r) (runs_on rs (base + b)) ∙ ap (λ (n : ℕ). not (n == 0)) (sym count)
   where
@@ -33,7 +35,7 @@ used_is base (r ∷ rs) b starts =
     either false n = let same : 0 + n ≡ n = omega arith in rw same refl
 
 -- tests that agree on the blocks that are asked have the same runs
-pub runs_within : (p q : ℕ → Bool) (b n : ℕ) → ((c : ℕ) → b ≤ c → c < b + n → p c ≡ q c) → runs_of p b n ≡ runs_of q b n
+pub runs_within : (p q : ℕ → Bool) (b n : ℕ) → ((c : ℕ) → b ≤ c → c < b + n → p c ≡ q c) → runs_where p b n ≡ runs_where q b n
 runs_within p q b zero same = refl
 runs_within p q b (suc n) same =
     let first = same b (omega arith) (omega arith) in
@@ -50,7 +52,7 @@ unfolding free_of free_spans
 free_is v ag rs follow =
     let base = ag * v.agblocks in
     let starts = all_behind rs base base follow (omega arith) in
-    runs_within (is_free (map (span_in base) rs)) (λ b. runs_on rs (base + b) == 0) 0 (group_length v ag)
+    runs_within (is_outside_spans (map (span_in base) rs)) (λ b. runs_on rs (base + b) == 0) 0 (group_length v ag)
     (λ b low high. ap not (used_is base rs b starts) ∙ not_not (runs_on rs (base + b) == 0))
 
 -- runs that agree on the blocks of a group leave the same blocks free

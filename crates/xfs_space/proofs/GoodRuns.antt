@@ -5,6 +5,7 @@ use Rattle.std.proofs.Math.Nat.{mul-le-mul_right}
 use Rattle.std.proofs.lemmas.Bool.{and_parts, cases_lt, leb-true, ltb-true}
 use Rattle.std.proofs.lemmas.Nat.{div-add-mod'}
 use Rattle.std.proofs.lemmas.List.Elements.{All-append, All-cons, All-head, All-map, All-nil, All-tail}
+use Rattle.xfs_kinds.specs.Owners.{clusters_owner, group_owner, headers_owner, inode_trees_owner, log_owner}
 use Rattle.xfs_word.specs.declared.extents.Extent.{Extent}
 use Rattle.xfs_geom.specs.Conversions.{group_length, is_fixed}
 use Rattle.xfs_geom.specs.Groups.{ag_block_of_address, group_of_address}
@@ -14,13 +15,13 @@ use Rattle.xfs_geom.specs.declared.records.InoRec.{InoRec}
 use Rattle.xfs_geom.specs.declared.records.Run.{Run}
 use Rattle.xfs_heads.specs.Heads.{is_listable}
 use Rattle.xfs_kinds.specs.Groups.{lies_in_group}
-use Rattle.xfs_kinds.specs.InodeTrees.{ascends_inode, fits_chunk, has_count, ino_shape, is_chunk, is_clear, is_first_inode}
+use Rattle.xfs_kinds.specs.InodeTrees.{ascends_inode, fits_chunk, has_count, ino_shape, is_chunk, is_chunk_clear, is_first_inode}
 use Rattle.xfs_volume.specs.declared.files.FileRec.{FileRec}
 use Rattle.xfs_volume.specs.declared.groups.GroupRec.{GroupRec}
 use Rattle.xfs_volume.specs.declared.groups.TreeBlocks.{TreeBlocks}
-use Rattle.xfs_space.specs.Owners.{attribute_flag, blocks_of, cluster_run, cluster_runs, clusters_of, clusters_owner, different, extent_run, extent_word, file_runs, group_owner, group_runs, groups_runs, headers_owner, inode_trees_owner, listed_run, log_owner, owned_runs, run, tree_flag, tree_owners, tree_runs, unwritten_flag}
-use Rattle.xfs_space.specs.Parts.{AreGroups, AreOfGroup, IsFile, IsGroup}
-use Rattle.xfs_space.specs.Places.{IsPlaced}
+use Rattle.xfs_space.specs.Owners.{attribute_flag, runs_of_blocks, cluster_run, cluster_runs, clusters_of_chunk, different, extent_run, extent_word, file_runs, group_runs, groups_runs, listed_run, owned_runs, run, tree_flag, tree_owners, tree_runs, unwritten_flag}
+use Rattle.xfs_space.specs.Parts.{AreGroups, AreOfGroup, HasLawfulForks, IsLawfulGroup}
+use Rattle.xfs_space.specs.Private.Places.{IsPlacedExtent}
 use Rattle.xfs_space.specs.Sorted.{IsOfOneGroup, IsOwned}
 use Rattle.xfs_space.proofs.FreeSpans.{group_short}
 use Rattle.xfs_space.proofs.Lawful.{each_lawful, placed}
@@ -56,7 +57,7 @@ good_block v block owner offset inside small_owner small_offset none = record {
   group = λ k before. omega (arith, before);
 }
 
-good_blocks : (v : Volume) (owner offset : ℕ) (blocks : List ℕ) → All (λ block. block < v.dblocks) blocks → owner < 2 ^ 64 → offset < 2 ^ 64 → offset % 2 ^ 61 ≡ 0 → All (IsGood v) (blocks_of owner offset blocks)
+good_blocks : (v : Volume) (owner offset : ℕ) (blocks : List ℕ) → All (λ block. block < v.dblocks) blocks → owner < 2 ^ 64 → offset < 2 ^ 64 → offset % 2 ^ 61 ≡ 0 → All (IsGood v) (runs_of_blocks owner offset blocks)
 good_blocks v owner offset blocks all small_owner small_offset none =
     let each = λ (k : ℕ) (d : ℕ) (less : k < length blocks). good_block v (get_or blocks k d) owner offset (all k d less) small_owner small_offset none in
     All-map (IsGood v) (λ block. run block 1 owner offset) blocks each
@@ -72,7 +73,7 @@ good_trees v ag (owner ∷ owners) [] small all = All-nil (IsGood v)
 good_trees v ag (owner ∷ owners) (tree ∷ trees) small all =
     let here = All-head (λ (tree : TreeBlocks). AreOfGroup v ag tree.blocks) tree trees all in
     let blocks = λ (k : ℕ) (d : ℕ) (less : k < length tree.blocks). (here k d less).0 in
-    All-append (IsGood v) (blocks_of owner 0 tree.blocks) (tree_runs owners trees)
+    All-append (IsGood v) (runs_of_blocks owner 0 tree.blocks) (tree_runs owners trees)
     (good_blocks v owner 0 tree.blocks blocks (All-head (λ owner. owner < 2 ^ 64) owner owners small) (omega arith) (omega arith))
     (good_trees v ag owners trees (All-tail (λ owner. owner < 2 ^ 64) owner owners small) (All-tail (λ (tree : TreeBlocks). AreOfGroup v ag tree.blocks) tree trees all))
 
@@ -114,7 +115,7 @@ good_listed v ag xs inside h =
 chunk_inside : (v : Volume) (ag : ℕ) (before : Option InoRec) (r : InoRec) → (is_chunk v ag r && ascends_inode before r) ≡ true → r.startino / 8 + 8 ≤ group_length v ag
 chunk_inside v ag before r h =
     let chunk = (and_parts (is_chunk v ag r) (ascends_inode before r) h).0 in
-    let a = and_parts (fits_chunk r && has_count r.holemask r.count && is_first_inode r.startino && lies_in_group v ag (r.startino / 8) 8) (is_clear v ag r) chunk in
+    let a = and_parts (fits_chunk r && has_count r.holemask r.count && is_first_inode r.startino && lies_in_group v ag (r.startino / 8) 8) (is_chunk_clear v ag r) chunk in
     let b = and_parts (fits_chunk r && has_count r.holemask r.count && is_first_inode r.startino) (lies_in_group v ag (r.startino / 8) 8) a.0 in
     leb-true (r.startino / 8 + 8) (group_length v ag) (and_parts (nat_lt ag v.agcount) (nat_le (r.startino / 8 + 8) (group_length v ag)) b.1).1
 
@@ -131,7 +132,7 @@ good_chunks v ag (r ∷ rs) covered last there all =
     by_case (r.holemask == 0x00ff) (r.holemask == 0xff00) first second rest
   where
     by_case : (s t : Bool) → IsGood v (cluster_run (ag * v.agblocks) (r.startino / 8)) → IsGood v (cluster_run (ag * v.agblocks) (r.startino / 8 + 4)) → All (IsGood v) (cluster_runs (ag * v.agblocks) rs)
-        → All (IsGood v) (map (cluster_run (ag * v.agblocks)) (((if s then [] else ((r.startino / 8) ∷ [])) ++ (if t then [] else ((r.startino / 8 + 4) ∷ []))) ++ flat_map clusters_of rs))
+        → All (IsGood v) (map (cluster_run (ag * v.agblocks)) (((if s then [] else ((r.startino / 8) ∷ [])) ++ (if t then [] else ((r.startino / 8 + 4) ∷ []))) ++ flat_map clusters_of_chunk rs))
     by_case true true first second rest = rest
     by_case true false first second rest = All-cons (IsGood v) (cluster_run (ag * v.agblocks) (r.startino / 8 + 4)) (cluster_runs (ag * v.agblocks) rs) second rest
     by_case false true first second rest = All-cons (IsGood v) (cluster_run (ag * v.agblocks) (r.startino / 8)) (cluster_runs (ag * v.agblocks) rs) first rest
@@ -140,7 +141,7 @@ good_chunks v ag (r ∷ rs) covered last there all =
         (All-cons (IsGood v) (cluster_run (ag * v.agblocks) (r.startino / 8 + 4)) (cluster_runs (ag * v.agblocks) rs) second rest)
 
 -- a group
-good_group : (v : Volume) (ag : ℕ) (g : GroupRec) → v.dblocks ≤ v.agcount * v.agblocks → (v.agcount - 1) * v.agblocks + 64 ≤ v.dblocks → ag < v.agcount → IsGroup v ag g
+good_group : (v : Volume) (ag : ℕ) (g : GroupRec) → v.dblocks ≤ v.agcount * v.agblocks → (v.agcount - 1) * v.agblocks + 64 ≤ v.dblocks → ag < v.agcount → IsLawfulGroup v ag g
     → All (IsGood v) (group_runs (ag * v.agblocks) g)
 good_group v ag g covered last there lawful =
     let base = ag * v.agblocks in
@@ -166,7 +167,7 @@ good_groups v ag (g ∷ gs) covered last count lawful =
 
 -- a file
 good_extent : (v : Volume) (ino flag : ℕ) (e : Extent) → v.dblocks ≤ v.agcount * v.agblocks → (v.agcount - 1) * v.agblocks + 64 ≤ v.dblocks → ino < 2 ^ 64 → flag ≤ 2 ^ 63 → flag % 2 ^ 61 ≡ 0
-    → IsPlaced v e → IsGood v (extent_run v ino flag e)
+    → IsPlacedExtent v e → IsGood v (extent_run v ino flag e)
 good_extent v ino flag e covered last small few none at =
     let group = group_of_address v.agblklog e.start in
     let some = at.some in
@@ -190,27 +191,27 @@ good_extent v ino flag e covered last small few none at =
     fork_case false = fork 0 e.offset e.count (omega arith) at.offsets
 
 good_extents : (v : Volume) (ino flag : ℕ) (es : List Extent) → v.dblocks ≤ v.agcount * v.agblocks → (v.agcount - 1) * v.agblocks + 64 ≤ v.dblocks → ino < 2 ^ 64 → flag ≤ 2 ^ 63
-    → flag % 2 ^ 61 ≡ 0 → All (IsPlaced v) es → All (IsGood v) (map (extent_run v ino flag) es)
+    → flag % 2 ^ 61 ≡ 0 → All (IsPlacedExtent v) es → All (IsGood v) (map (extent_run v ino flag) es)
 good_extents v ino flag es covered last small few none all =
     let each = λ (k : ℕ) (d : Extent) (less : k < length es). good_extent v ino flag (get_or es k d) covered last small few none (all k d less) in
     All-map (IsGood v) (extent_run v ino flag) es each
 
-good_file : (v : Volume) (f : FileRec) → v.dblocks ≤ v.agcount * v.agblocks → (v.agcount - 1) * v.agblocks + 64 ≤ v.dblocks → f.ino < 2 ^ 64 → IsFile v f → All (IsGood v) (file_runs v f)
+good_file : (v : Volume) (f : FileRec) → v.dblocks ≤ v.agcount * v.agblocks → (v.agcount - 1) * v.agblocks + 64 ≤ v.dblocks → f.ino < 2 ^ 64 → HasLawfulForks v f → All (IsGood v) (file_runs v f)
 good_file v f covered last small lawful =
     let extents = map (extent_run v f.ino 0) f.extents in
-    let attributes = map (extent_run v f.ino attribute_flag) f.attr in
-    All-append (IsGood v) (extents ++ attributes) (blocks_of f.ino tree_flag f.tree)
+    let attributes = map (extent_run v f.ino attribute_flag) f.attr_extents in
+    All-append (IsGood v) (extents ++ attributes) (runs_of_blocks f.ino tree_flag f.tree)
     (All-append (IsGood v) extents attributes (good_extents v f.ino 0 f.extents covered last small (omega arith) (omega arith) (placed v f.ino f.extents lawful.extents))
-    (good_extents v f.ino attribute_flag f.attr covered last small (omega arith) (omega arith) (placed v f.ino f.attr lawful.attr)))
+    (good_extents v f.ino attribute_flag f.attr_extents covered last small (omega arith) (omega arith) (placed v f.ino f.attr_extents lawful.attr_extents)))
     (good_blocks v f.ino tree_flag f.tree lawful.tree small (omega arith) (omega arith))
 
-good_files : (v : Volume) (fs : List FileRec) → v.dblocks ≤ v.agcount * v.agblocks → (v.agcount - 1) * v.agblocks + 64 ≤ v.dblocks → All (λ (f : FileRec). f.ino < 2 ^ 64) fs → All (IsFile v) fs
+good_files : (v : Volume) (fs : List FileRec) → v.dblocks ≤ v.agcount * v.agblocks → (v.agcount - 1) * v.agblocks + 64 ≤ v.dblocks → All (λ (f : FileRec). f.ino < 2 ^ 64) fs → All (HasLawfulForks v) fs
     → All (IsGood v) (flat_map (file_runs v) fs)
 good_files v [] covered last small lawful = All-nil (IsGood v)
 good_files v (f ∷ fs) covered last small lawful =
     All-append (IsGood v) (file_runs v f) (flat_map (file_runs v) fs)
-    (good_file v f covered last (All-head (λ (f : FileRec). f.ino < 2 ^ 64) f fs small) (All-head (IsFile v) f fs lawful))
-    (good_files v fs covered last (All-tail (λ (f : FileRec). f.ino < 2 ^ 64) f fs small) (All-tail (IsFile v) f fs lawful))
+    (good_file v f covered last (All-head (λ (f : FileRec). f.ino < 2 ^ 64) f fs small) (All-head (HasLawfulForks v) f fs lawful))
+    (good_files v fs covered last (All-tail (λ (f : FileRec). f.ino < 2 ^ 64) f fs small) (All-tail (HasLawfulForks v) f fs lawful))
 
 -- the log
 good_log : (g : Geometry) → IsGood (volume_of g) (run g.log g.logblocks log_owner 0)
@@ -224,7 +225,7 @@ good_log g =
     (omega arith) (omega arith) (omega (arith, small)))
 
 -- all that is owned
-pub good_all : (g : Geometry) (gs : List GroupRec) (fs : List FileRec) → length gs ≡ g.agcount → AreGroups (volume_of g) 0 gs → All (IsFile (volume_of g)) fs → All (λ (f : FileRec). f.ino < 2 ^ 64) fs
+pub good_all : (g : Geometry) (gs : List GroupRec) (fs : List FileRec) → length gs ≡ g.agcount → AreGroups (volume_of g) 0 gs → All (HasLawfulForks (volume_of g)) fs → All (λ (f : FileRec). f.ino < 2 ^ 64) fs
     → All (IsGood (volume_of g)) (owned_runs (volume_of g) gs fs)
 unfolding owned_runs
 good_all g gs fs count groups files small =

@@ -9,7 +9,7 @@ use Rattle.xfs_volume.specs.declared.findings.Law.{Law}
 use Rattle.xfs_volume.specs.declared.groups.GroupRec.{GroupRec}
 use Rattle.xfs_volume.specs.Laws.{first_broken}
 use Rattle.xfs_space.specs.Owners.{owned_runs}
-use Rattle.xfs_space.specs.RunLaws.{AreLawful, run_laws}
+use Rattle.xfs_space.specs.Private.RunLaws.{AreLawful, run_laws}
 use Rattle.xfs_space.specs.SpaceLaws.{IsSpaceLawful, free_laws, owner_laws, recorded_runs, sharing_laws, space_laws}
 use Rattle.xfs_space.specs.Sorted.{IsOwned}
 use Rattle.xfs_volume.proofs.First.{first_behind, first_differs}

@@ -10,7 +10,7 @@ use Rattle.xfs_geom.specs.Volumes.{Volume}
 use Rattle.xfs_tree.specs.Shape.{Shape}
 use Rattle.xfs_tree.specs.Rules.{are_lawful}
 use Rattle.xfs_kinds.specs.FileTrees.{bmbt_shape, is_extent, fits_extent, follows_offset}
-use Rattle.xfs_space.specs.Places.{IsPlaced}
+use Rattle.xfs_space.specs.Private.Places.{IsPlacedExtent}
 
 -- each of lawful records passes what its law alone asks
 pub each_lawful : {R K : Type 0} (s : Shape R K) (v : Volume) (P : R → Type 0) → ((before : Option R) (r : R) → s.lawful v before r ≡ true → P r)
@@ -42,12 +42,12 @@ tests fits group count agcount block size offset h =
       offsets = omega (arith, offsets);
     }
 
-placed_extent : (v : Volume) (before : Option Extent) (e : Extent) → (is_extent v e && follows_offset before e) ≡ true → IsPlaced v e
+placed_extent : (v : Volume) (before : Option Extent) (e : Extent) → (is_extent v e && follows_offset before e) ≡ true → IsPlacedExtent v e
 placed_extent v before e h =
     let extent = (and_parts (is_extent v e) (follows_offset before e) h).0 in
     let group = group_of_address v.agblklog e.start in
     let t = tests (fits_extent e) group e.count v.agcount (ag_block_of_address v.agblklog e.start) (group_length v group) e.offset extent in
     record { some = t.some; group = t.there; inside = t.inside; offsets = t.offsets }
 
-pub placed : (v : Volume) (ino : ℕ) (es : List Extent) → are_lawful (bmbt_shape ino) v None es ≡ true → All (IsPlaced v) es
-placed v ino es h = each_lawful (bmbt_shape ino) v (IsPlaced v) (placed_extent v) None es h
+pub placed : (v : Volume) (ino : ℕ) (es : List Extent) → are_lawful (bmbt_shape ino) v None es ≡ true → All (IsPlacedExtent v) es
+placed v ino es h = each_lawful (bmbt_shape ino) v (IsPlacedExtent v) (placed_extent v) None es h

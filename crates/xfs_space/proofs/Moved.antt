@@ -6,14 +6,15 @@ use Rattle.std.proofs.lemmas.Bool.{cases_lt}
 use Rattle.std.proofs.lemmas.Bool.Decides.{nat_tests}
 use Rattle.std.proofs.lemmas.List.Sorted.{sum_by-IsPermutation}
 use Rattle.std.proofs.lemmas.List.Sums.{sum_by-cons}
+use Rattle.xfs_geom.specs.Runs.{covers, runs_on}
 use Rattle.xfs_geom.specs.Volumes.{Volume}
 use Rattle.xfs_geom.specs.declared.records.Run.{Run}
-use Rattle.xfs_kinds.specs.MergedRuns.{held_at, word_at}
+use Rattle.xfs_kinds.specs.MergedRuns.{held_at, offset_word_at}
 use Rattle.xfs_volume.specs.declared.findings.Law.{Law}
 use Rattle.xfs_volume.specs.declared.groups.GroupRec.{GroupRec}
 use Rattle.xfs_volume.specs.Laws.{first_broken}
-use Rattle.xfs_space.specs.RunLaws.{AreLawful, run_laws}
-use Rattle.xfs_space.specs.SpaceLaws.{AllAreFree, by_length, covers, free_laws, free_spans, owner_at, owner_laws, owner_number, recorded_runs, runs_on, sharing_at, sharing_laws, spans_at}
+use Rattle.xfs_space.specs.Private.RunLaws.{AreLawful, run_laws}
+use Rattle.xfs_space.specs.SpaceLaws.{AllAreFree, by_length, free_laws, free_spans, owner_at, owner_laws, owner_number, recorded_runs, sharing_at, sharing_laws, spans_at}
 use Rattle.xfs_space.specs.Sorted.{IsOwned}
 use Rattle.xfs_volume.proofs.First.{first_in}
 use Rattle.xfs_space.proofs.Broken.{each_kept}
@@ -36,31 +37,31 @@ total_none f b (x ∷ xs) none = by_case (covers b x) (on-cons x xs b) (sum_by-c
     by_case false count sum rest = let few : runs_on xs b ≡ 0 = omega (arith, count, none) in let zero_sum = rest few in omega (arith, sum, zero_sum)
 
 -- where at most one run has a block, what it has is what all on the block have together
-held_total : (xs : List Run) (b : ℕ) → runs_on xs b ≤ 1 → held_at xs b ≡ (if runs_on xs b == 0 then None else Some (total (λ (r : Run). r.owner) b xs, total (λ (r : Run). word_at r b) b xs))
+held_total : (xs : List Run) (b : ℕ) → runs_on xs b ≤ 1 → held_at xs b ≡ (if runs_on xs b == 0 then None else Some (total (λ (r : Run). r.owner) b xs, total (λ (r : Run). offset_word_at r b) b xs))
 held_total [] b once = refl
 held_total (x ∷ xs) b once =
-    by_case (covers b x) (on-cons x xs b) (sum_by-cons (λ (r : Run). cond (covers b r) r.owner 0) x xs) (sum_by-cons (λ (r : Run). cond (covers b r) (word_at r b) 0) x xs) (held_total xs b)
+    by_case (covers b x) (on-cons x xs b) (sum_by-cons (λ (r : Run). cond (covers b r) r.owner 0) x xs) (sum_by-cons (λ (r : Run). cond (covers b r) (offset_word_at r b) 0) x xs) (held_total xs b)
   where
     owners : ℕ
     owners = total (λ (r : Run). r.owner) b (x ∷ xs)
 
     by_case : (t : Bool) → runs_on (x ∷ xs) b ≡ cond t 1 0 + runs_on xs b → total (λ (r : Run). r.owner) b (x ∷ xs) ≡ cond t x.owner 0 + total (λ (r : Run). r.owner) b xs
-        → total (λ (r : Run). word_at r b) b (x ∷ xs) ≡ cond t (word_at x b) 0 + total (λ (r : Run). word_at r b) b xs
-        → (runs_on xs b ≤ 1 → held_at xs b ≡ (if runs_on xs b == 0 then None else Some (total (λ (r : Run). r.owner) b xs, total (λ (r : Run). word_at r b) b xs)))
-        → (if t then Some (x.owner, word_at x b) else held_at xs b)
-        ≡ (if runs_on (x ∷ xs) b == 0 then None else Some (total (λ (r : Run). r.owner) b (x ∷ xs), total (λ (r : Run). word_at r b) b (x ∷ xs)))
+        → total (λ (r : Run). offset_word_at r b) b (x ∷ xs) ≡ cond t (offset_word_at x b) 0 + total (λ (r : Run). offset_word_at r b) b xs
+        → (runs_on xs b ≤ 1 → held_at xs b ≡ (if runs_on xs b == 0 then None else Some (total (λ (r : Run). r.owner) b xs, total (λ (r : Run). offset_word_at r b) b xs)))
+        → (if t then Some (x.owner, offset_word_at x b) else held_at xs b)
+        ≡ (if runs_on (x ∷ xs) b == 0 then None else Some (total (λ (r : Run). r.owner) b (x ∷ xs), total (λ (r : Run). offset_word_at r b) b (x ∷ xs)))
     by_case true count owner word rest =
         let none : runs_on xs b ≡ 0 = omega (arith, count, once) in
         let some : (runs_on (x ∷ xs) b == 0) ≡ false = grind (arith, nat_tests, count) in
         let no_owner = total_none (λ (r : Run). r.owner) b xs none in
-        let no_word = total_none (λ (r : Run). word_at r b) b xs none in
+        let no_word = total_none (λ (r : Run). offset_word_at r b) b xs none in
         let one : x.owner ≡ total (λ (r : Run). r.owner) b (x ∷ xs) = omega (arith, owner, no_owner) in
-        let other : word_at x b ≡ total (λ (r : Run). word_at r b) b (x ∷ xs) = omega (arith, word, no_word) in
-        ap₂ (λ (o w : ℕ). Some (o, w)) one other ∙ sym (ap (λ (t : Bool). if t then None else Some (total (λ (r : Run). r.owner) b (x ∷ xs), total (λ (r : Run). word_at r b) b (x ∷ xs))) some)
+        let other : offset_word_at x b ≡ total (λ (r : Run). offset_word_at r b) b (x ∷ xs) = omega (arith, word, no_word) in
+        ap₂ (λ (o w : ℕ). Some (o, w)) one other ∙ sym (ap (λ (t : Bool). if t then None else Some (total (λ (r : Run). r.owner) b (x ∷ xs), total (λ (r : Run). offset_word_at r b) b (x ∷ xs))) some)
     by_case false count owner word rest =
         let same : runs_on (x ∷ xs) b ≡ runs_on xs b = omega (arith, count) in
         let one : total (λ (r : Run). r.owner) b xs ≡ total (λ (r : Run). r.owner) b (x ∷ xs) = omega (arith, owner) in
-        let other : total (λ (r : Run). word_at r b) b xs ≡ total (λ (r : Run). word_at r b) b (x ∷ xs) = omega (arith, word) in
+        let other : total (λ (r : Run). offset_word_at r b) b xs ≡ total (λ (r : Run). offset_word_at r b) b (x ∷ xs) = omega (arith, word) in
         rest (omega (arith, same, once))
         ∙ ap₂ (λ (n : ℕ) (p : ℕ × ℕ). if n == 0 then None else Some p) (sym same) (ap₂ (λ (o w : ℕ). let p : ℕ × ℕ = (o, w) in p) one other)
 
@@ -68,7 +69,7 @@ pub held_moved : (xs ys : List Run) → IsPermutation xs ys → (b : ℕ) → ru
 held_moved xs ys moved b once =
     let same = on_moved xs ys moved b in
     let owner = sum_by-IsPermutation (λ (r : Run). cond (covers b r) r.owner 0) xs ys moved in
-    let word = sum_by-IsPermutation (λ (r : Run). cond (covers b r) (word_at r b) 0) xs ys moved in
+    let word = sum_by-IsPermutation (λ (r : Run). cond (covers b r) (offset_word_at r b) 0) xs ys moved in
     held_total ys b (omega (arith, same, once))
     ∙ ap₂ (λ (n : ℕ) (p : ℕ × ℕ). if n == 0 then None else Some p) same (ap₂ (λ (o w : ℕ). let p : ℕ × ℕ = (o, w) in p) owner word)
     ∙ sym (held_total xs b once)

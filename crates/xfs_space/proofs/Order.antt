@@ -7,7 +7,7 @@ use Rattle.std.proofs.lemmas.Bool.Decides.{nat_tests}
 use Rattle.std.proofs.lemmas.List.{append-nil, drop_all, take_all}
 use Rattle.xfs_geom.specs.contracts.records.RunOrd.TheImpl.{cmp-value}
 use Rattle.xfs_geom.specs.declared.records.Run.{Run}
-use Rattle.xfs_space.specs.Sorted.{Rise}
+use Rattle.xfs_space.specs.Sorted.{StartsRise}
 
 -- the start decides first
 starts_first : (x y : Run) → is_lt (cmp-value.it y x) ≡ false → x.start ≤ y.start
@@ -16,7 +16,7 @@ starts_first x y e = on x.start y.start (ordering_then (nat_cmp y.count x.count)
     on : (a b : ℕ) (rest : Ordering) → is_lt (ordering_then (nat_cmp b a) rest) ≡ false → a ≤ b
     on a b rest e = grind (arith, nat_tests)
 
-pub rise_if_sorted : (xs : List Run) (low : ℕ) → (0 < length xs → (d : Run) → low ≤ (get_or xs 0 d).start) → IsSorted cmp-value.it xs → Rise low xs
+pub rise_if_sorted : (xs : List Run) (low : ℕ) → (0 < length xs → (d : Run) → low ≤ (get_or xs 0 d).start) → IsSorted cmp-value.it xs → StartsRise low xs
 rise_if_sorted [] low first sorted = tt
 rise_if_sorted (x ∷ []) low first sorted = (first (omega arith) x, tt)
 rise_if_sorted (x ∷ y ∷ ys) low first sorted =

@@ -6,7 +6,7 @@ use Rattle.xfs_geom.specs.Volumes.{Volume}
 use Rattle.xfs_geom.specs.declared.records.Run.{Run}
 use Rattle.xfs_volume.specs.declared.groups.GroupRec.{GroupRec}
 use Rattle.xfs_space.specs.Owners.{different, group_runs, groups_runs, listed_run, tree_runs}
-use Rattle.xfs_space.specs.Parts.{AreGroups, IsGroup}
+use Rattle.xfs_space.specs.Parts.{AreGroups, IsLawfulGroup}
 
 -- no trees have no blocks
 pub no_trees : (owners : List ℕ) → tree_runs owners [] ≡ []
@@ -59,7 +59,7 @@ group_next n i gs g base runs new whole h is from left put =
 
 -- a group and those behind it
 pub groups_next : (v : Volume) (ag : ℕ) (gs : List GroupRec) (i : ℕ) (g : GroupRec) → i < length gs → g ≡ get_or gs i g → AreGroups v ag (drop i gs)
-    → IsGroup v ag g × AreGroups v (ag + 1) (drop (i + 1) gs)
+    → IsLawfulGroup v ag g × AreGroups v (ag + 1) (drop (i + 1) gs)
 groups_next v ag gs i g h is all = rw (from_head gs i g h is) at all
 
 -- the runs of a file are put with the others

@@ -5,18 +5,18 @@ use Rattle.std.proofs.lemmas.Bool.{cases_lt}
 use Rattle.std.proofs.lemmas.Bool.Decides.{nat_tests}
 use Rattle.std.proofs.lemmas.List.{drop_all}
 use Rattle.std.proofs.lemmas.List.Elements.{All-head, All-tail, All-cons, All-nil}
+use Rattle.xfs_disk.specs.Lists.{is_in_range}
 use Rattle.xfs_geom.specs.Conversions.{group_length}
 use Rattle.xfs_geom.specs.Volumes.{Volume, volume_of}
 use Rattle.xfs_geom.specs.declared.geometry.Geometry.{Geometry}
 use Rattle.xfs_geom.specs.declared.records.Run.{Run}
-use Rattle.xfs_kinds.specs.FreeRuns.{is_block}
-use Rattle.xfs_kinds.specs.MergedRuns.{held_at, word_at}
+use Rattle.xfs_kinds.specs.MergedRuns.{held_at, offset_word_at}
 use Rattle.xfs_kinds.specs.OffsetWords.{is_file_data}
 use Rattle.xfs_volume.specs.declared.findings.Law.{Law}
 use Rattle.xfs_volume.specs.declared.groups.GroupRec.{GroupRec}
 use Rattle.xfs_volume.specs.Laws.{first_broken, law_at}
 use Rattle.xfs_space.specs.Maps.{AreAlike, AreMapped, IsFirstUnlike, IsMapped}
-use Rattle.xfs_space.specs.Parts.{AreGroups, IsGroup}
+use Rattle.xfs_space.specs.Parts.{AreGroups, IsLawfulGroup}
 use Rattle.xfs_space.specs.SpaceLaws.{owner_at, owner_laws, owner_number, recorded_run, recorded_runs}
 use Rattle.xfs_space.specs.Sorted.{Follow, IsOfOneGroup, IsOwned, IsSplit}
 use Rattle.xfs_space.proofs.Broken.{least_broken, none_broken}
@@ -32,7 +32,7 @@ IsBounded (Some (owner, word)) = (owner < 2 ^ 64) × (word + 1 < 2 ^ 64)
 
 held_bounded : (xs : List Run) (b : ℕ) → All IsMapped xs → IsBounded (held_at xs b)
 held_bounded [] b all = tt
-held_bounded (x ∷ xs) b all = by_case (is_block x.start x.count b) refl (held_bounded xs b (All-tail IsMapped x xs all))
+held_bounded (x ∷ xs) b all = by_case (is_in_range x.start x.count b) refl (held_bounded xs b (All-tail IsMapped x xs all))
   where
     low_word : (offset count k : ℕ) → offset < 2 ^ 64 → offset % 2 ^ 61 + count ≤ 2 ^ 54 → k < count → offset + k + 1 < 2 ^ 64
     low_word offset count k small fork less = omega arith
@@ -48,7 +48,7 @@ held_bounded (x ∷ xs) b all = by_case (is_block x.start x.count b) refl (held_
         let low = low_word x.offset x.count 0 mapped.offset mapped.fork (omega (arith, some)) in
         omega (arith, low)
 
-    by_case : (t : Bool) → is_block x.start x.count b ≡ t → IsBounded (held_at xs b) → IsBounded (if t then Some (x.owner, word_at x b) else held_at xs b)
+    by_case : (t : Bool) → is_in_range x.start x.count b ≡ t → IsBounded (held_at xs b) → IsBounded (if t then Some (x.owner, offset_word_at x b) else held_at xs b)
     by_case true e rest =
         let inside : b < x.start + x.count = grind (arith, nat_tests) in
         ((All-head IsMapped x xs all).owner, word_case (is_file_data x.owner x.offset) inside)
@@ -101,7 +101,7 @@ module _ (v : Volume) (gs : List GroupRec) (runs rest : List Run) (ag : ℕ) (g 
   records : List Run
   records = map (recorded_run (ag * v.agblocks)) g.rmap
 
-  lawful_group : IsGroup v ag g × AreGroups v (ag + 1) (drop (ag + 1) gs)
+  lawful_group : IsLawfulGroup v ag g × AreGroups v (ag + 1) (drop (ag + 1) gs)
   lawful_group = groups_next v ag gs ag g here.less here.is here.alike.lawful
 
   inside : ag * v.agblocks + group_length v ag ≤ v.dblocks

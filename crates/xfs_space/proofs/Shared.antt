@@ -5,11 +5,12 @@ use Rattle.std.proofs.lemmas.Bool.{cases_lt}
 use Rattle.std.proofs.lemmas.Bool.Decides.{nat_tests}
 use Rattle.std.proofs.lemmas.List.Elements.{All-head, All-tail}
 use Rattle.std.proofs.lemmas.List.Sums.{sum_by-cons}
+use Rattle.xfs_geom.specs.Runs.{covers, runs_on}
 use Rattle.xfs_geom.specs.Volumes.{Volume}
 use Rattle.xfs_geom.specs.declared.records.Run.{Run}
 use Rattle.xfs_volume.specs.Laws.{first_broken, law_at}
-use Rattle.xfs_space.specs.SpaceLaws.{covers, runs_on, sharing_at, sharing_laws}
-use Rattle.xfs_space.specs.Sorted.{Follow, IsFirstShared, IsOwned, IsSized, Rise}
+use Rattle.xfs_space.specs.SpaceLaws.{sharing_at, sharing_laws}
+use Rattle.xfs_space.specs.Sorted.{Follow, IsFirstShared, IsOwned, IsSized, StartsRise}
 use Rattle.xfs_space.proofs.Broken.{none_broken, least_broken}
 
 -- the start of the first run that begins before the end of the one before it
@@ -40,7 +41,7 @@ follow_before [] low b apart h = refl
 follow_before (x ∷ xs) low b apart h =
     on_none x xs b (inl (omega (arith, apart.0, h))) ∙ follow_before xs (x.start + x.count) b apart.2 (omega (arith, apart.0, h))
 
-rise_before : (xs : List Run) (low b : ℕ) → Rise low xs → b < low → runs_on xs b ≡ 0
+rise_before : (xs : List Run) (low b : ℕ) → StartsRise low xs → b < low → runs_on xs b ≡ 0
 rise_before [] low b up h = refl
 rise_before (x ∷ xs) low b up h = on_none x xs b (inl (omega (arith, up.0, h))) ∙ rise_before xs x.start b up.1 (omega (arith, up.0, h))
 
@@ -78,12 +79,12 @@ none_overlap (x ∷ xs) end none sized = by_case (nat_lt x.start end) refl none 
     by_case false e none rest = (not_less x.start end e, (All-head IsSized x xs sized).some, rest none (All-tail IsSized x xs sized))
 
 -- a run that begins before the end of the one before it shares its first block, and no block is shared before
-pub first_overlap : (x : Run) (xs : List Run) (b : ℕ) → overlap (x.start + x.count) xs ≡ Some b → All IsSized xs → Rise x.start xs → IsFirstShared (x ∷ xs) b
+pub first_overlap : (x : Run) (xs : List Run) (b : ℕ) → overlap (x.start + x.count) xs ≡ Some b → All IsSized xs → StartsRise x.start xs → IsFirstShared (x ∷ xs) b
 first_overlap x [] b some sized up = absurd (cc)
 first_overlap x (y ∷ ys) b some sized up = by_case (nat_lt y.start (x.start + x.count)) refl some (first_overlap y ys b)
   where
     by_case : (t : Bool) → nat_lt y.start (x.start + x.count) ≡ t → (if t then Some y.start else overlap (y.start + y.count) ys) ≡ Some b
-        → (overlap (y.start + y.count) ys ≡ Some b → All IsSized ys → Rise y.start ys → IsFirstShared (y ∷ ys) b) → IsFirstShared (x ∷ y ∷ ys) b
+        → (overlap (y.start + y.count) ys ≡ Some b → All IsSized ys → StartsRise y.start ys → IsFirstShared (y ∷ ys) b) → IsFirstShared (x ∷ y ∷ ys) b
     by_case true e some rest =
         let at : y.start ≡ b = cc in
         let before = less y.start (x.start + x.count) e in
@@ -120,7 +121,7 @@ first_overlap x (y ∷ ys) b some sized up = by_case (nat_lt y.start (x.start + 
         }
 
 -- the same from the first run on
-pub first_of_all : (xs : List Run) (b : ℕ) → overlap 0 xs ≡ Some b → All IsSized xs → Rise 0 xs → IsFirstShared xs b
+pub first_of_all : (xs : List Run) (b : ℕ) → overlap 0 xs ≡ Some b → All IsSized xs → StartsRise 0 xs → IsFirstShared xs b
 first_of_all [] b some sized up = absurd (cc)
 first_of_all (x ∷ xs) b some sized up =
     let none : nat_lt x.start 0 ≡ false = grind (arith, nat_tests) in

@@ -4,10 +4,10 @@ use Rattle.std.specs.List.{All}
 use Rattle.std.proofs.lemmas.Bool.Decides.{nat_tests}
 use Rattle.std.proofs.lemmas.List.Elements.{All-head, All-tail, All-nil, All-cons, All-take}
 use Rattle.std.proofs.lemmas.List.Sums.{sum_by-append}
+use Rattle.xfs_geom.specs.Runs.{covers, runs_on}
+use Rattle.xfs_disk.specs.Lists.{is_in_range}
 use Rattle.xfs_geom.specs.declared.records.Run.{Run}
-use Rattle.xfs_kinds.specs.FreeRuns.{is_block}
-use Rattle.xfs_kinds.specs.MergedRuns.{held_at, word_at}
-use Rattle.xfs_space.specs.SpaceLaws.{covers, runs_on}
+use Rattle.xfs_kinds.specs.MergedRuns.{held_at, offset_word_at}
 use Rattle.xfs_space.specs.Sorted.{Follow, IsSplit}
 use Rattle.xfs_space.proofs.Shared.{on_none}
 
@@ -58,10 +58,10 @@ none_on_back (x ∷ xs) block b starts h =
     on_none x xs b (inl (omega (arith, start, h))) ∙ none_on_back xs block b (All-tail (StartsFrom block) x xs starts) h
 
 pub held_off : (x : Run) (xs : List Run) (b : ℕ) → (b < x.start) ⊎ (x.start + x.count ≤ b) → held_at (x ∷ xs) b ≡ held_at xs b
-held_off x xs b off = let not : is_block x.start x.count b ≡ false = grind (arith, nat_tests, off) in rw not refl
+held_off x xs b off = let not : is_in_range x.start x.count b ≡ false = grind (arith, nat_tests, off) in rw not refl
 
-pub held_on : (x : Run) (xs : List Run) (b : ℕ) → x.start ≤ b → b < x.start + x.count → held_at (x ∷ xs) b ≡ Some (x.owner, word_at x b)
-held_on x xs b low high = let has : is_block x.start x.count b ≡ true = grind (arith, nat_tests, low, high) in rw has refl
+pub held_on : (x : Run) (xs : List Run) (b : ℕ) → x.start ≤ b → b < x.start + x.count → held_at (x ∷ xs) b ≡ Some (x.owner, offset_word_at x b)
+held_on x xs b low high = let has : is_in_range x.start x.count b ≡ true = grind (arith, nat_tests, low, high) in rw has refl
 
 pub none_held_back : (xs : List Run) (block b : ℕ) → All (StartsFrom block) xs → b < block → held_at xs b ≡ None
 none_held_back [] block b starts h = refl
@@ -77,10 +77,10 @@ none_held_front (x ∷ xs) block b ends h =
 
 pub held_front : (front back : List Run) (block b : ℕ) → All (StartsFrom block) back → b < block → held_at (front ++ back) b ≡ held_at front b
 held_front [] back block b starts h = none_held_back back block b starts h
-held_front (x ∷ xs) back block b starts h = by_case (is_block x.start x.count b) (held_front xs back block b starts h)
+held_front (x ∷ xs) back block b starts h = by_case (is_in_range x.start x.count b) (held_front xs back block b starts h)
   where
     by_case : (t : Bool) → held_at (xs ++ back) b ≡ held_at xs b
-        → cond t (Some (x.owner, word_at x b)) (held_at (xs ++ back) b) ≡ cond t (Some (x.owner, word_at x b)) (held_at xs b)
+        → cond t (Some (x.owner, offset_word_at x b)) (held_at (xs ++ back) b) ≡ cond t (Some (x.owner, offset_word_at x b)) (held_at xs b)
     by_case true same = refl
     by_case false same = same
 

@@ -6,7 +6,7 @@ use Rattle.std.proofs.lemmas.Bool.Decides.{nat_tests}
 use Rattle.std.proofs.lemmas.List.{drop_all, get_or-map, length-map}
 use Rattle.std.proofs.lemmas.List.Elements.{All-head, All-tail}
 use Rattle.xfs_geom.specs.declared.records.Run.{Run}
-use Rattle.xfs_kinds.specs.MergedRuns.{held_at, word_at}
+use Rattle.xfs_kinds.specs.MergedRuns.{held_at, offset_word_at}
 use Rattle.xfs_kinds.specs.OffsetWords.{is_file_data}
 use Rattle.xfs_space.specs.Maps.{AreAlike, AreMapped, IsFirstDifference, IsMapped}
 use Rattle.xfs_space.specs.Sorted.{Follow}
@@ -47,7 +47,7 @@ before_head xs x rest at side c from to =
     ∙ none_held_back rest (x.start + x.count) c (all_behind rest (x.start + x.count) (x.start + x.count) side.ends.1 (omega arith)) (omega (arith, start))
 
 -- from its first block on, the first run that is left has the blocks
-on_head : (xs : List Run) (x : Run) (rest : List Run) (at : ℕ) → Side xs (x ∷ rest) at → (c : ℕ) → max x.start at ≤ c → c < x.start + x.count → held_at xs c ≡ Some (x.owner, word_at x c)
+on_head : (xs : List Run) (x : Run) (rest : List Run) (at : ℕ) → Side xs (x ∷ rest) at → (c : ℕ) → max x.start at ≤ c → c < x.start + x.count → held_at xs c ≡ Some (x.owner, offset_word_at x c)
 on_head xs x rest at side c from to = side.same c (omega (arith, from)) ∙ held_on x rest c (omega (arith, from)) to
 
 pub head_inside : (xs : List Run) (x : Run) (rest : List Run) (at : ℕ) → Side xs (x ∷ rest) at → max x.start at < x.start + x.count
@@ -90,7 +90,7 @@ same_pair p q e = cc
 
 -- they begin at one block, with different owners or words
 pub words_differ : (xs ys : List Run) (x y : Run) (rest_xs rest_ys : List Run) (at : ℕ) → Swept xs ys (x ∷ rest_xs) (y ∷ rest_ys) at → max x.start at ≡ max y.start at
-    → (x.owner == y.owner && word_at x (max x.start at) == word_at y (max x.start at)) ≡ false → IsFirstDifference xs ys (max x.start at)
+    → (x.owner == y.owner && offset_word_at x (max x.start at) == offset_word_at y (max x.start at)) ≡ false → IsFirstDifference xs ys (max x.start at)
 words_differ xs ys x y rest_xs rest_ys at swept same unlike =
     let h = max x.start at in
     let one = on_head xs x rest_xs at swept.left h (omega arith) (head_inside xs x rest_xs at swept.left) in
@@ -98,8 +98,8 @@ words_differ xs ys x y rest_xs rest_ys at swept same unlike =
     let other = on_head ys y rest_ys at swept.right h (omega (arith, same)) (omega (arith, same, inside)) in
     first_at xs ys at h swept.agree
     (λ e.
-    let pair = same_pair (x.owner, word_at x h) (y.owner, word_at y h) (sym one ∙ e ∙ other) in
-    let both = and_from (x.owner == y.owner) (word_at x h == word_at y h) (eq-eqb x.owner y.owner (ap (λ (p : ℕ × ℕ). p.0) pair)) (eq-eqb (word_at x h) (word_at y h) (ap (λ (p : ℕ × ℕ). p.1) pair)) in
+    let pair = same_pair (x.owner, offset_word_at x h) (y.owner, offset_word_at y h) (sym one ∙ e ∙ other) in
+    let both = and_from (x.owner == y.owner) (offset_word_at x h == offset_word_at y h) (eq-eqb x.owner y.owner (ap (λ (p : ℕ × ℕ). p.0) pair)) (eq-eqb (offset_word_at x h) (offset_word_at y h) (ap (λ (p : ℕ × ℕ). p.1) pair)) in
     true≢false (sym both ∙ unlike))
     (before_head xs x rest_xs at swept.left) (λ c from to. before_head ys y rest_ys at swept.right c from (omega (arith, to, same)))
 
@@ -120,7 +120,7 @@ pub all_alike : (xs ys : List Run) (at : ℕ) → Swept xs ys [] [] at → AreAl
 all_alike xs ys at swept b = elim (cases_lt b at) [ inl low ↦ swept.agree b low | inr from ↦ swept.left.same b from ∙ sym (swept.right.same b from) ]
 
 -- the word of a block has the flags of the run's word
-word_bit : (x : Run) (h : ℕ) → IsMapped x → h < x.start + x.count → word_at x h / 2 ^ 62 ≡ x.offset / 2 ^ 62
+word_bit : (x : Run) (h : ℕ) → IsMapped x → h < x.start + x.count → offset_word_at x h / 2 ^ 62 ≡ x.offset / 2 ^ 62
 word_bit x h mapped to = by_case (is_file_data x.owner x.offset)
   where
     kept : (w k count : ℕ) → k < count → w % 2 ^ 61 + count ≤ 2 ^ 54 → (w + k) / 2 ^ 62 ≡ w / 2 ^ 62
@@ -132,7 +132,7 @@ word_bit x h mapped to = by_case (is_file_data x.owner x.offset)
 
 -- runs that agree at a block agree behind it
 words_go_on : (x y : Run) (h b : ℕ) → IsMapped x → IsMapped y → x.start ≤ h → y.start ≤ h → h ≤ b → b < x.start + x.count → b < y.start + y.count
-    → x.owner ≡ y.owner → word_at x h ≡ word_at y h → word_at x b ≡ word_at y b
+    → x.owner ≡ y.owner → offset_word_at x h ≡ offset_word_at y h → offset_word_at x b ≡ offset_word_at y b
 words_go_on x y h b mapped_x mapped_y start_x start_y from end_x end_y owner word =
     let bit = sym (word_bit x h mapped_x (omega (arith, from, end_x))) ∙ ap (λ (w : ℕ). w / 2 ^ 62) word ∙ word_bit y h mapped_y (omega (arith, from, end_y)) in
     by_case (is_file_data x.owner x.offset) (is_file_data y.owner y.offset) (ap₂ (λ (o w : ℕ). nat_lt o (2 ^ 63) && not (w % 2 == 1)) owner bit) word
@@ -164,7 +164,7 @@ passed_side xs x rest at end side up down = by_case (nat_le (x.start + x.count) 
 
 -- a step of the sweep
 pub swept_next : (xs ys : List Run) (x y : Run) (rest_xs rest_ys : List Run) (at end : ℕ) → Swept xs ys (x ∷ rest_xs) (y ∷ rest_ys) at → max x.start at ≡ max y.start at
-    → x.owner ≡ y.owner → word_at x (max x.start at) ≡ word_at y (max x.start at) → end ≡ min (x.start + x.count) (y.start + y.count)
+    → x.owner ≡ y.owner → offset_word_at x (max x.start at) ≡ offset_word_at y (max x.start at) → end ≡ min (x.start + x.count) (y.start + y.count)
     → Swept xs ys (if nat_le (x.start + x.count) end then rest_xs else (x ∷ rest_xs)) (if nat_le (y.start + y.count) end then rest_ys else (y ∷ rest_ys)) end
 swept_next xs ys x y rest_xs rest_ys at end swept same owner word is =
     let h = max x.start at in
@@ -252,7 +252,7 @@ due_left {A = A} f xs ys records runs i j at place d end less swept is =
 -- the places after a step
 pub swept_step : {A : Type 0} (f : A → Run) (xs ys : List Run) (records : List A) (runs : List Run) (i j at end i_next j_next : ℕ) (none : A) (d x : Run) → i < length records → j < length runs
     → x ≡ f (get_or records i none) → Swept xs ys (x ∷ map f (drop (i + 1) records)) (get_or runs j d ∷ drop (j + 1) runs) at → max x.start at ≡ max (get_or runs j d).start at
-    → x.owner ≡ (get_or runs j d).owner → word_at x (max x.start at) ≡ word_at (get_or runs j d) (max x.start at)
+    → x.owner ≡ (get_or runs j d).owner → offset_word_at x (max x.start at) ≡ offset_word_at (get_or runs j d) (max x.start at)
     → end ≡ min (x.start + x.count) ((get_or runs j d).start + (get_or runs j d).count)
     → i_next ≡ (if nat_le (x.start + x.count) end then i + 1 else i) → j_next ≡ (if nat_le ((get_or runs j d).start + (get_or runs j d).count) end then j + 1 else j)
     → Swept xs ys (map f (drop i_next records)) (drop j_next runs) end

@@ -1,7 +1,8 @@
 -- Who owns the blocks of a volume, as its headers, trees and files say: runs of blocks, each with its owner and offset word
 -- (chapter "Reverse-Mapping B+tree").
-use Rattle.std.specs.Prelude.{ℕ, ◌+◌, ◌-◌, ◌/◌, ◌^◌, ◌==◌, if◌then◌else◌, List, [], ◌∷◌, ◌++◌, map, take}
+use Rattle.std.specs.Prelude.{ℕ, ◌+◌, ◌/◌, ◌^◌, ◌==◌, if◌then◌else◌, List, [], ◌∷◌, ◌++◌, map, take}
 use Rattle.std.specs.List.{flat_map, list_any}
+use Rattle.xfs_kinds.specs.Owners.{headers_owner, log_owner, group_owner, inode_trees_owner, clusters_owner}
 use Rattle.xfs_word.specs.declared.extents.Extent.{Extent}
 use Rattle.xfs_geom.specs.Groups.{block_of_address}
 use Rattle.xfs_geom.specs.Volumes.{Volume}
@@ -14,23 +15,6 @@ use Rattle.xfs_volume.specs.declared.groups.TreeBlocks.{TreeBlocks}
 
 abbrev pub run : ℕ → ℕ → ℕ → ℕ → Run
 run start count owner offset = record { start = start; count = count; owner = owner; offset = offset }
-
--- the owners that are no inode, below 0 in two's complement: the headers of a group, the log, a group for its trees of blocks and
--- its free list, the trees of inodes, the clusters of inodes
-abbrev pub headers_owner : ℕ
-headers_owner = 2 ^ 64 - 3
-
-abbrev pub log_owner : ℕ
-log_owner = 2 ^ 64 - 4
-
-abbrev pub group_owner : ℕ
-group_owner = 2 ^ 64 - 5
-
-abbrev pub inode_trees_owner : ℕ
-inode_trees_owner = 2 ^ 64 - 6
-
-abbrev pub clusters_owner : ℕ
-clusters_owner = 2 ^ 64 - 7
 
 -- the flags of an offset word: blocks that are not written yet, blocks of an extent tree, blocks of the attribute fork
 abbrev pub unwritten_flag : ℕ
@@ -47,14 +31,14 @@ abbrev pub tree_owners : List ℕ
 tree_owners = group_owner ∷ group_owner ∷ inode_trees_owner ∷ inode_trees_owner ∷ group_owner ∷ []
 
 -- single blocks of one owner
-abbrev pub blocks_of : ℕ → ℕ → List ℕ → List Run
-blocks_of owner offset blocks = map (λ block. run block 1 owner offset) blocks
+abbrev pub runs_of_blocks : ℕ → ℕ → List ℕ → List Run
+runs_of_blocks owner offset blocks = map (λ block. run block 1 owner offset) blocks
 
 -- the blocks of a group's trees
 abbrev pub tree_runs : List ℕ → List TreeBlocks → List Run
 tree_runs [] trees = []
 tree_runs (owner ∷ owners) [] = []
-tree_runs (owner ∷ owners) (tree ∷ trees) = blocks_of owner 0 tree.blocks ++ tree_runs owners trees
+tree_runs (owner ∷ owners) (tree ∷ trees) = runs_of_blocks owner 0 tree.blocks ++ tree_runs owners trees
 
 -- some numbers, each different one once
 abbrev pub different : List ℕ → List ℕ
@@ -69,8 +53,8 @@ abbrev pub listed_runs : ℕ → Agfl → List Run
 listed_runs base agfl = map (listed_run base) (different (take agfl.count agfl.entries))
 
 -- the first AG blocks of the clusters of a chunk: it has two, or the first or the second is missing
-abbrev pub clusters_of : InoRec → List ℕ
-clusters_of r =
+abbrev pub clusters_of_chunk : InoRec → List ℕ
+clusters_of_chunk r =
     (if r.holemask == 0x00ff then [] else ((r.startino / 8) ∷ []))
     ++ (if r.holemask == 0xff00 then [] else ((r.startino / 8 + 4) ∷ []))
 
@@ -78,7 +62,7 @@ abbrev pub cluster_run : ℕ → ℕ → Run
 cluster_run base block = run (base + block) 4 clusters_owner 0
 
 abbrev pub cluster_runs : ℕ → List InoRec → List Run
-cluster_runs base chunks = map (cluster_run base) (flat_map clusters_of chunks)
+cluster_runs base chunks = map (cluster_run base) (flat_map clusters_of_chunk chunks)
 
 -- what a group owns, its headers first
 abbrev pub group_runs : ℕ → GroupRec → List Run
@@ -100,7 +84,7 @@ extent_run v ino flag e = run (block_of_address v.agblocks v.agblklog e.start) e
 -- what a file owns: its data, its attributes, the blocks of its tree of extents
 abbrev pub file_runs : Volume → FileRec → List Run
 file_runs v f =
-    map (extent_run v f.ino 0) f.extents ++ map (extent_run v f.ino attribute_flag) f.attr ++ blocks_of f.ino tree_flag f.tree
+    map (extent_run v f.ino 0) f.extents ++ map (extent_run v f.ino attribute_flag) f.attr_extents ++ runs_of_blocks f.ino tree_flag f.tree
 
 -- all owned runs of a volume with these groups and files, in no order
 unfoldable pub owned_runs : Volume → List GroupRec → List FileRec → List Run

@@ -16,7 +16,7 @@ use Rattle.xfs_volume.specs.declared.groups.TreeBlocks.{TreeBlocks}
 abbrev pub AreOfGroup : Volume → ℕ → List ℕ → Type 0
 AreOfGroup v ag blocks = All (λ block. (block < v.dblocks) × (block / v.agblocks ≡ ag)) blocks
 
-pub record IsGroup (v : Volume) (ag : ℕ) (g : GroupRec) : Type 0 where
+pub record IsLawfulGroup (v : Volume) (ag : ℕ) (g : GroupRec) : Type 0 where
   pub count : g.agfl.count ≤ 119
   pub listed : IsTrue (has_blocks v ag g.agfl)
   pub bno : IsTrue (are_lawful (bno_shape ag) v None g.bno)
@@ -30,9 +30,9 @@ pub record IsGroup (v : Volume) (ag : ℕ) (g : GroupRec) : Type 0 where
 -- the groups from one on
 abbrev pub AreGroups : Volume → ℕ → List GroupRec → Type 0
 AreGroups v ag [] = Unit {0}
-AreGroups v ag (g ∷ gs) = IsGroup v ag g × AreGroups v (ag + 1) gs
+AreGroups v ag (g ∷ gs) = IsLawfulGroup v ag g × AreGroups v (ag + 1) gs
 
-pub record IsFile (v : Volume) (f : FileRec) : Type 0 where
+pub record HasLawfulForks (v : Volume) (f : FileRec) : Type 0 where
   pub extents : IsTrue (are_lawful (bmbt_shape f.ino) v None f.extents)
-  pub attr : IsTrue (are_lawful (bmbt_shape f.ino) v None f.attr)
+  pub attr_extents : IsTrue (are_lawful (bmbt_shape f.ino) v None f.attr_extents)
   pub tree : All (λ block. block < v.dblocks) f.tree

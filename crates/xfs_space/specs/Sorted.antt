@@ -1,11 +1,11 @@
 -- Owned runs in order.
 use Rattle.std.specs.Prelude.{ℕ, ◌+◌, ◌-◌, ◌*◌, ◌^◌, ◌≤◌, ◌<◌, ◌≡◌, List, [], ◌∷◌, ◌++◌}
 use Rattle.std.specs.List.{All}
+use Rattle.xfs_geom.specs.Runs.{runs_on}
 use Rattle.xfs_geom.specs.Volumes.{Volume}
 use Rattle.xfs_geom.specs.declared.records.Run.{Run}
 use Rattle.xfs_geom.specs.declared.records.Span.{Span}
 use Rattle.xfs_kinds.specs.OffsetWords.{offset_in_fork}
-use Rattle.xfs_space.specs.SpaceLaws.{runs_on}
 
 -- some blocks of the volume, with an owner and an offset word that eight bytes hold, at offsets that a fork can have
 pub record IsOwned (v : Volume) (r : Run) : Type 0 where
@@ -29,9 +29,9 @@ abbrev pub span_in : ℕ → Run → Span
 span_in base r = record { start = r.start - base; count = r.count }
 
 -- the starts of the runs ascend
-abbrev pub Rise : ℕ → List Run → Type 0
-Rise low [] = Unit {0}
-Rise low (r ∷ rest) = (low ≤ r.start) × Rise r.start rest
+abbrev pub StartsRise : ℕ → List Run → Type 0
+StartsRise low [] = Unit {0}
+StartsRise low (r ∷ rest) = (low ≤ r.start) × StartsRise r.start rest
 
 -- the runs have some blocks each and ascend, and no two have a block in common; the first begins at low or behind
 abbrev pub Follow : ℕ → List Run → Type 0

@@ -1,27 +1,20 @@
 -- The laws of space: no block has two owners; the free space trees have just the blocks without one; the reverse-mapping tree
 -- has just the owners (chapters "AG Free Space Management" and "Reverse-Mapping B+tree").
-use Rattle.std.specs.Prelude.{ℕ, Bool, ◌+◌, ◌*◌, ◌^◌, ◌≤◌, ◌==◌, ◌&&◌, ◌||◌, ◌≡◌, if◌then◌else◌, nat_lt, List, [], ◌∷◌, ◌++◌, map, count_by, Option, Some, None}
+use Rattle.std.specs.Prelude.{ℕ, Bool, ◌+◌, ◌*◌, ◌^◌, ◌≤◌, ◌==◌, ◌&&◌, ◌||◌, ◌≡◌, if◌then◌else◌, nat_lt, List, [], ◌∷◌, ◌++◌, map, Option, Some, None}
 use Rattle.std.specs.List.{range_with_len}
+use Rattle.xfs_geom.specs.Runs.{runs_on}
 use Rattle.xfs_geom.specs.Conversions.{group_length}
 use Rattle.xfs_geom.specs.Volumes.{Volume}
 use Rattle.xfs_geom.specs.declared.records.Run.{Run}
 use Rattle.xfs_geom.specs.declared.records.Span.{Span}
 use Rattle.xfs_geom.specs.declared.records.RmapRec.{RmapRec}
-use Rattle.xfs_kinds.specs.FreeRuns.{is_block, runs_of}
+use Rattle.xfs_kinds.specs.FreeRuns.{runs_where}
 use Rattle.xfs_kinds.specs.MergedRuns.{held_at}
 use Rattle.xfs_volume.specs.declared.findings.Law.{Law}
 use Rattle.xfs_volume.specs.declared.files.FileRec.{FileRec}
 use Rattle.xfs_volume.specs.declared.groups.GroupRec.{GroupRec}
 use Rattle.xfs_volume.specs.Laws.{law_at, nothing, first_difference}
 use Rattle.xfs_space.specs.Owners.{run, owned_runs}
-
--- the run has the block
-abbrev pub covers : ℕ → Run → Bool
-covers block r = is_block r.start r.count block
-
--- how many of the runs have the block
-abbrev pub runs_on : List Run → ℕ → ℕ
-runs_on runs block = count_by (covers block) runs
 
 -- the first law at a block: a number of runs above 1 is held where 1 is due
 abbrev pub sharing_at : List Run → ℕ → Law
@@ -32,7 +25,7 @@ sharing_laws v runs = map (sharing_at runs) (range_with_len 0 v.dblocks)
 
 -- the maximal runs of the group's blocks that no run has, by AG block
 unfoldable pub free_spans : Volume → List Run → ℕ → List Span
-free_spans v runs ag = runs_of (λ block. runs_on runs (ag * v.agblocks + block) == 0) 0 (group_length v ag)
+free_spans v runs ag = runs_where (λ block. runs_on runs (ag * v.agblocks + block) == 0) 0 (group_length v ag)
 
 -- a span comes before another by length: it is shorter, or as long and begins before
 abbrev pub is_shorter : Span → Span → Bool
@@ -92,13 +85,13 @@ space_laws v groups files =
 
 -- the first three laws in words: no block has two owners; the free space trees are the maximal runs of blocks without an owner,
 -- by start and by length; the reverse-mapping trees give each block its owner and offset word, and no other block
-pub record AreFree (v : Volume) (runs : List Run) (ag : ℕ) (g : GroupRec) : Type 0 where
+pub record HasFreeTrees (v : Volume) (runs : List Run) (ag : ℕ) (g : GroupRec) : Type 0 where
   pub by_start : g.bno ≡ free_spans v runs ag
   pub by_count : g.cnt ≡ by_length (free_spans v runs ag)
 
 abbrev pub AllAreFree : Volume → List Run → ℕ → List GroupRec → Type 0
 AllAreFree v runs ag [] = Unit {0}
-AllAreFree v runs ag (g ∷ gs) = AreFree v runs ag g × AllAreFree v runs (ag + 1) gs
+AllAreFree v runs ag (g ∷ gs) = HasFreeTrees v runs ag g × AllAreFree v runs (ag + 1) gs
 
 pub record IsSpaceLawful (v : Volume) (groups : List GroupRec) (files : List FileRec) : Type 0 where
   pub once : (block : ℕ) → runs_on (owned_runs v groups files) block ≤ 1

@@ -6,10 +6,10 @@ ghost use Rattle.xfs_geom.specs.Volumes.{volume_of};
 ghost use Rattle.xfs_volume.specs.declared.findings.Law.{Law};
 ghost use Rattle.xfs_volume.specs.Laws.{first_broken};
 ghost use Rattle.xfs_space.specs.Maps.{AreAlike};
-ghost use Rattle.xfs_space.specs.Parts.{AreGroups, IsFile};
-ghost use Rattle.xfs_space.specs.RunLaws.{AreLawful, run_laws};
+ghost use Rattle.xfs_space.specs.Parts.{AreGroups, HasLawfulForks};
+ghost use Rattle.xfs_space.specs.Private.RunLaws.{AreLawful, run_laws};
 ghost use Rattle.xfs_space.specs.SpaceLaws.{AllAreFree, IsSpaceLawful, free_laws, owner_laws, recorded_runs, space_laws};
-ghost use Rattle.xfs_space.specs.Sorted.{Follow, IsOfOneGroup, IsOwned, Rise};
+ghost use Rattle.xfs_space.specs.Sorted.{Follow, IsOfOneGroup, IsOwned, StartsRise};
 
 use crate::free_space::free_law;
 use crate::owners::owned_runs;
@@ -40,7 +40,7 @@ pub fn check_space<R: Threads + Sync>(
 ) -> Result<Option<Law>, NoMemory>
     requires count { length groups.now ≡ g.now.agcount }
     requires groups { AreGroups (volume_of g.now) 0 groups.now }
-    requires files { All (IsFile (volume_of g.now)) files.now }
+    requires files { All (HasLawfulForks (volume_of g.now)) files.now }
     ensures law { IfOk result (λ law. law ≡ first_broken (space_laws (volume_of g.now) groups.now files.now)) }
     ensures differs { IfOk result (λ law. IfSome law (λ (broken : Law). broken.held ≢ broken.due)) }
     ensures lawful { IfOk result (λ law. law ≡ None ↔ IsSpaceLawful (volume_of g.now) groups.now files.now) }
@@ -60,7 +60,7 @@ fn runs_law(
 ) -> Result<Option<Law>, NoMemory>
     requires count { length groups.now ≡ g.now.agcount }
     requires lawful { AreGroups (volume_of g.now) 0 groups.now }
-    requires rise { Rise 0 runs.now }
+    requires rise { StartsRise 0 runs.now }
     requires owned { All (IsOwned (volume_of g.now)) runs.now }
     requires groups { All (IsOfOneGroup (volume_of g.now)) runs.now }
     ensures law { IfOk result (λ law. law ≡ first_broken (run_laws (volume_of g.now) groups.now runs.now)) }

@@ -1,11 +1,11 @@
 //! Two maps of owners, compared by one sweep.
 
 ghost use Rattle.std.specs.Prelude.{◌≡◌, ℕ, ◌+◌, ◌<◌, ◌≤◌, ◌^◌, ◌==◌, ◌&&◌, if◌then◌else◌, nat_le, List, map, max, min, MatchOption};
-ghost use Rattle.xfs_kinds.specs.MergedRuns.{word_at};
+ghost use Rattle.xfs_kinds.specs.MergedRuns.{offset_word_at};
 ghost use Rattle.xfs_space.specs.SpaceLaws.{recorded_run};
 ghost use Rattle.xfs_space.specs.Maps.{AreAlike, AreMapped, IsFirstDifference, IsMapped};
 
-use crate::holding::{recorded_run, word_at};
+use crate::holding::{recorded_run, offset_word_at};
 use xfs_geom::{RmapRec, Run};
 
 /// The first block to which the records of the group that begins at block `base` and the runs give different
@@ -49,9 +49,9 @@ fn agree(x: &Run, y: &Run, block: u64) -> bool
     requires y { IsMapped y.now }
     requires on_x { block < x.now.start + x.now.count }
     requires on_y { block < y.now.start + y.now.count }
-    ensures { result ≡ (x.now.owner == y.now.owner && word_at x.now block == word_at y.now block) }
+    ensures { result ≡ (x.now.owner == y.now.owner && offset_word_at x.now block == offset_word_at y.now block) }
 {
-    x.owner == y.owner && word_at(x, block) == word_at(y, block)
+    x.owner == y.owner && offset_word_at(x, block) == offset_word_at(y, block)
 }
 
 /// The place behind a run that ends by a block, or its own.

@@ -2,7 +2,7 @@
 
 ghost use Rattle.std.specs.Prelude.{◌≡◌, ℕ, ◌+◌, ◌*◌, ◌<◌, ◌^◌, List, map};
 ghost use Rattle.std.specs.List.{All};
-ghost use Rattle.xfs_kinds.specs.MergedRuns.{held_at, word_at};
+ghost use Rattle.xfs_kinds.specs.MergedRuns.{held_at, offset_word_at};
 ghost use Rattle.xfs_kinds.specs.OffsetWords.{is_file_data};
 ghost use Rattle.xfs_space.specs.SpaceLaws.{owner_number, recorded_run};
 ghost use Rattle.xfs_space.specs.Maps.{AreMapped, IsMapped};
@@ -62,16 +62,16 @@ pub fn held_number(runs: &[Run], block: u64) -> u128
 fn number_of(run: &Run, block: u64) -> u128
     requires run { IsMapped run.now }
     requires block { block < run.now.start + run.now.count }
-    ensures { result ≡ run.now.owner * 2 ^ 64 + word_at run.now block }
+    ensures { result ≡ run.now.owner * 2 ^ 64 + offset_word_at run.now block }
 {
-    run.owner as u128 * (1 << 64) + word_at(run, block) as u128
+    run.owner as u128 * (1 << 64) + offset_word_at(run, block) as u128
 }
 
 /// The offset word of a block of a run: the offset of file data goes up with the block.
-pub fn word_at(run: &Run, block: u64) -> u64
+pub fn offset_word_at(run: &Run, block: u64) -> u64
     requires run { IsMapped run.now }
     requires block { block < run.now.start + run.now.count }
-    ensures { result ≡ word_at run.now block }
+    ensures { result ≡ offset_word_at run.now block }
 {
     if is_file_data(run) {
         run.offset + block.saturating_sub(run.start)

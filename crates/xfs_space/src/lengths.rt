@@ -2,7 +2,7 @@
 
 ghost use Rattle.std.specs.Prelude.{◌≡◌, ℕ, IfOk, IsPermutation, map};
 ghost use Rattle.xfs_space.specs.SpaceLaws.{by_length};
-ghost use Rattle.xfs_space.specs.Ranks.{length_of, span_of, IsRanked};
+ghost use Rattle.xfs_space.specs.Private.Ranks.{length_of, span_of_length, LengthsRanked};
 
 use std::alloc::Global;
 use xfs_disk::NoMemory;
@@ -33,7 +33,7 @@ pub fn by_length(alloc: Global, spans: &[Span]) -> Result<Vec<Span>, NoMemory>
 /// The runs, ranked.
 fn ranked(alloc: Global, spans: &[Span]) -> Result<Vec<Length>, NoMemory>
     ensures moved { IfOk result (λ ranked. IsPermutation (map length_of spans.now) ranked.items) }
-    ensures ranked { IfOk result (λ ranked. IsRanked ranked.items) }
+    ensures ranked { IfOk result (λ ranked. LengthsRanked ranked.items) }
 {
     let mut lengths = lengths_of(alloc, spans)?;
     lengths.sort()?;

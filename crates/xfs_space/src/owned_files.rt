@@ -6,8 +6,8 @@ ghost use Rattle.xfs_geom.specs.Groups.{block_of_address, group_of_address};
 ghost use Rattle.xfs_geom.specs.Volumes.{volume_of};
 ghost use Rattle.xfs_volume.specs.declared.files.FileRec.{FileRec};
 ghost use Rattle.xfs_space.specs.Owners.{attribute_flag, extent_run, extent_word, file_runs};
-ghost use Rattle.xfs_space.specs.Parts.{IsFile};
-ghost use Rattle.xfs_space.specs.Places.{IsPlaced};
+ghost use Rattle.xfs_space.specs.Parts.{HasLawfulForks};
+ghost use Rattle.xfs_space.specs.Private.Places.{IsPlacedExtent};
 
 use crate::owners::{ATTRIBUTE, TREE_BLOCK, UNWRITTEN, push_blocks, push_run};
 use xfs_disk::NoMemory;
@@ -17,7 +17,7 @@ use xfs_word::Extent;
 
 /// Adds what the files own.
 pub fn push_files(runs: &mut Vec<Run>, g: &Geometry, files: &[FileRec]) -> Result<(), NoMemory>
-    requires { All (IsFile (volume_of g.now)) files.now }
+    requires { All (HasLawfulForks (volume_of g.now)) files.now }
     ensures put { OnOk result (runs.new.items ≡ runs.old.items ++ flat_map (file_runs (volume_of g.now)) files.now) }
     ensures small { OnOk result (All (λ (f : FileRec). f.ino < 2 ^ 64) files.now) }
 {
@@ -29,12 +29,12 @@ pub fn push_files(runs: &mut Vec<Run>, g: &Geometry, files: &[FileRec]) -> Resul
 
 /// Adds what a file owns: its data, its attributes, the blocks of its tree of extents.
 fn push_file(runs: &mut Vec<Run>, g: &Geometry, file: &FileRec) -> Result<(), NoMemory>
-    requires { IsFile (volume_of g.now) file.now }
+    requires { HasLawfulForks (volume_of g.now) file.now }
     ensures put { OnOk result (runs.new.items ≡ runs.old.items ++ file_runs (volume_of g.now) file.now) }
     ensures small { OnOk result (file.now.ino < 2 ^ 64) }
 {
     push_extents(runs, g, file.ino, 0, file.extents.as_slice())?;
-    push_extents(runs, g, file.ino, ATTRIBUTE, file.attr.as_slice())?;
+    push_extents(runs, g, file.ino, ATTRIBUTE, file.attr_extents.as_slice())?;
     push_blocks(runs, file.ino, TREE_BLOCK, file.tree.as_slice())
 }
 
@@ -47,7 +47,7 @@ fn push_extents(
     extents: &[Extent],
 ) -> Result<(), NoMemory>
     requires flag { flag ≤ 2 ^ 63 }
-    requires placed { All (IsPlaced (volume_of g.now)) extents.now }
+    requires placed { All (IsPlacedExtent (volume_of g.now)) extents.now }
     ensures put { OnOk result (runs.new.items ≡ runs.old.items ++ map (extent_run (volume_of g.now) ino flag) extents.now) }
     ensures small { ino < 2 ^ 64 }
 {

@@ -4,7 +4,7 @@ ghost use Rattle.std.specs.Prelude.{◌≡◌, ℕ, ◌++◌, ◌<◌, ◌≤◌
 ghost use Rattle.std.specs.List.{All};
 ghost use Rattle.xfs_geom.specs.Volumes.{volume_of};
 ghost use Rattle.xfs_volume.specs.declared.groups.GroupRec.{GroupRec};
-ghost use Rattle.xfs_space.specs.Owners.{cluster_run, clusters_of, cluster_runs, different, group_runs, groups_runs, listed_run, tree_runs};
+ghost use Rattle.xfs_space.specs.Owners.{cluster_run, clusters_of_chunk, cluster_runs, different, group_runs, groups_runs, listed_run, tree_runs};
 ghost use Rattle.xfs_space.specs.Parts.{AreGroups};
 
 use crate::owners::{CLUSTERS, GROUP, HEADERS, INODE_TREES, push_blocks, push_run};
@@ -78,7 +78,7 @@ fn push_clusters(runs: &mut Vec<Run>, base: u64, chunks: &[InoRec]) -> Result<()
 /// Adds the clusters of a chunk: two, or the first or the second is missing.
 fn push_chunk(runs: &mut Vec<Run>, base: u64, chunk: &InoRec) -> Result<(), NoMemory>
     requires { base < 2 ^ 26 }
-    ensures { OnOk result (runs.new.items ≡ runs.old.items ++ map (cluster_run base) (clusters_of chunk.now)) }
+    ensures { OnOk result (runs.new.items ≡ runs.old.items ++ map (cluster_run base) (clusters_of_chunk chunk.now)) }
 {
     let first = base + chunk.startino as u64 / 8;
     if chunk.holemask != 0x00ff {

@@ -3,8 +3,8 @@
 ghost use Rattle.std.specs.Prelude.{◌≡◌, ℕ, ◌++◌, ◌∷◌, [], List, length, IfOk, OnOk};
 ghost use Rattle.std.specs.List.{All};
 ghost use Rattle.xfs_geom.specs.Volumes.{volume_of};
-ghost use Rattle.xfs_space.specs.Owners.{run, blocks_of, owned_runs};
-ghost use Rattle.xfs_space.specs.Parts.{AreGroups, IsFile};
+ghost use Rattle.xfs_space.specs.Owners.{run, runs_of_blocks, owned_runs};
+ghost use Rattle.xfs_space.specs.Parts.{AreGroups, HasLawfulForks};
 ghost use Rattle.xfs_space.specs.Sorted.{IsOfOneGroup, IsOwned};
 
 use crate::owned_files::push_files;
@@ -52,7 +52,7 @@ pub fn owned_runs(
 ) -> Result<Vec<Run>, NoMemory>
     requires count { length groups.now ≡ g.now.agcount }
     requires groups { AreGroups (volume_of g.now) 0 groups.now }
-    requires files { All (IsFile (volume_of g.now)) files.now }
+    requires files { All (HasLawfulForks (volume_of g.now)) files.now }
     ensures all { IfOk result (λ runs. runs.items ≡ owned_runs (volume_of g.now) groups.now files.now) }
     ensures inside { IfOk result (λ runs. All (IsOwned (volume_of g.now)) runs.items) }
     ensures groups { IfOk result (λ runs. All (IsOfOneGroup (volume_of g.now)) runs.items) }
@@ -90,7 +90,7 @@ pub fn push_blocks(
     offset: u64,
     blocks: &[u64],
 ) -> Result<(), NoMemory>
-    ensures { OnOk result (runs.new.items ≡ runs.old.items ++ blocks_of owner offset blocks.now) }
+    ensures { OnOk result (runs.new.items ≡ runs.old.items ++ runs_of_blocks owner offset blocks.now) }
 {
     for block in blocks {
         push_run(runs, *block, 1, owner, offset)?;

@@ -2,10 +2,11 @@
 
 ghost use Rattle.std.specs.Prelude.{◌≡◌, ℕ, MatchOption};
 ghost use Rattle.std.specs.List.{All};
+ghost use Rattle.xfs_geom.specs.Runs.{covers, runs_on};
 ghost use Rattle.xfs_geom.specs.Volumes.{Volume};
 ghost use Rattle.xfs_volume.specs.Laws.{first_broken};
-ghost use Rattle.xfs_space.specs.SpaceLaws.{covers, runs_on, sharing_laws};
-ghost use Rattle.xfs_space.specs.Sorted.{Follow, IsFirstShared, IsOwned, IsSized, Rise};
+ghost use Rattle.xfs_space.specs.SpaceLaws.{sharing_laws};
+ghost use Rattle.xfs_space.specs.Sorted.{Follow, IsFirstShared, IsOwned, IsSized, StartsRise};
 
 use xfs_geom::Run;
 use xfs_volume::Law;
@@ -13,7 +14,7 @@ use xfs_volume::Law;
 /// The first law that a volume with these owned runs, in order, breaks among those that no block has two
 /// owners.
 pub fn sharing_law(runs: &[Run]) -> Option<Law>
-    requires rise { Rise 0 runs.now }
+    requires rise { StartsRise 0 runs.now }
     requires sized { All IsSized runs.now }
     ensures law { (v : Volume) → All (IsOwned v) runs.now → result ≡ first_broken (sharing_laws v runs.now) }
     ensures apart { MatchOption result (Follow 0 runs.now) (λ _. Unit {0}) }
@@ -31,7 +32,7 @@ pub fn sharing_law(runs: &[Run]) -> Option<Law>
 
 /// The first block that more than one of the runs has, which are in order.
 fn first_shared(runs: &[Run]) -> Option<u64>
-    requires rise { Rise 0 runs.now }
+    requires rise { StartsRise 0 runs.now }
     requires sized { All IsSized runs.now }
     ensures { MatchOption result (Follow 0 runs.now) (IsFirstShared runs.now) }
 {

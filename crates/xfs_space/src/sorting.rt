@@ -1,7 +1,7 @@
 //! Owned runs in order.
 
 ghost use Rattle.std.specs.Prelude.{◌≡◌, ℕ, IfOk, IsPermutation};
-ghost use Rattle.xfs_space.specs.Sorted.{Rise};
+ghost use Rattle.xfs_space.specs.Sorted.{StartsRise};
 
 use rayon::prelude::*;
 use std::alloc::Global;
@@ -16,7 +16,7 @@ pub fn in_order<R: Threads + Sync>(
     runs: Vec<Run>,
 ) -> Result<Vec<Run>, NoMemory>
     ensures moved { IfOk result (λ sorted. IsPermutation runs.items sorted.items) }
-    ensures rise { IfOk result (λ sorted. Rise 0 sorted.items) }
+    ensures rise { IfOk result (λ sorted. StartsRise 0 sorted.items) }
 {
     let mut sorted = runs;
     par_sort(rt, alloc, &mut sorted)?;

@@ -3,12 +3,12 @@ use Rattle.std.proofs.Common.{◌≡◌, ℕ, ◌+◌, ◌≤◌, ◌==◌, Bool
 use Rattle.std.specs.List.{All, list_any}
 use Rattle.std.proofs.lemmas.Bool.{and_parts, eqb-true, leb-true}
 use Rattle.std.proofs.lemmas.List.Elements.{All-append, All-cons, All-head, All-nil, All-tail}
-use Rattle.xfs_options.specs.Making.{Refusal, judged, judged_by, label_of, last_from, last_value, make_from, make_line, make_of, make_options}
+use Rattle.xfs_options.specs.MakeWords.{Refusal, judged_making, judged_by, label_of, last_from, last_value, make_from, make_line, make_of, make_options}
 use Rattle.xfs_options.specs.Options.{accepts, is_label, row_of}
-use Rattle.xfs_options.specs.SubOptions.{first_bad, items_of}
-use Rattle.xfs_options.specs.Words.{Words, Read, after_form, after_letters, after_option, after_rest, after_row, after_value, after_word, after_words, free_row, is_free, is_option, options_of, reading_of, settled}
+use Rattle.xfs_options.specs.SubOptions.{first_bad, items_given}
+use Rattle.xfs_options.specs.Words.{Words, Read, after_form, after_letters, after_option, after_rest, after_row, after_value, after_word, after_words, free_row, is_not_excluded, is_option, options_of, reading_of, finished_reading}
 use Rattle.xfs_options.specs.Words.Read.{in_options, in_value, in_image, complete, offended}
-use Rattle.xfs_options.specs.declared.making.MakeLine.{MakeLine}
+use Rattle.xfs_options.specs.declared.make_words.MakeLine.{MakeLine}
 use Rattle.xfs_options.specs.declared.options.OptionRow.{OptionRow}
 use Rattle.xfs_options.specs.declared.options.ValueForm.{ValueForm}
 use Rattle.xfs_options.specs.declared.reading.Given.{Given}
@@ -73,7 +73,7 @@ form_sound rows at letter (Some form) rest given next takes sound later = rest_s
 row_sound : (rows : List OptionRow) (at letter : ℕ) (row : Option OptionRow) → row_of letter rows ≡ row → (rest : List ℕ) (given : List Given) (next : Read)
     → AreSound rows given → (HasRow (row_of letter rows) [] → IsSoundRead rows next) → IsSoundRead rows (after_row at letter (free_row row given) rest given next)
 row_sound rows at letter None is rest given next sound later = tt
-row_sound rows at letter (Some row) is rest given next sound later = by_free (is_free row.excludes given)
+row_sound rows at letter (Some row) is rest given next sound later = by_free (is_not_excluded row.excludes given)
   where
     takes : (value : List ℕ) → HasForm row.value value → HasRow (row_of letter rows) value
     takes value has = subst (λ (r : Option OptionRow). HasRow r value) (sym is) has
@@ -108,7 +108,7 @@ words_sound : (rows : List OptionRow) (at : ℕ) (words : Words) (r : Read) → 
 words_sound rows at [] r sound = sound
 words_sound rows at (word ∷ words) r sound = words_sound rows (at + 1) words (after_word rows at word r) (word_sound rows at word r sound)
 
-settled_sound : (rows : List OptionRow) (count : ℕ) (r : Read) (given : List Given) → IsSoundRead rows r → settled count r ≡ Ok given → AreSound rows given
+settled_sound : (rows : List OptionRow) (count : ℕ) (r : Read) (given : List Given) → IsSoundRead rows r → finished_reading count r ≡ Ok given → AreSound rows given
 settled_sound rows count (in_options g) given sound is = cc
 settled_sound rows count (in_value letter form g) given sound is = cc
 settled_sound rows count (in_image g) given sound is = cc
@@ -149,9 +149,9 @@ none_found : {I : Type 0} (f : Option I → Result MakeLine Refusal) (line : Mak
 none_found f line never None is = is
 none_found f line never (Some i) is = absurd (never i is)
 
-by_given : (given : List Given) (line : MakeLine) → AreSound make_options given → judged given ≡ Ok line → length line.options.label ≤ 12
+by_given : (given : List Given) (line : MakeLine) → AreSound make_options given → judged_making given ≡ Ok line → length line.options.label ≤ 12
 by_given given line sound is =
-    let items = items_of given in
+    let items = items_given given in
     let said : judged_by None given items ≡ Ok line =
     none_found (λ found. judged_by found given items) line (λ i refused. cc) (first_bad [] items) is in
     let same : make_line given items ≡ line = cc in

@@ -5,19 +5,19 @@ use Rattle.std.proofs.lemmas.List.{append-nil, map-append, take_more, take-appen
 use Rattle.std.proofs.lemmas.List.Concat.{flat_map-append}
 use Rattle.std.proofs.Math.Seq.{take-append-add}
 use Rattle.xfs_disk.specs.declared.failed.Failed.{Failed}
-use Rattle.xfs_tools.specs.Labels.{label_of}
-use Rattle.xfs_tools.specs.Answers.{Puts}
+use Rattle.xfs_tools.specs.Private.Labels.{label_now}
+use Rattle.xfs_tools.specs.Answers.{PutsText}
 use Rattle.xfs_tools.specs.Texts.{labelled, line, number_text}
 use Rattle.xfs_tools.specs.declared.texts.Number.{Number}
 
 -- the same text under another name
 pub puts_as : (was now : Option (List ℕ)) (faults faults_now : ℕ) (text other : List ℕ) (result : Result (Unit {0}) Failed)
-    → text ≡ other → Puts was now faults faults_now other result → Puts was now faults faults_now text result
+    → text ≡ other → PutsText was now faults faults_now other result → PutsText was now faults faults_now text result
 puts_as was now faults faults_now text other result same puts = rw same puts
 
 -- a piece that was put, and then more
 pub puts_then : (was mid now : Option (List ℕ)) (f0 f1 f2 : ℕ) (first second : List ℕ) (done : Unit {0}) (result : Result (Unit {0}) Failed)
-    → Puts was mid f0 f1 first (Ok done) → Puts mid now f1 f2 second result → Puts was now f0 f2 (first ++ second) result
+    → PutsText was mid f0 f1 first (Ok done) → PutsText mid now f1 f2 second result → PutsText was now f0 f2 (first ++ second) result
 puts_then was mid now f0 f1 f2 first second done (Ok d) a b =
     record {
       whole = λ before told. rw (← append_assoc before first second) (b.whole (before ++ first) (a.whole before told));
@@ -39,7 +39,7 @@ puts_then was mid now f0 f1 f2 first second done (Err e) a b =
 
 -- a piece that failed, of a longer text
 pub puts_failed : (was now : Option (List ℕ)) (f0 f1 : ℕ) (first second : List ℕ) (e : Failed)
-    → Puts was now f0 f1 first (Err e) → Puts was now f0 f1 (first ++ second) (Err e)
+    → PutsText was now f0 f1 first (Err e) → PutsText was now f0 f1 (first ++ second) (Err e)
 puts_failed was now f0 f1 first second e a =
     record {
       whole = tt;
@@ -51,7 +51,7 @@ puts_failed was now f0 f1 first second e a =
     }
 
 -- nothing was put yet
-pub puts_nothing : (was : Option (List ℕ)) (faults : ℕ) → Puts was was faults faults [] (Ok tt)
+pub puts_nothing : (was : Option (List ℕ)) (faults : ℕ) → PutsText was was faults faults [] (Ok tt)
 puts_nothing was faults =
     record {
       whole = λ before told. rw append-nil told;
@@ -61,18 +61,18 @@ puts_nothing was faults =
 
 -- one more labelled number
 pub next_label : (numbers : List (Bor (List ℕ) × Number)) (i : ℕ) (d : Bor (List ℕ) × Number) → i < length numbers
-    → labelled (map label_of (take (i + 1) numbers))
-    ≡ labelled (map label_of (take i numbers)) ++ ((get_or numbers i d).0.now ++ number_text (get_or numbers i d).1)
+    → labelled (map label_now (take (i + 1) numbers))
+    ≡ labelled (map label_now (take i numbers)) ++ ((get_or numbers i d).0.now ++ number_text (get_or numbers i d).1)
 next_label numbers i d within =
     rw (take_more numbers i d within, map-append, flat_map-append, append-nil) refl
 
 -- a line begins with its first labelled numbers
 pub line_of_first : (numbers : List (Bor (List ℕ) × Number)) (i : ℕ) (end : List ℕ)
-    → line (map label_of numbers) end ≡ labelled (map label_of (take i numbers)) ++ (labelled (map label_of (drop i numbers)) ++ end)
+    → line (map label_now numbers) end ≡ labelled (map label_now (take i numbers)) ++ (labelled (map label_now (drop i numbers)) ++ end)
 unfolding line
 line_of_first numbers i end =
     rw (
-      ← append_assoc (labelled (map label_of (take i numbers))) (labelled (map label_of (drop i numbers))) end,
+      ← append_assoc (labelled (map label_now (take i numbers))) (labelled (map label_now (drop i numbers))) end,
       ← flat_map-append,
       ← map-append,
       take-append-drop,
@@ -80,6 +80,6 @@ line_of_first numbers i end =
 
 -- all labelled numbers, and then the end
 pub line_of_all : (numbers : List (Bor (List ℕ) × Number)) (i : ℕ) (end : List ℕ) → length numbers ≤ i
-    → line (map label_of numbers) end ≡ labelled (map label_of (take i numbers)) ++ end
+    → line (map label_now numbers) end ≡ labelled (map label_now (take i numbers)) ++ end
 unfolding line
 line_of_all numbers i end all = rw (take_all i numbers all) refl

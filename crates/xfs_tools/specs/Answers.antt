@@ -26,7 +26,7 @@ answer_of (out.WriteFault blocks) = WriteFault blocks
 answer_of out.NoMemory = NoMemory
 
 -- a text was put: the whole of it, or a prefix where the sink failed
-pub record Puts (was now : Option (List ℕ)) (faults faults_now : ℕ) (text : List ℕ) (result : Result (Unit {0}) Failed) : Type 0 where
+pub record PutsText (was now : Option (List ℕ)) (faults faults_now : ℕ) (text : List ℕ) (result : Result (Unit {0}) Failed) : Type 0 where
   pub whole : OnOk result (ForSome was (λ before. now ≡ Some (before ++ text)))
   pub part : OnErr result (ForSome was (λ before. (n : ℕ) × (n ≤ length text) × (now ≡ Some (before ++ take n text))))
   pub cause : HasCause faults faults_now result
@@ -35,8 +35,8 @@ pub record Puts (was now : Option (List ℕ)) (faults faults_now : ℕ) (text : 
 abbrev pub IsTold : {O E : Type 0} → (O → Option (List ℕ)) → (O → ℕ) → (E → Option (List ℕ)) → (E → ℕ) → O → O → E → E → Answer → Result (Unit {0}) Failed → Type 0
 IsTold out_took out_faults err_took err_faults out out_now err err_now answer put =
     MatchBool (is_for_out answer)
-    ((err_now ≡ err) × Puts (out_took out) (out_took out_now) (out_faults out) (out_faults out_now) (text_of answer) put)
-    ((out_now ≡ out) × Puts (err_took err) (err_took err_now) (err_faults err) (err_faults err_now) (text_of answer) put)
+    ((err_now ≡ err) × PutsText (out_took out) (out_took out_now) (out_faults out) (out_faults out_now) (text_of answer) put)
+    ((out_now ≡ out) × PutsText (err_took err) (err_took err_now) (err_faults err) (err_faults err_now) (text_of answer) put)
 
 -- the status of an answer; where its line could not be put, an output fault stands in its place
 abbrev pub status_of : Bool → Answer → Result (Unit {0}) Failed → Status

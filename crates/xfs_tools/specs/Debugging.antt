@@ -5,11 +5,11 @@ use Rattle.xfs_disk.specs.Blocks.{Image}
 use Rattle.xfs_disk.specs.declared.failed.Failed.{Failed}
 use Rattle.xfs_geom.specs.Election.{elected}
 use Rattle.xfs_geom.specs.Volumes.{stated_volume}
-use Rattle.xfs_options.specs.Debugging.{Debug}
+use Rattle.xfs_options.specs.DebugWords.{Debug}
 use Rattle.xfs_options.specs.declared.reading.LineFault.{LineFault}
 use Rattle.xfs_options.specs.declared.reading.LineFault.TheVariants as line
 use Rattle.xfs_shell.specs.Running.{may_write}
-use Rattle.xfs_shell.specs.Shells.{leave_of, most_of, told_lines, HasCause, HasElected, HasInput, IsEarly, LeavesDisk, Prints, RunsOver}
+use Rattle.xfs_shell.specs.Shells.{leave_of, most_of, told_lines, HasSessionCause, HasElected, HasInput, IsEarly, LeavesDisk, Prints, RunsOver}
 use Rattle.xfs_shell.specs.Stops.{StopsBetween}
 use Rattle.xfs_shell.specs.declared.outcomes.ShellOptions.{ShellOptions}
 use Rattle.xfs_shell.specs.declared.outcomes.ShellOutcome.{ShellOutcome}
@@ -62,7 +62,7 @@ pub record IsShelled {D S O : Type 0} (holds : D → Option Image) (size faults 
   pub appends : ForSome (took out) (λ before. (rest : List ℕ) × (took out_now ≡ Some (before ++ rest)))
   pub disk : RunsOver size holds reads writes write_faults tells_stops moment may_leave left_since (may_write (leave_of options))
       (size old + most_of (told_lines options.commands (left input))) (most_of (told_lines options.commands (left input))) old new outcome
-  pub cause : HasCause (faults old) (faults new) (write_faults old) (write_faults new) (takes input) (takes input_now) (puts out) (puts out_now) outcome
+  pub cause : HasSessionCause (faults old) (faults new) (write_faults old) (write_faults new) (takes input) (takes input_now) (puts out) (puts out_now) outcome
 
 -- what was asked of a session was done, as its outcome says, where the disk has counted so many failed reads
 pub record IsOfSession (options : ShellOptions) (done : ShellOptions → ShellOutcome → Type 0) (faults : ℕ) (answer : Answer) (finished : ℕ) : Type 0 where
@@ -72,9 +72,9 @@ pub record IsOfSession (options : ShellOptions) (done : ShellOptions → ShellOu
   pub is_done : done options outcome
 
 -- the end of a call whose words were refused, or could not be read for want of memory
-abbrev pub refusal_of : LineFault → End
-refusal_of (line.Offends n) = record { answer = Usage n; finished = 0 }
-refusal_of line.NoMemory = record { answer = NoMemory; finished = 0 }
+abbrev pub line_refusal : LineFault → End
+line_refusal (line.Offends n) = record { answer = Usage n; finished = 0 }
+line_refusal line.NoMemory = record { answer = NoMemory; finished = 0 }
 
 -- nothing was run, for this answer, and all is the same
 pub record IsNoSession (due : Answer) (same : Type 0) (answer : Answer) (finished : ℕ) : Type 0 where

@@ -1,7 +1,7 @@
 pub mod Answers
 pub mod CommandLine
-pub mod Labels
 pub mod Texts
 pub mod Debugging
 pub mod Making
 pub mod Repairing
+pub mod Private

@@ -5,14 +5,14 @@ use Rattle.xfs_disk.specs.Blocks.{Image}
 use Rattle.xfs_disk.specs.Reads.{OnlyReads}
 use Rattle.xfs_disk.specs.declared.failed.Failed.{Failed}
 use Rattle.xfs_disk.specs.declared.stamp.Stamp.{Stamp}
-use Rattle.xfs_options.specs.Making.{Refusal, bad, usage}
-use Rattle.xfs_options.specs.declared.making.MakeFault.{MakeFault}
-use Rattle.xfs_options.specs.declared.making.MakeFault.TheVariants as words
-use Rattle.xfs_options.specs.declared.making.MakeLine.{MakeLine}
-use Rattle.xfs_options.specs.declared.making.MakeOptions.{MakeOptions}
+use Rattle.xfs_options.specs.MakeWords.{Refusal, bad, usage}
+use Rattle.xfs_options.specs.declared.make_words.MakeFault.{MakeFault}
+use Rattle.xfs_options.specs.declared.make_words.MakeFault.TheVariants as words
+use Rattle.xfs_options.specs.declared.make_words.MakeLine.{MakeLine}
+use Rattle.xfs_options.specs.declared.make_words.MakeOptions.{MakeOptions}
 use Rattle.xfs_mkfs.specs.Counts.{CountsBlocks, IsUnwritten, reads_at}
 use Rattle.xfs_mkfs.specs.Outcome as mkfs
-use Rattle.xfs_mkfs.specs.Stops.{IsKept, StopLeaves}
+use Rattle.xfs_mkfs.specs.Stops.{IsDurableMake, StopLeaves}
 use Rattle.xfs_mkfs.specs.declared.outcome.MakeOutcome.{MakeOutcome}
 use Rattle.xfs_mkfs.specs.declared.outcome.MakeOutcome.TheVariants as out
 use Rattle.xfs_tools.specs.Answers.{IsTold}
@@ -42,21 +42,21 @@ is_made answer = false
 -- what a stop may leave.
 pub record IsMake {D : Type 0} (holds : D → Option Image) (size faults write_faults reads writes : D → ℕ) (tells_stops : D → Type 0)
     (moment : D → ℕ) (may_leave : D → ℕ → List ℕ → Type 0) (left_since : D → ℕ → Image → Type 0) (s : Stamp) (old new : D) (o : MakeOptions) (outcome : MakeOutcome) : Type 0 where
-  pub due : ForSome (holds old) (λ image. mkfs.IsDue o s (size old) image outcome)
-  pub leaves : ForSome (holds old) (λ image. mkfs.Leaves o s (size old) image (holds new) outcome)
-  pub cause : mkfs.IsCaused (faults old) (faults new) (write_faults old) (write_faults new) outcome
+  pub due : ForSome (holds old) (λ image. mkfs.IsDueMake o s (size old) image outcome)
+  pub leaves : ForSome (holds old) (λ image. mkfs.MakeLeaves o s (size old) image (holds new) outcome)
+  pub cause : mkfs.IsMakingCause (faults old) (faults new) (write_faults old) (write_faults new) outcome
   pub counts : CountsBlocks o s (size old) (writes old) (writes new) outcome
   pub looked : reads new ≡ reads_at o.force (reads old) outcome
   pub unwritten : IsUnwritten outcome → OnlyReads size holds write_faults writes tells_stops moment may_leave left_since old new
-  pub kept : IsKept (tells_stops old) (holds new) (may_leave new) outcome
+  pub kept : IsDurableMake (tells_stops old) (holds new) (may_leave new) outcome
   pub stops : tells_stops old → ForSome (holds old) (λ image. (t : ℕ) (stopped : Image) → t ≤ moment old → left_since new t stopped
       → left_since old t stopped ⊎ StopLeaves o s (size old) image stopped outcome)
 
 -- the end of a call whose words were refused, or could not be read for want of memory
-abbrev pub refusal_of : MakeFault → Making
-refusal_of (words.Offends n) = record { answer = Usage n; quiet = false }
-refusal_of (words.BadOption word item) = record { answer = BadOption word item; quiet = false }
-refusal_of words.NoMemory = record { answer = NoMemory; quiet = false }
+abbrev pub make_refusal : MakeFault → Making
+make_refusal (words.Offends n) = record { answer = Usage n; quiet = false }
+make_refusal (words.BadOption word item) = record { answer = BadOption word item; quiet = false }
+make_refusal words.NoMemory = record { answer = NoMemory; quiet = false }
 
 -- nothing was made, for this answer, and all is the same
 pub record IsNoMaking (due : Answer) (same : Type 0) (answer : Answer) : Type 0 where

@@ -7,8 +7,8 @@ use Rattle.xfs_mend.specs.declared.outcome.Summary.{Summary}
 use Rattle.xfs_mend.specs.declared.outcome.Summary.TheVariants.{Backups, Rebuilt}
 use Rattle.uuid.specs.Text.{hyphenated_text}
 use Rattle.xfs_mkfs.specs.declared.outcome.MadeSummary.{MadeSummary}
-use Rattle.xfs_place.specs.declared.faults.Place.{Place}
-use Rattle.xfs_place.specs.declared.faults.Place.TheVariants as Placed
+use Rattle.xfs_place.specs.declared.faults.Unplaced.{Unplaced}
+use Rattle.xfs_place.specs.declared.faults.Unplaced.TheVariants as Placed
 use Rattle.xfs_image.specs.declared.findings.Finding.{Finding}
 use Rattle.xfs_image.specs.declared.findings.Finding.TheVariants as Found
 use Rattle.xfs_volume.specs.declared.findings.Law.{Law}
@@ -47,7 +47,7 @@ finding_text (Found.Law law) = law_text law
 finding_text (Found.Part part place) = line ((codes "damaged: part ", Decimal part) ∷ (codes " at ", Decimal place) ∷ []) (codes "\n")
 
 -- the line of what finds no room
-abbrev pub no_room_text : Place → List ℕ
+abbrev pub no_room_text : Unplaced → List ℕ
 no_room_text (Placed.Group ag) = line ((codes "xfs: no room: group ", Decimal ag) ∷ []) (codes "\n")
 no_room_text (Placed.Directory ino) = line ((codes "xfs: no room: directory ", Decimal ino) ∷ []) (codes "\n")
 no_room_text (Placed.File ino) = line ((codes "xfs: no room: file ", Decimal ino) ∷ []) (codes "\n")

@@ -3,7 +3,7 @@
 use xfs_image::Finding;
 use xfs_mend::{Outcome, Summary};
 use xfs_mkfs::MadeSummary;
-use xfs_place::Place;
+use xfs_place::Unplaced;
 
 /// The answer of a call.
 #[derive(Clone, Copy, Debug, PartialEq, Eq)]
@@ -38,7 +38,7 @@ pub enum Answer {
     /// There is a volume already where one was to be made.
     HasVolume,
     /// The volume has no room for this.
-    NoRoom(Place),
+    NoRoom(Unplaced),
     /// A volume was made.
     Made(MadeSummary),
     /// A read failed, before anything was written. `faults` is the disk's count.

@@ -1,7 +1,8 @@
 //! The words of a command line.
 
 ghost use Rattle.std.specs.Prelude.{◌≡◌, ℕ, ◌≤◌, Option, Some, None, IsTrue, List, ◌∷◌, codes, length};
-ghost use Rattle.xfs_tools.specs.CommandLine.{after_letter_w, after_letters, after_option, after_word, after_workers, after_words, is_debugger, is_maker, judged, options_of, OffendsFirst, Words, no_options, reading_of, settled, workers_of};
+ghost use Rattle.xfs_options.specs.Words.{Words};
+ghost use Rattle.xfs_tools.specs.CommandLine.{after_letter_w, after_repair_letters, after_repair_option, after_repair_word, after_workers, after_repair_words, is_debugger, is_maker, judged, options_of_words, OffendsRepairFirst, no_options, repair_reading, repair_call, workers_of};
 
 use xfs_disk::Word;
 use xfs_mend::RepairOptions;
@@ -68,14 +69,14 @@ pub fn is_maker(words: &[Word]) -> bool
 /// What the words ask for. The number of a refusal is that of the first word that offends.
 pub fn judge(words: &[Word]) -> Call
     ensures judged { result ≡ judged words.now }
-    ensures offending { (rest : Words) (n : ℕ) → words.now ≡ codes "xfs_repair" ∷ rest → result ≡ Call.Refused n → OffendsFirst rest n }
+    ensures offending { (rest : Words) (n : ℕ) → words.now ≡ codes "xfs_repair" ∷ rest → result ≡ Call.Refused n → OffendsRepairFirst rest n }
 {
-    settle_words(words)
+    judge_words(words)
 }
 
 /// What the words ask for, by the tool that the first of them names.
 #[tactic(auto, unfolding(crate::specs::CommandLine::judged))]
-fn settle_words(words: &[Word]) -> Call
+fn judge_words(words: &[Word]) -> Call
     ensures { result ≡ judged words.now }
 {
     let [tool, rest @ ..] = words else {
@@ -83,7 +84,7 @@ fn settle_words(words: &[Word]) -> Call
     };
     let tool = tool.bytes();
     if tool == b"xfs_repair".as_slice() {
-        read_all(rest).settle(words.len())
+        read_all(rest).into_call(words.len())
     } else {
         Call::Refused { word: 0 }
     }
@@ -91,7 +92,7 @@ fn settle_words(words: &[Word]) -> Call
 
 /// Reads the words behind the tool's, whose numbers begin at 1.
 fn read_all(rest: &[Word]) -> Reading
-    ensures { result ≡ reading_of rest.now }
+    ensures { result ≡ repair_reading rest.now }
 {
     let mut reading = Reading::Options(RepairWords {
         check: false,
@@ -108,7 +109,7 @@ fn read_all(rest: &[Word]) -> Reading
 impl Reading {
     /// What is read once the word of this number is read too.
     fn after_word(self, at: usize, word: &[u8]) -> Reading
-        ensures { result ≡ after_word at word.now self }
+        ensures { result ≡ after_repair_word at word.now self }
     {
         match self {
             Reading::Options(options) => options.after_option(at, word),
@@ -120,8 +121,8 @@ impl Reading {
     }
 
     /// A repair, or the number of the first word that offends: that of all words where one lacks.
-    fn settle(self, count: usize) -> Call
-        ensures { result ≡ settled count self }
+    fn into_call(self, count: usize) -> Call
+        ensures { result ≡ repair_call count self }
     {
         match self {
             Reading::Complete(options) => Call::Repair(options),
@@ -136,7 +137,7 @@ impl Reading {
 impl RepairWords {
     /// What the repair is asked for.
     pub fn options(&self) -> RepairOptions
-        ensures { result ≡ options_of self.now }
+        ensures { result ≡ options_of_words self.now }
     {
         RepairOptions {
             check: self.check,
@@ -147,7 +148,7 @@ impl RepairWords {
 
     /// What is read after a word where an option or the image may stand.
     fn after_option(self, at: usize, word: &[u8]) -> Reading
-        ensures { result ≡ after_option at word.now self }
+        ensures { result ≡ after_repair_option at word.now self }
     {
         if word == b"--".as_slice() {
             return Reading::Image(self);
@@ -160,7 +161,7 @@ impl RepairWords {
 
     /// What is read after the letters of an option word.
     fn after_letters(self, at: usize, letters: &[u8]) -> Reading
-        ensures { result ≡ after_letters at letters.now self }
+        ensures { result ≡ after_repair_letters at letters.now self }
     {
         let mut options = self;
         for (before, letter) in letters.iter().enumerate() {

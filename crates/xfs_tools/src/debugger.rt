@@ -2,9 +2,9 @@
 
 ghost use Rattle.std.specs.Prelude.{◌≡◌, ℕ, Result};
 ghost use Rattle.xfs_disk.specs.declared.failed.Failed.{Failed};
-ghost use Rattle.xfs_options.specs.Debugging.{debug_of, said};
-ghost use Rattle.xfs_tools.specs.Answers.{Puts};
-ghost use Rattle.xfs_tools.specs.Debugging.{IsDebugged, IsOfSession, IsShelled, asked, finished_of, refusal_of, session_answer, session_status};
+ghost use Rattle.xfs_options.specs.DebugWords.{debug_of, said};
+ghost use Rattle.xfs_tools.specs.Answers.{PutsText};
+ghost use Rattle.xfs_tools.specs.Debugging.{IsDebugged, IsOfSession, IsShelled, asked, finished_of, line_refusal, session_answer, session_status};
 ghost use Rattle.xfs_tools.specs.Texts.{text_of};
 ghost use Rattle.xfs_tools.specs.declared.answer.Answer.{Answer};
 
@@ -36,7 +36,7 @@ pub(crate) fn run_debugger<D: Disk, S: Source, O: Sink, E: Sink>(
     ensures ended { (answer : Answer) × (finished : ℕ) × (put : Result (Unit {0}) Failed)
         × IsDebugged (debug_of words.now) ((disk.new ≡ disk.old) × (input.new ≡ input.old) × (out.new ≡ out.old))
         (IsShelled D.holds D.size D.faults D.write_faults D.reads D.writes D.tells_stops D.moment D.may_leave D.left_since S.left S.faults O.took O.faults disk.old disk.new input.old input.new out.old out.new) (D.faults disk.new) answer finished
-        × Puts (E.took err.old) (E.took err.new) (E.faults err.old) (E.faults err.new) (text_of answer) put
+        × PutsText (E.took err.old) (E.took err.new) (E.faults err.old) (E.faults err.new) (text_of answer) put
         × (result ≡ session_status answer finished put) }
     ensures size { D.size disk.new ≡ D.size disk.old }
 {
@@ -75,7 +75,7 @@ fn run_words<D: Disk, S: Source, O: Sink>(
 
 /// The end of a call whose words are refused, or could not be read.
 fn refused(fault: LineFault) -> End
-    ensures { result ≡ refusal_of fault }
+    ensures { result ≡ line_refusal fault }
 {
     let answer = match fault {
         LineFault::Offends(word) => Answer::Usage { word },

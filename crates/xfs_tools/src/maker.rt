@@ -2,9 +2,9 @@
 
 ghost use Rattle.std.specs.Prelude.{◌≡◌, ◌≤◌, ◌&&◌, Bool, Result, false, length};
 ghost use Rattle.xfs_disk.specs.declared.failed.Failed.{Failed};
-ghost use Rattle.xfs_options.specs.Making.{make_of};
+ghost use Rattle.xfs_options.specs.MakeWords.{make_of};
 ghost use Rattle.xfs_tools.specs.Answers.{status_of};
-ghost use Rattle.xfs_tools.specs.Making.{IsMake, IsMaking, IsOfMaking, IsToldUnless, is_made, made_answer, refusal_of};
+ghost use Rattle.xfs_tools.specs.Making.{IsMake, IsMaking, IsOfMaking, IsToldUnless, is_made, made_answer, make_refusal};
 ghost use Rattle.xfs_tools.specs.declared.answer.Answer.{Answer};
 
 use crate::answer::{Answer, Status};
@@ -79,7 +79,7 @@ fn make_words<R: Threads + Sync, D: Disk, L: Library>(
 
 /// The end of a call whose words are refused, or could not be read.
 fn refused(fault: MakeFault) -> Making
-    ensures { result ≡ refusal_of fault }
+    ensures { result ≡ make_refusal fault }
 {
     let answer = match fault {
         MakeFault::Offends(word) => Answer::Usage { word },

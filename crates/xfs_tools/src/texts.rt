@@ -1,8 +1,8 @@
 //! The line of each answer. Putting one takes no memory.
 
 ghost use Rattle.std.specs.Prelude.{◌≡◌, ℕ, ◌++◌, codes, length, map};
-ghost use Rattle.xfs_tools.specs.Labels.{label_of};
-ghost use Rattle.xfs_tools.specs.Answers.{IsTold, Puts};
+ghost use Rattle.xfs_tools.specs.Private.Labels.{label_now};
+ghost use Rattle.xfs_tools.specs.Answers.{IsTold, PutsText};
 ghost use Rattle.xfs_tools.specs.Texts.{finding_text, law_text, line, made_numbers, made_text, no_room_text, number_text, summary_text, text_of};
 ghost use Rattle.uuid.specs.Text.{hyphenated_text};
 
@@ -14,7 +14,7 @@ use xfs_image::Finding;
 use xfs_mend::Summary;
 use xfs_mkfs::MadeSummary;
 use xfs_objects::{MOST_DIGITS, write_hexadecimal};
-use xfs_place::Place;
+use xfs_place::Unplaced;
 use xfs_volume::Law;
 
 /// A number, by the base in which it is put.
@@ -38,7 +38,7 @@ pub fn tell<O: Sink, E: Sink>(out: &mut O, err: &mut E, answer: Answer) -> Resul
 
 /// Puts the line of an answer.
 pub fn put_answer<S: Sink>(sink: &mut S, answer: Answer) -> Result<(), Failed>
-    ensures { Puts (S.took sink.old) (S.took sink.new) (S.faults sink.old) (S.faults sink.new) (text_of answer) result }
+    ensures { PutsText (S.took sink.old) (S.took sink.new) (S.faults sink.old) (S.faults sink.new) (text_of answer) result }
 {
     match answer {
         Answer::Usage { word } => put_line(
@@ -87,7 +87,7 @@ pub fn put_answer<S: Sink>(sink: &mut S, answer: Answer) -> Result<(), Failed>
 
 /// Puts the line of a refused feature word.
 fn put_unsupported<S: Sink>(sink: &mut S, word: u8, bits: u64) -> Result<(), Failed>
-    ensures { Puts (S.took sink.old) (S.took sink.new) (S.faults sink.old) (S.faults sink.new) (text_of (Answer.Unsupported word bits)) result }
+    ensures { PutsText (S.took sink.old) (S.took sink.new) (S.faults sink.old) (S.faults sink.new) (text_of (Answer.Unsupported word bits)) result }
 {
     let numbers = [
         ("xfs: unsupported: word ", Number::Decimal(word as u64)),
@@ -98,7 +98,7 @@ fn put_unsupported<S: Sink>(sink: &mut S, word: u8, bits: u64) -> Result<(), Fai
 
 /// Puts the line of a volume that is too large.
 fn put_too_large<S: Sink>(sink: &mut S, what: u8, count: u64) -> Result<(), Failed>
-    ensures { Puts (S.took sink.old) (S.took sink.new) (S.faults sink.old) (S.faults sink.new) (text_of (Answer.TooLarge what count)) result }
+    ensures { PutsText (S.took sink.old) (S.took sink.new) (S.faults sink.old) (S.faults sink.new) (text_of (Answer.TooLarge what count)) result }
 {
     let numbers = [
         ("xfs: too large: ", Number::Decimal(what as u64)),
@@ -109,7 +109,7 @@ fn put_too_large<S: Sink>(sink: &mut S, what: u8, count: u64) -> Result<(), Fail
 
 /// Puts the line of a file that is not supported.
 fn put_unsupported_file<S: Sink>(sink: &mut S, ino: u64, what: u8) -> Result<(), Failed>
-    ensures { Puts (S.took sink.old) (S.took sink.new) (S.faults sink.old) (S.faults sink.new) (text_of (Answer.UnsupportedFile ino what)) result }
+    ensures { PutsText (S.took sink.old) (S.took sink.new) (S.faults sink.old) (S.faults sink.new) (text_of (Answer.UnsupportedFile ino what)) result }
 {
     let numbers = [
         ("xfs: unsupported: inode ", Number::Decimal(ino)),
@@ -120,7 +120,7 @@ fn put_unsupported_file<S: Sink>(sink: &mut S, ino: u64, what: u8) -> Result<(),
 
 /// Puts the line of a bad item of a word.
 fn put_bad_option<S: Sink>(sink: &mut S, word: usize, item: u8) -> Result<(), Failed>
-    ensures { Puts (S.took sink.old) (S.took sink.new) (S.faults sink.old) (S.faults sink.new) (text_of (Answer.BadOption word item)) result }
+    ensures { PutsText (S.took sink.old) (S.took sink.new) (S.faults sink.old) (S.faults sink.new) (text_of (Answer.BadOption word item)) result }
 {
     let numbers = [
         ("xfs: bad option: word ", Number::Decimal(word as u64)),
@@ -130,29 +130,29 @@ fn put_bad_option<S: Sink>(sink: &mut S, word: usize, item: u8) -> Result<(), Fa
 }
 
 /// Puts the line of what finds no room.
-fn put_no_room<S: Sink>(sink: &mut S, place: Place) -> Result<(), Failed>
-    ensures { Puts (S.took sink.old) (S.took sink.new) (S.faults sink.old) (S.faults sink.new) (no_room_text place) result }
+fn put_no_room<S: Sink>(sink: &mut S, place: Unplaced) -> Result<(), Failed>
+    ensures { PutsText (S.took sink.old) (S.took sink.new) (S.faults sink.old) (S.faults sink.new) (no_room_text place) result }
 {
     match place {
-        Place::Group(ag) => put_line(
+        Unplaced::Group(ag) => put_line(
             sink,
             &[("xfs: no room: group ", Number::Decimal(ag as u64))],
             "\n",
         ),
-        Place::Directory(ino) => put_line(
+        Unplaced::Directory(ino) => put_line(
             sink,
             &[("xfs: no room: directory ", Number::Decimal(ino))],
             "\n",
         ),
-        Place::File(ino) => put_line(sink, &[("xfs: no room: file ", Number::Decimal(ino))], "\n"),
-        Place::Chunk => put_line(sink, &[], "xfs: no room: chunk\n"),
-        Place::LostFound => put_line(sink, &[], "xfs: no room: lost+found\n"),
+        Unplaced::File(ino) => put_line(sink, &[("xfs: no room: file ", Number::Decimal(ino))], "\n"),
+        Unplaced::Chunk => put_line(sink, &[], "xfs: no room: chunk\n"),
+        Unplaced::LostFound => put_line(sink, &[], "xfs: no room: lost+found\n"),
     }
 }
 
 /// Puts the line of a volume that was made.
 fn put_made<S: Sink>(sink: &mut S, made: &MadeSummary) -> Result<(), Failed>
-    ensures { Puts (S.took sink.old) (S.took sink.new) (S.faults sink.old) (S.faults sink.new) (made_text made.now) result }
+    ensures { PutsText (S.took sink.old) (S.took sink.new) (S.faults sink.old) (S.faults sink.new) (made_text made.now) result }
 {
     match put_made_numbers(sink, made) {
         Ok(()) => {}
@@ -163,7 +163,7 @@ fn put_made<S: Sink>(sink: &mut S, made: &MadeSummary) -> Result<(), Failed>
 
 /// Puts the numbers of a volume that was made, and what stands before its identifier.
 fn put_made_numbers<S: Sink>(sink: &mut S, made: &MadeSummary) -> Result<(), Failed>
-    ensures { Puts (S.took sink.old) (S.took sink.new) (S.faults sink.old) (S.faults sink.new) (line (made_numbers made.now) (codes " uuid=")) result }
+    ensures { PutsText (S.took sink.old) (S.took sink.new) (S.faults sink.old) (S.faults sink.new) (line (made_numbers made.now) (codes " uuid=")) result }
 {
     let numbers = [
         ("made: blocks=", Number::Decimal(made.dblocks)),
@@ -177,7 +177,7 @@ fn put_made_numbers<S: Sink>(sink: &mut S, made: &MadeSummary) -> Result<(), Fai
 
 /// Puts an identifier, and ends the line.
 fn put_identifier_line<S: Sink>(sink: &mut S, identifier: [u8; 16]) -> Result<(), Failed>
-    ensures { Puts (S.took sink.old) (S.took sink.new) (S.faults sink.old) (S.faults sink.new) (hyphenated_text 97 identifier ++ codes "\n") result }
+    ensures { PutsText (S.took sink.old) (S.took sink.new) (S.faults sink.old) (S.faults sink.new) (hyphenated_text 97 identifier ++ codes "\n") result }
 {
     match put_identifier(sink, identifier) {
         Ok(()) => {}
@@ -188,7 +188,7 @@ fn put_identifier_line<S: Sink>(sink: &mut S, identifier: [u8; 16]) -> Result<()
 
 /// Puts an identifier, in lower case.
 fn put_identifier<S: Sink>(sink: &mut S, identifier: [u8; 16]) -> Result<(), Failed>
-    ensures { Puts (S.took sink.old) (S.took sink.new) (S.faults sink.old) (S.faults sink.new) (hyphenated_text 97 identifier) result }
+    ensures { PutsText (S.took sink.old) (S.took sink.new) (S.faults sink.old) (S.faults sink.new) (hyphenated_text 97 identifier) result }
 {
     let mut buffer = Uuid::encode_buffer();
     let hyphenated = Uuid::from_bytes(identifier).hyphenated();
@@ -197,7 +197,7 @@ fn put_identifier<S: Sink>(sink: &mut S, identifier: [u8; 16]) -> Result<(), Fai
 
 /// Puts the line of a finding.
 fn put_finding<S: Sink>(sink: &mut S, finding: Finding) -> Result<(), Failed>
-    ensures { Puts (S.took sink.old) (S.took sink.new) (S.faults sink.old) (S.faults sink.new) (finding_text finding) result }
+    ensures { PutsText (S.took sink.old) (S.took sink.new) (S.faults sink.old) (S.faults sink.new) (finding_text finding) result }
 {
     match finding {
         Finding::Part { part, place } => put_part(sink, part, place),
@@ -207,7 +207,7 @@ fn put_finding<S: Sink>(sink: &mut S, finding: Finding) -> Result<(), Failed>
 
 /// Puts the line of a part that is not right.
 fn put_part<S: Sink>(sink: &mut S, part: u8, place: u64) -> Result<(), Failed>
-    ensures { Puts (S.took sink.old) (S.took sink.new) (S.faults sink.old) (S.faults sink.new) (finding_text (Finding.Part part place)) result }
+    ensures { PutsText (S.took sink.old) (S.took sink.new) (S.faults sink.old) (S.faults sink.new) (finding_text (Finding.Part part place)) result }
 {
     let numbers = [
         ("damaged: part ", Number::Decimal(part as u64)),
@@ -218,7 +218,7 @@ fn put_part<S: Sink>(sink: &mut S, part: u8, place: u64) -> Result<(), Failed>
 
 /// Puts the line of a broken law.
 fn put_law<S: Sink>(sink: &mut S, law: &Law) -> Result<(), Failed>
-    ensures { Puts (S.took sink.old) (S.took sink.new) (S.faults sink.old) (S.faults sink.new) (law_text law.now) result }
+    ensures { PutsText (S.took sink.old) (S.took sink.new) (S.faults sink.old) (S.faults sink.new) (law_text law.now) result }
 {
     let numbers = [
         ("damaged: law ", Number::Decimal(law.law as u64)),
@@ -231,7 +231,7 @@ fn put_law<S: Sink>(sink: &mut S, law: &Law) -> Result<(), Failed>
 
 /// Puts the line of a repair's summary.
 fn put_summary<S: Sink>(sink: &mut S, summary: Summary) -> Result<(), Failed>
-    ensures { Puts (S.took sink.old) (S.took sink.new) (S.faults sink.old) (S.faults sink.new) (summary_text summary) result }
+    ensures { PutsText (S.took sink.old) (S.took sink.new) (S.faults sink.old) (S.faults sink.new) (summary_text summary) result }
 {
     match summary {
         Summary::Backups { count } => put_line(
@@ -259,7 +259,7 @@ fn put_summary<S: Sink>(sink: &mut S, summary: Summary) -> Result<(), Failed>
 /// Puts numbers with a label before each, and what ends their line.
 #[tactic(auto, unfolding(crate::specs::Texts::line))]
 fn put_line<S: Sink>(sink: &mut S, numbers: &[(&str, Number)], end: &str) -> Result<(), Failed>
-    ensures { Puts (S.took sink.old) (S.took sink.new) (S.faults sink.old) (S.faults sink.new) (line (map label_of numbers.now) end.now) result }
+    ensures { PutsText (S.took sink.old) (S.took sink.new) (S.faults sink.old) (S.faults sink.new) (line (map label_now numbers.now) end.now) result }
 {
     for (label, number) in numbers {
         match put_labelled(sink, label, *number) {
@@ -272,7 +272,7 @@ fn put_line<S: Sink>(sink: &mut S, numbers: &[(&str, Number)], end: &str) -> Res
 
 /// Puts a label and a number.
 fn put_labelled<S: Sink>(sink: &mut S, label: &str, number: Number) -> Result<(), Failed>
-    ensures { Puts (S.took sink.old) (S.took sink.new) (S.faults sink.old) (S.faults sink.new) (label.now ++ number_text number) result }
+    ensures { PutsText (S.took sink.old) (S.took sink.new) (S.faults sink.old) (S.faults sink.new) (label.now ++ number_text number) result }
 {
     match put_text(sink, label) {
         Ok(()) => {}
@@ -283,7 +283,7 @@ fn put_labelled<S: Sink>(sink: &mut S, label: &str, number: Number) -> Result<()
 
 /// Puts a number in its base.
 fn put_number<S: Sink>(sink: &mut S, number: Number) -> Result<(), Failed>
-    ensures { Puts (S.took sink.old) (S.took sink.new) (S.faults sink.old) (S.faults sink.new) (number_text number) result }
+    ensures { PutsText (S.took sink.old) (S.took sink.new) (S.faults sink.old) (S.faults sink.new) (number_text number) result }
 {
     match number {
         Number::Decimal(number) => put_text(sink, Buffer::new().format(number)),
@@ -298,7 +298,7 @@ fn put_number<S: Sink>(sink: &mut S, number: Number) -> Result<(), Failed>
 
 /// Puts a text.
 fn put_text<S: Sink>(sink: &mut S, text: &str) -> Result<(), Failed>
-    ensures { Puts (S.took sink.old) (S.took sink.new) (S.faults sink.old) (S.faults sink.new) text.now result }
+    ensures { PutsText (S.took sink.old) (S.took sink.new) (S.faults sink.old) (S.faults sink.new) text.now result }
 {
     sink.put(text.as_bytes())
 }

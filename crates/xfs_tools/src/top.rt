@@ -3,14 +3,14 @@
 ghost use Rattle.std.specs.Prelude.{◌≡◌, ℕ, ◌≤◌, ◌&&◌, Bool, true, false, drop, Result};
 ghost use Rattle.xfs_disk.specs.Reads.{OnlyReads};
 ghost use Rattle.xfs_disk.specs.declared.failed.Failed.{Failed};
-ghost use Rattle.xfs_options.specs.Debugging.{debug_of};
-ghost use Rattle.xfs_options.specs.Making.{make_of};
+ghost use Rattle.xfs_options.specs.DebugWords.{debug_of};
+ghost use Rattle.xfs_options.specs.MakeWords.{make_of};
 ghost use Rattle.xfs_tools.specs.CommandLine.{is_debugger, is_maker, judged, tells_in, tells_repair};
 ghost use Rattle.xfs_tools.specs.Debugging.{IsDebugged, IsShelled, session_status};
 ghost use Rattle.xfs_tools.specs.Making.{IsMake, IsMaking, IsToldUnless, is_made};
 ghost use Rattle.xfs_tools.specs.Repairing.{IsRepair, IsRepairing, only_checks};
 ghost use Rattle.xfs_tools.specs.Texts.{text_of};
-ghost use Rattle.xfs_tools.specs.Answers.{IsTold, Puts, status_of};
+ghost use Rattle.xfs_tools.specs.Answers.{IsTold, PutsText, status_of};
 ghost use Rattle.xfs_tools.specs.declared.answer.Answer.{Answer};
 
 use crate::answer::{Answer, Status};
@@ -55,7 +55,7 @@ pub fn run<R: Threads + Sync, D: Disk, L: Library, S: Source, O: Sink, E: Sink, 
     ensures debugged { is_debugger words.now ≡ true → (answer : Answer) × (finished : ℕ) × (put : Result (Unit {0}) Failed)
         × IsDebugged (debug_of (drop 1 words.now)) ((disk.new ≡ disk.old) × (input.new ≡ input.old) × (out.new ≡ out.old))
         (IsShelled D.holds D.size D.faults D.write_faults D.reads D.writes D.tells_stops D.moment D.may_leave D.left_since S.left S.faults O.took O.faults disk.old disk.new input.old input.new out.old out.new) (D.faults disk.new) answer finished
-        × Puts (E.took err.old) (E.took err.new) (E.faults err.old) (E.faults err.new) (text_of answer) put
+        × PutsText (E.took err.old) (E.took err.new) (E.faults err.old) (E.faults err.new) (text_of answer) put
         × (result ≡ session_status answer finished put) }
     // For the words of `mkfs.xfs`: the volume that they ask for was made or refused, and the disk holds what that leaves; or the
     // words were refused, or memory lacked for them, and nothing was done. The line is left out under `-q` where it was made.

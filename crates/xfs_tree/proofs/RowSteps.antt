@@ -11,7 +11,7 @@ use Rattle.xfs_tree.specs.Shape.{Shape}
 use Rattle.xfs_tree.specs.Rules.{last_of}
 use Rattle.xfs_tree.specs.declared.layout.Layout.{Layout}
 use Rattle.xfs_tree.specs.Blocks.{capacity, records_of}
-use Rattle.xfs_tree.specs.Reading.{bytes_at, next_of, places_of, at_block, rule_at, row_fault, behind}
+use Rattle.xfs_tree.specs.Reading.{bytes_of_block, next_of, places_of, at_block, rule_at, row_fault, behind}
 use Rattle.xfs_tree.proofs.Rest.{grown}
 
 -- a level above the leaves
@@ -47,7 +47,7 @@ places_all xs new all none held = sym (append-nil new) ∙ ap (λ rest. new ++ p
 module _ {R K : Type 0} (s : Shape R K) (v : Volume) (image : Image) where
   -- only leaves have records in front of them
   pub behind_node : (level : ℕ) (before : Option R) (seat : Seat K) → 1 ≤ level → before ≡ behind s v image level before seat
-  behind_node level before seat above = sym (ap (λ leaf. if leaf then last_of before (records_of s (bytes_at image seat.place)) else before) (not_leaf level above))
+  behind_node level before seat above = sym (ap (λ leaf. if leaf then last_of before (records_of s (bytes_of_block image seat.place)) else before) (not_leaf level above))
 
   -- a block keeps the rules: the rest of the row decides
   pub row_more : (level : ℕ) (met met' : List ℕ) (left right right' : Option ℕ) (before before' : Option R) (seat : Seat K) (xs rest : List (Seat K)) (all : Option Unread)

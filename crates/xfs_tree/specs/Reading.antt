@@ -2,6 +2,7 @@
 -- from the left (chapter "Common B+trees").
 use Rattle.std.specs.Prelude.{ℕ, zero, suc, ◌+◌, ◌-◌, ◌==◌, if◌then◌else◌, List, [], ◌∷◌, ◌++◌, map, Option, Some, None, Result, Ok, Err, slice_index_or}
 use Rattle.std.specs.List.{flat_map}
+use Rattle.xfs_geom.specs.Features.{or_else}
 use Rattle.xfs_disk.specs.Blocks.{Image}
 use Rattle.xfs_geom.specs.Volumes.{Volume}
 use Rattle.xfs_tree.specs.declared.seats.Seat.{Seat}
@@ -11,8 +12,8 @@ use Rattle.xfs_tree.specs.Blocks.{records_of, children_of}
 use Rattle.xfs_tree.specs.Rules.{last_of, block_fault, place_fault}
 
 -- the bytes of a block of an image, none where it is outside
-abbrev pub bytes_at : Image → ℕ → List ℕ
-bytes_at image block = slice_index_or image block []
+abbrev pub bytes_of_block : Image → ℕ → List ℕ
+bytes_of_block image block = slice_index_or image block []
 
 -- a root, which no parent states
 abbrev pub root_seat : {K : Type 0} → ℕ → Seat K
@@ -31,11 +32,6 @@ abbrev pub at_block : ℕ → Option ℕ → Option Unread → Option Unread
 at_block block (Some rule) later = Some (record { block = block; rule = rule })
 at_block block None later = later
 
--- the first of two faults
-abbrev pub first_of : {A : Type 0} → Option A → Option A → Option A
-first_of (Some fault) later = Some fault
-first_of None later = later
-
 -- one test, then another
 abbrev pub unless : {A E : Type 0} → Option E → A → Result A E
 unless (Some fault) value = Err fault
@@ -50,11 +46,11 @@ pub record Contents (R : Type 0) : Type 0 where
 module _ {R K : Type 0} (s : Shape R K) (v : Volume) (image : Image) where
   -- the children of a block
   abbrev pub below : Seat K → List (Seat K)
-  below seat = children_of s v (bytes_at image seat.place)
+  below seat = children_of s v (bytes_of_block image seat.place)
 
   -- the records under a block of some level
   unfoldable pub records_under : ℕ → Seat K → List R
-  records_under zero seat = records_of s (bytes_at image seat.place)
+  records_under zero seat = records_of s (bytes_of_block image seat.place)
   records_under (suc level) seat = flat_map (records_under level) (below seat)
 
   -- the blocks that lie so many levels under a block
@@ -63,22 +59,22 @@ module _ {R K : Type 0} (s : Shape R K) (v : Volume) (image : Image) where
   blocks_under (suc depth) seat = flat_map (blocks_under depth) (below seat)
 
   -- the blocks of one level, under those of the top level
-  abbrev pub row_of : List (Seat K) → ℕ → List (Seat K)
-  row_of tops depth = flat_map (blocks_under depth) tops
+  abbrev pub level_row : List (Seat K) → ℕ → List (Seat K)
+  level_row tops depth = flat_map (blocks_under depth) tops
 
   -- the blocks of the first levels
   unfoldable pub met_above : List (Seat K) → ℕ → List ℕ
   met_above tops zero = []
-  met_above tops (suc depth) = met_above tops depth ++ places_of (row_of tops depth)
+  met_above tops (suc depth) = met_above tops depth ++ places_of (level_row tops depth)
 
   -- what stands in front of a leaf that comes later
   abbrev pub behind : ℕ → Option R → Seat K → Option R
-  behind level before seat = if level == 0 then last_of before (records_of s (bytes_at image seat.place)) else before
+  behind level before seat = if level == 0 then last_of before (records_of s (bytes_of_block image seat.place)) else before
 
   -- the first rule that a block breaks
   abbrev pub rule_at : ℕ → List ℕ → Option ℕ → Option ℕ → Option R → Seat K → Option ℕ
   rule_at level met left right before seat =
-      first_of (place_fault s v met seat.place) (block_fault s v level left right before seat (bytes_at image seat.place))
+      or_else (place_fault s v met seat.place) (block_fault s v level left right before seat (bytes_of_block image seat.place))
 
   -- the first fault of a row of blocks of one level, between their neighbours
   unfoldable pub row_fault : ℕ → List ℕ → Option ℕ → Option ℕ → Option R → List (Seat K) → Option Unread
@@ -91,7 +87,7 @@ module _ {R K : Type 0} (s : Shape R K) (v : Volume) (image : Image) where
   unfoldable pub fault_above : List (Seat K) → ℕ → ℕ → Option Unread
   fault_above tops height zero = None
   fault_above tops height (suc depth) =
-      first_of (fault_above tops height depth) (row_fault (height - depth) (met_above tops depth) None None None (row_of tops depth))
+      or_else (fault_above tops height depth) (row_fault (height - depth) (met_above tops depth) None None None (level_row tops depth))
 
   -- what reads from a whole level down
   abbrev pub reading : List (Seat K) → ℕ → Result (Contents R) Unread

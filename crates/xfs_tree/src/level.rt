@@ -7,17 +7,17 @@ ghost use Rattle.xfs_geom.specs.Volumes.{volume_of};
 ghost use Rattle.xfs_tree.specs.Answers.{HasJudged, HasTreeCause, IsMet};
 ghost use Rattle.xfs_disk.specs.Reads.{OnlyReads};
 ghost use Rattle.xfs_tree.specs.Blocks.{capacity, count_of, records_of, children_of};
-ghost use Rattle.xfs_tree.specs.Reading.{bytes_at, next_of, places_of, at_block, below, rule_at, row_fault};
+ghost use Rattle.xfs_tree.specs.Reading.{bytes_of_block, next_of, places_of, at_block, below, rule_at, row_fault};
 ghost use Rattle.xfs_tree.specs.Rules.{last_of, place_fault};
 
 use crate::items::{child_at, record_at};
 use crate::kind::{Kind, layout_of};
 use crate::layout::count_of;
-use crate::met::Met;
+use crate::met::MetBlocks;
 use crate::places::can_hold;
 use crate::rules::{Neighbours, block_fault};
 use crate::seats::Seat;
-use crate::tree::TreeError;
+use crate::tree::TreeFault;
 use crate::unread::Unread;
 use std::alloc::Global;
 use std::sync::ledger::Ledger;
@@ -33,9 +33,9 @@ pub(crate) fn read_nodes<K: Kind, D: Disk, L: Ledger>(
     disk: &mut D,
     level: u32,
     row: &[Seat<K::Key>],
-    met: &mut Met,
+    met: &mut MetBlocks,
     steps: &mut Steps<L>,
-) -> Result<Vec<Seat<K::Key>>, TreeError>
+) -> Result<Vec<Seat<K::Key>>, TreeFault>
     requires nodes { 1 ≤ level }
     requires inside { g.now.dblocks ≤ D.size disk.old }
     requires met { IsMet met.old }
@@ -63,7 +63,7 @@ pub(crate) fn read_nodes<K: Kind, D: Disk, L: Ledger>(
         }
         match push_children(kind, g, &block, &mut next) {
             Ok(()) => {}
-            Err(NoMemory) => return Err(TreeError::NoMemory),
+            Err(NoMemory) => return Err(TreeFault::NoMemory),
         }
         left = Some(seat.place);
     }
@@ -77,14 +77,14 @@ pub(crate) fn read_leaves<K: Kind, D: Disk, L: Ledger>(
     g: &Geometry,
     disk: &mut D,
     row: &[Seat<K::Key>],
-    met: &mut Met,
+    met: &mut MetBlocks,
     steps: &mut Steps<L>,
-) -> Result<Vec<K::Record>, TreeError>
+) -> Result<Vec<K::Record>, TreeFault>
     requires inside { g.now.dblocks ≤ D.size disk.old }
     requires met { IsMet met.old }
     ensures judged { ForSome (D.holds disk.old) (λ image. HasJudged (row_fault (K.shape kind.now) (volume_of g.now) image 0 met.old.blocks.items None None None row.now) result) }
     ensures records { IfOk result (λ records. ForSome (D.holds disk.old) (λ image.
-        records.items ≡ flat_map (λ seat. records_of (K.shape kind.now) (bytes_at image seat.place)) row.now)) }
+        records.items ≡ flat_map (λ seat. records_of (K.shape kind.now) (bytes_of_block image seat.place)) row.now)) }
     ensures blocks { OnOk result (met.new.blocks.items ≡ met.old.blocks.items ++ places_of row.now) }
     ensures met { OnOk result (IsMet met.new) }
     ensures cause { HasTreeCause (D.faults disk.old) (D.faults disk.new) result }
@@ -108,7 +108,7 @@ pub(crate) fn read_leaves<K: Kind, D: Disk, L: Ledger>(
         }
         match push_records(kind, &block, &mut records) {
             Ok(()) => {}
-            Err(NoMemory) => return Err(TreeError::NoMemory),
+            Err(NoMemory) => return Err(TreeFault::NoMemory),
         }
         left = Some(seat.place);
         before = last_record(kind, &block, before);
@@ -126,16 +126,16 @@ fn enter<K: Kind, D: Disk, L: Ledger>(
     beside: &Neighbours,
     before: Option<K::Record>,
     seat: &Seat<K::Key>,
-    met: &mut Met,
+    met: &mut MetBlocks,
     block: &mut [u8],
     steps: &mut Steps<L>,
-) -> Result<(), TreeError>
+) -> Result<(), TreeFault>
     requires inside { g.now.dblocks ≤ D.size disk.old }
     requires whole { length block.old ≡ 4096 }
     requires met { IsMet met.old }
     ensures judged { ForSome (D.holds disk.old) (λ image. HasJudged (at_block seat.now.place
         (rule_at (K.shape kind.now) (volume_of g.now) image level met.old.blocks.items beside.now.left beside.now.right before seat.now) None) result) }
-    ensures bytes { OnOk result (ForSome (D.holds disk.old) (λ image. bytes_at image seat.now.place ≡ block.new)) }
+    ensures bytes { OnOk result (ForSome (D.holds disk.old) (λ image. bytes_of_block image seat.now.place ≡ block.new)) }
     ensures count { OnOk result (count_of block.new ≤ capacity (K.shape kind.now).layout level) }
     ensures whole { length block.new ≡ 4096 }
     ensures blocks { OnOk result (met.new.blocks.items ≡ met.old.blocks.items ++ seat.now.place ∷ []) }
@@ -145,25 +145,25 @@ fn enter<K: Kind, D: Disk, L: Ledger>(
     ensures ticks { steps.new ≤ steps.old + 1 }
 {
     let place = seat.place;
-    match admit(kind, g, place, met) {
+    match admit_block(kind, g, place, met) {
         Ok(None) => {}
-        Ok(Some(rule)) => return Err(TreeError::Unread(Unread { block: place, rule })),
-        Err(NoMemory) => return Err(TreeError::NoMemory),
+        Ok(Some(rule)) => return Err(TreeFault::Unread(Unread { block: place, rule })),
+        Err(NoMemory) => return Err(TreeFault::NoMemory),
     }
     steps.tick();
     match disk.read(place, block) {
         Ok(()) => {}
-        Err(Failed) => return Err(TreeError::ReadFault),
+        Err(Failed) => return Err(TreeFault::ReadFault),
     }
     match block_fault(kind, g, level, beside, before, seat, block) {
         None => Ok(()),
-        Some(rule) => Err(TreeError::Unread(Unread { block: place, rule })),
+        Some(rule) => Err(TreeFault::Unread(Unread { block: place, rule })),
     }
 }
 
 /// Whether a block can be one of the tree and was not met before: the first of these rules that it breaks.
 /// A block that keeps them counts as met.
-fn admit<K: Kind>(kind: &K, g: &Geometry, place: u64, met: &mut Met) -> Result<Option<u8>, NoMemory>
+fn admit_block<K: Kind>(kind: &K, g: &Geometry, place: u64, met: &mut MetBlocks) -> Result<Option<u8>, NoMemory>
     requires { IsMet met.old }
     ensures fault { IfOk result (λ fault. fault ≡ place_fault (K.shape kind.now) (volume_of g.now) met.old.blocks.items place) }
     ensures inside { IfOk result (λ fault. fault ≡ None → place < g.now.dblocks) }

@@ -9,7 +9,7 @@
 //! ```text
 //! match read_tree(alloc, kind, g, disk, root, levels, steps) {
 //!     Ok(tree) => ..,                        // tree.records, tree.blocks
-//!     Err(TreeError::Unread(unread)) => ..,  // the block, and the rule that it breaks
+//!     Err(TreeFault::Unread(unread)) => ..,  // the block, and the rule that it breaks
 //!     ..
 //! }
 //! ```
@@ -37,5 +37,5 @@ pub use layout::Layout;
 pub use reading::{read_below, read_tree};
 pub use rules::{high_of, low_of};
 pub use seats::Seat;
-pub use tree::{Tree, TreeError};
+pub use tree::{Tree, TreeFault};
 pub use unread::Unread;

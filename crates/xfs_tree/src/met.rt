@@ -11,18 +11,18 @@ use xfs_disk::NoMemory;
 
 /// Blocks by number: a list of them in the order in which they were met, and their set.
 #[derive(Drop)]
-pub(crate) struct Met {
+pub(crate) struct MetBlocks {
     pub blocks: Vec<u64>,
     pub set: BTreeSet<u64>,
 }
 
-impl Met {
+impl MetBlocks {
     /// No block.
-    pub fn new(alloc: Global) -> Met
+    pub fn new(alloc: Global) -> MetBlocks
         ensures none { result.blocks.items ≡ [] }
         ensures met { IsMet result }
     {
-        Met {
+        MetBlocks {
             blocks: Vec::new(alloc),
             set: BTreeSet::new(alloc),
         }

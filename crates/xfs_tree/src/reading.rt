@@ -11,9 +11,9 @@ ghost use Rattle.xfs_tree.specs.Seats.{seats_of};
 use crate::frontier::Frontier;
 use crate::kind::Kind;
 use crate::level::{read_leaves, read_nodes};
-use crate::met::Met;
+use crate::met::MetBlocks;
 use crate::seats::Seat;
-use crate::tree::{Tree, TreeError};
+use crate::tree::{Tree, TreeFault};
 use std::alloc::Global;
 use std::sync::ledger::Ledger;
 use xfs_disk::{Disk, NoMemory};
@@ -32,7 +32,7 @@ pub fn read_tree<K: Kind, D: Disk, L: Ledger>(
     root: u64,
     levels: u32,
     steps: &mut Steps<L>,
-) -> Result<Tree<K>, TreeError>
+) -> Result<Tree<K>, TreeFault>
     requires levels { 1 ≤ levels }
     requires inside { g.now.dblocks ≤ D.size disk.old }
     ensures read { ForSome (D.holds disk.old) (λ image. MatchResult result
@@ -44,7 +44,7 @@ pub fn read_tree<K: Kind, D: Disk, L: Ledger>(
     let mut row = Vec::new(alloc);
     match push_root(root, &mut row) {
         Ok(()) => read_levels(alloc, kind, g, disk, row, levels - 1, steps),
-        Err(NoMemory) => Err(TreeError::NoMemory),
+        Err(NoMemory) => Err(TreeFault::NoMemory),
     }
 }
 
@@ -57,7 +57,7 @@ pub fn read_below<K: Kind, D: Disk, L: Ledger>(
     disk: &mut D,
     top: &Frontier<K>,
     steps: &mut Steps<L>,
-) -> Result<Tree<K>, TreeError>
+) -> Result<Tree<K>, TreeFault>
     requires { g.now.dblocks ≤ D.size disk.old }
     ensures read { ForSome (D.holds disk.old) (λ image. MatchResult result
         (λ tree. reading (K.shape kind.now) (volume_of g.now) image (seats_of top.now.places.items top.now.lows.items top.now.highs.items) top.now.level ≡ Ok (record { records = tree.records.items; blocks = tree.blocks.items }))
@@ -67,7 +67,7 @@ pub fn read_below<K: Kind, D: Disk, L: Ledger>(
 {
     match top.seats(alloc) {
         Ok(row) => read_levels(alloc, kind, g, disk, row, top.level, steps),
-        Err(NoMemory) => Err(TreeError::NoMemory),
+        Err(NoMemory) => Err(TreeFault::NoMemory),
     }
 }
 
@@ -80,7 +80,7 @@ fn read_levels<K: Kind, D: Disk, L: Ledger>(
     tops: Vec<Seat<K::Key>>,
     height: u32,
     steps: &mut Steps<L>,
-) -> Result<Tree<K>, TreeError>
+) -> Result<Tree<K>, TreeFault>
     requires { g.now.dblocks ≤ D.size disk.old }
     ensures read { ForSome (D.holds disk.old) (λ image. MatchResult result
         (λ tree. reading (K.shape kind.now) (volume_of g.now) image tops.items height ≡ Ok (record { records = tree.records.items; blocks = tree.blocks.items }))
@@ -89,7 +89,7 @@ fn read_levels<K: Kind, D: Disk, L: Ledger>(
     ensures disk { OnlyReads D.size D.holds D.write_faults D.writes D.tells_stops D.moment D.may_leave D.left_since disk.old disk.new }
 {
     let mut row = tops;
-    let mut met = Met::new(alloc);
+    let mut met = MetBlocks::new(alloc);
     for depth in 0..height {
         match read_nodes(alloc, kind, g, disk, height - depth, &row, &mut met, steps) {
             Ok(next) => row = next,

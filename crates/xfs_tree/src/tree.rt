@@ -13,7 +13,7 @@ pub struct Tree<K: Kind> {
 
 /// Why a tree gives nothing.
 #[derive(Clone, Copy, Debug, PartialEq, Eq)]
-pub enum TreeError {
+pub enum TreeFault {
     /// A block breaks a rule.
     Unread(Unread),
     /// A read failed.

@@ -3,6 +3,7 @@ use Rattle.std.proofs.Common.{◌≡◌, ℕ, ◌==◌, nat_le, Bool, true, fals
 use Rattle.std.proofs.lemmas.Bool.{and_parts, and_from, not_from_false, or_right, le-leb}
 use Rattle.std.proofs.lemmas.List.{append_assoc}
 use Rattle.std.specs.List.{list_any, AllByRecursion, IsDistinct}
+use Rattle.xfs_geom.specs.Features.{or_else}
 use Rattle.xfs_disk.specs.Blocks.{Image}
 use Rattle.xfs_geom.specs.First.{first_false}
 use Rattle.xfs_geom.specs.Volumes.{Volume}
@@ -11,7 +12,7 @@ use Rattle.xfs_tree.specs.declared.unread.Unread.{Unread}
 use Rattle.xfs_tree.specs.Shape.{Shape}
 use Rattle.xfs_tree.specs.Blocks.{level_of, count_of, capacity, left_of, right_of}
 use Rattle.xfs_tree.specs.Rules.{can_hold, block_seal, least_of, is_sibling, is_ordered, agrees, low_of, high_of, block_fault, place_fault}
-use Rattle.xfs_tree.specs.Reading.{bytes_at, root_seat, next_of, places_of, at_block, first_of, behind, row_fault}
+use Rattle.xfs_tree.specs.Reading.{bytes_of_block, root_seat, next_of, places_of, at_block, behind, row_fault}
 use Rattle.xfs_treebuild.specs.Packing.{own_seat, run_fault}
 use Rattle.xfs_treebuild.proofs.Apart.{not_met}
 use Rattle.xfs_word.specs.Seal.{is_sealed}
@@ -46,7 +47,7 @@ no_fault block None later h = (refl, h)
 no_fault block (Some rule) later h = cc
 
 clean : (block : ℕ) (first rule : Option ℕ) (later : Option Unread) → first ≡ None → rule ≡ None → later ≡ None
-    → at_block block (first_of first rule) later ≡ None
+    → at_block block (or_else first rule) later ≡ None
 clean block None None later a b c = c
 clean block None (Some rule) later a b c = cc
 clean block (Some first) rule later a b c = cc
@@ -96,9 +97,9 @@ module _ {R K : Type 0} (s : Shape R K) (v : Volume) where
     unfolding run_fault
     root_run level place h =
         let seat = own_seat s v image level place in
-        let sound = no_fault place (block_fault s v level None None None seat (bytes_at image place)) None h in
-        let root = root_sound level place seat.low seat.high None None None (bytes_at image place) sound.0 in
-        clean place None (block_fault s v level None None None (root_seat place) (bytes_at image place)) None refl root refl
+        let sound = no_fault place (block_fault s v level None None None seat (bytes_of_block image place)) None h in
+        let root = root_sound level place seat.low seat.high None None None (bytes_of_block image place) sound.0 in
+        clean place None (block_fault s v level None None None (root_seat place) (bytes_of_block image place)) None refl root refl
 
     pub row_clean : (level : ℕ) (met : List ℕ) (left right : Option ℕ) (before : Option R) (seats : List (Seat K))
         → run_fault s v image level left right before seats ≡ None
@@ -108,7 +109,7 @@ module _ {R K : Type 0} (s : Shape R K) (v : Volume) where
     unfolding run_fault row_fault
     row_clean level met left right before [] sound can apart = refl
     row_clean level met left right before (seat ∷ seats) sound can apart =
-        let rule = block_fault s v level left (next_of right seats) before seat (bytes_at image seat.place) in
+        let rule = block_fault s v level left (next_of right seats) before seat (bytes_of_block image seat.place) in
         let next = behind s v image level before seat in
         let kept = no_fault seat.place rule (run_fault s v image level (Some seat.place) right next seats) sound in
         let first = seat_clean met seat can.0 (not_met met seat.place (places_of seats) apart) in

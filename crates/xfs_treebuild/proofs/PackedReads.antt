@@ -4,19 +4,20 @@ use Rattle.std.proofs.lemmas.List.Elements.{recursion_from_All}
 use Rattle.std.proofs.lemmas.List.Sorted.{All-permutation}
 use Rattle.std.specs.Bool.{IsTrue}
 use Rattle.std.specs.List.{flat_map, All, AllByRecursion, IsDistinct}
+use Rattle.xfs_geom.specs.Features.{or_else}
 use Rattle.xfs_disk.specs.Blocks.{Image}
 use Rattle.xfs_geom.specs.Volumes.{Volume}
 use Rattle.xfs_tree.specs.declared.seats.Seat.{Seat}
 use Rattle.xfs_tree.specs.Shape.{Shape}
 use Rattle.xfs_tree.specs.Blocks.{records_of, children_of}
 use Rattle.xfs_tree.specs.Rules.{can_hold}
-use Rattle.xfs_tree.specs.Reading.{Contents, bytes_at, root_seat, places_of, unless, first_of, row_of, met_above, fault_above, row_fault, records_under, reading}
+use Rattle.xfs_tree.specs.Reading.{Contents, bytes_of_block, root_seat, places_of, unless, level_row, met_above, fault_above, row_fault, records_under, reading}
 use Rattle.xfs_treebuild.specs.Packing.{own_seats, run_fault, AreRows, AreLevels, top_down, root_of, are_different}
 use Rattle.xfs_treebuild.proofs.Apart.{joined, all_front, all_back, distinct_front, distinct_from_different, turned, distinct_turned, last_row, root_alone}
 use Rattle.xfs_treebuild.proofs.CleanRows.{root_run, row_clean}
 use Rattle.xfs_tree.proofs.Depths.{row_next, row_top, children_at, records_at, records_from}
 
-second : {A : Type 0} (first later : Option A) → first ≡ None → later ≡ None → first_of first later ≡ None
+second : {A : Type 0} (first later : Option A) → first ≡ None → later ≡ None → or_else first later ≡ None
 second None later a b = b
 second (Some fault) later a b = cc
 
@@ -31,7 +32,7 @@ module _ {R K : Type 0} (s : Shape R K) (v : Volume) (image : Image) where
 
   -- what is read from the root down to a row, the rows above it last
   record IsMet (root height : ℕ) (row : List ℕ) (rows : List (List ℕ)) : Type 0 where
-    at : places_of (row_of s v image (root_seat root ∷ []) (length rows)) ≡ row
+    at : places_of (level_row s v image (root_seat root ∷ []) (length rows)) ≡ row
     met : met_above s v image (root_seat root ∷ []) (suc (length rows)) ≡ top_down (row ∷ rows)
     sound : fault_above s v image (root_seat root ∷ []) height (suc (length rows)) ≡ None
 
@@ -51,13 +52,13 @@ module _ {R K : Type 0} (s : Shape R K) (v : Volume) (image : Image) where
       record {
         at = ap places_of alone;
         met = ap places_of alone;
-        sound = ap (λ (n : ℕ). row_fault s v image n [] None None None (row_of s v image tops 0)) at_height
+        sound = ap (λ (n : ℕ). row_fault s v image n [] None None None (level_row s v image tops 0)) at_height
             ∙ ap (λ (seats : List (Seat K)). row_fault s v image level [] None None None seats) alone ∙ clean;
       }
 
   next_met : (level height root : ℕ) (row above : List ℕ) (rows : List (List ℕ)) → height ≡ level + suc (length rows)
       → run_fault s v image level None None None (own_seats s v image level row) ≡ None
-      → flat_map (λ place. children_of s v (bytes_at image place)) above ≡ own_seats s v image level row
+      → flat_map (λ place. children_of s v (bytes_of_block image place)) above ≡ own_seats s v image level row
       → Lawful row → IsDistinct ◌==◌ (top_down (row ∷ above ∷ rows))
       → IsMet root height above rows → IsMet root height row (above ∷ rows)
   unfolding met_above fault_above Lawful
@@ -65,22 +66,22 @@ module _ {R K : Type 0} (s : Shape R K) (v : Volume) (image : Image) where
       let tops : List (Seat K) = root_seat root ∷ [] in
       let depth = length rows in
       let own = own_seats s v image level row in
-      let seats : row_of s v image tops (suc depth) ≡ own =
-      row_next s v image tops depth ∙ children_at s v image (row_of s v image tops depth)
-      ∙ ap (λ (places : List ℕ). flat_map (λ place. children_of s v (bytes_at image place)) places) before.at ∙ children in
-      let places : places_of (row_of s v image tops (suc depth)) ≡ row = ap places_of seats ∙ own_places level row in
+      let seats : level_row s v image tops (suc depth) ≡ own =
+      row_next s v image tops depth ∙ children_at s v image (level_row s v image tops depth)
+      ∙ ap (λ (places : List ℕ). flat_map (λ place. children_of s v (bytes_of_block image place)) places) before.at ∙ children in
+      let places : places_of (level_row s v image tops (suc depth)) ≡ row = ap places_of seats ∙ own_places level row in
       let met = top_down (above ∷ rows) in
       let lawful = subst (AllByRecursion (λ place. can_hold v s.layout s.owner place ≡ true)) (sym (own_places level row)) can in
       let differ = subst (λ (xs : List ℕ). IsDistinct ◌==◌ (met ++ xs)) (sym (own_places level row)) apart in
       let clean : row_fault s v image level met None None None own ≡ None = row_clean s v image level met None None None own sound lawful differ in
       let at_level : height - suc depth ≡ level = omega (arith, sum) in
-      let test : row_fault s v image (height - suc depth) (met_above s v image tops (suc depth)) None None None (row_of s v image tops (suc depth)) ≡ None =
-      ap (λ (n : ℕ). row_fault s v image n (met_above s v image tops (suc depth)) None None None (row_of s v image tops (suc depth))) at_level
-      ∙ ap (λ (xs : List ℕ). row_fault s v image level xs None None None (row_of s v image tops (suc depth))) before.met
+      let test : row_fault s v image (height - suc depth) (met_above s v image tops (suc depth)) None None None (level_row s v image tops (suc depth)) ≡ None =
+      ap (λ (n : ℕ). row_fault s v image n (met_above s v image tops (suc depth)) None None None (level_row s v image tops (suc depth))) at_level
+      ∙ ap (λ (xs : List ℕ). row_fault s v image level xs None None None (level_row s v image tops (suc depth))) before.met
       ∙ ap (λ (xs : List (Seat K)). row_fault s v image level met None None None xs) seats ∙ clean in
       record {
         at = places;
-        met = ap (λ (xs : List ℕ). xs ++ places_of (row_of s v image tops (suc depth))) before.met ∙ ap (λ (xs : List ℕ). met ++ xs) places;
+        met = ap (λ (xs : List ℕ). xs ++ places_of (level_row s v image tops (suc depth))) before.met ∙ ap (λ (xs : List ℕ). met ++ xs) places;
         sound = second (fault_above s v image tops height (suc depth)) _ before.sound test;
       }
 
@@ -131,10 +132,10 @@ module _ {R K : Type 0} (s : Shape R K) (v : Volume) (image : Image) where
       let met = all_met row 0 rows height root whole leaves.sound levels.1 ends lawful apart in
       let sound : fault_above s v image tops height (height + 1) ≡ None = subst (λ (n : ℕ). fault_above s v image tops height n ≡ None) next met.sound in
       let blocks : met_above s v image tops (height + 1) ≡ top_down (row ∷ rows) = subst (λ (n : ℕ). met_above s v image tops n ≡ top_down (row ∷ rows)) next met.met in
-      let at : places_of (row_of s v image tops height) ≡ row = subst (λ (n : ℕ). places_of (row_of s v image tops n) ≡ row) above met.at in
+      let at : places_of (level_row s v image tops height) ≡ row = subst (λ (n : ℕ). places_of (level_row s v image tops n) ≡ row) above met.at in
       let held : flat_map (records_under s v image height) tops ≡ records =
-      sym (records_from s v image 0 height height tops deep) ∙ records_at s v image (row_of s v image tops height)
-      ∙ ap (λ (places : List ℕ). flat_map (λ place. records_of s (bytes_at image place)) places) at ∙ leaves.held in
+      sym (records_from s v image 0 height height tops deep) ∙ records_at s v image (level_row s v image tops height)
+      ∙ ap (λ (places : List ℕ). flat_map (λ place. records_of s (bytes_of_block image place)) places) at ∙ leaves.held in
       let found : Contents R = record { records = flat_map (records_under s v image height) tops; blocks = met_above s v image tops (height + 1) } in
       let due : Contents R = record { records = records; blocks = top_down (row ∷ rows) } in
       let same : found ≡ due =

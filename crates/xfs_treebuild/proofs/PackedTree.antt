@@ -11,7 +11,7 @@ use Rattle.xfs_tree.specs.declared.layout.Layout.{Layout}
 use Rattle.xfs_tree.specs.Shape.{Shape}
 use Rattle.xfs_tree.specs.Rules.{can_hold}
 use Rattle.xfs_tree.specs.Reading.{root_seat, reading}
-use Rattle.xfs_treebuild.specs.Packing.{Holds, AreLevels, IsPacked, rows_in, rows_at, height_of, top_down, root_of, are_different}
+use Rattle.xfs_treebuild.specs.Packing.{HoldsParts, AreLevels, IsPacked, rows_in, rows_at, height_of, top_down, root_of, are_different}
 use Rattle.xfs_treebuild.specs.Size.{rows_of}
 use Rattle.xfs_treebuild.proofs.Apart.{joined, turned}
 use Rattle.xfs_treebuild.proofs.PackedReads.{packed_reads}
@@ -62,10 +62,10 @@ module _ {R K : Type 0} (s : Shape R K) (v : Volume) (image : Image) where
 
 -- so each image that has the bytes at the places reads as the records, as they are read after they were put
 pub reads_where_held : {R K : Type 0} (s : Shape R K) (v : Volume) (records : List R) (places part : List ℕ)
-    → ((image : Image) → Holds image places part → IsPacked s v image (map s.settled records) places)
+    → ((image : Image) → HoldsParts image places part → IsPacked s v image (map s.settled records) places)
     → length places ≡ sum (rows_of s.layout.leaf_cap s.layout.node_cap (length records))
     → All (λ place. IsTrue (can_hold v s.layout s.owner place)) places → IsTrue (are_different places)
-    → (image : Image) → Holds image places part
+    → (image : Image) → HoldsParts image places part
     → reading s v image (root_seat (root_of places) ∷ []) (height_of s.layout (length records))
     ≡ Ok (record { records = map s.settled records; blocks = top_down (rows_at s.layout (length records) places) })
 reads_where_held s v records places part packed all can differ image held =

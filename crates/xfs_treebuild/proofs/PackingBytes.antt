@@ -1,7 +1,7 @@
 -- What a write to a part of a block leaves.
 use Rattle.std.proofs.Common.{rules, ◌≡◌, ℕ, ◌+◌, ◌-◌, ◌≤◌, inl, inr, List, length, ◌∙◌, arith}
 use Rattle.std.proofs.lemmas.List.{places, same_lists}
-use Rattle.xfs_word.specs.Field.{part_of, SameBeside, Keeps, KeepsParts}
+use Rattle.xfs_word.specs.Field.{part_of, SameBeside, KeepsBeside, KeepsParts}
 use Rattle.xfs_word.proofs.Written.{keeps, keeps_parts}
 use borrow.Rule.Slice.PartMut.{put_mid}
 
@@ -23,7 +23,7 @@ wrote_part at p w k xs ys zs here size inside len same =
     rw (width, here) (mid_part p k xs ys (omega arith) len ∙ same)
 
 pub wrote_keeps : (at p w k : ℕ) (xs ys : List ℕ) → at ≡ p → w ≡ k → at + w ≤ length xs → length ys ≡ k
-    → Keeps xs (put_mid at (at + w - at) xs ys) p k
+    → KeepsBeside xs (put_mid at (at + w - at) xs ys) p k
 wrote_keeps at p w k xs ys here size inside len =
     let width : at + w - at ≡ k = omega arith in
     rw (width, here) (keeps xs (put_mid p k xs ys) p k (mid_same p k xs ys (omega arith) len))

@@ -8,8 +8,8 @@ use Rattle.xfs_tree.specs.declared.layout.Layout.{Layout}
 use Rattle.xfs_tree.specs.Layout.{IsLayout, header_len, keys_len, pointer_len}
 use Rattle.xfs_tree.specs.Shape.{Shape}
 use Rattle.xfs_tree.specs.Blocks.{count_of, record_place, key_place, pointer_place}
-use Rattle.xfs_treebuild.specs.Exact.{AreZero, IsClear, pointers_place, KeepsBesideChild, KeepsBesideChildren, IsSpelt, HasSpeltKeys, IsExact}
-use Rattle.xfs_treebuild.specs.Placed.{IsHeaded}
+use Rattle.xfs_treebuild.specs.Exact.{AreZero, IsZeroBlock, pointers_place, KeepsBesideChild, KeepsBesideChildren, IsSpelt, HasSpeltKeys, IsExact}
+use Rattle.xfs_treebuild.specs.Private.Placed.{IsHeaded}
 use Rattle.xfs_treebuild.proofs.PackingItems.{apart, pairs_len, key_within}
 
 -- a run of zeros
@@ -109,7 +109,7 @@ module _ {R K : Type 0} (s : Shape R K) where
       below_more (λ k. HasSpeltKeys s k new) i (λ k before. keys_beside old new k i before inside same (below k before)) here
 
   -- a leaf of so many records that was zero before
-  pub leaf_exact : (v : Volume) (row : List ℕ) (i n : ℕ) (start mid new : List ℕ) → IsLayout s.layout → n ≤ s.layout.leaf_cap → IsClear start
+  pub leaf_exact : (v : Volume) (row : List ℕ) (i n : ℕ) (start mid new : List ℕ) → IsLayout s.layout → n ≤ s.layout.leaf_cap → IsZeroBlock start
       → KeepsParts start mid (header_len s.layout) (n * s.layout.record_len) → KeepsParts mid new 0 (header_len s.layout)
       → IsHeaded v s.layout s.owner 0 row i new → count_of new ≡ n → IsExact s new
   leaf_exact v row i n start mid new sound few clear items head headed count =
@@ -131,7 +131,7 @@ module _ {R K : Type 0} (s : Shape R K) where
       }
 
   -- a node of so many children that was zero before
-  pub node_exact : (v : Volume) (level : ℕ) (row : List ℕ) (i n : ℕ) (start mid new : List ℕ) → IsLayout s.layout → n ≤ s.layout.node_cap → IsClear start
+  pub node_exact : (v : Volume) (level : ℕ) (row : List ℕ) (i n : ℕ) (start mid new : List ℕ) → IsLayout s.layout → n ≤ s.layout.node_cap → IsZeroBlock start
       → KeepsBesideChildren s.layout n start mid → KeepsParts mid new 0 (header_len s.layout) → ((k : ℕ) → k < n → HasSpeltKeys s k mid)
       → IsHeaded v s.layout s.owner (level + 1) row i new → count_of new ≡ n → IsExact s new
   node_exact v level row i n start mid new sound few clear items head spelt headed count =

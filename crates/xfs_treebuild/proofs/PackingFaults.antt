@@ -13,9 +13,9 @@ use Rattle.xfs_tree.specs.declared.unread.Unread.{Unread}
 use Rattle.xfs_tree.specs.Shape.{Shape, IsKind}
 use Rattle.xfs_tree.specs.Blocks.{count_of, capacity, each_of}
 use Rattle.xfs_tree.specs.Rules.{block_fault, least_of, agrees, is_ordered, low_of, high_of}
-use Rattle.xfs_tree.specs.Reading.{bytes_at, next_of, at_block, behind}
+use Rattle.xfs_tree.specs.Reading.{bytes_of_block, next_of, at_block, behind}
 use Rattle.xfs_treebuild.specs.Packing.{own_seat, own_seats, run_fault}
-use Rattle.xfs_treebuild.specs.Placed.{left_in, right_in, IsHeaded, seat_of}
+use Rattle.xfs_treebuild.specs.Private.Placed.{left_in, right_in, IsHeaded, seat_of}
 
 kept_all : (a b c d e f : Bool) → a ≡ true → b ≡ true → c ≡ true → d ≡ true → e ≡ true → f ≡ true
     → first_false ((3, a) ∷ (4, b) ∷ (5, c) ∷ (6, d) ∷ (7, e) ∷ (8, f) ∷ []) ≡ None
@@ -88,7 +88,7 @@ module _ {R K : Type 0} (s : Shape R K) (v : Volume) (image : Image) (level : �
   at_clean block fault later none rest = ap₂ (at_block block) none rest
 
   pub run_kept : (row : List ℕ) (before : ℕ → Option R)
-      → ((i : ℕ) → i < length row → block_fault s v level (left_in row i) (right_in row i) (before i) (own_seat s v image level (get_or row i 0)) (bytes_at image (get_or row i 0)) ≡ None)
+      → ((i : ℕ) → i < length row → block_fault s v level (left_in row i) (right_in row i) (before i) (own_seat s v image level (get_or row i 0)) (bytes_of_block image (get_or row i 0)) ≡ None)
       → ((i : ℕ) → i < length row → behind s v image level (before i) (own_seat s v image level (get_or row i 0)) ≡ before (i + 1))
       → (i k : ℕ) → i + k ≡ length row → run_fault s v image level (left_in row i) None (before i) (own_seats s v image level (drop i row)) ≡ None
   unfolding run_fault
@@ -99,8 +99,8 @@ module _ {R K : Type 0} (s : Shape R K) (v : Volume) (image : Image) (level : �
       let place = get_or row i 0 in
       let seat = own_seat s v image level place in
       let rest = own_seats s v image level (drop (i + 1) row) in
-      let fault : block_fault s v level (left_in row i) (next_of None rest) (before i) seat (bytes_at image place) ≡ None =
-      ap (λ (right : Option ℕ). block_fault s v level (left_in row i) right (before i) seat (bytes_at image place)) (next_at row (i + 1)) ∙ here i inside in
+      let fault : block_fault s v level (left_in row i) (next_of None rest) (before i) seat (bytes_of_block image place) ≡ None =
+      ap (λ (right : Option ℕ). block_fault s v level (left_in row i) right (before i) seat (bytes_of_block image place)) (next_at row (i + 1)) ∙ here i inside in
       let later : run_fault s v image level (Some place) None (behind s v image level (before i) seat) rest ≡ None =
       ap₂ (λ (left : Option ℕ) (b : Option R). run_fault s v image level left None b rest) (sym (left_next row i inside)) (next i inside)
       ∙ run_kept row before here next (i + 1) k (omega (arith, all)) in

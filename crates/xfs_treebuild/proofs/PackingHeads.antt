@@ -9,7 +9,7 @@ use Rattle.xfs_tree.specs.declared.layout.Layout.{Layout}
 use Rattle.xfs_tree.specs.Blocks.{level_of, left_of, right_of}
 use Rattle.xfs_tree.specs.Rules.{block_seal, can_hold, is_sibling}
 use Rattle.xfs_treebuild.specs.Packing.{lsn_of}
-use Rattle.xfs_treebuild.specs.Placed.{left_in, right_in, IsHeaded}
+use Rattle.xfs_treebuild.specs.Private.Placed.{left_in, right_in, IsHeaded}
 
 some_held : (P : ℕ → Type 0) (row : List ℕ) (k : ℕ) → All P row → IfSome (slice_get row k) P
 some_held P row k all = elim (slice_get_cases row k).1 [

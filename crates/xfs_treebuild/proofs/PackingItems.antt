@@ -2,7 +2,7 @@
 use Rattle.std.proofs.Common.{◌≡◌, ℕ, ◌+◌, ◌*◌, ◌<◌, ◌≤◌, inl, inr, Bool, true, false, if◌then◌else◌, List, length, get_or, Option, Some, None, refl, sym, ◌∙◌, ap, below_more, arith}
 use Rattle.std.proofs.lemmas.List.{get_or_default}
 use Rattle.std.proofs.Math.Nat.{mul-le-mul_right}
-use Rattle.xfs_word.specs.Field.{part_of, Keeps, KeepsParts}
+use Rattle.xfs_word.specs.Field.{part_of, KeepsBeside, KeepsParts}
 use Rattle.xfs_geom.specs.Volumes.{Volume}
 use Rattle.xfs_tree.specs.declared.layout.Layout.{Layout}
 use Rattle.xfs_tree.specs.declared.seats.Seat.{Seat}
@@ -72,7 +72,7 @@ module _ {R K : Type 0} (s : Shape R K) where
       (high_kept s.layout.high (high_at s new k) (high_at s old k) (λ pairs. ap s.key_of (high pairs)))
 
   -- the children of a node stay where its header is written
-  pub child_under_header : (v : Volume) (old new : List ℕ) (k : ℕ) → Keeps old new 0 (header_len s.layout) → KeepsParts old new 0 (header_len s.layout)
+  pub child_under_header : (v : Volume) (old new : List ℕ) (k : ℕ) → KeepsBeside old new 0 (header_len s.layout) → KeepsParts old new 0 (header_len s.layout)
       → child_at s v new k ≡ child_at s v old k
   child_under_header v old new k same same_parts =
       let l = s.layout in
@@ -86,8 +86,8 @@ module _ {R K : Type 0} (s : Shape R K) where
 
   -- a child stays where the keys and the pointer of one behind it are written
   pub child_beside : (v : Volume) (old mid new : List ℕ) (k i : ℕ) → k < i → i < s.layout.node_cap
-      → Keeps old mid (key_place s.layout i) (keys_len s.layout) → KeepsParts old mid (key_place s.layout i) (keys_len s.layout)
-      → Keeps mid new (pointer_place s.layout i) (pointer_len s.layout) → KeepsParts mid new (pointer_place s.layout i) (pointer_len s.layout)
+      → KeepsBeside old mid (key_place s.layout i) (keys_len s.layout) → KeepsParts old mid (key_place s.layout i) (keys_len s.layout)
+      → KeepsBeside mid new (pointer_place s.layout i) (pointer_len s.layout) → KeepsParts mid new (pointer_place s.layout i) (pointer_len s.layout)
       → child_at s v new k ≡ child_at s v old k
   child_beside v old mid new k i before inside keys keys_parts pointers pointers_parts =
       let l = s.layout in

@@ -5,11 +5,11 @@ use Rattle.std.specs.Ordering.{is_lt}
 use Rattle.std.specs.Cmp.Derive.{both_true}
 use Rattle.std.proofs.lemmas.List.{length-take-le, length-drop, get_or-take, get_or-drop}
 use Rattle.std.proofs.lemmas.List.FromFn.{length-map-range_with_len, get_or-map-range_with_len}
+use Rattle.xfs_disk.specs.Shares.{share_of, first_of_share}
 use Rattle.xfs_tree.specs.Shape.{Shape}
 use Rattle.xfs_tree.specs.Blocks.{each_of}
 use Rattle.xfs_tree.specs.Rules.{ascend_behind, greater, greatest_with, low_of}
-use Rattle.xfs_treebuild.specs.Packing.{share_of, first_of}
-use Rattle.xfs_treebuild.specs.Placed.{share_in, IsKey, IsChild}
+use Rattle.xfs_treebuild.specs.Private.Placed.{share_in, IsKey, IsChild}
 use Rattle.xfs_treebuild.proofs.PackingShares.{share_inside, share_next, share_some, first_up}
 
 -- what each block of a row has, by its place in the row
@@ -37,25 +37,25 @@ from_start g x k is = is ∙ ap g (omega arith)
 length_share : {A : Type 0} (xs : List A) (m i : ℕ) → i < m → length (share_in xs m i) ≡ share_of (length xs) m i
 length_share xs m i inside =
     let within = share_inside (length xs) m i inside in
-    let rest = length-drop (first_of (length xs) m i) xs in
-    length-take-le (share_of (length xs) m i) (drop (first_of (length xs) m i) xs) (omega (arith, within, rest))
+    let rest = length-drop (first_of_share (length xs) m i) xs in
+    length-take-le (share_of (length xs) m i) (drop (first_of_share (length xs) m i) xs) (omega (arith, within, rest))
 
 -- the items of a share, by their places
 pub share_item : {A : Type 0} (f : ℕ → A) (n : ℕ) (xs : List A) (m i : ℕ) → each_of n f ≡ share_in xs m i → i < m
-    → (k : ℕ) (d : A) → k < n → f k ≡ get_or xs (first_of (length xs) m i + k) d
+    → (k : ℕ) (d : A) → k < n → f k ≡ get_or xs (first_of_share (length xs) m i + k) d
 share_item f n xs m i held inside k d less =
     let len = length_share xs m i inside in
     let all = length-map-range_with_len f 0 n in
     let same : length (each_of n f) ≡ length (share_in xs m i) = ap length held in
     sym (get_or-map-range_with_len f 0 n k k d less (omega arith))
     ∙ ap (λ ys. get_or ys k d) held
-    ∙ get_or-take (share_of (length xs) m i) (drop (first_of (length xs) m i) xs) k d (omega (arith, len, all, same))
-    ∙ get_or-drop (first_of (length xs) m i) xs k d
+    ∙ get_or-take (share_of (length xs) m i) (drop (first_of_share (length xs) m i) xs) k d (omega (arith, len, all, same))
+    ∙ get_or-drop (first_of_share (length xs) m i) xs k d
 
 pub share_count : {A : Type 0} (f : ℕ → A) (n : ℕ) (xs : List A) (m i : ℕ) → each_of n f ≡ share_in xs m i → i < m → n ≡ share_of (length xs) m i
 share_count f n xs m i held inside = sym (length-map-range_with_len f 0 n) ∙ ap length held ∙ length_share xs m i inside
 
-pub firsts_up : (n m i j : ℕ) → 1 ≤ m → m ≤ n → i < j → first_of n m i < first_of n m j
+pub firsts_up : (n m i j : ℕ) → 1 ≤ m → m ≤ n → i < j → first_of_share n m i < first_of_share n m j
 firsts_up n m i j some enough before =
     let next = share_next n m i in
     let more = share_some n m i some enough in

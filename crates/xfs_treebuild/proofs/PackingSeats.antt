@@ -3,7 +3,7 @@ use Rattle.std.proofs.Common.{◌≡◌, ℕ, Bool, true, false, if◌then◌els
 use Rattle.xfs_tree.specs.declared.seats.Seat.{Seat}
 use Rattle.xfs_tree.specs.Shape.{Shape}
 use Rattle.xfs_tree.specs.Rules.{high_of}
-use Rattle.xfs_treebuild.specs.Placed.{seat_of, IsKey, IsChild}
+use Rattle.xfs_treebuild.specs.Private.Placed.{seat_of, IsKey, IsChild}
 
 module _ {R K : Type 0} (s : Shape R K) where
   pub seat_low : (level place : ℕ) (block : List ℕ) (seat : Seat K) → seat ≡ seat_of s level place block → IsChild s level block → IsKey s seat.low

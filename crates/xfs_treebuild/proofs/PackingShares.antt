@@ -6,10 +6,10 @@ use Rattle.std.proofs.lemmas.Bool.{cases_lt}
 use Rattle.std.proofs.lemmas.Bool.Decides.{nat_tests}
 use Rattle.std.proofs.lemmas.List.{same_lists, length-take-le, length-drop, length-map, get_or-take, get_or-drop, take-append-drop, drop-drop, drop_all, take-map, drop-map}
 use Rattle.std.proofs.lemmas.List.FromFn.{length-map-range_with_len, get_or-map-range_with_len}
+use Rattle.xfs_disk.specs.Shares.{share_of, first_of_share}
 use Rattle.xfs_treebuild.specs.Size.{blocks_for}
 use Rattle.xfs_tree.specs.Blocks.{each_of}
-use Rattle.xfs_treebuild.specs.Packing.{share_of, first_of}
-use Rattle.xfs_treebuild.specs.Placed.{share_in}
+use Rattle.xfs_treebuild.specs.Private.Placed.{share_in}
 
 -- each item of a row by its place is what the list has there
 each_from : {A B : Type 0} (h : B → A) (f : ℕ → A) (a : ℕ) (xs : List B) → ((k : ℕ) (d : B) → k < length xs → f (a + k) ≡ h (get_or xs k d))
@@ -42,21 +42,21 @@ each_share f g m n a inside at =
     ∙ get_or-map-range_with_len f 0 m (a + k) (a + k) d (omega (arith, part)) (omega arith)))
 
 -- numbers of shares
-pub share_next : (n m i : ℕ) → first_of n m (i + 1) ≡ first_of n m i + share_of n m i
+pub share_next : (n m i : ℕ) → first_of_share n m (i + 1) ≡ first_of_share n m i + share_of n m i
 share_next n m i = grind (arith, nat_tests)
 
-pub first_end : (n m : ℕ) → 1 ≤ m → first_of n m m ≡ n
+pub first_end : (n m : ℕ) → 1 ≤ m → first_of_share n m m ≡ n
 first_end n m some =
     let whole : n / m * m + n % m ≡ n = div-add-mod' n m in
     let short : n % m < m = mod-lt n (omega arith) in
     omega (arith, whole, short)
 
-pub first_up : (n m i j : ℕ) → i ≤ j → first_of n m i ≤ first_of n m j
+pub first_up : (n m i j : ℕ) → i ≤ j → first_of_share n m i ≤ first_of_share n m j
 first_up n m i j up =
     let more : i * (n / m) ≤ j * (n / m) = mul-le-mul_right (n / m) up in
     omega (arith, more)
 
-pub share_inside : (n m i : ℕ) → i < m → first_of n m i + share_of n m i ≤ n
+pub share_inside : (n m i : ℕ) → i < m → first_of_share n m i + share_of n m i ≤ n
 share_inside n m i inside =
     let next = share_next n m i in
     let end = first_end n m (omega arith) in
@@ -119,31 +119,31 @@ blocks_few most n more = by_items (cases_lt n 1) more
         omega (arith, value, less)
 
 -- the shares from block i on are the items from its first on
-shares_from : {A : Type 0} (xs : List A) (m i k : ℕ) → 1 ≤ m → i + k ≡ m → flat_map (share_in xs m) (range_with_len i k) ≡ drop (first_of (length xs) m i) xs
+shares_from : {A : Type 0} (xs : List A) (m i k : ℕ) → 1 ≤ m → i + k ≡ m → flat_map (share_in xs m) (range_with_len i k) ≡ drop (first_of_share (length xs) m i) xs
 shares_from {A = A} xs m i zero some all =
     let last : i ≡ m = omega (arith, all) in
-    let end : first_of (length xs) m i ≡ length xs = ap (first_of (length xs) m) last ∙ first_end (length xs) m some in
-    sym (drop_all (first_of (length xs) m i) xs (omega (arith, end)))
+    let end : first_of_share (length xs) m i ≡ length xs = ap (first_of_share (length xs) m) last ∙ first_end (length xs) m some in
+    sym (drop_all (first_of_share (length xs) m i) xs (omega (arith, end)))
 shares_from {A = A} xs m i (suc k) some all =
     let n = length xs in
     let rest = shares_from xs m (i + 1) k some (omega (arith, all)) in
-    let next : drop (first_of n m (i + 1)) xs ≡ drop (share_of n m i) (drop (first_of n m i) xs) =
-    ap (λ (a : ℕ). drop a xs) (share_next n m i) ∙ sym (drop-drop (share_of n m i) (first_of n m i) xs) in
-    ap (λ (ys : List A). share_in xs m i ++ ys) (rest ∙ next) ∙ take-append-drop (share_of n m i) (drop (first_of n m i) xs)
+    let next : drop (first_of_share n m (i + 1)) xs ≡ drop (share_of n m i) (drop (first_of_share n m i) xs) =
+    ap (λ (a : ℕ). drop a xs) (share_next n m i) ∙ sym (drop-drop (share_of n m i) (first_of_share n m i) xs) in
+    ap (λ (ys : List A). share_in xs m i ++ ys) (rest ∙ next) ∙ take-append-drop (share_of n m i) (drop (first_of_share n m i) xs)
 
 -- all shares are all items
 pub shares_all : {A : Type 0} (xs : List A) (m : ℕ) → 1 ≤ m → flat_map (share_in xs m) (range_with_len 0 m) ≡ xs
 shares_all xs m some =
-    let start : first_of (length xs) m 0 ≡ 0 = omega arith in
+    let start : first_of_share (length xs) m 0 ≡ 0 = omega arith in
     shares_from xs m 0 m some (omega arith) ∙ ap (λ (a : ℕ). drop a xs) start
 
 -- a share of what some items are made into
-pub share_made : {A B : Type 0} (f : A → B) (xs : List A) (m i first share : ℕ) → share ≡ share_of (length xs) m i → first ≡ first_of (length xs) m i
+pub share_made : {A B : Type 0} (f : A → B) (xs : List A) (m i first share : ℕ) → share ≡ share_of (length xs) m i → first ≡ first_of_share (length xs) m i
     → map f (take (first + share - first) (drop first xs)) ≡ share_in (map f xs) m i
 share_made f xs m i first share share_is first_is =
     let len : length xs ≡ length (map f xs) = sym (length-map xs f) in
     let width : first + share - first ≡ share_of (length (map f xs)) m i = omega (arith, share_is) ∙ ap (λ (n : ℕ). share_of n m i) len in
-    let start : first ≡ first_of (length (map f xs)) m i = first_is ∙ ap (λ (n : ℕ). first_of n m i) len in
+    let start : first ≡ first_of_share (length (map f xs)) m i = first_is ∙ ap (λ (n : ℕ). first_of_share n m i) len in
     sym (take-map f (first + share - first) (drop first xs))
     ∙ ap (take (first + share - first)) (sym (drop-map f first xs))
     ∙ ap₂ (λ (n a : ℕ). take n (drop a (map f xs))) width start

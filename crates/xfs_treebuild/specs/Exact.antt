@@ -11,8 +11,8 @@ abbrev pub AreZero : List ℕ → ℕ → ℕ → Type 0
 AreZero block from to = part_of block from (to - from) ≡ replicate (to - from) 0
 
 -- each part of the block is zero
-abbrev pub IsClear : List ℕ → Type 0
-IsClear block = (at width : ℕ) → at + width ≤ 4096 → part_of block at width ≡ replicate width 0
+abbrev pub IsZeroBlock : List ℕ → Type 0
+IsZeroBlock block = (at width : ℕ) → at + width ≤ 4096 → part_of block at width ≡ replicate width 0
 
 -- in a block of so many items: the bytes behind the records of a leaf, and in a node those between its keys and its pointers,
 -- and those behind its pointers, are zero

@@ -1,4 +1,4 @@
 pub mod Size
 pub mod Packing
-pub mod Placed
 pub mod Exact
+pub mod Private

@@ -1,7 +1,8 @@
 -- What a packed tree is: rows of blocks, the leaves first, up to one block; what a row holds is shared out among its blocks in
 -- order, and the shares differ by at most one, larger ones first (chapter "Common B+trees").
-use Rattle.std.specs.Prelude.{◌≡◌, ℕ, suc, ◌+◌, ◌-◌, ◌*◌, ◌/◌, ◌%◌, ◌<◌, ◌==◌, Bool, true, not, ◌&&◌, if◌then◌else◌, nat_lt, min, List, [], ◌∷◌, ◌++◌, map, length, take, drop, Option, Some, None, slice_index_or}
+use Rattle.std.specs.Prelude.{◌≡◌, ℕ, suc, ◌+◌, ◌-◌, ◌*◌, ◌<◌, ◌==◌, Bool, true, not, ◌&&◌, if◌then◌else◌, List, [], ◌∷◌, ◌++◌, map, length, take, drop, Option, Some, None, slice_index_or}
 use Rattle.std.specs.List.{flat_map, list_any}
+use Rattle.xfs_disk.specs.Shares.{share_of}
 use Rattle.xfs_word.specs.Field.{field_of, part_of}
 use Rattle.xfs_disk.specs.Blocks.{Image}
 use Rattle.xfs_geom.specs.Volumes.{Volume}
@@ -11,15 +12,8 @@ use Rattle.xfs_tree.specs.declared.unread.Unread.{Unread}
 use Rattle.xfs_tree.specs.Shape.{Shape}
 use Rattle.xfs_tree.specs.Blocks.{count_of, each_of, records_of, children_of}
 use Rattle.xfs_tree.specs.Rules.{block_fault, low_of, high_of}
-use Rattle.xfs_tree.specs.Reading.{bytes_at, next_of, at_block, behind}
+use Rattle.xfs_tree.specs.Reading.{bytes_of_block, next_of, at_block, behind}
 use Rattle.xfs_treebuild.specs.Size.{rows_of}
-
--- how many of n items block i of m takes, and how many stand in front of them
-abbrev pub share_of : ℕ → ℕ → ℕ → ℕ
-share_of n m i = if nat_lt i (n % m) then n / m + 1 else n / m
-
-abbrev pub first_of : ℕ → ℕ → ℕ → ℕ
-first_of n m i = i * (n / m) + min i (n % m)
 
 abbrev pub shares : ℕ → ℕ → List ℕ
 shares n m = each_of m (share_of n m)
@@ -51,49 +45,49 @@ are_different [] = true
 are_different (place ∷ places) = not (list_any (λ other. other == place) places) && are_different places
 
 -- the block of a number in a run of bytes
-abbrev pub block_in : List ℕ → ℕ → List ℕ
-block_in part j = part_of part (4096 * j) 4096
+abbrev pub block_of_part : List ℕ → ℕ → List ℕ
+block_of_part part j = part_of part (4096 * j) 4096
 
 -- the log sequence number that a block states
 abbrev pub lsn_of : Layout → List ℕ → ℕ
 lsn_of l block = field_of block (if l.long then 32 else 24) 8
 
 -- the image has the blocks of a run of bytes at these places
-abbrev pub Holds : Image → List ℕ → List ℕ → Type 0
-Holds image places part = (j : ℕ) → j < length places → bytes_at image (slice_index_or places j 0) ≡ block_in part j
+abbrev pub HoldsParts : Image → List ℕ → List ℕ → Type 0
+HoldsParts image places part = (j : ℕ) → j < length places → bytes_of_block image (slice_index_or places j 0) ≡ block_of_part part j
 
 module _ {R K : Type 0} (s : Shape R K) (v : Volume) (image : Image) where
   -- a block by its place and the keys of its own
   abbrev pub own_seat : ℕ → ℕ → Seat K
   own_seat level place = record {
     place = place;
-    low = low_of s level (bytes_at image place);
-    high = if s.layout.high then high_of s level (bytes_at image place) else None;
+    low = low_of s level (bytes_of_block image place);
+    high = if s.layout.high then high_of s level (bytes_of_block image place) else None;
   }
 
   -- the first block of a row that breaks one of the rules 3 to 8, between its neighbours
   unfoldable pub run_fault : ℕ → Option ℕ → Option ℕ → Option R → List (Seat K) → Option Unread
   run_fault level left right before [] = None
   run_fault level left right before (seat ∷ seats) =
-      at_block seat.place (block_fault s v level left (next_of right seats) before seat (bytes_at image seat.place))
+      at_block seat.place (block_fault s v level left (next_of right seats) before seat (bytes_of_block image seat.place))
       (run_fault level (Some seat.place) right (behind s v image level before seat) seats)
 
   abbrev pub own_seats : ℕ → List ℕ → List (Seat K)
   own_seats level places = map (own_seat level) places
 
   abbrev pub counts_at : List ℕ → List ℕ
-  counts_at places = map (λ place. count_of (bytes_at image place)) places
+  counts_at places = map (λ place. count_of (bytes_of_block image place)) places
 
   -- the leaves
   pub record AreLeaves (records : List R) (places : List ℕ) : Type 0 where
     pub sound : run_fault 0 None None None (own_seats 0 places) ≡ None
-    pub held : flat_map (λ place. records_of s (bytes_at image place)) places ≡ records
+    pub held : flat_map (λ place. records_of s (bytes_of_block image place)) places ≡ records
     pub counts : counts_at places ≡ shares (length records) (length places)
 
   -- the nodes of a level over the blocks of the level below
   pub record AreNodes (below : List ℕ) (level : ℕ) (places : List ℕ) : Type 0 where
     pub sound : run_fault (suc level) None None None (own_seats (suc level) places) ≡ None
-    pub children : flat_map (λ place. children_of s v (bytes_at image place)) places ≡ own_seats level below
+    pub children : flat_map (λ place. children_of s v (bytes_of_block image place)) places ≡ own_seats level below
     pub counts : counts_at places ≡ shares (length below) (length places)
 
   -- rows of nodes over the blocks of a level, up to one block

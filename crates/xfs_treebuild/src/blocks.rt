@@ -1,22 +1,22 @@
 //! The blocks in a run of bytes.
 
 ghost use Rattle.std.specs.Prelude.{◌≡◌, ℕ, ◌+◌, ◌*◌, ◌<◌, ◌≤◌, ◌≢◌, length};
-ghost use Rattle.xfs_treebuild.specs.Exact.{IsClear};
-ghost use Rattle.xfs_treebuild.specs.Packing.{block_in};
+ghost use Rattle.xfs_treebuild.specs.Exact.{IsZeroBlock};
+ghost use Rattle.xfs_treebuild.specs.Packing.{block_of_part};
 
 use xfs_word::put_part;
 
 /// A block of zeros.
 pub(crate) fn clear_block() -> [u8; 4096]
-    ensures { IsClear result }
+    ensures { IsZeroBlock result }
 {
     [0; 4096]
 }
 
 /// The block of a number.
-pub(crate) fn block_in(part: &[u8], j: usize) -> &[u8]
+pub(crate) fn block_of_part(part: &[u8], j: usize) -> &[u8]
     requires { 4096 * (j + 1) ≤ length part.now }
-    ensures value { result.now ≡ block_in part.now j }
+    ensures value { result.now ≡ block_of_part part.now j }
     ensures len { length result.now ≡ 4096 }
 {
     xfs_word::part(part, 4096 * j, 4096)
@@ -26,8 +26,8 @@ pub(crate) fn block_in(part: &[u8], j: usize) -> &[u8]
 pub(crate) fn put_block(part: &mut [u8], j: usize, block: &[u8])
     requires inside { 4096 * (j + 1) ≤ length part.old }
     requires block { length block.now ≡ 4096 }
-    ensures put { block_in part.new j ≡ block.now }
-    ensures others { (k : ℕ) → k ≢ j → block_in part.new k ≡ block_in part.old k }
+    ensures put { block_of_part part.new j ≡ block.now }
+    ensures others { (k : ℕ) → k ≢ j → block_of_part part.new k ≡ block_of_part part.old k }
 {
     put_part(part, 4096 * j, block);
 }

@@ -2,14 +2,14 @@
 
 ghost use Rattle.std.specs.Prelude.{◌≡◌, ℕ, ◌+◌, ◌*◌, ◌^◌, ◌<◌, true, false, length, Some, IsTrue, IfSome, ◌≤◌};
 ghost use Rattle.std.specs.List.{All};
-ghost use Rattle.xfs_word.specs.Field.{field_of, part_of, Keeps, KeepsParts};
+ghost use Rattle.xfs_word.specs.Field.{field_of, part_of, KeepsBeside, KeepsParts};
 ghost use Rattle.xfs_word.specs.Seal.{layout_of, is_ready, is_sealed};
 ghost use Rattle.xfs_geom.specs.Volumes.{volume_of};
 ghost use Rattle.xfs_tree.specs.Layout.{IsLayout, header_len};
 ghost use Rattle.xfs_tree.specs.Blocks.{level_of, count_of, left_of, right_of, capacity, block_of_pointer};
 ghost use Rattle.xfs_tree.specs.Rules.{block_seal, can_hold, is_sibling};
 ghost use Rattle.xfs_treebuild.specs.Packing.{lsn_of};
-ghost use Rattle.xfs_treebuild.specs.Placed.{IsHeaded};
+ghost use Rattle.xfs_treebuild.specs.Private.Placed.{IsHeaded};
 
 use crate::shares::{left_of, right_of};
 use xfs_geom::Geometry;
@@ -52,7 +52,7 @@ pub(crate) fn put_head<K: Kind>(
     requires block { length block.old ≡ 4096 }
     ensures headed { IsHeaded (volume_of g.now) (K.shape kind.now).layout (K.shape kind.now).owner level row.now i block.new }
     ensures count { count_of block.new ≡ count }
-    ensures keeps { Keeps block.old block.new 0 (header_len (K.shape kind.now).layout) }
+    ensures keeps { KeepsBeside block.old block.new 0 (header_len (K.shape kind.now).layout) }
     ensures keeps_parts { KeepsParts block.old block.new 0 (header_len (K.shape kind.now).layout) }
 {
     let layout = layout_of(kind);
@@ -121,7 +121,7 @@ pub(crate) fn put_header(g: &Geometry, layout: &Layout, header: &Header, block: 
     ensures left { left_of layout.now block.new ≡ header.now.left }
     ensures right { right_of layout.now block.new ≡ header.now.right }
     ensures pad { layout.now.long ≡ true → field_of block.new 68 4 ≡ 0 }
-    ensures keeps { Keeps block.old block.new 0 (header_len layout.now) }
+    ensures keeps { KeepsBeside block.old block.new 0 (header_len layout.now) }
     ensures keeps_parts { KeepsParts block.old block.new 0 (header_len layout.now) }
 {
     if layout.long {
@@ -144,7 +144,7 @@ fn put_short(uuid: &[u8; 16], header: &Header, block: &mut [u8])
     ensures left { field_of block.new 8 4 ≡ header.now.left }
     ensures right { field_of block.new 12 4 ≡ header.now.right }
     ensures lsn { field_of block.new 24 8 ≡ 0 }
-    ensures keeps { Keeps block.old block.new 0 56 }
+    ensures keeps { KeepsBeside block.old block.new 0 56 }
     ensures keeps_parts { KeepsParts block.old block.new 0 56 }
 {
     state_short(uuid, header, block);
@@ -170,7 +170,7 @@ fn state_short(uuid: &[u8; 16], header: &Header, block: &mut [u8])
     ensures lsn { field_of block.new 24 8 ≡ 0 }
     ensures uuid { part_of block.new 32 16 ≡ uuid.now }
     ensures owner { field_of block.new 48 4 ≡ header.now.owner }
-    ensures keeps { Keeps block.old block.new 0 52 }
+    ensures keeps { KeepsBeside block.old block.new 0 52 }
     ensures keeps_parts { KeepsParts block.old block.new 0 52 }
 {
     state_opening(header, block);
@@ -184,7 +184,7 @@ fn state_opening(header: &Header, block: &mut [u8])
     ensures magic { field_of block.new 0 4 ≡ header.now.magic }
     ensures level { field_of block.new 4 2 ≡ header.now.level }
     ensures count { field_of block.new 6 2 ≡ header.now.count }
-    ensures keeps { Keeps block.old block.new 0 8 }
+    ensures keeps { KeepsBeside block.old block.new 0 8 }
     ensures keeps_parts { KeepsParts block.old block.new 0 8 }
 {
     short::MAGIC.write(block, header.magic as u64);
@@ -199,7 +199,7 @@ fn state_short_siblings(header: &Header, block: &mut [u8])
     requires right { header.now.right < 2 ^ 32 }
     ensures left { field_of block.new 8 4 ≡ header.now.left }
     ensures right { field_of block.new 12 4 ≡ header.now.right }
-    ensures keeps { Keeps block.old block.new 8 8 }
+    ensures keeps { KeepsBeside block.old block.new 8 8 }
     ensures keeps_parts { KeepsParts block.old block.new 8 8 }
 {
     short::LEFTSIB.write(block, header.left);
@@ -215,7 +215,7 @@ fn state_short_place(uuid: &[u8; 16], header: &Header, block: &mut [u8])
     ensures lsn { field_of block.new 24 8 ≡ 0 }
     ensures uuid { part_of block.new 32 16 ≡ uuid.now }
     ensures owner { field_of block.new 48 4 ≡ header.now.owner }
-    ensures keeps { Keeps block.old block.new 16 36 }
+    ensures keeps { KeepsBeside block.old block.new 16 36 }
     ensures keeps_parts { KeepsParts block.old block.new 16 36 }
 {
     short::BNO.write(block, 8 * header.place);
@@ -236,7 +236,7 @@ fn put_long(uuid: &[u8; 16], header: &Header, block: &mut [u8])
     ensures right { field_of block.new 16 8 ≡ header.now.right }
     ensures lsn { field_of block.new 32 8 ≡ 0 }
     ensures pad { field_of block.new 68 4 ≡ 0 }
-    ensures keeps { Keeps block.old block.new 0 72 }
+    ensures keeps { KeepsBeside block.old block.new 0 72 }
     ensures keeps_parts { KeepsParts block.old block.new 0 72 }
 {
     put32(block, LONG_PAD, 0);
@@ -257,7 +257,7 @@ fn state_long(uuid: &[u8; 16], header: &Header, block: &mut [u8])
     ensures lsn { field_of block.new 32 8 ≡ 0 }
     ensures uuid { part_of block.new 40 16 ≡ uuid.now }
     ensures owner { field_of block.new 56 8 ≡ header.now.owner }
-    ensures keeps { Keeps block.old block.new 0 64 }
+    ensures keeps { KeepsBeside block.old block.new 0 64 }
     ensures keeps_parts { KeepsParts block.old block.new 0 64 }
 {
     state_opening(header, block);
@@ -270,7 +270,7 @@ fn state_long_siblings(header: &Header, block: &mut [u8])
     requires { length block.old ≡ 4096 }
     ensures left { field_of block.new 8 8 ≡ header.now.left }
     ensures right { field_of block.new 16 8 ≡ header.now.right }
-    ensures keeps { Keeps block.old block.new 8 16 }
+    ensures keeps { KeepsBeside block.old block.new 8 16 }
     ensures keeps_parts { KeepsParts block.old block.new 8 16 }
 {
     long::LEFTSIB.write(block, header.left);
@@ -285,7 +285,7 @@ fn state_long_place(uuid: &[u8; 16], header: &Header, block: &mut [u8])
     ensures lsn { field_of block.new 32 8 ≡ 0 }
     ensures uuid { part_of block.new 40 16 ≡ uuid.now }
     ensures owner { field_of block.new 56 8 ≡ header.now.owner }
-    ensures keeps { Keeps block.old block.new 24 40 }
+    ensures keeps { KeepsBeside block.old block.new 24 40 }
     ensures keeps_parts { KeepsParts block.old block.new 24 40 }
 {
     long::BNO.write(block, 8 * header.place);
@@ -300,7 +300,7 @@ fn seal_block(kind: SealKind, uuid: &[u8; 16], header: &Header, block: &mut [u8]
     requires inside { header.now.place < 2 ^ 26 }
     requires ready { IsTrue (is_ready (record { kind = kind; place = 8 * header.now.place; owner = Some header.now.owner; uuid = uuid.now }) block.old) }
     ensures sealed { IsTrue (is_sealed (record { kind = kind; place = 8 * header.now.place; owner = Some header.now.owner; uuid = uuid.now }) block.new) }
-    ensures keeps { Keeps block.old block.new (layout_of kind).checksum 4 }
+    ensures keeps { KeepsBeside block.old block.new (layout_of kind).checksum 4 }
     ensures keeps_parts { KeepsParts block.old block.new (layout_of kind).checksum 4 }
 {
     let what = Seal {

@@ -7,8 +7,8 @@ ghost use Rattle.xfs_geom.specs.Volumes.{volume_of};
 ghost use Rattle.xfs_tree.specs.Layout.{header_len};
 ghost use Rattle.xfs_tree.specs.Blocks.{record_place, record_at};
 ghost use Rattle.xfs_tree.specs.Rules.{can_hold};
-ghost use Rattle.xfs_treebuild.specs.Packing.{block_in};
-ghost use Rattle.xfs_treebuild.specs.Placed.{IsLeafAt};
+ghost use Rattle.xfs_treebuild.specs.Packing.{block_of_part};
+ghost use Rattle.xfs_treebuild.specs.Private.Placed.{IsLeafAt};
 
 use crate::blocks::{clear_block, put_block};
 use crate::heads::put_head;
@@ -30,7 +30,7 @@ pub(crate) fn write_leaves<K: Kind>(
     requires room { length records.now ≤ length row.now * (K.shape kind.now).layout.leaf_cap }
     requires part { 4096 * length row.now ≤ length part.old }
     requires can_hold { All (λ place. IsTrue (can_hold (volume_of g.now) (K.shape kind.now).layout (K.shape kind.now).owner place)) row.now }
-    ensures leaves { (i : ℕ) → i < length row.now → IsLeafAt (K.shape kind.now) (volume_of g.now) (map (K.shape kind.now).settled records.now) row.now i (block_in part.new i) }
+    ensures leaves { (i : ℕ) → i < length row.now → IsLeafAt (K.shape kind.now) (volume_of g.now) (map (K.shape kind.now).settled records.now) row.now i (block_of_part part.new i) }
 {
     let mut first = 0;
     for i in 0..row.len() {

@@ -2,16 +2,16 @@
 
 ghost use Rattle.std.specs.Prelude.{◌≡◌, ℕ, ◌+◌, ◌*◌, ◌^◌, ◌<◌, ◌≤◌, true, false, length, Some, None, IsTrue, slice_index};
 ghost use Rattle.std.specs.List.{All};
-ghost use Rattle.xfs_word.specs.Field.{part_of, Keeps, KeepsParts};
+ghost use Rattle.xfs_word.specs.Field.{part_of, KeepsBeside, KeepsParts};
 ghost use Rattle.xfs_geom.specs.Volumes.{volume_of};
 ghost use Rattle.xfs_tree.specs.Layout.{IsLayout, keys_len, pointer_len};
 ghost use Rattle.xfs_tree.specs.Blocks.{count_of, capacity, key_place, pointer_place, pointer_at, low_at, high_at, child_at};
 ghost use Rattle.xfs_tree.specs.Rules.{can_hold};
 ghost use Rattle.xfs_treebuild.specs.Exact.{KeepsBesideChild, KeepsBesideChildren, IsSpelt, HasSpeltKeys};
-ghost use Rattle.xfs_treebuild.specs.Packing.{block_in};
-ghost use Rattle.xfs_treebuild.specs.Placed.{IsNodeAt, IsChild, IsKey, seat_of, seats_in};
+ghost use Rattle.xfs_treebuild.specs.Packing.{block_of_part};
+ghost use Rattle.xfs_treebuild.specs.Private.Placed.{IsNodeAt, IsChild, IsKey, seat_of, seats_in};
 
-use crate::blocks::{block_in, clear_block, put_block};
+use crate::blocks::{block_of_part, clear_block, put_block};
 use crate::heads::{pointer_to, put_head};
 use crate::shares::share_of;
 use xfs_geom::Geometry;
@@ -34,10 +34,10 @@ pub(crate) fn write_nodes<K: Kind>(
     requires part { 4096 * (first + length below.now + length row.now) ≤ length part.old }
     requires below { All (λ place. IsTrue (can_hold (volume_of g.now) (K.shape kind.now).layout (K.shape kind.now).owner place)) below.now }
     requires can_hold { All (λ place. IsTrue (can_hold (volume_of g.now) (K.shape kind.now).layout (K.shape kind.now).owner place)) row.now }
-    requires children { (j : ℕ) → j < length below.now → IsChild (K.shape kind.now) level (block_in part.old (first + j)) }
+    requires children { (j : ℕ) → j < length below.now → IsChild (K.shape kind.now) level (block_of_part part.old (first + j)) }
     ensures nodes { (i : ℕ) → i < length row.now
-        → IsNodeAt (K.shape kind.now) (volume_of g.now) (level + 1) (seats_in (K.shape kind.now) level below.now first part.old) row.now i (block_in part.new (first + length below.now + i)) }
-    ensures before { (k : ℕ) → k < first + length below.now → block_in part.new k ≡ block_in part.old k }
+        → IsNodeAt (K.shape kind.now) (volume_of g.now) (level + 1) (seats_in (K.shape kind.now) level below.now first part.old) row.now i (block_of_part part.new (first + length below.now + i)) }
+    ensures before { (k : ℕ) → k < first + length below.now → block_of_part part.new k ≡ block_of_part part.old k }
 {
     let mut from = 0;
     for i in 0..row.len() {
@@ -73,14 +73,14 @@ fn put_children<K: Kind>(
     requires part { 4096 * (from + length places.now) ≤ length part.now }
     requires room { length places.now ≤ (K.shape kind.now).layout.node_cap }
     requires can_hold { All (λ place. IsTrue (can_hold (volume_of g.now) (K.shape kind.now).layout (K.shape kind.now).owner place)) places.now }
-    requires children { (j : ℕ) → j < length places.now → IsChild (K.shape kind.now) level (block_in part.now (from + j)) }
+    requires children { (j : ℕ) → j < length places.now → IsChild (K.shape kind.now) level (block_of_part part.now (from + j)) }
     ensures put { (k : ℕ) → k < length places.now → child_at (K.shape kind.now) (volume_of g.now) block.new k
-        ≡ seat_of (K.shape kind.now) level (slice_index places.now k) (block_in part.now (from + k)) }
+        ≡ seat_of (K.shape kind.now) level (slice_index places.now k) (block_of_part part.now (from + k)) }
     ensures spelt { (k : ℕ) → k < length places.now → HasSpeltKeys (K.shape kind.now) k block.new }
     ensures keeps { KeepsBesideChildren (K.shape kind.now).layout (length places.now) block.old block.new }
 {
     for i in 0..places.len() {
-        let seat = seat_of(kind, level, places[i], block_in(part, from + i));
+        let seat = seat_of(kind, level, places[i], block_of_part(part, from + i));
         put_child(kind, g, &seat, i, block);
     }
 }
@@ -137,7 +137,7 @@ fn put_keys<K: Kind>(kind: &K, seat: &Seat<K::Key>, i: usize, block: &mut [u8])
     ensures spelt_low { IsSpelt (K.shape kind.now) (part_of block.new (key_place (K.shape kind.now).layout i) (K.shape kind.now).layout.key_len) }
     ensures spelt_high { (K.shape kind.now).layout.high ≡ true
         → IsSpelt (K.shape kind.now) (part_of block.new (key_place (K.shape kind.now).layout i + (K.shape kind.now).layout.key_len) (K.shape kind.now).layout.key_len) }
-    ensures keeps { Keeps block.old block.new (key_place (K.shape kind.now).layout i) (keys_len (K.shape kind.now).layout) }
+    ensures keeps { KeepsBeside block.old block.new (key_place (K.shape kind.now).layout i) (keys_len (K.shape kind.now).layout) }
     ensures keeps_parts { KeepsParts block.old block.new (key_place (K.shape kind.now).layout i) (keys_len (K.shape kind.now).layout) }
 {
     let layout = layout_of(kind);
@@ -154,7 +154,7 @@ fn put_key<K: Kind>(kind: &K, key: Option<K::Key>, at: usize, block: &mut [u8])
     requires key { IsKey (K.shape kind.now) key }
     ensures put { Some ((K.shape kind.now).key_of (part_of block.new at (K.shape kind.now).layout.key_len)) ≡ key }
     ensures spelt { IsSpelt (K.shape kind.now) (part_of block.new at (K.shape kind.now).layout.key_len) }
-    ensures keeps { Keeps block.old block.new at (K.shape kind.now).layout.key_len }
+    ensures keeps { KeepsBeside block.old block.new at (K.shape kind.now).layout.key_len }
     ensures keeps_parts { KeepsParts block.old block.new at (K.shape kind.now).layout.key_len }
 {
     if let Some(key) = key {
@@ -169,7 +169,7 @@ fn put_pointer(layout: &Layout, i: usize, pointer: u64, block: &mut [u8])
     requires inside { i < layout.now.node_cap }
     requires short { layout.now.long ≡ false → pointer < 2 ^ 32 }
     ensures put { pointer_at layout.now block.new i ≡ pointer }
-    ensures keeps { Keeps block.old block.new (pointer_place layout.now i) (pointer_len layout.now) }
+    ensures keeps { KeepsBeside block.old block.new (pointer_place layout.now i) (pointer_len layout.now) }
     ensures keeps_parts { KeepsParts block.old block.new (pointer_place layout.now i) (pointer_len layout.now) }
 {
     let at = layout.pointer_place(i);

@@ -8,7 +8,7 @@ ghost use Rattle.xfs_treebuild.specs.Size.{rows_of};
 ghost use Rattle.xfs_tree.specs.Reading.{root_seat, reading};
 ghost use Rattle.xfs_tree.specs.Rules.{are_lawful, can_hold};
 ghost use Rattle.xfs_treebuild.specs.Exact.{IsExact};
-ghost use Rattle.xfs_treebuild.specs.Packing.{block_in, lsn_of, are_different, root_of, rows_at, top_down, height_of, Holds, IsPacked};
+ghost use Rattle.xfs_treebuild.specs.Packing.{block_of_part, lsn_of, are_different, root_of, rows_at, top_down, height_of, HoldsParts, IsPacked};
 
 use crate::leaves::write_leaves;
 use crate::nodes::write_nodes;
@@ -28,11 +28,11 @@ pub fn pack<K: Kind>(kind: &K, g: &Geometry, records: &[K::Record], places: &[u6
     requires can_hold { All (λ place. IsTrue (can_hold (volume_of g.now) (K.shape kind.now).layout (K.shape kind.now).owner place)) places.now }
     requires different { IsTrue (are_different places.now) }
     ensures len { length part.new ≡ length part.old }
-    ensures lsns { (j : ℕ) → j < length places.now → lsn_of (K.shape kind.now).layout (block_in part.new j) ≡ 0 }
-    ensures exact { (j : ℕ) → j < length places.now → IsExact (K.shape kind.now) (block_in part.new j) }
-    ensures packed { (image : Image) → Holds image places.now part.new
+    ensures lsns { (j : ℕ) → j < length places.now → lsn_of (K.shape kind.now).layout (block_of_part part.new j) ≡ 0 }
+    ensures exact { (j : ℕ) → j < length places.now → IsExact (K.shape kind.now) (block_of_part part.new j) }
+    ensures packed { (image : Image) → HoldsParts image places.now part.new
         → IsPacked (K.shape kind.now) (volume_of g.now) image (map (K.shape kind.now).settled records.now) places.now }
-    ensures reads { (image : Image) → Holds image places.now part.new
+    ensures reads { (image : Image) → HoldsParts image places.now part.new
         → reading (K.shape kind.now) (volume_of g.now) image (root_seat (root_of places.now) ∷ []) (height_of (K.shape kind.now).layout (length records.now))
         ≡ Ok (record { records = map (K.shape kind.now).settled records.now; blocks = top_down (rows_at (K.shape kind.now).layout (length records.now) places.now) }) }
 {

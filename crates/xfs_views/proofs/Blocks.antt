@@ -6,13 +6,13 @@ use Rattle.std.proofs.lemmas.List.Elements.{All-cons, All-head, All-nil, All-tai
 use Rattle.xfs_word.specs.Field.{field_of}
 use Rattle.xfs_dirdata.specs.Data.{data_of}
 use Rattle.xfs_dirdata.specs.declared.records.EntryRec.{EntryRec}
-use Rattle.xfs_dirindex.specs.Data.{are_data, area_in, begin_with_dots, have_no_dots, is_dots, is_first, is_later, is_parent, is_self, is_sound, magic_of, stand_first}
-use Rattle.xfs_dirindex.specs.Leaf.{are_values, best_at}
+use Rattle.xfs_dirindex.specs.Data.{are_data, area_in, begin_with_dots, have_no_dots, is_dots, is_first_block, is_later, is_parent_name, is_self, is_sound_data, magic_of, stand_first}
+use Rattle.xfs_dirindex.specs.Leaf.{are_values, best_length_of}
 use Rattle.xfs_dirindex.specs.Mapped.{Mapped}
-use Rattle.xfs_dirindex.specs.Pairs.{are_same, is_index, is_live, is_stale, rises}
+use Rattle.xfs_dirindex.specs.Pairs.{same_pairs, is_index, is_live, is_stale, rises}
 use Rattle.xfs_dirindex.specs.declared.data.Best.{Best}
 use Rattle.xfs_dirindex.specs.declared.pairs.Pair.{Pair}
-use Rattle.xfs_views.specs.DirectoriesInWords.{AreDataBlocks, BeginWithDots, HaveValues, IsDataBlock, IsFirstBlock, IsIndex, IsLaterBlock, IsNamed, StandFirst}
+use Rattle.xfs_views.specs.DirectoriesInWords.{AreDataBlocks, BeginWithDots, HaveLengths, IsDataBlock, IsFirstBlock, IsIndex, IsLaterBlock, IsBesideDots, StandFirst}
 use Rattle.xfs_views.proofs.Tests.{all_pass, all_say, range_passes, range_says, rise_passes, rise_says, same_passes, same_says}
 
 -- the names "." and ".."
@@ -28,8 +28,8 @@ self_passes : (name : List ℕ) → name ≡ 46 ∷ [] → is_self name ≡ true
 unfolding is_self
 self_passes name is = subst (λ (n : List ℕ). is_self n ≡ true) (sym is) refl
 
-parent_says : (name : List ℕ) → is_parent name ≡ true → name ≡ 46 ∷ 46 ∷ []
-unfolding is_parent
+parent_says : (name : List ℕ) → is_parent_name name ≡ true → name ≡ 46 ∷ 46 ∷ []
+unfolding is_parent_name
 parent_says [] is = absurd (true≢false (sym is))
 parent_says (x ∷ []) is = absurd (true≢false (sym is))
 parent_says (x ∷ y ∷ []) is =
@@ -41,50 +41,50 @@ parent_says (x ∷ y ∷ z ∷ zs) is =
     let long = eqb-true (length (x ∷ y ∷ z ∷ zs)) 2 (and_parts (length (x ∷ y ∷ z ∷ zs) == 2) (slice_index (x ∷ y ∷ z ∷ zs) 0 == 46) two.0).0 in
     absurd (omega (arith, long))
 
-parent_passes : (name : List ℕ) → name ≡ 46 ∷ 46 ∷ [] → is_parent name ≡ true
-unfolding is_parent
-parent_passes name is = subst (λ (n : List ℕ). is_parent n ≡ true) (sym is) refl
+parent_passes : (name : List ℕ) → name ≡ 46 ∷ 46 ∷ [] → is_parent_name name ≡ true
+unfolding is_parent_name
+parent_passes name is = subst (λ (n : List ℕ). is_parent_name n ≡ true) (sym is) refl
 
 -- a test that is not passed
 not_passed : (t : Bool) → (t ≡ true → ⊥) → t ≡ false
 not_passed true never = absurd (never refl)
 not_passed false never = refl
 
-named_says : (e : EntryRec) → is_dots e ≡ false → IsNamed e
+named_says : (e : EntryRec) → is_dots e ≡ false → IsBesideDots e
 unfolding is_dots
 named_says e none =
-    let parts = or_parts (is_self e.name) (is_parent e.name) none in
+    let parts = or_parts (is_self e.name) (is_parent_name e.name) none in
     record {
       not_self = λ is. true≢false (sym (self_passes e.name is) ∙ parts.0);
       not_parent = λ is. true≢false (sym (parent_passes e.name is) ∙ parts.1);
     }
 
-named_passes : (e : EntryRec) → IsNamed e → is_dots e ≡ false
+named_passes : (e : EntryRec) → IsBesideDots e → is_dots e ≡ false
 unfolding is_dots
-named_passes e is = or_from (is_self e.name) (is_parent e.name) (not_passed (is_self e.name) (λ t. is.not_self (self_says e.name t))) (not_passed (is_parent e.name) (λ t. is.not_parent (parent_says e.name t)))
+named_passes e is = or_from (is_self e.name) (is_parent_name e.name) (not_passed (is_self e.name) (λ t. is.not_self (self_says e.name t))) (not_passed (is_parent_name e.name) (λ t. is.not_parent (parent_says e.name t)))
 
-no_dots_say : (entries : List EntryRec) → have_no_dots entries ≡ true → All IsNamed entries
+no_dots_say : (entries : List EntryRec) → have_no_dots entries ≡ true → All IsBesideDots entries
 no_dots_say entries none = each entries (not-true (list_any is_dots entries) none)
   where
-    each : (entries : List EntryRec) → list_any is_dots entries ≡ false → All IsNamed entries
-    each [] none = All-nil IsNamed
+    each : (entries : List EntryRec) → list_any is_dots entries ≡ false → All IsBesideDots entries
+    each [] none = All-nil IsBesideDots
     each (e ∷ es) none =
         let parts = or_parts (is_dots e) (list_any is_dots es) none in
-        All-cons IsNamed e es (named_says e parts.0) (each es parts.1)
+        All-cons IsBesideDots e es (named_says e parts.0) (each es parts.1)
 
-no_dots_pass : (entries : List EntryRec) → All IsNamed entries → have_no_dots entries ≡ true
+no_dots_pass : (entries : List EntryRec) → All IsBesideDots entries → have_no_dots entries ≡ true
 no_dots_pass entries all = not_from_false (list_any is_dots entries) (none entries all)
   where
-    none : (entries : List EntryRec) → All IsNamed entries → list_any is_dots entries ≡ false
+    none : (entries : List EntryRec) → All IsBesideDots entries → list_any is_dots entries ≡ false
     none [] all = refl
-    none (e ∷ es) all = or_from (is_dots e) (list_any is_dots es) (named_passes e (All-head IsNamed e es all)) (none es (All-tail IsNamed e es all))
+    none (e ∷ es) all = or_from (is_dots e) (list_any is_dots es) (named_passes e (All-head IsBesideDots e es all)) (none es (All-tail IsBesideDots e es all))
 
 dots_say : (dir : ℕ) (entries : List EntryRec) → begin_with_dots dir entries ≡ true → BeginWithDots dir entries
 dots_say dir [] is = absurd (true≢false (sym is))
 dots_say dir (a ∷ []) is = absurd (true≢false (sym is))
 dots_say dir (a ∷ b ∷ rest) is =
-    let third = and_parts (is_self a.name && a.ino == dir && is_parent b.name) (have_no_dots rest) is in
-    let second = and_parts (is_self a.name && a.ino == dir) (is_parent b.name) third.0 in
+    let third = and_parts (is_self a.name && a.ino == dir && is_parent_name b.name) (have_no_dots rest) is in
+    let second = and_parts (is_self a.name && a.ino == dir) (is_parent_name b.name) third.0 in
     let first = and_parts (is_self a.name) (a.ino == dir) second.0 in
     record {
       self = a;
@@ -100,21 +100,21 @@ dots_say dir (a ∷ b ∷ rest) is =
 dots_pass : (dir : ℕ) (entries : List EntryRec) → BeginWithDots dir entries → begin_with_dots dir entries ≡ true
 dots_pass dir entries is = subst (λ (es : List EntryRec). begin_with_dots dir es ≡ true) (sym is.stand) (
     let a = is.self in let b = is.parent in
-    and_from (is_self a.name && a.ino == dir && is_parent b.name) (have_no_dots is.rest)
-    (and_from (is_self a.name && a.ino == dir) (is_parent b.name)
+    and_from (is_self a.name && a.ino == dir && is_parent_name b.name) (have_no_dots is.rest)
+    (and_from (is_self a.name && a.ino == dir) (is_parent_name b.name)
     (and_from (is_self a.name) (a.ino == dir) (self_passes a.name is.self_name) (eq-eqb a.ino dir is.self_ino))
     (parent_passes b.name is.parent_name))
     (no_dots_pass is.rest is.others))
 
 -- data blocks
-sound_says : (dir : ℕ) (whole : Bool) (m : Mapped) → is_sound dir whole m ≡ true → IsDataBlock dir whole m
-unfolding is_sound
+sound_says : (dir : ℕ) (whole : Bool) (m : Mapped) → is_sound_data dir whole m ≡ true → IsDataBlock dir whole m
+unfolding is_sound_data
 sound_says dir whole m is =
     let parts = and_parts (field_of m.bytes 0 4 == magic_of whole) (is_some (data_of dir m.bytes whole)) is in
     record { magic = eqb-true (field_of m.bytes 0 4) (magic_of whole) parts.0; reads = parts.1 }
 
-sound_passes : (dir : ℕ) (whole : Bool) (m : Mapped) → IsDataBlock dir whole m → is_sound dir whole m ≡ true
-unfolding is_sound
+sound_passes : (dir : ℕ) (whole : Bool) (m : Mapped) → IsDataBlock dir whole m → is_sound_data dir whole m ≡ true
+unfolding is_sound_data
 sound_passes dir whole m is = and_from (field_of m.bytes 0 4 == magic_of whole) (is_some (data_of dir m.bytes whole)) (eq-eqb (field_of m.bytes 0 4) (magic_of whole) is.magic) is.reads
 
 -- their places
@@ -128,13 +128,13 @@ places_say (a ∷ b ∷ rest) is =
 places_pass : (places : List ℕ) → StandFirst places → stand_first places ≡ true
 places_pass places is = subst (λ (ps : List ℕ). stand_first ps ≡ true) (sym is.stand) refl
 
-pub first_says : (dir : ℕ) (whole : Bool) (m : Mapped) → is_first dir whole m ≡ true → IsFirstBlock dir whole m
-unfolding is_first
+pub first_says : (dir : ℕ) (whole : Bool) (m : Mapped) → is_first_block dir whole m ≡ true → IsFirstBlock dir whole m
+unfolding is_first_block
 first_says dir whole m is =
     let entries = begin_with_dots dir (area_in dir whole m).entries in
-    let all = and_parts (m.offset == 0 && is_sound dir whole m && entries) (stand_first (area_in dir whole m).places) is in
-    let both = and_parts (m.offset == 0 && is_sound dir whole m) entries all.0 in
-    let parts = and_parts (m.offset == 0) (is_sound dir whole m) both.0 in
+    let all = and_parts (m.offset == 0 && is_sound_data dir whole m && entries) (stand_first (area_in dir whole m).places) is in
+    let both = and_parts (m.offset == 0 && is_sound_data dir whole m) entries all.0 in
+    let parts = and_parts (m.offset == 0) (is_sound_data dir whole m) both.0 in
     record {
       at_start = eqb-true m.offset 0 parts.0;
       sound = sound_says dir whole m parts.1;
@@ -142,13 +142,13 @@ first_says dir whole m is =
       places = places_say (area_in dir whole m).places all.1;
     }
 
-pub first_passes : (dir : ℕ) (whole : Bool) (m : Mapped) → IsFirstBlock dir whole m → is_first dir whole m ≡ true
-unfolding is_first
+pub first_passes : (dir : ℕ) (whole : Bool) (m : Mapped) → IsFirstBlock dir whole m → is_first_block dir whole m ≡ true
+unfolding is_first_block
 first_passes dir whole m is =
     let entries = begin_with_dots dir (area_in dir whole m).entries in
-    and_from (m.offset == 0 && is_sound dir whole m && entries) (stand_first (area_in dir whole m).places)
-    (and_from (m.offset == 0 && is_sound dir whole m) entries
-    (and_from (m.offset == 0) (is_sound dir whole m) (eq-eqb m.offset 0 is.at_start) (sound_passes dir whole m is.sound))
+    and_from (m.offset == 0 && is_sound_data dir whole m && entries) (stand_first (area_in dir whole m).places)
+    (and_from (m.offset == 0 && is_sound_data dir whole m) entries
+    (and_from (m.offset == 0) (is_sound_data dir whole m) (eq-eqb m.offset 0 is.at_start) (sound_passes dir whole m is.sound))
     (dots_pass dir (area_in dir whole m).entries is.dots))
     (places_pass (area_in dir whole m).places is.places)
 
@@ -166,20 +166,20 @@ below_passes n limit t each = by_test (nat_lt n limit) refl
 later_says : (dir : ℕ) (m : Mapped) → is_later dir m ≡ true → m.offset < 0x800000 → IsLaterBlock dir m
 unfolding is_later
 later_says dir m is less =
-    let parts = and_parts (is_sound dir false m) (have_no_dots (area_in dir false m).entries)
-    (below_says m.offset 0x800000 (is_sound dir false m && have_no_dots (area_in dir false m).entries) is less) in
+    let parts = and_parts (is_sound_data dir false m) (have_no_dots (area_in dir false m).entries)
+    (below_says m.offset 0x800000 (is_sound_data dir false m && have_no_dots (area_in dir false m).entries) is less) in
     record { sound = sound_says dir false m parts.0; named = no_dots_say (area_in dir false m).entries parts.1 }
 
 later_passes : (dir : ℕ) (m : Mapped) → (m.offset < 0x800000 → IsLaterBlock dir m) → is_later dir m ≡ true
 unfolding is_later
 later_passes dir m each =
-    below_passes m.offset 0x800000 (is_sound dir false m && have_no_dots (area_in dir false m).entries) (λ less. let is = each less in
-    and_from (is_sound dir false m) (have_no_dots (area_in dir false m).entries) (sound_passes dir false m is.sound) (no_dots_pass (area_in dir false m).entries is.named))
+    below_passes m.offset 0x800000 (is_sound_data dir false m && have_no_dots (area_in dir false m).entries) (λ less. let is = each less in
+    and_from (is_sound_data dir false m) (have_no_dots (area_in dir false m).entries) (sound_passes dir false m is.sound) (no_dots_pass (area_in dir false m).entries is.named))
 
 pub data_says : (dir : ℕ) (ms : List Mapped) → are_data dir ms ≡ true → AreDataBlocks dir ms
 data_says dir [] is = absurd (true≢false (sym is))
 data_says dir (m ∷ ms) is =
-    let parts = and_parts (is_first dir false m) (list_all (is_later dir) ms) is in
+    let parts = and_parts (is_first_block dir false m) (list_all (is_later dir) ms) is in
     record {
       first = m;
       rest = ms;
@@ -191,14 +191,14 @@ data_says dir (m ∷ ms) is =
 pub data_passes : (dir : ℕ) (ms : List Mapped) → AreDataBlocks dir ms → are_data dir ms ≡ true
 data_passes dir ms is =
     subst (λ (all : List Mapped). are_data dir all ≡ true) (sym is.stand)
-    (and_from (is_first dir false is.first) (list_all (is_later dir) is.rest) (first_passes dir false is.first is.begins)
+    (and_from (is_first_block dir false is.first) (list_all (is_later dir) is.rest) (first_passes dir false is.first is.begins)
     (all_pass (is_later dir) (λ (m : Mapped). m.offset < 0x800000 → IsLaterBlock dir m) (later_passes dir) is.rest is.later))
 
 -- the pairs of an index
 pub index_says : (pairs : List Pair) (stale : ℕ) (due : List Pair) → is_index pairs stale due ≡ true → IsIndex pairs stale due
 unfolding is_index
 index_says pairs stale due is =
-    let both = and_parts (rises 0 pairs && count_by is_stale pairs == stale) (are_same (filter is_live pairs) due) is in
+    let both = and_parts (rises 0 pairs && count_by is_stale pairs == stale) (same_pairs (filter is_live pairs) due) is in
     let parts = and_parts (rises 0 pairs) (count_by is_stale pairs == stale) both.0 in
     record {
       ascend = (rise_says 0 pairs parts.0).1;
@@ -209,23 +209,23 @@ index_says pairs stale due is =
 pub index_passes : (pairs : List Pair) (stale : ℕ) (due : List Pair) → IsIndex pairs stale due → is_index pairs stale due ≡ true
 unfolding is_index
 index_passes pairs stale due is =
-    and_from (rises 0 pairs && count_by is_stale pairs == stale) (are_same (filter is_live pairs) due)
+    and_from (rises 0 pairs && count_by is_stale pairs == stale) (same_pairs (filter is_live pairs) due)
     (and_from (rises 0 pairs) (count_by is_stale pairs == stale) (rise_passes 0 pairs (λ k d lt. omega arith) is.ascend) (eq-eqb (count_by is_stale pairs) stale is.stated))
     (same_passes (filter is_live pairs) due is.exact)
 
 -- the values of the longest unused spans
-pub values_say : (bests : List Best) (bytes : List ℕ) (at first count : ℕ) → are_values bests bytes at first count ≡ true → HaveValues bests bytes at first count
+pub values_say : (bests : List Best) (bytes : List ℕ) (at first count : ℕ) → are_values bests bytes at first count ≡ true → HaveLengths bests bytes at first count
 unfolding are_values
 values_say bests bytes at first count is j less =
     let same : 0 + j ≡ j = omega arith in
-    eqb-true (field_of bytes (at + 2 * j) 2) (best_at bests (first + j))
-    (subst (λ (n : ℕ). (field_of bytes (at + 2 * n) 2 == best_at bests (first + n)) ≡ true) same
-    (range_says (λ j. field_of bytes (at + 2 * j) 2 == best_at bests (first + j)) 0 count is j less))
+    eqb-true (field_of bytes (at + 2 * j) 2) (best_length_of bests (first + j))
+    (subst (λ (n : ℕ). (field_of bytes (at + 2 * n) 2 == best_length_of bests (first + n)) ≡ true) same
+    (range_says (λ j. field_of bytes (at + 2 * j) 2 == best_length_of bests (first + j)) 0 count is j less))
 
-pub values_pass : (bests : List Best) (bytes : List ℕ) (at first count : ℕ) → HaveValues bests bytes at first count → are_values bests bytes at first count ≡ true
+pub values_pass : (bests : List Best) (bytes : List ℕ) (at first count : ℕ) → HaveLengths bests bytes at first count → are_values bests bytes at first count ≡ true
 unfolding are_values
 values_pass bests bytes at first count is =
-    range_passes (λ j. field_of bytes (at + 2 * j) 2 == best_at bests (first + j)) 0 count
+    range_passes (λ j. field_of bytes (at + 2 * j) 2 == best_length_of bests (first + j)) 0 count
     (λ (j : ℕ) less. let same : j ≡ 0 + j = omega arith in
-    subst (λ (n : ℕ). (field_of bytes (at + 2 * n) 2 == best_at bests (first + n)) ≡ true) same
-    (eq-eqb (field_of bytes (at + 2 * j) 2) (best_at bests (first + j)) (is j less)))
+    subst (λ (n : ℕ). (field_of bytes (at + 2 * n) 2 == best_length_of bests (first + n)) ≡ true) same
+    (eq-eqb (field_of bytes (at + 2 * j) 2) (best_length_of bests (first + j)) (is j less)))

@@ -8,7 +8,7 @@ use Rattle.xfs_word.specs.Field.{part_of}
 use Rattle.xfs_word.specs.Seal.{is_sealed}
 use Rattle.xfs_word.specs.declared.extents.Extent.{Extent}
 use Rattle.xfs_attr.specs.Leaf.{leaf_of}
-use Rattle.xfs_attr.specs.ShortForm.{short_of}
+use Rattle.xfs_attr.specs.ShortForm.{short_attributes}
 use Rattle.xfs_attr.specs.declared.attributes.Attr.{Attr}
 use Rattle.xfs_attr.specs.declared.attributes.AttrFault.{AttrFault}
 use Rattle.xfs_geom.specs.Conversions.{block_at, group_length, is_address}
@@ -22,7 +22,7 @@ use Rattle.xfs_kinds.specs.Groups.{lies_in_one_group}
 use Rattle.xfs_volume.specs.declared.cores.Core.{Core}
 use Rattle.xfs_volume.specs.declared.files.FileRec.{FileRec}
 use Rattle.xfs_inode.proofs.Sound.{always_sound}
-use Rattle.xfs_inode.specs.Files.{AttrFork, are_blocks, are_extents, attr_fork, by_slot, data_fork, feature_of, file_of, file_read, fork_with, has_leaf, index_seal, is_clear, is_core, is_counted, is_leaf, is_whole, leaf_held, no_attrs, used_file, with_attrs, with_data, with_feature}
+use Rattle.xfs_inode.specs.Files.{AttrFork, are_blocks, are_extents, attr_fork, by_slot, data_fork, feature_of, file_record, file_read, fork_with, has_leaf, index_seal, is_off_attributes, is_core, is_counted, is_attr_leaf, is_whole_fork, leaf_held, no_attrs, used_file, with_attrs, with_data, with_feature}
 use Rattle.xfs_inode.specs.Forks.{attr_extent, attr_place, has_attr_extent, only_block}
 use Rattle.xfs_inode.specs.Slots.{attribute_start, slot_read}
 use Rattle.xfs_inode.specs.Sound.{IsSound, IsWholeFile}
@@ -30,7 +30,7 @@ use Rattle.xfs_inode.specs.declared.files.FileRead.{FileRead}
 use Rattle.xfs_inode.specs.declared.files.FileRead.TheVariants as Reads
 use Rattle.xfs_inode.specs.declared.reading.SlotRead.{SlotRead}
 use Rattle.xfs_inode.specs.declared.reading.SlotRead.TheVariants as Read
-use Rattle.xfs_space.specs.Parts.{IsFile}
+use Rattle.xfs_space.specs.Parts.{HasLawfulForks}
 use Rattle.xfs_image.specs.Files.{AreFilesRead}
 use Rattle.xfs_image.specs.Slots.{reads_as, slot_bytes}
 
@@ -93,17 +93,17 @@ one_extent v e fits first is =
     let c = and_from (fits_extent e && nat_le 1 e.count && nat_le (e.offset + e.count) (2 ^ 54 - 1)) (lies_in_one_group v e.start e.count) b lies in
     and_from (is_extent v e && follows_offset None e) (are_extents v (Some e) []) (and_from (is_extent v e) (follows_offset None e) c refl) refl
 
-leaf_has : (v : Volume) (ino : ℕ) (core : Core) (slot : List ℕ) (place : Option ℕ) (attr : Option (List ℕ)) → attr_place v core slot ≡ place
-    → HasExtents v (leaf_held v ino core slot place attr)
-leaf_has v ino core slot None attr named = tt
+leaf_has : (v : Volume) (ino : ℕ) (core : Core) (slot : List ℕ) (place : Option ℕ) (attr_leaf : Option (List ℕ)) → attr_place v core slot ≡ place
+    → HasExtents v (leaf_held v ino core slot place attr_leaf)
+leaf_has v ino core slot None attr_leaf named = tt
 leaf_has v ino core slot (Some place) None named = tt
-leaf_has v ino core slot (Some place) (Some block) named = by_leaf (is_leaf v ino core slot place block) refl
+leaf_has v ino core slot (Some place) (Some block) named = by_leaf (is_attr_leaf v ino core slot place block) refl
   where
     by_extent : (t : Bool) → (if t then only_block v (attr_extent core slot) else None) ≡ Some place → only_block v (attr_extent core slot) ≡ Some place
     by_extent true h = h
     by_extent false h = absurd cc
 
-    by_leaf : (t : Bool) → is_leaf v ino core slot place block ≡ t
+    by_leaf : (t : Bool) → is_attr_leaf v ino core slot place block ≡ t
         → HasExtents v (if t then fork_with (attr_extent core slot ∷ []) (place ∷ []) (leaf_of block) else None)
     by_leaf true is =
         let first = (and_parts ((attr_extent core slot).offset == 0) (is_sealed (index_seal v ino 0x3bee place) block) is).0 in
@@ -112,17 +112,17 @@ leaf_has v ino core slot (Some place) (Some block) named = by_leaf (is_leaf v in
         (block_is v (attr_extent core slot) place (by_extent (has_attr_extent core) named)))
     by_leaf false is = tt
 
-fork_has : (v : Volume) (ino : ℕ) (core : Core) (slot : List ℕ) (attr : Option (List ℕ)) → HasExtents v (attr_fork v ino core slot attr)
-fork_has v ino core slot attr =
+fork_has : (v : Volume) (ino : ℕ) (core : Core) (slot : List ℕ) (attr_leaf : Option (List ℕ)) → HasExtents v (attr_fork v ino core slot attr_leaf)
+fork_has v ino core slot attr_leaf =
     if_has v (core.forkoff == 0) _ _ refl
-    (if_has v (core.aformat == 1) _ _ (with_has v [] [] (short_of (part_of slot (attribute_start core.forkoff) (512 - attribute_start core.forkoff))) refl)
+    (if_has v (core.aformat == 1) _ _ (with_has v [] [] (short_attributes (part_of slot (attribute_start core.forkoff) (512 - attribute_start core.forkoff))) refl)
     (if_has v (core.aformat == 2) _ None
-    (if_has v (core.anextents == 0) _ _ refl (leaf_has v ino core slot (attr_place v core slot) attr refl)) tt))
+    (if_has v (core.anextents == 0) _ _ refl (leaf_has v ino core slot (attr_place v core slot) attr_leaf refl)) tt))
 
 -- the extents of a file's attributes are those of a volume, whatever its slot reads as
 abbrev HasAttr : Volume → FileRead → Type 0
 HasAttr v Reads.Free = Unit {0}
-HasAttr v (Reads.File file) = are_extents v None file.attr ≡ true
+HasAttr v (Reads.File file) = are_extents v None file.attr_extents ≡ true
 HasAttr v (Reads.FileWithoutAttrs file) = Unit {0}
 HasAttr v (Reads.Unsupported what) = Unit {0}
 HasAttr v Reads.Unsound = Unit {0}
@@ -135,38 +135,38 @@ attrs_attr : (v : Volume) (ino : ℕ) (core : Core) (slot : List ℕ) (link : Op
     → HasAttr v (with_attrs v ino core slot link held fork)
 attrs_attr v ino core slot link held None has = tt
 attrs_attr v ino core slot link held (Some fork) has =
-    if_attr v (is_counted core held fork && is_clear v held fork) (Reads.File (file_of ino core slot link held fork)) _ has
-    (if_attr v (has_leaf fork) (Reads.FileWithoutAttrs (file_of ino core slot link held no_attrs)) Reads.Unsound tt tt)
+    if_attr v (is_counted core held fork && is_off_attributes v held fork) (Reads.File (file_record ino core slot link held fork)) _ has
+    (if_attr v (has_leaf fork) (Reads.FileWithoutAttrs (file_record ino core slot link held no_attrs)) Reads.Unsound tt tt)
 
-data_attr : (v : Volume) (ino : ℕ) (core : Core) (slot : List ℕ) (attr link : Option (List ℕ)) (held : Option (Contents Extent))
-    → HasAttr v (with_data v ino core slot attr link held)
-data_attr v ino core slot attr link None = tt
-data_attr v ino core slot attr link (Some held) =
-    if_attr v (is_whole v ino core slot link held) (with_attrs v ino core slot link held (attr_fork v ino core slot attr)) Reads.Unsound
-    (attrs_attr v ino core slot link held (attr_fork v ino core slot attr) (fork_has v ino core slot attr)) tt
+data_attr : (v : Volume) (ino : ℕ) (core : Core) (slot : List ℕ) (attr_leaf link : Option (List ℕ)) (held : Option (Contents Extent))
+    → HasAttr v (with_data v ino core slot attr_leaf link held)
+data_attr v ino core slot attr_leaf link None = tt
+data_attr v ino core slot attr_leaf link (Some held) =
+    if_attr v (is_whole_fork v ino core slot link held) (with_attrs v ino core slot link held (attr_fork v ino core slot attr_leaf)) Reads.Unsound
+    (attrs_attr v ino core slot link held (attr_fork v ino core slot attr_leaf) (fork_has v ino core slot attr_leaf)) tt
 
 feature_attr : (v : Volume) (what : Option ℕ) (read : FileRead) → HasAttr v read → HasAttr v (with_feature what read)
 feature_attr v None read has = has
 feature_attr v (Some what) read has = tt
 
-used_attr : (v : Volume) (ino : ℕ) (core : Core) (slot : List ℕ) (tree : Option (Contents Extent)) (attr link : Option (List ℕ))
-    → HasAttr v (used_file v ino core slot tree attr link)
-used_attr v ino core slot tree attr link =
-    feature_attr v (feature_of v ino (attr_place v core slot) attr) _
-    (if_attr v (is_core core) (with_data v ino core slot attr link (data_fork core slot tree)) Reads.Unsound
-    (data_attr v ino core slot attr link (data_fork core slot tree)) tt)
+used_attr : (v : Volume) (ino : ℕ) (core : Core) (slot : List ℕ) (tree : Option (Contents Extent)) (attr_leaf link : Option (List ℕ))
+    → HasAttr v (used_file v ino core slot tree attr_leaf link)
+used_attr v ino core slot tree attr_leaf link =
+    feature_attr v (feature_of v ino (attr_place v core slot) attr_leaf) _
+    (if_attr v (is_core core) (with_data v ino core slot attr_leaf link (data_fork core slot tree)) Reads.Unsound
+    (data_attr v ino core slot attr_leaf link (data_fork core slot tree)) tt)
 
-slot_attr : (v : Volume) (ino : ℕ) (read : SlotRead) (slot : List ℕ) (tree : Option (Contents Extent)) (attr link : Option (List ℕ))
-    → HasAttr v (by_slot v ino read slot tree attr link)
-slot_attr v ino Read.Unsound slot tree attr link = tt
-slot_attr v ino Read.Free slot tree attr link = tt
-slot_attr v ino (Read.Unsupported what) slot tree attr link = tt
-slot_attr v ino (Read.InUse core) slot tree attr link = used_attr v ino core slot tree attr link
+slot_attr : (v : Volume) (ino : ℕ) (read : SlotRead) (slot : List ℕ) (tree : Option (Contents Extent)) (attr_leaf link : Option (List ℕ))
+    → HasAttr v (by_slot v ino read slot tree attr_leaf link)
+slot_attr v ino Read.Unsound slot tree attr_leaf link = tt
+slot_attr v ino Read.Free slot tree attr_leaf link = tt
+slot_attr v ino (Read.Unsupported what) slot tree attr_leaf link = tt
+slot_attr v ino (Read.InUse core) slot tree attr_leaf link = used_attr v ino core slot tree attr_leaf link
 
-always_attr : (v : Volume) (ino : ℕ) (slot : List ℕ) (tree : Option (Contents Extent)) (attr link : Option (List ℕ))
-    → HasAttr v (file_read v ino slot tree attr link)
+always_attr : (v : Volume) (ino : ℕ) (slot : List ℕ) (tree : Option (Contents Extent)) (attr_leaf link : Option (List ℕ))
+    → HasAttr v (file_read v ino slot tree attr_leaf link)
 unfolding file_read
-always_attr v ino slot tree attr link = slot_attr v ino (slot_read v ino slot) slot tree attr link
+always_attr v ino slot tree attr_leaf link = slot_attr v ino (slot_read v ino slot) slot tree attr_leaf link
 
 -- extents of a volume in file order are lawful records
 as_lawful : (v : Volume) (ino : ℕ) (before : Option Extent) (es : List Extent) → are_extents v before es ≡ true → are_lawful (bmbt_shape ino) v before es ≡ true
@@ -186,23 +186,23 @@ pub file_sound : (v : Volume) (image : Image) (ino : ℕ) (file : FileRec) → r
 unfolding reads_as
 file_sound v image ino file reads = subst (IsSound v ino) reads (always_sound v ino (slot_bytes v image ino) _ _ _)
 
-file_attr : (v : Volume) (image : Image) (ino : ℕ) (file : FileRec) → reads_as v image ino ≡ Reads.File file → are_extents v None file.attr ≡ true
+file_attr : (v : Volume) (image : Image) (ino : ℕ) (file : FileRec) → reads_as v image ino ≡ Reads.File file → are_extents v None file.attr_extents ≡ true
 unfolding reads_as
 file_attr v image ino file reads = subst (HasAttr v) reads (always_attr v ino (slot_bytes v image ino) _ _ _)
 
-pub file_is : (v : Volume) (image : Image) (ino : ℕ) (file : FileRec) → reads_as v image ino ≡ Reads.File file → IsFile v file
+pub file_is : (v : Volume) (image : Image) (ino : ℕ) (file : FileRec) → reads_as v image ino ≡ Reads.File file → HasLawfulForks v file
 file_is v image ino file reads =
     let whole = file_sound v image ino file reads in record {
       extents = as_lawful v file.ino None file.extents whole.keeps.extents;
-      attr = as_lawful v file.ino None file.attr (file_attr v image ino file reads);
+      attr_extents = as_lawful v file.ino None file.attr_extents (file_attr v image ino file reads);
       tree = as_blocks v file.tree whole.keeps.tree;
     }
 
-pub files_are : (v : Volume) (image : Image) (inos : List ℕ) (files : List FileRec) → AreFilesRead v image inos files → All (IsFile v) files
-files_are v image [] files read = All-same (IsFile v) files [] read (All-nil (IsFile v))
+pub files_are : (v : Volume) (image : Image) (inos : List ℕ) (files : List FileRec) → AreFilesRead v image inos files → All (HasLawfulForks v) files
+files_are v image [] files read = All-same (HasLawfulForks v) files [] read (All-nil (HasLawfulForks v))
 files_are v image (ino ∷ inos) files read =
     elim read [
       | inl free ↦ files_are v image inos files free.1
-      | inr used ↦ All-same (IsFile v) files (used.0 ∷ used.1) used.3
-          (All-cons (IsFile v) used.0 used.1 (file_is v image ino used.0 used.2) (files_are v image inos used.1 used.4))
+      | inr used ↦ All-same (HasLawfulForks v) files (used.0 ∷ used.1) used.3
+          (All-cons (HasLawfulForks v) used.0 used.1 (file_is v image ino used.0 used.2) (files_are v image inos used.1 used.4))
     ]

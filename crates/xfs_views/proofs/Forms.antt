@@ -4,17 +4,17 @@ use Rattle.std.specs.List.{list_all}
 use Rattle.std.proofs.lemmas.Bool.{and_parts, and_from, eqb-true, eq-eqb, le-leb, leb-true, lt-ltb, ltb-true, true≢false}
 use Rattle.xfs_word.specs.Field.{field_of}
 use Rattle.xfs_dirindex.specs.Block.{is_single, is_whole_block, tail_count, tail_pairs}
-use Rattle.xfs_dirindex.specs.Data.{all_bests, all_pairs, are_data, is_first, pairs_in}
+use Rattle.xfs_dirindex.specs.Data.{all_bests, all_pairs, are_data, is_first_block, pairs_in}
 use Rattle.xfs_dirindex.specs.FreeBlocks.{are_free, free_count, has_value, has_values, is_covered, is_free_sound, used_in}
-use Rattle.xfs_dirindex.specs.IndexTree.{all_leaf_pairs, all_places, are_due, are_exactly, are_levels, are_members, form_of, has_form, has_greatest, has_neighbours, index_places, is_member, is_tree, keeps_rules, last_hash, next_of, pairs_below, root_level, root_links, stated_of}
+use Rattle.xfs_dirindex.specs.IndexTree.{all_leaf_pairs, index_tree_all_places, are_due, are_exactly, are_levels, are_members, magic_of_level, has_index_form, has_greatest, has_neighbours, index_places, is_member, is_tree, keeps_rules, last_hash, next_link, pairs_below, index_level, root_links, stated_of}
 use Rattle.xfs_dirindex.specs.Leaf.{are_values, end_of, is_leaf, is_only_leaf, is_whole_leaf, leaf_count, leaf_stale, value_count}
-use Rattle.xfs_dirindex.specs.Lookup.{bytes_of, is_there}
+use Rattle.xfs_dirindex.specs.Lookup.{bytes_mapped, is_mapped}
 use Rattle.xfs_dirindex.specs.Mapped.{Mapped, is_beyond}
 use Rattle.xfs_dirindex.specs.Node.{is_whole_node}
-use Rattle.xfs_dirindex.specs.Pairs.{are_same, is_index, is_stale, pairs_at}
+use Rattle.xfs_dirindex.specs.Pairs.{same_pairs, is_index, is_stale, pairs_at}
 use Rattle.xfs_dirindex.specs.declared.data.Best.{Best}
 use Rattle.xfs_dirindex.specs.declared.pairs.Pair.{Pair}
-use Rattle.xfs_views.specs.DirectoriesInWords.{AreFreeBlocks, AreLevels, AreMembers, HaveValues, IsCovered, IsFreeBlock, IsIndex, IsIndexTree, IsLeafForm, IsMember, IsNodeForm, IsSingleForm}
+use Rattle.xfs_views.specs.DirectoriesInWords.{AreFreeBlocks, AreIndexLevels, AreMembers, HaveLengths, IsCovered, IsFreeBlock, IsIndex, IsIndexTree, IsLeafForm, IsMember, IsNodeForm, IsSingleForm}
 use Rattle.xfs_views.proofs.Blocks.{data_passes, data_says, first_passes, first_says, index_passes, index_says, values_pass, values_say}
 use Rattle.xfs_views.proofs.Tests.{all_pass, all_say, same_passes, same_says}
 
@@ -26,9 +26,9 @@ single_says dir size (m ∷ n ∷ ms) is = absurd (true≢false (sym (and_parts 
 single_says dir size (m ∷ []) is =
     let fits = nat_le (64 + 8 * tail_count m.bytes) 4088 in
     let index = is_index (tail_pairs m.bytes) (field_of m.bytes 4092 4) (pairs_in dir true m) in
-    let whole = and_parts (size == 4096) (fits && is_first dir true m && index) is in
-    let both = and_parts (fits && is_first dir true m) index whole.1 in
-    let parts = and_parts fits (is_first dir true m) both.0 in
+    let whole = and_parts (size == 4096) (fits && is_first_block dir true m && index) is in
+    let both = and_parts (fits && is_first_block dir true m) index whole.1 in
+    let parts = and_parts fits (is_first_block dir true m) both.0 in
     record {
       block = m;
       only = refl;
@@ -45,9 +45,9 @@ single_passes dir size ms is =
     let fits = nat_le (64 + 8 * tail_count m.bytes) 4088 in
     let index = is_index (tail_pairs m.bytes) (field_of m.bytes 4092 4) (pairs_in dir true m) in
     subst (λ (all : List Mapped). is_whole_block dir size all ≡ true) (sym is.only)
-    (and_from (size == 4096) (fits && is_first dir true m && index) (eq-eqb size 4096 is.one_block)
-    (and_from (fits && is_first dir true m) index
-    (and_from fits (is_first dir true m) (le-leb (64 + 8 * tail_count m.bytes) 4088 is.fits) (first_passes dir true m is.first))
+    (and_from (size == 4096) (fits && is_first_block dir true m && index) (eq-eqb size 4096 is.one_block)
+    (and_from (fits && is_first_block dir true m) index
+    (and_from fits (is_first_block dir true m) (le-leb (64 + 8 * tail_count m.bytes) 4088 is.fits) (first_passes dir true m is.first))
     (index_passes (tail_pairs m.bytes) (field_of m.bytes 4092 4) (pairs_in dir true m) is.index)))
 
 -- the leaf of an index
@@ -56,7 +56,7 @@ record IsLeafBlock (bests : List Best) (due : List Pair) (bytes : List ℕ) : Ty
   fits : 64 + 8 * leaf_count bytes + 2 * value_count bytes ≤ 4092
   index : IsIndex (pairs_at bytes 64 (leaf_count bytes)) (leaf_stale bytes) due
   enough : end_of bests ≤ value_count bytes
-  values : HaveValues bests bytes (4092 - 2 * value_count bytes) 0 (value_count bytes)
+  values : HaveLengths bests bytes (4092 - 2 * value_count bytes) 0 (value_count bytes)
 
 leaf_says : (bests : List Best) (due : List Pair) (bytes : List ℕ) → is_leaf bests due bytes ≡ true → IsLeafBlock bests due bytes
 unfolding is_leaf
@@ -145,12 +145,12 @@ leaf_form_passes dir size ms is =
     }))
 
 -- the tree of an index
-form_says : (level : ℕ) (bytes : List ℕ) → has_form level bytes ≡ true
-    → (length bytes ≡ 4096) × (field_of bytes 8 2 ≡ form_of level) × (1 ≤ leaf_count bytes) × (leaf_count bytes ≤ 504) × (leaf_stale bytes ≡ stated_of level bytes)
-unfolding has_form
+form_says : (level : ℕ) (bytes : List ℕ) → has_index_form level bytes ≡ true
+    → (length bytes ≡ 4096) × (field_of bytes 8 2 ≡ magic_of_level level) × (1 ≤ leaf_count bytes) × (leaf_count bytes ≤ 504) × (leaf_stale bytes ≡ stated_of level bytes)
+unfolding has_index_form
 form_says level bytes is =
-    let a = is_there bytes in
-    let b = field_of bytes 8 2 == form_of level in
+    let a = is_mapped bytes in
+    let b = field_of bytes 8 2 == magic_of_level level in
     let c = nat_le 1 (leaf_count bytes) in
     let d = nat_le (leaf_count bytes) 504 in
     let fifth = and_parts (a && b && c && d) (leaf_stale bytes == stated_of level bytes) is in
@@ -158,24 +158,24 @@ form_says level bytes is =
     let third = and_parts (a && b) c fourth.0 in
     let second = and_parts a b third.0 in (
       eqb-true (length bytes) 4096 second.0,
-      eqb-true (field_of bytes 8 2) (form_of level) second.1,
+      eqb-true (field_of bytes 8 2) (magic_of_level level) second.1,
       leb-true 1 (leaf_count bytes) third.1,
       leb-true (leaf_count bytes) 504 fourth.1,
       eqb-true (leaf_stale bytes) (stated_of level bytes) fifth.1,
     )
 
-form_passes : (level : ℕ) (bytes : List ℕ) → length bytes ≡ 4096 → field_of bytes 8 2 ≡ form_of level → 1 ≤ leaf_count bytes → leaf_count bytes ≤ 504
-    → leaf_stale bytes ≡ stated_of level bytes → has_form level bytes ≡ true
-unfolding has_form
+form_passes : (level : ℕ) (bytes : List ℕ) → length bytes ≡ 4096 → field_of bytes 8 2 ≡ magic_of_level level → 1 ≤ leaf_count bytes → leaf_count bytes ≤ 504
+    → leaf_stale bytes ≡ stated_of level bytes → has_index_form level bytes ≡ true
+unfolding has_index_form
 form_passes level bytes mapped magic some most stated =
-    let a = is_there bytes in
-    let b = field_of bytes 8 2 == form_of level in
+    let a = is_mapped bytes in
+    let b = field_of bytes 8 2 == magic_of_level level in
     let c = nat_le 1 (leaf_count bytes) in
     let d = nat_le (leaf_count bytes) 504 in
     and_from (a && b && c && d) (leaf_stale bytes == stated_of level bytes)
     (and_from (a && b && c) d
     (and_from (a && b) c
-    (and_from a b (eq-eqb (length bytes) 4096 mapped) (eq-eqb (field_of bytes 8 2) (form_of level) magic))
+    (and_from a b (eq-eqb (length bytes) 4096 mapped) (eq-eqb (field_of bytes 8 2) (magic_of_level level) magic))
     (le-leb 1 (leaf_count bytes) some))
     (le-leb (leaf_count bytes) 504 most))
     (eq-eqb (leaf_stale bytes) (stated_of level bytes) stated)
@@ -200,9 +200,9 @@ greatest_passes false last hash is = eq-eqb last hash (is refl)
 
 member_says : (ms : List Mapped) (root : Bool) (level before : ℕ) (link : Pair) (next : ℕ) → is_member ms root level before link next ≡ true → IsMember ms root level before link next
 member_says ms root level before link next is =
-    let bytes = bytes_of ms link.address in
-    let both = and_parts (has_form level bytes && has_neighbours before next bytes) (has_greatest root link.hash bytes) is in
-    let parts = and_parts (has_form level bytes) (has_neighbours before next bytes) both.0 in
+    let bytes = bytes_mapped ms link.address in
+    let both = and_parts (has_index_form level bytes && has_neighbours before next bytes) (has_greatest root link.hash bytes) is in
+    let parts = and_parts (has_index_form level bytes) (has_neighbours before next bytes) both.0 in
     let form = form_says level bytes parts.0 in
     let sides = neighbours_say before next bytes parts.1 in
     record {
@@ -218,30 +218,30 @@ member_says ms root level before link next is =
 
 member_passes : (ms : List Mapped) (root : Bool) (level before : ℕ) (link : Pair) (next : ℕ) → IsMember ms root level before link next → is_member ms root level before link next ≡ true
 member_passes ms root level before link next is =
-    let bytes = bytes_of ms link.address in
-    and_from (has_form level bytes && has_neighbours before next bytes) (has_greatest root link.hash bytes)
-    (and_from (has_form level bytes) (has_neighbours before next bytes) (form_passes level bytes is.mapped is.magic is.some is.most is.stated) (neighbours_pass before next bytes is.back is.forward))
+    let bytes = bytes_mapped ms link.address in
+    and_from (has_index_form level bytes && has_neighbours before next bytes) (has_greatest root link.hash bytes)
+    (and_from (has_index_form level bytes) (has_neighbours before next bytes) (form_passes level bytes is.mapped is.magic is.some is.most is.stated) (neighbours_pass before next bytes is.back is.forward))
     (greatest_passes root (last_hash bytes) link.hash is.greatest)
 
 members_say : (ms : List Mapped) (root : Bool) (level before : ℕ) (links : List Pair) → are_members ms root level before links ≡ true → AreMembers ms root level before links
 members_say ms root level before [] is = tt
 members_say ms root level before (link ∷ links) is =
-    let parts = and_parts (is_member ms root level before link (next_of links)) (are_members ms root level link.address links) is in
-    (member_says ms root level before link (next_of links) parts.0, members_say ms root level link.address links parts.1)
+    let parts = and_parts (is_member ms root level before link (next_link links)) (are_members ms root level link.address links) is in
+    (member_says ms root level before link (next_link links) parts.0, members_say ms root level link.address links parts.1)
 
 members_pass : (ms : List Mapped) (root : Bool) (level before : ℕ) (links : List Pair) → AreMembers ms root level before links → are_members ms root level before links ≡ true
 members_pass ms root level before [] is = refl
 members_pass ms root level before (link ∷ links) is =
-    and_from (is_member ms root level before link (next_of links)) (are_members ms root level link.address links) (member_passes ms root level before link (next_of links) is.0)
+    and_from (is_member ms root level before link (next_link links)) (are_members ms root level link.address links) (member_passes ms root level before link (next_link links) is.0)
     (members_pass ms root level link.address links is.1)
 
-levels_say : (ms : List Mapped) (root : Bool) (level : ℕ) (links : List Pair) → are_levels ms root level links ≡ true → AreLevels ms root level links
+levels_say : (ms : List Mapped) (root : Bool) (level : ℕ) (links : List Pair) → are_levels ms root level links ≡ true → AreIndexLevels ms root level links
 levels_say ms root zero links is = members_say ms root 0 0 links is
 levels_say ms root (suc level) links is =
     let parts = and_parts (are_members ms root (suc level) 0 links) (are_levels ms false level (pairs_below ms links)) is in
     (members_say ms root (suc level) 0 links parts.0, levels_say ms false level (pairs_below ms links) parts.1)
 
-levels_pass : (ms : List Mapped) (root : Bool) (level : ℕ) (links : List Pair) → AreLevels ms root level links → are_levels ms root level links ≡ true
+levels_pass : (ms : List Mapped) (root : Bool) (level : ℕ) (links : List Pair) → AreIndexLevels ms root level links → are_levels ms root level links ≡ true
 levels_pass ms root zero links is = members_pass ms root 0 0 links is
 levels_pass ms root (suc level) links is =
     and_from (are_members ms root (suc level) 0 links) (are_levels ms false level (pairs_below ms links)) (members_pass ms root (suc level) 0 links is.0)
@@ -250,14 +250,14 @@ levels_pass ms root (suc level) links is =
 tree_says : (ms : List Mapped) (due : List Pair) → is_tree ms due ≡ true → IsIndexTree ms due
 unfolding is_tree keeps_rules are_exactly are_due
 tree_says ms due is =
-    let last = and_parts (keeps_rules ms && are_exactly ms (all_places ms)) (are_due (all_leaf_pairs ms) due) is in
-    let parts = and_parts (keeps_rules ms) (are_exactly ms (all_places ms)) last.0 in
-    let places = and_parts (length (all_places ms) == length (index_places ms)) (are_same (all_places ms) (index_places ms)) parts.1 in
+    let last = and_parts (keeps_rules ms && are_exactly ms (index_tree_all_places ms)) (are_due (all_leaf_pairs ms) due) is in
+    let parts = and_parts (keeps_rules ms) (are_exactly ms (index_tree_all_places ms)) last.0 in
+    let places = and_parts (length (index_tree_all_places ms) == length (index_places ms)) (same_pairs (index_tree_all_places ms) (index_places ms)) parts.1 in
     let index = index_says (all_leaf_pairs ms) (count_by is_stale (all_leaf_pairs ms)) due last.1 in
     record {
-      levels = levels_say ms true (root_level ms) root_links parts.0;
-      count = eqb-true (length (all_places ms)) (length (index_places ms)) places.0;
-      blocks = same_says (all_places ms) (index_places ms) places.1;
+      levels = levels_say ms true (index_level ms) root_links parts.0;
+      count = eqb-true (length (index_tree_all_places ms)) (length (index_places ms)) places.0;
+      blocks = same_says (index_tree_all_places ms) (index_places ms) places.1;
       ascend = index.ascend;
       exact = index.exact;
     }
@@ -265,10 +265,10 @@ tree_says ms due is =
 tree_passes : (ms : List Mapped) (due : List Pair) → IsIndexTree ms due → is_tree ms due ≡ true
 unfolding is_tree keeps_rules are_exactly are_due
 tree_passes ms due is =
-    and_from (keeps_rules ms && are_exactly ms (all_places ms)) (are_due (all_leaf_pairs ms) due)
-    (and_from (keeps_rules ms) (are_exactly ms (all_places ms)) (levels_pass ms true (root_level ms) root_links is.levels)
-    (and_from (length (all_places ms) == length (index_places ms)) (are_same (all_places ms) (index_places ms)) (eq-eqb (length (all_places ms)) (length (index_places ms)) is.count)
-    (same_passes (all_places ms) (index_places ms) is.blocks)))
+    and_from (keeps_rules ms && are_exactly ms (index_tree_all_places ms)) (are_due (all_leaf_pairs ms) due)
+    (and_from (keeps_rules ms) (are_exactly ms (index_tree_all_places ms)) (levels_pass ms true (index_level ms) root_links is.levels)
+    (and_from (length (index_tree_all_places ms) == length (index_places ms)) (same_pairs (index_tree_all_places ms) (index_places ms)) (eq-eqb (length (index_tree_all_places ms)) (length (index_places ms)) is.count)
+    (same_passes (index_tree_all_places ms) (index_places ms) is.blocks)))
     (index_passes (all_leaf_pairs ms) (count_by is_stale (all_leaf_pairs ms)) due (record { ascend = is.ascend; stated = refl; exact = is.exact }))
 
 -- the free blocks
@@ -322,12 +322,12 @@ free_each_passes bests m each = from_passes 0x1000000 m.offset (has_values bests
 covered_says : (b : Best) (bytes : List ℕ) → is_covered b bytes ≡ true → IsCovered b bytes
 unfolding is_covered
 covered_says b bytes is =
-    let parts = and_parts (is_there bytes) (nat_lt (b.offset % 2016) (free_count bytes)) is in
+    let parts = and_parts (is_mapped bytes) (nat_lt (b.offset % 2016) (free_count bytes)) is in
     record { mapped = eqb-true (length bytes) 4096 parts.0; reaches = ltb-true (b.offset % 2016) (free_count bytes) parts.1 }
 
 covered_passes : (b : Best) (bytes : List ℕ) → IsCovered b bytes → is_covered b bytes ≡ true
 unfolding is_covered
-covered_passes b bytes is = and_from (is_there bytes) (nat_lt (b.offset % 2016) (free_count bytes)) (eq-eqb (length bytes) 4096 is.mapped) (lt-ltb (b.offset % 2016) (free_count bytes) is.reaches)
+covered_passes b bytes is = and_from (is_mapped bytes) (nat_lt (b.offset % 2016) (free_count bytes)) (eq-eqb (length bytes) 4096 is.mapped) (lt-ltb (b.offset % 2016) (free_count bytes) is.reaches)
 
 free_says : (bests : List Best) (ms : List Mapped) → are_free bests ms ≡ true → AreFreeBlocks bests ms
 unfolding are_free
@@ -335,8 +335,8 @@ free_says bests ms is =
     let parts = and_parts (list_all (is_free_sound bests) ms) (list_all (has_value ms) bests) is in
     record {
       each = all_say (is_free_sound bests) (λ (m : Mapped). 0x1000000 ≤ m.offset → IsFreeBlock bests (m.offset - 0x1000000) m.bytes) (free_each_says bests) ms parts.0;
-      covered = all_say (has_value ms) (λ (b : Best). IsCovered b (bytes_of ms (0x1000000 + b.offset / 2016)))
-          (λ b is. covered_says b (bytes_of ms (0x1000000 + b.offset / 2016)) is) bests parts.1;
+      covered = all_say (has_value ms) (λ (b : Best). IsCovered b (bytes_mapped ms (0x1000000 + b.offset / 2016)))
+          (λ b is. covered_says b (bytes_mapped ms (0x1000000 + b.offset / 2016)) is) bests parts.1;
     }
 
 free_passes : (bests : List Best) (ms : List Mapped) → AreFreeBlocks bests ms → are_free bests ms ≡ true
@@ -344,8 +344,8 @@ unfolding are_free
 free_passes bests ms is =
     and_from (list_all (is_free_sound bests) ms) (list_all (has_value ms) bests)
     (all_pass (is_free_sound bests) (λ (m : Mapped). 0x1000000 ≤ m.offset → IsFreeBlock bests (m.offset - 0x1000000) m.bytes) (free_each_passes bests) ms is.each)
-    (all_pass (has_value ms) (λ (b : Best). IsCovered b (bytes_of ms (0x1000000 + b.offset / 2016)))
-    (λ b is. covered_passes b (bytes_of ms (0x1000000 + b.offset / 2016)) is) bests is.covered)
+    (all_pass (has_value ms) (λ (b : Best). IsCovered b (bytes_mapped ms (0x1000000 + b.offset / 2016)))
+    (λ b is. covered_passes b (bytes_mapped ms (0x1000000 + b.offset / 2016)) is) bests is.covered)
 
 pub node_form_says : (dir size : ℕ) (ms : List Mapped) → is_whole_node dir size ms ≡ true → IsNodeForm dir size ms
 unfolding is_whole_node

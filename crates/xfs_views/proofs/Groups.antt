@@ -16,7 +16,7 @@ use Rattle.xfs_kinds.specs.InodeTrees.{ino_shape, fino_shape}
 use Rattle.xfs_kinds.specs.OwnerTrees.{rmap_shape}
 use Rattle.xfs_volume.specs.declared.groups.GroupRec.{GroupRec}
 use Rattle.xfs_volume.specs.declared.groups.TreeBlocks.{TreeBlocks}
-use Rattle.xfs_space.specs.Parts.{AreGroups, AreOfGroup, IsGroup}
+use Rattle.xfs_space.specs.Parts.{AreGroups, AreOfGroup, IsLawfulGroup}
 use Rattle.xfs_image.specs.GroupParts.{AreGroupsRead, IsGroupRead, blocks_only, tree}
 use Rattle.xfs_image.specs.Groups.{contents, head_block, tree_at}
 use Rattle.xfs_image.specs.Sectors.{sector_in}
@@ -61,7 +61,7 @@ five P a b c d e ha hb hc hd he =
     All-cons P a (b ∷ c ∷ d ∷ e ∷ []) ha
     (All-cons P b (c ∷ d ∷ e ∷ []) hb (All-cons P c (d ∷ e ∷ []) hc (All-cons P d (e ∷ []) hd (All-cons P e [] he (All-nil P)))))
 
-pub group_is : (v : Volume) (image : Image) (ag : ℕ) (g : GroupRec) → IsGroupRead v image ag g → IsGroup v ag g
+pub group_is : (v : Volume) (image : Image) (ag : ℕ) (g : GroupRec) → IsGroupRead v image ag g → IsLawfulGroup v ag g
 group_is v image ag g is =
     let agfl = list_sound v ag g.agf (sector_in image (head_block v ag) 3) g.agfl is.agfl in
     let bno = tree_is (bno_shape ag) v image ag g.agf.bnoroot g.agf.bnolevel g.bno is.bno_blocks refl is.bno in

@@ -22,12 +22,12 @@ use Rattle.xfs_volume.specs.declared.catalogs.BlockLsn.{BlockLsn}
 use Rattle.xfs_volume.specs.declared.files.FileRec.{FileRec}
 use Rattle.xfs_volume.specs.declared.groups.GroupRec.{GroupRec}
 use Rattle.xfs_volume.specs.declared.groups.TreeBlocks.{TreeBlocks}
-use Rattle.xfs_space.specs.Parts.{AreGroups, AreOfGroup, IsFile}
+use Rattle.xfs_space.specs.Parts.{AreGroups, AreOfGroup, HasLawfulForks}
 use Rattle.xfs_image.proofs.Places.{all_moved}
 use Rattle.xfs_image.specs.Clusters.{chunk_clusters, clusters_in}
 use Rattle.xfs_image.specs.Files.{clusters_from, clusters_of}
 use Rattle.xfs_image.specs.Groups.{head_block}
-use Rattle.xfs_image.specs.Lsns.{LsnPlace, at, cluster_places, data_places, dir_byte, extent_place, extent_places, file_places, groups_places, head_places, in_order, lsn_at, lsn_places, lsns_read, slot_place, tree_places}
+use Rattle.xfs_image.specs.Lsns.{LsnPlace, at, cluster_places, data_places, dir_byte, extent_place, extent_places, file_places, groups_places, head_places, lsn_places_in_order, lsn_at, lsn_places, lsns_read, slot_place, tree_lsn_places}
 use Rattle.xfs_views.proofs.Numbers.{chunk_placed}
 
 -- the place lies in the volume
@@ -87,7 +87,7 @@ blocks_in v byte blocks all = All-map (IsIn v) (at byte) blocks all
 own_in : (v : Volume) (ag : ℕ) (blocks : List ℕ) → AreOfGroup v ag blocks → All (λ block. block < v.dblocks) blocks
 own_in v ag blocks own = λ k d inside. (own k d inside).0
 
-trees_in : (v : Volume) (ag : ℕ) (g : GroupRec) → All (λ (tree : TreeBlocks). AreOfGroup v ag tree.blocks) g.blocks → All (IsIn v) (tree_places g)
+trees_in : (v : Volume) (ag : ℕ) (g : GroupRec) → All (λ (tree : TreeBlocks). AreOfGroup v ag tree.blocks) g.blocks → All (IsIn v) (tree_lsn_places g)
 trees_in v ag g own =
     all_of_each (λ (tree : TreeBlocks). AreOfGroup v ag tree.blocks) (IsIn v) (λ (tree : TreeBlocks). map (at 24) tree.blocks)
     (λ tree each. blocks_in v 24 tree.blocks (own_in v ag tree.blocks each)) g.blocks own
@@ -96,8 +96,8 @@ groups_in : (g : Geometry) (ag : ℕ) (gs : List GroupRec) → ag + length gs �
 groups_in g ag [] few are = All-nil (IsIn (volume_of g))
 groups_in g ag (one ∷ gs) few are =
     let v : Volume = volume_of g in
-    All-append (IsIn v) (head_places v ag ++ tree_places one) (groups_places v (ag + 1) gs)
-    (All-append (IsIn v) (head_places v ag) (tree_places one) (heads_in g ag (omega (arith, few))) (trees_in v ag one are.0.blocks))
+    All-append (IsIn v) (head_places v ag ++ tree_lsn_places one) (groups_places v (ag + 1) gs)
+    (All-append (IsIn v) (head_places v ag) (tree_lsn_places one) (heads_in g ag (omega (arith, few))) (trees_in v ag one are.0.blocks))
     (groups_in g (ag + 1) gs (omega (arith, few)) are.1)
 
 -- the clusters of lawful chunks lie in the volume
@@ -165,7 +165,7 @@ extents_in : (g : Geometry) (ino : ℕ) (byte : ℕ → ℕ) (es : List Extent) 
 extents_in g ino byte es lawful =
     all_of_each (LiesIn (volume_of g)) (IsIn (volume_of g)) (extent_places (volume_of g) byte) (extent_in g byte) es (all_lie (volume_of g) ino None es lawful)
 
-data_in : (g : Geometry) (f : FileRec) → IsFile (volume_of g) f → All (IsIn (volume_of g)) (data_places (volume_of g) f)
+data_in : (g : Geometry) (f : FileRec) → HasLawfulForks (volume_of g) f → All (IsIn (volume_of g)) (data_places (volume_of g) f)
 data_in g f is =
     if_in (type_of f == 4) _ _ (extents_in g f.ino dir_byte f.extents is.extents)
     (if_in (type_of f == 10) _ [] (extents_in g f.ino (λ offset. 48) f.extents is.extents) (All-nil (IsIn (volume_of g))))
@@ -174,14 +174,14 @@ data_in g f is =
     if_in true a b one other = one
     if_in false a b one other = other
 
-file_in : (g : Geometry) (f : FileRec) → IsFile (volume_of g) f → All (IsIn (volume_of g)) (file_places (volume_of g) f)
+file_in : (g : Geometry) (f : FileRec) → HasLawfulForks (volume_of g) f → All (IsIn (volume_of g)) (file_places (volume_of g) f)
 file_in g f is =
     let v : Volume = volume_of g in
-    All-append (IsIn v) (data_places v f ++ map (at 32) f.tree) (flat_map (extent_places v (λ offset. 24)) f.attr)
+    All-append (IsIn v) (data_places v f ++ map (at 32) f.tree) (flat_map (extent_places v (λ offset. 24)) f.attr_extents)
     (All-append (IsIn v) (data_places v f) (map (at 32) f.tree) (data_in g f is) (blocks_in v 32 f.tree is.tree))
-    (extents_in g f.ino (λ offset. 24) f.attr is.attr)
+    (extents_in g f.ino (λ offset. 24) f.attr_extents is.attr_extents)
 
-places_in : (g : Geometry) (groups : List GroupRec) (files : List FileRec) → length groups ≡ g.agcount → AreGroups (volume_of g) 0 groups → All (IsFile (volume_of g)) files
+places_in : (g : Geometry) (groups : List GroupRec) (files : List FileRec) → length groups ≡ g.agcount → AreGroups (volume_of g) 0 groups → All (HasLawfulForks (volume_of g)) files
     → All (IsIn (volume_of g)) (lsn_places (volume_of g) groups files)
 unfolding clusters_of
 places_in g groups files many are all =
@@ -192,15 +192,15 @@ places_in g groups files many are all =
     let first : IsIn v (at 240 0) = omega (arith, last) in
     let front = All-cons (IsIn v) (at 240 0) heads first (groups_in g 0 groups (omega (arith, many)) are) in
     let middle = all_of_each (IsCluster v) (IsIn v) cluster_places (cluster_in v) (clusters_from v 0 groups) (clusters_lie g 0 groups (omega (arith, many)) are) in
-    let behind = all_of_each (IsFile v) (IsIn v) (file_places v) (file_in g) files all in
+    let behind = all_of_each (HasLawfulForks v) (IsIn v) (file_places v) (file_in g) files all in
     All-append (IsIn v) ((at 240 0 ∷ heads) ++ slots) (flat_map (file_places v) files) (All-append (IsIn v) (at 240 0 ∷ heads) slots front middle) behind
 
 -- all log sequence numbers stand in blocks of the volume
 pub lsns_in : (g : Geometry) (image : Image) (groups : List GroupRec) (files : List FileRec) → length groups ≡ g.agcount → AreGroups (volume_of g) 0 groups
-    → All (IsFile (volume_of g)) files → All (λ (l : BlockLsn). l.block < g.dblocks) (lsns_read (volume_of g) image groups files)
+    → All (HasLawfulForks (volume_of g)) files → All (λ (l : BlockLsn). l.block < g.dblocks) (lsns_read (volume_of g) image groups files)
 unfolding lsns_read
 lsns_in g image groups files many are all =
     let v : Volume = volume_of g in
     let places = lsn_places v groups files in
-    All-map (λ (l : BlockLsn). l.block < g.dblocks) (lsn_at image) (in_order places)
-    (All-permutation (IsIn v) places (in_order places) (all_moved places) (places_in g groups files many are all))
+    All-map (λ (l : BlockLsn). l.block < g.dblocks) (lsn_at image) (lsn_places_in_order places)
+    (All-permutation (IsIn v) places (lsn_places_in_order places) (all_moved places) (places_in g groups files many are all))

@@ -8,7 +8,7 @@ use Rattle.xfs_disk.specs.Blocks.{Image}
 use Rattle.xfs_word.specs.Field.{field_of, part_of}
 use Rattle.xfs_word.specs.declared.kinds.SealKind.TheVariants as Kind
 use Rattle.xfs_geom.specs.Volumes.{Volume}
-use Rattle.xfs_dirdata.specs.Data.{area_of, data_area, data_of, entry_at, has_bests, is_entry, items, stated, with_bests}
+use Rattle.xfs_dirdata.specs.Data.{area_of, data_area, data_of, entry_at, has_bests, is_entry, items, stated_area, with_bests}
 use Rattle.xfs_dirdata.specs.Short.{ShortForm, data_end_at, index_size, is_short_entry, short_entries, short_entry, short_of, short_size_at}
 use Rattle.xfs_dirdata.specs.declared.records.EntryRec.{EntryRec}
 use Rattle.xfs_dirindex.specs.Mapped.{is_data}
@@ -16,7 +16,7 @@ use Rattle.xfs_volume.specs.Names.{is_directory}
 use Rattle.xfs_volume.specs.declared.directories.DirRec.{DirRec}
 use Rattle.xfs_volume.specs.declared.files.FileRec.{FileRec}
 use Rattle.xfs_naming.specs.Naming.{AreGrouped}
-use Rattle.xfs_image.specs.Directories.{FileBlock, data_blocks, dir_of, directories, dirs_read, entries_in, entries_of, entries_of_area, entries_of_form, entries_read, is_named, is_sealed_as, is_short, is_single_form, short_form}
+use Rattle.xfs_image.specs.Directories.{FileBlock, data_blocks, dir_of, directories, dirs_read, entries_in_block, entries_of, entries_of_area, entries_of_form, entries_read, is_beside_dots, is_sealed_as, is_short, is_single_form, short_form}
 use Rattle.xfs_image.specs.Slots.{slot_bytes}
 
 -- the entries are those of a directory
@@ -49,7 +49,7 @@ short_all dir form tail (suc count) at least =
     (short_all dir form tail count (at + short_size_at form at) (data_end_at form at)))
 
 form_of : (dir : ℕ) (parent : ℕ) (entries : Option (List EntryRec)) → AreOf dir entries
-    → are_of dir (entries_of_form (option_map (λ entries. let stated : ShortForm = record { parent = parent; entries = entries } in stated) entries)) ≡ true
+    → are_of dir (entries_of_form (option_map (λ entries. let stated_area : ShortForm = record { parent = parent; entries = entries } in stated_area) entries)) ≡ true
 form_of dir parent None all = refl
 form_of dir parent (Some entries) all = all
 
@@ -61,7 +61,7 @@ short_own dir form = by_test (nat_le 6 (length form) && field_of form 1 1 == 0)
     read = short_entries dir form (index_size (field_of form 0 1)) (field_of form 0 1) 6 96
 
     by_test : (b : Bool)
-        → are_of dir (entries_of_form (if b then option_map (λ entries. let stated : ShortForm = record { parent = field_of form 2 4; entries = entries } in stated) read else None)) ≡ true
+        → are_of dir (entries_of_form (if b then option_map (λ entries. let stated_area : ShortForm = record { parent = field_of form 2 4; entries = entries } in stated_area) read else None)) ≡ true
     by_test true = form_of dir (field_of form 2 4) read (short_all dir form (index_size (field_of form 0 1)) (field_of form 0 1) 6 96)
     by_test false = refl
 
@@ -74,11 +74,11 @@ each_own dir bytes [] = refl
 each_own dir bytes (at ∷ places) =
     and_from ((entry_at dir bytes at).dir == dir) (are_of dir (map (entry_at dir bytes) places)) (eq-eqb _ dir (entry_dir dir bytes at)) (each_own dir bytes places)
 
-stated_own : (dir : ℕ) (bytes offsets : List ℕ) → are_of dir (entries_of_area (with_bests bytes (stated dir bytes offsets))) ≡ true
-unfolding stated
-stated_own dir bytes offsets = by_test (has_bests bytes (stated dir bytes offsets).free)
+stated_own : (dir : ℕ) (bytes offsets : List ℕ) → are_of dir (entries_of_area (with_bests bytes (stated_area dir bytes offsets))) ≡ true
+unfolding stated_area
+stated_own dir bytes offsets = by_test (has_bests bytes (stated_area dir bytes offsets).free)
   where
-    by_test : (b : Bool) → are_of dir (entries_of_area (if b then Some (stated dir bytes offsets) else None)) ≡ true
+    by_test : (b : Bool) → are_of dir (entries_of_area (if b then Some (stated_area dir bytes offsets) else None)) ≡ true
     by_test true = each_own dir bytes (filter (is_entry bytes) offsets)
     by_test false = refl
 
@@ -86,12 +86,12 @@ area_own : (dir : ℕ) (bytes : List ℕ) → are_of dir (entries_of_area (area_
 unfolding area_of
 area_own dir bytes = by_test (nat_le 64 (length bytes))
   where
-    by_items : (read : Option (List ℕ)) → are_of dir (entries_of_area (option_and_then (λ offsets. with_bests bytes (stated dir bytes offsets)) read)) ≡ true
+    by_items : (read : Option (List ℕ)) → are_of dir (entries_of_area (option_and_then (λ offsets. with_bests bytes (stated_area dir bytes offsets)) read)) ≡ true
     by_items None = refl
     by_items (Some offsets) = stated_own dir bytes offsets
 
     by_test : (b : Bool)
-        → are_of dir (entries_of_area (if b then option_and_then (λ offsets. with_bests bytes (stated dir bytes offsets)) (items (length bytes) bytes 64) else None)) ≡ true
+        → are_of dir (entries_of_area (if b then option_and_then (λ offsets. with_bests bytes (stated_area dir bytes offsets)) (items (length bytes) bytes 64) else None)) ≡ true
     by_test true = by_items (items (length bytes) bytes 64)
     by_test false = refl
 
@@ -99,19 +99,19 @@ data_own : (dir : ℕ) (block : List ℕ) (whole : Bool) → are_of dir (entries
 unfolding data_of
 data_own dir block whole = area_own dir (data_area block whole)
 
-block_own : (v : Volume) (dir : ℕ) (b : FileBlock) → are_of dir (entries_in v dir b) ≡ true
-unfolding entries_in
+block_own : (v : Volume) (dir : ℕ) (b : FileBlock) → are_of dir (entries_in_block v dir b) ≡ true
+unfolding entries_in_block
 block_own v dir b = by_test (is_data b.mapped && is_sealed_as v dir b Kind.DirData)
   where
     by_test : (t : Bool) → are_of dir (if t then entries_of_area (data_of dir b.mapped.bytes (is_single_form b.mapped.bytes)) else []) ≡ true
     by_test true = data_own dir b.mapped.bytes (is_single_form b.mapped.bytes)
     by_test false = refl
 
-blocks_own : (v : Volume) (dir : ℕ) (bs : List FileBlock) → are_of dir (flat_map (entries_in v dir) bs) ≡ true
+blocks_own : (v : Volume) (dir : ℕ) (bs : List FileBlock) → are_of dir (flat_map (entries_in_block v dir) bs) ≡ true
 blocks_own v dir [] = refl
 blocks_own v dir (b ∷ bs) =
-    list_all-append (λ (e : EntryRec). e.dir == dir) (entries_in v dir b) (flat_map (entries_in v dir) bs)
-    ∙ and_from (are_of dir (entries_in v dir b)) (are_of dir (flat_map (entries_in v dir) bs)) (block_own v dir b) (blocks_own v dir bs)
+    list_all-append (λ (e : EntryRec). e.dir == dir) (entries_in_block v dir b) (flat_map (entries_in_block v dir) bs)
+    ∙ and_from (are_of dir (entries_in_block v dir b)) (are_of dir (flat_map (entries_in_block v dir) bs)) (block_own v dir b) (blocks_own v dir bs)
 
 filtered_own : (test : EntryRec → Bool) (dir : ℕ) (es : List EntryRec) → are_of dir es ≡ true → are_of dir (filter test es) ≡ true
 filtered_own test dir [] all = refl
@@ -132,10 +132,10 @@ entries_own : (v : Volume) (image : Image) (f : FileRec) → are_of f.ino (entri
 unfolding entries_of
 entries_own v image f = by_form (is_short f)
   where
-    by_form : (b : Bool) → are_of f.ino (if b then entries_of_form (short_form v image f) else filter is_named (flat_map (entries_in v f.ino) (data_blocks v image f))) ≡ true
+    by_form : (b : Bool) → are_of f.ino (if b then entries_of_form (short_form v image f) else filter is_beside_dots (flat_map (entries_in_block v f.ino) (data_blocks v image f))) ≡ true
     by_form true = short_form_own v image f
     by_form false =
-        filtered_own is_named f.ino (flat_map (entries_in v f.ino) (data_blocks v image f)) (blocks_own v f.ino (data_blocks v image f))
+        filtered_own is_beside_dots f.ino (flat_map (entries_in_block v f.ino) (data_blocks v image f)) (blocks_own v f.ino (data_blocks v image f))
 
 grouped : (v : Volume) (image : Image) (fs : List FileRec) → AreGrouped (map (dir_of v image) fs) (flat_map (entries_of v image) fs)
 grouped v image [] = refl

@@ -12,34 +12,34 @@ use Rattle.xfs_geom.specs.declared.geometry.Geometry.{Geometry}
 use Rattle.xfs_geom.specs.declared.records.InoRec.{InoRec}
 use Rattle.xfs_tree.specs.Rules.{are_lawful}
 use Rattle.xfs_kinds.specs.Groups.{lies_in_group}
-use Rattle.xfs_kinds.specs.InodeTrees.{ascends_inode, fits_chunk, has_count, ino_shape, is_chunk, is_clear, is_first_inode, is_missing}
+use Rattle.xfs_kinds.specs.InodeTrees.{ascends_inode, fits_chunk, has_count, ino_shape, is_chunk, is_chunk_clear, is_first_inode, is_missing}
 use Rattle.xfs_volume.specs.declared.files.FileRec.{FileRec}
 use Rattle.xfs_volume.specs.declared.groups.GroupRec.{GroupRec}
 use Rattle.xfs_space.specs.Parts.{AreGroups}
-use Rattle.xfs_naming.specs.Naming.{Ascend, numbers_of}
+use Rattle.xfs_naming.specs.Naming.{NumbersAscend, numbers_of}
 use Rattle.xfs_image.specs.Clusters.{clusters_in}
 use Rattle.xfs_image.specs.Files.{AreFilesRead, clusters_from, clusters_of, inodes_of}
 use Rattle.xfs_image.specs.Groups.{head_block}
-use Rattle.xfs_image.specs.Slots.{cluster_inodes, inodes_in}
+use Rattle.xfs_image.specs.Slots.{cluster_inodes, inodes_of_block}
 use Rattle.xfs_views.proofs.Files.{file_sound}
 
 -- numbers that ascend from a number on ascend from a lower one on
-from_lower : (low high : ℕ) (xs : List ℕ) → low ≤ high → Ascend high xs → Ascend low xs
+from_lower : (low high : ℕ) (xs : List ℕ) → low ≤ high → NumbersAscend high xs → NumbersAscend low xs
 from_lower low high [] le up = tt
 from_lower low high (x ∷ xs) le up = (let first = up.0 in omega (arith, le, first), up.1)
 
 -- the numbers of the files among some inodes that ascend do
-files_ascend : (v : Volume) (image : Image) (low : ℕ) (inos : List ℕ) (files : List FileRec) → AreFilesRead v image inos files → Ascend low inos
-    → Ascend low (numbers_of files)
-files_ascend v image low [] files read up = subst (λ (fs : List FileRec). Ascend low (numbers_of fs)) (sym read) tt
+files_ascend : (v : Volume) (image : Image) (low : ℕ) (inos : List ℕ) (files : List FileRec) → AreFilesRead v image inos files → NumbersAscend low inos
+    → NumbersAscend low (numbers_of files)
+files_ascend v image low [] files read up = subst (λ (fs : List FileRec). NumbersAscend low (numbers_of fs)) (sym read) tt
 files_ascend v image low (ino ∷ inos) files read up =
     elim read [
       | inl free ↦ let first = up.0 in from_lower low (ino + 1) (numbers_of files) (omega (arith, first)) (files_ascend v image (ino + 1) inos files free.1 up.1)
       | inr used ↦
           let number : used.0.ino ≡ ino = (file_sound v image ino used.0 used.2).keeps.number in
-          let rest : Ascend (ino + 1) (numbers_of used.1) = files_ascend v image (ino + 1) inos used.1 used.4 up.1 in
-          subst (λ (fs : List FileRec). Ascend low (numbers_of fs)) (sym used.3)
-          (subst (λ (n : ℕ). (low ≤ n) × Ascend (n + 1) (numbers_of used.1)) (sym number) (up.0, rest))
+          let rest : NumbersAscend (ino + 1) (numbers_of used.1) = files_ascend v image (ino + 1) inos used.1 used.4 up.1 in
+          subst (λ (fs : List FileRec). NumbersAscend low (numbers_of fs)) (sym used.3)
+          (subst (λ (n : ℕ). (low ≤ n) × NumbersAscend (n + 1) (numbers_of used.1)) (sym number) (up.0, rest))
     ]
 
 -- addresses ascend with the blocks
@@ -95,24 +95,24 @@ later_block v b c is le =
     ]
 
 -- the inodes of a block, and those behind them
-slots_then : (v : Volume) (b k n low high : ℕ) (ys : List ℕ) → low ≤ first_in v b + k → first_in v b + (k + n) ≤ high → Ascend high ys
-    → Ascend low (map (inode_of v b) (range_with_len k n) ++ ys)
+slots_then : (v : Volume) (b k n low high : ℕ) (ys : List ℕ) → low ≤ first_in v b + k → first_in v b + (k + n) ≤ high → NumbersAscend high ys
+    → NumbersAscend low (map (inode_of v b) (range_with_len k n) ++ ys)
 unfolding first_in inode_of
 slots_then v b k zero low high ys from upto up = from_lower low high ys (omega (arith, from, upto)) up
 slots_then v b k (suc n) low high ys from upto up =
     (from, slots_then v b (k + 1) n (address_of v b * 8 + k + 1) high ys (omega arith) (omega (arith, upto)) up)
 
 -- the inodes of blocks in a row, and those behind them
-blocks_then : (v : Volume) (b n low : ℕ) (ys : List ℕ) → IsAddressed v → low ≤ first_in v b → Ascend (first_in v (b + n)) ys
-    → Ascend low (flat_map (inodes_in v) (range_with_len b n) ++ ys)
+blocks_then : (v : Volume) (b n low : ℕ) (ys : List ℕ) → IsAddressed v → low ≤ first_in v b → NumbersAscend (first_in v (b + n)) ys
+    → NumbersAscend low (flat_map (inodes_of_block v) (range_with_len b n) ++ ys)
 blocks_then v b zero low ys is from up =
     let le = later_block v b (b + 0) is (omega arith) in from_lower low (first_in v (b + 0)) ys (omega (arith, from, le)) up
 blocks_then v b (suc n) low ys is from up =
     let next = next_block v b (b + 1) is (omega arith) in
     let end : b + suc n ≡ (b + 1) + n = omega arith in
-    let rest = blocks_then v (b + 1) n (first_in v (b + 1)) ys is (omega arith) (subst (λ (m : ℕ). Ascend (first_in v m) ys) end up) in
-    subst (Ascend low) (sym (append_assoc (inodes_in v b) (flat_map (inodes_in v) (range_with_len (b + 1) n)) ys))
-    (slots_then v b 0 8 low (first_in v (b + 1)) (flat_map (inodes_in v) (range_with_len (b + 1) n) ++ ys) (omega (arith, from)) (omega (arith, next)) rest)
+    let rest = blocks_then v (b + 1) n (first_in v (b + 1)) ys is (omega arith) (subst (λ (m : ℕ). NumbersAscend (first_in v m) ys) end up) in
+    subst (NumbersAscend low) (sym (append_assoc (inodes_of_block v b) (flat_map (inodes_of_block v) (range_with_len (b + 1) n)) ys))
+    (slots_then v b 0 8 low (first_in v (b + 1)) (flat_map (inodes_of_block v) (range_with_len (b + 1) n) ++ ys) (omega (arith, from)) (omega (arith, next)) rest)
 
 -- clusters ascend, and no two have a block in common
 abbrev pub Rise : ℕ → List ℕ → Type 0
@@ -123,7 +123,7 @@ lower_rise : (low high : ℕ) (xs : List ℕ) → low ≤ high → Rise high xs 
 lower_rise low high [] le rise = tt
 lower_rise low high (x ∷ xs) le rise = (let first = rise.0 in omega (arith, le, first), rise.1)
 
-inodes_ascend : (v : Volume) (low : ℕ) (clusters : List ℕ) → IsAddressed v → Rise low clusters → Ascend (first_in v low) (flat_map (cluster_inodes v) clusters)
+inodes_ascend : (v : Volume) (low : ℕ) (clusters : List ℕ) → IsAddressed v → Rise low clusters → NumbersAscend (first_in v low) (flat_map (cluster_inodes v) clusters)
 unfolding cluster_inodes
 inodes_ascend v low [] is rise = tt
 inodes_ascend v low (x ∷ xs) is rise =
@@ -142,7 +142,7 @@ chunk_placed v ag before r lawful =
     let first = is_first_inode r.startino in
     let lies = lies_in_group v ag (r.startino / 8) 8 in
     let a = and_parts (is_chunk v ag r) (ascends_inode before r) lawful in
-    let b = and_parts (fits && count && first && lies) (is_clear v ag r) a.0 in
+    let b = and_parts (fits && count && first && lies) (is_chunk_clear v ag r) a.0 in
     let c = and_parts (fits && count && first) lies b.0 in
     let d = and_parts (fits && count) first c.0 in
     let e = and_parts (r.startino % 64 == 0) (nat_le 64 r.startino) d.1 in
@@ -209,7 +209,7 @@ addressed : (g : Geometry) → IsAddressed (volume_of g)
 addressed g = record { some = let large = g.shape.groups.large in omega (arith, large); wide = g.shape.addresses.enough }
 
 -- the inodes of all chunks ascend
-pub slots_ascend : (g : Geometry) (groups : List GroupRec) → length groups ≡ g.agcount → AreGroups (volume_of g) 0 groups → Ascend 0 (inodes_of (volume_of g) groups)
+pub slots_ascend : (g : Geometry) (groups : List GroupRec) → length groups ≡ g.agcount → AreGroups (volume_of g) 0 groups → NumbersAscend 0 (inodes_of (volume_of g) groups)
 unfolding inodes_of clusters_of
 slots_ascend g groups many are =
     let v : Volume = volume_of g in
@@ -218,6 +218,6 @@ slots_ascend g groups many are =
     (inodes_ascend v (0 * g.agblocks) (clusters_from v 0 groups) (addressed g) rise)
 
 pub numbers_ascend : (g : Geometry) (image : Image) (groups : List GroupRec) (files : List FileRec) → length groups ≡ g.agcount → AreGroups (volume_of g) 0 groups
-    → AreFilesRead (volume_of g) image (inodes_of (volume_of g) groups) files → Ascend 0 (numbers_of files)
+    → AreFilesRead (volume_of g) image (inodes_of (volume_of g) groups) files → NumbersAscend 0 (numbers_of files)
 numbers_ascend g image groups files many are read =
     files_ascend (volume_of g) image 0 (inodes_of (volume_of g) groups) files read (slots_ascend g groups many are)

@@ -5,9 +5,9 @@ use Rattle.std.proofs.lemmas.Bool.{and_parts, and_from, cases_lt, eqb-true, eq-e
 use Rattle.std.proofs.lemmas.List.Elements.{All-cons, All-head, All-nil, All-tail, All-weaker}
 use Rattle.std.proofs.lemmas.List.Kept.{AllPairs-cons}
 use Rattle.std.proofs.lemmas.List.Sums.{sum_by-append, sum_by-cons}
-use Rattle.xfs_dirindex.specs.Pairs.{are_same, is_pair, rises, times}
+use Rattle.xfs_dirindex.specs.Pairs.{same_pairs, is_pair, rises, times}
 use Rattle.xfs_dirindex.specs.declared.pairs.Pair.{Pair}
-use Rattle.xfs_views.specs.DirectoriesInWords.{AreSame, Ascend}
+use Rattle.xfs_views.specs.DirectoriesInWords.{AreSame, HashesAscend}
 
 -- all pass a test
 pub all_say : {X : Type 0} (p : X → Bool) (P : X → Type 0) → ((x : X) → p x ≡ true → P x) → (xs : List X) → list_all p xs ≡ true → All P xs
@@ -39,7 +39,7 @@ range_passes p from (suc count) each =
     subst (λ (n : ℕ). p n ≡ true) same (each (suc j) (omega (arith, less)))))
 
 -- hashes do not descend
-pub rise_says : (least : ℕ) (ps : List Pair) → rises least ps ≡ true → All (λ (p : Pair). least ≤ p.hash) ps × Ascend ps
+pub rise_says : (least : ℕ) (ps : List Pair) → rises least ps ≡ true → All (λ (p : Pair). least ≤ p.hash) ps × HashesAscend ps
 rise_says least [] up = (All-nil (λ (p : Pair). least ≤ p.hash), λ i j d lt within. absurd (omega (arith, within)))
 rise_says least (p ∷ ps) up =
     let parts = and_parts (nat_le least p.hash) (rises p.hash ps) up in
@@ -49,7 +49,7 @@ rise_says least (p ∷ ps) up =
       AllPairs-cons (λ (a b : Pair). a.hash ≤ b.hash) p ps rest.0 rest.1,
     )
 
-pub rise_passes : (least : ℕ) (ps : List Pair) → All (λ (p : Pair). least ≤ p.hash) ps → Ascend ps → rises least ps ≡ true
+pub rise_passes : (least : ℕ) (ps : List Pair) → All (λ (p : Pair). least ≤ p.hash) ps → HashesAscend ps → rises least ps ≡ true
 rise_passes least [] all up = refl
 rise_passes least (p ∷ ps) all up =
     and_from (nat_le least p.hash) (rises p.hash ps) (le-leb least p.hash (All-head (λ (q : Pair). least ≤ q.hash) p ps all))
@@ -82,12 +82,12 @@ all_true : (test : Pair → Bool) → ((p : Pair) → test p ≡ true) → (xs :
 all_true test each [] = refl
 all_true test each (x ∷ xs) = and_from (test x) (list_all test xs) (each x) (all_true test each xs)
 
-pub same_passes : (xs ys : List Pair) → AreSame xs ys → are_same xs ys ≡ true
-unfolding are_same
+pub same_passes : (xs ys : List Pair) → AreSame xs ys → same_pairs xs ys ≡ true
+unfolding same_pairs
 same_passes xs ys each = all_true (λ p. times p xs == times p ys) (λ p. eq-eqb (times p xs) (times p ys) (each p)) (xs ++ ys)
 
-pub same_says : (xs ys : List Pair) → are_same xs ys ≡ true → AreSame xs ys
-unfolding are_same
+pub same_says : (xs ys : List Pair) → same_pairs xs ys ≡ true → AreSame xs ys
+unfolding same_pairs
 same_says xs ys same p =
     let both : times p (xs ++ ys) ≡ times p xs + times p ys = sum_by-append (λ (q : Pair). cond (is_pair p q) 1 0) xs ys in
     elim (cases_lt 0 (times p (xs ++ ys))) [

@@ -3,11 +3,12 @@ use Rattle.std.proofs.Common.{◌≡◌, ℕ, zero, suc, ◌+◌, ◌-◌, Bool,
 use Rattle.std.specs.List.{flat_map, list_all}
 use Rattle.std.proofs.lemmas.Bool.{and_parts, and_from}
 use Rattle.std.proofs.lemmas.List.Folds.{list_all-append}
+use Rattle.xfs_geom.specs.Features.{or_else}
 use Rattle.xfs_disk.specs.Blocks.{Image}
 use Rattle.xfs_word.specs.Seal.{is_sealed}
 use Rattle.xfs_geom.specs.Volumes.{Volume}
 use Rattle.xfs_tree.specs.Blocks.{level_of, count_of, capacity, records_of}
-use Rattle.xfs_tree.specs.Reading.{Contents, at_block, behind, bytes_at, fault_above, first_of, met_above, next_of, places_of, reading, records_under, row_fault, row_of, rule_at, unless}
+use Rattle.xfs_tree.specs.Reading.{Contents, at_block, behind, bytes_of_block, fault_above, met_above, next_of, places_of, reading, records_under, row_fault, level_row, rule_at, unless}
 use Rattle.xfs_tree.specs.Rules.{are_lawful, block_fault, block_seal, can_hold, is_ordered, last_of, least_of, place_fault}
 use Rattle.xfs_tree.specs.Shape.{Shape}
 use Rattle.xfs_tree.specs.declared.seats.Seat.{Seat}
@@ -23,7 +24,7 @@ no_fault : (block : ℕ) (rule : Option ℕ) (later : Option Unread) → at_bloc
 no_fault block None later clean = (refl, clean)
 no_fault block (Some rule) later clean = absurd cc
 
-neither : {A : Type 0} (first later : Option A) → first_of first later ≡ None → (first ≡ None) × (later ≡ None)
+neither : {A : Type 0} (first later : Option A) → or_else first later ≡ None → (first ≡ None) × (later ≡ None)
 neither None later clean = (refl, clean)
 neither (Some fault) later clean = absurd cc
 
@@ -53,7 +54,7 @@ module _ {R K : Type 0} (s : Shape R K) (v : Volume) (image : Image) where
   -- what the first block of a row that breaks no rule keeps, and what those behind it keep
   record IsClean (level : ℕ) (met : List ℕ) (left right : Option ℕ) (before : Option R) (seat : Seat K) (row : List (Seat K)) : Type 0 where
     placed : place_fault s v met seat.place ≡ None
-    kept : block_fault s v level left (next_of right row) before seat (bytes_at image seat.place) ≡ None
+    kept : block_fault s v level left (next_of right row) before seat (bytes_of_block image seat.place) ≡ None
     rest : row_fault s v image level (met ++ seat.place ∷ []) (Some seat.place) right (behind s v image level before seat) row ≡ None
 
   clean_parts : (level : ℕ) (met : List ℕ) (left right : Option ℕ) (before : Option R) (seat : Seat K) (row : List (Seat K))
@@ -70,9 +71,9 @@ module _ {R K : Type 0} (s : Shape R K) (v : Volume) (image : Image) where
   row_lawful met left right before [] clean = refl
   row_lawful met left right before (seat ∷ row) clean =
       let is = clean_parts 0 met left right before seat row clean in
-      joined before (records_of s (bytes_at image seat.place)) (flat_map (records_under s v image 0) row)
-      (ordered left (next_of right row) before seat (bytes_at image seat.place) is.kept)
-      (row_lawful (met ++ seat.place ∷ []) (Some seat.place) right (last_of before (records_of s (bytes_at image seat.place))) row is.rest)
+      joined before (records_of s (bytes_of_block image seat.place)) (flat_map (records_under s v image 0) row)
+      (ordered left (next_of right row) before seat (bytes_of_block image seat.place) is.kept)
+      (row_lawful (met ++ seat.place ∷ []) (Some seat.place) right (last_of before (records_of s (bytes_of_block image seat.place))) row is.rest)
 
   row_placed : (level : ℕ) (met : List ℕ) (left right : Option ℕ) (before : Option R) (row : List (Seat K)) → row_fault s v image level met left right before row ≡ None
       → list_all (can_hold v s.layout s.owner) (places_of row) ≡ true
@@ -86,7 +87,7 @@ module _ {R K : Type 0} (s : Shape R K) (v : Volume) (image : Image) where
   -- the levels above, and the next one
   levels_clean : (tops : List (Seat K)) (height depth : ℕ) → fault_above s v image tops height (suc depth) ≡ None
       → (fault_above s v image tops height depth ≡ None)
-      × (row_fault s v image (height - depth) (met_above s v image tops depth) None None None (row_of s v image tops depth) ≡ None)
+      × (row_fault s v image (height - depth) (met_above s v image tops depth) None None None (level_row s v image tops depth) ≡ None)
   unfolding fault_above
   levels_clean tops height depth clean = neither (fault_above s v image tops height depth) _ clean
 
@@ -96,9 +97,9 @@ module _ {R K : Type 0} (s : Shape R K) (v : Volume) (image : Image) where
   levels_placed tops height zero clean = refl
   levels_placed tops height (suc depth) clean =
       let both = levels_clean tops height depth clean in
-      list_all-append (can_hold v s.layout s.owner) (met_above s v image tops depth) (places_of (row_of s v image tops depth))
+      list_all-append (can_hold v s.layout s.owner) (met_above s v image tops depth) (places_of (level_row s v image tops depth))
       ∙ and_from (list_all (can_hold v s.layout s.owner) (met_above s v image tops depth)) _ (levels_placed tops height depth both.0)
-      (row_placed (height - depth) (met_above s v image tops depth) None None None (row_of s v image tops depth) both.1)
+      (row_placed (height - depth) (met_above s v image tops depth) None None None (level_row s v image tops depth) both.1)
 
   no_fault_above : (tops : List (Seat K)) (height : ℕ) (tree : Contents R) → reading s v image tops height ≡ Ok tree
       → (fault_above s v image tops height (height + 1) ≡ None)
@@ -112,8 +113,8 @@ module _ {R K : Type 0} (s : Shape R K) (v : Volume) (image : Image) where
       let more : height + 1 ≡ suc height = omega arith in
       let none : height - height ≡ 0 = omega arith in
       let row = (levels_clean tops height height (ap (fault_above s v image tops height) (sym more) ∙ read.0)).1 in
-      let leaves = ap (λ (n : ℕ). row_fault s v image n (met_above s v image tops height) None None None (row_of s v image tops height)) (sym none) ∙ row in
-      let lawful = row_lawful (met_above s v image tops height) None None None (row_of s v image tops height) leaves in
+      let leaves = ap (λ (n : ℕ). row_fault s v image n (met_above s v image tops height) None None None (level_row s v image tops height)) (sym none) ∙ row in
+      let lawful = row_lawful (met_above s v image tops height) None None None (level_row s v image tops height) leaves in
       let under = records_from s v image 0 height height tops (omega arith) in
       subst (λ (t : Contents R). are_lawful s v None t.records ≡ true) read.1 (subst (λ (rs : List R). are_lawful s v None rs ≡ true) under lawful)
 

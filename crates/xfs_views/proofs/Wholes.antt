@@ -11,7 +11,7 @@ use Rattle.xfs_dirindex.specs.Leaf.{is_whole_leaf}
 use Rattle.xfs_dirindex.specs.Mapped.{Mapped}
 use Rattle.xfs_dirindex.specs.Node.{is_whole_node}
 use Rattle.xfs_volume.specs.declared.files.FileRec.{FileRec}
-use Rattle.xfs_image.specs.Directories.{FileBlock, data_blocks, has_form, is_own, is_sealed_as, is_short, is_whole, kinds_at, mapped_blocks, short_form}
+use Rattle.xfs_image.specs.Directories.{FileBlock, data_blocks, has_whole_form, is_own, is_sealed_as, is_short, is_whole, kinds_at, mapped_blocks, short_form}
 use Rattle.xfs_views.specs.DirectoriesInWords.{HasForm, IsLeafForm, IsNodeForm, IsOwn, IsSingleForm, IsWholeDirectory}
 use Rattle.xfs_views.proofs.Forms.{leaf_form_passes, leaf_form_says, node_form_passes, node_form_says, single_passes, single_says}
 use Rattle.xfs_views.proofs.Tests.{all_pass, all_say}
@@ -26,7 +26,7 @@ pub node_both : (dir size : ℕ) (ms : List Mapped) → (is_whole_node dir size 
 node_both dir size ms = (node_form_says dir size ms, node_form_passes dir size ms)
 
 -- one of the three forms
-form_says : (dir size : ℕ) (ms : List Mapped) → has_form dir size ms ≡ true → HasForm dir size ms
+form_says : (dir size : ℕ) (ms : List Mapped) → has_whole_form dir size ms ≡ true → HasForm dir size ms
 form_says dir size ms is =
     elim (or_cases (is_whole_block dir size ms || is_whole_leaf dir size ms) (is_whole_node dir size ms) is) [
       | inl one ↦ elim (or_cases (is_whole_block dir size ms) (is_whole_leaf dir size ms) one) [
@@ -36,7 +36,7 @@ form_says dir size ms is =
       | inr node ↦ inr (node_form_says dir size ms node)
     ]
 
-form_passes : (dir size : ℕ) (ms : List Mapped) → HasForm dir size ms → has_form dir size ms ≡ true
+form_passes : (dir size : ℕ) (ms : List Mapped) → HasForm dir size ms → has_whole_form dir size ms ≡ true
 form_passes dir size ms (inl (inl single)) =
     or_left (is_whole_block dir size ms || is_whole_leaf dir size ms) (is_whole_node dir size ms)
     (or_left (is_whole_block dir size ms) (is_whole_leaf dir size ms) (single_passes dir size ms single))
@@ -65,14 +65,14 @@ unfolding is_whole
 whole_says v image f is = by_form (is_short f) refl is
   where
     blocks : Bool
-    blocks = has_form f.ino f.core.size (mapped_blocks v image f) && list_all (is_own v f.ino) (data_blocks v image f)
+    blocks = has_whole_form f.ino f.core.size (mapped_blocks v image f) && list_all (is_own v f.ino) (data_blocks v image f)
 
     by_form : (t : Bool) → is_short f ≡ t → (if t then is_some (short_form v image f) else blocks) ≡ true → IsWholeDirectory v image f
     by_form true short is =
         let form = some_says (short_form v image f) is in
         inl (record { format = eqb-true f.core.format 1 short; form = form.0; reads = form.1 })
     by_form false short is =
-        let parts = and_parts (has_form f.ino f.core.size (mapped_blocks v image f)) (list_all (is_own v f.ino) (data_blocks v image f)) is in
+        let parts = and_parts (has_whole_form f.ino f.core.size (mapped_blocks v image f)) (list_all (is_own v f.ino) (data_blocks v image f)) is in
         inr (record {
           format = eqb-false f.core.format 1 short;
           form = form_says f.ino f.core.size (mapped_blocks v image f) parts.0;
@@ -82,12 +82,12 @@ whole_says v image f is = by_form (is_short f) refl is
 pub whole_passes : (v : Volume) (image : Image) (f : FileRec) → IsWholeDirectory v image f → is_whole v image f ≡ true
 unfolding is_whole
 whole_passes v image f (inl is) =
-    subst (λ (t : Bool). (if t then is_some (short_form v image f) else has_form f.ino f.core.size (mapped_blocks v image f) && list_all (is_own v f.ino) (data_blocks v image f)) ≡ true)
+    subst (λ (t : Bool). (if t then is_some (short_form v image f) else has_whole_form f.ino f.core.size (mapped_blocks v image f) && list_all (is_own v f.ino) (data_blocks v image f)) ≡ true)
     (sym (eq-eqb f.core.format 1 is.format)) (some_passes (short_form v image f) is.form is.reads)
 whole_passes v image f (inr is) =
-    subst (λ (t : Bool). (if t then is_some (short_form v image f) else has_form f.ino f.core.size (mapped_blocks v image f) && list_all (is_own v f.ino) (data_blocks v image f)) ≡ true)
+    subst (λ (t : Bool). (if t then is_some (short_form v image f) else has_whole_form f.ino f.core.size (mapped_blocks v image f) && list_all (is_own v f.ino) (data_blocks v image f)) ≡ true)
     (sym (ne_eqb f.core.format 1 is.format))
-    (and_from (has_form f.ino f.core.size (mapped_blocks v image f)) (list_all (is_own v f.ino) (data_blocks v image f))
+    (and_from (has_whole_form f.ino f.core.size (mapped_blocks v image f)) (list_all (is_own v f.ino) (data_blocks v image f))
     (form_passes f.ino f.core.size (mapped_blocks v image f) is.form)
     (all_pass (is_own v f.ino) (IsOwn v f.ino) (own_passes v f.ino) (data_blocks v image f) is.sealed))
 

@@ -11,9 +11,9 @@ use Rattle.xfs_dirdata.specs.declared.records.EntryRec.{EntryRec}
 use Rattle.xfs_dirindex.specs.Block.{tail_count, tail_pairs}
 use Rattle.xfs_dirindex.specs.Data.{all_bests, all_pairs, area_in, magic_of, pairs_in}
 use Rattle.xfs_dirindex.specs.FreeBlocks.{free_count, used_in}
-use Rattle.xfs_dirindex.specs.IndexTree.{all_leaf_pairs, all_places, form_of, index_places, last_hash, next_of, pairs_below, root_level, root_links, stated_of}
-use Rattle.xfs_dirindex.specs.Leaf.{best_at, end_of, leaf_count, leaf_stale, value_count}
-use Rattle.xfs_dirindex.specs.Lookup.{bytes_of}
+use Rattle.xfs_dirindex.specs.IndexTree.{all_leaf_pairs, index_tree_all_places, magic_of_level, index_places, last_hash, next_link, pairs_below, index_level, root_links, stated_of}
+use Rattle.xfs_dirindex.specs.Leaf.{best_length_of, end_of, leaf_count, leaf_stale, value_count}
+use Rattle.xfs_dirindex.specs.Lookup.{bytes_mapped}
 use Rattle.xfs_dirindex.specs.Mapped.{Mapped, is_beyond}
 use Rattle.xfs_dirindex.specs.Pairs.{is_live, is_stale, pairs_at, times}
 use Rattle.xfs_dirindex.specs.declared.data.Best.{Best}
@@ -22,7 +22,7 @@ use Rattle.xfs_volume.specs.declared.files.FileRec.{FileRec}
 use Rattle.xfs_image.specs.Directories.{FileBlock, data_blocks, is_sealed_as, kinds_at, mapped_blocks, short_form}
 
 -- an entry has another name than "." and ".."
-pub record IsNamed (e : EntryRec) : Type 0 where
+pub record IsBesideDots (e : EntryRec) : Type 0 where
   pub not_self : e.name ≢ 46 ∷ []
   pub not_parent : e.name ≢ 46 ∷ 46 ∷ []
 
@@ -39,7 +39,7 @@ pub record BeginWithDots (dir : ℕ) (entries : List EntryRec) : Type 0 where
   -- the second is ".."
   pub parent_name : parent.name ≡ 46 ∷ 46 ∷ []
   -- no other has one of these names
-  pub others : All IsNamed rest
+  pub others : All IsBesideDots rest
 
 -- a block of data begins with its magic number, and its entries and unused spans keep the rules of data blocks
 pub record IsDataBlock (dir : ℕ) (whole : Bool) (m : Mapped) : Type 0 where
@@ -61,7 +61,7 @@ pub record IsFirstBlock (dir : ℕ) (whole : Bool) (m : Mapped) : Type 0 where
 -- a later one has no entry of these names
 pub record IsLaterBlock (dir : ℕ) (m : Mapped) : Type 0 where
   pub sound : IsDataBlock dir false m
-  pub named : All IsNamed (area_in dir false m).entries
+  pub named : All IsBesideDots (area_in dir false m).entries
 
 -- the mapped blocks begin with the first block of data, and those in front of file block 0x800000 are later ones
 pub record AreDataBlocks (dir : ℕ) (ms : List Mapped) : Type 0 where
@@ -72,8 +72,8 @@ pub record AreDataBlocks (dir : ℕ) (ms : List Mapped) : Type 0 where
   pub later : All (λ (m : Mapped). m.offset < 0x800000 → IsLaterBlock dir m) rest
 
 -- no hash is below one in front of it
-abbrev pub Ascend : List Pair → Type 0
-Ascend pairs = AllPairs (λ (a b : Pair). a.hash ≤ b.hash) pairs
+abbrev pub HashesAscend : List Pair → Type 0
+HashesAscend pairs = AllPairs (λ (a b : Pair). a.hash ≤ b.hash) pairs
 
 -- each pair stands in one list as often as in the other
 abbrev pub AreSame : List Pair → List Pair → Type 0
@@ -82,15 +82,15 @@ AreSame xs ys = (p : Pair) → times p xs ≡ times p ys
 -- the pairs of an index, with how many of them it states to be stale, are due for the entries
 pub record IsIndex (pairs : List Pair) (stale : ℕ) (due : List Pair) : Type 0 where
   -- hashes do not descend
-  pub ascend : Ascend pairs
+  pub ascend : HashesAscend pairs
   -- so many pairs are stale
   pub stated : count_by is_stale pairs ≡ stale
   -- each entry has its pair of hash and address, and each other pair its entry
   pub exact : AreSame (filter is_live pairs) due
 
 -- so many values of 2 bytes give the longest unused span of each data block from some block on, 0xffff for a block that is not mapped
-abbrev pub HaveValues : List Best → List ℕ → ℕ → ℕ → ℕ → Type 0
-HaveValues bests bytes at first count = (j : ℕ) → j < count → field_of bytes (at + 2 * j) 2 ≡ best_at bests (first + j)
+abbrev pub HaveLengths : List Best → List ℕ → ℕ → ℕ → ℕ → Type 0
+HaveLengths bests bytes at first count = (j : ℕ) → j < count → field_of bytes (at + 2 * j) 2 ≡ best_length_of bests (first + j)
 
 -- a directory of one block
 pub record IsSingleForm (dir size : ℕ) (ms : List Mapped) : Type 0 where
@@ -121,43 +121,43 @@ pub record IsLeafForm (dir size : ℕ) (ms : List Mapped) : Type 0 where
   pub index : IsIndex (pairs_at leaf.bytes 64 (leaf_count leaf.bytes)) (leaf_stale leaf.bytes) (all_pairs dir ms)
   -- each file block up to the last data block has a value, and each value is the longest unused span
   pub enough : end_of (all_bests dir ms) ≤ value_count leaf.bytes
-  pub values : HaveValues (all_bests dir ms) leaf.bytes (4092 - 2 * value_count leaf.bytes) 0 (value_count leaf.bytes)
+  pub values : HaveLengths (all_bests dir ms) leaf.bytes (4092 - 2 * value_count leaf.bytes) 0 (value_count leaf.bytes)
 
 -- a block of the index on a level, given by the pair of its parent, between its neighbours
 pub record IsMember (ms : List Mapped) (root : Bool) (level before : ℕ) (link : Pair) (next : ℕ) : Type 0 where
-  pub mapped : length (bytes_of ms link.address) ≡ 4096
+  pub mapped : length (bytes_mapped ms link.address) ≡ 4096
   -- it has the magic number of a leaf or of a node
-  pub magic : field_of (bytes_of ms link.address) 8 2 ≡ form_of level
+  pub magic : field_of (bytes_mapped ms link.address) 8 2 ≡ magic_of_level level
   -- it has 1 to 504 pairs
-  pub some : 1 ≤ leaf_count (bytes_of ms link.address)
-  pub most : leaf_count (bytes_of ms link.address) ≤ 504
+  pub some : 1 ≤ leaf_count (bytes_mapped ms link.address)
+  pub most : leaf_count (bytes_mapped ms link.address) ≤ 504
   -- a node states its level, a leaf how many pairs are stale
-  pub stated : leaf_stale (bytes_of ms link.address) ≡ stated_of level (bytes_of ms link.address)
+  pub stated : leaf_stale (bytes_mapped ms link.address) ≡ stated_of level (bytes_mapped ms link.address)
   -- it names its neighbours, and 0 at the ends
-  pub back : field_of (bytes_of ms link.address) 4 4 ≡ before
-  pub forward : field_of (bytes_of ms link.address) 0 4 ≡ next
+  pub back : field_of (bytes_mapped ms link.address) 4 4 ≡ before
+  pub forward : field_of (bytes_mapped ms link.address) 0 4 ≡ next
   -- the pair of its parent gives its greatest hash
-  pub greatest : root ≡ false → last_hash (bytes_of ms link.address) ≡ link.hash
+  pub greatest : root ≡ false → last_hash (bytes_mapped ms link.address) ≡ link.hash
 
 -- the blocks of a level, from the left
 abbrev pub AreMembers : List Mapped → Bool → ℕ → ℕ → List Pair → Type 0
 AreMembers ms root level before [] = Unit {0}
-AreMembers ms root level before (link ∷ links) = IsMember ms root level before link (next_of links) × AreMembers ms root level link.address links
+AreMembers ms root level before (link ∷ links) = IsMember ms root level before link (next_link links) × AreMembers ms root level link.address links
 
 -- the blocks of a level, and those of all levels below
-abbrev pub AreLevels : List Mapped → Bool → ℕ → List Pair → Type 0
-AreLevels ms root zero links = AreMembers ms root 0 0 links
-AreLevels ms root (suc level) links = AreMembers ms root (suc level) 0 links × AreLevels ms false level (pairs_below ms links)
+abbrev pub AreIndexLevels : List Mapped → Bool → ℕ → List Pair → Type 0
+AreIndexLevels ms root zero links = AreMembers ms root 0 0 links
+AreIndexLevels ms root (suc level) links = AreMembers ms root (suc level) 0 links × AreIndexLevels ms false level (pairs_below ms links)
 
 -- the index blocks are a tree
 pub record IsIndexTree (ms : List Mapped) (due : List Pair) : Type 0 where
   -- from the root at file block 0x800000 each level keeps its rules
-  pub levels : AreLevels ms true (root_level ms) root_links
+  pub levels : AreIndexLevels ms true (index_level ms) root_links
   -- its blocks are the index blocks that are mapped, none twice
-  pub count : length (all_places ms) ≡ length (index_places ms)
-  pub blocks : AreSame (all_places ms) (index_places ms)
+  pub count : length (index_tree_all_places ms) ≡ length (index_places ms)
+  pub blocks : AreSame (index_tree_all_places ms) (index_places ms)
   -- the pairs of its leaves are those of the entries
-  pub ascend : Ascend (all_leaf_pairs ms)
+  pub ascend : HashesAscend (all_leaf_pairs ms)
   pub exact : AreSame (filter is_live (all_leaf_pairs ms)) due
 
 -- free block i gives the values of up to 2016 data blocks
@@ -166,7 +166,7 @@ pub record IsFreeBlock (bests : List Best) (i : ℕ) (bytes : List ℕ) : Type 0
   pub first : field_of bytes 48 4 ≡ 2016 * i
   pub most : free_count bytes ≤ 2016
   pub used : field_of bytes 56 4 ≡ used_in bytes (free_count bytes)
-  pub values : HaveValues bests bytes 64 (2016 * i) (free_count bytes)
+  pub values : HaveLengths bests bytes 64 (2016 * i) (free_count bytes)
 
 -- a data block has its value in a free block that is mapped
 pub record IsCovered (b : Best) (bytes : List ℕ) : Type 0 where
@@ -176,7 +176,7 @@ pub record IsCovered (b : Best) (bytes : List ℕ) : Type 0 where
 pub record AreFreeBlocks (bests : List Best) (ms : List Mapped) : Type 0 where
   -- free block i stands at file block 0x1000000 + i
   pub each : All (λ (m : Mapped). 0x1000000 ≤ m.offset → IsFreeBlock bests (m.offset - 0x1000000) m.bytes) ms
-  pub covered : All (λ (b : Best). IsCovered b (bytes_of ms (0x1000000 + b.offset / 2016))) bests
+  pub covered : All (λ (b : Best). IsCovered b (bytes_mapped ms (0x1000000 + b.offset / 2016))) bests
 
 -- a directory whose index is a tree
 pub record IsNodeForm (dir size : ℕ) (ms : List Mapped) : Type 0 where

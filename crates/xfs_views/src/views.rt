@@ -13,8 +13,8 @@ ghost use Rattle.xfs_volume.specs.declared.catalogs.Catalog.{Catalog};
 ghost use Rattle.xfs_volume.specs.declared.files.FileRec.{FileRec};
 ghost use Rattle.xfs_volume.specs.declared.findings.Law.{Law};
 ghost use Rattle.xfs_volume.specs.declared.groups.GroupRec.{GroupRec};
-ghost use Rattle.xfs_space.specs.Parts.{AreGroups, IsFile, IsGroup};
-ghost use Rattle.xfs_naming.specs.Naming.{Ascend};
+ghost use Rattle.xfs_space.specs.Parts.{AreGroups, HasLawfulForks, IsLawfulGroup};
+ghost use Rattle.xfs_naming.specs.Naming.{NumbersAscend};
 ghost use Rattle.xfs_laws.specs.Lawful.{IsCatalog, broken_law};
 ghost use Rattle.xfs_image.specs.Consistent.{IsElected, backup_agrees, finding};
 ghost use Rattle.xfs_image.specs.Files.{inodes_of};
@@ -34,9 +34,9 @@ pub fn views_are_catalogs()
 /// The same part by part: of a group that reads, of a file that reads, and of the inodes of all chunks of such groups, which
 /// ascend.
 pub fn parts_are_lawful()
-    ensures group { (v : Volume) (image : Image) (ag : ℕ) (g : GroupRec) → IsGroupRead v image ag g → IsGroup v ag g }
-    ensures file { (v : Volume) (image : Image) (ino : ℕ) (file : FileRec) → reads_as v image ino ≡ FileRead.File file → IsFile v file }
-    ensures inodes { (g : Geometry) (groups : List GroupRec) → length groups ≡ g.agcount → AreGroups (volume_of g) 0 groups → Ascend 0 (inodes_of (volume_of g) groups) }
+    ensures group { (v : Volume) (image : Image) (ag : ℕ) (g : GroupRec) → IsGroupRead v image ag g → IsLawfulGroup v ag g }
+    ensures file { (v : Volume) (image : Image) (ino : ℕ) (file : FileRec) → reads_as v image ino ≡ FileRead.File file → HasLawfulForks v file }
+    ensures inodes { (g : Geometry) (groups : List GroupRec) → length groups ≡ g.agcount → AreGroups (volume_of g) 0 groups → NumbersAscend 0 (inodes_of (volume_of g) groups) }
 {}
 
 /// Of a tree that reads the records are lawful, each behind the one in front of it, and each block can be one of the tree.

@@ -29,5 +29,5 @@ pub fn whole_directories_in_words()
 /// A slot reads as a file, with the tree of extents, the block of attributes and that of a symbolic link that it names, where the
 /// words say so, and nowhere else.
 pub fn files_in_words()
-    ensures file { (v : Volume) (ino : ℕ) (slot : List ℕ) (tree : Option (Contents Extent)) (attr link : Option (List ℕ)) (file : FileRec) → (file_read v ino slot tree attr link ≡ FileRead.File file) ↔ IsReadFile v ino slot tree attr link file }
+    ensures file { (v : Volume) (ino : ℕ) (slot : List ℕ) (tree : Option (Contents Extent)) (attr_leaf link : Option (List ℕ)) (file : FileRec) → (file_read v ino slot tree attr_leaf link ≡ FileRead.File file) ↔ IsReadFile v ino slot tree attr_leaf link file }
 {}

@@ -14,7 +14,7 @@ pub struct FileRec {
     /// The extents of its data, in file order.
     pub extents: Extents,
     /// The extents of its attributes, in the order of the attribute fork.
-    pub attr: Extents,
+    pub attr_extents: Extents,
     /// The block numbers of its tree of extents, level by level, each from the left.
     pub tree: Blocks,
     pub attrs: Attrs,

@@ -308,7 +308,7 @@ impl Item for FileRec {
             ino: core.ino,
             core,
             extents: extents(rt, alloc, row)?,
-            attr: extents(rt, alloc, row)?,
+            attr_extents: extents(rt, alloc, row)?,
             tree: records(rt, alloc, row.text())?,
             attrs: Attrs::from_vec(Vec::new(alloc)),
             target: Word::from_vec(Vec::new(alloc)),

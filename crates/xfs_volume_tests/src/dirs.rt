@@ -59,7 +59,7 @@ fn directory(alloc: Global, core: Core, count: u64, unwritten: bool) -> Result<F
         ino: 131,
         core,
         extents: Records::from_vec(extents),
-        attr: Records::from_vec(Vec::new(alloc)),
+        attr_extents: Records::from_vec(Vec::new(alloc)),
         tree: Records::from_vec(Vec::new(alloc)),
         attrs: Attrs::from_vec(Vec::new(alloc)),
         target: Word::from_vec(Vec::new(alloc)),
@@ -85,7 +85,7 @@ fn read_counted<L: Ledger>(
     slot: &[u8; 512],
     file: &FileRec,
     blank: Blank,
-) -> Result<DirFound, DirError>
+) -> Result<DirFound, DirectoryFault>
     requires name { blank.name ≡ L.name }
     requires parts { blank.parts ≡ L.parts }
     requires some { 0 < blank.parts }
@@ -103,7 +103,7 @@ fn read(
     disk: &mut Untold,
     slot: &[u8; 512],
     file: &FileRec,
-) -> Result<DirFound, DirError> {
+) -> Result<DirFound, DirectoryFault> {
     let g = volume(IDENTIFIER);
     assert!(rt; matches!(disk.blocks(), Ok(2048)));
     assert!(rt; is_lawful(&g, file.extents.as_slice()));
@@ -214,7 +214,7 @@ fn two_data_blocks(rt: HostRuntime) -> Result<(), Fail> {
     assert!(rt; entries[1].name.bytes() == b"b".as_slice() && entries[1].ino == 141);
     disk.disk.fail(2)?;
     let fault = read(&rt, rt.alloc(), &mut disk, &[0; 512], &file);
-    assert!(rt; matches!(fault, Err(DirError::ReadFault)));
+    assert!(rt; matches!(fault, Err(DirectoryFault::ReadFault)));
     Ok(())
 }
 

@@ -32,8 +32,8 @@ fn extent(offset: u64, start: u64) -> Extent {
 fn file(alloc: Global, mode: u16, offset: u64) -> Result<FileRec, Fail> {
     let mut data = Vec::new(alloc);
     data.push(extent(offset, 40))?;
-    let mut attr = Vec::new(alloc);
-    attr.push(extent(0, 50))?;
+    let mut attr_extents = Vec::new(alloc);
+    attr_extents.push(extent(0, 50))?;
     let mut tree = Vec::new(alloc);
     tree.push(30)?;
     Ok(FileRec {
@@ -47,7 +47,7 @@ fn file(alloc: Global, mode: u16, offset: u64) -> Result<FileRec, Fail> {
             ..ROOT
         },
         extents: Extents::from_vec(data),
-        attr: Extents::from_vec(attr),
+        attr_extents: Extents::from_vec(attr_extents),
         tree: Blocks::from_vec(tree),
         attrs: Attrs::from_vec(Vec::new(alloc)),
         target: Word::from_vec(Vec::new(alloc)),

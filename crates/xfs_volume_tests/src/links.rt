@@ -12,7 +12,7 @@ use std::process::Abort;
 use std::test::Fail;
 use worlds::WORLDS;
 use xfs_disk::{NoMemory, Word};
-use xfs_links::{Names, NodeRec, connect};
+use xfs_links::{DecidedNames, NodeRec, connect};
 
 /// The number of the root.
 const ROOT: u64 = 128;
@@ -47,14 +47,14 @@ impl Item for NodeRec {
 }
 
 /// Fails where these are not the names that a row tells.
-fn tells_names(rt: &impl Abort, names: &Names, row: &mut Row, case: &str) {
+fn tells_names(rt: &impl Abort, names: &DecidedNames, row: &mut Row, case: &str) {
     tells_entries(rt, names, &mut Row::new(row.text()), case);
     tells_parents(rt, names, &mut Row::new(row.text()), case);
     tells_orphans(rt, names, &mut Row::new(row.text()), case);
     same!(rt; names.lost, row.optional(rt); case);
 }
 
-fn tells_entries(rt: &impl Abort, names: &Names, due: &mut Row, case: &str) {
+fn tells_entries(rt: &impl Abort, names: &DecidedNames, due: &mut Row, case: &str) {
     for entry in names.entries.as_slice() {
         tells_number(rt, entry.dir, due, case);
         tells_number(rt, entry.ino, due, case);
@@ -63,7 +63,7 @@ fn tells_entries(rt: &impl Abort, names: &Names, due: &mut Row, case: &str) {
     sure(rt, due.is_read(), case);
 }
 
-fn tells_parents(rt: &impl Abort, names: &Names, due: &mut Row, case: &str) {
+fn tells_parents(rt: &impl Abort, names: &DecidedNames, due: &mut Row, case: &str) {
     for (directory, parent) in names.parents.as_slice() {
         tells_number(rt, *directory, due, case);
         tells_number(rt, *parent, due, case);
@@ -71,7 +71,7 @@ fn tells_parents(rt: &impl Abort, names: &Names, due: &mut Row, case: &str) {
     sure(rt, due.is_read(), case);
 }
 
-fn tells_orphans(rt: &impl Abort, names: &Names, due: &mut Row, case: &str) {
+fn tells_orphans(rt: &impl Abort, names: &DecidedNames, due: &mut Row, case: &str) {
     for (ino, name) in names.orphans.as_slice() {
         tells_number(rt, *ino, due, case);
         tells_name(rt, name, due, case);

@@ -51,7 +51,7 @@ fn ask(alloc: Global, size: u32, from: u32, count: u32) -> Result<ChunkAsk, Allo
         size,
         from,
         count,
-        what: Place::LostFound,
+        what: Unplaced::LostFound,
     })
 }
 
@@ -87,6 +87,6 @@ fn too_few_chunks(rt: HostRuntime) -> Result<(), Fail> {
     let all = (1016 - 16) / 8 + (1016 - 520) / 8;
     assert!(rt; chunks(alloc, &ask(alloc, 8, 0, all)?).is_ok());
     let found = chunks(alloc, &ask(alloc, 8, 0, all + 1)?);
-    assert!(rt; matches!(found, Err(PlaceFault::NoRoom(Place::LostFound))));
+    assert!(rt; matches!(found, Err(PlaceFault::NoRoom(Unplaced::LostFound))));
     Ok(())
 }

@@ -6,7 +6,7 @@ use std::test::Fail;
 use xfs_disk::MemorySink;
 use xfs_image::Finding;
 use xfs_mend::Summary;
-use xfs_place::Place;
+use xfs_place::Unplaced;
 use xfs_tools::{Answer, put_answer};
 use xfs_volume::Law;
 
@@ -51,11 +51,11 @@ fn answers() -> [Answer; 12] {
             count: 2_097_184,
         },
         Answer::UnsupportedFile { ino: 131, what: 4 },
-        Answer::NoRoom(Place::Group(3)),
-        Answer::NoRoom(Place::Directory(128)),
-        Answer::NoRoom(Place::File(131)),
-        Answer::NoRoom(Place::Chunk),
-        Answer::NoRoom(Place::LostFound),
+        Answer::NoRoom(Unplaced::Group(3)),
+        Answer::NoRoom(Unplaced::Directory(128)),
+        Answer::NoRoom(Unplaced::File(131)),
+        Answer::NoRoom(Unplaced::Chunk),
+        Answer::NoRoom(Unplaced::LostFound),
         Answer::NoMemory,
     ]
 }

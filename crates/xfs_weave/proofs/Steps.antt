@@ -3,7 +3,7 @@ use Rattle.std.proofs.Common.{◌≡◌, ◌≢◌, ℕ, ◌+◌, ◌<◌, ◌==
 use Rattle.std.proofs.lemmas.Bool.{cases_eq, cases_lt, eqb-true}
 use Rattle.std.proofs.lemmas.Bool.Decides.{nat_tests}
 use Rattle.std.proofs.lemmas.List.Folds.{list_any-append}
-use Rattle.xfs_weave.specs.Lists.{has, without, AreOnce}
+use Rattle.xfs_weave.specs.Lists.{has_node, without, AreOnce}
 use Rattle.xfs_weave.specs.Links.{Path, walked, is_list, AreLinked}
 use Rattle.xfs_weave.proofs.Paths.{path_turns, path_without, path_apart, path_longer, path_end, path_walked, has_without, once_without, few}
 
@@ -14,7 +14,7 @@ is_list_some l (Some k) h = ap (λ (r : ℕ). Some r) (eqb-true k l h)
 
 -- a node on a list is one, and its list is noted
 pub on_list : (n m : ℕ) (a b : ℕ → ℕ) (o : ℕ → Option ℕ) (f : ℕ → List ℕ) → AreLinked n m a b o f
-    → (l x : ℕ) → l < m → has x (f l) ≡ true → (x < n) × (o x ≡ Some l)
+    → (l x : ℕ) → l < m → has_node x (f l) ≡ true → (x < n) × (o x ≡ Some l)
 on_list n m a b o f k l x h t =
     let both : (nat_lt x n && is_list l (o x)) ≡ true = sym (k.on l x h) ∙ t in
     let low : x < n = grind (arith, nat_tests) in
@@ -23,7 +23,7 @@ on_list n m a b o f k l x h t =
 
 -- and a node with a noted list is on it
 pub list_on : (n m : ℕ) (a b : ℕ → ℕ) (o : ℕ → Option ℕ) (f : ℕ → List ℕ) → AreLinked n m a b o f
-    → (l x : ℕ) → x < n → o x ≡ Some l → (l < m) × (has x (f l) ≡ true)
+    → (l x : ℕ) → x < n → o x ≡ Some l → (l < m) × (has_node x (f l) ≡ true)
 list_on n m a b o f k l x h e =
     let low : l < m = subst (λ r. IfSome r (λ l. l < m)) e (k.low x h) in
     (low, k.on l x low ∙ subst (λ r. (nat_lt x n && is_list l r) ≡ true) (sym e) (grind (arith, nat_tests)))
@@ -34,7 +34,7 @@ pub walked_is : (n m : ℕ) (a b : ℕ → ℕ) (o : ℕ → Option ℕ) (f : �
 walked_is n m a b o f k l h =
     path_walked a b n n (n + l) (f l) (n + l) (k.circle l h) (omega arith) below (few n (f l) (k.once l h) below)
   where
-    below : (y : ℕ) → has y (f l) ≡ true → y < n
+    below : (y : ℕ) → has_node y (f l) ≡ true → y < n
     below y t = (on_list n m a b o f k l y h t).0
 
 pub linked_walked : (n m : ℕ) (a b : ℕ → ℕ) (o : ℕ → Option ℕ) (f : ℕ → List ℕ) → AreLinked n m a b o f
@@ -42,7 +42,7 @@ pub linked_walked : (n m : ℕ) (a b : ℕ → ℕ) (o : ℕ → Option ℕ) (f 
 linked_walked n m a b o f k = record {
   circle = λ l h. subst (λ r. Path a b (n + l) r (n + l)) (sym (walked_is n m a b o f k l h)) (k.circle l h);
   once = λ l h. subst AreOnce (sym (walked_is n m a b o f k l h)) (k.once l h);
-  on = λ l x h. ap (has x) (walked_is n m a b o f k l h) ∙ k.on l x h;
+  on = λ l x h. ap (has_node x) (walked_is n m a b o f k l h) ∙ k.on l x h;
   low = k.low;
   ahead = k.ahead;
   back = k.back;
@@ -73,7 +73,7 @@ chosen false p q c h k = k
 
 -- a node is taken off
 pub unlinked : (n m : ℕ) (a b : ℕ → ℕ) (o : ℕ → Option ℕ) (f : ℕ → List ℕ) (a' b' : ℕ → ℕ) (o' : ℕ → Option ℕ) (x l : ℕ)
-    → AreLinked n m a b o f → l < m → has x (f l) ≡ true
+    → AreLinked n m a b o f → l < m → has_node x (f l) ≡ true
     → ((k : ℕ) → a' k ≡ cond (k == b x) (a x) (a k)) → ((k : ℕ) → b' k ≡ cond (k == a x) (b x) (b k))
     → ((k : ℕ) → o' k ≡ cond (k == x) None (o k)) → AreLinked n m a' b' o' (λ k. without x (f k))
 unlinked n m a b o f a' b' o' x l k h t ea eb eo = record {
@@ -107,20 +107,20 @@ unlinked n m a b o f a' b' o' x l k h t ea eb eo = record {
         either false g = g
 
 -- which nodes a list has with one more behind
-pub has_last : (x y : ℕ) (xs : List ℕ) → has y (xs ++ x ∷ []) ≡ (has y xs || x == y)
-has_last x y xs = list_any-append (λ z. z == y) xs (x ∷ []) ∙ same (has y xs) (x == y)
+pub has_last : (x y : ℕ) (xs : List ℕ) → has_node y (xs ++ x ∷ []) ≡ (has_node y xs || x == y)
+has_last x y xs = list_any-append (λ z. z == y) xs (x ∷ []) ∙ same (has_node y xs) (x == y)
   where
     same : (p q : Bool) → (p || (q || false)) ≡ (p || q)
     same p q = grind (arith, nat_tests)
 
-pub once_last : (x : ℕ) (xs : List ℕ) → AreOnce xs → has x xs ≡ false → AreOnce (xs ++ x ∷ [])
+pub once_last : (x : ℕ) (xs : List ℕ) → AreOnce xs → has_node x xs ≡ false → AreOnce (xs ++ x ∷ [])
 once_last x [] o h = (refl, tt)
 once_last x (y ∷ ys) o h =
-    let rest : has x ys ≡ false = grind (arith, nat_tests) in
+    let rest : has_node x ys ≡ false = grind (arith, nat_tests) in
     let off : (y == x) ≡ false = grind (arith, nat_tests) in
     (has_last x y ys ∙ neither o.0 off, once_last x ys o.1 rest)
   where
-    neither : has y ys ≡ false → (y == x) ≡ false → (has y ys || x == y) ≡ false
+    neither : has_node y ys ≡ false → (y == x) ≡ false → (has_node y ys || x == y) ≡ false
     neither p q = grind (arith, nat_tests)
 
 -- a node is put last on list l
@@ -137,10 +137,10 @@ pushed n m a b o f a' b' o' x l e k h inside free at ea eb eo = record {
   back = λ y low. subst (λ r. r < n + m) (sym (eb y)) (chosen (y == e) x (cond (y == x) (b e) (b y)) (n + m) (omega arith) (chosen (y == x) (b e) (b y) (n + m) (k.back e (omega arith)) (k.back y low)));
 }
   where
-    absent : (i : ℕ) → i < m → has x (f i) ≡ false
+    absent : (i : ℕ) → i < m → has_node x (f i) ≡ false
     absent i low = k.on i x low ∙ subst (λ r. (nat_lt x n && is_list i r) ≡ false) (sym free) (grind (arith, nat_tests))
 
-    no_end : (i : ℕ) → i < m → has e (f i) ≡ false
+    no_end : (i : ℕ) → i < m → has_node e (f i) ≡ false
     no_end i low = let out : nat_lt e n ≡ false = grind (arith, nat_tests) in k.on i e low ∙ ap (λ r. r && is_list i (o e)) out
 
     ended : a (b e) ≡ e
@@ -167,26 +167,26 @@ pushed n m a b o f a' b' o' x l e k h inside free at ea eb eo = record {
         either true = once_last x (f i) (k.once i low) (absent i low)
         either false = k.once i low
 
-    ons : (i y : ℕ) → i < m → has y (cond (i == l) (f i ++ x ∷ []) (f i)) ≡ (nat_lt y n && is_list i (o' y))
-    ons i y low = subst (λ r. has y (cond (i == l) (f i ++ x ∷ []) (f i)) ≡ (nat_lt y n && is_list i r)) (sym (eo y)) (elim (cases_eq y x) [
+    ons : (i y : ℕ) → i < m → has_node y (cond (i == l) (f i ++ x ∷ []) (f i)) ≡ (nat_lt y n && is_list i (o' y))
+    ons i y low = subst (λ r. has_node y (cond (i == l) (f i ++ x ∷ []) (f i)) ≡ (nat_lt y n && is_list i r)) (sym (eo y)) (elim (cases_eq y x) [
       | inl s ↦
           let on : (y == x) ≡ true = grind (arith, nat_tests) in
           let lower : nat_lt y n ≡ true = grind (arith, nat_tests) in
-          let out : has y (f i) ≡ false = subst (λ r. has r (f i) ≡ false) (sym s) (absent i low) in
-          subst (λ r. has y (cond (i == l) (f i ++ x ∷ []) (f i)) ≡ (nat_lt y n && is_list i (cond r (Some l) (o y)))) (sym on)
-          (subst (λ r. has y (cond (i == l) (f i ++ x ∷ []) (f i)) ≡ (r && (l == i))) (sym lower) (here (i == l) out s refl))
+          let out : has_node y (f i) ≡ false = subst (λ r. has_node r (f i) ≡ false) (sym s) (absent i low) in
+          subst (λ r. has_node y (cond (i == l) (f i ++ x ∷ []) (f i)) ≡ (nat_lt y n && is_list i (cond r (Some l) (o y)))) (sym on)
+          (subst (λ r. has_node y (cond (i == l) (f i ++ x ∷ []) (f i)) ≡ (r && (l == i))) (sym lower) (here (i == l) out s refl))
       | inr d ↦
           let off : (y == x) ≡ false = grind (arith, nat_tests) in
-          subst (λ r. has y (cond (i == l) (f i ++ x ∷ []) (f i)) ≡ (nat_lt y n && is_list i (cond r (Some l) (o y)))) (sym off)
+          subst (λ r. has_node y (cond (i == l) (f i ++ x ∷ []) (f i)) ≡ (nat_lt y n && is_list i (cond r (Some l) (o y)))) (sym off)
           (there (i == l) d)
     ])
       where
-        here : (t : Bool) → has y (f i) ≡ false → y ≡ x → (i == l) ≡ t → has y (cond t (f i ++ x ∷ []) (f i)) ≡ (l == i)
+        here : (t : Bool) → has_node y (f i) ≡ false → y ≡ x → (i == l) ≡ t → has_node y (cond t (f i ++ x ∷ []) (f i)) ≡ (l == i)
         here true out s g = has_last x y (f i) ∙ ap (λ r. r || x == y) out ∙ grind (arith, nat_tests)
         here false out s g = out ∙ grind (arith, nat_tests)
 
-        there : (t : Bool) → y ≢ x → has y (cond t (f i ++ x ∷ []) (f i)) ≡ (nat_lt y n && is_list i (o y))
-        there true d = let off : (x == y) ≡ false = grind (arith, nat_tests) in has_last x y (f i) ∙ ap (λ r. has y (f i) || r) off ∙ plain (has y (f i)) ∙ k.on i y low
+        there : (t : Bool) → y ≢ x → has_node y (cond t (f i ++ x ∷ []) (f i)) ≡ (nat_lt y n && is_list i (o y))
+        there true d = let off : (x == y) ≡ false = grind (arith, nat_tests) in has_last x y (f i) ∙ ap (λ r. has_node y (f i) || r) off ∙ plain (has_node y (f i)) ∙ k.on i y low
           where
             plain : (p : Bool) → (p || false) ≡ p
             plain p = grind (arith, nat_tests)

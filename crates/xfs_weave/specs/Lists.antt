@@ -8,17 +8,17 @@ pub record Woven : Type 0 where
   pub lists : List (List ℕ)
 
 -- whether the node stands in the list
-abbrev pub has : ℕ → List ℕ → Bool
-has n xs = list_any (λ x. x == n) xs
+abbrev pub has_node : ℕ → List ℕ → Bool
+has_node n xs = list_any (λ x. x == n) xs
 
 -- the list without the node
 abbrev pub without : ℕ → List ℕ → List ℕ
 without n xs = filter (λ x. not (x == n)) xs
 
 -- the node behind n in the list
-abbrev pub behind : ℕ → List ℕ → Option ℕ
-behind n [] = None
-behind n (x ∷ xs) = cond (x == n) (slice_get xs 0) (behind n xs)
+abbrev pub next_behind : ℕ → List ℕ → Option ℕ
+next_behind n [] = None
+next_behind n (x ∷ xs) = cond (x == n) (slice_get xs 0) (next_behind n xs)
 
 -- the nodes of list l
 abbrev pub list_at : Woven → ℕ → List ℕ
@@ -26,7 +26,7 @@ list_at w l = slice_index_or w.lists l []
 
 -- the node is on list l
 abbrev pub IsOn : Woven → ℕ → ℕ → Type 0
-IsOn w l n = (l < length w.lists) × (has n (list_at w l) ≡ true)
+IsOn w l n = (l < length w.lists) × (has_node n (list_at w l) ≡ true)
 
 -- the node is on no list
 abbrev pub IsFree : Woven → ℕ → Type 0
@@ -47,10 +47,10 @@ taken_off w n = record { nodes = w.nodes; lists = map (without n) w.lists }
 -- no node of the list stands in it again
 abbrev pub AreOnce : List ℕ → Type 0
 AreOnce [] = Unit {0}
-AreOnce (x ∷ xs) = (has x xs ≡ false) × AreOnce xs
+AreOnce (x ∷ xs) = (has_node x xs ≡ false) × AreOnce xs
 
 -- each node stands once at most on one list at most, and is one of the weave's
-pub record AreApart (w : Woven) : Type 0 where
+pub record ListsApart (w : Woven) : Type 0 where
   pub inside : (l n : ℕ) → IsOn w l n → n < w.nodes
   pub alone : (k l n : ℕ) → IsOn w k n → IsOn w l n → k ≡ l
   pub once : (l : ℕ) → l < length w.lists → AreOnce (list_at w l)

@@ -5,7 +5,7 @@ ghost use Rattle.xfs_weave.specs.Links.{after_of, before_of, list_of};
 
 /// A node or the end of a list.
 #[derive(Clone, Copy, Debug)]
-pub struct Link {
+pub struct NodeLink {
     /// The link behind it.
     pub after: usize,
     /// The link in front of it.
@@ -15,7 +15,7 @@ pub struct Link {
 }
 
 /// Ties the links on both sides of a node to each other, and notes that the node is on no list.
-pub fn take_off(links: &mut [Link], node: usize)
+pub fn take_off(links: &mut [NodeLink], node: usize)
     requires node { node < length links.old }
     requires ahead { after_of links.old node < length links.old }
     requires back { before_of links.old node < length links.old }
@@ -24,13 +24,13 @@ pub fn take_off(links: &mut [Link], node: usize)
     ensures list { (k : ℕ) → list_of links.new k ≡ cond (k == node) None (list_of links.old k) }
     ensures size { length links.new ≡ length links.old }
 {
-    let Link { after, before, .. } = links[node];
+    let NodeLink { after, before, .. } = links[node];
     tie(links, before, after);
     note(links, node, None);
 }
 
 /// Ties a node in between a list's end and the link in front of it.
-pub fn put_in_front(links: &mut [Link], end: usize, node: usize, list: u32)
+pub fn put_in_front(links: &mut [NodeLink], end: usize, node: usize, list: u32)
     requires end { end < length links.old }
     requires node { node < length links.old }
     requires back { before_of links.old end < length links.old }
@@ -46,7 +46,7 @@ pub fn put_in_front(links: &mut [Link], end: usize, node: usize, list: u32)
 }
 
 /// Puts link `back` behind link `front`.
-fn tie(links: &mut [Link], front: usize, back: usize)
+fn tie(links: &mut [NodeLink], front: usize, back: usize)
     requires front { front < length links.old }
     requires back { back < length links.old }
     ensures after { (k : ℕ) → after_of links.new k ≡ cond (k == front) back (after_of links.old k) }
@@ -61,7 +61,7 @@ fn tie(links: &mut [Link], front: usize, back: usize)
 }
 
 /// Notes the list that a node is on.
-fn note(links: &mut [Link], node: usize, list: Option<u32>)
+fn note(links: &mut [NodeLink], node: usize, list: Option<u32>)
     requires inside { node < length links.old }
     ensures after { (k : ℕ) → after_of links.new k ≡ after_of links.old k }
     ensures before { (k : ℕ) → before_of links.new k ≡ before_of links.old k }

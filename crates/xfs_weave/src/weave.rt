@@ -1,9 +1,9 @@
 //! The weave: doubly linked lists of nodes.
 
 ghost use Rattle.std.specs.Prelude.{◌≡◌, ℕ, ◌<◌, List, [], ◌∷◌, length, drop, reverse, replicate, IfOk, MatchOption, IfSome, None, true, slice_get};
-ghost use Rattle.xfs_weave.specs.Lists.{Woven, has, behind, list_at, with_list, IsOn, IsFree, put_last, taken_off, AreApart};
+ghost use Rattle.xfs_weave.specs.Lists.{Woven, has_node, next_behind, list_at, with_list, IsOn, IsFree, put_last, taken_off, ListsApart};
 
-use crate::links::{Link, end_of, node_at, put_in_front, take_off};
+use crate::links::{NodeLink, end_of, node_at, put_in_front, take_off};
 use std::alloc::Global;
 use std::marker::Model;
 use xfs_disk::NoMemory;
@@ -15,7 +15,7 @@ pub struct Weave {
     nodes: u32,
     lists: u32,
     /// A link for each node, and behind these the end of each list, which ties its last node to its first.
-    links: Vec<Link>,
+    links: Vec<NodeLink>,
 }
 
 impl Model for Weave {
@@ -38,7 +38,7 @@ impl Weave {
         let count = nodes as usize + lists as usize;
         let mut links = Vec::with_capacity(alloc, count)?;
         for end in 0..count {
-            links.push(Link {
+            links.push(NodeLink {
                 after: end,
                 before: end,
                 list: None,
@@ -99,7 +99,7 @@ impl Weave {
     pub fn list_of(&self, node: u32) -> Option<u32>
         requires node { node < self.now.nodes }
         ensures list { MatchOption result (IsFree self.now node) (λ list. IsOn self.now list node) }
-        ensures apart { AreApart self.now }
+        ensures apart { ListsApart self.now }
     {
         self.links[node as usize].list
     }
@@ -109,7 +109,7 @@ impl Weave {
         requires list { list < length self.now.lists }
         ensures first { result ≡ slice_get (list_at self.now list) 0 }
         ensures inside { IfSome result (λ node. node < self.now.nodes) }
-        ensures apart { AreApart self.now }
+        ensures apart { ListsApart self.now }
     {
         let end = end_of(self.nodes, list);
         node_at(self.nodes, self.links[end].after)
@@ -118,7 +118,7 @@ impl Weave {
     /// The node behind a node on its list; `None` too where it is on no list.
     pub fn next(&self, node: u32) -> Option<u32>
         requires node { node < self.now.nodes }
-        ensures listed { (l : ℕ) → IsOn self.now l node → result ≡ behind node (list_at self.now l) }
+        ensures listed { (l : ℕ) → IsOn self.now l node → result ≡ next_behind node (list_at self.now l) }
         ensures free { IsFree self.now node → result ≡ None }
     {
         let link = self.links[node as usize];
@@ -131,7 +131,7 @@ impl Weave {
     /// The node in front of a node on its list; `None` too where it is on no list.
     pub fn prev(&self, node: u32) -> Option<u32>
         requires node { node < self.now.nodes }
-        ensures listed { (l : ℕ) → IsOn self.now l node → result ≡ behind node (reverse (list_at self.now l)) }
+        ensures listed { (l : ℕ) → IsOn self.now l node → result ≡ next_behind node (reverse (list_at self.now l)) }
         ensures free { IsFree self.now node → result ≡ None }
     {
         let link = self.links[node as usize];

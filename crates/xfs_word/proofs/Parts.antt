@@ -3,7 +3,7 @@ use Rattle.std.proofs.Common.{◌≡◌, ℕ, zero, suc, ◌+◌, ◌-◌, ◌*�
 use Rattle.std.proofs.lemmas.Nat.{or_shifted, and_mask}
 use Rattle.std.specs.Int.{from_bool}
 use Rattle.byteorder.specs.Endian.{big_number, big_bytes}
-use Rattle.xfs_word.specs.Extent.{IsPackable, number_of, packed}
+use Rattle.xfs_word.specs.Extent.{IsPackable, extent_number, packed}
 use Rattle.xfs_word.specs.declared.extents.Extent.{Extent}
 use Rattle.xfs_word.proofs.Register.{AreBytes}
 use Rattle.xfs_word.proofs.Digits.{big_number-big_bytes, big_bytes-big_number}
@@ -39,8 +39,8 @@ whole : (n u o s c : ℕ) → u ≡ n / 2 ^ 127 → o ≡ n / 2 ^ 73 % 2 ^ 54 �
 whole n u o s c hu ho hs hc = omega arith
 
 -- the number of a number's extent
-pub number-unpacked : (n : ℕ) → n < 2 ^ 128 → number_of (unpacked n) ≡ n
-unfolding number_of unpacked
+pub number-unpacked : (n : ℕ) → n < 2 ^ 128 → extent_number (unpacked n) ≡ n
+unfolding extent_number unpacked
 number-unpacked n h =
     let top : n / 2 ^ 127 < 2 = omega arith in
     whole n (if nat_eq (n / 2 ^ 127) 1 then 1 else 0) (n / 2 ^ 73 % 2 ^ 54) (n / 2 ^ 21 % 2 ^ 52) (n % 2 ^ 21)
@@ -57,8 +57,8 @@ same_extent e o s c u ho hs hc hu =
     ap at_offset ho ∙ ap at_start hs ∙ ap at_count hc ∙ ap at_unwritten hu
 
 -- the extent of an extent's number
-pub unpacked-number : (e : Extent) (n : ℕ) → IsPackable e → n ≡ number_of e → unpacked n ≡ e
-unfolding number_of unpacked
+pub unpacked-number : (e : Extent) (n : ℕ) → IsPackable e → n ≡ extent_number e → unpacked n ≡ e
+unfolding extent_number unpacked
 unpacked-number e n fits is =
     let cut = parts n (if e.unwritten then 1 else 0) e.offset e.start e.count is fits.offset fits.start fits.count in
     same_extent e (n / 2 ^ 73 % 2 ^ 54) (n / 2 ^ 21 % 2 ^ 52) (n % 2 ^ 21) (nat_eq (n / 2 ^ 127) 1) cut.1 cut.2 cut.3
@@ -69,8 +69,8 @@ below : (u o s c : ℕ) → u < 2 → o < 2 ^ 54 → s < 2 ^ 52 → c < 2 ^ 21 �
 below u o s c hu ho hs hc = omega arith
 
 -- the number of an extent has 128 bits
-pub number_of-lt : (e : Extent) → IsPackable e → number_of e < 2 ^ 128
-unfolding number_of
+pub number_of-lt : (e : Extent) → IsPackable e → extent_number e < 2 ^ 128
+unfolding extent_number
 number_of-lt e fits =
     below (if e.unwritten then 1 else 0) e.offset e.start e.count (flag-lt e.unwritten) fits.offset fits.start fits.count
 
@@ -93,7 +93,7 @@ joined u o s c hu ho hs hc =
 -- the parts of an extent joined by shifts are its bytes
 pub joined-packed : (e : Extent) (u : ℕ) → IsPackable e → u ≡ (if e.unwritten then 1 else 0)
     → big_bytes 16 (bit_or (bit_or (u * 2 ^ 127 % 2 ^ 128) (bit_or (e.offset * 2 ^ 73 % 2 ^ 128) (e.start * 2 ^ 21 % 2 ^ 128))) e.count) ≡ packed e
-unfolding packed number_of
+unfolding packed extent_number
 joined-packed e u fits flag =
     let number = λ (x : ℕ). bit_or (bit_or (x * 2 ^ 127 % 2 ^ 128) (bit_or (e.offset * 2 ^ 73 % 2 ^ 128) (e.start * 2 ^ 21 % 2 ^ 128))) e.count in
     ap (λ (x : ℕ). big_bytes 16 (number x)) flag
@@ -122,5 +122,5 @@ packed-unpacked bytes n is fits long all =
 pub unpacked-packed : (bytes : List ℕ) (n : ℕ) (e : Extent) → n ≡ big_number 16 bytes → IsPackable e → bytes ≡ packed e → unpacked n ≡ e
 unfolding packed
 unpacked-packed bytes n e is fits spelt =
-    let back : n ≡ number_of e = is ∙ ap (big_number 16) spelt ∙ big_number-big_bytes 16 (number_of e) (number_of-lt e fits) in
+    let back : n ≡ extent_number e = is ∙ ap (big_number 16) spelt ∙ big_number-big_bytes 16 (extent_number e) (number_of-lt e fits) in
     unpacked-number e n fits back

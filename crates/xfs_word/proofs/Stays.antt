@@ -1,6 +1,6 @@
 -- An object stays as right as it was where its checksum alone is written.
 use Rattle.std.proofs.Common.{◌≡◌, ℕ, ◌/◌, ◌%◌, ◌^◌, inl, not, ◌&&◌, ◌||◌, ◌==◌, List, bytes_eq, Option, Some, None, IsTrue, IfSome, refl, ◌∙◌, ap, ap₂, subst, arith}
-use Rattle.xfs_word.specs.Field.{Beside, Keeps, KeepsParts}
+use Rattle.xfs_word.specs.Field.{Beside, KeepsBeside, KeepsParts}
 use Rattle.xfs_word.specs.Crc.{has_checksum}
 use Rattle.xfs_word.specs.Seal.{layout_of, has_magic, identifier_is, number_is, owner_is, is_lsn, is_ready, is_sealed, IsApart}
 use Rattle.xfs_word.specs.declared.kinds.FieldPlace.{FieldPlace}
@@ -10,7 +10,7 @@ use Rattle.xfs_word.specs.declared.kinds.SealKind.{SealKind}
 use Rattle.xfs_word.specs.declared.kinds.SealKind.TheVariants.{Super, Agf, Agi, Agfl, ShortTree, LongTree, Slot, DirData, DirFree, Index, Symlink}
 
 -- the magic number stands beside the checksum
-magic_stays : (kind : SealKind) (old new : List ℕ) → Keeps old new (layout_of kind).checksum 4 → has_magic kind new ≡ has_magic kind old
+magic_stays : (kind : SealKind) (old new : List ℕ) → KeepsBeside old new (layout_of kind).checksum 4 → has_magic kind new ≡ has_magic kind old
 unfolding has_magic
 magic_stays Super old new same =
     ap₂ (λ (m v : ℕ). m == 0x5846_5342 && v % 16 == 5) (same 0 4 (inl (omega arith))) (same 100 2 (inl (omega arith)))
@@ -35,18 +35,18 @@ identifier_stays at (Some p) uuid old new apart same = ap (λ (id : List ℕ). b
 
 -- a number stands beside the checksum
 number_stays : (at : ℕ) (place : Option FieldPlace) (number : ℕ) (old new : List ℕ) → IfSome place (λ p. Beside at 4 p.offset p.width)
-    → Keeps old new at 4 → number_is place number new ≡ number_is place number old
+    → KeepsBeside old new at 4 → number_is place number new ≡ number_is place number old
 number_stays at None number old new apart same = refl
 number_stays at (Some p) number old new apart same = ap (λ (n : ℕ). n == number) (same p.offset p.width apart)
 
 -- the owner stands beside the checksum
 owner_stays : (at : ℕ) (place : Option FieldPlace) (owner : Option ℕ) (old new : List ℕ) → IfSome place (λ p. Beside at 4 p.offset p.width)
-    → Keeps old new at 4 → owner_is place owner new ≡ owner_is place owner old
+    → KeepsBeside old new at 4 → owner_is place owner new ≡ owner_is place owner old
 owner_stays at place None old new apart same = refl
 owner_stays at place (Some owner) old new apart same = number_stays at place owner old new apart same
 
 -- where the checksum alone is written, an object is as ready as before
-pub ready_stays : (seal : Seal) (old new : List ℕ) → IsApart (layout_of seal.kind) → Keeps old new (layout_of seal.kind).checksum 4
+pub ready_stays : (seal : Seal) (old new : List ℕ) → IsApart (layout_of seal.kind) → KeepsBeside old new (layout_of seal.kind).checksum 4
     → KeepsParts old new (layout_of seal.kind).checksum 4 → is_ready seal new ≡ is_ready seal old
 unfolding is_ready
 ready_stays seal old new apart same same_parts =
@@ -60,12 +60,12 @@ ready_stays seal old new apart same same_parts =
 
 -- an object that is ready is sealed by a right checksum
 pub sealed_by : (seal : Seal) (old new : List ℕ) (layout : SealLayout) → layout ≡ layout_of seal.kind → IsApart layout
-    → Keeps old new layout.checksum 4 → KeepsParts old new layout.checksum 4 → IsTrue (has_checksum new layout.checksum)
+    → KeepsBeside old new layout.checksum 4 → KeepsParts old new layout.checksum 4 → IsTrue (has_checksum new layout.checksum)
     → IsTrue (is_ready seal old) → IsTrue (is_sealed seal new)
 unfolding is_sealed
 sealed_by seal old new layout table apart same same_parts right was =
     let stays = ready_stays seal old new
     (subst (λ (l : SealLayout). IsApart l) table apart)
-    (subst (λ (l : SealLayout). Keeps old new l.checksum 4) table same)
+    (subst (λ (l : SealLayout). KeepsBeside old new l.checksum 4) table same)
     (subst (λ (l : SealLayout). KeepsParts old new l.checksum 4) table same_parts) in
     ap₂ ◌&&◌ (stays ∙ was) (subst (λ (l : SealLayout). IsTrue (has_checksum new l.checksum)) table right)

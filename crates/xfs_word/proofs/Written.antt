@@ -4,7 +4,7 @@ use Rattle.std.proofs.lemmas.List.{take_rest, get_or-drop, get_or-take, same_lis
 use Rattle.std.proofs.lemmas.Bool.{eq-eqb}
 use Rattle.byteorder.specs.Endian.{big_from, little_from}
 use Rattle.xfs_word.specs.Crc.{cleared, crc_of, little_field_of, has_checksum}
-use Rattle.xfs_word.specs.Field.{field_of, part_of, Beside, SameBeside, Keeps, KeepsParts}
+use Rattle.xfs_word.specs.Field.{field_of, part_of, Beside, SameBeside, KeepsBeside, KeepsParts}
 
 -- the byte lists agree from place i on for n places
 pub record Agree (i n : ℕ) (xs ys : List ℕ) : Type 0 where
@@ -35,7 +35,7 @@ beside-agree old new at width a w same apart = record {
 }
 
 -- numbers beside the written bytes stay
-pub keeps : (old new : List ℕ) (at width : ℕ) → SameBeside old new at width → Keeps old new at width
+pub keeps : (old new : List ℕ) (at width : ℕ) → SameBeside old new at width → KeepsBeside old new at width
 unfolding field_of
 keeps old new at width same a w apart =
     big_from-same 0 w (drop a old) (drop a new) (beside-agree old new at width a w same apart)

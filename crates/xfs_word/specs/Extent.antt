@@ -10,10 +10,10 @@ pub record IsPackable (extent : Extent) : Type 0 where
   pub count : extent.count < 2 ^ 21
 
 -- an extent as one number of 128 bits: from the top the unwritten bit, the offset, the start and the count
-unfoldable pub number_of : Extent → ℕ
-number_of extent =
+unfoldable pub extent_number : Extent → ℕ
+extent_number extent =
     (((if extent.unwritten then 1 else 0) * 2 ^ 54 + extent.offset) * 2 ^ 52 + extent.start) * 2 ^ 21 + extent.count
 
 -- an extent in its 16 bytes, big-endian
 unfoldable pub packed : Extent → List ℕ
-packed extent = big_bytes 16 (number_of extent)
+packed extent = big_bytes 16 (extent_number extent)

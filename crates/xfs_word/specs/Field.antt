@@ -1,6 +1,6 @@
 -- Fields of on-disk objects: numbers that stand big-endian at byte offsets. From the chapter "Common XFS Types" of
 -- "XFS Algorithms and Data Structures".
-use Rattle.std.specs.Prelude.{◌≡◌, ℕ, ◌+◌, ◌<◌, ◌≤◌, ◌⊎◌, ◌==◌, ◌||◌, Bool, List, take, drop, slice_index}
+use Rattle.std.specs.Prelude.{◌≡◌, ℕ, ◌+◌, ◌<◌, ◌≤◌, ◌⊎◌, ◌==◌, ◌||◌, Bool, List, take, drop, slice_index, replicate}
 use Rattle.byteorder.specs.Endian.{big_number}
 
 -- a field of a number has 1, 2, 4 or 8 bytes
@@ -24,9 +24,17 @@ abbrev pub SameBeside : List ℕ → List ℕ → ℕ → ℕ → Type 0
 SameBeside old new at width = (k : ℕ) → (k < at) ⊎ (at + width ≤ k) → slice_index new k ≡ slice_index old k
 
 -- each number beside the width bytes from at on is as before
-abbrev pub Keeps : List ℕ → List ℕ → ℕ → ℕ → Type 0
-Keeps old new at width = (a w : ℕ) → Beside at width a w → field_of new a w ≡ field_of old a w
+abbrev pub KeepsBeside : List ℕ → List ℕ → ℕ → ℕ → Type 0
+KeepsBeside old new at width = (a w : ℕ) → Beside at width a w → field_of new a w ≡ field_of old a w
 
 -- each part beside the width bytes from at on is as before
 abbrev pub KeepsParts : List ℕ → List ℕ → ℕ → ℕ → Type 0
 KeepsParts old new at width = (a w : ℕ) → Beside at width a w → part_of new a w ≡ part_of old a w
+
+-- bytes that are zero
+unfoldable pub zeros : ℕ → List ℕ
+zeros count = replicate count 0
+
+-- the width bytes from an offset on are zero
+abbrev pub IsZero : List ℕ → ℕ → ℕ → Type 0
+IsZero bytes at width = part_of bytes at width ≡ zeros width

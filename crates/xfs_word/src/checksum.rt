@@ -2,7 +2,7 @@
 
 ghost use Rattle.std.specs.Prelude.{◌≡◌, ℕ, ◌+◌, ◌-◌, ◌*◌, ◌%◌, ◌^◌, ◌<◌, ◌≤◌, length, take, IsTrue};
 ghost use Rattle.xfs_word.specs.Crc.{after_byte, after_bytes, after_zeros, crc_of, cleared, little_field_of, has_checksum};
-ghost use Rattle.xfs_word.specs.Field.{is_width, SameBeside, Keeps, KeepsParts};
+ghost use Rattle.xfs_word.specs.Field.{is_width, SameBeside, KeepsBeside, KeepsParts};
 
 use crate::tables::TABLES;
 use byteorder::{ByteOrder, LittleEndian};
@@ -49,7 +49,7 @@ pub fn put_checksum(bytes: &mut [u8], at: usize)
     requires { at + 4 ≤ length bytes.old }
     ensures put { little_field_of bytes.new at 4 ≡ crc_of (cleared bytes.old at) }
     ensures right { IsTrue (has_checksum bytes.new at) }
-    ensures keeps { Keeps bytes.old bytes.new at 4 }
+    ensures keeps { KeepsBeside bytes.old bytes.new at 4 }
     ensures keeps_parts { KeepsParts bytes.old bytes.new at 4 }
     ensures others { SameBeside bytes.old bytes.new at 4 }
 {

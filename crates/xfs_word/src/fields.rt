@@ -1,7 +1,7 @@
 //! Big-endian numbers and runs of bytes at byte offsets of a buffer.
 
 ghost use Rattle.std.specs.Prelude.{◌≡◌, ℕ, ◌+◌, ◌<◌, ◌≤◌, ◌^◌, length, IsTrue};
-ghost use Rattle.xfs_word.specs.Field.{field_of, part_of, is_width, SameBeside, Keeps, KeepsParts};
+ghost use Rattle.xfs_word.specs.Field.{field_of, part_of, is_width, SameBeside, KeepsBeside, KeepsParts};
 
 use byteorder::{BigEndian, ByteOrder};
 
@@ -70,7 +70,7 @@ pub fn put_field(bytes: &mut [u8], at: usize, width: usize, value: u64)
     requires inside { at + width ≤ length bytes.old }
     requires fits { value < 256 ^ width }
     ensures put { field_of bytes.new at width ≡ value }
-    ensures keeps { Keeps bytes.old bytes.new at width }
+    ensures keeps { KeepsBeside bytes.old bytes.new at width }
     ensures keeps_parts { KeepsParts bytes.old bytes.new at width }
     ensures others { SameBeside bytes.old bytes.new at width }
 {
@@ -81,7 +81,7 @@ pub fn put_field(bytes: &mut [u8], at: usize, width: usize, value: u64)
 pub fn put8(bytes: &mut [u8], at: usize, value: u8)
     requires { at + 1 ≤ length bytes.old }
     ensures put { field_of bytes.new at 1 ≡ value }
-    ensures keeps { Keeps bytes.old bytes.new at 1 }
+    ensures keeps { KeepsBeside bytes.old bytes.new at 1 }
     ensures keeps_parts { KeepsParts bytes.old bytes.new at 1 }
     ensures others { SameBeside bytes.old bytes.new at 1 }
 {
@@ -92,7 +92,7 @@ pub fn put8(bytes: &mut [u8], at: usize, value: u8)
 pub fn put16(bytes: &mut [u8], at: usize, value: u16)
     requires { at + 2 ≤ length bytes.old }
     ensures put { field_of bytes.new at 2 ≡ value }
-    ensures keeps { Keeps bytes.old bytes.new at 2 }
+    ensures keeps { KeepsBeside bytes.old bytes.new at 2 }
     ensures keeps_parts { KeepsParts bytes.old bytes.new at 2 }
     ensures others { SameBeside bytes.old bytes.new at 2 }
 {
@@ -103,7 +103,7 @@ pub fn put16(bytes: &mut [u8], at: usize, value: u16)
 pub fn put32(bytes: &mut [u8], at: usize, value: u32)
     requires { at + 4 ≤ length bytes.old }
     ensures put { field_of bytes.new at 4 ≡ value }
-    ensures keeps { Keeps bytes.old bytes.new at 4 }
+    ensures keeps { KeepsBeside bytes.old bytes.new at 4 }
     ensures keeps_parts { KeepsParts bytes.old bytes.new at 4 }
     ensures others { SameBeside bytes.old bytes.new at 4 }
 {
@@ -114,7 +114,7 @@ pub fn put32(bytes: &mut [u8], at: usize, value: u32)
 pub fn put64(bytes: &mut [u8], at: usize, value: u64)
     requires { at + 8 ≤ length bytes.old }
     ensures put { field_of bytes.new at 8 ≡ value }
-    ensures keeps { Keeps bytes.old bytes.new at 8 }
+    ensures keeps { KeepsBeside bytes.old bytes.new at 8 }
     ensures keeps_parts { KeepsParts bytes.old bytes.new at 8 }
     ensures others { SameBeside bytes.old bytes.new at 8 }
 {
@@ -125,7 +125,7 @@ pub fn put64(bytes: &mut [u8], at: usize, value: u64)
 pub fn put_part(bytes: &mut [u8], at: usize, value: &[u8])
     requires { at + length value.now ≤ length bytes.old }
     ensures put { part_of bytes.new at (length value.now) ≡ value.now }
-    ensures keeps { Keeps bytes.old bytes.new at (length value.now) }
+    ensures keeps { KeepsBeside bytes.old bytes.new at (length value.now) }
     ensures keeps_parts { KeepsParts bytes.old bytes.new at (length value.now) }
     ensures others { SameBeside bytes.old bytes.new at (length value.now) }
 {

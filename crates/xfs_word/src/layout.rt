@@ -1,7 +1,7 @@
 //! On-disk layouts as data: one table of fields for each object.
 
 ghost use Rattle.std.specs.Prelude.{◌≡◌, ℕ, ◌+◌, ◌<◌, ◌≤◌, ◌^◌, length, IsTrue};
-ghost use Rattle.xfs_word.specs.Field.{field_of, is_width, SameBeside, Keeps, KeepsParts};
+ghost use Rattle.xfs_word.specs.Field.{field_of, is_width, SameBeside, KeepsBeside, KeepsParts};
 
 use crate::fields::{field, put_field};
 
@@ -47,7 +47,7 @@ impl FieldLayout {
         requires inside { self.now.offset + self.now.width ≤ length bytes.old }
         requires fits { value < 256 ^ self.now.width }
         ensures put { field_of bytes.new self.now.offset self.now.width ≡ value }
-        ensures keeps { Keeps bytes.old bytes.new self.now.offset self.now.width }
+        ensures keeps { KeepsBeside bytes.old bytes.new self.now.offset self.now.width }
         ensures keeps_parts { KeepsParts bytes.old bytes.new self.now.offset self.now.width }
         ensures others { SameBeside bytes.old bytes.new self.now.offset self.now.width }
     {

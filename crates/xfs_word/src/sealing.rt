@@ -2,7 +2,7 @@
 
 ghost use Rattle.std.specs.Prelude.{◌≡◌, ℕ, ◌+◌, ◌≤◌, length, IsTrue, IfSome};
 ghost use Rattle.xfs_word.specs.Crc.{crc_of, cleared, little_field_of};
-ghost use Rattle.xfs_word.specs.Field.{is_width, SameBeside, Keeps, KeepsParts};
+ghost use Rattle.xfs_word.specs.Field.{is_width, SameBeside, KeepsBeside, KeepsParts};
 ghost use Rattle.xfs_word.specs.Seal.{layout_of, identifier_is, number_is, owner_is, is_lsn, is_ready, is_sealed};
 
 use crate::checksum::{is_checksum_right, put_checksum};
@@ -50,7 +50,7 @@ pub fn seal(seal: &Seal, bytes: &mut [u8])
     requires { length bytes.old ≡ (layout_of seal.now.kind).size }
     ensures put { let at = (layout_of seal.now.kind).checksum in little_field_of bytes.new at 4 ≡ crc_of (cleared bytes.old at) }
     ensures sealed { IsTrue (is_ready seal.now bytes.old) → IsTrue (is_sealed seal.now bytes.new) }
-    ensures keeps { Keeps bytes.old bytes.new (layout_of seal.now.kind).checksum 4 }
+    ensures keeps { KeepsBeside bytes.old bytes.new (layout_of seal.now.kind).checksum 4 }
     ensures keeps_parts { KeepsParts bytes.old bytes.new (layout_of seal.now.kind).checksum 4 }
     ensures others { SameBeside bytes.old bytes.new (layout_of seal.now.kind).checksum 4 }
 {

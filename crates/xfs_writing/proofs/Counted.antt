@@ -1,7 +1,6 @@
 -- Counts that are raised again and again.
-use Rattle.std.proofs.Common.{◌≡◌, ℕ, zero, suc, ◌+◌, ◌^◌, ◌<◌, refl, ap, ◌∙◌, arith}
-use Rattle.xfs_disk.specs.Counts.{raised, raised_by}
-use Rattle.xfs_writing.specs.Counting.{raised_times}
+use Rattle.std.proofs.Common.{◌≡◌, ℕ, zero, suc, ◌+◌, refl, ap, ◌∙◌, arith}
+use Rattle.xfs_disk.specs.Counts.{raised, raised_times}
 
 -- not raised
 pub raised_none : (count : ℕ) → raised_times 0 count ≡ count
@@ -17,8 +16,3 @@ raised_further n zero count = let none : n ≡ n + 0 = omega arith in ap (λ (k 
 raised_further n (suc m) count =
     let step : suc (n + m) ≡ n + suc m = omega arith in
     ap raised (raised_further n m count) ∙ ap (λ (k : ℕ). raised_times k count) step
-
--- where the count stands within its type it is one more for each time, or stands at the end
-pub raised_in_all : (n count : ℕ) → count < 2 ^ 64 → raised_times n count ≡ raised_by n count
-raised_in_all zero count fits = omega arith
-raised_in_all (suc n) count fits = ap raised (raised_in_all n count fits) ∙ omega arith

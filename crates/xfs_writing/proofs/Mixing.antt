@@ -5,12 +5,12 @@ use Rattle.std.proofs.lemmas.List.{get_or-map, length-map}
 use Rattle.xfs_disk.specs.Blocks.{Image}
 use Rattle.xfs_disk.specs.Stops.{EachOf, Elapses, GoesOn}
 use Rattle.xfs_writing.specs.Stopped.{IsMixed, IsOldOrDue, IsStopped, LeavesJust}
-use Rattle.xfs_writing.specs.Writing.{Writes, write_of, written, writes_of}
+use Rattle.xfs_writing.specs.Writing.{Writes, write_of, written, writes_of_rows}
 use Rattle.xfs_writing.specs.declared.rows.Row.{Row}
 
 -- a row's write is among those of all rows
 pub among : (bank : Image) (rows : List Row) (i : ℕ) (row d : Row) (bytes : List ℕ) → i < length rows → row ≡ get_or rows i d → bytes ≡ get_or bank row.index []
-    → Contains (writes_of bank rows) (row.at, bytes)
+    → Contains (writes_of_rows bank rows) (row.at, bytes)
 among bank rows i row d bytes within same value =
     let due : write_of bank row ≡ (row.at, bytes) = ap (λ (v : List ℕ). let w : ℕ × List ℕ = (row.at, v) in w) (sym value) in (
       i,

@@ -5,7 +5,7 @@ use Rattle.std.specs.List.{All}
 use Rattle.std.proofs.lemmas.List.{append_assoc, length-append, take_more}
 use Rattle.std.proofs.lemmas.List.Elements.{All-cons, All-head, All-nil, All-tail}
 use Rattle.xfs_disk.specs.Blocks.{Image}
-use Rattle.xfs_writing.specs.Writing.{Writes, rows_from, writes_of}
+use Rattle.xfs_writing.specs.Writing.{Writes, rows_from, writes_of_rows}
 use Rattle.xfs_writing.specs.declared.rows.Row.{Row}
 
 pub count_from : (index : ℕ) (places : List ℕ) → length (rows_from index places) ≡ length places
@@ -45,18 +45,18 @@ block_behind (first ∷ front) block rest = block_behind front block rest
 
 -- what is written of rows whose bytes stand in a bank behind some others, where each block is a function of its number
 pub writes_behind : (f : ℕ → List ℕ) (places : List ℕ) (front : Image) (index : ℕ) → index ≡ length front
-    → writes_of (front ++ map f places) (rows_from index places) ≡ map (λ (at : ℕ). (at, f at)) places
+    → writes_of_rows (front ++ map f places) (rows_from index places) ≡ map (λ (at : ℕ). (at, f at)) places
 writes_behind f [] front index same = refl
 writes_behind f (at ∷ places) front index same =
     let here : slice_index_or (front ++ f at ∷ map f places) index [] ≡ f at =
     ap (λ (k : ℕ). slice_index_or (front ++ f at ∷ map f places) k []) same ∙ block_behind front (f at) (map f places) in
     let joined : (front ++ f at ∷ []) ++ map f places ≡ front ++ f at ∷ map f places = append_assoc front (f at ∷ []) (map f places) in
     let count : index + 1 ≡ length (front ++ f at ∷ []) = omega (arith, same, length-append front (f at ∷ [])) in
-    let later : writes_of (front ++ f at ∷ map f places) (rows_from (index + 1) places) ≡ map (λ (p : ℕ). (p, f p)) places =
-    subst (λ (bank : Image). writes_of bank (rows_from (index + 1) places) ≡ map (λ (p : ℕ). (p, f p)) places) joined
+    let later : writes_of_rows (front ++ f at ∷ map f places) (rows_from (index + 1) places) ≡ map (λ (p : ℕ). (p, f p)) places =
+    subst (λ (bank : Image). writes_of_rows bank (rows_from (index + 1) places) ≡ map (λ (p : ℕ). (p, f p)) places) joined
     (writes_behind f places (front ++ f at ∷ []) (index + 1) count) in
     let head : Writes → List ℕ → Writes = λ ws v. (at, v) ∷ ws in
-    ap (head (writes_of (front ++ f at ∷ map f places) (rows_from (index + 1) places))) here ∙ ap (λ (ws : Writes). head ws (f at)) later
+    ap (head (writes_of_rows (front ++ f at ∷ map f places) (rows_from (index + 1) places))) here ∙ ap (λ (ws : Writes). head ws (f at)) later
 
 -- what is so of all places is so of their rows, and each index is below the number of all
 pub rows_at : (P : ℕ → Type 0) (places : List ℕ) (index : ℕ) → All P places → All (λ (r : Row). P r.at) (rows_from index places)

@@ -4,7 +4,7 @@ use Rattle.std.proofs.Math.Seq.{take-append-add}
 use Rattle.std.proofs.lemmas.Bool.{cases_lt}
 use Rattle.std.proofs.lemmas.List.{take_all, take_more, take-append-le, map-append, get_or-map, length-map}
 use Rattle.xfs_disk.specs.Blocks.{Image}
-use Rattle.xfs_writing.specs.Writing.{Writes, IsPartly, write_of, written, writes_of}
+use Rattle.xfs_writing.specs.Writing.{Writes, IsPartly, write_of, written, writes_of_rows}
 use Rattle.xfs_writing.specs.declared.rows.Row.{Row}
 
 -- some writes, one after the other
@@ -15,9 +15,9 @@ written-append (write ∷ p) q image = written-append p q (slice_set image write
 -- one more write of the rows
 pub next_write : (bank : Image) (rows : List Row) (i : ℕ) (row d : Row) (bytes : List ℕ) (image : Image)
     → i < length rows → row ≡ get_or rows i d → bytes ≡ get_or bank row.index []
-    → slice_set (written (take i (writes_of bank rows)) image) row.at bytes ≡ written (take (i + 1) (writes_of bank rows)) image
+    → slice_set (written (take i (writes_of_rows bank rows)) image) row.at bytes ≡ written (take (i + 1) (writes_of_rows bank rows)) image
 next_write bank rows i row d bytes image within same value =
-    let ws = writes_of bank rows in
+    let ws = writes_of_rows bank rows in
     let inside : i < length ws = omega (arith, length-map rows (write_of bank)) in
     let item : get_or ws i (write_of bank d) ≡ write_of bank row = get_or-map (write_of bank) rows i d (write_of bank d) within ∙ ap (write_of bank) (sym same) in
     let step : take (i + 1) ws ≡ take i ws ++ get_or ws i (write_of bank d) ∷ [] = take_more ws i (write_of bank d) inside in
@@ -26,9 +26,9 @@ next_write bank rows i row d bytes image within same value =
 -- where a write failed, its block is old or new
 pub old_or_next : (bank : Image) (rows : List Row) (i n : ℕ) (row d : Row) (bytes : List ℕ) (image : Image) (now : Option Image)
     → i < length rows → row ≡ get_or rows i d → bytes ≡ get_or bank row.index [] → n ≡ i
-    → (now ≡ Some (written (take i (writes_of bank rows)) image))
-    ⊎ (now ≡ Some (slice_set (written (take i (writes_of bank rows)) image) row.at bytes))
-    → IsPartly (writes_of bank rows) image n now
+    → (now ≡ Some (written (take i (writes_of_rows bank rows)) image))
+    ⊎ (now ≡ Some (slice_set (written (take i (writes_of_rows bank rows)) image) row.at bytes))
+    → IsPartly (writes_of_rows bank rows) image n now
 old_or_next bank rows i n row d bytes image now within same value count (inl old) = rw count (inl old)
 old_or_next bank rows i n row d bytes image now within same value count (inr new) =
     rw count (inr (new ∙ ap (λ (j : Image). Some j) (next_write bank rows i row d bytes image within same value)))
@@ -64,34 +64,34 @@ none_done a image now is = inl is
 
 module _ (bank : Image) (first last : List Row) where
   abbrev all : Writes
-  all = writes_of bank (first ++ last)
+  all = writes_of_rows bank (first ++ last)
 
-  both : all ≡ writes_of bank first ++ writes_of bank last
+  both : all ≡ writes_of_rows bank first ++ writes_of_rows bank last
   both = map-append (write_of bank) first last
 
   -- both parts of the rows
-  pub both_written : (image : Image) (now : Option Image) → now ≡ Some (written (writes_of bank last) (written (writes_of bank first) image))
-      → now ≡ Some (written (writes_of bank (first ++ last)) image)
+  pub both_written : (image : Image) (now : Option Image) → now ≡ Some (written (writes_of_rows bank last) (written (writes_of_rows bank first) image))
+      → now ≡ Some (written (writes_of_rows bank (first ++ last)) image)
   both_written image now is =
-      is ∙ ap (λ (j : Image). Some j) (sym (written-append (writes_of bank first) (writes_of bank last) image) ∙ ap (λ (ws : Writes). written ws image) (sym both))
+      is ∙ ap (λ (j : Image). Some j) (sym (written-append (writes_of_rows bank first) (writes_of_rows bank last) image) ∙ ap (λ (ws : Writes). written ws image) (sym both))
 
   -- some rows of the first part
-  pub first_partly : (image : Image) (n : ℕ) (now : Option Image) → n ≤ length first → IsPartly (writes_of bank first) image n now
-      → IsPartly (writes_of bank (first ++ last)) image n now
+  pub first_partly : (image : Image) (n : ℕ) (now : Option Image) → n ≤ length first → IsPartly (writes_of_rows bank first) image n now
+      → IsPartly (writes_of_rows bank (first ++ last)) image n now
   first_partly image n now most part =
       subst (λ (ws : Writes). IsPartly ws image n now) (sym both)
-      (part_of_first (writes_of bank first) (writes_of bank last) image n now (omega (arith, most, length-map first (write_of bank))) part)
+      (part_of_first (writes_of_rows bank first) (writes_of_rows bank last) image n now (omega (arith, most, length-map first (write_of bank))) part)
 
   -- all rows of the first part, and some of the last
-  pub last_partly : (image : Image) (n m : ℕ) (now : Option Image) → m ≡ length first + n → IsPartly (writes_of bank last) (written (writes_of bank first) image) n now
-      → IsPartly (writes_of bank (first ++ last)) image m now
+  pub last_partly : (image : Image) (n m : ℕ) (now : Option Image) → m ≡ length first + n → IsPartly (writes_of_rows bank last) (written (writes_of_rows bank first) image) n now
+      → IsPartly (writes_of_rows bank (first ++ last)) image m now
   last_partly image n m now count part =
       subst (λ (ws : Writes). IsPartly ws image m now) (sym both)
-      (part_of_second (writes_of bank first) (writes_of bank last) image n m now (omega (arith, count, length-map first (write_of bank))) part)
+      (part_of_second (writes_of_rows bank first) (writes_of_rows bank last) image n m now (omega (arith, count, length-map first (write_of bank))) part)
 
   -- all rows of both
   pub all_partly : (image : Image) (m : ℕ) (now : Option Image) → m ≡ length first + length last
-      → now ≡ Some (written (writes_of bank last) (written (writes_of bank first) image)) → IsPartly (writes_of bank (first ++ last)) image m now
+      → now ≡ Some (written (writes_of_rows bank last) (written (writes_of_rows bank first) image)) → IsPartly (writes_of_rows bank (first ++ last)) image m now
   all_partly image m now count is =
       last_partly image (length last) m now count
-      (all_done (writes_of bank last) (written (writes_of bank first) image) (length last) now (sym (length-map last (write_of bank))) is)
+      (all_done (writes_of_rows bank last) (written (writes_of_rows bank first) image) (length last) now (sym (length-map last (write_of bank))) is)

@@ -1,11 +1,6 @@
 -- How many blocks were written, by a disk's count of writes.
-use Rattle.std.specs.Prelude.{◌≡◌, ℕ, zero, suc, Result, Ok, Err}
-use Rattle.xfs_disk.specs.Counts.{raised}
-
--- a count that was raised so many times
-abbrev pub raised_times : ℕ → ℕ → ℕ
-raised_times zero count = count
-raised_times (suc n) count = raised (raised_times n count)
+use Rattle.std.specs.Prelude.{◌≡◌, ℕ, Result, Ok, Err}
+use Rattle.xfs_disk.specs.Counts.{raised_times}
 
 -- all blocks were written, or just as many as are told
 abbrev pub CountsWrites : {T : Type 0} → ℕ → ℕ → ℕ → Result T ℕ → Type 0

@@ -26,5 +26,5 @@ abbrev pub write_of : Image → Row → ℕ × List ℕ
 write_of bank r = (r.at, slice_index_or bank r.index [])
 
 -- what is written of rows, in their order
-abbrev pub writes_of : Image → List Row → Writes
-writes_of bank rows = map (write_of bank) rows
+abbrev pub writes_of_rows : Image → List Row → Writes
+writes_of_rows bank rows = map (write_of bank) rows

@@ -7,7 +7,7 @@ ghost use Rattle.xfs_disk.specs.Blocks.{Image};
 ghost use Rattle.xfs_disk.specs.Faults.{HasCause};
 ghost use Rattle.xfs_writing.specs.Counting.{CountsWrites};
 ghost use Rattle.xfs_writing.specs.Stopped.{IsMixed, IsStopped, LeavesJust};
-ghost use Rattle.xfs_writing.specs.Writing.{IsPartly, written, writes_of};
+ghost use Rattle.xfs_writing.specs.Writing.{IsPartly, written, writes_of_rows};
 ghost use Rattle.xfs_writing.specs.declared.rows.Row.{Row};
 
 use crate::rows::Row;
@@ -28,9 +28,9 @@ pub fn write_parts<D: Disk>(
     requires last_inside { All (λ (r : Row). r.index < length bank.now) last.now }
     requires fit { length first.now + length last.now < 2 ^ 64 }
     ensures done { OnOk result (ForSome (D.holds disk.old) (λ image.
-        D.holds disk.new ≡ Some (written (writes_of bank.now (first.now ++ last.now)) image))) }
+        D.holds disk.new ≡ Some (written (writes_of_rows bank.now (first.now ++ last.now)) image))) }
     ensures partly { IfErr result (λ n. ForSome (D.holds disk.old) (λ image.
-        IsPartly (writes_of bank.now (first.now ++ last.now)) image n (D.holds disk.new))) }
+        IsPartly (writes_of_rows bank.now (first.now ++ last.now)) image n (D.holds disk.new))) }
     ensures most { IfErr result (λ n. n ≤ length first.now + length last.now) }
     // all were written, or just as many as are told
     ensures counted { CountsWrites (length first.now + length last.now) (D.writes disk.old) (D.writes disk.new) result }
@@ -43,7 +43,7 @@ pub fn write_parts<D: Disk>(
     // a stop leaves what it might have left before, or some blocks as planned: those of the last part only once all of the first are
     ensures stops { D.tells_stops disk.old → ForSome (D.holds disk.old) (λ image.
         (t : ℕ) (stopped : Image) → t ≤ D.moment disk.old → D.left_since disk.new t stopped
-        → D.left_since disk.old t stopped ⊎ IsStopped (writes_of bank.now first.now) (writes_of bank.now last.now) image stopped) }
+        → D.left_since disk.old t stopped ⊎ IsStopped (writes_of_rows bank.now first.now) (writes_of_rows bank.now last.now) image stopped) }
     ensures later { D.tells_stops disk.old → D.moment disk.old ≤ D.moment disk.new }
     ensures tells { D.tells_stops disk.old → D.tells_stops disk.new }
 {
@@ -65,8 +65,8 @@ pub fn write_parts<D: Disk>(
 fn write_part<D: Disk>(disk: &mut D, bank: &BlockBank, rows: &[Row]) -> Result<(), u64>
     requires places { All (λ (r : Row). r.at < D.size disk.old) rows.now }
     requires inside { All (λ (r : Row). r.index < length bank.now) rows.now }
-    ensures done { OnOk result (ForSome (D.holds disk.old) (λ image. D.holds disk.new ≡ Some (written (writes_of bank.now rows.now) image))) }
-    ensures partly { IfErr result (λ n. ForSome (D.holds disk.old) (λ image. IsPartly (writes_of bank.now rows.now) image n (D.holds disk.new))) }
+    ensures done { OnOk result (ForSome (D.holds disk.old) (λ image. D.holds disk.new ≡ Some (written (writes_of_rows bank.now rows.now) image))) }
+    ensures partly { IfErr result (λ n. ForSome (D.holds disk.old) (λ image. IsPartly (writes_of_rows bank.now rows.now) image n (D.holds disk.new))) }
     ensures most { IfErr result (λ n. n ≤ length rows.now) }
     ensures counted { CountsWrites (length rows.now) (D.writes disk.old) (D.writes disk.new) result }
     ensures size { D.size disk.new ≡ D.size disk.old }
@@ -75,7 +75,7 @@ fn write_part<D: Disk>(disk: &mut D, bank: &BlockBank, rows: &[Row]) -> Result<(
     ensures cause { HasCause (D.write_faults disk.old) (D.write_faults disk.new) result }
     ensures stops { D.tells_stops disk.old → ForSome (D.holds disk.old) (λ image.
         (t : ℕ) (stopped : Image) → t ≤ D.moment disk.old → D.left_since disk.new t stopped
-        → D.left_since disk.old t stopped ⊎ IsMixed (writes_of bank.now rows.now) image stopped) }
+        → D.left_since disk.old t stopped ⊎ IsMixed (writes_of_rows bank.now rows.now) image stopped) }
     ensures later { D.tells_stops disk.old → D.moment disk.old ≤ D.moment disk.new }
     ensures tells { D.tells_stops disk.old → D.tells_stops disk.new }
 {
@@ -89,8 +89,8 @@ fn write_part<D: Disk>(disk: &mut D, bank: &BlockBank, rows: &[Row]) -> Result<(
 fn write_each<D: Disk>(disk: &mut D, bank: &BlockBank, rows: &[Row]) -> Result<(), u64>
     requires places { All (λ (r : Row). r.at < D.size disk.old) rows.now }
     requires inside { All (λ (r : Row). r.index < length bank.now) rows.now }
-    ensures done { OnOk result (ForSome (D.holds disk.old) (λ image. D.holds disk.new ≡ Some (written (writes_of bank.now rows.now) image))) }
-    ensures partly { IfErr result (λ n. ForSome (D.holds disk.old) (λ image. IsPartly (writes_of bank.now rows.now) image n (D.holds disk.new))) }
+    ensures done { OnOk result (ForSome (D.holds disk.old) (λ image. D.holds disk.new ≡ Some (written (writes_of_rows bank.now rows.now) image))) }
+    ensures partly { IfErr result (λ n. ForSome (D.holds disk.old) (λ image. IsPartly (writes_of_rows bank.now rows.now) image n (D.holds disk.new))) }
     ensures below { IfErr result (λ n. n < length rows.now) }
     ensures counted { CountsWrites (length rows.now) (D.writes disk.old) (D.writes disk.new) result }
     ensures size { D.size disk.new ≡ D.size disk.old }
@@ -100,7 +100,7 @@ fn write_each<D: Disk>(disk: &mut D, bank: &BlockBank, rows: &[Row]) -> Result<(
     // where a stop left just what the disk held
     ensures stops { D.tells_stops disk.old → ForSome (D.holds disk.old) (λ image. LeavesJust (D.may_leave disk.old) image
         → (t : ℕ) (stopped : Image) → t ≤ D.moment disk.old → D.left_since disk.new t stopped
-        → D.left_since disk.old t stopped ⊎ IsMixed (writes_of bank.now rows.now) image stopped) }
+        → D.left_since disk.old t stopped ⊎ IsMixed (writes_of_rows bank.now rows.now) image stopped) }
     ensures later { D.tells_stops disk.old → D.moment disk.old ≤ D.moment disk.new }
     ensures tells { D.tells_stops disk.old → D.tells_stops disk.new }
 {

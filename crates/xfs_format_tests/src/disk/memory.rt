@@ -7,7 +7,7 @@ use crate::checks::same;
 use crate::text::{Row, tells};
 use std::test::Fail;
 use xfs_disk::{
-    BLOCK_SIZE, Disk, Failed, Library, LibraryError, MemoryDisk, MemoryLibrary, MemorySink,
+    BLOCK_SIZE, Disk, Failed, Library, LibraryFault, MemoryDisk, MemoryLibrary, MemorySink,
     MemorySource, NoMemory, Sink, Source, Word,
 };
 
@@ -81,6 +81,6 @@ fn streams_keep_their_bytes(rt: HostRuntime) -> Result<(), Fail> {
     }
     let name = Word::from_vec(Vec::new(rt.alloc()));
     let mut library = MemoryLibrary::make();
-    assert!(rt; matches!(library.file(rt.alloc(), &name), Err(LibraryError::Missing)));
+    assert!(rt; matches!(library.file(rt.alloc(), &name), Err(LibraryFault::Missing)));
     Ok(())
 }

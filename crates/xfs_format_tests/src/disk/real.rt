@@ -8,7 +8,7 @@ use std::path::PathBuf;
 use std::test::Fail;
 use std::{env, fs, io, process};
 use xfs_disk::{
-    BLOCK_SIZE, Disk, Failed, FileDisk, FileLibrary, Library, LibraryError, Sink, Source,
+    BLOCK_SIZE, Disk, Failed, FileDisk, FileLibrary, Library, LibraryFault, Sink, Source,
     StreamSink, StreamSource, Word,
 };
 
@@ -134,15 +134,15 @@ fn a_library_reads_the_files_of_the_system(rt: HostRuntime) -> Result<(), Fail> 
         .unwrap_or(Vec::new(rt.alloc()));
     assert!(rt; bytes.as_slice() == b"mode 0644".as_slice());
     fs::remove_file(&rt, path.as_path())?;
-    assert!(rt; matches!(library.file(rt.alloc(), &name), Err(LibraryError::Missing)));
+    assert!(rt; matches!(library.file(rt.alloc(), &name), Err(LibraryFault::Missing)));
     let strange = word(rt.alloc(), b"\xff")?;
     assert!(rt;
         matches!(
             library.file(rt.alloc(), &strange),
-            Err(LibraryError::Failed)
+            Err(LibraryFault::Failed)
         )
     );
     let folder = word(rt.alloc(), env::temp_dir(&rt)?.as_str().as_bytes())?;
-    assert!(rt; matches!(library.file(rt.alloc(), &folder), Err(LibraryError::Failed)));
+    assert!(rt; matches!(library.file(rt.alloc(), &folder), Err(LibraryFault::Failed)));
     Ok(())
 }

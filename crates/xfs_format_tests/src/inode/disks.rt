@@ -80,7 +80,7 @@ fn reads(
     rt: &(impl Abort + AllocGlobal),
     disk: &mut MemoryDisk,
     key: &str,
-) -> Result<Result<FileRead, InodeError>, AllocError> {
+) -> Result<Result<FileRead, InodeFault>, AllocError> {
     assert!(rt; matches!(disk.blocks(), Ok(count) if 2048 <= count));
     let slot = slot_with(rt, key)?;
     Ok(read_counted::<MemoryDisk, Brand>(rt.alloc(), IDENTIFIER, disk, 131, &slot, Blank::new(1)))
@@ -106,7 +106,7 @@ fn is_named(rt: &(impl Abort + AllocGlobal)) -> Result<(), Fail> {
         Ok(
             Needs {
                 top: Some(top),
-                attr: None,
+                attr_leaf: None,
                 link: None,
             },
         ) => {

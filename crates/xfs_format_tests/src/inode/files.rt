@@ -134,10 +134,10 @@ fn read_rows(
     rt: &(impl Abort + AllocGlobal),
     rows: &str,
     tree: Option<&Tree<Bmbt>>,
-    attr: Option<&[u8]>,
+    attr_leaf: Option<&[u8]>,
     link: Option<&[u8]>,
 ) -> Result<(), AllocError>
-    requires attr { IfSome (option_copied attr) (λ block. length block ≡ 4096) }
+    requires attr_leaf { IfSome (option_copied attr_leaf) (λ block. length block ≡ 4096) }
     requires link { IfSome (option_copied link) (λ block. length block ≡ 4096) }
 {
     let g = geometry();
@@ -145,7 +145,7 @@ fn read_rows(
         let mut row = Row::new(line);
         let (case, due) = (row.text(), row.text());
         let slot = file_with(rt, row.text())?;
-        let read = settle(rt.alloc(), &g, 131, &slot, tree, attr, link);
+        let read = decide_file(rt.alloc(), &g, 131, &slot, tree, attr_leaf, link);
         tells(rt, &kind_of(rt, read), due, case);
     }
     Ok(())

@@ -42,7 +42,7 @@ fn same_attributes(rt: &impl Abort, attrs: &[Attr], due: &str) {
 fn same_file(rt: &(impl Abort + AllocGlobal), file: &FileRec, case: &str, mut due: Row) {
     tells(rt, &file.core, due.text(), case);
     tells(rt, &file.extents.as_slice(), due.text(), case);
-    tells(rt, &file.attr.as_slice(), due.text(), case);
+    tells(rt, &file.attr_extents.as_slice(), due.text(), case);
     tells(rt, &file.tree.as_slice(), due.text(), case);
     same!(rt; file.device, due.number(rt); case);
     same_attributes(rt, file.attrs.as_slice(), due.text());

@@ -11,7 +11,7 @@ use std::test::Fail;
 use xfs_disk::{Disk, Failed, MemoryDisk, NoMemory};
 use xfs_kinds::{Ino, Rmap};
 use xfs_runs::Steps;
-use xfs_tree::{Kind, Tree, TreeError, Unread, read_tree};
+use xfs_tree::{Kind, Tree, TreeFault, Unread, read_tree};
 use xfs_word::{Seal, SealKind, put_part, put16, put32, put64, seal};
 
 /// No sibling.
@@ -57,7 +57,7 @@ fn reading<K: Kind, L: Ledger>(
     root: &[u8; 4096],
     leaf: &[u8; 4096],
     blank: Blank,
-) -> Result<Tree<K>, TreeError>
+) -> Result<Tree<K>, TreeFault>
     requires name { blank.name ≡ L.name }
     requires parts { blank.parts ≡ L.parts }
     requires some { 0 < blank.parts }
@@ -65,11 +65,11 @@ fn reading<K: Kind, L: Ledger>(
     let mut steps = Steps::<L>::from_blank(blank);
     let mut disk = match MemoryDisk::make(alloc, 2048) {
         Ok(disk) => disk,
-        Err(NoMemory) => return Err(TreeError::NoMemory),
+        Err(NoMemory) => return Err(TreeFault::NoMemory),
     };
     match disk.write(20, root).and(disk.write(21, leaf)) {
         Ok(()) => read_tree(alloc, kind, &volume(), &mut disk, 20, 2, &mut steps),
-        Err(Failed) => Err(TreeError::ReadFault),
+        Err(Failed) => Err(TreeFault::ReadFault),
     }
 }
 
@@ -86,7 +86,7 @@ fn one_child_twice(rt: HostRuntime) {
     );
     let leaf = block(magic, 21, 0, 1, [NONE, 21], &[(56, 128), (60, 0x0000_4000)]);
     match reading::<Ino, Brand>(rt.alloc(), &Ino { ag: 0 }, &root, &leaf, Blank::new(1)) {
-        Err(fault) => same!(rt; fault, TreeError::Unread(Unread { block: 21, rule: 2 })),
+        Err(fault) => same!(rt; fault, TreeFault::Unread(Unread { block: 21, rule: 2 })),
         Ok(_) => assert!(rt; false),
     }
 }
@@ -119,7 +119,7 @@ fn keys_of_owners(rt: HostRuntime) {
         ];
         let root = block(magic, 20, 1, 1, [NONE, NONE], &keys);
         match reading::<Rmap, Brand>(rt.alloc(), &Rmap { ag: 0 }, &root, &leaf, Blank::new(1)) {
-            Err(fault) => same!(rt; fault, TreeError::Unread(Unread { block: 21, rule })),
+            Err(fault) => same!(rt; fault, TreeFault::Unread(Unread { block: 21, rule })),
             Ok(tree) => same!(rt; (tree.records.len(), rule), (1, 0)),
         }
     }

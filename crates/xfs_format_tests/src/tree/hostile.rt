@@ -13,7 +13,7 @@ use std::test::Fail;
 use xfs_disk::{Disk, Failed, MemoryDisk, NoMemory};
 use xfs_geom::Geometry;
 use xfs_runs::Steps;
-use xfs_tree::{Tree, TreeError, read_tree};
+use xfs_tree::{Tree, TreeFault, read_tree};
 use xfs_word::{Seal, SealKind, put_part, put16, put32, put64, seal};
 
 /// The identifier of the volume.
@@ -74,7 +74,7 @@ fn read<D: Disk, L: Ledger>(
     alloc: Global,
     disk: &mut D,
     blank: Blank,
-) -> Result<Tree<Numbers>, TreeError>
+) -> Result<Tree<Numbers>, TreeFault>
     requires name { blank.name ≡ L.name }
     requires parts { blank.parts ≡ L.parts }
     requires some { 0 < blank.parts }
@@ -99,10 +99,10 @@ fn reading(
     top: &[u8; 4096],
     left: &[u8; 4096],
     right: &[u8; 4096],
-) -> Result<Tree<Numbers>, TreeError> {
+) -> Result<Tree<Numbers>, TreeFault> {
     let mut disk = match MemoryDisk::make(alloc, 2048) {
         Ok(disk) => disk,
-        Err(NoMemory) => return Err(TreeError::NoMemory),
+        Err(NoMemory) => return Err(TreeFault::NoMemory),
     };
     match disk
         .write(20, top)
@@ -110,7 +110,7 @@ fn reading(
         .and(disk.write(22, right))
     {
         Ok(()) => read::<MemoryDisk, Brand>(alloc, &mut disk, Blank::new(1)),
-        Err(Failed) => Err(TreeError::ReadFault),
+        Err(Failed) => Err(TreeFault::ReadFault),
     }
 }
 
@@ -146,7 +146,7 @@ fn hostile(rt: HostRuntime) -> Result<(), Fail> {
             right[4000] = 1;
         }
         match reading(rt.alloc(), &top, &left, &right) {
-            Err(TreeError::Unread(fault)) => tells(&rt, &fault, row.text(), what),
+            Err(TreeFault::Unread(fault)) => tells(&rt, &fault, row.text(), what),
             _ => refuse(&rt, "this is not found", what),
         }
     }
@@ -168,7 +168,7 @@ fn each_block_is_read_once(rt: HostRuntime) -> Result<(), Fail> {
         Err(_) => assert!(rt; false),
     }
     match read::<MemoryDisk, Brand>(rt.alloc(), &mut disk, Blank::new(1)) {
-        Err(fault) => same!(rt; fault, TreeError::ReadFault),
+        Err(fault) => same!(rt; fault, TreeFault::ReadFault),
         Ok(_) => assert!(rt; false),
     }
     Ok(())

@@ -14,7 +14,7 @@ pub struct Numbers {
 
 impl Kind for Numbers {
     ghost use Rattle.std.proofs.Common.{rules, refl};
-    ghost use Rattle.xfs_format_tests.specs.Numbers.{numbers};
+    ghost use Rattle.xfs_format_tests.specs.Numbers.{numbers_shape};
     ghost use Rattle.xfs_format_tests.specs.NumberLaws.{numbers_kind};
 
     type Record = u32;
@@ -49,7 +49,7 @@ impl Kind for Numbers {
 
     ghost NODE_CAP = { 2 };
 
-    ghost shape = { λ k. numbers k.ag };
+    ghost shape = { λ k. numbers_shape k.ag };
 
     fn owner(&self) -> u64 {
         self.ag as u64

@@ -1,8 +1,7 @@
 //! A blank log: an unmount record at its start, and nothing else.
 
 ghost use Rattle.std.specs.Prelude.{◌≡◌, ℕ, ◌+◌, ◌-◌, ◌*◌, ◌^◌, ◌<◌, ◌≤◌, length};
-ghost use Rattle.xfs_word.specs.Field.{field_of, part_of, Keeps, KeepsParts};
-ghost use Rattle.xfs_heads.specs.Heads.{IsZero};
+ghost use Rattle.xfs_word.specs.Field.{field_of, part_of, KeepsBeside, KeepsParts, IsZero};
 ghost use Rattle.xfs_heads.specs.Log.{seen_of};
 ghost use Rattle.xfs_heads.specs.BlankLog.{IsBlankHeader, IsBlankData, IsBlankRest, IsBlank, blank_seen};
 
@@ -89,7 +88,7 @@ fn put_back(uuid: &[u8; 16], sector: &mut [u8])
     ensures fmt { field_of sector.new 300 4 ≡ 1 }
     ensures fs_uuid { part_of sector.new 304 16 ≡ uuid.now }
     ensures size { field_of sector.new 320 4 ≡ 32768 }
-    ensures keeps { Keeps sector.old sector.new 300 24 }
+    ensures keeps { KeepsBeside sector.old sector.new 300 24 }
     ensures keeps_parts { KeepsParts sector.old sector.new 300 24 }
 {
     put32(sector, FMT.offset, LITTLE_ENDIAN);

@@ -2,7 +2,7 @@
 
 ghost use Rattle.std.specs.Prelude.{◌≡◌, ℕ, ◌+◌, ◌*◌, ◌^◌, ◌<◌, ◌≤◌, ◌↔◌, length, IfSome};
 ghost use Rattle.std.specs.List.{list_all, prefix_len};
-ghost use Rattle.xfs_heads.specs.Log.{is_unwritten, is_of_cycle, first_cycle, last_header, nearest_header, is_unmount, ends_at, ends_in_unmount, is_unmounted, has_cleared_cycles, is_cleared, is_record, head_number, state_of, IsHead, IsAlone};
+ghost use Rattle.xfs_heads.specs.Log.{is_unwritten_sector, is_of_cycle, first_cycle, last_header, nearest_header, is_unmount, ends_at, ends_in_unmount, is_unmounted, has_cleared_cycles, is_cleared, is_record, head_number, state_of, IsHead, IsAlone};
 ghost use Rattle.xfs_heads.specs.BlankLog.{blank_log};
 ghost use Rattle.xfs_heads.specs.declared.log.state.LogState.TheVariants.{Clean};
 
@@ -52,7 +52,7 @@ fn find_state(seen: &[SectorSeen]) -> LogState
 
 /// Whether none of these sectors was ever written.
 fn are_unwritten(seen: &[SectorSeen]) -> bool
-    ensures { result ≡ list_all is_unwritten seen.now }
+    ensures { result ≡ list_all is_unwritten_sector seen.now }
 {
     for sector in seen {
         if sector.cycle != 0 || sector.header {

@@ -12,7 +12,7 @@ use std::process::Abort;
 use std::sync::ledger::{Blank, Ledger};
 use std::test::Fail;
 use std::thread::Threads;
-use xfs_claims::{Claims, FileClaim, Kept, keep};
+use xfs_claims::{Claims, FileClaim, KeptClaims, keep};
 use xfs_disk::NoMemory;
 use xfs_geom::Run;
 use xfs_runs::Steps;
@@ -96,7 +96,7 @@ pub(super) fn decide<R: Threads + Sync + Abort, L: Ledger>(
     claims: &Claims,
     steps: &mut Steps<L>,
     case: &str,
-) -> Result<Kept, NoMemory> {
+) -> Result<KeptClaims, NoMemory> {
     sure(rt, is_sound(alloc, claims)?, case);
     keep(rt, alloc, claims, steps)
 }

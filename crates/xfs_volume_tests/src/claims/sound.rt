@@ -2,8 +2,8 @@
 
 ghost use Rattle.std.specs.Prelude.{◌≡◌, true, map, IfOk, IsTrue};
 ghost use Rattle.std.specs.List.{All, list_all};
-ghost use Rattle.xfs_claims.specs.Spans.{are_apart, span_of, spans_of, AreApart, IsRun};
-ghost use Rattle.xfs_claims.specs.Ranks.{AreDifferent, first_block, inode_number, is_recorded, own_number};
+ghost use Rattle.xfs_claims.specs.Spans.{spans_apart, span_pair, spans_of, SpansApart, IsRun};
+ghost use Rattle.xfs_claims.specs.Ranks.{AreDifferent, first_block, claimed_number, is_recorded_cluster, own_number};
 ghost use Rattle.xfs_claims.specs.Keeping.{EndsLow, IsClaim};
 
 use std::alloc::{AllocError, Global};
@@ -29,7 +29,7 @@ fn are_runs(runs: &[Run]) -> bool
 fn is_apart_from(run: &Run, others: &[Run]) -> bool
     requires run { IsRun run.now }
     requires others { All IsRun others.now }
-    ensures { result ≡ list_all (are_apart (span_of run.now)) (spans_of others.now) }
+    ensures { result ≡ list_all (spans_apart (span_pair run.now)) (spans_of others.now) }
 {
     for other in others {
         if !is_apart(run, other) {
@@ -42,14 +42,14 @@ fn is_apart_from(run: &Run, others: &[Run]) -> bool
 fn is_apart(x: &Run, y: &Run) -> bool
     requires first { IsRun x.now }
     requires second { IsRun y.now }
-    ensures { result ≡ are_apart (span_of x.now) (span_of y.now) }
+    ensures { result ≡ spans_apart (span_pair x.now) (span_pair y.now) }
 {
     x.start + x.count <= y.start || y.start + y.count <= x.start
 }
 
 fn are_all_apart(runs: &[Run]) -> bool
     requires { All IsRun runs.now }
-    ensures { IsTrue result → AreApart (spans_of runs.now) }
+    ensures { IsTrue result → SpansApart (spans_of runs.now) }
 {
     for i in 0..runs.len() {
         if !is_apart_from(&runs[i], &runs[i + 1..]) {
@@ -89,7 +89,7 @@ fn end_low(clusters: &[ClusterRec]) -> bool
 }
 
 fn has_recorded(clusters: &[ClusterRec], block: u64) -> bool
-    ensures { result ≡ is_recorded clusters.now block }
+    ensures { result ≡ is_recorded_cluster clusters.now block }
 {
     clusters
         .iter()
@@ -126,7 +126,7 @@ fn blocks_of(alloc: Global, clusters: &[ClusterRec]) -> Result<Vec<u64>, AllocEr
 }
 
 fn files_differ(alloc: Global, files: &[FileClaim]) -> Result<bool, AllocError>
-    ensures { IfOk result (λ differ. IsTrue differ → AreDifferent inode_number files.now) }
+    ensures { IfOk result (λ differ. IsTrue differ → AreDifferent claimed_number files.now) }
 {
     let numbers = numbers_of(alloc, files)?;
     let all_differ = differ(alloc, &numbers)?;
@@ -134,19 +134,19 @@ fn files_differ(alloc: Global, files: &[FileClaim]) -> Result<bool, AllocError>
 }
 
 fn numbers_of(alloc: Global, files: &[FileClaim]) -> Result<Vec<u64>, AllocError>
-    ensures { IfOk result (λ numbers. numbers.items ≡ map inode_number files.now) }
+    ensures { IfOk result (λ numbers. numbers.items ≡ map claimed_number files.now) }
 {
     files.iter().map(|file| file.ino).collect(alloc)
 }
 
 /// Whether the claims can be decided.
 pub(super) fn is_sound(alloc: Global, claims: &Claims) -> Result<bool, AllocError>
-    ensures root { IfOk result (λ sound. IsTrue sound → is_recorded claims.now.clusters claims.now.root ≡ true) }
+    ensures root { IfOk result (λ sound. IsTrue sound → is_recorded_cluster claims.now.clusters claims.now.root ≡ true) }
     ensures clusters_end { IfOk result (λ sound. IsTrue sound → All (λ cluster. EndsLow cluster.block) claims.now.clusters) }
     ensures clusters_differ { IfOk result (λ sound. IsTrue sound → AreDifferent first_block claims.now.clusters) }
     ensures fixed_runs { IfOk result (λ sound. IsTrue sound → All IsRun claims.now.fixed) }
-    ensures fixed_apart { IfOk result (λ sound. IsTrue sound → AreApart (spans_of claims.now.fixed)) }
-    ensures files_differ { IfOk result (λ sound. IsTrue sound → AreDifferent inode_number claims.now.files) }
+    ensures fixed_apart { IfOk result (λ sound. IsTrue sound → SpansApart (spans_of claims.now.fixed)) }
+    ensures files_differ { IfOk result (λ sound. IsTrue sound → AreDifferent claimed_number claims.now.files) }
     ensures files_claim { IfOk result (λ sound. IsTrue sound → All IsClaim claims.now.files) }
 {
     let fixed = claims.fixed.as_slice();

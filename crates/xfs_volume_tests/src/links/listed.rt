@@ -2,7 +2,7 @@
 
 ghost use Rattle.std.specs.Prelude.{◌≡◌, ◌<◌, ◌^◌, true, IsTrue};
 ghost use Rattle.std.specs.List.{All};
-ghost use Rattle.xfs_links.specs.Entries.{AreFiles, AreEntries, Ascend, Group, is_directory};
+ghost use Rattle.xfs_links.specs.Entries.{AreFiles, AreEntries, NodesAscend, DirectoriesAscend, is_directory_number};
 
 use xfs_dirdata::EntryRec;
 use xfs_links::NodeRec;
@@ -12,7 +12,7 @@ const LIMIT: u64 = 1 << 32;
 pub fn are_listed(files: &[NodeRec], entries: &[EntryRec], root: u64) -> bool
     ensures files { IsTrue result → AreFiles files.now }
     ensures entries { IsTrue result → AreEntries files.now entries.now }
-    ensures root { IsTrue result → is_directory files.now root ≡ true }
+    ensures root { IsTrue result → is_directory_number files.now root ≡ true }
 {
     if files.len() as u64 >= LIMIT || !ascend(files) || !are_low(files) {
         return false;
@@ -24,13 +24,13 @@ pub fn are_listed(files: &[NodeRec], entries: &[EntryRec], root: u64) -> bool
 }
 
 fn is_known(files: &[NodeRec], ino: u64) -> bool
-    ensures { result ≡ is_directory files.now ino }
+    ensures { result ≡ is_directory_number files.now ino }
 {
     files.iter().any(|file| file.ino == ino && file.kind == 4)
 }
 
 fn ascend(files: &[NodeRec]) -> bool
-    ensures { IsTrue result → Ascend 0 files.now }
+    ensures { IsTrue result → NodesAscend 0 files.now }
 {
     let mut low = 0;
     for file in files {
@@ -49,7 +49,7 @@ fn are_low(files: &[NodeRec]) -> bool
 }
 
 fn are_grouped(entries: &[EntryRec]) -> bool
-    ensures { IsTrue result → Group 0 entries.now }
+    ensures { IsTrue result → DirectoriesAscend 0 entries.now }
 {
     let mut low = 0;
     for entry in entries {
@@ -62,7 +62,7 @@ fn are_grouped(entries: &[EntryRec]) -> bool
 }
 
 fn are_known(files: &[NodeRec], entries: &[EntryRec]) -> bool
-    ensures { IsTrue result → All (λ e. is_directory files.now e.dir ≡ true) entries.now }
+    ensures { IsTrue result → All (λ e. is_directory_number files.now e.dir ≡ true) entries.now }
 {
     for entry in entries {
         if !is_known(files, entry.dir) {

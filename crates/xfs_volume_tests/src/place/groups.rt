@@ -253,7 +253,7 @@ fn small_last_group(rt: HostRuntime) -> Result<(), Fail> {
     hold(&rt, &placed, FULL_LAST)?;
     let none = Vec::new(alloc);
     let found = place_beside(alloc, &SMALL_LAST, file(1029, 59), none, Vec::new(alloc), 1);
-    assert!(rt; matches!(found, Err(PlaceFault::NoRoom(Place::Group(1)))));
+    assert!(rt; matches!(found, Err(PlaceFault::NoRoom(Unplaced::Group(1)))));
     Ok(())
 }
 

@@ -87,11 +87,11 @@ fn objects_without_room(rt: HostRuntime) -> Result<(), Fail> {
         three_objects(alloc, 507)?,
         1,
     );
-    assert!(rt; matches!(found, Err(PlaceFault::NoRoom(Place::File(133)))));
+    assert!(rt; matches!(found, Err(PlaceFault::NoRoom(Unplaced::File(133)))));
     let directory = object(alloc, 131, ObjectKind::Directory, &[1, 1000])?;
     let objects = vec![in alloc; directory]?;
     let found = place_beside(alloc, &SMALLEST, root_chunk(), Vec::new(alloc), objects, 25);
-    assert!(rt; matches!(found, Err(PlaceFault::NoRoom(Place::Directory(131)))));
+    assert!(rt; matches!(found, Err(PlaceFault::NoRoom(Unplaced::Directory(131)))));
     Ok(())
 }
 

@@ -4,7 +4,7 @@ ghost use Rattle.std.specs.Prelude.{◌≡◌, ◌<◌, None, IsTrue};
 ghost use Rattle.std.specs.List.{All};
 ghost use Rattle.xfs_geom.specs.Volumes.{volume_of};
 ghost use Rattle.xfs_tree.specs.Rules.{are_lawful};
-ghost use Rattle.xfs_space.specs.Parts.{IsFile};
+ghost use Rattle.xfs_space.specs.Parts.{HasLawfulForks};
 
 use xfs_geom::Geometry;
 use xfs_kinds::Bmbt;
@@ -27,11 +27,11 @@ fn are_lawful<K: Kind>(kind: &K, g: &Geometry, records: &[K::Record]) -> bool
 
 /// Whether a file has lawful extents.
 fn is_file(g: &Geometry, file: &FileRec) -> bool
-    ensures { IsTrue result → IsFile (volume_of g.now) file.now }
+    ensures { IsTrue result → HasLawfulForks (volume_of g.now) file.now }
 {
     let kind = Bmbt { ino: file.ino };
     are_lawful(&kind, g, file.extents.as_slice())
-        && are_lawful(&kind, g, file.attr.as_slice())
+        && are_lawful(&kind, g, file.attr_extents.as_slice())
         && are_inside(g, file.tree.as_slice())
 }
 
@@ -44,7 +44,7 @@ fn are_inside(g: &Geometry, blocks: &[u64]) -> bool
 
 /// Whether the files have lawful extents.
 pub fn are_files(g: &Geometry, files: &[FileRec]) -> bool
-    ensures { IsTrue result → All (IsFile (volume_of g.now)) files.now }
+    ensures { IsTrue result → All (HasLawfulForks (volume_of g.now)) files.now }
 {
     for file in files {
         if !is_file(g, file) {

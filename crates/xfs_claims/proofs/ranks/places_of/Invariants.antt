@@ -1,6 +1,6 @@
 use Rattle.std.proofs.Common.{not}
-use Rattle.xfs_claims.specs.Keeping.{is_among}
-use Rattle.xfs_claims.specs.Places.{ArePlaces}
+use Rattle.xfs_disk.specs.Lists.{is_among}
+use Rattle.xfs_claims.specs.Private.Places.{ArePlaces}
 use Rattle.xfs_claims.proofs.ranks.places_of.Given as goal
 
 abbrev pub invariant-loop-at : goal.invariant-loop-at

@@ -1,7 +1,7 @@
 use Rattle.std.proofs.Common.{◌≡◌, ◌+◌, ℕ, List, [], drop, get_or, ap, subst, arith}
 use Rattle.std.proofs.Math.ListN.{drop_of_length-le}
 use Rattle.xfs_runs.specs.Blocks.{is_in}
-use Rattle.xfs_claims.specs.Spans.{span_of, spans_of}
+use Rattle.xfs_claims.specs.Spans.{span_pair, spans_of}
 use Rattle.xfs_claims.proofs.Gathered.{Taking, spans_next, taking_next, taken_all, no_run}
 use Rattle.xfs_claims.proofs.taking.take_runs.Goals as goal
 
@@ -10,7 +10,7 @@ loop-run-preserved g c =
     let runs = c.args.runs.now in
     let i = c.loop-run.run-index in (
       taking_next (is_in c.args.set.now) (is_in c.loop-run.set) (is_in c.add.new.self) (spans_of runs) (spans_of (drop i runs)) (spans_of (drop (i + 1) runs))
-          (span_of (get_or runs i no_run)) (spans_next runs i no_run c.loop-run-test.true) c.loop-run.invariant.0 c.in_ok-add.ensures.blocks,
+          (span_pair (get_or runs i no_run)) (spans_next runs i no_run c.loop-run-test.true) c.loop-run.invariant.0 c.in_ok-add.ensures.blocks,
       omega (arith, c.loop-run.invariant.1, c.in_ok-add.ensures.ticks),
     )
 

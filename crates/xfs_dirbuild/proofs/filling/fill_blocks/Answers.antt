@@ -3,8 +3,8 @@ use Rattle.std.proofs.lemmas.List.{take_rest, take_all}
 use Rattle.xfs_dirdata.specs.Written.{first_entries, placed_entries, offsets}
 use Rattle.xfs_dirindex.specs.declared.pairs.Pair.{Pair}
 use Rattle.xfs_dirindex.specs.Data.{due_pairs}
-use Rattle.xfs_dirbuild.specs.Filling.{shares, all_entries, pairs_from, rest_in}
-use Rattle.xfs_dirbuild.specs.Blocks.{data_block, blocks_in}
+use Rattle.xfs_dirbuild.specs.Filling.{filled_shares, all_entries, pairs_from, rest_in}
+use Rattle.xfs_dirbuild.specs.Blocks.{data_block, bank_part}
 use Rattle.xfs_dirbuild.proofs.Filled.{later, filled-some, filled-front, next-share}
 use Rattle.xfs_dirbuild.proofs.FillSteps.{left-on, room-on, pairs-on, rests-on, blocks-on, bytes-on, all-done, next-block}
 use Rattle.xfs_dirbuild.proofs.filling.fill_blocks.Goals as goal
@@ -16,7 +16,7 @@ fill_block-requires-clause-inside c =
 pub loop-start-init : goal.loop-start-init
 loop-start-init c =
     let es = c.args.entries.now in
-    let ss = shares c.args.dir c.args.parent es in
+    let ss = filled_shares c.args.dir c.args.parent es in
     let taken = c.in_ok-start.start in
     let first : Option (ℕ × ℕ) = Some (c.args.dir, c.args.parent) in
     let x = placed_entries first es taken in
@@ -44,20 +44,20 @@ loop-start-init c =
 
 pub fill_block-requires-in-loop-start-clause-inside : goal.fill_block-requires-in-loop-start-clause-inside
 fill_block-requires-in-loop-start-clause-inside c =
-    let ss = shares c.args.dir c.args.parent c.args.entries.now in
+    let ss = filled_shares c.args.dir c.args.parent c.args.entries.now in
     let more = next-block ss c.loop-start.number c.loop-start.start c.args.entries.now c.loop-start.invariant.left c.loop-start-test.true in
     omega (arith, more, c.requires.room, c.loop-start.invariant.count)
 
 pub fill_block-requires-in-loop-start-clause-low : goal.fill_block-requires-in-loop-start-clause-low
 fill_block-requires-in-loop-start-clause-low c =
-    let ss = shares c.args.dir c.args.parent c.args.entries.now in
+    let ss = filled_shares c.args.dir c.args.parent c.args.entries.now in
     let more = next-block ss c.loop-start.number c.loop-start.start c.args.entries.now c.loop-start.invariant.left c.loop-start-test.true in
     omega (arith, more, c.requires.low)
 
 pub loop-start-preserved : goal.loop-start-preserved
 loop-start-preserved c =
     let es = c.args.entries.now in
-    let ss = shares c.args.dir c.args.parent es in
+    let ss = filled_shares c.args.dir c.args.parent es in
     let start = c.loop-start.start in
     let n = c.loop-start.number in
     let taken = c.in_ok-taken.taken in
@@ -92,19 +92,19 @@ loop-start-smaller c =
 
 pub returns-clause-rests : goal.returns-clause-rests
 returns-clause-rests c =
-    let ss = shares c.args.dir c.args.parent c.args.entries.now in
+    let ss = filled_shares c.args.dir c.args.parent c.args.entries.now in
     let end = all-done ss c.loop-start.number c.loop-start.start c.args.entries.now c.loop-start.invariant.left c.loop-start-test.false c.loop-start.invariant.number_in in
     c.loop-start.invariant.rests ∙ ap (map rest_in) (take_all c.loop-start.number ss (omega (arith, end)))
 
 pub returns-clause-blocks : goal.returns-clause-blocks
 returns-clause-blocks c =
-    let ss = shares c.args.dir c.args.parent c.args.entries.now in
+    let ss = filled_shares c.args.dir c.args.parent c.args.entries.now in
     let end = all-done ss c.loop-start.number c.loop-start.start c.args.entries.now c.loop-start.invariant.left c.loop-start-test.false c.loop-start.invariant.number_in in
     λ k inside. c.loop-start.invariant.blocks_are k (omega (arith, end))
 
 pub returns-clause-bytes : goal.returns-clause-bytes
 returns-clause-bytes c =
-    let ss = shares c.args.dir c.args.parent c.args.entries.now in
+    let ss = filled_shares c.args.dir c.args.parent c.args.entries.now in
     let end = all-done ss c.loop-start.number c.loop-start.start c.args.entries.now c.loop-start.invariant.left c.loop-start-test.false c.loop-start.invariant.number_in in
-    ap (blocks_in c.loop-start.blocks 0) (sym end)
+    ap (bank_part c.loop-start.blocks 0) (sym end)
     ∙ (c.loop-start.invariant.bytes_are ∙ ap (map data_block) (take_all c.loop-start.number ss (omega (arith, end))))

@@ -1,8 +1,8 @@
 use Rattle.std.proofs.Common.{ℕ, ◌≡◌, ◌∙◌, ◌-◌, List, [], ◌∷◌, sym, subst, ap, Some, arith, inl, inr, length}
-use Rattle.xfs_word.specs.Field.{part_of}
+use Rattle.xfs_word.specs.Field.{part_of, zeros}
 use Rattle.xfs_word.proofs.Written.{keeps, keeps_parts}
 use Rattle.xfs_word.proofs.Register.{AreBytes}
-use Rattle.xfs_dirdata.specs.Written.{zeros, placed_entries, written_area}
+use Rattle.xfs_dirdata.specs.Written.{placed_entries, written_area}
 use Rattle.xfs_dirdata.specs.Bytes.{big_endian, data_bytes}
 use Rattle.xfs_dirdata.proofs.Spelling.{Lie, parts-join, number-part}
 use Rattle.xfs_dirbuild.specs.Blocks.{data_block}

@@ -2,7 +2,7 @@ use Rattle.std.proofs.Common.{◌≡◌, ◌+◌, ◌<◌, ℕ, List, ◌∷◌,
 use Rattle.std.proofs.lemmas.List.{drop_all, drop_more}
 use Rattle.xfs_dirdata.specs.declared.records.EntryRec.{EntryRec}
 use Rattle.xfs_dirdata.specs.Sizes.{data_size}
-use Rattle.xfs_dirdata.specs.Written.{IsWritable, data_size_of}
+use Rattle.xfs_dirdata.specs.Written.{IsWritableEntry, data_size_of}
 use Rattle.xfs_dirbuild.specs.Forms.{data_count}
 use Rattle.xfs_dirbuild.specs.Filling.{filled}
 use Rattle.xfs_dirbuild.proofs.Filled.{filled-end, counted-full, counted-fits}
@@ -17,7 +17,7 @@ loop-entry-preserved c =
     let inside : i < length es = omega arith in
     let step : drop i es ≡ e ∷ drop (i + 1) es = drop_more es i e inside ∙ ap (λ (x : EntryRec). x ∷ drop (i + 1) es) (sym c.entry-item.is) in
     let size : c.data_size-size.result ≡ data_size_of e = c.data_size-size.ensures.value ∙ ap (λ (n : List ℕ). data_size (length n)) c.bytes.ensures in
-    let writable : IsWritable e = subst IsWritable (sym c.entry-item.is) (c.requires.writable i e inside) in
+    let writable : IsWritableEntry e = subst IsWritableEntry (sym c.entry-item.is) (c.requires.writable i e inside) in
     let name : length e.name < 256 = writable.name in
     elim c.if-used-size-gt-BLOCK_SIZE.branch [
       | then-used-size-gt-BLOCK_SIZE w ↦ record {

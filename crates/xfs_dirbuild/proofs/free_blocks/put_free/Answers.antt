@@ -1,7 +1,6 @@
 use Rattle.std.proofs.Common.{rules, ◌≡◌, ℕ, ◌+◌, ◌-◌, ◌*◌, List, [], ◌∷◌, length, sym, ◌∙◌, ap, arith}
-use Rattle.xfs_word.specs.Field.{part_of}
+use Rattle.xfs_word.specs.Field.{part_of, zeros}
 use Rattle.xfs_word.proofs.Register.{AreBytes}
-use Rattle.xfs_dirdata.specs.Written.{zeros}
 use Rattle.xfs_dirdata.specs.Bytes.{big_endian}
 use Rattle.xfs_dirdata.proofs.Spelling.{total, Lie, parts-join, number-part}
 use Rattle.xfs_dirbuild.specs.Index.{AreValues}

@@ -1,10 +1,9 @@
 use Rattle.std.proofs.Common.{rules, ◌≡◌, ℕ, ◌+◌, ◌-◌, ◌*◌, List, [], ◌∷◌, length, sym, ◌∙◌, ap, arith}
-use Rattle.xfs_word.specs.Field.{part_of}
+use Rattle.xfs_word.specs.Field.{part_of, zeros}
 use Rattle.xfs_word.proofs.Register.{AreBytes}
-use Rattle.xfs_dirdata.specs.Written.{zeros}
 use Rattle.xfs_dirdata.specs.Bytes.{big_endian}
 use Rattle.xfs_dirdata.proofs.Spelling.{total, Lie, parts-join, number-part}
-use Rattle.xfs_dirindex.specs.IndexTree.{form_of}
+use Rattle.xfs_dirindex.specs.IndexTree.{magic_of_level}
 use Rattle.xfs_dirbuild.specs.Blocks.{pairs_bytes, index_block}
 use Rattle.xfs_dirbuild.proofs.BlockBytes.{blank-part, part-all, pairs-part}
 use Rattle.xfs_dirbuild.proofs.index_blocks.put_index.Goals as goal
@@ -23,7 +22,7 @@ returns-clause-bytes c =
     let rest : part_of c.args.block.now (64 + 8 * length c.args.pairs.now) (4032 - 8 * length c.args.pairs.now) ≡ zeros (4032 - 8 * length c.args.pairs.now) =
     blank-part 4096 old (64 + 8 * n) (4032 - 8 * n) c.requires.blank (omega arith) in
     let parts : List (ℕ × List ℕ) =
-    (4, big_endian 4 c.args.next) ∷ (4, big_endian 4 c.args.before) ∷ (2, big_endian 2 (form_of c.args.level)) ∷ (46, zeros 46) ∷ (2, big_endian 2 n)
+    (4, big_endian 4 c.args.next) ∷ (4, big_endian 4 c.args.before) ∷ (2, big_endian 2 (magic_of_level c.args.level)) ∷ (46, zeros 46) ∷ (2, big_endian 2 n)
     ∷ (2, big_endian 2 c.args.level) ∷ (4, zeros 4) ∷ (8 * n, pairs_bytes pairs) ∷ (4032 - 8 * n, zeros (4032 - 8 * n)) ∷ [] in
     let whole : 4096 ≡ total parts = omega arith in
     let lie : Lie block 0 parts = (
@@ -31,7 +30,7 @@ returns-clause-bytes c =
       (
         number-part block 4 4 c.args.before all (omega arith) (search rules),
         (
-          number-part block 8 2 (form_of c.args.level) all (omega arith) (search rules),
+          number-part block 8 2 (magic_of_level c.args.level) all (omega arith) (search rules),
           (
             (search rules),
             (

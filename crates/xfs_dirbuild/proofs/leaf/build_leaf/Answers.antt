@@ -4,11 +4,11 @@ use Rattle.std.proofs.lemmas.List.{length-map, length-replicate}
 use Rattle.std.proofs.lemmas.Bool.{leb-true}
 use Rattle.xfs_dirindex.specs.declared.pairs.Pair.{Pair}
 use Rattle.xfs_dirbuild.specs.Forms.{fits_leaf, data_count}
-use Rattle.xfs_dirbuild.specs.Filling.{shares, rest_in}
+use Rattle.xfs_dirbuild.specs.Filling.{filled_shares, rest_in}
 use Rattle.xfs_dirbuild.specs.Index.{IsLeafBlock, IsIndexed}
-use Rattle.xfs_dirbuild.specs.Placed.{IsDataBlock}
+use Rattle.xfs_dirbuild.specs.Placed.{IsBuiltDataBlock}
 use Rattle.xfs_dirbuild.specs.Filling.{pairs_from}
-use Rattle.xfs_dirbuild.specs.Blocks.{leaf_block, index_of, dir_blocks, blocks_in}
+use Rattle.xfs_dirbuild.specs.Blocks.{leaf_block, index_of, dir_blocks, bank_part}
 use Rattle.xfs_dirbuild.proofs.InRank.{ranked-is}
 use Rattle.xfs_dirbuild.proofs.Sections.{section-push, section-all}
 use Rattle.xfs_dirbuild.proofs.Banks.{put-there, put-beside, put-count}
@@ -30,7 +30,7 @@ fill_blocks-requires-clause-low c =
 pub put_leaf-requires-clause-fit : goal.put_leaf-requires-clause-fit
 unfolding fits_leaf
 put_leaf-requires-clause-fit c =
-    let ss = shares c.args.dir c.args.parent c.args.entries.now in
+    let ss = filled_shares c.args.dir c.args.parent c.args.entries.now in
     let fits : 64 + 8 * (length c.args.entries.now + 2) + 2 * data_count c.args.entries.now + 4 ≤ 4096 = leb-true _ _ c.requires.fits in
     omega (
       arith,
@@ -49,7 +49,7 @@ unfolding fits_leaf
 returns-clause-whole c =
     λ placed are.
     let es = c.args.entries.now in
-    let ss = shares c.args.dir c.args.parent es in
+    let ss = filled_shares c.args.dir c.args.parent es in
     let d = c.data_count-data.result in
     let old = c.fill_blocks.new.blocks in
     let new = c.put_block.new.blocks in
@@ -75,14 +75,14 @@ returns-clause-whole c =
     (λ k less.
     let low : k < c.data_count-data.result = omega (arith, value) in
     let inside : k < length ss = omega (arith, count) in
-    subst (λ (b : List ℕ). IsDataBlock (get_or ss k []) b) (sym (put-beside old new d k block is (inl low))) (c.in_ok-stated.ensures.blocks k inside))
+    subst (λ (b : List ℕ). IsBuiltDataBlock (get_or ss k []) b) (sym (put-beside old new d k block is (inl low))) (c.in_ok-stated.ensures.blocks k inside))
     leaf fit
     (subst (λ (ps : List Pair). IsPermutation ps pairs) c.in_ok-stated.ensures.pairs c.in_ok-sort_pairs.ensures.moved)
     c.in_ok-sort_pairs.ensures.ranked c.in_ok-sort_pairs.ensures.sound are
 
 pub returns-clause-magics : goal.returns-clause-magics
 returns-clause-magics c =
-    let ss = shares c.args.dir c.args.parent c.args.entries.now in
+    let ss = filled_shares c.args.dir c.args.parent c.args.entries.now in
     let d = c.data_count-data.result in
     let old = c.fill_blocks.new.blocks in
     let new = c.put_block.new.blocks in
@@ -96,7 +96,7 @@ returns-clause-magics c =
     record {
       data_blocks = λ k less.
           let low : k < c.data_count-data.result = omega (arith, value) in
-          data-magic (get_or new k []) (subst (λ (b : List ℕ). IsDataBlock (get_or ss k []) b) (sym (put-beside old new d k block is (inl low)))
+          data-magic (get_or new k []) (subst (λ (b : List ℕ). IsBuiltDataBlock (get_or ss k []) b) (sym (put-beside old new d k block is (inl low)))
           (c.in_ok-stated.ensures.blocks k (omega (arith, count)))).magic;
       index_blocks = λ k less.
           let place : c.data_count-data.result ≡ data_count c.args.entries.now + k = omega (arith, value) in
@@ -108,7 +108,7 @@ returns-clause-magics c =
 pub returns-clause-bytes : goal.returns-clause-bytes
 unfolding dir_blocks
 returns-clause-bytes c =
-    let ss = shares c.args.dir c.args.parent c.args.entries.now in
+    let ss = filled_shares c.args.dir c.args.parent c.args.entries.now in
     let d = c.data_count-data.result in
     let old = c.fill_blocks.new.blocks in
     let new = c.put_block.new.blocks in
@@ -131,4 +131,4 @@ returns-clause-bytes c =
     sym (section-all new (d + 1) (put-count old new d block is ∙ old_long))
     ∙ (section-push old new 0 d block (put-count old new d block is) room
     (λ k less. put-beside old new d (0 + k) block is (inl (omega arith))) put
-    ∙ ap₂ (λ (bs : List (List ℕ)) (b : List ℕ). bs ++ b ∷ []) (ap (blocks_in old 0) (sym count) ∙ c.in_ok-stated.ensures.bytes) leaf)
+    ∙ ap₂ (λ (bs : List (List ℕ)) (b : List ℕ). bs ++ b ∷ []) (ap (bank_part old 0) (sym count) ∙ c.in_ok-stated.ensures.bytes) leaf)

@@ -3,12 +3,12 @@ use Rattle.std.specs.List.Sorted.{IsPermutation}
 use Rattle.std.proofs.lemmas.List.{length-replicate, length-map}
 use Rattle.xfs_dirindex.specs.declared.pairs.Pair.{Pair}
 use Rattle.xfs_dirbuild.specs.Forms.{data_count, tree_count, value_blocks, nodes_above, leaf_blocks}
-use Rattle.xfs_dirbuild.specs.Filling.{shares, rest_in}
-use Rattle.xfs_dirbuild.specs.Index.{IsIndexed, Holds, IsTreeOf}
-use Rattle.xfs_dirbuild.specs.FreeBlocks.{IsFreeBlock, values_in}
-use Rattle.xfs_dirbuild.specs.Placed.{IsDataBlock}
+use Rattle.xfs_dirbuild.specs.Filling.{filled_shares, rest_in}
+use Rattle.xfs_dirbuild.specs.Index.{IsIndexed, HoldsIndex, IsTreeOf}
+use Rattle.xfs_dirbuild.specs.FreeBlocks.{IsBuiltFreeBlock, values_in}
+use Rattle.xfs_dirbuild.specs.Placed.{IsBuiltDataBlock}
 use Rattle.xfs_dirbuild.specs.Filling.{pairs_from}
-use Rattle.xfs_dirbuild.specs.Blocks.{data_block, tree_blocks, free_blocks, index_of, dir_blocks, blocks_in}
+use Rattle.xfs_dirbuild.specs.Blocks.{data_block, index_tree_blocks, free_index_blocks, index_of, dir_blocks, bank_part}
 use Rattle.xfs_dirbuild.proofs.InRank.{ranked-is}
 use Rattle.xfs_dirbuild.proofs.Sections.{section-join, section-same, section-all}
 use Rattle.xfs_dirbuild.proofs.Rows.{holds-part}
@@ -35,7 +35,7 @@ put_free_blocks-requires-clause-few c =
       arith,
       shares-count c.args.dir c.args.parent c.args.entries.now,
       data_count-bound c.args.entries.now c.requires.writable c.requires.few,
-      length-map (shares c.args.dir c.args.parent c.args.entries.now) rest_in,
+      length-map (filled_shares c.args.dir c.args.parent c.args.entries.now) rest_in,
       ap length c.in_ok-stated.ensures.rests,
       ap length c.deref-2.ensures.value,
     )
@@ -50,7 +50,7 @@ put_free_blocks-requires-clause-room c =
       arith,
       shares-count c.args.dir c.args.parent c.args.entries.now,
       c.data_count-data.ensures.value,
-      length-map (shares c.args.dir c.args.parent c.args.entries.now) rest_in,
+      length-map (filled_shares c.args.dir c.args.parent c.args.entries.now) rest_in,
       ap length c.in_ok-stated.ensures.rests,
       ap length c.deref-2.ensures.value,
     ) in
@@ -76,7 +76,7 @@ returns-clause-whole c =
     λ placed are.
     let es = c.args.entries.now in
     let n = length c.args.entries.now + 2 in
-    let ss = shares c.args.dir c.args.parent es in
+    let ss = filled_shares c.args.dir c.args.parent es in
     let filled = c.fill_blocks.new.blocks in
     let treed = c.put_tree.new.blocks in
     let new = c.put_free_blocks.new.blocks in
@@ -102,12 +102,12 @@ returns-clause-whole c =
     let inside : k < length ss = omega (arith, count) in
     let low : k < c.data_count-data.result + c.tree_count-index.result = omega (arith, value) in
     let front : k < c.data_count-data.result = omega (arith, value) in
-    subst (λ (b : List ℕ). IsDataBlock (get_or ss k []) b) (sym (c.put_free_blocks.ensures.others k low ∙ c.in_ok-put_tree.ensures.others k front))
+    subst (λ (b : List ℕ). IsBuiltDataBlock (get_or ss k []) b) (sym (c.put_free_blocks.ensures.others k low ∙ c.in_ok-put_tree.ensures.others k front))
     (c.in_ok-stated.ensures.blocks k inside))
     (λ ms holds.
-    let mine : Holds ms treed c.data_count-data.result 0 (tree_count (length c.deref.result.now)) =
-    subst (λ (t : ℕ). Holds ms treed c.data_count-data.result 0 t) (sym size)
-    (subst (λ (b : ℕ). Holds ms treed b 0 (tree_count (length c.args.entries.now + 2))) (sym value)
+    let mine : HoldsIndex ms treed c.data_count-data.result 0 (tree_count (length c.deref.result.now)) =
+    subst (λ (t : ℕ). HoldsIndex ms treed c.data_count-data.result 0 t) (sym size)
+    (subst (λ (b : ℕ). HoldsIndex ms treed b 0 (tree_count (length c.args.entries.now + 2))) (sym value)
     (holds-part ms treed new (data_count es) 0 (tree_count (length c.args.entries.now + 2)) 0 (tree_count (length c.args.entries.now + 2)) holds (omega arith) (omega arith)
     (λ k less. c.put_free_blocks.ensures.others (data_count es + 0 + k) (omega (arith, value, index))))) in
     subst (λ (ps : List Pair). IsTreeOf ms (tree_count (length c.args.entries.now + 2)) ps) deref
@@ -116,8 +116,8 @@ returns-clause-whole c =
     let blocks : value_blocks (length c.deref-2.result.now) ≡ value_blocks (data_count es) = ap value_blocks values_long in
     let inside : k < value_blocks (length c.deref-2.result.now) = omega (arith, blocks) in
     let place : c.data_count-data.result + c.tree_count-index.result + k ≡ data_count es + tree_count (length c.args.entries.now + 2) + k = omega (arith, value, index) in
-    subst (λ (p : ℕ). IsFreeBlock (2016 * k) (values_in (map rest_in ss) k) (get_or new p [])) place
-    (subst (λ (vs : List ℕ). IsFreeBlock (2016 * k) (values_in vs k) (get_or new (c.data_count-data.result + c.tree_count-index.result + k) [])) rests
+    subst (λ (p : ℕ). IsBuiltFreeBlock (2016 * k) (values_in (map rest_in ss) k) (get_or new p [])) place
+    (subst (λ (vs : List ℕ). IsBuiltFreeBlock (2016 * k) (values_in vs k) (get_or new (c.data_count-data.result + c.tree_count-index.result + k) [])) rests
     (c.put_free_blocks.ensures.blocks k inside)))
     (subst (λ (ps : List Pair). IsPermutation ps pairs) c.in_ok-stated.ensures.pairs c.in_ok-sort_pairs.ensures.moved)
     c.in_ok-sort_pairs.ensures.ranked c.in_ok-sort_pairs.ensures.sound are
@@ -125,7 +125,7 @@ returns-clause-whole c =
 pub returns-clause-magics : goal.returns-clause-magics
 returns-clause-magics c =
     let es = c.args.entries.now in
-    let ss = shares c.args.dir c.args.parent es in
+    let ss = filled_shares c.args.dir c.args.parent es in
     let new = c.put_free_blocks.new.blocks in
     let value : c.data_count-data.result ≡ data_count c.args.entries.now = c.data_count-data.ensures.value in
     let count = shares-count c.args.dir c.args.parent es in
@@ -140,7 +140,7 @@ returns-clause-magics c =
       data_blocks = λ k less.
           let low : k < c.data_count-data.result + c.tree_count-index.result = omega (arith, value) in
           let front : k < c.data_count-data.result = omega (arith, value) in
-          data-magic (get_or new k []) (subst (λ (b : List ℕ). IsDataBlock (get_or ss k []) b) (sym (c.put_free_blocks.ensures.others k low ∙ c.in_ok-put_tree.ensures.others k front))
+          data-magic (get_or new k []) (subst (λ (b : List ℕ). IsBuiltDataBlock (get_or ss k []) b) (sym (c.put_free_blocks.ensures.others k low ∙ c.in_ok-put_tree.ensures.others k front))
           (c.in_ok-stated.ensures.blocks k (omega (arith, count)))).magic;
       index_blocks = λ k less.
           let low : c.data_count-data.result + k < c.data_count-data.result + c.tree_count-index.result = omega (arith, index) in
@@ -151,13 +151,13 @@ returns-clause-magics c =
           let inside : k < value_blocks (length c.deref-2.result.now) = omega (arith, blocks) in
           let place : c.data_count-data.result + c.tree_count-index.result + k ≡ data_count es + tree_count (length c.args.entries.now + 2) + k = omega (arith, value, index) in
           free-magic (get_or new (data_count es + tree_count (length c.args.entries.now + 2) + k) [])
-          (subst (λ (p : ℕ). IsFreeBlock (2016 * k) (values_in c.deref-2.result.now k) (get_or new p [])) place (c.put_free_blocks.ensures.blocks k inside)).magic;
+          (subst (λ (p : ℕ). IsBuiltFreeBlock (2016 * k) (values_in c.deref-2.result.now k) (get_or new p [])) place (c.put_free_blocks.ensures.blocks k inside)).magic;
     }
 
 pub returns-clause-bytes : goal.returns-clause-bytes
 unfolding dir_blocks
 returns-clause-bytes c =
-    let ss = shares c.args.dir c.args.parent c.args.entries.now in
+    let ss = filled_shares c.args.dir c.args.parent c.args.entries.now in
     let d = c.data_count-data.result in
     let t = c.tree_count-index.result in
     let v = c.value_blocks.result in
@@ -181,17 +181,17 @@ returns-clause-bytes c =
     c.tree_count-index.ensures ∙ ap tree_count (sym (ap length c.deref.ensures.value ∙ pairs_long)) in
     let free_size : c.value_blocks.result ≡ value_blocks (length c.deref-2.result.now) =
     c.value_blocks.ensures ∙ ap value_blocks (sym (ap length rests ∙ (length-map ss rest_in ∙ count))) in
-    let first : blocks_in new 0 d ≡ map data_block ss =
+    let first : bank_part new 0 d ≡ map data_block ss =
     section-same treed new 0 d c.put_free_blocks.ensures.count (omega (arith, treed_long)) (λ k less. c.put_free_blocks.ensures.others (0 + k) (omega arith))
     ∙ (section-same filled treed 0 d c.in_ok-put_tree.ensures.count (omega (arith, filled_long)) (λ k less. c.in_ok-put_tree.ensures.others (0 + k) (omega arith))
-    ∙ (ap (blocks_in filled 0) (sym count) ∙ c.in_ok-stated.ensures.bytes)) in
-    let second : blocks_in new (0 + d) t ≡ tree_blocks (index_of ss) =
-    ap (λ (a : ℕ). blocks_in new a t) (omega arith)
+    ∙ (ap (bank_part filled 0) (sym count) ∙ c.in_ok-stated.ensures.bytes)) in
+    let second : bank_part new (0 + d) t ≡ index_tree_blocks (index_of ss) =
+    ap (λ (a : ℕ). bank_part new a t) (omega arith)
     ∙ (section-same treed new d t c.put_free_blocks.ensures.count (omega (arith, treed_long)) (λ k less. c.put_free_blocks.ensures.others (d + k) (omega arith))
-    ∙ (ap (blocks_in treed d) tree_size ∙ (c.in_ok-put_tree.ensures.bytes ∙ ap tree_blocks deref))) in
-    let third : blocks_in new (0 + d + t) v ≡ free_blocks (map rest_in ss) =
-    ap (λ (a : ℕ). blocks_in new a v) (omega arith)
-    ∙ (ap (blocks_in new (d + t)) free_size ∙ (c.put_free_blocks.ensures.bytes ∙ ap free_blocks rests)) in
+    ∙ (ap (bank_part treed d) tree_size ∙ (c.in_ok-put_tree.ensures.bytes ∙ ap index_tree_blocks deref))) in
+    let third : bank_part new (0 + d + t) v ≡ free_index_blocks (map rest_in ss) =
+    ap (λ (a : ℕ). bank_part new a v) (omega arith)
+    ∙ (ap (bank_part new (d + t)) free_size ∙ (c.put_free_blocks.ensures.bytes ∙ ap free_index_blocks rests)) in
     let whole : d + (t + v) ≡ d + t + v = omega arith in
     sym (section-all new (d + (t + v)) (c.put_free_blocks.ensures.count ∙ (treed_long ∙ sym whole)))
     ∙ (section-join new 0 d (t + v)

@@ -7,7 +7,7 @@ use Rattle.xfs_dirindex.specs.declared.pairs.Pair.{Pair}
 use Rattle.xfs_dirindex.specs.Data.{due_pairs}
 use Rattle.xfs_dirbuild.specs.Forms.{fits_single}
 use Rattle.xfs_dirbuild.specs.Filling.{all_entries}
-use Rattle.xfs_dirbuild.specs.SingleBlock.{IsSingleBlock}
+use Rattle.xfs_dirbuild.specs.Private.SingleBlock.{IsSingleBlock}
 use Rattle.xfs_dirbuild.specs.Filling.{pairs_from}
 use Rattle.xfs_dirbuild.specs.Blocks.{single_block, index_of, dir_blocks}
 use Rattle.std.proofs.lemmas.List.{append-nil}

@@ -1,12 +1,12 @@
 use Rattle.std.proofs.Common.{rules, ◌≡◌, ℕ, ◌+◌, ◌-◌, ◌<◌, ◌≤◌, List, [], ◌∷◌, ◌++◌, Option, Some, length, refl, inl, inr, arith, sym, ◌∙◌, ap, subst, take, replicate}
-use Rattle.xfs_word.specs.Field.{field_of, part_of}
+use Rattle.xfs_word.specs.Field.{field_of, part_of, zeros}
 use Rattle.xfs_word.proofs.Written.{keeps, keeps_parts}
 use Rattle.xfs_word.proofs.Register.{AreBytes}
 use Rattle.std.proofs.lemmas.Bool.{cases_lt}
 use Rattle.std.proofs.lemmas.List.{take_all}
 use Rattle.std.proofs.lemmas.List.Sums.{sum_by-append, sum_by-take-le}
 use Rattle.xfs_dirdata.specs.declared.records.EntryRec.{EntryRec}
-use Rattle.xfs_dirdata.specs.Written.{zeros, first_entries, data_size_of, data_length}
+use Rattle.xfs_dirdata.specs.Written.{first_entries, data_size_of, data_length}
 use Rattle.xfs_dirdata.specs.Bytes.{big_endian, data_bytes}
 use Rattle.xfs_dirdata.proofs.Spelling.{total, Lie, parts-join, number-part}
 use Rattle.xfs_dirbuild.specs.Filling.{all_entries}

@@ -3,11 +3,12 @@ use Rattle.std.specs.List.{All, range_with_len}
 use Rattle.std.proofs.lemmas.List.{append-nil, length_push}
 use Rattle.std.proofs.lemmas.List.Elements.{All-push, All-take, All-drop}
 use Rattle.std.proofs.lemmas.Bool.Decides.{nat_tests}
+use Rattle.xfs_disk.specs.Shares.{share_of, first_of_share}
 use Rattle.xfs_dirindex.specs.declared.pairs.Pair.{Pair}
 use Rattle.xfs_dirindex.specs.Mapped.{Mapped}
-use Rattle.xfs_dirindex.specs.IndexTree.{places_of, are_members, pairs_below}
-use Rattle.xfs_dirbuild.specs.Index.{IsPointer, IsIndexed, next_at, share_of, first_of, Holds}
-use Rattle.xfs_dirbuild.specs.Blocks.{row_block, row_blocks, link_at, links_of, blocks_in}
+use Rattle.xfs_dirindex.specs.IndexTree.{pairs_of_places, are_members, pairs_below}
+use Rattle.xfs_dirbuild.specs.Index.{IsPointer, IsIndexed, next_at, HoldsIndex}
+use Rattle.xfs_dirbuild.specs.Blocks.{row_block, row_blocks, link_at, index_links, bank_part}
 use Rattle.xfs_dirbuild.proofs.Banks.{put-there, put-beside, put-count}
 use Rattle.xfs_dirbuild.proofs.Shares.{share_next, share_some, share_most}
 use Rattle.xfs_dirbuild.proofs.Magics.{indexed, next-small, indexed-more}
@@ -24,7 +25,7 @@ loop-i-init c =
       members = λ ms holds rest next is.
           subst (λ (ls : List Pair). are_members ms false c.args.level 0 (ls ++ rest) ≡ true) (sym none) is;
       below = λ ms holds. ap (pairs_below ms) none;
-      places = ap places_of none ∙ sym (places-none c.args.first);
+      places = ap pairs_of_places none ∙ sym (places-none c.args.first);
       pointers = λ k d inside. absurd (omega (arith, ap length none));
       indexed = λ k inside. absurd (omega arith);
       row = none;
@@ -59,7 +60,7 @@ loop-i-preserved c =
     let new = c.put_block.new.blocks in
     let at = c.args.base + c.args.first + i in
     let inside : i < m = c.loop-i-test.true in
-    let start_is : start ≡ first_of (length c.args.pairs.now) c.args.count c.loop-i.i = c.loop-i.invariant.start_is in
+    let start_is : start ≡ first_of_share (length c.args.pairs.now) c.args.count c.loop-i.i = c.loop-i.invariant.start_is in
     let share_is : share ≡ share_of (length c.args.pairs.now) c.args.count c.loop-i.i = c.share_of-share.ensures in
     let long = share-long pairs m i start share start_is share_is inside in
     let here = share-is pairs m i start share start_is share_is in
@@ -79,7 +80,7 @@ loop-i-preserved c =
       hash = c.link_to.ensures.hash;
       address = c.link_to.ensures.address;
     } in
-    let before_holds = λ (ms : List Mapped) (holds : Holds ms c.put_block.new.blocks c.args.base c.args.first (c.loop-i.i + 1)).
+    let before_holds = λ (ms : List Mapped) (holds : HoldsIndex ms c.put_block.new.blocks c.args.base c.args.first (c.loop-i.i + 1)).
     holds-part ms old new c.args.base c.args.first i c.args.first (i + 1) holds (omega arith) (omega arith)
     (λ k less. put-beside old new at (c.args.base + c.args.first + k) block is (inl (omega arith))) in
     record {
@@ -95,7 +96,7 @@ loop-i-preserved c =
           ∙ row-below ms c.args.level c.before_at-before.result c.next_at-next.result start share pairs c.loop-i.links.items x
           (seen ms new c.args.base c.args.first i c.args.level c.before_at-before.result c.next_at-next.result share part x block written put holds)
           (c.loop-i.invariant.below ms (before_holds ms holds));
-      places = ap places_of links ∙ places-more c.loop-i.links.items x c.args.first i c.loop-i.invariant.places c.link_to.ensures.address;
+      places = ap pairs_of_places links ∙ places-more c.loop-i.links.items x c.args.first i c.loop-i.invariant.places c.link_to.ensures.address;
       pointers = subst (λ (ls : List Pair). All IsPointer ls) (sym links)
           (All-push IsPointer c.loop-i.links.items x c.loop-i.invariant.pointers
           (record { some = omega (arith, c.link_to.ensures.address); fits = omega (arith, c.link_to.ensures.address, c.requires.low, c.loop-i-test.true) }));
@@ -125,11 +126,11 @@ returns-clause-members c =
     λ ms holds.
     let end : c.loop-i.i ≡ c.args.count = omega arith in
     let last : 0 ≡ next_at c.args.first c.args.count c.loop-i.i = grind (arith, nat_tests) in
-    let mine : Holds ms c.loop-i.blocks c.args.base c.args.first c.loop-i.i = subst (λ (n : ℕ). Holds ms c.loop-i.blocks c.args.base c.args.first n) (sym end) holds in
+    let mine : HoldsIndex ms c.loop-i.blocks c.args.base c.args.first c.loop-i.i = subst (λ (n : ℕ). HoldsIndex ms c.loop-i.blocks c.args.base c.args.first n) (sym end) holds in
     subst (λ (ls : List Pair). are_members ms false c.args.level 0 ls ≡ true) (append-nil c.loop-i.links.items) (c.loop-i.invariant.members ms mine [] last refl)
 
 pub returns-clause-row : goal.returns-clause-row
-unfolding links_of
+unfolding index_links
 returns-clause-row c =
     let end : c.loop-i.i ≡ c.args.count = omega arith in
     subst (λ (n : ℕ). c.loop-i.links.items ≡ map (link_at c.args.first c.args.count c.args.pairs.now) (range_with_len 0 n)) end c.loop-i.invariant.row
@@ -138,5 +139,5 @@ pub returns-clause-bytes : goal.returns-clause-bytes
 unfolding row_blocks
 returns-clause-bytes c =
     let end : c.loop-i.i ≡ c.args.count = omega arith in
-    subst (λ (n : ℕ). blocks_in c.loop-i.blocks (c.args.base + c.args.first) n ≡ map (row_block c.args.level c.args.first c.args.count c.args.pairs.now) (range_with_len 0 n))
+    subst (λ (n : ℕ). bank_part c.loop-i.blocks (c.args.base + c.args.first) n ≡ map (row_block c.args.level c.args.first c.args.count c.args.pairs.now) (range_with_len 0 n))
     end c.loop-i.invariant.bytes_are

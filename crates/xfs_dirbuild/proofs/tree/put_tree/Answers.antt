@@ -1,7 +1,7 @@
 use Rattle.std.proofs.Common.{◌≡◌, ℕ, ◌+◌, ◌<◌, ◌≤◌, inr, List, [], length, get_or, refl, sym, ◌∙◌, ap, ap₂, subst, arith}
 use Rattle.xfs_dirbuild.specs.Forms.{tree_count}
-use Rattle.xfs_dirbuild.specs.Index.{IsIndexed, places_in, IsTreeOf}
-use Rattle.xfs_dirbuild.specs.Blocks.{row_blocks, links_of}
+use Rattle.xfs_dirbuild.specs.Index.{IsIndexed, leaf_places, IsTreeOf}
+use Rattle.xfs_dirbuild.specs.Blocks.{row_blocks, index_links}
 use Rattle.xfs_dirbuild.proofs.Sections.{section-same}
 use Rattle.xfs_dirbuild.proofs.TreeBytes.{row-none, rows-join, rows-are}
 use Rattle.xfs_dirbuild.proofs.Magics.{indexed-join}
@@ -29,7 +29,7 @@ returns-then-nodes-eq0-clause-tree c =
     let mine = holds-part ms bank bank base (tops + nodes) leaves 0 (tree_count n) holds (omega arith) (omega (arith, all)) (λ k less. refl) in
     subst (λ (t : ℕ). IsTreeOf ms t c.args.pairs.now) (sym total)
     (tree-one ms c.args.pairs.now c.in_ok-below.below.items (c.in_ok-below.ensures.members ms mine)
-    (c.in_ok-below.ensures.places ∙ ap₂ places_in none one) (c.in_ok-below.ensures.below ms mine))
+    (c.in_ok-below.ensures.places ∙ ap₂ leaf_places none one) (c.in_ok-below.ensures.below ms mine))
 
 pub returns-then-tops-eq0-clause-tree : goal.returns-then-tops-eq0-clause-tree
 returns-then-tops-eq0-clause-tree c =
@@ -52,8 +52,8 @@ returns-then-tops-eq0-clause-tree c =
     let upper = holds-part ms bank bank base tops nodes 0 (tree_count n) holds (omega arith) (omega (arith, all)) (λ k less. refl) in
     subst (λ (t : ℕ). IsTreeOf ms t c.args.pairs.now) (sym total)
     (tree-two ms leaves c.args.pairs.now c.in_ok-below.below.items c.in_ok-upper.upper.items (c.in_ok-below.ensures.members ms lower)
-    (c.in_ok-below.ensures.places ∙ ap (λ (a : ℕ). places_in a c.leaf_blocks-leaves.result) first) (c.in_ok-below.ensures.below ms lower)
-    (c.in_ok-upper.ensures.members ms upper) (c.in_ok-upper.ensures.places ∙ ap₂ places_in none one)
+    (c.in_ok-below.ensures.places ∙ ap (λ (a : ℕ). leaf_places a c.leaf_blocks-leaves.result) first) (c.in_ok-below.ensures.below ms lower)
+    (c.in_ok-upper.ensures.members ms upper) (c.in_ok-upper.ensures.places ∙ ap₂ leaf_places none one)
     (c.in_ok-upper.ensures.below ms upper ∙ c.deref.ensures.value))
 
 pub returns-clause-tree : goal.returns-clause-tree
@@ -82,10 +82,10 @@ returns-clause-tree c =
     let upper = holds-part ms bank bank base 0 tops 0 (tree_count n) holds (omega arith) (omega (arith, all)) (λ k less. refl) in
     subst (λ (t : ℕ). IsTreeOf ms t c.args.pairs.now) (sym total)
     (tree-three ms nodes leaves c.args.pairs.now c.in_ok-below.below.items c.in_ok-upper.upper.items c.in_ok-put_row.field-0.items
-    (c.in_ok-below.ensures.members ms lower) (c.in_ok-below.ensures.places ∙ ap (λ (a : ℕ). places_in a c.leaf_blocks-leaves.result) first)
+    (c.in_ok-below.ensures.members ms lower) (c.in_ok-below.ensures.places ∙ ap (λ (a : ℕ). leaf_places a c.leaf_blocks-leaves.result) first)
     (c.in_ok-below.ensures.below ms lower) (c.in_ok-upper.ensures.members ms middle)
-    (c.in_ok-upper.ensures.places ∙ ap (λ (a : ℕ). places_in a c.nodes_above-nodes.result) one) (c.in_ok-upper.ensures.below ms middle ∙ c.deref.ensures.value)
-    (c.in_ok-put_row.ensures.members ms upper) (c.in_ok-put_row.ensures.places ∙ ap (places_in 0) one) (c.in_ok-put_row.ensures.below ms upper ∙ c.deref-2.ensures.value))
+    (c.in_ok-upper.ensures.places ∙ ap (λ (a : ℕ). leaf_places a c.nodes_above-nodes.result) one) (c.in_ok-upper.ensures.below ms middle ∙ c.deref.ensures.value)
+    (c.in_ok-put_row.ensures.members ms upper) (c.in_ok-put_row.ensures.places ∙ ap (leaf_places 0) one) (c.in_ok-put_row.ensures.below ms upper ∙ c.deref-2.ensures.value))
 
 -- all blocks of a tree, by its rows
 all-rows : (n tops nodes leaves base : ℕ) (bank : List (List ℕ)) → tree_count n ≡ tops + nodes + leaves
@@ -152,8 +152,8 @@ returns-then-nodes-eq0-clause-bytes c =
     let all = total-is n leaves nodes tops c.leaf_blocks-leaves.ensures c.nodes_above-nodes.ensures c.nodes_above-tops.ensures in
     let above = above-most nodes tops c.nodes_above-tops.ensures in
     let none : c.nodes_above-tops.result ≡ 0 = omega (arith, above, c.if-nodes-eq0.true) in
-    rows-join bank base tops nodes leaves (tree_count n) pairs below (links_of tops nodes below) all
-    (row-none bank (base + 0) 2 0 tops (links_of tops nodes below) none) (row-none bank (base + tops) 1 tops nodes below c.if-nodes-eq0.true)
+    rows-join bank base tops nodes leaves (tree_count n) pairs below (index_links tops nodes below) all
+    (row-none bank (base + 0) 2 0 tops (index_links tops nodes below) none) (row-none bank (base + tops) 1 tops nodes below c.if-nodes-eq0.true)
     c.in_ok-below.ensures.bytes c.in_ok-below.ensures.row refl
     ∙ rows-are pairs leaves nodes tops c.leaf_blocks-leaves.ensures c.nodes_above-nodes.ensures c.nodes_above-tops.ensures
 
@@ -173,8 +173,8 @@ returns-then-tops-eq0-clause-bytes c =
     omega (arith, all, c.requires.room, c.in_ok-below.ensures.count) in
     let stays = section-same row bank (base + (tops + nodes)) leaves c.in_ok-upper.ensures.count room
     (λ k less. c.in_ok-upper.ensures.others (c.args.base + (c.nodes_above-tops.result + c.nodes_above-nodes.result) + k) (inr (omega arith))) in
-    rows-join bank base tops nodes leaves (tree_count n) pairs below (links_of tops nodes below) all
-    (row-none bank (base + 0) 2 0 tops (links_of tops nodes below) c.if-tops-eq0.true)
+    rows-join bank base tops nodes leaves (tree_count n) pairs below (index_links tops nodes below) all
+    (row-none bank (base + 0) 2 0 tops (index_links tops nodes below) c.if-tops-eq0.true)
     (c.in_ok-upper.ensures.bytes ∙ ap (row_blocks 1 tops nodes) c.deref.ensures.value)
     (stays ∙ c.in_ok-below.ensures.bytes) c.in_ok-below.ensures.row refl
     ∙ rows-are pairs leaves nodes tops c.leaf_blocks-leaves.ensures c.nodes_above-nodes.ensures c.nodes_above-tops.ensures
@@ -208,5 +208,5 @@ returns-clause-bytes c =
     (c.in_ok-put_row.ensures.bytes ∙ ap (row_blocks 2 0 tops) c.deref-2.ensures.value)
     (middle ∙ (c.in_ok-upper.ensures.bytes ∙ ap (row_blocks 1 tops nodes) c.deref.ensures.value))
     (low ∙ c.in_ok-below.ensures.bytes) c.in_ok-below.ensures.row
-    (c.in_ok-upper.ensures.row ∙ ap (links_of tops nodes) c.deref.ensures.value)
+    (c.in_ok-upper.ensures.row ∙ ap (index_links tops nodes) c.deref.ensures.value)
     ∙ rows-are pairs leaves nodes tops c.leaf_blocks-leaves.ensures c.nodes_above-nodes.ensures c.nodes_above-tops.ensures

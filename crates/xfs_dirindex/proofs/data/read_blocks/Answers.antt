@@ -3,7 +3,7 @@ use Rattle.std.specs.List.{flat_map, list_all}
 use Rattle.std.proofs.lemmas.List.{append-nil, drop_all}
 use Rattle.xfs_dirindex.specs.declared.pairs.Pair.{Pair}
 use Rattle.xfs_dirindex.specs.declared.data.Best.{Best}
-use Rattle.xfs_dirindex.specs.Mapped.{Mapped, block_of, mapped, is_data}
+use Rattle.xfs_dirindex.specs.Mapped.{Mapped, mapped_block, mapped, is_data}
 use Rattle.xfs_dirindex.specs.Data.{is_later, are_data, pairs_in, all_pairs, best_in, all_bests}
 use Rattle.xfs_dirindex.proofs.Gathered.{mapped-step, length-mapped, gathered-step, joins_pairs, joins_bests, on_unsound, sound-first, sound-later, unsound-later, first-data, only-pairs, only-best}
 use Rattle.xfs_dirindex.proofs.data.read_blocks.Goals as goal
@@ -13,7 +13,7 @@ unfolding all_pairs all_bests
 loop-i-init c =
     let dir = c.args.dir.now.dir in
     let ms : List Mapped = mapped c.args.dir.now.offsets.items c.args.dir.now.blocks in
-    let m : Mapped = block_of c.index.result.now c.view-first.result.now in
+    let m : Mapped = mapped_block c.index.result.now c.view-first.result.now in
     let some : 0 < length c.args.dir.now.offsets.items = omega arith in
     let step : ms ≡ m ∷ drop 1 ms = mapped-step c.args.dir.now.offsets.items c.args.dir.now.blocks 0 c.index.result.now c.view-first.result.now some c.index.ensures c.view-first.ensures.block in
     let kind = first-data dir m c.in-Ok.ensures.sound in
@@ -29,7 +29,7 @@ pub loop-i-preserved : goal.loop-i-preserved
 loop-i-preserved c =
     let dir = c.args.dir.now.dir in
     let ms : List Mapped = mapped c.args.dir.now.offsets.items c.args.dir.now.blocks in
-    let m : Mapped = block_of c.index-in-loop-i.result.now c.view-block.result.now in
+    let m : Mapped = mapped_block c.index-in-loop-i.result.now c.view-block.result.now in
     let inside : c.loop-i.i < length c.args.dir.now.offsets.items = omega arith in
     let step : drop c.loop-i.i ms ≡ m ∷ drop (c.loop-i.i + 1) ms =
     mapped-step c.args.dir.now.offsets.items c.args.dir.now.blocks c.loop-i.i c.index-in-loop-i.result.now c.view-block.result.now inside c.index-in-loop-i.ensures c.view-block.ensures.block in
@@ -67,7 +67,7 @@ pub returns-in-Err-take_later-clause-unsound : goal.returns-in-Err-take_later-cl
 returns-in-Err-take_later-clause-unsound c =
     let dir = c.args.dir.now.dir in
     let ms : List Mapped = mapped c.args.dir.now.offsets.items c.args.dir.now.blocks in
-    let m : Mapped = block_of c.index-in-loop-i.result.now c.view-block.result.now in
+    let m : Mapped = mapped_block c.index-in-loop-i.result.now c.view-block.result.now in
     let inside : c.loop-i.i < length c.args.dir.now.offsets.items = omega arith in
     let step : drop c.loop-i.i ms ≡ m ∷ drop (c.loop-i.i + 1) ms =
     mapped-step c.args.dir.now.offsets.items c.args.dir.now.blocks c.loop-i.i c.index-in-loop-i.result.now c.view-block.result.now inside c.index-in-loop-i.ensures c.view-block.ensures.block in

@@ -1,7 +1,7 @@
 use Rattle.std.proofs.Common.{◌≡◌, ◌+◌, ◌<◌, ◌≤◌, List, ◌∷◌, length, drop, arith, sym, ap, ◌∙◌}
 use Rattle.std.specs.List.{list_all}
 use Rattle.std.proofs.lemmas.List.{drop_all}
-use Rattle.xfs_dirindex.specs.Mapped.{Mapped, block_of, mapped}
+use Rattle.xfs_dirindex.specs.Mapped.{Mapped, mapped_block, mapped}
 use Rattle.xfs_dirindex.specs.FreeBlocks.{is_free_sound}
 use Rattle.xfs_dirindex.proofs.Gathered.{mapped-step, length-mapped}
 use Rattle.xfs_dirindex.proofs.Levels.{all-step, all-stop}
@@ -10,7 +10,7 @@ use Rattle.xfs_dirindex.proofs.free_blocks.are_sound.Goals as goal
 pub returns-then-not-is_free_sound : goal.returns-then-not-is_free_sound
 returns-then-not-is_free_sound c =
     let ms : List Mapped = mapped c.args.dir.now.offsets.items c.args.dir.now.blocks in
-    let m : Mapped = block_of c.index.result.now c.view.result.now in
+    let m : Mapped = mapped_block c.index.result.now c.view.result.now in
     let inside : c.loop-i.i < length c.args.dir.now.offsets.items = omega arith in
     let step : drop c.loop-i.i ms ≡ m ∷ drop (c.loop-i.i + 1) ms =
     mapped-step c.args.dir.now.offsets.items c.args.dir.now.blocks c.loop-i.i c.index.result.now c.view.result.now inside c.index.ensures c.view.ensures.block in
@@ -19,7 +19,7 @@ returns-then-not-is_free_sound c =
 pub loop-i-preserved : goal.loop-i-preserved
 loop-i-preserved c =
     let ms : List Mapped = mapped c.args.dir.now.offsets.items c.args.dir.now.blocks in
-    let m : Mapped = block_of c.index.result.now c.view.result.now in
+    let m : Mapped = mapped_block c.index.result.now c.view.result.now in
     let inside : c.loop-i.i < length c.args.dir.now.offsets.items = omega arith in
     let step : drop c.loop-i.i ms ≡ m ∷ drop (c.loop-i.i + 1) ms =
     mapped-step c.args.dir.now.offsets.items c.args.dir.now.blocks c.loop-i.i c.index.result.now c.view.result.now inside c.index.ensures c.view.ensures.block in

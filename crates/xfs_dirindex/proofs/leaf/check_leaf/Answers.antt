@@ -2,7 +2,7 @@ use Rattle.std.proofs.Common.{◌≡◌, ℕ, ◌+◌, ◌*◌, ◌<◌, ◌≤�
 use Rattle.std.proofs.lemmas.Bool.{and_from, and_left, and_right, eq-eqb, ne_eqb}
 use Rattle.std.proofs.lemmas.Option.{slice_get-get_or}
 use Rattle.xfs_dirindex.specs.declared.data.Best.{Best}
-use Rattle.xfs_dirindex.specs.Mapped.{block_of, mapped, is_beyond}
+use Rattle.xfs_dirindex.specs.Mapped.{mapped_block, mapped, is_beyond}
 use Rattle.xfs_dirindex.specs.Data.{all_bests}
 use Rattle.xfs_dirindex.specs.Leaf.{end_of}
 use Rattle.xfs_dirindex.proofs.Split.{bests-rise, leaf-is, leaf-several, leaf-answer}
@@ -26,7 +26,7 @@ returns-then-index-ne-INDEX_START-clause-unsound c =
     let one : length c.args.dir.now.blocks ≡ c.len-data_blocks.result + 1 = omega (arith, c.len.ensures.count, c.if-len-data_blocks.false) in
     let inside : c.len-data_blocks.result < length c.args.dir.now.blocks = omega arith in
     let b : List ℕ = get_or c.args.dir.now.blocks c.len-data_blocks.result [] in
-    let only : filter is_beyond ms ≡ block_of c.index.result.now b ∷ [] =
+    let only : filter is_beyond ms ≡ mapped_block c.index.result.now b ∷ [] =
     leaf-is dir c.args.dir.now.size c.args.dir.now.offsets.items c.args.dir.now.blocks c.len-data_blocks.result c.index.result.now b
     c.requires.ascending c.requires.mapped count one c.index.ensures (slice_get-get_or c.args.dir.now.blocks c.len-data_blocks.result [] inside) in
     leaf-answer dir c.args.dir.now.size ms c.in-Ok.taken.bests.items c.in-Ok.taken.due.items c.index.result.now b
@@ -46,7 +46,7 @@ returns-then-branch-clause-whole c =
     let bests : length c.in-Ok.taken.bests.items ≡ length (all_bests dir ms) = ap (λ (xs : List Best). length xs) c.in-Ok.ensures.bests in
     let count : c.len-data_blocks.result ≡ length (all_bests dir ms) = omega (arith, c.deref.ensures.len, c.len-data_blocks.ensures) in
     let one : length c.args.dir.now.blocks ≡ c.len-data_blocks.result + 1 = omega (arith, c.len.ensures.count, c.if-len-data_blocks.false) in
-    let only : filter is_beyond ms ≡ block_of c.index.result.now c.view.result.now ∷ [] =
+    let only : filter is_beyond ms ≡ mapped_block c.index.result.now c.view.result.now ∷ [] =
     leaf-is dir c.args.dir.now.size c.args.dir.now.offsets.items c.args.dir.now.blocks c.len-data_blocks.result c.index.result.now c.view.result.now
     c.requires.ascending c.requires.mapped count one c.index.ensures c.view.ensures.block in
     let size : (c.args.dir.now.size == 4096 * end_of c.in-Ok.taken.bests.items) ≡ true =
@@ -63,7 +63,7 @@ returns-clause-unsound c =
     let bests : length c.in-Ok.taken.bests.items ≡ length (all_bests dir ms) = ap (λ (xs : List Best). length xs) c.in-Ok.ensures.bests in
     let count : c.len-data_blocks.result ≡ length (all_bests dir ms) = omega (arith, c.deref.ensures.len, c.len-data_blocks.ensures) in
     let one : length c.args.dir.now.blocks ≡ c.len-data_blocks.result + 1 = omega (arith, c.len.ensures.count, c.if-len-data_blocks.false) in
-    let only : filter is_beyond ms ≡ block_of c.index.result.now c.view.result.now ∷ [] =
+    let only : filter is_beyond ms ≡ mapped_block c.index.result.now c.view.result.now ∷ [] =
     leaf-is dir c.args.dir.now.size c.args.dir.now.offsets.items c.args.dir.now.blocks c.len-data_blocks.result c.index.result.now c.view.result.now
     c.requires.ascending c.requires.mapped count one c.index.ensures c.view.ensures.block in
     leaf-answer dir c.args.dir.now.size ms c.in-Ok.taken.bests.items c.in-Ok.taken.due.items c.index.result.now c.view.result.now

@@ -1,9 +1,9 @@
 use Rattle.std.proofs.Common.{◌∙◌, subst, arith}
 use Rattle.xfs_geom.specs.Volumes.{volume_of}
-use Rattle.xfs_image.specs.Directories.{block_in, blocks_of}
+use Rattle.xfs_image.specs.Directories.{file_block_at, blocks_of_extent}
 use Rattle.xfs_disk.proofs.Reading.{reads_on}
 use Rattle.xfs_tree.proofs.Rest.{rest_none, rest_of}
-use Rattle.xfs_dirs.specs.Gathered.{AreBelow, found_of, with_blocks}
+use Rattle.xfs_dirs.specs.Gathered.{AreBelow, found_of, with_file_blocks}
 use Rattle.xfs_dirs.proofs.Extents.{is_inside}
 use Rattle.xfs_dirs.proofs.Taken.{block_next, no_block}
 use Rattle.xfs_dirs.proofs.blocks.read_extent.Goals as goal
@@ -38,7 +38,7 @@ loop-i-preserved g c =
     record {
       ends = before.ends;
       found = λ image told. block_next v c.args.dir image e c.loop-i.i c.start_of-start.result c.read.new.into (found_of c.loop-i.gathered) (found_of c.take_block.new.gathered)
-          (with_blocks v c.args.dir (found_of c.args.gathered.now) (blocks_of v image e))
+          (with_file_blocks v c.args.dir (found_of c.args.gathered.now) (blocks_of_extent v image e))
           (omega arith) c.start_of-start.ensures (read.bytes image (before.disk.same_contents ∙ told)) c.in-Ok-take_block.ensures.found (before.found image told);
       below = subst (AreBelow c.take_block.new.gathered.kept) (omega arith) c.in-Ok-take_block.ensures.below;
       block = c.read.auto.into ∙ before.block;
@@ -49,6 +49,6 @@ loop-i-preserved g c =
 
 pub returns-clause-found : goal.returns-clause-found
 returns-clause-found g c = λ image told.
-    no_block (volume_of c.args.g.now) c.args.dir (rest_of c.loop-i.i c.args.extent.now.count (block_in (volume_of c.args.g.now) image c.args.extent.now)) (found_of c.loop-i.gathered)
-    (with_blocks (volume_of c.args.g.now) c.args.dir (found_of c.args.gathered.now) (blocks_of (volume_of c.args.g.now) image c.args.extent.now))
-    (rest_none c.loop-i.i c.args.extent.now.count (block_in (volume_of c.args.g.now) image c.args.extent.now) (omega arith)) (c.loop-i.invariant.found image told)
+    no_block (volume_of c.args.g.now) c.args.dir (rest_of c.loop-i.i c.args.extent.now.count (file_block_at (volume_of c.args.g.now) image c.args.extent.now)) (found_of c.loop-i.gathered)
+    (with_file_blocks (volume_of c.args.g.now) c.args.dir (found_of c.args.gathered.now) (blocks_of_extent (volume_of c.args.g.now) image c.args.extent.now))
+    (rest_none c.loop-i.i c.args.extent.now.count (file_block_at (volume_of c.args.g.now) image c.args.extent.now) (omega arith)) (c.loop-i.invariant.found image told)

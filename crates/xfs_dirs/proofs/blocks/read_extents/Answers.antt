@@ -4,7 +4,7 @@ use Rattle.xfs_word.specs.declared.extents.Extent.{Extent}
 use Rattle.xfs_geom.specs.Volumes.{volume_of}
 use Rattle.xfs_disk.proofs.Reading.{reads_on}
 use Rattle.xfs_inode.specs.Files.{are_extents}
-use Rattle.xfs_dirs.specs.Gathered.{blocks_in, found_of, nothing, with_blocks}
+use Rattle.xfs_dirs.specs.Gathered.{blocks_in_extents, found_of, found_nothing, with_file_blocks}
 use Rattle.xfs_dirs.proofs.Order.{before_next, extents_rest}
 use Rattle.xfs_dirs.proofs.Taken.{extent_next, none_next}
 use Rattle.xfs_dirs.proofs.blocks.read_extents.Goals as goal
@@ -26,7 +26,7 @@ loop-extent-preserved g c =
     let lawful : are_extents v None (e ∷ drop (i + 1) es) ≡ true = subst (λ (xs : List Extent). are_extents v None xs ≡ true) split before.lawful in
     record {
       found = λ image told. extent_next v c.args.dir image e (drop i es) (drop (i + 1) es) (found_of c.loop-extent.gathered) (found_of c.read_extent.new.gathered)
-          (with_blocks v c.args.dir nothing (blocks_in v image es)) split
+          (with_file_blocks v c.args.dir found_nothing (blocks_in_extents v image es)) split
           (read.found image (before.disk.same_contents ∙ told)) (before.found image told);
       lawful = extents_rest v e (drop (i + 1) es) lawful;
       before = before_next v c.read_extent.new.gathered.kept e (drop (i + 1) es) lawful read.below;
@@ -37,5 +37,5 @@ loop-extent-preserved g c =
 pub returns-clause-found : goal.returns-clause-found
 returns-clause-found g c = λ image told.
     none_next (volume_of c.args.g.now) c.args.dir image (drop c.loop-extent.extent-index c.args.extents.now) (found_of c.loop-extent.gathered)
-    (with_blocks (volume_of c.args.g.now) c.args.dir nothing (blocks_in (volume_of c.args.g.now) image c.args.extents.now))
+    (with_file_blocks (volume_of c.args.g.now) c.args.dir found_nothing (blocks_in_extents (volume_of c.args.g.now) image c.args.extents.now))
     (at_drop_all (λ (xs : List Extent). xs) c.args.extents.now c.loop-extent.extent-index (omega arith)) (c.loop-extent.invariant.found image told)

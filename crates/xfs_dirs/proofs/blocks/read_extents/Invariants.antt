@@ -3,15 +3,15 @@ use Rattle.std.specs.Option.{ForSome}
 use Rattle.xfs_geom.specs.Volumes.{volume_of}
 use Rattle.xfs_disk.specs.Reads.{OnlyReads}
 use Rattle.xfs_inode.specs.Files.{are_extents}
-use Rattle.xfs_dirs.specs.Gathered.{blocks_in, found_of, nothing, with_blocks}
+use Rattle.xfs_dirs.specs.Gathered.{blocks_in_extents, found_of, found_nothing, with_file_blocks}
 use Rattle.xfs_dirs.proofs.Order.{AreBefore}
 use Rattle.xfs_dirs.proofs.blocks.read_extents.Given as goal
 
 abbrev pub invariant-loop-extent : goal.invariant-loop-extent
 invariant-loop-extent g l = record {
   found : ForSome (g.D.Disk.holds l.fn.disk) (λ image.
-      with_blocks (volume_of l.g) l.dir (found_of l.gathered) (blocks_in (volume_of l.g) image (drop l.extent-index l.extents))
-      ≡ with_blocks (volume_of l.g) l.dir nothing (blocks_in (volume_of l.g) image l.extents));
+      with_file_blocks (volume_of l.g) l.dir (found_of l.gathered) (blocks_in_extents (volume_of l.g) image (drop l.extent-index l.extents))
+      ≡ with_file_blocks (volume_of l.g) l.dir found_nothing (blocks_in_extents (volume_of l.g) image l.extents));
   lawful : are_extents (volume_of l.g) None (drop l.extent-index l.extents) ≡ true;
   before : AreBefore l.gathered.kept (drop l.extent-index l.extents);
   later : g.D.Disk.faults l.fn.disk ≤ g.D.Disk.faults l.disk;

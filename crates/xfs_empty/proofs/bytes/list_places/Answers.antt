@@ -2,7 +2,7 @@ use Rattle.std.proofs.Common.{◌≡◌, ℕ, ◌+◌, ◌-◌, ◌*◌, ◌++�
 use Rattle.std.specs.List.{range_with_len}
 use Rattle.std.proofs.lemmas.List.{append_assoc}
 use Rattle.std.proofs.lemmas.List.FromFn.{map-range_with_len_more}
-use Rattle.xfs_empty.specs.Bytes.{head_places}
+use Rattle.xfs_empty.specs.Bytes.{header_places}
 use Rattle.xfs_empty.proofs.Pushed.{range_more}
 use Rattle.xfs_empty.proofs.bytes.list_places.Goals as goal
 
@@ -17,7 +17,7 @@ pub loop-block-preserved : goal.loop-block-preserved
 loop-block-preserved c =
     let block = c.loop-block.block in
     let m = c.loop-block.block - 16 in
-    let heads = head_places c.args.g.now.agblocks c.args.g.now.agcount in
+    let heads = header_places c.args.g.now.agblocks c.args.g.now.agcount in
     let at : c.loop-block.block ≡ 16 + (c.loop-block.block - 16) = omega (arith, c.loop-block.auto.block) in
     let next : c.loop-block.block + 1 - 16 ≡ c.loop-block.block - 16 + 1 = omega (arith, c.loop-block.auto.block) in
     c.in_ok-push-2.ensures.items ∙ ap (λ (xs : List ℕ). xs ++ block ∷ []) c.loop-block.invariant ∙ append_assoc heads (range_with_len 16 m) (block ∷ [])
@@ -27,4 +27,4 @@ loop-block-preserved c =
 pub returns : goal.returns
 returns c =
     let eight : c.loop-block.block - 16 ≡ 8 = omega (arith, c.loop-block.auto.block, c.loop-block.auto.block-end, c.loop-block-test.false) in
-    c.loop-block.invariant ∙ ap (λ (n : ℕ). head_places c.args.g.now.agblocks c.args.g.now.agcount ++ range_with_len 16 n) eight
+    c.loop-block.invariant ∙ ap (λ (n : ℕ). header_places c.args.g.now.agblocks c.args.g.now.agcount ++ range_with_len 16 n) eight

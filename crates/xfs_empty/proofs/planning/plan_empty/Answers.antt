@@ -1,8 +1,8 @@
 use Rattle.std.proofs.Common.{◌≡◌, ◌<◌, ◌⊎◌, sym, subst}
 use Rattle.std.specs.Prelude.{All, IfErr, IfOk}
 use Rattle.xfs_geom.specs.Volumes.{volume_of}
-use Rattle.xfs_place.specs.Wanted.{AreKept, FindsNoRoom, kept_of}
-use Rattle.xfs_place.specs.declared.faults.Place.{Place}
+use Rattle.xfs_place.specs.Wanted.{CanBeKept, FindsNoRoom, kept_runs}
+use Rattle.xfs_place.specs.declared.faults.Unplaced.{Unplaced}
 use Rattle.xfs_place.specs.declared.faults.PlaceFault.{PlaceFault}
 use Rattle.xfs_place.specs.declared.faults.PlaceFault.TheVariants.{NoMemory, NoRoom}
 use Rattle.xfs_place.specs.declared.wanted.Wanted.{Wanted}
@@ -18,7 +18,7 @@ use Rattle.xfs_empty.proofs.planning.plan_empty.Goals as goal
 
 pub plan_wanted-requires-clause-kept : goal.plan_wanted-requires-clause-kept
 plan_wanted-requires-clause-kept g c = λ κs lives.
-    subst (λ (w : Wanted). AreKept (volume_of w.geometry) (kept_of w)) (sym c.in_ok-wanted.ensures)
+    subst (λ (w : Wanted). CanBeKept (volume_of w.geometry) (kept_runs w)) (sym c.in_ok-wanted.ensures)
     (chunk_kept (volume_of c.args.g.now) c.args.g.now.shape.groups c.requires.chunk)
 
 pub plan_wanted-requires-clause-writable : goal.plan_wanted-requires-clause-writable
@@ -48,5 +48,5 @@ returns-clause-room g c =
 pub returns-clause-cause : goal.returns-clause-cause
 returns-clause-cause g c =
     subst
-    (λ (w : Wanted). IfErr c.plan_wanted.result (λ (fault : PlaceFault). (fault ≡ NoMemory) ⊎ ((what : Place) × (fault ≡ NoRoom what) × FindsNoRoom w what)))
+    (λ (w : Wanted). IfErr c.plan_wanted.result (λ (fault : PlaceFault). (fault ≡ NoMemory) ⊎ ((what : Unplaced) × (fault ≡ NoRoom what) × FindsNoRoom w what)))
     c.in_ok-wanted.ensures c.plan_wanted.ensures.cause

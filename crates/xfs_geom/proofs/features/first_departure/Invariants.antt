@@ -1,6 +1,6 @@
 use Rattle.std.proofs.Common.{◌≡◌, drop, map}
 use Rattle.xfs_geom.specs.Features.{first_departure}
-use Rattle.xfs_geom.specs.Words.{word_of}
+use Rattle.xfs_geom.specs.Private.Words.{word_of}
 use Rattle.xfs_geom.proofs.features.first_departure.Given as goal
 
 abbrev pub invariant-loop-feature : goal.invariant-loop-feature

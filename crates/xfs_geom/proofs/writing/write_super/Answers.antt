@@ -2,7 +2,7 @@ use Rattle.std.proofs.Common.{◌≡◌, ℕ, ◌%◌, ◌≤◌, true, List, �
 use Rattle.std.proofs.Math.Nat.{zero-mod}
 use Rattle.xfs_word.specs.Field.{field_of, part_of}
 use Rattle.xfs_geom.specs.Stated.{stated}
-use Rattle.xfs_geom.specs.Writing.{is_kept}
+use Rattle.xfs_geom.specs.Writing.{is_kept_field}
 use Rattle.xfs_geom.proofs.Written.{apart, read_through, ready, low_root, some_blocks, accepted_anew}
 use Rattle.xfs_geom.proofs.writing.write_super.Goals as goal
 
@@ -25,11 +25,11 @@ returns-clause-written c =
     let b2 = c.write.new.bytes in
     let b3 = c.put_counters.new.sector in
     let b4 = c.write-2.new.bytes in
-    let number = λ (a w : ℕ) (h : is_kept a w ≡ true).
+    let number = λ (a w : ℕ) (h : is_kept_field a w ≡ true).
     read_through field_of b0 b1 b2 b3 b4 a w (apart a w h) (c.put_system_inodes.ensures.keeps a w) (c.write.ensures.keeps a w)
     (c.put_counters.ensures.keeps a w) (c.write-2.ensures.keeps a w)
     ∙ ap (λ (b : List ℕ). field_of b a w) c.copy_from_slice.ensures.after in
-    let part = λ (a w : ℕ) (h : is_kept a w ≡ true).
+    let part = λ (a w : ℕ) (h : is_kept_field a w ≡ true).
     read_through part_of b0 b1 b2 b3 b4 a w (apart a w h) (c.put_system_inodes.ensures.keeps_parts a w) (c.write.ensures.keeps_parts a w)
     (c.put_counters.ensures.keeps_parts a w) (c.write-2.ensures.keeps_parts a w)
     ∙ ap (λ (b : List ℕ). part_of b a w) c.copy_from_slice.ensures.after in

@@ -4,11 +4,11 @@ use Rattle.std.specs.List.{range_with_len}
 use Rattle.xfs_geom.specs.Volumes.{volume_of}
 use Rattle.xfs_disk.proofs.Reading.{reads_on}
 use Rattle.xfs_volume.specs.declared.clusters.ClusterRec.{ClusterRec}
-use Rattle.xfs_image.specs.Candidates.{Ascend}
+use Rattle.xfs_image.specs.Candidates.{ClustersAscend}
 use Rattle.xfs_image.specs.Groups.{groups_from, groups_read}
 use Rattle.xfs_image.specs.Reserved.{reserved_in}
-use Rattle.xfs_groups.specs.Answers.{EndBelow, has_root, lists_of}
-use Rattle.xfs_groups.specs.Chosen.{candidates_in}
+use Rattle.xfs_groups.specs.Answers.{EndBelow, has_root_cluster, lists_of}
+use Rattle.xfs_groups.specs.Private.Chosen.{candidates_in}
 use Rattle.xfs_groups.specs.declared.groups.GroupTrees.{GroupTrees}
 use Rattle.xfs_groups.proofs.Grouped.{all_candidates, groups_more, lists_more, placed_on, values_more, GroupsPlaced}
 use Rattle.xfs_groups.proofs.Lengths.{root_place}
@@ -61,11 +61,11 @@ pub returns-clause-root : goal.returns-clause-root
 returns-clause-root g c =
     let root = root_place c.args.g.now in
     let last : c.loop-ag.ag ≡ c.args.g.now.agcount = omega arith in
-    subst (λ (cs : List ClusterRec). IsTrue (has_root (volume_of c.args.g.now) cs)) (sym c.from_vec-2.ensures)
+    subst (λ (cs : List ClusterRec). IsTrue (has_root_cluster (volume_of c.args.g.now) cs)) (sym c.from_vec-2.ensures)
     (c.loop-ag.invariant.placed.root (subst (λ (n : ℕ). root.group < n) (sym last) root.there))
 
 pub returns-clause-ascend : goal.returns-clause-ascend
-returns-clause-ascend g c = subst (Ascend 0) (sym c.from_vec-2.ensures) c.loop-ag.invariant.placed.ascend
+returns-clause-ascend g c = subst (ClustersAscend 0) (sym c.from_vec-2.ensures) c.loop-ag.invariant.placed.ascend
 
 pub returns-clause-low : goal.returns-clause-low
 returns-clause-low g c = subst (EndBelow c.args.g.now.dblocks) (sym c.from_vec-2.ensures) c.loop-ag.invariant.placed.inside

@@ -6,7 +6,7 @@ use Rattle.xfs_disk.specs.Reads.{OnlyReads}
 use Rattle.xfs_image.specs.Groups.{groups_from}
 use Rattle.xfs_image.specs.Reserved.{reserved_in}
 use Rattle.xfs_groups.specs.Answers.{lists_of}
-use Rattle.xfs_groups.specs.Chosen.{candidates_in}
+use Rattle.xfs_groups.specs.Private.Chosen.{candidates_in}
 use Rattle.xfs_groups.proofs.Grouped.{GroupsPlaced}
 use Rattle.xfs_groups.proofs.groups.see_groups.Given as goal
 

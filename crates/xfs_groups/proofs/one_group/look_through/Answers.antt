@@ -1,6 +1,6 @@
 use Rattle.std.proofs.Common.{◌∙◌, ap₂}
 use Rattle.xfs_geom.specs.Volumes.{volume_of}
-use Rattle.xfs_groups.specs.Chosen.{withheld}
+use Rattle.xfs_groups.specs.Private.Chosen.{withheld}
 use Rattle.xfs_groups.proofs.Choosing.{held_withheld}
 use Rattle.xfs_groups.proofs.one_group.look_through.Goals as goal
 

@@ -2,7 +2,7 @@ use Rattle.std.proofs.Common.{◌≡◌, ◌≤◌, true}
 use Rattle.std.specs.Option.{ForSome}
 use Rattle.xfs_geom.specs.Volumes.{volume_of}
 use Rattle.xfs_disk.specs.Reads.{OnlyReads}
-use Rattle.xfs_groups.specs.Chosen.{are_clear}
+use Rattle.xfs_groups.specs.Private.Chosen.{are_clear}
 use Rattle.xfs_groups.proofs.recorded.are_clear.Given as goal
 
 abbrev pub invariant-loop-k : goal.invariant-loop-k

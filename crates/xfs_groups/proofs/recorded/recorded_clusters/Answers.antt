@@ -2,7 +2,7 @@ use Rattle.std.proofs.Common.{◌≡◌, ℕ, ◌+◌, ◌*◌, ◌/◌, true, s
 use Rattle.xfs_geom.specs.Conversions.{group_length}
 use Rattle.xfs_geom.specs.Volumes.{volume_of}
 use Rattle.xfs_disk.proofs.Reading.{reads_none, reads_on}
-use Rattle.xfs_groups.specs.Chosen.{ArePlaced, chosen, place_at}
+use Rattle.xfs_groups.specs.Private.Chosen.{ClustersPlaced, chosen, cluster_place}
 use Rattle.xfs_groups.proofs.Choosing.{chosen_more, none_chosen, placed_step}
 use Rattle.xfs_groups.proofs.Placed.{none_placed}
 use Rattle.xfs_groups.proofs.recorded.recorded_clusters.Goals as goal
@@ -12,7 +12,7 @@ loop-i-init g c =
     let D = g.D.Disk in
     record {
       chosen_so = λ image told. c.new-clusters.ensures.items ∙ sym (none_chosen (volume_of c.args.g.now) image true c.args.named.now c.args.ag);
-      placed = subst (ArePlaced (volume_of c.args.g.now) c.args.ag 0) (sym c.new-clusters.ensures.items) (none_placed (volume_of c.args.g.now) c.args.ag);
+      placed = subst (ClustersPlaced (volume_of c.args.g.now) c.args.ag 0) (sym c.new-clusters.ensures.items) (none_placed (volume_of c.args.g.now) c.args.ag);
       later = omega arith;
       disk = reads_none D.size D.holds D.write_faults D.writes D.tells_stops D.moment D.may_leave D.left_since c.args.disk.now;
     }
@@ -22,7 +22,7 @@ loop-i-preserved g c =
     let D = g.D.Disk in
     let v = volume_of c.args.g.now in
     let before = c.loop-i.invariant in
-    let at : c.start_of_group-start.result + 4 * c.loop-i.i ≡ place_at v c.args.ag c.loop-i.i = ap (λ (s : ℕ). s + 4 * c.loop-i.i) c.start_of_group-start.ensures.value in
+    let at : c.start_of_group-start.result + 4 * c.loop-i.i ≡ cluster_place v c.args.ag c.loop-i.i = ap (λ (s : ℕ). s + 4 * c.loop-i.i) c.start_of_group-start.ensures.value in
     record {
       chosen_so = λ image told.
           chosen_more v image true c.args.named.now c.args.ag c.loop-i.i (c.start_of_group-start.result + 4 * c.loop-i.i) c.in-Ok.is_chosen c.loop-i.clusters.items
@@ -43,4 +43,4 @@ pub returns-clause-placed : goal.returns-clause-placed
 returns-clause-placed g c =
     let last : c.loop-i.i ≡ group_length (volume_of c.args.g.now) c.args.ag / 4 =
     (let e : c.loop-i.i ≡ c.group_length-i-end.result / 4 = omega arith in e ∙ ap (λ (n : ℕ). n / 4) c.group_length-i-end.ensures.value) in
-    subst (λ (n : ℕ). ArePlaced (volume_of c.args.g.now) c.args.ag n c.loop-i.clusters.items) last c.loop-i.invariant.placed
+    subst (λ (n : ℕ). ClustersPlaced (volume_of c.args.g.now) c.args.ag n c.loop-i.clusters.items) last c.loop-i.invariant.placed

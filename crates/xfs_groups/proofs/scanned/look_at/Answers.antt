@@ -1,10 +1,10 @@
 use Rattle.std.proofs.Common.{◌≡◌, ℕ, ◌+◌, Bool, ◌&&◌, ◌||◌, not, false, List, ◌++◌, append-nil, sym, ap, ap₂, refl, ◌∙◌, arith}
+use Rattle.xfs_disk.specs.Lists.{is_among}
 use Rattle.xfs_geom.specs.Conversions.{is_fixed}
 use Rattle.xfs_geom.specs.Volumes.{volume_of}
 use Rattle.xfs_disk.proofs.Reading.{reads_none, reads_on}
-use Rattle.xfs_groups.specs.Chosen.{are_clear, are_used, is_clear}
-use Rattle.xfs_groups.specs.Looking.{has_used}
-use Rattle.xfs_groups.specs.Sets.{has}
+use Rattle.xfs_groups.specs.Private.Chosen.{are_clear, are_used, can_hold_cluster}
+use Rattle.xfs_groups.specs.Private.Looking.{has_used}
 use Rattle.xfs_groups.proofs.Choosing.{none_withheld, withheld_more}
 use Rattle.xfs_groups.proofs.Rows.{all_more, any_more}
 use Rattle.xfs_groups.proofs.scanned.look_at.Goals as goal
@@ -35,11 +35,11 @@ loop-k-preserved g c =
       clear = λ image told.
           let seen = c.in-Ok.ensures.seen image (before.disk.same_contents ∙ told) in
           c.with_block-all.ensures.clear
-          ∙ (ap₂ (λ (x y : Bool). x && not (is_fixed v block || y)) (before.clear image told) seen.whole ∙ sym (all_more (is_clear v image) c.args.first c.loop-k.k));
+          ∙ (ap₂ (λ (x y : Bool). x && not (is_fixed v block || y)) (before.clear image told) seen.whole ∙ sym (all_more (can_hold_cluster v image) c.args.first c.loop-k.k));
       held_so = λ image told.
           let seen = c.in-Ok.ensures.seen image (before.disk.same_contents ∙ told) in
           withheld_more v image false c.args.held.now c.args.first c.loop-k.k c.is_withheld-is_withheld.result c.args.reserved.now.items c.loop-k.reserved.items c.push_if.new.list.items
-          (c.is_withheld-is_withheld.ensures ∙ ap₂ (λ (x y : Bool). has c.args.held.now block || (x || y)) seen.naming seen.used)
+          (c.is_withheld-is_withheld.ensures ∙ ap₂ (λ (x y : Bool). is_among c.args.held.now block || (x || y)) seen.naming seen.used)
           (before.held_so image told) c.in-Ok-push_if.ensures;
       later = let up = before.later in let cause = c.in-Ok.ensures.cause in omega (arith, up, cause);
       disk = reads_on D.size D.holds D.write_faults D.writes D.tells_stops D.moment D.may_leave D.left_since c.args.disk.now c.loop-k.disk c.look.new.disk before.disk c.in-Ok.ensures.disk;

@@ -2,7 +2,7 @@ use Rattle.std.proofs.Common.{◌≡◌, ℕ, ◌+◌, ◌*◌, ◌/◌, ◌%◌
 use Rattle.xfs_geom.specs.Conversions.{group_length}
 use Rattle.xfs_geom.specs.Volumes.{volume_of}
 use Rattle.xfs_disk.proofs.Reading.{reads_none, reads_on}
-use Rattle.xfs_groups.specs.Chosen.{ArePlaced, chosen, is_chosen_as, place_at, withheld}
+use Rattle.xfs_groups.specs.Private.Chosen.{ClustersPlaced, chosen, is_chosen_as, cluster_place, withheld}
 use Rattle.xfs_groups.proofs.Causes.{caused_on, later}
 use Rattle.xfs_groups.proofs.Choosing.{chosen_more, none_chosen, none_withheld, placed_step, withheld_then}
 use Rattle.xfs_groups.proofs.Placed.{none_placed, root_chosen}
@@ -14,7 +14,7 @@ loop-i-init g c =
     record {
       chosen_so = λ image told. c.new-clusters.ensures.items ∙ sym (none_chosen (volume_of c.args.g.now) image false c.args.named.now c.args.ag);
       held_so = λ image told. c.new-reserved.ensures.items ∙ sym (none_withheld (volume_of c.args.g.now) image false c.args.held.now c.start_of_group-start.result);
-      placed = subst (ArePlaced (volume_of c.args.g.now) c.args.ag 0) (sym c.new-clusters.ensures.items) (none_placed (volume_of c.args.g.now) c.args.ag);
+      placed = subst (ClustersPlaced (volume_of c.args.g.now) c.args.ag 0) (sym c.new-clusters.ensures.items) (none_placed (volume_of c.args.g.now) c.args.ag);
       later = omega arith;
       disk = reads_none D.size D.holds D.write_faults D.writes D.tells_stops D.moment D.may_leave D.left_since c.args.disk.now;
     }
@@ -26,7 +26,7 @@ loop-i-preserved g c =
     let before = c.loop-i.invariant in
     let named = c.args.named.now in
     let cluster = c.start_of_group-start.result + 4 * c.loop-i.i in
-    let at : cluster ≡ place_at v c.args.ag c.loop-i.i = ap (λ (s : ℕ). s + 4 * c.loop-i.i) c.start_of_group-start.ensures.value in
+    let at : cluster ≡ cluster_place v c.args.ag c.loop-i.i = ap (λ (s : ℕ). s + 4 * c.loop-i.i) c.start_of_group-start.ensures.value in
     record {
       chosen_so = λ image told.
           let there = before.disk.same_contents ∙ told in
@@ -115,4 +115,4 @@ pub returns-in-Ok-look_at-clause-placed : goal.returns-in-Ok-look_at-clause-plac
 returns-in-Ok-look_at-clause-placed g c =
     let last : c.loop-i.i ≡ group_length (volume_of c.args.g.now) c.args.ag / 4 =
     (let e : c.loop-i.i ≡ c.group_length-blocks.result / 4 = omega arith in e ∙ ap (λ (n : ℕ). n / 4) c.group_length-blocks.ensures.value) in
-    subst (λ (n : ℕ). ArePlaced (volume_of c.args.g.now) c.args.ag n c.loop-i.clusters.items) last c.loop-i.invariant.placed
+    subst (λ (n : ℕ). ClustersPlaced (volume_of c.args.g.now) c.args.ag n c.loop-i.clusters.items) last c.loop-i.invariant.placed

@@ -1,6 +1,6 @@
 use Rattle.std.proofs.Common.{◌≡◌, ℕ, ◌+◌, ◌*◌, ◌^◌, ◌<◌, ◌++◌, ◌∷◌, [], List, if◌then◌else◌, drop, sym, ap, subst, ◌∙◌, arith}
 use Rattle.std.specs.List.{All, list_all, range_with_len}
-use Rattle.xfs_image.specs.Clusters.{is_given}
+use Rattle.xfs_image.specs.Clusters.{is_given_block}
 use Rattle.xfs_groups.specs.Named.{GiveAlike}
 use Rattle.xfs_groups.proofs.Rows.{all_alike, each_more, kept_more}
 use Rattle.xfs_groups.proofs.Sweeps.{alike_later, alike_on}
@@ -17,11 +17,11 @@ loop-i-preserved c =
       high = c.first_behind-next.ensures.high;
       alike = alike_later (4 * i) (4 * (i + 1)) rs (drop next rs) (omega arith) alike;
       given = λ apart.
-          let is : c.are_given-is_given.result ≡ list_all (is_given rs) (range_with_len (4 * i) 4) =
-          c.are_given-is_given.ensures apart ∙ all_alike (is_given (drop next rs)) (is_given rs) (4 * i) 4 alike in
+          let is : c.are_given-is_given.result ≡ list_all (is_given_block rs) (range_with_len (4 * i) 4) =
+          c.are_given-is_given.ensures apart ∙ all_alike (is_given_block (drop next rs)) (is_given_block rs) (4 * i) 4 alike in
           c.in_ok-push_if.ensures
           ∙ (ap (λ (xs : List ℕ). xs ++ (if c.are_given-is_given.result then ((start + 4 * i) ∷ []) else [])) (c.loop-i.invariant.given apart)
-          ∙ kept_more (λ place. start + place) (λ place. list_all (is_given rs) (range_with_len place 4)) (λ k. 4 * k) i c.are_given-is_given.result is);
+          ∙ kept_more (λ place. start + place) (λ place. list_all (is_given_block rs) (range_with_len place 4)) (λ k. 4 * k) i c.are_given-is_given.result is);
       low = subst (All (λ cluster. cluster < 2 ^ 32)) (sym c.in_ok-push_if.ensures)
           (each_more (λ cluster. cluster < 2 ^ 32) c.loop-i.clusters.items c.are_given-is_given.result (start + 4 * i) c.loop-i.invariant.low (omega arith));
     }

@@ -1,5 +1,5 @@
 use Rattle.std.proofs.Common.{◌≡◌, drop}
-use Rattle.xfs_inode.specs.Claims.{in_turn}
+use Rattle.xfs_inode.specs.Private.Claims.{in_turn}
 use Rattle.xfs_inode.proofs.claims.in_turn.Given as goal
 
 abbrev pub invariant-loop-run : goal.invariant-loop-run

@@ -1,7 +1,7 @@
 use Rattle.std.proofs.Common.{◌++◌, ap, sym, ◌∙◌, arith, rules}
 use Rattle.std.specs.List.{range_with_len}
 use Rattle.xfs_tree.specs.Blocks.{each_of}
-use Rattle.xfs_tree.specs.Reading.{bytes_at}
+use Rattle.xfs_tree.specs.Reading.{bytes_of_block}
 use Rattle.xfs_journal.specs.Placed.{seen_in}
 use Rattle.xfs_journal.proofs.Listing.{held_next, held_to_end}
 use Rattle.xfs_journal.proofs.LogSeen.{all_seen}
@@ -15,7 +15,7 @@ loop-i-preserved g c =
     record {
       ends = before.ends;
       seen = λ image told.
-          held_next (λ block. each_of 8 (seen_in (bytes_at image block))) c.args.g.now.log c.loop-i.i c.args.g.now.logblocks c.loop-i.seen.items c.see_block.new.seen.items _
+          held_next (λ block. each_of 8 (seen_in (bytes_of_block image block))) c.args.g.now.log c.loop-i.i c.args.g.now.logblocks c.loop-i.seen.items c.see_block.new.seen.items _
           (search rules) (c.in-Ok-see_block.ensures ∙ ap (λ block. c.loop-i.seen.items ++ each_of 8 (seen_in block)) (sym (c.in-Ok.ensures.bytes image (before.disk.same_contents ∙ told)))) (before.seen image told);
       block = c.read_block.ensures.whole;
       later = let up = before.later in let cause = c.in-Ok.ensures.cause in omega (arith, up, cause);
@@ -24,6 +24,6 @@ loop-i-preserved g c =
 
 pub returns-clause-seen : goal.returns-clause-seen
 returns-clause-seen g c = λ image told.
-    held_to_end (λ block. each_of 8 (seen_in (bytes_at image block))) c.args.g.now.log c.loop-i.i c.args.g.now.logblocks c.loop-i.seen.items _
+    held_to_end (λ block. each_of 8 (seen_in (bytes_of_block image block))) c.args.g.now.log c.loop-i.i c.args.g.now.logblocks c.loop-i.seen.items _
     c.loop-i-test.false (c.loop-i.invariant.seen image told)
     ∙ sym (all_seen image (range_with_len c.args.g.now.log c.args.g.now.logblocks))

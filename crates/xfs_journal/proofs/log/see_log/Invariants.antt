@@ -3,7 +3,7 @@ use Rattle.std.specs.List.{flat_map, range_with_len}
 use Rattle.std.specs.Option.{ForSome}
 use Rattle.xfs_disk.specs.Reads.{OnlyReads}
 use Rattle.xfs_tree.specs.Blocks.{each_of}
-use Rattle.xfs_tree.specs.Reading.{bytes_at}
+use Rattle.xfs_tree.specs.Reading.{bytes_of_block}
 use Rattle.xfs_journal.specs.Placed.{seen_in}
 use Rattle.xfs_journal.proofs.log.see_log.Given as goal
 
@@ -11,8 +11,8 @@ abbrev pub invariant-loop-i : goal.invariant-loop-i
 invariant-loop-i g l = record {
   ends : l.i-end ≡ l.g.logblocks;
   seen : ForSome (g.D.Disk.holds l.fn.disk) (λ image.
-      l.seen.items ++ flat_map (λ block. each_of 8 (seen_in (bytes_at image block))) (range_with_len (l.g.log + l.i) (l.g.logblocks - l.i))
-      ≡ flat_map (λ block. each_of 8 (seen_in (bytes_at image block))) (range_with_len l.g.log l.g.logblocks));
+      l.seen.items ++ flat_map (λ block. each_of 8 (seen_in (bytes_of_block image block))) (range_with_len (l.g.log + l.i) (l.g.logblocks - l.i))
+      ≡ flat_map (λ block. each_of 8 (seen_in (bytes_of_block image block))) (range_with_len l.g.log l.g.logblocks));
   block : length l.block ≡ 4096;
   later : g.D.Disk.faults l.fn.disk ≤ g.D.Disk.faults l.disk;
   disk : OnlyReads g.D.Disk.size g.D.Disk.holds g.D.Disk.write_faults g.D.Disk.writes g.D.Disk.tells_stops g.D.Disk.moment g.D.Disk.may_leave g.D.Disk.left_since l.fn.disk l.disk;

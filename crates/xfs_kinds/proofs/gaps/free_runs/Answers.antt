@@ -1,7 +1,7 @@
 use Rattle.std.proofs.Common.{◌≡◌, ℕ, ◌++◌, ◌≤◌, length, drop, List, sym, ◌∙◌, ap, subst}
 use Rattle.std.proofs.lemmas.List.{drop_all}
 use Rattle.xfs_geom.specs.declared.records.Span.{Span}
-use Rattle.xfs_kinds.specs.FreeRuns.{AreSeparate, free_of, gap, is_in}
+use Rattle.xfs_kinds.specs.FreeRuns.{AreSeparate, free_of, gap, is_in_spans}
 use Rattle.xfs_kinds.proofs.Sweep.{sweep, swept_free, free_blocks, free_separate}
 use Rattle.xfs_kinds.proofs.gaps.free_runs.Goals as goal
 
@@ -18,7 +18,7 @@ returns-clause-runs c =
 
 pub returns-clause-blocks : goal.returns-clause-blocks
 returns-clause-blocks c block =
-    ap (λ (xs : List Span). is_in xs block) (returns-clause-runs c) ∙ free_blocks c.args.used.now c.args.length block
+    ap (λ (xs : List Span). is_in_spans xs block) (returns-clause-runs c) ∙ free_blocks c.args.used.now c.args.length block
 
 pub returns-clause-separate : goal.returns-clause-separate
 returns-clause-separate c =

@@ -1,5 +1,6 @@
 use Rattle.std.proofs.Common.{◌+◌, ◌*◌, arith, sym}
-use Rattle.xfs_laws.specs.Counting.{chunk_number, has_free}
+use Rattle.xfs_geom.specs.Sums.{has_free}
+use Rattle.xfs_laws.specs.Counting.{chunk_number}
 use Rattle.xfs_laws.proofs.Differences.{kept, none_left_of}
 use Rattle.xfs_laws.proofs.chunks.check_free_chunks.Goals as goal
 

@@ -1,6 +1,7 @@
 use Rattle.std.proofs.Common.{◌≡◌, ◌≤◌, length, map, filter, drop}
+use Rattle.xfs_geom.specs.Sums.{has_free}
 use Rattle.xfs_volume.specs.Laws.{first_difference}
-use Rattle.xfs_laws.specs.Counting.{chunk_number, has_free}
+use Rattle.xfs_laws.specs.Counting.{chunk_number}
 use Rattle.xfs_laws.proofs.chunks.check_free_chunks.Given as goal
 
 abbrev pub invariant-loop-chunk : goal.invariant-loop-chunk

@@ -1,6 +1,7 @@
 use Rattle.std.proofs.Common.{◌≡◌, ◌≤◌, ◌+◌, ◌*◌, ◌^◌, drop, map, sum}
+use Rattle.xfs_geom.specs.Sums.{slots, free_slots}
 use Rattle.xfs_volume.specs.declared.groups.GroupRec.{GroupRec}
-use Rattle.xfs_laws.specs.Counting.{slots, free_slots, room}
+use Rattle.xfs_laws.specs.Counting.{room}
 use Rattle.xfs_laws.proofs.counters.volume_counts.Given as goal
 
 abbrev pub invariant-loop-group : goal.invariant-loop-group

@@ -1,5 +1,5 @@
 use Rattle.std.proofs.Common.{◌≡◌, ◌≤◌, ◌+◌, ◌*◌, ◌^◌, drop}
-use Rattle.xfs_laws.specs.Counting.{slots}
+use Rattle.xfs_geom.specs.Sums.{slots}
 use Rattle.xfs_laws.proofs.sums.slots.Given as goal
 
 abbrev pub invariant-loop-chunk : goal.invariant-loop-chunk

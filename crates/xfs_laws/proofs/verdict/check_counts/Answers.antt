@@ -2,13 +2,13 @@ use Rattle.std.proofs.Common.{List, sym, subst}
 use Rattle.xfs_geom.specs.Volumes.{volume_of}
 use Rattle.xfs_volume.specs.declared.files.FileRec.{FileRec}
 use Rattle.xfs_volume.specs.declared.groups.GroupRec.{GroupRec}
-use Rattle.xfs_laws.specs.Counting.{AllHaveChunks, AreOrdered, AreShort}
+use Rattle.xfs_laws.specs.Counting.{AllHaveChunks, FilesOrdered, AreShort}
 use Rattle.xfs_laws.proofs.Conditions.{chunks, ordered, short}
 use Rattle.xfs_laws.proofs.verdict.check_counts.Goals as goal
 
 pub check_inodes-requires-clause-files : goal.check_inodes-requires-clause-files
 check_inodes-requires-clause-files c =
-    let P : List FileRec → Type 0 = AreOrdered in
+    let P : List FileRec → Type 0 = FilesOrdered in
     subst P (sym c.as_slice.ensures) (ordered c.args.catalog.now.files 0 c.requires.names.files_ascend)
 
 pub check_inodes-requires-clause-chunks : goal.check_inodes-requires-clause-chunks

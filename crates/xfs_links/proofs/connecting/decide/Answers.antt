@@ -4,7 +4,7 @@ use Rattle.std.specs.List.Sorted.{IsNonDecreasingBy}
 use Rattle.xfs_links.specs.declared.candidates.Candidate.{Candidate}
 use Rattle.xfs_links.specs.declared.walk.Attached.{Attached}
 use Rattle.xfs_links.specs.Places.{staying_at, cleared_at}
-use Rattle.xfs_links.specs.Walk.{parent_of}
+use Rattle.xfs_links.specs.Walk.{attached_parent}
 use Rattle.xfs_links.proofs.Deciding.{root_low, entries_known, root_found, root_at, root_directory, candidates_rise, turn_inside, stay_placed, decided}
 use Rattle.xfs_links.proofs.Joined.{attached_places, attached_in}
 use Rattle.xfs_links.proofs.connecting.decide.Goals as goal
@@ -37,13 +37,13 @@ parents_of-requires c = record {
       (root_at c.args.files.now c.args.root c.unwrap-place.result c.place_of.result c.place_of.ensures c.unwrap-place.ensures))));
 }
 
-pub cleared-requires-clause-entries : goal.cleared-requires-clause-entries
-cleared-requires-clause-entries c = subst (λ (r : List Candidate). All (λ (k : Candidate). k.entry < length c.args.entries.now) r)
+pub cleared_entries-requires-clause-entries : goal.cleared_entries-requires-clause-entries
+cleared_entries-requires-clause-entries c = subst (λ (r : List Candidate). All (λ (k : Candidate). k.entry < length c.args.entries.now) r)
     (sym (c.in_ok-staying.ensures.staying ∙ ap (λ (r : List Candidate). staying_at c.args.files.now c.deref-3.result.now [] r) c.deref-4.ensures.value))
     (stay_placed c.args.files.now c.args.entries.now c.deref-3.result.now (λ (k : Candidate). k.entry < length c.args.entries.now) [] c.in_ok-candidates.candidates.items (λ k d l. (c.in_ok-candidates.ensures.placed k d l).entry))
 
-pub cleared-requires-clause-targets : goal.cleared-requires-clause-targets
-cleared-requires-clause-targets c = subst (λ (r : List Candidate). All (λ (k : Candidate). k.target < length c.args.files.now) r)
+pub cleared_entries-requires-clause-targets : goal.cleared_entries-requires-clause-targets
+cleared_entries-requires-clause-targets c = subst (λ (r : List Candidate). All (λ (k : Candidate). k.target < length c.args.files.now) r)
     (sym (c.in_ok-staying.ensures.staying ∙ ap (λ (r : List Candidate). staying_at c.args.files.now c.deref-3.result.now [] r) c.deref-4.ensures.value))
     (stay_placed c.args.files.now c.args.entries.now c.deref-3.result.now (λ (k : Candidate). k.target < length c.args.files.now) [] c.in_ok-candidates.candidates.items (λ k d l. (c.in_ok-candidates.ensures.placed k d l).target))
 
@@ -55,7 +55,7 @@ returns c = decided c.args.files.now c.args.entries.now c.args.root c.unwrap-pla
     (root_at c.args.files.now c.args.root c.unwrap-place.result c.place_of.result c.place_of.ensures c.unwrap-place.ensures))
     (c.in_ok-turn.ensures.turn ∙ ap (λ (r : List Candidate). attached_places c.args.files.now c.requires.files.ascend c.args.entries.now r c.unwrap-place.result) c.deref.ensures.value)
     c.in_ok-parents.ensures.size
-    (λ p l. c.in_ok-parents.ensures.parents p l ∙ ap (λ (r : List Attached). parent_of r p) c.deref-2.ensures.value)
+    (λ p l. c.in_ok-parents.ensures.parents p l ∙ ap (λ (r : List Attached). attached_parent r p) c.deref-2.ensures.value)
     (c.in_ok-staying.ensures.staying ∙ ap (λ (r : List Candidate). staying_at c.args.files.now c.deref-3.result.now [] r) c.deref-4.ensures.value
     ∙ ap (λ r. staying_at c.args.files.now r [] c.in_ok-candidates.candidates.items) c.deref-3.ensures.value)
     (c.in_ok-kept.ensures.cleared ∙ ap (λ r. cleared_at c.args.files.now c.args.entries.now c.args.root r c.in_ok-staying.staying.items) c.deref-5.ensures.value)

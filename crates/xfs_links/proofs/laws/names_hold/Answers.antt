@@ -1,5 +1,5 @@
 use Rattle.std.proofs.Common.{[]}
-use Rattle.xfs_links.specs.Entries.{candidates}
+use Rattle.xfs_links.specs.Entries.{candidate_entries}
 use Rattle.xfs_links.specs.Connected.{attached_directories}
 use Rattle.xfs_links.proofs.Holding.{kept_pass, others_stay, all_attached, all_sound, steps_suffice}
 use Rattle.xfs_links.proofs.laws.names_hold.Goals as goal
@@ -8,7 +8,7 @@ pub returns-clause-pass : goal.returns-clause-pass
 returns-clause-pass c = kept_pass c.args._files.now c.args._entries.now c.args._root
 
 pub returns-clause-others_stay : goal.returns-clause-others_stay
-returns-clause-others_stay c = others_stay c.args._files.now (attached_directories c.args._files.now c.args._entries.now c.args._root) [] (candidates c.args._files.now c.args._root c.args._entries.now)
+returns-clause-others_stay c = others_stay c.args._files.now (attached_directories c.args._files.now c.args._entries.now c.args._root) [] (candidate_entries c.args._files.now c.args._root c.args._entries.now)
 
 pub returns-clause-attached : goal.returns-clause-attached
 returns-clause-attached c n h = all_attached c.args._files.now c.args._entries.now c.args._root n h

@@ -1,6 +1,6 @@
 use Rattle.std.proofs.Common.{◌≡◌, ℕ, ◌-◌, List, Bool}
 use Rattle.xfs_links.specs.Connected.{free_name}
-use Rattle.xfs_links.specs.Taken.{AreTaken}
+use Rattle.xfs_links.specs.Private.Taken.{AreTaken}
 use Rattle.xfs_links.proofs.orphans.free_name.Given as goal
 
 abbrev pub invariant-loop-k : goal.invariant-loop-k

@@ -1,5 +1,5 @@
 use Rattle.std.proofs.Common.{ℕ, List, true, false, ap}
-use Rattle.xfs_links.specs.Entries.{number}
+use Rattle.xfs_links.specs.Entries.{node_number}
 use Rattle.xfs_links.specs.Places.{named_orphan_at, orphan_at, taken_at}
 use Rattle.xfs_links.proofs.Groups.{mapped_next, mapped_not}
 use Rattle.xfs_links.proofs.Lonely.{told_one}
@@ -13,8 +13,8 @@ loop-place-preserved-then-not-is_orphan c = mapped_not (named_orphan_at c.args.f
 
 pub loop-place-preserved : goal.loop-place-preserved
 loop-place-preserved c = mapped_next (named_orphan_at c.args.files.now c.args.entries.now c.args.kept.now c.args.lost) (orphan_at c.args.files.now c.args.root c.args.parents.now c.args.kept.now) c.loop-place.place c.loop-place.orphans.items c.push.new.self.items
-    (number c.args.files.now c.loop-place.place, c.in_ok-name.name)
+    (node_number c.args.files.now c.loop-place.place, c.in_ok-name.name)
     (told_one c.args.files.now c.args.root c.args.parents.now c.deref.result.now c.in_ok-named.named.items c.args.kept.now c.loop-place.place c.is_orphan.result true c.deref.ensures.value
     (c.in_ok-named.ensures.named c.loop-place.place c.loop-place-test.true) c.is_orphan.ensures c.if-not-is_orphan.false)
     c.loop-place.invariant c.in_ok-push.ensures.items
-    (ap (λ (r : List ℕ). (number c.args.files.now c.loop-place.place, r)) (c.in_ok-name.ensures (taken_at c.args.entries.now c.args.kept.now c.args.lost) c.in_ok-taken.ensures))
+    (ap (λ (r : List ℕ). (node_number c.args.files.now c.loop-place.place, r)) (c.in_ok-name.ensures (taken_at c.args.entries.now c.args.kept.now c.args.lost) c.in_ok-taken.ensures))

@@ -1,6 +1,6 @@
 use Rattle.std.proofs.Common.{take}
 use Rattle.xfs_links.specs.Places.{taken_at}
-use Rattle.xfs_links.specs.Taken.{AreTaken}
+use Rattle.xfs_links.specs.Private.Taken.{AreTaken}
 use Rattle.xfs_links.proofs.orphans.taken_names.Given as goal
 
 abbrev pub invariant-loop-candidate : goal.invariant-loop-candidate

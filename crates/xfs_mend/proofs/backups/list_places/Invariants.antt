@@ -1,7 +1,7 @@
 use Rattle.std.proofs.Common.{◌≡◌, ℕ, ◌++◌, ◌-◌, ◌<◌, ◌≤◌, All}
 use Rattle.std.specs.Option.{ForSome}
 use Rattle.xfs_disk.specs.Reads.{OnlyReads}
-use Rattle.xfs_mend.specs.Rows.{disagreeing_places}
+use Rattle.xfs_mend.specs.Private.Rows.{disagreeing_places}
 use Rattle.xfs_mend.proofs.backups.list_places.Given as goal
 
 abbrev pub invariant-loop-group : goal.invariant-loop-group

@@ -1,7 +1,7 @@
 -- The rows and their bank are the plan.
 use Rattle.std.proofs.Common.{◌≡◌, ℕ, ◌<◌, ◌-◌, ◌∙◌, ap, sym, subst, List, length, map, All, arith}
 use Rattle.xfs_disk.proofs.Reading.{reads_on}
-use Rattle.xfs_writing.specs.Writing.{rows_from, writes_of}
+use Rattle.xfs_writing.specs.Writing.{rows_from, writes_of_rows}
 use Rattle.xfs_writing.specs.declared.rows.Row.{Row}
 use Rattle.xfs_writing.proofs.RowSteps.{rows_at, rows_below}
 use Rattle.xfs_mend.proofs.Rows.{filled_all, filled_count, rows_steps}
@@ -16,7 +16,7 @@ returns-in-Ok-rows_of-clause-plan g c = λ image told.
     let blocks = filled_all places c.as_slice.result.now c.in-Ok-make.bank c.fill.new.self image c.len.result _ c.as_slice.ensures.value count c.in-Ok-make.ensures
     c.in-Ok-fill.ensures.len (c.in-Ok-fill.ensures.filled.first image (c.in-Ok.ensures.disk.same_contents ∙ told)) in
     let rows : c.in-Ok-rows_of.rows.items ≡ rows_from 0 places = c.in-Ok-rows_of.ensures ∙ ap (rows_from 0) c.as_slice-2.ensures.value in
-    ap (writes_of c.put_primary.new.bank) rows
+    ap (writes_of_rows c.put_primary.new.bank) rows
     ∙ rows_steps primary image c.put_primary.new.bank places (c.args.geometry.now.agcount - 1) (c.in-Ok.ensures.places image told)
     (c.put_primary.ensures ∙ ap (map (with_super primary)) blocks)
 

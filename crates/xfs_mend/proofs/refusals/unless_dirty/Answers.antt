@@ -3,8 +3,8 @@ use Rattle.xfs_geom.specs.Volumes.{volume_of}
 use Rattle.xfs_disk.proofs.Reading.{reads_none}
 use Rattle.xfs_image.specs.View.{view}
 use Rattle.xfs_mend.specs.Due.{asks_log, is_dirty}
-use Rattle.xfs_mend.specs.Asked.{asked_of}
-use Rattle.xfs_mend.specs.Refusing.{HasAdmitted}
+use Rattle.xfs_mend.specs.Asked.{repair_asked}
+use Rattle.xfs_mend.specs.Private.Refusing.{HasAdmitted}
 use Rattle.xfs_mend.specs.declared.outcome.Outcome.{Outcome}
 use Rattle.xfs_mend.proofs.Turning.{by_log, not_asked, not_dirty}
 use Rattle.xfs_mend.proofs.refusals.unless_dirty.Goals as goal
@@ -12,7 +12,7 @@ use Rattle.xfs_mend.proofs.refusals.unless_dirty.Goals as goal
 pub returns-then-not-asks_log : goal.returns-then-not-asks_log
 returns-then-not-asks_log g c =
     let D = g.D.Disk in
-    let o = asked_of c.args.options.now in
+    let o = repair_asked c.args.options.now in
     record {
       admitted = λ image told. subst (λ (away : Option Outcome). HasAdmitted away (view c.args.g.now image) c.args.refusal)
           (sym (not_asked o (volume_of c.args.g.now) image (sym c.asks_log.ensures ∙ c.if-not-asks_log.true))) (c.requires.refused image told);
@@ -22,7 +22,7 @@ returns-then-not-asks_log g c =
 
 pub returns-in-Ok-Dirty : goal.returns-in-Ok-Dirty
 returns-in-Ok-Dirty g c =
-    let o = asked_of c.args.options.now in
+    let o = repair_asked c.args.options.now in
     let asks : asks_log o ≡ true = sym c.asks_log.ensures ∙ c.if-not-asks_log.false in
     let dirty : is_dirty c.in-Ok-Dirty.field-0 ≡ true = search rules in
     record {
@@ -33,7 +33,7 @@ returns-in-Ok-Dirty g c =
 
 pub returns-in-Ok-Clean : goal.returns-in-Ok-Clean
 returns-in-Ok-Clean g c =
-    let o = asked_of c.args.options.now in
+    let o = repair_asked c.args.options.now in
     let clean : is_dirty c.in-Ok-Clean.field-0 ≡ false = search rules in
     record {
       admitted = λ image told. subst (λ (away : Option Outcome). HasAdmitted away (view c.args.g.now image) c.args.refusal)

@@ -1,6 +1,6 @@
 -- What the parts say, clause by clause.
 use Rattle.xfs_mend.proofs.Ending.{check_quiet}
-use Rattle.xfs_mend.specs.Asked.{asked_of}
+use Rattle.xfs_mend.specs.Asked.{repair_asked}
 use Rattle.xfs_mend.proofs.repairing.repair.Goals as goal
 
 pub returns : goal.returns
@@ -14,7 +14,7 @@ returns g c =
       kept = ends.kept;
       counted = ends.counted;
       only_read = ends.only_read;
-      checked = λ checks. let disk = ends.only_read (check_quiet (asked_of c.args.options.now) c.repair_disk.result checks part.possible) in disk.same_writes;
+      checked = λ checks. let disk = ends.only_read (check_quiet (repair_asked c.args.options.now) c.repair_disk.result checks part.possible) in disk.same_writes;
       possible = part.possible;
       stops = part.stops;
       size = ends.same_size;

@@ -1,12 +1,12 @@
 -- The plan is made and written.
 use Rattle.std.proofs.Common.{rules, ◌≡◌, ◌+◌, ◌-◌, ◌≤◌, ℕ, Some, length, refl, ap, ◌∙◌, subst, arith}
 use Rattle.std.proofs.lemmas.List.{length-map}
-use Rattle.xfs_writing.specs.Counting.{raised_times}
-use Rattle.xfs_writing.specs.Writing.{IsPartly, Writes, write_of, written, writes_of}
+use Rattle.xfs_disk.specs.Counts.{raised_times}
+use Rattle.xfs_writing.specs.Writing.{IsPartly, Writes, write_of, written, writes_of_rows}
 use Rattle.xfs_mend.proofs.Accepted.{stops_written}
 use Rattle.xfs_mend.proofs.Ending.{ends_behind, ends_read, stops_behind, stops_read}
 use Rattle.xfs_mend.specs.Backups.{steps_from}
-use Rattle.xfs_mend.specs.Ending.{Ends}
+use Rattle.xfs_mend.specs.Private.Ending.{Ends}
 use Rattle.xfs_mend.specs.Outcome.{StopsOf}
 use Rattle.xfs_mend.specs.declared.outcome.Outcome.TheVariants as out
 use Rattle.xfs_mend.specs.declared.outcome.Summary.TheVariants.{Backups}
@@ -48,7 +48,7 @@ pub returns-in-Ok-write_parts-clause-due : goal.returns-in-Ok-write_parts-clause
 returns-in-Ok-write_parts-clause-due g c = λ image told.
     let bank = c.in-Ok.plan.bank in
     let rows = c.as_slice.result.now in
-    let same : writes_of bank rows ≡ steps_from c.args.primary.now image 1 (c.args.geometry.now.agcount - 1) = ap (writes_of bank) c.as_slice.ensures.value ∙ c.in-Ok.ensures.plan image told in
+    let same : writes_of_rows bank rows ≡ steps_from c.args.primary.now image 1 (c.args.geometry.now.agcount - 1) = ap (writes_of_rows bank) c.as_slice.ensures.value ∙ c.in-Ok.ensures.plan image told in
     let count : c.len.result ≡ length (steps_from c.args.primary.now image 1 (c.args.geometry.now.agcount - 1)) =
     omega (arith, c.len.ensures, c.in-Ok.plan.rows.ok.0, ap length c.as_slice.ensures.value, length-map rows (write_of bank), ap length same) in
     ap (λ (n : ℕ). out.Repaired (Backups n)) count
@@ -57,7 +57,7 @@ pub returns-in-Ok-write_parts-clause-leaves : goal.returns-in-Ok-write_parts-cla
 returns-in-Ok-write_parts-clause-leaves g c = λ image told.
     let bank = c.in-Ok.plan.bank in
     let rows = c.as_slice.result.now in
-    let same : writes_of bank rows ≡ steps_from c.args.primary.now image 1 (c.args.geometry.now.agcount - 1) = ap (writes_of bank) c.as_slice.ensures.value ∙ c.in-Ok.ensures.plan image told in
+    let same : writes_of_rows bank rows ≡ steps_from c.args.primary.now image 1 (c.args.geometry.now.agcount - 1) = ap (writes_of_rows bank) c.as_slice.ensures.value ∙ c.in-Ok.ensures.plan image told in
     c.in-Ok-write_parts.ensures.done image (c.in-Ok.ensures.disk.same_contents ∙ told) ∙ ap (λ (ws : Writes). Some (written ws image)) same
 
 pub returns-in-Ok-write_parts-clause-stops : goal.returns-in-Ok-write_parts-clause-stops
@@ -66,9 +66,9 @@ returns-in-Ok-write_parts-clause-stops g c = λ tells image told t stopped low l
     let disk = c.in-Ok.ensures.disk in
     let bank = c.in-Ok.plan.bank in
     let rows = c.as_slice.result.now in
-    let same : writes_of bank rows ≡ steps_from c.args.primary.now image 1 (c.args.geometry.now.agcount - 1) = ap (writes_of bank) c.as_slice.ensures.value ∙ c.in-Ok.ensures.plan image told in
+    let same : writes_of_rows bank rows ≡ steps_from c.args.primary.now image 1 (c.args.geometry.now.agcount - 1) = ap (writes_of_rows bank) c.as_slice.ensures.value ∙ c.in-Ok.ensures.plan image told in
     stops_behind D.size D.holds D.faults D.write_faults D.writes D.tells_stops D.moment D.may_leave D.left_since c.args.disk.now c.plan_backups.new.disk c.write_parts.new.disk t stopped (StopsOf (steps_from c.args.primary.now image 1 (c.args.geometry.now.agcount - 1)) image (out.Repaired (Backups c.len.result)) stopped) disk tells low
-    (λ low' left'. stops_written image (writes_of bank rows) (steps_from c.args.primary.now image 1 (c.args.geometry.now.agcount - 1)) (out.Repaired (Backups c.len.result)) stopped (D.left_since c.plan_backups.new.disk t stopped) same refl
+    (λ low' left'. stops_written image (writes_of_rows bank rows) (steps_from c.args.primary.now image 1 (c.args.geometry.now.agcount - 1)) (out.Repaired (Backups c.len.result)) stopped (D.left_since c.plan_backups.new.disk t stopped) same refl
     (c.in-Ok-write_parts.ensures.stops (disk.tells tells) image (disk.same_contents ∙ told) t stopped low' left'))
     left
 
@@ -95,7 +95,7 @@ pub returns-clause-due : goal.returns-clause-due
 returns-clause-due g c = λ image told.
     let bank = c.in-Ok.plan.bank in
     let rows = c.as_slice.result.now in
-    let same : writes_of bank rows ≡ steps_from c.args.primary.now image 1 (c.args.geometry.now.agcount - 1) = ap (writes_of bank) c.as_slice.ensures.value ∙ c.in-Ok.ensures.plan image told in
+    let same : writes_of_rows bank rows ≡ steps_from c.args.primary.now image 1 (c.args.geometry.now.agcount - 1) = ap (writes_of_rows bank) c.as_slice.ensures.value ∙ c.in-Ok.ensures.plan image told in
     let most : c.in-Err.written ≤ length (steps_from c.args.primary.now image 1 (c.args.geometry.now.agcount - 1)) = omega (arith, c.in-Err.ensures.most, length-map rows (write_of bank), ap length same) in
     (length (steps_from c.args.primary.now image 1 (c.args.geometry.now.agcount - 1)), most, refl)
 
@@ -103,7 +103,7 @@ pub returns-clause-leaves : goal.returns-clause-leaves
 returns-clause-leaves g c = λ image told.
     let bank = c.in-Ok.plan.bank in
     let rows = c.as_slice.result.now in
-    let same : writes_of bank rows ≡ steps_from c.args.primary.now image 1 (c.args.geometry.now.agcount - 1) = ap (writes_of bank) c.as_slice.ensures.value ∙ c.in-Ok.ensures.plan image told in
+    let same : writes_of_rows bank rows ≡ steps_from c.args.primary.now image 1 (c.args.geometry.now.agcount - 1) = ap (writes_of_rows bank) c.as_slice.ensures.value ∙ c.in-Ok.ensures.plan image told in
     subst (λ (ws : Writes). IsPartly ws image c.in-Err.written (g.D.Disk.holds c.write_parts.new.disk)) same
     (c.in-Err.ensures.partly image (c.in-Ok.ensures.disk.same_contents ∙ told))
 
@@ -113,9 +113,9 @@ returns-clause-stops g c = λ tells image told t stopped low left.
     let disk = c.in-Ok.ensures.disk in
     let bank = c.in-Ok.plan.bank in
     let rows = c.as_slice.result.now in
-    let same : writes_of bank rows ≡ steps_from c.args.primary.now image 1 (c.args.geometry.now.agcount - 1) = ap (writes_of bank) c.as_slice.ensures.value ∙ c.in-Ok.ensures.plan image told in
+    let same : writes_of_rows bank rows ≡ steps_from c.args.primary.now image 1 (c.args.geometry.now.agcount - 1) = ap (writes_of_rows bank) c.as_slice.ensures.value ∙ c.in-Ok.ensures.plan image told in
     stops_behind D.size D.holds D.faults D.write_faults D.writes D.tells_stops D.moment D.may_leave D.left_since c.args.disk.now c.plan_backups.new.disk c.write_parts.new.disk t stopped (StopsOf (steps_from c.args.primary.now image 1 (c.args.geometry.now.agcount - 1)) image (out.WriteFault c.in-Err.written) stopped) disk tells low
-    (λ low' left'. stops_written image (writes_of bank rows) (steps_from c.args.primary.now image 1 (c.args.geometry.now.agcount - 1)) (out.WriteFault c.in-Err.written) stopped (D.left_since c.plan_backups.new.disk t stopped) same refl
+    (λ low' left'. stops_written image (writes_of_rows bank rows) (steps_from c.args.primary.now image 1 (c.args.geometry.now.agcount - 1)) (out.WriteFault c.in-Err.written) stopped (D.left_since c.plan_backups.new.disk t stopped) same refl
     (c.in-Err.ensures.stops (disk.tells tells) image (disk.same_contents ∙ told) t stopped low' left'))
     left
 

@@ -3,7 +3,7 @@ use Rattle.std.proofs.Common.{rules, ◌≤◌, refl, ◌∙◌}
 use Rattle.xfs_geom.specs.Electing.{vote_of}
 use Rattle.xfs_mend.proofs.Deciding.{due_by, is_elected}
 use Rattle.xfs_mend.proofs.Ending.{ends_behind, ends_read, stops_behind, stops_read}
-use Rattle.xfs_mend.specs.Asked.{asked_of}
+use Rattle.xfs_mend.specs.Asked.{repair_asked}
 use Rattle.xfs_mend.specs.Outcome.{StopsBy}
 use Rattle.xfs_mend.specs.declared.outcome.Outcome.TheVariants as out
 use Rattle.xfs_mend.proofs.repairing.repair_disk.Goals as goal
@@ -11,7 +11,7 @@ use Rattle.xfs_mend.proofs.repairing.repair_disk.Goals as goal
 pub returns : goal.returns
 returns g c =
     let D = g.D.Disk in
-    let o = asked_of c.args.options.now in
+    let o = repair_asked c.args.options.now in
     let disk = c.in-Ok.ensures.disk in
     let later = c.repair_volume.ensures in
     let up : D.faults c.args.disk.now ≤ D.faults c.elect.new.disk = search rules in

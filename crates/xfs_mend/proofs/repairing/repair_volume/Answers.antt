@@ -6,9 +6,9 @@ use Rattle.xfs_image.specs.Consistent.{finding}
 use Rattle.xfs_mend.proofs.Accepted.{owed_as}
 use Rattle.xfs_mend.proofs.Deciding.{admitted_stays, due_away, due_seen}
 use Rattle.xfs_mend.proofs.Ending.{ends_behind, ends_read, stops_behind, stops_read}
-use Rattle.xfs_mend.specs.Asked.{asked_of}
+use Rattle.xfs_mend.specs.Asked.{repair_asked}
 use Rattle.xfs_mend.specs.Outcome.{StopsBy}
-use Rattle.xfs_mend.specs.Refusing.{IsAdmission}
+use Rattle.xfs_mend.specs.Private.Refusing.{IsAdmission}
 use Rattle.xfs_mend.specs.declared.outcome.Outcome.TheVariants as out
 use Rattle.xfs_mend.specs.declared.refusals.Admitted.{Admitted}
 use Rattle.xfs_mend.specs.declared.refusals.Admitted.TheVariants.{View, DirtyLog, TooLarge, UnsupportedFile}
@@ -22,8 +22,8 @@ returns-in-Ok-DirtyLog g c =
     record {
       due = λ image told.
           let given : c.in-Ok-DirtyLog.field-0 ≡ DirtyLog = search rules in
-          due_away (asked_of c.args.options.now) c.args.chosen.now.geometry image out.DirtyLog
-          (subst (λ (x : Admitted). IsAdmission (asked_of c.args.options.now) c.args.chosen.now.geometry image x) given (c.in-Ok-DirtyLog.ensures.admitted image told));
+          due_away (repair_asked c.args.options.now) c.args.chosen.now.geometry image out.DirtyLog
+          (subst (λ (x : Admitted). IsAdmission (repair_asked c.args.options.now) c.args.chosen.now.geometry image x) given (c.in-Ok-DirtyLog.ensures.admitted image told));
       leaves = λ image told. disk.same_contents ∙ told;
       stops = λ tells image told t stopped low left.
           stops_read D.size D.holds D.faults D.write_faults D.writes D.tells_stops D.moment D.may_leave D.left_since c.args.disk.now c.admit.new.disk t stopped (StopsBy image out.DirtyLog stopped) disk tells low left;
@@ -39,8 +39,8 @@ returns-in-Ok-TooLarge g c =
     record {
       due = λ image told.
           let given : c.in-Ok-TooLarge.field-0 ≡ TooLarge c.in-Ok-TooLarge.what c.in-Ok-TooLarge.count = search rules in
-          due_away (asked_of c.args.options.now) c.args.chosen.now.geometry image (out.TooLarge c.in-Ok-TooLarge.what c.in-Ok-TooLarge.count)
-          (subst (λ (x : Admitted). IsAdmission (asked_of c.args.options.now) c.args.chosen.now.geometry image x) given (c.in-Ok-TooLarge.ensures.admitted image told));
+          due_away (repair_asked c.args.options.now) c.args.chosen.now.geometry image (out.TooLarge c.in-Ok-TooLarge.what c.in-Ok-TooLarge.count)
+          (subst (λ (x : Admitted). IsAdmission (repair_asked c.args.options.now) c.args.chosen.now.geometry image x) given (c.in-Ok-TooLarge.ensures.admitted image told));
       leaves = λ image told. disk.same_contents ∙ told;
       stops = λ tells image told t stopped low left.
           stops_read D.size D.holds D.faults D.write_faults D.writes D.tells_stops D.moment D.may_leave D.left_since c.args.disk.now c.admit.new.disk t stopped (StopsBy image (out.TooLarge c.in-Ok-TooLarge.what c.in-Ok-TooLarge.count) stopped) disk tells low left;
@@ -56,8 +56,8 @@ returns-in-Ok-UnsupportedFile g c =
     record {
       due = λ image told.
           let given : c.in-Ok-UnsupportedFile.field-0 ≡ UnsupportedFile c.in-Ok-UnsupportedFile.ino c.in-Ok-UnsupportedFile.what = search rules in
-          due_away (asked_of c.args.options.now) c.args.chosen.now.geometry image (out.UnsupportedFile c.in-Ok-UnsupportedFile.ino c.in-Ok-UnsupportedFile.what)
-          (subst (λ (x : Admitted). IsAdmission (asked_of c.args.options.now) c.args.chosen.now.geometry image x) given (c.in-Ok-UnsupportedFile.ensures.admitted image told));
+          due_away (repair_asked c.args.options.now) c.args.chosen.now.geometry image (out.UnsupportedFile c.in-Ok-UnsupportedFile.ino c.in-Ok-UnsupportedFile.what)
+          (subst (λ (x : Admitted). IsAdmission (repair_asked c.args.options.now) c.args.chosen.now.geometry image x) given (c.in-Ok-UnsupportedFile.ensures.admitted image told));
       leaves = λ image told. disk.same_contents ∙ told;
       stops = λ tells image told t stopped low left.
           stops_read D.size D.holds D.faults D.write_faults D.writes D.tells_stops D.moment D.may_leave D.left_since c.args.disk.now c.admit.new.disk t stopped (StopsBy image (out.UnsupportedFile c.in-Ok-UnsupportedFile.ino c.in-Ok-UnsupportedFile.what) stopped) disk tells low left;
@@ -100,11 +100,11 @@ returns-in-Err-NoMemory-clause-ends g c =
 pub returns-in-Ok-Some : goal.returns-in-Ok-Some
 returns-in-Ok-Some g c =
     let D = g.D.Disk in
-    let o = asked_of c.args.options.now in
+    let o = repair_asked c.args.options.now in
     let geometry = c.args.chosen.now.geometry in
     let disk = reads_on D.size D.holds D.write_faults D.writes D.tells_stops D.moment D.may_leave D.left_since c.args.disk.now c.admit.new.disk c.find_first.new.disk c.in-Ok-View.ensures.disk c.in-Ok-Some.ensures.disk in
     let up : D.faults c.args.disk.now ≤ D.faults c.find_first.new.disk = omega (arith, c.in-Ok-View.ensures.cause, c.in-Ok-Some.ensures.cause) in
-    let later = c.settle.ensures in
+    let later = c.answer_found.ensures in
     record {
       due = λ image told.
           let seen = c.in-Ok-View.ensures.disk.same_contents ∙ told in
@@ -112,13 +112,13 @@ returns-in-Ok-Some g c =
           let stays = admitted_stays o geometry image c.in-Ok-View.field-0 c.in-Ok-View.view given (c.in-Ok-View.ensures.admitted image told) in
           let is : c.in-Ok-Some.field-0 ≡ Some c.in-Ok-Some.found = search rules in
           let found : Some c.in-Ok-Some.found ≡ finding broken_law geometry image = sym is ∙ c.in-Ok-Some.ensures.found image seen in
-          owed_as _ _ c.settle.result (due_seen o geometry image (Some c.in-Ok-Some.found) stays found) (later.due image (disk.same_contents ∙ told));
+          owed_as _ _ c.answer_found.result (due_seen o geometry image (Some c.in-Ok-Some.found) stays found) (later.due image (disk.same_contents ∙ told));
       leaves = λ image told. later.leaves image (disk.same_contents ∙ told);
       stops = λ tells image told t stopped low left.
-          stops_behind D.size D.holds D.faults D.write_faults D.writes D.tells_stops D.moment D.may_leave D.left_since c.args.disk.now c.find_first.new.disk c.settle.new.disk t stopped (StopsBy image c.settle.result stopped) disk tells low
+          stops_behind D.size D.holds D.faults D.write_faults D.writes D.tells_stops D.moment D.may_leave D.left_since c.args.disk.now c.find_first.new.disk c.answer_found.new.disk t stopped (StopsBy image c.answer_found.result stopped) disk tells low
           (later.stops (disk.tells tells) image (disk.same_contents ∙ told) t stopped) left;
       possible = later.possible;
-      ends = ends_behind D.size D.holds D.faults D.write_faults D.writes D.tells_stops D.moment D.may_leave D.left_since c.args.disk.now c.find_first.new.disk c.settle.new.disk c.settle.result disk up later.ends;
+      ends = ends_behind D.size D.holds D.faults D.write_faults D.writes D.tells_stops D.moment D.may_leave D.left_since c.args.disk.now c.find_first.new.disk c.answer_found.new.disk c.answer_found.result disk up later.ends;
     }
 
 pub returns-in-Ok-None : goal.returns-in-Ok-None
@@ -128,7 +128,7 @@ returns-in-Ok-None g c =
     let up : D.faults c.args.disk.now ≤ D.faults c.find_first.new.disk = omega (arith, c.in-Ok-View.ensures.cause, c.in-Ok-None.ensures.cause) in
     record {
       due = λ image told.
-          let o = asked_of c.args.options.now in
+          let o = repair_asked c.args.options.now in
           let geometry = c.args.chosen.now.geometry in
           let given : c.in-Ok-View.field-0 ≡ View c.in-Ok-View.view = search rules in
           let stays = admitted_stays o geometry image c.in-Ok-View.field-0 c.in-Ok-View.view given (c.in-Ok-View.ensures.admitted image told) in

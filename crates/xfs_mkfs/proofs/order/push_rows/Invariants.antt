@@ -1,5 +1,5 @@
 use Rattle.std.proofs.Common.{◌≡◌, ◌++◌, length, take}
-use Rattle.xfs_mkfs.specs.Order.{rows_from}
+use Rattle.xfs_writing.specs.Writing.{rows_from}
 use Rattle.xfs_mkfs.proofs.order.push_rows.Given as goal
 
 abbrev pub invariant-loop-place : goal.invariant-loop-place

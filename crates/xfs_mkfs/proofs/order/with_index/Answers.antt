@@ -1,5 +1,5 @@
 use Rattle.std.proofs.Common.{◌∙◌, ◌++◌, ℕ, List, ap, ap₂, length}
-use Rattle.xfs_mkfs.specs.Order.{rows_from}
+use Rattle.xfs_writing.specs.Writing.{rows_from}
 use Rattle.xfs_writing.specs.declared.rows.Row.{Row}
 use Rattle.xfs_mkfs.proofs.Rows.{both_parts}
 use Rattle.xfs_mkfs.proofs.order.with_index.Goals as goal

@@ -7,4 +7,4 @@ use Rattle.xfs_naming.proofs.lookups.states_parent.Goals as goal
 pub returns : goal.returns
 returns c =
     let states : DirRec → Bool = λ d. d.parent == c.args.parent in
-    c.have_parent.ensures ∙ ap (list_any states) c.run_of.ensures ∙ any_of_run (λ (d : DirRec). d.ino == c.args.ino) states c.args.names.now.dirs.now
+    c.have_parent.ensures ∙ ap (list_any states) c.records_by_number.ensures ∙ any_of_run (λ (d : DirRec). d.ino == c.args.ino) states c.args.names.now.dirs.now

@@ -1,5 +1,5 @@
 use Rattle.std.proofs.Common.{◌≡◌, ℕ, ◌<◌, List, length, get_or, ◌∙◌, sym, subst, arith}
-use Rattle.xfs_naming.specs.Naming.{Ascend, with_number}
+use Rattle.xfs_naming.specs.Naming.{NumbersAscend, with_number}
 use Rattle.xfs_naming.specs.Ordered.{IsPlaceFor}
 use Rattle.xfs_naming.proofs.Ascending.{ascend_with, already, placed}
 use Rattle.xfs_naming.proofs.numbering.with_number.Goals as goal
@@ -24,4 +24,4 @@ returns-in_ok-insert-in-Err-clause-ascend c =
     let i = c.in-Err.place in
     let at = subst (λ (xs : List ℕ). IsPlaceFor xs n i) c.as_slice.ensures.value c.in-Err.ensures in
     let is : with_number n c.args.numbers.items ≡ c.insert.new.self.items = sym (c.in_ok-insert-in-Err.ensures.items ∙ placed n c.args.numbers.items i at.0 at.1 at.2) in
-    subst (Ascend 0) is (ascend_with 0 n c.args.numbers.items c.requires (omega arith))
+    subst (NumbersAscend 0) is (ascend_with 0 n c.args.numbers.items c.requires (omega arith))

@@ -1,7 +1,7 @@
 use Rattle.std.proofs.Common.{ℕ, ◌==◌, take}
 use Rattle.std.specs.List.{list_any}
 use Rattle.xfs_dirdata.specs.declared.records.EntryRec.{EntryRec}
-use Rattle.xfs_naming.specs.Walking.{HasMarked}
+use Rattle.xfs_naming.specs.Private.Walking.{HasMarked}
 use Rattle.xfs_naming.proofs.walks.mark_named.Given as goal
 
 abbrev pub invariant-loop-entry : goal.invariant-loop-entry

@@ -1,5 +1,5 @@
 use Rattle.std.proofs.Common.{◌+◌, ◌-◌, length}
-use Rattle.xfs_naming.specs.Walking.{IsWalking}
+use Rattle.xfs_naming.specs.Private.Walking.{IsWalking}
 use Rattle.xfs_naming.proofs.walks.walk.Given as goal
 
 abbrev pub invariant-loop-dir : goal.invariant-loop-dir

@@ -1,6 +1,6 @@
 use Rattle.std.proofs.Common.{◌≡◌, ◌≤◌, ◌+◌, ◌*◌, ◌^◌, drop, map, sum}
+use Rattle.xfs_geom.specs.Sums.{slots, free_slots}
 use Rattle.xfs_place.specs.declared.wanted.GroupInodes.{GroupInodes}
-use Rattle.xfs_place.specs.Counts.{slots, free_slots}
 use Rattle.xfs_place.proofs.counting.count_inodes.Given as goal
 
 abbrev pub invariant-loop-group : goal.invariant-loop-group

@@ -1,5 +1,5 @@
 use Rattle.std.proofs.Common.{◌≡◌, ◌≤◌, ◌+◌, ◌*◌, ◌^◌, drop}
-use Rattle.xfs_place.specs.Counts.{free_blocks}
+use Rattle.xfs_geom.specs.Sums.{free_blocks}
 use Rattle.xfs_place.proofs.counting.free_blocks.Given as goal
 
 abbrev pub invariant-loop-span : goal.invariant-loop-span

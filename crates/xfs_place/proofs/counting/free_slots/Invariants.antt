@@ -1,5 +1,5 @@
 use Rattle.std.proofs.Common.{◌≡◌, ◌≤◌, ◌+◌, ◌*◌, ◌^◌, drop}
-use Rattle.xfs_place.specs.Counts.{free_slots}
+use Rattle.xfs_geom.specs.Sums.{free_slots}
 use Rattle.xfs_place.proofs.counting.free_slots.Given as goal
 
 abbrev pub invariant-loop-chunk : goal.invariant-loop-chunk

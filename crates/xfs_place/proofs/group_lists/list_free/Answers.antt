@@ -1,26 +1,26 @@
 use Rattle.std.proofs.Common.{Bool, ◌&&◌, not, nat_lt, List, sym, ◌∙◌, ap, subst, arith}
 use Rattle.xfs_geom.specs.declared.records.Span.{Span}
-use Rattle.xfs_kinds.specs.FreeRuns.{Ascend, is_in}
+use Rattle.xfs_kinds.specs.FreeRuns.{SpansAscend, is_in_spans}
 use Rattle.xfs_kinds.specs.MergedRuns.{held_at}
 use Rattle.xfs_place.proofs.Spanned.{free_if, free_only, in_spans, separate_few, spans_ascend}
 use Rattle.xfs_place.proofs.group_lists.list_free.Goals as goal
 
 pub free_runs-requires : goal.free_runs-requires
 free_runs-requires c =
-    subst (Ascend 0) (sym (c.deref.ensures.value ∙ c.in_ok-used.ensures)) (spans_ascend 0 c.args.owned.now c.requires.ascend)
+    subst (SpansAscend 0) (sym (c.deref.ensures.value ∙ c.in_ok-used.ensures)) (spans_ascend 0 c.args.owned.now c.requires.ascend)
 
 pub returns-clause-held : goal.returns-clause-held
 returns-clause-held c = λ block low none.
     let owned = c.args.owned.now in
-    let used = ap (λ (ss : List Span). is_in ss block) (c.deref.ensures.value ∙ c.in_ok-used.ensures) ∙ in_spans owned block in
-    free_if (is_in c.in_ok-free_runs.field-0.items block) block c.args.end (held_at owned block)
+    let used = ap (λ (ss : List Span). is_in_spans ss block) (c.deref.ensures.value ∙ c.in_ok-used.ensures) ∙ in_spans owned block in
+    free_if (is_in_spans c.in_ok-free_runs.field-0.items block) block c.args.end (held_at owned block)
     (c.in_ok-free_runs.ensures.blocks block ∙ ap (λ (t : Bool). nat_lt block c.args.end && not t) used) low none
 
 pub returns-clause-taken : goal.returns-clause-taken
 returns-clause-taken c = λ block free.
     let owned = c.args.owned.now in
-    let used = ap (λ (ss : List Span). is_in ss block) (c.deref.ensures.value ∙ c.in_ok-used.ensures) ∙ in_spans owned block in
-    free_only (is_in c.in_ok-free_runs.field-0.items block) block c.args.end (held_at owned block)
+    let used = ap (λ (ss : List Span). is_in_spans ss block) (c.deref.ensures.value ∙ c.in_ok-used.ensures) ∙ in_spans owned block in
+    free_only (is_in_spans c.in_ok-free_runs.field-0.items block) block c.args.end (held_at owned block)
     (c.in_ok-free_runs.ensures.blocks block ∙ ap (λ (t : Bool). nat_lt block c.args.end && not t) used) free
 
 pub returns-clause-few : goal.returns-clause-few

@@ -3,7 +3,7 @@ use Rattle.std.proofs.lemmas.List.{length-map}
 use Rattle.xfs_geom.specs.declared.records.Run.{Run}
 use Rattle.xfs_kinds.specs.MergedRuns.{NoneJoin, held_at}
 use Rattle.xfs_place.specs.Claims.{AreClaims}
-use Rattle.xfs_place.specs.Placing.{run_of}
+use Rattle.xfs_place.specs.Placing.{run_of_record}
 use Rattle.xfs_place.proofs.Ordered.{claims_few, merged_claims, offsets_plain}
 use Rattle.xfs_place.proofs.group_lists.list_records.Goals as goal
 
@@ -26,5 +26,5 @@ returns-clause-apart c = subst NoneJoin (sym (c.in_ok-to_records.ensures ∙ c.d
 pub returns-clause-few : goal.returns-clause-few
 returns-clause-few c =
     let records = c.in_ok-to_records.field-0.items in
-    let few = claims_few 0 c.args.end (map run_of records) (returns-clause-claims c).ascend (returns-clause-claims c).each (omega arith) in
-    omega (arith, few, length-map records run_of)
+    let few = claims_few 0 c.args.end (map run_of_record records) (returns-clause-claims c).ascend (returns-clause-claims c).each (omega arith) in
+    omega (arith, few, length-map records run_of_record)

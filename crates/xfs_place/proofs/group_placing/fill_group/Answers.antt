@@ -1,10 +1,11 @@
 use Rattle.std.proofs.Common.{◌≡◌, ◌≤◌, ℕ, List, length, map, drop, sym, ◌∙◌, ap, ap₂, subst, arith}
 use Rattle.std.proofs.lemmas.List.Sums.{count_by-le-length, length-filter}
+use Rattle.xfs_geom.specs.Sums.{has_free}
 use Rattle.xfs_geom.specs.declared.records.Run.{Run}
 use Rattle.xfs_geom.specs.declared.records.Span.{Span}
 use Rattle.xfs_kinds.specs.MergedRuns.{held_at}
-use Rattle.xfs_place.specs.Choice.{AreLowest, Group, IsGroup, group_of, space_blocks}
-use Rattle.xfs_place.specs.Placing.{AreByLength, AreOwned, cut, has_free, inner_blocks, tree_at}
+use Rattle.xfs_place.specs.Choice.{AreLowest, Group, IsPlacingGroup, group_claimed, space_blocks}
+use Rattle.xfs_place.specs.Placing.{AreByLength, AreOwned, cut, inner_blocks, tree_blocks_at}
 use Rattle.xfs_place.proofs.Filled.{is_placed}
 use Rattle.xfs_place.proofs.group_placing.fill_group.Goals as goal
 
@@ -30,15 +31,15 @@ returns c = λ chosen.
     let blocks = c.args.taken.now.blocks.items in
     let n = length blocks in
     let inner : c.inner_size-inner.result ≡ inner_blocks inodes = c.inner_size-inner.ensures.value in
-    let g = group_of uses claims (inner_blocks inodes) in
-    let same : group_of uses claims c.inner_size-inner.result ≡ g = ap (group_of uses claims) inner in
-    let is : IsGroup (group_of uses claims c.inner_size-inner.result) = subst IsGroup (sym same) c.requires.group in
+    let g = group_claimed uses claims (inner_blocks inodes) in
+    let same : group_claimed uses claims c.inner_size-inner.result ≡ g = ap (group_claimed uses claims) inner in
+    let is : IsPlacingGroup (group_claimed uses claims c.inner_size-inner.result) = subst IsPlacingGroup (sym same) c.requires.group in
     let here = c.deref-2.ensures.value in
-    let listed : AreOwned (group_of uses claims c.inner_size-inner.result) c.space_blocks-space.result n c.in_ok-owned.owned.items =
-    subst (λ (bs : List ℕ). AreOwned (group_of uses claims c.inner_size-inner.result) c.space_blocks-space.result (length bs) c.in_ok-owned.owned.items) here
+    let listed : AreOwned (group_claimed uses claims c.inner_size-inner.result) c.space_blocks-space.result n c.in_ok-owned.owned.items =
+    subst (λ (bs : List ℕ). AreOwned (group_claimed uses claims c.inner_size-inner.result) c.space_blocks-space.result (length bs) c.in_ok-owned.owned.items) here
     (c.in_ok-owned.ensures uses (omega (arith, c.requires.few)) is c.requires.claims (subst (AreLowest uses) (sym here) c.requires.taken.low)) in
     let owned : AreOwned g (space_blocks g n) n c.in_ok-owned.owned.items =
-    owned_is g (group_of uses claims c.inner_size-inner.result) c.space_blocks-space.result (space_blocks g n) n c.in_ok-owned.owned.items same c.space_blocks-space.ensures.value listed in
+    owned_is g (group_claimed uses claims c.inner_size-inner.result) c.space_blocks-space.result (space_blocks g n) n c.in_ok-owned.owned.items same c.space_blocks-space.ensures.value listed in
     let runs : c.deref-3.result.now ≡ c.in_ok-owned.owned.items = c.deref-3.ensures.value in
     let again : c.deref-5.result.now ≡ c.in_ok-owned.owned.items = c.deref-5.ensures.value in
     is_placed uses claims inodes c.args.base c.requires.group blocks chosen c.requires.taken.low c.in_ok-owned.owned.items owned
@@ -51,5 +52,5 @@ returns c = λ chosen.
     c.requires.free c.in_ok-rmap.ensures.claims (λ b. c.in_ok-rmap.ensures.held b ∙ ap (λ (rs : List Run). held_at rs b) again) c.in_ok-rmap.ensures.apart
     c.len.result c.len-2.result c.len-3.result (omega (arith, c.len.ensures, c.in_ok-bno.bno.ok.0)) (omega (arith, c.len-2.ensures, c.args.fino.ok.0)) (omega (arith, c.len-3.ensures, c.in_ok-rmap.rmap.ok.0))
     c.list_sizes-sizes.result c.list_sizes-sizes.ensures.sizes
-    (c.from_vec-5.ensures ∙ c.in_ok-trees.ensures ∙ ap (λ (bs : List ℕ). map (tree_at c.args.base) (cut c.list_sizes-sizes.result bs)) c.deref-6.ensures.value)
+    (c.from_vec-5.ensures ∙ c.in_ok-trees.ensures ∙ ap (λ (bs : List ℕ). map (tree_blocks_at c.args.base) (cut c.list_sizes-sizes.result bs)) c.deref-6.ensures.value)
     (c.from_vec-6.ensures ∙ c.in_ok-agfl.ensures ∙ ap₂ (λ (k : ℕ) (bs : List ℕ). drop k bs) c.all_of.ensures c.deref-7.ensures.value)

@@ -1,5 +1,5 @@
 use Rattle.std.proofs.Common.{◌≡◌, length, sym, ◌∙◌, ap, arith}
-use Rattle.xfs_place.specs.Choice.{begins_free, free_count, how_many, one_if}
+use Rattle.xfs_place.specs.Choice.{begins_free, free_run_count, how_many, one_if}
 use Rattle.xfs_place.proofs.Totals.{total_more, total_none}
 use Rattle.xfs_place.proofs.lowest.count_free.Goals as goal
 
@@ -14,7 +14,7 @@ loop-block-preserved c =
     )
 
 pub returns : goal.returns
-unfolding free_count
+unfolding free_run_count
 returns c =
     let all : c.loop-block.block ≡ length c.args.uses.now = omega arith in
     c.loop-block.invariant.0 ∙ ap (how_many (begins_free c.args.uses.now 0)) all

@@ -3,7 +3,7 @@ use Rattle.std.specs.List.{All}
 use Rattle.xfs_geom.specs.Volumes.{volume_of}
 use Rattle.xfs_place.specs.declared.object_placing.AskFor.{AskFor}
 use Rattle.xfs_place.specs.declared.placed.GroupPlaced.{GroupPlaced}
-use Rattle.xfs_place.specs.Counts.{counts_of}
+use Rattle.xfs_place.specs.Counts.{placed_counts}
 use Rattle.xfs_place.specs.Objects.{IsAsk, asks_of}
 use Rattle.xfs_place.proofs.AllPlaced.{asks_are, rooms_small}
 use Rattle.xfs_place.proofs.placing.place.Goals as goal
@@ -15,6 +15,6 @@ keep_with-requires-clause-asks c =
 pub count_all-counts-requires-clause-small : goal.count_all-counts-requires-clause-small
 count_all-counts-requires-clause-small c =
     let w = c.args.wanted.now in
-    subst (λ (gs : List GroupPlaced). (counts_of [] gs).fdblocks < 2 ^ 64) (sym c.deref-4.ensures.value)
+    subst (λ (gs : List GroupPlaced). (placed_counts [] gs).fdblocks < 2 ^ 64) (sym c.deref-4.ensures.value)
     (rooms_small (volume_of w.geometry) c.deref-3.result.now c.as_slice-reserved.result.now c.as_slice-inodes.result.now w.geometry.agcount c.in_ok-groups.groups.items w.geometry.shape.groups
     w.geometry.shape.groups.few c.in_ok-groups.ensures.placed)

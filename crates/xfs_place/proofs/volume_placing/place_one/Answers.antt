@@ -1,7 +1,7 @@
 use Rattle.std.proofs.Common.{◌+◌, ◌-◌, ◌*◌, ◌≤◌, take, drop, sym, subst, arith}
 use Rattle.xfs_geom.specs.Conversions.{group_length}
 use Rattle.xfs_geom.specs.Volumes.{volume_of}
-use Rattle.xfs_place.specs.Choice.{IsGroup, group_of}
+use Rattle.xfs_place.specs.Choice.{IsPlacingGroup, group_claimed}
 use Rattle.xfs_place.specs.Placing.{inner_blocks}
 use Rattle.xfs_place.specs.Wanted.{group_in}
 use Rattle.xfs_place.proofs.GroupIs.{group_is}
@@ -20,7 +20,7 @@ place_group-requires-clause-group c =
     let inside : ag * g.agblocks + group_length v ag ≤ g.dblocks = omega (arith, long.inside, long.value) in
     let same = same_here v w.kept.now w.reserved.now w.claims.now ag g.shape.groups c.requires.group c.requires.claims c.start_of_group-base.result c.group_length-blocks.result
     c.start_of_group-base.ensures.value long.value c.in_ok-claims.claims.items c.deref.result.now c.deref.ensures.value c.in_ok-claims.ensures w.uses.now inner c.requires.uses inside in
-    subst IsGroup (sym same)
+    subst IsPlacingGroup (sym same)
     (group_is v w.kept.now w.reserved.now ag inner c.requires.kept c.requires.group (omega (arith, g.shape.groups.large)) (omega (arith, long.least, long.value)) (omega (arith, long.most, long.value)))
 
 pub place_group-requires-clause-claims : goal.place_group-requires-clause-claims
@@ -46,7 +46,7 @@ returns c =
     let same = same_here v w.kept.now w.reserved.now w.claims.now ag g.shape.groups c.requires.group c.requires.claims c.start_of_group-base.result c.group_length-blocks.result
     c.start_of_group-base.ensures.value long.value c.in_ok-claims.claims.items c.deref.result.now c.deref.ensures.value c.in_ok-claims.ensures w.uses.now inner c.requires.uses inside in
     placed_here c.in_ok-place_group.field-0 (group_in v w.kept.now w.reserved.now ag inner)
-    (group_of (take (c.start_of_group-base.result + c.group_length-blocks.result - c.start_of_group-base.result) (drop c.start_of_group-base.result w.uses.now)) c.deref.result.now inner)
+    (group_claimed (take (c.start_of_group-base.result + c.group_length-blocks.result - c.start_of_group-base.result) (drop c.start_of_group-base.result w.uses.now)) c.deref.result.now inner)
     c.start_of_group-base.result (ag * g.agblocks) c.args.inodes.now same c.start_of_group-base.ensures.value c.in_ok-place_group.ensures
 
 pub list_group-requires-clause-order : goal.list_group-requires-clause-order

@@ -1,9 +1,8 @@
 use Rattle.std.proofs.Common.{◌≡◌, ◌∙◌, ℕ, List, sym, inl, inr, subst, arith, Some}
 use Rattle.xfs_word.specs.Crc.{little_field_of}
-use Rattle.xfs_word.specs.Field.{part_of}
+use Rattle.xfs_word.specs.Field.{part_of, IsZero}
 use Rattle.xfs_geom.specs.Volumes.{volume_of}
 use Rattle.xfs_heads.specs.FreeSpace.{agf_of}
-use Rattle.xfs_heads.specs.Heads.{IsZero}
 use Rattle.xfs_heads.specs.Inodes.{agi_of}
 use Rattle.xfs_render.specs.Groups.{due_agf, due_agi}
 use Rattle.xfs_render.proofs.header_block.put_headers.Goals as goal

@@ -1,6 +1,6 @@
 use Rattle.std.proofs.Common.{arith, length, ap, ◌≡◌}
 use Rattle.xfs_geom.specs.Volumes.{volume_of}
-use Rattle.xfs_render.specs.Counters.{blocks_in}
+use Rattle.xfs_render.specs.Counters.{span_blocks}
 use Rattle.xfs_render.proofs.Sums.{free_small, space_trees}
 use Rattle.xfs_render.proofs.heads.due_agf.Goals as goal
 
@@ -13,10 +13,10 @@ root_in-requires-2-clause-some c = (space_trees _ _ _ _ c.requires.sound).1
 pub root_in-requires-3-clause-some : goal.root_in-requires-3-clause-some
 root_in-requires-3-clause-some c = (space_trees _ _ _ _ c.requires.sound).2
 
-pub blocks_in-requires : goal.blocks_in-requires
-blocks_in-requires c =
+pub span_blocks-requires : goal.span_blocks-requires
+span_blocks-requires c =
     let small = free_small (volume_of c.args.g.now) c.args.ag c.args.placed.now.bno c.requires.sound.bno.lawful in
-    let same : blocks_in c.as_slice-5.result.now ≡ blocks_in c.args.placed.now.bno = ap blocks_in c.as_slice-5.ensures in
+    let same : span_blocks c.as_slice-5.result.now ≡ span_blocks c.args.placed.now.bno = ap span_blocks c.as_slice-5.ensures in
     omega (arith, small, same, c.group_length.ensures.value, c.group_length.type_inv)
 
 pub overflow_sub-result : goal.overflow_sub-result

@@ -3,7 +3,7 @@ use Rattle.std.specs.List.{range_with_len}
 use Rattle.std.proofs.lemmas.Bool.{cases_lt}
 use Rattle.xfs_heads.specs.Log.{state_of}
 use Rattle.xfs_heads.proofs.BlankIsClean.{blank_is_clean}
-use Rattle.xfs_tree.specs.Reading.{bytes_at}
+use Rattle.xfs_tree.specs.Reading.{bytes_of_block}
 use Rattle.xfs_render.specs.Drafts.{Adds}
 use Rattle.xfs_render.specs.Logs.{IsBlankBlock}
 use Rattle.xfs_render.proofs.DraftSteps.{adds_then, held_one}
@@ -23,9 +23,9 @@ loop-i-preserved c =
         | inl early ↦ c.loop-i.invariant.each image (added.adds.before image held) j early
         | inr late ↦
             let same : i ≡ j = omega arith in
-            let bytes : bytes_at image (log + i) ≡ c.put_block.new.block = held_one image (log + i) c.put_block.new.block (omega (arith, c.put_block.auto.block, c.loop-i-test.array_long)) (added.held image held) in
+            let bytes : bytes_of_block image (log + i) ≡ c.put_block.new.block = held_one image (log + i) c.put_block.new.block (omega (arith, c.put_block.auto.block, c.loop-i-test.array_long)) (added.held image held) in
             let here = subst (λ (b : List ℕ). IsBlankBlock c.args.cycle c.args.g.now.uuid i b) (sym bytes) c.put_block.ensures in
-            subst (λ (n : ℕ). IsBlankBlock c.args.cycle c.args.g.now.uuid n (bytes_at image (log + n))) same here
+            subst (λ (n : ℕ). IsBlankBlock c.args.cycle c.args.g.now.uuid n (bytes_of_block image (log + n))) same here
       ];
     }
 
@@ -39,7 +39,7 @@ returns c =
           let blank = λ (i : ℕ) (low : i < g.logblocks). c.loop-i.invariant.each image held i (omega (arith, end, low)) in
           record {
             blank = blank;
-            clean = ap state_of (log_seen (bytes_at image) c.args.cycle g.uuid g.logblocks g.log blank)
+            clean = ap state_of (log_seen (bytes_of_block image) c.args.cycle g.uuid g.logblocks g.log blank)
                 ∙ blank_is_clean c.args.cycle (8 * g.logblocks) c.requires.some c.requires.few (omega (arith, g.shape.log_inside.large));
           };
     }

@@ -2,8 +2,8 @@ use Rattle.std.proofs.Common.{◌≡◌, ◌∙◌, ◌≤◌, List, ℕ, length
 use Rattle.std.proofs.lemmas.List.{take-append-le}
 use Rattle.std.proofs.lemmas.List.Elements.{All-from_get_or}
 use Rattle.xfs_treebuild.specs.Exact.{IsExact}
-use Rattle.xfs_treebuild.specs.Packing.{Holds, lsn_of}
-use Rattle.xfs_tree.specs.Reading.{bytes_at}
+use Rattle.xfs_treebuild.specs.Packing.{HoldsParts, lsn_of}
+use Rattle.xfs_tree.specs.Reading.{bytes_of_block}
 use Rattle.xfs_render.proofs.trees.add_tree.Goals as goal
 
 pub returns : goal.returns
@@ -20,13 +20,13 @@ returns g c =
     record {
       adds = c.in_ok-add.ensures.adds;
       has = λ image held.
-          let blocks : Holds image places part = subst (λ (b : List ℕ). Holds image places b) same (c.in_ok-add.ensures.held image held) in
+          let blocks : HoldsParts image places part = subst (λ (b : List ℕ). HoldsParts image places b) same (c.in_ok-add.ensures.held image held) in
           record {
             reads = c.pack.ensures.reads image blocks;
             packed = c.pack.ensures.packed image blocks;
-            lsns = All-from_get_or (λ place. lsn_of layout (bytes_at image place) ≡ 0) places 0
+            lsns = All-from_get_or (λ place. lsn_of layout (bytes_of_block image place) ≡ 0) places 0
                 (λ j inside. ap (lsn_of layout) (blocks j inside) ∙ c.pack.ensures.lsns j inside);
-            exact = All-from_get_or (λ place. IsExact s (bytes_at image place)) places 0
+            exact = All-from_get_or (λ place. IsExact s (bytes_of_block image place)) places 0
                 (λ j inside. subst (IsExact s) (sym (blocks j inside)) (c.pack.ensures.exact j inside));
           };
     }

@@ -2,7 +2,7 @@ use Rattle.std.proofs.Common.{◌+◌, ◌∙◌, sym, ap, drop, get_or, arith, 
 use Rattle.std.specs.List.{flat_map}
 use Rattle.std.proofs.lemmas.List.{drop_more}
 use Rattle.xfs_geom.specs.Volumes.{volume_of}
-use Rattle.xfs_image.specs.Slots.{inodes_in}
+use Rattle.xfs_image.specs.Slots.{inodes_of_block}
 use Rattle.xfs_scan.specs.Gathered.{held_in, inodes_of_blocks}
 use Rattle.xfs_scan.proofs.Gathering.{slots_end, slots_more}
 use Rattle.xfs_disk.proofs.Reading.{reads_on}
@@ -22,8 +22,8 @@ loop-i-preserved g c =
     let blocks = c.args.blocks.now in
     let before = c.loop-i.invariant in
     record {
-      held = λ image told. slots_more v image (inodes_in v (get_or blocks i 0)) (inodes_of_blocks v (drop i blocks)) (inodes_of_blocks v (drop (i + 1) blocks))
-          (held_in c.loop-i.inodes) (held_in c.see_block.new.inodes) _ (ap (flat_map (inodes_in v)) (drop_more blocks i 0 (search rules)))
+      held = λ image told. slots_more v image (inodes_of_block v (get_or blocks i 0)) (inodes_of_blocks v (drop i blocks)) (inodes_of_blocks v (drop (i + 1) blocks))
+          (held_in c.loop-i.inodes) (held_in c.see_block.new.inodes) _ (ap (flat_map (inodes_of_block v)) (drop_more blocks i 0 (search rules)))
           (c.in-Ok.ensures.held image (before.disk.same_contents ∙ told)) (before.held image told);
       later = let up = before.later in let cause = c.in-Ok.ensures.cause in omega (arith, up, cause);
       disk = reads_on D.size D.holds D.write_faults D.writes D.tells_stops D.moment D.may_leave D.left_since c.args.disk.now c.loop-i.disk c.see_block.new.disk before.disk c.in-Ok.ensures.disk;
@@ -33,4 +33,4 @@ pub returns-clause-held : goal.returns-clause-held
 returns-clause-held g c = λ image told.
     let v = volume_of c.args.g.now in
     slots_end v image (inodes_of_blocks v (drop c.loop-i.i c.args.blocks.now)) (held_in c.loop-i.inodes) _
-    (ap (flat_map (inodes_in v)) (none_left c.args.blocks.now c.loop-i.i (search rules))) (c.loop-i.invariant.held image told)
+    (ap (flat_map (inodes_of_block v)) (none_left c.args.blocks.now c.loop-i.i (search rules))) (c.loop-i.invariant.held image told)

@@ -1,6 +1,6 @@
 use Rattle.std.proofs.Common.{ℕ, List, ap, ◌∙◌}
 use Rattle.xfs_geom.specs.Volumes.{volume_of}
-use Rattle.xfs_scan.specs.Gathered.{Gathered, gathered, inodes_of_blocks, joined}
+use Rattle.xfs_scan.specs.Gathered.{Gathered, gathered, inodes_of_blocks, gathered_both}
 use Rattle.xfs_disk.proofs.Reading.{reads_on}
 use Rattle.xfs_scan.proofs.Rests.{inodes_of_candidates}
 use Rattle.xfs_scan.proofs.scan.scan.Goals as goal
@@ -9,7 +9,7 @@ pub returns-in-Ok-see_blocks-clause-inodes : goal.returns-in-Ok-see_blocks-claus
 returns-in-Ok-see_blocks-clause-inodes g c = λ image told.
     let v = volume_of c.args.g.now in
     c.in-Ok-see_blocks.ensures.held image (c.in-Ok-read_bank.ensures.disk.same_contents ∙ told)
-    ∙ ap (λ (before : Gathered). joined before (gathered v image (inodes_of_blocks v c.deref-2.result.now))) c.new-inodes.ensures
+    ∙ ap (λ (before : Gathered). gathered_both before (gathered v image (inodes_of_blocks v c.deref-2.result.now))) c.new-inodes.ensures
     ∙ ap (λ (blocks : List ℕ). gathered v image (inodes_of_blocks v blocks)) (c.deref-2.ensures.value ∙ c.in-Ok.ensures.blocks)
     ∙ ap (gathered v image) (inodes_of_candidates v c.args.clusters.now)
 

@@ -3,7 +3,7 @@ use Rattle.std.specs.Option.{ForSome}
 use Rattle.xfs_disk.specs.Blocks.{Image}
 use Rattle.xfs_geom.specs.Volumes.{volume_of}
 use Rattle.xfs_disk.proofs.Reading.{reads_none}
-use Rattle.xfs_scan.specs.Gathered.{held_in, joined, of_file}
+use Rattle.xfs_scan.specs.Gathered.{held_in, gathered_both, of_file}
 use Rattle.xfs_scan.proofs.Gathering.{bare_taken, on_ok}
 use Rattle.xfs_scan.proofs.slots.take_bare.Goals as goal
 
@@ -16,8 +16,8 @@ returns-in-Ok g c =
     let mid = held_in c.note_bare.new.inodes in
     let new = held_in c.take_file.new.inodes in
     record {
-      held = on_ok (ForSome (D.holds c.args.disk.now) (λ (image : Image). new ≡ joined mid (of_file v image file [] None)))
-          (ForSome (D.holds c.args.disk.now) (λ (image : Image). new ≡ joined old (of_file v image file (file.ino ∷ []) (Some file.ino))))
+      held = on_ok (ForSome (D.holds c.args.disk.now) (λ (image : Image). new ≡ gathered_both mid (of_file v image file [] None)))
+          (ForSome (D.holds c.args.disk.now) (λ (image : Image). new ≡ gathered_both old (of_file v image file (file.ino ∷ []) (Some file.ino))))
           c.take_file.result (λ held image told. bare_taken v image file old mid new c.in-Ok.ensures (held image told)) c.take_file.ensures.held;
       cause = c.take_file.ensures.cause;
       disk = c.take_file.ensures.disk;

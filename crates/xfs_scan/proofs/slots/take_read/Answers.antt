@@ -5,7 +5,7 @@ use Rattle.xfs_disk.proofs.Reading.{reads_none}
 use Rattle.xfs_inode.specs.declared.files.FileRead.{FileRead}
 use Rattle.xfs_inode.specs.Sound.{IsSound}
 use Rattle.xfs_image.specs.Slots.{slot_bytes}
-use Rattle.xfs_scan.specs.Gathered.{held_in, joined, of_file, of_read}
+use Rattle.xfs_scan.specs.Gathered.{held_in, gathered_both, of_file, of_read}
 use Rattle.xfs_scan.proofs.Gathering.{joined_nothing}
 use Rattle.xfs_scan.proofs.slots.take_read.Goals as goal
 
@@ -32,7 +32,7 @@ returns-in-Free g c =
     let D = g.D.Disk in
     let old = held_in c.args.inodes.now in
     record {
-      held = λ image told. sym (ap (λ (r : FileRead). joined old (of_read (volume_of c.args.g.now) image c.args.ino r)) c.in-Free.is ∙ joined_nothing old);
+      held = λ image told. sym (ap (λ (r : FileRead). gathered_both old (of_read (volume_of c.args.g.now) image c.args.ino r)) c.in-Free.is ∙ joined_nothing old);
       cause = omega arith;
       disk = reads_none D.size D.holds D.write_faults D.writes D.tells_stops D.moment D.may_leave D.left_since c.args.disk.now;
     }
@@ -43,7 +43,7 @@ returns-in-File g c =
     let old = held_in c.args.inodes.now in
     record {
       held = subst (λ (r : FileRead). OnOk c.take_file.result (ForSome (g.D.Disk.holds c.args.disk.now) (λ image.
-          held_in c.take_file.new.inodes ≡ joined old (of_read v image c.args.ino r)))) (sym c.in-File.is) c.take_file.ensures.held;
+          held_in c.take_file.new.inodes ≡ gathered_both old (of_read v image c.args.ino r)))) (sym c.in-File.is) c.take_file.ensures.held;
       cause = c.take_file.ensures.cause;
       disk = c.take_file.ensures.disk;
     }
@@ -55,10 +55,10 @@ returns-in-FileWithoutAttrs g c =
     let file = c.in-FileWithoutAttrs.file in
     let sound = subst (IsSound v c.args.ino) c.in-FileWithoutAttrs.is c.requires.sound in
     let held = subst (λ (n : ℕ). OnOk c.take_bare.result (ForSome (g.D.Disk.holds c.args.disk.now) (λ image.
-    held_in c.take_bare.new.inodes ≡ joined old (of_file v image file (n ∷ []) (Some n))))) sound.keeps.number c.take_bare.ensures.held in
+    held_in c.take_bare.new.inodes ≡ gathered_both old (of_file v image file (n ∷ []) (Some n))))) sound.keeps.number c.take_bare.ensures.held in
     record {
       held = subst (λ (r : FileRead). OnOk c.take_bare.result (ForSome (g.D.Disk.holds c.args.disk.now) (λ image.
-          held_in c.take_bare.new.inodes ≡ joined old (of_read v image c.args.ino r)))) (sym c.in-FileWithoutAttrs.is) held;
+          held_in c.take_bare.new.inodes ≡ gathered_both old (of_read v image c.args.ino r)))) (sym c.in-FileWithoutAttrs.is) held;
       cause = c.take_bare.ensures.cause;
       disk = c.take_bare.ensures.disk;
     }
@@ -68,7 +68,7 @@ returns-in-Unsupported g c =
     let D = g.D.Disk in
     let old = held_in c.args.inodes.now in
     record {
-      held = λ image told. subst (λ (r : FileRead). held_in c.pass.new.self ≡ joined old (of_read (volume_of c.args.g.now) image c.args.ino r)) (sym c.in-Unsupported.is) c.pass.ensures;
+      held = λ image told. subst (λ (r : FileRead). held_in c.pass.new.self ≡ gathered_both old (of_read (volume_of c.args.g.now) image c.args.ino r)) (sym c.in-Unsupported.is) c.pass.ensures;
       cause = omega arith;
       disk = reads_none D.size D.holds D.write_faults D.writes D.tells_stops D.moment D.may_leave D.left_since c.args.disk.now;
     }
@@ -78,7 +78,7 @@ returns-in-Unsound g c =
     let D = g.D.Disk in
     let old = held_in c.args.inodes.now in
     record {
-      held = λ image told. subst (λ (r : FileRead). held_in c.pass-in-Unsound.new.self ≡ joined old (of_read (volume_of c.args.g.now) image c.args.ino r)) (sym c.in-Unsound.is) c.pass-in-Unsound.ensures;
+      held = λ image told. subst (λ (r : FileRead). held_in c.pass-in-Unsound.new.self ≡ gathered_both old (of_read (volume_of c.args.g.now) image c.args.ino r)) (sym c.in-Unsound.is) c.pass-in-Unsound.ensures;
       cause = omega arith;
       disk = reads_none D.size D.holds D.write_faults D.writes D.tells_stops D.moment D.may_leave D.left_since c.args.disk.now;
     }

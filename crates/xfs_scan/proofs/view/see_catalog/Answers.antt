@@ -19,36 +19,36 @@ returns-in-Some-clause-view g c = λ image told.
     file_missing c.args.g.now image c.args.groups _ (c.requires.groups image told)
     (held ∙ ap (λ unread. files_if unread inodes.files.items) c.in-Some.is)
 
-pub returns-in-Ok-build-clause-view : goal.returns-in-Ok-build-clause-view
-returns-in-Ok-build-clause-view g c = λ image told.
+pub returns-in-Ok-build_view-clause-view : goal.returns-in-Ok-build_view-clause-view
+returns-in-Ok-build_view-clause-view g c = λ image told.
     let v = volume_of c.args.g.now in
     let inodes = c.in-Ok-see_recorded.inodes in
     let held = files_held v image c.args.groups c.deref.result.now (held_in inodes)
     (c.deref.ensures.value ∙ c.in-Ok.ensures.clusters ∙ ap (clusters_of v) c.as_slice-2.ensures) (c.in-Ok-see_recorded.ensures.inodes image told) in
-    ap Ok (c.in-Ok-build.ensures.catalog image (c.in-Ok-see_recorded.ensures.disk.same_contents ∙ told))
+    ap Ok (c.in-Ok-build_view.ensures.catalog image (c.in-Ok-see_recorded.ensures.disk.same_contents ∙ told))
     ∙ all_read c.args.g.now image c.args.groups inodes.files.items (c.requires.groups image told)
     (held ∙ ap (λ unread. files_if unread inodes.files.items) c.in-None.is)
 
-pub build-requires-clause-entries : goal.build-requires-clause-entries
-build-requires-clause-entries g c = λ image told.
+pub build_view-requires-clause-entries : goal.build_view-requires-clause-entries
+build_view-requires-clause-entries g c = λ image told.
     let v = volume_of c.args.g.now in
     let held = c.in-Ok-see_recorded.ensures.inodes image (sym c.in-Ok-see_recorded.ensures.disk.same_contents ∙ told) in
     ap (λ (gathered : Gathered). gathered.entries) held ∙ entries_of_files v image (flat_map (cluster_inodes v) c.deref.result.now)
     ∙ ap (λ (gathered : Gathered). entries_read v image gathered.files) (sym held)
 
-pub build-requires-clause-dirs : goal.build-requires-clause-dirs
-build-requires-clause-dirs g c = λ image told.
+pub build_view-requires-clause-dirs : goal.build_view-requires-clause-dirs
+build_view-requires-clause-dirs g c = λ image told.
     let v = volume_of c.args.g.now in
     let held = c.in-Ok-see_recorded.ensures.inodes image (sym c.in-Ok-see_recorded.ensures.disk.same_contents ∙ told) in
     ap (λ (gathered : Gathered). gathered.dirs) held ∙ dirs_of_files v image (flat_map (cluster_inodes v) c.deref.result.now)
     ∙ ap (λ (gathered : Gathered). dirs_read v image gathered.files) (sym held)
 
-pub returns-in-Ok-build-clause-disk : goal.returns-in-Ok-build-clause-disk
-returns-in-Ok-build-clause-disk g c =
+pub returns-in-Ok-build_view-clause-disk : goal.returns-in-Ok-build_view-clause-disk
+returns-in-Ok-build_view-clause-disk g c =
     let D = g.D.Disk in
-    reads_on D.size D.holds D.write_faults D.writes D.tells_stops D.moment D.may_leave D.left_since c.args.disk.now c.see_recorded.new.disk c.build.new.disk c.see_recorded.ensures.disk c.build.ensures.disk
+    reads_on D.size D.holds D.write_faults D.writes D.tells_stops D.moment D.may_leave D.left_since c.args.disk.now c.see_recorded.new.disk c.build_view.new.disk c.see_recorded.ensures.disk c.build_view.ensures.disk
 
 pub returns-clause-disk : goal.returns-clause-disk
 returns-clause-disk g c =
     let D = g.D.Disk in
-    reads_on D.size D.holds D.write_faults D.writes D.tells_stops D.moment D.may_leave D.left_since c.args.disk.now c.see_recorded.new.disk c.build.new.disk c.see_recorded.ensures.disk c.build.ensures.disk
+    reads_on D.size D.holds D.write_faults D.writes D.tells_stops D.moment D.may_leave D.left_since c.args.disk.now c.see_recorded.new.disk c.build_view.new.disk c.see_recorded.ensures.disk c.build_view.ensures.disk

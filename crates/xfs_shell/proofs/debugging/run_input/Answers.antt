@@ -1,6 +1,6 @@
 use Rattle.std.proofs.Common.{◌≡◌, ◌∙◌, ap, subst, ℕ, List}
 use Rattle.xfs_geom.specs.Volumes.{volume_of}
-use Rattle.xfs_shell.specs.Lines.{parts_of}
+use Rattle.xfs_shell.specs.Lines.{line_parts}
 use Rattle.xfs_shell.specs.Running.{may_write, until_quit}
 use Rattle.xfs_shell.specs.Shells.{LeavesDisk, Prints, input_lines, most_of}
 use Rattle.xfs_shell.specs.declared.lines.Cut.TheVariants.{LineFeeds}
@@ -19,8 +19,8 @@ returns-clause-input g c = input_lines_ran (g.S.Source.left c.args.input.now) c.
 pub returns-clause-image : goal.returns-clause-image
 returns-clause-image g c =
     λ image told lines told_lines.
-    let ran : c.as_slice-2.result.now ≡ parts_of LineFeeds c.in-Ok.bytes.items =
-    c.as_slice-2.ensures.value ∙ c.in-Ok-parts.ensures ∙ ap (λ (bytes : List ℕ). parts_of LineFeeds bytes) c.as_slice.ensures.value
+    let ran : c.as_slice-2.result.now ≡ line_parts LineFeeds c.in-Ok.bytes.items =
+    c.as_slice-2.ensures.value ∙ c.in-Ok-parts.ensures ∙ ap (λ (bytes : List ℕ). line_parts LineFeeds bytes) c.as_slice.ensures.value
     in
     subst
     (λ (ls : List (List ℕ)).
@@ -32,8 +32,8 @@ returns-clause-image g c =
 pub returns-clause-text : goal.returns-clause-text
 returns-clause-text g c =
     λ image told lines told_lines before put.
-    let ran : c.as_slice-2.result.now ≡ parts_of LineFeeds c.in-Ok.bytes.items =
-    c.as_slice-2.ensures.value ∙ c.in-Ok-parts.ensures ∙ ap (λ (bytes : List ℕ). parts_of LineFeeds bytes) c.as_slice.ensures.value
+    let ran : c.as_slice-2.result.now ≡ line_parts LineFeeds c.in-Ok.bytes.items =
+    c.as_slice-2.ensures.value ∙ c.in-Ok-parts.ensures ∙ ap (λ (bytes : List ℕ). line_parts LineFeeds bytes) c.as_slice.ensures.value
     in
     subst
     (λ (ls : List (List ℕ)).
@@ -43,8 +43,8 @@ returns-clause-text g c =
 
 pub returns-clause-disk : goal.returns-clause-disk
 returns-clause-disk g c =
-    let ran : c.as_slice-2.result.now ≡ parts_of LineFeeds c.in-Ok.bytes.items =
-    c.as_slice-2.ensures.value ∙ c.in-Ok-parts.ensures ∙ ap (λ (bytes : List ℕ). parts_of LineFeeds bytes) c.as_slice.ensures.value
+    let ran : c.as_slice-2.result.now ≡ line_parts LineFeeds c.in-Ok.bytes.items =
+    c.as_slice-2.ensures.value ∙ c.in-Ok-parts.ensures ∙ ap (λ (bytes : List ℕ). line_parts LineFeeds bytes) c.as_slice.ensures.value
     in
     over_more g.D.Disk.size g.D.Disk.holds g.D.Disk.faults g.D.Disk.write_faults g.D.Disk.reads g.D.Disk.writes g.D.Disk.tells_stops g.D.Disk.moment g.D.Disk.may_leave
     g.D.Disk.left_since (may_write c.args.leave) (until_quit c.as_slice-2.result.now) (most_of (input_lines (g.S.Source.left c.args.input.now))) c.run_lines.result
@@ -58,8 +58,8 @@ returns-clause-cause g c = c.run_lines.ensures.cause (g.S.Source.faults c.args.i
 pub returns-clause-stops : goal.returns-clause-stops
 returns-clause-stops g c =
     λ image told lines told_lines.
-    let ran : c.as_slice-2.result.now ≡ parts_of LineFeeds c.in-Ok.bytes.items =
-    c.as_slice-2.ensures.value ∙ c.in-Ok-parts.ensures ∙ ap (λ (bytes : List ℕ). parts_of LineFeeds bytes) c.as_slice.ensures.value
+    let ran : c.as_slice-2.result.now ≡ line_parts LineFeeds c.in-Ok.bytes.items =
+    c.as_slice-2.ensures.value ∙ c.in-Ok-parts.ensures ∙ ap (λ (bytes : List ℕ). line_parts LineFeeds bytes) c.as_slice.ensures.value
     in
     subst
     (λ (ls : List (List ℕ)). HasPassed g.D.Disk.holds g.D.Disk.tells_stops g.D.Disk.moment g.D.Disk.may_leave g.D.Disk.left_since (volume_of c.args.geometry.now) c.args.leave ls image c.args.disk.now c.run_lines.new.disk)

@@ -2,9 +2,9 @@ use Rattle.std.proofs.Common.{◌≡◌, ◌∙◌, ◌++◌, [], Some, List, �
 use Rattle.xfs_geom.specs.Volumes.{volume_of}
 use Rattle.xfs_commands.specs.Commands.{session_of}
 use Rattle.xfs_commands.specs.Cursors.{is_quit}
-use Rattle.xfs_shell.specs.Lines.{parts_of}
+use Rattle.xfs_shell.specs.Lines.{line_parts}
 use Rattle.xfs_shell.specs.Running.{is_quit_words, may_write, shelled, until_quit}
-use Rattle.xfs_shell.specs.Shells.{HasCause, IsEarly, IsOfLines, LeavesDisk, Prints, RunsOver}
+use Rattle.xfs_shell.specs.Shells.{HasSessionCause, IsEarly, IsOfLines, LeavesDisk, Prints, RunsOver}
 use Rattle.xfs_shell.specs.declared.lines.Cut.TheVariants.{Blanks}
 use Rattle.xfs_shell.specs.declared.outcomes.ShellOutcome.{ShellOutcome}
 use Rattle.xfs_shell.proofs.Ending.{at_end, cause_behind, early_first, line_ended, line_is, next_image, quitted, ran_lines, stepped, text_at_end, text_ended, text_quitted, text_stepped}
@@ -133,7 +133,7 @@ returns-in-Err-clause-disk g c =
 pub returns-in-Err-clause-cause : goal.returns-in-Err-clause-cause
 returns-in-Err-clause-cause g c =
     λ takes takes_now.
-    subst (λ (o : ShellOutcome). HasCause (g.D.Disk.faults c.args.disk.now) (g.D.Disk.faults c.run_and_put.new.disk) (g.D.Disk.write_faults c.args.disk.now)
+    subst (λ (o : ShellOutcome). HasSessionCause (g.D.Disk.faults c.args.disk.now) (g.D.Disk.faults c.run_and_put.new.disk) (g.D.Disk.write_faults c.args.disk.now)
     (g.D.Disk.write_faults c.run_and_put.new.disk) takes takes_now (g.O.Sink.faults c.args.out.now) (g.O.Sink.faults c.run_and_put.new.out) o) (sym c.behind.ensures)
     (cause_behind _ _ _ _ _ _ takes takes_now _ _ _ c.in-Err.end c.loop-finished.finished c.loop-finished.invariant.counts.reads c.loop-finished.invariant.counts.writes
     c.loop-finished.invariant.counts.puts c.in-Err.ensures.cause)
@@ -190,8 +190,8 @@ loop-finished-preserved g c =
       quits =
           let same = line_is c.args.lines.now c.loop-finished.finished c.word_at-line.result.now c.word_at-line.ensures c.loop-finished-test.true in
           quit_next c.args.lines.now c.loop-finished.finished [] c.loop-finished-test.true
-          (ap (λ (line : List ℕ). is_quit_words (parts_of Blanks line)) (sym same)
-          ∙ no_quit (parts_of Blanks c.word_at-line.result.now) (is_quit c.in-Ok.verdict) c.in-Ok.ensures.quits (sym c.is_quit.ensures ∙ c.if-is_quit.false))
+          (ap (λ (line : List ℕ). is_quit_words (line_parts Blanks line)) (sym same)
+          ∙ no_quit (line_parts Blanks c.word_at-line.result.now) (is_quit c.in-Ok.verdict) c.in-Ok.ensures.quits (sym c.is_quit.ensures ∙ c.if-is_quit.false))
           ∙ c.loop-finished.invariant.quits;
       counts =
           record {

@@ -3,8 +3,8 @@ use Rattle.xfs_geom.specs.Volumes.{volume_of}
 use Rattle.xfs_commands.specs.Commands.{Session, session_of}
 use Rattle.xfs_shell.specs.Running.{attempts, block_at_place, image_after, is_quit_words, pushes_in, runs_first}
 use Rattle.xfs_commands.specs.Cursors.{pushed, settled_session}
-use Rattle.xfs_shell.specs.Sessions.{IsRun, Stays}
-use Rattle.xfs_objects.specs.declared.objects.Place.{Place}
+use Rattle.xfs_shell.specs.Sessions.{IsRunCommand, Stays}
+use Rattle.xfs_objects.specs.declared.objects.ObjectPlace.{ObjectPlace}
 use Rattle.xfs_disk.specs.Blocks.{Image}
 use Rattle.xfs_shell.specs.Stops.{Passes}
 use Rattle.xfs_shell.proofs.Pushing.{behind_puts, behind_ran, behind_stays}
@@ -28,18 +28,18 @@ returns-clause-outcome g c =
     let run =
     subst
     (λ (ws : List (List ℕ)).
-    IsRun (runs_first v c.args.leave ws (block_at_place image t.at) t) image c.in-Ok-run_command.verdict c.args.text.now.items
+    IsRunCommand (runs_first v c.args.leave ws (block_at_place image t.at) t) image c.in-Ok-run_command.verdict c.args.text.now.items
     c.run_command.new.text.items now (g.D.Disk.holds c.run_command.new.disk) (g.D.Disk.writes c.args.disk.now) (g.D.Disk.writes c.run_command.new.disk))
     rest
     (c.in-Ok-run_command.ensures.outcome image told)
     in
-    let kept : length c.as_slice-kept.result.now ≡ length s.stack = ap (λ (stack : List Place). length stack) c.as_slice-kept.ensures.value in
-    let settled : session_of c.settle.new.self ≡ settled_session c.in-Ok-run_command.verdict (length s.stack) now =
-    c.settle.ensures.session ∙ ap (λ (n : ℕ). settled_session c.in-Ok-run_command.verdict n now) kept
+    let kept : length c.as_slice-kept.result.now ≡ length s.stack = ap (λ (stack : List ObjectPlace). length stack) c.as_slice-kept.ensures.value in
+    let settled : session_of c.drop_refused.new.self ≡ settled_session c.in-Ok-run_command.verdict (length s.stack) now =
+    c.drop_refused.ensures.session ∙ ap (λ (n : ℕ). settled_session c.in-Ok-run_command.verdict n now) kept
     in
     subst
     (λ (u : Session).
-    IsRun (attempts v c.args.leave words (block_at_place image s.at) s) image c.in-Ok-run_command.verdict c.args.text.now.items
+    IsRunCommand (attempts v c.args.leave words (block_at_place image s.at) s) image c.in-Ok-run_command.verdict c.args.text.now.items
     c.run_command.new.text.items u (g.D.Disk.holds c.run_command.new.disk) (g.D.Disk.writes c.args.disk.now) (g.D.Disk.writes c.run_command.new.disk))
     (sym settled)
     (behind_ran v c.args.leave words image s t now c.args.place c.in-Ok-run_command.verdict c.args.text.now.items c.run_command.new.text.items

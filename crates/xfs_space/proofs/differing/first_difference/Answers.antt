@@ -1,7 +1,7 @@
 use Rattle.std.proofs.Common.{ℕ, max, min, ◌+◌, ◌==◌, ◌&&◌, drop, get_or, map, sym, ◌∙◌, ap, ap₂, subst, arith}
 use Rattle.std.proofs.lemmas.Bool.{and_parts, eqb-true}
 use Rattle.xfs_geom.specs.declared.records.RmapRec.{RmapRec}
-use Rattle.xfs_kinds.specs.MergedRuns.{word_at}
+use Rattle.xfs_kinds.specs.MergedRuns.{offset_word_at}
 use Rattle.xfs_space.specs.Maps.{IsFirstDifference}
 use Rattle.xfs_space.specs.SpaceLaws.{recorded_run}
 use Rattle.xfs_space.proofs.Splits.{no_run}
@@ -44,7 +44,7 @@ returns-then-not-agree c =
     let swept = swept_heads f (map f c.args.records.now) c.args.runs.now c.args.records.now c.args.runs.now c.loop-i.i c.loop-i.j c.loop-i.at no_record no_run x c.loop-i-test.true c.if-j-runs.true
     c.recorded_run-x.ensures c.loop-i.invariant in
     let same = sym c.later-held.ensures ∙ c.if-held-due.false ∙ c.later-due.ensures in
-    let unlike = ap (λ (n : ℕ). x.owner == y.owner && word_at x n == word_at y n) (sym c.later-held.ensures) ∙ sym c.agree.ensures ∙ c.if-not-agree.true in
+    let unlike = ap (λ (n : ℕ). x.owner == y.owner && offset_word_at x n == offset_word_at y n) (sym c.later-held.ensures) ∙ sym c.agree.ensures ∙ c.if-not-agree.true in
     subst (λ (n : ℕ). IsFirstDifference (map f c.args.records.now) c.args.runs.now n) (sym c.later-held.ensures)
     (words_differ (map f c.args.records.now) c.args.runs.now x y (map f (drop (c.loop-i.i + 1) c.args.records.now)) (drop (c.loop-i.j + 1) c.args.runs.now) c.loop-i.at swept same unlike)
 
@@ -65,11 +65,11 @@ loop-i-preserved c =
     let swept = swept_heads f (map f c.args.records.now) c.args.runs.now c.args.records.now c.args.runs.now c.loop-i.i c.loop-i.j c.loop-i.at no_record no_run x c.loop-i-test.true c.if-j-runs.true
     c.recorded_run-x.ensures c.loop-i.invariant in
     let same = sym c.later-held.ensures ∙ c.if-held-due.false ∙ c.later-due.ensures in
-    let alike = ap (λ (n : ℕ). x.owner == y.owner && word_at x n == word_at y n) (sym c.later-held.ensures) ∙ sym c.agree.ensures ∙ c.if-not-agree.false in
+    let alike = ap (λ (n : ℕ). x.owner == y.owner && offset_word_at x n == offset_word_at y n) (sym c.later-held.ensures) ∙ sym c.agree.ensures ∙ c.if-not-agree.false in
     let h = max x.start c.loop-i.at in
-    let parts = and_parts (x.owner == y.owner) (word_at x h == word_at y h) alike in
+    let parts = and_parts (x.owner == y.owner) (offset_word_at x h == offset_word_at y h) alike in
     swept_step f (map f c.args.records.now) c.args.runs.now c.args.records.now c.args.runs.now c.loop-i.i c.loop-i.j c.loop-i.at c.earlier-at.result c.passed-i.result c.passed-j.result no_record no_run x
-    c.loop-i-test.true c.if-j-runs.true c.recorded_run-x.ensures swept same (eqb-true x.owner y.owner parts.0) (eqb-true (word_at x h) (word_at y h) parts.1) c.earlier-at.ensures
+    c.loop-i-test.true c.if-j-runs.true c.recorded_run-x.ensures swept same (eqb-true x.owner y.owner parts.0) (eqb-true (offset_word_at x h) (offset_word_at y h) parts.1) c.earlier-at.ensures
     c.passed-i.ensures c.passed-j.ensures
 
 pub returns-then-i-records : goal.returns-then-i-records

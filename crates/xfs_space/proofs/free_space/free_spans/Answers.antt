@@ -2,7 +2,7 @@ use Rattle.std.proofs.Common.{ℕ, List, map, sym, ◌∙◌, ap, ap₂, subst, 
 use Rattle.rayon.proofs.ListFacts.{IfOk-then}
 use Rattle.xfs_geom.specs.Volumes.{volume_of}
 use Rattle.xfs_geom.specs.declared.records.Span.{Span}
-use Rattle.xfs_kinds.specs.FreeRuns.{Ascend, free_of}
+use Rattle.xfs_kinds.specs.FreeRuns.{SpansAscend, free_of}
 use Rattle.xfs_space.specs.Sorted.{span_in}
 use Rattle.xfs_space.proofs.FreeSpans.{ascends, free_is}
 use Rattle.xfs_space.proofs.Splits.{all_behind}
@@ -14,7 +14,7 @@ spans_of-requires-clause-behind c =
 
 pub free_runs-requires : goal.free_runs-requires
 free_runs-requires c =
-    subst (λ (ss : List Span). Ascend 0 ss) (sym (c.deref.ensures.value ∙ c.in_ok-used.ensures))
+    subst (λ (ss : List Span). SpansAscend 0 ss) (sym (c.deref.ensures.value ∙ c.in_ok-used.ensures))
     (ascends c.start_of_group.result 0 (c.args.ag * c.args.g.now.agblocks) c.args.runs.now (omega (arith, c.start_of_group.ensures.value)) c.requires.follow)
 
 pub returns : goal.returns

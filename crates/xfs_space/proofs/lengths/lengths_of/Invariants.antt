@@ -1,5 +1,5 @@
 use Rattle.std.proofs.Common.{◌≡◌, ◌++◌, drop, map}
-use Rattle.xfs_space.specs.Ranks.{length_of}
+use Rattle.xfs_space.specs.Private.Ranks.{length_of}
 use Rattle.xfs_space.proofs.lengths.lengths_of.Given as goal
 
 abbrev pub invariant-loop-span : goal.invariant-loop-span

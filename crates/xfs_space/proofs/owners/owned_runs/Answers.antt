@@ -1,8 +1,9 @@
 use Rattle.std.proofs.Common.{List, sym, subst}
 use Rattle.std.specs.List.{All, flat_map}
+use Rattle.xfs_kinds.specs.Owners.{log_owner}
 use Rattle.xfs_geom.specs.Volumes.{volume_of}
 use Rattle.xfs_geom.specs.declared.records.Run.{Run}
-use Rattle.xfs_space.specs.Owners.{file_runs, groups_runs, log_owner, owned_runs, run}
+use Rattle.xfs_space.specs.Owners.{file_runs, groups_runs, owned_runs, run}
 use Rattle.xfs_space.specs.Sorted.{IsOfOneGroup, IsOwned}
 use Rattle.xfs_space.proofs.GoodRuns.{good_all, groups_of, owned_of}
 use Rattle.xfs_space.proofs.OwnedRuns.{joined}

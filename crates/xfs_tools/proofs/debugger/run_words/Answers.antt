@@ -1,5 +1,5 @@
 use Rattle.std.proofs.Common.{◌≡◌, refl}
-use Rattle.xfs_options.specs.Debugging.{said}
+use Rattle.xfs_options.specs.DebugWords.{said}
 use Rattle.xfs_tools.specs.Debugging.{IsShelled}
 use Rattle.xfs_tools.proofs.Refusing.{refused_is_debugged, session_is_debugged}
 use Rattle.xfs_tools.proofs.debugger.run_words.Goals as goal

@@ -1,7 +1,7 @@
 use Rattle.std.proofs.Common.{ℕ, List, [], Option, None, ◌∙◌, ap}
 use Rattle.std.proofs.lemmas.Option.{get_or_from_slice_get}
 use Rattle.xfs_geom.specs.Volumes.{volume_of}
-use Rattle.xfs_tree.specs.Reading.{bytes_at, at_block}
+use Rattle.xfs_tree.specs.Reading.{bytes_of_block, at_block}
 use Rattle.xfs_tree.specs.Rules.{block_fault}
 use Rattle.xfs_disk.proofs.Reading.{reads_none}
 use Rattle.xfs_tree.proofs.Judged.{place_judged, bytes_judged}
@@ -33,7 +33,7 @@ pub returns-in-None-clause-judged : goal.returns-in-None-clause-judged
 returns-in-None-clause-judged g c = λ image told.
     let seat = c.args.seat.now in
     bytes_judged (λ (bytes : List ℕ). block_fault (g.K.Kind.shape c.args.kind.now) (volume_of c.args.g.now) c.args.level c.args.beside.now.left c.args.beside.now.right c.args.before seat bytes)
-    seat.place c.in-Ok-None.field-0 _ c.block_fault.result (bytes_at image seat.place) c.read.new.into c.in-Ok-None.field-0-is c.in-Ok-None.ensures.fault
+    seat.place c.in-Ok-None.field-0 _ c.block_fault.result (bytes_of_block image seat.place) c.read.new.into c.in-Ok-None.field-0-is c.in-Ok-None.ensures.fault
     c.block_fault.ensures.fault (get_or_from_slice_get image seat.place c.read.new.into [] (c.in-Ok.ensures.bytes image told))
     ∙ ap (λ (o : Option ℕ). at_block seat.place o None) c.in-None.is
 
@@ -52,7 +52,7 @@ pub returns-in-Some-clause-judged : goal.returns-in-Some-clause-judged
 returns-in-Some-clause-judged g c = λ image told.
     let seat = c.args.seat.now in
     bytes_judged (λ (bytes : List ℕ). block_fault (g.K.Kind.shape c.args.kind.now) (volume_of c.args.g.now) c.args.level c.args.beside.now.left c.args.beside.now.right c.args.before seat bytes)
-    seat.place c.in-Ok-None.field-0 _ c.block_fault.result (bytes_at image seat.place) c.read.new.into c.in-Ok-None.field-0-is c.in-Ok-None.ensures.fault
+    seat.place c.in-Ok-None.field-0 _ c.block_fault.result (bytes_of_block image seat.place) c.read.new.into c.in-Ok-None.field-0-is c.in-Ok-None.ensures.fault
     c.block_fault.ensures.fault (get_or_from_slice_get image seat.place c.read.new.into [] (c.in-Ok.ensures.bytes image told))
     ∙ ap (λ (o : Option ℕ). at_block seat.place o None) c.in-Some.is
 

@@ -1,7 +1,7 @@
 use Rattle.std.proofs.Common.{rules, ◌≡◌, ◌+◌, ◌∷◌, drop, None, sym, ◌∙◌, ap, arith}
 use Rattle.xfs_geom.specs.Volumes.{volume_of}
 use Rattle.xfs_tree.specs.declared.seats.Seat.{Seat}
-use Rattle.xfs_tree.specs.Reading.{bytes_at}
+use Rattle.xfs_tree.specs.Reading.{bytes_of_block}
 use Rattle.xfs_tree.specs.Rules.{last_of}
 use Rattle.xfs_tree.specs.Blocks.{records_of}
 use Rattle.xfs_tree.proofs.Causes.{caused_before, fault_of_row}
@@ -48,7 +48,7 @@ loop-i-preserved g c =
       judged = λ image told. row_more s v image 0 c.loop-i.met.blocks.items c.enter.new.met.blocks.items c.loop-i.left None c.place_at.result c.loop-i.before c.last_record-before.result seat
           (drop i row) (drop (i + 1) row) _ split c.place_at.ensures c.in-Ok.ensures.blocks (c.last_record-before.ensures ∙ ap (λ block. last_of c.loop-i.before (records_of s block)) (sym (c.in-Ok.ensures.bytes image (before.disk.same_contents ∙ told))))
           (c.in-Ok.ensures.judged image (before.disk.same_contents ∙ told)) (before.judged image told);
-      records = λ image told. held_more (λ (seat : Seat g.row.K-Key.Denot). records_of s (bytes_at image seat.place)) seat (drop i row) (drop (i + 1) row)
+      records = λ image told. held_more (λ (seat : Seat g.row.K-Key.Denot). records_of s (bytes_of_block image seat.place)) seat (drop i row) (drop (i + 1) row)
           c.loop-i.records.items c.push_records.new.records.items _ split (search rules) (before.records image told);
       blocks = places_more seat (drop i row) (drop (i + 1) row) c.loop-i.met.blocks.items c.enter.new.met.blocks.items _ split c.in-Ok.ensures.blocks before.blocks;
       block = c.in-Ok.ensures.whole;
@@ -63,7 +63,7 @@ returns-clause-judged g c = λ image told.
 
 pub returns-clause-records : goal.returns-clause-records
 returns-clause-records g c = λ image told.
-    held_all (λ (seat : Seat g.row.K-Key.Denot). records_of (g.K.Kind.shape c.args.kind.now) (bytes_at image seat.place)) (drop c.loop-i.i c.args.row.now) c.loop-i.records.items _
+    held_all (λ (seat : Seat g.row.K-Key.Denot). records_of (g.K.Kind.shape c.args.kind.now) (bytes_of_block image seat.place)) (drop c.loop-i.i c.args.row.now) c.loop-i.records.items _
     (none_left c.args.row.now c.loop-i.i (search rules)) (c.loop-i.invariant.records image told)
 
 pub returns-clause-blocks : goal.returns-clause-blocks

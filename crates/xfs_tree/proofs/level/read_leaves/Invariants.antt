@@ -5,7 +5,7 @@ use Rattle.xfs_geom.specs.Volumes.{volume_of}
 use Rattle.xfs_tree.specs.Answers.{IsMet}
 use Rattle.xfs_disk.specs.Reads.{OnlyReads}
 use Rattle.xfs_tree.specs.Blocks.{records_of}
-use Rattle.xfs_tree.specs.Reading.{bytes_at, places_of, row_fault}
+use Rattle.xfs_tree.specs.Reading.{bytes_of_block, places_of, row_fault}
 use Rattle.xfs_tree.proofs.level.read_leaves.Given as goal
 
 abbrev pub invariant-loop-i : goal.invariant-loop-i
@@ -16,8 +16,8 @@ invariant-loop-i g l = record {
       row_fault (g.K.Kind.shape l.kind) (volume_of l.g) image 0 l.met.blocks.items l.left None l.before (drop l.i l.row)
       ≡ row_fault (g.K.Kind.shape l.kind) (volume_of l.g) image 0 l.fn.met.blocks.items None None None l.row);
   records : ForSome (g.D.Disk.holds l.fn.disk) (λ image.
-      l.records.items ++ flat_map (λ seat. records_of (g.K.Kind.shape l.kind) (bytes_at image seat.place)) (drop l.i l.row)
-      ≡ flat_map (λ seat. records_of (g.K.Kind.shape l.kind) (bytes_at image seat.place)) l.row);
+      l.records.items ++ flat_map (λ seat. records_of (g.K.Kind.shape l.kind) (bytes_of_block image seat.place)) (drop l.i l.row)
+      ≡ flat_map (λ seat. records_of (g.K.Kind.shape l.kind) (bytes_of_block image seat.place)) l.row);
   blocks : l.met.blocks.items ++ places_of (drop l.i l.row) ≡ l.fn.met.blocks.items ++ places_of l.row;
   block : length l.block ≡ 4096;
   later : g.D.Disk.faults l.fn.disk ≤ g.D.Disk.faults l.disk;

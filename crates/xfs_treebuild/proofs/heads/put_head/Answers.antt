@@ -1,5 +1,5 @@
 use Rattle.std.proofs.Common.{ℕ, IsTrue, get_or, refl, subst}
-use Rattle.xfs_word.specs.Field.{Keeps, KeepsParts}
+use Rattle.xfs_word.specs.Field.{KeepsBeside, KeepsParts}
 use Rattle.xfs_geom.specs.Volumes.{volume_of}
 use Rattle.xfs_tree.specs.declared.layout.Layout.{Layout}
 use Rattle.xfs_tree.specs.Layout.{header_len}
@@ -39,7 +39,7 @@ returns-clause-headed g c =
 
 pub returns-clause-keeps : goal.returns-clause-keeps
 returns-clause-keeps g c =
-    subst (λ (l : Layout). Keeps c.args.block.now c.put_header.new.block 0 (header_len l)) c.layout_of-layout.ensures.value c.put_header.ensures.keeps
+    subst (λ (l : Layout). KeepsBeside c.args.block.now c.put_header.new.block 0 (header_len l)) c.layout_of-layout.ensures.value c.put_header.ensures.keeps
 
 pub returns-clause-keeps_parts : goal.returns-clause-keeps_parts
 returns-clause-keeps_parts g c =

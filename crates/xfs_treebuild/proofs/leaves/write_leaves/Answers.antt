@@ -1,9 +1,9 @@
 use Rattle.std.proofs.Common.{◌+◌, ◌*◌, ◌≤◌, length, map, ℕ, sym, ◌∙◌, ap, subst, arith}
+use Rattle.xfs_disk.specs.Shares.{share_of}
 use Rattle.xfs_geom.specs.Volumes.{volume_of}
 use Rattle.xfs_word.specs.Field.{KeepsParts}
 use Rattle.xfs_tree.specs.Layout.{header_len}
-use Rattle.xfs_treebuild.specs.Packing.{share_of}
-use Rattle.xfs_treebuild.specs.Placed.{IsLeafAt}
+use Rattle.xfs_treebuild.specs.Private.Placed.{IsLeafAt}
 use Rattle.xfs_treebuild.proofs.PackingExact.{leaf_exact, share_length}
 use Rattle.xfs_treebuild.proofs.PackingMade.{leaf_made, next_more}
 use Rattle.xfs_treebuild.proofs.PackingShares.{share_most}

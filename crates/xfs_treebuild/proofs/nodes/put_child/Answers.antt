@@ -1,5 +1,5 @@
 use Rattle.std.proofs.Common.{◌≡◌, ℕ, ◌∙◌, ap, subst}
-use Rattle.xfs_word.specs.Field.{Keeps, KeepsParts}
+use Rattle.xfs_word.specs.Field.{KeepsBeside, KeepsParts}
 use Rattle.xfs_geom.specs.Volumes.{volume_of}
 use Rattle.xfs_tree.specs.declared.layout.Layout.{Layout}
 use Rattle.xfs_tree.specs.Layout.{pointer_len}
@@ -14,7 +14,7 @@ returns-clause-others g c =
     let mid = c.put_keys.new.block in
     let new = c.put_pointer.new.block in
     let value = c.layout_of-layout.ensures.value in
-    let pointers = subst (λ (l : Layout). Keeps mid new (pointer_place l c.args.i) (pointer_len l)) value c.put_pointer.ensures.keeps in
+    let pointers = subst (λ (l : Layout). KeepsBeside mid new (pointer_place l c.args.i) (pointer_len l)) value c.put_pointer.ensures.keeps in
     let pointers_parts = subst (λ (l : Layout). KeepsParts mid new (pointer_place l c.args.i) (pointer_len l)) value c.put_pointer.ensures.keeps_parts in
     λ k before.
     child_beside s (volume_of c.args.g.now) c.args.block.now mid new k c.args.i before c.requires.inside c.put_keys.ensures.keeps c.put_keys.ensures.keeps_parts pointers pointers_parts

@@ -1,6 +1,6 @@
 use Rattle.std.proofs.Common.{◌≡◌, ◌+◌, ◌≤◌, length, Some, IsTrue, refl, sym, ◌∙◌, ap, subst, arith}
 use Rattle.xfs_tree.specs.declared.layout.Layout.{Layout}
-use Rattle.xfs_treebuild.specs.Placed.{IsKey}
+use Rattle.xfs_treebuild.specs.Private.Placed.{IsKey}
 use Rattle.xfs_treebuild.proofs.PackingBytes.{wrote_part, wrote_keeps, wrote_keeps_parts}
 use Rattle.xfs_treebuild.proofs.PackingExact.{spelt_put}
 use Rattle.xfs_treebuild.proofs.nodes.put_key.Goals as goal

@@ -1,7 +1,7 @@
 use Rattle.std.proofs.Common.{◌≡◌, ◌≤◌, ◌+◌, ◌-◌, ◌≢◌, length, take, drop, ℕ, sym, ◌∙◌, ap, subst, arith}
+use Rattle.xfs_disk.specs.Shares.{share_of}
 use Rattle.xfs_geom.specs.Volumes.{volume_of}
-use Rattle.xfs_treebuild.specs.Packing.{share_of}
-use Rattle.xfs_treebuild.specs.Placed.{IsNodeAt, seats_in}
+use Rattle.xfs_treebuild.specs.Private.Placed.{IsNodeAt, seats_in}
 use Rattle.xfs_treebuild.specs.Exact.{KeepsBesideChildren}
 use Rattle.xfs_treebuild.proofs.PackingExact.{node_exact, share_length}
 use Rattle.xfs_treebuild.proofs.PackingMade.{children_here, node_made, node_room, one_more}

@@ -5,7 +5,7 @@ use Rattle.xfs_geom.specs.Volumes.{volume_of}
 use Rattle.xfs_tree.specs.declared.layout.Layout.{Layout}
 use Rattle.xfs_treebuild.specs.Size.{blocks_for, rows_above}
 use Rattle.xfs_treebuild.specs.Exact.{IsExact}
-use Rattle.xfs_treebuild.specs.Packing.{block_in, lsn_of}
+use Rattle.xfs_treebuild.specs.Packing.{block_of_part, lsn_of}
 use Rattle.xfs_treebuild.proofs.Rows.{levels_begin, level_more, levels_end}
 use Rattle.xfs_treebuild.proofs.PackingShares.{blocks_room, blocks_few}
 use Rattle.xfs_treebuild.proofs.PackingOrder.{settled_lawful}
@@ -138,7 +138,7 @@ loop-count-preserved g c =
     let inside : first + count + above ≤ length places = omega (arith, size) in
     let at = nodes_at s v places c.row_of-below.result.now c.row_of-row.result.now old new level first count above
     c.row_of-below.ensures.value c.row_of-below.ensures.len c.row_of-row.ensures.value c.row_of-row.ensures.len c.write_nodes.ensures.nodes in
-    let before : (k : ℕ) → k < first + count → block_in new k ≡ block_in old k = λ k less.
+    let before : (k : ℕ) → k < first + count → block_of_part new k ≡ block_of_part old k = λ k less.
     c.write_nodes.ensures.before k (omega (arith, less, c.row_of-below.ensures.len)) in
     record {
       some = some;

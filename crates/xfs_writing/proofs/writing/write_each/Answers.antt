@@ -4,7 +4,7 @@ use Rattle.std.proofs.lemmas.Option.{get_or_from_slice_get}
 use Rattle.std.specs.List.{Contains}
 use Rattle.xfs_disk.specs.Blocks.{Image}
 use Rattle.xfs_disk.specs.Counts.{raised}
-use Rattle.xfs_writing.specs.Writing.{writes_of}
+use Rattle.xfs_writing.specs.Writing.{writes_of_rows}
 use Rattle.xfs_writing.specs.declared.rows.Row.{Row}
 use Rattle.xfs_writing.proofs.Counted.{raised_none, raised_once}
 use Rattle.xfs_writing.proofs.Mixing.{among, may_none, may_more, mixed_none, mixed_more}
@@ -16,7 +16,7 @@ no_row = record { at = 0; index = 0 }
 
 pub loop-row-init : goal.loop-row-init
 loop-row-init g c =
-    let ws = writes_of c.args.bank.now c.args.rows.now in
+    let ws = writes_of_rows c.args.bank.now c.args.rows.now in
     record {
       told = search rules;
       count = search rules;
@@ -43,7 +43,7 @@ pub returns-in-Err-clause-stops : goal.returns-in-Err-clause-stops
 returns-in-Err-clause-stops g c = λ tells image told just t stopped low left.
     let D = g.D.Disk in
     let bank = c.args.bank.now in
-    let ws = writes_of bank c.args.rows.now in
+    let ws = writes_of_rows bank c.args.rows.now in
     let row : Row = get_or c.args.rows.now c.loop-row.row-index no_row in
     let due : Contains ws (row.at, c.view.result.now) =
     among bank c.args.rows.now c.loop-row.row-index row no_row c.view.result.now c.loop-row-test.true refl
@@ -60,7 +60,7 @@ pub loop-row-preserved : goal.loop-row-preserved
 loop-row-preserved g c =
     let D = g.D.Disk in
     let bank = c.args.bank.now in
-    let ws = writes_of bank c.args.rows.now in
+    let ws = writes_of_rows bank c.args.rows.now in
     let row : Row = get_or c.args.rows.now c.loop-row.row-index no_row in
     let due : Contains ws (row.at, c.view.result.now) =
     among bank c.args.rows.now c.loop-row.row-index row no_row c.view.result.now c.loop-row-test.true refl

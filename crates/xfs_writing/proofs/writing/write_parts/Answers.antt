@@ -1,6 +1,6 @@
 -- The first rows, and then the last.
 use Rattle.std.proofs.Common.{◌∙◌, ap, refl, length}
-use Rattle.xfs_writing.specs.Counting.{raised_times}
+use Rattle.xfs_disk.specs.Counts.{raised_times}
 use Rattle.xfs_writing.proofs.Counted.{raised_further}
 use Rattle.xfs_writing.proofs.Steps.{all_partly, both_written, last_partly}
 use Rattle.xfs_writing.proofs.writing.write_parts.Goals as goal

@@ -5,7 +5,7 @@ use Rattle.std.specs.Fork.{AcceptsAt, ChangesAt}
 use Rattle.std.specs.Vec.{with_items}
 use Rattle.std.proofs.lemmas.List.{with_items_is}
 use Rattle.xfs_disk.specs.Blocks.{Image}
-use Rattle.xfs_disk.specs.Memory.{blocks_of}
+use Rattle.xfs_disk.specs.Memory.{blocks_of_bytes}
 use Rattle.xfs_bank.specs.Bank.{AreCuts, parts_of}
 use Rattle.xfs_bank.specs.Parts.{flat_parts, EachFrom, EachPairFrom}
 use Rattle.xfs_bank.proofs.Blocks.{length-blocks_of}
@@ -34,7 +34,7 @@ returns-clause-parts g c =
     let now : List ℕ = (with_items vec left).items in
     let same : now ≡ left = with_items_is vec left long in
     let size : length now ≡ length vec.items = omega (arith, ap length same, vec.ok.0) in
-    let new : Image = blocks_of (length now / 4096) now in
+    let new : Image = blocks_of_bytes (length now / 4096) now in
     let count : length c.args.self.now ≡ length new = omega (arith, ap length c.self.view_is, length-blocks_of (length vec.items / 4096) vec.items, length-blocks_of (length now / 4096) now) in
     let were : flat_parts 0 cuts c.deref_mut.result.now ≡ parts_of cuts c.args.self.now =
     ap (λ (xs : List ℕ). flat_parts 0 cuts xs) c.deref_mut.ensures.value ∙ sym (held_parts (length vec.items / 4096) vec.items c.args.self.now cuts c.self.view_is (omega (arith, c.self.invariant)) c.requires.cuts) in

@@ -1,7 +1,7 @@
 -- The block is that part of the bytes, and what is written over it stands there.
 use Rattle.std.proofs.Common.{◌≡◌, ℕ, List, ◌+◌, ◌-◌, ◌*◌, ◌/◌, take, drop, length, Some, refl, arith, rules, ap, sym, ◌∙◌}
 use Rattle.std.specs.Vec.{with_items_from}
-use Rattle.xfs_disk.specs.Memory.{blocks_of}
+use Rattle.xfs_disk.specs.Memory.{blocks_of_bytes}
 use Rattle.xfs_bank.proofs.Blocks.{block_inside, block_is, is_overwritten, overwritten-block}
 use Rattle.xfs_bank.proofs.bank.BlockBank.view_mut.Goals as goal
 
@@ -24,7 +24,7 @@ returns c =
         refl,
         λ w. let after = with_items_from vec (c.args.i * 4096) w in
             let count : length after.items / 4096 ≡ blocks = omega (arith, after.ok.0, vec.ok.0) in
-            ap (λ (n : ℕ). blocks_of n after.items) count ∙ is_overwritten blocks vec.len vec.items c.args.self.now c.args.i w _ c.self.view_is even vec.ok.0 c.requires.inside,
+            ap (λ (n : ℕ). blocks_of_bytes n after.items) count ∙ is_overwritten blocks vec.len vec.items c.args.self.now c.args.i w _ c.self.view_is even vec.ok.0 c.requires.inside,
       ),
       record {
         writes_back = tt;

@@ -3,7 +3,7 @@ use Rattle.std.specs.List.{All, concat}
 use Rattle.xfs_disk.specs.Counts.{CountsFailure}
 use Rattle.xfs_disk.specs.Schedule.{after_write, CountsCall}
 use Rattle.xfs_disk.specs.MemoryImage.{is_told_image}
-use Rattle.xfs_disk.specs.MemoryDisk.{size_of, image_of, faults_of, write_faults_of, schedule_of, stop_of, IsStopped, FailsNext}
+use Rattle.xfs_disk.specs.MemoryDisk.{size_of, image_of, faults_of, write_faults_of, schedule_of, stop_of, HasStopped, FailsNext}
 use Rattle.std.proofs.Common.{◌≡◌, ◌<◌, length, rules, ap, ◌∙◌, arith}
 use Rattle.std.specs.Vec.{with_items}
 use Rattle.std.proofs.lemmas.List.Elements.{All-same}

@@ -1,6 +1,6 @@
 use Rattle.std.proofs.Common.{◌≡◌, drop}
 use Rattle.xfs_options.specs.Words.{after_letters}
-use Rattle.xfs_options.specs.declared.reading.Place.TheVariants.{Options}
+use Rattle.xfs_options.specs.declared.reading.Expected.TheVariants.{Options}
 use Rattle.xfs_options.proofs.reading.Reading.take_letters.Given as goal
 
 abbrev pub invariant-loop-before : goal.invariant-loop-before

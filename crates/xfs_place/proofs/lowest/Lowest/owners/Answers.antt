@@ -1,5 +1,5 @@
 use Rattle.std.proofs.Common.{false, ◌≡◌, ◌+◌, ◌-◌, ℕ, min, length, get_or, ◌∙◌, ap, arith}
-use Rattle.xfs_place.specs.Choice.{meets, total}
+use Rattle.xfs_place.specs.Choice.{met_neighbours, total}
 use Rattle.xfs_place.proofs.Found.{found_few}
 use Rattle.xfs_place.proofs.OwnedSteps.{owners_are}
 use Rattle.xfs_place.proofs.lowest.Lowest.owners.Goals as goal
@@ -14,7 +14,7 @@ returns-clause-value c claim is records =
     owners_are c.args.uses.now claim c.args.inner c.args.space is l.blocks.items c.requires.stands.low c.min-from.result c.min-to.result c.args.records c.touches.result c.touches-2.result
     c.sum_of_inodes.result c.sum_of_space.result c.sum_of_space-2.result c.sum_of_inodes-2.result c.sum_of_space-3.result c.saturating_sub.result
     c.requires.space.0 c.requires.inner.0 from to records c.touches.ensures.value c.touches-2.ensures.value c.sum_of_inodes.ensures.value c.sum_of_space.ensures.value
-    c.sum_of_space-2.ensures.value c.sum_of_inodes-2.ensures.value (c.sum_of_space-3.ensures.value ∙ ap (total (λ k. meets c.args.uses.now false (get_or l.blocks.items k 0))) all)
+    c.sum_of_space-2.ensures.value c.sum_of_inodes-2.ensures.value (c.sum_of_space-3.ensures.value ∙ ap (total (λ k. met_neighbours c.args.uses.now false (get_or l.blocks.items k 0))) all)
     (c.saturating_sub.ensures ∙ ap (λ (m : ℕ). c.args.records + m + c.touches.result + c.touches-2.result + c.sum_of_inodes.result + c.sum_of_space.result
     - (c.sum_of_space-2.result + c.sum_of_inodes-2.result + c.sum_of_space-3.result)) all)
 

@@ -1,6 +1,6 @@
 use Rattle.std.proofs.Common.{true, false, ◌≡◌, ◌+◌, ◌++◌, ◌∷◌, [], ◌-◌, ℕ, List, length, get_or, sym, ◌∙◌, ap, subst, arith}
 use Rattle.xfs_place.specs.declared.uses.Use.{Use}
-use Rattle.xfs_place.specs.Choice.{AreFound, meets}
+use Rattle.xfs_place.specs.Choice.{AreFound, met_neighbours}
 use Rattle.xfs_place.proofs.Found.{found_all, found_few, found_more, free_few, rank_on, sum_read, sums_small}
 use Rattle.xfs_place.proofs.Ranks.{free_step}
 use Rattle.xfs_place.proofs.lowest.Lowest.take_next.Goals as goal
@@ -61,9 +61,9 @@ returns-clause-stands c =
     let s = c.index.result.now + c.meets_space.result in
     let i = c.index-2.result.now + c.meets_inodes.result in
     let f = l.free + c.free_beside.result - 1 in
-    let hs : s ≡ get_or l.space.items (length l.blocks.items) 0 + meets uses false x =
+    let hs : s ≡ get_or l.space.items (length l.blocks.items) 0 + met_neighbours uses false x =
     omega (arith, sum_read l.space.items l.blocks.items c.len-last.result c.index.result.now c.index.ensures last c.requires.stands.space'.all, c.meets_space.ensures.value) in
-    let hi : i ≡ get_or l.inodes.items (length l.blocks.items) 0 + meets uses true x =
+    let hi : i ≡ get_or l.inodes.items (length l.blocks.items) 0 + met_neighbours uses true x =
     omega (arith, sum_read l.inodes.items l.blocks.items c.len-last.result c.index-2.result.now c.index-2.ensures last c.requires.stands.inodes'.all, c.meets_inodes.ensures.value) in
     let more = found_more uses l.blocks.items l.space.items l.inodes.items l.next l.free x s i f c.requires.header c.requires.stands
     c.in-Some.ensures.0 c.in-Some.ensures.1 c.in-Some.ensures.2 c.in-Some.ensures.3 hs hi (ap (λ (n : ℕ). l.free + n - 1) c.free_beside.ensures.value) in

@@ -1,6 +1,6 @@
 use Rattle.std.proofs.Common.{drop}
-use Rattle.xfs_links.specs.Entries.{Ascend}
+use Rattle.xfs_links.specs.Entries.{NodesAscend}
 use Rattle.xfs_volume_tests.proofs.links.listed.ascend.Given as goal
 
 abbrev pub invariant-loop-file : goal.invariant-loop-file
-invariant-loop-file l = Ascend l.low (drop l.file-index l.files) → Ascend 0 l.files
+invariant-loop-file l = NodesAscend l.low (drop l.file-index l.files) → NodesAscend 0 l.files

@@ -5,7 +5,7 @@ use Rattle.xfs_geom.specs.declared.records.Run.{Run}
 use Rattle.xfs_kinds.specs.OffsetWords.{offset_in_fork}
 use Rattle.xfs_place.specs.declared.wanted.Object.{Object}
 use Rattle.xfs_place.specs.Objects.{IsAsk}
-use Rattle.xfs_place.specs.Wanted.{AreKept}
+use Rattle.xfs_place.specs.Wanted.{CanBeKept}
 use Rattle.xfs_place.proofs.KeptRun.{kept_alone}
 use Rattle.xfs_volume_tests.proofs.place.groups.place_beside.Goals as goal
 
@@ -17,7 +17,7 @@ place-requires-clause-kept c =
     let rest : r.start % g.agblocks ≡ r.start % c.args.size.now.agblocks = ap (λ (w : ℕ). r.start % w) c.shaped.ensures.group in
     let whole : c.from_vec.result ++ c.from_vec-2.result ≡ r ∷ [] =
     ap₂ (λ (xs ys : List Run). xs ++ ys) (c.from_vec.ensures ∙ c.in_ok-vec.ensures.items) (c.from_vec-2.ensures ∙ c.new.ensures.items) in
-    subst (AreKept (volume_of g)) (sym whole)
+    subst (CanBeKept (volume_of g)) (sym whole)
     (kept_alone (volume_of g) r
     (record {
       some = c.requires.some;

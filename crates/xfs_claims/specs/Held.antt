@@ -1,7 +1,0 @@
--- What is kept so far, as the program holds it.
-use Rattle.xfs_runs.specs.Blocks.{is_in}
-use Rattle.xfs_claims.specs.declared.holding.Taken.{Taken}
-use Rattle.xfs_claims.specs.Keeping.{Holding}
-
-abbrev pub held_of : Taken → Holding
-held_of taken = record { blocks = is_in taken.blocks; clusters = taken.clusters.keys; files = taken.files.keys }

@@ -1,0 +1,4 @@
+-- What the contracts of private functions alone cite.
+pub mod Chosen
+pub mod Looking
+pub mod Parts

@@ -1,0 +1,10 @@
+//! Why a slot is not read.
+
+/// Why a slot is not read.
+#[derive(Clone, Copy, Debug, PartialEq, Eq)]
+pub enum InodeFault {
+    /// A read failed.
+    ReadFault,
+    /// There is not enough memory.
+    NoMemory,
+}

@@ -1,0 +1,14 @@
+use Rattle.std.proofs.Common.{ℕ, ◌≤◌, arith, sym, subst}
+use Rattle.xfs_geom.specs.Volumes.{volume_of}
+use Rattle.xfs_empty.proofs.Kept.{many}
+use Rattle.xfs_mkfs.proofs.Geometries.{on_disk}
+use Rattle.xfs_mkfs.proofs.volume_making.decide.Goals as goal
+
+pub has_volume-requires : goal.has_volume-requires
+has_volume-requires g c =
+    let geometry = c.in-Ok-choose.g in
+    let some : 1024 ≤ geometry.dblocks = many (volume_of geometry) geometry.shape.groups in
+    let inside : geometry.dblocks ≤ c.in-Ok.blocks =
+    subst (λ (n : ℕ). n ≤ c.in-Ok.blocks) (sym c.in-Ok-choose.ensures.chosen.dblocks)
+    (on_disk c.asked_of.result c.in-Ok.blocks c.in-Ok-choose.ensures.fits) in
+    record { some = omega (arith, some, inside, c.in-Ok.ensures.count, c.in-Ok.ensures.size) }

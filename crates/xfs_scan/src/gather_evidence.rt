@@ -1,0 +1,162 @@
+//! The evidence of a volume, gathered from a disk.
+
+ghost use Rattle.std.specs.Prelude.{◌≡◌, ◌≤◌, IfOk};
+ghost use Rattle.std.specs.Option.{ForSome};
+ghost use Rattle.xfs_geom.specs.Volumes.{volume_of};
+ghost use Rattle.xfs_disk.specs.Reads.{OnlyReads};
+ghost use Rattle.xfs_groups.specs.Answers.{EndBelow};
+ghost use Rattle.xfs_image.specs.Claims.{candidate_inodes};
+ghost use Rattle.xfs_scan.specs.Answers.{HasReadCause, HasRefused, HasScanCause};
+ghost use Rattle.xfs_scan.specs.Evidence.{AreSeen, IsEvidence, joined_parts};
+ghost use Rattle.xfs_scan.specs.Gathered.{candidate_slots, gathered, held_in};
+ghost use Rattle.xfs_scan.specs.Refused.{refused, refused_late};
+
+use crate::evidence::Evidence;
+use crate::faults::{PartFault, ScanFault};
+use crate::limits::{INODES, MOST_INODES, count_extents, count_inodes, refusal};
+use crate::scan::{ScannedSlots, scan};
+use crate::view::see_view;
+use std::alloc::Global;
+use std::sync::ledger::Ledger;
+use xfs_disk::Disk;
+use xfs_geom::Geometry;
+use xfs_groups::{GroupTrees, Groups, GroupsFault, see_groups};
+use xfs_heads::LogState;
+use xfs_image::Finding;
+use xfs_journal::{JournalFault, read_log};
+use xfs_runs::Steps;
+use xfs_volume::{Catalog, ClusterRec, GroupRec, Records};
+
+/// The evidence of the volume that a disk holds. `ReadFault` only where a read failed. Each block that is read counts as a
+/// step, also where the read fails.
+#[tactic(auto, unfolding(crate::specs::Refused::refused, xfs_image::specs::Claims::inode_count))]
+pub fn gather<D: Disk, L: Ledger>(
+    alloc: Global,
+    g: &Geometry,
+    disk: &mut D,
+    steps: &mut Steps<L>,
+) -> Result<Evidence, ScanFault>
+    requires inside { g.now.dblocks ≤ D.size disk.old }
+    ensures evidence { IfOk result (λ e. ForSome (D.holds disk.old) (λ image. IsEvidence g.now image e)) }
+    ensures refused { ForSome (D.holds disk.old) (λ image. HasRefused (refused (volume_of g.now) image) result) }
+    ensures cause { HasScanCause (D.faults disk.old) (D.faults disk.new) result }
+    ensures disk { OnlyReads D.size D.holds D.write_faults D.writes D.tells_stops D.moment D.may_leave D.left_since disk.old disk.new }
+{
+    let seen = match see_groups(alloc, g, disk, steps) {
+        Ok(seen) => seen,
+        Err(GroupsFault::ReadFault) => return Err(ScanFault::ReadFault),
+        Err(GroupsFault::NoMemory) => return Err(ScanFault::NoMemory),
+    };
+    let Some(count) = count_inodes(seen.clusters.as_slice()) else {
+        return Err(ScanFault::NoMemory);
+    };
+    if count > MOST_INODES {
+        return Err(ScanFault::TooLarge {
+            what: INODES,
+            count,
+        });
+    }
+    gather_files(alloc, g, disk, seen, steps)
+}
+
+/// The evidence of a volume whose clusters are not too many.
+fn gather_files<D: Disk, L: Ledger>(
+    alloc: Global,
+    g: &Geometry,
+    disk: &mut D,
+    seen: Groups,
+    steps: &mut Steps<L>,
+) -> Result<Evidence, ScanFault>
+    requires inside { g.now.dblocks ≤ D.size disk.old }
+    requires seen { ForSome (D.holds disk.old) (λ image. AreSeen g.now image seen) }
+    requires low { EndBelow g.now.dblocks seen.clusters }
+    ensures evidence { IfOk result (λ e. ForSome (D.holds disk.old) (λ image. IsEvidence g.now image e)) }
+    ensures refused { ForSome (D.holds disk.old) (λ image. HasRefused (refused_late (volume_of g.now) image) result) }
+    ensures cause { HasScanCause (D.faults disk.old) (D.faults disk.new) result }
+    ensures disk { OnlyReads D.size D.holds D.write_faults D.writes D.tells_stops D.moment D.may_leave D.left_since disk.old disk.new }
+{
+    let scanned = match scan(alloc, g, disk, seen.clusters.as_slice(), steps) {
+        Ok(scanned) => scanned,
+        Err(error) => return Err(error.answer()),
+    };
+    let Some(extents) = count_extents(&scanned.inodes.files) else {
+        return Err(ScanFault::NoMemory);
+    };
+    match refusal(
+        extents,
+        scanned.inodes.entries.as_slice().len() as u64,
+        scanned.inodes.feature,
+    ) {
+        Some(fault) => Err(fault),
+        None => match gather_view(alloc, g, disk, seen, scanned, steps) {
+            Ok(evidence) => Ok(evidence),
+            Err(error) => Err(error.answer()),
+        },
+    }
+}
+
+/// The evidence of a volume that is not refused.
+fn gather_view<D: Disk, L: Ledger>(
+    alloc: Global,
+    g: &Geometry,
+    disk: &mut D,
+    seen: Groups,
+    scanned: ScannedSlots,
+    steps: &mut Steps<L>,
+) -> Result<Evidence, PartFault>
+    requires inside { g.now.dblocks ≤ D.size disk.old }
+    requires seen { ForSome (D.holds disk.old) (λ image. AreSeen g.now image seen) }
+    requires slots { ForSome (D.holds disk.old) (λ image. scanned.slots ≡ candidate_slots (volume_of g.now) image) }
+    requires inodes { ForSome (D.holds disk.old) (λ image. held_in scanned.inodes ≡ gathered (volume_of g.now) image (candidate_inodes (volume_of g.now) image)) }
+    ensures evidence { IfOk result (λ e. ForSome (D.holds disk.old) (λ image. IsEvidence g.now image e)) }
+    ensures cause { HasReadCause (D.faults disk.old) (D.faults disk.new) result }
+    ensures disk { OnlyReads D.size D.holds D.write_faults D.writes D.tells_stops D.moment D.may_leave D.left_since disk.old disk.new }
+{
+    let log = match read_log(alloc, g, disk, steps) {
+        Ok(log) => log,
+        Err(JournalFault::ReadFault) => return Err(PartFault::ReadFault),
+        Err(JournalFault::NoMemory) => return Err(PartFault::NoMemory),
+    };
+    let Groups {
+        groups,
+        clusters,
+        trees,
+    } = seen;
+    match see_view(
+        alloc,
+        g,
+        disk,
+        groups,
+        clusters.as_slice(),
+        &scanned.inodes,
+        log,
+        steps,
+    ) {
+        Ok(catalog) => Ok(evidence_of(clusters, trees, scanned, catalog, log)),
+        Err(fault) => Err(fault),
+    }
+}
+
+/// The evidence from its parts.
+fn evidence_of(
+    clusters: Records<ClusterRec>,
+    trees: Records<GroupTrees>,
+    scanned: ScannedSlots,
+    catalog: Result<Catalog, Finding>,
+    log: LogState,
+) -> Evidence
+    ensures { result ≡ joined_parts clusters trees scanned catalog log }
+{
+    let ScannedSlots { slots, inodes } = scanned;
+    Evidence {
+        clusters,
+        slots,
+        files: Records::from_vec(inodes.files),
+        bare: Records::from_vec(inodes.bare),
+        entries: Records::from_vec(inodes.entries),
+        dirs: Records::from_vec(inodes.dirs),
+        trees,
+        catalog,
+        log,
+    }
+}

@@ -1,0 +1,4 @@
+-- What the contracts of private functions alone cite.
+pub mod Places
+pub mod Ranks
+pub mod RunLaws

@@ -1,5 +1,0 @@
-use Rattle.std.proofs.Common.{rules}
-use Rattle.xfs_tree.proofs.level.admit.Goals as goal
-
-pub returns-else-branch : goal.returns-else-branch
-returns-else-branch g c = search rules
