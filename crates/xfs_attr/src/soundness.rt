@@ -5,7 +5,7 @@ ghost use Rattle.std.specs.List.{list_all, sum_by, range_with_len};
 ghost use Rattle.xfs_word.specs.Field.{field_of};
 ghost use Rattle.xfs_attr.specs.Leaf.{leaf_entry_at, entries, leaf_entry_size, is_whole_entry, are_ascending, entries_apart, is_sound_leaf, AreInside};
 
-use crate::entries::{LeafEntry, leaf_entry_name, read_entry, leaf_entry_size};
+use crate::entries::{LeafEntry, leaf_entry_name, leaf_entry_size, read_entry};
 use crate::layouts::leaf::{BACK, ENTRIES, ENTRY_SIZE, FIRSTUSED, FORW, USEDBYTES, VALUE_SIZE};
 use xfs_disk::BLOCK_SIZE;
 use xfs_word::name_hash;

@@ -162,7 +162,11 @@ fn places_of(
 }
 
 /// Places of different files in ascending order of their numbers.
-fn places_in_order<R: Threads + Sync>(rt: &R, files: &[FileClaim], places: Vec<FilePlace>) -> Vec<FilePlace>
+fn places_in_order<R: Threads + Sync>(
+    rt: &R,
+    files: &[FileClaim],
+    places: Vec<FilePlace>,
+) -> Vec<FilePlace>
     requires each { All (IsFilePlace files.now) places.items }
     requires differ { AreDifferent claimed_number (map (file_at_place files.now) places.items) }
     ensures each { All (IsFilePlace files.now) result.items }

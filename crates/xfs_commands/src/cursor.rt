@@ -6,7 +6,7 @@ ghost use Rattle.xfs_commands.specs.Commands.{goes, pops, session_of, IsEffect, 
 ghost use Rattle.xfs_commands.specs.Cursors.{is_quit, pushed, settled_session};
 
 use xfs_disk::NoMemory;
-use xfs_objects::{ObjectType, ObjectPlace, Spot};
+use xfs_objects::{ObjectPlace, ObjectType, Spot};
 
 /// The current place, and the stack of places, the top last.
 #[derive(Debug, Drop)]

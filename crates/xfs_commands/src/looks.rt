@@ -17,7 +17,7 @@ use xfs_disk::{NoMemory, Word};
 use xfs_geom::Geometry;
 use xfs_heads::layouts::{agf, agi};
 use xfs_objects::{
-    Item, ObjectType, ObjectPlace, Shape, Spot, named_item, number_width, push_line, push_whole,
+    Item, ObjectPlace, ObjectType, Shape, Spot, named_item, number_width, push_line, push_whole,
     spot_of_address,
 };
 use xfs_word::field;

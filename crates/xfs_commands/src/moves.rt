@@ -13,7 +13,8 @@ use crate::cursor::{Cursor, Verdict, refuse, refuse_word};
 use xfs_disk::{NoMemory, Word};
 use xfs_geom::Geometry;
 use xfs_objects::{
-    Measure, ObjectType, ObjectPlace, Spot, Typed, push_both, push_decimal, push_hexadecimal, read_number,
+    Measure, ObjectPlace, ObjectType, Spot, Typed, push_both, push_decimal, push_hexadecimal,
+    read_number,
 };
 use xfs_word::name_hash;
 

@@ -16,7 +16,8 @@ use xfs_geom::superblock;
 use xfs_heads::layouts::{agf, agfl, agi};
 use xfs_inode::layouts::inode;
 use xfs_objects::{
-    Item, ObjectType, ObjectPlace, SECTOR_SIZE, Typed, named_item, number_width, push_line, read_number,
+    Item, ObjectPlace, ObjectType, SECTOR_SIZE, Typed, named_item, number_width, push_line,
+    read_number,
 };
 use xfs_tree::{LONG, SHORT};
 use xfs_word::crc_skipping;

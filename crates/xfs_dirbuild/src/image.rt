@@ -11,7 +11,9 @@ ghost use Rattle.xfs_dirbuild.specs.Blocks.{dir_blocks};
 ghost use Rattle.xfs_dirbuild.specs.Forms.{fits_single, fits_leaf, form_of, data_blocks_of, index_blocks_of, free_blocks_of};
 ghost use Rattle.xfs_dirbuild.specs.Placed.{HaveMagics, IsBuilt};
 
-use crate::forms::{DirectoryForm, data_blocks_of, form_of, free_blocks_of, index_blocks_of, short_length};
+use crate::forms::{
+    DirectoryForm, data_blocks_of, form_of, free_blocks_of, index_blocks_of, short_length,
+};
 use crate::leaf::{build_leaf, build_node};
 use crate::single::build_single;
 use std::alloc::Global;

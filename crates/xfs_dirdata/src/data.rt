@@ -35,7 +35,12 @@ pub struct DataBlock {
 /// Reads a data block of the directory `dir`, without its seal; `whole` in the single-block form, whose
 /// tail says where the entries end. `Unsound` where the block breaks a rule (chapter "Directories").
 #[tactic(auto, unfolding(crate::specs::Data::data_of, crate::specs::Data::data_area))]
-pub fn read_data(alloc: Global, dir: u64, block: &[u8], whole: bool) -> Result<DataBlock, DirDataFault>
+pub fn read_data(
+    alloc: Global,
+    dir: u64,
+    block: &[u8],
+    whole: bool,
+) -> Result<DataBlock, DirDataFault>
     requires { length block.now ≡ 4096 }
     ensures read { IfOk result (λ d. data_of dir block.now whole
         ≡ Some (record { entries = d.entries.items; places = d.places.items; free = d.free.items; bests = d.bests })) }

@@ -49,7 +49,12 @@ pub fn read_short_entries(alloc: Global, dir: u64, form: &[u8]) -> Result<ShortD
 }
 
 /// Reads the entries, of which there are `count`.
-fn read_entries(alloc: Global, dir: u64, form: &[u8], count: u8) -> Result<Vec<EntryRec>, DirDataFault>
+fn read_entries(
+    alloc: Global,
+    dir: u64,
+    form: &[u8],
+    count: u8,
+) -> Result<Vec<EntryRec>, DirDataFault>
     requires { 6 ≤ length form.now }
     ensures read { IfOk result (λ entries. short_entries dir form.now (index_size count) count 6 96 ≡ Some entries.items) }
     ensures unsound { IfErr result (λ fault. OnUnsound fault (short_entries dir form.now (index_size count) count 6 96 ≡ None)) }

@@ -11,7 +11,7 @@ ghost use Rattle.xfs_dirs.specs.Answers.{HasDirCause};
 ghost use Rattle.xfs_dirs.specs.Gathered.{BlocksInOrder, is_whole_kept, mapped_of_kept};
 
 use crate::blocks::read_extents;
-use crate::found::{DirectoryFault, DirFound};
+use crate::found::{DirFound, DirectoryFault};
 use crate::gathered::Gathered;
 use crate::short::read_form;
 use crate::whole_forms::is_whole_directory;

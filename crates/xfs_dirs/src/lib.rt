@@ -24,4 +24,4 @@ mod short;
 mod whole_forms;
 
 pub use directory::read_directory;
-pub use found::{DirectoryFault, DirFound};
+pub use found::{DirFound, DirectoryFault};

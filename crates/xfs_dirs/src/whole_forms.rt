@@ -9,7 +9,7 @@ ghost use Rattle.xfs_image.specs.Directories.{has_whole_form};
 ghost use Rattle.xfs_dirs.specs.declared.gathered.KeptBlock.{KeptBlock};
 ghost use Rattle.xfs_dirs.specs.Gathered.{BlocksInOrder, AscendWhole, is_whole_kept, mapped_of_kept};
 
-use crate::gathered::{KeptBlocks, KeptBlock};
+use crate::gathered::{KeptBlock, KeptBlocks};
 use std::alloc::Global;
 use xfs_bank::BlockBank;
 use xfs_dirindex::layouts::INDEX_START;
@@ -18,7 +18,12 @@ use xfs_disk::NoMemory;
 
 /// Whether the blocks of a directory of this size, in bytes, are all kept, and are whole in one of the forms (chapter
 /// "Directories").
-pub fn is_whole_directory(alloc: Global, dir: u64, size: u64, kept: &Option<KeptBlocks>) -> Result<bool, NoMemory>
+pub fn is_whole_directory(
+    alloc: Global,
+    dir: u64,
+    size: u64,
+    kept: &Option<KeptBlocks>,
+) -> Result<bool, NoMemory>
     requires { BlocksInOrder kept.now }
     ensures { IfOk result (λ whole. whole ≡ is_whole_kept dir size (mapped_of_kept kept.now)) }
 {

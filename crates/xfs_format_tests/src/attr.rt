@@ -82,7 +82,12 @@ fn short_forms(rt: HostRuntime) -> Result<(), Fail> {
         let mut row = Row::new(line);
         let case = row.text();
         let fork = row.bytes(&rt, rt.alloc())?;
-        expect(&rt, read_short_attributes(rt.alloc(), &fork), row.text(), case)?;
+        expect(
+            &rt,
+            read_short_attributes(rt.alloc(), &fork),
+            row.text(),
+            case,
+        )?;
     }
     Ok(())
 }

@@ -63,7 +63,11 @@ pub fn ranges_apart(alloc: Global, g: &Geometry, held: &DataHeld) -> Result<bool
 }
 
 /// All runs of what a data fork holds.
-pub fn ranges_of(alloc: Global, g: &Geometry, held: &DataHeld) -> Result<Vec<BlockRange>, AllocError>
+pub fn ranges_of(
+    alloc: Global,
+    g: &Geometry,
+    held: &DataHeld,
+) -> Result<Vec<BlockRange>, AllocError>
     requires { is_placed (volume_of g.now) held.now ≡ true }
     ensures { IfOk result (λ runs. runs.items ≡ ranges_of (volume_of g.now) held.now) }
 {
@@ -74,7 +78,11 @@ pub fn ranges_of(alloc: Global, g: &Geometry, held: &DataHeld) -> Result<Vec<Blo
 }
 
 /// Adds the runs of extents.
-fn push_extents(g: &Geometry, extents: &[Extent], runs: &mut Vec<BlockRange>) -> Result<(), AllocError>
+fn push_extents(
+    g: &Geometry,
+    extents: &[Extent],
+    runs: &mut Vec<BlockRange>,
+) -> Result<(), AllocError>
     requires { All (λ (e : Extent). IsTrue (is_extent (volume_of g.now) e)) extents.now }
     ensures { OnOk result (runs.new.items ≡ runs.old.items ++ map (range_of (volume_of g.now)) extents.now) }
 {

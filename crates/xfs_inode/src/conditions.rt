@@ -6,7 +6,7 @@ ghost use Rattle.xfs_geom.specs.Volumes.{volume_of};
 ghost use Rattle.xfs_inode.specs.Files.{device_of, has_format, has_forkoff, has_link_target, holds_target, is_core, is_link, is_local_whole, link_seal, states_no_fork};
 ghost use Rattle.xfs_inode.specs.Forks.{link_place, core_type};
 
-use crate::extents::{fork_extent, link_place, core_type};
+use crate::extents::{core_type, fork_extent, link_place};
 use crate::forks::fork_bytes;
 use crate::layouts::link::{BYTES, LONGEST_TARGET, OFFSET};
 use xfs_geom::Geometry;
@@ -70,7 +70,13 @@ fn is_local_whole(core: &Core) -> bool
 }
 
 /// Whether a symbolic link of one block has one that holds its target.
-pub fn has_link_target(g: &Geometry, ino: u64, core: &Core, slot: &[u8], link: Option<&[u8]>) -> bool
+pub fn has_link_target(
+    g: &Geometry,
+    ino: u64,
+    core: &Core,
+    slot: &[u8],
+    link: Option<&[u8]>,
+) -> bool
     requires slot { length slot.now ≡ 512 }
     requires link { IfSome (option_copied link) (λ block. length block ≡ 4096) }
     ensures value { result ≡ has_link_target (volume_of g.now) ino core.now slot.now (option_copied link.entry) }

@@ -13,7 +13,7 @@ ghost use Rattle.xfs_inode.specs.Sound.{IsSound};
 ghost use Rattle.xfs_inode.specs.Files.{ranges_apart, contents_of, data_fork, file_read, is_placed, is_whole_fork, ranges_of, used_file, with_attrs, with_data};
 
 use crate::attributes::{attr_fork, feature_of};
-use crate::claims::{ranges_apart, is_placed};
+use crate::claims::{is_placed, ranges_apart};
 use crate::conditions::{has_link_target, is_core};
 use crate::extents::attr_place;
 use crate::files::FileRead;

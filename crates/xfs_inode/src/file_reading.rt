@@ -10,11 +10,11 @@ ghost use Rattle.xfs_inode.specs.Files.{contents_of};
 ghost use Rattle.xfs_inode.specs.Sound.{IsSound};
 ghost use Rattle.xfs_inode.specs.Named.{IsTopNamed, HasInodeCause, named_attr, named_link, named_top, slot_reads, tree_below};
 
+use crate::deciding::decide_file;
 use crate::faults::InodeFault;
 use crate::files::FileRead;
 use crate::named::Needs;
 use crate::naming::needs;
-use crate::deciding::decide_file;
 use std::alloc::Global;
 use std::sync::ledger::Ledger;
 use xfs_disk::{BLOCK_SIZE, Disk, Failed, NoMemory};

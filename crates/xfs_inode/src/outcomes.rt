@@ -8,7 +8,7 @@ ghost use Rattle.xfs_inode.specs.Files.{file_record, has_leaf, is_off_attributes
 ghost use Rattle.xfs_inode.specs.declared.files.FileRead.TheVariants as Reads;
 
 use crate::attributes::AttrHeld;
-use crate::counts::{is_off_attributes, is_counted};
+use crate::counts::{is_counted, is_off_attributes};
 use crate::files::FileRead;
 use crate::held::DataHeld;
 use crate::records::file_record;

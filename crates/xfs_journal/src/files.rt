@@ -21,7 +21,11 @@ const LINK: u16 = 10;
 const TREE_LSN: u16 = 32;
 
 /// Adds the places of files.
-pub fn push_files(g: &Geometry, files: &[FileRec], places: &mut Vec<LsnPosition>) -> Result<(), NoMemory>
+pub fn push_files(
+    g: &Geometry,
+    files: &[FileRec],
+    places: &mut Vec<LsnPosition>,
+) -> Result<(), NoMemory>
     requires inside { All IsInBlock places.old.items }
     ensures listed { OnOk result (listed places.new.items ≡ listed places.old.items ++ flat_map (file_places (volume_of g.now)) files.now) }
     ensures inside { All IsInBlock places.new.items }

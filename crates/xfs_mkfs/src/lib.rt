@@ -11,10 +11,10 @@
 //! ```
 #![tactic(auto)]
 
-mod volume_making;
 mod order;
 mod outcome;
 mod volume;
+mod volume_making;
 
-pub use volume_making::make;
 pub use outcome::{MadeSummary, MakeOutcome};
+pub use volume_making::make;

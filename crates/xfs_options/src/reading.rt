@@ -257,7 +257,9 @@ impl Reading {
         match self.place {
             Expected::Complete => Ok(self.given),
             Expected::Offended(word) => Err(LineFault::Offends(word)),
-            Expected::Options | Expected::Value { .. } | Expected::Image => Err(LineFault::Offends(count)),
+            Expected::Options | Expected::Value { .. } | Expected::Image => Err(LineFault::Offends(
+                count,
+            )),
         }
     }
 }

@@ -7,7 +7,7 @@ ghost use Rattle.xfs_geom.specs.Volumes.{volume_of};
 ghost use Rattle.xfs_place.specs.Chunks.{asked_pool, asked_rooms, is_room, lies_in_chunks, rooms_of};
 ghost use Rattle.xfs_place.specs.Pool.{IsRunOf, Shows, is_open, is_pool, use_at, use_of};
 
-use crate::faults::{Unplaced, PlaceFault};
+use crate::faults::{PlaceFault, Unplaced};
 use crate::uses::{Use, is_open, list_uses};
 use std::alloc::Global;
 use xfs_disk::NoMemory;

@@ -30,7 +30,7 @@ mod volume_placing;
 mod wanted;
 
 pub use chunk_search::{ChunkAsk, chunks};
-pub use faults::{Unplaced, PlaceFault};
+pub use faults::{PlaceFault, Unplaced};
 pub use placed::{GroupPlaced, Placed};
 pub use placing::place;
 pub use wanted::{GroupInodes, Object, ObjectKind, RunAsk, Wanted};

@@ -9,7 +9,7 @@ ghost use Rattle.xfs_place.specs.Wanted.{CanBeKept};
 ghost use Rattle.xfs_place.specs.declared.faults.Unplaced.{Unplaced};
 ghost use Rattle.xfs_place.specs.declared.uses.Use.TheVariants.{Claimed};
 
-use crate::faults::{Unplaced, PlaceFault};
+use crate::faults::{PlaceFault, Unplaced};
 use crate::uses::{Use, is_open, list_uses, mark};
 use crate::wanted::{Object, ObjectKind, RunAsk};
 use std::alloc::Global;

@@ -9,7 +9,7 @@ ghost use Rattle.xfs_place.specs.Pool.{Shows, use_of};
 ghost use Rattle.xfs_place.specs.Wanted.{AreAllClaims, CanBeKept, ArePlaced, IsWithoutRoom, group_in};
 
 use crate::claims::{list_claims, list_group};
-use crate::faults::{Unplaced, PlaceFault};
+use crate::faults::{PlaceFault, Unplaced};
 use crate::group_placing::place_group;
 use crate::placed::GroupPlaced;
 use crate::uses::{Use, list_uses};

@@ -5,7 +5,7 @@ ghost use Rattle.xfs_geom.specs.Volumes.{volume_of};
 ghost use Rattle.xfs_heads.specs.FreeList.{unused};
 ghost use Rattle.xfs_render.specs.Groups.{IsSoundGroup, due_agf, due_agi, last_entry, root_in, tree_places};
 
-use crate::counters::{span_blocks, free_inodes_in, chunk_inodes, levels, longest, newest};
+use crate::counters::{chunk_inodes, free_inodes_in, levels, longest, newest, span_blocks};
 use xfs_geom::{Geometry, InoRec};
 use xfs_heads::{Agf, Agi};
 use xfs_place::GroupPlaced;

@@ -22,13 +22,13 @@ mod clusters;
 mod copies;
 mod evidence;
 mod faults;
+mod gather_evidence;
 mod inodes;
 mod limits;
 mod recorded;
 mod scan;
 mod slots;
 mod view;
-mod gather_evidence;
 
 pub use evidence::Evidence;
 pub use faults::ScanFault;

@@ -39,7 +39,8 @@ pub fn count_extents(files: &[FileRec]) -> Option<u64>
 {
     let mut count = 0u64;
     for file in files {
-        let extents = file.extents.as_slice().len() as u64 + file.attr_extents.as_slice().len() as u64;
+        let extents = file.extents.as_slice().len() as u64
+            + file.attr_extents.as_slice().len() as u64;
         count = count.checked_add(extents)?;
     }
     Some(count)

@@ -15,7 +15,7 @@ use crate::faults::PartFault;
 use crate::inodes::{InodeFeature, Inodes};
 use std::alloc::Global;
 use std::sync::ledger::Ledger;
-use xfs_dirs::{DirectoryFault, DirFound, read_directory};
+use xfs_dirs::{DirFound, DirectoryFault, read_directory};
 use xfs_disk::{Disk, NoMemory};
 use xfs_geom::Geometry;
 use xfs_inode::{FileRead, InodeFault, read_file};

@@ -5,7 +5,7 @@ ghost use Rattle.xfs_kinds.specs.MergedRuns.{offset_word_at};
 ghost use Rattle.xfs_space.specs.SpaceLaws.{recorded_run};
 ghost use Rattle.xfs_space.specs.Maps.{AreAlike, AreMapped, IsFirstDifference, IsMapped};
 
-use crate::holding::{recorded_run, offset_word_at};
+use crate::holding::{offset_word_at, recorded_run};
 use xfs_geom::{RmapRec, Run};
 
 /// The first block to which the records of the group that begins at block `base` and the runs give different

@@ -144,7 +144,11 @@ fn put_no_room<S: Sink>(sink: &mut S, place: Unplaced) -> Result<(), Failed>
             &[("xfs: no room: directory ", Number::Decimal(ino))],
             "\n",
         ),
-        Unplaced::File(ino) => put_line(sink, &[("xfs: no room: file ", Number::Decimal(ino))], "\n"),
+        Unplaced::File(ino) => put_line(
+            sink,
+            &[("xfs: no room: file ", Number::Decimal(ino))],
+            "\n",
+        ),
         Unplaced::Chunk => put_line(sink, &[], "xfs: no room: chunk\n"),
         Unplaced::LostFound => put_line(sink, &[], "xfs: no room: lost+found\n"),
     }

@@ -163,7 +163,12 @@ fn enter<K: Kind, D: Disk, L: Ledger>(
 
 /// Whether a block can be one of the tree and was not met before: the first of these rules that it breaks.
 /// A block that keeps them counts as met.
-fn admit_block<K: Kind>(kind: &K, g: &Geometry, place: u64, met: &mut MetBlocks) -> Result<Option<u8>, NoMemory>
+fn admit_block<K: Kind>(
+    kind: &K,
+    g: &Geometry,
+    place: u64,
+    met: &mut MetBlocks,
+) -> Result<Option<u8>, NoMemory>
     requires { IsMet met.old }
     ensures fault { IfOk result (λ fault. fault ≡ place_fault (K.shape kind.now) (volume_of g.now) met.old.blocks.items place) }
     ensures inside { IfOk result (λ fault. fault ≡ None → place < g.now.dblocks) }
