@@ -10,7 +10,7 @@ use Rattle.xfs_runs.proofs.Meeting.{meets_none, unmet}
 use Rattle.xfs_claims.specs.Spans.{span_pair, spans_of, spans_apart, SpansApart, meets_any, with_blocks}
 
 abbrev pub no_run : Run
-no_run = record { start = 0; count = 0; owner = 0; offset = 0 }
+no_run = record { start = 0; count = 0; owner = 0; offset_word = 0 }
 
 -- what is left from a place on begins with the run there
 pub spans_next : (runs : List Run) (i : ℕ) (d : Run) → i < length runs → spans_of (drop i runs) ≡ span_pair (get_or runs i d) ∷ spans_of (drop (i + 1) runs)

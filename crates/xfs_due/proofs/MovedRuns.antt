@@ -16,15 +16,15 @@ use Rattle.xfs_space.proofs.Shared.{on-cons}
 use Rattle.xfs_space.proofs.Splits.{EndsBy, StartsFrom, none_on_back, none_on_front}
 
 abbrev pub moved : ℕ → Run → Run
-moved base r = run (base + r.start) r.count r.owner r.offset
+moved base r = run (base + r.start) r.count r.owner r.offset_word
 
 same_block : (base start count b : ℕ) → is_in_range (base + start) count (base + b) ≡ is_in_range start count b
 same_block base start count b = grind (arith, nat_tests)
 
 moved_word : (base : ℕ) (r : Run) (b : ℕ) → offset_word_at (moved base r) (base + b) ≡ offset_word_at r b
-moved_word base r b = by_case (is_file_data r.owner r.offset)
+moved_word base r b = by_case (is_file_data r.owner r.offset_word)
   where
-    by_case : (t : Bool) → (if t then r.offset + (base + b - (base + r.start)) else r.offset) ≡ (if t then r.offset + (b - r.start) else r.offset)
+    by_case : (t : Bool) → (if t then r.offset_word + (base + b - (base + r.start)) else r.offset_word) ≡ (if t then r.offset_word + (b - r.start) else r.offset_word)
     by_case true = omega arith
     by_case false = refl
 

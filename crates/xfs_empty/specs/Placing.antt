@@ -12,7 +12,7 @@ abbrev pub first_chunk : InoRec
 first_chunk = record { startino = 128; holemask = 0; count = 64; freecount = 61; free = 0xffff_ffff_ffff_fff8 }
 
 abbrev pub chunk_run : Run
-chunk_run = record { start = 16; count = 8; owner = 2 ^ 64 - 7; offset = 0 }
+chunk_run = record { start = 16; count = 8; owner = 2 ^ 64 - 7; offset_word = 0 }
 
 -- the records of inodes of a group: the first group has the first chunk, the others have none
 abbrev pub chunks_of : ℕ → List InoRec

@@ -29,7 +29,7 @@ pub fn empty_wanted(alloc: Global, g: &Geometry) -> Result<Wanted, NoMemory>
         start: FIRST_CHUNK,
         count: CHUNK_BLOCKS,
         owner: INODES,
-        offset: 0,
+        offset_word: 0,
     };
     Ok(Wanted {
         geometry: *g,

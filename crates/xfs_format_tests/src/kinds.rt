@@ -208,7 +208,7 @@ fn owner_trees(rt: HostRuntime) {
         start,
         count,
         owner,
-        offset,
+        offset_word: offset,
     };
     let data = run(24, 3, 131, ATTRIBUTES + UNWRITTEN + 5);
     let mut bytes = [0; 24];
@@ -223,7 +223,7 @@ fn owner_trees(rt: HostRuntime) {
     same!(rt; rmap.read_key(&key), high);
     for (owner, word, last) in [(131, 5, 7), (131, TREE_BLOCK, TREE_BLOCK), (AG, 0, 0)] {
         let key = rmap.high_key(&run(24, 3, owner, word));
-        same!(rt; key.offset, last; (owner, word));
+        same!(rt; key.offset_word, last; (owner, word));
     }
     for line in OWNED_RUNS.lines() {
         let mut row = Row::new(line);
@@ -343,7 +343,7 @@ fn merged_runs_of_a_group(rt: HostRuntime) -> Result<(), Fail> {
         start,
         count,
         owner,
-        offset,
+        offset_word: offset,
     };
     let runs = [
         run(0, 1, FS, 0),

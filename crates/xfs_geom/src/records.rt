@@ -20,7 +20,7 @@ pub struct Run {
     /// The number of the inode that owns the blocks, or one of the owners below 0 in two's complement.
     pub owner: u64,
     /// The offset word: the offset in the owner's fork, in blocks, below three flags.
-    pub offset: u64,
+    pub offset_word: u64,
 }
 
 /// A record of an inode tree: a chunk of up to 64 inodes (chapter "AG Inode Management").
@@ -49,7 +49,7 @@ pub struct RmapRec {
     /// The number of the inode that owns the blocks, or one of the owners below 0 in two's complement.
     pub owner: u64,
     /// The offset word: the offset in the owner's fork, in blocks, below three flags.
-    pub offset: u64,
+    pub offset_word: u64,
 }
 
 /// The counters of a superblock (chapter "Superblocks").

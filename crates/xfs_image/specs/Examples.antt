@@ -25,7 +25,7 @@ chunk holemask = record { startino = 128; holemask = holemask; count = 64; freec
 
 -- blocks of a group that are given to the clusters
 abbrev pub given : ℕ → ℕ → RmapRec
-given start count = record { start = start; count = count; owner = 2 ^ 64 - 7; offset = 0 }
+given start count = record { start = start; count = count; owner = 2 ^ 64 - 7; offset_word = 0 }
 
 -- blocks 24 and 25 as blocks 1 and 2 of a file, blocks 26 and 27 as its blocks 4 and 5, which are not written yet
 abbrev pub extents : List Extent

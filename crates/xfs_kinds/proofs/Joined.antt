@@ -11,40 +11,40 @@ use Rattle.xfs_kinds.specs.MergedRuns.{NoneJoin, OffsetsAreOfData, held_at, join
 record Joined (x y : Run) : Type 0 where
   start : x.start + x.count ≡ y.start
   owner : x.owner ≡ y.owner
-  flags : flags_of x.offset ≡ flags_of y.offset
+  flags : flags_of x.offset_word ≡ flags_of y.offset_word
   offsets : offsets_follow x y ≡ true
 
 joined_parts : (x y : Run) → joins x y ≡ true → Joined x y
 joined_parts x y h =
     let s = x.start + x.count == y.start in
     let o = x.owner == y.owner in
-    let f = flags_of x.offset == flags_of y.offset in
+    let f = flags_of x.offset_word == flags_of y.offset_word in
     let a = and_parts (s && o && f) (offsets_follow x y) h in
     let b = and_parts (s && o) f a.0 in
     let c = and_parts s o b.0 in
     record {
       start = eqb-true (x.start + x.count) y.start c.0;
       owner = eqb-true x.owner y.owner c.1;
-      flags = eqb-true (flags_of x.offset) (flags_of y.offset) b.1;
+      flags = eqb-true (flags_of x.offset_word) (flags_of y.offset_word) b.1;
       offsets = a.1;
     }
 
 -- runs with the same owner and flags are file data, or neither is
-same_data : (x y : Run) → Joined x y → is_file_data x.owner x.offset ≡ is_file_data y.owner y.offset
+same_data : (x y : Run) → Joined x y → is_file_data x.owner x.offset_word ≡ is_file_data y.owner y.offset_word
 same_data x y j =
-    let bit : x.offset / 2 ^ 62 ≡ y.offset / 2 ^ 62 = omega (arith, j.flags) in
+    let bit : x.offset_word / 2 ^ 62 ≡ y.offset_word / 2 ^ 62 = omega (arith, j.flags) in
     ap₂ (λ (o b : ℕ). nat_lt o (2 ^ 63) && not (b % 2 == 1)) j.owner bit
 
 -- the offsets of the grown run follow where those of the joined one do
 offsets_grown : (x y z : Run) → Joined x y → offsets_follow (longer x y.count) z ≡ offsets_follow y z
-offsets_grown x y z j = by_case (is_file_data x.owner x.offset) (is_file_data y.owner y.offset) (same_data x y j) j.offsets
+offsets_grown x y z j = by_case (is_file_data x.owner x.offset_word) (is_file_data y.owner y.offset_word) (same_data x y j) j.offsets
   where
-    by_case : (d e : Bool) → d ≡ e → (not d || offset_in_fork x.offset + x.count == offset_in_fork y.offset) ≡ true
-        → (not d || offset_in_fork x.offset + (x.count + y.count) == offset_in_fork z.offset) ≡ (not e || offset_in_fork y.offset + y.count == offset_in_fork z.offset)
+    by_case : (d e : Bool) → d ≡ e → (not d || offset_in_fork x.offset_word + x.count == offset_in_fork y.offset_word) ≡ true
+        → (not d || offset_in_fork x.offset_word + (x.count + y.count) == offset_in_fork z.offset_word) ≡ (not e || offset_in_fork y.offset_word + y.count == offset_in_fork z.offset_word)
     by_case true true same follow =
-        let at = eqb-true (offset_in_fork x.offset + x.count) (offset_in_fork y.offset) follow in
-        let end : offset_in_fork x.offset + (x.count + y.count) ≡ offset_in_fork y.offset + y.count = omega (arith, at) in
-        ap (λ (n : ℕ). n == offset_in_fork z.offset) end
+        let at = eqb-true (offset_in_fork x.offset_word + x.count) (offset_in_fork y.offset_word) follow in
+        let end : offset_in_fork x.offset_word + (x.count + y.count) ≡ offset_in_fork y.offset_word + y.count = omega (arith, at) in
+        ap (λ (n : ℕ). n == offset_in_fork z.offset_word) end
     by_case true false same follow = cc
     by_case false true same follow = cc
     by_case false false same follow = refl
@@ -56,7 +56,7 @@ joins_grown x y z h =
     let end : x.start + (x.count + y.count) ≡ y.start + y.count = omega (arith, j.start) in
     let s = ap (λ (n : ℕ). n == z.start) end in
     let o = ap (λ (n : ℕ). n == z.owner) j.owner in
-    let f = ap (λ (n : ℕ). n == flags_of z.offset) j.flags in
+    let f = ap (λ (n : ℕ). n == flags_of z.offset_word) j.flags in
     ap₂ ◌&&◌ (ap₂ ◌&&◌ (ap₂ ◌&&◌ s o) f) (offsets_grown x y z j)
 
 -- runs joined from the left: the last run so far, and those behind it
@@ -126,22 +126,22 @@ whole_flags : (x z : ℕ) → flags_of x ≡ flags_of z → offset_in_fork x ≡
 whole_flags x z flags none_x none_z = omega (arith, flags, none_x, none_z)
 
 -- joined runs give the blocks of the second one word
-same_word : (x z : Run) (b : ℕ) → Joined x z → (is_file_data x.owner x.offset ≡ false → offset_in_fork x.offset ≡ 0)
-    → (is_file_data z.owner z.offset ≡ false → offset_in_fork z.offset ≡ 0) → z.start ≤ b → offset_word_at x b ≡ offset_word_at z b
+same_word : (x z : Run) (b : ℕ) → Joined x z → (is_file_data x.owner x.offset_word ≡ false → offset_in_fork x.offset_word ≡ 0)
+    → (is_file_data z.owner z.offset_word ≡ false → offset_in_fork z.offset_word ≡ 0) → z.start ≤ b → offset_word_at x b ≡ offset_word_at z b
 same_word x z b j none_x none_z h =
-    by_case (is_file_data x.owner x.offset) refl (is_file_data z.owner z.offset) refl (same_data x z j) j.offsets
+    by_case (is_file_data x.owner x.offset_word) refl (is_file_data z.owner z.offset_word) refl (same_data x z j) j.offsets
   where
-    by_case : (d : Bool) → is_file_data x.owner x.offset ≡ d → (e : Bool) → is_file_data z.owner z.offset ≡ e → is_file_data x.owner x.offset ≡ is_file_data z.owner z.offset
-        → (not (is_file_data x.owner x.offset) || offset_in_fork x.offset + x.count == offset_in_fork z.offset) ≡ true
-        → (if d then x.offset + (b - x.start) else x.offset) ≡ (if e then z.offset + (b - z.start) else z.offset)
+    by_case : (d : Bool) → is_file_data x.owner x.offset_word ≡ d → (e : Bool) → is_file_data z.owner z.offset_word ≡ e → is_file_data x.owner x.offset_word ≡ is_file_data z.owner z.offset_word
+        → (not (is_file_data x.owner x.offset_word) || offset_in_fork x.offset_word + x.count == offset_in_fork z.offset_word) ≡ true
+        → (if d then x.offset_word + (b - x.start) else x.offset_word) ≡ (if e then z.offset_word + (b - z.start) else z.offset_word)
     by_case true p true q same follow =
-        let at = eqb-true (offset_in_fork x.offset + x.count) (offset_in_fork z.offset) (subst (λ (t : Bool). (not t || offset_in_fork x.offset + x.count == offset_in_fork z.offset) ≡ true) p follow) in
-        let whole = whole_word x.offset z.offset x.count j.flags at in
+        let at = eqb-true (offset_in_fork x.offset_word + x.count) (offset_in_fork z.offset_word) (subst (λ (t : Bool). (not t || offset_in_fork x.offset_word + x.count == offset_in_fork z.offset_word) ≡ true) p follow) in
+        let whole = whole_word x.offset_word z.offset_word x.count j.flags at in
         let start = j.start in
         omega (arith, whole, start, h)
     by_case true p false q same follow = absurd (true≢false (sym p ∙ same ∙ q))
     by_case false p true q same follow = absurd (true≢false (sym q ∙ sym same ∙ p))
-    by_case false p false q same follow = whole_flags x.offset z.offset j.flags (none_x p) (none_z q)
+    by_case false p false q same follow = whole_flags x.offset_word z.offset_word j.flags (none_x p) (none_z q)
 
 both_held : (x z : Run) (rest : List Run) (b : ℕ) → Joined x z → (z.start ≤ b → offset_word_at x b ≡ offset_word_at z b)
     → held_at (longer x z.count ∷ rest) b ≡ held_at (x ∷ z ∷ rest) b
@@ -164,7 +164,7 @@ both_held x z rest b j word = by_case (is_in_range x.start x.count b) refl (is_i
         let none : is_in_range x.start (x.count + z.count) b ≡ false = grind (arith, nat_tests, p, q, start) in
         rw none refl
 
-held_with : (x : Run) (zs : List Run) (b : ℕ) → (is_file_data x.owner x.offset ≡ false → offset_in_fork x.offset ≡ 0) → OffsetsAreOfData zs
+held_with : (x : Run) (zs : List Run) (b : ℕ) → (is_file_data x.owner x.offset_word ≡ false → offset_in_fork x.offset_word ≡ 0) → OffsetsAreOfData zs
     → held_at (with_run x zs) b ≡ held_at (x ∷ zs) b
 held_with x [] b none_x others = refl
 held_with x (z ∷ rest) b none_x others = by_case (joins x z) refl
@@ -175,7 +175,7 @@ held_with x (z ∷ rest) b none_x others = by_case (joins x z) refl
         both_held x z rest b j (λ low. same_word x z b j none_x others.0 low)
     by_case false h = refl
 
-offsets_with : (x : Run) (zs : List Run) → (is_file_data x.owner x.offset ≡ false → offset_in_fork x.offset ≡ 0) → OffsetsAreOfData zs → OffsetsAreOfData (with_run x zs)
+offsets_with : (x : Run) (zs : List Run) → (is_file_data x.owner x.offset_word ≡ false → offset_in_fork x.offset_word ≡ 0) → OffsetsAreOfData zs → OffsetsAreOfData (with_run x zs)
 offsets_with x [] none_x others = (none_x, tt)
 offsets_with x (z ∷ rest) none_x others = by_case (joins x z)
   where

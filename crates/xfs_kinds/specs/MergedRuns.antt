@@ -11,11 +11,11 @@ AreRuns low (r ∷ rest) = (low ≤ r.start) × (r.start + r.count < 2 ^ 63) × 
 
 -- the offsets follow, or they say nothing
 abbrev pub offsets_follow : Run → Run → Bool
-offsets_follow x y = not (is_file_data x.owner x.offset) || offset_in_fork x.offset + x.count == offset_in_fork y.offset
+offsets_follow x y = not (is_file_data x.owner x.offset_word) || offset_in_fork x.offset_word + x.count == offset_in_fork y.offset_word
 
 -- the second run goes on where the first ends, for the same owner and with the same flags
 abbrev pub joins : Run → Run → Bool
-joins x y = x.start + x.count == y.start && x.owner == y.owner && flags_of x.offset == flags_of y.offset && offsets_follow x y
+joins x y = x.start + x.count == y.start && x.owner == y.owner && flags_of x.offset_word == flags_of y.offset_word && offsets_follow x y
 
 -- the run with as many more blocks
 abbrev pub longer : Run → ℕ → Run
@@ -40,11 +40,11 @@ NoneJoin (x ∷ y ∷ rest) = (joins x y ≡ false) × NoneJoin (y ∷ rest)
 -- runs of other blocks than those of file data have no offset
 abbrev pub OffsetsAreOfData : List Run → Type 0
 OffsetsAreOfData [] = Unit {0}
-OffsetsAreOfData (r ∷ rest) = (is_file_data r.owner r.offset ≡ false → offset_in_fork r.offset ≡ 0) × OffsetsAreOfData rest
+OffsetsAreOfData (r ∷ rest) = (is_file_data r.owner r.offset_word ≡ false → offset_in_fork r.offset_word ≡ 0) × OffsetsAreOfData rest
 
 -- the offset word of a block of the run: the offset of file data goes up with the block
 abbrev pub offset_word_at : Run → ℕ → ℕ
-offset_word_at r block = if is_file_data r.owner r.offset then r.offset + (block - r.start) else r.offset
+offset_word_at r block = if is_file_data r.owner r.offset_word then r.offset_word + (block - r.start) else r.offset_word
 
 -- the owner and the offset word that the runs give a block
 abbrev pub held_at : List Run → ℕ → Option (ℕ × ℕ)

@@ -21,14 +21,14 @@ record Fits (r : RmapRec) : Type 0 where
   start : r.start < 2 ^ 32
   count : r.count < 2 ^ 32
   owner : r.owner < 2 ^ 64
-  offset : r.offset < 2 ^ 64
+  offset : r.offset_word < 2 ^ 64
 
 numbers_fit : (r : RmapRec) → IsTrue (fits_owner r) → Fits r
 numbers_fit r h =
     let s = nat_lt r.start (2 ^ 32) in
     let c = nat_lt r.count (2 ^ 32) in
     let o = nat_lt r.owner (2 ^ 64) in
-    let w = nat_lt r.offset (2 ^ 64) in
+    let w = nat_lt r.offset_word (2 ^ 64) in
     let d = and_parts (s && c && o) w h in
     let e = and_parts (s && c) o d.0 in
     let f = and_parts s c e.0 in
@@ -43,15 +43,15 @@ numbers_fit r h =
 record KeyFits (k : RmapKey) : Type 0 where
   start : k.start < 2 ^ 32
   owner : k.owner < 2 ^ 64
-  offset : k.offset < 2 ^ 64
-  written : IsTrue (not (is_unwritten k.offset))
+  offset : k.offset_word < 2 ^ 64
+  written : IsTrue (not (is_unwritten k.offset_word))
 
 key_numbers_fit : (k : RmapKey) → IsTrue (fits_key k) → KeyFits k
 key_numbers_fit k h =
     let s = nat_lt k.start (2 ^ 32) in
     let o = nat_lt k.owner (2 ^ 64) in
-    let w = nat_lt k.offset (2 ^ 64) in
-    let d = and_parts (s && o && w) (not (is_unwritten k.offset)) h in
+    let w = nat_lt k.offset_word (2 ^ 64) in
+    let d = and_parts (s && o && w) (not (is_unwritten k.offset_word)) h in
     let e = and_parts (s && o) w d.0 in
     let f = and_parts s o e.0 in
     record {
@@ -66,26 +66,26 @@ key_fits : (k : RmapKey) → KeyFits k → IsTrue (fits_key k)
 key_fits k f =
     let s = nat_lt k.start (2 ^ 32) in
     let o = nat_lt k.owner (2 ^ 64) in
-    let w = nat_lt k.offset (2 ^ 64) in
+    let w = nat_lt k.offset_word (2 ^ 64) in
     let a = and_from s o (lt-ltb k.start (2 ^ 32) f.start) (lt-ltb k.owner (2 ^ 64) f.owner) in
-    let b = and_from (s && o) w a (lt-ltb k.offset (2 ^ 64) f.offset) in
-    and_from (s && o && w) (not (is_unwritten k.offset)) b f.written
+    let b = and_from (s && o) w a (lt-ltb k.offset_word (2 ^ 64) f.offset) in
+    and_from (s && o && w) (not (is_unwritten k.offset_word)) b f.written
 
 -- records with the same numbers are the same
-same_owner : (r : RmapRec) (s c o w : ℕ) → s ≡ r.start → c ≡ r.count → o ≡ r.owner → w ≡ r.offset → record { start = s; count = c; owner = o; offset = w } ≡ r
+same_owner : (r : RmapRec) (s c o w : ℕ) → s ≡ r.start → c ≡ r.count → o ≡ r.owner → w ≡ r.offset_word → record { start = s; count = c; owner = o; offset_word = w } ≡ r
 same_owner r s c o w hs hc ho hw =
-    let at_s = λ (x : ℕ). let q : RmapRec = record { start = x; count = c; owner = o; offset = w } in q in
-    let at_c = λ (x : ℕ). let q : RmapRec = record { start = r.start; count = x; owner = o; offset = w } in q in
-    let at_o = λ (x : ℕ). let q : RmapRec = record { start = r.start; count = r.count; owner = x; offset = w } in q in
-    let at_w = λ (x : ℕ). let q : RmapRec = record { start = r.start; count = r.count; owner = r.owner; offset = x } in q in
+    let at_s = λ (x : ℕ). let q : RmapRec = record { start = x; count = c; owner = o; offset_word = w } in q in
+    let at_c = λ (x : ℕ). let q : RmapRec = record { start = r.start; count = x; owner = o; offset_word = w } in q in
+    let at_o = λ (x : ℕ). let q : RmapRec = record { start = r.start; count = r.count; owner = x; offset_word = w } in q in
+    let at_w = λ (x : ℕ). let q : RmapRec = record { start = r.start; count = r.count; owner = r.owner; offset_word = x } in q in
     ap at_s hs ∙ ap at_c hc ∙ ap at_o ho ∙ ap at_w hw
 
 -- keys with the same numbers are the same
-same_key : (k : RmapKey) (s o w : ℕ) → s ≡ k.start → o ≡ k.owner → w ≡ k.offset → record { start = s; owner = o; offset = w } ≡ k
+same_key : (k : RmapKey) (s o w : ℕ) → s ≡ k.start → o ≡ k.owner → w ≡ k.offset_word → record { start = s; owner = o; offset_word = w } ≡ k
 same_key k s o w hs ho hw =
-    let at_s = λ (x : ℕ). let q : RmapKey = record { start = x; owner = o; offset = w } in q in
-    let at_o = λ (x : ℕ). let q : RmapKey = record { start = k.start; owner = x; offset = w } in q in
-    let at_w = λ (x : ℕ). let q : RmapKey = record { start = k.start; owner = k.owner; offset = x } in q in
+    let at_s = λ (x : ℕ). let q : RmapKey = record { start = x; owner = o; offset_word = w } in q in
+    let at_o = λ (x : ℕ). let q : RmapKey = record { start = k.start; owner = x; offset_word = w } in q in
+    let at_w = λ (x : ℕ). let q : RmapKey = record { start = k.start; owner = k.owner; offset_word = x } in q in
     ap at_s hs ∙ ap at_o ho ∙ ap at_w hw
 
 owner_len : (r : RmapRec) → length (owner_bytes r) ≡ 24
@@ -99,7 +99,7 @@ owner_again r h =
     let s : r.start < 256 ^ 4 = f.start in
     let c : r.count < 256 ^ 4 = f.count in
     let o : r.owner < 256 ^ 8 = f.owner in
-    let w : r.offset < 256 ^ 8 = f.offset in
+    let w : r.offset_word < 256 ^ 8 = f.offset in
     let fit : AllFit (owner_rows r) = (s, (c, (o, (w, tt)))) in
     let bytes = owner_bytes r in
     let read = spelled_again (owner_rows r) bytes 0 fit refl in
@@ -107,7 +107,7 @@ owner_again r h =
 
 -- bytes in which the numbers of a record stand are its bytes
 pub owner_put : (r : RmapRec) (bytes : List ℕ) → AreBytes bytes → length bytes ≡ 24 → field_of bytes 0 4 ≡ r.start → field_of bytes 4 4 ≡ r.count
-    → field_of bytes 8 8 ≡ r.owner → field_of bytes 16 8 ≡ r.offset → bytes ≡ owner_bytes r
+    → field_of bytes 8 8 ≡ r.owner → field_of bytes 16 8 ≡ r.offset_word → bytes ≡ owner_bytes r
 unfolding owner_bytes
 owner_put r bytes all long s c o w = spelled_from (owner_rows r) bytes 0 all long (s, (c, (o, (w, tt))))
 
@@ -125,16 +125,16 @@ key_again k h =
     let f = key_numbers_fit k h in
     let s : k.start < 256 ^ 4 = f.start in
     let o : k.owner < 256 ^ 8 = f.owner in
-    let w : k.offset < 256 ^ 8 = f.offset in
+    let w : k.offset_word < 256 ^ 8 = f.offset in
     let fit : AllFit (key_rows k) = (s, (o, (w, tt))) in
     let bytes = key_bytes k in
     let read = spelled_again (key_rows k) bytes 0 fit refl in
     same_key k (field_of bytes 0 4) (field_of bytes 4 8) (key_word (field_of bytes 12 8)) read.0 read.1.0
-    (ap (λ (x : ℕ). key_word x) read.1.1.0 ∙ key_word_same k.offset f.written)
+    (ap (λ (x : ℕ). key_word x) read.1.1.0 ∙ key_word_same k.offset_word f.written)
 
 -- bytes in which the numbers of a key stand are its bytes
 pub key_put : (k : RmapKey) (bytes : List ℕ) → AreBytes bytes → length bytes ≡ 20 → field_of bytes 0 4 ≡ k.start → field_of bytes 4 8 ≡ k.owner
-    → field_of bytes 12 8 ≡ k.offset → bytes ≡ key_bytes k
+    → field_of bytes 12 8 ≡ k.offset_word → bytes ≡ key_bytes k
 unfolding key_bytes
 key_put k bytes all long s o w = spelled_from (key_rows k) bytes 0 all long (s, (o, (w, tt)))
 
@@ -148,11 +148,11 @@ key_word_written w = grind (arith, nat_tests)
 last-lt : (most first count : ℕ) → last_block_of most first count < most + 1
 last-lt most first count = omega arith
 
-last_word-lt : (r : RmapRec) → r.offset < 2 ^ 64 → last_word r < 2 ^ 64
-last_word-lt r h = by_case (is_file_data r.owner r.offset)
+last_word-lt : (r : RmapRec) → r.offset_word < 2 ^ 64 → last_word r < 2 ^ 64
+last_word-lt r h = by_case (is_file_data r.owner r.offset_word)
   where
-    by_case : (b : Bool) → (if b then last_block_of (2 ^ 64 - 1) r.offset r.count else r.offset) < 2 ^ 64
-    by_case true = last-lt (2 ^ 64 - 1) r.offset r.count
+    by_case : (b : Bool) → (if b then last_block_of (2 ^ 64 - 1) r.offset_word r.count else r.offset_word) < 2 ^ 64
+    by_case true = last-lt (2 ^ 64 - 1) r.offset_word r.count
     by_case false = h
 
 low_fits : (r : RmapRec) → IsTrue (fits_owner r) → IsTrue (fits_key (low_key r))
@@ -173,14 +173,14 @@ high_fits r h =
 key_total : IsTotalOrder key_order
 key_total =
     then_total (then_total (on_total (λ (k : RmapKey). k.start) nat_cmp_total) (on_total (λ (k : RmapKey). k.owner) nat_cmp_total))
-    (on_total (λ (k : RmapKey). k.offset) nat_cmp_total)
+    (on_total (λ (k : RmapKey). k.offset_word) nat_cmp_total)
 
 -- the runs fit, and have some blocks
 run_fits : (v : Volume) (ag : ℕ) (r : RmapRec) → IsTrue (is_owned_run v ag r) → IsTrue (fits_owner r) × (1 ≤ r.count)
 run_fits v ag r h =
     let some = nat_le 1 r.count in
     let owner = is_owner r.owner in
-    let end = nat_le (offset_in_fork r.offset + r.count) (2 ^ 54) in
+    let end = nat_le (offset_in_fork r.offset_word + r.count) (2 ^ 54) in
     let a = and_parts (fits_owner r && some && owner && end) (lies_in_group v ag r.start r.count) h in
     let b = and_parts (fits_owner r && some && owner) end a.0 in
     let c = and_parts (fits_owner r && some) owner b.0 in
@@ -206,8 +206,8 @@ rmap_kind ag = record {
   };
   total = key_total;
   same_as_itself = λ k.
-      and_from (k.start == k.start) (k.owner == k.owner && k.offset == k.offset) (nat_eq_equiv.refl k.start)
-      (and_from (k.owner == k.owner) (k.offset == k.offset) (nat_eq_equiv.refl k.owner) (nat_eq_equiv.refl k.offset));
+      and_from (k.start == k.start) (k.owner == k.owner && k.offset_word == k.offset_word) (nat_eq_equiv.refl k.start)
+      (and_from (k.owner == k.owner) (k.offset_word == k.offset_word) (nat_eq_equiv.refl k.owner) (nat_eq_equiv.refl k.offset_word));
   record_len = λ r h. owner_len r;
   key_len = λ k h. key_len k;
   record_again = owner_again;

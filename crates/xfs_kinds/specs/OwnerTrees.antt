@@ -18,29 +18,29 @@ owner_layout = record { magic = 0x524d_4233; long = false; high = true; record_l
 
 -- the start and the count of a run, its owner, its offset word
 abbrev pub owner_of_bytes : List ℕ → RmapRec
-owner_of_bytes bytes = record { start = field_of bytes 0 4; count = field_of bytes 4 4; owner = field_of bytes 8 8; offset = field_of bytes 16 8 }
+owner_of_bytes bytes = record { start = field_of bytes 0 4; count = field_of bytes 4 4; owner = field_of bytes 8 8; offset_word = field_of bytes 16 8 }
 
 abbrev pub owner_rows : RmapRec → List (ℕ × ℕ)
-owner_rows r = (4, r.start) ∷ (4, r.count) ∷ (8, r.owner) ∷ (8, r.offset) ∷ []
+owner_rows r = (4, r.start) ∷ (4, r.count) ∷ (8, r.owner) ∷ (8, r.offset_word) ∷ []
 
 unfoldable pub owner_bytes : RmapRec → List ℕ
 owner_bytes r = spelled (owner_rows r)
 
 -- a block, its owner, its offset word, of which the unwritten bit is not asked
 abbrev pub key_of_bytes : List ℕ → RmapKey
-key_of_bytes bytes = record { start = field_of bytes 0 4; owner = field_of bytes 4 8; offset = key_word (field_of bytes 12 8) }
+key_of_bytes bytes = record { start = field_of bytes 0 4; owner = field_of bytes 4 8; offset_word = key_word (field_of bytes 12 8) }
 
 abbrev pub key_rows : RmapKey → List (ℕ × ℕ)
-key_rows k = (4, k.start) ∷ (8, k.owner) ∷ (8, k.offset) ∷ []
+key_rows k = (4, k.start) ∷ (8, k.owner) ∷ (8, k.offset_word) ∷ []
 
 unfoldable pub key_bytes : RmapKey → List ℕ
 key_bytes k = spelled (key_rows k)
 
 abbrev pub fits_owner : RmapRec → Bool
-fits_owner r = nat_lt r.start (2 ^ 32) && nat_lt r.count (2 ^ 32) && nat_lt r.owner (2 ^ 64) && nat_lt r.offset (2 ^ 64)
+fits_owner r = nat_lt r.start (2 ^ 32) && nat_lt r.count (2 ^ 32) && nat_lt r.owner (2 ^ 64) && nat_lt r.offset_word (2 ^ 64)
 
 abbrev pub fits_key : RmapKey → Bool
-fits_key k = nat_lt k.start (2 ^ 32) && nat_lt k.owner (2 ^ 64) && nat_lt k.offset (2 ^ 64) && not (is_unwritten k.offset)
+fits_key k = nat_lt k.start (2 ^ 32) && nat_lt k.owner (2 ^ 64) && nat_lt k.offset_word (2 ^ 64) && not (is_unwritten k.offset_word)
 
 -- the last of so many numbers from the first on; or the most that a field holds, which no lawful run comes to
 abbrev pub last_block_of : ℕ → ℕ → ℕ → ℕ
@@ -48,14 +48,14 @@ last_block_of most first count = min (first + (count - 1)) most
 
 -- the word of the last block: the offset of file data goes up with the block
 abbrev pub last_word : RmapRec → ℕ
-last_word r = if is_file_data r.owner r.offset then last_block_of (2 ^ 64 - 1) r.offset r.count else r.offset
+last_word r = if is_file_data r.owner r.offset_word then last_block_of (2 ^ 64 - 1) r.offset_word r.count else r.offset_word
 
 -- the key of the first block, and of the last
 abbrev pub low_key : RmapRec → RmapKey
-low_key r = record { start = r.start; owner = r.owner; offset = key_word r.offset }
+low_key r = record { start = r.start; owner = r.owner; offset_word = key_word r.offset_word }
 
 abbrev pub high_key : RmapRec → RmapKey
-high_key r = record { start = last_block_of (2 ^ 32 - 1) r.start r.count; owner = r.owner; offset = key_word (last_word r) }
+high_key r = record { start = last_block_of (2 ^ 32 - 1) r.start r.count; owner = r.owner; offset_word = key_word (last_word r) }
 
 -- by block, then by owner, then by offset word
 abbrev pub block_order : RmapKey → RmapKey → Ordering
@@ -65,7 +65,7 @@ abbrev pub owner_order : RmapKey → RmapKey → Ordering
 owner_order = on (λ (k : RmapKey). k.owner) nat_cmp
 
 abbrev pub offset_order : RmapKey → RmapKey → Ordering
-offset_order = on (λ (k : RmapKey). k.offset) nat_cmp
+offset_order = on (λ (k : RmapKey). k.offset_word) nat_cmp
 
 abbrev pub key_order : RmapKey → RmapKey → Ordering
 key_order = then_cmp (then_cmp block_order owner_order) offset_order
@@ -77,7 +77,7 @@ is_owner owner = not (owner == 2 ^ 64 - 1)
 -- some blocks inside the group with an owner, at offsets that a fork can have
 abbrev pub is_owned_run : Volume → ℕ → RmapRec → Bool
 is_owned_run v ag r =
-    fits_owner r && nat_le 1 r.count && is_owner r.owner && nat_le (offset_in_fork r.offset + r.count) (2 ^ 54) && lies_in_group v ag r.start r.count
+    fits_owner r && nat_le 1 r.count && is_owner r.owner && nat_le (offset_in_fork r.offset_word + r.count) (2 ^ 54) && lies_in_group v ag r.start r.count
 
 -- a run begins at or behind the end of the one before it
 abbrev pub follows_end : Option RmapRec → RmapRec → Bool
@@ -95,7 +95,7 @@ rmap_shape ag = record {
   low = low_key;
   high = high_key;
   order = key_order;
-  same = λ a b. a.start == b.start && (a.owner == b.owner && a.offset == b.offset);
+  same = λ a b. a.start == b.start && (a.owner == b.owner && a.offset_word == b.offset_word);
   fits = fits_owner;
   fits_key = fits_key;
   lawful = λ v before r. is_owned_run v ag r && follows_end before r;

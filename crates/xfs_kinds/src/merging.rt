@@ -56,7 +56,7 @@ fn joins(run: &Run, next: &Run) -> bool
 {
     run.start + run.count == next.start
         && run.owner == next.owner
-        && flags_of(run.offset) == flags_of(next.offset)
+        && flags_of(run.offset_word) == flags_of(next.offset_word)
         && offsets_follow(run, next)
 }
 
@@ -65,8 +65,8 @@ fn offsets_follow(run: &Run, next: &Run) -> bool
     requires { run.now.start + run.now.count < 2 ^ 63 }
     ensures { result ≡ offsets_follow run.now next.now }
 {
-    !is_file_data(run.owner, run.offset)
-        || offset_in_fork(run.offset) + run.count == offset_in_fork(next.offset)
+    !is_file_data(run.owner, run.offset_word)
+        || offset_in_fork(run.offset_word) + run.count == offset_in_fork(next.offset_word)
 }
 
 /// The run with so many more blocks.

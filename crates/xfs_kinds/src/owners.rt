@@ -24,7 +24,7 @@ pub struct RmapKey {
     pub owner: u64,
     /// The offset word: the offset in the owner's fork, in blocks, below three flags. The flag of
     /// unwritten blocks is 0.
-    pub offset: u64,
+    pub offset_word: u64,
 }
 
 /// The run in its 24 bytes.
@@ -36,7 +36,7 @@ pub fn read_owner(bytes: &[u8]) -> RmapRec
         start: get32(bytes, owner::START.offset),
         count: get32(bytes, owner::COUNT.offset),
         owner: get64(bytes, owner::OWNER.offset),
-        offset: get64(bytes, owner::OFFSET.offset),
+        offset_word: get64(bytes, owner::OFFSET.offset),
     }
 }
 
@@ -48,7 +48,7 @@ pub fn put_owner(run: &RmapRec, bytes: &mut [u8])
     put32(bytes, owner::START.offset, run.start);
     put32(bytes, owner::COUNT.offset, run.count);
     put64(bytes, owner::OWNER.offset, run.owner);
-    put64(bytes, owner::OFFSET.offset, run.offset);
+    put64(bytes, owner::OFFSET.offset, run.offset_word);
 }
 
 /// The key in its 20 bytes.
@@ -59,7 +59,7 @@ pub fn read_key(bytes: &[u8]) -> RmapKey
     RmapKey {
         start: get32(bytes, owner_key::START.offset),
         owner: get64(bytes, owner_key::OWNER.offset),
-        offset: key_word(get64(bytes, owner_key::OFFSET.offset)),
+        offset_word: key_word(get64(bytes, owner_key::OFFSET.offset)),
     }
 }
 
@@ -70,7 +70,7 @@ pub fn put_key(key: &RmapKey, bytes: &mut [u8])
 {
     put32(bytes, owner_key::START.offset, key.start);
     put64(bytes, owner_key::OWNER.offset, key.owner);
-    put64(bytes, owner_key::OFFSET.offset, key.offset);
+    put64(bytes, owner_key::OFFSET.offset, key.offset_word);
 }
 
 /// The key of a run's first block.
@@ -80,7 +80,7 @@ pub fn low_key(run: &RmapRec) -> RmapKey
     RmapKey {
         start: run.start,
         owner: run.owner,
-        offset: key_word(run.offset),
+        offset_word: key_word(run.offset_word),
     }
 }
 
@@ -91,7 +91,7 @@ pub fn high_key(run: &RmapRec) -> RmapKey
     RmapKey {
         start: run.start.saturating_add(run.count.saturating_sub(1)),
         owner: run.owner,
-        offset: key_word(last_word(run)),
+        offset_word: key_word(last_word(run)),
     }
 }
 
@@ -99,11 +99,11 @@ pub fn high_key(run: &RmapRec) -> RmapKey
 fn last_word(run: &RmapRec) -> u64
     ensures { result ≡ last_word run.now }
 {
-    if is_file_data(run.owner, run.offset) {
-        run.offset
+    if is_file_data(run.owner, run.offset_word) {
+        run.offset_word
             .saturating_add(run.count.saturating_sub(1) as u64)
     } else {
-        run.offset
+        run.offset_word
     }
 }
 
@@ -114,7 +114,7 @@ pub fn key_order(a: &RmapKey, b: &RmapKey) -> Ordering
     let blocks = a.start.cmp(&b.start);
     blocks
         .then(a.owner.cmp(&b.owner))
-        .then(a.offset.cmp(&b.offset))
+        .then(a.offset_word.cmp(&b.offset_word))
 }
 
 /// Whether these are some blocks inside the group with an owner, at offsets that a fork can have.
@@ -123,7 +123,7 @@ pub fn is_owned_run(g: &Geometry, ag: u32, run: &RmapRec) -> bool
 {
     1 <= run.count
         && is_owner(run.owner)
-        && ends_by(offset_in_fork(run.offset), run.count as u64, LAST_END)
+        && ends_by(offset_in_fork(run.offset_word), run.count as u64, LAST_END)
         && lies_in_group(g, ag as u64, run.start as u64, run.count as u64)
 }
 

@@ -205,9 +205,9 @@ module _ (v : Volume) (ag : ℕ) (groups : HasGroups v.dblocks v.agblocks v.agco
   part_out r rest h = ap (λ (t : Bool). map (run_in_group (ag * v.agblocks)) (if t then r ∷ filter (begins_in (ag * v.agblocks) (group_length v ag)) rest else filter (begins_in (ag * v.agblocks) (group_length v ag)) rest)) h
 
   moved_word : (r : Run) (b base : ℕ) → base ≤ r.start → offset_word_at (run_in_group base r) b ≡ offset_word_at r (base + b)
-  moved_word r b base from = by_case (is_file_data r.owner r.offset)
+  moved_word r b base from = by_case (is_file_data r.owner r.offset_word)
     where
-      by_case : (t : Bool) → (if t then r.offset + (b - (r.start - base)) else r.offset) ≡ (if t then r.offset + (base + b - r.start) else r.offset)
+      by_case : (t : Bool) → (if t then r.offset_word + (b - (r.start - base)) else r.offset_word) ≡ (if t then r.offset_word + (base + b - r.start) else r.offset_word)
       by_case true = omega (arith, from)
       by_case false = refl
 

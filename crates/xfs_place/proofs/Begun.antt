@@ -18,12 +18,12 @@ AreSome top (r ∷ rest) = (1 ≤ r.count) × (r.start + r.count ≤ top) × Are
 -- the offsets of data stay below the flags
 abbrev pub OffsetsFit : List Run → Type 0
 OffsetsFit [] = Unit {0}
-OffsetsFit (r ∷ rest) = (is_file_data r.owner r.offset ≡ true → offset_in_fork r.offset + r.count ≤ 2 ^ 54) × OffsetsFit rest
+OffsetsFit (r ∷ rest) = (is_file_data r.owner r.offset_word ≡ true → offset_in_fork r.offset_word + r.count ≤ 2 ^ 54) × OffsetsFit rest
 
 -- the first run does not go on where something ends before it
 abbrev pub FirstApart : (ℕ → Option (ℕ × ℕ)) → List Run → Type 0
 FirstApart owned [] = Unit {0}
-FirstApart owned (r ∷ rest) = 0 < r.start → is_joined (owned (r.start - 1)) (Some (r.owner, r.offset)) ≡ false
+FirstApart owned (r ∷ rest) = 0 < r.start → is_joined (owned (r.start - 1)) (Some (r.owner, r.offset_word)) ≡ false
 
 pub held_before : (rs : List Run) (low b : ℕ) → AreRuns low rs → b < low → held_at rs b ≡ None
 held_before [] low b runs h = refl
@@ -56,56 +56,56 @@ either true = refl
 either false = refl
 
 -- the block behind one of a run goes on where it ends
-word_goes_on : (r : Run) (b : ℕ) → (is_file_data r.owner r.offset ≡ true → offset_in_fork r.offset + r.count ≤ 2 ^ 54) → r.start < b → b < r.start + r.count
+word_goes_on : (r : Run) (b : ℕ) → (is_file_data r.owner r.offset_word ≡ true → offset_in_fork r.offset_word + r.count ≤ 2 ^ 54) → r.start < b → b < r.start + r.count
     → goes_on (r.owner, offset_word_at r (b - 1)) (r.owner, offset_word_at r b) ≡ true
-word_goes_on r b fits low high = by_case (is_file_data r.owner r.offset) refl
+word_goes_on r b fits low high = by_case (is_file_data r.owner r.offset_word) refl
   where
-    by_case : (t : Bool) → is_file_data r.owner r.offset ≡ t
-        → goes_on (r.owner, (if t then r.offset + (b - 1 - r.start) else r.offset)) (r.owner, (if t then r.offset + (b - r.start) else r.offset)) ≡ true
+    by_case : (t : Bool) → is_file_data r.owner r.offset_word ≡ t
+        → goes_on (r.owner, (if t then r.offset_word + (b - 1 - r.start) else r.offset_word)) (r.owner, (if t then r.offset_word + (b - r.start) else r.offset_word)) ≡ true
     by_case false h =
         let o : (r.owner == r.owner) ≡ true = eq-eqb r.owner r.owner refl in
-        let f : (flags_of r.offset == flags_of r.offset) ≡ true = eq-eqb (flags_of r.offset) (flags_of r.offset) refl in
+        let f : (flags_of r.offset_word == flags_of r.offset_word) ≡ true = eq-eqb (flags_of r.offset_word) (flags_of r.offset_word) refl in
         rw (o, f, h) refl
     by_case true h =
         let small = fits h in
-        let w = r.offset + (b - 1 - r.start) in
-        let x = r.offset + (b - r.start) in
+        let w = r.offset_word + (b - 1 - r.start) in
+        let x = r.offset_word + (b - r.start) in
         let o : (r.owner == r.owner) ≡ true = eq-eqb r.owner r.owner refl in
         let f : (flags_of w == flags_of x) ≡ true = eq-eqb (flags_of w) (flags_of x) (omega (arith, small, low, high)) in
         let n : (offset_in_fork w + 1 == offset_in_fork x) ≡ true = eq-eqb (offset_in_fork w + 1) (offset_in_fork x) (omega (arith, small, low, high)) in
         rw (o, f, n) (either (is_file_data r.owner w))
 
 -- the first block of the next run goes on where the last of this one ends, where the runs join
-last_goes_on : (r y : Run) → (is_file_data r.owner r.offset ≡ true → offset_in_fork r.offset + r.count ≤ 2 ^ 54) → 1 ≤ r.count → r.start + r.count ≡ y.start
-    → goes_on (r.owner, offset_word_at r (y.start - 1)) (y.owner, y.offset) ≡ joins r y
-last_goes_on r y fits some next = by_case (is_file_data r.owner r.offset) refl
+last_goes_on : (r y : Run) → (is_file_data r.owner r.offset_word ≡ true → offset_in_fork r.offset_word + r.count ≤ 2 ^ 54) → 1 ≤ r.count → r.start + r.count ≡ y.start
+    → goes_on (r.owner, offset_word_at r (y.start - 1)) (y.owner, y.offset_word) ≡ joins r y
+last_goes_on r y fits some next = by_case (is_file_data r.owner r.offset_word) refl
   where
     at : (r.start + r.count == y.start) ≡ true
     at = eq-eqb (r.start + r.count) y.start next
 
-    by_case : (t : Bool) → is_file_data r.owner r.offset ≡ t
-        → goes_on (r.owner, (if t then r.offset + (y.start - 1 - r.start) else r.offset)) (y.owner, y.offset) ≡ joins r y
+    by_case : (t : Bool) → is_file_data r.owner r.offset_word ≡ t
+        → goes_on (r.owner, (if t then r.offset_word + (y.start - 1 - r.start) else r.offset_word)) (y.owner, y.offset_word) ≡ joins r y
     by_case false h = rw (at, h) refl
     by_case true h =
         let small = fits h in
-        let w = r.offset + (y.start - 1 - r.start) in
-        let f : flags_of w ≡ flags_of r.offset = omega (arith, small, next, some) in
-        let bit : w / 2 ^ 62 ≡ r.offset / 2 ^ 62 = omega (arith, f) in
+        let w = r.offset_word + (y.start - 1 - r.start) in
+        let f : flags_of w ≡ flags_of r.offset_word = omega (arith, small, next, some) in
+        let bit : w / 2 ^ 62 ≡ r.offset_word / 2 ^ 62 = omega (arith, f) in
         let same : is_file_data r.owner w ≡ true = ap (λ (b : ℕ). nat_lt r.owner (2 ^ 63) && not (b % 2 == 1)) bit ∙ h in
-        let n : offset_in_fork w + 1 ≡ offset_in_fork r.offset + r.count = omega (arith, small, next, some) in
+        let n : offset_in_fork w + 1 ≡ offset_in_fork r.offset_word + r.count = omega (arith, small, next, some) in
         rw (at, h, same, f, n) refl
 
-word_start : (r : Run) → offset_word_at r r.start ≡ r.offset
-word_start r = by_case (is_file_data r.owner r.offset)
+word_start : (r : Run) → offset_word_at r r.start ≡ r.offset_word
+word_start r = by_case (is_file_data r.owner r.offset_word)
   where
-    by_case : (t : Bool) → (if t then r.offset + (r.start - r.start) else r.offset) ≡ r.offset
+    by_case : (t : Bool) → (if t then r.offset_word + (r.start - r.start) else r.offset_word) ≡ r.offset_word
     by_case true = omega arith
     by_case false = refl
 
-start_begins : (o : ℕ → Option (ℕ × ℕ)) (s : Run) → o s.start ≡ Some (s.owner, offset_word_at s s.start) → (0 < s.start → is_joined (o (s.start - 1)) (Some (s.owner, s.offset)) ≡ false)
+start_begins : (o : ℕ → Option (ℕ × ℕ)) (s : Run) → o s.start ≡ Some (s.owner, offset_word_at s s.start) → (0 < s.start → is_joined (o (s.start - 1)) (Some (s.owner, s.offset_word)) ≡ false)
     → one_if (begins_owned o s.start) ≡ 1
 start_begins o s here apart =
-    let at : o s.start ≡ Some (s.owner, s.offset) = here ∙ ap (λ (w : ℕ). let p : Option (ℕ × ℕ) = Some (s.owner, w) in p) (word_start s) in
+    let at : o s.start ≡ Some (s.owner, s.offset_word) = here ∙ ap (λ (w : ℕ). let p : Option (ℕ × ℕ) = Some (s.owner, w) in p) (word_start s) in
     elim (cases_lt 0 s.start) [
       | inl pos ↦
           let e : nat_lt 0 s.start ≡ true = lt-ltb 0 s.start pos in
@@ -116,7 +116,7 @@ start_begins o s here apart =
           rw (e, at) refl
     ]
 
-inner_goes_on : (o : ℕ → Option (ℕ × ℕ)) (s : Run) (b : ℕ) → (is_file_data s.owner s.offset ≡ true → offset_in_fork s.offset + s.count ≤ 2 ^ 54) → s.start < b → b < s.start + s.count
+inner_goes_on : (o : ℕ → Option (ℕ × ℕ)) (s : Run) (b : ℕ) → (is_file_data s.owner s.offset_word ≡ true → offset_in_fork s.offset_word + s.count ≤ 2 ^ 54) → s.start < b → b < s.start + s.count
     → o (b - 1) ≡ Some (s.owner, offset_word_at s (b - 1)) → o b ≡ Some (s.owner, offset_word_at s b) → one_if (begins_owned o b) ≡ 0
 inner_goes_on o s b fit l h was now =
     let pos : nat_lt 0 b ≡ true = lt-ltb 0 b (omega (arith, l)) in
@@ -132,20 +132,20 @@ none_rest : (x : Run) (ys : List Run) → NoneJoin (x ∷ ys) → NoneJoin ys
 none_rest x [] n = tt
 none_rest x (y ∷ ys) n = n.1
 
-first_rest : (o : ℕ → Option (ℕ × ℕ)) (x : Run) (ys : List Run) (l t : ℕ) → AreRuns l (x ∷ ys) → AreSome t (x ∷ ys) → (is_file_data x.owner x.offset ≡ true → offset_in_fork x.offset + x.count ≤ 2 ^ 54)
+first_rest : (o : ℕ → Option (ℕ × ℕ)) (x : Run) (ys : List Run) (l t : ℕ) → AreRuns l (x ∷ ys) → AreSome t (x ∷ ys) → (is_file_data x.owner x.offset_word ≡ true → offset_in_fork x.offset_word + x.count ≤ 2 ^ 54)
     → NoneJoin (x ∷ ys) → ((b : ℕ) → l ≤ b → b < t → o b ≡ held_at (x ∷ ys) b) → FirstApart o ys
 first_rest o x [] l t rs sm fit n held = tt
 first_rest o x (y ∷ ys) l t rs sm fit n held = λ pos. elim (cases_eq (x.start + x.count) y.start) [
   | inl next ↦
       let was : o (y.start - 1) ≡ Some (x.owner, offset_word_at x (y.start - 1)) =
       held (y.start - 1) (omega (arith, rs.0, sm.0, next)) (omega (arith, sm.2.1, sm.2.0)) ∙ held_in x (y ∷ ys) (y.start - 1) (omega (arith, sm.0, next)) (omega (arith, next, sm.0)) in
-      ap (λ (p : Option (ℕ × ℕ)). is_joined p (Some (y.owner, y.offset))) was ∙ last_goes_on x y fit sm.0 next ∙ n.0
+      ap (λ (p : Option (ℕ × ℕ)). is_joined p (Some (y.owner, y.offset_word))) was ∙ last_goes_on x y fit sm.0 next ∙ n.0
   | inr gap ↦
       let far : x.start + x.count < y.start = omega (arith, rs.2.0, gap) in
       let was : o (y.start - 1) ≡ None =
       held (y.start - 1) (omega (arith, rs.0, far)) (omega (arith, sm.2.1, sm.2.0, pos)) ∙ held_behind x (y ∷ ys) (y.start - 1) (omega (arith, far))
       ∙ held_before (y ∷ ys) y.start (y.start - 1) (omega arith, rs.2.1, rs.2.2) (omega (arith, pos)) in
-      ap (λ (p : Option (ℕ × ℕ)). is_joined p (Some (y.owner, y.offset))) was
+      ap (λ (p : Option (ℕ × ℕ)). is_joined p (Some (y.owner, y.offset_word))) was
 ]
 
 -- The blocks that begin a run, of blocks that the runs own from low on, are as many as the runs.

@@ -134,7 +134,7 @@ held_or_not v (r ∷ rest) x clear = by_case (covers x r) refl (held_or_not v re
 
 -- what a run says of its use, and of a new block of the trees beside it
 closed_run : (r : Run) → (is_open (use_of_run r) ≡ false) × (is_spare (use_of_run r) ≡ false)
-closed_run r = by_cases (nat_lt r.offset (2 ^ 61)) (r.owner == group_owner) (r.owner == inode_trees_owner)
+closed_run r = by_cases (nat_lt r.offset_word (2 ^ 61)) (r.owner == group_owner) (r.owner == inode_trees_owner)
   where
     by_cases : (f s i : Bool) → (is_open (if f then (if s then ForSpace else (if i then ForInodes else Claimed)) else Claimed) ≡ false)
         × (is_spare (if f then (if s then ForSpace else (if i then ForInodes else Claimed)) else Claimed) ≡ false)
@@ -168,8 +168,8 @@ no_flags_behind w = elim (cases_lt w (2 ^ 61)) [
 ]
 
 -- a block of a run with an owner below 0 has the word of the run
-tree_owner_word : (r : Run) (x : ℕ) → nat_lt r.owner (2 ^ 63) ≡ false → offset_word_at r x ≡ r.offset
-tree_owner_word r x high = ap (λ (t : Bool). if t && not (r.offset / 2 ^ 62 % 2 == 1) then r.offset + (x - r.start) else r.offset) high
+tree_owner_word : (r : Run) (x : ℕ) → nat_lt r.owner (2 ^ 63) ≡ false → offset_word_at r x ≡ r.offset_word
+tree_owner_word r x high = ap (λ (t : Bool). if t && not (r.offset_word / 2 ^ 62 % 2 == 1) then r.offset_word + (x - r.start) else r.offset_word) high
 
 both_true : (a : Bool) → (true && a && (not false || true)) ≡ a
 both_true true = refl
@@ -187,14 +187,14 @@ run_space r x = by_case (r.owner == group_owner) refl
     mine true = refl
     mine false = refl
 
-    by_case : (t : Bool) → (r.owner == group_owner) ≡ t → goes_on (r.owner, offset_word_at r x) (group_owner, 0) ≡ is_for_space (if nat_lt r.offset (2 ^ 61) then (if t then ForSpace else (if r.owner == inode_trees_owner then ForInodes else Claimed)) else Claimed)
-    by_case false h = rw h (other (r.owner == inode_trees_owner) (nat_lt r.offset (2 ^ 61)))
+    by_case : (t : Bool) → (r.owner == group_owner) ≡ t → goes_on (r.owner, offset_word_at r x) (group_owner, 0) ≡ is_for_space (if nat_lt r.offset_word (2 ^ 61) then (if t then ForSpace else (if r.owner == inode_trees_owner then ForInodes else Claimed)) else Claimed)
+    by_case false h = rw h (other (r.owner == inode_trees_owner) (nat_lt r.offset_word (2 ^ 61)))
     by_case true h =
         let owner : r.owner ≡ group_owner = eqb-true r.owner group_owner h in
         let high : nat_lt r.owner (2 ^ 63) ≡ false = le-ltb r.owner (2 ^ 63) (omega (arith, owner)) in
         let word = tree_owner_word r x high in
-        let data' : is_file_data r.owner r.offset ≡ false = ap (λ (t : Bool). t && not (r.offset / 2 ^ 62 % 2 == 1)) high in
-        rw (word, h, data', no_flags r.offset) (mine (nat_lt r.offset (2 ^ 61)))
+        let data' : is_file_data r.owner r.offset_word ≡ false = ap (λ (t : Bool). t && not (r.offset_word / 2 ^ 62 % 2 == 1)) high in
+        rw (word, h, data', no_flags r.offset_word) (mine (nat_lt r.offset_word (2 ^ 61)))
 
 run_space_behind : (r : Run) (x : ℕ) → is_joined (Some (group_owner, 0)) (Some (r.owner, offset_word_at r x)) ≡ is_for_space (use_of_run r)
 run_space_behind r x = by_case (r.owner == group_owner) refl
@@ -208,16 +208,16 @@ run_space_behind r x = by_case (r.owner == group_owner) refl
     mine true = refl
     mine false = refl
 
-    by_case : (t : Bool) → (r.owner == group_owner) ≡ t → goes_on (group_owner, 0) (r.owner, offset_word_at r x) ≡ is_for_space (if nat_lt r.offset (2 ^ 61) then (if t then ForSpace else (if r.owner == inode_trees_owner then ForInodes else Claimed)) else Claimed)
+    by_case : (t : Bool) → (r.owner == group_owner) ≡ t → goes_on (group_owner, 0) (r.owner, offset_word_at r x) ≡ is_for_space (if nat_lt r.offset_word (2 ^ 61) then (if t then ForSpace else (if r.owner == inode_trees_owner then ForInodes else Claimed)) else Claimed)
     by_case false h =
         let turned : (group_owner == r.owner) ≡ false = ne_eqb group_owner r.owner (λ e. eqb-false r.owner group_owner h (sym e)) in
-        rw turned (other (r.owner == inode_trees_owner) (nat_lt r.offset (2 ^ 61)))
+        rw turned (other (r.owner == inode_trees_owner) (nat_lt r.offset_word (2 ^ 61)))
     by_case true h =
         let owner : r.owner ≡ group_owner = eqb-true r.owner group_owner h in
         let turned : (group_owner == r.owner) ≡ true = eq-eqb group_owner r.owner (sym owner) in
         let high : nat_lt r.owner (2 ^ 63) ≡ false = le-ltb r.owner (2 ^ 63) (omega (arith, owner)) in
         let word = tree_owner_word r x high in
-        rw (word, turned, no_flags_behind r.offset) (mine (nat_lt r.offset (2 ^ 61)))
+        rw (word, turned, no_flags_behind r.offset_word) (mine (nat_lt r.offset_word (2 ^ 61)))
 
 run_inodes : (r : Run) (x : ℕ) → is_joined (Some (r.owner, offset_word_at r x)) (Some (inode_trees_owner, 0)) ≡ is_for_inodes (use_of_run r)
 run_inodes r x = by_case (r.owner == inode_trees_owner) refl
@@ -231,15 +231,15 @@ run_inodes r x = by_case (r.owner == inode_trees_owner) refl
     mine true = refl
     mine false = refl
 
-    by_case : (t : Bool) → (r.owner == inode_trees_owner) ≡ t → goes_on (r.owner, offset_word_at r x) (inode_trees_owner, 0) ≡ is_for_inodes (if nat_lt r.offset (2 ^ 61) then (if r.owner == group_owner then ForSpace else (if t then ForInodes else Claimed)) else Claimed)
-    by_case false h = rw h (other (r.owner == group_owner) (nat_lt r.offset (2 ^ 61)))
+    by_case : (t : Bool) → (r.owner == inode_trees_owner) ≡ t → goes_on (r.owner, offset_word_at r x) (inode_trees_owner, 0) ≡ is_for_inodes (if nat_lt r.offset_word (2 ^ 61) then (if r.owner == group_owner then ForSpace else (if t then ForInodes else Claimed)) else Claimed)
+    by_case false h = rw h (other (r.owner == group_owner) (nat_lt r.offset_word (2 ^ 61)))
     by_case true h =
         let owner : r.owner ≡ inode_trees_owner = eqb-true r.owner inode_trees_owner h in
         let apart : (r.owner == group_owner) ≡ false = ne_eqb r.owner group_owner (λ e. omega (arith, owner, e)) in
         let high : nat_lt r.owner (2 ^ 63) ≡ false = le-ltb r.owner (2 ^ 63) (omega (arith, owner)) in
         let word = tree_owner_word r x high in
-        let data' : is_file_data r.owner r.offset ≡ false = ap (λ (t : Bool). t && not (r.offset / 2 ^ 62 % 2 == 1)) high in
-        rw (word, h, apart, data', no_flags r.offset) (mine (nat_lt r.offset (2 ^ 61)))
+        let data' : is_file_data r.owner r.offset_word ≡ false = ap (λ (t : Bool). t && not (r.offset_word / 2 ^ 62 % 2 == 1)) high in
+        rw (word, h, apart, data', no_flags r.offset_word) (mine (nat_lt r.offset_word (2 ^ 61)))
 
 run_inodes_behind : (r : Run) (x : ℕ) → is_joined (Some (inode_trees_owner, 0)) (Some (r.owner, offset_word_at r x)) ≡ is_for_inodes (use_of_run r)
 run_inodes_behind r x = by_case (r.owner == inode_trees_owner) refl
@@ -253,17 +253,17 @@ run_inodes_behind r x = by_case (r.owner == inode_trees_owner) refl
     mine true = refl
     mine false = refl
 
-    by_case : (t : Bool) → (r.owner == inode_trees_owner) ≡ t → goes_on (inode_trees_owner, 0) (r.owner, offset_word_at r x) ≡ is_for_inodes (if nat_lt r.offset (2 ^ 61) then (if r.owner == group_owner then ForSpace else (if t then ForInodes else Claimed)) else Claimed)
+    by_case : (t : Bool) → (r.owner == inode_trees_owner) ≡ t → goes_on (inode_trees_owner, 0) (r.owner, offset_word_at r x) ≡ is_for_inodes (if nat_lt r.offset_word (2 ^ 61) then (if r.owner == group_owner then ForSpace else (if t then ForInodes else Claimed)) else Claimed)
     by_case false h =
         let turned : (inode_trees_owner == r.owner) ≡ false = ne_eqb inode_trees_owner r.owner (λ e. eqb-false r.owner inode_trees_owner h (sym e)) in
-        rw turned (other (r.owner == group_owner) (nat_lt r.offset (2 ^ 61)))
+        rw turned (other (r.owner == group_owner) (nat_lt r.offset_word (2 ^ 61)))
     by_case true h =
         let owner : r.owner ≡ inode_trees_owner = eqb-true r.owner inode_trees_owner h in
         let turned : (inode_trees_owner == r.owner) ≡ true = eq-eqb inode_trees_owner r.owner (sym owner) in
         let apart : (r.owner == group_owner) ≡ false = ne_eqb r.owner group_owner (λ e. omega (arith, owner, e)) in
         let high : nat_lt r.owner (2 ^ 63) ≡ false = le-ltb r.owner (2 ^ 63) (omega (arith, owner)) in
         let word = tree_owner_word r x high in
-        rw (word, turned, apart, no_flags_behind r.offset) (mine (nat_lt r.offset (2 ^ 61)))
+        rw (word, turned, apart, no_flags_behind r.offset_word) (mine (nat_lt r.offset_word (2 ^ 61)))
 
 -- what is known of a block: its use and what is claimed of it agree
 pub record Agree (u : Use) (claim : Option (ℕ × ℕ)) : Type 0 where

@@ -165,28 +165,28 @@ offsets_plain top [] each = tt
 offsets_plain top (r ∷ rest) each = ((All-head (IsClaimedRun top) r rest each).plain, offsets_plain top rest (All-tail (IsClaimedRun top) r rest each))
 
 -- joined claims are claims
-joined_data : (x y : Run) → flags_of x.offset ≡ flags_of y.offset → x.owner ≡ y.owner → is_file_data x.owner x.offset ≡ is_file_data y.owner y.offset
+joined_data : (x y : Run) → flags_of x.offset_word ≡ flags_of y.offset_word → x.owner ≡ y.owner → is_file_data x.owner x.offset_word ≡ is_file_data y.owner y.offset_word
 joined_data x y flags owner =
-    let bit : x.offset / 2 ^ 62 ≡ y.offset / 2 ^ 62 = omega (arith, flags) in
+    let bit : x.offset_word / 2 ^ 62 ≡ y.offset_word / 2 ^ 62 = omega (arith, flags) in
     ap₂ (λ (o b : ℕ). nat_lt o (2 ^ 63) && not (b % 2 == 1)) owner bit
 
 longer_claim : (top : ℕ) (x y : Run) → joins x y ≡ true → IsClaimedRun top x → IsClaimedRun top y → IsClaimedRun top (longer x y.count)
 longer_claim top x y h a b =
     let s = x.start + x.count == y.start in
     let o = x.owner == y.owner in
-    let f = flags_of x.offset == flags_of y.offset in
+    let f = flags_of x.offset_word == flags_of y.offset_word in
     let p = and_parts (s && o && f) (offsets_follow x y) h in
     let q = and_parts (s && o) f p.0 in
     let r = and_parts s o q.0 in
     let next = eqb-true (x.start + x.count) y.start r.0 in
-    let same = joined_data x y (eqb-true (flags_of x.offset) (flags_of y.offset) q.1) (eqb-true x.owner y.owner r.1) in
+    let same = joined_data x y (eqb-true (flags_of x.offset_word) (flags_of y.offset_word) q.1) (eqb-true x.owner y.owner r.1) in
     record {
       some = omega (arith, a.some);
       inside = omega (arith, b.inside, next);
       fits = λ of_data.
-          let follow : (not true || offset_in_fork x.offset + x.count == offset_in_fork y.offset) ≡ true =
-          subst (λ (t : Bool). (not t || offset_in_fork x.offset + x.count == offset_in_fork y.offset) ≡ true) of_data p.1 in
-          let at = eqb-true (offset_in_fork x.offset + x.count) (offset_in_fork y.offset) follow in
+          let follow : (not true || offset_in_fork x.offset_word + x.count == offset_in_fork y.offset_word) ≡ true =
+          subst (λ (t : Bool). (not t || offset_in_fork x.offset_word + x.count == offset_in_fork y.offset_word) ≡ true) of_data p.1 in
+          let at = eqb-true (offset_in_fork x.offset_word + x.count) (offset_in_fork y.offset_word) follow in
           omega (arith, at, b.fits (sym same ∙ of_data));
       plain = a.plain;
     }
@@ -200,7 +200,7 @@ merged_with top low x (z ∷ rest) mine each runs = by_case (joins x z) refl
     by_case true h =
         let both = longer_claim top x z h mine (All-head (IsClaimedRun top) z rest each) in
         let next : x.start + x.count ≡ z.start = eqb-true (x.start + x.count) z.start
-        (and_parts (x.start + x.count == z.start) (x.owner == z.owner) (and_parts (x.start + x.count == z.start && x.owner == z.owner) (flags_of x.offset == flags_of z.offset) (and_parts (x.start + x.count == z.start && x.owner == z.owner && flags_of x.offset == flags_of z.offset) (offsets_follow x z) h).0).0).0 in
+        (and_parts (x.start + x.count == z.start) (x.owner == z.owner) (and_parts (x.start + x.count == z.start && x.owner == z.owner) (flags_of x.offset_word == flags_of z.offset_word) (and_parts (x.start + x.count == z.start && x.owner == z.owner && flags_of x.offset_word == flags_of z.offset_word) (offsets_follow x z) h).0).0).0 in
         let end : z.start + z.count ≡ x.start + (x.count + z.count) = omega (arith, next) in (
           All-cons (IsClaimedRun top) (longer x z.count) rest both (All-tail (IsClaimedRun top) z rest each),
           (runs.0, omega (arith, runs.2.1, end), subst (λ (n : ℕ). AreRuns n rest) end runs.2.2),
@@ -229,7 +229,7 @@ first_any owned top [] runs some is = tt
 first_any owned top (y ∷ ys) runs some is = λ pos.
     let none : owned (y.start - 1) ≡ None =
     is (y.start - 1) (omega (arith, some.0, some.1)) ∙ held_before (y ∷ ys) y.start (y.start - 1) (omega arith, runs.1, runs.2) (omega (arith, pos)) in
-    ap (λ (o : Option (ℕ × ℕ)). is_joined o (Some (y.owner, y.offset))) none
+    ap (λ (o : Option (ℕ × ℕ)). is_joined o (Some (y.owner, y.offset_word))) none
 
 -- runs that ascend and do not join are as many as the blocks that begin one
 pub begun_all : (owned : ℕ → Option (ℕ × ℕ)) (top : ℕ) (rs : List Run) → AreClaims top rs → NoneJoin rs → ((b : ℕ) → b < top → owned b ≡ held_at rs b)

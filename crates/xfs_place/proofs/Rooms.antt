@@ -17,7 +17,7 @@ use Rattle.xfs_place.specs.Chunks.{is_room, lies_in_chunks, rooms_below}
 use Rattle.xfs_place.proofs.Ranges.{range_more, range_split, same_tests, take_full, take_open}
 
 never_open : (r : Run) → is_open (use_of_run r) ≡ false
-never_open r = by_cases (nat_lt r.offset (2 ^ 61)) (r.owner == group_owner) (r.owner == inode_trees_owner)
+never_open r = by_cases (nat_lt r.offset_word (2 ^ 61)) (r.owner == group_owner) (r.owner == inode_trees_owner)
   where
     by_cases : (f s i : Bool) → is_open (if f then (if s then ForSpace else (if i then ForInodes else Claimed)) else Claimed) ≡ false
     by_cases true true i = refl

@@ -57,7 +57,7 @@ held_last : (xs : List Run) (u : Run) (b : ℕ) → is_in_range u.start u.count 
 held_last [] u b out = rw out refl
 held_last (r ∷ rest) u b out = ap (λ (o : Option (ℕ × ℕ)). if is_in_range r.start r.count b then Some (r.owner, offset_word_at r b) else o) (held_last rest u b out)
 
-tree_word : (t : Bool) (x b : ℕ) → offset_word_at (record { start = x; count = 1; owner = owner_of t; offset = 0 }) b ≡ 0
+tree_word : (t : Bool) (x b : ℕ) → offset_word_at (record { start = x; count = 1; owner = owner_of t; offset_word = 0 }) b ≡ 0
 tree_word true x b = refl
 tree_word false x b = refl
 
@@ -88,8 +88,8 @@ once_each low (r ∷ rest) b runs =
     ]
 
 module _ (g : Group) (is : IsPlacingGroup g) (space : ℕ) (blocks : List ℕ) (low : AreLowest g.uses blocks) where
-  more_runs : (n : ℕ) → tree_claims g space blocks (n + 1) ≡ tree_claims g space blocks n ++ record { start = get_or blocks n 0; count = 1; owner = owner_by g space n; offset = 0 } ∷ []
-  more_runs n = map-range_with_len_more (λ k. record { start = get_or blocks k 0; count = 1; owner = owner_by g space k; offset = 0 }) 0 n n (omega arith)
+  more_runs : (n : ℕ) → tree_claims g space blocks (n + 1) ≡ tree_claims g space blocks n ++ record { start = get_or blocks n 0; count = 1; owner = owner_by g space n; offset_word = 0 } ∷ []
+  more_runs n = map-range_with_len_more (λ k. record { start = get_or blocks k 0; count = 1; owner = owner_by g space k; offset_word = 0 }) 0 n n (omega arith)
 
   -- a block is one of the n lowest
   abbrev is_low : ℕ → ℕ → Bool
@@ -125,7 +125,7 @@ module _ (g : Group) (is : IsPlacingGroup g) (space : ℕ) (blocks : List ℕ) (
   tree_held (suc n) b few =
       let up : suc n ≡ n + 1 = omega arith in
       let x = get_or blocks n 0 in
-      let u : Run = record { start = x; count = 1; owner = owner_by g space n; offset = 0 } in
+      let u : Run = record { start = x; count = 1; owner = owner_by g space n; offset_word = 0 } in
       let so = tree_held n b (omega (arith, few)) in
       let whole : held_at (tree_claims g space blocks (n + 1)) b ≡ (if is_low (n + 1) b then Some (owner_by g space (rank g.uses b), 0) else None) =
       ap (λ (rs : List Run). held_at rs b) (more_runs n) ∙ (elim (cases_eq b x) [
@@ -153,7 +153,7 @@ module _ (g : Group) (is : IsPlacingGroup g) (space : ℕ) (blocks : List ℕ) (
   tree_once (suc n) b few =
       let up : suc n ≡ n + 1 = omega arith in
       let x = get_or blocks n 0 in
-      let u : Run = record { start = x; count = 1; owner = owner_by g space n; offset = 0 } in
+      let u : Run = record { start = x; count = 1; owner = owner_by g space n; offset_word = 0 } in
       let so = tree_once n b (omega (arith, few)) in
       let parts : runs_on (tree_claims g space blocks n ++ u ∷ []) b ≡ runs_on (tree_claims g space blocks n) b + runs_on (u ∷ []) b =
       sum_by-append (λ (r : Run). if covers b r then 1 else 0) (tree_claims g space blocks n) (u ∷ []) in
@@ -180,7 +180,7 @@ module _ (g : Group) (is : IsPlacingGroup g) (space : ℕ) (blocks : List ℕ) (
   tree_each top (suc n) all few =
       let up : suc n ≡ n + 1 = omega arith in
       let x = get_or blocks n 0 in
-      let u : Run = record { start = x; count = 1; owner = owner_by g space n; offset = 0 } in
+      let u : Run = record { start = x; count = 1; owner = owner_by g space n; offset_word = 0 } in
       let inside = pool_inside g.uses is.header x (low.open' n (omega (arith, few))) in
       let mine : IsClaimedRun top u = record { some = omega arith; inside = omega (arith, inside, all); fits = λ h. absurd (true≢false (sym h ∙ tree_plain (is_inner g space n))); plain = λ h. refl } in
       let so = tree_each top n all (omega (arith, few)) in
@@ -238,8 +238,8 @@ module _ (uses : List Use) (claims : List Run) (inner space : ℕ) (is : IsPlaci
 
 -- one run more
 pub pushed : (g : Group) (claims runs now : List Run) (space : ℕ) (blocks : List ℕ) (k owner : ℕ) → runs ≡ claims ++ tree_claims g space blocks k → owner ≡ owner_by g space k
-    → now ≡ runs ++ record { start = get_or blocks k 0; count = 1; owner = owner; offset = 0 } ∷ [] → now ≡ claims ++ tree_claims g space blocks (k + 1)
+    → now ≡ runs ++ record { start = get_or blocks k 0; count = 1; owner = owner; offset_word = 0 } ∷ [] → now ≡ claims ++ tree_claims g space blocks (k + 1)
 pushed g claims runs now space blocks k owner so by put =
-    put ∙ ap₂ (λ (rs : List Run) (o : ℕ). rs ++ record { start = get_or blocks k 0; count = 1; owner = o; offset = 0 } ∷ []) so by
-    ∙ append_assoc claims (tree_claims g space blocks k) (record { start = get_or blocks k 0; count = 1; owner = owner_by g space k; offset = 0 } ∷ [])
-    ∙ ap (λ (rs : List Run). claims ++ rs) (sym (map-range_with_len_more (λ j. record { start = get_or blocks j 0; count = 1; owner = owner_by g space j; offset = 0 }) 0 k k (omega arith)))
+    put ∙ ap₂ (λ (rs : List Run) (o : ℕ). rs ++ record { start = get_or blocks k 0; count = 1; owner = o; offset_word = 0 } ∷ []) so by
+    ∙ append_assoc claims (tree_claims g space blocks k) (record { start = get_or blocks k 0; count = 1; owner = owner_by g space k; offset_word = 0 } ∷ [])
+    ∙ ap (λ (rs : List Run). claims ++ rs) (sym (map-range_with_len_more (λ j. record { start = get_or blocks j 0; count = 1; owner = owner_by g space j; offset_word = 0 }) 0 k k (omega arith)))

@@ -16,8 +16,8 @@ pub record ClaimedOnce (runs : List Run) : Type 0 where
 pub record IsClaimedRun (top : ℕ) (r : Run) : Type 0 where
   pub some : 1 ≤ r.count
   pub inside : r.start + r.count ≤ top
-  pub fits : is_file_data r.owner r.offset ≡ true → offset_in_fork r.offset + r.count ≤ 2 ^ 54
-  pub plain : is_file_data r.owner r.offset ≡ false → offset_in_fork r.offset ≡ 0
+  pub fits : is_file_data r.owner r.offset_word ≡ true → offset_in_fork r.offset_word + r.count ≤ 2 ^ 54
+  pub plain : is_file_data r.owner r.offset_word ≡ false → offset_in_fork r.offset_word ≡ 0
 
 -- the runs ascend
 pub record AreClaims (top : ℕ) (runs : List Run) : Type 0 where

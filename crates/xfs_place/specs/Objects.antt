@@ -20,8 +20,8 @@ use Rattle.xfs_place.specs.Choice.{in_pool}
 -- offset
 pub record IsAsk (ask : RunAsk) : Type 0 where
   pub some : 1 ≤ ask.blocks
-  pub fits : is_file_data ask.owner ask.offset ≡ true → offset_in_fork ask.offset + ask.blocks ≤ 2 ^ 54
-  pub plain : is_file_data ask.owner ask.offset ≡ false → offset_in_fork ask.offset ≡ 0
+  pub fits : is_file_data ask.owner ask.offset_word ≡ true → offset_in_fork ask.offset_word + ask.blocks ≤ 2 ^ 54
+  pub plain : is_file_data ask.owner ask.offset_word ≡ false → offset_in_fork ask.offset_word ≡ 0
 
 -- the first of n numbers from i on that passes
 unfoldable pub first_with : (ℕ → Bool) → ℕ → ℕ → Option ℕ
@@ -56,7 +56,7 @@ asks_of objects = flat_map asks_by objects
 
 -- the run that an ask gets from a block on
 abbrev pub run_at : ℕ → RunAsk → Run
-run_at start ask = record { start = start; count = ask.blocks; owner = ask.owner; offset = ask.offset }
+run_at start ask = record { start = start; count = ask.blocks; owner = ask.owner; offset_word = ask.offset_word }
 
 abbrev pub with_start : Option ℕ → Unplaced → (ℕ → Result (List Run) Unplaced) → Result (List Run) Unplaced
 with_start None what next = Err what

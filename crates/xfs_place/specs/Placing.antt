@@ -17,7 +17,7 @@ use Rattle.xfs_place.specs.Choice.{AreLowest, Group, IsChosenCount, is_free_at, 
 
 -- the lowest blocks of the pool, one run each, with the owners that their ranks give them
 abbrev pub tree_claims : Group → ℕ → List ℕ → ℕ → List Run
-tree_claims g space blocks n = map (λ k. record { start = slice_index blocks k; count = 1; owner = owner_by g space k; offset = 0 }) (range_with_len 0 n)
+tree_claims g space blocks n = map (λ k. record { start = slice_index blocks k; count = 1; owner = owner_by g space k; offset_word = 0 }) (range_with_len 0 n)
 
 -- runs that give each block of the group its owner and its offset word when n blocks are taken, and no other block
 pub record AreOwned (g : Group) (space n : ℕ) (runs : List Run) : Type 0 where
@@ -32,7 +32,7 @@ pub record AreFreeRuns (g : Group) (n : ℕ) (runs : List Span) : Type 0 where
 
 -- a record of owners as a run of AG blocks
 abbrev pub run_of_record : RmapRec → Run
-run_of_record r = record { start = r.start; count = r.count; owner = r.owner; offset = r.offset }
+run_of_record r = record { start = r.start; count = r.count; owner = r.owner; offset_word = r.offset_word }
 
 -- the records of owners of a group when n blocks are taken: those that go on where the one before ends are one
 pub record AreRecords (g : Group) (space n : ℕ) (records : List RmapRec) : Type 0 where

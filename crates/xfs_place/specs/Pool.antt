@@ -23,7 +23,7 @@ abbrev pub use_claimed_by : ℕ → Use
 use_claimed_by owner = if owner == group_owner then ForSpace else (if owner == inode_trees_owner then ForInodes else Claimed)
 
 abbrev pub use_of_run : Run → Use
-use_of_run r = if nat_lt r.offset (2 ^ 61) then use_claimed_by r.owner else Claimed
+use_of_run r = if nat_lt r.offset_word (2 ^ 61) then use_claimed_by r.owner else Claimed
 
 -- what the first run that has a block makes of it
 unfoldable pub use_held : List Run → ℕ → Option Use

@@ -21,10 +21,10 @@ use Rattle.xfs_place.specs.Claims.{ClaimedOnce, AreClaims, IsClaimedRun}
 
 -- the first block of a group, and the log
 abbrev pub header_run : Volume → ℕ → Run
-header_run v ag = record { start = ag * v.agblocks; count = 1; owner = headers_owner; offset = 0 }
+header_run v ag = record { start = ag * v.agblocks; count = 1; owner = headers_owner; offset_word = 0 }
 
 abbrev pub log_run : Volume → Run
-log_run v = record { start = v.log; count = v.logblocks; owner = log_owner; offset = 0 }
+log_run v = record { start = v.log; count = v.logblocks; owner = log_owner; offset_word = 0 }
 
 -- the runs of the blocks with a fixed use
 abbrev pub fixed_runs : Volume → List Run

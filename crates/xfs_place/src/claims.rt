@@ -55,14 +55,14 @@ fn list_fixed(alloc: Global, g: &Geometry) -> Result<Vec<Run>, NoMemory>
         start: g.log,
         count: g.logblocks as u64,
         owner: LOG_OWNER,
-        offset: 0,
+        offset_word: 0,
     })?;
     for ag in 0..g.agcount {
         runs.push(Run {
             start: g.start_of_group(ag),
             count: 1,
             owner: HEADER_OWNER,
-            offset: 0,
+            offset_word: 0,
         })?;
     }
     Ok(runs)

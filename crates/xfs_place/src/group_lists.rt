@@ -86,7 +86,7 @@ fn to_records(alloc: Global, runs: &[Run], end: u32) -> Result<Vec<RmapRec>, NoM
             start: run.start as u32,
             count: run.count as u32,
             owner: run.owner,
-            offset: run.offset,
+            offset_word: run.offset_word,
         })?;
     }
     Ok(records)

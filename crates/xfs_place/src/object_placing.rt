@@ -175,6 +175,6 @@ fn run_at(start: u64, ask: &RunAsk) -> Run
         start,
         count: ask.blocks as u64,
         owner: ask.owner,
-        offset: ask.offset,
+        offset_word: ask.offset_word,
     }
 }

@@ -47,7 +47,7 @@ fn add_blocks(
             start: *block as u64,
             count: 1,
             owner: owner_by(space, inner, k as u64),
-            offset: 0,
+            offset_word: 0,
         })?;
     }
     Ok(runs)

@@ -105,7 +105,7 @@ pub fn claim_runs(uses: &mut [Use], runs: &[Run])
 fn use_of_run(run: &Run) -> Use
     ensures { result ≡ use_of_run run.now }
 {
-    if run.offset >= FIRST_FLAG {
+    if run.offset_word >= FIRST_FLAG {
         return Use::Claimed;
     }
     match run.owner {

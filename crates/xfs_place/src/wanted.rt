@@ -11,7 +11,7 @@ pub struct RunAsk {
     /// The number of the inode that is to own it.
     pub owner: u64,
     /// The offset word of its first block.
-    pub offset: u64,
+    pub offset_word: u64,
 }
 
 /// What an object is.

@@ -146,14 +146,14 @@ owned_cluster g b groups files q are low is owner on =
     ]
 
 -- the offset word of a block of an owned run is not much above eight bytes; of an owner that is no inode it is that of the run
-pub word_low : (q : Run) (b : ℕ) → q.offset < 2 ^ 64 → q.count ≤ 2 ^ 54 → b < q.start + q.count → offset_word_at q b < 2 ^ 64 + 2 ^ 54
-word_low q b offset count inside = by_case (is_file_data q.owner q.offset)
+pub word_low : (q : Run) (b : ℕ) → q.offset_word < 2 ^ 64 → q.count ≤ 2 ^ 54 → b < q.start + q.count → offset_word_at q b < 2 ^ 64 + 2 ^ 54
+word_low q b offset count inside = by_case (is_file_data q.owner q.offset_word)
   where
-    by_case : (t : Bool) → (if t then q.offset + (b - q.start) else q.offset) < 2 ^ 64 + 2 ^ 54
+    by_case : (t : Bool) → (if t then q.offset_word + (b - q.start) else q.offset_word) < 2 ^ 64 + 2 ^ 54
     by_case true = omega (arith, offset, count, inside)
     by_case false = omega (arith, offset)
 
-pub word_own : (q : Run) (b : ℕ) → 2 ^ 63 ≤ q.owner → offset_word_at q b ≡ q.offset
+pub word_own : (q : Run) (b : ℕ) → 2 ^ 63 ≤ q.owner → offset_word_at q b ≡ q.offset_word
 word_own q b high =
     let t : nat_lt q.owner (2 ^ 63) ≡ false = grind (arith, nat_tests, high) in
     rw t refl

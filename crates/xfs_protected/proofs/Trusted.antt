@@ -38,7 +38,7 @@ pub record HasRun (x : ℕ) (rs : List Run) : Type 0 where
   pub start : run_is.start ≡ x
   pub count : run_is.count ≡ 4
   pub owner : run_is.owner ≡ 2 ^ 64 - 7
-  pub offset : run_is.offset ≡ 0
+  pub offset : run_is.offset_word ≡ 0
 
 next_base : (ag w : ℕ) → (ag + 1) * w ≡ ag * w + w
 next_base ag w = omega arith
@@ -117,11 +117,11 @@ module _ (g : Geometry) (image : Image) (groups : List GroupRec) (files : List F
       let on : covers b q ≡ true = and_from (nat_le (base + r.start) b) (nat_lt b (base + r.start + r.count)) (le-leb (base + r.start) b (omega (arith, low))) (lt-ltb b (base + r.start + r.count) (omega (arith, high))) in
       let among : Member q total = subst (λ (k : ℕ). Member q (recorded_runs g.agblocks k groups)) zero_base (h.records q (member_map (recorded_run base) r h.group.rmap is)) in
       let held : held_at total b ≡ Some (q.owner, offset_word_at q b) = held_member q total b among on (once_total b) in
-      let word : offset_word_at q b ≡ r.offset = word_own q b (omega (arith, owner)) in
+      let word : offset_word_at q b ≡ r.offset_word = word_own q b (omega (arith, owner)) in
       let number : owner_number (held_at total b) ≡ r.owner * 2 ^ 64 + offset_word_at q b = ap owner_number held in
       let agree = numbers_agree (volume_of g) total owned b view.owners (omega (arith, inside, ends, high)) in
-      let due : owner_number (held_at owned b) ≡ (2 ^ 64 - 7) * 2 ^ 64 + r.offset = omega (arith, agree, number, word, owner) in
-      from_number g image groups files b r.offset view good.offset due
+      let due : owner_number (held_at owned b) ≡ (2 ^ 64 - 7) * 2 ^ 64 + r.offset_word = omega (arith, agree, number, word, owner) in
+      from_number g image groups files b r.offset_word view good.offset due
 
   -- a cluster that the tree of owners names is one of the chunks of its group
   pub given_chunk : (n x : ℕ) (h : HasGroup g image 0 groups n) → n < g.agcount → Member x (given_clusters (volume_of g) n h.group.rmap) → Member x (chunk_clusters (volume_of g) n h.group.ino)
@@ -174,7 +174,7 @@ module _ (g : Geometry) (image : Image) (groups : List GroupRec) (files : List F
       let high = ltb-true b (x + 4) parts.1 in
       let on_run : covers b q ≡ true = and_from (nat_le q.start b) (nat_lt b (q.start + q.count)) (le-leb q.start b (omega (arith, start, low))) (lt-ltb b (q.start + q.count) (omega (arith, start, count, high))) in
       let held : held_at owned b ≡ Some (q.owner, offset_word_at q b) = held_member q owned b among on_run (view.space.once b) in
-      let word : offset_word_at q b ≡ q.offset = word_own q b (omega (arith, owner)) in
+      let word : offset_word_at q b ≡ q.offset_word = word_own q b (omega (arith, owner)) in
       let number : owner_number (held_at owned b) ≡ q.owner * 2 ^ 64 + offset_word_at q b = ap owner_number held in
       let agree = numbers_agree (volume_of g) total owned b view.owners (omega (arith, inside, ends)) in
       let due : owner_number (held_at total b) ≡ (2 ^ 64 - 7) * 2 ^ 64 = omega (arith, agree, number, word, owner, offset) in

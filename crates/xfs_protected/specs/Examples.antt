@@ -10,7 +10,7 @@ use Rattle.xfs_claims.specs.declared.claimants.FileClaim.{FileClaim}
 use Rattle.xfs_protected.specs.Guarded.{IsGuarded}
 
 abbrev pub blocks : ℕ → ℕ → Run
-blocks start count = record { start = start; count = count; owner = 0; offset = 0 }
+blocks start count = record { start = start; count = count; owner = 0; offset_word = 0 }
 
 abbrev pub recorded : ℕ → ClusterRec
 recorded block = record { block = block; recorded = true }

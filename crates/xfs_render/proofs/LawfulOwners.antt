@@ -35,14 +35,14 @@ word_in (Some p) = p.1
 
 -- the words of a run do not leave their bits
 word_small : (top : ℕ) (r : Run) (b : ℕ) → HasOwner r → IsClaimedRun top r → is_in_range r.start r.count b ≡ true → offset_word_at r b < 2 ^ 64
-word_small top r b owned claim inside = by_case (is_file_data r.owner r.offset) refl
+word_small top r b owned claim inside = by_case (is_file_data r.owner r.offset_word) refl
   where
     near : b < r.start + r.count
     near = grind (arith, nat_tests, inside)
 
-    by_case : (t : Bool) → is_file_data r.owner r.offset ≡ t → (if t then r.offset + (b - r.start) else r.offset) < 2 ^ 64
+    by_case : (t : Bool) → is_file_data r.owner r.offset_word ≡ t → (if t then r.offset_word + (b - r.start) else r.offset_word) < 2 ^ 64
     by_case true h =
-        let fits : r.offset % 2 ^ 61 + r.count ≤ 2 ^ 54 = claim.fits h in
+        let fits : r.offset_word % 2 ^ 61 + r.count ≤ 2 ^ 54 = claim.fits h in
         omega (arith, fits, owned.offset, near)
     by_case false h = owned.offset
 
@@ -103,13 +103,13 @@ placed_owned g space n b o w claimed held = by_case (in_pool g.uses b && nat_lt 
     by_case false same = claimed same
 
 -- the first block of a run has its owner and its word
-held_first : (r : RmapRec) (rest : List Run) → 1 ≤ r.count → held_at (run_of_record r ∷ rest) r.start ≡ Some (r.owner, r.offset)
+held_first : (r : RmapRec) (rest : List Run) → 1 ≤ r.count → held_at (run_of_record r ∷ rest) r.start ≡ Some (r.owner, r.offset_word)
 held_first r rest some =
     let here : is_in_range r.start r.count r.start ≡ true = grind (arith, nat_tests, some) in
     ap (λ (t : Bool). if t then Some (r.owner, offset_word_at (run_of_record r) r.start) else held_at rest r.start) here
-    ∙ ap (λ (w : ℕ). Some (r.owner, w)) (by_case (is_file_data r.owner r.offset))
+    ∙ ap (λ (w : ℕ). Some (r.owner, w)) (by_case (is_file_data r.owner r.offset_word))
   where
-    by_case : (t : Bool) → (if t then r.offset + (r.start - r.start) else r.offset) ≡ r.offset
+    by_case : (t : Bool) → (if t then r.offset_word + (r.start - r.start) else r.offset_word) ≡ r.offset_word
     by_case true = omega arith
     by_case false = refl
 
@@ -118,21 +118,21 @@ held_later r rest b past =
     let out : is_in_range r.start r.count b ≡ false = grind (arith, nat_tests, past) in
     ap (λ (t : Bool). if t then Some (r.owner, offset_word_at (run_of_record r) b) else held_at rest b) out
 
-offset_small : (top : ℕ) (r : Run) → top < 2 ^ 32 → IsClaimedRun top r → offset_in_fork r.offset + r.count ≤ 2 ^ 54
-offset_small top r small claim = by_case (is_file_data r.owner r.offset) refl
+offset_small : (top : ℕ) (r : Run) → top < 2 ^ 32 → IsClaimedRun top r → offset_in_fork r.offset_word + r.count ≤ 2 ^ 54
+offset_small top r small claim = by_case (is_file_data r.owner r.offset_word) refl
   where
-    by_case : (t : Bool) → is_file_data r.owner r.offset ≡ t → offset_in_fork r.offset + r.count ≤ 2 ^ 54
+    by_case : (t : Bool) → is_file_data r.owner r.offset_word ≡ t → offset_in_fork r.offset_word + r.count ≤ 2 ^ 54
     by_case true h = claim.fits h
     by_case false h = omega (arith, claim.plain h, claim.inside, small)
 
 module _ (v : Volume) (ag : ℕ) (there : ag < v.agcount) (small : group_length v ag < 2 ^ 32) where
-  owned_run : (r : RmapRec) → IsClaimedRun (group_length v ag) (run_of_record r) → IsWord r.owner r.offset → is_owned_run v ag r ≡ true
+  owned_run : (r : RmapRec) → IsClaimedRun (group_length v ag) (run_of_record r) → IsWord r.owner r.offset_word → is_owned_run v ag r ≡ true
   owned_run r claim word =
       let fits = and_from _ _
       (and_from _ _ (and_from _ _ (lt-ltb r.start (2 ^ 32) (omega (arith, claim.inside, small))) (lt-ltb r.count (2 ^ 32) (omega (arith, claim.inside, small)))) (lt-ltb r.owner (2 ^ 64) (omega (arith, word.owner'))))
-      (lt-ltb r.offset (2 ^ 64) word.word') in
+      (lt-ltb r.offset_word (2 ^ 64) word.word') in
       let owner = not_from_false (r.owner == 2 ^ 64 - 1) (ne_eqb r.owner (2 ^ 64 - 1) (λ e. absurd (omega (arith, e, word.owner')))) in
-      let offset = le-leb (offset_in_fork r.offset + r.count) (2 ^ 54) (offset_small (group_length v ag) (run_of_record r) small claim) in
+      let offset = le-leb (offset_in_fork r.offset_word + r.count) (2 ^ 54) (offset_small (group_length v ag) (run_of_record r) small claim) in
       and_from _ _
       (and_from _ _ (and_from _ _ (and_from _ _ fits (le-leb 1 r.count claim.some)) owner) offset)
       (and_from _ _ (lt-ltb ag v.agcount there) (le-leb (r.start + r.count) (group_length v ag) claim.inside))
@@ -152,7 +152,7 @@ module _ (v : Volume) (ag : ℕ) (there : ag < v.agcount) (small : group_length 
   owners_lawful owned low before (r ∷ rest) words end runs each held =
       let claim = All-head (IsClaimedRun (group_length v ag)) (run_of_record r) (map run_of_record rest) each in
       let first = held_first r (map run_of_record rest) claim.some in
-      let word = words r.start r.owner r.offset (sym (held r.start runs.0 (omega (arith, claim.inside, claim.some))) ∙ first) in
+      let word = words r.start r.owner r.offset_word (sym (held r.start runs.0 (omega (arith, claim.inside, claim.some))) ∙ first) in
       let so = owners_lawful owned (r.start + r.count) (Some r) rest words (omega arith) runs.2 (All-tail (IsClaimedRun (group_length v ag)) (run_of_record r) (map run_of_record rest) each)
       (λ b from inside. sym (held_later r (map run_of_record rest) b from) ∙ held b (omega (arith, from, runs.0)) inside) in
       and_from _ _ (and_from _ _ (owned_run r claim word) (follows before low r end runs.0)) so

@@ -18,7 +18,7 @@ use Rattle.xfs_render.specs.declared.wanted_slots.SlotWanted.{SlotWanted}
 -- a run has an owner, which is not all ones; both its words have 64 bits (chapter "Reverse-Mapping B+tree")
 pub record HasOwner (r : Run) : Type 0 where
   pub owner : r.owner < 2 ^ 64 - 1
-  pub offset : r.offset < 2 ^ 64
+  pub offset : r.offset_word < 2 ^ 64
 
 -- the records of inodes of each group are lawful in their order, what is kept has owners, and no new block can stand on the root's
 -- cluster: each of its blocks is kept or of a new chunk

@@ -11,7 +11,7 @@ use Rattle.xfs_space.specs.Sorted.{StartsRise}
 
 -- the start decides first
 starts_first : (x y : Run) → is_lt (cmp-value.it y x) ≡ false → x.start ≤ y.start
-starts_first x y e = on x.start y.start (ordering_then (nat_cmp y.count x.count) (ordering_then (nat_cmp y.owner x.owner) (nat_cmp y.offset x.offset))) e
+starts_first x y e = on x.start y.start (ordering_then (nat_cmp y.count x.count) (ordering_then (nat_cmp y.owner x.owner) (nat_cmp y.offset_word x.offset_word))) e
   where
     on : (a b : ℕ) (rest : Ordering) → is_lt (ordering_then (nat_cmp b a) rest) ≡ false → a ≤ b
     on a b rest e = grind (arith, nat_tests)

@@ -37,21 +37,21 @@ held_bounded (x ∷ xs) b all = by_case (is_in_range x.start x.count b) refl (he
     low_word : (offset count k : ℕ) → offset < 2 ^ 64 → offset % 2 ^ 61 + count ≤ 2 ^ 54 → k < count → offset + k + 1 < 2 ^ 64
     low_word offset count k small fork less = omega arith
 
-    word_case : (t : Bool) → b < x.start + x.count → (if t then x.offset + (b - x.start) else x.offset) + 1 < 2 ^ 64
+    word_case : (t : Bool) → b < x.start + x.count → (if t then x.offset_word + (b - x.start) else x.offset_word) + 1 < 2 ^ 64
     word_case true inside =
         let mapped = All-head IsMapped x xs all in
         let some = mapped.some in
-        low_word x.offset x.count (b - x.start) mapped.offset mapped.fork (omega (arith, inside, some))
+        low_word x.offset_word x.count (b - x.start) mapped.offset mapped.fork (omega (arith, inside, some))
     word_case false inside =
         let mapped = All-head IsMapped x xs all in
         let some = mapped.some in
-        let low = low_word x.offset x.count 0 mapped.offset mapped.fork (omega (arith, some)) in
+        let low = low_word x.offset_word x.count 0 mapped.offset mapped.fork (omega (arith, some)) in
         omega (arith, low)
 
     by_case : (t : Bool) → is_in_range x.start x.count b ≡ t → IsBounded (held_at xs b) → IsBounded (if t then Some (x.owner, offset_word_at x b) else held_at xs b)
     by_case true e rest =
         let inside : b < x.start + x.count = grind (arith, nat_tests) in
-        ((All-head IsMapped x xs all).owner, word_case (is_file_data x.owner x.offset) inside)
+        ((All-head IsMapped x xs all).owner, word_case (is_file_data x.owner x.offset_word) inside)
     by_case false e rest = rest
 
 one_number : (p q : Option (ℕ × ℕ)) → IsBounded p → IsBounded q → owner_number p ≡ owner_number q → p ≡ q

@@ -40,19 +40,19 @@ group_inside v ag there last = by_case (ag + 1 == v.agcount) refl
 pub record IsRecorded (v : Volume) (ag : ℕ) (r : RmapRec) : Type 0 where
   pub some : 1 ≤ r.count
   pub owner : r.owner < 2 ^ 64
-  pub offset : r.offset < 2 ^ 64
-  pub fork : offset_in_fork r.offset + r.count ≤ 2 ^ 54
+  pub offset : r.offset_word < 2 ^ 64
+  pub fork : offset_in_fork r.offset_word + r.count ≤ 2 ^ 54
   pub inside : r.start + r.count ≤ group_length v ag
 
 recorded_each : (v : Volume) (ag : ℕ) (before : Option RmapRec) (r : RmapRec) → (is_owned_run v ag r && follows_end before r) ≡ true → IsRecorded v ag r
 recorded_each v ag before r h =
-    let fork = offset_in_fork r.offset + r.count in
+    let fork = offset_in_fork r.offset_word + r.count in
     let run = (and_parts (is_owned_run v ag r) (follows_end before r) h).0 in
     let a = and_parts (fits_owner r && nat_le 1 r.count && is_owner r.owner && nat_le fork (2 ^ 54)) (lies_in_group v ag r.start r.count) run in
     let b = and_parts (fits_owner r && nat_le 1 r.count && is_owner r.owner) (nat_le fork (2 ^ 54)) a.0 in
     let c = and_parts (fits_owner r && nat_le 1 r.count) (is_owner r.owner) b.0 in
     let d = and_parts (fits_owner r) (nat_le 1 r.count) c.0 in
-    let e = and_parts (nat_lt r.start (2 ^ 32) && nat_lt r.count (2 ^ 32) && nat_lt r.owner (2 ^ 64)) (nat_lt r.offset (2 ^ 64)) d.0 in
+    let e = and_parts (nat_lt r.start (2 ^ 32) && nat_lt r.count (2 ^ 32) && nat_lt r.owner (2 ^ 64)) (nat_lt r.offset_word (2 ^ 64)) d.0 in
     let f = and_parts (nat_lt r.start (2 ^ 32) && nat_lt r.count (2 ^ 32)) (nat_lt r.owner (2 ^ 64)) e.0 in
     let g = and_parts (nat_lt ag v.agcount) (nat_le (r.start + r.count) (group_length v ag)) a.1 in
     record {

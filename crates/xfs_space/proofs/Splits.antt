@@ -42,7 +42,7 @@ split_place runs front back i block is_front is_back apart low high = record {
 }
 
 abbrev pub no_run : Run
-no_run = record { start = 0; count = 0; owner = 0; offset = 0 }
+no_run = record { start = 0; count = 0; owner = 0; offset_word = 0 }
 
 -- no run of a list that ends by a block has one behind it
 pub none_on_front : (xs : List Run) (block b : ℕ) → All (EndsBy block) xs → block ≤ b → runs_on xs b ≡ 0

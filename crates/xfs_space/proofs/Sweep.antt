@@ -120,14 +120,14 @@ pub all_alike : (xs ys : List Run) (at : ℕ) → Swept xs ys [] [] at → AreAl
 all_alike xs ys at swept b = elim (cases_lt b at) [ inl low ↦ swept.agree b low | inr from ↦ swept.left.same b from ∙ sym (swept.right.same b from) ]
 
 -- the word of a block has the flags of the run's word
-word_bit : (x : Run) (h : ℕ) → IsMapped x → h < x.start + x.count → offset_word_at x h / 2 ^ 62 ≡ x.offset / 2 ^ 62
-word_bit x h mapped to = by_case (is_file_data x.owner x.offset)
+word_bit : (x : Run) (h : ℕ) → IsMapped x → h < x.start + x.count → offset_word_at x h / 2 ^ 62 ≡ x.offset_word / 2 ^ 62
+word_bit x h mapped to = by_case (is_file_data x.owner x.offset_word)
   where
     kept : (w k count : ℕ) → k < count → w % 2 ^ 61 + count ≤ 2 ^ 54 → (w + k) / 2 ^ 62 ≡ w / 2 ^ 62
     kept w k count less fork = omega arith
 
-    by_case : (t : Bool) → (if t then x.offset + (h - x.start) else x.offset) / 2 ^ 62 ≡ x.offset / 2 ^ 62
-    by_case true = let some = mapped.some in kept x.offset (h - x.start) x.count (omega (arith, to, some)) mapped.fork
+    by_case : (t : Bool) → (if t then x.offset_word + (h - x.start) else x.offset_word) / 2 ^ 62 ≡ x.offset_word / 2 ^ 62
+    by_case true = let some = mapped.some in kept x.offset_word (h - x.start) x.count (omega (arith, to, some)) mapped.fork
     by_case false = refl
 
 -- runs that agree at a block agree behind it
@@ -135,10 +135,10 @@ words_go_on : (x y : Run) (h b : ℕ) → IsMapped x → IsMapped y → x.start 
     → x.owner ≡ y.owner → offset_word_at x h ≡ offset_word_at y h → offset_word_at x b ≡ offset_word_at y b
 words_go_on x y h b mapped_x mapped_y start_x start_y from end_x end_y owner word =
     let bit = sym (word_bit x h mapped_x (omega (arith, from, end_x))) ∙ ap (λ (w : ℕ). w / 2 ^ 62) word ∙ word_bit y h mapped_y (omega (arith, from, end_y)) in
-    by_case (is_file_data x.owner x.offset) (is_file_data y.owner y.offset) (ap₂ (λ (o w : ℕ). nat_lt o (2 ^ 63) && not (w % 2 == 1)) owner bit) word
+    by_case (is_file_data x.owner x.offset_word) (is_file_data y.owner y.offset_word) (ap₂ (λ (o w : ℕ). nat_lt o (2 ^ 63) && not (w % 2 == 1)) owner bit) word
   where
-    by_case : (s t : Bool) → s ≡ t → (if s then x.offset + (h - x.start) else x.offset) ≡ (if t then y.offset + (h - y.start) else y.offset)
-        → (if s then x.offset + (b - x.start) else x.offset) ≡ (if t then y.offset + (b - y.start) else y.offset)
+    by_case : (s t : Bool) → s ≡ t → (if s then x.offset_word + (h - x.start) else x.offset_word) ≡ (if t then y.offset_word + (h - y.start) else y.offset_word)
+        → (if s then x.offset_word + (b - x.start) else x.offset_word) ≡ (if t then y.offset_word + (b - y.start) else y.offset_word)
     by_case true true same e = omega (arith, e, start_x, start_y, from)
     by_case true false same e = absurd (true≢false same)
     by_case false true same e = absurd (true≢false (sym same))

@@ -13,8 +13,8 @@ pub record IsMapped (r : Run) : Type 0 where
   pub some : 1 ≤ r.count
   pub end : r.start + r.count < 2 ^ 63
   pub owner : r.owner < 2 ^ 64
-  pub offset : r.offset < 2 ^ 64
-  pub fork : offset_in_fork r.offset + r.count ≤ 2 ^ 54
+  pub offset : r.offset_word < 2 ^ 64
+  pub fork : offset_in_fork r.offset_word + r.count ≤ 2 ^ 54
 
 pub record AreMapped (runs : List Run) : Type 0 where
   pub each : All IsMapped runs

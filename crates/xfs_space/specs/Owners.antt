@@ -14,7 +14,7 @@ use Rattle.xfs_volume.specs.declared.groups.GroupRec.{GroupRec}
 use Rattle.xfs_volume.specs.declared.groups.TreeBlocks.{TreeBlocks}
 
 abbrev pub run : ℕ → ℕ → ℕ → ℕ → Run
-run start count owner offset = record { start = start; count = count; owner = owner; offset = offset }
+run start count owner offset = record { start = start; count = count; owner = owner; offset_word = offset }
 
 -- the flags of an offset word: blocks that are not written yet, blocks of an extent tree, blocks of the attribute fork
 abbrev pub unwritten_flag : ℕ

@@ -12,8 +12,8 @@ pub record IsOwned (v : Volume) (r : Run) : Type 0 where
   pub some : 1 ≤ r.count
   pub inside : r.start + r.count ≤ v.dblocks
   pub owner : r.owner < 2 ^ 64
-  pub offset : r.offset < 2 ^ 64
-  pub fork : offset_in_fork r.offset + r.count ≤ 2 ^ 54
+  pub offset : r.offset_word < 2 ^ 64
+  pub fork : offset_in_fork r.offset_word + r.count ≤ 2 ^ 54
 
 -- some blocks, whose numbers are small
 pub record IsSized (r : Run) : Type 0 where

@@ -59,7 +59,7 @@ free_laws v runs ag (g ∷ gs) =
 
 -- the runs that the reverse-mapping trees record, by block of the volume
 abbrev pub recorded_run : ℕ → RmapRec → Run
-recorded_run base r = run (base + r.start) r.count r.owner r.offset
+recorded_run base r = run (base + r.start) r.count r.owner r.offset_word
 
 abbrev pub recorded_runs : ℕ → ℕ → List GroupRec → List Run
 recorded_runs agblocks base [] = []

@@ -26,7 +26,7 @@ pub fn recorded_run(base: u64, recorded: &RmapRec) -> Run
         start: base + recorded.start as u64,
         count: recorded.count as u64,
         owner: recorded.owner,
-        offset: recorded.offset,
+        offset_word: recorded.offset_word,
     }
 }
 
@@ -74,15 +74,15 @@ pub fn offset_word_at(run: &Run, block: u64) -> u64
     ensures { result ≡ offset_word_at run.now block }
 {
     if is_file_data(run) {
-        run.offset + block.saturating_sub(run.start)
+        run.offset_word + block.saturating_sub(run.start)
     } else {
-        run.offset
+        run.offset_word
     }
 }
 
 /// Whether the blocks hold data of a file, or of its attributes.
 fn is_file_data(run: &Run) -> bool
-    ensures { result ≡ is_file_data run.now.owner run.now.offset }
+    ensures { result ≡ is_file_data run.now.owner run.now.offset_word }
 {
-    run.owner < NEGATIVE && run.offset / TREE_BLOCK % 2 == 0
+    run.owner < NEGATIVE && run.offset_word / TREE_BLOCK % 2 == 0
 }

@@ -78,7 +78,7 @@ pub fn push_run(
         start,
         count,
         owner,
-        offset,
+        offset_word: offset,
     })?;
     Ok(())
 }

@@ -263,7 +263,7 @@ impl Item for RmapRec {
             start: row.number(rt),
             count: row.number(rt),
             owner: owner_of(rt, row.word()),
-            offset: row.number(rt),
+            offset_word: row.number(rt),
         })
     }
 }

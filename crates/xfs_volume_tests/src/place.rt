@@ -36,13 +36,13 @@ fn ask(alloc: Global, size: u32, from: u32, count: u32) -> Result<ChunkAsk, Allo
     requires { 1 ≤ size }
     ensures size { IfOk result (λ ask. ask.size ≡ size) }
     ensures blocks { IfOk result (λ ask. ask.geometry.dblocks ≡ 2047) }
-    ensures runs { IfOk result (λ ask. ask.taken ≡ record { start = 16; count = 8; owner = INODES; offset = 0 } ∷ []) }
+    ensures runs { IfOk result (λ ask. ask.taken ≡ record { start = 16; count = 8; owner = INODES; offset_word = 0 } ∷ []) }
 {
     let root = Run {
         start: 16,
         count: 8,
         owner: INODES,
-        offset: 0,
+        offset_word: 0,
     };
     Ok(ChunkAsk {
         geometry: volume(),

@@ -51,7 +51,7 @@ impl Item for Run {
             start: row.number(rt),
             count: row.number(rt),
             owner: 0,
-            offset: 0,
+            offset_word: 0,
         })
     }
 }

@@ -34,7 +34,7 @@ fn file_on(
         start,
         count,
         owner: ino,
-        offset: 0,
+        offset_word: 0,
     };
     Ok(FileClaim {
         ino,

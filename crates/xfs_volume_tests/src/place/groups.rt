@@ -66,7 +66,7 @@ pub fn place_beside(
     requires behind { 1 ≤ run.start % size.now.agblocks }
     requires within { run.start % size.now.agblocks + run.count ≤ size.now.agblocks }
     requires log { (run.start + run.count ≤ size.now.log) ⊎ (size.now.log + 512 ≤ run.start) }
-    requires word { run.offset ≡ 0 }
+    requires word { run.offset_word ≡ 0 }
     requires length { run.count < 2 ^ 32 }
     requires asks { All (λ object. All IsAsk object.runs) objects.items }
 {
@@ -109,13 +109,13 @@ fn root_alone(alloc: Global, groups: u32) -> Result<Vec<GroupInodes>, AllocError
 
 /// The root's chunk at its place in a new volume.
 pub fn root_chunk() -> Run
-    ensures { result ≡ record { start = 16; count = 8; owner = INODES; offset = 0 } }
+    ensures { result ≡ record { start = 16; count = 8; owner = INODES; offset_word = 0 } }
 {
     Run {
         start: 16,
         count: 8,
         owner: INODES,
-        offset: 0,
+        offset_word: 0,
     }
 }
 
@@ -175,8 +175,8 @@ fn owners_of(alloc: Global, runs: &[RmapRec]) -> Result<Vec<u64>, AllocError> {
         numbers.push(run.start as u64)?;
         numbers.push(run.count as u64)?;
         numbers.push(run.owner)?;
-        if run.offset != 0 {
-            numbers.push(run.offset)?;
+        if run.offset_word != 0 {
+            numbers.push(run.offset_word)?;
         }
     }
     Ok(numbers)
@@ -229,13 +229,13 @@ const SMALL_LAST: Size = Size {
 
 /// A file's run.
 pub fn file(start: u64, count: u64) -> Run
-    ensures { result ≡ record { start = start; count = count; owner = 131; offset = 0 } }
+    ensures { result ≡ record { start = start; count = count; owner = 131; offset_word = 0 } }
 {
     Run {
         start,
         count,
         owner: 131,
-        offset: 0,
+        offset_word: 0,
     }
 }
 

@@ -19,7 +19,7 @@ fn object(alloc: Global, ino: u64, kind: ObjectKind, lengths: &[u32]) -> Result<
         runs.push(RunAsk {
             blocks: *blocks,
             owner: ino,
-            offset: 0,
+            offset_word: 0,
         })?;
     }
     Ok(Object {

@@ -12,5 +12,5 @@ returns c =
     let long : length bytes ≡ 20 = search rules in
     let start : field_of bytes 0 4 ≡ key.start = search rules in
     let owner : field_of bytes 4 8 ≡ key.owner = search rules in
-    let offset : field_of bytes 12 8 ≡ key.offset = search rules in
+    let offset : field_of bytes 12 8 ≡ key.offset_word = search rules in
     key_put key bytes all long start owner offset

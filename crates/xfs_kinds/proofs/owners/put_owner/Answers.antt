@@ -13,5 +13,5 @@ returns c =
     let start : field_of bytes 0 4 ≡ run.start = search rules in
     let count : field_of bytes 4 4 ≡ run.count = search rules in
     let owner : field_of bytes 8 8 ≡ run.owner = search rules in
-    let offset : field_of bytes 16 8 ≡ run.offset = search rules in
+    let offset : field_of bytes 16 8 ≡ run.offset_word = search rules in
     owner_put run bytes all long start count owner offset

@@ -11,5 +11,5 @@ loop-ag-preserved c =
     let v = volume_of c.args.g.now in
     let ag = c.loop-ag.ag in
     c.in_ok-push-2.ensures.items
-    ∙ ap₂ (λ (rs : List Run) (s : ℕ). rs ++ record { start = s; count = 1; owner = headers_owner; offset = 0 } ∷ []) c.loop-ag.invariant c.start_of_group.ensures.value
+    ∙ ap₂ (λ (rs : List Run) (s : ℕ). rs ++ record { start = s; count = 1; owner = headers_owner; offset_word = 0 } ∷ []) c.loop-ag.invariant c.start_of_group.ensures.value
     ∙ ap (λ (rs : List Run). log_run v ∷ rs) (sym (map-range_with_len_more (header_run v) 0 ag ag (omega arith)))

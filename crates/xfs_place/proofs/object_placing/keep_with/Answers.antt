@@ -16,7 +16,7 @@ use Rattle.xfs_place.proofs.OpenRuns.{none_longer, starts_first, starts_next}
 use Rattle.xfs_place.proofs.object_placing.keep_with.Goals as goal
 
 abbrev none_asked : AskFor
-none_asked = record { what = Group 0; run = record { blocks = 0; owner = 0; offset = 0 } }
+none_asked = record { what = Group 0; run = record { blocks = 0; owner = 0; offset_word = 0 } }
 
 pub loop-ask-init : goal.loop-ask-init
 loop-ask-init c =

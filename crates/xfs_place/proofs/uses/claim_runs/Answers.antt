@@ -14,7 +14,7 @@ loop-i-init c =
 
 pub loop-i-preserved : goal.loop-i-preserved
 loop-i-preserved c =
-    let none : Run = record { start = 0; count = 0; owner = 0; offset = 0 } in
+    let none : Run = record { start = 0; count = 0; owner = 0; offset_word = 0 } in
     let run = get_or c.args.runs.now (length c.args.runs.now - 1 - c.loop-i.i) none in
     puts_at c.args.uses.now c.loop-i.uses c.mark.new.uses c.args.runs.now c.loop-i.i none c.loop-i-test.true c.loop-i.invariant
     (subst (λ (now : Use). MarksUses c.loop-i.uses c.mark.new.uses (is_in_range run.start run.count) now) c.use_of_run.ensures c.mark.ensures)

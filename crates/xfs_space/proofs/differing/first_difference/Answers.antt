@@ -10,7 +10,7 @@ use Rattle.xfs_space.proofs.differing.first_difference.Goals as goal
 use Rattle.xfs_space.proofs.differing.first_difference.Goals.{then-loop-i-test+else-j-runs, else-loop-i-test}
 
 abbrev no_record : RmapRec
-no_record = record { start = 0; count = 0; owner = 0; offset = 0 }
+no_record = record { start = 0; count = 0; owner = 0; offset_word = 0 }
 
 pub returns-then-held-due : goal.returns-then-held-due
 returns-then-held-due c =

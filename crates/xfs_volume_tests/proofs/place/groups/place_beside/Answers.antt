@@ -13,7 +13,7 @@ pub place-requires-clause-kept : goal.place-requires-clause-kept
 place-requires-clause-kept c =
     let r = c.args.run in
     let g = c.shaped.result in
-    let plain : offset_in_fork r.offset ≡ 0 = ap offset_in_fork c.requires.word in
+    let plain : offset_in_fork r.offset_word ≡ 0 = ap offset_in_fork c.requires.word in
     let rest : r.start % g.agblocks ≡ r.start % c.args.size.now.agblocks = ap (λ (w : ℕ). r.start % w) c.shaped.ensures.group in
     let whole : c.from_vec.result ++ c.from_vec-2.result ≡ r ∷ [] =
     ap₂ (λ (xs ys : List Run). xs ++ ys) (c.from_vec.ensures ∙ c.in_ok-vec.ensures.items) (c.from_vec-2.ensures ∙ c.new.ensures.items) in
