@@ -24,6 +24,6 @@ pub use best::bestfree;
 pub use data::{DataBlock, read_data};
 pub use data_writing::put_data;
 pub use records::{DirDataFault, EntryRec, FreeSpan};
-pub use short::{ShortDir, read_short};
+pub use short::{ShortDir, read_short_entries};
 pub use short_writing::put_short;
 pub use sizes::{data_size, short_size};

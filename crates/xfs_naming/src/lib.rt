@@ -24,4 +24,4 @@ mod texts;
 mod walks;
 
 pub use checks::check_names;
-pub use runs::{Numbered, run_of};
+pub use runs::{Numbered, records_by_number};
