@@ -3,3 +3,4 @@ mod Ordering
 mod Reading
 mod Outside
 mod LogSeen
+mod Sums

@@ -1,6 +1,6 @@
 //! The places of log sequence numbers in the blocks of a fork.
 
-ghost use Rattle.std.specs.Prelude.{◌≡◌, ◌+◌, ◌≤◌, ◌<◌, ◌++◌, length, IfSome, OnOk};
+ghost use Rattle.std.specs.Prelude.{◌≡◌, ◌+◌, ◌^◌, ◌≤◌, ◌<◌, ◌++◌, length, OnOk, SomeIff};
 ghost use Rattle.std.specs.List.{All};
 ghost use Rattle.xfs_geom.specs.Groups.{block_of_address};
 ghost use Rattle.xfs_geom.specs.Volumes.{volume_of};
@@ -51,7 +51,8 @@ pub fn push_fork(
     Ok(())
 }
 
-/// Adds the places of the blocks of an extent.
+/// Adds the places of the blocks of an extent. A disk that does not tell what it holds, as a file, says nothing of what was read
+/// from it. So both sums are tested here, though each extent of a file that reads has them (`extents_have_sums`).
 fn push_extent(
     g: &Geometry,
     owner: Owner,
@@ -72,9 +73,9 @@ fn push_extent(
     Ok(())
 }
 
-/// The sum of two numbers, where eight bytes hold it.
+/// The sum of two numbers, just where eight bytes hold it.
 fn sum_of(number: u64, count: u64) -> Option<u64>
-    ensures { IfSome result (λ sum. sum ≡ number + count) }
+    ensures { SomeIff result (number + count < 2 ^ 64) (number + count) }
 {
     number.checked_add(count)
 }

@@ -18,11 +18,13 @@ mod extents;
 mod faults;
 mod files;
 mod groups;
+mod laws;
 mod log;
 mod lsns;
 mod places;
 mod sorting;
 
 pub use faults::JournalFault;
+pub use laws::extents_have_sums;
 pub use log::read_log;
 pub use lsns::read_lsns;

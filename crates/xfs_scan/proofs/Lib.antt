@@ -1,5 +1,6 @@
-mod Banks
+mod Counting
 mod Gathering
+mod Kept
 mod Outside
 mod Refusing
 mod Rests

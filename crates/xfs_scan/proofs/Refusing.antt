@@ -1,24 +1,23 @@
 -- What is refused late, and what the evidence is, from what is gathered.
-use Rattle.std.proofs.Common.{◌≡◌, ℕ, ◌+◌, ◌^◌, List, map, length, Option, Some, Result, sym, ap, ap₂, ◌∙◌}
+use Rattle.std.proofs.Common.{◌≡◌, ℕ, ◌^◌, List, length, Option, Some, Result, sym, ap, ap₂, ◌∙◌}
 use Rattle.std.specs.List.{flat_map, sum_by}
 use Rattle.xfs_disk.specs.Blocks.{Image}
 use Rattle.xfs_geom.specs.Volumes.{Volume, volume_of}
 use Rattle.xfs_geom.specs.declared.geometry.Geometry.{Geometry}
 use Rattle.xfs_groups.specs.declared.groups.Groups.{Groups}
 use Rattle.xfs_heads.specs.declared.log.state.LogState.{LogState}
-use Rattle.xfs_tree.specs.Reading.{bytes_of_block}
 use Rattle.xfs_volume.specs.declared.catalogs.Catalog.{Catalog}
 use Rattle.xfs_volume.specs.declared.clusters.ClusterRec.{ClusterRec}
-use Rattle.xfs_volume.specs.declared.files.FileRec.{FileRec}
 use Rattle.xfs_image.specs.declared.findings.Finding.{Finding}
 use Rattle.xfs_image.specs.Candidates.{candidates}
 use Rattle.xfs_image.specs.Claims.{candidate_files, candidate_inodes, entry_count, total_extents}
 use Rattle.xfs_image.specs.Directories.{dirs_read, entries_read}
-use Rattle.xfs_image.specs.Slots.{cluster_blocks, cluster_inodes}
+use Rattle.xfs_image.specs.Slots.{cluster_inodes}
 use Rattle.xfs_image.specs.View.{log_of, view}
 use Rattle.xfs_scan.specs.Evidence.{AreSeen, IsEvidence, joined_parts}
-use Rattle.xfs_scan.specs.Gathered.{Gathered, bare_inodes, candidate_slots, first_feature, gathered, held_in}
-use Rattle.xfs_scan.specs.Refused.{feature_refused, refused_late, unless_more}
+use Rattle.xfs_scan.specs.Facts.{slot_facts}
+use Rattle.xfs_scan.specs.Gathered.{Gathered, bare_inodes, first_feature, gathered, held_in}
+use Rattle.xfs_scan.specs.Refused.{extents_of, feature_refused, refused_late, unless_more}
 use Rattle.xfs_scan.specs.declared.scan.ScannedSlots.{ScannedSlots}
 use Rattle.xfs_scan.specs.Answers.{IsRefusal}
 use Rattle.xfs_scan.specs.declared.faults.ScanFault.{ScanFault}
@@ -31,11 +30,6 @@ pub of_candidates : (v : Volume) (image : Image) (clusters : List ClusterRec) (h
 unfolding candidate_inodes
 of_candidates v image clusters held same all =
     all ∙ ap (λ (cs : List ClusterRec). gathered v image (flat_map (λ (c : ClusterRec). cluster_inodes v c.block) cs)) same
-
-pub blocks_of_candidates : (v : Volume) (image : Image) (clusters : List ClusterRec) (slots : List (List ℕ)) → clusters ≡ candidates v image
-    → slots ≡ map (bytes_of_block image) (flat_map (λ (c : ClusterRec). cluster_blocks c.block) clusters) → slots ≡ candidate_slots v image
-blocks_of_candidates v image clusters slots same all =
-    all ∙ ap (λ (cs : List ClusterRec). map (bytes_of_block image) (flat_map (λ (c : ClusterRec). cluster_blocks c.block) cs)) same
 
 module _ (v : Volume) (image : Image) (held : Gathered) (all : held ≡ gathered v image (candidate_inodes v image)) where
   files_are : held.files ≡ candidate_files v image
@@ -59,16 +53,16 @@ module _ (v : Volume) (image : Image) (held : Gathered) (all : held ≡ gathered
   feature_is : held.feature ≡ first_feature v image (candidate_inodes v image)
   feature_is = ap (λ (g : Gathered). g.feature) all ∙ first_found v image (candidate_inodes v image)
 
-  pub late_is : (extents entries : ℕ) → extents ≡ sum_by (λ (f : FileRec). length f.extents + length f.attr_extents) held.files → entries ≡ length held.entries
+  pub late_is : (extents entries : ℕ) → extents ≡ sum_by extents_of held.files → entries ≡ length held.entries
       → unless_more (2 ^ 23) 2 extents (unless_more (2 ^ 23) 3 entries (feature_refused held.feature)) ≡ refused_late v image
   unfolding refused_late total_extents entry_count
   late_is extents entries counted many =
       ap₂ (λ (n : ℕ) (later : Option ScanFault). unless_more (2 ^ 23) 2 n later)
-      (counted ∙ ap (sum_by (λ (f : FileRec). length f.extents + length f.attr_extents)) files_are)
+      (counted ∙ ap (sum_by extents_of) files_are)
       (ap₂ (λ (n : ℕ) (later : Option ScanFault). unless_more (2 ^ 23) 3 n later) (many ∙ ap length entries_are) (ap feature_refused feature_is))
 
 pub is_evidence : (g : Geometry) (image : Image) (seen : Groups) (scanned : ScannedSlots) (catalog : Result Catalog Finding) (log : LogState)
-    → AreSeen g image seen → scanned.slots ≡ candidate_slots (volume_of g) image
+    → AreSeen g image seen → scanned.slots.items ≡ slot_facts (volume_of g) image
     → held_in scanned.inodes ≡ gathered (volume_of g) image (candidate_inodes (volume_of g) image)
     → catalog ≡ view g image → log ≡ log_of (volume_of g) image
     → IsEvidence g image (joined_parts seen.clusters seen.trees scanned catalog log)

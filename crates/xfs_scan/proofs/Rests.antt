@@ -1,6 +1,6 @@
 -- What is left of a row.
 use Rattle.std.proofs.Common.{◌≡◌, ℕ, suc, ◌+◌, ◌-◌, ◌<◌, ◌≤◌, List, [], ◌∷◌, ◌++◌, map, length, drop, get_or, slice_get, Some, refl, sym, ap, ◌∙◌, arith}
-use Rattle.std.proofs.lemmas.List.{append_assoc, drop_all, drop_more, get_or-map}
+use Rattle.std.proofs.lemmas.List.{append_assoc, drop_all, drop_more}
 use Rattle.std.proofs.lemmas.Grind.{flat_map-append}
 use Rattle.std.proofs.lemmas.Option.{get_or_from_slice_get}
 use Rattle.xfs_disk.specs.Blocks.{Image}
@@ -26,12 +26,6 @@ pub rest_none : {A : Type 0} (i n : ℕ) (item : ℕ → A) → n ≤ i → rest
 rest_none i n item end =
     let none : n - i ≡ 0 = omega arith in
     ap (λ k. map item (range_with_len i k)) none
-
--- block i of a bank of the blocks at these places
-pub bank_at : (image : Image) (blocks : List ℕ) (bank : List (List ℕ)) (i : ℕ) (bytes : List ℕ) → bank ≡ map (bytes_of_block image) blocks → i < length blocks
-    → slice_get bank i ≡ Some bytes → bytes_of_block image (get_or blocks i 0) ≡ bytes
-bank_at image blocks bank i bytes whole inside is =
-    sym (get_or-map (bytes_of_block image) blocks i 0 [] inside) ∙ ap (λ (b : List (List ℕ)). get_or b i []) (sym whole) ∙ get_or_from_slice_get bank i bytes [] is
 
 pub none_left : {A : Type 0} (xs : List A) (i : ℕ) → length xs ≤ i → drop i xs ≡ []
 none_left xs i past = drop_all i xs past

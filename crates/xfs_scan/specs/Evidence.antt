@@ -15,15 +15,16 @@ use Rattle.xfs_image.specs.Candidates.{candidates}
 use Rattle.xfs_image.specs.Claims.{candidate_files}
 use Rattle.xfs_image.specs.Directories.{dirs_read, entries_read}
 use Rattle.xfs_image.specs.View.{log_of, view}
-use Rattle.xfs_scan.specs.Gathered.{bare_inodes, candidate_slots}
+use Rattle.xfs_scan.specs.Facts.{slot_facts}
+use Rattle.xfs_scan.specs.Gathered.{bare_inodes}
 use Rattle.xfs_scan.specs.declared.evidence.Evidence.{Evidence}
 use Rattle.xfs_scan.specs.declared.scan.ScannedSlots.{ScannedSlots}
 
--- the candidate clusters with the blocks of their slots; the candidate files, those without attributes, their directories with
+-- the candidate clusters with what is kept of their slots; the candidate files, those without attributes, their directories with
 -- the entries of these; the reserved blocks of each group; what the whole image says; whether its log is clean
 pub record IsEvidence (g : Geometry) (image : Image) (e : Evidence) : Type 0 where
   pub clusters : e.clusters ≡ candidates (volume_of g) image
-  pub slots : e.slots ≡ candidate_slots (volume_of g) image
+  pub slots : e.slots ≡ slot_facts (volume_of g) image
   pub files : e.files ≡ candidate_files (volume_of g) image
   pub bare : e.bare ≡ bare_inodes (volume_of g) image
   pub entries : e.entries ≡ entries_read (volume_of g) image (candidate_files (volume_of g) image)
@@ -42,7 +43,7 @@ pub record AreSeen (g : Geometry) (image : Image) (seen : Groups) : Type 0 where
 abbrev pub joined_parts : List ClusterRec → List GroupTrees → ScannedSlots → Result Catalog Finding → LogState → Evidence
 joined_parts clusters trees scanned catalog log = record {
   clusters = clusters;
-  slots = scanned.slots;
+  slots = scanned.slots.items;
   files = scanned.inodes.files.items;
   bare = scanned.inodes.bare.items;
   entries = scanned.inodes.entries.items;

@@ -1,23 +1,20 @@
 -- What the slots of inodes give, taken one by one (chapter "On-disk Inode").
-use Rattle.std.specs.Prelude.{ℕ, List, [], ◌∷◌, ◌++◌, map, Option, Some, None, Result, Ok, Err}
+use Rattle.std.specs.Prelude.{ℕ, List, [], ◌∷◌, ◌++◌, Option, Some, None, Result, Ok, Err}
 use Rattle.std.specs.List.{flat_map}
 use Rattle.std.specs.Option.{option_or}
 use Rattle.xfs_dirdata.specs.declared.records.EntryRec.{EntryRec}
 use Rattle.xfs_dirs.specs.declared.found.DirFound.{DirFound}
 use Rattle.xfs_disk.specs.Blocks.{Image}
 use Rattle.xfs_geom.specs.Volumes.{Volume}
-use Rattle.xfs_tree.specs.Reading.{bytes_of_block}
 use Rattle.xfs_inode.specs.declared.files.FileRead.{FileRead}
 use Rattle.xfs_inode.specs.declared.files.FileRead.TheVariants as Reads
-use Rattle.xfs_volume.specs.declared.clusters.ClusterRec.{ClusterRec}
 use Rattle.xfs_volume.specs.declared.directories.DirRec.{DirRec}
 use Rattle.xfs_volume.specs.declared.files.FileRec.{FileRec}
 use Rattle.xfs_image.specs.declared.findings.Finding.{Finding}
 use Rattle.xfs_image.specs.declared.findings.Finding.TheVariants as Found
-use Rattle.xfs_image.specs.Candidates.{candidates}
 use Rattle.xfs_image.specs.Claims.{candidate_inodes}
 use Rattle.xfs_image.specs.Directories.{dirs_read, entries_read}
-use Rattle.xfs_image.specs.Slots.{cluster_blocks, inodes_of_block, reads_as}
+use Rattle.xfs_image.specs.Slots.{inodes_of_block, reads_as}
 use Rattle.xfs_scan.specs.declared.inodes.InodeFeature.{InodeFeature}
 use Rattle.xfs_scan.specs.declared.inodes.Inodes.{Inodes}
 
@@ -94,13 +91,6 @@ files_if (Some ino) files = Err (Found.Part 9 ino)
 -- the inodes of some blocks
 abbrev pub inodes_of_blocks : Volume → List ℕ → List ℕ
 inodes_of_blocks v blocks = flat_map (inodes_of_block v) blocks
-
--- the blocks of all candidate clusters, in order, and their bytes
-abbrev pub candidate_blocks : Volume → Image → List ℕ
-candidate_blocks v image = flat_map (λ (c : ClusterRec). cluster_blocks c.block) (candidates v image)
-
-abbrev pub candidate_slots : Volume → Image → List (List ℕ)
-candidate_slots v image = map (bytes_of_block image) (candidate_blocks v image)
 
 -- the candidate files that read without their attributes, by number
 abbrev pub bare_if : ℕ → FileRead → List ℕ

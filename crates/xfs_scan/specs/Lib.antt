@@ -2,3 +2,4 @@ pub mod Answers
 pub mod Gathered
 pub mod Refused
 pub mod Evidence
+pub mod Facts

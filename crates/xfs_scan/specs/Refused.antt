@@ -1,13 +1,18 @@
 -- The volumes that are refused: those with too many inodes, extents or entries, and those with a file whose features are not
 -- supported.
-use Rattle.std.specs.Prelude.{ℕ, ◌^◌, nat_lt, if◌then◌else◌, Option, Some, None}
+use Rattle.std.specs.Prelude.{ℕ, ◌+◌, ◌^◌, length, nat_lt, if◌then◌else◌, Option, Some, None}
 use Rattle.xfs_disk.specs.Blocks.{Image}
 use Rattle.xfs_geom.specs.Volumes.{Volume}
+use Rattle.xfs_volume.specs.declared.files.FileRec.{FileRec}
 use Rattle.xfs_image.specs.Claims.{candidate_inodes, entry_count, total_extents, inode_count}
 use Rattle.xfs_scan.specs.Gathered.{first_feature}
 use Rattle.xfs_scan.specs.declared.faults.ScanFault.{ScanFault}
 use Rattle.xfs_scan.specs.declared.faults.ScanFault.TheVariants as faults
 use Rattle.xfs_scan.specs.declared.inodes.InodeFeature.{InodeFeature}
+
+-- the extents of both forks of a file
+abbrev pub extents_of : FileRec → ℕ
+extents_of = λ (f : FileRec). length f.extents + length f.attr_extents
 
 -- a count above its limit is refused, else what comes later
 abbrev pub unless_more : ℕ → ℕ → ℕ → Option ScanFault → Option ScanFault

@@ -1,7 +1,6 @@
 //! The blocks of clusters, and the slots in them (chapter "AG Inode Management").
 
-ghost use Rattle.std.specs.Prelude.{◌≡◌, ◌<◌, ◌≤◌, length, map, OnOk};
-ghost use Rattle.std.specs.List.{All};
+ghost use Rattle.std.specs.Prelude.{◌≡◌, ◌<◌, ◌≤◌, length, OnOk};
 ghost use Rattle.std.specs.Option.{ForSome};
 ghost use Rattle.xfs_geom.specs.Conversions.{inode_of};
 ghost use Rattle.xfs_geom.specs.Volumes.{volume_of};
@@ -9,14 +8,13 @@ ghost use Rattle.xfs_disk.specs.Reads.{OnlyReads};
 ghost use Rattle.xfs_tree.specs.Reading.{bytes_of_block};
 ghost use Rattle.xfs_image.specs.Slots.{inodes_of_block};
 ghost use Rattle.xfs_scan.specs.Answers.{HasReadCause};
-ghost use Rattle.xfs_scan.specs.Gathered.{gathered, held_in, inodes_of_blocks, gathered_both, of_slot};
+ghost use Rattle.xfs_scan.specs.Gathered.{gathered, held_in, gathered_both, of_slot};
 
 use crate::faults::PartFault;
 use crate::inodes::Inodes;
 use crate::slots::see_slot;
 use std::alloc::Global;
 use std::sync::ledger::Ledger;
-use xfs_bank::BlockBank;
 use xfs_disk::Disk;
 use xfs_geom::Geometry;
 use xfs_runs::Steps;
@@ -26,33 +24,6 @@ use xfs_word::part;
 const SLOTS: u8 = 8;
 
 const SLOT_SIZE: usize = 512;
-
-/// Takes up the slots of these blocks, whose bytes the bank has.
-pub fn see_blocks<D: Disk, L: Ledger>(
-    alloc: Global,
-    g: &Geometry,
-    disk: &mut D,
-    blocks: &[u64],
-    bank: &BlockBank,
-    inodes: &mut Inodes,
-    steps: &mut Steps<L>,
-) -> Result<(), PartFault>
-    requires inside { g.now.dblocks ≤ D.size disk.old }
-    requires volume { All (λ block. block < g.now.dblocks) blocks.now }
-    requires many { length bank.now ≡ length blocks.now }
-    requires held { ForSome (D.holds disk.old) (λ image. bank.now ≡ map (bytes_of_block image) blocks.now) }
-    ensures held { OnOk result (ForSome (D.holds disk.old) (λ image. held_in inodes.new ≡ gathered_both (held_in inodes.old) (gathered (volume_of g.now) image (inodes_of_blocks (volume_of g.now) blocks.now)))) }
-    ensures cause { HasReadCause (D.faults disk.old) (D.faults disk.new) result }
-    ensures disk { OnlyReads D.size D.holds D.write_faults D.writes D.tells_stops D.moment D.may_leave D.left_since disk.old disk.new }
-{
-    for (i, block) in blocks.iter().enumerate() {
-        match see_block(alloc, g, disk, *block, bank.view(i), inodes, steps) {
-            Ok(()) => {}
-            Err(fault) => return Err(fault),
-        }
-    }
-    Ok(())
-}
 
 /// Takes up the eight slots of a block.
 pub fn see_block<D: Disk, L: Ledger>(

@@ -1,6 +1,6 @@
 //! The evidence of a volume.
 
-use xfs_bank::BlockBank;
+use crate::facts::SlotFact;
 use xfs_dirdata::EntryRec;
 use xfs_groups::GroupTrees;
 use xfs_heads::LogState;
@@ -12,8 +12,8 @@ use xfs_volume::{Blocks, Catalog, ClusterRec, DirRec, FileRec, Records};
 pub struct Evidence {
     /// The candidate clusters, by block.
     pub clusters: Records<ClusterRec>,
-    /// Their blocks, in order, four for each.
-    pub slots: BlockBank,
+    /// What is kept of each of their slots, in order, 32 for each cluster.
+    pub slots: Records<SlotFact>,
     /// The files that their slots have, by inode, with their attributes or without.
     pub files: Records<FileRec>,
     /// The inodes of the files that read without their attributes.

@@ -8,7 +8,8 @@ ghost use Rattle.xfs_groups.specs.Answers.{EndBelow};
 ghost use Rattle.xfs_image.specs.Claims.{candidate_inodes};
 ghost use Rattle.xfs_scan.specs.Answers.{HasReadCause, HasRefused, HasScanCause};
 ghost use Rattle.xfs_scan.specs.Evidence.{AreSeen, IsEvidence, joined_parts};
-ghost use Rattle.xfs_scan.specs.Gathered.{candidate_slots, gathered, held_in};
+ghost use Rattle.xfs_scan.specs.Facts.{slot_facts};
+ghost use Rattle.xfs_scan.specs.Gathered.{gathered, held_in};
 ghost use Rattle.xfs_scan.specs.Refused.{refused, refused_late};
 
 use crate::evidence::Evidence;
@@ -47,9 +48,7 @@ pub fn gather<D: Disk, L: Ledger>(
         Err(GroupsFault::ReadFault) => return Err(ScanFault::ReadFault),
         Err(GroupsFault::NoMemory) => return Err(ScanFault::NoMemory),
     };
-    let Some(count) = count_inodes(seen.clusters.as_slice()) else {
-        return Err(ScanFault::NoMemory);
-    };
+    let count = count_inodes(g, seen.clusters.as_slice());
     if count > MOST_INODES {
         return Err(ScanFault::TooLarge {
             what: INODES,
@@ -79,6 +78,7 @@ fn gather_files<D: Disk, L: Ledger>(
         Ok(scanned) => scanned,
         Err(error) => return Err(error.answer()),
     };
+    // More extents than eight bytes can count are more than any memory holds.
     let Some(extents) = count_extents(&scanned.inodes.files) else {
         return Err(ScanFault::NoMemory);
     };
@@ -106,7 +106,7 @@ fn gather_view<D: Disk, L: Ledger>(
 ) -> Result<Evidence, PartFault>
     requires inside { g.now.dblocks ≤ D.size disk.old }
     requires seen { ForSome (D.holds disk.old) (λ image. AreSeen g.now image seen) }
-    requires slots { ForSome (D.holds disk.old) (λ image. scanned.slots ≡ candidate_slots (volume_of g.now) image) }
+    requires slots { ForSome (D.holds disk.old) (λ image. scanned.slots.items ≡ slot_facts (volume_of g.now) image) }
     requires inodes { ForSome (D.holds disk.old) (λ image. held_in scanned.inodes ≡ gathered (volume_of g.now) image (candidate_inodes (volume_of g.now) image)) }
     ensures evidence { IfOk result (λ e. ForSome (D.holds disk.old) (λ image. IsEvidence g.now image e)) }
     ensures cause { HasReadCause (D.faults disk.old) (D.faults disk.new) result }
@@ -150,7 +150,7 @@ fn evidence_of(
     let ScannedSlots { slots, inodes } = scanned;
     Evidence {
         clusters,
-        slots,
+        slots: Records::from_vec(slots),
         files: Records::from_vec(inodes.files),
         bare: Records::from_vec(inodes.bare),
         entries: Records::from_vec(inodes.entries),

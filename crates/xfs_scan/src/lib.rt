@@ -21,6 +21,7 @@ mod blocks;
 mod clusters;
 mod copies;
 mod evidence;
+mod facts;
 mod faults;
 mod gather_evidence;
 mod inodes;
@@ -31,5 +32,6 @@ mod slots;
 mod view;
 
 pub use evidence::Evidence;
+pub use facts::{SlotFact, SlotReading};
 pub use faults::ScanFault;
 pub use gather_evidence::gather;

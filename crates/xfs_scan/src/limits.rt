@@ -1,12 +1,14 @@
 //! How much a volume may have.
 
-ghost use Rattle.std.specs.Prelude.{◌≡◌, ◌+◌, ◌*◌, ◌^◌, length, IfSome};
+ghost use Rattle.std.specs.Prelude.{◌≡◌, ◌+◌, ◌*◌, ◌^◌, ◌<◌, length, SomeIff};
 ghost use Rattle.std.specs.List.{sum_by};
-ghost use Rattle.xfs_volume.specs.declared.files.FileRec.{FileRec};
-ghost use Rattle.xfs_scan.specs.Refused.{feature_refused, unless_more};
+ghost use Rattle.xfs_image.specs.Candidates.{ClustersAscend};
+ghost use Rattle.xfs_groups.specs.Answers.{EndBelow};
+ghost use Rattle.xfs_scan.specs.Refused.{extents_of, feature_refused, unless_more};
 
 use crate::faults::ScanFault;
 use crate::inodes::InodeFeature;
+use xfs_geom::Geometry;
 use xfs_volume::{ClusterRec, FileRec};
 
 /// The most inodes of clusters, extents of files and entries of directories.
@@ -26,24 +28,36 @@ const ENTRIES: u8 = 3;
 /// The inodes of a cluster.
 const CLUSTER_INODES: u64 = 32;
 
-/// The inodes of clusters, where eight bytes hold their number.
-pub fn count_inodes(clusters: &[ClusterRec]) -> Option<u64>
-    ensures { IfSome result (λ count. count ≡ 32 * length clusters.now) }
+/// The inodes of clusters of which no two have a block in common.
+pub fn count_inodes(g: &Geometry, clusters: &[ClusterRec]) -> u64
+    requires ascend { ClustersAscend 0 clusters.now }
+    requires inside { EndBelow g.now.dblocks clusters.now }
+    ensures { result ≡ 32 * length clusters.now }
 {
-    CLUSTER_INODES.checked_mul(clusters.len() as u64)
+    CLUSTER_INODES * clusters.len() as u64
 }
 
-/// The extents of both forks of files, where eight bytes hold their number.
+/// The extents of both forks of files, just where eight bytes hold their number.
 pub fn count_extents(files: &[FileRec]) -> Option<u64>
-    ensures { IfSome result (λ count. count ≡ sum_by (λ (f : FileRec). length f.extents + length f.attr_extents) files.now) }
+    ensures { SomeIff result (sum_by extents_of files.now < 2 ^ 64) (sum_by extents_of files.now) }
 {
-    let mut count = 0u64;
+    let mut count = 0;
     for file in files {
-        let extents = file.extents.as_slice().len() as u64
-            + file.attr_extents.as_slice().len() as u64;
-        count = count.checked_add(extents)?;
+        match count_more(count, file) {
+            Some(more) => count = more,
+            None => return None,
+        }
     }
     Some(count)
+}
+
+/// A count with the extents of both forks of one more file, just where eight bytes hold it.
+fn count_more(count: u64, file: &FileRec) -> Option<u64>
+    ensures { SomeIff result (count + extents_of file.now < 2 ^ 64) (count + extents_of file.now) }
+{
+    count.checked_add(
+        file.extents.as_slice().len() as u64 + file.attr_extents.as_slice().len() as u64,
+    )
 }
 
 /// Why a volume is refused whose clusters are not too many.

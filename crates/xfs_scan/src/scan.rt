@@ -1,35 +1,33 @@
 //! The candidate clusters, read from a disk.
 
-ghost use Rattle.std.specs.Prelude.{◌≡◌, ◌+◌, ◌<◌, ◌≤◌, length, map, IfOk, OnOk, slice_set};
+ghost use Rattle.std.specs.Prelude.{◌≡◌, ◌<◌, ◌≤◌, ◌++◌, map, IfOk, OnOk};
 ghost use Rattle.std.specs.List.{All, flat_map};
 ghost use Rattle.std.specs.Option.{ForSome};
-ghost use Rattle.xfs_disk.specs.Faults.{HasCause};
 ghost use Rattle.xfs_geom.specs.Volumes.{volume_of};
 ghost use Rattle.xfs_disk.specs.Reads.{OnlyReads};
-ghost use Rattle.xfs_tree.specs.Reading.{bytes_of_block};
 ghost use Rattle.xfs_volume.specs.declared.clusters.ClusterRec.{ClusterRec};
-ghost use Rattle.xfs_image.specs.Slots.{cluster_blocks, cluster_inodes};
+ghost use Rattle.xfs_image.specs.Slots.{cluster_inodes, inodes_of_block};
 ghost use Rattle.xfs_groups.specs.Answers.{EndBelow};
 ghost use Rattle.xfs_scan.specs.Answers.{HasReadCause};
-ghost use Rattle.xfs_scan.specs.Gathered.{gathered, held_in};
+ghost use Rattle.xfs_scan.specs.Facts.{slot_fact};
+ghost use Rattle.xfs_scan.specs.Gathered.{gathered, held_in, inodes_of_blocks, gathered_both};
 
 use crate::blocks::blocks_of_candidates;
-use crate::clusters::see_blocks;
+use crate::clusters::see_block;
+use crate::facts::{SlotFact, push_facts};
 use crate::faults::PartFault;
 use crate::inodes::Inodes;
 use std::alloc::Global;
 use std::sync::ledger::Ledger;
-use xfs_bank::BlockBank;
 use xfs_disk::{BLOCK_SIZE, Disk, Failed, NoMemory};
 use xfs_geom::Geometry;
 use xfs_runs::Steps;
 use xfs_volume::ClusterRec;
 
-/// The slots of clusters, and what they give.
+/// What is kept of the slots of clusters, and what they give.
 #[derive(Drop)]
 pub struct ScannedSlots {
-    /// The blocks of the clusters, in order.
-    pub slots: BlockBank,
+    pub slots: Vec<SlotFact>,
     pub inodes: Inodes,
 }
 
@@ -43,7 +41,7 @@ pub fn scan<D: Disk, L: Ledger>(
 ) -> Result<ScannedSlots, PartFault>
     requires inside { g.now.dblocks ≤ D.size disk.old }
     requires volume { EndBelow g.now.dblocks clusters.now }
-    ensures slots { IfOk result (λ scanned. ForSome (D.holds disk.old) (λ image. scanned.slots ≡ map (bytes_of_block image) (flat_map (λ (c : ClusterRec). cluster_blocks c.block) clusters.now))) }
+    ensures slots { IfOk result (λ scanned. ForSome (D.holds disk.old) (λ image. scanned.slots.items ≡ map (slot_fact (volume_of g.now) image) (flat_map (λ (c : ClusterRec). cluster_inodes (volume_of g.now) c.block) clusters.now))) }
     ensures inodes { IfOk result (λ scanned. ForSome (D.holds disk.old) (λ image. held_in scanned.inodes ≡ gathered (volume_of g.now) image (flat_map (λ (c : ClusterRec). cluster_inodes (volume_of g.now) c.block) clusters.now))) }
     ensures cause { HasReadCause (D.faults disk.old) (D.faults disk.new) result }
     ensures disk { OnlyReads D.size D.holds D.write_faults D.writes D.tells_stops D.moment D.may_leave D.left_since disk.old disk.new }
@@ -52,75 +50,69 @@ pub fn scan<D: Disk, L: Ledger>(
         Ok(blocks) => blocks,
         Err(NoMemory) => return Err(PartFault::NoMemory),
     };
-    let slots = match read_bank(alloc, disk, &blocks, steps) {
-        Ok(slots) => slots,
-        Err(fault) => return Err(fault),
-    };
+    let mut slots = Vec::new(alloc);
     let mut inodes = Inodes::new(alloc);
-    match see_blocks(alloc, g, disk, &blocks, &slots, &mut inodes, steps) {
+    match scan_blocks(alloc, g, disk, &blocks, &mut slots, &mut inodes, steps) {
         Ok(()) => Ok(ScannedSlots { slots, inodes }),
         Err(fault) => Err(fault),
     }
 }
 
-/// Reads blocks into a bank, each once.
-fn read_bank<D: Disk, L: Ledger>(
+/// Reads blocks, each once, and takes up their slots. A block is given up as soon as its slots are taken up.
+fn scan_blocks<D: Disk, L: Ledger>(
     alloc: Global,
+    g: &Geometry,
     disk: &mut D,
     blocks: &[u64],
+    slots: &mut Vec<SlotFact>,
+    inodes: &mut Inodes,
     steps: &mut Steps<L>,
-) -> Result<BlockBank, PartFault>
-    requires inside { All (λ block. block < D.size disk.old) blocks.now }
-    ensures many { IfOk result (λ bank. length bank ≡ length blocks.now) }
-    ensures held { IfOk result (λ bank. ForSome (D.holds disk.old) (λ image. bank ≡ map (bytes_of_block image) blocks.now)) }
+) -> Result<(), PartFault>
+    requires inside { g.now.dblocks ≤ D.size disk.old }
+    requires volume { All (λ block. block < g.now.dblocks) blocks.now }
+    ensures slots { OnOk result (ForSome (D.holds disk.old) (λ image. slots.new.items ≡ slots.old.items ++ map (slot_fact (volume_of g.now) image) (inodes_of_blocks (volume_of g.now) blocks.now))) }
+    ensures inodes { OnOk result (ForSome (D.holds disk.old) (λ image. held_in inodes.new ≡ gathered_both (held_in inodes.old) (gathered (volume_of g.now) image (inodes_of_blocks (volume_of g.now) blocks.now)))) }
     ensures cause { HasReadCause (D.faults disk.old) (D.faults disk.new) result }
     ensures disk { OnlyReads D.size D.holds D.write_faults D.writes D.tells_stops D.moment D.may_leave D.left_since disk.old disk.new }
 {
-    let mut bank = match BlockBank::make(alloc, blocks.len()) {
-        Ok(bank) => bank,
-        Err(NoMemory) => return Err(PartFault::NoMemory),
-    };
-    for (i, block) in blocks.iter().enumerate() {
-        match read_into(disk, *block, i, &mut bank, steps) {
+    for block in blocks {
+        match scan_block(alloc, g, disk, *block, slots, inodes, steps) {
             Ok(()) => {}
-            Err(Failed) => return Err(PartFault::ReadFault),
+            Err(fault) => return Err(fault),
         }
     }
-    Ok(bank)
+    Ok(())
 }
 
-/// Reads a block into the place of block `i` of a bank, and counts it as a step.
-fn read_into<D: Disk, L: Ledger>(
+/// Reads a block, and takes up its slots.
+fn scan_block<D: Disk, L: Ledger>(
+    alloc: Global,
+    g: &Geometry,
     disk: &mut D,
-    place: u64,
-    i: usize,
-    bank: &mut BlockBank,
+    block: u64,
+    slots: &mut Vec<SlotFact>,
+    inodes: &mut Inodes,
     steps: &mut Steps<L>,
-) -> Result<(), Failed>
-    requires place { place < D.size disk.old }
-    requires inside { i < length bank.old }
-    ensures put { OnOk result (ForSome (D.holds disk.old) (λ image. bank.new ≡ slice_set bank.old i (bytes_of_block image place))) }
-    ensures many { length bank.new ≡ length bank.old }
-    ensures cause { HasCause (D.faults disk.old) (D.faults disk.new) result }
+) -> Result<(), PartFault>
+    requires inside { g.now.dblocks ≤ D.size disk.old }
+    requires volume { block < g.now.dblocks }
+    ensures slots { OnOk result (ForSome (D.holds disk.old) (λ image. slots.new.items ≡ slots.old.items ++ map (slot_fact (volume_of g.now) image) (inodes_of_block (volume_of g.now) block))) }
+    ensures inodes { OnOk result (ForSome (D.holds disk.old) (λ image. held_in inodes.new ≡ gathered_both (held_in inodes.old) (gathered (volume_of g.now) image (inodes_of_block (volume_of g.now) block)))) }
+    ensures cause { HasReadCause (D.faults disk.old) (D.faults disk.new) result }
     ensures disk { OnlyReads D.size D.holds D.write_faults D.writes D.tells_stops D.moment D.may_leave D.left_since disk.old disk.new }
-    ensures ticks { steps.new ≡ steps.old + 1 }
 {
-    let mut block = [0; BLOCK_SIZE];
+    let mut bytes = [0; BLOCK_SIZE];
     steps.tick();
-    match disk.read(place, &mut block) {
-        Ok(()) => {
-            put_block(i, &block, bank);
-            Ok(())
-        }
-        Err(Failed) => Err(Failed),
+    match disk.read(block, &mut bytes) {
+        Ok(()) => {}
+        Err(Failed) => return Err(PartFault::ReadFault),
     }
-}
-
-/// Puts a block in the place of block `i` of a bank.
-fn put_block(i: usize, block: &[u8], bank: &mut BlockBank)
-    requires inside { i < length bank.old }
-    requires whole { length block.now ≡ 4096 }
-    ensures { bank.new ≡ slice_set bank.old i block.now }
-{
-    bank.view_mut(i).copy_from_slice(block);
+    match push_facts(g, block, &bytes, slots) {
+        Ok(()) => {}
+        Err(NoMemory) => return Err(PartFault::NoMemory),
+    }
+    match see_block(alloc, g, disk, block, &bytes, inodes, steps) {
+        Ok(()) => Ok(()),
+        Err(fault) => Err(fault),
+    }
 }

@@ -1,6 +1,6 @@
 //! What a whole image says, or the first part that does not read.
 
-ghost use Rattle.std.specs.Prelude.{◌≡◌, ◌+◌, ◌^◌, ◌<◌, ◌≤◌, length, map, IsTrue, Ok, IfOk, OnOk};
+ghost use Rattle.std.specs.Prelude.{◌≡◌, ◌↔◌, ◌+◌, ◌^◌, ◌<◌, ◌≤◌, length, map, IsTrue, Ok, IfOk, OnOk};
 ghost use Rattle.std.specs.List.{All, flat_map};
 ghost use Rattle.std.specs.Option.{ForSome};
 ghost use Rattle.xfs_disk.specs.Faults.{HasCause};
@@ -76,7 +76,8 @@ pub fn see_view<D: Disk, L: Ledger>(
     }
 }
 
-/// The same, of groups that read.
+/// The same, of groups that read. That they are not too many is tested here, as a disk that does not tell what it holds, a file,
+/// says nothing of what was read from it; of each image they are as many as the volume has (`view_is_of_what_reads`).
 fn see_catalog<D: Disk, L: Ledger>(
     alloc: Global,
     g: &Geometry,
@@ -226,7 +227,7 @@ fn see_recorded<D: Disk, L: Ledger>(
 
 /// Whether clusters are just the candidates.
 fn are_candidates(clusters: &[u64], candidates: &[ClusterRec]) -> bool
-    ensures { IsTrue result → clusters.now ≡ map (λ (c : ClusterRec). c.block) candidates.now }
+    ensures { IsTrue result ↔ (clusters.now ≡ map (λ (c : ClusterRec). c.block) candidates.now) }
 {
     if clusters.len() != candidates.len() {
         return false;

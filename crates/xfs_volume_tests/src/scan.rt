@@ -5,7 +5,7 @@ ghost use Rattle.std.specs.Prelude.{◌≡◌, ◌<◌, ◌≤◌};
 
 use crate::checks::same;
 use crate::small_volume::{ROOT, put, volume};
-use crate::text::{refuse, tells};
+use crate::text::{Row, refuse, tells};
 use std::alloc::Global;
 use std::marker::Brand;
 use std::process::Abort;
@@ -124,7 +124,7 @@ fn evidence(rt: HostRuntime) -> Result<(), Fail> {
     let clusters =
         "[ClusterRec { block: 16, recorded: true }, ClusterRec { block: 24, recorded: false }]";
     tells(&rt, &found.clusters.as_slice(), clusters, "clusters");
-    same!(rt; found.slots.len(), 8);
+    same!(rt; found.slots.as_slice().len(), 64);
     let files = found.files.as_slice();
     same!(rt; files.len(), 4);
     for (file, ino) in files.iter().zip([128, 131, 137, 192]) {
@@ -140,6 +140,37 @@ fn evidence(rt: HostRuntime) -> Result<(), Fail> {
     same!(rt; found.trees.as_slice().len(), 2);
     assert!(rt; matches!(found.catalog, Err(Finding::Part { part: 1, place: 0 })));
     same!(rt; found.log, LogState::Clean { head: 1 << 32 });
+    Ok(())
+}
+
+/// What is kept of some of the 64 slots of the candidate clusters.
+const SLOTS: &str = "\
+0 | SlotFact { reading: InUse, lsn: 0 }
+1 | SlotFact { reading: Unsound, lsn: 0 }
+3 | SlotFact { reading: InUse, lsn: 0 }
+9 | SlotFact { reading: InUse, lsn: 0 }
+11 | SlotFact { reading: InUse, lsn: 7 }
+12 | SlotFact { reading: Free, lsn: 0 }
+31 | SlotFact { reading: Unsound, lsn: 0 }
+32 | SlotFact { reading: InUse, lsn: 0 }
+63 | SlotFact { reading: Unsound, lsn: 0 }
+";
+
+#[test]
+fn slots(rt: HostRuntime) -> Result<(), Fail> {
+    let alloc = rt.alloc();
+    let changed = [(137, LOST_ATTRIBUTES), (139, (118, 7)), (140, (2, 0))];
+    let mut disk = disk(&rt, alloc, &changed)?;
+    let Ok(found) = seen(alloc, &rt, &mut disk) else {
+        refuse(&rt, "the volume is refused", "");
+    };
+    let slots = found.slots.as_slice();
+    for line in SLOTS.lines() {
+        let mut row = Row::new(line);
+        let place: usize = row.number(&rt);
+        assert!(rt; place < slots.len());
+        tells(&rt, &slots[place], row.text(), line);
+    }
     Ok(())
 }
 

@@ -1,12 +1,6 @@
-use Rattle.std.proofs.Common.{◌≡◌, ℕ, ◌≤◌, ◌<◌, ◌+◌, ◌*◌, ◌/◌, ◌%◌, ◌^◌, mul-le-mul_left, arith}
+use Rattle.std.proofs.Common.{◌≡◌, ℕ, ◌≤◌, ◌<◌, ◌+◌, ◌*◌, ◌/◌, ◌%◌, ◌^◌, arith}
+use Rattle.xfs_journal.proofs.Sums.{below}
 use Rattle.xfs_journal.proofs.extents.start_of.Goals as goal
-
--- a group has no more blocks than its addresses tell apart
-below : (start size blocks : ℕ) → 1 ≤ size → blocks ≤ size → start / size * blocks + start % size ≤ start
-below start size blocks some few =
-    let most : start / size * blocks ≤ start / size * size = mul-le-mul_left (start / size) few in
-    let whole : size * (start / size) + start % size ≡ start = omega arith in
-    omega (arith, most, whole)
 
 fits : (start power blocks : ℕ) → start < 2 ^ 64 → blocks < 2 ^ 32 → 1024 ≤ blocks → blocks ≤ power → power < 2 * blocks
     → start / (1 * power % 2 ^ 64) * blocks + start % (1 * power % 2 ^ 64) < 2 ^ 64

@@ -1,17 +1,17 @@
-use Rattle.std.proofs.Common.{◌+◌, length, sym, ap, ◌∙◌}
+use Rattle.std.proofs.Common.{length, sym, ap, ◌∙◌}
 use Rattle.xfs_geom.specs.Volumes.{volume_of}
 use Rattle.std.specs.List.{sum_by}
-use Rattle.xfs_volume.specs.declared.files.FileRec.{FileRec}
 use Rattle.xfs_scan.specs.Gathered.{held_in}
-use Rattle.xfs_scan.specs.Refused.{refused_late}
+use Rattle.xfs_scan.specs.Refused.{extents_of, refused_late}
 use Rattle.xfs_disk.proofs.Reading.{reads_on}
-use Rattle.xfs_scan.proofs.Refusing.{blocks_of_candidates, late_is, of_candidates, refusal_from}
+use Rattle.xfs_scan.proofs.Kept.{facts_of_candidates}
+use Rattle.xfs_scan.proofs.Refusing.{late_is, of_candidates, refusal_from}
 use Rattle.xfs_scan.proofs.gather_evidence.gather_files.Goals as goal
 
 pub gather_view-requires-clause-slots : goal.gather_view-requires-clause-slots
 gather_view-requires-clause-slots g c = λ image told.
     let before = sym c.in-Ok.ensures.disk.same_contents ∙ told in
-    blocks_of_candidates (volume_of c.args.g.now) image c.as_slice.result.now c.in-Ok.scanned.slots
+    facts_of_candidates (volume_of c.args.g.now) image c.as_slice.result.now c.in-Ok.scanned.slots.items
     (c.as_slice.ensures ∙ (c.requires.seen image before).clusters) (c.in-Ok.ensures.slots image before)
 
 pub gather_view-requires-clause-inodes : goal.gather_view-requires-clause-inodes
@@ -26,7 +26,7 @@ returns-in-Some-refusal-clause-refused g c = λ image told.
     let inodes = c.in-Ok.scanned.inodes in
     let held = of_candidates v image c.as_slice.result.now (held_in inodes) (c.as_slice.ensures ∙ (c.requires.seen image told).clusters) (c.in-Ok.ensures.inodes image told) in
     let late = late_is v image (held_in inodes) held c.in-Some.extents (length c.as_slice-2.result.now)
-    (c.in-Some.ensures ∙ ap (sum_by (λ (f : FileRec). length f.extents + length f.attr_extents)) c.deref.ensures.value) (ap length c.as_slice-2.ensures.value) in
+    (c.in-Some.ensures.1 ∙ ap (sum_by extents_of) c.deref.ensures.value) (ap length c.as_slice-2.ensures.value) in
     refusal_from (refused_late v image) c.in-Some-refusal.fault (sym late ∙ sym c.refusal.ensures ∙ c.in-Some-refusal.is)
 
 pub returns-in-Ok-gather_view-clause-refused : goal.returns-in-Ok-gather_view-clause-refused
@@ -35,7 +35,7 @@ returns-in-Ok-gather_view-clause-refused g c = λ image told.
     let inodes = c.in-Ok.scanned.inodes in
     let held = of_candidates v image c.as_slice.result.now (held_in inodes) (c.as_slice.ensures ∙ (c.requires.seen image told).clusters) (c.in-Ok.ensures.inodes image told) in
     let late = late_is v image (held_in inodes) held c.in-Some.extents (length c.as_slice-2.result.now)
-    (c.in-Some.ensures ∙ ap (sum_by (λ (f : FileRec). length f.extents + length f.attr_extents)) c.deref.ensures.value) (ap length c.as_slice-2.ensures.value) in
+    (c.in-Some.ensures.1 ∙ ap (sum_by extents_of) c.deref.ensures.value) (ap length c.as_slice-2.ensures.value) in
     sym late ∙ sym c.refusal.ensures ∙ c.in-None.is
 
 pub returns-in-Ok-gather_view-clause-evidence : goal.returns-in-Ok-gather_view-clause-evidence

@@ -8,4 +8,4 @@ pub returns-in-Ok-clause-inodes : goal.returns-in-Ok-clause-inodes
 returns-in-Ok-clause-inodes g c = λ image told.
     c.in-Ok.ensures
     ∙ given_by_candidates (volume_of c.args.g.now) image c.args.clusters.now c.args.scanned_clusters.now (held_in c.args.scanned.now)
-    (c.requires.candidates image told) (c.are_candidates.ensures c.if-not-are_candidates.false) (c.requires.scanned image told)
+    (c.requires.candidates image told) (c.are_candidates.ensures.0 c.if-not-are_candidates.false) (c.requires.scanned image told)
