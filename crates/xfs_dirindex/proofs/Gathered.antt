@@ -11,7 +11,7 @@ use Rattle.xfs_dirindex.specs.declared.seen.IndexFault.{IndexFault}
 use Rattle.xfs_dirindex.specs.declared.seen.IndexFault.TheVariants.{Unsound, NoMemory}
 use Rattle.xfs_dirindex.specs.Faults.{OnUnsoundIndex}
 use Rattle.xfs_dirindex.specs.Mapped.{Mapped, mapped_block, mapped, is_data}
-use Rattle.xfs_dirindex.specs.Data.{is_first_block, is_later, is_sound_data, are_data, begin_with_dots, area_in, due_pairs, pairs_in, best_in}
+use Rattle.xfs_dirindex.specs.Data.{is_first_block, is_later, is_sound_data, are_data, begin_with_dots, stand_first, area_in, due_pairs, pairs_in, best_in}
 
 -- no pairs are left where one of the lists is at its end
 pub due-end : (offset : ℕ) (es : List EntryRec) (places : List ℕ) (i : ℕ) → min (length es) (length places) ≤ i → due_pairs offset (drop i es) (drop i places) ≡ []
@@ -89,7 +89,9 @@ unsound-later dir ms i m all step before later = before ∙ (ap (list_all (is_la
 pub first-data : (dir : ℕ) (m : Mapped) → is_first_block dir false m ≡ true → is_data m ≡ true
 unfolding is_first_block
 first-data dir m first =
-    let parts = and_parts (m.offset == 0 && is_sound_data dir false m) (begin_with_dots dir (area_in dir false m).entries) first in
+    let dots = begin_with_dots dir (area_in dir false m).entries in
+    let all = and_parts (m.offset == 0 && is_sound_data dir false m && dots) (stand_first (area_in dir false m).places) first in
+    let parts = and_parts (m.offset == 0 && is_sound_data dir false m) dots all.0 in
     let front = and_parts (m.offset == 0) (is_sound_data dir false m) parts.0 in
     let zero_offset : m.offset ≡ 0 = eqb-true m.offset 0 front.0 in
     grind (arith, nat_tests)

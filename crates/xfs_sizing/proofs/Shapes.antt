@@ -71,7 +71,7 @@ log_bound g d l h =
     let first = left _ (leb (6 + l + 64) (blocks_of_group d g.size g.count (g.count / 2))) h in
     record {
       large = leb-true 512 l (left _ (leb l 521728) first);
-      small = leb-true l (2 ^ 20) (right (leb 512 l) _ first);
+      small = leb-true l 521728 (right (leb 512 l) _ first);
       inside = leb-true _ _ (right (leb 512 l && leb l 521728) _ h);
     }
 
