@@ -75,6 +75,12 @@ impl Call {
         })
     }
 
+    /// Whether the call says that a write failed once so many blocks were written.
+    pub fn tells_fault(&self, alloc: Global, written: u64) -> Result<bool, AllocError> {
+        let line = format!(in alloc; "xfs: write fault after {written} blocks\n")?;
+        Ok(self.err.bytes() == line.as_bytes() && self.status.code == 1)
+    }
+
     /// A line for each part that is not as it is due.
     pub fn differences(&self, alloc: Global) -> Result<String, AllocError> {
         let mut told = String::new(alloc);

@@ -1,8 +1,9 @@
 //! A case: a disk, calls on it, and what is due of them.
 
 use crate::calls::{Call, Surroundings};
-use crate::numbers::number;
+use crate::numbers::{cut, number};
 use crate::refusal::Refusal;
+use crate::stops::stop_after_each;
 use crate::volume::Disks;
 use std::alloc::{AllocError, Global};
 use std::thread::Threads;
@@ -54,7 +55,8 @@ impl Case {
     /// `room N` bytes are left for standard output from here on; `input LINE` and `tail TEXT` are added to standard input, which is not
     /// read where the case has `unreadable`.
     ///
-    /// `run WORD|WORD|..` makes a call. Behind it stands what is due of it: `out LINE` and `err LINE`, `cut TEXT` for output that has no end
+    /// `stops N WORD|WORD|..` makes a call that writes N blocks on copies of the disk, of which each stops after one more of these
+    /// (`stops`). `run WORD|WORD|..` makes a call. Behind it stands what is due of it: `out LINE` and `err LINE`, `cut TEXT` for output that has no end
     /// of line, `code N` and `finished N` where they are not 0.
     pub fn take(
         &mut self,
@@ -78,6 +80,7 @@ impl Case {
             }
             "fail" => self.disks.held.fail(number(rest)?),
             "run" => self.run(rt, rest),
+            "stops" => self.stop(rt, rest),
             "room" | "input" | "tail" | "unreadable" => self.give(word, rest),
             _ => self.expect(word, rest),
         }
@@ -126,6 +129,22 @@ impl Case {
         let call = Call::make(rt, self.alloc, &mut self.disks.held, words, &self.given)?;
         self.call = Some(call);
         self.calls = self.calls.saturating_add(1);
+        Ok(())
+    }
+
+    /// Makes a call on disks that stop after each of its writes.
+    fn stop(&mut self, rt: &(impl Threads + Sync), text: &str) -> Result<(), Refusal> {
+        let (due, words) = cut(text);
+        let due = number(due)?;
+        let stops = stop_after_each(rt, self.alloc, &self.disks.held, words, &self.given)?;
+        if stops.writes != due {
+            let told = format!(in self.alloc; "  {} blocks written, due {due}\n", stops.writes)?;
+            self.told.push_str(told.as_str())?;
+        }
+        if let Some(written) = stops.wrong {
+            let told = format!(in self.alloc; "  wrong behind {written} writes\n")?;
+            self.told.push_str(told.as_str())?;
+        }
         Ok(())
     }
 

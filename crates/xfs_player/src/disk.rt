@@ -35,6 +35,27 @@ impl CaseDisk {
         Ok(())
     }
 
+    /// A disk that holds the same. No call of it is to fail, and it has counted nothing.
+    pub fn copy(&self, alloc: Global) -> Result<CaseDisk, Refusal> {
+        let mut copy = CaseDisk::make(alloc, self.held(), self.blocks)?;
+        for (place, block) in self.memory.image().chunks(BLOCK_SIZE).enumerate() {
+            if block.iter().any(|byte| *byte != 0) {
+                copy.put(place as u64, 0, block)?;
+            }
+        }
+        Ok(copy)
+    }
+
+    /// Makes every later call fail once so many blocks were written from now on.
+    pub fn stop_after(&mut self, writes: u64) {
+        self.memory.stop_after(writes);
+    }
+
+    /// How many blocks were written.
+    pub fn writes(&self) -> u64 {
+        self.writes
+    }
+
     /// The bytes in memory.
     pub fn image(&self) -> &[u8] {
         self.memory.image()

@@ -11,6 +11,7 @@ mod disk;
 mod numbers;
 mod player;
 mod refusal;
+mod stops;
 mod vast;
 mod volume;
 
