@@ -33,8 +33,8 @@ pub(crate) struct FilePlaces {
 impl FilePlaces {
     /// Puts a place behind those in recorded clusters, or behind the others.
     fn put(&mut self, place: FilePlace, is_recorded: bool) -> Result<(), AllocError>
-        ensures recorded { OnOk result (self.new.recorded.items ≡ (if is_recorded_cluster then self.old.recorded.items ++ place ∷ [] else self.old.recorded.items)) }
-        ensures scanned { OnOk result (self.new.scanned.items ≡ (if not is_recorded_cluster then self.old.scanned.items ++ place ∷ [] else self.old.scanned.items)) }
+        ensures recorded { OnOk result (self.new.recorded.items ≡ (if is_recorded then self.old.recorded.items ++ place ∷ [] else self.old.recorded.items)) }
+        ensures scanned { OnOk result (self.new.scanned.items ≡ (if not is_recorded then self.old.scanned.items ++ place ∷ [] else self.old.scanned.items)) }
     {
         if is_recorded {
             self.recorded.push(place)?;

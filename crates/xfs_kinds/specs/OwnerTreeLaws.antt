@@ -36,7 +36,7 @@ numbers_fit r h =
       start = ltb-true r.start (2 ^ 32) f.0;
       count = ltb-true r.count (2 ^ 32) f.1;
       owner = ltb-true r.owner (2 ^ 64) e.1;
-      offset = ltb-true r.offset (2 ^ 64) d.1;
+      offset = ltb-true r.offset_word (2 ^ 64) d.1;
     }
 
 -- what a key's numbers keep
@@ -57,7 +57,7 @@ key_numbers_fit k h =
     record {
       start = ltb-true k.start (2 ^ 32) f.0;
       owner = ltb-true k.owner (2 ^ 64) f.1;
-      offset = ltb-true k.offset (2 ^ 64) e.1;
+      offset = ltb-true k.offset_word (2 ^ 64) e.1;
       written = d.1;
     }
 
@@ -158,7 +158,7 @@ last_word-lt r h = by_case (is_file_data r.owner r.offset_word)
 low_fits : (r : RmapRec) → IsTrue (fits_owner r) → IsTrue (fits_key (low_key r))
 low_fits r h =
     let f = numbers_fit r h in
-    key_fits (low_key r) (record { start = f.start; owner = f.owner; offset = key_word-lt r.offset f.offset; written = key_word_written r.offset })
+    key_fits (low_key r) (record { start = f.start; owner = f.owner; offset = key_word-lt r.offset_word f.offset; written = key_word_written r.offset })
 
 high_fits : (r : RmapRec) → IsTrue (fits_owner r) → IsTrue (fits_key (high_key r))
 high_fits r h =

@@ -58,7 +58,7 @@ recorded_each v ag before r h =
     record {
       some = leb-true 1 r.count d.1;
       owner = ltb-true r.owner (2 ^ 64) f.1;
-      offset = ltb-true r.offset (2 ^ 64) e.1;
+      offset = ltb-true r.offset_word (2 ^ 64) e.1;
       fork = leb-true fork (2 ^ 54) b.1;
       inside = leb-true (r.start + r.count) (group_length v ag) g.1;
     }
