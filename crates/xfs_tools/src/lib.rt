@@ -18,5 +18,6 @@ mod texts;
 mod top;
 
 pub use answer::{Answer, Status};
+pub use command_line::{Call, RepairWords, is_debugger, is_maker, judge};
 pub use texts::put_answer;
 pub use top::run;
