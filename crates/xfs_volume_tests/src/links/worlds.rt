@@ -33,4 +33,10 @@ lost+found without orphans | 128 4, 131 4 | 128 131 0 lost+found | 128 131 lost+
 lost+found is a second name | 128 4, 150 4 | 128 150 0 a, 128 150 0 lost+found | 128 150 a | 128 128  150 128 | | -
 a file with names in two directories | 128 4, 131 4, 140 8 | 128 131 0 a, 128 140 0 b, 131 140 0 c | 128 131 a  128 140 b  131 140 c | 128 128  131 128 | | -
 a name of a file that is not kept | 128 4 | 128 140 0 a | | 128 128 | | -
+a root without its entries | 128 4, 140 8, 150 4, 151 4 | 150 151 0 a, 151 140 0 b | 150 151 a  151 140 b | 128 128  151 150 | 150 150 | -
+a directory with a lesser number than the root | 100 4, 128 4, 150 4 | 100 150 0 x, 128 150 0 y | 128 150 y | 128 128  150 128 | 100 100 | -
+a gap among the names that are taken | 128 4, 131 4, 140 8, 141 8 | 128 131 0 lost+found, 131 141 0 140, 131 141 0 140.2 | 128 131 lost+found  131 141 140  131 141 140.2 | 128 128  131 128 | 140 140.1 | 131
+only a later name is taken | 128 4, 131 4, 140 8, 141 8 | 128 131 0 lost+found, 131 141 0 140.1 | 128 131 lost+found  131 141 140.1 | 128 128  131 128 | 140 140 | 131
+another file under the number of an orphan | 128 4, 131 4, 140 8, 141 8, 142 8 | 128 131 0 lost+found, 131 142 0 141 | 128 131 lost+found  131 142 141 | 128 128  131 128 | 140 140  141 141.1 | 131
+names that differ in case | 128 4, 140 8, 141 8 | 128 140 0 a, 128 141 0 A | 128 140 a  128 141 A | 128 128 | | -
 ";

@@ -1,0 +1,15 @@
+pub mod Hung
+pub mod Naming
+pub mod Numerals
+pub mod Free
+pub mod Different
+pub mod Lost
+pub mod Joining
+pub mod Reaching
+pub mod Once
+pub mod Tests
+pub mod Targets
+pub mod ByDirectory
+pub mod Settling
+pub mod Ascending
+pub mod Cycle

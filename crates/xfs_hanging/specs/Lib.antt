@@ -1,0 +1,4 @@
+pub mod Hanging
+pub mod Together
+pub mod Settled
+pub mod Cycle
