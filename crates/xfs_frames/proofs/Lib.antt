@@ -1,0 +1,15 @@
+pub mod TreesStay
+pub mod Claimed
+pub mod SlotsRead
+pub mod FilesStay
+pub mod FilesKept
+pub mod OwnSlots
+pub mod DirectoriesStay
+pub mod GroupsStay
+pub mod LsnsStay
+pub mod Owned
+pub mod Unfixed
+pub mod SlotsStay
+pub mod PlacesStay
+pub mod ViewsStay
+pub mod ProtectedStay

@@ -1,0 +1,4 @@
+pub mod Same
+pub mod SameFiles
+pub mod NamedBlocks
+pub mod Backups
