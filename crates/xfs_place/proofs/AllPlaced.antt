@@ -3,7 +3,7 @@ use Rattle.std.proofs.Common.{◌≡◌, ℕ, zero, suc, ◌+◌, ◌-◌, ◌*�
 use Rattle.std.specs.List.{All}
 use Rattle.std.proofs.Math.Nat.{mul-le-mul_right}
 use Rattle.std.proofs.lemmas.List.{length-map}
-use Rattle.std.proofs.lemmas.List.Elements.{All-append, All-from_get_or, All-head, All-map, All-nil, All-tail}
+use Rattle.std.proofs.lemmas.List.Elements.{All-from_get_or}
 use Rattle.std.proofs.lemmas.List.Sums.{sum-map, sum_by-cons, sum_by-le}
 use Rattle.xfs_geom.specs.Sums.{free_blocks}
 use Rattle.xfs_geom.specs.Conversions.{group_length}
@@ -14,26 +14,15 @@ use Rattle.xfs_geom.specs.declared.records.Run.{Run}
 use Rattle.xfs_geom.specs.declared.records.Span.{Span}
 use Rattle.xfs_kinds.specs.FreeRuns.{AreSeparate, is_in_spans}
 use Rattle.xfs_volume.specs.declared.groups.TreeBlocks.{TreeBlocks}
-use Rattle.xfs_place.specs.declared.object_placing.AskFor.{AskFor}
 use Rattle.xfs_place.specs.declared.placed.GroupPlaced.{GroupPlaced}
 use Rattle.xfs_place.specs.declared.wanted.GroupInodes.{GroupInodes}
-use Rattle.xfs_place.specs.declared.wanted.Object.{Object}
-use Rattle.xfs_place.specs.declared.wanted.RunAsk.{RunAsk}
 use Rattle.xfs_place.specs.Choice.{Group, IsChosenCount, in_pool, one_if, rank}
 use Rattle.xfs_place.specs.Counts.{tree_block_count, placed_counts, room_placed}
-use Rattle.xfs_place.specs.Objects.{IsAsk, asks_by, asks_of, place_of_object}
 use Rattle.xfs_place.specs.Placing.{IsPlacedGroup, cut, tree_blocks_at, tree_sizes}
 use Rattle.xfs_place.specs.Wanted.{ArePlaced, inodes_in_group, wanted_group}
 use Rattle.xfs_place.proofs.Counted.{ends, in_behind}
 use Rattle.xfs_place.proofs.Found.{one_small, total_small}
 use Rattle.xfs_place.proofs.GroupIs.{length_uses}
-
-pub asks_are : (objects : List Object) → All (λ (o : Object). All IsAsk o.runs) objects → All (λ (a : AskFor). IsAsk a.run) (asks_of objects)
-asks_are [] all = All-nil (λ (a : AskFor). IsAsk a.run)
-asks_are (o ∷ rest) all =
-    All-append (λ (a : AskFor). IsAsk a.run) (asks_by o) (asks_of rest)
-    (All-map (λ (a : AskFor). IsAsk a.run) (λ (r : RunAsk). record { what = place_of_object o.kind o.ino; run = r }) o.runs (All-head (λ (x : Object). All IsAsk x.runs) o rest all))
-    (asks_are rest (All-tail (λ (x : Object). All IsAsk x.runs) o rest all))
 
 -- separate runs before a block have no more blocks than stand before it
 spans_small : (rs : List Span) (low top : ℕ) → AreSeparate low rs → ((b : ℕ) → top ≤ b → is_in_spans rs b ≡ false) → low ≤ top + 1 → free_blocks rs + low ≤ top + 1

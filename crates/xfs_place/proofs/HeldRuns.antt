@@ -1,9 +1,9 @@
 -- What is kept, as one run after another is put behind it.
-use Rattle.std.proofs.Common.{length-append, ◌≡◌, ℕ, zero, suc, ◌+◌, ◌-◌, ◌*◌, ◌/◌, ◌%◌, ◌≤◌, ◌<◌, ◌==◌, inl, inr, Bool, true, false, not, ◌&&◌, ◌||◌, nat_le, nat_lt, if◌then◌else◌, List, [], ◌∷◌, ◌++◌, length, take, drop, get_or, Option, Some, None, Ok, Err, refl, sym, ◌∙◌, ap, ap₂, subst, arith}
+use Rattle.std.proofs.Common.{◌≡◌, ℕ, zero, suc, ◌+◌, ◌-◌, ◌*◌, ◌/◌, ◌%◌, ◌≤◌, ◌<◌, ◌==◌, inl, inr, Bool, true, false, not, ◌&&◌, ◌||◌, nat_le, nat_lt, if◌then◌else◌, List, [], ◌∷◌, ◌++◌, length, take, Some, None, refl, sym, ◌∙◌, ap, ap₂, arith}
 use Rattle.std.specs.List.{list_all, list_any, range_with_len}
 use Rattle.std.proofs.Math.Nat.{div-add-mod', div-lt_iff_lt-mul, mod-lt, mul-le-mul_right}
 use Rattle.std.proofs.lemmas.Bool.{and_parts, cases_eq, cases_lt, cases_Bool, eqb-false, eqb-true, le-ltb, false_from_ne_true, le-leb, leb-true, lt-ltb, ltb-true, true≢false}
-use Rattle.std.proofs.lemmas.List.{drop_more, take-append-le, take_all}
+use Rattle.std.proofs.lemmas.List.{take-append-le, take_all}
 use Rattle.std.proofs.lemmas.List.Elements.{All-push}
 use Rattle.std.proofs.lemmas.Nat.{mod-mul-add}
 use Rattle.xfs_geom.specs.Runs.{covers, runs_on}
@@ -12,14 +12,14 @@ use Rattle.xfs_geom.specs.Conversions.{group_length, is_fixed}
 use Rattle.xfs_geom.specs.Shape.{HasGroups}
 use Rattle.xfs_geom.specs.Volumes.{Volume}
 use Rattle.xfs_geom.specs.declared.records.Run.{Run}
-use Rattle.xfs_place.specs.declared.object_placing.AskFor.{AskFor}
 use Rattle.xfs_place.specs.declared.uses.Use.{Use}
 use Rattle.xfs_place.specs.declared.uses.Use.TheVariants.{Claimed}
 use Rattle.xfs_place.specs.declared.wanted.RunAsk.{RunAsk}
 use Rattle.xfs_place.specs.Pool.{MarksUses, Shows, is_listed, is_open, is_pool, is_taken, use_at, use_of}
 use Rattle.xfs_place.specs.Choice.{IsLeast, IsNone, in_pool, one_if}
 use Rattle.xfs_place.specs.Claims.{IsClaimedRun}
-use Rattle.xfs_place.specs.Objects.{AllOpen, AreStarts, HasRun, IsAsk, Opens, can_hold_object, first_with, keep_with, lowest_run, most_blocks, run_at, with_start}
+use Rattle.xfs_place.specs.Finding.{AllOpen, Finds, HasRun, Opens}
+use Rattle.xfs_place.specs.Objects.{IsAsk, can_hold_object, first_with, lowest, lowest_run, most_blocks, run_at}
 use Rattle.xfs_place.specs.Wanted.{CanBeKept, IsOffFixed}
 use Rattle.xfs_place.proofs.Found.{one_small}
 use Rattle.xfs_place.proofs.OpenRuns.{open_inside}
@@ -230,6 +230,13 @@ module _ (v : Volume) (groups : HasGroups v.dblocks v.agblocks v.agcount) (kept 
       first_none (can_hold_object v pool from blocks) 0 v.dblocks
       (λ k low before. false_from_ne_true (can_hold_object v pool from blocks k) (λ can. none k (holds_back blocks k many (omega (arith, before)) can)))
 
+  -- the definition finds the lowest runs of open blocks
+  pub finds_lowest : Finds uses (lowest v reserved from kept)
+  finds_lowest = record {
+    there = λ n s many least. lowest_is n s many least;
+    none = λ n many none. lowest_none n many none;
+  }
+
   -- what is kept with one more run
   pub kept_more : (ask : RunAsk) (s : ℕ) → IsAsk ask → HasRun uses ask.blocks s → CanBeKept v kept → CanBeKept v (kept ++ run_at s ask ∷ [])
   kept_more ask s is has old = record {
@@ -294,66 +301,6 @@ opens_first v kept reserved from uses now shows marks = record {
     and_true true = refl
     and_true false = refl
 
--- the runs so far, and those that are left
-pub record Keeping (v : Volume) (reserved : List ℕ) (from : ℕ) (first : List Run) (asks : List AskFor) (i : ℕ) (starts : List ℕ) (all : List Run) (uses : List Use) : Type 0 where
-  pub same : keep_with v reserved from first asks ≡ keep_with v reserved from all (drop i asks)
-  pub kept : CanBeKept v all
-  pub behind : take (length first) all ≡ first
-  pub long : length first ≤ length all
-  pub opens : Opens v all reserved from uses
-  pub starts' : AreStarts uses 65536 starts
-
--- one ask more, by the block where its run begins
-pub keep_next : (v : Volume) (reserved : List ℕ) (from : ℕ) (all : List Run) (asks : List AskFor) (i : ℕ) (d : AskFor) (s : ℕ) → i < length asks
-    → lowest_run v (is_pool v all reserved) from (get_or asks i d).run.blocks ≡ Some s
-    → keep_with v reserved from all (drop i asks) ≡ keep_with v reserved from (all ++ run_at s (get_or asks i d).run ∷ []) (drop (i + 1) asks)
-unfolding keep_with
-keep_next v reserved from all asks i d s in' is =
-    ap (keep_with v reserved from all) (drop_more asks i d in')
-    ∙ ap (λ (o : Option ℕ). with_start o (get_or asks i d).what (λ start. keep_with v reserved from (all ++ run_at start (get_or asks i d).run ∷ []) (drop (i + 1) asks))) is
-
--- or by its place, where it has none
-pub keep_none : (v : Volume) (reserved : List ℕ) (from : ℕ) (all : List Run) (asks : List AskFor) (i : ℕ) (d : AskFor) → i < length asks
-    → lowest_run v (is_pool v all reserved) from (get_or asks i d).run.blocks ≡ None → keep_with v reserved from all (drop i asks) ≡ Err (get_or asks i d).what
-unfolding keep_with
-keep_none v reserved from all asks i d in' is =
-    ap (keep_with v reserved from all) (drop_more asks i d in')
-    ∙ ap (λ (o : Option ℕ). with_start o (get_or asks i d).what (λ start. keep_with v reserved from (all ++ run_at start (get_or asks i d).run ∷ []) (drop (i + 1) asks))) is
-
-pub keep_all : (v : Volume) (reserved : List ℕ) (from : ℕ) (all : List Run) (asks : List AskFor) → asks ≡ [] → keep_with v reserved from all asks ≡ Ok all
-unfolding keep_with
-keep_all v reserved from all asks none = ap (keep_with v reserved from all) none
-
 -- a list of uses that is written back as a whole
 pub written : {X : Type 0} (n : ℕ) (new rest : List X) → n ≡ length new → take n (new ++ rest) ≡ new
 written n new rest long = take-append-le n new rest (omega (arith, long)) ∙ take_all n new (omega (arith, long))
-
--- nothing is placed yet
-pub keeping_first : (v : Volume) (reserved : List ℕ) (from : ℕ) (first : List Run) (asks : List AskFor) (uses marked now : List Use) → CanBeKept v first
-    → Shows uses v.dblocks (use_of v first reserved) → MarksUses uses marked (λ b. nat_lt (b % v.agblocks) from) Claimed → now ≡ marked → (starts : List ℕ) → AreStarts now 65536 starts → Keeping v reserved from first asks 0 starts first now
-keeping_first v reserved from first asks uses marked now kept shows marks is starts none = record {
-  same = refl;
-  kept = kept;
-  behind = take_all (length first) first (omega arith);
-  long = omega arith;
-  opens = subst (Opens v first reserved from) (sym is) (opens_first v first reserved from uses marked shows marks);
-  starts' = none;
-}
-
--- the run is put behind the others
-pub keeping_next : (v : Volume) (groups : HasGroups v.dblocks v.agblocks v.agcount) (reserved : List ℕ) (from : ℕ) (first : List Run) (asks : List AskFor) (i : ℕ) (starts next : List ℕ) (all now : List Run) (uses marked written : List Use)
-    (d : AskFor) (s : ℕ) → Keeping v reserved from first asks i starts all uses → i < length asks → IsAsk (get_or asks i d).run → AreStarts marked 65536 next
-    → IsLeast (HasRun uses (get_or asks i d).run.blocks) s → MarksUses uses marked (is_in_range s (get_or asks i d).run.blocks) Claimed → now ≡ all ++ run_at s (get_or asks i d).run ∷ [] → written ≡ marked
-    → Keeping v reserved from first asks (i + 1) next now written
-keeping_next v groups reserved from first asks i starts next all now uses marked written d s old in' ask none least marks put is =
-    let a = get_or asks i d in
-    record {
-      same = old.same ∙ keep_next v reserved from all asks i d s in' (lowest_is v groups all reserved from uses old.opens a.run.blocks s ask.some least)
-          ∙ ap (λ (rs : List Run). keep_with v reserved from rs (drop (i + 1) asks)) (sym put);
-      kept = subst (CanBeKept v) (sym put) (kept_more v groups all reserved from uses old.opens a.run s ask least.0 old.kept);
-      behind = ap (take (length first)) put ∙ take-append-le (length first) all (run_at s a.run ∷ []) old.long ∙ old.behind;
-      long = let more = ap length put ∙ length-append all (run_at s a.run ∷ []) in omega (arith, more, old.long);
-      opens = subst (λ (us : List Use). Opens v now reserved from us) (sym is)
-          (subst (λ (rs : List Run). Opens v rs reserved from marked) (sym put) (opens_more v groups all reserved from uses old.opens a.run s marked marks));
-      starts' = subst (λ (us : List Use). AreStarts us 65536 next) (sym is) none;
-    }

@@ -21,6 +21,8 @@ pub mod KeptRun
 pub mod Counted
 pub mod OpenRuns
 pub mod HeldRuns
+pub mod LongRuns
+pub mod Pieces
 pub mod AllPlaced
 pub mod OfPool
 pub mod Parted

@@ -8,7 +8,7 @@ use Rattle.xfs_place.specs.declared.uses.Use.{Use}
 use Rattle.xfs_place.specs.declared.uses.Use.TheVariants.{Claimed}
 use Rattle.xfs_place.specs.Pool.{MarksUses, is_open, use_at}
 use Rattle.xfs_place.specs.Choice.{IsLeast, in_pool}
-use Rattle.xfs_place.specs.Objects.{AllOpen, AreStarts, HasRun, NoRoomBefore}
+use Rattle.xfs_place.specs.Finding.{AllOpen, AreStarts, HasRun, NoneBefore}
 
 pub closed_beyond : (uses : List Use) (b : ℕ) → length uses ≤ b → in_pool uses b ≡ false
 closed_beyond uses b far = ap is_open (get_or_past uses b Claimed far)
@@ -34,15 +34,15 @@ still_open uses now test b marks here = by_case (use_at uses b) (use_at now b) (
     by_case u v true is open' = absurd (true≢false (sym open' ∙ ap is_open is))
     by_case u v false is open' = (refl, sym (ap is_open is) ∙ open')
 
-none_stays : (uses now : List Use) (test : ℕ → Bool) (blocks at : ℕ) → MarksUses uses now test Claimed → NoRoomBefore uses blocks at → NoRoomBefore now blocks at
+none_stays : (uses now : List Use) (test : ℕ → Bool) (blocks at : ℕ) → MarksUses uses now test Claimed → NoneBefore uses blocks at → NoneBefore now blocks at
 none_stays uses now test blocks at marks none = λ s low all. none s low (λ b from to. (still_open uses now test b marks (all b from to)).1)
 
 -- longer runs begin there neither
-pub none_longer : (uses : List Use) (blocks more at : ℕ) → blocks ≤ more → NoRoomBefore uses blocks at → NoRoomBefore uses more at
+pub none_longer : (uses : List Use) (blocks more at : ℕ) → blocks ≤ more → NoneBefore uses blocks at → NoneBefore uses more at
 none_longer uses blocks more at few none = λ s low all. none s low (λ b from to. all b from (omega (arith, to, few)))
 
 -- behind the lowest run that is given away no other of its length begins before its end
-none_behind : (uses now : List Use) (blocks s : ℕ) → 1 ≤ blocks → IsLeast (HasRun uses blocks) s → MarksUses uses now (is_in_range s blocks) Claimed → NoRoomBefore now blocks (s + blocks)
+none_behind : (uses now : List Use) (blocks s : ℕ) → 1 ≤ blocks → IsLeast (HasRun uses blocks) s → MarksUses uses now (is_in_range s blocks) Claimed → NoneBefore now blocks (s + blocks)
 none_behind uses now blocks s some least marks = λ t before all. elim (cases_lt t s) [
   | inl low ↦ least.1 t low (least.0.0, λ b from to. (still_open uses now (is_in_range s blocks) b marks (all b from to)).1)
   | inr high ↦
@@ -63,17 +63,17 @@ starts_next uses now starts next blocks s slot value some old least marks at is 
   each = λ n low one. elim (cases_eq n slot) [
     | inl same ↦
         let here : get_or next n 0 ≡ value = ap (λ (xs : List ℕ). get_or xs n 0) put ∙ ap (λ (k : ℕ). get_or (set starts slot value) k 0) same ∙ get_or-set_same starts slot value 0 (omega (arith, at, old.all)) in
-        subst (NoRoomBefore now n) (sym here) (by_case (nat_lt blocks 65536) refl n same low one is)
+        subst (NoneBefore now n) (sym here) (by_case (nat_lt blocks 65536) refl n same low one is)
     | inr other ↦
         let there : get_or next n 0 ≡ get_or starts n 0 = ap (λ (xs : List ℕ). get_or xs n 0) put ∙ get_or-set_other starts slot n value 0 other in
-        subst (NoRoomBefore now n) (sym there) (none_stays uses now (is_in_range s blocks) n (get_or starts n 0) marks (old.each n low one))
+        subst (NoneBefore now n) (sym there) (none_stays uses now (is_in_range s blocks) n (get_or starts n 0) marks (old.each n low one))
   ];
 }
   where
-    by_case : (t : Bool) → nat_lt blocks 65536 ≡ t → (n : ℕ) → n ≡ slot → n < 65536 → 1 ≤ n → value ≡ (if t then s + blocks else get_or starts slot 0) → NoRoomBefore now n value
+    by_case : (t : Bool) → nat_lt blocks 65536 ≡ t → (n : ℕ) → n ≡ slot → n < 65536 → 1 ≤ n → value ≡ (if t then s + blocks else get_or starts slot 0) → NoneBefore now n value
     by_case true short n same low one is' =
         let few : blocks < 65536 = ltb-true blocks 65536 short in
         let whole : blocks ≡ n = omega (arith, same, at, few) in
-        subst (NoRoomBefore now n) (sym is') (subst (λ (k : ℕ). NoRoomBefore now k (s + blocks)) whole (none_behind uses now blocks s some least marks))
+        subst (NoneBefore now n) (sym is') (subst (λ (k : ℕ). NoneBefore now k (s + blocks)) whole (none_behind uses now blocks s some least marks))
     by_case false long n same low one is' =
-        subst (NoRoomBefore now n) (ap (λ (k : ℕ). get_or starts k 0) same ∙ sym is') (none_stays uses now (is_in_range s blocks) n (get_or starts n 0) marks (old.each n low one))
+        subst (NoneBefore now n) (ap (λ (k : ℕ). get_or starts k 0) same ∙ sym is') (none_stays uses now (is_in_range s blocks) n (get_or starts n 0) marks (old.each n low one))

@@ -5,5 +5,6 @@ pub mod Claims
 pub mod Placing
 pub mod Wanted
 pub mod Objects
+pub mod Finding
 pub mod Counts
 pub mod Standing

@@ -1,5 +1,5 @@
 -- Where the runs of objects stand.
-use Rattle.std.specs.Prelude.{◌≡◌, ℕ, zero, suc, Bool, true, false, ◌+◌, ◌/◌, ◌%◌, ◌^◌, ◌≤◌, ◌<◌, ◌&&◌, nat_le, if◌then◌else◌, List, [], ◌∷◌, ◌++◌, length, map, Option, Some, None, Result, Ok, Err, slice_index}
+use Rattle.std.specs.Prelude.{◌≡◌, ℕ, zero, suc, Bool, true, false, ◌+◌, ◌-◌, ◌/◌, ◌%◌, ◌^◌, ◌≤◌, ◌&&◌, ◌==◌, nat_le, nat_lt, min, if◌then◌else◌, List, [], ◌∷◌, ◌++◌, length, take, drop, Option, Some, None, Result, Ok, Err}
 use Rattle.std.specs.List.{flat_map, list_all, range_with_len}
 use Rattle.xfs_geom.specs.Conversions.{group_length}
 use Rattle.xfs_geom.specs.Volumes.{Volume}
@@ -7,14 +7,11 @@ use Rattle.xfs_geom.specs.declared.records.Run.{Run}
 use Rattle.xfs_kinds.specs.OffsetWords.{offset_in_fork, is_file_data}
 use Rattle.xfs_place.specs.declared.faults.Unplaced.{Unplaced}
 use Rattle.xfs_place.specs.declared.faults.Unplaced.TheVariants.{Directory, File}
-use Rattle.xfs_place.specs.declared.object_placing.AskFor.{AskFor}
-use Rattle.xfs_place.specs.declared.uses.Use.{Use}
 use Rattle.xfs_place.specs.declared.wanted.Object.{Object}
 use Rattle.xfs_place.specs.declared.wanted.ObjectKind.{ObjectKind}
 use Rattle.xfs_place.specs.declared.wanted.ObjectKind.TheVariants as kinds
 use Rattle.xfs_place.specs.declared.wanted.RunAsk.{RunAsk}
 use Rattle.xfs_place.specs.Pool.{is_pool}
-use Rattle.xfs_place.specs.Choice.{in_pool}
 
 -- a run that is asked for has some blocks; the offsets of data of a file stay below the flags of an offset word, and other blocks have no
 -- offset
@@ -41,51 +38,93 @@ can_hold_object v pool from blocks b =
 unfoldable pub lowest_run : Volume → (ℕ → Bool) → ℕ → ℕ → Option ℕ
 lowest_run v pool from blocks = first_with (can_hold_object v pool from blocks) 0 v.dblocks
 
--- what a run of an object is named by where it finds no room
-abbrev pub place_of_object : ObjectKind → ℕ → Unplaced
-place_of_object kinds.Directory ino = Directory ino
-place_of_object kinds.Symlink ino = File ino
-place_of_object kinds.Data ino = File ino
+-- the most blocks of an extent (chapter "Data Extents")
+abbrev pub extent_blocks : ℕ
+extent_blocks = 2097151
 
-abbrev pub asks_by : Object → List AskFor
-asks_by o = map (λ (r : RunAsk). record { what = place_of_object o.kind o.ino; run = r }) o.runs
+-- a run by its first block and its blocks: one of so many where it is found, else the other
+abbrev pub found_or : Option ℕ → ℕ → Option (ℕ × ℕ) → Option (ℕ × ℕ)
+found_or (Some start) blocks other = Some (start, blocks)
+found_or None blocks other = other
 
--- all runs that are asked for, in order
-abbrev pub asks_of : List Object → List AskFor
-asks_of objects = flat_map asks_by objects
+module _ (low : ℕ → Option ℕ) where
+  -- the longest run of at most so many blocks, and of those the lowest, where `low` finds the lowest run of each number of blocks
+  unfoldable pub longest_run : ℕ → Option (ℕ × ℕ)
+  longest_run zero = None
+  longest_run (suc n) = found_or (low (suc n)) (suc n) (longest_run n)
+
+  -- a run for all of so many blocks, which is an extent where others of the ask stand elsewhere; where there is none, the longest extent for
+  -- some of them
+  abbrev pub piece_of : Bool → ℕ → Option (ℕ × ℕ)
+  piece_of split blocks = found_or (if split && nat_lt extent_blocks blocks then None else low blocks) blocks (longest_run (min (blocks - 1) extent_blocks))
 
 -- the run that an ask gets from a block on
 abbrev pub run_at : ℕ → RunAsk → Run
 run_at start ask = record { start = start; count = ask.blocks; owner = ask.owner; offset_word = ask.offset_word }
 
-abbrev pub with_start : Option ℕ → Unplaced → (ℕ → Result (List Run) Unplaced) → Result (List Run) Unplaced
-with_start None what next = Err what
-with_start (Some start) what next = next start
+-- the first blocks that are asked for
+abbrev pub front_of : RunAsk → ℕ → RunAsk
+front_of ask blocks = record { blocks = blocks; owner = ask.owner; offset_word = ask.offset_word }
+
+-- those behind them: the offset of data of a file goes up with the block
+abbrev pub rest_of : RunAsk → ℕ → RunAsk
+rest_of ask blocks = record {
+  blocks = ask.blocks - blocks;
+  owner = ask.owner;
+  offset_word = if is_file_data ask.owner ask.offset_word then ask.offset_word + blocks else ask.offset_word;
+}
+
+abbrev pub with_piece : Option (ℕ × ℕ) → (ℕ → ℕ → Option (List Run)) → Option (List Run)
+with_piece None next = None
+with_piece (Some (start, blocks)) next = next start blocks
+
+abbrev pub with_kept : Option (List Run) → (List Run → Option (List Run)) → Option (List Run)
+with_kept None next = None
+with_kept (Some kept) next = next kept
+
+-- what an object is named by where it finds no room
+abbrev pub place_of_object : ObjectKind → ℕ → Unplaced
+place_of_object kinds.Directory ino = Directory ino
+place_of_object kinds.Symlink ino = File ino
+place_of_object kinds.Data ino = File ino
+
+abbrev pub or_no_room : Option (List Run) → Unplaced → (List Run → Result (List Run) Unplaced) → Result (List Run) Unplaced
+or_no_room None what next = Err what
+or_no_room (Some kept) what next = next kept
 
 module _ (v : Volume) (reserved : List ℕ) (from : ℕ) where
-  -- what is kept, with a run behind it for each ask in order: the lowest of what those before it leave of the pool; or the first ask that has
-  -- none
-  unfoldable pub keep_with : List Run → List AskFor → Result (List Run) Unplaced
+  -- the lowest run of the pool that what is kept leaves, for each number of blocks
+  abbrev pub lowest : List Run → ℕ → Option ℕ
+  lowest kept blocks = lowest_run v (is_pool v kept reserved) from blocks
+
+  -- what is kept, with the runs of an ask behind it, of which there may be so many; none where they do not hold it
+  unfoldable pub keep_pieces : ℕ → Bool → List Run → RunAsk → Option (List Run)
+  keep_pieces zero split kept ask = None
+  keep_pieces (suc more) split kept ask = with_piece (piece_of (lowest kept) split ask.blocks) (λ start blocks.
+      if blocks == ask.blocks then Some (kept ++ run_at start ask ∷ []) else keep_pieces more true (kept ++ run_at start (front_of ask blocks) ∷ []) (rest_of ask blocks))
+
+  -- the same for asks in order, which may take so many runs together: each those that are left, but for one for each ask behind it
+  unfoldable pub keep_asks : ℕ → List Run → List RunAsk → Option (List Run)
+  keep_asks left kept [] = Some kept
+  keep_asks left kept (ask ∷ rest) = with_kept (keep_pieces (left - length rest) false kept ask) (λ all. keep_asks (left - (length all - length kept)) all rest)
+
+  -- what is kept, with the runs of all objects in order; or the first object that finds no room
+  unfoldable pub keep_with : List Run → List Object → Result (List Run) Unplaced
   keep_with kept [] = Ok kept
-  keep_with kept (a ∷ rest) = with_start (lowest_run v (is_pool v kept reserved) from a.run.blocks) a.what (λ start. keep_with (kept ++ run_at start a.run ∷ []) rest)
+  keep_with kept (o ∷ rest) = or_no_room (keep_asks o.most kept o.runs) (place_of_object o.kind o.ino) (λ all. keep_with all rest)
 
--- so many blocks from a block on are open in a list of uses
-abbrev pub AllOpen : List Use → ℕ → ℕ → Type 0
-AllOpen uses start blocks = (b : ℕ) → start ≤ b → b < start + blocks → in_pool uses b ≡ true
+-- all runs that are asked for, in order
+abbrev pub asks_of : List Object → List RunAsk
+asks_of objects = flat_map (λ (o : Object). o.runs) objects
 
-abbrev pub HasRun : List Use → ℕ → ℕ → Type 0
-HasRun uses blocks start = (blocks ≤ most_blocks) × AllOpen uses start blocks
+-- the runs are those of an ask from its first block to its last
+abbrev pub AreJoined : RunAsk → List Run → Type 0
+AreJoined ask [] = ask.blocks ≡ 0
+AreJoined ask (r ∷ rest) = (r ≡ run_at r.start (front_of ask r.count)) × (r.count ≤ ask.blocks) × AreJoined (rest_of ask r.count) rest
 
--- no run of so many open blocks begins before a block
-abbrev pub NoRoomBefore : List Use → ℕ → ℕ → Type 0
-NoRoomBefore uses blocks at = (b : ℕ) → b < at → AllOpen uses b blocks → ⊥
-
--- for each number of blocks below a bound, a block before which no run of so many open blocks begins
-pub record AreStarts (uses : List Use) (bound : ℕ) (starts : List ℕ) : Type 0 where
-  pub all : length starts ≡ bound
-  pub each : (n : ℕ) → n < bound → 1 ≤ n → NoRoomBefore uses n (slice_index starts n)
-
--- a list of uses that is open where the pool is, but for the blocks of each group before AG block `from`
-pub record Opens (v : Volume) (kept : List Run) (reserved : List ℕ) (from : ℕ) (uses : List Use) : Type 0 where
-  pub all : length uses ≡ v.dblocks
-  pub each : (b : ℕ) → b < v.dblocks → in_pool uses b ≡ (is_pool v kept reserved b && nat_le from (b % v.agblocks))
+-- as many of the runs as the first number says are those of the first ask, and so on
+abbrev pub AreCuts : List RunAsk → List ℕ → List Run → Type 0
+AreCuts [] [] runs = runs ≡ []
+AreCuts [] (n ∷ cuts) runs = ⊥
+AreCuts (ask ∷ asks) [] runs = ⊥
+AreCuts (ask ∷ asks) (n ∷ cuts) runs = (n ≤ length runs) × AreJoined ask (take n runs) × AreCuts asks cuts (drop n runs)

@@ -12,7 +12,7 @@ use Rattle.xfs_place.specs.declared.placed.GroupPlaced.{GroupPlaced}
 use Rattle.xfs_place.specs.declared.faults.Unplaced.{Unplaced}
 use Rattle.xfs_place.specs.declared.wanted.GroupInodes.{GroupInodes}
 use Rattle.xfs_place.specs.declared.wanted.Wanted.{Wanted}
-use Rattle.xfs_place.specs.Objects.{asks_of, keep_with}
+use Rattle.xfs_place.specs.Objects.{keep_with}
 use Rattle.xfs_place.specs.Placing.{IsPlacedGroup, inner_blocks}
 use Rattle.xfs_place.specs.declared.uses.Use.{Use}
 use Rattle.xfs_place.specs.Pool.{use_of}
@@ -87,7 +87,7 @@ kept_runs w = w.taken ++ w.new
 
 -- the same with the runs of the objects; or the first object that finds no room
 abbrev pub all_kept : Wanted → Result (List Run) Unplaced
-all_kept w = keep_with (volume_of w.geometry) w.reserved w.from (kept_runs w) (asks_of w.objects)
+all_kept w = keep_with (volume_of w.geometry) w.reserved w.from (kept_runs w) w.objects
 
 -- the first group whose trees have no room
 pub record IsWithoutRoom (v : Volume) (kept : List Run) (reserved : List ℕ) (inodes : List GroupInodes) (ag : ℕ) : Type 0 where

@@ -22,6 +22,7 @@ mod group_lists;
 mod group_placing;
 mod lowest;
 mod object_placing;
+mod open_blocks;
 mod owned;
 mod placed;
 mod placing;

@@ -1,57 +1,190 @@
 //! The runs of objects, one after another.
 
-ghost use Rattle.std.specs.Prelude.{◌≡◌, ◌≤◌, ◌<◌, ◌+◌, ◌++◌, ◌%◌, ◌^◌, ◌⊎◌, ℕ, min, nat_lt, slice_index, if◌then◌else◌, length, take, All, IfErr, IfOk, IfSome, MatchOption, OnOk, Ok, Err};
+ghost use Rattle.std.specs.Prelude.{◌≡◌, ◌≤◌, ◌<◌, ◌+◌, ◌-◌, ◌++◌, [], ◌∷◌, ◌⊎◌, ℕ, List, Option, if◌then◌else◌, is_some, length, take, drop, true, false, All, IfErr, IfOk, OnOk, MatchOption, Ok, Err, Some, None};
 ghost use Rattle.xfs_geom.specs.Volumes.{volume_of};
-ghost use Rattle.xfs_place.specs.Choice.{IsLeast, IsNone};
-ghost use Rattle.xfs_place.specs.Objects.{HasRun, IsAsk, NoRoomBefore, asks_by, asks_of, keep_with, place_of_object, run_at};
-ghost use Rattle.xfs_place.specs.Pool.{MarksUses};
+ghost use Rattle.xfs_place.specs.Finding.{IsOpen};
+ghost use Rattle.xfs_place.specs.Objects.{AreCuts, IsAsk, asks_of, front_of, keep_asks, keep_pieces, keep_with, lowest, piece_of, place_of_object, rest_of, run_at};
 ghost use Rattle.xfs_place.specs.Wanted.{CanBeKept};
 ghost use Rattle.xfs_place.specs.declared.faults.Unplaced.{Unplaced};
-ghost use Rattle.xfs_place.specs.declared.uses.Use.TheVariants.{Claimed};
+ghost use Rattle.xfs_place.specs.declared.wanted.RunAsk.{RunAsk};
+ghost use Rattle.xfs_kinds.specs.OffsetWords.{is_file_data};
 
 use crate::faults::{PlaceFault, Unplaced};
-use crate::uses::{Use, is_open, list_uses, mark};
+use crate::open_blocks::{OpenBlocks, Site};
 use crate::wanted::{Object, ObjectKind, RunAsk};
 use std::alloc::Global;
 use xfs_disk::NoMemory;
-use xfs_geom::{Geometry, Run};
+use xfs_geom::Run;
 
-/// The most blocks of a run: 21 extents of 2^21 - 1 blocks fill a fork.
-const MOST_BLOCKS: u64 = 21 * ((1 << 21) - 1);
+/// The owners that are inodes are below this number.
+const NEGATIVE: u64 = 1 << 63;
 
-/// For each length below this it is kept before which block no run of that length begins, so that runs of one length
-/// are looked for in one pass over the volume.
-const LENGTHS: usize = 1 << 16;
+/// The flag of a block of a fork's extent tree in an offset word.
+const TREE_BLOCK: u64 = 1 << 62;
 
-/// A run that is asked for, and what it is for.
-#[derive(Clone, Copy)]
-pub struct AskFor {
-    pub what: Unplaced,
-    pub run: RunAsk,
+/// What is kept, with the runs of objects behind it.
+#[derive(Drop)]
+pub struct ObjectsKept {
+    pub all: Vec<Run>,
+    /// How many runs each ask has, in order.
+    pub cuts: Vec<u32>,
 }
 
-/// All runs that are asked for, in order.
-pub fn list_asks(alloc: Global, objects: &[Object]) -> Result<Vec<AskFor>, NoMemory>
-    ensures { IfOk result (λ asks. asks.items ≡ asks_of objects.now) }
+/// What is kept so far, and the blocks that it leaves.
+#[derive(Drop)]
+pub struct Keeper {
+    pub pool: OpenBlocks,
+    pub all: Vec<Run>,
+}
+
+/// Adds to what is kept the runs of all objects, in order.
+///
+/// `NoRoom` of the first object that has none; `NoMemory` where memory is wanting.
+pub fn keep_with(
+    alloc: Global,
+    site: &Site<'_>,
+    kept: Vec<Run>,
+    objects: &[Object],
+) -> Result<ObjectsKept, PlaceFault>
+    requires kept { CanBeKept (volume_of site.now.geometry.now) kept.items }
+    requires asks { All (λ object. All IsAsk object.runs) objects.now }
+    ensures placed { IfOk result (λ now. keep_with (volume_of site.now.geometry.now) site.now.reserved.now site.now.from kept.items objects.now ≡ Ok now.all.items) }
+    ensures kept { IfOk result (λ now. CanBeKept (volume_of site.now.geometry.now) now.all.items) }
+    ensures behind { IfOk result (λ now. take (length kept.items) now.all.items ≡ kept.items) }
+    ensures cuts { IfOk result (λ now. AreCuts (asks_of objects.now) now.cuts.items (drop (length kept.items) now.all.items)) }
+    ensures cause { IfErr result (λ fault. (fault ≡ PlaceFault.NoMemory)
+        ⊎ ((what : Unplaced) × (fault ≡ PlaceFault.NoRoom what) × (keep_with (volume_of site.now.geometry.now) site.now.reserved.now site.now.from kept.items objects.now ≡ Err what))) }
 {
-    let mut asks = Vec::new(alloc);
+    let first = kept.len();
+    let pool = OpenBlocks::new(alloc, site, &kept)?;
+    let mut keeper = Keeper { pool, all: kept };
+    let mut cuts = Vec::new(alloc);
     for object in objects {
-        push_asks(&mut asks, object)?;
+        if !keeper.put_object(&mut cuts, site, object, first)? {
+            return Err(PlaceFault::NoRoom(place_of_object(object)));
+        }
     }
-    Ok(asks)
+    let Keeper { all, .. } = keeper;
+    Ok(ObjectsKept { all, cuts })
 }
 
-/// Adds the runs of an object.
-fn push_asks(asks: &mut Vec<AskFor>, object: &Object) -> Result<(), NoMemory>
-    ensures { OnOk result (asks.new.items ≡ asks.old.items ++ asks_by object.now) }
-{
-    for run in object.runs.as_slice() {
-        asks.push(AskFor {
-            what: place_of_object(object),
-            run: *run,
-        })?;
+impl Keeper {
+    /// Adds the runs of an object, and how many each of its asks has; false where they do not hold it. The runs from number `first` on
+    /// are those of objects.
+    fn put_object(
+        &mut self,
+        cuts: &mut Vec<u32>,
+        site: &Site<'_>,
+        object: &Object,
+        first: usize,
+    ) -> Result<bool, NoMemory>
+        requires asks { All IsAsk object.now.runs }
+        requires first { first ≤ length self.old.all.items }
+        requires kept { CanBeKept (volume_of site.now.geometry.now) self.old.all.items }
+        requires pool { IsOpen (volume_of site.now.geometry.now) self.old.all.items site.now.reserved.now site.now.from self.old.pool }
+        ensures kept { OnOk result (CanBeKept (volume_of site.now.geometry.now) self.new.all.items) }
+        ensures pool { OnOk result (IsOpen (volume_of site.now.geometry.now) self.new.all.items site.now.reserved.now site.now.from self.new.pool) }
+        ensures placed { IfOk result (λ placed. keep_asks (volume_of site.now.geometry.now) site.now.reserved.now site.now.from object.now.most self.old.all.items object.now.runs
+            ≡ (if placed then Some self.new.all.items else None)) }
+        ensures long { OnOk result (length self.old.all.items ≤ length self.new.all.items) }
+        ensures cuts { IfOk result (λ placed. placed ≡ true → (asks : List RunAsk) → AreCuts asks cuts.old.items (drop first self.old.all.items)
+            → AreCuts (asks ++ object.now.runs) cuts.new.items (drop first self.new.all.items)) }
+    {
+        let asks = object.runs.as_slice();
+        let mut left = object.most as usize;
+        for (i, ask) in asks.iter().enumerate() {
+            let most = left.saturating_sub(asks.len() - 1 - i);
+            let Some(count) = self.put_ask(site, ask, most)? else {
+                return Ok(false);
+            };
+            cuts.push(count as u32)?;
+            left -= count;
+        }
+        Ok(true)
     }
-    Ok(())
+
+    /// Adds the runs of an ask, which may be so many, and says how many they are; `None` where they do not hold it.
+    fn put_ask(
+        &mut self,
+        site: &Site<'_>,
+        ask: &RunAsk,
+        most: usize,
+    ) -> Result<Option<usize>, NoMemory>
+        requires ask { IsAsk ask.now }
+        requires kept { CanBeKept (volume_of site.now.geometry.now) self.old.all.items }
+        requires pool { IsOpen (volume_of site.now.geometry.now) self.old.all.items site.now.reserved.now site.now.from self.old.pool }
+        ensures kept { OnOk result (CanBeKept (volume_of site.now.geometry.now) self.new.all.items) }
+        ensures pool { OnOk result (IsOpen (volume_of site.now.geometry.now) self.new.all.items site.now.reserved.now site.now.from self.new.pool) }
+        ensures placed { IfOk result (λ count. keep_pieces (volume_of site.now.geometry.now) site.now.reserved.now site.now.from most false self.old.all.items ask.now
+            ≡ (if is_some count then Some self.new.all.items else None)) }
+        ensures count { IfOk result (λ count. MatchOption count (Unit {0}) (λ n. length self.new.all.items ≡ length self.old.all.items + n)) }
+        ensures few { IfOk result (λ count. MatchOption count (Unit {0}) (λ n. n ≤ most)) }
+        ensures long { OnOk result (length self.old.all.items ≤ length self.new.all.items) }
+    {
+        let mut rest = *ask;
+        for n in 0..most {
+            let Some(blocks) = self.put_piece(site, &rest, n > 0)? else {
+                return Ok(None);
+            };
+            if blocks == rest.blocks {
+                return Ok(Some(n + 1));
+            }
+            rest = rest_of(&rest, blocks);
+        }
+        Ok(None)
+    }
+
+    /// Adds a run for all that is asked for or for its first blocks, and says how many these are; `None` where no block is left.
+    fn put_piece(
+        &mut self,
+        site: &Site<'_>,
+        ask: &RunAsk,
+        split: bool,
+    ) -> Result<Option<u32>, NoMemory>
+        requires ask { IsAsk ask.now }
+        requires kept { CanBeKept (volume_of site.now.geometry.now) self.old.all.items }
+        requires pool { IsOpen (volume_of site.now.geometry.now) self.old.all.items site.now.reserved.now site.now.from self.old.pool }
+        ensures kept { OnOk result (CanBeKept (volume_of site.now.geometry.now) self.new.all.items) }
+        ensures pool { OnOk result (IsOpen (volume_of site.now.geometry.now) self.new.all.items site.now.reserved.now site.now.from self.new.pool) }
+        ensures piece { IfOk result (λ blocks. MatchOption blocks
+            ((piece_of (lowest (volume_of site.now.geometry.now) site.now.reserved.now site.now.from self.old.all.items) split ask.now.blocks ≡ None) × (self.new.all.items ≡ self.old.all.items))
+            (λ n. (start : ℕ) × (piece_of (lowest (volume_of site.now.geometry.now) site.now.reserved.now site.now.from self.old.all.items) split ask.now.blocks ≡ Some (start, n))
+            × (self.new.all.items ≡ self.old.all.items ++ run_at start (front_of ask.now n) ∷ []))) }
+        ensures few { IfOk result (λ blocks. MatchOption blocks (Unit {0}) (λ n. (1 ≤ n) × (n ≤ ask.now.blocks))) }
+    {
+        let Some(piece) = self.pool.piece(ask.blocks as u64, split) else {
+            return Ok(None);
+        };
+        let (start, blocks) = (piece.start, piece.blocks);
+        self.pool.take(start, blocks);
+        self.all.push(run_of(start, blocks, ask))?;
+        Ok(Some(blocks as u32))
+    }
+}
+
+/// What is asked for behind its first blocks.
+fn rest_of(ask: &RunAsk, blocks: u32) -> RunAsk
+    requires few { blocks ≤ ask.now.blocks }
+    requires fits { IsAsk ask.now }
+    ensures { result ≡ rest_of ask.now blocks }
+{
+    let offset = if is_file_data(ask) {
+        ask.offset_word + blocks as u64
+    } else {
+        ask.offset_word
+    };
+    RunAsk {
+        blocks: ask.blocks - blocks,
+        owner: ask.owner,
+        offset_word: offset,
+    }
+}
+
+/// Whether the blocks hold data of a file, or of its attributes, so that their offsets go up.
+fn is_file_data(ask: &RunAsk) -> bool
+    ensures { result ≡ is_file_data ask.now.owner ask.now.offset_word }
+{
+    ask.owner < NEGATIVE && ask.offset_word / TREE_BLOCK % 2 == 0
 }
 
 /// What the runs of an object are for.
@@ -64,116 +197,13 @@ fn place_of_object(object: &Object) -> Unplaced
     }
 }
 
-/// Adds to what is kept a run for each ask, in order: each the lowest run of its length of what is left of the pool,
-/// inside one allocation group, that does not begin before AG block `from`.
-///
-/// `NoRoom` of the first ask that has none; `NoMemory` where memory is wanting.
-pub fn keep_with(
-    alloc: Global,
-    g: &Geometry,
-    kept: Vec<Run>,
-    reserved: &[u64],
-    from: u32,
-    asks: &[AskFor],
-) -> Result<Vec<Run>, PlaceFault>
-    requires kept { CanBeKept (volume_of g.now) kept.items }
-    requires asks { All (λ ask. IsAsk ask.run) asks.now }
-    ensures placed { IfOk result (λ all. keep_with (volume_of g.now) reserved.now from kept.items asks.now ≡ Ok all.items) }
-    ensures kept { IfOk result (λ all. CanBeKept (volume_of g.now) all.items) }
-    ensures behind { IfOk result (λ all. take (length kept.items) all.items ≡ kept.items) }
-    ensures cause { IfErr result (λ fault. (fault ≡ PlaceFault.NoMemory)
-        ⊎ ((what : Unplaced) × (fault ≡ PlaceFault.NoRoom what) × (keep_with (volume_of g.now) reserved.now from kept.items asks.now ≡ Err what))) }
-{
-    let mut all = kept;
-    let mut uses = list_uses(alloc, g, &all, reserved)?;
-    close_fronts(&mut uses, g, from);
-    let mut starts = no_starts(alloc, LENGTHS)?;
-    for ask in asks {
-        let blocks = ask.run.blocks as u64;
-        let slot = slot_of(blocks);
-        let Some(start) = find_run(&uses, starts[slot], blocks) else {
-            return Err(PlaceFault::NoRoom(ask.what));
-        };
-        mark(&mut uses, start, blocks, Use::Claimed);
-        starts[slot] = start_behind(starts[slot], start, blocks);
-        all.push(run_at(start, &ask.run))?;
-    }
-    Ok(all)
-}
-
-/// Closes the blocks of each group before AG block `from`.
-fn close_fronts(uses: &mut [Use], g: &Geometry, from: u32)
-    ensures { MarksUses uses.old uses.new (λ block. nat_lt (block % g.now.agblocks) from) Claimed }
-{
-    for block in 0..uses.len() {
-        if (block as u64 % g.agblocks as u64) < from as u64 {
-            uses[block] = Use::Claimed;
-        }
-    }
-}
-
-/// The first block of the volume as the start of each of so many lengths.
-fn no_starts(alloc: Global, count: usize) -> Result<Vec<usize>, NoMemory>
-    ensures all { IfOk result (λ starts. length starts.items ≡ count) }
-    ensures none { IfOk result (λ starts. (n : ℕ) → n < count → slice_index starts.items n ≡ 0) }
-{
-    Ok(vec![in alloc; 0; count]?)
-}
-
-/// The place of a number of blocks among those for which a start is kept: its own, or the last.
-fn slot_of(blocks: u64) -> usize
-    ensures { result ≡ min blocks 65535 }
-{
-    blocks.min(LENGTHS as u64 - 1) as usize
-}
-
-/// Where the next run of so many blocks is to be looked for, behind a run that is given away.
-fn start_behind(before: usize, start: u64, blocks: u64) -> usize
-    requires { (start < 2 ^ 32) × (blocks < 2 ^ 32) }
-    ensures { result ≡ (if nat_lt blocks 65536 then start + blocks else before) }
-{
-    if blocks < LENGTHS as u64 {
-        (start + blocks) as usize
-    } else {
-        before
-    }
-}
-
-/// The first block of the lowest run of so many open blocks, where none begins before block `next`.
-fn find_run(uses: &[Use], next: usize, blocks: u64) -> Option<u64>
-    requires some { 1 ≤ blocks }
-    requires next { NoRoomBefore uses.now blocks next }
-    ensures lowest { MatchOption result (IsNone (HasRun uses.now blocks)) (IsLeast (HasRun uses.now blocks)) }
-    ensures inside { IfSome result (λ start. start + blocks ≤ length uses.now) }
-{
-    if blocks > MOST_BLOCKS {
-        return None;
-    }
-    let mut found = 0;
-    for block in next..uses.len() {
-        found = lengthen(found, is_open(uses[block]));
-        if found == blocks {
-            return Some(block as u64 + 1 - blocks);
-        }
-    }
-    None
-}
-
-/// How many open blocks stand in a row with one more block.
-fn lengthen(found: u64, more: bool) -> u64
-    requires { found < 2 ^ 32 }
-    ensures { result ≡ (if more then found + 1 else 0) }
-{
-    if more { found + 1 } else { 0 }
-}
-
-/// The run that an ask gets from a block on.
-fn run_at(start: u64, ask: &RunAsk) -> Run
-    ensures { result ≡ run_at start ask.now }
+/// The run that the first blocks of an ask get.
+fn run_of(start: u64, blocks: u64, ask: &RunAsk) -> Run
+    ensures { result ≡ run_at start (front_of ask.now blocks) }
 {
     Run {
         start,
-        count: ask.blocks as u64,
+        count: blocks,
         owner: ask.owner,
         offset_word: ask.offset_word,
     }

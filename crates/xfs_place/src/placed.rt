@@ -23,8 +23,10 @@ pub struct GroupPlaced {
 /// Where everything stands that was to be placed, and what the volume then holds.
 #[derive(Debug, Drop)]
 pub struct Placed {
-    /// A run for each that was asked, in order.
+    /// The runs of each ask in order, and of each ask from its first block to its last.
     pub runs: Records<Run>,
+    /// How many runs each ask has, in order.
+    pub cuts: Records<u32>,
     /// Each allocation group, in order.
     pub groups: Records<GroupPlaced>,
     pub counts: Counts,

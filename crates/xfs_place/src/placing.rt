@@ -3,14 +3,15 @@
 ghost use Rattle.std.specs.Prelude.{◌≡◌, ◌<◌, ◌++◌, ◌^◌, ◌⊎◌, length, All, IfErr, IfOk, Ok};
 ghost use Rattle.xfs_geom.specs.Volumes.{volume_of};
 ghost use Rattle.xfs_place.specs.Counts.{placed_counts};
-ghost use Rattle.xfs_place.specs.Objects.{IsAsk};
+ghost use Rattle.xfs_place.specs.Objects.{AreCuts, IsAsk, asks_of};
 ghost use Rattle.xfs_place.specs.Standing.{AreOfPool};
 ghost use Rattle.xfs_place.specs.Wanted.{CanBeKept, ArePlaced, FindsNoRoom, all_kept, kept_runs};
 ghost use Rattle.xfs_place.specs.declared.faults.Unplaced.{Unplaced};
 
 use crate::counting::count_all;
 use crate::faults::PlaceFault;
-use crate::object_placing::{keep_with, list_asks};
+use crate::object_placing::{ObjectsKept, keep_with};
+use crate::open_blocks::Site;
 use crate::placed::Placed;
 use crate::volume_placing::place_groups;
 use crate::wanted::Wanted;
@@ -20,10 +21,12 @@ use xfs_geom::Run;
 use xfs_volume::Records;
 
 /// Places what is wanted, and counts what the volume then holds. The pool is the blocks that have no fixed use and are
-/// neither taken, new nor reserved. Each run of each object, in order, takes the lowest run of pool blocks of its length
+/// neither taken, new nor reserved. Each ask of each object, in order, takes the lowest run of pool blocks of its length
 /// that lies inside one allocation group, at AG block `from` or behind; none has more than the 44,040,171 blocks of 21
-/// extents, which fill a fork. Then the trees and the free list of each
-/// group take the lowest blocks that are left of its pool, as few as leave the free list 6 to 118 blocks; where no number
+/// extents, which fill a fork. Where there is none it takes the longest run of fewer blocks that is an extent, the lowest
+/// of equally long ones, and so on with what it still needs, which then takes one run only where that is an extent. All
+/// asks of an object take no more runs than it may have: an ask those that are left, but for one for each ask behind it.
+/// Then the trees and the free list of each group take the lowest blocks that are left of its pool, as few as leave the free list 6 to 118 blocks; where no number
 /// does, as many as leave it 0 to 5. Reserved blocks become free.
 ///
 /// `NoRoom` of the first object that finds no room, else of the first group; `NoMemory` where memory is wanting.
@@ -33,6 +36,7 @@ pub fn place(alloc: Global, wanted: &Wanted) -> Result<Placed, PlaceFault>
     requires inodes { length wanted.now.inodes ≡ wanted.now.geometry.agcount }
     requires few { All (λ group. length group.records < 2 ^ 32) wanted.now.inodes }
     ensures runs { IfOk result (λ placed. all_kept wanted.now ≡ Ok (kept_runs wanted.now ++ placed.runs)) }
+    ensures cuts { IfOk result (λ placed. AreCuts (asks_of wanted.now.objects) placed.cuts placed.runs) }
     ensures groups { IfOk result (λ placed. ArePlaced (volume_of wanted.now.geometry) (kept_runs wanted.now ++ placed.runs) wanted.now.reserved wanted.now.inodes
         wanted.now.geometry.agcount placed.groups) }
     ensures apart { IfOk result (λ placed. CanBeKept (volume_of wanted.now.geometry) (kept_runs wanted.now ++ placed.runs)) }
@@ -46,13 +50,18 @@ pub fn place(alloc: Global, wanted: &Wanted) -> Result<Placed, PlaceFault>
     let inodes = wanted.inodes.as_slice();
     let kept = list_kept(alloc, wanted)?;
     let first = kept.len();
-    let asks = list_asks(alloc, wanted.objects.as_slice())?;
-    let all = keep_with(alloc, g, kept, reserved, wanted.from, &asks)?;
+    let site = Site {
+        geometry: g,
+        reserved,
+        from: wanted.from,
+    };
+    let ObjectsKept { all, cuts } = keep_with(alloc, &site, kept, wanted.objects.as_slice())?;
     let runs = Vec::from_slice(alloc, &all[first..])?;
     let groups = place_groups(alloc, g, &all, reserved, inodes)?;
     let counts = count_all(inodes, &groups);
     Ok(Placed {
         runs: Records::from_vec(runs),
+        cuts: Records::from_vec(cuts),
         groups: Records::from_vec(groups),
         counts,
     })

@@ -29,8 +29,10 @@ pub struct Object {
     /// The number of its inode.
     pub ino: u64,
     pub kind: ObjectKind,
-    /// Its runs, in order.
+    /// The runs that it asks for, in order.
     pub runs: Records<RunAsk>,
+    /// How many runs it may take for them: an ask takes several where a single one is not to be had.
+    pub most: u32,
 }
 
 /// The records of inodes of an allocation group.
