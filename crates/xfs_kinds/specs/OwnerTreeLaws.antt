@@ -158,7 +158,7 @@ last_word-lt r h = by_case (is_file_data r.owner r.offset_word)
 low_fits : (r : RmapRec) → IsTrue (fits_owner r) → IsTrue (fits_key (low_key r))
 low_fits r h =
     let f = numbers_fit r h in
-    key_fits (low_key r) (record { start = f.start; owner = f.owner; offset = key_word-lt r.offset_word f.offset; written = key_word_written r.offset })
+    key_fits (low_key r) (record { start = f.start; owner = f.owner; offset = key_word-lt r.offset_word f.offset; written = key_word_written r.offset_word })
 
 high_fits : (r : RmapRec) → IsTrue (fits_owner r) → IsTrue (fits_key (high_key r))
 high_fits r h =
