@@ -13,7 +13,7 @@ use Rattle.xfs_geom.specs.Volumes.{Volume}
 use Rattle.xfs_kinds.specs.FileTrees.{is_extent, follows_offset, fits_extent}
 use Rattle.xfs_kinds.specs.Groups.{lies_in_one_group}
 use Rattle.xfs_tree.specs.Reading.{Contents}
-use Rattle.xfs_inode.specs.contracts.claims.RunOrd.TheImpl.{cmp-value}
+use Rattle.xfs_inode.specs.contracts.claims.BlockRangeOrd.TheImpl.{cmp-value}
 use Rattle.xfs_inode.specs.declared.claims.BlockRange.{BlockRange}
 use Rattle.xfs_inode.specs.Private.Claims.{in_turn, begins_before, RangesRanked}
 use Rattle.xfs_inode.specs.Files.{ranges_apart, are_blocks, are_extents, is_apart, is_placed, range_of, range_of_block, ranges_of}

@@ -9,7 +9,7 @@ use Rattle.std.proofs.lemmas.Bool.{and_parts, and_from, eqb-true, eq-eqb}
 use Rattle.std.proofs.lemmas.Bool.Decides.{nat_tests}
 use Rattle.xfs_image.specs.Lsns.{PlacesInOrder, IsUptoAll, LsnPlace, lsn_places_in_order, is_place_upto}
 use Rattle.xfs_journal.specs.Placed.{listed, lsn_place_of}
-use Rattle.xfs_journal.specs.contracts.places.PlaceOrd.TheImpl.{cmp-value}
+use Rattle.xfs_journal.specs.contracts.places.LsnPositionOrd.TheImpl.{cmp-value}
 use Rattle.xfs_journal.specs.declared.places.LsnPosition.{LsnPosition}
 
 abbrev is_same : LsnPlace → LsnPlace → Bool
