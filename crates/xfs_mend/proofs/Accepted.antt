@@ -6,10 +6,10 @@ use Rattle.xfs_geom.specs.Volumes.{Volume, volume_of, stated_volume}
 use Rattle.xfs_geom.specs.declared.geometry.Geometry.{Geometry}
 use Rattle.xfs_geom.specs.Election.{Vote, block_of, elected, super_of}
 use Rattle.xfs_mend.proofs.Electing.{IsPrimary, is_primary}
-use Rattle.xfs_mend.proofs.Repaired.{IsAccepted, is_repaired}
+use Rattle.xfs_mend.proofs.Repaired.{IsAccepted}
 use Rattle.xfs_mend.specs.Backups.{start_of, steps_from, backup_plan}
 use Rattle.xfs_mend.specs.Due.{IsOwed, first_disagreeing}
-use Rattle.xfs_mend.specs.Outcome.{IsRepairCause, IsDurableRepair, RepairLeaves, LeavesOf, StopsBy, StopsOf, is_quiet}
+use Rattle.xfs_mend.specs.Outcome.{IsRepairCause, IsDurableRepair, IsRepaired, RepairLeaves, LeavesOf, StopsBy, StopsOf, is_quiet}
 use Rattle.xfs_writing.specs.Stopped.{IsStopped}
 use Rattle.xfs_writing.specs.Writing.{Writes, IsPartly, written}
 use Rattle.xfs_mend.specs.declared.outcome.Outcome.{Outcome}
@@ -44,6 +44,11 @@ accepted image v g elects from sector stated inside =
           (starts_inside v.sector (length image) g stated inside);
     }
 
+-- the geometry that is elected is stated by the image's primary
+pub stated_primary : (image : Image) (v : Vote) (g : Geometry) → elected image ≡ Ok v → v.place ≡ 0 → volume_of g ≡ stated_volume v.sector
+    → volume_of g ≡ stated_volume (super_of (block_of image 0))
+stated_primary image v g elects from stated = stated ∙ ap stated_volume (is_primary image v elects from).sector
+
 -- the steps of the elected superblock are the image's plan
 pub plan_elected : (image : Image) (v : Vote) (g : Geometry) → elected image ≡ Ok v → v.place ≡ 0 → volume_of g ≡ stated_volume v.sector
     → steps_from v.sector image 1 (g.agcount - 1) ≡ backup_plan image
@@ -63,21 +68,20 @@ first_elected image v g elects from stated =
     ∙ ap (λ (p : List ℕ). first_disagreeing p image 1 ((stated_volume p).agcount - 1)) same
 
 -- what an outcome of the image's plan leaves
-pub written_leaves : (image : Image) (now : Option Image) (plan : Writes) (a : Outcome) → IsAccepted image → plan ≡ backup_plan image
-    → LeavesOf plan image now a → RepairLeaves image now a
-written_leaves image now plan (Repaired summary) known same writes =
-    is_repaired image now known (writes ∙ ap (λ (p : Writes). Some (written p image)) same)
-written_leaves image now plan (WriteFault blocks) known same writes = subst (λ (p : Writes). IsPartly p image blocks now) same writes
-written_leaves image now plan NoGeometry known same writes = writes
-written_leaves image now plan (Unsupported word bits) known same writes = writes
-written_leaves image now plan DirtyLog known same writes = writes
-written_leaves image now plan (TooLarge what count) known same writes = writes
-written_leaves image now plan (UnsupportedFile ino what) known same writes = writes
-written_leaves image now plan Clean known same writes = writes
-written_leaves image now plan (Damaged finding) known same writes = writes
-written_leaves image now plan (Unbuilt request) known same writes = writes
-written_leaves image now plan (ReadFault faults) known same writes = writes
-written_leaves image now plan NoMemory known same writes = writes
+pub written_leaves : (image : Image) (now : Option Image) (plan : Writes) (a : Outcome) → (now ≡ Some (written (backup_plan image) image) → IsRepaired image now)
+    → plan ≡ backup_plan image → LeavesOf plan image now a → RepairLeaves image now a
+written_leaves image now plan (Repaired summary) repairs same writes = repairs (writes ∙ ap (λ (p : Writes). Some (written p image)) same)
+written_leaves image now plan (WriteFault blocks) repairs same writes = subst (λ (p : Writes). IsPartly p image blocks now) same writes
+written_leaves image now plan NoGeometry repairs same writes = writes
+written_leaves image now plan (Unsupported word bits) repairs same writes = writes
+written_leaves image now plan DirtyLog repairs same writes = writes
+written_leaves image now plan (TooLarge what count) repairs same writes = writes
+written_leaves image now plan (UnsupportedFile ino what) repairs same writes = writes
+written_leaves image now plan Clean repairs same writes = writes
+written_leaves image now plan (Damaged finding) repairs same writes = writes
+written_leaves image now plan (Unbuilt request) repairs same writes = writes
+written_leaves image now plan (ReadFault faults) repairs same writes = writes
+written_leaves image now plan NoMemory repairs same writes = writes
 
 -- what is kept by a disk that tells its stops
 pub kept_before : (before after : Type 0) (now : Option Image) (may_leave : ℕ → List ℕ → Type 0) (a : Outcome) → (before → after)

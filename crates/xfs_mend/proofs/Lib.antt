@@ -8,3 +8,5 @@ pub mod Repaired
 pub mod Turning
 pub mod Rows
 pub mod Ending
+pub mod Restored
+pub mod Again

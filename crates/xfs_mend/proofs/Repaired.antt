@@ -20,7 +20,7 @@ use Rattle.xfs_image.specs.declared.findings.Finding.TheVariants as Found
 use Rattle.xfs_mend.proofs.Electing.{elected_primary}
 use Rattle.xfs_mend.proofs.Mending.{length-written, mended_block, mended_agreeing, mended_other, steps_other, steps_same}
 use Rattle.xfs_mend.specs.Backups.{start_of, backup_plan}
-use Rattle.xfs_mend.specs.Outcome.{IsMended, IsRepaired}
+use Rattle.xfs_mend.specs.Outcome.{IsMended}
 use Rattle.xfs_writing.specs.Writing.{written}
 
 -- what is known of an image whose primary superblock is accepted
@@ -125,20 +125,10 @@ agree_written image known g is ag low high =
 not_both : (b : Bool) → b ≡ true → b ≡ false → ⊥
 not_both b holds fails = cc
 
-none_found : (image : Image) → IsAccepted image → (ag : ℕ) → HasFinding broken_law (written (backup_plan image) image) (Found.Part 10 ag) → ⊥
+pub none_found : (image : Image) → IsAccepted image → (ag : ℕ) → HasFinding broken_law (written (backup_plan image) image) (Found.Part 10 ag) → ⊥
 none_found image known ag has =
     let fault : HasBackupFault broken_law has.geometry (written (backup_plan image) image) ag =
     only_backups broken_law has.geometry (written (backup_plan image) image) ag has.is in
     let agrees : backup_agrees (volume_of has.geometry) (written (backup_plan image) image) ag ≡ true =
     agree_written image known has.geometry has.elected ag fault.some fault.few in
     not_both (backup_agrees (volume_of has.geometry) (written (backup_plan image) image) ag) agrees fault.differs
-
-pub is_repaired : (image : Image) (now : Option Image) → IsAccepted image → now ≡ Some (written (backup_plan image) image) → IsRepaired image now
-is_repaired image now known planned =
-    record {
-      planned = planned;
-      mended = is_mended image known;
-      elects = elects_written image known ∙ sym (elected_primary image known.some known.accepted);
-      agree = agree_written image known;
-      found_elsewhere = none_found image known;
-    }

@@ -8,7 +8,8 @@ use Rattle.xfs_geom.specs.Volumes.{stated_volume, volume_of}
 use Rattle.xfs_geom.specs.Election.{block_of, elected, super_of}
 use Rattle.xfs_geom.specs.declared.geometry.Geometry.{Geometry}
 use Rattle.xfs_laws.specs.Lawful.{broken_law}
-use Rattle.xfs_image.specs.Consistent.{HasFinding, IsElected, backup_agrees}
+use Rattle.xfs_image.specs.Consistent.{HasFinding, IsConsistent, IsElected, backup_agrees}
+use Rattle.xfs_image.specs.Keeping.{Keeps, Protected}
 use Rattle.xfs_image.specs.declared.findings.Finding.TheVariants.{Part}
 use Rattle.xfs_mend.specs.Backups.{with_super, start_of, backup_plan}
 use Rattle.xfs_writing.specs.Writing.{Writes, written, IsPartly}
@@ -39,7 +40,7 @@ pub record IsMended (image now : Image) : Type 0 where
       ≡ with_super (super_of (block_of image 0)) (block_of image (start_of (super_of (block_of image 0)) group))
 
 -- A repaired image has just the planned blocks changed, which mends it: all its backups agree from then on, whatever geometry it
--- elects, so none of them is found.
+-- elects, so none of them is found. By the geometry that the image elected it is consistent, and each file that was protected is kept.
 pub record IsRepaired (image : Image) (now : Option Image) : Type 0 where
   pub planned : now ≡ Some (written (backup_plan image) image)
   pub mended : IsMended image (written (backup_plan image) image)
@@ -47,6 +48,10 @@ pub record IsRepaired (image : Image) (now : Option Image) : Type 0 where
   pub agree : (g : Geometry) → IsElected (volume_of g) (written (backup_plan image) image) → (ag : ℕ) → 1 ≤ ag → ag < g.agcount
       → backup_agrees (volume_of g) (written (backup_plan image) image) ag ≡ true
   pub found_elsewhere : (ag : ℕ) → HasFinding broken_law (written (backup_plan image) image) (Part 10 ag) → ⊥
+  pub geometry : Geometry
+  pub states : IsElected (volume_of geometry) image
+  pub consistent : IsConsistent broken_law geometry (written (backup_plan image) image)
+  pub keeps : (ino : ℕ) → Protected (volume_of geometry) image ino → Keeps (volume_of geometry) image (written (backup_plan image) image) ino
 
 -- what the disk holds after an outcome of the plan: the written plan after a repair, a part of it after a
 -- write fault, else what it held

@@ -18,6 +18,6 @@ mod outcome;
 mod refusals;
 mod repairing;
 
-pub use laws::outcomes_by_rows;
+pub use laws::{outcomes_by_rows, repairs_leave_it};
 pub use outcome::{Outcome, RepairOptions, Summary};
 pub use repairing::repair;

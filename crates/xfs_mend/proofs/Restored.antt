@@ -1,0 +1,88 @@
+-- A repaired image is consistent, and its protected files are kept.
+use Rattle.std.proofs.Common.{◌≡◌, ℕ, ◌*◌, ◌==◌, Bool, true, false, List, [], length, drop, Option, Some, refl, sym, ap, ◌∙◌, subst}
+use Rattle.std.proofs.lemmas.Bool.{eqb-true}
+use Rattle.std.proofs.lemmas.List.{drop_at}
+use Rattle.std.proofs.lemmas.Option.{unwrap_or-slice_get}
+use Rattle.xfs_disk.specs.Blocks.{Image}
+use Rattle.xfs_geom.specs.Election.{block_of, elected, super_of}
+use Rattle.xfs_geom.specs.Superblocks.{is_agreeing}
+use Rattle.xfs_geom.specs.Volumes.{Volume, stated_volume, volume_of}
+use Rattle.xfs_geom.specs.declared.geometry.Geometry.{Geometry}
+use Rattle.xfs_laws.specs.Lawful.{broken_law}
+use Rattle.xfs_tree.specs.Reading.{bytes_of_block}
+use Rattle.xfs_image.proofs.Backups.{only_backups}
+use Rattle.xfs_image.specs.Consistent.{HasBackupFault, IsElected, finding}
+use Rattle.xfs_image.specs.declared.findings.Finding.{Finding}
+use Rattle.xfs_image.specs.declared.findings.Finding.TheVariants as Found
+use Rattle.xfs_frames.specs.Backups.{DifferInBackups}
+use Rattle.xfs_frames.proofs.ProtectedStay.{protected_stay}
+use Rattle.xfs_frames.proofs.ViewsStay.{views_stay}
+use Rattle.xfs_mend.proofs.Deciding.{is_elected}
+use Rattle.xfs_mend.proofs.Electing.{elected_primary}
+use Rattle.xfs_mend.proofs.Mending.{mended_agreeing, mended_block, mended_other}
+use Rattle.xfs_mend.proofs.Repaired.{IsAccepted, agree_written, backup_written, elects_written, is_mended, none_found, primary_of}
+use Rattle.xfs_mend.specs.Backups.{backup_plan, start_of}
+use Rattle.xfs_mend.specs.Due.{is_backup}
+use Rattle.xfs_mend.specs.Outcome.{IsRepaired}
+use Rattle.xfs_writing.specs.Writing.{written}
+
+-- behind its first sector the block of a backup is as it was
+behind_mended : (primary block : List ℕ) → length primary ≡ 512 → drop 512 (mended_block primary block) ≡ drop 512 block
+behind_mended primary block sector = by_case (is_agreeing (stated_volume primary) (super_of block)) refl
+  where
+    by_case : (r : Bool) → is_agreeing (stated_volume primary) (super_of block) ≡ r → drop 512 (mended_block primary block) ≡ drop 512 block
+    by_case true agreeing = ap (λ (b : List ℕ). drop 512 b) (mended_agreeing primary block agreeing)
+    by_case false other = ap (λ (b : List ℕ). drop 512 b) (mended_other primary block other) ∙ drop_at primary (drop 512 block) 512 sector
+
+-- the bytes of a block, by their two names
+same_bytes : (image : Image) (b : ℕ) → block_of image b ≡ bytes_of_block image b
+same_bytes image b = unwrap_or-slice_get image b []
+
+-- the written image differs in backups alone
+differ_written : (image : Image) (g : Geometry) → IsAccepted image → volume_of g ≡ stated_volume (super_of (block_of image 0)) → DifferInBackups (volume_of g) image (written (backup_plan image) image)
+unfolding start_of
+differ_written image g known stated =
+    let primary : List ℕ = super_of (block_of image 0) in
+    let now : Image = written (backup_plan image) image in
+    let mended = is_mended image known in
+    let all : DifferInBackups (stated_volume primary) image now =
+    record {
+      behind = λ ag low high.
+          ap (λ (b : List ℕ). drop 512 b) (sym (same_bytes now (ag * (stated_volume primary).agblocks)) ∙ backup_written image known ag low high)
+          ∙ behind_mended primary (block_of image (ag * (stated_volume primary).agblocks)) known.sector
+          ∙ ap (λ (b : List ℕ). drop 512 b) (same_bytes image (ag * (stated_volume primary).agblocks));
+      others = λ block apart. sym (same_bytes now block) ∙ mended.kept block (λ group low high same. apart group low high same) ∙ same_bytes image block;
+    } in
+    subst (λ (v : Volume). DifferInBackups v image now) (sym stated) all
+
+-- where a backup is found first, all else is right
+pub has_fault : (g : Geometry) (image : Image) (found : Finding) → Some found ≡ finding broken_law g image → is_backup found ≡ true → (ag : ℕ) × HasBackupFault broken_law g image ag
+has_fault g image (Found.Law law) same backup = absurd cc
+has_fault g image (Found.Part part place) same backup =
+    let number : part ≡ 10 = eqb-true part 10 backup in
+    (place, only_backups broken_law g image place (sym same ∙ ap (λ (p : ℕ). Some (Found.Part p place)) number))
+
+pub is_repaired : (image : Image) (now : Option Image) (g : Geometry) (ag : ℕ) → IsAccepted image → volume_of g ≡ stated_volume (super_of (block_of image 0))
+    → HasBackupFault broken_law g image ag → now ≡ Some (written (backup_plan image) image) → IsRepaired image now
+is_repaired image now g ag known stated fault planned =
+    let due : Image = written (backup_plan image) image in
+    let differ : DifferInBackups (volume_of g) image due = differ_written image g known stated in
+    let elects : IsElected (volume_of g) due = is_elected g due (primary_of image) (elects_written image known) stated in
+    record {
+      planned = planned;
+      mended = is_mended image known;
+      elects = elects_written image known ∙ sym (elected_primary image known.some known.accepted);
+      agree = agree_written image known;
+      found_elsewhere = none_found image known;
+      geometry = g;
+      states = fault.elected;
+      consistent = record {
+        elected = elects;
+        first = refl;
+        catalog = fault.catalog;
+        reads = views_stay g image due fault.catalog fault.reads fault.lawful differ;
+        lawful = fault.lawful;
+        backups = agree_written image known g elects;
+      };
+      keeps = λ ino protected. protected_stay g image due ino differ protected;
+    }
