@@ -1,0 +1,9 @@
+pub mod Tallies
+pub mod Claims
+pub mod Taken
+pub mod Roots
+pub mod Inodes
+pub mod Images
+pub mod Protected
+pub mod Steps
+pub mod Different

@@ -1,0 +1,4 @@
+pub mod Apart
+pub mod Conditions
+pub mod Ascending
+pub mod Directories

@@ -1,0 +1,2 @@
+pub mod Claimable
+pub mod Kept

@@ -1,0 +1,138 @@
+//! The runs of blocks that a file claims (chapter "Reverse-Mapping B+tree").
+
+ghost use Rattle.std.specs.Prelude.{◌≡◌, ◌++◌, ◌<◌, ◌↔◌, ◌^◌, ◌≤◌, IsTrue, map, IfOk, OnOk};
+ghost use Rattle.std.specs.List.{All};
+ghost use Rattle.xfs_geom.specs.Groups.{block_of_address};
+ghost use Rattle.xfs_geom.specs.Volumes.{volume_of};
+ghost use Rattle.xfs_image.specs.Clusters.{cluster_of, root_cluster};
+ghost use Rattle.xfs_claims.specs.Spans.{SpansApart, IsRun, spans_of};
+ghost use Rattle.xfs_space.specs.Owners.{runs_of_blocks, extent_run, extent_word, file_runs};
+ghost use Rattle.xfs_space.specs.Parts.{HasLawfulForks};
+ghost use Rattle.xfs_space.specs.Private.Places.{IsPlacedExtent};
+
+use std::alloc::Global;
+use std::sync::ledger::Ledger;
+use xfs_disk::NoMemory;
+use xfs_geom::{Geometry, Run};
+use xfs_runs::{RunSet, Steps};
+use xfs_volume::FileRec;
+use xfs_word::Extent;
+
+/// The flag of blocks that are not written yet, in an offset word.
+const UNWRITTEN: u64 = 1 << 61;
+
+/// The flag of blocks of an extent tree.
+const TREE_BLOCK: u64 = 1 << 62;
+
+/// The flag of blocks of the attribute fork.
+const ATTRIBUTE: u64 = 1 << 63;
+
+/// What a file claims: its data, its attributes, the blocks of its tree of extents.
+pub(crate) fn file_runs(alloc: Global, g: &Geometry, file: &FileRec) -> Result<Vec<Run>, NoMemory>
+    requires { HasLawfulForks (volume_of g.now) file.now }
+    ensures { IfOk result (λ runs. runs.items ≡ file_runs (volume_of g.now) file.now) }
+{
+    let mut runs = Vec::new(alloc);
+    push_extents(&mut runs, g, file.ino, 0, file.extents.as_slice())?;
+    push_extents(
+        &mut runs,
+        g,
+        file.ino,
+        ATTRIBUTE,
+        file.attr_extents.as_slice(),
+    )?;
+    push_blocks(&mut runs, file.ino, file.tree.as_slice())?;
+    Ok(runs)
+}
+
+/// Adds the blocks of the extents of a fork, with the fork's flag.
+fn push_extents(
+    runs: &mut Vec<Run>,
+    g: &Geometry,
+    ino: u64,
+    flag: u64,
+    extents: &[Extent],
+) -> Result<(), NoMemory>
+    requires flag { flag ≤ 2 ^ 63 }
+    requires placed { All (IsPlacedExtent (volume_of g.now)) extents.now }
+    ensures { OnOk result (runs.new.items ≡ runs.old.items ++ map (extent_run (volume_of g.now) ino flag) extents.now) }
+{
+    for extent in extents {
+        runs.push(Run {
+            start: block_of(g, extent.start),
+            count: extent.count,
+            owner: ino,
+            offset_word: word_of(flag, extent),
+        })?;
+    }
+    Ok(())
+}
+
+/// Adds the single blocks of the tree of a file's extents.
+fn push_blocks(runs: &mut Vec<Run>, ino: u64, blocks: &[u64]) -> Result<(), NoMemory>
+    ensures { OnOk result (runs.new.items ≡ runs.old.items ++ runs_of_blocks ino (2 ^ 62) blocks.now) }
+{
+    for block in blocks {
+        runs.push(Run {
+            start: *block,
+            count: 1,
+            owner: ino,
+            offset_word: TREE_BLOCK,
+        })?;
+    }
+    Ok(())
+}
+
+/// The offset word of an extent's first block.
+fn word_of(flag: u64, extent: &Extent) -> u64
+    requires flag { flag ≤ 2 ^ 63 }
+    requires offset { extent.now.offset < 2 ^ 54 }
+    ensures { result ≡ extent_word flag extent.now }
+{
+    if extent.unwritten {
+        flag + UNWRITTEN + extent.offset
+    } else {
+        flag + extent.offset
+    }
+}
+
+/// The number of the block at an address.
+fn block_of(g: &Geometry, address: u64) -> u64
+    ensures { result ≡ block_of_address g.now.agblocks g.now.agblklog address }
+{
+    let size = 1u64 << g.agblklog;
+    address / size * g.agblocks as u64 + address % size
+}
+
+/// The first block of the cluster of an inode.
+pub(crate) fn cluster_of(g: &Geometry, ino: u64) -> u64
+    ensures { result ≡ cluster_of (volume_of g.now) ino }
+{
+    block_of(g, ino / 32 * 4)
+}
+
+/// The first block of the cluster of the root.
+pub(crate) fn root_cluster(g: &Geometry) -> u64
+    ensures { result ≡ root_cluster (volume_of g.now) }
+{
+    cluster_of(g, g.rootino)
+}
+
+/// Whether no block is of two of the runs.
+pub(crate) fn are_apart<L: Ledger>(
+    alloc: Global,
+    runs: &[Run],
+    steps: &mut Steps<L>,
+) -> Result<bool, NoMemory>
+    requires { All IsRun runs.now }
+    ensures { IfOk result (λ apart. IsTrue apart ↔ SpansApart (spans_of runs.now)) }
+{
+    let mut set = RunSet::make(alloc);
+    for run in runs {
+        if set.meets(run.start, run.count, steps) {
+            return Ok(false);
+        }
+        set.add(run.start, run.count, steps)?;
+    }
+    Ok(true)
+}
