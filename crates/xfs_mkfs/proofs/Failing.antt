@@ -1,6 +1,8 @@
 -- What is answered where placing or writing fails.
-use Rattle.std.proofs.Common.{◌≡◌, ℕ, ◌⊎◌, inl, inr, Bool, List, Option, None, Err, refl, subst}
+use Rattle.std.proofs.Common.{◌≡◌, ℕ, ◌≤◌, ◌⊎◌, inl, inr, Bool, true, false, List, Option, None, Result, Ok, Err, OnOk, OnErr, arith, refl, sym, subst}
+use Rattle.xfs_disk.specs.Counts.{raised_times}
 use Rattle.xfs_disk.specs.Blocks.{Image}
+use Rattle.xfs_disk.specs.declared.failed.Failed.{Failed}
 use Rattle.xfs_disk.specs.declared.stamp.Stamp.{Stamp}
 use Rattle.xfs_geom.specs.declared.geometry.Geometry.{Geometry}
 use Rattle.xfs_options.specs.declared.make_words.MakeOptions.{MakeOptions}
@@ -11,11 +13,13 @@ use Rattle.xfs_place.specs.declared.faults.PlaceFault.TheVariants as Placing
 use Rattle.xfs_render.specs.declared.plan.Plan.{Plan}
 use Rattle.xfs_empty.specs.Placing.{empty_wanted}
 use Rattle.xfs_empty.specs.Planning.{HasRoom}
-use Rattle.xfs_mkfs.specs.Counts.{CountsBlocks, IsUnwritten, looked, reads_at}
+use Rattle.xfs_mkfs.specs.Counts.{CountsBlocks, CountsReads, IsUnwritten, LooksPartly, looked}
 use Rattle.xfs_mkfs.specs.Due.{IsGeometry, refusal}
 use Rattle.xfs_mkfs.specs.Outcome.{IsMakingCause, IsDueMake, IsPlanOf, IsPlanned, MakeLeaves, place_answer, put_answer}
 use Rattle.xfs_mkfs.specs.Putting.{CountsPut, HasPutCause, LeavesUnput}
 use Rattle.xfs_mkfs.specs.Stops.{IsDurableMake, IsMadeStopped, StopLeaves}
+use Rattle.xfs_mkfs.specs.declared.outcome.MakeOutcome.{MakeOutcome}
+use Rattle.xfs_mkfs.specs.declared.outcome.MakeOutcome.TheVariants as Out
 use Rattle.xfs_mkfs.specs.declared.volume.PutFault.{PutFault}
 use Rattle.xfs_mkfs.specs.declared.volume.PutFault.TheVariants as Put
 
@@ -65,14 +69,40 @@ pub unwritten_placing : (fault : PlaceFault) → IsUnwritten (place_answer fault
 unwritten_placing Placing.NoMemory = tt
 unwritten_placing (Placing.NoRoom what) = tt
 
-pub reads_placing : (force : Bool) (before : ℕ) (fault : PlaceFault) → reads_at force before (place_answer fault) ≡ looked force before
-reads_placing force before Placing.NoMemory = refl
-reads_placing force before (Placing.NoRoom what) = refl
+pub reads_placing : (force : Bool) (before now : ℕ) (fault : PlaceFault) → now ≡ looked force before → CountsReads force before now (place_answer fault)
+reads_placing force before now Placing.NoMemory is = is
+reads_placing force before now (Placing.NoRoom what) is = is
 
 -- what was read and written where writing failed
-pub reads_putting : (force : Bool) (before : ℕ) (fault : PutFault) → reads_at force before (put_answer fault) ≡ looked force before
-reads_putting force before Put.NoMemory = refl
-reads_putting force before (Put.Failed n) = refl
+pub reads_putting : (force : Bool) (before now : ℕ) (fault : PutFault) → now ≡ looked force before → CountsReads force before now (put_answer fault)
+reads_putting force before now Put.NoMemory is = is
+reads_putting force before now (Put.Failed n) is = is
+
+-- what was read where a read failed: nothing yet, or some of the blocks that have the marks
+pub reads_failed : (force : Bool) (before now faults : ℕ) (outcome : MakeOutcome) → outcome ≡ Out.ReadFault faults → LooksPartly force before now
+    → CountsReads force before now outcome
+reads_failed force before now faults outcome is read = subst (λ (x : MakeOutcome). CountsReads force before now x) (sym is) read
+
+pub reads_nothing : (force : Bool) (before now : ℕ) → now ≡ before → LooksPartly force before now
+reads_nothing force before now same = (0, omega arith, same)
+
+pub reads_partly : (force : Bool) (before now : ℕ) → force ≡ false → (k : ℕ) × (k ≤ 3) × (now ≡ raised_times k before) → LooksPartly force before now
+reads_partly true before now is read = cc
+reads_partly false before now is read = read
+
+pub reads_by_result : (force : Bool) (before now : ℕ) (result : Result Bool Failed) → force ≡ false → OnErr result ((k : ℕ) × (k ≤ 3) × (now ≡ raised_times k before))
+    → OnErr result (LooksPartly force before now)
+reads_by_result force before now (Ok there) is read = tt
+reads_by_result force before now (Err fault) is read = reads_partly force before now is read
+
+pub looks_by_result : (force : Bool) (before now : ℕ) (result : Result Bool Failed) → force ≡ false → OnOk result (now ≡ raised_times 4 before)
+    → OnOk result (now ≡ looked force before)
+looks_by_result true before now result is read = cc
+looks_by_result false before now result is read = read
+
+pub not_looked : (force : Bool) (before : ℕ) → force ≡ true → before ≡ looked force before
+not_looked true before is = refl
+not_looked false before is = cc
 
 pub counts_putting : (o : MakeOptions) (s : Stamp) (blocks before now : ℕ) (plan : Plan) → IsPlanOf o s blocks plan → (fault : PutFault)
     → CountsPut plan before now (Err fault) → CountsBlocks o s blocks before now (put_answer fault)

@@ -6,3 +6,4 @@ pub mod Held
 pub mod Guarding
 pub mod Parts
 pub mod Volumes
+pub mod Marking

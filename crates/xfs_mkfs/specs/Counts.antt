@@ -1,6 +1,6 @@
 -- How many blocks a call reads and writes, by a disk's counts.
 use Rattle.std.specs.Prelude.{◌≡◌, ℕ, ◌≤◌, Bool, if◌then◌else◌, length}
-use Rattle.xfs_disk.specs.Counts.{raised, raised_times}
+use Rattle.xfs_disk.specs.Counts.{raised_times}
 use Rattle.xfs_disk.specs.declared.stamp.Stamp.{Stamp}
 use Rattle.xfs_options.specs.declared.make_words.MakeOptions.{MakeOptions}
 use Rattle.xfs_render.specs.Plans.{planned}
@@ -34,13 +34,17 @@ CountsBlocks o s blocks before now (Out.Made summary) = WritesAll o s blocks bef
 CountsBlocks o s blocks before now (Out.WriteFault n) = WritesSome o s blocks n before now
 CountsBlocks o s blocks before now outcome = now ≡ before
 
--- the count of reads once block 0 was looked at, which is not done where it is written over anyway
+-- the count of reads once the four blocks that have the marks were read, which is not done where they are written over anyway
 abbrev pub looked : Bool → ℕ → ℕ
-looked force before = if force then before else raised before
+looked force before = if force then before else raised_times 4 before
 
--- the count of reads at an answer: nothing is read for one that is due before the look, and nothing was where that failed
-abbrev pub reads_at : Bool → ℕ → MakeOutcome → ℕ
-reads_at force before (Out.Unbuilt request) = before
-reads_at force before (Out.TooSmall what) = before
-reads_at force before (Out.ReadFault faults) = before
-reads_at force before outcome = looked force before
+-- a read failed: of these blocks those before it were read
+abbrev pub LooksPartly : Bool → ℕ → ℕ → Type 0
+LooksPartly force before now = (k : ℕ) × (k ≤ (if force then 0 else 3)) × (now ≡ raised_times k before)
+
+-- the count of reads at an answer: nothing is read for one that is due before the look
+abbrev pub CountsReads : Bool → ℕ → ℕ → MakeOutcome → Type 0
+CountsReads force before now (Out.Unbuilt request) = now ≡ before
+CountsReads force before now (Out.TooSmall what) = now ≡ before
+CountsReads force before now (Out.ReadFault faults) = LooksPartly force before now
+CountsReads force before now outcome = now ≡ looked force before

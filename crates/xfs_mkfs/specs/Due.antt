@@ -1,12 +1,12 @@
 -- Which answer is due to what is asked of a new volume.
-use Rattle.std.specs.Prelude.{ℕ, Bool, not, ◌&&◌, ◌||◌, if◌then◌else◌, List, [], ◌∷◌, take, bytes_eq, is_some, Option, Some, None}
+use Rattle.std.specs.Prelude.{ℕ, Bool, not, ◌&&◌, ◌||◌, if◌then◌else◌, List, is_some, Option, Some, None}
 use Rattle.std.specs.Option.{unwrap_or}
 use Rattle.xfs_disk.specs.Blocks.{Image}
 use Rattle.xfs_disk.specs.declared.stamp.Stamp.{Stamp}
 use Rattle.xfs_geom.specs.declared.geometry.Geometry.{Geometry}
-use Rattle.xfs_tree.specs.Reading.{bytes_of_block}
 use Rattle.xfs_sizing.specs.Sizes.{IsChosenGeometry, too_small}
 use Rattle.xfs_sizing.specs.declared.asked.Asked.{Asked}
+use Rattle.xfs_mkfs.specs.Marks.{is_marked}
 use Rattle.xfs_options.specs.declared.make_words.MakeOptions.{MakeOptions}
 use Rattle.xfs_mkfs.specs.declared.outcome.MakeOutcome.{MakeOutcome}
 use Rattle.xfs_mkfs.specs.declared.outcome.MakeOutcome.TheVariants.{HasVolume, TooSmall, Unbuilt}
@@ -18,10 +18,6 @@ asked_of o = record { blocks = o.blocks; agcount = o.agcount; agblocks = o.agblo
 -- the identifier: the one that is asked for, or else the stamp's
 abbrev pub identifier : MakeOptions → Stamp → List ℕ
 identifier o s = unwrap_or o.uuid s.uuid
-
--- the block begins with the magic number of a superblock, `XFSB`
-abbrev pub begins_with_magic : List ℕ → Bool
-begins_with_magic block = bytes_eq (take 4 block) (0x58 ∷ 0x46 ∷ 0x53 ∷ 0x42 ∷ [])
 
 -- files of a protofile, or generated ones, are asked for
 abbrev pub asks_files : MakeOptions → Bool
@@ -35,11 +31,11 @@ by_size (Some what) later = Some (TooSmall what)
 by_size None later = later
 
 -- the refusal that is due on a disk of so many blocks that holds an image, where one is: files are not built yet; then the bounds of the
--- volume; then a volume that is there
+-- volume; then what the disk is marked to hold, a volume, another file system or a partition table, unless it is to be written over
 unfoldable pub refusal : MakeOptions → ℕ → Image → Option MakeOutcome
 refusal o blocks image =
     if asks_files o then Some (Unbuilt 10)
-    else by_size (too_small (asked_of o) blocks) (by_volume (not o.force && begins_with_magic (bytes_of_block image 0)))
+    else by_size (too_small (asked_of o) blocks) (by_volume (not o.force && is_marked image))
 
 -- the geometry of the volume that is made on a disk of so many blocks
 abbrev pub IsGeometry : MakeOptions → Stamp → ℕ → Geometry → Type 0

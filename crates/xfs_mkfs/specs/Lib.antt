@@ -4,3 +4,4 @@ pub mod Due
 pub mod Outcome
 pub mod Counts
 pub mod Stops
+pub mod Marks

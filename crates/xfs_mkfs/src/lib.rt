@@ -11,6 +11,7 @@
 //! ```
 #![tactic(auto)]
 
+mod marks;
 mod order;
 mod outcome;
 mod volume;

@@ -26,7 +26,7 @@ pub enum MakeOutcome {
     Made(MadeSummary),
     /// What is asked is too small or too large: the blocks (1), the groups (2) or the log (3).
     TooSmall { what: u8 },
-    /// The disk begins with a superblock.
+    /// The disk has the mark of a volume, another file system or a partition table.
     HasVolume,
     /// There is no room for this.
     NoRoom(Unplaced),

@@ -9,22 +9,23 @@ ghost use Rattle.xfs_geom.specs.Volumes.{volume_of};
 ghost use Rattle.xfs_place.specs.Wanted.{FindsNoRoom};
 ghost use Rattle.xfs_place.specs.declared.faults.Unplaced.{Unplaced};
 ghost use Rattle.xfs_render.specs.Plans.{planned};
-ghost use Rattle.xfs_tree.specs.Reading.{bytes_of_block};
 ghost use Rattle.xfs_empty.specs.Geometry.{HasFirstChunk};
 ghost use Rattle.xfs_sizing.specs.Sizes.{too_small};
 ghost use Rattle.xfs_empty.specs.Placing.{empty_wanted};
 ghost use Rattle.xfs_empty.specs.Planning.{HasRoom};
-ghost use Rattle.xfs_mkfs.specs.Due.{IsGeometry, asked_of, asks_files, begins_with_magic, identifier, refusal};
-ghost use Rattle.xfs_mkfs.specs.Counts.{CountsBlocks, IsUnwritten, looked, reads_at};
+ghost use Rattle.xfs_mkfs.specs.Marks.{is_marked};
+ghost use Rattle.xfs_mkfs.specs.Due.{IsGeometry, asked_of, asks_files, identifier, refusal};
+ghost use Rattle.xfs_mkfs.specs.Counts.{CountsBlocks, CountsReads, IsUnwritten, LooksPartly, looked};
 ghost use Rattle.xfs_mkfs.specs.Outcome.{IsMakingCause, IsDueMake, IsPlanned, MakeLeaves, place_answer, put_answer, summary_of};
 ghost use Rattle.xfs_mkfs.specs.Stops.{IsDurableMake, StopLeaves};
 
+use crate::marks::is_marked;
 use crate::outcome::{MadeSummary, MakeOutcome};
 use crate::volume::{PutFault, put_plan};
 use std::alloc::Global;
 use std::marker::Sync;
 use std::thread::Threads;
-use xfs_disk::{BLOCK_SIZE, Disk, Failed, Library, Stamp};
+use xfs_disk::{Disk, Failed, Library, Stamp};
 use xfs_empty::plan_empty;
 use xfs_geom::Geometry;
 use xfs_options::MakeOptions;
@@ -41,7 +42,8 @@ const FILES: u8 = 10;
 /// `WriteFault`.
 ///
 /// A label has at most 12 bytes. `TooSmall` of the first bound that is broken, before anything is read but the disk's
-/// size; `HasVolume` where the disk begins with a superblock, unless it is to be written over; `NoRoom` of the first
+/// size; `HasVolume` where a mark stands on the disk of a volume, another file system or a partition table, unless it is to be
+/// written over; `NoRoom` of the first
 /// group without room for its trees; `ReadFault` and `WriteFault` only where the disk's counts rose; `NoMemory` where
 /// memory is wanting. Files of a protofile and generated ones are not built yet: `Unbuilt`.
 pub fn make<R: Threads + Sync, D: Disk, L: Library>(
@@ -58,8 +60,8 @@ pub fn make<R: Threads + Sync, D: Disk, L: Library>(
     ensures cause { IsMakingCause (D.faults disk.old) (D.faults disk.new) (D.write_faults disk.old) (D.write_faults disk.new) result }
     // all planned blocks were written, or just as many as a write fault tells, or none
     ensures counts { CountsBlocks options.now stamp.now (D.size disk.old) (D.writes disk.old) (D.writes disk.new) result }
-    // block 0 alone is read, once, and not where it is written over anyway
-    ensures reads { D.reads disk.new ≡ reads_at options.now.force (D.reads disk.old) result }
+    // the four blocks that have the marks are read, each once, and not where they are written over anyway
+    ensures reads { CountsReads options.now.force (D.reads disk.old) (D.reads disk.new) result }
     // nothing is written and no sync asked for, unless the volume was made or a write or a sync failed
     ensures unwritten { IsUnwritten result → OnlyReads D.size D.holds D.write_faults D.writes D.tells_stops D.moment D.may_leave D.left_since disk.old disk.new }
     // a volume that was made is kept: a stop leaves just what the disk holds
@@ -103,7 +105,7 @@ fn decide<D: Disk>(
     ensures fits { OnOk result (too_small (asked_of options.now) (D.size disk.old) ≡ None) }
     ensures chosen { IfOk result (λ g. IsGeometry options.now stamp.now (D.size disk.old) g) }
     ensures disk { OnlyReads D.size D.holds D.write_faults D.writes D.tells_stops D.moment D.may_leave D.left_since disk.old disk.new }
-    ensures reads { IfErr result (λ outcome. D.reads disk.new ≡ reads_at options.now.force (D.reads disk.old) outcome) }
+    ensures reads { IfErr result (λ outcome. CountsReads options.now.force (D.reads disk.old) (D.reads disk.new) outcome) }
     ensures looked { OnOk result (D.reads disk.new ≡ looked options.now.force (D.reads disk.old)) }
     ensures faults { D.faults disk.old ≤ D.faults disk.new }
 {
@@ -181,31 +183,19 @@ fn put_answer(fault: PutFault) -> MakeOutcome
     }
 }
 
-/// Whether block 0 begins with the magic number of a superblock; it is not looked at where it is written over anyway.
+/// Whether a mark stands on the disk, which is not looked at where it is written over anyway.
 fn has_volume<D: Disk>(disk: &mut D, force: bool) -> Result<bool, Failed>
-    requires some { 0 < D.size disk.old }
-    ensures value { IfOk result (λ there. ForSome (D.holds disk.old) (λ image. there ≡ (not force && begins_with_magic (bytes_of_block image 0)))) }
+    requires some { 16 < D.size disk.old }
+    ensures value { IfOk result (λ there. ForSome (D.holds disk.old) (λ image. there ≡ (not force && is_marked image))) }
     ensures disk { OnlyReads D.size D.holds D.write_faults D.writes D.tells_stops D.moment D.may_leave D.left_since disk.old disk.new }
     ensures looked { OnOk result (D.reads disk.new ≡ looked force (D.reads disk.old)) }
-    ensures failed { OnErr result (D.reads disk.new ≡ D.reads disk.old) }
+    ensures failed { OnErr result (LooksPartly force (D.reads disk.old) (D.reads disk.new)) }
     ensures cause { HasCause (D.faults disk.old) (D.faults disk.new) result }
 {
     if force {
         return Ok(false);
     }
-    let mut block = [0; BLOCK_SIZE];
-    match disk.read(0, &mut block) {
-        Ok(()) => Ok(begins_with_magic(&block)),
-        Err(Failed) => Err(Failed),
-    }
-}
-
-/// Whether a block begins with the magic number of a superblock.
-fn begins_with_magic(block: &[u8]) -> bool
-    requires { 4 ≤ length block.now }
-    ensures { result ≡ begins_with_magic block.now }
-{
-    block[..4] == b"XFSB"[..]
+    is_marked(disk)
 }
 
 /// The blocks of an empty volume of this geometry, with this label.

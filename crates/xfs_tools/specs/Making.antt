@@ -10,7 +10,7 @@ use Rattle.xfs_options.specs.declared.make_words.MakeFault.{MakeFault}
 use Rattle.xfs_options.specs.declared.make_words.MakeFault.TheVariants as words
 use Rattle.xfs_options.specs.declared.make_words.MakeLine.{MakeLine}
 use Rattle.xfs_options.specs.declared.make_words.MakeOptions.{MakeOptions}
-use Rattle.xfs_mkfs.specs.Counts.{CountsBlocks, IsUnwritten, reads_at}
+use Rattle.xfs_mkfs.specs.Counts.{CountsBlocks, CountsReads, IsUnwritten}
 use Rattle.xfs_mkfs.specs.Outcome as mkfs
 use Rattle.xfs_mkfs.specs.Stops.{IsDurableMake, StopLeaves}
 use Rattle.xfs_mkfs.specs.declared.outcome.MakeOutcome.{MakeOutcome}
@@ -37,7 +37,7 @@ is_made (Made summary) = true
 is_made answer = false
 
 -- A volume was to be made on a disk, and this came of it. Whatever the disk tells: a fault only where its count rose, all blocks of
--- the plan written, or as many as a write fault says, or none; block 0 alone is read; before every answer but made and a write fault the disk
+-- the plan written, or as many as a write fault says, or none; just the four blocks that have the marks read, and not under -f; before every answer but made and a write fault the disk
 -- was only read. Of a disk that tells what it holds, also that the outcome is due and what it leaves; of one that tells its stops, also
 -- what a stop may leave.
 pub record IsMake {D : Type 0} (holds : D → Option Image) (size faults write_faults reads writes : D → ℕ) (tells_stops : D → Type 0)
@@ -46,7 +46,7 @@ pub record IsMake {D : Type 0} (holds : D → Option Image) (size faults write_f
   pub leaves : ForSome (holds old) (λ image. mkfs.MakeLeaves o s (size old) image (holds new) outcome)
   pub cause : mkfs.IsMakingCause (faults old) (faults new) (write_faults old) (write_faults new) outcome
   pub counts : CountsBlocks o s (size old) (writes old) (writes new) outcome
-  pub looked : reads new ≡ reads_at o.force (reads old) outcome
+  pub looked : CountsReads o.force (reads old) (reads new) outcome
   pub unwritten : IsUnwritten outcome → OnlyReads size holds write_faults writes tells_stops moment may_leave left_since old new
   pub kept : IsDurableMake (tells_stops old) (holds new) (may_leave new) outcome
   pub stops : tells_stops old → ForSome (holds old) (λ image. (t : ℕ) (stopped : Image) → t ≤ moment old → left_since new t stopped

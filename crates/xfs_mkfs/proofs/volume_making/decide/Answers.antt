@@ -1,6 +1,7 @@
 use Rattle.std.proofs.Common.{ℕ, ◌≤◌, arith, sym, subst}
 use Rattle.xfs_geom.specs.Volumes.{volume_of}
 use Rattle.xfs_empty.proofs.Kept.{many}
+use Rattle.xfs_mkfs.proofs.Failing.{reads_failed, reads_nothing}
 use Rattle.xfs_mkfs.proofs.Geometries.{on_disk}
 use Rattle.xfs_mkfs.proofs.volume_making.decide.Goals as goal
 
@@ -12,3 +13,10 @@ has_volume-requires g c =
     subst (λ (n : ℕ). n ≤ c.in-Ok.blocks) (sym c.in-Ok-choose.ensures.chosen.dblocks)
     (on_disk c.asked_of.result c.in-Ok.blocks c.in-Ok-choose.ensures.fits) in
     record { some = omega (arith, some, inside, c.in-Ok.ensures.count, c.in-Ok.ensures.size) }
+
+pub returns-in-Err-clause-reads : goal.returns-in-Err-clause-reads
+returns-in-Err-clause-reads g c =
+    let force = c.args.options.now.force in
+    let before = g.D.Disk.reads c.args.disk.now in
+    let now = g.D.Disk.reads c.blocks-2.new.self in
+    reads_failed force before now _ c.read_fault.result c.read_fault.ensures (reads_nothing force before now c.in-Err.ensures.reads)

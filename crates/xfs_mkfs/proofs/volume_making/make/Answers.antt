@@ -3,7 +3,7 @@ use Rattle.xfs_disk.specs.Counts.{raised_times}
 use Rattle.xfs_disk.specs.Blocks.{IsImage}
 use Rattle.xfs_disk.specs.Reads.{OnlyReads}
 use Rattle.xfs_render.specs.Plans.{planned}
-use Rattle.xfs_mkfs.specs.Counts.{CountsBlocks, IsUnwritten, reads_at}
+use Rattle.xfs_mkfs.specs.Counts.{CountsBlocks, CountsReads, IsUnwritten}
 use Rattle.xfs_mkfs.specs.Outcome.{IsMakingCause, IsDueMake, IsPlanned, MakeLeaves}
 use Rattle.xfs_mkfs.specs.Putting.{CountsPut, HasPutCause}
 use Rattle.xfs_mkfs.specs.Stops.{IsDurableMake, StopLeaves}
@@ -64,7 +64,9 @@ pub returns-in-Err-plan_volume-clause-reads : goal.returns-in-Err-plan_volume-cl
 returns-in-Err-plan_volume-clause-reads g c =
     let force = c.args.options.now.force in
     let before = g.D.Disk.reads c.args.disk.now in
-    c.in-Ok.ensures.looked ∙ sym (ap (reads_at force before) c.place_answer.ensures.value ∙ reads_placing force before c.in-Err-plan_volume.fault)
+    let now = g.D.Disk.reads c.decide.new.disk in
+    subst (λ (x : MakeOutcome). CountsReads force before now x) (sym c.place_answer.ensures.value)
+    (reads_placing force before now c.in-Err-plan_volume.fault c.in-Ok.ensures.looked)
 
 pub returns-in-Err-plan_volume-clause-kept : goal.returns-in-Err-plan_volume-clause-kept
 returns-in-Err-plan_volume-clause-kept g c =
@@ -190,8 +192,9 @@ pub returns-clause-reads : goal.returns-clause-reads
 returns-clause-reads g c =
     let force = c.args.options.now.force in
     let before = g.D.Disk.reads c.args.disk.now in
-    c.in-Err-put_plan.ensures.reads
-    ∙ (c.in-Ok.ensures.looked ∙ sym (ap (reads_at force before) c.put_answer.ensures ∙ reads_putting force before c.in-Err-put_plan.fault))
+    let now = g.D.Disk.reads c.put_plan.new.disk in
+    subst (λ (x : MakeOutcome). CountsReads force before now x) (sym c.put_answer.ensures)
+    (reads_putting force before now c.in-Err-put_plan.fault (c.in-Err-put_plan.ensures.reads ∙ c.in-Ok.ensures.looked))
 
 pub returns-clause-unwritten : goal.returns-clause-unwritten
 returns-clause-unwritten g c = λ is.
