@@ -74,7 +74,7 @@ file_claims g f can =
     let attributes : List Run = map (extent_run v f.ino attribute_flag) f.attr_extents in
     All-append (IsClaimedRun g.dblocks) (extents ++ attributes) (runs_of_blocks f.ino tree_flag f.tree)
     (All-append (IsClaimedRun g.dblocks) extents attributes (of_fork 0 f.extents (inl refl) (placed v f.ino f.extents can.lies.extents))
-    (of_fork attribute_flag f.attr_extents (inr refl) (placed v f.ino f.attr_extents can.lies.attr)))
+    (of_fork attribute_flag f.attr_extents (inr refl) (placed v f.ino f.attr_extents can.lies.attr_extents)))
     (All-map (IsClaimedRun g.dblocks) (λ block. run block 1 f.ino tree_flag) f.tree
     (All-weaker (λ block. block < g.dblocks) (λ block. IsClaimedRun g.dblocks (run block 1 f.ino tree_flag)) (block_claim g f.ino) f.tree can.lies.tree))
   where

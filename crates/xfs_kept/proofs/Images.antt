@@ -131,7 +131,7 @@ bare_sound v image ino file reads = subst (IsSound v ino) reads (always_sound v 
 bare_is : (v : Volume) (ino : ℕ) (file : FileRec) → IsBareFile v ino file → HasLawfulForks v file
 bare_is v ino file is = record {
   extents = as_lawful v file.ino None file.extents is.keeps.extents;
-  attr = subst (λ (es : List Extent). are_lawful (bmbt_shape file.ino) v None es ≡ true) (sym is.no_extents) refl;
+  attr_extents = subst (λ (es : List Extent). are_lawful (bmbt_shape file.ino) v None es ≡ true) (sym is.no_extents) refl;
   tree = as_blocks v file.tree is.keeps.tree;
 }
 

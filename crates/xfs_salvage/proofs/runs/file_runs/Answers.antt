@@ -14,4 +14,4 @@ push_extents-requires-clause-placed c =
 pub push_extents-requires-2-clause-placed : goal.push_extents-requires-2-clause-placed
 push_extents-requires-2-clause-placed c =
     subst (λ (es : List Extent). All (IsPlacedExtent (volume_of c.args.g.now)) es) (sym c.as_slice-2.ensures)
-    (placed (volume_of c.args.g.now) c.args.file.now.ino c.args.file.now.attr_extents c.requires.attr)
+    (placed (volume_of c.args.g.now) c.args.file.now.ino c.args.file.now.attr_extents c.requires.attr_extents)
