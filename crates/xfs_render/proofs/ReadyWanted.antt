@@ -7,7 +7,7 @@ use Rattle.xfs_geom.specs.Shape.{HasGroups}
 use Rattle.xfs_geom.specs.Volumes.{Volume, volume_of}
 use Rattle.xfs_geom.specs.declared.records.Run.{Run}
 use Rattle.xfs_place.specs.Claims.{IsClaimedRun}
-use Rattle.xfs_place.specs.Objects.{asks_of, keep_with}
+use Rattle.xfs_place.specs.Objects.{keep_with}
 use Rattle.xfs_place.specs.Pool.{IsRunOf, is_taken}
 use Rattle.xfs_place.specs.Wanted.{CanBeKept, all_kept, kept_runs}
 use Rattle.xfs_place.specs.declared.faults.Unplaced.{Unplaced}
@@ -22,7 +22,7 @@ use Rattle.xfs_render.proofs.ReadyGroups.{length_small}
 use Rattle.xfs_render.proofs.TreePlaces.{all_right}
 
 none_more : (v : Volume) (reserved : List ℕ) (from : ℕ) (kept all : List Run) (objects : List Object) → length objects ≡ 0
-    → keep_with v reserved from kept (asks_of objects) ≡ Ok all → kept ≡ all
+    → keep_with v reserved from kept objects ≡ Ok all → kept ≡ all
 unfolding keep_with
 none_more v reserved from kept all [] none placed = cc
 none_more v reserved from kept all (o ∷ rest) none placed = absurd (omega (arith, none))

@@ -9,8 +9,14 @@ use super::*;
 use crate::checks::same;
 use crate::text::tells;
 
-/// An object that asks for runs of these lengths.
-fn object(alloc: Global, ino: u64, kind: ObjectKind, lengths: &[u32]) -> Result<Object, AllocError>
+/// An object that asks for runs of these lengths, and may take so many.
+pub fn object(
+    alloc: Global,
+    ino: u64,
+    kind: ObjectKind,
+    lengths: &[u32],
+    most: u32,
+) -> Result<Object, AllocError>
     requires { All (λ blocks. 1 ≤ blocks) lengths.now }
     ensures asks { IfOk result (λ object. All IsAsk object.runs) }
 {
@@ -26,6 +32,7 @@ fn object(alloc: Global, ino: u64, kind: ObjectKind, lengths: &[u32]) -> Result<
         ino,
         kind,
         runs: Records::from_vec(runs),
+        most,
     })
 }
 
@@ -34,9 +41,9 @@ fn three_objects(alloc: Global, last: u32) -> Result<Vec<Object>, AllocError>
     requires { 1 ≤ last }
     ensures { IfOk result (λ objects. All (λ object. All IsAsk object.runs) objects.items) }
 {
-    let directory = object(alloc, 131, ObjectKind::Directory, &[2, 1])?;
-    let link = object(alloc, 132, ObjectKind::Symlink, &[1])?;
-    let data = object(alloc, 133, ObjectKind::Data, &[6, 990, last])?;
+    let directory = object(alloc, 131, ObjectKind::Directory, &[2, 1], 2)?;
+    let link = object(alloc, 132, ObjectKind::Symlink, &[1], 1)?;
+    let data = object(alloc, 133, ObjectKind::Data, &[6, 990, last], 3)?;
     Ok(vec![in alloc; directory, link, data]?)
 }
 
@@ -88,7 +95,7 @@ fn objects_without_room(rt: HostRuntime) -> Result<(), Fail> {
         1,
     );
     assert!(rt; matches!(found, Err(PlaceFault::NoRoom(Unplaced::File(133)))));
-    let directory = object(alloc, 131, ObjectKind::Directory, &[1, 1000])?;
+    let directory = object(alloc, 131, ObjectKind::Directory, &[1, 1000], 2)?;
     let objects = vec![in alloc; directory]?;
     let found = place_beside(alloc, &SMALLEST, root_chunk(), Vec::new(alloc), objects, 25);
     assert!(rt; matches!(found, Err(PlaceFault::NoRoom(Unplaced::Directory(131)))));
@@ -123,7 +130,7 @@ fn trees_beside(
         reserved.push((from + 2 * i) as u64)?;
     }
     let ones = vec![in alloc; 1; runs as usize]?;
-    let data = object(alloc, 133, ObjectKind::Data, &ones)?;
+    let data = object(alloc, 133, ObjectKind::Data, &ones, runs)?;
     let objects = vec![in alloc; data]?;
     let end = from + 2 * runs;
     let rest = file(end as u64, (size.agblocks - end) as u64);
