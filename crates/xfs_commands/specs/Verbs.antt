@@ -1,5 +1,5 @@
 -- The commands by their names, and those that look at no object (xfs_db(8)).
-use Rattle.std.specs.Prelude.{ℕ, Bool, true, ◌==◌, nat_le, if◌then◌else◌, codes, bytes_eq, List, [], ◌∷◌, Option, Some, None, unwrap_or, slice_get}
+use Rattle.std.specs.Prelude.{ℕ, Bool, true, ◌==◌, ◌||◌, nat_le, if◌then◌else◌, codes, bytes_eq, List, [], ◌∷◌, Option, Some, None, unwrap_or, slice_get}
 use Rattle.std.specs.List.{find}
 use Rattle.xfs_geom.specs.Volumes.{Volume}
 use Rattle.xfs_objects.specs.Places.{is_place, measure_named}
@@ -32,6 +32,17 @@ verb_name Convert = codes "convert"
 verb_name Hash = codes "hash"
 verb_name Quit = codes "quit"
 
+-- the short name of a command, or its name again
+abbrev pub short_name : Verb → List ℕ
+short_name FsBlock = codes "fsb"
+short_name Addr = codes "a"
+short_name Print = codes "p"
+short_name Quit = codes "q"
+short_name other = verb_name other
+
+abbrev pub is_named : List ℕ → Verb → Bool
+is_named name verb = bytes_eq (verb_name verb) name || bytes_eq (short_name verb) name
+
 abbrev pub all_verbs : List Verb
 all_verbs =
     Sb ∷ Agf ∷ Agi ∷ Agfl ∷ Inode ∷ FsBlock ∷ DiskAddress ∷ Addr ∷ Retype ∷ Print ∷ Push ∷ Pop ∷ Stack ∷ Write ∷ Convert ∷ Hash ∷ Quit ∷ []
@@ -52,13 +63,13 @@ takes Write n = n == 2
 takes Convert n = n == 3
 takes other n = n == 1
 
--- the command of a name with so many words behind it
+-- the command of a name or a short name with so many words behind it
 abbrev pub taking : Option Verb → ℕ → Option Verb
 taking None n = None
 taking (Some verb) n = if takes verb n then Some verb else None
 
 unfoldable pub accepted : List ℕ → ℕ → Option Verb
-accepted name n = taking (find (λ (v : Verb). bytes_eq (verb_name v) name) all_verbs) n
+accepted name n = taking (find (is_named name) all_verbs) n
 
 -- the word of this number
 abbrev pub word_at : List (List ℕ) → ℕ → List ℕ

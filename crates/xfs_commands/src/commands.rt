@@ -1,10 +1,10 @@
 //! The commands by their names.
 
-ghost use Rattle.std.specs.Prelude.{◌≡◌, ℕ, if◌then◌else◌, bytes_eq, Some, None, IfOk};
+ghost use Rattle.std.specs.Prelude.{◌≡◌, ℕ, if◌then◌else◌, Some, None, IfOk};
 ghost use Rattle.std.specs.List.{find};
 ghost use Rattle.xfs_geom.specs.Volumes.{volume_of};
 ghost use Rattle.xfs_commands.specs.Commands.{bad_command, converts, session_of, types, IsEffect, IsWithin};
-ghost use Rattle.xfs_commands.specs.Verbs.{accepted, at_place, converts_named, runs_alone, takes, taking, verb_name, word_at};
+ghost use Rattle.xfs_commands.specs.Verbs.{accepted, at_place, converts_named, is_named, runs_alone, short_name, takes, taking, verb_name, word_at};
 ghost use Rattle.xfs_objects.specs.Places.{is_place, measure_named};
 ghost use Rattle.xfs_commands.specs.declared.commands.Verb.{Verb};
 
@@ -90,6 +90,26 @@ impl Verb {
         }
     }
 
+    /// Whether the command has this name, or this short name.
+    fn is_named(self, name: &[u8]) -> bool
+        ensures { result ≡ is_named name.now self }
+    {
+        self.name().as_bytes() == name || self.short_name().as_bytes() == name
+    }
+
+    /// The short name of the command, or its name again.
+    fn short_name(self) -> &'static str
+        ensures { result.now ≡ short_name self }
+    {
+        match self {
+            Verb::FsBlock => "fsb",
+            Verb::Addr => "a",
+            Verb::Print => "p",
+            Verb::Quit => "q",
+            _ => self.name(),
+        }
+    }
+
     /// The name of the command.
     fn name(self) -> &'static str
         ensures { result.now ≡ verb_name self }
@@ -118,10 +138,10 @@ impl Verb {
 
 /// The first of the commands that has this name.
 fn find_named(verbs: &[Verb], name: &[u8]) -> Option<Verb>
-    ensures { result ≡ find (λ (verb : Verb). bytes_eq (verb_name verb) name.now) verbs.now }
+    ensures { result ≡ find (is_named name.now) verbs.now }
 {
     for verb in verbs {
-        if verb.name().as_bytes() == name {
+        if verb.is_named(name) {
             return Some(*verb);
         }
     }

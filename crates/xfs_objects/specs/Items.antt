@@ -21,7 +21,7 @@ use Rattle.xfs_objects.specs.declared.items.PrintedRow.{PrintedRow}
 use Rattle.xfs_objects.specs.declared.items.PrintedRow.TheVariants.{Span, Chunk, ChunkStart, Owner, OwnerKeys, FileExtent, FileOffset}
 use Rattle.xfs_objects.specs.declared.items.ItemRun.{ItemRun}
 use Rattle.xfs_objects.specs.declared.items.Item as code
-use Rattle.xfs_objects.specs.Tables.{Item, super_fields, agf_fields, agi_front, agi_back, agfl_fields, short_fields, long_fields, inode_fields}
+use Rattle.xfs_objects.specs.Tables.{Item, super_fields, agf_fields, agi_front, agi_back, agfl_fields, short_fields, long_fields, inode_aliases, inode_fields}
 use Rattle.xfs_objects.specs.declared.objects.ObjectType.{ObjectType}
 use Rattle.xfs_objects.specs.declared.objects.ObjectType.TheVariants.{Sb, Agf, Agi, Agfl, Bnobt, Cntbt, Inobt, Finobt, Rmapbt, Bmapbt, Inode, Data}
 
@@ -126,9 +126,14 @@ is_inside size item = nat_le (item.offset + shape_len item.shape) size && is_sho
 abbrev pub AllInside : ℕ → List code.Item → Type 0
 AllInside size items = All (λ (i : code.Item). IsTrue (is_inside size (item_of i))) items
 
--- what a word names in an object
+-- what has another name, under which xfs_db of xfsprogs knows it; it is not printed where all of an object is
+abbrev pub aliases_of : ObjectType → List Item
+aliases_of Inode = inode_aliases
+aliases_of other = []
+
+-- what a word names in an object, under either name
 unfoldable pub item_named : ObjectType → List ℕ → List ℕ → Option Item
-item_named kind object word = find (λ i. bytes_eq i.name word) (items_of kind object)
+item_named kind object word = find (λ i. bytes_eq i.name word) (items_of kind object ++ aliases_of kind)
 
 -- the bytes of a number, where the item holds one that can be set
 abbrev pub number_width : Shape → Option ℕ

@@ -107,3 +107,20 @@ inode_fields =
     hex (codes "flags") 90 2 ∷ dec (codes "gen") 92 4 ∷ dec (codes "next_unlinked") 96 4 ∷ check (codes "crc") 100 ∷
     dec (codes "changecount") 104 8 ∷ hex (codes "lsn") 112 8 ∷ hex (codes "flags2") 120 8 ∷
     dec (codes "cowextsize") 128 4 ∷ hex (codes "crtime") 144 8 ∷ dec (codes "ino") 152 8 ∷ ident (codes "uuid") 160 ∷ []
+
+-- the same under the names that xfs_db of xfsprogs has for them; the seconds and the nanoseconds of a time have names of their own
+abbrev pub inode_aliases : List Item
+inode_aliases =
+    hex (codes "core.magic") 0 2 ∷ hex (codes "core.mode") 2 2 ∷ dec (codes "core.version") 4 1 ∷
+    dec (codes "core.format") 5 1 ∷ dec (codes "core.uid") 8 4 ∷ dec (codes "core.gid") 12 4 ∷
+    dec (codes "core.nlinkv2") 16 4 ∷ dec (codes "core.projid_lo") 20 2 ∷ dec (codes "core.projid_hi") 22 2 ∷
+    hex (codes "core.atime") 32 8 ∷ dec (codes "core.atime.sec") 32 4 ∷ dec (codes "core.atime.nsec") 36 4 ∷
+    hex (codes "core.mtime") 40 8 ∷ dec (codes "core.mtime.sec") 40 4 ∷ dec (codes "core.mtime.nsec") 44 4 ∷
+    hex (codes "core.ctime") 48 8 ∷ dec (codes "core.ctime.sec") 48 4 ∷ dec (codes "core.ctime.nsec") 52 4 ∷
+    dec (codes "core.size") 56 8 ∷ dec (codes "core.nblocks") 64 8 ∷ dec (codes "core.extsize") 72 4 ∷
+    dec (codes "core.nextents") 76 4 ∷ dec (codes "core.naextents") 80 2 ∷ dec (codes "core.forkoff") 82 1 ∷
+    dec (codes "core.aformat") 83 1 ∷ hex (codes "core.flags") 90 2 ∷ dec (codes "core.gen") 92 4 ∷
+    check (codes "v3.crc") 100 ∷ dec (codes "v3.change_count") 104 8 ∷ hex (codes "v3.lsn") 112 8 ∷
+    hex (codes "v3.flags2") 120 8 ∷ dec (codes "v3.cowextsize") 128 4 ∷ hex (codes "v3.crtime") 144 8 ∷
+    dec (codes "v3.crtime.sec") 144 4 ∷ dec (codes "v3.crtime.nsec") 148 4 ∷ dec (codes "v3.inumber") 152 8 ∷
+    ident (codes "v3.uuid") 160 ∷ []

@@ -5,11 +5,12 @@ ghost use Rattle.std.specs.List.{find, list_all};
 ghost use Rattle.std.specs.Option.{option_map};
 ghost use Rattle.xfs_tree.specs.Layout.{IsLayout, pointer_len, keys_len};
 ghost use Rattle.xfs_word.specs.Field.{is_width};
-ghost use Rattle.xfs_objects.specs.Items.{agfl_items, agi_items, array_items, block_items, child_items, field_item, is_inside, is_shown, item_named, item_of, items_of, number_width, record_items, run_items, row_len, shape_len, AllInside};
+ghost use Rattle.xfs_objects.specs.Items.{agfl_items, agi_items, aliases_of, array_items, block_items, child_items, field_item, is_inside, is_shown, item_named, item_of, items_of, number_width, record_items, run_items, row_len, shape_len, AllInside};
 ghost use Rattle.xfs_objects.specs.Objects.{object_size};
 ghost use Rattle.xfs_word.specs.declared.layout.FieldLayout.{FieldLayout};
 ghost use Rattle.xfs_objects.specs.declared.items.Shape.TheVariants as Shape;
 
+use crate::aliases::INODE_ALIASES;
 use crate::objects::ObjectType;
 use itoa::Buffer;
 use std::alloc::Global;
@@ -351,7 +352,7 @@ fn push_fields(items: &mut Vec<Item>, fields: &[FieldLayout], size: usize) -> Re
     Ok(())
 }
 
-/// What a word names in an object.
+/// What a word names in an object, under its name in the tables or under that of xfsprogs.
 #[tactic(auto, unfolding(crate::specs::Items::item_named))]
 pub fn named_item(
     alloc: Global,
@@ -363,8 +364,21 @@ pub fn named_item(
     ensures value { IfOk result (λ found. option_map item_of found ≡ item_named kind object.now word.now) }
     ensures inside { IfOk result (λ found. IfSome found (λ item. IsTrue (is_inside (object_size kind) (item_of item)))) }
 {
-    let items = items(alloc, kind, object)?;
+    let mut items = items(alloc, kind, object)?;
+    push_aliases(&mut items, kind)?;
     find_item(alloc, items.as_slice(), word)
+}
+
+/// Adds what has another name in an object.
+fn push_aliases(items: &mut Vec<Item>, kind: ObjectType) -> Result<(), NoMemory>
+    requires { AllInside (object_size kind) items.old.items }
+    ensures items { OnOk result (map item_of items.new.items ≡ map item_of items.old.items ++ aliases_of kind) }
+    ensures inside { OnOk result (AllInside (object_size kind) items.new.items) }
+{
+    match kind {
+        ObjectType::Inode => push_fields(items, &INODE_ALIASES, 512),
+        _ => Ok(()),
+    }
 }
 
 /// The first of the items that has this name.

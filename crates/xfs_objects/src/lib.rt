@@ -14,6 +14,7 @@
 //! ```
 #![tactic(auto)]
 
+mod aliases;
 mod convert;
 mod hexadecimal;
 mod items;

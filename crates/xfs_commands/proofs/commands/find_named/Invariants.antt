@@ -1,9 +1,7 @@
-use Rattle.std.proofs.Common.{◌≡◌, drop, bytes_eq}
+use Rattle.std.proofs.Common.{◌≡◌, drop}
 use Rattle.std.specs.List.{find}
-use Rattle.xfs_commands.specs.Verbs.{verb_name}
-use Rattle.xfs_commands.specs.declared.commands.Verb.{Verb}
+use Rattle.xfs_commands.specs.Verbs.{is_named}
 use Rattle.xfs_commands.proofs.commands.find_named.Given as goal
 
 abbrev pub invariant-loop-verb : goal.invariant-loop-verb
-invariant-loop-verb l =
-    let named : Verb → _ = λ verb. bytes_eq (verb_name verb) l.name in find named (drop l.verb-index l.verbs) ≡ find named l.verbs
+invariant-loop-verb l = find (is_named l.name) (drop l.verb-index l.verbs) ≡ find (is_named l.name) l.verbs
