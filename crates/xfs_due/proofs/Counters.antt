@@ -2,6 +2,7 @@
 use Rattle.std.proofs.Common.{◌≡◌, ℕ, ◌+◌, ◌-◌, max, List, [], ◌∷◌, length, map, refl, sym, ◌∙◌, ap, ap₂, arith, map-id}
 use Rattle.std.specs.List.{fold, sum}
 use Rattle.std.proofs.lemmas.List.Sums.{sum-map}
+use Rattle.xfs_geom.specs.Sums as Sums
 use Rattle.xfs_geom.specs.Volumes.{Volume}
 use Rattle.xfs_geom.specs.declared.records.InoRec.{InoRec}
 use Rattle.xfs_geom.specs.declared.records.Span.{Span}
@@ -47,13 +48,13 @@ module _ (v : Volume) (ag : ℕ) (inodes : List InoRec) (p : GroupPlaced) (agf_c
       let c = packed 168 91 (length p.rmap) (tree_places p 4) sized.rmap in
       ap₂ (λ (m n : ℕ). m + n - 3) (ap₂ (λ (m n : ℕ). m + n) a b) c
 
-  pub free_is : Laws.free_blocks (due_group v ag inodes p agf_crc agi_crc).bno ≡ Placed.free_blocks p.bno
+  pub free_is : Sums.free_blocks (due_group v ag inodes p agf_crc agi_crc).bno ≡ Sums.free_blocks p.bno
   free_is = ap (λ (ss : List Span). sum (map (λ (s : Span). s.count) ss)) (spans_settled p.bno)
 
-  pub slots_are : Laws.slots (due_group v ag inodes p agf_crc agi_crc).ino ≡ Placed.slots inodes
+  pub slots_are : Sums.slots (due_group v ag inodes p agf_crc agi_crc).ino ≡ Sums.slots inodes
   slots_are = ap sum (slots_settled inodes)
 
-  pub free_slots_are : Laws.free_slots (due_group v ag inodes p agf_crc agi_crc).ino ≡ Placed.free_slots inodes
+  pub free_slots_are : Sums.free_slots (due_group v ag inodes p agf_crc agi_crc).ino ≡ Sums.free_slots inodes
   free_slots_are = ap sum (free_settled inodes)
 
   pub room_is : Laws.room (due_group v ag inodes p agf_crc agi_crc) ≡ Placed.room_placed p

@@ -1,6 +1,7 @@
 -- The counters of the volume are the sums of those of its groups.
 use Rattle.std.proofs.Common.{◌≡◌, ℕ, suc, ◌+◌, ◌*◌, ◌<◌, List, [], ◌∷◌, length, get_or, map, refl, sym, ◌∙◌, ap, ap₂, subst, arith}
 use Rattle.std.specs.List.{range_with_len, sum}
+use Rattle.xfs_geom.specs.Sums as Sums
 use Rattle.xfs_geom.specs.Volumes.{Volume}
 use Rattle.xfs_geom.specs.declared.records.Counts.{Counts}
 use Rattle.xfs_geom.specs.declared.records.Run.{Run}
@@ -50,15 +51,15 @@ module _ (v : Volume) (kept : List Run) (reserved : List ℕ) (inodes : List Gro
       groups_kept Laws.group_counts (due_group_at v inodes groups agf_crc agi_crc) 0 v.agcount (λ ag low high.
       counts_kept v ag (inodes_in_group inodes ag) (get_or groups ag no_group) (agf_crc ag) (agi_crc ag) (sized ag (omega (arith, high))))
 
-  all_slots : length inodes ≡ v.agcount → sum (map (λ (g : GroupInodes). Placed.slots g.records) inodes) ≡ sum (map (λ (g : GroupRec). Laws.slots g.ino) (due_groups v inodes groups agf_crc agi_crc))
+  all_slots : length inodes ≡ v.agcount → sum (map (λ (g : GroupInodes). Sums.slots g.records) inodes) ≡ sum (map (λ (g : GroupRec). Sums.slots g.ino) (due_groups v inodes groups agf_crc agi_crc))
   all_slots all =
-      ap sum (numbers_are (λ (g : GroupInodes). Placed.slots g.records) (λ (g : GroupRec). Laws.slots g.ino) (due_group_at v inodes groups agf_crc agi_crc) inodes (record { records = [] }) 0 v.agcount all
-      (λ k low. sym (slots_are v k (inodes_in_group inodes k) (get_or groups k no_group) (agf_crc k) (agi_crc k) (sized k low)) ∙ same_at (λ (g : GroupRec). Laws.slots g.ino) k))
+      ap sum (numbers_are (λ (g : GroupInodes). Sums.slots g.records) (λ (g : GroupRec). Sums.slots g.ino) (due_group_at v inodes groups agf_crc agi_crc) inodes (record { records = [] }) 0 v.agcount all
+      (λ k low. sym (slots_are v k (inodes_in_group inodes k) (get_or groups k no_group) (agf_crc k) (agi_crc k) (sized k low)) ∙ same_at (λ (g : GroupRec). Sums.slots g.ino) k))
 
-  all_free_slots : length inodes ≡ v.agcount → sum (map (λ (g : GroupInodes). Placed.free_slots g.records) inodes) ≡ sum (map (λ (g : GroupRec). Laws.free_slots g.ino) (due_groups v inodes groups agf_crc agi_crc))
+  all_free_slots : length inodes ≡ v.agcount → sum (map (λ (g : GroupInodes). Sums.free_slots g.records) inodes) ≡ sum (map (λ (g : GroupRec). Sums.free_slots g.ino) (due_groups v inodes groups agf_crc agi_crc))
   all_free_slots all =
-      ap sum (numbers_are (λ (g : GroupInodes). Placed.free_slots g.records) (λ (g : GroupRec). Laws.free_slots g.ino) (due_group_at v inodes groups agf_crc agi_crc) inodes (record { records = [] }) 0 v.agcount all
-      (λ k low. sym (free_slots_are v k (inodes_in_group inodes k) (get_or groups k no_group) (agf_crc k) (agi_crc k) (sized k low)) ∙ same_at (λ (g : GroupRec). Laws.free_slots g.ino) k))
+      ap sum (numbers_are (λ (g : GroupInodes). Sums.free_slots g.records) (λ (g : GroupRec). Sums.free_slots g.ino) (due_group_at v inodes groups agf_crc agi_crc) inodes (record { records = [] }) 0 v.agcount all
+      (λ k low. sym (free_slots_are v k (inodes_in_group inodes k) (get_or groups k no_group) (agf_crc k) (agi_crc k) (sized k low)) ∙ same_at (λ (g : GroupRec). Sums.free_slots g.ino) k))
 
   all_room : sum (map Placed.room_placed groups) ≡ sum (map Laws.room (due_groups v inodes groups agf_crc agi_crc))
   all_room =

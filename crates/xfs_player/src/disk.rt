@@ -38,8 +38,9 @@ impl CaseDisk {
     /// A disk that holds the same. No call of it is to fail, and it has counted nothing.
     pub fn copy(&self, alloc: Global) -> Result<CaseDisk, Refusal> {
         let mut copy = CaseDisk::make(alloc, self.held(), self.blocks)?;
+        let zeros = [0; BLOCK_SIZE];
         for (place, block) in self.memory.image().chunks(BLOCK_SIZE).enumerate() {
-            if block.iter().any(|byte| *byte != 0) {
+            if block != zeros.as_slice() {
                 copy.put(place as u64, 0, block)?;
             }
         }

@@ -4,7 +4,7 @@ use Rattle.std.specs.List.{All, AllByRecursion, list_all, list_any}
 use Rattle.std.specs.Option.{SomeIff}
 use Rattle.std.proofs.lemmas.Bool.{and_from, false_from_ne_true, le-leb, lt-ltb, ne_eqb, or_from}
 use Rattle.std.proofs.lemmas.List.Elements.{All-append, All-cons, All-map, All-nil, All-weaker, recursion_from_All}
-use Rattle.xfs_geom.specs.Runs.{covers}
+use Rattle.xfs_geom.specs.Runs.{covers, runs_on}
 use Rattle.xfs_disk.specs.Lists.{is_in_range}
 use Rattle.xfs_word.specs.declared.extents.Extent.{Extent}
 use Rattle.xfs_geom.specs.Volumes.{Volume, volume_of}
@@ -92,28 +92,28 @@ files_claim g low (f ∷ fs) up =
     (files_claim g (f.ino + 1) fs up.2)
 
 -- runs of which none has a block of another are apart
-none_twice : (r : Run) (rest : List Run) → 1 ≤ r.count → AllByRecursion (λ (s : Run). 1 ≤ s.count) rest → ((b : ℕ) → covers b r ≡ true → Place.runs_on rest b ≡ 0)
+none_twice : (r : Run) (rest : List Run) → 1 ≤ r.count → AllByRecursion (λ (s : Run). 1 ≤ s.count) rest → ((b : ℕ) → covers b r ≡ true → runs_on rest b ≡ 0)
     → list_all (spans_apart (span_pair r)) (spans_of rest) ≡ true
 none_twice r [] some others none = refl
 none_twice r (s ∷ rest) some others none =
     and_from (spans_apart (span_pair r) (span_pair s)) (list_all (spans_apart (span_pair r)) (spans_of rest))
     (apart_by_blocks (span_pair r) (span_pair s) some others.0
     (λ b low high. false_from_ne_true (is_in_range r.start r.count b) (λ on.
-    let none_there : Place.runs_on (s ∷ rest) b ≡ 0 = none b on in
+    let none_there : runs_on (s ∷ rest) b ≡ 0 = none b on in
     let sums = on_first s rest b in
     let one : one_if (covers b s) ≡ 1 = ap one_if (and_from (nat_le s.start b) (nat_lt b (s.start + s.count)) (le-leb s.start b low) (lt-ltb b (s.start + s.count) high)) in
     omega (arith, none_there, sums, one))))
-    (none_twice r rest some others.1 (λ b on. let none_there : Place.runs_on (s ∷ rest) b ≡ 0 = none b on in let sums = on_first s rest b in omega (arith, none_there, sums)))
+    (none_twice r rest some others.1 (λ b on. let none_there : runs_on (s ∷ rest) b ≡ 0 = none b on in let sums = on_first s rest b in omega (arith, none_there, sums)))
 
-pub apart_from_once : (rs : List Run) → AllByRecursion (λ (s : Run). 1 ≤ s.count) rs → ((b : ℕ) → Place.runs_on rs b ≤ 1) → SpansApart (spans_of rs)
+pub apart_from_once : (rs : List Run) → AllByRecursion (λ (s : Run). 1 ≤ s.count) rs → ((b : ℕ) → runs_on rs b ≤ 1) → SpansApart (spans_of rs)
 apart_from_once [] some once = tt
 apart_from_once (r ∷ rest) some once = (
   none_twice r rest some.0 some.1 (λ b on.
-      let upto : Place.runs_on (r ∷ rest) b ≤ 1 = once b in
+      let upto : runs_on (r ∷ rest) b ≤ 1 = once b in
       let sums = on_first r rest b in
       let one : one_if (covers b r) ≡ 1 = ap one_if on in
       omega (arith, upto, sums, one)),
-  apart_from_once rest some.1 (λ b. let upto : Place.runs_on (r ∷ rest) b ≤ 1 = once b in let sums = on_first r rest b in omega (arith, upto, sums)),
+  apart_from_once rest some.1 (λ b. let upto : runs_on (r ∷ rest) b ≤ 1 = once b in let sums = on_first r rest b in omega (arith, upto, sums)),
 )
 
 -- the blocks with a fixed use
@@ -121,7 +121,7 @@ nothing_kept : (v : Volume) → Wanted.CanBeKept v []
 nothing_kept v = record {
   each = All-nil (Place.IsClaimedRun v.dblocks);
   clear = All-nil (Wanted.IsOffFixed v);
-  apart = record { once = λ block. let none : Place.runs_on [] block ≡ 0 = refl in omega (arith, none) };
+  apart = record { once = λ block. let none : runs_on [] block ≡ 0 = refl in omega (arith, none) };
 }
 
 fixed_each : (g : Geometry) → All (Place.IsClaimedRun g.dblocks) (fixed_runs (volume_of g))
