@@ -3,7 +3,7 @@
 use crate::calls::{Call, Surroundings};
 use crate::numbers::{cut, number};
 use crate::refusal::Refusal;
-use crate::stops::stop_after_each;
+use crate::stops::stop_by_steps;
 use crate::volume::Disks;
 use std::alloc::{AllocError, Global};
 use std::thread::Threads;
@@ -55,7 +55,7 @@ impl Case {
     /// `room N` bytes are left for standard output from here on; `input LINE` and `tail TEXT` are added to standard input, which is not
     /// read where the case has `unreadable`.
     ///
-    /// `stops N WORD|WORD|..` makes a call that writes N blocks on copies of the disk, of which each stops after one more of these
+    /// `stops N STEP WORD|WORD|..` makes a call that writes N blocks on copies of the disk, of which each stops after STEP more of these
     /// (`stops`). `run WORD|WORD|..` makes a call. Behind it stands what is due of it: `out LINE` and `err LINE`, `cut TEXT` for output that has no end
     /// of line, `code N` and `finished N` where they are not 0.
     pub fn take(
@@ -134,9 +134,11 @@ impl Case {
 
     /// Makes a call on disks that stop after each of its writes.
     fn stop(&mut self, rt: &(impl Threads + Sync), text: &str) -> Result<(), Refusal> {
-        let (due, words) = cut(text);
-        let due = number(due)?;
-        let stops = stop_after_each(rt, self.alloc, &self.disks.held, words, &self.given)?;
+        let (due, rest) = cut(text);
+        let (step, words) = cut(rest);
+        let (due, step) = (number(due)?, number(step)?);
+        let disk = &self.disks.held;
+        let stops = stop_by_steps(rt, self.alloc, disk, step, words, &self.given)?;
         if stops.writes != due {
             let told = format!(in self.alloc; "  {} blocks written, due {due}\n", stops.writes)?;
             self.told.push_str(told.as_str())?;

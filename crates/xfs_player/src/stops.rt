@@ -1,4 +1,4 @@
-//! A call that stops after each of its writes in turn.
+//! A call that stops after some of its writes, after more of them, and so on.
 
 use crate::calls::{Call, Surroundings};
 use crate::disk::CaseDisk;
@@ -14,13 +14,25 @@ pub struct Stops {
     pub wrong: Option<u64>,
 }
 
-/// Makes a call on copies of a disk. One goes on to its end, the others stop after one write, after two, and so on. Each is to hold
-/// one block more of what the whole call leaves than the one before it, in ascending order, but block 0 last; and its answer is to tell
-/// how many blocks were written.
-pub fn stop_after_each(
+/// The blocks that a disk holds otherwise than another one.
+#[derive(Clone, Copy)]
+struct Changes {
+    /// How many they are.
+    count: u64,
+    /// Whether block 0 is one of them.
+    begins: bool,
+    /// The lowest and the highest of the others.
+    ends: Option<(usize, usize)>,
+}
+
+/// Makes a call on copies of a disk. One goes on to its end, the others stop after `step` writes, after twice as many, and so on. Each
+/// is to hold `step` blocks more of what the whole call leaves than the one before it, in ascending order, but block 0 last; and its
+/// answer is to tell how many blocks were written.
+pub fn stop_by_steps(
     rt: &(impl Threads + Sync),
     alloc: Global,
     disk: &CaseDisk,
+    step: u64,
     words: &str,
     given: &Surroundings,
 ) -> Result<Stops, Refusal> {
@@ -28,20 +40,27 @@ pub fn stop_after_each(
     let _call = Call::make(rt, alloc, &mut whole, words, given)?;
     let writes = whole.writes();
     let mut before = disk.copy(alloc)?;
-    let mut place = None;
-    for n in 0..writes {
-        let written = n + 1;
+    let (mut done, mut place) = (0, 0);
+    for _ in 0..writes {
+        if done >= writes {
+            break;
+        }
+        let written = writes.min(done.saturating_add(step));
         let mut stopped = disk.copy(alloc)?;
         stopped.stop_after(written);
         let call = Call::make(rt, alloc, &mut stopped, words, given)?;
-        let next = next_block(before.image(), stopped.image(), whole.image());
-        if !call.tells_fault(alloc, written)? || !is_behind(place, next) {
+        let changes = changes(before.image(), stopped.image(), whole.image());
+        let in_order = changes.is_some_and(|c| {
+            c.count == written.saturating_sub(done) && c.is_behind(place, written == writes)
+        });
+        if !in_order || !call.tells_fault(alloc, written)? {
             return Ok(Stops {
                 writes,
                 wrong: Some(written),
             });
         }
-        place = next;
+        place = highest(changes, place);
+        done = written;
         before = stopped;
     }
     let wrong = if before.image() == whole.image() {
@@ -52,26 +71,59 @@ pub fn stop_after_each(
     Ok(Stops { writes, wrong })
 }
 
-/// The only block that is not as it was before, where it is as it is to be in the end.
-fn next_block(before: &[u8], now: &[u8], whole: &[u8]) -> Option<usize> {
-    let mut next = None;
+impl Changes {
+    /// Whether they come behind a block, and block 0 in the end alone.
+    fn is_behind(&self, place: usize, at_end: bool) -> bool {
+        let rest = match self.ends {
+            Some((lowest, _)) => place < lowest,
+            None => true,
+        };
+        rest && (at_end || !self.begins)
+    }
+}
+
+/// The highest of the blocks so far.
+fn highest(changes: Option<Changes>, place: usize) -> usize {
+    match changes {
+        Some(
+            Changes {
+                ends: Some((_, highest)),
+                ..
+            },
+        ) => highest,
+        _ => place,
+    }
+}
+
+/// The blocks that are not as they were before; `None` where one of them is not as it is to be in the end.
+fn changes(before: &[u8], now: &[u8], whole: &[u8]) -> Option<Changes> {
+    let mut changes = Changes {
+        count: 0,
+        begins: false,
+        ends: None,
+    };
     let blocks = before.chunks(BLOCK_SIZE).zip(now.chunks(BLOCK_SIZE));
     for (i, ((old, new), due)) in blocks.zip(whole.chunks(BLOCK_SIZE)).enumerate() {
         if old != new {
-            if next.is_some() || new != due {
+            if new != due {
                 return None;
             }
-            next = Some(i);
+            changes = with_block(changes, i);
         }
     }
-    next
+    Some(changes)
 }
 
-/// Whether there is a next block, and it comes behind the one before: blocks ascend, and block 0 is the last.
-fn is_behind(before: Option<usize>, next: Option<usize>) -> bool {
-    match (before, next) {
-        (_, None) => false,
-        (None, Some(_)) => true,
-        (Some(before), Some(next)) => before != 0 && (next == 0 || before < next),
+/// The changes with one more block, behind the others.
+fn with_block(changes: Changes, block: usize) -> Changes {
+    let ends = match changes.ends {
+        _ if block == 0 => changes.ends,
+        Some((lowest, _)) => Some((lowest, block)),
+        None => Some((block, block)),
+    };
+    Changes {
+        count: changes.count.saturating_add(1),
+        begins: changes.begins || block == 0,
+        ends,
     }
 }
