@@ -43,7 +43,7 @@ use Rattle.xfs_views.proofs.Files.{file_is, file_sound}
 use Rattle.xfs_protected.proofs.Addresses.{root_placed}
 use Rattle.xfs_protected.proofs.Images.{candidate_member, candidate_placed}
 use Rattle.xfs_protected.proofs.Members.{Member, all_members, member_any}
-use Rattle.xfs_salvage.specs.Claimable.{AscendClaiming, AscendWithin, CanBeKept, CanClaim}
+use Rattle.xfs_salvage.specs.Claimable.{AscendClaiming, AscendWithin, CanBeSalvaged, CanClaim}
 use Rattle.xfs_salvage.proofs.Conditions.{apart_from_once, runs_are}
 use Rattle.xfs_kept.proofs.Inodes.{inodes_ascend, inodes_small}
 use Rattle.xfs_kept.proofs.Taken.{at_most, spans_count}
@@ -189,7 +189,7 @@ root_among g image =
     (candidate_member g image (root_cluster v) (root_placed g) (root_candidate v image))
     (and_from (Clusters.is_recorded v image (root_cluster v)) (root_cluster v == root_cluster v) (root_recorded v image) (eq-eqb (root_cluster v) (root_cluster v) refl))
 
-pub image_can : (g : Geometry) (image : Image) → CanBeKept (volume_of g) (candidates (volume_of g) image) (candidate_files (volume_of g) image)
+pub image_can : (g : Geometry) (image : Image) → CanBeSalvaged (volume_of g) (candidates (volume_of g) image) (candidate_files (volume_of g) image)
 unfolding candidate_files
 image_can g image =
     let v : Volume = volume_of g in

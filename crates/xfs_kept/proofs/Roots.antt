@@ -28,7 +28,7 @@ use Rattle.xfs_place.proofs.KeptRun.{kept_alone}
 use Rattle.xfs_place.proofs.Ordered.{on_first}
 use Rattle.xfs_protected.specs.Claimed.{claims_in, fixed_runs}
 use Rattle.xfs_protected.proofs.Addresses.{addresses_of}
-use Rattle.xfs_protected.proofs.Claimed.{covers, spans_are}
+use Rattle.xfs_protected.proofs.Claimed.{spans_are}
 use Rattle.xfs_protected.proofs.Counted.{any_on}
 use Rattle.xfs_protected.proofs.Kept.{clusters_stay, clusters_stay_on}
 use Rattle.xfs_salvage.specs.Kept.{cluster_run, held_in, kept_clusters}

@@ -27,10 +27,10 @@ use Rattle.xfs_place.specs.Claims.{IsClaimedRun}
 use Rattle.xfs_place.specs.Wanted.{CanBeKept, IsOffFixed}
 use Rattle.xfs_place.proofs.Ordered.{on_first}
 use Rattle.xfs_protected.specs.Claimed.{claims_in, file_claim, fixed_runs, header_run, log_run}
-use Rattle.xfs_protected.proofs.Claimed.{covers, spans_are}
+use Rattle.xfs_protected.proofs.Claimed.{spans_are}
 use Rattle.xfs_protected.proofs.Counted.{member_on}
 use Rattle.xfs_protected.proofs.Members.{Member, all_members, any_member, filter_member, flat_member, map_member, member_all, member_any, member_either, member_map, member_row}
-use Rattle.xfs_salvage.specs.Claimable.{AscendClaiming, AscendWithin, CanBeKept, CanClaim}
+use Rattle.xfs_salvage.specs.Claimable.{AscendClaiming, AscendWithin, CanBeSalvaged, CanClaim}
 use Rattle.xfs_salvage.specs.Kept.{cluster_run, held_in, kept_clusters, kept_files, stays, taken_in}
 use Rattle.xfs_salvage.proofs.Conditions.{files_differ}
 use Rattle.xfs_kept.proofs.Claims.{cluster_claim, file_claims}
@@ -161,7 +161,7 @@ pub at_most : (t : Bool) → one_if t ≤ 1
 at_most true = omega arith
 at_most false = omega arith
 
-module _ (g : Geometry) (clusters : List ClusterRec) (files : List FileRec) (can : CanBeKept (volume_of g) clusters files) where
+module _ (g : Geometry) (clusters : List ClusterRec) (files : List FileRec) (can : CanBeSalvaged (volume_of g) clusters files) where
   abbrev test : FileRec → Bool
   test = stays (volume_of g) clusters files
 

@@ -5,9 +5,9 @@ ghost use Rattle.xfs_geom.specs.Volumes.{volume_of};
 ghost use Rattle.xfs_geom.specs.declared.geometry.Geometry.{Geometry};
 ghost use Rattle.xfs_image.specs.Candidates.{candidates};
 ghost use Rattle.xfs_image.specs.Claims.{candidate_files};
-ghost use Rattle.xfs_salvage.specs.Claimable.{CanBeKept};
+ghost use Rattle.xfs_salvage.specs.Claimable.{CanBeSalvaged};
 
 /// The candidate clusters and files of any image, which are those of its evidence, can claim their blocks.
 pub fn candidates_can_be_kept()
-    ensures { (g : Geometry) (image : Image) → CanBeKept (volume_of g) (candidates (volume_of g) image) (candidate_files (volume_of g) image) }
+    ensures { (g : Geometry) (image : Image) → CanBeSalvaged (volume_of g) (candidates (volume_of g) image) (candidate_files (volume_of g) image) }
 {}

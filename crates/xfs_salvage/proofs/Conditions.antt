@@ -28,7 +28,7 @@ use Rattle.xfs_place.specs.Wanted as Wanted
 use Rattle.xfs_place.proofs.AllClaims.{all_apart, all_each, is_volume}
 use Rattle.xfs_place.proofs.Ordered.{on_first}
 use Rattle.xfs_protected.specs.Claimed.{claims_in, file_claim, fixed_runs}
-use Rattle.xfs_salvage.specs.Claimable.{AscendClaiming, AscendWithin, CanBeKept, CanClaim}
+use Rattle.xfs_salvage.specs.Claimable.{AscendClaiming, AscendWithin, CanBeSalvaged, CanClaim}
 use Rattle.xfs_salvage.proofs.Apart.{apart_by_blocks}
 
 -- clusters that ascend end low, and differ
@@ -150,7 +150,7 @@ pub record AreReady (claims : Claims) : Type 0 where
   pub files_are : AreDifferent claimed_number claims.files
   pub files_can : All IsClaim claims.files
 
-claims_ready : (g : Geometry) (clusters : List ClusterRec) (files : List FileRec) → CanBeKept (volume_of g) clusters files → AreReady (claims_in (volume_of g) clusters files)
+claims_ready : (g : Geometry) (clusters : List ClusterRec) (files : List FileRec) → CanBeSalvaged (volume_of g) clusters files → AreReady (claims_in (volume_of g) clusters files)
 claims_ready g clusters files can =
     let small = g.shape.groups.small in
     record {
@@ -166,7 +166,7 @@ pub some_says : {T : Type 0} (P : Type 0) (value x : T) (o : Option T) → o ≡
 some_says {T = T} P value x o is says = subst (λ (y : Option T). SomeIff y P value) is says
 
 pub ready : (g : Geometry) (clusters : List ClusterRec) (files : List FileRec) (claims : Claims) (o : Option Claims) → o ≡ Some claims
-    → SomeIff o (CanBeKept (volume_of g) clusters files) (claims_in (volume_of g) clusters files) → AreReady claims
+    → SomeIff o (CanBeSalvaged (volume_of g) clusters files) (claims_in (volume_of g) clusters files) → AreReady claims
 ready g clusters files claims o is says =
-    let both = some_says (CanBeKept (volume_of g) clusters files) (claims_in (volume_of g) clusters files) claims o is says in
+    let both = some_says (CanBeSalvaged (volume_of g) clusters files) (claims_in (volume_of g) clusters files) claims o is says in
     subst AreReady (sym both.1) (claims_ready g clusters files both.0)

@@ -26,7 +26,7 @@ AscendClaiming v low [] = Unit {0}
 AscendClaiming v low (f ∷ fs) = (low ≤ f.ino) × CanClaim v f × AscendClaiming v (f.ino + 1) fs
 
 -- the clusters lie in the volume in their order, that of the root is a recorded one, and the files stand by number and can claim
-pub record CanBeKept (v : Volume) (clusters : List ClusterRec) (files : List FileRec) : Type 0 where
+pub record CanBeSalvaged (v : Volume) (clusters : List ClusterRec) (files : List FileRec) : Type 0 where
   pub root : is_recorded_cluster clusters (root_cluster v) ≡ true
   pub clusters_lie : AscendWithin v.dblocks 0 clusters
   pub files_claim : AscendClaiming v 0 files

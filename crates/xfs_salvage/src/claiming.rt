@@ -6,7 +6,7 @@ ghost use Rattle.xfs_geom.specs.Volumes.{volume_of};
 ghost use Rattle.xfs_claims.specs.Ranks.{is_recorded_cluster};
 ghost use Rattle.xfs_image.specs.Clusters.{cluster_of, root_cluster};
 ghost use Rattle.xfs_protected.specs.Claimed.{claims_in, file_claim, fixed_runs};
-ghost use Rattle.xfs_salvage.specs.Claimable.{AscendClaiming, CanBeKept, CanClaim};
+ghost use Rattle.xfs_salvage.specs.Claimable.{AscendClaiming, CanBeSalvaged, CanClaim};
 
 use crate::extents::is_file;
 use crate::order::ascend_within;
@@ -40,7 +40,7 @@ pub fn claims_of<L: Ledger>(
     files: &[FileRec],
     steps: &mut Steps<L>,
 ) -> Result<Option<Claims>, NoMemory>
-    ensures { IfOk result (λ claims. SomeIff claims (CanBeKept (volume_of g.now) clusters.now files.now) (claims_in (volume_of g.now) clusters.now files.now)) }
+    ensures { IfOk result (λ claims. SomeIff claims (CanBeSalvaged (volume_of g.now) clusters.now files.now) (claims_in (volume_of g.now) clusters.now files.now)) }
 {
     if !has_recorded(clusters, root_cluster(g)) {
         return Ok(None);

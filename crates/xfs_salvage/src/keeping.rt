@@ -3,7 +3,7 @@
 ghost use Rattle.std.specs.Prelude.{◌≡◌, ◌<◌, ◌^◌, IfOk, OnOk};
 ghost use Rattle.xfs_geom.specs.Volumes.{volume_of};
 ghost use Rattle.xfs_naming.specs.Naming.{NumbersAscend, numbers_of};
-ghost use Rattle.xfs_salvage.specs.Claimable.{CanBeKept};
+ghost use Rattle.xfs_salvage.specs.Claimable.{CanBeSalvaged};
 ghost use Rattle.xfs_salvage.specs.Kept.{dirs_among, entries_among, fresh_among, fresh_inodes, held_in, kept_clusters, kept_dirs, kept_entries, kept_files};
 
 use crate::claiming::claims_of;
@@ -31,7 +31,7 @@ pub fn salvage<R: Threads + Sync, L: Ledger>(
     found: Found,
     steps: &mut Steps<L>,
 ) -> Result<Salvaged, NoMemory>
-    ensures can { OnOk result (CanBeKept (volume_of g.now) found.clusters found.files) }
+    ensures can { OnOk result (CanBeSalvaged (volume_of g.now) found.clusters found.files) }
     ensures clusters { IfOk result (λ kept. kept.clusters ≡ kept_clusters (volume_of g.now) found.clusters found.files) }
     ensures files { IfOk result (λ kept. kept.files ≡ kept_files (volume_of g.now) found.clusters found.files) }
     ensures fresh { IfOk result (λ kept. kept.fresh ≡ fresh_inodes (volume_of g.now) found.clusters found.files) }
@@ -91,7 +91,7 @@ fn held<R: Threads + Sync, L: Ledger>(
     files: &[FileRec],
     steps: &mut Steps<L>,
 ) -> Result<KeptClaims, NoMemory>
-    ensures can { OnOk result (CanBeKept (volume_of g.now) clusters.now files.now) }
+    ensures can { OnOk result (CanBeSalvaged (volume_of g.now) clusters.now files.now) }
     ensures clusters { IfOk result (λ kept. kept.clusters ≡ (held_in (volume_of g.now) clusters.now files.now).clusters) }
     ensures files { IfOk result (λ kept. kept.files ≡ (held_in (volume_of g.now) clusters.now files.now).files) }
     ensures ascend { IfOk result (λ kept. NumbersAscend 0 kept.files) }
