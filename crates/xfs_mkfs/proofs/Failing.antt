@@ -124,3 +124,8 @@ pub stops_putting : (o : MakeOptions) (s : Stamp) (blocks : ℕ) (image stopped 
     → before ⊎ StopLeaves o s blocks image stopped (put_answer fault)
 stops_putting o s blocks image stopped Put.NoMemory before now same left it = inl (same refl it)
 stops_putting o s blocks image stopped (Put.Failed n) before now same left it = left it
+
+-- the count of failed writes has not fallen
+pub put_rises : (before now : ℕ) (fault : PutFault) → HasPutCause before now (Err fault) → before ≤ now
+put_rises before now Put.NoMemory cause = cause
+put_rises before now (Put.Failed n) cause = cause.0

@@ -10,12 +10,16 @@ use Rattle.xfs_mkfs.specs.Stops.{IsDurableMake, StopLeaves}
 use Rattle.xfs_mkfs.specs.declared.outcome.MakeOutcome.{MakeOutcome}
 use Rattle.xfs_mkfs.specs.declared.volume.PutFault.{PutFault}
 use Rattle.xfs_mkfs.specs.declared.volume.PutFault.TheVariants.{NoMemory}
-use Rattle.xfs_mkfs.proofs.Failing.{caused_placing, caused_putting, counts_putting, due_placing, due_putting, kept_putting, leaves_putting, reads_placing, reads_putting, stops_putting, unwritten_putting}
+use Rattle.xfs_mkfs.proofs.Failing.{caused_placing, caused_putting, counts_putting, due_placing, due_putting, kept_putting, leaves_putting, put_rises, reads_placing, reads_putting, stops_putting, unwritten_putting}
 use Rattle.xfs_mkfs.proofs.Geometries.{first_chunk, geometry_on_disk}
 use Rattle.xfs_mkfs.proofs.Guarding.{made_stopped}
 use Rattle.xfs_mkfs.proofs.Unwritten.{counts_unwritten, kept_unwritten, leaves_unwritten}
 use Rattle.xfs_mkfs.proofs.Volumes.{put_is_volume}
 use Rattle.xfs_mkfs.proofs.volume_making.make.Goals as goal
+
+pub plan_volume-requires-clause-chunk : goal.plan_volume-requires-clause-chunk
+plan_volume-requires-clause-chunk g c =
+    first_chunk c.args.options.now c.args.stamp.now (g.D.Disk.size c.args.disk.now) c.in-Ok.g c.in-Ok.ensures.chosen
 
 pub put_plan-requires-clause-inside : goal.put_plan-requires-clause-inside
 put_plan-requires-clause-inside g c = λ k d low.
@@ -237,3 +241,23 @@ returns-clause-stops g c = λ tells image told t stopped low left.
       | inr of ↦ inr (made_stopped o stamp size image stopped c.in-Ok.g plan c.in-Ok.ensures.chosen is of)
     ])
     left)
+
+pub returns-in-Ok-put_plan-clause-tells : goal.returns-in-Ok-put_plan-clause-tells
+returns-in-Ok-put_plan-clause-tells g c = λ tells. c.in-Ok-put_plan.ensures.tells (c.in-Ok.ensures.disk.tells tells)
+
+pub returns-clause-tells : goal.returns-clause-tells
+returns-clause-tells g c = λ tells. c.in-Err-put_plan.ensures.tells (c.in-Ok.ensures.disk.tells tells)
+
+pub returns-clause-later : goal.returns-clause-later
+returns-clause-later g c = λ tells.
+    let past = c.in-Ok.ensures.disk.past tells in
+    let read = past.later in
+    let put = c.in-Err-put_plan.ensures.later (c.in-Ok.ensures.disk.tells tells) in
+    omega (arith, read, put)
+
+pub returns-clause-write_faults : goal.returns-clause-write_faults
+returns-clause-write_faults g c =
+    let before = g.D.Disk.write_faults c.decide.new.disk in
+    let now = g.D.Disk.write_faults c.put_plan.new.disk in
+    let rises : before ≤ now = put_rises before now c.in-Err-put_plan.fault c.in-Err-put_plan.ensures.cause in
+    subst (λ (n : ℕ). n ≤ now) c.in-Ok.ensures.disk.same_write_faults rises
