@@ -10,7 +10,7 @@ use Rattle.xfs_disk.specs.Blocks.{Image}
 use Rattle.xfs_word.specs.declared.extents.Extent.{Extent}
 use Rattle.xfs_geom.specs.Volumes.{Volume, volume_of}
 use Rattle.xfs_geom.specs.declared.geometry.Geometry.{Geometry}
-use Rattle.xfs_geom.specs.declared.records.Run.{BlockRange}
+use Rattle.xfs_geom.specs.declared.records.Run.{Run}
 use Rattle.xfs_inode.specs.Files as Inode
 use Rattle.xfs_inode.specs.Files.{are_blocks, are_extents, range_of, range_of_block}
 use Rattle.xfs_inode.specs.Sound as Sound
@@ -50,18 +50,18 @@ use Rattle.xfs_kept.proofs.Taken.{at_most, spans_count}
 use Rattle.xfs_kept.proofs.Tallies.{spans_on, spans_once}
 
 -- a run by its ends
-as_run : ℕ × ℕ → Claimed.Run
+as_run : ℕ × ℕ → Claimed.BlockRange
 as_run s = record { start = s.0; end = s.0 + s.1 }
 
 extents_as : (v : Volume) (ino flag : ℕ) (es : List Extent) → map (range_of v) es ≡ map as_run (spans_of (map (extent_run v ino flag) es))
 unfolding as_run
 extents_as v ino flag [] = refl
-extents_as v ino flag (e ∷ es) = ap (λ (rs : List Claimed.Run). range_of v e ∷ rs) (extents_as v ino flag es)
+extents_as v ino flag (e ∷ es) = ap (λ (rs : List Claimed.BlockRange). range_of v e ∷ rs) (extents_as v ino flag es)
 
 blocks_as : (ino flag : ℕ) (bs : List ℕ) → map range_of_block bs ≡ map as_run (spans_of (runs_of_blocks ino flag bs))
 unfolding as_run
 blocks_as ino flag [] = refl
-blocks_as ino flag (b ∷ bs) = ap (λ (rs : List Claimed.Run). range_of_block b ∷ rs) (blocks_as ino flag bs)
+blocks_as ino flag (b ∷ bs) = ap (λ (rs : List Claimed.BlockRange). range_of_block b ∷ rs) (blocks_as ino flag bs)
 
 apart_each : (s : ℕ × ℕ) (ss : List (ℕ × ℕ)) → list_all (Inode.is_apart (as_run s)) (map as_run ss) ≡ true → list_all (spans_apart s) ss ≡ true
 unfolding as_run
@@ -85,29 +85,29 @@ spans_both (x ∷ xs) ys b = let rest = spans_both xs ys b in omega (arith, rest
 file_apart : (g : Geometry) (f : FileRec) → HasLawfulForks (volume_of g) f → Inode.ranges_apart (claims_of (volume_of g) f) ≡ true → SpansApart (spans_of (file_runs (volume_of g) f))
 file_apart g f lies apart =
     let v : Volume = volume_of g in
-    let of_data : List BlockRange = map (extent_run v f.ino 0) f.extents in
-    let attr : List BlockRange = map (extent_run v f.ino attribute_flag) f.attr_extents in
-    let tree : List BlockRange = runs_of_blocks f.ino tree_flag f.tree in
+    let of_data : List Run = map (extent_run v f.ino 0) f.extents in
+    let attr : List Run = map (extent_run v f.ino attribute_flag) f.attr_extents in
+    let tree : List Run = runs_of_blocks f.ino tree_flag f.tree in
     let all : claims_of v f ≡ map as_run ((spans_of of_data ++ spans_of tree) ++ spans_of attr) =
-    ap₂ (λ (xs ys : List Claimed.Run). xs ++ ys)
-    (ap₂ (λ (xs ys : List Claimed.Run). xs ++ ys) (extents_as v f.ino 0 f.extents) (blocks_as f.ino tree_flag f.tree) ∙ sym (map-append as_run (spans_of of_data) (spans_of tree)))
+    ap₂ (λ (xs ys : List Claimed.BlockRange). xs ++ ys)
+    (ap₂ (λ (xs ys : List Claimed.BlockRange). xs ++ ys) (extents_as v f.ino 0 f.extents) (blocks_as f.ino tree_flag f.tree) ∙ sym (map-append as_run (spans_of of_data) (spans_of tree)))
     (extents_as v f.ino attribute_flag f.attr_extents)
     ∙ sym (map-append as_run (spans_of of_data ++ spans_of tree) (spans_of attr)) in
     let once : SpansApart ((spans_of of_data ++ spans_of tree) ++ spans_of attr) =
-    as_apart ((spans_of of_data ++ spans_of tree) ++ spans_of attr) (subst (λ (rs : List Claimed.Run). Inode.ranges_apart rs ≡ true) all apart) in
+    as_apart ((spans_of of_data ++ spans_of tree) ++ spans_of attr) (subst (λ (rs : List Claimed.BlockRange). Inode.ranges_apart rs ≡ true) all apart) in
     apart_from_once (file_runs v f)
-    (recursion_from_All (λ (s : BlockRange). 1 ≤ s.count) (file_runs v f) (All-weaker IsRun (λ (s : BlockRange). 1 ≤ s.count) (λ r is. is.0) (file_runs v f) (runs_are g f lies)))
+    (recursion_from_All (λ (s : Run). 1 ≤ s.count) (file_runs v f) (All-weaker IsRun (λ (s : Run). 1 ≤ s.count) (λ r is. is.0) (file_runs v f) (runs_are g f lies)))
     (λ b. one of_data attr tree b (is_in ((spans_of of_data ++ spans_of tree) ++ spans_of attr) b) (spans_once ((spans_of of_data ++ spans_of tree) ++ spans_of attr) b once))
   where
-    one : (xs ys zs : List BlockRange) (b : ℕ) (t : Bool) → spans_on ((spans_of xs ++ spans_of zs) ++ spans_of ys) b ≡ one_if t → runs_on ((xs ++ ys) ++ zs) b ≤ 1
+    one : (xs ys zs : List Run) (b : ℕ) (t : Bool) → spans_on ((spans_of xs ++ spans_of zs) ++ spans_of ys) b ≡ one_if t → runs_on ((xs ++ ys) ++ zs) b ≤ 1
     one xs ys zs b t once =
         let whole = spans_both (spans_of xs ++ spans_of zs) (spans_of ys) b in
         let front = spans_both (spans_of xs) (spans_of zs) b in
         let x = spans_count xs b in
         let y = spans_count ys b in
         let z = spans_count zs b in
-        let all : runs_on ((xs ++ ys) ++ zs) b ≡ runs_on (xs ++ ys) b + runs_on zs b = sum_by-append (λ (r : BlockRange). if covers b r then 1 else 0) (xs ++ ys) zs in
-        let two : runs_on (xs ++ ys) b ≡ runs_on xs b + runs_on ys b = sum_by-append (λ (r : BlockRange). if covers b r then 1 else 0) xs ys in
+        let all : runs_on ((xs ++ ys) ++ zs) b ≡ runs_on (xs ++ ys) b + runs_on zs b = sum_by-append (λ (r : Run). if covers b r then 1 else 0) (xs ++ ys) zs in
+        let two : runs_on (xs ++ ys) b ≡ runs_on xs b + runs_on ys b = sum_by-append (λ (r : Run). if covers b r then 1 else 0) xs ys in
         let most = at_most t in
         omega (arith, once, whole, front, x, y, z, all, two, most)
 
