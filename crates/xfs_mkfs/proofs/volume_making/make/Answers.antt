@@ -18,7 +18,7 @@ use Rattle.xfs_mkfs.proofs.Volumes.{put_is_volume}
 use Rattle.xfs_mkfs.proofs.volume_making.make.Goals as goal
 
 pub plan_volume-requires-clause-chunk : goal.plan_volume-requires-clause-chunk
-plan_volume-requires-clause-chunk g c =
+plan_volume-requires-clause-chunk g c = λ κs lives.
     first_chunk c.args.options.now c.args.stamp.now (g.D.Disk.size c.args.disk.now) c.in-Ok.g c.in-Ok.ensures.chosen
 
 pub put_plan-requires-clause-inside : goal.put_plan-requires-clause-inside
