@@ -18,7 +18,7 @@ NEEDED := $(shell $(LINES) | sed 's/[ :].*//')
 SOURCES := $(shell find $(NEEDED:%=crates/%) -path '*/out' -prune -o -path '*/must-fail' -prune -o -type f -print)
 
 xfs: crates.txt HANDLES $(SOURCES)
-	@echo "Proving and building $(words $(NEEDED)) crates: about 25 minutes on four processors, a quarter of one where all was proved here before."
+	@echo "Proving and building $(words $(NEEDED)) crates: about 40 minutes on four processors, a quarter of one where all was proved here before."
 	@copy=$$(mktemp -d); trap 'rm -rf "$$copy"' EXIT; \
 	git init -q "$$copy"; cp HANDLES "$$copy"; $(LINES) > "$$copy/crates.txt"; \
 	for crate in $(NEEDED); do mkdir -p "$$copy/crates/$$crate"; \
