@@ -56,7 +56,9 @@ impl Case {
     /// read where the case has `unreadable`.
     ///
     /// `stops N STEP WORD|WORD|..` makes a call that writes N blocks on copies of the disk, of which each stops after STEP more of these
-    /// (`stops`). `run WORD|WORD|..` makes a call. Behind it stands what is due of it: `out LINE` and `err LINE`, `cut TEXT` for output that has no end
+    /// (`stops`).
+    ///
+    /// `run WORD|WORD|..` makes a call. Behind it stands what is due of it: `out LINE` and `err LINE`, `cut TEXT` for output that has no end
     /// of line, `code N` and `finished N` where they are not 0.
     pub fn take(
         &mut self,

@@ -49,7 +49,7 @@ pub fn stop_by_steps(
         let mut stopped = disk.copy(alloc)?;
         stopped.stop_after(written);
         let call = Call::make(rt, alloc, &mut stopped, words, given)?;
-        let changes = changes(before.image(), stopped.image(), whole.image());
+        let changes = changes_between(before.image(), stopped.image(), whole.image());
         let in_order = changes.is_some_and(|c| {
             c.count == written.saturating_sub(done) && c.is_behind(place, written == writes)
         });
@@ -96,7 +96,7 @@ fn highest(changes: Option<Changes>, place: usize) -> usize {
 }
 
 /// The blocks that are not as they were before; `None` where one of them is not as it is to be in the end.
-fn changes(before: &[u8], now: &[u8], whole: &[u8]) -> Option<Changes> {
+fn changes_between(before: &[u8], now: &[u8], whole: &[u8]) -> Option<Changes> {
     let mut changes = Changes {
         count: 0,
         begins: false,
