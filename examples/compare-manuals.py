@@ -16,8 +16,8 @@ import sys
 TOP = os.path.join(os.path.dirname(os.path.abspath(__file__)), "..")
 SPECS = "crates/xfs_tools/specs/"
 # the tools, and the definitions that say which answers each of them gives
-TOOLS = {"xfs_repair": [("Answers", "answer_of")], "mkfs.xfs": [("Making", "made_answer"), ("Making", "refusal_of")],
-         "xfs_db": [("Debugging", "session_answer"), ("Debugging", "refusal_of")]}
+TOOLS = {"xfs_repair": [("Answers", "answer_of")], "mkfs.xfs": [("Making", "made_answer"), ("Making", "make_refusal")],
+         "xfs_db": [("Debugging", "session_answer"), ("Debugging", "line_refusal")]}
 # the forms of answers that no call gives today: a repair rebuilds nothing, and nothing but groups is placed
 LATER = {"Repaired": "repaired: blocks=", "NoRoom": ("xfs: no room: directory", "xfs: no room: file", "xfs: no room: chunk", "xfs: no room: lost")}
 # a number or an identifier in a text
