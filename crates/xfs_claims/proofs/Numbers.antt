@@ -6,9 +6,8 @@ use Rattle.std.specs.BTreeMap.{is_at}
 use Rattle.std.specs.BTreeSet.{insert_key}
 use Rattle.std.proofs.lemmas.Bool.{cases_order, both_ways}
 use Rattle.std.proofs.lemmas.Bool.Decides.{nat_tests}
-use Rattle.xfs_disk.specs.Lists.{is_among}
+use Rattle.xfs_disk.specs.Lists.{is_among, with_number}
 use Rattle.xfs_volume.specs.declared.clusters.ClusterRec.{ClusterRec}
-use Rattle.xfs_claims.specs.Keeping.{with_number}
 use Rattle.xfs_claims.specs.Ranks.{is_recorded_cluster}
 
 abbrev pub no_cluster : ClusterRec

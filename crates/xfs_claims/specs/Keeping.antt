@@ -2,7 +2,7 @@
 -- cluster is kept and its blocks meet nothing kept before.
 use Rattle.std.specs.Prelude.{ℕ, Bool, not, ◌+◌, ◌^◌, ◌<◌, ◌&&◌, ◌==◌, if◌then◌else◌, nat_lt, List, [], ◌∷◌}
 use Rattle.std.specs.List.{All}
-use Rattle.xfs_disk.specs.Lists.{is_among}
+use Rattle.xfs_disk.specs.Lists.{is_among, with_number}
 use Rattle.xfs_runs.specs.Blocks.{is_in, meets}
 use Rattle.xfs_claims.specs.declared.claimants.FileClaim.{FileClaim}
 use Rattle.xfs_claims.specs.declared.claimants.Claims.{Claims}
@@ -14,11 +14,6 @@ pub record Holding : Type 0 where
   pub blocks : ℕ → Bool
   pub clusters : List ℕ
   pub files : List ℕ
-
--- ascending numbers with one more
-abbrev pub with_number : ℕ → List ℕ → List ℕ
-with_number n [] = n ∷ []
-with_number n (m ∷ rest) = if nat_lt n m then n ∷ m ∷ rest else (if n == m then m ∷ rest else (m ∷ with_number n rest))
 
 -- a cluster has four blocks
 abbrev pub cluster_span : ℕ → List (ℕ × ℕ)

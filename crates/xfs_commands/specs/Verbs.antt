@@ -40,8 +40,8 @@ short_name Print = codes "p"
 short_name Quit = codes "q"
 short_name other = verb_name other
 
-abbrev pub is_named : List ℕ → Verb → Bool
-is_named name verb = bytes_eq (verb_name verb) name || bytes_eq (short_name verb) name
+abbrev pub names_verb : List ℕ → Verb → Bool
+names_verb name verb = bytes_eq (verb_name verb) name || bytes_eq (short_name verb) name
 
 abbrev pub all_verbs : List Verb
 all_verbs =
@@ -69,7 +69,7 @@ taking None n = None
 taking (Some verb) n = if takes verb n then Some verb else None
 
 unfoldable pub accepted : List ℕ → ℕ → Option Verb
-accepted name n = taking (find (is_named name) all_verbs) n
+accepted name n = taking (find (names_verb name) all_verbs) n
 
 -- the word of this number
 abbrev pub word_at : List (List ℕ) → ℕ → List ℕ

@@ -4,7 +4,7 @@ ghost use Rattle.std.specs.Prelude.{◌≡◌, ℕ, if◌then◌else◌, Some, N
 ghost use Rattle.std.specs.List.{find};
 ghost use Rattle.xfs_geom.specs.Volumes.{volume_of};
 ghost use Rattle.xfs_commands.specs.Commands.{bad_command, converts, session_of, types, IsEffect, IsWithin};
-ghost use Rattle.xfs_commands.specs.Verbs.{accepted, at_place, converts_named, is_named, runs_alone, short_name, takes, taking, verb_name, word_at};
+ghost use Rattle.xfs_commands.specs.Verbs.{accepted, at_place, converts_named, names_verb, runs_alone, short_name, takes, taking, verb_name, word_at};
 ghost use Rattle.xfs_objects.specs.Places.{is_place, measure_named};
 ghost use Rattle.xfs_commands.specs.declared.commands.Verb.{Verb};
 
@@ -91,8 +91,8 @@ impl Verb {
     }
 
     /// Whether the command has this name, or this short name.
-    fn is_named(self, name: &[u8]) -> bool
-        ensures { result ≡ is_named name.now self }
+    fn names_verb(self, name: &[u8]) -> bool
+        ensures { result ≡ names_verb name.now self }
     {
         self.name().as_bytes() == name || self.short_name().as_bytes() == name
     }
@@ -138,10 +138,10 @@ impl Verb {
 
 /// The first of the commands that has this name.
 fn find_named(verbs: &[Verb], name: &[u8]) -> Option<Verb>
-    ensures { result ≡ find (is_named name.now) verbs.now }
+    ensures { result ≡ find (names_verb name.now) verbs.now }
 {
     for verb in verbs {
-        if verb.is_named(name) {
+        if verb.names_verb(name) {
             return Some(*verb);
         }
     }

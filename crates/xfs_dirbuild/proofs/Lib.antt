@@ -1,7 +1,6 @@
 pub mod Filled
 pub mod Pairs
 pub mod Banks
-pub mod Shares
 pub mod Rows
 pub mod Trees
 pub mod Areas

@@ -15,7 +15,7 @@ use Rattle.xfs_dirindex.specs.IndexTree.{next_link, is_member, are_members, pair
 use Rattle.xfs_dirindex.specs.Pairs.{pairs_at}
 use Rattle.xfs_dirbuild.specs.Blocks.{index_block, row_block, share_at, last_pair_hash, link_at}
 use Rattle.xfs_dirbuild.specs.Index.{IsPointer, IsIndexBlock, before_at, next_at, IsPlacedBlock, HoldsIndex}
-use Rattle.xfs_dirbuild.proofs.Shares.{share_inside}
+use Rattle.xfs_disk.proofs.Shares.{share_inside}
 use Rattle.xfs_dirbuild.proofs.BlockBytes.{last-part}
 use Rattle.xfs_dirbuild.proofs.Rows.{index-placed, member, members-more, below-more}
 

@@ -19,7 +19,6 @@ mod free_blocks;
 mod image;
 mod index_blocks;
 mod leaf;
-mod sharing;
 mod single;
 mod tree;
 mod writing;

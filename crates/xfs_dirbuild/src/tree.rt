@@ -12,13 +12,12 @@ ghost use Rattle.xfs_dirbuild.specs.Index.{IsPointer, IsIndexBlock, IsIndexed, b
 
 use crate::forms::{leaf_blocks, nodes_above};
 use crate::index_blocks::put_index;
-use crate::sharing::share_of;
 use crate::writing::{blank, put_block};
 use std::alloc::Global;
 use xfs_bank::BlockBank;
 use xfs_dirindex::layouts::INDEX_START;
 use xfs_dirindex::{PAIR_SIZE, Pair};
-use xfs_disk::NoMemory;
+use xfs_disk::{NoMemory, share_of};
 use xfs_word::get32;
 
 /// Writes the tree over these pairs, which are in order, from block `base` of a bank on.

@@ -9,10 +9,9 @@ use Rattle.std.proofs.lemmas.Option.{get_or_from_slice_get}
 use Rattle.xfs_word.specs.declared.extents.Extent.{Extent}
 use Rattle.xfs_word.specs.declared.kinds.SealKind.{SealKind}
 use Rattle.xfs_word.specs.declared.kinds.SealKind.TheVariants as Kind
-use Rattle.xfs_disk.specs.Blocks.{Image}
+use Rattle.xfs_disk.specs.Blocks.{Image, bytes_of_block}
 use Rattle.xfs_geom.specs.Groups.{block_of_address}
 use Rattle.xfs_geom.specs.Volumes.{Volume}
-use Rattle.xfs_tree.specs.Reading.{bytes_of_block}
 use Rattle.xfs_tree.proofs.Rest.{rest_next, rest_of}
 use Rattle.xfs_dirdata.specs.Data.{data_of}
 use Rattle.xfs_dirdata.specs.declared.records.EntryRec.{EntryRec}

@@ -13,7 +13,7 @@ ghost use Rattle.xfs_dirs.specs.Gathered.{AreBelow, BlocksInOrder, file_block, f
 
 use crate::entries::entries_where;
 use crate::found::DirectoryFault;
-use crate::gathered::{Gathered, keep};
+use crate::gathered::{Gathered, keep_block};
 use crate::seals::is_own;
 use std::alloc::Global;
 use std::sync::ledger::Ledger;
@@ -109,7 +109,7 @@ fn take_block(
     let own = is_own(g, dir, place, offset, block);
     let entries = entries_where(alloc, dir, own, offset, block)?;
     gathered.take(entries)?;
-    keep(alloc, own, offset, block, &mut gathered.kept)?;
+    keep_block(alloc, own, offset, block, &mut gathered.kept)?;
     Ok(())
 }
 

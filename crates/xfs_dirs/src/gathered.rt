@@ -66,7 +66,7 @@ impl Gathered {
 }
 
 /// Keeps one more block, of 4096 bytes, where it is its directory's; else none is kept from now on.
-pub fn keep(
+pub fn keep_block(
     alloc: Global,
     own: bool,
     offset: u64,

@@ -2,3 +2,4 @@ mod Pieces
 mod Places
 pub mod Reading
 pub mod OneOrder
+pub mod Shares

@@ -1,9 +1,13 @@
 -- Images: what a disk holds, as a list of blocks.
-use Rattle.std.specs.Prelude.{◌≡◌, ℕ, ◌<◌, List, length, Some, slice_get, slice_index}
+use Rattle.std.specs.Prelude.{◌≡◌, ℕ, ◌<◌, List, [], length, Some, slice_get, slice_index, slice_index_or}
 
 -- an image is a list of blocks, and a block a list of byte values
 abbrev pub Image : Type 0
 Image = List (List ℕ)
+
+-- the bytes of a block of an image, none where it is outside
+abbrev pub bytes_of_block : Image → ℕ → List ℕ
+bytes_of_block image block = slice_index_or image block []
 
 -- a block has 4096 bytes
 pub record IsBlock (block : List ℕ) : Type 0 where

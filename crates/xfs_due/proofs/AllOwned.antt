@@ -8,7 +8,8 @@ use Rattle.xfs_kinds.specs.InodeTrees.{ino_shape}
 use Rattle.xfs_volume.specs.declared.files.FileRec.{FileRec}
 use Rattle.xfs_space.specs.Owners.{cluster_runs, file_runs, groups_runs, owned_runs}
 use Rattle.xfs_space.specs.SpaceLaws.{recorded_run, recorded_runs}
-use Rattle.xfs_place.specs.Wanted.{fixed_runs, header_run, inodes_in_group, log_run}
+use Rattle.xfs_place.specs.Wanted.{inodes_in_group}
+use Rattle.xfs_kinds.specs.FixedRuns.{fixed_runs, header_run, log_run}
 use Rattle.xfs_place.specs.declared.placed.GroupPlaced.{GroupPlaced}
 use Rattle.xfs_place.specs.declared.wanted.GroupInodes.{GroupInodes}
 use Rattle.xfs_due.specs.Groups.{due_group_at, due_groups}

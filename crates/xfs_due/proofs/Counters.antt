@@ -1,7 +1,6 @@
 -- The counters of one group are the sums of what stands in it.
 use Rattle.std.proofs.Common.{◌≡◌, ℕ, ◌+◌, ◌-◌, max, List, [], ◌∷◌, length, map, refl, sym, ◌∙◌, ap, ap₂, arith, map-id}
-use Rattle.std.specs.List.{fold, sum}
-use Rattle.std.proofs.lemmas.List.Sums.{sum-map}
+use Rattle.std.specs.List.{sum}
 use Rattle.xfs_geom.specs.Sums as Sums
 use Rattle.xfs_geom.specs.Volumes.{Volume}
 use Rattle.xfs_geom.specs.declared.records.InoRec.{InoRec}
@@ -13,7 +12,6 @@ use Rattle.xfs_volume.specs.Laws.{AreKept}
 use Rattle.xfs_laws.specs.Counting as Laws
 use Rattle.xfs_place.specs.Counts as Placed
 use Rattle.xfs_place.specs.declared.placed.GroupPlaced.{GroupPlaced}
-use Rattle.xfs_render.specs.Counters.{longest}
 use Rattle.xfs_render.specs.Groups.{tree_places}
 use Rattle.xfs_due.specs.Groups.{due_group}
 use Rattle.xfs_due.proofs.TopDown.{AreSized, as_many_blocks}
@@ -21,12 +19,6 @@ use Rattle.xfs_due.proofs.TopDown.{AreSized, as_many_blocks}
 -- records of free runs are written as they are
 pub spans_settled : (spans : List Span) → map (λ (s : Span). s) spans ≡ spans
 spans_settled spans = map-id spans
-
-longest_from : (best : ℕ) (spans : List Span) → fold (λ (b : ℕ) (s : Span). max b s.count) best spans ≡ max best (Laws.longest spans)
-longest_from best [] = omega arith
-longest_from best (s ∷ spans) =
-    let next = longest_from (max best s.count) spans in
-    next ∙ omega arith
 
 -- settled chunks have the same numbers of inodes
 pub slots_settled : (chunks : List InoRec) → map (λ (r : InoRec). r.count) (map settled_chunk chunks) ≡ map (λ (r : InoRec). r.count) chunks
@@ -60,21 +52,19 @@ module _ (v : Volume) (ag : ℕ) (inodes : List InoRec) (p : GroupPlaced) (agf_c
   pub room_is : Laws.room (due_group v ag inodes p agf_crc agi_crc) ≡ Placed.room_placed p
   room_is = ap₂ (λ (m n : ℕ). m + length p.agfl + n) free_is spare_is
 
-  longest_is : longest p.bno ≡ Laws.longest (map (λ (s : Span). s) p.bno)
-  longest_is =
-      let plain : max 0 (Laws.longest p.bno) ≡ Laws.longest p.bno = omega arith in
-      longest_from 0 p.bno ∙ plain ∙ ap Laws.longest (sym (spans_settled p.bno))
+  longest_is : Sums.longest p.bno ≡ Sums.longest (map (λ (s : Span). s) p.bno)
+  longest_is = ap Sums.longest (sym (spans_settled p.bno))
 
   pub counts_kept : AreKept (Laws.group_counts ag (due_group v ag inodes p agf_crc agi_crc))
   counts_kept = (
-    sym (sum-map (λ (s : Span). s.count) p.bno) ∙ sym free_is,
+    sym free_is,
     (
       longest_is,
       (
         sym spare_is,
         (
           sym (packed 168 91 (length p.rmap) (tree_places p 4) sized.rmap),
-          (sym (sum-map (λ (r : InoRec). r.count) inodes) ∙ sym slots_are, (sym (sum-map (λ (r : InoRec). r.freecount) inodes) ∙ sym free_slots_are, tt)),
+          (sym slots_are, (sym free_slots_are, tt)),
         ),
       ),
     ),

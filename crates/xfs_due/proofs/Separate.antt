@@ -11,7 +11,7 @@ use Rattle.xfs_kinds.specs.FreeTrees.{ranks_behind}
 use Rattle.xfs_place.specs.Placing.{AreByLength}
 use Rattle.xfs_place.proofs.Counted.{in_behind}
 use Rattle.xfs_space.specs.Private.Ranks.{LengthsRanked, is_length_upto, length_of, span_of_length}
-use Rattle.xfs_space.specs.SpaceLaws.{by_length}
+use Rattle.xfs_kinds.specs.Lengths.{by_length}
 use Rattle.xfs_space.specs.declared.lengths.Length.{Length}
 use Rattle.xfs_space.proofs.ByLength.{sorted_is}
 

@@ -19,13 +19,15 @@ use Rattle.xfs_kinds.proofs.Blocks.{in_runs, runs_separate}
 use Rattle.xfs_volume.specs.declared.files.FileRec.{FileRec}
 use Rattle.xfs_volume.specs.declared.groups.GroupRec.{GroupRec}
 use Rattle.xfs_space.specs.Owners.{owned_runs}
-use Rattle.xfs_space.specs.SpaceLaws.{AllAreFree, HasFreeTrees, IsSpaceLawful, by_length, free_spans, recorded_run, recorded_runs}
+use Rattle.xfs_kinds.specs.Lengths.{by_length}
+use Rattle.xfs_space.specs.SpaceLaws.{AllAreFree, HasFreeTrees, IsSpaceLawful, free_spans, recorded_run, recorded_runs}
 use Rattle.xfs_space.proofs.FreeSpans.{group_short}
 use Rattle.xfs_space.proofs.Splits.{EndsBy, none_on_front}
 use Rattle.xfs_place.specs.Choice.{IsPlacingGroup, in_pool, one_if, owned_at, owner_by, rank, space_blocks}
 use Rattle.xfs_place.specs.Claims.{IsClaimedRun}
 use Rattle.xfs_place.specs.Placing.{inner_blocks}
-use Rattle.xfs_place.specs.Wanted.{CanBeKept, ArePlaced, claim_in, fixed_runs, inodes_in_group, uses_in, wanted_group}
+use Rattle.xfs_place.specs.Wanted.{CanBeKept, ArePlaced, claim_in, inodes_in_group, uses_in, wanted_group}
+use Rattle.xfs_kinds.specs.FixedRuns.{fixed_runs}
 use Rattle.xfs_place.specs.declared.placed.GroupPlaced.{GroupPlaced}
 use Rattle.xfs_place.specs.declared.wanted.GroupInodes.{GroupInodes}
 use Rattle.xfs_place.proofs.AllClaims.{all_apart, all_each, group_ends, is_volume}

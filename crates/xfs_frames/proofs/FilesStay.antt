@@ -5,7 +5,7 @@ use Rattle.std.specs.Option.{option_map, option_to_list}
 use Rattle.std.proofs.lemmas.Bool.{and_parts, eqb-true, leb-true, ltb-true, not-true}
 use Rattle.std.proofs.lemmas.List.Elements.{All-from_recursion}
 use Rattle.std.proofs.lemmas.Option.{same_Some}
-use Rattle.xfs_disk.specs.Blocks.{Image}
+use Rattle.xfs_disk.specs.Blocks.{Image, bytes_of_block}
 use Rattle.xfs_word.specs.Field.{part_of}
 use Rattle.xfs_word.specs.declared.extents.Extent.{Extent}
 use Rattle.xfs_attr.specs.Leaf.{leaf_of}
@@ -16,7 +16,7 @@ use Rattle.xfs_geom.specs.Conversions.{block_at, is_address}
 use Rattle.xfs_geom.specs.Groups.{block_of_address}
 use Rattle.xfs_geom.specs.Volumes.{Volume}
 use Rattle.xfs_tree.specs.Blocks.{each_of}
-use Rattle.xfs_tree.specs.Reading.{Contents, bytes_of_block, fault_above, met_above, reading, records_under, unless}
+use Rattle.xfs_tree.specs.Reading.{Contents, fault_above, met_above, reading, records_under, unless}
 use Rattle.xfs_tree.specs.Seats.{seats_of}
 use Rattle.xfs_tree.specs.declared.seats.Seat.{Seat}
 use Rattle.xfs_tree.specs.declared.unread.Unread.{Unread}

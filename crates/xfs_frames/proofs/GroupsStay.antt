@@ -4,7 +4,7 @@ use Rattle.std.specs.Prelude.{take}
 use Rattle.std.specs.List.{flat_map, range_with_len}
 use Rattle.std.proofs.lemmas.List.{drop-drop}
 use Rattle.std.proofs.lemmas.List.Elements.{recursion_from_All}
-use Rattle.xfs_disk.specs.Blocks.{Image}
+use Rattle.xfs_disk.specs.Blocks.{Image, bytes_of_block}
 use Rattle.xfs_word.specs.Field.{field_of, part_of}
 use Rattle.xfs_geom.specs.Volumes.{Volume}
 use Rattle.xfs_geom.specs.declared.records.InoRec.{InoRec}
@@ -16,7 +16,7 @@ use Rattle.xfs_heads.specs.Inodes.{agi_of}
 use Rattle.xfs_heads.specs.declared.free_list.Agfl.{Agfl}
 use Rattle.xfs_heads.specs.declared.free_space.Agf.{Agf}
 use Rattle.xfs_heads.specs.declared.inodes.Agi.{Agi}
-use Rattle.xfs_tree.specs.Reading.{Contents, bytes_of_block, reading, root_seat}
+use Rattle.xfs_tree.specs.Reading.{Contents, reading, root_seat}
 use Rattle.xfs_tree.specs.Shape.{Shape}
 use Rattle.xfs_tree.specs.declared.unread.Unread.{Unread}
 use Rattle.xfs_kinds.specs.FreeTrees.{bno_shape, cnt_shape}
@@ -28,7 +28,7 @@ use Rattle.xfs_image.specs.GroupParts.{AreGroupsRead, IsGroupRead, tree}
 use Rattle.xfs_image.specs.Groups.{agf_at, agfl_at, agi_at, bno_at, cnt_at, contents, fino_at, group_record, group_read, groups_from, groups_read, head_block, ino_at, read_then, rmap_at, tree_at}
 use Rattle.xfs_image.specs.declared.findings.Finding.{Finding}
 use Rattle.xfs_image.proofs.GroupReads.{all_have_parts}
-use Rattle.xfs_frames.specs.Backups.{AreGroupsSame, HasSameHeaders, tree_blocks}
+use Rattle.xfs_frames.specs.Backups.{AreGroupsSame, HasSameHeaders, group_tree_blocks}
 use Rattle.xfs_frames.proofs.TreesStay.{Each, each_front, each_rest, tree_kept}
 
 -- bytes behind the first sector of a block
@@ -74,7 +74,7 @@ module _ (v : Volume) (image now : Image) where
       (reads_of (reading s v image (root_seat (head_block v ag + root) ∷ []) (levels - 1)) (tree records blocks) is) same)
 
   -- a group that reads has the same parts in the other image
-  pub group_kept : (ag : ℕ) (g : GroupRec) → IsGroupRead v image ag g → HasSameHeaders v image now ag → Each image now (tree_blocks g) → IsGroupRead v now ag g
+  pub group_kept : (ag : ℕ) (g : GroupRec) → IsGroupRead v image ag g → HasSameHeaders v image now ag → Each image now (group_tree_blocks g) → IsGroupRead v now ag g
   group_kept ag g is headers same =
       let x : List ℕ = bytes_of_block image (head_block v ag) in
       let y : List ℕ = bytes_of_block now (head_block v ag) in
@@ -111,7 +111,7 @@ module _ (v : Volume) (image now : Image) where
   groups_kept ag zero (g ∷ gs) read count same = absurd (omega (arith, count))
   groups_kept ag (suc n) [] read count same = absurd (omega (arith, count))
   groups_kept ag (suc n) (g ∷ gs) read count same =
-      let trees : Each image now (tree_blocks g) = recursion_from_All (λ (block : ℕ). bytes_of_block now block ≡ bytes_of_block image block) (tree_blocks g) same.1 in
+      let trees : Each image now (group_tree_blocks g) = recursion_from_All (λ (block : ℕ). bytes_of_block now block ≡ bytes_of_block image block) (group_tree_blocks g) same.1 in
       let first : group_read v now ag ≡ Ok g = group_reads v now ag g (group_kept ag g read.0 same.0 trees) in
       let rest : groups_from v now (range_with_len (ag + 1) n) ≡ Ok gs = groups_kept (ag + 1) n gs read.1 (omega (arith, count)) same.2 in
       λ i. read_then (first i) (rest i)

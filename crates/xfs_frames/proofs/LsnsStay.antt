@@ -2,18 +2,17 @@
 use Rattle.std.proofs.Common.{◌≡◌, ℕ, Bool, true, false, ◌*◌, if◌then◌else◌, List, [], ◌∷◌, ◌++◌, map, refl, ap, ap₂}
 use Rattle.std.specs.List.{All, AllByRecursion, flat_map, range_with_len}
 use Rattle.std.proofs.lemmas.List.Elements.{recursion_from_All}
-use Rattle.xfs_disk.specs.Blocks.{Image}
+use Rattle.xfs_disk.specs.Blocks.{Image, bytes_of_block}
 use Rattle.xfs_word.specs.Field.{part_of}
 use Rattle.xfs_geom.specs.Volumes.{Volume}
 use Rattle.xfs_heads.specs.Log.{seen_of, state_of}
 use Rattle.xfs_tree.specs.Blocks.{each_of}
-use Rattle.xfs_tree.specs.Reading.{bytes_of_block}
 use Rattle.xfs_volume.specs.declared.files.FileRec.{FileRec}
 use Rattle.xfs_volume.specs.declared.groups.GroupRec.{GroupRec}
 use Rattle.xfs_image.specs.Lsns.{LsnPlace, lsn_places_in_order, is_place_upto, lsn_at, lsn_places, lsns_read, with_place}
-use Rattle.xfs_image.specs.Sectors.{sector_in}
+use Rattle.xfs_heads.specs.Sectors.{sector_in}
 use Rattle.xfs_image.specs.View.{log_of}
-use Rattle.xfs_frames.specs.Same.{AreSame}
+use Rattle.xfs_frames.specs.Same.{HoldSameBytes}
 use Rattle.xfs_frames.proofs.TreesStay.{Each}
 
 pub map_stays : {A B : Type 0} (f g : A → B) (xs : List A) → AllByRecursion (λ x. f x ≡ g x) xs → map f xs ≡ map g xs
@@ -31,7 +30,7 @@ pub log_kept : (v : Volume) (image now : Image) → Each image now (range_with_l
 unfolding log_of
 log_kept v image now same = ap (λ (sectors : List (List ℕ)). state_of (map seen_of sectors)) (sectors_stay image now (range_with_len v.log v.logblocks) same)
 
-pub log_stays : (v : Volume) (image now : Image) → AreSame image now (range_with_len v.log v.logblocks) → log_of v now ≡ log_of v image
+pub log_stays : (v : Volume) (image now : Image) → HoldSameBytes image now (range_with_len v.log v.logblocks) → log_of v now ≡ log_of v image
 log_stays v image now same = log_kept v image now (recursion_from_All (λ (block : ℕ). bytes_of_block now block ≡ bytes_of_block image block) (range_with_len v.log v.logblocks) same)
 
 -- what holds of some places holds of them in order

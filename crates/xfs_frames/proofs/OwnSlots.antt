@@ -4,19 +4,18 @@ use Rattle.std.proofs.Math.Nat.{mod-lt}
 use Rattle.std.proofs.lemmas.List.Elements.{All-from_recursion, recursion_from_All}
 use Rattle.std.proofs.lemmas.Nat.{div-add-mod', div-mul-add, mod-mul-add}
 use Rattle.std.specs.List.{All, AllByRecursion, flat_map, range_with_len}
-use Rattle.xfs_disk.specs.Blocks.{Image}
+use Rattle.xfs_disk.specs.Blocks.{Image, bytes_of_block}
 use Rattle.xfs_word.specs.Field.{part_of}
 use Rattle.xfs_geom.specs.Conversions.{address_of, block_at, inode_of, slot_at, with_slot}
 use Rattle.xfs_geom.specs.Groups.{block_of_address}
 use Rattle.xfs_geom.specs.Volumes.{Volume, volume_of}
 use Rattle.xfs_geom.specs.declared.geometry.Geometry.{Geometry}
-use Rattle.xfs_tree.specs.Reading.{bytes_of_block}
 use Rattle.xfs_volume.specs.declared.files.FileRec.{FileRec}
 use Rattle.xfs_volume.specs.declared.groups.GroupRec.{GroupRec}
 use Rattle.xfs_image.specs.Files.{clusters_of, files_read, inodes_of}
 use Rattle.xfs_image.specs.Slots.{bytes_in, cluster_blocks, cluster_inodes, inodes_of_block}
 use Rattle.xfs_protected.proofs.Members.{all_members, flat_member, map_member, member_all, member_flat, row_member}
-use Rattle.xfs_frames.specs.Same.{AreSame}
+use Rattle.xfs_frames.specs.Same.{HoldSameBytes}
 use Rattle.xfs_frames.specs.SameFiles.{HasSameClaims, HasSameSlot}
 use Rattle.xfs_frames.proofs.FilesKept.{all_files_stay}
 use Rattle.xfs_frames.proofs.FilesStay.{block_is}
@@ -48,7 +47,7 @@ module _ (image now : Image) where
       subst (λ (n : ℕ). bytes_of_block now n ≡ bytes_of_block image n) own same)
 
   -- all slots of some clusters
-  pub slots_same : (g : Geometry) (groups : List GroupRec) → AreSame image now (flat_map cluster_blocks (clusters_of (volume_of g) groups))
+  pub slots_same : (g : Geometry) (groups : List GroupRec) → HoldSameBytes image now (flat_map cluster_blocks (clusters_of (volume_of g) groups))
       → All (HasSameSlot (volume_of g) image now) (inodes_of (volume_of g) groups)
   unfolding inodes_of cluster_inodes
   slots_same g groups same =
@@ -68,6 +67,6 @@ module _ (image now : Image) where
 
   -- so all files of some groups are the same where their clusters are, and the blocks that they claim
   pub files_of_clusters_stay : (g : Geometry) (groups : List GroupRec) (files : List FileRec) → files_read (volume_of g) image groups ≡ Ok files
-      → AreSame image now (flat_map cluster_blocks (clusters_of (volume_of g) groups)) → All (HasSameClaims (volume_of g) image now) files → files_read (volume_of g) now groups ≡ Ok files
+      → HoldSameBytes image now (flat_map cluster_blocks (clusters_of (volume_of g) groups)) → All (HasSameClaims (volume_of g) image now) files → files_read (volume_of g) now groups ≡ Ok files
   files_of_clusters_stay g groups files reads clusters claimed =
       all_files_stay (volume_of g) image now groups files reads (slots_same g groups clusters) claimed

@@ -2,14 +2,13 @@
 use Rattle.std.proofs.Common.{◌≡◌, ℕ, Bool, true, false, ◌+◌, ◌*◌, ◌≤◌, ◌<◌, ◌==◌, nat_le, nat_lt, if◌then◌else◌, List, [], ◌∷◌, ◌++◌, map, length, refl, ap, arith, inl, inr}
 use Rattle.std.specs.List.{AllByRecursion, flat_map, range_with_len}
 use Rattle.std.proofs.lemmas.Bool.{and_from, le-leb, lt-ltb}
-use Rattle.xfs_disk.specs.Blocks.{Image}
+use Rattle.xfs_disk.specs.Blocks.{Image, bytes_of_block}
 use Rattle.xfs_word.specs.Field.{field_of}
 use Rattle.xfs_word.specs.declared.extents.Extent.{Extent}
 use Rattle.xfs_geom.specs.Groups.{block_of_address}
 use Rattle.xfs_geom.specs.Volumes.{Volume, volume_of}
 use Rattle.xfs_geom.specs.declared.geometry.Geometry.{Geometry}
 use Rattle.xfs_tree.specs.Blocks.{each_of}
-use Rattle.xfs_tree.specs.Reading.{bytes_of_block}
 use Rattle.xfs_volume.specs.Names.{type_of}
 use Rattle.xfs_volume.specs.declared.catalogs.BlockLsn.{BlockLsn}
 use Rattle.xfs_volume.specs.declared.files.FileRec.{FileRec}
@@ -23,7 +22,7 @@ use Rattle.xfs_image.specs.Lsns.{LsnPlace, at, cluster_places, data_places, dir_
 use Rattle.xfs_image.specs.Slots.{cluster_blocks}
 use Rattle.xfs_protected.proofs.Members.{Member, member_all, member_flat, row_member}
 use Rattle.xfs_protected.proofs.Spaces.{IsOnce}
-use Rattle.xfs_frames.specs.Backups.{DifferInBackups, HasSameHeaders, tree_blocks}
+use Rattle.xfs_frames.specs.Backups.{DifferInBackups, HasSameHeaders, group_tree_blocks}
 use Rattle.xfs_frames.proofs.Claimed.{attr_claimed, data_claimed, tree_claimed}
 use Rattle.xfs_frames.proofs.GroupsStay.{field_behind}
 use Rattle.xfs_frames.proofs.SlotsStay.{claims_same, cluster_same}
@@ -72,7 +71,7 @@ module _ (g : Geometry) (image now : Image) (differ : DifferInBackups (volume_of
       all_map (Stands image now) (at 24) tree.blocks
       (λ block has.
       stands image now block 24
-      (member_all (λ (b : ℕ). bytes_of_block now b ≡ bytes_of_block image b) block (tree_blocks group) (trees_same g image now differ ag group read)
+      (member_all (λ (b : ℕ). bytes_of_block now b ≡ bytes_of_block image b) block (group_tree_blocks group) (trees_same g image now differ ag group read)
       (member_flat (λ (t : TreeBlocks). t.blocks) tree block group.blocks is has))))
 
   groups_stand : (ag : ℕ) (gs : List GroupRec) → AreGroupsRead (volume_of g) image ag gs → ag + length gs ≤ g.agcount → AllByRecursion (Stands image now) (groups_places (volume_of g) ag gs)

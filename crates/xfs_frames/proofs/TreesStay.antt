@@ -3,16 +3,16 @@ use Rattle.std.proofs.Common.{◌≡◌, ℕ, zero, suc, ◌+◌, ◌-◌, ◌==
 use Rattle.std.specs.List.{AllByRecursion, flat_map}
 use Rattle.std.proofs.lemmas.List.Elements.{recursion_from_All}
 use Rattle.xfs_geom.specs.Features.{or_else}
-use Rattle.xfs_disk.specs.Blocks.{Image}
+use Rattle.xfs_disk.specs.Blocks.{Image, bytes_of_block}
 use Rattle.xfs_geom.specs.Volumes.{Volume}
 use Rattle.xfs_tree.specs.Blocks.{children_of, records_of}
-use Rattle.xfs_tree.specs.Reading.{Contents, at_block, behind, below, bytes_of_block, fault_above, met_above, next_of, places_of, reading, records_under, row_fault, level_row, rule_at, unless}
+use Rattle.xfs_tree.specs.Reading.{Contents, at_block, behind, below, fault_above, met_above, next_of, places_of, reading, records_under, row_fault, level_row, rule_at, unless}
 use Rattle.xfs_tree.specs.Rules.{block_fault, last_of, place_fault}
 use Rattle.xfs_tree.specs.Shape.{Shape}
 use Rattle.xfs_tree.specs.declared.seats.Seat.{Seat}
 use Rattle.xfs_tree.specs.declared.unread.Unread.{Unread}
 use Rattle.xfs_tree.proofs.Depths.{records_from, row_next, row_top}
-use Rattle.xfs_frames.specs.Same.{AreSame}
+use Rattle.xfs_frames.specs.Same.{HoldSameBytes}
 
 -- the same by recursion on the blocks
 abbrev pub Each : Image → Image → List ℕ → Type 0
@@ -118,7 +118,7 @@ module _ {R K : Type 0} (s : Shape R K) (v : Volume) (image now : Image) where
       ∙ ap₂ (λ (rs : List R) (bs : List ℕ). answer (held rs bs)) records (met_stays tops (height + 1) all)
       ∙ ap (λ (t : Contents R). answer t) read.1
 
-  pub tree_stays : (tops : List (Seat K)) (height : ℕ) (tree : Contents R) → reading s v image tops height ≡ Ok tree → AreSame image now tree.blocks → reading s v now tops height ≡ Ok tree
+  pub tree_stays : (tops : List (Seat K)) (height : ℕ) (tree : Contents R) → reading s v image tops height ≡ Ok tree → HoldSameBytes image now tree.blocks → reading s v now tops height ≡ Ok tree
   tree_stays tops height tree reads same =
       tree_kept tops height tree reads (recursion_from_All (λ (block : ℕ). bytes_of_block now block ≡ bytes_of_block image block) tree.blocks same)
 

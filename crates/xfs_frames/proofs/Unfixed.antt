@@ -5,11 +5,11 @@ use Rattle.std.proofs.Math.Nat.{mul-le-mul_right}
 use Rattle.std.proofs.lemmas.Bool.{and_parts, cases_eq, eq-eqb, false≢true, not-true, or_left}
 use Rattle.std.proofs.lemmas.List.Elements.{All-from_recursion}
 use Rattle.std.proofs.lemmas.Nat.{div-add-mod', mod-mul-add}
-use Rattle.xfs_disk.specs.Blocks.{Image}
+use Rattle.xfs_disk.specs.Blocks.{Image, bytes_of_block}
 use Rattle.xfs_geom.specs.Conversions.{is_fixed}
 use Rattle.xfs_geom.specs.Volumes.{Volume, volume_of}
 use Rattle.xfs_geom.specs.declared.geometry.Geometry.{Geometry}
-use Rattle.xfs_tree.specs.Reading.{bytes_of_block, reading, root_seat}
+use Rattle.xfs_tree.specs.Reading.{reading, root_seat}
 use Rattle.xfs_tree.specs.Rules.{can_hold, is_of_root_cluster}
 use Rattle.xfs_tree.specs.Shape.{Shape}
 use Rattle.xfs_tree.specs.declared.layout.Layout.{Layout}
@@ -23,7 +23,7 @@ use Rattle.xfs_image.specs.GroupParts.{AreGroupsRead, IsGroupRead, tree}
 use Rattle.xfs_image.specs.Groups.{head_block, tree_at}
 use Rattle.xfs_views.proofs.Trees.{blocks_placed}
 use Rattle.xfs_protected.proofs.Members.{all_members, row_member}
-use Rattle.xfs_frames.specs.Backups.{AreGroupsSame, DifferInBackups, HasSameHeaders, tree_blocks}
+use Rattle.xfs_frames.specs.Backups.{AreGroupsSame, DifferInBackups, HasSameHeaders, group_tree_blocks}
 use Rattle.xfs_frames.proofs.GroupsStay.{reads_of}
 use Rattle.xfs_frames.proofs.TreesStay.{Each}
 
@@ -105,7 +105,7 @@ module _ (g : Geometry) (image now : Image) (differ : DifferInBackups (volume_of
       let reads = reads_of (reading s v image (root_seat (head_block v ag + root) ∷ []) (levels - 1)) (tree records blocks) is in
       placed_same s.layout s.owner blocks (blocks_placed s v image (root_seat (head_block v ag + root) ∷ []) (levels - 1) (tree records blocks) reads)
 
-  pub trees_same : (ag : ℕ) (group : GroupRec) → IsGroupRead (volume_of g) image ag group → Each image now (tree_blocks group)
+  pub trees_same : (ag : ℕ) (group : GroupRec) → IsGroupRead (volume_of g) image ag group → Each image now (group_tree_blocks group)
   trees_same ag group is =
       let bno = tree_same (bno_shape ag) ag group.agf.bnoroot group.agf.bnolevel group.bno is.bno_blocks is.bno in
       let cnt = tree_same (cnt_shape ag) ag group.agf.cntroot group.agf.cntlevel group.cnt is.cnt_blocks is.cnt in
@@ -123,6 +123,6 @@ module _ (g : Geometry) (image now : Image) (differ : DifferInBackups (volume_of
   groups_same ag [] read few = tt
   groups_same ag (group ∷ gs) read few = (
     headers_same ag (omega (arith, few)),
-    All-from_recursion (λ (block : ℕ). bytes_of_block now block ≡ bytes_of_block image block) (tree_blocks group) (trees_same ag group read.0),
+    All-from_recursion (λ (block : ℕ). bytes_of_block now block ≡ bytes_of_block image block) (group_tree_blocks group) (trees_same ag group read.0),
     groups_same (ag + 1) gs read.1 (omega (arith, few)),
   )

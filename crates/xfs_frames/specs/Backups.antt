@@ -2,27 +2,26 @@
 -- "Allocation Groups").
 use Rattle.std.specs.Prelude.{◌≡◌, ℕ, ◌+◌, ◌≤◌, ◌<◌, List, [], ◌∷◌, drop}
 use Rattle.std.specs.List.{flat_map}
-use Rattle.xfs_disk.specs.Blocks.{Image}
+use Rattle.xfs_disk.specs.Blocks.{Image, bytes_of_block}
 use Rattle.xfs_geom.specs.Volumes.{Volume}
-use Rattle.xfs_tree.specs.Reading.{bytes_of_block}
 use Rattle.xfs_volume.specs.declared.groups.GroupRec.{GroupRec}
 use Rattle.xfs_volume.specs.declared.groups.TreeBlocks.{TreeBlocks}
 use Rattle.xfs_image.specs.Groups.{head_block}
-use Rattle.xfs_frames.specs.Same.{AreSame}
+use Rattle.xfs_frames.specs.Same.{HoldSameBytes}
 
 -- the first block of the group holds the same bytes behind its first sector: the headers of the group
 abbrev pub HasSameHeaders : Volume → Image → Image → ℕ → Type 0
 HasSameHeaders v image now ag = drop 512 (bytes_of_block now (head_block v ag)) ≡ drop 512 (bytes_of_block image (head_block v ag))
 
 -- the blocks of the five trees of a group
-abbrev pub tree_blocks : GroupRec → List ℕ
-tree_blocks g = flat_map (λ (tree : TreeBlocks). tree.blocks) g.blocks
+abbrev pub group_tree_blocks : GroupRec → List ℕ
+group_tree_blocks g = flat_map (λ (tree : TreeBlocks). tree.blocks) g.blocks
 
 -- the headers of these groups, from one on, are the same, and the blocks of their trees
 abbrev pub AreGroupsSame : Volume → Image → Image → ℕ → List GroupRec → Type 0
 AreGroupsSame v image now ag [] = Unit {0}
 AreGroupsSame v image now ag (g ∷ gs) =
-    HasSameHeaders v image now ag × AreSame image now (tree_blocks g) × AreGroupsSame v image now (ag + 1) gs
+    HasSameHeaders v image now ag × HoldSameBytes image now (group_tree_blocks g) × AreGroupsSame v image now (ag + 1) gs
 
 -- The two differ in backup superblocks alone: in the first sectors of the groups behind the first.
 pub record DifferInBackups (v : Volume) (image now : Image) : Type 0 where

@@ -1,8 +1,7 @@
 -- Files whose slot and whose blocks hold the same bytes in two images.
 use Rattle.std.specs.Prelude.{◌≡◌, ℕ, true}
-use Rattle.xfs_disk.specs.Blocks.{Image}
+use Rattle.xfs_disk.specs.Blocks.{Image, bytes_of_block}
 use Rattle.xfs_geom.specs.Volumes.{Volume}
-use Rattle.xfs_tree.specs.Reading.{bytes_of_block}
 use Rattle.xfs_volume.specs.declared.files.FileRec.{FileRec}
 use Rattle.xfs_image.specs.Claims.{claims}
 use Rattle.xfs_image.specs.Slots.{slot_bytes}

@@ -13,7 +13,7 @@ ghost use Rattle.xfs_image.specs.Files.{clusters_of, files_read, inodes_of};
 ghost use Rattle.xfs_image.specs.Keeping.{Keeps, Protected, file_bytes};
 ghost use Rattle.xfs_image.specs.Slots.{cluster_blocks, reads_as, slot_bytes};
 ghost use Rattle.xfs_frames.specs.NamedBlocks.{named_blocks};
-ghost use Rattle.xfs_frames.specs.Same.{AreSame};
+ghost use Rattle.xfs_frames.specs.Same.{HoldSameBytes};
 ghost use Rattle.xfs_frames.specs.SameFiles.{HasSameClaims, HasSameSlot};
 
 use xfs_inode::FileRead;
@@ -26,7 +26,7 @@ pub fn files_stay()
     ensures file { (v : Volume) (image now : Image) (ino : ℕ) (file : FileRec) → HasSameSlot v image now ino → HasSameClaims v image now file → reads_as v image ino ≡ FileRead.File file → reads_as v now ino ≡ FileRead.File file }
     ensures alone { (v : Volume) (image now : Image) (ino : ℕ) → HasSameSlot v image now ino → named_top v ino (slot_bytes v image ino) ≡ None → named_attr v ino (slot_bytes v image ino) ≡ None → named_link v ino (slot_bytes v image ino) ≡ None
         → reads_as v now ino ≡ reads_as v image ino }
-    ensures named { (v : Volume) (image now : Image) (ino : ℕ) → HasSameSlot v image now ino → AreSame image now (named_blocks v image ino) → reads_as v now ino ≡ reads_as v image ino }
+    ensures named { (v : Volume) (image now : Image) (ino : ℕ) → HasSameSlot v image now ino → HoldSameBytes image now (named_blocks v image ino) → reads_as v now ino ≡ reads_as v image ino }
 {}
 
 /// A file claims each block that its slot names.
@@ -41,11 +41,11 @@ pub fn all_files_stay()
     ensures files { (v : Volume) (image now : Image) (groups : List GroupRec) (files : List FileRec) → files_read v image groups ≡ Ok files
         → All (HasSameSlot v image now) (inodes_of v groups) → All (HasSameClaims v image now) files → files_read v now groups ≡ Ok files }
     ensures clusters { (g : Geometry) (image now : Image) (groups : List GroupRec) (files : List FileRec) → files_read (volume_of g) image groups ≡ Ok files
-        → AreSame image now (flat_map cluster_blocks (clusters_of (volume_of g) groups)) → All (HasSameClaims (volume_of g) image now) files → files_read (volume_of g) now groups ≡ Ok files }
+        → HoldSameBytes image now (flat_map cluster_blocks (clusters_of (volume_of g) groups)) → All (HasSameClaims (volume_of g) image now) files → files_read (volume_of g) now groups ≡ Ok files }
     ensures named { (v : Volume) (image now : Image) (groups : List GroupRec) → All (HasSameSlot v image now) (inodes_of v groups)
-        → All (λ (ino : ℕ). AreSame image now (named_blocks v image ino)) (inodes_of v groups) → files_read v now groups ≡ files_read v image groups }
+        → All (λ (ino : ℕ). HoldSameBytes image now (named_blocks v image ino)) (inodes_of v groups) → files_read v now groups ≡ files_read v image groups }
     ensures candidates { (v : Volume) (image now : Image) → candidate_inodes v now ≡ candidate_inodes v image → All (HasSameSlot v image now) (candidate_inodes v image)
-        → All (λ (ino : ℕ). AreSame image now (named_blocks v image ino)) (candidate_inodes v image) → candidate_files v now ≡ candidate_files v image }
+        → All (λ (ino : ℕ). HoldSameBytes image now (named_blocks v image ino)) (candidate_inodes v image) → candidate_files v now ≡ candidate_files v image }
 {}
 
 /// The bytes of a file are the same where the blocks that it claims hold the same bytes.

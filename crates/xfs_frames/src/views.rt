@@ -13,11 +13,11 @@ ghost use Rattle.xfs_image.specs.Keeping.{Keeps, Protected};
 ghost use Rattle.xfs_image.specs.Lsns.{lsn_at, lsn_places, lsns_read};
 ghost use Rattle.xfs_image.specs.View.{log_of, view};
 ghost use Rattle.xfs_frames.specs.Backups.{DifferInBackups};
-ghost use Rattle.xfs_frames.specs.Same.{AreSame};
+ghost use Rattle.xfs_frames.specs.Same.{HoldSameBytes};
 
 /// The log says the same where its blocks are the same.
 pub fn log_stays()
-    ensures stays { (v : Volume) (image now : Image) → AreSame image now (range_with_len v.log v.logblocks) → log_of v now ≡ log_of v image }
+    ensures stays { (v : Volume) (image now : Image) → HoldSameBytes image now (range_with_len v.log v.logblocks) → log_of v now ≡ log_of v image }
 {}
 
 /// The log sequence numbers of these groups and files are the same where what stands at each of their places is.

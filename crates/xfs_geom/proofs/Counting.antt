@@ -4,8 +4,9 @@ use Rattle.std.specs.List.{flat_map, range_with_len}
 use Rattle.std.proofs.lemmas.List.{append-nil, length-append}
 use Rattle.std.proofs.lemmas.List.Concat.{flat_map-append}
 use Rattle.std.proofs.lemmas.List.Sums.{count_by-le-length}
-use Rattle.xfs_disk.specs.Blocks.{Image}
-use Rattle.xfs_geom.specs.Election.{Vote, choice, same_volume, vote_in, vote_at, votes_below, votes_for, block_of, super_of}
+use Rattle.std.proofs.lemmas.Option.{get_or_from_slice_get}
+use Rattle.xfs_disk.specs.Blocks.{Image, bytes_of_block}
+use Rattle.xfs_geom.specs.Election.{Vote, choice, same_volume, vote_in, vote_at, votes_below, votes_for, super_of}
 use Rattle.xfs_geom.specs.Electing.{vote_of}
 use Rattle.xfs_geom.specs.Polls.{IsAmong, IsTally, Tallies, HasLeader, IsPoll, tally_at, with_vote, leading}
 use Rattle.xfs_geom.specs.Superblocks.{super_fault}
@@ -145,7 +146,7 @@ pub told_next : (image : Image) (place size : ℕ) (block sector : List ℕ) (vo
     → slice_get image place ≡ Some block → sector ≡ super_of block → votes ≡ votes_below image place
     → votes ++ vote_in sector place size ≡ votes_below image (place + 1)
 told_next image place size block sector votes some count read first told =
-    let bytes : block_of image place ≡ block = ap (λ (o : Option (List ℕ)). unwrap_or o []) read in
-    let same : sector ≡ super_of (block_of image place) = first ∙ ap super_of (sym bytes) in
+    let bytes : bytes_of_block image place ≡ block = get_or_from_slice_get image place block [] read in
+    let same : sector ≡ super_of (bytes_of_block image place) = first ∙ ap super_of (sym bytes) in
     let vote : vote_in sector place size ≡ vote_at image place = λ i. vote_in (same i) place (sym count i) in
     (λ i. told i ++ vote i) ∙ sym (votes_below_next image place some)

@@ -1,8 +1,9 @@
 -- What is elected, by what is wrong with the primary.
-use Rattle.std.proofs.Common.{◌≡◌, ℕ, ◌<◌, ◌==◌, Bool, false, if◌then◌else◌, List, [], length, Option, Some, None, Ok, Err, slice_get, unwrap_or, sym, ◌∙◌, ap, arith}
+use Rattle.std.proofs.Common.{◌≡◌, ℕ, ◌<◌, ◌==◌, Bool, false, if◌then◌else◌, List, [], length, Option, Some, None, Ok, Err, slice_get, sym, ◌∙◌, ap, arith}
 use Rattle.std.proofs.lemmas.Bool.Decides.{nat_tests}
-use Rattle.xfs_disk.specs.Blocks.{Image}
-use Rattle.xfs_geom.specs.Election.{Vote, block_of, super_of, votes_below, elected_after, elected}
+use Rattle.std.proofs.lemmas.Option.{get_or_from_slice_get}
+use Rattle.xfs_disk.specs.Blocks.{Image, bytes_of_block}
+use Rattle.xfs_geom.specs.Election.{Vote, super_of, votes_below, elected_after, elected}
 use Rattle.xfs_geom.specs.Electing.{vote_of}
 use Rattle.xfs_geom.specs.Superblocks.{super_fault}
 use Rattle.xfs_geom.specs.declared.election.Elected.{Elected}
@@ -21,10 +22,10 @@ by_primary : (image : Image) (size : ℕ) (block : List ℕ) → length image �
     → elected image ≡ elected_after (super_fault (super_of block) 0 size) (primary block) (votes_below image size)
 unfolding elected
 by_primary image size block len some there =
-    ap (λ (none : Bool). if none then Err NoGeometry else elected_after (super_fault (super_of (block_of image 0)) 0 (length image)) (primary (block_of image 0)) (votes_below image (length image)))
+    ap (λ (none : Bool). if none then Err NoGeometry else elected_after (super_fault (super_of (bytes_of_block image 0)) 0 (length image)) (primary (bytes_of_block image 0)) (votes_below image (length image)))
     (some_blocks (length image) size len some)
-    ∙ ap (λ (n : ℕ). elected_after (super_fault (super_of (block_of image 0)) 0 n) (primary (block_of image 0)) (votes_below image n)) len
-    ∙ ap (λ (o : Option (List ℕ)). elected_after (super_fault (super_of (unwrap_or o [])) 0 size) (primary (unwrap_or o [])) (votes_below image size)) there
+    ∙ ap (λ (n : ℕ). elected_after (super_fault (super_of (bytes_of_block image 0)) 0 n) (primary (bytes_of_block image 0)) (votes_below image n)) len
+    ∙ ap (λ (b : List ℕ). elected_after (super_fault (super_of b) 0 size) (primary b) (votes_below image size)) (get_or_from_slice_get image 0 block [] there)
 
 -- the primary, where it is accepted
 pub primary_elected : (image : Image) (size : ℕ) (block sector : List ℕ) (e : Elected) → length image ≡ size → 0 < size → slice_get image 0 ≡ Some block

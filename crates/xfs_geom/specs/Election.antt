@@ -1,6 +1,6 @@
 -- Which superblock of an image says what its volume is: the primary, or else the backups by their votes
 -- (chapter "Superblocks"; xfs_repair(8)).
-use Rattle.std.specs.Prelude.{ℕ, ◌-◌, ◌&&◌, ◌==◌, nat_le, Bool, if◌then◌else◌, List, [], ◌∷◌, length, take, slice_get, unwrap_or, bytes_eq, Option, Some, None, is_none, Result, Ok, Err}
+use Rattle.std.specs.Prelude.{ℕ, ◌-◌, ◌&&◌, ◌==◌, nat_le, Bool, if◌then◌else◌, List, [], ◌∷◌, length, take, bytes_eq, Option, Some, None, is_none, Result, Ok, Err}
 use Rattle.std.specs.List.{count_by, find, flat_map, list_all, range_with_len}
 use Rattle.std.specs.Option.{ok_or}
 use Rattle.xfs_disk.specs.Blocks.{Image}
@@ -10,10 +10,6 @@ use Rattle.xfs_geom.specs.declared.election.ElectFault.{ElectFault}
 use Rattle.xfs_geom.specs.declared.election.ElectFault.TheVariants.{NoGeometry, Unsupported}
 use Rattle.xfs_geom.specs.declared.reading.SuperFault.{SuperFault}
 use Rattle.xfs_geom.specs.declared.reading.SuperFault.TheVariants as fault
-
--- the bytes of a block of the image
-abbrev pub block_of : Image → ℕ → List ℕ
-block_of image at = unwrap_or (slice_get image at) []
 
 -- the superblock of a block: its first sector
 abbrev pub super_of : List ℕ → List ℕ
@@ -48,7 +44,7 @@ vote_in sector place blocks =
 
 -- the vote of a block of the image
 abbrev pub vote_at : Image → ℕ → List Vote
-vote_at image place = vote_in (super_of (block_of image place)) place (length image)
+vote_at image place = vote_in (super_of (bytes_of_block image place)) place (length image)
 
 -- the votes of the blocks above 0 and below end, by block
 unfoldable pub votes_below : Image → ℕ → List Vote
@@ -77,6 +73,6 @@ elected_after (Some (fault.Shape word)) primary votes = ok_or (winner votes) NoG
 -- the superblock that says what the image's volume is
 unfoldable pub elected : Image → Result Vote ElectFault
 elected image =
-    let primary = super_of (block_of image 0) in
+    let primary = super_of (bytes_of_block image 0) in
     if length image == 0 then Err NoGeometry
     else elected_after (super_fault primary 0 (length image)) (record { place = 0; sector = primary }) (votes_below image (length image))

@@ -26,6 +26,7 @@ mod polls;
 mod reading;
 mod records;
 mod stated;
+mod sums;
 pub mod superblock;
 mod writing;
 
@@ -34,4 +35,5 @@ pub use election::{ElectFault, Elected, elect};
 pub use geometry::Geometry;
 pub use reading::{SuperFault, read_super};
 pub use records::{Counts, InoRec, RmapRec, Run, Span};
+pub use sums::{free_blocks, free_slots, longest, slots};
 pub use writing::write_super;

@@ -5,7 +5,7 @@ use Rattle.std.specs.Option.{option_and_then}
 use Rattle.std.proofs.lemmas.Bool.{and_from, and_parts, leb-true}
 use Rattle.xfs_geom.specs.Features.{or_else}
 use Rattle.xfs_word.specs.Seal.{is_sealed}
-use Rattle.xfs_disk.specs.Blocks.{Image}
+use Rattle.xfs_disk.specs.Blocks.{Image, bytes_of_block}
 use Rattle.xfs_geom.specs.First.{first_false}
 use Rattle.xfs_geom.specs.Volumes.{Volume}
 use Rattle.xfs_geom.specs.declared.records.RmapRec.{RmapRec}
@@ -15,7 +15,7 @@ use Rattle.xfs_kinds.specs.OwnerTrees.{follows_end, is_owned_run, rmap_shape}
 use Rattle.xfs_tree.specs.declared.seats.Seat.{Seat}
 use Rattle.xfs_tree.specs.declared.unread.Unread.{Unread}
 use Rattle.xfs_tree.specs.Blocks.{capacity, count_of, left_of, level_of, records_of, right_of}
-use Rattle.xfs_tree.specs.Reading.{Contents, at_block, bytes_of_block, fault_above, met_above, next_of, reading, records_under, row_fault, level_row, rule_at, unless}
+use Rattle.xfs_tree.specs.Reading.{Contents, at_block, fault_above, met_above, next_of, reading, records_under, row_fault, level_row, rule_at, unless}
 use Rattle.xfs_tree.specs.Rules.{agrees, are_lawful, block_fault, block_seal, high_of, is_ordered, is_sibling, last_of, least_of, low_of, place_fault}
 use Rattle.xfs_tree.specs.Shape.{Shape}
 use Rattle.xfs_tree.proofs.Depths.{records_from}

@@ -4,12 +4,12 @@ use Rattle.std.specs.List.{filter, flat_map, list_any, range_with_len}
 use Rattle.std.specs.Option.{option_and_then}
 use Rattle.std.proofs.lemmas.List.Folds.{list_any-append}
 use Rattle.xfs_disk.specs.Lists.{is_among}
-use Rattle.xfs_disk.specs.Blocks.{Image}
+use Rattle.xfs_disk.specs.Blocks.{Image, bytes_of_block}
 use Rattle.xfs_geom.specs.Conversions.{group_length}
 use Rattle.xfs_geom.specs.Volumes.{Volume}
 use Rattle.xfs_geom.specs.declared.records.InoRec.{InoRec}
 use Rattle.xfs_geom.specs.declared.records.RmapRec.{RmapRec}
-use Rattle.xfs_tree.specs.Reading.{Contents, bytes_of_block}
+use Rattle.xfs_tree.specs.Reading.{Contents}
 use Rattle.xfs_volume.specs.declared.clusters.ClusterRec.{ClusterRec}
 use Rattle.xfs_word.specs.Seal.{is_sealed}
 use Rattle.xfs_word.specs.declared.kinds.SealKind.TheVariants as Kind

@@ -9,7 +9,7 @@ ghost use Rattle.xfs_heads.specs.FreeSpace.{agf_of, is_agf_shaped};
 ghost use Rattle.xfs_heads.specs.Inodes.{agi_of, is_agi_shaped};
 ghost use Rattle.xfs_image.specs.Groups.{agf_at, agfl_at, agi_at};
 ghost use Rattle.xfs_disk.specs.Reads.{OnlyReads};
-ghost use Rattle.xfs_tree.specs.Reading.{bytes_of_block};
+ghost use Rattle.xfs_disk.specs.Blocks.{bytes_of_block};
 ghost use Rattle.xfs_word.specs.Field.{part_of};
 
 use std::sync::ledger::Ledger;

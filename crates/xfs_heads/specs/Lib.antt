@@ -4,3 +4,4 @@ pub mod Inodes
 pub mod FreeList
 pub mod Log
 pub mod BlankLog
+pub mod Sectors

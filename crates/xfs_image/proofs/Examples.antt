@@ -1,9 +1,8 @@
 -- The worked examples.
 use Rattle.std.proofs.Common.{◌≡◌, true, false, [], ◌∷◌, refl, slice_index_or}
 use Rattle.std.specs.List.{range_with_len}
-use Rattle.xfs_disk.specs.Blocks.{Image}
+use Rattle.xfs_disk.specs.Blocks.{Image, bytes_of_block}
 use Rattle.xfs_geom.specs.Conversions.{address_of, inode_of}
-use Rattle.xfs_tree.specs.Reading.{bytes_of_block}
 use Rattle.xfs_image.specs.Candidates.{lies_in_chunk}
 use Rattle.xfs_image.specs.Clusters.{cluster_of, clusters_in, given_clusters, root_cluster}
 use Rattle.xfs_image.specs.Examples.{chunk, extents, given, place, small_example}

@@ -7,11 +7,10 @@ use Rattle.xfs_word.specs.Seal.{is_sealed}
 use Rattle.xfs_word.specs.declared.kinds.Seal.{Seal}
 use Rattle.xfs_word.specs.declared.kinds.SealKind.{SealKind}
 use Rattle.xfs_word.specs.declared.kinds.SealKind.TheVariants as Kind
-use Rattle.xfs_disk.specs.Blocks.{Image}
+use Rattle.xfs_disk.specs.Blocks.{Image, bytes_of_block}
 use Rattle.xfs_geom.specs.Conversions.{group_length, is_fixed}
 use Rattle.xfs_geom.specs.Shape.{chunk_of}
 use Rattle.xfs_geom.specs.Volumes.{Volume}
-use Rattle.xfs_tree.specs.Reading.{bytes_of_block}
 use Rattle.xfs_inode.specs.Slots.{slot_seal}
 use Rattle.xfs_volume.specs.declared.clusters.ClusterRec.{ClusterRec}
 use Rattle.xfs_image.specs.Groups.{head_block}

@@ -2,11 +2,10 @@
 use Rattle.std.specs.Prelude.{◌≡◌, ◌≢◌, ℕ, Bool, true, false, ◌+◌, ◌-◌, ◌/◌, ◌%◌, ◌&&◌, nat_le, nat_lt, if◌then◌else◌, List, [], ◌∷◌, map, slice_index_or}
 use Rattle.std.specs.List.{range_with_len}
 use Rattle.xfs_word.specs.declared.extents.Extent.{Extent}
-use Rattle.xfs_disk.specs.Blocks.{Image}
+use Rattle.xfs_disk.specs.Blocks.{Image, bytes_of_block}
 use Rattle.xfs_geom.specs.Conversions.{is_fixed}
 use Rattle.xfs_geom.specs.Groups.{block_of_address}
 use Rattle.xfs_geom.specs.Volumes.{Volume}
-use Rattle.xfs_tree.specs.Reading.{bytes_of_block}
 use Rattle.xfs_inode.specs.declared.files.FileRead.TheVariants as Reads
 use Rattle.xfs_volume.specs.Names.{is_directory}
 use Rattle.xfs_volume.specs.declared.cores.Core.{Core}

@@ -1,4 +1,3 @@
-pub mod Sectors
 pub mod Slots
 pub mod Groups
 pub mod GroupParts

@@ -1,15 +1,12 @@
 -- What a whole volume says, where all its parts read.
 use Rattle.std.specs.Prelude.{◌≡◌, ℕ, List, map, Result, Ok, Err}
-use Rattle.std.specs.List.{flat_map, range_with_len}
 use Rattle.xfs_word.specs.Field.{field_of}
-use Rattle.xfs_disk.specs.Blocks.{Image}
+use Rattle.xfs_disk.specs.Blocks.{Image, bytes_of_block}
 use Rattle.xfs_geom.specs.Volumes.{Volume, volume_of}
 use Rattle.xfs_geom.specs.declared.geometry.Geometry.{Geometry}
 use Rattle.xfs_geom.specs.declared.records.Counts.{Counts}
 use Rattle.xfs_heads.specs.Log.{seen_of, state_of}
 use Rattle.xfs_heads.specs.declared.log.state.LogState.{LogState}
-use Rattle.xfs_tree.specs.Blocks.{each_of}
-use Rattle.xfs_tree.specs.Reading.{bytes_of_block}
 use Rattle.xfs_volume.specs.declared.catalogs.Catalog.{Catalog}
 use Rattle.xfs_volume.specs.declared.files.FileRec.{FileRec}
 use Rattle.xfs_volume.specs.declared.groups.GroupRec.{GroupRec}
@@ -18,7 +15,7 @@ use Rattle.xfs_image.specs.Directories.{dirs_read, entries_read}
 use Rattle.xfs_image.specs.Files.{files_read}
 use Rattle.xfs_image.specs.Groups.{groups_read}
 use Rattle.xfs_image.specs.Lsns.{lsns_read}
-use Rattle.xfs_image.specs.Sectors.{sector_in}
+use Rattle.xfs_heads.specs.Sectors.{log_sectors}
 
 -- the counters of the primary superblock
 abbrev pub counts_of : Image → Counts
@@ -27,10 +24,6 @@ counts_of image = record {
   ifree = field_of (bytes_of_block image 0) 136 8;
   fdblocks = field_of (bytes_of_block image 0) 144 8;
 }
-
--- all sectors of the log, in order
-abbrev pub log_sectors : Volume → Image → List (List ℕ)
-log_sectors v image = flat_map (λ block. each_of 8 (sector_in image block)) (range_with_len v.log v.logblocks)
 
 -- whether the log is clean
 unfoldable pub log_of : Volume → Image → LogState

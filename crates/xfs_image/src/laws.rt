@@ -3,10 +3,9 @@
 ghost use Rattle.std.specs.Prelude.{◌≡◌, ◌≢◌, ◌⊎◌, ℕ, true, false, List, [], ◌∷◌, length, slice_index_or, Option, Some, None, Ok, Err};
 ghost use Rattle.std.specs.List.{range_with_len};
 ghost use Rattle.std.specs.List.Sorted.{IsPermutation};
-ghost use Rattle.xfs_disk.specs.Blocks.{Image};
+ghost use Rattle.xfs_disk.specs.Blocks.{Image, bytes_of_block};
 ghost use Rattle.xfs_geom.specs.Volumes.{Volume, volume_of};
 ghost use Rattle.xfs_geom.specs.declared.geometry.Geometry.{Geometry};
-ghost use Rattle.xfs_tree.specs.Reading.{bytes_of_block};
 ghost use Rattle.xfs_volume.specs.declared.catalogs.Catalog.{Catalog};
 ghost use Rattle.xfs_volume.specs.declared.findings.Law.{Law};
 ghost use Rattle.xfs_volume.specs.declared.files.FileRec.{FileRec};

@@ -1,9 +1,9 @@
 -- The blocks that a slot names, as they are read, give what it reads as.
 use Rattle.std.proofs.Common.{◌≡◌, ℕ, List, Option, Some, None, IfSome, option_map, refl, sym, ap, ◌∙◌}
-use Rattle.xfs_disk.specs.Blocks.{Image}
+use Rattle.xfs_disk.specs.Blocks.{Image, bytes_of_block}
 use Rattle.xfs_word.specs.declared.extents.Extent.{Extent}
 use Rattle.xfs_geom.specs.Volumes.{Volume}
-use Rattle.xfs_tree.specs.Reading.{Contents, bytes_of_block, reading}
+use Rattle.xfs_tree.specs.Reading.{Contents, reading}
 use Rattle.xfs_tree.specs.Seats.{seats_of}
 use Rattle.xfs_tree.specs.declared.frontier.Frontier.{Frontier}
 use Rattle.xfs_kinds.specs.FileTrees.{bmbt_shape}

@@ -1,9 +1,9 @@
 -- The blocks that the slot of an inode names, and what it reads as in an image.
 use Rattle.std.specs.Prelude.{◌≡◌, ℕ, ◌≤◌, MatchResult, List, [], Option, Some, None, option_map, Result, Ok, Err}
-use Rattle.xfs_disk.specs.Blocks.{Image}
+use Rattle.xfs_disk.specs.Blocks.{Image, bytes_of_block}
 use Rattle.xfs_word.specs.declared.extents.Extent.{Extent}
 use Rattle.xfs_geom.specs.Volumes.{Volume}
-use Rattle.xfs_tree.specs.Reading.{Contents, bytes_of_block, reading}
+use Rattle.xfs_tree.specs.Reading.{Contents, reading}
 use Rattle.xfs_tree.specs.Seats.{seats_of}
 use Rattle.xfs_tree.specs.declared.unread.Unread.{Unread}
 use Rattle.xfs_tree.specs.declared.frontier.Frontier.{Frontier}

@@ -5,7 +5,7 @@ ghost use Rattle.std.specs.Option.{ForSome, option_copied};
 ghost use Rattle.xfs_disk.specs.Faults.{HasCause};
 ghost use Rattle.xfs_geom.specs.Volumes.{volume_of};
 ghost use Rattle.xfs_disk.specs.Reads.{OnlyReads};
-ghost use Rattle.xfs_tree.specs.Reading.{bytes_of_block};
+ghost use Rattle.xfs_disk.specs.Blocks.{bytes_of_block};
 ghost use Rattle.xfs_inode.specs.Files.{contents_of};
 ghost use Rattle.xfs_inode.specs.Sound.{IsSound};
 ghost use Rattle.xfs_inode.specs.Named.{IsTopNamed, HasInodeCause, named_attr, named_link, named_top, slot_reads, tree_below};

@@ -5,8 +5,7 @@ use Rattle.std.proofs.lemmas.List.{drop_all, get_or_past}
 use Rattle.std.proofs.lemmas.Bool.{eqb-true}
 use Rattle.std.specs.Option.{option_eq}
 use Rattle.xfs_word.specs.Field.{field_of}
-use Rattle.xfs_disk.specs.Blocks.{Image}
-use Rattle.xfs_tree.specs.Reading.{bytes_of_block}
+use Rattle.xfs_disk.specs.Blocks.{Image, bytes_of_block}
 use Rattle.xfs_journal.specs.Placed.{HoldsBlock}
 
 past_end : (image : Image) (block : ℕ) → length image ≤ block → bytes_of_block image block ≡ []

@@ -5,9 +5,8 @@ use Rattle.xfs_word.specs.Field.{part_of}
 use Rattle.xfs_heads.specs.Log.{seen_of}
 use Rattle.xfs_heads.specs.declared.log.SectorSeen.{SectorSeen}
 use Rattle.xfs_word.specs.declared.extents.Extent.{Extent}
-use Rattle.xfs_disk.specs.Blocks.{Image}
+use Rattle.xfs_disk.specs.Blocks.{Image, bytes_of_block}
 use Rattle.xfs_geom.specs.Volumes.{Volume}
-use Rattle.xfs_tree.specs.Reading.{bytes_of_block}
 use Rattle.xfs_image.specs.Lsns.{LsnPlace, dir_byte, extent_places}
 use Rattle.xfs_journal.specs.declared.extents.Owner.{Owner}
 use Rattle.xfs_journal.specs.declared.extents.Owner.TheVariants as owners

@@ -21,7 +21,7 @@ const LINK: u16 = 10;
 const TREE_LSN: u16 = 32;
 
 /// Adds the places of files.
-pub fn push_files(
+pub fn push_file_places(
     g: &Geometry,
     files: &[FileRec],
     places: &mut Vec<LsnPosition>,

@@ -29,7 +29,7 @@ const SLOT_LSN: u16 = 112;
 const SLOT_SIZE: u16 = 512;
 
 /// Adds the places of groups.
-pub fn push_groups(
+pub fn push_group_places(
     g: &Geometry,
     groups: &[GroupRec],
     places: &mut Vec<LsnPosition>,
@@ -70,7 +70,7 @@ fn push_trees(group: &GroupRec, places: &mut Vec<LsnPosition>) -> Result<(), NoM
 }
 
 /// Adds the places of all slots of clusters.
-pub fn push_clusters(clusters: &[u64], places: &mut Vec<LsnPosition>) -> Result<(), NoMemory>
+pub fn push_cluster_places(clusters: &[u64], places: &mut Vec<LsnPosition>) -> Result<(), NoMemory>
     requires low { All (λ cluster. cluster < 2 ^ 60) clusters.now }
     requires inside { All IsInBlock places.old.items }
     ensures listed { OnOk result (listed places.new.items ≡ listed places.old.items ++ flat_map cluster_places clusters.now) }

@@ -7,8 +7,9 @@ ghost use Rattle.xfs_geom.specs.Volumes.{volume_of};
 ghost use Rattle.xfs_heads.specs.Log.{seen_of};
 ghost use Rattle.xfs_disk.specs.Reads.{OnlyReads};
 ghost use Rattle.xfs_tree.specs.Blocks.{each_of};
-ghost use Rattle.xfs_tree.specs.Reading.{bytes_of_block};
-ghost use Rattle.xfs_image.specs.View.{log_of, log_sectors};
+ghost use Rattle.xfs_disk.specs.Blocks.{bytes_of_block};
+ghost use Rattle.xfs_image.specs.View.{log_of};
+ghost use Rattle.xfs_heads.specs.Sectors.{log_sectors};
 ghost use Rattle.xfs_journal.specs.Answers.{HasJournalCause};
 ghost use Rattle.xfs_journal.specs.Placed.{seen_in};
 

@@ -7,7 +7,7 @@ ghost use Rattle.xfs_word.specs.Field.{field_of};
 ghost use Rattle.xfs_disk.specs.Faults.{HasCause};
 ghost use Rattle.xfs_geom.specs.Volumes.{volume_of};
 ghost use Rattle.xfs_disk.specs.Reads.{OnlyReads};
-ghost use Rattle.xfs_tree.specs.Reading.{bytes_of_block};
+ghost use Rattle.xfs_disk.specs.Blocks.{bytes_of_block};
 ghost use Rattle.xfs_image.specs.Files.{clusters_of};
 ghost use Rattle.xfs_image.specs.Lsns.{lsn_places_in_order, lsn_at, lsn_places, lsns_read};
 ghost use Rattle.xfs_journal.specs.Answers.{HasJournalCause};

@@ -7,8 +7,8 @@ ghost use Rattle.xfs_image.specs.Files.{clusters_of};
 ghost use Rattle.xfs_image.specs.Lsns.{at, lsn_places};
 ghost use Rattle.xfs_journal.specs.Placed.{IsInBlock, listed};
 
-use crate::files::push_files;
-use crate::groups::{push_clusters, push_groups};
+use crate::files::push_file_places;
+use crate::groups::{push_cluster_places, push_group_places};
 use std::alloc::Global;
 use xfs_disk::NoMemory;
 use xfs_geom::Geometry;
@@ -42,9 +42,9 @@ pub fn all_places(
 {
     let mut places = Vec::new(alloc);
     push(0, SUPER_LSN, &mut places)?;
-    push_groups(g, groups, &mut places)?;
-    push_clusters(clusters, &mut places)?;
-    push_files(g, files, &mut places)?;
+    push_group_places(g, groups, &mut places)?;
+    push_cluster_places(clusters, &mut places)?;
+    push_file_places(g, files, &mut places)?;
     Ok(places)
 }
 

@@ -15,10 +15,10 @@ use Rattle.xfs_space.proofs.Lawful.{placed}
 use Rattle.xfs_space.proofs.RecordedMaps.{group_inside}
 use Rattle.xfs_place.specs.Claims.{IsClaimedRun}
 use Rattle.xfs_salvage.specs.Claimable.{CanClaim}
-use Rattle.xfs_salvage.specs.Kept.{cluster_run}
+use Rattle.xfs_salvage.specs.Kept.{run_of_cluster}
 
 -- a cluster
-pub cluster_claim : (top block : ℕ) → block + 4 ≤ top → IsClaimedRun top (cluster_run block)
+pub cluster_claim : (top block : ℕ) → block + 4 ≤ top → IsClaimedRun top (run_of_cluster block)
 cluster_claim top block inside = record { some = omega arith; inside = inside; fits = λ known. absurd (true≢false (sym known)); plain = λ other. refl }
 
 -- an offset word of a fork is that of file data, and has the offset

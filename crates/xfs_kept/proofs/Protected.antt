@@ -1,4 +1,4 @@
--- A protected file of an image stays among what is kept of its evidence.
+-- A protected file of an image is_kept_file among what is kept of its evidence.
 use Rattle.std.proofs.Common.{◌≡◌, ℕ, true, ◌==◌, ◌&&◌, inl, List, refl, sym, ◌∙◌, ap, ap₂, subst}
 use Rattle.std.proofs.lemmas.Bool.{and_from, eqb-true}
 use Rattle.xfs_disk.specs.Lists.{is_among}
@@ -21,11 +21,11 @@ use Rattle.xfs_protected.specs.Standing.{stands}
 use Rattle.xfs_protected.proofs.Images.{protected_kept}
 use Rattle.xfs_protected.proofs.Members.{Member, any_member, member_filter, member_flat}
 use Rattle.xfs_protected.proofs.Taken.{protected_stands}
-use Rattle.xfs_salvage.specs.Kept.{held_in, kept_clusters, kept_files, stays}
+use Rattle.xfs_salvage.specs.Kept.{claims_held, kept_clusters, kept_files, is_kept_file}
 
 -- what is held of the claims of an image
-held_is : (v : Volume) (image : Image) → held_in v (candidates v image) (candidate_files v image) ≡ kept_of (image_claims v image)
-unfolding held_in
+held_is : (v : Volume) (image : Image) → claims_held v (candidates v image) (candidate_files v image) ≡ kept_of (image_claims v image)
+unfolding claims_held
 held_is v image = refl
 
 among_candidates : (v : Volume) (image : Image) (ino : ℕ) (is : Protected v image ino) → Member is.file (candidate_files v image)
@@ -44,10 +44,10 @@ protected_stays g image ino is =
     let number : is.file.ino ≡ ino = (file_sound v image ino is.file is.reads).keeps.number in
     let kept : is_among (kept_of (image_claims v image)).files is.file.ino ≡ true =
     subst (λ (n : ℕ). is_among (kept_of (image_claims v image)).files n ≡ true) (sym number) (protected_kept g image ino is).file in
-    let held : is_among (held_in v (candidates v image) (candidate_files v image)).files is.file.ino ≡ true =
+    let held : is_among (claims_held v (candidates v image) (candidate_files v image)).files is.file.ino ≡ true =
     subst (λ (h : Holding). is_among h.files is.file.ino ≡ true) (sym (held_is v image)) kept in
-    member_filter (stays v (candidates v image) (candidate_files v image)) is.file (candidate_files v image) (among_candidates v image ino is)
-    (and_from (is_among (held_in v (candidates v image) (candidate_files v image)).files is.file.ino) (stands v.rootino is.file) held (protected_stands v image ino is))
+    member_filter (is_kept_file v (candidates v image) (candidate_files v image)) is.file (candidate_files v image) (among_candidates v image ino is)
+    (and_from (is_among (claims_held v (candidates v image) (candidate_files v image)).files is.file.ino) (stands v.rootino is.file) held (protected_stands v image ino is))
 
 pub protected_cluster : (g : Geometry) (image : Image) (ino : ℕ) → Protected (volume_of g) image ino
     → is_among (kept_clusters (volume_of g) (candidates (volume_of g) image) (candidate_files (volume_of g) image)) (cluster_of (volume_of g) ino) ≡ true

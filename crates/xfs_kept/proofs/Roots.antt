@@ -5,7 +5,7 @@ use Rattle.std.proofs.lemmas.List.Sums.{sum_by-append}
 use Rattle.std.proofs.Math.Nat.{mod-lt}
 use Rattle.std.proofs.lemmas.Nat.{div-add-mod', div-mul-add, mod-mul-add}
 use Rattle.xfs_geom.specs.Runs.{covers, runs_on}
-use Rattle.xfs_disk.specs.Lists.{is_among}
+use Rattle.xfs_disk.specs.Lists.{is_among, with_number}
 use Rattle.xfs_geom.specs.Groups.{block_of_address}
 use Rattle.xfs_geom.specs.Volumes.{Volume, volume_of}
 use Rattle.xfs_geom.specs.declared.geometry.Geometry.{Geometry}
@@ -17,7 +17,7 @@ use Rattle.xfs_space.proofs.RecordedMaps.{group_inside}
 use Rattle.xfs_volume.specs.declared.clusters.ClusterRec.{ClusterRec}
 use Rattle.xfs_volume.specs.declared.files.FileRec.{FileRec}
 use Rattle.xfs_claims.specs.declared.claimants.Claims.{Claims}
-use Rattle.xfs_claims.specs.Keeping.{Holding, fixed_alone, kept_of, with_cluster, with_clusters, with_files, with_number}
+use Rattle.xfs_claims.specs.Keeping.{Holding, fixed_alone, kept_of, with_cluster, with_clusters, with_files}
 use Rattle.xfs_claims.specs.Ranks.{recorded_clusters, recorded_files, scanned_clusters, scanned_files}
 use Rattle.xfs_claims.specs.Spans.{spans_of}
 use Rattle.xfs_image.specs.Clusters.{root_cluster}
@@ -26,12 +26,13 @@ use Rattle.xfs_place.specs.Wanted.{CanBeKept}
 use Rattle.xfs_place.proofs.AllClaims.{all_apart, is_volume}
 use Rattle.xfs_place.proofs.KeptRun.{kept_alone}
 use Rattle.xfs_place.proofs.Ordered.{on_first}
-use Rattle.xfs_protected.specs.Claimed.{claims_in, fixed_runs}
+use Rattle.xfs_protected.specs.Claimed.{claims_in}
+use Rattle.xfs_kinds.specs.FixedRuns.{fixed_runs}
 use Rattle.xfs_protected.proofs.Addresses.{addresses_of}
 use Rattle.xfs_protected.proofs.Claimed.{spans_are}
 use Rattle.xfs_protected.proofs.Counted.{any_on}
 use Rattle.xfs_protected.proofs.Kept.{clusters_stay, clusters_stay_on}
-use Rattle.xfs_salvage.specs.Kept.{cluster_run, held_in, kept_clusters}
+use Rattle.xfs_salvage.specs.Kept.{run_of_cluster, claims_held, kept_clusters}
 use Rattle.xfs_kept.proofs.Claims.{cluster_claim}
 
 -- where the cluster of the root stands in its group
@@ -54,7 +55,7 @@ root_is g =
     ap (block_of_address g.agblocks g.agblklog) at
     ∙ ap₂ (λ (a b : ℕ). a * g.agblocks + b) (div-mul-add (e / k) k (4 * (e % k / 4)) low) (mod-mul-add (e / k) k (4 * (e % k / 4)) low)
 
-root_kept_alone : (g : Geometry) → CanBeKept (volume_of g) (cluster_run (root_cluster (volume_of g)) ∷ [])
+root_kept_alone : (g : Geometry) → CanBeKept (volume_of g) (run_of_cluster (root_cluster (volume_of g)) ∷ [])
 root_kept_alone g =
     let v : Volume = volume_of g in
     let ag : ℕ = g.rootino / 8 / 2 ^ g.agblklog in
@@ -66,7 +67,7 @@ root_kept_alone g =
     let start = root_is g in
     let low : 4 * (b / 4) < g.agblocks = omega (arith, inside, short) in
     let rest : root_cluster v % g.agblocks ≡ 4 * (b / 4) = ap (λ (n : ℕ). n % g.agblocks) start ∙ mod-mul-add ag g.agblocks (4 * (b / 4)) low in
-    kept_alone v (cluster_run (root_cluster v)) (cluster_claim g.dblocks (root_cluster v) (omega (arith, of_group, inside, start))) (omega (arith, rest, behind))
+    kept_alone v (run_of_cluster (root_cluster v)) (cluster_claim g.dblocks (root_cluster v) (omega (arith, of_group, inside, start))) (omega (arith, rest, behind))
     (omega (arith, rest, inside, short)) (by_log (or_cases _ _ g.shape.root.apart))
   where
     by_log : ((nat_le (root_cluster (volume_of g) + 4) g.log ≡ true) ⊎ (nat_le (g.log + g.logblocks) (root_cluster (volume_of g)) ≡ true))
@@ -77,7 +78,7 @@ root_kept_alone g =
 root_unfixed : (g : Geometry) (b : ℕ) → root_cluster (volume_of g) ≤ b → b < root_cluster (volume_of g) + 4 → is_in (spans_of (fixed_runs (volume_of g))) b ≡ false
 root_unfixed g b low high = false_from_ne_true (is_in (spans_of (fixed_runs (volume_of g))) b) (λ on.
     let v : Volume = volume_of g in
-    let own : Run = cluster_run (root_cluster v) in
+    let own : Run = run_of_cluster (root_cluster v) in
     let once = (all_apart v (is_volume v g.shape.groups g.shape.log_inside) (own ∷ []) (root_kept_alone g)).once b in
     let sums : runs_on (fixed_runs v ++ own ∷ []) b ≡ runs_on (fixed_runs v) b + runs_on (own ∷ []) b = sum_by-append (λ (r : Run). if covers b r then 1 else 0) (fixed_runs v) (own ∷ []) in
     let last = on_first own [] b in
@@ -89,7 +90,7 @@ first_kept : (held : Holding) (k : ℕ) → held.clusters ≡ [] → meets held.
 first_kept held k none off = rw (off, none) (or_left _ false (eq-eqb k k refl))
 
 pub root_kept : (g : Geometry) (clusters : List ClusterRec) (files : List FileRec) → is_among (kept_clusters (volume_of g) clusters files) (root_cluster (volume_of g)) ≡ true
-unfolding held_in
+unfolding claims_held
 root_kept g clusters files =
     let v : Volume = volume_of g in
     let claims : Claims = claims_in v clusters files in

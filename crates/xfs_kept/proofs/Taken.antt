@@ -7,7 +7,7 @@ use Rattle.std.proofs.lemmas.List.Sums.{sum_by-append}
 use Rattle.std.proofs.lemmas.Nat.{div-add-mod'}
 use Rattle.std.proofs.Math.Nat.{mul-le-mul_right}
 use Rattle.xfs_geom.specs.Runs.{covers, runs_on}
-use Rattle.xfs_disk.specs.Lists.{is_in_range, is_among}
+use Rattle.xfs_disk.specs.Lists.{is_in_range, is_among, with_number}
 use Rattle.xfs_geom.specs.Conversions.{is_fixed}
 use Rattle.xfs_geom.specs.Volumes.{Volume, volume_of}
 use Rattle.xfs_geom.specs.declared.geometry.Geometry.{Geometry}
@@ -18,7 +18,7 @@ use Rattle.xfs_volume.specs.declared.files.FileRec.{FileRec}
 use Rattle.xfs_space.specs.Owners.{file_runs}
 use Rattle.xfs_claims.specs.declared.claimants.Claims.{Claims}
 use Rattle.xfs_claims.specs.declared.claimants.FileClaim.{FileClaim}
-use Rattle.xfs_claims.specs.Keeping.{Holding, cluster_span, fixed_alone, is_kept, kept_of, with_cluster, with_clusters, with_file, with_files, with_number}
+use Rattle.xfs_claims.specs.Keeping.{Holding, cluster_span, fixed_alone, is_kept, kept_of, with_cluster, with_clusters, with_file, with_files}
 use Rattle.xfs_claims.specs.Ranks.{by_number, first_block, is_other_recorded, is_recorded_cluster, is_scanned_cluster, own_number, recorded_clusters, recorded_files, scanned_clusters, scanned_files}
 use Rattle.xfs_claims.specs.Spans.{SpansApart, spans_of, with_blocks}
 use Rattle.xfs_claims.proofs.Ordered.{to_order}
@@ -26,12 +26,13 @@ use Rattle.xfs_place.specs.Choice.{one_if}
 use Rattle.xfs_place.specs.Claims.{IsClaimedRun}
 use Rattle.xfs_place.specs.Wanted.{CanBeKept, IsOffFixed}
 use Rattle.xfs_place.proofs.Ordered.{on_first}
-use Rattle.xfs_protected.specs.Claimed.{claims_in, file_claim, fixed_runs, header_run, log_run}
+use Rattle.xfs_protected.specs.Claimed.{claims_in, file_claim}
+use Rattle.xfs_kinds.specs.FixedRuns.{fixed_runs, header_run, log_run}
 use Rattle.xfs_protected.proofs.Claimed.{spans_are}
 use Rattle.xfs_protected.proofs.Counted.{member_on}
 use Rattle.xfs_protected.proofs.Members.{Member, all_members, any_member, filter_member, flat_member, map_member, member_all, member_any, member_either, member_map, member_row}
 use Rattle.xfs_salvage.specs.Claimable.{AscendClaiming, AscendWithin, CanBeSalvaged, CanClaim}
-use Rattle.xfs_salvage.specs.Kept.{cluster_run, held_in, kept_clusters, kept_files, stays, taken_in}
+use Rattle.xfs_salvage.specs.Kept.{run_of_cluster, claims_held, kept_clusters, kept_files, is_kept_file, taken_in}
 use Rattle.xfs_salvage.proofs.Conditions.{files_differ}
 use Rattle.xfs_kept.proofs.Claims.{cluster_claim, file_claims}
 use Rattle.xfs_kept.proofs.Tallies.{Tallies, clusters_on, files_on, kept_tallies, part_of, spans_on}
@@ -104,9 +105,9 @@ claims_apart v low [] up = tt
 claims_apart v low (f ∷ fs) up = (up.1.apart, claims_apart v (f.ino + 1) fs up.2)
 
 -- counts of runs as counts of what is held
-clusters_are : (ks : List ℕ) (b : ℕ) → runs_on (map cluster_run ks) b ≡ clusters_on ks b
+clusters_are : (ks : List ℕ) (b : ℕ) → runs_on (map run_of_cluster ks) b ≡ clusters_on ks b
 clusters_are [] b = refl
-clusters_are (k ∷ ks) b = let sums = on_first (cluster_run k) (map cluster_run ks) b in let rest = clusters_are ks b in omega (arith, sums, rest)
+clusters_are (k ∷ ks) b = let sums = on_first (run_of_cluster k) (map run_of_cluster ks) b in let rest = clusters_are ks b in omega (arith, sums, rest)
 
 pub spans_count : (rs : List Run) (b : ℕ) → runs_on rs b ≡ spans_on (spans_of rs) b
 spans_count [] b = refl
@@ -163,32 +164,32 @@ at_most false = omega arith
 
 module _ (g : Geometry) (clusters : List ClusterRec) (files : List FileRec) (can : CanBeSalvaged (volume_of g) clusters files) where
   abbrev test : FileRec → Bool
-  test = stays (volume_of g) clusters files
+  test = is_kept_file (volume_of g) clusters files
 
   abbrev of_clusters' : List Run
-  of_clusters' = map cluster_run (kept_clusters (volume_of g) clusters files)
+  of_clusters' = map run_of_cluster (kept_clusters (volume_of g) clusters files)
 
   abbrev of_files : List Run
   of_files = flat_map (file_runs (volume_of g)) (kept_files (volume_of g) clusters files)
 
-  tallies : Tallies (is_in (spans_of (fixed_runs (volume_of g)))) (map (file_claim (volume_of g)) files) (held_in (volume_of g) clusters files)
-  unfolding held_in
+  tallies : Tallies (is_in (spans_of (fixed_runs (volume_of g)))) (map (file_claim (volume_of g)) files) (claims_held (volume_of g) clusters files)
+  unfolding claims_held
   tallies = kept_tallies (claims_in (volume_of g) clusters files) (files_differ (volume_of g) 0 files can.files_claim) (claims_apart (volume_of g) 0 files can.files_claim)
 
   -- how many of what is taken have a block
-  total : (b : ℕ) → one_if (is_in (spans_of (fixed_runs (volume_of g))) b) + runs_on (taken_in (volume_of g) clusters files) b ≤ one_if ((held_in (volume_of g) clusters files).blocks b)
+  total : (b : ℕ) → one_if (is_in (spans_of (fixed_runs (volume_of g))) b) + runs_on (taken_in (volume_of g) clusters files) b ≤ one_if ((claims_held (volume_of g) clusters files).blocks b)
   unfolding taken_in kept_files
   total b =
       let v : Volume = volume_of g in
       let all = tallies.each b in
       let sums : runs_on (taken_in v clusters files) b ≡ runs_on of_clusters' b + runs_on of_files b = sum_by-append (λ (r : Run). if covers b r then 1 else 0) of_clusters' of_files in
       let first = clusters_are (kept_clusters v clusters files) b in
-      let rest : runs_on of_files b ≤ files_on (is_among (held_in v clusters files).files) (map (file_claim v) files) b =
-      files_upto v test (is_among (held_in v clusters files).files) (λ f is. (and_parts (is_among (held_in v clusters files).files f.ino) _ is).0) files b in
+      let rest : runs_on of_files b ≤ files_on (is_among (claims_held v clusters files).files) (map (file_claim v) files) b =
+      files_upto v test (is_among (claims_held v clusters files).files) (λ f is. (and_parts (is_among (claims_held v clusters files).files f.ino) _ is).0) files b in
       omega (arith, all, sums, first, rest)
 
   clusters_end : AllByRecursion (λ k. k + 4 ≤ g.dblocks) (kept_clusters (volume_of g) clusters files)
-  unfolding held_in
+  unfolding claims_held
   clusters_end = kept_all (λ k. k + 4 ≤ g.dblocks) (claims_in (volume_of g) clusters files) can.root (end_by g.dblocks 0 clusters can.clusters_lie)
 
   taken_claim : (r : Run) → Member r (taken_in (volume_of g) clusters files) → IsClaimedRun g.dblocks r
@@ -197,7 +198,7 @@ module _ (g : Geometry) (clusters : List ClusterRec) (files : List FileRec) (can
       let v : Volume = volume_of g in
       elim (member_either r of_clusters' of_files is) [
         | inl first ↦
-            let of = map_member cluster_run r (kept_clusters v clusters files) first in
+            let of = map_member run_of_cluster r (kept_clusters v clusters files) first in
             subst (IsClaimedRun g.dblocks) of.2 (cluster_claim g.dblocks of.0 (member_all (λ k. k + 4 ≤ g.dblocks) of.0 (kept_clusters v clusters files) clusters_end of.1))
         | inr second ↦
             let of = flat_member (file_runs v) r (kept_files v clusters files) second in
@@ -216,7 +217,7 @@ module _ (g : Geometry) (clusters : List ClusterRec) (files : List FileRec) (can
       let one : one_if (is_in (spans_of (fixed_runs (volume_of g))) block) ≡ 1 = ap one_if (fixed_covered g block (omega (arith, end, high)) fixed) in
       let some : 1 ≤ runs_on taken block = member_on r taken block is on in
       let upto = total block in
-      let most = at_most ((held_in (volume_of g) clusters files).blocks block) in
+      let most = at_most ((claims_held (volume_of g) clusters files).blocks block) in
       omega (arith, one, some, upto, most))
 
   pub are_kept : CanBeKept (volume_of g) (taken_in (volume_of g) clusters files)
@@ -225,5 +226,5 @@ module _ (g : Geometry) (clusters : List ClusterRec) (files : List FileRec) (can
       record {
         each = All-from_recursion (IsClaimedRun g.dblocks) taken (all_members (IsClaimedRun g.dblocks) taken taken_claim);
         clear = All-from_recursion (IsOffFixed (volume_of g)) taken (all_members (IsOffFixed (volume_of g)) taken taken_clear);
-        apart = record { once = λ b. let upto = total b in let most = at_most ((held_in (volume_of g) clusters files).blocks b) in omega (arith, upto, most) };
+        apart = record { once = λ b. let upto = total b in let most = at_most ((claims_held (volume_of g) clusters files).blocks b) in omega (arith, upto, most) };
       }

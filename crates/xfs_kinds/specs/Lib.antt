@@ -13,5 +13,7 @@ pub mod OffsetWords
 pub mod OwnerTrees
 pub mod OwnerTreeLaws
 pub mod FreeRuns
+pub mod Lengths
 pub mod MergedRuns
 pub mod Owners
+pub mod FixedRuns

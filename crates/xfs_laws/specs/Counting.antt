@@ -1,13 +1,12 @@
 -- The laws of counts: chunks of inodes say which slots are in use, counters are sums, free lists name each block once, and the
 -- log ends behind everything (chapters "AG Inode Management", "AG Free Space Management" and "Journaling Log").
-use Rattle.std.specs.Prelude.{ℕ, zero, suc, bit_or, Bool, not, max, ◌+◌, ◌-◌, ◌*◌, ◌^◌, ◌≤◌, ◌==◌, ◌||◌, nat_le, if◌then◌else◌, List, [], ◌∷◌, ◌++◌, map, take, filter, length, sum, IsTrue}
+use Rattle.std.specs.Prelude.{ℕ, zero, suc, bit_or, Bool, not, ◌+◌, ◌-◌, ◌*◌, ◌^◌, ◌≤◌, ◌==◌, ◌||◌, nat_le, if◌then◌else◌, List, [], ◌∷◌, ◌++◌, map, take, filter, length, sum, IsTrue}
 use Rattle.std.specs.List.{All, list_any}
 use Rattle.std.specs.List.Sorted.{IsNonDecreasingBy}
-use Rattle.xfs_geom.specs.Sums.{free_blocks, slots, free_slots, has_free}
+use Rattle.xfs_geom.specs.Sums.{free_blocks, longest, slots, free_slots, has_free}
 use Rattle.xfs_geom.specs.Volumes.{Volume}
 use Rattle.xfs_geom.specs.declared.records.Counts.{Counts}
 use Rattle.xfs_geom.specs.declared.records.InoRec.{InoRec}
-use Rattle.xfs_geom.specs.declared.records.Span.{Span}
 use Rattle.xfs_heads.specs.declared.log.state.LogState.{LogState}
 use Rattle.xfs_heads.specs.declared.log.state.LogState.TheVariants.{Clean, Dirty}
 use Rattle.xfs_kinds.specs.InodeTrees.{is_holemask, is_missing, missing_bits}
@@ -78,10 +77,6 @@ group_chunks v files ag g =
 
 abbrev pub chunk_laws : Volume → List FileRec → List GroupRec → List Law
 chunk_laws v files groups = by_group (group_chunks v files) 0 groups
-
-abbrev pub longest : List Span → ℕ
-longest [] = 0
-longest (s ∷ ss) = max s.count (longest ss)
 
 abbrev pub tree_size : List TreeBlocks → ℕ → ℕ
 tree_size [] tree = 0

@@ -8,8 +8,7 @@ ghost use Rattle.xfs_laws.specs.Counting.{counter_laws, by_group, group_counts, 
 ghost use Rattle.xfs_volume.specs.Laws.{law_at};
 
 use crate::broken::first_broken;
-use crate::sums::{free_blocks, free_slots, longest, slots};
-use xfs_geom::{Counts, Geometry};
+use xfs_geom::{Counts, Geometry, free_blocks, free_slots, longest, slots};
 use xfs_volume::{GroupRec, Law, TreeBlocks};
 
 /// The first counter of the groups and of the superblock that is not the number that it should be.

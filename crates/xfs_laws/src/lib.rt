@@ -24,7 +24,6 @@ mod files;
 mod log;
 mod named;
 mod parts;
-mod sums;
 mod verdict;
 
 pub use verdict::{is_catalog, lawful};

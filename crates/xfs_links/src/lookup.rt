@@ -17,7 +17,7 @@ pub fn place_of(files: &[NodeRec], ino: u64) -> Option<u32>
 }
 
 /// Whether the file at a place is a directory.
-pub fn is_directory_at(files: &[NodeRec], place: u32) -> bool
+pub fn is_directory_at_place(files: &[NodeRec], place: u32) -> bool
     requires { place < length files.now }
     ensures { result ≡ is_directory_at_place files.now place }
 {

@@ -7,7 +7,7 @@ ghost use Rattle.xfs_links.specs.Places.{orphan_told, orphan_at, taken_at, named
 ghost use Rattle.xfs_links.specs.Private.Taken.{AreTaken};
 
 use crate::candidates::{Candidate, is_reserved_inode};
-use crate::lookup::is_directory_at;
+use crate::lookup::is_directory_at_place;
 use crate::records::NodeRec;
 use crate::walk::named_places;
 use itoa::Buffer;
@@ -31,7 +31,7 @@ pub fn is_orphan(
     requires named { length named.now ≡ length files.now }
     ensures { result ≡ orphan_told files.now root parents.now (slice_index_or named.now place false) place }
 {
-    if is_directory_at(files, place) {
+    if is_directory_at_place(files, place) {
         parents[place as usize].is_none()
     } else {
         !is_reserved_inode(root, files[place as usize].ino) && !named[place as usize]

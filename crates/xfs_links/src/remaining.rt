@@ -7,7 +7,7 @@ ghost use Rattle.xfs_links.specs.Connected.{names_lost_found as names_lost, is_p
 ghost use Rattle.xfs_links.specs.Places.{candidate_entry, parent_at, staying_at, cleared_at, in_the_way_at, lost_at, listed_at, listed_pair};
 
 use crate::candidates::Candidate;
-use crate::lookup::is_directory_at;
+use crate::lookup::is_directory_at_place;
 use crate::orphans::has_orphan;
 use crate::records::NodeRec;
 use crate::walk::named_places;
@@ -47,7 +47,7 @@ fn stays(files: &[NodeRec], parents: &[Option<u32>], met: &[bool], candidate: &C
     requires flags { length met.now ≡ length files.now }
     ensures { result ≡ (if is_directory_at_place files.now candidate.now.target then (is_parent candidate.now.directory (parent_at parents.now candidate.now.target) && not (slice_index_or met.now candidate.now.target false)) else true) }
 {
-    if !is_directory_at(files, candidate.target) {
+    if !is_directory_at_place(files, candidate.target) {
         return true;
     }
     match parents[candidate.target as usize] {
@@ -116,7 +116,7 @@ fn is_in_the_way(files: &[NodeRec], entries: &[EntryRec], root: u64, candidate: 
     requires target { candidate.now.target < length files.now }
     ensures { result ≡ in_the_way_at files.now entries.now root candidate.now }
 {
-    names_lost_found(entries, root, candidate) && !is_directory_at(files, candidate.target)
+    names_lost_found(entries, root, candidate) && !is_directory_at_place(files, candidate.target)
 }
 
 /// Whether the entry is the root's `lost+found`, and names a directory.
@@ -125,7 +125,7 @@ fn is_lost(files: &[NodeRec], entries: &[EntryRec], root: u64, candidate: &Candi
     requires target { candidate.now.target < length files.now }
     ensures { result ≡ (names_lost root (candidate_entry entries.now candidate.now) && is_directory_at_place files.now candidate.now.target) }
 {
-    names_lost_found(entries, root, candidate) && is_directory_at(files, candidate.target)
+    names_lost_found(entries, root, candidate) && is_directory_at_place(files, candidate.target)
 }
 
 /// The place of the root's directory `lost+found`.
@@ -198,7 +198,7 @@ fn listed_parent(files: &[NodeRec], parents: &[Option<u32>], place: u32) -> Opti
     ensures parent { result ≡ listed_at files.now parents.now place }
     ensures inside { IfSome result (λ p. p < length files.now) }
 {
-    if is_directory_at(files, place) {
+    if is_directory_at_place(files, place) {
         parents[place as usize]
     } else {
         None

@@ -9,7 +9,7 @@ ghost use Rattle.xfs_links.specs.Walk.{is_attached, see_all, turn_at, attached_a
 ghost use Rattle.xfs_links.specs.Places.{targets, candidates_at as group_at, named_at, is_target, starts_at, are_equal, IsSteady};
 
 use crate::candidates::Candidate;
-use crate::lookup::is_directory_at;
+use crate::lookup::is_directory_at_place;
 use crate::records::{DIRECTORY, NodeRec};
 use std::alloc::Global;
 use xfs_disk::NoMemory;
@@ -266,7 +266,7 @@ fn is_start(files: &[NodeRec], named: &[bool], root: u32, is_named: bool, place:
     requires inside { place < length files.now }
     ensures { result ≡ (is_directory_at_place files.now place && (not (place == root) && are_equal is_named (slice_index_or named.now place false))) }
 {
-    is_directory_at(files, place) && place != root && named[place as usize] == is_named
+    is_directory_at_place(files, place) && place != root && named[place as usize] == is_named
 }
 
 /// Whether a candidate names the file, for each place.

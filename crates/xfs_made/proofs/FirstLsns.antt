@@ -3,7 +3,7 @@ use Rattle.std.proofs.Common.{◌≡◌, ℕ, ◌+◌, ◌*◌, ◌≤◌, ◌<�
 use Rattle.std.specs.List.{All, flat_map}
 use Rattle.std.proofs.lemmas.Bool.{cases_lt}
 use Rattle.std.proofs.lemmas.List.{get_or-drop, get_or-take}
-use Rattle.xfs_disk.specs.Blocks.{Image}
+use Rattle.xfs_disk.specs.Blocks.{Image, bytes_of_block}
 use Rattle.xfs_disk.specs.declared.stamp.Stamp.{Stamp}
 use Rattle.xfs_word.specs.Field.{field_of, part_of}
 use Rattle.xfs_word.proofs.Written.{big_from-same}
@@ -12,7 +12,6 @@ use Rattle.xfs_geom.specs.Volumes.{Volume, volume_of}
 use Rattle.xfs_geom.specs.declared.geometry.Geometry.{Geometry}
 use Rattle.xfs_inode.specs.Cores.{stated_core}
 use Rattle.xfs_tree.specs.Blocks.{each_of}
-use Rattle.xfs_tree.specs.Reading.{bytes_of_block}
 use Rattle.xfs_volume.specs.declared.cores.Core.{Core}
 use Rattle.xfs_image.specs.Files.{clusters_of}
 use Rattle.xfs_image.specs.Lsns.{LsnPlace, cluster_places, file_places, lsn_at, slot_place}

@@ -11,7 +11,8 @@ use Rattle.xfs_volume.specs.declared.files.FileRec.{FileRec}
 use Rattle.xfs_volume.specs.declared.findings.Law.{Law}
 use Rattle.xfs_volume.specs.declared.groups.GroupRec.{GroupRec}
 use Rattle.xfs_space.specs.Owners.{owned_runs}
-use Rattle.xfs_space.specs.SpaceLaws.{AllAreFree, IsSpaceLawful, by_length, free_laws, free_spans, owner_at, owner_laws, owner_number, recorded_runs, sharing_at, sharing_laws, space_laws, span_number}
+use Rattle.xfs_kinds.specs.Lengths.{by_length}
+use Rattle.xfs_space.specs.SpaceLaws.{AllAreFree, IsSpaceLawful, free_laws, free_spans, owner_at, owner_laws, owner_number, recorded_runs, sharing_at, sharing_laws, space_laws, span_number}
 use Rattle.xfs_laws.specs.Counting.{by_group, group_chains, is_behind, log_laws, lsn_law}
 use Rattle.xfs_image.specs.Lsns.{LsnPlace}
 use Rattle.xfs_due.proofs.KeptLaws.{both_kept, no_difference}

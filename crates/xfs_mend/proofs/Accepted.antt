@@ -1,10 +1,10 @@
 -- What the calls of a repair have told of the image.
 use Rattle.std.proofs.Common.{◌≡◌, ℕ, ◌-◌, ◌*◌, ◌<◌, ◌≤◌, ◌⊎◌, inl, inr, false, List, [], length, Option, Some, Ok, sym, ap, ◌∙◌, subst, arith}
-use Rattle.xfs_disk.specs.Blocks.{Image}
+use Rattle.xfs_disk.specs.Blocks.{Image, bytes_of_block}
 use Rattle.xfs_geom.proofs.Bounds.{group_start}
 use Rattle.xfs_geom.specs.Volumes.{Volume, volume_of, stated_volume}
 use Rattle.xfs_geom.specs.declared.geometry.Geometry.{Geometry}
-use Rattle.xfs_geom.specs.Election.{Vote, block_of, elected, super_of}
+use Rattle.xfs_geom.specs.Election.{Vote, elected, super_of}
 use Rattle.xfs_mend.proofs.Electing.{IsPrimary, is_primary}
 use Rattle.xfs_mend.proofs.Repaired.{IsAccepted}
 use Rattle.xfs_mend.specs.Backups.{start_of, steps_from, backup_plan}
@@ -31,7 +31,7 @@ pub accepted : (image : Image) (v : Vote) (g : Geometry) → elected image ≡ O
     → volume_of g ≡ stated_volume v.sector → g.dblocks ≤ length image → IsAccepted image
 accepted image v g elects from sector stated inside =
     let primary : IsPrimary image v = is_primary image v elects from in
-    let same : v.sector ≡ super_of (block_of image 0) = primary.sector in
+    let same : v.sector ≡ super_of (bytes_of_block image 0) = primary.sector in
     let large : 0 < (stated_volume v.sector).agblocks =
     subst (λ (w : Volume). 0 < w.agblocks) stated (omega (arith, g.shape.groups.large)) in
     record {
@@ -46,23 +46,23 @@ accepted image v g elects from sector stated inside =
 
 -- the geometry that is elected is stated by the image's primary
 pub stated_primary : (image : Image) (v : Vote) (g : Geometry) → elected image ≡ Ok v → v.place ≡ 0 → volume_of g ≡ stated_volume v.sector
-    → volume_of g ≡ stated_volume (super_of (block_of image 0))
+    → volume_of g ≡ stated_volume (super_of (bytes_of_block image 0))
 stated_primary image v g elects from stated = stated ∙ ap stated_volume (is_primary image v elects from).sector
 
 -- the steps of the elected superblock are the image's plan
 pub plan_elected : (image : Image) (v : Vote) (g : Geometry) → elected image ≡ Ok v → v.place ≡ 0 → volume_of g ≡ stated_volume v.sector
     → steps_from v.sector image 1 (g.agcount - 1) ≡ backup_plan image
 plan_elected image v g elects from stated =
-    let same : v.sector ≡ super_of (block_of image 0) = (is_primary image v elects from).sector in
+    let same : v.sector ≡ super_of (bytes_of_block image 0) = (is_primary image v elects from).sector in
     let count : g.agcount ≡ (stated_volume v.sector).agcount = ap (λ (w : Volume). w.agcount) stated in
     ap (λ (n : ℕ). steps_from v.sector image 1 (n - 1)) count
     ∙ ap (λ (p : List ℕ). steps_from p image 1 ((stated_volume p).agcount - 1)) same
 
 -- the first backup that disagrees with the elected superblock is the image's
 pub first_elected : (image : Image) (v : Vote) (g : Geometry) → elected image ≡ Ok v → v.place ≡ 0 → volume_of g ≡ stated_volume v.sector
-    → first_disagreeing v.sector image 1 (g.agcount - 1) ≡ first_disagreeing (super_of (block_of image 0)) image 1 ((stated_volume (super_of (block_of image 0))).agcount - 1)
+    → first_disagreeing v.sector image 1 (g.agcount - 1) ≡ first_disagreeing (super_of (bytes_of_block image 0)) image 1 ((stated_volume (super_of (bytes_of_block image 0))).agcount - 1)
 first_elected image v g elects from stated =
-    let same : v.sector ≡ super_of (block_of image 0) = (is_primary image v elects from).sector in
+    let same : v.sector ≡ super_of (bytes_of_block image 0) = (is_primary image v elects from).sector in
     let count : g.agcount ≡ (stated_volume v.sector).agcount = ap (λ (w : Volume). w.agcount) stated in
     ap (λ (n : ℕ). first_disagreeing v.sector image 1 (n - 1)) count
     ∙ ap (λ (p : List ℕ). first_disagreeing p image 1 ((stated_volume p).agcount - 1)) same

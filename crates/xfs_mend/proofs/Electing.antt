@@ -3,8 +3,8 @@ use Rattle.std.proofs.Common.{◌≡◌, ℕ, zero, suc, ◌+◌, ◌-◌, ◌<�
 use Rattle.std.proofs.lemmas.Bool.Decides.{nat_tests}
 use Rattle.std.specs.List.{find, flat_map, range_with_len}
 use Rattle.std.specs.Option.{ok_or}
-use Rattle.xfs_disk.specs.Blocks.{Image}
-use Rattle.xfs_geom.specs.Election.{Vote, block_of, super_of, elected, elected_after, vote_at, vote_in, votes_below, winner}
+use Rattle.xfs_disk.specs.Blocks.{Image, bytes_of_block}
+use Rattle.xfs_geom.specs.Election.{Vote, super_of, elected, elected_after, vote_at, vote_in, votes_below, winner}
 use Rattle.xfs_geom.specs.Superblocks.{super_fault}
 use Rattle.xfs_geom.specs.declared.election.ElectFault.TheVariants.{NoGeometry}
 use Rattle.xfs_geom.specs.declared.reading.SuperFault.{SuperFault}
@@ -31,7 +31,7 @@ votes_behind : (image : Image) (g n : ℕ) → 1 ≤ g → Behind (flat_map (vot
 votes_behind image g zero above = tt {0}
 votes_behind image g (suc n) above =
     behind-append (vote_at image g) (flat_map (vote_at image) (range_with_len (g + 1) n))
-    (vote_behind (super_of (block_of image g)) g (length image) above) (votes_behind image (g + 1) n (omega arith))
+    (vote_behind (super_of (bytes_of_block image g)) g (length image) above) (votes_behind image (g + 1) n (omega arith))
 
 found_behind : (test : Vote → Bool) (votes : List Vote) (v : Vote) → Behind votes → find test votes ≡ Some v → 1 ≤ v.place
 found_behind test [] v behind found = cc
@@ -52,22 +52,22 @@ won (Some w) v same = cc
 
 -- what is elected from block 0 is the primary, which is accepted
 pub record IsPrimary (image : Image) (v : Vote) : Type 0 where
-  pub sector : v.sector ≡ super_of (block_of image 0)
-  pub accepted : super_fault (super_of (block_of image 0)) 0 (length image) ≡ None
+  pub sector : v.sector ≡ super_of (bytes_of_block image 0)
+  pub accepted : super_fault (super_of (bytes_of_block image 0)) 0 (length image) ≡ None
   pub some : 0 < length image
 
 -- an accepted primary is elected
-pub elected_primary : (image : Image) → 0 < length image → super_fault (super_of (block_of image 0)) 0 (length image) ≡ None
-    → elected image ≡ Ok (record { place = 0; sector = super_of (block_of image 0) })
+pub elected_primary : (image : Image) → 0 < length image → super_fault (super_of (bytes_of_block image 0)) 0 (length image) ≡ None
+    → elected image ≡ Ok (record { place = 0; sector = super_of (bytes_of_block image 0) })
 unfolding elected
 elected_primary image some accepted =
     let not_zero : (length image == 0) ≡ false = grind (arith, nat_tests) in
     rw (not_zero, accepted) refl
 
-after_primary : (image : Image) (f : Option SuperFault) (v : Vote) → super_fault (super_of (block_of image 0)) 0 (length image) ≡ f → 0 < length image → v.place ≡ 0
-    → elected_after f (record { place = 0; sector = super_of (block_of image 0) }) (votes_below image (length image)) ≡ Ok v → IsPrimary image v
+after_primary : (image : Image) (f : Option SuperFault) (v : Vote) → super_fault (super_of (bytes_of_block image 0)) 0 (length image) ≡ f → 0 < length image → v.place ≡ 0
+    → elected_after f (record { place = 0; sector = super_of (bytes_of_block image 0) }) (votes_below image (length image)) ≡ Ok v → IsPrimary image v
 after_primary image None v accepted some from same =
-    let equal : v ≡ record { place = 0; sector = super_of (block_of image 0) } = cc in
+    let equal : v ≡ record { place = 0; sector = super_of (bytes_of_block image 0) } = cc in
     record { sector = ap (λ (w : Vote). w.sector) equal; accepted = accepted; some = some }
 after_primary image (Some fault.NotSealed) v accepted some from same =
     absurd (omega (arith, winner_behind image (length image) v (won _ v same)))
@@ -80,9 +80,9 @@ unfolding elected
 is_primary image v same from = by_case (length image == 0) refl same
   where
     by_case : (r : Bool) → (length image == 0) ≡ r
-        → (if r then Err NoGeometry else elected_after (super_fault (super_of (block_of image 0)) 0 (length image)) (record { place = 0; sector = super_of (block_of image 0) }) (votes_below image (length image))) ≡ Ok v
+        → (if r then Err NoGeometry else elected_after (super_fault (super_of (bytes_of_block image 0)) 0 (length image)) (record { place = 0; sector = super_of (bytes_of_block image 0) }) (votes_below image (length image))) ≡ Ok v
         → IsPrimary image v
     by_case true none same = cc
     by_case false some same =
         let above : 0 < length image = grind (arith, nat_tests) in
-        after_primary image (super_fault (super_of (block_of image 0)) 0 (length image)) v refl above from same
+        after_primary image (super_fault (super_of (bytes_of_block image 0)) 0 (length image)) v refl above from same

@@ -1,16 +1,16 @@
 -- The plan of backups, made group by group.
 use Rattle.std.proofs.Common.{◌≡◌, ℕ, ◌+◌, ◌-◌, ◌<◌, List, ◌++◌, true, false, Option, Some, suc, subst, append_assoc, arith}
-use Rattle.xfs_disk.specs.Blocks.{Image}
+use Rattle.xfs_disk.specs.Blocks.{Image, bytes_of_block}
 use Rattle.xfs_geom.specs.Superblocks.{is_agreeing}
 use Rattle.xfs_geom.specs.Volumes.{stated_volume}
-use Rattle.xfs_geom.specs.Election.{block_of, super_of}
+use Rattle.xfs_geom.specs.Election.{super_of}
 use Rattle.xfs_mend.specs.Backups.{start_of, step_of, steps_from}
 use Rattle.xfs_mend.specs.Due.{first_disagreeing}
 use Rattle.xfs_writing.specs.Writing.{Writes}
 
 -- one more group: its step stands behind the plan
 pub next_steps : (primary : List ℕ) (image : Image) (group count : ℕ) (before after step whole : Writes)
-    → group < count → step ≡ step_of primary (start_of primary group) (block_of image (start_of primary group)) → after ≡ before ++ step
+    → group < count → step ≡ step_of primary (start_of primary group) (bytes_of_block image (start_of primary group)) → after ≡ before ++ step
     → before ++ steps_from primary image group (count - group) ≡ whole
     → after ++ steps_from primary image (group + 1) (count - (group + 1)) ≡ whole
 next_steps primary image group count before after step whole within value pushed so_far =
@@ -19,7 +19,7 @@ next_steps primary image group count before after step whole within value pushed
 
 -- a backup that agrees is passed over
 pub agreeing_next : (primary : List ℕ) (image : Image) (group count : ℕ) (whole : Option ℕ) → group < count
-    → is_agreeing (stated_volume primary) (super_of (block_of image (start_of primary group))) ≡ true
+    → is_agreeing (stated_volume primary) (super_of (bytes_of_block image (start_of primary group))) ≡ true
     → first_disagreeing primary image group (count - group) ≡ whole → first_disagreeing primary image (group + 1) (count - (group + 1)) ≡ whole
 agreeing_next primary image group count whole within agreeing so_far =
     let more : count - group ≡ suc (count - (group + 1)) = omega arith in
@@ -27,7 +27,7 @@ agreeing_next primary image group count whole within agreeing so_far =
 
 -- a backup that does not agree is the first
 pub disagreeing_here : (primary : List ℕ) (image : Image) (group count : ℕ) (whole : Option ℕ) → group < count
-    → is_agreeing (stated_volume primary) (super_of (block_of image (start_of primary group))) ≡ false
+    → is_agreeing (stated_volume primary) (super_of (bytes_of_block image (start_of primary group))) ≡ false
     → first_disagreeing primary image group (count - group) ≡ whole → Some group ≡ whole
 disagreeing_here primary image group count whole within other so_far =
     let more : count - group ≡ suc (count - (group + 1)) = omega arith in

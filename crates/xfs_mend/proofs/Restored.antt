@@ -2,14 +2,12 @@
 use Rattle.std.proofs.Common.{◌≡◌, ℕ, ◌*◌, ◌==◌, Bool, true, false, List, [], length, drop, Option, Some, refl, sym, ap, ◌∙◌, subst}
 use Rattle.std.proofs.lemmas.Bool.{eqb-true}
 use Rattle.std.proofs.lemmas.List.{drop_at}
-use Rattle.std.proofs.lemmas.Option.{unwrap_or-slice_get}
-use Rattle.xfs_disk.specs.Blocks.{Image}
-use Rattle.xfs_geom.specs.Election.{block_of, elected, super_of}
+use Rattle.xfs_disk.specs.Blocks.{Image, bytes_of_block}
+use Rattle.xfs_geom.specs.Election.{elected, super_of}
 use Rattle.xfs_geom.specs.Superblocks.{is_agreeing}
 use Rattle.xfs_geom.specs.Volumes.{Volume, stated_volume, volume_of}
 use Rattle.xfs_geom.specs.declared.geometry.Geometry.{Geometry}
 use Rattle.xfs_laws.specs.Lawful.{broken_law}
-use Rattle.xfs_tree.specs.Reading.{bytes_of_block}
 use Rattle.xfs_image.proofs.Backups.{only_backups}
 use Rattle.xfs_image.specs.Consistent.{HasBackupFault, IsElected, finding}
 use Rattle.xfs_image.specs.declared.findings.Finding.{Finding}
@@ -34,24 +32,19 @@ behind_mended primary block sector = by_case (is_agreeing (stated_volume primary
     by_case true agreeing = ap (λ (b : List ℕ). drop 512 b) (mended_agreeing primary block agreeing)
     by_case false other = ap (λ (b : List ℕ). drop 512 b) (mended_other primary block other) ∙ drop_at primary (drop 512 block) 512 sector
 
--- the bytes of a block, by their two names
-same_bytes : (image : Image) (b : ℕ) → block_of image b ≡ bytes_of_block image b
-same_bytes image b = unwrap_or-slice_get image b []
-
 -- the written image differs in backups alone
-differ_written : (image : Image) (g : Geometry) → IsAccepted image → volume_of g ≡ stated_volume (super_of (block_of image 0)) → DifferInBackups (volume_of g) image (written (backup_plan image) image)
+differ_written : (image : Image) (g : Geometry) → IsAccepted image → volume_of g ≡ stated_volume (super_of (bytes_of_block image 0)) → DifferInBackups (volume_of g) image (written (backup_plan image) image)
 unfolding start_of
 differ_written image g known stated =
-    let primary : List ℕ = super_of (block_of image 0) in
+    let primary : List ℕ = super_of (bytes_of_block image 0) in
     let now : Image = written (backup_plan image) image in
     let mended = is_mended image known in
     let all : DifferInBackups (stated_volume primary) image now =
     record {
       behind = λ ag low high.
-          ap (λ (b : List ℕ). drop 512 b) (sym (same_bytes now (ag * (stated_volume primary).agblocks)) ∙ backup_written image known ag low high)
-          ∙ behind_mended primary (block_of image (ag * (stated_volume primary).agblocks)) known.sector
-          ∙ ap (λ (b : List ℕ). drop 512 b) (same_bytes image (ag * (stated_volume primary).agblocks));
-      others = λ block apart. sym (same_bytes now block) ∙ mended.kept block (λ group low high same. apart group low high same) ∙ same_bytes image block;
+          ap (λ (b : List ℕ). drop 512 b) (backup_written image known ag low high)
+          ∙ behind_mended primary (bytes_of_block image (ag * (stated_volume primary).agblocks)) known.sector;
+      others = λ block apart. mended.kept block (λ group low high same. apart group low high same);
     } in
     subst (λ (v : Volume). DifferInBackups v image now) (sym stated) all
 
@@ -62,7 +55,7 @@ has_fault g image (Found.Part part place) same backup =
     let number : part ≡ 10 = eqb-true part 10 backup in
     (place, only_backups broken_law g image place (sym same ∙ ap (λ (p : ℕ). Some (Found.Part p place)) number))
 
-pub is_repaired : (image : Image) (now : Option Image) (g : Geometry) (ag : ℕ) → IsAccepted image → volume_of g ≡ stated_volume (super_of (block_of image 0))
+pub is_repaired : (image : Image) (now : Option Image) (g : Geometry) (ag : ℕ) → IsAccepted image → volume_of g ≡ stated_volume (super_of (bytes_of_block image 0))
     → HasBackupFault broken_law g image ag → now ≡ Some (written (backup_plan image) image) → IsRepaired image now
 is_repaired image now g ag known stated fault planned =
     let due : Image = written (backup_plan image) image in

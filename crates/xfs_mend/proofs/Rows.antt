@@ -3,12 +3,11 @@ use Rattle.std.proofs.Common.{◌≡◌, ℕ, zero, suc, ◌+◌, ◌-◌, ◌<�
 use Rattle.std.specs.Prelude.{replicate, slice_index_or, slice_set}
 use Rattle.std.proofs.lemmas.List.{append-nil, length-map, length-replicate, take_all}
 use Rattle.std.proofs.lemmas.List.Elements.{All-push}
-use Rattle.std.proofs.lemmas.Option.{unwrap_or-slice_get}
-use Rattle.xfs_disk.specs.Blocks.{Image}
+use Rattle.xfs_disk.specs.Blocks.{Image, bytes_of_block}
 use Rattle.xfs_bank.specs.Bank.{blocks_at}
 use Rattle.xfs_geom.specs.Superblocks.{is_agreeing}
 use Rattle.xfs_geom.specs.Volumes.{stated_volume}
-use Rattle.xfs_geom.specs.Election.{block_of, super_of}
+use Rattle.xfs_geom.specs.Election.{super_of}
 use Rattle.xfs_writing.specs.Writing.{Writes, rows_from, writes_of_rows}
 use Rattle.xfs_writing.proofs.RowSteps.{writes_behind}
 use Rattle.xfs_mend.specs.Backups.{start_of, step_of, steps_from, with_super}
@@ -16,7 +15,7 @@ use Rattle.xfs_mend.specs.Private.Rows.{disagreeing_places}
 
 -- one more group: its place stands behind the others, where its backup does not agree
 pub next_place : (primary : List ℕ) (image : Image) (group count at : ℕ) (agreeing : Bool) (before after whole : List ℕ) → group < count
-    → agreeing ≡ is_agreeing (stated_volume primary) (super_of (block_of image (start_of primary group))) → at ≡ start_of primary group
+    → agreeing ≡ is_agreeing (stated_volume primary) (super_of (bytes_of_block image (start_of primary group))) → at ≡ start_of primary group
     → after ≡ before ++ (if agreeing then [] else at ∷ [])
     → before ++ disagreeing_places primary image group (count - group) ≡ whole
     → after ++ disagreeing_places primary image (group + 1) (count - (group + 1)) ≡ whole
@@ -24,7 +23,7 @@ next_place primary image group count at agreeing before after whole within same 
     let more : count - group ≡ suc (count - (group + 1)) = omega arith in
     by_case agreeing same pushed (subst (λ (n : ℕ). before ++ disagreeing_places primary image group n ≡ whole) more so_far)
   where
-    by_case : (r : Bool) → r ≡ is_agreeing (stated_volume primary) (super_of (block_of image (start_of primary group)))
+    by_case : (r : Bool) → r ≡ is_agreeing (stated_volume primary) (super_of (bytes_of_block image (start_of primary group)))
         → after ≡ before ++ (if r then [] else at ∷ [])
         → before ++ disagreeing_places primary image group (suc (count - (group + 1))) ≡ whole
         → after ++ disagreeing_places primary image (group + 1) (count - (group + 1)) ≡ whole
@@ -32,19 +31,19 @@ next_place primary image group count at agreeing before after whole within same 
     by_case false other pushed far = rw (pushed, append_assoc, place) (rw (sym other) at far)
 
 one_more : (primary : List ℕ) (image : Image) (n group : ℕ)
-    → map (λ (at : ℕ). (at, with_super primary (block_of image at))) (disagreeing_places primary image (group + 1) n) ≡ steps_from primary image (group + 1) n
-    → map (λ (at : ℕ). (at, with_super primary (block_of image at))) (disagreeing_places primary image group (suc n)) ≡ steps_from primary image group (suc n)
+    → map (λ (at : ℕ). (at, with_super primary (bytes_of_block image at))) (disagreeing_places primary image (group + 1) n) ≡ steps_from primary image (group + 1) n
+    → map (λ (at : ℕ). (at, with_super primary (bytes_of_block image at))) (disagreeing_places primary image group (suc n)) ≡ steps_from primary image group (suc n)
 unfolding step_of
-one_more primary image n group later = by_case (is_agreeing (stated_volume primary) (super_of (block_of image (start_of primary group)))) refl
+one_more primary image n group later = by_case (is_agreeing (stated_volume primary) (super_of (bytes_of_block image (start_of primary group)))) refl
   where
-    by_case : (r : Bool) → is_agreeing (stated_volume primary) (super_of (block_of image (start_of primary group))) ≡ r
-        → map (λ (at : ℕ). (at, with_super primary (block_of image at))) (disagreeing_places primary image group (suc n)) ≡ steps_from primary image group (suc n)
+    by_case : (r : Bool) → is_agreeing (stated_volume primary) (super_of (bytes_of_block image (start_of primary group))) ≡ r
+        → map (λ (at : ℕ). (at, with_super primary (bytes_of_block image at))) (disagreeing_places primary image group (suc n)) ≡ steps_from primary image group (suc n)
     by_case true agrees = rw agrees later
-    by_case false other = rw other (ap (λ (ws : Writes). (start_of primary group, with_super primary (block_of image (start_of primary group))) ∷ ws) later)
+    by_case false other = rw other (ap (λ (ws : Writes). (start_of primary group, with_super primary (bytes_of_block image (start_of primary group))) ∷ ws) later)
 
 -- what is written at those places are the steps of these groups
 pub places_steps : (primary : List ℕ) (image : Image) (n group : ℕ)
-    → map (λ (at : ℕ). (at, with_super primary (block_of image at))) (disagreeing_places primary image group n) ≡ steps_from primary image group n
+    → map (λ (at : ℕ). (at, with_super primary (bytes_of_block image at))) (disagreeing_places primary image group n) ≡ steps_from primary image group n
 places_steps primary image zero group = refl
 places_steps primary image (suc n) group = one_more primary image n group (places_steps primary image n (group + 1))
 
@@ -54,16 +53,14 @@ pub rows_steps : (primary : List ℕ) (image bank : Image) (places : List ℕ) (
     → writes_of_rows bank (rows_from 0 places) ≡ steps_from primary image 1 count
 rows_steps primary image bank places count same filled =
     ap (λ (b : Image). writes_of_rows b (rows_from 0 places)) (filled ∙ blocks places)
-    ∙ writes_behind (λ (at : ℕ). with_super primary (block_of image at)) places [] 0 refl
-    ∙ ap (map (λ (at : ℕ). (at, with_super primary (block_of image at)))) same
+    ∙ writes_behind (λ (at : ℕ). with_super primary (bytes_of_block image at)) places [] 0 refl
+    ∙ ap (map (λ (at : ℕ). (at, with_super primary (bytes_of_block image at)))) same
     ∙ places_steps primary image count 1
   where
-    blocks : (ps : List ℕ) → map (with_super primary) (blocks_at image ps) ≡ map (λ (at : ℕ). with_super primary (block_of image at)) ps
+    blocks : (ps : List ℕ) → map (with_super primary) (blocks_at image ps) ≡ map (λ (at : ℕ). with_super primary (bytes_of_block image at)) ps
     blocks [] = refl
     blocks (p ∷ ps) =
-        let head : Image → List ℕ → Image = λ bs v. with_super primary v ∷ bs in
-        ap (head (map (with_super primary) (blocks_at image ps))) (sym (unwrap_or-slice_get image p []))
-        ∙ ap (λ (bs : Image). with_super primary (block_of image p) ∷ bs) (blocks ps)
+        ap (λ (bs : Image). with_super primary (bytes_of_block image p) ∷ bs) (blocks ps)
 
 -- one more place
 pub one_more_inside : (P : ℕ → Type 0) (before after : List ℕ) (agreeing : Bool) (at : ℕ) → All P before → P at → after ≡ before ++ (if agreeing then [] else at ∷ []) → All P after

@@ -2,8 +2,8 @@
 -- "Superblocks"; xfs_repair(8)).
 use Rattle.std.specs.Prelude.{ℕ, ◌-◌, ◌*◌, if◌then◌else◌, List, [], ◌∷◌, ◌++◌, drop}
 use Rattle.std.specs.List.{flat_map, range_with_len}
-use Rattle.xfs_disk.specs.Blocks.{Image}
-use Rattle.xfs_geom.specs.Election.{block_of, super_of}
+use Rattle.xfs_disk.specs.Blocks.{Image, bytes_of_block}
+use Rattle.xfs_geom.specs.Election.{super_of}
 use Rattle.xfs_geom.specs.Superblocks.{is_agreeing}
 use Rattle.xfs_geom.specs.Volumes.{stated_volume}
 use Rattle.xfs_writing.specs.Writing.{Writes}
@@ -24,10 +24,10 @@ start_of primary group = group * (stated_volume primary).agblocks
 -- the writes that the backups of n groups need, from a group on
 abbrev pub steps_from : List ℕ → Image → ℕ → ℕ → Writes
 steps_from primary image group n =
-    flat_map (λ (g : ℕ). step_of primary (start_of primary g) (block_of image (start_of primary g))) (range_with_len group n)
+    flat_map (λ (g : ℕ). step_of primary (start_of primary g) (bytes_of_block image (start_of primary g))) (range_with_len group n)
 
 -- the plan that makes every backup agree with the primary superblock of the image
 abbrev pub backup_plan : Image → Writes
 backup_plan image =
-    let primary = super_of (block_of image 0) in
+    let primary = super_of (bytes_of_block image 0) in
     steps_from primary image 1 ((stated_volume primary).agcount - 1)

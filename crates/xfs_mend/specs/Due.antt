@@ -1,8 +1,8 @@
 -- What is due to an image that is to be repaired.
 use Rattle.std.specs.Prelude.{◌≡◌, ℕ, ◌≤◌, ◌==◌, ◌&&◌, Bool, true, false, not, if◌then◌else◌, List, length, Option, Some, None, Result, Ok, Err, unwrap_or, ⊤}
 use Rattle.std.specs.List.{find, range_with_len}
-use Rattle.xfs_disk.specs.Blocks.{Image}
-use Rattle.xfs_geom.specs.Election.{Vote, block_of, elected, super_of}
+use Rattle.xfs_disk.specs.Blocks.{Image, bytes_of_block}
+use Rattle.xfs_geom.specs.Election.{Vote, elected, super_of}
 use Rattle.xfs_geom.specs.Superblocks.{is_agreeing}
 use Rattle.xfs_geom.specs.Volumes.{Volume, stated_volume, volume_of}
 use Rattle.xfs_geom.specs.declared.election.ElectFault.{ElectFault}
@@ -26,7 +26,7 @@ use Rattle.xfs_mend.specs.declared.outcome.Summary.TheVariants.{Backups, Rebuilt
 
 -- the backup of the group does not agree with the primary
 abbrev pub disagrees : List ℕ → Image → ℕ → Bool
-disagrees primary image group = not (is_agreeing (stated_volume primary) (super_of (block_of image (start_of primary group))))
+disagrees primary image group = not (is_agreeing (stated_volume primary) (super_of (bytes_of_block image (start_of primary group))))
 
 -- the first of n groups from a group on whose backup does not agree
 abbrev pub first_disagreeing : List ℕ → Image → ℕ → ℕ → Option ℕ

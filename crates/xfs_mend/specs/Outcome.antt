@@ -1,11 +1,11 @@
 -- What an outcome says of the image and of the counts of faults.
 use Rattle.std.specs.Prelude.{◌≡◌, ℕ, ◌<◌, ◌≤◌, Bool, true, false, List, [], length, Option, Some, slice_get}
 use Rattle.std.specs.Option.{ForSome}
-use Rattle.xfs_disk.specs.Blocks.{Image}
+use Rattle.xfs_disk.specs.Blocks.{Image, bytes_of_block}
 use Rattle.xfs_disk.specs.Faults.{Rose}
 use Rattle.xfs_geom.specs.Superblocks.{is_agreeing}
 use Rattle.xfs_geom.specs.Volumes.{stated_volume, volume_of}
-use Rattle.xfs_geom.specs.Election.{block_of, elected, super_of}
+use Rattle.xfs_geom.specs.Election.{elected, super_of}
 use Rattle.xfs_geom.specs.declared.geometry.Geometry.{Geometry}
 use Rattle.xfs_laws.specs.Lawful.{broken_law}
 use Rattle.xfs_image.specs.Consistent.{HasFinding, IsConsistent, IsElected, backup_agrees}
@@ -28,16 +28,16 @@ IsRepairCause faults faults_now write_faults write_faults_now outcome = Unit {0}
 -- the primary's. All other blocks are as before.
 pub record IsMended (image now : Image) : Type 0 where
   pub count : length now ≡ length image
-  pub primary : block_of now 0 ≡ block_of image 0
-  pub kept : (b : ℕ) → ((group : ℕ) → 1 ≤ group → group < (stated_volume (super_of (block_of image 0))).agcount → b ≡ start_of (super_of (block_of image 0)) group → ⊥)
-      → block_of now b ≡ block_of image b
-  pub agreed : (group : ℕ) → 1 ≤ group → group < (stated_volume (super_of (block_of image 0))).agcount
-      → is_agreeing (stated_volume (super_of (block_of image 0))) (super_of (block_of image (start_of (super_of (block_of image 0)) group))) ≡ true
-      → block_of now (start_of (super_of (block_of image 0)) group) ≡ block_of image (start_of (super_of (block_of image 0)) group)
-  pub mended : (group : ℕ) → 1 ≤ group → group < (stated_volume (super_of (block_of image 0))).agcount
-      → is_agreeing (stated_volume (super_of (block_of image 0))) (super_of (block_of image (start_of (super_of (block_of image 0)) group))) ≡ false
-      → block_of now (start_of (super_of (block_of image 0)) group)
-      ≡ with_super (super_of (block_of image 0)) (block_of image (start_of (super_of (block_of image 0)) group))
+  pub primary : bytes_of_block now 0 ≡ bytes_of_block image 0
+  pub kept : (b : ℕ) → ((group : ℕ) → 1 ≤ group → group < (stated_volume (super_of (bytes_of_block image 0))).agcount → b ≡ start_of (super_of (bytes_of_block image 0)) group → ⊥)
+      → bytes_of_block now b ≡ bytes_of_block image b
+  pub agreed : (group : ℕ) → 1 ≤ group → group < (stated_volume (super_of (bytes_of_block image 0))).agcount
+      → is_agreeing (stated_volume (super_of (bytes_of_block image 0))) (super_of (bytes_of_block image (start_of (super_of (bytes_of_block image 0)) group))) ≡ true
+      → bytes_of_block now (start_of (super_of (bytes_of_block image 0)) group) ≡ bytes_of_block image (start_of (super_of (bytes_of_block image 0)) group)
+  pub mended : (group : ℕ) → 1 ≤ group → group < (stated_volume (super_of (bytes_of_block image 0))).agcount
+      → is_agreeing (stated_volume (super_of (bytes_of_block image 0))) (super_of (bytes_of_block image (start_of (super_of (bytes_of_block image 0)) group))) ≡ false
+      → bytes_of_block now (start_of (super_of (bytes_of_block image 0)) group)
+      ≡ with_super (super_of (bytes_of_block image 0)) (bytes_of_block image (start_of (super_of (bytes_of_block image 0)) group))
 
 -- A repaired image has just the planned blocks changed, which mends it: all its backups agree from then on, whatever geometry it
 -- elects, so none of them is found. By the geometry that the image elected it is consistent, and each file that was protected is kept.

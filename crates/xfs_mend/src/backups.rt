@@ -6,7 +6,8 @@ ghost use Rattle.xfs_disk.specs.Faults.{HasCause};
 ghost use Rattle.xfs_disk.specs.Reads.{OnlyReads};
 ghost use Rattle.xfs_geom.specs.Superblocks.{is_agreeing};
 ghost use Rattle.xfs_geom.specs.Volumes.{volume_of, stated_volume};
-ghost use Rattle.xfs_geom.specs.Election.{block_of, super_of};
+ghost use Rattle.xfs_geom.specs.Election.{super_of};
+ghost use Rattle.xfs_disk.specs.Blocks.{bytes_of_block};
 ghost use Rattle.xfs_writing.specs.Writing.{rows_from, writes_of_rows};
 ghost use Rattle.xfs_writing.specs.declared.rows.Row.{Row};
 ghost use Rattle.xfs_mend.specs.Backups.{start_of, steps_from, with_super};
@@ -177,7 +178,7 @@ fn is_agreeing<D: Disk>(
     requires inside { geometry.now.dblocks ≤ D.size disk.old }
     requires group { group < geometry.now.agcount }
     ensures agreeing { IfOk result (λ agreeing. ForSome (D.holds disk.old) (λ image.
-        agreeing ≡ is_agreeing (stated_volume primary.now) (super_of (block_of image (start_of primary.now group))))) }
+        agreeing ≡ is_agreeing (stated_volume primary.now) (super_of (bytes_of_block image (start_of primary.now group))))) }
     ensures cause { HasCause (D.faults disk.old) (D.faults disk.new) result }
     ensures disk { OnlyReads D.size D.holds D.write_faults D.writes D.tells_stops D.moment D.may_leave D.left_since disk.old disk.new }
 {

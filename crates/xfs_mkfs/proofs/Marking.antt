@@ -5,11 +5,10 @@ use Rattle.std.proofs.lemmas.Bool.{eqb-true}
 use Rattle.std.proofs.lemmas.Option.{get_or_from_slice_get}
 use Rattle.std.proofs.lemmas.List.Folds.{list_any_more}
 use Rattle.std.specs.Option.{ForSome}
-use Rattle.xfs_disk.specs.Blocks.{Image}
+use Rattle.xfs_disk.specs.Blocks.{Image, bytes_of_block}
 use Rattle.xfs_disk.specs.declared.failed.Failed.{Failed}
 use Rattle.xfs_disk.specs.Counts.{raised, raised_times}
-use Rattle.xfs_tree.specs.Reading.{bytes_of_block}
-use Rattle.xfs_mkfs.specs.Marks.{Mark, bears, is_marked, mark_blocks, marks, stands, stands_at}
+use Rattle.xfs_mkfs.specs.Marks.{Mark, bears, is_marked, mark_blocks, marks, has_mark, stands_at}
 
 -- one block more
 pub one_more : (image : Image) (blocks : List ℕ) (i : ℕ) (there now stood : Bool) (block : ℕ) (bytes : List ℕ) → i < length blocks → block ≡ get_or blocks i 0
@@ -72,12 +71,12 @@ split f m ms (b ∷ bs) =
     ∙ swap (f b m) (list_any (f b) ms) (list_any (λ (o : ℕ). f o m) bs) (list_any (λ (o : ℕ). list_any (f o) ms) bs)
 
 by_blocks : (image : Image) (ms : List Mark) → list_all due ms ≡ true
-    → list_any (λ (b : ℕ). list_any (stands_at b (bytes_of_block image b)) ms) mark_blocks ≡ list_any (λ (m : Mark). stands (bytes_of_block image (m.0 / 4096)) m) ms
+    → list_any (λ (b : ℕ). list_any (stands_at b (bytes_of_block image b)) ms) mark_blocks ≡ list_any (λ (m : Mark). has_mark (bytes_of_block image (m.0 / 4096)) m) ms
 by_blocks image [] all = refl
 by_blocks image (m ∷ ms) all =
     split (λ (b : ℕ). stands_at b (bytes_of_block image b)) m ms mark_blocks
     ∙ ap₂ (λ (x y : Bool). x || y)
-    (one_of (m.0 / 4096) (λ (b : ℕ). stands (bytes_of_block image b) m) (left (due m) (list_all due ms) all))
+    (one_of (m.0 / 4096) (λ (b : ℕ). has_mark (bytes_of_block image b) m) (left (due m) (list_all due ms) all))
     (by_blocks image ms (right (due m) (list_all due ms) all))
 
 -- the four blocks bear a mark where the disk does

@@ -1,8 +1,7 @@
 -- The marks by which it is known that a disk holds something: a volume, another file system, or a partition table.
 use Rattle.std.specs.Prelude.{ℕ, ◌/◌, ◌%◌, ◌==◌, ◌&&◌, Bool, codes, bytes_eq, List, [], ◌∷◌, ◌++◌, length, take, drop}
 use Rattle.std.specs.List.{list_any}
-use Rattle.xfs_disk.specs.Blocks.{Image}
-use Rattle.xfs_tree.specs.Reading.{bytes_of_block}
+use Rattle.xfs_disk.specs.Blocks.{Image, bytes_of_block}
 use Rattle.xfs_mkfs.specs.declared.marks.Mark as code
 
 -- a mark: the byte of the disk at which it begins, and its bytes
@@ -22,17 +21,17 @@ marks =
 abbrev pub mark_of : code.Mark → Mark
 mark_of m = (m.at, m.bytes.now)
 
--- the mark stands in the block in which it is due
-abbrev pub stands : List ℕ → Mark → Bool
-stands block m = bytes_eq (take (length m.1) (drop (m.0 % 4096) block)) m.1
+-- the mark has_mark in the block in which it is due
+abbrev pub has_mark : List ℕ → Mark → Bool
+has_mark block m = bytes_eq (take (length m.1) (drop (m.0 % 4096) block)) m.1
 
--- one of the marks stands in the image
+-- one of the marks has_mark in the image
 unfoldable pub is_marked : Image → Bool
-is_marked image = list_any (λ (m : Mark). stands (bytes_of_block image (m.0 / 4096)) m) marks
+is_marked image = list_any (λ (m : Mark). has_mark (bytes_of_block image (m.0 / 4096)) m) marks
 
--- the mark is due in this block, and stands in it
+-- the mark is due in this block, and has_mark in it
 abbrev pub stands_at : ℕ → List ℕ → Mark → Bool
-stands_at at block m = (m.0 / 4096 == at) && stands block m
+stands_at at block m = (m.0 / 4096 == at) && has_mark block m
 
 -- one of the marks does
 unfoldable pub bears : ℕ → List ℕ → Bool

@@ -6,8 +6,8 @@ ghost use Rattle.std.specs.Option.{ForSome};
 ghost use Rattle.xfs_disk.specs.Counts.{raised_times};
 ghost use Rattle.xfs_disk.specs.Faults.{HasCause};
 ghost use Rattle.xfs_disk.specs.Reads.{OnlyReads};
-ghost use Rattle.xfs_tree.specs.Reading.{bytes_of_block};
-ghost use Rattle.xfs_mkfs.specs.Marks.{bears, is_marked, mark_of, stands, stands_at};
+ghost use Rattle.xfs_disk.specs.Blocks.{bytes_of_block};
+ghost use Rattle.xfs_mkfs.specs.Marks.{bears, is_marked, mark_of, has_mark, stands_at};
 
 use xfs_disk::{BLOCK_SIZE, Disk, Failed};
 
@@ -100,13 +100,13 @@ impl Mark {
         requires { length block.now ≡ 4096 }
         ensures { result ≡ stands_at at block.now (mark_of self.now) }
     {
-        self.at / 4096 == at && self.stands(block)
+        self.at / 4096 == at && self.has_mark(block)
     }
 
     /// Whether the mark stands in the block in which it is due.
-    fn stands(&self, block: &[u8]) -> bool
+    fn has_mark(&self, block: &[u8]) -> bool
         requires { length block.now ≡ 4096 }
-        ensures { result ≡ stands block.now (mark_of self.now) }
+        ensures { result ≡ has_mark block.now (mark_of self.now) }
     {
         let rest = block.split_at((self.at % 4096) as usize).1;
         head(rest, self.bytes.len()) == self.bytes

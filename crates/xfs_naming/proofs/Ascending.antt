@@ -3,7 +3,8 @@ use Rattle.std.proofs.Common.{◌≡◌, ℕ, zero, suc, ◌+◌, ◌<◌, ◌�
 use Rattle.std.specs.List.{insert}
 use Rattle.std.proofs.lemmas.Bool.{cases_order}
 use Rattle.std.proofs.lemmas.Bool.Decides.{nat_tests}
-use Rattle.xfs_naming.specs.Naming.{NumbersAscend, with_number}
+use Rattle.xfs_naming.specs.Naming.{NumbersAscend}
+use Rattle.xfs_disk.specs.Lists.{with_number}
 
 -- none is below the first bound
 pub ascend_low : (low : ℕ) (xs : List ℕ) → NumbersAscend low xs → (k : ℕ) → k < length xs → low ≤ get_or xs k 0
@@ -23,13 +24,14 @@ ascend_rises low (x ∷ xs) up (suc i) (suc j) le h = ascend_rises (x + 1) xs up
 pub already : (low n : ℕ) (xs : List ℕ) (i : ℕ) → NumbersAscend low xs → i < length xs → get_or xs i 0 ≡ n → xs ≡ with_number n xs
 already low n [] i up h e = absurd (omega arith)
 already low n (x ∷ xs) zero up h e =
-    let above : nat_lt x n ≡ false = grind (arith, nat_tests) in
-    let here : x == n ≡ true = grind (arith, nat_tests) in
-    rw (above, here) refl
+    let behind : nat_lt n x ≡ false = grind (arith, nat_tests) in
+    let here : n == x ≡ true = grind (arith, nat_tests) in
+    rw (behind, here) refl
 already low n (x ∷ xs) (suc i) up h e =
     let next : x + 1 ≤ get_or xs i 0 = ascend_low (x + 1) xs up.1 i (omega arith) in
-    let below : nat_lt x n ≡ true = grind (arith, nat_tests) in
-    rw below (ap (λ (ys : List ℕ). x ∷ ys) (already (x + 1) n xs i up.1 (omega arith) e))
+    let behind : nat_lt n x ≡ false = grind (arith, nat_tests) in
+    let apart : n == x ≡ false = grind (arith, nat_tests) in
+    rw (behind, apart) (ap (λ (ys : List ℕ). x ∷ ys) (already (x + 1) n xs i up.1 (omega arith) e))
 
 -- a number that is not there, at its place
 pub placed : (n : ℕ) (xs : List ℕ) (i : ℕ) → i ≤ length xs → ((k : ℕ) → k < i → get_or xs k 0 < n) → ((k : ℕ) → i ≤ k → k < length xs → n < get_or xs k 0) → insert xs i n ≡ with_number n xs
@@ -37,21 +39,22 @@ placed n [] zero h before after = refl
 placed n [] (suc i) h before after = absurd (omega arith)
 placed n (x ∷ xs) zero h before after =
     let first : n < x = after 0 (omega arith) (omega arith) in
-    let above : nat_lt x n ≡ false = grind (arith, nat_tests) in
-    let apart : x == n ≡ false = grind (arith, nat_tests) in
-    rw (above, apart) refl
+    let here : nat_lt n x ≡ true = grind (arith, nat_tests) in
+    rw here refl
 placed n (x ∷ xs) (suc i) h before after =
     let first : x < n = before 0 (omega arith) in
-    let below : nat_lt x n ≡ true = grind (arith, nat_tests) in
-    rw below (ap (λ (ys : List ℕ). x ∷ ys) (placed n xs i (omega arith) (λ k l. before (suc k) (omega arith)) (λ k l m. after (suc k) (omega arith) (omega arith))))
+    let behind : nat_lt n x ≡ false = grind (arith, nat_tests) in
+    let apart : n == x ≡ false = grind (arith, nat_tests) in
+    rw (behind, apart) (ap (λ (ys : List ℕ). x ∷ ys) (placed n xs i (omega arith) (λ k l. before (suc k) (omega arith)) (λ k l m. after (suc k) (omega arith) (omega arith))))
 
 -- with a number they still ascend
 pub ascend_with : (low n : ℕ) (xs : List ℕ) → NumbersAscend low xs → low ≤ n → NumbersAscend low (with_number n xs)
 ascend_with low n [] up le = (le, tt)
 ascend_with low n (x ∷ xs) up le = elim (cases_order x n) [
-  | inl same ↦ (let above : nat_lt x n ≡ false = grind (arith, nat_tests) in let here : x == n ≡ true = grind (arith, nat_tests) in rw (above, here) up)
+  | inl same ↦ (let behind : nat_lt n x ≡ false = grind (arith, nat_tests) in let here : n == x ≡ true = grind (arith, nat_tests) in rw (behind, here) up)
   | inr apart ↦ elim apart [
-    | inl less ↦ (let below : nat_lt x n ≡ true = grind (arith, nat_tests) in rw below (up.0, ascend_with (x + 1) n xs up.1 (omega arith)))
-    | inr more ↦ (let above : nat_lt x n ≡ false = grind (arith, nat_tests) in let there : x == n ≡ false = grind (arith, nat_tests) in rw (above, there) (le, (omega arith, up.1)))
+    | inl less ↦ (let behind : nat_lt n x ≡ false = grind (arith, nat_tests) in let other : n == x ≡ false = grind (arith, nat_tests) in
+        rw (behind, other) (up.0, ascend_with (x + 1) n xs up.1 (omega arith)))
+    | inr more ↦ (let here : nat_lt n x ≡ true = grind (arith, nat_tests) in rw here (le, (omega arith, up.1)))
   ]
 ]

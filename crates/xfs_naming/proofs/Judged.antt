@@ -12,7 +12,8 @@ use Rattle.xfs_volume.specs.declared.findings.Law.{Law}
 use Rattle.xfs_volume.specs.Laws.{first_broken, law_at}
 use Rattle.xfs_volume.specs.Names.{is_name, type_of, is_directory, entry_type}
 use Rattle.xfs_naming.specs.Lawful.{IsReached, IsOrdinary, IsSystemFile, HasLawfulEntries, HasLawfulPlaces, HasLawfulLinks, IsNamingLawful}
-use Rattle.xfs_naming.specs.Naming.{is_system, is_in_use, is_directory_at, entries_in, entries_to, names_differ, has_target, has_type, first_failing, directory_tests, directory_at, is_reached, states_parent, root_tests, other_directory_tests, other_file_tests, place_tests, place_law, with_number, numbers_of, links_of, is_empty_regular, links_at, file_at, directory_laws, place_laws, link_laws, naming_laws, AreNamed}
+use Rattle.xfs_naming.specs.Naming.{is_system, is_in_use, is_directory_at, entries_in, entries_to, names_differ, has_target, has_type, first_failing, directory_tests, directory_at, is_reached, states_parent, root_tests, other_directory_tests, other_file_tests, place_tests, place_law, numbers_of, links_of, is_empty_regular, links_at, file_at, directory_laws, place_laws, link_laws, naming_laws, AreNamed}
+use Rattle.xfs_disk.specs.Lists.{with_number}
 use Rattle.xfs_naming.specs.Private.Walking.{is_walked}
 use Rattle.xfs_volume.proofs.First.{first_behind, first_empty}
 use Rattle.xfs_naming.proofs.Broken.{first_of}

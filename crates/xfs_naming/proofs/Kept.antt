@@ -6,7 +6,8 @@ use Rattle.std.proofs.lemmas.Bool.Decides.{nat_tests}
 use Rattle.xfs_volume.specs.declared.files.FileRec.{FileRec}
 use Rattle.xfs_volume.specs.declared.findings.Law.{Law}
 use Rattle.xfs_volume.specs.Laws.{first_broken}
-use Rattle.xfs_naming.specs.Naming.{first_failing, with_number, numbers_of, is_in_use}
+use Rattle.xfs_naming.specs.Naming.{first_failing, numbers_of, is_in_use}
+use Rattle.xfs_disk.specs.Lists.{with_number}
 use Rattle.xfs_naming.specs.Private.Walking.{is_walked}
 use Rattle.xfs_naming.proofs.Broken.{first_of}
 
@@ -79,12 +80,12 @@ one_pass false none = absurd (omega arith)
 pub in_with : (r : ℕ) (ns : List ℕ) (x : ℕ) → is_walked (with_number r ns) x ≡ (x == r || is_walked ns x)
 in_with r [] x = refl
 in_with r (n ∷ ns) x = elim (cases_order n r) [
-  | inl same ↦ (let above : nat_lt n r ≡ false = grind (arith, nat_tests) in let here : n == r ≡ true = grind (arith, nat_tests) in
-      rw (above, here) (let e : x == n ≡ x == r = ap (λ (m : ℕ). x == m) same in twice (x == n) (x == r) (is_walked ns x) e))
+  | inl same ↦ (let behind : nat_lt r n ≡ false = grind (arith, nat_tests) in let here : r == n ≡ true = grind (arith, nat_tests) in
+      rw (behind, here) (let e : x == n ≡ x == r = ap (λ (m : ℕ). x == m) same in twice (x == n) (x == r) (is_walked ns x) e))
   | inr apart ↦ elim apart [
-    | inl less ↦ (let below : nat_lt n r ≡ true = grind (arith, nat_tests) in
-        rw below (ap (λ (t : Bool). x == n || t) (in_with r ns x) ∙ swapped (x == n) (x == r) (is_walked ns x)))
-    | inr more ↦ (let above : nat_lt n r ≡ false = grind (arith, nat_tests) in let there : n == r ≡ false = grind (arith, nat_tests) in rw (above, there) refl)
+    | inl less ↦ (let behind : nat_lt r n ≡ false = grind (arith, nat_tests) in let other : r == n ≡ false = grind (arith, nat_tests) in
+        rw (behind, other) (ap (λ (t : Bool). x == n || t) (in_with r ns x) ∙ swapped (x == n) (x == r) (is_walked ns x)))
+    | inr more ↦ (let here : nat_lt r n ≡ true = grind (arith, nat_tests) in rw here refl)
   ]
 ]
   where

@@ -3,6 +3,7 @@
 use Rattle.std.specs.Prelude.{ℕ, zero, suc, Bool, true, not, ◌+◌, ◌≤◌, ◌==◌, ◌&&◌, ◌||◌, ◌≡◌, nat_le, nat_lt, if◌then◌else◌, List, [], ◌∷◌, ◌++◌, map, filter, length, count_by, Option, Some, None}
 use Rattle.std.specs.List.{list_all, list_any}
 use Rattle.std.specs.Str.{bytes_eq}
+use Rattle.xfs_disk.specs.Lists.{with_number}
 use Rattle.xfs_dirdata.specs.declared.records.EntryRec.{EntryRec}
 use Rattle.xfs_geom.specs.First.{first_false}
 use Rattle.xfs_volume.specs.declared.directories.DirRec.{DirRec}
@@ -105,11 +106,6 @@ place_tests root files entries dirs ino =
 
 abbrev pub place_law : ℕ → List FileRec → List EntryRec → List DirRec → ℕ → Law
 place_law root files entries dirs ino = law_at 8 ino (first_failing (place_tests root files entries dirs ino)) 0
-
--- a number at its place among ascending ones
-abbrev pub with_number : ℕ → List ℕ → List ℕ
-with_number n [] = n ∷ []
-with_number n (x ∷ xs) = if nat_lt x n then x ∷ with_number n xs else (if x == n then x ∷ xs else (n ∷ x ∷ xs))
 
 -- the numbers of all files in use, and of some that should be
 abbrev pub numbers_of : List FileRec → List ℕ

@@ -1,7 +1,8 @@
 //! The numbers of files, and of some that should be.
 
 ghost use Rattle.std.specs.Prelude.{◌≡◌, ℕ, ◌<◌, length, slice_index, IfOk, MatchResult};
-ghost use Rattle.xfs_naming.specs.Naming.{NumbersAscend, numbers_of, with_number};
+ghost use Rattle.xfs_naming.specs.Naming.{NumbersAscend, numbers_of};
+ghost use Rattle.xfs_disk.specs.Lists.{with_number};
 ghost use Rattle.xfs_naming.specs.Ordered.{IsPlaceFor};
 
 use std::alloc::{AllocError, AllocFailed, Global};

@@ -5,7 +5,8 @@ ghost use Rattle.std.specs.List.{list_all};
 ghost use Rattle.xfs_dirdata.specs.declared.records.EntryRec.{EntryRec};
 ghost use Rattle.xfs_volume.specs.Laws.{first_broken};
 ghost use Rattle.xfs_naming.specs.declared.runs.Link.{Link};
-ghost use Rattle.xfs_naming.specs.Naming.{states_parent, is_directory_at, first_failing, root_tests, other_directory_tests, other_file_tests, place_tests, place_law, place_laws, entries_to, with_number, numbers_of};
+ghost use Rattle.xfs_naming.specs.Naming.{states_parent, is_directory_at, first_failing, root_tests, other_directory_tests, other_file_tests, place_tests, place_law, place_laws, entries_to, numbers_of};
+ghost use Rattle.xfs_disk.specs.Lists.{with_number};
 ghost use Rattle.xfs_naming.specs.Ordered.{IsOrdered, IsWalked, links_to};
 
 use crate::lookups::{is_directory_at, is_system, states_parent};

@@ -4,7 +4,7 @@ use Rattle.std.proofs.lemmas.List.{append-nil, take_all}
 use Rattle.std.proofs.lemmas.Bool.Decides.{nat_tests}
 use Rattle.xfs_options.specs.Numbers.{bounded_number}
 use Rattle.xfs_options.specs.Options.{HasValue, HaveValues, accepts, row_of}
-use Rattle.xfs_options.specs.Words.{Words, Read, IsBegun, OffendsFirst, after_form, after_letters, after_option, after_rest, after_row, after_value, after_word, after_words, free_row, is_not_excluded, is_option, options_of, reading_of, row_for, finished_reading}
+use Rattle.xfs_options.specs.Words.{Words, Read, IsBegun, OffendsFirst, after_form, after_letters, after_option, after_rest, after_row, after_value, after_word, after_words, free_row, is_not_excluded, is_option, options_of, reading_of_words, row_for, finished_reading}
 use Rattle.xfs_options.specs.Words.Read.{in_options, in_value, in_image, complete, offended}
 use Rattle.xfs_options.specs.declared.options.OptionRow.{OptionRow}
 use Rattle.xfs_options.specs.declared.options.ValueForm.{ValueForm}
@@ -188,7 +188,7 @@ value_ends rows at letter form given has =
     (sampled form has)
 
 -- a reading that stands can be continued to a command line
-continued : (rows : List OptionRow) (rest : Words) (r : Read) → reading_of rows rest ≡ r → Stands r → IsBegun rows rest
+continued : (rows : List OptionRow) (rest : Words) (r : Read) → reading_of_words rows rest ≡ r → Stands r → IsBegun rows rest
 unfolding image
 continued rows rest (in_options given) same stands = (
   image,
@@ -207,22 +207,22 @@ continued rows rest (in_image given) same stands = (
   given,
   after_words-append rows 1 rest image (in_options []) ∙ ap (λ (t : Read). after_words rows (1 + length rest) image t) same,
 )
-continued rows rest (complete given) same stands = ([], given, ap (reading_of rows) (append-nil rest) ∙ same)
+continued rows rest (complete given) same stands = ([], given, ap (reading_of_words rows) (append-nil rest) ∙ same)
 continued rows rest (offended n) same stands = absurd stands
 
 -- words of which one has offended are no beginning of a command line
-not_begun : (rows : List OptionRow) (rest : Words) (n : ℕ) → reading_of rows rest ≡ offended n → IsBegun rows rest → ⊥
+not_begun : (rows : List OptionRow) (rest : Words) (n : ℕ) → reading_of_words rows rest ≡ offended n → IsBegun rows rest → ⊥
 not_begun rows rest n same begun =
     let more : Words = begun.0 in
-    let end : reading_of rows (rest ++ more) ≡ offended n =
+    let end : reading_of_words rows (rest ++ more) ≡ offended n =
     after_words-append rows 1 rest more (in_options [])
     ∙ ap (λ (t : Read). after_words rows (1 + length rest) more t) same
     ∙ offended_stays rows (1 + length rest) n more in
-    let whole : reading_of rows (rest ++ more) ≡ complete begun.1 = begun.2 in
+    let whole : reading_of_words rows (rest ++ more) ≡ complete begun.1 = begun.2 in
     cc
 
 -- a word that offends is the first that does
-offended_first : (rows : List OptionRow) → HaveValues rows → (rest : Words) (n : ℕ) → reading_of rows rest ≡ offended n → OffendsFirst rows rest n
+offended_first : (rows : List OptionRow) → HaveValues rows → (rest : Words) (n : ℕ) → reading_of_words rows rest ≡ offended n → OffendsFirst rows rest n
 offended_first rows have rest n same =
     let split = first_offending rows have 1 n rest (in_options []) (tt {0}) same in
     let before : n - 1 ≡ split.place = omega (arith, split.number) in
@@ -238,7 +238,7 @@ offended_first rows have rest n same =
     }
 
 -- where a word lacks, its number is that of all words
-lacking_first : (rows : List OptionRow) (rest : Words) (r : Read) → reading_of rows rest ≡ r → Stands r → ((given : List Given) → r ≡ complete given → ⊥)
+lacking_first : (rows : List OptionRow) (rest : Words) (r : Read) → reading_of_words rows rest ≡ r → Stands r → ((given : List Given) → r ≡ complete given → ⊥)
     → OffendsFirst rows rest (length rest + 1)
 lacking_first rows rest r same stands open_ended =
     let all : take (length rest + 1 - 1) rest ≡ rest = take_all (length rest + 1 - 1) rest (omega arith) in
@@ -275,7 +275,7 @@ words_keep rows have at (word ∷ words) r keeps =
     words_keep rows have (at + 1) words (after_word rows at word r) (word_keeps rows have at word r keeps)
 
 -- the number of a refusal
-refused_first : (rows : List OptionRow) → HaveValues rows → (rest : Words) (r : Read) (n : ℕ) → reading_of rows rest ≡ r → Keeps r
+refused_first : (rows : List OptionRow) → HaveValues rows → (rest : Words) (r : Read) (n : ℕ) → reading_of_words rows rest ≡ r → Keeps r
     → finished_reading (length rest + 1) r ≡ Err n → OffendsFirst rows rest n
 refused_first rows have rest (complete given) n same keeps refusal = cc
 refused_first rows have rest (offended k) n same keeps refusal =
@@ -295,4 +295,4 @@ refused_first rows have rest (in_image given) n same keeps refusal =
 pub refusal_first : (rows : List OptionRow) (rest : Words) (n : ℕ) → HaveValues rows → options_of rows rest ≡ Err n → OffendsFirst rows rest n
 unfolding options_of
 refusal_first rows rest n have refusal =
-    refused_first rows have rest (reading_of rows rest) n refl (words_keep rows have 1 rest (in_options []) (tt {0})) refusal
+    refused_first rows have rest (reading_of_words rows rest) n refl (words_keep rows have 1 rest (in_options []) (tt {0})) refusal

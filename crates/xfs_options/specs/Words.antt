@@ -105,8 +105,8 @@ after_words rows at [] read = read
 after_words rows at (word ∷ words) read = after_words rows (at + 1) words (after_word rows at word read)
 
 -- what was read of the words behind the tool's
-abbrev pub reading_of : List OptionRow → Words → Read
-reading_of rows rest = after_words rows 1 rest (in_options [])
+abbrev pub reading_of_words : List OptionRow → Words → Read
+reading_of_words rows rest = after_words rows 1 rest (in_options [])
 
 -- the options, or the number of the first word that offends, which is that of all words where one lacks
 abbrev pub finished_reading : ℕ → Read → Result (List Given) ℕ
@@ -116,7 +116,7 @@ finished_reading count read = Err count
 
 -- the options that words give in front of an image, or the number of the first word that offends
 unfoldable pub options_of : List OptionRow → Words → Result (List Given) ℕ
-options_of rows rest = finished_reading (length rest + 1) (reading_of rows rest)
+options_of rows rest = finished_reading (length rest + 1) (reading_of_words rows rest)
 
 -- why words are refused
 abbrev pub IsCause : {A : Type 0} → Result A ℕ → LineFault → Type 0
@@ -125,7 +125,7 @@ IsCause said NoMemory = Unit {0}
 
 -- the words are a command line, with these options
 abbrev pub IsAccepted : List OptionRow → Words → List Given → Type 0
-IsAccepted rows rest given = reading_of rows rest ≡ complete given
+IsAccepted rows rest given = reading_of_words rows rest ≡ complete given
 
 -- more words can make them a command line
 abbrev pub IsBegun : List OptionRow → Words → Type 0

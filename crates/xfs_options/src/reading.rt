@@ -3,7 +3,7 @@
 ghost use Rattle.std.specs.Prelude.{◌≡◌, ℕ, ◌+◌, Result, Ok, Err, List, [], ◌∷◌, ◌++◌, codes, length, not, ◌==◌, IfOk, IfErr};
 ghost use Rattle.std.specs.List.{list_any};
 ghost use Rattle.xfs_options.specs.Options.{HaveValues};
-ghost use Rattle.xfs_options.specs.Words.{after_letters, after_option, after_rest, after_value, after_word, after_words, held, is_not_excluded, is_given, IsCause, OffendsFirst, options_of, read_of, reading_of, row_for, finished_reading, Words};
+ghost use Rattle.xfs_options.specs.Words.{after_letters, after_option, after_rest, after_value, after_word, after_words, held, is_not_excluded, is_given, IsCause, OffendsFirst, options_of, read_of, reading_of_words, row_for, finished_reading, Words};
 ghost use Rattle.xfs_options.specs.Words.Read.{in_options, complete};
 
 use crate::options::{OptionRow, ValueForm, row_of};
@@ -80,7 +80,7 @@ fn read_given(alloc: Global, rows: &[OptionRow], rest: &[Word]) -> Result<Vec<Gi
 
 /// Reads all words.
 fn read_all(alloc: Global, rows: &[OptionRow], rest: &[Word]) -> Result<Reading, NoMemory>
-    ensures { IfOk result (λ reading. held reading ≡ reading_of rows.now rest.now) }
+    ensures { IfOk result (λ reading. held reading ≡ reading_of_words rows.now rest.now) }
 {
     let mut reading = Reading {
         place: Expected::Options,

@@ -17,7 +17,8 @@ use Rattle.xfs_kinds.specs.OffsetWords.{is_file_data}
 use Rattle.xfs_kinds.specs.MergedRuns.{AreRuns, held_at, offset_word_at}
 use Rattle.xfs_place.specs.Choice.{one_if}
 use Rattle.xfs_place.specs.Claims.{ClaimedOnce, IsClaimedRun}
-use Rattle.xfs_place.specs.Wanted.{CanBeKept, IsOffFixed, StaysInGroup, begins_in, fixed_runs, header_run, run_in_group, log_run}
+use Rattle.xfs_place.specs.Wanted.{CanBeKept, IsOffFixed, StaysInGroup, begins_in, run_in_group}
+use Rattle.xfs_kinds.specs.FixedRuns.{fixed_runs, header_run, log_run}
 use Rattle.xfs_place.proofs.GroupIs.{fixed_none, headers_none}
 use Rattle.xfs_place.proofs.Marking.{log_end}
 use Rattle.xfs_place.proofs.Ordered.{none_held, on_first}

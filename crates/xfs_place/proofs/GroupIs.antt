@@ -21,7 +21,8 @@ use Rattle.xfs_place.specs.declared.uses.Use.{Use}
 use Rattle.xfs_place.specs.declared.uses.Use.TheVariants.{Pool, Reserved, Claimed, ForSpace, ForInodes}
 use Rattle.xfs_place.specs.Pool.{is_listed, is_open, use_at, use_held, use_of, use_of_run}
 use Rattle.xfs_place.specs.Choice.{IsPlacingGroup, goes_on, is_for_inodes, is_for_space, is_spare, is_joined}
-use Rattle.xfs_place.specs.Wanted.{CanBeKept, IsOffFixed, claim_in, fixed_runs, group_in, header_run, log_run, uses_in}
+use Rattle.xfs_place.specs.Wanted.{CanBeKept, IsOffFixed, claim_in, group_in, uses_in}
+use Rattle.xfs_kinds.specs.FixedRuns.{fixed_runs, header_run, log_run}
 use Rattle.xfs_place.proofs.TreeRuns.{held_front, held_stays}
 
 this : (p q : ℕ) → q ≡ p → is_in_range p 1 q ≡ true

@@ -5,7 +5,7 @@ use Rattle.std.proofs.lemmas.Bool.{cases_eq, cases_lt, cases_Bool, le-ltb, lt-lt
 use Rattle.xfs_place.specs.declared.open_blocks.Piece.{Piece}
 use Rattle.xfs_place.specs.declared.uses.Use.{Use}
 use Rattle.xfs_place.specs.Choice.{IsLeast, IsNone, in_pool}
-use Rattle.xfs_place.specs.Finding.{AllOpen, Finds, HasNone, HasRun, IsLongest, pair_of}
+use Rattle.xfs_place.specs.Finding.{AllOpen, Finds, HasNone, HasRun, IsLongest, pair_of_piece}
 use Rattle.xfs_place.specs.Objects.{found_or, longest_run}
 use Rattle.xfs_place.proofs.OpenRuns.{open_inside}
 
@@ -205,7 +205,7 @@ whole_found uses low blocks None finds some none = finds.none blocks some none
 whole_found uses low blocks (Some s) finds some least = finds.there blocks s some least
 
 pub longest_found : (uses : List Use) (low : ℕ → Option ℕ) (most : ℕ) (o : Option Piece) → Finds uses low
-    → MatchOption o (HasNone uses most) (λ (p : Piece). IsLongest uses most p.start p.blocks) → longest_run low most ≡ pair_of o
+    → MatchOption o (HasNone uses most) (λ (p : Piece). IsLongest uses most p.start p.blocks) → longest_run low most ≡ pair_of_piece o
 longest_found uses low most None finds none = longest_none uses low most finds none
 longest_found uses low most (Some p) finds is = longest_is uses low most p.start p.blocks finds is
 

@@ -20,7 +20,8 @@ use Rattle.xfs_geom.specs.declared.records.InoRec.{InoRec}
 use Rattle.std.specs.Option.{MatchOption}
 use Rattle.xfs_place.proofs.GroupIs.{length_uses}
 use Rattle.xfs_place.specs.Claims.{AreClaims}
-use Rattle.xfs_place.specs.Wanted.{AreAllClaims, begins_in, claim_in, fixed_runs, group_in, run_in_group, uses_in}
+use Rattle.xfs_place.specs.Wanted.{AreAllClaims, begins_in, claim_in, group_in, run_in_group, uses_in}
+use Rattle.xfs_kinds.specs.FixedRuns.{fixed_runs}
 use Rattle.xfs_place.proofs.AllClaims.{part_ascends, part_each, part_held}
 use Rattle.xfs_place.proofs.Begun.{AreSome}
 use Rattle.xfs_place.proofs.Ordered.{are_some}

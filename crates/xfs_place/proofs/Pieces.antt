@@ -8,7 +8,7 @@ use Rattle.xfs_geom.specs.declared.records.Run.{Run}
 use Rattle.xfs_kinds.specs.OffsetWords.{is_file_data, is_tree_block}
 use Rattle.xfs_place.specs.declared.wanted.Object.{Object}
 use Rattle.xfs_place.specs.declared.wanted.RunAsk.{RunAsk}
-use Rattle.xfs_place.specs.Objects.{AreCuts, AreJoined, IsAsk, asks_of, extent_blocks, found_or, front_of, keep_asks, keep_pieces, keep_with, longest_run, lowest, or_no_room, piece_of, place_of_object, rest_of, run_at, with_kept, with_piece}
+use Rattle.xfs_place.specs.Objects.{ServeAsks, AreJoined, IsAsk, asks_of, most_extent_blocks, found_or, front_of, keep_asks, keep_pieces, keep_with, longest_run, lowest, or_no_room, piece_of, place_of_object, rest_of, run_at, with_kept, with_found}
 
 append_none : (xs : List Run) → xs ++ [] ≡ xs
 append_none [] = refl
@@ -30,11 +30,11 @@ longest_few low (suc n) start blocks is = by_case (low (suc n)) (longest_few low
     by_case None next here = omega (arith, next here)
 
 pub piece_few : (low : ℕ → Option ℕ) (split : Bool) (most start blocks : ℕ) → piece_of low split most ≡ Some (start, blocks) → blocks ≤ most
-piece_few low split most start blocks is = by_case (if split && nat_lt extent_blocks most then None else low most) is
+piece_few low split most start blocks is = by_case (if split && nat_lt most_extent_blocks most then None else low most) is
   where
-    by_case : (o : Option ℕ) → found_or o most (longest_run low (min (most - 1) extent_blocks)) ≡ Some (start, blocks) → blocks ≤ most
+    by_case : (o : Option ℕ) → found_or o most (longest_run low (min (most - 1) most_extent_blocks)) ≡ Some (start, blocks) → blocks ≤ most
     by_case (Some s) here = let whole : most ≡ blocks = ap blocks_of here in omega (arith, whole)
-    by_case None here = omega (arith, longest_few low (min (most - 1) extent_blocks) start blocks here)
+    by_case None here = omega (arith, longest_few low (min (most - 1) most_extent_blocks) start blocks here)
 
 -- the parts of an ask are asks
 pub front_is : (ask : RunAsk) (m : ℕ) → IsAsk ask → 1 ≤ m → m ≤ ask.blocks → IsAsk (front_of ask m)
@@ -76,7 +76,7 @@ module _ (v : Volume) (reserved : List ℕ) (from : ℕ) where
       → keep_pieces v reserved from (suc more) split kept ask ≡ keep_pieces v reserved from more true (kept ++ run_at start (front_of ask blocks) ∷ []) (rest_of ask blocks)
   unfolding keep_pieces
   piece_on more split kept ask start blocks is other =
-      ap (λ (o : Option (ℕ × ℕ)). with_piece o (λ s n. if n == ask.blocks then Some (kept ++ run_at s ask ∷ []) else keep_pieces v reserved from more true (kept ++ run_at s (front_of ask n) ∷ []) (rest_of ask n))) is
+      ap (λ (o : Option (ℕ × ℕ)). with_found o (λ s n. if n == ask.blocks then Some (kept ++ run_at s ask ∷ []) else keep_pieces v reserved from more true (kept ++ run_at s (front_of ask n) ∷ []) (rest_of ask n))) is
       ∙ ap (λ (t : Bool). if t then Some (kept ++ run_at start ask ∷ []) else keep_pieces v reserved from more true (kept ++ run_at start (front_of ask blocks) ∷ []) (rest_of ask blocks)) other
 
   -- the last piece
@@ -85,7 +85,7 @@ module _ (v : Volume) (reserved : List ℕ) (from : ℕ) where
       → keep_pieces v reserved from (suc more) split kept ask ≡ Some (kept ++ run_at start (front_of ask blocks) ∷ [])
   unfolding keep_pieces
   piece_last more split kept ask start blocks is whole =
-      ap (λ (o : Option (ℕ × ℕ)). with_piece o (λ s n. if n == ask.blocks then Some (kept ++ run_at s ask ∷ []) else keep_pieces v reserved from more true (kept ++ run_at s (front_of ask n) ∷ []) (rest_of ask n))) is
+      ap (λ (o : Option (ℕ × ℕ)). with_found o (λ s n. if n == ask.blocks then Some (kept ++ run_at s ask ∷ []) else keep_pieces v reserved from more true (kept ++ run_at s (front_of ask n) ∷ []) (rest_of ask n))) is
       ∙ ap (λ (t : Bool). if t then Some (kept ++ run_at start ask ∷ []) else keep_pieces v reserved from more true (kept ++ run_at start (front_of ask blocks) ∷ []) (rest_of ask blocks)) (eq-eqb blocks ask.blocks whole)
       ∙ ap (λ (n : ℕ). Some (kept ++ run_at start (front_of ask n) ∷ [])) (sym whole)
 
@@ -93,7 +93,7 @@ module _ (v : Volume) (reserved : List ℕ) (from : ℕ) where
   pub piece_none : (more : ℕ) (split : Bool) (kept : List Run) (ask : RunAsk) → piece_of (lowest v reserved from kept) split ask.blocks ≡ None → keep_pieces v reserved from (suc more) split kept ask ≡ None
   unfolding keep_pieces
   piece_none more split kept ask is =
-      ap (λ (o : Option (ℕ × ℕ)). with_piece o (λ s n. if n == ask.blocks then Some (kept ++ run_at s ask ∷ []) else keep_pieces v reserved from more true (kept ++ run_at s (front_of ask n) ∷ []) (rest_of ask n))) is
+      ap (λ (o : Option (ℕ × ℕ)). with_found o (λ s n. if n == ask.blocks then Some (kept ++ run_at s ask ∷ []) else keep_pieces v reserved from more true (kept ++ run_at s (front_of ask n) ∷ []) (rest_of ask n))) is
 
   pub pieces_none : (split : Bool) (kept : List Run) (ask : RunAsk) → keep_pieces v reserved from 0 split kept ask ≡ None
   unfolding keep_pieces
@@ -119,7 +119,7 @@ module _ (v : Volume) (reserved : List ℕ) (from : ℕ) where
 
       by_case : (o : Option (ℕ × ℕ)) → piece_of (lowest v reserved from kept) split ask.blocks ≡ o
           → ((k : List Run) (a : RunAsk) → keep_pieces v reserved from more true k a ≡ Some all → (runs : List Run) × (all ≡ k ++ runs) × AreJoined a runs)
-          → with_piece o (λ s n. if n == ask.blocks then Some (kept ++ run_at s ask ∷ []) else keep_pieces v reserved from more true (kept ++ run_at s (front_of ask n) ∷ []) (rest_of ask n)) ≡ Some all
+          → with_found o (λ s n. if n == ask.blocks then Some (kept ++ run_at s ask ∷ []) else keep_pieces v reserved from more true (kept ++ run_at s (front_of ask n) ∷ []) (rest_of ask n)) ≡ Some all
           → (runs : List Run) × (all ≡ kept ++ runs) × AreJoined ask runs
       by_case None found next here = cc
       by_case (Some (start, blocks)) found next here =
@@ -249,22 +249,22 @@ module _ (v : Volume) (reserved : List ℕ) (from : ℕ) where
       ap (keep_with v reserved from kept) (drop_more objects i o in' ∙ ap (λ (x : Object). x ∷ drop (i + 1) objects) (sym is)) ∙ objects_on kept o (drop (i + 1) objects) now some
 
 -- the runs of one ask more
-pub cuts_more : (asks : List RunAsk) (cuts : List ℕ) (runs : List Run) (ask : RunAsk) (more : List Run) → AreCuts asks cuts runs → AreJoined ask more
-    → AreCuts (asks ++ ask ∷ []) (cuts ++ length more ∷ []) (runs ++ more)
+pub cuts_more : (asks : List RunAsk) (cuts : List ℕ) (runs : List Run) (ask : RunAsk) (more : List Run) → ServeAsks asks cuts runs → AreJoined ask more
+    → ServeAsks (asks ++ ask ∷ []) (cuts ++ length more ∷ []) (runs ++ more)
 cuts_more [] [] runs ask more none joined =
-    subst (λ (rs : List Run). AreCuts (ask ∷ []) (length more ∷ []) (rs ++ more)) (sym none)
+    subst (λ (rs : List Run). ServeAsks (ask ∷ []) (length more ∷ []) (rs ++ more)) (sym none)
     (omega arith, subst (AreJoined ask) (sym (take_all (length more) more (omega arith))) joined, drop_all (length more) more (omega arith))
 cuts_more [] (n ∷ cuts) runs ask more are joined = absurd are
 cuts_more (a ∷ asks) [] runs ask more are joined = absurd are
 cuts_more (a ∷ asks) (n ∷ cuts) runs ask more are joined = (
   omega (arith, are.0, length-append runs more),
   subst (AreJoined a) (sym (take-append-le n runs more are.0)) are.1,
-  subst (AreCuts (asks ++ ask ∷ []) (cuts ++ length more ∷ [])) (sym (drop-append-le n runs more are.0)) (cuts_more asks cuts (drop n runs) ask more are.2 joined),
+  subst (ServeAsks (asks ++ ask ∷ []) (cuts ++ length more ∷ [])) (sym (drop-append-le n runs more are.0)) (cuts_more asks cuts (drop n runs) ask more are.2 joined),
 )
 
 pub cuts_next : (v : Volume) (reserved : List ℕ) (from most count first : ℕ) (kept now : List Run) (done asks : List RunAsk) (i : ℕ) (d : RunAsk) (cuts next : List ℕ) → first ≤ length kept → i < length asks
     → keep_pieces v reserved from most false kept (get_or asks i d) ≡ Some now → length now ≡ length kept + count → next ≡ cuts ++ count ∷ []
-    → AreCuts (done ++ take i asks) cuts (drop first kept) → AreCuts (done ++ take (i + 1) asks) next (drop first now)
+    → ServeAsks (done ++ take i asks) cuts (drop first kept) → ServeAsks (done ++ take (i + 1) asks) next (drop first now)
 cuts_next v reserved from most count first kept now done asks i d cuts next low in' some long put are =
     let behind = pieces_behind v reserved from most false kept (get_or asks i d) now some in
     let whole : count ≡ length behind.0 = omega (arith, long, ap length behind.1, length-append kept behind.0) in
@@ -273,9 +273,9 @@ cuts_next v reserved from most count first kept now done asks i d cuts next low 
     ap (λ (xs : List RunAsk). done ++ xs) (take_more asks i d in') ∙ sym (append_assoc done (take i asks) (get_or asks i d ∷ [])) in
     let next' : next ≡ cuts ++ length behind.0 ∷ [] = put ∙ ap (λ (n : ℕ). cuts ++ n ∷ []) whole in
     let runs' : drop first now ≡ drop first kept ++ behind.0 = ap (drop first) behind.1 ∙ drop-append-le first kept behind.0 low in
-    subst (λ (xs : List RunAsk). AreCuts xs next (drop first now)) (sym asks')
-    (subst (λ (ns : List ℕ). AreCuts ((done ++ take i asks) ++ get_or asks i d ∷ []) ns (drop first now)) (sym next')
-    (subst (AreCuts ((done ++ take i asks) ++ get_or asks i d ∷ []) (cuts ++ length behind.0 ∷ [])) (sym runs') more))
+    subst (λ (xs : List RunAsk). ServeAsks xs next (drop first now)) (sym asks')
+    (subst (λ (ns : List ℕ). ServeAsks ((done ++ take i asks) ++ get_or asks i d ∷ []) ns (drop first now)) (sym next')
+    (subst (ServeAsks ((done ++ take i asks) ++ get_or asks i d ∷ []) (cuts ++ length behind.0 ∷ [])) (sym runs') more))
 
 -- the asks of one object more
 pub asks_more : (objects : List Object) (i : ℕ) (o : Object) → i < length objects → o ≡ get_or objects i o → asks_of (take (i + 1) objects) ≡ asks_of (take i objects) ++ o.runs

@@ -46,9 +46,9 @@ pub record IsLongest (uses : List Use) (most start blocks : ℕ) : Type 0 where
 pub record HasNone (uses : List Use) (most : ℕ) : Type 0 where
   pub each : (n : ℕ) → 1 ≤ n → n ≤ most → IsNone (HasRun uses n)
 
-abbrev pub pair_of : Option Piece → Option (ℕ × ℕ)
-pair_of None = None
-pair_of (Some piece) = Some (piece.start, piece.blocks)
+abbrev pub pair_of_piece : Option Piece → Option (ℕ × ℕ)
+pair_of_piece None = None
+pair_of_piece (Some piece) = Some (piece.start, piece.blocks)
 
 -- what is open is what is left of the pool
 pub record IsOpen (v : Volume) (kept : List Run) (reserved : List ℕ) (from : ℕ) (pool : OpenBlocks) : Type 0 where

@@ -39,8 +39,8 @@ unfoldable pub lowest_run : Volume → (ℕ → Bool) → ℕ → ℕ → Option
 lowest_run v pool from blocks = first_with (can_hold_object v pool from blocks) 0 v.dblocks
 
 -- the most blocks of an extent (chapter "Data Extents")
-abbrev pub extent_blocks : ℕ
-extent_blocks = 2097151
+abbrev pub most_extent_blocks : ℕ
+most_extent_blocks = 2097151
 
 -- a run by its first block and its blocks: one of so many where it is found, else the other
 abbrev pub found_or : Option ℕ → ℕ → Option (ℕ × ℕ) → Option (ℕ × ℕ)
@@ -56,7 +56,7 @@ module _ (low : ℕ → Option ℕ) where
   -- a run for all of so many blocks, which is an extent where others of the ask stand elsewhere; where there is none, the longest extent for
   -- some of them
   abbrev pub piece_of : Bool → ℕ → Option (ℕ × ℕ)
-  piece_of split blocks = found_or (if split && nat_lt extent_blocks blocks then None else low blocks) blocks (longest_run (min (blocks - 1) extent_blocks))
+  piece_of split blocks = found_or (if split && nat_lt most_extent_blocks blocks then None else low blocks) blocks (longest_run (min (blocks - 1) most_extent_blocks))
 
 -- the run that an ask gets from a block on
 abbrev pub run_at : ℕ → RunAsk → Run
@@ -74,9 +74,9 @@ rest_of ask blocks = record {
   offset_word = if is_file_data ask.owner ask.offset_word then ask.offset_word + blocks else ask.offset_word;
 }
 
-abbrev pub with_piece : Option (ℕ × ℕ) → (ℕ → ℕ → Option (List Run)) → Option (List Run)
-with_piece None next = None
-with_piece (Some (start, blocks)) next = next start blocks
+abbrev pub with_found : Option (ℕ × ℕ) → (ℕ → ℕ → Option (List Run)) → Option (List Run)
+with_found None next = None
+with_found (Some (start, blocks)) next = next start blocks
 
 abbrev pub with_kept : Option (List Run) → (List Run → Option (List Run)) → Option (List Run)
 with_kept None next = None
@@ -100,7 +100,7 @@ module _ (v : Volume) (reserved : List ℕ) (from : ℕ) where
   -- what is kept, with the runs of an ask behind it, of which there may be so many; none where they do not hold it
   unfoldable pub keep_pieces : ℕ → Bool → List Run → RunAsk → Option (List Run)
   keep_pieces zero split kept ask = None
-  keep_pieces (suc more) split kept ask = with_piece (piece_of (lowest kept) split ask.blocks) (λ start blocks.
+  keep_pieces (suc more) split kept ask = with_found (piece_of (lowest kept) split ask.blocks) (λ start blocks.
       if blocks == ask.blocks then Some (kept ++ run_at start ask ∷ []) else keep_pieces more true (kept ++ run_at start (front_of ask blocks) ∷ []) (rest_of ask blocks))
 
   -- the same for asks in order, which may take so many runs together: each those that are left, but for one for each ask behind it
@@ -123,8 +123,8 @@ AreJoined ask [] = ask.blocks ≡ 0
 AreJoined ask (r ∷ rest) = (r ≡ run_at r.start (front_of ask r.count)) × (r.count ≤ ask.blocks) × AreJoined (rest_of ask r.count) rest
 
 -- as many of the runs as the first number says are those of the first ask, and so on
-abbrev pub AreCuts : List RunAsk → List ℕ → List Run → Type 0
-AreCuts [] [] runs = runs ≡ []
-AreCuts [] (n ∷ cuts) runs = ⊥
-AreCuts (ask ∷ asks) [] runs = ⊥
-AreCuts (ask ∷ asks) (n ∷ cuts) runs = (n ≤ length runs) × AreJoined ask (take n runs) × AreCuts asks cuts (drop n runs)
+abbrev pub ServeAsks : List RunAsk → List ℕ → List Run → Type 0
+ServeAsks [] [] runs = runs ≡ []
+ServeAsks [] (n ∷ cuts) runs = ⊥
+ServeAsks (ask ∷ asks) [] runs = ⊥
+ServeAsks (ask ∷ asks) (n ∷ cuts) runs = (n ≤ length runs) × AreJoined ask (take n runs) × ServeAsks asks cuts (drop n runs)

@@ -1,7 +1,7 @@
 -- What a volume holds before its trees are placed, group by group.
 use Rattle.std.specs.Prelude.{◌≡◌, ℕ, Bool, true, false, ◌+◌, ◌-◌, ◌*◌, ◌≤◌, ◌<◌, ◌⊎◌, ◌&&◌, nat_le, nat_lt, if◌then◌else◌, List, [], ◌∷◌, ◌++◌, length, map, Option, Some, None, slice_index_or, Result, Ok, Err}
 use Rattle.std.specs.List.{All, range_with_len}
-use Rattle.xfs_kinds.specs.Owners.{headers_owner, log_owner}
+use Rattle.xfs_kinds.specs.FixedRuns.{fixed_runs}
 use Rattle.xfs_geom.specs.Runs.{covers}
 use Rattle.xfs_geom.specs.Conversions.{group_length, is_fixed}
 use Rattle.xfs_geom.specs.Volumes.{Volume, volume_of}
@@ -18,17 +18,6 @@ use Rattle.xfs_place.specs.declared.uses.Use.{Use}
 use Rattle.xfs_place.specs.Pool.{use_of}
 use Rattle.xfs_place.specs.Choice.{Group, IsChosenCount, group}
 use Rattle.xfs_place.specs.Claims.{ClaimedOnce, AreClaims, IsClaimedRun}
-
--- the first block of a group, and the log
-abbrev pub header_run : Volume → ℕ → Run
-header_run v ag = record { start = ag * v.agblocks; count = 1; owner = headers_owner; offset_word = 0 }
-
-abbrev pub log_run : Volume → Run
-log_run v = record { start = v.log; count = v.logblocks; owner = log_owner; offset_word = 0 }
-
--- the runs of the blocks with a fixed use
-abbrev pub fixed_runs : Volume → List Run
-fixed_runs v = log_run v ∷ map (header_run v) (range_with_len 0 v.agcount)
 
 -- no block of the run has a fixed use
 abbrev pub IsOffFixed : Volume → Run → Type 0

@@ -7,7 +7,8 @@ ghost use Rattle.xfs_geom.specs.Volumes.{volume_of};
 ghost use Rattle.xfs_kinds.specs.MergedRuns.{held_at};
 ghost use Rattle.xfs_place.specs.Choice.{claim_count, group_claimed};
 ghost use Rattle.xfs_place.specs.Claims.{ClaimedOnce, AreClaims, IsClaimedRun};
-ghost use Rattle.xfs_place.specs.Wanted.{AreAllClaims, CanBeKept, begins_in, fixed_runs, run_in_group};
+ghost use Rattle.xfs_place.specs.Wanted.{AreAllClaims, CanBeKept, begins_in, run_in_group};
+ghost use Rattle.xfs_kinds.specs.FixedRuns.{fixed_runs};
 ghost use Rattle.xfs_place.specs.declared.uses.Use.{Use};
 
 use crate::uses::{HEADER_OWNER, LOG_OWNER};

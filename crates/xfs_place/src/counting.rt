@@ -1,12 +1,11 @@
 //! The counters of a volume once all is placed (chapter "Superblocks").
 
 ghost use Rattle.std.specs.Prelude.{◌≡◌, ◌≤◌, ◌<◌, ◌*◌, ◌^◌, [], length, All};
-ghost use Rattle.xfs_geom.specs.Sums.{free_blocks, free_slots, slots};
 ghost use Rattle.xfs_place.specs.Counts.{tree_block_count, placed_counts, room_placed, spare_blocks};
 
 use crate::placed::GroupPlaced;
 use crate::wanted::GroupInodes;
-use xfs_geom::{Counts, InoRec, Span};
+use xfs_geom::{Counts, free_blocks, free_slots, slots};
 use xfs_volume::TreeBlocks;
 
 /// The counters of a volume with these records of inodes and these trees and free lists in its groups.
@@ -81,40 +80,4 @@ fn tree_block_count(trees: &[TreeBlocks], tree: usize) -> u128
         Some(tree) => tree.blocks.as_slice().len() as u128,
         None => 0,
     }
-}
-
-/// The blocks of free runs.
-fn free_blocks(spans: &[Span]) -> u128
-    ensures value { result ≡ free_blocks spans.now }
-    ensures less { result ≤ length spans.now * 2 ^ 32 }
-{
-    let mut blocks = 0;
-    for span in spans {
-        blocks += span.count as u128;
-    }
-    blocks
-}
-
-/// The inodes of chunks, missing ones not among them.
-fn slots(chunks: &[InoRec]) -> u128
-    ensures value { result ≡ slots chunks.now }
-    ensures less { result ≤ length chunks.now * 2 ^ 8 }
-{
-    let mut inodes = 0;
-    for chunk in chunks {
-        inodes += chunk.count as u128;
-    }
-    inodes
-}
-
-/// The inodes of chunks that are free, as the chunks state.
-fn free_slots(chunks: &[InoRec]) -> u128
-    ensures value { result ≡ free_slots chunks.now }
-    ensures less { result ≤ length chunks.now * 2 ^ 8 }
-{
-    let mut inodes = 0;
-    for chunk in chunks {
-        inodes += chunk.freecount as u128;
-    }
-    inodes
 }

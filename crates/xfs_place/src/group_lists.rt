@@ -6,7 +6,7 @@ ghost use Rattle.xfs_geom.specs.Sums.{has_free};
 ghost use Rattle.xfs_kinds.specs.FreeRuns.{AreSeparate, is_in_spans};
 ghost use Rattle.xfs_kinds.specs.MergedRuns.{NoneJoin, held_at};
 ghost use Rattle.xfs_place.specs.Claims.{AreClaims, span_of_run};
-ghost use Rattle.xfs_place.specs.Placing.{AreByLength, run_of_record};
+ghost use Rattle.xfs_place.specs.Placing.{run_of_record};
 
 use std::alloc::Global;
 use xfs_disk::NoMemory;
@@ -38,16 +38,6 @@ fn list_spans(alloc: Global, owned: &[Run], end: u32) -> Result<Vec<Span>, NoMem
         })?;
     }
     Ok(spans)
-}
-
-/// The runs of one list by their lengths, and those of one length by their starts.
-pub fn by_length(alloc: Global, runs: &[Span]) -> Result<Vec<Span>, NoMemory>
-    requires { AreSeparate 0 runs.now }
-    ensures { IfOk result (λ sorted. AreByLength runs.now sorted.items) }
-{
-    let mut sorted = Vec::from_slice(alloc, runs)?;
-    sorted.sort_by_key(|run| (run.count, run.start))?;
-    Ok(sorted)
 }
 
 /// The records of inodes of which some are free.

@@ -9,7 +9,7 @@ ghost use Rattle.xfs_place.specs.Placing.{IsPlacedGroup, cut, inner_blocks, tree
 
 use crate::choice::choose_count;
 use crate::claims::count_records;
-use crate::group_lists::{by_length, list_free, list_records, take_blocks, with_free};
+use crate::group_lists::{list_free, list_records, take_blocks, with_free};
 use crate::lowest::{Lowest, tree_blocks};
 use crate::owned::list_owned;
 use crate::placed::GroupPlaced;
@@ -17,6 +17,7 @@ use crate::uses::Use;
 use std::alloc::Global;
 use xfs_disk::NoMemory;
 use xfs_geom::{InoRec, Run};
+use xfs_kinds::by_length;
 use xfs_volume::{Records, TreeBlocks};
 
 /// Places the trees and the free list of a group from block `base` on, by the uses of its blocks, its claims as runs of AG blocks

@@ -3,7 +3,7 @@
 ghost use Rattle.std.specs.Prelude.{◌≡◌, ◌≤◌, ◌<◌, ◌+◌, ◌-◌, ◌++◌, [], ◌∷◌, ◌⊎◌, ℕ, List, Option, if◌then◌else◌, is_some, length, take, drop, true, false, All, IfErr, IfOk, OnOk, MatchOption, Ok, Err, Some, None};
 ghost use Rattle.xfs_geom.specs.Volumes.{volume_of};
 ghost use Rattle.xfs_place.specs.Finding.{IsOpen};
-ghost use Rattle.xfs_place.specs.Objects.{AreCuts, IsAsk, asks_of, front_of, keep_asks, keep_pieces, keep_with, lowest, piece_of, place_of_object, rest_of, run_at};
+ghost use Rattle.xfs_place.specs.Objects.{ServeAsks, IsAsk, asks_of, front_of, keep_asks, keep_pieces, keep_with, lowest, piece_of, place_of_object, rest_of, run_at};
 ghost use Rattle.xfs_place.specs.Wanted.{CanBeKept};
 ghost use Rattle.xfs_place.specs.declared.faults.Unplaced.{Unplaced};
 ghost use Rattle.xfs_place.specs.declared.wanted.RunAsk.{RunAsk};
@@ -51,7 +51,7 @@ pub fn keep_with(
     ensures placed { IfOk result (λ now. keep_with (volume_of site.now.geometry.now) site.now.reserved.now site.now.from kept.items objects.now ≡ Ok now.all.items) }
     ensures kept { IfOk result (λ now. CanBeKept (volume_of site.now.geometry.now) now.all.items) }
     ensures behind { IfOk result (λ now. take (length kept.items) now.all.items ≡ kept.items) }
-    ensures cuts { IfOk result (λ now. AreCuts (asks_of objects.now) now.cuts.items (drop (length kept.items) now.all.items)) }
+    ensures cuts { IfOk result (λ now. ServeAsks (asks_of objects.now) now.cuts.items (drop (length kept.items) now.all.items)) }
     ensures cause { IfErr result (λ fault. (fault ≡ PlaceFault.NoMemory)
         ⊎ ((what : Unplaced) × (fault ≡ PlaceFault.NoRoom what) × (keep_with (volume_of site.now.geometry.now) site.now.reserved.now site.now.from kept.items objects.now ≡ Err what))) }
 {
@@ -87,8 +87,8 @@ impl Keeper {
         ensures placed { IfOk result (λ placed. keep_asks (volume_of site.now.geometry.now) site.now.reserved.now site.now.from object.now.most self.old.all.items object.now.runs
             ≡ (if placed then Some self.new.all.items else None)) }
         ensures long { OnOk result (length self.old.all.items ≤ length self.new.all.items) }
-        ensures cuts { IfOk result (λ placed. placed ≡ true → (asks : List RunAsk) → AreCuts asks cuts.old.items (drop first self.old.all.items)
-            → AreCuts (asks ++ object.now.runs) cuts.new.items (drop first self.new.all.items)) }
+        ensures cuts { IfOk result (λ placed. placed ≡ true → (asks : List RunAsk) → ServeAsks asks cuts.old.items (drop first self.old.all.items)
+            → ServeAsks (asks ++ object.now.runs) cuts.new.items (drop first self.new.all.items)) }
     {
         let asks = object.runs.as_slice();
         let mut left = object.most as usize;

@@ -4,8 +4,8 @@ ghost use Rattle.std.specs.Prelude.{◌≡◌, ◌≤◌, ◌<◌, ◌+◌, ◌-
 ghost use Rattle.xfs_disk.specs.Lists.{is_in_range};
 ghost use Rattle.xfs_geom.specs.Volumes.{volume_of};
 ghost use Rattle.xfs_place.specs.Choice.{IsLeast, IsNone};
-ghost use Rattle.xfs_place.specs.Finding.{AreStarts, Finds, HasNone, HasRun, IsLongest, IsOpen, NoneBefore, pair_of};
-ghost use Rattle.xfs_place.specs.Objects.{extent_blocks, piece_of};
+ghost use Rattle.xfs_place.specs.Finding.{AreStarts, Finds, HasNone, HasRun, IsLongest, IsOpen, NoneBefore, pair_of_piece};
+ghost use Rattle.xfs_place.specs.Objects.{most_extent_blocks, piece_of};
 ghost use Rattle.xfs_place.specs.Pool.{MarksUses};
 ghost use Rattle.xfs_place.specs.Wanted.{CanBeKept};
 ghost use Rattle.xfs_place.specs.declared.uses.Use.TheVariants.{Claimed};
@@ -69,7 +69,7 @@ impl OpenBlocks {
     pub fn piece(&self, blocks: u64, split: bool) -> Option<Piece>
         requires some { 1 ≤ blocks }
         requires starts { AreStarts self.now.uses.items 65536 self.now.starts.items }
-        ensures piece { (low : ℕ → Option ℕ) → Finds self.now.uses.items low → piece_of low split blocks ≡ pair_of result }
+        ensures piece { (low : ℕ → Option ℕ) → Finds self.now.uses.items low → piece_of low split blocks ≡ pair_of_piece result }
         ensures least { IfSome result (λ piece. IsLeast (HasRun self.now.uses.items piece.blocks) piece.start) }
         ensures some { IfSome result (λ piece. 1 ≤ piece.blocks) }
         ensures few { IfSome result (λ piece. piece.blocks ≤ blocks) }
@@ -85,7 +85,7 @@ impl OpenBlocks {
     fn whole(&self, blocks: u64, split: bool) -> Option<u64>
         requires some { 1 ≤ blocks }
         requires starts { AreStarts self.now.uses.items 65536 self.now.starts.items }
-        ensures whole { (low : ℕ → Option ℕ) → Finds self.now.uses.items low → (if split && nat_lt extent_blocks blocks then None else low blocks) ≡ result }
+        ensures whole { (low : ℕ → Option ℕ) → Finds self.now.uses.items low → (if split && nat_lt most_extent_blocks blocks then None else low blocks) ≡ result }
         ensures least { IfSome result (λ start. IsLeast (HasRun self.now.uses.items blocks) start) }
         ensures inside { IfSome result (λ start. start + blocks ≤ length self.now.uses.items) }
     {
@@ -123,7 +123,7 @@ impl OpenBlocks {
 
 /// Whether a run of so many blocks is no extent, as it has to be where the ask is split.
 fn is_too_long(blocks: u64, split: bool) -> bool
-    ensures { result ≡ (split && nat_lt extent_blocks blocks) }
+    ensures { result ≡ (split && nat_lt most_extent_blocks blocks) }
 {
     split && blocks > EXTENT_BLOCKS
 }

@@ -3,7 +3,7 @@
 ghost use Rattle.std.specs.Prelude.{◌≡◌, ◌<◌, ◌++◌, ◌^◌, ◌⊎◌, length, All, IfErr, IfOk, Ok};
 ghost use Rattle.xfs_geom.specs.Volumes.{volume_of};
 ghost use Rattle.xfs_place.specs.Counts.{placed_counts};
-ghost use Rattle.xfs_place.specs.Objects.{AreCuts, IsAsk, asks_of};
+ghost use Rattle.xfs_place.specs.Objects.{ServeAsks, IsAsk, asks_of};
 ghost use Rattle.xfs_place.specs.Standing.{AreOfPool};
 ghost use Rattle.xfs_place.specs.Wanted.{CanBeKept, ArePlaced, FindsNoRoom, all_kept, kept_runs};
 ghost use Rattle.xfs_place.specs.declared.faults.Unplaced.{Unplaced};
@@ -36,7 +36,7 @@ pub fn place(alloc: Global, wanted: &Wanted) -> Result<Placed, PlaceFault>
     requires inodes { length wanted.now.inodes ≡ wanted.now.geometry.agcount }
     requires few { All (λ group. length group.records < 2 ^ 32) wanted.now.inodes }
     ensures runs { IfOk result (λ placed. all_kept wanted.now ≡ Ok (kept_runs wanted.now ++ placed.runs)) }
-    ensures cuts { IfOk result (λ placed. AreCuts (asks_of wanted.now.objects) placed.cuts placed.runs) }
+    ensures cuts { IfOk result (λ placed. ServeAsks (asks_of wanted.now.objects) placed.cuts placed.runs) }
     ensures groups { IfOk result (λ placed. ArePlaced (volume_of wanted.now.geometry) (kept_runs wanted.now ++ placed.runs) wanted.now.reserved wanted.now.inodes
         wanted.now.geometry.agcount placed.groups) }
     ensures apart { IfOk result (λ placed. CanBeKept (volume_of wanted.now.geometry) (kept_runs wanted.now ++ placed.runs)) }

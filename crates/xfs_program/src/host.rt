@@ -5,7 +5,7 @@ ghost use Rattle.std.specs.Duration.{as_nanos};
 ghost use Rattle.std.specs.declared.fs.options.OpenOptions.{OpenOptions};
 ghost use Rattle.xfs_disk.specs.FileDisk.{file_of};
 
-use crate::in_use::is_in_use;
+use crate::in_use::is_image_in_use;
 use crate::streams::hold_streams;
 use crate::words::read_words;
 use std::alloc::{AllocError, Global};
@@ -114,7 +114,7 @@ impl<R: Clock + RandomSource + Env + Files + AllocGlobal + Clone + Drop> Host fo
     }
 
     fn has_in_use(&self, word: &Word) -> bool {
-        is_in_use(self, word)
+        is_image_in_use(self, word)
     }
 }
 

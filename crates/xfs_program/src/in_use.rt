@@ -14,7 +14,7 @@ use xfs_disk::Word;
 const DEVICES: &str = "/sys/block";
 
 /// Whether the image that a word names is in use.
-pub fn is_in_use<R: Files + AllocGlobal + Clone + Drop>(rt: &R, word: &Word) -> bool {
+pub fn is_image_in_use<R: Files + AllocGlobal + Clone + Drop>(rt: &R, word: &Word) -> bool {
     let Ok(path) = str::from_utf8(word.bytes()) else {
         return false;
     };

@@ -27,7 +27,8 @@ use Rattle.xfs_image.specs.Groups.{head_block}
 use Rattle.xfs_image.specs.Keeping.{Protected}
 use Rattle.xfs_image.specs.Slots.{cluster_blocks, cluster_inodes, inodes_of_block, reads_as}
 use Rattle.xfs_views.proofs.Files.{file_sound}
-use Rattle.xfs_protected.specs.Claimed.{IsGuardedFile, file_claim, fixed_runs, header_run, image_claims}
+use Rattle.xfs_protected.specs.Claimed.{IsGuardedFile, file_claim, image_claims}
+use Rattle.xfs_kinds.specs.FixedRuns.{fixed_runs, header_run}
 use Rattle.xfs_protected.specs.Guarded.{has_cluster}
 use Rattle.xfs_protected.proofs.Addresses.{IsPlaced, own_cluster, root_placed}
 use Rattle.xfs_protected.proofs.Claimed.{by_lists, covers, spans_are}

@@ -4,7 +4,7 @@ use Rattle.std.specs.List.{list_any}
 use Rattle.std.proofs.lemmas.Bool.{and_left, and_parts, and_right, cases_Bool, eq-eqb, eqb-true, ne_eqb, not_from_true, or_from}
 use Rattle.std.proofs.lemmas.List.{get_or-drop, get_or-take}
 use Rattle.std.proofs.lemmas.Nat.{div-mul-add, mod-mul-add}
-use Rattle.xfs_disk.specs.Blocks.{Image, IsImage}
+use Rattle.xfs_disk.specs.Blocks.{Image, IsImage, bytes_of_block}
 use Rattle.xfs_word.specs.Field.{field_of, part_of}
 use Rattle.xfs_word.specs.Seal.{begins_as_slot, has_magic, is_ready, is_sealed}
 use Rattle.xfs_word.specs.declared.kinds.SealKind.{SealKind}
@@ -14,13 +14,12 @@ use Rattle.xfs_geom.specs.Conversions.{address_of, inode_of, slot_at, with_slot}
 use Rattle.xfs_geom.specs.Volumes.{Volume, volume_of}
 use Rattle.xfs_geom.specs.declared.geometry.Geometry.{Geometry}
 use Rattle.xfs_geom.proofs.Addresses.{block_back}
-use Rattle.xfs_tree.specs.Reading.{bytes_of_block}
 use Rattle.xfs_inode.specs.Files.{file_read}
 use Rattle.xfs_inode.specs.Slots.{slot_read, slot_seal}
 use Rattle.xfs_inode.specs.declared.files.FileRead.{FileRead}
 use Rattle.xfs_inode.specs.declared.files.FileRead.TheVariants as Reads
 use Rattle.xfs_image.specs.Candidates.{has_whole_seal, whole_kinds, whole_seal}
-use Rattle.xfs_image.specs.Sectors.{sector_in}
+use Rattle.xfs_heads.specs.Sectors.{sector_in}
 use Rattle.xfs_image.specs.Slots.{bytes_in, reads_as, slot_bytes}
 
 -- a slot that reads is sealed

@@ -1,7 +1,6 @@
 -- What claims blocks in an image, as what is kept is chosen from it: the fixed blocks, the candidate clusters, the candidate files.
-use Rattle.std.specs.Prelude.{◌≡◌, ◌≢◌, ℕ, true, false, ◌+◌, ◌*◌, List, ◌∷◌, map}
-use Rattle.std.specs.List.{range_with_len}
-use Rattle.xfs_kinds.specs.Owners.{headers_owner, log_owner}
+use Rattle.std.specs.Prelude.{◌≡◌, ◌≢◌, ℕ, true, false, ◌+◌, List, map}
+use Rattle.xfs_kinds.specs.FixedRuns.{fixed_runs}
 use Rattle.xfs_disk.specs.Blocks.{Image}
 use Rattle.xfs_geom.specs.Conversions.{is_fixed}
 use Rattle.xfs_geom.specs.Volumes.{Volume}
@@ -10,7 +9,7 @@ use Rattle.xfs_inode.specs.declared.files.FileRead.TheVariants as Reads
 use Rattle.xfs_volume.specs.Names.{is_directory}
 use Rattle.xfs_volume.specs.declared.clusters.ClusterRec.{ClusterRec}
 use Rattle.xfs_volume.specs.declared.files.FileRec.{FileRec}
-use Rattle.xfs_space.specs.Owners.{file_runs, run}
+use Rattle.xfs_space.specs.Owners.{file_runs}
 use Rattle.xfs_claims.specs.declared.claimants.Claims.{Claims}
 use Rattle.xfs_claims.specs.declared.claimants.FileClaim.{FileClaim}
 use Rattle.xfs_image.specs.Candidates.{candidates}
@@ -22,17 +21,6 @@ use Rattle.xfs_protected.specs.Guarded.{IsGuarded}
 -- a file claims the blocks of its data, of its attributes and of its tree of extents; it stands and falls with its cluster
 abbrev pub file_claim : Volume → FileRec → FileClaim
 file_claim v f = record { ino = f.ino; cluster = cluster_of v f.ino; runs = file_runs v f }
-
--- the first block of each group, where its headers stand, and the log
-abbrev pub header_run : Volume → ℕ → Run
-header_run v ag = run (ag * v.agblocks) 1 headers_owner 0
-
-abbrev pub log_run : Volume → Run
-log_run v = run v.log v.logblocks log_owner 0
-
--- the runs of the blocks with a fixed use
-abbrev pub fixed_runs : Volume → List Run
-fixed_runs v = log_run v ∷ map (header_run v) (range_with_len 0 v.agcount)
 
 -- what these clusters and files of a volume claim
 abbrev pub claims_in : Volume → List ClusterRec → List FileRec → Claims

@@ -17,7 +17,8 @@ use Rattle.xfs_tree.specs.Rules.{are_lawful}
 use Rattle.xfs_place.specs.Choice.{Group, in_pool, is_inner, owned_at, owner_by, owner_of, rank}
 use Rattle.xfs_place.specs.Claims.{IsClaimedRun}
 use Rattle.xfs_place.specs.Placing.{run_of_record}
-use Rattle.xfs_place.specs.Wanted.{claim_in, fixed_runs, header_run, log_run}
+use Rattle.xfs_place.specs.Wanted.{claim_in}
+use Rattle.xfs_kinds.specs.FixedRuns.{fixed_runs, header_run, log_run}
 use Rattle.xfs_render.specs.Readiness.{HasOwner}
 
 -- an owner and an offset word that a record can have

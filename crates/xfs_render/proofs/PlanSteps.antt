@@ -7,9 +7,8 @@ use Rattle.std.proofs.lemmas.Bool.{cases_lt, eq-eqb}
 use Rattle.std.proofs.lemmas.List.{get_or-append-add, get_or-map, get_or_append_left, get_or_default, length-map}
 use Rattle.std.proofs.lemmas.List.Sorted.{All-permutation, Contains-permutation, IsPermutation-append, length_permutation, sum_by-IsPermutation}
 use Rattle.std.proofs.lemmas.List.Sums.{sum_by-cons}
-use Rattle.xfs_disk.specs.Blocks.{Image}
+use Rattle.xfs_disk.specs.Blocks.{Image, bytes_of_block}
 use Rattle.xfs_treebuild.specs.Packing.{block_of_part}
-use Rattle.xfs_tree.specs.Reading.{bytes_of_block}
 use Rattle.xfs_render.specs.Drafts.{HoldsDraft}
 use Rattle.xfs_render.specs.Plans.{AreSortedRows, HasRows, IsArranged, IsOnce, planned}
 use Rattle.xfs_render.specs.declared.arranging.DraftRow.{DraftRow}

@@ -1,10 +1,11 @@
 -- The free blocks of a group are no more than its blocks, and what its trees have at least and at most.
-use Rattle.std.proofs.Common.{◌≡◌, ℕ, ◌+◌, ◌^◌, ◌<◌, ◌≤◌, true, List, [], ◌∷◌, length, Some, None, arith}
+use Rattle.std.proofs.Common.{◌≡◌, ℕ, ◌+◌, ◌^◌, ◌<◌, ◌≤◌, true, List, [], ◌∷◌, length, Some, None, ap, sym, ◌∙◌, arith}
 use Rattle.std.specs.List.{sum}
 use Rattle.std.specs.Prelude.{IsTrue}
 use Rattle.std.proofs.lemmas.Bool.{and_parts, leb-true, ltb-true}
-use Rattle.std.proofs.lemmas.List.Sums.{sum_by-cons}
+use Rattle.std.proofs.lemmas.List.Sums.{sum-map, sum_by-cons}
 use Rattle.xfs_geom.specs.Conversions.{group_length}
+use Rattle.xfs_geom.specs.Sums.{free_blocks}
 use Rattle.xfs_geom.specs.Volumes.{Volume}
 use Rattle.xfs_geom.specs.declared.records.InoRec.{InoRec}
 use Rattle.xfs_geom.specs.declared.records.Span.{Span}
@@ -13,8 +14,14 @@ use Rattle.xfs_place.proofs.Sizes.{size_small}
 use Rattle.xfs_place.specs.declared.placed.GroupPlaced.{GroupPlaced}
 use Rattle.xfs_tree.specs.Rules.{are_lawful}
 use Rattle.xfs_treebuild.specs.Size.{rows_of}
-use Rattle.xfs_render.specs.Counters.{span_blocks}
 use Rattle.xfs_render.specs.Groups.{IsSoundGroup, tree_places}
+
+-- one free run more
+free_more : (s : Span) (runs : List Span) → free_blocks (s ∷ runs) ≡ s.count + free_blocks runs
+free_more s runs =
+    sum-map (λ (x : Span). x.count) (s ∷ runs)
+    ∙ sum_by-cons (λ (x : Span). x.count) s runs
+    ∙ ap (λ (n : ℕ). s.count + n) (sym (sum-map (λ (x : Span). x.count) runs))
 
 -- a lawful run ends inside the group, and begins behind the one before
 run_inside : (v : Volume) (ag : ℕ) (s : Span) → is_free_run v ag s ≡ true → s.start + s.count ≤ group_length v ag
@@ -23,22 +30,22 @@ run_inside v ag s lawful =
     leb-true (s.start + s.count) (group_length v ag) ((and_parts _ _ inside).1)
 
 free_behind : (v : Volume) (ag : ℕ) (before : Span) (runs : List Span) → before.start + before.count ≤ group_length v ag
-    → IsTrue (are_lawful (bno_shape ag) v (Some before) runs) → before.start + before.count + span_blocks runs ≤ group_length v ag
+    → IsTrue (are_lawful (bno_shape ag) v (Some before) runs) → before.start + before.count + free_blocks runs ≤ group_length v ag
 free_behind v ag before [] inside lawful = omega (arith, inside)
 free_behind v ag before (s ∷ runs) inside lawful =
     let parts = and_parts _ _ lawful in
     let own = and_parts _ _ parts.0 in
     let behind : before.start + before.count < s.start = ltb-true _ _ own.1 in
     let rest = free_behind v ag s runs (run_inside v ag s own.0) parts.1 in
-    omega (arith, behind, rest, sum_by-cons (λ (x : Span). x.count) s runs)
+    omega (arith, behind, rest, free_more s runs)
 
-pub free_small : (v : Volume) (ag : ℕ) (runs : List Span) → IsTrue (are_lawful (bno_shape ag) v None runs) → span_blocks runs ≤ group_length v ag
+pub free_small : (v : Volume) (ag : ℕ) (runs : List Span) → IsTrue (are_lawful (bno_shape ag) v None runs) → free_blocks runs ≤ group_length v ag
 free_small v ag [] lawful = omega arith
 free_small v ag (s ∷ runs) lawful =
     let parts = and_parts _ _ lawful in
     let own = and_parts _ _ parts.0 in
     let rest = free_behind v ag s runs (run_inside v ag s own.0) parts.1 in
-    omega (arith, rest, sum_by-cons (λ (x : Span). x.count) s runs)
+    omega (arith, rest, free_more s runs)
 
 -- a tree of fewer than 2^28 records has some blocks, and not too many
 pub tree_small : (leaf_cap node_cap records blocks : ℕ) → 1 ≤ leaf_cap → 2 ≤ node_cap → records < 2 ^ 28 → blocks ≡ sum (rows_of leaf_cap node_cap records)

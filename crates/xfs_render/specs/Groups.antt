@@ -3,6 +3,7 @@
 use Rattle.std.specs.Prelude.{◌≡◌, ℕ, ◌+◌, ◌-◌, ◌%◌, ◌^◌, ◌≤◌, ◌<◌, IsTrue, ◌==◌, if◌then◌else◌, None, List, [], ◌++◌, length, slice_index_or}
 use Rattle.std.specs.List.{All, list_all, sum}
 use Rattle.xfs_geom.specs.Conversions.{group_length}
+use Rattle.xfs_geom.specs.Sums.{free_blocks, free_slots, longest, slots}
 use Rattle.xfs_geom.specs.Volumes.{Volume}
 use Rattle.xfs_geom.specs.declared.records.InoRec.{InoRec}
 use Rattle.xfs_heads.specs.FreeList.{unused}
@@ -19,7 +20,7 @@ use Rattle.xfs_tree.specs.Shape.{Shape}
 use Rattle.xfs_treebuild.specs.Size.{rows_of}
 use Rattle.xfs_volume.specs.declared.groups.TreeBlocks.{TreeBlocks}
 use Rattle.xfs_place.specs.declared.placed.GroupPlaced.{GroupPlaced}
-use Rattle.xfs_render.specs.Counters.{span_blocks, free_inodes_in, chunk_inodes, levels, longest, newest}
+use Rattle.xfs_render.specs.Counters.{levels, newest}
 
 -- the blocks of one of the five trees of a group: free runs by start and by length, chunks of inodes, those with a free inode, owners
 abbrev pub no_tree : TreeBlocks
@@ -77,7 +78,7 @@ due_agf v ag p = record {
   flfirst = 0;
   fllast = last_entry (length p.agfl);
   flcount = length p.agfl;
-  freeblks = span_blocks p.bno;
+  freeblks = free_blocks p.bno;
   longest = longest p.bno;
   btreeblks = group_tree_count p 0 + group_tree_count p 1 + group_tree_count p 4 - 3;
   uuid = v.uuid;
@@ -93,10 +94,10 @@ due_agi v ag inodes p = record {
   versionnum = 1;
   seqno = ag;
   length = group_length v ag;
-  count = chunk_inodes inodes;
+  count = slots inodes;
   root = root_in v p 2;
   level = levels 252 505 (length inodes);
-  freecount = free_inodes_in inodes;
+  freecount = free_slots inodes;
   newino = newest inodes;
   dirino = 2 ^ 32 - 1;
   unlinked = unused 64;

@@ -1,14 +1,13 @@
 -- A log that is blank in an image (chapter "Journaling Log").
 use Rattle.std.specs.Prelude.{◌≡◌, ℕ, ◌+◌, ◌*◌, ◌^◌, ◌<◌, List, map}
-use Rattle.std.specs.List.{flat_map, range_with_len}
+use Rattle.std.specs.List.{range_with_len}
 use Rattle.xfs_word.specs.Field.{part_of}
-use Rattle.xfs_disk.specs.Blocks.{Image}
+use Rattle.xfs_disk.specs.Blocks.{Image, bytes_of_block}
 use Rattle.xfs_geom.specs.Volumes.{Volume}
 use Rattle.xfs_heads.specs.BlankLog.{IsBlank, blank_seen}
 use Rattle.xfs_heads.specs.Log.{seen_of, state_of}
+use Rattle.xfs_heads.specs.Sectors.{log_sectors}
 use Rattle.xfs_heads.specs.declared.log.state.LogState.TheVariants.{Clean}
-use Rattle.xfs_tree.specs.Blocks.{each_of}
-use Rattle.xfs_tree.specs.Reading.{bytes_of_block}
 use Rattle.xfs_render.specs.Drafts.{Adds, HoldsDraft}
 use Rattle.xfs_render.specs.declared.draft.Draft.{Draft}
 
@@ -24,10 +23,6 @@ pub record IsBlankAt (cycle : ℕ) (uuid : List ℕ) (place : ℕ) (sector : Lis
 -- the eight sectors of a block of the log are
 pub record IsBlankBlock (cycle : ℕ) (uuid : List ℕ) (number : ℕ) (block : List ℕ) : Type 0 where
   pub each : (k : ℕ) → k < 8 → IsBlankAt cycle uuid (8 * number + k) (sector_of block k)
-
--- all sectors of the log, in order
-abbrev pub log_sectors : Volume → Image → List (List ℕ)
-log_sectors v image = flat_map (λ block. each_of 8 (λ k. part_of (bytes_of_block image block) (512 * k) 512)) (range_with_len v.log v.logblocks)
 
 -- the log is blank, and so it is clean
 pub record IsBlankLog (v : Volume) (cycle : ℕ) (image : Image) : Type 0 where

@@ -1,9 +1,8 @@
 -- What is put down, in the order in which it is to be written.
 use Rattle.std.specs.Prelude.{◌≡◌, ℕ, ◌+◌, ◌≤◌, ◌<◌, ◌==◌, List, [], ◌++◌, length, slice_index_or, count_by}
 use Rattle.std.specs.List.Sorted.{IsNonDecreasingBy, IsPermutation, IsStrictlyIncreasing}
-use Rattle.xfs_disk.specs.Blocks.{Image}
+use Rattle.xfs_disk.specs.Blocks.{Image, bytes_of_block}
 use Rattle.xfs_treebuild.specs.Packing.{block_of_part}
-use Rattle.xfs_tree.specs.Reading.{bytes_of_block}
 use Rattle.xfs_render.specs.Drafts.{HoldsDraft}
 use Rattle.xfs_render.specs.declared.arranging.DraftRow.{DraftRow}
 use Rattle.xfs_render.specs.declared.draft.Draft.{Draft}

@@ -2,7 +2,7 @@
 use Rattle.std.specs.Prelude.{◌≡◌, ℕ, ◌*◌, ◌%◌, ◌^◌, ◌≤◌, ◌<◌, ◌==◌, Bool, true, false, not, List, [], ◌++◌, length, take, slice_index_or, Option, Some, None, MatchOption}
 use Rattle.std.specs.List.{All, filter, flat_map, range_with_len}
 use Rattle.std.specs.List.Sorted.{IsNonDecreasingBy, IsPermutation, IsStrictlyIncreasing}
-use Rattle.xfs_disk.specs.Blocks.{Image}
+use Rattle.xfs_disk.specs.Blocks.{Image, bytes_of_block}
 use Rattle.xfs_geom.specs.Volumes.{Volume, stated_volume, volume_of}
 use Rattle.xfs_geom.specs.Writing.{IsAcceptedSector, IsSuperOf}
 use Rattle.xfs_geom.specs.Superblocks.{super_fault}
@@ -11,7 +11,6 @@ use Rattle.xfs_place.specs.Pool.{IsRunOf, is_taken}
 use Rattle.xfs_place.specs.declared.placed.GroupPlaced.{GroupPlaced}
 use Rattle.xfs_place.specs.declared.placed.Placed.{Placed}
 use Rattle.xfs_place.specs.declared.wanted.Wanted.{Wanted}
-use Rattle.xfs_tree.specs.Reading.{bytes_of_block}
 use Rattle.xfs_render.specs.Clusters.{CanCluster, IsClusterBlock}
 use Rattle.xfs_render.specs.Drafts.{Adds, HoldsDraft}
 use Rattle.xfs_render.specs.Groups.{IsSoundGroup}

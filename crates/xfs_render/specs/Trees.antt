@@ -2,7 +2,7 @@
 -- B+tree").
 use Rattle.std.specs.Prelude.{◌≡◌, ℕ, ◌+◌, ◌-◌, ◌*◌, List, [], ◌∷◌, ◌++◌, length, map, Ok}
 use Rattle.std.specs.List.{All}
-use Rattle.xfs_disk.specs.Blocks.{Image}
+use Rattle.xfs_disk.specs.Blocks.{Image, bytes_of_block}
 use Rattle.xfs_geom.specs.Volumes.{Volume}
 use Rattle.xfs_geom.specs.declared.records.InoRec.{InoRec}
 use Rattle.xfs_kinds.specs.FreeTrees.{bno_shape, cnt_shape}
@@ -11,7 +11,7 @@ use Rattle.xfs_kinds.specs.OwnerTrees.{rmap_shape}
 use Rattle.xfs_place.specs.declared.placed.GroupPlaced.{GroupPlaced}
 use Rattle.xfs_treebuild.specs.Exact.{IsExact}
 use Rattle.xfs_treebuild.specs.Packing.{IsPacked, lsn_of, root_of, rows_at, top_down}
-use Rattle.xfs_tree.specs.Reading.{Contents, bytes_of_block, reading, root_seat}
+use Rattle.xfs_tree.specs.Reading.{Contents, reading, root_seat}
 use Rattle.xfs_tree.specs.Shape.{Shape}
 use Rattle.xfs_render.specs.Counters.{levels}
 use Rattle.xfs_render.specs.Drafts.{Adds, HoldsDraft}

@@ -1,57 +1,10 @@
-//! What the headers of a group count.
+//! The newest chunk of a group, and the levels of its trees, as headers state them.
 
-ghost use Rattle.std.specs.Prelude.{◌≡◌, ◌≤◌, ◌<◌, ◌^◌, length};
-ghost use Rattle.xfs_render.specs.Counters.{span_blocks, free_inodes_in, chunk_inodes, levels, longest, newest};
+ghost use Rattle.std.specs.Prelude.{◌≡◌, ◌≤◌, ◌<◌, ◌^◌};
+ghost use Rattle.xfs_render.specs.Counters.{levels, newest};
 
-use xfs_geom::{InoRec, Span};
+use xfs_geom::InoRec;
 use xfs_treebuild::blocks_for;
-
-/// The blocks of some runs.
-pub fn span_blocks(runs: &[Span]) -> u32
-    requires { span_blocks runs.now < 2 ^ 32 }
-    ensures { result ≡ span_blocks runs.now }
-{
-    let mut blocks = 0;
-    for run in runs {
-        blocks += run.count;
-    }
-    blocks
-}
-
-/// The blocks of the longest run, or none.
-pub fn longest(runs: &[Span]) -> u32
-    ensures { result ≡ longest runs.now }
-{
-    let mut best = 0;
-    for run in runs {
-        best = run.count.max(best);
-    }
-    best
-}
-
-/// The inodes of some chunks.
-pub fn chunk_inodes(records: &[InoRec]) -> u32
-    requires { length records.now < 2 ^ 24 }
-    ensures { result ≡ chunk_inodes records.now }
-{
-    let mut inodes = 0;
-    for record in records {
-        inodes += record.count as u32;
-    }
-    inodes
-}
-
-/// The inodes of some chunks that are free.
-pub fn free_inodes_in(records: &[InoRec]) -> u32
-    requires { length records.now < 2 ^ 24 }
-    ensures { result ≡ free_inodes_in records.now }
-{
-    let mut inodes = 0;
-    for record in records {
-        inodes += record.freecount as u32;
-    }
-    inodes
-}
 
 /// The first inode of the last chunk; all ones where there is none.
 pub fn newest(records: &[InoRec]) -> u32

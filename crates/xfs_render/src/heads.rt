@@ -5,8 +5,8 @@ ghost use Rattle.xfs_geom.specs.Volumes.{volume_of};
 ghost use Rattle.xfs_heads.specs.FreeList.{unused};
 ghost use Rattle.xfs_render.specs.Groups.{IsSoundGroup, due_agf, due_agi, last_entry, root_in, tree_places};
 
-use crate::counters::{chunk_inodes, free_inodes_in, levels, longest, newest, span_blocks};
-use xfs_geom::{Geometry, InoRec};
+use crate::counters::{levels, newest};
+use xfs_geom::{Geometry, InoRec, free_blocks, free_slots, longest, slots};
 use xfs_heads::{Agf, Agi};
 use xfs_place::GroupPlaced;
 
@@ -28,6 +28,7 @@ pub fn due_agf(g: &Geometry, ag: u32, inodes: &[InoRec], placed: &GroupPlaced) -
     let cnt = tree_places(placed, 1).len();
     let rmap = tree_places(placed, 4).len();
     let listed = placed.agfl.as_slice().len() as u32;
+    let free = free_blocks(placed.bno.as_slice()) as u32;
     Agf {
         magicnum: 0x5841_4746,
         versionnum: 1,
@@ -42,7 +43,7 @@ pub fn due_agf(g: &Geometry, ag: u32, inodes: &[InoRec], placed: &GroupPlaced) -
         flfirst: 0,
         fllast: last_entry(listed),
         flcount: listed,
-        freeblks: span_blocks(placed.bno.as_slice()),
+        freeblks: free,
         longest: longest(placed.bno.as_slice()),
         btreeblks: (bno + cnt + rmap - 3) as u32,
         uuid: g.uuid,
@@ -75,15 +76,17 @@ pub fn due_agi(g: &Geometry, ag: u32, inodes: &[InoRec], placed: &GroupPlaced) -
     requires sound { IsSoundGroup (volume_of g.now) ag inodes.now placed.now }
     ensures { result ≡ due_agi (volume_of g.now) ag inodes.now placed.now }
 {
+    let count = slots(inodes) as u32;
+    let free = free_slots(inodes) as u32;
     Agi {
         magicnum: 0x5841_4749,
         versionnum: 1,
         seqno: ag,
         length: g.group_length(ag),
-        count: chunk_inodes(inodes),
+        count,
         root: root_in(g, placed, 2),
         level: levels(252, 505, inodes.len()),
-        freecount: free_inodes_in(inodes),
+        freecount: free,
         newino: newest(inodes),
         dirino: u32::MAX,
         unlinked: no_unlinked(),

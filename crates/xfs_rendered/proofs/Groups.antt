@@ -2,7 +2,7 @@
 use Rattle.std.proofs.Common.{◌≡◌, ℕ, zero, suc, ◌+◌, ◌*◌, ◌^◌, ◌<◌, ◌≤◌, List, map, Option, Some, Ok, refl, ap, subst, arith}
 use Rattle.std.specs.Prelude.{MatchOption}
 use Rattle.std.specs.List.{range_with_len}
-use Rattle.xfs_disk.specs.Blocks.{Image}
+use Rattle.xfs_disk.specs.Blocks.{Image, bytes_of_block}
 use Rattle.xfs_geom.specs.Volumes.{Volume}
 use Rattle.xfs_geom.specs.declared.records.InoRec.{InoRec}
 use Rattle.xfs_geom.specs.declared.records.RmapRec.{RmapRec}
@@ -14,7 +14,7 @@ use Rattle.xfs_heads.specs.declared.log.state.LogState.TheVariants.{Clean}
 use Rattle.xfs_kinds.specs.FreeTrees.{bno_shape, cnt_shape}
 use Rattle.xfs_kinds.specs.InodeTrees.{ino_shape, fino_shape}
 use Rattle.xfs_kinds.specs.OwnerTrees.{rmap_shape}
-use Rattle.xfs_tree.specs.Reading.{Contents, bytes_of_block}
+use Rattle.xfs_tree.specs.Reading.{Contents}
 use Rattle.xfs_tree.specs.Shape.{Shape}
 use Rattle.xfs_volume.specs.declared.groups.GroupRec.{GroupRec}
 use Rattle.xfs_place.specs.declared.placed.GroupPlaced.{GroupPlaced}

@@ -1,9 +1,8 @@
 -- The bytes of the first block of each group were at hand, so it has the headers that are due.
 use Rattle.std.proofs.Common.{ℕ, ◌*◌, ◌<◌, List, subst}
-use Rattle.xfs_disk.specs.Blocks.{Image}
+use Rattle.xfs_disk.specs.Blocks.{Image, bytes_of_block}
 use Rattle.xfs_place.specs.declared.placed.Placed.{Placed}
 use Rattle.xfs_place.specs.declared.wanted.Wanted.{Wanted}
-use Rattle.xfs_tree.specs.Reading.{bytes_of_block}
 use Rattle.xfs_render.specs.HeaderBlocks.{IsHeaderBlock}
 use Rattle.xfs_render.specs.Rendering.{group_placed, wanted_inodes, old_at, volume}
 use Rattle.xfs_render.specs.declared.bytes.Bytes.{Bytes}

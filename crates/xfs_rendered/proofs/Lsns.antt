@@ -6,7 +6,7 @@ use Rattle.xfs_word.specs.Crc.{little_field_of}
 use Rattle.xfs_word.specs.Field.{field_of, part_of}
 use Rattle.xfs_word.specs.Seal.{is_sealed}
 use Rattle.xfs_word.specs.declared.kinds.SealKind.TheVariants as Kind
-use Rattle.xfs_disk.specs.Blocks.{Image}
+use Rattle.xfs_disk.specs.Blocks.{Image, bytes_of_block}
 use Rattle.xfs_geom.specs.Volumes.{Volume}
 use Rattle.xfs_geom.specs.declared.records.InoRec.{InoRec}
 use Rattle.xfs_heads.specs.FreeSpace.{agf_of, is_agf_shaped, stated_agf}
@@ -18,7 +18,6 @@ use Rattle.xfs_kinds.specs.FreeTrees.{bno_shape, cnt_shape}
 use Rattle.xfs_kinds.specs.InodeTrees.{ino_shape, fino_shape}
 use Rattle.xfs_kinds.specs.OwnerTrees.{rmap_shape}
 use Rattle.xfs_treebuild.specs.Packing.{lsn_of, rows_in, top_down}
-use Rattle.xfs_tree.specs.Reading.{bytes_of_block}
 use Rattle.xfs_tree.specs.Shape.{Shape}
 use Rattle.xfs_treebuild.specs.Size.{rows_of}
 use Rattle.xfs_volume.specs.declared.groups.GroupRec.{GroupRec}

@@ -1,13 +1,12 @@
 -- Slots are what was wanted of them, or as they were.
 use Rattle.std.proofs.Common.{◌≡◌, ℕ, ◌+◌, ◌*◌, ◌/◌, ◌%◌, ◌<◌, false, List, length, Some, ap, ◌∙◌, sym, subst, arith}
-use Rattle.xfs_disk.specs.Blocks.{Image}
+use Rattle.xfs_disk.specs.Blocks.{Image, bytes_of_block}
 use Rattle.xfs_geom.specs.Conversions.{address_of, block_at, inode_of, slot_at, with_slot}
 use Rattle.xfs_geom.specs.Shape.{HasAddresses, HasGroups}
 use Rattle.xfs_geom.specs.Volumes.{Volume}
 use Rattle.xfs_geom.proofs.Addresses.{block_back}
 use Rattle.xfs_place.specs.declared.placed.Placed.{Placed}
 use Rattle.xfs_place.specs.declared.wanted.Wanted.{Wanted}
-use Rattle.xfs_tree.specs.Reading.{bytes_of_block}
 use Rattle.xfs_image.specs.Slots.{bytes_in, slot_bytes}
 use Rattle.xfs_render.specs.Clusters.{slot_in}
 use Rattle.xfs_render.specs.Rendering.{is_head, old_at, byte_place, volume}

@@ -3,8 +3,8 @@ use Rattle.std.proofs.Common.{◌≡◌, ℕ, ◌+◌, ◌*◌, ◌%◌, ◌<◌
 use Rattle.std.proofs.lemmas.Bool.{eq-eqb}
 use Rattle.std.proofs.lemmas.Bool.Decides.{nat_tests}
 use Rattle.xfs_word.specs.Field.{field_of, part_of}
-use Rattle.xfs_disk.specs.Blocks.{Image}
-use Rattle.xfs_geom.specs.Election.{block_of, elected, elected_after, same_volume, super_of, votes_below}
+use Rattle.xfs_disk.specs.Blocks.{Image, bytes_of_block}
+use Rattle.xfs_geom.specs.Election.{elected, elected_after, same_volume, super_of, votes_below}
 use Rattle.xfs_geom.specs.Superblocks.{is_agreeing, super_fault}
 use Rattle.xfs_geom.specs.Volumes.{Volume}
 use Rattle.xfs_geom.specs.declared.election.ElectFault.TheVariants.{NoGeometry}
@@ -13,10 +13,9 @@ use Rattle.xfs_geom.proofs.OwnVolume.{agrees_with_itself}
 use Rattle.xfs_geom.proofs.Votes.{same_itself}
 use Rattle.xfs_place.specs.declared.placed.Placed.{Placed}
 use Rattle.xfs_place.specs.declared.wanted.Wanted.{Wanted}
-use Rattle.xfs_tree.specs.Reading.{bytes_of_block}
 use Rattle.xfs_image.specs.Consistent.{IsElected, backup_agrees}
 use Rattle.xfs_image.specs.Groups.{head_block}
-use Rattle.xfs_image.specs.Sectors.{sector_in}
+use Rattle.xfs_heads.specs.Sectors.{sector_in}
 use Rattle.xfs_image.specs.View.{counts_of}
 use Rattle.xfs_render.specs.Rendering.{volume}
 use Rattle.xfs_render.specs.declared.bytes.Bytes.{Bytes}
@@ -25,12 +24,12 @@ use Rattle.xfs_rendered.proofs.Headers.{headers_stand}
 use Rattle.xfs_rendered.proofs.Numbers.{number_in_part}
 
 -- the first block, in the words of the election
-first_block : (image : Image) → block_of image 0 ≡ bytes_of_block image 0
+first_block : (image : Image) → bytes_of_block image 0 ≡ bytes_of_block image 0
 first_block [] = refl
 first_block (block ∷ blocks) = refl
 
 -- an image elects the superblock of its first block, where it is accepted there
-primary_elected : (image : Image) (super : List ℕ) → 0 < length image → super_of (block_of image 0) ≡ super → super_fault super 0 (length image) ≡ None
+primary_elected : (image : Image) (super : List ℕ) → 0 < length image → super_of (bytes_of_block image 0) ≡ super → super_fault super 0 (length image) ≡ None
     → elected image ≡ Ok (record { place = 0; sector = super })
 unfolding elected
 primary_elected image super some first accepted =
@@ -66,7 +65,7 @@ module _ (w : Wanted) (p : Placed) (b : Bytes) (super : List ℕ) (image : Image
   primary_stands =
       let size = is.size in
       let some = some_blocks in
-      let first : super_of (block_of image 0) ≡ super = ap super_of (first_block image) ∙ super_first in
+      let first : super_of (bytes_of_block image 0) ≡ super = ap super_of (first_block image) ∙ super_first in
       let due = primary_elected image super (omega (arith, size, some)) first (accepted (length image) size) in
       let states = subst (λ (v : Volume). same_volume v (volume w) ≡ true) (sym is.due.states) (same_itself (volume w)) in
       (record { vote = record { place = 0; sector = super }; due = due; states = states }, refl)

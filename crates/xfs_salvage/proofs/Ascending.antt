@@ -6,7 +6,7 @@ use Rattle.std.specs.Result.{MatchResult, is_ok}
 use Rattle.std.proofs.lemmas.Bool.{cases_lt, cases_order, eq-eqb, ne_eqb, or_from, or_left, or_right}
 use Rattle.std.proofs.lemmas.Bool.Decides.{nat_tests}
 use Rattle.std.proofs.lemmas.List.Sorted.{searched}
-use Rattle.xfs_disk.specs.Lists.{is_among}
+use Rattle.xfs_disk.specs.Lists.{is_among, with_number}
 use Rattle.xfs_runs.specs.Blocks.{meets}
 use Rattle.xfs_geom.specs.Volumes.{Volume}
 use Rattle.xfs_volume.specs.declared.files.FileRec.{FileRec}
@@ -15,7 +15,7 @@ use Rattle.xfs_naming.proofs.Ascending.{ascend_rises}
 use Rattle.xfs_claims.specs.declared.claimants.Claims.{Claims}
 use Rattle.xfs_claims.specs.declared.claimants.FileClaim.{FileClaim}
 use Rattle.xfs_claims.specs.declared.claimants.KeptClaims.{KeptClaims}
-use Rattle.xfs_claims.specs.Keeping.{Holding, cluster_span, fixed_alone, is_kept, kept_of, recorded_kept, with_cluster, with_clusters, with_file, with_files, with_number}
+use Rattle.xfs_claims.specs.Keeping.{Holding, cluster_span, fixed_alone, is_kept, kept_of, recorded_kept, with_cluster, with_clusters, with_file, with_files}
 use Rattle.xfs_claims.specs.Ranks.{recorded_clusters, recorded_files, scanned_clusters, scanned_files}
 use Rattle.xfs_claims.specs.Spans.{spans_of, with_blocks}
 use Rattle.xfs_salvage.specs.Claimable.{AscendClaiming}

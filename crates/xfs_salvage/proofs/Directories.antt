@@ -12,7 +12,7 @@ use Rattle.xfs_volume.specs.declared.files.FileRec.{FileRec}
 use Rattle.xfs_space.proofs.OwnedRuns.{from_head}
 use Rattle.xfs_naming.specs.Naming.{is_directory_at, numbers_of}
 use Rattle.xfs_protected.specs.Standing.{stands}
-use Rattle.xfs_salvage.specs.Kept.{dirs_among, entries_among, held_in, kept_files, stays}
+use Rattle.xfs_salvage.specs.Kept.{dirs_among, entries_among, claims_held, kept_files, is_kept_file}
 
 -- one file more
 pub directory_next : (fs : List FileRec) (i : ℕ) (f : FileRec) (items new whole : List ℕ) → i < length fs → f ≡ get_or fs i f
@@ -62,9 +62,9 @@ dirs_are fs numbers dirs are =
     ∙ filter_agree (λ (d : DirRec). is_among (numbers_of (filter is_directory fs)) d.ino) (λ (d : DirRec). is_directory_at fs d.ino) (λ d. directory_among fs d.ino) dirs
 
 -- the files that stay are the kept ones
-pub files_are_kept : (v : Volume) (clusters cs : List ClusterRec) (files fs result : List FileRec) (slice : List ℕ) → cs ≡ clusters → fs ≡ files → slice ≡ (held_in v cs fs).files
+pub files_are_kept : (v : Volume) (clusters cs : List ClusterRec) (files fs result : List FileRec) (slice : List ℕ) → cs ≡ clusters → fs ≡ files → slice ≡ (claims_held v cs fs).files
     → result ≡ filter (λ (f : FileRec). is_among slice f.ino && stands v.rootino f) files → result ≡ kept_files v clusters files
 unfolding kept_files
 files_are_kept v clusters cs files fs result slice same_clusters same_files are is =
-    let numbers : slice ≡ (held_in v clusters files).files = are ∙ ap₂ (λ (c : List ClusterRec) (f : List FileRec). (held_in v c f).files) same_clusters same_files in
+    let numbers : slice ≡ (claims_held v clusters files).files = are ∙ ap₂ (λ (c : List ClusterRec) (f : List FileRec). (claims_held v c f).files) same_clusters same_files in
     is ∙ ap (λ (ns : List ℕ). filter (λ (f : FileRec). is_among ns f.ino && stands v.rootino f) files) numbers

@@ -17,20 +17,20 @@ use Rattle.xfs_protected.specs.Claimed.{claims_in}
 use Rattle.xfs_protected.specs.Standing.{stands}
 
 -- what is held of the claims of these clusters and files, by their rank
-unfoldable pub held_in : Volume → List ClusterRec → List FileRec → Holding
-held_in v clusters files = kept_of (claims_in v clusters files)
+unfoldable pub claims_held : Volume → List ClusterRec → List FileRec → Holding
+claims_held v clusters files = kept_of (claims_in v clusters files)
 
 -- the first blocks of the kept clusters, ascending
 abbrev pub kept_clusters : Volume → List ClusterRec → List FileRec → List ℕ
-kept_clusters v clusters files = (held_in v clusters files).clusters
+kept_clusters v clusters files = (claims_held v clusters files).clusters
 
 -- a file is kept where it is held, and is what the root and the system inodes have to be
-abbrev pub stays : Volume → List ClusterRec → List FileRec → FileRec → Bool
-stays v clusters files f = is_among (held_in v clusters files).files f.ino && stands v.rootino f
+abbrev pub is_kept_file : Volume → List ClusterRec → List FileRec → FileRec → Bool
+is_kept_file v clusters files f = is_among (claims_held v clusters files).files f.ino && stands v.rootino f
 
 -- the kept files, in their order
 unfoldable pub kept_files : Volume → List ClusterRec → List FileRec → List FileRec
-kept_files v clusters files = filter (stays v clusters files) files
+kept_files v clusters files = filter (is_kept_file v clusters files) files
 
 -- the root and the two system inodes behind it, and those of them that are made anew since no kept file has the number
 abbrev pub own_inodes : ℕ → List ℕ
@@ -53,12 +53,12 @@ entries_among files entries = filter (λ (e : EntryRec). is_directory_at files e
 abbrev pub kept_dirs : Volume → List ClusterRec → List FileRec → List DirRec → List DirRec
 kept_dirs v clusters files dirs = dirs_among (kept_files v clusters files) dirs
 
-abbrev pub kept_entries : Volume → List ClusterRec → List FileRec → List EntryRec → List EntryRec
-kept_entries v clusters files entries = entries_among (kept_files v clusters files) entries
+abbrev pub entries_of_kept : Volume → List ClusterRec → List FileRec → List EntryRec → List EntryRec
+entries_of_kept v clusters files entries = entries_among (kept_files v clusters files) entries
 
 -- the blocks that are taken: those of the kept clusters and those that the kept files claim, with their owners
-abbrev pub cluster_run : ℕ → Run
-cluster_run block = run block 4 clusters_owner 0
+abbrev pub run_of_cluster : ℕ → Run
+run_of_cluster block = run block 4 clusters_owner 0
 
 unfoldable pub taken_in : Volume → List ClusterRec → List FileRec → List Run
-taken_in v clusters files = map cluster_run (kept_clusters v clusters files) ++ flat_map (file_runs v) (kept_files v clusters files)
+taken_in v clusters files = map run_of_cluster (kept_clusters v clusters files) ++ flat_map (file_runs v) (kept_files v clusters files)

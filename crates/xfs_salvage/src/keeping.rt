@@ -4,7 +4,7 @@ ghost use Rattle.std.specs.Prelude.{◌≡◌, ◌<◌, ◌^◌, IfOk, OnOk};
 ghost use Rattle.xfs_geom.specs.Volumes.{volume_of};
 ghost use Rattle.xfs_naming.specs.Naming.{NumbersAscend, numbers_of};
 ghost use Rattle.xfs_salvage.specs.Claimable.{CanBeSalvaged};
-ghost use Rattle.xfs_salvage.specs.Kept.{dirs_among, entries_among, fresh_among, fresh_inodes, held_in, kept_clusters, kept_dirs, kept_entries, kept_files};
+ghost use Rattle.xfs_salvage.specs.Kept.{dirs_among, entries_among, fresh_among, fresh_inodes, claims_held, kept_clusters, kept_dirs, entries_of_kept, kept_files};
 
 use crate::claiming::claims_of;
 use crate::found::{Found, Salvaged};
@@ -35,7 +35,7 @@ pub fn salvage<R: Threads + Sync, L: Ledger>(
     ensures clusters { IfOk result (λ kept. kept.clusters ≡ kept_clusters (volume_of g.now) found.clusters found.files) }
     ensures files { IfOk result (λ kept. kept.files ≡ kept_files (volume_of g.now) found.clusters found.files) }
     ensures fresh { IfOk result (λ kept. kept.fresh ≡ fresh_inodes (volume_of g.now) found.clusters found.files) }
-    ensures entries { IfOk result (λ kept. kept.entries ≡ kept_entries (volume_of g.now) found.clusters found.files found.entries) }
+    ensures entries { IfOk result (λ kept. kept.entries ≡ entries_of_kept (volume_of g.now) found.clusters found.files found.entries) }
     ensures dirs { IfOk result (λ kept. kept.dirs ≡ kept_dirs (volume_of g.now) found.clusters found.files found.dirs) }
 {
     let Found {
@@ -92,8 +92,8 @@ fn held<R: Threads + Sync, L: Ledger>(
     steps: &mut Steps<L>,
 ) -> Result<KeptClaims, NoMemory>
     ensures can { OnOk result (CanBeSalvaged (volume_of g.now) clusters.now files.now) }
-    ensures clusters { IfOk result (λ kept. kept.clusters ≡ (held_in (volume_of g.now) clusters.now files.now).clusters) }
-    ensures files { IfOk result (λ kept. kept.files ≡ (held_in (volume_of g.now) clusters.now files.now).files) }
+    ensures clusters { IfOk result (λ kept. kept.clusters ≡ (claims_held (volume_of g.now) clusters.now files.now).clusters) }
+    ensures files { IfOk result (λ kept. kept.files ≡ (claims_held (volume_of g.now) clusters.now files.now).files) }
     ensures ascend { IfOk result (λ kept. NumbersAscend 0 kept.files) }
 {
     match claims_of(alloc, g, clusters, files, steps)? {

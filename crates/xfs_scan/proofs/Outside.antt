@@ -6,7 +6,7 @@ use Rattle.std.proofs.lemmas.Bool.Decides.{nat_tests}
 use Rattle.std.proofs.lemmas.Nat.{div-add-mod', div-mul-add, mod-mul-add}
 use Rattle.xfs_word.specs.Field.{field_of}
 use Rattle.xfs_word.specs.Seal.{has_magic, is_ready, is_sealed}
-use Rattle.xfs_disk.specs.Blocks.{Image}
+use Rattle.xfs_disk.specs.Blocks.{Image, bytes_of_block}
 use Rattle.xfs_geom.specs.Conversions.{address_of, block_at, group_length, inode_of, slot_at, with_slot}
 use Rattle.xfs_geom.specs.Groups.{block_of_address, blocks_of_group}
 use Rattle.xfs_geom.specs.Shape.{HasAddresses, HasGroups}
@@ -17,7 +17,6 @@ use Rattle.xfs_inode.specs.Named.{slot_reads, tree_under, named_top, named_attr,
 use Rattle.xfs_inode.specs.declared.files.FileRead.TheVariants as Reads
 use Rattle.xfs_inode.specs.declared.reading.SlotRead.TheVariants as Read
 use Rattle.std.specs.List.{range_with_len}
-use Rattle.xfs_tree.specs.Reading.{bytes_of_block}
 use Rattle.xfs_image.specs.Slots.{bytes_in, inodes_of_block, reads_as}
 use Rattle.xfs_scan.specs.Gathered.{gathered, gathered_both, nothing_gathered, of_none, of_read}
 

@@ -1,9 +1,8 @@
 -- What is kept of the slots of candidate clusters in place of their bytes (chapter "On-disk Inode").
 use Rattle.std.specs.Prelude.{◌≡◌, ℕ, List, ◌++◌, map}
 use Rattle.xfs_word.specs.Field.{field_of}
-use Rattle.xfs_disk.specs.Blocks.{Image}
+use Rattle.xfs_disk.specs.Blocks.{Image, bytes_of_block}
 use Rattle.xfs_geom.specs.Volumes.{Volume}
-use Rattle.xfs_tree.specs.Reading.{bytes_of_block}
 use Rattle.xfs_inode.specs.Slots.{slot_read}
 use Rattle.xfs_inode.specs.declared.reading.SlotRead.{SlotRead}
 use Rattle.xfs_inode.specs.declared.reading.SlotRead.TheVariants as Read

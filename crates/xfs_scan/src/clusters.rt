@@ -5,7 +5,7 @@ ghost use Rattle.std.specs.Option.{ForSome};
 ghost use Rattle.xfs_geom.specs.Conversions.{inode_of};
 ghost use Rattle.xfs_geom.specs.Volumes.{volume_of};
 ghost use Rattle.xfs_disk.specs.Reads.{OnlyReads};
-ghost use Rattle.xfs_tree.specs.Reading.{bytes_of_block};
+ghost use Rattle.xfs_disk.specs.Blocks.{bytes_of_block};
 ghost use Rattle.xfs_image.specs.Slots.{inodes_of_block};
 ghost use Rattle.xfs_scan.specs.Answers.{HasReadCause};
 ghost use Rattle.xfs_scan.specs.Gathered.{gathered, held_in, gathered_both, of_slot};

@@ -1,6 +1,7 @@
 -- What stops of the machine leave, one command behind the other.
 use Rattle.std.proofs.Common.{◌≡◌, ℕ, zero, suc, ◌+◌, ◌<◌, ◌⊎◌, Bool, List, [], ◌∷◌, length, Option, Some, refl, sym, ◌∙◌, ap, inl, inr, subst, arith}
-use Rattle.std.specs.Prelude.{slice_get, slice_set, unwrap_or}
+use Rattle.std.specs.Prelude.{slice_get, slice_set}
+use Rattle.std.proofs.lemmas.Option.{get_or_from_slice_get}
 use Rattle.xfs_disk.specs.Blocks.{Image}
 use Rattle.xfs_disk.specs.Reads.{OnlyReads}
 use Rattle.xfs_disk.specs.Stops.{EachOf, Elapses, GoesOn}
@@ -131,6 +132,6 @@ sets_image image s place block new args name value verdict at read done name_is 
     in
     let due : sets_here (block_at_place image s.at) args s ≡ sets place block (word_at args 0) (word_at args 1) s =
     ap (λ (a : Option ObjectPlace). at_place a (λ p. sets p (block_at_place image a) (word_at args 0) (word_at args 1) s) s) at
-    ∙ ap (λ (o : Option (List ℕ)). sets place (unwrap_or o []) (word_at args 0) (word_at args 1) s) read
+    ∙ ap (λ (b : List ℕ). sets place b (word_at args 0) (word_at args 1) s) (get_or_from_slice_get image place.block block [] read)
     in
     ap (λ (p : Put). image_after p image) (ap (λ (v : Verdict). put_of v place.block new) (sym done) ∙ put ∙ ap (λ (e : Effect). e.put) (words ∙ sym due))

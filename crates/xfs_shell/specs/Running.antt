@@ -1,8 +1,7 @@
 -- The commands by their words, and what lines of them print and leave (xfs_db(8)).
 use Rattle.std.specs.Prelude.{ℕ, suc, Bool, true, false, not, ◌&&◌, if◌then◌else◌, codes, List, [], ◌∷◌, ◌++◌, length, take, Option, Some, None, slice_set}
 use Rattle.std.specs.List.{fold}
-use Rattle.xfs_disk.specs.Blocks.{Image}
-use Rattle.xfs_geom.specs.Election.{block_of}
+use Rattle.xfs_disk.specs.Blocks.{Image, bytes_of_block}
 use Rattle.xfs_geom.specs.Volumes.{Volume}
 use Rattle.xfs_commands.specs.Cursors.{is_quit, saved}
 use Rattle.xfs_commands.specs.Verbs.{accepted, at_place, runs_alone, word_at}
@@ -20,7 +19,7 @@ use Rattle.xfs_shell.specs.declared.session.Leave.{Leave}
 -- the bytes of the block of the current place
 abbrev pub block_at_place : Image → Option ObjectPlace → List ℕ
 block_at_place image None = []
-block_at_place image (Some place) = block_of image place.block
+block_at_place image (Some place) = bytes_of_block image place.block
 
 -- the object at a place, of the bytes of its block
 abbrev pub object_at : ObjectPlace → List ℕ → List ℕ

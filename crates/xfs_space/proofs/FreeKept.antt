@@ -16,7 +16,8 @@ use Rattle.xfs_volume.specs.declared.findings.Law.{Law}
 use Rattle.xfs_volume.specs.declared.groups.GroupRec.{GroupRec}
 use Rattle.xfs_volume.specs.Laws.{first_broken, first_difference}
 use Rattle.xfs_space.specs.Parts.{AreGroups}
-use Rattle.xfs_space.specs.SpaceLaws.{AllAreFree, by_length, free_laws, free_spans, is_shorter, put_by_length, span_number, spans_at}
+use Rattle.xfs_kinds.specs.Lengths.{by_length, is_shorter, put_by_length}
+use Rattle.xfs_space.specs.SpaceLaws.{AllAreFree, free_laws, free_spans, span_number, spans_at}
 use Rattle.xfs_volume.proofs.First.{first_empty}
 use Rattle.xfs_space.proofs.Broken.{first_here, first_next}
 use Rattle.xfs_space.proofs.Lawful.{each_lawful}

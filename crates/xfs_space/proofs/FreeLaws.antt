@@ -11,7 +11,8 @@ use Rattle.xfs_kinds.specs.MergedRuns.{held_at}
 use Rattle.xfs_volume.specs.declared.findings.Law.{Law}
 use Rattle.xfs_volume.specs.declared.groups.GroupRec.{GroupRec}
 use Rattle.xfs_volume.specs.Laws.{first_broken, first_difference, law_at}
-use Rattle.xfs_space.specs.SpaceLaws.{by_length, free_laws, free_spans, span_number, spans_at}
+use Rattle.xfs_kinds.specs.Lengths.{by_length}
+use Rattle.xfs_space.specs.SpaceLaws.{free_laws, free_spans, span_number, spans_at}
 use Rattle.xfs_space.specs.Sorted.{Follow, IsOfOneGroup, IsSplit}
 use Rattle.xfs_volume.proofs.First.{first_behind, first_empty, first_in}
 use Rattle.xfs_space.proofs.Broken.{first_here, first_next}

@@ -4,7 +4,6 @@ pub mod Broken
 pub mod Order
 pub mod Shared
 pub mod Splits
-pub mod ByLength
 pub mod FreeSpans
 pub mod FreeLaws
 pub mod Sweep

@@ -14,7 +14,8 @@ use Rattle.xfs_volume.specs.declared.findings.Law.{Law}
 use Rattle.xfs_volume.specs.declared.groups.GroupRec.{GroupRec}
 use Rattle.xfs_volume.specs.Laws.{first_broken}
 use Rattle.xfs_space.specs.Private.RunLaws.{AreLawful, run_laws}
-use Rattle.xfs_space.specs.SpaceLaws.{AllAreFree, by_length, free_laws, free_spans, owner_at, owner_laws, owner_number, recorded_runs, sharing_at, sharing_laws, spans_at}
+use Rattle.xfs_kinds.specs.Lengths.{by_length}
+use Rattle.xfs_space.specs.SpaceLaws.{AllAreFree, free_laws, free_spans, owner_at, owner_laws, owner_number, recorded_runs, sharing_at, sharing_laws, spans_at}
 use Rattle.xfs_space.specs.Sorted.{IsOwned}
 use Rattle.xfs_volume.proofs.First.{first_in}
 use Rattle.xfs_space.proofs.Broken.{each_kept}

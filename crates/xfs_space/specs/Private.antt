@@ -1,4 +1,3 @@
 -- What the contracts of private functions alone cite.
 pub mod Places
-pub mod Ranks
 pub mod RunLaws

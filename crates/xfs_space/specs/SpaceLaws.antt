@@ -9,6 +9,7 @@ use Rattle.xfs_geom.specs.declared.records.Run.{Run}
 use Rattle.xfs_geom.specs.declared.records.Span.{Span}
 use Rattle.xfs_geom.specs.declared.records.RmapRec.{RmapRec}
 use Rattle.xfs_kinds.specs.FreeRuns.{runs_where}
+use Rattle.xfs_kinds.specs.Lengths.{by_length}
 use Rattle.xfs_kinds.specs.MergedRuns.{held_at}
 use Rattle.xfs_volume.specs.declared.findings.Law.{Law}
 use Rattle.xfs_volume.specs.declared.files.FileRec.{FileRec}
@@ -26,19 +27,6 @@ sharing_laws v runs = map (sharing_at runs) (range_with_len 0 v.dblocks)
 -- the maximal runs of the group's blocks that no run has, by AG block
 unfoldable pub free_spans : Volume → List Run → ℕ → List Span
 free_spans v runs ag = runs_where (λ block. runs_on runs (ag * v.agblocks + block) == 0) 0 (group_length v ag)
-
--- a span comes before another by length: it is shorter, or as long and begins before
-abbrev pub is_shorter : Span → Span → Bool
-is_shorter a b = nat_lt a.count b.count || (a.count == b.count && nat_lt a.start b.start)
-
-abbrev pub put_by_length : Span → List Span → List Span
-put_by_length s [] = s ∷ []
-put_by_length s (x ∷ xs) = if is_shorter x s then x ∷ put_by_length s xs else (s ∷ x ∷ xs)
-
--- the spans by length, and among equal lengths by start
-unfoldable pub by_length : List Span → List Span
-by_length [] = []
-by_length (s ∷ ss) = put_by_length s (by_length ss)
 
 abbrev pub span_number : Span → ℕ
 span_number s = s.start * 2 ^ 32 + s.count

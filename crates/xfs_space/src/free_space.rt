@@ -5,15 +5,15 @@ ghost use Rattle.std.specs.List.{All};
 ghost use Rattle.xfs_geom.specs.Volumes.{volume_of};
 ghost use Rattle.xfs_geom.specs.declared.records.Run.{Run};
 ghost use Rattle.xfs_volume.specs.Laws.{first_broken, first_difference};
-ghost use Rattle.xfs_space.specs.SpaceLaws.{by_length, free_laws, free_spans, span_number, spans_at};
+ghost use Rattle.xfs_kinds.specs.Lengths.{by_length};
+ghost use Rattle.xfs_space.specs.SpaceLaws.{free_laws, free_spans, span_number, spans_at};
 ghost use Rattle.xfs_space.specs.Sorted.{Follow, IsOfOneGroup, span_in};
 
-use crate::lengths::by_length;
 use crate::splitting::split_runs;
 use std::alloc::Global;
 use xfs_disk::NoMemory;
 use xfs_geom::{Geometry, Run, Span};
-use xfs_kinds::free_runs;
+use xfs_kinds::{by_length, free_runs};
 use xfs_volume::{GroupRec, Law};
 
 /// Stands for a record that is not there.

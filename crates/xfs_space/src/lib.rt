@@ -15,7 +15,6 @@ mod checking;
 mod differing;
 mod free_space;
 mod holding;
-mod lengths;
 mod owned_files;
 mod owned_groups;
 mod owners;

@@ -6,7 +6,7 @@ use Rattle.std.proofs.lemmas.List.Elements.{All-append, All-cons, All-head, All-
 use Rattle.xfs_options.specs.MakeWords.{Refusal, judged_making, judged_by, label_of, last_from, last_value, make_from, make_line, make_of, make_options}
 use Rattle.xfs_options.specs.Options.{accepts, is_label, row_of}
 use Rattle.xfs_options.specs.SubOptions.{first_bad, items_given}
-use Rattle.xfs_options.specs.Words.{Words, Read, after_form, after_letters, after_option, after_rest, after_row, after_value, after_word, after_words, free_row, is_not_excluded, is_option, options_of, reading_of, finished_reading}
+use Rattle.xfs_options.specs.Words.{Words, Read, after_form, after_letters, after_option, after_rest, after_row, after_value, after_word, after_words, free_row, is_not_excluded, is_option, options_of, reading_of_words, finished_reading}
 use Rattle.xfs_options.specs.Words.Read.{in_options, in_value, in_image, complete, offended}
 use Rattle.xfs_options.specs.declared.make_words.MakeLine.{MakeLine}
 use Rattle.xfs_options.specs.declared.options.OptionRow.{OptionRow}
@@ -121,7 +121,7 @@ settled_sound rows count (offended n) given sound is = cc
 pub options_sound : (rows : List OptionRow) (rest : Words) (given : List Given) → options_of rows rest ≡ Ok given → AreSound rows given
 unfolding options_of
 options_sound rows rest given is =
-    settled_sound rows (length rest + 1) (reading_of rows rest) given (words_sound rows 1 rest (in_options []) (All-nil (IsSound rows))) is
+    settled_sound rows (length rest + 1) (reading_of_words rows rest) given (words_sound rows 1 rest (in_options []) (All-nil (IsSound rows))) is
 
 -- a label, where there is one
 abbrev HasLabel : Option (List ℕ) → Type 0

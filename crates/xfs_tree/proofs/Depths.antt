@@ -4,12 +4,12 @@ use Rattle.std.proofs.lemmas.List.{append-nil, map-id}
 use Rattle.std.proofs.lemmas.List.Concat.{flat_map-append, flat_map_single}
 use Rattle.std.proofs.lemmas.List.Folds.{flat_map-map}
 use Rattle.std.specs.List.{flat_map}
-use Rattle.xfs_disk.specs.Blocks.{Image}
+use Rattle.xfs_disk.specs.Blocks.{Image, bytes_of_block}
 use Rattle.xfs_geom.specs.Volumes.{Volume}
 use Rattle.xfs_tree.specs.declared.seats.Seat.{Seat}
 use Rattle.xfs_tree.specs.Shape.{Shape}
 use Rattle.xfs_tree.specs.Blocks.{records_of, children_of}
-use Rattle.xfs_tree.specs.Reading.{bytes_of_block, places_of, below, blocks_under, records_under, level_row}
+use Rattle.xfs_tree.specs.Reading.{places_of, below, blocks_under, records_under, level_row}
 
 pub flat_map-flat_map : {A B C : Type 0} (f : A → List B) (g : B → List C) (xs : List A)
     → flat_map g (flat_map f xs) ≡ flat_map (λ x. flat_map g (f x)) xs

@@ -2,7 +2,7 @@
 use Rattle.std.proofs.Common.{◌≡◌, ℕ, zero, suc, ◌+◌, ◌-◌, ◌≤◌, ◌++◌, List, [], Option, Some, None, Ok, refl, sym, ◌∙◌, ap, arith}
 use Rattle.std.specs.List.{flat_map}
 use Rattle.xfs_geom.specs.Features.{or_else}
-use Rattle.xfs_disk.specs.Blocks.{Image}
+use Rattle.xfs_disk.specs.Blocks.{Image, bytes_of_block}
 use Rattle.xfs_geom.specs.Volumes.{Volume}
 use Rattle.xfs_tree.specs.declared.seats.Seat.{Seat}
 use Rattle.xfs_tree.specs.declared.tree.TreeFault.{TreeFault}
@@ -10,7 +10,7 @@ use Rattle.xfs_tree.specs.declared.tree.TreeFault.TheVariants as errors
 use Rattle.xfs_tree.specs.declared.unread.Unread.{Unread}
 use Rattle.xfs_tree.specs.Shape.{Shape}
 use Rattle.xfs_tree.specs.Blocks.{records_of}
-use Rattle.xfs_tree.specs.Reading.{Contents, bytes_of_block, places_of, below, unless, level_row, met_above, fault_above, row_fault, records_under, reading}
+use Rattle.xfs_tree.specs.Reading.{Contents, places_of, below, unless, level_row, met_above, fault_above, row_fault, records_under, reading}
 use Rattle.xfs_tree.specs.Answers.{Fails, IsFault}
 use Rattle.xfs_tree.proofs.Depths.{row_next, row_top, records_from}
 

@@ -3,7 +3,7 @@ use Rattle.std.proofs.Common.{◌≡◌, ℕ, ◌+◌, ◌≤◌, ◌<◌, ◌==
 use Rattle.std.specs.List.{flat_map}
 use Rattle.std.proofs.lemmas.Bool.Decides.{nat_tests}
 use Rattle.std.proofs.lemmas.List.{append-nil, drop_more, length-drop, nil_from_length}
-use Rattle.xfs_disk.specs.Blocks.{Image}
+use Rattle.xfs_disk.specs.Blocks.{Image, bytes_of_block}
 use Rattle.xfs_geom.specs.Volumes.{Volume}
 use Rattle.xfs_tree.specs.declared.seats.Seat.{Seat}
 use Rattle.xfs_tree.specs.declared.unread.Unread.{Unread}
@@ -11,7 +11,7 @@ use Rattle.xfs_tree.specs.Shape.{Shape}
 use Rattle.xfs_tree.specs.Rules.{last_of}
 use Rattle.xfs_tree.specs.declared.layout.Layout.{Layout}
 use Rattle.xfs_tree.specs.Blocks.{capacity, records_of}
-use Rattle.xfs_tree.specs.Reading.{bytes_of_block, next_of, places_of, at_block, rule_at, row_fault, behind}
+use Rattle.xfs_tree.specs.Reading.{next_of, places_of, at_block, rule_at, row_fault, behind}
 use Rattle.xfs_tree.proofs.Rest.{grown}
 
 -- a level above the leaves

@@ -1,6 +1,6 @@
 -- What a tree reads as: its records and its blocks, or the first block that breaks a rule, by level from the root and then
 -- from the left (chapter "Common B+trees").
-use Rattle.std.specs.Prelude.{ℕ, zero, suc, ◌+◌, ◌-◌, ◌==◌, if◌then◌else◌, List, [], ◌∷◌, ◌++◌, map, Option, Some, None, Result, Ok, Err, slice_index_or}
+use Rattle.std.specs.Prelude.{ℕ, zero, suc, ◌+◌, ◌-◌, ◌==◌, if◌then◌else◌, List, [], ◌∷◌, ◌++◌, map, Option, Some, None, Result, Ok, Err}
 use Rattle.std.specs.List.{flat_map}
 use Rattle.xfs_geom.specs.Features.{or_else}
 use Rattle.xfs_disk.specs.Blocks.{Image}
@@ -10,10 +10,6 @@ use Rattle.xfs_tree.specs.declared.unread.Unread.{Unread}
 use Rattle.xfs_tree.specs.Shape.{Shape}
 use Rattle.xfs_tree.specs.Blocks.{records_of, children_of}
 use Rattle.xfs_tree.specs.Rules.{last_of, block_fault, place_fault}
-
--- the bytes of a block of an image, none where it is outside
-abbrev pub bytes_of_block : Image → ℕ → List ℕ
-bytes_of_block image block = slice_index_or image block []
 
 -- a root, which no parent states
 abbrev pub root_seat : {K : Type 0} → ℕ → Seat K

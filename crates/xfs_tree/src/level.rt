@@ -7,7 +7,8 @@ ghost use Rattle.xfs_geom.specs.Volumes.{volume_of};
 ghost use Rattle.xfs_tree.specs.Answers.{HasJudged, HasTreeCause, IsMet};
 ghost use Rattle.xfs_disk.specs.Reads.{OnlyReads};
 ghost use Rattle.xfs_tree.specs.Blocks.{capacity, count_of, records_of, children_of};
-ghost use Rattle.xfs_tree.specs.Reading.{bytes_of_block, next_of, places_of, at_block, below, rule_at, row_fault};
+ghost use Rattle.xfs_tree.specs.Reading.{next_of, places_of, at_block, below, rule_at, row_fault};
+ghost use Rattle.xfs_disk.specs.Blocks.{bytes_of_block};
 ghost use Rattle.xfs_tree.specs.Rules.{last_of, place_fault};
 
 use crate::items::{child_at, record_at};

@@ -4,7 +4,7 @@ use Rattle.std.proofs.lemmas.Bool.{and_parts, and_from, not_from_false, or_right
 use Rattle.std.proofs.lemmas.List.{append_assoc}
 use Rattle.std.specs.List.{list_any, AllByRecursion, IsDistinct}
 use Rattle.xfs_geom.specs.Features.{or_else}
-use Rattle.xfs_disk.specs.Blocks.{Image}
+use Rattle.xfs_disk.specs.Blocks.{Image, bytes_of_block}
 use Rattle.xfs_geom.specs.First.{first_false}
 use Rattle.xfs_geom.specs.Volumes.{Volume}
 use Rattle.xfs_tree.specs.declared.seats.Seat.{Seat}
@@ -12,7 +12,7 @@ use Rattle.xfs_tree.specs.declared.unread.Unread.{Unread}
 use Rattle.xfs_tree.specs.Shape.{Shape}
 use Rattle.xfs_tree.specs.Blocks.{level_of, count_of, capacity, left_of, right_of}
 use Rattle.xfs_tree.specs.Rules.{can_hold, block_seal, least_of, is_sibling, is_ordered, agrees, low_of, high_of, block_fault, place_fault}
-use Rattle.xfs_tree.specs.Reading.{bytes_of_block, root_seat, next_of, places_of, at_block, behind, row_fault}
+use Rattle.xfs_tree.specs.Reading.{root_seat, next_of, places_of, at_block, behind, row_fault}
 use Rattle.xfs_treebuild.specs.Packing.{own_seat, run_fault}
 use Rattle.xfs_treebuild.proofs.Apart.{not_met}
 use Rattle.xfs_word.specs.Seal.{is_sealed}

@@ -5,13 +5,13 @@ use Rattle.std.proofs.lemmas.List.Sorted.{All-permutation}
 use Rattle.std.specs.Bool.{IsTrue}
 use Rattle.std.specs.List.{flat_map, All, AllByRecursion, IsDistinct}
 use Rattle.xfs_geom.specs.Features.{or_else}
-use Rattle.xfs_disk.specs.Blocks.{Image}
+use Rattle.xfs_disk.specs.Blocks.{Image, bytes_of_block}
 use Rattle.xfs_geom.specs.Volumes.{Volume}
 use Rattle.xfs_tree.specs.declared.seats.Seat.{Seat}
 use Rattle.xfs_tree.specs.Shape.{Shape}
 use Rattle.xfs_tree.specs.Blocks.{records_of, children_of}
 use Rattle.xfs_tree.specs.Rules.{can_hold}
-use Rattle.xfs_tree.specs.Reading.{Contents, bytes_of_block, root_seat, places_of, unless, level_row, met_above, fault_above, row_fault, records_under, reading}
+use Rattle.xfs_tree.specs.Reading.{Contents, root_seat, places_of, unless, level_row, met_above, fault_above, row_fault, records_under, reading}
 use Rattle.xfs_treebuild.specs.Packing.{own_seats, run_fault, AreRows, AreLevels, top_down, root_of, are_different}
 use Rattle.xfs_treebuild.proofs.Apart.{joined, all_front, all_back, distinct_front, distinct_from_different, turned, distinct_turned, last_row, root_alone}
 use Rattle.xfs_treebuild.proofs.CleanRows.{root_run, row_clean}

@@ -6,14 +6,14 @@ use Rattle.std.proofs.lemmas.Bool.Decides.{nat_tests}
 use Rattle.std.proofs.lemmas.List.{drop_more, drop_all}
 use Rattle.std.proofs.lemmas.Option.{slice_get-get_or}
 use Rattle.std.specs.List.{range_with_len}
-use Rattle.xfs_disk.specs.Blocks.{Image}
+use Rattle.xfs_disk.specs.Blocks.{Image, bytes_of_block}
 use Rattle.xfs_geom.specs.First.{first_false}
 use Rattle.xfs_geom.specs.Volumes.{Volume}
 use Rattle.xfs_tree.specs.declared.unread.Unread.{Unread}
 use Rattle.xfs_tree.specs.Shape.{Shape, IsKind}
 use Rattle.xfs_tree.specs.Blocks.{count_of, capacity, each_of}
 use Rattle.xfs_tree.specs.Rules.{block_fault, least_of, agrees, is_ordered, low_of, high_of}
-use Rattle.xfs_tree.specs.Reading.{bytes_of_block, next_of, at_block, behind}
+use Rattle.xfs_tree.specs.Reading.{next_of, at_block, behind}
 use Rattle.xfs_treebuild.specs.Packing.{own_seat, own_seats, run_fault}
 use Rattle.xfs_treebuild.specs.Private.Placed.{left_in, right_in, IsHeaded, seat_of}
 

@@ -1,15 +1,16 @@
 -- The leaves of a packed tree.
 use Rattle.std.proofs.Common.{◌≡◌, ℕ, ◌+◌, ◌*◌, ◌<◌, ◌≤◌, inl, true, List, length, take, get_or, Option, Some, None, IsTrue, refl, sym, ◌∙◌, ap, subst, arith}
 use Rattle.xfs_disk.specs.Shares.{share_of, first_of_share}
-use Rattle.xfs_disk.specs.Blocks.{Image}
+use Rattle.xfs_disk.specs.Blocks.{Image, bytes_of_block}
 use Rattle.xfs_geom.specs.Volumes.{Volume}
 use Rattle.xfs_tree.specs.Shape.{Shape, IsKind}
 use Rattle.xfs_tree.specs.Blocks.{count_of, record_at, records_of, low_key_at, high_key_at}
 use Rattle.xfs_tree.specs.Rules.{are_lawful, last_of, low_of, block_fault}
-use Rattle.xfs_tree.specs.Reading.{bytes_of_block, behind}
+use Rattle.xfs_tree.specs.Reading.{behind}
 use Rattle.xfs_treebuild.specs.Packing.{own_seat, own_seats, run_fault, AreLeaves}
 use Rattle.xfs_treebuild.specs.Private.Placed.{share_in, left_in, right_in, IsKey, IsLeafAt}
-use Rattle.xfs_treebuild.proofs.PackingShares.{share_inside, share_next, share_most, share_some, shares_all}
+use Rattle.xfs_disk.proofs.Shares.{share_inside, share_next, share_most, share_some}
+use Rattle.xfs_treebuild.proofs.PackingShares.{shares_all}
 use Rattle.xfs_treebuild.proofs.PackingOrder.{last_on, lawful_share, each_lawful, keys_rise}
 use Rattle.xfs_treebuild.proofs.PackingFaults.{first_of_some, block_kept, run_kept}
 use Rattle.xfs_treebuild.proofs.PackingRows.{flat_by, map_by, from_start, share_item, share_count, firsts_up, Before, IsRising, highest_key}

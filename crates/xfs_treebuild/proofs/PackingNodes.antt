@@ -3,16 +3,17 @@ use Rattle.std.proofs.Common.{◌≡◌, ℕ, suc, ◌+◌, ◌*◌, ◌<◌, �
 use Rattle.std.proofs.lemmas.Bool.Decides.{nat_tests}
 use Rattle.std.proofs.lemmas.List.FromFn.{length-map-range_with_len, get_or-map-range_with_len}
 use Rattle.xfs_disk.specs.Shares.{share_of, first_of_share}
-use Rattle.xfs_disk.specs.Blocks.{Image}
+use Rattle.xfs_disk.specs.Blocks.{Image, bytes_of_block}
 use Rattle.xfs_geom.specs.Volumes.{Volume}
 use Rattle.xfs_tree.specs.declared.seats.Seat.{Seat}
 use Rattle.xfs_tree.specs.Shape.{Shape, IsKind}
 use Rattle.xfs_tree.specs.Blocks.{count_of, capacity, each_of, record_at, records_of, low_at, high_at, child_at, children_of, low_key_at, high_key_at, lows_of}
 use Rattle.xfs_tree.specs.Rules.{are_lawful, ascend_behind, last_of, low_of, high_of, block_fault}
-use Rattle.xfs_tree.specs.Reading.{bytes_of_block, behind}
+use Rattle.xfs_tree.specs.Reading.{behind}
 use Rattle.xfs_treebuild.specs.Packing.{own_seat, AreNodes}
 use Rattle.xfs_treebuild.specs.Private.Placed.{share_in, left_in, right_in, seat_of, IsKey, IsNodeAt}
-use Rattle.xfs_treebuild.proofs.PackingShares.{share_inside, share_most, share_some, shares_all}
+use Rattle.xfs_disk.proofs.Shares.{share_inside, share_most, share_some}
+use Rattle.xfs_treebuild.proofs.PackingShares.{shares_all}
 use Rattle.xfs_treebuild.proofs.PackingFaults.{first_of_some, block_kept, run_kept}
 use Rattle.xfs_treebuild.proofs.PackingRows.{flat_by, map_by, from_start, share_item, share_count, firsts_up, Before, IsRising, highest_key, ascend_all}
 

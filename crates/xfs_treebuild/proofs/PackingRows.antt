@@ -10,7 +10,7 @@ use Rattle.xfs_tree.specs.Shape.{Shape}
 use Rattle.xfs_tree.specs.Blocks.{each_of}
 use Rattle.xfs_tree.specs.Rules.{ascend_behind, greater, greatest_with, low_of}
 use Rattle.xfs_treebuild.specs.Private.Placed.{share_in, IsKey, IsChild}
-use Rattle.xfs_treebuild.proofs.PackingShares.{share_inside, share_next, share_some, first_up}
+use Rattle.xfs_disk.proofs.Shares.{share_inside, share_next, share_some, first_up}
 
 -- what each block of a row has, by its place in the row
 pub flat_by : {A B : Type 0} (f : A → List B) (g : ℕ → List B) (d : A) (row : List A) (a : ℕ) → ((k : ℕ) → k < length row → f (get_or row k d) ≡ g (a + k))

@@ -6,14 +6,13 @@ use Rattle.std.proofs.Math.Nat.{mul-le-mul_left, mul_assoc}
 use Rattle.std.proofs.lemmas.Nat.{pow-add}
 use Rattle.std.proofs.lemmas.Bool.{cases_lt}
 use Rattle.std.proofs.lemmas.List.{length-take-le, length-drop, get_or-take, get_or-drop, drop-drop, take_all}
-use Rattle.xfs_disk.specs.Blocks.{Image}
+use Rattle.xfs_disk.specs.Blocks.{Image, bytes_of_block}
 use Rattle.xfs_geom.specs.Volumes.{Volume}
 use Rattle.xfs_tree.specs.declared.seats.Seat.{Seat}
 use Rattle.xfs_tree.specs.Shape.{Shape, IsKind}
 use Rattle.xfs_treebuild.specs.Size.{blocks_for, rows_above, rows_of}
 use Rattle.xfs_tree.specs.Blocks.{each_of, records_of, children_of}
 use Rattle.xfs_tree.specs.Rules.{are_lawful}
-use Rattle.xfs_tree.specs.Reading.{bytes_of_block}
 use Rattle.xfs_treebuild.specs.Packing.{block_of_part, HoldsParts, rows_in, AreLeaves, AreNodes, AreRows, AreLevels, IsPacked}
 use Rattle.xfs_treebuild.specs.Private.Placed.{share_in, seat_of, seats_in, IsLeafAt, IsNodeAt}
 use Rattle.xfs_treebuild.proofs.Rows.{rows_end, rows_next, levels_end}

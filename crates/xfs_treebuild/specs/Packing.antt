@@ -4,7 +4,7 @@ use Rattle.std.specs.Prelude.{◌≡◌, ℕ, suc, ◌+◌, ◌-◌, ◌*◌, �
 use Rattle.std.specs.List.{flat_map, list_any}
 use Rattle.xfs_disk.specs.Shares.{share_of}
 use Rattle.xfs_word.specs.Field.{field_of, part_of}
-use Rattle.xfs_disk.specs.Blocks.{Image}
+use Rattle.xfs_disk.specs.Blocks.{Image, bytes_of_block}
 use Rattle.xfs_geom.specs.Volumes.{Volume}
 use Rattle.xfs_tree.specs.declared.layout.Layout.{Layout}
 use Rattle.xfs_tree.specs.declared.seats.Seat.{Seat}
@@ -12,7 +12,7 @@ use Rattle.xfs_tree.specs.declared.unread.Unread.{Unread}
 use Rattle.xfs_tree.specs.Shape.{Shape}
 use Rattle.xfs_tree.specs.Blocks.{count_of, each_of, records_of, children_of}
 use Rattle.xfs_tree.specs.Rules.{block_fault, low_of, high_of}
-use Rattle.xfs_tree.specs.Reading.{bytes_of_block, next_of, at_block, behind}
+use Rattle.xfs_tree.specs.Reading.{next_of, at_block, behind}
 use Rattle.xfs_treebuild.specs.Size.{rows_of}
 
 abbrev pub shares : ℕ → ℕ → List ℕ

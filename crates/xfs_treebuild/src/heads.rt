@@ -11,7 +11,7 @@ ghost use Rattle.xfs_tree.specs.Rules.{block_seal, can_hold, is_sibling};
 ghost use Rattle.xfs_treebuild.specs.Packing.{lsn_of};
 ghost use Rattle.xfs_treebuild.specs.Private.Placed.{IsHeaded};
 
-use crate::shares::{left_of, right_of};
+use crate::neighbours::{left_of, right_of};
 use xfs_geom::Geometry;
 use xfs_tree::headers::{long, short};
 use xfs_tree::{Kind, Layout, layout_of};

@@ -12,7 +12,7 @@ ghost use Rattle.xfs_treebuild.specs.Private.Placed.{IsLeafAt};
 
 use crate::blocks::{clear_block, put_block};
 use crate::heads::put_head;
-use crate::shares::share_of;
+use xfs_disk::share_of;
 use xfs_geom::Geometry;
 use xfs_tree::{Kind, layout_of};
 

@@ -14,9 +14,9 @@
 mod blocks;
 mod heads;
 mod leaves;
+mod neighbours;
 mod nodes;
 mod packing;
-mod shares;
 mod size;
 
 pub use packing::pack;

@@ -13,7 +13,7 @@ ghost use Rattle.xfs_treebuild.specs.Private.Placed.{IsNodeAt, IsChild, IsKey, s
 
 use crate::blocks::{block_of_part, clear_block, put_block};
 use crate::heads::{pointer_to, put_head};
-use crate::shares::share_of;
+use xfs_disk::share_of;
 use xfs_geom::Geometry;
 use xfs_tree::{Kind, Layout, Seat, high_of, layout_of, low_of};
 use xfs_word::{put32, put64};

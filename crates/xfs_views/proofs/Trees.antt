@@ -4,11 +4,11 @@ use Rattle.std.specs.List.{flat_map, list_all}
 use Rattle.std.proofs.lemmas.Bool.{and_parts, and_from}
 use Rattle.std.proofs.lemmas.List.Folds.{list_all-append}
 use Rattle.xfs_geom.specs.Features.{or_else}
-use Rattle.xfs_disk.specs.Blocks.{Image}
+use Rattle.xfs_disk.specs.Blocks.{Image, bytes_of_block}
 use Rattle.xfs_word.specs.Seal.{is_sealed}
 use Rattle.xfs_geom.specs.Volumes.{Volume}
 use Rattle.xfs_tree.specs.Blocks.{level_of, count_of, capacity, records_of}
-use Rattle.xfs_tree.specs.Reading.{Contents, at_block, behind, bytes_of_block, fault_above, met_above, next_of, places_of, reading, records_under, row_fault, level_row, rule_at, unless}
+use Rattle.xfs_tree.specs.Reading.{Contents, at_block, behind, fault_above, met_above, next_of, places_of, reading, records_under, row_fault, level_row, rule_at, unless}
 use Rattle.xfs_tree.specs.Rules.{are_lawful, block_fault, block_seal, can_hold, is_ordered, last_of, least_of, place_fault}
 use Rattle.xfs_tree.specs.Shape.{Shape}
 use Rattle.xfs_tree.specs.declared.seats.Seat.{Seat}

@@ -4,9 +4,8 @@ use Rattle.std.specs.List.{list_any}
 use Rattle.xfs_word.specs.Seal.{is_sealed}
 use Rattle.xfs_word.specs.declared.kinds.SealKind.TheVariants as Kind
 use Rattle.xfs_word.specs.declared.kinds.SealKind.{SealKind}
-use Rattle.xfs_disk.specs.Blocks.{Image}
+use Rattle.xfs_disk.specs.Blocks.{Image, bytes_of_block}
 use Rattle.xfs_geom.specs.Volumes.{Volume}
-use Rattle.xfs_tree.specs.Reading.{bytes_of_block}
 use Rattle.xfs_image.specs.Candidates.{is_used_slot, has_whole_seal, whole_seal}
 use Rattle.xfs_image.specs.Slots.{inodes_of_block}
 use Rattle.xfs_groups.specs.declared.looking.BlockSeen.{BlockSeen}

@@ -10,7 +10,7 @@ use Rattle.xfs_dirindex.specs.IndexTree.{pairs_of_places, are_members, pairs_bel
 use Rattle.xfs_dirbuild.specs.Index.{IsPointer, IsIndexed, next_at, HoldsIndex}
 use Rattle.xfs_dirbuild.specs.Blocks.{row_block, row_blocks, link_at, index_links, bank_part}
 use Rattle.xfs_dirbuild.proofs.Banks.{put-there, put-beside, put-count}
-use Rattle.xfs_dirbuild.proofs.Shares.{share_next, share_some, share_most}
+use Rattle.xfs_disk.proofs.Shares.{share_next, share_some, share_most}
 use Rattle.xfs_dirbuild.proofs.Magics.{indexed, next-small, indexed-more}
 use Rattle.xfs_dirbuild.proofs.Rows.{places-more, places-none, holds-part}
 use Rattle.xfs_dirbuild.proofs.RowSteps.{share-long, IsWritten, seen, row-members, row-below, share-is, link-is, block-is, links-more}
@@ -38,12 +38,12 @@ loop-i-init c =
 pub put_index-requires-clause-most : goal.put_index-requires-clause-most
 put_index-requires-clause-most c =
     let pairs = c.args.pairs.now in
-    let long = share-long pairs c.args.count c.loop-i.i c.loop-i.start c.share_of-share.result c.loop-i.invariant.start_is c.share_of-share.ensures c.loop-i-test.true in
-    omega (arith, long, share_most (length pairs) c.args.count c.loop-i.i 504 c.loop-i-test.true c.requires.fit, c.share_of-share.ensures)
+    let long = share-long pairs c.args.count c.loop-i.i c.loop-i.start c.share_of-share.result c.loop-i.invariant.start_is c.share_of-share.ensures.value c.loop-i-test.true in
+    omega (arith, long, share_most (length pairs) c.args.count c.loop-i.i 504 c.loop-i-test.true c.requires.fit, c.share_of-share.ensures.value)
 
 pub link_to-requires-clause-most : goal.link_to-requires-clause-most
 link_to-requires-clause-most c =
-    omega (arith, share_most (length c.args.pairs.now) c.args.count c.loop-i.i 504 c.loop-i-test.true c.requires.fit, c.share_of-share.ensures)
+    omega (arith, share_most (length c.args.pairs.now) c.args.count c.loop-i.i 504 c.loop-i-test.true c.requires.fit, c.share_of-share.ensures.value)
 
 pub loop-i-preserved : goal.loop-i-preserved
 loop-i-preserved c =
@@ -61,7 +61,7 @@ loop-i-preserved c =
     let at = c.args.base + c.args.first + i in
     let inside : i < m = c.loop-i-test.true in
     let start_is : start ≡ first_of_share (length c.args.pairs.now) c.args.count c.loop-i.i = c.loop-i.invariant.start_is in
-    let share_is : share ≡ share_of (length c.args.pairs.now) c.args.count c.loop-i.i = c.share_of-share.ensures in
+    let share_is : share ≡ share_of (length c.args.pairs.now) c.args.count c.loop-i.i = c.share_of-share.ensures.value in
     let long = share-long pairs m i start share start_is share_is inside in
     let here = share-is pairs m i start share start_is share_is in
     let some = share_some n m i c.requires.some c.requires.enough in

@@ -3,7 +3,7 @@ use Rattle.std.specs.List.{list_any, range_with_len}
 use Rattle.xfs_geom.specs.Conversions.{inode_of}
 use Rattle.xfs_geom.specs.Volumes.{volume_of}
 use Rattle.xfs_image.specs.Candidates.{is_used_slot}
-use Rattle.xfs_tree.specs.Reading.{bytes_of_block}
+use Rattle.xfs_disk.specs.Blocks.{bytes_of_block}
 use Rattle.xfs_groups.proofs.looking.is_any_used.Given as goal
 
 abbrev pub invariant-loop-slot : goal.invariant-loop-slot

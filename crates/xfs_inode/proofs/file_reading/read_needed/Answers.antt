@@ -1,7 +1,7 @@
 use Rattle.std.proofs.Common.{◌∙◌, ap, option_map}
 use Rattle.xfs_geom.specs.Volumes.{volume_of}
 use Rattle.xfs_disk.proofs.Reading.{reads_on}
-use Rattle.xfs_tree.specs.Reading.{bytes_of_block}
+use Rattle.xfs_disk.specs.Blocks.{bytes_of_block}
 use Rattle.xfs_inode.specs.Files.{contents_of}
 use Rattle.xfs_inode.specs.Named.{named_top}
 use Rattle.xfs_inode.proofs.NamedBlocks.{all_named, named_bytes, named_tree}

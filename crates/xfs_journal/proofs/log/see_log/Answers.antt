@@ -1,7 +1,7 @@
 use Rattle.std.proofs.Common.{◌++◌, ap, sym, ◌∙◌, arith, rules}
 use Rattle.std.specs.List.{range_with_len}
 use Rattle.xfs_tree.specs.Blocks.{each_of}
-use Rattle.xfs_tree.specs.Reading.{bytes_of_block}
+use Rattle.xfs_disk.specs.Blocks.{bytes_of_block}
 use Rattle.xfs_journal.specs.Placed.{seen_in}
 use Rattle.xfs_journal.proofs.Listing.{held_next, held_to_end}
 use Rattle.xfs_journal.proofs.LogSeen.{all_seen}

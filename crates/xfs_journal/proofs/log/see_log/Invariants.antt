@@ -3,7 +3,7 @@ use Rattle.std.specs.List.{flat_map, range_with_len}
 use Rattle.std.specs.Option.{ForSome}
 use Rattle.xfs_disk.specs.Reads.{OnlyReads}
 use Rattle.xfs_tree.specs.Blocks.{each_of}
-use Rattle.xfs_tree.specs.Reading.{bytes_of_block}
+use Rattle.xfs_disk.specs.Blocks.{bytes_of_block}
 use Rattle.xfs_journal.specs.Placed.{seen_in}
 use Rattle.xfs_journal.proofs.log.see_log.Given as goal
 

@@ -3,7 +3,7 @@ use Rattle.std.proofs.Common.{ℕ, ◌≤◌, List, length, arith, refl, ap, ◌
 use Rattle.std.specs.List.{list_any}
 use Rattle.std.proofs.lemmas.List.{take_all}
 use Rattle.xfs_disk.proofs.Reading.{reads_none, reads_on}
-use Rattle.xfs_tree.specs.Reading.{bytes_of_block}
+use Rattle.xfs_disk.specs.Blocks.{bytes_of_block}
 use Rattle.xfs_mkfs.specs.Marks.{bears}
 use Rattle.xfs_mkfs.proofs.Marking.{block_bytes, one_more, reads_more}
 use Rattle.xfs_mkfs.proofs.marks.look_at.Goals as goal

@@ -1,5 +1,6 @@
 use Rattle.std.proofs.Common.{◌≡◌, ℕ, ◌<◌, List, length, get_or, ◌∙◌, sym, subst, arith}
-use Rattle.xfs_naming.specs.Naming.{NumbersAscend, with_number}
+use Rattle.xfs_naming.specs.Naming.{NumbersAscend}
+use Rattle.xfs_disk.specs.Lists.{with_number}
 use Rattle.xfs_naming.specs.Ordered.{IsPlaceFor}
 use Rattle.xfs_naming.proofs.Ascending.{ascend_with, already, placed}
 use Rattle.xfs_naming.proofs.numbering.with_number.Goals as goal

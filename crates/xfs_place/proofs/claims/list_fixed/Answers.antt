@@ -3,7 +3,7 @@ use Rattle.std.proofs.lemmas.List.FromFn.{map-range_with_len_more}
 use Rattle.xfs_kinds.specs.Owners.{headers_owner}
 use Rattle.xfs_geom.specs.Volumes.{volume_of}
 use Rattle.xfs_geom.specs.declared.records.Run.{Run}
-use Rattle.xfs_place.specs.Wanted.{header_run, log_run}
+use Rattle.xfs_kinds.specs.FixedRuns.{header_run, log_run}
 use Rattle.xfs_place.proofs.claims.list_fixed.Goals as goal
 
 pub loop-ag-preserved : goal.loop-ag-preserved

@@ -5,7 +5,9 @@ use Rattle.xfs_geom.specs.declared.records.Run.{Run}
 use Rattle.xfs_geom.specs.declared.records.Span.{Span}
 use Rattle.xfs_kinds.specs.MergedRuns.{held_at}
 use Rattle.xfs_place.specs.Choice.{AreLowest, Group, IsPlacingGroup, group_claimed, space_blocks}
-use Rattle.xfs_place.specs.Placing.{AreByLength, AreOwned, cut, inner_blocks, tree_blocks_at}
+use Rattle.std.specs.List.Sorted.{IsPermutation}
+use Rattle.xfs_place.proofs.ByLength.{by_length_is}
+use Rattle.xfs_place.specs.Placing.{AreOwned, cut, inner_blocks, tree_blocks_at}
 use Rattle.xfs_place.proofs.Filled.{is_placed}
 use Rattle.xfs_place.proofs.group_placing.fill_group.Goals as goal
 
@@ -48,7 +50,8 @@ returns c = λ chosen.
     (λ b low none. c.in_ok-bno.ensures.held b low (ap (λ (rs : List Run). held_at rs b) runs ∙ none))
     (λ b free. let so = c.in_ok-bno.ensures.taken b free in (so.0, sym (ap (λ (rs : List Run). held_at rs b) runs) ∙ so.1))
     c.in_ok-bno.ensures.separate
-    (subst (λ (ss : List Span). AreByLength ss c.in_ok-cnt.cnt.items) c.deref-4.ensures.value c.in_ok-cnt.ensures)
+    (by_length_is c.in_ok-bno.bno.items c.in_ok-cnt.cnt.items c.in_ok-bno.ensures.separate
+    (subst (λ (ss : List Span). IsPermutation ss c.in_ok-cnt.cnt.items) c.deref-4.ensures.value c.in_ok-cnt.ensures.moved) c.in_ok-cnt.ensures.sorted)
     c.requires.free c.in_ok-rmap.ensures.claims (λ b. c.in_ok-rmap.ensures.held b ∙ ap (λ (rs : List Run). held_at rs b) again) c.in_ok-rmap.ensures.apart
     c.len.result c.len-2.result c.len-3.result (omega (arith, c.len.ensures, c.in_ok-bno.bno.ok.0)) (omega (arith, c.len-2.ensures, c.args.fino.ok.0)) (omega (arith, c.len-3.ensures, c.in_ok-rmap.rmap.ok.0))
     c.list_sizes-sizes.result c.list_sizes-sizes.ensures.sizes

@@ -3,7 +3,7 @@ use Rattle.std.proofs.lemmas.List.{drop_all}
 use Rattle.xfs_geom.specs.Volumes.{volume_of}
 use Rattle.xfs_place.specs.declared.faults.Unplaced.{Unplaced}
 use Rattle.xfs_place.specs.declared.wanted.RunAsk.{RunAsk}
-use Rattle.xfs_place.specs.Objects.{AreCuts, asks_of}
+use Rattle.xfs_place.specs.Objects.{ServeAsks, asks_of}
 use Rattle.xfs_place.proofs.Pieces.{asks_more, first_stays, objects_end, objects_next, objects_stop}
 use Rattle.xfs_place.proofs.object_placing.keep_with.Goals as goal
 
@@ -33,7 +33,7 @@ loop-object-preserved c =
       long = omega (arith, l.invariant.long, c.in_ok-put_object.ensures.long);
       kept' = c.in_ok-put_object.ensures.kept;
       pool' = c.in_ok-put_object.ensures.pool;
-      cuts' = subst (λ (asks : List RunAsk). AreCuts asks c.put_object.new.cuts.items (drop c.len-first.result now)) (sym (asks_more c.args.objects.now l.object-index o c.loop-object-test.true c.object-item.is))
+      cuts' = subst (λ (asks : List RunAsk). ServeAsks asks c.put_object.new.cuts.items (drop c.len-first.result now)) (sym (asks_more c.args.objects.now l.object-index o c.loop-object-test.true c.object-item.is))
           (c.in_ok-put_object.ensures.cuts c.if-not-branch.false (asks_of (take l.object-index c.args.objects.now)) l.invariant.cuts');
     }
 

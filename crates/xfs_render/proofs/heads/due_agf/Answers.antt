@@ -1,6 +1,6 @@
 use Rattle.std.proofs.Common.{arith, length, ap, ◌≡◌}
 use Rattle.xfs_geom.specs.Volumes.{volume_of}
-use Rattle.xfs_render.specs.Counters.{span_blocks}
+use Rattle.xfs_geom.specs.Sums.{free_blocks}
 use Rattle.xfs_render.proofs.Sums.{free_small, space_trees}
 use Rattle.xfs_render.proofs.heads.due_agf.Goals as goal
 
@@ -13,11 +13,11 @@ root_in-requires-2-clause-some c = (space_trees _ _ _ _ c.requires.sound).1
 pub root_in-requires-3-clause-some : goal.root_in-requires-3-clause-some
 root_in-requires-3-clause-some c = (space_trees _ _ _ _ c.requires.sound).2
 
-pub span_blocks-requires : goal.span_blocks-requires
-span_blocks-requires c =
+pub overflow_cast-free : goal.overflow_cast-free
+overflow_cast-free c =
     let small = free_small (volume_of c.args.g.now) c.args.ag c.args.placed.now.bno c.requires.sound.bno.lawful in
-    let same : span_blocks c.as_slice-5.result.now ≡ span_blocks c.args.placed.now.bno = ap span_blocks c.as_slice-5.ensures in
-    omega (arith, small, same, c.group_length.ensures.value, c.group_length.type_inv)
+    let same : free_blocks c.as_slice-5.result.now ≡ free_blocks c.args.placed.now.bno = ap free_blocks c.as_slice-5.ensures in
+    omega (arith, small, same, c.free_blocks-free.ensures.value, c.group_length.ensures.value, c.group_length.type_inv)
 
 pub overflow_sub-result : goal.overflow_sub-result
 overflow_sub-result c =

@@ -3,7 +3,7 @@ use Rattle.std.specs.List.{range_with_len}
 use Rattle.std.proofs.lemmas.Bool.{cases_lt}
 use Rattle.xfs_heads.specs.Log.{state_of}
 use Rattle.xfs_heads.proofs.BlankIsClean.{blank_is_clean}
-use Rattle.xfs_tree.specs.Reading.{bytes_of_block}
+use Rattle.xfs_disk.specs.Blocks.{bytes_of_block}
 use Rattle.xfs_render.specs.Drafts.{Adds}
 use Rattle.xfs_render.specs.Logs.{IsBlankBlock}
 use Rattle.xfs_render.proofs.DraftSteps.{adds_then, held_one}

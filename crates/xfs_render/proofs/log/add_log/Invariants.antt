@@ -1,7 +1,6 @@
 use Rattle.std.proofs.Common.{ℕ, ◌+◌, ◌<◌}
 use Rattle.std.specs.List.{range_with_len}
-use Rattle.xfs_disk.specs.Blocks.{Image}
-use Rattle.xfs_tree.specs.Reading.{bytes_of_block}
+use Rattle.xfs_disk.specs.Blocks.{Image, bytes_of_block}
 use Rattle.xfs_render.specs.Drafts.{Adds, HoldsDraft}
 use Rattle.xfs_render.specs.Logs.{IsBlankBlock}
 use Rattle.xfs_render.proofs.log.add_log.Given as goal

@@ -4,7 +4,7 @@ use Rattle.xfs_kinds.specs.Owners.{headers_owner}
 use Rattle.xfs_geom.specs.Volumes.{volume_of}
 use Rattle.xfs_geom.specs.declared.records.Run.{Run}
 use Rattle.xfs_space.specs.Owners.{run}
-use Rattle.xfs_protected.specs.Claimed.{header_run, log_run}
+use Rattle.xfs_kinds.specs.FixedRuns.{header_run, log_run}
 use Rattle.xfs_salvage.proofs.claiming.fixed_runs.Goals as goal
 
 pub loop-ag-preserved : goal.loop-ag-preserved

@@ -1,7 +1,7 @@
 use Rattle.std.proofs.Common.{◌≡◌, ◌∷◌, map}
 use Rattle.std.specs.List.{range_with_len}
 use Rattle.xfs_geom.specs.Volumes.{volume_of}
-use Rattle.xfs_protected.specs.Claimed.{header_run, log_run}
+use Rattle.xfs_kinds.specs.FixedRuns.{header_run, log_run}
 use Rattle.xfs_salvage.proofs.claiming.fixed_runs.Given as goal
 
 abbrev pub invariant-loop-ag : goal.invariant-loop-ag

@@ -4,7 +4,7 @@ use Rattle.xfs_claims.specs.declared.claimants.Claims.{Claims}
 use Rattle.xfs_claims.specs.Keeping.{kept_of}
 use Rattle.xfs_protected.specs.Claimed.{claims_in}
 use Rattle.xfs_salvage.specs.Claimable.{CanBeSalvaged}
-use Rattle.xfs_salvage.specs.Kept.{held_in}
+use Rattle.xfs_salvage.specs.Kept.{claims_held}
 use Rattle.xfs_salvage.proofs.Ascending.{files_ascend_if}
 use Rattle.xfs_salvage.proofs.Conditions.{ready, some_says}
 use Rattle.xfs_salvage.proofs.keeping.held.Goals as goal
@@ -34,14 +34,14 @@ keep-requires-clause-files_claim g c κs within =
     (ready c.args.g.now c.args.clusters.now c.args.files.now c.in-Some.claims c.in_ok-claims.field-0 c.in-Some.is c.in_ok-claims.ensures).files_can
 
 pub returns-in-Some-clause-clusters : goal.returns-in-Some-clause-clusters
-unfolding held_in
+unfolding claims_held
 returns-in-Some-clause-clusters g c =
     let v = volume_of c.args.g.now in
     let is = (some_says (CanBeSalvaged v c.args.clusters.now c.args.files.now) (claims_in v c.args.clusters.now c.args.files.now) c.in-Some.claims c.in_ok-claims.field-0 c.in-Some.is c.in_ok-claims.ensures).1 in
     subst (λ (x : Claims). IfOk c.keep.result (λ kept. kept.clusters ≡ (kept_of x).clusters)) is c.keep.ensures.clusters
 
 pub returns-in-Some-clause-files : goal.returns-in-Some-clause-files
-unfolding held_in
+unfolding claims_held
 returns-in-Some-clause-files g c =
     let v = volume_of c.args.g.now in
     let is = (some_says (CanBeSalvaged v c.args.clusters.now c.args.files.now) (claims_in v c.args.clusters.now c.args.files.now) c.in-Some.claims c.in_ok-claims.field-0 c.in-Some.is c.in_ok-claims.ensures).1 in

@@ -1,7 +1,8 @@
 use Rattle.std.proofs.Common.{ℕ, List, [], Option, None, ◌∙◌, ap}
 use Rattle.std.proofs.lemmas.Option.{get_or_from_slice_get}
 use Rattle.xfs_geom.specs.Volumes.{volume_of}
-use Rattle.xfs_tree.specs.Reading.{bytes_of_block, at_block}
+use Rattle.xfs_tree.specs.Reading.{at_block}
+use Rattle.xfs_disk.specs.Blocks.{bytes_of_block}
 use Rattle.xfs_tree.specs.Rules.{block_fault}
 use Rattle.xfs_disk.proofs.Reading.{reads_none}
 use Rattle.xfs_tree.proofs.Judged.{place_judged, bytes_judged}

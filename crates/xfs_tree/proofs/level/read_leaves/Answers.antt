@@ -1,7 +1,7 @@
 use Rattle.std.proofs.Common.{rules, ◌≡◌, ◌+◌, ◌∷◌, drop, None, sym, ◌∙◌, ap, arith}
 use Rattle.xfs_geom.specs.Volumes.{volume_of}
 use Rattle.xfs_tree.specs.declared.seats.Seat.{Seat}
-use Rattle.xfs_tree.specs.Reading.{bytes_of_block}
+use Rattle.xfs_disk.specs.Blocks.{bytes_of_block}
 use Rattle.xfs_tree.specs.Rules.{last_of}
 use Rattle.xfs_tree.specs.Blocks.{records_of}
 use Rattle.xfs_tree.proofs.Causes.{caused_before, fault_of_row}

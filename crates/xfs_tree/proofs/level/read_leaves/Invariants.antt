@@ -5,7 +5,8 @@ use Rattle.xfs_geom.specs.Volumes.{volume_of}
 use Rattle.xfs_tree.specs.Answers.{IsMet}
 use Rattle.xfs_disk.specs.Reads.{OnlyReads}
 use Rattle.xfs_tree.specs.Blocks.{records_of}
-use Rattle.xfs_tree.specs.Reading.{bytes_of_block, places_of, row_fault}
+use Rattle.xfs_tree.specs.Reading.{places_of, row_fault}
+use Rattle.xfs_disk.specs.Blocks.{bytes_of_block}
 use Rattle.xfs_tree.proofs.level.read_leaves.Given as goal
 
 abbrev pub invariant-loop-i : goal.invariant-loop-i

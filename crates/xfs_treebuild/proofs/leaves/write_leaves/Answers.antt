@@ -6,7 +6,7 @@ use Rattle.xfs_tree.specs.Layout.{header_len}
 use Rattle.xfs_treebuild.specs.Private.Placed.{IsLeafAt}
 use Rattle.xfs_treebuild.proofs.PackingExact.{leaf_exact, share_length}
 use Rattle.xfs_treebuild.proofs.PackingMade.{leaf_made, next_more}
-use Rattle.xfs_treebuild.proofs.PackingShares.{share_most}
+use Rattle.xfs_disk.proofs.Shares.{share_most}
 use Rattle.xfs_treebuild.proofs.leaves.write_leaves.Goals as goal
 
 pub loop-i-preserved : goal.loop-i-preserved

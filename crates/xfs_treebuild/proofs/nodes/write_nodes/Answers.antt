@@ -5,7 +5,7 @@ use Rattle.xfs_treebuild.specs.Private.Placed.{IsNodeAt, seats_in}
 use Rattle.xfs_treebuild.specs.Exact.{KeepsBesideChildren}
 use Rattle.xfs_treebuild.proofs.PackingExact.{node_exact, share_length}
 use Rattle.xfs_treebuild.proofs.PackingMade.{children_here, node_made, node_room, one_more}
-use Rattle.xfs_treebuild.proofs.PackingShares.{share_most}
+use Rattle.xfs_disk.proofs.Shares.{share_most}
 use Rattle.xfs_treebuild.proofs.nodes.write_nodes.Goals as goal
 
 pub put_children-requires-clause-children : goal.put_children-requires-clause-children

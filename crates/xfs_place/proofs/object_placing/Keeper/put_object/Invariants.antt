@@ -1,7 +1,7 @@
 use Rattle.std.proofs.Common.{◌≡◌, ◌≤◌, ◌++◌, List, length, take, drop}
 use Rattle.xfs_geom.specs.Volumes.{volume_of}
 use Rattle.xfs_place.specs.Finding.{IsOpen}
-use Rattle.xfs_place.specs.Objects.{AreCuts, keep_asks}
+use Rattle.xfs_place.specs.Objects.{ServeAsks, keep_asks}
 use Rattle.xfs_place.specs.Wanted.{CanBeKept}
 use Rattle.xfs_place.specs.declared.wanted.RunAsk.{RunAsk}
 use Rattle.xfs_place.proofs.object_placing.Keeper.put_object.Given as goal
@@ -14,6 +14,6 @@ invariant-loop-i l = record {
   long : length l.fn.self.all.items ≤ length l.self.all.items;
   kept : CanBeKept (volume_of l.site.geometry.now) l.self.all.items;
   pool' : IsOpen (volume_of l.site.geometry.now) l.self.all.items l.site.reserved.now l.site.from l.self.pool;
-  cuts' : (asks : List RunAsk) → AreCuts asks l.fn.cuts.items (drop l.first l.fn.self.all.items)
-      → AreCuts (asks ++ take l.i l.asks) l.cuts.items (drop l.first l.self.all.items);
+  cuts' : (asks : List RunAsk) → ServeAsks asks l.fn.cuts.items (drop l.first l.fn.self.all.items)
+      → ServeAsks (asks ++ take l.i l.asks) l.cuts.items (drop l.first l.self.all.items);
 }

@@ -1,5 +1,0 @@
-use Rattle.xfs_space.proofs.ByLength.{ranked_from_sort}
-use Rattle.xfs_space.proofs.lengths.ranked.Goals as goal
-
-pub returns-clause-ranked : goal.returns-clause-ranked
-returns-clause-ranked c = ranked_from_sort c.sort.new.self.items c.in_ok-sort.ensures.sorted
