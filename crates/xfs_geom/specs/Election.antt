@@ -3,7 +3,7 @@
 use Rattle.std.specs.Prelude.{ℕ, ◌-◌, ◌&&◌, ◌==◌, nat_le, Bool, if◌then◌else◌, List, [], ◌∷◌, length, take, bytes_eq, Option, Some, None, is_none, Result, Ok, Err}
 use Rattle.std.specs.List.{count_by, find, flat_map, list_all, range_with_len}
 use Rattle.std.specs.Option.{ok_or}
-use Rattle.xfs_disk.specs.Blocks.{Image}
+use Rattle.xfs_disk.specs.Blocks.{Image, bytes_of_block}
 use Rattle.xfs_geom.specs.Superblocks.{super_fault}
 use Rattle.xfs_geom.specs.Volumes.{Volume, stated_volume}
 use Rattle.xfs_geom.specs.declared.election.ElectFault.{ElectFault}

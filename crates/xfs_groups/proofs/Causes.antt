@@ -1,8 +1,19 @@
 -- The causes of what is answered after several readings.
-use Rattle.std.proofs.Common.{ℕ, ◌≤◌, arith}
+use Rattle.std.proofs.Common.{ℕ, ◌≡◌, ◌+◌, ◌≤◌, arith}
 use Rattle.xfs_groups.specs.Answers.{IsGroupsCause}
 use Rattle.xfs_groups.specs.declared.faults.GroupsFault.{GroupsFault}
 use Rattle.xfs_groups.specs.declared.faults.GroupsFault.TheVariants as faults
+
+-- a count that stays has not fallen
+pub no_later : (a : ℕ) → a ≤ a
+no_later a = omega arith
+
+-- a count that is raised by one at most
+pub at_most : (a b : ℕ) → a ≡ b → a ≤ b
+at_most a b same = omega (arith, same)
+
+pub below_next : (a : ℕ) → a ≤ a + 1
+below_next a = omega arith
 
 -- a count that has not fallen twice
 pub later : (a b c : ℕ) → a ≤ b → b ≤ c → a ≤ c

@@ -1,5 +1,5 @@
 -- One cluster more whose slots are read, or one block more on which nothing new is placed.
-use Rattle.std.proofs.Common.{◌≡◌, ℕ, zero, suc, Bool, true, false, ◌+◌, ◌||◌, if◌then◌else◌, List, [], ◌∷◌, ◌++◌, append_assoc, refl, sym, ap, ap₂, ◌∙◌, subst, arith}
+use Rattle.std.proofs.Common.{◌≡◌, ℕ, zero, suc, Bool, true, false, ◌+◌, ◌*◌, ◌/◌, ◌%◌, ◌||◌, if◌then◌else◌, List, [], ◌∷◌, ◌++◌, append_assoc, refl, sym, ap, ap₂, ◌∙◌, subst, arith}
 use Rattle.std.specs.List.{filter, range_with_len}
 use Rattle.std.proofs.lemmas.List.Elements.{filter-append, filter_agree}
 use Rattle.xfs_disk.specs.Lists.{is_among}
@@ -66,6 +66,16 @@ withheld_then v image trusted held a m b n total old new at sum was more =
     ∙ (ap (λ (k : ℕ). filter p (range_with_len a m) ++ filter p (range_with_len k n)) at
     ∙ (sym (filter-append p (range_with_len a m) (range_with_len (a + m) n))
     ∙ ap (filter p) (sym (range_split a m n) ∙ ap (range_with_len a) (sym sum)))))
+
+-- one cluster more, and the blocks behind the last whole one
+pub four_more : (i : ℕ) → 4 * (i + 1) ≡ 4 * i + 4
+four_more i = omega arith
+
+pub at_rest : (start i n : ℕ) → i ≡ n → start + n * 4 ≡ start + 4 * i
+at_rest start i n last = omega (arith, last)
+
+pub in_fours : (i blocks : ℕ) → i ≡ blocks / 4 → blocks ≡ 4 * i + blocks % 4
+in_fours i blocks last = omega (arith, last)
 
 or_nothing : (x : Bool) → x ≡ (x || false)
 or_nothing true = refl

@@ -23,6 +23,7 @@ use Rattle.xfs_groups.specs.Private.Chosen.{IsToldOfGroup, are_clear, are_used, 
 use Rattle.xfs_groups.specs.Private.Looking.{has_used, is_naming}
 use Rattle.xfs_groups.specs.Named.{chunks_in, owners_in}
 use Rattle.xfs_groups.specs.Private.Parts.{group_with}
+use Rattle.xfs_groups.specs.Private.ReadGroups.{ArePartsRead, IsToldIn}
 use Rattle.xfs_groups.proofs.Lengths.{of_group}
 use Rattle.xfs_groups.specs.declared.heads.Heads.{Heads}
 use Rattle.xfs_groups.specs.declared.one_group.Told.{Told}
@@ -38,17 +39,7 @@ part_same {A = A} {B = B} ag part o due f g same next = ap (λ (x : Option A). w
     by_case (Some a) next = next a refl
 
 -- headers and trees that read so make up the group
-pub record ReadSo (v : Volume) (image : Image) (ag : ℕ) (h : Heads) (t : Trees) : Type 0 where
-  pub agf : h.agf ≡ agf_at v image ag
-  pub agi : h.agi ≡ agi_at v image ag
-  pub agfl : h.agfl ≡ option_and_then (agfl_at v image ag) h.agf
-  pub bno : t.bno ≡ option_and_then (bno_at v image ag) h.agf
-  pub cnt : t.cnt ≡ option_and_then (cnt_at v image ag) h.agf
-  pub ino : t.ino ≡ option_and_then (ino_at v image ag) h.agi
-  pub fino : t.fino ≡ option_and_then (fino_at v image ag) h.agi
-  pub rmap : t.rmap ≡ option_and_then (rmap_at v image ag) h.agf
-
-pub group_is : (v : Volume) (image : Image) (ag : ℕ) (h : Heads) (t : Trees) → ReadSo v image ag h t → group_with ag h t ≡ group_read v image ag
+pub group_is : (v : Volume) (image : Image) (ag : ℕ) (h : Heads) (t : Trees) → ArePartsRead v image ag h t → group_with ag h t ≡ group_read v image ag
 unfolding group_read
 group_is v image ag h t so =
     part_same ag 1 h.agf (agf_at v image ag) _ _ so.agf (λ agf is.
@@ -62,15 +53,7 @@ group_is v image ag h t so =
     part_same ag 7 t.fino (fino_at v image ag agi) _ _ (so.fino ∙ ap (option_and_then (fino_at v image ag)) agi_is) (λ fino read.
     part_same ag 8 t.rmap (rmap_at v image ag agf) _ _ (so.rmap ∙ ap (option_and_then (rmap_at v image ag)) agf_is) (λ rmap read. refl))))))))
 
--- what is told of a group is what its trees say in an image
-pub record ToldSo (v : Volume) (image : Image) (ag : ℕ) (told : Told) : Type 0 where
-  pub trusted : told.trusted ≡ is_trusted v image ag
-  pub named : (q : ℕ) → is_among told.named q ≡ (names (named_by_chunks v image ag) q || names (named_by_owners v image ag) q)
-  pub held : (q : ℕ) → is_among told.held q
-      ≡ (is_of_tree (option_and_then (ino_at v image ag) (agi_at v image ag)) q || is_of_tree (option_and_then (rmap_at v image ag) (agf_at v image ag)) q
-      || is_of_named (named_by_chunks v image ag) q || is_of_named (named_by_owners v image ag) q)
-
-pub told_so : (v : Volume) (image : Image) (ag : ℕ) (h : Heads) (t : Trees) (told : Told) → ReadSo v image ag h t → IsToldOfGroup v ag t told → ToldSo v image ag told
+pub told_so : (v : Volume) (image : Image) (ag : ℕ) (h : Heads) (t : Trees) (told : Told) → ArePartsRead v image ag h t → IsToldOfGroup v ag t told → IsToldIn v image ag told
 unfolding is_trusted named_by_chunks named_by_owners
 told_so v image ag h t told so is =
     let ino : t.ino ≡ option_and_then (ino_at v image ag) (agi_at v image ag) = so.ino ∙ ap (option_and_then (ino_at v image ag)) so.agi in
@@ -125,7 +108,7 @@ used_are : (v : Volume) (image : Image) (cluster : ℕ) → are_used v image clu
 unfolding cluster_inodes
 used_are v image cluster = sym (any_flat (is_used_slot v image) (inodes_of_block v) (cluster_blocks cluster))
 
-chosen_is : (v : Volume) (image : Image) (ag : ℕ) (told : Told) (cluster : ℕ) → ToldSo v image ag told → cluster / v.agblocks ≡ ag
+chosen_is : (v : Volume) (image : Image) (ag : ℕ) (told : Told) (cluster : ℕ) → IsToldIn v image ag told → cluster / v.agblocks ≡ ag
     → is_chosen v image told.trusted told.named cluster ≡ is_candidate v image cluster
 unfolding is_candidate is_recorded is_scanned
 chosen_is v image ag told cluster so of =
@@ -139,7 +122,7 @@ chosen_is v image ag told cluster so of =
     ∙ ap (λ (n : ℕ). r || ((((r || names (named_by_chunks v image n) cluster) || names (named_by_owners v image n) cluster)
     || (not (is_trusted v image n) && list_any (is_used_slot v image) (cluster_inodes v cluster))) && l && c)) (sym of))
 
-rec_is : (v : Volume) (image : Image) (ag : ℕ) (told : Told) (cluster : ℕ) → ToldSo v image ag told → cluster / v.agblocks ≡ ag
+rec_is : (v : Volume) (image : Image) (ag : ℕ) (told : Told) (cluster : ℕ) → IsToldIn v image ag told → cluster / v.agblocks ≡ ag
     → chosen_rec v told.named cluster ≡ cluster_rec v image cluster
 unfolding is_recorded
 rec_is v image ag told cluster so of =
@@ -153,7 +136,7 @@ rec_is v image ag told cluster so of =
     rec_of cluster recorded = record { block = cluster; recorded = recorded }
 
 -- the clusters of a group whose slots are read
-pub candidates_are : (v : Volume) (image : Image) (ag : ℕ) (told : Told) → ToldSo v image ag told → group_length v ag ≤ v.agblocks
+pub candidates_are : (v : Volume) (image : Image) (ag : ℕ) (told : Told) → IsToldIn v image ag told → group_length v ag ≤ v.agblocks
     → chosen v image told.trusted told.named ag (group_length v ag / 4) ≡ candidates_in v image ag
 unfolding chosen candidates_in
 candidates_are v image ag told so short =
@@ -165,7 +148,7 @@ candidates_are v image ag told so short =
     (λ i low high. rec_is v image ag told (cluster_place v ag i) so (inside i high))
     ∙ ap (λ (xs : List ℕ). map (cluster_rec v image) (filter (is_candidate v image) xs)) (sym all)
 
-withheld_is : (v : Volume) (image : Image) (ag : ℕ) (told : Told) (block : ℕ) → ToldSo v image ag told → block / v.agblocks ≡ ag
+withheld_is : (v : Volume) (image : Image) (ag : ℕ) (told : Told) (block : ℕ) → IsToldIn v image ag told → block / v.agblocks ≡ ag
     → is_withheld v image told.trusted told.held block ≡ is_reserved v image block
 unfolding is_reserved is_held_by_trees is_held_by_bytes
 withheld_is v image ag told block so of =
@@ -187,7 +170,7 @@ filter_same p q a (suc n) alike =
     ap₂ (λ (t : Bool) (xs : List ℕ). cond t (a ∷ xs) xs) (alike a (omega arith) (omega arith)) rest
 
 -- its reserved blocks
-pub reserved_are : (v : Volume) (image : Image) (ag : ℕ) (told : Told) → ToldSo v image ag told → group_length v ag ≤ v.agblocks
+pub reserved_are : (v : Volume) (image : Image) (ag : ℕ) (told : Told) → IsToldIn v image ag told → group_length v ag ≤ v.agblocks
     → withheld v image told.trusted told.held (head_block v ag) (group_length v ag) ≡ reserved_in v image ag
 unfolding withheld reserved_in
 reserved_are v image ag told so short =

@@ -2,3 +2,4 @@
 pub mod Chosen
 pub mod Looking
 pub mod Parts
+pub mod ReadGroups

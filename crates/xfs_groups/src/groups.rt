@@ -1,16 +1,19 @@
 //! All groups of a volume.
 
-ghost use Rattle.std.specs.Prelude.{◌≡◌, ◌≤◌, IfOk, IsTrue};
+ghost use Rattle.std.specs.Prelude.{◌≡◌, ◌/◌, ◌<◌, ◌≤◌, ◌++◌, ◌∷◌, [], Ok, IfOk, IsTrue};
 ghost use Rattle.std.specs.Option.{ForSome};
+ghost use Rattle.xfs_geom.specs.Conversions.{group_length};
 ghost use Rattle.xfs_geom.specs.Volumes.{volume_of};
 ghost use Rattle.xfs_disk.specs.Reads.{OnlyReads};
 ghost use Rattle.xfs_image.specs.Candidates.{ClustersAscend, candidates};
-ghost use Rattle.xfs_image.specs.Groups.{groups_read};
+ghost use Rattle.xfs_image.specs.Groups.{group_read, groups_read};
+ghost use Rattle.xfs_image.specs.Reserved.{reserved_in};
 ghost use Rattle.xfs_groups.specs.Answers.{EndBelow, HasGroupsCause, has_root_cluster, lists_of, reserved_lists};
+ghost use Rattle.xfs_groups.specs.Private.Chosen.{WithPlaced, candidates_in};
 ghost use Rattle.xfs_groups.specs.Private.Parts.{then_read};
 
 use crate::faults::GroupsFault;
-use crate::one_group::see_group;
+use crate::one_group::{GroupSeen, see_group};
 use std::alloc::Global;
 use std::sync::ledger::Ledger;
 use xfs_disk::{Disk, NoMemory};
@@ -55,34 +58,99 @@ pub fn see_groups<D: Disk, L: Ledger>(
     ensures cause { HasGroupsCause (D.faults disk.old) (D.faults disk.new) result }
     ensures disk { OnlyReads D.size D.holds D.write_faults D.writes D.tells_stops D.moment D.may_leave D.left_since disk.old disk.new }
 {
-    let mut groups = Ok(Records::from_vec(Vec::new(alloc)));
-    let mut clusters = Vec::new(alloc);
-    let mut trees = Vec::new(alloc);
+    let mut all = no_groups(alloc);
     for ag in 0..g.agcount {
-        let seen = match see_group(alloc, g, disk, ag, steps) {
-            Ok(seen) => seen,
+        all = match add_group(alloc, g, disk, ag, all, steps) {
+            Ok(grown) => grown,
             Err(fault) => return Err(fault),
         };
-        match trees.push(GroupTrees {
-            reserved: Blocks::from_vec(seen.reserved),
-        }) {
-            Ok(()) => {}
-            Err(_) => return Err(GroupsFault::NoMemory),
-        }
-        match clusters.extend_from_slice(seen.clusters.as_slice()) {
-            Ok(()) => {}
-            Err(_) => return Err(GroupsFault::NoMemory),
-        }
-        groups = match with_group(groups, seen.record) {
-            Ok(groups) => groups,
-            Err(NoMemory) => return Err(GroupsFault::NoMemory),
-        };
     }
+    Ok(all)
+}
+
+/// No group.
+fn no_groups(alloc: Global) -> Groups
+    ensures groups { result.groups ≡ Ok [] }
+    ensures clusters { result.clusters ≡ [] }
+    ensures trees { result.trees ≡ [] }
+{
+    Groups {
+        groups: Ok(Records::from_vec(Vec::new(alloc))),
+        clusters: Records::from_vec(Vec::new(alloc)),
+        trees: Records::from_vec(Vec::new(alloc)),
+    }
+}
+
+/// Reads a group, and adds it to those in front of it.
+fn add_group<D: Disk, L: Ledger>(
+    alloc: Global,
+    g: &Geometry,
+    disk: &mut D,
+    ag: u32,
+    all: Groups,
+    steps: &mut Steps<L>,
+) -> Result<Groups, GroupsFault>
+    requires group { ag < g.now.agcount }
+    requires inside { g.now.dblocks ≤ D.size disk.old }
+    ensures groups { IfOk result (λ new. ForSome (D.holds disk.old) (λ image. new.groups ≡ then_read all.groups (group_read (volume_of g.now) image ag))) }
+    ensures clusters { IfOk result (λ new. ForSome (D.holds disk.old) (λ image. new.clusters ≡ all.clusters ++ candidates_in (volume_of g.now) image ag)) }
+    ensures trees { IfOk result (λ new. ForSome (D.holds disk.old) (λ image. lists_of new.trees ≡ lists_of all.trees ++ reserved_in (volume_of g.now) image ag ∷ [])) }
+    ensures placed { IfOk result (λ new. WithPlaced (volume_of g.now) ag (group_length (volume_of g.now) ag / 4) all.clusters new.clusters) }
+    ensures cause { HasGroupsCause (D.faults disk.old) (D.faults disk.new) result }
+    ensures disk { OnlyReads D.size D.holds D.write_faults D.writes D.tells_stops D.moment D.may_leave D.left_since disk.old disk.new }
+{
+    let seen = match see_group(alloc, g, disk, ag, steps) {
+        Ok(seen) => seen,
+        Err(fault) => return Err(fault),
+    };
+    match with_seen(all, seen) {
+        Ok(grown) => Ok(grown),
+        Err(NoMemory) => Err(GroupsFault::NoMemory),
+    }
+}
+
+/// Groups with one more behind them.
+fn with_seen(all: Groups, seen: GroupSeen) -> Result<Groups, NoMemory>
+    ensures groups { IfOk result (λ new. new.groups ≡ then_read all.groups seen.record) }
+    ensures clusters { IfOk result (λ new. new.clusters ≡ all.clusters ++ seen.clusters.items) }
+    ensures trees { IfOk result (λ new. lists_of new.trees ≡ lists_of all.trees ++ seen.reserved.items ∷ []) }
+{
+    let GroupSeen {
+        record,
+        clusters,
+        reserved,
+    } = seen;
     Ok(Groups {
-        groups,
-        clusters: Records::from_vec(clusters),
-        trees: Records::from_vec(trees),
+        groups: with_group(all.groups, record)?,
+        clusters: with_clusters(all.clusters, &clusters)?,
+        trees: with_reserved(all.trees, reserved)?,
     })
+}
+
+/// Clusters with more behind them.
+fn with_clusters(
+    clusters: Records<ClusterRec>,
+    more: &Vec<ClusterRec>,
+) -> Result<Records<ClusterRec>, NoMemory>
+    ensures { IfOk result (λ all. all ≡ clusters ++ more.now.items) }
+{
+    let mut all = clusters.into_vec();
+    all.extend_from_slice(more.as_slice())?;
+    Ok(Records::from_vec(all))
+}
+
+/// What is known of the blocks of groups, with the reserved blocks of one more.
+fn with_reserved(
+    trees: Records<GroupTrees>,
+    reserved: Vec<u64>,
+) -> Result<Records<GroupTrees>, NoMemory>
+    ensures { IfOk result (λ all. lists_of all ≡ lists_of trees ++ reserved.items ∷ []) }
+{
+    let mut all = trees.into_vec();
+    all.push(GroupTrees {
+        reserved: Blocks::from_vec(reserved),
+    })?;
+    Ok(Records::from_vec(all))
 }
 
 /// The groups with one more, or the first part that does not read.

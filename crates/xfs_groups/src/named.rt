@@ -7,7 +7,7 @@ ghost use Rattle.xfs_geom.specs.Volumes.{volume_of};
 ghost use Rattle.xfs_kinds.specs.InodeTrees.{is_missing};
 ghost use Rattle.xfs_image.specs.Clusters.{same_clusters, both_name, chunk_clusters, clusters_in, given_clusters};
 ghost use Rattle.xfs_image.specs.Reserved.{is_of_named, is_of_tree};
-ghost use Rattle.xfs_groups.specs.Named.{AreOwnersApart, is_named};
+ghost use Rattle.xfs_groups.specs.Named.{AreOwnersApart, chunks_in, is_named, owners_in};
 
 use crate::sets::BlockSet;
 use crate::sweep::given_clusters;
@@ -25,7 +25,7 @@ pub(crate) struct Named {
 }
 
 /// The clusters of the chunks of a tree, where it reads.
-pub(crate) fn named_by_chunks(
+fn named_by_chunks(
     alloc: Global,
     g: &Geometry,
     ag: u32,
@@ -45,7 +45,7 @@ pub(crate) fn named_by_chunks(
 }
 
 /// The clusters that a tree of owners gives, where it reads.
-pub(crate) fn named_by_owners(
+fn named_by_owners(
     alloc: Global,
     g: &Geometry,
     ag: u32,
@@ -62,6 +62,25 @@ pub(crate) fn named_by_owners(
             Ok(Some(clusters))
         }
     }
+}
+
+/// The clusters that two trees of a group name, each where it reads.
+pub(crate) fn named_by(
+    alloc: Global,
+    g: &Geometry,
+    ag: u32,
+    ino: &Option<TreeSeen<InoRec>>,
+    rmap: &Option<TreeSeen<RmapRec>>,
+) -> Result<Named, NoMemory>
+    requires { ag < g.now.agcount }
+    ensures chunks { IfOk result (λ named. named.chunks ≡ chunks_in (volume_of g.now) ag ino.now) }
+    ensures owners { AreOwnersApart rmap.now → IfOk result (λ named. named.owners ≡ owners_in (volume_of g.now) ag rmap.now) }
+    ensures low_chunks { IfOk result (λ named. IfSome named.chunks (λ clusters. All (λ cluster. cluster < 2 ^ 32) clusters)) }
+    ensures low_owners { IfOk result (λ named. IfSome named.owners (λ clusters. All (λ cluster. cluster < 2 ^ 32) clusters)) }
+{
+    let chunks = named_by_chunks(alloc, g, ag, ino)?;
+    let owners = named_by_owners(alloc, g, ag, rmap)?;
+    Ok(Named { chunks, owners })
 }
 
 /// The clusters of some chunks of a group, in order.

@@ -1,19 +1,24 @@
 //! One group of a volume.
 
-ghost use Rattle.std.specs.Prelude.{◌≡◌, ◌/◌, ◌<◌, ◌≤◌, IfOk};
+ghost use Rattle.std.specs.Prelude.{◌≡◌, ◌^◌, ◌/◌, ◌<◌, ◌≤◌, ◌||◌, ℕ, IfOk, IfSome};
+ghost use Rattle.std.specs.List.{All};
 ghost use Rattle.std.specs.Option.{ForSome};
+ghost use Rattle.xfs_disk.specs.Lists.{is_among};
+ghost use Rattle.xfs_disk.specs.Blocks.{Image};
 ghost use Rattle.xfs_geom.specs.Conversions.{group_length};
 ghost use Rattle.xfs_geom.specs.Volumes.{volume_of};
+ghost use Rattle.xfs_image.specs.Clusters.{both_name};
 ghost use Rattle.xfs_image.specs.Groups.{group_read, head_block};
-ghost use Rattle.xfs_image.specs.Reserved.{reserved_in};
+ghost use Rattle.xfs_image.specs.Reserved.{is_of_named, is_of_tree, reserved_in};
 ghost use Rattle.xfs_disk.specs.Reads.{OnlyReads};
 ghost use Rattle.xfs_groups.specs.Answers.{HasGroupsCause};
 ghost use Rattle.xfs_groups.specs.Private.Chosen.{ClustersPlaced, IsToldOfGroup, candidates_in, chosen, withheld};
-ghost use Rattle.xfs_groups.specs.Named.{AreOwnersApart};
+ghost use Rattle.xfs_groups.specs.Named.{AreOwnersApart, is_named};
+ghost use Rattle.xfs_groups.specs.Private.ReadGroups.{ArePartsRead, IsGroupTold};
 
 use crate::faults::GroupsFault;
-use crate::heads::read_heads;
-use crate::named::{Named, held_by_trees, named_by_chunks, named_by_owners};
+use crate::heads::{Heads, read_heads};
+use crate::named::{Named, held_by_trees, named_by};
 use crate::parts::group_with;
 use crate::recorded::recorded_clusters;
 use crate::scanned::{ScannedGroup, scan_group};
@@ -44,6 +49,22 @@ struct Told {
     held: BlockSet,
 }
 
+/// A group, and what its trees say of its blocks.
+#[derive(Drop)]
+struct GroupTold {
+    record: Result<GroupRec, Finding>,
+    told: Told,
+}
+
+impl GroupTold {
+    /// What its trees say.
+    fn told(&self) -> &Told
+        ensures { result.now ≡ self.now.told }
+    {
+        &self.told
+    }
+}
+
 /// Reads a group.
 pub(crate) fn see_group<D: Disk, L: Ledger>(
     alloc: Global,
@@ -61,6 +82,45 @@ pub(crate) fn see_group<D: Disk, L: Ledger>(
     ensures cause { HasGroupsCause (D.faults disk.old) (D.faults disk.new) result }
     ensures disk { OnlyReads D.size D.holds D.write_faults D.writes D.tells_stops D.moment D.may_leave D.left_since disk.old disk.new }
 {
+    let group = match read_group(alloc, g, disk, ag, steps) {
+        Ok(group) => group,
+        Err(fault) => return Err(fault),
+    };
+    match look_through(alloc, g, disk, ag, group.told(), steps) {
+        Ok(found) => Ok(seen(group, found)),
+        Err(fault) => Err(fault),
+    }
+}
+
+/// A group with what is found in its blocks.
+fn seen(group: GroupTold, found: ScannedGroup) -> GroupSeen
+    ensures record { result.record ≡ group.record }
+    ensures clusters { result.clusters.items ≡ found.clusters.items }
+    ensures reserved { result.reserved.items ≡ found.reserved.items }
+{
+    let GroupTold { record, .. } = group;
+    let ScannedGroup { clusters, reserved } = found;
+    GroupSeen {
+        record,
+        clusters,
+        reserved,
+    }
+}
+
+/// Reads the headers and trees of a group: the group, and what its trees say.
+fn read_group<D: Disk, L: Ledger>(
+    alloc: Global,
+    g: &Geometry,
+    disk: &mut D,
+    ag: u32,
+    steps: &mut Steps<L>,
+) -> Result<GroupTold, GroupsFault>
+    requires group { ag < g.now.agcount }
+    requires inside { g.now.dblocks ≤ D.size disk.old }
+    ensures told { IfOk result (λ group. ForSome (D.holds disk.old) (λ image. IsGroupTold (volume_of g.now) image ag group)) }
+    ensures cause { HasGroupsCause (D.faults disk.old) (D.faults disk.new) result }
+    ensures disk { OnlyReads D.size D.holds D.write_faults D.writes D.tells_stops D.moment D.may_leave D.left_since disk.old disk.new }
+{
     let heads = match read_heads(g, disk, ag, steps) {
         Ok(heads) => heads,
         Err(Failed) => return Err(GroupsFault::ReadFault),
@@ -69,22 +129,26 @@ pub(crate) fn see_group<D: Disk, L: Ledger>(
         Ok(trees) => trees,
         Err(fault) => return Err(fault),
     };
-    let told = match told_by(alloc, g, ag, &trees) {
-        Ok(told) => told,
-        Err(NoMemory) => return Err(GroupsFault::NoMemory),
-    };
-    let record = match group_with(alloc, ag, &heads, trees) {
-        Ok(record) => record,
-        Err(NoMemory) => return Err(GroupsFault::NoMemory),
-    };
-    match look_through(alloc, g, disk, ag, &told, steps) {
-        Ok(ScannedGroup { clusters, reserved }) => Ok(GroupSeen {
-            record,
-            clusters,
-            reserved,
-        }),
-        Err(fault) => Err(fault),
+    match group_told(alloc, g, ag, &heads, trees) {
+        Ok(group) => Ok(group),
+        Err(NoMemory) => Err(GroupsFault::NoMemory),
     }
+}
+
+/// The group that headers and trees make up, and what its trees say.
+fn group_told(
+    alloc: Global,
+    g: &Geometry,
+    ag: u32,
+    heads: &Heads,
+    trees: Trees,
+) -> Result<GroupTold, NoMemory>
+    requires { ag < g.now.agcount }
+    ensures { IfOk result (λ group. (image : Image) → ArePartsRead (volume_of g.now) image ag heads.now trees → IsGroupTold (volume_of g.now) image ag group) }
+{
+    let told = told_by(alloc, g, ag, &trees)?;
+    let record = group_with(alloc, ag, heads, trees)?;
+    Ok(GroupTold { record, told })
 }
 
 /// What the trees of a group say.
@@ -92,14 +156,24 @@ fn told_by(alloc: Global, g: &Geometry, ag: u32, trees: &Trees) -> Result<Told, 
     requires { ag < g.now.agcount }
     ensures { AreOwnersApart trees.now.rmap → IfOk result (λ told. IsToldOfGroup (volume_of g.now) ag trees.now told) }
 {
-    let named = Named {
-        chunks: named_by_chunks(alloc, g, ag, &trees.ino)?,
-        owners: named_by_owners(alloc, g, ag, &trees.rmap)?,
-    };
+    let named = named_by(alloc, g, ag, &trees.ino, &trees.rmap)?;
+    let told = told_as(alloc, trees, &named)?;
+    Ok(told)
+}
+
+/// What the trees of a group say that name these clusters.
+fn told_as(alloc: Global, trees: &Trees, named: &Named) -> Result<Told, NoMemory>
+    requires low_chunks { IfSome named.now.chunks (λ clusters. All (λ cluster. cluster < 2 ^ 32) clusters) }
+    requires low_owners { IfSome named.now.owners (λ clusters. All (λ cluster. cluster < 2 ^ 32) clusters) }
+    ensures trusted_is { IfOk result (λ told. told.trusted ≡ both_name named.now.chunks named.now.owners) }
+    ensures named_is { IfOk result (λ told. (q : ℕ) → is_among told.named q ≡ is_named named.now.chunks named.now.owners q) }
+    ensures held_is { IfOk result (λ told. (q : ℕ) → is_among told.held q
+        ≡ (is_of_tree trees.now.ino q || is_of_tree trees.now.rmap q || is_of_named named.now.chunks q || is_of_named named.now.owners q)) }
+{
     Ok(Told {
         trusted: named.is_trusted(alloc)?,
         named: named.clusters(alloc)?,
-        held: held_by_trees(alloc, &trees.ino, &trees.rmap, &named)?,
+        held: held_by_trees(alloc, &trees.ino, &trees.rmap, named)?,
     })
 }
 

@@ -4,12 +4,14 @@ ghost use Rattle.std.specs.Prelude.{◌≡◌, List, Result, IfOk};
 ghost use Rattle.xfs_heads.specs.declared.free_list.Agfl.{Agfl};
 ghost use Rattle.xfs_heads.specs.declared.free_space.Agf.{Agf};
 ghost use Rattle.xfs_heads.specs.declared.inodes.Agi.{Agi};
+ghost use Rattle.xfs_image.specs.Groups.{group_record};
 ghost use Rattle.xfs_groups.specs.Private.Parts.{group_with, with_trees};
 
 use crate::heads::Heads;
-use crate::trees::Trees;
+use crate::trees::{TreeSeen, Trees};
 use std::alloc::Global;
 use xfs_disk::NoMemory;
+use xfs_geom::{InoRec, RmapRec, Span};
 use xfs_heads::{Agf, Agfl, Agi};
 use xfs_image::Finding;
 use xfs_volume::{GroupRec, Records};
@@ -68,6 +70,24 @@ fn with_trees(
     let Some(rmap) = rmap else {
         return Ok(Err(lacking(8, ag)));
     };
+    let group = group_of(alloc, agf, agi, agfl, bno, cnt, ino, fino, rmap)?;
+    Ok(Ok(group))
+}
+
+/// A group with these headers and trees.
+fn group_of(
+    alloc: Global,
+    agf: &Agf,
+    agi: &Agi,
+    agfl: &Agfl,
+    bno: TreeSeen<Span>,
+    cnt: TreeSeen<Span>,
+    ino: TreeSeen<InoRec>,
+    fino: TreeSeen<InoRec>,
+    rmap: TreeSeen<RmapRec>,
+) -> Result<GroupRec, NoMemory>
+    ensures { IfOk result (λ group. group ≡ group_record agf.now agi.now agfl.now bno cnt ino fino rmap) }
+{
     let (bno, bno_blocks) = bno.into_parts();
     let (cnt, cnt_blocks) = cnt.into_parts();
     let (ino, ino_blocks) = ino.into_parts();
@@ -80,7 +100,7 @@ fn with_trees(
         fino_blocks,
         rmap_blocks,
     ]?;
-    Ok(Ok(GroupRec {
+    Ok(GroupRec {
         agf: *agf,
         agi: *agi,
         agfl: *agfl,
@@ -90,7 +110,7 @@ fn with_trees(
         fino,
         rmap,
         blocks: Records::from_vec(blocks),
-    }))
+    })
 }
 
 /// The finding that a part of a group does not read.

@@ -1,6 +1,6 @@
 //! The clusters of a group that does not say in full where its clusters are: each place is looked at.
 
-ghost use Rattle.std.specs.Prelude.{◌≡◌, ◌+◌, ◌/◌, ◌<◌, ◌≤◌, ◌++◌, ◌&&◌, ◌||◌, not, false, IfOk};
+ghost use Rattle.std.specs.Prelude.{◌≡◌, ◌+◌, ◌/◌, ◌<◌, ◌≤◌, ◌++◌, ◌∷◌, [], ◌&&◌, ◌||◌, if◌then◌else◌, not, false, IfOk, OnOk};
 ghost use Rattle.std.specs.Option.{ForSome};
 ghost use Rattle.xfs_disk.specs.Lists.{is_among};
 ghost use Rattle.xfs_geom.specs.Conversions.{group_length, is_fixed};
@@ -8,7 +8,7 @@ ghost use Rattle.xfs_geom.specs.Volumes.{volume_of};
 ghost use Rattle.xfs_image.specs.Groups.{head_block};
 ghost use Rattle.xfs_disk.specs.Reads.{OnlyReads};
 ghost use Rattle.xfs_groups.specs.Answers.{HasGroupsCause};
-ghost use Rattle.xfs_groups.specs.Private.Chosen.{ClustersPlaced, are_clear, are_used, chosen, is_chosen_as, withheld};
+ghost use Rattle.xfs_groups.specs.Private.Chosen.{ClustersPlaced, WithCluster, are_clear, are_used, chosen, chosen_rec, is_chosen, is_chosen_as, withheld};
 
 use crate::faults::GroupsFault;
 use crate::looking::{BlockSeen, look};
@@ -59,24 +59,60 @@ pub(crate) fn scan_group<D: Disk, L: Ledger>(
 {
     let start = g.start_of_group(ag);
     let blocks = g.group_length(ag);
-    let mut clusters = Vec::new(alloc);
-    let mut reserved = Vec::new(alloc);
+    let mut all = nothing_scanned(alloc);
     for i in 0..blocks / 4 {
         let cluster = start + 4 * i as u64;
-        let seen = match look_at(g, disk, held, cluster, 4, &mut reserved, steps) {
-            Ok(seen) => seen,
-            Err(fault) => return Err(fault),
-        };
-        let is_chosen = is_chosen(g, named, cluster, &seen);
-        match push_chosen(&mut clusters, g, named, cluster, is_chosen) {
+        match scan_cluster(g, disk, named, held, cluster, &mut all, steps) {
             Ok(()) => {}
-            Err(NoMemory) => return Err(GroupsFault::NoMemory),
+            Err(fault) => return Err(fault),
         }
     }
     let rest = start + (blocks / 4 * 4) as u64;
-    match look_at(g, disk, held, rest, blocks % 4, &mut reserved, steps) {
-        Ok(_) => Ok(ScannedGroup { clusters, reserved }),
+    match look_at(g, disk, held, rest, blocks % 4, &mut all.reserved, steps) {
+        Ok(_) => Ok(all),
         Err(fault) => Err(fault),
+    }
+}
+
+/// No cluster, and no block.
+fn nothing_scanned(alloc: Global) -> ScannedGroup
+    ensures clusters { result.clusters.items ≡ [] }
+    ensures reserved { result.reserved.items ≡ [] }
+{
+    ScannedGroup {
+        clusters: Vec::new(alloc),
+        reserved: Vec::new(alloc),
+    }
+}
+
+/// Looks at the place of a cluster, and adds it and its blocks to what is found in front of it.
+fn scan_cluster<D: Disk, L: Ledger>(
+    g: &Geometry,
+    disk: &mut D,
+    named: &BlockSet,
+    held: &BlockSet,
+    cluster: u64,
+    all: &mut ScannedGroup,
+    steps: &mut Steps<L>,
+) -> Result<(), GroupsFault>
+    requires cluster { cluster + 4 ≤ g.now.dblocks }
+    requires inside { g.now.dblocks ≤ D.size disk.old }
+    ensures chosen { OnOk result (ForSome (D.holds disk.old) (λ image. all.new.clusters.items
+        ≡ all.old.clusters.items ++ (if is_chosen (volume_of g.now) image false named.now cluster then (chosen_rec (volume_of g.now) named.now cluster ∷ []) else []))) }
+    ensures withheld { OnOk result (ForSome (D.holds disk.old) (λ image.
+        all.new.reserved.items ≡ all.old.reserved.items ++ withheld (volume_of g.now) image false held.now cluster 4)) }
+    ensures root { OnOk result (WithCluster (volume_of g.now) named.now cluster all.old.clusters.items all.new.clusters.items) }
+    ensures cause { HasGroupsCause (D.faults disk.old) (D.faults disk.new) result }
+    ensures disk { OnlyReads D.size D.holds D.write_faults D.writes D.tells_stops D.moment D.may_leave D.left_since disk.old disk.new }
+{
+    let seen = match look_at(g, disk, held, cluster, 4, &mut all.reserved, steps) {
+        Ok(seen) => seen,
+        Err(fault) => return Err(fault),
+    };
+    let is_chosen = is_chosen(g, named, cluster, &seen);
+    match push_chosen(&mut all.clusters, g, named, cluster, is_chosen) {
+        Ok(()) => Ok(()),
+        Err(NoMemory) => Err(GroupsFault::NoMemory),
     }
 }
 

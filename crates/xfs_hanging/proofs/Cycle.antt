@@ -9,7 +9,7 @@ use Rattle.xfs_volume.specs.declared.files.FileRec.{FileRec}
 use Rattle.xfs_volume.specs.Names.{is_name, type_of, is_directory}
 use Rattle.xfs_naming.specs.Naming.{is_in_use, is_directory_at}
 use Rattle.xfs_hanging.specs.Settled.{IsSettled, parent_due}
-use Rattle.xfs_hanging.specs.Cycle.{entry, directory, cycle_nodes, cycle_listed, cycle_entries, cycle_dirs}
+use Rattle.xfs_hanging.specs.Cycle.{named_entry, directory, cycle_nodes, cycle_listed, cycle_entries, cycle_dirs}
 
 among : (p q r s n : ℕ) → p ≡ 128 → q ≡ 150 → r ≡ 151 → s ≡ 200 → (p == n || (q == n || (r == n || (s == n || false)))) ≡ ((128 == n || (150 == n || (151 == n || false))) || (true && n == 200))
 among p q r s n a b c d = grind (arith, nat_tests)
@@ -63,11 +63,11 @@ cycle_settled a b c d e f g h p q r s = record {
     files_ascend = (omega arith, (omega arith, (omega arith, (omega arith, tt))));
     directories = numbers a b c d e f g h p q r s;
     grouped = (
-      entry 128 (codes "lost+found") 200 2 ∷ [],
-      entry 150 (codes "x") 151 2 ∷ entry 200 (codes "150") 150 2 ∷ [],
+      named_entry 128 (codes "lost+found") 200 2 ∷ [],
+      named_entry 150 (codes "x") 151 2 ∷ named_entry 200 (codes "150") 150 2 ∷ [],
       refl,
       refl,
-      (entry 150 (codes "x") 151 2 ∷ [], entry 200 (codes "150") 150 2 ∷ [], refl, refl, ([], entry 200 (codes "150") 150 2 ∷ [], refl, refl, (entry 200 (codes "150") 150 2 ∷ [], [], refl, refl, refl))),
+      (named_entry 150 (codes "x") 151 2 ∷ [], named_entry 200 (codes "150") 150 2 ∷ [], refl, refl, ([], named_entry 200 (codes "150") 150 2 ∷ [], refl, refl, (named_entry 200 (codes "150") 150 2 ∷ [], [], refl, refl, refl))),
     );
   };
 }

@@ -18,13 +18,13 @@ pub no_bits : missing_bits 0 ≡ 0
 unfolding four_each
 no_bits = refl
 
-pub low_bits : missing_bits 0x00ff ≡ 0xffff_ffff
+pub low_half : missing_bits 0x00ff ≡ 0xffff_ffff
 unfolding four_each
-low_bits = refl
+low_half = refl
 
-pub high_bits : missing_bits 0xff00 ≡ 0xffff_ffff_0000_0000
+pub high_half : missing_bits 0xff00 ≡ 0xffff_ffff_0000_0000
 unfolding four_each
-high_bits = refl
+high_half = refl
 
 -- the bits of missing inodes are 64 at most
 missing-lt : (holemask : ℕ) → IsTrue (is_holemask holemask) → missing_bits holemask < 2 ^ 64
@@ -32,8 +32,8 @@ missing-lt m h = by_case (m == 0) refl (m == 0x00ff) refl (m == 0xff00) refl
   where
     by_case : (a : Bool) → (m == 0) ≡ a → (b : Bool) → (m == 0x00ff) ≡ b → (c : Bool) → (m == 0xff00) ≡ c → missing_bits m < 2 ^ 64
     by_case true p b q c r = subst (λ (n : ℕ). missing_bits n < 2 ^ 64) (sym (eqb-true m 0 p)) (omega (arith, no_bits))
-    by_case false p true q c r = subst (λ (n : ℕ). missing_bits n < 2 ^ 64) (sym (eqb-true m 0x00ff q)) (omega (arith, low_bits))
-    by_case false p false q true r = subst (λ (n : ℕ). missing_bits n < 2 ^ 64) (sym (eqb-true m 0xff00 r)) (omega (arith, high_bits))
+    by_case false p true q c r = subst (λ (n : ℕ). missing_bits n < 2 ^ 64) (sym (eqb-true m 0x00ff q)) (omega (arith, low_half))
+    by_case false p false q true r = subst (λ (n : ℕ). missing_bits n < 2 ^ 64) (sym (eqb-true m 0xff00 r)) (omega (arith, high_half))
     by_case false p false q false r = absurd (grind (arith, nat_tests))
 
 -- what a chunk's numbers keep

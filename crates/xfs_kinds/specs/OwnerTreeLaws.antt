@@ -190,8 +190,8 @@ run_fits v ag r h =
 starts_ascend : (r next : RmapRec) → 1 ≤ r.count → IsTrue (follows_end (Some r) next) → nat_cmp r.start next.start ≡ Less
 starts_ascend r next some h = grind (arith, nat_tests)
 
-keys_ascend : (r next : RmapRec) → 1 ≤ r.count → IsTrue (follows_end (Some r) next) → key_order (low_key r) (low_key next) ≡ Less
-keys_ascend r next some h = let first = starts_ascend r next some h in rw first refl
+low_keys_ascend : (r next : RmapRec) → 1 ≤ r.count → IsTrue (follows_end (Some r) next) → key_order (low_key r) (low_key next) ≡ Less
+low_keys_ascend r next some h = let first = starts_ascend r next some h in rw first refl
 
 pub rmap_kind : (ag : ℕ) → IsKind (rmap_shape ag)
 rmap_kind ag = record {
@@ -222,6 +222,6 @@ rmap_kind ag = record {
   lawful_behind = λ v r next h. h;
   lawful_first = λ v r next one h. and_from (is_owned_run v ag next) (follows_end None next) (and_parts (is_owned_run v ag next) (follows_end (Some r) next) h).0 refl;
   ascends = λ v r next one h.
-      keys_ascend r next (run_fits v ag r (and_parts (is_owned_run v ag r) (follows_end None r) one).0).1
+      low_keys_ascend r next (run_fits v ag r (and_parts (is_owned_run v ag r) (follows_end None r) one).0).1
       (and_parts (is_owned_run v ag next) (follows_end (Some r) next) h).1;
 }

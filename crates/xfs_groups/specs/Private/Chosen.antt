@@ -1,5 +1,5 @@
 -- The clusters of a group whose slots are read, and its reserved blocks, by what its trees name and whether it is trusted.
-use Rattle.std.specs.Prelude.{◌≡◌, ◌<◌, IsTrue, ℕ, Bool, not, ◌+◌, ◌*◌, ◌==◌, ◌&&◌, ◌||◌, List, map}
+use Rattle.std.specs.Prelude.{◌≡◌, ◌<◌, IsTrue, ℕ, Bool, not, ◌+◌, ◌*◌, ◌==◌, ◌&&◌, ◌||◌, ◌++◌, ◌∷◌, [], if◌then◌else◌, true, List, map}
 use Rattle.std.specs.List.{filter, list_all, list_any, range_with_len}
 use Rattle.xfs_disk.specs.Lists.{is_among}
 use Rattle.xfs_disk.specs.Blocks.{Image}
@@ -50,6 +50,12 @@ chosen_rec v named cluster = record { block = cluster; recorded = is_recorded_in
 unfoldable pub chosen : Volume → Image → Bool → List ℕ → ℕ → ℕ → List ClusterRec
 chosen v image trusted named ag n = map (chosen_rec v named) (filter (is_chosen v image trusted named) (map (cluster_place v ag) (range_with_len 0 n)))
 
+-- clusters with one more behind them, where its slots are read; those of the root's are
+pub record WithCluster (v : Volume) (named : List ℕ) (cluster : ℕ) (old new : List ClusterRec) : Type 0 where
+  pub wanted : Bool
+  pub joined : new ≡ old ++ (if wanted then (chosen_rec v named cluster ∷ []) else [])
+  pub root : cluster ≡ root_cluster v → wanted ≡ true
+
 -- nothing new is placed on the block
 abbrev pub is_withheld : Volume → Image → Bool → List ℕ → ℕ → Bool
 is_withheld v image trusted held block = is_among held block || (not trusted && (is_naming v image block || has_used v image block))
@@ -64,6 +70,12 @@ pub record ClustersPlaced (v : Volume) (ag n : ℕ) (clusters : List ClusterRec)
   pub ascend : ClustersAscend (head_block v ag) clusters
   pub low : EndBelow (cluster_place v ag n) clusters
   pub root : (i : ℕ) → i < n → cluster_place v ag i ≡ root_cluster v → IsTrue (has_root_cluster v clusters)
+
+-- clusters with those of a group behind them
+pub record WithPlaced (v : Volume) (ag n : ℕ) (old new : List ClusterRec) : Type 0 where
+  pub more : List ClusterRec
+  pub joined : new ≡ old ++ more
+  pub placed : ClustersPlaced v ag n more
 
 -- the clusters of a group whose slots are read
 unfoldable pub candidates_in : Volume → Image → ℕ → List ClusterRec

@@ -12,10 +12,10 @@ use Rattle.xfs_groups.proofs.groups.see_groups.Given as goal
 
 abbrev pub invariant-loop-ag : goal.invariant-loop-ag
 invariant-loop-ag g l = record {
-  read : ForSome (g.D.Disk.holds l.fn.disk) (λ image. l.groups ≡ groups_from (volume_of l.g) image (range_with_len 0 l.ag));
-  chosen_so : ForSome (g.D.Disk.holds l.fn.disk) (λ image. l.clusters.items ≡ flat_map (candidates_in (volume_of l.g) image) (range_with_len 0 l.ag));
-  held_so : ForSome (g.D.Disk.holds l.fn.disk) (λ image. lists_of l.trees.items ≡ map (reserved_in (volume_of l.g) image) (range_with_len 0 l.ag));
-  placed : GroupsPlaced l.g l.ag l.clusters.items;
+  read : ForSome (g.D.Disk.holds l.fn.disk) (λ image. l.all.groups ≡ groups_from (volume_of l.g) image (range_with_len 0 l.ag));
+  chosen_so : ForSome (g.D.Disk.holds l.fn.disk) (λ image. l.all.clusters ≡ flat_map (candidates_in (volume_of l.g) image) (range_with_len 0 l.ag));
+  held_so : ForSome (g.D.Disk.holds l.fn.disk) (λ image. lists_of l.all.trees ≡ map (reserved_in (volume_of l.g) image) (range_with_len 0 l.ag));
+  placed : GroupsPlaced l.g l.ag l.all.clusters;
   later : g.D.Disk.faults l.fn.disk ≤ g.D.Disk.faults l.disk;
   disk : OnlyReads g.D.Disk.size g.D.Disk.holds g.D.Disk.write_faults g.D.Disk.writes g.D.Disk.tells_stops g.D.Disk.moment g.D.Disk.may_leave g.D.Disk.left_since l.fn.disk l.disk;
 }

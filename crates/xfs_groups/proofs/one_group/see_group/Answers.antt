@@ -1,57 +1,52 @@
-use Rattle.std.proofs.Common.{◌≡◌, Some, ◌∙◌}
-use Rattle.xfs_disk.specs.Blocks.{Image}
+use Rattle.std.proofs.Common.{◌≡◌, ◌/◌, Some, sym, subst, ◌∙◌}
+use Rattle.xfs_geom.specs.Conversions.{group_length}
 use Rattle.xfs_geom.specs.Volumes.{volume_of}
 use Rattle.xfs_disk.proofs.Reading.{reads_on}
-use Rattle.xfs_groups.proofs.Lawful.{owners_apart}
+use Rattle.xfs_disk.specs.Blocks.{Image}
+use Rattle.xfs_groups.specs.Private.Chosen.{ClustersPlaced}
+use Rattle.xfs_groups.specs.Private.ReadGroups.{IsToldIn}
+use Rattle.xfs_groups.proofs.Causes.{caused_on, later}
 use Rattle.xfs_groups.proofs.Lengths.{short}
-use Rattle.xfs_groups.proofs.Wholes.{ReadSo, ToldSo, candidates_are, group_is, reserved_are, told_so}
-use Rattle.xfs_groups.proofs.one_group.see_group.Given.{Over}
+use Rattle.xfs_groups.proofs.Wholes.{candidates_are, reserved_are}
 use Rattle.xfs_groups.proofs.one_group.see_group.Goals as goal
-use Rattle.xfs_groups.proofs.one_group.see_group.Goals.{After-drop-told-in-Ok-look_through-2}
 
--- what is read, in an image
-read_so : (g : Over) (c : After-drop-told-in-Ok-look_through-2 g) (image : Image) → g.D.Disk.holds c.args.disk.now ≡ Some image
-    → ReadSo (volume_of c.args.g.now) image c.args.ag c.in-Ok.heads c.in-Ok-read_trees.trees
-read_so g c image told =
-    let there = c.in-Ok.ensures.disk.same_contents ∙ told in
+pub returns-in-Err : goal.returns-in-Err
+returns-in-Err g c = record { «record» = tt; clusters = tt; reserved = tt; placed = tt; cause = c.in-Err.ensures.cause; disk = c.in-Err.ensures.disk }
+
+pub returns-in-Err-look_through : goal.returns-in-Err-look_through
+returns-in-Err-look_through g c =
+    let D = g.D.Disk in
     record {
-      agf = c.in-Ok.ensures.agf image told;
-      agi = c.in-Ok.ensures.agi image told;
-      agfl = c.in-Ok.ensures.agfl image told;
-      bno = c.in-Ok-read_trees.ensures.bno image there;
-      cnt = c.in-Ok-read_trees.ensures.cnt image there;
-      ino = c.in-Ok-read_trees.ensures.ino image there;
-      fino = c.in-Ok-read_trees.ensures.fino image there;
-      rmap = c.in-Ok-read_trees.ensures.rmap image there;
+      «record» = tt;
+      clusters = tt;
+      reserved = tt;
+      placed = tt;
+      cause = caused_on (D.faults c.args.disk.now) (D.faults c.read_group.new.disk) (D.faults c.look_through.new.disk) c.in-Err-look_through.fault c.in-Ok.ensures.cause
+          c.in-Err-look_through.ensures.cause;
+      disk = reads_on D.size D.holds D.write_faults D.writes D.tells_stops D.moment D.may_leave D.left_since c.args.disk.now c.read_group.new.disk c.look_through.new.disk c.in-Ok.ensures.disk
+          c.in-Err-look_through.ensures.disk;
     }
 
-said_so : (g : Over) (c : After-drop-told-in-Ok-look_through-2 g) (image : Image) → g.D.Disk.holds c.args.disk.now ≡ Some image
-    → ToldSo (volume_of c.args.g.now) image c.args.ag c.in-Ok-told_by.told
-said_so g c image told =
-    let v = volume_of c.args.g.now in
-    let so = read_so g c image told in
-    let apart = owners_apart v image c.args.ag c.in-Ok.heads.agf c.in-Ok-read_trees.trees.rmap so.rmap in
-    told_so v image c.args.ag c.in-Ok.heads c.in-Ok-read_trees.trees c.in-Ok-told_by.told so (c.in-Ok-told_by.ensures apart)
-
-pub returns-in-Ok-look_through-clause-record : goal.returns-in-Ok-look_through-clause-record
-returns-in-Ok-look_through-clause-record g c = λ image told.
-    c.in-Ok-group_with.ensures ∙ group_is (volume_of c.args.g.now) image c.args.ag c.in-Ok.heads c.in-Ok-read_trees.trees (read_so g c image told)
-
-pub returns-in-Ok-look_through-clause-clusters : goal.returns-in-Ok-look_through-clause-clusters
-returns-in-Ok-look_through-clause-clusters g c = λ image told.
-    let there = c.in-Ok-read_trees.ensures.disk.same_contents ∙ (c.in-Ok.ensures.disk.same_contents ∙ told) in
-    c.in-Ok-look_through.ensures.chosen image there
-    ∙ candidates_are (volume_of c.args.g.now) image c.args.ag c.in-Ok-told_by.told (said_so g c image told) (short c.args.g.now c.args.ag c.requires.group)
-
-pub returns-in-Ok-look_through-clause-reserved : goal.returns-in-Ok-look_through-clause-reserved
-returns-in-Ok-look_through-clause-reserved g c = λ image told.
-    let there = c.in-Ok-read_trees.ensures.disk.same_contents ∙ (c.in-Ok.ensures.disk.same_contents ∙ told) in
-    c.in-Ok-look_through.ensures.withheld image there
-    ∙ reserved_are (volume_of c.args.g.now) image c.args.ag c.in-Ok-told_by.told (said_so g c image told) (short c.args.g.now c.args.ag c.requires.group)
-
-pub returns-in-Ok-look_through-clause-disk : goal.returns-in-Ok-look_through-clause-disk
-returns-in-Ok-look_through-clause-disk g c =
+pub returns-in-Ok-look_through : goal.returns-in-Ok-look_through
+returns-in-Ok-look_through g c =
     let D = g.D.Disk in
-    reads_on D.size D.holds D.write_faults D.writes D.tells_stops D.moment D.may_leave D.left_since c.args.disk.now c.read_trees.new.disk c.look_through.new.disk
-    (reads_on D.size D.holds D.write_faults D.writes D.tells_stops D.moment D.may_leave D.left_since c.args.disk.now c.read_heads.new.disk c.read_trees.new.disk c.in-Ok.ensures.disk c.in-Ok-read_trees.ensures.disk)
-    c.in-Ok-look_through.ensures.disk
+    let v = volume_of c.args.g.now in
+    let ag = c.args.ag in
+    let said = c.told.result.now in
+    let told_is : (image : Image) → D.holds c.args.disk.now ≡ Some image → IsToldIn v image ag said =
+    λ image told. subst (IsToldIn v image ag) (sym c.told.ensures) (c.in-Ok.ensures.told image told).told_is in
+    record {
+      «record» = λ image told. c.seen.ensures.record ∙ (c.in-Ok.ensures.told image told).record_is;
+      clusters = λ image told.
+          c.seen.ensures.clusters
+          ∙ (c.in-Ok-look_through.ensures.chosen image (c.in-Ok.ensures.disk.same_contents ∙ told)
+          ∙ candidates_are v image ag said (told_is image told) (short c.args.g.now ag c.requires.group));
+      reserved = λ image told.
+          c.seen.ensures.reserved
+          ∙ (c.in-Ok-look_through.ensures.withheld image (c.in-Ok.ensures.disk.same_contents ∙ told)
+          ∙ reserved_are v image ag said (told_is image told) (short c.args.g.now ag c.requires.group));
+      placed = subst (ClustersPlaced v ag (group_length v ag / 4)) (sym c.seen.ensures.clusters) c.in-Ok-look_through.ensures.placed;
+      cause = later (D.faults c.args.disk.now) (D.faults c.read_group.new.disk) (D.faults c.look_through.new.disk) c.in-Ok.ensures.cause c.in-Ok-look_through.ensures.cause;
+      disk = reads_on D.size D.holds D.write_faults D.writes D.tells_stops D.moment D.may_leave D.left_since c.args.disk.now c.read_group.new.disk c.look_through.new.disk c.in-Ok.ensures.disk
+          c.in-Ok-look_through.ensures.disk;
+    }

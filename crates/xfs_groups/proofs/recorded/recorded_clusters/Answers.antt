@@ -1,8 +1,10 @@
-use Rattle.std.proofs.Common.{◌≡◌, ℕ, ◌+◌, ◌*◌, ◌/◌, true, sym, ap, ◌∙◌, subst, arith}
+use Rattle.std.proofs.Common.{◌≡◌, ℕ, ◌+◌, ◌*◌, ◌/◌, ◌≤◌, true, sym, ap, ◌∙◌, subst, arith}
 use Rattle.xfs_geom.specs.Conversions.{group_length}
 use Rattle.xfs_geom.specs.Volumes.{volume_of}
 use Rattle.xfs_disk.proofs.Reading.{reads_none, reads_on}
 use Rattle.xfs_groups.specs.Private.Chosen.{ClustersPlaced, chosen, cluster_place}
+use Rattle.xfs_groups.specs.declared.faults.GroupsFault.TheVariants as faults
+use Rattle.xfs_groups.proofs.Causes.{caused_on, later, no_later}
 use Rattle.xfs_groups.proofs.Choosing.{chosen_more, none_chosen, placed_step}
 use Rattle.xfs_groups.proofs.Placed.{none_placed}
 use Rattle.xfs_groups.proofs.recorded.recorded_clusters.Goals as goal
@@ -13,7 +15,7 @@ loop-i-init g c =
     record {
       chosen_so = λ image told. c.new-clusters.ensures.items ∙ sym (none_chosen (volume_of c.args.g.now) image true c.args.named.now c.args.ag);
       placed = subst (ClustersPlaced (volume_of c.args.g.now) c.args.ag 0) (sym c.new-clusters.ensures.items) (none_placed (volume_of c.args.g.now) c.args.ag);
-      later = omega arith;
+      later = no_later (D.faults c.args.disk.now);
       disk = reads_none D.size D.holds D.write_faults D.writes D.tells_stops D.moment D.may_leave D.left_since c.args.disk.now;
     }
 
@@ -29,18 +31,42 @@ loop-i-preserved g c =
           c.push_chosen.new.clusters.items at (c.in-Ok.ensures.chosen image (before.disk.same_contents ∙ told)) (before.chosen_so image told) c.in-Ok-push_chosen.ensures;
       placed = placed_step v c.args.ag c.loop-i.i (c.start_of_group-start.result + 4 * c.loop-i.i) c.args.named.now c.in-Ok.is_chosen c.loop-i.clusters.items
           c.push_chosen.new.clusters.items at before.placed c.in-Ok.ensures.root c.in-Ok-push_chosen.ensures;
-      later = let up = before.later in let cause = c.in-Ok.ensures.cause in omega (arith, up, cause);
+      later = later (D.faults c.args.disk.now) (D.faults c.loop-i.disk) (D.faults c.is_chosen.new.disk) before.later c.in-Ok.ensures.cause;
       disk = reads_on D.size D.holds D.write_faults D.writes D.tells_stops D.moment D.may_leave D.left_since c.args.disk.now c.loop-i.disk c.is_chosen.new.disk before.disk c.in-Ok.ensures.disk;
     }
 
-pub returns-clause-chosen : goal.returns-clause-chosen
-returns-clause-chosen g c = λ image told.
-    let last : c.loop-i.i ≡ group_length (volume_of c.args.g.now) c.args.ag / 4 =
-    (let e : c.loop-i.i ≡ c.group_length-i-end.result / 4 = omega arith in e ∙ ap (λ (n : ℕ). n / 4) c.group_length-i-end.ensures.value) in
-    c.loop-i.invariant.chosen_so image told ∙ ap (chosen (volume_of c.args.g.now) image true c.args.named.now c.args.ag) last
+pub is_chosen-requires-clause-inside : goal.is_chosen-requires-clause-inside
+is_chosen-requires-clause-inside g c = subst (λ (n : ℕ). c.args.g.now.dblocks ≤ n) (sym c.loop-i.invariant.disk.same_size) c.requires.inside
 
-pub returns-clause-placed : goal.returns-clause-placed
-returns-clause-placed g c =
-    let last : c.loop-i.i ≡ group_length (volume_of c.args.g.now) c.args.ag / 4 =
-    (let e : c.loop-i.i ≡ c.group_length-i-end.result / 4 = omega arith in e ∙ ap (λ (n : ℕ). n / 4) c.group_length-i-end.ensures.value) in
-    subst (λ (n : ℕ). ClustersPlaced (volume_of c.args.g.now) c.args.ag n c.loop-i.clusters.items) last c.loop-i.invariant.placed
+pub returns-in-Err : goal.returns-in-Err
+returns-in-Err g c =
+    let D = g.D.Disk in
+    record {
+      chosen = tt;
+      placed = tt;
+      cause = caused_on (D.faults c.args.disk.now) (D.faults c.loop-i.disk) (D.faults c.is_chosen.new.disk) faults.ReadFault c.loop-i.invariant.later c.in-Err.ensures.cause;
+      disk = reads_on D.size D.holds D.write_faults D.writes D.tells_stops D.moment D.may_leave D.left_since c.args.disk.now c.loop-i.disk c.is_chosen.new.disk c.loop-i.invariant.disk c.in-Err.ensures.disk;
+    }
+
+pub returns-in-Err-push_chosen : goal.returns-in-Err-push_chosen
+returns-in-Err-push_chosen g c =
+    let D = g.D.Disk in
+    record {
+      chosen = tt;
+      placed = tt;
+      cause = later (D.faults c.args.disk.now) (D.faults c.loop-i.disk) (D.faults c.is_chosen.new.disk) c.loop-i.invariant.later c.in-Ok.ensures.cause;
+      disk = reads_on D.size D.holds D.write_faults D.writes D.tells_stops D.moment D.may_leave D.left_since c.args.disk.now c.loop-i.disk c.is_chosen.new.disk c.loop-i.invariant.disk c.in-Ok.ensures.disk;
+    }
+
+pub returns : goal.returns
+returns g c =
+    let v = volume_of c.args.g.now in
+    let all = c.loop-i.invariant in
+    let last : c.loop-i.i ≡ c.group_length-i-end.result / 4 = omega arith in
+    let end : c.loop-i.i ≡ group_length v c.args.ag / 4 = last ∙ ap (λ (n : ℕ). n / 4) c.group_length-i-end.ensures.value in
+    record {
+      chosen = λ image told. all.chosen_so image told ∙ ap (chosen v image true c.args.named.now c.args.ag) end;
+      placed = subst (λ (n : ℕ). ClustersPlaced v c.args.ag n c.loop-i.clusters.items) end all.placed;
+      cause = all.later;
+      disk = all.disk;
+    }

@@ -7,9 +7,9 @@ use Rattle.xfs_groups.proofs.scanned.scan_group.Given as goal
 
 abbrev pub invariant-loop-i : goal.invariant-loop-i
 invariant-loop-i g l = record {
-  chosen_so : ForSome (g.D.Disk.holds l.fn.disk) (λ image. l.clusters.items ≡ chosen (volume_of l.g) image false l.named l.ag l.i);
-  held_so : ForSome (g.D.Disk.holds l.fn.disk) (λ image. l.reserved.items ≡ withheld (volume_of l.g) image false l.held l.start (4 * l.i));
-  placed : ClustersPlaced (volume_of l.g) l.ag l.i l.clusters.items;
+  chosen_so : ForSome (g.D.Disk.holds l.fn.disk) (λ image. l.all.clusters.items ≡ chosen (volume_of l.g) image false l.named l.ag l.i);
+  held_so : ForSome (g.D.Disk.holds l.fn.disk) (λ image. l.all.reserved.items ≡ withheld (volume_of l.g) image false l.held l.start (4 * l.i));
+  placed : ClustersPlaced (volume_of l.g) l.ag l.i l.all.clusters.items;
   later : g.D.Disk.faults l.fn.disk ≤ g.D.Disk.faults l.disk;
   disk : OnlyReads g.D.Disk.size g.D.Disk.holds g.D.Disk.write_faults g.D.Disk.writes g.D.Disk.tells_stops g.D.Disk.moment g.D.Disk.may_leave g.D.Disk.left_since l.fn.disk l.disk;
 }
