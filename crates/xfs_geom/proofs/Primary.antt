@@ -18,7 +18,8 @@ primary block = record { place = 0; sector = super_of block }
 some_blocks : (n size : ℕ) → n ≡ size → 0 < size → (n == 0) ≡ false
 some_blocks n size is some = grind (arith, nat_tests)
 
-by_primary : (image : Image) (size : ℕ) (block : List ℕ) → length image ≡ size → 0 < size → slice_get image 0 ≡ Some block
+-- what is elected, by the block that was read at 0
+pub by_primary : (image : Image) (size : ℕ) (block : List ℕ) → length image ≡ size → 0 < size → slice_get image 0 ≡ Some block
     → elected image ≡ elected_after (super_fault (super_of block) 0 size) (primary block) (votes_below image size)
 unfolding elected
 by_primary image size block len some there =

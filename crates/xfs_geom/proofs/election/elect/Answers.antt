@@ -1,10 +1,10 @@
-use Rattle.std.proofs.Common.{◌≡◌, ◌<◌, Some, sym, ◌∙◌, ap, arith}
+use Rattle.std.proofs.Common.{◌≡◌, ◌<◌, Some, sym, ◌∙◌, ap, arith, rules}
 use Rattle.xfs_disk.proofs.Reading.{reads_on}
 use Rattle.xfs_geom.specs.Electing.{vote_of}
 use Rattle.xfs_geom.specs.Superblocks.{super_fault}
 use Rattle.xfs_geom.specs.declared.reading.SuperFault.{SuperFault}
 use Rattle.xfs_geom.specs.declared.reading.SuperFault.TheVariants.{Unsupported}
-use Rattle.xfs_geom.proofs.Primary.{primary, primary_elected, feature_refused}
+use Rattle.xfs_geom.proofs.Primary.{by_primary, primary, primary_elected, feature_refused}
 use Rattle.xfs_geom.proofs.election.elect.Goals as goal
 
 pub returns-in-Err-read-clause-disk : goal.returns-in-Err-read-clause-disk
@@ -56,3 +56,9 @@ returns-in-Err-Unsupported g c =
           (record { same_size = then.size; same_contents = then.holds; same_write_faults = then.write_faults; same_writes = then.writes; tells = then.tells; leaves = then.stops; past = then.past });
       reads = let same = first.reads in let more = then.reads in let some : 0 < c.in-Ok.size = omega arith in let is = first.count in omega (arith, same, more, some, is);
     }
+
+pub returns-in-Err-read_super-clause-due : goal.returns-in-Err-read_super-clause-due
+returns-in-Err-read_super-clause-due g c = λ image told.
+    let some : 0 < c.in-Ok.size = omega arith in
+    rw (by_primary image c.in-Ok.size c.read.new.into ((g.met.D.Disk.shape c.args.disk.now image told).count ∙ sym c.in-Ok.ensures.count) some
+        (c.in-Ok-read.ensures.bytes image (c.in-Ok.ensures.holds ∙ told))) (search rules)
