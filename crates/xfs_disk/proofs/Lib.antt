@@ -1,3 +1,4 @@
+mod Windows
 mod Pieces
 mod Places
 pub mod Reading

@@ -10,6 +10,7 @@ pub mod Schedule
 pub mod MemoryDisk
 pub mod MemorySource
 pub mod MemorySink
+pub mod Ahead
 pub mod FileDisk
 pub mod Streams
 pub mod System

@@ -1,11 +1,13 @@
 //! A disk that is a file of the system.
 
-ghost use Rattle.std.specs.Prelude.{◌≡◌, ℕ, ◌*◌, ◌/◌, ◌^◌, ◌<◌, ◌≤◌, ◌↔◌, length, take, drop, Some, None, IsSome, IsNone, IfSome, IfOk, OnOk, OnErr, IsErr};
+ghost use Rattle.std.specs.Prelude.{◌≡◌, ℕ, ◌*◌, ◌/◌, ◌^◌, ◌<◌, ◌≤◌, ◌↔◌, length, take, drop, Some, None, option_and_then, IsSome, IsNone, IfSome, IfOk, OnOk, OnErr, IsErr};
 ghost use Rattle.std.specs.Option.{ForSome};
 ghost use Rattle.std.proofs.Common.{rules};
 ghost use Rattle.xfs_disk.specs.Counts.{CountsDone, CountsFailure};
 ghost use Rattle.xfs_disk.specs.System.{with_piece};
+ghost use Rattle.xfs_disk.specs.Ahead.{HoldsPart};
 
+use crate::ahead::Ahead;
 use crate::counting::{count_done, counted};
 use crate::disk::{BLOCK_SIZE, Disk};
 use crate::failed::Failed;
@@ -21,7 +23,7 @@ const BLOCK_BYTES: u64 = BLOCK_SIZE as u64;
 /// It tells no blocks, since a write that fails may have written a part of its block. What a call does to the bytes of a file
 /// that tells them, its own clauses say.
 #[derive(Drop)]
-pub struct FileDisk<F> {
+pub struct FileDisk<F: ByteFile> {
     file: Option<F>,
     /// The whole blocks of the file when it was opened.
     blocks: u64,
@@ -29,7 +31,9 @@ pub struct FileDisk<F> {
     write_faults: u64,
     reads: u64,
     writes: u64,
+    ahead: Ahead,
     ghost in_range: { blocks * 4096 < 2 ^ 64 },
+    ghost held: { HoldsPart (option_and_then F.bytes file) ahead },
 }
 
 impl<F: ByteFile + Drop> FileDisk<F> {
@@ -53,6 +57,7 @@ impl<F: ByteFile + Drop> FileDisk<F> {
             write_faults: 0,
             reads: 0,
             writes: 0,
+            ahead: Ahead::none(),
         })
     }
 
@@ -72,6 +77,7 @@ impl<F: ByteFile + Drop> FileDisk<F> {
             write_faults: 0,
             reads: 0,
             writes: 0,
+            ahead: Ahead::none(),
         }
     }
 }
@@ -125,7 +131,7 @@ impl<F: ByteFile + Drop> Disk for FileDisk<F> {
         ensures writes { writes_of self.new ≡ writes_of self.old }
     {
         let outcome = match &mut self.file {
-            Some(file) => read_at(file, at * BLOCK_BYTES, into),
+            Some(file) => read_block(file, &mut self.ahead, at, into),
             None => Err(no_file()),
         };
         let outcome = counted(outcome, &mut self.faults);
@@ -147,6 +153,7 @@ impl<F: ByteFile + Drop> Disk for FileDisk<F> {
         ensures reads { reads_of self.new ≡ reads_of self.old }
         ensures writes { CountsDone (writes_of self.old) (writes_of self.new) result }
     {
+        self.ahead.drop_all();
         let outcome = match &mut self.file {
             Some(file) => write_at(file, at * BLOCK_BYTES, from),
             None => Err(no_file()),
@@ -178,6 +185,28 @@ impl<F: ByteFile + Drop> Disk for FileDisk<F> {
     ghost counts_now = { λ disk t image tells. absurd tells };
 
     ghost only_now = { λ disk image tells. absurd tells };
+}
+
+/// Fills the slice with a block of the file, which may have been read ahead.
+fn read_block<F: ByteFile>(
+    file: &mut F,
+    ahead: &mut Ahead,
+    at: u64,
+    into: &mut [u8],
+) -> io::Result<()>
+    requires range { at * 4096 < 2 ^ 64 }
+    requires whole { length into.old ≡ 4096 }
+    requires held { HoldsPart (F.bytes file.old) ahead.old }
+    ensures read { OnOk result (ForSome (F.bytes file.old) (λ all. into.new ≡ take 4096 (drop (at * 4096) all))) }
+    ensures bytes { F.bytes file.new ≡ F.bytes file.old }
+    ensures held { HoldsPart (F.bytes file.new) ahead.new }
+{
+    ahead.look(file, at);
+    if ahead.give(at, into) {
+        return Ok(());
+    }
+    ahead.expect_behind(at);
+    read_at(file, at * BLOCK_BYTES, into)
 }
 
 /// Fills the slice with the bytes of the file from this byte on. A file that ends earlier is an error.

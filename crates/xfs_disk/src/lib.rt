@@ -17,6 +17,7 @@
 //! ```
 #![tactic(auto)]
 
+mod ahead;
 mod counting;
 mod disk;
 mod failed;
