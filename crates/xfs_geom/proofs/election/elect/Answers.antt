@@ -61,4 +61,4 @@ pub returns-in-Err-read_super-clause-due : goal.returns-in-Err-read_super-clause
 returns-in-Err-read_super-clause-due g c = λ image told.
     let some : 0 < c.in-Ok.size = omega arith in
     rw (by_primary image c.in-Ok.size c.read.new.into ((g.met.D.Disk.shape c.args.disk.now image told).count ∙ sym c.in-Ok.ensures.count) some
-        (c.in-Ok-read.ensures.bytes image (c.in-Ok.ensures.holds ∙ told))) (search rules)
+    (c.in-Ok-read.ensures.bytes image (c.in-Ok.ensures.holds ∙ told))) (search rules)
