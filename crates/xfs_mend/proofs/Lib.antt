@@ -10,3 +10,5 @@ pub mod Rows
 pub mod Ending
 pub mod Restored
 pub mod Again
+pub mod SameCandidates
+pub mod Staying

@@ -1,5 +1,5 @@
--- A repaired image is consistent, and its protected files are kept.
-use Rattle.std.proofs.Common.{◌≡◌, ℕ, ◌*◌, ◌==◌, Bool, true, false, List, [], length, drop, Option, Some, refl, sym, ap, ◌∙◌, subst}
+-- A repaired image is consistent, its protected files are kept, and a further repair leaves it as it is.
+use Rattle.std.proofs.Common.{◌≡◌, ℕ, ◌*◌, Bool, true, false, List, length, drop, Option, Some, None, refl, sym, ap, ◌∙◌, subst}
 use Rattle.std.proofs.lemmas.Bool.{eqb-true}
 use Rattle.std.proofs.lemmas.List.{drop_at}
 use Rattle.xfs_disk.specs.Blocks.{Image, bytes_of_block}
@@ -9,7 +9,7 @@ use Rattle.xfs_geom.specs.Volumes.{Volume, stated_volume, volume_of}
 use Rattle.xfs_geom.specs.declared.geometry.Geometry.{Geometry}
 use Rattle.xfs_laws.specs.Lawful.{broken_law}
 use Rattle.xfs_image.proofs.Backups.{only_backups}
-use Rattle.xfs_image.specs.Consistent.{HasBackupFault, IsElected, finding}
+use Rattle.xfs_image.specs.Consistent.{HasBackupFault, IsConsistent, IsElected, finding}
 use Rattle.xfs_image.specs.declared.findings.Finding.{Finding}
 use Rattle.xfs_image.specs.declared.findings.Finding.TheVariants as Found
 use Rattle.xfs_frames.specs.Backups.{DifferInBackups}
@@ -19,8 +19,10 @@ use Rattle.xfs_mend.proofs.Deciding.{is_elected}
 use Rattle.xfs_mend.proofs.Electing.{elected_primary}
 use Rattle.xfs_mend.proofs.Mending.{mended_agreeing, mended_block, mended_other}
 use Rattle.xfs_mend.proofs.Repaired.{IsAccepted, agree_written, backup_written, elects_written, is_mended, none_found, primary_of}
+use Rattle.xfs_scan.specs.Refused.{refused}
+use Rattle.xfs_mend.proofs.Staying.{is_left}
 use Rattle.xfs_mend.specs.Backups.{backup_plan, start_of}
-use Rattle.xfs_mend.specs.Due.{is_backup}
+use Rattle.xfs_mend.specs.Due.{is_backup, scan_refusal}
 use Rattle.xfs_mend.specs.Outcome.{IsRepaired}
 use Rattle.xfs_writing.specs.Writing.{written}
 
@@ -56,11 +58,20 @@ has_fault g image (Found.Part part place) same backup =
     (place, only_backups broken_law g image place (sym same ∙ ap (λ (p : ℕ). Some (Found.Part p place)) number))
 
 pub is_repaired : (image : Image) (now : Option Image) (g : Geometry) (ag : ℕ) → IsAccepted image → volume_of g ≡ stated_volume (super_of (bytes_of_block image 0))
-    → HasBackupFault broken_law g image ag → now ≡ Some (written (backup_plan image) image) → IsRepaired image now
-is_repaired image now g ag known stated fault planned =
+    → HasBackupFault broken_law g image ag → scan_refusal (refused (volume_of g) image) ≡ None → now ≡ Some (written (backup_plan image) image) → IsRepaired image now
+is_repaired image now g ag known stated fault none planned =
     let due : Image = written (backup_plan image) image in
     let differ : DifferInBackups (volume_of g) image due = differ_written image g known stated in
     let elects : IsElected (volume_of g) due = is_elected g due (primary_of image) (elects_written image known) stated in
+    let consistent : IsConsistent broken_law g due =
+    record {
+      elected = elects;
+      first = refl;
+      catalog = fault.catalog;
+      reads = views_stay g image due fault.catalog fault.reads fault.lawful differ;
+      lawful = fault.lawful;
+      backups = agree_written image known g elects;
+    } in
     record {
       planned = planned;
       mended = is_mended image known;
@@ -69,13 +80,7 @@ is_repaired image now g ag known stated fault planned =
       found_elsewhere = none_found image known;
       geometry = g;
       states = fault.elected;
-      consistent = record {
-        elected = elects;
-        first = refl;
-        catalog = fault.catalog;
-        reads = views_stay g image due fault.catalog fault.reads fault.lawful differ;
-        lawful = fault.lawful;
-        backups = agree_written image known g elects;
-      };
+      consistent = consistent;
       keeps = λ ino protected. protected_stay g image due ino differ protected;
+      stays = is_left g image due consistent differ none;
     }

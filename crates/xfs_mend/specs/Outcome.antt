@@ -11,11 +11,13 @@ use Rattle.xfs_laws.specs.Lawful.{broken_law}
 use Rattle.xfs_image.specs.Consistent.{HasFinding, IsConsistent, IsElected, backup_agrees}
 use Rattle.xfs_image.specs.Keeping.{Keeps, Protected}
 use Rattle.xfs_image.specs.declared.findings.Finding.TheVariants.{Part}
+use Rattle.xfs_mend.specs.Asked.{Asked}
 use Rattle.xfs_mend.specs.Backups.{with_super, start_of, backup_plan}
+use Rattle.xfs_mend.specs.Due.{IsAnswer, IsDueRepair, IsOwed}
 use Rattle.xfs_writing.specs.Writing.{Writes, written, IsPartly}
 use Rattle.xfs_writing.specs.Stopped.{IsStopped}
 use Rattle.xfs_mend.specs.declared.outcome.Outcome.{Outcome}
-use Rattle.xfs_mend.specs.declared.outcome.Outcome.TheVariants.{Repaired, ReadFault, WriteFault}
+use Rattle.xfs_mend.specs.declared.outcome.Outcome.TheVariants.{Clean, Repaired, ReadFault, WriteFault}
 use Rattle.xfs_mend.specs.declared.outcome.Summary.TheVariants.{Backups, Rebuilt}
 
 -- a fault of the disk is answered only where its count rose; a read fault tells the count
@@ -39,8 +41,22 @@ pub record IsMended (image now : Image) : Type 0 where
       → bytes_of_block now (start_of (super_of (bytes_of_block image 0)) group)
       ≡ with_super (super_of (bytes_of_block image 0)) (bytes_of_block image (start_of (super_of (bytes_of_block image 0)) group))
 
+-- nothing was written, as the outcome says
+abbrev pub is_quiet : Outcome → Bool
+is_quiet (Repaired summary) = false
+is_quiet (WriteFault blocks) = false
+is_quiet outcome = true
+
+-- Whatever is asked of a further repair, clean is due to the image: each other outcome that may come is a failed read or want of memory,
+-- and none says that anything was written.
+pub record Stays (image : Image) : Type 0 where
+  pub clean : (o : Asked) → IsAnswer o image (elected image) Clean
+  pub only : (o : Asked) (outcome : Outcome) → IsDueRepair o image outcome → IsOwed Clean outcome
+  pub quiet : (o : Asked) (outcome : Outcome) → IsDueRepair o image outcome → is_quiet outcome ≡ true
+
 -- A repaired image has just the planned blocks changed, which mends it: all its backups agree from then on, whatever geometry it
--- elects, so none of them is found. By the geometry that the image elected it is consistent, and each file that was protected is kept.
+-- elects, so none of them is found. By the geometry that the image elected it is consistent, each file that was protected is kept, and a
+-- further repair leaves it as it is.
 pub record IsRepaired (image : Image) (now : Option Image) : Type 0 where
   pub planned : now ≡ Some (written (backup_plan image) image)
   pub mended : IsMended image (written (backup_plan image) image)
@@ -52,6 +68,7 @@ pub record IsRepaired (image : Image) (now : Option Image) : Type 0 where
   pub states : IsElected (volume_of geometry) image
   pub consistent : IsConsistent broken_law geometry (written (backup_plan image) image)
   pub keeps : (ino : ℕ) → Protected (volume_of geometry) image ino → Keeps (volume_of geometry) image (written (backup_plan image) image) ino
+  pub stays : Stays (written (backup_plan image) image)
 
 -- what the disk holds after an outcome of the plan: the written plan after a repair, a part of it after a
 -- write fault, else what it held
@@ -65,12 +82,6 @@ abbrev pub RepairLeaves : Image → Option Image → Outcome → Type 0
 RepairLeaves image now (Repaired summary) = IsRepaired image now
 RepairLeaves image now (WriteFault blocks) = IsPartly (backup_plan image) image blocks now
 RepairLeaves image now outcome = now ≡ Some image
-
--- nothing was written, as the outcome says
-abbrev pub is_quiet : Outcome → Bool
-is_quiet (Repaired summary) = false
-is_quiet (WriteFault blocks) = false
-is_quiet outcome = true
 
 -- how many blocks were written, as the outcome says
 abbrev pub blocks_told : Outcome → ℕ

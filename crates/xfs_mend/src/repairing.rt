@@ -1,6 +1,6 @@
 //! The repair of a volume, so far of its backup superblocks alone.
 
-ghost use Rattle.std.specs.Prelude.{◌≡◌, ◌-◌, ◌≤◌, ◌⊎◌, ℕ, false, true, length, Ok, Some};
+ghost use Rattle.std.specs.Prelude.{◌≡◌, ◌-◌, ◌≤◌, ◌⊎◌, ℕ, false, true, length, None, Ok, Some};
 ghost use Rattle.std.specs.Option.{ForSome};
 ghost use Rattle.xfs_disk.specs.Counts.{raised_times};
 ghost use Rattle.xfs_disk.specs.Blocks.{Image};
@@ -12,7 +12,7 @@ ghost use Rattle.xfs_laws.specs.Lawful.{broken_law};
 ghost use Rattle.xfs_image.specs.Consistent.{finding};
 ghost use Rattle.xfs_mend.specs.Asked.{Asked, repair_asked};
 ghost use Rattle.xfs_mend.specs.Backups.{steps_from};
-ghost use Rattle.xfs_mend.specs.Due.{CanCome, IsDueRepair, IsOwed, due_found, due_volume, is_backup};
+ghost use Rattle.xfs_mend.specs.Due.{CanCome, IsDueRepair, IsOwed, due_found, due_volume, is_backup, turned_away};
 ghost use Rattle.xfs_mend.specs.Private.Ending.{Ends};
 ghost use Rattle.xfs_mend.specs.Outcome.{IsRepairCause, IsDurableRepair, RepairLeaves, LeavesOf, StopsBy, StopsOf, blocks_told, is_quiet};
 ghost use Rattle.xfs_mend.specs.declared.outcome.Outcome.TheVariants.{Repaired};
@@ -147,6 +147,7 @@ fn answer_found<D: Disk>(
     requires stated { volume_of chosen.now.geometry ≡ stated_volume chosen.now.sector }
     requires inside { chosen.now.geometry.dblocks ≤ D.size disk.old }
     requires elects { ForSome (D.holds disk.old) (λ image. elected image ≡ Ok (vote_of chosen.now)) }
+    requires admitted { ForSome (D.holds disk.old) (λ image. turned_away (repair_asked options.now) (volume_of chosen.now.geometry) image ≡ None) }
     requires found { ForSome (D.holds disk.old) (λ image. Some found ≡ finding broken_law chosen.now.geometry image) }
     ensures due { ForSome (D.holds disk.old) (λ image. IsOwed (due_found (repair_asked options.now) image (Some found)) result) }
     ensures leaves { ForSome (D.holds disk.old) (λ image. RepairLeaves image (D.holds disk.new) result) }

@@ -2,10 +2,12 @@
 use Rattle.std.proofs.Common.{rules, ◌≡◌, ◌≤◌, ℕ, true, false, refl, sym, subst, arith}
 use Rattle.xfs_disk.proofs.Reading.{reads_none}
 use Rattle.xfs_geom.specs.Electing.{vote_of}
+use Rattle.xfs_geom.specs.Volumes.{volume_of}
 use Rattle.xfs_mend.proofs.Accepted.{accepted, owed_as, plan_elected, stated_primary, stops_by_plan, written_leaves}
 use Rattle.xfs_mend.proofs.Deciding.{due_of_plan, from_primary}
 use Rattle.xfs_mend.proofs.Ending.{ends_read, stops_read}
 use Rattle.xfs_mend.proofs.Restored.{has_fault, is_repaired}
+use Rattle.xfs_mend.proofs.Staying.{looked_at}
 use Rattle.xfs_mend.specs.Asked.{repair_asked}
 use Rattle.xfs_mend.specs.Due.{is_backup}
 use Rattle.xfs_mend.specs.Outcome.{StopsBy}
@@ -64,8 +66,9 @@ returns-clause-leaves g c =
     let found = has_fault geometry image c.args.found (c.requires.found image told) backup in
     let known = accepted image vote geometry elects from c.requires.sector c.requires.stated
     (subst (λ (n : ℕ). geometry.dblocks ≤ n) (sym (g.met.D.Disk.shape c.args.disk.now image told).count) c.requires.inside) in
+    let none = looked_at (repair_asked c.args.options.now) (volume_of geometry) image (c.requires.admitted image told) in
     written_leaves image (g.D.Disk.holds c.repair_backups.new.disk) _ c.repair_backups.result
-    (λ planned. is_repaired image (g.D.Disk.holds c.repair_backups.new.disk) geometry found.0 known (stated_primary image vote geometry elects from c.requires.stated) found.1 planned)
+    (λ planned. is_repaired image (g.D.Disk.holds c.repair_backups.new.disk) geometry found.0 known (stated_primary image vote geometry elects from c.requires.stated) found.1 none planned)
     (plan_elected image vote geometry elects from c.requires.stated)
     (c.repair_backups.ensures.leaves image told)
 

@@ -97,6 +97,14 @@ returns-in-Err-NoMemory-clause-ends g c =
     let up : D.faults c.args.disk.now ≤ D.faults c.admit.new.disk = search rules in
     ends_read D.size D.holds D.faults D.write_faults D.writes D.tells_stops D.moment D.may_leave D.left_since c.args.disk.now c.admit.new.disk out.NoMemory disk up refl tt
 
+pub answer_found-requires-clause-admitted : goal.answer_found-requires-clause-admitted
+answer_found-requires-clause-admitted g c = λ image told.
+    let D = g.D.Disk in
+    let disk = reads_on D.size D.holds D.write_faults D.writes D.tells_stops D.moment D.may_leave D.left_since c.args.disk.now c.admit.new.disk c.find_first.new.disk c.in-Ok-View.ensures.disk c.in-Ok-Some.ensures.disk in
+    let given : c.in-Ok-View.field-0 ≡ View c.in-Ok-View.view = search rules in
+    admitted_stays (repair_asked c.args.options.now) c.args.chosen.now.geometry image c.in-Ok-View.field-0 c.in-Ok-View.view given
+    (c.in-Ok-View.ensures.admitted image (sym disk.same_contents ∙ told))
+
 pub returns-in-Ok-Some : goal.returns-in-Ok-Some
 returns-in-Ok-Some g c =
     let D = g.D.Disk in
