@@ -48,8 +48,8 @@ impl Case {
 
     /// Takes a line: its first word, and what is behind.
     ///
-    /// What the disk holds: `zeros`, `bytes`, `slots`, `cycles` and `chunks` of `volume`; behind `then` they say what it must hold in
-    /// the end beside what it held, and `unseen` says that this is not compared.
+    /// What the disk holds: `zeros`, `filled`, `bytes`, `slots`, `cycles` and `chunks` of `volume`; behind `then` they say what it must
+    /// hold in the end beside what it held, and `unseen` says that this is not compared.
     ///
     /// What a call is given: `fail N` makes the read, write or sync of the disk fail that has this number, counted from 1 from here on;
     /// `room N` bytes are left for standard output from here on; `input LINE` and `tail TEXT` are added to standard input, which is not
@@ -68,6 +68,7 @@ impl Case {
     ) -> Result<(), Refusal> {
         match word {
             "zeros" => self.disks.zeros(rest),
+            "filled" => self.disks.filled(rest),
             "bytes" => self.disks.bytes(rest),
             "slots" => self.disks.slots(rest),
             "cycles" => self.disks.cycles(rest),

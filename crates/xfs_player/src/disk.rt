@@ -29,6 +29,15 @@ impl CaseDisk {
         })
     }
 
+    /// A disk whose blocks are all in memory, and each byte of them this one.
+    pub fn filled(alloc: Global, blocks: u64, byte: u8) -> Result<CaseDisk, Refusal> {
+        let mut disk = CaseDisk::make(alloc, blocks, blocks)?;
+        for place in 0..blocks {
+            disk.put(place, 0, &[byte; BLOCK_SIZE])?;
+        }
+        Ok(disk)
+    }
+
     /// Makes the read, write or sync of this number fail, counted from 1 from now on.
     pub fn fail(&mut self, call: u64) -> Result<(), Refusal> {
         self.memory.fail(call)?;

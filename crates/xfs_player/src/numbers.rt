@@ -18,6 +18,14 @@ pub fn number(text: &str) -> Result<u64, Refusal> {
     }
 }
 
+/// The byte that a text of two hexadecimal digits states.
+pub fn read_byte(text: &str) -> Result<u8, Refusal> {
+    match byte_of(text.as_bytes()) {
+        Some(byte) => Ok(byte),
+        None => Err(Refusal::Malformed),
+    }
+}
+
 /// The bytes that hexadecimal digits state; `DIGITS*COUNT` states them so many times.
 pub fn read_bytes(alloc: Global, text: &str) -> Result<Vec<u8>, Refusal> {
     let (digits, times) = match text.split_once('*') {

@@ -26,8 +26,9 @@ struct Changes {
 }
 
 /// Makes a call on copies of a disk. One goes on to its end, the others stop after `step` writes, after twice as many, and so on. Each
-/// is to hold at most `step` blocks more of what the whole call leaves than the one before it (a block that is written as it was is not
-/// seen), in ascending order, but block 0 last; and its answer is to tell how many blocks were written.
+/// is to hold just `step` blocks more of what the whole call leaves than the one before it, in ascending order, but block 0 last, and all
+/// others as they were; and its answer is to tell how many blocks were written. A block that is written as it was is not seen: the
+/// disk is to hold other bytes where the call writes (`filled`).
 pub fn stop_by_steps(
     rt: &(impl Threads + Sync),
     alloc: Global,
@@ -51,7 +52,7 @@ pub fn stop_by_steps(
         let call = Call::make(rt, alloc, &mut stopped, words, given)?;
         let changes = changes_between(before.image(), stopped.image(), whole.image());
         let in_order = changes.is_some_and(|c| {
-            c.count <= written.saturating_sub(done) && c.is_behind(place, written == writes)
+            c.count == written.saturating_sub(done) && c.is_behind(place, written == writes)
         });
         if !in_order || !call.tells_fault(alloc, written)? {
             return Ok(Stops {

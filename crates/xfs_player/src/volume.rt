@@ -3,7 +3,7 @@
 ghost use Rattle.std.specs.Prelude.{◌<◌};
 
 use crate::disk::CaseDisk;
-use crate::numbers::{cut, number, read_bytes};
+use crate::numbers::{cut, number, read_byte, read_bytes};
 use crate::refusal::Refusal;
 use crate::vast::put_chunks;
 use std::alloc::Global;
@@ -53,6 +53,17 @@ impl Disks {
             self.held = CaseDisk::make(self.alloc, held, blocks)?;
         }
         self.due = CaseDisk::make(self.alloc, held, blocks)?;
+        Ok(())
+    }
+
+    /// `filled BLOCKS DIGITS`: makes disks of so many blocks, all in memory, each byte of which is this one.
+    pub fn filled(&mut self, text: &str) -> Result<(), Refusal> {
+        let (blocks, digits) = cut(text);
+        let (blocks, byte) = (number(blocks)?, read_byte(digits)?);
+        if !self.due_alone {
+            self.held = CaseDisk::filled(self.alloc, blocks, byte)?;
+        }
+        self.due = CaseDisk::filled(self.alloc, blocks, byte)?;
         Ok(())
     }
 
