@@ -73,7 +73,7 @@ fn admit_counted<D: Disk, L: Ledger>(
 {
     let mut steps = Steps::<L>::from_blank(blank);
     match gather(alloc, g, disk, &mut steps) {
-        Ok(evidence) => Ok(take_view(options, evidence.log, evidence.catalog)),
+        Ok(evidence) => Ok(take_view(options, evidence.log, evidence.seen.into_view())),
         Err(ScanFault::ReadFault) => Err(MendFault::ReadFault),
         Err(ScanFault::NoMemory) => Err(MendFault::NoMemory),
         Err(ScanFault::TooLarge { what, count }) => unless_dirty(

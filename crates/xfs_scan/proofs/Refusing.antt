@@ -1,24 +1,24 @@
 -- What is refused late, and what the evidence is, from what is gathered.
-use Rattle.std.proofs.Common.{◌≡◌, ℕ, ◌^◌, List, length, Option, Some, Result, sym, ap, ap₂, ◌∙◌}
+use Rattle.std.proofs.Common.{◌≡◌, ℕ, ◌^◌, List, length, Option, Some, sym, ap, ap₂, ◌∙◌}
 use Rattle.std.specs.List.{flat_map, sum_by}
 use Rattle.xfs_disk.specs.Blocks.{Image}
 use Rattle.xfs_geom.specs.Volumes.{Volume, volume_of}
 use Rattle.xfs_geom.specs.declared.geometry.Geometry.{Geometry}
 use Rattle.xfs_groups.specs.declared.groups.Groups.{Groups}
 use Rattle.xfs_heads.specs.declared.log.state.LogState.{LogState}
-use Rattle.xfs_volume.specs.declared.catalogs.Catalog.{Catalog}
 use Rattle.xfs_volume.specs.declared.clusters.ClusterRec.{ClusterRec}
-use Rattle.xfs_image.specs.declared.findings.Finding.{Finding}
 use Rattle.xfs_image.specs.Candidates.{candidates}
 use Rattle.xfs_image.specs.Claims.{candidate_files, candidate_inodes, entry_count, total_extents}
 use Rattle.xfs_image.specs.Directories.{dirs_read, entries_read}
 use Rattle.xfs_image.specs.Slots.{cluster_inodes}
 use Rattle.xfs_image.specs.View.{log_of, view}
-use Rattle.xfs_scan.specs.Evidence.{AreSeen, IsEvidence, joined_parts}
+use Rattle.xfs_scan.specs.Evidence.{AreSeen, HasFiles, IsEvidence, joined_parts, view_in}
 use Rattle.xfs_scan.specs.Facts.{slot_facts}
 use Rattle.xfs_scan.specs.Gathered.{Gathered, bare_inodes, first_feature, gathered, held_in}
 use Rattle.xfs_scan.specs.Refused.{extents_of, feature_refused, refused_late, unless_more}
-use Rattle.xfs_scan.specs.declared.scan.ScannedSlots.{ScannedSlots}
+use Rattle.xfs_scan.specs.declared.evidence.Seen.{Seen}
+use Rattle.xfs_scan.specs.declared.facts.SlotFact.{SlotFact}
+use Rattle.xfs_scan.specs.declared.inodes.Inodes.{Inodes}
 use Rattle.xfs_scan.specs.Answers.{IsRefusal}
 use Rattle.xfs_scan.specs.declared.faults.ScanFault.{ScanFault}
 use Rattle.xfs_scan.specs.declared.faults.ScanFault.TheVariants as faults
@@ -61,19 +61,19 @@ module _ (v : Volume) (image : Image) (held : Gathered) (all : held ≡ gathered
       (counted ∙ ap (sum_by extents_of) files_are)
       (ap₂ (λ (n : ℕ) (later : Option ScanFault). unless_more (2 ^ 23) 3 n later) (many ∙ ap length entries_are) (ap feature_refused feature_is))
 
-pub is_evidence : (g : Geometry) (image : Image) (seen : Groups) (scanned : ScannedSlots) (catalog : Result Catalog Finding) (log : LogState)
-    → AreSeen g image seen → scanned.slots.items ≡ slot_facts (volume_of g) image
-    → held_in scanned.inodes ≡ gathered (volume_of g) image (candidate_inodes (volume_of g) image)
-    → catalog ≡ view g image → log ≡ log_of (volume_of g) image
-    → IsEvidence g image (joined_parts seen.clusters seen.trees scanned catalog log)
-is_evidence g image seen scanned catalog log groups slots inodes viewed logged = record {
-  clusters = groups.clusters;
-  slots = slots;
-  files = files_are (volume_of g) image (held_in scanned.inodes) inodes;
-  bare = bare_are (volume_of g) image (held_in scanned.inodes) inodes;
-  entries = entries_are (volume_of g) image (held_in scanned.inodes) inodes;
-  dirs = dirs_are (volume_of g) image (held_in scanned.inodes) inodes;
-  trees = groups.trees;
+pub is_evidence : (g : Geometry) (image : Image) (groups : Groups) (slots : List SlotFact) (bare : List ℕ) (inodes : Inodes) (seen : Seen) (log : LogState)
+    → AreSeen g image groups → slots ≡ slot_facts (volume_of g) image → bare ≡ inodes.bare.items
+    → held_in inodes ≡ gathered (volume_of g) image (candidate_inodes (volume_of g) image)
+    → HasFiles inodes seen → view_in seen ≡ view g image → log ≡ log_of (volume_of g) image
+    → IsEvidence g image (joined_parts groups.clusters slots bare groups.trees seen log)
+is_evidence g image groups slots bare inodes seen log read facts copied held kept viewed logged = record {
+  clusters = read.clusters;
+  slots = facts;
+  files = kept.files ∙ files_are (volume_of g) image (held_in inodes) held;
+  bare = copied ∙ bare_are (volume_of g) image (held_in inodes) held;
+  entries = kept.entries ∙ entries_are (volume_of g) image (held_in inodes) held;
+  dirs = kept.dirs ∙ dirs_are (volume_of g) image (held_in inodes) held;
+  trees = read.trees;
   catalog = viewed;
   log = logged;
 }

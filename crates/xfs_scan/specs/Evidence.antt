@@ -1,5 +1,5 @@
 -- What the evidence of an image is.
-use Rattle.std.specs.Prelude.{◌≡◌, List, Result}
+use Rattle.std.specs.Prelude.{◌≡◌, ℕ, List, Result, Ok}
 use Rattle.xfs_disk.specs.Blocks.{Image}
 use Rattle.xfs_geom.specs.Volumes.{volume_of}
 use Rattle.xfs_geom.specs.declared.geometry.Geometry.{Geometry}
@@ -17,20 +17,50 @@ use Rattle.xfs_image.specs.Directories.{dirs_read, entries_read}
 use Rattle.xfs_image.specs.View.{log_of, view}
 use Rattle.xfs_scan.specs.Facts.{slot_facts}
 use Rattle.xfs_scan.specs.Gathered.{bare_inodes}
+use Rattle.xfs_dirdata.specs.declared.records.EntryRec.{EntryRec}
+use Rattle.xfs_volume.specs.declared.directories.DirRec.{DirRec}
+use Rattle.xfs_volume.specs.declared.files.FileRec.{FileRec}
 use Rattle.xfs_scan.specs.declared.evidence.Evidence.{Evidence}
-use Rattle.xfs_scan.specs.declared.scan.ScannedSlots.{ScannedSlots}
+use Rattle.xfs_scan.specs.declared.evidence.Seen.{Seen}
+use Rattle.xfs_scan.specs.declared.evidence.Seen.TheVariants as Sight
+use Rattle.xfs_scan.specs.declared.facts.SlotFact.{SlotFact}
+use Rattle.xfs_scan.specs.declared.inodes.Inodes.{Inodes}
+
+-- the files of an evidence, their entries and their directories: those of the catalog, where they are that catalog's
+abbrev pub files_in : Seen → List FileRec
+files_in (Sight.Whole catalog) = catalog.files
+files_in (Sight.Apart lists told) = lists.files
+
+abbrev pub entries_in : Seen → List EntryRec
+entries_in (Sight.Whole catalog) = catalog.entries
+entries_in (Sight.Apart lists told) = lists.entries
+
+abbrev pub dirs_in : Seen → List DirRec
+dirs_in (Sight.Whole catalog) = catalog.dirs
+dirs_in (Sight.Apart lists told) = lists.dirs
+
+-- what the whole image says beside them
+abbrev pub view_in : Seen → Result Catalog Finding
+view_in (Sight.Whole catalog) = Ok catalog
+view_in (Sight.Apart lists told) = told
+
+-- they are the files, the entries and the directories that were gathered
+pub record HasFiles (inodes : Inodes) (seen : Seen) : Type 0 where
+  pub files : files_in seen ≡ inodes.files.items
+  pub entries : entries_in seen ≡ inodes.entries.items
+  pub dirs : dirs_in seen ≡ inodes.dirs.items
 
 -- the candidate clusters with what is kept of their slots; the candidate files, those without attributes, their directories with
 -- the entries of these; the reserved blocks of each group; what the whole image says; whether its log is clean
 pub record IsEvidence (g : Geometry) (image : Image) (e : Evidence) : Type 0 where
   pub clusters : e.clusters ≡ candidates (volume_of g) image
   pub slots : e.slots ≡ slot_facts (volume_of g) image
-  pub files : e.files ≡ candidate_files (volume_of g) image
+  pub files : files_in e.seen ≡ candidate_files (volume_of g) image
   pub bare : e.bare ≡ bare_inodes (volume_of g) image
-  pub entries : e.entries ≡ entries_read (volume_of g) image (candidate_files (volume_of g) image)
-  pub dirs : e.dirs ≡ dirs_read (volume_of g) image (candidate_files (volume_of g) image)
+  pub entries : entries_in e.seen ≡ entries_read (volume_of g) image (candidate_files (volume_of g) image)
+  pub dirs : dirs_in e.seen ≡ dirs_read (volume_of g) image (candidate_files (volume_of g) image)
   pub trees : lists_of e.trees ≡ reserved_lists (volume_of g) image
-  pub catalog : e.catalog ≡ view g image
+  pub catalog : view_in e.seen ≡ view g image
   pub log : e.log ≡ log_of (volume_of g) image
 
 -- what the groups of an image give
@@ -40,15 +70,5 @@ pub record AreSeen (g : Geometry) (image : Image) (seen : Groups) : Type 0 where
   pub trees : lists_of seen.trees ≡ reserved_lists (volume_of g) image
 
 -- the evidence from its parts
-abbrev pub joined_parts : List ClusterRec → List GroupTrees → ScannedSlots → Result Catalog Finding → LogState → Evidence
-joined_parts clusters trees scanned catalog log = record {
-  clusters = clusters;
-  slots = scanned.slots.items;
-  files = scanned.inodes.files.items;
-  bare = scanned.inodes.bare.items;
-  entries = scanned.inodes.entries.items;
-  dirs = scanned.inodes.dirs.items;
-  trees = trees;
-  catalog = catalog;
-  log = log;
-}
+abbrev pub joined_parts : List ClusterRec → List SlotFact → List ℕ → List GroupTrees → Seen → LogState → Evidence
+joined_parts clusters slots bare trees seen log = record { clusters = clusters; slots = slots; bare = bare; trees = trees; seen = seen; log = log }

@@ -1,5 +1,8 @@
 //! The evidence of a volume.
 
+ghost use Rattle.std.specs.Prelude.{◌≡◌};
+ghost use Rattle.xfs_scan.specs.Evidence.{dirs_in, entries_in, files_in, view_in};
+
 use crate::facts::SlotFact;
 use xfs_dirdata::EntryRec;
 use xfs_groups::GroupTrees;
@@ -14,17 +17,73 @@ pub struct Evidence {
     pub clusters: Records<ClusterRec>,
     /// What is kept of each of their slots, in order, 32 for each cluster.
     pub slots: Records<SlotFact>,
-    /// The files that their slots have, by inode, with their attributes or without.
-    pub files: Records<FileRec>,
     /// The inodes of the files that read without their attributes.
     pub bare: Blocks,
+    /// What is known of the trees of each group.
+    pub trees: Records<GroupTrees>,
+    /// The files that the slots have, and what the whole image says.
+    pub seen: Seen,
+    pub log: LogState,
+}
+
+/// The files of the candidate clusters, and what the whole image says, or the first part that does not read. No list is held twice.
+#[derive(Drop)]
+pub enum Seen {
+    /// All reads, and the files of the catalog are those of the candidate clusters.
+    Whole(Catalog),
+    /// The candidate clusters have files of their own.
+    Apart(Lists, Result<Catalog, Finding>),
+}
+
+/// The files of some slots, and what is found of them.
+#[derive(Drop)]
+pub struct Lists {
+    /// The files, by inode, with their attributes or without.
+    pub files: Records<FileRec>,
     /// The entries that read of the directories among the files, by directory and then as they stand in it.
     pub entries: Records<EntryRec>,
     /// These directories, by inode.
     pub dirs: Records<DirRec>,
-    /// What is known of the trees of each group.
-    pub trees: Records<GroupTrees>,
+}
+
+impl Seen {
+    /// The files of the candidate clusters, by inode, with their attributes or without.
+    pub fn files(&self) -> &[FileRec]
+        ensures { result.now ≡ files_in self.now }
+    {
+        match self {
+            Seen::Whole(catalog) => catalog.files.as_slice(),
+            Seen::Apart(lists, _) => lists.files.as_slice(),
+        }
+    }
+
+    /// The entries that read of the directories among the files, by directory and then as they stand in it.
+    pub fn entries(&self) -> &[EntryRec]
+        ensures { result.now ≡ entries_in self.now }
+    {
+        match self {
+            Seen::Whole(catalog) => catalog.entries.as_slice(),
+            Seen::Apart(lists, _) => lists.entries.as_slice(),
+        }
+    }
+
+    /// These directories, by inode.
+    pub fn dirs(&self) -> &[DirRec]
+        ensures { result.now ≡ dirs_in self.now }
+    {
+        match self {
+            Seen::Whole(catalog) => catalog.dirs.as_slice(),
+            Seen::Apart(lists, _) => lists.dirs.as_slice(),
+        }
+    }
+
     /// What the whole image says, or the first part that does not read.
-    pub catalog: Result<Catalog, Finding>,
-    pub log: LogState,
+    pub fn into_view(self) -> Result<Catalog, Finding>
+        ensures { result ≡ view_in self }
+    {
+        match self {
+            Seen::Whole(catalog) => Ok(catalog),
+            Seen::Apart(_, view) => view,
+        }
+    }
 }

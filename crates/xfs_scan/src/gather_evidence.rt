@@ -12,21 +12,22 @@ ghost use Rattle.xfs_scan.specs.Facts.{slot_facts};
 ghost use Rattle.xfs_scan.specs.Gathered.{gathered, held_in};
 ghost use Rattle.xfs_scan.specs.Refused.{refused, refused_late};
 
-use crate::evidence::Evidence;
+use crate::evidence::{Evidence, Seen};
+use crate::facts::SlotFact;
 use crate::faults::{PartFault, ScanFault};
+use crate::inodes::Inodes;
 use crate::limits::{INODES, MOST_INODES, count_extents, count_inodes, refusal};
 use crate::scan::{ScannedSlots, scan};
 use crate::view::see_view;
 use std::alloc::Global;
 use std::sync::ledger::Ledger;
-use xfs_disk::Disk;
+use xfs_disk::{Disk, NoMemory};
 use xfs_geom::Geometry;
 use xfs_groups::{GroupTrees, Groups, GroupsFault, see_groups};
 use xfs_heads::LogState;
-use xfs_image::Finding;
 use xfs_journal::{JournalFault, read_log};
 use xfs_runs::Steps;
-use xfs_volume::{Catalog, ClusterRec, GroupRec, Records};
+use xfs_volume::{Blocks, ClusterRec, Records};
 
 /// The evidence of the volume that a disk holds. `ReadFault` only where a read failed. Each block that is read counts as a
 /// step, also where the read fails.
@@ -117,46 +118,55 @@ fn gather_view<D: Disk, L: Ledger>(
         Err(JournalFault::ReadFault) => return Err(PartFault::ReadFault),
         Err(JournalFault::NoMemory) => return Err(PartFault::NoMemory),
     };
+    let bare = match copy_bare(alloc, &scanned.inodes) {
+        Ok(bare) => bare,
+        Err(NoMemory) => return Err(PartFault::NoMemory),
+    };
     let Groups {
         groups,
         clusters,
         trees,
     } = seen;
+    let ScannedSlots { slots, inodes } = scanned;
     match see_view(
         alloc,
         g,
         disk,
         groups,
         clusters.as_slice(),
-        &scanned.inodes,
+        inodes,
         log,
         steps,
     ) {
-        Ok(catalog) => Ok(evidence_of(clusters, trees, scanned, catalog, log)),
+        Ok(held) => Ok(evidence_of(clusters, slots, bare, trees, held, log)),
         Err(fault) => Err(fault),
     }
+}
+
+/// The inodes of the files that read without their attributes.
+fn copy_bare(alloc: Global, inodes: &Inodes) -> Result<Blocks, NoMemory>
+    ensures { IfOk result (λ bare. bare ≡ inodes.now.bare.items) }
+{
+    Ok(Blocks::from_vec(Vec::from_slice(alloc, &inodes.bare)?))
 }
 
 /// The evidence from its parts.
 fn evidence_of(
     clusters: Records<ClusterRec>,
+    slots: Vec<SlotFact>,
+    bare: Blocks,
     trees: Records<GroupTrees>,
-    scanned: ScannedSlots,
-    catalog: Result<Catalog, Finding>,
+    seen: Seen,
     log: LogState,
 ) -> Evidence
-    ensures { result ≡ joined_parts clusters trees scanned catalog log }
+    ensures { result ≡ joined_parts clusters slots.items bare trees seen log }
 {
-    let ScannedSlots { slots, inodes } = scanned;
     Evidence {
         clusters,
         slots: Records::from_vec(slots),
-        files: Records::from_vec(inodes.files),
-        bare: Records::from_vec(inodes.bare),
-        entries: Records::from_vec(inodes.entries),
-        dirs: Records::from_vec(inodes.dirs),
+        bare,
         trees,
-        catalog,
+        seen,
         log,
     }
 }

@@ -19,7 +19,6 @@
 
 mod blocks;
 mod clusters;
-mod copies;
 mod evidence;
 mod facts;
 mod faults;
@@ -31,7 +30,7 @@ mod scan;
 mod slots;
 mod view;
 
-pub use evidence::Evidence;
+pub use evidence::{Evidence, Lists, Seen};
 pub use facts::{SlotFact, SlotReading};
 pub use faults::ScanFault;
 pub use gather_evidence::gather;

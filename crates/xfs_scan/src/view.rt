@@ -16,11 +16,12 @@ ghost use Rattle.xfs_image.specs.Groups.{groups_read};
 ghost use Rattle.xfs_image.specs.Slots.{cluster_inodes, inodes_of_block};
 ghost use Rattle.xfs_image.specs.View.{catalog_of, counts_of, log_of, view};
 ghost use Rattle.xfs_scan.specs.Answers.{HasReadCause};
+ghost use Rattle.xfs_scan.specs.Evidence.{HasFiles, view_in};
 ghost use Rattle.xfs_scan.specs.Gathered.{gathered, held_in, inodes_of_blocks, gathered_both};
 
 use crate::blocks::blocks_of;
 use crate::clusters::see_block;
-use crate::copies::copy_inodes;
+use crate::evidence::{Lists, Seen};
 use crate::faults::PartFault;
 use crate::inodes::Inodes;
 use crate::recorded::clusters_of;
@@ -41,59 +42,54 @@ const MOST_GROUPS: usize = 512;
 /// The part of an image that a slot is.
 const SLOT_PART: u8 = 9;
 
-/// What the whole image says whose groups, whose candidate clusters with what their slots give, and whose log are these.
+/// The files that the candidate clusters of an image have, which are handed in, and what the image says, whose groups and whose
+/// log are these.
 pub fn see_view<D: Disk, L: Ledger>(
     alloc: Global,
     g: &Geometry,
     disk: &mut D,
     groups: Result<Records<GroupRec>, Finding>,
-    scanned_clusters: &[ClusterRec],
-    scanned: &Inodes,
+    scanned: &[ClusterRec],
+    inodes: Inodes,
     log: LogState,
     steps: &mut Steps<L>,
-) -> Result<Result<Catalog, Finding>, PartFault>
+) -> Result<Seen, PartFault>
     requires inside { g.now.dblocks ≤ D.size disk.old }
     requires groups { ForSome (D.holds disk.old) (λ image. groups ≡ groups_read (volume_of g.now) image) }
-    requires candidates { ForSome (D.holds disk.old) (λ image. scanned_clusters.now ≡ candidates (volume_of g.now) image) }
-    requires scanned { ForSome (D.holds disk.old) (λ image. held_in scanned.now ≡ gathered (volume_of g.now) image (candidate_inodes (volume_of g.now) image)) }
+    requires scanned { ForSome (D.holds disk.old) (λ image. scanned.now ≡ candidates (volume_of g.now) image) }
+    requires inodes { ForSome (D.holds disk.old) (λ image. held_in inodes ≡ gathered (volume_of g.now) image (candidate_inodes (volume_of g.now) image)) }
     requires log { ForSome (D.holds disk.old) (λ image. log ≡ log_of (volume_of g.now) image) }
-    ensures view { IfOk result (λ seen. ForSome (D.holds disk.old) (λ image. seen ≡ view g.now image)) }
+    ensures view { IfOk result (λ seen. ForSome (D.holds disk.old) (λ image. view_in seen ≡ view g.now image)) }
+    ensures files { IfOk result (HasFiles inodes) }
     ensures cause { HasReadCause (D.faults disk.old) (D.faults disk.new) result }
     ensures disk { OnlyReads D.size D.holds D.write_faults D.writes D.tells_stops D.moment D.may_leave D.left_since disk.old disk.new }
 {
     match groups {
-        Err(found) => Ok(Err(found)),
-        Ok(groups) => see_catalog(
-            alloc,
-            g,
-            disk,
-            groups,
-            scanned_clusters,
-            scanned,
-            log,
-            steps,
-        ),
+        Err(found) => Ok(apart(inodes, Err(found))),
+        Ok(groups) => see_with_groups(alloc, g, disk, groups, scanned, inodes, log, steps),
     }
 }
 
 /// The same, of groups that read. That they are not too many is tested here, as a disk that does not tell what it holds, a file,
-/// says nothing of what was read from it; of each image they are as many as the volume has (`view_is_of_what_reads`).
-fn see_catalog<D: Disk, L: Ledger>(
+/// says nothing of what was read from it; of each image they are as many as the volume has (`view_is_of_what_reads`). Where their
+/// clusters are just the candidates, no block is read again.
+fn see_with_groups<D: Disk, L: Ledger>(
     alloc: Global,
     g: &Geometry,
     disk: &mut D,
     groups: Records<GroupRec>,
-    scanned_clusters: &[ClusterRec],
-    scanned: &Inodes,
+    scanned: &[ClusterRec],
+    inodes: Inodes,
     log: LogState,
     steps: &mut Steps<L>,
-) -> Result<Result<Catalog, Finding>, PartFault>
+) -> Result<Seen, PartFault>
     requires inside { g.now.dblocks ≤ D.size disk.old }
     requires groups { ForSome (D.holds disk.old) (λ image. groups_read (volume_of g.now) image ≡ Ok groups) }
-    requires candidates { ForSome (D.holds disk.old) (λ image. scanned_clusters.now ≡ candidates (volume_of g.now) image) }
-    requires scanned { ForSome (D.holds disk.old) (λ image. held_in scanned.now ≡ gathered (volume_of g.now) image (candidate_inodes (volume_of g.now) image)) }
+    requires scanned { ForSome (D.holds disk.old) (λ image. scanned.now ≡ candidates (volume_of g.now) image) }
+    requires inodes { ForSome (D.holds disk.old) (λ image. held_in inodes ≡ gathered (volume_of g.now) image (candidate_inodes (volume_of g.now) image)) }
     requires log { ForSome (D.holds disk.old) (λ image. log ≡ log_of (volume_of g.now) image) }
-    ensures view { IfOk result (λ seen. ForSome (D.holds disk.old) (λ image. seen ≡ view g.now image)) }
+    ensures view { IfOk result (λ seen. ForSome (D.holds disk.old) (λ image. view_in seen ≡ view g.now image)) }
+    ensures files { IfOk result (HasFiles inodes) }
     ensures cause { HasReadCause (D.faults disk.old) (D.faults disk.new) result }
     ensures disk { OnlyReads D.size D.holds D.write_faults D.writes D.tells_stops D.moment D.may_leave D.left_since disk.old disk.new }
 {
@@ -104,23 +100,103 @@ fn see_catalog<D: Disk, L: Ledger>(
         Ok(clusters) => clusters,
         Err(NoMemory) => return Err(PartFault::NoMemory),
     };
-    let inodes = match see_recorded(alloc, g, disk, &clusters, scanned_clusters, scanned, steps) {
+    if are_candidates(&clusters, scanned) {
+        return see_same(alloc, g, disk, groups, &clusters, inodes, log, steps);
+    }
+    match see_recorded(alloc, g, disk, groups, &clusters, log, steps) {
+        Ok(view) => Ok(apart(inodes, view)),
+        Err(fault) => Err(fault),
+    }
+}
+
+/// The same, where these inodes are those of the clusters of the groups.
+fn see_same<D: Disk, L: Ledger>(
+    alloc: Global,
+    g: &Geometry,
+    disk: &mut D,
+    groups: Records<GroupRec>,
+    clusters: &[u64],
+    inodes: Inodes,
+    log: LogState,
+    steps: &mut Steps<L>,
+) -> Result<Seen, PartFault>
+    requires inside { g.now.dblocks ≤ D.size disk.old }
+    requires few { length groups ≤ 512 }
+    requires groups { ForSome (D.holds disk.old) (λ image. groups_read (volume_of g.now) image ≡ Ok groups) }
+    requires clusters { clusters.now ≡ clusters_of (volume_of g.now) groups }
+    requires low { All (λ cluster. cluster < 2 ^ 42) clusters.now }
+    requires inodes { ForSome (D.holds disk.old) (λ image. held_in inodes ≡ gathered (volume_of g.now) image (flat_map (cluster_inodes (volume_of g.now)) clusters.now)) }
+    requires log { ForSome (D.holds disk.old) (λ image. log ≡ log_of (volume_of g.now) image) }
+    ensures view { IfOk result (λ seen. ForSome (D.holds disk.old) (λ image. view_in seen ≡ view g.now image)) }
+    ensures files { IfOk result (HasFiles inodes) }
+    ensures cause { HasReadCause (D.faults disk.old) (D.faults disk.new) result }
+    ensures disk { OnlyReads D.size D.holds D.write_faults D.writes D.tells_stops D.moment D.may_leave D.left_since disk.old disk.new }
+{
+    match inodes.unread {
+        Some(place) => return Ok(apart(inodes, Err(missing(place)))),
+        None => {}
+    }
+    match build_view(alloc, g, disk, groups, clusters, inodes, log, steps) {
+        Ok(catalog) => Ok(Seen::Whole(catalog)),
+        Err(fault) => Err(fault),
+    }
+}
+
+/// What an image says whose groups have these clusters, which are not the candidates: their blocks are read again.
+fn see_recorded<D: Disk, L: Ledger>(
+    alloc: Global,
+    g: &Geometry,
+    disk: &mut D,
+    groups: Records<GroupRec>,
+    clusters: &[u64],
+    log: LogState,
+    steps: &mut Steps<L>,
+) -> Result<Result<Catalog, Finding>, PartFault>
+    requires inside { g.now.dblocks ≤ D.size disk.old }
+    requires few { length groups ≤ 512 }
+    requires groups { ForSome (D.holds disk.old) (λ image. groups_read (volume_of g.now) image ≡ Ok groups) }
+    requires clusters { clusters.now ≡ clusters_of (volume_of g.now) groups }
+    requires low { All (λ cluster. cluster < 2 ^ 42) clusters.now }
+    requires log { ForSome (D.holds disk.old) (λ image. log ≡ log_of (volume_of g.now) image) }
+    ensures view { IfOk result (λ seen. ForSome (D.holds disk.old) (λ image. seen ≡ view g.now image)) }
+    ensures cause { HasReadCause (D.faults disk.old) (D.faults disk.new) result }
+    ensures disk { OnlyReads D.size D.holds D.write_faults D.writes D.tells_stops D.moment D.may_leave D.left_since disk.old disk.new }
+{
+    let inodes = match see_clusters(alloc, g, disk, clusters, steps) {
         Ok(inodes) => inodes,
         Err(fault) => return Err(fault),
     };
     match inodes.unread {
-        Some(place) => {
-            return Ok(Err(Finding::Part {
-                part: SLOT_PART,
-                place,
-            }));
-        }
+        Some(place) => return Ok(Err(missing(place))),
         None => {}
     }
-    match build_view(alloc, g, disk, groups, &clusters, inodes, log, steps) {
+    match build_view(alloc, g, disk, groups, clusters, inodes, log, steps) {
         Ok(catalog) => Ok(Ok(catalog)),
         Err(fault) => Err(fault),
     }
+}
+
+/// What is found at an inode that is neither free nor a file with its attributes.
+fn missing(place: u64) -> Finding
+    ensures { result ≡ Finding.Part 9 place }
+{
+    Finding::Part {
+        part: SLOT_PART,
+        place,
+    }
+}
+
+/// The files of candidate clusters, beside what the image says.
+fn apart(inodes: Inodes, view: Result<Catalog, Finding>) -> Seen
+    ensures view { view_in result ≡ view }
+    ensures files { HasFiles inodes result }
+{
+    let lists = Lists {
+        files: Records::from_vec(inodes.files),
+        entries: Records::from_vec(inodes.entries),
+        dirs: Records::from_vec(inodes.dirs),
+    };
+    Seen::Apart(lists, view)
 }
 
 /// The catalog of groups and inodes that all read.
@@ -142,6 +218,7 @@ fn build_view<D: Disk, L: Ledger>(
     requires dirs { ForSome (D.holds disk.old) (λ image. inodes.dirs.items ≡ dirs_read (volume_of g.now) image inodes.files.items) }
     requires log { ForSome (D.holds disk.old) (λ image. log ≡ log_of (volume_of g.now) image) }
     ensures catalog { IfOk result (λ catalog. ForSome (D.holds disk.old) (λ image. catalog ≡ catalog_of g.now image groups inodes.files.items)) }
+    ensures files { IfOk result (λ catalog. HasFiles inodes (Seen.Whole catalog)) }
     ensures cause { HasReadCause (D.faults disk.old) (D.faults disk.new) result }
     ensures disk { OnlyReads D.size D.holds D.write_faults D.writes D.tells_stops D.moment D.may_leave D.left_since disk.old disk.new }
 {
@@ -195,33 +272,6 @@ fn read_counts<D: Disk, L: Ledger>(
             fdblocks: FDBLOCKS.read(&block),
         }),
         Err(Failed) => Err(Failed),
-    }
-}
-
-/// What the slots of these clusters give. Where they are just the candidates, no block is read again.
-fn see_recorded<D: Disk, L: Ledger>(
-    alloc: Global,
-    g: &Geometry,
-    disk: &mut D,
-    clusters: &[u64],
-    scanned_clusters: &[ClusterRec],
-    scanned: &Inodes,
-    steps: &mut Steps<L>,
-) -> Result<Inodes, PartFault>
-    requires inside { g.now.dblocks ≤ D.size disk.old }
-    requires low { All (λ cluster. cluster < 2 ^ 42) clusters.now }
-    requires candidates { ForSome (D.holds disk.old) (λ image. scanned_clusters.now ≡ candidates (volume_of g.now) image) }
-    requires scanned { ForSome (D.holds disk.old) (λ image. held_in scanned.now ≡ gathered (volume_of g.now) image (candidate_inodes (volume_of g.now) image)) }
-    ensures inodes { IfOk result (λ inodes. ForSome (D.holds disk.old) (λ image. held_in inodes ≡ gathered (volume_of g.now) image (flat_map (cluster_inodes (volume_of g.now)) clusters.now))) }
-    ensures cause { HasReadCause (D.faults disk.old) (D.faults disk.new) result }
-    ensures disk { OnlyReads D.size D.holds D.write_faults D.writes D.tells_stops D.moment D.may_leave D.left_since disk.old disk.new }
-{
-    if !are_candidates(clusters, scanned_clusters) {
-        return see_clusters(alloc, g, disk, clusters, steps);
-    }
-    match copy_inodes(alloc, scanned) {
-        Ok(inodes) => Ok(inodes),
-        Err(NoMemory) => Err(PartFault::NoMemory),
     }
 }
 

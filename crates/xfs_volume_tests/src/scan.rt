@@ -125,21 +125,22 @@ fn evidence(rt: HostRuntime) -> Result<(), Fail> {
         "[ClusterRec { block: 16, recorded: true }, ClusterRec { block: 24, recorded: false }]";
     tells(&rt, &found.clusters.as_slice(), clusters, "clusters");
     same!(rt; found.slots.as_slice().len(), 64);
-    let files = found.files.as_slice();
+    let files = found.seen.files();
     same!(rt; files.len(), 4);
     for (file, ino) in files.iter().zip([128, 131, 137, 192]) {
         same!(rt; file.ino, ino);
     }
     tells(&rt, &found.bare.as_slice(), "[137]", "bare files");
-    let entries = found.entries.as_slice();
+    let entries = found.seen.entries();
     assert!(rt;
         entries.len() == 1 && entries[0].ino == 131 && entries[0].name.bytes() == b"a".as_slice()
     );
     let root = "[DirRec { ino: 128, parent: 128, whole: true }]";
-    tells(&rt, &found.dirs.as_slice(), root, "directories");
+    tells(&rt, &found.seen.dirs(), root, "directories");
     same!(rt; found.trees.as_slice().len(), 2);
-    assert!(rt; matches!(found.catalog, Err(Finding::Part { part: 1, place: 0 })));
     same!(rt; found.log, LogState::Clean { head: 1 << 32 });
+    let view = found.seen.into_view();
+    assert!(rt; matches!(view, Err(Finding::Part { part: 1, place: 0 })));
     Ok(())
 }
 

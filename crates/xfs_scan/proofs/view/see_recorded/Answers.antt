@@ -1,11 +1,48 @@
-use Rattle.std.proofs.Common.{◌∙◌}
+use Rattle.std.proofs.Common.{Ok, Err, sym, ap, ◌∙◌}
+use Rattle.std.specs.List.{flat_map}
 use Rattle.xfs_geom.specs.Volumes.{volume_of}
-use Rattle.xfs_scan.specs.Gathered.{held_in}
-use Rattle.xfs_scan.proofs.Rests.{given_by_candidates}
+use Rattle.xfs_disk.proofs.Reading.{reads_on}
+use Rattle.xfs_image.specs.Directories.{dirs_read, entries_read}
+use Rattle.xfs_image.specs.Slots.{cluster_inodes}
+use Rattle.xfs_scan.specs.Gathered.{Gathered, files_if, held_in}
+use Rattle.xfs_scan.proofs.Gathering.{dirs_of_files, entries_of_files}
+use Rattle.xfs_scan.proofs.Views.{all_read, file_missing, files_held}
 use Rattle.xfs_scan.proofs.view.see_recorded.Goals as goal
 
-pub returns-in-Ok-clause-inodes : goal.returns-in-Ok-clause-inodes
-returns-in-Ok-clause-inodes g c = λ image told.
-    c.in-Ok.ensures
-    ∙ given_by_candidates (volume_of c.args.g.now) image c.args.clusters.now c.args.scanned_clusters.now (held_in c.args.scanned.now)
-    (c.requires.candidates image told) (c.are_candidates.ensures.0 c.if-not-are_candidates.false) (c.requires.scanned image told)
+pub returns-in-Some-clause-view : goal.returns-in-Some-clause-view
+returns-in-Some-clause-view g c = λ image told.
+    let inodes = c.in-Ok.inodes in
+    let held = files_held (volume_of c.args.g.now) image c.args.groups c.args.clusters.now (held_in inodes) c.requires.clusters (c.in-Ok.ensures.inodes image told) in
+    ap Err c.missing.ensures
+    ∙ file_missing c.args.g.now image c.args.groups _ (c.requires.groups image told) (held ∙ ap (λ unread. files_if unread inodes.files.items) c.in-Some.is)
+
+pub returns-in-Ok-build_view-clause-view : goal.returns-in-Ok-build_view-clause-view
+returns-in-Ok-build_view-clause-view g c = λ image told.
+    let inodes = c.in-Ok.inodes in
+    let held = files_held (volume_of c.args.g.now) image c.args.groups c.args.clusters.now (held_in inodes) c.requires.clusters (c.in-Ok.ensures.inodes image told) in
+    ap Ok (c.in-Ok-build_view.ensures.catalog image (c.in-Ok.ensures.disk.same_contents ∙ told))
+    ∙ all_read c.args.g.now image c.args.groups inodes.files.items (c.requires.groups image told) (held ∙ ap (λ unread. files_if unread inodes.files.items) c.in-None.is)
+
+pub build_view-requires-clause-entries : goal.build_view-requires-clause-entries
+build_view-requires-clause-entries g c = λ image told.
+    let v = volume_of c.args.g.now in
+    let held = c.in-Ok.ensures.inodes image (sym c.in-Ok.ensures.disk.same_contents ∙ told) in
+    ap (λ (gathered : Gathered). gathered.entries) held ∙ entries_of_files v image (flat_map (cluster_inodes v) c.args.clusters.now)
+    ∙ ap (λ (gathered : Gathered). entries_read v image gathered.files) (sym held)
+
+pub build_view-requires-clause-dirs : goal.build_view-requires-clause-dirs
+build_view-requires-clause-dirs g c = λ image told.
+    let v = volume_of c.args.g.now in
+    let held = c.in-Ok.ensures.inodes image (sym c.in-Ok.ensures.disk.same_contents ∙ told) in
+    ap (λ (gathered : Gathered). gathered.dirs) held ∙ dirs_of_files v image (flat_map (cluster_inodes v) c.args.clusters.now)
+    ∙ ap (λ (gathered : Gathered). dirs_read v image gathered.files) (sym held)
+
+pub returns-in-Ok-build_view-clause-disk : goal.returns-in-Ok-build_view-clause-disk
+returns-in-Ok-build_view-clause-disk g c =
+    let D = g.D.Disk in
+    reads_on D.size D.holds D.write_faults D.writes D.tells_stops D.moment D.may_leave D.left_since c.args.disk.now c.see_clusters.new.disk c.build_view.new.disk c.see_clusters.ensures.disk c.build_view.ensures.disk
+
+pub returns-in-Err-build_view-clause-disk : goal.returns-in-Err-build_view-clause-disk
+returns-in-Err-build_view-clause-disk g c =
+    let D = g.D.Disk in
+    reads_on D.size D.holds D.write_faults D.writes D.tells_stops D.moment D.may_leave D.left_since c.args.disk.now c.see_clusters.new.disk c.build_view.new.disk c.see_clusters.ensures.disk c.build_view.ensures.disk

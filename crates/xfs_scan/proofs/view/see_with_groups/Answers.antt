@@ -1,0 +1,13 @@
+use Rattle.std.proofs.Common.{sym, ◌∙◌}
+use Rattle.xfs_geom.specs.Volumes.{volume_of}
+use Rattle.xfs_scan.specs.Gathered.{held_in}
+use Rattle.xfs_scan.proofs.Rests.{given_by_candidates}
+use Rattle.xfs_scan.proofs.view.see_with_groups.Goals as goal
+
+pub see_same-requires-clause-inodes : goal.see_same-requires-clause-inodes
+see_same-requires-clause-inodes g c = λ image told.
+    given_by_candidates (volume_of c.args.g.now) image c.deref-then-are_candidates.result.now c.args.scanned.now (held_in c.args.inodes)
+    (c.requires.scanned image told) (c.deref-then-are_candidates.ensures.value ∙ sym c.deref.ensures.value ∙ c.are_candidates.ensures.0 c.if-are_candidates.true) (c.requires.inodes image told)
+
+pub returns-in-Ok-see_recorded-clause-view : goal.returns-in-Ok-see_recorded-clause-view
+returns-in-Ok-see_recorded-clause-view g c = λ image told. c.apart.ensures.view ∙ c.in-Ok-see_recorded.ensures.view image told
