@@ -16,7 +16,7 @@ root_in-requires-3-clause-some c = (space_trees _ _ _ _ c.requires.sound).2
 pub overflow_cast-free : goal.overflow_cast-free
 overflow_cast-free c =
     let small = free_small (volume_of c.args.g.now) c.args.ag c.args.placed.now.bno c.requires.sound.bno.lawful in
-    let same : free_blocks c.as_slice-5.result.now ≡ free_blocks c.args.placed.now.bno = ap free_blocks c.as_slice-5.ensures in
+    let same : free_blocks c.as_slice-2.result.now ≡ free_blocks c.args.placed.now.bno = ap free_blocks c.as_slice-2.ensures in
     omega (arith, small, same, c.free_blocks-free.ensures.value, c.group_length.ensures.value, c.group_length.type_inv)
 
 pub overflow_sub-result : goal.overflow_sub-result
