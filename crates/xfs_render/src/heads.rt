@@ -27,13 +27,14 @@ pub fn due_agf(g: &Geometry, ag: u32, inodes: &[InoRec], placed: &GroupPlaced) -
     let bno = tree_places(placed, 0).len();
     let cnt = tree_places(placed, 1).len();
     let rmap = tree_places(placed, 4).len();
+    let length = g.group_length(ag);
     let listed = placed.agfl.as_slice().len() as u32;
     let free = free_blocks(placed.bno.as_slice()) as u32;
     Agf {
         magicnum: 0x5841_4746,
         versionnum: 1,
         seqno: ag,
-        length: g.group_length(ag),
+        length,
         bnoroot: root_in(g, placed, 0),
         cntroot: root_in(g, placed, 1),
         rmaproot: root_in(g, placed, 4),

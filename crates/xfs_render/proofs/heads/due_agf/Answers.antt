@@ -17,7 +17,7 @@ pub overflow_cast-free : goal.overflow_cast-free
 overflow_cast-free c =
     let small = free_small (volume_of c.args.g.now) c.args.ag c.args.placed.now.bno c.requires.sound.bno.lawful in
     let same : free_blocks c.as_slice-2.result.now ≡ free_blocks c.args.placed.now.bno = ap free_blocks c.as_slice-2.ensures in
-    omega (arith, small, same, c.free_blocks-free.ensures.value, c.group_length.ensures.value, c.group_length.type_inv)
+    omega (arith, small, same, c.free_blocks-free.ensures.value, c.group_length-length.ensures.value, c.group_length-length.type_inv)
 
 pub overflow_sub-result : goal.overflow_sub-result
 overflow_sub-result c =
