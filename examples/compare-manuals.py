@@ -2,7 +2,8 @@
 """Compares the answers in the manual pages with the texts of the program: `text_of` of crates/xfs_tools/specs/Texts.antt, which
 the code of crates/xfs_tools/src/texts.rt is proved to print, and which of them each tool gives. Each answer of a page must be one
 that its tool gives, and each that it gives must stand in the page, but for those that no call gives today (LATER). The refusals
-of the debugger's page must be those that its code prints. Then both `mandoc` and `man` must show each page without a warning.
+of the debugger's page must be those that its code prints. The options and statuses of the help of each tool (crates/xfs_texts/specs/Help.antt,
+which the code is proved to print too) must be those of its page. Then both `mandoc` and `man` must show each page without a warning.
 
     examples/compare-manuals.py
 
@@ -18,6 +19,8 @@ SPECS = "crates/xfs_tools/specs/"
 # the tools, and the definitions that say which answers each of them gives
 TOOLS = {"xfs_repair": [("Answers", "answer_of")], "mkfs.xfs": [("Making", "made_answer"), ("Making", "make_refusal")],
          "xfs_db": [("Debugging", "session_answer"), ("Debugging", "line_refusal")]}
+# how the definitions of help name the tools
+HELPED = {"xfs_repair": "repair", "mkfs.xfs": "make", "xfs_db": "debug"}
 # the forms of answers that no call gives today: a repair rebuilds nothing, and nothing but groups is placed
 LATER = {"Repaired": "repaired: blocks=", "NoRoom": ("xfs: no room: directory", "xfs: no room: file", "xfs: no room: chunk", "xfs: no room: lost")}
 # a number or an identifier in a text
@@ -110,6 +113,22 @@ def refusals():
     return set(whole) | {head + HOLE for head in headed}
 
 
+def helped(tool):
+    """The letters of the options and the statuses that the help of a tool tells."""
+    said = read("crates/xfs_texts/specs/Help.antt")
+    rows = re.search(rf"(?ms)^{HELPED[tool]}_rows =\n(.*?)\n\n", said)[1]
+    ends = re.search(rf'(?m)^{HELPED[tool]}_ends = codes "(.*)"$', said)[1]
+    return [chr(int(letter)) for letter in re.findall(r"\((\d+), codes", rows)], re.findall(r"status (\d+)", ends)
+
+
+def described(page):
+    """The letters of the options that a page describes, and its statuses."""
+    body, rest = page.split("\n.Sh EXIT STATUS\n")
+    statuses = re.findall(r"(?m)^\.It (\d+)$", rest.split("\n.Sh ")[0])
+    options = body.split("\n.Sh DESCRIPTION\n")[1]
+    return set(re.findall(r"(?m)^\.(?:It )?Fl ([A-Za-z])(?= |$)", options)), statuses
+
+
 def compare(page, what, shown, wanted):
     """Prints what the page has too much or too little, and whether that is nothing."""
     for line in sorted(set(shown) - wanted):
@@ -141,6 +160,10 @@ def main():
         page = read(f"man/{tool}.8")
         lines = {line.rstrip("\n") for line in due(tool, answers)}
         right &= compare(tool, "answer", listed(page, "ANSWERS"), lines)
+        letters, statuses = helped(tool)
+        options, ends = described(page)
+        right &= compare(tool, "option", letters, options)
+        right &= compare(tool, "status", statuses, set(ends))
         if tool == "xfs_db":
             right &= compare(tool, "refusal", listed(page, "REFUSALS"), refusals())
         right &= is_shown_right(path)

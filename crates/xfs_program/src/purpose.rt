@@ -8,12 +8,12 @@ ghost use Rattle.xfs_program.specs.Purposes.{debugger_purpose, maker_purpose, pu
 use std::alloc::{AllocError, Global};
 use xfs_disk::Word;
 use xfs_options::{LineFault, MakeFault, read_debug_words, read_make_words};
-use xfs_tools::{Call, is_debugger, is_maker, judge};
+use xfs_tools::{Call, is_debugger, is_maker, judge, text_asked};
 
 /// What a call does with its image.
 #[derive(Clone, Copy, Debug, PartialEq, Eq)]
 pub enum Purpose {
-    /// Nothing: the words are refused.
+    /// Nothing: the words are refused, or ask for help or the version alone.
     Nothing,
     /// It is read.
     Reads,
@@ -25,7 +25,9 @@ pub enum Purpose {
 pub fn purpose_of(alloc: Global, words: &[Word]) -> Result<Purpose, AllocError>
     ensures { IfOk result (λ purpose. purpose ≡ purpose_in words.now) }
 {
-    if is_debugger(words) {
+    if text_asked(words).is_some() {
+        Ok(Purpose::Nothing)
+    } else if is_debugger(words) {
         purpose_of_debugger(alloc, &words[1..])
     } else if is_maker(words) {
         purpose_of_maker(alloc, &words[1..])

@@ -3,4 +3,3 @@ pub mod Labels
 pub mod Making
 pub mod Offending
 pub mod Refusing
-pub mod Telling

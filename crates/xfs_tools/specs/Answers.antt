@@ -1,10 +1,9 @@
 -- Answers, and how their lines are told.
-use Rattle.std.specs.Prelude.{◌≡◌, ℕ, ◌≤◌, Bool, MatchBool, List, ◌++◌, length, take, Option, Some, Result, Ok, Err, OnOk, OnErr}
-use Rattle.std.specs.Option.{ForSome}
-use Rattle.xfs_disk.specs.Faults.{HasCause}
+use Rattle.std.specs.Prelude.{◌≡◌, ℕ, Bool, MatchBool, List, Option, Result, Ok, Err}
 use Rattle.xfs_disk.specs.declared.failed.Failed.{Failed}
 use Rattle.xfs_mend.specs.declared.outcome.Outcome.{Outcome}
 use Rattle.xfs_mend.specs.declared.outcome.Outcome.TheVariants as out
+use Rattle.xfs_texts.specs.Lines.{PutsText}
 use Rattle.xfs_tools.specs.Texts.{text_of, is_for_out, code_of}
 use Rattle.xfs_tools.specs.declared.answer.Answer.{Answer}
 use Rattle.xfs_tools.specs.declared.answer.Answer.TheVariants.{Unbuilt, NoGeometry, Unsupported, DirtyLog, TooLarge, UnsupportedFile, Clean, Damaged, Repaired, ReadFault, WriteFault, OutputFault, NoMemory}
@@ -24,12 +23,6 @@ answer_of (out.Unbuilt request) = Unbuilt request
 answer_of (out.ReadFault faults) = ReadFault faults
 answer_of (out.WriteFault blocks) = WriteFault blocks
 answer_of out.NoMemory = NoMemory
-
--- a text was put: the whole of it, or a prefix where the sink failed
-pub record PutsText (was now : Option (List ℕ)) (faults faults_now : ℕ) (text : List ℕ) (result : Result (Unit {0}) Failed) : Type 0 where
-  pub whole : OnOk result (ForSome was (λ before. now ≡ Some (before ++ text)))
-  pub part : OnErr result (ForSome was (λ before. (n : ℕ) × (n ≤ length text) × (now ≡ Some (before ++ take n text))))
-  pub cause : HasCause faults faults_now result
 
 -- the line of the answer was put to its stream, and nothing to the other
 abbrev pub IsTold : {O E : Type 0} → (O → Option (List ℕ)) → (O → ℕ) → (E → Option (List ℕ)) → (E → ℕ) → O → O → E → E → Answer → Result (Unit {0}) Failed → Type 0

@@ -1,7 +1,7 @@
 pub mod Answers
+pub mod HelpWords
 pub mod CommandLine
 pub mod Texts
 pub mod Debugging
 pub mod Making
 pub mod Repairing
-pub mod Private

@@ -1,8 +1,7 @@
--- The line of each answer, the stream that it goes to, and the exit status.
-use Rattle.std.specs.Prelude.{ℕ, Bool, true, false, if◌then◌else◌, codes, decimal, List, [], ◌∷◌, ◌++◌}
-use Rattle.std.specs.List.{flat_map}
+-- The text of each answer, which is a line but for help, the stream that it goes to, and the exit status.
+use Rattle.std.specs.Prelude.{ℕ, Bool, true, false, if◌then◌else◌, codes, List, [], ◌∷◌, ◌++◌}
 use Rattle.xfs_tools.specs.declared.answer.Answer.{Answer}
-use Rattle.xfs_tools.specs.declared.answer.Answer.TheVariants.{Usage, Unbuilt, NoGeometry, Unsupported, DirtyLog, TooLarge, UnsupportedFile, Clean, Damaged, Repaired, BadOption, TooSmall, HasVolume, NoRoom, Made, ReadFault, WriteFault, OutputFault, NoMemory, Done, InputFault, InputLong}
+use Rattle.xfs_tools.specs.declared.answer.Answer.TheVariants.{Usage, Unbuilt, NoGeometry, Unsupported, DirtyLog, TooLarge, UnsupportedFile, Clean, Damaged, Repaired, BadOption, TooSmall, HasVolume, NoRoom, Made, ReadFault, WriteFault, OutputFault, NoMemory, Done, InputFault, InputLong, Help, Version}
 use Rattle.xfs_mend.specs.declared.outcome.Summary.{Summary}
 use Rattle.xfs_mend.specs.declared.outcome.Summary.TheVariants.{Backups, Rebuilt}
 use Rattle.uuid.specs.Text.{hyphenated_text}
@@ -12,23 +11,10 @@ use Rattle.xfs_place.specs.declared.faults.Unplaced.TheVariants as Placed
 use Rattle.xfs_image.specs.declared.findings.Finding.{Finding}
 use Rattle.xfs_image.specs.declared.findings.Finding.TheVariants as Found
 use Rattle.xfs_volume.specs.declared.findings.Law.{Law}
-use Rattle.xfs_tools.specs.declared.texts.Number.{Number}
-use Rattle.xfs_tools.specs.declared.texts.Number.TheVariants.{Decimal, Large, Hexadecimal}
-use Rattle.xfs_objects.specs.Hexadecimal.{hexadecimal}
-
--- a number as text, in its base
-abbrev pub number_text : Number → List ℕ
-number_text (Decimal n) = decimal n
-number_text (Large n) = decimal n
-number_text (Hexadecimal n) = hexadecimal n
-
--- numbers with a label before each, one after the other
-abbrev pub labelled : List (List ℕ × Number) → List ℕ
-labelled = flat_map (λ (p : List ℕ × Number). p.0 ++ number_text p.1)
-
--- labelled numbers, and what ends their line
-unfoldable pub line : List (List ℕ × Number) → List ℕ → List ℕ
-line numbers end = labelled numbers ++ end
+use Rattle.xfs_texts.specs.Help.{help_text, version_text}
+use Rattle.xfs_texts.specs.Lines.{line}
+use Rattle.xfs_texts.specs.declared.lines.Number.{Number}
+use Rattle.xfs_texts.specs.declared.lines.Number.TheVariants.{Decimal, Large, Hexadecimal}
 
 -- the line of a repair's summary
 abbrev pub summary_text : Summary → List ℕ
@@ -63,7 +49,7 @@ made_numbers made =
 abbrev pub made_text : MadeSummary → List ℕ
 made_text made = line (made_numbers made) (codes " uuid=") ++ (hyphenated_text 97 made.uuid ++ codes "\n")
 
--- the line of an answer
+-- the text of an answer
 abbrev pub text_of : Answer → List ℕ
 text_of (Usage word) = line ((codes "xfs: usage: word ", Decimal word) ∷ []) (codes "\n")
 text_of (Unbuilt request) = line ((codes "xfs: unbuilt: ", Decimal request) ∷ []) (codes "\n")
@@ -87,13 +73,17 @@ text_of NoMemory = line [] (codes "xfs: no memory\n")
 text_of Done = line [] []
 text_of InputFault = line [] (codes "xfs: input fault\n")
 text_of InputLong = line [] (codes "xfs: input too long\n")
+text_of (Help tool) = help_text tool
+text_of (Version tool) = version_text tool
 
--- the line goes to standard output, and else to standard error
+-- the text goes to standard output, and else to standard error
 abbrev pub is_for_out : Answer → Bool
 is_for_out Clean = true
 is_for_out (Damaged finding) = true
 is_for_out (Repaired summary) = true
 is_for_out (Made summary) = true
+is_for_out (Help tool) = true
+is_for_out (Version tool) = true
 is_for_out answer = false
 
 -- the exit status of an answer; under -e a repair ends with 4
@@ -101,6 +91,8 @@ abbrev pub code_of : Bool → Answer → ℕ
 code_of tells Clean = 0
 code_of tells Done = 0
 code_of tells (Made summary) = 0
+code_of tells (Help tool) = 0
+code_of tells (Version tool) = 0
 code_of tells (Repaired summary) = if tells then 4 else 0
 code_of tells DirtyLog = 2
 code_of tells answer = 1

@@ -4,6 +4,7 @@ use xfs_image::Finding;
 use xfs_mend::{Outcome, Summary};
 use xfs_mkfs::MadeSummary;
 use xfs_place::Unplaced;
+use xfs_texts::Tool;
 
 /// The answer of a call.
 #[derive(Clone, Copy, Debug, PartialEq, Eq)]
@@ -55,6 +56,10 @@ pub enum Answer {
     InputFault,
     /// The commands of a debugger are more than 1,048,576 bytes. None was run.
     InputLong,
+    /// How a tool is called was asked for alone, or how the program is.
+    Help(Option<Tool>),
+    /// The version was asked for alone, by the name of a tool or of the program.
+    Version(Option<Tool>),
 }
 
 /// How a call ended.
@@ -78,19 +83,25 @@ impl Answer {
     {
         match self {
             Answer::Clean | Answer::Done | Answer::Made(_) => 0,
+            Answer::Help(_) | Answer::Version(_) => 0,
             Answer::Repaired(_) => { if tells_repair { 4 } else { 0 } }
             Answer::DirtyLog => 2,
             _ => 1,
         }
     }
 
-    /// Whether the answer's line goes to standard output, and else to standard error.
+    /// Whether the answer's text goes to standard output, and else to standard error.
     pub fn is_for_out(self) -> bool
         ensures { result ≡ is_for_out self }
     {
         matches!(
             self,
-            Answer::Clean | Answer::Damaged(_) | Answer::Repaired(_) | Answer::Made(_)
+            Answer::Clean
+                | Answer::Damaged(_)
+                | Answer::Repaired(_)
+                | Answer::Made(_)
+                | Answer::Help(_)
+                | Answer::Version(_)
         )
     }
 

@@ -3,7 +3,7 @@
 ghost use Rattle.std.specs.Prelude.{◌≡◌, ℕ, Result};
 ghost use Rattle.xfs_disk.specs.declared.failed.Failed.{Failed};
 ghost use Rattle.xfs_options.specs.DebugWords.{debug_of, said};
-ghost use Rattle.xfs_tools.specs.Answers.{PutsText};
+ghost use Rattle.xfs_texts.specs.Lines.{PutsText};
 ghost use Rattle.xfs_tools.specs.Debugging.{IsDebugged, IsOfSession, IsShelled, asked, finished_of, line_refusal, session_answer, session_status};
 ghost use Rattle.xfs_tools.specs.Texts.{text_of};
 ghost use Rattle.xfs_tools.specs.declared.answer.Answer.{Answer};

@@ -13,11 +13,13 @@
 mod answer;
 mod command_line;
 mod debugger;
+mod help_words;
 mod maker;
 mod texts;
 mod top;
 
 pub use answer::{Answer, Status};
 pub use command_line::{Call, RepairWords, is_debugger, is_maker, judge};
+pub use help_words::text_asked;
 pub use texts::put_answer;
 pub use top::run;

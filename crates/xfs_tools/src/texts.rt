@@ -1,29 +1,20 @@
 //! The line of each answer. Putting one takes no memory.
 
-ghost use Rattle.std.specs.Prelude.{◌≡◌, ℕ, ◌++◌, codes, length, map};
-ghost use Rattle.xfs_tools.specs.Private.Labels.{label_now};
-ghost use Rattle.xfs_tools.specs.Answers.{IsTold, PutsText};
-ghost use Rattle.xfs_tools.specs.Texts.{finding_text, law_text, line, made_numbers, made_text, no_room_text, number_text, summary_text, text_of};
+ghost use Rattle.std.specs.Prelude.{◌++◌, codes};
+ghost use Rattle.xfs_texts.specs.Lines.{PutsText, line};
+ghost use Rattle.xfs_tools.specs.Answers.{IsTold};
+ghost use Rattle.xfs_tools.specs.Texts.{finding_text, law_text, made_numbers, made_text, no_room_text, summary_text, text_of};
 ghost use Rattle.uuid.specs.Text.{hyphenated_text};
 
 use crate::answer::Answer;
-use itoa::Buffer;
 use uuid::Uuid;
 use xfs_disk::{Failed, Sink};
 use xfs_image::Finding;
 use xfs_mend::Summary;
 use xfs_mkfs::MadeSummary;
-use xfs_objects::{MOST_DIGITS, write_hexadecimal};
 use xfs_place::Unplaced;
+use xfs_texts::{Number, put_help, put_line, put_text, put_version};
 use xfs_volume::Law;
-
-/// A number, by the base in which it is put.
-#[derive(Clone, Copy, Debug)]
-enum Number {
-    Decimal(u64),
-    Large(u128),
-    Hexadecimal(u64),
-}
 
 /// Puts the answer's line to the stream that it goes to.
 pub fn tell<O: Sink, E: Sink>(out: &mut O, err: &mut E, answer: Answer) -> Result<(), Failed>
@@ -82,6 +73,8 @@ pub fn put_answer<S: Sink>(sink: &mut S, answer: Answer) -> Result<(), Failed>
         Answer::NoMemory => put_line(sink, &[], "xfs: no memory\n"),
         Answer::InputFault => put_line(sink, &[], "xfs: input fault\n"),
         Answer::InputLong => put_line(sink, &[], "xfs: input too long\n"),
+        Answer::Help(tool) => put_help(sink, tool),
+        Answer::Version(tool) => put_version(sink, tool),
     }
 }
 
@@ -258,51 +251,4 @@ fn put_summary<S: Sink>(sink: &mut S, summary: Summary) -> Result<(), Failed>
             put_line(sink, &numbers, "\n")
         }
     }
-}
-
-/// Puts numbers with a label before each, and what ends their line.
-#[tactic(auto, unfolding(crate::specs::Texts::line))]
-fn put_line<S: Sink>(sink: &mut S, numbers: &[(&str, Number)], end: &str) -> Result<(), Failed>
-    ensures { PutsText (S.took sink.old) (S.took sink.new) (S.faults sink.old) (S.faults sink.new) (line (map label_now numbers.now) end.now) result }
-{
-    for (label, number) in numbers {
-        match put_labelled(sink, label, *number) {
-            Ok(()) => {}
-            Err(Failed) => return Err(Failed),
-        }
-    }
-    put_text(sink, end)
-}
-
-/// Puts a label and a number.
-fn put_labelled<S: Sink>(sink: &mut S, label: &str, number: Number) -> Result<(), Failed>
-    ensures { PutsText (S.took sink.old) (S.took sink.new) (S.faults sink.old) (S.faults sink.new) (label.now ++ number_text number) result }
-{
-    match put_text(sink, label) {
-        Ok(()) => {}
-        Err(Failed) => return Err(Failed),
-    }
-    put_number(sink, number)
-}
-
-/// Puts a number in its base.
-fn put_number<S: Sink>(sink: &mut S, number: Number) -> Result<(), Failed>
-    ensures { PutsText (S.took sink.old) (S.took sink.new) (S.faults sink.old) (S.faults sink.new) (number_text number) result }
-{
-    match number {
-        Number::Decimal(number) => put_text(sink, Buffer::new().format(number)),
-        Number::Large(number) => put_text(sink, Buffer::new().format(number)),
-        Number::Hexadecimal(number) => {
-            let mut digits = [0; MOST_DIGITS];
-            let start = write_hexadecimal(&mut digits, number);
-            sink.put(&digits[start..])
-        }
-    }
-}
-
-/// Puts a text.
-fn put_text<S: Sink>(sink: &mut S, text: &str) -> Result<(), Failed>
-    ensures { PutsText (S.took sink.old) (S.took sink.new) (S.faults sink.old) (S.faults sink.new) text.now result }
-{
-    sink.put(text.as_bytes())
 }

@@ -1,21 +1,24 @@
 //! The top call: a command line and an image in, an answer, its line and an exit status out.
 
-ghost use Rattle.std.specs.Prelude.{◌≡◌, ℕ, ◌≤◌, ◌&&◌, Bool, true, false, drop, Result};
+ghost use Rattle.std.specs.Prelude.{◌≡◌, ℕ, ◌≤◌, ◌&&◌, Bool, true, false, drop, Result, Some, None};
 ghost use Rattle.xfs_disk.specs.Reads.{OnlyReads};
 ghost use Rattle.xfs_disk.specs.declared.failed.Failed.{Failed};
 ghost use Rattle.xfs_options.specs.DebugWords.{debug_of};
 ghost use Rattle.xfs_options.specs.MakeWords.{make_of};
 ghost use Rattle.xfs_tools.specs.CommandLine.{is_debugger, is_maker, judged, tells_in, tells_repair};
 ghost use Rattle.xfs_tools.specs.Debugging.{IsDebugged, IsShelled, session_status};
+ghost use Rattle.xfs_tools.specs.HelpWords.{text_asked};
 ghost use Rattle.xfs_tools.specs.Making.{IsMake, IsMaking, IsToldUnless, is_made};
 ghost use Rattle.xfs_tools.specs.Repairing.{IsRepair, IsRepairing, only_checks};
 ghost use Rattle.xfs_tools.specs.Texts.{text_of};
-ghost use Rattle.xfs_tools.specs.Answers.{IsTold, PutsText, status_of};
+ghost use Rattle.xfs_texts.specs.Lines.{PutsText};
+ghost use Rattle.xfs_tools.specs.Answers.{IsTold, status_of};
 ghost use Rattle.xfs_tools.specs.declared.answer.Answer.{Answer};
 
 use crate::answer::{Answer, Status};
 use crate::command_line::{Call, is_debugger, is_maker, judge};
 use crate::debugger::run_debugger;
+use crate::help_words::{tell_text, text_asked};
 use crate::maker::run_maker;
 use crate::texts::tell;
 use std::alloc::Global;
@@ -23,8 +26,8 @@ use std::thread::Threads;
 use xfs_disk::{Disk, Failed, Gate, Library, Sink, Source, Stamp, Word};
 use xfs_mend::repair;
 
-/// Does what the words of a command line say to the disk, and puts the answer's line: to `out` where
-/// the volume is clean, damaged or repaired, else to `err`. What the commands of `xfs_db` print goes to `out`.
+/// Does what the words of a command line say to the disk, and puts the answer's text: to `out` where
+/// the volume is clean, damaged, repaired or made, and for help and the version, else to `err`. What the commands of `xfs_db` print goes to `out`.
 pub fn run<R: Threads + Sync, D: Disk, L: Library, S: Source, O: Sink, E: Sink, G: Gate>(
     rt: &R,
     alloc: Global,
@@ -37,12 +40,17 @@ pub fn run<R: Threads + Sync, D: Disk, L: Library, S: Source, O: Sink, E: Sink, 
     stamp: &Stamp,
     gate: &G,
 ) -> Status
-    // For the words of `xfs_repair`, and those that name no tool: the words are refused and the disk is the same, or the repair that
+    // Where the words ask for help or the version and nothing else, that text is put to `out`, and nothing else is done.
+    ensures told { (text : Answer) → text_asked words.now ≡ Some text → (put : Result (Unit {0}) Failed)
+        × (disk.new ≡ disk.old) × (input.new ≡ input.old)
+        × IsTold O.took O.faults E.took E.faults out.old out.new err.old err.new text put
+        × (result ≡ status_of false text put) }
+    // For the other words of `xfs_repair`, and those that name no tool: the words are refused and the disk is the same, or the repair that
     // they ask for was run: its outcome is due to the image, a fault comes only where the disk counted one, just so many blocks were
     // written as it says, the image is what it leaves, and at each moment a stop of the machine leaves what it may. The answer's line is put
     // to its stream and nothing to the other; and the status is its own, or that of an output fault where the line could not be
     // put. Of a disk that does not tell what it holds, as a file, the parts on the image say nothing, and all others hold.
-    ensures answer { is_debugger words.now ≡ false → is_maker words.now ≡ false → (answer : Answer) × (put : Result (Unit {0}) Failed)
+    ensures answer { text_asked words.now ≡ None → is_debugger words.now ≡ false → is_maker words.now ≡ false → (answer : Answer) × (put : Result (Unit {0}) Failed)
         × IsRepairing (judged words.now) (disk.new ≡ disk.old) (IsRepair D.holds D.size D.faults D.write_faults D.writes D.tells_stops D.moment D.may_leave D.left_since disk.old disk.new) answer
         × IsTold O.took O.faults E.took E.faults out.old out.new err.old err.new answer put
         × (result ≡ status_of (tells_repair words.now) answer put) }
@@ -52,14 +60,14 @@ pub fn run<R: Threads + Sync, D: Disk, L: Library, S: Source, O: Sink, E: Sink, 
     // For the words of `xfs_db`: the session that they ask for was run, with what it prints, what it leaves on the disk and the
     // faults that it counted; or they were refused, or memory lacked for them, and nothing was run. The line of its answer goes
     // to `err`.
-    ensures debugged { is_debugger words.now ≡ true → (answer : Answer) × (finished : ℕ) × (put : Result (Unit {0}) Failed)
+    ensures debugged { text_asked words.now ≡ None → is_debugger words.now ≡ true → (answer : Answer) × (finished : ℕ) × (put : Result (Unit {0}) Failed)
         × IsDebugged (debug_of (drop 1 words.now)) ((disk.new ≡ disk.old) × (input.new ≡ input.old) × (out.new ≡ out.old))
         (IsShelled D.holds D.size D.faults D.write_faults D.reads D.writes D.tells_stops D.moment D.may_leave D.left_since S.left S.faults O.took O.faults disk.old disk.new input.old input.new out.old out.new) (D.faults disk.new) answer finished
         × PutsText (E.took err.old) (E.took err.new) (E.faults err.old) (E.faults err.new) (text_of answer) put
         × (result ≡ session_status answer finished put) }
     // For the words of `mkfs.xfs`: the volume that they ask for was made or refused, and the disk holds what that leaves; or the
     // words were refused, or memory lacked for them, and nothing was done. The line is left out under `-q` where it was made.
-    ensures made { is_debugger words.now ≡ false → is_maker words.now ≡ true → (answer : Answer) × (quiet : Bool) × (put : Result (Unit {0}) Failed)
+    ensures made { text_asked words.now ≡ None → is_debugger words.now ≡ false → is_maker words.now ≡ true → (answer : Answer) × (quiet : Bool) × (put : Result (Unit {0}) Failed)
         × IsMaking (make_of (drop 1 words.now)) (disk.new ≡ disk.old) (IsMake D.holds D.size D.faults D.write_faults D.reads D.writes D.tells_stops D.moment D.may_leave D.left_since stamp.now disk.old disk.new) answer quiet
         × IsToldUnless (quiet && is_made answer) O.took O.faults E.took E.faults out.old out.new err.old err.new answer put
         × (result ≡ status_of false answer put) }
@@ -72,6 +80,46 @@ pub fn run<R: Threads + Sync, D: Disk, L: Library, S: Source, O: Sink, E: Sink, 
     // No file is taken from the library.
     ensures files { files.new ≡ files.old }
     // Only the debugger takes from the input.
+    ensures input { is_debugger words.now ≡ false → input.new ≡ input.old }
+{
+    match text_asked(words) {
+        Some(text) => tell_text(out, err, text),
+        None => run_tool(rt, alloc, words, disk, files, input, out, err, stamp, gate),
+    }
+}
+
+/// The same where the words ask for more than a text.
+fn run_tool<R: Threads + Sync, D: Disk, L: Library, S: Source, O: Sink, E: Sink, G: Gate>(
+    rt: &R,
+    alloc: Global,
+    words: &[Word],
+    disk: &mut D,
+    files: &mut L,
+    input: &mut S,
+    out: &mut O,
+    err: &mut E,
+    stamp: &Stamp,
+    gate: &G,
+) -> Status
+    ensures answer { is_debugger words.now ≡ false → is_maker words.now ≡ false → (answer : Answer) × (put : Result (Unit {0}) Failed)
+        × IsRepairing (judged words.now) (disk.new ≡ disk.old) (IsRepair D.holds D.size D.faults D.write_faults D.writes D.tells_stops D.moment D.may_leave D.left_since disk.old disk.new) answer
+        × IsTold O.took O.faults E.took E.faults out.old out.new err.old err.new answer put
+        × (result ≡ status_of (tells_repair words.now) answer put) }
+    ensures checked { is_debugger words.now ≡ false → is_maker words.now ≡ false → only_checks (judged words.now) ≡ true
+        → OnlyReads D.size D.holds D.write_faults D.writes D.tells_stops D.moment D.may_leave D.left_since disk.old disk.new }
+    ensures debugged { is_debugger words.now ≡ true → (answer : Answer) × (finished : ℕ) × (put : Result (Unit {0}) Failed)
+        × IsDebugged (debug_of (drop 1 words.now)) ((disk.new ≡ disk.old) × (input.new ≡ input.old) × (out.new ≡ out.old))
+        (IsShelled D.holds D.size D.faults D.write_faults D.reads D.writes D.tells_stops D.moment D.may_leave D.left_since S.left S.faults O.took O.faults disk.old disk.new input.old input.new out.old out.new) (D.faults disk.new) answer finished
+        × PutsText (E.took err.old) (E.took err.new) (E.faults err.old) (E.faults err.new) (text_of answer) put
+        × (result ≡ session_status answer finished put) }
+    ensures made { is_debugger words.now ≡ false → is_maker words.now ≡ true → (answer : Answer) × (quiet : Bool) × (put : Result (Unit {0}) Failed)
+        × IsMaking (make_of (drop 1 words.now)) (disk.new ≡ disk.old) (IsMake D.holds D.size D.faults D.write_faults D.reads D.writes D.tells_stops D.moment D.may_leave D.left_since stamp.now disk.old disk.new) answer quiet
+        × IsToldUnless (quiet && is_made answer) O.took O.faults E.took E.faults out.old out.new err.old err.new answer put
+        × (result ≡ status_of false answer put) }
+    ensures size { D.size disk.new ≡ D.size disk.old }
+    ensures faults { is_debugger words.now ≡ false → is_maker words.now ≡ false → D.faults disk.old ≤ D.faults disk.new }
+    ensures write_faults { is_debugger words.now ≡ false → is_maker words.now ≡ false → D.write_faults disk.old ≤ D.write_faults disk.new }
+    ensures files { files.new ≡ files.old }
     ensures input { is_debugger words.now ≡ false → input.new ≡ input.old }
 {
     if is_debugger(words) {

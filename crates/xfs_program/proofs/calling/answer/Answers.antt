@@ -5,6 +5,7 @@ pub returns : goal.returns
 returns g c = (
   c.run-status.result,
   record {
+    told = c.run-status.ensures.told;
     repaired = c.run-status.ensures.answer;
     checked = c.run-status.ensures.checked;
     debugged = c.run-status.ensures.debugged;

@@ -1,6 +1,6 @@
 use Rattle.std.proofs.Common.{ap, sym, ◌∙◌}
 use Rattle.uuid.specs.Text.{hyphenated_text}
-use Rattle.xfs_tools.proofs.Telling.{puts_as}
+use Rattle.xfs_texts.proofs.Telling.{puts_as}
 use Rattle.xfs_tools.proofs.texts.put_identifier.Goals as goal
 
 pub returns : goal.returns

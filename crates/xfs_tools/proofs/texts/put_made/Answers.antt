@@ -1,4 +1,4 @@
-use Rattle.xfs_tools.proofs.Telling.{puts_then}
+use Rattle.xfs_texts.proofs.Telling.{puts_then}
 use Rattle.xfs_tools.proofs.texts.put_made.Goals as goal
 
 pub returns : goal.returns

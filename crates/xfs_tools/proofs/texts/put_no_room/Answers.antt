@@ -1,6 +1,6 @@
 use Rattle.std.proofs.Common.{ap}
 use Rattle.xfs_tools.specs.Texts.{no_room_text}
-use Rattle.xfs_tools.proofs.Telling.{puts_as}
+use Rattle.xfs_texts.proofs.Telling.{puts_as}
 use Rattle.xfs_tools.proofs.texts.put_no_room.Goals as goal
 
 pub returns-in-Group : goal.returns-in-Group

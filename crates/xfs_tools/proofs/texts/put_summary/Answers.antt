@@ -1,6 +1,6 @@
 use Rattle.std.proofs.Common.{ap}
 use Rattle.xfs_tools.specs.Texts.{summary_text}
-use Rattle.xfs_tools.proofs.Telling.{puts_as}
+use Rattle.xfs_texts.proofs.Telling.{puts_as}
 use Rattle.xfs_tools.proofs.texts.put_summary.Goals as goal
 
 pub returns-in-Backups : goal.returns-in-Backups

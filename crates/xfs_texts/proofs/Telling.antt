@@ -5,10 +5,10 @@ use Rattle.std.proofs.lemmas.List.{append-nil, map-append, take_more, take-appen
 use Rattle.std.proofs.lemmas.List.Concat.{flat_map-append}
 use Rattle.std.proofs.Math.Seq.{take-append-add}
 use Rattle.xfs_disk.specs.declared.failed.Failed.{Failed}
-use Rattle.xfs_tools.specs.Private.Labels.{label_now}
-use Rattle.xfs_tools.specs.Answers.{PutsText}
-use Rattle.xfs_tools.specs.Texts.{labelled, line, number_text}
-use Rattle.xfs_tools.specs.declared.texts.Number.{Number}
+use Rattle.xfs_texts.specs.Private.Labels.{label_now}
+use Rattle.xfs_texts.specs.Lines.{PutsText}
+use Rattle.xfs_texts.specs.Lines.{labelled, line, number_text}
+use Rattle.xfs_texts.specs.declared.lines.Number.{Number}
 
 -- the same text under another name
 pub puts_as : (was now : Option (List ℕ)) (faults faults_now : ℕ) (text other : List ℕ) (result : Result (Unit {0}) Failed)

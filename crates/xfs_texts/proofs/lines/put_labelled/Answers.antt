@@ -1,5 +1,5 @@
-use Rattle.xfs_tools.proofs.Telling.{puts_then}
-use Rattle.xfs_tools.proofs.texts.put_labelled.Goals as goal
+use Rattle.xfs_texts.proofs.Telling.{puts_then}
+use Rattle.xfs_texts.proofs.lines.put_labelled.Goals as goal
 
 pub returns : goal.returns
 returns g c = puts_then _ _ _ _ _ _ _ _ _ _ c.in-Ok.ensures c.put_number.ensures

@@ -1,8 +1,8 @@
 use Rattle.std.proofs.Common.{map, take, Ok}
-use Rattle.xfs_tools.specs.Private.Labels.{label_now}
-use Rattle.xfs_tools.specs.Answers.{PutsText}
-use Rattle.xfs_tools.specs.Texts.{labelled}
-use Rattle.xfs_tools.proofs.texts.put_line.Given as goal
+use Rattle.xfs_texts.specs.Private.Labels.{label_now}
+use Rattle.xfs_texts.specs.Lines.{PutsText}
+use Rattle.xfs_texts.specs.Lines.{labelled}
+use Rattle.xfs_texts.proofs.lines.put_line.Given as goal
 
 abbrev pub invariant-loop-label : goal.invariant-loop-label
 invariant-loop-label g l =

@@ -1,6 +1,6 @@
 use Rattle.std.proofs.Common.{◌+◌}
-use Rattle.xfs_tools.proofs.Telling.{puts_as, puts_then, puts_failed, next_label, line_of_first, line_of_all}
-use Rattle.xfs_tools.proofs.texts.put_line.Goals as goal
+use Rattle.xfs_texts.proofs.Telling.{puts_as, puts_then, puts_failed, next_label, line_of_first, line_of_all}
+use Rattle.xfs_texts.proofs.lines.put_line.Goals as goal
 
 pub returns-in-Err : goal.returns-in-Err
 returns-in-Err g c =
