@@ -41,6 +41,11 @@ trial 'by a name without a slash' 0 clean env PATH="$work/links" xfs_repair "$wo
 trial 'the tool named twice' 1 'xfs: usage: word 2' "$work/links/xfs_repair" xfs_repair "$work/volume.img"
 trial 'named xfs, with a tool' 0 clean "$top/xfs" xfs_repair "$work/volume.img"
 trial 'named xfs, without one' 1 'xfs: usage: word 0' "$top/xfs" "$work/volume.img"
+trial 'its version' 0 'xfs version *' "$top/xfs" --version
+trial 'the version of a link' 0 'mkfs.xfs version *' "$work/links/mkfs.xfs" -V
+trial 'its help' 0 'xfs TOOL *' sh -c "'$top/xfs' --help 2>&1 | head -n 1"
+trial 'the help of a link' 0 'xfs xfs_db *' sh -c "'$work/links/xfs_db' --help 2>&1 | head -n 1"
+trial 'help beside an image' 1 'xfs: usage: word 1' "$work/links/xfs_repair" --help "$work/volume.img"
 
 trial 'no such file' 1 "xfs: $work/none: No such file or directory* / xfs: read fault: 1" "$top/xfs" xfs_repair "$work/none"
 trial 'no such file, to be made' 1 "xfs: $work/none: No such file or directory* / xfs: read fault: 1" "$top/xfs" mkfs.xfs "$work/none"
