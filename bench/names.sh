@@ -2,13 +2,13 @@
 # Measures xfs_links: a million files in a hundred thousand directories are connected. Prints the seconds
 # that `connect` takes and the most memory that the program holds, files and entries included. The program
 # lies in names_speed/, each file with .txt behind its name, and is proved in a copy of the crates, which is
-# removed; what tests the conditions of `connect` is taken from the tests of the crate.
+# removed; what tests the conditions of `connect` is taken from the crate of tests.
 set -eu
 . "$(dirname "$0")/crates.sh"
 take_program names_speed xfs_disk xfs_dirdata xfs_volume xfs_links itoa
-sed 's/use crate::NodeRec;/use xfs_links::NodeRec;/' crates/xfs_links/src/tests/listed.rt > crates/names_speed/src/listed.rt
-cp -r crates/xfs_links/proofs/tests/listed crates/names_speed/proofs/
-find crates/names_speed/proofs -name '*.antt' -exec sed -i 's/xfs_links\.proofs\.tests\.listed/names_speed.proofs.listed/' {} \;
+cp "$top/crates/xfs_volume_tests/src/links/listed.rt" crates/names_speed/src/listed.rt
+cp -r "$top/crates/xfs_volume_tests/proofs/links/listed" crates/names_speed/proofs/
+find crates/names_speed/proofs -name '*.antt' -exec sed -i 's/xfs_volume_tests\.proofs\.links\.listed/names_speed.proofs.listed/' {} \;
 touch crates/names_speed/proofs/Lib.antt
 prove_program names_speed
 for turn in 1 2 3; do
