@@ -1,0 +1,10 @@
+pub mod ByNumber
+pub mod Pairs
+pub mod Adding
+pub mod Counted
+pub mod Grouping
+pub mod Setting
+pub mod Finding
+pub mod Compared
+pub mod Rising
+pub mod Deciding

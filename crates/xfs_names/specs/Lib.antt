@@ -1,0 +1,4 @@
+pub mod Wanted
+pub mod Place
+pub mod Rebuilt
+pub mod Private

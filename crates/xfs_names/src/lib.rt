@@ -1,0 +1,28 @@
+//! The names that are wanted of a damaged volume: the final entries of each directory, parents, counts of links, where
+//! lost+found stands, and which directories are built anew.
+//!
+//! From what `xfs_links` decides on the names of the kept files to what is written: who repairs a volume asks where lost+found
+//! stands, makes a new cluster for it where need be, and gets all names as lists. No tool calls it yet.
+//!
+//! A caller would write:
+//!
+//! ```text
+//! let names = connect(alloc, &nodes, &listed, root)?;
+//! let place = lost_place(&nodes, root, &clusters, &names); // an inode that becomes lost+found: new
+//! let wanted = want_names(alloc, &nodes, &listed, &dirs, root, new, names)?;
+//! // wanted.entries, wanted.parents, wanted.links; wanted.rebuilt are built anew
+//! ```
+#![tactic(auto)]
+
+mod comparing;
+mod joining;
+mod linking;
+mod lookup;
+mod parenting;
+mod place;
+mod records;
+mod wanting;
+
+pub use place::{LostPlace, lost_place};
+pub use records::WantedNames;
+pub use wanting::want_names;
