@@ -8,3 +8,4 @@ pub mod Finding
 pub mod Compared
 pub mod Rising
 pub mod Deciding
+pub mod Having

@@ -16,6 +16,7 @@
 
 mod comparing;
 mod joining;
+mod laws;
 mod linking;
 mod lookup;
 mod parenting;
@@ -23,6 +24,7 @@ mod place;
 mod records;
 mod wanting;
 
+pub use laws::wanted_names_are_lawful;
 pub use place::{LostPlace, lost_place};
 pub use records::WantedNames;
 pub use wanting::want_names;
