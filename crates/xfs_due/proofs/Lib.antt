@@ -1,3 +1,4 @@
+mod ByLength
 pub mod KeptLaws
 pub mod TopDown
 pub mod Counters

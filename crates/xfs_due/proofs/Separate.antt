@@ -3,17 +3,14 @@ use Rattle.std.proofs.Common.{◌≡◌, ℕ, suc, ◌+◌, ◌≤◌, ◌<◌, 
 use Rattle.std.specs.List.{AllAdjacentBelow, list_all}
 use Rattle.std.proofs.lemmas.Bool.{and_from, and_parts, cases_lt}
 use Rattle.std.proofs.lemmas.Bool.Decides.{nat_tests}
-use Rattle.std.proofs.lemmas.List.Sorted.{IsPermutation-map}
 use Rattle.xfs_disk.specs.Lists.{is_in_range}
 use Rattle.xfs_geom.specs.declared.records.Span.{Span}
 use Rattle.xfs_kinds.specs.FreeRuns.{AreSeparate, is_in_spans, span}
 use Rattle.xfs_kinds.specs.FreeTrees.{ranks_behind}
 use Rattle.xfs_place.specs.Placing.{AreByLength}
 use Rattle.xfs_place.proofs.Counted.{in_behind}
-use Rattle.xfs_space.specs.Private.Ranks.{LengthsRanked, is_length_upto, length_of, span_of_length}
 use Rattle.xfs_kinds.specs.Lengths.{by_length}
-use Rattle.xfs_space.specs.declared.lengths.Length.{Length}
-use Rattle.xfs_space.proofs.ByLength.{sorted_is}
+use Rattle.xfs_due.proofs.ByLength.{AreRanked, is_upto, sorted_is}
 
 in_before : (rs : List Span) (low b : ℕ) → AreSeparate low rs → b < low → is_in_spans rs b ≡ false
 in_before [] low b apart h = refl
@@ -62,39 +59,35 @@ one_separate low (x ∷ xs) (y ∷ ys) a b same =
     ap₂ (λ (r : Span) (rs : List Span). r ∷ rs) (ap₂ span start count) (one_separate (x.start + x.count + 1) xs ys a.2 behind rest)
 
 -- runs by length
-upto_trans : (x y z : Length) → is_length_upto x y ≡ true → is_length_upto y z ≡ true → is_length_upto x z ≡ true
+upto_trans : (x y z : Span) → is_upto x y ≡ true → is_upto y z ≡ true → is_upto x z ≡ true
 upto_trans x y z one other = on x.count x.start y.count y.start z.count z.start one other
   where
     on : (a b c d e f : ℕ) → (nat_lt a c || (a == c && nat_le b d)) ≡ true → (nat_lt c e || (c == e && nat_le d f)) ≡ true → (nat_lt a e || (a == e && nat_le b f)) ≡ true
     on a b c d e f one other = grind (arith, nat_tests)
 
-all_upto : (x y : Length) → is_length_upto x y ≡ true → (ys : List Length) → list_all (is_length_upto y) ys ≡ true → list_all (is_length_upto x) ys ≡ true
+all_upto : (x y : Span) → is_upto x y ≡ true → (ys : List Span) → list_all (is_upto y) ys ≡ true → list_all (is_upto x) ys ≡ true
 all_upto x y e [] all = refl
 all_upto x y e (z ∷ zs) all =
-    let parts = and_parts (is_length_upto y z) (list_all (is_length_upto y) zs) all in
-    and_from (is_length_upto x z) (list_all (is_length_upto x) zs) (upto_trans x y z e parts.0) (all_upto x y e zs parts.1)
+    let parts = and_parts (is_upto y z) (list_all (is_upto y) zs) all in
+    and_from (is_upto x z) (list_all (is_upto x) zs) (upto_trans x y z e parts.0) (all_upto x y e zs parts.1)
 
-upto_behind : (s t : Span) → ranks_behind (Some s) t ≡ true → is_length_upto (length_of s) (length_of t) ≡ true
+upto_behind : (s t : Span) → ranks_behind (Some s) t ≡ true → is_upto s t ≡ true
 upto_behind s t e = on s.count s.start t.count t.start e
   where
     on : (a b c d : ℕ) → (nat_lt a c || (a == c && nat_lt b d)) ≡ true → (nat_lt a c || (a == c && nat_le b d)) ≡ true
     on a b c d e = grind (arith, nat_tests)
 
-are_ranked : (ss : List Span) → AllAdjacentBelow (λ x y. ranks_behind (Some x) y ≡ true) ss (length ss) → LengthsRanked (map length_of ss)
+are_ranked : (ss : List Span) → AllAdjacentBelow (λ x y. ranks_behind (Some x) y ≡ true) ss (length ss) → AreRanked ss
 are_ranked [] up = tt
 are_ranked (s ∷ []) up = (refl, tt)
 are_ranked (s ∷ t ∷ ss) up =
-    let first : is_length_upto (length_of s) (length_of t) ≡ true = upto_behind s t (up 0 s (omega arith)) in
+    let first : is_upto s t ≡ true = upto_behind s t (up 0 s (omega arith)) in
     let later = λ (k : ℕ) (d : Span) (high : k + 1 < length (t ∷ ss)).
     let shift : suc k + 1 ≡ suc (k + 1) = omega arith in
     subst (λ (n : ℕ). ranks_behind (Some (get_or (s ∷ t ∷ ss) (suc k) d)) (get_or (s ∷ t ∷ ss) n d) ≡ true) shift (up (suc k) d (omega (arith, high))) in
-    let rest : LengthsRanked (map length_of (t ∷ ss)) = are_ranked (t ∷ ss) later in
-    (and_from (is_length_upto (length_of s) (length_of t)) (list_all (is_length_upto (length_of s)) (map length_of ss)) first (all_upto (length_of s) (length_of t) first (map length_of ss) rest.0), rest)
-
-back_again : (ss : List Span) → map span_of_length (map length_of ss) ≡ ss
-back_again [] = refl
-back_again (s ∷ ss) = ap (λ (xs : List Span). s ∷ xs) (back_again ss)
+    let rest : AreRanked (t ∷ ss) = are_ranked (t ∷ ss) later in
+    (and_from (is_upto s t) (list_all (is_upto s) ss) first (all_upto s t first ss rest.0), rest)
 
 pub by_length_is : (spans sorted : List Span) → AreByLength spans sorted → sorted ≡ by_length spans
 by_length_is spans sorted are =
-    sym (back_again sorted) ∙ sorted_is spans (map length_of sorted) (IsPermutation-map length_of spans sorted are.same) (are_ranked sorted are.order)
+    sorted_is spans sorted are.same (are_ranked sorted are.order)
