@@ -344,7 +344,49 @@ def tables_of_a_vast_volume():
     lines(bytes(2 * BLOCK), x)
 
 
+def tables_of_findings():
+    """Images in which one law alone is broken, most of them in one object."""
+    v, w = volume([]), volume([b"a", b"b"])
+
+    def told(name, of, *parts):
+        x = bytearray(of)
+        for block, at, data in parts:
+            x[block * BLOCK + at:block * BLOCK + at + len(data)] = data
+        print("==", name)
+        lines(of, x)
+
+    def inode(of, ino, *fields):
+        x = bytearray(of)
+        reslot(x, ino, fields)
+        return ino // 8, ino % 8 * 512, bytes(x[ino * 512:ino * 512 + 512])
+    pairs = lambda *runs: [struct.pack(">II", *run) for run in runs]
+    owners = [rmap(0, 1, FS), rmap(1, 2, AG), rmap(3, 2, INOBT), rmap(5, 7, AG), rmap(16, 8, INODES)]
+    chunk = lambda freecount: [struct.pack(">IHBBQ", 128, 0, 64, freecount, 0xfffffffffffffff8)]
+    told("law 2, by start", v, (1, 0, leaf(0, 1, 0x41423342, pairs((12, 4), (24, 999)))))
+    told("law 2, by length", v, (2, 0, leaf(0, 2, 0x41423343, pairs((12, 4)))))
+    told("law 3, another owner", v, (5, 0, leaf(0, 5, 0x524d4233, owners[:4] + [rmap(16, 8, INOBT)])))
+    told("law 3, no owner", v, (5, 0, leaf(0, 5, 0x524d4233, owners[:3] + owners[4:])))
+    told("law 3, another inode", w, (5, 0, leaf(0, 5, 0x524d4233, owners + [rmap(24, 1, 131), rmap(25, 1, 131, 5 << 61 | 1)])))
+    told("law 4", v, (3, 0, leaf(0, 3, 0x49414233, chunk(60))))
+    told("law 4, free inodes", v, (4, 0, leaf(0, 4, 0x46494233, [])))
+    told("law 5, a group", v, (1024, 1024, agi(1, 64, 0, ONES)))
+    told("law 5, the superblock", v, (0, 0, superblock((65, 61, 1516))))
+    told("law 6", v, (0, 0, superblock((64, 61, 1517))), (0, 512, agf(0, 1005, 1000, 6)), (0, 1536, agfl(0, [6, 6, 8, 9, 10, 11])),
+         (1, 0, leaf(0, 1, 0x41423342, pairs((7, 1), (12, 4), (24, 1000)))), (2, 0, leaf(0, 2, 0x41423343, pairs((7, 1), (12, 4), (24, 1000)))),
+         (5, 0, leaf(0, 5, 0x524d4233, owners[:3] + [rmap(5, 2, AG), rmap(8, 4, AG)] + owners[4:])))
+    told("law 7, 1", w, inode(w, 128, (183, 2, 97)))
+    told("law 7, 2", w, inode(w, 128, (185, 1, 0x2f)))
+    told("law 7, 3", w, inode(w, 128, (187, 4, 140)))
+    told("law 7, 4", w, inode(w, 128, (186, 1, 2)))
+    told("law 8, 3", v, (16, 0, slot(128, [(2, 2, 0x8000), (5, 1, 2), (16, 4, 1)])))
+    told("law 8, 4", w, inode(w, 128, (198, 4, 131)))
+    told("law 9, the system's", v, inode(v, 130, (16, 4, 0)))
+    told("law 10, a chain", w, (0, 1024, sealed(filled(512, [(0, 512, bytes(w[1024:1536])), (60, 4, 131)]), 312)))
+    told("law 10, a number", v, inode(v, 128, (112, 8, 0x0000000700000010)))
+
+
 main()
 if "-t" in sys.argv:
     tables_of_volumes()
+    tables_of_findings()
     tables_of_a_vast_volume()

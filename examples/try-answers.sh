@@ -62,6 +62,8 @@ answer 1 'xfs: unbuilt: 8' "$xfs" xfs_repair v.img
 volume v.img
 "$xfs" xfs_db -x -c 'agf 0' -c 'write freeblks 5' v.img > /dev/null
 answer 1 'damaged: law 5 at 0, held 5, due *' "$xfs" xfs_repair -n v.img
+answer 1 'xfs: freeblks of the AGF of group 0: held 5, due *; usually * / damaged: law 5 at 0, held 5, due *' "$xfs" xfs_repair -nv v.img
+answer 1 'xfs: freeblks of the AGF of group 0: held 5, due *; usually * / xfs: unbuilt: 8' "$xfs" xfs_repair -v -v v.img
 volume v.img
 zeros v.img 16390 0 512
 answer 2 'xfs: dirty log' "$xfs" xfs_repair v.img

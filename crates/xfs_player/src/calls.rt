@@ -52,7 +52,7 @@ impl Call {
             input.fail(1)?;
         }
         let mut out = MemorySink::make(alloc, given.room)?;
-        let mut err = MemorySink::make(alloc, 80)?;
+        let mut err = MemorySink::make(alloc, 400)?;
         let stamp = Stamp {
             seconds: 0,
             nanos: 0,

@@ -12,6 +12,7 @@ use Rattle.xfs_texts.specs.Lines.{PutsText}
 use Rattle.xfs_tools.specs.Answers.{IsTold, status_of}
 use Rattle.xfs_tools.specs.CommandLine.{is_debugger, is_maker, judged, tells_repair}
 use Rattle.xfs_tools.specs.Debugging.{IsDebugged, IsShelled, session_status}
+use Rattle.xfs_tools.specs.Explaining.{IsLook, IsText, IsToldBehind}
 use Rattle.xfs_tools.specs.HelpWords.{text_asked}
 use Rattle.xfs_tools.specs.Making.{IsMake, IsMaking, IsToldUnless, is_made}
 use Rattle.xfs_tools.specs.Repairing.{IsRepair, IsRepairing, only_checks}
@@ -19,7 +20,7 @@ use Rattle.xfs_tools.specs.Texts.{text_of}
 use Rattle.xfs_tools.specs.declared.answer.Answer.{Answer}
 use Rattle.xfs_tools.specs.declared.answer.Status.{Status}
 
--- What the words say was done to a disk, with this status. Where they ask for help or the version alone, that text was put and nothing else done. For the other words of xfs_repair, and those of no tool: a repair, and its line in its stream;
+-- What the words say was done to a disk, with this status. Where they ask for help or the version alone, that text was put and nothing else done. For the other words of xfs_repair, and those of no tool: a repair, and its line in its stream, behind a line in words where they ask for it;
 -- where it only checks, or the words are refused, the disk was only read. For those of xfs_db: a session, with its input and output, and its line in the
 -- other stream. For those of mkfs.xfs: a volume made, or refused, and its line. No file was taken, and none but a session takes input.
 pub record IsAnswered {D L S O E : Type 0} (holds : D → Option Image) (size faults write_faults reads writes : D → ℕ) (tells_stops : D → Type 0) (moment : D → ℕ)
@@ -30,9 +31,10 @@ pub record IsAnswered {D L S O E : Type 0} (holds : D → Option Image) (size fa
       × (disk_now ≡ disk) × (new.input ≡ old.input)
       × IsTold took puts took_err puts_err old.out new.out old.err new.err text put
       × (status ≡ status_of false text put)
-  pub repaired : text_asked words ≡ None → is_debugger words ≡ false → is_maker words ≡ false → (answer : Answer) × (put : Result (Unit {0}) Failed)
+  pub repaired : text_asked words ≡ None → is_debugger words ≡ false → is_maker words ≡ false → (answer : Answer) × (text : Option (List ℕ)) × (put : Result (Unit {0}) Failed)
       × IsRepairing (judged words) (disk_now ≡ disk) (IsRepair holds size faults write_faults writes tells_stops moment may_leave left_since disk disk_now) answer
-      × IsTold took puts took_err puts_err old.out new.out old.err new.err answer put
+      × IsText (IsLook holds size faults write_faults writes tells_stops moment may_leave left_since) disk (judged words) answer text
+      × IsToldBehind took puts took_err puts_err old.out new.out old.err new.err text answer put
       × (status ≡ status_of (tells_repair words) answer put)
   pub checked : is_debugger words ≡ false → is_maker words ≡ false → only_checks (judged words) ≡ true
       → OnlyReads size holds write_faults writes tells_stops moment may_leave left_since disk disk_now

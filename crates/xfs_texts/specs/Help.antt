@@ -9,7 +9,7 @@ use Rattle.xfs_texts.specs.declared.lines.Number.{Number}
 use Rattle.xfs_texts.specs.declared.lines.Number.TheVariants.{Letter}
 
 abbrev pub repair_called : List ℕ
-repair_called = codes "xfs xfs_repair [-n] [-L] [-e] [-f] [-w workers] IMAGE\nChecks an XFS volume in an image file, and mends its backup superblocks.\n\n"
+repair_called = codes "xfs xfs_repair [-n] [-L] [-e] [-f] [-v] [-w workers] IMAGE\nChecks an XFS volume in an image file, and mends its backup superblocks.\n\n"
 
 abbrev pub repair_rows : List (ℕ × List ℕ)
 repair_rows =
@@ -17,6 +17,7 @@ repair_rows =
     ∷ (76, codes "          go on where the log is not clean\n")
     ∷ (101, codes "          end with 4 after a repair\n")
     ∷ (102, codes "          the image is a file; no effect\n")
+    ∷ (118, codes "          say in words what was found\n")
     ∷ (119, codes " workers  a number from 1 to 64; no effect yet\n")
     ∷ []
 

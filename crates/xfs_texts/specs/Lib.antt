@@ -1,3 +1,4 @@
+pub mod Explaining
 pub mod Help
 pub mod Lines
 pub mod Private

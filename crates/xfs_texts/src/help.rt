@@ -31,13 +31,13 @@ struct OptionLine {
 
 /// How `xfs_repair` is called, and what it does.
 const REPAIR_CALLED: &str = "\
-xfs xfs_repair [-n] [-L] [-e] [-f] [-w workers] IMAGE
+xfs xfs_repair [-n] [-L] [-e] [-f] [-v] [-w workers] IMAGE
 Checks an XFS volume in an image file, and mends its backup superblocks.
 
 ";
 
 /// The options of `xfs_repair`.
-const REPAIR_ROWS: [OptionLine; 5] = [
+const REPAIR_ROWS: [OptionLine; 6] = [
     OptionLine {
         letter: b'n',
         says: "          check only, and write nothing\n",
@@ -53,6 +53,10 @@ const REPAIR_ROWS: [OptionLine; 5] = [
     OptionLine {
         letter: b'f',
         says: "          the image is a file; no effect\n",
+    },
+    OptionLine {
+        letter: b'v',
+        says: "          say in words what was found\n",
     },
     OptionLine {
         letter: b'w',

@@ -14,8 +14,11 @@
 //! ```
 #![tactic(auto)]
 
+mod explanation;
 mod help;
 mod lines;
+mod pieces;
 
 pub use help::{Tool, put_help, put_version};
 pub use lines::{Number, put_line, put_text};
+pub use pieces::put_explanation;

@@ -1,5 +1,6 @@
 mod Checking
 pub mod Labels
+pub mod Looking
 pub mod Making
 pub mod Offending
 pub mod Refusing

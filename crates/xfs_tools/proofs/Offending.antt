@@ -37,7 +37,8 @@ letters_stand at (letter ∷ rest) o =
     (choice at (letter == 76) _ _ (letters_stand at rest (record o { drop_log = true }))
     (choice at (letter == 101) _ _ (letters_stand at rest (record o { tells_repair = true }))
     (choice at (letter == 102) _ _ (letters_stand at rest o)
-    (choice at (letter == 119) _ _ (letter_w_stands at rest o) refl))))
+    (choice at (letter == 118) _ _ (letters_stand at rest (record o { verbose = true }))
+    (choice at (letter == 119) _ _ (letter_w_stands at rest o) refl)))))
 
 option_stands : (at : ℕ) (word : List ℕ) (o : RepairWords) → StandsOr at (after_repair_option at word o)
 option_stands at [] o = tt

@@ -11,7 +11,7 @@ use Rattle.xfs_tools.specs.declared.command_line.Reading.TheVariants.{Options, W
 
 -- the options where none is given
 abbrev pub no_options : RepairWords
-no_options = record { check = false; drop_log = false; tells_repair = false; workers = 4 }
+no_options = record { check = false; drop_log = false; tells_repair = false; verbose = false; workers = 4 }
 
 -- a number of workers: decimal from 1 to 64, without a leading zero
 abbrev pub workers_of : List ℕ → Option ℕ
@@ -39,6 +39,7 @@ after_repair_letters at (letter ∷ rest) o =
     else if letter == 76 then after_repair_letters at rest (record o { drop_log = true })
     else if letter == 101 then after_repair_letters at rest (record o { tells_repair = true })
     else if letter == 102 then after_repair_letters at rest o
+    else if letter == 118 then after_repair_letters at rest (record o { verbose = true })
     else if letter == 119 then after_letter_w at rest o
     else Offended at
 

@@ -3,5 +3,6 @@ pub mod HelpWords
 pub mod CommandLine
 pub mod Texts
 pub mod Debugging
+pub mod Explaining
 pub mod Making
 pub mod Repairing

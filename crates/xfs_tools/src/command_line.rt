@@ -25,6 +25,8 @@ pub struct RepairWords {
     pub drop_log: bool,
     /// Ends with 4 after a repair (`-e`).
     pub tells_repair: bool,
+    /// Says in words what was found (`-v`).
+    pub verbose: bool,
     /// How many workers there may be, from 1 to 64 (`-w`).
     pub workers: u32,
 }
@@ -98,6 +100,7 @@ fn read_all(rest: &[Word]) -> Reading
         check: false,
         drop_log: false,
         tells_repair: false,
+        verbose: false,
         workers: 4,
     });
     for (before, word) in rest.iter().enumerate() {
@@ -170,6 +173,7 @@ impl RepairWords {
                 b'L' => options.drop_log = true,
                 b'e' => options.tells_repair = true,
                 b'f' => {}
+                b'v' => options.verbose = true,
                 b'w' => return options.after_letter_w(at, &letters[before + 1..]),
                 _ => return Reading::Offended(at),
             }

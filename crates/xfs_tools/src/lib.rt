@@ -13,6 +13,7 @@
 mod answer;
 mod command_line;
 mod debugger;
+mod explaining;
 mod help_words;
 mod maker;
 mod texts;

@@ -1,12 +1,13 @@
 //! The top call: a command line and an image in, an answer, its line and an exit status out.
 
-ghost use Rattle.std.specs.Prelude.{◌≡◌, ℕ, ◌≤◌, ◌&&◌, Bool, true, false, drop, Result, Some, None};
+ghost use Rattle.std.specs.Prelude.{◌≡◌, ℕ, ◌≤◌, ◌&&◌, Bool, true, false, drop, Result, Option, List, Some, None};
 ghost use Rattle.xfs_disk.specs.Reads.{OnlyReads};
 ghost use Rattle.xfs_disk.specs.declared.failed.Failed.{Failed};
 ghost use Rattle.xfs_options.specs.DebugWords.{debug_of};
 ghost use Rattle.xfs_options.specs.MakeWords.{make_of};
 ghost use Rattle.xfs_tools.specs.CommandLine.{is_debugger, is_maker, judged, tells_in, tells_repair};
 ghost use Rattle.xfs_tools.specs.Debugging.{IsDebugged, IsShelled, session_status};
+ghost use Rattle.xfs_tools.specs.Explaining.{IsLook, IsText, IsToldBehind, explained};
 ghost use Rattle.xfs_tools.specs.HelpWords.{text_asked};
 ghost use Rattle.xfs_tools.specs.Making.{IsMake, IsMaking, IsToldUnless, is_made};
 ghost use Rattle.xfs_tools.specs.Repairing.{IsRepair, IsRepairing, only_checks};
@@ -16,15 +17,26 @@ ghost use Rattle.xfs_tools.specs.Answers.{IsTold, status_of};
 ghost use Rattle.xfs_tools.specs.declared.answer.Answer.{Answer};
 
 use crate::answer::{Answer, Status};
-use crate::command_line::{Call, is_debugger, is_maker, judge};
+use crate::command_line::{Call, RepairWords, is_debugger, is_maker, judge};
 use crate::debugger::run_debugger;
+use crate::explaining::{look_before, tell_found, told_of};
 use crate::help_words::{tell_text, text_asked};
 use crate::maker::run_maker;
-use crate::texts::tell;
 use std::alloc::Global;
 use std::thread::Threads;
 use xfs_disk::{Disk, Failed, Gate, Library, Sink, Source, Stamp, Word};
+use xfs_image::Finding;
 use xfs_mend::repair;
+
+/// The answer to what the words of a repair ask for.
+#[derive(Clone, Copy, Debug)]
+struct Said {
+    answer: Answer,
+    /// The groups that the primary superblock states, where they are known.
+    groups: Option<u32>,
+    /// What is told in words.
+    found: Option<Finding>,
+}
 
 /// Does what the words of a command line say to the disk, and puts the answer's text: to `out` where
 /// the volume is clean, damaged, repaired or made, and for help and the version, else to `err`. What the commands of `xfs_db` print goes to `out`.
@@ -48,11 +60,12 @@ pub fn run<R: Threads + Sync, D: Disk, L: Library, S: Source, O: Sink, E: Sink, 
     // For the other words of `xfs_repair`, and those that name no tool: the words are refused and the disk is the same, or the repair that
     // they ask for was run: its outcome is due to the image, a fault comes only where the disk counted one, just so many blocks were
     // written as it says, the image is what it leaves, and at each moment a stop of the machine leaves what it may. The answer's line is put
-    // to its stream and nothing to the other; and the status is its own, or that of an output fault where the line could not be
+    // to its stream and nothing to the other, but for a line on `err` in front of it where `-v` asks for that in words; and the status is its own, or that of an output fault where the line could not be
     // put. Of a disk that does not tell what it holds, as a file, the parts on the image say nothing, and all others hold.
-    ensures answer { text_asked words.now ≡ None → is_debugger words.now ≡ false → is_maker words.now ≡ false → (answer : Answer) × (put : Result (Unit {0}) Failed)
+    ensures answer { text_asked words.now ≡ None → is_debugger words.now ≡ false → is_maker words.now ≡ false → (answer : Answer) × (text : Option (List ℕ)) × (put : Result (Unit {0}) Failed)
         × IsRepairing (judged words.now) (disk.new ≡ disk.old) (IsRepair D.holds D.size D.faults D.write_faults D.writes D.tells_stops D.moment D.may_leave D.left_since disk.old disk.new) answer
-        × IsTold O.took O.faults E.took E.faults out.old out.new err.old err.new answer put
+        × IsText (IsLook D.holds D.size D.faults D.write_faults D.writes D.tells_stops D.moment D.may_leave D.left_since) disk.old (judged words.now) answer text
+        × IsToldBehind O.took O.faults E.took E.faults out.old out.new err.old err.new text answer put
         × (result ≡ status_of (tells_repair words.now) answer put) }
     // Under `-n`, and where the words are refused, the disk is only read, whatever it tells: no block and no sync.
     ensures checked { is_debugger words.now ≡ false → is_maker words.now ≡ false → only_checks (judged words.now) ≡ true
@@ -101,9 +114,10 @@ fn run_tool<R: Threads + Sync, D: Disk, L: Library, S: Source, O: Sink, E: Sink,
     stamp: &Stamp,
     gate: &G,
 ) -> Status
-    ensures answer { is_debugger words.now ≡ false → is_maker words.now ≡ false → (answer : Answer) × (put : Result (Unit {0}) Failed)
+    ensures answer { is_debugger words.now ≡ false → is_maker words.now ≡ false → (answer : Answer) × (text : Option (List ℕ)) × (put : Result (Unit {0}) Failed)
         × IsRepairing (judged words.now) (disk.new ≡ disk.old) (IsRepair D.holds D.size D.faults D.write_faults D.writes D.tells_stops D.moment D.may_leave D.left_since disk.old disk.new) answer
-        × IsTold O.took O.faults E.took E.faults out.old out.new err.old err.new answer put
+        × IsText (IsLook D.holds D.size D.faults D.write_faults D.writes D.tells_stops D.moment D.may_leave D.left_since) disk.old (judged words.now) answer text
+        × IsToldBehind O.took O.faults E.took E.faults out.old out.new err.old err.new text answer put
         × (result ≡ status_of (tells_repair words.now) answer put) }
     ensures checked { is_debugger words.now ≡ false → is_maker words.now ≡ false → only_checks (judged words.now) ≡ true
         → OnlyReads D.size D.holds D.write_faults D.writes D.tells_stops D.moment D.may_leave D.left_since disk.old disk.new }
@@ -142,9 +156,10 @@ fn run_volume<R: Threads + Sync, D: Disk, O: Sink, E: Sink, G: Gate>(
     stamp: &Stamp,
     gate: &G,
 ) -> Status
-    ensures answer { (answer : Answer) × (put : Result (Unit {0}) Failed)
+    ensures answer { (answer : Answer) × (text : Option (List ℕ)) × (put : Result (Unit {0}) Failed)
         × IsRepairing (judged words.now) (disk.new ≡ disk.old) (IsRepair D.holds D.size D.faults D.write_faults D.writes D.tells_stops D.moment D.may_leave D.left_since disk.old disk.new) answer
-        × IsTold O.took O.faults E.took E.faults out.old out.new err.old err.new answer put
+        × IsText (IsLook D.holds D.size D.faults D.write_faults D.writes D.tells_stops D.moment D.may_leave D.left_since) disk.old (judged words.now) answer text
+        × IsToldBehind O.took O.faults E.took E.faults out.old out.new err.old err.new text answer put
         × (result ≡ status_of (tells_repair words.now) answer put) }
     ensures checked { only_checks (judged words.now) ≡ true → OnlyReads D.size D.holds D.write_faults D.writes D.tells_stops D.moment D.may_leave D.left_since disk.old disk.new }
     ensures size { D.size disk.new ≡ D.size disk.old }
@@ -152,11 +167,11 @@ fn run_volume<R: Threads + Sync, D: Disk, O: Sink, E: Sink, G: Gate>(
     ensures write_faults { D.write_faults disk.old ≤ D.write_faults disk.new }
 {
     let call = judge(words);
-    let answer = answer_to(rt, alloc, &call, disk, stamp, gate);
-    match tell(out, err, answer) {
+    let said = answer_to(rt, alloc, &call, disk, stamp, gate);
+    match tell_found(out, err, said.groups, said.found, said.answer) {
         Ok(()) => Status {
-            code: answer.code(tells_repair(&call)),
-            answer,
+            code: said.answer.code(tells_repair(&call)),
+            answer: said.answer,
             finished: 0,
         },
         Err(Failed) => Status {
@@ -175,18 +190,46 @@ fn answer_to<R: Threads + Sync, D: Disk, G: Gate>(
     disk: &mut D,
     stamp: &Stamp,
     gate: &G,
-) -> Answer
-    ensures answer { IsRepairing call.now (disk.new ≡ disk.old) (IsRepair D.holds D.size D.faults D.write_faults D.writes D.tells_stops D.moment D.may_leave D.left_since disk.old disk.new) result }
+) -> Said
+    ensures answer { IsRepairing call.now (disk.new ≡ disk.old) (IsRepair D.holds D.size D.faults D.write_faults D.writes D.tells_stops D.moment D.may_leave D.left_since disk.old disk.new) result.answer }
+    ensures text { IsText (IsLook D.holds D.size D.faults D.write_faults D.writes D.tells_stops D.moment D.may_leave D.left_since) disk.old call.now result.answer (explained result.groups result.found) }
     ensures checked { only_checks call.now ≡ true → OnlyReads D.size D.holds D.write_faults D.writes D.tells_stops D.moment D.may_leave D.left_since disk.old disk.new }
     ensures size { D.size disk.new ≡ D.size disk.old }
     ensures faults { D.faults disk.old ≤ D.faults disk.new }
     ensures write_faults { D.write_faults disk.old ≤ D.write_faults disk.new }
 {
     match call {
-        Call::Repair(words) => {
-            Answer::of_outcome(repair(rt, alloc, disk, &words.options(), stamp, gate))
-        }
-        Call::Refused { word } => Answer::Usage { word: *word },
+        Call::Repair(words) => answer_repair(rt, alloc, words, disk, stamp, gate),
+        Call::Refused { word } => Said {
+            answer: Answer::Usage { word: *word },
+            groups: None,
+            found: None,
+        },
+    }
+}
+
+/// The answer to the words of a repair, and what of it is told in words.
+fn answer_repair<R: Threads + Sync, D: Disk, G: Gate>(
+    rt: &R,
+    alloc: Global,
+    words: &RepairWords,
+    disk: &mut D,
+    stamp: &Stamp,
+    gate: &G,
+) -> Said
+    ensures answer { IsRepairing (Call.Repair words.now) (disk.new ≡ disk.old) (IsRepair D.holds D.size D.faults D.write_faults D.writes D.tells_stops D.moment D.may_leave D.left_since disk.old disk.new) result.answer }
+    ensures text { IsText (IsLook D.holds D.size D.faults D.write_faults D.writes D.tells_stops D.moment D.may_leave D.left_since) disk.old (Call.Repair words.now) result.answer (explained result.groups result.found) }
+    ensures checked { only_checks (Call.Repair words.now) ≡ true → OnlyReads D.size D.holds D.write_faults D.writes D.tells_stops D.moment D.may_leave D.left_since disk.old disk.new }
+    ensures size { D.size disk.new ≡ D.size disk.old }
+    ensures faults { D.faults disk.old ≤ D.faults disk.new }
+    ensures write_faults { D.write_faults disk.old ≤ D.write_faults disk.new }
+{
+    let look = look_before(rt, alloc, words, disk, stamp, gate);
+    let answer = Answer::of_outcome(repair(rt, alloc, disk, &words.options(), stamp, gate));
+    Said {
+        answer,
+        groups: look.groups,
+        found: told_of(words.verbose, look.found, answer),
     }
 }
 
