@@ -379,7 +379,7 @@ def tables_of_findings():
     told("law 7, 3", w, inode(w, 128, (187, 4, 140)))
     told("law 7, 4", w, inode(w, 128, (186, 1, 2)))
     told("law 8, 3", v, (16, 0, slot(128, [(2, 2, 0x8000), (5, 1, 2), (16, 4, 1)])))
-    told("law 8, 4", w, inode(w, 128, (198, 4, 131)))
+    told("law 8, 4", w, inode(w, 128, (196, 4, 131)))
     told("law 9, the system's", v, inode(v, 130, (16, 4, 0)))
     told("law 10, a chain", w, (0, 1024, sealed(filled(512, [(0, 512, bytes(w[1024:1536])), (60, 4, 131)]), 312)))
     told("law 10, a number", v, inode(v, 128, (112, 8, 0x0000000700000010)))
