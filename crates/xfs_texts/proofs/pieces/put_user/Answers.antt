@@ -1,4 +1,4 @@
-use Rattle.std.proofs.Common.{◌≡◌, ◌/◌, ◌%◌, ◌^◌, List, [], ◌∷◌, codes, ap, sym, ◌∙◌}
+use Rattle.std.proofs.Common.{◌%◌, ◌^◌, List, [], ◌∷◌, codes, ap, sym, ◌∙◌}
 use Rattle.xfs_texts.specs.Explaining.{user_of}
 use Rattle.xfs_texts.specs.Lines.{line}
 use Rattle.xfs_texts.specs.declared.lines.Number.TheVariants.{Large}
