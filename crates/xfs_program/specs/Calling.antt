@@ -20,7 +20,8 @@ use Rattle.xfs_tools.specs.Texts.{text_of}
 use Rattle.xfs_tools.specs.declared.answer.Answer.{Answer}
 use Rattle.xfs_tools.specs.declared.answer.Status.{Status}
 
--- What the words say was done to a disk, with this status. Where they ask for help or the version alone, that text was put and nothing else done. For the other words of xfs_repair, and those of no tool: a repair, and its line in its stream, behind a line in words where they ask for it;
+-- What the words say was done to a disk, with this status. Where they ask for help or the version alone, that text was put and nothing else done.
+-- For the other words of xfs_repair, and those of no tool: a repair, and its line in its stream, behind a line in words where they ask for it;
 -- where it only checks, or the words are refused, the disk was only read. For those of xfs_db: a session, with its input and output, and its line in the
 -- other stream. For those of mkfs.xfs: a volume made, or refused, and its line. No file was taken, and none but a session takes input.
 pub record IsAnswered {D L S O E : Type 0} (holds : D → Option Image) (size faults write_faults reads writes : D → ℕ) (tells_stops : D → Type 0) (moment : D → ℕ)
