@@ -9,14 +9,7 @@ set -eu
 top=$(cd "$(dirname "$0")/.." && pwd)
 xfs=$top/xfs
 PATH=$PATH:/usr/sbin:/sbin
-work=$(mktemp -d)
-loop=
-leave() {
-  if mountpoint -q "$work/mnt"; then umount "$work/mnt"; fi
-  if [ -n "$loop" ]; then losetup -d "$loop"; fi
-  rm -rf "$work"
-}
-trap leave EXIT
+. "$top/examples/loop.sh"
 mkdir "$work/mnt"
 failed=0
 mounts=

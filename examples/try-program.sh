@@ -6,14 +6,7 @@
 #   examples/try-program.sh
 set -eu
 top=$(cd "$(dirname "$0")/.." && pwd)
-work=$(mktemp -d)
-loop=
-leave() {
-  if mountpoint -q "$work/mnt"; then umount "$work/mnt"; fi
-  if [ -n "$loop" ]; then losetup -d "$loop"; fi
-  rm -rf "$work"
-}
-trap leave EXIT
+. "$top/examples/loop.sh"
 failed=0
 
 trial() { # NAME STATUS PATTERN COMMAND..: the lines that a command prints, with / between them, and its status
