@@ -1,5 +1,5 @@
 -- The blocks of a list of bytes: how many, which, all in a row, some of them, and one in the place of another.
-use Rattle.std.proofs.Common.{◌≡◌, ℕ, zero, suc, ◌+◌, ◌-◌, ◌*◌, ◌<◌, ◌≤◌, List, ◌∷◌, ◌++◌, take, drop, length, Some, arith, ap, refl, sym, ◌∙◌}
+use Rattle.std.proofs.Common.{◌≡◌, ℕ, zero, suc, ◌+◌, ◌-◌, ◌*◌, ◌<◌, ◌≤◌, List, [], ◌∷◌, ◌++◌, take, drop, length, Some, arith, ap, refl, sym, ◌∙◌}
 use Rattle.std.specs.Prelude.{slice_get, slice_set, replicate}
 use Rattle.std.specs.List.{concat}
 use Rattle.std.proofs.Math.Seq.{take-add}
@@ -88,6 +88,18 @@ blocks_of-set (suc n) (suc j) bytes block inside long size =
     let others = blocks_of-set n j (drop 4096 bytes) block (omega arith) (omega (arith, length-drop 4096 bytes)) size in
     let set : blocks_of_bytes n (drop 4096 (take (suc j * 4096) bytes ++ tail)) ≡ slice_set (blocks_of_bytes n (drop 4096 bytes)) j block = ap (λ (xs : List ℕ). blocks_of_bytes n xs) rest ∙ others in
     λ k. first k ∷ set k
+
+-- one more block behind the others
+pub blocks_of-push : (n : ℕ) (bytes block : List ℕ) → length bytes ≡ n * 4096 → length block ≡ 4096 → blocks_of_bytes (suc n) (bytes ++ block) ≡ blocks_of_bytes n bytes ++ block ∷ []
+unfolding blocks_of_bytes
+blocks_of-push zero [] block whole size = ap (λ (b : List ℕ). b ∷ []) (take_all 4096 block (omega (arith, size)))
+blocks_of-push zero (x ∷ bytes) block whole size = absurd (omega (arith, whole))
+blocks_of-push (suc n) bytes block whole size =
+    let front : take 4096 (bytes ++ block) ≡ take 4096 bytes = take-append-le 4096 bytes block (omega (arith, whole)) in
+    let back : drop 4096 (bytes ++ block) ≡ drop 4096 bytes ++ block = drop-append-le 4096 bytes block (omega (arith, whole)) in
+    let others : blocks_of_bytes (suc n) (drop 4096 (bytes ++ block)) ≡ blocks_of_bytes n (drop 4096 bytes) ++ block ∷ [] =
+    ap (λ (xs : List ℕ). blocks_of_bytes (suc n) xs) back ∙ blocks_of-push n (drop 4096 bytes) block (omega (arith, whole, length-drop 4096 bytes)) size in
+    λ k. front k ∷ others k
 
 -- the bytes of a bank's blocks in a row
 pub concat_is : (n : ℕ) (bytes : List ℕ) (bank : Image) → blocks_of_bytes n bytes ≡ bank → length bytes ≡ n * 4096 → concat bank ≡ bytes

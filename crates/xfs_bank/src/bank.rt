@@ -1,6 +1,6 @@
 //! The bank: so many blocks of 4096 bytes, one behind the other.
 
-ghost use Rattle.std.specs.Prelude.{◌≡◌, ℕ, ◌+◌, ◌/◌, ◌≤◌, ◌<◌, List, ◌∷◌, length, take, replicate, Some, IfOk, OnOk, OnErr, slice_get, slice_set, slice_index, slice_index_or, slice_range};
+ghost use Rattle.std.specs.Prelude.{◌≡◌, ℕ, ◌+◌, ◌/◌, ◌≤◌, ◌<◌, List, [], ◌∷◌, ◌++◌, length, take, replicate, Some, IfOk, OnOk, OnErr, slice_get, slice_set, slice_index, slice_index_or, slice_range};
 ghost use Rattle.std.specs.List.{All, concat};
 ghost use Rattle.std.specs.Fork.{AcceptsEach, ChangesEach};
 ghost use Rattle.xfs_disk.specs.Blocks.{Image, IsImage};
@@ -44,6 +44,15 @@ impl BlockBank {
         };
         let bytes = vec![in alloc; 0; size]?;
         Ok(BlockBank { bytes })
+    }
+
+    /// Puts a block behind the others.
+    pub fn push(&mut self, block: &[u8]) -> Result<(), NoMemory>
+        requires whole { length block.now ≡ 4096 }
+        ensures { OnOk result (self.new ≡ self.old ++ block.now ∷ []) }
+    {
+        self.bytes.extend_from_slice(block)?;
+        Ok(())
     }
 
     /// How many blocks the bank has.
