@@ -20,26 +20,26 @@ pub record FeatureWord : Type 0 where
   pub width : ℕ
   pub rule : Rule
 
-abbrev pub row : ℕ → ℕ → ℕ → Rule → FeatureWord
-row word offset width rule = record { word = word; offset = offset; width = width; rule = rule }
+abbrev pub feature_row : ℕ → ℕ → ℕ → Rule → FeatureWord
+feature_row word offset width rule = record { word = word; offset = offset; width = width; rule = rule }
 
 -- the word's field is a number inside a sector
-abbrev pub is_readable : FeatureWord → Bool
-is_readable w = is_width w.width && nat_le (w.offset + w.width) 512
+abbrev pub is_readable_feature : FeatureWord → Bool
+is_readable_feature w = is_width w.width && nat_le (w.offset + w.width) 512
 
 -- the feature words in the order in which they are tested
 abbrev pub feature_words : List FeatureWord
 feature_words =
     -- blocksize, sectsize, inodesize, dirblklog
-    row 1 4 4 (Exactly 4096) ∷ row 2 102 2 (Exactly 512) ∷ row 3 104 2 (Exactly 512) ∷ row 4 192 1 (Exactly 0) ∷
+    feature_row 1 4 4 (Exactly 4096) ∷ feature_row 2 102 2 (Exactly 512) ∷ feature_row 3 104 2 (Exactly 512) ∷ feature_row 4 192 1 (Exactly 0) ∷
     -- logstart, rblocks
-    row 5 48 8 NotZero ∷ row 6 16 8 (Exactly 0) ∷
+    feature_row 5 48 8 NotZero ∷ feature_row 6 16 8 (Exactly 0) ∷
     -- uquotino, gquotino, pquotino
-    row 7 160 8 ZeroOrOnes ∷ row 8 168 8 ZeroOrOnes ∷ row 9 232 8 ZeroOrOnes ∷
+    feature_row 7 160 8 ZeroOrOnes ∷ feature_row 8 168 8 ZeroOrOnes ∷ feature_row 9 232 8 ZeroOrOnes ∷
     -- features_compat, features_ro_compat, features_incompat, features_log_incompat
-    row 10 208 4 (Exactly 0) ∷ row 11 212 4 (Exactly 3) ∷ row 12 216 4 (Exactly 3) ∷ row 13 220 4 (Exactly 0) ∷
+    feature_row 10 208 4 (Exactly 0) ∷ feature_row 11 212 4 (Exactly 3) ∷ feature_row 12 216 4 (Exactly 3) ∷ feature_row 13 220 4 (Exactly 0) ∷
     -- inoalignmt, spino_align, versionnum
-    row 14 180 4 (Exactly 8) ∷ row 15 228 4 (Exactly 4) ∷ row 16 100 2 (Without 16384) ∷ []
+    feature_row 14 180 4 (Exactly 8) ∷ feature_row 15 228 4 (Exactly 4) ∷ feature_row 16 100 2 (Without 16384) ∷ []
 
 -- the first answer, or else the second
 abbrev pub or_else : {A : Type 0} → Option A → Option A → Option A

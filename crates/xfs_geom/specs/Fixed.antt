@@ -11,17 +11,17 @@ pub record FixedWord : Type 0 where
   pub width : ℕ
   pub number : ℕ
 
-abbrev pub row : ℕ → ℕ → ℕ → ℕ → FixedWord
-row word offset width number = record { word = word; offset = offset; width = width; number = number }
+abbrev pub fixed_row : ℕ → ℕ → ℕ → ℕ → FixedWord
+fixed_row word offset width number = record { word = word; offset = offset; width = width; number = number }
 
 -- blocklog, sectlog, inodelog, inopblock, inopblog, rextents, rbmblocks
 abbrev pub fixed_words : List FixedWord
 fixed_words =
-    row 1 120 1 12 ∷ row 2 121 1 9 ∷ row 3 122 1 9 ∷ row 4 106 2 8 ∷ row 5 123 1 3 ∷ row 6 24 8 0 ∷ row 7 92 4 0 ∷ []
+    fixed_row 1 120 1 12 ∷ fixed_row 2 121 1 9 ∷ fixed_row 3 122 1 9 ∷ fixed_row 4 106 2 8 ∷ fixed_row 5 123 1 3 ∷ fixed_row 6 24 8 0 ∷ fixed_row 7 92 4 0 ∷ []
 
 -- the word's field is a number inside a sector
-abbrev pub is_readable : FixedWord → Bool
-is_readable w = is_width w.width && nat_le (w.offset + w.width) 512
+abbrev pub is_readable_fixed : FixedWord → Bool
+is_readable_fixed w = is_width w.width && nat_le (w.offset + w.width) 512
 
 -- each word with whether the sector holds its number
 abbrev pub fixed_tests : List FixedWord → List ℕ → List (ℕ × Bool)
@@ -32,5 +32,5 @@ unfoldable pub fixed_fault : List ℕ → Option ℕ
 fixed_fault sector = first_false (fixed_tests fixed_words sector)
 
 -- a word of the code's table without its field's name and form
-abbrev pub word_of : Fixed → FixedWord
-word_of f = row f.word f.field.offset f.field.width f.number
+abbrev pub fixed_word : Fixed → FixedWord
+fixed_word f = fixed_row f.word f.field.offset f.field.width f.number

@@ -2,8 +2,8 @@
 
 ghost use Rattle.std.specs.Prelude.{◌≡◌, ℕ, ◌+◌, ◌<◌, ◌≤◌, ◌^◌, length, map, All, Option, Some, None, IsTrue};
 ghost use Rattle.xfs_word.specs.Field.{field_of, is_width};
-ghost use Rattle.xfs_geom.specs.Features.{departing_bits, departure_by, first_departure, is_readable, refused_feature};
-ghost use Rattle.xfs_geom.specs.Private.Words.{word_of};
+ghost use Rattle.xfs_geom.specs.Features.{departing_bits, departure_by, first_departure, is_readable_feature, refused_feature};
+ghost use Rattle.xfs_geom.specs.Private.Words.{feature_word};
 
 use crate::superblock::{
     BLOCKSIZE, DIRBLKLOG, FEATURES_COMPAT, FEATURES_INCOMPAT, FEATURES_LOG_INCOMPAT,
@@ -137,8 +137,8 @@ pub fn refused_feature(sector: &[u8]) -> Option<Departure>
 /// The first of these words that departs from its rule.
 fn first_departure(features: &[Feature], sector: &[u8]) -> Option<Departure>
     requires sector { length sector.now ≡ 512 }
-    requires readable { All (λ f. IsTrue (is_readable (word_of f))) features.now }
-    ensures { result ≡ first_departure (map word_of features.now) sector.now }
+    requires readable { All (λ f. IsTrue (is_readable_feature (feature_word f))) features.now }
+    ensures { result ≡ first_departure (map feature_word features.now) sector.now }
 {
     for feature in features {
         if let Some(departure) = feature.departure(sector) {
@@ -151,7 +151,7 @@ fn first_departure(features: &[Feature], sector: &[u8]) -> Option<Departure>
 impl Feature {
     fn departure(&self, sector: &[u8]) -> Option<Departure>
         requires sector { length sector.now ≡ 512 }
-        requires readable { IsTrue (is_readable (word_of self.now)) }
+        requires readable { IsTrue (is_readable_feature (feature_word self.now)) }
         ensures { result ≡ departure_by self.now.word (departing_bits self.now.rule (field_of sector.now self.now.field.offset self.now.field.width)) }
     {
         let bits = self.rule.departing_bits(self.field.read(sector))?;

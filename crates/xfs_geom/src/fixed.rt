@@ -2,7 +2,7 @@
 
 ghost use Rattle.std.specs.Prelude.{◌≡◌, ℕ, length, map, All, Option, IsTrue};
 ghost use Rattle.xfs_geom.specs.First.{first_false};
-ghost use Rattle.xfs_geom.specs.Fixed.{fixed_fault, fixed_tests, is_readable, word_of};
+ghost use Rattle.xfs_geom.specs.Fixed.{fixed_fault, fixed_tests, is_readable_fixed, fixed_word};
 
 use crate::superblock::{BLOCKLOG, INODELOG, INOPBLOCK, INOPBLOG, RBMBLOCKS, REXTENTS, SECTLOG};
 use xfs_word::FieldLayout;
@@ -65,8 +65,8 @@ pub fn fixed_fault(sector: &[u8]) -> Option<u8>
 /// The first of these words whose field holds another number.
 fn first_fault(words: &[Fixed], sector: &[u8]) -> Option<u8>
     requires sector { length sector.now ≡ 512 }
-    requires readable { All (λ f. IsTrue (is_readable (word_of f))) words.now }
-    ensures { result ≡ first_false (fixed_tests (map word_of words.now) sector.now) }
+    requires readable { All (λ f. IsTrue (is_readable_fixed (fixed_word f))) words.now }
+    ensures { result ≡ first_false (fixed_tests (map fixed_word words.now) sector.now) }
 {
     for fixed in words {
         if fixed.field.read(sector) != fixed.number {

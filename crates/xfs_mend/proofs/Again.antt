@@ -17,7 +17,7 @@ use Rattle.xfs_scan.specs.declared.faults.ScanFault.TheVariants as scan
 use Rattle.xfs_mend.specs.Asked.{Asked}
 use Rattle.xfs_mend.specs.Backups.{backup_plan}
 use Rattle.xfs_mend.specs.Due.{IsAnswer, IsDueRepair, IsOwed, asks_log, away_if, due_found, due_volume, is_dirty, turned_away}
-use Rattle.xfs_mend.specs.Outcome.{IsRepaired, RepairLeaves, Stays, is_quiet}
+use Rattle.xfs_mend.specs.Outcome.{IsRepaired, RepairLeaves, StaysClean, is_quiet}
 use Rattle.xfs_mend.specs.declared.outcome.Outcome.{Outcome}
 use Rattle.xfs_mend.specs.declared.outcome.Outcome.TheVariants.{NoGeometry, Unsupported, DirtyLog, TooLarge, UnsupportedFile, Clean, Damaged, Repaired, Unbuilt, ReadFault, WriteFault, NoMemory}
 use Rattle.xfs_mend.specs.declared.outcome.Summary.{Summary}
@@ -87,11 +87,11 @@ one_image x y e = cc
 pub left_stays : (o : Asked) (image left : Image) (now : Option Image) (outcome : Outcome) → IsRepaired image (Some left) → IsDueRepair o left outcome → RepairLeaves left now outcome → now ≡ Some left
 left_stays o image left now outcome is due leaves =
     let same : left ≡ written (backup_plan image) image = one_image left (written (backup_plan image) image) is.planned in
-    let stays : Stays left = subst Stays (sym same) is.stays in
+    let stays : StaysClean left = subst StaysClean (sym same) is.stays in
     quiet_leaves left now outcome (stays.quiet o outcome due) leaves
 
 pub left_clean : (o : Asked) (image left : Image) (outcome : Outcome) → IsRepaired image (Some left) → IsDueRepair o left outcome → IsOwed Clean outcome
 left_clean o image left outcome is due =
     let same : left ≡ written (backup_plan image) image = one_image left (written (backup_plan image) image) is.planned in
-    let stays : Stays left = subst Stays (sym same) is.stays in
+    let stays : StaysClean left = subst StaysClean (sym same) is.stays in
     stays.only o outcome due

@@ -28,7 +28,7 @@ use Rattle.xfs_mend.proofs.SameCandidates.{refusal_same}
 use Rattle.xfs_mend.proofs.Turning.{not_dirty}
 use Rattle.xfs_mend.specs.Asked.{Asked}
 use Rattle.xfs_mend.specs.Due.{IsAnswer, IsDueRepair, IsOwed, asks_log, away_if, is_dirty, scan_refusal, turned_away}
-use Rattle.xfs_mend.specs.Outcome.{Stays}
+use Rattle.xfs_mend.specs.Outcome.{StaysClean}
 use Rattle.xfs_mend.specs.declared.outcome.Outcome.{Outcome}
 use Rattle.xfs_mend.specs.declared.outcome.Outcome.TheVariants.{NoGeometry, Unsupported, DirtyLog, TooLarge, UnsupportedFile, Clean, Damaged, Repaired, Unbuilt, ReadFault, WriteFault, NoMemory}
 use Rattle.xfs_mend.specs.declared.outcome.Summary.TheVariants.{Backups}
@@ -94,7 +94,7 @@ clean_alone o image (Repaired summary) clean due = one_answer o image (elected i
 clean_alone o image (Unbuilt request) clean due = one_answer o image (elected image) (Unbuilt request) Clean due clean
 
 -- so a further repair leaves it as it is
-pub is_left : (g : Geometry) (image now : Image) → IsConsistent broken_law g now → DifferInBackups (volume_of g) image now → scan_refusal (refused (volume_of g) image) ≡ None → Stays now
+pub is_left : (g : Geometry) (image now : Image) → IsConsistent broken_law g now → DifferInBackups (volume_of g) image now → scan_refusal (refused (volume_of g) image) ≡ None → StaysClean now
 is_left g image now is differ none =
     let none_now : scan_refusal (refused (volume_of g) now) ≡ None = ap scan_refusal (refusal_stays g image now is differ) ∙ none in
     record {

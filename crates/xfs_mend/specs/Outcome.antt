@@ -49,7 +49,7 @@ is_quiet outcome = true
 
 -- Whatever is asked of a further repair, clean is due to the image: each other outcome that may come is a failed read or want of memory,
 -- and none says that anything was written.
-pub record Stays (image : Image) : Type 0 where
+pub record StaysClean (image : Image) : Type 0 where
   pub clean : (o : Asked) → IsAnswer o image (elected image) Clean
   pub only : (o : Asked) (outcome : Outcome) → IsDueRepair o image outcome → IsOwed Clean outcome
   pub quiet : (o : Asked) (outcome : Outcome) → IsDueRepair o image outcome → is_quiet outcome ≡ true
@@ -68,7 +68,7 @@ pub record IsRepaired (image : Image) (now : Option Image) : Type 0 where
   pub states : IsElected (volume_of geometry) image
   pub consistent : IsConsistent broken_law geometry (written (backup_plan image) image)
   pub keeps : (ino : ℕ) → Protected (volume_of geometry) image ino → Keeps (volume_of geometry) image (written (backup_plan image) image) ino
-  pub stays : Stays (written (backup_plan image) image)
+  pub stays : StaysClean (written (backup_plan image) image)
 
 -- what the disk holds after an outcome of the plan: the written plan after a repair, a part of it after a
 -- write fault, else what it held

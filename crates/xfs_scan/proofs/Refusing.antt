@@ -12,7 +12,7 @@ use Rattle.xfs_image.specs.Claims.{candidate_files, candidate_inodes, entry_coun
 use Rattle.xfs_image.specs.Directories.{dirs_read, entries_read}
 use Rattle.xfs_image.specs.Slots.{cluster_inodes}
 use Rattle.xfs_image.specs.View.{log_of, view}
-use Rattle.xfs_scan.specs.Evidence.{AreSeen, HasFiles, IsEvidence, joined_parts, view_in}
+use Rattle.xfs_scan.specs.Evidence.{AreSeen, SeesInodes, IsEvidence, joined_parts, view_seen}
 use Rattle.xfs_scan.specs.Facts.{slot_facts}
 use Rattle.xfs_scan.specs.Gathered.{Gathered, bare_inodes, first_feature, gathered, held_in}
 use Rattle.xfs_scan.specs.Refused.{extents_of, feature_refused, refused_late, unless_more}
@@ -64,7 +64,7 @@ module _ (v : Volume) (image : Image) (held : Gathered) (all : held ≡ gathered
 pub is_evidence : (g : Geometry) (image : Image) (groups : Groups) (slots : List SlotFact) (bare : List ℕ) (inodes : Inodes) (seen : Seen) (log : LogState)
     → AreSeen g image groups → slots ≡ slot_facts (volume_of g) image → bare ≡ inodes.bare.items
     → held_in inodes ≡ gathered (volume_of g) image (candidate_inodes (volume_of g) image)
-    → HasFiles inodes seen → view_in seen ≡ view g image → log ≡ log_of (volume_of g) image
+    → SeesInodes inodes seen → view_seen seen ≡ view g image → log ≡ log_of (volume_of g) image
     → IsEvidence g image (joined_parts groups.clusters slots bare groups.trees seen log)
 is_evidence g image groups slots bare inodes seen log read facts copied held kept viewed logged = record {
   clusters = read.clusters;

@@ -27,40 +27,40 @@ use Rattle.xfs_scan.specs.declared.facts.SlotFact.{SlotFact}
 use Rattle.xfs_scan.specs.declared.inodes.Inodes.{Inodes}
 
 -- the files of an evidence, their entries and their directories: those of the catalog, where they are that catalog's
-abbrev pub files_in : Seen → List FileRec
-files_in (Sight.Whole catalog) = catalog.files
-files_in (Sight.Apart lists told) = lists.files
+abbrev pub files_seen : Seen → List FileRec
+files_seen (Sight.Whole catalog) = catalog.files
+files_seen (Sight.Apart lists told) = lists.files
 
-abbrev pub entries_in : Seen → List EntryRec
-entries_in (Sight.Whole catalog) = catalog.entries
-entries_in (Sight.Apart lists told) = lists.entries
+abbrev pub entries_seen : Seen → List EntryRec
+entries_seen (Sight.Whole catalog) = catalog.entries
+entries_seen (Sight.Apart lists told) = lists.entries
 
-abbrev pub dirs_in : Seen → List DirRec
-dirs_in (Sight.Whole catalog) = catalog.dirs
-dirs_in (Sight.Apart lists told) = lists.dirs
+abbrev pub dirs_seen : Seen → List DirRec
+dirs_seen (Sight.Whole catalog) = catalog.dirs
+dirs_seen (Sight.Apart lists told) = lists.dirs
 
 -- what the whole image says beside them
-abbrev pub view_in : Seen → Result Catalog Finding
-view_in (Sight.Whole catalog) = Ok catalog
-view_in (Sight.Apart lists told) = told
+abbrev pub view_seen : Seen → Result Catalog Finding
+view_seen (Sight.Whole catalog) = Ok catalog
+view_seen (Sight.Apart lists told) = told
 
 -- they are the files, the entries and the directories that were gathered
-pub record HasFiles (inodes : Inodes) (seen : Seen) : Type 0 where
-  pub files : files_in seen ≡ inodes.files.items
-  pub entries : entries_in seen ≡ inodes.entries.items
-  pub dirs : dirs_in seen ≡ inodes.dirs.items
+pub record SeesInodes (inodes : Inodes) (seen : Seen) : Type 0 where
+  pub files : files_seen seen ≡ inodes.files.items
+  pub entries : entries_seen seen ≡ inodes.entries.items
+  pub dirs : dirs_seen seen ≡ inodes.dirs.items
 
 -- the candidate clusters with what is kept of their slots; the candidate files, those without attributes, their directories with
 -- the entries of these; the reserved blocks of each group; what the whole image says; whether its log is clean
 pub record IsEvidence (g : Geometry) (image : Image) (e : Evidence) : Type 0 where
   pub clusters : e.clusters ≡ candidates (volume_of g) image
   pub slots : e.slots ≡ slot_facts (volume_of g) image
-  pub files : files_in e.seen ≡ candidate_files (volume_of g) image
+  pub files : files_seen e.seen ≡ candidate_files (volume_of g) image
   pub bare : e.bare ≡ bare_inodes (volume_of g) image
-  pub entries : entries_in e.seen ≡ entries_read (volume_of g) image (candidate_files (volume_of g) image)
-  pub dirs : dirs_in e.seen ≡ dirs_read (volume_of g) image (candidate_files (volume_of g) image)
+  pub entries : entries_seen e.seen ≡ entries_read (volume_of g) image (candidate_files (volume_of g) image)
+  pub dirs : dirs_seen e.seen ≡ dirs_read (volume_of g) image (candidate_files (volume_of g) image)
   pub trees : lists_of e.trees ≡ reserved_lists (volume_of g) image
-  pub catalog : view_in e.seen ≡ view g image
+  pub catalog : view_seen e.seen ≡ view g image
   pub log : e.log ≡ log_of (volume_of g) image
 
 -- what the groups of an image give

@@ -1,7 +1,7 @@
 //! The evidence of a volume.
 
 ghost use Rattle.std.specs.Prelude.{◌≡◌};
-ghost use Rattle.xfs_scan.specs.Evidence.{dirs_in, entries_in, files_in, view_in};
+ghost use Rattle.xfs_scan.specs.Evidence.{dirs_seen, entries_seen, files_seen, view_seen};
 
 use crate::facts::SlotFact;
 use xfs_dirdata::EntryRec;
@@ -49,7 +49,7 @@ pub struct Lists {
 impl Seen {
     /// The files of the candidate clusters, by inode, with their attributes or without.
     pub fn files(&self) -> &[FileRec]
-        ensures { result.now ≡ files_in self.now }
+        ensures { result.now ≡ files_seen self.now }
     {
         match self {
             Seen::Whole(catalog) => catalog.files.as_slice(),
@@ -59,7 +59,7 @@ impl Seen {
 
     /// The entries that read of the directories among the files, by directory and then as they stand in it.
     pub fn entries(&self) -> &[EntryRec]
-        ensures { result.now ≡ entries_in self.now }
+        ensures { result.now ≡ entries_seen self.now }
     {
         match self {
             Seen::Whole(catalog) => catalog.entries.as_slice(),
@@ -69,7 +69,7 @@ impl Seen {
 
     /// These directories, by inode.
     pub fn dirs(&self) -> &[DirRec]
-        ensures { result.now ≡ dirs_in self.now }
+        ensures { result.now ≡ dirs_seen self.now }
     {
         match self {
             Seen::Whole(catalog) => catalog.dirs.as_slice(),
@@ -79,7 +79,7 @@ impl Seen {
 
     /// What the whole image says, or the first part that does not read.
     pub fn into_view(self) -> Result<Catalog, Finding>
-        ensures { result ≡ view_in self }
+        ensures { result ≡ view_seen self }
     {
         match self {
             Seen::Whole(catalog) => Ok(catalog),

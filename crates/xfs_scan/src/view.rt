@@ -16,7 +16,7 @@ ghost use Rattle.xfs_image.specs.Groups.{groups_read};
 ghost use Rattle.xfs_image.specs.Slots.{cluster_inodes, inodes_of_block};
 ghost use Rattle.xfs_image.specs.View.{catalog_of, counts_of, log_of, view};
 ghost use Rattle.xfs_scan.specs.Answers.{HasReadCause};
-ghost use Rattle.xfs_scan.specs.Evidence.{HasFiles, view_in};
+ghost use Rattle.xfs_scan.specs.Evidence.{SeesInodes, view_seen};
 ghost use Rattle.xfs_scan.specs.Gathered.{gathered, held_in, inodes_of_blocks, gathered_both};
 
 use crate::blocks::blocks_of;
@@ -59,8 +59,8 @@ pub fn see_view<D: Disk, L: Ledger>(
     requires scanned { ForSome (D.holds disk.old) (λ image. scanned.now ≡ candidates (volume_of g.now) image) }
     requires inodes { ForSome (D.holds disk.old) (λ image. held_in inodes ≡ gathered (volume_of g.now) image (candidate_inodes (volume_of g.now) image)) }
     requires log { ForSome (D.holds disk.old) (λ image. log ≡ log_of (volume_of g.now) image) }
-    ensures view { IfOk result (λ seen. ForSome (D.holds disk.old) (λ image. view_in seen ≡ view g.now image)) }
-    ensures files { IfOk result (HasFiles inodes) }
+    ensures view { IfOk result (λ seen. ForSome (D.holds disk.old) (λ image. view_seen seen ≡ view g.now image)) }
+    ensures files { IfOk result (SeesInodes inodes) }
     ensures cause { HasReadCause (D.faults disk.old) (D.faults disk.new) result }
     ensures disk { OnlyReads D.size D.holds D.write_faults D.writes D.tells_stops D.moment D.may_leave D.left_since disk.old disk.new }
 {
@@ -88,8 +88,8 @@ fn see_with_groups<D: Disk, L: Ledger>(
     requires scanned { ForSome (D.holds disk.old) (λ image. scanned.now ≡ candidates (volume_of g.now) image) }
     requires inodes { ForSome (D.holds disk.old) (λ image. held_in inodes ≡ gathered (volume_of g.now) image (candidate_inodes (volume_of g.now) image)) }
     requires log { ForSome (D.holds disk.old) (λ image. log ≡ log_of (volume_of g.now) image) }
-    ensures view { IfOk result (λ seen. ForSome (D.holds disk.old) (λ image. view_in seen ≡ view g.now image)) }
-    ensures files { IfOk result (HasFiles inodes) }
+    ensures view { IfOk result (λ seen. ForSome (D.holds disk.old) (λ image. view_seen seen ≡ view g.now image)) }
+    ensures files { IfOk result (SeesInodes inodes) }
     ensures cause { HasReadCause (D.faults disk.old) (D.faults disk.new) result }
     ensures disk { OnlyReads D.size D.holds D.write_faults D.writes D.tells_stops D.moment D.may_leave D.left_since disk.old disk.new }
 {
@@ -127,8 +127,8 @@ fn see_same<D: Disk, L: Ledger>(
     requires low { All (λ cluster. cluster < 2 ^ 42) clusters.now }
     requires inodes { ForSome (D.holds disk.old) (λ image. held_in inodes ≡ gathered (volume_of g.now) image (flat_map (cluster_inodes (volume_of g.now)) clusters.now)) }
     requires log { ForSome (D.holds disk.old) (λ image. log ≡ log_of (volume_of g.now) image) }
-    ensures view { IfOk result (λ seen. ForSome (D.holds disk.old) (λ image. view_in seen ≡ view g.now image)) }
-    ensures files { IfOk result (HasFiles inodes) }
+    ensures view { IfOk result (λ seen. ForSome (D.holds disk.old) (λ image. view_seen seen ≡ view g.now image)) }
+    ensures files { IfOk result (SeesInodes inodes) }
     ensures cause { HasReadCause (D.faults disk.old) (D.faults disk.new) result }
     ensures disk { OnlyReads D.size D.holds D.write_faults D.writes D.tells_stops D.moment D.may_leave D.left_since disk.old disk.new }
 {
@@ -188,8 +188,8 @@ fn missing(place: u64) -> Finding
 
 /// The files of candidate clusters, beside what the image says.
 fn apart(inodes: Inodes, view: Result<Catalog, Finding>) -> Seen
-    ensures view { view_in result ≡ view }
-    ensures files { HasFiles inodes result }
+    ensures view { view_seen result ≡ view }
+    ensures files { SeesInodes inodes result }
 {
     let lists = Lists {
         files: Records::from_vec(inodes.files),
@@ -218,7 +218,7 @@ fn build_view<D: Disk, L: Ledger>(
     requires dirs { ForSome (D.holds disk.old) (λ image. inodes.dirs.items ≡ dirs_read (volume_of g.now) image inodes.files.items) }
     requires log { ForSome (D.holds disk.old) (λ image. log ≡ log_of (volume_of g.now) image) }
     ensures catalog { IfOk result (λ catalog. ForSome (D.holds disk.old) (λ image. catalog ≡ catalog_of g.now image groups inodes.files.items)) }
-    ensures files { IfOk result (λ catalog. HasFiles inodes (Seen.Whole catalog)) }
+    ensures files { IfOk result (λ catalog. SeesInodes inodes (Seen.Whole catalog)) }
     ensures cause { HasReadCause (D.faults disk.old) (D.faults disk.new) result }
     ensures disk { OnlyReads D.size D.holds D.write_faults D.writes D.tells_stops D.moment D.may_leave D.left_since disk.old disk.new }
 {

@@ -7,12 +7,12 @@ use Rattle.xfs_disk.specs.Counts.{raised_times}
 use Rattle.xfs_disk.specs.Blocks.{Image}
 use Rattle.xfs_geom.specs.Volumes.{Volume}
 use Rattle.xfs_commands.specs.Commands.{Effect, Put, Session}
-use Rattle.xfs_shell.specs.Ends.{HasLineCause, IsBehind, IsPrefixPut, IsHalted, LeavesLine, PrintsLine}
+use Rattle.xfs_shell.specs.Ends.{HasLineCause, StandsBehind, IsPrefixPut, IsHalted, LeavesLine, PrintsLine}
 use Rattle.xfs_shell.specs.Running.{Run, after_line, attempts, begun, block_at_place, count_put, extended, image_after, shelled}
 use Rattle.xfs_commands.specs.Cursors.{is_quit}
 use Rattle.xfs_commands.specs.Verbs.{word_at}
 use Rattle.xfs_shell.specs.Lines.{line_parts}
-use Rattle.xfs_shell.specs.Sessions.{IsWrittenBehind, Stays, raised_put}
+use Rattle.xfs_shell.specs.Sessions.{IsWrittenBehind, LeavesAtStop, raised_put}
 use Rattle.xfs_shell.specs.Shells.{HasSessionCause, IsEarly, IsGoing, IsOfLines, LeavesDisk, Prints, outcome_behind, stopped_outcome}
 use Rattle.xfs_shell.proofs.Stepping.{HasEndCount, HasStopCount}
 use Rattle.xfs_disk.specs.Faults.{Rose}
@@ -95,7 +95,7 @@ raised_more None n writes = refl
 raised_more (Some put) n writes = refl
 
 extended_put : (r : Run) (e : Effect) (verdict : Verdict) (session : Session) (now : Option Image) (writes writes_now writes_then : ℕ)
-    → writes_now ≡ raised_times r.writes writes → IsBehind e r.image verdict session now writes_now writes_then → IsNext (extended r e) verdict session now writes writes_then
+    → writes_now ≡ raised_times r.writes writes → StandsBehind e r.image verdict session now writes_now writes_then → IsNext (extended r e) verdict session now writes writes_then
 extended_put r e verdict session now writes writes_now writes_then counted put =
     record {
       session_is = put.session_is;
@@ -127,7 +127,7 @@ module _ (v : Volume) (leave : Leave) (lines : List (List ℕ)) (image : Image) 
 
   next_at : (verdict : Verdict) (s' : Session) (now' : Option Image) (writes' : ℕ)
       → i < length lines → line ≡ get_or lines i d → IsAt v leave lines image i s now writes writes_now
-      → IsBehind line_effect (shelled v leave (take i lines) image).image verdict s' now' writes_now writes'
+      → StandsBehind line_effect (shelled v leave (take i lines) image).image verdict s' now' writes_now writes'
       → IsNext (shelled v leave (take (i + 1) lines) image) verdict s' now' writes writes'
   next_at verdict s' now' writes' within line_is at put =
       subst (λ (q : Run). IsNext q verdict s' now' writes writes') (sym (due_run within line_is at))
@@ -135,7 +135,7 @@ module _ (v : Volume) (leave : Leave) (lines : List (List ℕ)) (image : Image) 
 
   pub stepped : (verdict : Verdict) (s' : Session) (now' : Option Image) (writes' : ℕ)
       → i < length lines → line ≡ get_or lines i d → IsAt v leave lines image i s now writes writes_now
-      → IsBehind line_effect (shelled v leave (take i lines) image).image verdict s' now' writes_now writes'
+      → StandsBehind line_effect (shelled v leave (take i lines) image).image verdict s' now' writes_now writes'
       → is_quit verdict ≡ false → IsAt v leave lines image (i + 1) s' now' writes writes'
   stepped verdict s' now' writes' within line_is at put on =
       let n = next_at verdict s' now' writes' within line_is at put in
@@ -162,7 +162,7 @@ module _ (v : Volume) (leave : Leave) (lines : List (List ℕ)) (image : Image) 
 
   pub quitted : (verdict : Verdict) (s' : Session) (now' : Option Image) (writes' : ℕ)
       → i < length lines → line ≡ get_or lines i d → IsAt v leave lines image i s now writes writes_now
-      → IsBehind line_effect (shelled v leave (take i lines) image).image verdict s' now' writes_now writes'
+      → StandsBehind line_effect (shelled v leave (take i lines) image).image verdict s' now' writes_now writes'
       → is_quit verdict ≡ true → LeavesDisk v leave lines image now' writes writes' Done
   quitted verdict s' now' writes' within line_is at put off =
       let n = next_at verdict s' now' writes' within line_is at put in
@@ -175,7 +175,7 @@ module _ (v : Volume) (leave : Leave) (lines : List (List ℕ)) (image : Image) 
 
   pub text_quitted : (verdict : Verdict) (s' : Session) (now' : Option Image) (writes' : ℕ) (before : List ℕ) (took' : Option (List ℕ))
       → i < length lines → line ≡ get_or lines i d → IsAt v leave lines image i s now writes writes_now
-      → IsBehind line_effect (shelled v leave (take i lines) image).image verdict s' now' writes_now writes'
+      → StandsBehind line_effect (shelled v leave (take i lines) image).image verdict s' now' writes_now writes'
       → is_quit verdict ≡ true
       → took' ≡ Some (before ++ (shelled v leave (take i lines) image).text ++ line_effect.text)
       → Prints v leave lines image before took' Done
@@ -188,7 +188,7 @@ module _ (v : Volume) (leave : Leave) (lines : List (List ℕ)) (image : Image) 
   halted : (why : Stop) (now' : Option Image) (writes' : ℕ)
       → i < length lines → line ≡ get_or lines i d → IsAt v leave lines image i s now writes writes_now
       → HasStopCount writes_now writes' why
-      → Stays line_effect (shelled v leave (take i lines) image).image now' why
+      → LeavesAtStop line_effect (shelled v leave (take i lines) image).image now' why
       → LeavesDisk v leave lines image now' writes writes' (stopped_outcome why i)
   halted stop.ReadFault now' writes' within line_is at count stays =
       record { image_is = stays; writes_are = count ∙ at.writes_are; finished_are = (omega (arith, within), at.goes) }

@@ -7,7 +7,7 @@ use Rattle.xfs_commands.specs.Commands.{Session, Effect, no_address}
 use Rattle.xfs_commands.specs.Verbs.{accepted}
 use Rattle.xfs_shell.specs.Running.{attempts, is_push, is_push_verb, keeping, pushes, pushes_in, restored, block_at_place, image_after, runs_placeless, runs_accepted, runs_first, runs_named, runs_words}
 use Rattle.xfs_commands.specs.Cursors.{pushed, back_to, settled_session, saved}
-use Rattle.xfs_shell.specs.Sessions.{IsRunCommand, Stays, raised_put}
+use Rattle.xfs_shell.specs.Sessions.{IsRunCommand, LeavesAtStop, raised_put}
 use Rattle.xfs_disk.specs.Blocks.{Image}
 use Rattle.xfs_shell.specs.declared.session.Stop.{Stop}
 use Rattle.xfs_shell.specs.declared.session.Stop.TheVariants as stop
@@ -209,13 +209,13 @@ behind_ran v leave words image s t now place verdict old new held writes writes_
 -- and stopped
 pub behind_stays : (v : Volume) (leave : Leave) (words : List (List ℕ)) (image : Image) (s t : Session) (place : ObjectPlace) (why : Stop) (held : Option Image)
     → s.at ≡ Some place → t ≡ pushed (pushes_in words) place s
-    → Stays (runs_first v leave (drop (pushes_in words) words) (block_at_place image t.at) t) image held why
-    → Stays (attempts v leave words (block_at_place image s.at) s) image held why
+    → LeavesAtStop (runs_first v leave (drop (pushes_in words) words) (block_at_place image t.at) t) image held why
+    → LeavesAtStop (attempts v leave words (block_at_place image s.at) s) image held why
 behind_stays v leave words image s t place stop.ReadFault held at is stays = stays
 behind_stays v leave words image s t place stop.NoMemory held at is stays = stays
 behind_stays v leave words image s t place (stop.WriteFault written) held at is stays =
     let due = attempts_due v leave words image s t place at is in
-    subst (λ (f : Effect). Stays f image held (stop.WriteFault written)) (sym due) stays
+    subst (λ (f : Effect). LeavesAtStop f image held (stop.WriteFault written)) (sym due) stays
 
 -- and the block that it writes
 pub behind_puts : (v : Volume) (leave : Leave) (words : List (List ℕ)) (image : Image) (s t : Session) (place : ObjectPlace)

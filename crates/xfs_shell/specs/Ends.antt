@@ -4,7 +4,7 @@ use Rattle.xfs_disk.specs.Blocks.{Image}
 use Rattle.xfs_disk.specs.Faults.{Rose}
 use Rattle.xfs_commands.specs.Commands.{Effect, Session}
 use Rattle.xfs_shell.specs.Running.{image_after}
-use Rattle.xfs_shell.specs.Sessions.{Stays, raised_put}
+use Rattle.xfs_shell.specs.Sessions.{LeavesAtStop, raised_put}
 use Rattle.xfs_commands.specs.declared.cursor.Verdict.{Verdict}
 use Rattle.xfs_shell.specs.declared.running.LineEnd.{LineEnd}
 use Rattle.xfs_shell.specs.declared.running.LineEnd.TheVariants as line
@@ -15,7 +15,7 @@ abbrev pub IsPrefixPut : List ℕ → ℕ → List ℕ → Option (List ℕ) →
 IsPrefixPut before least text took = (n : ℕ) × (least ≤ n) × (n ≤ length text) × (took ≡ Some (before ++ take n text))
 
 -- where the language, the image and the count of writes stand behind a command that was run and put
-pub record IsBehind (e : Effect) (image : Image) (verdict : Verdict) (session : Session) (now : Option Image) (writes writes_now : ℕ) : Type 0 where
+pub record StandsBehind (e : Effect) (image : Image) (verdict : Verdict) (session : Session) (now : Option Image) (writes writes_now : ℕ) : Type 0 where
   pub verdict_is : verdict ≡ e.verdict
   pub session_is : session ≡ e.session
   pub image_is : now ≡ Some (image_after e.put image)
@@ -23,8 +23,8 @@ pub record IsBehind (e : Effect) (image : Image) (verdict : Verdict) (session : 
 
 -- what the command of a line leaves
 abbrev pub LeavesLine : Effect → Image → Session → Option Image → ℕ → ℕ → Result Verdict LineEnd → Type 0
-LeavesLine e image session now writes writes_now (Ok verdict) = IsBehind e image verdict session now writes writes_now
-LeavesLine e image session now writes writes_now (Err (line.Stopped stop)) = Stays e image now stop
+LeavesLine e image session now writes writes_now (Ok verdict) = StandsBehind e image verdict session now writes writes_now
+LeavesLine e image session now writes writes_now (Err (line.Stopped stop)) = LeavesAtStop e image now stop
 LeavesLine e image session now writes writes_now (Err line.OutputFault) =
     (now ≡ Some (image_after e.put image)) × (writes_now ≡ raised_put e.put writes)
 

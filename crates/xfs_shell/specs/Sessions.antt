@@ -33,11 +33,11 @@ IsWrittenBehind zero image planned now = (now ≡ Some image) ⊎ (now ≡ Some 
 IsWrittenBehind (suc more) image planned now = (more ≡ 0) × (now ≡ Some planned)
 
 -- what a stop leaves: the image, or after a fault of writing, which only a command that writes has, maybe the one with the block in hand
-abbrev pub Stays : Effect → Image → Option Image → Stop → Type 0
-Stays e image now stop.ReadFault = now ≡ Some image
-Stays e image now stop.NoMemory = now ≡ Some image
-Stays e image now (stop.WriteFault written) = IsWrittenBehind written image (image_after e.put image) now × (count_put e.put 0 ≡ 1)
+abbrev pub LeavesAtStop : Effect → Image → Option Image → Stop → Type 0
+LeavesAtStop e image now stop.ReadFault = now ≡ Some image
+LeavesAtStop e image now stop.NoMemory = now ≡ Some image
+LeavesAtStop e image now (stop.WriteFault written) = IsWrittenBehind written image (image_after e.put image) now × (count_put e.put 0 ≡ 1)
 
 abbrev pub Outcome : Effect → Image → List ℕ → List ℕ → Session → Option Image → ℕ → ℕ → Result Verdict Stop → Type 0
 Outcome e image old new session now writes writes_now (Ok verdict) = IsRunCommand e image verdict old new session now writes writes_now
-Outcome e image old new session now writes writes_now (Err stop) = Stays e image now stop
+Outcome e image old new session now writes writes_now (Err stop) = LeavesAtStop e image now stop

@@ -180,14 +180,14 @@ abbrev pub there : ℕ → Option ℕ
 there number = if number == nothing_there then None else Some number
 
 -- a run of free blocks
-abbrev pub run_of : Option ℕ → List ℕ
-run_of None = line [] (codes "no record")
-run_of (Some run) = line ((codes "start ", Large (run / 2 ^ 32)) ∷ (codes " count ", Large (run % 2 ^ 32)) ∷ []) []
+abbrev pub run_text : Option ℕ → List ℕ
+run_text None = line [] (codes "no record")
+run_text (Some run) = line ((codes "start ", Large (run / 2 ^ 32)) ∷ (codes " count ", Large (run % 2 ^ 32)) ∷ []) []
 
 -- a chunk of inodes
-abbrev pub chunk_of : Option ℕ → List ℕ
-chunk_of None = line [] (codes "no record")
-chunk_of (Some chunk) = line (
+abbrev pub chunk_text : Option ℕ → List ℕ
+chunk_text None = line [] (codes "no record")
+chunk_text (Some chunk) = line (
     (codes "startino ", Large (chunk / 2 ^ 96))
     ∷ (codes " holemask 0x", Hexadecimal (chunk / 2 ^ 80 % 2 ^ 16))
     ∷ (codes " count ", Large (chunk / 2 ^ 72 % 2 ^ 8))
@@ -221,23 +221,23 @@ written_name bit = if bit == 0 then [] else codes ", not written"
 abbrev pub inode_in : ℕ → Option ℕ
 inode_in owner = if nat_lt (owner / 2 ^ 64) 18446744073709551609 then Some (owner / 2 ^ 64) else None
 
-abbrev pub user_of : ℕ → Option ℕ → List ℕ
-user_of owner None = line [] (owner_name (owner / 2 ^ 64))
-user_of owner (Some ino) =
+abbrev pub user_text : ℕ → Option ℕ → List ℕ
+user_text owner None = line [] (owner_name (owner / 2 ^ 64))
+user_text owner (Some ino) =
     line ((codes "inode ", Large ino) ∷ (fork_name (owner / 2 ^ 62 % 4), Large (owner % 2 ^ 61)) ∷ []) (written_name (owner / 2 ^ 61 % 2))
 
 -- an owner of a block
-abbrev pub owner_of : Option ℕ → List ℕ
-owner_of None = line [] (codes "no owner")
-owner_of (Some owner) = user_of owner (inode_in owner)
+abbrev pub owner_text : Option ℕ → List ℕ
+owner_text None = line [] (codes "no owner")
+owner_text (Some owner) = user_text owner (inode_in owner)
 
 -- a number in its own terms
 unfoldable pub piece_text : Piece → List ℕ
 piece_text Nothing = line [] []
 piece_text (Count count) = line (([], Large count) ∷ []) []
-piece_text (Run run) = run_of (there run)
-piece_text (Chunk chunk) = chunk_of (there chunk)
-piece_text (Owner owner) = owner_of (there owner)
+piece_text (Run run) = run_text (there run)
+piece_text (Chunk chunk) = chunk_text (there chunk)
+piece_text (Owner owner) = owner_text (there owner)
 piece_text (Sequence number) = line ((codes "cycle ", Large (number / 2 ^ 32)) ∷ (codes " sector ", Large (number % 2 ^ 32)) ∷ []) []
 piece_text (Chain place) = line (([], Large (place / 64)) ∷ (codes ", number ", Large (place % 64)) ∷ []) []
 

@@ -1,9 +1,9 @@
-//! What is wrong with an image, said in words: which field or record of which object, with both numbers in their own terms, and what is
+//! What is wrong with an image, explained_as in words: which field or record of which object, with both numbers in their own terms, and what is
 //! usually done about it.
 
 ghost use Rattle.std.specs.Prelude.{◌≡◌, ◌≤◌};
 ghost use Rattle.xfs_texts.specs.Explaining.{chain_explained, compared, counter_explained, counter_object, directory_says, explanation, inode_says, law_explained, links_explained, log_explained, lone, part_explained, part_object, records_explained, sequence_explained, space_tree, inode_tree, total_object};
-ghost use Rattle.xfs_texts.specs.Private.Labels.{said};
+ghost use Rattle.xfs_texts.specs.Private.Labels.{explained_as};
 
 use xfs_image::Finding;
 use xfs_volume::Law;
@@ -54,7 +54,7 @@ const SEQUENCES: u64 = 1 << 40;
 
 /// What is found, in words. The groups are those that the primary superblock states, where they are known.
 pub(crate) fn explained(groups: Option<u32>, finding: &Finding) -> Explanation
-    ensures { said result ≡ explanation groups finding.now }
+    ensures { explained_as result ≡ explanation groups finding.now }
 {
     match finding {
         Finding::Part { part, place } => part_explained(*part, *place),
@@ -64,7 +64,7 @@ pub(crate) fn explained(groups: Option<u32>, finding: &Finding) -> Explanation
 
 /// A statement of one object.
 fn lone(object: &'static str, place: Piece, says: &'static str, advice: &'static str) -> Explanation
-    ensures { said result ≡ lone object.entry.now place says.entry.now advice.entry.now }
+    ensures { explained_as result ≡ lone object.entry.now place says.entry.now advice.entry.now }
 {
     Explanation {
         object,
@@ -79,7 +79,7 @@ fn lone(object: &'static str, place: Piece, says: &'static str, advice: &'static
 
 /// What is held of an object, and what is due.
 fn compared(object: &'static str, place: Piece, held: Piece, due: Piece) -> Explanation
-    ensures { said result ≡ compared object.entry.now place held due }
+    ensures { explained_as result ≡ compared object.entry.now place held due }
 {
     Explanation {
         object,
@@ -94,7 +94,7 @@ fn compared(object: &'static str, place: Piece, held: Piece, due: Piece) -> Expl
 
 /// A part that is not right.
 fn part_explained(part: u8, place: u64) -> Explanation
-    ensures { said result ≡ part_explained part place }
+    ensures { explained_as result ≡ part_explained part place }
 {
     let says = match part {
         0 => " is not accepted, and a backup is",
@@ -127,7 +127,7 @@ fn part_object(part: u8) -> &'static str
 
 /// A law that is broken.
 fn law_explained(groups: Option<u32>, law: &Law) -> Explanation
-    ensures { said result ≡ law_explained groups law.now }
+    ensures { explained_as result ≡ law_explained groups law.now }
 {
     let place = Piece::Count(law.place as u128);
     let held = Piece::Count(law.held);
@@ -154,7 +154,7 @@ fn law_explained(groups: Option<u32>, law: &Law) -> Explanation
 
 /// A record of a tree of free space, of the tree of owners, or of a tree of inodes.
 fn records_explained(law: &Law) -> Explanation
-    ensures { said result ≡ records_explained law.now }
+    ensures { explained_as result ≡ records_explained law.now }
 {
     let half = Piece::Count(law.place as u128 / 2);
     match law.law {
@@ -203,7 +203,7 @@ fn inode_tree(place: u64) -> &'static str
 
 /// A counter, which is the superblock's behind those of all groups.
 fn counter_explained(groups: Option<u32>, law: &Law) -> Explanation
-    ensures { said result ≡ counter_explained groups law.now }
+    ensures { explained_as result ≡ counter_explained groups law.now }
 {
     let held = Piece::Count(law.held);
     let due = Piece::Count(law.due);
@@ -281,7 +281,7 @@ fn inode_says(test: u128) -> &'static str
 
 /// A count of links.
 fn links_explained(law: &Law) -> Explanation
-    ensures { said result ≡ links_explained law.now }
+    ensures { explained_as result ≡ links_explained law.now }
 {
     let object = if law.held == 0 {
         "links (0 also where one of the system's is not regular and empty) of inode "
@@ -298,7 +298,7 @@ fn links_explained(law: &Law) -> Explanation
 
 /// What the law of the log says: of the log, of a chain of unlinked inodes, or of a log sequence number.
 fn log_explained(law: &Law) -> Explanation
-    ensures { said result ≡ log_explained law.now }
+    ensures { explained_as result ≡ log_explained law.now }
 {
     if law.place == 0 {
         lone("the log", Piece::Nothing, " is not clean", LOG)
@@ -312,7 +312,7 @@ fn log_explained(law: &Law) -> Explanation
 /// A chain of unlinked inodes that begins.
 fn chain_explained(law: &Law) -> Explanation
     requires { 1 ≤ law.now.place }
-    ensures { said result ≡ chain_explained law.now }
+    ensures { explained_as result ≡ chain_explained law.now }
 {
     Explanation {
         object: "the chain of unlinked inodes of group ",
@@ -328,7 +328,7 @@ fn chain_explained(law: &Law) -> Explanation
 /// A log sequence number above the head of the log.
 fn sequence_explained(law: &Law) -> Explanation
     requires { 1099511627776 ≤ law.now.place }
-    ensures { said result ≡ sequence_explained law.now }
+    ensures { explained_as result ≡ sequence_explained law.now }
 {
     Explanation {
         object: "a log sequence number in block ",

@@ -1,9 +1,9 @@
 //! Explanations, put to a stream.
 
 ghost use Rattle.std.specs.Prelude.{◌≡◌, ◌++◌};
-ghost use Rattle.xfs_texts.specs.Explaining.{chunk_of, due_text, explanation_text, fork_name, held_text, inode_in, line_of, object_text, owner_name, owner_of, piece_text, run_of, there, user_of, written_name};
+ghost use Rattle.xfs_texts.specs.Explaining.{chunk_text, due_text, explanation_text, fork_name, held_text, inode_in, line_of, object_text, owner_name, owner_text, piece_text, run_text, there, user_text, written_name};
 ghost use Rattle.xfs_texts.specs.Lines.{PutsText};
-ghost use Rattle.xfs_texts.specs.Private.Labels.{said};
+ghost use Rattle.xfs_texts.specs.Private.Labels.{explained_as};
 
 use crate::explanation::{Explanation, Piece, explained};
 use crate::lines::{Number, put_line, put_text};
@@ -37,7 +37,7 @@ pub fn put_explanation<S: Sink>(
 
 /// Puts the line of an explanation.
 fn put_explained<S: Sink>(sink: &mut S, explained: &Explanation) -> Result<(), Failed>
-    ensures { PutsText (S.took sink.old) (S.took sink.new) (S.faults sink.old) (S.faults sink.new) (line_of (said explained.now)) result }
+    ensures { PutsText (S.took sink.old) (S.took sink.new) (S.faults sink.old) (S.faults sink.new) (line_of (explained_as explained.now)) result }
 {
     match put_text(sink, "xfs: ") {
         Ok(()) => {}
@@ -48,7 +48,7 @@ fn put_explained<S: Sink>(sink: &mut S, explained: &Explanation) -> Result<(), F
 
 /// Puts the object, and what stands behind it.
 fn put_object<S: Sink>(sink: &mut S, explained: &Explanation) -> Result<(), Failed>
-    ensures { PutsText (S.took sink.old) (S.took sink.new) (S.faults sink.old) (S.faults sink.new) (object_text (said explained.now)) result }
+    ensures { PutsText (S.took sink.old) (S.took sink.new) (S.faults sink.old) (S.faults sink.new) (object_text (explained_as explained.now)) result }
 {
     match put_pair(sink, explained.object, explained.place) {
         Ok(()) => {}
@@ -59,7 +59,7 @@ fn put_object<S: Sink>(sink: &mut S, explained: &Explanation) -> Result<(), Fail
 
 /// Puts what is held, and what stands behind it.
 fn put_held<S: Sink>(sink: &mut S, explained: &Explanation) -> Result<(), Failed>
-    ensures { PutsText (S.took sink.old) (S.took sink.new) (S.faults sink.old) (S.faults sink.new) (held_text (said explained.now)) result }
+    ensures { PutsText (S.took sink.old) (S.took sink.new) (S.faults sink.old) (S.faults sink.new) (held_text (explained_as explained.now)) result }
 {
     match put_pair(sink, explained.says, explained.held) {
         Ok(()) => {}
@@ -70,7 +70,7 @@ fn put_held<S: Sink>(sink: &mut S, explained: &Explanation) -> Result<(), Failed
 
 /// Puts what is due, and what is usually done.
 fn put_due<S: Sink>(sink: &mut S, explained: &Explanation) -> Result<(), Failed>
-    ensures { PutsText (S.took sink.old) (S.took sink.new) (S.faults sink.old) (S.faults sink.new) (due_text (said explained.now)) result }
+    ensures { PutsText (S.took sink.old) (S.took sink.new) (S.faults sink.old) (S.faults sink.new) (due_text (explained_as explained.now)) result }
 {
     match put_pair(sink, explained.between, explained.due) {
         Ok(()) => {}
@@ -130,7 +130,7 @@ fn there(number: u128) -> Option<u128>
 
 /// Puts a run of free blocks.
 fn put_run<S: Sink>(sink: &mut S, run: u128) -> Result<(), Failed>
-    ensures { PutsText (S.took sink.old) (S.took sink.new) (S.faults sink.old) (S.faults sink.new) (run_of (there run)) result }
+    ensures { PutsText (S.took sink.old) (S.took sink.new) (S.faults sink.old) (S.faults sink.new) (run_text (there run)) result }
 {
     match there(run) {
         None => put_line(sink, &[], "no record"),
@@ -146,7 +146,7 @@ fn put_run<S: Sink>(sink: &mut S, run: u128) -> Result<(), Failed>
 
 /// Puts a chunk of inodes.
 fn put_chunk<S: Sink>(sink: &mut S, chunk: u128) -> Result<(), Failed>
-    ensures { PutsText (S.took sink.old) (S.took sink.new) (S.faults sink.old) (S.faults sink.new) (chunk_of (there chunk)) result }
+    ensures { PutsText (S.took sink.old) (S.took sink.new) (S.faults sink.old) (S.faults sink.new) (chunk_text (there chunk)) result }
 {
     match there(chunk) {
         None => put_line(sink, &[], "no record"),
@@ -168,7 +168,7 @@ fn put_chunk<S: Sink>(sink: &mut S, chunk: u128) -> Result<(), Failed>
 
 /// Puts an owner of a block.
 fn put_owner<S: Sink>(sink: &mut S, owner: u128) -> Result<(), Failed>
-    ensures { PutsText (S.took sink.old) (S.took sink.new) (S.faults sink.old) (S.faults sink.new) (owner_of (there owner)) result }
+    ensures { PutsText (S.took sink.old) (S.took sink.new) (S.faults sink.old) (S.faults sink.new) (owner_text (there owner)) result }
 {
     match there(owner) {
         None => put_line(sink, &[], "no owner"),
@@ -178,7 +178,7 @@ fn put_owner<S: Sink>(sink: &mut S, owner: u128) -> Result<(), Failed>
 
 /// Puts what an owner with its offset word uses a block for.
 fn put_user<S: Sink>(sink: &mut S, owner: u128) -> Result<(), Failed>
-    ensures { PutsText (S.took sink.old) (S.took sink.new) (S.faults sink.old) (S.faults sink.new) (user_of owner (inode_in owner)) result }
+    ensures { PutsText (S.took sink.old) (S.took sink.new) (S.faults sink.old) (S.faults sink.new) (user_text owner (inode_in owner)) result }
 {
     match inode_in(owner) {
         None => put_line(sink, &[], owner_name(owner / TWO_64)),

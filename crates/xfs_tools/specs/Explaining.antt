@@ -82,9 +82,9 @@ abbrev pub IsGoneOn : {O E : Type 0} → (O → Option (List ℕ)) → (O → �
 IsGoneOn out_took out_faults err_took err_faults out out_now mid err_now answer (Ok done) put = IsTold out_took out_faults err_took err_faults out out_now mid err_now answer put
 IsGoneOn out_took out_faults err_took err_faults out out_now mid err_now answer (Err failed) put = (out_now ≡ out) × (err_now ≡ mid) × (put ≡ Err failed)
 
-abbrev pub IsBehind : {O E : Type 0} → (O → Option (List ℕ)) → (O → ℕ) → (E → Option (List ℕ)) → (E → ℕ) → O → O → E → E → List ℕ → Answer
+abbrev pub IsToldBehindText : {O E : Type 0} → (O → Option (List ℕ)) → (O → ℕ) → (E → Option (List ℕ)) → (E → ℕ) → O → O → E → E → List ℕ → Answer
     → Result (Unit {0}) Failed → Type 0
-IsBehind {E} out_took out_faults err_took err_faults out out_now err err_now text answer put =
+IsToldBehindText {E} out_took out_faults err_took err_faults out out_now err err_now text answer put =
     (mid : E) × (first : Result (Unit {0}) Failed) × PutsText (err_took err) (err_took mid) (err_faults err) (err_faults mid) text first
     × IsGoneOn out_took out_faults err_took err_faults out out_now mid err_now answer first put
 
@@ -93,7 +93,7 @@ abbrev pub IsToldBehind : {O E : Type 0} → (O → Option (List ℕ)) → (O �
     → Result (Unit {0}) Failed → Type 0
 IsToldBehind out_took out_faults err_took err_faults out out_now err err_now None answer put = IsTold out_took out_faults err_took err_faults out out_now err err_now answer put
 IsToldBehind out_took out_faults err_took err_faults out out_now err err_now (Some text) answer put =
-    IsBehind out_took out_faults err_took err_faults out out_now err err_now text answer put
+    IsToldBehindText out_took out_faults err_took err_faults out out_now err err_now text answer put
 
 -- The text that stands in front of the answer's line: under -v, what was found.
 abbrev pub IsText : {D : Type 0} → (RepairWords → D → D → Look → Type 0) → D → Call → Answer → Option (List ℕ) → Type 0

@@ -7,7 +7,7 @@ ghost use Rattle.xfs_disk.specs.Faults.{HasCause};
 ghost use Rattle.xfs_disk.specs.Reads.{OnlyReads};
 ghost use Rattle.xfs_geom.specs.Election.{super_of};
 ghost use Rattle.xfs_texts.specs.Explaining.{explanation_text};
-ghost use Rattle.xfs_tools.specs.Explaining.{IsBehind, IsGroups, IsLook, IsToldBehind, checking, explained, finding_in, groups_in, told_of};
+ghost use Rattle.xfs_tools.specs.Explaining.{IsToldBehindText, IsGroups, IsLook, IsToldBehind, checking, explained, finding_in, groups_in, told_of};
 
 use crate::answer::Answer;
 use crate::command_line::RepairWords;
@@ -165,7 +165,7 @@ fn tell_behind<O: Sink, E: Sink>(
     finding: &Finding,
     answer: Answer,
 ) -> Result<(), Failed>
-    ensures { IsBehind O.took O.faults E.took E.faults out.old out.new err.old err.new (explanation_text groups finding.now) answer result }
+    ensures { IsToldBehindText O.took O.faults E.took E.faults out.old out.new err.old err.new (explanation_text groups finding.now) answer result }
 {
     match put_explanation(err, groups, finding) {
         Ok(()) => {}

@@ -3,7 +3,7 @@ use Rattle.xfs_geom.specs.Volumes.{volume_of}
 use Rattle.xfs_commands.specs.Commands.{Session, session_of}
 use Rattle.xfs_shell.specs.Running.{attempts, block_at_place, image_after, is_quit_words, pushes_in, runs_first}
 use Rattle.xfs_commands.specs.Cursors.{pushed, settled_session}
-use Rattle.xfs_shell.specs.Sessions.{IsRunCommand, Stays}
+use Rattle.xfs_shell.specs.Sessions.{IsRunCommand, LeavesAtStop}
 use Rattle.xfs_objects.specs.declared.objects.ObjectPlace.{ObjectPlace}
 use Rattle.xfs_disk.specs.Blocks.{Image}
 use Rattle.xfs_shell.specs.Stops.{Passes}
@@ -61,7 +61,7 @@ returns-in-Err-run_command-clause-outcome g c =
     behind_stays v c.args.leave words image s t c.args.place c.in-Err-run_command.stop (g.D.Disk.holds c.run_command.new.disk) c.requires.place pushed_is
     (subst
     (λ (ws : List (List ℕ)).
-    Stays (runs_first v c.args.leave ws (block_at_place image t.at) t) image (g.D.Disk.holds c.run_command.new.disk) c.in-Err-run_command.stop)
+    LeavesAtStop (runs_first v c.args.leave ws (block_at_place image t.at) t) image (g.D.Disk.holds c.run_command.new.disk) c.in-Err-run_command.stop)
     rest
     (c.in-Err-run_command.ensures.outcome image told))
 
