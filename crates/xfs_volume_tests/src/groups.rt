@@ -17,7 +17,7 @@ use xfs_runs::Steps;
 use xfs_word::{put_checksum, put_part, put32, put64};
 
 /// The identifier of the volume.
-const IDENTIFIER: [u8; 16] = [7; 16];
+pub const IDENTIFIER: [u8; 16] = [7; 16];
 
 /// The headers of both groups: the block and the byte offset of each, the offset of its identifier and of its checksum, its bytes from the first
 /// on, and an offset with those from there on.
@@ -73,7 +73,7 @@ fn put_headers(rt: &(impl Abort + AllocGlobal), disk: &mut MemoryDisk) -> Result
 }
 
 /// A leaf of a tree that is its root, from the words of its line behind its block.
-fn leaf(
+pub fn leaf(
     rt: &(impl Abort + AllocGlobal),
     place: u64,
     row: &mut Row<'_>,
@@ -101,7 +101,11 @@ fn slots(rt: &impl Abort, ino: u32) -> [u8; BLOCK_SIZE] {
 }
 
 /// The volume, without the blocks of some of its trees.
-fn disk(rt: &(impl Abort + AllocGlobal), alloc: Global, lost: &[u64]) -> Result<MemoryDisk, Fail> {
+pub fn disk(
+    rt: &(impl Abort + AllocGlobal),
+    alloc: Global,
+    lost: &[u64],
+) -> Result<MemoryDisk, Fail> {
     let mut disk = MemoryDisk::make(alloc, 2048)?;
     put_headers(rt, &mut disk)?;
     for line in TREES.lines() {

@@ -25,6 +25,10 @@ mod naming;
 #[cfg(test)]
 mod place;
 #[cfg(test)]
+mod reads;
+#[cfg(test)]
+mod salvage;
+#[cfg(test)]
 mod scan;
 #[cfg(test)]
 mod small_volume;

@@ -4,6 +4,7 @@ ghost use Rattle.std.specs.Prelude.{◌≡◌, ◌≤◌, IfOk, [], ◌∷◌};
 
 mod groups;
 mod objects;
+mod pieces;
 
 use crate::text::{Row, refuse, tells};
 use std::alloc::{AllocError, Global};

@@ -24,13 +24,13 @@ use xfs_word::{put_checksum, put_part, put16};
 const IDENTIFIER: [u8; 16] = [7; 16];
 
 /// The bytes of the root's one entry `a` of inode 131.
-const ENTRY: [u8; 15] = [1, 0, 0, 0, 0, 128, 1, 0, 0x60, b'a', 1, 0, 0, 0, 131];
+pub const ENTRY: [u8; 15] = [1, 0, 0, 0, 0, 128, 1, 0, 0x60, b'a', 1, 0, 0, 0, 131];
 
 /// An extent of block 30, the first of its file.
-const EXTENT: [u8; 16] = [0, 0, 0, 0, 0, 0, 0, 0, 0, 0, 0, 0, 3, 0xc0, 0, 1];
+pub const EXTENT: [u8; 16] = [0, 0, 0, 0, 0, 0, 0, 0, 0, 0, 0, 0, 3, 0xc0, 0, 1];
 
 /// A regular file of one block.
-fn file(ino: u64) -> Core {
+pub fn file(ino: u64) -> Core {
     Core {
         mode: 0x81a4,
         format: 2,
@@ -44,16 +44,16 @@ fn file(ino: u64) -> Core {
 }
 
 /// Two bytes of a slot: their offset, and the number that they are.
-type Change = (usize, u16);
+pub type Change = (usize, u16);
 
 /// No feature: the last bytes of the second flags, of which nothing is set.
-const PLAIN: Change = (126, 0);
+pub const PLAIN: Change = (126, 0);
 
 /// An attribute fork in the slot itself that states no size.
-const LOST_ATTRIBUTES: Change = (82, 0x1e01);
+pub const LOST_ATTRIBUTES: Change = (82, 0x1e01);
 
 /// Writes the slot of an inode with two bytes changed into a block.
-fn put_slot(
+pub fn put_slot(
     rt: &impl Abort,
     block: &mut [u8; BLOCK_SIZE],
     core: &Core,
@@ -94,7 +94,7 @@ fn disk(rt: &impl Abort, alloc: Global, changed: &[(u64, Change)]) -> Result<Mem
 }
 
 /// The evidence of a disk, with the steps counted.
-fn gather_counted<D: Disk, L: Ledger>(
+pub fn gather_counted<D: Disk, L: Ledger>(
     alloc: Global,
     disk: &mut D,
     blank: Blank,

@@ -1,0 +1,159 @@
+//! Objects that take several runs where a single one is not to be had.
+
+ghost use Rattle.std.specs.Prelude.{◌≤◌, All, IfOk};
+
+use super::groups::{SMALLEST, place_beside, root_chunk};
+use super::objects::object;
+use super::*;
+use crate::checks::same;
+use crate::text::{Row, refuse, tells};
+use std::process::Abort;
+
+/// The blocks of a volume of so many, but for those of these rows, each a first block and a number of blocks.
+fn all_but(alloc: Global, rows: &[u64], blocks: u64) -> Result<Vec<u64>, AllocError> {
+    let mut reserved = Vec::new(alloc);
+    for block in 1..blocks {
+        if !is_of(rows, block) {
+            reserved.push(block)?;
+        }
+    }
+    Ok(reserved)
+}
+
+/// Whether a block is one of the rows.
+fn is_of(rows: &[u64], block: u64) -> bool {
+    let mut start = None;
+    for number in rows {
+        match start.take() {
+            None => start = Some(*number),
+            Some(first) => {
+                if first <= block && block - first < *number {
+                    return true;
+                }
+            }
+        }
+    }
+    false
+}
+
+/// Lengths of asks, each at least one.
+fn lengths_of(alloc: Global, numbers: &[u32]) -> Result<Vec<u32>, AllocError>
+    ensures { IfOk result (λ lengths. All (λ blocks. 1 ≤ blocks) lengths.items) }
+{
+    let mut lengths = Vec::new(alloc);
+    for number in numbers {
+        lengths.push((*number).max(1))?;
+    }
+    Ok(lengths)
+}
+
+/// The runs of what is placed: the first block, the blocks and the offset of each.
+fn runs_of(alloc: Global, placed: &Placed) -> Result<Vec<(u64, u64, u64)>, AllocError> {
+    let mut runs = Vec::new(alloc);
+    for run in placed.runs.as_slice() {
+        runs.push((run.start, run.count, run.offset_word))?;
+    }
+    Ok(runs)
+}
+
+/// Fails where an object does not stand as a line says in a volume in which only some rows of blocks are open. The line has the AG block from
+/// which on it may stand, the rows (start and blocks), the lengths of the asks, how many runs they may take, and what stands: the runs and how
+/// many each ask has, or what finds no room.
+fn stands(
+    rt: &(impl Abort + AllocGlobal),
+    row: &mut Row<'_>,
+    line: &str,
+) -> Result<Option<Placed>, Fail> {
+    let alloc = rt.alloc();
+    let from = row.number(rt);
+    let rows = row.numbers::<u64>(rt, alloc)?;
+    let reserved = all_but(alloc, &rows, SMALLEST.dblocks)?;
+    let lengths = row.numbers::<u32>(rt, alloc)?;
+    let lengths = lengths_of(alloc, &lengths)?;
+    let most = row.number(rt);
+    let data = object(alloc, 133, ObjectKind::Data, &lengths, most)?;
+    let objects = vec![in alloc; data]?;
+    match place_beside(alloc, &SMALLEST, root_chunk(), reserved, objects, from) {
+        Ok(placed) => {
+            tells(rt, &runs_of(alloc, &placed)?.as_slice(), row.text(), line);
+            tells(rt, &placed.cuts.as_slice(), row.text(), line);
+            Ok(Some(placed))
+        }
+        Err(PlaceFault::NoRoom(what)) => {
+            tells(rt, &what, row.text(), line);
+            Ok(None)
+        }
+        Err(PlaceFault::NoMemory) => refuse(rt, "memory is wanting", line),
+    }
+}
+
+/// In a pool of single blocks an object has as many blocks as it may take runs; elsewhere the longest runs come first, and one run where
+/// there is one.
+const PIECES: &str = "\
+24 | 1 15 1025 5 100 1 102 1 104 1 | 1 | 1 | [(100, 1, 0)] | [1]
+24 | 1 15 1025 5 100 1 102 1 104 1 | 2 | 1 | File(133)
+24 | 1 15 1025 5 100 1 102 1 104 1 | 3 | 3 | [(100, 1, 0), (102, 1, 1), (104, 1, 2)] | [3]
+24 | 1 15 1025 5 100 1 102 1 104 1 106 1 | 4 | 3 | File(133)
+24 | 1 15 1025 5 100 1 102 1 | 3 | 3 | File(133)
+24 | 1 15 1025 5 100 1 102 1 104 1 106 1 | 2 1 | 3 | [(100, 1, 0), (102, 1, 1), (104, 1, 0)] | [2, 1]
+24 | 1 15 1025 5 100 1 102 1 104 1 106 1 | 2 2 | 3 | File(133)
+24 | 1 15 1025 5 100 1 102 1 104 1 106 1 | 1 2 | 3 | [(100, 1, 0), (102, 1, 0), (104, 1, 1)] | [1, 2]
+24 | 1 15 1025 5 100 1 102 1 104 1 106 1 | 3 1 | 3 | File(133)
+24 | 1 15 1025 5 100 1 102 1 104 1 106 1 | 1 1 | 1 | File(133)
+24 | 1 15 1025 5 100 1 102 1 104 1 106 1 108 1 110 1 112 1 114 1 116 1 118 1 120 1 122 1 124 1 126 1 128 1 130 1 132 1 134 1 136 1 138 1 140 1 142 1 | 21 | 21 | [(100, 1, 0), (102, 1, 1), (104, 1, 2), (106, 1, 3), (108, 1, 4), (110, 1, 5), (112, 1, 6), (114, 1, 7), (116, 1, 8), (118, 1, 9), (120, 1, 10), (122, 1, 11), (124, 1, 12), (126, 1, 13), (128, 1, 14), (130, 1, 15), (132, 1, 16), (134, 1, 17), (136, 1, 18), (138, 1, 19), (140, 1, 20)] | [21]
+24 | 1 15 1025 5 100 1 102 1 104 1 106 1 108 1 110 1 112 1 114 1 116 1 118 1 120 1 122 1 124 1 126 1 128 1 130 1 132 1 134 1 136 1 138 1 140 1 142 1 | 22 | 21 | File(133)
+24 | 1 15 1025 5 100 3 200 5 300 2 400 5 | 5 | 3 | [(200, 5, 0)] | [1]
+24 | 1 15 1025 5 100 3 200 5 300 2 400 5 | 7 | 3 | [(200, 5, 0), (100, 2, 5)] | [2]
+24 | 1 15 1025 5 100 3 200 5 300 2 400 5 | 12 | 3 | [(200, 5, 0), (400, 5, 5), (100, 2, 10)] | [3]
+24 | 1 15 1025 5 100 3 200 5 300 2 400 5 | 15 | 3 | File(133)
+24 | 1 15 1025 5 100 3 200 5 300 2 400 5 | 15 | 4 | [(200, 5, 0), (400, 5, 5), (100, 3, 10), (300, 2, 13)] | [4]
+24 | 1 15 1025 5 100 3 200 5 300 2 400 5 | 16 | 21 | File(133)
+24 | 1 15 1025 5 100 3 200 5 | 4 4 | 4 | [(200, 4, 0), (100, 3, 0), (204, 1, 3)] | [1, 2]
+24 | 1 15 1025 5 100 3 1600 4 | 5 | 2 | [(1600, 4, 0), (100, 1, 4)] | [2]
+";
+
+#[test]
+fn pieces_of_asks(rt: HostRuntime) -> Result<(), Fail> {
+    for line in PIECES.lines() {
+        let _placed = stands(&rt, &mut Row::new(line), line)?;
+    }
+    Ok(())
+}
+
+/// A directory of three blocks with an index, between blocks that are kept, and the trees and free lists that then stand behind it.
+const BETWEEN: &str = "\
+1 | 1 2 4 1 6 2 78 2 81 2 84 2 87 2 90 2 1025 2 1028 1 1542 2 1545 2 1548 2 1551 2 | 3 1 | 21 | [(1, 2, 0), (4, 1, 2), (6, 1, 0)] | [2, 1]
+";
+
+/// The trees and the free list of each group.
+const TREES: &str = "\
+7 78 79 81 82 | 84 85 87 88 90 91
+1025 1026 1028 1542 1543 | 521 522 524 525 527 528
+";
+
+#[test]
+fn trees_between_pieces(rt: HostRuntime) -> Result<(), Fail> {
+    let alloc = rt.alloc();
+    for line in BETWEEN.lines() {
+        let Some(placed) = stands(&rt, &mut Row::new(line), line)? else {
+            refuse(&rt, "there is no room", line)
+        };
+        let groups = placed.groups.as_slice();
+        same!(rt; groups.len(), 2; line);
+        for (group, due) in groups.iter().zip(TREES.lines()) {
+            let mut row = Row::new(due);
+            same!(rt; blocks_of(alloc, group)?.as_slice(), row.numbers::<u64>(&rt, alloc)?.as_slice(); due);
+            same!(rt; group.agfl.as_slice(), row.numbers::<u32>(&rt, alloc)?.as_slice(); due);
+        }
+    }
+    Ok(())
+}
+
+/// The blocks of all trees of a group.
+fn blocks_of(alloc: Global, group: &GroupPlaced) -> Result<Vec<u64>, AllocError> {
+    let mut blocks = Vec::new(alloc);
+    for tree in group.trees.as_slice() {
+        blocks.extend_from_slice(tree.blocks.as_slice())?;
+    }
+    Ok(blocks)
+}
