@@ -14,7 +14,7 @@ first_end n m some =
     let short : n % m < m = mod-lt n (omega arith) in
     omega (arith, whole, short)
 
-first_up : (n m i j : ℕ) → i ≤ j → first_of_share n m i ≤ first_of_share n m j
+pub first_up : (n m i j : ℕ) → i ≤ j → first_of_share n m i ≤ first_of_share n m j
 first_up n m i j up =
     let more : i * (n / m) ≤ j * (n / m) = mul-le-mul_right (n / m) up in
     omega (arith, more)

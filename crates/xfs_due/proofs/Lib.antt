@@ -1,4 +1,3 @@
-mod ByLength
 pub mod KeptLaws
 pub mod TopDown
 pub mod Counters

@@ -1,16 +1,16 @@
 -- Runs that do not touch are told by their blocks, and in order of length there is one list of them.
 use Rattle.std.proofs.Common.{◌≡◌, ℕ, suc, ◌+◌, ◌≤◌, ◌<◌, inl, inr, true, false, ◌&&◌, ◌||◌, ◌==◌, nat_le, nat_lt, List, [], ◌∷◌, length, get_or, map, Some, refl, sym, ◌∙◌, ap, ap₂, subst, arith, true≢false}
 use Rattle.std.specs.List.{AllAdjacentBelow, list_all}
-use Rattle.std.proofs.lemmas.Bool.{and_from, and_parts, cases_lt}
+use Rattle.std.proofs.lemmas.Bool.{and_from, cases_lt}
 use Rattle.std.proofs.lemmas.Bool.Decides.{nat_tests}
 use Rattle.xfs_disk.specs.Lists.{is_in_range}
 use Rattle.xfs_geom.specs.declared.records.Span.{Span}
 use Rattle.xfs_kinds.specs.FreeRuns.{AreSeparate, is_in_spans, span}
 use Rattle.xfs_kinds.specs.FreeTrees.{ranks_behind}
+use Rattle.xfs_kinds.specs.Lengths.{by_length}
+use Rattle.xfs_kinds.proofs.ByLength.{AreRanked, all_upto, is_upto, ranked_is}
 use Rattle.xfs_place.specs.Placing.{AreByLength}
 use Rattle.xfs_place.proofs.Counted.{in_behind}
-use Rattle.xfs_kinds.specs.Lengths.{by_length}
-use Rattle.xfs_due.proofs.ByLength.{AreRanked, is_upto, sorted_is}
 
 in_before : (rs : List Span) (low b : ℕ) → AreSeparate low rs → b < low → is_in_spans rs b ≡ false
 in_before [] low b apart h = refl
@@ -59,18 +59,6 @@ one_separate low (x ∷ xs) (y ∷ ys) a b same =
     ap₂ (λ (r : Span) (rs : List Span). r ∷ rs) (ap₂ span start count) (one_separate (x.start + x.count + 1) xs ys a.2 behind rest)
 
 -- runs by length
-upto_trans : (x y z : Span) → is_upto x y ≡ true → is_upto y z ≡ true → is_upto x z ≡ true
-upto_trans x y z one other = on x.count x.start y.count y.start z.count z.start one other
-  where
-    on : (a b c d e f : ℕ) → (nat_lt a c || (a == c && nat_le b d)) ≡ true → (nat_lt c e || (c == e && nat_le d f)) ≡ true → (nat_lt a e || (a == e && nat_le b f)) ≡ true
-    on a b c d e f one other = grind (arith, nat_tests)
-
-all_upto : (x y : Span) → is_upto x y ≡ true → (ys : List Span) → list_all (is_upto y) ys ≡ true → list_all (is_upto x) ys ≡ true
-all_upto x y e [] all = refl
-all_upto x y e (z ∷ zs) all =
-    let parts = and_parts (is_upto y z) (list_all (is_upto y) zs) all in
-    and_from (is_upto x z) (list_all (is_upto x) zs) (upto_trans x y z e parts.0) (all_upto x y e zs parts.1)
-
 upto_behind : (s t : Span) → ranks_behind (Some s) t ≡ true → is_upto s t ≡ true
 upto_behind s t e = on s.count s.start t.count t.start e
   where
@@ -90,4 +78,4 @@ are_ranked (s ∷ t ∷ ss) up =
 
 pub by_length_is : (spans sorted : List Span) → AreByLength spans sorted → sorted ≡ by_length spans
 by_length_is spans sorted are =
-    sorted_is spans sorted are.same (are_ranked sorted are.order)
+    ranked_is spans sorted are.same (are_ranked sorted are.order)

@@ -1,4 +1,4 @@
--- A sort by length gives the runs that are put in order one by one.
+-- Runs in order of length, as a sort by length gives them, are those that are put in order one by one.
 use Rattle.std.proofs.Common.{◌≡◌, ℕ, suc, ◌+◌, ◌<◌, ◌≤◌, Bool, true, false, cond, if◌then◌else◌, ◌&&◌, ◌||◌, ◌==◌, nat_lt, nat_le, List, [], ◌∷◌, length, refl, sym, ap, ap₂, ◌∙◌, subst, arith, get_or}
 use Rattle.std.specs.List.{list_all, count_by}
 use Rattle.std.specs.List.Sorted.{IsPermutation, IsSortedBy}
@@ -13,10 +13,10 @@ use Rattle.xfs_geom.specs.declared.records.Span.{Span}
 use Rattle.xfs_kinds.specs.Lengths.{by_length, is_shorter, put_by_length, sorts_before}
 
 -- a run comes no later than another: it is shorter, or as long and does not begin behind it
-abbrev is_upto : Span → Span → Bool
+abbrev pub is_upto : Span → Span → Bool
 is_upto a b = nat_lt a.count b.count || (a.count == b.count && nat_le a.start b.start)
 
-abbrev AreRanked : List Span → Type 0
+abbrev pub AreRanked : List Span → Type 0
 AreRanked runs = AreInOrder is_upto runs
 
 -- the order of lengths
@@ -63,7 +63,7 @@ upto_from_cmp x y e = on x.count x.start y.count y.start e
     on a b c d e = grind (arith, nat_tests)
 
 -- what a sort gives is in order
-all_upto : (x y : Span) → is_upto x y ≡ true → (ys : List Span) → list_all (is_upto y) ys ≡ true → list_all (is_upto x) ys ≡ true
+pub all_upto : (x y : Span) → is_upto x y ≡ true → (ys : List Span) → list_all (is_upto y) ys ≡ true → list_all (is_upto x) ys ≡ true
 all_upto x y e [] all = refl
 all_upto x y e (z ∷ zs) all =
     let parts = and_parts (is_upto y z) (list_all (is_upto y) zs) all in
@@ -143,9 +143,13 @@ ordered_counts p (s ∷ ss) =
     let rest : count_by p (by_length ss) ≡ count_by p ss = ordered_counts p ss in
     put ∙ (a ∙ (ap (λ (n : ℕ). cond (p s) 1 0 + n) rest ∙ sym b))
 
--- what a sort gives is what the definition gives
-pub sorted_is : (runs sorted : List Span) → IsPermutation runs sorted → IsSortedBy sorts_before sorted → sorted ≡ by_length runs
-sorted_is runs sorted moved up =
+-- the one list in order is what the definition gives
+pub ranked_is : (runs sorted : List Span) → IsPermutation runs sorted → AreRanked sorted → sorted ≡ by_length runs
+ranked_is runs sorted moved ranked =
     let counts : (p : Span) → count_by (is_same p) sorted ≡ count_by (is_same p) (by_length runs) =
     λ p. sum_by-IsPermutation (λ q. cond (is_same p q) 1 0) runs sorted moved ∙ sym (ordered_counts (is_same p) runs) in
-    only_one is_upto is_same order sorted (by_length runs) (ranked_from_sort sorted up) (ordered_ranked runs) counts
+    only_one is_upto is_same order sorted (by_length runs) ranked (ordered_ranked runs) counts
+
+-- what a sort gives is what the definition gives
+pub sorted_is : (runs sorted : List Span) → IsPermutation runs sorted → IsSortedBy sorts_before sorted → sorted ≡ by_length runs
+sorted_is runs sorted moved up = ranked_is runs sorted moved (ranked_from_sort sorted up)

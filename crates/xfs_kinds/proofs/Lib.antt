@@ -2,4 +2,4 @@ pub mod Ranges
 pub mod Blocks
 pub mod Sweep
 pub mod Joined
-mod ByLength
+pub mod ByLength

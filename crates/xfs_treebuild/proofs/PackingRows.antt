@@ -1,9 +1,8 @@
 -- The rows of a packed tree: their blocks break no rule, hold what the row has, and their keys ascend.
-use Rattle.std.proofs.Common.{◌≡◌, ℕ, zero, suc, ◌+◌, ◌-◌, ◌*◌, ◌/◌, ◌<◌, ◌≤◌, Bool, true, false, if◌then◌else◌, List, [], ◌∷◌, ◌++◌, map, length, drop, get_or, Option, Some, None, IsTrue, Less, refl, sym, ◌∙◌, ap, ap₂, subst, arith}
+use Rattle.std.proofs.Common.{◌≡◌, ℕ, zero, suc, ◌+◌, ◌-◌, ◌<◌, ◌≤◌, Bool, true, false, if◌then◌else◌, List, [], ◌∷◌, ◌++◌, map, length, drop, get_or, Option, Some, None, IsTrue, Less, refl, sym, ◌∙◌, ap, ap₂, subst, arith}
 use Rattle.std.specs.List.{range_with_len, flat_map}
 use Rattle.std.specs.Ordering.{is_lt}
 use Rattle.std.specs.Cmp.Derive.{both_true}
-use Rattle.std.proofs.Math.Nat.{mul-le-mul_right}
 use Rattle.std.proofs.lemmas.List.{length-take-le, length-drop, get_or-take, get_or-drop}
 use Rattle.std.proofs.lemmas.List.FromFn.{length-map-range_with_len, get_or-map-range_with_len}
 use Rattle.xfs_disk.specs.Shares.{share_of, first_of_share}
@@ -11,7 +10,7 @@ use Rattle.xfs_tree.specs.Shape.{Shape}
 use Rattle.xfs_tree.specs.Blocks.{each_of}
 use Rattle.xfs_tree.specs.Rules.{ascend_behind, greater, greatest_with, low_of}
 use Rattle.xfs_treebuild.specs.Private.Placed.{share_in, IsKey, IsChild}
-use Rattle.xfs_disk.proofs.Shares.{share_inside, share_next, share_some}
+use Rattle.xfs_disk.proofs.Shares.{first_up, share_inside, share_next, share_some}
 
 -- what each block of a row has, by its place in the row
 pub flat_by : {A B : Type 0} (f : A → List B) (g : ℕ → List B) (d : A) (row : List A) (a : ℕ) → ((k : ℕ) → k < length row → f (get_or row k d) ≡ g (a + k))
@@ -34,11 +33,6 @@ map_by f g d (x ∷ row) a at =
 
 pub from_start : {A : Type 0} (g : ℕ → A) (x : A) (k : ℕ) → x ≡ g k → x ≡ g (0 + k)
 from_start g x k is = is ∙ ap g (omega arith)
-
-first_up : (n m i j : ℕ) → i ≤ j → first_of_share n m i ≤ first_of_share n m j
-first_up n m i j up =
-    let more : i * (n / m) ≤ j * (n / m) = mul-le-mul_right (n / m) up in
-    omega (arith, more)
 
 length_share : {A : Type 0} (xs : List A) (m i : ℕ) → i < m → length (share_in xs m i) ≡ share_of (length xs) m i
 length_share xs m i inside =
