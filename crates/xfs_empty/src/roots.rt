@@ -8,7 +8,7 @@ use std::alloc::Global;
 use xfs_dirdata::put_short;
 use xfs_disk::{NoMemory, Stamp, Word};
 use xfs_geom::Geometry;
-use xfs_inode::ForkWanted;
+use xfs_inodebuild::ForkWanted;
 use xfs_render::{SlotBase, SlotWanted};
 use xfs_volume::Core;
 

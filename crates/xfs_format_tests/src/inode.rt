@@ -1,8 +1,6 @@
 //! Slots of a volume of two groups of 1024 blocks, with its log at AG block 6 of the second.
 
 ghost use Rattle.std.specs.Prelude.{◌≡◌, ◌<◌, ◌≤◌, length};
-ghost use Rattle.xfs_geom.specs.Volumes.{volume_of};
-ghost use Rattle.xfs_inode.specs.Slots.{slot_seal};
 
 mod cuts;
 mod disks;
@@ -18,9 +16,10 @@ use std::test::Fail;
 use xfs_disk::{Disk, Stamp, Word};
 use xfs_geom::Geometry;
 use xfs_inode::*;
+use xfs_inodebuild::*;
 use xfs_runs::Steps;
 use xfs_volume::Core;
-use xfs_word::{Seal, SealKind, get8, put_part, seal, sealed, stored_checksum};
+use xfs_word::{get8, put_part, seal, sealed, stored_checksum};
 
 /// The identifier of the volume.
 const IDENTIFIER: [u8; 16] = [
@@ -100,18 +99,6 @@ fn file_with(rt: &(impl Abort + AllocGlobal), parts: &str) -> Result<[u8; 512], 
     put_parts(rt, &mut slot, parts)?;
     seal_file(&mut slot);
     Ok(slot)
-}
-
-/// The seal of an inode's slot.
-fn slot_seal(g: &Geometry, ino: u64) -> Seal
-    ensures { result ≡ slot_seal (volume_of g.now) ino }
-{
-    Seal {
-        kind: SealKind::Slot,
-        place: ino,
-        owner: None,
-        uuid: g.uuid,
-    }
 }
 
 /// Writes the checksum of a slot.

@@ -26,8 +26,7 @@ use Rattle.xfs_volume.specs.declared.files.FileRec.{FileRec}
 use Rattle.xfs_inode.specs.Files.{AttrFork, attr_fork, by_slot, data_fork, extents_held, feature_of, file_record, file_read, fork_with, has_leaf, is_off_attributes, is_core, is_counted, is_attr_leaf, is_whole_fork, leaf_held, no_attrs, none_held, tree_held, with_attrs, with_data, with_feature}
 use Rattle.xfs_inode.specs.Forks.{Top, attr_extent, attr_place, fork_extent, has_attr_extent, has_link_extent, is_fork_root, level_under, link_place, only_block, root_capacity, top_of, core_type}
 use Rattle.xfs_inode.specs.Named.{attr_named, held_by, link_named, named_attr, named_link, named_top, slot_reads, top_named, tree_under}
-use Rattle.xfs_inode.specs.Slots.{attribute_start, slot_read}
-use Rattle.xfs_inode.specs.Writing.{fork_bytes}
+use Rattle.xfs_inode.specs.Slots.{attribute_start, slot_read, fork_bytes}
 use Rattle.xfs_inode.specs.declared.files.FileRead.{FileRead}
 use Rattle.xfs_inode.specs.declared.files.FileRead.TheVariants as Reads
 use Rattle.xfs_inode.specs.declared.reading.SlotRead.{SlotRead}

@@ -21,8 +21,7 @@ use Rattle.xfs_attr.specs.declared.attributes.AttrFault.{AttrFault}
 use Rattle.xfs_attr.specs.declared.attributes.AttrFault.TheVariants as Fault
 use Rattle.xfs_volume.specs.declared.cores.Core.{Core}
 use Rattle.xfs_volume.specs.declared.files.FileRec.{FileRec}
-use Rattle.xfs_inode.specs.Slots.{attribute_start, slot_read}
-use Rattle.xfs_inode.specs.Writing.{fork_bytes}
+use Rattle.xfs_inode.specs.Slots.{attribute_start, slot_read, fork_bytes}
 use Rattle.xfs_inode.specs.Forks.{core_type, fork_extent, attr_extent, attr_place, link_place}
 use Rattle.xfs_inode.specs.declared.claims.BlockRange.{BlockRange}
 use Rattle.xfs_inode.specs.declared.reading.SlotRead.{SlotRead}

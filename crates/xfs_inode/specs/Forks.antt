@@ -8,8 +8,7 @@ use Rattle.xfs_geom.specs.Volumes.{Volume}
 use Rattle.xfs_tree.specs.Blocks.{each_of, number_or_ones}
 use Rattle.xfs_kinds.specs.FileTrees.{extent_of}
 use Rattle.xfs_volume.specs.declared.cores.Core.{Core}
-use Rattle.xfs_inode.specs.Slots.{attribute_start}
-use Rattle.xfs_inode.specs.Writing.{fork_bytes}
+use Rattle.xfs_inode.specs.Slots.{attribute_start, fork_bytes}
 
 -- the type of a file, in the upper four bits of its mode
 abbrev pub core_type : Core → ℕ

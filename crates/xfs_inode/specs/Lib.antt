@@ -1,6 +1,5 @@
 pub mod Cores
 pub mod Slots
-pub mod Writing
 pub mod Forks
 pub mod Files
 pub mod Named

@@ -22,6 +22,10 @@ has_bit number bit = number / 2 ^ bit % 2 == 1
 unfoldable pub extent_count : List ℕ → ℕ → ℕ
 extent_count bytes at = field_of bytes (at + 12) 4 % 2 ^ 21
 
+-- the bytes of the data fork, which begins at byte 176: it reaches up to the attribute fork, or to the slot's end
+abbrev pub fork_bytes : ℕ → ℕ
+fork_bytes forkoff = if forkoff == 0 then 336 else 8 * forkoff
+
 -- where the attribute fork begins, if there is one
 abbrev pub attribute_start : ℕ → ℕ
 attribute_start forkoff = 176 + 8 * forkoff

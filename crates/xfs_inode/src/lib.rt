@@ -1,8 +1,8 @@
-//! Inodes: the slots of 512 bytes that hold them, read and written, and the files that they hold.
+//! Inodes: the slots of 512 bytes that hold them, and the files that they hold, read.
 //!
 //! A slot is judged by its bytes alone (`read_slot`), it names the blocks beside it that have to be read (`needs`), and
-//! both together are a file (`decide_file`); `read_file` does the three over a disk. Slots are written too: free, fresh, or
-//! with a new fork, other links or no attributes.
+//! both together are a file (`decide_file`); `read_file` does the three over a disk. Slots are written in
+//! `xfs_inodebuild`, by the same layouts, seal (`slot_seal`) and bound of the data fork (`fork_bytes`).
 //!
 //! `xfs_scan` reads each slot of a cluster so:
 //!
@@ -17,9 +17,6 @@
 #![tactic(auto)]
 
 mod attributes;
-mod blank;
-mod bytes;
-mod changes;
 mod claims;
 mod conditions;
 mod cores;
@@ -41,13 +38,12 @@ mod roots;
 mod seals;
 mod support;
 
-pub use blank::{free_slot, fresh_slot};
-pub use changes::{drop_attrs, set_links};
 pub use deciding::decide_file;
 pub use faults::InodeFault;
 pub use file_reading::read_file;
 pub use files::FileRead;
-pub use forks::{ForkWanted, set_fork};
+pub use forks::fork_bytes;
 pub use named::Needs;
 pub use naming::needs;
 pub use reading::{SlotRead, read_slot};
+pub use seals::slot_seal;

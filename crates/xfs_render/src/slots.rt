@@ -10,7 +10,7 @@ ghost use Rattle.xfs_render.specs.Slots.{CanBase, CanFork, CanMake, DropsAttrs, 
 use crate::wanted_slots::{SlotBase, SlotWanted};
 use xfs_disk::Stamp;
 use xfs_geom::Geometry;
-use xfs_inode::{ForkWanted, drop_attrs, free_slot, fresh_slot, set_fork, set_links};
+use xfs_inodebuild::{ForkWanted, drop_attrs, free_slot, fresh_slot, set_fork, set_links};
 
 /// Makes of a slot, of 512 bytes, what is wanted of it.
 pub fn make_slot(g: &Geometry, wanted: &SlotWanted, stamp: &Stamp, slot: &mut [u8])

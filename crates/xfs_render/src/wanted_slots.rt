@@ -1,6 +1,6 @@
 //! What is to be made of slots of inodes.
 
-use xfs_inode::ForkWanted;
+use xfs_inodebuild::ForkWanted;
 use xfs_volume::Core;
 
 /// What a slot is before anything else is changed in it.

@@ -11,7 +11,7 @@ use Rattle.xfs_kinds.specs.FileTrees.{follows_offset, is_extent}
 use Rattle.xfs_volume.specs.declared.cores.Core.{Core}
 use Rattle.xfs_inode.specs.Files.{ranges_apart, are_blocks, are_extents, has_format, has_forkoff, is_apart, is_core, is_local_whole, is_placed, ranges_of, states_no_fork}
 use Rattle.xfs_inode.specs.Forks.{core_type}
-use Rattle.xfs_inode.specs.Writing.{fork_bytes}
+use Rattle.xfs_inode.specs.Slots.{fork_bytes}
 use Rattle.xfs_inode.specs.declared.claims.BlockRange.{BlockRange}
 use Rattle.xfs_views.specs.FilesInWords.{RangesApart, IsDataPlaced, IsFileCore}
 use Rattle.xfs_views.proofs.Tests.{all_pass, all_say}

@@ -10,8 +10,7 @@ use Rattle.xfs_volume.specs.declared.cores.Core.{Core}
 use Rattle.xfs_volume.specs.declared.files.FileRec.{FileRec}
 use Rattle.xfs_inode.specs.Files.{AttrFork, attr_fork, extent_blocks, data_fork, feature_of, file_record, has_format, is_link, range_of_block, ranges_of}
 use Rattle.xfs_inode.specs.Forks.{attr_place, link_place, core_type}
-use Rattle.xfs_inode.specs.Slots.{slot_read}
-use Rattle.xfs_inode.specs.Writing.{fork_bytes}
+use Rattle.xfs_inode.specs.Slots.{slot_read, fork_bytes}
 use Rattle.xfs_inode.specs.declared.claims.BlockRange.{BlockRange}
 use Rattle.xfs_inode.specs.declared.reading.SlotRead.TheVariants as Read
 

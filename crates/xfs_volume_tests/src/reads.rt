@@ -16,7 +16,7 @@ use std::sync::ledger::Blank;
 use std::test::Fail;
 use xfs_dirdata::{EntryRec, put_data};
 use xfs_disk::{BLOCK_SIZE, Disk, Failed, MemoryDisk, Stamp, Word};
-use xfs_inode::free_slot;
+use xfs_inodebuild::free_slot;
 use xfs_volume::Core;
 use xfs_word::{Seal, SealKind, put_part, put32, put64, seal};
 

@@ -14,7 +14,7 @@ use std::test::Fail;
 use xfs_disk::{BLOCK_SIZE, Disk, MemoryDisk};
 use xfs_heads::LogState;
 use xfs_image::Finding;
-use xfs_inode::fresh_slot;
+use xfs_inodebuild::fresh_slot;
 use xfs_runs::Steps;
 use xfs_scan::*;
 use xfs_volume::Core;

@@ -6,18 +6,18 @@ ghost use Rattle.xfs_word.specs.Field.{field_of, IsZero};
 ghost use Rattle.xfs_word.specs.Seal.{is_sealed};
 ghost use Rattle.xfs_geom.specs.Volumes.{volume_of};
 ghost use Rattle.xfs_inode.specs.Cores.{stated_core};
-ghost use Rattle.xfs_inode.specs.Slots.{slot_read, slot_seal};
+ghost use Rattle.xfs_inode.specs.Slots.{slot_read, slot_seal, fork_bytes};
 ghost use Rattle.xfs_inode.specs.declared.reading.SlotRead.TheVariants as Read;
 ghost use Rattle.xfs_volume.specs.declared.cores.Core.{Core};
-ghost use Rattle.xfs_inode.specs.Writing.{field_place, fork_bytes, KeepsOthers};
+ghost use Rattle.xfs_inodebuild.specs.Writing.{field_place, KeepsOthers};
 
 use crate::bytes::clear_part;
-use crate::forks::fork_bytes;
-use crate::layouts::inode::{
-    AFORMAT, ANEXTENTS, DATA_FORK, FORKOFF, FORKS_SIZE, NBLOCKS, NEXT_UNLINKED, NLINK,
-};
 use crate::seals::seal_slot;
 use xfs_geom::Geometry;
+use xfs_inode::fork_bytes;
+use xfs_inode::layouts::inode::{
+    AFORMAT, ANEXTENTS, DATA_FORK, FORKOFF, FORKS_SIZE, NBLOCKS, NEXT_UNLINKED, NLINK,
+};
 use xfs_word::{get8, put8, put16, put32, put64};
 
 /// Sets how many names the file of a sealed slot, of 512 bytes, has, takes it out of the chains of unlinked inodes,

@@ -1,5 +1,5 @@
 use Rattle.std.proofs.Common.{◌+◌, ◌-◌, ◌≤◌, length, inr, ◌∙◌, arith}
-use Rattle.xfs_inode.proofs.blank.put_fresh.Goals as goal
+use Rattle.xfs_inodebuild.proofs.blank.put_fresh.Goals as goal
 
 pub returns-clause-zero_behind_fork : goal.returns-clause-zero_behind_fork
 returns-clause-zero_behind_fork c =

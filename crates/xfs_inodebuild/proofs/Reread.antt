@@ -6,10 +6,9 @@ use Rattle.xfs_word.specs.Seal.{is_sealed}
 use Rattle.xfs_geom.specs.Volumes.{Volume}
 use Rattle.xfs_volume.specs.declared.cores.Core.{Core}
 use Rattle.xfs_inode.specs.Cores.{stated_core}
-use Rattle.xfs_inode.specs.Slots.{slot_seal, slot_read, unsupported, used_read, has_bit, has_wide_attributes, extent_count}
-use Rattle.xfs_inode.specs.Writing.{fork_bytes}
+use Rattle.xfs_inode.specs.Slots.{slot_seal, slot_read, unsupported, used_read, has_bit, has_wide_attributes, extent_count, fork_bytes}
 use Rattle.xfs_inode.specs.declared.reading.SlotRead.TheVariants as Read
-use Rattle.xfs_inode.proofs.ReadBack.{if_false}
+use Rattle.xfs_inodebuild.proofs.ReadBack.{if_false}
 
 -- the tests of a slot that reads as in use
 passed : (sealed free : Bool) (what : Option ℕ) (a c : Core)

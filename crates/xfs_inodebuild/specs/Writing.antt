@@ -1,5 +1,5 @@
 -- What is written into the slot of an inode (chapter "On-disk Inode").
-use Rattle.std.specs.Prelude.{◌≡◌, ℕ, ◌*◌, ◌==◌, if◌then◌else◌, List, [], ◌∷◌}
+use Rattle.std.specs.Prelude.{◌≡◌, ℕ, List, [], ◌∷◌}
 use Rattle.xfs_word.specs.Field.{field_of, part_of, Beside}
 use Rattle.xfs_word.specs.declared.kinds.FieldPlace.{FieldPlace}
 use Rattle.xfs_geom.specs.Volumes.{Volume}
@@ -18,10 +18,6 @@ IsBesideEach (place ∷ places) a w = Beside place.offset place.width a w × IsB
 abbrev pub KeepsOthers : List ℕ → List ℕ → List FieldPlace → Type 0
 KeepsOthers old new places =
     (a w : ℕ) → IsBesideEach places a w → (field_of new a w ≡ field_of old a w) × (part_of new a w ≡ part_of old a w)
-
--- the bytes of the data fork, which begins at byte 176: it reaches up to the attribute fork, or to the slot's end
-abbrev pub fork_bytes : ℕ → ℕ
-fork_bytes forkoff = if forkoff == 0 then 336 else 8 * forkoff
 
 -- the core of a slot that is free, apart from its checksum
 abbrev pub free_core : Volume → ℕ → ℕ → Core

@@ -1,6 +1,6 @@
 use Rattle.std.proofs.Common.{◌≡◌, ◌+◌, ◌≤◌, inr, ◌∙◌, lit≤, rules, arith}
 use Rattle.xfs_word.specs.Field.{part_of}
-use Rattle.xfs_inode.proofs.cores.put_core.Goals as goal
+use Rattle.xfs_inodebuild.proofs.cores.put_core.Goals as goal
 
 pub returns-clause-zero_behind_format : goal.returns-clause-zero_behind_format
 returns-clause-zero_behind_format c =

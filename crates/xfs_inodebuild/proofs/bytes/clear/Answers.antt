@@ -1,6 +1,6 @@
 use Rattle.std.proofs.Common.{ℕ, replicate, ◌∙◌, ap}
-use Rattle.xfs_inode.proofs.Zeros.{zero_part}
-use Rattle.xfs_inode.proofs.bytes.clear.Goals as goal
+use Rattle.xfs_inodebuild.proofs.Zeros.{zero_part}
+use Rattle.xfs_inodebuild.proofs.bytes.clear.Goals as goal
 
 pub returns : goal.returns
 returns c =

@@ -3,9 +3,9 @@ use Rattle.xfs_geom.specs.Volumes.{volume_of}
 use Rattle.xfs_volume.specs.declared.cores.Core.{Core}
 use Rattle.xfs_word.specs.Crc.{little_field_of}
 use Rattle.xfs_word.specs.Seal.{is_lsn}
-use Rattle.xfs_inode.proofs.Ready.{ready_slot}
-use Rattle.xfs_inode.proofs.ReadBack.{read_used, supported_core, with_checksum}
-use Rattle.xfs_inode.proofs.blank.fresh_slot.Goals as goal
+use Rattle.xfs_inodebuild.proofs.Ready.{ready_slot}
+use Rattle.xfs_inodebuild.proofs.ReadBack.{read_used, supported_core, with_checksum}
+use Rattle.xfs_inodebuild.proofs.blank.fresh_slot.Goals as goal
 
 pub seal_slot-requires-clause-ready : goal.seal_slot-requires-clause-ready
 seal_slot-requires-clause-ready c =

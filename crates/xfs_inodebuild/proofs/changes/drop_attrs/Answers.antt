@@ -2,10 +2,10 @@ use Rattle.std.proofs.Common.{refl, ◌∙◌}
 use Rattle.xfs_word.specs.Crc.{little_field_of}
 use Rattle.xfs_geom.specs.Volumes.{volume_of}
 use Rattle.xfs_inode.specs.Cores.{stated_core}
-use Rattle.xfs_inode.proofs.ReadBack.{with_checksum}
-use Rattle.xfs_inode.proofs.Ready.{ready_again, was_ready}
-use Rattle.xfs_inode.proofs.Reread.{in_use_again, no_extents}
-use Rattle.xfs_inode.proofs.changes.drop_attrs.Goals as goal
+use Rattle.xfs_inodebuild.proofs.ReadBack.{with_checksum}
+use Rattle.xfs_inodebuild.proofs.Ready.{ready_again, was_ready}
+use Rattle.xfs_inodebuild.proofs.Reread.{in_use_again, no_extents}
+use Rattle.xfs_inodebuild.proofs.changes.drop_attrs.Goals as goal
 
 pub seal_slot-requires-clause-ready : goal.seal_slot-requires-clause-ready
 seal_slot-requires-clause-ready c =

@@ -7,14 +7,14 @@ ghost use Rattle.xfs_word.specs.Seal.{is_lsn, is_sealed};
 ghost use Rattle.xfs_geom.specs.Volumes.{volume_of};
 ghost use Rattle.xfs_inode.specs.Cores.{stated_core};
 ghost use Rattle.xfs_inode.specs.Slots.{has_bit, slot_read, slot_seal};
-ghost use Rattle.xfs_inode.specs.Writing.{free_core};
+ghost use Rattle.xfs_inodebuild.specs.Writing.{free_core};
 ghost use Rattle.xfs_inode.specs.declared.reading.SlotRead.TheVariants as Read;
 
 use crate::cores::put_core;
-use crate::layouts::inode::DATA_FORK;
 use crate::seals::seal_slot;
 use xfs_disk::Stamp;
 use xfs_geom::Geometry;
+use xfs_inode::layouts::inode::DATA_FORK;
 use xfs_volume::Core;
 use xfs_word::put_part;
 

@@ -3,12 +3,11 @@ use Rattle.xfs_word.specs.Crc.{little_field_of}
 use Rattle.xfs_word.specs.Field.{field_of}
 use Rattle.xfs_geom.specs.Volumes.{volume_of}
 use Rattle.xfs_inode.specs.Cores.{stated_core}
-use Rattle.xfs_inode.specs.Slots.{unsupported}
-use Rattle.xfs_inode.specs.Writing.{fork_bytes}
-use Rattle.xfs_inode.proofs.ReadBack.{with_checksum}
-use Rattle.xfs_inode.proofs.Ready.{ready_again, was_ready}
-use Rattle.xfs_inode.proofs.Reread.{in_use_again, same_extent, fork_ends}
-use Rattle.xfs_inode.proofs.forks.set_fork.Goals as goal
+use Rattle.xfs_inode.specs.Slots.{unsupported, fork_bytes}
+use Rattle.xfs_inodebuild.proofs.ReadBack.{with_checksum}
+use Rattle.xfs_inodebuild.proofs.Ready.{ready_again, was_ready}
+use Rattle.xfs_inodebuild.proofs.Reread.{in_use_again, same_extent, fork_ends}
+use Rattle.xfs_inodebuild.proofs.forks.set_fork.Goals as goal
 
 pub seal_slot-requires-clause-ready : goal.seal_slot-requires-clause-ready
 seal_slot-requires-clause-ready c =

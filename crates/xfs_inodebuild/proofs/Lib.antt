@@ -1,0 +1,4 @@
+pub mod Zeros
+pub mod Ready
+pub mod ReadBack
+pub mod Reread
