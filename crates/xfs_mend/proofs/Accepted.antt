@@ -5,10 +5,10 @@ use Rattle.xfs_geom.proofs.Bounds.{group_start}
 use Rattle.xfs_geom.specs.Volumes.{Volume, volume_of, stated_volume}
 use Rattle.xfs_geom.specs.declared.geometry.Geometry.{Geometry}
 use Rattle.xfs_geom.specs.Election.{Vote, elected, super_of}
-use Rattle.xfs_mend.proofs.Electing.{IsPrimary, is_primary}
+use Rattle.xfs_backups.proofs.Electing.{IsPrimary, is_primary}
 use Rattle.xfs_mend.proofs.Repaired.{IsAccepted}
-use Rattle.xfs_mend.specs.Backups.{start_of, steps_from, backup_plan}
-use Rattle.xfs_mend.specs.Due.{IsOwed, first_disagreeing}
+use Rattle.xfs_backups.specs.Backups.{backup_plan, first_disagreeing, start_of, steps_from}
+use Rattle.xfs_mend.specs.Due.{IsOwed}
 use Rattle.xfs_mend.specs.Outcome.{IsRepairCause, IsDurableRepair, IsRepaired, RepairLeaves, LeavesOf, StopsBy, StopsOf, is_quiet}
 use Rattle.xfs_writing.specs.Stopped.{IsStopped}
 use Rattle.xfs_writing.specs.Writing.{Writes, IsPartly, written}

@@ -15,7 +15,7 @@ use Rattle.xfs_scan.specs.Refused.{refused}
 use Rattle.xfs_scan.specs.declared.faults.ScanFault.{ScanFault}
 use Rattle.xfs_scan.specs.declared.faults.ScanFault.TheVariants as scan
 use Rattle.xfs_mend.proofs.Deciding.{answers, due_seen}
-use Rattle.xfs_mend.specs.Backups.{backup_plan}
+use Rattle.xfs_backups.specs.Backups.{backup_plan}
 use Rattle.xfs_mend.specs.Due.{IsAnswer, asks_log, away_if, due_found, due_repair, due_volume, is_backup, is_dirty, turned_away}
 use Rattle.xfs_mend.specs.declared.outcome.Outcome.{Outcome}
 use Rattle.xfs_mend.specs.declared.outcome.Outcome.TheVariants.{Clean, Damaged, Repaired, Unbuilt}

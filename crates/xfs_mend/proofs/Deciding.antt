@@ -20,8 +20,8 @@ use Rattle.xfs_image.specs.View.{view}
 use Rattle.xfs_image.specs.declared.findings.Finding.{Finding}
 use Rattle.xfs_image.specs.declared.findings.Finding.TheVariants as Found
 use Rattle.xfs_mend.proofs.Repaired.{first_sector}
-use Rattle.xfs_mend.specs.Backups.{backup_plan, start_of}
-use Rattle.xfs_mend.specs.Due.{IsAnswer, IsDueRepair, IsOwed, disagrees, due_found, due_volume, first_disagreeing, is_backup, turned_away}
+use Rattle.xfs_backups.specs.Backups.{backup_plan, disagrees, first_disagreeing, start_of}
+use Rattle.xfs_mend.specs.Due.{IsAnswer, IsDueRepair, IsOwed, due_found, due_volume, is_backup, turned_away}
 use Rattle.xfs_writing.specs.Writing.{Writes}
 use Rattle.xfs_mend.specs.Private.Refusing.{IsAdmission}
 use Rattle.xfs_mend.specs.declared.refusals.Admitted.{Admitted}

@@ -1,12 +1,8 @@
 pub mod Accepted
 pub mod Answering
 pub mod Deciding
-pub mod Electing
-pub mod Mending
-pub mod Planning
 pub mod Repaired
 pub mod Turning
-pub mod Rows
 pub mod Ending
 pub mod Restored
 pub mod Again

@@ -16,9 +16,9 @@ use Rattle.xfs_image.proofs.Backups.{only_backups}
 use Rattle.xfs_image.specs.Consistent.{HasBackupFault, HasFinding, IsElected, backup_agrees}
 use Rattle.xfs_heads.specs.Sectors.{sector_in}
 use Rattle.xfs_image.specs.declared.findings.Finding.TheVariants as Found
-use Rattle.xfs_mend.proofs.Electing.{elected_primary}
-use Rattle.xfs_mend.proofs.Mending.{length-written, mended_block, mended_agreeing, mended_other, steps_other, steps_same}
-use Rattle.xfs_mend.specs.Backups.{start_of, backup_plan}
+use Rattle.xfs_backups.proofs.Electing.{elected_primary}
+use Rattle.xfs_backups.proofs.Mending.{length-written, mended_block, mended_agreeing, mended_other, steps_other, steps_same}
+use Rattle.xfs_backups.specs.Backups.{start_of, backup_plan}
 use Rattle.xfs_mend.specs.Outcome.{IsMended}
 use Rattle.xfs_writing.specs.Writing.{written}
 

@@ -16,12 +16,12 @@ use Rattle.xfs_frames.specs.Backups.{DifferInBackups}
 use Rattle.xfs_frames.proofs.ProtectedStay.{protected_stay}
 use Rattle.xfs_frames.proofs.ViewsStay.{views_stay}
 use Rattle.xfs_mend.proofs.Deciding.{is_elected}
-use Rattle.xfs_mend.proofs.Electing.{elected_primary}
-use Rattle.xfs_mend.proofs.Mending.{mended_agreeing, mended_block, mended_other}
+use Rattle.xfs_backups.proofs.Electing.{elected_primary}
+use Rattle.xfs_backups.proofs.Mending.{mended_agreeing, mended_block, mended_other}
 use Rattle.xfs_mend.proofs.Repaired.{IsAccepted, agree_written, backup_written, elects_written, is_mended, none_found, primary_of}
 use Rattle.xfs_scan.specs.Refused.{refused}
 use Rattle.xfs_mend.proofs.Staying.{is_left}
-use Rattle.xfs_mend.specs.Backups.{backup_plan, start_of}
+use Rattle.xfs_backups.specs.Backups.{backup_plan, start_of}
 use Rattle.xfs_mend.specs.Due.{is_backup, scan_refusal}
 use Rattle.xfs_mend.specs.Outcome.{IsRepaired}
 use Rattle.xfs_writing.specs.Writing.{written}

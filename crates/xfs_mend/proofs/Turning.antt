@@ -9,10 +9,10 @@ use Rattle.xfs_image.specs.declared.findings.Finding.{Finding}
 use Rattle.xfs_scan.specs.Refused.{refused}
 use Rattle.xfs_scan.specs.declared.faults.ScanFault.{ScanFault}
 use Rattle.xfs_mend.specs.Due.{asks_log, away_if, is_dirty, scan_refusal, turned_away}
-use Rattle.xfs_mend.specs.Private.Planning.{HasMendCause}
+use Rattle.xfs_backups.specs.Causes.{HasMendCause}
 use Rattle.xfs_mend.specs.Private.Refusing.{HasAdmitted}
-use Rattle.xfs_mend.specs.declared.faults.MendFault.{MendFault}
-use Rattle.xfs_mend.specs.declared.faults.MendFault.TheVariants as faults
+use Rattle.xfs_backups.specs.declared.faults.MendFault.{MendFault}
+use Rattle.xfs_backups.specs.declared.faults.MendFault.TheVariants as faults
 use Rattle.xfs_mend.specs.declared.outcome.Outcome.{Outcome}
 use Rattle.xfs_mend.specs.declared.outcome.Outcome.TheVariants.{DirtyLog}
 use Rattle.xfs_mend.specs.declared.refusals.Admitted.{Admitted}

@@ -1,10 +1,8 @@
 -- What is due to an image that is to be repaired.
-use Rattle.std.specs.Prelude.{◌≡◌, ℕ, ◌≤◌, ◌==◌, ◌&&◌, Bool, true, false, not, if◌then◌else◌, List, length, Option, Some, None, Result, Ok, Err, unwrap_or, ⊤}
-use Rattle.std.specs.List.{find, range_with_len}
-use Rattle.xfs_disk.specs.Blocks.{Image, bytes_of_block}
-use Rattle.xfs_geom.specs.Election.{Vote, elected, super_of}
-use Rattle.xfs_geom.specs.Superblocks.{is_agreeing}
-use Rattle.xfs_geom.specs.Volumes.{Volume, stated_volume, volume_of}
+use Rattle.std.specs.Prelude.{◌≡◌, ℕ, ◌≤◌, ◌==◌, ◌&&◌, Bool, true, false, not, if◌then◌else◌, length, Option, Some, None, Result, Ok, Err, unwrap_or, ⊤}
+use Rattle.xfs_disk.specs.Blocks.{Image}
+use Rattle.xfs_geom.specs.Election.{Vote, elected}
+use Rattle.xfs_geom.specs.Volumes.{Volume, volume_of}
 use Rattle.xfs_geom.specs.declared.election.ElectFault.{ElectFault}
 use Rattle.xfs_geom.specs.declared.election.ElectFault.TheVariants as fault
 use Rattle.xfs_geom.specs.declared.geometry.Geometry.{Geometry}
@@ -18,19 +16,11 @@ use Rattle.xfs_image.specs.declared.findings.Finding.TheVariants as Found
 use Rattle.xfs_scan.specs.Refused.{refused}
 use Rattle.xfs_scan.specs.declared.faults.ScanFault.{ScanFault}
 use Rattle.xfs_scan.specs.declared.faults.ScanFault.TheVariants as scan
-use Rattle.xfs_mend.specs.Backups.{backup_plan, start_of}
+use Rattle.xfs_backups.specs.Backups.{backup_plan}
 use Rattle.xfs_mend.specs.declared.outcome.Outcome.{Outcome}
 use Rattle.xfs_mend.specs.declared.outcome.Outcome.TheVariants.{NoGeometry, Unsupported, DirtyLog, TooLarge, UnsupportedFile, Clean, Damaged, Repaired, Unbuilt, ReadFault, WriteFault, NoMemory}
 use Rattle.xfs_mend.specs.Asked.{Asked}
 use Rattle.xfs_mend.specs.declared.outcome.Summary.TheVariants.{Backups, Rebuilt}
-
--- the backup of the group does not agree with the primary
-abbrev pub disagrees : List ℕ → Image → ℕ → Bool
-disagrees primary image group = not (is_agreeing (stated_volume primary) (super_of (bytes_of_block image (start_of primary group))))
-
--- the first of n groups from a group on whose backup does not agree
-abbrev pub first_disagreeing : List ℕ → Image → ℕ → ℕ → Option ℕ
-first_disagreeing primary image group n = find (disagrees primary image) (range_with_len group n)
 
 -- a log that is not clean stands in the way: the image is not only checked, and the log is not to be dropped
 abbrev pub asks_log : Asked → Bool

@@ -1,5 +1,4 @@
 pub mod Asked
-pub mod Backups
 pub mod Due
 pub mod Outcome
 pub mod Private

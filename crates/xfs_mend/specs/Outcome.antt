@@ -12,7 +12,7 @@ use Rattle.xfs_image.specs.Consistent.{HasFinding, IsConsistent, IsElected, back
 use Rattle.xfs_image.specs.Keeping.{Keeps, Protected}
 use Rattle.xfs_image.specs.declared.findings.Finding.TheVariants.{Part}
 use Rattle.xfs_mend.specs.Asked.{Asked}
-use Rattle.xfs_mend.specs.Backups.{with_super, start_of, backup_plan}
+use Rattle.xfs_backups.specs.Backups.{with_super, start_of, backup_plan}
 use Rattle.xfs_mend.specs.Due.{IsAnswer, IsDueRepair, IsOwed}
 use Rattle.xfs_writing.specs.Writing.{Writes, written, IsPartly}
 use Rattle.xfs_writing.specs.Stopped.{IsStopped}

@@ -1,5 +1,3 @@
 -- What the contracts of private functions alone cite.
 pub mod Ending
-pub mod Planning
 pub mod Refusing
-pub mod Rows

@@ -9,13 +9,12 @@ ghost use Rattle.xfs_disk.specs.Reads.{OnlyReads};
 ghost use Rattle.xfs_laws.specs.Lawful.{broken_law};
 ghost use Rattle.xfs_image.specs.Consistent.{backup_found, finding, law_found, view_found};
 ghost use Rattle.xfs_image.specs.View.{view};
-ghost use Rattle.xfs_mend.specs.Due.{first_disagreeing};
-ghost use Rattle.xfs_mend.specs.Private.Planning.{HasMendCause};
+ghost use Rattle.xfs_backups.specs.Backups.{first_disagreeing};
+ghost use Rattle.xfs_backups.specs.Causes.{HasMendCause};
 
-use crate::backups::find_disagreeing;
-use crate::faults::MendFault;
 use std::alloc::Global;
 use std::thread::Threads;
+use xfs_backups::{MendFault, find_disagreeing};
 use xfs_disk::{Disk, Failed};
 use xfs_geom::{Elected, Geometry};
 use xfs_image::Finding;

@@ -10,8 +10,6 @@
 //! ```
 #![tactic(auto)]
 
-mod backups;
-mod faults;
 mod finding;
 mod laws;
 mod outcome;

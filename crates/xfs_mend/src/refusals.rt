@@ -8,14 +8,14 @@ ghost use Rattle.xfs_image.specs.View.{view};
 ghost use Rattle.xfs_scan.specs.Refused.{refused};
 ghost use Rattle.xfs_mend.specs.Asked.{repair_asked};
 ghost use Rattle.xfs_mend.specs.Due.{asks_log, away_if, is_dirty, scan_refusal};
-ghost use Rattle.xfs_mend.specs.Private.Planning.{HasMendCause};
+ghost use Rattle.xfs_backups.specs.Causes.{HasMendCause};
 ghost use Rattle.xfs_mend.specs.Private.Refusing.{HasAdmitted, IsAdmission};
 
-use crate::faults::MendFault;
 use crate::outcome::RepairOptions;
 use std::alloc::Global;
 use std::marker::Brand;
 use std::sync::ledger::{Blank, Ledger};
+use xfs_backups::MendFault;
 use xfs_disk::Disk;
 use xfs_geom::Geometry;
 use xfs_heads::LogState;

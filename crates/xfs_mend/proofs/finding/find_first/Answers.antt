@@ -5,7 +5,7 @@ use Rattle.xfs_laws.specs.Lawful.{broken_law}
 use Rattle.xfs_image.specs.Consistent.{backup_found, finding, view_found}
 use Rattle.xfs_image.specs.declared.findings.Finding.{Finding}
 use Rattle.xfs_mend.proofs.Deciding.{found_first, found_in_backups, found_in_view, if_ok}
-use Rattle.xfs_mend.specs.Due.{first_disagreeing}
+use Rattle.xfs_backups.specs.Backups.{first_disagreeing}
 use Rattle.xfs_mend.proofs.finding.find_first.Goals as goal
 
 pub returns-then-chosen-ne0-clause-found : goal.returns-then-chosen-ne0-clause-found

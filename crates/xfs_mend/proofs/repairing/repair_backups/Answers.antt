@@ -5,7 +5,7 @@ use Rattle.xfs_disk.specs.Counts.{raised_times}
 use Rattle.xfs_writing.specs.Writing.{IsPartly, Writes, write_of, written, writes_of_rows}
 use Rattle.xfs_mend.proofs.Accepted.{stops_written}
 use Rattle.xfs_mend.proofs.Ending.{ends_behind, ends_read, stops_behind, stops_read}
-use Rattle.xfs_mend.specs.Backups.{steps_from}
+use Rattle.xfs_backups.specs.Backups.{steps_from}
 use Rattle.xfs_mend.specs.Private.Ending.{Ends}
 use Rattle.xfs_mend.specs.Outcome.{StopsOf}
 use Rattle.xfs_mend.specs.declared.outcome.Outcome.TheVariants as out

@@ -1,7 +1,7 @@
 -- Backup superblocks: what a primary asks of them, and the plan that makes them agree (chapter
 -- "Superblocks"; xfs_repair(8)).
-use Rattle.std.specs.Prelude.{ℕ, ◌-◌, ◌*◌, if◌then◌else◌, List, [], ◌∷◌, ◌++◌, drop}
-use Rattle.std.specs.List.{flat_map, range_with_len}
+use Rattle.std.specs.Prelude.{ℕ, ◌-◌, ◌*◌, Bool, not, if◌then◌else◌, List, [], ◌∷◌, ◌++◌, drop, Option}
+use Rattle.std.specs.List.{find, flat_map, range_with_len}
 use Rattle.xfs_disk.specs.Blocks.{Image, bytes_of_block}
 use Rattle.xfs_geom.specs.Election.{super_of}
 use Rattle.xfs_geom.specs.Superblocks.{is_agreeing}
@@ -20,6 +20,14 @@ step_of primary at block =
 -- the block at which a group of the primary's volume begins
 unfoldable pub start_of : List ℕ → ℕ → ℕ
 start_of primary group = group * (stated_volume primary).agblocks
+
+-- the backup of the group does not agree with the primary
+abbrev pub disagrees : List ℕ → Image → ℕ → Bool
+disagrees primary image group = not (is_agreeing (stated_volume primary) (super_of (bytes_of_block image (start_of primary group))))
+
+-- the first of n groups from a group on whose backup does not agree
+abbrev pub first_disagreeing : List ℕ → Image → ℕ → ℕ → Option ℕ
+first_disagreeing primary image group n = find (disagrees primary image) (range_with_len group n)
 
 -- the writes that the backups of n groups need, from a group on
 abbrev pub steps_from : List ℕ → Image → ℕ → ℕ → Writes

@@ -1,8 +1,8 @@
 use Rattle.std.proofs.Common.{◌≡◌, ◌-◌, ◌≤◌}
 use Rattle.std.specs.Option.{ForSome}
 use Rattle.xfs_disk.specs.Reads.{OnlyReads}
-use Rattle.xfs_mend.specs.Due.{first_disagreeing}
-use Rattle.xfs_mend.proofs.backups.find_disagreeing.Given as goal
+use Rattle.xfs_backups.specs.Backups.{first_disagreeing}
+use Rattle.xfs_backups.proofs.backups.find_disagreeing.Given as goal
 
 abbrev pub invariant-loop-group : goal.invariant-loop-group
 invariant-loop-group g l =

@@ -4,8 +4,7 @@ use Rattle.xfs_disk.specs.Blocks.{Image, bytes_of_block}
 use Rattle.xfs_geom.specs.Superblocks.{is_agreeing}
 use Rattle.xfs_geom.specs.Volumes.{stated_volume}
 use Rattle.xfs_geom.specs.Election.{super_of}
-use Rattle.xfs_mend.specs.Backups.{start_of, step_of, steps_from}
-use Rattle.xfs_mend.specs.Due.{first_disagreeing}
+use Rattle.xfs_backups.specs.Backups.{first_disagreeing, start_of, step_of, steps_from}
 use Rattle.xfs_writing.specs.Writing.{Writes}
 
 -- one more group: its step stands behind the plan

@@ -2,7 +2,7 @@
 
 /// Why a repair ends before anything is written.
 #[derive(Clone, Copy, Debug, PartialEq, Eq)]
-pub(crate) enum MendFault {
+pub enum MendFault {
     /// A read failed.
     ReadFault,
     /// There is not enough memory.

@@ -7,7 +7,7 @@ use Rattle.xfs_geom.specs.Superblocks.{is_agreeing}
 use Rattle.xfs_geom.specs.Volumes.{stated_volume}
 use Rattle.xfs_writing.proofs.Steps.{written-append}
 use Rattle.xfs_geom.specs.Election.{super_of}
-use Rattle.xfs_mend.specs.Backups.{with_super, step_of, start_of, steps_from}
+use Rattle.xfs_backups.specs.Backups.{with_super, step_of, start_of, steps_from}
 use Rattle.xfs_writing.specs.Writing.{Writes, written}
 
 pub block_set_same : (image : Image) (at : ℕ) (bytes : List ℕ) → at < length image → bytes_of_block (slice_set image at bytes) at ≡ bytes

@@ -1,8 +1,8 @@
 use Rattle.std.proofs.Common.{◌≡◌, ℕ, ◌++◌, ◌-◌, ◌<◌, ◌≤◌, All}
 use Rattle.std.specs.Option.{ForSome}
 use Rattle.xfs_disk.specs.Reads.{OnlyReads}
-use Rattle.xfs_mend.specs.Private.Rows.{disagreeing_places}
-use Rattle.xfs_mend.proofs.backups.list_places.Given as goal
+use Rattle.xfs_backups.specs.Private.Rows.{disagreeing_places}
+use Rattle.xfs_backups.proofs.backups.list_places.Given as goal
 
 abbrev pub invariant-loop-group : goal.invariant-loop-group
 invariant-loop-group g l =

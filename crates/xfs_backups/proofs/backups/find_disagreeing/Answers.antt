@@ -1,7 +1,7 @@
 use Rattle.std.proofs.Common.{rules, ◌≡◌, true, false, sym, ◌∙◌}
 use Rattle.xfs_disk.proofs.Reading.{reads_on}
-use Rattle.xfs_mend.proofs.Planning.{agreeing_next, disagreeing_here}
-use Rattle.xfs_mend.proofs.backups.find_disagreeing.Goals as goal
+use Rattle.xfs_backups.proofs.Planning.{agreeing_next, disagreeing_here}
+use Rattle.xfs_backups.proofs.backups.find_disagreeing.Goals as goal
 
 pub loop-group-preserved : goal.loop-group-preserved
 loop-group-preserved g c =

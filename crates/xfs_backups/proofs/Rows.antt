@@ -10,8 +10,8 @@ use Rattle.xfs_geom.specs.Volumes.{stated_volume}
 use Rattle.xfs_geom.specs.Election.{super_of}
 use Rattle.xfs_writing.specs.Writing.{Writes, rows_from, writes_of_rows}
 use Rattle.xfs_writing.proofs.RowSteps.{writes_behind}
-use Rattle.xfs_mend.specs.Backups.{start_of, step_of, steps_from, with_super}
-use Rattle.xfs_mend.specs.Private.Rows.{disagreeing_places}
+use Rattle.xfs_backups.specs.Backups.{start_of, step_of, steps_from, with_super}
+use Rattle.xfs_backups.specs.Private.Rows.{disagreeing_places}
 
 -- one more group: its place stands behind the others, where its backup does not agree
 pub next_place : (primary : List ℕ) (image : Image) (group count at : ℕ) (agreeing : Bool) (before after whole : List ℕ) → group < count

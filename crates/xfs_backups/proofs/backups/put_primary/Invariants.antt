@@ -1,6 +1,6 @@
 use Rattle.std.proofs.Common.{◌≡◌, length, map, take, drop, ◌++◌}
-use Rattle.xfs_mend.specs.Backups.{with_super}
-use Rattle.xfs_mend.proofs.backups.put_primary.Given as goal
+use Rattle.xfs_backups.specs.Backups.{with_super}
+use Rattle.xfs_backups.proofs.backups.put_primary.Given as goal
 
 abbrev pub invariant-loop-i : goal.invariant-loop-i
 invariant-loop-i l =

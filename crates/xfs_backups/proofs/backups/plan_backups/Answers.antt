@@ -4,9 +4,9 @@ use Rattle.xfs_disk.proofs.Reading.{reads_on}
 use Rattle.xfs_writing.specs.Writing.{rows_from, writes_of_rows}
 use Rattle.xfs_writing.specs.declared.rows.Row.{Row}
 use Rattle.xfs_writing.proofs.RowSteps.{rows_at, rows_below}
-use Rattle.xfs_mend.proofs.Rows.{filled_all, filled_count, rows_steps}
-use Rattle.xfs_mend.specs.Backups.{with_super}
-use Rattle.xfs_mend.proofs.backups.plan_backups.Goals as goal
+use Rattle.xfs_backups.proofs.Rows.{filled_all, filled_count, rows_steps}
+use Rattle.xfs_backups.specs.Backups.{with_super}
+use Rattle.xfs_backups.proofs.backups.plan_backups.Goals as goal
 
 pub returns-in-Ok-rows_of-clause-plan : goal.returns-in-Ok-rows_of-clause-plan
 returns-in-Ok-rows_of-clause-plan g c = λ image told.

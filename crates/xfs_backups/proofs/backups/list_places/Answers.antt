@@ -2,9 +2,9 @@
 use Rattle.std.proofs.Common.{rules, ◌≡◌, ℕ, ◌*◌, ◌<◌, ◌∙◌, ap, arith}
 use Rattle.xfs_disk.proofs.Reading.{reads_on}
 use Rattle.xfs_geom.specs.Volumes.{Volume}
-use Rattle.xfs_mend.proofs.Rows.{next_place, one_more_inside}
-use Rattle.xfs_mend.specs.Backups.{start_of}
-use Rattle.xfs_mend.proofs.backups.list_places.Goals as goal
+use Rattle.xfs_backups.proofs.Rows.{next_place, one_more_inside}
+use Rattle.xfs_backups.specs.Backups.{start_of}
+use Rattle.xfs_backups.proofs.backups.list_places.Goals as goal
 
 pub loop-group-preserved : goal.loop-group-preserved
 unfolding start_of

@@ -1,8 +1,8 @@
 -- One more block has the primary.
 use Rattle.std.proofs.Common.{◌<◌, length, arith, rules}
-use Rattle.xfs_mend.proofs.Rows.{next_of_bank}
-use Rattle.xfs_mend.specs.Backups.{with_super}
-use Rattle.xfs_mend.proofs.backups.put_primary.Goals as goal
+use Rattle.xfs_backups.proofs.Rows.{next_of_bank}
+use Rattle.xfs_backups.specs.Backups.{with_super}
+use Rattle.xfs_backups.proofs.backups.put_primary.Goals as goal
 
 pub loop-i-preserved : goal.loop-i-preserved
 loop-i-preserved c =

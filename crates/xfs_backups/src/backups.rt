@@ -10,10 +10,9 @@ ghost use Rattle.xfs_geom.specs.Election.{super_of};
 ghost use Rattle.xfs_disk.specs.Blocks.{bytes_of_block};
 ghost use Rattle.xfs_writing.specs.Writing.{rows_from, writes_of_rows};
 ghost use Rattle.xfs_writing.specs.declared.rows.Row.{Row};
-ghost use Rattle.xfs_mend.specs.Backups.{start_of, steps_from, with_super};
-ghost use Rattle.xfs_mend.specs.Due.{first_disagreeing};
-ghost use Rattle.xfs_mend.specs.Private.Planning.{HasMendCause};
-ghost use Rattle.xfs_mend.specs.Private.Rows.{disagreeing_places};
+ghost use Rattle.xfs_backups.specs.Backups.{first_disagreeing, start_of, steps_from, with_super};
+ghost use Rattle.xfs_backups.specs.Causes.{HasMendCause};
+ghost use Rattle.xfs_backups.specs.Private.Rows.{disagreeing_places};
 
 use crate::faults::MendFault;
 use std::alloc::Global;
@@ -25,13 +24,13 @@ use xfs_writing::Row;
 
 /// What is to be written so that every backup agrees with the primary superblock: blocks, and a row for each in ascending order.
 #[derive(Drop)]
-pub(crate) struct BackupPlan {
-    pub(crate) bank: BlockBank,
-    pub(crate) rows: Vec<Row>,
+pub struct BackupPlan {
+    pub bank: BlockBank,
+    pub rows: Vec<Row>,
 }
 
 /// The writes that make every backup agree with the primary superblock.
-pub(crate) fn plan_backups<D: Disk>(
+pub fn plan_backups<D: Disk>(
     alloc: Global,
     disk: &mut D,
     geometry: &Geometry,
@@ -140,7 +139,7 @@ fn rows_of(alloc: Global, places: &[u64]) -> Result<Vec<Row>, NoMemory>
 }
 
 /// The first allocation group whose backup does not agree with the primary superblock.
-pub(crate) fn find_disagreeing<D: Disk>(
+pub fn find_disagreeing<D: Disk>(
     disk: &mut D,
     geometry: &Geometry,
     primary: &[u8],

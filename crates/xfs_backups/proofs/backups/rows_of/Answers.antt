@@ -2,7 +2,7 @@
 use Rattle.std.proofs.Common.{◌≡◌, [], length, get_or, arith}
 use Rattle.std.proofs.lemmas.List.{get_or_default}
 use Rattle.xfs_writing.proofs.RowSteps.{next_row}
-use Rattle.xfs_mend.proofs.backups.rows_of.Goals as goal
+use Rattle.xfs_backups.proofs.backups.rows_of.Goals as goal
 
 pub loop-place-preserved : goal.loop-place-preserved
 loop-place-preserved c =

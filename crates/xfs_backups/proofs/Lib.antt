@@ -1,0 +1,4 @@
+pub mod Electing
+pub mod Mending
+pub mod Planning
+pub mod Rows

@@ -1,0 +1,3 @@
+pub mod Backups
+pub mod Causes
+pub mod Private
