@@ -81,7 +81,7 @@ def due(tool, answers):
     """The lines that a tool prints: those of its answers, and those of the program, with a hole for each value in them."""
     lines = {line for name in variants(TOOLS[tool]) | {"Usage"} for line in answers[name]
              if not any(line.startswith(later) for later in LATER.values()) and line}
-    program = read("crates/xfs_program/src/image.rt") + read("crates/xfs_program/src/performing.rt")
+    program = read("crates/xfs_system/src/image.rt") + read("crates/xfs_program/src/performing.rt")
     printed = re.findall(r'eprintln!\(host; "([^"]*)"[,)]', program)
     return lines | {re.sub(r"\{\w*\}", HOLE, line) + "\n" for line in printed}
 

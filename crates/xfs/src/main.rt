@@ -3,7 +3,8 @@
 
 use std::process::ExitCode;
 use xfs_disk::FileLibrary;
-use xfs_program::{over_streams, perform};
+use xfs_program::perform;
+use xfs_system::over_streams;
 
 fn main(rt: HostRuntime) -> ExitCode {
     let mut environment = over_streams(FileLibrary::new(&rt), rt.stdin(), rt.stdout(), rt.stderr());

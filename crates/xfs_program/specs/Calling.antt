@@ -7,7 +7,7 @@ use Rattle.xfs_disk.specs.declared.failed.Failed.{Failed}
 use Rattle.xfs_disk.specs.declared.stamp.Stamp.{Stamp}
 use Rattle.xfs_options.specs.DebugWords.{debug_of}
 use Rattle.xfs_options.specs.MakeWords.{make_of}
-use Rattle.xfs_program.specs.declared.environment.Environment.{Environment}
+use Rattle.xfs_system.specs.declared.environment.Environment.{Environment}
 use Rattle.xfs_texts.specs.Lines.{PutsText}
 use Rattle.xfs_tools.specs.Answers.{IsTold, status_of}
 use Rattle.xfs_tools.specs.CommandLine.{is_debugger, is_maker, judged, tells_repair}

@@ -1,5 +1,3 @@
-pub mod Opening
 pub mod Purposes
-pub mod Stamps
 pub mod Calling
 pub mod Performing

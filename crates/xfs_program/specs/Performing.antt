@@ -4,11 +4,11 @@ use Rattle.std.specs.declared.fs.options.OpenOptions.{OpenOptions}
 use Rattle.xfs_options.specs.Words.{Words}
 use Rattle.xfs_disk.specs.declared.stamp.Stamp.{Stamp}
 use Rattle.xfs_program.specs.Calling.{EndsWith}
-use Rattle.xfs_program.specs.Opening.{IsTaken, image_word}
+use Rattle.xfs_system.specs.Opening.{IsTaken, image_word}
 use Rattle.xfs_program.specs.Purposes.{purpose_in}
-use Rattle.xfs_program.specs.Stamps.{IsDrawn}
-use Rattle.xfs_program.specs.declared.purpose.Purpose.{Purpose}
-use Rattle.xfs_program.specs.declared.purpose.Purpose.TheVariants.{Nothing}
+use Rattle.xfs_system.specs.Stamps.{IsDrawn}
+use Rattle.xfs_system.specs.declared.purpose.Purpose.{Purpose}
+use Rattle.xfs_system.specs.declared.purpose.Purpose.TheVariants.{Nothing}
 use Rattle.xfs_tools.specs.declared.answer.Status.{Status}
 
 -- A call was made with the words that were given and a stamp that was drawn: the image of the last word was taken for what the words ask for,

@@ -11,8 +11,8 @@ use Rattle.xfs_tools.specs.Debugging.{asked}
 use Rattle.xfs_tools.specs.HelpWords.{text_asked}
 use Rattle.xfs_tools.specs.declared.command_line.Call.{Call}
 use Rattle.xfs_tools.specs.declared.command_line.Call.TheVariants.{Repair, Refused}
-use Rattle.xfs_program.specs.declared.purpose.Purpose.{Purpose}
-use Rattle.xfs_program.specs.declared.purpose.Purpose.TheVariants.{Nothing, Reads, Writes}
+use Rattle.xfs_system.specs.declared.purpose.Purpose.{Purpose}
+use Rattle.xfs_system.specs.declared.purpose.Purpose.TheVariants.{Nothing, Reads, Writes}
 
 -- that of a call that reads, and may write where this says so
 abbrev pub writing_purpose : Bool → Purpose

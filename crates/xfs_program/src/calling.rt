@@ -3,18 +3,15 @@
 ghost use Rattle.std.specs.Prelude.{◌≡◌, Option};
 ghost use Rattle.std.specs.Process.{exit_status};
 ghost use Rattle.xfs_program.specs.Calling.{EndsWith, IsAnswered};
-ghost use Rattle.xfs_program.specs.Opening.{IsTaken, image_word};
+ghost use Rattle.xfs_system.specs.Opening.{IsTaken, image_word};
 ghost use Rattle.xfs_tools.specs.declared.answer.Status.{Status};
 
-use crate::environment::Environment;
-use crate::host::Host;
-use crate::image::take_image;
-use crate::purpose::Purpose;
 use std::alloc::Global;
 use std::io::Eprint;
 use std::process::ExitCode;
 use std::thread::Threads;
 use xfs_disk::{Disk, Library, NoGate, Sink, Source, Stamp, Word};
+use xfs_system::{Environment, Host, Purpose, take_image};
 use xfs_tools::run;
 
 /// Takes the image that the last word names, lets the tools do what the words say to it, and ends with their status; with 1 where

@@ -6,15 +6,13 @@ ghost use Rattle.xfs_program.specs.Calling.{IsAnswered};
 ghost use Rattle.xfs_program.specs.Performing.{IsPerformed};
 
 use crate::calling::call;
-use crate::environment::Environment;
-use crate::host::Host;
-use crate::purpose::{Purpose, purpose_of};
-use crate::stamping::make_stamp;
+use crate::purpose::purpose_of;
 use std::alloc::Global;
 use std::io::Eprint;
 use std::process::ExitCode;
 use std::thread::Threads;
 use xfs_disk::{Library, Sink, Source};
+use xfs_system::{Environment, Host, Purpose, make_stamp};
 
 /// What is lacking for a call.
 #[derive(Clone, Copy, Debug, PartialEq, Eq)]

@@ -8,18 +8,8 @@ ghost use Rattle.xfs_program.specs.Purposes.{debugger_purpose, maker_purpose, pu
 use std::alloc::{AllocError, Global};
 use xfs_disk::Word;
 use xfs_options::{LineFault, MakeFault, read_debug_words, read_make_words};
+use xfs_system::Purpose;
 use xfs_tools::{Call, is_debugger, is_maker, judge, text_asked};
-
-/// What a call does with its image.
-#[derive(Clone, Copy, Debug, PartialEq, Eq)]
-pub enum Purpose {
-    /// Nothing: the words are refused, or ask for help or the version alone.
-    Nothing,
-    /// It is read.
-    Reads,
-    /// It is read, and may be written.
-    Writes,
-}
 
 /// What a call does with its image.
 pub fn purpose_of(alloc: Global, words: &[Word]) -> Result<Purpose, AllocError>

@@ -1,7 +1,7 @@
 -- The call is made with the words that were given and the stamp that was drawn.
 use Rattle.std.proofs.Common.{ℕ, List, ap, inl, inr, refl, subst, sym, ◌∙◌}
 use Rattle.xfs_program.specs.Purposes.{purpose_in}
-use Rattle.xfs_program.specs.declared.purpose.Purpose.TheVariants.{Nothing}
+use Rattle.xfs_system.specs.declared.purpose.Purpose.TheVariants.{Nothing}
 use Rattle.xfs_program.proofs.performing.attempt.Goals as goal
 
 pub returns-in-Ok-hold_streams-clause-performed : goal.returns-in-Ok-hold_streams-clause-performed

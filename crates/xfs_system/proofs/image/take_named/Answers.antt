@@ -1,8 +1,8 @@
 -- A call that only reads opens its image for that alone.
 use Rattle.std.proofs.Common.{Some, subst, sym}
-use Rattle.xfs_program.specs.Opening.{IsTakenBy}
-use Rattle.xfs_program.specs.declared.purpose.Purpose.{Purpose}
-use Rattle.xfs_program.proofs.image.take_named.Goals as goal
+use Rattle.xfs_system.specs.Opening.{IsTakenBy}
+use Rattle.xfs_system.specs.declared.purpose.Purpose.{Purpose}
+use Rattle.xfs_system.proofs.image.take_named.Goals as goal
 
 pub returns-in-Reads : goal.returns-in-Reads
 returns-in-Reads g c =

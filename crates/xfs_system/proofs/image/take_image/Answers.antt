@@ -1,7 +1,7 @@
 -- The word that is taken is the last.
 use Rattle.std.proofs.Common.{ℕ, List, Option, subst}
-use Rattle.xfs_program.specs.Opening.{IsTaken}
-use Rattle.xfs_program.proofs.image.take_image.Goals as goal
+use Rattle.xfs_system.specs.Opening.{IsTaken}
+use Rattle.xfs_system.proofs.image.take_image.Goals as goal
 
 pub returns-in-Some : goal.returns-in-Some
 returns-in-Some g c =

@@ -2,7 +2,7 @@
 
 ghost use Rattle.std.specs.Prelude.{◌≡◌, ℕ, ◌<◌, ◌^◌, ◌/◌, ◌%◌, ◌-◌, min, IfOk};
 ghost use Rattle.std.specs.Duration.{as_nanos};
-ghost use Rattle.xfs_program.specs.Stamps.{IsDrawn, IsStampOf};
+ghost use Rattle.xfs_system.specs.Stamps.{IsDrawn, IsStampOf};
 
 use crate::host::Host;
 use std::io;

@@ -2,8 +2,8 @@
 use Rattle.std.specs.Prelude.{ℕ, ◌-◌, ◌⊎◌, Bool, true, false, List, length, Option, Some, None, slice_get, IsUtf8}
 use Rattle.std.specs.Fs.{new_options, with_read, with_write}
 use Rattle.std.specs.declared.fs.options.OpenOptions.{OpenOptions}
-use Rattle.xfs_program.specs.declared.purpose.Purpose.{Purpose}
-use Rattle.xfs_program.specs.declared.purpose.Purpose.TheVariants.{Nothing, Reads, Writes}
+use Rattle.xfs_system.specs.declared.purpose.Purpose.{Purpose}
+use Rattle.xfs_system.specs.declared.purpose.Purpose.TheVariants.{Nothing, Reads, Writes}
 
 -- the file is there, keeps what it holds, and is read alone: it is neither made, nor cut short, nor appended to
 abbrev pub for_reading : OpenOptions

@@ -1,7 +1,7 @@
 //! The image file that a command line names.
 
 ghost use Rattle.std.specs.Prelude.{◌≡◌, Bool, IsTrue, IfOk, OnErr};
-ghost use Rattle.xfs_program.specs.Opening.{IsHad, IsImageOf, IsLost, IsTaken, IsTakenBy, for_reading, for_writing, image_word};
+ghost use Rattle.xfs_system.specs.Opening.{IsHad, IsImageOf, IsLost, IsTaken, IsTakenBy, for_reading, for_writing, image_word};
 
 use crate::host::Host;
 use crate::purpose::Purpose;
