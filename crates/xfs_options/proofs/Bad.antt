@@ -3,7 +3,7 @@ use Rattle.std.proofs.Common.{◌≡◌, ℕ, zero, suc, ◌+◌, ◌<◌, ◌�
 use Rattle.std.proofs.Math.Seq.{take-suc}
 use Rattle.std.proofs.lemmas.List.{append-nil}
 use Rattle.std.specs.List.{find, list_any, slice_get}
-use Rattle.xfs_options.specs.SubOptions.{all_sub_options, first_bad, fits, item_form, is_item_of, is_fine, is_fine_as, is_list_letter, items_from, items_in, items_given, opposes, value_text, rival_of, sub_of}
+use Rattle.xfs_options.specs.SubOptions.{all_sub_options, first_bad, fits, item_form, is_item_of, is_fine, is_fine_as, is_list_letter, items_from, items_in, items_given, opposes, given_text, rival_of, sub_of}
 use Rattle.xfs_options.specs.declared.items.OptionItem.{OptionItem}
 use Rattle.xfs_options.specs.declared.reading.Given.{Given}
 use Rattle.xfs_options.specs.declared.sub_options.SubOption.{SubOption}

@@ -1,7 +1,7 @@
 -- The number of the first bad item is small: each item before it gives another of the sub-options.
 use Rattle.std.proofs.Common.{◌≡◌, ℕ, ◌+◌, ◌≤◌, ◌==◌, Bool, true, false, ◌&&◌, ◌||◌, not, cond, List, [], ◌∷◌, ◌++◌, length, Option, Some, None, refl, sym, ap, ◌∙◌, subst, length-append, arith}
 use Rattle.std.specs.List.{find, list_any}
-use Rattle.xfs_options.specs.SubOptions.{all_sub_options, first_bad, fits, item_form, is_item_of, is_fine, is_fine_as, is_list_letter, items_from, items_in, items_given, new_item, opposes, value_text, rival_of, sub_of}
+use Rattle.xfs_options.specs.SubOptions.{all_sub_options, first_bad, fits, item_form, is_item_of, is_fine, is_fine_as, is_list_letter, items_from, items_in, items_given, new_item, opposes, given_text, rival_of, sub_of}
 use Rattle.xfs_options.specs.declared.items.OptionItem.{OptionItem}
 use Rattle.xfs_options.specs.declared.reading.Given.{Given}
 use Rattle.xfs_options.specs.declared.sub_options.SubOption.{SubOption}
@@ -107,7 +107,7 @@ fine_falls before item fine = by_sub (sub_of item) refl fine
     by_sub (Some sub) is fine =
         untaken_falls all_sub_options before item sub is
         (unopposed sub before
-        (not_true (list_any (opposes sub) before) (and_right (fits (item_form sub) (value_text sub item)) (not (list_any (opposes sub) before)) fine)))
+        (not_true (list_any (opposes sub) before) (and_right (fits (item_form sub) (given_text sub item)) (not (list_any (opposes sub) before)) fine)))
 
 -- the numbers of items are no more than those of their places
 Numbered : ℕ → List OptionItem → Type 0

@@ -4,7 +4,7 @@ use Rattle.std.specs.List.{find, slice_get}
 use Rattle.xfs_options.specs.Identifiers.{identifier_of}
 use Rattle.xfs_options.specs.Numbers.{bounded_number}
 use Rattle.xfs_options.specs.Sizes.{blocks_of_text}
-use Rattle.xfs_options.specs.SubOptions.{first_bad, is_item_of, is_fine, items_given, value_text}
+use Rattle.xfs_options.specs.SubOptions.{first_bad, is_item_of, is_fine, items_given, given_text}
 use Rattle.xfs_options.specs.Words.{Words, is_given, options_of}
 use Rattle.xfs_options.specs.declared.items.OptionItem.{OptionItem}
 use Rattle.xfs_options.specs.declared.make_words.MakeFault.{MakeFault}
@@ -43,7 +43,7 @@ last_value letter given = last_from letter None given
 -- what stands behind the text of a sub-option in the item that gives it
 abbrev pub value_of_item : SubOption → Option OptionItem → Option (List ℕ)
 value_of_item sub None = None
-value_of_item sub (Some item) = Some (value_text sub item)
+value_of_item sub (Some item) = Some (given_text sub item)
 
 abbrev pub value_in : SubOption → List OptionItem → Option (List ℕ)
 value_in sub items = value_of_item sub (find (is_item_of sub) items)

@@ -84,12 +84,12 @@ abbrev pub opposes : SubOption → OptionItem → Bool
 opposes sub item = is_item_of sub item || is_item_of (rival_of sub) item
 
 -- what stands behind the text of the sub-option
-abbrev pub value_text : SubOption → OptionItem → List ℕ
-value_text sub item = drop (length (item_text sub)) item.text
+abbrev pub given_text : SubOption → OptionItem → List ℕ
+given_text sub item = drop (length (item_text sub)) item.text
 
 abbrev pub is_fine_as : Option SubOption → List OptionItem → OptionItem → Bool
 is_fine_as None before item = false
-is_fine_as (Some sub) before item = fits (item_form sub) (value_text sub item) && not (list_any (opposes sub) before)
+is_fine_as (Some sub) before item = fits (item_form sub) (given_text sub item) && not (list_any (opposes sub) before)
 
 -- the item can stand behind these: it gives a sub-option in its form, and none of these opposes it
 abbrev pub is_fine : List OptionItem → OptionItem → Bool

@@ -3,7 +3,7 @@
 ghost use Rattle.std.specs.Prelude.{◌≡◌, ◌++◌, ◌==◌, [], length, not, drop, IfOk};
 ghost use Rattle.std.specs.List.{list_any};
 ghost use Rattle.std.specs.Option.{option_copied};
-ghost use Rattle.xfs_options.specs.SubOptions.{first_bad, fits, item_form, is_fine, is_fine_as, is_list_letter, items_from, items_in, items_given, new_item, opposes, value_text};
+ghost use Rattle.xfs_options.specs.SubOptions.{first_bad, fits, item_form, is_fine, is_fine_as, is_list_letter, items_from, items_in, items_given, new_item, opposes, given_text};
 
 use crate::reading::Given;
 use crate::sub_options::SubOption;
@@ -107,13 +107,13 @@ fn is_fine(before: &[OptionItem], item: &OptionItem) -> bool
 {
     match SubOption::of(item) {
         None => false,
-        Some(sub) => sub.form().fits(value_text(sub, item)) && !is_opposed(sub, before),
+        Some(sub) => sub.form().fits(given_text(sub, item)) && !is_opposed(sub, before),
     }
 }
 
 /// What stands behind the text of the sub-option that an item gives.
-pub(crate) fn value_text(sub: SubOption, item: &OptionItem) -> &[u8]
-    ensures { result.now ≡ value_text sub item.now }
+pub(crate) fn given_text(sub: SubOption, item: &OptionItem) -> &[u8]
+    ensures { result.now ≡ given_text sub item.now }
 {
     let text = item.text.bytes();
     let size = sub.text().len();

@@ -8,7 +8,7 @@ ghost use Rattle.xfs_options.specs.SubOptions.{first_bad, items_given, sub_of};
 ghost use Rattle.xfs_options.specs.Words.{OffendsFirst};
 
 use crate::identifiers::identifier;
-use crate::items::{OptionItem, first_bad, items_given, value_text};
+use crate::items::{OptionItem, first_bad, given_text, items_given};
 use crate::numbers::number;
 use crate::options::{OptionRow, ValueForm};
 use crate::reading::{Given, LineFault, is_given, read_options};
@@ -263,7 +263,7 @@ fn value_in(items: &[OptionItem], sub: SubOption) -> Option<&[u8]>
 {
     for item in items {
         if sub.is_given(item) {
-            return Some(value_text(sub, item));
+            return Some(given_text(sub, item));
         }
     }
     None
