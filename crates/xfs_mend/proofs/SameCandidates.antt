@@ -41,9 +41,9 @@ use Rattle.xfs_frames.proofs.FilesStay.{file_stays, free_stays}
 use Rattle.xfs_frames.proofs.GroupsStay.{group_kept}
 use Rattle.xfs_frames.proofs.SlotsStay.{claims_same, slot_same, slot_stays}
 use Rattle.xfs_frames.proofs.Unfixed.{headers_same, trees_same, unfixed_same}
-use Rattle.xfs_scan.specs.Gathered.{feature_if, first_feature}
+use Rattle.xfs_slots.specs.Gathered.{feature_if, first_feature}
 use Rattle.xfs_scan.specs.Refused.{feature_refused, refused, refused_late, unless_more}
-use Rattle.xfs_scan.specs.declared.inodes.InodeFeature.{InodeFeature}
+use Rattle.xfs_slots.specs.declared.inodes.InodeFeature.{InodeFeature}
 
 -- lists by tests and functions that agree on what the lists have
 all_agree : {X : Type 0} (p q : X → Bool) (xs : List X) → ((x : X) → Member x xs → p x ≡ q x) → list_all p xs ≡ list_all q xs

@@ -13,16 +13,16 @@ use Rattle.xfs_image.specs.Directories.{dirs_read, entries_read}
 use Rattle.xfs_image.specs.Slots.{cluster_inodes}
 use Rattle.xfs_image.specs.View.{log_of, view}
 use Rattle.xfs_scan.specs.Evidence.{AreSeen, SeesInodes, IsEvidence, joined_parts, view_seen}
-use Rattle.xfs_scan.specs.Facts.{slot_facts}
-use Rattle.xfs_scan.specs.Gathered.{Gathered, bare_inodes, first_feature, gathered, held_in}
+use Rattle.xfs_slots.specs.Facts.{slot_facts}
+use Rattle.xfs_slots.specs.Gathered.{Gathered, bare_inodes, first_feature, gathered, held_in}
 use Rattle.xfs_scan.specs.Refused.{extents_of, feature_refused, refused_late, unless_more}
 use Rattle.xfs_scan.specs.declared.evidence.Seen.{Seen}
-use Rattle.xfs_scan.specs.declared.facts.SlotFact.{SlotFact}
-use Rattle.xfs_scan.specs.declared.inodes.Inodes.{Inodes}
+use Rattle.xfs_slots.specs.declared.facts.SlotFact.{SlotFact}
+use Rattle.xfs_slots.specs.declared.inodes.Inodes.{Inodes}
 use Rattle.xfs_scan.specs.Answers.{IsRefusal}
 use Rattle.xfs_scan.specs.declared.faults.ScanFault.{ScanFault}
 use Rattle.xfs_scan.specs.declared.faults.ScanFault.TheVariants as faults
-use Rattle.xfs_scan.proofs.Gathering.{all_bare, all_files, dirs_of_files, entries_of_files, first_found}
+use Rattle.xfs_slots.proofs.Gathering.{all_bare, all_files, dirs_of_files, entries_of_files, first_found}
 
 -- the slots of candidates
 pub of_candidates : (v : Volume) (image : Image) (clusters : List ClusterRec) (held : Gathered) → clusters ≡ candidates v image

@@ -10,8 +10,8 @@ use Rattle.xfs_image.specs.Files.{clusters_of, files_at, files_read, inodes_of}
 use Rattle.xfs_image.specs.Groups.{groups_read}
 use Rattle.std.specs.List.{flat_map}
 use Rattle.xfs_image.specs.Slots.{cluster_inodes}
-use Rattle.xfs_scan.specs.Gathered.{Gathered, files_if, gathered}
-use Rattle.xfs_scan.proofs.Gathering.{files_read_so}
+use Rattle.xfs_slots.specs.Gathered.{Gathered, files_if, gathered}
+use Rattle.xfs_slots.proofs.Gathering.{files_read_so}
 use Rattle.xfs_image.specs.View.{catalog_of, if_read, view}
 
 pub group_missing : (g : Geometry) (image : Image) (found : Finding) → Err found ≡ groups_read (volume_of g) image → Err found ≡ view g image

@@ -1,8 +1,8 @@
 -- Why no evidence is gathered.
 use Rattle.std.specs.Prelude.{◌≡◌, ℕ, ◌≤◌, Option, Some, None, Result, MatchResult, ⊤}
 use Rattle.xfs_disk.specs.Faults.{Rose}
-use Rattle.xfs_scan.specs.declared.faults.PartFault.{PartFault}
-use Rattle.xfs_scan.specs.declared.faults.PartFault.TheVariants as errors
+use Rattle.xfs_slots.specs.declared.faults.PartFault.{PartFault}
+use Rattle.xfs_slots.specs.declared.faults.PartFault.TheVariants as errors
 use Rattle.xfs_scan.specs.declared.faults.ScanFault.{ScanFault}
 use Rattle.xfs_scan.specs.declared.faults.ScanFault.TheVariants as faults
 
@@ -26,14 +26,7 @@ IsRefusal due faults.NoMemory = ⊤
 abbrev pub HasRefused : {T : Type 0} → Option ScanFault → Result T ScanFault → Type 0
 HasRefused due result = MatchResult result (λ _. due ≡ None) (IsRefusal due)
 
--- the same of what is read on the way
-abbrev pub IsReadCause : ℕ → ℕ → PartFault → Type 0
-IsReadCause before now errors.ReadFault = Rose before now
-IsReadCause before now errors.NoMemory = before ≤ now
-
-abbrev pub HasReadCause : {T : Type 0} → ℕ → ℕ → Result T PartFault → Type 0
-HasReadCause before now result = MatchResult result (λ _. before ≤ now) (IsReadCause before now)
-
+-- the fault of a part, as the answer of the whole
 abbrev pub scan_fault_of : PartFault → ScanFault
 scan_fault_of errors.ReadFault = faults.ReadFault
 scan_fault_of errors.NoMemory = faults.NoMemory

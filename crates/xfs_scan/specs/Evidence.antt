@@ -15,16 +15,16 @@ use Rattle.xfs_image.specs.Candidates.{candidates}
 use Rattle.xfs_image.specs.Claims.{candidate_files}
 use Rattle.xfs_image.specs.Directories.{dirs_read, entries_read}
 use Rattle.xfs_image.specs.View.{log_of, view}
-use Rattle.xfs_scan.specs.Facts.{slot_facts}
-use Rattle.xfs_scan.specs.Gathered.{bare_inodes}
+use Rattle.xfs_slots.specs.Facts.{slot_facts}
+use Rattle.xfs_slots.specs.Gathered.{bare_inodes}
 use Rattle.xfs_dirdata.specs.declared.records.EntryRec.{EntryRec}
 use Rattle.xfs_volume.specs.declared.directories.DirRec.{DirRec}
 use Rattle.xfs_volume.specs.declared.files.FileRec.{FileRec}
 use Rattle.xfs_scan.specs.declared.evidence.Evidence.{Evidence}
 use Rattle.xfs_scan.specs.declared.evidence.Seen.{Seen}
 use Rattle.xfs_scan.specs.declared.evidence.Seen.TheVariants as Sight
-use Rattle.xfs_scan.specs.declared.facts.SlotFact.{SlotFact}
-use Rattle.xfs_scan.specs.declared.inodes.Inodes.{Inodes}
+use Rattle.xfs_slots.specs.declared.facts.SlotFact.{SlotFact}
+use Rattle.xfs_slots.specs.declared.inodes.Inodes.{Inodes}
 
 -- the files of an evidence, their entries and their directories: those of the catalog, where they are that catalog's
 abbrev pub files_seen : Seen → List FileRec

@@ -1,5 +1,3 @@
 pub mod Answers
-pub mod Gathered
 pub mod Refused
 pub mod Evidence
-pub mod Facts

@@ -5,10 +5,10 @@ use Rattle.xfs_disk.specs.Blocks.{Image}
 use Rattle.xfs_geom.specs.Volumes.{Volume}
 use Rattle.xfs_volume.specs.declared.files.FileRec.{FileRec}
 use Rattle.xfs_image.specs.Claims.{candidate_inodes, entry_count, total_extents, inode_count}
-use Rattle.xfs_scan.specs.Gathered.{first_feature}
+use Rattle.xfs_slots.specs.Gathered.{first_feature}
 use Rattle.xfs_scan.specs.declared.faults.ScanFault.{ScanFault}
 use Rattle.xfs_scan.specs.declared.faults.ScanFault.TheVariants as faults
-use Rattle.xfs_scan.specs.declared.inodes.InodeFeature.{InodeFeature}
+use Rattle.xfs_slots.specs.declared.inodes.InodeFeature.{InodeFeature}
 
 -- the extents of both forks of a file
 abbrev pub extents_of : FileRec → ℕ

@@ -3,11 +3,11 @@
 ghost use Rattle.std.specs.Prelude.{◌≡◌};
 ghost use Rattle.xfs_scan.specs.Evidence.{dirs_seen, entries_seen, files_seen, view_seen};
 
-use crate::facts::SlotFact;
 use xfs_dirdata::EntryRec;
 use xfs_groups::GroupTrees;
 use xfs_heads::LogState;
 use xfs_image::Finding;
+use xfs_slots::SlotFact;
 use xfs_volume::{Blocks, Catalog, ClusterRec, DirRec, FileRec, Records};
 
 /// All that a repair goes by.

@@ -3,6 +3,8 @@
 ghost use Rattle.std.specs.Prelude.{◌≡◌};
 ghost use Rattle.xfs_scan.specs.Answers.{scan_fault_of};
 
+use xfs_slots::PartFault;
+
 /// Why no evidence is gathered.
 #[derive(Clone, Copy, Debug, PartialEq, Eq)]
 pub enum ScanFault {
@@ -18,23 +20,12 @@ pub enum ScanFault {
     NoMemory,
 }
 
-/// Why something is not read.
-#[derive(Clone, Copy, Debug, PartialEq, Eq)]
-pub(crate) enum PartFault {
-    /// A read failed.
-    ReadFault,
-    /// There is not enough memory.
-    NoMemory,
-}
-
-impl PartFault {
-    /// The same, as the answer of the whole.
-    pub(crate) fn answer(self) -> ScanFault
-        ensures { result ≡ scan_fault_of self }
-    {
-        match self {
-            PartFault::ReadFault => ScanFault::ReadFault,
-            PartFault::NoMemory => ScanFault::NoMemory,
-        }
+/// The fault of a part, as the answer of the whole.
+pub(crate) fn answer(fault: PartFault) -> ScanFault
+    ensures { result ≡ scan_fault_of fault }
+{
+    match fault {
+        PartFault::ReadFault => ScanFault::ReadFault,
+        PartFault::NoMemory => ScanFault::NoMemory,
     }
 }

@@ -6,16 +6,15 @@ ghost use Rattle.xfs_geom.specs.Volumes.{volume_of};
 ghost use Rattle.xfs_disk.specs.Reads.{OnlyReads};
 ghost use Rattle.xfs_groups.specs.Answers.{EndBelow};
 ghost use Rattle.xfs_image.specs.Claims.{candidate_inodes};
-ghost use Rattle.xfs_scan.specs.Answers.{HasReadCause, HasRefused, HasScanCause};
+ghost use Rattle.xfs_scan.specs.Answers.{HasRefused, HasScanCause};
+ghost use Rattle.xfs_slots.specs.Causes.{HasReadCause};
 ghost use Rattle.xfs_scan.specs.Evidence.{AreSeen, IsEvidence, joined_parts};
-ghost use Rattle.xfs_scan.specs.Facts.{slot_facts};
-ghost use Rattle.xfs_scan.specs.Gathered.{gathered, held_in};
+ghost use Rattle.xfs_slots.specs.Facts.{slot_facts};
+ghost use Rattle.xfs_slots.specs.Gathered.{gathered, held_in};
 ghost use Rattle.xfs_scan.specs.Refused.{refused, refused_late};
 
 use crate::evidence::{Evidence, Seen};
-use crate::facts::SlotFact;
-use crate::faults::{PartFault, ScanFault};
-use crate::inodes::Inodes;
+use crate::faults::{ScanFault, answer};
 use crate::limits::{INODES, MOST_INODES, count_extents, count_inodes, refusal};
 use crate::scan::{ScannedSlots, scan};
 use crate::view::see_view;
@@ -27,6 +26,7 @@ use xfs_groups::{GroupTrees, Groups, GroupsFault, see_groups};
 use xfs_heads::LogState;
 use xfs_journal::{JournalFault, read_log};
 use xfs_runs::Steps;
+use xfs_slots::{Inodes, PartFault, SlotFact};
 use xfs_volume::{Blocks, ClusterRec, Records};
 
 /// The evidence of the volume that a disk holds. `ReadFault` only where a read failed. Each block that is read counts as a
@@ -77,7 +77,7 @@ fn gather_files<D: Disk, L: Ledger>(
 {
     let scanned = match scan(alloc, g, disk, seen.clusters.as_slice(), steps) {
         Ok(scanned) => scanned,
-        Err(error) => return Err(error.answer()),
+        Err(error) => return Err(answer(error)),
     };
     // More extents than eight bytes can count are more than any memory holds.
     let Some(extents) = count_extents(&scanned.inodes.files) else {
@@ -91,7 +91,7 @@ fn gather_files<D: Disk, L: Ledger>(
         Some(fault) => Err(fault),
         None => match gather_view(alloc, g, disk, seen, scanned, steps) {
             Ok(evidence) => Ok(evidence),
-            Err(error) => Err(error.answer()),
+            Err(error) => Err(answer(error)),
         },
     }
 }

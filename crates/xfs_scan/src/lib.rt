@@ -17,20 +17,13 @@
 //! ```
 #![tactic(auto)]
 
-mod blocks;
-mod clusters;
 mod evidence;
-mod facts;
 mod faults;
 mod gather_evidence;
-mod inodes;
 mod limits;
-mod recorded;
 mod scan;
-mod slots;
 mod view;
 
 pub use evidence::{Evidence, Lists, Seen};
-pub use facts::{SlotFact, SlotReading};
 pub use faults::ScanFault;
 pub use gather_evidence::gather;

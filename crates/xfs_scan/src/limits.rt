@@ -7,8 +7,8 @@ ghost use Rattle.xfs_groups.specs.Answers.{EndBelow};
 ghost use Rattle.xfs_scan.specs.Refused.{extents_of, feature_refused, unless_more};
 
 use crate::faults::ScanFault;
-use crate::inodes::InodeFeature;
 use xfs_geom::Geometry;
+use xfs_slots::InodeFeature;
 use xfs_volume::{ClusterRec, FileRec};
 
 /// The most inodes of clusters, extents of files and entries of directories.

@@ -8,20 +8,16 @@ ghost use Rattle.xfs_disk.specs.Reads.{OnlyReads};
 ghost use Rattle.xfs_volume.specs.declared.clusters.ClusterRec.{ClusterRec};
 ghost use Rattle.xfs_image.specs.Slots.{cluster_inodes, inodes_of_block};
 ghost use Rattle.xfs_groups.specs.Answers.{EndBelow};
-ghost use Rattle.xfs_scan.specs.Answers.{HasReadCause};
-ghost use Rattle.xfs_scan.specs.Facts.{slot_fact};
-ghost use Rattle.xfs_scan.specs.Gathered.{gathered, held_in, inodes_of_blocks, gathered_both};
+ghost use Rattle.xfs_slots.specs.Causes.{HasReadCause};
+ghost use Rattle.xfs_slots.specs.Facts.{slot_fact};
+ghost use Rattle.xfs_slots.specs.Gathered.{gathered, held_in, inodes_of_blocks, gathered_both};
 
-use crate::blocks::blocks_of_candidates;
-use crate::clusters::see_block;
-use crate::facts::{SlotFact, push_facts};
-use crate::faults::PartFault;
-use crate::inodes::Inodes;
 use std::alloc::Global;
 use std::sync::ledger::Ledger;
 use xfs_disk::{BLOCK_SIZE, Disk, Failed, NoMemory};
 use xfs_geom::Geometry;
 use xfs_runs::Steps;
+use xfs_slots::{Inodes, PartFault, SlotFact, blocks_of_candidates, push_facts, see_block};
 use xfs_volume::ClusterRec;
 
 /// What is kept of the slots of clusters, and what they give.

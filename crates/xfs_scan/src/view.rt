@@ -15,16 +15,11 @@ ghost use Rattle.xfs_image.specs.Files.{clusters_of};
 ghost use Rattle.xfs_image.specs.Groups.{groups_read};
 ghost use Rattle.xfs_image.specs.Slots.{cluster_inodes, inodes_of_block};
 ghost use Rattle.xfs_image.specs.View.{catalog_of, counts_of, log_of, view};
-ghost use Rattle.xfs_scan.specs.Answers.{HasReadCause};
+ghost use Rattle.xfs_slots.specs.Causes.{HasReadCause};
 ghost use Rattle.xfs_scan.specs.Evidence.{SeesInodes, view_seen};
-ghost use Rattle.xfs_scan.specs.Gathered.{gathered, held_in, inodes_of_blocks, gathered_both};
+ghost use Rattle.xfs_slots.specs.Gathered.{gathered, held_in, inodes_of_blocks, gathered_both};
 
-use crate::blocks::blocks_of;
-use crate::clusters::see_block;
 use crate::evidence::{Lists, Seen};
-use crate::faults::PartFault;
-use crate::inodes::Inodes;
-use crate::recorded::clusters_of;
 use std::alloc::Global;
 use std::sync::ledger::Ledger;
 use xfs_disk::{BLOCK_SIZE, Disk, Failed, NoMemory};
@@ -34,6 +29,7 @@ use xfs_heads::LogState;
 use xfs_image::Finding;
 use xfs_journal::{JournalFault, read_lsns};
 use xfs_runs::Steps;
+use xfs_slots::{Inodes, PartFault, blocks_of, clusters_of, see_block};
 use xfs_volume::{Catalog, ClusterRec, GroupRec, Records};
 
 /// The most groups that a volume has.

@@ -1,10 +1,10 @@
 use Rattle.std.proofs.Common.{length, sym, ap, ◌∙◌}
 use Rattle.xfs_geom.specs.Volumes.{volume_of}
 use Rattle.std.specs.List.{sum_by}
-use Rattle.xfs_scan.specs.Gathered.{held_in}
+use Rattle.xfs_slots.specs.Gathered.{held_in}
 use Rattle.xfs_scan.specs.Refused.{extents_of, refused_late}
 use Rattle.xfs_disk.proofs.Reading.{reads_on}
-use Rattle.xfs_scan.proofs.Kept.{facts_of_candidates}
+use Rattle.xfs_slots.proofs.Kept.{facts_of_candidates}
 use Rattle.xfs_scan.proofs.Refusing.{late_is, of_candidates, refusal_from}
 use Rattle.xfs_scan.proofs.gather_evidence.gather_files.Goals as goal
 

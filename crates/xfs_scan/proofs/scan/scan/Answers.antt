@@ -1,9 +1,9 @@
 use Rattle.std.proofs.Common.{ℕ, List, [], ◌++◌, map, ap, ◌∙◌}
 use Rattle.xfs_geom.specs.Volumes.{volume_of}
-use Rattle.xfs_scan.specs.Facts.{slot_fact}
-use Rattle.xfs_scan.specs.Gathered.{Gathered, gathered, inodes_of_blocks, gathered_both}
-use Rattle.xfs_scan.specs.declared.facts.SlotFact.{SlotFact}
-use Rattle.xfs_scan.proofs.Rests.{inodes_of_candidates}
+use Rattle.xfs_slots.specs.Facts.{slot_fact}
+use Rattle.xfs_slots.specs.Gathered.{Gathered, gathered, inodes_of_blocks, gathered_both}
+use Rattle.xfs_slots.specs.declared.facts.SlotFact.{SlotFact}
+use Rattle.xfs_slots.proofs.Rests.{inodes_of_candidates}
 use Rattle.xfs_scan.proofs.scan.scan.Goals as goal
 
 pub returns-in-Ok-scan_blocks-clause-slots : goal.returns-in-Ok-scan_blocks-clause-slots

@@ -1,5 +1,5 @@
 use Rattle.std.proofs.Common.{sym, ◌∙◌}
-use Rattle.xfs_scan.proofs.Rests.{read_bytes}
+use Rattle.xfs_slots.proofs.Rests.{read_bytes}
 use Rattle.xfs_scan.proofs.scan.scan_block.Goals as goal
 
 pub see_block-requires-clause-held : goal.see_block-requires-clause-held

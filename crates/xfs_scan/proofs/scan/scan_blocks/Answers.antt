@@ -3,11 +3,11 @@ use Rattle.std.specs.List.{flat_map}
 use Rattle.std.proofs.lemmas.List.{drop_more}
 use Rattle.xfs_geom.specs.Volumes.{volume_of}
 use Rattle.xfs_image.specs.Slots.{inodes_of_block}
-use Rattle.xfs_scan.specs.Gathered.{held_in, inodes_of_blocks}
-use Rattle.xfs_scan.proofs.Gathering.{slots_end, slots_more}
-use Rattle.xfs_scan.proofs.Kept.{facts_end, facts_more}
+use Rattle.xfs_slots.specs.Gathered.{held_in, inodes_of_blocks}
+use Rattle.xfs_slots.proofs.Gathering.{slots_end, slots_more}
+use Rattle.xfs_slots.proofs.Kept.{facts_end, facts_more}
 use Rattle.xfs_disk.proofs.Reading.{reads_on}
-use Rattle.xfs_scan.proofs.Rests.{none_left}
+use Rattle.xfs_slots.proofs.Rests.{none_left}
 use Rattle.xfs_scan.proofs.scan.scan_blocks.Goals as goal
 
 pub loop-block-preserved : goal.loop-block-preserved

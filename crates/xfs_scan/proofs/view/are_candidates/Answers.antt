@@ -1,5 +1,5 @@
 use Rattle.std.proofs.Common.{false, rules}
-use Rattle.xfs_scan.proofs.Rests.{agree_before}
+use Rattle.xfs_slots.proofs.Rests.{agree_before}
 use Rattle.xfs_scan.proofs.view.are_candidates.Goals as goal
 
 pub loop-i-preserved : goal.loop-i-preserved

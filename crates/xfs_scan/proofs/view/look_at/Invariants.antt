@@ -2,7 +2,7 @@ use Rattle.std.proofs.Common.{◌≡◌, ◌≤◌, drop}
 use Rattle.std.specs.Option.{ForSome}
 use Rattle.xfs_geom.specs.Volumes.{volume_of}
 use Rattle.xfs_disk.specs.Reads.{OnlyReads}
-use Rattle.xfs_scan.specs.Gathered.{gathered, held_in, inodes_of_blocks, gathered_both}
+use Rattle.xfs_slots.specs.Gathered.{gathered, held_in, inodes_of_blocks, gathered_both}
 use Rattle.xfs_scan.proofs.view.look_at.Given as goal
 
 abbrev pub invariant-loop-block : goal.invariant-loop-block

@@ -1,8 +1,8 @@
 use Rattle.std.proofs.Common.{ℕ, None, sym, ap, ◌∙◌}
 use Rattle.xfs_geom.specs.Volumes.{volume_of}
-use Rattle.xfs_scan.specs.Gathered.{held_in, gathered_both, of_none}
-use Rattle.xfs_scan.proofs.Outside.{none_read}
-use Rattle.xfs_scan.proofs.Rests.{read_bytes}
+use Rattle.xfs_slots.specs.Gathered.{held_in, gathered_both, of_none}
+use Rattle.xfs_slots.proofs.Outside.{none_read}
+use Rattle.xfs_slots.proofs.Rests.{read_bytes}
 use Rattle.xfs_scan.proofs.view.look_at_block.Goals as goal
 
 pub returns-then-block-g-clause-held : goal.returns-then-block-g-clause-held

@@ -1,7 +1,7 @@
 use Rattle.std.proofs.Common.{ℕ, List, ap, ◌∙◌}
 use Rattle.xfs_geom.specs.Volumes.{volume_of}
-use Rattle.xfs_scan.specs.Gathered.{Gathered, gathered, inodes_of_blocks, gathered_both}
-use Rattle.xfs_scan.proofs.Rests.{inodes_of_firsts}
+use Rattle.xfs_slots.specs.Gathered.{Gathered, gathered, inodes_of_blocks, gathered_both}
+use Rattle.xfs_slots.proofs.Rests.{inodes_of_firsts}
 use Rattle.xfs_scan.proofs.view.see_clusters.Goals as goal
 
 pub returns-in-Ok-look_at-clause-inodes : goal.returns-in-Ok-look_at-clause-inodes

@@ -3,8 +3,8 @@ use Rattle.std.specs.List.{flat_map}
 use Rattle.xfs_geom.specs.Volumes.{volume_of}
 use Rattle.xfs_image.specs.Directories.{dirs_read, entries_read}
 use Rattle.xfs_image.specs.Slots.{cluster_inodes}
-use Rattle.xfs_scan.specs.Gathered.{Gathered, files_if, held_in}
-use Rattle.xfs_scan.proofs.Gathering.{dirs_of_files, entries_of_files}
+use Rattle.xfs_slots.specs.Gathered.{Gathered, files_if, held_in}
+use Rattle.xfs_slots.proofs.Gathering.{dirs_of_files, entries_of_files}
 use Rattle.xfs_scan.proofs.Views.{all_read, file_missing, files_held}
 use Rattle.xfs_scan.proofs.view.see_same.Goals as goal
 

@@ -1,7 +1,7 @@
 use Rattle.std.proofs.Common.{sym, ◌∙◌}
 use Rattle.xfs_geom.specs.Volumes.{volume_of}
-use Rattle.xfs_scan.specs.Gathered.{held_in}
-use Rattle.xfs_scan.proofs.Rests.{given_by_candidates}
+use Rattle.xfs_slots.specs.Gathered.{held_in}
+use Rattle.xfs_slots.proofs.Rests.{given_by_candidates}
 use Rattle.xfs_scan.proofs.view.see_with_groups.Goals as goal
 
 pub see_same-requires-clause-inodes : goal.see_same-requires-clause-inodes

@@ -1,0 +1,4 @@
+pub mod Gathering
+pub mod Kept
+pub mod Outside
+pub mod Rests

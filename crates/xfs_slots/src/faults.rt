@@ -1,0 +1,10 @@
+//! Why slots are not taken up.
+
+/// Why something is not read.
+#[derive(Clone, Copy, Debug, PartialEq, Eq)]
+pub enum PartFault {
+    /// A read failed.
+    ReadFault,
+    /// There is not enough memory.
+    NoMemory,
+}

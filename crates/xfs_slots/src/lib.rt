@@ -1,0 +1,28 @@
+//! The slots of clusters, taken up one by one: what each is by itself, and the files, entries and directories that they give.
+//!
+//! What is read of inodes, whoever names their clusters: the trees of the groups, or what looks like inodes. Each slot adds to
+//! `Inodes` what it has; one that has no file is passed over and noted. The crate knows no group, so it stands beside
+//! `xfs_groups`.
+//!
+//! `xfs_scan` takes up the block of a cluster so:
+//!
+//! ```text
+//! push_facts(g, block, bytes, &mut slots)?;               // of each slot by itself
+//! see_block(alloc, g, disk, block, bytes, &mut inodes, steps)?; // the files that they give
+//! ```
+#![tactic(auto)]
+
+mod blocks;
+mod clusters;
+mod facts;
+mod faults;
+mod inodes;
+mod recorded;
+mod slots;
+
+pub use blocks::{blocks_of, blocks_of_candidates};
+pub use clusters::see_block;
+pub use facts::{SlotFact, SlotReading, push_facts};
+pub use faults::PartFault;
+pub use inodes::{InodeFeature, Inodes};
+pub use recorded::clusters_of;
