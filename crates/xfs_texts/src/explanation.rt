@@ -1,4 +1,4 @@
-//! What is wrong with an image, explained_as in words: which field or record of which object, with both numbers in their own terms, and what is
+//! What is wrong with an image, said in words: which field or record of which object, with both numbers in their own terms, and what is
 //! usually done about it.
 
 ghost use Rattle.std.specs.Prelude.{◌≡◌, ◌≤◌};

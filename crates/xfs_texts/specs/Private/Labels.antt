@@ -10,7 +10,7 @@ use Rattle.xfs_texts.specs.declared.lines.Number.{Number}
 abbrev pub label_now : Bor (List ℕ) × Number → List ℕ × Number
 label_now p = (p.0.now, p.1)
 
--- a letter, and the bytes of what is explained_as of it
+-- a letter, and the bytes of what is said of it
 abbrev pub row_now : OptionLine → ℕ × List ℕ
 row_now row = (row.letter, row.says.now)
 
