@@ -1,5 +1,5 @@
 -- What is placed in an empty volume (chapters "AG Inode Management" and "Reverse-Mapping B+tree").
-use Rattle.std.specs.Prelude.{ℕ, ◌-◌, ◌^◌, ◌==◌, if◌then◌else◌, List, [], ◌∷◌, map}
+use Rattle.std.specs.Prelude.{ℕ, false, ◌-◌, ◌^◌, ◌==◌, if◌then◌else◌, List, [], ◌∷◌, map}
 use Rattle.std.specs.List.{range_with_len}
 use Rattle.xfs_geom.specs.declared.geometry.Geometry.{Geometry}
 use Rattle.xfs_geom.specs.declared.records.InoRec.{InoRec}
@@ -32,6 +32,8 @@ empty_wanted g = record {
   new = chunk_run ∷ [];
   reserved = [];
   from = 24;
+  spared_from = [];
+  takes_spared = false;
   objects = [];
   inodes = all_inodes g.agcount;
 }

@@ -37,6 +37,8 @@ pub fn empty_wanted(alloc: Global, g: &Geometry) -> Result<Wanted, NoMemory>
         new: Records::from_vec(vec![in alloc; chunk]?),
         reserved: Records::from_vec(Vec::new(alloc)),
         from: BEHIND_CHUNK,
+        spared_from: Records::from_vec(Vec::new(alloc)),
+        takes_spared: false,
         objects: Records::from_vec(Vec::new(alloc)),
         inodes: Records::from_vec(list_inodes(alloc, g.agcount)?),
     })

@@ -19,9 +19,11 @@ pub mod OneGroup
 pub mod GroupsPlaced
 pub mod KeptRun
 pub mod Counted
-pub mod OpenRuns
+pub mod Branches
+pub mod RowRuns
+pub mod ListedRows
 pub mod HeldRuns
-pub mod LongRuns
+pub mod Spared
 pub mod Pieces
 pub mod AllPlaced
 pub mod OfPool

@@ -3,7 +3,7 @@ use Rattle.std.specs.Prelude.{ℕ, Bool, ◌+◌, ◌*◌, ◌/◌, ◌&&◌, na
 use Rattle.std.specs.List.{filter, flat_map, list_all, range_with_len}
 use Rattle.xfs_geom.specs.Volumes.{Volume, volume_of}
 use Rattle.xfs_geom.specs.Conversions.{group_length}
-use Rattle.xfs_place.specs.Pool.{is_pool}
+use Rattle.xfs_place.specs.Pool.{is_pool_unspared}
 use Rattle.xfs_place.specs.declared.chunk_search.ChunkAsk.{ChunkAsk}
 
 -- size blocks from AG block at on lie behind the first eight of a group of so many blocks, from AG block `from` on, and before the end of its last
@@ -31,7 +31,7 @@ module _ (v : Volume) (pool : ℕ → Bool) (size from : ℕ) where
 
 -- the blocks that a request leaves to chunks, and the chunks that it can have
 abbrev pub asked_pool : ChunkAsk → ℕ → Bool
-asked_pool ask = is_pool (volume_of ask.geometry) ask.taken ask.reserved
+asked_pool ask = is_pool_unspared (volume_of ask.geometry) ask.taken ask.reserved ask.spared_from
 
 abbrev pub asked_rooms : ChunkAsk → List ℕ
 asked_rooms ask = rooms (volume_of ask.geometry) (asked_pool ask) ask.size ask.from

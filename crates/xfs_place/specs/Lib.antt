@@ -5,6 +5,8 @@ pub mod Claims
 pub mod Placing
 pub mod Wanted
 pub mod Objects
+pub mod Greatest
 pub mod Finding
+pub mod Sparing
 pub mod Counts
 pub mod Standing

@@ -11,7 +11,7 @@ use Rattle.xfs_place.specs.declared.wanted.Object.{Object}
 use Rattle.xfs_place.specs.declared.wanted.ObjectKind.{ObjectKind}
 use Rattle.xfs_place.specs.declared.wanted.ObjectKind.TheVariants as kinds
 use Rattle.xfs_place.specs.declared.wanted.RunAsk.{RunAsk}
-use Rattle.xfs_place.specs.Pool.{is_pool}
+use Rattle.xfs_place.specs.Pool.{is_pool_unspared}
 
 -- a run that is asked for has some blocks; the offsets of data of a file stay below the flags of an offset word, and other blocks have no
 -- offset
@@ -92,10 +92,10 @@ abbrev pub or_no_room : Option (List Run) → Unplaced → (List Run → Result 
 or_no_room None what next = Err what
 or_no_room (Some kept) what next = next kept
 
-module _ (v : Volume) (reserved : List ℕ) (from : ℕ) where
-  -- the lowest run of the pool that what is kept leaves, for each number of blocks
+module _ (v : Volume) (reserved : List ℕ) (from : ℕ) (spared : List ℕ) where
+  -- the lowest run of the blocks of the pool that what is kept leaves and that are not spared, for each number of blocks
   abbrev pub lowest : List Run → ℕ → Option ℕ
-  lowest kept blocks = lowest_run v (is_pool v kept reserved) from blocks
+  lowest kept blocks = lowest_run v (is_pool_unspared v kept reserved spared) from blocks
 
   -- what is kept, with the runs of an ask behind it, of which there may be so many; none where they do not hold it
   unfoldable pub keep_pieces : ℕ → Bool → List Run → RunAsk → Option (List Run)
@@ -108,10 +108,23 @@ module _ (v : Volume) (reserved : List ℕ) (from : ℕ) where
   keep_asks left kept [] = Some kept
   keep_asks left kept (ask ∷ rest) = with_kept (keep_pieces (left - length rest) false kept ask) (λ all. keep_asks (left - (length all - length kept)) all rest)
 
+abbrev pub or_else : Option (List Run) → Option (List Run) → Option (List Run)
+or_else None other = other
+or_else (Some kept) other = Some kept
+
+-- spared blocks, where they are
+abbrev pub spared_in : Bool → List ℕ → List ℕ
+spared_in all spared = if all then [] else spared
+
+module _ (v : Volume) (reserved : List ℕ) (from : ℕ) (spared : List ℕ) (takes : Bool) where
+  -- what is kept, with the runs of an object on blocks that are not spared; where these do not hold it, on all, where it takes spared ones
+  abbrev pub keep_object : List Run → Object → Option (List Run)
+  keep_object kept o = or_else (keep_asks v reserved from spared o.most kept o.runs) (if takes then keep_asks v reserved from [] o.most kept o.runs else None)
+
   -- what is kept, with the runs of all objects in order; or the first object that finds no room
   unfoldable pub keep_with : List Run → List Object → Result (List Run) Unplaced
   keep_with kept [] = Ok kept
-  keep_with kept (o ∷ rest) = or_no_room (keep_asks o.most kept o.runs) (place_of_object o.kind o.ino) (λ all. keep_with all rest)
+  keep_with kept (o ∷ rest) = or_no_room (keep_object kept o) (place_of_object o.kind o.ino) (λ all. keep_with all rest)
 
 -- all runs that are asked for, in order
 abbrev pub asks_of : List Object → List RunAsk

@@ -1,5 +1,5 @@
 -- Which blocks of a volume may be given to something new.
-use Rattle.std.specs.Prelude.{◌≡◌, ℕ, Bool, true, false, not, ◌+◌, ◌≤◌, ◌<◌, ◌&&◌, ◌==◌, nat_lt, if◌then◌else◌, List, [], ◌∷◌, length, slice_index_or, ◌^◌, Option, Some, None}
+use Rattle.std.specs.Prelude.{◌≡◌, ℕ, Bool, true, false, not, ◌+◌, ◌/◌, ◌%◌, ◌≤◌, ◌<◌, ◌&&◌, ◌==◌, nat_lt, if◌then◌else◌, List, [], ◌∷◌, length, slice_index_or, ◌^◌, Option, Some, None}
 use Rattle.std.specs.List.{list_any}
 use Rattle.std.specs.Option.{unwrap_or}
 use Rattle.xfs_kinds.specs.Owners.{group_owner, inode_trees_owner}
@@ -41,6 +41,14 @@ use_of v runs reserved block = use_by (is_fixed v block) (use_held runs block) (
 -- the block is neither fixed nor one of the runs, nor reserved
 unfoldable pub is_pool : Volume → List Run → List ℕ → ℕ → Bool
 is_pool v runs reserved block = not (is_fixed v block) && not (is_taken runs block) && not (is_listed reserved block)
+
+-- the block stands before the AG block from which on those of its group are spared; of a group for which none is named, no block is
+abbrev pub is_unspared : Volume → List ℕ → ℕ → Bool
+is_unspared v spared block = nat_lt (block % v.agblocks) (slice_index_or spared (block / v.agblocks) v.agblocks)
+
+-- a block of the pool that is not spared
+abbrev pub is_pool_unspared : Volume → List Run → List ℕ → List ℕ → ℕ → Bool
+is_pool_unspared v runs reserved spared block = is_pool v runs reserved block && is_unspared v spared block
 
 -- the runs have some blocks each, of a volume of so many blocks
 abbrev pub IsRunOf : ℕ → Run → Type 0

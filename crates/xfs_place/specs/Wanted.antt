@@ -76,7 +76,7 @@ kept_runs w = w.taken ++ w.new
 
 -- the same with the runs of the objects; or the first object that finds no room
 abbrev pub all_kept : Wanted → Result (List Run) Unplaced
-all_kept w = keep_with (volume_of w.geometry) w.reserved w.from (kept_runs w) w.objects
+all_kept w = keep_with (volume_of w.geometry) w.reserved w.from w.spared_from w.takes_spared (kept_runs w) w.objects
 
 -- the first group whose trees have no room
 pub record IsWithoutRoom (v : Volume) (kept : List Run) (reserved : List ℕ) (inodes : List GroupInodes) (ag : ℕ) : Type 0 where

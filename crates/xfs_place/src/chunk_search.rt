@@ -1,13 +1,15 @@
 //! Where chunks of inodes stand (chapter "AG Inode Management").
 
-ghost use Rattle.std.specs.Prelude.{◌≡◌, ◌+◌, ◌*◌, ◌≤◌, ◌<◌, ◌⊎◌, ◌++◌, length, take, All, IfErr, IfOk, OnOk};
+ghost use Rattle.std.specs.Prelude.{◌≡◌, ◌+◌, ◌*◌, ◌≤◌, ◌<◌, ◌^◌, ◌⊎◌, ◌++◌, ℕ, not, length, take, All, IfErr, IfOk, OnOk};
 ghost use Rattle.std.specs.List.{list_all, range_with_len};
 ghost use Rattle.xfs_geom.specs.Conversions.{group_length};
 ghost use Rattle.xfs_geom.specs.Volumes.{volume_of};
 ghost use Rattle.xfs_place.specs.Chunks.{asked_pool, asked_rooms, is_room, lies_in_chunks, rooms_of};
-ghost use Rattle.xfs_place.specs.Pool.{IsRunOf, Shows, is_open, is_pool, use_at, use_of};
+ghost use Rattle.xfs_place.specs.Pool.{IsRunOf, MarksUses, is_open, is_unspared, use_at};
+ghost use Rattle.xfs_place.specs.declared.uses.Use.TheVariants.{Claimed};
 
 use crate::faults::{PlaceFault, Unplaced};
+use crate::open_rows::spared_from;
 use crate::uses::{Use, is_open, list_uses};
 use std::alloc::Global;
 use xfs_disk::NoMemory;
@@ -26,6 +28,8 @@ pub struct ChunkAsk {
     pub size: u32,
     /// No chunk begins before this AG block.
     pub from: u32,
+    /// Of each group the AG block from which on its blocks are spared for its trees (`spare`); of a group that lacks here none is.
+    pub spared_from: Records<u32>,
     /// How many chunks are wanted.
     pub count: u32,
     /// What they are for.
@@ -35,7 +39,7 @@ pub struct ChunkAsk {
 /// The first blocks of the `count` lowest chunks, ascending, by their numbers. A chunk is `size` blocks of the
 /// pool in one allocation group, of which the first is a multiple of `size` and at or behind AG block `from`. It lies
 /// behind the first eight blocks of the group and before the end of its last whole eight. The pool is the blocks that have
-/// no fixed use and are neither taken nor reserved.
+/// no fixed use and are neither taken nor reserved, nor spared.
 ///
 /// `NoRoom` of `what` where there are fewer such chunks; `NoMemory` where memory is wanting.
 pub fn chunks(alloc: Global, ask: &ChunkAsk) -> Result<Records<u64>, PlaceFault>
@@ -60,7 +64,8 @@ fn find_chunks(alloc: Global, ask: &ChunkAsk) -> Result<Vec<u64>, NoMemory>
     ensures { IfOk result (λ starts. starts.items ≡ take ask.now.count (asked_rooms ask.now)) }
 {
     let g = &ask.geometry;
-    let uses = list_uses(alloc, g, ask.taken.as_slice(), ask.reserved.as_slice())?;
+    let mut uses = list_uses(alloc, g, ask.taken.as_slice(), ask.reserved.as_slice())?;
+    close_spared(&mut uses, g, ask.spared_from.as_slice());
     let mut starts = Vec::new(alloc);
     for ag in 0..g.agcount {
         push_rooms(&mut starts, ask, &uses, ag)?;
@@ -68,11 +73,31 @@ fn find_chunks(alloc: Global, ask: &ChunkAsk) -> Result<Vec<u64>, NoMemory>
     Ok(starts)
 }
 
+/// Closes the blocks that are spared.
+fn close_spared(uses: &mut [Use], g: &Geometry, spared: &[u32])
+    requires few { length uses.old < 2 ^ 32 }
+    ensures { MarksUses uses.old uses.new (λ block. not (is_unspared (volume_of g.now) spared.now block)) Claimed }
+{
+    for block in 0..uses.len() {
+        if !is_unspared(g, spared, block as u32) {
+            uses[block] = Use::Claimed;
+        }
+    }
+}
+
+/// Whether a block stands before those of its group that are spared.
+fn is_unspared(g: &Geometry, spared: &[u32], block: u32) -> bool
+    ensures { result ≡ is_unspared (volume_of g.now) spared.now block }
+{
+    block % g.agblocks < spared_from(spared, (block / g.agblocks) as usize, g.agblocks)
+}
+
 /// Adds the chunks of a group, up to the number that is wanted.
 fn push_rooms(starts: &mut Vec<u64>, ask: &ChunkAsk, uses: &[Use], ag: u32) -> Result<(), NoMemory>
     requires size { 1 ≤ ask.now.size }
     requires group { ag < ask.now.geometry.agcount }
-    requires uses { Shows uses.now ask.now.geometry.dblocks (use_of (volume_of ask.now.geometry) ask.now.taken ask.now.reserved) }
+    requires uses { (b : ℕ) → b < ask.now.geometry.dblocks → is_open (use_at uses.now b) ≡ asked_pool ask.now b }
+    requires all { length uses.now ≡ ask.now.geometry.dblocks }
     requires few { length starts.old.items ≤ ask.now.count }
     ensures { OnOk result (starts.new.items ≡ take ask.now.count (starts.old.items
         ++ rooms_of (volume_of ask.now.geometry) (asked_pool ask.now) ask.now.size ask.now.from ag)) }
@@ -94,7 +119,8 @@ fn push_rooms(starts: &mut Vec<u64>, ask: &ChunkAsk, uses: &[Use], ag: u32) -> R
 fn is_room(ask: &ChunkAsk, uses: &[Use], ag: u32, i: u64) -> bool
     requires group { ag < ask.now.geometry.agcount }
     requires inside { i * ask.now.size + ask.now.size ≤ group_length (volume_of ask.now.geometry) ag }
-    requires uses { Shows uses.now ask.now.geometry.dblocks (use_of (volume_of ask.now.geometry) ask.now.taken ask.now.reserved) }
+    requires uses { (b : ℕ) → b < ask.now.geometry.dblocks → is_open (use_at uses.now b) ≡ asked_pool ask.now b }
+    requires all { length uses.now ≡ ask.now.geometry.dblocks }
     ensures { result ≡ is_room (volume_of ask.now.geometry) (asked_pool ask.now) ask.now.size ask.now.from ag i }
 {
     let size = ask.size as u64;

@@ -2,15 +2,16 @@
 
 ghost use Rattle.std.specs.Prelude.{◌≡◌, ◌≤◌, ◌<◌, ◌+◌, ◌-◌, ◌++◌, [], ◌∷◌, ◌⊎◌, ℕ, List, Option, if◌then◌else◌, is_some, length, take, drop, true, false, All, IfErr, IfOk, OnOk, MatchOption, Ok, Err, Some, None};
 ghost use Rattle.xfs_geom.specs.Volumes.{volume_of};
-ghost use Rattle.xfs_place.specs.Finding.{IsOpen};
-ghost use Rattle.xfs_place.specs.Objects.{ServeAsks, IsAsk, asks_of, front_of, keep_asks, keep_pieces, keep_with, lowest, piece_of, place_of_object, rest_of, run_at};
+ghost use Rattle.xfs_place.specs.Finding.{IsFrontOf, IsOpen};
+ghost use Rattle.xfs_place.specs.Objects.{ServeAsks, IsAsk, asks_of, front_of, keep_asks, keep_object, keep_pieces, keep_with, lowest, piece_of, place_of_object, rest_of, run_at, spared_in};
 ghost use Rattle.xfs_place.specs.Wanted.{CanBeKept};
 ghost use Rattle.xfs_place.specs.declared.faults.Unplaced.{Unplaced};
 ghost use Rattle.xfs_place.specs.declared.wanted.RunAsk.{RunAsk};
 ghost use Rattle.xfs_kinds.specs.OffsetWords.{is_file_data};
 
 use crate::faults::{PlaceFault, Unplaced};
-use crate::open_blocks::{OpenBlocks, Site};
+use crate::open_blocks::OpenBlocks;
+use crate::open_rows::Site;
 use crate::wanted::{Object, ObjectKind, RunAsk};
 use std::alloc::Global;
 use xfs_disk::NoMemory;
@@ -48,19 +49,19 @@ pub fn keep_with(
 ) -> Result<ObjectsKept, PlaceFault>
     requires kept { CanBeKept (volume_of site.now.geometry.now) kept.items }
     requires asks { All (λ object. All IsAsk object.runs) objects.now }
-    ensures placed { IfOk result (λ now. keep_with (volume_of site.now.geometry.now) site.now.reserved.now site.now.from kept.items objects.now ≡ Ok now.all.items) }
+    ensures placed { IfOk result (λ now. keep_with (volume_of site.now.geometry.now) site.now.reserved.now site.now.from site.now.spared.now site.now.takes kept.items objects.now ≡ Ok now.all.items) }
     ensures kept { IfOk result (λ now. CanBeKept (volume_of site.now.geometry.now) now.all.items) }
     ensures behind { IfOk result (λ now. take (length kept.items) now.all.items ≡ kept.items) }
     ensures cuts { IfOk result (λ now. ServeAsks (asks_of objects.now) now.cuts.items (drop (length kept.items) now.all.items)) }
     ensures cause { IfErr result (λ fault. (fault ≡ PlaceFault.NoMemory)
-        ⊎ ((what : Unplaced) × (fault ≡ PlaceFault.NoRoom what) × (keep_with (volume_of site.now.geometry.now) site.now.reserved.now site.now.from kept.items objects.now ≡ Err what))) }
+        ⊎ ((what : Unplaced) × (fault ≡ PlaceFault.NoRoom what) × (keep_with (volume_of site.now.geometry.now) site.now.reserved.now site.now.from site.now.spared.now site.now.takes kept.items objects.now ≡ Err what))) }
 {
     let first = kept.len();
     let pool = OpenBlocks::new(alloc, site, &kept)?;
     let mut keeper = Keeper { pool, all: kept };
     let mut cuts = Vec::new(alloc);
     for object in objects {
-        if !keeper.put_object(&mut cuts, site, object, first)? {
+        if !keeper.put_object(alloc, &mut cuts, site, object, first)? {
             return Err(PlaceFault::NoRoom(place_of_object(object)));
         }
     }
@@ -69,10 +70,11 @@ pub fn keep_with(
 }
 
 impl Keeper {
-    /// Adds the runs of an object, and how many each of its asks has; false where they do not hold it. The runs from number `first` on
-    /// are those of objects.
+    /// Adds the runs of an object, and how many each of its asks has; false where they do not hold it. They stand on blocks that are not
+    /// spared, or else on all where objects take spared ones. The runs from number `first` on are those of objects.
     fn put_object(
         &mut self,
+        alloc: Global,
         cuts: &mut Vec<u32>,
         site: &Site<'_>,
         object: &Object,
@@ -81,12 +83,66 @@ impl Keeper {
         requires asks { All IsAsk object.now.runs }
         requires first { first ≤ length self.old.all.items }
         requires kept { CanBeKept (volume_of site.now.geometry.now) self.old.all.items }
-        requires pool { IsOpen (volume_of site.now.geometry.now) self.old.all.items site.now.reserved.now site.now.from self.old.pool }
+        requires pool { IsOpen (volume_of site.now.geometry.now) self.old.all.items site.now.reserved.now site.now.from site.now.spared.now self.old.pool }
         ensures kept { OnOk result (CanBeKept (volume_of site.now.geometry.now) self.new.all.items) }
-        ensures pool { OnOk result (IsOpen (volume_of site.now.geometry.now) self.new.all.items site.now.reserved.now site.now.from self.new.pool) }
-        ensures placed { IfOk result (λ placed. keep_asks (volume_of site.now.geometry.now) site.now.reserved.now site.now.from object.now.most self.old.all.items object.now.runs
+        ensures pool { OnOk result (IsOpen (volume_of site.now.geometry.now) self.new.all.items site.now.reserved.now site.now.from site.now.spared.now self.new.pool) }
+        ensures placed { IfOk result (λ placed. keep_object (volume_of site.now.geometry.now) site.now.reserved.now site.now.from site.now.spared.now site.now.takes self.old.all.items object.now
             ≡ (if placed then Some self.new.all.items else None)) }
         ensures long { OnOk result (length self.old.all.items ≤ length self.new.all.items) }
+        ensures cuts { IfOk result (λ placed. placed ≡ true → (asks : List RunAsk) → ServeAsks asks cuts.old.items (drop first self.old.all.items)
+            → ServeAsks (asks ++ object.now.runs) cuts.new.items (drop first self.new.all.items)) }
+    {
+        let kept = self.all.len();
+        let cut = cuts.len();
+        if self.put_asks(false, cuts, site, object, first)? {
+            return Ok(true);
+        }
+        if !site.takes {
+            return Ok(false);
+        }
+        self.give_back(alloc, site, kept)?;
+        cuts.truncate(cut);
+        let placed = self.put_asks(true, cuts, site, object, first)?;
+        Ok(placed)
+    }
+
+    /// Gives back what the runs behind the first `kept` ones took.
+    fn give_back(&mut self, alloc: Global, site: &Site<'_>, kept: usize) -> Result<(), NoMemory>
+        requires kept { CanBeKept (volume_of site.now.geometry.now) (take kept self.old.all.items) }
+        requires pool { IsOpen (volume_of site.now.geometry.now) self.old.all.items site.now.reserved.now site.now.from site.now.spared.now self.old.pool }
+        ensures all { OnOk result (self.new.all.items ≡ take kept self.old.all.items) }
+        ensures pool { OnOk result (IsOpen (volume_of site.now.geometry.now) self.new.all.items site.now.reserved.now site.now.from site.now.spared.now self.new.pool) }
+    {
+        if self.all.len() <= kept {
+            return Ok(());
+        }
+        self.all.truncate(kept);
+        let pool = OpenBlocks::new(alloc, site, &self.all)?;
+        self.pool = pool;
+        Ok(())
+    }
+
+    /// Adds the runs of an object, on all blocks or on those that are not spared, and how many each of its asks has; false where they do
+    /// not hold it. The runs from number `first` on are those of objects.
+    #[tactic(auto, using(crate::proofs::Pieces::front_same))]
+    fn put_asks(
+        &mut self,
+        all: bool,
+        cuts: &mut Vec<u32>,
+        site: &Site<'_>,
+        object: &Object,
+        first: usize,
+    ) -> Result<bool, NoMemory>
+        requires asks { All IsAsk object.now.runs }
+        requires first { first ≤ length self.old.all.items }
+        requires kept { CanBeKept (volume_of site.now.geometry.now) self.old.all.items }
+        requires pool { IsOpen (volume_of site.now.geometry.now) self.old.all.items site.now.reserved.now site.now.from site.now.spared.now self.old.pool }
+        ensures kept { OnOk result (CanBeKept (volume_of site.now.geometry.now) self.new.all.items) }
+        ensures pool { OnOk result (IsOpen (volume_of site.now.geometry.now) self.new.all.items site.now.reserved.now site.now.from site.now.spared.now self.new.pool) }
+        ensures placed { IfOk result (λ placed. keep_asks (volume_of site.now.geometry.now) site.now.reserved.now site.now.from (spared_in all site.now.spared.now) object.now.most self.old.all.items object.now.runs
+            ≡ (if placed then Some self.new.all.items else None)) }
+        ensures front { OnOk result (IsFrontOf self.old.all.items self.new.all.items) }
+        ensures cut { OnOk result (IsFrontOf cuts.old.items cuts.new.items) }
         ensures cuts { IfOk result (λ placed. placed ≡ true → (asks : List RunAsk) → ServeAsks asks cuts.old.items (drop first self.old.all.items)
             → ServeAsks (asks ++ object.now.runs) cuts.new.items (drop first self.new.all.items)) }
     {
@@ -94,7 +150,7 @@ impl Keeper {
         let mut left = object.most as usize;
         for (i, ask) in asks.iter().enumerate() {
             let most = left.saturating_sub(asks.len() - 1 - i);
-            let Some(count) = self.put_ask(site, ask, most)? else {
+            let Some(count) = self.put_ask(all, site, ask, most)? else {
                 return Ok(false);
             };
             cuts.push(count as u32)?;
@@ -103,27 +159,30 @@ impl Keeper {
         Ok(true)
     }
 
-    /// Adds the runs of an ask, which may be so many, and says how many they are; `None` where they do not hold it.
+    /// Adds the runs of an ask, which may be so many, on all blocks or on those that are not spared, and says how many they are; `None`
+    /// where they do not hold it.
+    #[tactic(auto, using(crate::proofs::Pieces::front_same))]
     fn put_ask(
         &mut self,
+        all: bool,
         site: &Site<'_>,
         ask: &RunAsk,
         most: usize,
     ) -> Result<Option<usize>, NoMemory>
         requires ask { IsAsk ask.now }
         requires kept { CanBeKept (volume_of site.now.geometry.now) self.old.all.items }
-        requires pool { IsOpen (volume_of site.now.geometry.now) self.old.all.items site.now.reserved.now site.now.from self.old.pool }
+        requires pool { IsOpen (volume_of site.now.geometry.now) self.old.all.items site.now.reserved.now site.now.from site.now.spared.now self.old.pool }
         ensures kept { OnOk result (CanBeKept (volume_of site.now.geometry.now) self.new.all.items) }
-        ensures pool { OnOk result (IsOpen (volume_of site.now.geometry.now) self.new.all.items site.now.reserved.now site.now.from self.new.pool) }
-        ensures placed { IfOk result (λ count. keep_pieces (volume_of site.now.geometry.now) site.now.reserved.now site.now.from most false self.old.all.items ask.now
+        ensures pool { OnOk result (IsOpen (volume_of site.now.geometry.now) self.new.all.items site.now.reserved.now site.now.from site.now.spared.now self.new.pool) }
+        ensures placed { IfOk result (λ count. keep_pieces (volume_of site.now.geometry.now) site.now.reserved.now site.now.from (spared_in all site.now.spared.now) most false self.old.all.items ask.now
             ≡ (if is_some count then Some self.new.all.items else None)) }
         ensures count { IfOk result (λ count. MatchOption count (Unit {0}) (λ n. length self.new.all.items ≡ length self.old.all.items + n)) }
         ensures few { IfOk result (λ count. MatchOption count (Unit {0}) (λ n. n ≤ most)) }
-        ensures long { OnOk result (length self.old.all.items ≤ length self.new.all.items) }
+        ensures front { OnOk result (IsFrontOf self.old.all.items self.new.all.items) }
     {
         let mut rest = *ask;
         for n in 0..most {
-            let Some(blocks) = self.put_piece(site, &rest, n > 0)? else {
+            let Some(blocks) = self.put_piece(all, site, &rest, n > 0)? else {
                 return Ok(None);
             };
             if blocks == rest.blocks {
@@ -134,29 +193,31 @@ impl Keeper {
         Ok(None)
     }
 
-    /// Adds a run for all that is asked for or for its first blocks, and says how many these are; `None` where no block is left.
+    /// Adds a run for all that is asked for or for its first blocks, on all blocks or on those that are not spared, and says how many these
+    /// are; `None` where no block is left.
     fn put_piece(
         &mut self,
+        all: bool,
         site: &Site<'_>,
         ask: &RunAsk,
         split: bool,
     ) -> Result<Option<u32>, NoMemory>
         requires ask { IsAsk ask.now }
         requires kept { CanBeKept (volume_of site.now.geometry.now) self.old.all.items }
-        requires pool { IsOpen (volume_of site.now.geometry.now) self.old.all.items site.now.reserved.now site.now.from self.old.pool }
+        requires pool { IsOpen (volume_of site.now.geometry.now) self.old.all.items site.now.reserved.now site.now.from site.now.spared.now self.old.pool }
         ensures kept { OnOk result (CanBeKept (volume_of site.now.geometry.now) self.new.all.items) }
-        ensures pool { OnOk result (IsOpen (volume_of site.now.geometry.now) self.new.all.items site.now.reserved.now site.now.from self.new.pool) }
+        ensures pool { OnOk result (IsOpen (volume_of site.now.geometry.now) self.new.all.items site.now.reserved.now site.now.from site.now.spared.now self.new.pool) }
         ensures piece { IfOk result (λ blocks. MatchOption blocks
-            ((piece_of (lowest (volume_of site.now.geometry.now) site.now.reserved.now site.now.from self.old.all.items) split ask.now.blocks ≡ None) × (self.new.all.items ≡ self.old.all.items))
-            (λ n. (start : ℕ) × (piece_of (lowest (volume_of site.now.geometry.now) site.now.reserved.now site.now.from self.old.all.items) split ask.now.blocks ≡ Some (start, n))
+            ((piece_of (lowest (volume_of site.now.geometry.now) site.now.reserved.now site.now.from (spared_in all site.now.spared.now) self.old.all.items) split ask.now.blocks ≡ None) × (self.new.all.items ≡ self.old.all.items))
+            (λ n. (start : ℕ) × (piece_of (lowest (volume_of site.now.geometry.now) site.now.reserved.now site.now.from (spared_in all site.now.spared.now) self.old.all.items) split ask.now.blocks ≡ Some (start, n))
             × (self.new.all.items ≡ self.old.all.items ++ run_at start (front_of ask.now n) ∷ []))) }
         ensures few { IfOk result (λ blocks. MatchOption blocks (Unit {0}) (λ n. (1 ≤ n) × (n ≤ ask.now.blocks))) }
     {
-        let Some(piece) = self.pool.piece(ask.blocks as u64, split) else {
+        let Some(piece) = self.pool.piece(all, ask.blocks as u64, split) else {
             return Ok(None);
         };
         let (start, blocks) = (piece.start, piece.blocks);
-        self.pool.take(start, blocks);
+        self.pool.take(piece);
         self.all.push(run_of(start, blocks, ask))?;
         Ok(Some(blocks as u32))
     }

@@ -11,7 +11,7 @@ ghost use Rattle.xfs_place.specs.declared.faults.Unplaced.{Unplaced};
 use crate::counting::count_all;
 use crate::faults::PlaceFault;
 use crate::object_placing::{ObjectsKept, keep_with};
-use crate::open_blocks::Site;
+use crate::open_rows::Site;
 use crate::placed::Placed;
 use crate::volume_placing::place_groups;
 use crate::wanted::Wanted;
@@ -25,7 +25,9 @@ use xfs_volume::Records;
 /// that lies inside one allocation group, at AG block `from` or behind; none has more than the 44,040,171 blocks of 21
 /// extents, which fill a fork. Where there is none it takes the longest run of fewer blocks that is an extent, the lowest
 /// of equally long ones, and so on with what it still needs, which then takes one run only where that is an extent. All
-/// asks of an object take no more runs than it may have: an ask those that are left, but for one for each ask behind it.
+/// asks of an object take no more runs than it may have: an ask those that are left, but for one for each ask behind it. An
+/// object stands on blocks that are not spared; where these do not hold it and it may take spared ones, all its asks are placed anew
+/// on all blocks of the pool.
 /// Then the trees and the free list of each group take the lowest blocks that are left of its pool, as few as leave the free list 6 to 118 blocks; where no number
 /// does, as many as leave it 0 to 5. Reserved blocks become free.
 ///
@@ -54,6 +56,8 @@ pub fn place(alloc: Global, wanted: &Wanted) -> Result<Placed, PlaceFault>
         geometry: g,
         reserved,
         from: wanted.from,
+        spared: wanted.spared_from.as_slice(),
+        takes: wanted.takes_spared,
     };
     let ObjectsKept { all, cuts } = keep_with(alloc, &site, kept, wanted.objects.as_slice())?;
     let runs = Vec::from_slice(alloc, &all[first..])?;

@@ -53,6 +53,11 @@ pub struct Wanted {
     pub reserved: Records<u64>,
     /// No run of an object begins before this AG block.
     pub from: u32,
+    /// Of each group the AG block from which on its blocks are spared for its trees (`spare`), so that objects stand before it; of a group
+    /// that lacks here no block is.
+    pub spared_from: Records<u32>,
+    /// Whether an object that finds no room before them may stand on spared blocks too.
+    pub takes_spared: bool,
     /// The objects, in the order in which they are placed.
     pub objects: Records<Object>,
     /// The records of inodes of each group, in order.

@@ -1,5 +1,5 @@
 -- What a request keeps once it is placed, where it names no objects.
-use Rattle.std.proofs.Common.{◌≡◌, ℕ, ◌+◌, ◌^◌, ◌<◌, ◌≤◌, true, List, [], ◌∷◌, ◌++◌, length, get_or, Ok, sym, subst, arith}
+use Rattle.std.proofs.Common.{◌≡◌, ℕ, ◌+◌, ◌^◌, ◌<◌, ◌≤◌, Bool, true, List, [], ◌∷◌, ◌++◌, length, get_or, Ok, sym, subst, arith}
 use Rattle.std.specs.List.{All}
 use Rattle.std.proofs.lemmas.List.Elements.{All-from_get_or, All-weaker}
 use Rattle.xfs_geom.specs.Conversions.{group_length}
@@ -21,14 +21,14 @@ use Rattle.xfs_render.proofs.LawfulChunks.{chunks_few}
 use Rattle.xfs_render.proofs.ReadyGroups.{length_small}
 use Rattle.xfs_render.proofs.TreePlaces.{all_right}
 
-none_more : (v : Volume) (reserved : List ℕ) (from : ℕ) (kept all : List Run) (objects : List Object) → length objects ≡ 0
-    → keep_with v reserved from kept objects ≡ Ok all → kept ≡ all
+none_more : (v : Volume) (reserved : List ℕ) (from : ℕ) (spared : List ℕ) (takes : Bool) (kept all : List Run) (objects : List Object) → length objects ≡ 0
+    → keep_with v reserved from spared takes kept objects ≡ Ok all → kept ≡ all
 unfolding keep_with
-none_more v reserved from kept all [] none placed = cc
-none_more v reserved from kept all (o ∷ rest) none placed = absurd (omega (arith, none))
+none_more v reserved from spared takes kept all [] none placed = cc
+none_more v reserved from spared takes kept all (o ∷ rest) none placed = absurd (omega (arith, none))
 
 pub kept_is : (w : Wanted) (all : List Run) → length w.objects ≡ 0 → all_kept w ≡ Ok all → kept_runs w ≡ all
-kept_is w all none placed = none_more (volume_of w.geometry) w.reserved w.from (kept_runs w) all w.objects none placed
+kept_is w all none placed = none_more (volume_of w.geometry) w.reserved w.from w.spared_from w.takes_spared (kept_runs w) all w.objects none placed
 
 pub new_inside : (w : Wanted) (all : List Run) → kept_runs w ≡ all → CanBeKept (volume w) all → All (IsRunOf w.geometry.dblocks) w.new
 new_inside w all same are =

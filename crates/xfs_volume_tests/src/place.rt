@@ -5,6 +5,7 @@ ghost use Rattle.std.specs.Prelude.{◌≡◌, ◌≤◌, IfOk, [], ◌∷◌};
 mod groups;
 mod objects;
 mod pieces;
+mod spared;
 
 use crate::text::{Row, refuse, tells};
 use std::alloc::{AllocError, Global};
@@ -33,7 +34,13 @@ fn volume() -> Geometry
 }
 
 /// A request for chunks of a volume with the root's chunk at blocks 16 to 23, and block 25 reserved.
-fn ask(alloc: Global, size: u32, from: u32, count: u32) -> Result<ChunkAsk, AllocError>
+fn ask(
+    alloc: Global,
+    size: u32,
+    from: u32,
+    spared_from: Vec<u32>,
+    count: u32,
+) -> Result<ChunkAsk, AllocError>
     requires { 1 ≤ size }
     ensures size { IfOk result (λ ask. ask.size ≡ size) }
     ensures blocks { IfOk result (λ ask. ask.geometry.dblocks ≡ 2047) }
@@ -51,20 +58,26 @@ fn ask(alloc: Global, size: u32, from: u32, count: u32) -> Result<ChunkAsk, Allo
         reserved: Records::from_vec(vec![in alloc; 25, 5000]?),
         size,
         from,
+        spared_from: Records::from_vec(spared_from),
         count,
         what: Unplaced::LostFound,
     })
 }
 
-/// The blocks of a chunk, the block from which on they are looked for, how many are wanted, and where they begin.
+/// The blocks of a chunk, the AG block from which on they are looked for, those from which on blocks are spared, how many are wanted, and where
+/// they begin.
 const LOWEST: &str = "\
-8 0 0 | []
-8 0 3 | [8, 32, 40]
-8 24 2 | [32, 40]
-4 0 4 | [8, 12, 28, 32]
-3 0 3 | [9, 12, 27]
-8 1000 4 | [1000, 1008, 1016, 2024]
-504 0 1 | [504]
+8 0 | | 0 | []
+8 0 | | 3 | [8, 32, 40]
+8 24 | | 2 | [32, 40]
+4 0 | | 4 | [8, 12, 28, 32]
+3 0 | | 3 | [9, 12, 27]
+8 1000 | | 4 | [1000, 1008, 1016, 2024]
+504 0 | | 1 | [504]
+8 1000 | 1015 | 3 | [1000, 2024, 2032]
+8 1000 | 1016 1015 | 3 | [1000, 1008, 2024]
+8 0 | 40 0 | 2 | [8, 32]
+8 0 | 0 | 1 | [1544]
 ";
 
 #[test]
@@ -73,7 +86,8 @@ fn lowest_chunks(rt: HostRuntime) -> Result<(), Fail> {
     for line in LOWEST.lines() {
         let mut row = Row::new(line);
         let (size, from) = (row.number::<u32>(&rt), row.number(&rt));
-        match chunks(alloc, &ask(alloc, size.max(1), from, row.number(&rt))?) {
+        let spared = row.numbers::<u32>(&rt, alloc)?;
+        match chunks(alloc, &ask(alloc, size.max(1), from, spared, row.number(&rt))?) {
             Ok(starts) => tells(&rt, &starts.as_slice(), row.text(), line),
             Err(_) => refuse(&rt, "no chunks are found", line),
         }
@@ -86,8 +100,8 @@ fn too_few_chunks(rt: HostRuntime) -> Result<(), Fail> {
     let alloc = rt.alloc();
     // AG blocks 8 to 1023 without 16 to 31, and of the second group 520 to 1015
     let all = (1016 - 16) / 8 + (1016 - 520) / 8;
-    assert!(rt; chunks(alloc, &ask(alloc, 8, 0, all)?).is_ok());
-    let found = chunks(alloc, &ask(alloc, 8, 0, all + 1)?);
+    assert!(rt; chunks(alloc, &ask(alloc, 8, 0, Vec::new(alloc), all)?).is_ok());
+    let found = chunks(alloc, &ask(alloc, 8, 0, Vec::new(alloc), all + 1)?);
     assert!(rt; matches!(found, Err(PlaceFault::NoRoom(Unplaced::LostFound))));
     Ok(())
 }

@@ -29,7 +29,7 @@ pub const SMALLEST: Size = Size {
     log: 1030,
 };
 
-fn shaped(size: &Size) -> Geometry
+pub fn shaped(size: &Size) -> Geometry
     requires { IsShaped size.now.dblocks size.now.agblocks size.now.agcount size.now.agblklog size.now.log 512 128 0 }
     ensures blocks { result.dblocks ≡ size.now.dblocks }
     ensures group { result.agblocks ≡ size.now.agblocks }
@@ -50,8 +50,7 @@ fn shaped(size: &Size) -> Geometry
     }
 }
 
-/// Places objects from an AG block on, and the trees, in a volume of which one run is kept. The first group has the
-/// record of the root's chunk.
+/// Places objects from an AG block on, and the trees, in a volume of which one run is kept, where no block is spared.
 pub fn place_beside(
     alloc: Global,
     size: &Size,
@@ -70,12 +69,49 @@ pub fn place_beside(
     requires length { run.count < 2 ^ 32 }
     requires asks { All (λ object. All IsAsk object.runs) objects.items }
 {
+    let spared = Spared {
+        from: Vec::new(alloc),
+        takes: false,
+    };
+    place_sparing(alloc, size, run, reserved, objects, from, spared)
+}
+
+/// Of each group the AG block from which on its blocks are spared, and whether objects may take these.
+#[derive(Drop)]
+pub struct Spared {
+    pub from: Vec<u32>,
+    pub takes: bool,
+}
+
+/// Places objects from an AG block on, and the trees, in a volume of which one run is kept and blocks are spared. The first group has the
+/// record of the root's chunk.
+pub fn place_sparing(
+    alloc: Global,
+    size: &Size,
+    run: Run,
+    reserved: Vec<u64>,
+    objects: Vec<Object>,
+    from: u32,
+    spared: Spared,
+) -> Result<Placed, PlaceFault>
+    requires shape { IsShaped size.now.dblocks size.now.agblocks size.now.agcount size.now.agblklog size.now.log 512 128 0 }
+    requires some { 1 ≤ run.count }
+    requires inside { run.start + run.count ≤ size.now.dblocks }
+    requires behind { 1 ≤ run.start % size.now.agblocks }
+    requires within { run.start % size.now.agblocks + run.count ≤ size.now.agblocks }
+    requires log { (run.start + run.count ≤ size.now.log) ⊎ (size.now.log + 512 ≤ run.start) }
+    requires word { run.offset_word ≡ 0 }
+    requires length { run.count < 2 ^ 32 }
+    requires asks { All (λ object. All IsAsk object.runs) objects.items }
+{
     let wanted = Wanted {
         geometry: shaped(size),
         taken: Records::from_vec(vec![in alloc; run]?),
         new: Records::from_vec(Vec::new(alloc)),
         reserved: Records::from_vec(reserved),
         from,
+        spared_from: Records::from_vec(spared.from),
+        takes_spared: spared.takes,
         objects: Records::from_vec(objects),
         inodes: Records::from_vec(root_alone(alloc, size.agcount)?),
     };

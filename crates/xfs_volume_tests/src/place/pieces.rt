@@ -10,7 +10,7 @@ use crate::text::{Row, refuse, tells};
 use std::process::Abort;
 
 /// The blocks of a volume of so many, but for those of these rows, each a first block and a number of blocks.
-fn all_but(alloc: Global, rows: &[u64], blocks: u64) -> Result<Vec<u64>, AllocError> {
+pub fn all_but(alloc: Global, rows: &[u64], blocks: u64) -> Result<Vec<u64>, AllocError> {
     let mut reserved = Vec::new(alloc);
     for block in 1..blocks {
         if !is_of(rows, block) {
@@ -37,7 +37,7 @@ fn is_of(rows: &[u64], block: u64) -> bool {
 }
 
 /// Lengths of asks, each at least one.
-fn lengths_of(alloc: Global, numbers: &[u32]) -> Result<Vec<u32>, AllocError>
+pub fn lengths_of(alloc: Global, numbers: &[u32]) -> Result<Vec<u32>, AllocError>
     ensures { IfOk result (λ lengths. All (λ blocks. 1 ≤ blocks) lengths.items) }
 {
     let mut lengths = Vec::new(alloc);
@@ -48,7 +48,7 @@ fn lengths_of(alloc: Global, numbers: &[u32]) -> Result<Vec<u32>, AllocError>
 }
 
 /// The runs of what is placed: the first block, the blocks and the offset of each.
-fn runs_of(alloc: Global, placed: &Placed) -> Result<Vec<(u64, u64, u64)>, AllocError> {
+pub fn runs_of(alloc: Global, placed: &Placed) -> Result<Vec<(u64, u64, u64)>, AllocError> {
     let mut runs = Vec::new(alloc);
     for run in placed.runs.as_slice() {
         runs.push((run.start, run.count, run.offset_word))?;

@@ -14,7 +14,7 @@ returns-then-lies_in_chunks c =
     omega (arith, c.requires.inside, c.group_length-length.ensures.inside, c.group_length-length.ensures.value, c.start_of_group.ensures.value) in
     room_is v (asked_pool ask) ask.size ask.from c.args.ag c.args.i start c.lies_in_chunks.result c.are_open.result c.if-lies_in_chunks.true (c.lies_in_chunks.ensures ∙ long)
     (ap (λ (n : ℕ). n + c.args.i * ask.size) c.start_of_group.ensures.value)
-    (c.are_open.ensures ∙ open_blocks v ask.taken ask.reserved c.args.uses.now ask.geometry.dblocks start ask.size c.requires.uses inside)
+    (c.are_open.ensures ∙ open_blocks (asked_pool ask) c.args.uses.now ask.geometry.dblocks start ask.size c.requires.uses inside)
 
 pub returns-else-lies_in_chunks : goal.returns-else-lies_in_chunks
 returns-else-lies_in_chunks c =

@@ -17,7 +17,7 @@ returns-then-not-branch-clause-cause c =
     inr (
       c.place_of_object.result,
       refl,
-      l.invariant.same ∙ objects_stop (volume_of s.geometry.now) s.reserved.now s.from l.keeper.all.items c.args.objects.now l.object-index o c.loop-object-test.true c.object-item.is none
+      l.invariant.same ∙ objects_stop (volume_of s.geometry.now) s.reserved.now s.from s.spared.now s.takes l.keeper.all.items c.args.objects.now l.object-index o c.loop-object-test.true c.object-item.is none
           ∙ ap (λ (p : Unplaced). Err p) (sym c.place_of_object.ensures),
     )
 
@@ -29,7 +29,7 @@ loop-object-preserved c =
     let o = c.object-item.result in
     let some = c.in_ok-put_object.ensures.placed ∙ ap (λ (t : Bool). if t then Some now else None) c.if-not-branch.false in
     record {
-      same = l.invariant.same ∙ objects_next (volume_of s.geometry.now) s.reserved.now s.from l.keeper.all.items now c.args.objects.now l.object-index o c.loop-object-test.true c.object-item.is some;
+      same = l.invariant.same ∙ objects_next (volume_of s.geometry.now) s.reserved.now s.from s.spared.now s.takes l.keeper.all.items now c.args.objects.now l.object-index o c.loop-object-test.true c.object-item.is some;
       long = omega (arith, l.invariant.long, c.in_ok-put_object.ensures.long);
       kept' = c.in_ok-put_object.ensures.kept;
       pool' = c.in_ok-put_object.ensures.pool;
@@ -42,11 +42,11 @@ returns-clause-placed c =
     let s = c.args.site.now in
     let l = c.loop-object in
     l.invariant.same
-    ∙ objects_end (volume_of s.geometry.now) s.reserved.now s.from l.keeper.all.items (drop l.object-index c.args.objects.now) (drop_all l.object-index c.args.objects.now c.loop-object-test.false)
+    ∙ objects_end (volume_of s.geometry.now) s.reserved.now s.from s.spared.now s.takes l.keeper.all.items (drop l.object-index c.args.objects.now) (drop_all l.object-index c.args.objects.now c.loop-object-test.false)
 
 pub returns-clause-behind : goal.returns-clause-behind
 returns-clause-behind c =
     let s = c.args.site.now in
     let l = c.loop-object in
-    first_stays (volume_of s.geometry.now) s.reserved.now s.from c.args.kept.items c.args.objects.now l.keeper.all.items (l.invariant.same
-    ∙ objects_end (volume_of s.geometry.now) s.reserved.now s.from l.keeper.all.items (drop l.object-index c.args.objects.now) (drop_all l.object-index c.args.objects.now c.loop-object-test.false))
+    first_stays (volume_of s.geometry.now) s.reserved.now s.from s.spared.now s.takes c.args.kept.items c.args.objects.now l.keeper.all.items (l.invariant.same
+    ∙ objects_end (volume_of s.geometry.now) s.reserved.now s.from s.spared.now s.takes l.keeper.all.items (drop l.object-index c.args.objects.now) (drop_all l.object-index c.args.objects.now c.loop-object-test.false))

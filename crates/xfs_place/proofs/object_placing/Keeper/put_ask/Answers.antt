@@ -1,8 +1,9 @@
 use Rattle.std.proofs.Common.{◌≡◌, ◌++◌, ◌∷◌, [], ◌<◌, nat_lt, List, length, length-append, Some, sym, ◌∙◌, ap, subst, arith}
 use Rattle.xfs_geom.specs.Volumes.{volume_of}
 use Rattle.xfs_geom.specs.declared.records.Run.{Run}
-use Rattle.xfs_place.specs.Objects.{IsAsk, front_of, run_at}
-use Rattle.xfs_place.proofs.Pieces.{pieces_last, pieces_next, pieces_over, pieces_stop, rest_is}
+use Rattle.xfs_place.specs.Finding.{IsFrontOf}
+use Rattle.xfs_place.specs.Objects.{IsAsk, front_of, run_at, spared_in}
+use Rattle.xfs_place.proofs.Pieces.{front_push, pieces_last, pieces_next, pieces_over, pieces_stop, rest_is}
 use Rattle.xfs_place.proofs.object_placing.Keeper.put_ask.Goals as goal
 
 pub returns-in_default-clause-placed : goal.returns-in_default-clause-placed
@@ -10,7 +11,7 @@ returns-in_default-clause-placed c =
     let s = c.args.site.now in
     let l = c.loop-n in
     let found = rw c.in_default.is at c.in_ok-blocks.ensures.piece in
-    l.invariant.same ∙ pieces_stop (volume_of s.geometry.now) s.reserved.now s.from c.args.most l.n (nat_lt 0 l.n) l.self.all.items l.rest c.loop-n-test.true found.0
+    l.invariant.same ∙ pieces_stop (volume_of s.geometry.now) s.reserved.now s.from (spared_in c.args.all s.spared.now) c.args.most l.n (nat_lt 0 l.n) l.self.all.items l.rest c.loop-n-test.true found.0
 
 pub returns-then-blocks-rest-clause-placed : goal.returns-then-blocks-rest-clause-placed
 returns-then-blocks-rest-clause-placed c =
@@ -18,7 +19,7 @@ returns-then-blocks-rest-clause-placed c =
     let l = c.loop-n in
     let found = rw c.in-Some.is at c.in_ok-blocks.ensures.piece in
     l.invariant.same
-    ∙ pieces_last (volume_of s.geometry.now) s.reserved.now s.from c.args.most l.n (nat_lt 0 l.n) l.self.all.items l.rest found.0 c.in-Some.blocks c.loop-n-test.true found.1 c.if-blocks-rest.true
+    ∙ pieces_last (volume_of s.geometry.now) s.reserved.now s.from (spared_in c.args.all s.spared.now) c.args.most l.n (nat_lt 0 l.n) l.self.all.items l.rest found.0 c.in-Some.blocks c.loop-n-test.true found.1 c.if-blocks-rest.true
     ∙ ap (λ (rs : List Run). Some rs) (sym found.2)
 
 pub loop-n-preserved : goal.loop-n-preserved
@@ -31,9 +32,10 @@ loop-n-preserved c =
     let less : c.in-Some.blocks < l.rest.blocks = omega (arith, few.1, c.if-blocks-rest.false) in
     record {
       same = l.invariant.same
-          ∙ pieces_next (volume_of s.geometry.now) s.reserved.now s.from c.args.most l.n (nat_lt 0 l.n) l.self.all.items c.put_piece.new.self.all.items l.rest c.rest_of-rest.result found.0 c.in-Some.blocks
+          ∙ pieces_next (volume_of s.geometry.now) s.reserved.now s.from (spared_in c.args.all s.spared.now) c.args.most l.n (nat_lt 0 l.n) l.self.all.items c.put_piece.new.self.all.items l.rest c.rest_of-rest.result found.0 c.in-Some.blocks
           c.loop-n-test.true found.1 c.if-blocks-rest.false put c.rest_of-rest.ensures;
       ask' = subst IsAsk (sym c.rest_of-rest.ensures) (rest_is l.rest c.in-Some.blocks l.invariant.ask' less);
+      front = front_push c.args.self.now.all.items l.self.all.items c.put_piece.new.self.all.items (run_at found.0 (front_of l.rest c.in-Some.blocks) ∷ []) l.invariant.front put;
       long = omega (arith, ap length put, length-append l.self.all.items (run_at found.0 (front_of l.rest c.in-Some.blocks) ∷ []), l.invariant.long);
       kept = c.in_ok-blocks.ensures.kept;
       pool' = c.in_ok-blocks.ensures.pool;
@@ -43,4 +45,14 @@ pub returns-clause-placed : goal.returns-clause-placed
 returns-clause-placed c =
     let s = c.args.site.now in
     let l = c.loop-n in
-    l.invariant.same ∙ pieces_over (volume_of s.geometry.now) s.reserved.now s.from c.args.most l.n (nat_lt 0 l.n) l.self.all.items l.rest c.loop-n-test.false
+    l.invariant.same ∙ pieces_over (volume_of s.geometry.now) s.reserved.now s.from (spared_in c.args.all s.spared.now) c.args.most l.n (nat_lt 0 l.n) l.self.all.items l.rest c.loop-n-test.false
+
+pub returns-in_default-clause-front : goal.returns-in_default-clause-front
+returns-in_default-clause-front c =
+    let found = rw c.in_default.is at c.in_ok-blocks.ensures.piece in
+    subst (IsFrontOf c.args.self.now.all.items) (sym found.1) c.loop-n.invariant.front
+
+pub returns-then-blocks-rest-clause-front : goal.returns-then-blocks-rest-clause-front
+returns-then-blocks-rest-clause-front c =
+    let found = rw c.in-Some.is at c.in_ok-blocks.ensures.piece in
+    front_push c.args.self.now.all.items c.loop-n.self.all.items c.put_piece.new.self.all.items (run_at found.0 (front_of c.loop-n.rest c.in-Some.blocks) ∷ []) c.loop-n.invariant.front found.2

@@ -1,44 +1,74 @@
-use Rattle.std.proofs.Common.{◌≡◌, ◌+◌, length, drop, ◌∙◌, arith}
-use Rattle.std.proofs.lemmas.List.{drop_all}
+use Rattle.std.proofs.Common.{◌≡◌, ◌≤◌, ◌++◌, [], ℕ, Bool, true, false, List, Some, None, if◌then◌else◌, length, take, drop, sym, ◌∙◌, ap, subst, arith}
 use Rattle.xfs_geom.specs.Volumes.{volume_of}
+use Rattle.xfs_geom.specs.declared.records.Run.{Run}
+use Rattle.xfs_place.specs.Objects.{ServeAsks, keep_asks}
+use Rattle.xfs_place.specs.Wanted.{CanBeKept}
 use Rattle.xfs_place.specs.declared.wanted.RunAsk.{RunAsk}
-use Rattle.xfs_place.proofs.Pieces.{asks_end, asks_next, asks_stop, cuts_next}
+use Rattle.xfs_place.proofs.Pieces.{front_long, front_take, object_first, object_none, object_second}
 use Rattle.xfs_place.proofs.object_placing.Keeper.put_object.Goals as goal
 
-abbrev none_asked : RunAsk
-none_asked = record { blocks = 0; owner = 0; offset_word = 0 }
-
-pub returns-in_default-clause-placed : goal.returns-in_default-clause-placed
-returns-in_default-clause-placed c =
+pub returns-then-branch-clause-placed : goal.returns-then-branch-clause-placed
+returns-then-branch-clause-placed c =
     let s = c.args.site.now in
-    let l = c.loop-i in
-    let none = rw c.in_default.is at c.in_ok-count.ensures.placed in
-    l.invariant.same
-    ∙ asks_stop (volume_of s.geometry.now) s.reserved.now s.from l.left c.saturating_sub-most.result l.self.all.items c.as_slice-asks.result.now l.i none_asked c.loop-i-test.true c.saturating_sub-most.ensures none
+    let now = c.put_asks.new.self.all.items in
+    object_first (volume_of s.geometry.now) s.reserved.now s.from s.spared.now s.takes c.args.self.now.all.items c.args.object.now now
+    (c.in_ok-put_asks.ensures.placed ∙ ap (λ (t : Bool). if t then Some now else None) c.if-branch.true)
 
-pub loop-i-preserved : goal.loop-i-preserved
-loop-i-preserved c =
+pub returns-then-branch-clause-long : goal.returns-then-branch-clause-long
+returns-then-branch-clause-long c = front_long c.args.self.now.all.items c.put_asks.new.self.all.items c.in_ok-put_asks.ensures.front
+
+pub returns-then-branch-clause-cuts : goal.returns-then-branch-clause-cuts
+returns-then-branch-clause-cuts c = λ placed. c.in_ok-put_asks.ensures.cuts c.if-branch.true
+
+pub returns-then-not-site-clause-placed : goal.returns-then-not-site-clause-placed
+returns-then-not-site-clause-placed c =
     let s = c.args.site.now in
-    let l = c.loop-i in
-    let asks = c.as_slice-asks.result.now in
-    let now = c.put_ask.new.self.all.items in
-    let some = rw c.in-Some.is at c.in_ok-count.ensures.placed in
-    let long : length now ≡ length l.self.all.items + c.in-Some.count = rw c.in-Some.is at c.in_ok-count.ensures.count in
-    record {
-      same = l.invariant.same
-          ∙ asks_next (volume_of s.geometry.now) s.reserved.now s.from l.left c.saturating_sub-most.result c.in-Some.count l.self.all.items now asks l.i none_asked c.loop-i-test.true
-          c.saturating_sub-most.ensures some long;
-      few = omega (arith, l.invariant.few);
-      long = omega (arith, l.invariant.long, long);
-      kept = c.in_ok-count.ensures.kept;
-      pool' = c.in_ok-count.ensures.pool;
-      cuts' = λ done were.
-          cuts_next (volume_of s.geometry.now) s.reserved.now s.from c.saturating_sub-most.result c.in-Some.count c.args.first l.self.all.items now done asks l.i none_asked l.cuts.items
-          c.push.new.self.items (omega (arith, c.requires.first, l.invariant.long)) c.loop-i-test.true some long c.in_ok-push.ensures.items (l.invariant.cuts' done were);
-    }
+    let now = c.put_asks.new.self.all.items in
+    object_none (volume_of s.geometry.now) s.reserved.now s.from s.spared.now s.takes c.args.self.now.all.items c.args.object.now
+    (c.in_ok-put_asks.ensures.placed ∙ ap (λ (t : Bool). if t then Some now else None) c.if-branch.false) c.if-not-site.true
+
+pub returns-then-not-site-clause-long : goal.returns-then-not-site-clause-long
+returns-then-not-site-clause-long c = front_long c.args.self.now.all.items c.put_asks.new.self.all.items c.in_ok-put_asks.ensures.front
+
+pub give_back-requires-clause-kept : goal.give_back-requires-clause-kept
+give_back-requires-clause-kept c =
+    let old = c.args.self.now.all in
+    subst (CanBeKept (volume_of c.args.site.now.geometry.now)) (sym (front_take c.args.self.now.all.items c.put_asks.new.self.all.items c.len-kept.result c.in_ok-put_asks.ensures.front (omega (arith, c.len-kept.ensures, old.ok.0)))) c.requires.kept
+
+pub put_asks-requires-2-clause-first : goal.put_asks-requires-2-clause-first
+put_asks-requires-2-clause-first c =
+    let old = c.args.self.now.all in
+    let back = c.in_ok-give_back.ensures.all ∙ front_take c.args.self.now.all.items c.put_asks.new.self.all.items c.len-kept.result c.in_ok-put_asks.ensures.front (omega (arith, c.len-kept.ensures, old.ok.0)) in
+    omega (arith, c.requires.first, ap length back)
+
+pub put_asks-requires-2-clause-kept : goal.put_asks-requires-2-clause-kept
+put_asks-requires-2-clause-kept c =
+    let old = c.args.self.now.all in
+    let back = c.in_ok-give_back.ensures.all ∙ front_take c.args.self.now.all.items c.put_asks.new.self.all.items c.len-kept.result c.in_ok-put_asks.ensures.front (omega (arith, c.len-kept.ensures, old.ok.0)) in
+    subst (CanBeKept (volume_of c.args.site.now.geometry.now)) (sym back) c.requires.kept
 
 pub returns-clause-placed : goal.returns-clause-placed
 returns-clause-placed c =
     let s = c.args.site.now in
-    let l = c.loop-i in
-    l.invariant.same ∙ asks_end (volume_of s.geometry.now) s.reserved.now s.from l.left l.self.all.items (drop l.i c.as_slice-asks.result.now) (drop_all l.i c.as_slice-asks.result.now c.loop-i-test.false)
+    let old = c.args.self.now.all in
+    let o = c.args.object.now in
+    let back = c.in_ok-give_back.ensures.all ∙ front_take c.args.self.now.all.items c.put_asks.new.self.all.items c.len-kept.result c.in_ok-put_asks.ensures.front (omega (arith, c.len-kept.ensures, old.ok.0)) in
+    let now = c.put_asks.new.self.all.items in
+    object_second (volume_of s.geometry.now) s.reserved.now s.from s.spared.now s.takes old.items o
+    (c.in_ok-put_asks.ensures.placed ∙ ap (λ (t : Bool). if t then Some now else None) c.if-branch.false) c.if-not-site.false
+    ∙ ap (λ (rs : List Run). keep_asks (volume_of s.geometry.now) s.reserved.now s.from [] o.most rs o.runs) (sym back) ∙ c.in_ok-placed.ensures.placed
+
+pub returns-clause-long : goal.returns-clause-long
+returns-clause-long c =
+    let old = c.args.self.now.all in
+    let back = c.in_ok-give_back.ensures.all ∙ front_take c.args.self.now.all.items c.put_asks.new.self.all.items c.len-kept.result c.in_ok-put_asks.ensures.front (omega (arith, c.len-kept.ensures, old.ok.0)) in
+    omega (arith, front_long c.give_back.new.self.all.items c.put_asks-2.new.self.all.items c.in_ok-placed.ensures.front, ap length back)
+
+pub returns-clause-cuts : goal.returns-clause-cuts
+returns-clause-cuts c = λ placed asks were.
+    let old = c.args.self.now.all in
+    let cuts = c.args.cuts.now in
+    let back = c.in_ok-give_back.ensures.all ∙ front_take c.args.self.now.all.items c.put_asks.new.self.all.items c.len-kept.result c.in_ok-put_asks.ensures.front (omega (arith, c.len-kept.ensures, old.ok.0)) in
+    let back' = c.truncate.ensures.items ∙ front_take c.args.cuts.now.items c.put_asks.new.cuts.items c.len-cut.result c.in_ok-put_asks.ensures.cut (omega (arith, c.len-cut.ensures, cuts.ok.0)) in
+    c.in_ok-placed.ensures.cuts placed asks
+    (subst (λ (ns : List ℕ). ServeAsks asks ns (drop c.args.first c.give_back.new.self.all.items)) (sym back') (subst (λ (rs : List Run). ServeAsks asks cuts.items (drop c.args.first rs)) (sym back) were))

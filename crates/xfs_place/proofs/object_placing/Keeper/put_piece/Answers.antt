@@ -1,19 +1,20 @@
-use Rattle.std.proofs.Common.{◌≡◌, ◌++◌, ◌∷◌, [], List, refl, sym, ◌∙◌, ap, subst}
+use Rattle.std.proofs.Common.{◌≡◌, ℕ, ◌++◌, ◌∷◌, [], List, refl, sym, ◌∙◌, ap, subst}
 use Rattle.xfs_geom.specs.Volumes.{volume_of}
 use Rattle.xfs_geom.specs.declared.records.Run.{Run}
-use Rattle.xfs_place.specs.Finding.{Opens}
-use Rattle.xfs_place.specs.Objects.{front_of, lowest, run_at}
+use Rattle.xfs_place.specs.Finding.{Opens, Takes, free_in}
+use Rattle.xfs_place.specs.Objects.{front_of, lowest, run_at, spared_in}
 use Rattle.xfs_place.specs.Wanted.{CanBeKept}
 use Rattle.xfs_place.proofs.HeldRuns.{finds_lowest, kept_more, opens_more}
 use Rattle.xfs_place.proofs.Pieces.{front_is}
+use Rattle.xfs_place.proofs.RowRuns.{fits_all}
 use Rattle.xfs_place.proofs.object_placing.Keeper.put_piece.Goals as goal
 
 pub returns-in_default-clause-piece : goal.returns-in_default-clause-piece
 returns-in_default-clause-piece c =
     let g = c.args.site.now.geometry.now in
     let kept = c.args.self.now.all.items in (
-      c.in_default.ensures.piece (lowest (volume_of g) c.args.site.now.reserved.now c.args.site.now.from kept)
-          (finds_lowest (volume_of g) g.shape.groups kept c.args.site.now.reserved.now c.args.site.now.from c.args.self.now.pool.uses.items c.requires.pool.opens),
+      c.in_default.ensures.piece (lowest (volume_of g) c.args.site.now.reserved.now c.args.site.now.from (spared_in c.args.all c.args.site.now.spared.now) kept)
+          (finds_lowest (volume_of g) g.shape.groups kept c.args.site.now.reserved.now c.args.site.now.from (spared_in c.args.all c.args.site.now.spared.now) (free_in c.args.all c.args.self.now.pool) (c.requires.pool.opens c.args.all)),
       refl,
     )
 
@@ -24,21 +25,25 @@ returns-clause-kept c =
     let p = c.in-Some.piece in
     let put : c.push.new.self.items ≡ kept ++ run_at p.start (front_of c.args.ask.now p.blocks) ∷ [] = c.in_ok-push.ensures.items ∙ ap (λ (r : Run). kept ++ r ∷ []) c.run_of.ensures in
     subst (CanBeKept (volume_of g)) (sym put)
-    (kept_more (volume_of g) g.shape.groups kept c.args.site.now.reserved.now c.args.site.now.from c.args.self.now.pool.uses.items c.requires.pool.opens (front_of c.args.ask.now p.blocks) p.start
-    (front_is c.args.ask.now p.blocks c.requires.ask c.in-Some.ensures.some c.in-Some.ensures.few) c.in-Some.ensures.least.0 c.requires.kept)
+    (kept_more (volume_of g) g.shape.groups kept c.args.site.now.reserved.now c.args.site.now.from (spared_in c.args.all c.args.site.now.spared.now) (free_in c.args.all c.args.self.now.pool) (c.requires.pool.opens c.args.all) (front_of c.args.ask.now p.blocks) p.start
+    (front_is c.args.ask.now p.blocks c.requires.ask c.in-Some.ensures.front.some c.in-Some.ensures.few) c.in-Some.ensures.least.0 c.requires.kept)
 
 pub returns-clause-pool : goal.returns-clause-pool
 returns-clause-pool c =
     let g = c.args.site.now.geometry.now in
+    let r = c.args.site.now.reserved.now in
+    let f = c.args.site.now.from in
+    let spared = c.args.site.now.spared.now in
     let kept = c.args.self.now.all.items in
+    let old = c.args.self.now.pool in
     let p = c.in-Some.piece in
-    let now = c.take.new.self.uses.items in
+    let now = c.take.new.self in
     let put : c.push.new.self.items ≡ kept ++ run_at p.start (front_of c.args.ask.now p.blocks) ∷ [] = c.in_ok-push.ensures.items ∙ ap (λ (r : Run). kept ++ r ∷ []) c.run_of.ensures in
     record {
-      opens = subst (λ (rs : List Run). Opens (volume_of g) rs c.args.site.now.reserved.now c.args.site.now.from now) (sym put)
-          (opens_more (volume_of g) g.shape.groups kept c.args.site.now.reserved.now c.args.site.now.from c.args.self.now.pool.uses.items c.requires.pool.opens (front_of c.args.ask.now p.blocks) p.start now
-          c.take.ensures.marks);
-      starts' = c.take.ensures.starts;
+      rows' = c.take.ensures.rows;
+      opens = λ all. subst (λ (rs : List Run). Opens (volume_of g) rs r f (spared_in all spared) (free_in all now)) (sym put)
+          (opens_more (volume_of g) g.shape.groups kept r f (spared_in all spared) (free_in all old) (c.requires.pool.opens all) (front_of c.args.ask.now p.blocks) p.start (free_in all now)
+          (subst (λ (n : ℕ). Takes (free_in all old) (free_in all now) n p.blocks) c.in-Some.ensures.front.start' (c.take.ensures.takes all)));
     }
 
 pub returns-clause-piece : goal.returns-clause-piece
@@ -48,7 +53,10 @@ returns-clause-piece c =
     let p = c.in-Some.piece in
     let put : c.push.new.self.items ≡ kept ++ run_at p.start (front_of c.args.ask.now p.blocks) ∷ [] = c.in_ok-push.ensures.items ∙ ap (λ (r : Run). kept ++ r ∷ []) c.run_of.ensures in (
       p.start,
-      c.in-Some.ensures.piece (lowest (volume_of g) c.args.site.now.reserved.now c.args.site.now.from kept)
-          (finds_lowest (volume_of g) g.shape.groups kept c.args.site.now.reserved.now c.args.site.now.from c.args.self.now.pool.uses.items c.requires.pool.opens),
+      c.in-Some.ensures.piece (lowest (volume_of g) c.args.site.now.reserved.now c.args.site.now.from (spared_in c.args.all c.args.site.now.spared.now) kept)
+          (finds_lowest (volume_of g) g.shape.groups kept c.args.site.now.reserved.now c.args.site.now.from (spared_in c.args.all c.args.site.now.spared.now) (free_in c.args.all c.args.self.now.pool) (c.requires.pool.opens c.args.all)),
       put,
     )
+
+pub take-requires-clause-fits : goal.take-requires-clause-fits
+take-requires-clause-fits c = fits_all c.args.self.now.pool c.args.all c.in-Some.piece c.requires.pool.rows' c.in-Some.ensures.front

@@ -1,22 +1,38 @@
-use Rattle.std.proofs.Common.{◌%◌, nat_lt, List, sym, subst, arith}
+use Rattle.std.proofs.Common.{◌≡◌, ◌≤◌, ℕ, List, length, ap, subst, arith}
 use Rattle.xfs_geom.specs.Volumes.{volume_of}
 use Rattle.xfs_place.specs.declared.uses.Use.{Use}
-use Rattle.xfs_place.specs.declared.uses.Use.TheVariants.{Claimed}
-use Rattle.xfs_place.specs.Finding.{AreStarts, Opens}
-use Rattle.xfs_place.specs.Pool.{MarksUses}
-use Rattle.xfs_place.proofs.HeldRuns.{opens_first, written}
-use Rattle.xfs_place.proofs.OpenRuns.{starts_first}
+use Rattle.xfs_place.specs.Finding.{AreOpenRows}
+use Rattle.xfs_place.specs.Greatest.{Holds}
+use Rattle.xfs_place.proofs.HeldRuns.{rows_counts, rows_less, rows_opens}
+use Rattle.xfs_place.proofs.RowRuns.{rows_few}
 use Rattle.xfs_place.proofs.open_blocks.OpenBlocks.new.Goals as goal
 
 pub returns : goal.returns
 returns c =
-    let v = volume_of c.args.site.now.geometry.now in
-    let uses = c.in_ok-uses.uses in
-    let starts = c.in_ok-no_starts.field-0.items in
-    let marks = subst (λ (us : List Use). MarksUses us c.close_fronts.new.uses (λ b. nat_lt (b % c.args.site.now.geometry.now.agblocks) c.args.site.now.from) Claimed) c.deref_mut.ensures.value c.close_fronts.ensures in
-    let whole = written uses.len c.close_fronts.new.uses _ (omega (arith, uses.ok.0, marks.all)) in
-    let opens = opens_first v c.args.kept.now c.args.site.now.reserved.now c.args.site.now.from uses.items c.close_fronts.new.uses c.in_ok-uses.ensures marks in
+    let s = c.args.site.now in
+    let g = s.geometry.now in
+    let kept = c.args.kept.now in
+    let uses = c.in_ok-uses.uses.items in
+    let rows = c.in_ok-rows.rows in
+    let parts = c.in_ok-parts.parts.items in
+    let listed = subst (λ (us : List Use). AreOpenRows us rows.starts.items rows.counts.items) c.deref.ensures.value c.in_ok-rows.ensures in
+    let holds = subst (λ (ns : List ℕ). Holds ns c.in_ok-counts.counts) c.deref-2.ensures.value c.in_ok-counts.ensures in
+    let holds' = subst (λ (ns : List ℕ). Holds ns c.in_ok-unspared.unspared) c.deref-3.ensures.value c.in_ok-unspared.ensures in
+    let u = c.in_ok-uses.ensures in
+    let p = c.in_ok-parts.ensures in
     record {
-      opens = subst (Opens v c.args.kept.now c.args.site.now.reserved.now c.args.site.now.from) (sym whole) opens;
-      starts' = subst (λ (us : List Use). AreStarts us 65536 starts) (sym whole) (starts_first c.close_fronts.new.uses 65536 starts c.in_ok-no_starts.ensures.all c.in_ok-no_starts.ensures.none);
+      rows' = record {
+        each = rows_counts (volume_of g) g.shape.groups kept s.reserved.now s.from s.spared.now uses rows.starts.items rows.counts.items parts c.in_ok-counts.counts c.in_ok-unspared.unspared u.all u.few u.each
+            listed p.all p.each holds holds';
+        under = rows_less (volume_of g) g.shape.groups kept s.reserved.now s.from s.spared.now uses rows.starts.items rows.counts.items parts c.in_ok-counts.counts c.in_ok-unspared.unspared u.all u.few u.each
+            listed p.all p.each holds holds';
+      };
+      opens = rows_opens (volume_of g) g.shape.groups kept s.reserved.now s.from s.spared.now uses rows.starts.items rows.counts.items parts c.in_ok-counts.counts c.in_ok-unspared.unspared u.all u.few u.each
+          listed p.all p.each holds holds';
     }
+
+pub new-requires : goal.new-requires
+new-requires c =
+    let rows = c.in_ok-rows.rows in
+    let listed = subst (λ (us : List Use). AreOpenRows us rows.starts.items rows.counts.items) c.deref.ensures.value c.in_ok-rows.ensures in
+    omega (arith, rows_few c.in_ok-uses.uses.items rows.starts.items rows.counts.items listed, c.in_ok-uses.ensures.few, ap length c.deref-2.ensures.value)

@@ -1,24 +1,46 @@
-use Rattle.std.proofs.Common.{◌≡◌, ℕ, ◌+◌, nat_lt, if◌then◌else◌, List, get_or, set, refl, sym, ◌∙◌, ap, subst, arith}
+use Rattle.std.proofs.Common.{◌≡◌, ℕ, ◌+◌, Bool, true, false, List, get_or, set, refl, ◌∙◌, ap, arith}
 use Rattle.std.proofs.lemmas.List.{get_or_default}
-use Rattle.xfs_disk.specs.Lists.{is_in_range}
-use Rattle.xfs_place.specs.declared.uses.Use.{Use}
-use Rattle.xfs_place.specs.declared.uses.Use.TheVariants.{Claimed}
-use Rattle.xfs_place.specs.Finding.{AreStarts}
-use Rattle.xfs_place.specs.Pool.{MarksUses}
-use Rattle.xfs_place.proofs.HeldRuns.{written}
-use Rattle.xfs_place.proofs.OpenRuns.{starts_next}
+use Rattle.xfs_place.proofs.RowRuns.{both_counts, both_takes, both_under}
 use Rattle.xfs_place.proofs.open_blocks.OpenBlocks.take.Goals as goal
 
-pub returns-clause-starts : goal.returns-clause-starts
-returns-clause-starts c =
-    let uses = c.args.self.now.uses in
+pub returns-clause-takes : goal.returns-clause-takes
+returns-clause-takes c =
+    let old = c.args.self.now in
+    let starts = old.starts.items in
+    let p = c.args.piece in
+    let read : c.index.result.now ≡ get_or starts p.row 0 = c.index.ensures ∙ get_or_default starts p.row c.index.result.now 0 c.requires.inside in
+    both_takes starts (set starts p.row c.start_behind.result) old.counts c.shorten.new.counts old.unspared c.shorten-2.new.counts p.row p.blocks (c.requires.rows.each true) (c.requires.rows.each false)
+    c.requires.rows.under c.requires.inside c.requires.fits c.shorten.ensures c.shorten-2.ensures (ap (set starts p.row) (c.start_behind.ensures ∙ ap (λ (n : ℕ). n + p.blocks) read))
+
+pub returns-clause-rows : goal.returns-clause-rows
+returns-clause-rows c =
+    let old = c.args.self.now in
+    let starts = old.starts.items in
+    let p = c.args.piece in
+    let read : c.index.result.now ≡ get_or starts p.row 0 = c.index.ensures ∙ get_or_default starts p.row c.index.result.now 0 c.requires.inside in
+    let put = ap (set starts p.row) (c.start_behind.ensures ∙ ap (λ (n : ℕ). n + p.blocks) read) in
+    record {
+      each = both_counts starts (set starts p.row c.start_behind.result) old.counts c.shorten.new.counts old.unspared c.shorten-2.new.counts p.row p.blocks (c.requires.rows.each true) (c.requires.rows.each false)
+          c.requires.rows.under c.requires.inside c.requires.fits c.shorten.ensures c.shorten-2.ensures put;
+      under = both_under starts (set starts p.row c.start_behind.result) old.counts c.shorten.new.counts old.unspared c.shorten-2.new.counts p.row p.blocks (c.requires.rows.each true) (c.requires.rows.each false)
+          c.requires.rows.under c.requires.inside c.requires.fits c.shorten.ensures c.shorten-2.ensures put;
+    }
+
+pub start_behind-requires : goal.start_behind-requires
+start_behind-requires c =
     let starts = c.args.self.now.starts.items in
-    let slot = c.slot_of-slot.result in
-    let marks = subst (λ (us : List Use). MarksUses us c.mark.new.uses (is_in_range c.args.start c.args.blocks) Claimed) c.deref_mut.ensures.value c.mark.ensures in
-    let read : c.index.result.now ≡ get_or starts slot 0 =
-    c.index.ensures ∙ get_or_default starts slot c.index.result.now 0 (omega (arith, c.slot_of-slot.ensures, c.requires.starts.all)) in
-    let behind : c.start_behind.result ≡ (if nat_lt c.args.blocks 65536 then c.args.start + c.args.blocks else get_or starts slot 0) =
-    c.start_behind.ensures ∙ ap (λ (n : ℕ). if nat_lt c.args.blocks 65536 then c.args.start + c.args.blocks else n) read in
-    let next = starts_next uses.items c.mark.new.uses starts (set starts slot c.start_behind.result) c.args.blocks c.args.start slot c.start_behind.result c.requires.some c.requires.starts c.requires.least marks
-    c.slot_of-slot.ensures behind refl in
-    subst (λ (us : List Use). AreStarts us 65536 (set starts slot c.start_behind.result)) (sym (written uses.len c.mark.new.uses _ (omega (arith, uses.ok.0, marks.all)))) next
+    let p = c.args.piece in
+    let read : c.index.result.now ≡ get_or starts p.row 0 = c.index.ensures ∙ get_or_default starts p.row c.index.result.now 0 c.requires.inside in
+    omega (arith, read, c.requires.fits, (c.requires.rows.each true).small p.row c.requires.inside)
+
+pub shorten-requires-clause-stands : goal.shorten-requires-clause-stands
+shorten-requires-clause-stands c = (c.requires.rows.each true).greatest
+
+pub shorten-requires-clause-inside : goal.shorten-requires-clause-inside
+shorten-requires-clause-inside c = omega (arith, c.requires.inside, (c.requires.rows.each true).few)
+
+pub shorten-requires-2-clause-stands : goal.shorten-requires-2-clause-stands
+shorten-requires-2-clause-stands c = (c.requires.rows.each false).greatest
+
+pub shorten-requires-2-clause-inside : goal.shorten-requires-2-clause-inside
+shorten-requires-2-clause-inside c = omega (arith, c.requires.inside, (c.requires.rows.each false).few)

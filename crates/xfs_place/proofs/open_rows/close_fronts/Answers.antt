@@ -2,8 +2,8 @@ use Rattle.std.proofs.Common.{◌%◌, nat_lt}
 use Rattle.std.proofs.lemmas.Bool.{le-ltb, lt-ltb}
 use Rattle.xfs_place.specs.declared.uses.Use.TheVariants.{Claimed}
 use Rattle.xfs_place.proofs.Marking.{marks_passed, marks_put}
-use Rattle.xfs_place.proofs.open_blocks.close_fronts.Goals as goal
-use Rattle.xfs_place.proofs.open_blocks.close_fronts.Goals.{then-block-g, else-block-g}
+use Rattle.xfs_place.proofs.open_rows.close_fronts.Goals as goal
+use Rattle.xfs_place.proofs.open_rows.close_fronts.Goals.{then-block-g, else-block-g}
 
 pub loop-block-preserved : goal.loop-block-preserved
 loop-block-preserved c = elim c.if-block-g.branch [
