@@ -2,6 +2,8 @@
 
 ghost use Rattle.std.specs.Prelude.{◌≡◌, ◌≤◌, IfOk, [], ◌∷◌};
 
+mod aged;
+mod filled;
 mod groups;
 mod objects;
 mod pieces;
@@ -87,7 +89,10 @@ fn lowest_chunks(rt: HostRuntime) -> Result<(), Fail> {
         let mut row = Row::new(line);
         let (size, from) = (row.number::<u32>(&rt), row.number(&rt));
         let spared = row.numbers::<u32>(&rt, alloc)?;
-        match chunks(alloc, &ask(alloc, size.max(1), from, spared, row.number(&rt))?) {
+        match chunks(
+            alloc,
+            &ask(alloc, size.max(1), from, spared, row.number(&rt))?,
+        ) {
             Ok(starts) => tells(&rt, &starts.as_slice(), row.text(), line),
             Err(_) => refuse(&rt, "no chunks are found", line),
         }

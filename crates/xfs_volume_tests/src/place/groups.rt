@@ -69,8 +69,8 @@ pub fn place_beside(
     requires length { run.count < 2 ^ 32 }
     requires asks { All (λ object. All IsAsk object.runs) objects.items }
 {
-    let spared = Spared {
-        from: Vec::new(alloc),
+    let spared = SparedBlocks {
+        from: Records::from_vec(Vec::new(alloc)),
         takes: false,
     };
     place_sparing(alloc, size, run, reserved, objects, from, spared)
@@ -78,8 +78,8 @@ pub fn place_beside(
 
 /// Of each group the AG block from which on its blocks are spared, and whether objects may take these.
 #[derive(Drop)]
-pub struct Spared {
-    pub from: Vec<u32>,
+pub struct SparedBlocks {
+    pub from: Records<u32>,
     pub takes: bool,
 }
 
@@ -92,7 +92,7 @@ pub fn place_sparing(
     reserved: Vec<u64>,
     objects: Vec<Object>,
     from: u32,
-    spared: Spared,
+    spared: SparedBlocks,
 ) -> Result<Placed, PlaceFault>
     requires shape { IsShaped size.now.dblocks size.now.agblocks size.now.agcount size.now.agblklog size.now.log 512 128 0 }
     requires some { 1 ≤ run.count }
@@ -110,7 +110,7 @@ pub fn place_sparing(
         new: Records::from_vec(Vec::new(alloc)),
         reserved: Records::from_vec(reserved),
         from,
-        spared_from: Records::from_vec(spared.from),
+        spared_from: spared.from,
         takes_spared: spared.takes,
         objects: Records::from_vec(objects),
         inodes: Records::from_vec(root_alone(alloc, size.agcount)?),

@@ -5,7 +5,6 @@ ghost use Rattle.std.specs.Prelude.{◌≤◌, All, IfOk};
 use super::groups::{SMALLEST, place_beside, root_chunk};
 use super::objects::object;
 use super::*;
-use crate::checks::same;
 use crate::text::{Row, refuse, tells};
 use std::process::Abort;
 
@@ -59,11 +58,7 @@ pub fn runs_of(alloc: Global, placed: &Placed) -> Result<Vec<(u64, u64, u64)>, A
 /// Fails where an object does not stand as a line says in a volume in which only some rows of blocks are open. The line has the AG block from
 /// which on it may stand, the rows (start and blocks), the lengths of the asks, how many runs they may take, and what stands: the runs and how
 /// many each ask has, or what finds no room.
-fn stands(
-    rt: &(impl Abort + AllocGlobal),
-    row: &mut Row<'_>,
-    line: &str,
-) -> Result<Option<Placed>, Fail> {
+fn stands(rt: &(impl Abort + AllocGlobal), row: &mut Row<'_>, line: &str) -> Result<(), Fail> {
     let alloc = rt.alloc();
     let from = row.number(rt);
     let rows = row.numbers::<u64>(rt, alloc)?;
@@ -77,14 +72,11 @@ fn stands(
         Ok(placed) => {
             tells(rt, &runs_of(alloc, &placed)?.as_slice(), row.text(), line);
             tells(rt, &placed.cuts.as_slice(), row.text(), line);
-            Ok(Some(placed))
         }
-        Err(PlaceFault::NoRoom(what)) => {
-            tells(rt, &what, row.text(), line);
-            Ok(None)
-        }
+        Err(PlaceFault::NoRoom(what)) => tells(rt, &what, row.text(), line),
         Err(PlaceFault::NoMemory) => refuse(rt, "memory is wanting", line),
     }
+    Ok(())
 }
 
 /// In a pool of single blocks an object has as many blocks as it may take runs; elsewhere the longest runs come first, and one run where
@@ -115,45 +107,7 @@ const PIECES: &str = "\
 #[test]
 fn pieces_of_asks(rt: HostRuntime) -> Result<(), Fail> {
     for line in PIECES.lines() {
-        let _placed = stands(&rt, &mut Row::new(line), line)?;
+        stands(&rt, &mut Row::new(line), line)?;
     }
     Ok(())
-}
-
-/// A directory of three blocks with an index, between blocks that are kept, and the trees and free lists that then stand behind it.
-const BETWEEN: &str = "\
-1 | 1 2 4 1 6 2 78 2 81 2 84 2 87 2 90 2 1025 2 1028 1 1542 2 1545 2 1548 2 1551 2 | 3 1 | 21 | [(1, 2, 0), (4, 1, 2), (6, 1, 0)] | [2, 1]
-";
-
-/// The trees and the free list of each group.
-const TREES: &str = "\
-7 78 79 81 82 | 84 85 87 88 90 91
-1025 1026 1028 1542 1543 | 521 522 524 525 527 528
-";
-
-#[test]
-fn trees_between_pieces(rt: HostRuntime) -> Result<(), Fail> {
-    let alloc = rt.alloc();
-    for line in BETWEEN.lines() {
-        let Some(placed) = stands(&rt, &mut Row::new(line), line)? else {
-            refuse(&rt, "there is no room", line)
-        };
-        let groups = placed.groups.as_slice();
-        same!(rt; groups.len(), 2; line);
-        for (group, due) in groups.iter().zip(TREES.lines()) {
-            let mut row = Row::new(due);
-            same!(rt; blocks_of(alloc, group)?.as_slice(), row.numbers::<u64>(&rt, alloc)?.as_slice(); due);
-            same!(rt; group.agfl.as_slice(), row.numbers::<u32>(&rt, alloc)?.as_slice(); due);
-        }
-    }
-    Ok(())
-}
-
-/// The blocks of all trees of a group.
-fn blocks_of(alloc: Global, group: &GroupPlaced) -> Result<Vec<u64>, AllocError> {
-    let mut blocks = Vec::new(alloc);
-    for tree in group.trees.as_slice() {
-        blocks.extend_from_slice(tree.blocks.as_slice())?;
-    }
-    Ok(blocks)
 }

@@ -3,7 +3,7 @@
 ghost use Rattle.std.specs.Prelude.{◌≡◌, ◌≤◌, All, IfOk};
 ghost use Rattle.xfs_place.specs.Objects.{IsAsk};
 
-use super::groups::{SMALLEST, Spared, place_sparing, root_chunk, shaped};
+use super::groups::{SMALLEST, SparedBlocks, place_sparing, root_chunk, shaped};
 use super::objects::object;
 use super::pieces::{all_but, lengths_of, runs_of};
 use super::*;
@@ -63,15 +63,23 @@ fn objects_beside_spared_blocks(rt: HostRuntime) -> Result<(), Fail> {
         let mut row = Row::new(line);
         let rows = row.numbers::<u64>(&rt, alloc)?;
         let reserved = all_but(alloc, &rows, SMALLEST.dblocks)?;
-        let spared = Spared {
-            from: row.numbers::<u32>(&rt, alloc)?,
+        let spared = SparedBlocks {
+            from: Records::from_vec(row.numbers::<u32>(&rt, alloc)?),
             takes: row.number::<u32>(&rt) == 1,
         };
         let lengths = row.numbers::<u32>(&rt, alloc)?;
         let lengths = lengths_of(alloc, &lengths)?;
         let data = object(alloc, 133, ObjectKind::Data, &lengths, row.number(&rt))?;
         let objects = vec![in alloc; data]?;
-        match place_sparing(alloc, &SMALLEST, root_chunk(), reserved, objects, 24, spared) {
+        match place_sparing(
+            alloc,
+            &SMALLEST,
+            root_chunk(),
+            reserved,
+            objects,
+            24,
+            spared,
+        ) {
             Ok(placed) => {
                 tells(&rt, &runs_of(alloc, &placed)?.as_slice(), row.text(), line);
                 tells(&rt, &placed.cuts.as_slice(), row.text(), line);
@@ -99,12 +107,20 @@ fn small_files(alloc: Global, count: u64) -> Result<Vec<Object>, AllocError>
 fn fill(alloc: Global, count: u64, takes: bool) -> Result<Placed, PlaceFault>
     requires { count ≤ 4096 }
 {
-    let spared = Spared {
-        from: vec![in alloc; 993, 993]?,
+    let spared = SparedBlocks {
+        from: Records::from_vec(vec![in alloc; 993, 993]?),
         takes,
     };
     let files = small_files(alloc, count)?;
-    place_sparing(alloc, &SMALLEST, root_chunk(), Vec::new(alloc), files, 24, spared)
+    place_sparing(
+        alloc,
+        &SMALLEST,
+        root_chunk(),
+        Vec::new(alloc),
+        files,
+        24,
+        spared,
+    )
 }
 
 /// Both groups filled to their brim, each block with another owner: AG blocks 24 to 992 of the first, 518 to 992 of the second.

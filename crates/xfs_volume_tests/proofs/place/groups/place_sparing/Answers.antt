@@ -7,7 +7,7 @@ use Rattle.xfs_place.specs.declared.wanted.Object.{Object}
 use Rattle.xfs_place.specs.Objects.{IsAsk}
 use Rattle.xfs_place.specs.Wanted.{CanBeKept}
 use Rattle.xfs_place.proofs.KeptRun.{kept_alone}
-use Rattle.xfs_volume_tests.proofs.place.groups.place_beside.Goals as goal
+use Rattle.xfs_volume_tests.proofs.place.groups.place_sparing.Goals as goal
 
 pub place-requires-clause-kept : goal.place-requires-clause-kept
 place-requires-clause-kept c =
