@@ -84,7 +84,7 @@ zeros v.img 8192 0 1
 answer 1 'xfs: write fault after 0 blocks' refusing fsync 1 EIO "$xfs" xfs_repair v.img
 answer 1 'xfs: no random numbers' refusing getrandom 1 ENOSYS "$xfs" xfs_repair v.img
 limit=2000 # KiB: the least with which the program begins
-until bash -c "ulimit -v $limit; '$xfs' mkfs.xfs" 2>&1 | grep -q '^xfs: usage'; do limit=$((limit + 50)); done
+until bash -c "ulimit -v $limit; '$xfs' mkfs.xfs" 2>&1 | grep -q '^xfs: usage' || ((limit > 100000)); do limit=$((limit + 50)); done
 # (what is read ahead of a file stands on the stack, which has to be there)
 answer 1 'xfs: no memory' bash -c "ulimit -v $((limit + 700)); '$xfs' xfs_repair v.img"
 answer 1 'xfs: usage: word 0' "$xfs" mount v.img
