@@ -1,4 +1,4 @@
-//! DecidedNames, directories and orphans.
+//! Names, directories and orphans.
 
 ghost use Rattle.std.specs.Prelude.{◌≡◌, ℕ, ◌<◌, true, length, Option, option_map, IfOk, IfSome};
 ghost use Rattle.xfs_links.specs.Entries.{AreFiles, AreEntries, is_directory_number, node_number};

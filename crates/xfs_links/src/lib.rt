@@ -1,4 +1,4 @@
-//! DecidedNames: which entries of the directories stay, where each directory hangs, and which files have lost
+//! Names: which entries of the directories stay, where each directory hangs, and which files have lost
 //! their names.
 //!
 //! From the files that are kept and the entries that were read to names that hang together: who repairs names writes the

@@ -21,15 +21,15 @@ marks =
 abbrev pub mark_of : code.Mark → Mark
 mark_of m = (m.at, m.bytes.now)
 
--- the mark has_mark in the block in which it is due
+-- the mark stands in the block in which it is due
 abbrev pub has_mark : List ℕ → Mark → Bool
 has_mark block m = bytes_eq (take (length m.1) (drop (m.0 % 4096) block)) m.1
 
--- one of the marks has_mark in the image
+-- one of the marks stands in the image
 unfoldable pub is_marked : Image → Bool
 is_marked image = list_any (λ (m : Mark). has_mark (bytes_of_block image (m.0 / 4096)) m) marks
 
--- the mark is due in this block, and has_mark in it
+-- the mark is due in this block, and stands in it
 abbrev pub stands_at : ℕ → List ℕ → Mark → Bool
 stands_at at block m = (m.0 / 4096 == at) && has_mark block m
 

@@ -1,4 +1,4 @@
--- The geometry of a new volume, and the bounds that it keeps (chapter "Allocation GroupSizes").
+-- The geometry of a new volume, and the bounds that it keeps (chapter "Allocation Groups").
 use Rattle.std.specs.Prelude.{◌≡◌, ℕ, Bool, ◌+◌, ◌-◌, ◌*◌, ◌/◌, ◌^◌, ◌&&◌, nat_le, max, if◌then◌else◌, List, [], ◌∷◌, Option, Some, None}
 use Rattle.std.specs.Option.{unwrap_or}
 use Rattle.xfs_geom.specs.First.{first_false}

@@ -112,7 +112,7 @@ fn split(size: Option<u64>, count: Option<u64>, dblocks: u64) -> Option<GroupSiz
     }
 }
 
-/// GroupSizes of so many blocks, where these and their number keep their bounds.
+/// Groups of so many blocks, where these and their number keep their bounds.
 fn split_by_size(dblocks: u64, size: u64) -> Option<GroupSizes>
     requires { dblocks ≤ 2 ^ 26 }
     ensures value { result ≡ where_kept (of_size dblocks size) dblocks }
