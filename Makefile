@@ -1,30 +1,37 @@
 # The proved program, ready to be used as ./xfs. `rt` is the kit's command.
 #
-# What the program stands on is proved once, in a copy that has neither tests nor must-fail edits: crates that do not stand on each
-# other side by side, those with the longest chain of others above them first. What was proved on this machine is taken as it is.
+# What the program stands on is proved once, in a copy that has neither tests nor must-fail edits. What was proved on this machine is taken as it is.
+# The longest chain of crates ends in xfs_scan before it comes to the tools: what it needs is proved by a run of its own beside the run
+# of all, where no other crate takes its processors. Each of the two takes what the other has proved, or waits for what it is proving.
 SHELL := bash
 .SHELLFLAGS := -eu -o pipefail -c
 RT := rt ci
 
-# The lines of crates.txt for the program and all that it stands on.
-LINES = awk -F: '/^[a-z]/ { name = $$1; sub(/ .*/, "", name); line[name] = $$0; below[name] = $$2 } \
-	END { visit("xfs") } \
+# The lines of crates.txt for a crate and all that it stands on.
+LINES = awk -F: -v top=$(1) '/^[a-z]/ { name = $$1; sub(/ .*/, "", name); line[name] = $$0; below[name] = $$2 } \
+	END { visit(top) } \
 	function visit(name, names, n, i) { \
 		if (name in seen || !(name in line)) return; \
 		seen[name]; n = split(below[name], names, " "); \
 		for (i = 1; i <= n; i++) visit(names[i]); \
 		print line[name] }' crates.txt
-NEEDED := $(shell $(LINES) | sed 's/[ :].*//')
+NEEDED := $(shell $(call LINES,xfs) | sed 's/[ :].*//')
 SOURCES := $(shell find $(NEEDED:%=crates/%) -path '*/out' -prune -o -path '*/must-fail' -prune -o -type f -print)
+
+# Copies a crate and all that it stands on into a new folder.
+define COPY
+git init -q $(2); cp HANDLES $(2); $(call LINES,$(1)) > $(2)/crates.txt; \
+for crate in $$(sed 's/[ :].*//' $(2)/crates.txt); do mkdir -p $(2)/crates/$$crate; \
+	find crates/$$crate -mindepth 1 -maxdepth 1 ! -name out ! -name must-fail -exec cp -r {} $(2)/crates/$$crate \; ; done
+endef
 
 xfs: crates.txt HANDLES $(SOURCES)
 	@echo "Proving and building $(words $(NEEDED)) crates: about 40 minutes on four processors, a quarter of one where all was proved here before."
-	@copy=$$(mktemp -d); trap 'rm -rf "$$copy"' EXIT; \
-	git init -q "$$copy"; cp HANDLES "$$copy"; $(LINES) > "$$copy/crates.txt"; \
-	for crate in $(NEEDED); do mkdir -p "$$copy/crates/$$crate"; \
-		find "crates/$$crate" -mindepth 1 -maxdepth 1 ! -name out ! -name must-fail -exec cp -r {} "$$copy/crates/$$crate" \; ; done; \
-	(cd "$$copy" && $(RT) 2>&1 | tee log | sed -nu 's/^rt: \([a-z_]*\) \(proved\|is kept\).*/  \1/p') || { cat "$$copy/log"; exit 1; }; \
-	cp "$$copy/crates/xfs/out/xfs" $@
+	@work=$$(mktemp -d); trap 'kill %1 2> /dev/null || true; wait; rm -rf $$work' EXIT; \
+	$(call COPY,xfs_scan,$$work/chain); $(call COPY,xfs,$$work/all); \
+	(cd $$work/chain; exec $(RT) > log 2>&1) & \
+	(cd $$work/all; $(RT) 2>&1 | tee log | sed -nu 's/^rt: \([a-z_]*\) \(proved\|is kept\).*/  \1/p') || { cat $$work/all/log; exit 1; }; \
+	cp $$work/all/crates/xfs/out/xfs $@
 
 # A link to the program with a tool's name is that tool. DESTDIR stands in front of each path where the files are to be packed. The
 # tools of xfsprogs have the same names: what is no link of ours is neither replaced nor taken away.
