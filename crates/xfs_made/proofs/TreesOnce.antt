@@ -10,7 +10,7 @@ use Rattle.xfs_geom.specs.declared.records.InoRec.{InoRec}
 use Rattle.xfs_geom.specs.declared.records.Run.{Run}
 use Rattle.xfs_volume.specs.declared.groups.TreeBlocks.{TreeBlocks}
 use Rattle.xfs_place.proofs.GroupIs.{length_uses, use_in}
-use Rattle.xfs_place.proofs.OpenRuns.{open_inside}
+use Rattle.xfs_place.proofs.ListedRows.{open_inside}
 use Rattle.xfs_place.proofs.Rooms.{open_is}
 use Rattle.xfs_place.specs.Placing.{IsPlacedGroup, inner_blocks, tree_sizes}
 use Rattle.xfs_place.specs.Pool.{is_open, is_pool, is_taken}

@@ -20,7 +20,7 @@ use Rattle.xfs_place.specs.Standing.{AreOfPool, IsOfPool, standing_blocks}
 use Rattle.xfs_place.specs.Wanted.{ArePlaced, group_in, inodes_in_group, uses_in}
 use Rattle.xfs_place.proofs.Counted.{sizes_all}
 use Rattle.xfs_place.proofs.GroupIs.{length_uses, use_in}
-use Rattle.xfs_place.proofs.OpenRuns.{open_inside}
+use Rattle.xfs_place.proofs.ListedRows.{open_inside}
 use Rattle.xfs_place.proofs.Rooms.{open_is}
 use Rattle.xfs_place.proofs.Totals.{rank_up}
 

@@ -60,8 +60,8 @@ pub fn place(alloc: Global, wanted: &Wanted) -> Result<Placed, PlaceFault>
         takes: wanted.takes_spared,
     };
     let ObjectsKept { all, cuts } = keep_with(alloc, &site, kept, wanted.objects.as_slice())?;
-    let runs = Vec::from_slice(alloc, &all[first..])?;
     let groups = place_groups(alloc, g, &all, reserved, inodes)?;
+    let runs = Vec::from_slice(alloc, &all[first..])?;
     let counts = count_all(inodes, &groups);
     Ok(Placed {
         runs: Records::from_vec(runs),

@@ -22,7 +22,7 @@ use Rattle.xfs_treebuild.specs.Size.{rows_of}
 use Rattle.xfs_volume.specs.declared.groups.TreeBlocks.{TreeBlocks}
 use Rattle.xfs_place.proofs.AllClaims.{all_each, is_volume}
 use Rattle.xfs_place.proofs.GroupIs.{group_is, length_uses}
-use Rattle.xfs_place.proofs.OpenRuns.{open_inside}
+use Rattle.xfs_place.proofs.ListedRows.{open_inside}
 use Rattle.xfs_place.proofs.Ordered.{claims_few}
 use Rattle.xfs_place.proofs.Spanned.{separate_few}
 use Rattle.xfs_place.specs.Choice.{Group, IsChosenCount, is_spare, need, owned_at, rank, space_blocks}

@@ -38,6 +38,6 @@ push_rooms-requires-clause-uses c = λ b low.
     let marks = subst (λ (us : List Use). MarksUses us c.close_spared.new.uses (λ block. not (is_unspared v ask.spared_from block)) Claimed) c.deref_mut.ensures.value closed in
     let shows = subst (λ (rs : List ℕ). Shows uses.items ask.geometry.dblocks (use_of v c.as_slice.result.now rs)) c.as_slice-2.ensures c.in_ok-uses.ensures in
     let shows' = subst (λ (ts : List Run). Shows uses.items ask.geometry.dblocks (use_of v ts ask.reserved)) c.as_slice.ensures shows in
-    let whole = written uses.len c.close_spared.new.uses _ (omega (arith, uses.ok.0, marks.all)) in
+    let whole = c.deref.ensures.value ∙ written uses.len c.close_spared.new.uses _ (omega (arith, uses.ok.0, marks.all)) in
     subst (λ (us : List Use). is_open (use_at us b) ≡ asked_pool ask b) (sym whole)
     (open_unspared (volume_of ask.geometry) ask.taken ask.reserved ask.spared_from uses.items c.close_spared.new.uses ask.geometry.dblocks b shows' marks low)

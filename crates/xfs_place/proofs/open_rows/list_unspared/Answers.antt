@@ -1,4 +1,4 @@
-use Rattle.std.proofs.Common.{◌≡◌, ℕ, ◌+◌, ◌<◌, inl, inr, get_or, sym, ◌∙◌, ap, ap₂, arith, List, [], ◌∷◌}
+use Rattle.std.proofs.Common.{◌≡◌, ℕ, inl, inr, get_or, sym, ◌∙◌, ap, ap₂, arith, List, [], ◌∷◌}
 use Rattle.std.proofs.lemmas.Bool.{cases_eq}
 use Rattle.std.proofs.lemmas.List.{get_or_append_left, get_or_default, get_or_push}
 use Rattle.xfs_geom.specs.Volumes.{volume_of}
@@ -12,9 +12,9 @@ loop-row-preserved c =
     let rows = c.args.rows.now in
     let old = l.unspared.items in
     let put = c.in_ok-push.ensures.items in
-    let start : c.index.result.now ≡ get_or rows.starts.items l.row 0 = c.index.ensures ∙ get_or_default rows.starts.items l.row c.index.result.now 0 c.loop-row-test.true in
-    let count : c.index-2.result.now ≡ get_or rows.counts.items l.row 0 =
-    c.index-2.ensures ∙ get_or_default rows.counts.items l.row c.index-2.result.now 0 (omega (arith, c.requires.all, c.loop-row-test.true)) in
+    let start : c.index.result.now ≡ get_or rows.starts.items l.row 0 = c.index.ensures ∙ get_or_default rows.starts.items l.row c.index.result.now 0 (omega (arith, c.len-row-end.ensures, c.loop-row-test.true)) in
+    let count : c.index-in-loop-row.result.now ≡ get_or rows.counts.items l.row 0 =
+    c.index-in-loop-row.ensures ∙ get_or_default rows.counts.items l.row c.index-in-loop-row.result.now 0 (omega (arith, c.requires.all, c.len-row-end.ensures, c.loop-row-test.true)) in
     record {
       all = omega (arith, l.invariant.all, c.in_ok-push.ensures.len);
       each = λ k low. elim (cases_eq k l.row) [

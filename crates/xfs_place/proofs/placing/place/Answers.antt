@@ -9,5 +9,5 @@ pub count_all-counts-requires-clause-small : goal.count_all-counts-requires-clau
 count_all-counts-requires-clause-small c =
     let w = c.args.wanted.now in
     subst (λ (gs : List GroupPlaced). (placed_counts [] gs).fdblocks < 2 ^ 64) (sym c.deref-3.ensures.value)
-    (rooms_small (volume_of w.geometry) c.deref-2.result.now c.as_slice-reserved.result.now c.as_slice-inodes.result.now w.geometry.agcount c.in_ok-groups.groups.items w.geometry.shape.groups
+    (rooms_small (volume_of w.geometry) c.deref.result.now c.as_slice-reserved.result.now c.as_slice-inodes.result.now w.geometry.agcount c.in_ok-groups.groups.items w.geometry.shape.groups
     w.geometry.shape.groups.few c.in_ok-groups.ensures.placed)

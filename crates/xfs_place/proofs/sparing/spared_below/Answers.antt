@@ -1,4 +1,4 @@
-use Rattle.std.proofs.Common.{◌≡◌, ℕ, ◌+◌, ◌-◌, ◌<◌, suc, sym, ◌∙◌, ap, arith}
+use Rattle.std.proofs.Common.{◌≡◌, ◌+◌, ◌-◌, suc, sym, ◌∙◌, ap, arith}
 use Rattle.std.proofs.lemmas.List.{get_or_default}
 use Rattle.xfs_place.specs.declared.uses.Use.TheVariants.{Claimed, Pool}
 use Rattle.xfs_place.specs.Pool.{is_open, use_at}
@@ -14,7 +14,8 @@ returns-then-is_over c =
     let here : c.is_open-open.result ≡ is_open (use_at a.uses.now (a.base + block)) =
     c.is_open-open.ensures ∙ ap is_open (get_or_default a.uses.now (a.base + block) Pool Claimed (omega (arith, c.requires.inside, c.loop-i-test.true))) in
     let whole : a.blocks - l.i ≡ suc block = omega (arith, c.loop-i-test.true) in
-    sym (l.invariant ∙ ap (spared_below (λ b. is_open (use_at a.uses.now (a.base + b))) l.left) whole
+    let next : block + 1 ≡ suc block = omega arith in
+    next ∙ sym (l.invariant ∙ ap (spared_below (λ b. is_open (use_at a.uses.now (a.base + b))) l.left) whole
     ∙ spared_over (λ b. is_open (use_at a.uses.now (a.base + b))) l.left block c.is_open-open.result c.is_over.result here c.is_over.ensures c.if-is_over.true)
 
 pub loop-i-preserved : goal.loop-i-preserved

@@ -1,0 +1,7 @@
+use Rattle.std.proofs.Common.{All}
+use Rattle.xfs_place.specs.declared.wanted.Object.{Object}
+use Rattle.xfs_place.specs.Objects.{IsAsk}
+use Rattle.xfs_volume_tests.proofs.place.filled.files_of.Given as goal
+
+abbrev pub invariant-loop-i : goal.invariant-loop-i
+invariant-loop-i l = All (λ (o : Object). All IsAsk o.runs) l.objects.items
