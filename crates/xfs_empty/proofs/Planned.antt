@@ -1,5 +1,5 @@
 -- All planned blocks of an empty volume lie in it.
-use Rattle.std.proofs.Common.{◌≡◌, ◌≢◌, ℕ, zero, suc, ◌+◌, ◌-◌, ◌*◌, ◌/◌, ◌%◌, ◌≤◌, ◌<◌, Bool, true, false, not, ◌==◌, List, [], ◌∷◌, length, get_or, Option, Some, None, cond, arith, refl, subst}
+use Rattle.std.proofs.Common.{◌≡◌, ◌≢◌, ℕ, zero, suc, ◌+◌, ◌-◌, ◌*◌, ◌/◌, ◌%◌, ◌≤◌, ◌<◌, Bool, true, false, not, ◌==◌, List, [], ◌∷◌, ◌++◌, length, get_or, Option, Some, None, cond, arith, refl, subst}
 use Rattle.std.specs.List.{All, flat_map, range_with_len}
 use Rattle.std.proofs.Math.Nat.{mul-le-mul_right}
 use Rattle.std.proofs.lemmas.Bool.{eqb-false, ltb-true}
@@ -18,6 +18,9 @@ use Rattle.xfs_place.specs.declared.placed.GroupPlaced.{GroupPlaced}
 use Rattle.xfs_place.specs.declared.placed.Placed.{Placed}
 use Rattle.xfs_place.specs.declared.wanted.Wanted.{Wanted}
 use Rattle.xfs_render.specs.Groups.{CanPack, IsSoundGroup, tree_places}
+use Rattle.xfs_render.proofs.ObjectSteps.{blocks_low, places_low}
+use Rattle.xfs_render.specs.Drafts.{places_of}
+use Rattle.xfs_render.specs.Objects.{asks_with_kind, object_blocks, object_places}
 use Rattle.xfs_render.specs.Plans.{planned}
 use Rattle.xfs_render.specs.Rendering.{IsReady, IsRendered, blocks_in_place, fresh_blocks, group_placed, wanted_inodes, kept_blocks, log_places, new_blocks, no_group, tree_blocks, volume}
 use Rattle.xfs_render.specs.Trees.{group_tree_places}
@@ -59,6 +62,10 @@ trees_low w p b ready =
     subst (λ (q : GroupPlaced). All (λ place. place < w.geometry.dblocks) (group_tree_places q)) same
     (group_low (volume w) k (wanted_inodes w k) (group_placed p k) (ready.sound k inside)))
 
+-- so do the blocks of objects
+objects_low : (w : Wanted) (p : Placed) (b : Bytes) → IsReady w p b → All (λ place. place < w.geometry.dblocks) (object_places w p)
+objects_low w p b ready = places_low w.geometry.dblocks (object_blocks w p) (blocks_low w.geometry.dblocks (asks_with_kind w.objects) p.cuts p.runs ready.runs)
+
 -- the log ends in the volume
 log_ends : (d w n log l : ℕ) → HasGroups d w n → HasLog d w n log l → log + l ≤ d
 log_ends d w n log l groups has = by_case (log / w + 1 == n) refl has.inside
@@ -91,9 +98,10 @@ pub planned_low : (w : Wanted) (p : Placed) (b : Bytes) (plan : Plan) → IsRead
     → All (λ place. place < w.geometry.dblocks) (planned plan)
 planned_low w p b plan ready rendered =
     let P : ℕ → Type 0 = λ place. place < w.geometry.dblocks in
-    All-append P plan.fresh plan.in_place
-    (All-permutation P (fresh_blocks w p b) plan.fresh rendered.fresh
-    (All-append P (tree_blocks p) (new_blocks w b) (trees_low w p b ready) (All-filter (is_taken w.new) P b.places ready.inside)))
-    (All-permutation P (blocks_in_place w b) plan.in_place rendered.in_place
+    All-append P (places_of plan.fresh) (places_of plan.in_place)
+    (All-permutation P (fresh_blocks w p b) (places_of plan.fresh) rendered.fresh
+    (All-append P (tree_blocks p) (object_places w p ++ new_blocks w b) (trees_low w p b ready)
+    (All-append P (object_places w p) (new_blocks w b) (objects_low w p b ready) (All-filter (is_taken w.new) P b.places ready.inside))))
+    (All-permutation P (blocks_in_place w b) (places_of plan.in_place) rendered.in_place
     (All-append P (kept_blocks w b) (log_places w b.cycle) (All-filter (λ place. not (is_taken w.new place)) P b.places ready.inside)
     (blank_low w b.cycle)))

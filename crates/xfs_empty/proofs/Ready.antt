@@ -1,5 +1,5 @@
 -- An empty volume can be placed and written.
-use Rattle.std.proofs.Common.{◌≡◌, ℕ, ◌^◌, ◌≤◌, ◌<◌, false, List, [], length, get_or, replicate, None, IsTrue, arith, refl, sym, subst, ap, ◌∙◌}
+use Rattle.std.proofs.Common.{◌≡◌, ℕ, ◌^◌, ◌≤◌, ◌<◌, false, List, [], length, get_or, replicate, None, IsTrue, arith, sym, subst, ap, ◌∙◌}
 use Rattle.std.specs.List.{All}
 use Rattle.std.specs.Option.{MatchOption}
 use Rattle.std.proofs.lemmas.List.{length-replicate}
@@ -32,7 +32,8 @@ no_group = record { records = [] }
 pub writable : (g : Geometry) → HasFirstChunk (volume_of g) → IsWritable (empty_wanted g)
 writable g first =
     record {
-      objects = refl;
+      asks = λ k d low. absurd (omega (arith, low));
+      askers = λ k d low. absurd (omega (arith, low));
       inodes = count_inodes g.agcount;
       chunks = λ ag low.
           let is : (get_or (all_inodes g.agcount) ag no_group).records ≡ chunks_of ag =
@@ -49,6 +50,7 @@ has_bytes g sector s b made accepted states =
     record {
       accepted = subst IsAcceptedSector (sym made.sector') accepted;
       states = ap stated_volume made.sector' ∙ states;
+      objects = ap length made.objects';
       old = ap length made.old ∙ length-replicate (length b.places) (replicate 4096 0);
       inside = subst (λ (ps : List ℕ). All (λ place. place < g.dblocks) ps) (sym made.places') (all_inside g);
       order = in_order 128 b.slots (numbered g s b.slots made.slots');

@@ -1,11 +1,12 @@
 //! The plan of an empty volume.
 
-ghost use Rattle.std.specs.Prelude.{◌≡◌, ◌<◌, ◌⊎◌, All, length, IfErr, IfOk};
+ghost use Rattle.std.specs.Prelude.{◌≡◌, ◌<◌, ◌⊎◌, All, IfErr, IfOk};
 ghost use Rattle.xfs_geom.specs.Volumes.{stated_volume, volume_of};
 ghost use Rattle.xfs_geom.specs.Writing.{IsAcceptedSector};
 ghost use Rattle.xfs_place.specs.Wanted.{CanBeKept, FindsNoRoom, kept_runs};
 ghost use Rattle.xfs_place.specs.declared.faults.Unplaced.{Unplaced};
-ghost use Rattle.xfs_render.specs.Plans.{planned};
+ghost use Rattle.xfs_render.specs.Drafts.{AreInBank};
+ghost use Rattle.xfs_render.specs.Plans.{plan_rows, planned};
 ghost use Rattle.xfs_render.specs.Readiness.{HasBytes, IsWritable};
 ghost use Rattle.xfs_empty.specs.Geometry.{HasFirstChunk};
 ghost use Rattle.xfs_empty.specs.Placing.{empty_wanted};
@@ -40,7 +41,7 @@ pub fn plan_empty<R: Threads + Sync>(
     requires chunk { HasFirstChunk (volume_of g.now) }
     ensures rendered { IfOk result (λ plan. IsEmptyPlan g.now sector.now stamp.now plan) }
     ensures inside { IfOk result (λ plan. All (λ place. place < g.now.dblocks) (planned plan)) }
-    ensures count { IfOk result (λ plan. length plan.bank ≡ length (planned plan)) }
+    ensures held { IfOk result (λ plan. AreInBank (plan_rows plan) plan.bank) }
     ensures room { IfOk result (λ plan. HasRoom (empty_wanted g.now)) }
     ensures cause { IfErr result (λ fault. (fault ≡ PlaceFault.NoMemory) ⊎ ((what : Unplaced) × (fault ≡ PlaceFault.NoRoom what) × FindsNoRoom (empty_wanted g.now) what)) }
 {
@@ -61,7 +62,7 @@ fn plan_wanted<R: Threads + Sync>(
     requires held { HasBytes wanted.now bytes.now }
     ensures rendered { IfOk result (λ plan. IsPlanFor wanted.now bytes.now plan) }
     ensures inside { IfOk result (λ plan. All (λ place. place < wanted.now.geometry.dblocks) (planned plan)) }
-    ensures count { IfOk result (λ plan. length plan.bank ≡ length (planned plan)) }
+    ensures held { IfOk result (λ plan. AreInBank (plan_rows plan) plan.bank) }
     ensures room { IfOk result (λ plan. HasRoom wanted.now) }
     ensures cause { IfErr result (λ fault. (fault ≡ PlaceFault.NoMemory) ⊎ ((what : Unplaced) × (fault ≡ PlaceFault.NoRoom what) × FindsNoRoom wanted.now what)) }
 {

@@ -17,7 +17,8 @@ use Rattle.xfs_place.specs.Standing.{AreOfPool}
 use Rattle.xfs_place.specs.Wanted.{ArePlaced, kept_runs}
 use Rattle.xfs_place.specs.declared.placed.Placed.{Placed}
 use Rattle.xfs_render.specs.Plans.{IsOnce, planned}
-use Rattle.xfs_render.specs.Rendering.{log_places, tree_blocks}
+use Rattle.xfs_render.specs.Objects.{blocks_of_asks, object_places}
+use Rattle.xfs_render.specs.Rendering.{blocks_in_place, log_places, new_blocks, tree_blocks}
 use Rattle.xfs_render.specs.declared.bytes.Bytes.{Bytes}
 use Rattle.xfs_render.specs.declared.plan.Plan.{Plan}
 use Rattle.xfs_empty.proofs.Kept.{none_placed}
@@ -133,9 +134,16 @@ module _ (g : Geometry) (first : HasFirstChunk (volume_of g)) where
       (all_range P 16 8 (λ k low high. chunk_used v k low (omega (arith, high)))))
       (all_range P g.log g.logblocks (λ k low high. log_used v k low high))
 
+-- there are no objects
+no_objects : (g : Geometry) (p : Placed) → object_places (empty_wanted g) p ≡ []
+unfolding blocks_of_asks
+no_objects g p = refl
+
 pub planned_once : (g : Geometry) (sector : List ℕ) (s : Stamp) (plan : Plan) → IsEmptyPlan g sector s plan → HasFirstChunk (volume_of g) → IsOnce (planned plan)
 planned_once g sector s plan is first =
-    is.is.rendered.apart (in_parts (is_taken (chunk_run ∷ [])) (tree_blocks p) b.places (log_places (empty_wanted g) b.cycle) here)
+    is.is.rendered.apart
+    (subst (λ (objects : List ℕ). IsOnce (tree_blocks p ++ (objects ++ new_blocks (empty_wanted g) b) ++ blocks_in_place (empty_wanted g) b)) (sym (no_objects g p))
+    (in_parts (is_taken (chunk_run ∷ [])) (tree_blocks p) b.places (log_places (empty_wanted g) b.cycle) here))
   where
     v : Volume
     v = volume_of g

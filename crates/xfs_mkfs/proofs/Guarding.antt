@@ -3,7 +3,7 @@ use Rattle.std.proofs.Common.{◌≡◌, ℕ, zero, suc, ◌+◌, ◌*◌, ◌�
 use Rattle.std.specs.Prelude.{slice_get, slice_set}
 use Rattle.std.specs.List.{All, Contains, filter, range_with_len, sum_by}
 use Rattle.std.specs.List.Sorted.{IsNonDecreasingBy}
-use Rattle.std.proofs.lemmas.List.{get_or-map, length-map, map-append}
+use Rattle.std.proofs.lemmas.List.{get_or-map, get_or_default, length-map, map-append}
 use Rattle.std.proofs.lemmas.List.Elements.{All-cons, All-head, All-nil, All-tail, Contains-append_right}
 use Rattle.std.proofs.lemmas.List.Sorted.{Contains-permutation, sum_by-IsPermutation}
 use Rattle.std.proofs.lemmas.List.Sums.{sum_by-cons}
@@ -11,7 +11,8 @@ use Rattle.xfs_disk.specs.Blocks.{Image}
 use Rattle.xfs_disk.specs.declared.stamp.Stamp.{Stamp}
 use Rattle.xfs_geom.specs.declared.geometry.Geometry.{Geometry}
 use Rattle.xfs_place.specs.Pool.{is_taken}
-use Rattle.xfs_render.specs.Plans.{IsOnce, planned}
+use Rattle.xfs_render.specs.Drafts.{places_of}
+use Rattle.xfs_render.specs.Plans.{IsOnce, plan_rows, planned}
 use Rattle.xfs_render.specs.Rendering.{blocks_in_place, log_places}
 use Rattle.xfs_render.specs.declared.bytes.Bytes.{Bytes}
 use Rattle.xfs_render.specs.declared.plan.Plan.{Plan}
@@ -25,10 +26,10 @@ use Rattle.xfs_writing.specs.Writing.{Writes, write_of, written, writes_of_rows}
 use Rattle.xfs_writing.specs.declared.rows.Row.{Row}
 use Rattle.xfs_options.specs.declared.make_words.MakeOptions.{MakeOptions}
 use Rattle.xfs_mkfs.proofs.Geometries.{first_chunk}
-use Rattle.xfs_mkfs.proofs.Held.{count_rows, one_if}
-use Rattle.xfs_mkfs.proofs.Rows.{count_from, row_is}
+use Rattle.xfs_mkfs.proofs.Held.{count_planned, one_if}
+use Rattle.xfs_mkfs.proofs.Rows.{count_plan, row_at}
 use Rattle.xfs_mkfs.specs.Due.{IsGeometry}
-use Rattle.xfs_mkfs.specs.Order.{AreRowsOfPlan, all_writes, first_part, last_part, plan_rows}
+use Rattle.xfs_mkfs.specs.Order.{AreRowsOfPlan, all_writes, first_part, last_part}
 use Rattle.xfs_mkfs.specs.Outcome.{IsPlanned}
 use Rattle.xfs_mkfs.specs.Putting.{IsPutStopped}
 use Rattle.xfs_mkfs.specs.Stops.{HasPrimaryLast, IsMadeStopped}
@@ -61,7 +62,7 @@ has_zero g sector s plan is =
     let here : Contains (blocks_in_place w b) 0 =
     subst (λ (ps : List ℕ). Contains (filter is_open ps ++ log_places w b.cycle) 0) (sym is.made.places')
     (zero_kept g.agblocks g.agcount (range_with_len 16 8) (log_places w b.cycle) g.shape.groups.two) in
-    Contains-append_right plan.fresh plan.in_place 0 (Contains-permutation (blocks_in_place w b) plan.in_place 0 is.is.rendered.in_place here)
+    Contains-append_right (places_of plan.fresh) (places_of plan.in_place) 0 (Contains-permutation (blocks_in_place w b) (places_of plan.in_place) 0 is.is.rendered.in_place here)
 
 -- the first of rows that ascend is at block 0, where one is
 last_zero : (rows : List Row) (r : Row) → IsNonDecreasingBy (λ (o : Row). o.at) rows → r.at ≡ 0 → Contains rows r → All (λ (o : Row). o.at ≡ 0) (last_part rows)
@@ -101,19 +102,23 @@ pub guarded_rows : (plan : Plan) (rows : List Row) → AreRowsOfPlan plan rows �
 guarded_rows plan rows are once there =
     record { last = low; first = first_above rows low few }
   where
-    row : Row
-    row = record { at = get_or (planned plan) there.0 0; index = 0 + there.0 }
+    d : Row
+    d = record { at = 0; index = 0 }
+
+    inside : there.0 < length (plan_rows plan)
+    inside = omega (arith, count_plan plan, there.1)
 
     low : All (λ (r : Row). r.at ≡ 0) (last_part rows)
     low =
-        last_zero rows row are.ascend there.2
-        (Contains-permutation (plan_rows plan) rows row are.all
-        (there.0, omega (arith, count_from 0 (planned plan), there.1), row_is 0 (planned plan) there.0 row there.1))
+        let row : Row = get_or (plan_rows plan) there.0 d in
+        let at : row.at ≡ 0 = sym (row_at plan there.0 d inside) ∙ there.2 in
+        last_zero rows row are.ascend at
+        (Contains-permutation (plan_rows plan) rows row are.all (there.0, inside, get_or_default (plan_rows plan) there.0 row d inside))
 
     few : sum_by (λ (r : Row). one_if (r.at == 0)) rows ≤ 1
     few =
         let same = sum_by-IsPermutation (λ (r : Row). one_if (r.at == 0)) (plan_rows plan) rows are.all in
-        let all = count_rows 0 0 (planned plan) in
+        let all = count_planned plan 0 in
         omega (arith, same, all, once.each 0)
 
 -- what holds of the blocks of rows holds of each that is written

@@ -4,16 +4,17 @@ use Rattle.std.specs.Prelude.{count_by, drop, take}
 use Rattle.std.specs.List.{All, Contains, sum_by}
 use Rattle.std.specs.List.Sorted.{IsPermutation}
 use Rattle.std.proofs.lemmas.Bool.{eq-eqb}
-use Rattle.std.proofs.lemmas.List.{get_or-map, get_or-set_other, get_or-set_same, length-map, length-set, take-append-drop}
+use Rattle.std.proofs.lemmas.List.{get_or-map, get_or_default, get_or-set_other, get_or-set_same, length-map, length-set, take-append-drop}
 use Rattle.std.proofs.lemmas.List.Sorted.{Contains-permutation, IsPermutation-append_comm, IsPermutation-trans, sum_by-IsPermutation}
 use Rattle.std.proofs.lemmas.List.Sums.{sum_by-cons}
 use Rattle.xfs_disk.specs.Blocks.{Image, bytes_of_block}
-use Rattle.xfs_render.specs.Plans.{HoldsPlan, IsOnce, planned}
+use Rattle.xfs_render.specs.Drafts.{HoldsRows, places_of}
+use Rattle.xfs_render.specs.Plans.{HoldsPlan, IsOnce, plan_rows, planned}
 use Rattle.xfs_render.specs.declared.plan.Plan.{Plan}
-use Rattle.xfs_mkfs.proofs.Rows.{count_from, row_is}
-use Rattle.xfs_writing.specs.Writing.{Writes, write_of, written, rows_from}
+use Rattle.xfs_mkfs.proofs.Rows.{count_plan, planned_is, row_at}
+use Rattle.xfs_writing.specs.Writing.{Writes, write_of, written}
 use Rattle.xfs_writing.specs.declared.rows.Row.{Row}
-use Rattle.xfs_mkfs.specs.Order.{AreRowsOfPlan, all_writes, first_part, last_part, plan_rows}
+use Rattle.xfs_mkfs.specs.Order.{AreRowsOfPlan, all_writes, first_part, last_part}
 
 abbrev pub one_if : Bool → ℕ
 one_if t = if t then 1 else 0
@@ -63,21 +64,21 @@ count_writes bank at (r ∷ rows) =
     omega (arith, both, rest, count_writes bank at rows)
 
 -- and those are the planned blocks
-pub count_rows : (index at : ℕ) (places : List ℕ) → sum_by (λ (r : Row). one_if (r.at == at)) (rows_from index places) ≡ count_by (λ other. other == at) places
-count_rows index at [] = refl
-count_rows index at (place ∷ places) =
+pub count_rows : (at : ℕ) (rows : List Row) → sum_by (λ (r : Row). one_if (r.at == at)) rows ≡ count_by (λ other. other == at) (places_of rows)
+count_rows at [] = refl
+count_rows at (r ∷ rows) =
     let one = λ (o : ℕ). one_if (o == at) in
     let mine = λ (o : Row). one_if (o.at == at) in
-    let rows = sum_by-cons mine (record { at = place; index = index }) (rows_from (index + 1) places) in
-    let both = sum_by-cons one place places in
-    omega (arith, rows, both, count_rows (index + 1) at places)
+    let first = sum_by-cons mine r rows in
+    let both = sum_by-cons one r.at (places_of rows) in
+    omega (arith, first, both, count_rows at rows)
+
+pub count_planned : (plan : Plan) (at : ℕ) → sum_by (λ (r : Row). one_if (r.at == at)) (plan_rows plan) ≡ count_by (λ other. other == at) (planned plan)
+count_planned plan at = count_rows at (plan_rows plan) ∙ ap (λ (xs : List ℕ). count_by (λ other. other == at) xs) (sym (planned_is plan))
 
 -- the rows in the order of writing
 abbrev in_order : List Row → List Row
 in_order rows = first_part rows ++ last_part rows
-
-zero_plus : (n : ℕ) → 0 + n ≡ n
-zero_plus n = omega arith
 
 last_moves : (rows : List Row) → IsPermutation rows (in_order rows)
 last_moves rows = subst (λ (xs : List Row). IsPermutation xs (in_order rows)) (take-append-drop 1 rows) (IsPermutation-append_comm (take 1 rows) (drop 1 rows))
@@ -93,21 +94,21 @@ plan_held plan rows image are once inside = record { each = at_place }
     few at =
         let writes = count_writes plan.bank at (in_order rows) in
         let same = sum_by-IsPermutation (λ (r : Row). one_if (r.at == at)) (plan_rows plan) (in_order rows) moved in
-        let all = count_rows 0 at (planned plan) in
+        let all = count_planned plan at in
         omega (arith, writes, same, all, once.each at)
 
-    at_place : (j : ℕ) → j < length (planned plan) → bytes_of_block (written (all_writes plan rows) image) (get_or (planned plan) j 0) ≡ get_or plan.bank j []
-    at_place j low =
-        let place = get_or (planned plan) j 0 in
-        let row : Row = record { at = place; index = j } in
-        let d : ℕ × List ℕ = (0, []) in
-        let there : Contains (plan_rows plan) row = (j, omega (arith, count_from 0 (planned plan), low), row_is 0 (planned plan) j row low ∙ ap (λ (n : ℕ). record { at = place; index = n }) (zero_plus j)) in
+    at_place : HoldsRows (plan_rows plan) plan.bank (written (all_writes plan rows) image)
+    at_place = λ k d low.
+        let row : Row = get_or (plan_rows plan) k d in
+        let e : ℕ × List ℕ = (0, []) in
+        let there : Contains (plan_rows plan) row = (k, low, get_or_default (plan_rows plan) k row d low) in
         let found = Contains-permutation (plan_rows plan) (in_order rows) row moved there in
-        let is : get_or (all_writes plan rows) found.0 d ≡ write_of plan.bank row =
-        get_or-map (write_of plan.bank) (in_order rows) found.0 row d found.1 ∙ ap (write_of plan.bank) found.2 in
-        let at : (get_or (all_writes plan rows) found.0 d).0 ≡ place = ap (λ (w : ℕ × List ℕ). w.0) is in
+        let is : get_or (all_writes plan rows) found.0 e ≡ write_of plan.bank row =
+        get_or-map (write_of plan.bank) (in_order rows) found.0 row e found.1 ∙ ap (write_of plan.bank) found.2 in
+        let at : (get_or (all_writes plan rows) found.0 e).0 ≡ row.at = ap (λ (w : ℕ × List ℕ). w.0) is in
         let count : length (all_writes plan rows) ≡ length (in_order rows) = length-map (in_order rows) (write_of plan.bank) in
+        let low' : row.at < length image = subst (λ (n : ℕ). n < length image) (row_at plan k d low) (inside k 0 (omega (arith, count_plan plan, low))) in
         ap (bytes_of_block (written (all_writes plan rows) image)) (sym at)
-        ∙ lands (all_writes plan rows) image found.0 d (omega (arith, count, found.1)) (few (get_or (all_writes plan rows) found.0 d).0)
-        (subst (λ (n : ℕ). n < length image) (sym at) (inside j 0 low))
+        ∙ lands (all_writes plan rows) image found.0 e (omega (arith, count, found.1)) (few (get_or (all_writes plan rows) found.0 e).0)
+        (subst (λ (n : ℕ). n < length image) (sym at) low')
         ∙ ap (λ (w : ℕ × List ℕ). w.1) is

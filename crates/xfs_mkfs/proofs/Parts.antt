@@ -5,13 +5,13 @@ use Rattle.std.proofs.lemmas.List.Elements.{All-drop, All-take}
 use Rattle.std.proofs.lemmas.List.Sorted.{length_permutation}
 use Rattle.xfs_disk.specs.Counts.{raised_times}
 use Rattle.xfs_disk.specs.Blocks.{Image}
-use Rattle.xfs_render.specs.Plans.{planned}
+use Rattle.xfs_render.specs.Plans.{plan_rows, planned}
 use Rattle.xfs_render.specs.declared.plan.Plan.{Plan}
 use Rattle.xfs_writing.specs.Stopped.{IsStopped}
 use Rattle.xfs_writing.specs.Writing.{IsPartly, written, writes_of_rows}
 use Rattle.xfs_writing.specs.declared.rows.Row.{Row}
-use Rattle.xfs_mkfs.proofs.Rows.{count_from}
-use Rattle.xfs_mkfs.specs.Order.{AreRowsOfPlan, first_part, last_part, plan_rows}
+use Rattle.xfs_mkfs.proofs.Rows.{count_plan}
+use Rattle.xfs_mkfs.specs.Order.{AreRowsOfPlan, first_part, last_part}
 use Rattle.xfs_mkfs.specs.Putting.{IsPut, IsPutPartly, IsPutStopped}
 
 pub count_rows : (rows : List Row) → length (first_part rows) + length (last_part rows) ≡ length rows
@@ -24,7 +24,7 @@ module _ (plan : Plan) (rows first last : List Row) (are : AreRowsOfPlan plan ro
   count_parts =
       let both : length first + length last ≡ length (first_part rows) + length (last_part rows) = ap₂ (λ (a b : List Row). length a + length b) one two in
       let same : length rows ≡ length (plan_rows plan) = length_permutation (plan_rows plan) rows are.all in
-      omega (arith, both, same, count_rows rows, count_from 0 (planned plan))
+      omega (arith, both, same, count_rows rows, count_plan plan)
 
   pub all_first : (P : Row → Type 0) → All P rows → All P first
   all_first P all = subst (λ (rs : List Row). All P rs) (sym one) (All-drop P 1 rows all)

@@ -1,14 +1,10 @@
 -- The blocks of a plan in the order in which they are written.
-use Rattle.std.specs.Prelude.{◌+◌, List, [], ◌++◌, take, drop}
+use Rattle.std.specs.Prelude.{List, ◌++◌, take, drop}
 use Rattle.std.specs.List.Sorted.{IsNonDecreasingBy, IsPermutation}
-use Rattle.xfs_render.specs.Plans.{planned}
+use Rattle.xfs_render.specs.Plans.{plan_rows}
 use Rattle.xfs_render.specs.declared.plan.Plan.{Plan}
-use Rattle.xfs_writing.specs.Writing.{Writes, writes_of_rows, rows_from}
+use Rattle.xfs_writing.specs.Writing.{Writes, writes_of_rows}
 use Rattle.xfs_writing.specs.declared.rows.Row.{Row}
-
--- the blocks of a plan in its order
-abbrev pub plan_rows : Plan → List Row
-plan_rows plan = rows_from 0 (planned plan)
 
 -- all blocks of a plan in ascending order
 pub record AreRowsOfPlan (plan : Plan) (rows : List Row) : Type 0 where

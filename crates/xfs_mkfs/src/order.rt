@@ -1,8 +1,8 @@
 //! The order in which planned blocks are written.
 
-ghost use Rattle.std.specs.Prelude.{◌≡◌, ◌++◌, length, IfOk, OnOk};
-ghost use Rattle.xfs_writing.specs.Writing.{rows_from};
-ghost use Rattle.xfs_mkfs.specs.Order.{AreRowsOfPlan, first_part, last_part, plan_rows};
+ghost use Rattle.std.specs.Prelude.{◌≡◌, IfOk};
+ghost use Rattle.xfs_render.specs.Plans.{plan_rows};
+ghost use Rattle.xfs_mkfs.specs.Order.{AreRowsOfPlan, first_part, last_part};
 
 use std::alloc::Global;
 use xfs_disk::NoMemory;
@@ -13,7 +13,7 @@ use xfs_writing::Row;
 pub fn list_rows(alloc: Global, plan: &Plan) -> Result<Vec<Row>, NoMemory>
     ensures { IfOk result (λ rows. AreRowsOfPlan plan.now rows.items) }
 {
-    let mut rows = with_index(alloc, plan)?;
+    let mut rows = all_rows(alloc, plan)?;
     rows.sort_by_key(|row| row.at)?;
     Ok(rows)
 }
@@ -32,23 +32,11 @@ pub fn last_part(rows: &[Row]) -> &[Row]
     &rows[..rows.len().min(1)]
 }
 
-/// The blocks of a plan in its order, each with its index.
-fn with_index(alloc: Global, plan: &Plan) -> Result<Vec<Row>, NoMemory>
+/// The blocks of a plan in its order.
+fn all_rows(alloc: Global, plan: &Plan) -> Result<Vec<Row>, NoMemory>
     ensures { IfOk result (λ rows. rows.items ≡ plan_rows plan.now) }
 {
-    let mut rows = Vec::new(alloc);
-    push_rows(plan.fresh.as_slice(), &mut rows)?;
-    push_rows(plan.in_place.as_slice(), &mut rows)?;
+    let mut rows = Vec::from_slice(alloc, plan.fresh.as_slice())?;
+    rows.extend_from_slice(plan.in_place.as_slice())?;
     Ok(rows)
-}
-
-/// Adds a row for each of these blocks, with the next index.
-fn push_rows(places: &[u64], rows: &mut Vec<Row>) -> Result<(), NoMemory>
-    ensures { OnOk result (rows.new.items ≡ rows.old.items ++ rows_from (length rows.old.items) places.now) }
-{
-    for place in places {
-        let index = rows.len();
-        rows.push(Row { at: *place, index })?;
-    }
-    Ok(())
 }

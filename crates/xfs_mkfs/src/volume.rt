@@ -1,10 +1,11 @@
 //! The blocks of a new volume, put onto a disk.
 
-ghost use Rattle.std.specs.Prelude.{◌≡◌, ◌<◌, ◌≤◌, ◌⊎◌, ℕ, length, Err, IfErr, OnOk};
+ghost use Rattle.std.specs.Prelude.{◌≡◌, ◌<◌, ◌≤◌, ◌⊎◌, ℕ, Err, IfErr, OnOk};
 ghost use Rattle.std.specs.List.{All};
 ghost use Rattle.std.specs.Option.{ForSome};
 ghost use Rattle.xfs_disk.specs.Blocks.{Image};
-ghost use Rattle.xfs_render.specs.Plans.{planned};
+ghost use Rattle.xfs_render.specs.Drafts.{AreInBank};
+ghost use Rattle.xfs_render.specs.Plans.{plan_rows, planned};
 ghost use Rattle.xfs_writing.specs.Stopped.{LeavesJust};
 ghost use Rattle.xfs_mkfs.specs.Putting.{CountsPut, HasPutCause, IsPut, IsPutStopped, LeavesUnput};
 
@@ -27,7 +28,7 @@ pub enum PutFault {
 /// one behind it.
 pub fn put_plan<D: Disk>(alloc: Global, disk: &mut D, plan: &Plan) -> Result<(), PutFault>
     requires inside { All (λ place. place < D.size disk.old) (planned plan.now) }
-    requires count { length plan.now.bank ≡ length (planned plan.now) }
+    requires held { AreInBank (plan_rows plan.now) plan.now.bank }
     ensures done { OnOk result (ForSome (D.holds disk.old) (λ image. IsPut plan.now image (D.holds disk.new))) }
     ensures failed { IfErr result (λ fault. ForSome (D.holds disk.old) (λ image. LeavesUnput plan.now image (D.holds disk.new) fault)) }
     // without memory the disk is not touched

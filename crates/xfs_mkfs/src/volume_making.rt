@@ -8,7 +8,8 @@ ghost use Rattle.xfs_disk.specs.Reads.{OnlyReads};
 ghost use Rattle.xfs_geom.specs.Volumes.{volume_of};
 ghost use Rattle.xfs_place.specs.Wanted.{FindsNoRoom};
 ghost use Rattle.xfs_place.specs.declared.faults.Unplaced.{Unplaced};
-ghost use Rattle.xfs_render.specs.Plans.{planned};
+ghost use Rattle.xfs_render.specs.Drafts.{AreInBank};
+ghost use Rattle.xfs_render.specs.Plans.{plan_rows, planned};
 ghost use Rattle.xfs_empty.specs.Geometry.{HasFirstChunk};
 ghost use Rattle.xfs_sizing.specs.Sizes.{too_small};
 ghost use Rattle.xfs_empty.specs.Placing.{empty_wanted};
@@ -211,7 +212,7 @@ fn plan_volume<R: Threads + Sync>(
     requires chunk { HasFirstChunk (volume_of g.now) }
     ensures rendered { IfOk result (λ plan. IsPlanned g.now label.now stamp.now plan) }
     ensures inside { IfOk result (λ plan. All (λ place. place < g.now.dblocks) (planned plan)) }
-    ensures count { IfOk result (λ plan. length plan.bank ≡ length (planned plan)) }
+    ensures held { IfOk result (λ plan. AreInBank (plan_rows plan) plan.bank) }
     ensures room { OnOk result (HasRoom (empty_wanted g.now)) }
     ensures cause { IfErr result (λ fault. (fault ≡ PlaceFault.NoMemory) ⊎ ((what : Unplaced) × (fault ≡ PlaceFault.NoRoom what) × FindsNoRoom (empty_wanted g.now) what)) }
 {

@@ -1,76 +1,134 @@
 -- Blocks that are put behind others, and the images that have them.
-use Rattle.std.proofs.Common.{◌≡◌, ℕ, zero, suc, ◌+◌, ◌*◌, ◌<◌, ◌≤◌, List, [], ◌∷◌, ◌++◌, length, get_or, take, drop, sym, ap, ◌∙◌, subst, arith, append_assoc, append-nil, length-append, take_all}
-use Rattle.std.proofs.lemmas.List.{get_or_append_left, get_or-append-add, take-append-le, drop-append-le, length-drop}
+use Rattle.std.proofs.Common.{◌≡◌, ℕ, ◌+◌, ◌-◌, ◌*◌, ◌<◌, ◌≤◌, List, [], ◌∷◌, ◌++◌, length, get_or, take, map, inl, inr, sym, ap, ◌∙◌, subst, arith, append_assoc, append-nil, length-append, take_all}
+use Rattle.std.proofs.lemmas.Bool.{cases_lt}
+use Rattle.std.proofs.lemmas.List.{get_or_append_left, map-append, take_more}
+use Rattle.std.proofs.lemmas.List.Elements.{All-append, All-cons, All-nil}
+use Rattle.std.proofs.Math.Seq.{get_or-append_seam}
 use Rattle.xfs_disk.specs.Blocks.{Image, bytes_of_block}
-use Rattle.xfs_word.specs.Field.{part_of}
-use Rattle.xfs_treebuild.specs.Packing.{HoldsParts}
-use Rattle.xfs_render.specs.Drafts.{Adds, AddsPart, HoldsDraft, IsDraft}
+use Rattle.xfs_treebuild.specs.Packing.{HoldsParts, block_of_part}
+use Rattle.xfs_writing.specs.declared.rows.Row.{Row}
+use Rattle.xfs_render.specs.Drafts.{Adds, AddsAgain, AddsBlock, AddsPart, AreInBank, HoldsDraft, HoldsRows, IsDraft, last_block, places_of}
 use Rattle.xfs_render.specs.declared.draft.Draft.{Draft}
 
--- a part of bytes before others
-part_before : (a b : List ℕ) (at width : ℕ) → at + width ≤ length a → part_of (a ++ b) at width ≡ part_of a at width
-unfolding part_of
-part_before a b at width inside =
-    let low : at ≤ length a = omega (arith, inside) in
-    let room : width ≤ length (drop at a) = omega (arith, length-drop at a, inside) in
-    ap (take width) (drop-append-le at a b low) ∙ take-append-le width (drop at a) b room
+-- what is in a bank is in it still where blocks are put behind
+stays_inside : (rows : List Row) (bank more : Image) → AreInBank rows bank → AreInBank rows (bank ++ more)
+stays_inside rows bank more inside = λ k d low. omega (arith, inside k d low, length-append bank more)
 
--- a part of bytes behind others
-drop_behind : (a b : List ℕ) (m at : ℕ) → m ≡ length a + at → drop m (a ++ b) ≡ drop at b
-drop_behind [] b m at e = let here : m ≡ at = omega (arith, e) in ap (λ k. drop k b) here
-drop_behind (x ∷ a) b zero at e = absurd (omega (arith, e))
-drop_behind (x ∷ a) b (suc m) at e = drop_behind a b m at (omega (arith, e))
+-- the first of some rows are held where all are
+pub held_left : (image : Image) (rows more : List Row) (bank : Image) → HoldsRows (rows ++ more) bank image → HoldsRows rows bank image
+held_left image rows more bank held = λ k d low.
+    let there : k < length (rows ++ more) = omega (arith, low, length-append rows more) in
+    subst (λ (r : Row). bytes_of_block image r.at ≡ get_or bank r.index []) (get_or_append_left rows more d k low) (held k d there)
 
-part_behind : (a b : List ℕ) (n at width : ℕ) → length a ≡ n → part_of (a ++ b) (n + at) width ≡ part_of b at width
-unfolding part_of
-part_behind a b n at width len = ap (take width) (drop_behind a b (n + at) at (omega (arith, len)))
+-- and by the bank as it was
+held_bank : (image : Image) (rows : List Row) (bank more : Image) → AreInBank rows bank → HoldsRows rows (bank ++ more) image → HoldsRows rows bank image
+held_bank image rows bank more inside held = λ k d low. held k d low ∙ get_or_append_left bank more [] (get_or rows k d).index (inside k d low)
 
--- an image that has all has those before, and has what was put
-pub held_before : (image : Image) (ps qs bs cs : List ℕ) → length bs ≡ 4096 * length ps → HoldsParts image (ps ++ qs) (bs ++ cs) → HoldsParts image ps bs
-held_before image ps qs bs cs whole held = λ j inside.
-    let there : j < length (ps ++ qs) = omega (arith, inside, length-append ps qs) in
-    let place : get_or (ps ++ qs) j 0 ≡ get_or ps j 0 = get_or_append_left ps qs 0 j inside in
-    ap (bytes_of_block image) (sym place) ∙ held j there ∙ part_before bs cs (4096 * j) 4096 (omega (arith, whole, inside))
+-- the row behind all others
+held_last : (image : Image) (rows : List Row) (row : Row) (bank : Image) → HoldsRows (rows ++ row ∷ []) bank image → bytes_of_block image row.at ≡ get_or bank row.index []
+held_last image rows row bank held =
+    let there : length rows < length (rows ++ row ∷ []) = omega (arith, length-append rows (row ∷ [])) in
+    subst (λ (r : Row). bytes_of_block image r.at ≡ get_or bank r.index []) (get_or-append_seam rows row [] row) (held (length rows) row there)
 
-pub held_behind : (image : Image) (ps qs bs cs : List ℕ) → length bs ≡ 4096 * length ps → HoldsParts image (ps ++ qs) (bs ++ cs) → HoldsParts image qs cs
-held_behind image ps qs bs cs whole held = λ j inside.
-    let there : length ps + j < length (ps ++ qs) = omega (arith, inside, length-append ps qs) in
-    let place : get_or (ps ++ qs) (length ps + j) 0 ≡ get_or qs j 0 = get_or-append-add ps qs j 0 in
-    let at : 4096 * (length ps + j) ≡ 4096 * length ps + 4096 * j = omega arith in
-    ap (bytes_of_block image) (sym place) ∙ held (length ps + j) there ∙ ap (λ n. part_of (bs ++ cs) n 4096) at
-    ∙ part_behind bs cs (4096 * length ps) (4096 * j) 4096 whole
+-- one more is in the bank
+one_inside : (rows : List Row) (row : Row) (bank : Image) → AreInBank rows bank → row.index < length bank → AreInBank (rows ++ row ∷ []) bank
+one_inside rows row bank inside low =
+    let P : Row → Type 0 = λ r. r.index < length bank in
+    All-append P rows (row ∷ []) inside (All-cons P row [] low (All-nil P))
 
-pub added : (old new : Draft) (places part : List ℕ) → IsDraft old → length part ≡ 4096 * length places → new.places.items ≡ old.places.items ++ places
-    → new.bytes.items ≡ old.bytes.items ++ part → AddsPart old new places part
-added old new places part was whole at bytes =
+-- the block behind all others of a bank
+behind_all : (bank : Image) (block : List ℕ) → get_or (bank ++ block ∷ []) (length bank) [] ≡ block
+behind_all bank block = get_or-append_seam bank block [] []
+
+last_is : (bank : Image) (block : List ℕ) → last_block (bank ++ block ∷ []) ≡ block
+last_is bank block =
+    let n : length (bank ++ block ∷ []) - 1 ≡ length bank = omega (arith, length-append bank (block ∷ [])) in
+    ap (λ (m : ℕ). get_or (bank ++ block ∷ []) m []) n ∙ behind_all bank block
+
+pub added_block : (old new : Draft) (place : ℕ) (block : List ℕ) → IsDraft old → new.rows.items ≡ old.rows.items ++ record { at = place; index = length old.bank } ∷ []
+    → new.bank ≡ old.bank ++ block ∷ [] → AddsBlock old new place block
+added_block old new place block was rows bank =
+    let row : Row = record { at = place; index = length old.bank } in
+    let all = old.rows.items ++ row ∷ [] in
+    let more = old.bank ++ block ∷ [] in
+    let long : length more ≡ length old.bank + 1 = length-append old.bank (block ∷ []) in
     let move = λ (image : Image) (held : HoldsDraft image new).
-    let here : HoldsParts image (old.places.items ++ places) new.bytes.items = subst (λ (ps : List ℕ). HoldsParts image ps new.bytes.items) at held in
-    let all : HoldsParts image (old.places.items ++ places) (old.bytes.items ++ part) = subst (λ (bs : List ℕ). HoldsParts image (old.places.items ++ places) bs) bytes here in
-    all in
+    subst (λ (b : Image). HoldsRows all b image) bank (subst (λ (rs : List Row). HoldsRows rs new.bank image) rows held) in
+    let inside : AreInBank all more = one_inside old.rows.items row more (stays_inside old.rows.items old.bank (block ∷ []) was.inside) (omega (arith, long)) in
     record {
       adds = record {
-        whole = record { whole = omega (arith, ap length at, ap length bytes, length-append old.places.items places, length-append old.bytes.items part, was.whole, whole) };
-        places' = at;
-        before = λ image held. held_before image old.places.items places old.bytes.items part was.whole (move image held);
+        whole = record { inside = subst (λ (rs : List Row). AreInBank rs new.bank) (sym rows) (subst (λ (b : Image). AreInBank all b) (sym bank) inside) };
+        places' = ap places_of rows ∙ map-append (λ (r : Row). r.at) old.rows.items (row ∷ []);
+        count = ap length bank ∙ long;
+        before = λ image held. held_bank image old.rows.items old.bank (block ∷ []) was.inside (held_left image old.rows.items (row ∷ []) more (move image held));
       };
-      held = λ image held. held_behind image old.places.items places old.bytes.items part was.whole (move image held);
+      held = λ image held. held_last image old.rows.items row more (move image held) ∙ behind_all old.bank block;
+      last = ap last_block bank ∙ last_is old.bank block;
+    }
+
+pub added_again : (old new : Draft) (place : ℕ) → IsDraft old → 1 ≤ length old.bank → new.rows.items ≡ old.rows.items ++ record { at = place; index = length old.bank - 1 } ∷ []
+    → new.bank ≡ old.bank → AddsAgain old new place
+added_again old new place was some rows bank =
+    let row : Row = record { at = place; index = length old.bank - 1 } in
+    let all = old.rows.items ++ row ∷ [] in
+    let move = λ (image : Image) (held : HoldsDraft image new).
+    subst (λ (b : Image). HoldsRows all b image) bank (subst (λ (rs : List Row). HoldsRows rs new.bank image) rows held) in
+    let inside : AreInBank all old.bank = one_inside old.rows.items row old.bank was.inside (omega (arith, some)) in
+    record {
+      adds = record {
+        whole = record { inside = subst (λ (rs : List Row). AreInBank rs new.bank) (sym rows) (subst (λ (b : Image). AreInBank all b) (sym bank) inside) };
+        places' = ap places_of rows ∙ map-append (λ (r : Row). r.at) old.rows.items (row ∷ []);
+        count = let same = ap length bank in omega (arith, same);
+        before = λ image held. held_left image old.rows.items (row ∷ []) old.bank (move image held);
+      };
+      held = λ image held. held_last image old.rows.items row old.bank (move image held);
+      last = ap last_block bank;
     }
 
 -- nothing was put, and one thing was put behind the other
-pub adds_none : (old : Draft) → IsDraft old → Adds old old []
-adds_none old was = record { whole = was; places' = sym (append-nil old.places.items); before = λ image held. held }
+pub adds_none : (old : Draft) → IsDraft old → Adds old old [] 0
+adds_none old was = record { whole = was; places' = sym (append-nil (places_of old.rows.items)); count = omega arith; before = λ image held. held }
 
-pub adds_then : (old mid new : Draft) (ps qs : List ℕ) → Adds old mid ps → Adds mid new qs → Adds old new (ps ++ qs)
-adds_then old mid new ps qs first next = record {
+pub adds_then : (old mid new : Draft) (ps qs : List ℕ) (m n : ℕ) → Adds old mid ps m → Adds mid new qs n → Adds old new (ps ++ qs) (m + n)
+adds_then old mid new ps qs m n first next = record {
   whole = next.whole;
-  places' = next.places' ∙ ap (λ (xs : List ℕ). xs ++ qs) first.places' ∙ append_assoc old.places.items ps qs;
+  places' = next.places' ∙ ap (λ (xs : List ℕ). xs ++ qs) first.places' ∙ append_assoc (places_of old.rows.items) ps qs;
+  count = let a = first.count in let b = next.count in omega (arith, a, b);
   before = λ image held. first.before image (next.before image held);
 }
 
--- an image that has one block has it at its place
-whole_block : (block : List ℕ) → length block ≡ 4096 → part_of block 0 4096 ≡ block
-unfolding part_of
-whole_block block size = take_all 4096 block (omega (arith, size))
+-- the same places by another name, and the same number
+pub adds_as : (old new : Draft) (ps qs : List ℕ) (m n : ℕ) → ps ≡ qs → m ≡ n → Adds old new ps m → Adds old new qs n
+adds_as old new ps qs m n same count adds = subst (λ (k : ℕ). Adds old new qs k) count (subst (λ (xs : List ℕ). Adds old new xs m) same adds)
 
-pub held_one : (image : Image) (place : ℕ) (block : List ℕ) → length block ≡ 4096 → HoldsParts image (place ∷ []) block → bytes_of_block image place ≡ block
-held_one image place block size held = held 0 (omega arith) ∙ whole_block block size
+-- each place beside its part
+abbrev pub HoldsUpTo : Image → ℕ → List ℕ → List ℕ → Type 0
+HoldsUpTo image n places part = (j : ℕ) → j < n → bytes_of_block image (get_or places j 0) ≡ block_of_part part j
+
+pub record AddsUpTo (old new : Draft) (n : ℕ) (places part : List ℕ) : Type 0 where
+  pub adds : Adds old new (take n places) n
+  pub held : (image : Image) → HoldsDraft image new → HoldsUpTo image n places part
+
+pub up_to_none : (old : Draft) (places part : List ℕ) → IsDraft old → AddsUpTo old old 0 places part
+up_to_none old places part was = record { adds = adds_none old was; held = λ image held j low. absurd (omega (arith, low)) }
+
+pub up_to_more : (old mid new : Draft) (i place : ℕ) (places part block : List ℕ) → i < length places → place ≡ get_or places i 0 → block ≡ block_of_part part i
+    → AddsUpTo old mid i places part → AddsBlock mid new place block → AddsUpTo old new (i + 1) places part
+up_to_more old mid new i place places part block inside at is first next = record {
+  adds = adds_as old new (take i places ++ place ∷ []) (take (i + 1) places) (i + 1) (i + 1)
+      (ap (λ (x : ℕ). take i places ++ x ∷ []) at ∙ sym (take_more places i 0 inside)) (omega arith)
+      (adds_then old mid new (take i places) (place ∷ []) i 1 first.adds next.adds);
+  held = λ image held j low. elim (cases_lt j i) [
+    | inl early ↦ first.held image (next.adds.before image held) j early
+    | inr late ↦
+        let same : i ≡ j = omega (arith, low, late) in
+        subst (λ (k : ℕ). bytes_of_block image (get_or places k 0) ≡ block_of_part part k) same
+        (ap (bytes_of_block image) (sym at) ∙ next.held image held ∙ is)
+  ];
+}
+
+pub up_to_all : (old new : Draft) (n : ℕ) (places part : List ℕ) → n ≡ length places → AddsUpTo old new n places part → AddsPart old new places part
+up_to_all old new n places part all up = record {
+  adds = adds_as old new (take n places) places n (length places) (take_all n places (omega (arith, all))) all up.adds;
+  held = λ image held j low. up.held image held j (omega (arith, all, low));
+}

@@ -16,3 +16,6 @@ pub mod LawfulOwners
 pub mod TreePlaces
 pub mod ReadyGroups
 pub mod ReadyWanted
+pub mod ObjectSteps
+pub mod ObjectSeals
+pub mod ReadyObjects

@@ -23,7 +23,7 @@ abbrev blocks_in : TreeBlocks → List ℕ
 blocks_in t = t.blocks
 
 module _ {A : Type 0} where
-  all_left : (P : A → Type 0) (xs ys : List A) → All P (xs ++ ys) → All P xs
+  pub all_left : (P : A → Type 0) (xs ys : List A) → All P (xs ++ ys) → All P xs
   all_left P xs ys all = λ k d low. subst P (get_or_append_left xs ys d k low) (all k d (omega (arith, low, length-append xs ys)))
 
   pub all_right : (P : A → Type 0) (xs ys : List A) → All P (xs ++ ys) → All P ys

@@ -1,5 +1,5 @@
 -- The five trees of a group, put down one after the other.
-use Rattle.std.proofs.Common.{◌≡◌, ℕ, ◌%◌, ◌<◌, ◌≤◌, false, List, ◌++◌, length, refl, sym, subst}
+use Rattle.std.proofs.Common.{◌≡◌, ℕ, ◌+◌, ◌%◌, ◌<◌, ◌≤◌, false, List, ◌++◌, length, length-append, refl, sym, subst, arith}
 use Rattle.xfs_disk.specs.Blocks.{Image}
 use Rattle.xfs_geom.specs.Volumes.{Volume}
 use Rattle.xfs_geom.specs.declared.records.InoRec.{InoRec}
@@ -11,9 +11,9 @@ use Rattle.xfs_treebuild.specs.Packing.{root_of}
 use Rattle.xfs_tree.specs.Shape.{Shape}
 use Rattle.xfs_render.specs.Counters.{levels}
 use Rattle.xfs_render.specs.Groups.{CanPack, IsSoundGroup, tree_places}
-use Rattle.xfs_render.specs.Trees.{AddsTree, AddsTrees, HasTree, block_in_group}
+use Rattle.xfs_render.specs.Trees.{AddsTree, AddsTrees, HasTree, block_in_group, group_tree_places}
 use Rattle.xfs_render.specs.declared.draft.Draft.{Draft}
-use Rattle.xfs_render.proofs.DraftSteps.{adds_then}
+use Rattle.xfs_render.proofs.DraftSteps.{adds_as, adds_then}
 use Rattle.xfs_render.proofs.Roots.{root_in_group}
 use Rattle.xfs_render.proofs.Sums.{inode_trees, space_trees}
 
@@ -39,12 +39,20 @@ module _ (v : Volume) (ag : ℕ) (inodes : List InoRec) (p : GroupPlaced) (some 
   five_trees a b c d e f bno cnt ino fino rmap =
       let space = space_trees v ag inodes p sound in
       let chunks = inode_trees v ag inodes p sound in
-      let ac = adds_then a b c (tree_places p 0) (tree_places p 1) bno.adds cnt.adds in
-      let ad = adds_then a c d (tree_places p 0 ++ tree_places p 1) (tree_places p 2) ac ino.adds in
-      let ae = adds_then a d e (tree_places p 0 ++ tree_places p 1 ++ tree_places p 2) (tree_places p 3) ad fino.adds in
-      let af = adds_then a e f (tree_places p 0 ++ tree_places p 1 ++ tree_places p 2 ++ tree_places p 3) (tree_places p 4) ae rmap.adds in
+      let t0 = tree_places p 0 in
+      let t1 = tree_places p 1 in
+      let t2 = tree_places p 2 in
+      let t3 = tree_places p 3 in
+      let t4 = tree_places p 4 in
+      let ac = adds_then a b c t0 t1 (length t0) (length t1) bno.adds cnt.adds in
+      let ad = adds_then a c d (t0 ++ t1) t2 (length t0 + length t1) (length t2) ac ino.adds in
+      let ae = adds_then a d e (t0 ++ t1 ++ t2) t3 (length t0 + length t1 + length t2) (length t3) ad fino.adds in
+      let af = adds_then a e f (t0 ++ t1 ++ t2 ++ t3) t4 (length t0 + length t1 + length t2 + length t3) (length t4) ae rmap.adds in
+      let five = t0 ++ t1 ++ t2 ++ t3 ++ t4 in
+      let count : length t0 + length t1 + length t2 + length t3 + length t4 ≡ length five =
+      omega (arith, length-append t0 t1, length-append (t0 ++ t1) t2, length-append (t0 ++ t1 ++ t2) t3, length-append (t0 ++ t1 ++ t2 ++ t3) t4) in
       record {
-        adds = af;
+        adds = adds_as a f five (group_tree_places p) (length t0 + length t1 + length t2 + length t3 + length t4) (length five) refl count af;
         reads = λ image in_f.
             let in_e = rmap.adds.before image in_f in
             let in_d = fino.adds.before image in_e in

@@ -5,6 +5,7 @@ pub mod Drafts
 pub mod Trees
 pub mod Slots
 pub mod Clusters
+pub mod Objects
 pub mod Logs
 pub mod Plans
 pub mod NewBlocks

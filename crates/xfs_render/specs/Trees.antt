@@ -36,7 +36,7 @@ pub record HasTree {R K : Type 0} (s : Shape R K) (v : Volume) (image : Image) (
 
 -- a tree was put down: its root stands last
 pub record AddsTree {R K : Type 0} (s : Shape R K) (v : Volume) (old new : Draft) (records : List R) (places : List ℕ) : Type 0 where
-  pub adds : Adds old new places
+  pub adds : Adds old new places (length places)
   pub has : (image : Image) → HoldsDraft image new
       → HasTree s v image (root_of places) (levels s.layout.leaf_cap s.layout.node_cap (length records)) records places
 
@@ -58,5 +58,5 @@ pub record HasTrees (v : Volume) (image : Image) (ag : ℕ) (inodes : List InoRe
 
 -- the trees of a group were put down
 pub record AddsTrees (v : Volume) (ag : ℕ) (inodes : List InoRec) (p : GroupPlaced) (old new : Draft) : Type 0 where
-  pub adds : Adds old new (group_tree_places p)
+  pub adds : Adds old new (group_tree_places p) (length (group_tree_places p))
   pub reads : (image : Image) → HoldsDraft image new → HasTrees v image ag inodes p

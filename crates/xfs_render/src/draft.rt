@@ -1,38 +1,44 @@
 //! Blocks that are put down one after the other, each with its place, before they are put in order.
 
-ghost use Rattle.std.specs.Prelude.{◌≡◌, ◌*◌, [], ◌∷◌, length, OnOk};
-ghost use Rattle.xfs_render.specs.Drafts.{AddsPart, IsDraft};
+ghost use Rattle.std.specs.Prelude.{◌≡◌, ◌≤◌, ◌*◌, [], length, IfOk, OnOk};
+ghost use Rattle.xfs_render.specs.Drafts.{AddsAgain, AddsBlock, AddsPart, IsDraft};
 
 use std::alloc::Global;
-use xfs_disk::NoMemory;
+use xfs_bank::BlockBank;
+use xfs_disk::{BLOCK_SIZE, NoMemory};
+use xfs_word::part;
+use xfs_writing::Row;
 
-/// Blocks of 4096 bytes, one behind the other, and their places, which are block numbers.
+/// Blocks of 4096 bytes with their places, which are block numbers. Several places may have the same bytes.
 #[derive(Drop)]
 pub struct Draft {
-    pub places: Vec<u64>,
-    pub bytes: Vec<u8>,
+    /// Each place, with the index of its bytes.
+    pub rows: Vec<Row>,
+    pub bank: BlockBank,
 }
 
 impl Draft {
     /// No block.
-    pub fn new(alloc: Global) -> Draft
-        ensures whole { IsDraft result }
-        ensures none { result.places.items ≡ [] }
+    pub fn make(alloc: Global) -> Result<Draft, NoMemory>
+        ensures whole { IfOk result (λ draft. IsDraft draft) }
+        ensures none { IfOk result (λ draft. draft.rows.items ≡ []) }
+        ensures empty { IfOk result (λ draft. draft.bank ≡ []) }
     {
-        Draft {
-            places: Vec::new(alloc),
-            bytes: Vec::new(alloc),
-        }
+        Ok(Draft {
+            rows: Vec::new(alloc),
+            bank: BlockBank::make(alloc, 0)?,
+        })
     }
 
     /// Puts blocks behind the others.
-    pub fn add(&mut self, places: &[u64], part: &[u8]) -> Result<(), NoMemory>
+    pub fn add(&mut self, places: &[u64], blocks: &[u8]) -> Result<(), NoMemory>
         requires draft { IsDraft self.old }
-        requires part { length part.now ≡ 4096 * length places.now }
-        ensures { OnOk result (AddsPart self.old self.new places.now part.now) }
+        requires blocks { length blocks.now ≡ 4096 * length places.now }
+        ensures { OnOk result (AddsPart self.old self.new places.now blocks.now) }
     {
-        self.places.extend_from_slice(places)?;
-        self.bytes.extend_from_slice(part)?;
+        for (i, place) in places.iter().enumerate() {
+            self.add_block(*place, part(blocks, BLOCK_SIZE * i, BLOCK_SIZE))?;
+        }
         Ok(())
     }
 
@@ -40,8 +46,22 @@ impl Draft {
     pub fn add_block(&mut self, place: u64, block: &[u8]) -> Result<(), NoMemory>
         requires draft { IsDraft self.old }
         requires block { length block.now ≡ 4096 }
-        ensures { OnOk result (AddsPart self.old self.new (place ∷ []) block.now) }
+        ensures { OnOk result (AddsBlock self.old self.new place block.now) }
     {
-        self.add(&[place], block)
+        let index = self.bank.len();
+        self.bank.push(block)?;
+        self.rows.push(Row { at: place, index })?;
+        Ok(())
+    }
+
+    /// Puts a place behind the others that has the same bytes as the last one.
+    pub fn add_again(&mut self, place: u64) -> Result<(), NoMemory>
+        requires draft { IsDraft self.old }
+        requires some { 1 ≤ length self.old.bank }
+        ensures { OnOk result (AddsAgain self.old self.new place) }
+    {
+        let index = self.bank.len() - 1;
+        self.rows.push(Row { at: place, index })?;
+        Ok(())
     }
 }

@@ -1,5 +1,5 @@
 //! The bytes of a volume that is written anew: the headers of its allocation groups, their trees, clusters of inodes,
-//! superblocks and a blank log.
+//! blocks of directories and files, superblocks and a blank log.
 //!
 //! From what is wanted and where it is placed to blocks: a plan that names each block once and has its bytes, for a
 //! caller that writes it. An image that holds the planned blocks says just that volume.
@@ -9,7 +9,7 @@
 //! ```text
 //! let placed = place(alloc, wanted)?;
 //! let plan = render(rt, alloc, wanted, &placed, bytes, WORKERS, &NoGate)?;
-//! // plan.fresh, plan.in_place: block numbers; plan.bank: their bytes, in that order
+//! // plan.fresh, plan.in_place: block numbers, each with the index of its bytes in plan.bank
 //! ```
 #![tactic(auto)]
 
@@ -22,6 +22,9 @@ mod header_block;
 mod heads;
 mod log;
 mod new_blocks;
+mod object_blocks;
+mod object_seals;
+mod objects;
 mod plan;
 mod readiness;
 mod rendering;

@@ -3,8 +3,8 @@
 ghost use Rattle.std.specs.Prelude.{◌≡◌, ◌≤◌, ◌<◌, ◌+◌, ◌*◌, ◌^◌, length, OnOk};
 ghost use Rattle.xfs_word.specs.Field.{KeepsParts};
 ghost use Rattle.xfs_geom.specs.Volumes.{volume_of};
-ghost use Rattle.xfs_render.specs.Drafts.{IsDraft};
-ghost use Rattle.xfs_render.specs.Logs.{AddsLog, IsBlankAt, IsBlankBlock, sector_of};
+ghost use Rattle.xfs_render.specs.Drafts.{IsDraft, last_block};
+ghost use Rattle.xfs_render.specs.Logs.{AddsLog, AddsRest, IsBlankAt, IsBlankBlock, sector_of};
 
 use crate::draft::Draft;
 use xfs_disk::{BLOCK_SIZE, NoMemory};
@@ -12,7 +12,7 @@ use xfs_geom::Geometry;
 use xfs_heads::blank_log_sector;
 use xfs_word::put_part;
 
-/// Puts down the blocks of a blank log of a cycle.
+/// Puts down the blocks of a blank log of a cycle. From the second on all have the same bytes.
 pub fn add_log(g: &Geometry, cycle: u32, draft: &mut Draft) -> Result<(), NoMemory>
     requires some { 1 ≤ cycle }
     requires few { cycle < 2 ^ 31 }
@@ -20,9 +20,23 @@ pub fn add_log(g: &Geometry, cycle: u32, draft: &mut Draft) -> Result<(), NoMemo
     ensures { OnOk result (AddsLog (volume_of g.now) cycle draft.old draft.new) }
 {
     let mut block = [0; BLOCK_SIZE];
-    for i in 0..g.logblocks {
-        put_block(cycle, i, &g.uuid, &mut block);
-        draft.add_block(g.log + i as u64, &block)?;
+    put_block(cycle, 0, &g.uuid, &mut block);
+    draft.add_block(g.log, &block)?;
+    put_block(cycle, 1, &g.uuid, &mut block);
+    draft.add_block(g.log + 1, &block)?;
+    add_rest(g, cycle, draft)?;
+    Ok(())
+}
+
+/// Puts down the blocks of a blank log behind its second one, with the bytes of that one, which stands last.
+fn add_rest(g: &Geometry, _cycle: u32, draft: &mut Draft) -> Result<(), NoMemory>
+    requires draft { IsDraft draft.old }
+    requires some { 1 ≤ length draft.old.bank }
+    requires last { IsBlankBlock _cycle g.now.uuid 1 (last_block draft.old.bank) }
+    ensures { OnOk result (AddsRest (volume_of g.now) _cycle g.now.logblocks draft.old draft.new) }
+{
+    for i in 2..g.logblocks {
+        draft.add_again(g.log + i as u64)?;
     }
     Ok(())
 }

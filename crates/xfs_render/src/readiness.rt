@@ -3,6 +3,7 @@
 ghost use Rattle.std.specs.Prelude.{◌≡◌, ◌<◌, ◌++◌, ◌^◌, length, Ok};
 ghost use Rattle.std.specs.List.{All};
 ghost use Rattle.xfs_geom.specs.Volumes.{volume_of};
+ghost use Rattle.xfs_place.specs.Objects.{ServeAsks, asks_of};
 ghost use Rattle.xfs_place.specs.Standing.{AreOfPool};
 ghost use Rattle.xfs_place.specs.Wanted.{CanBeKept, ArePlaced, all_kept, kept_runs};
 ghost use Rattle.xfs_render.specs.Readiness.{HasBytes, IsWritable};
@@ -17,6 +18,7 @@ use xfs_place::{Placed, Wanted};
 pub fn placed_is_ready(_wanted: &Wanted, _placed: &Placed, _bytes: &Bytes)
     requires wanted { IsWritable _wanted.now }
     requires runs { all_kept _wanted.now ≡ Ok (kept_runs _wanted.now ++ _placed.now.runs) }
+    requires cuts { ServeAsks (asks_of _wanted.now.objects) _placed.now.cuts _placed.now.runs }
     requires groups { ArePlaced (volume_of _wanted.now.geometry) (kept_runs _wanted.now ++ _placed.now.runs) _wanted.now.reserved _wanted.now.inodes
         _wanted.now.geometry.agcount _placed.now.groups }
     requires apart { CanBeKept (volume_of _wanted.now.geometry) (kept_runs _wanted.now ++ _placed.now.runs) }

@@ -4,7 +4,7 @@ ghost use Rattle.std.specs.Prelude.{◌≡◌, ◌≤◌, ◌<◌, ◌+◌, ◌^
 ghost use Rattle.xfs_geom.specs.Volumes.{volume_of};
 ghost use Rattle.xfs_render.specs.Drafts.{IsDraft};
 ghost use Rattle.xfs_render.specs.NewBlocks.{AreMarked};
-ghost use Rattle.xfs_render.specs.Rendering.{AddsBlank, AddsGroups, AddsPlaces, IsPlaceDue, IsReady, IsRendered, group_placed, wanted_inodes, old_at, byte_place};
+ghost use Rattle.xfs_render.specs.Rendering.{AddsBlank, AddsGroups, AddsPlaces, IsPlaceDue, IsReady, IsRendered, group_placed, is_put, wanted_inodes, old_at, byte_place};
 ghost use Rattle.xfs_render.specs.Trees.{AddsTrees};
 
 use crate::arranging::arrange;
@@ -14,6 +14,8 @@ use crate::draft::Draft;
 use crate::header_block::put_headers;
 use crate::log::add_log;
 use crate::new_blocks::mark_runs;
+use crate::object_blocks::object_blocks;
+use crate::objects::add_objects;
 use crate::plan::Plan;
 use crate::trees::add_trees;
 use std::alloc::Global;
@@ -24,8 +26,8 @@ use xfs_geom::{Geometry, InoRec, write_super};
 use xfs_place::{GroupPlaced, Placed, Wanted};
 
 /// The blocks of a volume that is written anew: the trees of its groups and the first block of each with superblock and
-/// headers, the blocks of all clusters, and the log where it is to be blank. One block is planned for each place, those
-/// that nothing kept stands on first.
+/// headers, the blocks of objects that are written, those of all clusters, and the log where it is to be blank. Each place
+/// is planned once, those that nothing kept stands on first. The log takes two blocks of memory.
 ///
 /// `NoMemory` where memory is wanting.
 pub fn render<R: Threads + Sync, G: Gate>(
@@ -43,6 +45,7 @@ pub fn render<R: Threads + Sync, G: Gate>(
     gate.enter(0);
     let mut sector = [0; 512];
     write_super(&bytes.sector, &placed.counts, &mut sector);
+    let objects = object_blocks(alloc, wanted, placed)?;
     let marks = mark_runs(alloc, wanted.geometry.dblocks, wanted.new.as_slice())?;
     let work = Work {
         wanted,
@@ -51,12 +54,14 @@ pub fn render<R: Threads + Sync, G: Gate>(
         sector: &sector,
         marks: &marks,
     };
-    let mut fresh = Draft::new(alloc);
-    let mut rest = Draft::new(alloc);
-    add_groups(alloc, wanted, placed, bytes, &mut fresh)?;
-    add_places(&work, &mut fresh, &mut rest)?;
-    add_blank(wanted, bytes.cycle, &mut rest)?;
-    Ok(arrange(alloc, &fresh, &rest)?)
+    let mut draft = Draft::make(alloc)?;
+    add_groups(alloc, wanted, placed, bytes, &mut draft)?;
+    add_objects(&wanted.geometry, &objects, &bytes.objects, &mut draft)?;
+    add_places(&work, true, &mut draft)?;
+    let first = draft.rows.len();
+    add_places(&work, false, &mut draft)?;
+    add_blank(wanted, bytes.cycle, &mut draft)?;
+    Ok(arrange(alloc, draft, first)?)
 }
 
 /// What blocks are made of.
@@ -130,42 +135,48 @@ fn add_groups(
     Ok(())
 }
 
-/// Puts down the first blocks of groups and the blocks of clusters, each among the fresh ones or the others.
-fn add_places(work: &Work<'_>, fresh: &mut Draft, rest: &mut Draft) -> Result<(), NoMemory>
+/// Puts down the first blocks of groups and the blocks of clusters that are fresh, or those that are not.
+fn add_places(work: &Work<'_>, fresh: bool, draft: &mut Draft) -> Result<(), NoMemory>
     requires ready { IsReady work.now.wanted.now work.now.placed.now work.now.bytes.now }
     requires sector { length work.now.sector.now ≡ 512 }
     requires marks { AreMarked work.now.wanted.now.geometry.dblocks work.now.wanted.now.new work.now.marks.now }
-    requires fresh { IsDraft fresh.old }
-    requires rest { IsDraft rest.old }
-    ensures { OnOk result (AddsPlaces work.now.wanted.now work.now.placed.now work.now.bytes.now work.now.sector.now 0 (length work.now.bytes.now.places)
-        work.now.bytes.now.places fresh.old rest.old fresh.new rest.new) }
+    requires draft { IsDraft draft.old }
+    ensures { OnOk result (AddsPlaces work.now.wanted.now work.now.placed.now work.now.bytes.now work.now.sector.now fresh 0 (length work.now.bytes.now.places)
+        work.now.bytes.now.places draft.old draft.new) }
 {
     for i in 0..work.bytes.places.as_slice().len() {
-        add_place(work, i, fresh, rest)?;
+        add_place(work, fresh, i, draft)?;
     }
     Ok(())
 }
 
-/// Puts down the block at a place.
-fn add_place(work: &Work<'_>, i: usize, fresh: &mut Draft, rest: &mut Draft) -> Result<(), NoMemory>
+/// Puts down the block at a place, where it is fresh, or where it is not.
+fn add_place(work: &Work<'_>, fresh: bool, i: usize, draft: &mut Draft) -> Result<(), NoMemory>
     requires ready { IsReady work.now.wanted.now work.now.placed.now work.now.bytes.now }
     requires sector { length work.now.sector.now ≡ 512 }
     requires marks { AreMarked work.now.wanted.now.geometry.dblocks work.now.wanted.now.new work.now.marks.now }
     requires inside { i < length work.now.bytes.now.places }
-    requires fresh { IsDraft fresh.old }
-    requires rest { IsDraft rest.old }
-    ensures { OnOk result (AddsPlaces work.now.wanted.now work.now.placed.now work.now.bytes.now work.now.sector.now i (i + 1)
-        (byte_place work.now.bytes.now i ∷ []) fresh.old rest.old fresh.new rest.new) }
+    requires draft { IsDraft draft.old }
+    ensures { OnOk result (AddsPlaces work.now.wanted.now work.now.placed.now work.now.bytes.now work.now.sector.now fresh i (i + 1)
+        (byte_place work.now.bytes.now i ∷ []) draft.old draft.new) }
 {
     let place = byte_place(work.bytes, i);
-    let mut block = [0; BLOCK_SIZE];
-    put_place(work, i, &mut block);
-    if work.marks[place as usize] {
-        fresh.add_block(place, &block)?;
-    } else {
-        rest.add_block(place, &block)?;
+    if is_put(work, fresh, place) {
+        let mut block = [0; BLOCK_SIZE];
+        put_place(work, i, &mut block);
+        draft.add_block(place, &block)?;
     }
     Ok(())
+}
+
+/// Whether a place is fresh, or whether it is not.
+fn is_put(work: &Work<'_>, fresh: bool, place: u64) -> bool
+    requires marks { AreMarked work.now.wanted.now.geometry.dblocks work.now.wanted.now.new work.now.marks.now }
+    requires inside { place < work.now.wanted.now.geometry.dblocks }
+    ensures { result ≡ is_put work.now.wanted.now fresh place }
+{
+    let new = work.marks[place as usize];
+    if fresh { new } else { !new }
 }
 
 /// Writes the block at a place: the first one of its group, or one of a cluster.

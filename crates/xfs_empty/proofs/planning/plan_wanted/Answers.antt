@@ -1,10 +1,9 @@
-use Rattle.std.proofs.Common.{arith}
 use Rattle.xfs_empty.proofs.Planned.{planned_low}
 use Rattle.xfs_empty.proofs.Room.{has_room}
 use Rattle.xfs_empty.proofs.planning.plan_wanted.Goals as goal
 
 pub place-requires-clause-asks : goal.place-requires-clause-asks
-place-requires-clause-asks g c = λ k d low. absurd (omega (arith, c.requires.writable.objects, low))
+place-requires-clause-asks g c = c.requires.writable.asks
 
 pub returns-clause-rendered : goal.returns-clause-rendered
 returns-clause-rendered g c =
@@ -24,8 +23,8 @@ pub returns-clause-inside : goal.returns-clause-inside
 returns-clause-inside g c =
     planned_low c.args.wanted.now c.in_ok-placed.placed c.args.bytes.now c.in_ok-plan.plan c.placed_is_ready.ensures c.in_ok-plan.ensures
 
-pub returns-clause-count : goal.returns-clause-count
-returns-clause-count g c = c.in_ok-plan.ensures.count
+pub returns-clause-held : goal.returns-clause-held
+returns-clause-held g c = c.in_ok-plan.ensures.inside
 
 pub returns-clause-room : goal.returns-clause-room
 returns-clause-room g c =

@@ -16,7 +16,7 @@ write_parts-requires g c =
     let one : first ≡ first_part rows = c.first_part.ensures ∙ ap first_part c.as_slice-rows.ensures.value in
     let two : last ≡ last_part rows = c.last_part.ensures ∙ ap last_part c.as_slice-rows.ensures.value in
     let places = all_at (λ (place : ℕ). place < size) plan rows c.in-Ok.ensures c.requires.inside in
-    let inside = all_index count plan rows c.in-Ok.ensures c.requires.count in
+    let inside = all_index plan rows c.in-Ok.ensures c.requires.held in
     let both : length first + length last ≡ length (first_part rows) + length (last_part rows) =
     ap₂ (λ (a b : List Row). length a + length b) one two in
     record {

@@ -1,13 +1,12 @@
-use Rattle.std.proofs.Common.{◌≡◌, ℕ, true, List, ◌++◌, subst}
-use Rattle.std.specs.List.{All}
-use Rattle.xfs_geom.specs.declared.records.Run.{Run}
-use Rattle.xfs_place.specs.Pool.{is_taken}
+use Rattle.std.proofs.Common.{◌≡◌, ◌∙◌, ℕ, true, ◌++◌, sym}
+use Rattle.std.proofs.lemmas.List.Elements.{All-append}
 use Rattle.xfs_place.specs.Wanted.{kept_runs}
 use Rattle.xfs_tree.specs.Rules.{is_of_root_cluster}
 use Rattle.xfs_render.specs.Readiness.{HasOwner}
 use Rattle.xfs_render.specs.Rendering.{group_placed, wanted_inodes, no_group, volume}
 use Rattle.xfs_render.proofs.ReadyGroups.{group_sound}
-use Rattle.xfs_render.proofs.ReadyWanted.{kept_is, new_inside}
+use Rattle.xfs_render.proofs.ReadyObjects.{objects_counted, objects_owned}
+use Rattle.xfs_render.proofs.ReadyWanted.{new_inside, runs_inside, taken_left}
 use Rattle.xfs_render.proofs.readiness.placed_is_ready.Goals as goal
 
 pub returns : goal.returns
@@ -17,11 +16,13 @@ returns c =
     let all = kept_runs w ++ p.runs in
     let wanted = c.requires.wanted in
     let bytes = c.requires.bytes in
-    let same : kept_runs w ≡ all = kept_is w all wanted.objects c.requires.runs in
-    let owned = subst (All HasOwner) same wanted.owned in
-    let root = λ (block : ℕ) (h : is_of_root_cluster (volume w) block ≡ true). subst (λ (rs : List Run). is_taken rs block ≡ true) same (wanted.root block h) in
+    let cuts = c.requires.cuts in
+    let owned = All-append HasOwner (kept_runs w) p.runs wanted.owned (objects_owned w.objects p.cuts p.runs wanted.asks wanted.askers cuts) in
+    let root = λ (block : ℕ) (h : is_of_root_cluster (volume w) block ≡ true). taken_left (kept_runs w) p.runs block (wanted.root block h) in
     record {
-      objects = wanted.objects;
+      cuts = cuts;
+      runs = runs_inside w p.runs c.requires.apart;
+      objects = bytes.objects ∙ sym (objects_counted w.objects p.cuts p.runs cuts);
       inodes = wanted.inodes;
       groups = c.requires.groups.all;
       sound = λ ag there.
@@ -29,7 +30,7 @@ returns c =
           (wanted.chunks ag there) (c.requires.groups.each ag no_group there) (c.requires.pool.each ag no_group there);
       accepted = bytes.accepted;
       states = bytes.states;
-      new = new_inside w all same c.requires.apart;
+      new = new_inside w p.runs c.requires.apart;
       old = bytes.old;
       inside = bytes.inside;
       order = bytes.order;

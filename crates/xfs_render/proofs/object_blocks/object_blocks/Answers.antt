@@ -1,0 +1,17 @@
+use Rattle.std.proofs.Common.{◌≡◌, ◌∙◌, List, ℕ, ap, sym, subst}
+use Rattle.xfs_geom.specs.declared.records.Run.{Run}
+use Rattle.xfs_place.specs.Objects.{ServeAsks, asks_of}
+use Rattle.xfs_place.specs.declared.wanted.RunAsk.{RunAsk}
+use Rattle.xfs_render.specs.Objects.{asks_with_kind}
+use Rattle.xfs_render.proofs.ObjectSteps.{plain_all, plain_asks}
+use Rattle.xfs_render.proofs.object_blocks.object_blocks.Goals as goal
+
+pub list_blocks-requires-clause-cuts : goal.list_blocks-requires-clause-cuts
+list_blocks-requires-clause-cuts c =
+    let p = c.args.placed.now in
+    let objects = c.args.wanted.now.objects in
+    let plain : plain_asks c.deref.result.now ≡ asks_of objects =
+    ap plain_asks (c.deref.ensures.value ∙ c.in_ok-asks.ensures ∙ ap asks_with_kind c.as_slice.ensures) ∙ plain_all objects in
+    subst (λ (runs : List Run). ServeAsks (plain_asks c.deref.result.now) c.as_slice-2.result.now runs) (sym c.as_slice-3.ensures)
+    (subst (λ (cuts : List ℕ). ServeAsks (plain_asks c.deref.result.now) cuts p.runs) (sym c.as_slice-2.ensures)
+    (subst (λ (asks : List RunAsk). ServeAsks asks p.cuts p.runs) (sym plain) c.requires.cuts))

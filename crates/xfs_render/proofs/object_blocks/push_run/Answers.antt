@@ -1,0 +1,13 @@
+use Rattle.std.proofs.Common.{ℕ, arith}
+use Rattle.xfs_render.specs.declared.object_blocks.ObjectBlock.{ObjectBlock}
+use Rattle.xfs_render.proofs.ObjectSteps.{range_map_more}
+use Rattle.xfs_render.proofs.object_blocks.push_run.Goals as goal
+
+pub loop-place-preserved : goal.loop-place-preserved
+loop-place-preserved c =
+    let f : ℕ → ObjectBlock = λ place. record { kind = c.args.ask.now.kind; owner = c.args.ask.now.ask.owner; place = place } in
+    record {
+      all = range_map_more f c.args.blocks.now.items c.loop-place.blocks.items c.push.new.self.items c.args.run.now.start c.loop-place.place c.loop-place.invariant.from
+          c.loop-place.invariant.all c.in_ok-push.ensures.items;
+      from = omega (arith, c.loop-place.invariant.from);
+    }
