@@ -36,7 +36,7 @@ first_length v groups = by_case (1 == v.agcount) refl
 clear_block : (v : Volume) (b : ℕ) → is_fixed v b ≡ false → not (is_fixed v b) ≡ true
 clear_block v b h = rw h refl
 
-all_clear : (v : Volume) (s : ℕ) → HasGroups v.dblocks v.agblocks v.agcount → HasFirstChunk v → s ≡ 16 → are_free_of_use v 0 s ≡ true
+pub all_clear : (v : Volume) (s : ℕ) → HasGroups v.dblocks v.agblocks v.agcount → HasFirstChunk v → s ≡ 16 → are_free_of_use v 0 s ≡ true
 unfolding are_free_of_use
 all_clear v s groups first at =
     let clear : (b : ℕ) → 16 ≤ b → b < 24 → not (is_fixed v b) ≡ true = λ b low high. clear_block v b (chunk_free v b groups first low high) in

@@ -19,5 +19,7 @@ mod planning;
 mod roots;
 mod wanted;
 
+pub use bytes::empty_bytes;
 pub use planning::plan_empty;
 pub use roots::ROOT_INODE;
+pub use wanted::empty_wanted;

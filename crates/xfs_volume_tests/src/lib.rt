@@ -27,6 +27,8 @@ mod place;
 #[cfg(test)]
 mod reads;
 #[cfg(test)]
+mod render;
+#[cfg(test)]
 mod salvage;
 #[cfg(test)]
 mod scan;
