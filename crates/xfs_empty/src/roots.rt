@@ -28,14 +28,14 @@ const SYSTEM_MODE: u16 = 0x8000;
 const NEW_BITMAP: u16 = 4;
 
 /// The time of a stamp as inodes hold it: seconds in the upper 32 bits, nanoseconds in the lower.
-fn time_of(stamp: &Stamp) -> u64
+pub fn time_of(stamp: &Stamp) -> u64
     ensures { result ≡ time_of stamp.now }
 {
     ((stamp.seconds as u64) << 32) + stamp.nanos as u64
 }
 
 /// The core of a fresh inode without blocks, apart from its checksum.
-fn fresh_core(g: &Geometry, time: u64, generation: u32, ino: u64, mode: u16) -> Core
+pub fn fresh_core(g: &Geometry, time: u64, generation: u32, ino: u64, mode: u16) -> Core
     ensures { result ≡ fresh_core (volume_of g.now) time generation ino mode }
 {
     Core {

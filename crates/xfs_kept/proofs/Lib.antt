@@ -7,3 +7,4 @@ pub mod Images
 pub mod Protected
 pub mod Steps
 pub mod Different
+pub mod Ordered

@@ -7,11 +7,13 @@
 #![tactic(auto)]
 
 mod apart;
+mod ascending;
 mod gathered;
 mod ranks;
 mod staying;
 
 pub use apart::kept_claims_are_apart;
+pub use ascending::what_is_kept_ascends;
 pub use gathered::candidates_can_be_kept;
 pub use ranks::claims_are_kept_by_rank;
 pub use staying::{protected_files_stay, root_clusters_are_kept};

@@ -24,4 +24,5 @@ mod texts;
 mod walks;
 
 pub use checks::check_names;
-pub use runs::{Numbered, records_by_number};
+pub use linking::links_of;
+pub use runs::{Link, Numbered, records_by_number};

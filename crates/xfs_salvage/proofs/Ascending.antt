@@ -20,12 +20,12 @@ use Rattle.xfs_claims.specs.Ranks.{recorded_clusters, recorded_files, scanned_cl
 use Rattle.xfs_claims.specs.Spans.{spans_of, with_blocks}
 use Rattle.xfs_salvage.specs.Claimable.{AscendClaiming}
 
-lower : (low high : ℕ) (ns : List ℕ) → low ≤ high → NumbersAscend high ns → NumbersAscend low ns
+pub lower : (low high : ℕ) (ns : List ℕ) → low ≤ high → NumbersAscend high ns → NumbersAscend low ns
 lower low high [] le up = tt
 lower low high (n ∷ ns) le up = (let first = up.0 in omega (arith, le, first), up.1)
 
 -- one more number at its place
-with_ascends : (low n : ℕ) (ns : List ℕ) → low ≤ n → NumbersAscend low ns → NumbersAscend low (with_number n ns)
+pub with_ascends : (low n : ℕ) (ns : List ℕ) → low ≤ n → NumbersAscend low ns → NumbersAscend low (with_number n ns)
 with_ascends low n [] le up = (le, tt)
 with_ascends low n (m ∷ ms) le up =
     elim (cases_order n m) [

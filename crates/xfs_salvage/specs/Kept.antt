@@ -60,5 +60,8 @@ entries_of_kept v clusters files entries = entries_among (kept_files v clusters 
 abbrev pub run_of_cluster : ℕ → Run
 run_of_cluster block = run block 4 clusters_owner 0
 
+abbrev pub taken_of : Volume → List ℕ → List FileRec → List Run
+taken_of v clusters files = map run_of_cluster clusters ++ flat_map (file_runs v) files
+
 unfoldable pub taken_in : Volume → List ClusterRec → List FileRec → List Run
-taken_in v clusters files = map run_of_cluster (kept_clusters v clusters files) ++ flat_map (file_runs v) (kept_files v clusters files)
+taken_in v clusters files = taken_of v (kept_clusters v clusters files) (kept_files v clusters files)

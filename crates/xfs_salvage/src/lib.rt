@@ -22,3 +22,5 @@ mod runs;
 pub use claiming::claims_of;
 pub use found::{Found, Salvaged};
 pub use keeping::salvage;
+pub use order::is_among;
+pub use runs::{cluster_of, file_runs};

@@ -36,7 +36,7 @@ pub(crate) fn ascend_within(top: u64, clusters: &[ClusterRec]) -> bool
 }
 
 /// Whether an ascending list has a number.
-fn is_among(numbers: &[u64], number: u64) -> bool
+pub fn is_among(numbers: &[u64], number: u64) -> bool
     requires { NumbersAscend 0 numbers.now }
     ensures { result ≡ is_among numbers.now number }
 {

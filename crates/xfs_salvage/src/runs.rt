@@ -28,7 +28,7 @@ const TREE_BLOCK: u64 = 1 << 62;
 const ATTRIBUTE: u64 = 1 << 63;
 
 /// What a file claims: its data, its attributes, the blocks of its tree of extents.
-pub(crate) fn file_runs(alloc: Global, g: &Geometry, file: &FileRec) -> Result<Vec<Run>, NoMemory>
+pub fn file_runs(alloc: Global, g: &Geometry, file: &FileRec) -> Result<Vec<Run>, NoMemory>
     requires { HasLawfulForks (volume_of g.now) file.now }
     ensures { IfOk result (λ runs. runs.items ≡ file_runs (volume_of g.now) file.now) }
 {
@@ -105,7 +105,7 @@ fn block_of(g: &Geometry, address: u64) -> u64
 }
 
 /// The first block of the cluster of an inode.
-pub(crate) fn cluster_of(g: &Geometry, ino: u64) -> u64
+pub fn cluster_of(g: &Geometry, ino: u64) -> u64
     ensures { result ≡ cluster_of (volume_of g.now) ino }
 {
     block_of(g, ino / 32 * 4)

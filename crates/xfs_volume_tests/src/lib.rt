@@ -29,6 +29,8 @@ mod reads;
 #[cfg(test)]
 mod render;
 #[cfg(test)]
+mod request;
+#[cfg(test)]
 mod salvage;
 #[cfg(test)]
 mod scan;

@@ -1,4 +1,4 @@
-use Rattle.std.proofs.Common.{List, subst, sym}
+use Rattle.std.proofs.Common.{rules, List, subst, sym}
 use Rattle.std.specs.List.{All}
 use Rattle.xfs_word.specs.declared.extents.Extent.{Extent}
 use Rattle.xfs_geom.specs.Volumes.{volume_of}
@@ -15,3 +15,6 @@ pub push_extents-requires-2-clause-placed : goal.push_extents-requires-2-clause-
 push_extents-requires-2-clause-placed c =
     subst (λ (es : List Extent). All (IsPlacedExtent (volume_of c.args.g.now)) es) (sym c.as_slice-2.ensures)
     (placed (volume_of c.args.g.now) c.args.file.now.ino c.args.file.now.attr_extents c.requires.attr_extents)
+
+pub returns : goal.returns
+returns c = search rules

@@ -1,0 +1,4 @@
+mod Rows
+mod Rising
+mod Counted
+mod Found

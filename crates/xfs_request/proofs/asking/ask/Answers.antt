@@ -1,0 +1,30 @@
+use Rattle.std.proofs.Common.{rules, List, ◌≤◌, ◌^◌, sym, subst, arith}
+use Rattle.xfs_dirdata.specs.declared.records.EntryRec.{EntryRec}
+use Rattle.xfs_naming.specs.Ordered.{AreLinks}
+use Rattle.xfs_laws.proofs.Roots.{root_low}
+use Rattle.xfs_request.specs.Slots.{CanBeSearched, StandByNumber}
+use Rattle.xfs_request.specs.declared.seen.SlotSeen.{SlotSeen}
+use Rattle.xfs_request.proofs.Rising.{files_in_order, stand_in_order}
+use Rattle.xfs_request.proofs.asking.ask.Goals as goal
+
+pub wanted_slots-requires-clause-low : goal.wanted_slots-requires-clause-low
+wanted_slots-requires-clause-low c =
+    let v = c.args.g.now in
+    let some : 1 ≤ 2 ^ v.agblklog = omega (arith, v.shape.addresses.enough, v.shape.groups.large) in
+    root_low v.agcount v.agblocks (2 ^ v.agblklog) v.dblocks v.rootino v.shape.groups.two v.shape.groups.last v.shape.groups.small v.shape.addresses.least some v.shape.root.group
+
+pub wanted_slots-requires-clause-order : goal.wanted_slots-requires-clause-order
+wanted_slots-requires-clause-order c =
+    let kept = c.args.kept.now in
+    subst (CanBeSearched kept c.args.slots.now) (sym c.as_slice-3.ensures.value)
+    (record {
+      by_file = files_in_order kept.files c.requires.files;
+      by_directory = stand_in_order (λ (e : EntryRec). e.dir) kept.entries
+          (subst (StandByNumber (λ (e : EntryRec). e.dir) 0) c.as_slice.ensures (c.stand_by_number-else-not-stand_by_number.ensures.0 (search rules)));
+      by_slot = stand_in_order (λ (slot : SlotSeen). slot.ino) c.args.slots.now (c.stand_by_number.ensures.0 (search rules));
+      by_target = c.in_ok-links.ensures.rise;
+      linked = subst (λ (es : List EntryRec). AreLinks es c.in_ok-links.links.items) c.as_slice-2.ensures c.in_ok-links.ensures.linked;
+    })
+
+pub volume_wanted-requires-clause-files : goal.volume_wanted-requires-clause-files
+volume_wanted-requires-clause-files c = files_in_order c.args.kept.now.files c.requires.files
