@@ -124,7 +124,7 @@ as_blocks v (block ∷ blocks) all =
     let parts = and_parts (nat_lt block v.dblocks) (are_blocks v blocks) all in
     All-cons (λ b. b < v.dblocks) block blocks (ltb-true block v.dblocks parts.0) (as_blocks v blocks parts.1)
 
-bare_sound : (v : Volume) (image : Image) (ino : ℕ) (file : FileRec) → reads_as v image ino ≡ Reads.FileWithoutAttrs file → IsBareFile v ino file
+pub bare_sound : (v : Volume) (image : Image) (ino : ℕ) (file : FileRec) → reads_as v image ino ≡ Reads.FileWithoutAttrs file → IsBareFile v ino file
 unfolding reads_as
 bare_sound v image ino file reads = subst (IsSound v ino) reads (always_sound v ino (slot_bytes v image ino) _ _ _)
 

@@ -62,7 +62,7 @@ addresses_ascend w k some wide b c less =
         ]
 
 module _ (g : Geometry) where
-  first_in : ℕ → ℕ
+  pub first_in : ℕ → ℕ
   first_in block = address_of (volume_of g) block * 8
 
   next_block : (b c : ℕ) → b < c → first_in b + 8 ≤ first_in c
@@ -72,7 +72,7 @@ module _ (g : Geometry) where
       let up = addresses_ascend g.agblocks (2 ^ g.agblklog) (omega (arith, large)) g.shape.addresses.enough b c less in
       omega (arith, up)
 
-  later_block : (b c : ℕ) → b ≤ c → first_in b ≤ first_in c
+  pub later_block : (b c : ℕ) → b ≤ c → first_in b ≤ first_in c
   later_block b c le =
       elim (cases_lt b c) [
         | inl less ↦ let up = next_block b c less in omega (arith, up)
@@ -87,7 +87,7 @@ module _ (g : Geometry) where
   slots_then b k (suc n) low high ys from upto up =
       (from, slots_then b (k + 1) n (address_of (volume_of g) b * 8 + k + 1) high ys (omega arith) (omega (arith, upto)) up)
 
-  blocks_then : (b n low : ℕ) (ys : List ℕ) → low ≤ first_in b → NumbersAscend (first_in (b + n)) ys
+  pub blocks_then : (b n low : ℕ) (ys : List ℕ) → low ≤ first_in b → NumbersAscend (first_in (b + n)) ys
       → NumbersAscend low (flat_map (inodes_of_block (volume_of g)) (range_with_len b n) ++ ys)
   blocks_then b zero low ys from up =
       let le = later_block b (b + 0) (omega arith) in lower low (first_in (b + 0)) ys (omega (arith, from, le)) up

@@ -41,7 +41,7 @@ root_address k m e four whole =
     let product : e / k * k ≡ 4 * (e / k * m) = subst (λ (n : ℕ). e / k * n ≡ 4 * (e / k * m)) (sym four) (omega arith) in
     omega (arith, product, whole)
 
-root_is : (g : Geometry) → root_cluster (volume_of g) ≡ g.rootino / 8 / 2 ^ g.agblklog * g.agblocks + 4 * (g.rootino / 8 % 2 ^ g.agblklog / 4)
+pub root_is : (g : Geometry) → root_cluster (volume_of g) ≡ g.rootino / 8 / 2 ^ g.agblklog * g.agblocks + 4 * (g.rootino / 8 % 2 ^ g.agblklog / 4)
 root_is g =
     let e : ℕ = g.rootino / 8 in
     let k : ℕ = 2 ^ g.agblklog in

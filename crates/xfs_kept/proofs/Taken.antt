@@ -80,7 +80,7 @@ of_root P root cs recorded all =
     let both = and_parts one.0.recorded (one.0.block == root) one.2 in
     subst P (eqb-true one.0.block root both.1) (member_all (λ (c : ClusterRec). P c.block) one.0 cs all one.1)
 
-kept_all : (P : ℕ → Type 0) (claims : Claims) → is_recorded_cluster claims.clusters claims.root ≡ true → AllByRecursion (λ (c : ClusterRec). P c.block) claims.clusters
+pub kept_all : (P : ℕ → Type 0) (claims : Claims) → is_recorded_cluster claims.clusters claims.root ≡ true → AllByRecursion (λ (c : ClusterRec). P c.block) claims.clusters
     → AllByRecursion P (kept_of claims).clusters
 kept_all P claims root all =
     let first : Holding = with_clusters (fixed_alone (spans_of claims.fixed)) (claims.root ∷ recorded_clusters claims) in
@@ -92,11 +92,11 @@ kept_all P claims root all =
     (clusters_all P (fixed_alone (spans_of claims.fixed)) (claims.root ∷ recorded_clusters claims)
     (of_root P claims.root claims.clusters root all, of_clusters P (is_other_recorded claims.root) claims.clusters all) tt)))
 
-end_by : (top low : ℕ) (cs : List ClusterRec) → AscendWithin top low cs → AllByRecursion (λ (c : ClusterRec). c.block + 4 ≤ top) cs
+pub end_by : (top low : ℕ) (cs : List ClusterRec) → AscendWithin top low cs → AllByRecursion (λ (c : ClusterRec). c.block + 4 ≤ top) cs
 end_by top low [] up = tt
 end_by top low (c ∷ cs) up = (up.1, end_by top (c.block + 4) cs up.2)
 
-each_can : (v : Volume) (low : ℕ) (fs : List FileRec) → AscendClaiming v low fs → AllByRecursion (CanClaim v) fs
+pub each_can : (v : Volume) (low : ℕ) (fs : List FileRec) → AscendClaiming v low fs → AllByRecursion (CanClaim v) fs
 each_can v low [] up = tt
 each_can v low (f ∷ fs) up = (up.1, each_can v (f.ino + 1) fs up.2)
 

@@ -1,0 +1,10 @@
+mod Taken
+mod Lawful
+mod Writable
+mod Used
+mod Spaced
+mod Chunked
+mod Clusters
+mod Just
+mod Passing
+mod Makeable
