@@ -26,6 +26,8 @@ mod kinds;
 #[cfg(test)]
 mod options;
 #[cfg(test)]
+mod proto;
+#[cfg(test)]
 mod runs;
 #[cfg(test)]
 mod shell;
