@@ -2,7 +2,7 @@
 
 ghost use Rattle.std.specs.Prelude.{◌≡◌, ℕ, ◌<◌, ◌+◌, ◌^◌, ◌==◌, ◌||◌, true, false, map, length, IfOk, MatchOption};
 ghost use Rattle.std.specs.List.{All};
-ghost use Rattle.xfs_links.specs.Entries.{AreFiles, is_kept_node, passes, candidate_entries};
+ghost use Rattle.xfs_links.specs.Entries.{AreFiles, is_kept_node, is_reserved_inode, passes, candidate_entries};
 ghost use Rattle.xfs_links.specs.Places.{candidate_entry, IsPlacedCandidate, IsPlacedAt};
 
 use crate::lookup::place_of;
@@ -73,7 +73,7 @@ fn candidate_of(files: &[NodeRec], entry: &EntryRec, i: usize, root: u64) -> Opt
 /// Whether the number is the root's, or that of a system inode.
 pub fn is_reserved_inode(root: u64, ino: u64) -> bool
     requires { root < 2 ^ 32 }
-    ensures { result ≡ (ino == root || (ino == root + 1 || ino == root + 2)) }
+    ensures { result ≡ is_reserved_inode root ino }
 {
     ino == root || ino == root + 1 || ino == root + 2
 }

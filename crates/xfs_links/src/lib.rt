@@ -22,6 +22,7 @@ mod records;
 mod remaining;
 mod walk;
 
+pub use candidates::is_reserved_inode;
 pub use connecting::connect;
 pub use laws::names_hold;
-pub use records::{DecidedNames, NodeRec};
+pub use records::{DIRECTORY, DecidedNames, NodeRec};

@@ -27,5 +27,5 @@ pub struct DecidedNames {
     pub lost: Option<u64>,
 }
 
-/// The kind of a directory.
+/// The kind of a directory in a `NodeRec`.
 pub const DIRECTORY: u8 = 4;

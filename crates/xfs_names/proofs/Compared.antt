@@ -1,5 +1,5 @@
 -- Entries that are compared one after the other.
-use Rattle.std.proofs.Common.{◌≡◌, ℕ, ◌<◌, ◌≤◌, ◌&&◌, Bool, true, false, List, [], ◌∷◌, length, drop, zero, suc, refl, sym, ap, ◌∙◌, arith, slice_index_or}
+use Rattle.std.proofs.Common.{◌≡◌, ℕ, ◌<◌, ◌≤◌, ◌&&◌, true, false, List, [], ◌∷◌, length, drop, zero, suc, refl, sym, ap, ◌∙◌, arith, slice_index_or}
 use Rattle.xfs_dirdata.specs.declared.records.EntryRec.{EntryRec}
 use Rattle.xfs_hanging.proofs.Tests.{and_false}
 use Rattle.xfs_names.specs.Rebuilt.{is_right_entry, are_right_entries}

@@ -1,27 +1,27 @@
 -- What is wanted, from what was decided.
-use Rattle.std.proofs.Common.{◌≡◌, ◌≢◌, ℕ, ◌+◌, ◌<◌, ◌≤◌, ◌==◌, ◌&&◌, ◌||◌, ◌⊎◌, inl, inr, nat_lt, Bool, true, false, cond, List, [], ◌∷◌, ◌++◌, length, map, zero, suc, refl, sym, ap, ◌∙◌, arith, subst, Option, None, Some, option_map, unwrap_or, if◌then◌else◌, slice_index_or, find}
+use Rattle.std.proofs.Common.{◌≡◌, ℕ, ◌+◌, ◌≤◌, ◌==◌, ◌&&◌, ◌||◌, inl, inr, nat_lt, Bool, true, false, cond, List, [], ◌∷◌, map, refl, sym, ap, ◌∙◌, arith, subst, Option, None, Some, option_map, unwrap_or, if◌then◌else◌, find}
 use Rattle.std.specs.List.{All, filter, filter_map, cons_option}
 use Rattle.std.proofs.lemmas.Bool.{cases_eq}
 use Rattle.std.proofs.lemmas.Bool.Decides.{nat_tests}
 use Rattle.std.proofs.lemmas.List.Elements.{All-nil, All-weaker}
-use Rattle.std.proofs.lemmas.List.Folds.{list_any_at}
 use Rattle.xfs_weave.specs.Lists.{has_node}
 use Rattle.xfs_dirdata.specs.declared.records.EntryRec.{EntryRec}
 use Rattle.xfs_naming.specs.Naming.{NumbersAscend}
 use Rattle.xfs_links.specs.declared.records.NodeRec.{NodeRec}
 use Rattle.xfs_links.specs.declared.records.DecidedNames.{DecidedNames}
 use Rattle.xfs_links.specs.declared.walk.Attached.{Attached}
-use Rattle.xfs_links.specs.Entries.{AreFiles, AreEntries, NodesAscend, is_kept_node, is_directory_number}
+use Rattle.xfs_links.specs.Entries.{AreEntries, NodesAscend, is_kept_node, is_directory_number}
 use Rattle.xfs_links.specs.Walk.{attached_parent}
 use Rattle.xfs_links.specs.Connected.{directory_numbers, parents, names_lost_found, attached_directories, kept_entries}
 use Rattle.xfs_hanging.specs.Together.{lost_directory, is_new, orphans_of, old_lost, adds_lost, entries_together}
-use Rattle.xfs_hanging.specs.Settled.{by_directory, parent_due}
+use Rattle.xfs_hanging.specs.Settled.{by_directory}
 use Rattle.xfs_hanging.proofs.Ascending.{absent}
 use Rattle.xfs_hanging.proofs.Different.{all_kept}
 use Rattle.xfs_hanging.proofs.Targets.{together_all}
 use Rattle.xfs_hanging.proofs.Tests.{same_test, other_test, the_second, or_true, not_first, not_second}
 use Rattle.xfs_names.specs.Wanted.{AreDecided, directory_node, with_directory, typed, wanted_nodes, wanted_entries, with_parent, wanted_parents}
-use Rattle.xfs_names.specs.Private.Joined.{joined, PairsAscend, parent_in, parent_told, told_parents}
+use Rattle.xfs_names.specs.Pairs.{PairsAscend, parent_among}
+use Rattle.xfs_names.specs.Private.Joined.{joined, told_parents}
 use Rattle.xfs_names.proofs.ByNumber.{directories_ascend}
 use Rattle.xfs_names.proofs.Adding.{adding_ascends}
 
@@ -108,7 +108,7 @@ wanted_directory nodes listed root new n other h = either (adds_lost nodes liste
     either false k = k
 
 -- the lost+found that is there is a directory
-found_directory : (nodes : List NodeRec) (root l : ℕ) (es : List EntryRec) → option_map (λ (e : EntryRec). e.ino) (find (λ e. names_lost_found root e && is_directory_number nodes e.ino) es) ≡ Some l → is_directory_number nodes l ≡ true
+pub found_directory : (nodes : List NodeRec) (root l : ℕ) (es : List EntryRec) → option_map (λ (e : EntryRec). e.ino) (find (λ e. names_lost_found root e && is_directory_number nodes e.ino) es) ≡ Some l → is_directory_number nodes l ≡ true
 found_directory nodes root l [] h = cc
 found_directory nodes root l (e ∷ es) h = either (names_lost_found root e) (is_directory_number nodes e.ino) refl h (found_directory nodes root l es)
   where
@@ -163,28 +163,28 @@ pairs_ascend s low (n ∷ ns) up = either (attached_parent s n) (pairs_ascend s 
     either None r = pairs_lower low (n + 1) (filter_map (decided s) ns) (omega (arith, up.0)) r
     either (Some p) r = (up.0, r)
 
-parent_absent : (s : List Attached) (d : ℕ) (ns : List ℕ) → has_node d ns ≡ false → parent_in (filter_map (decided s) ns) d ≡ None
+parent_absent : (s : List Attached) (d : ℕ) (ns : List ℕ) → has_node d ns ≡ false → parent_among (filter_map (decided s) ns) d ≡ None
 parent_absent s d [] h = refl
 parent_absent s d (n ∷ ns) h = either (attached_parent s n) (not_first (n == d) (has_node d ns) h) (parent_absent s d ns (not_second (n == d) (has_node d ns) h))
   where
-    either : (o : Option ℕ) → (n == d) ≡ false → parent_in (filter_map (decided s) ns) d ≡ None → parent_in (cons_option (option_map (λ p. (n, p)) o) (filter_map (decided s) ns)) d ≡ None
+    either : (o : Option ℕ) → (n == d) ≡ false → parent_among (filter_map (decided s) ns) d ≡ None → parent_among (cons_option (option_map (λ p. (n, p)) o) (filter_map (decided s) ns)) d ≡ None
     either None e r = r
-    either (Some p) e r = ap (λ t. cond t (Some p) (parent_in (filter_map (decided s) ns) d)) e ∙ r
+    either (Some p) e r = ap (λ t. cond t (Some p) (parent_among (filter_map (decided s) ns) d)) e ∙ r
 
-parent_is : (s : List Attached) (low d : ℕ) (ns : List ℕ) → NumbersAscend low ns → has_node d ns ≡ true → parent_in (filter_map (decided s) ns) d ≡ attached_parent s d
+parent_is : (s : List Attached) (low d : ℕ) (ns : List ℕ) → NumbersAscend low ns → has_node d ns ≡ true → parent_among (filter_map (decided s) ns) d ≡ attached_parent s d
 parent_is s low d [] up h = cc
 parent_is s low d (n ∷ ns) up h = elim (cases_eq n d) [
   | inl same ↦ here same (attached_parent s n) refl
   | inr other ↦ there other (attached_parent s n) (parent_is s (n + 1) d ns up.1 (the_second (n == d) (has_node d ns) (other_test n d other) h))
 ]
   where
-    here : n ≡ d → (o : Option ℕ) → attached_parent s n ≡ o → parent_in (cons_option (option_map (λ p. (n, p)) o) (filter_map (decided s) ns)) d ≡ attached_parent s d
+    here : n ≡ d → (o : Option ℕ) → attached_parent s n ≡ o → parent_among (cons_option (option_map (λ p. (n, p)) o) (filter_map (decided s) ns)) d ≡ attached_parent s d
     here same None e = parent_absent s d ns (absent d ns (subst (λ m. NumbersAscend (m + 1) ns) same up.1)) ∙ sym e ∙ ap (attached_parent s) same
-    here same (Some p) e = ap (λ t. cond t (Some p) (parent_in (filter_map (decided s) ns) d)) (same_test n d same) ∙ sym e ∙ ap (attached_parent s) same
+    here same (Some p) e = ap (λ t. cond t (Some p) (parent_among (filter_map (decided s) ns) d)) (same_test n d same) ∙ sym e ∙ ap (attached_parent s) same
 
-    there : (n ≡ d → ⊥) → (o : Option ℕ) → parent_in (filter_map (decided s) ns) d ≡ attached_parent s d → parent_in (cons_option (option_map (λ p. (n, p)) o) (filter_map (decided s) ns)) d ≡ attached_parent s d
+    there : (n ≡ d → ⊥) → (o : Option ℕ) → parent_among (filter_map (decided s) ns) d ≡ attached_parent s d → parent_among (cons_option (option_map (λ p. (n, p)) o) (filter_map (decided s) ns)) d ≡ attached_parent s d
     there other None r = r
-    there other (Some p) r = ap (λ t. cond t (Some p) (parent_in (filter_map (decided s) ns) d)) (other_test n d other) ∙ r
+    there other (Some p) r = ap (λ t. cond t (Some p) (parent_among (filter_map (decided s) ns) d)) (other_test n d other) ∙ r
 
 -- two functions that agree on a list
 map_same : (f g : ℕ → ℕ × ℕ) (xs : List ℕ) → ((n : ℕ) → has_node n xs ≡ true → f n ≡ g n) → map f xs ≡ map g xs
@@ -202,15 +202,15 @@ module _
     pub parents_ascend : PairsAscend 0 names.parents
     parents_ascend = subst (PairsAscend 0) (sym d.parents_are) (pairs_ascend (attached_directories nodes listed root) 0 (directory_numbers nodes) (directories_ascend 0 nodes up))
 
-    parent_of : (n : ℕ) → (new ≡ n → ⊥) → has_node n (directory_numbers (wanted_nodes nodes listed root new)) ≡ true → parent_in names.parents n ≡ attached_parent (attached_directories nodes listed root) n
+    parent_of : (n : ℕ) → (new ≡ n → ⊥) → has_node n (directory_numbers (wanted_nodes nodes listed root new)) ≡ true → parent_among names.parents n ≡ attached_parent (attached_directories nodes listed root) n
     parent_of n other h =
-        ap (λ ps. parent_in ps n) d.parents_are
+        ap (λ ps. parent_among ps n) d.parents_are
         ∙ parent_is (attached_directories nodes listed root) 0 n (directory_numbers nodes) (directories_ascend 0 nodes up)
         (has_directories n nodes ∙ wanted_directory nodes listed root new n other (sym (has_directories n (wanted_nodes nodes listed root new)) ∙ h))
 
     told : (n : ℕ) → has_node n (directory_numbers (wanted_nodes nodes listed root new)) ≡ true → told_parents names.parents root (lost_directory names.lost new) new n ≡ with_parent nodes listed root new n
     told n h = elim (cases_eq n new) [
-      | inl same ↦ (ap (λ t. (n, if t then root else unwrap_or (parent_in names.parents n) (lost_directory names.lost new))) (same_test n new same)
+      | inl same ↦ (ap (λ t. (n, if t then root else unwrap_or (parent_among names.parents n) (lost_directory names.lost new))) (same_test n new same)
           ∙ sym (ap (λ t. (n, if t then root else unwrap_or (attached_parent (attached_directories nodes listed root) n) (lost_directory (old_lost nodes listed root) new))) (same_test n new same)))
       | inr other ↦ (λ i. (n, if n == new then root else unwrap_or (parent_of n (λ k. other (sym k)) h i) (lost_directory (d.lost i) new)))
     ]

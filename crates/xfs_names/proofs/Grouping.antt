@@ -1,16 +1,15 @@
 -- Entries in the order of their directories stand one directory after the other.
-use Rattle.std.proofs.Common.{◌≡◌, ℕ, ◌+◌, ◌<◌, ◌≤◌, ◌==◌, ◌&&◌, ◌||◌, ◌⊎◌, inl, inr, Bool, true, false, not, cond, List, [], ◌∷◌, ◌++◌, length, zero, suc, refl, sym, ap, ◌∙◌, arith, subst, slice_index_or}
+use Rattle.std.proofs.Common.{◌≡◌, ℕ, ◌+◌, ◌<◌, ◌≤◌, ◌==◌, ◌&&◌, inl, inr, Bool, true, false, not, cond, List, [], ◌∷◌, ◌++◌, length, suc, refl, sym, ap, ◌∙◌, arith, subst, slice_index_or}
 use Rattle.std.specs.List.{filter, All}
-use Rattle.std.specs.List.Sorted.{IsNonDecreasingBy, IsStableBy, ties}
+use Rattle.std.specs.List.Sorted.{IsNonDecreasingBy, IsStableBy}
 use Rattle.std.specs.Ordering.{nat_cmp, is_lt}
 use Rattle.std.proofs.lemmas.Bool.{cases_eq, cases_order}
 use Rattle.std.proofs.lemmas.Bool.Decides.{nat_tests}
-use Rattle.std.proofs.lemmas.List.Elements.{All-head, All-tail, All-filter, All-weaker, filter_passes}
+use Rattle.std.proofs.lemmas.List.Elements.{All-head, All-filter, All-weaker, filter_passes}
 use Rattle.xfs_weave.specs.Lists.{has_node}
 use Rattle.xfs_dirdata.specs.declared.records.EntryRec.{EntryRec}
 use Rattle.xfs_naming.specs.Naming.{NumbersAscend, entries_in}
 use Rattle.xfs_links.specs.Entries.{DirectoriesAscend}
-use Rattle.xfs_links.specs.Places.{no_entry}
 use Rattle.xfs_hanging.specs.Settled.{by_directory}
 use Rattle.xfs_hanging.proofs.Ascending.{rises}
 use Rattle.xfs_hanging.proofs.Tests.{same_test, other_test, the_second, clash}

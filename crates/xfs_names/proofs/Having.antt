@@ -1,7 +1,7 @@
 -- A volume that has the names that are wanted keeps the laws of names.
-use Rattle.std.proofs.Common.{◌≡◌, ◌≢◌, ℕ, ◌+◌, ◌<◌, ◌≤◌, ◌==◌, ◌&&◌, ◌||◌, ◌⊎◌, inl, inr, nat_lt, Bool, true, false, cond, List, [], ◌∷◌, ◌++◌, length, map, zero, suc, refl, sym, ap, ◌∙◌, arith, subst, if◌then◌else◌, slice_index_or, Any}
+use Rattle.std.proofs.Common.{◌≡◌, ℕ, ◌+◌, ◌<◌, ◌≤◌, ◌==◌, ◌&&◌, ◌||◌, ◌⊎◌, inl, inr, nat_lt, Bool, true, false, cond, List, [], ◌∷◌, length, map, suc, refl, sym, ap, ◌∙◌, arith, subst, if◌then◌else◌, slice_index_or, Any}
 use Rattle.std.specs.Prelude.{count_by}
-use Rattle.std.specs.List.{All, filter, list_any, list_all}
+use Rattle.std.specs.List.{All, filter, list_all}
 use Rattle.std.proofs.lemmas.Bool.{cases_eq}
 use Rattle.std.proofs.lemmas.Bool.Decides.{nat_tests}
 use Rattle.std.proofs.lemmas.List.{map-append}
@@ -25,7 +25,7 @@ use Rattle.xfs_hanging.proofs.Ascending.{rises, absent, nodes_ascend as numbers_
 use Rattle.xfs_hanging.proofs.ByDirectory.{all_by}
 use Rattle.xfs_hanging.proofs.Targets.{together_in_use}
 use Rattle.xfs_hanging.proofs.Tests.{same_test, other_test, the_second, or_false, both, neither, clash}
-use Rattle.xfs_names.specs.Wanted.{kind_at, directory_node, with_directory, typed, wanted_nodes, wanted_entries, with_parent, links_due, with_links}
+use Rattle.xfs_names.specs.Wanted.{kind_at, directory_node, with_directory, typed, wanted_nodes, wanted_entries, links_due, with_links}
 use Rattle.xfs_names.specs.Having.{node_of, HasWanted}
 use Rattle.xfs_names.proofs.Deciding.{directory_with, nodes_ascend}
 

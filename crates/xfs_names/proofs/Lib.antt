@@ -8,4 +8,6 @@ pub mod Finding
 pub mod Compared
 pub mod Rising
 pub mod Deciding
+pub mod OwnEntries
+pub mod Buildable
 pub mod Having

@@ -12,11 +12,12 @@ ghost use Rattle.xfs_hanging.specs.Settled.{by_directory as each_directory};
 ghost use Rattle.xfs_names.specs.Wanted.{typed, with_directory};
 ghost use Rattle.xfs_names.specs.Private.Joined.{joined};
 
-use crate::lookup::{DIRECTORY, entry_type, kind_at};
+use crate::lookup::kind_at;
 use std::alloc::Global;
 use xfs_dirdata::EntryRec;
 use xfs_disk::{NoMemory, Word};
-use xfs_links::NodeRec;
+use xfs_links::{DIRECTORY, NodeRec};
+use xfs_naming::entry_type;
 use xfs_volume::Records;
 
 /// The files, and a directory more where one is added.
@@ -164,7 +165,7 @@ fn set_type(nodes: &[NodeRec], entry: &mut EntryRec)
     requires { NodesAscend 0 nodes.now }
     ensures { entry.new ≡ typed nodes.now entry.old }
 {
-    entry.ftype = entry_type(kind_at(nodes, entry.ino));
+    entry.ftype = entry_type(u16::from(kind_at(nodes, entry.ino)));
 }
 
 /// How many entries all directories together may have.

@@ -8,11 +8,11 @@ ghost use Rattle.xfs_links.specs.Entries.{NodesAscend, is_directory_number};
 ghost use Rattle.xfs_names.specs.Wanted.{links_due, with_links};
 ghost use Rattle.xfs_names.specs.Private.Targets.{AreTargets, target_of};
 
-use crate::lookup::{DIRECTORY, is_directory_at, is_reserved_inode};
+use crate::lookup::is_directory_number;
 use std::alloc::{AllocError, Global};
 use xfs_dirdata::EntryRec;
 use xfs_disk::NoMemory;
-use xfs_links::NodeRec;
+use xfs_links::{DIRECTORY, NodeRec, is_reserved_inode};
 use xfs_naming::{Numbered, records_by_number};
 use xfs_volume::Records;
 
@@ -68,7 +68,7 @@ fn count_directories(nodes: &[NodeRec], own: &[EntryRec]) -> u64
     ensures { result ≡ length (filter (λ (e : EntryRec). is_directory_number nodes.now e.ino) own.now) }
 {
     own.iter()
-        .filter(|entry| is_directory_at(nodes, entry.ino))
+        .filter(|entry| is_directory_number(nodes, entry.ino))
         .count() as u64
 }
 

@@ -3,18 +3,18 @@
 ghost use Rattle.std.specs.Prelude.{◌≡◌, map, IfOk};
 ghost use Rattle.std.specs.List.{filter};
 ghost use Rattle.xfs_links.specs.Connected.{directory_numbers};
-ghost use Rattle.xfs_names.specs.Private.Joined.{PairsAscend, parent_in, parent_told, told_parents};
+ghost use Rattle.xfs_names.specs.Pairs.{PairsAscend, parent_among};
+ghost use Rattle.xfs_names.specs.Private.Joined.{parent_told, told_parents};
 
-use crate::lookup::DIRECTORY;
 use std::alloc::Global;
 use xfs_disk::NoMemory;
-use xfs_links::NodeRec;
+use xfs_links::{DIRECTORY, NodeRec};
 use xfs_volume::Records;
 
-/// The parent that was decided for a directory.
-fn decided_parent(parents: &[(u64, u64)], dir: u64) -> Option<u64>
+/// The parent that pairs tell of a directory.
+pub fn parent_among(parents: &[(u64, u64)], dir: u64) -> Option<u64>
     requires { PairsAscend 0 parents.now }
-    ensures { result ≡ parent_in parents.now dir }
+    ensures { result ≡ parent_among parents.now dir }
 {
     match parents.binary_search_by_key(&dir, |pair| pair.0) {
         Ok(place) => Some(parents[place].1),
@@ -23,14 +23,14 @@ fn decided_parent(parents: &[(u64, u64)], dir: u64) -> Option<u64>
 }
 
 /// The parent of a directory: the root is that of a new lost+found, and lost+found that of a directory that hangs nowhere.
-fn parent_due(parents: &[(u64, u64)], root: u64, lost: u64, new: u64, dir: u64) -> u64
+fn parent_told(parents: &[(u64, u64)], root: u64, lost: u64, new: u64, dir: u64) -> u64
     requires { PairsAscend 0 parents.now }
     ensures { result ≡ parent_told parents.now root lost new dir }
 {
     if dir == new {
         return root;
     }
-    match decided_parent(parents, dir) {
+    match parent_among(parents, dir) {
         Some(parent) => parent,
         None => lost,
     }
@@ -53,7 +53,7 @@ pub fn all_parents(
         if node.kind != DIRECTORY {
             continue;
         }
-        all.push((node.ino, parent_due(parents, root, lost, new, node.ino)))?;
+        all.push((node.ino, parent_told(parents, root, lost, new, node.ino)))?;
     }
     Ok(Records::from_vec(all))
 }

@@ -7,9 +7,9 @@ ghost use Rattle.xfs_links.specs.Entries.{NodesAscend};
 ghost use Rattle.xfs_names.specs.Wanted.{AreDecided};
 ghost use Rattle.xfs_names.specs.Place.{inodes_from, is_free_inode, free_inode, new_place, place_for, lost_place};
 
-use crate::lookup::{is_kept, is_reserved_inode};
+use crate::lookup::is_kept;
 use xfs_disk::Word;
-use xfs_links::{DecidedNames, NodeRec};
+use xfs_links::{DecidedNames, NodeRec, is_reserved_inode};
 
 /// The directory that takes orphans.
 #[derive(Clone, Copy, Debug, PartialEq, Eq)]

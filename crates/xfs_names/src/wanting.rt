@@ -6,6 +6,7 @@ ghost use Rattle.xfs_naming.specs.Naming.{NumbersAscend};
 ghost use Rattle.xfs_links.specs.Entries.{AreFiles, AreEntries, is_kept_node, is_directory_number};
 ghost use Rattle.xfs_names.specs.Wanted.{AreDecided, wanted_entries, wanted_parents, wanted_links};
 ghost use Rattle.xfs_names.specs.Rebuilt.{wanted_rebuilt};
+ghost use Rattle.xfs_names.specs.Built.{CanBeBuilt};
 
 use crate::comparing::rebuilt_among;
 use crate::joining::{all_entries, is_new, lost_directory, with_lost};
@@ -40,6 +41,7 @@ pub fn want_names(
     requires low { root < 2 ^ 32 }
     requires new { is_kept_node nodes.now new ≡ false }
     requires names { AreDecided nodes.now listed.now root names }
+    ensures buildable { IfOk result (λ wanted. new < 2 ^ 32 → CanBeBuilt wanted) }
     ensures few { IfOk result (λ wanted. length wanted.entries ≤ 2 ^ 24) }
     ensures entries { IfOk result (λ wanted. wanted.entries ≡ wanted_entries nodes.now listed.now root new) }
     ensures parents { IfOk result (λ wanted. wanted.parents ≡ wanted_parents nodes.now listed.now root new) }

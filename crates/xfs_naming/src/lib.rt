@@ -25,4 +25,5 @@ mod walks;
 
 pub use checks::check_names;
 pub use linking::links_of;
+pub use lookups::entry_type;
 pub use runs::{Link, Numbered, records_by_number};

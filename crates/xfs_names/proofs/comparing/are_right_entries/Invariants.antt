@@ -1,4 +1,4 @@
-use Rattle.std.proofs.Common.{◌≡◌, drop, length}
+use Rattle.std.proofs.Common.{◌≡◌, drop}
 use Rattle.xfs_names.specs.Rebuilt.{are_right_entries}
 use Rattle.xfs_names.proofs.comparing.are_right_entries.Given as goal
 

@@ -5,7 +5,6 @@ use Rattle.xfs_weave.specs.Lists.{has_node}
 use Rattle.xfs_dirdata.specs.declared.records.EntryRec.{EntryRec}
 use Rattle.xfs_links.specs.Connected.{directory_numbers}
 use Rattle.xfs_hanging.specs.Settled.{by_directory as each_directory}
-use Rattle.xfs_names.specs.Private.Joined.{joined}
 use Rattle.xfs_names.proofs.ByNumber.{directories_ascend}
 use Rattle.xfs_names.proofs.Grouping.{grouped, stays_in}
 use Rattle.xfs_names.proofs.joining.by_directory.Goals as goal

@@ -1,4 +1,4 @@
-use Rattle.std.proofs.Common.{◌≡◌, ◌+◌, ◌-◌, ◌≤◌, ◌∙◌, sym, ap, arith, find}
+use Rattle.std.proofs.Common.{◌≡◌, ◌+◌, ◌-◌, ◌∙◌, sym, ap, arith, find}
 use Rattle.std.specs.List.{range_with_len}
 use Rattle.xfs_names.specs.Place.{is_free_inode}
 use Rattle.xfs_names.proofs.Finding.{number_found, number_passed, none_left}

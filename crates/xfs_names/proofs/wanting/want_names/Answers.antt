@@ -1,4 +1,4 @@
-use Rattle.std.proofs.Common.{◌≡◌, ◌∙◌, sym, subst, true, map, List}
+use Rattle.std.proofs.Common.{◌≡◌, ◌∙◌, ◌<◌, sym, subst, true, map, List, arith, length}
 use Rattle.std.specs.List.{All}
 use Rattle.xfs_weave.specs.Lists.{has_node}
 use Rattle.xfs_dirdata.specs.declared.records.EntryRec.{EntryRec}
@@ -7,7 +7,9 @@ use Rattle.xfs_links.specs.Entries.{NodesAscend}
 use Rattle.xfs_links.specs.Connected.{directory_numbers}
 use Rattle.xfs_names.specs.Wanted.{wanted_nodes, with_links}
 use Rattle.xfs_names.specs.Rebuilt.{rebuilt_among}
-use Rattle.xfs_names.specs.Private.Joined.{joined, PairsAscend, told_parents}
+use Rattle.xfs_names.specs.Pairs.{PairsAscend}
+use Rattle.xfs_names.specs.Private.Joined.{joined, told_parents}
+use Rattle.xfs_names.proofs.Buildable.{buildable}
 use Rattle.xfs_names.proofs.Rising.{listed_rise, dirs_rise}
 use Rattle.xfs_names.proofs.Deciding.{nodes_from, nodes_ascend, entries_from, joined_are, together_known, parents_ascend, parents_wanted}
 use Rattle.xfs_names.proofs.wanting.want_names.Goals as goal
@@ -50,3 +52,9 @@ returns-clause-rebuilt c =
     let due = c.as_slice-4.ensures ∙ entries_from c.args.nodes.now c.args.listed.now c.args.root c.args.new c.args.names c.requires.names c.deref-2.result.now c.in_ok-entries.entries (c.deref-2.ensures.value ∙ nodes_from c.args.nodes.now c.args.listed.now c.args.root c.args.new c.args.names c.requires.names c.is_new-adds.result c.as_slice.result.now c.in_ok-all.all.items c.is_new-adds.ensures c.as_slice.ensures c.in_ok-all.ensures) c.in_ok-entries.ensures.entries in
     let above = c.as_slice-5.ensures ∙ c.in_ok-parents.ensures ∙ (λ i. map (told_parents (c.as_slice-2.ensures i) c.args.root (c.lost_directory-above.ensures i) c.args.new) (directory_numbers ((c.deref.ensures.value ∙ nodes_from c.args.nodes.now c.args.listed.now c.args.root c.args.new c.args.names c.requires.names c.is_new-adds.result c.as_slice.result.now c.in_ok-all.all.items c.is_new-adds.ensures c.as_slice.ensures c.in_ok-all.ensures) i))) ∙ parents_wanted c.args.nodes.now c.args.listed.now c.args.root c.args.new c.args.names c.requires.nodes.ascend c.requires.names in
     c.in_ok-rebuilt.ensures ∙ (λ i. rebuilt_among c.args.listed.now c.args.dirs.now (due i) (above i))
+
+pub returns-clause-buildable : goal.returns-clause-buildable
+returns-clause-buildable c low =
+    let few : length c.args.listed.now < 18446744073709551616 = omega arith in
+    buildable c.args.nodes.now c.args.listed.now c.args.root c.args.new c.requires.nodes c.requires.listed few c.requires.root c.requires.new low c.args.dirs.now _
+    (returns-clause-entries c) (returns-clause-parents c) (returns-clause-rebuilt c) c.in_ok-entries.ensures.few c.in_ok-entries.ensures.rise

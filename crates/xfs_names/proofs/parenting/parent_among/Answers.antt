@@ -1,7 +1,7 @@
 use Rattle.std.proofs.Common.{rules}
 use Rattle.std.proofs.lemmas.List.Sorted.{answers_always}
 use Rattle.xfs_names.proofs.Pairs.{pair_found, pair_missing}
-use Rattle.xfs_names.proofs.parenting.decided_parent.Goals as goal
+use Rattle.xfs_names.proofs.parenting.parent_among.Goals as goal
 
 pub returns-in-Ok : goal.returns-in-Ok
 returns-in-Ok c = pair_found c.args.parents.now c.args.dir c.in-Ok.place c.requires c.in-Ok.ensures.bound (c.in-Ok.ensures.position (λ pair. pair.0) (answers_always _ _ _ (λ f a r g called. search rules)))
