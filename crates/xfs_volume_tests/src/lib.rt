@@ -21,6 +21,8 @@ mod laws;
 #[cfg(test)]
 mod links;
 #[cfg(test)]
+mod names;
+#[cfg(test)]
 mod naming;
 #[cfg(test)]
 mod place;

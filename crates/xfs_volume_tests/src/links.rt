@@ -1,6 +1,6 @@
 //! Tests of small worlds.
 
-mod listed;
+pub mod listed;
 mod worlds;
 
 use crate::checks::{same, sure};
