@@ -1,6 +1,6 @@
 //! New volumes of two groups of 2048 blocks that files fill, but for what is spared for their trees.
 
-ghost use Rattle.std.specs.Prelude.{◌≡◌, ◌≤◌, ◌<◌, ◌+◌, ◌∷◌, [], ◌^◌, All, IfOk, length};
+ghost use Rattle.std.specs.Prelude.{◌≡◌, All, IfOk};
 ghost use Rattle.xfs_place.specs.Objects.{IsAsk};
 ghost use Rattle.xfs_place.specs.Pool.{IsRunOf};
 
@@ -94,7 +94,9 @@ fn files_larger_than_a_group(rt: HostRuntime) -> Result<(), Fail> {
 }
 
 /// Thirty chunks of inodes.
-fn thirty_chunks() -> Run {
+fn thirty_chunks() -> Run
+    ensures { result ≡ record { start = 16; count = 240; owner = INODES; offset_word = 0 } }
+{
     Run {
         start: 16,
         count: 240,
