@@ -1,2 +1,3 @@
 pub mod Rendered
 pub mod Asked
+pub mod Rising

@@ -1,0 +1,27 @@
+use Rattle.std.proofs.Common.{List, sym, subst}
+use Rattle.std.specs.List.{All}
+use Rattle.xfs_geom.specs.Volumes.{volume_of}
+use Rattle.xfs_naming.specs.Naming.{NumbersAscend, numbers_of}
+use Rattle.xfs_space.specs.Parts.{HasLawfulForks}
+use Rattle.xfs_volume.specs.declared.files.FileRec.{FileRec}
+use Rattle.xfs_kept.proofs.Ordered.{clusters_of_volume_ascend, files_of_volume_ascend, files_have_forks}
+use Rattle.xfs_volume_tests.proofs.Rising.{files_in_order}
+use Rattle.xfs_volume_tests.proofs.request.try_asked.Goals as goal
+
+pub ask-requires-clause-files : goal.ask-requires-clause-files
+ask-requires-clause-files g c =
+    subst (λ (fs : List FileRec). NumbersAscend 0 (numbers_of fs)) (sym c.in_ok-kept.ensures.files) (files_of_volume_ascend _ _ _ c.in_ok-kept.ensures.can)
+
+pub ask-requires-clause-clusters : goal.ask-requires-clause-clusters
+ask-requires-clause-clusters g c = subst (NumbersAscend 0) (sym c.in_ok-kept.ensures.clusters) (clusters_of_volume_ascend _ _ _)
+
+pub ask-requires-clause-forks : goal.ask-requires-clause-forks
+ask-requires-clause-forks g c = subst (All (HasLawfulForks _)) (sym c.in_ok-kept.ensures.files) (files_have_forks _ _ _ c.in_ok-kept.ensures.can)
+
+pub due_cycle-requires-clause-files : goal.due_cycle-requires-clause-files
+due_cycle-requires-clause-files g c =
+    files_in_order c.in_ok-kept.kept.files
+    (subst (λ (fs : List FileRec). NumbersAscend 0 (numbers_of fs)) (sym c.in_ok-kept.ensures.files) (files_of_volume_ascend _ _ _ c.in_ok-kept.ensures.can))
+
+pub due_cycle-requires-clause-clusters : goal.due_cycle-requires-clause-clusters
+due_cycle-requires-clause-clusters g c = subst (NumbersAscend 0) (sym c.in_ok-kept.ensures.clusters) (clusters_of_volume_ascend _ _ _)
