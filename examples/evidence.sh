@@ -18,12 +18,6 @@ compare() { # NAME IMAGE WHOLE: the lists of IMAGE beside xfs_db's of WHOLE
   echo "$1"
   python3 "$top/examples/evidence.py" "$work/lists" "$3" || failed=1
 }
-zeroed() { # IMAGE COMMAND..: its block to which xfs_db goes by these commands
-  local image=$1 block
-  shift
-  block=$(xfs_db -r "$@" -c daddr "$image" | sed 's/.* //')
-  dd if=/dev/zero of="$image" bs=512 seek="$block" count=8 conv=notrunc status=none
-}
 if [ "${#images[@]}" = 0 ]; then
   protofile 5000 > "$work/proto"
   make_image "$work/volume.img" 400M "$work/proto"

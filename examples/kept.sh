@@ -12,12 +12,6 @@ kept=
 . "$(dirname "$0")/../bench/crates.sh"
 . "$top/examples/volumes.sh"
 take_program kept_lists xfs_disk xfs_heads xfs_runs xfs_geom xfs_volume xfs_render xfs_slots xfs_scan xfs_salvage xfs_request
-zeroed() { # IMAGE COMMAND..: its block to which xfs_db goes by these commands
-  local image=$1 block
-  shift
-  block=$(xfs_db -r "$@" -c daddr "$image" | sed 's/.* //')
-  dd if=/dev/zero of="$image" bs=512 seek="$block" count=8 conv=notrunc status=none
-}
 if [ "${#images[@]}" = 0 ]; then
   protofile 5000 > "$work/proto"
   make_image "$work/volume.img" 400M "$work/proto"

@@ -1,4 +1,4 @@
-# For scripts that have mkfs.xfs of xfsprogs make volumes in the profile; they set "$work", a folder of their own.
+# For scripts that have mkfs.xfs of xfsprogs make volumes in the profile, or break such volumes; they set "$work", a folder of their own.
 
 # a protofile of directories of every form: short, one block, with one index block, with a tree of them; files of some
 # sizes, links with short and long targets, devices, pipes
@@ -29,4 +29,10 @@ make_image() { # IMAGE SIZE PROTOFILE OPTION..
   truncate -s "$size" "$image"
   mkfs.xfs -q -f -m crc=1,finobt=1,rmapbt=1,reflink=0,bigtime=0,inobtcount=0 -i size=512,sparse=1,nrext64=0 -s size=512 \
     ${proto:+-p "$proto"} "$@" "$image" > /dev/null
+}
+zeroed() { # IMAGE COMMAND..: its block to which xfs_db goes by these commands
+  local image=$1 block
+  shift
+  block=$(xfs_db -r "$@" -c daddr "$image" | sed 's/.* //')
+  dd if=/dev/zero of="$image" bs=512 seek="$block" count=8 conv=notrunc status=none
 }
