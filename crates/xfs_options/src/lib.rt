@@ -27,5 +27,6 @@ mod sub_options;
 
 pub use debug_words::{DebugLine, read_debug_words};
 pub use make_words::{MakeFault, MakeLine, MakeOptions, read_make_words};
+pub use numbers::read_decimal;
 pub use options::{OptionRow, ValueForm};
 pub use reading::{Given, LineFault, read_options};

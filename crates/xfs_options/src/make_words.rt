@@ -9,7 +9,7 @@ ghost use Rattle.xfs_options.specs.Words.{OffendsFirst};
 
 use crate::identifiers::identifier;
 use crate::items::{OptionItem, first_bad, given_text, items_given};
-use crate::numbers::number;
+use crate::numbers::read_decimal;
 use crate::options::{OptionRow, ValueForm};
 use crate::reading::{Given, LineFault, is_given, read_options};
 use crate::sizes::size;
@@ -240,7 +240,7 @@ fn generated(value: Option<&[u8]>) -> Option<u32>
     ensures { result ≡ generated (option_copied value.entry) }
 {
     match value {
-        Some(text) => small_count(number(text)),
+        Some(text) => small_count(read_decimal(text)),
         None => None,
     }
 }
@@ -284,7 +284,7 @@ fn count_in(items: &[OptionItem], sub: SubOption) -> Option<u64>
     ensures { result ≡ counted (value_in sub items.now) }
 {
     match value_in(items, sub) {
-        Some(text) => number(text),
+        Some(text) => read_decimal(text),
         None => None,
     }
 }

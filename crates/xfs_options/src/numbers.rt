@@ -8,7 +8,7 @@ const LIMIT: u128 = 1 << 63;
 
 /// The number that a word writes in decimal, without a sign or a leading zero, where it is below 2^63.
 #[tactic(auto, unfolding(crate::specs::Numbers::bounded_number))]
-pub(crate) fn number(word: &[u8]) -> Option<u64>
+pub fn read_decimal(word: &[u8]) -> Option<u64>
     ensures { result ≡ bounded_number word.now }
 {
     match word {

@@ -5,7 +5,7 @@ ghost use Rattle.std.specs.List.{find, list_any};
 ghost use Rattle.xfs_options.specs.Options.{accepts, is_label, is_up_to, row_of};
 ghost use Rattle.xfs_options.specs.Numbers.{bounded_number};
 
-use crate::numbers::number;
+use crate::numbers::read_decimal;
 
 /// What the value of an option may be.
 #[derive(Clone, Copy, Debug, PartialEq, Eq)]
@@ -37,7 +37,7 @@ impl ValueForm {
         match self {
             ValueForm::Any => true,
             ValueForm::Label => is_label(value),
-            ValueForm::Number { most } => is_up_to(most, number(value)),
+            ValueForm::Number { most } => is_up_to(most, read_decimal(value)),
         }
     }
 }

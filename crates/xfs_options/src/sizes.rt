@@ -4,7 +4,7 @@ ghost use Rattle.std.specs.Prelude.{◌≡◌, ◌*◌, ◌/◌, ◌%◌, ◌<�
 ghost use Rattle.xfs_options.specs.Numbers.{bounded_number};
 ghost use Rattle.xfs_options.specs.Sizes.{blocks_of_number, blocks_of_text, unit_behind, unit_of};
 
-use crate::numbers::number;
+use crate::numbers::read_decimal;
 
 /// Sizes are below 2^63 bytes.
 const LIMIT: u128 = 1 << 63;
@@ -16,8 +16,8 @@ pub(crate) fn size(text: &[u8]) -> Option<u64>
     ensures { result ≡ blocks_of_text text.now }
 {
     match unit_behind(text) {
-        Some(unit) => blocks(number(&text[..text.len() - 1]), unit),
-        None => blocks(number(text), 1),
+        Some(unit) => blocks(read_decimal(&text[..text.len() - 1]), unit),
+        None => blocks(read_decimal(text), 1),
     }
 }
 

@@ -7,7 +7,7 @@ ghost use Rattle.xfs_options.specs.declared.sub_options.SubOption.{SubOption};
 
 use crate::identifiers::identifier;
 use crate::items::OptionItem;
-use crate::numbers::number;
+use crate::numbers::read_decimal;
 use crate::sizes::size;
 
 /// What follows the text of a sub-option.
@@ -151,7 +151,7 @@ impl ItemForm {
         match self {
             ItemForm::Fixed => rest.is_empty(),
             ItemForm::Size => size(rest).is_some(),
-            ItemForm::Count => number(rest).is_some(),
+            ItemForm::Count => read_decimal(rest).is_some(),
             ItemForm::Identifier => identifier(rest).is_some(),
         }
     }

@@ -1,9 +1,9 @@
 -- The tokens of a text from one byte on.
 use Rattle.std.proofs.Common.{◌≡◌, ℕ, suc, ◌+◌, ◌<◌, Bool, true, false, cond, List, ◌∷◌, ◌++◌, length, drop, get_or, drop-cons, Result, ap, ◌∙◌, arith}
-use Rattle.xfs_proto.specs.Reading.{IsCause, Refusal, State, after_tokens}
+use Rattle.xfs_proto.specs.Reading.{IsProtoCause, SyntaxError, State, after_tokens}
 use Rattle.xfs_proto.specs.Tokens.{Place, Token, behind_blank, behind_byte, ended, is_blank, next_line, tokens_from}
-use Rattle.xfs_proto.specs.declared.nodes.ProtoFault.{ProtoFault}
-use Rattle.xfs_proto.specs.declared.nodes.ProtoFault.TheVariants.{Bad, NoMemory}
+use Rattle.xfs_proto.specs.declared.protofile.ProtoFault.{ProtoFault}
+use Rattle.xfs_proto.specs.declared.protofile.ProtoFault.TheVariants.{Bad, NoMemory}
 use Rattle.xfs_proto.proofs.Accepting.{after_tokens-append}
 use Rattle.xfs_proto.proofs.Taking.{refused_stays}
 
@@ -12,7 +12,7 @@ rest_from bytes i within =
     let next : suc i ≡ i + 1 = omega arith in drop-cons bytes i 0 within ∙ ap (λ (k : ℕ). get_or bytes i 0 ∷ drop k bytes) next
 
 -- a blank ends the token in front of it
-pub blank_ends : (text : List ℕ) (at line : ℕ) (place : Place) (r : Result State Refusal) → at < length text → is_blank (get_or text at 0) ≡ true
+pub blank_ends : (text : List ℕ) (at line : ℕ) (place : Place) (r : Result State SyntaxError) → at < length text → is_blank (get_or text at 0) ≡ true
     → after_tokens (tokens_from line place (drop at text)) r
     ≡ after_tokens (tokens_from (next_line (get_or text at 0) line) (behind_blank (get_or text at 0) place) (drop (at + 1) text)) (after_tokens (ended line place) r)
 blank_ends text at line place r within blank =
@@ -32,6 +32,6 @@ byte_goes_on text at line place within other =
     ∙ ap (λ (b : Bool). cond b (ended line place ++ behind) (tokens_from line (behind_byte byte place) (drop (at + 1) text))) other
 
 -- what a token was refused for stays
-pub cause_stays : (tokens : List Token) (r : Result State Refusal) (fault : ProtoFault) → IsCause r fault → IsCause (after_tokens tokens r) fault
+pub cause_stays : (tokens : List Token) (r : Result State SyntaxError) (fault : ProtoFault) → IsProtoCause r fault → IsProtoCause (after_tokens tokens r) fault
 cause_stays tokens r (Bad line reason) cause = ap (after_tokens tokens) cause ∙ refused_stays tokens (record { line = line; reason = reason })
 cause_stays tokens r NoMemory cause = tt

@@ -1,28 +1,19 @@
--- Digits that go on with a number that is too large.
-use Rattle.std.proofs.Common.{◌≡◌, ℕ, suc, ◌<◌, length, drop, get_or, drop-cons, ap, ◌∙◌, ◌+◌, ◌-◌, ◌*◌, ◌≤◌, Bool, true, false, List, [], ◌∷◌, Option, Some, None, refl, arith, cond}
+-- A number below a limit that is no larger than the limit of all numbers.
+use Rattle.std.proofs.Common.{◌≡◌, ℕ, ◌^◌, ◌<◌, ◌≤◌, Bool, true, false, List, Option, Some, None, refl, arith, nat_lt, cond, ap, sym}
 use Rattle.std.proofs.lemmas.Bool.Decides.{nat_tests}
-use Rattle.xfs_proto.specs.Numbers.{below, digits_from, is_digit}
+use Rattle.xfs_options.specs.Numbers.{below_limit, bounded_number, decimal_of}
+use Rattle.xfs_proto.specs.Numbers.{limited, number_below}
 
-too_large : (limit n : ℕ) → limit ≤ n → below limit (Some n) ≡ None
-too_large limit n large = grind (arith, nat_tests)
+chosen : (limit n : ℕ) (small : Bool) → limit ≤ 2 ^ 32 → nat_lt n (2 ^ 63) ≡ small → limited limit (cond small (Some n) None) ≡ limited limit (Some n)
+chosen limit n true few is = refl
+chosen limit n false few is =
+    let none : nat_lt n limit ≡ false = grind (arith, nat_tests) in
+    sym (ap (λ (b : Bool). cond b (Some n) None) none)
 
-choice : (limit : ℕ) (b : Bool) (m : Option ℕ) → below limit m ≡ None → below limit (cond b m None) ≡ None
-choice limit true m none = none
-choice limit false m none = refl
+below_both : (limit : ℕ) (number : Option ℕ) → limit ≤ 2 ^ 32 → limited limit (below_limit number) ≡ limited limit number
+below_both limit None few = refl
+below_both limit (Some n) few = chosen limit n (nat_lt n (2 ^ 63)) few refl
 
--- no digits make it smaller
-pub digits_large : (limit n : ℕ) (bytes : List ℕ) → limit ≤ n → below limit (digits_from n bytes) ≡ None
-digits_large limit n [] large = too_large limit n large
-digits_large limit n (byte ∷ bytes) large = choice limit (is_digit byte) _ (digits_large limit (n * 10 + (byte - 48)) bytes (omega (arith, large)))
-
-rest_from : (bytes : List ℕ) (i : ℕ) → i < length bytes → drop i bytes ≡ get_or bytes i 0 ∷ drop (i + 1) bytes
-rest_from bytes i within =
-    let next : suc i ≡ i + 1 = omega arith in drop-cons bytes i 0 within ∙ ap (λ (k : ℕ). get_or bytes i 0 ∷ drop k bytes) next
-
--- a digit that makes it too large
-pub digit_large : (limit n i : ℕ) (bytes : List ℕ) → i < length bytes → is_digit (get_or bytes i 0) ≡ true → limit ≤ n * 10 + (get_or bytes i 0 - 48)
-    → below limit (digits_from n (drop i bytes)) ≡ None
-digit_large limit n i bytes within digit large =
-    ap (λ (ds : List ℕ). below limit (digits_from n ds)) (rest_from bytes i within)
-    ∙ ap (λ (b : Bool). below limit (cond b (digits_from (n * 10 + (get_or bytes i 0 - 48)) (drop (i + 1) bytes)) None)) digit
-    ∙ digits_large limit (n * 10 + (get_or bytes i 0 - 48)) (drop (i + 1) bytes) large
+pub bounded_below : (limit : ℕ) (text : List ℕ) → limit ≤ 2 ^ 32 → limited limit (bounded_number text) ≡ number_below limit text
+unfolding bounded_number number_below
+bounded_below limit text few = below_both limit (decimal_of text) few

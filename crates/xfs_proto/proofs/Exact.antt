@@ -4,7 +4,7 @@ use Rattle.std.proofs.lemmas.Bool.{false≢true}
 use Rattle.xfs_proto.specs.Grammar.{IsProtofile}
 use Rattle.xfs_proto.specs.Reading.{nodes_of}
 use Rattle.xfs_proto.specs.Tokens.{tokens_of}
-use Rattle.xfs_proto.specs.declared.nodes.ProtoNode.{ProtoNode}
+use Rattle.xfs_proto.specs.declared.protofile.ProtoNode.{ProtoNode}
 use Rattle.xfs_proto.proofs.Accepting.{protofile_accepted}
 use Rattle.xfs_proto.proofs.Taking.{accepted_protofile}
 

@@ -4,27 +4,27 @@ use Rattle.std.proofs.lemmas.Bool.{false≢true}
 use Rattle.std.proofs.lemmas.Bool.Decides.{nat_tests}
 use Rattle.std.proofs.lemmas.List.{length-take}
 use Rattle.std.specs.List.{slice_get}
-use Rattle.xfs_proto.specs.Grammar.{IsBegun, Lacks, OffendsFirst, last_line}
+use Rattle.xfs_proto.specs.Grammar.{IsProtofilePrefix, Lacks, OffendsFirstToken, last_line}
 use Rattle.xfs_proto.specs.Numbers.{number_below}
 use Rattle.xfs_proto.specs.Modes.{mode_of}
-use Rattle.xfs_proto.specs.Reading.{Pending, Refusal, State, after_group, after_kind, after_major, after_minor, after_mode, after_name, after_text, after_token, after_tokens, after_user, finished, fits_name, fits_type, is_complete, nodes_of, start}
+use Rattle.xfs_proto.specs.Reading.{Pending, SyntaxError, State, after_group, after_kind, after_major, after_minor, after_mode, after_name, after_text, after_token, after_tokens, after_user, finished, fits_name, fits_type, has_ended, nodes_of, start}
 use Rattle.xfs_proto.specs.Tokens.{Token, tokens_of}
 use Rattle.xfs_proto.specs.declared.modes.FileType.{FileType}
 use Rattle.xfs_proto.specs.declared.modes.FileType.TheVariants as File
 use Rattle.xfs_proto.specs.declared.modes.Mode.{Mode}
-use Rattle.xfs_proto.specs.declared.nodes.ProtoNode.{ProtoNode}
-use Rattle.xfs_proto.specs.declared.reading.Expected.{Expected}
-use Rattle.xfs_proto.specs.declared.reading.Expected.TheVariants as Next
+use Rattle.xfs_proto.specs.declared.protofile.ProtoNode.{ProtoNode}
+use Rattle.xfs_proto.specs.declared.reading.NextToken.{NextToken}
+use Rattle.xfs_proto.specs.declared.reading.NextToken.TheVariants as Next
 use Rattle.xfs_proto.specs.declared.reading.Open.{Open}
 use Rattle.xfs_proto.proofs.Accepting.{after_tokens-append, protofile_accepted}
 use Rattle.xfs_proto.proofs.Taking.{Leads, accepted_protofile, refused_stays, stops}
 
 -- a token of this line was read, or it was refused, and not since tokens lack
-abbrev Tells : ℕ → Result State Refusal → Type 0
+abbrev Tells : ℕ → Result State SyntaxError → Type 0
 Tells line (Ok s) = s.line ≡ line
 Tells line (Err refusal) = (refusal.line ≡ line) × (refusal.reason ≡ 1 → ⊥)
 
-either : (line : ℕ) (b : Bool) (x y : Result State Refusal) → Tells line x → Tells line y → Tells line (cond b x y)
+either : (line : ℕ) (b : Bool) (x y : Result State SyntaxError) → Tells line x → Tells line y → Tells line (cond b x y)
 either line true x y hx hy = hx
 either line false x y hx hy = hy
 
@@ -61,7 +61,7 @@ minor_tells : (minor : Option ℕ) (s : State) → Tells s.line (after_minor min
 minor_tells None s = (refl, λ e. absurd (omega (arith, e)))
 minor_tells (Some minor) s = refl
 
-text_tells : (next : Expected) (text : List ℕ) (s : State) → Tells s.line (after_text next text s)
+text_tells : (next : NextToken) (text : List ℕ) (s : State) → Tells s.line (after_text next text s)
 text_tells (Next.Ignored left) text s = refl
 text_tells Next.Name text s = name_tells s.within text s
 text_tells Next.Mode text s = mode_tells (mode_of text) s
@@ -76,7 +76,7 @@ token_tells : (token : Token) (s : State) → Tells token.line (after_token toke
 token_tells token s = text_tells s.expected token.text (record s { line = token.line })
 
 -- the token that was refused
-record Halts (tokens : List Token) (s : State) (refusal : Refusal) : Type 0 where
+record Halts (tokens : List Token) (s : State) (refusal : SyntaxError) : Type 0 where
   before : List Token
   token : Token
   rest : List Token
@@ -85,7 +85,7 @@ record Halts (tokens : List Token) (s : State) (refusal : Refusal) : Type 0 wher
   reached : after_tokens before (Ok s) ≡ Ok state
   is_refused : after_token token state ≡ Err refusal
 
-halts_or : (token : Token) (tokens : List Token) (s : State) (refusal : Refusal) (read : Result State Refusal) → after_token token s ≡ read
+halts_or : (token : Token) (tokens : List Token) (s : State) (refusal : SyntaxError) (read : Result State SyntaxError) → after_token token s ≡ read
     → after_tokens tokens read ≡ Err refusal → ((t : State) → after_tokens tokens (Ok t) ≡ Err refusal → Halts tokens t refusal)
     → Halts (token ∷ tokens) s refusal
 halts_or token tokens s refusal (Err other) is e more = record {
@@ -109,22 +109,22 @@ halts_or token tokens s refusal (Ok t) is e more =
       is_refused = h.is_refused;
     }
 
-halts : (tokens : List Token) (s : State) (refusal : Refusal) → after_tokens tokens (Ok s) ≡ Err refusal → Halts tokens s refusal
+halts : (tokens : List Token) (s : State) (refusal : SyntaxError) → after_tokens tokens (Ok s) ≡ Err refusal → Halts tokens s refusal
 halts [] s refusal e = absurd (false≢true (sym (ap is_ok e)))
 halts (token ∷ tokens) s refusal e = halts_or token tokens s refusal (after_token token s) refl e (λ t. halts tokens t refusal)
 
 -- the line after tokens that were read
-line_or : (token : Token) (tokens : List Token) (t : State) (read : Result State Refusal) → Tells token.line read → after_tokens tokens read ≡ Ok t
+line_or : (token : Token) (tokens : List Token) (t : State) (read : Result State SyntaxError) → Tells token.line read → after_tokens tokens read ≡ Ok t
     → ((s : State) → after_tokens tokens (Ok s) ≡ Ok t → t.line ≡ last_line s.line tokens) → t.line ≡ last_line token.line tokens
 line_or token tokens t (Err refusal) tells e more = absurd (false≢true (ap is_ok (sym (refused_stays tokens refusal) ∙ e)))
 line_or token tokens t (Ok s) tells e more = more s e ∙ ap (λ (line : ℕ). last_line line tokens) tells
 
-abbrev state_in : Result State Refusal → State
+abbrev state_in : Result State SyntaxError → State
 state_in (Ok s) = s
 state_in (Err refusal) = start
 
 line_after : (tokens : List Token) (s t : State) → after_tokens tokens (Ok s) ≡ Ok t → t.line ≡ last_line s.line tokens
-line_after [] s t e = ap (λ (x : Result State Refusal). (state_in x).line) (sym e)
+line_after [] s t e = ap (λ (x : Result State SyntaxError). (state_in x).line) (sym e)
 line_after (token ∷ tokens) s t e = line_or token tokens t (after_token token s) (token_tells token s) e (λ u. line_after tokens u t)
 
 -- more tokens lead on to a protofile
@@ -135,9 +135,9 @@ abbrev told : List ℕ → Token
 told text = record { text = text; line = 1 }
 
 stepped : (token : Token) (s t : State) → after_token token s ≡ Ok t → Completes t → Completes s
-stepped token s t is done = (token ∷ done.0, done.1, ap (λ (r : Result State Refusal). finished (after_tokens done.0 r)) is ∙ done.2)
+stepped token s t is done = (token ∷ done.0, done.1, ap (λ (r : Result State SyntaxError). finished (after_tokens done.0 r)) is ∙ done.2)
 
-abbrev at_next : Expected → Option Open → List Open → Pending → List ProtoNode → State
+abbrev at_next : NextToken → Option Open → List Open → Pending → List ProtoNode → State
 at_next next within outer entry nodes = record { expected = next; line = 1; within = within; outer = outer; entry = entry; nodes = nodes }
 
 -- the directories end
@@ -234,7 +234,7 @@ ignored_completes (suc (suc k)) within outer line e nodes =
     ∙ ap (λ (n : ℕ). Ok (at_next (Next.Ignored n) within outer e nodes)) less)
     (ignored_completes (suc k) within outer 1 e nodes)
 
-next_completes : (next : Expected) (within : Option Open) (outer : List Open) (line : ℕ) (e : Pending) (nodes : List ProtoNode)
+next_completes : (next : NextToken) (within : Option Open) (outer : List Open) (line : ℕ) (e : Pending) (nodes : List ProtoNode)
     → Completes (record { expected = next; line = line; within = within; outer = outer; entry = e; nodes = nodes })
 next_completes (Next.Ignored left) within outer line e nodes = ignored_completes left within outer line e nodes
 next_completes Next.Name within outer line e nodes = name_completes within outer line e nodes
@@ -247,7 +247,7 @@ next_completes Next.Major within outer line e nodes = major_completes within out
 next_completes Next.Minor within outer line e nodes = minor_completes within outer line e nodes
 
 -- tokens that were read can be continued to a protofile
-begun : (tokens : List Token) (s : State) → after_tokens tokens (Ok start) ≡ Ok s → IsBegun tokens
+begun : (tokens : List Token) (s : State) → after_tokens tokens (Ok start) ≡ Ok s → IsProtofilePrefix tokens
 begun tokens s read =
     let done = next_completes s.expected s.within s.outer s.line s.entry s.nodes in (
       done.0,
@@ -257,8 +257,8 @@ begun tokens s read =
     )
 
 -- with a token that was refused they can't
-not_begun : (before : List Token) (token : Token) (s : State) (refusal : Refusal) → after_tokens before (Ok start) ≡ Ok s
-    → after_token token s ≡ Err refusal → IsBegun (before ++ token ∷ []) → ⊥
+not_begun : (before : List Token) (token : Token) (s : State) (refusal : SyntaxError) → after_tokens before (Ok start) ≡ Ok s
+    → after_token token s ≡ Err refusal → IsProtofilePrefix (before ++ token ∷ []) → ⊥
 not_begun before token s refusal read is_refused more =
     let here : after_tokens (before ++ token ∷ []) (Ok start) ≡ Err refusal
     = after_tokens-append before (token ∷ []) (Ok start) ∙ ap (after_tokens (token ∷ [])) read ∙ is_refused in
@@ -266,15 +266,15 @@ not_begun before token s refusal read is_refused more =
     (ap finished (ap (after_tokens more.0) (sym here) ∙ sym (after_tokens-append (before ++ token ∷ []) more.0 (Ok start)))
     ∙ protofile_accepted (before ++ token ∷ [] ++ more.0) more.1 more.2)
 
-abbrev refusal_in : {A : Type 0} → Result A Refusal → Refusal
+abbrev refusal_in : {A : Type 0} → Result A SyntaxError → SyntaxError
 refusal_in (Ok x) = record { line = 0; reason = 0 }
 refusal_in (Err refusal) = refusal
 
-abbrev refusal_of : ℕ → ℕ → Result (List ProtoNode) Refusal
+abbrev refusal_of : ℕ → ℕ → Result (List ProtoNode) SyntaxError
 refusal_of line reason = Err (record { line = line; reason = reason })
 
-offends_or : (tokens : List Token) (line reason : ℕ) (read : Result State Refusal) → after_tokens tokens (Ok start) ≡ read
-    → finished read ≡ Err (record { line = line; reason = reason }) → (reason ≡ 1 → ⊥) → OffendsFirst tokens line
+offends_or : (tokens : List Token) (line reason : ℕ) (read : Result State SyntaxError) → after_tokens tokens (Ok start) ≡ read
+    → finished read ≡ Err (record { line = line; reason = reason }) → (reason ≡ 1 → ⊥) → OffendsFirstToken tokens line
 offends_or tokens line reason (Err refusal) read says other =
     let h = halts tokens start refusal read in
     let tells : Tells h.token.line (Err refusal) = subst (Tells h.token.line) h.is_refused (token_tells h.token h.state) in
@@ -283,34 +283,34 @@ offends_or tokens line reason (Err refusal) read says other =
       token = h.token;
       rest = h.rest;
       split = h.split;
-      at_line = sym tells.0 ∙ ap (λ (x : Result (List ProtoNode) Refusal). (refusal_in x).line) says;
+      at_line = sym tells.0 ∙ ap (λ (x : Result (List ProtoNode) SyntaxError). (refusal_in x).line) says;
       goes_on = begun h.before h.state h.reached;
       ends_here = not_begun h.before h.token h.state refusal h.reached h.is_refused;
     }
-offends_or tokens line reason (Ok s) read says other = absurd (by_case (is_complete s.expected s.within) says) where
+offends_or tokens line reason (Ok s) read says other = absurd (by_case (has_ended s.expected s.within) says) where
   by_case : (b : Bool) → cond b (Ok s.nodes) (Err (record { line = s.line; reason = 1 })) ≡ refusal_of line reason → ⊥
   by_case true e = false≢true (sym (ap is_ok e))
-  by_case false e = other (ap (λ (x : Result (List ProtoNode) Refusal). (refusal_in x).reason) (sym e))
+  by_case false e = other (ap (λ (x : Result (List ProtoNode) SyntaxError). (refusal_in x).reason) (sym e))
 
-lacks_or : (tokens : List Token) (line : ℕ) (read : Result State Refusal) → after_tokens tokens (Ok start) ≡ read
+lacks_or : (tokens : List Token) (line : ℕ) (read : Result State SyntaxError) → after_tokens tokens (Ok start) ≡ read
     → finished read ≡ Err (record { line = line; reason = 1 }) → Lacks tokens line
 lacks_or tokens line (Err refusal) read says =
     let h = halts tokens start refusal read in
     let tells : Tells h.token.line (Err refusal) = subst (Tells h.token.line) h.is_refused (token_tells h.token h.state) in
-    absurd (tells.1 (ap (λ (x : Result (List ProtoNode) Refusal). (refusal_in x).reason) says))
-lacks_or tokens line (Ok s) read says = by_case (is_complete s.expected s.within) refl says where
-  by_case : (b : Bool) → is_complete s.expected s.within ≡ b
+    absurd (tells.1 (ap (λ (x : Result (List ProtoNode) SyntaxError). (refusal_in x).reason) says))
+lacks_or tokens line (Ok s) read says = by_case (has_ended s.expected s.within) refl says where
+  by_case : (b : Bool) → has_ended s.expected s.within ≡ b
       → cond b (Ok s.nodes) (Err (record { line = s.line; reason = 1 })) ≡ refusal_of line 1 → Lacks tokens line
   by_case true is e = absurd (false≢true (sym (ap is_ok e)))
   by_case false is e = record {
-    at_line = sym (line_after tokens start s read) ∙ ap (λ (x : Result (List ProtoNode) Refusal). (refusal_in x).line) e;
+    at_line = sym (line_after tokens start s read) ∙ ap (λ (x : Result (List ProtoNode) SyntaxError). (refusal_in x).line) e;
     goes_on = begun tokens s read;
     is_none = λ nodes proto. false≢true (ap is_ok (sym says ∙ (ap finished (sym read) ∙ protofile_accepted tokens nodes proto)));
   }
 
 -- what is told of a text that is refused
 pub offends : (text : List ℕ) (line reason : ℕ) → nodes_of text ≡ Err (record { line = line; reason = reason }) → (reason ≡ 1 → ⊥)
-    → OffendsFirst (tokens_of text) line
+    → OffendsFirstToken (tokens_of text) line
 unfolding nodes_of
 offends text line reason says other = offends_or (tokens_of text) line reason (after_tokens (tokens_of text) (Ok start)) refl says other
 

@@ -2,37 +2,37 @@
 use Rattle.std.proofs.Common.{◌≡◌, ℕ, zero, suc, ◌+◌, ◌^◌, ◌<◌, Bool, true, false, cond, List, [], ◌∷◌, ◌++◌, length, Option, Some, None, Result, Ok, Err, is_ok, nat_le, refl, sym, ap, ◌∙◌, subst, arith, append_assoc}
 use Rattle.std.proofs.lemmas.Bool.{false≢true}
 use Rattle.std.proofs.lemmas.List.{append-nil, length-append}
-use Rattle.xfs_proto.specs.Grammar.{Content, Entries, Head, IsProtofile, begun, head_tokens, is_end, node_of}
+use Rattle.xfs_proto.specs.Grammar.{Content, Entries, Head, IsProtofile, empty_directory, head_tokens, is_end, entry_node}
 use Rattle.xfs_proto.specs.Grammar.Content.{regular, link, block, character, pipe}
 use Rattle.xfs_proto.specs.Grammar.Entries.{none, file, directory}
 use Rattle.xfs_proto.specs.Numbers.{number_below}
 use Rattle.xfs_proto.specs.Modes.{mode_of}
-use Rattle.xfs_proto.specs.Reading.{Pending, Refusal, State, after_group, after_kind, after_major, after_minor, after_mode, after_tokens, after_user, closed, device, finished, fits_name, is_directory, named, one_more, refused, start, with_node}
+use Rattle.xfs_proto.specs.Reading.{Pending, SyntaxError, State, after_group, after_kind, after_major, after_minor, after_mode, after_tokens, after_user, closed, device, finished, fits_name, is_directory_type, named, one_more, token_error, start, with_node}
 use Rattle.xfs_proto.specs.Tokens.{Token}
 use Rattle.xfs_proto.specs.declared.modes.FileType.{FileType}
 use Rattle.xfs_proto.specs.declared.modes.FileType.TheVariants as File
 use Rattle.xfs_proto.specs.declared.modes.Mode.{Mode}
-use Rattle.xfs_proto.specs.declared.nodes.ProtoKind.{ProtoKind}
-use Rattle.xfs_proto.specs.declared.nodes.ProtoKind.TheVariants as Kind
-use Rattle.xfs_proto.specs.declared.nodes.ProtoNode.{ProtoNode}
-use Rattle.xfs_proto.specs.declared.reading.Expected.{Expected}
-use Rattle.xfs_proto.specs.declared.reading.Expected.TheVariants as Next
+use Rattle.xfs_proto.specs.declared.protofile.ProtoKind.{ProtoKind}
+use Rattle.xfs_proto.specs.declared.protofile.ProtoKind.TheVariants as Kind
+use Rattle.xfs_proto.specs.declared.protofile.ProtoNode.{ProtoNode}
+use Rattle.xfs_proto.specs.declared.reading.NextToken.{NextToken}
+use Rattle.xfs_proto.specs.declared.reading.NextToken.TheVariants as Next
 use Rattle.xfs_proto.specs.declared.reading.Open.{Open}
 use Rattle.xfs_proto.proofs.Accepting.{awaiting, closed_pushed, naming}
 
 -- the tokens lead on from here to all files
-abbrev pub Leads : List ProtoNode → List Token → Result State Refusal → Type 0
+abbrev pub Leads : List ProtoNode → List Token → Result State SyntaxError → Type 0
 Leads all tokens read = finished (after_tokens tokens read) ≡ Ok all
 
-not_ok : (refusal : Refusal) (all : List ProtoNode) → Err refusal ≡ Ok all → ⊥
+not_ok : (refusal : SyntaxError) (all : List ProtoNode) → Err refusal ≡ Ok all → ⊥
 not_ok refusal all e = false≢true (ap is_ok e)
 
-pub refused_stays : (tokens : List Token) (refusal : Refusal) → after_tokens tokens (Err refusal) ≡ Err refusal
+pub refused_stays : (tokens : List Token) (refusal : SyntaxError) → after_tokens tokens (Err refusal) ≡ Err refusal
 refused_stays [] refusal = refl
 refused_stays (token ∷ tokens) refusal = refused_stays tokens refusal
 
 -- nothing leads on from a token that was refused
-pub stops : (all : List ProtoNode) (tokens : List Token) (refusal : Refusal) → Leads all tokens (Err refusal) → ⊥
+pub stops : (all : List ProtoNode) (tokens : List Token) (refusal : SyntaxError) → Leads all tokens (Err refusal) → ⊥
 stops all tokens refusal e = not_ok refusal all (ap finished (sym (refused_stays tokens refusal)) ∙ e)
 
 -- the tokens begin with one that says this, and lead on
@@ -41,7 +41,7 @@ Step {A} all tokens says next =
     (token : Token) × (rest : List Token) × (a : A) × (tokens ≡ token ∷ rest) × (says token ≡ Some a) × Leads all rest (Ok (next token a))
 
 -- where this token is next, in this directory
-abbrev standing : Expected → Option Open → List Open → ℕ → Pending → List ProtoNode → State
+abbrev standing : NextToken → Option Open → List Open → ℕ → Pending → List ProtoNode → State
 standing next within outer line entry nodes = record { expected = next; line = line; within = within; outer = outer; entry = entry; nodes = nodes }
 
 mode_step : (all : List ProtoNode) (tokens : List Token) (at : Open) (outer : List Open) (line : ℕ) (e : Pending) (before : List ProtoNode)
@@ -133,7 +133,7 @@ devices all tokens kind at outer line e before is_kind makes h =
     }
 
 content_held : (all : List ProtoNode) (tokens : List Token) (kind : FileType) (at : Open) (outer : List Open) (line : ℕ) (e : Pending) (before : List ProtoNode)
-    → e.mode.kind ≡ kind → is_directory kind ≡ false
+    → e.mode.kind ≡ kind → is_directory_type kind ≡ false
     → Leads all tokens (Ok (after_kind kind (awaiting Next.Group at outer line e before))) → Held all tokens kind at outer e before
 content_held all [] File.Regular at outer line e before is_kind not_directory h = absurd (not_ok _ all h)
 content_held all (source ∷ rest) File.Regular at outer line e before is_kind not_directory h = record {
@@ -149,7 +149,7 @@ content_held all (source ∷ rest) File.Regular at outer line e before is_kind n
 content_held all [] File.Link at outer line e before is_kind not_directory h = absurd (not_ok _ all h)
 content_held all (target ∷ rest) File.Link at outer line e before is_kind not_directory h = by_case (nat_le (length target.text) 1024) refl h where
   by_case : (b : Bool) → nat_le (length target.text) 1024 ≡ b
-      → Leads all rest (cond b (Ok (with_node (Kind.Link target.text) (awaiting Next.Target at outer target.line e before))) (refused 5 (awaiting Next.Target at outer target.line e before)))
+      → Leads all rest (cond b (Ok (with_node (Kind.Link target.text) (awaiting Next.Target at outer target.line e before))) (token_error 5 (awaiting Next.Target at outer target.line e before)))
       → Held all (target ∷ rest) File.Link at outer e before
   by_case false short h = absurd (stops all rest _ h)
   by_case true short h = record {
@@ -218,24 +218,24 @@ goes_round all rest at inside outer line e before xs ys leads =
 
 -- an entry that is no directory, and those behind it
 file_taken : (n : ℕ) (all : List ProtoNode) → Takes n all → (tokens rest : List Token) (at : Open) (outer : List Open) (major : ℕ) (before : List ProtoNode)
-    (h : Head at before) → tokens ≡ head_tokens h ++ rest → length tokens < suc n → is_directory h.says.kind ≡ false
+    (h : Head at before) → tokens ≡ head_tokens h ++ rest → length tokens < suc n → is_directory_type h.says.kind ≡ false
     → Leads all rest (Ok (after_kind h.says.kind (awaiting Next.Group (one_more at) outer h.group.line (head_entry h major) before)))
     → Taken all tokens at outer before
 file_taken n all takes tokens rest at outer major before h split few not_directory leads =
     let held = content_held all rest h.says.kind (one_more at) outer h.group.line (head_entry h major) before refl not_directory leads in
     let long : length tokens ≡ 4 + length rest = ap length split ∙ four rest in
     let parts : length rest ≡ length held.content + length held.rest = ap length held.split ∙ length-append held.content held.rest in
-    let more = takes held.rest (omega (arith, few, long, parts)) (one_more at) outer held.line held.entry (before ++ node_of h held.says ∷ []) held.leads in
+    let more = takes held.rest (omega (arith, few, long, parts)) (one_more at) outer held.line held.entry (before ++ entry_node h held.says ∷ []) held.leads in
     record {
       taken = head_tokens h ++ (held.content ++ more.taken);
       rest = more.rest;
-      nodes = node_of h held.says ∷ more.nodes;
+      nodes = entry_node h held.says ∷ more.nodes;
       line = more.line;
       entry = more.entry;
       split = spliced tokens rest (head_tokens h) held.content held.rest more.taken more.rest split held.split more.split;
       shorter = omega (arith, long, parts, more.shorter);
       entries = file at before h held.content more.taken held.says more.nodes held.has more.entries;
-      leads = ends_on all more.rest at outer more.line more.entry before (node_of h held.says ∷ []) more.nodes more.leads;
+      leads = ends_on all more.rest at outer more.line more.entry before (entry_node h held.says ∷ []) more.nodes more.leads;
     }
   where
     four : (ts : List Token) → length (head_tokens h ++ ts) ≡ 4 + length ts
@@ -247,11 +247,11 @@ directory_taken : (n : ℕ) (all : List ProtoNode) → Takes n all → (tokens r
     → Leads all rest (Ok (after_kind File.Directory (awaiting Next.Group (one_more at) outer h.group.line (head_entry h major) before)))
     → Taken all tokens at outer before
 directory_taken n all takes tokens rest at outer major before h split few is_kind leads =
-    let node : ProtoNode = node_of h Kind.Directory in
+    let node : ProtoNode = entry_node h Kind.Directory in
     let long : length tokens ≡ 4 + length rest = ap length split ∙ four rest in
-    let inner = takes rest (omega (arith, few, long)) (begun before) (outer ++ one_more at ∷ []) h.group.line (head_entry h major) (before ++ node ∷ []) leads in
+    let inner = takes rest (omega (arith, few, long)) (empty_directory before) (outer ++ one_more at ∷ []) h.group.line (head_entry h major) (before ++ node ∷ []) leads in
     let round : Leads all inner.rest (Ok (naming (one_more at) outer inner.line inner.entry (before ++ node ∷ inner.nodes)))
-    = goes_round all inner.rest (one_more at) (begun before) outer inner.line inner.entry before (node ∷ []) inner.nodes inner.leads in
+    = goes_round all inner.rest (one_more at) (empty_directory before) outer inner.line inner.entry before (node ∷ []) inner.nodes inner.leads in
     let more = takes inner.rest (omega (arith, few, long, inner.shorter)) (one_more at) outer inner.line inner.entry (before ++ node ∷ inner.nodes) round in
     record {
       taken = head_tokens h ++ (inner.taken ++ more.taken);
@@ -278,7 +278,7 @@ entry_taken n all takes tokens rest at outer major before h split few File.Direc
     directory_taken n all takes tokens rest at outer major before h split few is_kind
     (subst (λ (k : FileType). Leads all rest (Ok (after_kind k (awaiting Next.Group (one_more at) outer h.group.line (head_entry h major) before)))) is_kind leads)
 entry_taken n all takes tokens rest at outer major before h split few k is_kind leads =
-    file_taken n all takes tokens rest at outer major before h split few (ap is_directory is_kind) leads
+    file_taken n all takes tokens rest at outer major before h split few (ap is_directory_type is_kind) leads
 
 -- what begins with a name
 named_taken : (n : ℕ) (all : List ProtoNode) → Takes n all → (name : Token) (rest : List Token) → length (name ∷ rest) < suc n
@@ -311,7 +311,7 @@ next_taken : (n : ℕ) (all : List ProtoNode) → Takes n all → (token : Token
     → (at : Open) (outer : List Open) (e : Pending) (before : List ProtoNode)
     → (b c : Bool) → is_end token ≡ b → fits_name at token.text before ≡ c
     → Leads all rest (cond b (Ok (closed (naming at outer token.line e before)))
-    (cond c (Ok (named at token.text (naming at outer token.line e before))) (refused 4 (naming at outer token.line e before))))
+    (cond c (Ok (named at token.text (naming at outer token.line e before))) (token_error 4 (naming at outer token.line e before))))
     → Taken all (token ∷ rest) at outer before
 next_taken n all takes token rest few at outer e before true c is_last fits leads = record {
   taken = token ∷ [];
@@ -337,13 +337,13 @@ take_entries (suc n) all (token ∷ rest) few at outer line e before leads =
 abbrev root_of : ℕ → ℕ → ℕ → ProtoNode
 root_of bits uid gid = record { parent = 0; name = []; mode = bits; uid = uid; gid = gid; kind = Kind.Directory }
 
-abbrev nodes_in : Result (List ProtoNode) Refusal → List ProtoNode
+abbrev nodes_in : Result (List ProtoNode) SyntaxError → List ProtoNode
 nodes_in (Ok nodes) = nodes
 nodes_in (Err refusal) = []
 
 -- behind the root's end nothing stands
 ended_here : (all : List ProtoNode) (rest : List Token) (line : ℕ) (e : Pending) (nodes : List ProtoNode)
-    → Leads all rest (Ok (closed (naming (begun []) [] line e nodes))) → (rest ≡ []) × (all ≡ nodes)
+    → Leads all rest (Ok (closed (naming (empty_directory []) [] line e nodes))) → (rest ≡ []) × (all ≡ nodes)
 ended_here all [] line e nodes leads = (refl, sym (ap nodes_in leads))
 ended_here all (token ∷ rest) line e nodes leads = absurd (stops all rest _ leads)
 
@@ -357,7 +357,7 @@ root_taken all first second third mode rest bits is_mode leads =
     let user = user_step all rest None [] mode.line e [] leads in
     let group = group_step all user.1 None [] user.0.line (record e { uid = user.2 }) [] user.5 in
     let root : ProtoNode = root_of bits user.2 group.2 in
-    let below = take_entries (suc (length group.1)) all group.1 (omega arith) (begun []) [] group.0.line (record e { uid = user.2; gid = group.2 }) (root ∷ []) group.5 in
+    let below = take_entries (suc (length group.1)) all group.1 (omega arith) (empty_directory []) [] group.0.line (record e { uid = user.2; gid = group.2 }) (root ∷ []) group.5 in
     let ends = ended_here all below.rest below.line below.entry (root ∷ below.nodes) below.leads in
     let whole : group.1 ≡ below.taken = below.split ∙ ap (λ (ts : List Token). below.taken ++ ts) ends.0 ∙ append-nil below.taken in
     record {

@@ -7,9 +7,9 @@ use Rattle.xfs_proto.specs.Tokens.{Token}
 use Rattle.xfs_proto.specs.declared.modes.FileType.{FileType}
 use Rattle.xfs_proto.specs.declared.modes.FileType.TheVariants as File
 use Rattle.xfs_proto.specs.declared.modes.Mode.{Mode}
-use Rattle.xfs_proto.specs.declared.nodes.ProtoKind.{ProtoKind}
-use Rattle.xfs_proto.specs.declared.nodes.ProtoKind.TheVariants as Kind
-use Rattle.xfs_proto.specs.declared.nodes.ProtoNode.{ProtoNode}
+use Rattle.xfs_proto.specs.declared.protofile.ProtoKind.{ProtoKind}
+use Rattle.xfs_proto.specs.declared.protofile.ProtoKind.TheVariants as Kind
+use Rattle.xfs_proto.specs.declared.protofile.ProtoNode.{ProtoNode}
 use Rattle.xfs_proto.specs.declared.reading.Open.{Open}
 
 -- the end of a directory
@@ -46,12 +46,12 @@ abbrev pub head_tokens : {at : Open} {before : List ProtoNode} → Head at befor
 head_tokens h = h.name ∷ h.mode ∷ h.user ∷ h.group ∷ []
 
 -- the file of an entry
-abbrev pub node_of : {at : Open} {before : List ProtoNode} → Head at before → ProtoKind → ProtoNode
-node_of {at} h kind = record { parent = at.directory; name = h.name.text; mode = h.says.bits; uid = h.uid; gid = h.gid; kind = kind }
+abbrev pub entry_node : {at : Open} {before : List ProtoNode} → Head at before → ProtoKind → ProtoNode
+entry_node {at} h kind = record { parent = at.directory; name = h.name.text; mode = h.says.bits; uid = h.uid; gid = h.gid; kind = kind }
 
 -- a directory without entries, behind so many files
-abbrev pub begun : List ProtoNode → Open
-begun before = record { directory = length before; entries = 0 }
+abbrev pub empty_directory : List ProtoNode → Open
+empty_directory before = record { directory = length before; entries = 0 }
 
 -- The entries of a directory, with its end: what stands behind these files, and the files that it says. An entry is a head with its content,
 -- or the head of a directory with the entries of that.
@@ -59,13 +59,13 @@ pub data Entries : Open → List ProtoNode → List Token → List ProtoNode →
   none : (at : Open) (before : List ProtoNode) (token : Token) → is_end token ≡ true → Entries at before (token ∷ []) []
   file : (at : Open) (before : List ProtoNode) (h : Head at before) (content rest : List Token) (kind : ProtoKind) (nodes : List ProtoNode)
       → Content h.says.kind content kind
-      → Entries (one_more at) (before ++ node_of h kind ∷ []) rest nodes
-      → Entries at before (head_tokens h ++ (content ++ rest)) (node_of h kind ∷ nodes)
+      → Entries (one_more at) (before ++ entry_node h kind ∷ []) rest nodes
+      → Entries at before (head_tokens h ++ (content ++ rest)) (entry_node h kind ∷ nodes)
   directory : (at : Open) (before : List ProtoNode) (h : Head at before) (inner rest : List Token) (below nodes : List ProtoNode)
       → h.says.kind ≡ File.Directory
-      → Entries (begun before) (before ++ node_of h Kind.Directory ∷ []) inner below
-      → Entries (one_more at) (before ++ node_of h Kind.Directory ∷ below) rest nodes
-      → Entries at before (head_tokens h ++ (inner ++ rest)) (node_of h Kind.Directory ∷ (below ++ nodes))
+      → Entries (empty_directory before) (before ++ entry_node h Kind.Directory ∷ []) inner below
+      → Entries (one_more at) (before ++ entry_node h Kind.Directory ∷ below) rest nodes
+      → Entries at before (head_tokens h ++ (inner ++ rest)) (entry_node h Kind.Directory ∷ (below ++ nodes))
 
 -- The tokens are a protofile, and say these files: three tokens that are ignored, the mode and the owners of the root, which is a
 -- directory, and its entries with their end.
@@ -85,22 +85,22 @@ pub record IsProtofile (tokens : List Token) (nodes : List ProtoNode) : Type 0 w
   pub is_mode : mode_of mode.text ≡ Some (record { kind = File.Directory; bits = bits })
   pub is_user : number_below (2 ^ 32) user.text ≡ Some uid
   pub is_group : number_below (2 ^ 32) group.text ≡ Some gid
-  pub entries : Entries (begun []) (record { parent = 0; name = []; mode = bits; uid = uid; gid = gid; kind = Kind.Directory } ∷ []) rest below
+  pub entries : Entries (empty_directory []) (record { parent = 0; name = []; mode = bits; uid = uid; gid = gid; kind = Kind.Directory } ∷ []) rest below
   pub are_nodes : nodes ≡ record { parent = 0; name = []; mode = bits; uid = uid; gid = gid; kind = Kind.Directory } ∷ below
 
 -- more tokens can make them a protofile
-abbrev pub IsBegun : List Token → Type 0
-IsBegun tokens = (more : List Token) × (nodes : List ProtoNode) × IsProtofile (tokens ++ more) nodes
+abbrev pub IsProtofilePrefix : List Token → Type 0
+IsProtofilePrefix tokens = (more : List Token) × (nodes : List ProtoNode) × IsProtofile (tokens ++ more) nodes
 
 -- A token of this line is the first that can't stand where it does: those before it can be continued to a protofile, and with it they can't.
-pub record OffendsFirst (tokens : List Token) (line : ℕ) : Type 0 where
+pub record OffendsFirstToken (tokens : List Token) (line : ℕ) : Type 0 where
   pub before : List Token
   pub token : Token
   pub rest : List Token
   pub split : tokens ≡ before ++ token ∷ rest
   pub at_line : token.line ≡ line
-  pub goes_on : IsBegun before
-  pub ends_here : IsBegun (before ++ token ∷ []) → ⊥
+  pub goes_on : IsProtofilePrefix before
+  pub ends_here : IsProtofilePrefix (before ++ token ∷ []) → ⊥
 
 -- the line of the last token, or this one
 abbrev pub last_line : ℕ → List Token → ℕ
@@ -110,5 +110,5 @@ last_line line (token ∷ tokens) = last_line token.line tokens
 -- Tokens lack: these can be continued to a protofile, and are none. The line is that of the last one, or 1 where there is none.
 pub record Lacks (tokens : List Token) (line : ℕ) : Type 0 where
   pub at_line : last_line 1 tokens ≡ line
-  pub goes_on : IsBegun tokens
+  pub goes_on : IsProtofilePrefix tokens
   pub is_none : (nodes : List ProtoNode) → IsProtofile tokens nodes → ⊥

@@ -1,7 +1,7 @@
 pub mod Tokens
 pub mod Modes
 pub mod Numbers
-pub mod Met
+pub mod EntryNames
 pub mod Reading
 pub mod Scanning
 pub mod Grammar

@@ -5,8 +5,8 @@ use Rattle.xfs_proto.specs.declared.modes.FileType.TheVariants.{Regular, Directo
 use Rattle.xfs_proto.specs.declared.modes.Mode.{Mode}
 
 -- the type that a letter names: `-` regular, d directory, l link, b block device, c character device, p fifo
-abbrev pub type_named : ℕ → Option FileType
-type_named letter =
+abbrev pub type_of_letter : ℕ → Option FileType
+type_of_letter letter =
     if letter == 45 then Some Regular
     else if letter == 100 then Some Directory
     else if letter == 108 then Some Link
@@ -55,5 +55,5 @@ mode_with kind user group permissions = None
 -- the mode that a token writes
 unfoldable pub mode_of : List ℕ → Option Mode
 mode_of (kind ∷ user ∷ group ∷ owner ∷ members ∷ others ∷ []) =
-    mode_with (type_named kind) (flag_of 117 user) (flag_of 103 group) (permissions_of owner members others)
+    mode_with (type_of_letter kind) (flag_of 117 user) (flag_of 103 group) (permissions_of owner members others)
 mode_of text = None

@@ -2,7 +2,7 @@
 use Rattle.std.specs.Prelude.{ℕ, ◌+◌, ◌≤◌, List, drop, slice_range, Result, Ok}
 use Rattle.xfs_proto.specs.Tokens.{Place, tokens_from}
 use Rattle.xfs_proto.specs.Tokens.Place.{between, inside, comment}
-use Rattle.xfs_proto.specs.Reading.{State, Refusal, after_tokens, held, IsSteady}
+use Rattle.xfs_proto.specs.Reading.{State, SyntaxError, after_tokens, reader_state, HasEntryNames}
 use Rattle.xfs_proto.specs.declared.scanning.Scan.{Scan}
 use Rattle.xfs_proto.specs.declared.scanning.Place.{Place as Mark}
 use Rattle.xfs_proto.specs.declared.scanning.Place.TheVariants as At
@@ -14,17 +14,17 @@ place_of text at (At.Inside from) = inside (slice_range text from at)
 place_of text at At.Comment = comment
 
 -- a token has begun before this place
-abbrev pub begins_before : ℕ → Mark → Type 0
-begins_before at At.Between = Unit {0}
-begins_before at (At.Inside from) = from ≤ at
-begins_before at At.Comment = Unit {0}
+abbrev pub TokenBeginsBefore : ℕ → Mark → Type 0
+TokenBeginsBefore at At.Between = Unit {0}
+TokenBeginsBefore at (At.Inside from) = from ≤ at
+TokenBeginsBefore at At.Comment = Unit {0}
 
 -- what is read of a text from this place on, where so much was read before it
-abbrev pub read_on : List ℕ → ℕ → Scan → Result State Refusal
-read_on text at scan = after_tokens (tokens_from scan.line (place_of text at scan.place) (drop at text)) (Ok (held scan.reader))
+abbrev pub read_on : List ℕ → ℕ → Scan → Result State SyntaxError
+read_on text at scan = after_tokens (tokens_from scan.line (place_of text at scan.place) (drop at text)) (Ok (reader_state scan.reader))
 
 -- the text was read up to this place
 pub record IsScan (at : ℕ) (scan : Scan) : Type 0 where
-  pub steady : IsSteady scan.reader
-  pub begins : begins_before at scan.place
+  pub steady : HasEntryNames scan.reader
+  pub begins : TokenBeginsBefore at scan.place
   pub lines : scan.line ≤ at + 1

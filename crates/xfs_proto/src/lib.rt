@@ -15,12 +15,12 @@
 //! ```
 #![tactic(auto)]
 
-mod met;
+mod entry_names;
 mod modes;
-mod nodes;
 mod numbers;
+mod protofile;
 mod reading;
 mod scanning;
 
-pub use nodes::{Proto, ProtoFault, ProtoKind, ProtoNode};
+pub use protofile::{Proto, ProtoFault, ProtoKind, ProtoNode};
 pub use scanning::read_proto;

@@ -1,7 +1,7 @@
 //! Modes: a letter for the type, two for the bits that set user and group, and three octal digits.
 
 ghost use Rattle.std.specs.Prelude.{◌≡◌, ◌<◌, ◌≤◌, ◌+◌, ◌*◌, ◌-◌, ◌^◌, ◌==◌, ◌&&◌, nat_le, Option, Some, None, IfSome};
-ghost use Rattle.xfs_proto.specs.Modes.{bits_of, digit_of, flag_of, mode_of, mode_with, new_mode, permissions_of, permissions_with, type_bits, type_named};
+ghost use Rattle.xfs_proto.specs.Modes.{bits_of, digit_of, flag_of, mode_of, mode_with, new_mode, permissions_of, permissions_with, type_bits, type_of_letter};
 
 /// The type of a file.
 #[derive(Clone, Copy, Debug, PartialEq, Eq)]
@@ -34,7 +34,7 @@ pub(crate) fn mode_of(text: &[u8]) -> Option<Mode>
 {
     match text {
         [kind, user, group, owner, members, others] => mode_with(
-            type_named(*kind),
+            type_of_letter(*kind),
             flag_of(b'u', *user),
             flag_of(b'g', *group),
             permissions_of(*owner, *members, *others),
@@ -97,8 +97,8 @@ fn type_bits(kind: FileType) -> u16
 }
 
 /// The type that a letter names.
-fn type_named(letter: u8) -> Option<FileType>
-    ensures { result ≡ type_named letter }
+fn type_of_letter(letter: u8) -> Option<FileType>
+    ensures { result ≡ type_of_letter letter }
 {
     match letter {
         b'-' => Some(FileType::Regular),

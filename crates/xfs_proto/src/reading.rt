@@ -3,12 +3,12 @@
 ghost use Rattle.std.specs.Prelude.{◌≡◌, ℕ, ◌^◌, Ok, Err, IfOk, IfErr, OnOk};
 ghost use Rattle.xfs_proto.specs.Modes.{mode_of};
 ghost use Rattle.xfs_proto.specs.Numbers.{number_below};
-ghost use Rattle.xfs_proto.specs.Reading.{after_group, after_ignored, after_kind, after_major, after_minor, after_mode, after_name, after_target, after_text, after_token, after_user, closed, device, finished, fits_name, held, IsCause, IsSteady, parent_of, start, with_node};
+ghost use Rattle.xfs_proto.specs.Reading.{after_group, after_ignored, after_kind, after_major, after_minor, after_mode, after_name, after_target, after_text, after_token, after_user, closed, device, finished, fits_name, reader_state, IsProtoCause, HasEntryNames, entry_parent, start, with_node};
 
-use crate::met::MetNames;
+use crate::entry_names::EntryNames;
 use crate::modes::{FileType, Mode, mode_of};
-use crate::nodes::{Proto, ProtoFault, ProtoKind, ProtoNode};
 use crate::numbers::number_below;
+use crate::protofile::{Proto, ProtoFault, ProtoKind, ProtoNode};
 use std::alloc::Global;
 use xfs_disk::{NoMemory, Word};
 use xfs_volume::{Records, is_name};
@@ -43,7 +43,7 @@ const MINORS: u64 = 1 << 18;
 
 /// What the next token is to be.
 #[derive(Clone, Copy, Debug)]
-pub(crate) enum Expected {
+pub(crate) enum NextToken {
     /// One of those that are ignored, of which so many are left.
     Ignored { left: u8 },
     /// The name of an entry, or the end of the directory.
@@ -84,7 +84,7 @@ pub(crate) struct Entry<'a> {
 /// How far tokens have been read.
 #[derive(Drop)]
 pub(crate) struct Reader<'a> {
-    expected: Expected,
+    expected: NextToken,
     /// The line of the last token, 1 where there was none.
     line: u64,
     /// The directory whose entries are read; none in front of the root and behind its end.
@@ -92,18 +92,18 @@ pub(crate) struct Reader<'a> {
     /// The directories round it, from the root on.
     outer: Vec<Open>,
     entry: Entry<'a>,
-    met: MetNames<'a>,
+    names: EntryNames<'a>,
     nodes: Vec<ProtoNode>,
 }
 
 impl<'a> Reader<'a> {
     /// A reader that has read nothing.
     pub(crate) fn new(alloc: Global) -> Reader<'a>
-        ensures held { held result ≡ start }
-        ensures steady { IsSteady result }
+        ensures held { reader_state result ≡ start }
+        ensures steady { HasEntryNames result }
     {
         Reader {
-            expected: Expected::Ignored { left: 3 },
+            expected: NextToken::Ignored { left: 3 },
             line: 1,
             inside: None,
             outer: Vec::new(alloc),
@@ -117,7 +117,7 @@ impl<'a> Reader<'a> {
                 gid: 0,
                 major: 0,
             },
-            met: MetNames::new(alloc),
+            names: EntryNames::new(alloc),
             nodes: Vec::new(alloc),
         }
     }
@@ -129,45 +129,45 @@ impl<'a> Reader<'a> {
         text: &'a [u8],
         line: u64,
     ) -> Result<(), ProtoFault>
-        requires steady { IsSteady self.old }
-        ensures held { IfOk result (λ _. after_token (record { text = text.now; line = line }) (held self.old) ≡ Ok (held self.new)) }
-        ensures steady { OnOk result (IsSteady self.new) }
-        ensures refusal { IfErr result (IsCause (after_token (record { text = text.now; line = line }) (held self.old))) }
+        requires steady { HasEntryNames self.old }
+        ensures held { IfOk result (λ _. after_token (record { text = text.now; line = line }) (reader_state self.old) ≡ Ok (reader_state self.new)) }
+        ensures steady { OnOk result (HasEntryNames self.new) }
+        ensures refusal { IfErr result (IsProtoCause (after_token (record { text = text.now; line = line }) (reader_state self.old))) }
     {
         self.line = line;
         match self.expected {
-            Expected::Ignored { left } => self.take_ignored(left),
-            Expected::Name => self.take_name(text)?,
-            Expected::Mode => self.take_mode(text)?,
-            Expected::User => self.take_user(text)?,
-            Expected::Group => self.take_group(alloc, text)?,
-            Expected::Source => self.take_source(alloc, text)?,
-            Expected::Target => self.take_target(alloc, text)?,
-            Expected::Major => self.take_major(text)?,
-            Expected::Minor => self.take_minor(alloc, text)?,
+            NextToken::Ignored { left } => self.take_ignored(left),
+            NextToken::Name => self.take_name(text)?,
+            NextToken::Mode => self.take_mode(text)?,
+            NextToken::User => self.take_user(text)?,
+            NextToken::Group => self.take_group(alloc, text)?,
+            NextToken::Source => self.take_source(alloc, text)?,
+            NextToken::Target => self.take_target(alloc, text)?,
+            NextToken::Major => self.take_major(text)?,
+            NextToken::Minor => self.take_minor(alloc, text)?,
         }
         Ok(())
     }
 
     /// Reads one of the first tokens, of which so many are left.
     fn take_ignored(&mut self, left: u8)
-        requires steady { IsSteady self.old }
-        ensures held { held self.new ≡ after_ignored left (held self.old) }
-        ensures steady { IsSteady self.new }
+        requires steady { HasEntryNames self.old }
+        ensures held { reader_state self.new ≡ after_ignored left (reader_state self.old) }
+        ensures steady { HasEntryNames self.new }
     {
         self.expected = if left <= 1 {
-            Expected::Mode
+            NextToken::Mode
         } else {
-            Expected::Ignored { left: left - 1 }
+            NextToken::Ignored { left: left - 1 }
         };
     }
 
     /// Reads a token where a name or the end of a directory may stand.
     fn take_name(&mut self, text: &'a [u8]) -> Result<(), ProtoFault>
-        requires steady { IsSteady self.old }
-        ensures held { IfOk result (λ _. after_name self.old.inside text.now (held self.old) ≡ Ok (held self.new)) }
-        ensures steady { OnOk result (IsSteady self.new) }
-        ensures refusal { IfErr result (IsCause (after_name self.old.inside text.now (held self.old))) }
+        requires steady { HasEntryNames self.old }
+        ensures held { IfOk result (λ _. after_name self.old.inside text.now (reader_state self.old) ≡ Ok (reader_state self.new)) }
+        ensures steady { OnOk result (HasEntryNames self.new) }
+        ensures refusal { IfErr result (IsProtoCause (after_name self.old.inside text.now (reader_state self.old))) }
     {
         let Some(parent) = self.inside else {
             return Err(self.bad(BEHIND_END));
@@ -184,23 +184,23 @@ impl<'a> Reader<'a> {
             entries: parent.entries + 1,
         });
         self.entry.name = text;
-        self.expected = Expected::Mode;
+        self.expected = NextToken::Mode;
         Ok(())
     }
 
     /// Whether a directory can have one more entry, of this name.
     fn can_have(&self, parent: Open, name: &'a [u8]) -> bool
-        requires steady { IsSteady self.now }
+        requires steady { HasEntryNames self.now }
         ensures { result ≡ fits_name parent name.now self.now.nodes.items }
     {
-        is_name(name) && parent.entries < MOST_ENTRIES && !self.met.has(parent.directory, name)
+        is_name(name) && parent.entries < MOST_ENTRIES && !self.names.has(parent.directory, name)
     }
 
     /// Ends the entries of the directory.
     fn close(&mut self)
-        requires steady { IsSteady self.old }
-        ensures held { held self.new ≡ closed (held self.old) }
-        ensures steady { IsSteady self.new }
+        requires steady { HasEntryNames self.old }
+        ensures held { reader_state self.new ≡ closed (reader_state self.old) }
+        ensures steady { HasEntryNames self.new }
     {
         self.inside = self.outer.as_slice().last().copied();
         let _ = self.outer.pop();
@@ -208,10 +208,10 @@ impl<'a> Reader<'a> {
 
     /// Reads a mode.
     fn take_mode(&mut self, text: &[u8]) -> Result<(), ProtoFault>
-        requires steady { IsSteady self.old }
-        ensures held { IfOk result (λ _. after_mode (mode_of text.now) (held self.old) ≡ Ok (held self.new)) }
-        ensures steady { OnOk result (IsSteady self.new) }
-        ensures refusal { IfErr result (IsCause (after_mode (mode_of text.now) (held self.old))) }
+        requires steady { HasEntryNames self.old }
+        ensures held { IfOk result (λ _. after_mode (mode_of text.now) (reader_state self.old) ≡ Ok (reader_state self.new)) }
+        ensures steady { OnOk result (HasEntryNames self.new) }
+        ensures refusal { IfErr result (IsProtoCause (after_mode (mode_of text.now) (reader_state self.old))) }
     {
         let Some(mode) = mode_of(text) else {
             return Err(self.bad(NO_MODE));
@@ -220,31 +220,31 @@ impl<'a> Reader<'a> {
             return Err(self.bad(NO_MODE));
         }
         self.entry.mode = mode;
-        self.expected = Expected::User;
+        self.expected = NextToken::User;
         Ok(())
     }
 
     /// Reads the number of a user.
     fn take_user(&mut self, text: &[u8]) -> Result<(), ProtoFault>
-        requires steady { IsSteady self.old }
-        ensures held { IfOk result (λ _. after_user (number_below (2 ^ 32) text.now) (held self.old) ≡ Ok (held self.new)) }
-        ensures steady { OnOk result (IsSteady self.new) }
-        ensures refusal { IfErr result (IsCause (after_user (number_below (2 ^ 32) text.now) (held self.old))) }
+        requires steady { HasEntryNames self.old }
+        ensures held { IfOk result (λ _. after_user (number_below (2 ^ 32) text.now) (reader_state self.old) ≡ Ok (reader_state self.new)) }
+        ensures steady { OnOk result (HasEntryNames self.new) }
+        ensures refusal { IfErr result (IsProtoCause (after_user (number_below (2 ^ 32) text.now) (reader_state self.old))) }
     {
         let Some(uid) = number_below(OWNERS, text) else {
             return Err(self.bad(NO_NUMBER));
         };
         self.entry.uid = uid;
-        self.expected = Expected::Group;
+        self.expected = NextToken::Group;
         Ok(())
     }
 
     /// Reads the number of a group. What follows goes by the type.
     fn take_group(&mut self, alloc: Global, text: &[u8]) -> Result<(), ProtoFault>
-        requires steady { IsSteady self.old }
-        ensures held { IfOk result (λ _. after_group (number_below (2 ^ 32) text.now) (held self.old) ≡ Ok (held self.new)) }
-        ensures steady { OnOk result (IsSteady self.new) }
-        ensures refusal { IfErr result (IsCause (after_group (number_below (2 ^ 32) text.now) (held self.old))) }
+        requires steady { HasEntryNames self.old }
+        ensures held { IfOk result (λ _. after_group (number_below (2 ^ 32) text.now) (reader_state self.old) ≡ Ok (reader_state self.new)) }
+        ensures steady { OnOk result (HasEntryNames self.new) }
+        ensures refusal { IfErr result (IsProtoCause (after_group (number_below (2 ^ 32) text.now) (reader_state self.old))) }
     {
         let Some(gid) = number_below(OWNERS, text) else {
             return Err(self.bad(NO_NUMBER));
@@ -258,15 +258,15 @@ impl<'a> Reader<'a> {
 
     /// Goes on by the type of the entry: what belongs to it follows, or it is whole.
     fn take_kind(&mut self, alloc: Global) -> Result<(), NoMemory>
-        requires steady { IsSteady self.old }
-        ensures held { OnOk result (held self.new ≡ after_kind self.old.entry.mode.kind (held self.old)) }
-        ensures steady { OnOk result (IsSteady self.new) }
+        requires steady { HasEntryNames self.old }
+        ensures held { OnOk result (reader_state self.new ≡ after_kind self.old.entry.mode.kind (reader_state self.old)) }
+        ensures steady { OnOk result (HasEntryNames self.new) }
     {
         match self.entry.mode.kind {
-            FileType::Regular => self.expected = Expected::Source,
+            FileType::Regular => self.expected = NextToken::Source,
             FileType::Directory => self.begin_directory(alloc)?,
-            FileType::Link => self.expected = Expected::Target,
-            FileType::Block | FileType::Character => self.expected = Expected::Major,
+            FileType::Link => self.expected = NextToken::Target,
+            FileType::Block | FileType::Character => self.expected = NextToken::Major,
             FileType::Pipe => self.push(alloc, ProtoKind::Pipe)?,
         }
         Ok(())
@@ -274,9 +274,9 @@ impl<'a> Reader<'a> {
 
     /// Adds a directory, whose entries follow.
     fn begin_directory(&mut self, alloc: Global) -> Result<(), NoMemory>
-        requires steady { IsSteady self.old }
-        ensures held { OnOk result (held self.new ≡ after_kind FileType.Directory (held self.old)) }
-        ensures steady { OnOk result (IsSteady self.new) }
+        requires steady { HasEntryNames self.old }
+        ensures held { OnOk result (reader_state self.new ≡ after_kind FileType.Directory (reader_state self.old)) }
+        ensures steady { OnOk result (HasEntryNames self.new) }
     {
         let directory = self.nodes.len() as u64;
         self.push(alloc, ProtoKind::Directory)?;
@@ -292,10 +292,10 @@ impl<'a> Reader<'a> {
 
     /// Reads the name by which a library has the bytes of a file.
     fn take_source(&mut self, alloc: Global, text: &[u8]) -> Result<(), ProtoFault>
-        requires steady { IsSteady self.old }
-        ensures held { IfOk result (λ _. after_text Expected.Source text.now (held self.old) ≡ Ok (held self.new)) }
-        ensures steady { OnOk result (IsSteady self.new) }
-        ensures refusal { IfErr result (IsCause (after_text Expected.Source text.now (held self.old))) }
+        requires steady { HasEntryNames self.old }
+        ensures held { IfOk result (λ _. after_text NextToken.Source text.now (reader_state self.old) ≡ Ok (reader_state self.new)) }
+        ensures steady { OnOk result (HasEntryNames self.new) }
+        ensures refusal { IfErr result (IsProtoCause (after_text NextToken.Source text.now (reader_state self.old))) }
     {
         let Ok(name) = copied(alloc, text) else {
             return Err(ProtoFault::NoMemory);
@@ -311,10 +311,10 @@ impl<'a> Reader<'a> {
 
     /// Reads the target of a link.
     fn take_target(&mut self, alloc: Global, text: &[u8]) -> Result<(), ProtoFault>
-        requires steady { IsSteady self.old }
-        ensures held { IfOk result (λ _. after_target text.now (held self.old) ≡ Ok (held self.new)) }
-        ensures steady { OnOk result (IsSteady self.new) }
-        ensures refusal { IfErr result (IsCause (after_target text.now (held self.old))) }
+        requires steady { HasEntryNames self.old }
+        ensures held { IfOk result (λ _. after_target text.now (reader_state self.old) ≡ Ok (reader_state self.new)) }
+        ensures steady { OnOk result (HasEntryNames self.new) }
+        ensures refusal { IfErr result (IsProtoCause (after_target text.now (reader_state self.old))) }
     {
         if text.len() > MOST_TARGET {
             return Err(self.bad(LONG_TARGET));
@@ -327,25 +327,25 @@ impl<'a> Reader<'a> {
 
     /// Reads the upper number of a device.
     fn take_major(&mut self, text: &[u8]) -> Result<(), ProtoFault>
-        requires steady { IsSteady self.old }
-        ensures held { IfOk result (λ _. after_major (number_below (2 ^ 14) text.now) (held self.old) ≡ Ok (held self.new)) }
-        ensures steady { OnOk result (IsSteady self.new) }
-        ensures refusal { IfErr result (IsCause (after_major (number_below (2 ^ 14) text.now) (held self.old))) }
+        requires steady { HasEntryNames self.old }
+        ensures held { IfOk result (λ _. after_major (number_below (2 ^ 14) text.now) (reader_state self.old) ≡ Ok (reader_state self.new)) }
+        ensures steady { OnOk result (HasEntryNames self.new) }
+        ensures refusal { IfErr result (IsProtoCause (after_major (number_below (2 ^ 14) text.now) (reader_state self.old))) }
     {
         let Some(major) = number_below(MAJORS, text) else {
             return Err(self.bad(NO_NUMBER));
         };
         self.entry.major = major;
-        self.expected = Expected::Minor;
+        self.expected = NextToken::Minor;
         Ok(())
     }
 
     /// Reads the lower number of a device.
     fn take_minor(&mut self, alloc: Global, text: &[u8]) -> Result<(), ProtoFault>
-        requires steady { IsSteady self.old }
-        ensures held { IfOk result (λ _. after_minor (number_below (2 ^ 18) text.now) (held self.old) ≡ Ok (held self.new)) }
-        ensures steady { OnOk result (IsSteady self.new) }
-        ensures refusal { IfErr result (IsCause (after_minor (number_below (2 ^ 18) text.now) (held self.old))) }
+        requires steady { HasEntryNames self.old }
+        ensures held { IfOk result (λ _. after_minor (number_below (2 ^ 18) text.now) (reader_state self.old) ≡ Ok (reader_state self.new)) }
+        ensures steady { OnOk result (HasEntryNames self.new) }
+        ensures refusal { IfErr result (IsProtoCause (after_minor (number_below (2 ^ 18) text.now) (reader_state self.old))) }
     {
         let Some(minor) = number_below(MINORS, text) else {
             return Err(self.bad(NO_NUMBER));
@@ -355,9 +355,9 @@ impl<'a> Reader<'a> {
 
     /// Adds the entry, of which this token was the last.
     fn push_last(&mut self, alloc: Global, kind: ProtoKind) -> Result<(), ProtoFault>
-        requires steady { IsSteady self.old }
-        ensures held { OnOk result (held self.new ≡ with_node kind (held self.old)) }
-        ensures steady { OnOk result (IsSteady self.new) }
+        requires steady { HasEntryNames self.old }
+        ensures held { OnOk result (reader_state self.new ≡ with_node kind (reader_state self.old)) }
+        ensures steady { OnOk result (HasEntryNames self.new) }
         ensures refusal { IfErr result (λ fault. fault ≡ ProtoFault.NoMemory) }
     {
         match self.push(alloc, kind) {
@@ -368,13 +368,13 @@ impl<'a> Reader<'a> {
 
     /// Adds the node of the entry. The name of another one, or the end of the directory, is next.
     fn push(&mut self, alloc: Global, kind: ProtoKind) -> Result<(), NoMemory>
-        requires steady { IsSteady self.old }
-        ensures held { OnOk result (held self.new ≡ with_node kind (held self.old)) }
-        ensures steady { OnOk result (IsSteady self.new) }
+        requires steady { HasEntryNames self.old }
+        ensures held { OnOk result (reader_state self.new ≡ with_node kind (reader_state self.old)) }
+        ensures steady { OnOk result (HasEntryNames self.new) }
     {
-        let parent = parent_of(self.inside);
+        let parent = entry_parent(self.inside);
         let name = copied(alloc, self.entry.name)?;
-        self.met.add(parent, self.entry.name)?;
+        self.names.add(parent, self.entry.name)?;
         self.nodes.push(ProtoNode {
             parent,
             name,
@@ -383,7 +383,7 @@ impl<'a> Reader<'a> {
             gid: self.entry.gid,
             kind,
         })?;
-        self.expected = Expected::Name;
+        self.expected = NextToken::Name;
         Ok(())
     }
 
@@ -399,11 +399,11 @@ impl<'a> Reader<'a> {
 
     /// The files, where the root has ended.
     pub(crate) fn finish(self) -> Result<Proto, ProtoFault>
-        ensures nodes { IfOk result (λ proto. finished (Ok (held self.entry)) ≡ Ok proto.nodes) }
-        ensures refusal { IfErr result (IsCause (finished (Ok (held self.entry)))) }
+        ensures nodes { IfOk result (λ proto. finished (Ok (reader_state self.entry)) ≡ Ok proto.nodes) }
+        ensures refusal { IfErr result (IsProtoCause (finished (Ok (reader_state self.entry)))) }
     {
         match (self.expected, self.inside) {
-            (Expected::Name, None) => Ok(Proto {
+            (NextToken::Name, None) => Ok(Proto {
                 nodes: Records::from_vec(self.nodes),
             }),
             _ => Err(self.bad(LACKING)),
@@ -412,8 +412,8 @@ impl<'a> Reader<'a> {
 }
 
 /// The place of an entry's directory; the root's is 0.
-fn parent_of(inside: Option<Open>) -> u64
-    ensures { result ≡ parent_of inside }
+fn entry_parent(inside: Option<Open>) -> u64
+    ensures { result ≡ entry_parent inside }
 {
     match inside {
         Some(directory) => directory.directory,

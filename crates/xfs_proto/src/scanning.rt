@@ -1,12 +1,12 @@
 //! The tokens of a text: what stands between blanks, tabs and line feeds, without comments.
 
 ghost use Rattle.std.specs.Prelude.{◌≡◌, ◌≢◌, ℕ, ◌+◌, ◌≤◌, ◌<◌, ◌==◌, ◌||◌, ◌-◌, ◌^◌, if◌then◌else◌, Ok, Err, List, length, slice_index, IfOk, IfErr, OnOk};
-ghost use Rattle.xfs_proto.specs.Grammar.{IsProtofile, Lacks, OffendsFirst};
-ghost use Rattle.xfs_proto.specs.Reading.{after_tokens, held, IsCause, IsSteady, nodes_of, start};
-ghost use Rattle.xfs_proto.specs.Scanning.{begins_before, IsScan, place_of, read_on};
+ghost use Rattle.xfs_proto.specs.Grammar.{IsProtofile, Lacks, OffendsFirstToken};
+ghost use Rattle.xfs_proto.specs.Reading.{after_tokens, reader_state, IsProtoCause, HasEntryNames, nodes_of, start};
+ghost use Rattle.xfs_proto.specs.Scanning.{TokenBeginsBefore, IsScan, place_of, read_on};
 ghost use Rattle.xfs_proto.specs.Tokens.{behind_blank, behind_byte, ended, is_blank, next_line, tokens_of};
 
-use crate::nodes::{Proto, ProtoFault, ProtoNode};
+use crate::protofile::{Proto, ProtoFault, ProtoNode};
 use crate::reading::Reader;
 use std::alloc::Global;
 
@@ -35,11 +35,11 @@ struct Scan<'a> {
 /// reason of the first token that can't stand where it does.
 pub fn read_proto(alloc: Global, text: &[u8]) -> Result<Proto, ProtoFault>
     ensures nodes { IfOk result (λ proto. nodes_of text.now ≡ Ok proto.nodes) }
-    ensures refusal { IfErr result (IsCause (nodes_of text.now)) }
+    ensures refusal { IfErr result (IsProtoCause (nodes_of text.now)) }
     ensures grammar { IfOk result (λ proto. IsProtofile (tokens_of text.now) proto.nodes) }
     ensures refused { (line reason : ℕ) (nodes : List ProtoNode) → result ≡ Err (ProtoFault.Bad line reason) → IsProtofile (tokens_of text.now) nodes → ⊥ }
     ensures lacking { (line : ℕ) → result ≡ Err (ProtoFault.Bad line 1) → Lacks (tokens_of text.now) line }
-    ensures offending { (line reason : ℕ) → result ≡ Err (ProtoFault.Bad line reason) → reason ≢ 1 → OffendsFirst (tokens_of text.now) line }
+    ensures offending { (line reason : ℕ) → result ≡ Err (ProtoFault.Bad line reason) → reason ≢ 1 → OffendsFirstToken (tokens_of text.now) line }
 {
     read_nodes(alloc, text)
 }
@@ -48,7 +48,7 @@ pub fn read_proto(alloc: Global, text: &[u8]) -> Result<Proto, ProtoFault>
 #[tactic(auto, unfolding(crate::specs::Reading::nodes_of))]
 fn read_nodes(alloc: Global, text: &[u8]) -> Result<Proto, ProtoFault>
     ensures nodes { IfOk result (λ proto. nodes_of text.now ≡ Ok proto.nodes) }
-    ensures refusal { IfErr result (IsCause (nodes_of text.now)) }
+    ensures refusal { IfErr result (IsProtoCause (nodes_of text.now)) }
 {
     match read_text(alloc, text) {
         Ok(reader) => reader.finish(),
@@ -59,8 +59,8 @@ fn read_nodes(alloc: Global, text: &[u8]) -> Result<Proto, ProtoFault>
 /// Reads the tokens of a text.
 #[tactic(auto, unfolding(crate::specs::Tokens::tokens_of))]
 fn read_text<'a>(alloc: Global, text: &'a [u8]) -> Result<Reader<'a>, ProtoFault>
-    ensures held { IfOk result (λ reader. after_tokens (tokens_of text.now) (Ok start) ≡ Ok (held reader)) }
-    ensures refusal { IfErr result (IsCause (after_tokens (tokens_of text.now) (Ok start))) }
+    ensures held { IfOk result (λ reader. after_tokens (tokens_of text.now) (Ok start) ≡ Ok (reader_state reader)) }
+    ensures refusal { IfErr result (IsProtoCause (after_tokens (tokens_of text.now) (Ok start))) }
 {
     let mut scan = Scan {
         reader: Reader::new(alloc),
@@ -83,7 +83,7 @@ impl<'a> Scan<'a> {
         requires inside { at < length text.now }
         ensures read { IfOk result (λ _. read_on text.now (at + 1) self.new ≡ read_on text.now at self.old) }
         ensures scan { OnOk result (IsScan (at + 1) self.new) }
-        ensures refusal { IfErr result (IsCause (read_on text.now at self.old)) }
+        ensures refusal { IfErr result (IsProtoCause (read_on text.now at self.old)) }
     {
         let byte = text[at];
         if !is_blank(byte) {
@@ -103,9 +103,9 @@ impl<'a> Scan<'a> {
     fn end_token(&mut self, alloc: Global, text: &'a [u8], at: usize) -> Result<(), ProtoFault>
         requires scan { IsScan at self.old }
         requires inside { at ≤ length text.now }
-        ensures held { IfOk result (λ _. after_tokens (ended self.old.line (place_of text.now at self.old.place)) (Ok (held self.old.reader)) ≡ Ok (held self.new.reader)) }
-        ensures steady { OnOk result (IsSteady self.new.reader) }
-        ensures refusal { IfErr result (IsCause (after_tokens (ended self.old.line (place_of text.now at self.old.place)) (Ok (held self.old.reader)))) }
+        ensures held { IfOk result (λ _. after_tokens (ended self.old.line (place_of text.now at self.old.place)) (Ok (reader_state self.old.reader)) ≡ Ok (reader_state self.new.reader)) }
+        ensures steady { OnOk result (HasEntryNames self.new.reader) }
+        ensures refusal { IfErr result (IsProtoCause (after_tokens (ended self.old.line (place_of text.now at self.old.place)) (Ok (reader_state self.old.reader)))) }
         ensures place { self.new.place ≡ self.old.place }
         ensures line { self.new.line ≡ self.old.line }
     {
@@ -118,8 +118,8 @@ impl<'a> Scan<'a> {
     /// Reads the token that ends with the text, where one does.
     fn finish(mut self, alloc: Global, text: &'a [u8]) -> Result<Reader<'a>, ProtoFault>
         requires scan { IsScan (length text.now) self }
-        ensures held { IfOk result (λ reader. read_on text.now (length text.now) self.entry ≡ Ok (held reader)) }
-        ensures refusal { IfErr result (IsCause (read_on text.now (length text.now) self.entry)) }
+        ensures held { IfOk result (λ reader. read_on text.now (length text.now) self.entry ≡ Ok (reader_state reader)) }
+        ensures refusal { IfErr result (IsProtoCause (read_on text.now (length text.now) self.entry)) }
     {
         match self.end_token(alloc, text, text.len()) {
             Ok(()) => {
@@ -149,7 +149,7 @@ fn next_line(byte: u8, line: u64) -> u64
 /// Where the byte behind a blank stands.
 fn behind_blank(byte: u8, place: Place) -> Place
     ensures told { (text : List ℕ) (at : ℕ) → place_of text (at + 1) result ≡ behind_blank byte (place_of text at place) }
-    ensures begins { (at : ℕ) → begins_before at result }
+    ensures begins { (at : ℕ) → TokenBeginsBefore at result }
 {
     match place {
         Place::Comment if byte != b'\n' => Place::Comment,
@@ -161,9 +161,9 @@ fn behind_blank(byte: u8, place: Place) -> Place
 #[tactic(auto, using(crate::proofs::Ranges::inside_more))]
 fn behind_byte(text: &[u8], at: usize, place: Place) -> Place
     requires inside { at < length text.now }
-    requires begins { begins_before at place }
+    requires begins { TokenBeginsBefore at place }
     ensures told { place_of text.now (at + 1) result ≡ behind_byte (slice_index text.now at) (place_of text.now at place) }
-    ensures begins { begins_before (at + 1) result }
+    ensures begins { TokenBeginsBefore (at + 1) result }
 {
     match place {
         Place::Between => begin(text[at], at),

@@ -6,8 +6,8 @@ use Rattle.xfs_geom.specs.declared.election.ElectFault.{ElectFault}
 use Rattle.xfs_geom.specs.declared.election.ElectFault.TheVariants as fault
 use Rattle.xfs_shell.specs.Shells.{HasElected, HasInput, IsOfLines, IsPastElection, IsShort, IsUndecided, input_lines, most_of, told_lines}
 use Rattle.xfs_shell.specs.Running.{until_quit}
-use Rattle.xfs_shell.specs.Lines.{line_parts}
-use Rattle.xfs_shell.specs.declared.lines.Cut.TheVariants.{LineFeeds}
+use Rattle.xfs_shell.specs.LineParts.{line_parts}
+use Rattle.xfs_shell.specs.declared.line_parts.Cut.TheVariants.{LineFeeds}
 use Rattle.xfs_shell.specs.declared.outcomes.ShellOutcome.{ShellOutcome}
 use Rattle.xfs_shell.specs.declared.outcomes.ShellOutcome.TheVariants.{Done, NoGeometry, Unsupported, ReadFault, WriteFault, InputFault, InputLong, OutputFault, NoMemory}
 

@@ -2,8 +2,8 @@
 use Rattle.std.proofs.Common.{◌≡◌, ℕ, Bool, true, false, cond, List, [], ◌∷◌, ◌++◌, refl, sym, ◌∙◌, ap, append_assoc}
 use Rattle.std.specs.List.{filter, slice_split, onto_first}
 use Rattle.std.proofs.lemmas.List.{append-nil}
-use Rattle.xfs_shell.specs.Lines.{is_cut, is_some, line_parts}
-use Rattle.xfs_shell.specs.declared.lines.Cut.{Cut}
+use Rattle.xfs_shell.specs.LineParts.{is_cut, is_some, line_parts}
+use Rattle.xfs_shell.specs.declared.line_parts.Cut.{Cut}
 
 -- the parts, with these bytes before the first
 abbrev pub onto : List ℕ → List (List ℕ) → List (List ℕ)

@@ -8,10 +8,10 @@ use Rattle.xfs_disk.specs.Blocks.{Image}
 use Rattle.xfs_geom.specs.Volumes.{Volume}
 use Rattle.xfs_commands.specs.Commands.{Effect, Put, Session}
 use Rattle.xfs_shell.specs.Ends.{HasLineCause, StandsBehind, IsPrefixPut, IsHalted, LeavesLine, PrintsLine}
-use Rattle.xfs_shell.specs.Running.{Run, after_line, attempts, begun, block_at_place, count_put, extended, image_after, shelled}
+use Rattle.xfs_shell.specs.Running.{SessionRun, after_line, attempts, begun, block_at_place, count_put, extended, image_after, shelled}
 use Rattle.xfs_commands.specs.Cursors.{is_quit}
 use Rattle.xfs_commands.specs.Verbs.{word_at}
-use Rattle.xfs_shell.specs.Lines.{line_parts}
+use Rattle.xfs_shell.specs.LineParts.{line_parts}
 use Rattle.xfs_shell.specs.Sessions.{IsWrittenBehind, LeavesAtStop, raised_put}
 use Rattle.xfs_shell.specs.Shells.{HasSessionCause, IsEarly, IsGoing, IsOfLines, LeavesDisk, Prints, outcome_behind, stopped_outcome}
 use Rattle.xfs_shell.proofs.Stepping.{HasEndCount, HasStopCount}
@@ -21,7 +21,7 @@ use Rattle.xfs_shell.specs.declared.running.LineEnd.{LineEnd}
 use Rattle.xfs_shell.specs.declared.running.LineEnd.TheVariants as end
 use Rattle.xfs_shell.specs.declared.session.Stop.{Stop}
 use Rattle.xfs_shell.specs.declared.session.Stop.TheVariants as stop
-use Rattle.xfs_shell.specs.declared.lines.Cut.TheVariants.{Blanks}
+use Rattle.xfs_shell.specs.declared.line_parts.Cut.TheVariants.{Blanks}
 use Rattle.xfs_commands.specs.declared.cursor.Verdict.{Verdict}
 use Rattle.xfs_shell.specs.declared.session.Leave.{Leave}
 
@@ -29,25 +29,25 @@ fold_append : {A B : Type 0} (f : B → A → B) (b : B) (xs ys : List A) → fo
 fold_append f b [] ys = refl
 fold_append f b (x ∷ xs) ys = fold_append f (f b x) xs ys
 
-one_stays : (v : Volume) (leave : Leave) (r : Run) (line : List ℕ) → r.quit ≡ true → after_line v leave r line ≡ r
+one_stays : (v : Volume) (leave : Leave) (r : SessionRun) (line : List ℕ) → r.quit ≡ true → after_line v leave r line ≡ r
 unfolding after_line
 one_stays v leave r line ended =
     ap (λ (q : Bool). if q then r else extended r (attempts v leave (line_parts Blanks line) (block_at_place r.image r.session.at) r.session)) ended
 
 -- a run that has ended stays
-ended_stays : (v : Volume) (leave : Leave) (r : Run) (lines : List (List ℕ)) → r.quit ≡ true → fold (after_line v leave) r lines ≡ r
+ended_stays : (v : Volume) (leave : Leave) (r : SessionRun) (lines : List (List ℕ)) → r.quit ≡ true → fold (after_line v leave) r lines ≡ r
 ended_stays v leave r [] ended = refl
 ended_stays v leave r (line ∷ lines) ended =
-    ap (λ (q : Run). fold (after_line v leave) q lines) (one_stays v leave r line ended) ∙ ended_stays v leave r lines ended
+    ap (λ (q : SessionRun). fold (after_line v leave) q lines) (one_stays v leave r line ended) ∙ ended_stays v leave r lines ended
 
-goes_on : (v : Volume) (leave : Leave) (r : Run) (line : List ℕ) → r.quit ≡ false
+goes_on : (v : Volume) (leave : Leave) (r : SessionRun) (line : List ℕ) → r.quit ≡ false
     → after_line v leave r line ≡ extended r (attempts v leave (line_parts Blanks line) (block_at_place r.image r.session.at) r.session)
 unfolding after_line
 goes_on v leave r line on =
     ap (λ (q : Bool). if q then r else extended r (attempts v leave (line_parts Blanks line) (block_at_place r.image r.session.at) r.session)) on
 
 -- the effect of the line of this number
-abbrev pub effect_at : Volume → Leave → Run → List ℕ → Effect
+abbrev pub effect_at : Volume → Leave → SessionRun → List ℕ → Effect
 effect_at v leave r line = attempts v leave (line_parts Blanks line) (block_at_place r.image r.session.at) r.session
 
 next_run : (v : Volume) (leave : Leave) (lines : List (List ℕ)) (image : Image) (i : ℕ) (d : List ℕ) → i < length lines
@@ -73,19 +73,19 @@ pub text_at_start : (before : List ℕ) (took : Option (List ℕ)) → took ≡ 
 text_at_start before took told = told ∙ ap (λ (t : List ℕ). Some t) (sym (append-nil before))
 
 -- where a run stands once the line behind the first i is run too
-pub record IsNext (r : Run) (verdict : Verdict) (session : Session) (now : Option Image) (writes writes_now : ℕ) : Type 0 where
+pub record IsNext (r : SessionRun) (verdict : Verdict) (session : Session) (now : Option Image) (writes writes_now : ℕ) : Type 0 where
   pub session_is : session ≡ r.session
   pub image_is : now ≡ Some r.image
   pub writes_are : writes_now ≡ raised_times r.writes writes
   pub quits : r.quit ≡ is_quit verdict
 
 -- the effect of a line is that of the run's session
-same_effect : (v : Volume) (leave : Leave) (r : Run) (line : List ℕ) (s : Session) → s ≡ r.session
+same_effect : (v : Volume) (leave : Leave) (r : SessionRun) (line : List ℕ) (s : Session) → s ≡ r.session
     → attempts v leave (line_parts Blanks line) (block_at_place r.image s.at) s ≡ effect_at v leave r line
 same_effect v leave r line s is = ap (λ (t : Session). attempts v leave (line_parts Blanks line) (block_at_place r.image t.at) t) is
 
 -- also where the line is known by another name
-due_effect : (v : Volume) (leave : Leave) (r : Run) (line other : List ℕ) (s : Session) → s ≡ r.session → line ≡ other
+due_effect : (v : Volume) (leave : Leave) (r : SessionRun) (line other : List ℕ) (s : Session) → s ≡ r.session → line ≡ other
     → attempts v leave (line_parts Blanks line) (block_at_place r.image s.at) s ≡ effect_at v leave r other
 due_effect v leave r line other s is line_is = same_effect v leave r line s is ∙ ap (λ (l : List ℕ). effect_at v leave r l) line_is
 
@@ -94,7 +94,7 @@ raised_more : (put : Put) (n writes : ℕ) → raised_put put (raised_times n wr
 raised_more None n writes = refl
 raised_more (Some put) n writes = refl
 
-extended_put : (r : Run) (e : Effect) (verdict : Verdict) (session : Session) (now : Option Image) (writes writes_now writes_then : ℕ)
+extended_put : (r : SessionRun) (e : Effect) (verdict : Verdict) (session : Session) (now : Option Image) (writes writes_now writes_then : ℕ)
     → writes_now ≡ raised_times r.writes writes → StandsBehind e r.image verdict session now writes_now writes_then → IsNext (extended r e) verdict session now writes writes_then
 extended_put r e verdict session now writes writes_now writes_then counted put =
     record {
@@ -123,14 +123,14 @@ module _ (v : Volume) (leave : Leave) (lines : List (List ℕ)) (image : Image) 
   -- the image behind the line
   pub next_image : i < length lines → line ≡ get_or lines i d → IsAt v leave lines image i s now writes writes_now
       → image_after line_effect.put (shelled v leave (take i lines) image).image ≡ (shelled v leave (take (i + 1) lines) image).image
-  next_image within line_is at = ap (λ (q : Run). q.image) (sym (due_run within line_is at))
+  next_image within line_is at = ap (λ (q : SessionRun). q.image) (sym (due_run within line_is at))
 
   next_at : (verdict : Verdict) (s' : Session) (now' : Option Image) (writes' : ℕ)
       → i < length lines → line ≡ get_or lines i d → IsAt v leave lines image i s now writes writes_now
       → StandsBehind line_effect (shelled v leave (take i lines) image).image verdict s' now' writes_now writes'
       → IsNext (shelled v leave (take (i + 1) lines) image) verdict s' now' writes writes'
   next_at verdict s' now' writes' within line_is at put =
-      subst (λ (q : Run). IsNext q verdict s' now' writes writes') (sym (due_run within line_is at))
+      subst (λ (q : SessionRun). IsNext q verdict s' now' writes writes') (sym (due_run within line_is at))
       (extended_put (shelled v leave (take i lines) image) line_effect verdict s' now' writes writes_now writes' at.writes_are put)
 
   pub stepped : (verdict : Verdict) (s' : Session) (now' : Option Image) (writes' : ℕ)
@@ -149,7 +149,7 @@ module _ (v : Volume) (leave : Leave) (lines : List (List ℕ)) (image : Image) 
   text_stepped before took' within line_is at put =
       put
       ∙ ap (λ (t : List ℕ). Some t) (append_assoc before (shelled v leave (take i lines) image).text line_effect.text)
-      ∙ ap (λ (q : Run). Some (before ++ q.text)) (sym (due_run within line_is at))
+      ∙ ap (λ (q : SessionRun). Some (before ++ q.text)) (sym (due_run within line_is at))
 
   -- behind a quit the lines leave what they left there
   ended_there : (verdict : Verdict) (s' : Session) (now' : Option Image) (writes' : ℕ)
@@ -168,8 +168,8 @@ module _ (v : Volume) (leave : Leave) (lines : List (List ℕ)) (image : Image) 
       let n = next_at verdict s' now' writes' within line_is at put in
       let whole = ended_there verdict s' now' writes' n off in
       record {
-        image_is = n.image_is ∙ ap (λ (q : Run). Some q.image) (sym whole);
-        writes_are = n.writes_are ∙ ap (λ (q : Run). raised_times q.writes writes) (sym whole);
+        image_is = n.image_is ∙ ap (λ (q : SessionRun). Some q.image) (sym whole);
+        writes_are = n.writes_are ∙ ap (λ (q : SessionRun). raised_times q.writes writes) (sym whole);
         finished_are = tt;
       }
 
@@ -182,7 +182,7 @@ module _ (v : Volume) (leave : Leave) (lines : List (List ℕ)) (image : Image) 
   text_quitted verdict s' now' writes' before took' within line_is at put off text =
       let n = next_at verdict s' now' writes' within line_is at put in
       text_stepped before took' within line_is at text
-      ∙ ap (λ (q : Run). Some (before ++ q.text)) (sym (ended_there verdict s' now' writes' n off))
+      ∙ ap (λ (q : SessionRun). Some (before ++ q.text)) (sym (ended_there verdict s' now' writes' n off))
 
   -- a command was stopped
   halted : (why : Stop) (now' : Option Image) (writes' : ℕ)
@@ -195,13 +195,13 @@ module _ (v : Volume) (leave : Leave) (lines : List (List ℕ)) (image : Image) 
   halted stop.NoMemory now' writes' within line_is at count stays =
       record { image_is = stays; writes_are = count ∙ at.writes_are; finished_are = (omega (arith, within), at.goes) }
   halted (stop.WriteFault written) now' writes' within line_is at count stays =
-      let r : Run = shelled v leave (take i lines) image in
+      let r : SessionRun = shelled v leave (take i lines) image in
       let next = due_run within line_is at in
       record {
-        image_is = subst (λ (im : Image). IsWrittenBehind written r.image im now') (ap (λ (q : Run). q.image) (sym next)) stays.0;
+        image_is = subst (λ (im : Image). IsWrittenBehind written r.image im now') (ap (λ (q : SessionRun). q.image) (sym next)) stays.0;
         writes_are = (
           count ∙ ap (λ (n : ℕ). raised_times written n) at.writes_are,
-          ap (λ (q : Run). q.writes) next ∙ put_counts line_effect.put r.writes stays.1,
+          ap (λ (q : SessionRun). q.writes) next ∙ put_counts line_effect.put r.writes stays.1,
         );
         finished_are = (omega (arith, within), (omega (arith, within), at.goes));
       }
@@ -213,16 +213,16 @@ module _ (v : Volume) (leave : Leave) (lines : List (List ℕ)) (image : Image) 
       → writes' ≡ raised_put line_effect.put writes_now
       → LeavesDisk v leave lines image now' writes writes' (OutputFault (i + 1))
   cut_short now' writes' within line_is at held count =
-      let r : Run = shelled v leave (take i lines) image in
+      let r : SessionRun = shelled v leave (take i lines) image in
       let next = due_run within line_is at in
       let less : i ≡ i + 1 - 1 = omega arith in
       record {
-        image_is = held ∙ ap (λ (q : Run). Some q.image) (sym next);
+        image_is = held ∙ ap (λ (q : SessionRun). Some q.image) (sym next);
         writes_are =
             count
             ∙ ap (λ (n : ℕ). raised_put line_effect.put n) at.writes_are
             ∙ raised_more line_effect.put r.writes writes
-            ∙ ap (λ (q : Run). raised_times q.writes writes) (sym next);
+            ∙ ap (λ (q : SessionRun). raised_times q.writes writes) (sym next);
         finished_are = (omega arith, omega (arith, within), subst (λ (k : ℕ). IsGoing v leave lines image k) less (omega (arith, within), at.goes));
       }
 
@@ -243,7 +243,7 @@ module _ (v : Volume) (leave : Leave) (lines : List (List ℕ)) (image : Image) 
   text_ended (end.Stopped (stop.WriteFault written)) before took' within line_is at put = put
   text_ended (end.Stopped stop.NoMemory) before took' within line_is at put = put
   text_ended end.OutputFault before took' within line_is at put =
-      let r : Run = shelled v leave (take i lines) image in
+      let r : SessionRun = shelled v leave (take i lines) image in
       let next = due_run within line_is at in
       let less : i ≡ i + 1 - 1 = omega arith in
       let prefix : IsPrefixPut before (length r.text) (extended r line_effect).text took' = (
@@ -256,7 +256,7 @@ module _ (v : Volume) (leave : Leave) (lines : List (List ℕ)) (image : Image) 
       )
       in
       subst (λ (k : ℕ). IsPrefixPut before (length (shelled v leave (take k lines) image).text) (shelled v leave (take (i + 1) lines) image).text took') less
-      (subst (λ (q : Run). IsPrefixPut before (length r.text) q.text took') (sym next) prefix)
+      (subst (λ (q : SessionRun). IsPrefixPut before (length r.text) q.text took') (sym next) prefix)
 
 -- all lines were run
 pub at_end : (v : Volume) (leave : Leave) (lines : List (List ℕ)) (image : Image) (i : ℕ) (s : Session) (now : Option Image) (writes writes_now : ℕ)

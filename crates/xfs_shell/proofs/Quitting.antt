@@ -6,11 +6,11 @@ use Rattle.std.specs.List.{filter, slice_split, onto_first}
 use Rattle.xfs_commands.specs.Verbs.{accepted}
 use Rattle.xfs_commands.specs.declared.commands.Verb.{Verb}
 use Rattle.xfs_commands.specs.declared.commands.Verb.TheVariants as verb
-use Rattle.xfs_shell.specs.Lines.{is_cut, is_some, line_parts}
+use Rattle.xfs_shell.specs.LineParts.{is_cut, is_some, line_parts}
 use Rattle.xfs_shell.specs.Running.{is_quit_verb, is_quit_words, is_push_verb, pushes_in, until_quit}
 use Rattle.xfs_shell.specs.Shells.{input_lines, most_of}
-use Rattle.xfs_shell.specs.declared.lines.Cut.{Cut}
-use Rattle.xfs_shell.specs.declared.lines.Cut.TheVariants.{Blanks, LineFeeds}
+use Rattle.xfs_shell.specs.declared.line_parts.Cut.{Cut}
+use Rattle.xfs_shell.specs.declared.line_parts.Cut.TheVariants.{Blanks, LineFeeds}
 
 -- the command is quit
 pub quit_is : (o : Option Verb) → is_quit_verb o ≡ true → o ≡ Some verb.Quit

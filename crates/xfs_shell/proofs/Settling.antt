@@ -4,7 +4,7 @@ use Rattle.xfs_disk.specs.Blocks.{Image}
 use Rattle.xfs_disk.specs.declared.failed.NoMemory.{NoMemory}
 use Rattle.xfs_commands.specs.Commands.{Effect, Session, Put, IsEffect}
 use Rattle.xfs_shell.specs.Running.{image_after}
-use Rattle.xfs_shell.specs.Sessions.{Outcome, raised_put, stopped}
+use Rattle.xfs_shell.specs.Sessions.{IsCommandOutcome, raised_put, stopped}
 use Rattle.xfs_shell.specs.Steps.{IsOneRead}
 use Rattle.xfs_shell.specs.Stops.{Passes}
 use Rattle.xfs_shell.specs.declared.session.Stop.{Stop}
@@ -13,7 +13,7 @@ use Rattle.xfs_commands.specs.declared.cursor.Verdict.{Verdict}
 
 pub settles : (e : Effect) (image : Image) (old new : List ℕ) (session : Session) (now : Option Image) (writes writes_now : ℕ) (result : Result Verdict NoMemory)
     → IfOk result (λ verdict. IsEffect e verdict old new session None) → now ≡ Some image → writes_now ≡ writes
-    → Outcome e image old new session now writes writes_now (stopped result)
+    → IsCommandOutcome e image old new session now writes writes_now (stopped result)
 settles e image old new session now writes writes_now (Ok verdict) done told same =
     record {
       verdict_is = done.verdict_is;

@@ -8,7 +8,7 @@ use Rattle.xfs_disk.proofs.Reading.{reads_none, reads_on}
 use Rattle.xfs_disk.specs.declared.failed.NoMemory.{NoMemory}
 use Rattle.xfs_commands.specs.declared.cursor.Verdict.{Verdict}
 use Rattle.xfs_shell.specs.Sessions.{stopped}
-use Rattle.xfs_shell.specs.Shells.{IsEarly, RunsOver, finished_in, most_finished, outcome_behind, stopped_outcome, written_in}
+use Rattle.xfs_shell.specs.Shells.{IsEarly, RunsOver, finished_in, most_finished, outcome_behind, stopped_outcome, blocks_written}
 use Rattle.xfs_shell.specs.Steps.{CountsStep, HasStopCause, IsDurable, IsOneRead, IsStep, IsWritten, stop_told, stop_of_line}
 use Rattle.xfs_shell.specs.declared.outcomes.ShellOutcome.{ShellOutcome}
 use Rattle.xfs_shell.specs.declared.outcomes.ShellOutcome.TheVariants as outcome
@@ -165,7 +165,7 @@ module _ {D : Type 0} (size : D → ℕ) (holds : D → Option Image) (faults wr
 
   stopped_reading : (may : Bool) → (k most : ℕ) → (ended : ShellOutcome) → (a b c : D)
       → AreRun size holds reads writes write_faults tells_stops moment may_leave left_since may k a b
-      → k + 1 ≤ most → finished_in ended ≡ k → most_finished most ended ≡ k → written_in ended ≡ 0 → (IsEarly ended → k ≡ 0)
+      → k + 1 ≤ most → finished_in ended ≡ k → most_finished most ended ≡ k → blocks_written ended ≡ 0 → (IsEarly ended → k ≡ 0)
       → (why : Option Stop) → IsOneRead size holds faults write_faults reads writes tells_stops moment may_leave left_since b c why
       → RunsOver size holds reads writes write_faults tells_stops moment may_leave left_since may most most a c ended
   stopped_reading may k most ended a b c run few finished finished_most none first why read = record {
@@ -233,7 +233,7 @@ module _ {D : Type 0} (size : D → ℕ) (holds : D → Option Image) (faults wr
   end_counted may end.OutputFault b c step = tt
 
   -- nothing was run, but maybe the disk read
-  pub over_early : (may : Bool) → (readable most : ℕ) → (ended : ShellOutcome) → (a b : D) → finished_in ended ≡ 0 → written_in ended ≡ 0
+  pub over_early : (may : Bool) → (readable most : ℕ) → (ended : ShellOutcome) → (a b : D) → finished_in ended ≡ 0 → blocks_written ended ≡ 0
       → OnlyReads size holds write_faults writes tells_stops moment may_leave left_since a b → reads b ≤ reads a + readable
       → RunsOver size holds reads writes write_faults tells_stops moment may_leave left_since may readable most a b ended
   over_early may readable most ended a b finished none only few = record {
@@ -272,7 +272,7 @@ module _ {D : Type 0} (size : D → ℕ) (holds : D → Option Image) (faults wr
     few_writes = (
       run.few_writes.0,
       omega (arith, run.few_writes.1, more_finished ended most more less),
-      run.few_writes.2 ∙ ap (λ (n : ℕ). raised_times (written_in ended) (raised_times run.few_writes.0 n)) only.same_writes,
+      run.few_writes.2 ∙ ap (λ (n : ℕ). raised_times (blocks_written ended) (raised_times run.few_writes.0 n)) only.same_writes,
     );
     one_written = run.one_written;
     barred = λ barred. reads_on size holds write_faults writes tells_stops moment may_leave left_since a b c only (run.barred barred);

@@ -1,4 +1,4 @@
-pub mod Lines
+pub mod LineParts
 pub mod Running
 pub mod Steps
 pub mod Sessions

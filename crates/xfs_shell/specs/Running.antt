@@ -6,13 +6,13 @@ use Rattle.xfs_geom.specs.Volumes.{Volume}
 use Rattle.xfs_commands.specs.Cursors.{is_quit, saved}
 use Rattle.xfs_commands.specs.Verbs.{accepted, at_place, runs_alone, word_at}
 use Rattle.xfs_commands.specs.Commands.{Session, Effect, Put, does, refuses, bad_command, no_address, addresses, prints, sets}
-use Rattle.xfs_shell.specs.Lines.{line_parts}
+use Rattle.xfs_shell.specs.LineParts.{line_parts}
 use Rattle.xfs_objects.specs.Objects.{object_in}
 use Rattle.xfs_commands.specs.declared.commands.Verb.{Verb}
 use Rattle.xfs_commands.specs.declared.commands.Verb.TheVariants.{Addr, Print, Push, Write, Quit}
 use Rattle.xfs_commands.specs.declared.cursor.Verdict.{Verdict}
 use Rattle.xfs_commands.specs.declared.cursor.Verdict.TheVariants as verdict
-use Rattle.xfs_shell.specs.declared.lines.Cut.TheVariants.{Blanks}
+use Rattle.xfs_shell.specs.declared.line_parts.Cut.TheVariants.{Blanks}
 use Rattle.xfs_objects.specs.declared.objects.ObjectPlace.{ObjectPlace}
 use Rattle.xfs_shell.specs.declared.session.Leave.{Leave}
 
@@ -121,14 +121,14 @@ count_put None count = count
 count_put (Some put) count = suc count
 
 -- what lines have printed, what they leave, and how many blocks they wrote
-pub record Run : Type 0 where
+pub record SessionRun : Type 0 where
   pub text : List ℕ
   pub session : Session
   pub image : Image
   pub writes : ℕ
   pub quit : Bool
 
-abbrev pub extended : Run → Effect → Run
+abbrev pub extended : SessionRun → Effect → SessionRun
 extended r e = record {
   text = r.text ++ e.text;
   session = e.session;
@@ -138,21 +138,21 @@ extended r e = record {
 }
 
 -- a run after one more line, which is run unless the run has ended
-unfoldable pub after_line : Volume → Leave → Run → List ℕ → Run
+unfoldable pub after_line : Volume → Leave → SessionRun → List ℕ → SessionRun
 after_line v leave r line =
     if r.quit then r
     else extended r (attempts v leave (line_parts Blanks line) (block_at_place r.image r.session.at) r.session)
 
 -- nothing was run yet
-abbrev pub begun : Image → Run
+abbrev pub begun : Image → SessionRun
 begun image = record { text = []; session = record { at = None; stack = [] }; image = image; writes = 0; quit = false }
 
 -- what the lines print and leave
-abbrev pub shelled : Volume → Leave → List (List ℕ) → Image → Run
+abbrev pub shelled : Volume → Leave → List (List ℕ) → Image → SessionRun
 shelled v leave lines image = fold (after_line v leave) (begun image) lines
 
 -- the run of the first lines
-abbrev pub shelled_first : Volume → Leave → List (List ℕ) → Image → ℕ → Run
+abbrev pub shelled_first : Volume → Leave → List (List ℕ) → Image → ℕ → SessionRun
 shelled_first v leave lines image k = shelled v leave (take k lines) image
 
 -- the words are the command quit, which ends a session wherever it stands

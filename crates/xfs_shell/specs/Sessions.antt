@@ -38,6 +38,6 @@ LeavesAtStop e image now stop.ReadFault = now ≡ Some image
 LeavesAtStop e image now stop.NoMemory = now ≡ Some image
 LeavesAtStop e image now (stop.WriteFault written) = IsWrittenBehind written image (image_after e.put image) now × (count_put e.put 0 ≡ 1)
 
-abbrev pub Outcome : Effect → Image → List ℕ → List ℕ → Session → Option Image → ℕ → ℕ → Result Verdict Stop → Type 0
-Outcome e image old new session now writes writes_now (Ok verdict) = IsRunCommand e image verdict old new session now writes writes_now
-Outcome e image old new session now writes writes_now (Err stop) = LeavesAtStop e image now stop
+abbrev pub IsCommandOutcome : Effect → Image → List ℕ → List ℕ → Session → Option Image → ℕ → ℕ → Result Verdict Stop → Type 0
+IsCommandOutcome e image old new session now writes writes_now (Ok verdict) = IsRunCommand e image verdict old new session now writes writes_now
+IsCommandOutcome e image old new session now writes writes_now (Err stop) = LeavesAtStop e image now stop

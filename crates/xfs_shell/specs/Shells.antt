@@ -10,11 +10,11 @@ use Rattle.xfs_geom.specs.Volumes.{Volume}
 use Rattle.xfs_geom.specs.declared.election.ElectFault.{ElectFault}
 use Rattle.xfs_geom.specs.declared.election.ElectFault.TheVariants as fault
 use Rattle.xfs_shell.specs.Ends.{IsPrefixPut}
-use Rattle.xfs_shell.specs.Lines.{line_parts}
+use Rattle.xfs_shell.specs.LineParts.{line_parts}
 use Rattle.xfs_shell.specs.Running.{shelled, shelled_first, until_quit}
 use Rattle.xfs_shell.specs.Sessions.{IsWrittenBehind}
 use Rattle.xfs_shell.specs.Steps.{IsDurable}
-use Rattle.xfs_shell.specs.declared.lines.Cut.TheVariants.{LineFeeds}
+use Rattle.xfs_shell.specs.declared.line_parts.Cut.TheVariants.{LineFeeds}
 use Rattle.xfs_shell.specs.declared.outcomes.ShellOptions.{ShellOptions}
 use Rattle.xfs_shell.specs.declared.outcomes.ShellOutcome.{ShellOutcome}
 use Rattle.xfs_shell.specs.declared.outcomes.ShellOutcome.TheVariants.{Done, NoGeometry, Unsupported, ReadFault, WriteFault, InputFault, InputLong, OutputFault, NoMemory}
@@ -174,9 +174,9 @@ most_finished most Done = most
 most_finished most outcome = finished_in outcome
 
 -- how many blocks the command in hand wrote
-abbrev pub written_in : ShellOutcome → ℕ
-written_in (WriteFault written k) = written
-written_in outcome = 0
+abbrev pub blocks_written : ShellOutcome → ℕ
+blocks_written (WriteFault written k) = written
+blocks_written outcome = 0
 
 -- no command was finished, and the one in hand, if any, wrote nothing
 abbrev pub IsEarly : ShellOutcome → Type 0
@@ -202,8 +202,8 @@ pub record RunsOver {D : Type 0} (size : D → ℕ) (holds : D → Option Image)
   pub tells : tells_stops old → tells_stops new
   pub few_reads : reads new ≤ reads old + readable
   pub few_finished : finished_in outcome ≤ most
-  pub few_writes : (m : ℕ) × (m ≤ most_finished most outcome) × (writes new ≡ raised_times (written_in outcome) (raised_times m (writes old)))
-  pub one_written : written_in outcome ≤ 1
+  pub few_writes : (m : ℕ) × (m ≤ most_finished most outcome) × (writes new ≡ raised_times (blocks_written outcome) (raised_times m (writes old)))
+  pub one_written : blocks_written outcome ≤ 1
   pub barred : may ≡ false → OnlyReads size holds write_faults writes tells_stops moment may_leave left_since old new
   pub early : IsEarly outcome → OnlyReads size holds write_faults writes tells_stops moment may_leave left_since old new
   pub kept : IsSynced outcome → tells_stops old → IsDurable holds may_leave old → IsDurable holds may_leave new

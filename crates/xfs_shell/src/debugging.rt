@@ -9,7 +9,7 @@ ghost use Rattle.xfs_shell.specs.Shells.{input_lines, leave_of, most_of, told_li
 ghost use Rattle.xfs_shell.specs.Stops.{HasPassed, StopsBetween};
 
 use crate::input::{InputFault, read_input};
-use crate::lines::{Cut, parts};
+use crate::line_parts::{Cut, parts};
 use crate::outcomes::{ShellOptions, ShellOutcome};
 use crate::running::run_lines;
 use crate::session::Leave;

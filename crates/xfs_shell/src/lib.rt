@@ -13,7 +13,7 @@
 
 mod debugging;
 mod input;
-mod lines;
+mod line_parts;
 mod outcomes;
 mod running;
 mod session;

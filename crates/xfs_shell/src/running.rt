@@ -6,15 +6,15 @@ ghost use Rattle.xfs_geom.specs.Volumes.{volume_of};
 ghost use Rattle.xfs_commands.specs.Commands.{session_of, IsWithin};
 ghost use Rattle.xfs_commands.specs.Cursors.{is_quit};
 ghost use Rattle.xfs_shell.specs.Running.{attempts, block_at_place, image_after, is_quit_words, may_write, until_quit};
-ghost use Rattle.xfs_shell.specs.Lines.{line_parts};
-ghost use Rattle.xfs_shell.specs.Sessions.{Outcome};
+ghost use Rattle.xfs_shell.specs.LineParts.{line_parts};
+ghost use Rattle.xfs_shell.specs.Sessions.{IsCommandOutcome};
 ghost use Rattle.xfs_shell.specs.Steps.{stop_told, stop_of_line, IsStep};
 ghost use Rattle.xfs_shell.specs.Stops.{HasPassed, Passes};
 ghost use Rattle.xfs_shell.specs.Ends.{HasCounts, HasLineCause, IsHalted, LeavesLine, PrintsLine};
 ghost use Rattle.xfs_shell.specs.Shells.{outcome_behind, stopped_outcome, HasSessionCause, IsEarly, IsOfLines, LeavesDisk, Prints, RunsOver};
-ghost use Rattle.xfs_shell.specs.declared.lines.Cut.TheVariants as Cut;
+ghost use Rattle.xfs_shell.specs.declared.line_parts.Cut.TheVariants as Cut;
 
-use crate::lines::{Cut, parts};
+use crate::line_parts::{Cut, parts};
 use crate::outcomes::ShellOutcome;
 use crate::session::{Leave, Stop, run_words};
 use std::alloc::Global;
@@ -68,7 +68,7 @@ fn run_line<D: Disk>(
     requires inside { geometry.now.dblocks ≤ D.size disk.old }
     requires within { IsWithin geometry.now.dblocks (session_of cursor.old) }
     ensures within { IsWithin geometry.now.dblocks (session_of cursor.new) }
-    ensures outcome { ForSome (D.holds disk.old) (λ image. Outcome (attempts (volume_of geometry.now) leave (line_parts Cut.Blanks line.now) (block_at_place image (session_of cursor.old).at) (session_of cursor.old)) image text.old.items text.new.items (session_of cursor.new) (D.holds disk.new) (D.writes disk.old) (D.writes disk.new) result) }
+    ensures outcome { ForSome (D.holds disk.old) (λ image. IsCommandOutcome (attempts (volume_of geometry.now) leave (line_parts Cut.Blanks line.now) (block_at_place image (session_of cursor.old).at) (session_of cursor.old)) image text.old.items text.new.items (session_of cursor.new) (D.holds disk.new) (D.writes disk.old) (D.writes disk.new) result) }
     ensures passes { ForSome (D.holds disk.old) (λ image. Passes D.holds D.tells_stops D.moment D.may_leave D.left_since image (image_after (attempts (volume_of geometry.now) leave (line_parts Cut.Blanks line.now) (block_at_place image (session_of cursor.old).at) (session_of cursor.old)).put image) disk.old disk.new) }
     ensures disk { IsStep D.size D.holds D.faults D.write_faults D.reads D.writes D.tells_stops D.moment D.may_leave D.left_since (may_write leave) disk.old disk.new (stop_told result) }
     ensures quits { is_quit_words (line_parts Cut.Blanks line.now) ≡ true → IfOk result (λ verdict. is_quit verdict ≡ true) }

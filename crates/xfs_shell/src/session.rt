@@ -7,7 +7,7 @@ ghost use Rattle.xfs_commands.specs.Commands.{session_of, IsWithin};
 ghost use Rattle.xfs_commands.specs.Cursors.{is_quit};
 ghost use Rattle.xfs_commands.specs.Verbs.{accepted};
 ghost use Rattle.xfs_shell.specs.Running.{attempts, block_at_place, image_after, is_push, is_push_verb, is_quit_verb, is_quit_words, pushes_in, may_write, runs, runs_addr, runs_first, runs_named, runs_placeless, runs_print, sets_here, writes};
-ghost use Rattle.xfs_shell.specs.Sessions.{stopped, IsWrittenBehind, Outcome};
+ghost use Rattle.xfs_shell.specs.Sessions.{stopped, IsWrittenBehind, IsCommandOutcome};
 ghost use Rattle.xfs_shell.specs.Stops.{Passes};
 ghost use Rattle.xfs_shell.specs.Steps.{stop_told, IsOneRead, IsStep, IsWritten};
 
@@ -63,7 +63,7 @@ fn run_verb<D: Disk>(
     requires inside { geometry.now.dblocks ≤ D.size disk.old }
     requires within { IsWithin geometry.now.dblocks (session_of cursor.old) }
     ensures within { IsWithin geometry.now.dblocks (session_of cursor.new) }
-    ensures outcome { ForSome (D.holds disk.old) (λ image. Outcome (runs (volume_of geometry.now) leave verb name.now arguments.now (block_at_place image (session_of cursor.old).at) (session_of cursor.old)) image text.old.items text.new.items (session_of cursor.new) (D.holds disk.new) (D.writes disk.old) (D.writes disk.new) result) }
+    ensures outcome { ForSome (D.holds disk.old) (λ image. IsCommandOutcome (runs (volume_of geometry.now) leave verb name.now arguments.now (block_at_place image (session_of cursor.old).at) (session_of cursor.old)) image text.old.items text.new.items (session_of cursor.new) (D.holds disk.new) (D.writes disk.old) (D.writes disk.new) result) }
     ensures passes { ForSome (D.holds disk.old) (λ image. Passes D.holds D.tells_stops D.moment D.may_leave D.left_since image (image_after (runs (volume_of geometry.now) leave verb name.now arguments.now (block_at_place image (session_of cursor.old).at) (session_of cursor.old)).put image) disk.old disk.new) }
     ensures disk { IsStep D.size D.holds D.faults D.write_faults D.reads D.writes D.tells_stops D.moment D.may_leave D.left_since (may_write leave) disk.old disk.new (stop_told result) }
     ensures quits { is_quit_verb (Some verb) ≡ true → IfOk result (λ verdict. is_quit verdict ≡ true) }
@@ -89,7 +89,7 @@ fn run_addr<D: Disk>(
     requires inside { geometry.now.dblocks ≤ D.size disk.old }
     requires within { IsWithin geometry.now.dblocks (session_of cursor.old) }
     ensures within { IsWithin geometry.now.dblocks (session_of cursor.new) }
-    ensures outcome { ForSome (D.holds disk.old) (λ image. Outcome (runs_addr (volume_of geometry.now) word.now (block_at_place image (session_of cursor.old).at) (session_of cursor.old)) image text.old.items text.new.items (session_of cursor.new) (D.holds disk.new) (D.writes disk.old) (D.writes disk.new) result) }
+    ensures outcome { ForSome (D.holds disk.old) (λ image. IsCommandOutcome (runs_addr (volume_of geometry.now) word.now (block_at_place image (session_of cursor.old).at) (session_of cursor.old)) image text.old.items text.new.items (session_of cursor.new) (D.holds disk.new) (D.writes disk.old) (D.writes disk.new) result) }
     ensures disk { IsOneRead D.size D.holds D.faults D.write_faults D.reads D.writes D.tells_stops D.moment D.may_leave D.left_since disk.old disk.new (stop_told result) }
 {
     let Some(place) = cursor.at else {
@@ -114,7 +114,7 @@ fn run_print<D: Disk>(
     text: &mut Vec<u8>,
 ) -> Result<Verdict, Stop>
     requires within { IsWithin (D.size disk.old) (session_of cursor.now) }
-    ensures outcome { ForSome (D.holds disk.old) (λ image. Outcome (runs_print arguments.now (block_at_place image (session_of cursor.now).at) (session_of cursor.now)) image text.old.items text.new.items (session_of cursor.now) (D.holds disk.new) (D.writes disk.old) (D.writes disk.new) result) }
+    ensures outcome { ForSome (D.holds disk.old) (λ image. IsCommandOutcome (runs_print arguments.now (block_at_place image (session_of cursor.now).at) (session_of cursor.now)) image text.old.items text.new.items (session_of cursor.now) (D.holds disk.new) (D.writes disk.old) (D.writes disk.new) result) }
     ensures disk { IsOneRead D.size D.holds D.faults D.write_faults D.reads D.writes D.tells_stops D.moment D.may_leave D.left_since disk.old disk.new (stop_told result) }
 {
     let Some(place) = cursor.at else {
@@ -140,7 +140,7 @@ fn run_write<D: Disk>(
     text: &mut Vec<u8>,
 ) -> Result<Verdict, Stop>
     requires within { IsWithin (D.size disk.old) (session_of cursor.now) }
-    ensures outcome { ForSome (D.holds disk.old) (λ image. Outcome (writes leave (block_at_place image (session_of cursor.now).at) arguments.now (session_of cursor.now)) image text.old.items text.new.items (session_of cursor.now) (D.holds disk.new) (D.writes disk.old) (D.writes disk.new) result) }
+    ensures outcome { ForSome (D.holds disk.old) (λ image. IsCommandOutcome (writes leave (block_at_place image (session_of cursor.now).at) arguments.now (session_of cursor.now)) image text.old.items text.new.items (session_of cursor.now) (D.holds disk.new) (D.writes disk.old) (D.writes disk.new) result) }
     ensures passes { ForSome (D.holds disk.old) (λ image. Passes D.holds D.tells_stops D.moment D.may_leave D.left_since image (image_after (writes leave (block_at_place image (session_of cursor.now).at) arguments.now (session_of cursor.now)).put image) disk.old disk.new) }
     ensures disk { IsStep D.size D.holds D.faults D.write_faults D.reads D.writes D.tells_stops D.moment D.may_leave D.left_since (may_write leave) disk.old disk.new (stop_told result) }
 {
@@ -163,7 +163,7 @@ fn run_set<D: Disk>(
     text: &mut Vec<u8>,
 ) -> Result<Verdict, Stop>
     requires within { IsWithin (D.size disk.old) (session_of cursor.now) }
-    ensures outcome { ForSome (D.holds disk.old) (λ image. Outcome (sets_here (block_at_place image (session_of cursor.now).at) arguments.now (session_of cursor.now)) image text.old.items text.new.items (session_of cursor.now) (D.holds disk.new) (D.writes disk.old) (D.writes disk.new) result) }
+    ensures outcome { ForSome (D.holds disk.old) (λ image. IsCommandOutcome (sets_here (block_at_place image (session_of cursor.now).at) arguments.now (session_of cursor.now)) image text.old.items text.new.items (session_of cursor.now) (D.holds disk.new) (D.writes disk.old) (D.writes disk.new) result) }
     ensures passes { ForSome (D.holds disk.old) (λ image. Passes D.holds D.tells_stops D.moment D.may_leave D.left_since image (image_after (sets_here (block_at_place image (session_of cursor.now).at) arguments.now (session_of cursor.now)).put image) disk.old disk.new) }
     ensures disk { IsStep D.size D.holds D.faults D.write_faults D.reads D.writes D.tells_stops D.moment D.may_leave D.left_since true disk.old disk.new (stop_told result) }
 {
@@ -239,7 +239,7 @@ fn run_command<D: Disk>(
     requires inside { geometry.now.dblocks ≤ D.size disk.old }
     requires within { IsWithin geometry.now.dblocks (session_of cursor.old) }
     ensures within { IsWithin geometry.now.dblocks (session_of cursor.new) }
-    ensures outcome { ForSome (D.holds disk.old) (λ image. Outcome (runs_first (volume_of geometry.now) leave words.now (block_at_place image (session_of cursor.old).at) (session_of cursor.old)) image text.old.items text.new.items (session_of cursor.new) (D.holds disk.new) (D.writes disk.old) (D.writes disk.new) result) }
+    ensures outcome { ForSome (D.holds disk.old) (λ image. IsCommandOutcome (runs_first (volume_of geometry.now) leave words.now (block_at_place image (session_of cursor.old).at) (session_of cursor.old)) image text.old.items text.new.items (session_of cursor.new) (D.holds disk.new) (D.writes disk.old) (D.writes disk.new) result) }
     ensures passes { ForSome (D.holds disk.old) (λ image. Passes D.holds D.tells_stops D.moment D.may_leave D.left_since image (image_after (runs_first (volume_of geometry.now) leave words.now (block_at_place image (session_of cursor.old).at) (session_of cursor.old)).put image) disk.old disk.new) }
     ensures disk { IsStep D.size D.holds D.faults D.write_faults D.reads D.writes D.tells_stops D.moment D.may_leave D.left_since (may_write leave) disk.old disk.new (stop_told result) }
     ensures quits { is_quit_words words.now ≡ true → IfOk result (λ verdict. is_quit verdict ≡ true) }
@@ -274,7 +274,7 @@ fn run_named<D: Disk>(
     requires inside { geometry.now.dblocks ≤ D.size disk.old }
     requires within { IsWithin geometry.now.dblocks (session_of cursor.old) }
     ensures within { IsWithin geometry.now.dblocks (session_of cursor.new) }
-    ensures outcome { ForSome (D.holds disk.old) (λ image. Outcome (runs_named (volume_of geometry.now) leave (accepted name.now (length arguments.now)) name.now arguments.now (block_at_place image (session_of cursor.old).at) (session_of cursor.old)) image text.old.items text.new.items (session_of cursor.new) (D.holds disk.new) (D.writes disk.old) (D.writes disk.new) result) }
+    ensures outcome { ForSome (D.holds disk.old) (λ image. IsCommandOutcome (runs_named (volume_of geometry.now) leave (accepted name.now (length arguments.now)) name.now arguments.now (block_at_place image (session_of cursor.old).at) (session_of cursor.old)) image text.old.items text.new.items (session_of cursor.new) (D.holds disk.new) (D.writes disk.old) (D.writes disk.new) result) }
     ensures passes { ForSome (D.holds disk.old) (λ image. Passes D.holds D.tells_stops D.moment D.may_leave D.left_since image (image_after (runs_named (volume_of geometry.now) leave (accepted name.now (length arguments.now)) name.now arguments.now (block_at_place image (session_of cursor.old).at) (session_of cursor.old)).put image) disk.old disk.new) }
     ensures disk { IsStep D.size D.holds D.faults D.write_faults D.reads D.writes D.tells_stops D.moment D.may_leave D.left_since (may_write leave) disk.old disk.new (stop_told result) }
     ensures quits { is_quit_verb (accepted name.now (length arguments.now)) ≡ true → IfOk result (λ verdict. is_quit verdict ≡ true) }
@@ -301,7 +301,7 @@ pub(crate) fn run_words<D: Disk>(
     requires inside { geometry.now.dblocks ≤ D.size disk.old }
     requires within { IsWithin geometry.now.dblocks (session_of cursor.old) }
     ensures within { IsWithin geometry.now.dblocks (session_of cursor.new) }
-    ensures outcome { ForSome (D.holds disk.old) (λ image. Outcome (attempts (volume_of geometry.now) leave words.now (block_at_place image (session_of cursor.old).at) (session_of cursor.old)) image text.old.items text.new.items (session_of cursor.new) (D.holds disk.new) (D.writes disk.old) (D.writes disk.new) result) }
+    ensures outcome { ForSome (D.holds disk.old) (λ image. IsCommandOutcome (attempts (volume_of geometry.now) leave words.now (block_at_place image (session_of cursor.old).at) (session_of cursor.old)) image text.old.items text.new.items (session_of cursor.new) (D.holds disk.new) (D.writes disk.old) (D.writes disk.new) result) }
     ensures passes { ForSome (D.holds disk.old) (λ image. Passes D.holds D.tells_stops D.moment D.may_leave D.left_since image (image_after (attempts (volume_of geometry.now) leave words.now (block_at_place image (session_of cursor.old).at) (session_of cursor.old)).put image) disk.old disk.new) }
     ensures disk { IsStep D.size D.holds D.faults D.write_faults D.reads D.writes D.tells_stops D.moment D.may_leave D.left_since (may_write leave) disk.old disk.new (stop_told result) }
     ensures quits { is_quit_words words.now ≡ true → IfOk result (λ verdict. is_quit verdict ≡ true) }
@@ -326,7 +326,7 @@ fn run_placeless<D: Disk>(
     requires inside { geometry.now.dblocks ≤ D.size disk.old }
     requires within { IsWithin geometry.now.dblocks (session_of cursor.old) }
     ensures within { IsWithin geometry.now.dblocks (session_of cursor.new) }
-    ensures outcome { ForSome (D.holds disk.old) (λ image. Outcome (runs_placeless (volume_of geometry.now) leave words.now (block_at_place image (session_of cursor.old).at) (session_of cursor.old)) image text.old.items text.new.items (session_of cursor.new) (D.holds disk.new) (D.writes disk.old) (D.writes disk.new) result) }
+    ensures outcome { ForSome (D.holds disk.old) (λ image. IsCommandOutcome (runs_placeless (volume_of geometry.now) leave words.now (block_at_place image (session_of cursor.old).at) (session_of cursor.old)) image text.old.items text.new.items (session_of cursor.new) (D.holds disk.new) (D.writes disk.old) (D.writes disk.new) result) }
     ensures passes { ForSome (D.holds disk.old) (λ image. Passes D.holds D.tells_stops D.moment D.may_leave D.left_since image (image_after (runs_placeless (volume_of geometry.now) leave words.now (block_at_place image (session_of cursor.old).at) (session_of cursor.old)).put image) disk.old disk.new) }
     ensures disk { IsStep D.size D.holds D.faults D.write_faults D.reads D.writes D.tells_stops D.moment D.may_leave D.left_since (may_write leave) disk.old disk.new (stop_told result) }
     ensures quits { is_quit_words words.now ≡ true → IfOk result (λ verdict. is_quit verdict ≡ true) }
@@ -353,7 +353,7 @@ fn run_behind<D: Disk>(
     requires inside { geometry.now.dblocks ≤ D.size disk.old }
     requires within { IsWithin geometry.now.dblocks (session_of cursor.old) }
     ensures within { IsWithin geometry.now.dblocks (session_of cursor.new) }
-    ensures outcome { ForSome (D.holds disk.old) (λ image. Outcome (attempts (volume_of geometry.now) leave words.now (block_at_place image (session_of cursor.old).at) (session_of cursor.old)) image text.old.items text.new.items (session_of cursor.new) (D.holds disk.new) (D.writes disk.old) (D.writes disk.new) result) }
+    ensures outcome { ForSome (D.holds disk.old) (λ image. IsCommandOutcome (attempts (volume_of geometry.now) leave words.now (block_at_place image (session_of cursor.old).at) (session_of cursor.old)) image text.old.items text.new.items (session_of cursor.new) (D.holds disk.new) (D.writes disk.old) (D.writes disk.new) result) }
     ensures passes { ForSome (D.holds disk.old) (λ image. Passes D.holds D.tells_stops D.moment D.may_leave D.left_since image (image_after (attempts (volume_of geometry.now) leave words.now (block_at_place image (session_of cursor.old).at) (session_of cursor.old)).put image) disk.old disk.new) }
     ensures disk { IsStep D.size D.holds D.faults D.write_faults D.reads D.writes D.tells_stops D.moment D.may_leave D.left_since (may_write leave) disk.old disk.new (stop_told result) }
     ensures quits { is_quit_words words.now ≡ true → IfOk result (λ verdict. is_quit verdict ≡ true) }

@@ -1,9 +1,9 @@
 use Rattle.std.proofs.Common.{◌≡◌, ◌∙◌, ap, subst, ℕ, List}
 use Rattle.xfs_geom.specs.Volumes.{volume_of}
-use Rattle.xfs_shell.specs.Lines.{line_parts}
+use Rattle.xfs_shell.specs.LineParts.{line_parts}
 use Rattle.xfs_shell.specs.Running.{may_write, until_quit}
 use Rattle.xfs_shell.specs.Shells.{LeavesDisk, Prints, input_lines, most_of}
-use Rattle.xfs_shell.specs.declared.lines.Cut.TheVariants.{LineFeeds}
+use Rattle.xfs_shell.specs.declared.line_parts.Cut.TheVariants.{LineFeeds}
 use Rattle.xfs_shell.specs.Stops.{HasPassed}
 use Rattle.xfs_shell.proofs.Asked.{input_lines_ran, past_lines, read_lines}
 use Rattle.xfs_shell.proofs.Quitting.{most_read}

@@ -2,10 +2,10 @@ use Rattle.std.proofs.Common.{◌≡◌, ◌∙◌, ◌++◌, [], Some, List, �
 use Rattle.xfs_geom.specs.Volumes.{volume_of}
 use Rattle.xfs_commands.specs.Commands.{session_of}
 use Rattle.xfs_commands.specs.Cursors.{is_quit}
-use Rattle.xfs_shell.specs.Lines.{line_parts}
+use Rattle.xfs_shell.specs.LineParts.{line_parts}
 use Rattle.xfs_shell.specs.Running.{is_quit_words, may_write, shelled, until_quit}
 use Rattle.xfs_shell.specs.Shells.{HasSessionCause, IsEarly, IsOfLines, LeavesDisk, Prints, RunsOver}
-use Rattle.xfs_shell.specs.declared.lines.Cut.TheVariants.{Blanks}
+use Rattle.xfs_shell.specs.declared.line_parts.Cut.TheVariants.{Blanks}
 use Rattle.xfs_shell.specs.declared.outcomes.ShellOutcome.{ShellOutcome}
 use Rattle.xfs_shell.proofs.Ending.{at_end, cause_behind, early_first, line_ended, line_is, next_image, quitted, ran_lines, stepped, text_at_end, text_ended, text_quitted, text_stepped}
 use Rattle.xfs_shell.proofs.Passing.{passed_more}

@@ -1,8 +1,8 @@
 -- Lines and their words (xfs_db(8)).
 use Rattle.std.specs.Prelude.{ℕ, Bool, ◌==◌, ◌||◌, not, List, length}
 use Rattle.std.specs.List.{filter, slice_split}
-use Rattle.xfs_shell.specs.declared.lines.Cut.{Cut}
-use Rattle.xfs_shell.specs.declared.lines.Cut.TheVariants.{Blanks, LineFeeds}
+use Rattle.xfs_shell.specs.declared.line_parts.Cut.{Cut}
+use Rattle.xfs_shell.specs.declared.line_parts.Cut.TheVariants.{Blanks, LineFeeds}
 
 -- the byte ends a part: a blank is a space or a tab
 abbrev pub is_cut : Cut → ℕ → Bool

@@ -1,7 +1,7 @@
 //! Lines, and the words of a line.
 
 ghost use Rattle.std.specs.Prelude.{◌≡◌, IfOk};
-ghost use Rattle.xfs_shell.specs.Lines.{is_cut, line_parts};
+ghost use Rattle.xfs_shell.specs.LineParts.{is_cut, line_parts};
 
 use std::alloc::Global;
 use xfs_disk::{NoMemory, Word};
