@@ -18,8 +18,8 @@ use Rattle.xfs_commands.specs.declared.cursor.Cursor.{Cursor}
 use Rattle.xfs_commands.specs.declared.cursor.Verdict.{Verdict}
 use Rattle.xfs_commands.specs.declared.cursor.Verdict.TheVariants.{Done, Refused, Quit}
 use Rattle.xfs_objects.specs.declared.convert.Measure.{Measure}
-use Rattle.xfs_objects.specs.declared.items.Shape.{Shape}
-use Rattle.xfs_objects.specs.declared.items.Shape.TheVariants.{Field, Pointer, Numbers}
+use Rattle.xfs_objects.specs.declared.items.ItemShape.{ItemShape}
+use Rattle.xfs_objects.specs.declared.items.ItemShape.TheVariants.{Field, Pointer, Numbers}
 use Rattle.xfs_objects.specs.declared.numbers.Typed.{Typed}
 use Rattle.xfs_objects.specs.declared.numbers.Typed.TheVariants.{NoNumber, TooLarge, Number}
 use Rattle.xfs_objects.specs.declared.objects.ObjectType.{ObjectType}
@@ -199,7 +199,7 @@ root_type kind.Agi name =
     else None
 root_type other name = None
 
-abbrev pub target_type : ObjectType → List ℕ → Shape → Option ObjectType
+abbrev pub target_type : ObjectType → List ℕ → ItemShape → Option ObjectType
 target_type kind name (Pointer width) = Some kind
 target_type kind name (Field width form) = root_type kind name
 target_type kind name (Numbers row) = None

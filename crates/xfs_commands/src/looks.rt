@@ -17,8 +17,8 @@ use xfs_disk::{NoMemory, Word};
 use xfs_geom::Geometry;
 use xfs_heads::layouts::{agf, agi};
 use xfs_objects::{
-    Item, ObjectPlace, ObjectType, Shape, Spot, named_item, number_width, push_line, push_whole,
-    spot_of_address,
+    Item, ItemShape, ObjectPlace, ObjectType, Spot, named_item, number_width, push_line,
+    push_whole, spot_of_address,
 };
 use xfs_word::field;
 
@@ -192,13 +192,13 @@ fn go_along_pointer(
 }
 
 /// The type of the block that an item of this name points at, where it points at one.
-fn target_type(kind: ObjectType, name: &[u8], shape: Shape) -> Option<ObjectType>
+fn target_type(kind: ObjectType, name: &[u8], shape: ItemShape) -> Option<ObjectType>
     ensures { result ≡ target_type kind name.now shape }
 {
     match shape {
-        Shape::Pointer { .. } => Some(kind),
-        Shape::Field { .. } => root_type(kind, name),
-        Shape::Numbers(_) => None,
+        ItemShape::Pointer { .. } => Some(kind),
+        ItemShape::Field { .. } => root_type(kind, name),
+        ItemShape::Numbers(_) => None,
     }
 }
 

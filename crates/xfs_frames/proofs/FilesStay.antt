@@ -36,7 +36,7 @@ use Rattle.xfs_image.specs.Keeping.{Keeps, Protected, byte_in, byte_over, file_b
 use Rattle.xfs_image.specs.Slots.{reads_as, slot_bytes}
 use Rattle.xfs_views.proofs.FileReads.{file_says}
 use Rattle.xfs_protected.proofs.Members.{Member, all_members, contained, contains, member_either}
-use Rattle.xfs_frames.specs.NamedBlocks.{blocks_named, blocks_under, named_blocks}
+use Rattle.xfs_frames.specs.NamedBlocks.{blocks_named, blocks_of_top, named_blocks}
 use Rattle.xfs_frames.specs.SameFiles.{HasSameClaims, HasSameSlot}
 use Rattle.xfs_frames.proofs.Claimed.{attr_claimed, data_claimed, tree_claimed}
 use Rattle.xfs_frames.proofs.SlotsRead.{slot_stays}
@@ -108,7 +108,7 @@ first_of e es same = subst (λ (xs : List Extent). Member e xs) same (inl refl)
 module _ (v : Volume) (image : Image) (ino : ℕ) (slot : List ℕ) (core : Core) where
   -- the blocks of a tree of extents that was read
   tree_has : (top : Option Top) → top ≡ top_of v core slot → (held : Contents Extent) → data_fork core slot (tree_under v image ino top) ≡ Some held → (block : ℕ)
-      → Member block (blocks_under v image ino top) → Member block held.blocks
+      → Member block (blocks_of_top v image ino top) → Member block held.blocks
   tree_has None named held reads block is = absurd is
   tree_has (Some top) named held reads block is =
       let root = when_some (core.format == 3 && is_fork_root v core slot) (Some (level_under v (root_capacity core.forkoff) slot)) top (sym named) in
@@ -188,10 +188,10 @@ extent_claimed v f es block each has =
     subst (λ (b : ℕ). claims v f b ≡ true) here (each has.extent 0 has.among (omega (arith, one)))
 
 -- a file claims each block that its slot names
-slot_claimed : (v : Volume) (image : Image) (ino : ℕ) (slot : List ℕ) (file : FileRec) → slot_reads v image ino slot ≡ Reads.File file
+pub slot_claimed : (v : Volume) (image : Image) (ino : ℕ) (slot : List ℕ) (file : FileRec) → slot_reads v image ino slot ≡ Reads.File file
     → (block : ℕ) → Member block (blocks_named v image ino slot) → claims v file block ≡ true
 slot_claimed v image ino slot file reads block named =
-    let under : List ℕ = blocks_under v image ino (named_top v ino slot) in
+    let under : List ℕ = blocks_of_top v image ino (named_top v ino slot) in
     let leaf : List ℕ = option_to_list (named_attr v ino slot) in
     let target : List ℕ = option_to_list (named_link v ino slot) in
     let is = file_says v ino slot (tree_under v image ino (named_top v ino slot)) (option_map (bytes_of_block image) (named_attr v ino slot)) (option_map (bytes_of_block image) (named_link v ino slot)) file reads in

@@ -17,13 +17,13 @@ use Rattle.xfs_image.specs.Claims.{candidate_files, candidate_inodes, file_if}
 use Rattle.xfs_image.specs.Files.{files_at, files_read, inodes_of, with_file_read}
 use Rattle.xfs_image.specs.Slots.{reads_as, slot_bytes}
 use Rattle.xfs_image.specs.declared.findings.Finding.{Finding}
-use Rattle.xfs_frames.specs.NamedBlocks.{blocks_named, blocks_under, named_blocks}
+use Rattle.xfs_frames.specs.NamedBlocks.{blocks_named, blocks_of_top, named_blocks}
 use Rattle.xfs_frames.specs.Same.{HoldSameBytes}
 use Rattle.xfs_frames.specs.SameFiles.{HasSameSlot}
 use Rattle.xfs_frames.proofs.TreesStay.{Each, each_front, each_rest, reading_stays}
 
 module _ (v : Volume) (image now : Image) where
-  under_same : (ino : ℕ) (top : Option Top) → Each image now (blocks_under v image ino top) → tree_under v now ino top ≡ tree_under v image ino top
+  under_same : (ino : ℕ) (top : Option Top) → Each image now (blocks_of_top v image ino top) → tree_under v now ino top ≡ tree_under v image ino top
   under_same ino None same = refl
   under_same ino (Some top) same = ap held_by (reading_stays (bmbt_shape ino) v image now (seats_of top.places top.lows []) top.level same)
 
@@ -31,9 +31,9 @@ module _ (v : Volume) (image now : Image) where
   one_same None same = refl
   one_same (Some block) same = ap (λ (bytes : List ℕ). Some bytes) same.0
 
-  named_same : (ino : ℕ) (slot : List ℕ) → Each image now (blocks_named v image ino slot) → slot_reads v now ino slot ≡ slot_reads v image ino slot
+  pub named_same : (ino : ℕ) (slot : List ℕ) → Each image now (blocks_named v image ino slot) → slot_reads v now ino slot ≡ slot_reads v image ino slot
   named_same ino slot same =
-      let under : List ℕ = blocks_under v image ino (named_top v ino slot) in
+      let under : List ℕ = blocks_of_top v image ino (named_top v ino slot) in
       let leaf : List ℕ = option_to_list (named_attr v ino slot) in
       let target : List ℕ = option_to_list (named_link v ino slot) in
       let others : Each image now (leaf ++ target) = each_rest image now under (leaf ++ target) same in

@@ -11,14 +11,14 @@ use Rattle.xfs_inode.specs.Named.{named_attr, named_link, named_top}
 use Rattle.xfs_image.specs.Slots.{slot_bytes}
 
 -- those of a tree of extents: the level under its root, and all levels below
-abbrev pub blocks_under : Volume → Image → ℕ → Option Top → List ℕ
-blocks_under v image ino None = []
-blocks_under v image ino (Some top) = met_above (bmbt_shape ino) v image (seats_of top.places top.lows []) (top.level + 1)
+abbrev pub blocks_of_top : Volume → Image → ℕ → Option Top → List ℕ
+blocks_of_top v image ino None = []
+blocks_of_top v image ino (Some top) = met_above (bmbt_shape ino) v image (seats_of top.places top.lows []) (top.level + 1)
 
 -- those of a slot: of the tree that it names, of a leaf of attributes, of the target of a symbolic link
 abbrev pub blocks_named : Volume → Image → ℕ → List ℕ → List ℕ
 blocks_named v image ino slot =
-    blocks_under v image ino (named_top v ino slot) ++ (option_to_list (named_attr v ino slot) ++ option_to_list (named_link v ino slot))
+    blocks_of_top v image ino (named_top v ino slot) ++ (option_to_list (named_attr v ino slot) ++ option_to_list (named_link v ino slot))
 
 -- those of the slot of an inode
 unfoldable pub named_blocks : Volume → Image → ℕ → List ℕ

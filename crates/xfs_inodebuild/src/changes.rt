@@ -11,8 +11,8 @@ ghost use Rattle.xfs_inode.specs.declared.reading.SlotRead.TheVariants as Read;
 ghost use Rattle.xfs_volume.specs.declared.cores.Core.{Core};
 ghost use Rattle.xfs_inodebuild.specs.Writing.{field_place, KeepsOthers};
 
-use crate::bytes::clear_part;
 use crate::seals::seal_slot;
+use crate::zeroing::clear_part;
 use xfs_geom::Geometry;
 use xfs_inode::fork_bytes;
 use xfs_inode::layouts::inode::{

@@ -5,7 +5,7 @@ ghost use Rattle.xfs_word.specs.Crc.{little_field_of};
 ghost use Rattle.xfs_word.specs.Field.{field_of, part_of, KeepsBeside, KeepsParts, IsZero};
 ghost use Rattle.xfs_inode.specs.Cores.{stated_core};
 
-use crate::bytes::clear;
+use crate::zeroing::clear_slot;
 use xfs_inode::layouts::inode::{
     AFORMAT, ANEXTENTS, ATIME, CHANGECOUNT, COWEXTSIZE, CRTIME, CTIME, EXTSIZE, FLAGS, FLAGS2,
     FORKOFF, FORMAT, GENERATION, GID, INO, LSN, MAGIC, MODE, MTIME, NBLOCKS, NEXT_UNLINKED,
@@ -24,7 +24,7 @@ pub fn put_core(core: &Core, slot: &mut [u8])
     ensures zero_before_crtime { IsZero slot.new 132 12 }
     ensures zero_forks { (at width : ℕ) → 176 ≤ at → at + width ≤ 512 → IsZero slot.new at width }
 {
-    clear(slot);
+    clear_slot(slot);
     put_kind(core, slot);
     put_owner(core, slot);
     put_times(core, slot);

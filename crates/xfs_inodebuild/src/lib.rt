@@ -13,11 +13,11 @@
 #![tactic(auto)]
 
 mod blank;
-mod bytes;
 mod changes;
 mod cores;
 mod forks;
 mod seals;
+mod zeroing;
 
 pub use blank::{free_slot, fresh_slot};
 pub use changes::{drop_attrs, set_links};

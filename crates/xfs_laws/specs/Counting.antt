@@ -78,14 +78,14 @@ group_chunks v files ag g =
 abbrev pub chunk_laws : Volume → List FileRec → List GroupRec → List Law
 chunk_laws v files groups = by_group (group_chunks v files) 0 groups
 
-abbrev pub tree_size : List TreeBlocks → ℕ → ℕ
-tree_size [] tree = 0
-tree_size (t ∷ ts) zero = length t.blocks
-tree_size (t ∷ ts) (suc tree) = tree_size ts tree
+abbrev pub count_tree_blocks : List TreeBlocks → ℕ → ℕ
+count_tree_blocks [] tree = 0
+count_tree_blocks (t ∷ ts) zero = length t.blocks
+count_tree_blocks (t ∷ ts) (suc tree) = count_tree_blocks ts tree
 
 -- the blocks of the trees by start, by length and by owner, but for one each
 abbrev pub spare_tree_blocks : List TreeBlocks → ℕ
-spare_tree_blocks trees = tree_size trees 0 + tree_size trees 1 + tree_size trees 4 - 3
+spare_tree_blocks trees = count_tree_blocks trees 0 + count_tree_blocks trees 1 + count_tree_blocks trees 4 - 3
 
 -- the fifth law for the counters of a group
 abbrev pub group_counts : ℕ → GroupRec → List Law
@@ -93,7 +93,7 @@ group_counts ag g =
     law_at 5 (8 * ag) g.agf.freeblks (free_blocks g.bno)
     ∷ law_at 5 (8 * ag + 1) g.agf.longest (longest g.bno)
     ∷ law_at 5 (8 * ag + 2) g.agf.btreeblks (spare_tree_blocks g.blocks)
-    ∷ law_at 5 (8 * ag + 3) g.agf.rmapblocks (tree_size g.blocks 4)
+    ∷ law_at 5 (8 * ag + 3) g.agf.rmapblocks (count_tree_blocks g.blocks 4)
     ∷ law_at 5 (8 * ag + 4) g.agi.count (slots g.ino)
     ∷ law_at 5 (8 * ag + 5) g.agi.freecount (free_slots g.ino)
     ∷ []

@@ -4,7 +4,7 @@ ghost use Rattle.std.specs.Prelude.{◌≡◌, ◌+◌, ◌*◌, ◌^◌, ◌<�
 ghost use Rattle.xfs_geom.specs.Sums.{slots, free_slots};
 ghost use Rattle.xfs_geom.specs.Volumes.{volume_of};
 ghost use Rattle.xfs_volume.specs.Laws.{first_broken};
-ghost use Rattle.xfs_laws.specs.Counting.{counter_laws, by_group, group_counts, room, spare_tree_blocks, tree_size, volume_counts};
+ghost use Rattle.xfs_laws.specs.Counting.{counter_laws, by_group, group_counts, room, spare_tree_blocks, count_tree_blocks, volume_counts};
 ghost use Rattle.xfs_volume.specs.Laws.{law_at};
 
 use crate::broken::first_broken;
@@ -55,7 +55,11 @@ fn group_counts(ag: u32, group: &GroupRec) -> [Law; 6]
             group.agf.btreeblks as u128,
             spare_tree_blocks(trees),
         ),
-        counter(place + 3, group.agf.rmapblocks as u128, tree_size(trees, 4)),
+        counter(
+            place + 3,
+            group.agf.rmapblocks as u128,
+            count_tree_blocks(trees, 4),
+        ),
         counter(place + 4, group.agi.count as u128, slots(chunks)),
         counter(place + 5, group.agi.freecount as u128, free_slots(chunks)),
     ]
@@ -109,12 +113,14 @@ fn spare_tree_blocks(trees: &[TreeBlocks]) -> u128
     ensures value { result ≡ spare_tree_blocks trees.now }
     ensures less { result < 2 ^ 66 }
 {
-    (tree_size(trees, 0) + tree_size(trees, 1) + tree_size(trees, 4)).saturating_sub(3)
+    (count_tree_blocks(trees, 0)
+        + count_tree_blocks(trees, 1)
+        + count_tree_blocks(trees, 4)).saturating_sub(3)
 }
 
 /// The blocks of one of the trees, by its place among them.
-fn tree_size(trees: &[TreeBlocks], tree: usize) -> u128
-    ensures value { result ≡ tree_size trees.now tree }
+fn count_tree_blocks(trees: &[TreeBlocks], tree: usize) -> u128
+    ensures value { result ≡ count_tree_blocks trees.now tree }
     ensures less { result < 2 ^ 64 }
 {
     if tree >= trees.len() {

@@ -26,4 +26,5 @@ mod named;
 mod parts;
 mod verdict;
 
+pub use named::are_named;
 pub use verdict::{is_catalog, lawful};

@@ -15,8 +15,8 @@ use Rattle.xfs_kinds.specs.FileTrees.{file_layout}
 use Rattle.xfs_kinds.specs.FreeTrees.{free_layout}
 use Rattle.xfs_kinds.specs.InodeTrees.{inode_layout}
 use Rattle.xfs_kinds.specs.OwnerTrees.{owner_layout}
-use Rattle.xfs_objects.specs.declared.items.Shape.{Shape}
-use Rattle.xfs_objects.specs.declared.items.Shape.TheVariants.{Field, Pointer, Numbers}
+use Rattle.xfs_objects.specs.declared.items.ItemShape.{ItemShape}
+use Rattle.xfs_objects.specs.declared.items.ItemShape.TheVariants.{Field, Pointer, Numbers}
 use Rattle.xfs_objects.specs.declared.items.PrintedRow.{PrintedRow}
 use Rattle.xfs_objects.specs.declared.items.PrintedRow.TheVariants.{Span, Chunk, ChunkStart, Owner, OwnerKeys, FileExtent, FileOffset}
 use Rattle.xfs_objects.specs.declared.items.ItemRun.{ItemRun}
@@ -42,7 +42,7 @@ abbrev pub field_item : FieldLayout → Item
 field_item f = record { name = f.name.now; offset = f.offset; shape = Field f.width f.form }
 
 -- so many items one after the other, whose indexes begin at the first
-unfoldable pub row_items : List ℕ → ℕ → ℕ → ℕ → ℕ → Shape → List Item
+unfoldable pub row_items : List ℕ → ℕ → ℕ → ℕ → ℕ → ItemShape → List Item
 row_items name first count offset step shape =
     map (λ (i : ℕ). record { name = indexed name (first + i); offset = offset + i * step; shape = shape }) (range_with_len 0 count)
 
@@ -104,13 +104,13 @@ row_len FileExtent = 16
 row_len FileOffset = 8
 
 -- the bytes of what is shown so
-abbrev pub shape_len : Shape → ℕ
+abbrev pub shape_len : ItemShape → ℕ
 shape_len (Field width form) = width
 shape_len (Pointer width) = width
 shape_len (Numbers row) = row_len row
 
 -- a field has a width that its form can show
-abbrev pub is_shown : Shape → Bool
+abbrev pub is_shown : ItemShape → Bool
 is_shown (Field width form.Identifier) = width == 16
 is_shown (Field width form.Checksum) = width == 4
 is_shown (Field width form.Text) = true
@@ -136,7 +136,7 @@ unfoldable pub item_named : ObjectType → List ℕ → List ℕ → Option Item
 item_named kind object word = find (λ i. bytes_eq i.name word) (items_of kind object ++ aliases_of kind)
 
 -- the bytes of a number, where the item holds one that can be set
-abbrev pub number_width : Shape → Option ℕ
+abbrev pub number_width : ItemShape → Option ℕ
 number_width (Field width form.Decimal) = Some width
 number_width (Field width form.Hexadecimal) = Some width
 number_width (Field width other) = None

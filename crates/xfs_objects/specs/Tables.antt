@@ -2,16 +2,16 @@
 -- (chapters "Superblocks", "AG Free Space Management", "AG Inode Management", "Common B+trees" and "On-disk Inode").
 use Rattle.std.specs.Prelude.{ℕ, codes, List, [], ◌∷◌}
 use Rattle.xfs_word.specs.declared.layout.Form.TheVariants.{Decimal, Hexadecimal, Identifier, Text, Checksum}
-use Rattle.xfs_objects.specs.declared.items.Shape.{Shape}
-use Rattle.xfs_objects.specs.declared.items.Shape.TheVariants.{Field}
+use Rattle.xfs_objects.specs.declared.items.ItemShape.{ItemShape}
+use Rattle.xfs_objects.specs.declared.items.ItemShape.TheVariants.{Field}
 
 -- what has a name in an object: where it stands there, in bytes, and how it is shown
 pub record Item : Type 0 where
   pub name : List ℕ
   pub offset : ℕ
-  pub shape : Shape
+  pub shape : ItemShape
 
-abbrev pub item : List ℕ → ℕ → Shape → Item
+abbrev pub item : List ℕ → ℕ → ItemShape → Item
 item name offset shape = record { name = name; offset = offset; shape = shape }
 
 -- a decimal number, a hexadecimal one, an identifier, a text and a checksum

@@ -14,8 +14,8 @@ use Rattle.xfs_objects.specs.Items.{items_of}
 use Rattle.xfs_objects.specs.Tables.{Item}
 use Rattle.xfs_objects.specs.declared.objects.ObjectType.{ObjectType}
 use Rattle.xfs_objects.specs.declared.objects.ObjectType.TheVariants as kind
-use Rattle.xfs_objects.specs.declared.items.Shape.{Shape}
-use Rattle.xfs_objects.specs.declared.items.Shape.TheVariants.{Field, Pointer, Numbers}
+use Rattle.xfs_objects.specs.declared.items.ItemShape.{ItemShape}
+use Rattle.xfs_objects.specs.declared.items.ItemShape.TheVariants.{Field, Pointer, Numbers}
 use Rattle.xfs_objects.specs.declared.items.PrintedRow.{PrintedRow}
 use Rattle.xfs_objects.specs.declared.items.PrintedRow.TheVariants.{Span, Chunk, ChunkStart, Owner, OwnerKeys, FileExtent, FileOffset}
 
@@ -69,7 +69,7 @@ field_text Identifier object at width = hyphenated_text 97 (part_of object at wi
 field_text Text object at width = quoted (part_of object at width)
 field_text Checksum object at width = codes "0x" ++ pairs (to_be_bytes w32 (little_field_of object at 4)) ++ verdict (has_checksum object at)
 
-abbrev pub shape_text : Shape → List ℕ → ℕ → List ℕ
+abbrev pub shape_text : ItemShape → List ℕ → ℕ → List ℕ
 shape_text (Field width form) object at = field_text form object at width
 shape_text (Pointer width) object at = decimal (field_of object at width)
 shape_text (Numbers row) object at = joined_numbers (row_numbers row object at)

@@ -8,7 +8,7 @@ ghost use Rattle.xfs_word.specs.Field.{is_width};
 ghost use Rattle.xfs_objects.specs.Items.{agfl_items, agi_items, aliases_of, array_items, block_items, child_items, field_item, is_inside, is_shown, item_named, item_of, items_of, number_width, record_items, run_items, row_len, shape_len, AllInside};
 ghost use Rattle.xfs_objects.specs.Objects.{object_size};
 ghost use Rattle.xfs_word.specs.declared.layout.FieldLayout.{FieldLayout};
-ghost use Rattle.xfs_objects.specs.declared.items.Shape.TheVariants as Shape;
+ghost use Rattle.xfs_objects.specs.declared.items.ItemShape.TheVariants as ItemShape;
 
 use crate::aliases::INODE_ALIASES;
 use crate::objects::ObjectType;
@@ -54,7 +54,7 @@ pub enum PrintedRow {
 
 /// How an item is shown. Widths are in bytes.
 #[derive(Clone, Copy, Debug, PartialEq, Eq)]
-pub enum Shape {
+pub enum ItemShape {
     /// A field or an entry of an array.
     Field { width: usize, form: Form },
     /// A pointer to a block of a tree.
@@ -70,7 +70,7 @@ pub struct Item {
     /// The index behind the name.
     pub index: Option<u32>,
     pub offset: usize,
-    pub shape: Shape,
+    pub shape: ItemShape,
 }
 
 /// Everything in an object that has a name, in the order of printing.
@@ -220,7 +220,7 @@ fn push_records(
         count: (get16(block, NUMRECS) as u64).min(layout.leaf_cap) as u32,
         offset: layout.header_len(),
         step: layout.record_len,
-        shape: Shape::Numbers(row),
+        shape: ItemShape::Numbers(row),
     };
     push_run(items, &run, 4096)
 }
@@ -247,7 +247,7 @@ fn push_children(
         count,
         offset: layout.header_len(),
         step: keys_len,
-        shape: Shape::Numbers(row),
+        shape: ItemShape::Numbers(row),
     };
     push_run(items, &keys, 4096)?;
     let pointers = ItemRun {
@@ -256,7 +256,7 @@ fn push_children(
         count,
         offset: layout.header_len() + layout.node_cap as usize * keys_len,
         step: layout.pointer_len(),
-        shape: Shape::Pointer {
+        shape: ItemShape::Pointer {
             width: layout.pointer_len(),
         },
     };
@@ -283,13 +283,13 @@ struct ItemRun {
     count: u32,
     offset: usize,
     step: usize,
-    shape: Shape,
+    shape: ItemShape,
 }
 
 /// Adds the entries of an array of a sector.
 fn push_array(items: &mut Vec<Item>, array: &ArrayLayout) -> Result<(), NoMemory>
     requires array { array.now.offset + array.now.count * 4 ≤ 512 }
-    requires shown { IsTrue (is_shown (Shape.Field 4 array.now.form)) }
+    requires shown { IsTrue (is_shown (ItemShape.Field 4 array.now.form)) }
     requires inside { AllInside 512 items.old.items }
     ensures items { OnOk result (map item_of items.new.items ≡ map item_of items.old.items ++ array_items array.now) }
     ensures inside { OnOk result (AllInside 512 items.new.items) }
@@ -300,7 +300,7 @@ fn push_array(items: &mut Vec<Item>, array: &ArrayLayout) -> Result<(), NoMemory
         count: array.count as u32,
         offset: array.offset,
         step: 4,
-        shape: Shape::Field {
+        shape: ItemShape::Field {
             width: 4,
             form: array.form,
         },
@@ -343,7 +343,7 @@ fn push_fields(items: &mut Vec<Item>, fields: &[FieldLayout], size: usize) -> Re
             name: field.name,
             index: None,
             offset: field.offset,
-            shape: Shape::Field {
+            shape: ItemShape::Field {
                 width: field.width,
                 form: field.form,
             },
@@ -425,17 +425,17 @@ fn push_index(text: &mut Vec<u8>, index: u32) -> Result<(), NoMemory>
 }
 
 /// The bytes of a number that can be set, where what is shown so is one.
-pub fn number_width(shape: Shape) -> Option<usize>
+pub fn number_width(shape: ItemShape) -> Option<usize>
     ensures value { result ≡ number_width shape }
     ensures width { IsTrue (is_shown shape) → IfSome result (λ width. IsTrue (is_width width)) }
     ensures long { IfSome result (λ width. width ≡ shape_len shape) }
 {
     match shape {
-        Shape::Field { width, form } => match form {
+        ItemShape::Field { width, form } => match form {
             Form::Decimal | Form::Hexadecimal => Some(width),
             _ => None,
         },
-        Shape::Pointer { width } => Some(width),
-        Shape::Numbers(_) => None,
+        ItemShape::Pointer { width } => Some(width),
+        ItemShape::Numbers(_) => None,
     }
 }

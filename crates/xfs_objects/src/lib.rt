@@ -24,7 +24,7 @@ mod values;
 
 pub use convert::{Measure, Spot, push_both, spot_of_address};
 pub use hexadecimal::{MOST_DIGITS, push_hexadecimal, write_hexadecimal};
-pub use items::{Item, PrintedRow, Shape, named_item, number_width};
+pub use items::{Item, ItemShape, PrintedRow, named_item, number_width};
 pub use numbers::{Typed, read_number};
 pub use objects::{ObjectPlace, ObjectType, SECTOR_SIZE};
 pub use values::{push_decimal, push_line, push_whole};

@@ -8,11 +8,11 @@ ghost use Rattle.xfs_objects.specs.Items.{is_inside, is_shown, item_of, row_len,
 ghost use Rattle.xfs_objects.specs.Objects.{object_size};
 ghost use Rattle.uuid.specs.Text.{hyphenated_text};
 ghost use Rattle.xfs_objects.specs.declared.items.PrintedRow.TheVariants as PrintedRow;
-ghost use Rattle.xfs_objects.specs.declared.items.Shape.TheVariants as Shape;
+ghost use Rattle.xfs_objects.specs.declared.items.ItemShape.TheVariants as ItemShape;
 ghost use Rattle.xfs_word.specs.declared.layout.Form.TheVariants as Form;
 ghost use Rattle.xfs_objects.specs.Values.{dump, dump_line, escaped, field_text, group_text, item_line, item_lines, joined_numbers, row_numbers, offset_text, pair, pairs, quoted, shape_text, value_text, whole_text};
 
-use crate::items::{Item, PrintedRow, Shape, items, push_name};
+use crate::items::{Item, ItemShape, PrintedRow, items, push_name};
 use crate::objects::ObjectType;
 use itoa::Buffer;
 use std::alloc::Global;
@@ -78,9 +78,9 @@ fn push_value(text: &mut Vec<u8>, object: &[u8], item: &Item) -> Result<(), NoMe
     ensures { OnOk result (text.new.items ≡ text.old.items ++ value_text object.now (item_of item.now)) }
 {
     match item.shape {
-        Shape::Field { width, form } => push_field(text, object, form, item.offset, width),
-        Shape::Pointer { width } => push_decimal(text, field(object, item.offset, width)),
-        Shape::Numbers(row) => push_row(text, object, row, item.offset),
+        ItemShape::Field { width, form } => push_field(text, object, form, item.offset, width),
+        ItemShape::Pointer { width } => push_decimal(text, field(object, item.offset, width)),
+        ItemShape::Numbers(row) => push_row(text, object, row, item.offset),
     }
 }
 
@@ -93,7 +93,7 @@ fn push_field(
     width: usize,
 ) -> Result<(), NoMemory>
     requires inside { at + width ≤ length object.now }
-    requires shown { IsTrue (is_shown (Shape.Field width form)) }
+    requires shown { IsTrue (is_shown (ItemShape.Field width form)) }
     ensures { OnOk result (text.new.items ≡ text.old.items ++ field_text form object.now at width) }
 {
     match form {

@@ -17,7 +17,7 @@ use Rattle.xfs_geom.specs.Writing.{IsAcceptedSector}
 use Rattle.xfs_geom.specs.declared.reading.SuperFault.{SuperFault}
 use Rattle.xfs_geom.specs.declared.reading.SuperFault.TheVariants.{NotSealed}
 use Rattle.xfs_geom.specs.declared.stated.Stated.{Stated}
-use Rattle.xfs_sizing.specs.Supers.{HasNumbers, Number, number, place_numbers, part_numbers, size_numbers, counter_numbers, feature_numbers}
+use Rattle.xfs_sizing.specs.Supers.{HasNumbers, PlacedNumber, number, place_numbers, part_numbers, size_numbers, counter_numbers, feature_numbers}
 use Rattle.xfs_sizing.proofs.Numbers.{read}
 use Rattle.xfs_sizing.proofs.Stated.{log_inside, group_of, ag_block_of, block_of}
 
@@ -34,7 +34,7 @@ pub record IsNew (v : Volume) : Type 0 where
   pub shape : IsShaped v.dblocks v.agblocks v.agcount v.agblklog v.log v.logblocks v.rootino v.logsectlog
   pub no_sectors : v.logsectlog ≡ 0
 
-d : Number
+d : PlacedNumber
 d = number 0 0 0
 
 -- it is ready to be sealed

@@ -4,7 +4,7 @@ use Rattle.std.specs.Option.{unwrap_or}
 use Rattle.xfs_geom.specs.First.{first_false}
 use Rattle.xfs_geom.specs.Groups.{blocks_of_group}
 use Rattle.xfs_geom.specs.declared.geometry.Geometry.{Geometry}
-use Rattle.xfs_sizing.specs.declared.asked.Asked.{Asked}
+use Rattle.xfs_sizing.specs.declared.asked.SizesAsked.{SizesAsked}
 use Rattle.xfs_sizing.specs.declared.sizes.GroupSizes.{GroupSizes}
 
 -- how many parts of a size hold so many blocks
@@ -12,7 +12,7 @@ abbrev pub parts : ℕ → ℕ → ℕ
 parts blocks size = (blocks + size - 1) / size
 
 -- the blocks of the volume: those that are asked for, or all of the disk
-abbrev pub volume_blocks : Asked → ℕ → ℕ
+abbrev pub volume_blocks : SizesAsked → ℕ → ℕ
 volume_blocks a blocks = unwrap_or a.blocks blocks
 
 -- the groups: of a size, or else so many, four where nothing is asked
@@ -26,7 +26,7 @@ abbrev pub groups_by : Option ℕ → Option ℕ → ℕ → GroupSizes
 groups_by (Some size) count dblocks = of_size dblocks size
 groups_by None count dblocks = so_many dblocks (unwrap_or count 4)
 
-abbrev pub groups_of : Asked → ℕ → GroupSizes
+abbrev pub groups_of : SizesAsked → ℕ → GroupSizes
 groups_of a dblocks = groups_by a.agblocks a.agcount dblocks
 
 -- the volume lies on the disk, and has at most 2^26 blocks
@@ -57,14 +57,14 @@ abbrev pub log_blocks : Option ℕ → GroupSizes → ℕ → ℕ
 log_blocks asked g dblocks = unwrap_or asked (max (max 512 (dblocks / 1024)) (kernel_log g dblocks))
 
 -- the first bound that is broken: that of blocks (1), of groups (2), of the log (3)
-unfoldable pub too_small : Asked → ℕ → Option ℕ
+unfoldable pub too_small : SizesAsked → ℕ → Option ℕ
 too_small a blocks =
     let dblocks = volume_blocks a blocks in
     let groups = groups_of a dblocks in
     first_false ((1, fits_disk dblocks blocks) ∷ (2, are_groups groups dblocks) ∷ (3, has_log_room groups dblocks (log_blocks a.logblocks groups dblocks)) ∷ [])
 
 -- the geometry that is chosen on a disk of so many blocks; its addresses have the least bits that hold an AG block, as in every geometry
-pub record IsChosenGeometry (a : Asked) (blocks : ℕ) (uuid : List ℕ) (g : Geometry) : Type 0 where
+pub record IsChosenGeometry (a : SizesAsked) (blocks : ℕ) (uuid : List ℕ) (g : Geometry) : Type 0 where
   pub dblocks : g.dblocks ≡ volume_blocks a blocks
   pub agblocks : g.agblocks ≡ (groups_of a (volume_blocks a blocks)).size
   pub agcount : g.agcount ≡ (groups_of a (volume_blocks a blocks)).count

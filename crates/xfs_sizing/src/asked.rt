@@ -2,7 +2,7 @@
 
 /// What is asked of the sizes of a new volume, where it is; at most one of `agcount` and `agblocks`.
 #[derive(Clone, Copy, Debug, PartialEq, Eq)]
-pub struct Asked {
+pub struct SizesAsked {
     /// The blocks of the volume: by default all of the disk's.
     pub blocks: Option<u64>,
     /// How many allocation groups there are: by default 4.

@@ -18,6 +18,6 @@ mod asked;
 mod sizes;
 mod superblock;
 
-pub use asked::Asked;
+pub use asked::SizesAsked;
 pub use sizes::choose;
 pub use superblock::put_super;

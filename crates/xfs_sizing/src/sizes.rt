@@ -5,7 +5,7 @@ ghost use Rattle.xfs_geom.specs.Groups.{blocks_of_group};
 ghost use Rattle.xfs_geom.specs.Shape.{HasAddresses, HasGroups};
 ghost use Rattle.xfs_sizing.specs.Sizes.{IsChosenGeometry, groups_by, has_log_room, has_room, kernel_log, log_blocks, of_size, so_many, too_small, where_kept};
 
-use crate::asked::Asked;
+use crate::asked::SizesAsked;
 use xfs_geom::Geometry;
 
 /// The most blocks of a volume.
@@ -55,7 +55,7 @@ pub struct GroupSizes {
 /// The geometry of a new volume on a disk of so many blocks; or which bound it breaks: that of blocks (1), of groups (2)
 /// or of the log (3), the first of them.
 #[tactic(auto, unfolding(crate::specs::Sizes::too_small))]
-pub fn choose(asked: &Asked, blocks: u64, uuid: [u8; 16]) -> Result<Geometry, u8>
+pub fn choose(asked: &SizesAsked, blocks: u64, uuid: [u8; 16]) -> Result<Geometry, u8>
     ensures refused { IfErr result (λ what. too_small asked.now blocks ≡ Some what) }
     ensures fits { IfOk result (λ g. too_small asked.now blocks ≡ None) }
     ensures chosen { IfOk result (λ g. IsChosenGeometry asked.now blocks uuid g) }

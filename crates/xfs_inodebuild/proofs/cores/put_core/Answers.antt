@@ -4,19 +4,19 @@ use Rattle.xfs_inodebuild.proofs.cores.put_core.Goals as goal
 
 pub returns-clause-zero_behind_format : goal.returns-clause-zero_behind_format
 returns-clause-zero_behind_format c =
-    let kept : part_of c.put_birth.new.slot 6 2 ≡ part_of c.clear.new.slot 6 2 = search rules in kept ∙ c.clear.ensures 6 2 (lit≤ tt)
+    let kept : part_of c.put_birth.new.slot 6 2 ≡ part_of c.clear_slot.new.slot 6 2 = search rules in kept ∙ c.clear_slot.ensures 6 2 (lit≤ tt)
 
 pub returns-clause-zero_before_times : goal.returns-clause-zero_before_times
 returns-clause-zero_before_times c =
-    let kept : part_of c.put_birth.new.slot 24 8 ≡ part_of c.clear.new.slot 24 8 = search rules in kept ∙ c.clear.ensures 24 8 (lit≤ tt)
+    let kept : part_of c.put_birth.new.slot 24 8 ≡ part_of c.clear_slot.new.slot 24 8 = search rules in kept ∙ c.clear_slot.ensures 24 8 (lit≤ tt)
 
 pub returns-clause-zero_before_flags : goal.returns-clause-zero_before_flags
 returns-clause-zero_before_flags c =
-    let kept : part_of c.put_birth.new.slot 84 6 ≡ part_of c.clear.new.slot 84 6 = search rules in kept ∙ c.clear.ensures 84 6 (lit≤ tt)
+    let kept : part_of c.put_birth.new.slot 84 6 ≡ part_of c.clear_slot.new.slot 84 6 = search rules in kept ∙ c.clear_slot.ensures 84 6 (lit≤ tt)
 
 pub returns-clause-zero_before_crtime : goal.returns-clause-zero_before_crtime
 returns-clause-zero_before_crtime c =
-    let kept : part_of c.put_birth.new.slot 132 12 ≡ part_of c.clear.new.slot 132 12 = search rules in kept ∙ c.clear.ensures 132 12 (lit≤ tt)
+    let kept : part_of c.put_birth.new.slot 132 12 ≡ part_of c.clear_slot.new.slot 132 12 = search rules in kept ∙ c.clear_slot.ensures 132 12 (lit≤ tt)
 
 pub returns-clause-zero_forks : goal.returns-clause-zero_forks
 returns-clause-zero_forks c =
@@ -31,4 +31,4 @@ returns-clause-zero_forks c =
     ∙ (c.put_counts.ensures.keeps_parts at width (inr counts)
     ∙ (c.put_times.ensures.keeps_parts at width (inr times)
     ∙ (c.put_owner.ensures.keeps_parts at width (inr owner)
-    ∙ (c.put_kind.ensures.keeps_parts at width (inr kind) ∙ c.clear.ensures at width high)))))
+    ∙ (c.put_kind.ensures.keeps_parts at width (inr kind) ∙ c.clear_slot.ensures at width high)))))

@@ -1,6 +1,6 @@
 use Rattle.std.proofs.Common.{ℕ, replicate, ◌∙◌, ap}
 use Rattle.xfs_inodebuild.proofs.Zeros.{zero_part}
-use Rattle.xfs_inodebuild.proofs.bytes.clear.Goals as goal
+use Rattle.xfs_inodebuild.proofs.zeroing.clear_slot.Goals as goal
 
 pub returns : goal.returns
 returns c =

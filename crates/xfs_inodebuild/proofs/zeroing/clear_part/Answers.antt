@@ -1,6 +1,6 @@
 use Rattle.std.proofs.Common.{◌≤◌, arith}
 use Rattle.xfs_inodebuild.proofs.Zeros.{zero_put}
-use Rattle.xfs_inodebuild.proofs.bytes.clear_part.Goals as goal
+use Rattle.xfs_inodebuild.proofs.zeroing.clear_part.Goals as goal
 
 pub returns-clause-zero : goal.returns-clause-zero
 returns-clause-zero c =

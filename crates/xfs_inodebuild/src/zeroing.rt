@@ -6,7 +6,7 @@ ghost use Rattle.xfs_word.specs.Field.{KeepsBeside, KeepsParts, IsZero};
 use xfs_word::put_part;
 
 /// Makes each byte of a slot zero.
-pub fn clear(slot: &mut [u8])
+pub fn clear_slot(slot: &mut [u8])
     requires { length slot.old ≡ 512 }
     ensures { (at width : ℕ) → at + width ≤ 512 → IsZero slot.new at width }
 {
