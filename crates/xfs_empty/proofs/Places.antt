@@ -15,7 +15,7 @@ use Rattle.xfs_render.specs.Clusters.{CanCluster}
 use Rattle.xfs_render.specs.Rendering.{is_head}
 use Rattle.xfs_render.specs.declared.wanted_slots.SlotWanted.{SlotWanted}
 use Rattle.xfs_empty.specs.Bytes.{AreFirstSlots, empty_places, header_places}
-use Rattle.xfs_empty.specs.Inodes.{free_slot}
+use Rattle.xfs_empty.specs.Inodes.{unused_slot}
 use Rattle.xfs_empty.proofs.Kept.{many}
 use Rattle.xfs_empty.proofs.Slots.{AreNumbered, first_can, slot_can, wanted_is}
 
@@ -102,7 +102,7 @@ numbered g s slots first =
     record { each = λ k d low. (first.each k d (omega (arith, low, first.count))).number }
 
 no_slot : SlotWanted
-no_slot = free_slot 0
+no_slot = unused_slot 0
 
 -- what is wanted of the slots of a block of the first chunk can be made, whatever stood there before
 pub chunk_can : (g : Geometry) (s : Stamp) (slots : List SlotWanted) (block place : ℕ) (old : List ℕ) → AreFirstSlots g s slots → block < 8

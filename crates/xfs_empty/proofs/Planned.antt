@@ -19,7 +19,7 @@ use Rattle.xfs_place.specs.declared.placed.Placed.{Placed}
 use Rattle.xfs_place.specs.declared.wanted.Wanted.{Wanted}
 use Rattle.xfs_render.specs.Groups.{CanPack, IsSoundGroup, tree_places}
 use Rattle.xfs_render.proofs.ObjectSteps.{blocks_low, places_low}
-use Rattle.xfs_render.specs.Drafts.{places_of}
+use Rattle.xfs_render.specs.Drafts.{row_places}
 use Rattle.xfs_render.specs.Objects.{asks_with_kind, object_blocks, object_places}
 use Rattle.xfs_render.specs.Plans.{planned}
 use Rattle.xfs_render.specs.Rendering.{IsReady, IsRendered, blocks_in_place, fresh_blocks, group_placed, wanted_inodes, kept_blocks, log_places, new_blocks, no_group, tree_blocks, volume}
@@ -98,10 +98,10 @@ pub planned_low : (w : Wanted) (p : Placed) (b : Bytes) (plan : Plan) → IsRead
     → All (λ place. place < w.geometry.dblocks) (planned plan)
 planned_low w p b plan ready rendered =
     let P : ℕ → Type 0 = λ place. place < w.geometry.dblocks in
-    All-append P (places_of plan.fresh) (places_of plan.in_place)
-    (All-permutation P (fresh_blocks w p b) (places_of plan.fresh) rendered.fresh
+    All-append P (row_places plan.fresh) (row_places plan.in_place)
+    (All-permutation P (fresh_blocks w p b) (row_places plan.fresh) rendered.fresh
     (All-append P (tree_blocks p) (object_places w p ++ new_blocks w b) (trees_low w p b ready)
     (All-append P (object_places w p) (new_blocks w b) (objects_low w p b ready) (All-filter (is_taken w.new) P b.places ready.inside))))
-    (All-permutation P (blocks_in_place w b) (places_of plan.in_place) rendered.in_place
+    (All-permutation P (blocks_in_place w b) (row_places plan.in_place) rendered.in_place
     (All-append P (kept_blocks w b) (log_places w b.cycle) (All-filter (λ place. not (is_taken w.new place)) P b.places ready.inside)
     (blank_low w b.cycle)))

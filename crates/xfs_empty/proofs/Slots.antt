@@ -6,7 +6,7 @@ use Rattle.xfs_disk.specs.declared.stamp.Stamp.{Stamp}
 use Rattle.xfs_geom.specs.Volumes.{Volume}
 use Rattle.xfs_render.specs.Slots.{CanMake, CanSlot, IsFreshCore, wanted_of}
 use Rattle.xfs_render.specs.declared.wanted_slots.SlotWanted.{SlotWanted}
-use Rattle.xfs_empty.specs.Inodes.{IsFirstSlot, IsRootSlot, free_slot, root_core, system_core, system_slot}
+use Rattle.xfs_empty.specs.Inodes.{IsFirstSlot, IsRootSlot, unused_slot, root_core, system_core, system_slot}
 
 -- slots with numbers that go up by one from a on
 pub record AreNumbered (a : ℕ) (slots : List SlotWanted) : Type 0 where
@@ -80,7 +80,7 @@ system_can : (v : Volume) (s : Stamp) (ino : ℕ) (w : SlotWanted) (old : List �
 system_can v s ino w old is =
     subst (λ (x : SlotWanted). CanMake v x old) (sym is) (record { base = system_fresh v s ino; forkoff = omega arith; fork = tt })
 
-free_can : (v : Volume) (ino : ℕ) (w : SlotWanted) (old : List ℕ) → w ≡ free_slot ino → CanMake v w old
+free_can : (v : Volume) (ino : ℕ) (w : SlotWanted) (old : List ℕ) → w ≡ unused_slot ino → CanMake v w old
 free_can v ino w old is =
     subst (λ (x : SlotWanted). CanMake v x old) (sym is) (record { base = tt; forkoff = omega arith; fork = tt })
 

@@ -73,12 +73,12 @@ pub record IsRootSlot (v : Volume) (s : Stamp) (w : SlotWanted) : Type 0 where
 abbrev pub system_slot : Volume → Stamp → ℕ → SlotWanted
 system_slot v s ino = record { ino = ino; base = Fresh (system_core v s ino); drop_attrs = None; fork = None; nlink = None }
 
-abbrev pub free_slot : ℕ → SlotWanted
-free_slot ino = record { ino = ino; base = Free; drop_attrs = None; fork = None; nlink = None }
+abbrev pub unused_slot : ℕ → SlotWanted
+unused_slot ino = record { ino = ino; base = Free; drop_attrs = None; fork = None; nlink = None }
 
 -- what is wanted of a slot of the first chunk
 pub record IsFirstSlot (v : Volume) (s : Stamp) (ino : ℕ) (w : SlotWanted) : Type 0 where
   pub number : w.ino ≡ ino
   pub root : ino ≡ 128 → IsRootSlot v s w
   pub system : 129 ≤ ino → ino < 131 → w ≡ system_slot v s ino
-  pub free : 131 ≤ ino → w ≡ free_slot ino
+  pub free : 131 ≤ ino → w ≡ unused_slot ino

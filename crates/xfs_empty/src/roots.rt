@@ -2,7 +2,7 @@
 
 ghost use Rattle.std.specs.Prelude.{◌≡◌, ◌≤◌, ◌<◌, IfOk};
 ghost use Rattle.xfs_geom.specs.Volumes.{volume_of};
-ghost use Rattle.xfs_empty.specs.Inodes.{IsFirstSlot, IsRootFork, IsRootSlot, fresh_core, root_core, system_core, system_slot, free_slot, time_of};
+ghost use Rattle.xfs_empty.specs.Inodes.{IsFirstSlot, IsRootFork, IsRootSlot, fresh_core, root_core, system_core, system_slot, unused_slot, time_of};
 
 use std::alloc::Global;
 use xfs_dirdata::put_short;
@@ -139,8 +139,8 @@ fn system_slot(g: &Geometry, stamp: &Stamp, ino: u64) -> SlotWanted
 }
 
 /// What is wanted of the slot of a free inode.
-fn free_slot(ino: u64) -> SlotWanted
-    ensures { result ≡ free_slot ino }
+fn unused_slot(ino: u64) -> SlotWanted
+    ensures { result ≡ unused_slot ino }
 {
     SlotWanted {
         ino,
@@ -167,5 +167,5 @@ pub fn first_slot(
     if ino < ROOT_INODE + 3 {
         return Ok(system_slot(g, stamp, ino));
     }
-    Ok(free_slot(ino))
+    Ok(unused_slot(ino))
 }

@@ -20,7 +20,7 @@ use Rattle.xfs_image.specs.Slots.{slot_bytes}
 use Rattle.xfs_render.specs.Slots.{IsFreeSlot, IsFreshSlot, IsMadeSlot, SetsFork}
 use Rattle.xfs_render.specs.declared.wanted_slots.SlotBase.TheVariants as Base
 use Rattle.xfs_render.specs.declared.wanted_slots.SlotWanted.{SlotWanted}
-use Rattle.xfs_empty.specs.Inodes.{IsRootFork, IsRootSlot, free_slot, root_core, system_core, system_slot}
+use Rattle.xfs_empty.specs.Inodes.{IsRootFork, IsRootSlot, unused_slot, root_core, system_core, system_slot}
 use Rattle.xfs_empty.proofs.Chunk.{first_length}
 use Rattle.xfs_made.specs.Files.{HasFirstSlot, HasFirstSlots}
 
@@ -45,7 +45,7 @@ slot_is v block k ino groups addresses few inside at =
     (omega arith))
 
 -- a free slot
-made_free : (v : Volume) (generation ino : ℕ) (old new : List ℕ) → IsMadeSlot v generation (free_slot ino) old new → IsFreeSlot v ino generation new
+made_free : (v : Volume) (generation ino : ℕ) (old new : List ℕ) → IsMadeSlot v generation (unused_slot ino) old new → IsFreeSlot v ino generation new
 made_free v generation ino old new made =
     let same : new ≡ made.based = made.links ∙ (made.fork ∙ made.attrs) in
     subst (λ (slot : List ℕ). IsFreeSlot v ino generation slot) (sym same) made.base

@@ -22,7 +22,7 @@ use Rattle.xfs_empty.proofs.Kept.{many}
 use Rattle.xfs_empty.proofs.Places.{chunk_at, chunk_inode, count_places, head_at, numbered}
 use Rattle.xfs_empty.proofs.Slots.{wanted_is}
 use Rattle.xfs_empty.specs.Bytes.{IsEmptyBytes}
-use Rattle.xfs_empty.specs.Inodes.{free_slot}
+use Rattle.xfs_empty.specs.Inodes.{unused_slot}
 use Rattle.xfs_empty.specs.Placing.{empty_wanted}
 use Rattle.xfs_empty.specs.Planning.{IsEmptyPlan}
 use Rattle.xfs_made.specs.Files.{HasFirstSlot, HasFirstSlots}
@@ -45,7 +45,7 @@ plan_stands g sector s plan blocks image is whole enough held =
     }
 
 no_slot : SlotWanted
-no_slot = free_slot 0
+no_slot = unused_slot 0
 
 -- what is wanted of a slot was made
 due_made : (v : Volume) (generation : ℕ) (slots : List SlotWanted) (ino : ℕ) (old new : List ℕ) (w : SlotWanted) → wanted_of slots ino ≡ Some w

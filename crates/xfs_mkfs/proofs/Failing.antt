@@ -15,7 +15,7 @@ use Rattle.xfs_empty.specs.Placing.{empty_wanted}
 use Rattle.xfs_empty.specs.Planning.{HasRoom}
 use Rattle.xfs_mkfs.specs.Counts.{CountsBlocks, CountsReads, IsUnwritten, LooksPartly, looked}
 use Rattle.xfs_mkfs.specs.Due.{IsGeometry, refusal}
-use Rattle.xfs_mkfs.specs.Outcome.{IsMakingCause, IsDueMake, IsPlanOf, IsPlanned, MakeLeaves, place_answer, put_answer}
+use Rattle.xfs_mkfs.specs.Outcome.{IsMakingCause, IsDueMake, IsPlanOf, IsPlanned, MakeLeaves, place_outcome, put_outcome}
 use Rattle.xfs_mkfs.specs.Putting.{CountsPut, HasPutCause, LeavesUnput}
 use Rattle.xfs_mkfs.specs.Stops.{IsDurableMake, IsMadeStopped, StopLeaves}
 use Rattle.xfs_mkfs.specs.declared.outcome.MakeOutcome.{MakeOutcome}
@@ -32,7 +32,7 @@ no_memory what h = cc
 pub due_placing : (o : MakeOptions) (s : Stamp) (blocks : ℕ) (image : Image) (g : Geometry) → refusal o blocks image ≡ None → IsGeometry o s blocks g
     → (fault : PlaceFault)
     → (fault ≡ Placing.NoMemory) ⊎ ((what : Unplaced) × (fault ≡ Placing.NoRoom what) × FindsNoRoom (empty_wanted g) what)
-    → IsDueMake o s blocks image (place_answer fault)
+    → IsDueMake o s blocks image (place_outcome fault)
 due_placing o s blocks image g none chosen Placing.NoMemory cause = tt
 due_placing o s blocks image g none chosen (Placing.NoRoom what) (inl is) = absurd (no_memory what is)
 due_placing o s blocks image g none chosen (Placing.NoRoom what) (inr found) = (
@@ -44,37 +44,37 @@ due_placing o s blocks image g none chosen (Placing.NoRoom what) (inr found) = (
   },
 )
 
-pub caused_placing : (a b c d : ℕ) (fault : PlaceFault) → IsMakingCause a b c d (place_answer fault)
+pub caused_placing : (a b c d : ℕ) (fault : PlaceFault) → IsMakingCause a b c d (place_outcome fault)
 caused_placing a b c d Placing.NoMemory = tt
 caused_placing a b c d (Placing.NoRoom what) = tt
 
 pub due_putting : (o : MakeOptions) (s : Stamp) (blocks : ℕ) (image : Image) (g : Geometry) → refusal o blocks image ≡ None → IsGeometry o s blocks g
-    → HasRoom (empty_wanted g) → (fault : PutFault) → IsDueMake o s blocks image (put_answer fault)
+    → HasRoom (empty_wanted g) → (fault : PutFault) → IsDueMake o s blocks image (put_outcome fault)
 due_putting o s blocks image g none chosen room Put.NoMemory = tt
 due_putting o s blocks image g none chosen room (Put.Failed n) = (none, record { geometry = g; chosen = chosen; room = room })
 
 pub leaves_putting : (o : MakeOptions) (s : Stamp) (blocks : ℕ) (image : Image) (now : Option Image) (g : Geometry) (plan : Plan)
     → IsGeometry o s blocks g → IsPlanned g o.label s plan → (fault : PutFault) → LeavesUnput plan image now fault
-    → MakeLeaves o s blocks image now (put_answer fault)
+    → MakeLeaves o s blocks image now (put_outcome fault)
 leaves_putting o s blocks image now g plan chosen is Put.NoMemory left = left
 leaves_putting o s blocks image now g plan chosen is (Put.Failed n) left =
     record { geometry = g; chosen = chosen; plan = plan; planned = is; put = left }
 
-pub caused_putting : (a b c d : ℕ) (fault : PutFault) → HasPutCause c d (Err fault) → IsMakingCause a b c d (put_answer fault)
+pub caused_putting : (a b c d : ℕ) (fault : PutFault) → HasPutCause c d (Err fault) → IsMakingCause a b c d (put_outcome fault)
 caused_putting a b c d Put.NoMemory cause = tt
 caused_putting a b c d (Put.Failed n) cause = cause
 
 -- nothing was written where placing failed
-pub unwritten_placing : (fault : PlaceFault) → IsUnwritten (place_answer fault)
+pub unwritten_placing : (fault : PlaceFault) → IsUnwritten (place_outcome fault)
 unwritten_placing Placing.NoMemory = tt
 unwritten_placing (Placing.NoRoom what) = tt
 
-pub reads_placing : (force : Bool) (before now : ℕ) (fault : PlaceFault) → now ≡ looked force before → CountsReads force before now (place_answer fault)
+pub reads_placing : (force : Bool) (before now : ℕ) (fault : PlaceFault) → now ≡ looked force before → CountsReads force before now (place_outcome fault)
 reads_placing force before now Placing.NoMemory is = is
 reads_placing force before now (Placing.NoRoom what) is = is
 
 -- what was read and written where writing failed
-pub reads_putting : (force : Bool) (before now : ℕ) (fault : PutFault) → now ≡ looked force before → CountsReads force before now (put_answer fault)
+pub reads_putting : (force : Bool) (before now : ℕ) (fault : PutFault) → now ≡ looked force before → CountsReads force before now (put_outcome fault)
 reads_putting force before now Put.NoMemory is = is
 reads_putting force before now (Put.Failed n) is = is
 
@@ -105,23 +105,23 @@ not_looked true before is = refl
 not_looked false before is = cc
 
 pub counts_putting : (o : MakeOptions) (s : Stamp) (blocks before now : ℕ) (plan : Plan) → IsPlanOf o s blocks plan → (fault : PutFault)
-    → CountsPut plan before now (Err fault) → CountsBlocks o s blocks before now (put_answer fault)
+    → CountsPut plan before now (Err fault) → CountsBlocks o s blocks before now (put_outcome fault)
 counts_putting o s blocks before now plan due Put.NoMemory counted = counted
 counts_putting o s blocks before now plan due (Put.Failed n) counted = record { plan = plan; due = due; most = counted.0; counted = counted.1 }
 
-pub kept_putting : (tells : Type 0) (now : Option Image) (may_leave : ℕ → List ℕ → Type 0) (fault : PutFault) → IsDurableMake tells now may_leave (put_answer fault)
+pub kept_putting : (tells : Type 0) (now : Option Image) (may_leave : ℕ → List ℕ → Type 0) (fault : PutFault) → IsDurableMake tells now may_leave (put_outcome fault)
 kept_putting tells now may_leave Put.NoMemory = tt
 kept_putting tells now may_leave (Put.Failed n) = tt
 
 -- memory is wanting where nothing was written
-pub unwritten_putting : (fault : PutFault) → IsUnwritten (put_answer fault) → fault ≡ Put.NoMemory
+pub unwritten_putting : (fault : PutFault) → IsUnwritten (put_outcome fault) → fault ≡ Put.NoMemory
 unwritten_putting Put.NoMemory is = refl
 unwritten_putting (Put.Failed n) is = absurd is
 
 -- what a stop leaves where writing failed
 pub stops_putting : (o : MakeOptions) (s : Stamp) (blocks : ℕ) (image stopped : Image) (fault : PutFault) (before now : Type 0)
     → (fault ≡ Put.NoMemory → now → before) → (now → before ⊎ IsMadeStopped o s blocks image stopped) → now
-    → before ⊎ StopLeaves o s blocks image stopped (put_answer fault)
+    → before ⊎ StopLeaves o s blocks image stopped (put_outcome fault)
 stops_putting o s blocks image stopped Put.NoMemory before now same left it = inl (same refl it)
 stops_putting o s blocks image stopped (Put.Failed n) before now same left it = left it
 

@@ -9,7 +9,7 @@ use Rattle.xfs_geom.specs.declared.geometry.Geometry.{Geometry}
 use Rattle.xfs_options.specs.declared.make_words.MakeOptions.{MakeOptions}
 use Rattle.xfs_sizing.proofs.Shapes.{log_behind}
 use Rattle.xfs_sizing.specs.Sizes.{are_groups, fits_disk, groups_of, has_log_room, log_blocks, too_small, volume_blocks}
-use Rattle.xfs_sizing.specs.declared.asked.Asked.{Asked}
+use Rattle.xfs_sizing.specs.declared.asked.SizesAsked.{SizesAsked}
 use Rattle.xfs_empty.specs.Geometry.{HasFirstChunk}
 use Rattle.xfs_mkfs.specs.Due.{IsGeometry, asked_of}
 
@@ -18,7 +18,7 @@ first_holds k true rest h = refl
 first_holds k false rest h = cc
 
 -- a volume that is not too large lies on the disk
-pub on_disk : (a : Asked) (blocks : ℕ) → too_small a blocks ≡ None → volume_blocks a blocks ≤ blocks
+pub on_disk : (a : SizesAsked) (blocks : ℕ) → too_small a blocks ≡ None → volume_blocks a blocks ≤ blocks
 unfolding too_small
 on_disk a blocks h =
     let d = volume_blocks a blocks in

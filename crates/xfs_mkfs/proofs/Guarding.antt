@@ -11,7 +11,7 @@ use Rattle.xfs_disk.specs.Blocks.{Image}
 use Rattle.xfs_disk.specs.declared.stamp.Stamp.{Stamp}
 use Rattle.xfs_geom.specs.declared.geometry.Geometry.{Geometry}
 use Rattle.xfs_place.specs.Pool.{is_taken}
-use Rattle.xfs_render.specs.Drafts.{places_of}
+use Rattle.xfs_render.specs.Drafts.{row_places}
 use Rattle.xfs_render.specs.Plans.{IsOnce, plan_rows, planned}
 use Rattle.xfs_render.specs.Rendering.{blocks_in_place, log_places}
 use Rattle.xfs_render.specs.declared.bytes.Bytes.{Bytes}
@@ -62,7 +62,7 @@ has_zero g sector s plan is =
     let here : Contains (blocks_in_place w b) 0 =
     subst (λ (ps : List ℕ). Contains (filter is_open ps ++ log_places w b.cycle) 0) (sym is.made.places')
     (zero_kept g.agblocks g.agcount (range_with_len 16 8) (log_places w b.cycle) g.shape.groups.two) in
-    Contains-append_right (places_of plan.fresh) (places_of plan.in_place) 0 (Contains-permutation (blocks_in_place w b) (places_of plan.in_place) 0 is.is.rendered.in_place here)
+    Contains-append_right (row_places plan.fresh) (row_places plan.in_place) 0 (Contains-permutation (blocks_in_place w b) (row_places plan.in_place) 0 is.is.rendered.in_place here)
 
 -- the first of rows that ascend is at block 0, where one is
 last_zero : (rows : List Row) (r : Row) → IsNonDecreasingBy (λ (o : Row). o.at) rows → r.at ≡ 0 → Contains rows r → All (λ (o : Row). o.at ≡ 0) (last_part rows)

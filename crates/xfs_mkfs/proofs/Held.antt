@@ -8,7 +8,7 @@ use Rattle.std.proofs.lemmas.List.{get_or-map, get_or_default, get_or-set_other,
 use Rattle.std.proofs.lemmas.List.Sorted.{Contains-permutation, IsPermutation-append_comm, IsPermutation-trans, sum_by-IsPermutation}
 use Rattle.std.proofs.lemmas.List.Sums.{sum_by-cons}
 use Rattle.xfs_disk.specs.Blocks.{Image, bytes_of_block}
-use Rattle.xfs_render.specs.Drafts.{HoldsRows, places_of}
+use Rattle.xfs_render.specs.Drafts.{HoldsRows, row_places}
 use Rattle.xfs_render.specs.Plans.{HoldsPlan, IsOnce, plan_rows, planned}
 use Rattle.xfs_render.specs.declared.plan.Plan.{Plan}
 use Rattle.xfs_mkfs.proofs.Rows.{count_plan, planned_is, row_at}
@@ -64,13 +64,13 @@ count_writes bank at (r ∷ rows) =
     omega (arith, both, rest, count_writes bank at rows)
 
 -- and those are the planned blocks
-pub count_rows : (at : ℕ) (rows : List Row) → sum_by (λ (r : Row). one_if (r.at == at)) rows ≡ count_by (λ other. other == at) (places_of rows)
+pub count_rows : (at : ℕ) (rows : List Row) → sum_by (λ (r : Row). one_if (r.at == at)) rows ≡ count_by (λ other. other == at) (row_places rows)
 count_rows at [] = refl
 count_rows at (r ∷ rows) =
     let one = λ (o : ℕ). one_if (o == at) in
     let mine = λ (o : Row). one_if (o.at == at) in
     let first = sum_by-cons mine r rows in
-    let both = sum_by-cons one r.at (places_of rows) in
+    let both = sum_by-cons one r.at (row_places rows) in
     omega (arith, first, both, count_rows at rows)
 
 pub count_planned : (plan : Plan) (at : ℕ) → sum_by (λ (r : Row). one_if (r.at == at)) (plan_rows plan) ≡ count_by (λ other. other == at) (planned plan)

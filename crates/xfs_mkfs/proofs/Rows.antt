@@ -3,14 +3,14 @@ use Rattle.std.proofs.Common.{◌≡◌, ℕ, ◌+◌, ◌<◌, List, ◌++◌, 
 use Rattle.std.specs.List.{All}
 use Rattle.std.proofs.lemmas.List.{get_or-map, length-map, map-append}
 use Rattle.std.proofs.lemmas.List.Sorted.{All-permutation}
-use Rattle.xfs_render.specs.Drafts.{AreInBank, places_of}
+use Rattle.xfs_render.specs.Drafts.{AreInBank, row_places}
 use Rattle.xfs_render.specs.Plans.{plan_rows, planned}
 use Rattle.xfs_render.specs.declared.plan.Plan.{Plan}
 use Rattle.xfs_writing.specs.declared.rows.Row.{Row}
 use Rattle.xfs_mkfs.specs.Order.{AreRowsOfPlan}
 
 -- the numbers of the blocks of all rows
-pub planned_is : (plan : Plan) → planned plan ≡ places_of (plan_rows plan)
+pub planned_is : (plan : Plan) → planned plan ≡ row_places (plan_rows plan)
 planned_is plan = sym (map-append (λ (r : Row). r.at) plan.fresh plan.in_place)
 
 pub count_plan : (plan : Plan) → length (plan_rows plan) ≡ length (planned plan)

@@ -5,14 +5,14 @@ use Rattle.xfs_disk.specs.Blocks.{Image}
 use Rattle.xfs_disk.specs.declared.stamp.Stamp.{Stamp}
 use Rattle.xfs_geom.specs.declared.geometry.Geometry.{Geometry}
 use Rattle.xfs_sizing.specs.Sizes.{IsChosenGeometry, too_small}
-use Rattle.xfs_sizing.specs.declared.asked.Asked.{Asked}
+use Rattle.xfs_sizing.specs.declared.asked.SizesAsked.{SizesAsked}
 use Rattle.xfs_mkfs.specs.Marks.{is_marked}
 use Rattle.xfs_options.specs.declared.make_words.MakeOptions.{MakeOptions}
 use Rattle.xfs_mkfs.specs.declared.outcome.MakeOutcome.{MakeOutcome}
 use Rattle.xfs_mkfs.specs.declared.outcome.MakeOutcome.TheVariants.{HasVolume, TooSmall, Unbuilt}
 
 -- what is asked of the sizes
-abbrev pub asked_of : MakeOptions → Asked
+abbrev pub asked_of : MakeOptions → SizesAsked
 asked_of o = record { blocks = o.blocks; agcount = o.agcount; agblocks = o.agblocks; logblocks = o.logblocks }
 
 -- the identifier: the one that is asked for, or else the stamp's

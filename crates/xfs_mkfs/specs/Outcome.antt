@@ -29,13 +29,13 @@ abbrev pub summary_of : Geometry → MadeSummary
 summary_of g = record { dblocks = g.dblocks; agcount = g.agcount; log = g.log; logblocks = g.logblocks; rootino = g.rootino; uuid = g.uuid }
 
 -- the answer where placing failed, and where the blocks were not all written
-abbrev pub place_answer : PlaceFault → MakeOutcome
-place_answer (Placing.NoRoom what) = Out.NoRoom what
-place_answer Placing.NoMemory = Out.NoMemory
+abbrev pub place_outcome : PlaceFault → MakeOutcome
+place_outcome (Placing.NoRoom what) = Out.NoRoom what
+place_outcome Placing.NoMemory = Out.NoMemory
 
-abbrev pub put_answer : PutFault → MakeOutcome
-put_answer Put.NoMemory = Out.NoMemory
-put_answer (Put.Failed n) = Out.WriteFault n
+abbrev pub put_outcome : PutFault → MakeOutcome
+put_outcome Put.NoMemory = Out.NoMemory
+put_outcome (Put.Failed n) = Out.WriteFault n
 
 -- the plan of an empty volume of this geometry, with a superblock that has the label
 pub record IsPlanned (g : Geometry) (label : List ℕ) (s : Stamp) (plan : Plan) : Type 0 where

@@ -10,7 +10,7 @@ use xfs_render::Plan;
 use xfs_writing::Row;
 
 /// The blocks of a plan in ascending order.
-pub fn list_rows(alloc: Global, plan: &Plan) -> Result<Vec<Row>, NoMemory>
+pub fn rows_in_order(alloc: Global, plan: &Plan) -> Result<Vec<Row>, NoMemory>
     ensures { IfOk result (λ rows. AreRowsOfPlan plan.now rows.items) }
 {
     let mut rows = all_rows(alloc, plan)?;

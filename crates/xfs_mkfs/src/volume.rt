@@ -9,7 +9,7 @@ ghost use Rattle.xfs_render.specs.Plans.{plan_rows, planned};
 ghost use Rattle.xfs_writing.specs.Stopped.{LeavesJust};
 ghost use Rattle.xfs_mkfs.specs.Putting.{CountsPut, HasPutCause, IsPut, IsPutStopped, LeavesUnput};
 
-use crate::order::{first_part, last_part, list_rows};
+use crate::order::{first_part, last_part, rows_in_order};
 use std::alloc::Global;
 use xfs_disk::{Disk, NoMemory};
 use xfs_render::Plan;
@@ -47,7 +47,7 @@ pub fn put_plan<D: Disk>(alloc: Global, disk: &mut D, plan: &Plan) -> Result<(),
     ensures later { D.tells_stops disk.old → D.moment disk.old ≤ D.moment disk.new }
     ensures tells { D.tells_stops disk.old → D.tells_stops disk.new }
 {
-    let rows = match list_rows(alloc, plan) {
+    let rows = match rows_in_order(alloc, plan) {
         Ok(rows) => rows,
         Err(NoMemory) => return Err(PutFault::NoMemory),
     };

@@ -17,7 +17,7 @@ ghost use Rattle.xfs_empty.specs.Planning.{HasRoom};
 ghost use Rattle.xfs_mkfs.specs.Marks.{is_marked};
 ghost use Rattle.xfs_mkfs.specs.Due.{IsGeometry, asked_of, asks_files, identifier, refusal};
 ghost use Rattle.xfs_mkfs.specs.Counts.{CountsBlocks, CountsReads, IsUnwritten, LooksPartly, looked};
-ghost use Rattle.xfs_mkfs.specs.Outcome.{IsMakingCause, IsDueMake, IsPlanned, MakeLeaves, place_answer, put_answer, summary_of};
+ghost use Rattle.xfs_mkfs.specs.Outcome.{IsMakingCause, IsDueMake, IsPlanned, MakeLeaves, place_outcome, put_outcome, summary_of};
 ghost use Rattle.xfs_mkfs.specs.Stops.{IsDurableMake, StopLeaves};
 
 use crate::marks::is_marked;
@@ -32,7 +32,7 @@ use xfs_geom::Geometry;
 use xfs_options::MakeOptions;
 use xfs_place::PlaceFault;
 use xfs_render::Plan;
-use xfs_sizing::{Asked, choose, put_super};
+use xfs_sizing::{SizesAsked, choose, put_super};
 
 /// What is still to be built: files of a protofile, and generated ones.
 const FILES: u8 = 10;
@@ -84,11 +84,11 @@ pub fn make<R: Threads + Sync, D: Disk, L: Library>(
     };
     let plan = match plan_volume(rt, alloc, &g, options.label.bytes(), stamp) {
         Ok(plan) => plan,
-        Err(fault) => return place_answer(fault),
+        Err(fault) => return place_outcome(fault),
     };
     match put_plan(alloc, disk, &plan) {
         Ok(()) => MakeOutcome::Made(summary_of(&g)),
-        Err(fault) => put_answer(fault),
+        Err(fault) => put_outcome(fault),
     }
 }
 
@@ -136,10 +136,10 @@ fn asks_files(options: &MakeOptions) -> bool
 }
 
 /// What is asked of the sizes of the volume.
-fn asked_of(options: &MakeOptions) -> Asked
+fn asked_of(options: &MakeOptions) -> SizesAsked
     ensures { result ≡ asked_of options.now }
 {
-    Asked {
+    SizesAsked {
         blocks: options.blocks,
         agcount: options.agcount,
         agblocks: options.agblocks,
@@ -164,8 +164,8 @@ fn read_fault<D: Disk>(disk: &D) -> MakeOutcome
 }
 
 /// The answer where placing failed.
-fn place_answer(fault: PlaceFault) -> MakeOutcome
-    ensures value { result ≡ place_answer fault }
+fn place_outcome(fault: PlaceFault) -> MakeOutcome
+    ensures value { result ≡ place_outcome fault }
     ensures early { IsUnwritten result }
 {
     match fault {
@@ -175,8 +175,8 @@ fn place_answer(fault: PlaceFault) -> MakeOutcome
 }
 
 /// The answer where the blocks were not all written.
-fn put_answer(fault: PutFault) -> MakeOutcome
-    ensures { result ≡ put_answer fault }
+fn put_outcome(fault: PutFault) -> MakeOutcome
+    ensures { result ≡ put_outcome fault }
 {
     match fault {
         PutFault::NoMemory => MakeOutcome::NoMemory,

@@ -26,7 +26,7 @@ use Rattle.xfs_hanging.proofs.Naming.{named_once}
 use Rattle.xfs_hanging.proofs.Targets.{together_valid, together_in_use}
 use Rattle.xfs_hanging.proofs.Tests.{other_test, the_second, neither, second_of_both}
 use Rattle.xfs_names.specs.declared.records.WantedNames.{WantedNames}
-use Rattle.xfs_names.specs.Wanted.{directory_node, with_directory, typed, wanted_nodes, wanted_entries, with_parent, wanted_parents}
+use Rattle.xfs_names.specs.Wanted.{directory_node, with_directory, with_type, wanted_nodes, wanted_entries, with_parent, wanted_parents}
 use Rattle.xfs_names.specs.Rebuilt.{is_rebuilt, wanted_rebuilt}
 use Rattle.xfs_names.specs.Pairs.{PairsAscend}
 use Rattle.xfs_names.specs.Built.{CanBeBuilt}
@@ -138,12 +138,12 @@ module _
     dirs_wanted = directory_numbers (wanted_nodes nodes listed root new)
 
     entries_writable : All IsWritableEntry (wanted_entries nodes listed root new)
-    entries_writable = All-map IsWritableEntry (typed (wanted_nodes nodes listed root new)) (by_directory (entries_together nodes listed root new) dirs_wanted)
-        (all_by (λ (e : EntryRec). IsWritableEntry (typed (wanted_nodes nodes listed root new) e)) (entries_together nodes listed root new) dirs_wanted
+    entries_writable = All-map IsWritableEntry (with_type (wanted_nodes nodes listed root new)) (by_directory (entries_together nodes listed root new) dirs_wanted)
+        (all_by (λ (e : EntryRec). IsWritableEntry (with_type (wanted_nodes nodes listed root new) e)) (entries_together nodes listed root new) dirs_wanted
         (λ k d l. record { name = short_name _ (together_valid nodes listed root new files few k d l); ino = together_low k d l }))
 
     entries_no_dots : have_no_dots (wanted_entries nodes listed root new) ≡ true
-    entries_no_dots = valid_no_dots (wanted_entries nodes listed root new) (All-map (λ (e : EntryRec). is_name e.name ≡ true) (typed (wanted_nodes nodes listed root new)) (by_directory (entries_together nodes listed root new) dirs_wanted)
+    entries_no_dots = valid_no_dots (wanted_entries nodes listed root new) (All-map (λ (e : EntryRec). is_name e.name ≡ true) (with_type (wanted_nodes nodes listed root new)) (by_directory (entries_together nodes listed root new) dirs_wanted)
         (all_by (λ (e : EntryRec). is_name e.name ≡ true) (entries_together nodes listed root new) dirs_wanted (together_valid nodes listed root new files few)))
 
     nodes_low : All (λ (f : NodeRec). f.ino < 2 ^ 32) (wanted_nodes nodes listed root new)

@@ -19,7 +19,7 @@ use Rattle.xfs_hanging.proofs.Ascending.{absent}
 use Rattle.xfs_hanging.proofs.Different.{all_kept}
 use Rattle.xfs_hanging.proofs.Targets.{together_all}
 use Rattle.xfs_hanging.proofs.Tests.{same_test, other_test, the_second, or_true, not_first, not_second}
-use Rattle.xfs_names.specs.Wanted.{AreDecided, directory_node, with_directory, typed, wanted_nodes, wanted_entries, with_parent, wanted_parents}
+use Rattle.xfs_names.specs.Wanted.{AreDecided, directory_node, with_directory, with_type, wanted_nodes, wanted_entries, with_parent, wanted_parents}
 use Rattle.xfs_names.specs.Pairs.{PairsAscend, parent_among}
 use Rattle.xfs_names.specs.Private.Joined.{joined, told_parents}
 use Rattle.xfs_names.proofs.ByNumber.{directories_ascend}
@@ -47,8 +47,8 @@ pub nodes_from : (nodes : List NodeRec) (listed : List EntryRec) (root new : ℕ
 nodes_from nodes listed root new names d adds os all e o a = a ∙ ap (λ t. if t then with_directory new nodes else nodes) (e ∙ ap (is_new names.lost) o) ∙ nodes_are nodes listed root new names d
 
 pub entries_from : (nodes : List NodeRec) (listed : List EntryRec) (root new : ℕ) (names : DecidedNames) → AreDecided nodes listed root names → (all : List NodeRec) (es : List EntryRec)
-    → all ≡ wanted_nodes nodes listed root new → es ≡ map (typed all) (by_directory (joined names.entries names.orphans root names.lost new) (directory_numbers all)) → es ≡ wanted_entries nodes listed root new
-entries_from nodes listed root new names d all es a e = e ∙ (λ i. map (typed (a i)) (by_directory (joined_are nodes listed root new names d i) (directory_numbers (a i))))
+    → all ≡ wanted_nodes nodes listed root new → es ≡ map (with_type all) (by_directory (joined names.entries names.orphans root names.lost new) (directory_numbers all)) → es ≡ wanted_entries nodes listed root new
+entries_from nodes listed root new names d all es a e = e ∙ (λ i. map (with_type (a i)) (by_directory (joined_are nodes listed root new names d i) (directory_numbers (a i))))
 
 -- the directories among files
 pub has_directories : (n : ℕ) (fs : List NodeRec) → has_node n (directory_numbers fs) ≡ is_directory_number fs n

@@ -25,7 +25,7 @@ use Rattle.xfs_hanging.proofs.Ascending.{rises, absent, nodes_ascend as numbers_
 use Rattle.xfs_hanging.proofs.ByDirectory.{all_by}
 use Rattle.xfs_hanging.proofs.Targets.{together_in_use}
 use Rattle.xfs_hanging.proofs.Tests.{same_test, other_test, the_second, or_false, both, neither, clash}
-use Rattle.xfs_names.specs.Wanted.{kind_at, directory_node, with_directory, typed, wanted_nodes, wanted_entries, links_due, with_links}
+use Rattle.xfs_names.specs.Wanted.{kind_at, directory_node, with_directory, with_type, wanted_nodes, wanted_entries, link_count, with_links}
 use Rattle.xfs_names.specs.Having.{node_of, HasWanted}
 use Rattle.xfs_names.proofs.Deciding.{directory_with, nodes_ascend}
 
@@ -150,25 +150,25 @@ type_told low (f ∷ fs) h = All-cons (λ (g : FileRec). is_directory_at (f ∷ 
     none false e = refl
 
 -- entries whose types are set
-untyped_typed : (nodes : List NodeRec) (es : List EntryRec) → map untyped (map (typed nodes) es) ≡ map untyped es
+untyped_typed : (nodes : List NodeRec) (es : List EntryRec) → map untyped (map (with_type nodes) es) ≡ map untyped es
 untyped_typed nodes [] = refl
 untyped_typed nodes (e ∷ es) = ap (λ xs. untyped e ∷ xs) (untyped_typed nodes es)
 
-own_dir : (nodes : List NodeRec) (n : ℕ) (es : List EntryRec) → list_all (λ (e : EntryRec). e.dir == n) (map (typed nodes) (entries_in es n)) ≡ true
+own_dir : (nodes : List NodeRec) (n : ℕ) (es : List EntryRec) → list_all (λ (e : EntryRec). e.dir == n) (map (with_type nodes) (entries_in es n)) ≡ true
 own_dir nodes n [] = refl
 own_dir nodes n (e ∷ es) = either (e.dir == n) refl (own_dir nodes n es)
   where
-    either : (t : Bool) → (e.dir == n) ≡ t → list_all (λ (e : EntryRec). e.dir == n) (map (typed nodes) (entries_in es n)) ≡ true
-        → list_all (λ (e : EntryRec). e.dir == n) (map (typed nodes) (cond t (e ∷ entries_in es n) (entries_in es n))) ≡ true
-    either true k r = both (e.dir == n) (list_all (λ (e : EntryRec). e.dir == n) (map (typed nodes) (entries_in es n))) k r
+    either : (t : Bool) → (e.dir == n) ≡ t → list_all (λ (e : EntryRec). e.dir == n) (map (with_type nodes) (entries_in es n)) ≡ true
+        → list_all (λ (e : EntryRec). e.dir == n) (map (with_type nodes) (cond t (e ∷ entries_in es n) (entries_in es n))) ≡ true
+    either true k r = both (e.dir == n) (list_all (λ (e : EntryRec). e.dir == n) (map (with_type nodes) (entries_in es n))) k r
     either false k r = r
 
-grouped_by : (nodes : List NodeRec) (es : List EntryRec) (dirs : List DirRec) → AreGrouped dirs (map (typed nodes) (by_directory es (map (λ (d : DirRec). d.ino) dirs)))
+grouped_by : (nodes : List NodeRec) (es : List EntryRec) (dirs : List DirRec) → AreGrouped dirs (map (with_type nodes) (by_directory es (map (λ (d : DirRec). d.ino) dirs)))
 grouped_by nodes es [] = refl
 grouped_by nodes es (d ∷ ds) = (
-  map (typed nodes) (entries_in es d.ino),
-  map (typed nodes) (by_directory es (map (λ (d : DirRec). d.ino) ds)),
-  map-append (typed nodes) (entries_in es d.ino) (by_directory es (map (λ (d : DirRec). d.ino) ds)),
+  map (with_type nodes) (entries_in es d.ino),
+  map (with_type nodes) (by_directory es (map (λ (d : DirRec). d.ino) ds)),
+  map-append (with_type nodes) (entries_in es d.ino) (by_directory es (map (λ (d : DirRec). d.ino) ds)),
   own_dir nodes d.ino es,
   grouped_by nodes es ds,
 )
@@ -217,8 +217,8 @@ module _
     numbers : map (λ (d : DirRec). d.ino) dirs ≡ directory_numbers (wanted_nodes nodes listed root new)
     numbers = numbers_told (parent_due nodes listed root new) dirs (directory_numbers (wanted_nodes nodes listed root new)) w.dirs_are
 
-    by_dirs : entries ≡ map (typed (wanted_nodes nodes listed root new)) (by_directory (entries_together nodes listed root new) (map (λ (d : DirRec). d.ino) dirs))
-    by_dirs = entries_are ∙ ap (λ ds. map (typed (wanted_nodes nodes listed root new)) (by_directory (entries_together nodes listed root new) ds)) (sym numbers)
+    by_dirs : entries ≡ map (with_type (wanted_nodes nodes listed root new)) (by_directory (entries_together nodes listed root new) (map (λ (d : DirRec). d.ino) dirs))
+    by_dirs = entries_are ∙ ap (λ ds. map (with_type (wanted_nodes nodes listed root new)) (by_directory (entries_together nodes listed root new) ds)) (sym numbers)
 
     files_ascend : NumbersAscend 0 (numbers_of files)
     files_ascend = subst (NumbersAscend 0) (ap (λ fs. map (λ (g : NodeRec). g.ino) fs) (sym w.files_are) ∙ numbers_node files)
@@ -252,24 +252,24 @@ module _
 
     pub types : All IsTyped entries
     types = subst (All IsTyped) (sym by_dirs)
-        (All-map IsTyped (typed (wanted_nodes nodes listed root new)) (by_directory (entries_together nodes listed root new) (map (λ (d : DirRec). d.ino) dirs))
-        (all_by (λ (e : EntryRec). IsTyped (typed (wanted_nodes nodes listed root new) e)) (entries_together nodes listed root new) (map (λ (d : DirRec). d.ino) dirs)
-        (All-weaker (λ (e : EntryRec). (is_kept_node nodes e.ino || (adds_lost nodes listed root && e.ino == new)) ≡ true) (λ (e : EntryRec). IsTyped (typed (wanted_nodes nodes listed root new) e))
+        (All-map IsTyped (with_type (wanted_nodes nodes listed root new)) (by_directory (entries_together nodes listed root new) (map (λ (d : DirRec). d.ino) dirs))
+        (all_by (λ (e : EntryRec). IsTyped (with_type (wanted_nodes nodes listed root new) e)) (entries_together nodes listed root new) (map (λ (d : DirRec). d.ino) dirs)
+        (All-weaker (λ (e : EntryRec). (is_kept_node nodes e.ino || (adds_lost nodes listed root && e.ino == new)) ≡ true) (λ (e : EntryRec). IsTyped (with_type (wanted_nodes nodes listed root new) e))
         (λ e h. inr (kind_is e.ino (in_use e.ino ∙ h))) (entries_together nodes listed root new) (together_in_use nodes listed root new))))
 
-    nlinks : All (λ (f : FileRec). f.core.nlink ≡ links_due (wanted_nodes nodes listed root new) (wanted_entries nodes listed root new) root (node_of f)) files
+    nlinks : All (λ (f : FileRec). f.core.nlink ≡ link_count (wanted_nodes nodes listed root new) (wanted_entries nodes listed root new) root (node_of f)) files
     nlinks = links_told (with_links (wanted_nodes nodes listed root new) (wanted_entries nodes listed root new) root) files
         (w.links_are ∙ ap (λ fs. map (with_links (wanted_nodes nodes listed root new) (wanted_entries nodes listed root new) root) fs) (sym w.files_are))
 
     pub directory_links : All (λ (f : FileRec). IsDirectory f → f.core.nlink ≡ 2 + count_by (λ (e : EntryRec). is_directory_at files e.ino) (entries_in entries f.ino)) files
-    directory_links = All-weaker (λ (f : FileRec). f.core.nlink ≡ links_due (wanted_nodes nodes listed root new) (wanted_entries nodes listed root new) root (node_of f))
+    directory_links = All-weaker (λ (f : FileRec). f.core.nlink ≡ link_count (wanted_nodes nodes listed root new) (wanted_entries nodes listed root new) root (node_of f))
         (λ (f : FileRec). IsDirectory f → f.core.nlink ≡ 2 + count_by (λ (e : EntryRec). is_directory_at files e.ino) (entries_in entries f.ino)) told files nlinks
       where
         counted : (n : ℕ) → length (filter (λ (e : EntryRec). is_directory_number (wanted_nodes nodes listed root new) e.ino) (entries_in (wanted_entries nodes listed root new) n)) ≡ count_by (λ (e : EntryRec). is_directory_at files e.ino) (entries_in entries n)
         counted n = length-filter (λ (e : EntryRec). is_directory_number (wanted_nodes nodes listed root new) e.ino) (entries_in (wanted_entries nodes listed root new) n)
             ∙ (λ i. count_by (λ (e : EntryRec). dirs_same e.ino i) (entries_in (sym entries_are i) n))
 
-        told : (f : FileRec) → f.core.nlink ≡ links_due (wanted_nodes nodes listed root new) (wanted_entries nodes listed root new) root (node_of f)
+        told : (f : FileRec) → f.core.nlink ≡ link_count (wanted_nodes nodes listed root new) (wanted_entries nodes listed root new) root (node_of f)
             → IsDirectory f → f.core.nlink ≡ 2 + count_by (λ (e : EntryRec). is_directory_at files e.ino) (entries_in entries f.ino)
         told f e dir = e
             ∙ ap (λ t. if t then 2 + length (filter (λ (e : EntryRec). is_directory_number (wanted_nodes nodes listed root new) e.ino) (entries_in (wanted_entries nodes listed root new) f.ino))
@@ -281,14 +281,14 @@ module _
 
     pub other_links : is_directory_number nodes root ≡ true → All (λ (f : FileRec). IsOther f → IsOrdinary root f.ino → f.core.nlink ≡ length (entries_to entries f.ino)) files
     other_links dir = All-weaker
-        (λ (f : FileRec). (f.core.nlink ≡ links_due (wanted_nodes nodes listed root new) (wanted_entries nodes listed root new) root (node_of f)) × (is_directory_at files f.ino ≡ is_directory f))
+        (λ (f : FileRec). (f.core.nlink ≡ link_count (wanted_nodes nodes listed root new) (wanted_entries nodes listed root new) root (node_of f)) × (is_directory_at files f.ino ≡ is_directory f))
         (λ (f : FileRec). IsOther f → IsOrdinary root f.ino → f.core.nlink ≡ length (entries_to entries f.ino)) told files
         (λ k d l. (nlinks k d l, type_told 0 files files_ascend k d l))
       where
         off_root : (f : FileRec) → is_directory_at files f.ino ≡ is_directory f → IsOther f → f.ino ≡ root → ⊥
         off_root f t other same = clash (sym (other_test (type_of f) 4 other) ∙ sym t ∙ ap (is_directory_at files) same ∙ root_is dir)
 
-        told : (f : FileRec) → (f.core.nlink ≡ links_due (wanted_nodes nodes listed root new) (wanted_entries nodes listed root new) root (node_of f)) × (is_directory_at files f.ino ≡ is_directory f)
+        told : (f : FileRec) → (f.core.nlink ≡ link_count (wanted_nodes nodes listed root new) (wanted_entries nodes listed root new) root (node_of f)) × (is_directory_at files f.ino ≡ is_directory f)
             → IsOther f → IsOrdinary root f.ino → f.core.nlink ≡ length (entries_to entries f.ino)
         told f (e, t) other (a, b) = e
             ∙ ap (λ t. if t then 2 + length (filter (λ (e : EntryRec). is_directory_number (wanted_nodes nodes listed root new) e.ino) (entries_in (wanted_entries nodes listed root new) f.ino))

@@ -7,7 +7,7 @@ use Rattle.xfs_naming.specs.Naming.{NumbersAscend}
 use Rattle.xfs_naming.proofs.Order.{Rises, rises_by}
 use Rattle.xfs_links.specs.declared.records.NodeRec.{NodeRec}
 use Rattle.xfs_links.specs.Entries.{DirectoriesAscend}
-use Rattle.xfs_names.specs.Wanted.{typed}
+use Rattle.xfs_names.specs.Wanted.{with_type}
 use Rattle.xfs_names.proofs.Grouping.{ascends}
 
 ascend_rise : (low : ℕ) (es : List EntryRec) → DirectoriesAscend low es → Rises low (map (λ (e : EntryRec). e.dir) es)
@@ -19,12 +19,12 @@ pub listed_rise : (es : List EntryRec) → DirectoriesAscend 0 es → IsNonDecre
 listed_rise es up = rises_by (λ (e : EntryRec). e.dir) 0 es (ascend_rise 0 es up)
 
 -- entries whose types are set
-typed_ascend : (nodes : List NodeRec) (low : ℕ) (es : List EntryRec) → DirectoriesAscend low es → DirectoriesAscend low (map (typed nodes) es)
+typed_ascend : (nodes : List NodeRec) (low : ℕ) (es : List EntryRec) → DirectoriesAscend low es → DirectoriesAscend low (map (with_type nodes) es)
 typed_ascend nodes low [] up = tt
 typed_ascend nodes low (e ∷ es) up = (up.0, typed_ascend nodes e.dir es up.1)
 
-pub typed_rise : (nodes : List NodeRec) (es : List EntryRec) → IsNonDecreasingBy (λ (e : EntryRec). e.dir) es → IsNonDecreasingBy (λ (e : EntryRec). e.dir) (map (typed nodes) es)
-typed_rise nodes es up = listed_rise (map (typed nodes) es) (typed_ascend nodes 0 es (ascends 0 es up (λ d h. omega arith)))
+pub typed_rise : (nodes : List NodeRec) (es : List EntryRec) → IsNonDecreasingBy (λ (e : EntryRec). e.dir) es → IsNonDecreasingBy (λ (e : EntryRec). e.dir) (map (with_type nodes) es)
+typed_rise nodes es up = listed_rise (map (with_type nodes) es) (typed_ascend nodes 0 es (ascends 0 es up (λ d h. omega arith)))
 
 -- directories by number
 numbers_rise : (low v : ℕ) (xs : List ℕ) → low ≤ v → NumbersAscend v xs → Rises low xs

@@ -36,14 +36,14 @@ abbrev pub wanted_nodes : List NodeRec → List EntryRec → ℕ → ℕ → Lis
 wanted_nodes nodes listed root new = if adds_lost nodes listed root then with_directory new nodes else nodes
 
 -- an entry that states the type of the file that it names
-abbrev pub typed : List NodeRec → EntryRec → EntryRec
-typed nodes e = record { dir = e.dir; name = e.name; ino = e.ino; ftype = entry_type (kind_at nodes e.ino) }
+abbrev pub with_type : List NodeRec → EntryRec → EntryRec
+with_type nodes e = record { dir = e.dir; name = e.name; ino = e.ino; ftype = entry_type (kind_at nodes e.ino) }
 
 -- all names together with their types, one directory after the other: in each the entries that stay; in lost+found behind them
 -- the orphans by number; in the root, last, lost+found where it is new
 abbrev pub wanted_entries : List NodeRec → List EntryRec → ℕ → ℕ → List EntryRec
 wanted_entries nodes listed root new =
-    map (typed (wanted_nodes nodes listed root new)) (by_directory (entries_together nodes listed root new) (directory_numbers (wanted_nodes nodes listed root new)))
+    map (with_type (wanted_nodes nodes listed root new)) (by_directory (entries_together nodes listed root new) (directory_numbers (wanted_nodes nodes listed root new)))
 
 -- each directory with its parent
 abbrev pub with_parent : List NodeRec → List EntryRec → ℕ → ℕ → ℕ → ℕ × ℕ
@@ -53,13 +53,13 @@ abbrev pub wanted_parents : List NodeRec → List EntryRec → ℕ → ℕ → L
 wanted_parents nodes listed root new = map (with_parent nodes listed root new) (directory_numbers (wanted_nodes nodes listed root new))
 
 -- the links of a file: for a directory two and one for each directory in it; one for a system inode; else one for each name
-abbrev pub links_due : List NodeRec → List EntryRec → ℕ → NodeRec → ℕ
-links_due nodes entries root f =
+abbrev pub link_count : List NodeRec → List EntryRec → ℕ → NodeRec → ℕ
+link_count nodes entries root f =
     if f.kind == 4 then 2 + length (filter (λ (e : EntryRec). is_directory_number nodes e.ino) (entries_in entries f.ino))
     else (if is_reserved_inode root f.ino then 1 else length (entries_to entries f.ino))
 
 abbrev pub with_links : List NodeRec → List EntryRec → ℕ → NodeRec → ℕ × ℕ
-with_links nodes entries root f = (f.ino, links_due nodes entries root f)
+with_links nodes entries root f = (f.ino, link_count nodes entries root f)
 
 abbrev pub wanted_links : List NodeRec → List EntryRec → ℕ → ℕ → List (ℕ × ℕ)
 wanted_links nodes listed root new =

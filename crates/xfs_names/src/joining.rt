@@ -9,7 +9,7 @@ ghost use Rattle.xfs_links.specs.Entries.{NodesAscend};
 ghost use Rattle.xfs_links.specs.Connected.{directory_numbers};
 ghost use Rattle.xfs_hanging.specs.Together.{orphan_entry, lost_entry, lost_directory, is_new};
 ghost use Rattle.xfs_hanging.specs.Settled.{by_directory as each_directory};
-ghost use Rattle.xfs_names.specs.Wanted.{typed, with_directory};
+ghost use Rattle.xfs_names.specs.Wanted.{with_type, with_directory};
 ghost use Rattle.xfs_names.specs.Private.Joined.{joined};
 
 use crate::lookup::kind_at;
@@ -143,7 +143,7 @@ fn by_directory(
 /// Lets each entry state the type of the file that it names.
 fn set_types(nodes: &[NodeRec], entries: &mut [EntryRec])
     requires { NodesAscend 0 nodes.now }
-    ensures { entries.new ≡ map (typed nodes.now) entries.old }
+    ensures { entries.new ≡ map (with_type nodes.now) entries.old }
 {
     for entry in entries.iter_mut() {
         set_type(nodes, entry);
@@ -153,7 +153,7 @@ fn set_types(nodes: &[NodeRec], entries: &mut [EntryRec])
 /// Entries, each with the type of the file that it names.
 fn with_types(nodes: &[NodeRec], all: Vec<EntryRec>) -> Records<EntryRec>
     requires { NodesAscend 0 nodes.now }
-    ensures { result ≡ map (typed nodes.now) all.items }
+    ensures { result ≡ map (with_type nodes.now) all.items }
 {
     let mut all = all;
     set_types(nodes, all.as_mut_slice());
@@ -163,7 +163,7 @@ fn with_types(nodes: &[NodeRec], all: Vec<EntryRec>) -> Records<EntryRec>
 /// Lets an entry state the type of the file that it names.
 fn set_type(nodes: &[NodeRec], entry: &mut EntryRec)
     requires { NodesAscend 0 nodes.now }
-    ensures { entry.new ≡ typed nodes.now entry.old }
+    ensures { entry.new ≡ with_type nodes.now entry.old }
 {
     entry.ftype = entry_type(u16::from(kind_at(nodes, entry.ino)));
 }
@@ -186,7 +186,7 @@ pub fn all_entries(
     requires known { All (λ (e : EntryRec). has_node e.dir (directory_numbers nodes.now) ≡ true) (joined kept orphans root old new) }
     ensures few { IfOk result (λ entries. length entries ≤ 2 ^ 24) }
     ensures rise { IfOk result (λ entries. IsNonDecreasingBy (λ (e : EntryRec). e.dir) entries) }
-    ensures entries { IfOk result (λ entries. entries ≡ map (typed nodes.now) (each_directory (joined kept orphans root old new) (directory_numbers nodes.now))) }
+    ensures entries { IfOk result (λ entries. entries ≡ map (with_type nodes.now) (each_directory (joined kept orphans root old new) (directory_numbers nodes.now))) }
 {
     let all = by_directory(alloc, nodes, kept, orphans, root, old, new)?;
     if all.as_slice().len() > MOST_ENTRIES {

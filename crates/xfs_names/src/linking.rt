@@ -5,7 +5,7 @@ ghost use Rattle.std.specs.List.Sorted.{IsNonDecreasingBy};
 ghost use Rattle.xfs_dirdata.specs.declared.records.EntryRec.{EntryRec};
 ghost use Rattle.xfs_names.specs.declared.linking.Target.{Target};
 ghost use Rattle.xfs_links.specs.Entries.{NodesAscend, is_directory_number};
-ghost use Rattle.xfs_names.specs.Wanted.{links_due, with_links};
+ghost use Rattle.xfs_names.specs.Wanted.{link_count, with_links};
 ghost use Rattle.xfs_names.specs.Private.Targets.{AreTargets, target_of};
 
 use crate::lookup::is_directory_number;
@@ -73,7 +73,7 @@ fn count_directories(nodes: &[NodeRec], own: &[EntryRec]) -> u64
 }
 
 /// The links of a file.
-fn links_due(
+fn link_count(
     nodes: &[NodeRec],
     entries: &[EntryRec],
     targets: &[Target],
@@ -85,7 +85,7 @@ fn links_due(
     requires few { length entries.now ≤ 2 ^ 24 }
     requires targets { AreTargets entries.now targets.now }
     requires root { root < 2 ^ 32 }
-    ensures { result ≡ links_due nodes.now entries.now root node.now }
+    ensures { result ≡ link_count nodes.now entries.now root node.now }
 {
     if node.kind == DIRECTORY {
         return 2 + count_directories(nodes, records_by_number(entries, node.ino));
@@ -112,7 +112,7 @@ pub fn all_links(
     let targets = targets_of(alloc, entries)?;
     let mut all = Vec::with_capacity(alloc, nodes.len())?;
     for node in nodes {
-        all.push((node.ino, links_due(nodes, entries, &targets, root, node)))?;
+        all.push((node.ino, link_count(nodes, entries, &targets, root, node)))?;
     }
     Ok(Records::from_vec(all))
 }

@@ -4,7 +4,7 @@ use Rattle.std.proofs.lemmas.Bool.{cases_eq, cases_lt, le-leb, lt-leb}
 use Rattle.std.proofs.lemmas.Grind.{pow_more}
 use Rattle.std.proofs.lemmas.Nat.{pow_below}
 use Rattle.std.proofs.Math.ListN.{length-set}
-use Rattle.xfs_place.specs.Greatest.{AreGreatest, IsBranch, number_at}
+use Rattle.xfs_place.specs.Greatest.{AreGreatest, IsBranch, leaf_at}
 
 -- a node is no greater than the one above it
 parent_above : (nodes : List ℕ) (i : ℕ) → IsBranch nodes (i / 2) → get_or nodes i 0 ≤ get_or nodes (i / 2) 0
@@ -27,7 +27,7 @@ below_first nodes leaves depth (suc fuel) i are few some inside = elim (cases_eq
 ]
 
 -- where the first is small, all numbers are
-pub all_small : (nodes : List ℕ) (leaves depth least : ℕ) → AreGreatest nodes leaves depth → get_or nodes 1 0 < least → (k : ℕ) → k < leaves → number_at nodes leaves k < least
+pub all_small : (nodes : List ℕ) (leaves depth least : ℕ) → AreGreatest nodes leaves depth → get_or nodes 1 0 < least → (k : ℕ) → k < leaves → leaf_at nodes leaves k < least
 all_small nodes leaves depth least are small = λ k inside.
     let below = below_first nodes leaves depth (leaves + k) (leaves + k) are (omega arith) (omega (arith, inside)) (omega (arith, inside)) in
     omega (arith, below, small)
@@ -105,7 +105,7 @@ descends_next nodes leaves depth least level node next are below old is = elim (
 
 -- the last level
 pub descends_last : (nodes : List ℕ) (leaves depth least node level : ℕ) → AreGreatest nodes leaves depth → depth ≤ level → level ≤ depth → Descends nodes least level node
-    → (leaves ≤ node) × (node - leaves < leaves) × (least ≤ number_at nodes leaves (node - leaves)) × ((j : ℕ) → j < node - leaves → number_at nodes leaves j < least)
+    → (leaves ≤ node) × (node - leaves < leaves) × (least ≤ leaf_at nodes leaves (node - leaves)) × ((j : ℕ) → j < node - leaves → leaf_at nodes leaves j < least)
 descends_last nodes leaves depth least node level are low high old =
     let same : level ≡ depth = omega (arith, low, high) in
     let from : leaves ≤ node = omega (arith, are.deep, old.low, ap (λ (k : ℕ). 2 ^ k) same) in

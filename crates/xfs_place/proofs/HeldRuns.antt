@@ -19,7 +19,7 @@ use Rattle.xfs_place.specs.Pool.{MarksUses, Shows, is_listed, is_open, is_pool, 
 use Rattle.xfs_place.specs.Choice.{IsLeast, IsNone, in_pool, one_if}
 use Rattle.xfs_place.specs.Claims.{IsClaimedRun}
 use Rattle.xfs_place.specs.Finding.{AllOpen, AreCounts, AreOpenRows, Finds, HasRun, InRow, Opens, Takes, unspared_part}
-use Rattle.xfs_place.specs.Greatest.{Holds, numbers_of}
+use Rattle.xfs_place.specs.Greatest.{Holds, leaves_of}
 use Rattle.xfs_place.specs.declared.greatest.Greatest.{Greatest}
 use Rattle.xfs_place.proofs.RowRuns.{counts_listed, row_same, rows_under}
 use Rattle.xfs_place.specs.Objects.{IsAsk, can_hold_object, first_with, lowest, lowest_run, most_blocks, run_at, spared_in}
@@ -405,18 +405,18 @@ module _ (v : Volume) (groups : HasGroups v.dblocks v.agblocks v.agcount) (kept 
       counts_listed starts parts g' (length uses) long' holds' (rows_under starts (λ k. get_or counts k 0) (λ k. get_or parts k 0) less rows.rows)
       (λ k low. omega (arith, rows.small k low, less k low)) few
 
-  pub rows_less : (k : ℕ) → k < length starts → numbers_of g' k ≤ numbers_of g k
+  pub rows_less : (k : ℕ) → k < length starts → leaves_of g' k ≤ leaves_of g k
   rows_less k low =
       omega (arith, holds.each k (omega (arith, low, rows.all, holds.there)), holds'.each k (omega (arith, low, long', holds'.there)), less k low)
 
-  whole : Opens v kept reserved from [] (InRow starts (numbers_of g))
-  whole = rows_open v groups kept reserved from uses (InRow starts (numbers_of g)) long each
-      (λ b here. rows.free b (row_same starts (numbers_of g) (λ k. get_or counts k 0) b (λ k low. holds.each k (omega (arith, low, rows.all, holds.there))) here))
-      (λ b here. row_same starts (λ k. get_or counts k 0) (numbers_of g) b (λ k low. sym (holds.each k (omega (arith, low, rows.all, holds.there)))) (rows.listed b here))
+  whole : Opens v kept reserved from [] (InRow starts (leaves_of g))
+  whole = rows_open v groups kept reserved from uses (InRow starts (leaves_of g)) long each
+      (λ b here. rows.free b (row_same starts (leaves_of g) (λ k. get_or counts k 0) b (λ k low. holds.each k (omega (arith, low, rows.all, holds.there))) here))
+      (λ b here. row_same starts (λ k. get_or counts k 0) (leaves_of g) b (λ k low. sym (holds.each k (omega (arith, low, rows.all, holds.there)))) (rows.listed b here))
 
-  pub rows_opens : (all : Bool) → Opens v kept reserved from (spared_in all spared) (InRow starts (numbers_of (if all then g else g')))
+  pub rows_opens : (all : Bool) → Opens v kept reserved from (spared_in all spared) (InRow starts (leaves_of (if all then g else g')))
   rows_opens true = whole
-  rows_opens false = parts_open v groups kept reserved from spared starts (numbers_of g) whole (numbers_of g')
+  rows_opens false = parts_open v groups kept reserved from spared starts (leaves_of g) whole (leaves_of g')
       (λ k low. holds'.each k (omega (arith, low, long', holds'.there)) ∙ part k low ∙ ap (unspared_part v spared (get_or starts k 0)) (sym (holds.each k (omega (arith, low, rows.all, holds.there)))))
 
 -- a list of uses that is written back as a whole

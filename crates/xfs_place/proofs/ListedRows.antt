@@ -5,7 +5,7 @@ use Rattle.std.proofs.lemmas.List.{get_or_append_left, get_or_past, get_or_push}
 use Rattle.xfs_place.specs.declared.uses.Use.{Use}
 use Rattle.xfs_place.specs.declared.uses.Use.TheVariants.{Claimed}
 use Rattle.xfs_place.specs.Choice.{in_pool}
-use Rattle.xfs_place.specs.Finding.{AreOpenRows, AreRows, InRow}
+use Rattle.xfs_place.specs.Finding.{AreOpenRows, AreRowsApart, InRow}
 use Rattle.xfs_place.specs.Pool.{is_open}
 
 closed_beyond : (uses : List Use) (b : ℕ) → length uses ≤ b → in_pool uses b ≡ false
@@ -25,7 +25,7 @@ pub record Listed (uses : List Use) (at found : ℕ) (starts counts : List ℕ) 
   pub all : length counts ≡ length starts
   pub behind : (b : ℕ) → at ≤ b + found → b < at → in_pool uses b ≡ true
   pub since : found ≤ at
-  pub rows : AreRows starts (counted counts)
+  pub rows : AreRowsApart starts (counted counts)
   pub before : (k : ℕ) → k < length starts → get_or starts k 0 + get_or counts k 0 + found < at
   pub free : (b : ℕ) → InRow starts (counted counts) b → in_pool uses b ≡ true
   pub listed : (b : ℕ) → b + found < at → in_pool uses b ≡ true → InRow starts (counted counts) b
@@ -33,7 +33,7 @@ pub record Listed (uses : List Use) (at found : ℕ) (starts counts : List ℕ) 
 -- all rows of the blocks before it
 pub record Ended (uses : List Use) (at : ℕ) (starts counts : List ℕ) : Type 0 where
   pub all : length counts ≡ length starts
-  pub rows : AreRows starts (counted counts)
+  pub rows : AreRowsApart starts (counted counts)
   pub before : (k : ℕ) → k < length starts → get_or starts k 0 + get_or counts k 0 ≤ at
   pub free : (b : ℕ) → InRow starts (counted counts) b → in_pool uses b ≡ true
   pub listed : (b : ℕ) → b < at → in_pool uses b ≡ true → InRow starts (counted counts) b

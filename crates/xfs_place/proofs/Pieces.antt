@@ -3,13 +3,14 @@ use Rattle.std.proofs.Common.{length-append, ◌≡◌, ℕ, zero, suc, ◌+◌,
 use Rattle.std.specs.Prelude.{Option}
 use Rattle.std.proofs.lemmas.Bool.{eq-eqb, lt-ltb, ne_eqb, true≢false}
 use Rattle.std.proofs.lemmas.List.{append-nil, drop_more, drop_all, take_more, take_all, take-append-le, drop-append-le, flat_map_more}
+use Rattle.xfs_geom.specs.Features.{or_else}
 use Rattle.xfs_geom.specs.Volumes.{Volume}
 use Rattle.xfs_geom.specs.declared.records.Run.{Run}
 use Rattle.xfs_kinds.specs.OffsetWords.{is_file_data, is_tree_block}
 use Rattle.xfs_place.specs.declared.wanted.Object.{Object}
 use Rattle.xfs_place.specs.declared.wanted.RunAsk.{RunAsk}
 use Rattle.xfs_place.specs.Finding.{IsFrontOf}
-use Rattle.xfs_place.specs.Objects.{ServeAsks, AreJoined, IsAsk, asks_of, most_extent_blocks, found_or, front_of, keep_asks, keep_object, keep_pieces, keep_with, longest_run, lowest, or_else, or_no_room, piece_of, place_of_object, rest_of, run_at, with_kept, with_found}
+use Rattle.xfs_place.specs.Objects.{ServeAsks, AreJoined, IsAsk, asks_of, most_extent_blocks, found_or, front_of, keep_asks, keep_object, keep_pieces, keep_with, longest_run, lowest, or_no_room, piece_of, place_of_object, rest_of, run_at, with_kept, with_found}
 
 append_none : (xs : List Run) → xs ++ [] ≡ xs
 append_none [] = refl

@@ -7,15 +7,15 @@ use Rattle.std.proofs.lemmas.Bool.{and_parts, cases_eq, cases_lt, false_from_ne_
 use Rattle.xfs_place.specs.declared.open_blocks.Piece.{Piece}
 use Rattle.xfs_place.specs.Choice.{IsLeast, IsNone}
 use Rattle.xfs_place.specs.declared.uses.Use.{Use}
-use Rattle.xfs_place.specs.Greatest.{AreGreatest, Holds, SetsNumber, numbers_of}
-use Rattle.xfs_place.specs.Finding.{AllOpen, AreCounts, AreOpenRows, AreRows, Finds, HasNone, HasRows, HasRun, InRow, IsFront, IsLongest, Takes, counts_in, pair_of_piece}
+use Rattle.xfs_place.specs.Greatest.{AreGreatest, Holds, SetsNumber, leaves_of}
+use Rattle.xfs_place.specs.Finding.{AllOpen, AreCounts, AreOpenRows, AreRowsApart, Finds, HasNone, HasRows, HasRun, InRow, IsFront, IsLongest, Takes, counts_in, pair_of_piece}
 use Rattle.xfs_place.specs.declared.open_blocks.OpenBlocks.{OpenBlocks}
 use Rattle.xfs_place.specs.declared.greatest.Greatest.{Greatest}
 use Rattle.xfs_place.proofs.Branches.{all_small}
 use Rattle.xfs_place.specs.Objects.{found_or, longest_run, most_blocks}
 use Rattle.xfs_disk.specs.Lists.{is_in_range}
 
-module _ (starts : List ℕ) (count : ℕ → ℕ) (rows : AreRows starts count) where
+module _ (starts : List ℕ) (count : ℕ → ℕ) (rows : AreRowsApart starts count) where
   free : ℕ → Type 0
   free b = InRow starts count b
 
@@ -118,7 +118,7 @@ module _ (starts : List ℕ) (count : ℕ → ℕ) (rows : AreRows starts count)
       | inr other ↦ omega (arith, at_other j other, others j low other, to)
     ]
 
-    pub rows_taken : AreRows (set starts k (get_or starts k 0 + n)) next
+    pub rows_taken : AreRowsApart (set starts k (get_or starts k 0 + n)) next
     rows_taken = record {
       apart = λ j low.
           let first = moved j (omega (arith, low, long)) in
@@ -227,14 +227,14 @@ least_found free most None none = tt
 least_found free most (Some p) is = is.least
 
 -- rows by another function that counts the same
-pub rows_same : (starts : List ℕ) (f g : ℕ → ℕ) → ((k : ℕ) → k < length starts → f k ≡ g k) → AreRows starts f → AreRows starts g
+pub rows_same : (starts : List ℕ) (f g : ℕ → ℕ) → ((k : ℕ) → k < length starts → f k ≡ g k) → AreRowsApart starts f → AreRowsApart starts g
 rows_same starts f g same rows = record { apart = λ k low. omega (arith, rows.apart k low, same k (omega (arith, low))) }
 
 pub row_same : (starts : List ℕ) (f g : ℕ → ℕ) (b : ℕ) → ((k : ℕ) → k < length starts → f k ≡ g k) → InRow starts f b → InRow starts g b
 row_same starts f g b same in' = (in'.0, in'.1, in'.2, omega (arith, in'.3, same in'.0 in'.1))
 
 -- a number of blocks is that of a row
-pub row_inside : (starts : List ℕ) (g : Greatest) (k n : ℕ) → AreCounts starts g → k < g.leaves → n ≤ numbers_of g k → 1 ≤ n → k < length starts
+pub row_inside : (starts : List ℕ) (g : Greatest) (k n : ℕ) → AreCounts starts g → k < g.leaves → n ≤ leaves_of g k → 1 ≤ n → k < length starts
 row_inside starts g k n are low fits some = elim (cases_lt k (length starts)) [
   | inl inside ↦ inside
   | inr past ↦ absurd (omega (arith, are.none k past low, fits, some))
@@ -242,16 +242,16 @@ row_inside starts g k n are low fits some = elim (cases_lt k (length starts)) [
 
 -- the longest rows
 module _ (starts : List ℕ) (g : Greatest) (are : AreCounts starts g) (most blocks : ℕ) (is : blocks ≡ min most (get_or g.nodes.items 1 0)) where
-  none_over : (n : ℕ) → 1 ≤ n → blocks < n → n ≤ most → IsNone (HasRun (InRow starts (numbers_of g)) n)
+  none_over : (n : ℕ) → 1 ≤ n → blocks < n → n ≤ most → IsNone (HasRun (InRow starts (leaves_of g)) n)
   none_over n some more few =
-      none_row starts (numbers_of g) are.rows n some (λ j low. all_small g.nodes.items g.leaves g.depth n are.greatest (omega (arith, is, more, few)) j (omega (arith, low, are.few)))
+      none_row starts (leaves_of g) are.rows n some (λ j low. all_small g.nodes.items g.leaves g.depth n are.greatest (omega (arith, is, more, few)) j (omega (arith, low, are.few)))
 
-  pub longest_zero : blocks ≡ 0 → HasNone (InRow starts (numbers_of g)) most
+  pub longest_zero : blocks ≡ 0 → HasNone (InRow starts (leaves_of g)) most
   longest_zero none = record { each = λ n some few. none_over n some (omega (arith, none, some)) few }
 
-  pub longest_row : (o : Option Piece) → most ≤ 2097151 → 1 ≤ blocks → MatchOption o (IsNone (HasRun (InRow starts (numbers_of g)) blocks)) (λ (p : Piece). IsLeast (HasRun (InRow starts (numbers_of g)) blocks) p.start)
+  pub longest_row : (o : Option Piece) → most ≤ 2097151 → 1 ≤ blocks → MatchOption o (IsNone (HasRun (InRow starts (leaves_of g)) blocks)) (λ (p : Piece). IsLeast (HasRun (InRow starts (leaves_of g)) blocks) p.start)
       → IfSome o (λ (p : Piece). p.blocks ≡ blocks) → MatchOption o ((44040171 < blocks) ⊎ (get_or g.nodes.items 1 0 < blocks)) (λ (p : Piece). Unit {0})
-      → MatchOption o (HasNone (InRow starts (numbers_of g)) most) (λ (p : Piece). IsLongest (InRow starts (numbers_of g)) most p.start p.blocks)
+      → MatchOption o (HasNone (InRow starts (leaves_of g)) most) (λ (p : Piece). IsLongest (InRow starts (leaves_of g)) most p.start p.blocks)
   longest_row None few some none same there = elim there [
     | inl long ↦ absurd (omega (arith, long, is, few))
     | inr low ↦ absurd (omega (arith, low, is))
@@ -259,68 +259,68 @@ module _ (starts : List ℕ) (g : Greatest) (are : AreCounts starts g) (most blo
   longest_row (Some p) few some least same there = record {
     some = omega (arith, same, some);
     few = omega (arith, same, is);
-    least = subst (λ (n : ℕ). IsLeast (HasRun (InRow starts (numbers_of g)) n) p.start) (sym same) least;
+    least = subst (λ (n : ℕ). IsLeast (HasRun (InRow starts (leaves_of g)) n) p.start) (sym same) least;
     longer = λ n more few'. none_over n (omega (arith, more)) (omega (arith, more, same)) few';
   }
 
 -- the numbers of blocks once the front of a row is given away
-counts_taken : (starts : List ℕ) (whole : ℕ → ℕ) (g h : Greatest) (k n : ℕ) → AreRows starts whole → ((j : ℕ) → j < length starts → get_or starts j 0 + whole j < 2 ^ 32)
-    → ((j : ℕ) → j < length starts → numbers_of g j ≤ whole j) → k < length starts → n ≤ whole k → AreCounts starts g → SetsNumber g h k (numbers_of g k - n) → AreCounts (set starts k (get_or starts k 0 + n)) h
+counts_taken : (starts : List ℕ) (whole : ℕ → ℕ) (g h : Greatest) (k n : ℕ) → AreRowsApart starts whole → ((j : ℕ) → j < length starts → get_or starts j 0 + whole j < 2 ^ 32)
+    → ((j : ℕ) → j < length starts → leaves_of g j ≤ whole j) → k < length starts → n ≤ whole k → AreCounts starts g → SetsNumber g h k (leaves_of g k - n) → AreCounts (set starts k (get_or starts k 0 + n)) h
 counts_taken starts whole g h k n rows small under inside fits are sets = record {
   greatest = sets.stands;
   few = omega (arith, are.few, length-set starts k (get_or starts k 0 + n), sets.leaves');
   none = λ j past low.
       sets.others j (omega (arith, low, sets.leaves')) (λ same. absurd (omega (arith, same, inside, past, length-set starts k (get_or starts k 0 + n))))
       ∙ are.none j (omega (arith, past, length-set starts k (get_or starts k 0 + n))) (omega (arith, low, sets.leaves'));
-  rows = rows_taken starts whole rows (numbers_of g) under k n inside fits (numbers_of h) sets.here (λ j low other. sets.others j (omega (arith, low, are.few)) other);
-  small = small_taken starts whole rows (numbers_of g) under k n inside fits (numbers_of h) sets.here (λ j low other. sets.others j (omega (arith, low, are.few)) other) small;
+  rows = rows_taken starts whole rows (leaves_of g) under k n inside fits (leaves_of h) sets.here (λ j low other. sets.others j (omega (arith, low, are.few)) other);
+  small = small_taken starts whole rows (leaves_of g) under k n inside fits (leaves_of h) sets.here (λ j low other. sets.others j (omega (arith, low, are.few)) other) small;
 }
 
 -- the same of all rows and of parts of them
-module _ (starts now : List ℕ) (g h g' h' : Greatest) (k n : ℕ) (are : AreCounts starts g) (are' : AreCounts starts g') (under : (j : ℕ) → j < length starts → numbers_of g' j ≤ numbers_of g j)
-    (inside : k < length starts) (fits : n ≤ numbers_of g k) (sets : SetsNumber g h k (numbers_of g k - n)) (sets' : SetsNumber g' h' k (numbers_of g' k - n)) (put : now ≡ set starts k (get_or starts k 0 + n)) where
+module _ (starts now : List ℕ) (g h g' h' : Greatest) (k n : ℕ) (are : AreCounts starts g) (are' : AreCounts starts g') (under : (j : ℕ) → j < length starts → leaves_of g' j ≤ leaves_of g j)
+    (inside : k < length starts) (fits : n ≤ leaves_of g k) (sets : SetsNumber g h k (leaves_of g k - n)) (sets' : SetsNumber g' h' k (leaves_of g' k - n)) (put : now ≡ set starts k (get_or starts k 0 + n)) where
   pub both_counts : (all : Bool) → AreCounts now (if all then h else h')
-  both_counts true = subst (λ (xs : List ℕ). AreCounts xs h) (sym put) (counts_taken starts (numbers_of g) g h k n are.rows are.small (λ j low. omega arith) inside fits are sets)
-  both_counts false = subst (λ (xs : List ℕ). AreCounts xs h') (sym put) (counts_taken starts (numbers_of g) g' h' k n are.rows are.small under inside fits are' sets')
+  both_counts true = subst (λ (xs : List ℕ). AreCounts xs h) (sym put) (counts_taken starts (leaves_of g) g h k n are.rows are.small (λ j low. omega arith) inside fits are sets)
+  both_counts false = subst (λ (xs : List ℕ). AreCounts xs h') (sym put) (counts_taken starts (leaves_of g) g' h' k n are.rows are.small under inside fits are' sets')
 
-  pub both_takes : (all : Bool) → Takes (InRow starts (numbers_of (if all then g else g'))) (InRow now (numbers_of (if all then h else h'))) (get_or starts k 0) n
-  both_takes true = subst (λ (xs : List ℕ). Takes (InRow starts (numbers_of g)) (InRow xs (numbers_of h)) (get_or starts k 0) n) (sym put)
-      (takes_front starts (numbers_of g) are.rows (numbers_of g) (λ j low. omega arith) k n inside fits (numbers_of h) sets.here (λ j low other. sets.others j (omega (arith, low, are.few)) other))
-  both_takes false = subst (λ (xs : List ℕ). Takes (InRow starts (numbers_of g')) (InRow xs (numbers_of h')) (get_or starts k 0) n) (sym put)
-      (takes_front starts (numbers_of g) are.rows (numbers_of g') under k n inside fits (numbers_of h') sets'.here (λ j low other. sets'.others j (omega (arith, low, are'.few)) other))
+  pub both_takes : (all : Bool) → Takes (InRow starts (leaves_of (if all then g else g'))) (InRow now (leaves_of (if all then h else h'))) (get_or starts k 0) n
+  both_takes true = subst (λ (xs : List ℕ). Takes (InRow starts (leaves_of g)) (InRow xs (leaves_of h)) (get_or starts k 0) n) (sym put)
+      (takes_front starts (leaves_of g) are.rows (leaves_of g) (λ j low. omega arith) k n inside fits (leaves_of h) sets.here (λ j low other. sets.others j (omega (arith, low, are.few)) other))
+  both_takes false = subst (λ (xs : List ℕ). Takes (InRow starts (leaves_of g')) (InRow xs (leaves_of h')) (get_or starts k 0) n) (sym put)
+      (takes_front starts (leaves_of g) are.rows (leaves_of g') under k n inside fits (leaves_of h') sets'.here (λ j low other. sets'.others j (omega (arith, low, are'.few)) other))
 
-  pub both_under : (j : ℕ) → j < length now → numbers_of h' j ≤ numbers_of h j
+  pub both_under : (j : ℕ) → j < length now → leaves_of h' j ≤ leaves_of h j
   both_under j low =
       let in' : j < length starts = omega (arith, low, ap length put, length-set starts k (get_or starts k 0 + n)) in
       elim (cases_eq j k) [
         | inl same ↦
-            let few : numbers_of g' k ≤ numbers_of g k = under k inside in
-            omega (arith, few, ap (numbers_of h) same, ap (numbers_of h') same, sets.here, sets'.here)
+            let few : leaves_of g' k ≤ leaves_of g k = under k inside in
+            omega (arith, few, ap (leaves_of h) same, ap (leaves_of h') same, sets.here, sets'.here)
         | inr other ↦ omega (arith, under j in', sets.others j (omega (arith, in', are.few)) other, sets'.others j (omega (arith, in', are'.few)) other)
       ]
 
 -- the numbers of blocks of rows that are listed
-pub counts_listed : (starts counts : List ℕ) (g : Greatest) (n : ℕ) → length counts ≡ length starts → Holds counts g → AreRows starts (λ k. get_or counts k 0)
+pub counts_listed : (starts counts : List ℕ) (g : Greatest) (n : ℕ) → length counts ≡ length starts → Holds counts g → AreRowsApart starts (λ k. get_or counts k 0)
     → ((k : ℕ) → k < length starts → get_or starts k 0 + get_or counts k 0 ≤ n) → n < 2 ^ 32 → AreCounts starts g
 counts_listed starts counts g n long holds rows small few = record {
   greatest = holds.stands;
   few = omega (arith, long, holds.there);
   none = λ k past low. holds.each k low ∙ get_or_past counts k 0 (omega (arith, long, past));
-  rows = rows_same starts (λ k. get_or counts k 0) (numbers_of g) (λ k low. sym (holds.each k (omega (arith, low, long, holds.there)))) rows;
+  rows = rows_same starts (λ k. get_or counts k 0) (leaves_of g) (λ k low. sym (holds.each k (omega (arith, low, long, holds.there)))) rows;
   small = λ k low. omega (arith, holds.each k (omega (arith, low, long, holds.there)), small k low, few);
 }
 
 -- parts of rows are rows
-pub rows_under : (starts : List ℕ) (f g : ℕ → ℕ) → ((k : ℕ) → k < length starts → g k ≤ f k) → AreRows starts f → AreRows starts g
+pub rows_under : (starts : List ℕ) (f g : ℕ → ℕ) → ((k : ℕ) → k < length starts → g k ≤ f k) → AreRowsApart starts f → AreRowsApart starts g
 rows_under starts f g under rows = record { apart = λ k low. omega (arith, rows.apart k low, under k (omega (arith, low))) }
 
 -- a piece of what is not spared is one of all
-pub fits_all : (pool : OpenBlocks) (all : Bool) (piece : Piece) → HasRows pool → IsFront pool.starts.items (numbers_of (counts_in all pool)) piece → piece.blocks ≤ numbers_of pool.counts piece.row
+pub fits_all : (pool : OpenBlocks) (all : Bool) (piece : Piece) → HasRows pool → IsFront pool.starts.items (leaves_of (counts_in all pool)) piece → piece.blocks ≤ leaves_of pool.counts piece.row
 fits_all pool true piece rows front = front.fits
 fits_all pool false piece rows front = omega (arith, front.fits, rows.under piece.row front.inside)
 
 -- there are no more rows than blocks
-row_behind : (starts : List ℕ) (count : ℕ → ℕ) → AreRows starts count → (k : ℕ) → k < length starts → k ≤ get_or starts k 0
+row_behind : (starts : List ℕ) (count : ℕ → ℕ) → AreRowsApart starts count → (k : ℕ) → k < length starts → k ≤ get_or starts k 0
 row_behind starts count rows zero inside = omega arith
 row_behind starts count rows (suc k) inside =
     let before = row_behind starts count rows k (omega (arith, inside)) in

@@ -8,7 +8,7 @@ use Rattle.xfs_place.specs.declared.open_blocks.OpenBlocks.{OpenBlocks}
 use Rattle.xfs_place.specs.declared.open_blocks.Piece.{Piece}
 use Rattle.xfs_place.specs.Choice.{IsLeast, IsNone, in_pool}
 use Rattle.xfs_place.specs.declared.uses.Use.{Use}
-use Rattle.xfs_place.specs.Greatest.{AreGreatest, numbers_of}
+use Rattle.xfs_place.specs.Greatest.{AreGreatest, leaves_of}
 use Rattle.xfs_place.specs.Objects.{most_blocks, spared_in}
 use Rattle.xfs_place.specs.Pool.{is_pool_unspared}
 
@@ -17,7 +17,7 @@ abbrev pub InRow : List ℕ → (ℕ → ℕ) → ℕ → Type 0
 InRow starts count b = (k : ℕ) × (k < length starts) × (slice_index starts k ≤ b) × (b < slice_index starts k + count k)
 
 -- a block stands between each row and the next
-pub record AreRows (starts : List ℕ) (count : ℕ → ℕ) : Type 0 where
+pub record AreRowsApart (starts : List ℕ) (count : ℕ → ℕ) : Type 0 where
   pub apart : (k : ℕ) → k + 1 < length starts → slice_index starts k + count k < slice_index starts (k + 1)
 
 -- so many blocks from a block on are all free
@@ -67,7 +67,7 @@ unspared_part v spared start count = min count (slice_index_or spared (start / v
 pub record AreOpenRows (uses : List Use) (starts counts : List ℕ) : Type 0 where
   pub all : length counts ≡ length starts
   pub small : (k : ℕ) → k < length starts → slice_index starts k + slice_index counts k ≤ length uses
-  pub rows : AreRows starts (λ k. slice_index counts k)
+  pub rows : AreRowsApart starts (λ k. slice_index counts k)
   pub listed : (b : ℕ) → in_pool uses b ≡ true → InRow starts (λ k. slice_index counts k) b
   pub free : (b : ℕ) → InRow starts (λ k. slice_index counts k) b → in_pool uses b ≡ true
 
@@ -75,9 +75,9 @@ pub record AreOpenRows (uses : List Use) (starts counts : List ℕ) : Type 0 whe
 pub record AreCounts (starts : List ℕ) (g : Greatest) : Type 0 where
   pub greatest : AreGreatest g.nodes.items g.leaves g.depth
   pub few : length starts ≤ g.leaves
-  pub none : (k : ℕ) → length starts ≤ k → k < g.leaves → numbers_of g k ≡ 0
-  pub rows : AreRows starts (numbers_of g)
-  pub small : (k : ℕ) → k < length starts → slice_index starts k + numbers_of g k < 2 ^ 32
+  pub none : (k : ℕ) → length starts ≤ k → k < g.leaves → leaves_of g k ≡ 0
+  pub rows : AreRowsApart starts (leaves_of g)
+  pub small : (k : ℕ) → k < length starts → slice_index starts k + leaves_of g k < 2 ^ 32
 
 -- a piece is the front of the row of its number
 pub record IsFront (starts : List ℕ) (count : ℕ → ℕ) (piece : Piece) : Type 0 where
@@ -93,11 +93,11 @@ counts_in all pool = if all then pool.counts else pool.unspared
 -- all rows, and what is not spared of them
 pub record HasRows (pool : OpenBlocks) : Type 0 where
   pub each : (all : Bool) → AreCounts pool.starts.items (counts_in all pool)
-  pub under : (k : ℕ) → k < length pool.starts.items → numbers_of pool.unspared k ≤ numbers_of pool.counts k
+  pub under : (k : ℕ) → k < length pool.starts.items → leaves_of pool.unspared k ≤ leaves_of pool.counts k
 
 -- the block is free, or free and not spared
 abbrev pub free_in : Bool → OpenBlocks → ℕ → Type 0
-free_in all pool b = InRow pool.starts.items (numbers_of (counts_in all pool)) b
+free_in all pool b = InRow pool.starts.items (leaves_of (counts_in all pool)) b
 
 -- a list goes on where another one ends
 abbrev pub IsFrontOf : {X : Type 0} → List X → List X → Type 0

@@ -2,6 +2,7 @@
 use Rattle.std.specs.Prelude.{◌≡◌, ℕ, zero, suc, Bool, true, false, ◌+◌, ◌-◌, ◌/◌, ◌%◌, ◌^◌, ◌≤◌, ◌&&◌, ◌==◌, nat_le, nat_lt, min, if◌then◌else◌, List, [], ◌∷◌, ◌++◌, length, take, drop, Option, Some, None, Result, Ok, Err}
 use Rattle.std.specs.List.{flat_map, list_all, range_with_len}
 use Rattle.xfs_geom.specs.Conversions.{group_length}
+use Rattle.xfs_geom.specs.Features.{or_else}
 use Rattle.xfs_geom.specs.Volumes.{Volume}
 use Rattle.xfs_geom.specs.declared.records.Run.{Run}
 use Rattle.xfs_kinds.specs.OffsetWords.{offset_in_fork, is_file_data}
@@ -107,10 +108,6 @@ module _ (v : Volume) (reserved : List ℕ) (from : ℕ) (spared : List ℕ) whe
   unfoldable pub keep_asks : ℕ → List Run → List RunAsk → Option (List Run)
   keep_asks left kept [] = Some kept
   keep_asks left kept (ask ∷ rest) = with_kept (keep_pieces (left - length rest) false kept ask) (λ all. keep_asks (left - (length all - length kept)) all rest)
-
-abbrev pub or_else : Option (List Run) → Option (List Run) → Option (List Run)
-or_else None other = other
-or_else (Some kept) other = Some kept
 
 -- spared blocks, where they are
 abbrev pub spared_in : Bool → List ℕ → List ℕ

@@ -1,7 +1,7 @@
 //! Numbers of which the first that is large enough, and the greatest, are found without looking at all.
 
 ghost use Rattle.std.specs.Prelude.{◌≡◌, ◌≢◌, ◌≤◌, ◌<◌, ◌+◌, ◌*◌, ◌^◌, ℕ, nat_le, length, slice_index, slice_set, max, if◌then◌else◌, IfOk, MatchOption};
-ghost use Rattle.xfs_place.specs.Greatest.{AreGreatest, Holds, SetsNumber, number_at, numbers_of};
+ghost use Rattle.xfs_place.specs.Greatest.{AreGreatest, Holds, SetsNumber, leaf_at, leaves_of};
 
 use std::alloc::Global;
 use xfs_disk::NoMemory;
@@ -47,7 +47,7 @@ impl Greatest {
     pub fn number(&self, k: usize) -> u32
         requires stands { AreGreatest self.now.nodes.items self.now.leaves self.now.depth }
         requires inside { k < self.now.leaves }
-        ensures { result ≡ numbers_of self.now k }
+        ensures { result ≡ leaves_of self.now k }
     {
         self.nodes[self.leaves + k]
     }
@@ -56,9 +56,9 @@ impl Greatest {
     pub fn first(&self, least: u32) -> Option<usize>
         requires stands { AreGreatest self.now.nodes.items self.now.leaves self.now.depth }
         ensures first { MatchOption result
-            ((slice_index self.now.nodes.items 1 < least) × ((k : ℕ) → k < self.now.leaves → number_at self.now.nodes.items self.now.leaves k < least))
-            (λ k. (k < self.now.leaves) × (least ≤ number_at self.now.nodes.items self.now.leaves k)
-            × ((j : ℕ) → j < k → number_at self.now.nodes.items self.now.leaves j < least)) }
+            ((slice_index self.now.nodes.items 1 < least) × ((k : ℕ) → k < self.now.leaves → leaf_at self.now.nodes.items self.now.leaves k < least))
+            (λ k. (k < self.now.leaves) × (least ≤ leaf_at self.now.nodes.items self.now.leaves k)
+            × ((j : ℕ) → j < k → leaf_at self.now.nodes.items self.now.leaves j < least)) }
     {
         if self.greatest() < least {
             return None;
@@ -114,8 +114,8 @@ fn put(nodes: &mut [u32], leaves: usize, depth: usize, k: usize, number: u32)
     requires stands { AreGreatest nodes.old leaves depth }
     requires inside { k < leaves }
     ensures stands { AreGreatest nodes.new leaves depth }
-    ensures set { number_at nodes.new leaves k ≡ number }
-    ensures others { (j : ℕ) → j < leaves → j ≢ k → number_at nodes.new leaves j ≡ number_at nodes.old leaves j }
+    ensures set { leaf_at nodes.new leaves k ≡ number }
+    ensures others { (j : ℕ) → j < leaves → j ≢ k → leaf_at nodes.new leaves j ≡ leaf_at nodes.old leaves j }
 {
     let mut node = leaves + k;
     nodes[node] = number;
@@ -129,7 +129,7 @@ fn put(nodes: &mut [u32], leaves: usize, depth: usize, k: usize, number: u32)
 fn descend(nodes: &[u32], leaves: usize, depth: usize, least: u32) -> usize
     requires stands { AreGreatest nodes.now leaves depth }
     requires enough { least ≤ slice_index nodes.now 1 }
-    ensures { (result < leaves) × (least ≤ number_at nodes.now leaves result) × ((j : ℕ) → j < result → number_at nodes.now leaves j < least) }
+    ensures { (result < leaves) × (least ≤ leaf_at nodes.now leaves result) × ((j : ℕ) → j < result → leaf_at nodes.now leaves j < least) }
 {
     let mut node = 1;
     for _level in 0..depth {

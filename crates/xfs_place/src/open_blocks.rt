@@ -4,7 +4,7 @@ ghost use Rattle.std.specs.Prelude.{◌≡◌, ◌≢◌, ◌≤◌, ◌<◌, �
 ghost use Rattle.xfs_geom.specs.Volumes.{volume_of};
 ghost use Rattle.xfs_place.specs.Choice.{IsLeast, IsNone};
 ghost use Rattle.xfs_place.specs.Finding.{AreCounts, Finds, HasNone, HasRows, HasRun, InRow, IsFront, IsLongest, IsOpen, Takes, counts_in, free_in, pair_of_piece};
-ghost use Rattle.xfs_place.specs.Greatest.{AreGreatest, SetsNumber, numbers_of};
+ghost use Rattle.xfs_place.specs.Greatest.{AreGreatest, SetsNumber, leaves_of};
 ghost use Rattle.xfs_place.specs.Objects.{most_extent_blocks, found_or, most_blocks, piece_of};
 ghost use Rattle.xfs_place.specs.Wanted.{CanBeKept};
 
@@ -65,7 +65,7 @@ impl OpenBlocks {
         requires rows { HasRows self.now }
         ensures piece { (low : ℕ → Option ℕ) → Finds (free_in all self.now) low → piece_of low split blocks ≡ pair_of_piece result }
         ensures least { IfSome result (λ piece. IsLeast (HasRun (free_in all self.now) piece.blocks) piece.start) }
-        ensures front { IfSome result (λ piece. IsFront self.now.starts.items (numbers_of (counts_in all self.now)) piece) }
+        ensures front { IfSome result (λ piece. IsFront self.now.starts.items (leaves_of (counts_in all self.now)) piece) }
         ensures few { IfSome result (λ piece. piece.blocks ≤ blocks) }
     {
         piece_of(&self.starts, self.counts_in(all), blocks, split)
@@ -81,7 +81,7 @@ impl OpenBlocks {
     /// Gives away the first blocks of a row.
     pub fn take(&mut self, piece: Piece)
         requires inside { piece.row < length self.old.starts.items }
-        requires fits { piece.blocks ≤ numbers_of self.old.counts piece.row }
+        requires fits { piece.blocks ≤ leaves_of self.old.counts piece.row }
         requires rows { HasRows self.old }
         ensures takes { (all : Bool) → Takes (free_in all self.old) (free_in all self.new) (slice_index self.old.starts.items piece.row) piece.blocks }
         ensures rows { HasRows self.new }
@@ -106,7 +106,7 @@ fn shorten(counts: &mut Greatest, row: usize, blocks: u64)
     requires stands { AreGreatest counts.old.nodes.items counts.old.leaves counts.old.depth }
     requires inside { row < counts.old.leaves }
     requires few { blocks < 2 ^ 32 }
-    ensures { SetsNumber counts.old counts.new row (numbers_of counts.old row - blocks) }
+    ensures { SetsNumber counts.old counts.new row (leaves_of counts.old row - blocks) }
 {
     let left = counts.number(row).saturating_sub(blocks as u32);
     counts.set(row, left);
@@ -116,9 +116,9 @@ fn shorten(counts: &mut Greatest, row: usize, blocks: u64)
 fn piece_of(starts: &[u32], counts: &Greatest, blocks: u64, split: bool) -> Option<Piece>
     requires some { 1 ≤ blocks }
     requires rows { AreCounts starts.now counts.now }
-    ensures piece { (low : ℕ → Option ℕ) → Finds (InRow starts.now (numbers_of counts.now)) low → piece_of low split blocks ≡ pair_of_piece result }
-    ensures least { IfSome result (λ piece. IsLeast (HasRun (InRow starts.now (numbers_of counts.now)) piece.blocks) piece.start) }
-    ensures front { IfSome result (λ piece. IsFront starts.now (numbers_of counts.now) piece) }
+    ensures piece { (low : ℕ → Option ℕ) → Finds (InRow starts.now (leaves_of counts.now)) low → piece_of low split blocks ≡ pair_of_piece result }
+    ensures least { IfSome result (λ piece. IsLeast (HasRun (InRow starts.now (leaves_of counts.now)) piece.blocks) piece.start) }
+    ensures front { IfSome result (λ piece. IsFront starts.now (leaves_of counts.now) piece) }
     ensures few { IfSome result (λ piece. piece.blocks ≤ blocks) }
 {
     if let Some(piece) = whole_of(starts, counts, blocks, split) {
@@ -131,10 +131,10 @@ fn piece_of(starts: &[u32], counts: &Greatest, blocks: u64, split: bool) -> Opti
 fn whole_of(starts: &[u32], counts: &Greatest, blocks: u64, split: bool) -> Option<Piece>
     requires some { 1 ≤ blocks }
     requires rows { AreCounts starts.now counts.now }
-    ensures whole { (low : ℕ → Option ℕ) → Finds (InRow starts.now (numbers_of counts.now)) low
+    ensures whole { (low : ℕ → Option ℕ) → Finds (InRow starts.now (leaves_of counts.now)) low
         → found_or (if split && nat_lt most_extent_blocks blocks then None else low blocks) blocks None ≡ pair_of_piece result }
-    ensures least { IfSome result (λ piece. IsLeast (HasRun (InRow starts.now (numbers_of counts.now)) piece.blocks) piece.start) }
-    ensures front { IfSome result (λ piece. IsFront starts.now (numbers_of counts.now) piece) }
+    ensures least { IfSome result (λ piece. IsLeast (HasRun (InRow starts.now (leaves_of counts.now)) piece.blocks) piece.start) }
+    ensures front { IfSome result (λ piece. IsFront starts.now (leaves_of counts.now) piece) }
     ensures blocks { IfSome result (λ piece. piece.blocks ≡ blocks) }
 {
     if is_too_long(blocks, split) {
@@ -147,9 +147,9 @@ fn whole_of(starts: &[u32], counts: &Greatest, blocks: u64, split: bool) -> Opti
 fn lowest_of(starts: &[u32], counts: &Greatest, blocks: u64) -> Option<Piece>
     requires some { 1 ≤ blocks }
     requires rows { AreCounts starts.now counts.now }
-    ensures lowest { MatchOption result (IsNone (HasRun (InRow starts.now (numbers_of counts.now)) blocks))
-        (λ piece. IsLeast (HasRun (InRow starts.now (numbers_of counts.now)) blocks) piece.start) }
-    ensures front { IfSome result (λ piece. IsFront starts.now (numbers_of counts.now) piece) }
+    ensures lowest { MatchOption result (IsNone (HasRun (InRow starts.now (leaves_of counts.now)) blocks))
+        (λ piece. IsLeast (HasRun (InRow starts.now (leaves_of counts.now)) blocks) piece.start) }
+    ensures front { IfSome result (λ piece. IsFront starts.now (leaves_of counts.now) piece) }
     ensures blocks { IfSome result (λ piece. piece.blocks ≡ blocks) }
     ensures there { MatchOption result ((most_blocks < blocks) ⊎ (slice_index counts.now.nodes.items 1 < blocks)) (λ _. Unit {0}) }
 {
@@ -170,9 +170,9 @@ fn lowest_of(starts: &[u32], counts: &Greatest, blocks: u64) -> Option<Piece>
 fn longest_of(starts: &[u32], counts: &Greatest, most: u64) -> Option<Piece>
     requires few { most ≤ 2097151 }
     requires rows { AreCounts starts.now counts.now }
-    ensures longest { MatchOption result (HasNone (InRow starts.now (numbers_of counts.now)) most)
-        (λ piece. IsLongest (InRow starts.now (numbers_of counts.now)) most piece.start piece.blocks) }
-    ensures front { IfSome result (λ piece. IsFront starts.now (numbers_of counts.now) piece) }
+    ensures longest { MatchOption result (HasNone (InRow starts.now (leaves_of counts.now)) most)
+        (λ piece. IsLongest (InRow starts.now (leaves_of counts.now)) most piece.start piece.blocks) }
+    ensures front { IfSome result (λ piece. IsFront starts.now (leaves_of counts.now) piece) }
     ensures few { IfSome result (λ piece. piece.blocks ≤ most) }
 {
     let blocks = most.min(counts.greatest() as u64);

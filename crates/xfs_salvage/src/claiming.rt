@@ -34,7 +34,7 @@ const NO_INODE: u64 = 1 << 63;
 /// have extents that no file can have. What is gathered of any image can.
 ///
 /// `NoMemory` where memory is wanting.
-pub fn claims_of<L: Ledger>(
+pub fn claims_in<L: Ledger>(
     alloc: Global,
     g: &Geometry,
     clusters: &[ClusterRec],

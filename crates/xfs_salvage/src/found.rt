@@ -5,7 +5,7 @@ use xfs_volume::{ClusterRec, DirRec, FileRec, Records};
 
 /// What the candidate clusters of a volume gave.
 #[derive(Debug, Drop)]
-pub struct Found {
+pub struct FoundRecords {
     /// The candidate clusters, by block.
     pub clusters: Records<ClusterRec>,
     /// The files that their slots have, by inode, with their attributes or without.

@@ -6,8 +6,8 @@ ghost use Rattle.xfs_naming.specs.Naming.{NumbersAscend, numbers_of};
 ghost use Rattle.xfs_salvage.specs.Claimable.{CanBeSalvaged};
 ghost use Rattle.xfs_salvage.specs.Kept.{dirs_among, entries_among, fresh_among, fresh_inodes, claims_held, kept_clusters, kept_dirs, entries_of_kept, kept_files};
 
-use crate::claiming::claims_of;
-use crate::found::{Found, Salvaged};
+use crate::claiming::claims_in;
+use crate::found::{FoundRecords, Salvaged};
 use crate::order::{directories_of, dirs_of, entries_of, files_that_stay, fresh_among};
 use std::alloc::Global;
 use std::sync::ledger::Ledger;
@@ -28,7 +28,7 @@ pub fn salvage<R: Threads + Sync, L: Ledger>(
     rt: &R,
     alloc: Global,
     g: &Geometry,
-    found: Found,
+    found: FoundRecords,
     steps: &mut Steps<L>,
 ) -> Result<Salvaged, NoMemory>
     ensures can { OnOk result (CanBeSalvaged (volume_of g.now) found.clusters found.files) }
@@ -38,7 +38,7 @@ pub fn salvage<R: Threads + Sync, L: Ledger>(
     ensures entries { IfOk result (λ kept. kept.entries ≡ entries_of_kept (volume_of g.now) found.clusters found.files found.entries) }
     ensures dirs { IfOk result (λ kept. kept.dirs ≡ kept_dirs (volume_of g.now) found.clusters found.files found.dirs) }
 {
-    let Found {
+    let FoundRecords {
         clusters,
         files,
         entries,
@@ -96,7 +96,7 @@ fn held<R: Threads + Sync, L: Ledger>(
     ensures files { IfOk result (λ kept. kept.files ≡ (claims_held (volume_of g.now) clusters.now files.now).files) }
     ensures ascend { IfOk result (λ kept. NumbersAscend 0 kept.files) }
 {
-    match claims_of(alloc, g, clusters, files, steps)? {
+    match claims_in(alloc, g, clusters, files, steps)? {
         Some(claims) => keep(rt, alloc, &claims, steps),
         None => Err(NoMemory),
     }

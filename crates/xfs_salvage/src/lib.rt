@@ -7,7 +7,7 @@
 //! A caller would write:
 //!
 //! ```text
-//! let found = Found { clusters, files, entries, dirs }; // as they were gathered
+//! let found = FoundRecords { clusters, files, entries, dirs }; // as they were gathered
 //! let kept = salvage(rt, alloc, g, found, &mut steps)?; // kept.clusters, kept.files, kept.fresh, ..
 //! ```
 #![tactic(auto)]
@@ -19,8 +19,8 @@ mod keeping;
 mod order;
 mod runs;
 
-pub use claiming::claims_of;
-pub use found::{Found, Salvaged};
+pub use claiming::claims_in;
+pub use found::{FoundRecords, Salvaged};
 pub use keeping::salvage;
 pub use order::is_among;
 pub use runs::{cluster_of, file_runs};

@@ -29,7 +29,7 @@ use Rattle.xfs_render.specs.declared.bytes.Bytes.{Bytes}
 use Rattle.xfs_render.specs.declared.wanted_slots.SlotWanted.{SlotWanted}
 use Rattle.xfs_empty.specs.Bytes.{empty_places}
 use Rattle.xfs_empty.specs.Geometry.{HasFirstChunk}
-use Rattle.xfs_empty.specs.Inodes.{free_slot}
+use Rattle.xfs_empty.specs.Inodes.{unused_slot}
 use Rattle.xfs_empty.proofs.Chunk.{all_clear, first_length}
 use Rattle.xfs_empty.proofs.Kept.{chunk_kept}
 use Rattle.xfs_empty.proofs.Places.{IsChunkAt, IsHeadAt, chunk_inode, place_cases}
@@ -114,8 +114,8 @@ chunk_can g slots block place old are few at =
           let v = volume_of g in
           let inside : 8 * block + k < 64 = omega (arith, few, low) in
           let there : inode_of v place k ≡ 128 + (8 * block + k) = ap (λ (p : ℕ). inode_of v p k) at ∙ chunk_inode v block k g.shape.groups few in
-          let is = wanted_is 128 (inode_of v place k) (8 * block + k) slots (free_slot 0) (numbered v slots are) (omega (arith, inside, are.count)) there in
-          slot_can v slots (inode_of v place k) (get_or slots (8 * block + k) (free_slot 0)) _ is (are.can (8 * block + k) (free_slot 0) _ inside);
+          let is = wanted_is 128 (inode_of v place k) (8 * block + k) slots (unused_slot 0) (numbered v slots are) (omega (arith, inside, are.count)) there in
+          slot_can v slots (inode_of v place k) (get_or slots (8 * block + k) (unused_slot 0)) _ is (are.can (8 * block + k) (unused_slot 0) _ inside);
     }
 
 places_can : (g : Geometry) (slots : List SlotWanted) (i : ℕ) (old : List ℕ) → AreSmallSlots (volume_of g) 64 slots → i < length (empty_places g)

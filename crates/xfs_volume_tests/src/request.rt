@@ -19,7 +19,7 @@ use xfs_place::GroupInodes;
 use xfs_render::{SlotBase, SlotWanted};
 use xfs_request::{Request, SlotSeen, SlotState, ask, due_cycle};
 use xfs_runs::Steps;
-use xfs_salvage::{Found, salvage};
+use xfs_salvage::{FoundRecords, salvage};
 use xfs_volume::{ClusterRec, Records};
 
 /// In a row stand what the case is, the clusters and whether they are recorded, the files, the directories, the entries, the slots
@@ -156,8 +156,8 @@ fn stamp() -> Stamp {
     }
 }
 
-fn found_in(rt: &impl Abort, alloc: Global, row: &mut Row) -> Result<Found, AllocError> {
-    Ok(Found {
+fn found_in(rt: &impl Abort, alloc: Global, row: &mut Row) -> Result<FoundRecords, AllocError> {
+    Ok(FoundRecords {
         clusters: records(rt, alloc, row.text())?,
         files: records(rt, alloc, row.text())?,
         dirs: records(rt, alloc, row.text())?,

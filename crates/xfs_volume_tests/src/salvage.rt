@@ -14,7 +14,7 @@ use std::test::Fail;
 use std::thread::Threads;
 use xfs_disk::NoMemory;
 use xfs_runs::Steps;
-use xfs_salvage::{Found, Salvaged, claims_of, salvage};
+use xfs_salvage::{FoundRecords, Salvaged, claims_in, salvage};
 
 /// In a row stand what the case is, the clusters and whether they are recorded, the files, the directories, the entries; then
 /// what is kept: the clusters, the files, the inodes that are made anew, the directories, and what the entries name.
@@ -66,8 +66,8 @@ A block of data that is one of attributes | 16 true | 131 0x8000 1 0 40 3 false 
 A block of data that is one of the tree | 16 true | 131 0x8000 1 0 40 3 false - 41 | false
 ";
 
-fn found_in(rt: &impl Abort, alloc: Global, row: &mut Row) -> Result<Found, AllocError> {
-    Ok(Found {
+fn found_in(rt: &impl Abort, alloc: Global, row: &mut Row) -> Result<FoundRecords, AllocError> {
+    Ok(FoundRecords {
         clusters: records(rt, alloc, row.text())?,
         files: records(rt, alloc, row.text())?,
         dirs: records(rt, alloc, row.text())?,
@@ -142,7 +142,7 @@ fn try_can<L: Ledger>(
     let case = row.text();
     let clusters = records(rt, alloc, row.text())?;
     let files = records(rt, alloc, row.text())?;
-    let claims = claims_of(alloc, &g, clusters.as_slice(), files.as_slice(), steps)?;
+    let claims = claims_in(alloc, &g, clusters.as_slice(), files.as_slice(), steps)?;
     same!(rt; claims.is_some(), row.flag(rt); case);
     Ok(())
 }

@@ -50,32 +50,32 @@ returns-in-Err-clause-stops g c = λ tells image told t stopped low left.
 pub returns-in-Err-plan_volume-clause-due : goal.returns-in-Err-plan_volume-clause-due
 returns-in-Err-plan_volume-clause-due g c = λ image told.
     let size = g.D.Disk.size c.args.disk.now in
-    subst (λ (x : MakeOutcome). IsDueMake c.args.options.now c.args.stamp.now size image x) (sym c.place_answer.ensures.value)
+    subst (λ (x : MakeOutcome). IsDueMake c.args.options.now c.args.stamp.now size image x) (sym c.place_outcome.ensures.value)
     (due_placing c.args.options.now c.args.stamp.now size image c.in-Ok.g (c.in-Ok.ensures.none image told) c.in-Ok.ensures.chosen
     c.in-Err-plan_volume.fault c.in-Err-plan_volume.ensures.cause)
 
 pub returns-in-Err-plan_volume-clause-leaves : goal.returns-in-Err-plan_volume-clause-leaves
 returns-in-Err-plan_volume-clause-leaves g c = λ image told.
-    leaves_unwritten c.args.options.now c.args.stamp.now (g.D.Disk.size c.args.disk.now) image (g.D.Disk.holds c.decide.new.disk) c.place_answer.result
-    c.place_answer.ensures.early (c.in-Ok.ensures.disk.same_contents ∙ told)
+    leaves_unwritten c.args.options.now c.args.stamp.now (g.D.Disk.size c.args.disk.now) image (g.D.Disk.holds c.decide.new.disk) c.place_outcome.result
+    c.place_outcome.ensures.early (c.in-Ok.ensures.disk.same_contents ∙ told)
 
 pub returns-in-Err-plan_volume-clause-counts : goal.returns-in-Err-plan_volume-clause-counts
 returns-in-Err-plan_volume-clause-counts g c =
     counts_unwritten c.args.options.now c.args.stamp.now (g.D.Disk.size c.args.disk.now) (g.D.Disk.writes c.args.disk.now)
-    (g.D.Disk.writes c.decide.new.disk) c.place_answer.result c.place_answer.ensures.early c.in-Ok.ensures.disk.same_writes
+    (g.D.Disk.writes c.decide.new.disk) c.place_outcome.result c.place_outcome.ensures.early c.in-Ok.ensures.disk.same_writes
 
 pub returns-in-Err-plan_volume-clause-reads : goal.returns-in-Err-plan_volume-clause-reads
 returns-in-Err-plan_volume-clause-reads g c =
     let force = c.args.options.now.force in
     let before = g.D.Disk.reads c.args.disk.now in
     let now = g.D.Disk.reads c.decide.new.disk in
-    subst (λ (x : MakeOutcome). CountsReads force before now x) (sym c.place_answer.ensures.value)
+    subst (λ (x : MakeOutcome). CountsReads force before now x) (sym c.place_outcome.ensures.value)
     (reads_placing force before now c.in-Err-plan_volume.fault c.in-Ok.ensures.looked)
 
 pub returns-in-Err-plan_volume-clause-kept : goal.returns-in-Err-plan_volume-clause-kept
 returns-in-Err-plan_volume-clause-kept g c =
     kept_unwritten (g.D.Disk.tells_stops c.args.disk.now) (g.D.Disk.holds c.decide.new.disk) (g.D.Disk.may_leave c.decide.new.disk)
-    c.place_answer.result c.place_answer.ensures.early
+    c.place_outcome.result c.place_outcome.ensures.early
 
 pub returns-in-Err-plan_volume-clause-stops : goal.returns-in-Err-plan_volume-clause-stops
 returns-in-Err-plan_volume-clause-stops g c = λ tells image told t stopped low left.
@@ -86,7 +86,7 @@ returns-in-Err-plan_volume-clause-cause g c =
     subst
     (λ (x : MakeOutcome). IsMakingCause (g.D.Disk.faults c.args.disk.now) (g.D.Disk.faults c.decide.new.disk) (g.D.Disk.write_faults c.args.disk.now)
     (g.D.Disk.write_faults c.decide.new.disk) x)
-    (sym c.place_answer.ensures.value) (caused_placing _ _ _ _ c.in-Err-plan_volume.fault)
+    (sym c.place_outcome.ensures.value) (caused_placing _ _ _ _ c.in-Err-plan_volume.fault)
 
 pub returns-in-Ok-put_plan-clause-due : goal.returns-in-Ok-put_plan-clause-due
 returns-in-Ok-put_plan-clause-due g c = λ image told. (
@@ -154,14 +154,14 @@ returns-in-Ok-put_plan-clause-stops g c = λ tells image told t stopped low left
 pub returns-clause-due : goal.returns-clause-due
 returns-clause-due g c = λ image told.
     let size = g.D.Disk.size c.args.disk.now in
-    subst (λ (x : MakeOutcome). IsDueMake c.args.options.now c.args.stamp.now size image x) (sym c.put_answer.ensures)
+    subst (λ (x : MakeOutcome). IsDueMake c.args.options.now c.args.stamp.now size image x) (sym c.put_outcome.ensures)
     (due_putting c.args.options.now c.args.stamp.now size image c.in-Ok.g (c.in-Ok.ensures.none image told) c.in-Ok.ensures.chosen
     c.in-Ok-plan_volume.ensures.room c.in-Err-put_plan.fault)
 
 pub returns-clause-leaves : goal.returns-clause-leaves
 returns-clause-leaves g c = λ image told.
     let size = g.D.Disk.size c.args.disk.now in
-    subst (λ (x : MakeOutcome). MakeLeaves c.args.options.now c.args.stamp.now size image (g.D.Disk.holds c.put_plan.new.disk) x) (sym c.put_answer.ensures)
+    subst (λ (x : MakeOutcome). MakeLeaves c.args.options.now c.args.stamp.now size image (g.D.Disk.holds c.put_plan.new.disk) x) (sym c.put_outcome.ensures)
     (leaves_putting c.args.options.now c.args.stamp.now size image (g.D.Disk.holds c.put_plan.new.disk) c.in-Ok.g c.in-Ok-plan_volume.plan
     c.in-Ok.ensures.chosen
     (subst (λ (label : List ℕ). IsPlanned c.in-Ok.g label c.args.stamp.now c.in-Ok-plan_volume.plan) c.bytes.ensures
@@ -173,7 +173,7 @@ returns-clause-cause g c =
     subst
     (λ (x : MakeOutcome). IsMakingCause (g.D.Disk.faults c.args.disk.now) (g.D.Disk.faults c.put_plan.new.disk) (g.D.Disk.write_faults c.args.disk.now)
     (g.D.Disk.write_faults c.put_plan.new.disk) x)
-    (sym c.put_answer.ensures)
+    (sym c.put_outcome.ensures)
     (caused_putting _ _ _ _ c.in-Err-put_plan.fault
     (subst (λ (before : ℕ). HasPutCause before (g.D.Disk.write_faults c.put_plan.new.disk) (Err c.in-Err-put_plan.fault)) c.in-Ok.ensures.disk.same_write_faults
     c.in-Err-put_plan.ensures.cause))
@@ -187,7 +187,7 @@ returns-clause-counts g c =
     let fault = c.in-Err-put_plan.fault in
     let is : IsPlanned c.in-Ok.g c.args.options.now.label c.args.stamp.now plan =
     subst (λ (label : List ℕ). IsPlanned c.in-Ok.g label c.args.stamp.now plan) c.bytes.ensures c.in-Ok-plan_volume.ensures.rendered in
-    subst (λ (x : MakeOutcome). CountsBlocks c.args.options.now c.args.stamp.now size before now x) (sym c.put_answer.ensures)
+    subst (λ (x : MakeOutcome). CountsBlocks c.args.options.now c.args.stamp.now size before now x) (sym c.put_outcome.ensures)
     (counts_putting c.args.options.now c.args.stamp.now size before now plan
     (record { geometry = c.in-Ok.g; chosen = c.in-Ok.ensures.chosen; rendered = is }) fault
     (subst (λ (b : ℕ). CountsPut plan b now (Err fault)) c.in-Ok.ensures.disk.same_writes c.in-Err-put_plan.ensures.counted))
@@ -197,13 +197,13 @@ returns-clause-reads g c =
     let force = c.args.options.now.force in
     let before = g.D.Disk.reads c.args.disk.now in
     let now = g.D.Disk.reads c.put_plan.new.disk in
-    subst (λ (x : MakeOutcome). CountsReads force before now x) (sym c.put_answer.ensures)
+    subst (λ (x : MakeOutcome). CountsReads force before now x) (sym c.put_outcome.ensures)
     (reads_putting force before now c.in-Err-put_plan.fault (c.in-Err-put_plan.ensures.reads ∙ c.in-Ok.ensures.looked))
 
 pub returns-clause-unwritten : goal.returns-clause-unwritten
 returns-clause-unwritten g c = λ is.
     let fault = c.in-Err-put_plan.fault in
-    let none : fault ≡ NoMemory = unwritten_putting fault (subst IsUnwritten c.put_answer.ensures is) in
+    let none : fault ≡ NoMemory = unwritten_putting fault (subst IsUnwritten c.put_outcome.ensures is) in
     let same : c.put_plan.new.disk ≡ c.decide.new.disk = c.in-Err-put_plan.ensures.untouched (ap (λ (f : PutFault). Err f) none) in
     subst
     (λ (d : g.row.D.Denot). OnlyReads g.D.Disk.size g.D.Disk.holds g.D.Disk.write_faults g.D.Disk.writes g.D.Disk.tells_stops g.D.Disk.moment
@@ -215,7 +215,7 @@ returns-clause-kept g c =
     let tells = g.D.Disk.tells_stops c.args.disk.now in
     let now = g.D.Disk.holds c.put_plan.new.disk in
     let may_leave = g.D.Disk.may_leave c.put_plan.new.disk in
-    subst (λ (x : MakeOutcome). IsDurableMake tells now may_leave x) (sym c.put_answer.ensures) (kept_putting tells now may_leave c.in-Err-put_plan.fault)
+    subst (λ (x : MakeOutcome). IsDurableMake tells now may_leave x) (sym c.put_outcome.ensures) (kept_putting tells now may_leave c.in-Err-put_plan.fault)
 
 pub returns-clause-stops : goal.returns-clause-stops
 returns-clause-stops g c = λ tells image told t stopped low left.
@@ -232,7 +232,7 @@ returns-clause-stops g c = λ tells image told t stopped low left.
     let put =
     c.in-Err-put_plan.ensures.stops (c.in-Ok.ensures.disk.tells tells) image (c.in-Ok.ensures.disk.same_contents ∙ told) t stopped
     (omega (arith, low, later)) left in
-    subst (λ (x : MakeOutcome). before ⊎ StopLeaves o stamp size image stopped x) (sym c.put_answer.ensures)
+    subst (λ (x : MakeOutcome). before ⊎ StopLeaves o stamp size image stopped x) (sym c.put_outcome.ensures)
     (stops_putting o stamp size image stopped c.in-Err-put_plan.fault before now
     (λ none it. past.nothing_new t stopped low
     (subst (λ (d : g.row.D.Denot). g.D.Disk.left_since d t stopped) (c.in-Err-put_plan.ensures.untouched (ap (λ (f : PutFault). Err f) none)) it))

@@ -1,13 +1,13 @@
 use Rattle.std.proofs.Common.{◌≡◌, ◌∙◌, sym, ap, subst, add-one, map, take, drop, ◌++◌, slice_set, slice_index_or, List}
 use Rattle.xfs_dirdata.specs.declared.records.EntryRec.{EntryRec}
-use Rattle.xfs_names.specs.Wanted.{typed}
+use Rattle.xfs_names.specs.Wanted.{with_type}
 use Rattle.xfs_names.proofs.Setting.{set_next}
 use Rattle.xfs_names.proofs.joining.set_types.Goals as goal
 
 pub loop-entry-preserved : goal.loop-entry-preserved
 loop-entry-preserved c =
     let i = c.loop-entry.entry-index in
-    let f = typed c.args.nodes.now in
+    let f = with_type c.args.nodes.now in
     let xs = c.args.entries.now in
     let x = c.entry-item.result in
     ap (λ (es : List EntryRec). slice_set es i c.set_type.new.entry) c.loop-entry.invariant

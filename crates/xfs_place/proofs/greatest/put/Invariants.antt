@@ -1,5 +1,5 @@
 use Rattle.std.proofs.Common.{◌≡◌, ◌≢◌, ℕ, ◌+◌, ◌-◌, ◌^◌, ◌≤◌, ◌<◌}
-use Rattle.xfs_place.specs.Greatest.{number_at}
+use Rattle.xfs_place.specs.Greatest.{leaf_at}
 use Rattle.xfs_place.proofs.Branches.{Mends}
 use Rattle.xfs_place.proofs.greatest.put.Given as goal
 
@@ -8,6 +8,6 @@ invariant-loop-level l = record {
   mends : Mends l.nodes l.leaves l.node;
   low : 2 ^ (l.depth - l._level) ≤ l.node;
   high : l.node < 2 ^ (l.depth - l._level + 1);
-  set' : number_at l.nodes l.leaves l.k ≡ l.number;
-  others : (j : ℕ) → j < l.leaves → j ≢ l.k → number_at l.nodes l.leaves j ≡ number_at l.fn.nodes l.leaves j;
+  set' : leaf_at l.nodes l.leaves l.k ≡ l.number;
+  others : (j : ℕ) → j < l.leaves → j ≢ l.k → leaf_at l.nodes l.leaves j ≡ leaf_at l.fn.nodes l.leaves j;
 }

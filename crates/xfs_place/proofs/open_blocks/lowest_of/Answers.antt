@@ -1,5 +1,5 @@
 use Rattle.std.proofs.Common.{◌≡◌, ℕ, ◌<◌, ◌≤◌, inl, inr, get_or, length, ◌∙◌, sym, subst, arith}
-use Rattle.xfs_place.specs.Greatest.{numbers_of}
+use Rattle.xfs_place.specs.Greatest.{leaves_of}
 use Rattle.xfs_place.proofs.RowRuns.{least_row, none_row, row_inside}
 use Rattle.xfs_place.proofs.open_blocks.lowest_of.Goals as goal
 
@@ -8,7 +8,7 @@ returns-then-blocks-gt-MOST_BLOCKS-clause-there c = inl (omega (arith, c.if-bloc
 
 pub returns-in_default-clause-lowest : goal.returns-in_default-clause-lowest
 returns-in_default-clause-lowest c =
-    none_row c.args.starts.now (numbers_of c.args.counts.now) c.requires.rows.rows c.args.blocks c.requires.some
+    none_row c.args.starts.now (leaves_of c.args.counts.now) c.requires.rows.rows c.args.blocks c.requires.some
     (λ j low. c.in_default.ensures.first.1 j (omega (arith, low, c.requires.rows.few)))
 
 pub returns-in_default-clause-there : goal.returns-in_default-clause-there
@@ -20,4 +20,4 @@ returns-clause-lowest c =
     let row = c.in-Some.row in
     let starts = c.args.starts.now in
     let inside = row_inside starts c.args.counts.now row c.args.blocks c.requires.rows found.0 found.1 c.requires.some in
-    least_row starts (numbers_of c.args.counts.now) c.requires.rows.rows c.args.blocks row c.requires.some (omega (arith, c.if-blocks-gt-MOST_BLOCKS.false)) inside found.1 found.2
+    least_row starts (leaves_of c.args.counts.now) c.requires.rows.rows c.args.blocks row c.requires.some (omega (arith, c.if-blocks-gt-MOST_BLOCKS.false)) inside found.1 found.2

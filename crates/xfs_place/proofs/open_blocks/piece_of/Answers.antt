@@ -1,6 +1,6 @@
 use Rattle.std.proofs.Common.{◌≡◌, ℕ, ◌-◌, Some, None, min, if◌then◌else◌, Bool, ◌&&◌, nat_lt, sym, ◌∙◌, ap}
 use Rattle.xfs_place.specs.Finding.{InRow}
-use Rattle.xfs_place.specs.Greatest.{numbers_of}
+use Rattle.xfs_place.specs.Greatest.{leaves_of}
 use Rattle.xfs_place.specs.Objects.{most_extent_blocks, longest_run}
 use Rattle.xfs_place.proofs.RowRuns.{found_first, found_none, least_found, longest_found}
 use Rattle.xfs_place.proofs.open_blocks.piece_of.Goals as goal
@@ -14,7 +14,7 @@ pub returns-clause-piece : goal.returns-clause-piece
 returns-clause-piece c = λ low finds.
     found_none (if c.args.split && nat_lt most_extent_blocks c.args.blocks then None else low c.args.blocks) c.args.blocks (longest_run low (min (c.args.blocks - 1) 2097151)) (c.in_default.ensures.whole low finds)
     ∙ ap (longest_run low) (sym c.min.ensures)
-    ∙ longest_found (InRow c.args.starts.now (numbers_of c.args.counts.now)) low c.min.result c.longest_of.result finds c.longest_of.ensures.longest
+    ∙ longest_found (InRow c.args.starts.now (leaves_of c.args.counts.now)) low c.min.result c.longest_of.result finds c.longest_of.ensures.longest
 
 pub returns-clause-least : goal.returns-clause-least
-returns-clause-least c = least_found (InRow c.args.starts.now (numbers_of c.args.counts.now)) c.min.result c.longest_of.result c.longest_of.ensures.longest
+returns-clause-least c = least_found (InRow c.args.starts.now (leaves_of c.args.counts.now)) c.min.result c.longest_of.result c.longest_of.ensures.longest

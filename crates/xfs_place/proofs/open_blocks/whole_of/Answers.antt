@@ -1,6 +1,6 @@
 use Rattle.std.proofs.Common.{◌≡◌, Bool, None, if◌then◌else◌, sym, ◌∙◌, ap}
 use Rattle.xfs_place.specs.Finding.{InRow}
-use Rattle.xfs_place.specs.Greatest.{numbers_of}
+use Rattle.xfs_place.specs.Greatest.{leaves_of}
 use Rattle.xfs_place.specs.Objects.{found_or}
 use Rattle.xfs_place.proofs.RowRuns.{least_whole, whole_found}
 use Rattle.xfs_place.proofs.open_blocks.whole_of.Goals as goal
@@ -12,7 +12,7 @@ returns-then-is_too_long-clause-whole c = λ low finds.
 pub returns-clause-whole : goal.returns-clause-whole
 returns-clause-whole c = λ low finds.
     ap (λ (t : Bool). found_or (if t then None else low c.args.blocks) c.args.blocks None) (sym c.is_too_long.ensures ∙ c.if-is_too_long.false)
-    ∙ whole_found (InRow c.args.starts.now (numbers_of c.args.counts.now)) low c.args.blocks c.lowest_of.result finds c.requires.some c.lowest_of.ensures.lowest c.lowest_of.ensures.blocks
+    ∙ whole_found (InRow c.args.starts.now (leaves_of c.args.counts.now)) low c.args.blocks c.lowest_of.result finds c.requires.some c.lowest_of.ensures.lowest c.lowest_of.ensures.blocks
 
 pub returns-clause-least : goal.returns-clause-least
-returns-clause-least c = least_whole (InRow c.args.starts.now (numbers_of c.args.counts.now)) c.args.blocks c.lowest_of.result c.lowest_of.ensures.lowest c.lowest_of.ensures.blocks
+returns-clause-least c = least_whole (InRow c.args.starts.now (leaves_of c.args.counts.now)) c.args.blocks c.lowest_of.result c.lowest_of.ensures.lowest c.lowest_of.ensures.blocks

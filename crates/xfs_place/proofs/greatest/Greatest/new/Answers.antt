@@ -1,7 +1,7 @@
 use Rattle.std.proofs.Common.{◌≡◌, ℕ, ◌+◌, ◌≤◌, ◌<◌, inl, inr, get_or, length, sym, ◌∙◌, ap, arith}
 use Rattle.std.proofs.lemmas.Bool.{cases_eq, cases_lt}
 use Rattle.std.proofs.lemmas.List.{get_or_past}
-use Rattle.xfs_place.specs.Greatest.{numbers_of}
+use Rattle.xfs_place.specs.Greatest.{leaves_of}
 use Rattle.xfs_place.proofs.Branches.{greatest_first}
 use Rattle.xfs_place.proofs.greatest.Greatest.new.Goals as goal
 
@@ -26,7 +26,7 @@ loop-k-preserved c =
       stands = sets.stands;
       there = omega (arith, l.invariant.there, sets.leaves');
       set' = λ j low. elim (cases_eq j l.k) [
-        | inl same ↦ ap (numbers_of now) same ∙ sets.here ∙ ap (λ (i : ℕ). get_or numbers i 0) (sym same)
+        | inl same ↦ ap (leaves_of now) same ∙ sets.here ∙ ap (λ (i : ℕ). get_or numbers i 0) (sym same)
         | inr other ↦ sets.others j (omega (arith, low, l.invariant.there, c.loop-k-test.true)) other ∙ l.invariant.set' j (omega (arith, low, other))
       ];
       rest = λ j low inside.

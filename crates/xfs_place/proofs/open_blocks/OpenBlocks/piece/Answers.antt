@@ -5,7 +5,7 @@ use Rattle.xfs_place.specs.declared.open_blocks.OpenBlocks.{OpenBlocks}
 use Rattle.xfs_place.specs.declared.open_blocks.Piece.{Piece}
 use Rattle.xfs_place.specs.Choice.{IsLeast}
 use Rattle.xfs_place.specs.Finding.{AreCounts, Finds, HasRun, InRow, IsFront, counts_in, pair_of_piece}
-use Rattle.xfs_place.specs.Greatest.{numbers_of}
+use Rattle.xfs_place.specs.Greatest.{leaves_of}
 use Rattle.xfs_place.specs.Objects.{piece_of}
 use Rattle.xfs_place.proofs.open_blocks.OpenBlocks.piece.Goals as goal
 
@@ -21,17 +21,17 @@ piece_of-requires-clause-rows c =
 pub returns-clause-piece : goal.returns-clause-piece
 returns-clause-piece c =
     let pool = c.args.self.now in
-    both (λ xs g. (low : ℕ → Option ℕ) → Finds (InRow xs (numbers_of g)) low → piece_of low c.args.split c.args.blocks ≡ pair_of_piece c.piece_of.result)
+    both (λ xs g. (low : ℕ → Option ℕ) → Finds (InRow xs (leaves_of g)) low → piece_of low c.args.split c.args.blocks ≡ pair_of_piece c.piece_of.result)
     c.deref.result.now pool.starts.items c.counts_in.result.now (counts_in c.args.all pool) c.deref.ensures.value c.counts_in.ensures c.piece_of.ensures.piece
 
 pub returns-clause-least : goal.returns-clause-least
 returns-clause-least c =
     let pool = c.args.self.now in
-    both (λ xs g. IfSome c.piece_of.result (λ (p : Piece). IsLeast (HasRun (InRow xs (numbers_of g)) p.blocks) p.start))
+    both (λ xs g. IfSome c.piece_of.result (λ (p : Piece). IsLeast (HasRun (InRow xs (leaves_of g)) p.blocks) p.start))
     c.deref.result.now pool.starts.items c.counts_in.result.now (counts_in c.args.all pool) c.deref.ensures.value c.counts_in.ensures c.piece_of.ensures.least
 
 pub returns-clause-front : goal.returns-clause-front
 returns-clause-front c =
     let pool = c.args.self.now in
-    both (λ xs g. IfSome c.piece_of.result (λ (p : Piece). IsFront xs (numbers_of g) p))
+    both (λ xs g. IfSome c.piece_of.result (λ (p : Piece). IsFront xs (leaves_of g) p))
     c.deref.result.now pool.starts.items c.counts_in.result.now (counts_in c.args.all pool) c.deref.ensures.value c.counts_in.ensures c.piece_of.ensures.front

@@ -2,7 +2,7 @@ use Rattle.std.proofs.Common.{◌≤◌, ◌==◌, sym, subst, arith, length, Li
 use Rattle.xfs_dirdata.specs.declared.records.EntryRec.{EntryRec}
 use Rattle.xfs_links.specs.Entries.{is_directory_number}
 use Rattle.xfs_names.proofs.Counted.{filter_fits}
-use Rattle.xfs_names.proofs.linking.links_due.Goals as goal
+use Rattle.xfs_names.proofs.linking.link_count.Goals as goal
 
 pub overflow_add-result : goal.overflow_add-result
 overflow_add-result c =

@@ -2,7 +2,7 @@ use Rattle.std.proofs.Common.{List, rules, subst}
 use Rattle.std.specs.List.Sorted.{IsPermutation}
 use Rattle.std.proofs.lemmas.List.Sorted.{IsNonDecreasingBy-from_sort_by_key}
 use Rattle.xfs_writing.specs.declared.rows.Row.{Row}
-use Rattle.xfs_mkfs.proofs.order.list_rows.Goals as goal
+use Rattle.xfs_mkfs.proofs.order.rows_in_order.Goals as goal
 
 pub returns : goal.returns
 returns c =
