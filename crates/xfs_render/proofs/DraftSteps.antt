@@ -7,7 +7,7 @@ use Rattle.std.proofs.Math.Seq.{get_or-append_seam}
 use Rattle.xfs_disk.specs.Blocks.{Image, bytes_of_block}
 use Rattle.xfs_treebuild.specs.Packing.{HoldsParts, block_of_part}
 use Rattle.xfs_writing.specs.declared.rows.Row.{Row}
-use Rattle.xfs_render.specs.Drafts.{Adds, AddsAgain, AddsBlock, AddsPart, AreInBank, HoldsDraft, HoldsRows, IsDraft, last_block, places_of}
+use Rattle.xfs_render.specs.Drafts.{Adds, AddsAgain, AddsBlock, AddsPart, AreInBank, HoldsDraft, HoldsRows, IsDraft, last_block, row_places}
 use Rattle.xfs_render.specs.declared.draft.Draft.{Draft}
 
 -- what is in a bank is in it still where blocks are put behind
@@ -58,7 +58,7 @@ added_block old new place block was rows bank =
     record {
       adds = record {
         whole = record { inside = subst (λ (rs : List Row). AreInBank rs new.bank) (sym rows) (subst (λ (b : Image). AreInBank all b) (sym bank) inside) };
-        places' = ap places_of rows ∙ map-append (λ (r : Row). r.at) old.rows.items (row ∷ []);
+        places' = ap row_places rows ∙ map-append (λ (r : Row). r.at) old.rows.items (row ∷ []);
         count = ap length bank ∙ long;
         before = λ image held. held_bank image old.rows.items old.bank (block ∷ []) was.inside (held_left image old.rows.items (row ∷ []) more (move image held));
       };
@@ -77,7 +77,7 @@ added_again old new place was some rows bank =
     record {
       adds = record {
         whole = record { inside = subst (λ (rs : List Row). AreInBank rs new.bank) (sym rows) (subst (λ (b : Image). AreInBank all b) (sym bank) inside) };
-        places' = ap places_of rows ∙ map-append (λ (r : Row). r.at) old.rows.items (row ∷ []);
+        places' = ap row_places rows ∙ map-append (λ (r : Row). r.at) old.rows.items (row ∷ []);
         count = let same = ap length bank in omega (arith, same);
         before = λ image held. held_left image old.rows.items (row ∷ []) old.bank (move image held);
       };
@@ -87,12 +87,12 @@ added_again old new place was some rows bank =
 
 -- nothing was put, and one thing was put behind the other
 pub adds_none : (old : Draft) → IsDraft old → Adds old old [] 0
-adds_none old was = record { whole = was; places' = sym (append-nil (places_of old.rows.items)); count = omega arith; before = λ image held. held }
+adds_none old was = record { whole = was; places' = sym (append-nil (row_places old.rows.items)); count = omega arith; before = λ image held. held }
 
 pub adds_then : (old mid new : Draft) (ps qs : List ℕ) (m n : ℕ) → Adds old mid ps m → Adds mid new qs n → Adds old new (ps ++ qs) (m + n)
 adds_then old mid new ps qs m n first next = record {
   whole = next.whole;
-  places' = next.places' ∙ ap (λ (xs : List ℕ). xs ++ qs) first.places' ∙ append_assoc (places_of old.rows.items) ps qs;
+  places' = next.places' ∙ ap (λ (xs : List ℕ). xs ++ qs) first.places' ∙ append_assoc (row_places old.rows.items) ps qs;
   count = let a = first.count in let b = next.count in omega (arith, a, b);
   before = λ image held. first.before image (next.before image held);
 }

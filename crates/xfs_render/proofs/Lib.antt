@@ -9,7 +9,7 @@ pub mod TreeSteps
 pub mod PlanSteps
 pub mod LogSteps
 pub mod RenderSteps
-pub mod Marking
+pub mod Reaching
 pub mod LawfulChunks
 pub mod LawfulRuns
 pub mod LawfulOwners

@@ -10,7 +10,7 @@ use Rattle.std.proofs.lemmas.List.Sorted.{All-permutation, IsPermutation-append,
 use Rattle.std.proofs.lemmas.List.Sums.{sum_by-cons}
 use Rattle.xfs_disk.specs.Blocks.{Image, bytes_of_block}
 use Rattle.xfs_writing.specs.declared.rows.Row.{Row}
-use Rattle.xfs_render.specs.Drafts.{AreInBank, HoldsDraft, HoldsRows, IsDraft, places_of}
+use Rattle.xfs_render.specs.Drafts.{AreInBank, HoldsDraft, HoldsRows, IsDraft, row_places}
 use Rattle.xfs_render.specs.Plans.{HoldsPlan, IsArranged, IsOnce, plan_rows, planned}
 use Rattle.xfs_render.specs.declared.draft.Draft.{Draft}
 use Rattle.xfs_render.specs.declared.plan.Plan.{Plan}
@@ -35,17 +35,17 @@ twice (x ∷ y ∷ xs) (suc k) (suc j) p e inside here next =
     omega (arith, sum_by-cons one x (y ∷ xs), twice (y ∷ xs) k j p (omega (arith, e)) (omega (arith, inside)) here next)
 
 -- rows whose places stand once each ascend strictly
-strictly : (rows sorted : List Row) → IsOnce (places_of rows) → IsPermutation rows sorted → IsNonDecreasingBy (λ (r : Row). r.at) sorted → IsStrictlyIncreasing (places_of sorted)
+strictly : (rows sorted : List Row) → IsOnce (row_places rows) → IsPermutation rows sorted → IsNonDecreasingBy (λ (r : Row). r.at) sorted → IsStrictlyIncreasing (row_places sorted)
 strictly rows sorted once moved order = λ k inside.
-    let xs = places_of sorted in
+    let xs = row_places sorted in
     let d : Row = record { at = 0; index = 0 } in
     let long : length xs ≡ length sorted = length-map sorted (λ (r : Row). r.at) in
     let up : (get_or sorted k d).at ≤ (get_or sorted (k + 1) d).at = order k (k + 1) d (omega arith) (omega (arith, long, inside)) in
     let here : get_or xs k 0 ≡ (get_or sorted k d).at = get_or-map (λ (r : Row). r.at) sorted k d 0 (omega (arith, long, inside)) in
     let next : get_or xs (k + 1) 0 ≡ (get_or sorted (k + 1) d).at = get_or-map (λ (r : Row). r.at) sorted (k + 1) d 0 (omega (arith, long, inside)) in
     let p = get_or xs k 0 in
-    let count : count_by (λ o. o == p) xs ≡ count_by (λ o. o == p) (places_of rows) =
-    sum_by-IsPermutation (λ (o : ℕ). one_if (o == p)) (places_of rows) xs (IsPermutation-map (λ (r : Row). r.at) rows sorted moved) in
+    let count : count_by (λ o. o == p) xs ≡ count_by (λ o. o == p) (row_places rows) =
+    sum_by-IsPermutation (λ (o : ℕ). one_if (o == p)) (row_places rows) xs (IsPermutation-map (λ (r : Row). r.at) rows sorted moved) in
     let few = once.each p in
     elim (cases_lt (get_or xs k 0) (get_or xs (k + 1) 0)) [
       | inl low ↦ low
@@ -100,8 +100,8 @@ module _ (draft : Draft) (first : ℕ) (plan : Plan) (was : IsDraft draft) (same
         in_place_ascend = λ once. strictly back plan.in_place once behind up_rest;
         apart = λ once. record {
           each = λ n.
-              let moved = IsPermutation-append (places_of front) (places_of plan.fresh) (places_of back) (places_of plan.in_place) moved_fresh moved_rest in
-              let count = sum_by-IsPermutation (λ (o : ℕ). one_if (o == n)) (places_of front ++ places_of back) (planned plan) moved in
+              let moved = IsPermutation-append (row_places front) (row_places plan.fresh) (row_places back) (row_places plan.in_place) moved_fresh moved_rest in
+              let count = sum_by-IsPermutation (λ (o : ℕ). one_if (o == n)) (row_places front ++ row_places back) (planned plan) moved in
               omega (arith, once.each n, count);
         };
         held = holds;

@@ -17,7 +17,7 @@ use Rattle.xfs_place.specs.declared.placed.Placed.{Placed}
 use Rattle.xfs_place.specs.declared.wanted.Wanted.{Wanted}
 use Rattle.xfs_render.specs.Clusters.{IsClusterBlock}
 use Rattle.xfs_writing.specs.declared.rows.Row.{Row}
-use Rattle.xfs_render.specs.Drafts.{Adds, AddsBlock, HoldsDraft, IsDraft, places_of}
+use Rattle.xfs_render.specs.Drafts.{Adds, AddsBlock, HoldsDraft, IsDraft, row_places}
 use Rattle.xfs_render.specs.HeaderBlocks.{IsHeaderBlock}
 use Rattle.xfs_render.specs.Objects.{AddsObjects, HasObjects, block_places, object_blocks, object_places}
 use Rattle.xfs_render.specs.Plans.{IsArranged, IsOnce}
@@ -33,8 +33,8 @@ use Rattle.xfs_render.proofs.DraftSteps.{adds_as, adds_none, adds_then}
 pub grown : (old new : Draft) (places : List ℕ) (n : ℕ) → Adds old new places n → length old.rows.items ≤ length new.rows.items
 grown old new places n adds =
     let at = λ (r : Row). r.at in
-    let all : length (places_of new.rows.items) ≡ length (places_of old.rows.items) + length places =
-    ap length adds.places' ∙ length-append (places_of old.rows.items) places in
+    let all : length (row_places new.rows.items) ≡ length (row_places old.rows.items) + length places =
+    ap length adds.places' ∙ length-append (row_places old.rows.items) places in
     omega (arith, all, length-map old.rows.items at, length-map new.rows.items at)
 
 -- a block of the volume lies in one of its groups
@@ -181,21 +181,21 @@ module _ (w : Wanted) (p : Placed) (b : Bytes) (super : List ℕ) where
       let some : flat_map group_tree_places (take w.geometry.agcount p.groups) ≡ tree_blocks p = ap (flat_map group_tree_places) whole in
       let every : block_places (take (length objects) objects) ≡ object_places w p =
       ap block_places (take_all (length objects) objects (omega arith)) ∙ ap block_places listed in
-      let trees : places_of f1.rows.items ≡ tree_blocks p =
-      groups.adds.places' ∙ ap (λ (rows : List Row). places_of rows ++ flat_map group_tree_places (take w.geometry.agcount p.groups)) empty ∙ some in
-      let second : places_of f2.rows.items ≡ tree_blocks p ++ object_places w p =
+      let trees : row_places f1.rows.items ≡ tree_blocks p =
+      groups.adds.places' ∙ ap (λ (rows : List Row). row_places rows ++ flat_map group_tree_places (take w.geometry.agcount p.groups)) empty ∙ some in
+      let second : row_places f2.rows.items ≡ tree_blocks p ++ object_places w p =
       blocks.adds.places' ∙ ap₂ (λ (xs ys : List ℕ). xs ++ ys) trees every in
-      let fresh : places_of f3.rows.items ≡ fresh_blocks w p b =
+      let fresh : row_places f3.rows.items ≡ fresh_blocks w p b =
       new.adds.places' ∙ ap (λ (xs : List ℕ). xs ++ new_blocks w b) second ∙ append_assoc (tree_blocks p) (object_places w p) (new_blocks w b) in
-      let behind : places_of r2.rows.items ≡ places_of f3.rows.items ++ blocks_in_place w b =
-      blank.adds.places' ∙ ap (λ (xs : List ℕ). xs ++ log_places w b.cycle) kept.adds.places' ∙ append_assoc (places_of f3.rows.items) (kept_blocks w b) (log_places w b.cycle) in
-      let long : length f3.rows.items ≡ length (places_of f3.rows.items) = sym (length-map f3.rows.items (λ (r : Row). r.at)) in
-      let front : places_of (take (length f3.rows.items) r2.rows.items) ≡ fresh_blocks w p b =
+      let behind : row_places r2.rows.items ≡ row_places f3.rows.items ++ blocks_in_place w b =
+      blank.adds.places' ∙ ap (λ (xs : List ℕ). xs ++ log_places w b.cycle) kept.adds.places' ∙ append_assoc (row_places f3.rows.items) (kept_blocks w b) (log_places w b.cycle) in
+      let long : length f3.rows.items ≡ length (row_places f3.rows.items) = sym (length-map f3.rows.items (λ (r : Row). r.at)) in
+      let front : row_places (take (length f3.rows.items) r2.rows.items) ≡ fresh_blocks w p b =
       sym (take-map (λ (r : Row). r.at) (length f3.rows.items) r2.rows.items) ∙ ap₂ (λ (n : ℕ) (xs : List ℕ). take n xs) long behind
-      ∙ take_front (places_of f3.rows.items) (blocks_in_place w b) ∙ fresh in
-      let back : places_of (drop (length f3.rows.items) r2.rows.items) ≡ blocks_in_place w b =
+      ∙ take_front (row_places f3.rows.items) (blocks_in_place w b) ∙ fresh in
+      let back : row_places (drop (length f3.rows.items) r2.rows.items) ≡ blocks_in_place w b =
       sym (drop-map (λ (r : Row). r.at) (length f3.rows.items) r2.rows.items) ∙ ap₂ (λ (n : ℕ) (xs : List ℕ). drop n xs) long behind
-      ∙ drop_front (places_of f3.rows.items) (blocks_in_place w b) in
+      ∙ drop_front (row_places f3.rows.items) (blocks_in_place w b) in
       let c0 : length none.bank ≡ 0 = ap length empty_bank in
       let c1 : length f1.bank ≡ length none.bank + length (flat_map group_tree_places (take w.geometry.agcount p.groups)) = groups.adds.count in
       let c2 : length f2.bank ≡ length f1.bank + length objects = blocks.adds.count in
@@ -212,8 +212,8 @@ module _ (w : Wanted) (p : Placed) (b : Bytes) (super : List ℕ) where
       record {
         super = super;
         due = due;
-        fresh = subst (λ (xs : List ℕ). IsPermutation xs (places_of plan.fresh)) front arranged.fresh';
-        in_place = subst (λ (xs : List ℕ). IsPermutation xs (places_of plan.in_place)) back arranged.in_place';
+        fresh = subst (λ (xs : List ℕ). IsPermutation xs (row_places plan.fresh)) front arranged.fresh';
+        in_place = subst (λ (xs : List ℕ). IsPermutation xs (row_places plan.in_place)) back arranged.in_place';
         fresh_ascend = λ once. arranged.fresh_ascend (subst IsOnce (sym front) once);
         in_place_ascend = λ once. arranged.in_place_ascend (subst IsOnce (sym back) once);
         apart = λ once. arranged.apart (subst IsOnce (sym (ap₂ (λ (xs ys : List ℕ). xs ++ ys) front back)) once);

@@ -7,8 +7,8 @@ use Rattle.xfs_writing.specs.declared.rows.Row.{Row}
 use Rattle.xfs_render.specs.declared.draft.Draft.{Draft}
 
 -- the numbers of the blocks of rows
-abbrev pub places_of : List Row → List ℕ
-places_of rows = map (λ (r : Row). r.at) rows
+abbrev pub row_places : List Row → List ℕ
+row_places rows = map (λ (r : Row). r.at) rows
 
 -- the bank has the bytes of each row
 abbrev pub AreInBank : List Row → Image → Type 0
@@ -29,7 +29,7 @@ HoldsDraft image d = HoldsRows d.rows.items d.bank image
 -- blocks at these places were put behind the others, and so many into the bank: an image that has all of them has those before
 pub record Adds (old new : Draft) (places : List ℕ) (blocks : ℕ) : Type 0 where
   pub whole : IsDraft new
-  pub places' : places_of new.rows.items ≡ places_of old.rows.items ++ places
+  pub places' : row_places new.rows.items ≡ row_places old.rows.items ++ places
   pub count : length new.bank ≡ length old.bank + blocks
   pub before : (image : Image) → HoldsDraft image new → HoldsDraft image old
 

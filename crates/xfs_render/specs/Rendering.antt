@@ -13,7 +13,7 @@ use Rattle.xfs_place.specs.declared.placed.GroupPlaced.{GroupPlaced}
 use Rattle.xfs_place.specs.declared.placed.Placed.{Placed}
 use Rattle.xfs_place.specs.declared.wanted.Wanted.{Wanted}
 use Rattle.xfs_render.specs.Clusters.{CanCluster, IsClusterBlock}
-use Rattle.xfs_render.specs.Drafts.{Adds, AreInBank, HoldsDraft, places_of}
+use Rattle.xfs_render.specs.Drafts.{Adds, AreInBank, HoldsDraft, row_places}
 use Rattle.xfs_render.specs.Groups.{IsSoundGroup}
 use Rattle.xfs_render.specs.HeaderBlocks.{IsHeaderBlock}
 use Rattle.xfs_render.specs.Logs.{IsBlankLog}
@@ -126,10 +126,10 @@ bank_blocks w p b = length (fresh_blocks w p b) + length (kept_blocks w b) + log
 pub record IsRendered (w : Wanted) (p : Placed) (b : Bytes) (plan : Plan) : Type 0 where
   pub super : List ℕ
   pub due : IsDueSuper w p b super
-  pub fresh : IsPermutation (fresh_blocks w p b) (places_of plan.fresh)
-  pub in_place : IsPermutation (blocks_in_place w b) (places_of plan.in_place)
-  pub fresh_ascend : IsOnce (fresh_blocks w p b) → IsStrictlyIncreasing (places_of plan.fresh)
-  pub in_place_ascend : IsOnce (blocks_in_place w b) → IsStrictlyIncreasing (places_of plan.in_place)
+  pub fresh : IsPermutation (fresh_blocks w p b) (row_places plan.fresh)
+  pub in_place : IsPermutation (blocks_in_place w b) (row_places plan.in_place)
+  pub fresh_ascend : IsOnce (fresh_blocks w p b) → IsStrictlyIncreasing (row_places plan.fresh)
+  pub in_place_ascend : IsOnce (blocks_in_place w b) → IsStrictlyIncreasing (row_places plan.in_place)
   pub apart : IsOnce (fresh_blocks w p b ++ blocks_in_place w b) → IsOnce (planned plan)
   pub inside : AreInBank (plan_rows plan) plan.bank
   pub count : length plan.bank ≡ bank_blocks w p b

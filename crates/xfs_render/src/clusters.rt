@@ -78,7 +78,7 @@ fn make_wanted(g: &Geometry, ino: u64, slots: &[SlotWanted], stamp: &Stamp, slot
 }
 
 /// What is wanted of the slot of an inode.
-fn find_slot(slots: &[SlotWanted], ino: u64) -> Option<&SlotWanted>
+pub fn find_slot(slots: &[SlotWanted], ino: u64) -> Option<&SlotWanted>
     requires { IsNonDecreasingBy (λ (w : SlotWanted). w.ino) slots.now }
     ensures { option_copied result ≡ wanted_of slots.now ino }
 {

@@ -33,6 +33,7 @@ mod trees;
 mod wanted_slots;
 
 pub use bytes::Bytes;
+pub use clusters::find_slot;
 pub use plan::Plan;
 pub use readiness::{chunks_are_few, placed_is_ready};
 pub use rendering::render;

@@ -3,7 +3,7 @@
 ghost use Rattle.std.specs.Prelude.{◌≡◌, ◌≤◌, ◌<◌, ◌+◌, ◌^◌, [], ◌∷◌, length, IfOk, OnOk, MatchOption};
 ghost use Rattle.xfs_geom.specs.Volumes.{volume_of};
 ghost use Rattle.xfs_render.specs.Drafts.{IsDraft};
-ghost use Rattle.xfs_render.specs.NewBlocks.{AreMarked};
+ghost use Rattle.xfs_render.specs.NewBlocks.{AreReaches};
 ghost use Rattle.xfs_render.specs.Rendering.{AddsBlank, AddsGroups, AddsPlaces, IsPlaceDue, IsReady, IsRendered, group_placed, is_put, wanted_inodes, old_at, byte_place};
 ghost use Rattle.xfs_render.specs.Trees.{AddsTrees};
 
@@ -13,7 +13,7 @@ use crate::clusters::put_cluster;
 use crate::draft::Draft;
 use crate::header_block::put_headers;
 use crate::log::add_log;
-use crate::new_blocks::mark_runs;
+use crate::new_blocks::{Reach, lies_in_runs, list_reaches};
 use crate::object_blocks::object_blocks;
 use crate::objects::add_objects;
 use crate::plan::Plan;
@@ -46,13 +46,13 @@ pub fn render<R: Threads + Sync, G: Gate>(
     let mut sector = [0; 512];
     write_super(&bytes.sector, &placed.counts, &mut sector);
     let objects = object_blocks(alloc, wanted, placed)?;
-    let marks = mark_runs(alloc, wanted.geometry.dblocks, wanted.new.as_slice())?;
+    let reaches = list_reaches(alloc, wanted.geometry.dblocks, wanted.new.as_slice())?;
     let work = Work {
         wanted,
         placed,
         bytes,
         sector: &sector,
-        marks: &marks,
+        reaches: &reaches,
     };
     let mut draft = Draft::make(alloc)?;
     add_groups(alloc, wanted, placed, bytes, &mut draft)?;
@@ -72,8 +72,8 @@ struct Work<'a> {
     bytes: &'a Bytes,
     /// The superblock that is due.
     sector: &'a [u8],
-    /// For each block whether it is of a new chunk.
-    marks: &'a [bool],
+    /// How far the runs of new chunks reach.
+    reaches: &'a [Reach],
 }
 
 /// The records of inodes of a group.
@@ -139,7 +139,7 @@ fn add_groups(
 fn add_places(work: &Work<'_>, fresh: bool, draft: &mut Draft) -> Result<(), NoMemory>
     requires ready { IsReady work.now.wanted.now work.now.placed.now work.now.bytes.now }
     requires sector { length work.now.sector.now ≡ 512 }
-    requires marks { AreMarked work.now.wanted.now.geometry.dblocks work.now.wanted.now.new work.now.marks.now }
+    requires reaches { AreReaches work.now.wanted.now.new work.now.reaches.now }
     requires draft { IsDraft draft.old }
     ensures { OnOk result (AddsPlaces work.now.wanted.now work.now.placed.now work.now.bytes.now work.now.sector.now fresh 0 (length work.now.bytes.now.places)
         work.now.bytes.now.places draft.old draft.new) }
@@ -154,7 +154,7 @@ fn add_places(work: &Work<'_>, fresh: bool, draft: &mut Draft) -> Result<(), NoM
 fn add_place(work: &Work<'_>, fresh: bool, i: usize, draft: &mut Draft) -> Result<(), NoMemory>
     requires ready { IsReady work.now.wanted.now work.now.placed.now work.now.bytes.now }
     requires sector { length work.now.sector.now ≡ 512 }
-    requires marks { AreMarked work.now.wanted.now.geometry.dblocks work.now.wanted.now.new work.now.marks.now }
+    requires reaches { AreReaches work.now.wanted.now.new work.now.reaches.now }
     requires inside { i < length work.now.bytes.now.places }
     requires draft { IsDraft draft.old }
     ensures { OnOk result (AddsPlaces work.now.wanted.now work.now.placed.now work.now.bytes.now work.now.sector.now fresh i (i + 1)
@@ -171,11 +171,10 @@ fn add_place(work: &Work<'_>, fresh: bool, i: usize, draft: &mut Draft) -> Resul
 
 /// Whether a place is fresh, or whether it is not.
 fn is_put(work: &Work<'_>, fresh: bool, place: u64) -> bool
-    requires marks { AreMarked work.now.wanted.now.geometry.dblocks work.now.wanted.now.new work.now.marks.now }
-    requires inside { place < work.now.wanted.now.geometry.dblocks }
+    requires { AreReaches work.now.wanted.now.new work.now.reaches.now }
     ensures { result ≡ is_put work.now.wanted.now fresh place }
 {
-    let new = work.marks[place as usize];
+    let new = lies_in_runs(work.reaches, place);
     if fresh { new } else { !new }
 }
 
