@@ -33,10 +33,10 @@ greatest_cycle [] = 0
 greatest_cycle (lsn ∷ lsns) = max (cycle_of lsn) (greatest_cycle lsns)
 
 -- the log stays where it is clean and no number is above its head
-abbrev pub log_stays : LogState → List ℕ → Bool
-log_stays (Clean head) lsns = list_all (is_behind head) lsns
-log_stays Dirty lsns = false
+abbrev pub keeps_log : LogState → List ℕ → Bool
+keeps_log (Clean head) lsns = list_all (is_behind head) lsns
+keeps_log Dirty lsns = false
 
 -- else it is blank, one cycle behind the greatest
 abbrev pub due_cycle : LogState → List ℕ → Option ℕ
-due_cycle log lsns = if log_stays log lsns then None else Some (1 + greatest_cycle lsns)
+due_cycle log lsns = if keeps_log log lsns then None else Some (1 + greatest_cycle lsns)

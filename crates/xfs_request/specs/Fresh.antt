@@ -26,5 +26,5 @@ new_system_core v s ino = record (fresh_core v (time_of s) s.generation ino 0x80
 abbrev pub new_system_slot : Volume → Stamp → ℕ → SlotWanted
 new_system_slot v s ino = record { ino = ino; base = Fresh (new_system_core v s ino); drop_attrs = None; fork = None; nlink = None }
 
-abbrev pub fresh_slot : Volume → Stamp → ℕ → SlotWanted
-fresh_slot v s ino = if ino == v.rootino then new_root_slot v s else new_system_slot v s ino
+abbrev pub new_slot : Volume → Stamp → ℕ → SlotWanted
+new_slot v s ino = if ino == v.rootino then new_root_slot v s else new_system_slot v s ino

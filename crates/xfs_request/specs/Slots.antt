@@ -16,7 +16,7 @@ use Rattle.xfs_naming.specs.declared.runs.Link.{Link}
 use Rattle.xfs_render.specs.declared.wanted_slots.SlotBase.TheVariants.{Free, Kept}
 use Rattle.xfs_render.specs.declared.wanted_slots.SlotWanted.{SlotWanted}
 use Rattle.xfs_salvage.specs.declared.found.Salvaged.{Salvaged}
-use Rattle.xfs_request.specs.Fresh.{fresh_slot}
+use Rattle.xfs_request.specs.Fresh.{new_slot}
 use Rattle.xfs_request.specs.declared.seen.SlotSeen.{SlotSeen}
 use Rattle.xfs_request.specs.declared.seen.SlotState.{SlotState}
 use Rattle.xfs_request.specs.declared.seen.SlotState.TheVariants as State
@@ -73,7 +73,7 @@ module _ (v : Volume) (s : Stamp) (kept : Salvaged) (slots : List SlotSeen) wher
 
   -- a slot without a kept file is made anew for the root or a system inode; else it is freed, where it is not free
   abbrev pub bare_slot : ℕ → Option SlotWanted
-  bare_slot ino = if is_among kept.fresh ino then Some (fresh_slot v s ino) else (if is_free (state_at slots ino) then None else Some (freed_slot ino))
+  bare_slot ino = if is_among kept.fresh ino then Some (new_slot v s ino) else (if is_free (state_at slots ino) then None else Some (freed_slot ino))
 
   abbrev pub slot_of : ℕ → List FileRec → Option SlotWanted
   slot_of ino [] = bare_slot ino

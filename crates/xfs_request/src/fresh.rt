@@ -2,7 +2,7 @@
 
 ghost use Rattle.std.specs.Prelude.{◌≡◌, ◌<◌, ◌^◌, IfOk};
 ghost use Rattle.xfs_geom.specs.Volumes.{volume_of};
-ghost use Rattle.xfs_request.specs.Fresh.{fresh_slot, new_root_core, new_root_fork, new_root_slot, new_system_core, new_system_slot};
+ghost use Rattle.xfs_request.specs.Fresh.{new_slot, new_root_core, new_root_fork, new_root_slot, new_system_core, new_system_slot};
 
 use std::alloc::Global;
 use xfs_dirdata::put_short;
@@ -95,14 +95,14 @@ fn new_system_slot(g: &Geometry, stamp: &Stamp, ino: u64) -> SlotWanted
 }
 
 /// What is wanted of the slot of an inode that is made anew: of the root, or of a system inode.
-pub(crate) fn fresh_slot(
+pub(crate) fn new_slot(
     alloc: Global,
     g: &Geometry,
     stamp: &Stamp,
     ino: u64,
 ) -> Result<SlotWanted, NoMemory>
     requires { g.now.rootino < 2 ^ 32 }
-    ensures { IfOk result (λ slot. slot ≡ fresh_slot (volume_of g.now) stamp.now ino) }
+    ensures { IfOk result (λ slot. slot ≡ new_slot (volume_of g.now) stamp.now ino) }
 {
     if ino == g.rootino {
         return new_root_slot(alloc, g, stamp);

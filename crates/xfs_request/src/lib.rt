@@ -24,5 +24,6 @@ mod slots;
 mod taken;
 
 pub use asking::{Request, ask};
+pub use links::links_due;
 pub use log::due_cycle;
 pub use seen::{SlotSeen, SlotState};

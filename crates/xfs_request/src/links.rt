@@ -73,7 +73,7 @@ fn is_system(root: u64, ino: u64) -> bool
 }
 
 /// How many names a file is to have.
-pub(crate) fn links_due(
+pub fn links_due(
     root: u64,
     files: &[FileRec],
     entries: &[EntryRec],

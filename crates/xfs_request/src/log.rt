@@ -7,7 +7,7 @@ ghost use Rattle.xfs_geom.specs.Volumes.{volume_of};
 ghost use Rattle.xfs_laws.specs.Counting.{is_behind};
 ghost use Rattle.xfs_naming.specs.Naming.{NumbersAscend};
 ghost use Rattle.xfs_volume.specs.declared.files.FileRec.{FileRec};
-ghost use Rattle.xfs_request.specs.Cycles.{cycle_of, due_cycle, greatest_cycle, keeps_lsn, kept_lsns, log_stays, lsn_listed};
+ghost use Rattle.xfs_request.specs.Cycles.{cycle_of, due_cycle, greatest_cycle, keeps_lsn, kept_lsns, keeps_log, lsn_listed};
 
 use crate::links::is_in_use;
 use crate::seen::{SlotSeen, is_free};
@@ -40,7 +40,7 @@ pub fn due_cycle(
     ensures few { IfOk result (λ cycle. MatchOption cycle (Unit {0}) (λ n. (1 ≤ n) × (n < 2 ^ 31))) }
 {
     let numbers = kept_lsns(alloc, g, kept, slots, lsns)?;
-    if log_stays(log, numbers.as_slice()) {
+    if keeps_log(log, numbers.as_slice()) {
         return Ok(None);
     }
     let cycle = 1 + greatest_cycle(numbers.as_slice());
@@ -104,8 +104,8 @@ fn keeps_lsn(g: &Geometry, kept: &Salvaged, slot: &SlotSeen) -> bool
 }
 
 /// Whether the log is clean, and no number is above its head.
-fn log_stays(log: &LogState, lsns: &[u64]) -> bool
-    ensures { result ≡ log_stays log.now lsns.now }
+fn keeps_log(log: &LogState, lsns: &[u64]) -> bool
+    ensures { result ≡ keeps_log log.now lsns.now }
 {
     match log {
         LogState::Clean { head } => are_behind(*head, lsns),

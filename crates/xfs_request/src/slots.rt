@@ -7,7 +7,7 @@ ghost use Rattle.xfs_geom.specs.Volumes.{volume_of};
 ghost use Rattle.xfs_word.specs.declared.extents.Extent.{Extent};
 ghost use Rattle.xfs_request.specs.Slots.{CanBeSearched, attrs_wanted, bare_slot, block_slots, cluster_slots, file_slot, freed_slot, kept_slot, as_list, own_blocks, slot_listed, slot_wanted, wanted_slots};
 
-use crate::fresh::fresh_slot;
+use crate::fresh::new_slot;
 use crate::links::{links_due, nlink_wanted};
 use crate::seen::{SlotSeen, SlotState, is_bare, is_free, state_at};
 use std::alloc::Global;
@@ -195,7 +195,7 @@ fn bare_slot(alloc: Global, basis: &Basis, ino: u64) -> Result<Option<SlotWanted
     ensures { IfOk result (λ slot. slot ≡ bare_slot (volume_of basis.now.g.now) basis.now.stamp.now basis.now.kept.now basis.now.slots.now ino) }
 {
     if is_one_of(basis.kept.fresh.as_slice(), ino) {
-        return Ok(Some(fresh_slot(alloc, basis.g, basis.stamp, ino)?));
+        return Ok(Some(new_slot(alloc, basis.g, basis.stamp, ino)?));
     }
     if is_free(state_at(basis.slots, ino)) {
         return Ok(None);

@@ -1,10 +1,10 @@
 mod Taken
 mod Lawful
-mod Writable
-mod Used
-mod Spaced
-mod Chunked
-mod Clusters
-mod Just
+pub mod Writable
+pub mod Used
+pub mod Spaced
+pub mod Chunked
+pub mod Clusters
+pub mod Just
 mod Passing
-mod Makeable
+pub mod Makeable

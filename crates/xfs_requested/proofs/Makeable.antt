@@ -36,7 +36,7 @@ use Rattle.xfs_volume.specs.declared.files.FileRec.{FileRec}
 use Rattle.xfs_salvage.specs.Kept.{is_kept_file, kept_files}
 use Rattle.xfs_salvage.specs.declared.found.Salvaged.{Salvaged}
 use Rattle.xfs_kept.proofs.Images.{bare_sound}
-use Rattle.xfs_request.specs.Fresh.{fresh_slot, new_root_core, new_root_slot, new_system_core, new_system_slot}
+use Rattle.xfs_request.specs.Fresh.{new_slot, new_root_core, new_root_slot, new_system_core, new_system_slot}
 use Rattle.xfs_request.specs.Slots.{as_list, attrs_wanted, bare_slot, block_slots, cluster_slots, freed_slot, is_free, kept_slot, links_due, nlink_wanted, slot_listed, slot_of, slot_wanted, state_at, wanted_slots}
 use Rattle.xfs_request.specs.declared.seen.SlotSeen.{SlotSeen}
 use Rattle.xfs_requested.specs.Handed.{IsKeptOf}
@@ -163,7 +163,7 @@ root_can v s old =
     let short = root_short v in
     record { base = root_fresh v s; forkoff = omega arith; fork = record { few = omega arith; short = omega (arith, short) } }
 
-fresh_can : (v : Volume) (s : Stamp) (ino : ℕ) (old : List ℕ) → CanMake v (fresh_slot v s ino) old
+fresh_can : (v : Volume) (s : Stamp) (ino : ℕ) (old : List ℕ) → CanMake v (new_slot v s ino) old
 fresh_can v s ino old = by_case (ino == v.rootino)
   where
     by_case : (t : Bool) → CanMake v (if t then new_root_slot v s else new_system_slot v s ino) old
@@ -189,7 +189,7 @@ module _ (v : Volume) (s : Stamp) (kept : Salvaged) (slots : List SlotSeen) wher
       by_free true = tt
       by_free false = record { base = tt; forkoff = omega arith; fork = tt }
 
-      by_fresh : (t : Bool) → CanBe v old (if t then Some (fresh_slot v s ino) else (if is_free (state_at slots ino) then None else Some (freed_slot ino)))
+      by_fresh : (t : Bool) → CanBe v old (if t then Some (new_slot v s ino) else (if is_free (state_at slots ino) then None else Some (freed_slot ino)))
       by_fresh true = fresh_can v s ino old
       by_fresh false = by_free (is_free (state_at slots ino))
 

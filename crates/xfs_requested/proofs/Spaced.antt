@@ -25,7 +25,7 @@ use Rattle.xfs_salvage.specs.declared.found.Salvaged.{Salvaged}
 use Rattle.xfs_kept.proofs.Ordered.{clusters_of_volume_ascend}
 use Rattle.xfs_kept.proofs.Inodes.{blocks_then, first_in, later_block}
 use Rattle.xfs_kept.proofs.Taken.{kept_all}
-use Rattle.xfs_request.specs.Fresh.{fresh_slot, new_root_slot, new_system_slot}
+use Rattle.xfs_request.specs.Fresh.{new_slot, new_root_slot, new_system_slot}
 use Rattle.xfs_request.specs.Slots.{as_list, attrs_wanted, bare_slot, block_slots, cluster_slots, freed_slot, is_free, kept_slot, links_due, nlink_wanted, slot_listed, slot_of, slot_wanted, state_at, wanted_slots}
 use Rattle.xfs_request.specs.declared.seen.SlotSeen.{SlotSeen}
 use Rattle.xfs_requested.specs.Handed.{IsKeptOf}
@@ -98,7 +98,7 @@ kept_of_ino ino number attrs nlink is = by_case (is_some attrs || is_some nlink)
     by_case true = is
     by_case false = tt
 
-fresh_of_ino : (v : Volume) (s : Stamp) (ino : ℕ) → (fresh_slot v s ino).ino ≡ ino
+fresh_of_ino : (v : Volume) (s : Stamp) (ino : ℕ) → (new_slot v s ino).ino ≡ ino
 fresh_of_ino v s ino = by_case (ino == v.rootino) refl
   where
     by_case : (t : Bool) → (ino == v.rootino) ≡ t → (if t then new_root_slot v s else new_system_slot v s ino).ino ≡ ino
@@ -113,7 +113,7 @@ module _ (v : Volume) (s : Stamp) (kept : Salvaged) (slots : List SlotSeen) wher
       by_free true = tt
       by_free false = refl
 
-      by_fresh : (t : Bool) → IsOf ino (if t then Some (fresh_slot v s ino) else (if is_free (state_at slots ino) then None else Some (freed_slot ino)))
+      by_fresh : (t : Bool) → IsOf ino (if t then Some (new_slot v s ino) else (if is_free (state_at slots ino) then None else Some (freed_slot ino)))
       by_fresh true = fresh_of_ino v s ino
       by_fresh false = by_free (is_free (state_at slots ino))
 

@@ -38,10 +38,6 @@ count_inodes : (g : Geometry) (kept : Salvaged) (reserved : List ℕ) → length
 unfolding volume_wanted inodes_wanted
 count_inodes g kept reserved = length-map-range_with_len (group_asked (volume_of g) kept) 0 g.agcount
 
-same_geometry : (g : Geometry) (kept : Salvaged) (reserved : List ℕ) → (volume_wanted g kept reserved).geometry ≡ g
-unfolding volume_wanted
-same_geometry g kept reserved = refl
-
 pub can_be_kept : (g : Geometry) (clusters : List ClusterRec) (files : List FileRec) (kept : Salvaged) (reserved : List ℕ) → CanBeSalvaged (volume_of g) clusters files
     → IsKeptOf (volume_of g) clusters files kept → CanBeKept (volume_of g) (kept_runs (volume_wanted g kept reserved))
 can_be_kept g clusters files kept reserved can is =

@@ -1,7 +1,7 @@
-use Rattle.std.proofs.Common.{◌+◌, ◌-◌, arith, rules}
+use Rattle.std.proofs.Common.{◌+◌, ◌-◌, arith}
 use Rattle.xfs_geom.specs.Volumes.{volume_of}
 use Rattle.xfs_request.specs.Slots.{block_slots}
-use Rattle.xfs_request.proofs.Rows.{range_more, range_done}
+use Rattle.xfs_request.proofs.Rows.{range_more}
 use Rattle.xfs_request.proofs.slots.push_cluster.Goals as goal
 
 pub loop-block-preserved : goal.loop-block-preserved
