@@ -1,0 +1,13 @@
+mod Listed
+mod Counted
+mod Linked
+mod Placed
+mod Served
+mod Grounds
+mod KeptNames
+mod Images
+mod Parts
+mod Needs
+mod Rebuilding
+mod Added
+mod DueNames

@@ -1,0 +1,121 @@
+-- What a rebuild is, from its parts; and why none is planned.
+use Rattle.std.proofs.Common.{◌≡◌, ℕ, false, List, Option, Result, Ok, Err, refl, subst, ◌∙◌}
+use Rattle.std.specs.Prelude.{IfErr, IfOk}
+use Rattle.std.specs.Option.{ForSome}
+use Rattle.xfs_disk.specs.Blocks.{Image}
+use Rattle.xfs_disk.specs.declared.stamp.Stamp.{Stamp}
+use Rattle.xfs_geom.specs.Volumes.{Volume, volume_of}
+use Rattle.xfs_geom.specs.declared.geometry.Geometry.{Geometry}
+use Rattle.xfs_empty.specs.Planning.{StandsFor}
+use Rattle.xfs_place.specs.declared.wanted.Wanted.{Wanted}
+use Rattle.xfs_place.specs.declared.placed.Placed.{Placed}
+use Rattle.xfs_render.specs.Rendering.{IsRendered}
+use Rattle.xfs_render.specs.declared.bytes.Bytes.{Bytes}
+use Rattle.xfs_render.specs.declared.plan.Plan.{Plan}
+use Rattle.xfs_render.specs.declared.wanted_slots.SlotWanted.{SlotWanted}
+use Rattle.xfs_scan.specs.Evidence.{dirs_seen, entries_seen, files_seen}
+use Rattle.xfs_scan.specs.declared.evidence.Evidence.{Evidence}
+use Rattle.xfs_groups.specs.declared.groups.GroupTrees.{GroupTrees}
+use Rattle.xfs_slots.specs.declared.facts.SlotFact.{SlotFact}
+use Rattle.xfs_volume.specs.declared.clusters.ClusterRec.{ClusterRec}
+use Rattle.xfs_salvage.specs.Kept.{entries_of_kept, fresh_inodes, kept_clusters, kept_dirs, kept_files}
+use Rattle.xfs_salvage.specs.declared.found.FoundRecords.{FoundRecords}
+use Rattle.xfs_salvage.specs.declared.found.Salvaged.{Salvaged}
+use Rattle.xfs_request.specs.Requests.{cleared_count, kept_count}
+use Rattle.xfs_request.specs.declared.seen.SlotSeen.{SlotSeen}
+use Rattle.xfs_rebuild.specs.Bytes.{AreAtHand, AreReadOf}
+use Rattle.xfs_rebuild.specs.Found.{reserved_of}
+use Rattle.xfs_rebuild.specs.Names.{needs_names}
+use Rattle.xfs_rebuild.specs.Rebuilds.{Ground, IsGround, IsLeft, IsPlannedFor, IsPlannedOn, IsRebuildOf, asked, ground, slots_asked}
+use Rattle.xfs_rebuild.specs.Refusals.{IsPlaceRefused, IsReadRefused, IsRefused, IsRefusedOn}
+use Rattle.xfs_rebuild.specs.Seen.{slots_seen}
+use Rattle.xfs_rebuild.specs.declared.faults.RebuildFault.{RebuildFault}
+use Rattle.xfs_rebuild.specs.declared.faults.RebuildFault.TheVariants as faults
+use Rattle.xfs_rebuild.specs.declared.planning.Rebuilt.{Rebuilt}
+
+pub planned_on : (g : Geometry) (sector : List ℕ) (s : Stamp) (image : Image) (on : Ground) (b : Bytes) (wanted : Wanted) (r : Rebuilt)
+    → needs_names g.rootino on.kept b.slots ≡ false → AreAtHand g sector s on.kept (slots_asked g s on) b → AreReadOf g image on.kept on.seen on.log b
+    → wanted ≡ asked g on → IsPlannedFor wanted b image r → r.kept ≡ kept_count on.kept → r.cleared ≡ cleared_count (slots_asked g s on)
+    → IsPlannedOn g sector s image on r
+planned_on g sector s image on b wanted r named hand read same planned many freed = record {
+  named = subst (λ (ws : List SlotWanted). needs_names g.rootino on.kept ws ≡ false) hand.slots' named;
+  bytes = b;
+  made = record { at_hand = hand; read = read };
+  planned = subst (λ (w : Wanted). IsPlannedFor w b image r) same planned;
+  count = many;
+  freed = freed;
+}
+
+-- what was salvaged of what was found
+module _ (v : Volume) (found : FoundRecords) (kept : Salvaged) (clusters' : kept.clusters ≡ kept_clusters v found.clusters found.files)
+    (files' : kept.files ≡ kept_files v found.clusters found.files) (fresh' : kept.fresh ≡ fresh_inodes v found.clusters found.files) where
+  -- from the lists of the evidence, and what is known of them
+  pub is_ground : (e : Evidence) (clusters : List ClusterRec) (facts : List SlotFact) (bare : List ℕ) (trees : List GroupTrees) (known seen : List SlotSeen) (reserved : List ℕ)
+      → found.clusters ≡ e.clusters → found.files ≡ files_seen e.seen → found.entries ≡ entries_seen e.seen → found.dirs ≡ dirs_seen e.seen
+      → kept.entries ≡ entries_of_kept v found.clusters found.files found.entries → kept.dirs ≡ kept_dirs v found.clusters found.files found.dirs
+      → clusters ≡ e.clusters → facts ≡ e.slots → bare ≡ e.bare → known ≡ slots_seen v clusters facts bare → seen ≡ known
+      → trees ≡ e.trees → reserved ≡ reserved_of trees → IsGround v e (ground kept seen reserved e.log)
+  is_ground e clusters facts bare trees known seen reserved a b c d entries dirs cs fs bs all same ts held = record {
+    kept' = record {
+      clusters' = clusters' ∙ (λ i. kept_clusters v (a i) (b i));
+      files' = files' ∙ (λ i. kept_files v (a i) (b i));
+      fresh' = fresh' ∙ (λ i. fresh_inodes v (a i) (b i));
+      entries' = entries ∙ (λ i. entries_of_kept v (a i) (b i) (c i));
+      dirs' = dirs ∙ (λ i. kept_dirs v (a i) (b i) (d i));
+    };
+    seen' = same ∙ all ∙ (λ i. slots_seen v (cs i) (fs i) (bs i));
+    reserved' = held ∙ (λ i. reserved_of (ts i));
+    log' = refl;
+  }
+
+-- refusals
+pub refused : (g : Geometry) (s : Stamp) (e : Evidence) (on : Ground) (fault : RebuildFault) → IsGround (volume_of g) e on → IsRefusedOn g s on fault → IsRefused g s e fault
+refused g s e on faults.Names stands is = (on, stands, is)
+refused g s e on (faults.NoRoom what) stands is = (on, stands, is.0, is.1)
+refused g s e on faults.ReadFault stands is = tt
+refused g s e on faults.NoMemory stands is = tt
+
+pub read_refused_place : (w : Wanted) (fault : RebuildFault) → IsReadRefused fault → IsPlaceRefused w fault
+read_refused_place w faults.Names is = absurd is
+read_refused_place w (faults.NoRoom what) is = absurd is
+read_refused_place w faults.ReadFault is = tt
+read_refused_place w faults.NoMemory is = tt
+
+-- what is placed, rendered and left is planned
+pub planned_for : (w : Wanted) (p : Placed) (b : Bytes) (plan : Plan) (held : Option Image) (result : Result Rebuilt RebuildFault)
+    → StandsFor w p → IsRendered w p b plan → IfOk result (λ r. ForSome held (λ image. IsLeft image plan r))
+    → IfOk result (λ r. ForSome held (λ image. IsPlannedFor w b image r))
+planned_for w p b plan held (Ok r) stands rendered left =
+    λ image told. record { placed = p; stands = stands; plan = plan; rendered = rendered; left = left image told }
+planned_for w p b plan held (Err fault) stands rendered left = left
+
+pub none_placed : (w : Wanted) (result : Result Rebuilt RebuildFault) → IfErr result IsReadRefused → IfErr result (IsPlaceRefused w)
+none_placed w (Ok r) is = is
+none_placed w (Err fault) is = read_refused_place w fault is
+
+-- what is planned for what was asked is so by what it goes by
+pub all_planned : (g : Geometry) (sector : List ℕ) (s : Stamp) (on : Ground) (b : Bytes) (wanted : Wanted) (slots view : List SlotWanted) (count cleared : ℕ)
+    (held later : Option Image) (result : Result Rebuilt RebuildFault)
+    → wanted ≡ asked g on → slots ≡ slots_asked g s on → count ≡ kept_count on.kept → cleared ≡ cleared_count (slots_asked g s on)
+    → AreAtHand g sector s on.kept slots b → ForSome held (λ image. AreReadOf g image on.kept on.seen on.log b) → view ≡ b.slots
+    → needs_names g.rootino on.kept view ≡ false → later ≡ held → IfOk result (λ r. ForSome later (λ image. IsPlannedFor wanted b image r))
+    → IfOk result (λ (r : Rebuilt). r.kept ≡ count) → IfOk result (λ (r : Rebuilt). r.cleared ≡ cleared)
+    → IfOk result (λ r. ForSome held (λ image. IsPlannedOn g sector s image on r))
+all_planned g sector s on b wanted slots view count cleared held later (Ok r) same of many freed hand read seen named as_before planned kept' cleared' = λ image told.
+    planned_on g sector s image on b wanted r
+    (subst (λ (ws : List SlotWanted). needs_names g.rootino on.kept ws ≡ false) seen named)
+    (subst (λ (ws : List SlotWanted). AreAtHand g sector s on.kept ws b) of hand)
+    (read image told) same (planned image (as_before ∙ told)) (kept' ∙ many) (cleared' ∙ freed)
+all_planned g sector s on b wanted slots view count cleared held later (Err fault) same of many freed hand read seen named as_before planned kept' cleared' = planned
+
+-- what is planned by what an evidence gives is a rebuild of it
+pub rebuilt : (g : Geometry) (sector : List ℕ) (s : Stamp) (e : Evidence) (on : Ground) (held : Option Image) (result : Result Rebuilt RebuildFault)
+    → IsGround (volume_of g) e on → IfOk result (λ r. ForSome held (λ image. IsPlannedOn g sector s image on r))
+    → IfOk result (λ r. ForSome held (λ image. IsRebuildOf g sector s image e r))
+rebuilt g sector s e on held (Ok r) stands planned = λ image told. record { on = on; ground = stands; planned = planned image told }
+rebuilt g sector s e on held (Err fault) stands planned = planned
+
+pub none_rebuilt : (g : Geometry) (s : Stamp) (e : Evidence) (on : Ground) (result : Result Rebuilt RebuildFault)
+    → IsGround (volume_of g) e on → IfErr result (IsRefusedOn g s on) → IfErr result (IsRefused g s e)
+none_rebuilt g s e on (Ok r) stands is = is
+none_rebuilt g s e on (Err fault) stands is = refused g s e on fault stands is

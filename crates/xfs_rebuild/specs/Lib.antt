@@ -1,0 +1,9 @@
+pub mod Seen
+pub mod Found
+pub mod Names
+pub mod Places
+pub mod Changes
+pub mod Differing
+pub mod Bytes
+pub mod Rebuilds
+pub mod Refusals

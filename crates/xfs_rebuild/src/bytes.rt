@@ -1,0 +1,171 @@
+//! What the blocks of a rebuilt volume are made of.
+
+ghost use Rattle.std.specs.Prelude.{◌≡◌, ◌+◌, ◌<◌, ◌≤◌, length, IfErr, IfOk};
+ghost use Rattle.std.specs.List.{All};
+ghost use Rattle.std.specs.List.Sorted.{IsNonDecreasingBy};
+ghost use Rattle.std.specs.Option.{ForSome};
+ghost use Rattle.xfs_bank.specs.Bank.{blocks_at};
+ghost use Rattle.xfs_disk.specs.Reads.{OnlyReads};
+ghost use Rattle.xfs_geom.specs.Volumes.{volume_of};
+ghost use Rattle.xfs_naming.specs.Naming.{NumbersAscend};
+ghost use Rattle.xfs_volume.specs.declared.files.FileRec.{FileRec};
+ghost use Rattle.xfs_render.specs.declared.wanted_slots.SlotWanted.{SlotWanted};
+ghost use Rattle.xfs_rebuild.specs.Bytes.{AreAtHand, AreReadOf, file_lsns, joined_bytes, numbers_in};
+ghost use Rattle.xfs_rebuild.specs.Refusals.{HasRebuildCause, IsReadRefused};
+
+use crate::changes::can_change_all;
+use crate::faults::RebuildFault;
+use crate::places::old_places;
+use std::alloc::Global;
+use std::sync::ledger::Ledger;
+use xfs_bank::BlockBank;
+use xfs_disk::{Disk, Failed, NoMemory, Stamp};
+use xfs_geom::{Elected, Geometry};
+use xfs_heads::LogState;
+use xfs_journal::{JournalFault, read_lsns};
+use xfs_render::{Bytes, SlotWanted};
+use xfs_request::{SlotSeen, due_cycle};
+use xfs_runs::Steps;
+use xfs_salvage::Salvaged;
+use xfs_volume::{BlockLsn, FileRec, Records};
+
+/// The bytes of a superblock.
+const SECTOR_SIZE: usize = 512;
+
+/// What the blocks are made of: what the disk has at the first block of each group and in the kept clusters, and what is wanted of
+/// slots. The blocks of files that state log sequence numbers are read, for the cycle of a blank log.
+///
+/// `ReadFault` only where a read failed; `NoMemory` where memory is wanting, where a slot that stays is not sealed, or where the
+/// cycle is none that a log can have, as never of an image whose evidence this is.
+pub(crate) fn bytes_of<D: Disk, L: Ledger>(
+    alloc: Global,
+    disk: &mut D,
+    chosen: &Elected,
+    kept: &Salvaged,
+    seen: &[SlotSeen],
+    slots: Records<SlotWanted>,
+    log: &LogState,
+    stamp: &Stamp,
+    steps: &mut Steps<L>,
+) -> Result<Bytes, RebuildFault>
+    requires inside { chosen.now.geometry.dblocks ≤ D.size disk.old }
+    requires files { IsNonDecreasingBy (λ (f : FileRec). f.ino) kept.now.files }
+    requires clusters { NumbersAscend 0 kept.now.clusters }
+    requires lie { All (λ cluster. cluster + 4 ≤ chosen.now.geometry.dblocks) kept.now.clusters }
+    requires order { IsNonDecreasingBy (λ (w : SlotWanted). w.ino) slots }
+    ensures at_hand { IfOk result (AreAtHand chosen.now.geometry chosen.now.sector stamp.now kept.now slots) }
+    ensures read { IfOk result (λ b. ForSome (D.holds disk.old) (λ image. AreReadOf chosen.now.geometry image kept.now seen.now log.now b)) }
+    ensures refused { IfErr result IsReadRefused }
+    ensures cause { HasRebuildCause (D.faults disk.old) (D.faults disk.new) result }
+    ensures disk { OnlyReads D.size D.holds D.write_faults D.writes D.tells_stops D.moment D.may_leave D.left_since disk.old disk.new }
+{
+    let g = &chosen.geometry;
+    let numbers = match file_lsns(alloc, g, disk, kept.files.as_slice(), steps) {
+        Ok(numbers) => numbers,
+        Err(fault) => return Err(fault),
+    };
+    let cycle = match due_cycle(alloc, g, kept, seen, numbers.as_slice(), log) {
+        Ok(cycle) => cycle,
+        Err(NoMemory) => return Err(RebuildFault::NoMemory),
+    };
+    let places = match old_places(alloc, g, kept.clusters.as_slice()) {
+        Ok(places) => places,
+        Err(NoMemory) => return Err(RebuildFault::NoMemory),
+    };
+    let old = match read_blocks(alloc, disk, places.as_slice()) {
+        Ok(old) => old,
+        Err(fault) => return Err(fault),
+    };
+    if !can_change_all(g, places.as_slice(), &old, slots.as_slice()) {
+        return Err(RebuildFault::NoMemory);
+    }
+    let objects = match BlockBank::make(alloc, 0) {
+        Ok(objects) => objects,
+        Err(NoMemory) => return Err(RebuildFault::NoMemory),
+    };
+    Ok(joined(&chosen.sector, places, old, objects, slots, cycle, stamp))
+}
+
+/// The bytes from their parts.
+fn joined(
+    sector: &[u8; SECTOR_SIZE],
+    places: Vec<u64>,
+    old: BlockBank,
+    objects: BlockBank,
+    slots: Records<SlotWanted>,
+    cycle: Option<u32>,
+    stamp: &Stamp,
+) -> Bytes
+    ensures { result ≡ joined_bytes sector.now places.items old objects slots cycle stamp.now }
+{
+    Bytes {
+        sector: *sector,
+        places: Records::from_vec(places),
+        old,
+        objects,
+        slots,
+        cycle,
+        stamp: *stamp,
+    }
+}
+
+/// The log sequence numbers in the blocks of files.
+#[tactic(auto, unfolding(crate::specs::Bytes::file_lsns))]
+fn file_lsns<D: Disk, L: Ledger>(
+    alloc: Global,
+    g: &Geometry,
+    disk: &mut D,
+    files: &[FileRec],
+    steps: &mut Steps<L>,
+) -> Result<Vec<u64>, RebuildFault>
+    ensures lsns { IfOk result (λ numbers. ForSome (D.holds disk.old) (λ image. numbers.items ≡ file_lsns (volume_of g.now) image files.now)) }
+    ensures refused { IfErr result IsReadRefused }
+    ensures cause { HasRebuildCause (D.faults disk.old) (D.faults disk.new) result }
+    ensures disk { OnlyReads D.size D.holds D.write_faults D.writes D.tells_stops D.moment D.may_leave D.left_since disk.old disk.new }
+{
+    let lsns = match read_lsns(alloc, g, disk, &[], &[], files, steps) {
+        Ok(lsns) => lsns,
+        Err(JournalFault::ReadFault) => return Err(RebuildFault::ReadFault),
+        Err(JournalFault::NoMemory) => return Err(RebuildFault::NoMemory),
+    };
+    match numbers_in(alloc, lsns.as_slice()) {
+        Ok(numbers) => Ok(numbers),
+        Err(NoMemory) => Err(RebuildFault::NoMemory),
+    }
+}
+
+/// The numbers, but that of the superblock.
+fn numbers_in(alloc: Global, lsns: &[BlockLsn]) -> Result<Vec<u64>, NoMemory>
+    ensures { IfOk result (λ numbers. numbers.items ≡ numbers_in lsns.now) }
+{
+    let mut numbers = Vec::new(alloc);
+    for lsn in lsns {
+        if lsn.block != 0 {
+            numbers.push(lsn.lsn)?;
+        }
+    }
+    Ok(numbers)
+}
+
+/// The blocks of a disk at some places. Each is read once.
+fn read_blocks<D: Disk>(
+    alloc: Global,
+    disk: &mut D,
+    places: &[u64],
+) -> Result<BlockBank, RebuildFault>
+    requires inside { All (λ place. place < D.size disk.old) places.now }
+    ensures old { IfOk result (λ bank. ForSome (D.holds disk.old) (λ image. bank ≡ blocks_at image places.now)) }
+    ensures many { IfOk result (λ bank. length bank ≡ length places.now) }
+    ensures refused { IfErr result IsReadRefused }
+    ensures cause { HasRebuildCause (D.faults disk.old) (D.faults disk.new) result }
+    ensures disk { OnlyReads D.size D.holds D.write_faults D.writes D.tells_stops D.moment D.may_leave D.left_since disk.old disk.new }
+{
+    let mut bank = match BlockBank::make(alloc, places.len()) {
+        Ok(bank) => bank,
+        Err(NoMemory) => return Err(RebuildFault::NoMemory),
+    };
+    match bank.fill(disk, places) {
+        Ok(()) => Ok(bank),
+        Err(Failed) => Err(RebuildFault::ReadFault),
+    }
+}

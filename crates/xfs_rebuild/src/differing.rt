@@ -1,0 +1,62 @@
+//! Planned blocks that differ from those on the disk.
+
+ghost use Rattle.std.specs.Prelude.{◌≡◌, ◌<◌, ◌≤◌, length, IfErr, IfOk};
+ghost use Rattle.std.specs.List.{All};
+ghost use Rattle.std.specs.Option.{ForSome};
+ghost use Rattle.xfs_disk.specs.Faults.{HasCause};
+ghost use Rattle.xfs_disk.specs.Reads.{OnlyReads};
+ghost use Rattle.xfs_render.specs.Drafts.{AreInBank};
+ghost use Rattle.xfs_writing.specs.declared.rows.Row.{Row};
+ghost use Rattle.xfs_rebuild.specs.Differing.{differs, left_of};
+ghost use Rattle.xfs_rebuild.specs.Refusals.{HasRebuildCause, IsReadRefused};
+
+use crate::faults::RebuildFault;
+use std::alloc::Global;
+use xfs_bank::BlockBank;
+use xfs_disk::{BLOCK_SIZE, Disk, Failed};
+use xfs_writing::Row;
+
+/// The rows whose blocks the disk does not hold already, in their order. Each block is read once.
+pub(crate) fn left_of<D: Disk>(
+    alloc: Global,
+    disk: &mut D,
+    bank: &BlockBank,
+    rows: &[Row],
+) -> Result<Vec<Row>, RebuildFault>
+    requires inside { All (λ (r : Row). r.at < D.size disk.old) rows.now }
+    requires banked { AreInBank rows.now bank.now }
+    ensures left { IfOk result (λ left. ForSome (D.holds disk.old) (λ image. left.items ≡ left_of bank.now image rows.now)) }
+    ensures places { IfOk result (λ left. All (λ (r : Row). r.at < D.size disk.old) left.items) }
+    ensures kept { IfOk result (λ left. AreInBank left.items bank.now) }
+    ensures refused { IfErr result IsReadRefused }
+    ensures cause { HasRebuildCause (D.faults disk.old) (D.faults disk.new) result }
+    ensures disk { OnlyReads D.size D.holds D.write_faults D.writes D.tells_stops D.moment D.may_leave D.left_since disk.old disk.new }
+{
+    let mut left = Vec::new(alloc);
+    for row in rows {
+        match differs(disk, bank, row) {
+            Ok(true) => match left.push(*row) {
+                Ok(()) => {}
+                Err(_) => return Err(RebuildFault::NoMemory),
+            },
+            Ok(false) => {}
+            Err(Failed) => return Err(RebuildFault::ReadFault),
+        }
+    }
+    Ok(left)
+}
+
+/// Whether the disk has other bytes at the row's block.
+fn differs<D: Disk>(disk: &mut D, bank: &BlockBank, row: &Row) -> Result<bool, Failed>
+    requires inside { row.now.at < D.size disk.old }
+    requires banked { row.now.index < length bank.now }
+    ensures differs { IfOk result (λ other. ForSome (D.holds disk.old) (λ image. other ≡ differs bank.now image row.now)) }
+    ensures cause { HasCause (D.faults disk.old) (D.faults disk.new) result }
+    ensures disk { OnlyReads D.size D.holds D.write_faults D.writes D.tells_stops D.moment D.may_leave D.left_since disk.old disk.new }
+{
+    let mut block = [0; BLOCK_SIZE];
+    match disk.read(row.at, &mut block) {
+        Ok(()) => Ok(&block[..] != bank.view(row.index)),
+        Err(Failed) => Err(Failed),
+    }
+}

@@ -1,0 +1,32 @@
+//! What is written of a volume that is rebuilt round what is kept of it.
+//!
+//! Whoever mends a volume hands in its evidence. What can be kept is salvaged, the trees of the groups are placed round it, and the blocks that then
+//! differ from those on the disk are planned. The disk is only read here.
+//!
+//! A caller would write:
+//!
+//! ```text
+//! match plan_rebuild(rt, alloc, disk, &chosen, evidence, stamp, gate, &mut steps) {
+//!     Ok(rebuilt) => write_parts(disk, &rebuilt.bank, rebuilt.fresh.as_slice(), rebuilt.in_place.as_slice()),
+//!     Err(RebuildFault::Names) => ..,              // a name would have to change
+//!     ..
+//! }
+//! ```
+#![tactic(auto)]
+
+mod bytes;
+mod changes;
+mod differing;
+mod due_files;
+mod faults;
+mod found;
+mod laws;
+mod names;
+mod places;
+mod planning;
+mod rendering;
+mod seen;
+
+pub use faults::RebuildFault;
+pub use laws::images_can_be_rebuilt;
+pub use planning::{Rebuilt, plan_rebuild};

@@ -1,0 +1,100 @@
+//! Whether names would have to change.
+
+ghost use Rattle.std.specs.Prelude.{◌≡◌, ℕ, ◌<◌, ◌^◌, length, map, IfOk};
+ghost use Rattle.std.specs.Option.{is_some};
+ghost use Rattle.xfs_naming.specs.Naming.{naming_laws};
+ghost use Rattle.xfs_volume.specs.Laws.{first_broken};
+ghost use Rattle.xfs_volume.specs.declared.files.FileRec.{FileRec};
+ghost use Rattle.xfs_request.specs.Slots.{links_due};
+ghost use Rattle.xfs_rebuild.specs.Names.{made_files, needs_names, with_files, with_nlink};
+
+use crate::due_files::{add_made, all_due, dirs_with, set_links};
+use std::alloc::Global;
+use xfs_dirdata::EntryRec;
+use xfs_disk::NoMemory;
+use xfs_laws::are_named;
+use xfs_naming::{check_names, links_of};
+use xfs_render::SlotWanted;
+use xfs_salvage::Salvaged;
+use xfs_volume::{DirRec, FileRec};
+
+/// Whether the files that the volume then has break a law of names, whatever numbers of links are set.
+///
+/// `NoMemory` where memory is wanting, or where files, entries and directories are not in the order of those of an image.
+#[tactic(auto, unfolding(crate::specs::Names::needs_names))]
+pub(crate) fn needs_names(
+    alloc: Global,
+    root: u64,
+    kept: Salvaged,
+    slots: &[SlotWanted],
+) -> Result<bool, NoMemory>
+    requires low { root < 2 ^ 32 }
+    ensures { IfOk result (λ needs. needs ≡ needs_names root kept slots.now) }
+{
+    let dues = links_of_kept(alloc, root, &kept)?;
+    let Salvaged {
+        files,
+        fresh,
+        entries,
+        dirs,
+        ..
+    } = kept;
+    let files = due_files(alloc, files.into_vec(), dues.as_slice(), slots)?;
+    let dirs = dirs_with(root, fresh.as_slice(), dirs.into_vec())?;
+    breaks_names(
+        alloc,
+        root,
+        files.as_slice(),
+        entries.as_slice(),
+        dirs.as_slice(),
+    )
+}
+
+/// How many links each kept file is to have.
+fn links_of_kept(alloc: Global, root: u64, kept: &Salvaged) -> Result<Vec<u32>, NoMemory>
+    requires low { root < 2 ^ 32 }
+    ensures { IfOk result (λ dues. dues.items ≡ map (links_due root kept.now.files kept.now.entries) kept.now.files) }
+{
+    let files = kept.files.as_slice();
+    let entries = kept.entries.as_slice();
+    if !are_named(files, entries, kept.dirs.as_slice()) {
+        return Err(NoMemory);
+    }
+    let links = links_of(alloc, entries)?;
+    all_due(alloc, root, files, entries, links.as_slice())
+}
+
+/// The files, where each is to have so many links, with those that are made anew.
+fn due_files(
+    alloc: Global,
+    files: Vec<FileRec>,
+    dues: &[u32],
+    slots: &[SlotWanted],
+) -> Result<Vec<FileRec>, NoMemory>
+    requires { length dues.now ≡ length files.items }
+    ensures { (due : FileRec → ℕ) → dues.now ≡ map due files.items
+        → IfOk result (λ all. all.items ≡ with_files (made_files slots.now) (map (λ (f : FileRec). with_nlink f (due f)) files.items)) }
+{
+    let mut files = files;
+    set_links(files.as_mut_slice(), dues);
+    add_made(alloc, slots, &mut files)?;
+    Ok(files)
+}
+
+/// Whether a law of names is broken.
+fn breaks_names(
+    alloc: Global,
+    root: u64,
+    files: &[FileRec],
+    entries: &[EntryRec],
+    dirs: &[DirRec],
+) -> Result<bool, NoMemory>
+    requires low { root < 2 ^ 32 }
+    ensures { IfOk result (λ breaks. breaks ≡ is_some (first_broken (naming_laws root files.now entries.now dirs.now))) }
+{
+    if !are_named(files, entries, dirs) {
+        return Err(NoMemory);
+    }
+    let law = check_names(alloc, root, files, entries, dirs)?;
+    Ok(law.is_some())
+}

@@ -1,0 +1,178 @@
+//! The plan of a rebuild.
+
+ghost use Rattle.std.specs.Prelude.{◌≡◌, ◌<◌, ◌≤◌, ◌^◌, false, IfErr, IfOk, OnOk};
+ghost use Rattle.std.specs.Option.{ForSome};
+ghost use Rattle.xfs_disk.specs.Reads.{OnlyReads};
+ghost use Rattle.xfs_geom.specs.Volumes.{stated_volume, volume_of};
+ghost use Rattle.xfs_geom.specs.Writing.{IsAcceptedSector};
+ghost use Rattle.xfs_rebuild.specs.Names.{needs_names};
+ghost use Rattle.xfs_rebuild.specs.Rebuilds.{CanBeWritten, IsFound, IsPlannedOn, IsRebuildOf, ground};
+ghost use Rattle.xfs_rebuild.specs.Refusals.{HasRebuildCause, IsNameRefused, IsRefused, IsRefusedOn};
+
+use crate::bytes::bytes_of;
+use crate::faults::RebuildFault;
+use crate::found::{found_of, reserved_of};
+use crate::names::needs_names;
+use crate::rendering::plan_wanted;
+use crate::seen::slots_seen;
+use std::alloc::Global;
+use std::sync::ledger::Ledger;
+use std::thread::Threads;
+use xfs_bank::BlockBank;
+use xfs_disk::{Disk, Gate, NoMemory, Stamp};
+use xfs_geom::Elected;
+use xfs_heads::LogState;
+use xfs_render::SlotWanted;
+use xfs_request::{Request, SlotSeen, ask};
+use xfs_runs::Steps;
+use xfs_salvage::{Salvaged, salvage};
+use xfs_scan::Evidence;
+use xfs_volume::{Blocks, Records};
+use xfs_writing::Row;
+
+/// The blocks of a rebuilt volume that differ from those on the disk.
+#[derive(Drop)]
+pub struct Rebuilt {
+    /// Their bytes, and those of blocks that are equal.
+    pub bank: BlockBank,
+    /// The blocks that nothing kept stands on, ascending.
+    pub fresh: Records<Row>,
+    /// Those that are written in place, ascending.
+    pub in_place: Records<Row>,
+    /// How many inodes are then in use.
+    pub kept: u64,
+    /// How many slots are freed.
+    pub cleared: u64,
+}
+
+/// The blocks that are to be written of a volume that is rebuilt round what is kept of its evidence. The disk is only read: the
+/// blocks of the kept files that state log sequence numbers, the first block of each group and those of the kept clusters, and then
+/// each planned block, to see whether it differs.
+///
+/// `Names` where a name or a directory would have to change; else `NoRoom` of the first group whose trees find none;
+/// `ReadFault` only where a read failed; `NoMemory` where memory is wanting, or where the evidence or what is then read of the
+/// disk cannot be that of any image.
+pub fn plan_rebuild<R: Threads + Sync, D: Disk, G: Gate, L: Ledger>(
+    rt: &R,
+    alloc: Global,
+    disk: &mut D,
+    chosen: &Elected,
+    evidence: Evidence,
+    stamp: &Stamp,
+    gate: &G,
+    steps: &mut Steps<L>,
+) -> Result<Rebuilt, RebuildFault>
+    requires accepted { IsAcceptedSector chosen.now.sector }
+    requires states { volume_of chosen.now.geometry ≡ stated_volume chosen.now.sector }
+    requires inside { chosen.now.geometry.dblocks ≤ D.size disk.old }
+    ensures writable { IfOk result (CanBeWritten (D.size disk.old)) }
+    ensures rebuilt { IfOk result (λ r. ForSome (D.holds disk.old) (λ image. IsRebuildOf chosen.now.geometry chosen.now.sector stamp.now image evidence r)) }
+    ensures refused { IfErr result (IsRefused chosen.now.geometry stamp.now evidence) }
+    ensures cause { HasRebuildCause (D.faults disk.old) (D.faults disk.new) result }
+    ensures disk { OnlyReads D.size D.holds D.write_faults D.writes D.tells_stops D.moment D.may_leave D.left_since disk.old disk.new }
+{
+    let g = &chosen.geometry;
+    let Evidence {
+        clusters,
+        slots,
+        bare,
+        trees,
+        seen,
+        log,
+    } = evidence;
+    let slots = match slots_seen(
+        alloc,
+        g,
+        clusters.as_slice(),
+        slots.as_slice(),
+        bare.as_slice(),
+    ) {
+        Ok(slots) => slots,
+        Err(NoMemory) => return Err(RebuildFault::NoMemory),
+    };
+    let reserved = match reserved_of(alloc, trees.as_slice()) {
+        Ok(reserved) => reserved,
+        Err(NoMemory) => return Err(RebuildFault::NoMemory),
+    };
+    let kept = match salvage(rt, alloc, g, found_of(clusters, seen), steps) {
+        Ok(kept) => kept,
+        Err(NoMemory) => return Err(RebuildFault::NoMemory),
+    };
+    plan_kept(
+        rt,
+        alloc,
+        disk,
+        chosen,
+        kept,
+        slots.as_slice(),
+        reserved,
+        &log,
+        stamp,
+        gate,
+        steps,
+    )
+}
+
+/// The same round what is kept, by what is known of the slots of the candidate clusters, the reserved blocks and the log.
+fn plan_kept<R: Threads + Sync, D: Disk, G: Gate, L: Ledger>(
+    rt: &R,
+    alloc: Global,
+    disk: &mut D,
+    chosen: &Elected,
+    kept: Salvaged,
+    seen: &[SlotSeen],
+    reserved: Blocks,
+    log: &LogState,
+    stamp: &Stamp,
+    gate: &G,
+    steps: &mut Steps<L>,
+) -> Result<Rebuilt, RebuildFault>
+    requires accepted { IsAcceptedSector chosen.now.sector }
+    requires states { volume_of chosen.now.geometry ≡ stated_volume chosen.now.sector }
+    requires inside { chosen.now.geometry.dblocks ≤ D.size disk.old }
+    requires found { IsFound (volume_of chosen.now.geometry) kept }
+    ensures writable { IfOk result (CanBeWritten (D.size disk.old)) }
+    ensures planned { IfOk result (λ r. ForSome (D.holds disk.old) (λ image.
+        IsPlannedOn chosen.now.geometry chosen.now.sector stamp.now image (ground kept seen.now reserved log.now) r)) }
+    ensures refused { IfErr result (IsRefusedOn chosen.now.geometry stamp.now (ground kept seen.now reserved log.now)) }
+    ensures cause { HasRebuildCause (D.faults disk.old) (D.faults disk.new) result }
+    ensures disk { OnlyReads D.size D.holds D.write_faults D.writes D.tells_stops D.moment D.may_leave D.left_since disk.old disk.new }
+{
+    let g = &chosen.geometry;
+    let Request {
+        wanted,
+        slots,
+        kept: count,
+        cleared,
+    } = match ask(alloc, g, &kept, seen, reserved, stamp) {
+        Ok(request) => request,
+        Err(NoMemory) => return Err(RebuildFault::NoMemory),
+    };
+    let bytes = match bytes_of(alloc, disk, chosen, &kept, seen, slots, log, stamp, steps) {
+        Ok(bytes) => bytes,
+        Err(fault) => return Err(fault),
+    };
+    match names_stay(alloc, g.rootino, kept, bytes.slots.as_slice()) {
+        Ok(()) => {}
+        Err(fault) => return Err(fault),
+    }
+    plan_wanted(rt, alloc, disk, &wanted, &bytes, count, cleared, gate)
+}
+
+/// Goes on where no name has to change.
+fn names_stay(
+    alloc: Global,
+    root: u64,
+    kept: Salvaged,
+    slots: &[SlotWanted],
+) -> Result<(), RebuildFault>
+    requires low { root < 2 ^ 32 }
+    ensures named { OnOk result (needs_names root kept slots.now ≡ false) }
+    ensures refused { IfErr result (IsNameRefused (needs_names root kept slots.now)) }
+{
+    match needs_names(alloc, root, kept, slots) {
+        Ok(true) => Err(RebuildFault::Names),
+        Ok(false) => Ok(()),
+        Err(NoMemory) => Err(RebuildFault::NoMemory),
+    }
+}
