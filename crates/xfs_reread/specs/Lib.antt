@@ -1,0 +1,3 @@
+pub mod DueFiles
+pub mod Kept
+pub mod Logs

@@ -1,0 +1,10 @@
+pub mod Counting
+pub mod TreesApart
+pub mod PlansApart
+pub mod Kept
+pub mod Placed
+pub mod RowsWritten
+pub mod Standing
+pub mod Staying
+pub mod SlotsDue
+pub mod Logs
