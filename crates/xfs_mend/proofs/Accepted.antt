@@ -1,6 +1,7 @@
 -- What the calls of a repair have told of the image.
 use Rattle.std.proofs.Common.{◌≡◌, ℕ, ◌-◌, ◌*◌, ◌<◌, ◌≤◌, ◌⊎◌, inl, inr, false, List, [], length, Option, Some, Ok, sym, ap, ◌∙◌, subst, arith}
 use Rattle.xfs_disk.specs.Blocks.{Image, bytes_of_block}
+use Rattle.xfs_disk.specs.declared.stamp.Stamp.{Stamp}
 use Rattle.xfs_geom.proofs.Bounds.{group_start}
 use Rattle.xfs_geom.specs.Volumes.{Volume, volume_of, stated_volume}
 use Rattle.xfs_geom.specs.declared.geometry.Geometry.{Geometry}
@@ -9,11 +10,13 @@ use Rattle.xfs_backups.proofs.Electing.{IsPrimary, is_primary}
 use Rattle.xfs_mend.proofs.Repaired.{IsAccepted}
 use Rattle.xfs_backups.specs.Backups.{backup_plan, first_disagreeing, start_of, steps_from}
 use Rattle.xfs_mend.specs.Due.{IsOwed}
+use Rattle.xfs_mend.specs.Rebuilding.{IsBackupFound}
 use Rattle.xfs_mend.specs.Outcome.{IsRepairCause, IsDurableRepair, IsRepaired, RepairLeaves, LeavesOf, StopsBy, StopsOf, is_quiet}
 use Rattle.xfs_writing.specs.Stopped.{IsStopped}
 use Rattle.xfs_writing.specs.Writing.{Writes, IsPartly, written}
 use Rattle.xfs_mend.specs.declared.outcome.Outcome.{Outcome}
-use Rattle.xfs_mend.specs.declared.outcome.Outcome.TheVariants.{NoGeometry, Unsupported, DirtyLog, TooLarge, UnsupportedFile, Clean, Damaged, Repaired, Unbuilt, ReadFault, WriteFault, NoMemory}
+use Rattle.xfs_mend.specs.declared.outcome.Outcome.TheVariants.{NoGeometry, Unsupported, DirtyLog, TooLarge, UnsupportedFile, Clean, Damaged, Repaired, NoRoom, Unbuilt, ReadFault, WriteFault, NoMemory}
+use Rattle.xfs_mend.specs.declared.outcome.Summary.TheVariants.{Backups, Rebuilt as Anew}
 
 -- each group of an accepted geometry begins inside the image
 starts_inside : (primary : List ℕ) (n : ℕ) (g : Geometry) → volume_of g ≡ stated_volume primary → g.dblocks ≤ n
@@ -67,21 +70,24 @@ first_elected image v g elects from stated =
     ap (λ (n : ℕ). first_disagreeing v.sector image 1 (n - 1)) count
     ∙ ap (λ (p : List ℕ). first_disagreeing p image 1 ((stated_volume p).agcount - 1)) same
 
--- what an outcome of the image's plan leaves
-pub written_leaves : (image : Image) (now : Option Image) (plan : Writes) (a : Outcome) → (now ≡ Some (written (backup_plan image) image) → IsRepaired image now)
-    → plan ≡ backup_plan image → LeavesOf plan image now a → RepairLeaves image now a
-written_leaves image now plan (Repaired summary) repairs same writes = repairs (writes ∙ ap (λ (p : Writes). Some (written p image)) same)
-written_leaves image now plan (WriteFault blocks) repairs same writes = subst (λ (p : Writes). IsPartly p image blocks now) same writes
-written_leaves image now plan NoGeometry repairs same writes = writes
-written_leaves image now plan (Unsupported word bits) repairs same writes = writes
-written_leaves image now plan DirtyLog repairs same writes = writes
-written_leaves image now plan (TooLarge what count) repairs same writes = writes
-written_leaves image now plan (UnsupportedFile ino what) repairs same writes = writes
-written_leaves image now plan Clean repairs same writes = writes
-written_leaves image now plan (Damaged finding) repairs same writes = writes
-written_leaves image now plan (Unbuilt request) repairs same writes = writes
-written_leaves image now plan (ReadFault faults) repairs same writes = writes
-written_leaves image now plan NoMemory repairs same writes = writes
+-- what an outcome of the image's plan leaves, where a backup is found
+pub written_leaves : (s : Stamp) (image : Image) (now : Option Image) (plan : Writes) (count : ℕ) (a : Outcome) → IsBackupFound image
+    → (now ≡ Some (written (backup_plan image) image) → IsRepaired image now) → plan ≡ backup_plan image → IsOwed (λ due. due ≡ Repaired (Backups count)) a
+    → LeavesOf plan image now a → RepairLeaves s image now a
+written_leaves s image now plan count (Repaired (Backups n)) found repairs same owed writes = (found, repairs (writes ∙ ap (λ (p : Writes). Some (written p image)) same))
+written_leaves s image now plan count (Repaired (Anew blocks kept cleared orphans)) found repairs same owed writes = absurd cc
+written_leaves s image now plan count (WriteFault blocks) found repairs same owed writes = inl (found, subst (λ (p : Writes). IsPartly p image blocks now) same writes)
+written_leaves s image now plan count NoGeometry found repairs same owed writes = writes
+written_leaves s image now plan count (Unsupported word bits) found repairs same owed writes = writes
+written_leaves s image now plan count DirtyLog found repairs same owed writes = writes
+written_leaves s image now plan count (TooLarge what many) found repairs same owed writes = writes
+written_leaves s image now plan count (UnsupportedFile ino what) found repairs same owed writes = writes
+written_leaves s image now plan count Clean found repairs same owed writes = writes
+written_leaves s image now plan count (Damaged finding) found repairs same owed writes = writes
+written_leaves s image now plan count (NoRoom what) found repairs same owed writes = writes
+written_leaves s image now plan count (Unbuilt request) found repairs same owed writes = writes
+written_leaves s image now plan count (ReadFault faults) found repairs same owed writes = writes
+written_leaves s image now plan count NoMemory found repairs same owed writes = writes
 
 -- what is kept by a disk that tells its stops
 pub kept_before : (before after : Type 0) (now : Option Image) (may_leave : ℕ → List ℕ → Type 0) (a : Outcome) → (before → after)
@@ -95,13 +101,10 @@ kept_before before after now may_leave (TooLarge what count) tells kept = kept
 kept_before before after now may_leave (UnsupportedFile ino what) tells kept = kept
 kept_before before after now may_leave Clean tells kept = kept
 kept_before before after now may_leave (Damaged finding) tells kept = kept
+kept_before before after now may_leave (NoRoom what) tells kept = kept
 kept_before before after now may_leave (Unbuilt request) tells kept = kept
 kept_before before after now may_leave (ReadFault faults) tells kept = kept
 kept_before before after now may_leave NoMemory tells kept = kept
-
--- what is owed where a repair by these steps is, is owed where it is by the plan
-pub owed_as : (due other outcome : Outcome) → due ≡ other → IsOwed due outcome → IsOwed other outcome
-owed_as due other outcome same owed = subst (λ (d : Outcome). IsOwed d outcome) same owed
 
 -- the causes that are seen from an earlier count on
 pub caused_before : (earlier before now w0 w1 w2 : ℕ) (a : Outcome) → earlier ≤ before → w0 ≤ w1 → IsRepairCause before now w1 w2 a → IsRepairCause earlier now w0 w2 a
@@ -115,13 +118,15 @@ caused_before earlier before now w0 w1 w2 (TooLarge what count) up more cause = 
 caused_before earlier before now w0 w1 w2 (UnsupportedFile ino what) up more cause = cause
 caused_before earlier before now w0 w1 w2 Clean up more cause = cause
 caused_before earlier before now w0 w1 w2 (Damaged finding) up more cause = cause
+caused_before earlier before now w0 w1 w2 (NoRoom what) up more cause = cause
 caused_before earlier before now w0 w1 w2 (Unbuilt request) up more cause = cause
 caused_before earlier before now w0 w1 w2 NoMemory up more cause = cause
 
 -- what a stop leaves while these steps are written is what it leaves by the plan
-pub stops_by_plan : (image : Image) (plan : Writes) (a : Outcome) (stopped : Image) (Before : Type 0) → plan ≡ backup_plan image
-    → Before ⊎ StopsOf plan image a stopped → Before ⊎ StopsBy image a stopped
-stops_by_plan image plan a stopped Before same left = subst (λ (p : Writes). Before ⊎ StopsOf p image a stopped) same left
+pub stops_by_plan : (s : Stamp) (image : Image) (plan : Writes) (a : Outcome) (stopped : Image) (Before : Type 0) → IsBackupFound image → plan ≡ backup_plan image
+    → Before ⊎ StopsOf plan image a stopped → Before ⊎ StopsBy s image a stopped
+stops_by_plan s image plan a stopped Before found same (inl was) = inl was
+stops_by_plan s image plan a stopped Before found same (inr (loud, is)) = inr (loud, inl (found, subst (λ (p : Writes). IsStopped [] p image stopped) same is))
 
 -- where blocks were written, what a stop leaves of these writes is what it leaves of the same steps
 pub stops_written : (image : Image) (writes steps : Writes) (a : Outcome) (stopped : Image) (Before : Type 0) → writes ≡ steps → is_quiet a ≡ false

@@ -1,8 +1,9 @@
 -- What is decided of an image.
-use Rattle.std.proofs.Common.{◌≡◌, ◌≢◌, ℕ, ◌-◌, ◌*◌, ◌==◌, true, false, not, List, length, Option, Some, None, Result, Ok, Err, IfOk, refl, sym, ap, ◌∙◌, subst}
+use Rattle.std.proofs.Common.{◌≡◌, ◌≢◌, ℕ, ◌-◌, ◌*◌, ◌==◌, Bool, true, false, not, List, length, Option, Some, None, Result, Ok, Err, IfOk, refl, sym, ap, ◌∙◌, subst}
 use Rattle.std.proofs.lemmas.Bool.{and_from, eq-eqb, eqb-true}
 use Rattle.std.specs.List.{find, range_with_len}
 use Rattle.xfs_disk.specs.Blocks.{Image}
+use Rattle.xfs_disk.specs.declared.stamp.Stamp.{Stamp}
 use Rattle.xfs_geom.specs.Superblocks.{is_agreeing}
 use Rattle.xfs_geom.specs.Volumes.{Volume, stated_volume, volume_of}
 use Rattle.xfs_geom.specs.declared.election.ElectFault.{ElectFault}
@@ -19,15 +20,21 @@ use Rattle.xfs_image.specs.Consistent.{HasBackupFault, IsElected, backup_differs
 use Rattle.xfs_image.specs.View.{view}
 use Rattle.xfs_image.specs.declared.findings.Finding.{Finding}
 use Rattle.xfs_image.specs.declared.findings.Finding.TheVariants as Found
+use Rattle.xfs_mend.proofs.Owing.{owed_as}
 use Rattle.xfs_mend.proofs.Repaired.{first_sector}
+use Rattle.xfs_rebuild.specs.Rebuilds.{IsRebuildOf}
+use Rattle.xfs_rebuild.specs.declared.planning.Rebuilt.{Rebuilt}
+use Rattle.xfs_scan.specs.Evidence.{IsEvidence}
+use Rattle.xfs_scan.specs.declared.evidence.Evidence.{Evidence}
 use Rattle.xfs_backups.specs.Backups.{backup_plan, disagrees, first_disagreeing, start_of}
-use Rattle.xfs_mend.specs.Due.{IsAnswer, IsDueRepair, IsOwed, due_found, due_volume, is_backup, turned_away}
+use Rattle.xfs_mend.specs.Due.{IsAnswer, IsDueBehind, IsDueFound, IsDueRepair, IsDueRepaired, IsDueUnless, IsDueVolume, IsOwed, turned_away}
+use Rattle.xfs_mend.specs.Rebuilding.{IsBackupFound, IsDueRebuild, IsPlanned, is_backup}
 use Rattle.xfs_writing.specs.Writing.{Writes}
 use Rattle.xfs_mend.specs.Private.Refusing.{IsAdmission}
 use Rattle.xfs_mend.specs.declared.refusals.Admitted.{Admitted}
-use Rattle.xfs_mend.specs.declared.refusals.Admitted.TheVariants.{View}
+use Rattle.xfs_mend.specs.declared.refusals.Admitted.TheVariants.{Seen}
 use Rattle.xfs_mend.specs.declared.outcome.Outcome.{Outcome}
-use Rattle.xfs_mend.specs.declared.outcome.Outcome.TheVariants.{NoGeometry, Unsupported, DirtyLog, TooLarge, UnsupportedFile, Clean, Damaged, Repaired, Unbuilt, ReadFault, WriteFault, NoMemory}
+use Rattle.xfs_mend.specs.declared.outcome.Outcome.TheVariants.{NoGeometry, Unsupported, Damaged, Repaired}
 use Rattle.xfs_mend.specs.Asked.{Asked}
 use Rattle.xfs_mend.specs.declared.outcome.Summary.TheVariants.{Backups}
 
@@ -118,52 +125,80 @@ from_primary g image vote (Found.Part part place) elects same backup =
     only_backups broken_law g image place (sym same ∙ ap (λ (p : ℕ). Some (Found.Part p place)) number) in
     ap (λ (v : Vote). v.place) (some_vote vote fault.elected.vote (elected image) elects fault.elected.due) ∙ fault.first
 
--- a volume whose view is given is not turned away
-pub admitted_stays : (o : Asked) (g : Geometry) (image : Image) (a : Admitted) (seen : Result Catalog Finding) → a ≡ View seen
+-- so a backup is found, or something else, and then what is planned of the evidence is planned of the image
+pub has_backup : (g : Geometry) (image : Image) (found : Finding) → IsElected (volume_of g) image → Some found ≡ finding broken_law g image
+    → is_backup found ≡ true → IsBackupFound image
+has_backup g image (Found.Law law) is same backup = absurd cc
+has_backup g image (Found.Part part place) is same backup =
+    let number : part ≡ 10 = eqb-true part 10 backup in
+    (place, record { geometry = g; elected = is; is = sym same ∙ ap (λ (p : ℕ). Some (Found.Part p place)) number })
+
+pub is_planned : (g : Geometry) (s : Stamp) (image : Image) (vote : Vote) (found : Finding) (e : Evidence) (r : Rebuilt) → elected image ≡ Ok vote
+    → volume_of g ≡ stated_volume vote.sector → Some found ≡ finding broken_law g image → is_backup found ≡ false → IsEvidence g image e
+    → IsRebuildOf g vote.sector s image e r → IsPlanned s image r
+is_planned g s image vote found e r elects stated same other evidence is = record {
+  found = found;
+  has = record { geometry = g; elected = is_elected g image vote elects stated; is = sym same };
+  other = other;
+  e = e;
+  evidence = evidence;
+  is = is;
+}
+
+-- a volume whose evidence is given is not turned away, and it is its evidence
+pub admitted_stays : (o : Asked) (g : Geometry) (image : Image) (a : Admitted) (e : Evidence) → a ≡ Seen e
     → IsAdmission o g image a → turned_away o (volume_of g) image ≡ None
-admitted_stays o g image a seen is held = (subst (λ (x : Admitted). IsAdmission o g image x) is held).0
+admitted_stays o g image a e is held = (subst (λ (x : Admitted). IsAdmission o g image x) is held).0
+
+pub admitted_evidence : (o : Asked) (g : Geometry) (image : Image) (a : Admitted) (e : Evidence) → a ≡ Seen e
+    → IsAdmission o g image a → IsEvidence g image e
+admitted_evidence o g image a e is held = (subst (λ (x : Admitted). IsAdmission o g image x) is held).1
 
 -- what is due to a volume that is turned away, and to any other
-pub due_away : (o : Asked) (g : Geometry) (image : Image) (outcome : Outcome) → turned_away o (volume_of g) image ≡ Some outcome
-    → outcome ≡ due_volume o g image
-unfolding due_volume
-due_away o g image outcome away = rw away refl
+pub due_away : (o : Asked) (g : Geometry) (s : Stamp) (image : Image) (outcome : Outcome) → turned_away o (volume_of g) image ≡ Some outcome
+    → IsDueVolume o g s image outcome
+unfolding IsDueVolume
+due_away o g s image outcome away =
+    subst (λ (r : Option Outcome). IsDueBehind r (IsDueFound o g s image (finding broken_law g image)) outcome) (sym away) refl
 
-pub due_seen : (o : Asked) (g : Geometry) (image : Image) (found : Option Finding) → turned_away o (volume_of g) image ≡ None
-    → found ≡ finding broken_law g image → due_found o image found ≡ due_volume o g image
-unfolding due_volume
-due_seen o g image found stays same = rw (stays, same) refl
+pub due_seen : (o : Asked) (g : Geometry) (s : Stamp) (image : Image) (found : Option Finding) (outcome : Outcome) → turned_away o (volume_of g) image ≡ None
+    → found ≡ finding broken_law g image → IsDueFound o g s image found outcome → IsDueVolume o g s image outcome
+unfolding IsDueVolume
+due_seen o g s image found outcome stays same due =
+    subst (λ (r : Option Outcome). IsDueBehind r (IsDueFound o g s image (finding broken_law g image)) outcome) (sym stays)
+    (subst (λ (f : Option Finding). IsDueFound o g s image f outcome) same due)
 
--- a repair is due where a backup is found and the image is not only checked
-pub due_of_plan : (o : Asked) (image : Image) (found : Finding) (plan : Writes) → o.check ≡ false → is_backup found ≡ true → plan ≡ backup_plan image
-    → Repaired (Backups (length plan)) ≡ due_found o image (Some found)
-due_of_plan o image found plan repairs backup same = rw (repairs, backup, same) refl
+-- a check tells what is found; else a repair of backups is due where one is found, and a rebuild where anything else is
+pub due_damaged : (o : Asked) (g : Geometry) (s : Stamp) (image : Image) (found : Finding) → o.check ≡ true → IsDueFound o g s image (Some found) (Damaged found)
+due_damaged o g s image found checks = subst (λ (b : Bool). IsDueUnless b g s image found (Damaged found)) (sym checks) refl
+
+pub due_of_plan : (o : Asked) (g : Geometry) (s : Stamp) (image : Image) (found : Finding) (plan : Writes) (outcome : Outcome) → o.check ≡ false
+    → is_backup found ≡ true → plan ≡ backup_plan image → outcome ≡ Repaired (Backups (length plan)) → IsDueFound o g s image (Some found) outcome
+due_of_plan o g s image found plan outcome repairs backup same is =
+    subst (λ (b : Bool). IsDueUnless b g s image found outcome) (sym repairs)
+    (subst (λ (b : Bool). IsDueRepaired b g s image outcome) (sym backup) (is ∙ ap (λ (p : Writes). Repaired (Backups (length p))) same))
+
+pub due_anew : (o : Asked) (g : Geometry) (s : Stamp) (image : Image) (found : Finding) (outcome : Outcome) → o.check ≡ false → is_backup found ≡ false
+    → IsDueRebuild g s image outcome → IsDueFound o g s image (Some found) outcome
+due_anew o g s image found outcome repairs other due =
+    subst (λ (b : Bool). IsDueUnless b g s image found outcome) (sym repairs)
+    (subst (λ (b : Bool). IsDueRepaired b g s image outcome) (sym other) due)
 
 -- what is owed by the geometry that is elected is due
-pub answers : (o : Asked) (g : Geometry) (image : Image) (vote : Vote) (outcome : Outcome) → elected image ≡ Ok vote → IsElected (volume_of g) image
-    → outcome ≡ due_volume o g image → IsAnswer o image (elected image) outcome
-answers o g image vote outcome elects is due =
-    subst (λ (r : Result Vote ElectFault). IsAnswer o image r outcome) (sym elects) (record { geometry = g; elected = is; is = due })
+pub answers : (o : Asked) (g : Geometry) (s : Stamp) (image : Image) (vote : Vote) (outcome : Outcome) → elected image ≡ Ok vote → IsElected (volume_of g) image
+    → IsDueVolume o g s image outcome → IsAnswer o s image (elected image) outcome
+answers o g s image vote outcome elects is due =
+    subst (λ (r : Result Vote ElectFault). IsAnswer o s image r outcome) (sym elects) (record { geometry = g; elected = is; is = due })
 
-pub due_by : (o : Asked) (g : Geometry) (image : Image) (vote : Vote) (outcome : Outcome) → elected image ≡ Ok vote → IsElected (volume_of g) image
-    → IsOwed (due_volume o g image) outcome → IsDueRepair o image outcome
-due_by o g image vote (ReadFault faults) elects is owed = tt
-due_by o g image vote (WriteFault blocks) elects is (count, most, owed) = (count, most, answers o g image vote (Repaired (Backups count)) elects is (sym owed))
-due_by o g image vote NoMemory elects is owed = tt
-due_by o g image vote NoGeometry elects is owed = answers o g image vote NoGeometry elects is owed
-due_by o g image vote (Unsupported word bits) elects is owed = answers o g image vote (Unsupported word bits) elects is owed
-due_by o g image vote DirtyLog elects is owed = answers o g image vote DirtyLog elects is owed
-due_by o g image vote (TooLarge what count) elects is owed = answers o g image vote (TooLarge what count) elects is owed
-due_by o g image vote (UnsupportedFile ino what) elects is owed = answers o g image vote (UnsupportedFile ino what) elects is owed
-due_by o g image vote Clean elects is owed = answers o g image vote Clean elects is owed
-due_by o g image vote (Damaged finding) elects is owed = answers o g image vote (Damaged finding) elects is owed
-due_by o g image vote (Repaired summary) elects is owed = answers o g image vote (Repaired summary) elects is owed
-due_by o g image vote (Unbuilt request) elects is owed = answers o g image vote (Unbuilt request) elects is owed
+pub due_by : (o : Asked) (g : Geometry) (s : Stamp) (image : Image) (vote : Vote) (outcome : Outcome) → elected image ≡ Ok vote → IsElected (volume_of g) image
+    → IsOwed (IsDueVolume o g s image) outcome → IsDueRepair o s image outcome
+due_by o g s image vote outcome elects is owed =
+    owed_as (IsDueVolume o g s image) (IsAnswer o s image (elected image)) outcome (λ due volume. answers o g s image vote due elects is volume) owed
 
 -- what the election refuses is due
-pub due_unsupported : (o : Asked) (image : Image) (word bits : ℕ) → elected image ≡ Err (fault.Unsupported word bits) → IsDueRepair o image (Unsupported word bits)
-due_unsupported o image word bits refused =
-    subst (λ (r : Result Vote ElectFault). IsAnswer o image r (Unsupported word bits)) (sym refused) refl
+pub due_unsupported : (o : Asked) (s : Stamp) (image : Image) (word bits : ℕ) → elected image ≡ Err (fault.Unsupported word bits) → IsDueRepair o s image (Unsupported word bits)
+due_unsupported o s image word bits refused =
+    subst (λ (r : Result Vote ElectFault). IsAnswer o s image r (Unsupported word bits)) (sym refused) refl
 
-pub due_no_geometry : (o : Asked) (image : Image) → elected image ≡ Err fault.NoGeometry → IsDueRepair o image NoGeometry
-due_no_geometry o image refused = subst (λ (r : Result Vote ElectFault). IsAnswer o image r NoGeometry) (sym refused) refl
+pub due_no_geometry : (o : Asked) (s : Stamp) (image : Image) → elected image ≡ Err fault.NoGeometry → IsDueRepair o s image NoGeometry
+due_no_geometry o s image refused = subst (λ (r : Result Vote ElectFault). IsAnswer o s image r NoGeometry) (sym refused) refl

@@ -1,10 +1,16 @@
 pub mod Accepted
+pub mod Anew
 pub mod Answering
 pub mod Deciding
 pub mod Repaired
 pub mod Turning
 pub mod Ending
+pub mod Owing
 pub mod Restored
 pub mod Again
+pub mod OneGround
+pub mod OneRebuild
+pub mod Rebuilt
 pub mod SameCandidates
 pub mod Staying
+pub mod Written

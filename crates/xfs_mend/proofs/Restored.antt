@@ -3,7 +3,7 @@ use Rattle.std.proofs.Common.{◌≡◌, ℕ, ◌*◌, Bool, true, false, List, 
 use Rattle.std.proofs.lemmas.Bool.{eqb-true}
 use Rattle.std.proofs.lemmas.List.{drop_at}
 use Rattle.xfs_disk.specs.Blocks.{Image, bytes_of_block}
-use Rattle.xfs_geom.specs.Election.{elected, super_of}
+use Rattle.xfs_geom.specs.Election.{super_of}
 use Rattle.xfs_geom.specs.Superblocks.{is_agreeing}
 use Rattle.xfs_geom.specs.Volumes.{Volume, stated_volume, volume_of}
 use Rattle.xfs_geom.specs.declared.geometry.Geometry.{Geometry}
@@ -22,7 +22,8 @@ use Rattle.xfs_mend.proofs.Repaired.{IsAccepted, agree_written, backup_written, 
 use Rattle.xfs_scan.specs.Refused.{refused}
 use Rattle.xfs_mend.proofs.Staying.{is_left}
 use Rattle.xfs_backups.specs.Backups.{backup_plan, start_of}
-use Rattle.xfs_mend.specs.Due.{is_backup, scan_refusal}
+use Rattle.xfs_mend.specs.Due.{scan_refusal}
+use Rattle.xfs_mend.specs.Rebuilding.{is_backup}
 use Rattle.xfs_mend.specs.Outcome.{IsRepaired}
 use Rattle.xfs_writing.specs.Writing.{written}
 

@@ -1,6 +1,7 @@
 -- What a repair of backups leaves is clean, whatever is asked of a further repair.
 use Rattle.std.proofs.Common.{◌≡◌, Bool, true, false, ◌&&◌, ◌++◌, List, Option, None, refl, sym, ap, ◌∙◌}
 use Rattle.xfs_disk.specs.Blocks.{Image}
+use Rattle.xfs_disk.specs.declared.stamp.Stamp.{Stamp}
 use Rattle.xfs_geom.specs.Election.{elected}
 use Rattle.xfs_geom.specs.Volumes.{Volume, volume_of}
 use Rattle.xfs_geom.specs.declared.geometry.Geometry.{Geometry}
@@ -24,14 +25,15 @@ use Rattle.xfs_scan.specs.Refused.{refused}
 use Rattle.xfs_scan.specs.declared.faults.ScanFault.{ScanFault}
 use Rattle.xfs_mend.proofs.Answering.{consistent_answer, one_answer}
 use Rattle.xfs_mend.proofs.Again.{stays_quiet}
+use Rattle.xfs_mend.proofs.Owing.{owed_as}
 use Rattle.xfs_mend.proofs.SameCandidates.{refusal_same}
 use Rattle.xfs_mend.proofs.Turning.{not_dirty}
 use Rattle.xfs_mend.specs.Asked.{Asked}
-use Rattle.xfs_mend.specs.Due.{IsAnswer, IsDueRepair, IsOwed, asks_log, away_if, is_dirty, scan_refusal, turned_away}
+use Rattle.xfs_mend.specs.Due.{IsAnswer, IsDueRepair, IsOwed, asks_log, away_if, is_dirty, scan_refusal, turned_away, uncounted}
 use Rattle.xfs_mend.specs.Outcome.{StaysClean}
 use Rattle.xfs_mend.specs.declared.outcome.Outcome.{Outcome}
-use Rattle.xfs_mend.specs.declared.outcome.Outcome.TheVariants.{NoGeometry, Unsupported, DirtyLog, TooLarge, UnsupportedFile, Clean, Damaged, Repaired, Unbuilt, ReadFault, WriteFault, NoMemory}
-use Rattle.xfs_mend.specs.declared.outcome.Summary.TheVariants.{Backups}
+use Rattle.xfs_mend.specs.declared.outcome.Outcome.TheVariants.{NoGeometry, Unsupported, DirtyLog, TooLarge, UnsupportedFile, Clean, Damaged, Repaired, NoRoom, Unbuilt, ReadFault, WriteFault, NoMemory}
+use Rattle.xfs_mend.specs.declared.outcome.Summary.TheVariants.{Backups, Rebuilt}
 
 -- the log of a volume that breaks no law is clean
 log_kept : (groups : List GroupRec) (log : LogState) (lsns : List BlockLsn) → first_broken (log_laws groups log lsns) ≡ None → is_dirty log ≡ false
@@ -53,9 +55,10 @@ log_clean g image is =
     ap is_dirty (sym log) ∙ log_kept is.catalog.groups is.catalog.log is.catalog.lsns (laws_kept is.catalog is.lawful)
 
 -- clean is due to a consistent image of which nothing is refused, whatever is asked
-pub always_clean : (o : Asked) (g : Geometry) (image : Image) → IsConsistent broken_law g image → scan_refusal (refused (volume_of g) image) ≡ None → IsAnswer o image (elected image) Clean
-always_clean o g image is none =
-    consistent_answer o g image is (not_dirty o (volume_of g) image (log_of (volume_of g) image) refl (log_clean g image is) ∙ none)
+pub always_clean : (o : Asked) (s : Stamp) (g : Geometry) (image : Image) → IsConsistent broken_law g image → scan_refusal (refused (volume_of g) image) ≡ None
+    → IsAnswer o s image (elected image) Clean
+always_clean o s g image is none =
+    consistent_answer o s g image is (not_dirty o (volume_of g) image (log_of (volume_of g) image) refl (log_clean g image is) ∙ none)
 
 differ_back : (v : Volume) (image now : Image) → DifferInBackups v image now → DifferInBackups v now image
 differ_back v image now differ = record {
@@ -79,26 +82,33 @@ unfolding turned_away
 looked_at o v image none = none_refused (asks_log o && is_dirty (log_of v image)) (refused v image) none
 
 -- then no other outcome is due, and a fault of a write neither
-clean_alone : (o : Asked) (image : Image) (outcome : Outcome) → IsAnswer o image (elected image) Clean → IsDueRepair o image outcome → IsOwed Clean outcome
-clean_alone o image (ReadFault faults) clean due = tt
-clean_alone o image NoMemory clean due = tt
-clean_alone o image (WriteFault blocks) clean due = (due.0, due.1, one_answer o image (elected image) Clean (Repaired (Backups due.0)) clean due.2)
-clean_alone o image NoGeometry clean due = one_answer o image (elected image) NoGeometry Clean due clean
-clean_alone o image (Unsupported word bits) clean due = one_answer o image (elected image) (Unsupported word bits) Clean due clean
-clean_alone o image DirtyLog clean due = one_answer o image (elected image) DirtyLog Clean due clean
-clean_alone o image (TooLarge what count) clean due = one_answer o image (elected image) (TooLarge what count) Clean due clean
-clean_alone o image (UnsupportedFile ino what) clean due = one_answer o image (elected image) (UnsupportedFile ino what) Clean due clean
-clean_alone o image Clean clean due = refl
-clean_alone o image (Damaged finding) clean due = one_answer o image (elected image) (Damaged finding) Clean due clean
-clean_alone o image (Repaired summary) clean due = one_answer o image (elected image) (Repaired summary) Clean due clean
-clean_alone o image (Unbuilt request) clean due = one_answer o image (elected image) (Unbuilt request) Clean due clean
+clean_only : (outcome : Outcome) → uncounted outcome ≡ Clean → outcome ≡ Clean
+clean_only (Repaired (Rebuilt blocks kept cleared orphans)) same = absurd cc
+clean_only (Repaired (Backups count)) same = same
+clean_only NoGeometry same = same
+clean_only (Unsupported word bits) same = same
+clean_only DirtyLog same = same
+clean_only (TooLarge what count) same = same
+clean_only (UnsupportedFile ino what) same = same
+clean_only Clean same = same
+clean_only (Damaged finding) same = same
+clean_only (NoRoom what) same = same
+clean_only (Unbuilt request) same = same
+clean_only (ReadFault faults) same = same
+clean_only (WriteFault blocks) same = same
+clean_only NoMemory same = same
+
+clean_alone : (o : Asked) (s : Stamp) (image : Image) (outcome : Outcome) → IsAnswer o s image (elected image) Clean → IsDueRepair o s image outcome
+    → IsOwed (λ due. due ≡ Clean) outcome
+clean_alone o s image outcome clean due =
+    owed_as (λ x. IsAnswer o s image (elected image) x) (λ x. x ≡ Clean) outcome (λ x answer. clean_only x (one_answer o s image (elected image) x Clean answer clean)) due
 
 -- so a further repair leaves it as it is
 pub is_left : (g : Geometry) (image now : Image) → IsConsistent broken_law g now → DifferInBackups (volume_of g) image now → scan_refusal (refused (volume_of g) image) ≡ None → StaysClean now
 is_left g image now is differ none =
     let none_now : scan_refusal (refused (volume_of g) now) ≡ None = ap scan_refusal (refusal_stays g image now is differ) ∙ none in
     record {
-      clean = λ o. always_clean o g now is none_now;
-      only = λ o outcome due. clean_alone o now outcome (always_clean o g now is none_now) due;
-      quiet = λ o outcome due. stays_quiet o g now outcome is due;
+      clean = λ o s. always_clean o s g now is none_now;
+      only = λ o s outcome due. clean_alone o s now outcome (always_clean o s g now is none_now) due;
+      quiet = λ o s outcome due. stays_quiet o s g now outcome is due;
     }

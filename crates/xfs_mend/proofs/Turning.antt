@@ -3,10 +3,9 @@ use Rattle.std.proofs.Common.{◌≡◌, ℕ, ◌≤◌, ◌&&◌, Bool, true, f
 use Rattle.xfs_disk.specs.Blocks.{Image}
 use Rattle.xfs_geom.specs.Volumes.{Volume}
 use Rattle.xfs_heads.specs.declared.log.state.LogState.{LogState}
-use Rattle.xfs_volume.specs.declared.catalogs.Catalog.{Catalog}
 use Rattle.xfs_image.specs.View.{log_of}
-use Rattle.xfs_image.specs.declared.findings.Finding.{Finding}
 use Rattle.xfs_scan.specs.Refused.{refused}
+use Rattle.xfs_scan.specs.declared.evidence.Evidence.{Evidence}
 use Rattle.xfs_scan.specs.declared.faults.ScanFault.{ScanFault}
 use Rattle.xfs_mend.specs.Due.{asks_log, away_if, is_dirty, scan_refusal, turned_away}
 use Rattle.xfs_backups.specs.Causes.{HasMendCause}
@@ -14,8 +13,9 @@ use Rattle.xfs_mend.specs.Private.Refusing.{HasAdmitted}
 use Rattle.xfs_backups.specs.declared.faults.MendFault.{MendFault}
 use Rattle.xfs_backups.specs.declared.faults.MendFault.TheVariants as faults
 use Rattle.xfs_mend.specs.declared.outcome.Outcome.{Outcome}
-use Rattle.xfs_mend.specs.declared.outcome.Outcome.TheVariants.{DirtyLog}
+use Rattle.xfs_mend.specs.declared.outcome.Outcome.TheVariants as out
 use Rattle.xfs_mend.specs.declared.refusals.Admitted.{Admitted}
+use Rattle.xfs_mend.specs.declared.refusals.Admitted.TheVariants.{Seen, DirtyLog, TooLarge, UnsupportedFile}
 use Rattle.xfs_mend.specs.Asked.{Asked}
 
 both_false : (asks : Bool) → (asks && false) ≡ false
@@ -37,20 +37,27 @@ not_dirty o v image log same clean =
 
 -- the log is asked, and is not clean
 pub by_log : (o : Asked) (v : Volume) (image : Image) (log : LogState) → log ≡ log_of v image → asks_log o ≡ true → is_dirty log ≡ true
-    → turned_away o v image ≡ Some DirtyLog
+    → turned_away o v image ≡ Some out.DirtyLog
 unfolding turned_away
 by_log o v image log same asks dirty =
     ap (λ (l : LogState). away_if (asks_log o && is_dirty l) (refused v image)) (sym same)
     ∙ ap₂ (λ (a b : Bool). away_if (a && b) (refused v image)) asks dirty
 
--- what an evidence says of the log and of the whole image decides
-pub by_evidence : (o : Asked) (v : Volume) (image : Image) (log : LogState) (catalog seen : Result Catalog Finding) (admitted : Admitted) → log ≡ log_of v image
-    → refused v image ≡ None → catalog ≡ seen → HasAdmitted (away_if (asks_log o && is_dirty log) None) catalog admitted → HasAdmitted (turned_away o v image) seen admitted
+-- what is given where one thing holds of it is given where another does
+admitted_as : (away : Option Outcome) (P Q : Evidence → Type 0) (a : Admitted) → ((e : Evidence) → P e → Q e) → HasAdmitted away P a → HasAdmitted away Q a
+admitted_as away P Q (Seen e) step (none, held) = (none, step e held)
+admitted_as away P Q DirtyLog step held = held
+admitted_as away P Q (TooLarge what count) step held = held
+admitted_as away P Q (UnsupportedFile ino what) step held = held
+
+-- what an evidence says of the log decides, where the image is not refused
+pub by_evidence : (o : Asked) (v : Volume) (image : Image) (is : Evidence → Type 0) (e : Evidence) (admitted : Admitted) → e.log ≡ log_of v image
+    → refused v image ≡ None → is e → HasAdmitted (away_if (asks_log o && is_dirty e.log) None) (λ x. x ≡ e) admitted → HasAdmitted (turned_away o v image) is admitted
 unfolding turned_away
-by_evidence o v image log catalog seen admitted same none is held =
-    subst (λ (away : Option Outcome). HasAdmitted away seen admitted)
+by_evidence o v image is e admitted same none held given =
+    subst (λ (away : Option Outcome). HasAdmitted away is admitted)
     (ap₂ (λ (l : LogState) (due : Option ScanFault). away_if (asks_log o && is_dirty l) due) same (sym none))
-    (subst (λ (c : Result Catalog Finding). HasAdmitted (away_if (asks_log o && is_dirty log) None) c admitted) is held)
+    (admitted_as (away_if (asks_log o && is_dirty e.log) None) (λ x. x ≡ e) is admitted (λ x one. subst is (sym one) held) given)
 
 -- a cause that is seen from an earlier count on
 pub mended_later : {T : Type 0} (a b c : ℕ) (r : Result T MendFault) → a ≤ b → HasMendCause b c r → HasMendCause a c r

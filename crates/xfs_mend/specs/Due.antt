@@ -1,6 +1,7 @@
 -- What is due to an image that is to be repaired.
-use Rattle.std.specs.Prelude.{◌≡◌, ℕ, ◌≤◌, ◌==◌, ◌&&◌, Bool, true, false, not, if◌then◌else◌, length, Option, Some, None, Result, Ok, Err, unwrap_or, ⊤}
+use Rattle.std.specs.Prelude.{◌≡◌, ℕ, ◌≤◌, ◌&&◌, Bool, true, false, not, if◌then◌else◌, length, Option, Some, None, Result, Ok, Err, ⊤}
 use Rattle.xfs_disk.specs.Blocks.{Image}
+use Rattle.xfs_disk.specs.declared.stamp.Stamp.{Stamp}
 use Rattle.xfs_geom.specs.Election.{Vote, elected}
 use Rattle.xfs_geom.specs.Volumes.{Volume, volume_of}
 use Rattle.xfs_geom.specs.declared.election.ElectFault.{ElectFault}
@@ -12,14 +13,15 @@ use Rattle.xfs_laws.specs.Lawful.{broken_law}
 use Rattle.xfs_image.specs.Consistent.{IsElected, finding}
 use Rattle.xfs_image.specs.View.{log_of}
 use Rattle.xfs_image.specs.declared.findings.Finding.{Finding}
-use Rattle.xfs_image.specs.declared.findings.Finding.TheVariants as Found
 use Rattle.xfs_scan.specs.Refused.{refused}
 use Rattle.xfs_scan.specs.declared.faults.ScanFault.{ScanFault}
 use Rattle.xfs_scan.specs.declared.faults.ScanFault.TheVariants as scan
 use Rattle.xfs_backups.specs.Backups.{backup_plan}
 use Rattle.xfs_mend.specs.declared.outcome.Outcome.{Outcome}
-use Rattle.xfs_mend.specs.declared.outcome.Outcome.TheVariants.{NoGeometry, Unsupported, DirtyLog, TooLarge, UnsupportedFile, Clean, Damaged, Repaired, Unbuilt, ReadFault, WriteFault, NoMemory}
+use Rattle.xfs_mend.specs.declared.outcome.Outcome.TheVariants.{NoGeometry, Unsupported, DirtyLog, TooLarge, UnsupportedFile, Clean, Damaged, Repaired, NoRoom, Unbuilt, ReadFault, WriteFault, NoMemory}
 use Rattle.xfs_mend.specs.Asked.{Asked}
+use Rattle.xfs_mend.specs.Rebuilding.{IsDueRebuild, is_backup}
+use Rattle.xfs_mend.specs.declared.outcome.Summary.{Summary}
 use Rattle.xfs_mend.specs.declared.outcome.Summary.TheVariants.{Backups, Rebuilt}
 
 -- a log that is not clean stands in the way: the image is not only checked, and the log is not to be dropped
@@ -45,63 +47,70 @@ away_if dirty due = if dirty then Some DirtyLog else scan_refusal due
 unfoldable pub turned_away : Asked → Volume → Image → Option Outcome
 turned_away o v image = away_if (asks_log o && is_dirty (log_of v image)) (refused v image)
 
--- a backup superblock is found first
-abbrev pub is_backup : Finding → Bool
-is_backup (Found.Part part place) = part == 10
-is_backup (Found.Law law) = false
+-- by what is found first: clean where nothing is, damaged where the image is only checked, else the backups are written anew where a backup
+-- is found, and in any other case the volume
+abbrev pub IsDueRepaired : Bool → Geometry → Stamp → Image → Outcome → Type 0
+IsDueRepaired true g s image outcome = outcome ≡ Repaired (Backups (length (backup_plan image)))
+IsDueRepaired false g s image outcome = IsDueRebuild g s image outcome
 
--- the repair of what is found first: so far of backups alone, which are found where all else is right
-abbrev pub due_repair : Image → Finding → Outcome
-due_repair image found = if is_backup found then Repaired (Backups (length (backup_plan image))) else Unbuilt 8
+abbrev pub IsDueUnless : Bool → Geometry → Stamp → Image → Finding → Outcome → Type 0
+IsDueUnless true g s image found outcome = outcome ≡ Damaged found
+IsDueUnless false g s image found outcome = IsDueRepaired (is_backup found) g s image outcome
 
--- by what is found first: clean where nothing is, damaged where the image is only checked, else repaired
-abbrev pub due_found : Asked → Image → Option Finding → Outcome
-due_found o image None = Clean
-due_found o image (Some found) = if o.check then Damaged found else due_repair image found
+abbrev pub IsDueFound : Asked → Geometry → Stamp → Image → Option Finding → Outcome → Type 0
+IsDueFound o g s image None outcome = outcome ≡ Clean
+IsDueFound o g s image (Some found) outcome = IsDueUnless o.check g s image found outcome
 
--- what is due to an image that elects this geometry
-unfoldable pub due_volume : Asked → Geometry → Image → Outcome
-due_volume o g image = unwrap_or (turned_away o (volume_of g) image) (due_found o image (finding broken_law g image))
+-- what is due to an image that elects this geometry: why it is turned away, or what is due by what is found
+abbrev pub IsDueBehind : Option Outcome → (Outcome → Type 0) → Outcome → Type 0
+IsDueBehind (Some away) later outcome = outcome ≡ away
+IsDueBehind None later outcome = later outcome
+
+unfoldable pub IsDueVolume : Asked → Geometry → Stamp → Image → Outcome → Type 0
+IsDueVolume o g s image outcome = IsDueBehind (turned_away o (volume_of g) image) (IsDueFound o g s image (finding broken_law g image)) outcome
 
 -- the outcome is due by the geometry that the image elects
-pub record IsDueElected (o : Asked) (image : Image) (outcome : Outcome) : Type 0 where
+pub record IsDueElected (o : Asked) (s : Stamp) (image : Image) (outcome : Outcome) : Type 0 where
   pub geometry : Geometry
   pub elected : IsElected (volume_of geometry) image
-  pub is : outcome ≡ due_volume o geometry image
+  pub is : IsDueVolume o geometry s image outcome
 
--- the outcome is the one that is due, by what the image elects
-abbrev pub IsAnswer : Asked → Image → Result Vote ElectFault → Outcome → Type 0
-IsAnswer o image (Err (fault.Unsupported word bits)) outcome = outcome ≡ Unsupported word bits
-IsAnswer o image (Err fault.NoGeometry) outcome = outcome ≡ NoGeometry
-IsAnswer o image (Err fault.ReadFault) outcome = outcome ≡ NoGeometry
-IsAnswer o image (Err fault.NoMemory) outcome = outcome ≡ NoGeometry
-IsAnswer o image (Ok vote) outcome = IsDueElected o image outcome
+-- the outcome is one that is due, by what the image elects
+abbrev pub IsAnswer : Asked → Stamp → Image → Result Vote ElectFault → Outcome → Type 0
+IsAnswer o s image (Err (fault.Unsupported word bits)) outcome = outcome ≡ Unsupported word bits
+IsAnswer o s image (Err fault.NoGeometry) outcome = outcome ≡ NoGeometry
+IsAnswer o s image (Err fault.ReadFault) outcome = outcome ≡ NoGeometry
+IsAnswer o s image (Err fault.NoMemory) outcome = outcome ≡ NoGeometry
+IsAnswer o s image (Ok vote) outcome = IsDueElected o s image outcome
 
--- a repair is due, of at least so many blocks
-abbrev pub IsRepairDue : Asked → Image → ℕ → Type 0
-IsRepairDue o image blocks = (count : ℕ) × (blocks ≤ count) × IsAnswer o image (elected image) (Repaired (Backups count))
+-- how many blocks a repair writes
+abbrev pub blocks_of : Summary → ℕ
+blocks_of (Backups count) = count
+blocks_of (Rebuilt blocks kept cleared orphans) = blocks
 
--- The outcome is the one that is due; a failed read or want of memory may stand in its place, and a failed write in that of a
+-- The outcome is one of those that are due; a failed read or want of memory may stand in its place, and a failed write in that of a
 -- repair, with no more blocks than those that the repair writes.
-abbrev pub IsDueRepair : Asked → Image → Outcome → Type 0
-IsDueRepair o image (ReadFault faults) = ⊤
-IsDueRepair o image (WriteFault blocks) = IsRepairDue o image blocks
-IsDueRepair o image NoMemory = ⊤
-IsDueRepair o image outcome = IsAnswer o image (elected image) outcome
+abbrev pub IsOwed : (Outcome → Type 0) → Outcome → Type 0
+IsOwed due (ReadFault faults) = ⊤
+IsOwed due (WriteFault blocks) = (summary : Summary) × (blocks ≤ blocks_of summary) × due (Repaired summary)
+IsOwed due NoMemory = ⊤
+IsOwed due outcome = due outcome
+
+abbrev pub IsDueRepair : Asked → Stamp → Image → Outcome → Type 0
+IsDueRepair o s image outcome = IsOwed (IsAnswer o s image (elected image)) outcome
 
 -- The outcomes that may come of what is asked, whatever a disk tells: only a check finds damage, and a check repairs nothing, fails no
--- write and never answers that a repair is not built.
+-- write, and never answers that there is no room or that a repair is not built. No repair puts a file into lost+found yet.
 abbrev pub CanCome : Asked → Outcome → Type 0
 CanCome o (Damaged found) = o.check ≡ true
 CanCome o (Repaired (Backups count)) = o.check ≡ false
-CanCome o (Repaired (Rebuilt blocks kept cleared orphans)) = ⊥
-CanCome o (Unbuilt request) = (o.check ≡ false) × (request ≡ 8)
+CanCome o (Repaired (Rebuilt blocks kept cleared orphans)) = (o.check ≡ false) × (orphans ≡ 0)
+CanCome o (NoRoom what) = o.check ≡ false
+CanCome o (Unbuilt request) = (o.check ≡ false) × (request ≡ 9)
 CanCome o (WriteFault blocks) = o.check ≡ false
 CanCome o outcome = ⊤
 
--- the same of a part of the work to which this outcome is due
-abbrev pub IsOwed : Outcome → Outcome → Type 0
-IsOwed due (ReadFault faults) = ⊤
-IsOwed due (WriteFault blocks) = (count : ℕ) × (blocks ≤ count) × (due ≡ Repaired (Backups count))
-IsOwed due NoMemory = ⊤
-IsOwed due outcome = outcome ≡ due
+-- an outcome but for how many blocks a rebuild writes, of which it is said what it leaves
+abbrev pub uncounted : Outcome → Outcome
+uncounted (Repaired (Rebuilt blocks kept cleared orphans)) = Repaired (Rebuilt 0 kept cleared orphans)
+uncounted outcome = outcome

@@ -1,8 +1,9 @@
 -- What an outcome says of the image and of the counts of faults.
-use Rattle.std.specs.Prelude.{◌≡◌, ℕ, ◌<◌, ◌≤◌, Bool, true, false, List, [], length, Option, Some, slice_get}
+use Rattle.std.specs.Prelude.{◌≡◌, ℕ, ◌+◌, ◌<◌, ◌≤◌, ◌⊎◌, Bool, true, false, List, [], length, Option, Some, slice_get}
 use Rattle.std.specs.Option.{ForSome}
 use Rattle.xfs_disk.specs.Blocks.{Image, bytes_of_block}
 use Rattle.xfs_disk.specs.Faults.{Rose}
+use Rattle.xfs_disk.specs.declared.stamp.Stamp.{Stamp}
 use Rattle.xfs_geom.specs.Superblocks.{is_agreeing}
 use Rattle.xfs_geom.specs.Volumes.{stated_volume, volume_of}
 use Rattle.xfs_geom.specs.Election.{elected, super_of}
@@ -11,14 +12,16 @@ use Rattle.xfs_laws.specs.Lawful.{broken_law}
 use Rattle.xfs_image.specs.Consistent.{HasFinding, IsConsistent, IsElected, backup_agrees}
 use Rattle.xfs_image.specs.Keeping.{Keeps, Protected}
 use Rattle.xfs_image.specs.declared.findings.Finding.TheVariants.{Part}
+use Rattle.xfs_rebuild.specs.declared.planning.Rebuilt.{Rebuilt}
 use Rattle.xfs_mend.specs.Asked.{Asked}
 use Rattle.xfs_backups.specs.Backups.{with_super, start_of, backup_plan}
 use Rattle.xfs_mend.specs.Due.{IsAnswer, IsDueRepair, IsOwed}
+use Rattle.xfs_mend.specs.Rebuilding.{IsBackupFound, IsPartlyRebuilt, IsPlanned, IsStoppedAnew, all_writes}
 use Rattle.xfs_writing.specs.Writing.{Writes, written, IsPartly}
 use Rattle.xfs_writing.specs.Stopped.{IsStopped}
 use Rattle.xfs_mend.specs.declared.outcome.Outcome.{Outcome}
 use Rattle.xfs_mend.specs.declared.outcome.Outcome.TheVariants.{Clean, Repaired, ReadFault, WriteFault}
-use Rattle.xfs_mend.specs.declared.outcome.Summary.TheVariants.{Backups, Rebuilt}
+use Rattle.xfs_mend.specs.declared.outcome.Summary.TheVariants.{Backups, Rebuilt as Anew}
 
 -- a fault of the disk is answered only where its count rose; a read fault tells the count
 abbrev pub IsRepairCause : ℕ → ℕ → ℕ → ℕ → Outcome → Type 0
@@ -50,9 +53,9 @@ is_quiet outcome = true
 -- Whatever is asked of a further repair, clean is due to the image: each other outcome that may come is a failed read or want of memory,
 -- and none says that anything was written.
 pub record StaysClean (image : Image) : Type 0 where
-  pub clean : (o : Asked) → IsAnswer o image (elected image) Clean
-  pub only : (o : Asked) (outcome : Outcome) → IsDueRepair o image outcome → IsOwed Clean outcome
-  pub quiet : (o : Asked) (outcome : Outcome) → IsDueRepair o image outcome → is_quiet outcome ≡ true
+  pub clean : (o : Asked) (s : Stamp) → IsAnswer o s image (elected image) Clean
+  pub only : (o : Asked) (s : Stamp) (outcome : Outcome) → IsDueRepair o s image outcome → IsOwed (λ due. due ≡ Clean) outcome
+  pub quiet : (o : Asked) (s : Stamp) (outcome : Outcome) → IsDueRepair o s image outcome → is_quiet outcome ≡ true
 
 -- A repaired image has just the planned blocks changed, which mends it: all its backups agree from then on, whatever geometry it
 -- elects, so none of them is found. By the geometry that the image elected it is consistent, each file that was protected is kept, and a
@@ -70,6 +73,20 @@ pub record IsRepaired (image : Image) (now : Option Image) : Type 0 where
   pub keeps : (ino : ℕ) → Protected (volume_of geometry) image ino → Keeps (volume_of geometry) image (written (backup_plan image) image) ino
   pub stays : StaysClean (written (backup_plan image) image)
 
+-- A rebuilt image has just the planned blocks, as the summary counts them. By the geometry that the image elected it is consistent, each
+-- file that was protected is kept, and a further repair writes nothing.
+pub record IsRebuilt (s : Stamp) (image : Image) (now : Option Image) (blocks kept cleared orphans : ℕ) : Type 0 where
+  pub r : Rebuilt
+  pub plan : IsPlanned s image r
+  pub is : now ≡ Some (written (all_writes r) image)
+  pub counted : blocks ≡ length r.fresh + length r.in_place
+  pub kept' : kept ≡ r.kept
+  pub cleared' : cleared ≡ r.cleared
+  pub none : orphans ≡ 0
+  pub consistent : IsConsistent broken_law plan.has.geometry (written (all_writes r) image)
+  pub keeps : (ino : ℕ) → Protected (volume_of plan.has.geometry) image ino → Keeps (volume_of plan.has.geometry) image (written (all_writes r) image) ino
+  pub stays : (o : Asked) (t : Stamp) (outcome : Outcome) → IsDueRepair o t (written (all_writes r) image) outcome → is_quiet outcome ≡ true
+
 -- what the disk holds after an outcome of the plan: the written plan after a repair, a part of it after a
 -- write fault, else what it held
 abbrev pub LeavesOf : Writes → Image → Option Image → Outcome → Type 0
@@ -77,16 +94,18 @@ LeavesOf plan image now (Repaired summary) = now ≡ Some (written plan image)
 LeavesOf plan image now (WriteFault blocks) = IsPartly plan image blocks now
 LeavesOf plan image now outcome = now ≡ Some image
 
--- what the disk holds after the outcome: where it isn't a repair or a write fault, what it held
-abbrev pub RepairLeaves : Image → Option Image → Outcome → Type 0
-RepairLeaves image now (Repaired summary) = IsRepaired image now
-RepairLeaves image now (WriteFault blocks) = IsPartly (backup_plan image) image blocks now
-RepairLeaves image now outcome = now ≡ Some image
+-- What the disk holds after the outcome: what is repaired after a repair; after a write fault a part of what a repair writes, of backups
+-- only where a backup is found first; else what it held.
+abbrev pub RepairLeaves : Stamp → Image → Option Image → Outcome → Type 0
+RepairLeaves s image now (Repaired (Backups count)) = IsBackupFound image × IsRepaired image now
+RepairLeaves s image now (Repaired (Anew blocks kept cleared orphans)) = IsRebuilt s image now blocks kept cleared orphans
+RepairLeaves s image now (WriteFault blocks) = (IsBackupFound image × IsPartly (backup_plan image) image blocks now) ⊎ IsPartlyRebuilt s image blocks now
+RepairLeaves s image now outcome = now ≡ Some image
 
 -- how many blocks were written, as the outcome says
 abbrev pub blocks_told : Outcome → ℕ
 blocks_told (Repaired (Backups count)) = count
-blocks_told (Repaired (Rebuilt blocks kept cleared orphans)) = blocks
+blocks_told (Repaired (Anew blocks kept cleared orphans)) = blocks
 blocks_told (WriteFault blocks) = blocks
 blocks_told outcome = 0
 
@@ -94,10 +113,10 @@ blocks_told outcome = 0
 abbrev pub StopsOf : Writes → Image → Outcome → Image → Type 0
 StopsOf plan image outcome stopped = (is_quiet outcome ≡ false) × IsStopped [] plan image stopped
 
--- what a stop since the repair began may leave beside what it might have left before: after a repair or a write fault each block is
--- that of the image or as the plan has it, and after every other outcome there is nothing beside
-abbrev pub StopsBy : Image → Outcome → Image → Type 0
-StopsBy image outcome stopped = StopsOf (backup_plan image) image outcome stopped
+-- What a stop since the repair began may leave beside what it might have left before: after a repair or a write fault each block is that of
+-- the image or as the plan has it, in place only once all fresh ones are; and after every other outcome there is nothing beside.
+abbrev pub StopsBy : Stamp → Image → Outcome → Image → Type 0
+StopsBy s image outcome stopped = (is_quiet outcome ≡ false) × ((IsBackupFound image × IsStopped [] (backup_plan image) image stopped) ⊎ IsStoppedAnew s image stopped)
 
 -- after a repair a stop leaves just what the disk holds
 abbrev pub IsDurableRepair : Type 0 → Option Image → (ℕ → List ℕ → Type 0) → Outcome → Type 0

@@ -9,6 +9,7 @@ ghost use Rattle.xfs_disk.specs.Reads.{OnlyReads};
 ghost use Rattle.xfs_laws.specs.Lawful.{broken_law};
 ghost use Rattle.xfs_image.specs.Consistent.{backup_found, finding, law_found, view_found};
 ghost use Rattle.xfs_image.specs.View.{view};
+ghost use Rattle.xfs_scan.specs.Evidence.{view_seen};
 ghost use Rattle.xfs_backups.specs.Backups.{first_disagreeing};
 ghost use Rattle.xfs_backups.specs.Causes.{HasMendCause};
 
@@ -19,6 +20,7 @@ use xfs_disk::{Disk, Failed};
 use xfs_geom::{Elected, Geometry};
 use xfs_image::Finding;
 use xfs_laws::{is_catalog, lawful};
+use xfs_scan::Seen;
 use xfs_volume::{Catalog, LawFault};
 
 /// The first thing that is wrong with a volume which says this: a geometry that comes from a backup, a part that does not read,
@@ -28,13 +30,13 @@ pub(crate) fn find_first<R: Threads + Sync, D: Disk>(
     alloc: Global,
     disk: &mut D,
     chosen: &Elected,
-    seen: &Result<Catalog, Finding>,
+    seen: &Seen,
 ) -> Result<Option<Finding>, MendFault>
     requires sector { length chosen.now.sector ≡ 512 }
     requires stated { volume_of chosen.now.geometry ≡ stated_volume chosen.now.sector }
     requires inside { chosen.now.geometry.dblocks ≤ D.size disk.old }
     requires elects { ForSome (D.holds disk.old) (λ image. elected image ≡ Ok (vote_of chosen.now)) }
-    requires view { ForSome (D.holds disk.old) (λ image. seen.now ≡ view chosen.now.geometry image) }
+    requires view { ForSome (D.holds disk.old) (λ image. view_seen seen.now ≡ view chosen.now.geometry image) }
     ensures found { IfOk result (λ found. ForSome (D.holds disk.old) (λ image. found ≡ finding broken_law chosen.now.geometry image)) }
     ensures cause { HasMendCause (D.faults disk.old) (D.faults disk.new) result }
     ensures disk { OnlyReads D.size D.holds D.write_faults D.writes D.tells_stops D.moment D.may_leave D.left_since disk.old disk.new }
@@ -53,14 +55,15 @@ pub(crate) fn find_first<R: Threads + Sync, D: Disk>(
 fn judge<R: Threads + Sync>(
     rt: &R,
     alloc: Global,
-    seen: &Result<Catalog, Finding>,
+    seen: &Seen,
 ) -> Result<Option<Finding>, MendFault>
-    ensures found { IfOk result (λ found. found ≡ view_found broken_law seen.now None) }
+    ensures found { IfOk result (λ found. found ≡ view_found broken_law (view_seen seen.now) None) }
     ensures fault { IfErr result (λ fault. fault ≡ MendFault.NoMemory) }
 {
     match seen {
-        Err(found) => Ok(Some(*found)),
-        Ok(catalog) => judge_catalog(rt, alloc, catalog),
+        Seen::Whole(catalog) => judge_catalog(rt, alloc, catalog),
+        Seen::Apart(_, Ok(catalog)) => judge_catalog(rt, alloc, catalog),
+        Seen::Apart(_, Err(found)) => Ok(Some(*found)),
     }
 }
 

@@ -1,7 +1,7 @@
 //! The repair of a volume: a check of all that it says, and what is written anew.
 //!
-//! What `xfs_repair` does, over any disk: it elects, gathers, judges, and where nothing but backup superblocks is wrong
-//! plans and writes these. Each outcome says what the disk then holds.
+//! What `xfs_repair` does, over any disk: it elects, gathers, judges, plans the backup superblocks or the whole volume anew, and
+//! writes what differs. Each outcome says what the disk then holds.
 //!
 //! `xfs_tools` calls it so:
 //!
@@ -13,6 +13,7 @@
 mod finding;
 mod laws;
 mod outcome;
+mod rebuilding;
 mod refusals;
 mod repairing;
 

@@ -1,6 +1,7 @@
 //! What a repair is asked for, and what comes of it.
 
 use xfs_image::Finding;
+use xfs_place::Unplaced;
 
 /// What a repair is asked for.
 #[derive(Clone, Copy, Debug, PartialEq, Eq)]
@@ -49,7 +50,9 @@ pub enum Outcome {
     Damaged(Finding),
     /// The volume was repaired.
     Repaired(Summary),
-    /// What is wrong is not repaired yet. `request` names the step that brings it.
+    /// A volume that is to be rebuilt has no room for this, the first that finds none.
+    NoRoom(Unplaced),
+    /// A name or a directory would have to change, which is not done yet. `request` names the step that brings it.
     Unbuilt { request: u8 },
     /// A read failed, before anything was written. `faults` is the disk's count.
     ReadFault { faults: u64 },

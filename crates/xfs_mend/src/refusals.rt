@@ -4,7 +4,7 @@ ghost use Rattle.std.specs.Prelude.{◌≡◌, ◌<◌, ◌≤◌, ◌&&◌, Non
 ghost use Rattle.std.specs.Option.{ForSome};
 ghost use Rattle.xfs_geom.specs.Volumes.{volume_of};
 ghost use Rattle.xfs_disk.specs.Reads.{OnlyReads};
-ghost use Rattle.xfs_image.specs.View.{view};
+ghost use Rattle.xfs_scan.specs.Evidence.{IsEvidence};
 ghost use Rattle.xfs_scan.specs.Refused.{refused};
 ghost use Rattle.xfs_mend.specs.Asked.{repair_asked};
 ghost use Rattle.xfs_mend.specs.Due.{asks_log, away_if, is_dirty, scan_refusal};
@@ -19,17 +19,15 @@ use xfs_backups::MendFault;
 use xfs_disk::Disk;
 use xfs_geom::Geometry;
 use xfs_heads::LogState;
-use xfs_image::Finding;
 use xfs_journal::{JournalFault, read_log};
 use xfs_runs::Steps;
-use xfs_scan::{ScanFault, gather};
-use xfs_volume::Catalog;
+use xfs_scan::{Evidence, ScanFault, gather};
 
 /// What a volume gives that is to be looked at, or why it is not looked at further.
 #[derive(Drop)]
 pub(crate) enum Admitted {
-    /// What it says, or the first part that does not read.
-    View(Result<Catalog, Finding>),
+    /// All that a repair goes by, and what it says.
+    Seen(Evidence),
     /// Its log is not clean.
     DirtyLog,
     /// A count passes its limit.
@@ -38,7 +36,7 @@ pub(crate) enum Admitted {
     UnsupportedFile { ino: u64, what: u8 },
 }
 
-/// What the volume says; or the first cause for which it is not looked at further: its log is not clean, it is too large, or a
+/// What a repair of the volume goes by; or the first cause for which it is not looked at further: its log is not clean, it is too large, or a
 /// file is not supported.
 pub(crate) fn admit<D: Disk>(
     alloc: Global,
@@ -73,7 +71,7 @@ fn admit_counted<D: Disk, L: Ledger>(
 {
     let mut steps = Steps::<L>::from_blank(blank);
     match gather(alloc, g, disk, &mut steps) {
-        Ok(evidence) => Ok(take_view(options, evidence.log, evidence.seen.into_view())),
+        Ok(evidence) => Ok(unless_asked(options, evidence)),
         Err(ScanFault::ReadFault) => Err(MendFault::ReadFault),
         Err(ScanFault::NoMemory) => Err(MendFault::NoMemory),
         Err(ScanFault::TooLarge { what, count }) => unless_dirty(
@@ -110,13 +108,13 @@ fn is_dirty(log: LogState) -> bool
 }
 
 /// A volume that is neither too large nor has a file that is not supported.
-fn take_view(options: &RepairOptions, log: LogState, catalog: Result<Catalog, Finding>) -> Admitted
-    ensures { HasAdmitted (away_if (asks_log (repair_asked options.now) && is_dirty log) None) catalog result }
+fn unless_asked(options: &RepairOptions, evidence: Evidence) -> Admitted
+    ensures { HasAdmitted (away_if (asks_log (repair_asked options.now) && is_dirty evidence.log) None) (λ e. e ≡ evidence) result }
 {
-    if asks_log(options) && is_dirty(log) {
+    if asks_log(options) && is_dirty(evidence.log) {
         Admitted::DirtyLog
     } else {
-        Admitted::View(catalog)
+        Admitted::Seen(evidence)
     }
 }
 
@@ -131,7 +129,7 @@ fn unless_dirty<D: Disk, L: Ledger>(
     steps: &mut Steps<L>,
 ) -> Result<Admitted, MendFault>
     requires inside { g.now.dblocks ≤ D.size disk.old }
-    requires refused { ForSome (D.holds disk.old) (λ image. HasAdmitted (scan_refusal (refused (volume_of g.now) image)) (view g.now image) refusal) }
+    requires refused { ForSome (D.holds disk.old) (λ image. HasAdmitted (scan_refusal (refused (volume_of g.now) image)) (IsEvidence g.now image) refusal) }
     ensures admitted { IfOk result (λ admitted. ForSome (D.holds disk.old) (λ image. IsAdmission (repair_asked options.now) g.now image admitted)) }
     ensures cause { HasMendCause (D.faults disk.old) (D.faults disk.new) result }
     ensures disk { OnlyReads D.size D.holds D.write_faults D.writes D.tells_stops D.moment D.may_leave D.left_since disk.old disk.new }

@@ -1,6 +1,6 @@
-//! The repair of a volume, so far of its backup superblocks alone.
+//! The repair of a volume: its backup superblocks alone, or all of it.
 
-ghost use Rattle.std.specs.Prelude.{◌≡◌, ◌-◌, ◌≤◌, ◌⊎◌, ℕ, false, true, length, None, Ok, Some};
+ghost use Rattle.std.specs.Prelude.{◌≡◌, ◌-◌, ◌<◌, ◌≤◌, ◌⊎◌, ℕ, false, true, length, None, Ok, Some};
 ghost use Rattle.std.specs.Option.{ForSome};
 ghost use Rattle.xfs_disk.specs.Counts.{raised_times};
 ghost use Rattle.xfs_disk.specs.Blocks.{Image};
@@ -8,18 +8,22 @@ ghost use Rattle.xfs_disk.specs.Reads.{OnlyReads};
 ghost use Rattle.xfs_geom.specs.Election.{elected};
 ghost use Rattle.xfs_geom.specs.Electing.{vote_of};
 ghost use Rattle.xfs_geom.specs.Volumes.{volume_of, stated_volume};
+ghost use Rattle.xfs_geom.specs.Writing.{IsAcceptedSector};
 ghost use Rattle.xfs_laws.specs.Lawful.{broken_law};
 ghost use Rattle.xfs_image.specs.Consistent.{finding};
+ghost use Rattle.xfs_scan.specs.Evidence.{IsEvidence};
 ghost use Rattle.xfs_mend.specs.Asked.{Asked, repair_asked};
 ghost use Rattle.xfs_backups.specs.Backups.{steps_from};
-ghost use Rattle.xfs_mend.specs.Due.{CanCome, IsDueRepair, IsOwed, due_found, due_volume, is_backup, turned_away};
+ghost use Rattle.xfs_mend.specs.Due.{CanCome, IsDueFound, IsDueRepair, IsDueVolume, IsOwed, turned_away};
 ghost use Rattle.xfs_mend.specs.Private.Ending.{Ends};
 ghost use Rattle.xfs_mend.specs.Outcome.{IsRepairCause, IsDurableRepair, RepairLeaves, LeavesOf, StopsBy, StopsOf, blocks_told, is_quiet};
+ghost use Rattle.xfs_mend.specs.Rebuilding.{is_backup};
 ghost use Rattle.xfs_mend.specs.declared.outcome.Outcome.TheVariants.{Repaired};
 ghost use Rattle.xfs_mend.specs.declared.outcome.Summary.TheVariants.{Backups};
 
 use crate::finding::find_first;
 use crate::outcome::{Outcome, RepairOptions, Summary};
+use crate::rebuilding::rebuild;
 use crate::refusals::{Admitted, admit};
 use std::alloc::Global;
 use std::thread::Threads;
@@ -27,24 +31,27 @@ use xfs_backups::{MendFault, plan_backups};
 use xfs_disk::{Disk, Gate, Stamp};
 use xfs_geom::{ElectFault, Elected, Geometry, elect};
 use xfs_image::Finding;
+use xfs_scan::Evidence;
 use xfs_writing::write_parts;
 
 /// Elects the geometry, and checks all that the volume says. With `check` nothing is written, and the first thing that is wrong
-/// is found. Else a volume in which nothing but backup superblocks is wrong is repaired: those that don't agree with the primary
-/// are written anew. The outcomes come in this order: no geometry, or a feature of the primary that is refused; a log that is
-/// not clean, where the volume is not only checked and the log is not to be dropped; a volume that is too large; a file that is
-/// not supported; and what was found.
+/// is found. Else a volume that is not consistent is repaired. Where nothing but backup superblocks is wrong, those that don't agree
+/// with the primary are written anew. Else the volume is rebuilt round what can be kept of it: its trees and headers, the slots
+/// that are lost, and the log where it is dropped; fresh blocks are written before those in place. The outcomes come in this
+/// order: no geometry, or a feature of the primary that is refused; a log that is not clean, where the volume is not only checked
+/// and the log is not to be dropped; a volume that is too large; a file that is not supported; and what was found, or came of its
+/// repair: a name that would have to change, and then what finds no room.
 pub fn repair<R: Threads + Sync, D: Disk, G: Gate>(
     rt: &R,
     alloc: Global,
     disk: &mut D,
     options: &RepairOptions,
-    _stamp: &Stamp,
-    _gate: &G,
+    stamp: &Stamp,
+    gate: &G,
 ) -> Outcome
-    ensures due { ForSome (D.holds disk.old) (λ image. IsDueRepair (repair_asked options.now) image result) }
+    ensures due { ForSome (D.holds disk.old) (λ image. IsDueRepair (repair_asked options.now) stamp.now image result) }
     ensures cause { IsRepairCause (D.faults disk.old) (D.faults disk.new) (D.write_faults disk.old) (D.write_faults disk.new) result }
-    ensures leaves { ForSome (D.holds disk.old) (λ image. RepairLeaves image (D.holds disk.new) result) }
+    ensures leaves { ForSome (D.holds disk.old) (λ image. RepairLeaves stamp.now image (D.holds disk.new) result) }
     ensures kept { IsDurableRepair (D.tells_stops disk.old) (D.holds disk.new) (D.may_leave disk.new) result }
     // just so many blocks were written as the outcome says: none after every outcome but a repair and a write fault
     ensures counted { D.writes disk.new ≡ raised_times (blocks_told result) (D.writes disk.old) }
@@ -55,27 +62,29 @@ pub fn repair<R: Threads + Sync, D: Disk, G: Gate>(
     ensures possible { CanCome (repair_asked options.now) result }
     // a stop leaves what it might have left before, or, while the plan is written, old and planned blocks
     ensures stops { D.tells_stops disk.old → ForSome (D.holds disk.old) (λ image.
-        (t : ℕ) (stopped : Image) → t ≤ D.moment disk.old → D.left_since disk.new t stopped → D.left_since disk.old t stopped ⊎ StopsBy image result stopped) }
+        (t : ℕ) (stopped : Image) → t ≤ D.moment disk.old → D.left_since disk.new t stopped → D.left_since disk.old t stopped ⊎ StopsBy stamp.now image result stopped) }
     ensures size { D.size disk.new ≡ D.size disk.old }
     ensures faults { D.faults disk.old ≤ D.faults disk.new }
     ensures write_faults { D.write_faults disk.old ≤ D.write_faults disk.new }
     ensures tells { D.tells_stops disk.old → D.tells_stops disk.new }
     ensures later { D.tells_stops disk.old → D.moment disk.old ≤ D.moment disk.new }
 {
-    repair_disk(rt, alloc, disk, options)
+    repair_disk(rt, alloc, disk, options, stamp, gate)
 }
 
 /// The same. What is said of the disk beside its contents stands in one record, as in each part of a repair.
-fn repair_disk<R: Threads + Sync, D: Disk>(
+fn repair_disk<R: Threads + Sync, D: Disk, G: Gate>(
     rt: &R,
     alloc: Global,
     disk: &mut D,
     options: &RepairOptions,
+    stamp: &Stamp,
+    gate: &G,
 ) -> Outcome
-    ensures due { ForSome (D.holds disk.old) (λ image. IsDueRepair (repair_asked options.now) image result) }
-    ensures leaves { ForSome (D.holds disk.old) (λ image. RepairLeaves image (D.holds disk.new) result) }
+    ensures due { ForSome (D.holds disk.old) (λ image. IsDueRepair (repair_asked options.now) stamp.now image result) }
+    ensures leaves { ForSome (D.holds disk.old) (λ image. RepairLeaves stamp.now image (D.holds disk.new) result) }
     ensures stops { D.tells_stops disk.old → ForSome (D.holds disk.old) (λ image.
-        (t : ℕ) (stopped : Image) → t ≤ D.moment disk.old → D.left_since disk.new t stopped → D.left_since disk.old t stopped ⊎ StopsBy image result stopped) }
+        (t : ℕ) (stopped : Image) → t ≤ D.moment disk.old → D.left_since disk.new t stopped → D.left_since disk.old t stopped ⊎ StopsBy stamp.now image result stopped) }
     ensures possible { CanCome (repair_asked options.now) result }
     ensures ends { Ends D.size D.holds D.faults D.write_faults D.writes D.tells_stops D.moment D.may_leave D.left_since disk.old disk.new result }
 {
@@ -88,31 +97,34 @@ fn repair_disk<R: Threads + Sync, D: Disk>(
         },
         Err(ElectFault::NoMemory) => return Outcome::NoMemory,
     };
-    repair_volume(rt, alloc, disk, options, &elected)
+    repair_volume(rt, alloc, disk, options, &elected, stamp, gate)
 }
 
 /// The same, where a superblock is elected.
-#[tactic(auto, unfolding(crate::specs::Due::due_volume))]
-fn repair_volume<R: Threads + Sync, D: Disk>(
+#[tactic(auto, unfolding(crate::specs::Due::IsDueVolume))]
+fn repair_volume<R: Threads + Sync, D: Disk, G: Gate>(
     rt: &R,
     alloc: Global,
     disk: &mut D,
     options: &RepairOptions,
     chosen: &Elected,
+    stamp: &Stamp,
+    gate: &G,
 ) -> Outcome
+    requires accepted { IsAcceptedSector chosen.now.sector }
     requires sector { length chosen.now.sector ≡ 512 }
     requires stated { volume_of chosen.now.geometry ≡ stated_volume chosen.now.sector }
     requires inside { chosen.now.geometry.dblocks ≤ D.size disk.old }
     requires elects { ForSome (D.holds disk.old) (λ image. elected image ≡ Ok (vote_of chosen.now)) }
-    ensures due { ForSome (D.holds disk.old) (λ image. IsOwed (due_volume (repair_asked options.now) chosen.now.geometry image) result) }
-    ensures leaves { ForSome (D.holds disk.old) (λ image. RepairLeaves image (D.holds disk.new) result) }
+    ensures due { ForSome (D.holds disk.old) (λ image. IsOwed (IsDueVolume (repair_asked options.now) chosen.now.geometry stamp.now image) result) }
+    ensures leaves { ForSome (D.holds disk.old) (λ image. RepairLeaves stamp.now image (D.holds disk.new) result) }
     ensures stops { D.tells_stops disk.old → ForSome (D.holds disk.old) (λ image.
-        (t : ℕ) (stopped : Image) → t ≤ D.moment disk.old → D.left_since disk.new t stopped → D.left_since disk.old t stopped ⊎ StopsBy image result stopped) }
+        (t : ℕ) (stopped : Image) → t ≤ D.moment disk.old → D.left_since disk.new t stopped → D.left_since disk.old t stopped ⊎ StopsBy stamp.now image result stopped) }
     ensures possible { CanCome (repair_asked options.now) result }
     ensures ends { Ends D.size D.holds D.faults D.write_faults D.writes D.tells_stops D.moment D.may_leave D.left_since disk.old disk.new result }
 {
-    let view = match admit(alloc, disk, options, &chosen.geometry) {
-        Ok(Admitted::View(view)) => view,
+    let evidence = match admit(alloc, disk, options, &chosen.geometry) {
+        Ok(Admitted::Seen(evidence)) => evidence,
         Ok(Admitted::DirtyLog) => return Outcome::DirtyLog,
         Ok(Admitted::TooLarge { what, count }) => return Outcome::TooLarge { what, count },
         Ok(Admitted::UnsupportedFile { ino, what }) => return Outcome::UnsupportedFile {
@@ -124,8 +136,10 @@ fn repair_volume<R: Threads + Sync, D: Disk>(
         },
         Err(MendFault::NoMemory) => return Outcome::NoMemory,
     };
-    match find_first(rt, alloc, disk, chosen, &view) {
-        Ok(Some(found)) => answer_found(alloc, disk, options, chosen, found),
+    match find_first(rt, alloc, disk, chosen, &evidence.seen) {
+        Ok(Some(found)) => answer_found(
+            rt, alloc, disk, options, chosen, found, evidence, stamp, gate,
+        ),
         Ok(None) => Outcome::Clean,
         Err(MendFault::ReadFault) => Outcome::ReadFault {
             faults: disk.faults(),
@@ -135,33 +149,39 @@ fn repair_volume<R: Threads + Sync, D: Disk>(
 }
 
 /// What comes of a volume in which this is found first.
-fn answer_found<D: Disk>(
+fn answer_found<R: Threads + Sync, D: Disk, G: Gate>(
+    rt: &R,
     alloc: Global,
     disk: &mut D,
     options: &RepairOptions,
     chosen: &Elected,
     found: Finding,
+    evidence: Evidence,
+    stamp: &Stamp,
+    gate: &G,
 ) -> Outcome
+    requires accepted { IsAcceptedSector chosen.now.sector }
     requires sector { length chosen.now.sector ≡ 512 }
     requires stated { volume_of chosen.now.geometry ≡ stated_volume chosen.now.sector }
     requires inside { chosen.now.geometry.dblocks ≤ D.size disk.old }
     requires elects { ForSome (D.holds disk.old) (λ image. elected image ≡ Ok (vote_of chosen.now)) }
     requires admitted { ForSome (D.holds disk.old) (λ image. turned_away (repair_asked options.now) (volume_of chosen.now.geometry) image ≡ None) }
     requires found { ForSome (D.holds disk.old) (λ image. Some found ≡ finding broken_law chosen.now.geometry image) }
-    ensures due { ForSome (D.holds disk.old) (λ image. IsOwed (due_found (repair_asked options.now) image (Some found)) result) }
-    ensures leaves { ForSome (D.holds disk.old) (λ image. RepairLeaves image (D.holds disk.new) result) }
+    requires evidence { ForSome (D.holds disk.old) (λ image. IsEvidence chosen.now.geometry image evidence) }
+    ensures due { ForSome (D.holds disk.old) (λ image. IsOwed (IsDueFound (repair_asked options.now) chosen.now.geometry stamp.now image (Some found)) result) }
+    ensures leaves { ForSome (D.holds disk.old) (λ image. RepairLeaves stamp.now image (D.holds disk.new) result) }
     ensures stops { D.tells_stops disk.old → ForSome (D.holds disk.old) (λ image.
-        (t : ℕ) (stopped : Image) → t ≤ D.moment disk.old → D.left_since disk.new t stopped → D.left_since disk.old t stopped ⊎ StopsBy image result stopped) }
+        (t : ℕ) (stopped : Image) → t ≤ D.moment disk.old → D.left_since disk.new t stopped → D.left_since disk.old t stopped ⊎ StopsBy stamp.now image result stopped) }
     ensures possible { CanCome (repair_asked options.now) result }
     ensures ends { Ends D.size D.holds D.faults D.write_faults D.writes D.tells_stops D.moment D.may_leave D.left_since disk.old disk.new result }
 {
     if options.check {
         return Outcome::Damaged(found);
     }
-    if !is_backup(&found) {
-        return Outcome::Unbuilt { request: 8 };
+    if is_backup(&found) {
+        return repair_backups(alloc, disk, &chosen.geometry, &chosen.sector);
     }
-    repair_backups(alloc, disk, &chosen.geometry, &chosen.sector)
+    rebuild(rt, alloc, disk, chosen, evidence, stamp, gate)
 }
 
 /// Whether what is found is a backup superblock that does not agree.
@@ -182,7 +202,7 @@ fn repair_backups<D: Disk>(
     requires stated { volume_of geometry.now ≡ stated_volume primary.now }
     requires inside { geometry.now.dblocks ≤ D.size disk.old }
     ensures due { ForSome (D.holds disk.old) (λ image.
-        IsOwed (Repaired (Backups (length (steps_from primary.now image 1 (geometry.now.agcount - 1))))) result) }
+        IsOwed (λ due. due ≡ Repaired (Backups (length (steps_from primary.now image 1 (geometry.now.agcount - 1))))) result) }
     ensures leaves { ForSome (D.holds disk.old) (λ image.
         LeavesOf (steps_from primary.now image 1 (geometry.now.agcount - 1)) image (D.holds disk.new) result) }
     ensures stops { D.tells_stops disk.old → ForSome (D.holds disk.old) (λ image.

@@ -33,8 +33,8 @@ pub record IsAnswered {D L S O E : Type 0} (holds : D → Option Image) (size fa
       × IsTold took puts took_err puts_err old.out new.out old.err new.err text put
       × (status ≡ status_of false text put)
   pub repaired : text_asked words ≡ None → is_debugger words ≡ false → is_maker words ≡ false → (answer : Answer) × (text : Option (List ℕ)) × (put : Result (Unit {0}) Failed)
-      × IsRepairing (judged words) (disk_now ≡ disk) (IsRepair holds size faults write_faults writes tells_stops moment may_leave left_since disk disk_now) answer
-      × IsText (IsLook holds size faults write_faults writes tells_stops moment may_leave left_since) disk (judged words) answer text
+      × IsRepairing (judged words) (disk_now ≡ disk) (IsRepair holds size faults write_faults writes tells_stops moment may_leave left_since stamp disk disk_now) answer
+      × IsText (IsLook holds size faults write_faults writes tells_stops moment may_leave left_since stamp) disk (judged words) answer text
       × IsToldBehind took puts took_err puts_err old.out new.out old.err new.err text answer put
       × (status ≡ status_of (tells_repair words) answer put)
   pub checked : is_debugger words ≡ false → is_maker words ≡ false → only_checks (judged words) ≡ true

@@ -5,6 +5,7 @@ use Rattle.xfs_disk.specs.Blocks.{Image, bytes_of_block}
 use Rattle.xfs_disk.specs.Faults.{Rose}
 use Rattle.xfs_disk.specs.Reads.{OnlyReads}
 use Rattle.xfs_disk.specs.declared.failed.Failed.{Failed}
+use Rattle.xfs_disk.specs.declared.stamp.Stamp.{Stamp}
 use Rattle.xfs_geom.specs.Election.{super_of}
 use Rattle.xfs_geom.specs.Superblocks.{super_fault}
 use Rattle.xfs_geom.specs.Volumes.{stated_volume}
@@ -20,7 +21,7 @@ use Rattle.xfs_tools.specs.Answers.{IsTold}
 use Rattle.xfs_tools.specs.CommandLine.{options_of_words}
 use Rattle.xfs_tools.specs.Repairing.{IsRepair}
 use Rattle.xfs_tools.specs.declared.answer.Answer.{Answer}
-use Rattle.xfs_tools.specs.declared.answer.Answer.TheVariants.{Damaged, Repaired, Unbuilt}
+use Rattle.xfs_tools.specs.declared.answer.Answer.TheVariants.{Damaged, Repaired, NoRoom, Unbuilt}
 use Rattle.xfs_tools.specs.declared.command_line.Call.{Call}
 use Rattle.xfs_tools.specs.declared.command_line.Call.TheVariants.{Repair, Refused}
 use Rattle.xfs_tools.specs.declared.command_line.RepairWords.{RepairWords}
@@ -51,19 +52,20 @@ IsGroups holds size faults old new groups =
 -- A volume was looked at before it is repaired. The disk was only read, and not at all unless what is found is to be told in words. Then the
 -- groups are those that the primary superblock states and, unless the volume is only checked, the finding is that of a check.
 pub record IsLook {D : Type 0} (holds : D → Option Image) (size faults write_faults writes : D → ℕ) (tells_stops : D → Type 0)
-    (moment : D → ℕ) (may_leave : D → ℕ → List ℕ → Type 0) (left_since : D → ℕ → Image → Type 0) (o : RepairWords) (old new : D) (look : Look) : Type 0 where
+    (moment : D → ℕ) (may_leave : D → ℕ → List ℕ → Type 0) (left_since : D → ℕ → Image → Type 0) (s : Stamp) (o : RepairWords) (old new : D) (look : Look) : Type 0 where
   pub reads : OnlyReads size holds write_faults writes tells_stops moment may_leave left_since old new
   pub counted : faults old ≤ faults new
   pub untouched : o.verbose ≡ false → (new ≡ old) × (look.found ≡ None)
   pub groups : o.verbose ≡ true → IsGroups holds size faults old new look.groups
   pub found : o.verbose ≡ true → o.check ≡ false → (outcome : Outcome)
-      × IsRepair holds size faults write_faults writes tells_stops moment may_leave left_since old new (repair_asked (checking o)) outcome
+      × IsRepair holds size faults write_faults writes tells_stops moment may_leave left_since s old new (repair_asked (checking o)) outcome
       × (look.found ≡ finding_in outcome)
 
 -- what is to be told in words: what was found, where damage is told, a repair was made, or one was due
 abbrev pub told_in : Option Finding → Answer → Option Finding
 told_in looked (Damaged finding) = Some finding
 told_in looked (Repaired summary) = looked
+told_in looked (NoRoom place) = looked
 told_in looked (Unbuilt request) = looked
 told_in looked answer = None
 

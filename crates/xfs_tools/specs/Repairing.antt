@@ -4,6 +4,7 @@ use Rattle.std.specs.Option.{ForSome}
 use Rattle.xfs_disk.specs.Counts.{raised_times}
 use Rattle.xfs_disk.specs.Blocks.{Image}
 use Rattle.xfs_disk.specs.Reads.{OnlyReads}
+use Rattle.xfs_disk.specs.declared.stamp.Stamp.{Stamp}
 use Rattle.xfs_mend.specs.Asked.{Asked, repair_asked}
 use Rattle.xfs_mend.specs.Due as mend
 use Rattle.xfs_mend.specs.Outcome as mended
@@ -19,16 +20,16 @@ use Rattle.xfs_tools.specs.declared.command_line.Call.TheVariants.{Repair, Refus
 -- written as the outcome says, and after every outcome but a repair and a write fault the disk was only read. Of a disk that tells what it
 -- holds, also that the outcome is due to the image and what it leaves; of one that tells its stops, also what a stop may leave.
 pub record IsRepair {D : Type 0} (holds : D → Option Image) (size faults write_faults writes : D → ℕ) (tells_stops : D → Type 0)
-    (moment : D → ℕ) (may_leave : D → ℕ → List ℕ → Type 0) (left_since : D → ℕ → Image → Type 0) (old new : D) (o : Asked) (outcome : Outcome) : Type 0 where
-  pub due : ForSome (holds old) (λ image. mend.IsDueRepair o image outcome)
+    (moment : D → ℕ) (may_leave : D → ℕ → List ℕ → Type 0) (left_since : D → ℕ → Image → Type 0) (s : Stamp) (old new : D) (o : Asked) (outcome : Outcome) : Type 0 where
+  pub due : ForSome (holds old) (λ image. mend.IsDueRepair o s image outcome)
   pub possible : mend.CanCome o outcome
   pub cause : mended.IsRepairCause (faults old) (faults new) (write_faults old) (write_faults new) outcome
-  pub leaves : ForSome (holds old) (λ image. mended.RepairLeaves image (holds new) outcome)
+  pub leaves : ForSome (holds old) (λ image. mended.RepairLeaves s image (holds new) outcome)
   pub counted : writes new ≡ raised_times (mended.blocks_told outcome) (writes old)
   pub only_read : mended.is_quiet outcome ≡ true → OnlyReads size holds write_faults writes tells_stops moment may_leave left_since old new
   pub kept : mended.IsDurableRepair (tells_stops old) (holds new) (may_leave new) outcome
   pub stops : tells_stops old → ForSome (holds old) (λ image. (t : ℕ) (stopped : Image) → t ≤ moment old → left_since new t stopped
-      → left_since old t stopped ⊎ mended.StopsBy image outcome stopped)
+      → left_since old t stopped ⊎ mended.StopsBy s image outcome stopped)
 
 -- The words were refused, and the disk is the same; or the repair that they ask for was run, and the answer is that of its outcome.
 abbrev pub IsRepairing : Call → Type 0 → (Asked → Outcome → Type 0) → Answer → Type 0

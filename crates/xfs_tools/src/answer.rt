@@ -118,6 +118,7 @@ impl Answer {
             Outcome::Clean => Answer::Clean,
             Outcome::Damaged(finding) => Answer::Damaged(finding),
             Outcome::Repaired(summary) => Answer::Repaired(summary),
+            Outcome::NoRoom(place) => Answer::NoRoom(place),
             Outcome::Unbuilt { request } => Answer::Unbuilt { request },
             Outcome::ReadFault { faults } => Answer::ReadFault { faults },
             Outcome::WriteFault { written } => Answer::WriteFault { written },

@@ -41,7 +41,7 @@ pub(crate) fn look_before<R: Threads + Sync, D: Disk, G: Gate>(
     stamp: &Stamp,
     gate: &G,
 ) -> Look
-    ensures { IsLook D.holds D.size D.faults D.write_faults D.writes D.tells_stops D.moment D.may_leave D.left_since words.now disk.old disk.new result }
+    ensures { IsLook D.holds D.size D.faults D.write_faults D.writes D.tells_stops D.moment D.may_leave D.left_since stamp.now words.now disk.old disk.new result }
 {
     if !words.verbose {
         return Look {
@@ -136,7 +136,7 @@ pub(crate) fn told_of(verbose: bool, looked: Option<Finding>, answer: Answer) ->
     }
     match answer {
         Answer::Damaged(finding) => Some(finding),
-        Answer::Repaired(_) | Answer::Unbuilt { .. } => looked,
+        Answer::Repaired(_) | Answer::NoRoom(_) | Answer::Unbuilt { .. } => looked,
         _ => None,
     }
 }

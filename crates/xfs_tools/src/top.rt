@@ -63,8 +63,8 @@ pub fn run<R: Threads + Sync, D: Disk, L: Library, S: Source, O: Sink, E: Sink, 
     // to its stream and nothing to the other, but for a line on `err` in front of it where `-v` asks for that in words; and the status is its own, or that of an output fault where the line could not be
     // put. Of a disk that does not tell what it holds, as a file, the parts on the image say nothing, and all others hold.
     ensures answer { text_asked words.now ≡ None → is_debugger words.now ≡ false → is_maker words.now ≡ false → (answer : Answer) × (text : Option (List ℕ)) × (put : Result (Unit {0}) Failed)
-        × IsRepairing (judged words.now) (disk.new ≡ disk.old) (IsRepair D.holds D.size D.faults D.write_faults D.writes D.tells_stops D.moment D.may_leave D.left_since disk.old disk.new) answer
-        × IsText (IsLook D.holds D.size D.faults D.write_faults D.writes D.tells_stops D.moment D.may_leave D.left_since) disk.old (judged words.now) answer text
+        × IsRepairing (judged words.now) (disk.new ≡ disk.old) (IsRepair D.holds D.size D.faults D.write_faults D.writes D.tells_stops D.moment D.may_leave D.left_since stamp.now disk.old disk.new) answer
+        × IsText (IsLook D.holds D.size D.faults D.write_faults D.writes D.tells_stops D.moment D.may_leave D.left_since stamp.now) disk.old (judged words.now) answer text
         × IsToldBehind O.took O.faults E.took E.faults out.old out.new err.old err.new text answer put
         × (result ≡ status_of (tells_repair words.now) answer put) }
     // Under `-n`, and where the words are refused, the disk is only read, whatever it tells: no block and no sync.
@@ -115,8 +115,8 @@ fn run_tool<R: Threads + Sync, D: Disk, L: Library, S: Source, O: Sink, E: Sink,
     gate: &G,
 ) -> Status
     ensures answer { is_debugger words.now ≡ false → is_maker words.now ≡ false → (answer : Answer) × (text : Option (List ℕ)) × (put : Result (Unit {0}) Failed)
-        × IsRepairing (judged words.now) (disk.new ≡ disk.old) (IsRepair D.holds D.size D.faults D.write_faults D.writes D.tells_stops D.moment D.may_leave D.left_since disk.old disk.new) answer
-        × IsText (IsLook D.holds D.size D.faults D.write_faults D.writes D.tells_stops D.moment D.may_leave D.left_since) disk.old (judged words.now) answer text
+        × IsRepairing (judged words.now) (disk.new ≡ disk.old) (IsRepair D.holds D.size D.faults D.write_faults D.writes D.tells_stops D.moment D.may_leave D.left_since stamp.now disk.old disk.new) answer
+        × IsText (IsLook D.holds D.size D.faults D.write_faults D.writes D.tells_stops D.moment D.may_leave D.left_since stamp.now) disk.old (judged words.now) answer text
         × IsToldBehind O.took O.faults E.took E.faults out.old out.new err.old err.new text answer put
         × (result ≡ status_of (tells_repair words.now) answer put) }
     ensures checked { is_debugger words.now ≡ false → is_maker words.now ≡ false → only_checks (judged words.now) ≡ true
@@ -157,8 +157,8 @@ fn run_volume<R: Threads + Sync, D: Disk, O: Sink, E: Sink, G: Gate>(
     gate: &G,
 ) -> Status
     ensures answer { (answer : Answer) × (text : Option (List ℕ)) × (put : Result (Unit {0}) Failed)
-        × IsRepairing (judged words.now) (disk.new ≡ disk.old) (IsRepair D.holds D.size D.faults D.write_faults D.writes D.tells_stops D.moment D.may_leave D.left_since disk.old disk.new) answer
-        × IsText (IsLook D.holds D.size D.faults D.write_faults D.writes D.tells_stops D.moment D.may_leave D.left_since) disk.old (judged words.now) answer text
+        × IsRepairing (judged words.now) (disk.new ≡ disk.old) (IsRepair D.holds D.size D.faults D.write_faults D.writes D.tells_stops D.moment D.may_leave D.left_since stamp.now disk.old disk.new) answer
+        × IsText (IsLook D.holds D.size D.faults D.write_faults D.writes D.tells_stops D.moment D.may_leave D.left_since stamp.now) disk.old (judged words.now) answer text
         × IsToldBehind O.took O.faults E.took E.faults out.old out.new err.old err.new text answer put
         × (result ≡ status_of (tells_repair words.now) answer put) }
     ensures checked { only_checks (judged words.now) ≡ true → OnlyReads D.size D.holds D.write_faults D.writes D.tells_stops D.moment D.may_leave D.left_since disk.old disk.new }
@@ -191,8 +191,8 @@ fn answer_to<R: Threads + Sync, D: Disk, G: Gate>(
     stamp: &Stamp,
     gate: &G,
 ) -> Said
-    ensures answer { IsRepairing call.now (disk.new ≡ disk.old) (IsRepair D.holds D.size D.faults D.write_faults D.writes D.tells_stops D.moment D.may_leave D.left_since disk.old disk.new) result.answer }
-    ensures text { IsText (IsLook D.holds D.size D.faults D.write_faults D.writes D.tells_stops D.moment D.may_leave D.left_since) disk.old call.now result.answer (explained result.groups result.found) }
+    ensures answer { IsRepairing call.now (disk.new ≡ disk.old) (IsRepair D.holds D.size D.faults D.write_faults D.writes D.tells_stops D.moment D.may_leave D.left_since stamp.now disk.old disk.new) result.answer }
+    ensures text { IsText (IsLook D.holds D.size D.faults D.write_faults D.writes D.tells_stops D.moment D.may_leave D.left_since stamp.now) disk.old call.now result.answer (explained result.groups result.found) }
     ensures checked { only_checks call.now ≡ true → OnlyReads D.size D.holds D.write_faults D.writes D.tells_stops D.moment D.may_leave D.left_since disk.old disk.new }
     ensures size { D.size disk.new ≡ D.size disk.old }
     ensures faults { D.faults disk.old ≤ D.faults disk.new }
@@ -217,8 +217,8 @@ fn answer_repair<R: Threads + Sync, D: Disk, G: Gate>(
     stamp: &Stamp,
     gate: &G,
 ) -> Said
-    ensures answer { IsRepairing (Call.Repair words.now) (disk.new ≡ disk.old) (IsRepair D.holds D.size D.faults D.write_faults D.writes D.tells_stops D.moment D.may_leave D.left_since disk.old disk.new) result.answer }
-    ensures text { IsText (IsLook D.holds D.size D.faults D.write_faults D.writes D.tells_stops D.moment D.may_leave D.left_since) disk.old (Call.Repair words.now) result.answer (explained result.groups result.found) }
+    ensures answer { IsRepairing (Call.Repair words.now) (disk.new ≡ disk.old) (IsRepair D.holds D.size D.faults D.write_faults D.writes D.tells_stops D.moment D.may_leave D.left_since stamp.now disk.old disk.new) result.answer }
+    ensures text { IsText (IsLook D.holds D.size D.faults D.write_faults D.writes D.tells_stops D.moment D.may_leave D.left_since stamp.now) disk.old (Call.Repair words.now) result.answer (explained result.groups result.found) }
     ensures checked { only_checks (Call.Repair words.now) ≡ true → OnlyReads D.size D.holds D.write_faults D.writes D.tells_stops D.moment D.may_leave D.left_since disk.old disk.new }
     ensures size { D.size disk.new ≡ D.size disk.old }
     ensures faults { D.faults disk.old ≤ D.faults disk.new }

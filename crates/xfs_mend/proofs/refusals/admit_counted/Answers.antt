@@ -1,9 +1,9 @@
-use Rattle.std.proofs.Common.{rules, ◌≤◌, ◌∙◌, Option, IfOk, subst}
+use Rattle.std.proofs.Common.{rules, ◌≤◌, Option, IfOk, subst}
 use Rattle.std.specs.Option.{ForSome}
 use Rattle.xfs_disk.specs.Blocks.{Image}
 use Rattle.xfs_geom.specs.Volumes.{volume_of}
 use Rattle.xfs_disk.proofs.Reading.{reads_on}
-use Rattle.xfs_image.specs.View.{view}
+use Rattle.xfs_scan.specs.Evidence.{IsEvidence}
 use Rattle.xfs_mend.specs.Asked.{repair_asked}
 use Rattle.xfs_mend.specs.Private.Refusing.{IsAdmission}
 use Rattle.xfs_mend.proofs.Turning.{by_evidence, mended_later}
@@ -13,8 +13,8 @@ pub returns-in-Ok : goal.returns-in-Ok
 returns-in-Ok g c = record {
   admitted = λ image told.
       let e = c.in-Ok.ensures.evidence image told in
-      by_evidence (repair_asked c.args.options.now) (volume_of c.args.g.now) image c.in-Ok.evidence.log c.into_view.result (view c.args.g.now image) c.take_view.result e.log
-      (c.in-Ok.ensures.refused image told) (c.into_view.ensures ∙ e.catalog) c.take_view.ensures;
+      by_evidence (repair_asked c.args.options.now) (volume_of c.args.g.now) image (IsEvidence c.args.g.now image) c.in-Ok.evidence c.unless_asked.result e.log
+      (c.in-Ok.ensures.refused image told) e c.unless_asked.ensures;
   cause = c.in-Ok.ensures.cause;
   disk = c.in-Ok.ensures.disk;
 }

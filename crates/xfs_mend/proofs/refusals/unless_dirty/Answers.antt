@@ -1,7 +1,7 @@
 use Rattle.std.proofs.Common.{rules, ◌≡◌, true, false, Option, sym, ◌∙◌, subst, arith}
 use Rattle.xfs_geom.specs.Volumes.{volume_of}
 use Rattle.xfs_disk.proofs.Reading.{reads_none}
-use Rattle.xfs_image.specs.View.{view}
+use Rattle.xfs_scan.specs.Evidence.{IsEvidence}
 use Rattle.xfs_mend.specs.Due.{asks_log, is_dirty}
 use Rattle.xfs_mend.specs.Asked.{repair_asked}
 use Rattle.xfs_mend.specs.Private.Refusing.{HasAdmitted}
@@ -14,7 +14,7 @@ returns-then-not-asks_log g c =
     let D = g.D.Disk in
     let o = repair_asked c.args.options.now in
     record {
-      admitted = λ image told. subst (λ (away : Option Outcome). HasAdmitted away (view c.args.g.now image) c.args.refusal)
+      admitted = λ image told. subst (λ (away : Option Outcome). HasAdmitted away (IsEvidence c.args.g.now image) c.args.refusal)
           (sym (not_asked o (volume_of c.args.g.now) image (sym c.asks_log.ensures ∙ c.if-not-asks_log.true))) (c.requires.refused image told);
       cause = omega arith;
       disk = reads_none D.size D.holds D.write_faults D.writes D.tells_stops D.moment D.may_leave D.left_since c.args.disk.now;
@@ -36,7 +36,7 @@ returns-in-Ok-Clean g c =
     let o = repair_asked c.args.options.now in
     let clean : is_dirty c.in-Ok-Clean.field-0 ≡ false = search rules in
     record {
-      admitted = λ image told. subst (λ (away : Option Outcome). HasAdmitted away (view c.args.g.now image) c.args.refusal)
+      admitted = λ image told. subst (λ (away : Option Outcome). HasAdmitted away (IsEvidence c.args.g.now image) c.args.refusal)
           (sym (not_dirty o (volume_of c.args.g.now) image c.in-Ok-Clean.field-0 (c.in-Ok-Clean.ensures.state image told) clean)) (c.requires.refused image told);
       cause = c.in-Ok-Clean.ensures.cause;
       disk = c.in-Ok-Clean.ensures.disk;

@@ -58,7 +58,8 @@ returns-in-Ok-write_parts-clause-leaves g c = λ image told.
     let bank = c.in-Ok.plan.bank in
     let rows = c.as_slice.result.now in
     let same : writes_of_rows bank rows ≡ steps_from c.args.primary.now image 1 (c.args.geometry.now.agcount - 1) = ap (writes_of_rows bank) c.as_slice.ensures.value ∙ c.in-Ok.ensures.plan image told in
-    c.in-Ok-write_parts.ensures.done image (c.in-Ok.ensures.disk.same_contents ∙ told) ∙ ap (λ (ws : Writes). Some (written ws image)) same
+    subst (λ (ws : Writes). g.D.Disk.holds c.write_parts.new.disk ≡ Some (written ws image)) same
+    (c.in-Ok-write_parts.ensures.done image (c.in-Ok.ensures.disk.same_contents ∙ told))
 
 pub returns-in-Ok-write_parts-clause-stops : goal.returns-in-Ok-write_parts-clause-stops
 returns-in-Ok-write_parts-clause-stops g c = λ tells image told t stopped low left.
@@ -80,7 +81,7 @@ returns-in-Ok-write_parts-clause-ends g c =
     let part : Ends D.size D.holds D.faults D.write_faults D.writes D.tells_stops D.moment D.may_leave D.left_since c.plan_backups.new.disk c.write_parts.new.disk (out.Repaired (Backups c.len.result)) = record {
       cause = tt;
       kept = c.in-Ok-write_parts.ensures.kept;
-      counted = c.in-Ok-write_parts.ensures.counted ∙ ap (λ (n : ℕ). raised_times n (D.writes c.plan_backups.new.disk)) count;
+      counted = subst (λ (n : ℕ). D.writes c.write_parts.new.disk ≡ raised_times n (D.writes c.plan_backups.new.disk)) count c.in-Ok-write_parts.ensures.counted;
       only_read = λ says. cc;
       same_size = c.in-Ok-write_parts.ensures.size;
       more_faults = omega (arith, c.in-Ok-write_parts.ensures.faults);
@@ -97,7 +98,7 @@ returns-clause-due g c = λ image told.
     let rows = c.as_slice.result.now in
     let same : writes_of_rows bank rows ≡ steps_from c.args.primary.now image 1 (c.args.geometry.now.agcount - 1) = ap (writes_of_rows bank) c.as_slice.ensures.value ∙ c.in-Ok.ensures.plan image told in
     let most : c.in-Err.written ≤ length (steps_from c.args.primary.now image 1 (c.args.geometry.now.agcount - 1)) = omega (arith, c.in-Err.ensures.most, length-map rows (write_of bank), ap length same) in
-    (length (steps_from c.args.primary.now image 1 (c.args.geometry.now.agcount - 1)), most, refl)
+    (Backups (length (steps_from c.args.primary.now image 1 (c.args.geometry.now.agcount - 1))), most, refl)
 
 pub returns-clause-leaves : goal.returns-clause-leaves
 returns-clause-leaves g c = λ image told.

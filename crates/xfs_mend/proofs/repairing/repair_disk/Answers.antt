@@ -20,11 +20,11 @@ returns g c =
           let vote = vote_of c.in-Ok.elected in
           let geometry = c.in-Ok.elected.geometry in
           let elects = c.in-Ok.ensures.due image told in
-          due_by o geometry image vote c.repair_volume.result elects (is_elected geometry image vote elects c.in-Ok.ensures.states)
+          due_by o geometry c.args.stamp.now image vote c.repair_volume.result elects (is_elected geometry image vote elects c.in-Ok.ensures.states)
           (later.due image (disk.same_contents ∙ told));
       leaves = λ image told. later.leaves image (disk.same_contents ∙ told);
       stops = λ tells image told t stopped low left.
-          stops_behind D.size D.holds D.faults D.write_faults D.writes D.tells_stops D.moment D.may_leave D.left_since c.args.disk.now c.elect.new.disk c.repair_volume.new.disk t stopped (StopsBy image c.repair_volume.result stopped) disk tells low
+          stops_behind D.size D.holds D.faults D.write_faults D.writes D.tells_stops D.moment D.may_leave D.left_since c.args.disk.now c.elect.new.disk c.repair_volume.new.disk t stopped (StopsBy c.args.stamp.now image c.repair_volume.result stopped) disk tells low
           (later.stops (disk.tells tells) image (disk.same_contents ∙ told) t stopped) left;
       possible = later.possible;
       ends = ends_behind D.size D.holds D.faults D.write_faults D.writes D.tells_stops D.moment D.may_leave D.left_since c.args.disk.now c.elect.new.disk c.repair_volume.new.disk c.repair_volume.result disk up later.ends;

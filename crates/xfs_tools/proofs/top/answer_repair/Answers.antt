@@ -19,9 +19,9 @@ returns g c =
       answer = (
         c.repair.result,
         c.of_outcome-answer.ensures,
-        repair_behind D.holds D.size D.faults D.write_faults D.writes D.tells_stops D.moment D.may_leave D.left_since
+        repair_behind D.holds D.size D.faults D.write_faults D.writes D.tells_stops D.moment D.may_leave D.left_since c.args.stamp.now
             c.args.disk.now c.look_before-look.new.disk c.repair.new.disk _ c.repair.result look.reads look.counted
-            (subst (λ (q : RepairOptions). IsRepair D.holds D.size D.faults D.write_faults D.writes D.tells_stops D.moment D.may_leave D.left_since c.look_before-look.new.disk c.repair.new.disk (repair_asked q) c.repair.result)
+            (subst (λ (q : RepairOptions). IsRepair D.holds D.size D.faults D.write_faults D.writes D.tells_stops D.moment D.may_leave D.left_since c.args.stamp.now c.look_before-look.new.disk c.repair.new.disk (repair_asked q) c.repair.result)
             c.options.ensures
             (record { due = run.due; possible = run.possible; cause = run.cause; leaves = run.leaves; counted = run.counted; only_read = run.only_read; kept = run.kept; stops = run.stops })),
       );

@@ -11,9 +11,9 @@ returns-in-Ok-clause-answer g c =
       said.answer,
       explained said.groups said.found,
       Ok c.in-Ok.field-0,
-      subst (λ (j : Call). IsRepairing j (c.answer_to-said.new.disk ≡ c.args.disk.now) (IsRepair D.holds D.size D.faults D.write_faults D.writes D.tells_stops D.moment D.may_leave D.left_since c.args.disk.now c.answer_to-said.new.disk) said.answer)
+      subst (λ (j : Call). IsRepairing j (c.answer_to-said.new.disk ≡ c.args.disk.now) (IsRepair D.holds D.size D.faults D.write_faults D.writes D.tells_stops D.moment D.may_leave D.left_since c.args.stamp.now c.args.disk.now c.answer_to-said.new.disk) said.answer)
           c.judge-call.ensures.judged c.answer_to-said.ensures.answer,
-      subst (λ (j : Call). IsText (IsLook D.holds D.size D.faults D.write_faults D.writes D.tells_stops D.moment D.may_leave D.left_since) c.args.disk.now j said.answer (explained said.groups said.found))
+      subst (λ (j : Call). IsText (IsLook D.holds D.size D.faults D.write_faults D.writes D.tells_stops D.moment D.may_leave D.left_since c.args.stamp.now) c.args.disk.now j said.answer (explained said.groups said.found))
           c.judge-call.ensures.judged c.answer_to-said.ensures.text,
       c.in-Ok.ensures,
       rw (c.code.ensures, c.tells_repair.ensures, c.judge-call.ensures.judged) refl,
@@ -29,9 +29,9 @@ returns-in-Err-clause-answer g c =
       said.answer,
       explained said.groups said.found,
       Err c.in-Err.field-0,
-      subst (λ (j : Call). IsRepairing j (c.answer_to-said.new.disk ≡ c.args.disk.now) (IsRepair D.holds D.size D.faults D.write_faults D.writes D.tells_stops D.moment D.may_leave D.left_since c.args.disk.now c.answer_to-said.new.disk) said.answer)
+      subst (λ (j : Call). IsRepairing j (c.answer_to-said.new.disk ≡ c.args.disk.now) (IsRepair D.holds D.size D.faults D.write_faults D.writes D.tells_stops D.moment D.may_leave D.left_since c.args.stamp.now c.args.disk.now c.answer_to-said.new.disk) said.answer)
           c.judge-call.ensures.judged c.answer_to-said.ensures.answer,
-      subst (λ (j : Call). IsText (IsLook D.holds D.size D.faults D.write_faults D.writes D.tells_stops D.moment D.may_leave D.left_since) c.args.disk.now j said.answer (explained said.groups said.found))
+      subst (λ (j : Call). IsText (IsLook D.holds D.size D.faults D.write_faults D.writes D.tells_stops D.moment D.may_leave D.left_since c.args.stamp.now) c.args.disk.now j said.answer (explained said.groups said.found))
           c.judge-call.ensures.judged c.answer_to-said.ensures.text,
       c.in-Err.ensures,
       refl,

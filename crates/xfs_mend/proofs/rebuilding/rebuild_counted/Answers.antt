@@ -1,0 +1,104 @@
+-- Why nothing is planned, and what comes of what is.
+use Rattle.std.proofs.Common.{rules, ◌≡◌, ◌≤◌, refl, ◌∙◌, subst}
+use Rattle.xfs_rebuild.specs.Rebuilds.{IsRebuildOf}
+use Rattle.xfs_rebuild.specs.Refusals.{IsRefused}
+use Rattle.xfs_rebuild.specs.declared.faults.RebuildFault.{RebuildFault}
+use Rattle.xfs_rebuild.specs.declared.faults.RebuildFault.TheVariants as faults
+use Rattle.xfs_mend.proofs.Anew.{leaves_anew, names_due, room_due, stops_of_anew, written_due}
+use Rattle.xfs_mend.proofs.Ending.{ends_behind, ends_read, stops_behind, stops_read}
+use Rattle.xfs_mend.specs.Private.Rebuilds.{StopsAnew}
+use Rattle.xfs_mend.specs.declared.outcome.Outcome.TheVariants as out
+use Rattle.xfs_mend.proofs.rebuilding.rebuild_counted.Goals as goal
+
+pub returns-in-Err-Names : goal.returns-in-Err-Names
+returns-in-Err-Names g c =
+    let D = g.D.Disk in
+    let disk = c.in-Err-Names.ensures.disk in
+    let up : D.faults c.args.disk.now ≤ D.faults c.plan_rebuild.new.disk = search rules in
+    record {
+      due = λ image told.
+          let given : c.in-Err-Names.field-0 ≡ faults.Names = search rules in
+          names_due c.args.chosen.now.geometry c.args.stamp.now image c.args.evidence (c.requires.evidence image told)
+          (subst (λ (f : RebuildFault). IsRefused c.args.chosen.now.geometry c.args.stamp.now c.args.evidence f) given c.in-Err-Names.ensures.refused);
+      leaves = λ image told. disk.same_contents ∙ told;
+      stops = λ tells image told t stopped low left.
+          stops_read D.size D.holds D.faults D.write_faults D.writes D.tells_stops D.moment D.may_leave D.left_since c.args.disk.now c.plan_rebuild.new.disk t stopped
+          (StopsAnew (IsRebuildOf c.args.chosen.now.geometry c.args.chosen.now.sector c.args.stamp.now image c.args.evidence) image (out.Unbuilt 9) stopped) disk tells low left;
+      possible = λ o repairs. (repairs, refl);
+      ends = ends_read D.size D.holds D.faults D.write_faults D.writes D.tells_stops D.moment D.may_leave D.left_since c.args.disk.now c.plan_rebuild.new.disk (out.Unbuilt 9) disk up refl tt;
+    }
+
+pub returns-in-Err-NoRoom : goal.returns-in-Err-NoRoom
+returns-in-Err-NoRoom g c =
+    let D = g.D.Disk in
+    let disk = c.in-Err-NoRoom.ensures.disk in
+    let up : D.faults c.args.disk.now ≤ D.faults c.plan_rebuild.new.disk = search rules in
+    record {
+      due = λ image told.
+          let given : c.in-Err-NoRoom.field-0 ≡ faults.NoRoom c.in-Err-NoRoom.what = search rules in
+          room_due c.args.chosen.now.geometry c.args.stamp.now image c.args.evidence c.in-Err-NoRoom.what (c.requires.evidence image told)
+          (subst (λ (f : RebuildFault). IsRefused c.args.chosen.now.geometry c.args.stamp.now c.args.evidence f) given c.in-Err-NoRoom.ensures.refused);
+      leaves = λ image told. disk.same_contents ∙ told;
+      stops = λ tells image told t stopped low left.
+          stops_read D.size D.holds D.faults D.write_faults D.writes D.tells_stops D.moment D.may_leave D.left_since c.args.disk.now c.plan_rebuild.new.disk t stopped
+          (StopsAnew (IsRebuildOf c.args.chosen.now.geometry c.args.chosen.now.sector c.args.stamp.now image c.args.evidence) image (out.NoRoom c.in-Err-NoRoom.what) stopped) disk tells low left;
+      possible = λ o repairs. repairs;
+      ends = ends_read D.size D.holds D.faults D.write_faults D.writes D.tells_stops D.moment D.may_leave D.left_since c.args.disk.now c.plan_rebuild.new.disk (out.NoRoom c.in-Err-NoRoom.what) disk up refl tt;
+    }
+
+pub returns-in-Err-ReadFault : goal.returns-in-Err-ReadFault
+returns-in-Err-ReadFault g c =
+    let D = g.D.Disk in
+    let disk = c.in-Err-ReadFault.ensures.disk in
+    let up : D.faults c.args.disk.now ≤ D.faults c.plan_rebuild.new.disk = search rules in
+    record {
+      due = λ image told. tt;
+      leaves = λ image told. disk.same_contents ∙ told;
+      stops = λ tells image told t stopped low left.
+          stops_read D.size D.holds D.faults D.write_faults D.writes D.tells_stops D.moment D.may_leave D.left_since c.args.disk.now c.plan_rebuild.new.disk t stopped
+          (StopsAnew (IsRebuildOf c.args.chosen.now.geometry c.args.chosen.now.sector c.args.stamp.now image c.args.evidence) image (out.ReadFault c.faults.result) stopped) disk tells low left;
+      possible = λ o repairs. tt;
+      ends = ends_read D.size D.holds D.faults D.write_faults D.writes D.tells_stops D.moment D.may_leave D.left_since c.args.disk.now c.plan_rebuild.new.disk (out.ReadFault c.faults.result) disk up refl
+          (search rules);
+    }
+
+pub returns-in-Err-NoMemory : goal.returns-in-Err-NoMemory
+returns-in-Err-NoMemory g c =
+    let D = g.D.Disk in
+    let disk = c.in-Err-NoMemory.ensures.disk in
+    let up : D.faults c.args.disk.now ≤ D.faults c.plan_rebuild.new.disk = search rules in
+    record {
+      due = λ image told. tt;
+      leaves = λ image told. disk.same_contents ∙ told;
+      stops = λ tells image told t stopped low left.
+          stops_read D.size D.holds D.faults D.write_faults D.writes D.tells_stops D.moment D.may_leave D.left_since c.args.disk.now c.plan_rebuild.new.disk t stopped
+          (StopsAnew (IsRebuildOf c.args.chosen.now.geometry c.args.chosen.now.sector c.args.stamp.now image c.args.evidence) image out.NoMemory stopped) disk tells low left;
+      possible = λ o repairs. tt;
+      ends = ends_read D.size D.holds D.faults D.write_faults D.writes D.tells_stops D.moment D.may_leave D.left_since c.args.disk.now c.plan_rebuild.new.disk out.NoMemory disk up refl tt;
+    }
+
+pub returns : goal.returns
+returns g c =
+    let D = g.D.Disk in
+    let disk = c.in-Ok.ensures.disk in
+    let up : D.faults c.args.disk.now ≤ D.faults c.plan_rebuild.new.disk = c.in-Ok.ensures.cause in
+    let geometry = c.args.chosen.now.geometry in
+    let sector = c.args.chosen.now.sector in
+    let later = c.write_rebuilt.ensures in
+    record {
+      due = λ image told.
+          written_due geometry sector c.args.stamp.now image (D.holds c.write_rebuilt.new.disk) c.args.evidence c.in-Ok.rebuilt c.write_rebuilt.result
+          (c.requires.evidence image told) (c.in-Ok.ensures.rebuilt image told) (later.leaves image (disk.same_contents ∙ told));
+      leaves = λ image told.
+          leaves_anew (IsRebuildOf geometry sector c.args.stamp.now image c.args.evidence) c.in-Ok.rebuilt image (D.holds c.write_rebuilt.new.disk) c.write_rebuilt.result
+          (c.in-Ok.ensures.rebuilt image told) (later.leaves image (disk.same_contents ∙ told));
+      stops = λ tells image told t stopped low left.
+          let planned = IsRebuildOf geometry sector c.args.stamp.now image c.args.evidence in
+          stops_behind D.size D.holds D.faults D.write_faults D.writes D.tells_stops D.moment D.may_leave D.left_since c.args.disk.now c.plan_rebuild.new.disk c.write_rebuilt.new.disk t stopped
+          (StopsAnew planned image c.write_rebuilt.result stopped) disk tells low
+          (λ low' left'. stops_of_anew planned c.in-Ok.rebuilt image c.write_rebuilt.result stopped (D.left_since c.plan_rebuild.new.disk t stopped) (c.in-Ok.ensures.rebuilt image told)
+          (later.stops (disk.tells tells) image (disk.same_contents ∙ told) t stopped low' left'))
+          left;
+      possible = later.possible;
+      ends = ends_behind D.size D.holds D.faults D.write_faults D.writes D.tells_stops D.moment D.may_leave D.left_since c.args.disk.now c.plan_rebuild.new.disk c.write_rebuilt.new.disk c.write_rebuilt.result disk up later.ends;
+    }

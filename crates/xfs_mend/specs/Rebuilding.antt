@@ -1,0 +1,102 @@
+-- What is due to an image that is to be rebuilt, and what is planned of it.
+use Rattle.std.specs.Prelude.{◌≡◌, ◌==◌, ℕ, ◌≤◌, ◌+◌, ◌++◌, Bool, true, false, length, Option}
+use Rattle.xfs_disk.specs.Blocks.{Image}
+use Rattle.xfs_disk.specs.declared.stamp.Stamp.{Stamp}
+use Rattle.xfs_geom.specs.Volumes.{volume_of}
+use Rattle.xfs_geom.specs.declared.geometry.Geometry.{Geometry}
+use Rattle.xfs_laws.specs.Lawful.{broken_law}
+use Rattle.xfs_image.specs.Consistent.{HasFinding}
+use Rattle.xfs_image.specs.declared.findings.Finding.{Finding}
+use Rattle.xfs_image.specs.declared.findings.Finding.TheVariants as Found
+use Rattle.xfs_empty.specs.Planning.{HasRoom}
+use Rattle.xfs_place.specs.Wanted.{FindsNoRoom}
+use Rattle.xfs_place.specs.declared.faults.Unplaced.{Unplaced}
+use Rattle.xfs_request.specs.Requests.{cleared_count, kept_count}
+use Rattle.xfs_scan.specs.Evidence.{IsEvidence}
+use Rattle.xfs_scan.specs.declared.evidence.Evidence.{Evidence}
+use Rattle.xfs_rebuild.specs.Rebuilds.{Ground, IsGround, IsRebuildOf, asked, names_change, slots_asked}
+use Rattle.xfs_rebuild.specs.declared.planning.Rebuilt.{Rebuilt}
+use Rattle.xfs_writing.specs.Stopped.{IsStopped}
+use Rattle.xfs_writing.specs.Writing.{IsPartly, Writes, writes_of_rows}
+use Rattle.xfs_mend.specs.declared.outcome.Outcome.{Outcome}
+use Rattle.xfs_mend.specs.declared.outcome.Outcome.TheVariants.{NoRoom, Repaired, Unbuilt}
+use Rattle.xfs_mend.specs.declared.outcome.Summary.TheVariants.{Rebuilt as Anew}
+
+-- a backup superblock is found
+abbrev pub is_backup : Finding → Bool
+is_backup (Found.Part part place) = part == 10
+is_backup (Found.Law law) = false
+
+-- this is what an image gives a rebuild to go by
+pub record IsGroundOf (g : Geometry) (image : Image) (on : Ground) : Type 0 where
+  pub e : Evidence
+  pub evidence : IsEvidence g image e
+  pub ground : IsGround (volume_of g) e on
+
+-- The volume is to be rebuilt: no name has to change, and all finds room. So many inodes are then in use, so many slots freed, and none
+-- is put into lost+found. How many blocks are written is said where it is said what is left.
+pub record IsAnewDue (g : Geometry) (s : Stamp) (image : Image) (kept cleared orphans : ℕ) : Type 0 where
+  pub on : Ground
+  pub ground : IsGroundOf g image on
+  pub named : names_change g s on ≡ false
+  pub room : HasRoom (asked g on)
+  pub kept' : kept ≡ kept_count on.kept
+  pub cleared' : cleared ≡ cleared_count (slots_asked g s on)
+  pub none : orphans ≡ 0
+
+-- no name has to change, and this finds no room first
+pub record IsWithoutRoomDue (g : Geometry) (s : Stamp) (image : Image) (what : Unplaced) : Type 0 where
+  pub on : Ground
+  pub ground : IsGroundOf g image on
+  pub named : names_change g s on ≡ false
+  pub finds : FindsNoRoom (asked g on) what
+
+-- a name or a directory has to change
+pub record IsNamesDue (g : Geometry) (s : Stamp) (image : Image) : Type 0 where
+  pub on : Ground
+  pub ground : IsGroundOf g image on
+  pub named : names_change g s on ≡ true
+
+-- the outcome is the one that is due to an image that is to be rebuilt
+abbrev pub IsDueRebuild : Geometry → Stamp → Image → Outcome → Type 0
+IsDueRebuild g s image (Repaired (Anew blocks kept cleared orphans)) = IsAnewDue g s image kept cleared orphans
+IsDueRebuild g s image (NoRoom what) = IsWithoutRoomDue g s image what
+IsDueRebuild g s image (Unbuilt request) = (request ≡ 9) × IsNamesDue g s image
+IsDueRebuild g s image outcome = ⊥
+
+-- This is planned of an image in which something else than a backup superblock is found first: the blocks round what is kept of its
+-- evidence that differ from its own. The superblock is the one that it elects.
+pub record IsPlanned (s : Stamp) (image : Image) (r : Rebuilt) : Type 0 where
+  pub found : Finding
+  pub has : HasFinding broken_law image found
+  pub other : is_backup found ≡ false
+  pub e : Evidence
+  pub evidence : IsEvidence has.geometry image e
+  pub is : IsRebuildOf has.geometry has.elected.vote.sector s image e r
+
+-- what is written of it: fresh blocks before those in place, and each of the two
+abbrev pub all_writes : Rebuilt → Writes
+all_writes r = writes_of_rows r.bank (r.fresh ++ r.in_place)
+
+abbrev pub first_writes : Rebuilt → Writes
+first_writes r = writes_of_rows r.bank r.fresh
+
+abbrev pub last_writes : Rebuilt → Writes
+last_writes r = writes_of_rows r.bank r.in_place
+
+-- a backup superblock is found first in an image
+abbrev pub IsBackupFound : Image → Type 0
+IsBackupFound image = (ag : ℕ) × HasFinding broken_law image (Found.Part 10 ag)
+
+-- so many blocks of what is planned were written, and perhaps the next one
+pub record IsPartlyRebuilt (s : Stamp) (image : Image) (blocks : ℕ) (now : Option Image) : Type 0 where
+  pub r : Rebuilt
+  pub plan : IsPlanned s image r
+  pub most : blocks ≤ length r.fresh + length r.in_place
+  pub is : IsPartly (all_writes r) image blocks now
+
+-- a stop while what is planned was written
+pub record IsStoppedAnew (s : Stamp) (image stopped : Image) : Type 0 where
+  pub r : Rebuilt
+  pub plan : IsPlanned s image r
+  pub is : IsStopped (first_writes r) (last_writes r) image stopped
