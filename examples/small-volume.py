@@ -57,17 +57,18 @@ def superblock(counts, **other):
     return sealed(filled(512, [(at, w, v) for at, (w, v) in fields.items()]), 224)
 
 
-def agf(ag, freeblks, longest, flcount):
+def agf(ag, freeblks, longest, flcount, trees=(1, 2, 3, 4, 5)):
+    bno, cnt, _, _, owners = trees
     return sealed(filled(512, [
-        (0, 4, 0x58414746), (4, 4, 1), (8, 4, ag), (12, 4, AGBLOCKS), (16, 4, 1), (20, 4, 2), (24, 4, 5), (28, 4, 1), (32, 4, 1),
+        (0, 4, 0x58414746), (4, 4, 1), (8, 4, ag), (12, 4, AGBLOCKS), (16, 4, bno), (20, 4, cnt), (24, 4, owners), (28, 4, 1), (32, 4, 1),
         (36, 4, 1), (40, 4, 0), (44, 4, flcount - 1), (48, 4, flcount), (52, 4, freeblks), (56, 4, longest), (60, 4, 0),
         (64, 16, UUID), (80, 4, 1)]), 216)
 
 
-def agi(ag, count, freecount, newino):
+def agi(ag, count, freecount, newino, trees=(1, 2, 3, 4, 5)):
     return sealed(filled(512, [
-        (0, 4, 0x58414749), (4, 4, 1), (8, 4, ag), (12, 4, AGBLOCKS), (16, 4, count), (20, 4, 3), (24, 4, 1), (28, 4, freecount),
-        (32, 4, newino), (36, 4, ONES), (40, 256, b"\xff" * 256), (296, 16, UUID), (328, 4, 4), (332, 4, 1)]), 312)
+        (0, 4, 0x58414749), (4, 4, 1), (8, 4, ag), (12, 4, AGBLOCKS), (16, 4, count), (20, 4, trees[2]), (24, 4, 1), (28, 4, freecount),
+        (32, 4, newino), (36, 4, ONES), (40, 256, b"\xff" * 256), (296, 16, UUID), (328, 4, trees[3]), (332, 4, 1)]), 312)
 
 
 def agfl(ag, entries):
@@ -161,6 +162,57 @@ def volume(files):
     slots += [slot(ino, free=True) for ino in range(128 + len(slots), 192)]
     put(16, b"".join(slots))
     return image
+
+
+def runs_of(blocks):
+    """(first block, how many) of ascending blocks."""
+    runs = []
+    for block in blocks:
+        if runs and block == sum(runs[-1]):
+            runs[-1] = (runs[-1][0], runs[-1][1] + 1)
+        else:
+            runs.append((block, 1))
+    return runs
+
+
+# the blocks that read as ones of the trees of inodes and of owners: nothing new is put on them
+READING = ({3, 5}, {3, 5})
+
+
+def rebuilt(image, files=0, reserved=READING, used=None, cycle=None):
+    """What a repair makes of a damaged small volume with so many files of one block, all of which are kept: the trees and the free list of
+    each group on the lowest blocks of the group that nothing kept has and that are not reserved. With a cycle, the log is blanked."""
+    used = 3 + files if used is None else used
+    now = bytearray(image)
+
+    def put(block, data, at=0):
+        now[block * BLOCK + at:block * BLOCK + at + len(data)] = data
+    chunks = [[struct.pack(">IHBBQ", 128, 0, 64, 64 - used, (1 << 64) - (1 << used))], []]
+    kept = [set(range(16, 24)) | set(range(24, 24 + files)), set(range(6, 518))]
+    owned = [[rmap(16, 8, INODES)] + [rmap(24 + i, 1, 131 + i) for i in range(files)], [rmap(6, 512, LOG)]]
+    places, free = [], []
+    for ag in (0, 1):
+        pool = [b for b in range(1, AGBLOCKS) if b not in kept[ag]]
+        new = [b for b in pool if b not in reserved[ag]][:11]
+        places.append(new)
+        free.append(runs_of([b for b in pool if b not in new]))
+    counts = (64, 64 - used, sum(count for runs in free for _, count in runs) + 12)
+    for ag in (0, 1):
+        base, trees, lists = ag * AGBLOCKS, places[ag][:5], places[ag][5:]
+        runs = [struct.pack(">II", *run) for run in free[ag]]
+        sizes = [struct.pack(">II", *run) for run in sorted(free[ag], key=lambda run: (run[1], run[0]))]
+        space = [rmap(*run, AG) for run in runs_of(sorted([trees[0], trees[1], trees[4]] + lists))]
+        inodes = [rmap(*run, INOBT) for run in runs_of(trees[2:4])]
+        owners = sorted([rmap(0, 1, FS)] + space + inodes + owned[ag])
+        put(base, superblock(counts))
+        put(base, agf(ag, sum(count for _, count in free[ag]), max(count for _, count in free[ag]), 6, trees), 512)
+        put(base, agi(ag, 64 - 64 * ag, (64 - used) * (1 - ag), ONES if ag else 128, trees), 1024)
+        put(base, agfl(ag, lists), 1536)
+        for at, magic, records in zip(trees, (0x41423342, 0x41423343, 0x49414233, 0x46494233, 0x524d4233), (runs, sizes, chunks[ag], chunks[ag], owners)):
+            put(base + at, leaf(ag, at, magic, records))
+    if cycle:
+        put(1030, log_blocks(cycle))
+    return now
 
 
 def spans(image, unit=16):
@@ -385,8 +437,88 @@ def tables_of_findings():
     told("law 10, a number", v, inode(v, 128, (112, 8, 0x0000000700000010)))
 
 
+def full_group(v):
+    """A file of two extents stands on all blocks of the first group but those of its trees and one of its free list."""
+    x = bytearray(v)
+    for ag in (0, 1):
+        x[ag * AGBLOCKS * BLOCK:ag * AGBLOCKS * BLOCK + 512] = superblock((64, 60, 507))
+    x[512:2048] = agf(0, 0, 0, 1) + agi(0, 64, 60, 128) + agfl(0, [6])
+    chunk = [struct.pack(">IHBBQ", 128, 0, 64, 60, 0xfffffffffffffff0)]
+    owners = [rmap(0, 1, FS), rmap(1, 2, AG), rmap(3, 2, INOBT), rmap(5, 2, AG), rmap(7, 9, 131), rmap(16, 8, INODES), rmap(24, 1000, 131, 9)]
+    trees = [(0x41423342, []), (0x41423343, []), (0x49414233, chunk), (0x46494233, chunk), (0x524d4233, owners)]
+    x[BLOCK:6 * BLOCK] = b"".join(leaf(0, 1 + i, *tree) for i, tree in enumerate(trees))
+    x[16 * BLOCK:16 * BLOCK + 512] = directory(128, 128, [(b"a", 131, 1)])
+    x[131 * 512:132 * 512] = slot(131, [(2, 2, 0x81a4), (5, 1, 2), (16, 4, 1), (56, 8, BLOCK * 1009), (64, 8, 1009), (76, 4, 2)],
+                                  extent(0, 7, 9) + extent(9, 24, 1000))
+    return x
+
+
+def hidden(v):
+    """A file of four blocks whose bytes are a cluster of inodes 192 to 223 in use."""
+    x = bytearray(v)
+    for ag in (0, 1):
+        x[ag * AGBLOCKS * BLOCK:ag * AGBLOCKS * BLOCK + 512] = superblock((64, 60, 1512))
+    x[512:1536] = agf(0, 1000, 996, 6) + agi(0, 64, 60, 128)
+    runs = [struct.pack(">II", *run) for run in ((12, 4), (28, 996))]
+    chunk = [struct.pack(">IHBBQ", 128, 0, 64, 60, 0xfffffffffffffff0)]
+    owners = [rmap(0, 1, FS), rmap(1, 2, AG), rmap(3, 2, INOBT), rmap(5, 7, AG), rmap(16, 8, INODES), rmap(24, 4, 131)]
+    trees = [(0x41423342, runs), (0x41423343, runs), (0x49414233, chunk), (0x46494233, chunk), (0x524d4233, owners)]
+    x[BLOCK:6 * BLOCK] = b"".join(leaf(0, 1 + i, *tree) for i, tree in enumerate(trees))
+    x[16 * BLOCK:16 * BLOCK + 512] = directory(128, 128, [(b"a", 131, 1)])
+    x[131 * 512:132 * 512] = slot(131, [(2, 2, 0x81a4), (5, 1, 2), (16, 4, 1), (56, 8, 4 * BLOCK), (64, 8, 4), (76, 4, 1)], extent(0, 24, 4))
+    x[24 * BLOCK:28 * BLOCK] = b"".join(regular(ino, 30) for ino in range(192, 224))
+    return x
+
+
+def tables_of_rebuilds():
+    """What a repair leaves of each damaged volume, over what was damaged."""
+    v, w = volume([]), volume([b"a", b"b"])
+
+    def changed(of, *parts):
+        x = bytearray(of)
+        for block, at, data in parts:
+            x[block * BLOCK + at:block * BLOCK + at + len(data)] = data
+        return x
+
+    def told(name, was, now):
+        blocks = sum(was[b:b + BLOCK] != now[b:b + BLOCK] for b in range(0, len(now), BLOCK))
+        print("==", name, "blocks", blocks)
+        lines(was, now, skip=range(1031, 1542))
+    zero = bytes(4)
+    for name, block, at, reserved in (
+            ("part 0", 0, 0, READING), ("part 1", 0, 512, READING), ("part 2", 1024, 1024, READING), ("part 3", 0, 1536, READING),
+            ("part 4", 1, 0, READING), ("part 5", 2, 0, READING), ("part 6", 3, 0, ({5}, {3, 5})), ("part 7", 4, 0, READING),
+            ("part 8", 5, 0, ({3}, {3, 5})), ("part 9", 16, 612, READING)):
+        x = changed(v, (block, at, zero))
+        if name == "part 9":
+            told(name, x, rebuilt(changed(x, (16, 612, v[16 * BLOCK + 612:16 * BLOCK + 616])), reserved=reserved))
+            continue
+        told(name, x, rebuilt(x, reserved=reserved))
+    x = changed(v, (0, 512, zero), (1024, 108, b"A"))
+    told("part 1 and a backup", x, rebuilt(x))
+    told("row 4", changed(v, (0, 0, bytes(512))), rebuilt(changed(v, (0, 0, bytes(512)))))
+    x = changed(w, (3, 0, bytes(BLOCK)))
+    told("row 9", x, rebuilt(x, 2, ({5}, {3, 5})))
+    moved = bytearray(w[3 * BLOCK:4 * BLOCK])
+    moved[16:24] = (8 * 12).to_bytes(8, "big")
+    x = changed(w, (3, 0, bytes(BLOCK)), (12, 0, sealed(moved, 52)))
+    told("a tree that reads", x, rebuilt(x, 2, ({5, 12}, {3, 5})))
+    x = bytearray(v)
+    reslot(x, 128, [(112, 8, 0x0000000700000010)])
+    reslot(x, 129, [(112, 8, (1 << 64) - 1)])
+    x[1030 * BLOCK + 521] = 0
+    told("row 7", x, rebuilt(x, cycle=8))
+    told("other cases of the log", v, rebuilt(v, cycle=8))
+    told("any law of the empty volume", v, rebuilt(v))
+    told("any law of the volume of two files", w, rebuilt(w, 2))
+    for name, image in (("a full group", full_group(v)), ("hidden", hidden(v))):
+        print("==", name)
+        lines(v, image)
+
+
 main()
 if "-t" in sys.argv:
     tables_of_volumes()
     tables_of_findings()
     tables_of_a_vast_volume()
+    tables_of_rebuilds()

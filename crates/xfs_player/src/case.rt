@@ -52,6 +52,7 @@ impl Case {
     /// hold in the end beside what it held, and `unseen` says that this is not compared.
     ///
     /// What a call is given: `fail N` makes the read, write or sync of the disk fail that has this number, counted from 1 from here on;
+    /// `halt N` makes all calls of it fail once N more blocks were written, and `restart` none from here on;
     /// `room N` bytes are left for standard output from here on; `input LINE` and `tail TEXT` are added to standard input, which is not
     /// read where the case has `unreadable`.
     ///
@@ -82,6 +83,14 @@ impl Case {
                 Ok(())
             }
             "fail" => self.disks.held.fail(number(rest)?),
+            "halt" => {
+                self.disks.held.stop_after(number(rest)?);
+                Ok(())
+            }
+            "restart" => {
+                self.disks.held = self.disks.held.copy(self.alloc)?;
+                Ok(())
+            }
             "run" => self.run(rt, rest),
             "stops" => self.stop(rt, rest),
             "room" | "input" | "tail" | "unreadable" => self.give(word, rest),

@@ -19,11 +19,12 @@ pub record Explained : Type 0 where
   pub due : Piece
   pub advice : List ℕ
 
+abbrev pub repair_advice : List ℕ
+repair_advice = codes "; usually xfs_repair without -n mends it\n"
+
+-- of what a name may have to change for
 abbrev pub copy_advice : List ℕ
 copy_advice = codes "; usually xfs_repair of xfsprogs mends a copy\n"
-
-abbrev pub backup_advice : List ℕ
-backup_advice = codes "; usually xfs_repair without -n writes it anew\n"
 
 abbrev pub log_advice : List ℕ
 log_advice = codes "; usually the volume is mounted once and unmounted, or the log dropped by -L\n"
@@ -32,9 +33,12 @@ log_advice = codes "; usually the volume is mounted once and unmounted, or the l
 abbrev pub lone : List ℕ → Piece → List ℕ → List ℕ → Explained
 lone object place says advice = record { object = object; place = place; says = says; held = Nothing; between = []; due = Nothing; advice = advice }
 
--- what is held of an object, and what is due
+-- what is held of an object, and what is due, where a repair mends it, and with other advice
+abbrev pub advised : List ℕ → Piece → Piece → Piece → List ℕ → Explained
+advised object place held due advice = record { object = object; place = place; says = codes ": held "; held = held; between = codes ", due "; due = due; advice = advice }
+
 abbrev pub compared : List ℕ → Piece → Piece → Piece → Explained
-compared object place held due = record { object = object; place = place; says = codes ": held "; held = held; between = codes ", due "; due = due; advice = copy_advice }
+compared object place held due = advised object place held due repair_advice
 
 -- the object that is a part of this number
 abbrev pub part_object : ℕ → List ℕ
@@ -59,7 +63,7 @@ part_explained part place =
     else if part == 9 then codes " does not read: its slot, extents, link target or attributes"
     else if part == 10 then codes " does not agree with the primary"
     else codes " does not read")
-    (if part == 10 then backup_advice else copy_advice)
+    (if part == 9 then copy_advice else repair_advice)
 
 -- the trees of free space, and those of inodes, by the places of their laws
 abbrev pub space_tree : ℕ → List ℕ
@@ -123,7 +127,7 @@ chain_explained law = record {
   held = Count law.held;
   between = codes " of the group, due none";
   due = Nothing;
-  advice = copy_advice;
+  advice = repair_advice;
 }
 
 -- a log sequence number behind the end of the log
@@ -135,7 +139,7 @@ sequence_explained law = record {
   held = Sequence law.held;
   between = codes ", the end ";
   due = Sequence law.due;
-  advice = copy_advice;
+  advice = repair_advice;
 }
 
 -- the log, a chain of unlinked inodes, or a log sequence number
@@ -155,7 +159,7 @@ records_explained law =
 -- a law that is broken
 abbrev pub law_explained : Option ℕ → broken.Law → Explained
 law_explained groups law =
-    if law.law == 1 then compared (codes "owners of block ") (Count law.place) (Count law.held) (Count law.due)
+    if law.law == 1 then advised (codes "owners of block ") (Count law.place) (Count law.held) (Count law.due) copy_advice
     else if law.law == 2 then records_explained law
     else if law.law == 3 then records_explained law
     else if law.law == 4 then records_explained law

@@ -9,12 +9,12 @@ use Rattle.xfs_texts.specs.declared.lines.Number.{Number}
 use Rattle.xfs_texts.specs.declared.lines.Number.TheVariants.{Letter}
 
 abbrev pub repair_called : List ℕ
-repair_called = codes "xfs xfs_repair [-n] [-L] [-e] [-f] [-v] [-w workers] IMAGE\nChecks an XFS volume in an image file, and mends its backup superblocks.\n\n"
+repair_called = codes "xfs xfs_repair [-n] [-L] [-e] [-f] [-v] [-w workers] IMAGE\nChecks an XFS volume in an image file, and repairs it.\n\n"
 
 abbrev pub repair_rows : List (ℕ × List ℕ)
 repair_rows =
     (110, codes "          check only, and write nothing\n")
-    ∷ (76, codes "          go on where the log is not clean\n")
+    ∷ (76, codes "          go on where the log is not clean, and drop it\n")
     ∷ (101, codes "          end with 4 after a repair\n")
     ∷ (102, codes "          the image is a file; no effect\n")
     ∷ (118, codes "          say in words what was found\n")
@@ -62,7 +62,7 @@ abbrev pub debug_ends : List ℕ
 debug_ends = codes "  --help      alone: print this\n  --version   alone: print the version, as -V does\n\nstatus 0     all commands were run, each or a line in its place\nstatus 1     something else is told in a line\n"
 
 abbrev pub program_help : List ℕ
-program_help = codes "xfs TOOL [option]... IMAGE\nChecks, mends, makes and inspects XFS version 5 volumes that are image files. A link to the program with a tool's name is that tool.\n\n  xfs_repair  checks a volume, and mends its backup superblocks\n  mkfs.xfs    makes an empty volume\n  xfs_db      looks at the objects of a volume, and changes their fields\n\n  --help      alone: print this; alone behind a tool: its options\n  --version   alone: print the version\n\nstatus 0, 2, 4  as the tool tells\nstatus 1        the words are no call of a tool, or something else is told in a line\n"
+program_help = codes "xfs TOOL [option]... IMAGE\nChecks, mends, makes and inspects XFS version 5 volumes that are image files. A link to the program with a tool's name is that tool.\n\n  xfs_repair  checks a volume, and repairs it\n  mkfs.xfs    makes an empty volume\n  xfs_db      looks at the objects of a volume, and changes their fields\n\n  --help      alone: print this; alone behind a tool: its options\n  --version   alone: print the version\n\nstatus 0, 2, 4  as the tool tells\nstatus 1        the words are no call of a tool, or something else is told in a line\n"
 
 -- the line of an option: its letter, its value and what it does
 abbrev pub option_line : ℕ × List ℕ → List ℕ
@@ -95,7 +95,7 @@ called_by (Some Debug) = codes "xfs_db"
 
 -- the version, behind the name
 abbrev pub version_text : Option Tool → List ℕ
-version_text tool = called_by tool ++ codes " version 0.1\n"
+version_text tool = called_by tool ++ codes " version 0.2\n"
 
 -- the rows have just the letters of these options, in their order
 abbrev pub Names : List (ℕ × List ℕ) → List OptionRow → Type 0

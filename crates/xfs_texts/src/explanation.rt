@@ -2,7 +2,7 @@
 //! usually done about it.
 
 ghost use Rattle.std.specs.Prelude.{◌≡◌, ◌≤◌};
-ghost use Rattle.xfs_texts.specs.Explaining.{chain_explained, compared, counter_explained, counter_object, directory_says, explanation, inode_says, law_explained, links_explained, log_explained, lone, part_explained, part_object, records_explained, sequence_explained, space_tree, inode_tree, total_object};
+ghost use Rattle.xfs_texts.specs.Explaining.{advised, chain_explained, compared, counter_explained, counter_object, directory_says, explanation, inode_says, law_explained, links_explained, log_explained, lone, part_explained, part_object, records_explained, sequence_explained, space_tree, inode_tree, total_object};
 ghost use Rattle.xfs_texts.specs.Private.Labels.{explained_as};
 
 use xfs_image::Finding;
@@ -41,10 +41,10 @@ pub(crate) struct Explanation {
 }
 
 /// Of most findings.
-const COPY: &str = "; usually xfs_repair of xfsprogs mends a copy\n";
+const REPAIR: &str = "; usually xfs_repair without -n mends it\n";
 
-/// Of a backup superblock.
-const BACKUP: &str = "; usually xfs_repair without -n writes it anew\n";
+/// Of a finding for which a name may have to change.
+const COPY: &str = "; usually xfs_repair of xfsprogs mends a copy\n";
 
 /// Of the log.
 const LOG: &str = "; usually the volume is mounted once and unmounted, or the log dropped by -L\n";
@@ -77,9 +77,22 @@ fn lone(object: &'static str, place: Piece, says: &'static str, advice: &'static
     }
 }
 
-/// What is held of an object, and what is due.
+/// What is held of an object, and what is due, where a repair mends it.
 fn compared(object: &'static str, place: Piece, held: Piece, due: Piece) -> Explanation
     ensures { explained_as result ≡ compared object.entry.now place held due }
+{
+    advised(object, place, held, due, REPAIR)
+}
+
+/// The same with other advice.
+fn advised(
+    object: &'static str,
+    place: Piece,
+    held: Piece,
+    due: Piece,
+    advice: &'static str,
+) -> Explanation
+    ensures { explained_as result ≡ advised object.entry.now place held due advice.entry.now }
 {
     Explanation {
         object,
@@ -88,7 +101,7 @@ fn compared(object: &'static str, place: Piece, held: Piece, due: Piece) -> Expl
         held,
         between: ", due ",
         due,
-        advice: COPY,
+        advice,
     }
 }
 
@@ -102,7 +115,7 @@ fn part_explained(part: u8, place: u64) -> Explanation
         10 => " does not agree with the primary",
         _ => " does not read",
     };
-    let advice = if part == 10 { BACKUP } else { COPY };
+    let advice = if part == 9 { COPY } else { REPAIR };
     lone(part_object(part), Piece::Count(place as u128), says, advice)
 }
 
@@ -133,7 +146,7 @@ fn law_explained(groups: Option<u32>, law: &Law) -> Explanation
     let held = Piece::Count(law.held);
     let due = Piece::Count(law.due);
     match law.law {
-        1 => compared("owners of block ", place, held, due),
+        1 => advised("owners of block ", place, held, due, COPY),
         2 => records_explained(law),
         3 => records_explained(law),
         4 => records_explained(law),
@@ -321,7 +334,7 @@ fn chain_explained(law: &Law) -> Explanation
         held: Piece::Count(law.held),
         between: " of the group, due none",
         due: Piece::Nothing,
-        advice: COPY,
+        advice: REPAIR,
     }
 }
 
@@ -337,6 +350,6 @@ fn sequence_explained(law: &Law) -> Explanation
         held: Piece::Sequence(law.held),
         between: ", the end ",
         due: Piece::Sequence(law.due),
-        advice: COPY,
+        advice: REPAIR,
     }
 }

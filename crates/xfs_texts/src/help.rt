@@ -32,7 +32,7 @@ struct OptionLine {
 /// How `xfs_repair` is called, and what it does.
 const REPAIR_CALLED: &str = "\
 xfs xfs_repair [-n] [-L] [-e] [-f] [-v] [-w workers] IMAGE
-Checks an XFS volume in an image file, and mends its backup superblocks.
+Checks an XFS volume in an image file, and repairs it.
 
 ";
 
@@ -44,7 +44,7 @@ const REPAIR_ROWS: [OptionLine; 6] = [
     },
     OptionLine {
         letter: b'L',
-        says: "          go on where the log is not clean\n",
+        says: "          go on where the log is not clean, and drop it\n",
     },
     OptionLine {
         letter: b'e',
@@ -187,7 +187,7 @@ const PROGRAM: &str = "\
 xfs TOOL [option]... IMAGE
 Checks, mends, makes and inspects XFS version 5 volumes that are image files. A link to the program with a tool's name is that tool.
 
-  xfs_repair  checks a volume, and mends its backup superblocks
+  xfs_repair  checks a volume, and repairs it
   mkfs.xfs    makes an empty volume
   xfs_db      looks at the objects of a volume, and changes their fields
 
@@ -199,7 +199,7 @@ status 1        the words are no call of a tool, or something else is told in a 
 ";
 
 /// What stands behind a name where the version is told, and the version.
-const VERSION: &str = " version 0.1\n";
+const VERSION: &str = " version 0.2\n";
 
 /// Puts how a tool is called, its options with a line each, and its statuses; `None` is the program without a tool.
 pub fn put_help<S: Sink>(sink: &mut S, tool: Option<Tool>) -> Result<(), Failed>
