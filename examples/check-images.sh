@@ -1,7 +1,7 @@
 #!/usr/bin/env bash
 # Checks images that mkfs.xfs of xfsprogs makes, by `xfs xfs_repair -n`: each must be clean; then, one after another, some
-# dozens of fields are broken by xfs_db of xfsprogs in a copy, and each must be found. Prints what is found of each.
-# Needs xfsprogs and ./xfs.
+# dozens of fields are broken by xfs_db of xfsprogs in a copy. Each must be found and then repaired, where no name has to change:
+# all files are then as they were. Prints what is found of each, and what comes of its repair. Needs xfsprogs and ./xfs.
 #
 #   examples/check-images.sh
 set -eu
@@ -11,6 +11,7 @@ trap 'rm -rf "$work"' EXIT
 failed=0
 
 . "$top/examples/volumes.sh"
+. "$top/examples/salvaged.sh"
 expect() { # NAME PATTERN IMAGE
   local said
   said=$("$top/xfs" xfs_repair -n "$3" 2>&1) || true
@@ -26,6 +27,7 @@ broken() { # FIND FIELD VALUE PATTERN: the field is written in a copy, with its 
   xfs_db -x "${finds[@]}" -c "write -d $2 $3" "$work/broken.img" > "$work/db.log" 2>&1 || true
   if cmp -s "$work/volume.img" "$work/broken.img"; then echo "$1, $2: xfs_db wrote nothing: $(tail -1 "$work/db.log")"; failed=1; return; fi
   expect "$1: $2 = $3" "$4" "$work/broken.img"
+  salvaged "  repaired" "$work/broken.img" "$work/volume.lines"
 }
 
 protofile 5000 > "$work/proto"
@@ -35,6 +37,8 @@ make_image "$work/many.img" 2G '' -d agcount=16
 expect 'an empty volume of 16 groups' clean "$work/many.img"
 make_image "$work/volume.img" 400M "$work/proto"
 expect 'thousands of files, directories of every form' clean "$work/volume.img"
+
+"$top/examples/volume_files.py" "$work/volume.img" > "$work/volume.lines"
 
 inode_of() { xfs_db -r -c "path $1" -c 'print v3.inumber' "$work/volume.img" | sed 's/.*= //'; }
 file=$(inode_of /bytes)

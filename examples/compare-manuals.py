@@ -21,8 +21,8 @@ TOOLS = {"xfs_repair": [("Answers", "answer_of")], "mkfs.xfs": [("Making", "made
          "xfs_db": [("Debugging", "session_answer"), ("Debugging", "line_refusal")]}
 # how the definitions of help name the tools
 HELPED = {"xfs_repair": "repair", "mkfs.xfs": "make", "xfs_db": "debug"}
-# the forms of answers that no call gives today: a repair rebuilds nothing, and nothing but groups is placed
-LATER = {"Repaired": "repaired: blocks=", "NoRoom": ("xfs: no room: directory", "xfs: no room: file", "xfs: no room: chunk", "xfs: no room: lost")}
+# the forms of answers that no call gives today: nothing but groups is placed
+LATER = {"NoRoom": ("xfs: no room: directory", "xfs: no room: file", "xfs: no room: chunk", "xfs: no room: lost")}
 # a number or an identifier in a text
 HOLE = "#"
 TOKEN = re.compile(r'codes\s+"((?:[^"\\]|\\.)*)"|\b(Decimal|Large|Hexadecimal|hyphenated_text)\b|\b([a-z_]+(?:_text|_numbers))\b')

@@ -58,15 +58,22 @@ answer 0 'repaired: backups=1' "$xfs" xfs_repair v.img
 answer 4 'repaired: backups=1' "$xfs" xfs_repair -e again.img
 zeros v.img 0 512 4
 answer 1 'damaged: part 1 at 0' "$xfs" xfs_repair -n v.img
-answer 1 'xfs: unbuilt: 8' "$xfs" xfs_repair v.img
+answer 0 'repaired: blocks=* kept=3 cleared=0 orphans=0' "$xfs" xfs_repair v.img
+answer 0 clean "$xfs" xfs_repair v.img
+# an inode in use that no entry names
+"$xfs" xfs_db -x -c 'inode 131' -c 'write mode 0x8000' -c 'write format 2' v.img > /dev/null
+answer 1 'damaged: law 4 at 0, held *, due *' "$xfs" xfs_repair -n v.img
+answer 1 'xfs: unbuilt: 9' "$xfs" xfs_repair v.img
 volume v.img
 "$xfs" xfs_db -x -c 'agf 0' -c 'write freeblks 5' v.img > /dev/null
 answer 1 'damaged: law 5 at 0, held 5, due *' "$xfs" xfs_repair -n v.img
 answer 1 'xfs: freeblks of the AGF of group 0: held 5, due *; usually * / damaged: law 5 at 0, held 5, due *' "$xfs" xfs_repair -nv v.img
-answer 1 'xfs: freeblks of the AGF of group 0: held 5, due *; usually * / xfs: unbuilt: 8' "$xfs" xfs_repair -v -v v.img
+answer 0 'xfs: freeblks of the AGF of group 0: held 5, due *; usually * / repaired: blocks=* kept=3 cleared=0 orphans=0' "$xfs" xfs_repair -v -v v.img
 volume v.img
 zeros v.img 16390 0 512
 answer 2 'xfs: dirty log' "$xfs" xfs_repair v.img
+answer 0 'repaired: blocks=* kept=3 cleared=0 orphans=0' "$xfs" xfs_repair -L v.img
+answer 0 clean "$xfs" xfs_repair v.img
 truncate -s 128M zeros.img
 answer 1 'xfs: no geometry' "$xfs" xfs_repair zeros.img
 truncate -s 400M theirs.img
