@@ -26,7 +26,7 @@ for crate in $$(sed 's/[ :].*//' $(2)/crates.txt); do mkdir -p $(2)/crates/$$cra
 endef
 
 xfs: crates.txt HANDLES $(SOURCES)
-	@echo "Proving and building $(words $(NEEDED)) crates: about 40 minutes on four processors, a quarter of one where all was proved here before."
+	@echo "Proving and building $(words $(NEEDED)) crates: about 50 minutes on four processors, a quarter of one where all was proved here before."
 	@work=$$(mktemp -d); trap 'kill %1 2> /dev/null || true; wait; rm -rf $$work' EXIT; \
 	$(call COPY,xfs_scan,$$work/chain); $(call COPY,xfs,$$work/all); \
 	(cd $$work/chain; exec $(RT) > log 2>&1) & \
