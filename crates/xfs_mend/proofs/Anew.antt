@@ -15,7 +15,7 @@ use Rattle.xfs_mend.proofs.Rebuilt.{is_rebuilt}
 use Rattle.xfs_mend.specs.Due.{IsOwed}
 use Rattle.xfs_mend.specs.Outcome.{RepairLeaves, StopsBy}
 use Rattle.xfs_mend.specs.Private.Rebuilds.{LeavesAnew, LeavesOfRebuilt, StopsAnew, StopsOfRebuilt}
-use Rattle.xfs_mend.specs.Rebuilding.{IsAnewDue, IsDueRebuild, IsPlanned}
+use Rattle.xfs_mend.specs.Rebuilding.{IsAnewDue, IsDueRebuild, IsPlannedRebuild}
 use Rattle.xfs_mend.specs.declared.outcome.Outcome.{Outcome}
 use Rattle.xfs_mend.specs.declared.outcome.Outcome.TheVariants.{NoGeometry, Unsupported, DirtyLog, TooLarge, UnsupportedFile, Clean, Damaged, Repaired, NoRoom, Unbuilt, ReadFault, WriteFault, NoMemory}
 use Rattle.xfs_mend.specs.declared.outcome.Summary.TheVariants.{Backups, Rebuilt as Anew}
@@ -100,7 +100,7 @@ stops_of_anew planned r image a stopped Before is (inl was) = inl was
 stops_of_anew planned r image a stopped Before is (inr left) = inr (r, is, left)
 
 -- and what a repair of the image leaves, where each of these is planned of it
-pub rebuilt_leaves : (planned : Rebuilt → Type 0) (s : Stamp) (image : Image) (now : Option Image) (a : Outcome) → ((r : Rebuilt) → planned r → IsPlanned s image r)
+pub rebuilt_leaves : (planned : Rebuilt → Type 0) (s : Stamp) (image : Image) (now : Option Image) (a : Outcome) → ((r : Rebuilt) → planned r → IsPlannedRebuild s image r)
     → LeavesAnew planned image now a → RepairLeaves s image now a
 rebuilt_leaves planned s image now (Repaired (Backups count)) plan (r, is, left) = absurd left
 rebuilt_leaves planned s image now (Repaired (Anew blocks kept cleared orphans)) plan (r, is, (holds, counted, same, freed, none)) =
@@ -119,6 +119,6 @@ rebuilt_leaves planned s image now (ReadFault faults) plan left = left
 rebuilt_leaves planned s image now NoMemory plan left = left
 
 pub stops_rebuilt : (planned : Rebuilt → Type 0) (s : Stamp) (image : Image) (a : Outcome) (stopped : Image) (Before : Type 0)
-    → ((r : Rebuilt) → planned r → IsPlanned s image r) → Before ⊎ StopsAnew planned image a stopped → Before ⊎ StopsBy s image a stopped
+    → ((r : Rebuilt) → planned r → IsPlannedRebuild s image r) → Before ⊎ StopsAnew planned image a stopped → Before ⊎ StopsBy s image a stopped
 stops_rebuilt planned s image a stopped Before plan (inl was) = inl was
 stops_rebuilt planned s image a stopped Before plan (inr (r, is, (loud, left))) = inr (loud, inr (record { r = r; plan = plan r is; is = left }))

@@ -28,7 +28,7 @@ use Rattle.xfs_scan.specs.Evidence.{IsEvidence}
 use Rattle.xfs_scan.specs.declared.evidence.Evidence.{Evidence}
 use Rattle.xfs_backups.specs.Backups.{backup_plan, disagrees, first_disagreeing, start_of}
 use Rattle.xfs_mend.specs.Due.{IsAnswer, IsDueBehind, IsDueFound, IsDueRepair, IsDueRepaired, IsDueUnless, IsDueVolume, IsOwed, turned_away}
-use Rattle.xfs_mend.specs.Rebuilding.{IsBackupFound, IsDueRebuild, IsPlanned, is_backup}
+use Rattle.xfs_mend.specs.Rebuilding.{IsBackupFound, IsDueRebuild, IsPlannedRebuild, is_backup}
 use Rattle.xfs_writing.specs.Writing.{Writes}
 use Rattle.xfs_mend.specs.Private.Refusing.{IsAdmission}
 use Rattle.xfs_mend.specs.declared.refusals.Admitted.{Admitted}
@@ -135,7 +135,7 @@ has_backup g image (Found.Part part place) is same backup =
 
 pub is_planned : (g : Geometry) (s : Stamp) (image : Image) (vote : Vote) (found : Finding) (e : Evidence) (r : Rebuilt) → elected image ≡ Ok vote
     → volume_of g ≡ stated_volume vote.sector → Some found ≡ finding broken_law g image → is_backup found ≡ false → IsEvidence g image e
-    → IsRebuildOf g vote.sector s image e r → IsPlanned s image r
+    → IsRebuildOf g vote.sector s image e r → IsPlannedRebuild s image r
 is_planned g s image vote found e r elects stated same other evidence is = record {
   found = found;
   has = record { geometry = g; elected = is_elected g image vote elects stated; is = sym same };

@@ -7,7 +7,7 @@ use Rattle.xfs_writing.specs.Writing.{IsPartly, Writes, written, writes_of_rows}
 use Rattle.xfs_writing.specs.declared.rows.Row.{Row}
 use Rattle.xfs_mend.specs.Outcome.{is_quiet}
 use Rattle.xfs_mend.specs.Private.Rebuilds.{LeavesOfRebuilt, StopsOfRebuilt}
-use Rattle.xfs_mend.specs.Rebuilding.{all_writes}
+use Rattle.xfs_mend.specs.Rebuilding.{rebuild_writes}
 use Rattle.xfs_mend.specs.declared.outcome.Outcome.{Outcome}
 use Rattle.xfs_mend.specs.declared.outcome.Outcome.TheVariants.{Repaired, WriteFault}
 use Rattle.xfs_mend.specs.declared.outcome.Summary.TheVariants.{Rebuilt as Anew}
@@ -15,7 +15,7 @@ use Rattle.xfs_mend.specs.declared.outcome.Summary.TheVariants.{Rebuilt as Anew}
 count_rows : (r : Rebuilt) (first last : List Row) → first ≡ r.fresh → last ≡ r.in_place → length first + length last ≡ length r.fresh + length r.in_place
 count_rows r first last one two = ap₂ (λ (a b : List Row). length a + length b) one two
 
-same_writes : (r : Rebuilt) (first last : List Row) → first ≡ r.fresh → last ≡ r.in_place → writes_of_rows r.bank (first ++ last) ≡ all_writes r
+same_writes : (r : Rebuilt) (first last : List Row) → first ≡ r.fresh → last ≡ r.in_place → writes_of_rows r.bank (first ++ last) ≡ rebuild_writes r
 same_writes r first last one two = ap₂ (λ (a b : List Row). writes_of_rows r.bank (a ++ b)) one two
 
 -- all of it

@@ -84,15 +84,15 @@ IsAnswer o s image (Err fault.NoMemory) outcome = outcome ≡ NoGeometry
 IsAnswer o s image (Ok vote) outcome = IsDueElected o s image outcome
 
 -- how many blocks a repair writes
-abbrev pub blocks_of : Summary → ℕ
-blocks_of (Backups count) = count
-blocks_of (Rebuilt blocks kept cleared orphans) = blocks
+abbrev pub blocks_of_repair : Summary → ℕ
+blocks_of_repair (Backups count) = count
+blocks_of_repair (Rebuilt blocks kept cleared orphans) = blocks
 
 -- The outcome is one of those that are due; a failed read or want of memory may stand in its place, and a failed write in that of a
 -- repair, with no more blocks than those that the repair writes.
 abbrev pub IsOwed : (Outcome → Type 0) → Outcome → Type 0
 IsOwed due (ReadFault faults) = ⊤
-IsOwed due (WriteFault blocks) = (summary : Summary) × (blocks ≤ blocks_of summary) × due (Repaired summary)
+IsOwed due (WriteFault blocks) = (summary : Summary) × (blocks ≤ blocks_of_repair summary) × due (Repaired summary)
 IsOwed due NoMemory = ⊤
 IsOwed due outcome = due outcome
 

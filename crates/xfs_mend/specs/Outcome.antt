@@ -16,7 +16,7 @@ use Rattle.xfs_rebuild.specs.declared.planning.Rebuilt.{Rebuilt}
 use Rattle.xfs_mend.specs.Asked.{Asked}
 use Rattle.xfs_backups.specs.Backups.{with_super, start_of, backup_plan}
 use Rattle.xfs_mend.specs.Due.{IsAnswer, IsDueRepair, IsOwed}
-use Rattle.xfs_mend.specs.Rebuilding.{IsBackupFound, IsPartlyRebuilt, IsPlanned, IsStoppedAnew, all_writes}
+use Rattle.xfs_mend.specs.Rebuilding.{IsBackupFound, IsPartlyRebuilt, IsPlannedRebuild, IsStoppedAnew, rebuild_writes}
 use Rattle.xfs_writing.specs.Writing.{Writes, written, IsPartly}
 use Rattle.xfs_writing.specs.Stopped.{IsStopped}
 use Rattle.xfs_mend.specs.declared.outcome.Outcome.{Outcome}
@@ -77,15 +77,15 @@ pub record IsRepaired (image : Image) (now : Option Image) : Type 0 where
 -- file that was protected is kept, and a further repair writes nothing.
 pub record IsRebuilt (s : Stamp) (image : Image) (now : Option Image) (blocks kept cleared orphans : ℕ) : Type 0 where
   pub r : Rebuilt
-  pub plan : IsPlanned s image r
-  pub is : now ≡ Some (written (all_writes r) image)
+  pub plan : IsPlannedRebuild s image r
+  pub is : now ≡ Some (written (rebuild_writes r) image)
   pub counted : blocks ≡ length r.fresh + length r.in_place
   pub kept' : kept ≡ r.kept
   pub cleared' : cleared ≡ r.cleared
   pub none : orphans ≡ 0
-  pub consistent : IsConsistent broken_law plan.has.geometry (written (all_writes r) image)
-  pub keeps : (ino : ℕ) → Protected (volume_of plan.has.geometry) image ino → Keeps (volume_of plan.has.geometry) image (written (all_writes r) image) ino
-  pub stays : (o : Asked) (t : Stamp) (outcome : Outcome) → IsDueRepair o t (written (all_writes r) image) outcome → is_quiet outcome ≡ true
+  pub consistent : IsConsistent broken_law plan.has.geometry (written (rebuild_writes r) image)
+  pub keeps : (ino : ℕ) → Protected (volume_of plan.has.geometry) image ino → Keeps (volume_of plan.has.geometry) image (written (rebuild_writes r) image) ino
+  pub stays : (o : Asked) (t : Stamp) (outcome : Outcome) → IsDueRepair o t (written (rebuild_writes r) image) outcome → is_quiet outcome ≡ true
 
 -- what the disk holds after an outcome of the plan: the written plan after a repair, a part of it after a
 -- write fault, else what it held

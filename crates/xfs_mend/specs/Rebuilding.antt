@@ -66,7 +66,7 @@ IsDueRebuild g s image outcome = ⊥
 
 -- This is planned of an image in which something else than a backup superblock is found first: the blocks round what is kept of its
 -- evidence that differ from its own. The superblock is the one that it elects.
-pub record IsPlanned (s : Stamp) (image : Image) (r : Rebuilt) : Type 0 where
+pub record IsPlannedRebuild (s : Stamp) (image : Image) (r : Rebuilt) : Type 0 where
   pub found : Finding
   pub has : HasFinding broken_law image found
   pub other : is_backup found ≡ false
@@ -75,8 +75,8 @@ pub record IsPlanned (s : Stamp) (image : Image) (r : Rebuilt) : Type 0 where
   pub is : IsRebuildOf has.geometry has.elected.vote.sector s image e r
 
 -- what is written of it: fresh blocks before those in place, and each of the two
-abbrev pub all_writes : Rebuilt → Writes
-all_writes r = writes_of_rows r.bank (r.fresh ++ r.in_place)
+abbrev pub rebuild_writes : Rebuilt → Writes
+rebuild_writes r = writes_of_rows r.bank (r.fresh ++ r.in_place)
 
 abbrev pub first_writes : Rebuilt → Writes
 first_writes r = writes_of_rows r.bank r.fresh
@@ -91,12 +91,12 @@ IsBackupFound image = (ag : ℕ) × HasFinding broken_law image (Found.Part 10 a
 -- so many blocks of what is planned were written, and perhaps the next one
 pub record IsPartlyRebuilt (s : Stamp) (image : Image) (blocks : ℕ) (now : Option Image) : Type 0 where
   pub r : Rebuilt
-  pub plan : IsPlanned s image r
+  pub plan : IsPlannedRebuild s image r
   pub most : blocks ≤ length r.fresh + length r.in_place
-  pub is : IsPartly (all_writes r) image blocks now
+  pub is : IsPartly (rebuild_writes r) image blocks now
 
 -- a stop while what is planned was written
 pub record IsStoppedAnew (s : Stamp) (image stopped : Image) : Type 0 where
   pub r : Rebuilt
-  pub plan : IsPlanned s image r
+  pub plan : IsPlannedRebuild s image r
   pub is : IsStopped (first_writes r) (last_writes r) image stopped

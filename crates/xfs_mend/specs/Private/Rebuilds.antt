@@ -5,7 +5,7 @@ use Rattle.xfs_rebuild.specs.declared.planning.Rebuilt.{Rebuilt}
 use Rattle.xfs_writing.specs.Stopped.{IsStopped}
 use Rattle.xfs_writing.specs.Writing.{IsPartly, written}
 use Rattle.xfs_mend.specs.Outcome.{is_quiet}
-use Rattle.xfs_mend.specs.Rebuilding.{all_writes, first_writes, last_writes}
+use Rattle.xfs_mend.specs.Rebuilding.{first_writes, last_writes, rebuild_writes}
 use Rattle.xfs_mend.specs.declared.outcome.Outcome.{Outcome}
 use Rattle.xfs_mend.specs.declared.outcome.Outcome.TheVariants.{Repaired, WriteFault}
 use Rattle.xfs_mend.specs.declared.outcome.Summary.TheVariants.{Backups, Rebuilt as Anew}
@@ -14,8 +14,8 @@ use Rattle.xfs_mend.specs.declared.outcome.Summary.TheVariants.{Backups, Rebuilt
 abbrev pub LeavesOfRebuilt : Rebuilt → Image → Option Image → Outcome → Type 0
 LeavesOfRebuilt r image now (Repaired (Backups count)) = ⊥
 LeavesOfRebuilt r image now (Repaired (Anew blocks kept cleared orphans)) =
-    (now ≡ Some (written (all_writes r) image)) × (blocks ≡ length r.fresh + length r.in_place) × (kept ≡ r.kept) × (cleared ≡ r.cleared) × (orphans ≡ 0)
-LeavesOfRebuilt r image now (WriteFault blocks) = (blocks ≤ length r.fresh + length r.in_place) × IsPartly (all_writes r) image blocks now
+    (now ≡ Some (written (rebuild_writes r) image)) × (blocks ≡ length r.fresh + length r.in_place) × (kept ≡ r.kept) × (cleared ≡ r.cleared) × (orphans ≡ 0)
+LeavesOfRebuilt r image now (WriteFault blocks) = (blocks ≤ length r.fresh + length r.in_place) × IsPartly (rebuild_writes r) image blocks now
 LeavesOfRebuilt r image now outcome = ⊥
 
 abbrev pub StopsOfRebuilt : Rebuilt → Image → Outcome → Image → Type 0
