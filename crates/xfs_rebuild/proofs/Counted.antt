@@ -3,7 +3,7 @@ use Rattle.std.proofs.Common.{◌≡◌, ℕ, suc, Bool, true, false, cond, ◌+
 use Rattle.std.specs.List.{insert, prefix_len}
 use Rattle.xfs_volume.specs.declared.directories.DirRec.{DirRec}
 use Rattle.xfs_volume.specs.declared.files.FileRec.{FileRec}
-use Rattle.xfs_rebuild.specs.Names.{with_dir, with_file, with_files}
+use Rattle.xfs_rebuild.specs.Names.{with_dir, with_made_file, with_made_files}
 
 -- behind the first
 behind_first : {X : Type 0} (x y : X) (xs ys : List X) (n : ℕ) → insert xs n y ≡ ys → insert (x ∷ xs) (1 + n) y ≡ x ∷ ys
@@ -11,13 +11,13 @@ behind_first {X = X} x y xs ys n rest =
     let next : 1 + n ≡ suc n = omega arith in
     ap (λ (k : ℕ). insert (x ∷ xs) k y) next ∙ ap (λ (zs : List X). x ∷ zs) rest
 
-pub file_placed : (f : FileRec) (files : List FileRec) → insert files (prefix_len (λ (x : FileRec). nat_lt x.ino f.ino) files) f ≡ with_file f files
+pub file_placed : (f : FileRec) (files : List FileRec) → insert files (prefix_len (λ (x : FileRec). nat_lt x.ino f.ino) files) f ≡ with_made_file f files
 file_placed f [] = refl
 file_placed f (x ∷ files) = by_case (nat_lt x.ino f.ino) (file_placed f files)
   where
-    by_case : (t : Bool) → insert files (prefix_len (λ (x : FileRec). nat_lt x.ino f.ino) files) f ≡ with_file f files
-        → insert (x ∷ files) (cond t (1 + prefix_len (λ (x : FileRec). nat_lt x.ino f.ino) files) 0) f ≡ cond t (x ∷ with_file f files) (f ∷ x ∷ files)
-    by_case true rest = behind_first x f files (with_file f files) (prefix_len (λ (y : FileRec). nat_lt y.ino f.ino) files) rest
+    by_case : (t : Bool) → insert files (prefix_len (λ (x : FileRec). nat_lt x.ino f.ino) files) f ≡ with_made_file f files
+        → insert (x ∷ files) (cond t (1 + prefix_len (λ (x : FileRec). nat_lt x.ino f.ino) files) 0) f ≡ cond t (x ∷ with_made_file f files) (f ∷ x ∷ files)
+    by_case true rest = behind_first x f files (with_made_file f files) (prefix_len (λ (y : FileRec). nat_lt y.ino f.ino) files) rest
     by_case false rest = refl
 
 pub dir_placed : (d : DirRec) (dirs : List DirRec) → insert dirs (prefix_len (λ (x : DirRec). nat_lt x.ino d.ino) dirs) d ≡ with_dir d dirs
@@ -30,6 +30,6 @@ dir_placed d (x ∷ dirs) = by_case (nat_lt x.ino d.ino) (dir_placed d dirs)
     by_case false rest = refl
 
 -- several, one part after the other
-pub files_in_parts : (first rest files : List FileRec) → with_files (first ++ rest) files ≡ with_files rest (with_files first files)
+pub files_in_parts : (first rest files : List FileRec) → with_made_files (first ++ rest) files ≡ with_made_files rest (with_made_files first files)
 files_in_parts [] rest files = refl
-files_in_parts (f ∷ first) rest files = files_in_parts first rest (with_file f files)
+files_in_parts (f ∷ first) rest files = files_in_parts first rest (with_made_file f files)

@@ -37,7 +37,7 @@ use Rattle.xfs_request.specs.Slots.{as_list, attrs_wanted, bare_slot, block_slot
 use Rattle.xfs_request.specs.declared.seen.SlotSeen.{SlotSeen}
 use Rattle.xfs_requested.proofs.Spaced.{AreSpaced, inodes_up, kept_spaced}
 use Rattle.xfs_rebuild.specs.Found.{IsKept}
-use Rattle.xfs_rebuild.specs.Names.{due_dirs, due_files, linked_files, made_files, made_of, new_file, new_root, with_dir, with_files, with_nlink}
+use Rattle.xfs_rebuild.specs.Names.{due_dirs, due_files, linked_files, made_files, made_of, new_file, new_root, with_dir, with_made_files, with_nlink}
 use Rattle.xfs_rebuild.specs.Rebuilds.{Ground, IsGround, slots_asked}
 use Rattle.xfs_rebuild.proofs.Added.{all_named}
 use Rattle.xfs_rebuild.proofs.KeptNames.{kept_named}
@@ -248,7 +248,7 @@ due_of g s kept slots named fresh apart inside =
     let inos : List ℕ = flat_map (cluster_inodes v) kept.clusters in
     let made : List FileRec = flat_map (made_at v s kept slots) inos in
     let free = λ (n : ℕ) (is : is_among kept.fresh n ≡ true). fresh_off kept.files g.rootino n (subst (λ (ns : List ℕ). is_among ns n ≡ true) fresh is) in
-    let all : AreNamed (with_files made (linked_files g.rootino kept)) kept.entries (if is_among (numbers_of made) g.rootino then with_dir (new_root g.rootino) kept.dirs else kept.dirs) =
+    let all : AreNamed (with_made_files made (linked_files g.rootino kept)) kept.entries (if is_among (numbers_of made) g.rootino then with_dir (new_root g.rootino) kept.dirs else kept.dirs) =
     all_named g.rootino (first_in g 0) made (linked_files g.rootino kept) kept.entries kept.dirs (made_up v s kept slots (first_in g 0) inos (inodes_up g 0 kept.clusters apart))
     (λ f is. let new = made_is v s kept slots f is in use_stays due kept.files f.ino ∙ ap (is_in_use kept.files) new.1.number ∙ free new.0 new.1.among)
     (λ f is. let new = made_is v s kept slots f is in new.1.kind ∙ ap (λ (n : ℕ). n == g.rootino) (sym new.1.number))
@@ -256,8 +256,8 @@ due_of g s kept slots named fresh apart inside =
     let root : is_among (numbers_of made) g.rootino ≡ is_among kept.fresh g.rootino =
     one_test (is_among (numbers_of made) g.rootino) (is_among kept.fresh g.rootino) (among_made v s kept slots)
     (λ is. made_among v s kept slots inside (free g.rootino is) is) in
-    subst (λ (fs : List FileRec). AreNamed (with_files fs (linked_files g.rootino kept)) kept.entries (due_dirs g.rootino kept)) (made_are v s kept slots)
-    (subst (λ (t : Bool). AreNamed (with_files made (linked_files g.rootino kept)) kept.entries (if t then with_dir (new_root g.rootino) kept.dirs else kept.dirs)) root all)
+    subst (λ (fs : List FileRec). AreNamed (with_made_files fs (linked_files g.rootino kept)) kept.entries (due_dirs g.rootino kept)) (made_are v s kept slots)
+    (subst (λ (t : Bool). AreNamed (with_made_files made (linked_files g.rootino kept)) kept.entries (if t then with_dir (new_root g.rootino) kept.dirs else kept.dirs)) root all)
 
 -- what is kept of the evidence of an image
 pub due_named : (g : Geometry) (image : Image) (s : Stamp) (e : Evidence) (on : Ground) → IsEvidence g image e → IsGround (volume_of g) e on

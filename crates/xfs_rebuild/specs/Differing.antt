@@ -8,5 +8,5 @@ use Rattle.xfs_writing.specs.declared.rows.Row.{Row}
 abbrev pub differs : Image → Image → Row → Bool
 differs bank image r = not (bytes_eq (bytes_of_block image r.at) (slice_index_or bank r.index []))
 
-abbrev pub left_of : Image → Image → List Row → List Row
-left_of bank image rows = filter (differs bank image) rows
+abbrev pub left_to_write : Image → Image → List Row → List Row
+left_to_write bank image rows = filter (differs bank image) rows

@@ -23,5 +23,5 @@ abbrev pub reserved_of : List GroupTrees → List ℕ
 reserved_of trees = flat_map (λ (t : GroupTrees). t.reserved) trees
 
 -- what is known of the slots of the candidate clusters
-abbrev pub seen_in : Volume → Evidence → List SlotSeen
-seen_in v e = slots_seen v e.clusters e.slots e.bare
+abbrev pub seen_in_evidence : Volume → Evidence → List SlotSeen
+seen_in_evidence v e = slots_seen v e.clusters e.slots e.bare

@@ -38,17 +38,17 @@ abbrev pub made_files : List SlotWanted → List FileRec
 made_files slots = flat_map (λ (w : SlotWanted). made_of w.ino w.base) slots
 
 -- a file among files that stand by number, and several
-abbrev pub with_file : FileRec → List FileRec → List FileRec
-with_file f [] = f ∷ []
-with_file f (other ∷ files) = if nat_lt other.ino f.ino then other ∷ with_file f files else f ∷ other ∷ files
+abbrev pub with_made_file : FileRec → List FileRec → List FileRec
+with_made_file f [] = f ∷ []
+with_made_file f (other ∷ files) = if nat_lt other.ino f.ino then other ∷ with_made_file f files else f ∷ other ∷ files
 
-abbrev pub with_files : List FileRec → List FileRec → List FileRec
-with_files [] files = files
-with_files (f ∷ made) files = with_files made (with_file f files)
+abbrev pub with_made_files : List FileRec → List FileRec → List FileRec
+with_made_files [] files = files
+with_made_files (f ∷ made) files = with_made_files made (with_made_file f files)
 
 -- the files that the volume then has, but for their attributes and checksums, of which no law of names speaks
 unfoldable pub due_files : ℕ → Salvaged → List SlotWanted → List FileRec
-due_files root kept slots = with_files (made_files slots) (linked_files root kept)
+due_files root kept slots = with_made_files (made_files slots) (linked_files root kept)
 
 -- its directories: a root that is made anew is whole, without entries, and its own parent
 abbrev pub with_dir : DirRec → List DirRec → List DirRec

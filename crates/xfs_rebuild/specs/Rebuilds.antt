@@ -25,8 +25,8 @@ use Rattle.xfs_request.specs.Slots.{wanted_slots}
 use Rattle.xfs_request.specs.declared.seen.SlotSeen.{SlotSeen}
 use Rattle.xfs_requested.specs.Handed.{IsKeptOf}
 use Rattle.xfs_rebuild.specs.Bytes.{AreAtHand, AreReadOf}
-use Rattle.xfs_rebuild.specs.Differing.{left_of}
-use Rattle.xfs_rebuild.specs.Found.{IsKept, reserved_of, seen_in}
+use Rattle.xfs_rebuild.specs.Differing.{left_to_write}
+use Rattle.xfs_rebuild.specs.Found.{IsKept, reserved_of, seen_in_evidence}
 use Rattle.xfs_rebuild.specs.Names.{needs_names}
 use Rattle.xfs_rebuild.specs.declared.planning.Rebuilt.{Rebuilt}
 
@@ -60,8 +60,8 @@ pub record AreBytesOf (g : Geometry) (sector : List ℕ) (s : Stamp) (image : Im
 -- the blocks of a plan that the image does not hold already, in the two lists of the plan
 pub record IsLeft (image : Image) (plan : Plan) (r : Rebuilt) : Type 0 where
   pub bank' : r.bank ≡ plan.bank
-  pub fresh' : r.fresh ≡ left_of plan.bank image plan.fresh
-  pub in_place' : r.in_place ≡ left_of plan.bank image plan.in_place
+  pub fresh' : r.fresh ≡ left_to_write plan.bank image plan.fresh
+  pub in_place' : r.in_place ≡ left_to_write plan.bank image plan.in_place
 
 -- what is placed for a request stands, a plan renders it, and what is left of the plan is to be written
 pub record IsPlannedFor (w : Wanted) (b : Bytes) (image : Image) (r : Rebuilt) : Type 0 where
@@ -83,7 +83,7 @@ pub record IsPlannedOn (g : Geometry) (sector : List ℕ) (s : Stamp) (image : I
 -- it is what an evidence gives a rebuild to go by
 pub record IsGround (v : Volume) (e : Evidence) (on : Ground) : Type 0 where
   pub kept' : IsKept v e on.kept
-  pub seen' : on.seen ≡ seen_in v e
+  pub seen' : on.seen ≡ seen_in_evidence v e
   pub reserved' : on.reserved ≡ reserved_of e.trees
   pub log' : on.log ≡ e.log
 

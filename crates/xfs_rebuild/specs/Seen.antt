@@ -13,20 +13,20 @@ use Rattle.xfs_request.specs.declared.seen.SlotState.{SlotState}
 use Rattle.xfs_request.specs.declared.seen.SlotState.TheVariants as State
 
 -- a slot is free; it has a file whose attributes do not read; or it is any other
-abbrev pub state_of : List ℕ → ℕ → SlotReading → SlotState
-state_of bare ino Reading.Free = State.Free
-state_of bare ino Reading.InUse = if is_among bare ino then State.Bare else State.Other
-state_of bare ino Reading.Unsound = State.Other
+abbrev pub state_of_reading : List ℕ → ℕ → SlotReading → SlotState
+state_of_reading bare ino Reading.Free = State.Free
+state_of_reading bare ino Reading.InUse = if is_among bare ino then State.Bare else State.Other
+state_of_reading bare ino Reading.Unsound = State.Other
 
 -- what is known of the slot of an inode, from what was kept of it
-abbrev pub seen_of : List ℕ → ℕ → SlotFact → SlotSeen
-seen_of bare ino fact = record { ino = ino; state = state_of bare ino fact.reading; lsn = fact.lsn }
+abbrev pub seen_of_fact : List ℕ → ℕ → SlotFact → SlotSeen
+seen_of_fact bare ino fact = record { ino = ino; state = state_of_reading bare ino fact.reading; lsn = fact.lsn }
 
 -- the same of some inodes, each with what was kept of its slot
 abbrev pub all_seen : List ℕ → List ℕ → List SlotFact → List SlotSeen
 all_seen bare [] facts = []
 all_seen bare (ino ∷ inos) [] = []
-all_seen bare (ino ∷ inos) (fact ∷ facts) = seen_of bare ino fact ∷ all_seen bare inos facts
+all_seen bare (ino ∷ inos) (fact ∷ facts) = seen_of_fact bare ino fact ∷ all_seen bare inos facts
 
 -- the inodes of some clusters, in order
 unfoldable pub inodes_of_clusters : Volume → List ClusterRec → List ℕ

@@ -7,7 +7,7 @@ ghost use Rattle.xfs_disk.specs.Faults.{HasCause};
 ghost use Rattle.xfs_disk.specs.Reads.{OnlyReads};
 ghost use Rattle.xfs_render.specs.Drafts.{AreInBank};
 ghost use Rattle.xfs_writing.specs.declared.rows.Row.{Row};
-ghost use Rattle.xfs_rebuild.specs.Differing.{differs, left_of};
+ghost use Rattle.xfs_rebuild.specs.Differing.{differs, left_to_write};
 ghost use Rattle.xfs_rebuild.specs.Refusals.{HasRebuildCause, IsReadRefused};
 
 use crate::faults::RebuildFault;
@@ -17,7 +17,7 @@ use xfs_disk::{BLOCK_SIZE, Disk, Failed};
 use xfs_writing::Row;
 
 /// The rows whose blocks the disk does not hold already, in their order. Each block is read once.
-pub(crate) fn left_of<D: Disk>(
+pub(crate) fn left_to_write<D: Disk>(
     alloc: Global,
     disk: &mut D,
     bank: &BlockBank,
@@ -25,7 +25,7 @@ pub(crate) fn left_of<D: Disk>(
 ) -> Result<Vec<Row>, RebuildFault>
     requires inside { All (λ (r : Row). r.at < D.size disk.old) rows.now }
     requires banked { AreInBank rows.now bank.now }
-    ensures left { IfOk result (λ left. ForSome (D.holds disk.old) (λ image. left.items ≡ left_of bank.now image rows.now)) }
+    ensures left { IfOk result (λ left. ForSome (D.holds disk.old) (λ image. left.items ≡ left_to_write bank.now image rows.now)) }
     ensures places { IfOk result (λ left. All (λ (r : Row). r.at < D.size disk.old) left.items) }
     ensures kept { IfOk result (λ left. AreInBank left.items bank.now) }
     ensures refused { IfErr result IsReadRefused }

@@ -9,7 +9,7 @@ ghost use Rattle.xfs_naming.specs.Ordered.{AreLinks};
 ghost use Rattle.xfs_naming.specs.declared.runs.Link.{Link};
 ghost use Rattle.xfs_volume.specs.declared.files.FileRec.{FileRec};
 ghost use Rattle.xfs_request.specs.Slots.{links_due};
-ghost use Rattle.xfs_rebuild.specs.Names.{dirs_with, made_files, made_of, new_file, new_root, with_dir, with_file, with_files, with_nlink};
+ghost use Rattle.xfs_rebuild.specs.Names.{dirs_with, made_files, made_of, new_file, new_root, with_dir, with_made_file, with_made_files, with_nlink};
 
 use std::alloc::Global;
 use xfs_attr::Attrs;
@@ -76,7 +76,7 @@ pub(crate) fn add_made(
     slots: &[SlotWanted],
     files: &mut Vec<FileRec>,
 ) -> Result<(), NoMemory>
-    ensures { OnOk result (files.new.items ≡ with_files (made_files slots.now) files.old.items) }
+    ensures { OnOk result (files.new.items ≡ with_made_files (made_files slots.now) files.old.items) }
 {
     for slot in slots {
         add_made_of(alloc, slot.ino, &slot.base, files)?;
@@ -91,7 +91,7 @@ fn add_made_of(
     base: &SlotBase,
     files: &mut Vec<FileRec>,
 ) -> Result<(), NoMemory>
-    ensures { OnOk result (files.new.items ≡ with_files (made_of ino base.now) files.old.items) }
+    ensures { OnOk result (files.new.items ≡ with_made_files (made_of ino base.now) files.old.items) }
 {
     match base {
         SlotBase::Kept => Ok(()),
@@ -118,7 +118,7 @@ fn new_file(alloc: Global, ino: u64, core: &Core) -> FileRec
 
 /// Adds a file in front of the first that has its number or a higher one.
 fn add_file(file: FileRec, files: &mut Vec<FileRec>) -> Result<(), NoMemory>
-    ensures { OnOk result (files.new.items ≡ with_file file files.old.items) }
+    ensures { OnOk result (files.new.items ≡ with_made_file file files.old.items) }
 {
     let place = place_of(files.as_slice(), file.ino);
     files.insert(place, file)?;

@@ -6,7 +6,7 @@ ghost use Rattle.xfs_naming.specs.Naming.{naming_laws};
 ghost use Rattle.xfs_volume.specs.Laws.{first_broken};
 ghost use Rattle.xfs_volume.specs.declared.files.FileRec.{FileRec};
 ghost use Rattle.xfs_request.specs.Slots.{links_due};
-ghost use Rattle.xfs_rebuild.specs.Names.{made_files, needs_names, with_files, with_nlink};
+ghost use Rattle.xfs_rebuild.specs.Names.{made_files, needs_names, with_made_files, with_nlink};
 
 use crate::due_files::{add_made, all_due, dirs_with, set_links};
 use std::alloc::Global;
@@ -73,7 +73,7 @@ fn due_files(
 ) -> Result<Vec<FileRec>, NoMemory>
     requires { length dues.now ≡ length files.items }
     ensures { (due : FileRec → ℕ) → dues.now ≡ map due files.items
-        → IfOk result (λ all. all.items ≡ with_files (made_files slots.now) (map (λ (f : FileRec). with_nlink f (due f)) files.items)) }
+        → IfOk result (λ all. all.items ≡ with_made_files (made_files slots.now) (map (λ (f : FileRec). with_nlink f (due f)) files.items)) }
 {
     let mut files = files;
     set_links(files.as_mut_slice(), dues);

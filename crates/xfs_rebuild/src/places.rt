@@ -4,7 +4,7 @@ ghost use Rattle.std.specs.Prelude.{◌≡◌, ◌++◌, ◌+◌, ◌<◌, ◌�
 ghost use Rattle.std.specs.List.{All, flat_map, range_with_len};
 ghost use Rattle.xfs_geom.specs.Volumes.{volume_of};
 ghost use Rattle.xfs_image.specs.Slots.{cluster_blocks};
-ghost use Rattle.xfs_rebuild.specs.Places.{first_block, old_places};
+ghost use Rattle.xfs_rebuild.specs.Places.{first_of_group, old_places};
 
 use std::alloc::Global;
 use xfs_disk::NoMemory;
@@ -33,7 +33,7 @@ pub(crate) fn old_places(
 /// Adds the first block of each group.
 fn push_heads(g: &Geometry, places: &mut Vec<u64>) -> Result<(), NoMemory>
     requires low { All (λ place. place < g.now.dblocks) places.old.items }
-    ensures more { OnOk result (places.new.items ≡ places.old.items ++ map (first_block (volume_of g.now)) (range_with_len 0 g.now.agcount)) }
+    ensures more { OnOk result (places.new.items ≡ places.old.items ++ map (first_of_group (volume_of g.now)) (range_with_len 0 g.now.agcount)) }
     ensures low { OnOk result (All (λ place. place < g.now.dblocks) places.new.items) }
 {
     for ag in 0..g.agcount {

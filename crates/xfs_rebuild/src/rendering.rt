@@ -12,7 +12,7 @@ ghost use Rattle.xfs_render.specs.Readiness.{HasBytes, IsWritable};
 ghost use Rattle.xfs_rebuild.specs.Rebuilds.{CanBeWritten, IsLeft, IsPlannedFor};
 ghost use Rattle.xfs_rebuild.specs.Refusals.{HasRebuildCause, IsPlaceRefused, IsReadRefused};
 
-use crate::differing::left_of;
+use crate::differing::left_to_write;
 use crate::faults::RebuildFault;
 use crate::planning::Rebuilt;
 use std::alloc::Global;
@@ -88,11 +88,11 @@ fn leave_equal<D: Disk>(
         in_place,
         bank,
     } = plan;
-    let fresh = match left_of(alloc, disk, &bank, fresh.as_slice()) {
+    let fresh = match left_to_write(alloc, disk, &bank, fresh.as_slice()) {
         Ok(rows) => rows,
         Err(fault) => return Err(fault),
     };
-    let in_place = match left_of(alloc, disk, &bank, in_place.as_slice()) {
+    let in_place = match left_to_write(alloc, disk, &bank, in_place.as_slice()) {
         Ok(rows) => rows,
         Err(fault) => return Err(fault),
     };

@@ -4,7 +4,7 @@ ghost use Rattle.std.specs.Prelude.{◌≡◌, ◌++◌, ◌+◌, ◌<◌, ◌�
 ghost use Rattle.xfs_geom.specs.Volumes.{volume_of};
 ghost use Rattle.xfs_image.specs.Slots.{cluster_inodes, inodes_of_block};
 ghost use Rattle.xfs_naming.specs.Naming.{NumbersAscend};
-ghost use Rattle.xfs_rebuild.specs.Seen.{all_seen, inodes_of_clusters, seen_of, slots_seen, state_of};
+ghost use Rattle.xfs_rebuild.specs.Seen.{all_seen, inodes_of_clusters, seen_of_fact, slots_seen, state_of_reading};
 
 use std::alloc::Global;
 use xfs_disk::NoMemory;
@@ -113,27 +113,27 @@ fn all_seen(
 {
     let mut slots = Vec::new(alloc);
     for i in 0..inodes.len() {
-        slots.push(seen_of(bare, inodes[i], &facts[i]))?;
+        slots.push(seen_of_fact(bare, inodes[i], &facts[i]))?;
     }
     Ok(slots)
 }
 
 /// What is known of the slot of an inode.
-fn seen_of(bare: &[u64], ino: u64, fact: &SlotFact) -> SlotSeen
+fn seen_of_fact(bare: &[u64], ino: u64, fact: &SlotFact) -> SlotSeen
     requires bare { NumbersAscend 0 bare.now }
-    ensures { result ≡ seen_of bare.now ino fact.now }
+    ensures { result ≡ seen_of_fact bare.now ino fact.now }
 {
     SlotSeen {
         ino,
-        state: state_of(bare, ino, fact.reading),
+        state: state_of_reading(bare, ino, fact.reading),
         lsn: fact.lsn,
     }
 }
 
 /// What a slot of an inode reads as, with the blocks that it names.
-fn state_of(bare: &[u64], ino: u64, reading: SlotReading) -> SlotState
+fn state_of_reading(bare: &[u64], ino: u64, reading: SlotReading) -> SlotState
     requires bare { NumbersAscend 0 bare.now }
-    ensures { result ≡ state_of bare.now ino reading }
+    ensures { result ≡ state_of_reading bare.now ino reading }
 {
     match reading {
         SlotReading::Free => SlotState::Free,
@@ -145,7 +145,7 @@ fn state_of(bare: &[u64], ino: u64, reading: SlotReading) -> SlotState
 /// The same of a slot in use.
 fn used_state(bare: &[u64], ino: u64) -> SlotState
     requires bare { NumbersAscend 0 bare.now }
-    ensures { result ≡ state_of bare.now ino SlotReading.InUse }
+    ensures { result ≡ state_of_reading bare.now ino SlotReading.InUse }
 {
     if is_among(bare, ino) {
         SlotState::Bare

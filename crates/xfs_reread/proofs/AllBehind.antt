@@ -22,7 +22,7 @@ use Rattle.xfs_salvage.specs.declared.found.Salvaged.{Salvaged}
 use Rattle.xfs_request.specs.Cycles.{kept_lsns, lsn_listed}
 use Rattle.xfs_request.specs.declared.seen.SlotSeen.{SlotSeen}
 use Rattle.xfs_rebuild.specs.Bytes.{file_lsns}
-use Rattle.xfs_reread.specs.DueFiles.{due_file, due_files, new_file}
+use Rattle.xfs_reread.specs.DueFiles.{due_file, fresh_file, rebuilt_files}
 use Rattle.xfs_reread.specs.Kept.{HasKept}
 use Rattle.xfs_reread.specs.Logs.{IsLogDue, numbers_kept}
 use Rattle.xfs_reread.proofs.DueOwners.{mapped_same, new_nothing}
@@ -31,8 +31,8 @@ use Rattle.xfs_reread.proofs.Heads.{due_clean, number_behind, zero_behind}
 use Rattle.xfs_reread.proofs.SlotLsns.{place_number}
 
 -- a file that is made anew has no place
-no_places : (v : Volume) (s : Stamp) (crc : ℕ → ℕ) (ino : ℕ) → file_places v (new_file v s crc ino) ≡ []
-no_places v s crc ino = by_type (type_of (new_file v s crc ino) == 4) (type_of (new_file v s crc ino) == 10)
+no_places : (v : Volume) (s : Stamp) (crc : ℕ → ℕ) (ino : ℕ) → file_places v (fresh_file v s crc ino) ≡ []
+no_places v s crc ino = by_type (type_of (fresh_file v s crc ino) == 4) (type_of (fresh_file v s crc ino) == 10)
   where
     by_type : (directory link : Bool)
         → (if directory then flat_map (extent_places v dir_byte) [] else if link then flat_map (extent_places v (λ offset. 48)) [] else []) ++ map (at 32) [] ++ flat_map (extent_places v (λ offset. 24)) [] ≡ []
@@ -40,10 +40,10 @@ no_places v s crc ino = by_type (type_of (new_file v s crc ino) == 4) (type_of (
     by_type false true = refl
     by_type false false = refl
 
-due_places : (v : Volume) (s : Stamp) (kept : Salvaged) (seen : List SlotSeen) (crc : ℕ → ℕ) → flat_map (file_places v) (due_files v s kept seen crc) ≡ flat_map (file_places v) kept.files
-unfolding due_files
+due_places : (v : Volume) (s : Stamp) (kept : Salvaged) (seen : List SlotSeen) (crc : ℕ → ℕ) → flat_map (file_places v) (rebuilt_files v s kept seen crc) ≡ flat_map (file_places v) kept.files
+unfolding rebuilt_files
 due_places v s kept seen crc =
-    new_nothing (file_places v) (new_file v s crc) kept.fresh (map (due_file v.rootino kept seen crc) kept.files) (λ ino is. no_places v s crc ino)
+    new_nothing (file_places v) (fresh_file v s crc) kept.fresh (map (due_file v.rootino kept seen crc) kept.files) (λ ino is. no_places v s crc ino)
     ∙ mapped_same (file_places v) (file_places v) (due_file v.rootino kept seen crc) kept.files (λ f is. refl)
 
 module _ (g : Geometry) (s : Stamp) (image now : Image) (kept : Salvaged) (seen : List SlotSeen) (has : HasKept g s image now kept seen)
@@ -75,10 +75,10 @@ module _ (g : Geometry) (s : Stamp) (image now : Image) (kept : Salvaged) (seen 
       kept_is_behind place
       (member_right (lsn_at now place).lsn (flat_map (lsn_listed v kept) seen) (file_lsns v image kept.files) (file_number g s image now kept seen has f.0 place f.1 f.2))
 
-  place_behind : (place : LsnPlace) → Member place (lsn_places (volume_of g) groups (due_files (volume_of g) s kept seen crc)) → IsBehindAt place
+  place_behind : (place : LsnPlace) → Member place (lsn_places (volume_of g) groups (rebuilt_files (volume_of g) s kept seen crc)) → IsBehindAt place
   place_behind place is =
       let v : Volume = volume_of g in
-      let files : List FileRec = due_files v s kept seen crc in
+      let files : List FileRec = rebuilt_files v s kept seen crc in
       let heads_are : List LsnPlace = at 240 0 ∷ groups_places v 0 groups in
       elim (member_either place (heads_are ++ flat_map cluster_places (clusters_of v groups)) (flat_map (file_places v) files) is) [
         | inl front ↦ elim (member_either place heads_are (flat_map cluster_places (clusters_of v groups)) front) [
@@ -88,26 +88,26 @@ module _ (g : Geometry) (s : Stamp) (image now : Image) (kept : Salvaged) (seen 
         | inr file ↦ of_file place (subst (λ (ps : List LsnPlace). Member place ps) (due_places v s kept seen crc) file)
       ]
 
-  each_behind : AllByRecursion (λ (l : BlockLsn). is_behind (head_of after) l.lsn ≡ true) (lsns_read (volume_of g) now groups (due_files (volume_of g) s kept seen crc))
+  each_behind : AllByRecursion (λ (l : BlockLsn). is_behind (head_of after) l.lsn ≡ true) (lsns_read (volume_of g) now groups (rebuilt_files (volume_of g) s kept seen crc))
   unfolding lsns_read
   each_behind =
       let v : Volume = volume_of g in
-      let places : List LsnPlace = lsn_places v groups (due_files v s kept seen crc) in
+      let places : List LsnPlace = lsn_places v groups (rebuilt_files v s kept seen crc) in
       all_members (λ (l : BlockLsn). is_behind (head_of after) l.lsn ≡ true) (map (lsn_at now) (lsn_places_in_order places)) (λ l is.
       let from = map_member (lsn_at now) l (lsn_places_in_order places) is in
       subst (λ (x : BlockLsn). is_behind (head_of after) x.lsn ≡ true) from.2 (place_behind from.0 (of_order from.0 places from.1)))
 
-  pub all_behind : All (λ (l : BlockLsn). is_behind (head_of after) l.lsn ≡ true) (lsns_read (volume_of g) now groups (due_files (volume_of g) s kept seen crc))
+  pub all_behind : All (λ (l : BlockLsn). is_behind (head_of after) l.lsn ≡ true) (lsns_read (volume_of g) now groups (rebuilt_files (volume_of g) s kept seen crc))
   all_behind =
-      All-from_recursion (λ (l : BlockLsn). is_behind (head_of after) l.lsn ≡ true) (lsns_read (volume_of g) now groups (due_files (volume_of g) s kept seen crc)) each_behind
+      All-from_recursion (λ (l : BlockLsn). is_behind (head_of after) l.lsn ≡ true) (lsns_read (volume_of g) now groups (rebuilt_files (volume_of g) s kept seen crc)) each_behind
 
   lsns_keep : (ls : List BlockLsn) → AllByRecursion (λ (l : BlockLsn). is_behind (head_of after) l.lsn ≡ true) ls → AreKept (map (lsn_law (head_of after)) ls)
   lsns_keep [] all = tt
   lsns_keep (l ∷ ls) all = (ap (λ (t : Bool). if t then l.lsn else head_of after) (sym all.0), lsns_keep ls all.1)
 
-  pub log_keeps : AreKept (by_group group_chains 0 groups) → AreKept (log_laws groups after (lsns_read (volume_of g) now groups (due_files (volume_of g) s kept seen crc)))
+  pub log_keeps : AreKept (by_group group_chains 0 groups) → AreKept (log_laws groups after (lsns_read (volume_of g) now groups (rebuilt_files (volume_of g) s kept seen crc)))
   log_keeps chains =
-      let lsns : List BlockLsn = lsns_read (volume_of g) now groups (due_files (volume_of g) s kept seen crc) in
+      let lsns : List BlockLsn = lsns_read (volume_of g) now groups (rebuilt_files (volume_of g) s kept seen crc) in
       let clean : after ≡ Clean (head_of after) = due_clean before after (numbers_kept (volume_of g) image kept seen) due in (
         subst (λ (l : LogState). (log_at l).held ≡ (log_at l).due) (sym clean) refl,
         both_kept (by_group group_chains 0 groups) (map (lsn_law (head_of after)) lsns) chains (lsns_keep lsns each_behind),

@@ -29,7 +29,7 @@ use Rattle.xfs_volume.specs.declared.files.FileRec.{FileRec}
 use Rattle.xfs_request.specs.Fresh.{new_slot, new_root_core, new_root_slot, new_system_core, new_system_slot}
 use Rattle.xfs_request.specs.declared.seen.SlotSeen.{SlotSeen}
 use Rattle.xfs_render.specs.Slots.{IsMadeSlot}
-use Rattle.xfs_reread.specs.DueFiles.{due_dirs, due_file, due_files, new_file, new_root, with_new}
+use Rattle.xfs_reread.specs.DueFiles.{due_file, fresh_file, fresh_root, rebuilt_dirs, rebuilt_files, with_new}
 use Rattle.xfs_reread.specs.Kept.{HasKept}
 use Rattle.xfs_reread.proofs.DirectoriesRead.{kept_dir_same, kept_entries_same}
 use Rattle.xfs_reread.proofs.DueList.{fresh_ascend}
@@ -280,15 +280,15 @@ module _ (g : Geometry) (s : Stamp) (image now : Image) (kept : Salvaged) (seen 
       ∙ ap entries_of_form (root_form_is (subst (λ (n : ℕ). Member n kept.fresh) number is))
   made_entries ino is false other = refl
 
-  new_entries : (ino : ℕ) → Member ino kept.fresh → entries_if (volume_of g) now (new_file (volume_of g) s crc ino) ≡ []
+  new_entries : (ino : ℕ) → Member ino kept.fresh → entries_if (volume_of g) now (fresh_file (volume_of g) s crc ino) ≡ []
   new_entries ino is =
-      ap (λ (es : List EntryRec). if is_directory (new_file (volume_of g) s crc ino) then es else []) (made_entries ino is (ino == g.rootino) refl) ∙ either (is_directory (new_file (volume_of g) s crc ino))
+      ap (λ (es : List EntryRec). if is_directory (fresh_file (volume_of g) s crc ino) then es else []) (made_entries ino is (ino == g.rootino) refl) ∙ either (is_directory (fresh_file (volume_of g) s crc ino))
     where
       either : (t : Bool) → (if t then no_entries else no_entries) ≡ no_entries
       either true = refl
       either false = refl
 
-  new_dir : (ino : ℕ) → Member ino kept.fresh → ino ≡ g.rootino → (t : Bool) → t ≡ true → dir_of (volume_of g) now (made_by t ino) ≡ new_root g.rootino
+  new_dir : (ino : ℕ) → Member ino kept.fresh → ino ≡ g.rootino → (t : Bool) → t ≡ true → dir_of (volume_of g) now (made_by t ino) ≡ fresh_root g.rootino
   unfolding parent_of is_whole short_form
   new_dir ino is number true root =
       let form = root_form_is (subst (λ (n : ℕ). Member n kept.fresh) number is) in
@@ -296,20 +296,20 @@ module _ (g : Geometry) (s : Stamp) (image now : Image) (kept : Salvaged) (seen 
       ∙ ap (λ (o : Option ShortForm). let d : DirRec = record { ino = g.rootino; parent = parent_of_form o; whole = is_some o } in d) form
   new_dir ino is number false root = absurd cc
 
-  new_is_dir : (ino : ℕ) → ino ≡ g.rootino → is_directory (new_file (volume_of g) s crc ino) ≡ true
+  new_is_dir : (ino : ℕ) → ino ≡ g.rootino → is_directory (fresh_file (volume_of g) s crc ino) ≡ true
   new_is_dir ino number = ap (λ (t : Bool). is_directory (made_by t ino)) (eq-eqb ino g.rootino number)
 
-  new_is_other : (ino : ℕ) → (ino ≡ g.rootino → ⊥) → is_directory (new_file (volume_of g) s crc ino) ≡ false
+  new_is_other : (ino : ℕ) → (ino ≡ g.rootino → ⊥) → is_directory (fresh_file (volume_of g) s crc ino) ≡ false
   new_is_other ino other = ap (λ (t : Bool). is_directory (made_by t ino)) (ne_eqb ino g.rootino other)
 
   -- the system inodes are no directories
   others_add_none : (low : ℕ) (ns : List ℕ) (fs : List FileRec) → g.rootino < low → NumbersAscend low ns
-      → map (dir_of (volume_of g) now) (filter is_directory (with_new (map (new_file (volume_of g) s crc) ns) fs)) ≡ map (dir_of (volume_of g) now) (filter is_directory fs)
+      → map (dir_of (volume_of g) now) (filter is_directory (with_new (map (fresh_file (volume_of g) s crc) ns) fs)) ≡ map (dir_of (volume_of g) now) (filter is_directory fs)
   others_add_none low [] fs above up = refl
   others_add_none low (n ∷ ns) fs above up =
       let first = up.0 in
-      others_add_none (n + 1) ns (placed_by_number number (new_file (volume_of g) s crc n) fs) (omega (arith, above, first)) up.1
-      ∙ placed_other (volume_of g) now (new_file (volume_of g) s crc n) fs (new_is_other n (λ same. omega (arith, above, first, same)))
+      others_add_none (n + 1) ns (placed_by_number number (fresh_file (volume_of g) s crc n) fs) (omega (arith, above, first)) up.1
+      ∙ placed_other (volume_of g) now (fresh_file (volume_of g) s crc n) fs (new_is_other n (λ same. omega (arith, above, first, same)))
 
   none_above : (low n : ℕ) (ns : List ℕ) → n < low → NumbersAscend low ns → is_among ns n ≡ false
   none_above low n [] less up = refl
@@ -318,25 +318,25 @@ module _ (g : Geometry) (s : Stamp) (image now : Image) (kept : Salvaged) (seen 
       ap (λ (t : Bool). t || is_among ns n) (ne_eqb m n (λ same. omega (arith, less, first, same))) ∙ none_above (m + 1) n ns (omega (arith, less, first)) up.1
 
   root_adds_one : (ns : List ℕ) (fs : List FileRec) → ((n : ℕ) → Member n ns → Member n kept.fresh) → NumbersAscend g.rootino ns → NumbersAscend 0 (numbers_of fs)
-      → map (dir_of (volume_of g) now) (filter is_directory (with_new (map (new_file (volume_of g) s crc) ns) fs))
-      ≡ (if is_among ns g.rootino then placed_by_number dir_number (new_root g.rootino) (map (dir_of (volume_of g) now) (filter is_directory fs)) else map (dir_of (volume_of g) now) (filter is_directory fs))
+      → map (dir_of (volume_of g) now) (filter is_directory (with_new (map (fresh_file (volume_of g) s crc) ns) fs))
+      ≡ (if is_among ns g.rootino then placed_by_number dir_number (fresh_root g.rootino) (map (dir_of (volume_of g) now) (filter is_directory fs)) else map (dir_of (volume_of g) now) (filter is_directory fs))
   root_adds_one [] fs each up files = refl
   root_adds_one (n ∷ ns) fs each up files =
       let v : Volume = volume_of g in
       elim (cases_eq n g.rootino) [
         | inl same ↦
-            let f : FileRec = new_file v s crc n in
+            let f : FileRec = fresh_file v s crc n in
             let dirs : List DirRec = map (dir_of v now) (filter is_directory fs) in
             others_add_none (n + 1) ns (placed_by_number number f fs) (omega (arith, same)) up.1
             ∙ (placed_dir v now 0 f fs files (new_is_dir n same)
             ∙ (ap (λ (d : DirRec). placed_by_number dir_number d dirs) (new_dir n (each n (inl refl)) same (n == g.rootino) (eq-eqb n g.rootino same))
-            ∙ ap (λ (t : Bool). if t || is_among ns g.rootino then placed_by_number dir_number (new_root g.rootino) dirs else dirs) (sym (eq-eqb n g.rootino same))))
+            ∙ ap (λ (t : Bool). if t || is_among ns g.rootino then placed_by_number dir_number (fresh_root g.rootino) dirs else dirs) (sym (eq-eqb n g.rootino same))))
         | inr other ↦
             let first = up.0 in
             let less : g.rootino < n = strict g.rootino n first (λ is. other (sym is)) in
             let dirs : List DirRec = map (dir_of v now) (filter is_directory fs) in
             others_add_none n (n ∷ ns) fs less (omega arith, up.1)
-            ∙ ap (λ (t : Bool). if t then placed_by_number dir_number (new_root g.rootino) dirs else dirs) (sym (none_above n g.rootino (n ∷ ns) less (omega arith, up.1)))
+            ∙ ap (λ (t : Bool). if t then placed_by_number dir_number (fresh_root g.rootino) dirs else dirs) (sym (none_above n g.rootino (n ∷ ns) less (omega arith, up.1)))
       ]
 
   -- the kept files have the kept entries
@@ -352,14 +352,14 @@ module _ (g : Geometry) (s : Stamp) (image now : Image) (kept : Salvaged) (seen 
   all_ascend = claiming_ascend (volume_of g) 0 (candidate_files (volume_of g) image) (image_can g image).files_claim
 
   pub due_entries : kept.entries ≡ entries_of_kept (volume_of g) (candidates (volume_of g) image) (candidate_files (volume_of g) image) (entries_read (volume_of g) image (candidate_files (volume_of g) image))
-      → entries_read (volume_of g) now (due_files (volume_of g) s kept seen crc) ≡ kept.entries
-  unfolding entries_read directories due_files kept_files
+      → entries_read (volume_of g) now (rebuilt_files (volume_of g) s kept seen crc) ≡ kept.entries
+  unfolding entries_read directories rebuilt_files kept_files
   due_entries are =
       let v : Volume = volume_of g in
       let found : List FileRec = candidate_files v image in
       let test : FileRec → Bool = is_kept_file v (candidates v image) found in
-      file_by_file v now (with_new (map (new_file v s crc) kept.fresh) old_files)
-      ∙ new_nothing (entries_if v now) (new_file v s crc) kept.fresh old_files new_entries
+      file_by_file v now (with_new (map (fresh_file v s crc) kept.fresh) old_files)
+      ∙ new_nothing (entries_if v now) (fresh_file v s crc) kept.fresh old_files new_entries
       ∙ mapped_same (entries_if v now) (entries_if v image) (due_file g.rootino kept seen crc) kept.files old_entries
       ∙ sym (file_by_file v image kept.files)
       ∙ ap (λ (fs : List FileRec). flat_map (entries_of v image) (filter is_directory fs)) kept_by
@@ -379,8 +379,8 @@ module _ (g : Geometry) (s : Stamp) (image now : Image) (kept : Salvaged) (seen 
   dirs_of_old (f ∷ fs) each = dir_listed f fs (each f (inl refl)) (is_directory f) (dirs_of_old fs (λ x is. each x (inr is)))
 
   pub due_dirs_are : kept.dirs ≡ kept_dirs (volume_of g) (candidates (volume_of g) image) (candidate_files (volume_of g) image) (dirs_read (volume_of g) image (candidate_files (volume_of g) image))
-      → dirs_read (volume_of g) now (due_files (volume_of g) s kept seen crc) ≡ due_dirs g.rootino kept
-  unfolding dirs_read directories due_files kept_files
+      → dirs_read (volume_of g) now (rebuilt_files (volume_of g) s kept seen crc) ≡ rebuilt_dirs g.rootino kept
+  unfolding dirs_read directories rebuilt_files kept_files
   due_dirs_are are =
       let v : Volume = volume_of g in
       let found : List FileRec = candidate_files v image in
@@ -392,4 +392,4 @@ module _ (g : Geometry) (s : Stamp) (image now : Image) (kept : Salvaged) (seen 
       ∙ sym are in
       root_adds_one kept.fresh old_files (λ n is. is) (fresh_ascend g s image now kept seen has crc)
       (subst (NumbersAscend 0) (sym (numbers_same kept.files)) (files_ascend g s image now kept seen has))
-      ∙ ap (λ (ds : List DirRec). if is_among kept.fresh g.rootino then placed_by_number dir_number (new_root g.rootino) ds else ds) old
+      ∙ ap (λ (ds : List DirRec). if is_among kept.fresh g.rootino then placed_by_number dir_number (fresh_root g.rootino) ds else ds) old

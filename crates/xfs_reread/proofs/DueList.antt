@@ -25,7 +25,7 @@ use Rattle.xfs_salvage.specs.Kept.{kept_files, own_inodes}
 use Rattle.xfs_salvage.specs.declared.found.Salvaged.{Salvaged}
 use Rattle.xfs_request.specs.declared.seen.SlotSeen.{SlotSeen}
 use Rattle.xfs_requested.proofs.Spaced.{AreSpaced, inodes_up, kept_spaced}
-use Rattle.xfs_reread.specs.DueFiles.{due_file, due_files, kept_inodes, new_file, slot_crc, with_new}
+use Rattle.xfs_reread.specs.DueFiles.{due_file, fresh_file, kept_inodes, rebuilt_files, stated_crc, with_new}
 use Rattle.xfs_reread.specs.Kept.{HasKept}
 use Rattle.xfs_reread.proofs.InKept.{file_inode}
 use Rattle.xfs_reread.proofs.KeptSlots.{files_ascend, kept_file_reads}
@@ -153,7 +153,7 @@ new_up (x ∷ new) fs other up = new_up new (placed_by_number number x fs) (othe
 module _ (v : Volume) (s : Stamp) (kept : Salvaged) (seen : List SlotSeen) (crc : ℕ → ℕ) where
   -- the files of an inode: one that is kept, or one that is made anew, or none
   abbrev pub of_listed : ℕ → List FileRec → List FileRec
-  of_listed ino [] = if is_among kept.fresh ino then new_file v s crc ino ∷ [] else []
+  of_listed ino [] = if is_among kept.fresh ino then fresh_file v s crc ino ∷ [] else []
   of_listed ino (f ∷ fs) = due_file v.rootino kept seen crc f ∷ []
 
   abbrev pub files_of : ℕ → List FileRec
@@ -162,14 +162,14 @@ module _ (v : Volume) (s : Stamp) (kept : Salvaged) (seen : List SlotSeen) (crc 
   files_of_kept : (f : FileRec) → NumbersAscend 0 (numbers_of kept.files) → Member f kept.files → files_of f.ino ≡ due_file v.rootino kept seen crc f ∷ []
   files_of_kept f up is = ap (of_listed f.ino) (one_alone 0 f kept.files up is)
 
-  files_of_other : (ino : ℕ) → is_in_use kept.files ino ≡ false → files_of ino ≡ (if is_among kept.fresh ino then new_file v s crc ino ∷ [] else [])
+  files_of_other : (ino : ℕ) → is_in_use kept.files ino ≡ false → files_of ino ≡ (if is_among kept.fresh ino then fresh_file v s crc ino ∷ [] else [])
   files_of_other ino none = ap (of_listed ino) (none_found ino kept.files none)
 
   -- each has the number of the inode
   listed_number : (ino : ℕ) (fs : List FileRec) → AllByRecursion (λ (f : FileRec). f.ino ≡ ino) fs → AllByRecursion (λ f. number f ≡ ino) (of_listed ino fs)
   listed_number ino [] all = by_case (is_among kept.fresh ino)
     where
-      by_case : (t : Bool) → AllByRecursion (λ f. number f ≡ ino) (if t then new_file v s crc ino ∷ [] else [])
+      by_case : (t : Bool) → AllByRecursion (λ f. number f ≡ ino) (if t then fresh_file v s crc ino ∷ [] else [])
       by_case true = (refl, tt)
       by_case false = tt
   listed_number ino (f ∷ fs) all = (all.0, tt)
@@ -182,7 +182,7 @@ module _ (v : Volume) (s : Stamp) (kept : Salvaged) (seen : List SlotSeen) (crc 
   one_at_most : (ino : ℕ) (fs : List FileRec) → Ascend number (of_listed ino fs)
   one_at_most ino [] = by_case (is_among kept.fresh ino)
     where
-      by_case : (t : Bool) → Ascend number (if t then new_file v s crc ino ∷ [] else [])
+      by_case : (t : Bool) → Ascend number (if t then fresh_file v s crc ino ∷ [] else [])
       by_case true = (tt, tt)
       by_case false = tt
   one_at_most ino (f ∷ fs) = (tt, tt)
@@ -219,21 +219,21 @@ module _ (g : Geometry) (s : Stamp) (image now : Image) (kept : Salvaged) (seen 
   old_files = map (due_file g.rootino kept seen crc) kept.files
 
   abbrev new_files : List FileRec
-  new_files = map (new_file (volume_of g) s crc) kept.fresh
+  new_files = map (fresh_file (volume_of g) s crc) kept.fresh
 
   used : (f : FileRec) → Member f kept.files → is_in_use kept.files f.ino ≡ true
   used f is = member_any (λ (x : FileRec). x.ino == f.ino) f kept.files is (eq-eqb f.ino f.ino refl)
 
-  to_flat : (f : FileRec) → Member f (due_files (volume_of g) s kept seen crc) → Member f (flat_map (files_of (volume_of g) s kept seen crc) (kept_inodes (volume_of g) kept))
-  unfolding due_files
+  to_flat : (f : FileRec) → Member f (rebuilt_files (volume_of g) s kept seen crc) → Member f (flat_map (files_of (volume_of g) s kept seen crc) (kept_inodes (volume_of g) kept))
+  unfolding rebuilt_files
   to_flat f is =
       let v : Volume = volume_of g in
       elim (has_new f new_files old_files is) [
         | inl new ↦
-            let from = map_member (new_file v s crc) f kept.fresh new in
+            let from = map_member (fresh_file v s crc) f kept.fresh new in
             let anew : is_among kept.fresh from.0 ≡ true = member_any (λ m. m == from.0) from.0 kept.fresh from.1 (eq-eqb from.0 from.0 refl) in
-            let listed : files_of v s kept seen crc from.0 ≡ new_file v s crc from.0 ∷ [] =
-            files_of_other v s kept seen crc from.0 (fresh_unused g s image now kept seen has from.0 from.1) ∙ ap (λ (t : Bool). if t then new_file v s crc from.0 ∷ [] else []) anew in
+            let listed : files_of v s kept seen crc from.0 ≡ fresh_file v s crc from.0 ∷ [] =
+            files_of_other v s kept seen crc from.0 (fresh_unused g s image now kept seen has from.0 from.1) ∙ ap (λ (t : Bool). if t then fresh_file v s crc from.0 ∷ [] else []) anew in
             member_flat (files_of v s kept seen crc) from.0 f (kept_inodes v kept) (fresh_inode g s image now kept seen has from.0 from.1)
             (subst (λ (fs : List FileRec). Member f fs) (sym listed) (inl from.2))
         | inr old ↦
@@ -243,19 +243,19 @@ module _ (g : Geometry) (s : Stamp) (image now : Image) (kept : Salvaged) (seen 
             (subst (λ (fs : List FileRec). Member f fs) (sym listed) (inl from.2))
       ]
 
-  of_flat : (f : FileRec) → Member f (flat_map (files_of (volume_of g) s kept seen crc) (kept_inodes (volume_of g) kept)) → Member f (due_files (volume_of g) s kept seen crc)
-  unfolding due_files
+  of_flat : (f : FileRec) → Member f (flat_map (files_of (volume_of g) s kept seen crc) (kept_inodes (volume_of g) kept)) → Member f (rebuilt_files (volume_of g) s kept seen crc)
+  unfolding rebuilt_files
   of_flat f is =
       let v : Volume = volume_of g in
       let from = flat_member (files_of v s kept seen crc) f (kept_inodes v kept) is in
       by_files from.0 (filter (λ (x : FileRec). x.ino == from.0) kept.files) (λ x among. (filter_member (λ (y : FileRec). y.ino == from.0) x kept.files among).0) from.2
     where
-      by_fresh : (ino : ℕ) (t : Bool) → is_among kept.fresh ino ≡ t → Member f (if t then new_file (volume_of g) s crc ino ∷ [] else []) → Member f (with_new new_files old_files)
+      by_fresh : (ino : ℕ) (t : Bool) → is_among kept.fresh ino ≡ t → Member f (if t then fresh_file (volume_of g) s crc ino ∷ [] else []) → Member f (with_new new_files old_files)
       by_fresh ino true anew at =
           let one = any_member (λ m. m == ino) kept.fresh anew in
           let among : Member ino kept.fresh = subst (λ (n : ℕ). Member n kept.fresh) (eqb-true one.0 ino one.2) one.1 in
           elim at [
-            | inl same ↦ new_has f new_files old_files (inl (subst (λ (x : FileRec). Member x new_files) same (member_map (new_file (volume_of g) s crc) ino kept.fresh among)))
+            | inl same ↦ new_has f new_files old_files (inl (subst (λ (x : FileRec). Member x new_files) same (member_map (fresh_file (volume_of g) s crc) ino kept.fresh among)))
             | inr none ↦ absurd none
           ]
       by_fresh ino false anew at = absurd at
@@ -285,7 +285,7 @@ module _ (g : Geometry) (s : Stamp) (image now : Image) (kept : Salvaged) (seen 
       ((above, rest.0), (first, each_least low f.ino (map (due_file g.rootino kept seen crc) fs) first above))
 
   -- the fresh ones differ
-  fresh_differ : (ns : List ℕ) → ((n : ℕ) → Member n ns → Member n kept.fresh) → (low : ℕ) → NumbersAscend low ns → AreOther (map (new_file (volume_of g) s crc) ns) old_files
+  fresh_differ : (ns : List ℕ) → ((n : ℕ) → Member n ns → Member n kept.fresh) → (low : ℕ) → NumbersAscend low ns → AreOther (map (fresh_file (volume_of g) s crc) ns) old_files
   fresh_differ [] each low up = tt
   fresh_differ (n ∷ ns) each low up = (
     λ f is same.
@@ -294,7 +294,7 @@ module _ (g : Geometry) (s : Stamp) (image now : Image) (kept : Salvaged) (seen 
         let unused = fresh_unused g s image now kept seen has n (each n (inl refl)) in
         both_ways (is_in_use kept.files n) unused (subst (λ (k : ℕ). is_in_use kept.files k ≡ true) number_is (used from.0 from.1)),
     λ f is same.
-        let from = map_member (new_file (volume_of g) s crc) f ns is in
+        let from = map_member (fresh_file (volume_of g) s crc) f ns is in
         let number_is : from.0 ≡ n = ap number from.2 ∙ same in
         let above = number_least (n + 1) from.0 ns up.1 from.1 in
         absurd (omega (arith, number_is, above)),
@@ -307,8 +307,8 @@ module _ (g : Geometry) (s : Stamp) (image now : Image) (kept : Salvaged) (seen 
       (some_up (λ n. not (is_in_use (kept_files (volume_of g) (candidates (volume_of g) image) (candidate_files (volume_of g) image)) n)) g.rootino (own_inodes g.rootino)
       (omega arith, (omega arith, (omega arith, tt))))
 
-  pub due_is : due_files (volume_of g) s kept seen crc ≡ flat_map (files_of (volume_of g) s kept seen crc) (kept_inodes (volume_of g) kept)
-  unfolding due_files
+  pub due_is : rebuilt_files (volume_of g) s kept seen crc ≡ flat_map (files_of (volume_of g) s kept seen crc) (kept_inodes (volume_of g) kept)
+  unfolding rebuilt_files
   due_is =
       let v : Volume = volume_of g in
       let due : List FileRec = with_new new_files old_files in
@@ -322,7 +322,7 @@ module _ (g : Geometry) (s : Stamp) (image now : Image) (kept : Salvaged) (seen 
 -- what the slots of some inodes read as, one by one
 module _ (g : Geometry) (s : Stamp) (image now : Image) (kept : Salvaged) (seen : List SlotSeen) (has : HasKept g s image now kept seen) where
   abbrev crc_now : ℕ → ℕ
-  crc_now = slot_crc (volume_of g) now
+  crc_now = stated_crc (volume_of g) now
 
   -- a slot reads as one of no file, or of the one
   slot_step : (ino : ℕ) (rest : List FileRec) → Member ino (kept_inodes (volume_of g) kept)
@@ -339,11 +339,11 @@ module _ (g : Geometry) (s : Stamp) (image now : Image) (kept : Salvaged) (seen 
           let v : Volume = volume_of g in
           let one = any_member (λ m. m == ino) kept.fresh anew in
           let among : Member ino kept.fresh = subst (λ (n : ℕ). Member n kept.fresh) (eqb-true one.0 ino one.2) one.1 in
-          found Reads.Free (new_file v s crc_now ino) (fresh_reads g s image now kept seen has ino among)
-          (files_of_other v s kept seen crc_now ino none ∙ ap (λ (t : Bool). if t then new_file v s crc_now ino ∷ [] else []) anew)
+          found Reads.Free (fresh_file v s crc_now ino) (fresh_reads g s image now kept seen has ino among)
+          (files_of_other v s kept seen crc_now ino none ∙ ap (λ (t : Bool). if t then fresh_file v s crc_now ino ∷ [] else []) anew)
       by_fresh none false old =
           let v : Volume = volume_of g in
-          let are : files_of v s kept seen crc_now ino ≡ [] = files_of_other v s kept seen crc_now ino none ∙ ap (λ (t : Bool). if t then new_file v s crc_now ino ∷ [] else []) old in
+          let are : files_of v s kept seen crc_now ino ≡ [] = files_of_other v s kept seen crc_now ino none ∙ ap (λ (t : Bool). if t then fresh_file v s crc_now ino ∷ [] else []) old in
           ap (λ (r : FileRead). with_file_read ino r (Ok rest)) (free_slot_reads g s image now kept seen has ino is none old) ∙ ap (λ (fs : List FileRec). Ok (fs ++ rest)) (sym are)
 
       by_use : (t : Bool) → is_in_use kept.files ino ≡ t → with_file_read ino (reads_as (volume_of g) now ino) (Ok rest) ≡ Ok (files_of (volume_of g) s kept seen crc_now ino ++ rest)
@@ -364,7 +364,7 @@ module _ (g : Geometry) (s : Stamp) (image now : Image) (kept : Salvaged) (seen 
       ∙ slot_step ino (flat_map (files_of (volume_of g) s kept seen crc_now) inos) (each ino (inl refl))
 
   pub files_are : (groups : List GroupRec) → inodes_of (volume_of g) groups ≡ kept_inodes (volume_of g) kept
-      → files_read (volume_of g) now groups ≡ Ok (due_files (volume_of g) s kept seen crc_now)
+      → files_read (volume_of g) now groups ≡ Ok (rebuilt_files (volume_of g) s kept seen crc_now)
   unfolding files_read
   files_are groups inodes =
       ap (files_at (volume_of g) now) inodes

@@ -13,7 +13,7 @@ use Rattle.xfs_protected.proofs.Members.{Member}
 use Rattle.xfs_salvage.specs.declared.found.Salvaged.{Salvaged}
 use Rattle.xfs_request.specs.Chunks.{is_inode_used}
 use Rattle.xfs_request.specs.declared.seen.SlotSeen.{SlotSeen}
-use Rattle.xfs_reread.specs.DueFiles.{due_file, due_files, new_file, with_new}
+use Rattle.xfs_reread.specs.DueFiles.{due_file, fresh_file, rebuilt_files, with_new}
 
 abbrev number : FileRec → ℕ
 number f = f.ino
@@ -36,10 +36,10 @@ pub mapped_same : {X Y Z : Type 0} (f : Z → List X) (k : Y → List X) (h : Y 
 mapped_same f k h [] same = refl
 mapped_same {X} f k h (y ∷ ys) same = ap₂ (λ (front rest : List X). front ++ rest) (same y (inl refl)) (mapped_same f k h ys (λ z is. same z (inr is)))
 
-pub due_runs : (v : Volume) (s : Stamp) (kept : Salvaged) (seen : List SlotSeen) (crc : ℕ → ℕ) → flat_map (file_runs v) (due_files v s kept seen crc) ≡ flat_map (file_runs v) kept.files
-unfolding due_files
+pub due_runs : (v : Volume) (s : Stamp) (kept : Salvaged) (seen : List SlotSeen) (crc : ℕ → ℕ) → flat_map (file_runs v) (rebuilt_files v s kept seen crc) ≡ flat_map (file_runs v) kept.files
+unfolding rebuilt_files
 due_runs v s kept seen crc =
-    new_nothing (file_runs v) (new_file v s crc) kept.fresh (map (due_file v.rootino kept seen crc) kept.files) (λ ino is. refl)
+    new_nothing (file_runs v) (fresh_file v s crc) kept.fresh (map (due_file v.rootino kept seen crc) kept.files) (λ ino is. refl)
     ∙ mapped_same (file_runs v) (file_runs v) (due_file v.rootino kept seen crc) kept.files (λ f is. refl)
 
 -- the numbers
@@ -62,22 +62,22 @@ placed_used ino x (y ∷ fs) = by_case (nat_lt y.ino x.ino) (placed_used ino x f
     by_case true rest = ap (λ (t : Bool). (y.ino == ino) || t) rest ∙ swapped (y.ino == ino) (x.ino == ino) (is_used fs ino)
     by_case false rest = refl
 
-new_used : (v : Volume) (s : Stamp) (crc : ℕ → ℕ) (ino : ℕ) (ns : List ℕ) (fs : List FileRec) → is_used (with_new (map (new_file v s crc) ns) fs) ino ≡ (is_used fs ino || is_among ns ino)
+new_used : (v : Volume) (s : Stamp) (crc : ℕ → ℕ) (ino : ℕ) (ns : List ℕ) (fs : List FileRec) → is_used (with_new (map (fresh_file v s crc) ns) fs) ino ≡ (is_used fs ino || is_among ns ino)
 new_used v s crc ino [] fs = none (is_used fs ino)
   where
     none : (t : Bool) → t ≡ (t || false)
     none true = refl
     none false = refl
 new_used v s crc ino (n ∷ ns) fs =
-    new_used v s crc ino ns (placed_by_number number (new_file v s crc n) fs)
-    ∙ (ap (λ (t : Bool). t || is_among ns ino) (placed_used ino (new_file v s crc n) fs) ∙ either_way (n == ino) (is_used fs ino) (is_among ns ino))
+    new_used v s crc ino ns (placed_by_number number (fresh_file v s crc n) fs)
+    ∙ (ap (λ (t : Bool). t || is_among ns ino) (placed_used ino (fresh_file v s crc n) fs) ∙ either_way (n == ino) (is_used fs ino) (is_among ns ino))
 
 old_used : (root : ℕ) (kept : Salvaged) (seen : List SlotSeen) (crc : ℕ → ℕ) (ino : ℕ) (fs : List FileRec) → is_used (map (due_file root kept seen crc) fs) ino ≡ is_in_use fs ino
 old_used root kept seen crc ino [] = refl
 old_used root kept seen crc ino (f ∷ fs) = ap (λ (t : Bool). (f.ino == ino) || t) (old_used root kept seen crc ino fs)
 
-pub due_used : (v : Volume) (s : Stamp) (kept : Salvaged) (seen : List SlotSeen) (crc : ℕ → ℕ) (ino : ℕ) → is_used (due_files v s kept seen crc) ino ≡ is_inode_used kept ino
-unfolding due_files
+pub due_used : (v : Volume) (s : Stamp) (kept : Salvaged) (seen : List SlotSeen) (crc : ℕ → ℕ) (ino : ℕ) → is_used (rebuilt_files v s kept seen crc) ino ≡ is_inode_used kept ino
+unfolding rebuilt_files
 due_used v s kept seen crc ino =
     new_used v s crc ino kept.fresh (map (due_file v.rootino kept seen crc) kept.files)
     ∙ ap (λ (t : Bool). t || is_among kept.fresh ino) (old_used v.rootino kept seen crc ino kept.files)

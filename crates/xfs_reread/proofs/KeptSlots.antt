@@ -33,7 +33,7 @@ use Rattle.xfs_request.specs.Slots.{attrs_wanted, file_slot, is_bare, kept_slot,
 use Rattle.xfs_request.specs.declared.seen.SlotSeen.{SlotSeen}
 use Rattle.xfs_request.specs.declared.seen.SlotState.{SlotState}
 use Rattle.xfs_request.specs.declared.seen.SlotState.TheVariants as State
-use Rattle.xfs_reread.specs.DueFiles.{due_core, due_file, kept_inodes, linked_core, plain_core, slot_crc}
+use Rattle.xfs_reread.specs.DueFiles.{due_core, due_file, kept_inodes, linked_core, plain_core, stated_crc}
 use Rattle.xfs_reread.specs.Kept.{HasKept, state_read}
 use Rattle.xfs_reread.proofs.Changes.{drops_read, links_read, with_core}
 use Rattle.xfs_reread.proofs.InKept.{file_inode, kept_read}
@@ -135,7 +135,7 @@ module _ (g : Geometry) (s : Stamp) (image now : Image) (kept : Salvaged) (seen 
 
   -- a file with its attributes
   whole_reads : (f : FileRec) → Member f kept.files → reads_as (volume_of g) image f.ino ≡ Reads.File f
-      → reads_as (volume_of g) now f.ino ≡ Reads.File (due_file g.rootino kept seen (slot_crc (volume_of g) now) f)
+      → reads_as (volume_of g) now f.ino ≡ Reads.File (due_file g.rootino kept seen (stated_crc (volume_of g) now) f)
   unfolding reads_as
   whole_reads f is reads =
       let v : Volume = volume_of g in
@@ -151,7 +151,7 @@ module _ (g : Geometry) (s : Stamp) (image now : Image) (kept : Salvaged) (seen 
 
   -- a file that lost its attributes
   bare_reads : (f : FileRec) → Member f kept.files → reads_as (volume_of g) image f.ino ≡ Reads.FileWithoutAttrs f
-      → reads_as (volume_of g) now f.ino ≡ Reads.File (due_file g.rootino kept seen (slot_crc (volume_of g) now) f)
+      → reads_as (volume_of g) now f.ino ≡ Reads.File (due_file g.rootino kept seen (stated_crc (volume_of g) now) f)
   unfolding reads_as
   bare_reads f is reads =
       let v : Volume = volume_of g in
@@ -168,7 +168,7 @@ module _ (g : Geometry) (s : Stamp) (image now : Image) (kept : Salvaged) (seen 
       linked_reads v now f.ino (links f) made.bare new plain made.linked here
       ∙ ap (λ (st : SlotState). Reads.File (with_core f (due_core (is_bare st) (own_blocks f) (links f) (little_field_of new 100 4) f.core))) (sym state)
 
-  pub kept_file_reads : (f : FileRec) → Member f kept.files → reads_as (volume_of g) now f.ino ≡ Reads.File (due_file g.rootino kept seen (slot_crc (volume_of g) now) f)
+  pub kept_file_reads : (f : FileRec) → Member f kept.files → reads_as (volume_of g) now f.ino ≡ Reads.File (due_file g.rootino kept seen (stated_crc (volume_of g) now) f)
   kept_file_reads f is =
       elim (kept_read g image kept has.of f is).reads [
         | inl whole ↦ whole_reads f is whole

@@ -26,7 +26,7 @@ use Rattle.xfs_salvage.specs.declared.found.Salvaged.{Salvaged}
 use Rattle.xfs_request.specs.Fresh.{new_slot, new_root_core, new_root_slot, new_system_core, new_system_slot}
 use Rattle.xfs_request.specs.Slots.{bare_slot, freed_slot, is_free, state_at}
 use Rattle.xfs_request.specs.declared.seen.SlotSeen.{SlotSeen}
-use Rattle.xfs_reread.specs.DueFiles.{kept_inodes, new_file, slot_crc}
+use Rattle.xfs_reread.specs.DueFiles.{fresh_file, kept_inodes, stated_crc}
 use Rattle.xfs_reread.specs.Kept.{HasKept, state_read}
 use Rattle.xfs_reread.proofs.Fresh.{freed_reads, made_root, root_made_reads, system_made_reads}
 use Rattle.xfs_reread.proofs.InKept.{of_kept}
@@ -136,22 +136,22 @@ module _ (g : Geometry) (s : Stamp) (image now : Image) (kept : Salvaged) (seen 
   -- a slot that is made anew
   new_is : (ino : ℕ) (t : Bool) → (ino == g.rootino) ≡ t
       → IsMadeSlot (volume_of g) s.generation (if t then new_root_slot (volume_of g) s else new_system_slot (volume_of g) s ino) (slot_bytes (volume_of g) image ino) (slot_bytes (volume_of g) now ino)
-      → reads_as (volume_of g) now ino ≡ Reads.File (new_file (volume_of g) s (slot_crc (volume_of g) now) ino)
+      → reads_as (volume_of g) now ino ≡ Reads.File (fresh_file (volume_of g) s (stated_crc (volume_of g) now) ino)
   unfolding reads_as
   new_is ino true root made =
       let v : Volume = volume_of g in
       let r : ℕ = g.rootino in
-      let crc : ℕ = slot_crc v now r in
+      let crc : ℕ = stated_crc v now r in
       let number : ino ≡ r = eqb-true ino r root in
       let at_root : IsMadeSlot v s.generation (new_root_slot v s) (slot_bytes v image ino) (slot_bytes v now r) =
       subst (λ (n : ℕ). IsMadeSlot v s.generation (new_root_slot v s) (slot_bytes v image ino) (slot_bytes v now n)) number made in
       ap (reads_as v now) number
       ∙ root_made_reads v s now (slot_bytes v now r) (made_root v s s.generation (slot_bytes v image ino) (slot_bytes v now r) (low_root g) at_root)
       ∙ ap (λ (t : Bool). Reads.File (made_file r (if t then new_root_core v s else new_system_core v s r) crc)) (sym (eq-eqb r r refl))
-      ∙ ap (λ (n : ℕ). Reads.File (new_file v s (slot_crc v now) n)) (sym number)
+      ∙ ap (λ (n : ℕ). Reads.File (fresh_file v s (stated_crc v now) n)) (sym number)
   new_is ino false other made =
       let v : Volume = volume_of g in
-      let crc : ℕ = slot_crc v now ino in
+      let crc : ℕ = stated_crc v now ino in
       system_made_reads v s now s.generation ino (slot_bytes v image ino) (slot_bytes v now ino) made
       ∙ ap (λ (t : Bool). Reads.File (made_file ino (if t then new_root_core v s else new_system_core v s ino) crc)) (sym other)
 
@@ -162,5 +162,5 @@ module _ (g : Geometry) (s : Stamp) (image now : Image) (kept : Salvaged) (seen 
       subst (λ (t : Bool). MatchOption (if t then Some (new_slot v s ino) else (if is_free (state_at seen ino) then None else Some (freed_slot ino))) (slot_bytes v now ino ≡ slot_bytes v image ino)
       (λ w. IsMadeSlot v s.generation w (slot_bytes v image ino) (slot_bytes v now ino))) anew (other_due ino (fresh_inode ino is) (fresh_unused ino is))
 
-  pub fresh_reads : (ino : ℕ) → Member ino kept.fresh → reads_as (volume_of g) now ino ≡ Reads.File (new_file (volume_of g) s (slot_crc (volume_of g) now) ino)
+  pub fresh_reads : (ino : ℕ) → Member ino kept.fresh → reads_as (volume_of g) now ino ≡ Reads.File (fresh_file (volume_of g) s (stated_crc (volume_of g) now) ino)
   fresh_reads ino is = new_is ino (ino == g.rootino) refl (fresh_made ino is)

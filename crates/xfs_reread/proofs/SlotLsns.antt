@@ -30,7 +30,7 @@ use Rattle.xfs_request.specs.Fresh.{new_slot, new_root_slot, new_system_slot}
 use Rattle.xfs_request.specs.Slots.{attrs_wanted, freed_slot, is_free, links_due, nlink_wanted, state_at}
 use Rattle.xfs_request.specs.declared.seen.SlotSeen.{SlotSeen}
 use Rattle.xfs_reread.specs.DueFiles.{kept_inodes}
-use Rattle.xfs_reread.specs.Kept.{HasKept, all_seen, slot_seen}
+use Rattle.xfs_reread.specs.Kept.{HasKept, all_slots_seen, slot_seen}
 use Rattle.xfs_reread.proofs.Fresh.{freed_states, made_root, system_states}
 use Rattle.xfs_reread.proofs.InKept.{IsOfKept, cluster_placed, of_kept}
 use Rattle.xfs_reread.proofs.KeptSlots.{AreChanges, file_changes, state_known}
@@ -69,7 +69,7 @@ module _ (g : Geometry) (s : Stamp) (image now : Image) (kept : Salvaged) (seen 
   -- a number that stays is one of those that are kept
   stays_among : (ino : ℕ) (lsns : List ℕ) → Member ino (kept_inodes (volume_of g) kept) → (is_in_use kept.files ino || (is_free (slot_seen (volume_of g) image ino).state && not (is_among kept.fresh ino))) ≡ true
       → Member (slot_lsn (slot_bytes (volume_of g) image ino)) (kept_lsns (volume_of g) kept seen lsns)
-  unfolding kept_lsns all_seen
+  unfolding kept_lsns all_slots_seen
   stays_among ino lsns is stays =
       let v : Volume = volume_of g in
       let of : IsOfKept g image kept has.of ino = of_kept g image kept has.of ino is in

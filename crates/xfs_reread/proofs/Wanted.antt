@@ -18,7 +18,7 @@ use Rattle.xfs_request.specs.Slots.{as_list, bare_slot, block_slots, cluster_slo
 use Rattle.xfs_request.specs.declared.seen.SlotSeen.{SlotSeen}
 use Rattle.xfs_requested.proofs.Spaced.{IsOf, wanted_of_ino}
 use Rattle.xfs_reread.specs.DueFiles.{kept_inodes}
-use Rattle.xfs_reread.specs.Kept.{all_seen, slot_seen, state_read}
+use Rattle.xfs_reread.specs.Kept.{all_slots_seen, slot_seen, state_read}
 
 pub flat_flat : {X Y Z : Type 0} (f : Y → List Z) (g : X → List Y) (xs : List X) → flat_map f (flat_map g xs) ≡ flat_map (λ x. flat_map f (g x)) xs
 flat_flat f g [] = refl
@@ -136,6 +136,6 @@ module _ (v : Volume) (image : Image) where
             ∙ seen_among ino inos (elim is [ inl same ↦ absurd (other same) | inr there ↦ there ])
       ]
 
-  pub state_is : (ino : ℕ) → Member ino (candidate_inodes v image) → state_at (all_seen v image) ino ≡ state_read (reads_as v image ino)
-  unfolding all_seen
+  pub state_is : (ino : ℕ) → Member ino (candidate_inodes v image) → state_at (all_slots_seen v image) ino ≡ state_read (reads_as v image ino)
+  unfolding all_slots_seen
   state_is ino is = seen_among ino (candidate_inodes v image) is

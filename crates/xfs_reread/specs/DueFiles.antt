@@ -17,8 +17,8 @@ use Rattle.xfs_request.specs.Slots.{is_bare, links_due, own_blocks, state_at}
 use Rattle.xfs_request.specs.declared.seen.SlotSeen.{SlotSeen}
 
 -- the checksum of the slot of an inode
-abbrev pub slot_crc : Volume → Image → ℕ → ℕ
-slot_crc v image ino = little_field_of (slot_bytes v image ino) 100 4
+abbrev pub stated_crc : Volume → Image → ℕ → ℕ
+stated_crc v image ino = little_field_of (slot_bytes v image ino) 100 4
 
 -- the core of a file that has so many names and does not wait to be removed, sealed with a checksum
 abbrev pub linked_core : Core → ℕ → ℕ → Core
@@ -48,8 +48,8 @@ due_file root kept seen crc f =
 abbrev pub new_core : Volume → Stamp → ℕ → Core
 new_core v s ino = if ino == v.rootino then new_root_core v s else new_system_core v s ino
 
-abbrev pub new_file : Volume → Stamp → (ℕ → ℕ) → ℕ → FileRec
-new_file v s crc ino = record {
+abbrev pub fresh_file : Volume → Stamp → (ℕ → ℕ) → ℕ → FileRec
+fresh_file v s crc ino = record {
   ino = ino;
   core = record (new_core v s ino) { crc = crc ino };
   extents = [];
@@ -66,16 +66,16 @@ with_new [] files = files
 with_new (f ∷ new) files = with_new new (placed_by_number (λ (x : FileRec). x.ino) f files)
 
 -- all files, by number
-unfoldable pub due_files : Volume → Stamp → Salvaged → List SlotSeen → (ℕ → ℕ) → List FileRec
-due_files v s kept seen crc = with_new (map (new_file v s crc) kept.fresh) (map (due_file v.rootino kept seen crc) kept.files)
+unfoldable pub rebuilt_files : Volume → Stamp → Salvaged → List SlotSeen → (ℕ → ℕ) → List FileRec
+rebuilt_files v s kept seen crc = with_new (map (fresh_file v s crc) kept.fresh) (map (due_file v.rootino kept seen crc) kept.files)
 
 -- the inodes of the kept clusters, by number
 unfoldable pub kept_inodes : Volume → Salvaged → List ℕ
 kept_inodes v kept = flat_map (cluster_inodes v) kept.clusters
 
 -- the directories: those that are kept, and a root that is made anew, which is whole and its own parent
-abbrev pub new_root : ℕ → DirRec
-new_root root = record { ino = root; parent = root; whole = true }
+abbrev pub fresh_root : ℕ → DirRec
+fresh_root root = record { ino = root; parent = root; whole = true }
 
-abbrev pub due_dirs : ℕ → Salvaged → List DirRec
-due_dirs root kept = if is_among kept.fresh root then placed_by_number (λ (d : DirRec). d.ino) (new_root root) kept.dirs else kept.dirs
+abbrev pub rebuilt_dirs : ℕ → Salvaged → List DirRec
+rebuilt_dirs root kept = if is_among kept.fresh root then placed_by_number (λ (d : DirRec). d.ino) (fresh_root root) kept.dirs else kept.dirs

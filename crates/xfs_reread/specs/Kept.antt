@@ -35,14 +35,14 @@ state_read Reads.Unsound = State.Other
 abbrev pub slot_seen : Volume → Image → ℕ → SlotSeen
 slot_seen v image ino = record { ino = ino; state = state_read (reads_as v image ino); lsn = field_of (slot_bytes v image ino) 112 8 }
 
-unfoldable pub all_seen : Volume → Image → List SlotSeen
-all_seen v image = map (slot_seen v image) (candidate_inodes v image)
+unfoldable pub all_slots_seen : Volume → Image → List SlotSeen
+all_slots_seen v image = map (slot_seen v image) (candidate_inodes v image)
 
 -- The second image has what is kept of the first: each slot of the kept clusters is what is wanted of it, made of what stood there, and
 -- the blocks that each kept file claims hold the same bytes.
 pub record HasKept (g : Geometry) (s : Stamp) (image now : Image) (kept : Salvaged) (seen : List SlotSeen) : Type 0 where
   pub of : IsKeptOf (volume_of g) (candidates (volume_of g) image) (candidate_files (volume_of g) image) kept
-  pub seen' : seen ≡ all_seen (volume_of g) image
+  pub seen' : seen ≡ all_slots_seen (volume_of g) image
   pub slots : (ino : ℕ) → Contains (kept_inodes (volume_of g) kept) ino
       → IsSlotDue (volume_of g) s.generation (wanted_slots (volume_of g) s kept seen) ino (slot_bytes (volume_of g) image ino) (slot_bytes (volume_of g) now ino)
   pub claims : All (HasSameClaims (volume_of g) image now) kept.files

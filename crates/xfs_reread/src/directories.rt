@@ -11,7 +11,7 @@ ghost use Rattle.xfs_image.specs.Directories.{dirs_read, entries_read};
 ghost use Rattle.xfs_salvage.specs.Kept.{entries_of_kept, kept_dirs};
 ghost use Rattle.xfs_salvage.specs.declared.found.Salvaged.{Salvaged};
 ghost use Rattle.xfs_request.specs.declared.seen.SlotSeen.{SlotSeen};
-ghost use Rattle.xfs_reread.specs.DueFiles.{due_dirs, due_files};
+ghost use Rattle.xfs_reread.specs.DueFiles.{rebuilt_dirs, rebuilt_files};
 ghost use Rattle.xfs_reread.specs.Kept.{HasKept};
 
 /// The entries of the due files are those that are kept of the image (`entries`), and so are the directories, but for a root that is
@@ -19,8 +19,8 @@ ghost use Rattle.xfs_reread.specs.Kept.{HasKept};
 pub fn rewritten_directories_read()
     ensures entries { (g : Geometry) (s : Stamp) (image now : Image) (kept : Salvaged) (seen : List SlotSeen) (crc : ℕ → ℕ) → HasKept g s image now kept seen
         → kept.entries ≡ entries_of_kept (volume_of g) (candidates (volume_of g) image) (candidate_files (volume_of g) image) (entries_read (volume_of g) image (candidate_files (volume_of g) image))
-        → entries_read (volume_of g) now (due_files (volume_of g) s kept seen crc) ≡ kept.entries }
+        → entries_read (volume_of g) now (rebuilt_files (volume_of g) s kept seen crc) ≡ kept.entries }
     ensures dirs { (g : Geometry) (s : Stamp) (image now : Image) (kept : Salvaged) (seen : List SlotSeen) (crc : ℕ → ℕ) → HasKept g s image now kept seen
         → kept.dirs ≡ kept_dirs (volume_of g) (candidates (volume_of g) image) (candidate_files (volume_of g) image) (dirs_read (volume_of g) image (candidate_files (volume_of g) image))
-        → dirs_read (volume_of g) now (due_files (volume_of g) s kept seen crc) ≡ due_dirs g.rootino kept }
+        → dirs_read (volume_of g) now (rebuilt_files (volume_of g) s kept seen crc) ≡ rebuilt_dirs g.rootino kept }
 {}

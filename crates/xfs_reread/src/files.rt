@@ -19,7 +19,7 @@ ghost use Rattle.xfs_request.specs.Chunks.{is_inode_used};
 ghost use Rattle.xfs_request.specs.Requests.{volume_wanted};
 ghost use Rattle.xfs_request.specs.declared.seen.SlotSeen.{SlotSeen};
 ghost use Rattle.xfs_requested.specs.Handed.{IsKeptOf};
-ghost use Rattle.xfs_reread.specs.DueFiles.{due_files, kept_inodes, slot_crc};
+ghost use Rattle.xfs_reread.specs.DueFiles.{kept_inodes, rebuilt_files, stated_crc};
 ghost use Rattle.xfs_reread.specs.Kept.{HasKept};
 
 /// The clusters of the chunks that are asked for what is kept of an image are the kept ones, however the rest is placed
@@ -38,14 +38,14 @@ pub fn rewritten_chunks_are_kept()
 pub fn rewritten_files_read()
     ensures { (g : Geometry) (s : Stamp) (image now : Image) (kept : Salvaged) (seen : List SlotSeen) (groups : List GroupRec) → HasKept g s image now kept seen
         → inodes_of (volume_of g) groups ≡ kept_inodes (volume_of g) kept
-        → files_read (volume_of g) now groups ≡ Ok (due_files (volume_of g) s kept seen (slot_crc (volume_of g) now)) }
+        → files_read (volume_of g) now groups ≡ Ok (rebuilt_files (volume_of g) s kept seen (stated_crc (volume_of g) now)) }
 {}
 
-/// The due files own just the blocks that the kept files own (`runs`), and have the numbers of these and of those that are made anew
+/// The rebuilt files own just the blocks that the kept files own (`runs`), and have the numbers of these and of those that are made anew
 /// (`used`).
-pub fn due_files_own_what_is_kept()
+pub fn rebuilt_files_own_what_is_kept()
     ensures runs { (g : Geometry) (s : Stamp) (kept : Salvaged) (seen : List SlotSeen) (crc : ℕ → ℕ)
-        → flat_map (file_runs (volume_of g)) (due_files (volume_of g) s kept seen crc) ≡ flat_map (file_runs (volume_of g)) kept.files }
+        → flat_map (file_runs (volume_of g)) (rebuilt_files (volume_of g) s kept seen crc) ≡ flat_map (file_runs (volume_of g)) kept.files }
     ensures used { (g : Geometry) (s : Stamp) (kept : Salvaged) (seen : List SlotSeen) (crc : ℕ → ℕ) (ino : ℕ)
-        → is_used (due_files (volume_of g) s kept seen crc) ino ≡ is_inode_used kept ino }
+        → is_used (rebuilt_files (volume_of g) s kept seen crc) ino ≡ is_inode_used kept ino }
 {}

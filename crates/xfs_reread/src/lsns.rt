@@ -15,7 +15,7 @@ ghost use Rattle.xfs_volume.specs.declared.catalogs.BlockLsn.{BlockLsn};
 ghost use Rattle.xfs_volume.specs.declared.groups.GroupRec.{GroupRec};
 ghost use Rattle.xfs_salvage.specs.declared.found.Salvaged.{Salvaged};
 ghost use Rattle.xfs_request.specs.declared.seen.SlotSeen.{SlotSeen};
-ghost use Rattle.xfs_reread.specs.DueFiles.{due_files};
+ghost use Rattle.xfs_reread.specs.DueFiles.{rebuilt_files};
 ghost use Rattle.xfs_reread.specs.Kept.{HasKept};
 ghost use Rattle.xfs_reread.specs.Logs.{IsLogDue, numbers_kept};
 
@@ -26,11 +26,11 @@ pub fn rewritten_lsns_are_behind()
         → HasKept g s image now kept seen → clusters_of (volume_of g) groups ≡ kept.clusters
         → All (λ (place : LsnPlace). (lsn_at now place).lsn ≡ 0) (at 240 0 ∷ groups_places (volume_of g) 0 groups)
         → IsLogDue before (numbers_kept (volume_of g) image kept seen) after
-        → All (λ (l : BlockLsn). is_behind (head_of after) l.lsn ≡ true) (lsns_read (volume_of g) now groups (due_files (volume_of g) s kept seen crc)) }
+        → All (λ (l : BlockLsn). is_behind (head_of after) l.lsn ≡ true) (lsns_read (volume_of g) now groups (rebuilt_files (volume_of g) s kept seen crc)) }
     ensures kept { (g : Geometry) (s : Stamp) (image now : Image) (kept : Salvaged) (seen : List SlotSeen) (groups : List GroupRec) (crc : ℕ → ℕ) (before after : LogState)
         → HasKept g s image now kept seen → clusters_of (volume_of g) groups ≡ kept.clusters
         → All (λ (place : LsnPlace). (lsn_at now place).lsn ≡ 0) (at 240 0 ∷ groups_places (volume_of g) 0 groups)
         → IsLogDue before (numbers_kept (volume_of g) image kept seen) after
         → AreKept (by_group group_chains 0 groups)
-        → AreKept (log_laws groups after (lsns_read (volume_of g) now groups (due_files (volume_of g) s kept seen crc))) }
+        → AreKept (log_laws groups after (lsns_read (volume_of g) now groups (rebuilt_files (volume_of g) s kept seen crc))) }
 {}

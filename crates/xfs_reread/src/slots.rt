@@ -15,7 +15,7 @@ ghost use Rattle.xfs_slots.specs.Gathered.{bare_inodes};
 ghost use Rattle.xfs_volume.specs.declared.files.FileRec.{FileRec};
 ghost use Rattle.xfs_salvage.specs.declared.found.Salvaged.{Salvaged};
 ghost use Rattle.xfs_request.specs.declared.seen.SlotSeen.{SlotSeen};
-ghost use Rattle.xfs_reread.specs.DueFiles.{due_file, kept_inodes, new_file, slot_crc};
+ghost use Rattle.xfs_reread.specs.DueFiles.{due_file, fresh_file, kept_inodes, stated_crc};
 ghost use Rattle.xfs_reread.specs.Kept.{HasKept, state_by, state_read};
 
 use xfs_inode::FileRead;
@@ -25,9 +25,9 @@ use xfs_inode::FileRead;
 /// as its new file (`fresh`); and each other one reads as free (`free`).
 pub fn changed_slots_read()
     ensures kept { (g : Geometry) (s : Stamp) (image now : Image) (kept : Salvaged) (seen : List SlotSeen) (f : FileRec) → HasKept g s image now kept seen → Contains kept.files f
-        → reads_as (volume_of g) now f.ino ≡ FileRead.File (due_file g.rootino kept seen (slot_crc (volume_of g) now) f) }
+        → reads_as (volume_of g) now f.ino ≡ FileRead.File (due_file g.rootino kept seen (stated_crc (volume_of g) now) f) }
     ensures fresh { (g : Geometry) (s : Stamp) (image now : Image) (kept : Salvaged) (seen : List SlotSeen) (ino : ℕ) → HasKept g s image now kept seen → Contains kept.fresh ino
-        → reads_as (volume_of g) now ino ≡ FileRead.File (new_file (volume_of g) s (slot_crc (volume_of g) now) ino) }
+        → reads_as (volume_of g) now ino ≡ FileRead.File (fresh_file (volume_of g) s (stated_crc (volume_of g) now) ino) }
     ensures free { (g : Geometry) (s : Stamp) (image now : Image) (kept : Salvaged) (seen : List SlotSeen) (ino : ℕ) → HasKept g s image now kept seen → Contains (kept_inodes (volume_of g) kept) ino
         → is_in_use kept.files ino ≡ false → is_among kept.fresh ino ≡ false → reads_as (volume_of g) now ino ≡ FileRead.Free }
 {}

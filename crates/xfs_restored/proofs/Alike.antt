@@ -20,9 +20,9 @@ use Rattle.xfs_request.specs.Fresh.{new_slot, new_root_core, new_root_slot, new_
 use Rattle.xfs_request.specs.Slots.{as_list, attrs_wanted, bare_slot, freed_slot, is_free, kept_slot, links_due, nlink_wanted, slot_listed, slot_of, slot_wanted, state_at, wanted_slots}
 use Rattle.xfs_request.specs.declared.seen.SlotSeen.{SlotSeen}
 use Rattle.xfs_rebuild.specs.Names as Names
-use Rattle.xfs_rebuild.specs.Names.{linked_file, linked_files, made_files, made_of, with_dir, with_file, with_files}
+use Rattle.xfs_rebuild.specs.Names.{linked_file, linked_files, made_files, made_of, with_dir, with_made_file, with_made_files}
 use Rattle.xfs_reread.specs.DueFiles as DueFiles
-use Rattle.xfs_reread.specs.DueFiles.{due_file, kept_inodes, new_core, new_file, new_root, with_new}
+use Rattle.xfs_reread.specs.DueFiles.{due_file, fresh_file, fresh_root, kept_inodes, new_core, with_new}
 use Rattle.xfs_reread.specs.Kept.{HasKept}
 use Rattle.xfs_reread.proofs.DueList.{fresh_ascend, inodes_ascend, number_least, some_up}
 use Rattle.xfs_reread.proofs.Others.{fresh_inode, fresh_unused, none_found}
@@ -33,20 +33,20 @@ abbrev number : FileRec → ℕ
 number f = f.ino
 
 -- both put a file among others at the same place, and a directory
-with_file_is : (f : FileRec) (fs : List FileRec) → with_file f fs ≡ placed_by_number number f fs
+with_file_is : (f : FileRec) (fs : List FileRec) → with_made_file f fs ≡ placed_by_number number f fs
 with_file_is f [] = refl
 with_file_is f (x ∷ fs) = ap (λ (rest : List FileRec). if nat_lt x.ino f.ino then x ∷ rest else (f ∷ x ∷ fs)) (with_file_is f fs)
 
-with_files_are : (new fs : List FileRec) → with_files new fs ≡ with_new new fs
+with_files_are : (new fs : List FileRec) → with_made_files new fs ≡ with_new new fs
 with_files_are [] fs = refl
-with_files_are (f ∷ new) fs = ap (with_files new) (with_file_is f fs) ∙ with_files_are new (placed_by_number number f fs)
+with_files_are (f ∷ new) fs = ap (with_made_files new) (with_file_is f fs) ∙ with_files_are new (placed_by_number number f fs)
 
 with_dir_is : (d : DirRec) (ds : List DirRec) → with_dir d ds ≡ placed_by_number (λ (x : DirRec). x.ino) d ds
 with_dir_is d [] = refl
 with_dir_is d (x ∷ ds) = ap (λ (rest : List DirRec). if nat_lt x.ino d.ino then x ∷ rest else (d ∷ x ∷ ds)) (with_dir_is d ds)
 
-pub dirs_are : (root : ℕ) (kept : Salvaged) → Names.due_dirs root kept ≡ DueFiles.due_dirs root kept
-dirs_are root kept = ap (λ (ds : List DirRec). if is_among kept.fresh root then ds else kept.dirs) (with_dir_is (new_root root) kept.dirs)
+pub dirs_are : (root : ℕ) (kept : Salvaged) → Names.due_dirs root kept ≡ DueFiles.rebuilt_dirs root kept
+dirs_are root kept = ap (λ (ds : List DirRec). if is_among kept.fresh root then ds else kept.dirs) (with_dir_is (fresh_root root) kept.dirs)
 
 -- what is not looked at does not change a place
 plain_placed : (x : FileRec) (fs : List FileRec) → map plain (placed_by_number number x fs) ≡ placed_by_number number (plain x) (map plain fs)
@@ -132,7 +132,7 @@ module _ (v : Volume) (s : Stamp) (kept : Salvaged) (seen : List SlotSeen) where
   made_by_inode : made_files (wanted_slots v s kept seen) ≡ flat_map made_at (kept_inodes v kept)
   made_by_inode = ap made_files (listed v s kept seen) ∙ flat_flat (λ (w : SlotWanted). made_of w.ino w.base) (slot_listed v s kept seen) (kept_inodes v kept)
 
-  new_alike : (crc : ℕ → ℕ) (inos : List ℕ) → map plain (map (new_file v s crc) inos) ≡ map plain (map made_file inos)
+  new_alike : (crc : ℕ → ℕ) (inos : List ℕ) → map plain (map (fresh_file v s crc) inos) ≡ map plain (map made_file inos)
   new_alike crc [] = refl
   new_alike crc (ino ∷ inos) = ap (λ (xs : List FileRec). plain (made_file ino) ∷ xs) (new_alike crc inos)
 
@@ -170,13 +170,13 @@ module _ (g : Geometry) (s : Stamp) (image now : Image) (kept : Salvaged) (seen 
       ∙ made_all (volume_of g) s kept seen inodes (λ ino is. fresh_unused g s image now kept seen has ino (among ino kept.fresh is))
       ∙ ap (map (made_file (volume_of g) s kept seen)) fresh_are
 
-  pub files_alike : (crc : ℕ → ℕ) → map plain (DueFiles.due_files (volume_of g) s kept seen crc) ≡ map plain (Names.due_files g.rootino kept (wanted_slots (volume_of g) s kept seen))
-  unfolding DueFiles.due_files Names.due_files
+  pub files_alike : (crc : ℕ → ℕ) → map plain (DueFiles.rebuilt_files (volume_of g) s kept seen crc) ≡ map plain (Names.due_files g.rootino kept (wanted_slots (volume_of g) s kept seen))
+  unfolding DueFiles.rebuilt_files Names.due_files
   files_alike crc =
       let v : Volume = volume_of g in
       let made : List FileRec = map (made_file v s kept seen) kept.fresh in
-      plain_new (map (new_file v s crc) kept.fresh) (map (due_file g.rootino kept seen crc) kept.files)
+      plain_new (map (fresh_file v s crc) kept.fresh) (map (due_file g.rootino kept seen crc) kept.files)
       ∙ ap₂ (λ (new old : List FileRec). with_new new old) (new_alike v s kept seen crc kept.fresh) (kept_alike g.rootino kept seen crc kept.files)
       ∙ sym (plain_new made (linked_files g.rootino kept))
       ∙ ap (map plain) (sym (with_files_are made (linked_files g.rootino kept)))
-      ∙ ap (λ (new : List FileRec). map plain (with_files new (linked_files g.rootino kept))) (sym made_are)
+      ∙ ap (λ (new : List FileRec). map plain (with_made_files new (linked_files g.rootino kept))) (sym made_are)

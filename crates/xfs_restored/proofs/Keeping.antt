@@ -20,7 +20,7 @@ use Rattle.xfs_rebuild.specs.Rebuilds.{Ground, IsRebuildOf}
 use Rattle.xfs_rebuild.specs.declared.planning.Rebuilt.{Rebuilt}
 use Rattle.xfs_rewritten.specs.Rewriting.{IsRewritten}
 use Rattle.xfs_rewritten.proofs.Staying.{files_of_image, protected_claims}
-use Rattle.xfs_reread.specs.DueFiles.{due_core, due_file, slot_crc}
+use Rattle.xfs_reread.specs.DueFiles.{due_core, due_file, stated_crc}
 use Rattle.xfs_reread.specs.Kept.{HasKept, state_read}
 use Rattle.xfs_reread.proofs.KeptSlots.{kept_file_reads, state_known}
 use Rattle.xfs_restored.proofs.Handed.{has_kept}
@@ -37,7 +37,7 @@ module _ (g : Geometry) (sector : List ℕ) (s : Stamp) (image now : Image) (e :
   f = safe.file
 
   abbrev crc : ℕ → ℕ
-  crc = slot_crc v now
+  crc = stated_crc v now
 
   abbrev due : FileRec
   due = due_file g.rootino on.kept on.seen crc f

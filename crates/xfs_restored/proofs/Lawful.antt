@@ -85,13 +85,13 @@ all_kept (l ∷ ls) none = by_case (l.held == l.due) refl none (all_kept ls)
 -- the laws of names, where no name has to change
 pub names_kept : (g : Geometry) (s : Stamp) (image now : Image) (kept : Salvaged) (seen : List SlotSeen) → HasKept g s image now kept seen → (crc : ℕ → ℕ)
     → needs_names g.rootino kept (wanted_slots (volume_of g) s kept seen) ≡ false
-    → AreKept (naming_laws g.rootino (DueFiles.due_files (volume_of g) s kept seen crc) kept.entries (DueFiles.due_dirs g.rootino kept))
+    → AreKept (naming_laws g.rootino (DueFiles.rebuilt_files (volume_of g) s kept seen crc) kept.entries (DueFiles.rebuilt_dirs g.rootino kept))
 unfolding needs_names
 names_kept g s image now kept seen has crc none =
     let judged : List FileRec = Names.due_files g.rootino kept (wanted_slots (volume_of g) s kept seen) in
-    let due : List FileRec = DueFiles.due_files (volume_of g) s kept seen crc in
+    let due : List FileRec = DueFiles.rebuilt_files (volume_of g) s kept seen crc in
     let before : List DirRec = Names.due_dirs g.rootino kept in
-    let dirs : List DirRec = DueFiles.due_dirs g.rootino kept in
+    let dirs : List DirRec = DueFiles.rebuilt_dirs g.rootino kept in
     let same : naming_laws g.rootino judged kept.entries before ≡ naming_laws g.rootino due kept.entries dirs =
     sym (naming_plain g.rootino judged kept.entries before)
     ∙ ap₂ (λ (fs : List FileRec) (ds : List DirRec). naming_laws g.rootino fs kept.entries ds) (sym (files_alike g s image now kept seen has crc)) (dirs_are g.rootino kept)
@@ -187,7 +187,7 @@ module _ (g : Geometry) (sector : List ℕ) (s : Stamp) (image now : Image) (e :
       both_kept (chunk_laws v files groups) (counter_laws v groups p.counts ++ list_laws groups) chunks
       (both_kept (counter_laws v groups p.counts) (list_laws groups) counters (lists_kept v (kept_runs w) on.reserved inodes p.groups crcs.agf crcs.agi pool))
 
-  naming : AreKept (naming_laws g.rootino files on.kept.entries (DueFiles.due_dirs g.rootino on.kept))
+  naming : AreKept (naming_laws g.rootino files on.kept.entries (DueFiles.rebuilt_dirs g.rootino on.kept))
   naming = names_kept g s image now on.kept on.seen has crcs.slot is.planned.named
 
   -- the log is the one that is due to the numbers that stay
@@ -209,7 +209,7 @@ module _ (g : Geometry) (sector : List ℕ) (s : Stamp) (image now : Image) (e :
   pub lawful : broken_law (restored_catalog g s now on p) ≡ None
   unfolding broken_law
   lawful =
-      let names = naming_laws g.rootino files on.kept.entries (DueFiles.due_dirs g.rootino on.kept) in
+      let names = naming_laws g.rootino files on.kept.entries (DueFiles.rebuilt_dirs g.rootino on.kept) in
       let logs = log_laws groups (log_of v now) (lsns_read v now groups files) in
       let counts = counting_laws (restored_catalog g s now on p) in
       none_broken (laws_of (restored_catalog g s now on p))

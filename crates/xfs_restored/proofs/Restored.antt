@@ -21,7 +21,7 @@ use Rattle.xfs_rebuild.specs.Rebuilds.{Ground, IsRebuildOf}
 use Rattle.xfs_rebuild.specs.declared.planning.Rebuilt.{Rebuilt}
 use Rattle.xfs_rewritten.specs.Rewriting.{IsRewritten}
 use Rattle.xfs_rewritten.proofs.Logs.{backups_rebuilt, counts_rebuilt, groups_rebuilt, super_rebuilt}
-use Rattle.xfs_reread.specs.DueFiles.{due_dirs, kept_inodes}
+use Rattle.xfs_reread.specs.DueFiles.{kept_inodes, rebuilt_dirs}
 use Rattle.xfs_reread.specs.Kept.{HasKept}
 use Rattle.xfs_reread.proofs.DueDirectories.{due_dirs_are, due_entries}
 use Rattle.xfs_reread.proofs.DueList.{files_are}
@@ -59,7 +59,7 @@ module _ (g : Geometry) (sector : List ℕ) (s : Stamp) (image now : Image) (e :
 
   pub says : view g now ≡ Ok (restored_catalog g s now on p)
   says =
-      reads_as g now groups files on.kept.entries (due_dirs g.rootino on.kept) p.counts (log_of v now) (lsns_read v now groups files)
+      reads_as g now groups files on.kept.entries (rebuilt_dirs g.rootino on.kept) p.counts (log_of v now) (lsns_read v now groups files)
       (groups_rebuilt g sector s image now on r is.planned new) (files_are g s image now on.kept on.seen has groups inodes)
       (due_entries g s image now on.kept on.seen has crcs.slot (entries_of_image g image e on told is.ground))
       (due_dirs_are g s image now on.kept on.seen has crcs.slot (dirs_of_image g image e on told is.ground))

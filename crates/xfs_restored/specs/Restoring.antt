@@ -17,14 +17,14 @@ use Rattle.xfs_rendered.specs.Standing.{agf_crc_at, agi_crc_at}
 use Rattle.xfs_made.specs.Volumes.{Checksums}
 use Rattle.xfs_request.specs.Chunks.{inodes_wanted}
 use Rattle.xfs_rebuild.specs.Rebuilds.{Ground}
-use Rattle.xfs_reread.specs.DueFiles.{due_dirs, due_files, slot_crc}
+use Rattle.xfs_reread.specs.DueFiles.{rebuilt_dirs, rebuilt_files, stated_crc}
 
 -- the groups, with the chunks of the kept clusters and what is placed in each; the kept files and those that are made anew
 abbrev pub groups_due : Geometry → Ground → Placed → Checksums → List GroupRec
 groups_due g on p crcs = due_groups (volume_of g) (inodes_wanted (volume_of g) on.kept) p.groups crcs.agf crcs.agi
 
 abbrev pub files_due : Geometry → Stamp → Ground → Checksums → List FileRec
-files_due g s on crcs = due_files (volume_of g) s on.kept on.seen crcs.slot
+files_due g s on crcs = rebuilt_files (volume_of g) s on.kept on.seen crcs.slot
 
 -- the volume, with a log and the log sequence numbers that stand in it
 abbrev pub due_catalog : Geometry → Stamp → Ground → Placed → Checksums → LogState → List BlockLsn → Catalog
@@ -33,7 +33,7 @@ due_catalog g s on p crcs log lsns = record {
   groups = groups_due g on p crcs;
   files = files_due g s on crcs;
   entries = on.kept.entries;
-  dirs = due_dirs g.rootino on.kept;
+  dirs = rebuilt_dirs g.rootino on.kept;
   counts = p.counts;
   log = log;
   lsns = lsns;
@@ -41,7 +41,7 @@ due_catalog g s on p crcs log lsns = record {
 
 -- the checksums that an image has, and the volume with these and with the log and the numbers of the image
 abbrev pub checksums_in : Geometry → Image → Checksums
-checksums_in g image = record { agf = agf_crc_at (volume_of g) image; agi = agi_crc_at (volume_of g) image; slot = slot_crc (volume_of g) image }
+checksums_in g image = record { agf = agf_crc_at (volume_of g) image; agi = agi_crc_at (volume_of g) image; slot = stated_crc (volume_of g) image }
 
 abbrev pub restored_catalog : Geometry → Stamp → Image → Ground → Placed → Catalog
 restored_catalog g s now on p =

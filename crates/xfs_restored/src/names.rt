@@ -11,12 +11,12 @@ ghost use Rattle.xfs_salvage.specs.declared.found.Salvaged.{Salvaged};
 ghost use Rattle.xfs_request.specs.Slots.{wanted_slots};
 ghost use Rattle.xfs_request.specs.declared.seen.SlotSeen.{SlotSeen};
 ghost use Rattle.xfs_rebuild.specs.Names.{needs_names};
-ghost use Rattle.xfs_reread.specs.DueFiles.{due_dirs, due_files};
+ghost use Rattle.xfs_reread.specs.DueFiles.{rebuilt_dirs, rebuilt_files};
 ghost use Rattle.xfs_reread.specs.Kept.{HasKept};
 
 /// Where no name has to change, the files that the volume then has, with their checksums and attributes, break no law of names.
 pub fn restored_names_are_lawful()
     ensures { (g : Geometry) (s : Stamp) (image now : Image) (kept : Salvaged) (seen : List SlotSeen) → HasKept g s image now kept seen → (crc : ℕ → ℕ)
         → needs_names g.rootino kept (wanted_slots (volume_of g) s kept seen) ≡ false
-        → AreKept (naming_laws g.rootino (due_files (volume_of g) s kept seen crc) kept.entries (due_dirs g.rootino kept)) }
+        → AreKept (naming_laws g.rootino (rebuilt_files (volume_of g) s kept seen crc) kept.entries (rebuilt_dirs g.rootino kept)) }
 {}

@@ -15,7 +15,7 @@ ghost use Rattle.xfs_rebuild.specs.declared.planning.Rebuilt.{Rebuilt};
 
 /// Once a rebuild is written, each file that was protected is kept: it has the same bytes, attributes, target and device, and the same
 /// core but for its number of names, the chain of inodes that wait to be removed, and its checksum.
-pub fn protected_files_are_kept()
+pub fn restored_volumes_keep_protected_files()
     ensures { (g : Geometry) (sector : List ℕ) (s : Stamp) (image now : Image) (e : Evidence) (r : Rebuilt) → IsEvidence g image e → IsElected (volume_of g) image
         → IsRebuildOf g sector s image e r → now ≡ written (writes_of_rows r.bank (r.fresh ++ r.in_place)) image
         → (ino : ℕ) → Protected (volume_of g) image ino → Keeps (volume_of g) image now ino }

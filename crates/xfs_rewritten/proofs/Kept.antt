@@ -22,20 +22,20 @@ use Rattle.xfs_salvage.specs.Kept.{run_of_cluster}
 use Rattle.xfs_space.proofs.Shared.{on-cons}
 use Rattle.xfs_made.proofs.OnceLists.{all_range, counted, counted_append, joined, rising_once}
 use Rattle.xfs_made.proofs.RowLists.{all_items}
-use Rattle.xfs_rebuild.specs.Places.{first_block, old_places}
-use Rattle.xfs_rewritten.specs.Unused.{ArePlaces, IsHeadOrKept}
+use Rattle.xfs_rebuild.specs.Places.{first_of_group, old_places}
+use Rattle.xfs_rewritten.specs.Unused.{AreHeadsOrKept, IsHeadOrKept}
 use Rattle.xfs_rewritten.proofs.Counting.{row_on}
 use Rattle.xfs_rewritten.proofs.PlansApart.{head_fixed, taken_left, taken_right, taken_unfixed}
 
 abbrev heads : Volume → List ℕ
-heads v = map (first_block v) (range_with_len 0 v.agcount)
+heads v = map (first_of_group v) (range_with_len 0 v.agcount)
 
 abbrev clusters_blocks : List ℕ → List ℕ
 clusters_blocks clusters = flat_map cluster_blocks clusters
 
 -- the first blocks of groups
 all_heads : (v : Volume) → All (λ block. is_head v block ≡ true) (heads v)
-all_heads v = all_items (λ block. is_head v block ≡ true) (first_block v) 0 v.agcount (λ k low high. eq-eqb (k * v.agblocks % v.agblocks) 0 (mul-mod_left k v.agblocks))
+all_heads v = all_items (λ block. is_head v block ≡ true) (first_of_group v) 0 v.agcount (λ k low high. eq-eqb (k * v.agblocks % v.agblocks) 0 (mul-mod_left k v.agblocks))
 
 heads_once : (g : Geometry) → IsOnce (heads (volume_of g))
 heads_once g =
@@ -93,7 +93,7 @@ module _ (g : Geometry) (clusters : List ℕ) (kept rest : List Run) (are : kept
   blocks_once : IsOnce (clusters_blocks clusters)
   blocks_once = record { each = λ at. omega (arith, clusters_on clusters at, few at) }
 
-  pub places_apart : ArePlaces (volume_of g) kept (old_places (volume_of g) clusters)
+  pub places_apart : AreHeadsOrKept (volume_of g) kept (old_places (volume_of g) clusters)
   unfolding old_places
   places_apart =
       let v = volume_of g in
@@ -123,8 +123,8 @@ cluster_taken_of clusters cluster block is has =
 pub head_place : (v : Volume) (clusters : List ℕ) (ag : ℕ) → ag < v.agcount → (ag < length (old_places v clusters)) × (get_or (old_places v clusters) ag 0 ≡ ag * v.agblocks)
 unfolding old_places
 head_place v clusters ag low =
-    let count : length (heads v) ≡ v.agcount = length-map-range_with_len (first_block v) 0 v.agcount in
+    let count : length (heads v) ≡ v.agcount = length-map-range_with_len (first_of_group v) 0 v.agcount in
     let all : length (heads v ++ clusters_blocks clusters) ≡ length (heads v) + length (clusters_blocks clusters) = length-append (heads v) (clusters_blocks clusters) in (
       omega (arith, count, all, low),
-      get_or_append_left (heads v) (clusters_blocks clusters) 0 ag (omega (arith, count, low)) ∙ get_or-map-range_with_len (first_block v) 0 v.agcount ag ag 0 low (omega arith),
+      get_or_append_left (heads v) (clusters_blocks clusters) 0 ag (omega (arith, count, low)) ∙ get_or-map-range_with_len (first_of_group v) 0 v.agcount ag ag 0 low (omega arith),
     )

@@ -38,7 +38,7 @@ use Rattle.xfs_request.specs.Requests.{volume_wanted}
 use Rattle.xfs_rebuild.specs.Places as Places
 use Rattle.xfs_rebuild.specs.Rebuilds.{Ground, IsPlannedOn, asked}
 use Rattle.xfs_rebuild.specs.declared.planning.Rebuilt.{Rebuilt}
-use Rattle.xfs_rewritten.specs.Unused.{ArePlaces, IsHeadOrKept, IsInPlace, IsOfLog, IsUnused}
+use Rattle.xfs_rewritten.specs.Unused.{AreHeadsOrKept, IsHeadOrKept, IsInPlace, IsOfLog, IsUnusedBlock}
 use Rattle.xfs_rewritten.proofs.Counting.{taken_on, untaken_on}
 use Rattle.xfs_rewritten.proofs.Kept.{cluster_place, cluster_taken_of, places_apart, places_used}
 use Rattle.xfs_rewritten.proofs.PlansApart.{all_of_log, head_fixed, head_off_log, log_fixed, plans_apart, taken_left, taken_right, taken_unfixed, trees, untaken_both}
@@ -111,12 +111,12 @@ module _ (g : Geometry) (sector : List ℕ) (s : Stamp) (image : Image) (on : Gr
         omega (arith, same, on_both (kept_runs w) p.runs block, is.planned.stands.apart.apart.once block);
   }
 
-  places_fit : ArePlaces v taken b.places
-  places_fit = subst (ArePlaces v taken) (sym is.made.at_hand.places') (places_apart g on.kept.clusters taken claimed refl clear apart)
+  places_fit : AreHeadsOrKept v taken b.places
+  places_fit = subst (AreHeadsOrKept v taken) (sym is.made.at_hand.places') (places_apart g on.kept.clusters taken claimed refl clear apart)
 
   pub blocks_once : IsOnce (planned plan)
   unfolding volume_wanted
-  blocks_once = plans_apart w p b plan is.planned.stands is.planned.rendered (subst (λ (rs : List Run). ArePlaces v rs b.places) (sym kept_is) places_fit)
+  blocks_once = plans_apart w p b plan is.planned.stands is.planned.rendered (subst (λ (rs : List Run). AreHeadsOrKept v rs b.places) (sym kept_is) places_fit)
 
   -- the first blocks of the plan are those of trees
   no_objects : object_places w p ≡ []
@@ -142,18 +142,18 @@ module _ (g : Geometry) (sector : List ℕ) (s : Stamp) (image : Image) (on : Gr
   unfolding volume_wanted
   behind = trees w p is.planned.stands
 
-  unused : (block : ℕ) → IsUnused v (kept_runs w ++ p.runs) on.reserved block → IsUnused v taken on.reserved block
+  unused : (block : ℕ) → IsUnusedBlock v (kept_runs w ++ p.runs) on.reserved block → IsUnusedBlock v taken on.reserved block
   unused block free = record {
     unfixed = free.unfixed;
     untaken = subst (λ (rs : List Run). is_taken rs block ≡ false) kept_is (untaken_both (kept_runs w) p.runs block free.untaken).0;
     unreserved = free.unreserved;
   }
 
-  trees_unused : All (IsUnused v taken on.reserved) (tree_blocks p)
-  trees_unused = All-weaker (IsUnused v (kept_runs w ++ p.runs) on.reserved) (IsUnused v taken on.reserved) unused (tree_blocks p) behind.unused
+  trees_unused : All (IsUnusedBlock v taken on.reserved) (tree_blocks p)
+  trees_unused = All-weaker (IsUnusedBlock v (kept_runs w ++ p.runs) on.reserved) (IsUnusedBlock v taken on.reserved) unused (tree_blocks p) behind.unused
 
-  pub fresh_unused : All (IsUnused v taken on.reserved) (row_places plan.fresh)
-  fresh_unused = fresh_all (IsUnused v taken on.reserved) trees_unused
+  pub fresh_unused : All (IsUnusedBlock v taken on.reserved) (row_places plan.fresh)
+  fresh_unused = fresh_all (IsUnusedBlock v taken on.reserved) trees_unused
 
   -- those in place
   places_at : All (IsHeadOrKept v clusters) b.places
@@ -184,7 +184,7 @@ module _ (g : Geometry) (sector : List ℕ) (s : Stamp) (image : Image) (on : Gr
   log_left none =
       let P : ℕ → Type 0 = λ block. IsOfLog v block → ⊥ in
       planned_all P
-      (All-weaker (IsUnused v taken on.reserved) P (λ block free log. false≢true (sym free.unfixed ∙ log_fixed v block log)) (tree_blocks p) trees_unused)
+      (All-weaker (IsUnusedBlock v taken on.reserved) P (λ block free log. false≢true (sym free.unfixed ∙ log_fixed v block log)) (tree_blocks p) trees_unused)
       (All-weaker (IsHeadOrKept v taken) P place_off_log b.places places_fit.each)
       (All-same P (log_places w b.cycle) [] (no_log b.cycle none) (All-nil P))
 
@@ -227,7 +227,7 @@ module _ (g : Geometry) (sector : List ℕ) (s : Stamp) (image : Image) (on : Gr
     file_free =
         let P : ℕ → Type 0 = λ block. claims v f block ≡ false in
         planned_all P
-        (All-weaker (IsUnused v taken on.reserved) P
+        (All-weaker (IsUnusedBlock v taken on.reserved) P
         (λ block free. false_from_ne_true (claims v f block) (λ has. false≢true (sym free.untaken ∙ claimed_taken block has))) (tree_blocks p) trees_unused)
         (All-weaker (IsHeadOrKept v clusters) P place_free b.places places_at)
         (All-weaker (IsOfLog v) P (λ block log. fixed_free block (log_fixed v block log)) (log_places w b.cycle) log_at)

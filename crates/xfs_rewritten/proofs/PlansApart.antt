@@ -28,7 +28,7 @@ use Rattle.xfs_render.specs.Rendering.{IsRendered, fresh_blocks, is_head, log_pl
 use Rattle.xfs_render.specs.declared.bytes.Bytes.{Bytes}
 use Rattle.xfs_render.specs.declared.plan.Plan.{Plan}
 use Rattle.xfs_made.proofs.OnceLists.{all_range, counted, counted_append, joined, range_once}
-use Rattle.xfs_rewritten.specs.Unused.{ArePlaces, IsFreshFor, IsHeadOrKept, IsOfLog, IsUnused}
+use Rattle.xfs_rewritten.specs.Unused.{AreHeadsOrKept, IsFreshFor, IsHeadOrKept, IsOfLog, IsUnusedBlock}
 use Rattle.xfs_rewritten.proofs.Counting.{arranged, counted_cons, held, is_any, objects_on, one_if, taken_on, untaken_on}
 use Rattle.xfs_rewritten.proofs.TreesApart.{AreBehind, trees_apart}
 
@@ -149,12 +149,12 @@ module _ (w : Wanted) (p : Placed) (stands : StandsFor w p) where
       omega (arith, stands.apart.apart.once block, on_both (kept_runs w) p.runs block, taken_on (kept_runs w) block taken)
   used_no_object block (inr log) = fixed_no_object block (log_fixed (volume w) block log)
 
-  used_not_unused : (block : ℕ) → IsUsed block → IsUnused (volume w) all_runs w.reserved block → ⊥
+  used_not_unused : (block : ℕ) → IsUsed block → IsUnusedBlock (volume w) all_runs w.reserved block → ⊥
   used_not_unused block (inl (inl head)) is = false≢true (sym is.unfixed ∙ head_fixed (volume w) block head)
   used_not_unused block (inl (inr taken)) is = false≢true (sym is.untaken ∙ taken_left (kept_runs w) p.runs block taken)
   used_not_unused block (inr log) is = false≢true (sym is.unfixed ∙ log_fixed (volume w) block log)
 
-  module _ (b : Bytes) (places : ArePlaces (volume w) (kept_runs w) b.places) where
+  module _ (b : Bytes) (places : AreHeadsOrKept (volume w) (kept_runs w) b.places) where
     -- the places whose bytes are at hand, and the log
     abbrev others : List ℕ
     others = b.places ++ log_places w b.cycle
@@ -183,7 +183,7 @@ module _ (w : Wanted) (p : Placed) (stands : StandsFor w p) where
         by_case (inr used) = omega (arith, objects, used_no_object at used, others_once.each at)
 
     all_at : (at : ℕ) → counted at (tree_blocks p ++ (object_places w p ++ others)) ≤ 1
-    all_at at = by_case (held (IsUnused (volume w) all_runs w.reserved) (tree_blocks p) at trees.unused) (held IsUsed others at others_used)
+    all_at at = by_case (held (IsUnusedBlock (volume w) all_runs w.reserved) (tree_blocks p) at trees.unused) (held IsUsed others at others_used)
       where
         parts : counted at (tree_blocks p ++ (object_places w p ++ others)) ≡ counted at (tree_blocks p) + (counted at (object_places w p) + counted at others)
         parts = let one = counted_append at (tree_blocks p) (object_places w p ++ others) in let two = counted_append at (object_places w p) others in omega (arith, one, two)
@@ -191,7 +191,7 @@ module _ (w : Wanted) (p : Placed) (stands : StandsFor w p) where
         objects : counted at (object_places w p) ≤ runs_on p.runs at
         objects = objects_on (asks_with_kind w.objects) p.cuts p.runs at
 
-        by_case : (counted at (tree_blocks p) ≡ 0) ⊎ IsUnused (volume w) all_runs w.reserved at → (counted at others ≡ 0) ⊎ IsUsed at
+        by_case : (counted at (tree_blocks p) ≡ 0) ⊎ IsUnusedBlock (volume w) all_runs w.reserved at → (counted at others ≡ 0) ⊎ IsUsed at
             → counted at (tree_blocks p ++ (object_places w p ++ others)) ≤ 1
         by_case (inl none) other = omega (arith, parts, none, rest_at at)
         by_case (inr unused) (inl none) =
@@ -220,7 +220,7 @@ module _ (w : Wanted) (p : Placed) (stands : StandsFor w p) where
   plan_fresh b plan is =
       All-permutation (IsFreshFor w p) (fresh_blocks w p b) (row_places plan.fresh) is.fresh
       (All-append (IsFreshFor w p) (tree_blocks p) (object_places w p ++ new_blocks w b)
-      (All-weaker (IsUnused (volume w) all_runs w.reserved) (IsFreshFor w p)
+      (All-weaker (IsUnusedBlock (volume w) all_runs w.reserved) (IsFreshFor w p)
       (λ block unused. inl (record { unfixed = unused.unfixed; untaken = (untaken_both (kept_runs w) p.runs block unused.untaken).0; unreserved = unused.unreserved }))
       (tree_blocks p) trees.unused)
       (All-append (IsFreshFor w p) (object_places w p) (new_blocks w b)
@@ -228,7 +228,7 @@ module _ (w : Wanted) (p : Placed) (stands : StandsFor w p) where
       (All-weaker (λ block. is_taken w.new block ≡ true) (IsFreshFor w p) (λ block taken. inr (taken_left w.new p.runs block taken)) (new_blocks w b)
       (filter_passes (is_taken w.new) b.places))))
 
-pub plans_apart : (w : Wanted) (p : Placed) (b : Bytes) (plan : Plan) → StandsFor w p → IsRendered w p b plan → ArePlaces (volume w) (kept_runs w) b.places → IsOnce (planned plan)
+pub plans_apart : (w : Wanted) (p : Placed) (b : Bytes) (plan : Plan) → StandsFor w p → IsRendered w p b plan → AreHeadsOrKept (volume w) (kept_runs w) b.places → IsOnce (planned plan)
 plans_apart w p b plan stands is places = plan_once w p stands b places plan is
 
 pub plans_fresh : (w : Wanted) (p : Placed) (b : Bytes) (plan : Plan) → StandsFor w p → IsRendered w p b plan → All (IsFreshFor w p) (row_places plan.fresh)

@@ -13,7 +13,7 @@ use Rattle.xfs_render.specs.declared.plan.Plan.{Plan}
 use Rattle.xfs_writing.specs.Writing.{Writes, writes_of_rows, written}
 use Rattle.xfs_writing.specs.declared.rows.Row.{Row}
 use Rattle.xfs_made.proofs.OnceLists.{counted}
-use Rattle.xfs_rebuild.specs.Differing.{differs, left_of}
+use Rattle.xfs_rebuild.specs.Differing.{differs, left_to_write}
 use Rattle.xfs_rewritten.proofs.Counting.{counted_cons, once_rest, one_if}
 
 -- as many blocks as before
@@ -109,7 +109,7 @@ equal_left bank image rows = λ k d low same. not_differing (bytes_of_block imag
 pub planned_is : (plan : Plan) → planned plan ≡ row_places (plan_rows plan)
 planned_is plan = sym (map-append (λ (r : Row). r.at) plan.fresh plan.in_place)
 
-pub both_left : (bank image : Image) (plan : Plan) → left_of bank image plan.fresh ++ left_of bank image plan.in_place ≡ left_of bank image (plan_rows plan)
+pub both_left : (bank image : Image) (plan : Plan) → left_to_write bank image plan.fresh ++ left_to_write bank image plan.in_place ≡ left_to_write bank image (plan_rows plan)
 both_left bank image plan = sym (filter-append (differs bank image) plan.fresh plan.in_place)
 
 -- what holds of all places holds of the rows

@@ -14,7 +14,7 @@ use Rattle.xfs_request.specs.Requests.{volume_wanted}
 use Rattle.xfs_writing.specs.Writing.{writes_of_rows, written}
 use Rattle.xfs_writing.specs.declared.rows.Row.{Row}
 use Rattle.xfs_made.proofs.OnceLists.{counted}
-use Rattle.xfs_rebuild.specs.Differing.{differs, left_of}
+use Rattle.xfs_rebuild.specs.Differing.{differs, left_to_write}
 use Rattle.xfs_rebuild.specs.Rebuilds.{Ground, IsLeft, IsPlannedOn, asked}
 use Rattle.xfs_rebuild.specs.declared.planning.Rebuilt.{Rebuilt}
 use Rattle.xfs_rewritten.specs.Rewriting.{IsRewritten}
@@ -28,11 +28,11 @@ pub same_size : (g : Geometry) (r : Rebuilt) (image now : Image) → IsRewritten
 same_size g r image now is = ap length is.is ∙ length_written (writes_of_rows r.bank (r.fresh ++ r.in_place)) image
 
 -- what is left of a plan to write
-rows_left : (image : Image) (plan : Plan) (r : Rebuilt) → IsLeft image plan r → r.fresh ++ r.in_place ≡ left_of plan.bank image (plan_rows plan)
+rows_left : (image : Image) (plan : Plan) (r : Rebuilt) → IsLeft image plan r → r.fresh ++ r.in_place ≡ left_to_write plan.bank image (plan_rows plan)
 rows_left image plan r left = ap₂ (λ (a b : List Row). a ++ b) left.fresh' left.in_place' ∙ both_left plan.bank image plan
 
 written_left : (image : Image) (plan : Plan) (r : Rebuilt) → IsLeft image plan r
-    → written (writes_of_rows r.bank (r.fresh ++ r.in_place)) image ≡ written (writes_of_rows plan.bank (left_of plan.bank image (plan_rows plan))) image
+    → written (writes_of_rows r.bank (r.fresh ++ r.in_place)) image ≡ written (writes_of_rows plan.bank (left_to_write plan.bank image (plan_rows plan))) image
 written_left image plan r left =
     ap₂ (λ (bank : Image) (rows : List Row). written (writes_of_rows bank rows) image) left.bank' (rows_left image plan r left)
 
@@ -43,22 +43,22 @@ left_over_once image plan r left once =
 
 -- a plan is held, of which what differs was written
 pub plan_held : (image : Image) (plan : Plan) → IsOnce (planned plan) → All (λ block. block < length image) (planned plan)
-    → HoldsRows (plan_rows plan) plan.bank (written (writes_of_rows plan.bank (left_of plan.bank image (plan_rows plan))) image)
+    → HoldsRows (plan_rows plan) plan.bank (written (writes_of_rows plan.bank (left_to_write plan.bank image (plan_rows plan))) image)
 plan_held image plan once inside =
     rows_held plan.bank (differs plan.bank image) (plan_rows plan) image (subst IsOnce (planned_is plan) once)
     (rows_of (λ at. at < length image) (plan_rows plan) (subst (All (λ at. at < length image)) (planned_is plan) inside))
     (equal_left plan.bank image (plan_rows plan))
 
 pub plan_beside : (image : Image) (plan : Plan) (block : ℕ) → is_listed (planned plan) block ≡ false
-    → bytes_of_block (written (writes_of_rows plan.bank (left_of plan.bank image (plan_rows plan))) image) block ≡ bytes_of_block image block
+    → bytes_of_block (written (writes_of_rows plan.bank (left_to_write plan.bank image (plan_rows plan))) image) block ≡ bytes_of_block image block
 plan_beside image plan block out =
     let few = left_count (differs plan.bank image) (plan_rows plan) block in
     let none : counted block (planned plan) ≡ 0 = unlisted (planned plan) block out in
     let same : counted block (planned plan) ≡ counted block (row_places (plan_rows plan)) = ap (counted block) (planned_is plan) in
-    rows_beside plan.bank (left_of plan.bank image (plan_rows plan)) image block (omega (arith, few, none, same))
+    rows_beside plan.bank (left_to_write plan.bank image (plan_rows plan)) image block (omega (arith, few, none, same))
 
 module _ (g : Geometry) (sector : List ℕ) (s : Stamp) (image now : Image) (on : Ground) (r : Rebuilt) (is : IsPlannedOn g sector s image on r) (new : IsRewritten g r image now) where
-  now_is : now ≡ written (writes_of_rows is.planned.plan.bank (left_of is.planned.plan.bank image (plan_rows is.planned.plan))) image
+  now_is : now ≡ written (writes_of_rows is.planned.plan.bank (left_to_write is.planned.plan.bank image (plan_rows is.planned.plan))) image
   now_is = new.is ∙ written_left image is.planned.plan r is.planned.left
 
   inside : All (λ block. block < length image) (planned is.planned.plan)

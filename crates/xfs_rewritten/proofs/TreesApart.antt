@@ -25,10 +25,10 @@ use Rattle.xfs_render.specs.Groups.{no_tree, tree_places}
 use Rattle.xfs_render.specs.Plans.{IsOnce}
 use Rattle.xfs_render.specs.Trees.{group_tree_places}
 use Rattle.xfs_made.proofs.OnceLists.{ascend_once, counted, counted_append, joined}
-use Rattle.xfs_rewritten.specs.Unused.{IsUnused}
+use Rattle.xfs_rewritten.specs.Unused.{IsUnusedBlock}
 
 -- a block of the pool is unused
-pool_unused : (v : Volume) (kept : List Run) (reserved : List ℕ) (block : ℕ) → is_pool v kept reserved block ≡ true → IsUnused v kept reserved block
+pool_unused : (v : Volume) (kept : List Run) (reserved : List ℕ) (block : ℕ) → is_pool v kept reserved block ≡ true → IsUnusedBlock v kept reserved block
 unfolding is_pool
 pool_unused v kept reserved block pool =
     let both = and_parts (not (is_fixed v block) && not (is_taken kept block)) (not (is_listed reserved block)) pool in
@@ -41,7 +41,7 @@ pool_unused v kept reserved block pool =
 
 -- a block that trees of a group may stand on
 record IsTreeBlock (v : Volume) (kept : List Run) (reserved : List ℕ) (ag block : ℕ) : Type 0 where
-  unused : IsUnused v kept reserved block
+  unused : IsUnusedBlock v kept reserved block
   from : ag * v.agblocks ≤ block
   below : block < (ag + 1) * v.agblocks
   inside : block < v.dblocks
@@ -136,7 +136,7 @@ module _ (v : Volume) (groups : HasGroups v.dblocks v.agblocks v.agcount) (kept 
 -- the blocks of the trees of some groups, of which the first begins there
 pub record AreBehind (v : Volume) (kept : List Run) (reserved : List ℕ) (start : ℕ) (blocks : List ℕ) : Type 0 where
   pub once : IsOnce blocks
-  pub unused : All (IsUnused v kept reserved) blocks
+  pub unused : All (IsUnusedBlock v kept reserved) blocks
   pub from : All (λ block. start ≤ block) blocks
   pub inside : All (λ block. block < v.dblocks) blocks
 
@@ -145,7 +145,7 @@ groups_blocks : (v : Volume) (kept : List Run) (reserved : List ℕ) (ag : ℕ) 
     → AreBehind v kept reserved (ag * v.agblocks) (flat_map group_tree_places ps)
 groups_blocks v kept reserved ag [] each = record {
   once = record { each = λ at. omega arith };
-  unused = All-nil (IsUnused v kept reserved);
+  unused = All-nil (IsUnusedBlock v kept reserved);
   from = All-nil (λ block. ag * v.agblocks ≤ block);
   inside = All-nil (λ block. block < v.dblocks);
 }
@@ -162,7 +162,7 @@ groups_blocks v kept reserved ag (p ∷ ps) each =
           (All-weaker P (λ block. block < (ag + 1) * v.agblocks) (λ block is. is.below) mine first.all)
           (All-weaker (λ block. (ag + 1) * v.agblocks ≤ block) (λ block. block < (ag + 1) * v.agblocks → ⊥)
           (λ block from below. absurd (omega (arith, from, below))) others rest.from);
-      unused = All-append (IsUnused v kept reserved) mine others (All-weaker P (IsUnused v kept reserved) (λ block is. is.unused) mine first.all) rest.unused;
+      unused = All-append (IsUnusedBlock v kept reserved) mine others (All-weaker P (IsUnusedBlock v kept reserved) (λ block is. is.unused) mine first.all) rest.unused;
       from =
           All-append (λ block. ag * v.agblocks ≤ block) mine others (All-weaker P (λ block. ag * v.agblocks ≤ block) (λ block is. is.from) mine first.all)
           (All-weaker (λ block. (ag + 1) * v.agblocks ≤ block) (λ block. ag * v.agblocks ≤ block) (λ block from. omega (arith, from)) others rest.from);

@@ -13,7 +13,7 @@ use Rattle.xfs_render.specs.Rendering.{is_head, volume}
 use Rattle.xfs_salvage.specs.Kept.{run_of_cluster}
 
 -- the block has no fixed use, none of the runs has it, and it is not reserved
-pub record IsUnused (v : Volume) (kept : List Run) (reserved : List ℕ) (block : ℕ) : Type 0 where
+pub record IsUnusedBlock (v : Volume) (kept : List Run) (reserved : List ℕ) (block : ℕ) : Type 0 where
   pub unfixed : is_fixed v block ≡ false
   pub untaken : is_taken kept block ≡ false
   pub unreserved : is_listed reserved block ≡ false
@@ -28,13 +28,13 @@ abbrev pub IsHeadOrKept : Volume → List Run → ℕ → Type 0
 IsHeadOrKept v kept block = (is_head v block ≡ true) ⊎ (is_taken kept block ≡ true)
 
 -- no place stands twice, and each is such a block
-pub record ArePlaces (v : Volume) (kept : List Run) (places : List ℕ) : Type 0 where
+pub record AreHeadsOrKept (v : Volume) (kept : List Run) (places : List ℕ) : Type 0 where
   pub once : IsOnce places
   pub each : All (IsHeadOrKept v kept) places
 
 -- nothing had the block before, or it is of a new chunk or of an object
 abbrev pub IsFreshFor : Wanted → Placed → ℕ → Type 0
-IsFreshFor w p block = IsUnused (volume w) (kept_runs w) w.reserved block ⊎ (is_taken (w.new ++ p.runs) block ≡ true)
+IsFreshFor w p block = IsUnusedBlock (volume w) (kept_runs w) w.reserved block ⊎ (is_taken (w.new ++ p.runs) block ≡ true)
 
 -- the block is the first of a group, one of these clusters, or one of the log
 abbrev pub IsInPlace : Volume → List ℕ → ℕ → Type 0

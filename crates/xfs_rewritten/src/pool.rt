@@ -19,7 +19,7 @@ ghost use Rattle.xfs_render.specs.declared.plan.Plan.{Plan};
 ghost use Rattle.xfs_salvage.specs.Kept.{taken_of};
 ghost use Rattle.xfs_rebuild.specs.Rebuilds.{Ground, IsPlannedOn};
 ghost use Rattle.xfs_rebuild.specs.declared.planning.Rebuilt.{Rebuilt};
-ghost use Rattle.xfs_rewritten.specs.Unused.{IsFreshFor, IsInPlace, IsOfLog, IsUnused};
+ghost use Rattle.xfs_rewritten.specs.Unused.{IsFreshFor, IsInPlace, IsOfLog, IsUnusedBlock};
 
 /// The first blocks of a plan are blocks that nothing had, or blocks of new chunks and of objects (`plans`). Those of a rebuild
 /// are blocks that nothing kept has, without a fixed use and not reserved (`fresh`); written in place are first blocks of groups,
@@ -28,7 +28,7 @@ ghost use Rattle.xfs_rewritten.specs.Unused.{IsFreshFor, IsInPlace, IsOfLog, IsU
 pub fn rebuilds_use_the_pool()
     ensures plans { (w : Wanted) (p : Placed) (b : Bytes) (plan : Plan) → StandsFor w p → IsRendered w p b plan → All (IsFreshFor w p) (row_places plan.fresh) }
     ensures fresh { (g : Geometry) (sector : List ℕ) (s : Stamp) (image : Image) (on : Ground) (r : Rebuilt) (is : IsPlannedOn g sector s image on r)
-        → All (IsUnused (volume_of g) (taken_of (volume_of g) on.kept.clusters on.kept.files) on.reserved) (row_places is.planned.plan.fresh) }
+        → All (IsUnusedBlock (volume_of g) (taken_of (volume_of g) on.kept.clusters on.kept.files) on.reserved) (row_places is.planned.plan.fresh) }
     ensures in_place { (g : Geometry) (sector : List ℕ) (s : Stamp) (image : Image) (on : Ground) (r : Rebuilt) (is : IsPlannedOn g sector s image on r)
         → All (IsInPlace (volume_of g) on.kept.clusters) (row_places is.planned.plan.in_place) }
     ensures log { (g : Geometry) (sector : List ℕ) (s : Stamp) (image : Image) (on : Ground) (r : Rebuilt) (is : IsPlannedOn g sector s image on r)

@@ -1,6 +1,6 @@
 use Rattle.xfs_geom.specs.Volumes.{volume_of}
 use Rattle.xfs_reread.proofs.DueOwners.{due_runs, due_used}
-use Rattle.xfs_reread.proofs.files.due_files_own_what_is_kept.Goals as goal
+use Rattle.xfs_reread.proofs.files.rebuilt_files_own_what_is_kept.Goals as goal
 
 pub returns-clause-runs : goal.returns-clause-runs
 returns-clause-runs c = λ g s kept seen crc. due_runs (volume_of g) s kept seen crc
