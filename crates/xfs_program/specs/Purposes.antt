@@ -7,7 +7,7 @@ use Rattle.xfs_options.specs.declared.make_words.MakeLine.{MakeLine}
 use Rattle.xfs_shell.specs.Running.{may_write}
 use Rattle.xfs_shell.specs.Shells.{leave_of}
 use Rattle.xfs_tools.specs.CommandLine.{is_debugger, is_maker, judged}
-use Rattle.xfs_tools.specs.Debugging.{asked}
+use Rattle.xfs_tools.specs.Debugging.{session_options}
 use Rattle.xfs_tools.specs.HelpWords.{text_asked}
 use Rattle.xfs_tools.specs.declared.command_line.Call.{Call}
 use Rattle.xfs_tools.specs.declared.command_line.Call.TheVariants.{Repair, Refused}
@@ -26,7 +26,7 @@ repair_purpose (Refused n) = Nothing
 
 -- a session writes where its options allow that
 abbrev pub debugger_purpose : Result Debug ℕ → Purpose
-debugger_purpose (Ok line) = writing_purpose (may_write (leave_of (asked line)))
+debugger_purpose (Ok line) = writing_purpose (may_write (leave_of (session_options line)))
 debugger_purpose (Err n) = Nothing
 
 -- a volume that is made is written

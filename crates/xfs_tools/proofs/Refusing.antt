@@ -6,7 +6,7 @@ use Rattle.xfs_options.specs.declared.reading.LineFault.{LineFault}
 use Rattle.xfs_options.specs.declared.reading.LineFault.TheVariants.{Offends, NoMemory}
 use Rattle.xfs_shell.specs.declared.outcomes.ShellOptions.{ShellOptions}
 use Rattle.xfs_shell.specs.declared.outcomes.ShellOutcome.{ShellOutcome}
-use Rattle.xfs_tools.specs.Debugging.{IsDebugged, IsOfSession, asked, line_refusal}
+use Rattle.xfs_tools.specs.Debugging.{IsDebugged, IsOfSession, line_refusal, session_options}
 use Rattle.xfs_tools.specs.declared.answer.Answer.{Answer}
 use Rattle.xfs_tools.specs.declared.debugger.End.{End}
 
@@ -29,7 +29,7 @@ module _ (same : Type 0) (is_same : same) (done : ShellOptions → ShellOutcome 
 
 -- the end of a call whose words ask for a session
 pub session_is_debugged : (same : Type 0) (done : ShellOptions → ShellOutcome → Type 0) (faults : ℕ) → (said : Result Debug ℕ) → (line : Debug) → said ≡ Ok line
-    → (options : ShellOptions) → options ≡ asked line → (answer : Answer) → (finished : ℕ)
+    → (options : ShellOptions) → options ≡ session_options line → (answer : Answer) → (finished : ℕ)
     → IsOfSession options done faults answer finished → IsDebugged said same done faults answer finished
 session_is_debugged same done faults said line is options options_are answer finished session =
     subst (λ (due : Result Debug ℕ). IsDebugged due same done faults answer finished) (sym is)

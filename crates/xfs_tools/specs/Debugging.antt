@@ -21,8 +21,8 @@ use Rattle.xfs_tools.specs.declared.answer.Status.{Status}
 use Rattle.xfs_tools.specs.declared.debugger.End.{End}
 
 -- what the session is asked for
-abbrev pub asked : Debug → ShellOptions
-asked line = record { expert = line.expert; read_only = line.read_only; commands = line.commands }
+abbrev pub session_options : Debug → ShellOptions
+session_options line = record { expert = line.expert; read_only = line.read_only; commands = line.commands }
 
 -- the answer that the outcome of a session is, where the disk has counted so many failed reads
 abbrev pub session_answer : ℕ → ShellOutcome → Answer
@@ -87,7 +87,7 @@ pub record IsNoSession (due : Answer) (same : Type 0) (answer : Answer) (finishe
 abbrev pub IsDebugged : Result Debug ℕ → Type 0 → (ShellOptions → ShellOutcome → Type 0) → ℕ → Answer → ℕ → Type 0
 IsDebugged (Err n) same done faults answer finished = IsNoSession (Usage n) same answer finished
 IsDebugged (Ok line) same done faults answer finished =
-    IsNoSession NoMemory same answer finished ⊎ IsOfSession (asked line) done faults answer finished
+    IsNoSession NoMemory same answer finished ⊎ IsOfSession (session_options line) done faults answer finished
 
 -- the status of a session; where the line of its answer could not be put, an output fault stands in its place
 abbrev pub session_status : Answer → ℕ → Result (Unit {0}) Failed → Status

@@ -4,7 +4,7 @@ ghost use Rattle.std.specs.Prelude.{◌≡◌, ℕ, Result};
 ghost use Rattle.xfs_disk.specs.declared.failed.Failed.{Failed};
 ghost use Rattle.xfs_options.specs.DebugWords.{debug_of, said};
 ghost use Rattle.xfs_texts.specs.Lines.{PutsText};
-ghost use Rattle.xfs_tools.specs.Debugging.{IsDebugged, IsOfSession, IsShelled, asked, finished_of, line_refusal, session_answer, session_status};
+ghost use Rattle.xfs_tools.specs.Debugging.{IsDebugged, IsOfSession, IsShelled, finished_of, line_refusal, session_answer, session_options, session_status};
 ghost use Rattle.xfs_tools.specs.Texts.{text_of};
 ghost use Rattle.xfs_tools.specs.declared.answer.Answer.{Answer};
 
@@ -89,7 +89,7 @@ fn refused(fault: LineFault) -> End
 
 /// What a session is asked for by a command line.
 fn options_of(line: DebugLine) -> ShellOptions
-    ensures { result ≡ asked (said line) }
+    ensures { result ≡ session_options (said line) }
 {
     ShellOptions {
         expert: line.expert,
