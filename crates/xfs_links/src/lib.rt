@@ -2,7 +2,7 @@
 //! their names.
 //!
 //! From the files that are kept and the entries that were read to names that hang together: who repairs names writes the
-//! entries that stay, and puts the orphans into lost+found under the names that are given here. No tool calls it yet.
+//! entries that stay, and puts the orphans into lost+found under the names that are given here.
 //!
 //! A caller would write:
 //!

@@ -1,5 +1,5 @@
 -- The directories that are built anew, each with the entries and the parent that are wanted (chapter "Directories").
-use Rattle.std.specs.Prelude.{◌≡◌, ℕ, ◌<◌, ◌≤◌, ◌^◌, ◌==◌, if◌then◌else◌, List, [], ◌∷◌, map, length, Some, IsTrue}
+use Rattle.std.specs.Prelude.{◌≡◌, ℕ, ◌+◌, ◌<◌, ◌≤◌, ◌^◌, ◌==◌, if◌then◌else◌, List, [], ◌∷◌, map, length, Some, IsTrue}
 use Rattle.std.specs.List.{All}
 use Rattle.std.specs.List.Sorted.{IsNonDecreasingBy}
 use Rattle.xfs_dirdata.specs.declared.records.EntryRec.{EntryRec}
@@ -43,6 +43,7 @@ pub record IsImageIn (form : DirectoryForm) (entries : List EntryRec) (d parent 
   pub data_count : image.data_blocks ≡ data_blocks_of form entries
   pub index_count : image.index_blocks ≡ index_blocks_of form entries
   pub free_count : image.free_blocks ≡ free_blocks_of form entries
+  pub count : length image.blocks ≡ image.data_blocks + image.index_blocks + image.free_blocks
   pub blocks_are : image.blocks ≡ dir_blocks form d parent entries
   pub magics : HaveMagics image.data_blocks image.index_blocks image.free_blocks image.blocks
   pub whole : IsBuilt form d parent image.data_blocks image.index_blocks image.free_blocks entries image.blocks

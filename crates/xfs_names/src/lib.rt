@@ -2,7 +2,7 @@
 //! lost+found stands, and the directories that are built anew.
 //!
 //! From what `xfs_links` decides on the names of the kept files to what is written: who repairs a volume asks where lost+found
-//! stands, makes a new cluster for it where need be, and gets all names as lists. No tool calls it yet.
+//! stands, makes a new cluster for it where need be, and gets all names as lists.
 //!
 //! A caller would write:
 //!

@@ -27,7 +27,7 @@ const CLUSTER_BLOCKS: u64 = 4;
 
 /// The chunks of each group that have a kept cluster.
 #[tactic(auto, unfolding(crate::specs::Chunks::inodes_wanted))]
-pub(crate) fn inodes_wanted(
+pub fn inodes_wanted(
     alloc: Global,
     g: &Geometry,
     kept: &Salvaged,

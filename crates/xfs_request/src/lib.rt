@@ -2,7 +2,6 @@
 //!
 //! Whoever mends a volume hands in what is kept, with what is known of the slots of its clusters. The trees of the groups are
 //! placed beside what is kept, and the slots that nothing kept stands on are freed or made anew. Nothing is read or written here.
-//! No tool calls it yet.
 //!
 //! A caller would write:
 //!
@@ -24,6 +23,8 @@ mod slots;
 mod taken;
 
 pub use asking::{Request, ask};
+pub use chunks::inodes_wanted;
 pub use links::links_due;
 pub use log::due_cycle;
 pub use seen::{SlotSeen, SlotState};
+pub use taken::taken_runs;

@@ -20,7 +20,7 @@ const INODES: u64 = u64::MAX - 6;
 const CLUSTER_BLOCKS: u64 = 4;
 
 /// The runs of the kept clusters, and behind them those that the kept files claim.
-pub(crate) fn taken_runs(alloc: Global, g: &Geometry, kept: &Salvaged) -> Result<Vec<Run>, NoMemory>
+pub fn taken_runs(alloc: Global, g: &Geometry, kept: &Salvaged) -> Result<Vec<Run>, NoMemory>
     requires { All (HasLawfulForks (volume_of g.now)) kept.now.files }
     ensures { IfOk result (λ runs. runs.items ≡ taken_of (volume_of g.now) kept.now.clusters kept.now.files) }
 {

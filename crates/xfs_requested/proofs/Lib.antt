@@ -1,5 +1,5 @@
-mod Taken
-mod Lawful
+pub mod Taken
+pub mod Lawful
 pub mod Writable
 pub mod Used
 pub mod Spaced
