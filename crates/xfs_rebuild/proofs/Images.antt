@@ -1,7 +1,7 @@
 -- What is gathered of any image passes the tests that a rebuild makes.
-use Rattle.std.proofs.Common.{◌≡◌, ℕ, true, ◌+◌, ◌≤◌, ◌<◌, nat_le, List, [], ◌∷◌, ◌++◌, map, length, Option, Some, None, MatchOption, refl, sym, ap, ◌∙◌, arith}
+use Rattle.std.proofs.Common.{◌≡◌, ℕ, true, ◌+◌, ◌^◌, ◌≤◌, ◌<◌, nat_le, nat_lt, List, [], ◌∷◌, ◌++◌, map, length, Option, Some, None, MatchOption, refl, sym, ap, ◌∙◌, arith}
 use Rattle.std.specs.List.{flat_map}
-use Rattle.std.proofs.lemmas.Bool.{and_from, le-leb}
+use Rattle.std.proofs.lemmas.Bool.{and_from, le-leb, lt-ltb}
 use Rattle.std.proofs.lemmas.List.{length-map}
 use Rattle.xfs_disk.specs.Blocks.{Image, bytes_of_block}
 use Rattle.xfs_disk.specs.declared.stamp.Stamp.{Stamp}
@@ -13,7 +13,7 @@ use Rattle.xfs_geom.specs.declared.geometry.Geometry.{Geometry}
 use Rattle.xfs_image.specs.Candidates.{candidates}
 use Rattle.xfs_image.specs.Claims.{candidate_files, candidate_inodes}
 use Rattle.xfs_image.specs.Slots.{reads_as}
-use Rattle.xfs_inode.specs.Slots.{slot_seal}
+use Rattle.xfs_inode.specs.Slots.{fork_bytes, slot_seal}
 use Rattle.xfs_inode.specs.declared.files.FileRead.{FileRead}
 use Rattle.xfs_inode.specs.declared.files.FileRead.TheVariants as Reads
 use Rattle.xfs_naming.specs.Naming.{NumbersAscend}
@@ -22,7 +22,8 @@ use Rattle.xfs_slots.specs.Gathered.{bare_if, bare_inodes}
 use Rattle.xfs_slots.specs.declared.facts.SlotFact.{SlotFact}
 use Rattle.xfs_kept.proofs.Inodes.{inodes_ascend}
 use Rattle.xfs_render.specs.Clusters.{slot_in}
-use Rattle.xfs_render.specs.Slots.{CanBase, CanMake, forkoff_of, wanted_of}
+use Rattle.xfs_inodebuild.specs.declared.forks.ForkWanted.{ForkWanted}
+use Rattle.xfs_render.specs.Slots.{CanBase, CanFork, CanMake, forkoff_of, wanted_of}
 use Rattle.xfs_render.specs.declared.wanted_slots.SlotBase.{SlotBase}
 use Rattle.xfs_render.specs.declared.wanted_slots.SlotBase.TheVariants as Base
 use Rattle.xfs_render.specs.declared.wanted_slots.SlotWanted.{SlotWanted}
@@ -32,7 +33,7 @@ use Rattle.xfs_request.specs.Slots.{wanted_slots}
 use Rattle.xfs_request.specs.declared.seen.SlotSeen.{SlotSeen}
 use Rattle.xfs_requested.specs.Handed.{IsKeptOf}
 use Rattle.xfs_requested.proofs.Makeable.{slots_can}
-use Rattle.xfs_rebuild.specs.Changes.{CanChange, can_base, can_make}
+use Rattle.xfs_rebuild.specs.Changes.{CanChange, can_base, can_fork, can_make}
 use Rattle.xfs_rebuild.specs.Seen.{all_seen, inodes_of_clusters, slots_seen}
 
 -- the inodes of the candidate clusters are those of the image
@@ -85,9 +86,16 @@ base_passes v ino Base.Kept old sealed low =
 base_passes v ino Base.Free old sealed low = refl
 base_passes v ino (Base.Fresh core) old sealed low = refl
 
+fork_passes : (forkoff : ℕ) (fork : Option ForkWanted) → MatchOption fork (Unit {0}) (CanFork forkoff) → can_fork forkoff fork ≡ true
+fork_passes forkoff None can = refl
+fork_passes forkoff (Some fork) can =
+    and_from (nat_lt fork.nextents (2 ^ 32)) (nat_le (length fork.bytes) (fork_bytes forkoff)) (lt-ltb fork.nextents (2 ^ 32) can.few)
+    (le-leb (length fork.bytes) (fork_bytes forkoff) can.short)
+
 passes : (v : Volume) (old : List ℕ) (wanted : Option SlotWanted) → MatchOption wanted (Unit {0}) (λ w. CanMake v w old) → can_make v old wanted ≡ true
 passes v old None can = refl
-passes v old (Some w) can = base_passes v w.ino w.base old can.base can.forkoff
+passes v old (Some w) can =
+    and_from (can_base v w.ino w.base old) (can_fork (forkoff_of w.base old) w.fork) (base_passes v w.ino w.base old can.base can.forkoff) (fork_passes (forkoff_of w.base old) w.fork can.fork)
 
 pub slots_pass : (g : Geometry) (image : Image) (s : Stamp) (kept : Salvaged) (slots : List SlotSeen) (block : ℕ)
     → IsKeptOf (volume_of g) (candidates (volume_of g) image) (candidate_files (volume_of g) image) kept → block < g.dblocks

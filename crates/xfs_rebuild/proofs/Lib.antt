@@ -2,12 +2,13 @@ mod Listed
 mod Counted
 mod Linked
 mod Placed
-mod Served
-mod Grounds
+pub mod Served
+pub mod Grounds
 mod KeptNames
 mod Images
 mod Parts
 mod Needs
 mod Rebuilding
+pub mod Known
 mod Added
 mod DueNames

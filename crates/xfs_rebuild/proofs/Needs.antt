@@ -1,24 +1,52 @@
 -- Whether names would have to change, from the lists that are judged.
-use Rattle.std.proofs.Common.{◌≡◌, ℕ, List, map, ◌∙◌, sym}
+use Rattle.std.proofs.Common.{◌≡◌, ℕ, Bool, true, false, if◌then◌else◌, List, map, Option, Some, None, refl, ap, subst, ◌∙◌, sym}
+use Rattle.std.specs.Prelude.{IfSome}
 use Rattle.std.specs.Option.{is_some}
 use Rattle.xfs_dirdata.specs.declared.records.EntryRec.{EntryRec}
-use Rattle.xfs_naming.specs.Naming.{naming_laws}
+use Rattle.xfs_naming.specs.Naming.{AreNamed, naming_laws}
 use Rattle.xfs_volume.specs.Laws.{first_broken}
 use Rattle.xfs_volume.specs.declared.directories.DirRec.{DirRec}
 use Rattle.xfs_volume.specs.declared.files.FileRec.{FileRec}
 use Rattle.xfs_render.specs.declared.wanted_slots.SlotWanted.{SlotWanted}
 use Rattle.xfs_salvage.specs.declared.found.Salvaged.{Salvaged}
 use Rattle.xfs_request.specs.Slots.{links_due}
-use Rattle.xfs_rebuild.specs.Names.{due_dirs, due_files, linked_files, made_files, needs_names, with_made_files, with_nlink}
+use Rattle.xfs_rebuild.specs.Names.{AreDueNames, due_dirs, due_files, made_files, needs_names, with_made_files, with_nlink}
+use Rattle.xfs_rebuild.specs.declared.names.DueNames.{DueNames}
 
-pub needs_is : (root : ℕ) (kept : Salvaged) (slots : List SlotWanted) (dues : List ℕ) (before files : List FileRec) (entries : List EntryRec) (dirs : List DirRec)
+-- the files that the volume then has, from the lists that they are made of
+pub files_due : (root : ℕ) (kept : Salvaged) (slots : List SlotWanted) (dues : List ℕ) (before files : List FileRec)
     → dues ≡ map (links_due root kept.files kept.entries) kept.files → before ≡ kept.files
     → ((due : FileRec → ℕ) → dues ≡ map due before → files ≡ with_made_files (made_files slots) (map (λ (f : FileRec). with_nlink f (due f)) before))
-    → entries ≡ kept.entries → dirs ≡ due_dirs root kept
-    → is_some (first_broken (naming_laws root files entries dirs)) ≡ needs_names root kept slots
-unfolding needs_names due_files
-needs_is root kept slots dues before files entries dirs due same made own all =
+    → files ≡ due_files root kept slots
+unfolding due_files
+files_due root kept slots dues before files due same made =
     let links = links_due root kept.files kept.entries in
-    let linked : files ≡ with_made_files (made_files slots) (linked_files root kept) =
-    made links (due ∙ (λ i. map links (sym same i))) ∙ (λ i. with_made_files (made_files slots) (map (λ (f : FileRec). with_nlink f (links f)) (same i))) in
-    λ i. is_some (first_broken (naming_laws root (linked i) (own i) (all i)))
+    made links (due ∙ (λ i. map links (sym same i))) ∙ (λ i. with_made_files (made_files slots) (map (λ (f : FileRec). with_nlink f (links f)) (same i)))
+
+some_if : (breaks : Bool) (names : DueNames) → is_some (if breaks then Some names else None) ≡ breaks
+some_if true names = refl
+some_if false names = refl
+
+pub needs_are : (root : ℕ) (kept : Salvaged) (slots : List SlotWanted) (names : DueNames) (files : List FileRec) (entries : List EntryRec) (dirs : List DirRec) (breaks : Bool) (broken : Option DueNames)
+    → AreDueNames root kept slots names → files ≡ names.files → entries ≡ names.entries → dirs ≡ names.dirs
+    → breaks ≡ is_some (first_broken (naming_laws root files entries dirs)) → broken ≡ (if breaks then Some names else None) → is_some broken ≡ needs_names root kept slots
+unfolding needs_names
+needs_are root kept slots names files entries dirs breaks broken are a b c tested is =
+    let all : files ≡ due_files root kept slots = a ∙ are.files' in
+    let own : entries ≡ kept.entries = b ∙ are.entries' in
+    let directories : dirs ≡ due_dirs root kept = c ∙ are.dirs' in
+    ap is_some is ∙ some_if breaks names ∙ tested ∙ (λ i. is_some (first_broken (naming_laws root (all i) (own i) (directories i))))
+
+-- what holds of the names holds where they are handed out
+pub names_hold : (P : DueNames → Type 0) (breaks : Bool) (names : DueNames) (broken : Option DueNames) → P names → broken ≡ (if breaks then Some names else None) → IfSome broken P
+names_hold P breaks names broken holds is = subst (λ (b : Option DueNames). IfSome b P) (sym is) (by_case breaks)
+  where
+    by_case : (t : Bool) → IfSome (if t then Some names else None) P
+    by_case true = holds
+    by_case false = tt
+
+pub still_named : (names : DueNames) (files : List FileRec) (entries : List EntryRec) (dirs : List DirRec) → files ≡ names.files → entries ≡ names.entries → dirs ≡ names.dirs
+    → AreNamed files entries dirs → AreNamed names.files names.entries names.dirs
+still_named names files entries dirs a b c named =
+    subst (λ (xs : List FileRec). AreNamed xs names.entries names.dirs) a
+    (subst (λ (xs : List EntryRec). AreNamed files xs names.dirs) b (subst (λ (xs : List DirRec). AreNamed files entries xs) c named))

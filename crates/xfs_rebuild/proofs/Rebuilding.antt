@@ -1,11 +1,12 @@
 -- What a rebuild is, from its parts; and why none is planned.
-use Rattle.std.proofs.Common.{◌≡◌, ℕ, false, List, Option, Result, Ok, Err, refl, subst, ◌∙◌}
-use Rattle.std.specs.Prelude.{IfErr, IfOk}
-use Rattle.std.specs.Option.{ForSome}
+use Rattle.std.proofs.Common.{◌≡◌, ℕ, true, false, List, Option, Some, None, Result, Ok, Err, refl, sym, ap, subst, ◌∙◌}
+use Rattle.std.specs.Prelude.{IfErr, IfOk, IfSome}
+use Rattle.std.specs.Option.{ForSome, is_some}
 use Rattle.xfs_disk.specs.Blocks.{Image}
 use Rattle.xfs_disk.specs.declared.stamp.Stamp.{Stamp}
 use Rattle.xfs_geom.specs.Volumes.{Volume, volume_of}
 use Rattle.xfs_geom.specs.declared.geometry.Geometry.{Geometry}
+use Rattle.xfs_heads.specs.declared.log.state.LogState.{LogState}
 use Rattle.xfs_empty.specs.Planning.{StandsFor}
 use Rattle.xfs_place.specs.declared.wanted.Wanted.{Wanted}
 use Rattle.xfs_place.specs.declared.placed.Placed.{Placed}
@@ -17,20 +18,24 @@ use Rattle.xfs_scan.specs.Evidence.{dirs_seen, entries_seen, files_seen}
 use Rattle.xfs_scan.specs.declared.evidence.Evidence.{Evidence}
 use Rattle.xfs_groups.specs.declared.groups.GroupTrees.{GroupTrees}
 use Rattle.xfs_slots.specs.declared.facts.SlotFact.{SlotFact}
+use Rattle.xfs_naming.specs.Naming.{AreNamed}
 use Rattle.xfs_volume.specs.declared.clusters.ClusterRec.{ClusterRec}
 use Rattle.xfs_salvage.specs.Kept.{entries_of_kept, fresh_inodes, kept_clusters, kept_dirs, kept_files}
 use Rattle.xfs_salvage.specs.declared.found.FoundRecords.{FoundRecords}
 use Rattle.xfs_salvage.specs.declared.found.Salvaged.{Salvaged}
 use Rattle.xfs_request.specs.Requests.{cleared_count, kept_count}
+use Rattle.xfs_request.specs.Slots.{wanted_slots}
 use Rattle.xfs_request.specs.declared.seen.SlotSeen.{SlotSeen}
 use Rattle.xfs_rebuild.specs.Bytes.{AreAtHand, AreReadOf}
 use Rattle.xfs_rebuild.specs.Found.{reserved_of}
-use Rattle.xfs_rebuild.specs.Names.{needs_names}
-use Rattle.xfs_rebuild.specs.Rebuilds.{Ground, IsGround, IsLeft, IsPlannedFor, IsPlannedOn, IsRebuildOf, asked, ground, slots_asked}
+use Rattle.xfs_rebuild.specs.Names.{AreDueNames, due_files, needs_names}
+use Rattle.xfs_rebuild.specs.Rebuilds.{AreNamesDue, Ground, IsFound, IsGround, IsLeft, IsPlannedFor, IsPlannedOn, IsRebuildOf, IsRenderedLeft, asked, ground, names_change, names_due_of, slots_asked}
 use Rattle.xfs_rebuild.specs.Refusals.{IsPlaceRefused, IsReadRefused, IsRefused, IsRefusedOn}
 use Rattle.xfs_rebuild.specs.Seen.{slots_seen}
 use Rattle.xfs_rebuild.specs.declared.faults.RebuildFault.{RebuildFault}
 use Rattle.xfs_rebuild.specs.declared.faults.RebuildFault.TheVariants as faults
+use Rattle.xfs_rebuild.specs.declared.names.DueNames.{DueNames}
+use Rattle.xfs_rebuild.specs.declared.names_due.NamesDue.{NamesDue}
 use Rattle.xfs_rebuild.specs.declared.planning.Rebuilt.{Rebuilt}
 
 pub planned_on : (g : Geometry) (sector : List ℕ) (s : Stamp) (image : Image) (on : Ground) (b : Bytes) (wanted : Wanted) (r : Rebuilt)
@@ -69,29 +74,50 @@ module _ (v : Volume) (found : FoundRecords) (kept : Salvaged) (clusters' : kept
   }
 
 -- refusals
-pub refused : (g : Geometry) (s : Stamp) (e : Evidence) (on : Ground) (fault : RebuildFault) → IsGround (volume_of g) e on → IsRefusedOn g s on fault → IsRefused g s e fault
-refused g s e on faults.Names stands is = (on, stands, is)
-refused g s e on (faults.NoRoom what) stands is = (on, stands, is.0, is.1)
-refused g s e on faults.ReadFault stands is = tt
-refused g s e on faults.NoMemory stands is = tt
+pub refused : (g : Geometry) (s : Stamp) (e : Evidence) (on : Ground) (fault : RebuildFault) → IsGround (volume_of g) e on → IsFound (volume_of g) on.kept → IsRefusedOn g s on fault → IsRefused g s e fault
+refused g s e on (faults.Names due) stands found is = (on, stands, is.0, is.1, found)
+refused g s e on (faults.NoRoom what) stands found is = (on, stands, is.0, is.1)
+refused g s e on faults.ReadFault stands found is = tt
+refused g s e on faults.NoMemory stands found is = tt
 
 pub read_refused_place : (w : Wanted) (fault : RebuildFault) → IsReadRefused fault → IsPlaceRefused w fault
-read_refused_place w faults.Names is = absurd is
+read_refused_place w (faults.Names due) is = absurd is
 read_refused_place w (faults.NoRoom what) is = absurd is
 read_refused_place w faults.ReadFault is = tt
 read_refused_place w faults.NoMemory is = tt
 
 -- what is placed, rendered and left is planned
-pub planned_for : (w : Wanted) (p : Placed) (b : Bytes) (plan : Plan) (held : Option Image) (result : Result Rebuilt RebuildFault)
-    → StandsFor w p → IsRendered w p b plan → IfOk result (λ r. ForSome held (λ image. IsLeft image plan r))
-    → IfOk result (λ r. ForSome held (λ image. IsPlannedFor w b image r))
-planned_for w p b plan held (Ok r) stands rendered left =
-    λ image told. record { placed = p; stands = stands; plan = plan; rendered = rendered; left = left image told }
-planned_for w p b plan held (Err fault) stands rendered left = left
+pub rendered_left : (w : Wanted) (p : Placed) (b : Bytes) (plan : Plan) (held : Option Image) (result : Result Rebuilt RebuildFault)
+    → IsRendered w p b plan → IfOk result (λ r. ForSome held (λ image. IsLeft image plan r)) → IfOk result (λ r. ForSome held (λ image. IsRenderedLeft w p b image r))
+rendered_left w p b plan held (Ok r) rendered left = λ image told. record { plan = plan; rendered = rendered; left = left image told }
+rendered_left w p b plan held (Err fault) rendered left = left
+
+pub planned_for : (w : Wanted) (p : Placed) (b : Bytes) (held : Option Image) (result : Result Rebuilt RebuildFault)
+    → StandsFor w p → IfOk result (λ r. ForSome held (λ image. IsRenderedLeft w p b image r)) → IfOk result (λ r. ForSome held (λ image. IsPlannedFor w b image r))
+planned_for w p b held (Ok r) stands planned =
+    λ image told. let is = planned image told in record { placed = p; stands = stands; plan = is.plan; rendered = is.rendered; left = is.left }
+planned_for w p b held (Err fault) stands planned = planned
 
 pub none_placed : (w : Wanted) (result : Result Rebuilt RebuildFault) → IfErr result IsReadRefused → IfErr result (IsPlaceRefused w)
 none_placed w (Ok r) is = is
 none_placed w (Err fault) is = read_refused_place w fault is
+
+-- what was asked by equal facts
+module _ (g : Geometry) (s : Stamp) (kept : Salvaged) (view seen : List SlotSeen) (same : view ≡ seen) where
+  pub slots_of : (slots : List SlotWanted) → slots ≡ wanted_slots (volume_of g) s kept view → slots ≡ wanted_slots (volume_of g) s kept seen
+  slots_of slots is = subst (λ (known : List SlotSeen). slots ≡ wanted_slots (volume_of g) s kept known) same is
+
+  pub cleared_of : (count : ℕ) → count ≡ cleared_count (wanted_slots (volume_of g) s kept view) → count ≡ cleared_count (wanted_slots (volume_of g) s kept seen)
+  cleared_of count is = subst (λ (known : List SlotSeen). count ≡ cleared_count (wanted_slots (volume_of g) s kept known)) same is
+
+pub none_change : (root : ℕ) (kept : Salvaged) (slots : List SlotWanted) (broken : Option DueNames) → is_some broken ≡ needs_names root kept slots → broken ≡ None
+    → needs_names root kept slots ≡ false
+none_change root kept slots broken needs none = sym needs ∙ ap is_some none
+
+-- what is read by equal facts
+pub read_of : (g : Geometry) (kept : Salvaged) (view seen : List SlotSeen) (log : LogState) (held : Option Image) (b : Bytes) → view ≡ seen
+    → ForSome held (λ image. AreReadOf g image kept view log b) → ForSome held (λ image. AreReadOf g image kept seen log b)
+read_of g kept view seen log held b same read = subst (λ (known : List SlotSeen). ForSome held (λ image. AreReadOf g image kept known log b)) same read
 
 -- what is planned for what was asked is so by what it goes by
 pub all_planned : (g : Geometry) (sector : List ℕ) (s : Stamp) (on : Ground) (b : Bytes) (wanted : Wanted) (slots view : List SlotWanted) (count cleared : ℕ)
@@ -108,6 +134,31 @@ all_planned g sector s on b wanted slots view count cleared held later (Ok r) sa
     (read image told) same (planned image (as_before ∙ told)) (kept' ∙ many) (cleared' ∙ freed)
 all_planned g sector s on b wanted slots view count cleared held later (Err fault) same of many freed hand read seen named as_before planned kept' cleared' = planned
 
+-- a name has to change where a law of names is broken by what there is to be named, and this is then known of the volume
+pub names_refused : (g : Geometry) (s : Stamp) (on : Ground) (wanted : Wanted) (slots requested view : List SlotWanted) (broken : Option DueNames) (names : DueNames) (due : NamesDue)
+    → wanted ≡ asked g on → slots ≡ requested → requested ≡ slots_asked g s on → view ≡ slots → is_some broken ≡ needs_names g.rootino on.kept view → broken ≡ Some names
+    → IfSome broken (AreDueNames g.rootino on.kept view) → IfSome broken (λ (n : DueNames). AreNamed n.files n.entries n.dirs)
+    → due ≡ names_due_of wanted slots names on.seen on.log → (names_change g s on ≡ true) × AreNamesDue g s on due
+names_refused g s on wanted slots requested view broken names due same mine asked_for seen needs is are named made =
+    let of : slots ≡ slots_asked g s on = mine ∙ asked_for in
+    let all : view ≡ slots_asked g s on = seen ∙ of in
+    let own : AreDueNames g.rootino on.kept view names = subst (λ (b : Option DueNames). IfSome b (AreDueNames g.rootino on.kept view)) is are in
+    let files : names.files ≡ due_files g.rootino on.kept (slots_asked g s on) = own.files' ∙ ap (due_files g.rootino on.kept) all in (
+      ap (needs_names g.rootino on.kept) (sym all) ∙ sym needs ∙ ap is_some is,
+      subst (AreNamesDue g s on) (sym made) (record {
+        wanted' = same;
+        slots' = of;
+        files' = files;
+        entries' = own.entries';
+        dirs' = own.dirs';
+        clusters' = own.clusters';
+        fresh' = own.fresh';
+        seen' = refl;
+        log' = refl;
+        named = subst (λ (b : Option DueNames). IfSome b (λ (n : DueNames). AreNamed n.files n.entries n.dirs)) is named;
+      }),
+    )
+
 -- what is planned by what an evidence gives is a rebuild of it
 pub rebuilt : (g : Geometry) (sector : List ℕ) (s : Stamp) (e : Evidence) (on : Ground) (held : Option Image) (result : Result Rebuilt RebuildFault)
     → IsGround (volume_of g) e on → IfOk result (λ r. ForSome held (λ image. IsPlannedOn g sector s image on r))
@@ -116,6 +167,6 @@ rebuilt g sector s e on held (Ok r) stands planned = λ image told. record { on 
 rebuilt g sector s e on held (Err fault) stands planned = planned
 
 pub none_rebuilt : (g : Geometry) (s : Stamp) (e : Evidence) (on : Ground) (result : Result Rebuilt RebuildFault)
-    → IsGround (volume_of g) e on → IfErr result (IsRefusedOn g s on) → IfErr result (IsRefused g s e)
-none_rebuilt g s e on (Ok r) stands is = is
-none_rebuilt g s e on (Err fault) stands is = refused g s e on fault stands is
+    → IsGround (volume_of g) e on → IsFound (volume_of g) on.kept → IfErr result (IsRefusedOn g s on) → IfErr result (IsRefused g s e)
+none_rebuilt g s e on (Ok r) stands found is = is
+none_rebuilt g s e on (Err fault) stands found is = refused g s e on fault stands found is

@@ -1,5 +1,5 @@
 -- Whether names would have to change: the files that the volume then has, with as many links as they have names, break a law of names.
-use Rattle.std.specs.Prelude.{ℕ, Bool, true, ◌-◌, ◌^◌, nat_lt, if◌then◌else◌, List, [], ◌∷◌, map}
+use Rattle.std.specs.Prelude.{◌≡◌, ℕ, Bool, true, ◌-◌, ◌^◌, nat_lt, if◌then◌else◌, List, [], ◌∷◌, map}
 use Rattle.std.specs.List.{flat_map}
 use Rattle.std.specs.Option.{is_some}
 use Rattle.xfs_disk.specs.Lists.{is_among}
@@ -13,6 +13,7 @@ use Rattle.xfs_render.specs.declared.wanted_slots.SlotBase.TheVariants.{Free, Fr
 use Rattle.xfs_render.specs.declared.wanted_slots.SlotWanted.{SlotWanted}
 use Rattle.xfs_salvage.specs.declared.found.Salvaged.{Salvaged}
 use Rattle.xfs_request.specs.Slots.{links_due}
+use Rattle.xfs_rebuild.specs.declared.names.DueNames.{DueNames}
 
 -- a file with so many links, which does not wait to be removed
 abbrev pub with_nlink : FileRec → ℕ → FileRec
@@ -67,3 +68,11 @@ due_dirs root kept = dirs_with root kept.fresh kept.dirs
 -- a law of names is broken whatever numbers of links are set
 unfoldable pub needs_names : ℕ → Salvaged → List SlotWanted → Bool
 needs_names root kept slots = is_some (first_broken (naming_laws root (due_files root kept slots) kept.entries (due_dirs root kept)))
+
+-- what there is to be named of what is kept
+pub record AreDueNames (root : ℕ) (kept : Salvaged) (slots : List SlotWanted) (names : DueNames) : Type 0 where
+  pub files' : names.files ≡ due_files root kept slots
+  pub entries' : names.entries ≡ kept.entries
+  pub dirs' : names.dirs ≡ due_dirs root kept
+  pub clusters' : names.clusters ≡ kept.clusters
+  pub fresh' : names.fresh ≡ kept.fresh

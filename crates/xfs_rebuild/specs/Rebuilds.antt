@@ -1,5 +1,5 @@
 -- What a rebuild is: what is kept, where the rest is placed, the bytes of the plan, and what of it is written.
-use Rattle.std.specs.Prelude.{◌≡◌, ℕ, ◌<◌, Bool, false, List}
+use Rattle.std.specs.Prelude.{◌≡◌, ℕ, ◌<◌, Bool, true, false, List}
 use Rattle.std.specs.List.{All}
 use Rattle.xfs_disk.specs.Blocks.{Image}
 use Rattle.xfs_disk.specs.declared.stamp.Stamp.{Stamp}
@@ -9,6 +9,7 @@ use Rattle.xfs_volume.specs.declared.clusters.ClusterRec.{ClusterRec}
 use Rattle.xfs_volume.specs.declared.files.FileRec.{FileRec}
 use Rattle.xfs_heads.specs.declared.log.state.LogState.{LogState}
 use Rattle.xfs_scan.specs.declared.evidence.Evidence.{Evidence}
+use Rattle.xfs_naming.specs.Naming.{AreNamed}
 use Rattle.xfs_salvage.specs.Claimable.{CanBeSalvaged}
 use Rattle.xfs_salvage.specs.declared.found.Salvaged.{Salvaged}
 use Rattle.xfs_empty.specs.Planning.{StandsFor}
@@ -27,7 +28,9 @@ use Rattle.xfs_requested.specs.Handed.{IsKeptOf}
 use Rattle.xfs_rebuild.specs.Bytes.{AreAtHand, AreReadOf}
 use Rattle.xfs_rebuild.specs.Differing.{left_to_write}
 use Rattle.xfs_rebuild.specs.Found.{IsKept, reserved_of, seen_in_evidence}
-use Rattle.xfs_rebuild.specs.Names.{needs_names}
+use Rattle.xfs_rebuild.specs.Names.{due_dirs, due_files, needs_names}
+use Rattle.xfs_rebuild.specs.declared.names.DueNames.{DueNames}
+use Rattle.xfs_rebuild.specs.declared.names_due.NamesDue.{NamesDue}
 use Rattle.xfs_rebuild.specs.declared.planning.Rebuilt.{Rebuilt}
 
 -- what a rebuild goes by: what is kept, what is known of the slots of the candidate clusters, the blocks that are reserved, the log
@@ -62,6 +65,12 @@ pub record IsLeft (image : Image) (plan : Plan) (r : Rebuilt) : Type 0 where
   pub bank' : r.bank ≡ plan.bank
   pub fresh' : r.fresh ≡ left_to_write plan.bank image plan.fresh
   pub in_place' : r.in_place ≡ left_to_write plan.bank image plan.in_place
+
+-- a plan renders what is placed for a request, and what is left of the plan is to be written
+pub record IsRenderedLeft (w : Wanted) (placed : Placed) (b : Bytes) (image : Image) (r : Rebuilt) : Type 0 where
+  pub plan : Plan
+  pub rendered : IsRendered w placed b plan
+  pub left : IsLeft image plan r
 
 -- what is placed for a request stands, a plan renders it, and what is left of the plan is to be written
 pub record IsPlannedFor (w : Wanted) (b : Bytes) (image : Image) (r : Rebuilt) : Type 0 where
@@ -106,3 +115,36 @@ pub record IsFound (v : Volume) (kept : Salvaged) : Type 0 where
   pub files : List FileRec
   pub can : CanBeSalvaged v clusters files
   pub is : IsKeptOf v clusters files kept
+
+-- what is known of a volume in which a name has to change, from its parts; and that it is so by what a rebuild goes by
+abbrev pub names_due_of : Wanted → List SlotWanted → DueNames → List SlotSeen → LogState → NamesDue
+names_due_of wanted slots names seen log = record {
+  wanted = wanted;
+  slots = slots;
+  files = names.files;
+  entries = names.entries;
+  dirs = names.dirs;
+  clusters = names.clusters;
+  fresh = names.fresh;
+  seen = seen;
+  log = log;
+}
+
+pub record AreNamesDue (g : Geometry) (s : Stamp) (on : Ground) (n : NamesDue) : Type 0 where
+  pub wanted' : n.wanted ≡ asked g on
+  pub slots' : n.slots ≡ slots_asked g s on
+  pub files' : n.files ≡ due_files g.rootino on.kept (slots_asked g s on)
+  pub entries' : n.entries ≡ on.kept.entries
+  pub dirs' : n.dirs ≡ due_dirs g.rootino on.kept
+  pub clusters' : n.clusters ≡ on.kept.clusters
+  pub fresh' : n.fresh ≡ on.kept.fresh
+  pub seen' : n.seen ≡ on.seen
+  pub log' : n.log ≡ on.log
+  pub named : AreNamed n.files n.entries n.dirs
+
+-- a name has to change, by what is kept of clusters and files that can claim their blocks
+pub record HasNamesDue (g : Geometry) (s : Stamp) (n : NamesDue) : Type 0 where
+  pub on : Ground
+  pub named : names_change g s on ≡ true
+  pub due : AreNamesDue g s on n
+  pub found : IsFound (volume_of g) on.kept

@@ -37,7 +37,7 @@ const SECTOR_SIZE: usize = 512;
 ///
 /// `ReadFault` only where a read failed; `NoMemory` where memory is wanting, where a slot that stays is not sealed, or where the
 /// cycle is none that a log can have, as never of an image whose evidence this is.
-pub(crate) fn bytes_of<D: Disk, L: Ledger>(
+pub fn bytes_of<D: Disk, L: Ledger>(
     alloc: Global,
     disk: &mut D,
     chosen: &Elected,

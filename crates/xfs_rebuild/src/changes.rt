@@ -1,17 +1,19 @@
 //! Whether what is wanted of slots can be made of the bytes that stand there.
 
-ghost use Rattle.std.specs.Prelude.{◌≡◌, ℕ, ◌<◌, ◌≤◌, false, length, IsTrue, Option};
+ghost use Rattle.std.specs.Prelude.{◌≡◌, ℕ, ◌<◌, ◌≤◌, false, length, IsTrue, Option, Some};
 ghost use Rattle.std.specs.List.{All};
 ghost use Rattle.std.specs.List.Sorted.{IsNonDecreasingBy};
 ghost use Rattle.xfs_geom.specs.Conversions.{inode_of};
 ghost use Rattle.xfs_geom.specs.Volumes.{volume_of};
 ghost use Rattle.xfs_render.specs.Clusters.{slot_in};
+ghost use Rattle.xfs_render.specs.Slots.{forkoff_of};
 ghost use Rattle.xfs_render.specs.declared.wanted_slots.SlotWanted.{SlotWanted};
-ghost use Rattle.xfs_rebuild.specs.Changes.{CanChange, CanChangeAll, can_base, can_change, is_whole_slot};
+ghost use Rattle.xfs_rebuild.specs.Changes.{CanChange, CanChangeAll, can_base, can_change, can_fork, can_make, is_whole_slot};
 
 use xfs_bank::BlockBank;
 use xfs_geom::Geometry;
-use xfs_inode::slot_seal;
+use xfs_inode::{fork_bytes, slot_seal};
+use xfs_inodebuild::ForkWanted;
 use xfs_render::{SlotBase, SlotWanted, find_slot};
 use xfs_word::{get8, part, sealed};
 
@@ -73,7 +75,38 @@ fn can_change_slot(g: &Geometry, ino: u64, slot: &[u8], slots: &[SlotWanted]) ->
     ensures { result ≡ can_change (volume_of g.now) slots.now ino slot.now }
 {
     match find_slot(slots, ino) {
-        Some(wanted) => can_base(g, wanted.ino, &wanted.base, slot),
+        Some(wanted) => can_make(g, wanted, slot),
+        None => true,
+    }
+}
+
+/// Whether what is wanted of a slot can be made of it.
+fn can_make(g: &Geometry, wanted: &SlotWanted, slot: &[u8]) -> bool
+    requires slot { length slot.now ≡ 512 }
+    ensures { result ≡ can_make (volume_of g.now) slot.now (Some wanted.now) }
+{
+    can_base(g, wanted.ino, &wanted.base, slot)
+        && can_fork(forkoff_of(&wanted.base, slot), &wanted.fork)
+}
+
+/// Where the attribute fork of the base begins, in 8 bytes from the data fork on; 0 where there is none.
+fn forkoff_of(base: &SlotBase, slot: &[u8]) -> u8
+    requires slot { length slot.now ≡ 512 }
+    ensures { result ≡ forkoff_of base.now slot.now }
+{
+    match base {
+        SlotBase::Kept => get8(slot, FORKOFF),
+        SlotBase::Free => 0,
+        SlotBase::Fresh(_) => 0,
+    }
+}
+
+/// Whether a fork fits in front of an attribute fork.
+fn can_fork(forkoff: u8, fork: &Option<ForkWanted>) -> bool
+    ensures { result ≡ can_fork forkoff fork.now }
+{
+    match fork {
+        Some(fork) => fork.nextents < 1 << 32 && fork.bytes.bytes().len() <= fork_bytes(forkoff),
         None => true,
     }
 }

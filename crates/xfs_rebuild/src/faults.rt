@@ -1,12 +1,13 @@
 //! Why no rebuild is planned.
 
+use crate::names_due::NamesDue;
 use xfs_place::Unplaced;
 
 /// Why no rebuild is planned.
-#[derive(Clone, Copy, Debug, PartialEq, Eq)]
+#[derive(Debug, Drop)]
 pub enum RebuildFault {
-    /// A name or a directory would have to change.
-    Names,
+    /// A name or a directory would have to change; this is what is known of the volume.
+    Names(NamesDue),
     /// The volume has no room for this, the first that finds none.
     NoRoom(Unplaced),
     /// A read failed.

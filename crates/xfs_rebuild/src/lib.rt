@@ -8,7 +8,7 @@
 //! ```text
 //! match plan_rebuild(rt, alloc, disk, &chosen, evidence, stamp, gate, &mut steps) {
 //!     Ok(rebuilt) => write_parts(disk, &rebuilt.bank, rebuilt.fresh.as_slice(), rebuilt.in_place.as_slice()),
-//!     Err(RebuildFault::Names) => ..,              // a name would have to change
+//!     Err(RebuildFault::Names(due)) => ..,         // a name has to change: see `xfs_rename`
 //!     ..
 //! }
 //! ```
@@ -22,11 +22,15 @@ mod faults;
 mod found;
 mod laws;
 mod names;
+mod names_due;
 mod places;
 mod planning;
 mod rendering;
 mod seen;
 
+pub use bytes::bytes_of;
 pub use faults::RebuildFault;
-pub use laws::images_can_be_rebuilt;
+pub use laws::{images_can_be_rebuilt, known_names_are_in_order};
+pub use names_due::NamesDue;
 pub use planning::{Rebuilt, plan_rebuild};
+pub use rendering::plan_placed;

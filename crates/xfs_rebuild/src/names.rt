@@ -1,12 +1,12 @@
 //! Whether names would have to change.
 
-ghost use Rattle.std.specs.Prelude.{◌≡◌, ℕ, ◌<◌, ◌^◌, length, map, IfOk};
+ghost use Rattle.std.specs.Prelude.{◌≡◌, ℕ, ◌<◌, ◌^◌, if◌then◌else◌, Some, None, length, map, IfOk, IfSome};
 ghost use Rattle.std.specs.Option.{is_some};
-ghost use Rattle.xfs_naming.specs.Naming.{naming_laws};
+ghost use Rattle.xfs_naming.specs.Naming.{AreNamed, naming_laws};
 ghost use Rattle.xfs_volume.specs.Laws.{first_broken};
 ghost use Rattle.xfs_volume.specs.declared.files.FileRec.{FileRec};
 ghost use Rattle.xfs_request.specs.Slots.{links_due};
-ghost use Rattle.xfs_rebuild.specs.Names.{made_files, needs_names, with_made_files, with_nlink};
+ghost use Rattle.xfs_rebuild.specs.Names.{AreDueNames, made_files, needs_names, with_made_files, with_nlink};
 
 use crate::due_files::{add_made, all_due, dirs_with, set_links};
 use std::alloc::Global;
@@ -16,38 +16,80 @@ use xfs_laws::are_named;
 use xfs_naming::{check_names, links_of};
 use xfs_render::SlotWanted;
 use xfs_salvage::Salvaged;
-use xfs_volume::{DirRec, FileRec};
+use xfs_volume::{DirRec, FileRec, Records};
 
-/// Whether the files that the volume then has break a law of names, whatever numbers of links are set.
+/// What there is to be named: the files that the volume then has, with as many links as the kept entries give them, its
+/// directories, and what else was kept.
+#[derive(Drop)]
+pub(crate) struct DueNames {
+    pub files: Records<FileRec>,
+    pub entries: Records<EntryRec>,
+    pub dirs: Records<DirRec>,
+    pub clusters: Records<u64>,
+    pub fresh: Records<u64>,
+}
+
+/// What there is to be named, where that breaks a law of names, whatever numbers of links are set; else nothing.
 ///
 /// `NoMemory` where memory is wanting, or where files, entries and directories are not in the order of those of an image.
 #[tactic(auto, unfolding(crate::specs::Names::needs_names))]
-pub(crate) fn needs_names(
+pub(crate) fn broken_names(
     alloc: Global,
     root: u64,
     kept: Salvaged,
     slots: &[SlotWanted],
-) -> Result<bool, NoMemory>
+) -> Result<Option<DueNames>, NoMemory>
     requires low { root < 2 ^ 32 }
-    ensures { IfOk result (λ needs. needs ≡ needs_names root kept slots.now) }
+    ensures needs { IfOk result (λ broken. is_some broken ≡ needs_names root kept slots.now) }
+    ensures names { IfOk result (λ broken. IfSome broken (AreDueNames root kept slots.now)) }
+    ensures named { IfOk result (λ broken. IfSome broken (λ names. AreNamed names.files names.entries names.dirs)) }
+{
+    let names = due_names(alloc, root, kept, slots)?;
+    let breaks = breaks_names(
+        alloc,
+        root,
+        names.files.as_slice(),
+        names.entries.as_slice(),
+        names.dirs.as_slice(),
+    )?;
+    Ok(names_if(breaks, names))
+}
+
+/// The names, where it is so.
+fn names_if(breaks: bool, names: DueNames) -> Option<DueNames>
+    ensures { result ≡ (if breaks then Some names else None) }
+{
+    if breaks { Some(names) } else { None }
+}
+
+/// What there is to be named.
+#[tactic(auto, unfolding(crate::specs::Names::due_files))]
+fn due_names(
+    alloc: Global,
+    root: u64,
+    kept: Salvaged,
+    slots: &[SlotWanted],
+) -> Result<DueNames, NoMemory>
+    requires low { root < 2 ^ 32 }
+    ensures { IfOk result (λ names. AreDueNames root kept slots.now names) }
 {
     let dues = links_of_kept(alloc, root, &kept)?;
     let Salvaged {
+        clusters,
         files,
         fresh,
         entries,
         dirs,
-        ..
     } = kept;
     let files = due_files(alloc, files.into_vec(), dues.as_slice(), slots)?;
     let dirs = dirs_with(root, fresh.as_slice(), dirs.into_vec())?;
-    breaks_names(
-        alloc,
-        root,
-        files.as_slice(),
-        entries.as_slice(),
-        dirs.as_slice(),
-    )
+    Ok(DueNames {
+        files: Records::from_vec(files),
+        entries,
+        dirs: Records::from_vec(dirs),
+        clusters,
+        fresh,
+    })
 }
 
 /// How many links each kept file is to have.
@@ -90,7 +132,8 @@ fn breaks_names(
     dirs: &[DirRec],
 ) -> Result<bool, NoMemory>
     requires low { root < 2 ^ 32 }
-    ensures { IfOk result (λ breaks. breaks ≡ is_some (first_broken (naming_laws root files.now entries.now dirs.now))) }
+    ensures breaks { IfOk result (λ breaks. breaks ≡ is_some (first_broken (naming_laws root files.now entries.now dirs.now))) }
+    ensures named { IfOk result (λ _. AreNamed files.now entries.now dirs.now) }
 {
     if !are_named(files, entries, dirs) {
         return Err(NoMemory);

@@ -1,18 +1,18 @@
 //! The plan of a rebuild.
 
-ghost use Rattle.std.specs.Prelude.{◌≡◌, ◌<◌, ◌≤◌, ◌^◌, false, IfErr, IfOk, OnOk};
+ghost use Rattle.std.specs.Prelude.{◌≡◌, ◌≤◌, IfErr, IfOk};
 ghost use Rattle.std.specs.Option.{ForSome};
 ghost use Rattle.xfs_disk.specs.Reads.{OnlyReads};
 ghost use Rattle.xfs_geom.specs.Volumes.{stated_volume, volume_of};
 ghost use Rattle.xfs_geom.specs.Writing.{IsAcceptedSector};
-ghost use Rattle.xfs_rebuild.specs.Names.{needs_names};
-ghost use Rattle.xfs_rebuild.specs.Rebuilds.{CanBeWritten, IsFound, IsPlannedOn, IsRebuildOf, ground};
-ghost use Rattle.xfs_rebuild.specs.Refusals.{HasRebuildCause, IsNameRefused, IsRefused, IsRefusedOn};
+ghost use Rattle.xfs_rebuild.specs.Rebuilds.{CanBeWritten, IsFound, IsPlannedOn, IsRebuildOf, ground, names_due_of};
+ghost use Rattle.xfs_rebuild.specs.Refusals.{HasRebuildCause, IsRefused, IsRefusedOn};
 
 use crate::bytes::bytes_of;
 use crate::faults::RebuildFault;
 use crate::found::{found_of, reserved_of};
-use crate::names::needs_names;
+use crate::names::{DueNames, broken_names};
+use crate::names_due::NamesDue;
 use crate::rendering::plan_wanted;
 use crate::seen::slots_seen;
 use std::alloc::Global;
@@ -22,7 +22,8 @@ use xfs_bank::BlockBank;
 use xfs_disk::{Disk, Gate, NoMemory, Stamp};
 use xfs_geom::Elected;
 use xfs_heads::LogState;
-use xfs_render::SlotWanted;
+use xfs_place::Wanted;
+use xfs_render::Bytes;
 use xfs_request::{Request, SlotSeen, ask};
 use xfs_runs::Steps;
 use xfs_salvage::{Salvaged, salvage};
@@ -104,7 +105,7 @@ pub fn plan_rebuild<R: Threads + Sync, D: Disk, G: Gate, L: Ledger>(
         disk,
         chosen,
         kept,
-        slots.as_slice(),
+        Records::from_vec(slots),
         reserved,
         &log,
         stamp,
@@ -120,7 +121,7 @@ fn plan_kept<R: Threads + Sync, D: Disk, G: Gate, L: Ledger>(
     disk: &mut D,
     chosen: &Elected,
     kept: Salvaged,
-    seen: &[SlotSeen],
+    seen: Records<SlotSeen>,
     reserved: Blocks,
     log: &LogState,
     stamp: &Stamp,
@@ -133,8 +134,8 @@ fn plan_kept<R: Threads + Sync, D: Disk, G: Gate, L: Ledger>(
     requires found { IsFound (volume_of chosen.now.geometry) kept }
     ensures writable { IfOk result (CanBeWritten (D.size disk.old)) }
     ensures planned { IfOk result (λ r. ForSome (D.holds disk.old) (λ image.
-        IsPlannedOn chosen.now.geometry chosen.now.sector stamp.now image (ground kept seen.now reserved log.now) r)) }
-    ensures refused { IfErr result (IsRefusedOn chosen.now.geometry stamp.now (ground kept seen.now reserved log.now)) }
+        IsPlannedOn chosen.now.geometry chosen.now.sector stamp.now image (ground kept seen reserved log.now) r)) }
+    ensures refused { IfErr result (IsRefusedOn chosen.now.geometry stamp.now (ground kept seen reserved log.now)) }
     ensures cause { HasRebuildCause (D.faults disk.old) (D.faults disk.new) result }
     ensures disk { OnlyReads D.size D.holds D.write_faults D.writes D.tells_stops D.moment D.may_leave D.left_since disk.old disk.new }
 {
@@ -144,35 +145,61 @@ fn plan_kept<R: Threads + Sync, D: Disk, G: Gate, L: Ledger>(
         slots,
         kept: count,
         cleared,
-    } = match ask(alloc, g, &kept, seen, reserved, stamp) {
+    } = match ask(alloc, g, &kept, seen.as_slice(), reserved, stamp) {
         Ok(request) => request,
         Err(NoMemory) => return Err(RebuildFault::NoMemory),
     };
-    let bytes = match bytes_of(alloc, disk, chosen, &kept, seen, slots, log, stamp, steps) {
+    let bytes = match bytes_of(
+        alloc,
+        disk,
+        chosen,
+        &kept,
+        seen.as_slice(),
+        slots,
+        log,
+        stamp,
+        steps,
+    ) {
         Ok(bytes) => bytes,
         Err(fault) => return Err(fault),
     };
-    match names_stay(alloc, g.rootino, kept, bytes.slots.as_slice()) {
-        Ok(()) => {}
-        Err(fault) => return Err(fault),
+    match broken_names(alloc, g.rootino, kept, bytes.slots.as_slice()) {
+        Ok(None) => {}
+        Ok(Some(names)) => {
+            return Err(RebuildFault::Names(names_due(wanted, bytes, names, seen, log)));
+        }
+        Err(NoMemory) => return Err(RebuildFault::NoMemory),
     }
     plan_wanted(rt, alloc, disk, &wanted, &bytes, count, cleared, gate)
 }
 
-/// Goes on where no name has to change.
-fn names_stay(
-    alloc: Global,
-    root: u64,
-    kept: Salvaged,
-    slots: &[SlotWanted],
-) -> Result<(), RebuildFault>
-    requires low { root < 2 ^ 32 }
-    ensures named { OnOk result (needs_names root kept slots.now ≡ false) }
-    ensures refused { IfErr result (IsNameRefused (needs_names root kept slots.now)) }
+/// What is known of a volume in which a name has to change, from its parts.
+fn names_due(
+    wanted: Wanted,
+    bytes: Bytes,
+    names: DueNames,
+    seen: Records<SlotSeen>,
+    log: &LogState,
+) -> NamesDue
+    ensures { result ≡ names_due_of wanted bytes.slots names seen log.now }
 {
-    match needs_names(alloc, root, kept, slots) {
-        Ok(true) => Err(RebuildFault::Names),
-        Ok(false) => Ok(()),
-        Err(NoMemory) => Err(RebuildFault::NoMemory),
+    let Bytes { slots, .. } = bytes;
+    let DueNames {
+        files,
+        entries,
+        dirs,
+        clusters,
+        fresh,
+    } = names;
+    NamesDue {
+        wanted,
+        slots,
+        files,
+        entries,
+        dirs,
+        clusters,
+        fresh,
+        seen,
+        log: *log,
     }
 }

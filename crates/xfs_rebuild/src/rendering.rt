@@ -5,11 +5,13 @@ ghost use Rattle.std.specs.List.{All};
 ghost use Rattle.std.specs.Option.{ForSome};
 ghost use Rattle.xfs_disk.specs.Reads.{OnlyReads};
 ghost use Rattle.xfs_geom.specs.Volumes.{volume_of};
+ghost use Rattle.xfs_empty.specs.Planning.{StandsFor};
+ghost use Rattle.xfs_place.specs.Objects.{ServeAsks, asks_of};
 ghost use Rattle.xfs_place.specs.Wanted.{CanBeKept, kept_runs};
 ghost use Rattle.xfs_render.specs.Drafts.{AreInBank};
 ghost use Rattle.xfs_render.specs.Plans.{plan_rows, planned};
 ghost use Rattle.xfs_render.specs.Readiness.{HasBytes, IsWritable};
-ghost use Rattle.xfs_rebuild.specs.Rebuilds.{CanBeWritten, IsLeft, IsPlannedFor};
+ghost use Rattle.xfs_rebuild.specs.Rebuilds.{CanBeWritten, IsLeft, IsPlannedFor, IsRenderedLeft};
 ghost use Rattle.xfs_rebuild.specs.Refusals.{HasRebuildCause, IsPlaceRefused, IsReadRefused};
 
 use crate::differing::left_to_write;
@@ -19,7 +21,7 @@ use std::alloc::Global;
 use std::thread::Threads;
 use xfs_bank::BlockBank;
 use xfs_disk::{Disk, Gate, NoMemory};
-use xfs_place::{PlaceFault, Wanted, place};
+use xfs_place::{PlaceFault, Placed, Wanted, place};
 use xfs_render::{Bytes, Plan, chunks_are_few, placed_is_ready, render};
 use xfs_volume::Records;
 use xfs_writing::Row;
@@ -57,8 +59,36 @@ pub(crate) fn plan_wanted<R: Threads + Sync, D: Disk, G: Gate>(
         Err(PlaceFault::NoRoom(what)) => return Err(RebuildFault::NoRoom(what)),
         Err(PlaceFault::NoMemory) => return Err(RebuildFault::NoMemory),
     };
-    placed_is_ready(wanted, &placed, bytes);
-    let plan = match render(rt, alloc, wanted, &placed, bytes, WORKERS, gate) {
+    plan_placed(rt, alloc, disk, wanted, &placed, bytes, kept, cleared, gate)
+}
+
+/// The same where all that is wanted is placed.
+pub fn plan_placed<R: Threads + Sync, D: Disk, G: Gate>(
+    rt: &R,
+    alloc: Global,
+    disk: &mut D,
+    wanted: &Wanted,
+    placed: &Placed,
+    bytes: &Bytes,
+    kept: u64,
+    cleared: u64,
+    gate: &G,
+) -> Result<Rebuilt, RebuildFault>
+    requires inside { wanted.now.geometry.dblocks ≤ D.size disk.old }
+    requires stands { StandsFor wanted.now placed.now }
+    requires cuts { ServeAsks (asks_of wanted.now.objects) placed.now.cuts placed.now.runs }
+    requires writable { IsWritable wanted.now }
+    requires held { HasBytes wanted.now bytes.now }
+    ensures writable { IfOk result (CanBeWritten (D.size disk.old)) }
+    ensures planned { IfOk result (λ r. ForSome (D.holds disk.old) (λ image. IsRenderedLeft wanted.now placed.now bytes.now image r)) }
+    ensures kept { IfOk result (λ r. r.kept ≡ kept) }
+    ensures cleared { IfOk result (λ r. r.cleared ≡ cleared) }
+    ensures refused { IfErr result IsReadRefused }
+    ensures cause { HasRebuildCause (D.faults disk.old) (D.faults disk.new) result }
+    ensures disk { OnlyReads D.size D.holds D.write_faults D.writes D.tells_stops D.moment D.may_leave D.left_since disk.old disk.new }
+{
+    placed_is_ready(wanted, placed, bytes);
+    let plan = match render(rt, alloc, wanted, placed, bytes, WORKERS, gate) {
         Ok(plan) => plan,
         Err(NoMemory) => return Err(RebuildFault::NoMemory),
     };
