@@ -1,0 +1,113 @@
+use Rattle.std.proofs.Common.{◌∙◌, length, ap, subst, sym}
+use Rattle.std.specs.List.Sorted.{IsNonDecreasingBy}
+use Rattle.xfs_disk.specs.Blocks.{Image}
+use Rattle.xfs_disk.proofs.Reading.{reads_on}
+use Rattle.xfs_render.specs.declared.wanted_slots.SlotWanted.{SlotWanted}
+use Rattle.xfs_rename.specs.Objects.{blocks_of_built}
+use Rattle.xfs_rename.specs.Slots.{cleared_beside}
+use Rattle.xfs_rename.proofs.Agreed.{agreed_built, agreed_bytes, agreed_clusters, agreed_files, agreed_fits, agreed_lie, agreed_slots, agreed_stands, agreed_written, all_refused, all_renamed, cause_on, room_refused}
+use Rattle.xfs_rename.proofs.planning.plan_settled.Goals as goal
+
+pub chunks_are_few-requires : goal.chunks_are_few-requires
+chunks_are_few-requires g c =
+    agreed_written c.args.chosen.now.geometry c.args.stamp.now c.args.due c.requires.due c.args.settling c.requires.settling c.in-Ok.asked.wanted c.in-Ok.ensures.wanted
+
+pub place-requires-clause-kept : goal.place-requires-clause-kept
+place-requires-clause-kept g c =
+    agreed_stands c.args.chosen.now.geometry c.args.stamp.now c.args.due c.requires.due c.args.settling c.requires.settling c.in-Ok.asked.wanted c.in-Ok.ensures.wanted
+
+pub place-requires-clause-asks : goal.place-requires-clause-asks
+place-requires-clause-asks g c =
+    (agreed_written c.args.chosen.now.geometry c.args.stamp.now c.args.due c.requires.due c.args.settling c.requires.settling c.in-Ok.asked.wanted c.in-Ok.ensures.wanted).asks
+
+pub place-requires-clause-inodes : goal.place-requires-clause-inodes
+place-requires-clause-inodes g c =
+    (agreed_written c.args.chosen.now.geometry c.args.stamp.now c.args.due c.requires.due c.args.settling c.requires.settling c.in-Ok.asked.wanted c.in-Ok.ensures.wanted).inodes
+
+pub slots_of-requires-clause-files : goal.slots_of-requires-clause-files
+slots_of-requires-clause-files g c =
+    agreed_files c.args.chosen.now.geometry c.args.stamp.now c.args.due c.requires.due c.args.settling c.requires.settling c.in-Ok.asked.kept c.in-Ok.ensures.kept
+
+pub slots_of-requires-clause-built : goal.slots_of-requires-clause-built
+slots_of-requires-clause-built g c = agreed_built c.args.chosen.now.geometry c.args.stamp.now c.args.due c.requires.due c.args.settling c.requires.settling
+
+pub bytes_of-requires-clause-files : goal.bytes_of-requires-clause-files
+bytes_of-requires-clause-files g c =
+    agreed_files c.args.chosen.now.geometry c.args.stamp.now c.args.due c.requires.due c.args.settling c.requires.settling c.in-Ok.asked.kept c.in-Ok.ensures.kept
+
+pub bytes_of-requires-clause-clusters : goal.bytes_of-requires-clause-clusters
+bytes_of-requires-clause-clusters g c =
+    agreed_clusters c.args.chosen.now.geometry c.args.stamp.now c.args.due c.requires.due c.args.settling c.requires.settling c.in-Ok.asked.kept c.in-Ok.ensures.kept
+
+pub bytes_of-requires-clause-lie : goal.bytes_of-requires-clause-lie
+bytes_of-requires-clause-lie g c =
+    agreed_lie c.args.chosen.now.geometry c.args.stamp.now c.args.due c.requires.due c.args.settling c.requires.settling c.in-Ok.asked.kept c.in-Ok.ensures.kept
+
+pub plan_placed-requires-clause-inside : goal.plan_placed-requires-clause-inside
+plan_placed-requires-clause-inside g c κs within =
+    agreed_fits c.args.chosen.now.geometry c.args.stamp.now c.args.due c.requires.due c.args.settling c.requires.settling c.in-Ok.asked.wanted c.in-Ok.ensures.wanted
+    (g.D.Disk.size c.args.disk.now) (g.D.Disk.size c.bytes_of.new.disk) c.bytes_of.ensures.disk.same_size c.requires.inside
+
+pub plan_placed-requires-clause-stands : goal.plan_placed-requires-clause-stands
+plan_placed-requires-clause-stands g c κs within =
+    let stood = c.in-Ok-place.ensures in
+    record { runs' = stood.runs; groups' = stood.groups; apart = stood.apart; pool = stood.pool; counts' = stood.counts }
+
+pub plan_placed-requires-clause-cuts : goal.plan_placed-requires-clause-cuts
+plan_placed-requires-clause-cuts g c κs within = c.in-Ok-place.ensures.cuts
+
+pub plan_placed-requires-clause-writable : goal.plan_placed-requires-clause-writable
+plan_placed-requires-clause-writable g c κs within =
+    agreed_written c.args.chosen.now.geometry c.args.stamp.now c.args.due c.requires.due c.args.settling c.requires.settling c.in-Ok.asked.wanted c.in-Ok.ensures.wanted
+
+pub bytes_of-requires-clause-order : goal.bytes_of-requires-clause-order
+bytes_of-requires-clause-order g c = subst (IsNonDecreasingBy (λ (w : SlotWanted). w.ino)) (sym c.from_vec.ensures) c.in-Ok-slots_of.ensures.order
+
+pub plan_placed-requires-clause-held : goal.plan_placed-requires-clause-held
+plan_placed-requires-clause-held g c κs within =
+    agreed_bytes c.args.chosen.now.geometry c.args.stamp.now c.args.due c.requires.due c.args.settling c.requires.settling
+    c.args.chosen.now.sector c.in-Ok.asked.wanted c.in-Ok.asked.kept c.from_vec.result c.in-Ok-place.placed c.in-Ok-bytes_of.bytes c.with_objects-bytes.result
+    c.in-Ok.ensures.wanted
+    (agreed_slots c.args.chosen.now.geometry c.args.stamp.now c.args.due c.requires.due c.args.settling c.requires.settling
+    c.in-Ok.asked.kept c.in-Ok-place.placed c.from_vec.result c.as_slice-2.result.now c.in-Ok.ensures.kept (c.from_vec.ensures ∙ c.in-Ok-slots_of.ensures.slots)
+    (c.as_slice-2.ensures ∙ c.in-Ok.ensures.slots))
+    (subst (IsNonDecreasingBy (λ (w : SlotWanted). w.ino)) (sym c.from_vec.ensures) c.in-Ok-slots_of.ensures.order) c.requires.accepted c.requires.states c.in-Ok-bytes_of.ensures.at_hand
+    (c.with_objects-bytes.ensures
+    ∙ ap (λ (o : Image). record c.in-Ok-bytes_of.bytes { objects = o }) (c.in-Ok-blocks_of_built.ensures ∙ ap blocks_of_built c.as_slice-5.ensures))
+
+pub returns-in-Err-NoRoom-clause-refused : goal.returns-in-Err-NoRoom-clause-refused
+returns-in-Err-NoRoom-clause-refused g c =
+    room_refused c.args.chosen.now.geometry c.args.stamp.now c.args.due c.requires.due c.args.settling c.requires.settling
+    c.in-Ok.asked.wanted c.in-Err-NoRoom.field-0 c.in-Err-NoRoom.what _ c.in-Ok.ensures.wanted c.in-Err-NoRoom.field-0-is c.in-Err-NoRoom.what-is c.in-Err-NoRoom.ensures.cause
+
+pub returns-clause-renamed : goal.returns-clause-renamed
+returns-clause-renamed g c =
+    let stood = c.in-Ok-place.ensures in
+    let planned = c.plan_placed.ensures in
+    all_renamed c.args.chosen.now.geometry c.args.stamp.now c.args.due c.requires.due c.args.settling c.requires.settling
+    c.args.chosen.now.sector c.in-Ok.asked.wanted c.in-Ok.asked.kept c.from_vec.result c.as_slice-4.result.now c.in-Ok.asked.log c.in-Ok-place.placed c.in-Ok-bytes_of.bytes
+    c.with_objects-bytes.result c.in-Ok.ensures.wanted c.in-Ok.ensures.kept
+    (agreed_slots c.args.chosen.now.geometry c.args.stamp.now c.args.due c.requires.due c.args.settling c.requires.settling
+    c.in-Ok.asked.kept c.in-Ok-place.placed c.from_vec.result c.as_slice-2.result.now c.in-Ok.ensures.kept (c.from_vec.ensures ∙ c.in-Ok-slots_of.ensures.slots)
+    (c.as_slice-2.ensures ∙ c.in-Ok.ensures.slots))
+    (c.as_slice-4.ensures ∙ c.in-Ok.ensures.seen) c.in-Ok.ensures.log c.in-Ok-bytes_of.ensures.at_hand
+    (c.with_objects-bytes.ensures
+    ∙ ap (λ (o : Image). record c.in-Ok-bytes_of.bytes { objects = o }) (c.in-Ok-blocks_of_built.ensures ∙ ap blocks_of_built c.as_slice-5.ensures))
+    (record { runs' = stood.runs; groups' = stood.groups; apart = stood.apart; pool = stood.pool; counts' = stood.counts }) stood.cuts
+    (length c.as_slice-3.result.now) c.cleared_beside-cleared.result (g.D.Disk.holds c.args.disk.now) (g.D.Disk.holds c.bytes_of.new.disk) c.plan_placed.result
+    (ap length c.as_slice-3.ensures) (c.cleared_beside-cleared.ensures ∙ ap (cleared_beside c.args.settling.lost) (c.as_slice.ensures ∙ c.in-Ok.ensures.slots))
+    c.in-Ok-bytes_of.ensures.read c.bytes_of.ensures.disk.same_contents planned.planned planned.kept planned.cleared
+
+pub returns-clause-cause : goal.returns-clause-cause
+returns-clause-cause g c =
+    cause_on (g.D.Disk.faults c.args.disk.now) (g.D.Disk.faults c.bytes_of.new.disk) (g.D.Disk.faults c.plan_placed.new.disk) c.plan_placed.result
+    c.in-Ok-bytes_of.ensures.cause c.plan_placed.ensures.cause
+
+pub returns-clause-refused : goal.returns-clause-refused
+returns-clause-refused g c = all_refused c.args.chosen.now.geometry c.args.due c.plan_placed.result c.plan_placed.ensures.refused
+
+pub returns-clause-disk : goal.returns-clause-disk
+returns-clause-disk g c =
+    let D = g.D.Disk in
+    reads_on D.size D.holds D.write_faults D.writes D.tells_stops D.moment D.may_leave D.left_since c.args.disk.now c.bytes_of.new.disk c.plan_placed.new.disk
+    c.bytes_of.ensures.disk c.plan_placed.ensures.disk

@@ -1,0 +1,113 @@
+-- What a rebuild is in which names change: the names that are wanted, the directories that are built, where they stand, the bytes of the
+-- plan, and what of it is written.
+use Rattle.std.specs.Prelude.{◌≡◌, ℕ, ◌⊎◌, List, [], length, map, ⊤}
+use Rattle.std.specs.List.{All}
+use Rattle.xfs_disk.specs.Blocks.{Image}
+use Rattle.xfs_disk.specs.declared.stamp.Stamp.{Stamp}
+use Rattle.xfs_geom.specs.Volumes.{volume_of}
+use Rattle.xfs_geom.specs.declared.geometry.Geometry.{Geometry}
+use Rattle.xfs_empty.specs.Planning.{StandsFor}
+use Rattle.xfs_hanging.specs.Together.{orphans_of}
+use Rattle.xfs_naming.specs.Naming.{NumbersAscend}
+use Rattle.xfs_names.specs.Built.{CanBeBuilt, IsBuiltAsWanted}
+use Rattle.xfs_names.specs.declared.building.BuiltDirectory.{BuiltDirectory}
+use Rattle.xfs_names.specs.declared.records.WantedNames.{WantedNames}
+use Rattle.xfs_volume.specs.declared.files.FileRec.{FileRec}
+use Rattle.xfs_place.specs.Objects.{ServeAsks, asks_of}
+use Rattle.xfs_place.specs.Wanted.{FindsNoRoom}
+use Rattle.xfs_place.specs.declared.faults.Unplaced.{Unplaced}
+use Rattle.xfs_place.specs.declared.faults.Unplaced.TheVariants.{LostFound}
+use Rattle.xfs_place.specs.declared.placed.Placed.{Placed}
+use Rattle.xfs_place.specs.declared.wanted.Wanted.{Wanted}
+use Rattle.xfs_names.specs.declared.place.LostPlace.TheVariants.{Cluster}
+use Rattle.xfs_render.specs.declared.bytes.Bytes.{Bytes}
+use Rattle.xfs_render.specs.declared.wanted_slots.SlotWanted.{SlotWanted}
+use Rattle.xfs_rebuild.specs.Bytes.{AreAtHand, AreReadOf}
+use Rattle.xfs_rebuild.specs.Rebuilds.{IsRenderedLeft}
+use Rattle.xfs_rebuild.specs.declared.faults.RebuildFault.{RebuildFault}
+use Rattle.xfs_rebuild.specs.declared.faults.RebuildFault.TheVariants as faults
+use Rattle.xfs_rebuild.specs.declared.names_due.NamesDue.{NamesDue}
+use Rattle.xfs_rename.specs.Forks.{forks_of}
+use Rattle.xfs_rename.specs.Lost.{cluster_found, lost_due, place_due}
+use Rattle.xfs_rename.specs.Nodes.{nodes_of_files}
+use Rattle.xfs_rename.specs.Objects.{blocks_of_built, objects_of, wanted_with}
+use Rattle.xfs_rename.specs.Settled.{AreWanted, fork_rooms, settled, staying_files}
+use Rattle.xfs_rename.specs.Slots.{changes_of, cleared_beside, with_changes}
+use Rattle.xfs_rename.specs.declared.forks.DirectoryFork.{DirectoryFork}
+use Rattle.xfs_rename.specs.declared.planning.Renamed.{Renamed}
+use Rattle.xfs_rename.specs.declared.settling.Settling.{Settling}
+
+-- the names that are wanted where lost+found finds a place, and the directories that are built anew of them
+pub record AreBuilt (g : Geometry) (n : NamesDue) (w : WantedNames) (built : List BuiltDirectory) : Type 0 where
+  pub wanted : AreWanted g n (lost_due g n) w
+  pub numbers : map (λ (b : BuiltDirectory). b.ino) built ≡ w.rebuilt
+  pub each : All (IsBuiltAsWanted w (fork_rooms w.rebuilt n.files)) built
+
+-- what is asked of the volume with these
+abbrev pub renamed_wanted : Geometry → NamesDue → WantedNames → List BuiltDirectory → Wanted
+renamed_wanted g n w built = wanted_with g n (lost_due g n) w (objects_of (fork_rooms w.rebuilt n.files) built)
+
+-- the files that were there before, the forks of the directories where they stand, and what is then wanted of slots
+abbrev pub old_files : NamesDue → WantedNames → List FileRec
+old_files n w = staying_files w.rebuilt n.fresh n.files
+
+abbrev pub placed_forks : Geometry → NamesDue → WantedNames → List BuiltDirectory → Placed → List DirectoryFork
+placed_forks g n w built p = forks_of (volume_of g) (old_files n w) built p.cuts p.runs
+
+abbrev pub renamed_slots : Geometry → Stamp → NamesDue → WantedNames → List DirectoryFork → List SlotWanted
+renamed_slots g s n w forks = with_changes (changes_of (volume_of g) s (lost_due g n) (old_files n w) forks w.links) n.slots
+
+-- the blocks of the plan are made of what was at hand and read as for a rebuild without them, and of the blocks of the directories
+pub record AreRenamedBytes (g : Geometry) (sector : List ℕ) (s : Stamp) (image : Image) (n : NamesDue) (w : WantedNames) (built : List BuiltDirectory) (p : Placed) (b : Bytes) : Type 0 where
+  pub read : Bytes
+  pub at_hand : AreAtHand g sector s (settled n (lost_due g n) w) (renamed_slots g s n w (placed_forks g n w built p)) read
+  pub reads : AreReadOf g image (settled n (lost_due g n) w) n.seen n.log read
+  pub with_objects : b ≡ record read { objects = blocks_of_built built }
+
+-- a new cluster is asked for lost+found, and there is none
+abbrev pub LacksCluster : Geometry → NamesDue → Type 0
+LacksCluster g n = (place_due g n ≡ Cluster) × (cluster_found g n ≡ [])
+
+-- what is settled about names, with the directories that are built
+pub record IsSettling (g : Geometry) (n : NamesDue) (t : Settling) : Type 0 where
+  pub found : LacksCluster g n → ⊥
+  pub lost' : t.lost ≡ lost_due g n
+  pub built' : AreBuilt g n t.names t.built
+  pub rooms' : t.rooms ≡ fork_rooms t.names.rebuilt n.files
+  pub ascend : NumbersAscend 0 t.names.rebuilt
+  pub can' : CanBeBuilt t.names
+  pub orphans' : t.orphans ≡ length (orphans_of (nodes_of_files n.files) n.entries g.rootino)
+
+-- What is to be written where names change, and how many inodes are then in use, how many slots are freed, and how many files are put into
+-- lost+found.
+pub record IsRenamed (g : Geometry) (sector : List ℕ) (s : Stamp) (image : Image) (n : NamesDue) (r : Renamed) : Type 0 where
+  pub found : LacksCluster g n → ⊥
+  pub w : WantedNames
+  pub built : List BuiltDirectory
+  pub names : AreBuilt g n w built
+  pub buildable : CanBeBuilt w
+  pub ascend : NumbersAscend 0 w.rebuilt
+  pub placed : Placed
+  pub stands : StandsFor (renamed_wanted g n w built) placed
+  pub cuts : ServeAsks (asks_of (renamed_wanted g n w built).objects) placed.cuts placed.runs
+  pub bytes : Bytes
+  pub made : AreRenamedBytes g sector s image n w built placed bytes
+  pub left : IsRenderedLeft (renamed_wanted g n w built) placed bytes image r.rebuilt
+  pub count : r.rebuilt.kept ≡ length w.links
+  pub freed : r.rebuilt.cleared ≡ cleared_beside (lost_due g n) n.slots
+  pub orphans' : r.orphans ≡ length (orphans_of (nodes_of_files n.files) n.entries g.rootino)
+
+-- the directories, the cluster of lost+found or the trees of a group find no room
+pub record FindsNoRoomRenamed (g : Geometry) (n : NamesDue) (what : Unplaced) : Type 0 where
+  pub found : LacksCluster g n → ⊥
+  pub w : WantedNames
+  pub built : List BuiltDirectory
+  pub names : AreBuilt g n w built
+  pub finds : FindsNoRoom (renamed_wanted g n w built) what
+
+-- why nothing is planned: room is wanting, of lost+found before all else; a fault of the disk or want of memory may stand in its place
+abbrev pub IsRenameRefused : Geometry → NamesDue → RebuildFault → Type 0
+IsRenameRefused g n (faults.Names due) = ⊥
+IsRenameRefused g n (faults.NoRoom what) = ((what ≡ LostFound) × LacksCluster g n) ⊎ FindsNoRoomRenamed g n what
+IsRenameRefused g n faults.ReadFault = ⊤
+IsRenameRefused g n faults.NoMemory = ⊤

@@ -1,0 +1,243 @@
+//! The plan of a rebuild in which names change.
+
+ghost use Rattle.std.specs.Prelude.{◌≡◌, ◌≤◌, IfErr, IfOk, IsTrue};
+ghost use Rattle.std.specs.List.Sorted.{IsNonDecreasingBy};
+ghost use Rattle.std.specs.Option.{ForSome};
+ghost use Rattle.xfs_disk.specs.Reads.{OnlyReads};
+ghost use Rattle.xfs_geom.specs.Volumes.{stated_volume, volume_of};
+ghost use Rattle.xfs_geom.specs.Writing.{IsAcceptedSector};
+ghost use Rattle.xfs_render.specs.declared.wanted_slots.SlotWanted.{SlotWanted};
+ghost use Rattle.xfs_request.specs.Slots.{StandByNumber};
+ghost use Rattle.xfs_rebuild.specs.Rebuilds.{CanBeWritten, HasNamesDue};
+ghost use Rattle.xfs_rebuild.specs.Refusals.{HasRebuildCause};
+ghost use Rattle.xfs_names.specs.declared.building.BuiltDirectory.{BuiltDirectory};
+ghost use Rattle.xfs_volume.specs.declared.files.FileRec.{FileRec};
+ghost use Rattle.xfs_rename.specs.Forks.{forks_of};
+ghost use Rattle.xfs_rename.specs.Slots.{changes_of, cleared_beside, stays_freed, with_changes};
+ghost use Rattle.xfs_rename.specs.Renames.{IsRenamed, IsRenameRefused, IsSettling};
+
+use crate::changes::{Ways, changes_of};
+use crate::forks::{DirectoryFork, forks_of};
+use crate::lost::Lost;
+use crate::objects::blocks_of_built;
+use crate::settling::{Settling, settle};
+use crate::slots::with_changes;
+use crate::wanting::{SettledAsk, ask_settled};
+use std::alloc::Global;
+use std::sync::ledger::Ledger;
+use std::thread::Threads;
+use xfs_bank::BlockBank;
+use xfs_disk::{Disk, Gate, NoMemory, Stamp};
+use xfs_geom::Elected;
+use xfs_heads::LogState;
+use xfs_place::{PlaceFault, Placed, Wanted, place};
+use xfs_rebuild::{NamesDue, RebuildFault, Rebuilt, bytes_of, plan_placed};
+use xfs_render::{Bytes, SlotBase, SlotWanted, chunks_are_few};
+use xfs_request::SlotSeen;
+use xfs_runs::Steps;
+use xfs_salvage::Salvaged;
+use xfs_volume::Records;
+
+/// What is to be written of a volume in which names change.
+#[derive(Drop)]
+pub struct Renamed {
+    /// The blocks that differ from those on the disk, how many inodes are then in use, and how many slots are freed.
+    pub rebuilt: Rebuilt,
+    /// How many files are put into lost+found.
+    pub orphans: u64,
+}
+
+/// The blocks that are to be written of a volume in which a name or a directory has to change. Directories that are not whole, or
+/// whose entries, parent or types are not those that are due, are built anew on blocks of their own; files without a name go to
+/// lost+found. The disk is only read: as for a rebuild in which no name changes, with the blocks of a new cluster.
+///
+/// `NoRoom` of lost+found where it needs a cluster and finds none, of the first directory that finds no room, else of the first
+/// group; `ReadFault` only where a read failed; `NoMemory` where memory is wanting, or where what was found or is then read of
+/// the disk cannot be that of any image.
+pub fn plan_names<R: Threads + Sync, D: Disk, G: Gate, L: Ledger>(
+    rt: &R,
+    alloc: Global,
+    disk: &mut D,
+    chosen: &Elected,
+    due: NamesDue,
+    stamp: &Stamp,
+    gate: &G,
+    steps: &mut Steps<L>,
+) -> Result<Renamed, RebuildFault>
+    requires accepted { IsAcceptedSector chosen.now.sector }
+    requires states { volume_of chosen.now.geometry ≡ stated_volume chosen.now.sector }
+    requires inside { chosen.now.geometry.dblocks ≤ D.size disk.old }
+    requires due { HasNamesDue chosen.now.geometry stamp.now due }
+    ensures writable { IfOk result (λ r. CanBeWritten (D.size disk.old) r.rebuilt) }
+    ensures renamed { IfOk result (λ r. ForSome (D.holds disk.old) (λ image. IsRenamed chosen.now.geometry chosen.now.sector stamp.now image due r)) }
+    ensures refused { IfErr result (IsRenameRefused chosen.now.geometry due) }
+    ensures cause { HasRebuildCause (D.faults disk.old) (D.faults disk.new) result }
+    ensures disk { OnlyReads D.size D.holds D.write_faults D.writes D.tells_stops D.moment D.may_leave D.left_since disk.old disk.new }
+{
+    let settling = match settle(alloc, &chosen.geometry, &due, stamp) {
+        Ok(settling) => settling,
+        Err(PlaceFault::NoRoom(what)) => return Err(RebuildFault::NoRoom(what)),
+        Err(PlaceFault::NoMemory) => return Err(RebuildFault::NoMemory),
+    };
+    let orphans = settling.orphans;
+    let rebuilt = match plan_settled(rt, alloc, disk, chosen, due, settling, stamp, gate, steps) {
+        Ok(rebuilt) => rebuilt,
+        Err(fault) => return Err(fault),
+    };
+    Ok(Renamed { rebuilt, orphans })
+}
+
+/// The same once the names are settled and the directories built.
+fn plan_settled<R: Threads + Sync, D: Disk, G: Gate, L: Ledger>(
+    rt: &R,
+    alloc: Global,
+    disk: &mut D,
+    chosen: &Elected,
+    due: NamesDue,
+    settling: Settling,
+    stamp: &Stamp,
+    gate: &G,
+    steps: &mut Steps<L>,
+) -> Result<Rebuilt, RebuildFault>
+    requires accepted { IsAcceptedSector chosen.now.sector }
+    requires states { volume_of chosen.now.geometry ≡ stated_volume chosen.now.sector }
+    requires inside { chosen.now.geometry.dblocks ≤ D.size disk.old }
+    requires due { HasNamesDue chosen.now.geometry stamp.now due }
+    requires settling { IsSettling chosen.now.geometry due settling }
+    ensures writable { IfOk result (CanBeWritten (D.size disk.old)) }
+    ensures renamed { IfOk result (λ r. ForSome (D.holds disk.old) (λ image.
+        IsRenamed chosen.now.geometry chosen.now.sector stamp.now image due (record { rebuilt = r; orphans = settling.orphans }))) }
+    ensures refused { IfErr result (IsRenameRefused chosen.now.geometry due) }
+    ensures cause { HasRebuildCause (D.faults disk.old) (D.faults disk.new) result }
+    ensures disk { OnlyReads D.size D.holds D.write_faults D.writes D.tells_stops D.moment D.may_leave D.left_since disk.old disk.new }
+{
+    let g = &chosen.geometry;
+    let SettledAsk {
+        wanted,
+        kept,
+        slots,
+        seen,
+        log,
+    } = match ask_settled(alloc, g, due, &settling, stamp) {
+        Ok(asked) => asked,
+        Err(NoMemory) => return Err(RebuildFault::NoMemory),
+    };
+    chunks_are_few(&wanted);
+    let placed = match place(alloc, &wanted) {
+        Ok(placed) => placed,
+        Err(PlaceFault::NoRoom(what)) => return Err(RebuildFault::NoRoom(what)),
+        Err(PlaceFault::NoMemory) => return Err(RebuildFault::NoMemory),
+    };
+    let cleared = cleared_beside(&settling.lost, slots.as_slice());
+    let slots = match slots_of(
+        alloc,
+        chosen,
+        &settling,
+        &kept,
+        &placed,
+        slots.as_slice(),
+        stamp,
+    ) {
+        Ok(slots) => slots,
+        Err(NoMemory) => return Err(RebuildFault::NoMemory),
+    };
+    let count = settling.names.links.as_slice().len() as u64;
+    let bytes = match bytes_of(
+        alloc,
+        disk,
+        chosen,
+        &kept,
+        seen.as_slice(),
+        Records::from_vec(slots),
+        &log,
+        stamp,
+        steps,
+    ) {
+        Ok(bytes) => bytes,
+        Err(fault) => return Err(fault),
+    };
+    let objects = match blocks_of_built(alloc, settling.built.as_slice()) {
+        Ok(objects) => objects,
+        Err(NoMemory) => return Err(RebuildFault::NoMemory),
+    };
+    let bytes = with_objects(bytes, objects);
+    plan_placed(
+        rt, alloc, disk, &wanted, &placed, &bytes, count, cleared, gate,
+    )
+}
+
+/// The bytes, with the blocks of objects.
+fn with_objects(bytes: Bytes, objects: BlockBank) -> Bytes
+    ensures { result ≡ record bytes { objects = objects } }
+{
+    Bytes { objects, ..bytes }
+}
+
+/// What is wanted of slots, where the directories stand. `NoMemory` where memory is wanting, or where slots do not stand by inode,
+/// as those of any image do, whose files stand in kept clusters.
+fn slots_of(
+    alloc: Global,
+    chosen: &Elected,
+    settling: &Settling,
+    kept: &Salvaged,
+    placed: &Placed,
+    slots: &[SlotWanted],
+    stamp: &Stamp,
+) -> Result<Vec<SlotWanted>, NoMemory>
+    requires files { IsNonDecreasingBy (λ (f : FileRec). f.ino) kept.now.files }
+    requires built { IsNonDecreasingBy (λ (b : BuiltDirectory). b.ino) settling.now.built }
+    ensures order { IfOk result (λ all. IsNonDecreasingBy (λ (w : SlotWanted). w.ino) all.items) }
+    ensures slots { IfOk result (λ all. all.items ≡ with_changes (changes_of (volume_of chosen.now.geometry) stamp.now settling.now.lost kept.now.files
+        (forks_of (volume_of chosen.now.geometry) kept.now.files settling.now.built placed.now.cuts placed.now.runs) settling.now.names.links) slots.now) }
+{
+    let files = kept.files.as_slice();
+    let forks = forks_of(
+        alloc,
+        &chosen.geometry,
+        files,
+        settling.built.as_slice(),
+        placed.cuts.as_slice(),
+        placed.runs.as_slice(),
+    )?;
+    let ways = Ways {
+        g: &chosen.geometry,
+        stamp,
+        lost: &settling.lost,
+        files,
+        forks: forks.as_slice(),
+    };
+    let changes = changes_of(alloc, &ways, settling.names.links.as_slice())?;
+    let all = with_changes(alloc, changes.as_slice(), slots)?;
+    if !stand_by_number(&all) {
+        return Err(NoMemory);
+    }
+    Ok(all)
+}
+
+/// Whether slots stand by inode.
+fn stand_by_number(slots: &[SlotWanted]) -> bool
+    ensures { IsTrue result → StandByNumber (λ (w : SlotWanted). w.ino) 0 slots.now }
+{
+    let mut least = 0;
+    for slot in slots {
+        if slot.ino < least {
+            return false;
+        }
+        least = slot.ino;
+    }
+    true
+}
+
+/// How many of the slots are freed that were to be: not that of lost+found.
+fn cleared_beside(lost: &Lost, slots: &[SlotWanted]) -> u64
+    ensures { result ≡ cleared_beside lost.now slots.now }
+{
+    slots.iter().filter(|slot| stays_freed(lost, slot)).count() as u64
+}
+
+/// Whether a slot is freed that was to be.
+fn stays_freed(lost: &Lost, slot: &SlotWanted) -> bool
+    ensures { result ≡ stays_freed lost.now slot.now }
+{
+    matches!(slot.base, SlotBase::Free) && !(lost.made && slot.ino == lost.new)
+}

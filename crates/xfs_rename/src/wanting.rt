@@ -1,0 +1,182 @@
+//! What is asked of the volume once its names are settled.
+
+ghost use Rattle.std.specs.Prelude.{◌≡◌, [], map, true, IfOk};
+ghost use Rattle.xfs_naming.specs.Naming.{NumbersAscend};
+ghost use Rattle.xfs_rebuild.specs.Rebuilds.{HasNamesDue};
+ghost use Rattle.xfs_salvage.specs.Kept.{run_of_cluster};
+ghost use Rattle.xfs_rename.specs.Objects.{objects_of, wanted_with};
+ghost use Rattle.xfs_rename.specs.Renames.{IsSettling};
+ghost use Rattle.xfs_rename.specs.Settled.{fresh_with, settled, staying_files, with_numbers};
+
+use crate::lost::Lost;
+use crate::objects::objects_of;
+use crate::replaced::push_replaced;
+use crate::settled::{fresh_with, staying_files, with_numbers};
+use crate::settling::Settling;
+use std::alloc::Global;
+use xfs_disk::{NoMemory, Stamp};
+use xfs_geom::{Geometry, Run};
+use xfs_heads::LogState;
+use xfs_place::{GroupInodes, Object, Wanted};
+use xfs_rebuild::NamesDue;
+use xfs_render::SlotWanted;
+use xfs_request::{SlotSeen, inodes_wanted, taken_runs};
+use xfs_salvage::Salvaged;
+use xfs_volume::{FileRec, Records};
+
+/// The owner of the blocks of inodes, and the blocks of a cluster.
+const INODES: u64 = u64::MAX - 6;
+
+const CLUSTER_BLOCKS: u64 = 4;
+
+/// What is asked.
+#[derive(Debug, Drop)]
+pub struct SettledAsk {
+    /// What is to be placed, and what the volume holds already.
+    pub wanted: Wanted,
+    /// What the volume has once it is settled.
+    pub kept: Salvaged,
+    /// What was wanted of slots before, what is known of them, and the state of the log.
+    pub slots: Records<SlotWanted>,
+    pub seen: Records<SlotSeen>,
+    pub log: LogState,
+}
+
+/// What is asked of it.
+pub(crate) fn ask_settled(
+    alloc: Global,
+    g: &Geometry,
+    due: NamesDue,
+    settling: &Settling,
+    stamp: &Stamp,
+) -> Result<SettledAsk, NoMemory>
+    requires due { HasNamesDue g.now stamp.now due }
+    requires settling { IsSettling g.now due settling.now }
+    ensures wanted { IfOk result (λ asked. asked.wanted ≡ wanted_with g.now due settling.now.lost settling.now.names (objects_of settling.now.rooms settling.now.built)) }
+    ensures kept { IfOk result (λ asked. asked.kept ≡ settled due settling.now.lost settling.now.names) }
+    ensures slots { IfOk result (λ asked. asked.slots ≡ due.slots) }
+    ensures seen { IfOk result (λ asked. asked.seen ≡ due.seen) }
+    ensures log { IfOk result (λ asked. asked.log ≡ due.log) }
+{
+    let NamesDue {
+        wanted,
+        slots,
+        files,
+        clusters,
+        fresh,
+        seen,
+        log,
+        ..
+    } = due;
+    let rebuilt = settling.names.rebuilt.as_slice();
+    let mut reserved = reserved_of(wanted);
+    push_replaced(g, rebuilt, files.as_slice(), &mut reserved)?;
+    let kept = staying_of(alloc, rebuilt, &settling.lost, clusters, files, fresh)?;
+    let taken = taken_runs(alloc, g, &kept)?;
+    let kept = with_added(settling.lost.added.as_slice(), kept)?;
+    let inodes = inodes_wanted(alloc, g, &kept)?;
+    let objects = objects_of(alloc, settling.rooms.as_slice(), settling.built.as_slice())?;
+    let new = cluster_runs(alloc, settling.lost.added.as_slice())?;
+    let spared = Vec::from_slice(alloc, settling.lost.spared.as_slice())?;
+    let wanted = joined(g, taken, new, reserved, spared, objects, inodes);
+    Ok(SettledAsk {
+        wanted,
+        kept,
+        slots,
+        seen,
+        log,
+    })
+}
+
+/// The blocks that were reserved before.
+fn reserved_of(wanted: Wanted) -> Vec<u64>
+    ensures { result.items ≡ wanted.reserved }
+{
+    let Wanted { reserved, .. } = wanted;
+    reserved.into_vec()
+}
+
+/// What is kept, without new clusters.
+fn staying_of(
+    alloc: Global,
+    rebuilt: &[u64],
+    lost: &Lost,
+    clusters: Records<u64>,
+    files: Records<FileRec>,
+    fresh: Records<u64>,
+) -> Result<Salvaged, NoMemory>
+    requires rebuilt { NumbersAscend 0 rebuilt.now }
+    ensures { IfOk result (λ kept. kept ≡ record { clusters = clusters; files = staying_files rebuilt.now fresh files; fresh = fresh_with lost.now fresh; entries = []; dirs = [] }) }
+{
+    let files = staying_files(alloc, rebuilt, fresh.as_slice(), files.into_vec());
+    let fresh = fresh_with(lost, fresh.into_vec())?;
+    Ok(Salvaged {
+        clusters,
+        files: Records::from_vec(files),
+        fresh: Records::from_vec(fresh),
+        entries: Records::from_vec(Vec::new(alloc)),
+        dirs: Records::from_vec(Vec::new(alloc)),
+    })
+}
+
+/// What is asked, from its parts: nothing below a block, and spared blocks where directories find no others.
+fn joined(
+    g: &Geometry,
+    taken: Vec<Run>,
+    new: Vec<Run>,
+    reserved: Vec<u64>,
+    spared: Vec<u32>,
+    objects: Vec<Object>,
+    inodes: Vec<GroupInodes>,
+) -> Wanted
+    ensures { result ≡ record { geometry = g.now; taken = taken.items; new = new.items; reserved = reserved.items; from = 0; spared_from = spared.items; takes_spared = true; objects = objects.items; inodes = inodes.items } }
+{
+    Wanted {
+        geometry: *g,
+        taken: Records::from_vec(taken),
+        new: Records::from_vec(new),
+        reserved: Records::from_vec(reserved),
+        from: 0,
+        spared_from: Records::from_vec(spared),
+        takes_spared: true,
+        objects: Records::from_vec(objects),
+        inodes: Records::from_vec(inodes),
+    }
+}
+
+/// What is kept, with new clusters.
+fn with_added(added: &[u64], kept: Salvaged) -> Result<Salvaged, NoMemory>
+    ensures { IfOk result (λ all. all ≡ record kept { clusters = with_numbers added.now kept.clusters }) }
+{
+    let Salvaged {
+        clusters,
+        files,
+        fresh,
+        entries,
+        dirs,
+    } = kept;
+    let clusters = with_numbers(added, clusters.into_vec())?;
+    Ok(Salvaged {
+        clusters: Records::from_vec(clusters),
+        files,
+        fresh,
+        entries,
+        dirs,
+    })
+}
+
+/// The runs of clusters.
+fn cluster_runs(alloc: Global, clusters: &[u64]) -> Result<Vec<Run>, NoMemory>
+    ensures { IfOk result (λ runs. runs.items ≡ map run_of_cluster clusters.now) }
+{
+    let mut runs = Vec::new(alloc);
+    for cluster in clusters {
+        runs.push(Run {
+            start: *cluster,
+            count: CLUSTER_BLOCKS,
+            owner: INODES,
+            offset_word: 0,
+        })?;
+    }
+    Ok(runs)
+}
