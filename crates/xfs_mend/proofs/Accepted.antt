@@ -15,7 +15,7 @@ use Rattle.xfs_mend.specs.Outcome.{IsRepairCause, IsDurableRepair, IsRepaired, R
 use Rattle.xfs_writing.specs.Stopped.{IsStopped}
 use Rattle.xfs_writing.specs.Writing.{Writes, IsPartly, written}
 use Rattle.xfs_mend.specs.declared.outcome.Outcome.{Outcome}
-use Rattle.xfs_mend.specs.declared.outcome.Outcome.TheVariants.{NoGeometry, Unsupported, DirtyLog, TooLarge, UnsupportedFile, Clean, Damaged, Repaired, NoRoom, Unbuilt, ReadFault, WriteFault, NoMemory}
+use Rattle.xfs_mend.specs.declared.outcome.Outcome.TheVariants.{NoGeometry, Unsupported, DirtyLog, TooLarge, UnsupportedFile, Clean, Damaged, Repaired, NoRoom, ReadFault, WriteFault, NoMemory}
 use Rattle.xfs_mend.specs.declared.outcome.Summary.TheVariants.{Backups, Rebuilt as Anew}
 
 -- each group of an accepted geometry begins inside the image
@@ -85,7 +85,6 @@ written_leaves s image now plan count (UnsupportedFile ino what) found repairs s
 written_leaves s image now plan count Clean found repairs same owed writes = writes
 written_leaves s image now plan count (Damaged finding) found repairs same owed writes = writes
 written_leaves s image now plan count (NoRoom what) found repairs same owed writes = writes
-written_leaves s image now plan count (Unbuilt request) found repairs same owed writes = writes
 written_leaves s image now plan count (ReadFault faults) found repairs same owed writes = writes
 written_leaves s image now plan count NoMemory found repairs same owed writes = writes
 
@@ -102,7 +101,6 @@ kept_before before after now may_leave (UnsupportedFile ino what) tells kept = k
 kept_before before after now may_leave Clean tells kept = kept
 kept_before before after now may_leave (Damaged finding) tells kept = kept
 kept_before before after now may_leave (NoRoom what) tells kept = kept
-kept_before before after now may_leave (Unbuilt request) tells kept = kept
 kept_before before after now may_leave (ReadFault faults) tells kept = kept
 kept_before before after now may_leave NoMemory tells kept = kept
 
@@ -119,7 +117,6 @@ caused_before earlier before now w0 w1 w2 (UnsupportedFile ino what) up more cau
 caused_before earlier before now w0 w1 w2 Clean up more cause = cause
 caused_before earlier before now w0 w1 w2 (Damaged finding) up more cause = cause
 caused_before earlier before now w0 w1 w2 (NoRoom what) up more cause = cause
-caused_before earlier before now w0 w1 w2 (Unbuilt request) up more cause = cause
 caused_before earlier before now w0 w1 w2 NoMemory up more cause = cause
 
 -- what a stop leaves while these steps are written is what it leaves by the plan

@@ -19,9 +19,9 @@ use Rattle.xfs_mend.specs.Asked.{Asked}
 use Rattle.xfs_backups.specs.Backups.{backup_plan}
 use Rattle.xfs_mend.specs.Due.{IsAnswer, IsDueBehind, IsDueFound, IsDueRepair, IsDueVolume, IsOwed, asks_log, away_if, is_dirty, turned_away}
 use Rattle.xfs_mend.specs.Outcome.{IsRebuilt, IsRepaired, RepairLeaves, StaysClean, is_quiet}
-use Rattle.xfs_mend.specs.Rebuilding.{rebuild_writes}
+use Rattle.xfs_mend.specs.Rebuilding.{KeepsNames, rebuild_writes}
 use Rattle.xfs_mend.specs.declared.outcome.Outcome.{Outcome}
-use Rattle.xfs_mend.specs.declared.outcome.Outcome.TheVariants.{NoGeometry, Unsupported, DirtyLog, TooLarge, UnsupportedFile, Clean, Damaged, Repaired, NoRoom, Unbuilt, ReadFault, WriteFault, NoMemory}
+use Rattle.xfs_mend.specs.declared.outcome.Outcome.TheVariants.{NoGeometry, Unsupported, DirtyLog, TooLarge, UnsupportedFile, Clean, Damaged, Repaired, NoRoom, ReadFault, WriteFault, NoMemory}
 use Rattle.xfs_mend.specs.declared.outcome.Summary.{Summary}
 use Rattle.xfs_writing.specs.Writing.{written}
 
@@ -64,7 +64,6 @@ stays_quiet o s g image (UnsupportedFile ino what) is due = refl
 stays_quiet o s g image Clean is due = refl
 stays_quiet o s g image (Damaged finding) is due = refl
 stays_quiet o s g image (NoRoom what) is due = refl
-stays_quiet o s g image (Unbuilt request) is due = refl
 stays_quiet o s g image (ReadFault faults) is due = refl
 stays_quiet o s g image NoMemory is due = refl
 
@@ -79,7 +78,6 @@ quiet_leaves s image now (UnsupportedFile ino what) quiet leaves = leaves
 quiet_leaves s image now Clean quiet leaves = leaves
 quiet_leaves s image now (Damaged finding) quiet leaves = leaves
 quiet_leaves s image now (NoRoom what) quiet leaves = leaves
-quiet_leaves s image now (Unbuilt request) quiet leaves = leaves
 quiet_leaves s image now (ReadFault faults) quiet leaves = leaves
 quiet_leaves s image now NoMemory quiet leaves = leaves
 
@@ -103,9 +101,10 @@ pub left_clean : (o : Asked) (s : Stamp) (image left : Image) (outcome : Outcome
     → IsOwed (λ due. due ≡ Clean) outcome
 left_clean o s image left outcome is due = (left_is image left is).only o s outcome due
 
--- so it is with what a rebuild left
+-- so it is with what a rebuild left in which no name changed
 pub rebuilt_stays : (o : Asked) (s t : Stamp) (image left : Image) (now : Option Image) (blocks kept cleared orphans : ℕ) (outcome : Outcome)
-    → IsRebuilt s image (Some left) blocks kept cleared orphans → IsDueRepair o t left outcome → RepairLeaves t left now outcome → now ≡ Some left
-rebuilt_stays o s t image left now blocks kept cleared orphans outcome is due leaves =
+    → (is : IsRebuilt s image (Some left) blocks kept cleared orphans) → KeepsNames is.plan.has.geometry s image → IsDueRepair o t left outcome → RepairLeaves t left now outcome
+    → now ≡ Some left
+rebuilt_stays o s t image left now blocks kept cleared orphans outcome is named due leaves =
     let same : left ≡ written (rebuild_writes is.r) image = one_image left (written (rebuild_writes is.r) image) is.is in
-    quiet_leaves t left now outcome (is.stays o t outcome (subst (λ (x : Image). IsDueRepair o t x outcome) same due)) leaves
+    quiet_leaves t left now outcome (is.stays named o t outcome (subst (λ (x : Image). IsDueRepair o t x outcome) same due)) leaves

@@ -22,13 +22,12 @@ use Rattle.xfs_image.specs.declared.findings.Finding.{Finding}
 use Rattle.xfs_image.specs.declared.findings.Finding.TheVariants as Found
 use Rattle.xfs_mend.proofs.Owing.{owed_as}
 use Rattle.xfs_mend.proofs.Repaired.{first_sector}
-use Rattle.xfs_rebuild.specs.Rebuilds.{IsRebuildOf}
 use Rattle.xfs_rebuild.specs.declared.planning.Rebuilt.{Rebuilt}
 use Rattle.xfs_scan.specs.Evidence.{IsEvidence}
 use Rattle.xfs_scan.specs.declared.evidence.Evidence.{Evidence}
 use Rattle.xfs_backups.specs.Backups.{backup_plan, disagrees, first_disagreeing, start_of}
 use Rattle.xfs_mend.specs.Due.{IsAnswer, IsDueBehind, IsDueFound, IsDueRepair, IsDueRepaired, IsDueUnless, IsDueVolume, IsOwed, turned_away}
-use Rattle.xfs_mend.specs.Rebuilding.{IsBackupFound, IsDueRebuild, IsPlannedRebuild, is_backup}
+use Rattle.xfs_mend.specs.Rebuilding.{IsBackupFound, IsDueRebuild, IsRepairPlan, IsPlannedRebuild, is_backup}
 use Rattle.xfs_writing.specs.Writing.{Writes}
 use Rattle.xfs_mend.specs.Private.Refusing.{IsAdmission}
 use Rattle.xfs_mend.specs.declared.refusals.Admitted.{Admitted}
@@ -133,10 +132,10 @@ has_backup g image (Found.Part part place) is same backup =
     let number : part ≡ 10 = eqb-true part 10 backup in
     (place, record { geometry = g; elected = is; is = sym same ∙ ap (λ (p : ℕ). Some (Found.Part p place)) number })
 
-pub is_planned : (g : Geometry) (s : Stamp) (image : Image) (vote : Vote) (found : Finding) (e : Evidence) (r : Rebuilt) → elected image ≡ Ok vote
+pub is_planned : (g : Geometry) (s : Stamp) (image : Image) (vote : Vote) (found : Finding) (e : Evidence) (r : Rebuilt) (orphans : ℕ) → elected image ≡ Ok vote
     → volume_of g ≡ stated_volume vote.sector → Some found ≡ finding broken_law g image → is_backup found ≡ false → IsEvidence g image e
-    → IsRebuildOf g vote.sector s image e r → IsPlannedRebuild s image r
-is_planned g s image vote found e r elects stated same other evidence is = record {
+    → IsRepairPlan g vote.sector s image e r orphans → IsPlannedRebuild s image r orphans
+is_planned g s image vote found e r orphans elects stated same other evidence is = record {
   found = found;
   has = record { geometry = g; elected = is_elected g image vote elects stated; is = sym same };
   other = other;

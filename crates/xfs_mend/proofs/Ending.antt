@@ -10,7 +10,7 @@ use Rattle.xfs_mend.specs.Due.{CanCome}
 use Rattle.xfs_mend.specs.Private.Ending.{Ends}
 use Rattle.xfs_mend.specs.Outcome.{IsRepairCause, IsDurableRepair, blocks_told, is_quiet}
 use Rattle.xfs_mend.specs.declared.outcome.Outcome.{Outcome}
-use Rattle.xfs_mend.specs.declared.outcome.Outcome.TheVariants.{NoGeometry, Unsupported, DirtyLog, TooLarge, UnsupportedFile, Clean, Damaged, Repaired, NoRoom, Unbuilt, ReadFault, WriteFault, NoMemory}
+use Rattle.xfs_mend.specs.declared.outcome.Outcome.TheVariants.{NoGeometry, Unsupported, DirtyLog, TooLarge, UnsupportedFile, Clean, Damaged, Repaired, NoRoom, ReadFault, WriteFault, NoMemory}
 use Rattle.xfs_mend.specs.declared.outcome.Summary.TheVariants.{Backups, Rebuilt}
 
 -- where nothing was written nothing is kept or told
@@ -25,7 +25,6 @@ kept_quiet tells now may_leave (UnsupportedFile ino what) quiet = tt
 kept_quiet tells now may_leave Clean quiet = tt
 kept_quiet tells now may_leave (Damaged finding) quiet = tt
 kept_quiet tells now may_leave (NoRoom what) quiet = tt
-kept_quiet tells now may_leave (Unbuilt request) quiet = tt
 kept_quiet tells now may_leave (ReadFault faults) quiet = tt
 kept_quiet tells now may_leave NoMemory quiet = tt
 
@@ -41,7 +40,6 @@ told_quiet (UnsupportedFile ino what) quiet = refl
 told_quiet Clean quiet = refl
 told_quiet (Damaged finding) quiet = refl
 told_quiet (NoRoom what) quiet = refl
-told_quiet (Unbuilt request) quiet = refl
 told_quiet (ReadFault faults) quiet = refl
 told_quiet NoMemory quiet = refl
 
@@ -51,7 +49,7 @@ not_both check holds fails = sym holds ∙ fails
 -- what comes of a check says that nothing was written
 pub check_quiet : (o : Asked) (a : Outcome) → o.check ≡ true → CanCome o a → is_quiet a ≡ true
 check_quiet o (Repaired (Backups count)) checks comes = sym (not_both o.check checks comes)
-check_quiet o (Repaired (Rebuilt blocks kept cleared orphans)) checks comes = sym (not_both o.check checks comes.0)
+check_quiet o (Repaired (Rebuilt blocks kept cleared orphans)) checks comes = sym (not_both o.check checks comes)
 check_quiet o (WriteFault blocks) checks comes = sym (not_both o.check checks comes)
 check_quiet o NoGeometry checks comes = refl
 check_quiet o (Unsupported word bits) checks comes = refl
@@ -61,7 +59,6 @@ check_quiet o (UnsupportedFile ino what) checks comes = refl
 check_quiet o Clean checks comes = refl
 check_quiet o (Damaged finding) checks comes = refl
 check_quiet o (NoRoom what) checks comes = refl
-check_quiet o (Unbuilt request) checks comes = refl
 check_quiet o (ReadFault faults) checks comes = refl
 check_quiet o NoMemory checks comes = refl
 

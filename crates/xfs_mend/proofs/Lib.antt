@@ -9,6 +9,8 @@ pub mod Owing
 pub mod Restored
 pub mod Again
 pub mod OneGround
+pub mod OneNames
+pub mod Renaming
 pub mod OneRebuild
 pub mod Rebuilt
 pub mod SameCandidates

@@ -1,5 +1,5 @@
 -- What an image gives a rebuild to go by is one, and so is what finds no room.
-use Rattle.std.proofs.Common.{◌≡◌, ℕ, ◌<◌, ◌++◌, List, [], ◌∷◌, Result, Ok, Err, Some, None, inl, inr, refl, sym, ap, ◌∙◌, subst}
+use Rattle.std.proofs.Common.{◌≡◌, ℕ, ◌<◌, ◌++◌, Bool, true, false, List, [], ◌∷◌, Result, Ok, Err, Some, None, inl, inr, refl, sym, ap, ◌∙◌, subst}
 use Rattle.std.proofs.lemmas.Bool.{cases_order}
 use Rattle.std.specs.List.{concat}
 use Rattle.xfs_disk.specs.Blocks.{Image}
@@ -84,6 +84,12 @@ ground_is g image on of =
 -- so it is one
 pub one_ground : (g : Geometry) (image : Image) (on other : Ground) → IsGroundOf g image on → IsGroundOf g image other → on ≡ other
 one_ground g image on other first second = ground_is g image on first ∙ sym (ground_is g image other second)
+
+-- a test has one answer
+pub never_both : (test : Bool) → test ≡ true → test ≡ false → ⊥
+never_both test is isnt =
+    let both : true ≡ false = sym is ∙ isnt in
+    cc
 
 -- a number and none are not both chosen
 never_chosen : (g : Group) (n : ℕ) → IsChosenCount g (Some n) → IsChosenCount g None → ⊥

@@ -1,7 +1,7 @@
 -- What is owed of one relation is owed of every wider one.
 use Rattle.xfs_mend.specs.Due.{IsOwed}
 use Rattle.xfs_mend.specs.declared.outcome.Outcome.{Outcome}
-use Rattle.xfs_mend.specs.declared.outcome.Outcome.TheVariants.{NoGeometry, Unsupported, DirtyLog, TooLarge, UnsupportedFile, Clean, Damaged, Repaired, NoRoom, Unbuilt, ReadFault, WriteFault, NoMemory}
+use Rattle.xfs_mend.specs.declared.outcome.Outcome.TheVariants.{NoGeometry, Unsupported, DirtyLog, TooLarge, UnsupportedFile, Clean, Damaged, Repaired, NoRoom, ReadFault, WriteFault, NoMemory}
 
 pub owed_as : (due other : Outcome → Type 0) (outcome : Outcome) → ((x : Outcome) → due x → other x) → IsOwed due outcome → IsOwed other outcome
 owed_as due other (ReadFault faults) step owed = tt
@@ -16,4 +16,3 @@ owed_as due other Clean step owed = step Clean owed
 owed_as due other (Damaged finding) step owed = step (Damaged finding) owed
 owed_as due other (Repaired summary) step owed = step (Repaired summary) owed
 owed_as due other (NoRoom what) step owed = step (NoRoom what) owed
-owed_as due other (Unbuilt request) step owed = step (Unbuilt request) owed

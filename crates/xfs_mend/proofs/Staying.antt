@@ -32,7 +32,7 @@ use Rattle.xfs_mend.specs.Asked.{Asked}
 use Rattle.xfs_mend.specs.Due.{IsAnswer, IsDueRepair, IsOwed, asks_log, away_if, is_dirty, scan_refusal, turned_away, uncounted}
 use Rattle.xfs_mend.specs.Outcome.{StaysClean}
 use Rattle.xfs_mend.specs.declared.outcome.Outcome.{Outcome}
-use Rattle.xfs_mend.specs.declared.outcome.Outcome.TheVariants.{NoGeometry, Unsupported, DirtyLog, TooLarge, UnsupportedFile, Clean, Damaged, Repaired, NoRoom, Unbuilt, ReadFault, WriteFault, NoMemory}
+use Rattle.xfs_mend.specs.declared.outcome.Outcome.TheVariants.{NoGeometry, Unsupported, DirtyLog, TooLarge, UnsupportedFile, Clean, Damaged, Repaired, NoRoom, ReadFault, WriteFault, NoMemory}
 use Rattle.xfs_mend.specs.declared.outcome.Summary.TheVariants.{Backups, Rebuilt}
 
 -- the log of a volume that breaks no law is clean
@@ -93,7 +93,6 @@ clean_only (UnsupportedFile ino what) same = same
 clean_only Clean same = same
 clean_only (Damaged finding) same = same
 clean_only (NoRoom what) same = same
-clean_only (Unbuilt request) same = same
 clean_only (ReadFault faults) same = same
 clean_only (WriteFault blocks) same = same
 clean_only NoMemory same = same

@@ -19,10 +19,10 @@ same_writes : (r : Rebuilt) (first last : List Row) → first ≡ r.fresh → la
 same_writes r first last one two = ap₂ (λ (a b : List Row). writes_of_rows r.bank (a ++ b)) one two
 
 -- all of it
-pub left_all : (r : Rebuilt) (first last : List Row) (image : Image) (now : Option Image) (blocks : ℕ) → first ≡ r.fresh → last ≡ r.in_place
+pub left_all : (r : Rebuilt) (first last : List Row) (image : Image) (now : Option Image) (blocks orphans : ℕ) → first ≡ r.fresh → last ≡ r.in_place
     → now ≡ Some (written (writes_of_rows r.bank (first ++ last)) image) → blocks ≡ length first + length last
-    → LeavesOfRebuilt r image now (Repaired (Anew blocks r.kept r.cleared 0))
-left_all r first last image now blocks one two done counted = (
+    → LeavesOfRebuilt r orphans image now (Repaired (Anew blocks r.kept r.cleared orphans))
+left_all r first last image now blocks orphans one two done counted = (
   subst (λ (ws : Writes). now ≡ Some (written ws image)) (same_writes r first last one two) done,
   counted ∙ count_rows r first last one two,
   refl,
@@ -31,9 +31,9 @@ left_all r first last image now blocks one two done counted = (
 )
 
 -- a part of it
-pub left_part : (r : Rebuilt) (first last : List Row) (image : Image) (now : Option Image) (n : ℕ) → first ≡ r.fresh → last ≡ r.in_place
-    → n ≤ length first + length last → IsPartly (writes_of_rows r.bank (first ++ last)) image n now → LeavesOfRebuilt r image now (WriteFault n)
-left_part r first last image now n one two most partly = (
+pub left_part : (r : Rebuilt) (first last : List Row) (image : Image) (now : Option Image) (n orphans : ℕ) → first ≡ r.fresh → last ≡ r.in_place
+    → n ≤ length first + length last → IsPartly (writes_of_rows r.bank (first ++ last)) image n now → LeavesOfRebuilt r orphans image now (WriteFault n)
+left_part r first last image now n orphans one two most partly = (
   subst (λ (count : ℕ). n ≤ count) (count_rows r first last one two) most,
   subst (λ (ws : Writes). IsPartly ws image n now) (same_writes r first last one two) partly,
 )

@@ -18,7 +18,7 @@ use Rattle.xfs_scan.specs.declared.faults.ScanFault.{ScanFault}
 use Rattle.xfs_scan.specs.declared.faults.ScanFault.TheVariants as scan
 use Rattle.xfs_backups.specs.Backups.{backup_plan}
 use Rattle.xfs_mend.specs.declared.outcome.Outcome.{Outcome}
-use Rattle.xfs_mend.specs.declared.outcome.Outcome.TheVariants.{NoGeometry, Unsupported, DirtyLog, TooLarge, UnsupportedFile, Clean, Damaged, Repaired, NoRoom, Unbuilt, ReadFault, WriteFault, NoMemory}
+use Rattle.xfs_mend.specs.declared.outcome.Outcome.TheVariants.{NoGeometry, Unsupported, DirtyLog, TooLarge, UnsupportedFile, Clean, Damaged, Repaired, NoRoom, ReadFault, WriteFault, NoMemory}
 use Rattle.xfs_mend.specs.Asked.{Asked}
 use Rattle.xfs_mend.specs.Rebuilding.{IsDueRebuild, is_backup}
 use Rattle.xfs_mend.specs.declared.outcome.Summary.{Summary}
@@ -100,13 +100,12 @@ abbrev pub IsDueRepair : Asked → Stamp → Image → Outcome → Type 0
 IsDueRepair o s image outcome = IsOwed (IsAnswer o s image (elected image)) outcome
 
 -- The outcomes that may come of what is asked, whatever a disk tells: only a check finds damage, and a check repairs nothing, fails no
--- write, and never answers that there is no room or that a repair is not built. No repair puts a file into lost+found yet.
+-- write, and never answers that there is no room.
 abbrev pub CanCome : Asked → Outcome → Type 0
 CanCome o (Damaged found) = o.check ≡ true
 CanCome o (Repaired (Backups count)) = o.check ≡ false
-CanCome o (Repaired (Rebuilt blocks kept cleared orphans)) = (o.check ≡ false) × (orphans ≡ 0)
+CanCome o (Repaired (Rebuilt blocks kept cleared orphans)) = o.check ≡ false
 CanCome o (NoRoom what) = o.check ≡ false
-CanCome o (Unbuilt request) = (o.check ≡ false) × (request ≡ 9)
 CanCome o (WriteFault blocks) = o.check ≡ false
 CanCome o outcome = ⊤
 

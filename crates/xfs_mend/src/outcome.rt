@@ -52,8 +52,6 @@ pub enum Outcome {
     Repaired(Summary),
     /// A volume that is to be rebuilt has no room for this, the first that finds none.
     NoRoom(Unplaced),
-    /// A name or a directory would have to change, which is not done yet. `request` names the step that brings it.
-    Unbuilt { request: u8 },
     /// A read failed, before anything was written. `faults` is the disk's count.
     ReadFault { faults: u64 },
     /// A write or a sync failed, after so many blocks of the plan were written.

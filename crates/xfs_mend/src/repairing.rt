@@ -37,10 +37,10 @@ use xfs_writing::write_parts;
 /// Elects the geometry, and checks all that the volume says. With `check` nothing is written, and the first thing that is wrong
 /// is found. Else a volume that is not consistent is repaired. Where nothing but backup superblocks is wrong, those that don't agree
 /// with the primary are written anew. Else the volume is rebuilt round what can be kept of it: its trees and headers, the slots
-/// that are lost, and the log where it is dropped; fresh blocks are written before those in place. The outcomes come in this
-/// order: no geometry, or a feature of the primary that is refused; a log that is not clean, where the volume is not only checked
-/// and the log is not to be dropped; a volume that is too large; a file that is not supported; and what was found, or came of its
-/// repair: a name that would have to change, and then what finds no room.
+/// that are lost, and the log where it is dropped; where a name has to change, directories are built anew, and files without a
+/// name go to lost+found. Fresh blocks are written before those in place. The outcomes come in this order: no geometry, or a feature
+/// of the primary that is refused; a log that is not clean, where the volume is not only checked and the log is not to be dropped; a
+/// volume that is too large; a file that is not supported; and what was found, or came of its repair, or finds no room.
 pub fn repair<R: Threads + Sync, D: Disk, G: Gate>(
     rt: &R,
     alloc: Global,

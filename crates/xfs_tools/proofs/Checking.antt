@@ -4,7 +4,7 @@ use Rattle.xfs_mend.specs.Asked.{Asked}
 use Rattle.xfs_mend.specs.Due.{CanCome}
 use Rattle.xfs_mend.specs.Outcome.{is_quiet}
 use Rattle.xfs_mend.specs.declared.outcome.Outcome.{Outcome}
-use Rattle.xfs_mend.specs.declared.outcome.Outcome.TheVariants.{NoGeometry, Unsupported, DirtyLog, TooLarge, UnsupportedFile, Clean, Damaged, Repaired, NoRoom, Unbuilt, ReadFault, WriteFault, NoMemory}
+use Rattle.xfs_mend.specs.declared.outcome.Outcome.TheVariants.{NoGeometry, Unsupported, DirtyLog, TooLarge, UnsupportedFile, Clean, Damaged, Repaired, NoRoom, ReadFault, WriteFault, NoMemory}
 use Rattle.xfs_mend.specs.declared.outcome.Summary.TheVariants.{Backups, Rebuilt}
 
 -- a truth value is not both
@@ -24,9 +24,8 @@ quiet_where_checked o (UnsupportedFile ino what) check can = refl
 quiet_where_checked o Clean check can = refl
 quiet_where_checked o (Damaged finding) check can = refl
 quiet_where_checked o (Repaired (Backups count)) check can = absurd (not_both o.check check can)
-quiet_where_checked o (Repaired (Rebuilt blocks kept cleared orphans)) check can = absurd (not_both o.check check can.0)
+quiet_where_checked o (Repaired (Rebuilt blocks kept cleared orphans)) check can = absurd (not_both o.check check can)
 quiet_where_checked o (NoRoom what) check can = refl
-quiet_where_checked o (Unbuilt request) check can = refl
 quiet_where_checked o (ReadFault faults) check can = refl
 quiet_where_checked o (WriteFault blocks) check can = absurd (not_both o.check check can)
 quiet_where_checked o NoMemory check can = refl

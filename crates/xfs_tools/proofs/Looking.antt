@@ -8,7 +8,7 @@ use Rattle.xfs_disk.proofs.Reading.{reads_on}
 use Rattle.xfs_mend.specs.Asked.{Asked}
 use Rattle.xfs_mend.specs.Outcome.{IsDurableRepair, IsRepairCause, StopsBy, blocks_told}
 use Rattle.xfs_mend.specs.declared.outcome.Outcome.{Outcome}
-use Rattle.xfs_mend.specs.declared.outcome.Outcome.TheVariants.{NoGeometry, Unsupported, DirtyLog, TooLarge, UnsupportedFile, Clean, Damaged, Repaired, NoRoom, Unbuilt, ReadFault, WriteFault, NoMemory}
+use Rattle.xfs_mend.specs.declared.outcome.Outcome.TheVariants.{NoGeometry, Unsupported, DirtyLog, TooLarge, UnsupportedFile, Clean, Damaged, Repaired, NoRoom, ReadFault, WriteFault, NoMemory}
 use Rattle.xfs_tools.specs.Repairing.{IsRepair}
 
 -- a cause after an earlier moment
@@ -24,7 +24,6 @@ cause_behind a b c wa wb wc Clean less same cause = tt
 cause_behind a b c wa wb wc (Damaged finding) less same cause = tt
 cause_behind a b c wa wb wc (Repaired summary) less same cause = tt
 cause_behind a b c wa wb wc (NoRoom what) less same cause = tt
-cause_behind a b c wa wb wc (Unbuilt request) less same cause = tt
 cause_behind a b c wa wb wc NoMemory less same cause = tt
 
 -- a repair is kept, also as seen from an earlier moment
@@ -39,7 +38,6 @@ kept_behind earlier tells now may_leave (UnsupportedFile ino what) on kept = tt
 kept_behind earlier tells now may_leave Clean on kept = tt
 kept_behind earlier tells now may_leave (Damaged finding) on kept = tt
 kept_behind earlier tells now may_leave (NoRoom what) on kept = tt
-kept_behind earlier tells now may_leave (Unbuilt request) on kept = tt
 kept_behind earlier tells now may_leave (ReadFault faults) on kept = tt
 kept_behind earlier tells now may_leave (WriteFault blocks) on kept = tt
 kept_behind earlier tells now may_leave NoMemory on kept = tt

@@ -6,7 +6,7 @@ use Rattle.xfs_mend.specs.declared.outcome.Outcome.TheVariants as out
 use Rattle.xfs_texts.specs.Lines.{PutsText}
 use Rattle.xfs_tools.specs.Texts.{text_of, is_for_out, code_of}
 use Rattle.xfs_tools.specs.declared.answer.Answer.{Answer}
-use Rattle.xfs_tools.specs.declared.answer.Answer.TheVariants.{Unbuilt, NoGeometry, Unsupported, DirtyLog, TooLarge, UnsupportedFile, Clean, Damaged, Repaired, NoRoom, ReadFault, WriteFault, OutputFault, NoMemory}
+use Rattle.xfs_tools.specs.declared.answer.Answer.TheVariants.{NoGeometry, Unsupported, DirtyLog, TooLarge, UnsupportedFile, Clean, Damaged, Repaired, NoRoom, ReadFault, WriteFault, OutputFault, NoMemory}
 use Rattle.xfs_tools.specs.declared.answer.Status.{Status}
 
 -- the answer that an outcome of a repair is
@@ -20,7 +20,6 @@ answer_of out.Clean = Clean
 answer_of (out.Damaged finding) = Damaged finding
 answer_of (out.Repaired summary) = Repaired summary
 answer_of (out.NoRoom place) = NoRoom place
-answer_of (out.Unbuilt request) = Unbuilt request
 answer_of (out.ReadFault faults) = ReadFault faults
 answer_of (out.WriteFault blocks) = WriteFault blocks
 answer_of out.NoMemory = NoMemory

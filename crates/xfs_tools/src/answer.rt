@@ -119,7 +119,6 @@ impl Answer {
             Outcome::Damaged(finding) => Answer::Damaged(finding),
             Outcome::Repaired(summary) => Answer::Repaired(summary),
             Outcome::NoRoom(place) => Answer::NoRoom(place),
-            Outcome::Unbuilt { request } => Answer::Unbuilt { request },
             Outcome::ReadFault { faults } => Answer::ReadFault { faults },
             Outcome::WriteFault { written } => Answer::WriteFault { written },
             Outcome::NoMemory => Answer::NoMemory,

@@ -13,12 +13,12 @@ returns-in-Ok g c =
     let last = c.as_slice-last.result.now in
     let blocks : ℕ = length first + length last in
     record {
-      leaves = λ image told. left_all r first last image (D.holds c.write_parts.new.disk) blocks c.as_slice-first.ensures c.as_slice-last.ensures
+      leaves = λ image told. left_all r first last image (D.holds c.write_parts.new.disk) blocks c.args.orphans c.as_slice-first.ensures c.as_slice-last.ensures
           (c.in-Ok.ensures.done image told) refl;
       stops = λ tells image told t stopped low left.
-          left_stopped r first last image (out.Repaired (Anew blocks r.kept r.cleared 0)) stopped (D.left_since c.args.disk.now t stopped)
+          left_stopped r first last image (out.Repaired (Anew blocks r.kept r.cleared c.args.orphans)) stopped (D.left_since c.args.disk.now t stopped)
           c.as_slice-first.ensures c.as_slice-last.ensures refl (c.in-Ok.ensures.stops tells image told t stopped low left);
-      possible = λ o repairs. (repairs, refl);
+      possible = λ o repairs. repairs;
       ends = record {
         cause = tt;
         kept = c.in-Ok.ensures.kept;
@@ -40,7 +40,7 @@ returns g c =
     let last = c.as_slice-last.result.now in
     let n = c.in-Err.written in
     record {
-      leaves = λ image told. left_part r first last image (D.holds c.write_parts.new.disk) n c.as_slice-first.ensures c.as_slice-last.ensures
+      leaves = λ image told. left_part r first last image (D.holds c.write_parts.new.disk) n c.args.orphans c.as_slice-first.ensures c.as_slice-last.ensures
           c.in-Err.ensures.most (c.in-Err.ensures.partly image told);
       stops = λ tells image told t stopped low left.
           left_stopped r first last image (out.WriteFault n) stopped (D.left_since c.args.disk.now t stopped)

@@ -4,7 +4,6 @@ use Rattle.xfs_disk.proofs.Reading.{reads_none}
 use Rattle.xfs_geom.specs.Electing.{vote_of}
 use Rattle.xfs_geom.specs.Volumes.{volume_of}
 use Rattle.xfs_backups.specs.Backups.{steps_from}
-use Rattle.xfs_rebuild.specs.Rebuilds.{IsRebuildOf}
 use Rattle.xfs_mend.proofs.Accepted.{accepted, plan_elected, stated_primary, stops_by_plan, written_leaves}
 use Rattle.xfs_mend.proofs.Anew.{rebuilt_leaves, stops_rebuilt}
 use Rattle.xfs_mend.proofs.Deciding.{due_anew, due_damaged, due_of_plan, from_primary, has_backup, is_elected, is_planned}
@@ -15,7 +14,7 @@ use Rattle.xfs_mend.proofs.Staying.{looked_at}
 use Rattle.xfs_mend.specs.Asked.{repair_asked}
 use Rattle.xfs_mend.specs.Due.{IsDueFound}
 use Rattle.xfs_mend.specs.Outcome.{StopsBy}
-use Rattle.xfs_mend.specs.Rebuilding.{IsDueRebuild, is_backup}
+use Rattle.xfs_mend.specs.Rebuilding.{IsDueRebuild, IsRepairPlan, is_backup}
 use Rattle.xfs_mend.specs.declared.outcome.Outcome.TheVariants as out
 use Rattle.xfs_mend.specs.declared.outcome.Summary.TheVariants.{Backups}
 use Rattle.xfs_mend.proofs.repairing.answer_found.Goals as goal
@@ -109,8 +108,8 @@ returns-clause-leaves g c = λ image told.
     let geometry = c.args.chosen.now.geometry in
     let s = c.args.stamp.now in
     let other : is_backup c.args.found ≡ false = search rules in
-    rebuilt_leaves (IsRebuildOf geometry c.args.chosen.now.sector s image c.args.evidence) s image (g.D.Disk.holds c.rebuild.new.disk) c.rebuild.result
-    (λ r is. is_planned geometry s image (vote_of c.args.chosen.now) c.args.found c.args.evidence r (c.requires.elects image told) c.requires.stated (c.requires.found image told) other
+    rebuilt_leaves (IsRepairPlan geometry c.args.chosen.now.sector s image c.args.evidence) s image (g.D.Disk.holds c.rebuild.new.disk) c.rebuild.result
+    (λ r orphans is. is_planned geometry s image (vote_of c.args.chosen.now) c.args.found c.args.evidence r orphans (c.requires.elects image told) c.requires.stated (c.requires.found image told) other
     (c.requires.evidence image told) is)
     (c.rebuild.ensures.leaves image told)
 
@@ -119,8 +118,8 @@ returns-clause-stops g c = λ tells image told t stopped low left.
     let geometry = c.args.chosen.now.geometry in
     let s = c.args.stamp.now in
     let other : is_backup c.args.found ≡ false = search rules in
-    stops_rebuilt (IsRebuildOf geometry c.args.chosen.now.sector s image c.args.evidence) s image c.rebuild.result stopped (g.D.Disk.left_since c.args.disk.now t stopped)
-    (λ r is. is_planned geometry s image (vote_of c.args.chosen.now) c.args.found c.args.evidence r (c.requires.elects image told) c.requires.stated (c.requires.found image told) other
+    stops_rebuilt (IsRepairPlan geometry c.args.chosen.now.sector s image c.args.evidence) s image c.rebuild.result stopped (g.D.Disk.left_since c.args.disk.now t stopped)
+    (λ r orphans is. is_planned geometry s image (vote_of c.args.chosen.now) c.args.found c.args.evidence r orphans (c.requires.elects image told) c.requires.stated (c.requires.found image told) other
     (c.requires.evidence image told) is)
     (c.rebuild.ensures.stops tells image told t stopped low left)
 
