@@ -48,8 +48,8 @@ impl Case {
 
     /// Takes a line: its first word, and what is behind.
     ///
-    /// What the disk holds: `zeros`, `filled`, `bytes`, `slots`, `cycles` and `chunks` of `volume`; behind `then` they say what it must
-    /// hold in the end beside what it held, and `unseen` says that this is not compared.
+    /// What the disk holds: `zeros`, `filled`, `bytes`, `copy`, `slots`, `pipes`, `entries`, `cycles` and `chunks` of `volume`; behind `then`
+    /// they say what it must hold in the end beside what it held, and `unseen` says that this is not compared.
     ///
     /// What a call is given: `fail N` makes the read, write or sync of the disk fail that has this number, counted from 1 from here on;
     /// `halt N` makes all calls of it fail once N more blocks were written, and `restart` none from here on;
@@ -68,12 +68,6 @@ impl Case {
         rest: &str,
     ) -> Result<(), Refusal> {
         match word {
-            "zeros" => self.disks.zeros(rest),
-            "filled" => self.disks.filled(rest),
-            "bytes" => self.disks.bytes(rest),
-            "slots" => self.disks.slots(rest),
-            "cycles" => self.disks.cycles(rest),
-            "chunks" => self.disks.chunks(),
             "then" => {
                 self.disks.due_alone = true;
                 Ok(())
@@ -94,7 +88,10 @@ impl Case {
             "run" => self.run(rt, rest),
             "stops" => self.stop(rt, rest),
             "room" | "input" | "tail" | "unreadable" => self.give(word, rest),
-            _ => self.expect(word, rest),
+            _ => match self.disks.take(word, rest) {
+                Err(Refusal::Unknown) => self.expect(word, rest),
+                taken => taken,
+            },
         }
     }
 

@@ -83,6 +83,16 @@ impl CaseDisk {
         Ok(())
     }
 
+    /// Writes over a block in memory what another one holds.
+    pub fn copy_block(&mut self, to: u64, from: u64) -> Result<(), Refusal> {
+        let mut block = [0; BLOCK_SIZE];
+        if from >= self.memory.blocks()? {
+            return Err(Refusal::Outside);
+        }
+        self.memory.read(from, &mut block)?;
+        self.put(to, 0, &block)
+    }
+
     /// How many blocks are in memory.
     fn held(&self) -> u64
         ensures { result ≡ size_of self.now.memory }

@@ -7,7 +7,7 @@ use crate::numbers::{cut, number, read_byte, read_bytes};
 use crate::refusal::Refusal;
 use crate::vast::put_chunks;
 use std::alloc::Global;
-use xfs_word::{put_checksum, put_part, put32, put64};
+use xfs_word::{put_checksum, put_part, put16, put32, put64};
 
 /// The identifier of the volumes.
 pub const IDENTIFIER: [u8; 16] = [
@@ -40,8 +40,24 @@ impl Disks {
         self.held.image() == self.due.image()
     }
 
+    /// Takes a line of what the disks hold: its first word, and what is behind.
+    pub fn take(&mut self, word: &str, rest: &str) -> Result<(), Refusal> {
+        match word {
+            "zeros" => self.zeros(rest),
+            "filled" => self.filled(rest),
+            "bytes" => self.bytes(rest),
+            "copy" => self.copy(rest),
+            "slots" => self.slots(rest),
+            "pipes" => self.pipes(rest),
+            "entries" => self.entries(rest),
+            "cycles" => self.cycles(rest),
+            "chunks" => put_chunks(self),
+            _ => Err(Refusal::Unknown),
+        }
+    }
+
     /// `zeros HELD` or `zeros HELD BLOCKS`: makes disks of so many blocks, all zeros, of which the first are in memory.
-    pub fn zeros(&mut self, text: &str) -> Result<(), Refusal> {
+    fn zeros(&mut self, text: &str) -> Result<(), Refusal> {
         let (held, blocks) = cut(text);
         let held = number(held)?;
         let blocks = if blocks.is_empty() {
@@ -57,7 +73,7 @@ impl Disks {
     }
 
     /// `filled BLOCKS DIGITS`: makes disks of so many blocks, all in memory, each byte of which is this one.
-    pub fn filled(&mut self, text: &str) -> Result<(), Refusal> {
+    fn filled(&mut self, text: &str) -> Result<(), Refusal> {
         let (blocks, digits) = cut(text);
         let (blocks, byte) = (number(blocks)?, read_byte(digits)?);
         if !self.due_alone {
@@ -68,15 +84,25 @@ impl Disks {
     }
 
     /// `bytes BLOCK OFFSET DIGITS`: writes bytes over those that a block holds.
-    pub fn bytes(&mut self, text: &str) -> Result<(), Refusal> {
+    fn bytes(&mut self, text: &str) -> Result<(), Refusal> {
         let (place, rest) = cut(text);
         let (from, digits) = cut(rest);
         let bytes = read_bytes(self.alloc, digits)?;
         self.put(number(place)?, number(from)? as usize, bytes.as_slice())
     }
 
+    /// `copy TO FROM`: writes over a block what another holds.
+    fn copy(&mut self, text: &str) -> Result<(), Refusal> {
+        let (to, from) = cut(text);
+        let (to, from) = (number(to)?, number(from)?);
+        if !self.due_alone {
+            self.held.copy_block(to, from)?;
+        }
+        self.due.copy_block(to, from)
+    }
+
     /// `slots FROM TO`: writes free slots of inodes into the blocks from one on, as far as another.
-    pub fn slots(&mut self, text: &str) -> Result<(), Refusal> {
+    fn slots(&mut self, text: &str) -> Result<(), Refusal> {
         let (from, to) = cut(text);
         for place in number(from)?..number(to)? {
             for slot in 0..8u64 {
@@ -90,8 +116,37 @@ impl Disks {
         Ok(())
     }
 
+    /// `pipes FROM TO`: writes the slots of pipes of one link, of the inodes from one on, as far as another.
+    fn pipes(&mut self, text: &str) -> Result<(), Refusal> {
+        let (from, to) = cut(text);
+        for ino in number(from)?..number(to)? {
+            self.put(ino / 8, 512 * (ino % 8) as usize, &pipe_slot(ino))?;
+        }
+        Ok(())
+    }
+
+    /// `entries BLOCK OFFSET NAME INODE COUNT`: writes so many entries of a directory from an offset of a block on, whose names are `n` and
+    /// five digits, those of NAME first, and which name pipes, the inode first.
+    fn entries(&mut self, text: &str) -> Result<(), Refusal> {
+        let (place, rest) = cut(text);
+        let (from, rest) = cut(rest);
+        let (name, rest) = cut(rest);
+        let (ino, count) = cut(rest);
+        let (place, from, name, ino) = (number(place)?, number(from)?, number(name)?, number(ino)?);
+        for i in 0..number(count)? {
+            let tag = from.wrapping_add(i.wrapping_mul(ENTRY_SIZE as u64));
+            let entry = pipe_entry(
+                name.wrapping_add(i),
+                ino.wrapping_add(i),
+                (tag % 4096) as u16,
+            );
+            self.put(place, tag as usize, &entry)?;
+        }
+        Ok(())
+    }
+
     /// `cycles FROM TO DIGITS`: writes a cycle into the sectors of the blocks from one on, as far as another.
-    pub fn cycles(&mut self, text: &str) -> Result<(), Refusal> {
+    fn cycles(&mut self, text: &str) -> Result<(), Refusal> {
         let (from, rest) = cut(text);
         let (to, digits) = cut(rest);
         let cycle = read_bytes(self.alloc, digits)?;
@@ -103,11 +158,6 @@ impl Disks {
         Ok(())
     }
 
-    /// `chunks`: writes the tree of chunks of a vast volume.
-    pub fn chunks(&mut self) -> Result<(), Refusal> {
-        put_chunks(self)
-    }
-
     /// Writes bytes over those that a block holds.
     pub fn put(&mut self, place: u64, from: usize, bytes: &[u8]) -> Result<(), Refusal> {
         if !self.due_alone {
@@ -115,6 +165,34 @@ impl Disks {
         }
         self.due.put(place, from, bytes)
     }
+}
+
+/// The bytes of an entry with a name of six bytes.
+const ENTRY_SIZE: usize = 24;
+
+/// An entry of a directory that stands at this offset, and whose name is `n` and five digits, as it names a pipe.
+fn pipe_entry(name: u64, ino: u64, tag: u16) -> [u8; ENTRY_SIZE] {
+    let mut entry = [0; ENTRY_SIZE];
+    put64(&mut entry, 0, ino);
+    put_part(&mut entry, 8, b"\x06n");
+    let mut rest = name;
+    for place in 0..5usize {
+        entry[14 - place] = b'0' + (rest % 10) as u8;
+        rest /= 10;
+    }
+    entry[15] = 5;
+    put16(&mut entry, 22, tag);
+    entry
+}
+
+/// The slot of a pipe of one link.
+fn pipe_slot(ino: u64) -> [u8; 512] {
+    let mut slot = free_slot(ino);
+    put16(&mut slot, 2, 0x11a4);
+    put32(&mut slot, 16, 1);
+    slot[83] = 2;
+    put_checksum(&mut slot, 100);
+    slot
 }
 
 /// The slot of a free inode.

@@ -22,10 +22,6 @@ pub record Explained : Type 0 where
 abbrev pub repair_advice : List ℕ
 repair_advice = codes "; usually xfs_repair without -n mends it\n"
 
--- of what a name may have to change for
-abbrev pub copy_advice : List ℕ
-copy_advice = codes "; usually xfs_repair of xfsprogs mends a copy\n"
-
 abbrev pub log_advice : List ℕ
 log_advice = codes "; usually the volume is mounted once and unmounted, or the log dropped by -L\n"
 
@@ -33,12 +29,9 @@ log_advice = codes "; usually the volume is mounted once and unmounted, or the l
 abbrev pub lone : List ℕ → Piece → List ℕ → List ℕ → Explained
 lone object place says advice = record { object = object; place = place; says = says; held = Nothing; between = []; due = Nothing; advice = advice }
 
--- what is held of an object, and what is due, where a repair mends it, and with other advice
-abbrev pub advised : List ℕ → Piece → Piece → Piece → List ℕ → Explained
-advised object place held due advice = record { object = object; place = place; says = codes ": held "; held = held; between = codes ", due "; due = due; advice = advice }
-
+-- what is held of an object, and what is due
 abbrev pub compared : List ℕ → Piece → Piece → Piece → Explained
-compared object place held due = advised object place held due repair_advice
+compared object place held due = record { object = object; place = place; says = codes ": held "; held = held; between = codes ", due "; due = due; advice = repair_advice }
 
 -- the object that is a part of this number
 abbrev pub part_object : ℕ → List ℕ
@@ -63,7 +56,7 @@ part_explained part place =
     else if part == 9 then codes " does not read: its slot, extents, link target or attributes"
     else if part == 10 then codes " does not agree with the primary"
     else codes " does not read")
-    (if part == 9 then copy_advice else repair_advice)
+    repair_advice
 
 -- the trees of free space, and those of inodes, by the places of their laws
 abbrev pub space_tree : ℕ → List ℕ
@@ -159,17 +152,17 @@ records_explained law =
 -- a law that is broken
 abbrev pub law_explained : Option ℕ → broken.Law → Explained
 law_explained groups law =
-    if law.law == 1 then advised (codes "owners of block ") (Count law.place) (Count law.held) (Count law.due) copy_advice
+    if law.law == 1 then compared (codes "owners of block ") (Count law.place) (Count law.held) (Count law.due)
     else if law.law == 2 then records_explained law
     else if law.law == 3 then records_explained law
     else if law.law == 4 then records_explained law
     else if law.law == 5 then counter_explained groups law
     else if law.law == 6 then compared (codes "entries of the free list (AGFL) of group ") (Count law.place) (Count law.held) (Count law.due)
-    else if law.law == 7 then lone (codes "directory inode ") (Count law.place) (directory_says law.held) copy_advice
-    else if law.law == 8 then lone (codes "inode ") (Count law.place) (inode_says law.held) copy_advice
+    else if law.law == 7 then lone (codes "directory inode ") (Count law.place) (directory_says law.held) repair_advice
+    else if law.law == 8 then lone (codes "inode ") (Count law.place) (inode_says law.held) repair_advice
     else if law.law == 9 then links_explained law
     else if law.law == 10 then log_explained law
-    else lone (codes "law ") (Count law.law) (codes " is broken") copy_advice
+    else lone (codes "law ") (Count law.law) (codes " is broken") repair_advice
 
 -- what is found, in words, where the primary superblock states so many groups, or that is not known
 abbrev pub explanation : Option ℕ → Finding → Explained

@@ -95,7 +95,7 @@ called_by (Some Debug) = codes "xfs_db"
 
 -- the version, behind the name
 abbrev pub version_text : Option Tool → List ℕ
-version_text tool = called_by tool ++ codes " version 0.2\n"
+version_text tool = called_by tool ++ codes " version 0.3\n"
 
 -- the rows have just the letters of these options, in their order
 abbrev pub Names : List (ℕ × List ℕ) → List OptionRow → Type 0

@@ -2,7 +2,7 @@
 //! usually done about it.
 
 ghost use Rattle.std.specs.Prelude.{◌≡◌, ◌≤◌};
-ghost use Rattle.xfs_texts.specs.Explaining.{advised, chain_explained, compared, counter_explained, counter_object, directory_says, explanation, inode_says, law_explained, links_explained, log_explained, lone, part_explained, part_object, records_explained, sequence_explained, space_tree, inode_tree, total_object};
+ghost use Rattle.xfs_texts.specs.Explaining.{chain_explained, compared, counter_explained, counter_object, directory_says, explanation, inode_says, law_explained, links_explained, log_explained, lone, part_explained, part_object, records_explained, sequence_explained, space_tree, inode_tree, total_object};
 ghost use Rattle.xfs_texts.specs.Private.Labels.{explained_as};
 
 use xfs_image::Finding;
@@ -40,11 +40,8 @@ pub(crate) struct Explanation {
     pub(crate) advice: &'static str,
 }
 
-/// Of most findings.
+/// Of all findings but the log's.
 const REPAIR: &str = "; usually xfs_repair without -n mends it\n";
-
-/// Of a finding for which a name may have to change.
-const COPY: &str = "; usually xfs_repair of xfsprogs mends a copy\n";
 
 /// Of the log.
 const LOG: &str = "; usually the volume is mounted once and unmounted, or the log dropped by -L\n";
@@ -81,19 +78,6 @@ fn lone(object: &'static str, place: Piece, says: &'static str, advice: &'static
 fn compared(object: &'static str, place: Piece, held: Piece, due: Piece) -> Explanation
     ensures { explained_as result ≡ compared object.entry.now place held due }
 {
-    advised(object, place, held, due, REPAIR)
-}
-
-/// The same with other advice.
-fn advised(
-    object: &'static str,
-    place: Piece,
-    held: Piece,
-    due: Piece,
-    advice: &'static str,
-) -> Explanation
-    ensures { explained_as result ≡ advised object.entry.now place held due advice.entry.now }
-{
     Explanation {
         object,
         place,
@@ -101,7 +85,7 @@ fn advised(
         held,
         between: ", due ",
         due,
-        advice,
+        advice: REPAIR,
     }
 }
 
@@ -115,8 +99,7 @@ fn part_explained(part: u8, place: u64) -> Explanation
         10 => " does not agree with the primary",
         _ => " does not read",
     };
-    let advice = if part == 9 { COPY } else { REPAIR };
-    lone(part_object(part), Piece::Count(place as u128), says, advice)
+    lone(part_object(part), Piece::Count(place as u128), says, REPAIR)
 }
 
 /// The object that is a part of this number.
@@ -146,7 +129,7 @@ fn law_explained(groups: Option<u32>, law: &Law) -> Explanation
     let held = Piece::Count(law.held);
     let due = Piece::Count(law.due);
     match law.law {
-        1 => advised("owners of block ", place, held, due, COPY),
+        1 => compared("owners of block ", place, held, due),
         2 => records_explained(law),
         3 => records_explained(law),
         4 => records_explained(law),
@@ -157,11 +140,11 @@ fn law_explained(groups: Option<u32>, law: &Law) -> Explanation
             held,
             due,
         ),
-        7 => lone("directory inode ", place, directory_says(law.held), COPY),
-        8 => lone("inode ", place, inode_says(law.held), COPY),
+        7 => lone("directory inode ", place, directory_says(law.held), REPAIR),
+        8 => lone("inode ", place, inode_says(law.held), REPAIR),
         9 => links_explained(law),
         10 => log_explained(law),
-        _ => lone("law ", Piece::Count(law.law as u128), " is broken", COPY),
+        _ => lone("law ", Piece::Count(law.law as u128), " is broken", REPAIR),
     }
 }
 

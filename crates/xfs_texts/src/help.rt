@@ -199,7 +199,7 @@ status 1        the words are no call of a tool, or something else is told in a 
 ";
 
 /// What stands behind a name where the version is told, and the version.
-const VERSION: &str = " version 0.2\n";
+const VERSION: &str = " version 0.3\n";
 
 /// Puts how a tool is called, its options with a line each, and its statuses; `None` is the program without a tool.
 pub fn put_help<S: Sink>(sink: &mut S, tool: Option<Tool>) -> Result<(), Failed>
