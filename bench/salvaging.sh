@@ -2,7 +2,8 @@
 # Measures `xfs xfs_repair` beside `xfs_repair` of xfsprogs on copies of damaged volumes of 20,000 and 100,000 files, or of so many as are
 # asked: wall time, time of the processors and peak memory, the best of five runs in turn, each on a fresh copy, and the three ratios.
 # Four damages: the root of the inode tree of a group; all headers of a group; the roots of all trees of all groups; and the
-# counters of the superblock. Needs xfsprogs, GNU time and ./xfs.
+# counters of the superblock. Then, on a volume with all files in one directory, a data block in the middle of it: its names are
+# lost, and what they named goes to lost+found. Needs xfsprogs, GNU time and ./xfs.
 #
 #   bench/salvaging.sh [FILES ..]
 set -eu
@@ -24,6 +25,13 @@ many() { # COUNT
   done
   printf '$\n'
 }
+# empty files, all in one directory
+wide() { # COUNT
+  : > "$work/none"
+  printf 'x 0 0\nd--755 0 0\nnames d--755 0 0\n'
+  awk -v count="$1" -v file="$work/none" 'BEGIN { for (i = 0; i < count; i++) printf "file%06d ---644 0 0 %s\n", i, file }'
+  printf '$\n$\n'
+}
 number() { xfs_db -r -c "$1" -c "print $2" "$work/volume.img" | sed 's/.*= //'; }
 blank() { dd if=/dev/zero of="$work/damaged.img" bs=512 seek="$1" count="$2" conv=notrunc status=none; } # SECTOR COUNT
 groups_do() { # FUNCTION: for each group
@@ -37,6 +45,7 @@ roots() {
   for tree in bnoroot cntroot rmaproot; do blank $((8 * ($1 * length + $(number "agf $1" "$tree")))) 8; done
   for tree in root free_root; do blank $((8 * ($1 * length + $(number "agi $1" "$tree")))) 8; done
 }
+middle() { zeroed "$work/damaged.img" -c 'path /names' -c "dblock $((count / 168 / 2))"; }
 counters() { dd if=/dev/zero of="$work/damaged.img" bs=1 seek=128 count=24 conv=notrunc status=none; }
 measure() { # COMMAND..: seconds, seconds of the processors and KiB of one run on a fresh copy, whatever its status is
   cp --sparse=always "$work/damaged.img" "$work/copy.img"
@@ -66,4 +75,8 @@ for count in "$@"; do
     $damage
     beside "$count files, $damage"
   done
+  wide "$count" > "$work/proto"
+  make_image "$work/damaged.img" "$((count / 500 + 300))M" "$work/proto"
+  middle
+  beside "$count names in one directory, a data block"
 done

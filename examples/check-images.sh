@@ -1,7 +1,7 @@
 #!/usr/bin/env bash
 # Checks images that mkfs.xfs of xfsprogs makes, by `xfs xfs_repair -n`: each must be clean; then, one after another, some
-# dozens of fields are broken by xfs_db of xfsprogs in a copy. Each must be found and then repaired, where no name has to change:
-# all files are then as they were. Prints what is found of each, and what comes of its repair. Needs xfsprogs and ./xfs.
+# dozens of fields are broken by xfs_db of xfsprogs in a copy. Each must be found and then repaired: all files are then as they were, but
+# for those that are lost by it. Prints what is found of each, and what comes of its repair. Needs xfsprogs and ./xfs.
 #
 #   examples/check-images.sh
 set -eu
@@ -20,14 +20,14 @@ expect() { # NAME PATTERN IMAGE
     failed=1
   fi
 }
-broken() { # FIND FIELD VALUE PATTERN: the field is written in a copy, with its checksum; FIND is commands with ; between
+broken() { # FIND FIELD VALUE PATTERN [LOST]: the field is written in a copy, with its checksum; FIND is commands with ; between
   local finds=() find
   cp --sparse=always "$work/volume.img" "$work/broken.img"
   while IFS= read -r find; do finds+=(-c "$find"); done <<< "${1//;/$'\n'}"
   xfs_db -x "${finds[@]}" -c "write -d $2 $3" "$work/broken.img" > "$work/db.log" 2>&1 || true
   if cmp -s "$work/volume.img" "$work/broken.img"; then echo "$1, $2: xfs_db wrote nothing: $(tail -1 "$work/db.log")"; failed=1; return; fi
   expect "$1: $2 = $3" "$4" "$work/broken.img"
-  salvaged "  repaired" "$work/broken.img" "$work/volume.lines"
+  salvaged "  repaired" "$work/broken.img" "$work/volume.lines" "${@:5}"
 }
 
 protofile 5000 > "$work/proto"
@@ -77,15 +77,15 @@ broken 'sb 0' ifree 1000000 'damaged: law 5 at 33, held 1000000, due *'
 broken 'sb 0' fdblocks 7 'damaged: law 5 at 34, held 7, due *'
 broken 'sb 2' agcount 9 'damaged: part 10 at 2'
 broken 'sb 3' dblocks 9 'damaged: part 10 at 3'
-broken "inode $file" core.mode 0 'damaged: law 2 at *'
+broken "inode $file" core.mode 0 'damaged: law 2 at *' "inode $file"
 broken "inode $file" core.nlinkv2 5 "damaged: law 9 at $file, held 5, due 1"
-broken "inode $file" core.nblocks 77 "damaged: part 9 at $file"
-broken "inode $file" core.format 3 "damaged: part 9 at $file"
-broken "inode $file" core.nextents 2 "damaged: part 9 at $file"
-broken "inode $link" core.size 400 "damaged: part 9 at $link"
+broken "inode $file" core.nblocks 77 "damaged: part 9 at $file" "inode $file"
+broken "inode $file" core.format 3 "damaged: part 9 at $file" "inode $file"
+broken "inode $file" core.nextents 2 "damaged: part 9 at $file" "inode $file"
+broken "inode $link" core.size 400 "damaged: part 9 at $link" "inode $link"
 broken "inode $short" core.nlinkv2 3 "damaged: law 9 at $short, held 3, due 2"
 broken "inode $short" 'u3.sfdir3.hdr.parent.i4' 150 'damaged: law 8 at *'
-broken "inode $short" 'u3.sfdir3.list[0].inumber.i4' 999999 "damaged: law 7 at $short, held 3, due 0"
+broken "inode $short" 'u3.sfdir3.list[0].inumber.i4' 999999 "damaged: law 7 at $short, held 3, due 0" "entry 0 of directory $short"
 broken "inode $block" 'core.size' 8192 "damaged: law 7 at $block, held 1, due 0"
 broken "inode $leaf" 'core.size' 8192 "damaged: law 7 at $leaf, held 1, due 0"
 broken "inode $node" 'core.nlinkv2' 7 "damaged: law 9 at $node, held 7, due 2"

@@ -21,8 +21,9 @@ TOOLS = {"xfs_repair": [("Answers", "answer_of")], "mkfs.xfs": [("Making", "made
          "xfs_db": [("Debugging", "session_answer"), ("Debugging", "line_refusal")]}
 # how the definitions of help name the tools
 HELPED = {"xfs_repair": "repair", "mkfs.xfs": "make", "xfs_db": "debug"}
-# the forms of answers that no call gives today: nothing but groups is placed
-LATER = {"NoRoom": ("xfs: no room: directory", "xfs: no room: file", "xfs: no room: chunk", "xfs: no room: lost")}
+# the forms of answers that no call of a tool gives today: a repair places directories, inodes and groups, and a new volume has groups alone
+LATER = {"xfs_repair": ("xfs: no room: file", "xfs: no room: chunk"),
+         "mkfs.xfs": ("xfs: no room: directory", "xfs: no room: file", "xfs: no room: chunk", "xfs: no room: lost")}
 # a number or an identifier in a text
 HOLE = "#"
 TOKEN = re.compile(r'codes\s+"((?:[^"\\]|\\.)*)"|\b(Decimal|Large|Hexadecimal|hyphenated_text)\b|\b([a-z_]+(?:_text|_numbers))\b')
@@ -80,7 +81,7 @@ def variants(parts):
 def due(tool, answers):
     """The lines that a tool prints: those of its answers, and those of the program, with a hole for each value in them."""
     lines = {line for name in variants(TOOLS[tool]) | {"Usage"} for line in answers[name]
-             if not any(line.startswith(later) for later in LATER.values()) and line}
+             if line and not line.startswith(LATER.get(tool, ("no line",)))}
     program = read("crates/xfs_system/src/image.rt") + read("crates/xfs_program/src/performing.rt")
     printed = re.findall(r'eprintln!\(host; "([^"]*)"[,)]', program)
     return lines | {re.sub(r"\{\w*\}", HOLE, line) + "\n" for line in printed}

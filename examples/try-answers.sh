@@ -1,8 +1,8 @@
 #!/usr/bin/env bash
 # Brings about every answer of README's table with the program itself, on volumes of its own and of mkfs.xfs of xfsprogs, and compares line
 # and status. What the system refuses only now and then is refused by strace; what needs a volume past the limits is played by
-# xfs_cases in memory (an inode too many), what needs a mounted device is tried by try-program.sh (`in use`), and a group without room, which no
-# empty volume has, by the tests of placing.
+# xfs_cases in memory (an inode too many, a group, a directory and lost+found without room), what needs a mounted device is tried by
+# try-program.sh (`in use`).
 # Needs xfsprogs, strace and ./xfs. Prints a line for each answer; ends with 1 where one is another.
 #
 #   examples/try-answers.sh
@@ -63,7 +63,8 @@ answer 0 clean "$xfs" xfs_repair v.img
 # an inode in use that no entry names
 "$xfs" xfs_db -x -c 'inode 131' -c 'write mode 0x8000' -c 'write format 2' v.img > /dev/null
 answer 1 'damaged: law 4 at 0, held *, due *' "$xfs" xfs_repair -n v.img
-answer 1 'xfs: unbuilt: 9' "$xfs" xfs_repair v.img
+answer 0 'repaired: blocks=* kept=5 cleared=0 orphans=1' "$xfs" xfs_repair v.img
+answer 0 clean "$xfs" xfs_repair v.img
 volume v.img
 "$xfs" xfs_db -x -c 'agf 0' -c 'write freeblks 5' v.img > /dev/null
 answer 1 'damaged: law 5 at 0, held 5, due *' "$xfs" xfs_repair -n v.img
