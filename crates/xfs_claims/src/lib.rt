@@ -1,7 +1,7 @@
 //! Which of two claimants keeps a block: the claims of clusters and files, by their rank.
 //!
 //! In a damaged volume two files may claim one block. Whoever salvages it hands in all claims and gets those that can be
-//! kept together, by a rank that trusts what the trees name above what merely looks like inodes. No tool calls it yet.
+//! kept together, by a rank that trusts what the trees name above what merely looks like inodes.
 //!
 //! A caller would write:
 //!

@@ -2,8 +2,7 @@
 //! Places and seals of the blocks are the concern of others.
 //!
 //! From the entries of a directory to its blocks: who repairs names, or makes a volume with files, hands in the entries
-//! that are wanted and gets the short form or a bank of blocks, which `xfs_dirindex` would find whole. No tool calls it
-//! yet.
+//! that are wanted and gets the short form or a bank of blocks, which `xfs_dirindex` would find whole.
 //!
 //! A caller would write:
 //!

@@ -8,28 +8,28 @@ use Rattle.xfs_kinds.specs.Owners.{group_owner, inode_trees_owner}
 use Rattle.xfs_geom.specs.declared.records.Run.{Run}
 use Rattle.xfs_place.specs.Choice.{owner_of}
 use Rattle.xfs_place.specs.Placing.{cut, tree_blocks_at}
-use Rattle.xfs_space.specs.Owners.{runs_of_blocks, run, tree_owners, tree_runs}
+use Rattle.xfs_space.specs.Owners.{runs_of_blocks, new_run, tree_owners, tree_runs}
 use Rattle.xfs_due.proofs.MovedRuns.{moved}
 
 -- single blocks from a rank on, with the owners of their ranks
 abbrev pub ranked : (ℕ → ℕ) → ℕ → List ℕ → List Run
 ranked own k [] = []
-ranked own k (b ∷ bs) = run b 1 (own k) 0 ∷ ranked own (k + 1) bs
+ranked own k (b ∷ bs) = new_run b 1 (own k) 0 ∷ ranked own (k + 1) bs
 
 pub ranked_is : (own place : ℕ → ℕ) (k : ℕ) (bs : List ℕ) → ((j : ℕ) → j < length bs → place (k + j) ≡ get_or bs j 0)
-    → map (λ j. run (place j) 1 (own j) 0) (range_with_len k (length bs)) ≡ ranked own k bs
+    → map (λ j. new_run (place j) 1 (own j) 0) (range_with_len k (length bs)) ≡ ranked own k bs
 ranked_is own place k [] same = refl
 ranked_is own place k (b ∷ bs) same =
     let start : k ≡ k + 0 = omega arith in
     let first : place k ≡ b = ap place start ∙ same 0 (omega arith) in
     let others = ranked_is own place (k + 1) bs (λ j low. let next : k + 1 + j ≡ k + suc j = omega arith in ap place next ∙ same (suc j) (omega (arith, low))) in
-    ap₂ (λ (x : ℕ) (rs : List Run). run x 1 (own k) 0 ∷ rs) first others
+    ap₂ (λ (x : ℕ) (rs : List Run). new_run x 1 (own k) 0 ∷ rs) first others
 
 ranked_both : (own : ℕ → ℕ) (k : ℕ) (xs ys : List ℕ) → ranked own k (xs ++ ys) ≡ ranked own k xs ++ ranked own (k + length xs) ys
 ranked_both own k [] ys = let same : k ≡ k + 0 = omega arith in ap (λ (j : ℕ). ranked own j ys) same
 ranked_both own k (x ∷ xs) ys =
     let next : k + 1 + length xs ≡ k + suc (length xs) = omega arith in
-    ap (λ (rs : List Run). run x 1 (own k) 0 ∷ rs) (ranked_both own (k + 1) xs ys ∙ ap (λ (j : ℕ). ranked own (k + 1) xs ++ ranked own j ys) next)
+    ap (λ (rs : List Run). new_run x 1 (own k) 0 ∷ rs) (ranked_both own (k + 1) xs ys ∙ ap (λ (j : ℕ). ranked own (k + 1) xs ++ ranked own j ys) next)
 
 -- blocks of one owner
 ranked_of : (own : ℕ → ℕ) (owner base k : ℕ) (xs : List ℕ) → ((j : ℕ) → k ≤ j → j < k + length xs → own j ≡ owner)
@@ -37,7 +37,7 @@ ranked_of : (own : ℕ → ℕ) (owner base k : ℕ) (xs : List ℕ) → ((j : �
 ranked_of own owner base k [] owns = refl
 ranked_of own owner base k (x ∷ xs) owns =
     let others = ranked_of own owner base (k + 1) xs (λ j low high. owns j (omega (arith, low)) (omega (arith, high))) in
-    ap₂ (λ (o : ℕ) (rs : List Run). run (base + x) 1 o 0 ∷ rs) (owns k (omega arith) (omega arith)) others
+    ap₂ (λ (o : ℕ) (rs : List Run). new_run (base + x) 1 o 0 ∷ rs) (owns k (omega arith) (omega arith)) others
 
 -- each tree has its owner, and the free list behind the trees another
 abbrev pub AreOwners : (ℕ → ℕ) → ℕ → ℕ → List ℕ → List ℕ → Type 0

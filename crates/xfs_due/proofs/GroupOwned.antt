@@ -15,7 +15,7 @@ use Rattle.xfs_treebuild.specs.Size.{rows_of}
 use Rattle.xfs_kinds.specs.MergedRuns.{held_at}
 use Rattle.xfs_volume.specs.declared.groups.GroupRec.{GroupRec}
 use Rattle.xfs_volume.specs.declared.groups.TreeBlocks.{TreeBlocks}
-use Rattle.xfs_space.specs.Owners.{runs_of_blocks, different, listed_run, listed_runs, run, tree_owners, tree_runs}
+use Rattle.xfs_space.specs.Owners.{runs_of_blocks, different, listed_run, listed_runs, new_run, tree_owners, tree_runs}
 use Rattle.xfs_space.specs.SpaceLaws.{recorded_run}
 use Rattle.xfs_space.proofs.Splits.{EndsBy}
 use Rattle.xfs_place.specs.Choice.{Group, IsPlacingGroup, in_pool, one_if, owned_at, owner_by, rank, blocks_of_size, space_blocks}
@@ -44,7 +44,7 @@ packed_same : (owner leaf node records : ℕ) (places : List ℕ) → length pla
 packed_same owner leaf node records places all = λ f.
     let rows = top_down (rows_in (rows_of leaf node records) places) in
     sum_by-IsPermutation f (runs_of_blocks owner 0 places) (runs_of_blocks owner 0 rows)
-    (IsPermutation-map (λ (block : ℕ). run block 1 owner 0) places rows (top_down_moved (rows_of leaf node records) places all))
+    (IsPermutation-map (λ (block : ℕ). new_run block 1 owner 0) places rows (top_down_moved (rows_of leaf node records) places all))
 
 abbrev AreAlike : List ℕ → List TreeBlocks → List TreeBlocks → Type 0
 AreAlike [] ts us = Unit {0}

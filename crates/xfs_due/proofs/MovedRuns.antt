@@ -10,13 +10,13 @@ use Rattle.xfs_geom.specs.declared.records.Run.{Run}
 use Rattle.xfs_kinds.specs.MergedRuns.{held_at, offset_word_at}
 use Rattle.xfs_kinds.specs.OffsetWords.{is_file_data}
 use Rattle.xfs_place.specs.Placing.{run_of_record}
-use Rattle.xfs_space.specs.Owners.{run}
+use Rattle.xfs_space.specs.Owners.{new_run}
 use Rattle.xfs_space.specs.SpaceLaws.{recorded_run}
 use Rattle.xfs_space.proofs.Shared.{on-cons}
 use Rattle.xfs_space.proofs.Splits.{EndsBy, StartsFrom, none_on_back, none_on_front}
 
 abbrev pub moved : ℕ → Run → Run
-moved base r = run (base + r.start) r.count r.owner r.offset_word
+moved base r = new_run (base + r.start) r.count r.owner r.offset_word
 
 same_block : (base start count b : ℕ) → is_in_range (base + start) count (base + b) ≡ is_in_range start count b
 same_block base start count b = grind (arith, nat_tests)

@@ -11,7 +11,7 @@ use std::cmp::Ordering;
 use std::test::Fail;
 use xfs_geom::{Geometry, InoRec, RmapRec, Run, Span};
 use xfs_kinds::*;
-use xfs_tree::{Kind, layout_of};
+use xfs_tree::{Kind, tree_layout};
 use xfs_word::Extent;
 
 /// The owners of the first block of a group, of the blocks of its trees and of its free list, of the inode
@@ -67,12 +67,12 @@ Layout { magic: 1112359219, long: true, high: false, record_len: 16, key_len: 8,
 #[test]
 fn layouts_of_kinds(rt: HostRuntime) {
     let layouts = [
-        layout_of(&Bno { ag: 1 }),
-        layout_of(&Cnt { ag: 1 }),
-        layout_of(&Ino { ag: 1 }),
-        layout_of(&Fino { ag: 1 }),
-        layout_of(&Rmap { ag: 1 }),
-        layout_of(&Bmbt { ino: 9 }),
+        tree_layout(&Bno { ag: 1 }),
+        tree_layout(&Cnt { ag: 1 }),
+        tree_layout(&Ino { ag: 1 }),
+        tree_layout(&Fino { ag: 1 }),
+        tree_layout(&Rmap { ag: 1 }),
+        tree_layout(&Bmbt { ino: 9 }),
     ];
     same!(rt; LAYOUTS.lines().count(), layouts.len());
     for (layout, due) in layouts.iter().zip(LAYOUTS.lines()) {

@@ -42,7 +42,7 @@ fn sizes(rt: HostRuntime) {
 #[test]
 fn a_kind(rt: HostRuntime) {
     let kind = Numbers { ag: 3 };
-    let layout = layout_of(&kind);
+    let layout = tree_layout(&kind);
     same!(rt; layout.header_len(), 56);
     same!(rt; layout.pointer_len(), 4);
     same!(rt; layout.leaf_cap, 3);

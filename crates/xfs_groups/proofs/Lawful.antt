@@ -16,7 +16,7 @@ use Rattle.xfs_tree.specs.declared.seats.Seat.{Seat}
 use Rattle.xfs_tree.specs.declared.unread.Unread.{Unread}
 use Rattle.xfs_tree.specs.Blocks.{capacity, count_of, left_of, level_of, records_of, right_of}
 use Rattle.xfs_tree.specs.Reading.{Contents, at_block, fault_above, met_above, next_of, reading, records_under, row_fault, level_row, rule_at, unless}
-use Rattle.xfs_tree.specs.Rules.{agrees, are_lawful, block_fault, block_seal, high_of, is_ordered, is_sibling, last_of, least_of, low_of, place_fault}
+use Rattle.xfs_tree.specs.Rules.{bound_agrees, are_lawful, block_fault, block_seal, high_of, is_ordered, is_sibling, last_of, least_of, low_of, place_fault}
 use Rattle.xfs_tree.specs.Shape.{Shape}
 use Rattle.xfs_tree.proofs.Depths.{records_from}
 use Rattle.xfs_image.specs.Groups.{contents, rmap_at}
@@ -58,7 +58,7 @@ module _ {R K : Type 0} (s : Shape R K) (v : Volume) where
   ordered left right before seat block h =
       fourth 3 4 5 6 (is_sealed (block_seal v s.layout s.owner seat.place) block) (level_of block == 0)
       (nat_le (least_of 0 seat.low) (count_of block) && nat_le (count_of block) (capacity s.layout 0)) (is_ordered s v 0 before block)
-      ((7, agrees s seat.low (low_of s 0 block) && (not s.layout.high || agrees s seat.high (high_of s 0 block)))
+      ((7, bound_agrees s seat.low (low_of s 0 block) && (not s.layout.high || bound_agrees s seat.high (high_of s 0 block)))
       ∷ (8, is_sibling v s.layout s.owner left (left_of s.layout block) && is_sibling v s.layout s.owner right (right_of s.layout block)) ∷ []) h
 
   module _ (image : Image) where

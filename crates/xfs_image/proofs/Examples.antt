@@ -5,7 +5,7 @@ use Rattle.xfs_disk.specs.Blocks.{Image, bytes_of_block}
 use Rattle.xfs_geom.specs.Conversions.{address_of, inode_of}
 use Rattle.xfs_image.specs.Candidates.{lies_in_chunk}
 use Rattle.xfs_image.specs.Clusters.{cluster_of, clusters_in, given_clusters, root_cluster}
-use Rattle.xfs_image.specs.Examples.{chunk, extents, given, place, small_example}
+use Rattle.xfs_image.specs.Examples.{chunk, extents, given, lsn_place, small_example}
 use Rattle.xfs_image.specs.Keeping.{byte_over}
 use Rattle.xfs_image.specs.Lsns.{lsn_places_in_order}
 use Rattle.xfs_image.specs.Slots.{cluster_inodes}
@@ -53,5 +53,5 @@ pub unwritten : (image : Image) → byte_over small_example image extents 20481 
 unfolding byte_over
 unwritten image = refl
 
-pub ordered : lsn_places_in_order (place 5 24 ∷ place 0 720 ∷ place 5 16 ∷ place 0 240 ∷ []) ≡ place 0 240 ∷ place 0 720 ∷ place 5 16 ∷ place 5 24 ∷ []
+pub ordered : lsn_places_in_order (lsn_place 5 24 ∷ lsn_place 0 720 ∷ lsn_place 5 16 ∷ lsn_place 0 240 ∷ []) ≡ lsn_place 0 240 ∷ lsn_place 0 720 ∷ lsn_place 5 16 ∷ lsn_place 5 24 ∷ []
 ordered = refl

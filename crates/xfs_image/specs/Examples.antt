@@ -31,5 +31,5 @@ given start count = record { start = start; count = count; owner = 2 ^ 64 - 7; o
 abbrev pub extents : List Extent
 extents = record { offset = 1; start = 24; count = 2; unwritten = false } ∷ record { offset = 4; start = 26; count = 2; unwritten = true } ∷ []
 
-abbrev pub place : ℕ → ℕ → LsnPlace
-place block byte = record { block = block; byte = byte }
+abbrev pub lsn_place : ℕ → ℕ → LsnPlace
+lsn_place block byte = record { block = block; byte = byte }

@@ -14,7 +14,7 @@ ghost use Rattle.xfs_image.specs.Claims.{AreDisjointSets, claims};
 ghost use Rattle.xfs_image.specs.Candidates.{ClustersAscend, candidates, is_candidate, lies_in_chunk};
 ghost use Rattle.xfs_image.specs.Clusters.{chunk_clusters, cluster_of, clusters_in, given_clusters, is_recorded, named_by_chunks, named_by_owners, root_cluster};
 ghost use Rattle.xfs_image.specs.Consistent.{HasBackupFault, HasFinding, IsConsistent, IsConsistentImage, IsElected, IsPartOf, finding};
-ghost use Rattle.xfs_image.specs.Examples.{chunk, extents, given, place, small_example};
+ghost use Rattle.xfs_image.specs.Examples.{chunk, extents, given, lsn_place, small_example};
 ghost use Rattle.xfs_image.specs.Files.{AreFilesRead, files_read, inodes_of};
 ghost use Rattle.xfs_image.specs.GroupParts.{AreGroupsRead, IsGroupRead};
 ghost use Rattle.xfs_image.specs.Groups.{groups_read};
@@ -90,5 +90,5 @@ pub fn worked_examples()
     ensures hole { (image : Image) → byte_over small_example image extents 4095 ≡ 0 }
     ensures written { (image : Image) → byte_over small_example image extents 8199 ≡ slice_index_or (bytes_of_block image 25) 7 0 }
     ensures unwritten { (image : Image) → byte_over small_example image extents 20481 ≡ 0 }
-    ensures ordered { lsn_places_in_order (place 5 24 ∷ place 0 720 ∷ place 5 16 ∷ place 0 240 ∷ []) ≡ place 0 240 ∷ place 0 720 ∷ place 5 16 ∷ place 5 24 ∷ [] }
+    ensures ordered { lsn_places_in_order (lsn_place 5 24 ∷ lsn_place 0 720 ∷ lsn_place 5 16 ∷ lsn_place 0 240 ∷ []) ≡ lsn_place 0 240 ∷ lsn_place 0 720 ∷ lsn_place 5 16 ∷ lsn_place 5 24 ∷ [] }
 {}

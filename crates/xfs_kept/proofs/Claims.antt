@@ -9,7 +9,7 @@ use Rattle.xfs_geom.specs.declared.geometry.Geometry.{Geometry}
 use Rattle.xfs_geom.specs.declared.records.Run.{Run}
 use Rattle.xfs_kinds.specs.OffsetWords.{is_file_data, is_tree_block, offset_in_fork}
 use Rattle.xfs_volume.specs.declared.files.FileRec.{FileRec}
-use Rattle.xfs_space.specs.Owners.{attribute_flag, runs_of_blocks, extent_run, extent_word, file_runs, run, tree_flag, unwritten_flag}
+use Rattle.xfs_space.specs.Owners.{attribute_flag, runs_of_blocks, extent_run, extent_word, file_runs, new_run, tree_flag, unwritten_flag}
 use Rattle.xfs_space.specs.Private.Places.{IsPlacedExtent}
 use Rattle.xfs_space.proofs.Lawful.{placed}
 use Rattle.xfs_space.proofs.RecordedMaps.{group_inside}
@@ -58,7 +58,7 @@ extent_claim g ino flag e number flagged at =
     }
 
 -- a single block of a tree of extents
-block_claim : (g : Geometry) (ino block : ℕ) → block < g.dblocks → IsClaimedRun g.dblocks (run block 1 ino tree_flag)
+block_claim : (g : Geometry) (ino block : ℕ) → block < g.dblocks → IsClaimedRun g.dblocks (new_run block 1 ino tree_flag)
 block_claim g ino block inside = record {
   some = omega arith;
   inside = omega (arith, inside);
@@ -75,8 +75,8 @@ file_claims g f can =
     All-append (IsClaimedRun g.dblocks) (extents ++ attributes) (runs_of_blocks f.ino tree_flag f.tree)
     (All-append (IsClaimedRun g.dblocks) extents attributes (of_fork 0 f.extents (inl refl) (placed v f.ino f.extents can.lies.extents))
     (of_fork attribute_flag f.attr_extents (inr refl) (placed v f.ino f.attr_extents can.lies.attr_extents)))
-    (All-map (IsClaimedRun g.dblocks) (λ block. run block 1 f.ino tree_flag) f.tree
-    (All-weaker (λ block. block < g.dblocks) (λ block. IsClaimedRun g.dblocks (run block 1 f.ino tree_flag)) (block_claim g f.ino) f.tree can.lies.tree))
+    (All-map (IsClaimedRun g.dblocks) (λ block. new_run block 1 f.ino tree_flag) f.tree
+    (All-weaker (λ block. block < g.dblocks) (λ block. IsClaimedRun g.dblocks (new_run block 1 f.ino tree_flag)) (block_claim g f.ino) f.tree can.lies.tree))
   where
     of_fork : (flag : ℕ) (es : List Extent) → (flag ≡ 0) ⊎ (flag ≡ 2 ^ 63) → All (IsPlacedExtent (volume_of g)) es → All (IsClaimedRun g.dblocks) (map (extent_run (volume_of g) f.ino flag) es)
     of_fork flag es flagged all =

@@ -13,7 +13,7 @@ use Rattle.xfs_kinds.specs.InodeTrees.{four_each, ino_shape, is_missing}
 use Rattle.xfs_kinds.specs.MergedRuns.{held_at}
 use Rattle.xfs_volume.specs.declared.files.FileRec.{FileRec}
 use Rattle.xfs_laws.specs.Counting.{bits_below, chunk_number, count_below, due_chunk, inode_number, is_unused, is_used}
-use Rattle.xfs_space.specs.Owners.{cluster_run, cluster_runs, run}
+use Rattle.xfs_space.specs.Owners.{cluster_run, cluster_runs, new_run}
 use Rattle.xfs_place.specs.Wanted.{inodes_in_group}
 use Rattle.xfs_due.specs.Keeping.{KeepsJust, all_clusters, all_used}
 use Rattle.xfs_empty.specs.Placing.{all_inodes, chunk_run, chunks_of, first_chunk}
@@ -45,7 +45,7 @@ chunk_due v s crc = ap chunk_number (due_is v (first_files v s crc))
 
 -- the two clusters
 abbrev two_runs : List Run
-two_runs = run 16 4 clusters_owner 0 ∷ run 20 4 clusters_owner 0 ∷ []
+two_runs = new_run 16 4 clusters_owner 0 ∷ new_run 20 4 clusters_owner 0 ∷ []
 
 group_runs : (g : Geometry) (ag : ℕ) (chunks : List InoRec) → ag < g.agcount → chunks_of ag ≡ chunks
     → cluster_runs (ag * g.agblocks) (map (ino_shape ag).settled (inodes_in_group (all_inodes g.agcount) ag))

@@ -22,7 +22,7 @@ use xfs_heads::layouts::agfl::{AGFL, BNO};
 use xfs_heads::layouts::agi::{AGI, UNLINKED};
 use xfs_inode::layouts::inode::INODE;
 use xfs_kinds::{Bmbt, Bno, Cnt, Fino, Ino, Rmap};
-use xfs_tree::{LONG, Layout, SHORT, layout_of};
+use xfs_tree::{LONG, Layout, SHORT, tree_layout};
 use xfs_word::{FieldLayout, Form, get16};
 
 /// How many fields of the header of inodes stand before its array.
@@ -88,7 +88,7 @@ pub(crate) fn items(alloc: Global, kind: ObjectType, object: &[u8]) -> Result<Ve
         ObjectType::Bnobt => block_items(
             alloc,
             &SHORT,
-            &layout_of(&Bno { ag: 0 }),
+            &tree_layout(&Bno { ag: 0 }),
             PrintedRow::Span,
             PrintedRow::Span,
             object,
@@ -96,7 +96,7 @@ pub(crate) fn items(alloc: Global, kind: ObjectType, object: &[u8]) -> Result<Ve
         ObjectType::Cntbt => block_items(
             alloc,
             &SHORT,
-            &layout_of(&Cnt { ag: 0 }),
+            &tree_layout(&Cnt { ag: 0 }),
             PrintedRow::Span,
             PrintedRow::Span,
             object,
@@ -104,7 +104,7 @@ pub(crate) fn items(alloc: Global, kind: ObjectType, object: &[u8]) -> Result<Ve
         ObjectType::Inobt => block_items(
             alloc,
             &SHORT,
-            &layout_of(&Ino { ag: 0 }),
+            &tree_layout(&Ino { ag: 0 }),
             PrintedRow::Chunk,
             PrintedRow::ChunkStart,
             object,
@@ -112,7 +112,7 @@ pub(crate) fn items(alloc: Global, kind: ObjectType, object: &[u8]) -> Result<Ve
         ObjectType::Finobt => block_items(
             alloc,
             &SHORT,
-            &layout_of(&Fino { ag: 0 }),
+            &tree_layout(&Fino { ag: 0 }),
             PrintedRow::Chunk,
             PrintedRow::ChunkStart,
             object,
@@ -120,7 +120,7 @@ pub(crate) fn items(alloc: Global, kind: ObjectType, object: &[u8]) -> Result<Ve
         ObjectType::Rmapbt => block_items(
             alloc,
             &SHORT,
-            &layout_of(&Rmap { ag: 0 }),
+            &tree_layout(&Rmap { ag: 0 }),
             PrintedRow::Owner,
             PrintedRow::OwnerKeys,
             object,
@@ -128,7 +128,7 @@ pub(crate) fn items(alloc: Global, kind: ObjectType, object: &[u8]) -> Result<Ve
         ObjectType::Bmapbt => block_items(
             alloc,
             &LONG,
-            &layout_of(&Bmbt { ino: 0 }),
+            &tree_layout(&Bmbt { ino: 0 }),
             PrintedRow::FileExtent,
             PrintedRow::FileOffset,
             object,

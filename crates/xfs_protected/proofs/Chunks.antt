@@ -13,7 +13,7 @@ use Rattle.xfs_tree.specs.Rules.{are_lawful}
 use Rattle.xfs_kinds.specs.Groups.{lies_in_group}
 use Rattle.xfs_kinds.specs.InodeTrees.{ascends_inode, fits_chunk, has_count, ino_shape, is_chunk, is_chunk_clear, is_first_inode, is_holemask, is_missing}
 use Rattle.xfs_volume.specs.declared.groups.GroupRec.{GroupRec}
-use Rattle.xfs_space.specs.Owners.{cluster_run, cluster_runs, clusters_of_chunk, group_runs, groups_runs, listed_runs, run, tree_owners, tree_runs}
+use Rattle.xfs_space.specs.Owners.{cluster_run, cluster_runs, clusters_of_chunk, group_runs, groups_runs, listed_runs, new_run, tree_owners, tree_runs}
 use Rattle.xfs_space.specs.Parts.{AreGroups}
 use Rattle.xfs_image.specs.Claims.{is_of_cluster}
 use Rattle.xfs_image.specs.Clusters.{chunk_clusters, clusters_in}
@@ -90,7 +90,7 @@ group_cluster_on v ag base x b rs lawful is on =
 
 -- what a group owns in front of its clusters
 abbrev front_of : ℕ → GroupRec → List Run
-front_of base g = run base 1 headers_owner 0 ∷ tree_runs tree_owners g.blocks ++ listed_runs base g.agfl
+front_of base g = new_run base 1 headers_owner 0 ∷ tree_runs tree_owners g.blocks ++ listed_runs base g.agfl
 
 next_base : (ag w : ℕ) → (ag + 1) * w ≡ ag * w + w
 next_base ag w = omega arith
@@ -111,18 +111,18 @@ cluster_on v ag x b (g ∷ gs) are is on =
     ]
 
 -- the first block of a group is one of its runs, and with a cluster on it twice
-header_covers : (base b : ℕ) → b ≡ base → covers b (run base 1 headers_owner 0) ≡ true
+header_covers : (base b : ℕ) → b ≡ base → covers b (new_run base 1 headers_owner 0) ≡ true
 header_covers base b same = grind (arith, nat_tests, same)
 
 header_first : (base b : ℕ) (g : GroupRec) → b ≡ base → 1 ≤ runs_on (group_runs base g) b
 header_first base b g same =
-    let all = on_head (run base 1 headers_owner 0) ((tree_runs tree_owners g.blocks ++ listed_runs base g.agfl) ++ cluster_runs base g.ino) b (header_covers base b same) in
+    let all = on_head (new_run base 1 headers_owner 0) ((tree_runs tree_owners g.blocks ++ listed_runs base g.agfl) ++ cluster_runs base g.ino) b (header_covers base b same) in
     omega (arith, all)
 
 header_twice : (base b : ℕ) (g : GroupRec) → b ≡ base → 1 ≤ runs_on (cluster_runs base g.ino) b → 2 ≤ runs_on (group_runs base g) b
 header_twice base b g same some =
     let rest : List Run = (tree_runs tree_owners g.blocks ++ listed_runs base g.agfl) ++ cluster_runs base g.ino in
-    let all = on_head (run base 1 headers_owner 0) rest b (header_covers base b same) in
+    let all = on_head (new_run base 1 headers_owner 0) rest b (header_covers base b same) in
     let more : 1 ≤ runs_on rest b = right_on (tree_runs tree_owners g.blocks ++ listed_runs base g.agfl) (cluster_runs base g.ino) b some in
     omega (arith, all, more)
 

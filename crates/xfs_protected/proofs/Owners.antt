@@ -16,7 +16,7 @@ use Rattle.xfs_volume.specs.Laws.{first_broken}
 use Rattle.xfs_volume.specs.declared.files.FileRec.{FileRec}
 use Rattle.xfs_volume.specs.declared.groups.GroupRec.{GroupRec}
 use Rattle.xfs_volume.specs.declared.groups.TreeBlocks.{TreeBlocks}
-use Rattle.xfs_space.specs.Owners.{runs_of_blocks, cluster_run, cluster_runs, clusters_of_chunk, different, file_runs, extent_run, group_runs, groups_runs, listed_run, listed_runs, owned_runs, run, tree_owners, tree_runs}
+use Rattle.xfs_space.specs.Owners.{runs_of_blocks, cluster_run, cluster_runs, clusters_of_chunk, different, file_runs, extent_run, group_runs, groups_runs, listed_run, listed_runs, owned_runs, new_run, tree_owners, tree_runs}
 use Rattle.xfs_space.specs.Parts.{AreGroups}
 use Rattle.xfs_space.specs.Sorted.{IsOwned}
 use Rattle.xfs_space.specs.SpaceLaws.{owner_at, owner_laws, owner_number}
@@ -35,7 +35,7 @@ tree_owner [] trees q is = absurd is
 tree_owner (o ∷ os) [] q is = absurd is
 tree_owner (o ∷ os) (t ∷ ts) q is =
     elim (member_either q (runs_of_blocks o 0 t.blocks) (tree_runs os ts) is) [
-      | inl here ↦ let of = map_member (λ block. run block 1 o 0) q t.blocks here in inl (ap (λ (r : Run). r.owner) of.2)
+      | inl here ↦ let of = map_member (λ block. new_run block 1 o 0) q t.blocks here in inl (ap (λ (r : Run). r.owner) of.2)
       | inr there ↦ inr (tree_owner os ts q there)
     ]
 
@@ -72,8 +72,8 @@ not_owner owner n is off e =
 -- a run that a group owns for its clusters is one of theirs
 group_cluster : (base : ℕ) (g : GroupRec) (q : Run) → Member q (group_runs base g) → IsClusters q.owner → Member q (cluster_runs base g.ino)
 group_cluster base g q is owner =
-    elim (member_either q (run base 1 headers_owner 0 ∷ tree_runs tree_owners g.blocks ++ listed_runs base g.agfl) (cluster_runs base g.ino) is) [
-      | inl front ↦ elim (member_either q (run base 1 headers_owner 0 ∷ tree_runs tree_owners g.blocks) (listed_runs base g.agfl) front) [
+    elim (member_either q (new_run base 1 headers_owner 0 ∷ tree_runs tree_owners g.blocks ++ listed_runs base g.agfl) (cluster_runs base g.ino) is) [
+      | inl front ↦ elim (member_either q (new_run base 1 headers_owner 0 ∷ tree_runs tree_owners g.blocks) (listed_runs base g.agfl) front) [
         | inl early ↦ elim early [
           | inl head ↦ absurd (not_owner q.owner (2 ^ 64 - 3) owner (inr (omega arith)) (sym (ap (λ (r : Run). r.owner) head)))
           | inr tree ↦ absurd (no_tree q.owner owner (tree_owner tree_owners g.blocks q tree))
@@ -122,7 +122,7 @@ file_owner v f q is =
         | inl a ↦ let of = map_member (extent_run v f.ino 0) q f.extents a in sym (ap (λ (r : Run). r.owner) of.2)
         | inr a ↦ let of = map_member (extent_run v f.ino (2 ^ 63)) q f.attr_extents a in sym (ap (λ (r : Run). r.owner) of.2)
       ]
-      | inr a ↦ let of = map_member (λ block. run block 1 f.ino (2 ^ 62)) q f.tree a in sym (ap (λ (r : Run). r.owner) of.2)
+      | inr a ↦ let of = map_member (λ block. new_run block 1 f.ino (2 ^ 62)) q f.tree a in sym (ap (λ (r : Run). r.owner) of.2)
     ]
 
 -- a run of a volume for clusters is that of one
@@ -131,7 +131,7 @@ pub owned_cluster : (g : Geometry) (b : ℕ) (groups : List GroupRec) (files : L
 unfolding owned_runs
 owned_cluster g b groups files q are low is owner on =
     let v : Volume = volume_of g in
-    elim (member_either q (groups_runs g.agblocks 0 groups) (run g.log g.logblocks log_owner 0 ∷ flat_map (file_runs v) files) is) [
+    elim (member_either q (groups_runs g.agblocks 0 groups) (new_run g.log g.logblocks log_owner 0 ∷ flat_map (file_runs v) files) is) [
       | inl of_group ↦
           let zero_base : 0 ≡ 0 * g.agblocks = omega arith in
           groups_cluster v 0 b groups q are (subst (λ (n : ℕ). Member q (groups_runs g.agblocks n groups)) zero_base of_group) owner on

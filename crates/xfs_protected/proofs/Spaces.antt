@@ -12,7 +12,7 @@ use Rattle.xfs_geom.specs.declared.geometry.Geometry.{Geometry}
 use Rattle.xfs_geom.specs.declared.records.Run.{Run}
 use Rattle.xfs_volume.specs.declared.files.FileRec.{FileRec}
 use Rattle.xfs_volume.specs.declared.groups.GroupRec.{GroupRec}
-use Rattle.xfs_space.specs.Owners.{file_runs, groups_runs, owned_runs, run}
+use Rattle.xfs_space.specs.Owners.{file_runs, groups_runs, owned_runs, new_run}
 use Rattle.xfs_space.specs.Parts.{AreGroups}
 use Rattle.xfs_space.proofs.Shared.{on-cons}
 use Rattle.xfs_image.specs.Claims.{claims, is_of_cluster}
@@ -40,7 +40,7 @@ module _ (g : Geometry) (groups : List GroupRec) (files : List FileRec) (space :
   of_files = flat_map (file_runs (volume_of g)) files
 
   abbrev log_run : Run
-  log_run = run g.log g.logblocks log_owner 0
+  log_run = new_run g.log g.logblocks log_owner 0
 
   parts : (b : ℕ) → runs_on (owned_runs (volume_of g) groups files) b ≡ runs_on of_groups b + runs_on (log_run ∷ of_files) b
   unfolding owned_runs

@@ -15,7 +15,7 @@ use Rattle.xfs_geom.specs.declared.records.Run.{Run}
 use Rattle.xfs_kinds.specs.MergedRuns.{held_at, offset_word_at}
 use Rattle.xfs_volume.specs.declared.files.FileRec.{FileRec}
 use Rattle.xfs_volume.specs.declared.groups.GroupRec.{GroupRec}
-use Rattle.xfs_space.specs.Owners.{cluster_run, cluster_runs, clusters_of_chunk, file_runs, group_runs, groups_runs, listed_runs, owned_runs, run, tree_owners, tree_runs}
+use Rattle.xfs_space.specs.Owners.{cluster_run, cluster_runs, clusters_of_chunk, file_runs, group_runs, groups_runs, listed_runs, owned_runs, new_run, tree_owners, tree_runs}
 use Rattle.xfs_space.specs.Parts.{AreGroups}
 use Rattle.xfs_space.specs.SpaceLaws.{owner_number, recorded_run, recorded_runs}
 use Rattle.xfs_space.proofs.FreeSpans.{group_short}
@@ -53,7 +53,7 @@ cluster_has v a x (g ∷ gs) are is =
           record {
             run_is = cluster_run base of.0;
             is = member_left (cluster_run base of.0) (group_runs base g) (groups_runs v.agblocks (base + v.agblocks) gs)
-                (member_right (cluster_run base of.0) (run base 1 headers_owner 0 ∷ tree_runs tree_owners g.blocks ++ listed_runs base g.agfl) (cluster_runs base g.ino)
+                (member_right (cluster_run base of.0) (new_run base 1 headers_owner 0 ∷ tree_runs tree_owners g.blocks ++ listed_runs base g.agfl) (cluster_runs base g.ino)
                 (member_map (cluster_run base) of.0 (flat_map clusters_of_chunk g.ino) of.1));
             start = of.2;
             count = refl;
@@ -76,7 +76,7 @@ cluster_has v a x (g ∷ gs) are is =
 among_owned : (g : Geometry) (groups : List GroupRec) (files : List FileRec) (q : Run) → Member q (groups_runs g.agblocks 0 groups) → Member q (owned_runs (volume_of g) groups files)
 unfolding owned_runs
 among_owned g groups files q is =
-    member_left q (groups_runs g.agblocks 0 groups) (run g.log g.logblocks log_owner 0 ∷ flat_map (file_runs (volume_of g)) files) is
+    member_left q (groups_runs g.agblocks 0 groups) (new_run g.log g.logblocks log_owner 0 ∷ flat_map (file_runs (volume_of g)) files) is
 
 module _ (g : Geometry) (image : Image) (groups : List GroupRec) (files : List FileRec) (view : IsLawfulView g image groups files) where
   abbrev v : Volume

@@ -16,7 +16,7 @@ use Rattle.xfs_claims.proofs.Ordered.{Ascend, same_list}
 use Rattle.xfs_naming.specs.Naming.{NumbersAscend}
 use Rattle.xfs_place.specs.Wanted.{inodes_in_group}
 use Rattle.xfs_protected.proofs.Members.{Member, all_members, flat_member, member_all, member_any, member_either, member_flat, member_left, member_right, member_row}
-use Rattle.xfs_space.specs.Owners.{cluster_run, cluster_runs, clusters_of_chunk, run}
+use Rattle.xfs_space.specs.Owners.{cluster_run, cluster_runs, clusters_of_chunk, new_run}
 use Rattle.xfs_space.proofs.FreeSpans.{group_short}
 use Rattle.xfs_salvage.specs.Kept.{run_of_cluster}
 use Rattle.xfs_salvage.specs.declared.found.Salvaged.{Salvaged}
@@ -36,7 +36,7 @@ abbrev mask_blocks : ℕ → ℕ → List ℕ
 mask_blocks startino mask = (if mask == 0x00ff then [] else ((startino / 8) ∷ [])) ++ (if mask == 0xff00 then [] else ((startino / 8 + 4) ∷ []))
 
 abbrev at_run : ℕ → Run
-at_run block = run block 4 clusters_owner 0
+at_run block = new_run block 4 clusters_owner 0
 
 runs_are : (base c : ℕ) (first second : Bool) (r : InoRec) → clusters_of_chunk (settled_chunk r) ≡ mask_blocks (64 * c) (holes first second)
     → map (cluster_run base) (flat_map clusters_of_chunk (map settled_chunk (if first || second then r ∷ [] else []))) ≡ map run_of_cluster (half_blocks base c first second)

@@ -14,7 +14,7 @@ use Rattle.xfs_geom.specs.declared.records.Run.{Run}
 use Rattle.xfs_image.specs.Clusters.{root_cluster}
 use Rattle.xfs_volume.specs.declared.clusters.ClusterRec.{ClusterRec}
 use Rattle.xfs_volume.specs.declared.files.FileRec.{FileRec}
-use Rattle.xfs_space.specs.Owners.{attribute_flag, extent_run, file_runs, run, runs_of_blocks, tree_flag, unwritten_flag}
+use Rattle.xfs_space.specs.Owners.{attribute_flag, extent_run, file_runs, new_run, runs_of_blocks, tree_flag, unwritten_flag}
 use Rattle.xfs_space.specs.Private.Places.{IsPlacedExtent}
 use Rattle.xfs_space.proofs.Lawful.{placed}
 use Rattle.xfs_place.specs.Pool.{is_taken}
@@ -59,7 +59,7 @@ extent_owned v ino flag e number flagged at =
     let offsets = at.offsets in
     record { owner = omega (arith, number); offset = word_small flag _ e.offset flagged (either_flag e.unwritten) (omega (arith, offsets)) }
 
-block_owned : (ino block : ℕ) → ino < 2 ^ 63 → HasOwner (run block 1 ino tree_flag)
+block_owned : (ino block : ℕ) → ino < 2 ^ 63 → HasOwner (new_run block 1 ino tree_flag)
 block_owned ino block number = record { owner = omega (arith, number); offset = omega arith }
 
 fork_owned : (v : Volume) (ino flag : ℕ) (es : List Extent) → ino < 2 ^ 63 → flag ≤ 2 ^ 63 → All (IsPlacedExtent v) es → All HasOwner (map (extent_run v ino flag) es)
@@ -75,8 +75,8 @@ file_owned v f can =
     (All-append HasOwner extents attributes
     (fork_owned v f.ino 0 f.extents can.number (omega arith) (placed v f.ino f.extents can.lies.extents))
     (fork_owned v f.ino attribute_flag f.attr_extents can.number (omega arith) (placed v f.ino f.attr_extents can.lies.attr_extents)))
-    (All-map HasOwner (λ block. run block 1 f.ino tree_flag) f.tree
-    (All-weaker (λ block. block < v.dblocks) (λ block. HasOwner (run block 1 f.ino tree_flag)) (λ block inside. block_owned f.ino block can.number) f.tree can.lies.tree))
+    (All-map HasOwner (λ block. new_run block 1 f.ino tree_flag) f.tree
+    (All-weaker (λ block. block < v.dblocks) (λ block. HasOwner (new_run block 1 f.ino tree_flag)) (λ block inside. block_owned f.ino block can.number) f.tree can.lies.tree))
 
 module _ (g : Geometry) (clusters : List ClusterRec) (files : List FileRec) where
   abbrev of_clusters : List Run

@@ -12,7 +12,7 @@ use Rattle.xfs_geom.specs.declared.geometry.Geometry.{Geometry}
 use Rattle.xfs_geom.specs.declared.records.Run.{Run}
 use Rattle.xfs_volume.specs.declared.clusters.ClusterRec.{ClusterRec}
 use Rattle.xfs_volume.specs.declared.files.FileRec.{FileRec}
-use Rattle.xfs_space.specs.Owners.{attribute_flag, runs_of_blocks, extent_run, file_runs, run, tree_flag}
+use Rattle.xfs_space.specs.Owners.{attribute_flag, runs_of_blocks, extent_run, file_runs, new_run, tree_flag}
 use Rattle.xfs_space.specs.Parts.{HasLawfulForks}
 use Rattle.xfs_space.specs.Private.Places.{IsPlacedExtent}
 use Rattle.xfs_space.proofs.Lawful.{placed}
@@ -69,7 +69,7 @@ extent_is_run g ino flag e at =
     let end = at.inside in
     let small = g.shape.groups.small in (at.some, omega (arith, inside, end, small))
 
-block_is_run : (g : Geometry) (ino flag block : ℕ) → block < g.dblocks → IsRun (run block 1 ino flag)
+block_is_run : (g : Geometry) (ino flag block : ℕ) → block < g.dblocks → IsRun (new_run block 1 ino flag)
 block_is_run g ino flag block inside = let small = g.shape.groups.small in (omega arith, omega (arith, inside, small))
 
 -- what a file claims are runs
@@ -80,7 +80,7 @@ runs_are g f is =
     let attributes : List Run = map (extent_run v f.ino attribute_flag) f.attr_extents in
     All-append IsRun (extents ++ attributes) (runs_of_blocks f.ino tree_flag f.tree)
     (All-append IsRun extents attributes (of_fork 0 f.extents (placed v f.ino f.extents is.extents)) (of_fork attribute_flag f.attr_extents (placed v f.ino f.attr_extents is.attr_extents)))
-    (All-map IsRun (λ block. run block 1 f.ino tree_flag) f.tree (All-weaker (λ block. block < g.dblocks) (λ block. IsRun (run block 1 f.ino tree_flag)) (block_is_run g f.ino tree_flag) f.tree is.tree))
+    (All-map IsRun (λ block. new_run block 1 f.ino tree_flag) f.tree (All-weaker (λ block. block < g.dblocks) (λ block. IsRun (new_run block 1 f.ino tree_flag)) (block_is_run g f.ino tree_flag) f.tree is.tree))
   where
     of_fork : (flag : ℕ) (es : List Extent) → All (IsPlacedExtent (volume_of g)) es → All IsRun (map (extent_run (volume_of g) f.ino flag) es)
     of_fork flag es all =

@@ -10,7 +10,7 @@ use Rattle.xfs_geom.specs.declared.records.Run.{Run}
 use Rattle.xfs_volume.specs.declared.clusters.ClusterRec.{ClusterRec}
 use Rattle.xfs_volume.specs.declared.directories.DirRec.{DirRec}
 use Rattle.xfs_volume.specs.declared.files.FileRec.{FileRec}
-use Rattle.xfs_space.specs.Owners.{file_runs, run}
+use Rattle.xfs_space.specs.Owners.{file_runs, new_run}
 use Rattle.xfs_naming.specs.Naming.{is_directory_at, is_in_use}
 use Rattle.xfs_claims.specs.Keeping.{Holding, kept_of}
 use Rattle.xfs_protected.specs.Claimed.{claims_in}
@@ -58,7 +58,7 @@ entries_of_kept v clusters files entries = entries_among (kept_files v clusters 
 
 -- the blocks that are taken: those of the kept clusters and those that the kept files claim, with their owners
 abbrev pub run_of_cluster : ℕ → Run
-run_of_cluster block = run block 4 clusters_owner 0
+run_of_cluster block = new_run block 4 clusters_owner 0
 
 abbrev pub taken_of : Volume → List ℕ → List FileRec → List Run
 taken_of v clusters files = map run_of_cluster clusters ++ flat_map (file_runs v) files

@@ -2,7 +2,7 @@
 //!
 //! Whoever mends a volume hands in what its candidate clusters gave. All that claims blocks is ranked, and what meets something of
 //! a higher rank is left out; so is a root that is no directory, and a system inode that is no empty regular file. What is
-//! then kept is handed back as lists, with the inodes that are to be made anew. No tool calls it yet.
+//! then kept is handed back as lists, with the inodes that are to be made anew.
 //!
 //! A caller would write:
 //!

@@ -19,7 +19,7 @@ use Rattle.xfs_kinds.specs.InodeTrees.{ascends_inode, fits_chunk, has_count, ino
 use Rattle.xfs_volume.specs.declared.files.FileRec.{FileRec}
 use Rattle.xfs_volume.specs.declared.groups.GroupRec.{GroupRec}
 use Rattle.xfs_volume.specs.declared.groups.TreeBlocks.{TreeBlocks}
-use Rattle.xfs_space.specs.Owners.{attribute_flag, runs_of_blocks, cluster_run, cluster_runs, clusters_of_chunk, different, extent_run, extent_word, file_runs, group_runs, groups_runs, listed_run, owned_runs, run, tree_flag, tree_owners, tree_runs, unwritten_flag}
+use Rattle.xfs_space.specs.Owners.{attribute_flag, runs_of_blocks, cluster_run, cluster_runs, clusters_of_chunk, different, extent_run, extent_word, file_runs, group_runs, groups_runs, listed_run, owned_runs, new_run, tree_flag, tree_owners, tree_runs, unwritten_flag}
 use Rattle.xfs_space.specs.Parts.{AreGroups, AreOfGroup, HasLawfulForks, IsLawfulGroup}
 use Rattle.xfs_space.specs.Private.Places.{IsPlacedExtent}
 use Rattle.xfs_space.specs.Sorted.{IsOfOneGroup, IsOwned}
@@ -33,7 +33,7 @@ pub record IsGood (v : Volume) (r : Run) : Type 0 where
 
 -- a number of blocks of one group
 good_run : (v : Volume) (ag s count owner offset : ℕ) → v.dblocks ≤ v.agcount * v.agblocks → (v.agcount - 1) * v.agblocks + 64 ≤ v.dblocks → ag < v.agcount → 1 ≤ count → s + count ≤ group_length v ag
-    → owner < 2 ^ 64 → offset < 2 ^ 64 → offset % 2 ^ 61 + count ≤ 2 ^ 54 → IsGood v (run (ag * v.agblocks + s) count owner offset)
+    → owner < 2 ^ 64 → offset < 2 ^ 64 → offset % 2 ^ 61 + count ≤ 2 ^ 54 → IsGood v (new_run (ag * v.agblocks + s) count owner offset)
 good_run v ag s count owner offset covered last there some inside small_owner small_offset fork =
     let all = group_inside v ag there last in
     let short = group_short v ag covered in
@@ -51,7 +51,7 @@ good_run v ag s count owner offset covered last there some inside small_owner sm
     }
 
 -- a single block
-good_block : (v : Volume) (block owner offset : ℕ) → block < v.dblocks → owner < 2 ^ 64 → offset < 2 ^ 64 → offset % 2 ^ 61 ≡ 0 → IsGood v (run block 1 owner offset)
+good_block : (v : Volume) (block owner offset : ℕ) → block < v.dblocks → owner < 2 ^ 64 → offset < 2 ^ 64 → offset % 2 ^ 61 ≡ 0 → IsGood v (new_run block 1 owner offset)
 good_block v block owner offset inside small_owner small_offset none = record {
   owned = record { some = omega arith; inside = omega (arith, inside); owner = small_owner; offset = small_offset; fork = omega (arith, none) };
   group = λ k before. omega (arith, before);
@@ -60,7 +60,7 @@ good_block v block owner offset inside small_owner small_offset none = record {
 good_blocks : (v : Volume) (owner offset : ℕ) (blocks : List ℕ) → All (λ block. block < v.dblocks) blocks → owner < 2 ^ 64 → offset < 2 ^ 64 → offset % 2 ^ 61 ≡ 0 → All (IsGood v) (runs_of_blocks owner offset blocks)
 good_blocks v owner offset blocks all small_owner small_offset none =
     let each = λ (k : ℕ) (d : ℕ) (less : k < length blocks). good_block v (get_or blocks k d) owner offset (all k d less) small_owner small_offset none in
-    All-map (IsGood v) (λ block. run block 1 owner offset) blocks each
+    All-map (IsGood v) (λ block. new_run block 1 owner offset) blocks each
 
 -- owners of trees
 small_owners : List ℕ → Type 0
@@ -149,7 +149,7 @@ good_group v ag g covered last there lawful =
     let inside = group_inside v ag there last in
     let chunks = each_lawful (ino_shape ag) v (λ (r : InoRec). r.startino / 8 + 8 ≤ group_length v ag) (chunk_inside v ag) None g.ino lawful.ino in
     let listed = map (listed_run base) (different (take g.agfl.count g.agfl.entries)) in
-    All-cons (IsGood v) (run base 1 headers_owner 0) ((tree_runs tree_owners g.blocks ++ listed) ++ cluster_runs base g.ino)
+    All-cons (IsGood v) (new_run base 1 headers_owner 0) ((tree_runs tree_owners g.blocks ++ listed) ++ cluster_runs base g.ino)
     (good_block v base headers_owner 0 (omega (arith, most, last)) (omega arith) (omega arith) (omega arith))
     (All-append (IsGood v) (tree_runs tree_owners g.blocks ++ listed) (cluster_runs base g.ino)
     (All-append (IsGood v) (tree_runs tree_owners g.blocks) listed (good_trees v ag tree_owners g.blocks small_tree_owners lawful.blocks)
@@ -214,13 +214,13 @@ good_files v (f ∷ fs) covered last small lawful =
     (good_files v fs covered last (All-tail (λ (f : FileRec). f.ino < 2 ^ 64) f fs small) (All-tail (HasLawfulForks v) f fs lawful))
 
 -- the log
-good_log : (g : Geometry) → IsGood (volume_of g) (run g.log g.logblocks log_owner 0)
+good_log : (g : Geometry) → IsGood (volume_of g) (new_run g.log g.logblocks log_owner 0)
 good_log g =
     let v = volume_of g in
     let whole : g.log / g.agblocks * g.agblocks + g.log % g.agblocks ≡ g.log = div-add-mod' g.log g.agblocks in
     let large = g.shape.log_inside.large in
     let small = g.shape.log_inside.small in
-    subst (λ (start : ℕ). IsGood v (run start g.logblocks log_owner 0)) whole
+    subst (λ (start : ℕ). IsGood v (new_run start g.logblocks log_owner 0)) whole
     (good_run v (g.log / g.agblocks) (g.log % g.agblocks) g.logblocks log_owner 0 g.shape.groups.covered g.shape.groups.last g.shape.log_inside.group (omega (arith, large)) g.shape.log_inside.inside
     (omega arith) (omega arith) (omega (arith, small)))
 
@@ -233,9 +233,9 @@ good_all g gs fs count groups files small =
     let first : 0 * g.agblocks ≡ 0 = omega arith in
     let covered = g.shape.groups.covered in
     let last = g.shape.groups.last in
-    All-append (IsGood v) (groups_runs g.agblocks 0 gs) (run g.log g.logblocks log_owner 0 ∷ flat_map (file_runs v) fs)
+    All-append (IsGood v) (groups_runs g.agblocks 0 gs) (new_run g.log g.logblocks log_owner 0 ∷ flat_map (file_runs v) fs)
     (subst (λ (base : ℕ). All (IsGood v) (groups_runs g.agblocks base gs)) first (good_groups v 0 gs covered last (omega (arith, count)) groups))
-    (All-cons (IsGood v) (run g.log g.logblocks log_owner 0) (flat_map (file_runs v) fs) (good_log g) (good_files v fs covered last small files))
+    (All-cons (IsGood v) (new_run g.log g.logblocks log_owner 0) (flat_map (file_runs v) fs) (good_log g) (good_files v fs covered last small files))
 
 pub owned_of : (v : Volume) (rs : List Run) → All (IsGood v) rs → All (IsOwned v) rs
 owned_of v rs all = λ k d less. (all k d less).owned

@@ -13,8 +13,8 @@ use Rattle.xfs_volume.specs.declared.files.FileRec.{FileRec}
 use Rattle.xfs_volume.specs.declared.groups.GroupRec.{GroupRec}
 use Rattle.xfs_volume.specs.declared.groups.TreeBlocks.{TreeBlocks}
 
-abbrev pub run : ℕ → ℕ → ℕ → ℕ → Run
-run start count owner offset = record { start = start; count = count; owner = owner; offset_word = offset }
+abbrev pub new_run : ℕ → ℕ → ℕ → ℕ → Run
+new_run start count owner offset = record { start = start; count = count; owner = owner; offset_word = offset }
 
 -- the flags of an offset word: blocks that are not written yet, blocks of an extent tree, blocks of the attribute fork
 abbrev pub unwritten_flag : ℕ
@@ -32,7 +32,7 @@ tree_owners = group_owner ∷ group_owner ∷ inode_trees_owner ∷ inode_trees_
 
 -- single blocks of one owner
 abbrev pub runs_of_blocks : ℕ → ℕ → List ℕ → List Run
-runs_of_blocks owner offset blocks = map (λ block. run block 1 owner offset) blocks
+runs_of_blocks owner offset blocks = map (λ block. new_run block 1 owner offset) blocks
 
 -- the blocks of a group's trees
 abbrev pub tree_runs : List ℕ → List TreeBlocks → List Run
@@ -47,7 +47,7 @@ different (x ∷ xs) = if list_any (λ y. y == x) xs then different xs else (x �
 
 -- the active entries of a free list, each different one once
 abbrev pub listed_run : ℕ → ℕ → Run
-listed_run base block = run (base + block) 1 group_owner 0
+listed_run base block = new_run (base + block) 1 group_owner 0
 
 abbrev pub listed_runs : ℕ → Agfl → List Run
 listed_runs base agfl = map (listed_run base) (different (take agfl.count agfl.entries))
@@ -59,7 +59,7 @@ clusters_of_chunk r =
     ++ (if r.holemask == 0xff00 then [] else ((r.startino / 8 + 4) ∷ []))
 
 abbrev pub cluster_run : ℕ → ℕ → Run
-cluster_run base block = run (base + block) 4 clusters_owner 0
+cluster_run base block = new_run (base + block) 4 clusters_owner 0
 
 abbrev pub cluster_runs : ℕ → List InoRec → List Run
 cluster_runs base chunks = map (cluster_run base) (flat_map clusters_of_chunk chunks)
@@ -67,7 +67,7 @@ cluster_runs base chunks = map (cluster_run base) (flat_map clusters_of_chunk ch
 -- what a group owns, its headers first
 abbrev pub group_runs : ℕ → GroupRec → List Run
 group_runs base g =
-    run base 1 headers_owner 0 ∷ tree_runs tree_owners g.blocks ++ listed_runs base g.agfl ++ cluster_runs base g.ino
+    new_run base 1 headers_owner 0 ∷ tree_runs tree_owners g.blocks ++ listed_runs base g.agfl ++ cluster_runs base g.ino
 
 abbrev pub groups_runs : ℕ → ℕ → List GroupRec → List Run
 groups_runs agblocks base [] = []
@@ -79,7 +79,7 @@ extent_word flag e = flag + (if e.unwritten then unwritten_flag else 0) + e.offs
 
 -- the blocks of an extent of a fork
 abbrev pub extent_run : Volume → ℕ → ℕ → Extent → Run
-extent_run v ino flag e = run (block_of_address v.agblocks v.agblklog e.start) e.count ino (extent_word flag e)
+extent_run v ino flag e = new_run (block_of_address v.agblocks v.agblklog e.start) e.count ino (extent_word flag e)
 
 -- what a file owns: its data, its attributes, the blocks of its tree of extents
 abbrev pub file_runs : Volume → FileRec → List Run
@@ -89,4 +89,4 @@ file_runs v f =
 -- all owned runs of a volume with these groups and files, in no order
 unfoldable pub owned_runs : Volume → List GroupRec → List FileRec → List Run
 owned_runs v groups files =
-    groups_runs v.agblocks 0 groups ++ run v.log v.logblocks log_owner 0 ∷ flat_map (file_runs v) files
+    groups_runs v.agblocks 0 groups ++ new_run v.log v.logblocks log_owner 0 ∷ flat_map (file_runs v) files

@@ -15,7 +15,7 @@ use Rattle.xfs_volume.specs.declared.findings.Law.{Law}
 use Rattle.xfs_volume.specs.declared.files.FileRec.{FileRec}
 use Rattle.xfs_volume.specs.declared.groups.GroupRec.{GroupRec}
 use Rattle.xfs_volume.specs.Laws.{law_at, nothing, first_difference}
-use Rattle.xfs_space.specs.Owners.{run, owned_runs}
+use Rattle.xfs_space.specs.Owners.{new_run, owned_runs}
 
 -- the first law at a block: a number of runs above 1 is held where 1 is due
 abbrev pub sharing_at : List Run → ℕ → Law
@@ -47,7 +47,7 @@ free_laws v runs ag (g ∷ gs) =
 
 -- the runs that the reverse-mapping trees record, by block of the volume
 abbrev pub recorded_run : ℕ → RmapRec → Run
-recorded_run base r = run (base + r.start) r.count r.owner r.offset_word
+recorded_run base r = new_run (base + r.start) r.count r.owner r.offset_word
 
 abbrev pub recorded_runs : ℕ → ℕ → List GroupRec → List Run
 recorded_runs agblocks base [] = []

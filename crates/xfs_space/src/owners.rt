@@ -3,7 +3,7 @@
 ghost use Rattle.std.specs.Prelude.{◌≡◌, ℕ, ◌++◌, ◌∷◌, [], List, length, IfOk, OnOk};
 ghost use Rattle.std.specs.List.{All};
 ghost use Rattle.xfs_geom.specs.Volumes.{volume_of};
-ghost use Rattle.xfs_space.specs.Owners.{run, runs_of_blocks, owned_runs};
+ghost use Rattle.xfs_space.specs.Owners.{new_run, runs_of_blocks, owned_runs};
 ghost use Rattle.xfs_space.specs.Parts.{AreGroups, HasLawfulForks};
 ghost use Rattle.xfs_space.specs.Sorted.{IsOfOneGroup, IsOwned};
 
@@ -72,7 +72,7 @@ pub fn push_run(
     owner: u64,
     offset: u64,
 ) -> Result<(), NoMemory>
-    ensures { OnOk result (runs.new.items ≡ runs.old.items ++ run start count owner offset ∷ []) }
+    ensures { OnOk result (runs.new.items ≡ runs.old.items ++ new_run start count owner offset ∷ []) }
 {
     runs.push(Run {
         start,

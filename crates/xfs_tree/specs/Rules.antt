@@ -82,10 +82,10 @@ module _ {R K : Type 0} (s : Shape R K) where
   greatest_with best (k ∷ ks) = greatest_with (Some (greater best k)) ks
 
   -- a key is the one that the parent states, where it states one
-  abbrev pub agrees : Option K → Option K → Bool
-  agrees None held = true
-  agrees (Some due) None = false
-  agrees (Some due) (Some key) = s.same due key
+  abbrev pub bound_agrees : Option K → Option K → Bool
+  bound_agrees None held = true
+  bound_agrees (Some due) None = false
+  bound_agrees (Some due) (Some key) = s.same due key
 
   -- the records of a leaf are lawful behind those in front of it; the keys of a node ascend
   abbrev pub is_ordered : Volume → ℕ → Option R → List ℕ → Bool
@@ -106,7 +106,7 @@ module _ {R K : Type 0} (s : Shape R K) where
       ∷ (4, level_of block == level)
       ∷ (5, nat_le (least_of level seat.low) (count_of block) && nat_le (count_of block) (capacity s.layout level))
       ∷ (6, is_ordered v level before block)
-      ∷ (7, agrees seat.low (low_of level block) && (not s.layout.high || agrees seat.high (high_of level block)))
+      ∷ (7, bound_agrees seat.low (low_of level block) && (not s.layout.high || bound_agrees seat.high (high_of level block)))
       ∷ (8, is_sibling v s.layout s.owner left (left_of s.layout block) && is_sibling v s.layout s.owner right (right_of s.layout block))
       ∷ []
 

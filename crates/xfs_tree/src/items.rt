@@ -5,7 +5,7 @@ ghost use Rattle.xfs_geom.specs.Volumes.{volume_of};
 ghost use Rattle.xfs_tree.specs.Layout.{IsLayout};
 ghost use Rattle.xfs_tree.specs.Blocks.{capacity, record_at, low_at, high_at, child_at, block_of_pointer, low_key_at, high_key_at};
 
-use crate::kind::{Kind, layout_of};
+use crate::kind::{Kind, tree_layout};
 use crate::layout::Layout;
 use crate::seats::Seat;
 use xfs_geom::Geometry;
@@ -17,7 +17,7 @@ pub(crate) fn record_at<K: Kind>(kind: &K, block: &[u8], i: usize) -> K::Record
     requires inside { i < (K.shape kind.now).layout.leaf_cap }
     ensures { result ≡ record_at (K.shape kind.now) block.now i }
 {
-    let layout = layout_of(kind);
+    let layout = tree_layout(kind);
     kind.read_record(part(block, layout.record_place(i), layout.record_len))
 }
 
@@ -27,7 +27,7 @@ pub(crate) fn low_at<K: Kind>(kind: &K, block: &[u8], i: usize) -> K::Key
     requires inside { i < (K.shape kind.now).layout.node_cap }
     ensures { result ≡ low_at (K.shape kind.now) block.now i }
 {
-    let layout = layout_of(kind);
+    let layout = tree_layout(kind);
     kind.read_key(part(block, layout.key_place(i), layout.key_len))
 }
 
@@ -38,7 +38,7 @@ pub(crate) fn high_at<K: Kind>(kind: &K, block: &[u8], i: usize) -> K::Key
     requires pairs { (K.shape kind.now).layout.high ≡ true }
     ensures { result ≡ high_at (K.shape kind.now) block.now i }
 {
-    let layout = layout_of(kind);
+    let layout = tree_layout(kind);
     kind.read_key(part(block, layout.key_place(i) + layout.key_len, layout.key_len))
 }
 
@@ -75,7 +75,7 @@ pub(crate) fn child_at<K: Kind>(kind: &K, g: &Geometry, block: &[u8], i: usize) 
     requires inside { i < (K.shape kind.now).layout.node_cap }
     ensures { result ≡ child_at (K.shape kind.now) (volume_of g.now) block.now i }
 {
-    let layout = layout_of(kind);
+    let layout = tree_layout(kind);
     let high = if layout.high {
         Some(high_at(kind, block, i))
     } else {

@@ -111,7 +111,7 @@ pub trait Kind: Sync {
 }
 
 /// How the blocks of a kind are laid out.
-pub fn layout_of<K: Kind>(kind: &K) -> Layout
+pub fn tree_layout<K: Kind>(kind: &K) -> Layout
     ensures value { result ≡ (K.shape kind.now).layout }
     ensures sound { IsLayout result }
 {

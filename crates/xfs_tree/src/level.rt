@@ -12,7 +12,7 @@ ghost use Rattle.xfs_disk.specs.Blocks.{bytes_of_block};
 ghost use Rattle.xfs_tree.specs.Rules.{last_of, place_fault};
 
 use crate::items::{child_at, record_at};
-use crate::kind::{Kind, layout_of};
+use crate::kind::{Kind, tree_layout};
 use crate::layout::count_of;
 use crate::met::MetBlocks;
 use crate::places::can_hold;
@@ -176,7 +176,7 @@ fn admit_block<K: Kind>(
     ensures blocks { IfOk result (λ fault. fault ≡ None → met.new.blocks.items ≡ met.old.blocks.items ++ place ∷ []) }
     ensures met { IfOk result (λ fault. fault ≡ None → IsMet met.new) }
 {
-    if !can_hold(g, &layout_of(kind), kind.owner(), place) {
+    if !can_hold(g, &tree_layout(kind), kind.owner(), place) {
         return Ok(Some(1));
     }
     if met.add(place)? {

@@ -32,7 +32,7 @@ mod unread;
 pub use frontier::Frontier;
 pub use headers::long::LONG;
 pub use headers::short::SHORT;
-pub use kind::{Kind, layout_of};
+pub use kind::{Kind, tree_layout};
 pub use layout::Layout;
 pub use reading::{read_below, read_tree};
 pub use rules::{high_of, low_of};

@@ -3,10 +3,10 @@
 ghost use Rattle.std.specs.Prelude.{◌≡◌, ℕ, ◌<◌, ◌≤◌, ◌&&◌, ◌||◌, not, nat_le, true, length, None};
 ghost use Rattle.xfs_geom.specs.Volumes.{volume_of};
 ghost use Rattle.xfs_tree.specs.Blocks.{capacity, count_of, records_of, lows_of, left_of, right_of};
-ghost use Rattle.xfs_tree.specs.Rules.{block_fault, are_lawful, is_above, ascend_behind, greater, greatest_with, agrees, is_ordered, low_of, high_of, least_of, is_sibling};
+ghost use Rattle.xfs_tree.specs.Rules.{block_fault, are_lawful, is_above, ascend_behind, greater, greatest_with, bound_agrees, is_ordered, low_of, high_of, least_of, is_sibling};
 
 use crate::items::{high_key_at, low_key_at, record_at};
-use crate::kind::{Kind, layout_of};
+use crate::kind::{Kind, tree_layout};
 use crate::layout::{Layout, count_of, level_of};
 use crate::places::{block_seal, is_sibling};
 use crate::seats::Seat;
@@ -37,7 +37,7 @@ pub(crate) fn block_fault<K: Kind>(
     ensures fault { result ≡ block_fault (K.shape kind.now) (volume_of g.now) level beside.now.left beside.now.right before seat.now block.now }
     ensures fits { result ≡ None → count_of block.now ≤ capacity (K.shape kind.now).layout level }
 {
-    let layout = layout_of(kind);
+    let layout = tree_layout(kind);
     if !sealed(&block_seal(g, &layout, kind.owner(), seat.place), block) {
         return Some(3);
     }
@@ -145,21 +145,21 @@ fn is_above<K: Kind>(kind: &K, before: Option<K::Key>, key: K::Key) -> bool
 fn has_keys<K: Kind>(kind: &K, level: u32, seat: &Seat<K::Key>, block: &[u8]) -> bool
     requires block { length block.now ≡ 4096 }
     requires count { count_of block.now ≤ capacity (K.shape kind.now).layout level }
-    ensures { result ≡ agrees (K.shape kind.now) seat.now.low (low_of (K.shape kind.now) level block.now)
-        && (not (K.shape kind.now).layout.high || agrees (K.shape kind.now) seat.now.high (high_of (K.shape kind.now) level block.now)) }
+    ensures { result ≡ bound_agrees (K.shape kind.now) seat.now.low (low_of (K.shape kind.now) level block.now)
+        && (not (K.shape kind.now).layout.high || bound_agrees (K.shape kind.now) seat.now.high (high_of (K.shape kind.now) level block.now)) }
 {
-    if !agrees(kind, seat.low, low_of(kind, level, block)) {
+    if !bound_agrees(kind, seat.low, low_of(kind, level, block)) {
         return false;
     }
-    if !layout_of(kind).high {
+    if !tree_layout(kind).high {
         return true;
     }
-    agrees(kind, seat.high, high_of(kind, level, block))
+    bound_agrees(kind, seat.high, high_of(kind, level, block))
 }
 
 /// Whether a key is the one that the parent states, where it states one.
-fn agrees<K: Kind>(_kind: &K, due: Option<K::Key>, held: Option<K::Key>) -> bool
-    ensures { result ≡ agrees (K.shape _kind.now) due held }
+fn bound_agrees<K: Kind>(_kind: &K, due: Option<K::Key>, held: Option<K::Key>) -> bool
+    ensures { result ≡ bound_agrees (K.shape _kind.now) due held }
 {
     match (due, held) {
         (None, _) => true,
@@ -211,7 +211,7 @@ fn has_siblings<K: Kind>(kind: &K, g: &Geometry, beside: &Neighbours, block: &[u
     ensures { result ≡ is_sibling (volume_of g.now) (K.shape kind.now).layout (K.shape kind.now).owner beside.now.left (left_of (K.shape kind.now).layout block.now)
         && is_sibling (volume_of g.now) (K.shape kind.now).layout (K.shape kind.now).owner beside.now.right (right_of (K.shape kind.now).layout block.now) }
 {
-    let layout = layout_of(kind);
+    let layout = tree_layout(kind);
     let owner = kind.owner();
     is_sibling(g, &layout, owner, beside.left, layout.left(block))
         && is_sibling(g, &layout, owner, beside.right, layout.right(block))

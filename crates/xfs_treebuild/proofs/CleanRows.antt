@@ -11,7 +11,7 @@ use Rattle.xfs_tree.specs.declared.seats.Seat.{Seat}
 use Rattle.xfs_tree.specs.declared.unread.Unread.{Unread}
 use Rattle.xfs_tree.specs.Shape.{Shape}
 use Rattle.xfs_tree.specs.Blocks.{level_of, count_of, capacity, left_of, right_of}
-use Rattle.xfs_tree.specs.Rules.{can_hold, block_seal, least_of, is_sibling, is_ordered, agrees, low_of, high_of, block_fault, place_fault}
+use Rattle.xfs_tree.specs.Rules.{can_hold, block_seal, least_of, is_sibling, is_ordered, bound_agrees, low_of, high_of, block_fault, place_fault}
 use Rattle.xfs_tree.specs.Reading.{root_seat, next_of, places_of, at_block, behind, row_fault}
 use Rattle.xfs_treebuild.specs.Packing.{own_seat, run_fault}
 use Rattle.xfs_treebuild.proofs.Apart.{not_met}
@@ -85,7 +85,7 @@ module _ {R K : Type 0} (s : Shape R K) (v : Volume) where
       weaker
       (is_sealed (block_seal v s.layout s.owner place) block) (level_of block == level) (count && room)
       (is_ordered s v level before block)
-      (agrees s low low_key && (not s.layout.high || agrees s high high_key))
+      (bound_agrees s low low_key && (not s.layout.high || bound_agrees s high high_key))
       (is_sibling v s.layout s.owner left (left_of s.layout block) && is_sibling v s.layout s.owner right (right_of s.layout block))
       (nat_le (least_of {K = K} level None) (count_of block) && room)
       (not s.layout.high || true)

@@ -12,7 +12,7 @@ use Rattle.xfs_geom.specs.Volumes.{Volume}
 use Rattle.xfs_tree.specs.declared.unread.Unread.{Unread}
 use Rattle.xfs_tree.specs.Shape.{Shape, IsKind}
 use Rattle.xfs_tree.specs.Blocks.{count_of, capacity, each_of}
-use Rattle.xfs_tree.specs.Rules.{block_fault, least_of, agrees, is_ordered, low_of, high_of}
+use Rattle.xfs_tree.specs.Rules.{block_fault, least_of, bound_agrees, is_ordered, low_of, high_of}
 use Rattle.xfs_tree.specs.Reading.{next_of, at_block, behind}
 use Rattle.xfs_treebuild.specs.Packing.{own_seat, own_seats, run_fault}
 use Rattle.xfs_treebuild.specs.Private.Placed.{left_in, right_in, IsHeaded, seat_of}
@@ -50,11 +50,11 @@ module _ {R K : Type 0} (s : Shape R K) where
           let least : least_of level (low_of s level block) ≡ 0 = ap (least_of level) low ∙ ap (λ (l : ℕ). if l == 0 then 0 else 1) leaf in
           le-leb (least_of level (low_of s level block)) (count_of block) (omega (arith, least))
 
-  agrees_itself : IsKind s → (key : Option K) → agrees s key key ≡ true
+  agrees_itself : IsKind s → (key : Option K) → bound_agrees s key key ≡ true
   agrees_itself kind None = refl
   agrees_itself kind (Some key) = kind.same_as_itself key
 
-  high_agrees : IsKind s → (r : Bool) (high : Option K) → (not r || agrees s (if r then high else None) high) ≡ true
+  high_agrees : IsKind s → (r : Bool) (high : Option K) → (not r || bound_agrees s (if r then high else None) high) ≡ true
   high_agrees kind true high = agrees_itself kind high
   high_agrees kind false high = refl
 

@@ -14,7 +14,7 @@ ghost use Rattle.xfs_treebuild.specs.Private.Placed.{IsHeaded};
 use crate::neighbours::{left_of, right_of};
 use xfs_geom::Geometry;
 use xfs_tree::headers::{long, short};
-use xfs_tree::{Kind, Layout, layout_of};
+use xfs_tree::{Kind, Layout, tree_layout};
 use xfs_word::{Seal, SealKind, put_part, put32, seal};
 
 /// Where a long header has no field: its last 4 bytes.
@@ -55,7 +55,7 @@ pub(crate) fn put_head<K: Kind>(
     ensures keeps { KeepsBeside block.old block.new 0 (header_len (K.shape kind.now).layout) }
     ensures keeps_parts { KeepsParts block.old block.new 0 (header_len (K.shape kind.now).layout) }
 {
-    let layout = layout_of(kind);
+    let layout = tree_layout(kind);
     let owner = kind.owner();
     let header = Header {
         magic: layout.magic,

@@ -14,7 +14,7 @@ use crate::blocks::{clear_block, put_block};
 use crate::heads::put_head;
 use xfs_disk::share_of;
 use xfs_geom::Geometry;
-use xfs_tree::{Kind, layout_of};
+use xfs_tree::{Kind, tree_layout};
 
 /// Writes the leaves of these records into the first blocks of `part`, which are to lie at the places of
 /// `row`.
@@ -65,7 +65,7 @@ fn put_record_at<K: Kind>(kind: &K, item: &K::Record, i: usize, block: &mut [u8]
     ensures put { record_at (K.shape kind.now) block.new i ≡ (K.shape kind.now).settled item.now }
     ensures keeps_parts { KeepsParts block.old block.new (record_place (K.shape kind.now).layout i) (K.shape kind.now).layout.record_len }
 {
-    let layout = layout_of(kind);
+    let layout = tree_layout(kind);
     let at = layout.record_place(i);
     kind.put_record(item, &mut block[at..at + layout.record_len]);
 }

@@ -15,7 +15,7 @@ use crate::blocks::{block_of_part, clear_block, put_block};
 use crate::heads::{pointer_to, put_head};
 use xfs_disk::share_of;
 use xfs_geom::Geometry;
-use xfs_tree::{Kind, Layout, Seat, high_of, layout_of, low_of};
+use xfs_tree::{Kind, Layout, Seat, high_of, low_of, tree_layout};
 use xfs_word::{put32, put64};
 
 /// Writes the nodes over the blocks of a level, which stand in `part` from block `first` on and are to lie
@@ -91,7 +91,7 @@ fn seat_of<K: Kind>(kind: &K, level: u32, place: u64, block: &[u8]) -> Seat<K::K
     requires full { count_of block.now ≤ capacity (K.shape kind.now).layout level }
     ensures { result ≡ seat_of (K.shape kind.now) level place block.now }
 {
-    let high = if layout_of(kind).high {
+    let high = if tree_layout(kind).high {
         high_of(kind, level, block)
     } else {
         None
@@ -116,7 +116,7 @@ fn put_child<K: Kind>(kind: &K, g: &Geometry, seat: &Seat<K::Key>, i: usize, blo
     ensures spelt { HasSpeltKeys (K.shape kind.now) i block.new }
     ensures keeps { KeepsBesideChild (K.shape kind.now).layout i block.old block.new }
 {
-    let layout = layout_of(kind);
+    let layout = tree_layout(kind);
     put_keys(kind, seat, i, block);
     put_pointer(
         &layout,
@@ -140,7 +140,7 @@ fn put_keys<K: Kind>(kind: &K, seat: &Seat<K::Key>, i: usize, block: &mut [u8])
     ensures keeps { KeepsBeside block.old block.new (key_place (K.shape kind.now).layout i) (keys_len (K.shape kind.now).layout) }
     ensures keeps_parts { KeepsParts block.old block.new (key_place (K.shape kind.now).layout i) (keys_len (K.shape kind.now).layout) }
 {
-    let layout = layout_of(kind);
+    let layout = tree_layout(kind);
     let at = layout.key_place(i);
     put_key(kind, seat.low, at, block);
     if layout.high {
@@ -158,7 +158,7 @@ fn put_key<K: Kind>(kind: &K, key: Option<K::Key>, at: usize, block: &mut [u8])
     ensures keeps_parts { KeepsParts block.old block.new at (K.shape kind.now).layout.key_len }
 {
     if let Some(key) = key {
-        kind.put_key(&key, &mut block[at..at + layout_of(kind).key_len]);
+        kind.put_key(&key, &mut block[at..at + tree_layout(kind).key_len]);
     }
 }
 

@@ -14,7 +14,7 @@ use crate::leaves::write_leaves;
 use crate::nodes::write_nodes;
 use crate::size::blocks_for;
 use xfs_geom::Geometry;
-use xfs_tree::{Kind, layout_of};
+use xfs_tree::{Kind, tree_layout};
 
 /// Packs records into the blocks of a tree, which are to lie at these places: the leaves from the left, then
 /// each level above. What a level holds is shared out among its blocks so that their counts differ by at
@@ -36,7 +36,7 @@ pub fn pack<K: Kind>(kind: &K, g: &Geometry, records: &[K::Record], places: &[u6
         → reading (K.shape kind.now) (volume_of g.now) image (root_seat (root_of places.now) ∷ []) (height_of (K.shape kind.now).layout (length records.now))
         ≡ Ok (record { records = map (K.shape kind.now).settled records.now; blocks = top_down (rows_at (K.shape kind.now).layout (length records.now) places.now) }) }
 {
-    let layout = layout_of(kind);
+    let layout = tree_layout(kind);
     let mut level = 0;
     let mut first = 0;
     let mut count = blocks_for(layout.leaf_cap, records.len() as u64) as usize;

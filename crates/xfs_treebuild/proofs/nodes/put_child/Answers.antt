@@ -13,7 +13,7 @@ returns-clause-others g c =
     let s = g.K.Kind.shape c.args.kind.now in
     let mid = c.put_keys.new.block in
     let new = c.put_pointer.new.block in
-    let value = c.layout_of-layout.ensures.value in
+    let value = c.tree_layout-layout.ensures.value in
     let pointers = subst (λ (l : Layout). KeepsBeside mid new (pointer_place l c.args.i) (pointer_len l)) value c.put_pointer.ensures.keeps in
     let pointers_parts = subst (λ (l : Layout). KeepsParts mid new (pointer_place l c.args.i) (pointer_len l)) value c.put_pointer.ensures.keeps_parts in
     λ k before.
@@ -23,14 +23,14 @@ pub returns-clause-keeps : goal.returns-clause-keeps
 returns-clause-keeps g c =
     let mid = c.put_keys.new.block in
     let new = c.put_pointer.new.block in
-    let pointers = subst (λ (l : Layout). KeepsParts mid new (pointer_place l c.args.i) (pointer_len l)) c.layout_of-layout.ensures.value c.put_pointer.ensures.keeps_parts in
+    let pointers = subst (λ (l : Layout). KeepsParts mid new (pointer_place l c.args.i) (pointer_len l)) c.tree_layout-layout.ensures.value c.put_pointer.ensures.keeps_parts in
     λ a w keys pointer. pointers a w pointer ∙ c.put_keys.ensures.keeps_parts a w keys
 
 pub returns-clause-spelt : goal.returns-clause-spelt
 returns-clause-spelt g c =
     let mid = c.put_keys.new.block in
     let new = c.put_pointer.new.block in
-    let pointers = subst (λ (l : Layout). KeepsParts mid new (pointer_place l c.args.i) (pointer_len l)) c.layout_of-layout.ensures.value c.put_pointer.ensures.keeps_parts in
+    let pointers = subst (λ (l : Layout). KeepsParts mid new (pointer_place l c.args.i) (pointer_len l)) c.tree_layout-layout.ensures.value c.put_pointer.ensures.keeps_parts in
     keys_put (g.K.Kind.shape c.args.kind.now) mid new c.args.i c.requires.inside pointers
     (record { low = c.put_keys.ensures.spelt_low; high = c.put_keys.ensures.spelt_high })
 
@@ -42,8 +42,8 @@ returns-clause-put g c =
     let seat = c.args.seat.now in
     let mid = c.put_keys.new.block in
     let new = c.put_pointer.new.block in
-    let layout = c.layout_of-layout.result in
-    let value = c.layout_of-layout.ensures.value in
+    let layout = c.tree_layout-layout.result in
+    let value = c.tree_layout-layout.ensures.value in
     let same = subst (λ (l : Layout). KeepsParts mid new (pointer_place l i) (pointer_len l)) value c.put_pointer.ensures.keeps_parts in
     let written = ap (λ (p : ℕ). block_of_pointer v layout c.owner.result p) c.put_pointer.ensures.put ∙ c.pointer_to.ensures.value in
     let place = subst (λ (l : Layout). block_of_pointer v l s.owner (pointer_at l new i) ≡ seat.place) value

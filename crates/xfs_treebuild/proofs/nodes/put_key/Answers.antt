@@ -11,8 +11,8 @@ returns-in-Some-clause-put g c =
     let kind = law.kind c.args.kind.now in
     let s = g.K.Kind.shape c.args.kind.now in
     let fits : IsTrue (s.fits_key c.in-Some.key) = subst (λ k. IsKey s k) c.in-Some.is c.requires.key in
-    let size : c.layout_of.result.key_len ≡ s.layout.key_len = ap (λ (l : Layout). l.key_len) c.layout_of.ensures.value in
-    let inside : c.args.at + c.layout_of.result.key_len ≤ length c.args.block.now = omega (arith, c.requires.inside, size) in
+    let size : c.tree_layout.result.key_len ≡ s.layout.key_len = ap (λ (l : Layout). l.key_len) c.tree_layout.ensures.value in
+    let inside : c.args.at + c.tree_layout.result.key_len ≤ length c.args.block.now = omega (arith, c.requires.inside, size) in
     let len : length c.put_key.new.bytes ≡ s.layout.key_len = ap length c.put_key.ensures ∙ kind.key_len c.in-Some.key fits in
     let read = ap s.key_of (wrote_part c.args.at c.args.at _ _ c.args.block.now c.put_key.new.bytes _ refl size inside len c.put_key.ensures)
     ∙ kind.key_again c.in-Some.key fits in
@@ -24,8 +24,8 @@ returns-in-Some-clause-spelt g c =
     let kind = law.kind c.args.kind.now in
     let s = g.K.Kind.shape c.args.kind.now in
     let fits : IsTrue (s.fits_key c.in-Some.key) = subst (λ k. IsKey s k) c.in-Some.is c.requires.key in
-    let size : c.layout_of.result.key_len ≡ s.layout.key_len = ap (λ (l : Layout). l.key_len) c.layout_of.ensures.value in
-    let inside : c.args.at + c.layout_of.result.key_len ≤ length c.args.block.now = omega (arith, c.requires.inside, size) in
+    let size : c.tree_layout.result.key_len ≡ s.layout.key_len = ap (λ (l : Layout). l.key_len) c.tree_layout.ensures.value in
+    let inside : c.args.at + c.tree_layout.result.key_len ≤ length c.args.block.now = omega (arith, c.requires.inside, size) in
     let len : length c.put_key.new.bytes ≡ s.layout.key_len = ap length c.put_key.ensures ∙ kind.key_len c.in-Some.key fits in
     spelt_put s _ c.in-Some.key
     (wrote_part c.args.at c.args.at _ _ c.args.block.now c.put_key.new.bytes _ refl size inside len c.put_key.ensures)
@@ -37,8 +37,8 @@ returns-in-Some-clause-keeps g c =
     let kind = law.kind c.args.kind.now in
     let s = g.K.Kind.shape c.args.kind.now in
     let fits : IsTrue (s.fits_key c.in-Some.key) = subst (λ k. IsKey s k) c.in-Some.is c.requires.key in
-    let size : c.layout_of.result.key_len ≡ s.layout.key_len = ap (λ (l : Layout). l.key_len) c.layout_of.ensures.value in
-    let inside : c.args.at + c.layout_of.result.key_len ≤ length c.args.block.now = omega (arith, c.requires.inside, size) in
+    let size : c.tree_layout.result.key_len ≡ s.layout.key_len = ap (λ (l : Layout). l.key_len) c.tree_layout.ensures.value in
+    let inside : c.args.at + c.tree_layout.result.key_len ≤ length c.args.block.now = omega (arith, c.requires.inside, size) in
     let len : length c.put_key.new.bytes ≡ s.layout.key_len = ap length c.put_key.ensures ∙ kind.key_len c.in-Some.key fits in
     wrote_keeps c.args.at c.args.at _ _ c.args.block.now c.put_key.new.bytes refl size inside len
 
@@ -48,7 +48,7 @@ returns-in-Some-clause-keeps_parts g c =
     let kind = law.kind c.args.kind.now in
     let s = g.K.Kind.shape c.args.kind.now in
     let fits : IsTrue (s.fits_key c.in-Some.key) = subst (λ k. IsKey s k) c.in-Some.is c.requires.key in
-    let size : c.layout_of.result.key_len ≡ s.layout.key_len = ap (λ (l : Layout). l.key_len) c.layout_of.ensures.value in
-    let inside : c.args.at + c.layout_of.result.key_len ≤ length c.args.block.now = omega (arith, c.requires.inside, size) in
+    let size : c.tree_layout.result.key_len ≡ s.layout.key_len = ap (λ (l : Layout). l.key_len) c.tree_layout.ensures.value in
+    let inside : c.args.at + c.tree_layout.result.key_len ≤ length c.args.block.now = omega (arith, c.requires.inside, size) in
     let len : length c.put_key.new.bytes ≡ s.layout.key_len = ap length c.put_key.ensures ∙ kind.key_len c.in-Some.key fits in
     wrote_keeps_parts c.args.at c.args.at _ _ c.args.block.now c.put_key.new.bytes refl size inside len

@@ -31,7 +31,7 @@ row_of-requires g c =
     let l = (g.K.Kind.shape c.args.kind.now).layout in
     let n = length c.args.records.now in
     let count = c.blocks_for-count.result in
-    let value = leaves_of l.leaf_cap n count c.layout_of-layout.result l c.blocks_for-count.ensures.value c.layout_of-layout.ensures.value refl in
+    let value = leaves_of l.leaf_cap n count c.tree_layout-layout.result l c.blocks_for-count.ensures.value c.tree_layout-layout.ensures.value refl in
     let total : count + sum (rows_above count l.node_cap count) ≡ length c.args.places.now = levels_begin l.leaf_cap l.node_cap n count value ∙ sym c.requires.size in
     omega (arith, total)
 
@@ -41,7 +41,7 @@ write_leaves-requires-clause-room g c =
     let law = g.met.K.Kind g.world.𝓛 g.world.𝓜 g.world.𝓡 ((λ s x. x), (λ x. x), (λ x. x), λ x. x) in
     let n = length c.args.records.now in
     let count = c.blocks_for-count.result in
-    let value = leaves_of l.leaf_cap n count c.layout_of-layout.result l c.blocks_for-count.ensures.value c.layout_of-layout.ensures.value refl in
+    let value = leaves_of l.leaf_cap n count c.tree_layout-layout.result l c.blocks_for-count.ensures.value c.tree_layout-layout.ensures.value refl in
     let room = blocks_room l.leaf_cap n count value (law.kind c.args.kind.now).laid_out.some_records in
     λ κs lives. subst (λ (m : ℕ). n ≤ m * l.leaf_cap) (sym c.row_of.ensures.len) room
 
@@ -57,7 +57,7 @@ loop-count-init g c =
     let lawful = settled_lawful s v kind c.args.records.now c.requires.lawful in
     let count = c.blocks_for-count.result in
     let same : length xs ≡ length c.args.records.now = length-map c.args.records.now s.settled in
-    let first = leaves_of s.layout.leaf_cap (length c.args.records.now) count c.layout_of-layout.result s.layout c.blocks_for-count.ensures.value c.layout_of-layout.ensures.value refl in
+    let first = leaves_of s.layout.leaf_cap (length c.args.records.now) count c.tree_layout-layout.result s.layout c.blocks_for-count.ensures.value c.tree_layout-layout.ensures.value refl in
     let value : count ≡ blocks_for s.layout.leaf_cap (length xs) = first ∙ ap (blocks_for s.layout.leaf_cap) (sym same) in
     let total : count + sum (rows_above count s.layout.node_cap count) ≡ length places =
     levels_begin s.layout.leaf_cap s.layout.node_cap (length c.args.records.now) count first ∙ sym c.requires.size in
@@ -84,7 +84,7 @@ row_of-row-requires g c =
     let inv = c.loop-count.invariant in
     let above = c.blocks_for-above.result in
     let count = c.loop-count.count in
-    let value = nodes_of l.node_cap count above c.layout_of-layout.result l c.blocks_for-above.ensures.value c.layout_of-layout.ensures.value refl in
+    let value = nodes_of l.node_cap count above c.tree_layout-layout.result l c.blocks_for-above.ensures.value c.tree_layout-layout.ensures.value refl in
     let more : c.loop-count.first + count + blocks_for l.node_cap count + sum (rows_above (blocks_for l.node_cap count) l.node_cap (blocks_for l.node_cap count)) ≡ length c.args.places.now =
     level_more l.node_cap count (c.loop-count.first + count) (length c.args.places.now) (law.kind c.args.kind.now).laid_out.two_children (omega (arith, c.loop-count-test.true)) inv.size in
     omega (arith, more, value)
@@ -99,7 +99,7 @@ write_nodes-requires-clause-room g c =
     let law = g.met.K.Kind g.world.𝓛 g.world.𝓜 g.world.𝓡 ((λ s x. x), (λ x. x), (λ x. x), λ x. x) in
     let l = (g.K.Kind.shape c.args.kind.now).layout in
     let kept = (law.kind c.args.kind.now).laid_out.two_children in
-    let value = nodes_of l.node_cap c.loop-count.count c.blocks_for-above.result c.layout_of-layout.result l c.blocks_for-above.ensures.value c.layout_of-layout.ensures.value refl in
+    let value = nodes_of l.node_cap c.loop-count.count c.blocks_for-above.result c.tree_layout-layout.result l c.blocks_for-above.ensures.value c.tree_layout-layout.ensures.value refl in
     let room = blocks_room l.node_cap c.loop-count.count c.blocks_for-above.result value (omega (arith, kept)) in
     λ κs lives. subst (λ (m : ℕ). length c.row_of-below.result.now ≤ m * l.node_cap) (sym c.row_of-row.ensures.len)
     (subst (λ (n : ℕ). n ≤ c.blocks_for-above.result * l.node_cap) (sym c.row_of-below.ensures.len) room)
@@ -127,8 +127,8 @@ loop-count-preserved g c =
     let lawful = settled_lawful s v kind c.args.records.now c.requires.lawful in
     let two = kind.laid_out.two_children in
     let more : 2 ≤ count = omega (arith, c.loop-count-test.true) in
-    let value = nodes_of s.layout.node_cap count above c.layout_of-layout.result s.layout c.blocks_for-above.ensures.value c.layout_of-layout.ensures.value refl in
-    let half : 2 * above ≤ count + 1 = c.blocks_for-above.ensures.fewer c.layout_of-layout.ensures.sound.two_children more in
+    let value = nodes_of s.layout.node_cap count above c.tree_layout-layout.result s.layout c.blocks_for-above.ensures.value c.tree_layout-layout.ensures.value refl in
+    let half : 2 * above ≤ count + 1 = c.blocks_for-above.ensures.fewer c.tree_layout-layout.ensures.sound.two_children more in
     let some : 1 ≤ above = c.blocks_for-above.ensures.some in
     let enough : above ≤ count = omega (arith, half, more) in
     let room = blocks_room s.layout.node_cap count above value (omega (arith, two)) in

@@ -1,7 +1,7 @@
 use Rattle.std.proofs.Common.{rules, ◌≡◌, sym, subst}
 use Rattle.xfs_tree.specs.Layout.{IsLayout}
 use Rattle.xfs_tree.specs.declared.layout.Layout.{Layout}
-use Rattle.xfs_tree.proofs.kind.layout_of.Goals as goal
+use Rattle.xfs_tree.proofs.kind.tree_layout.Goals as goal
 
 pub returns-clause-sound : goal.returns-clause-sound
 returns-clause-sound g c =
