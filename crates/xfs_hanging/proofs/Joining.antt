@@ -96,7 +96,7 @@ new_free files root s es o os some none =
     any = orphans_before files root s es o os some
 
 -- the three parts: the entries that stay, the orphans, lost+found
-module _ (files : List NodeRec) (entries : List EntryRec) (root new : ℕ) (listed : AreFiles files) (known : AreEntries files entries) (few : length entries < 2 ^ 64) (dir : is_directory_number files root ≡ true) (unused : is_kept_node files new ≡ false) where
+module _ (files : List NodeRec) (entries : List EntryRec) (root new : ℕ) (listed : AreFiles files) (known : AreEntries files entries) (few : length (kept_entries files entries root) < 2 ^ 64) (dir : is_directory_number files root ≡ true) (unused : is_kept_node files new ≡ false) where
   abbrev pub kept : List EntryRec
   kept = kept_entries files entries root
 

@@ -98,8 +98,11 @@ kept_most files entries root = omega (
   filter_most (passes files root) entries,
 )
 
--- the orphans' numbers
-module _ (files : List NodeRec) (entries : List EntryRec) (root : ℕ) (listed : AreFiles files) (few : length entries < 2 ^ 64) where
+pub kept_few : (files : List NodeRec) (entries : List EntryRec) (root : ℕ) → length entries < 2 ^ 64 → length (kept_entries files entries root) < 2 ^ 64
+kept_few files entries root few = omega (arith, kept_most files entries root, few)
+
+-- the orphans' numbers, where few entries stay
+module _ (files : List NodeRec) (entries : List EntryRec) (root : ℕ) (listed : AreFiles files) (few : length (kept_entries files entries root) < 2 ^ 64) where
   abbrev pub lost_numbers : List ℕ
   lost_numbers = orphans files root (attached_directories files entries root) (kept_entries files entries root)
 
@@ -110,21 +113,18 @@ module _ (files : List NodeRec) (entries : List EntryRec) (root : ℕ) (listed :
   numbers_apart : AllPairs (λ (m n : ℕ). m ≢ n) lost_numbers
   numbers_apart = AllPairs-filter (λ (m n : ℕ). m ≢ n) (is_orphan files root (attached_directories files entries root) (kept_entries files entries root)) (map (λ (f : NodeRec). f.ino) files) (numbers_differ 0 files listed.ascend)
 
-  kept_few : length (kept_entries files entries root) < 2 ^ 64
-  kept_few = omega (arith, kept_most files entries root, few)
-
   pub orphans_differ : AllPairs (λ (a b : ℕ × List ℕ). a.1 ≢ b.1) (orphans_of files entries root)
-  orphans_differ = given_differ (kept_entries files entries root) (old_lost files entries root) kept_few lost_numbers numbers_low numbers_apart
+  orphans_differ = given_differ (kept_entries files entries root) (old_lost files entries root) few lost_numbers numbers_low numbers_apart
 
   pub orphans_free : All (λ (o : ℕ × List ℕ). is_taken_name (kept_entries files entries root) (old_lost files entries root) o.1 ≡ false) (orphans_of files entries root)
   orphans_free = All-map (λ (o : ℕ × List ℕ). is_taken_name (kept_entries files entries root) (old_lost files entries root) o.1 ≡ false) (given (kept_entries files entries root) (old_lost files entries root)) lost_numbers
       (All-weaker (λ n. n < 2 ^ 32) (λ n. is_taken_name (kept_entries files entries root) (old_lost files entries root) (given (kept_entries files entries root) (old_lost files entries root) n).1 ≡ false)
-      (λ n h. given_free (kept_entries files entries root) (old_lost files entries root) kept_few n h) lost_numbers numbers_low)
+      (λ n h. given_free (kept_entries files entries root) (old_lost files entries root) few n h) lost_numbers numbers_low)
 
   pub orphans_valid : All (λ (o : ℕ × List ℕ). is_name o.1 ≡ true) (orphans_of files entries root)
   orphans_valid = All-map (λ (o : ℕ × List ℕ). is_name o.1 ≡ true) (given (kept_entries files entries root) (old_lost files entries root)) lost_numbers
       (All-weaker (λ n. n < 2 ^ 32) (λ n. is_name (given (kept_entries files entries root) (old_lost files entries root) n).1 ≡ true)
-      (λ n h. given_valid (kept_entries files entries root) (old_lost files entries root) kept_few n h) lost_numbers numbers_low)
+      (λ n h. given_valid (kept_entries files entries root) (old_lost files entries root) few n h) lost_numbers numbers_low)
 
 -- a directory is a file
 pub directory_kept : (files : List NodeRec) (n : ℕ) → is_directory_number files n ≡ true → is_kept_node files n ≡ true

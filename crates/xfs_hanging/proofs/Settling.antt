@@ -26,7 +26,7 @@ use Rattle.xfs_hanging.proofs.Different.{all_kept}
 use Rattle.xfs_hanging.proofs.Joining.{together_differ}
 use Rattle.xfs_hanging.proofs.Lost.{directory_kept}
 use Rattle.xfs_hanging.proofs.Once.{directory_once, other_named, lost_once}
-use Rattle.xfs_hanging.proofs.Targets.{together_all, together_valid, together_in_use, together_ordinary}
+use Rattle.xfs_hanging.proofs.Targets.{together_all, valid_together, together_in_use, together_ordinary}
 use Rattle.xfs_hanging.proofs.Reaching.{is_way, has_way, any_weaker, one_way, directories_reached, found_reached}
 use Rattle.xfs_hanging.proofs.ByDirectory.{all_by, pairs_by, once_by, way_by, way_dir, reached_through, all_untyped, pairs_untyped, as_many_untyped, way_untyped}
 
@@ -159,7 +159,7 @@ module _
     (dirs : List DirRec)
     (are_files : AreFiles nodes)
     (are_entries : AreEntries nodes listed)
-    (few : length listed < 2 ^ 64)
+    (few : length (kept_entries nodes listed root) < 2 ^ 64)
     (dir : is_directory_number nodes root ≡ true)
     (system : (n : ℕ) → is_directory_number nodes n ≡ true → is_reserved_inode root n ≡ true → n ≡ root)
     (unused : is_kept_node nodes new ≡ false)
@@ -312,7 +312,7 @@ module _
 
     -- the entries
     pub valid_due : All (λ (e : EntryRec). is_name e.name ≡ true) entries
-    valid_due = carry (λ d q n. is_name q ≡ true) (together_valid nodes listed root new are_files few)
+    valid_due = carry (λ d q n. is_name q ≡ true) (valid_together nodes listed root new are_files few)
 
     pub differ_due : AllPairs NamesDiffer entries
     differ_due = pairs_untyped entries group settled.entries_are.same (pairs_by together numbers numbers_once (together_differ nodes listed root new are_files are_entries few dir unused))

@@ -13,7 +13,7 @@ use Rattle.xfs_links.proofs.Holding.{kept_pass}
 use Rattle.xfs_hanging.specs.Together.{lost_directory, orphan_entry, lost_entry, is_new, new_entries, orphans_of, old_lost, adds_lost, entries_together}
 use Rattle.xfs_hanging.proofs.Tests.{clash, both, same_test, first_of_both, second_of_both, or_true}
 use Rattle.xfs_hanging.proofs.Hung.{root_parent}
-use Rattle.xfs_hanging.proofs.Lost.{given, orphans_valid}
+use Rattle.xfs_hanging.proofs.Lost.{given, kept_few, orphans_valid}
 
 lost_is_name : is_name lost_found ≡ true
 unfolding is_name
@@ -39,11 +39,14 @@ pub lost_all : (P : ℕ → Type 0) (files : List NodeRec) (entries : List Entry
     → All (λ (o : ℕ × List ℕ). P o.0) (orphans_of files entries root)
 lost_all P files entries root h = All-map (λ (o : ℕ × List ℕ). P o.0) (given (kept_entries files entries root) (old_lost files entries root)) (orphans files root (attached_directories files entries root) (kept_entries files entries root)) h
 
-pub together_valid : (files : List NodeRec) (entries : List EntryRec) (root new : ℕ) → AreFiles files → length entries < 2 ^ 64 → All (λ (e : EntryRec). is_name e.name ≡ true) (entries_together files entries root new)
-together_valid files entries root new listed few = together_all (λ (e : EntryRec). is_name e.name ≡ true) files entries root new
+pub valid_together : (files : List NodeRec) (entries : List EntryRec) (root new : ℕ) → AreFiles files → length (kept_entries files entries root) < 2 ^ 64 → All (λ (e : EntryRec). is_name e.name ≡ true) (entries_together files entries root new)
+valid_together files entries root new listed few = together_all (λ (e : EntryRec). is_name e.name ≡ true) files entries root new
     (All-weaker (λ (e : EntryRec). passes files root e ≡ true) (λ (e : EntryRec). is_name e.name ≡ true) (λ e h. first_of_both (is_name e.name) (is_kept_node files e.ino && not (is_reserved_inode root e.ino)) h) (kept_entries files entries root) (kept_pass files entries root))
     (orphans_valid files entries root listed few)
     (λ added. lost_is_name)
+
+pub together_valid : (files : List NodeRec) (entries : List EntryRec) (root new : ℕ) → AreFiles files → length entries < 2 ^ 64 → All (λ (e : EntryRec). is_name e.name ≡ true) (entries_together files entries root new)
+together_valid files entries root new listed few = valid_together files entries root new listed (kept_few files entries root few)
 
 pub together_in_use : (files : List NodeRec) (entries : List EntryRec) (root new : ℕ) → All (λ (e : EntryRec). (is_kept_node files e.ino || (adds_lost files entries root && e.ino == new)) ≡ true) (entries_together files entries root new)
 together_in_use files entries root new = together_all (λ (e : EntryRec). (is_kept_node files e.ino || (adds_lost files entries root && e.ino == new)) ≡ true) files entries root new

@@ -21,7 +21,7 @@ use Rattle.xfs_place.specs.Wanted.{inodes_in_group}
 use Rattle.xfs_place.specs.declared.placed.GroupPlaced.{GroupPlaced}
 use Rattle.xfs_place.specs.declared.wanted.GroupInodes.{GroupInodes}
 use Rattle.xfs_protected.proofs.Chunks.{lawful_chunk}
-use Rattle.xfs_space.specs.Owners.{cluster_run, cluster_runs, clusters_of_chunk, run}
+use Rattle.xfs_space.specs.Owners.{cluster_run, cluster_runs, clusters_of_chunk, new_run}
 use Rattle.xfs_volume.specs.declared.groups.GroupRec.{GroupRec}
 use Rattle.xfs_due.specs.Groups.{due_group_at, due_groups}
 use Rattle.xfs_kept.proofs.Images.{image_can}
@@ -56,7 +56,7 @@ second_missing : (mask : ℕ) → is_holemask mask ≡ true → is_missing mask 
 second_missing mask is = by_mask (λ m. is_missing m 32 ≡ (m == 0xff00)) mask is refl refl refl
 
 abbrev at_run : ℕ → Run
-at_run block = run block 4 clusters_owner 0
+at_run block = new_run block 4 clusters_owner 0
 
 halves_same : (base p : ℕ) (a b : Bool)
     → map (cluster_run base) ((if a then [] else (p ∷ [])) ++ (if b then [] else ((p + 4) ∷ []))) ≡ map run_of_cluster ((if a then [] else ((base + p) ∷ [])) ++ (if b then [] else ((base + p + 4) ∷ [])))
@@ -108,22 +108,31 @@ starts_of : (ks : List ℕ) → map (λ (r : Run). r.start) (map run_of_cluster 
 starts_of [] = refl
 starts_of (k ∷ ks) = ap (λ (ns : List ℕ). k ∷ ns) (starts_of ks)
 
+-- so are those of a request whose clusters ascend and are halves of chunks
+pub asked_clusters_are : (g : Geometry) (kept : Salvaged) (reserved : List ℕ) (placed : List GroupPlaced) (agf_crc agi_crc : ℕ → ℕ) → NumbersAscend 0 kept.clusters
+    → AllByRecursion (IsHalf g) kept.clusters
+    → ((ag : ℕ) → ag < g.agcount → are_lawful (ino_shape ag) (volume_of g) None (inodes_in_group (volume_wanted g kept reserved).inodes ag) ≡ true)
+    → clusters_of (volume_of g) (due_groups (volume_of g) (volume_wanted g kept reserved).inodes placed agf_crc agi_crc) ≡ kept.clusters
+unfolding clusters_of
+asked_clusters_are g kept reserved placed agf_crc agi_crc up halves lawful =
+    let v : Volume = volume_of g in
+    let groups : List GroupRec = due_groups v (volume_wanted g kept reserved).inodes placed agf_crc agi_crc in
+    let runs : map run_of_cluster (clusters_from v 0 groups) ≡ map run_of_cluster kept.clusters =
+    sym (groups_same g kept reserved placed agf_crc agi_crc 0 g.agcount (λ ag low high.
+    masks_of v ag None (inodes_in_group (volume_wanted g kept reserved).inodes ag) (lawful ag (omega (arith, high)))))
+    ∙ clusters_are_kept g kept reserved up halves in
+    sym (starts_of (clusters_from v 0 groups)) ∙ (ap (map (λ (r : Run). r.start)) runs ∙ starts_of kept.clusters)
+
 module _ (g : Geometry) (image : Image) (kept : Salvaged) (reserved : List ℕ) (placed : List GroupPlaced) (agf_crc agi_crc : ℕ → ℕ)
     (of : IsKeptOf (volume_of g) (candidates (volume_of g) image) (candidate_files (volume_of g) image) kept) where
   pub clusters_are : clusters_of (volume_of g) (due_groups (volume_of g) (volume_wanted g kept reserved).inodes placed agf_crc agi_crc) ≡ kept.clusters
-  unfolding clusters_of volume_wanted
+  unfolding volume_wanted
   clusters_are =
       let v : Volume = volume_of g in
-      let groups : List GroupRec = due_groups v (volume_wanted g kept reserved).inodes placed agf_crc agi_crc in
       let up : NumbersAscend 0 kept.clusters = subst (NumbersAscend 0) (sym of.clusters') (clusters_of_volume_ascend v (candidates v image) (candidate_files v image)) in
       let halves : AllByRecursion (IsHalf g) kept.clusters = subst (AllByRecursion (IsHalf g)) (sym of.clusters') (kept_halves g image) in
       let write = writable g (candidates v image) (candidate_files v image) kept reserved (image_can g image) of in
-      let runs : map run_of_cluster (clusters_from v 0 groups) ≡ map run_of_cluster kept.clusters =
-      sym (groups_same g kept reserved placed agf_crc agi_crc 0 g.agcount (λ ag low high.
-      let inside : ag < g.agcount = omega (arith, high) in
-      masks_of v ag None (inodes_in_group (volume_wanted g kept reserved).inodes ag) (write.chunks ag inside)))
-      ∙ clusters_are_kept g kept reserved up halves in
-      sym (starts_of (clusters_from v 0 groups)) ∙ (ap (map (λ (r : Run). r.start)) runs ∙ starts_of kept.clusters)
+      asked_clusters_are g kept reserved placed agf_crc agi_crc up halves (λ ag low. write.chunks ag low)
 
   pub inodes_are_kept : inodes_of (volume_of g) (due_groups (volume_of g) (volume_wanted g kept reserved).inodes placed agf_crc agi_crc) ≡ kept_inodes (volume_of g) kept
   unfolding inodes_of kept_inodes
