@@ -67,7 +67,7 @@ slots_up g s on f = slots_in_order g s f.clusters f.files on.kept on.seen f.can 
 
 -- the bytes that are at hand serve what is asked
 pub has_bytes : (g : Geometry) (sector : List ℕ) (s : Stamp) (on : Ground) (b : Bytes) → IsAcceptedSector sector → volume_of g ≡ stated_volume sector
-    → IsFound (volume_of g) on.kept → AreAtHand g sector s on.kept (slots_asked g s on) b → HasBytes (asked g on) b
+    → IsFound (volume_of g) on.kept → AreAtHand g sector s on.kept.clusters (slots_asked g s on) b → HasBytes (asked g on) b
 unfolding volume_wanted
 has_bytes g sector s on b accepted states f hand = record {
   accepted = subst IsAcceptedSector (sym hand.sector') accepted;
@@ -100,7 +100,7 @@ module _ (g : Geometry) (s : Stamp) (on : Ground) (wanted : Wanted) (slots : Lis
   wanted_fits old size is fits =
       subst (λ (n : ℕ). wanted.geometry.dblocks ≤ n) (sym is) (subst (λ (w : Wanted). w.geometry.dblocks ≤ old) (sym same) fits)
 
-  pub wanted_bytes : (sector : List ℕ) (b : Bytes) → IsAcceptedSector sector → volume_of g ≡ stated_volume sector → AreAtHand g sector s on.kept slots b → HasBytes wanted b
+  pub wanted_bytes : (sector : List ℕ) (b : Bytes) → IsAcceptedSector sector → volume_of g ≡ stated_volume sector → AreAtHand g sector s on.kept.clusters slots b → HasBytes wanted b
   wanted_bytes sector b accepted states hand =
       subst (λ (w : Wanted). HasBytes w b) (sym same)
-      (has_bytes g sector s on b accepted states f (subst (λ (ws : List SlotWanted). AreAtHand g sector s on.kept ws b) of hand))
+      (has_bytes g sector s on b accepted states f (subst (λ (ws : List SlotWanted). AreAtHand g sector s on.kept.clusters ws b) of hand))

@@ -1,7 +1,7 @@
 -- What a rebuild is, from its parts; and why none is planned.
-use Rattle.std.proofs.Common.{◌≡◌, ℕ, true, false, List, Option, Some, None, Result, Ok, Err, refl, sym, ap, subst, ◌∙◌}
-use Rattle.std.specs.Prelude.{IfErr, IfOk, IfSome}
-use Rattle.std.specs.Option.{ForSome, is_some}
+use Rattle.std.proofs.Common.{◌≡◌, ℕ, true, false, List, Option, Result, Ok, Err, refl, sym, ap, subst, ◌∙◌}
+use Rattle.std.specs.Prelude.{IfErr, IfOk}
+use Rattle.std.specs.Option.{ForSome}
 use Rattle.xfs_disk.specs.Blocks.{Image}
 use Rattle.xfs_disk.specs.declared.stamp.Stamp.{Stamp}
 use Rattle.xfs_geom.specs.Volumes.{Volume, volume_of}
@@ -18,28 +18,32 @@ use Rattle.xfs_scan.specs.Evidence.{dirs_seen, entries_seen, files_seen}
 use Rattle.xfs_scan.specs.declared.evidence.Evidence.{Evidence}
 use Rattle.xfs_groups.specs.declared.groups.GroupTrees.{GroupTrees}
 use Rattle.xfs_slots.specs.declared.facts.SlotFact.{SlotFact}
-use Rattle.xfs_naming.specs.Naming.{AreNamed}
 use Rattle.xfs_volume.specs.declared.clusters.ClusterRec.{ClusterRec}
 use Rattle.xfs_salvage.specs.Kept.{entries_of_kept, fresh_inodes, kept_clusters, kept_dirs, kept_files}
 use Rattle.xfs_salvage.specs.declared.found.FoundRecords.{FoundRecords}
 use Rattle.xfs_salvage.specs.declared.found.Salvaged.{Salvaged}
+use Rattle.xfs_request.specs.Cycles.{kept_lsns}
 use Rattle.xfs_request.specs.Requests.{cleared_count, kept_count}
 use Rattle.xfs_request.specs.Slots.{wanted_slots}
 use Rattle.xfs_request.specs.declared.seen.SlotSeen.{SlotSeen}
-use Rattle.xfs_rebuild.specs.Bytes.{AreAtHand, AreReadOf}
+use Rattle.xfs_rebuild.specs.Bytes.{AreAtHand, AreReadOf, file_lsns}
 use Rattle.xfs_rebuild.specs.Found.{reserved_of}
 use Rattle.xfs_rebuild.specs.Names.{AreDueNames, due_files, needs_names}
+use Rattle.xfs_rebuild.specs.NamesJudged.{AreNamesJudged}
 use Rattle.xfs_rebuild.specs.Rebuilds.{AreNamesDue, Ground, IsFound, IsGround, IsLeft, IsPlannedFor, IsPlannedOn, IsRebuildOf, IsRenderedLeft, asked, ground, names_change, names_due_of, slots_asked}
 use Rattle.xfs_rebuild.specs.Refusals.{IsPlaceRefused, IsReadRefused, IsRefused, IsRefusedOn}
 use Rattle.xfs_rebuild.specs.Seen.{slots_seen}
 use Rattle.xfs_rebuild.specs.declared.faults.RebuildFault.{RebuildFault}
 use Rattle.xfs_rebuild.specs.declared.faults.RebuildFault.TheVariants as faults
 use Rattle.xfs_rebuild.specs.declared.names.DueNames.{DueNames}
+use Rattle.xfs_rebuild.specs.declared.names.Judged.{Judged}
+use Rattle.xfs_rebuild.specs.declared.names.Judged.TheVariants.{Change, Stay}
 use Rattle.xfs_rebuild.specs.declared.names_due.NamesDue.{NamesDue}
 use Rattle.xfs_rebuild.specs.declared.planning.Rebuilt.{Rebuilt}
 
 pub planned_on : (g : Geometry) (sector : List ℕ) (s : Stamp) (image : Image) (on : Ground) (b : Bytes) (wanted : Wanted) (r : Rebuilt)
-    → needs_names g.rootino on.kept b.slots ≡ false → AreAtHand g sector s on.kept (slots_asked g s on) b → AreReadOf g image on.kept on.seen on.log b
+    → needs_names g.rootino on.kept b.slots ≡ false → AreAtHand g sector s on.kept.clusters (slots_asked g s on) b
+    → AreReadOf image (kept_lsns (volume_of g) on.kept on.seen (file_lsns (volume_of g) image on.kept.files)) on.log b
     → wanted ≡ asked g on → IsPlannedFor wanted b image r → r.kept ≡ kept_count on.kept → r.cleared ≡ cleared_count (slots_asked g s on)
     → IsPlannedOn g sector s image on r
 planned_on g sector s image on b wanted r named hand read same planned many freed = record {
@@ -110,41 +114,52 @@ module _ (g : Geometry) (s : Stamp) (kept : Salvaged) (view seen : List SlotSeen
   pub cleared_of : (count : ℕ) → count ≡ cleared_count (wanted_slots (volume_of g) s kept view) → count ≡ cleared_count (wanted_slots (volume_of g) s kept seen)
   cleared_of count is = subst (λ (known : List SlotSeen). count ≡ cleared_count (wanted_slots (volume_of g) s kept known)) same is
 
-pub none_change : (root : ℕ) (kept : Salvaged) (slots : List SlotWanted) (broken : Option DueNames) → is_some broken ≡ needs_names root kept slots → broken ≡ None
-    → needs_names root kept slots ≡ false
-none_change root kept slots broken needs none = sym needs ∙ ap is_some none
+-- where no name has to change the clusters are the kept ones
+pub none_change : (root : ℕ) (kept : Salvaged) (slots : List SlotWanted) (judged : Judged) (clusters : List ℕ) → AreNamesJudged root kept slots judged → judged ≡ Stay clusters
+    → (needs_names root kept slots ≡ false) × (clusters ≡ kept.clusters)
+none_change root kept slots judged clusters are is = subst (AreNamesJudged root kept slots) is are
+
+-- what is at hand by equal clusters
+pub hand_of : (g : Geometry) (sector : List ℕ) (s : Stamp) (clusters same : List ℕ) (slots : List SlotWanted) (b : Bytes) → clusters ≡ same
+    → AreAtHand g sector s clusters slots b → AreAtHand g sector s same slots b
+hand_of g sector s clusters same slots b is hand = subst (λ (cs : List ℕ). AreAtHand g sector s cs slots b) is hand
 
 -- what is read by equal facts
-pub read_of : (g : Geometry) (kept : Salvaged) (view seen : List SlotSeen) (log : LogState) (held : Option Image) (b : Bytes) → view ≡ seen
-    → ForSome held (λ image. AreReadOf g image kept view log b) → ForSome held (λ image. AreReadOf g image kept seen log b)
-read_of g kept view seen log held b same read = subst (λ (known : List SlotSeen). ForSome held (λ image. AreReadOf g image kept known log b)) same read
+pub read_of : (g : Geometry) (kept : Salvaged) (view seen : List SlotSeen) (log : LogState) (held later : Option Image) (numbers lsns : List ℕ) (b : Bytes)
+    → view ≡ seen → later ≡ held → lsns ≡ numbers
+    → ForSome held (λ image. numbers ≡ kept_lsns (volume_of g) kept view (file_lsns (volume_of g) image kept.files))
+    → ForSome later (λ image. AreReadOf image lsns log b)
+    → ForSome held (λ image. AreReadOf image (kept_lsns (volume_of g) kept seen (file_lsns (volume_of g) image kept.files)) log b)
+read_of g kept view seen log held later numbers lsns b same as_before are stay read = λ image told.
+    subst (λ (known : List SlotSeen). AreReadOf image (kept_lsns (volume_of g) kept known (file_lsns (volume_of g) image kept.files)) log b) same
+    (subst (λ (ns : List ℕ). AreReadOf image ns log b) (are ∙ stay image told) (read image (as_before ∙ told)))
 
 -- what is planned for what was asked is so by what it goes by
 pub all_planned : (g : Geometry) (sector : List ℕ) (s : Stamp) (on : Ground) (b : Bytes) (wanted : Wanted) (slots view : List SlotWanted) (count cleared : ℕ)
     (held later : Option Image) (result : Result Rebuilt RebuildFault)
     → wanted ≡ asked g on → slots ≡ slots_asked g s on → count ≡ kept_count on.kept → cleared ≡ cleared_count (slots_asked g s on)
-    → AreAtHand g sector s on.kept slots b → ForSome held (λ image. AreReadOf g image on.kept on.seen on.log b) → view ≡ b.slots
+    → AreAtHand g sector s on.kept.clusters slots b
+    → ForSome held (λ image. AreReadOf image (kept_lsns (volume_of g) on.kept on.seen (file_lsns (volume_of g) image on.kept.files)) on.log b) → view ≡ slots
     → needs_names g.rootino on.kept view ≡ false → later ≡ held → IfOk result (λ r. ForSome later (λ image. IsPlannedFor wanted b image r))
     → IfOk result (λ (r : Rebuilt). r.kept ≡ count) → IfOk result (λ (r : Rebuilt). r.cleared ≡ cleared)
     → IfOk result (λ r. ForSome held (λ image. IsPlannedOn g sector s image on r))
 all_planned g sector s on b wanted slots view count cleared held later (Ok r) same of many freed hand read seen named as_before planned kept' cleared' = λ image told.
     planned_on g sector s image on b wanted r
-    (subst (λ (ws : List SlotWanted). needs_names g.rootino on.kept ws ≡ false) seen named)
-    (subst (λ (ws : List SlotWanted). AreAtHand g sector s on.kept ws b) of hand)
+    (subst (λ (ws : List SlotWanted). needs_names g.rootino on.kept ws ≡ false) (seen ∙ sym hand.slots') named)
+    (subst (λ (ws : List SlotWanted). AreAtHand g sector s on.kept.clusters ws b) of hand)
     (read image told) same (planned image (as_before ∙ told)) (kept' ∙ many) (cleared' ∙ freed)
 all_planned g sector s on b wanted slots view count cleared held later (Err fault) same of many freed hand read seen named as_before planned kept' cleared' = planned
 
 -- a name has to change where a law of names is broken by what there is to be named, and this is then known of the volume
-pub names_refused : (g : Geometry) (s : Stamp) (on : Ground) (wanted : Wanted) (slots requested view : List SlotWanted) (broken : Option DueNames) (names : DueNames) (due : NamesDue)
-    → wanted ≡ asked g on → slots ≡ requested → requested ≡ slots_asked g s on → view ≡ slots → is_some broken ≡ needs_names g.rootino on.kept view → broken ≡ Some names
-    → IfSome broken (AreDueNames g.rootino on.kept view) → IfSome broken (λ (n : DueNames). AreNamed n.files n.entries n.dirs)
+pub names_refused : (g : Geometry) (s : Stamp) (on : Ground) (wanted : Wanted) (slots view : List SlotWanted) (judged : Judged) (names : DueNames) (due : NamesDue)
+    → wanted ≡ asked g on → slots ≡ slots_asked g s on → view ≡ slots → AreNamesJudged g.rootino on.kept view judged → judged ≡ Change names
     → due ≡ names_due_of wanted slots names on.seen on.log → (names_change g s on ≡ true) × AreNamesDue g s on due
-names_refused g s on wanted slots requested view broken names due same mine asked_for seen needs is are named made =
-    let of : slots ≡ slots_asked g s on = mine ∙ asked_for in
+names_refused g s on wanted slots view judged names due same of seen are is made =
     let all : view ≡ slots_asked g s on = seen ∙ of in
-    let own : AreDueNames g.rootino on.kept view names = subst (λ (b : Option DueNames). IfSome b (AreDueNames g.rootino on.kept view)) is are in
+    let known : AreNamesJudged g.rootino on.kept view (Change names) = subst (AreNamesJudged g.rootino on.kept view) is are in
+    let own : AreDueNames g.rootino on.kept view names = known.1 in
     let files : names.files ≡ due_files g.rootino on.kept (slots_asked g s on) = own.files' ∙ ap (due_files g.rootino on.kept) all in (
-      ap (needs_names g.rootino on.kept) (sym all) ∙ sym needs ∙ ap is_some is,
+      ap (needs_names g.rootino on.kept) (sym all) ∙ known.0,
       subst (AreNamesDue g s on) (sym made) (record {
         wanted' = same;
         slots' = of;
@@ -155,7 +170,7 @@ names_refused g s on wanted slots requested view broken names due same mine aske
         fresh' = own.fresh';
         seen' = refl;
         log' = refl;
-        named = subst (λ (b : Option DueNames). IfSome b (λ (n : DueNames). AreNamed n.files n.entries n.dirs)) is named;
+        named = known.2;
       }),
     )
 

@@ -12,9 +12,7 @@ use Rattle.xfs_volume.specs.declared.catalogs.BlockLsn.{BlockLsn}
 use Rattle.xfs_volume.specs.declared.files.FileRec.{FileRec}
 use Rattle.xfs_render.specs.declared.bytes.Bytes.{Bytes}
 use Rattle.xfs_render.specs.declared.wanted_slots.SlotWanted.{SlotWanted}
-use Rattle.xfs_salvage.specs.declared.found.Salvaged.{Salvaged}
-use Rattle.xfs_request.specs.Cycles.{due_cycle, kept_lsns}
-use Rattle.xfs_request.specs.declared.seen.SlotSeen.{SlotSeen}
+use Rattle.xfs_request.specs.Cycles.{due_cycle}
 use Rattle.xfs_rebuild.specs.Changes.{CanChangeAll}
 use Rattle.xfs_rebuild.specs.Places.{old_places}
 
@@ -30,9 +28,9 @@ file_lsns v image files = numbers_in (lsns_read v image [] files)
 
 -- what was at hand, whatever the disk tells: the superblock, the places with so many blocks, and what is wanted of slots, which can be
 -- made of these; no objects are built
-pub record AreAtHand (g : Geometry) (sector : List ℕ) (s : Stamp) (kept : Salvaged) (slots : List SlotWanted) (b : Bytes) : Type 0 where
+pub record AreAtHand (g : Geometry) (sector : List ℕ) (s : Stamp) (clusters : List ℕ) (slots : List SlotWanted) (b : Bytes) : Type 0 where
   pub sector' : b.sector ≡ sector
-  pub places' : b.places ≡ old_places (volume_of g) kept.clusters
+  pub places' : b.places ≡ old_places (volume_of g) clusters slots
   pub objects' : b.objects ≡ []
   pub slots' : b.slots ≡ slots
   pub stamp' : b.stamp ≡ s
@@ -41,10 +39,10 @@ pub record AreAtHand (g : Geometry) (sector : List ℕ) (s : Stamp) (kept : Salv
   pub can : CanChangeAll (volume_of g) b.slots b.places b.old
   pub few : MatchOption b.cycle (Unit {0}) (λ cycle. (1 ≤ cycle) × (cycle < 2 ^ 31))
 
--- what was read: what the image has at the places, and by the numbers in the blocks of files the cycle of a blank log
-pub record AreReadOf (g : Geometry) (image : Image) (kept : Salvaged) (seen : List SlotSeen) (log : LogState) (b : Bytes) : Type 0 where
-  pub old' : b.old ≡ blocks_at image (old_places (volume_of g) kept.clusters)
-  pub cycle' : b.cycle ≡ due_cycle log (kept_lsns (volume_of g) kept seen (file_lsns (volume_of g) image kept.files))
+-- what was read: what the image has at the places; and by the numbers that stay the cycle of a blank log
+pub record AreReadOf (image : Image) (lsns : List ℕ) (log : LogState) (b : Bytes) : Type 0 where
+  pub old' : b.old ≡ blocks_at image b.places
+  pub cycle' : b.cycle ≡ due_cycle log lsns
 
 -- the bytes from their parts
 abbrev pub joined_bytes : List ℕ → List ℕ → Image → Image → List SlotWanted → Option ℕ → Stamp → Bytes

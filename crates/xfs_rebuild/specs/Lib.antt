@@ -1,6 +1,7 @@
 pub mod Seen
 pub mod Found
 pub mod Names
+pub mod NamesJudged
 pub mod Places
 pub mod Changes
 pub mod Differing

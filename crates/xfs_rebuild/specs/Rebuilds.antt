@@ -21,11 +21,12 @@ use Rattle.xfs_render.specs.declared.bytes.Bytes.{Bytes}
 use Rattle.xfs_render.specs.declared.plan.Plan.{Plan}
 use Rattle.xfs_render.specs.declared.wanted_slots.SlotWanted.{SlotWanted}
 use Rattle.xfs_writing.specs.declared.rows.Row.{Row}
+use Rattle.xfs_request.specs.Cycles.{kept_lsns}
 use Rattle.xfs_request.specs.Requests.{cleared_count, kept_count, volume_wanted}
 use Rattle.xfs_request.specs.Slots.{wanted_slots}
 use Rattle.xfs_request.specs.declared.seen.SlotSeen.{SlotSeen}
 use Rattle.xfs_requested.specs.Handed.{IsKeptOf}
-use Rattle.xfs_rebuild.specs.Bytes.{AreAtHand, AreReadOf}
+use Rattle.xfs_rebuild.specs.Bytes.{AreAtHand, AreReadOf, file_lsns}
 use Rattle.xfs_rebuild.specs.Differing.{left_to_write}
 use Rattle.xfs_rebuild.specs.Found.{IsKept, reserved_of, seen_in_evidence}
 use Rattle.xfs_rebuild.specs.Names.{due_dirs, due_files, needs_names}
@@ -54,11 +55,11 @@ slots_asked g s b = wanted_slots (volume_of g) s b.kept b.seen
 abbrev pub names_change : Geometry → Stamp → Ground → Bool
 names_change g s b = needs_names g.rootino b.kept (slots_asked g s b)
 
--- the blocks of the plan are made of the superblock, of what the image has at the first block of each group and in the kept clusters,
--- and of what is wanted of slots
+-- the blocks of the plan are made of the superblock, of what the image has at the first block of each group and in the blocks of the
+-- kept clusters of which a slot is to change, and of what is wanted of slots
 pub record AreBytesOf (g : Geometry) (sector : List ℕ) (s : Stamp) (image : Image) (on : Ground) (b : Bytes) : Type 0 where
-  pub at_hand : AreAtHand g sector s on.kept (slots_asked g s on) b
-  pub read : AreReadOf g image on.kept on.seen on.log b
+  pub at_hand : AreAtHand g sector s on.kept.clusters (slots_asked g s on) b
+  pub read : AreReadOf image (kept_lsns (volume_of g) on.kept on.seen (file_lsns (volume_of g) image on.kept.files)) on.log b
 
 -- the blocks of a plan that the image does not hold already, in the two lists of the plan
 pub record IsLeft (image : Image) (plan : Plan) (r : Rebuilt) : Type 0 where

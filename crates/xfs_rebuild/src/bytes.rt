@@ -10,6 +10,7 @@ ghost use Rattle.xfs_geom.specs.Volumes.{volume_of};
 ghost use Rattle.xfs_naming.specs.Naming.{NumbersAscend};
 ghost use Rattle.xfs_volume.specs.declared.files.FileRec.{FileRec};
 ghost use Rattle.xfs_render.specs.declared.wanted_slots.SlotWanted.{SlotWanted};
+ghost use Rattle.xfs_request.specs.Cycles.{kept_lsns};
 ghost use Rattle.xfs_rebuild.specs.Bytes.{AreAtHand, AreReadOf, file_lsns, joined_bytes, numbers_in};
 ghost use Rattle.xfs_rebuild.specs.Refusals.{HasRebuildCause, IsReadRefused};
 
@@ -24,7 +25,7 @@ use xfs_geom::{Elected, Geometry};
 use xfs_heads::LogState;
 use xfs_journal::{JournalFault, read_lsns};
 use xfs_render::{Bytes, SlotWanted};
-use xfs_request::{SlotSeen, due_cycle};
+use xfs_request::{SlotSeen, due_cycle, kept_lsns};
 use xfs_runs::Steps;
 use xfs_salvage::Salvaged;
 use xfs_volume::{BlockLsn, FileRec, Records};
@@ -32,43 +33,66 @@ use xfs_volume::{BlockLsn, FileRec, Records};
 /// The bytes of a superblock.
 const SECTOR_SIZE: usize = 512;
 
-/// What the blocks are made of: what the disk has at the first block of each group and in the kept clusters, and what is wanted of
-/// slots. The blocks of files that state log sequence numbers are read, for the cycle of a blank log.
+/// The log sequence numbers that stay beside what is kept: those of slots, and those in the blocks of the kept files, which are
+/// read. `seen` is what is known of the slots of the candidate clusters.
+///
+/// `ReadFault` only where a read failed; `NoMemory` where memory is wanting, or where what is read cannot be that of any image.
+pub fn kept_numbers<D: Disk, L: Ledger>(
+    alloc: Global,
+    g: &Geometry,
+    disk: &mut D,
+    kept: &Salvaged,
+    seen: &[SlotSeen],
+    steps: &mut Steps<L>,
+) -> Result<Vec<u64>, RebuildFault>
+    requires files { IsNonDecreasingBy (λ (f : FileRec). f.ino) kept.now.files }
+    requires clusters { NumbersAscend 0 kept.now.clusters }
+    ensures numbers { IfOk result (λ numbers. ForSome (D.holds disk.old) (λ image.
+        numbers.items ≡ kept_lsns (volume_of g.now) kept.now seen.now (file_lsns (volume_of g.now) image kept.now.files))) }
+    ensures refused { IfErr result IsReadRefused }
+    ensures cause { HasRebuildCause (D.faults disk.old) (D.faults disk.new) result }
+    ensures disk { OnlyReads D.size D.holds D.write_faults D.writes D.tells_stops D.moment D.may_leave D.left_since disk.old disk.new }
+{
+    let lsns = match file_lsns(alloc, g, disk, kept.files.as_slice(), steps) {
+        Ok(lsns) => lsns,
+        Err(fault) => return Err(fault),
+    };
+    match kept_lsns(alloc, g, kept, seen, lsns.as_slice()) {
+        Ok(numbers) => Ok(numbers),
+        Err(NoMemory) => Err(RebuildFault::NoMemory),
+    }
+}
+
+/// What the blocks are made of: what the disk has at the first block of each group and in the blocks of the kept clusters of which
+/// some slot is to change, and what is wanted of slots. `lsns` are the log sequence numbers that stay, for the cycle of a blank log.
 ///
 /// `ReadFault` only where a read failed; `NoMemory` where memory is wanting, where a slot that stays is not sealed, or where the
 /// cycle is none that a log can have, as never of an image whose evidence this is.
-pub fn bytes_of<D: Disk, L: Ledger>(
+pub fn gather_bytes<D: Disk>(
     alloc: Global,
     disk: &mut D,
     chosen: &Elected,
-    kept: &Salvaged,
-    seen: &[SlotSeen],
+    clusters: &[u64],
     slots: Records<SlotWanted>,
+    lsns: &[u64],
     log: &LogState,
     stamp: &Stamp,
-    steps: &mut Steps<L>,
 ) -> Result<Bytes, RebuildFault>
     requires inside { chosen.now.geometry.dblocks ≤ D.size disk.old }
-    requires files { IsNonDecreasingBy (λ (f : FileRec). f.ino) kept.now.files }
-    requires clusters { NumbersAscend 0 kept.now.clusters }
-    requires lie { All (λ cluster. cluster + 4 ≤ chosen.now.geometry.dblocks) kept.now.clusters }
+    requires lie { All (λ cluster. cluster + 4 ≤ chosen.now.geometry.dblocks) clusters.now }
     requires order { IsNonDecreasingBy (λ (w : SlotWanted). w.ino) slots }
-    ensures at_hand { IfOk result (AreAtHand chosen.now.geometry chosen.now.sector stamp.now kept.now slots) }
-    ensures read { IfOk result (λ b. ForSome (D.holds disk.old) (λ image. AreReadOf chosen.now.geometry image kept.now seen.now log.now b)) }
+    ensures at_hand { IfOk result (AreAtHand chosen.now.geometry chosen.now.sector stamp.now clusters.now slots) }
+    ensures read { IfOk result (λ b. ForSome (D.holds disk.old) (λ image. AreReadOf image lsns.now log.now b)) }
     ensures refused { IfErr result IsReadRefused }
     ensures cause { HasRebuildCause (D.faults disk.old) (D.faults disk.new) result }
     ensures disk { OnlyReads D.size D.holds D.write_faults D.writes D.tells_stops D.moment D.may_leave D.left_since disk.old disk.new }
 {
     let g = &chosen.geometry;
-    let numbers = match file_lsns(alloc, g, disk, kept.files.as_slice(), steps) {
-        Ok(numbers) => numbers,
-        Err(fault) => return Err(fault),
-    };
-    let cycle = match due_cycle(alloc, g, kept, seen, numbers.as_slice(), log) {
+    let cycle = match due_cycle(lsns, log) {
         Ok(cycle) => cycle,
         Err(NoMemory) => return Err(RebuildFault::NoMemory),
     };
-    let places = match old_places(alloc, g, kept.clusters.as_slice()) {
+    let places = match old_places(alloc, g, clusters, slots.as_slice()) {
         Ok(places) => places,
         Err(NoMemory) => return Err(RebuildFault::NoMemory),
     };

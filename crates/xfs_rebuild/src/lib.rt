@@ -28,7 +28,7 @@ mod planning;
 mod rendering;
 mod seen;
 
-pub use bytes::bytes_of;
+pub use bytes::{gather_bytes, kept_numbers};
 pub use faults::RebuildFault;
 pub use laws::{images_can_be_rebuilt, known_names_are_in_order};
 pub use names_due::NamesDue;

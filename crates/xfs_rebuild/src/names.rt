@@ -1,12 +1,14 @@
 //! Whether names would have to change.
 
-ghost use Rattle.std.specs.Prelude.{◌≡◌, ℕ, ◌<◌, ◌^◌, if◌then◌else◌, Some, None, length, map, IfOk, IfSome};
+ghost use Rattle.std.specs.Prelude.{◌≡◌, ℕ, ◌<◌, ◌^◌, if◌then◌else◌, length, map, IfOk};
 ghost use Rattle.std.specs.Option.{is_some};
 ghost use Rattle.xfs_naming.specs.Naming.{AreNamed, naming_laws};
 ghost use Rattle.xfs_volume.specs.Laws.{first_broken};
 ghost use Rattle.xfs_volume.specs.declared.files.FileRec.{FileRec};
 ghost use Rattle.xfs_request.specs.Slots.{links_due};
-ghost use Rattle.xfs_rebuild.specs.Names.{AreDueNames, made_files, needs_names, with_made_files, with_nlink};
+ghost use Rattle.xfs_rebuild.specs.Names.{AreDueNames, made_files, with_made_files, with_nlink};
+ghost use Rattle.xfs_rebuild.specs.NamesJudged.{AreNamesJudged};
+ghost use Rattle.xfs_rebuild.specs.declared.names.Judged.TheVariants.{Change, Stay};
 
 use crate::due_files::{add_made, all_due, dirs_with, set_links};
 use std::alloc::Global;
@@ -29,20 +31,27 @@ pub(crate) struct DueNames {
     pub fresh: Records<u64>,
 }
 
-/// What there is to be named, where that breaks a law of names, whatever numbers of links are set; else nothing.
+/// Whether names have to change.
+#[derive(Drop)]
+pub(crate) enum Judged {
+    /// They stay; these are the kept clusters.
+    Stay(Records<u64>),
+    /// They have to change; this is what there is to be named.
+    Change(DueNames),
+}
+
+/// Whether what there is to be named breaks a law of names, whatever numbers of links are set.
 ///
 /// `NoMemory` where memory is wanting, or where files, entries and directories are not in the order of those of an image.
 #[tactic(auto, unfolding(crate::specs::Names::needs_names))]
-pub(crate) fn broken_names(
+pub(crate) fn judge_names(
     alloc: Global,
     root: u64,
     kept: Salvaged,
     slots: &[SlotWanted],
-) -> Result<Option<DueNames>, NoMemory>
+) -> Result<Judged, NoMemory>
     requires low { root < 2 ^ 32 }
-    ensures needs { IfOk result (λ broken. is_some broken ≡ needs_names root kept slots.now) }
-    ensures names { IfOk result (λ broken. IfSome broken (AreDueNames root kept slots.now)) }
-    ensures named { IfOk result (λ broken. IfSome broken (λ names. AreNamed names.files names.entries names.dirs)) }
+    ensures { IfOk result (AreNamesJudged root kept slots.now) }
 {
     let names = due_names(alloc, root, kept, slots)?;
     let breaks = breaks_names(
@@ -52,14 +61,18 @@ pub(crate) fn broken_names(
         names.entries.as_slice(),
         names.dirs.as_slice(),
     )?;
-    Ok(names_if(breaks, names))
+    Ok(names_or_clusters(breaks, names))
 }
 
-/// The names, where it is so.
-fn names_if(breaks: bool, names: DueNames) -> Option<DueNames>
-    ensures { result ≡ (if breaks then Some names else None) }
+/// The names where they have to change, else the clusters.
+fn names_or_clusters(breaks: bool, names: DueNames) -> Judged
+    ensures { result ≡ (if breaks then Change names else Stay names.clusters) }
 {
-    if breaks { Some(names) } else { None }
+    if breaks {
+        return Judged::Change(names);
+    }
+    let DueNames { clusters, .. } = names;
+    Judged::Stay(clusters)
 }
 
 /// What there is to be named.

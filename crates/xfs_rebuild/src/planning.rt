@@ -8,10 +8,10 @@ ghost use Rattle.xfs_geom.specs.Writing.{IsAcceptedSector};
 ghost use Rattle.xfs_rebuild.specs.Rebuilds.{CanBeWritten, IsFound, IsPlannedOn, IsRebuildOf, ground, names_due_of};
 ghost use Rattle.xfs_rebuild.specs.Refusals.{HasRebuildCause, IsRefused, IsRefusedOn};
 
-use crate::bytes::bytes_of;
+use crate::bytes::{gather_bytes, kept_numbers};
 use crate::faults::RebuildFault;
 use crate::found::{found_of, reserved_of};
-use crate::names::{DueNames, broken_names};
+use crate::names::{DueNames, Judged, judge_names};
 use crate::names_due::NamesDue;
 use crate::rendering::plan_wanted;
 use crate::seen::slots_seen;
@@ -23,7 +23,7 @@ use xfs_disk::{Disk, Gate, NoMemory, Stamp};
 use xfs_geom::Elected;
 use xfs_heads::LogState;
 use xfs_place::Wanted;
-use xfs_render::Bytes;
+use xfs_render::SlotWanted;
 use xfs_request::{Request, SlotSeen, ask};
 use xfs_runs::Steps;
 use xfs_salvage::{Salvaged, salvage};
@@ -47,8 +47,8 @@ pub struct Rebuilt {
 }
 
 /// The blocks that are to be written of a volume that is rebuilt round what is kept of its evidence. The disk is only read: the
-/// blocks of the kept files that state log sequence numbers, the first block of each group and those of the kept clusters, and then
-/// each planned block, to see whether it differs.
+/// blocks of the kept files that state log sequence numbers, the first block of each group and those of the kept clusters of which a
+/// slot is to change, and then each planned block, to see whether it differs.
 ///
 /// `Names` where a name or a directory would have to change; else `NoRoom` of the first group whose trees find none;
 /// `ReadFault` only where a read failed; `NoMemory` where memory is wanting, or where the evidence or what is then read of the
@@ -149,41 +149,43 @@ fn plan_kept<R: Threads + Sync, D: Disk, G: Gate, L: Ledger>(
         Ok(request) => request,
         Err(NoMemory) => return Err(RebuildFault::NoMemory),
     };
-    let bytes = match bytes_of(
+    let numbers = match kept_numbers(alloc, g, disk, &kept, seen.as_slice(), steps) {
+        Ok(numbers) => numbers,
+        Err(fault) => return Err(fault),
+    };
+    let clusters = match judge_names(alloc, g.rootino, kept, slots.as_slice()) {
+        Ok(Judged::Stay(clusters)) => clusters,
+        Ok(Judged::Change(names)) => {
+            return Err(RebuildFault::Names(names_due(wanted, slots, names, seen, log)));
+        }
+        Err(NoMemory) => return Err(RebuildFault::NoMemory),
+    };
+    let bytes = match gather_bytes(
         alloc,
         disk,
         chosen,
-        &kept,
-        seen.as_slice(),
+        clusters.as_slice(),
         slots,
+        numbers.as_slice(),
         log,
         stamp,
-        steps,
     ) {
         Ok(bytes) => bytes,
         Err(fault) => return Err(fault),
     };
-    match broken_names(alloc, g.rootino, kept, bytes.slots.as_slice()) {
-        Ok(None) => {}
-        Ok(Some(names)) => {
-            return Err(RebuildFault::Names(names_due(wanted, bytes, names, seen, log)));
-        }
-        Err(NoMemory) => return Err(RebuildFault::NoMemory),
-    }
     plan_wanted(rt, alloc, disk, &wanted, &bytes, count, cleared, gate)
 }
 
 /// What is known of a volume in which a name has to change, from its parts.
 fn names_due(
     wanted: Wanted,
-    bytes: Bytes,
+    slots: Records<SlotWanted>,
     names: DueNames,
     seen: Records<SlotSeen>,
     log: &LogState,
 ) -> NamesDue
-    ensures { result ≡ names_due_of wanted bytes.slots names seen log.now }
+    ensures { result ≡ names_due_of wanted slots names seen log.now }
 {
-    let Bytes { slots, .. } = bytes;
     let DueNames {
         files,
         entries,

@@ -39,7 +39,7 @@ use Rattle.xfs_rebuild.specs.declared.planning.Rebuilt.{Rebuilt}
 use Rattle.xfs_rename.specs.Forks.{forks_of}
 use Rattle.xfs_rename.specs.Lost.{lost_due}
 use Rattle.xfs_rename.specs.Objects.{blocks_of_built, objects_of, wanted_with}
-use Rattle.xfs_rename.specs.Renames.{IsRenamed, IsRenameRefused, IsSettling, old_files, placed_forks, renamed_slots, renamed_wanted}
+use Rattle.xfs_rename.specs.Renames.{IsRenamed, IsRenameRefused, IsSettling, lsns_due, old_files, placed_forks, renamed_slots, renamed_wanted}
 use Rattle.xfs_rename.specs.Settled.{fork_rooms, settled}
 use Rattle.xfs_rename.specs.Slots.{changes_of, cleared_beside, with_changes}
 use Rattle.xfs_rename.specs.declared.lost.Lost.{Lost}
@@ -114,7 +114,7 @@ module _ (g : Geometry) (s : Stamp) (n : NamesDue) (has : HasNamesDue g s n) (t 
 
   -- the bytes that are at hand serve what is asked
   asked_bytes : (sector : List ℕ) (kept : Salvaged) (slots : List SlotWanted) (p : Placed) (b : Bytes) → slots ≡ slots_due p → IsNonDecreasingBy (λ (w : SlotWanted). w.ino) slots
-      → IsAcceptedSector sector → volume_of g ≡ stated_volume sector → AreAtHand g sector s kept slots b → HasBytes asked_of (record b { objects = blocks_of_built t.built })
+      → IsAcceptedSector sector → volume_of g ≡ stated_volume sector → AreAtHand g sector s kept.clusters slots b → HasBytes asked_of (record b { objects = blocks_of_built t.built })
   unfolding wanted_with
   asked_bytes sector kept slots p b of order accepted states hand = record {
     accepted = subst IsAcceptedSector (sym hand.sector') accepted;
@@ -131,7 +131,7 @@ module _ (g : Geometry) (s : Stamp) (n : NamesDue) (has : HasNamesDue g s n) (t 
   }
 
   pub agreed_bytes : (sector : List ℕ) (wanted : Wanted) (kept : Salvaged) (slots : List SlotWanted) (p : Placed) (b whole : Bytes) → wanted ≡ asked_of → slots ≡ slots_due p
-      → IsNonDecreasingBy (λ (w : SlotWanted). w.ino) slots → IsAcceptedSector sector → volume_of g ≡ stated_volume sector → AreAtHand g sector s kept slots b
+      → IsNonDecreasingBy (λ (w : SlotWanted). w.ino) slots → IsAcceptedSector sector → volume_of g ≡ stated_volume sector → AreAtHand g sector s kept.clusters slots b
       → whole ≡ record b { objects = blocks_of_built t.built } → HasBytes wanted whole
   agreed_bytes sector wanted kept slots p b whole same of order accepted states hand joined =
       subst (λ (w : Wanted). HasBytes w whole) (sym same)
@@ -143,7 +143,7 @@ module _ (g : Geometry) (s : Stamp) (n : NamesDue) (has : HasNamesDue g s n) (t 
 
   module _ (sector : List ℕ) (wanted : Wanted) (kept : Salvaged) (slots : List SlotWanted) (seen : List SlotSeen) (log : LogState) (p : Placed) (b whole : Bytes)
       (same : wanted ≡ asked_of) (all : kept ≡ settled n t.lost t.names) (of : slots ≡ slots_due p) (known : seen ≡ n.seen) (state : log ≡ n.log)
-      (hand : AreAtHand g sector s kept slots b) (joined : whole ≡ record b { objects = blocks_of_built t.built }) (stands : StandsFor wanted p)
+      (hand : AreAtHand g sector s kept.clusters slots b) (joined : whole ≡ record b { objects = blocks_of_built t.built }) (stands : StandsFor wanted p)
       (served : ServeAsks (asks_of wanted.objects) p.cuts p.runs) where
     wanted_is : wanted ≡ renamed_wanted g n t.names t.built
     wanted_is = same ∙ asked_is
@@ -154,7 +154,7 @@ module _ (g : Geometry) (s : Stamp) (n : NamesDue) (has : HasNamesDue g s n) (t 
     slots_are : slots ≡ renamed_slots g s n t.names (placed_forks g n t.names t.built p)
     slots_are = of ∙ ap (λ (l : Lost). with_changes (changes_of (volume_of g) s l (old_files n t.names) (placed_forks g n t.names t.built p) t.names.links) n.slots) is.lost'
 
-    renamed_is : (image : Image) (r : Rebuilt) → AreReadOf g image kept seen log b → IsRenderedLeft wanted p whole image r → r.kept ≡ length t.names.links
+    renamed_is : (image : Image) (r : Rebuilt) → AreReadOf image (lsns_due g image kept seen) log b → IsRenderedLeft wanted p whole image r → r.kept ≡ length t.names.links
         → r.cleared ≡ cleared_beside t.lost n.slots → IsRenamed g sector s image n (record { rebuilt = r; orphans = t.orphans })
     renamed_is image r read left many freed = record {
       found = is.found;
@@ -169,10 +169,10 @@ module _ (g : Geometry) (s : Stamp) (n : NamesDue) (has : HasNamesDue g s n) (t 
       bytes = whole;
       made = record {
         read = b;
-        at_hand = subst (λ (ws : List SlotWanted). AreAtHand g sector s (settled n (lost_due g n) t.names) ws b) slots_are
-            (subst (λ (k : Salvaged). AreAtHand g sector s k slots b) kept_is hand);
-        reads = subst (λ (k : Salvaged). AreReadOf g image k n.seen n.log b) kept_is
-            (subst (λ (x : List SlotSeen). AreReadOf g image kept x n.log b) known (subst (λ (x : LogState). AreReadOf g image kept seen x b) state read));
+        at_hand = subst (λ (ws : List SlotWanted). AreAtHand g sector s (settled n (lost_due g n) t.names).clusters ws b) slots_are
+            (subst (λ (k : Salvaged). AreAtHand g sector s k.clusters slots b) kept_is hand);
+        reads = subst (λ (k : Salvaged). AreReadOf image (lsns_due g image k n.seen) n.log b) kept_is
+            (subst (λ (x : List SlotSeen). AreReadOf image (lsns_due g image kept x) n.log b) known (subst (λ (x : LogState). AreReadOf image (lsns_due g image kept seen) x b) state read));
         with_objects = joined;
       };
       left = subst (λ (w : Wanted). IsRenderedLeft w p whole image r) wanted_is left;
@@ -182,7 +182,7 @@ module _ (g : Geometry) (s : Stamp) (n : NamesDue) (has : HasNamesDue g s n) (t 
     }
 
     pub all_renamed : (count cleared : ℕ) (held later : Option Image) (result : Result Rebuilt RebuildFault) → count ≡ length t.names.links → cleared ≡ cleared_beside t.lost n.slots
-        → ForSome held (λ image. AreReadOf g image kept seen log b) → later ≡ held → IfOk result (λ r. ForSome later (λ image. IsRenderedLeft wanted p whole image r))
+        → ForSome held (λ image. AreReadOf image (lsns_due g image kept seen) log b) → later ≡ held → IfOk result (λ r. ForSome later (λ image. IsRenderedLeft wanted p whole image r))
         → IfOk result (λ (r : Rebuilt). r.kept ≡ count) → IfOk result (λ (r : Rebuilt). r.cleared ≡ cleared)
         → IfOk result (λ r. ForSome held (λ image. IsRenamed g sector s image n (record { rebuilt = r; orphans = t.orphans })))
     all_renamed count cleared held later (Ok r) many freed read as_before left kept' cleared' = λ image told.

@@ -1,4 +1,5 @@
 mod Agreed
+mod SettledBytes
 mod AskedRuns
 mod ChangeNumbers
 mod EachChange

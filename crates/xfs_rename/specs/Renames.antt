@@ -22,7 +22,10 @@ use Rattle.xfs_place.specs.declared.wanted.Wanted.{Wanted}
 use Rattle.xfs_names.specs.declared.place.LostPlace.TheVariants.{Cluster}
 use Rattle.xfs_render.specs.declared.bytes.Bytes.{Bytes}
 use Rattle.xfs_render.specs.declared.wanted_slots.SlotWanted.{SlotWanted}
-use Rattle.xfs_rebuild.specs.Bytes.{AreAtHand, AreReadOf}
+use Rattle.xfs_request.specs.Cycles.{kept_lsns}
+use Rattle.xfs_request.specs.declared.seen.SlotSeen.{SlotSeen}
+use Rattle.xfs_salvage.specs.declared.found.Salvaged.{Salvaged}
+use Rattle.xfs_rebuild.specs.Bytes.{AreAtHand, AreReadOf, file_lsns}
 use Rattle.xfs_rebuild.specs.Rebuilds.{IsRenderedLeft}
 use Rattle.xfs_rebuild.specs.declared.faults.RebuildFault.{RebuildFault}
 use Rattle.xfs_rebuild.specs.declared.faults.RebuildFault.TheVariants as faults
@@ -57,11 +60,15 @@ placed_forks g n w built p = forks_of (volume_of g) (old_files n w) built p.cuts
 abbrev pub renamed_slots : Geometry → Stamp → NamesDue → WantedNames → List DirectoryFork → List SlotWanted
 renamed_slots g s n w forks = with_changes (changes_of (volume_of g) s (lost_due g n) (old_files n w) forks w.links) n.slots
 
+-- the log sequence numbers that then stay
+abbrev pub lsns_due : Geometry → Image → Salvaged → List SlotSeen → List ℕ
+lsns_due g image kept seen = kept_lsns (volume_of g) kept seen (file_lsns (volume_of g) image kept.files)
+
 -- the blocks of the plan are made of what was at hand and read as for a rebuild without them, and of the blocks of the directories
 pub record AreRenamedBytes (g : Geometry) (sector : List ℕ) (s : Stamp) (image : Image) (n : NamesDue) (w : WantedNames) (built : List BuiltDirectory) (p : Placed) (b : Bytes) : Type 0 where
   pub read : Bytes
-  pub at_hand : AreAtHand g sector s (settled n (lost_due g n) w) (renamed_slots g s n w (placed_forks g n w built p)) read
-  pub reads : AreReadOf g image (settled n (lost_due g n) w) n.seen n.log read
+  pub at_hand : AreAtHand g sector s (settled n (lost_due g n) w).clusters (renamed_slots g s n w (placed_forks g n w built p)) read
+  pub reads : AreReadOf image (lsns_due g image (settled n (lost_due g n) w) n.seen) n.log read
   pub with_objects : b ≡ record read { objects = blocks_of_built built }
 
 -- a new cluster is asked for lost+found, and there is none

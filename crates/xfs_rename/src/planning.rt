@@ -1,6 +1,7 @@
 //! The plan of a rebuild in which names change.
 
-ghost use Rattle.std.specs.Prelude.{◌≡◌, ◌≤◌, IfErr, IfOk, IsTrue};
+ghost use Rattle.std.specs.Prelude.{◌≡◌, ◌+◌, ◌≤◌, [], IfErr, IfOk, IsTrue};
+ghost use Rattle.std.specs.List.{All};
 ghost use Rattle.std.specs.List.Sorted.{IsNonDecreasingBy};
 ghost use Rattle.std.specs.Option.{ForSome};
 ghost use Rattle.xfs_disk.specs.Reads.{OnlyReads};
@@ -8,13 +9,16 @@ ghost use Rattle.xfs_geom.specs.Volumes.{stated_volume, volume_of};
 ghost use Rattle.xfs_geom.specs.Writing.{IsAcceptedSector};
 ghost use Rattle.xfs_render.specs.declared.wanted_slots.SlotWanted.{SlotWanted};
 ghost use Rattle.xfs_request.specs.Slots.{StandByNumber};
+ghost use Rattle.xfs_naming.specs.Naming.{NumbersAscend};
+ghost use Rattle.xfs_rebuild.specs.Bytes.{AreAtHand, AreReadOf};
 ghost use Rattle.xfs_rebuild.specs.Rebuilds.{CanBeWritten, HasNamesDue};
-ghost use Rattle.xfs_rebuild.specs.Refusals.{HasRebuildCause};
+ghost use Rattle.xfs_rebuild.specs.Refusals.{HasRebuildCause, IsReadRefused};
 ghost use Rattle.xfs_names.specs.declared.building.BuiltDirectory.{BuiltDirectory};
 ghost use Rattle.xfs_volume.specs.declared.files.FileRec.{FileRec};
 ghost use Rattle.xfs_rename.specs.Forks.{forks_of};
+ghost use Rattle.xfs_rename.specs.Objects.{blocks_of_built};
 ghost use Rattle.xfs_rename.specs.Slots.{changes_of, cleared_beside, stays_freed, with_changes};
-ghost use Rattle.xfs_rename.specs.Renames.{IsRenamed, IsRenameRefused, IsSettling};
+ghost use Rattle.xfs_rename.specs.Renames.{IsRenamed, IsRenameRefused, IsSettling, lsns_due};
 
 use crate::changes::{Ways, changes_of};
 use crate::forks::{DirectoryFork, forks_of};
@@ -29,11 +33,9 @@ use std::thread::Threads;
 use xfs_bank::BlockBank;
 use xfs_disk::{Disk, Gate, NoMemory, Stamp};
 use xfs_geom::Elected;
-use xfs_heads::LogState;
-use xfs_place::{PlaceFault, Placed, Wanted, place};
-use xfs_rebuild::{NamesDue, RebuildFault, Rebuilt, bytes_of, plan_placed};
+use xfs_place::{PlaceFault, Placed, place};
+use xfs_rebuild::{NamesDue, RebuildFault, Rebuilt, gather_bytes, kept_numbers, plan_placed};
 use xfs_render::{Bytes, SlotBase, SlotWanted, chunks_are_few};
-use xfs_request::SlotSeen;
 use xfs_runs::Steps;
 use xfs_salvage::Salvaged;
 use xfs_volume::Records;
@@ -111,59 +113,85 @@ fn plan_settled<R: Threads + Sync, D: Disk, G: Gate, L: Ledger>(
     ensures cause { HasRebuildCause (D.faults disk.old) (D.faults disk.new) result }
     ensures disk { OnlyReads D.size D.holds D.write_faults D.writes D.tells_stops D.moment D.may_leave D.left_since disk.old disk.new }
 {
-    let g = &chosen.geometry;
-    let SettledAsk {
-        wanted,
-        kept,
-        slots,
-        seen,
-        log,
-    } = match ask_settled(alloc, g, due, &settling, stamp) {
+    let asked = match ask_settled(alloc, &chosen.geometry, due, &settling, stamp) {
         Ok(asked) => asked,
         Err(NoMemory) => return Err(RebuildFault::NoMemory),
     };
-    chunks_are_few(&wanted);
-    let placed = match place(alloc, &wanted) {
+    let wanted = &asked.wanted;
+    chunks_are_few(wanted);
+    let placed = match place(alloc, wanted) {
         Ok(placed) => placed,
         Err(PlaceFault::NoRoom(what)) => return Err(RebuildFault::NoRoom(what)),
         Err(PlaceFault::NoMemory) => return Err(RebuildFault::NoMemory),
     };
-    let cleared = cleared_beside(&settling.lost, slots.as_slice());
-    let slots = match slots_of(
-        alloc,
-        chosen,
-        &settling,
-        &kept,
-        &placed,
-        slots.as_slice(),
-        stamp,
-    ) {
-        Ok(slots) => slots,
-        Err(NoMemory) => return Err(RebuildFault::NoMemory),
-    };
+    let cleared = cleared_beside(&settling.lost, asked.slots.as_slice());
     let count = settling.names.links.as_slice().len() as u64;
-    let bytes = match bytes_of(
-        alloc,
-        disk,
-        chosen,
-        &kept,
-        seen.as_slice(),
-        Records::from_vec(slots),
-        &log,
-        stamp,
-        steps,
+    let bytes = match settled_bytes(
+        alloc, disk, chosen, &settling, &asked, &placed, stamp, steps,
     ) {
         Ok(bytes) => bytes,
         Err(fault) => return Err(fault),
     };
-    let objects = match blocks_of_built(alloc, settling.built.as_slice()) {
-        Ok(objects) => objects,
+    plan_placed(
+        rt, alloc, disk, wanted, &placed, &bytes, count, cleared, gate,
+    )
+}
+
+/// What the blocks are made of, where the directories stand: as where no name changes, with the blocks of the directories.
+fn settled_bytes<D: Disk, L: Ledger>(
+    alloc: Global,
+    disk: &mut D,
+    chosen: &Elected,
+    settling: &Settling,
+    asked: &SettledAsk,
+    placed: &Placed,
+    stamp: &Stamp,
+    steps: &mut Steps<L>,
+) -> Result<Bytes, RebuildFault>
+    requires inside { chosen.now.geometry.dblocks ≤ D.size disk.old }
+    requires files { IsNonDecreasingBy (λ (f : FileRec). f.ino) asked.now.kept.files }
+    requires clusters { NumbersAscend 0 asked.now.kept.clusters }
+    requires lie { All (λ cluster. cluster + 4 ≤ chosen.now.geometry.dblocks) asked.now.kept.clusters }
+    requires built { IsNonDecreasingBy (λ (b : BuiltDirectory). b.ino) settling.now.built }
+    ensures order { IfOk result (λ b. IsNonDecreasingBy (λ (w : SlotWanted). w.ino) b.slots) }
+    ensures slots { IfOk result (λ b. b.slots ≡ with_changes (changes_of (volume_of chosen.now.geometry) stamp.now settling.now.lost asked.now.kept.files
+        (forks_of (volume_of chosen.now.geometry) asked.now.kept.files settling.now.built placed.now.cuts placed.now.runs) settling.now.names.links) asked.now.slots) }
+    ensures at_hand { IfOk result (λ b. AreAtHand chosen.now.geometry chosen.now.sector stamp.now asked.now.kept.clusters b.slots (record b { objects = [] })) }
+    ensures objects { IfOk result (λ b. b.objects ≡ blocks_of_built settling.now.built) }
+    ensures read { IfOk result (λ b. ForSome (D.holds disk.old) (λ image.
+        AreReadOf image (lsns_due chosen.now.geometry image asked.now.kept asked.now.seen) asked.now.log (record b { objects = [] }))) }
+    ensures refused { IfErr result IsReadRefused }
+    ensures cause { HasRebuildCause (D.faults disk.old) (D.faults disk.new) result }
+    ensures disk { OnlyReads D.size D.holds D.write_faults D.writes D.tells_stops D.moment D.may_leave D.left_since disk.old disk.new }
+{
+    let kept = &asked.kept;
+    let before = asked.slots.as_slice();
+    let slots = match slots_of(alloc, chosen, settling, kept, placed, before, stamp) {
+        Ok(slots) => Records::from_vec(slots),
         Err(NoMemory) => return Err(RebuildFault::NoMemory),
     };
-    let bytes = with_objects(bytes, objects);
-    plan_placed(
-        rt, alloc, disk, &wanted, &placed, &bytes, count, cleared, gate,
-    )
+    let seen = asked.seen.as_slice();
+    let numbers = match kept_numbers(alloc, &chosen.geometry, disk, kept, seen, steps) {
+        Ok(numbers) => numbers,
+        Err(fault) => return Err(fault),
+    };
+    let bytes = match gather_bytes(
+        alloc,
+        disk,
+        chosen,
+        kept.clusters.as_slice(),
+        slots,
+        numbers.as_slice(),
+        &asked.log,
+        stamp,
+    ) {
+        Ok(bytes) => bytes,
+        Err(fault) => return Err(fault),
+    };
+    match blocks_of_built(alloc, settling.built.as_slice()) {
+        Ok(objects) => Ok(with_objects(bytes, objects)),
+        Err(NoMemory) => Err(RebuildFault::NoMemory),
+    }
 }
 
 /// The bytes, with the blocks of objects.

@@ -7,7 +7,8 @@
 //!
 //! ```text
 //! let Request { wanted, slots, .. } = ask(alloc, g, &kept, &seen, reserved, stamp)?;
-//! let cycle = due_cycle(alloc, g, &kept, &seen, &lsns, &log)?;
+//! let numbers = kept_lsns(alloc, g, &kept, &seen, &lsns)?;
+//! let cycle = due_cycle(numbers.as_slice(), &log)?;
 //! let placed = place(alloc, &wanted)?;
 //! ```
 #![tactic(auto)]
@@ -25,6 +26,6 @@ mod taken;
 pub use asking::{Request, ask};
 pub use chunks::inodes_wanted;
 pub use links::links_due;
-pub use log::due_cycle;
+pub use log::{due_cycle, kept_lsns};
 pub use seen::{SlotSeen, SlotState};
 pub use taken::taken_runs;

@@ -22,37 +22,29 @@ use xfs_salvage::{Salvaged, cluster_of, is_among};
 const NO_CYCLE: u64 = 1 << 31;
 
 /// The cycle of a blank log, where the log is to be one: where it is not clean, or a number that stays is above its head.
-/// `slots` is what is known of the slots of all clusters, and `lsns` are the numbers in the blocks of the kept files.
+/// `lsns` are the numbers that stay.
 ///
-/// `NoMemory` where memory is wanting, or where the cycle is none that a log can have, as never on an image whose objects
-/// are sealed.
-pub fn due_cycle(
-    alloc: Global,
-    g: &Geometry,
-    kept: &Salvaged,
-    slots: &[SlotSeen],
-    lsns: &[u64],
-    log: &LogState,
-) -> Result<Option<u32>, NoMemory>
-    requires files { IsNonDecreasingBy (λ (f : FileRec). f.ino) kept.now.files }
-    requires clusters { NumbersAscend 0 kept.now.clusters }
-    ensures cycle { IfOk result (λ cycle. cycle ≡ due_cycle log.now (kept_lsns (volume_of g.now) kept.now slots.now lsns.now)) }
+/// `NoMemory` where the cycle is none that a log can have, as never on an image whose objects are sealed.
+pub fn due_cycle(lsns: &[u64], log: &LogState) -> Result<Option<u32>, NoMemory>
+    ensures cycle { IfOk result (λ cycle. cycle ≡ due_cycle log.now lsns.now) }
     ensures few { IfOk result (λ cycle. MatchOption cycle (Unit {0}) (λ n. (1 ≤ n) × (n < 2 ^ 31))) }
 {
-    let numbers = kept_lsns(alloc, g, kept, slots, lsns)?;
-    if keeps_log(log, numbers.as_slice()) {
+    if keeps_log(log, lsns) {
         return Ok(None);
     }
-    let cycle = 1 + greatest_cycle(numbers.as_slice());
+    let cycle = 1 + greatest_cycle(lsns);
     if cycle >= NO_CYCLE {
         return Err(NoMemory);
     }
     Ok(Some(cycle as u32))
 }
 
-/// The numbers that stay.
+/// The log sequence numbers that stay: those of slots that are neither freed nor made anew, and those in the blocks of the kept
+/// files. `slots` is what is known of the slots of all clusters, and `lsns` are the numbers in these blocks.
+///
+/// `NoMemory` where memory is wanting.
 #[tactic(auto, unfolding(crate::specs::Cycles::kept_lsns))]
-fn kept_lsns(
+pub fn kept_lsns(
     alloc: Global,
     g: &Geometry,
     kept: &Salvaged,

@@ -18,14 +18,14 @@ use Rattle.xfs_image.specs.Slots.{cluster_blocks}
 use Rattle.xfs_volume.specs.declared.files.FileRec.{FileRec}
 use Rattle.xfs_space.specs.Owners.{file_runs}
 use Rattle.xfs_space.proofs.RecordedMaps.{group_inside}
-use Rattle.xfs_place.specs.Claims.{ClaimedOnce}
+use Rattle.xfs_place.specs.Claims.{ClaimedOnce, IsClaimedRun}
 use Rattle.xfs_place.specs.Pool.{is_taken}
 use Rattle.xfs_place.specs.Wanted.{IsOffFixed, kept_runs}
 use Rattle.xfs_place.specs.declared.placed.Placed.{Placed}
 use Rattle.xfs_place.specs.declared.wanted.Wanted.{Wanted}
 use Rattle.xfs_protected.proofs.Claimed.{same_claims}
 use Rattle.xfs_protected.proofs.Counted.{any_on, flat_on, on_both}
-use Rattle.xfs_protected.proofs.Members.{Member, all_members, member_all}
+use Rattle.xfs_protected.proofs.Members.{Member, all_members, member_all, member_left, member_map, row_member}
 use Rattle.xfs_render.proofs.TreePlaces.{all_left}
 use Rattle.xfs_render.specs.Drafts.{row_places}
 use Rattle.xfs_render.specs.Objects.{blocks_of_asks, object_places}
@@ -35,13 +35,13 @@ use Rattle.xfs_render.specs.declared.bytes.Bytes.{Bytes}
 use Rattle.xfs_render.specs.declared.plan.Plan.{Plan}
 use Rattle.xfs_salvage.specs.Kept.{run_of_cluster, taken_of}
 use Rattle.xfs_request.specs.Requests.{volume_wanted}
-use Rattle.xfs_rebuild.specs.Places as Places
-use Rattle.xfs_rebuild.specs.Rebuilds.{Ground, IsPlannedOn, asked}
+use Rattle.xfs_rebuild.specs.Places.{has_wanted}
+use Rattle.xfs_rebuild.specs.Rebuilds.{Ground, IsPlannedOn, asked, slots_asked}
 use Rattle.xfs_rebuild.specs.declared.planning.Rebuilt.{Rebuilt}
 use Rattle.xfs_rewritten.specs.Unused.{AreHeadsOrKept, IsHeadOrKept, IsInPlace, IsOfLog, IsUnusedBlock}
 use Rattle.xfs_rewritten.proofs.Counting.{taken_on, untaken_on}
-use Rattle.xfs_rewritten.proofs.Kept.{cluster_place, cluster_taken_of, places_apart, places_used}
-use Rattle.xfs_rewritten.proofs.PlansApart.{all_of_log, head_fixed, head_off_log, log_fixed, plans_apart, taken_left, taken_right, taken_unfixed, trees, untaken_both}
+use Rattle.xfs_rewritten.proofs.Kept.{cluster_taken_of, places_apart, places_used, unwanted_off}
+use Rattle.xfs_rewritten.proofs.PlansApart.{all_of_log, head_fixed, head_off_log, kept_off, log_fixed, plans_apart, taken_left, taken_right, taken_unfixed, trees, untaken_both}
 use Rattle.xfs_rewritten.proofs.TreesApart.{AreBehind}
 
 none_new : (xs : List ℕ) → filter (is_taken []) xs ≡ []
@@ -104,6 +104,10 @@ module _ (g : Geometry) (sector : List ℕ) (s : Stamp) (image : Image) (on : Gr
   unfolding volume_wanted
   clear = subst (All (IsOffFixed v)) kept_is (all_left (IsOffFixed v) (kept_runs w) p.runs is.planned.stands.apart.clear)
 
+  lie : All (IsClaimedRun g.dblocks) taken
+  unfolding volume_wanted
+  lie = subst (All (IsClaimedRun g.dblocks)) kept_is (all_left (IsClaimedRun g.dblocks) (kept_runs w) p.runs is.planned.stands.apart.each)
+
   apart : ClaimedOnce taken
   apart = record {
     once = λ block.
@@ -112,7 +116,7 @@ module _ (g : Geometry) (sector : List ℕ) (s : Stamp) (image : Image) (on : Gr
   }
 
   places_fit : AreHeadsOrKept v taken b.places
-  places_fit = subst (AreHeadsOrKept v taken) (sym is.made.at_hand.places') (places_apart g on.kept.clusters taken claimed refl clear apart)
+  places_fit = subst (AreHeadsOrKept v taken) (sym is.made.at_hand.places') (places_apart g on.kept.clusters taken claimed refl clear apart (slots_asked g s on))
 
   pub blocks_once : IsOnce (planned plan)
   unfolding volume_wanted
@@ -157,7 +161,7 @@ module _ (g : Geometry) (sector : List ℕ) (s : Stamp) (image : Image) (on : Gr
 
   -- those in place
   places_at : All (IsHeadOrKept v clusters) b.places
-  places_at = subst (All (IsHeadOrKept v clusters)) (sym is.made.at_hand.places') (places_used v on.kept.clusters)
+  places_at = subst (All (IsHeadOrKept v clusters)) (sym is.made.at_hand.places') (places_used v on.kept.clusters (slots_asked g s on))
 
   log_at : All (IsOfLog v) (log_places w b.cycle)
   unfolding volume_wanted
@@ -194,16 +198,30 @@ module _ (g : Geometry) (sector : List ℕ) (s : Stamp) (image : Image) (on : Gr
       (All-weaker (IsOfLog v) (λ block. block < g.dblocks) (log_inside g) (log_places w b.cycle) log_at)
 
   -- the blocks of a kept cluster
-  pub cluster_no_head : (cluster block : ℕ) → Member cluster on.kept.clusters → Member block (cluster_blocks cluster) → is_head v block ≡ false
-  cluster_no_head cluster block among has =
-      false_from_ne_true (is_head v block) (λ head.
-      false≢true (sym (taken_unfixed v taken block clear (taken_left clusters claimed block (cluster_taken_of on.kept.clusters cluster block among has))) ∙ head_fixed v block head))
+  module _ (cluster block : ℕ) (among : Member cluster on.kept.clusters) (has : Member block (cluster_blocks cluster)) where
+    block_taken : is_taken taken block ≡ true
+    block_taken = taken_left clusters claimed block (cluster_taken_of on.kept.clusters cluster block among has)
 
-  pub cluster_inside : (cluster block : ℕ) → Member cluster on.kept.clusters → Member block (cluster_blocks cluster) → block < g.dblocks
-  cluster_inside cluster block among has =
-      member_all (λ at. at < g.dblocks) block (Places.old_places v on.kept.clusters)
-      (recursion_from_All (λ at. at < g.dblocks) (Places.old_places v on.kept.clusters) (subst (All (λ at. at < g.dblocks)) is.made.at_hand.places' is.made.at_hand.inside))
-      (cluster_place v on.kept.clusters cluster block among has)
+    block_unfixed : is_fixed v block ≡ false
+    block_unfixed = taken_unfixed v taken block clear block_taken
+
+    pub cluster_no_head : is_head v block ≡ false
+    cluster_no_head = false_from_ne_true (is_head v block) (λ head. false≢true (sym block_unfixed ∙ head_fixed v block head))
+
+    pub cluster_inside : block < g.dblocks
+    cluster_inside =
+        let claim = member_all (IsClaimedRun g.dblocks) (run_of_cluster cluster) taken (recursion_from_All (IsClaimedRun g.dblocks) taken lie)
+        (member_left (run_of_cluster cluster) clusters claimed (member_map run_of_cluster cluster on.kept.clusters among)) in
+        let row = row_member block cluster 4 has in
+        let ends = claim.inside in
+        let high = row.high in
+        omega (arith, ends, high)
+
+    -- it is planned only where something is wanted of it
+    pub unwanted_unplanned : has_wanted v (slots_asked g s on) block ≡ false → All (λ at. at ≡ block → ⊥) (planned plan)
+    unwanted_unplanned none =
+        kept_off w p b plan is.planned.stands is.planned.rendered block (subst (λ (rs : List Run). is_taken rs block ≡ true) (sym kept_is) block_taken)
+        (subst (All (λ at. at ≡ block → ⊥)) (sym is.made.at_hand.places') (unwanted_off v on.kept.clusters (slots_asked g s on) block cluster_no_head none))
 
   -- no kept file claims one
   module _ (f : FileRec) (among : Member f on.kept.files) where

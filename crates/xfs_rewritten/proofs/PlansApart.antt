@@ -1,9 +1,9 @@
 -- No block is planned twice of what is placed beside some runs, and the first blocks of a plan were unused.
-use Rattle.std.proofs.Common.{◌≡◌, ℕ, zero, suc, ◌+◌, ◌*◌, ◌/◌, ◌%◌, ◌≤◌, ◌<◌, ◌⊎◌, inl, inr, Bool, true, false, ◌&&◌, ◌==◌, nat_le, nat_lt, List, [], ◌∷◌, ◌++◌, length, get_or, Option, Some, None, refl, sym, ap, ◌∙◌, arith}
+use Rattle.std.proofs.Common.{◌≡◌, ℕ, zero, suc, ◌+◌, ◌*◌, ◌/◌, ◌%◌, ◌≤◌, ◌<◌, ◌⊎◌, inl, inr, Bool, true, false, not, ◌&&◌, ◌==◌, nat_le, nat_lt, List, [], ◌∷◌, ◌++◌, length, get_or, Option, Some, None, refl, sym, ap, ◌∙◌, subst, arith}
 use Rattle.std.specs.List.{All, list_any}
 use Rattle.std.proofs.Math.Nat.{mul-le-mul_right}
 use Rattle.std.proofs.lemmas.Bool.{and_from, cases_lt, eq-eqb, eqb-true, false≢true, le-leb, lt-ltb, or_left, or_parts, or_right}
-use Rattle.std.proofs.lemmas.List.Elements.{All-append, All-from_get_or, All-nil, All-weaker, filter_passes, recursion_from_All}
+use Rattle.std.proofs.lemmas.List.Elements.{All-append, All-filter, All-from_get_or, All-nil, All-weaker, filter_passes, recursion_from_All}
 use Rattle.std.proofs.lemmas.List.Folds.{list_any-append}
 use Rattle.std.proofs.lemmas.List.Sorted.{All-permutation}
 use Rattle.std.proofs.lemmas.Nat.{div-add-mod'}
@@ -24,7 +24,7 @@ use Rattle.xfs_protected.proofs.Members.{any_member, member_all}
 use Rattle.xfs_render.specs.Drafts.{row_places}
 use Rattle.xfs_render.specs.Objects.{asks_with_kind, object_places}
 use Rattle.xfs_render.specs.Plans.{IsOnce, planned}
-use Rattle.xfs_render.specs.Rendering.{IsRendered, fresh_blocks, is_head, log_places, new_blocks, tree_blocks, volume}
+use Rattle.xfs_render.specs.Rendering.{IsRendered, blocks_in_place, fresh_blocks, is_head, kept_blocks, log_places, new_blocks, tree_blocks, volume}
 use Rattle.xfs_render.specs.declared.bytes.Bytes.{Bytes}
 use Rattle.xfs_render.specs.declared.plan.Plan.{Plan}
 use Rattle.xfs_made.proofs.OnceLists.{all_range, counted, counted_append, joined, range_once}
@@ -228,8 +228,45 @@ module _ (w : Wanted) (p : Placed) (stands : StandsFor w p) where
       (All-weaker (λ block. is_taken w.new block ≡ true) (IsFreshFor w p) (λ block taken. inr (taken_left w.new p.runs block taken)) (new_blocks w b)
       (filter_passes (is_taken w.new) b.places))))
 
+  -- a kept block is planned only where its bytes were at hand
+  module _ (b : Bytes) (plan : Plan) (is : IsRendered w p b plan) (block : ℕ) (taken : is_taken (kept_runs w) block ≡ true) (off : All (λ at. at ≡ block → ⊥) b.places) where
+    abbrev Off : ℕ → Type 0
+    Off at = at ≡ block → ⊥
+
+    trees_off : All Off (tree_blocks p)
+    trees_off =
+        All-weaker (IsUnusedBlock (volume w) all_runs w.reserved) Off
+        (λ at free same. used_not_unused at (inl (inr (subst (λ (n : ℕ). is_taken (kept_runs w) n ≡ true) (sym same) taken))) free) (tree_blocks p) trees.unused
+
+    objects_off : All Off (object_places w p)
+    objects_off =
+        All-from_get_or Off (object_places w p) 0 (λ i low same.
+        let at = get_or (object_places w p) i 0 in
+        let some = counted_here (object_places w p) i 0 low in
+        let objects : counted at (object_places w p) ≤ runs_on p.runs at = objects_on (asks_with_kind w.objects) p.cuts p.runs at in
+        let none : runs_on p.runs at ≡ 0 = used_no_object at (inl (inr (subst (λ (n : ℕ). is_taken (kept_runs w) n ≡ true) (sym same) taken))) in
+        absurd (omega (arith, some, objects, none)))
+
+    log_off : All Off (log_places w b.cycle)
+    log_off =
+        All-weaker (IsOfLog (volume w)) Off
+        (λ at log same. false≢true (sym (kept_unfixed block taken) ∙ log_fixed (volume w) block (subst (IsOfLog (volume w)) same log))) (log_places w b.cycle) (all_of_log w b.cycle)
+
+    pub plan_off : All Off (planned plan)
+    plan_off =
+        All-append Off (row_places plan.fresh) (row_places plan.in_place)
+        (All-permutation Off (fresh_blocks w p b) (row_places plan.fresh) is.fresh
+        (All-append Off (tree_blocks p) (object_places w p ++ new_blocks w b) trees_off
+        (All-append Off (object_places w p) (new_blocks w b) objects_off (All-filter (is_taken w.new) Off b.places off))))
+        (All-permutation Off (blocks_in_place w b) (row_places plan.in_place) is.in_place
+        (All-append Off (kept_blocks w b) (log_places w b.cycle) (All-filter (λ place. not (is_taken w.new place)) Off b.places off) log_off))
+
 pub plans_apart : (w : Wanted) (p : Placed) (b : Bytes) (plan : Plan) → StandsFor w p → IsRendered w p b plan → AreHeadsOrKept (volume w) (kept_runs w) b.places → IsOnce (planned plan)
 plans_apart w p b plan stands is places = plan_once w p stands b places plan is
 
 pub plans_fresh : (w : Wanted) (p : Placed) (b : Bytes) (plan : Plan) → StandsFor w p → IsRendered w p b plan → All (IsFreshFor w p) (row_places plan.fresh)
 plans_fresh w p b plan stands is = plan_fresh w p stands b plan is
+
+pub kept_off : (w : Wanted) (p : Placed) (b : Bytes) (plan : Plan) → StandsFor w p → IsRendered w p b plan → (block : ℕ) → is_taken (kept_runs w) block ≡ true
+    → All (λ at. at ≡ block → ⊥) b.places → All (λ at. at ≡ block → ⊥) (planned plan)
+kept_off w p b plan stands is block taken off = plan_off w p stands b plan is block taken off

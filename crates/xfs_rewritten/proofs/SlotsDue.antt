@@ -1,6 +1,7 @@
 -- Each slot of the kept clusters is what was wanted of it, made of what stood there.
-use Rattle.std.proofs.Common.{◌≡◌, ℕ, false, ◌+◌, ◌*◌, ◌/◌, ◌%◌, ◌<◌, List, [], length, get_or, Some, sym, ap, ◌∙◌, subst, arith}
+use Rattle.std.proofs.Common.{◌≡◌, ℕ, inl, inr, true, false, ◌+◌, ◌*◌, ◌/◌, ◌%◌, ◌<◌, List, [], length, get_or, Option, Some, MatchOption, refl, sym, ap, ◌∙◌, subst, arith}
 use Rattle.std.specs.List.{Contains, flat_map, range_with_len}
+use Rattle.std.proofs.lemmas.Bool.{cases_Bool}
 use Rattle.std.proofs.lemmas.List.{get_or-map, get_or_default}
 use Rattle.xfs_disk.specs.Blocks.{Image, bytes_of_block}
 use Rattle.xfs_disk.specs.declared.stamp.Stamp.{Stamp}
@@ -10,19 +11,22 @@ use Rattle.xfs_geom.specs.Volumes.{Volume, volume_of}
 use Rattle.xfs_geom.specs.declared.geometry.Geometry.{Geometry}
 use Rattle.xfs_image.specs.Slots.{bytes_in, cluster_blocks, cluster_inodes, inodes_of_block, slot_bytes}
 use Rattle.xfs_protected.proofs.Members.{Member, contained, contains, flat_member, map_member, row_member}
+use Rattle.xfs_place.specs.Pool.{is_listed}
 use Rattle.xfs_render.specs.Clusters.{slot_in}
+use Rattle.xfs_render.specs.Plans.{planned}
 use Rattle.xfs_render.specs.Rendering.{byte_place, is_head, old_at}
-use Rattle.xfs_render.specs.Slots.{IsSlotDue}
+use Rattle.xfs_render.specs.Slots.{IsMadeSlot, IsSlotDue}
 use Rattle.xfs_render.specs.declared.wanted_slots.SlotWanted.{SlotWanted}
 use Rattle.xfs_rendered.proofs.Slots.{slots_stand}
 use Rattle.xfs_request.specs.Requests.{volume_wanted}
-use Rattle.xfs_rebuild.specs.Places.{old_places}
+use Rattle.xfs_rebuild.specs.Places.{has_wanted, old_places}
 use Rattle.xfs_rebuild.specs.Rebuilds.{Ground, IsPlannedOn, asked, slots_asked}
 use Rattle.xfs_rebuild.specs.declared.planning.Rebuilt.{Rebuilt}
 use Rattle.xfs_rewritten.specs.Rewriting.{IsRewritten}
-use Rattle.xfs_rewritten.proofs.Kept.{cluster_place}
-use Rattle.xfs_rewritten.proofs.Placed.{cluster_inside, cluster_no_head}
-use Rattle.xfs_rewritten.proofs.Standing.{stands}
+use Rattle.xfs_rewritten.proofs.Kept.{cluster_place, none_wanted}
+use Rattle.xfs_rewritten.proofs.Placed.{cluster_inside, cluster_no_head, unwanted_unplanned}
+use Rattle.xfs_rewritten.proofs.Standing.{others_stay, stands}
+use Rattle.xfs_rewritten.proofs.Staying.{off_list}
 
 -- the slot of the inode of a slot is that slot
 slot_back : (g : Geometry) (block k : ℕ) → block < g.dblocks → k < 8 → slot_at (volume_of g) (inode_of (volume_of g) block k) ≡ Some (block, k)
@@ -40,50 +44,73 @@ module _ (g : Geometry) (sector : List ℕ) (s : Stamp) (image now : Image) (on 
     inside : block < g.dblocks
     inside = cluster_inside g sector s image on r is cluster block kept in_cluster
 
-    -- where its bytes were at hand
-    place : (i : ℕ) × (i < length is.bytes.places) × (byte_place is.bytes i ≡ block)
-    place =
-        let one = contains block (old_places (volume_of g) on.kept.clusters) (cluster_place (volume_of g) on.kept.clusters cluster block kept in_cluster) in (
-          one.0,
-          subst (λ (ps : List ℕ). one.0 < length ps) (sym is.made.at_hand.places') one.1,
-          ap (λ (ps : List ℕ). get_or ps one.0 0) is.made.at_hand.places' ∙ get_or_default (old_places (volume_of g) on.kept.clusters) one.0 0 block one.1 ∙ one.2,
-        )
+    back : slot_at (volume_of g) (inode_of (volume_of g) block k) ≡ Some (block, k)
+    back = slot_back g block k inside few
 
-    other : is_head (volume_of g) (byte_place is.bytes place.0) ≡ false
-    other = subst (λ (n : ℕ). is_head (volume_of g) n ≡ false) (sym place.2) (cluster_no_head g sector s image on r is cluster block kept in_cluster)
+    -- where something is wanted of a slot of the block
+    module _ (wanted : has_wanted (volume_of g) (slots_asked g s on) block ≡ true) where
+      -- where its bytes were at hand
+      place : (i : ℕ) × (i < length is.bytes.places) × (byte_place is.bytes i ≡ block)
+      place =
+          let all : List ℕ = old_places (volume_of g) on.kept.clusters (slots_asked g s on) in
+          let one = contains block all (cluster_place (volume_of g) on.kept.clusters (slots_asked g s on) cluster block kept in_cluster wanted) in (
+            one.0,
+            subst (λ (ps : List ℕ). one.0 < length ps) (sym is.made.at_hand.places') one.1,
+            ap (λ (ps : List ℕ). get_or ps one.0 0) is.made.at_hand.places' ∙ get_or_default all one.0 0 block one.1 ∙ one.2,
+          )
 
-    low : byte_place is.bytes place.0 < g.dblocks
-    low = subst (λ (n : ℕ). n < g.dblocks) (sym place.2) inside
+      other : is_head (volume_of g) (byte_place is.bytes place.0) ≡ false
+      other = subst (λ (n : ℕ). is_head (volume_of g) n ≡ false) (sym place.2) (cluster_no_head g sector s image on r is cluster block kept in_cluster)
 
-    old_is : old_at is.bytes place.0 ≡ bytes_of_block image block
-    old_is =
-        ap (λ (old : Image). get_or old place.0 []) is.made.read.old'
-        ∙ get_or-map (λ (n : ℕ). get_or image n []) (old_places (volume_of g) on.kept.clusters) place.0 0 [] (subst (λ (ps : List ℕ). place.0 < length ps) is.made.at_hand.places' place.1)
-        ∙ ap (λ (n : ℕ). get_or image n []) (ap (λ (ps : List ℕ). get_or ps place.0 0) (sym is.made.at_hand.places') ∙ place.2)
+      low : byte_place is.bytes place.0 < g.dblocks
+      low = subst (λ (n : ℕ). n < g.dblocks) (sym place.2) inside
 
-    slot_was : slot_in (old_at is.bytes place.0) k ≡ slot_bytes (volume_of g) image (inode_of (volume_of g) block k)
-    slot_was = ap (λ (bytes : List ℕ). slot_in bytes k) old_is ∙ sym (ap (bytes_in image) (slot_back g block k inside few))
+      old_is : old_at is.bytes place.0 ≡ bytes_of_block image block
+      old_is =
+          ap (λ (old : Image). get_or old place.0 []) is.made.read.old'
+          ∙ get_or-map (λ (n : ℕ). get_or image n []) is.bytes.places place.0 0 [] place.1
+          ∙ ap (λ (n : ℕ). get_or image n []) place.2
 
-    first_due : IsSlotDue (volume_of g) is.bytes.stamp.generation is.bytes.slots (inode_of (volume_of g) (byte_place is.bytes place.0) k) (slot_in (old_at is.bytes place.0) k)
-        (slot_bytes (volume_of g) now (inode_of (volume_of g) (byte_place is.bytes place.0) k))
-    unfolding volume_wanted
-    first_due =
-        slots_stand (asked g on) is.planned.placed is.bytes is.planned.rendered.super now (stands g sector s image now on r is new) place.0 k place.1 few other low
+      slot_was : slot_in (old_at is.bytes place.0) k ≡ slot_bytes (volume_of g) image (inode_of (volume_of g) block k)
+      slot_was = ap (λ (bytes : List ℕ). slot_in bytes k) old_is ∙ sym (ap (bytes_in image) back)
+
+      first_due : IsSlotDue (volume_of g) is.bytes.stamp.generation is.bytes.slots (inode_of (volume_of g) (byte_place is.bytes place.0) k) (slot_in (old_at is.bytes place.0) k)
+          (slot_bytes (volume_of g) now (inode_of (volume_of g) (byte_place is.bytes place.0) k))
+      unfolding volume_wanted
+      first_due =
+          slots_stand (asked g on) is.planned.placed is.bytes is.planned.rendered.super now (stands g sector s image now on r is new) place.0 k place.1 few other low
+
+      made_due : IsSlotDue (volume_of g) s.generation (slots_asked g s on) (inode_of (volume_of g) block k) (slot_bytes (volume_of g) image (inode_of (volume_of g) block k))
+          (slot_bytes (volume_of g) now (inode_of (volume_of g) block k))
+      made_due =
+          let ino : ℕ = inode_of (volume_of g) block k in
+          let second : IsSlotDue (volume_of g) is.bytes.stamp.generation is.bytes.slots ino (slot_in (old_at is.bytes place.0) k) (slot_bytes (volume_of g) now ino) =
+          subst (λ (n : ℕ). IsSlotDue (volume_of g) is.bytes.stamp.generation is.bytes.slots (inode_of (volume_of g) n k) (slot_in (old_at is.bytes place.0) k)
+          (slot_bytes (volume_of g) now (inode_of (volume_of g) n k))) place.2 first_due in
+          let third : IsSlotDue (volume_of g) is.bytes.stamp.generation is.bytes.slots ino (slot_bytes (volume_of g) image ino) (slot_bytes (volume_of g) now ino) =
+          subst (λ (old : List ℕ). IsSlotDue (volume_of g) is.bytes.stamp.generation is.bytes.slots ino old (slot_bytes (volume_of g) now ino)) slot_was second in
+          let fourth : IsSlotDue (volume_of g) is.bytes.stamp.generation (slots_asked g s on) ino (slot_bytes (volume_of g) image ino) (slot_bytes (volume_of g) now ino) =
+          subst (λ (ws : List SlotWanted). IsSlotDue (volume_of g) is.bytes.stamp.generation ws ino (slot_bytes (volume_of g) image ino) (slot_bytes (volume_of g) now ino))
+          is.made.at_hand.slots' third in
+          subst (λ (t : Stamp). IsSlotDue (volume_of g) t.generation (slots_asked g s on) ino (slot_bytes (volume_of g) image ino) (slot_bytes (volume_of g) now ino))
+          is.made.at_hand.stamp' fourth
+
+    -- and where nothing is: the block is planned nowhere
+    left_due : has_wanted (volume_of g) (slots_asked g s on) block ≡ false → IsSlotDue (volume_of g) s.generation (slots_asked g s on) (inode_of (volume_of g) block k)
+        (slot_bytes (volume_of g) image (inode_of (volume_of g) block k)) (slot_bytes (volume_of g) now (inode_of (volume_of g) block k))
+    left_due none =
+        let v : Volume = volume_of g in
+        let ino : ℕ = inode_of v block k in
+        let out : is_listed (planned is.planned.plan) block ≡ false =
+        off_list (λ at. at ≡ block) (planned is.planned.plan) block (unwanted_unplanned g sector s image on r is cluster block kept in_cluster none) refl in
+        let stays : bytes_of_block now block ≡ bytes_of_block image block = others_stay g sector s image now on r is new block out in
+        let same : slot_bytes v now ino ≡ slot_bytes v image ino = ap (bytes_in now) back ∙ ap (λ (bytes : List ℕ). slot_in bytes k) stays ∙ sym (ap (bytes_in image) back) in
+        subst (λ (o : Option SlotWanted). MatchOption o (slot_bytes v now ino ≡ slot_bytes v image ino) (λ w. IsMadeSlot v s.generation w (slot_bytes v image ino) (slot_bytes v now ino)))
+        (sym (none_wanted v (slots_asked g s on) block k none few)) same
 
     slot_due : IsSlotDue (volume_of g) s.generation (slots_asked g s on) (inode_of (volume_of g) block k) (slot_bytes (volume_of g) image (inode_of (volume_of g) block k))
         (slot_bytes (volume_of g) now (inode_of (volume_of g) block k))
-    slot_due =
-        let ino : ℕ = inode_of (volume_of g) block k in
-        let second : IsSlotDue (volume_of g) is.bytes.stamp.generation is.bytes.slots ino (slot_in (old_at is.bytes place.0) k) (slot_bytes (volume_of g) now ino) =
-        subst (λ (n : ℕ). IsSlotDue (volume_of g) is.bytes.stamp.generation is.bytes.slots (inode_of (volume_of g) n k) (slot_in (old_at is.bytes place.0) k)
-        (slot_bytes (volume_of g) now (inode_of (volume_of g) n k))) place.2 first_due in
-        let third : IsSlotDue (volume_of g) is.bytes.stamp.generation is.bytes.slots ino (slot_bytes (volume_of g) image ino) (slot_bytes (volume_of g) now ino) =
-        subst (λ (old : List ℕ). IsSlotDue (volume_of g) is.bytes.stamp.generation is.bytes.slots ino old (slot_bytes (volume_of g) now ino)) slot_was second in
-        let fourth : IsSlotDue (volume_of g) is.bytes.stamp.generation (slots_asked g s on) ino (slot_bytes (volume_of g) image ino) (slot_bytes (volume_of g) now ino) =
-        subst (λ (ws : List SlotWanted). IsSlotDue (volume_of g) is.bytes.stamp.generation ws ino (slot_bytes (volume_of g) image ino) (slot_bytes (volume_of g) now ino))
-        is.made.at_hand.slots' third in
-        subst (λ (t : Stamp). IsSlotDue (volume_of g) t.generation (slots_asked g s on) ino (slot_bytes (volume_of g) image ino) (slot_bytes (volume_of g) now ino))
-        is.made.at_hand.stamp' fourth
+    slot_due = elim (cases_Bool (has_wanted (volume_of g) (slots_asked g s on) block)) [ inl wanted ↦ made_due wanted | inr none ↦ left_due none ]
 
   pub slots_due : (ino : ℕ) → Contains (flat_map (cluster_inodes (volume_of g)) on.kept.clusters) ino
       → IsSlotDue (volume_of g) s.generation (slots_asked g s on) ino (slot_bytes (volume_of g) image ino) (slot_bytes (volume_of g) now ino)

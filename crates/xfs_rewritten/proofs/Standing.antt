@@ -15,7 +15,7 @@ use Rattle.xfs_writing.specs.Writing.{writes_of_rows, written}
 use Rattle.xfs_writing.specs.declared.rows.Row.{Row}
 use Rattle.xfs_made.proofs.OnceLists.{counted}
 use Rattle.xfs_rebuild.specs.Differing.{differs, left_to_write}
-use Rattle.xfs_rebuild.specs.Rebuilds.{Ground, IsLeft, IsPlannedOn, asked}
+use Rattle.xfs_rebuild.specs.Rebuilds.{Ground, IsLeft, IsPlannedOn, asked, slots_asked}
 use Rattle.xfs_rebuild.specs.declared.planning.Rebuilt.{Rebuilt}
 use Rattle.xfs_rewritten.specs.Rewriting.{IsRewritten}
 use Rattle.xfs_rewritten.proofs.Counting.{unlisted}
@@ -77,7 +77,7 @@ module _ (g : Geometry) (sector : List ℕ) (s : Stamp) (image now : Image) (on 
   heads : HasHeads (asked g on) is.bytes
   unfolding volume_wanted
   heads ag low =
-      let at = head_place (volume_of g) on.kept.clusters ag low in (
+      let at = head_place (volume_of g) on.kept.clusters (slots_asked g s on) ag low in (
         ag,
         subst (λ (ps : List ℕ). ag < length ps) (sym is.made.at_hand.places') at.0,
         ap (λ (ps : List ℕ). get_or ps ag 0) is.made.at_hand.places' ∙ at.1,

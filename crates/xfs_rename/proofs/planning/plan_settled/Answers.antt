@@ -1,9 +1,6 @@
-use Rattle.std.proofs.Common.{◌∙◌, length, ap, subst, sym}
-use Rattle.std.specs.List.Sorted.{IsNonDecreasingBy}
+use Rattle.std.proofs.Common.{[], length, ap, ◌∙◌}
 use Rattle.xfs_disk.specs.Blocks.{Image}
 use Rattle.xfs_disk.proofs.Reading.{reads_on}
-use Rattle.xfs_render.specs.declared.wanted_slots.SlotWanted.{SlotWanted}
-use Rattle.xfs_rename.specs.Objects.{blocks_of_built}
 use Rattle.xfs_rename.specs.Slots.{cleared_beside}
 use Rattle.xfs_rename.proofs.Agreed.{agreed_built, agreed_bytes, agreed_clusters, agreed_files, agreed_fits, agreed_lie, agreed_slots, agreed_stands, agreed_written, all_refused, all_renamed, cause_on, room_refused}
 use Rattle.xfs_rename.proofs.planning.plan_settled.Goals as goal
@@ -24,29 +21,25 @@ pub place-requires-clause-inodes : goal.place-requires-clause-inodes
 place-requires-clause-inodes g c =
     (agreed_written c.args.chosen.now.geometry c.args.stamp.now c.args.due c.requires.due c.args.settling c.requires.settling c.in-Ok.asked.wanted c.in-Ok.ensures.wanted).inodes
 
-pub slots_of-requires-clause-files : goal.slots_of-requires-clause-files
-slots_of-requires-clause-files g c =
+pub settled_bytes-requires-clause-built : goal.settled_bytes-requires-clause-built
+settled_bytes-requires-clause-built g c = agreed_built c.args.chosen.now.geometry c.args.stamp.now c.args.due c.requires.due c.args.settling c.requires.settling
+
+pub settled_bytes-requires-clause-files : goal.settled_bytes-requires-clause-files
+settled_bytes-requires-clause-files g c =
     agreed_files c.args.chosen.now.geometry c.args.stamp.now c.args.due c.requires.due c.args.settling c.requires.settling c.in-Ok.asked.kept c.in-Ok.ensures.kept
 
-pub slots_of-requires-clause-built : goal.slots_of-requires-clause-built
-slots_of-requires-clause-built g c = agreed_built c.args.chosen.now.geometry c.args.stamp.now c.args.due c.requires.due c.args.settling c.requires.settling
-
-pub bytes_of-requires-clause-files : goal.bytes_of-requires-clause-files
-bytes_of-requires-clause-files g c =
-    agreed_files c.args.chosen.now.geometry c.args.stamp.now c.args.due c.requires.due c.args.settling c.requires.settling c.in-Ok.asked.kept c.in-Ok.ensures.kept
-
-pub bytes_of-requires-clause-clusters : goal.bytes_of-requires-clause-clusters
-bytes_of-requires-clause-clusters g c =
+pub settled_bytes-requires-clause-clusters : goal.settled_bytes-requires-clause-clusters
+settled_bytes-requires-clause-clusters g c =
     agreed_clusters c.args.chosen.now.geometry c.args.stamp.now c.args.due c.requires.due c.args.settling c.requires.settling c.in-Ok.asked.kept c.in-Ok.ensures.kept
 
-pub bytes_of-requires-clause-lie : goal.bytes_of-requires-clause-lie
-bytes_of-requires-clause-lie g c =
+pub settled_bytes-requires-clause-lie : goal.settled_bytes-requires-clause-lie
+settled_bytes-requires-clause-lie g c =
     agreed_lie c.args.chosen.now.geometry c.args.stamp.now c.args.due c.requires.due c.args.settling c.requires.settling c.in-Ok.asked.kept c.in-Ok.ensures.kept
 
 pub plan_placed-requires-clause-inside : goal.plan_placed-requires-clause-inside
 plan_placed-requires-clause-inside g c κs within =
     agreed_fits c.args.chosen.now.geometry c.args.stamp.now c.args.due c.requires.due c.args.settling c.requires.settling c.in-Ok.asked.wanted c.in-Ok.ensures.wanted
-    (g.D.Disk.size c.args.disk.now) (g.D.Disk.size c.bytes_of.new.disk) c.bytes_of.ensures.disk.same_size c.requires.inside
+    (g.D.Disk.size c.args.disk.now) (g.D.Disk.size c.settled_bytes.new.disk) c.settled_bytes.ensures.disk.same_size c.requires.inside
 
 pub plan_placed-requires-clause-stands : goal.plan_placed-requires-clause-stands
 plan_placed-requires-clause-stands g c κs within =
@@ -60,20 +53,17 @@ pub plan_placed-requires-clause-writable : goal.plan_placed-requires-clause-writ
 plan_placed-requires-clause-writable g c κs within =
     agreed_written c.args.chosen.now.geometry c.args.stamp.now c.args.due c.requires.due c.args.settling c.requires.settling c.in-Ok.asked.wanted c.in-Ok.ensures.wanted
 
-pub bytes_of-requires-clause-order : goal.bytes_of-requires-clause-order
-bytes_of-requires-clause-order g c = subst (IsNonDecreasingBy (λ (w : SlotWanted). w.ino)) (sym c.from_vec.ensures) c.in-Ok-slots_of.ensures.order
-
 pub plan_placed-requires-clause-held : goal.plan_placed-requires-clause-held
 plan_placed-requires-clause-held g c κs within =
+    let bytes = c.in-Ok-settled_bytes.bytes in
+    let made = c.in-Ok-settled_bytes.ensures in
     agreed_bytes c.args.chosen.now.geometry c.args.stamp.now c.args.due c.requires.due c.args.settling c.requires.settling
-    c.args.chosen.now.sector c.in-Ok.asked.wanted c.in-Ok.asked.kept c.from_vec.result c.in-Ok-place.placed c.in-Ok-bytes_of.bytes c.with_objects-bytes.result
+    c.args.chosen.now.sector c.in-Ok.asked.wanted c.in-Ok.asked.kept bytes.slots c.in-Ok-place.placed (record bytes { objects = [] }) bytes
     c.in-Ok.ensures.wanted
     (agreed_slots c.args.chosen.now.geometry c.args.stamp.now c.args.due c.requires.due c.args.settling c.requires.settling
-    c.in-Ok.asked.kept c.in-Ok-place.placed c.from_vec.result c.as_slice-2.result.now c.in-Ok.ensures.kept (c.from_vec.ensures ∙ c.in-Ok-slots_of.ensures.slots)
-    (c.as_slice-2.ensures ∙ c.in-Ok.ensures.slots))
-    (subst (IsNonDecreasingBy (λ (w : SlotWanted). w.ino)) (sym c.from_vec.ensures) c.in-Ok-slots_of.ensures.order) c.requires.accepted c.requires.states c.in-Ok-bytes_of.ensures.at_hand
-    (c.with_objects-bytes.ensures
-    ∙ ap (λ (o : Image). record c.in-Ok-bytes_of.bytes { objects = o }) (c.in-Ok-blocks_of_built.ensures ∙ ap blocks_of_built c.as_slice-5.ensures))
+    c.in-Ok.asked.kept c.in-Ok-place.placed c.in-Ok-settled_bytes.bytes.slots c.in-Ok.asked.slots c.in-Ok.ensures.kept c.in-Ok-settled_bytes.ensures.slots c.in-Ok.ensures.slots)
+    made.order c.requires.accepted c.requires.states made.at_hand
+    (ap (λ (o : Image). record bytes { objects = o }) made.objects)
 
 pub returns-in-Err-NoRoom-clause-refused : goal.returns-in-Err-NoRoom-clause-refused
 returns-in-Err-NoRoom-clause-refused g c =
@@ -84,24 +74,24 @@ pub returns-clause-renamed : goal.returns-clause-renamed
 returns-clause-renamed g c =
     let stood = c.in-Ok-place.ensures in
     let planned = c.plan_placed.ensures in
+    let bytes = c.in-Ok-settled_bytes.bytes in
+    let made = c.in-Ok-settled_bytes.ensures in
     all_renamed c.args.chosen.now.geometry c.args.stamp.now c.args.due c.requires.due c.args.settling c.requires.settling
-    c.args.chosen.now.sector c.in-Ok.asked.wanted c.in-Ok.asked.kept c.from_vec.result c.as_slice-4.result.now c.in-Ok.asked.log c.in-Ok-place.placed c.in-Ok-bytes_of.bytes
-    c.with_objects-bytes.result c.in-Ok.ensures.wanted c.in-Ok.ensures.kept
+    c.args.chosen.now.sector c.in-Ok.asked.wanted c.in-Ok.asked.kept bytes.slots c.in-Ok.asked.seen c.in-Ok.asked.log c.in-Ok-place.placed (record bytes { objects = [] })
+    bytes c.in-Ok.ensures.wanted c.in-Ok.ensures.kept
     (agreed_slots c.args.chosen.now.geometry c.args.stamp.now c.args.due c.requires.due c.args.settling c.requires.settling
-    c.in-Ok.asked.kept c.in-Ok-place.placed c.from_vec.result c.as_slice-2.result.now c.in-Ok.ensures.kept (c.from_vec.ensures ∙ c.in-Ok-slots_of.ensures.slots)
-    (c.as_slice-2.ensures ∙ c.in-Ok.ensures.slots))
-    (c.as_slice-4.ensures ∙ c.in-Ok.ensures.seen) c.in-Ok.ensures.log c.in-Ok-bytes_of.ensures.at_hand
-    (c.with_objects-bytes.ensures
-    ∙ ap (λ (o : Image). record c.in-Ok-bytes_of.bytes { objects = o }) (c.in-Ok-blocks_of_built.ensures ∙ ap blocks_of_built c.as_slice-5.ensures))
+    c.in-Ok.asked.kept c.in-Ok-place.placed c.in-Ok-settled_bytes.bytes.slots c.in-Ok.asked.slots c.in-Ok.ensures.kept c.in-Ok-settled_bytes.ensures.slots c.in-Ok.ensures.slots)
+    c.in-Ok.ensures.seen c.in-Ok.ensures.log made.at_hand
+    (ap (λ (o : Image). record bytes { objects = o }) made.objects)
     (record { runs' = stood.runs; groups' = stood.groups; apart = stood.apart; pool = stood.pool; counts' = stood.counts }) stood.cuts
-    (length c.as_slice-3.result.now) c.cleared_beside-cleared.result (g.D.Disk.holds c.args.disk.now) (g.D.Disk.holds c.bytes_of.new.disk) c.plan_placed.result
-    (ap length c.as_slice-3.ensures) (c.cleared_beside-cleared.ensures ∙ ap (cleared_beside c.args.settling.lost) (c.as_slice.ensures ∙ c.in-Ok.ensures.slots))
-    c.in-Ok-bytes_of.ensures.read c.bytes_of.ensures.disk.same_contents planned.planned planned.kept planned.cleared
+    (length c.as_slice-2.result.now) c.cleared_beside-cleared.result (g.D.Disk.holds c.args.disk.now) (g.D.Disk.holds c.settled_bytes.new.disk) c.plan_placed.result
+    (ap length c.as_slice-2.ensures) (c.cleared_beside-cleared.ensures ∙ ap (cleared_beside c.args.settling.lost) (c.as_slice.ensures ∙ c.in-Ok.ensures.slots))
+    made.read c.settled_bytes.ensures.disk.same_contents planned.planned planned.kept planned.cleared
 
 pub returns-clause-cause : goal.returns-clause-cause
 returns-clause-cause g c =
-    cause_on (g.D.Disk.faults c.args.disk.now) (g.D.Disk.faults c.bytes_of.new.disk) (g.D.Disk.faults c.plan_placed.new.disk) c.plan_placed.result
-    c.in-Ok-bytes_of.ensures.cause c.plan_placed.ensures.cause
+    cause_on (g.D.Disk.faults c.args.disk.now) (g.D.Disk.faults c.settled_bytes.new.disk) (g.D.Disk.faults c.plan_placed.new.disk) c.plan_placed.result
+    c.in-Ok-settled_bytes.ensures.cause c.plan_placed.ensures.cause
 
 pub returns-clause-refused : goal.returns-clause-refused
 returns-clause-refused g c = all_refused c.args.chosen.now.geometry c.args.due c.plan_placed.result c.plan_placed.ensures.refused
@@ -109,5 +99,5 @@ returns-clause-refused g c = all_refused c.args.chosen.now.geometry c.args.due c
 pub returns-clause-disk : goal.returns-clause-disk
 returns-clause-disk g c =
     let D = g.D.Disk in
-    reads_on D.size D.holds D.write_faults D.writes D.tells_stops D.moment D.may_leave D.left_since c.args.disk.now c.bytes_of.new.disk c.plan_placed.new.disk
-    c.bytes_of.ensures.disk c.plan_placed.ensures.disk
+    reads_on D.size D.holds D.write_faults D.writes D.tells_stops D.moment D.may_leave D.left_since c.args.disk.now c.settled_bytes.new.disk c.plan_placed.new.disk
+    c.settled_bytes.ensures.disk c.plan_placed.ensures.disk
