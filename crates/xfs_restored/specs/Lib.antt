@@ -1,1 +1,10 @@
 pub mod Restoring
+pub mod Pieces
+pub mod Directories
+pub mod Renamed
+pub mod Changes
+pub mod Reading
+pub mod Relinking
+pub mod Catalogs
+pub mod Numbered
+pub mod StayingNumbers

@@ -1,5 +1,0 @@
-use Rattle.xfs_renamed.proofs.ForkRuns.{all_find}
-use Rattle.xfs_renamed.proofs.directories.directories_find_their_forks.Goals as goal
-
-pub returns : goal.returns
-returns c = all_find

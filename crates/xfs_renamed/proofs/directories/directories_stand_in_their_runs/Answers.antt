@@ -1,5 +1,0 @@
-use Rattle.xfs_renamed.proofs.Standing.{directories_stand}
-use Rattle.xfs_renamed.proofs.directories.directories_stand_in_their_runs.Goals as goal
-
-pub returns : goal.returns
-returns c = directories_stand

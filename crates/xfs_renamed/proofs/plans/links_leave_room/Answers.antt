@@ -1,5 +1,0 @@
-use Rattle.xfs_renamed.proofs.Room.{links_ascend}
-use Rattle.xfs_renamed.proofs.plans.links_leave_room.Goals as goal
-
-pub returns : goal.returns
-returns c = links_ascend

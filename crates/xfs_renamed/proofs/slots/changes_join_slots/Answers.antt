@@ -1,5 +1,0 @@
-use Rattle.xfs_renamed.proofs.Changing.{changes_wanted}
-use Rattle.xfs_renamed.proofs.slots.changes_join_slots.Goals as goal
-
-pub returns : goal.returns
-returns c = changes_wanted

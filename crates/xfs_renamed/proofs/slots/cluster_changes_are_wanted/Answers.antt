@@ -1,8 +1,0 @@
-use Rattle.xfs_renamed.proofs.NewCluster.{free_now, lost_wanted}
-use Rattle.xfs_renamed.proofs.slots.cluster_changes_are_wanted.Goals as goal
-
-pub returns-clause-lost : goal.returns-clause-lost
-returns-clause-lost c = lost_wanted
-
-pub returns-clause-free : goal.returns-clause-free
-returns-clause-free c = free_now

@@ -1,5 +1,0 @@
-use Rattle.xfs_renamed.proofs.Extents.{extents_back}
-use Rattle.xfs_renamed.proofs.slots.forks_read_back.Goals as goal
-
-pub returns : goal.returns
-returns c = extents_back
