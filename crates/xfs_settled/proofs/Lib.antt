@@ -1,0 +1,13 @@
+mod Found
+mod FoundClusters
+mod Numbers
+mod Stands
+mod Nodes
+mod SlotOrder
+mod LinkCounts
+mod ReplacedExtents
+mod ServedForks
+mod WholeSlots
+mod ForksFit
+mod MadeOf
+mod SlotChanges
