@@ -19,7 +19,7 @@ use Rattle.xfs_mend.specs.Asked.{Asked}
 use Rattle.xfs_backups.specs.Backups.{backup_plan}
 use Rattle.xfs_mend.specs.Due.{IsAnswer, IsDueBehind, IsDueFound, IsDueRepair, IsDueVolume, IsOwed, asks_log, away_if, is_dirty, turned_away}
 use Rattle.xfs_mend.specs.Outcome.{IsRebuilt, IsRepaired, RepairLeaves, StaysClean, is_quiet}
-use Rattle.xfs_mend.specs.Rebuilding.{KeepsNames, rebuild_writes}
+use Rattle.xfs_mend.specs.Rebuilding.{rebuild_writes}
 use Rattle.xfs_mend.specs.declared.outcome.Outcome.{Outcome}
 use Rattle.xfs_mend.specs.declared.outcome.Outcome.TheVariants.{NoGeometry, Unsupported, DirtyLog, TooLarge, UnsupportedFile, Clean, Damaged, Repaired, NoRoom, ReadFault, WriteFault, NoMemory}
 use Rattle.xfs_mend.specs.declared.outcome.Summary.{Summary}
@@ -101,10 +101,9 @@ pub left_clean : (o : Asked) (s : Stamp) (image left : Image) (outcome : Outcome
     → IsOwed (λ due. due ≡ Clean) outcome
 left_clean o s image left outcome is due = (left_is image left is).only o s outcome due
 
--- so it is with what a rebuild left in which no name changed
+-- so it is with what a rebuild left
 pub rebuilt_stays : (o : Asked) (s t : Stamp) (image left : Image) (now : Option Image) (blocks kept cleared orphans : ℕ) (outcome : Outcome)
-    → (is : IsRebuilt s image (Some left) blocks kept cleared orphans) → KeepsNames is.plan.has.geometry s image → IsDueRepair o t left outcome → RepairLeaves t left now outcome
-    → now ≡ Some left
-rebuilt_stays o s t image left now blocks kept cleared orphans outcome is named due leaves =
+    → IsRebuilt s image (Some left) blocks kept cleared orphans → IsDueRepair o t left outcome → RepairLeaves t left now outcome → now ≡ Some left
+rebuilt_stays o s t image left now blocks kept cleared orphans outcome is due leaves =
     let same : left ≡ written (rebuild_writes is.r) image = one_image left (written (rebuild_writes is.r) image) is.is in
-    quiet_leaves t left now outcome (is.stays named o t outcome (subst (λ (x : Image). IsDueRepair o t x outcome) same due)) leaves
+    quiet_leaves t left now outcome (is.stays o t outcome (subst (λ (x : Image). IsDueRepair o t x outcome) same due)) leaves

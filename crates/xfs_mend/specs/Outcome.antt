@@ -16,7 +16,7 @@ use Rattle.xfs_rebuild.specs.declared.planning.Rebuilt.{Rebuilt}
 use Rattle.xfs_mend.specs.Asked.{Asked}
 use Rattle.xfs_backups.specs.Backups.{with_super, start_of, backup_plan}
 use Rattle.xfs_mend.specs.Due.{IsAnswer, IsDueRepair, IsOwed}
-use Rattle.xfs_mend.specs.Rebuilding.{IsBackupFound, KeepsNames, IsPartlyRebuilt, IsPlannedRebuild, IsStoppedAnew, rebuild_writes}
+use Rattle.xfs_mend.specs.Rebuilding.{IsBackupFound, IsPartlyRebuilt, IsPlannedRebuild, IsStoppedAnew, rebuild_writes}
 use Rattle.xfs_writing.specs.Writing.{Writes, written, IsPartly}
 use Rattle.xfs_writing.specs.Stopped.{IsStopped}
 use Rattle.xfs_mend.specs.declared.outcome.Outcome.{Outcome}
@@ -73,9 +73,8 @@ pub record IsRepaired (image : Image) (now : Option Image) : Type 0 where
   pub keeps : (ino : ℕ) → Protected (volume_of geometry) image ino → Keeps (volume_of geometry) image (written (backup_plan image) image) ino
   pub stays : StaysClean (written (backup_plan image) image)
 
--- A rebuilt image has just the planned blocks, as the summary counts them. Where no name had to change none is put into lost+found, the
--- image is consistent by the geometry that it elected before, each file that was protected is kept, and a further repair writes nothing.
--- Where names changed this is not promised.
+-- A rebuilt image has just the planned blocks, as the summary counts them. Whether names changed or not, it is consistent by the geometry
+-- that it elected before, each file that was protected is kept, and a further repair writes nothing.
 pub record IsRebuilt (s : Stamp) (image : Image) (now : Option Image) (blocks kept cleared orphans : ℕ) : Type 0 where
   pub r : Rebuilt
   pub plan : IsPlannedRebuild s image r orphans
@@ -83,11 +82,10 @@ pub record IsRebuilt (s : Stamp) (image : Image) (now : Option Image) (blocks ke
   pub counted : blocks ≡ length r.fresh + length r.in_place
   pub kept' : kept ≡ r.kept
   pub cleared' : cleared ≡ r.cleared
-  pub none : KeepsNames plan.has.geometry s image → orphans ≡ 0
-  pub consistent : KeepsNames plan.has.geometry s image → IsConsistent broken_law plan.has.geometry (written (rebuild_writes r) image)
-  pub keeps : KeepsNames plan.has.geometry s image → (ino : ℕ) → Protected (volume_of plan.has.geometry) image ino
+  pub consistent : IsConsistent broken_law plan.has.geometry (written (rebuild_writes r) image)
+  pub keeps : (ino : ℕ) → Protected (volume_of plan.has.geometry) image ino
       → Keeps (volume_of plan.has.geometry) image (written (rebuild_writes r) image) ino
-  pub stays : KeepsNames plan.has.geometry s image → (o : Asked) (t : Stamp) (outcome : Outcome) → IsDueRepair o t (written (rebuild_writes r) image) outcome
+  pub stays : (o : Asked) (t : Stamp) (outcome : Outcome) → IsDueRepair o t (written (rebuild_writes r) image) outcome
       → is_quiet outcome ≡ true
 
 -- what the disk holds after an outcome of the plan: the written plan after a repair, a part of it after a

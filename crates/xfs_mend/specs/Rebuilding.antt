@@ -42,11 +42,7 @@ pub record IsGroundOf (g : Geometry) (image : Image) (on : Ground) : Type 0 wher
   pub evidence : IsEvidence g image e
   pub ground : IsGround (volume_of g) e on
 
--- by what an image gives to go by, no name and no directory has to change
-abbrev pub KeepsNames : Geometry → Stamp → Image → Type 0
-KeepsNames g s image = (on : Ground) × IsGroundOf g image on × (names_change g s on ≡ false)
-
--- one has to change, and this is then known of the volume
+-- a name or a directory has to change, and this is then known of the volume
 pub record IsNamesDue (g : Geometry) (s : Stamp) (image : Image) (n : NamesDue) : Type 0 where
   pub on : Ground
   pub ground : IsGroundOf g image on

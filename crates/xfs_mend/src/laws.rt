@@ -13,7 +13,6 @@ ghost use Rattle.xfs_scan.specs.Refused.{refused};
 ghost use Rattle.xfs_mend.specs.Asked.{Asked};
 ghost use Rattle.xfs_mend.specs.Due.{IsAnswer, IsDueRepair, IsOwed, scan_refusal, turned_away, uncounted};
 ghost use Rattle.xfs_mend.specs.Outcome.{IsRebuilt, IsRepaired, RepairLeaves, is_quiet};
-ghost use Rattle.xfs_mend.specs.Rebuilding.{KeepsNames};
 
 use crate::outcome::Outcome;
 
@@ -27,13 +26,13 @@ pub fn outcomes_by_rows()
 {}
 
 /// A repair of a consistent image writes nothing and leaves it as it is, whatever its options are and whatever comes of it: its log never
-/// stands in the way, so clean is due unless it is too large or has a file that is not supported. So it is with what a rebuild left in
-/// which no name changed, and with what a repair of backups left, to which clean is due in any case.
+/// stands in the way, so clean is due unless it is too large or has a file that is not supported. So it is with what a rebuild left,
+/// whether names changed or not, and with what a repair of backups left, to which clean is due in any case.
 pub fn repairs_leave_it()
     ensures quiet { (o : Asked) (s : Stamp) (g : Geometry) (image : Image) (outcome : Outcome) → IsConsistent broken_law g image → IsDueRepair o s image outcome → is_quiet outcome ≡ true }
     ensures consistent { (o : Asked) (s : Stamp) (g : Geometry) (image : Image) (now : Option Image) (outcome : Outcome) → IsConsistent broken_law g image → IsDueRepair o s image outcome → RepairLeaves s image now outcome → now ≡ Some image }
     ensures clean { (o : Asked) (s : Stamp) (g : Geometry) (image : Image) → IsConsistent broken_law g image → scan_refusal (refused (volume_of g) image) ≡ None → IsAnswer o s image (elected image) Outcome.Clean }
     ensures repaired { (o : Asked) (s : Stamp) (image left : Image) (now : Option Image) (outcome : Outcome) → IsRepaired image (Some left) → IsDueRepair o s left outcome → RepairLeaves s left now outcome → now ≡ Some left }
-    ensures rebuilt { (o : Asked) (s t : Stamp) (image left : Image) (now : Option Image) (blocks kept cleared orphans : ℕ) (outcome : Outcome) (is : IsRebuilt s image (Some left) blocks kept cleared orphans) → KeepsNames is.plan.has.geometry s image → IsDueRepair o t left outcome → RepairLeaves t left now outcome → now ≡ Some left }
+    ensures rebuilt { (o : Asked) (s t : Stamp) (image left : Image) (now : Option Image) (blocks kept cleared orphans : ℕ) (outcome : Outcome) → IsRebuilt s image (Some left) blocks kept cleared orphans → IsDueRepair o t left outcome → RepairLeaves t left now outcome → now ≡ Some left }
     ensures due { (o : Asked) (s : Stamp) (image left : Image) (outcome : Outcome) → IsRepaired image (Some left) → IsDueRepair o s left outcome → IsOwed (λ due. due ≡ Outcome.Clean) outcome }
 {}
