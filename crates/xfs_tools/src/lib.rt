@@ -24,3 +24,4 @@ pub use command_line::{Call, RepairWords, is_debugger, is_maker, judge};
 pub use help_words::text_asked;
 pub use texts::put_answer;
 pub use top::run;
+pub use xfs_mend::Summary;

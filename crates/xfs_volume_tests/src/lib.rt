@@ -1,4 +1,4 @@
-//! Tests of all that judges, gathers, places and runs whole volumes. They stand in a crate of their own, since a crate is proved once more
+//! Tests of all that judges, gathers, places and builds whole volumes. They stand in a crate of their own, since a crate is proved once more
 //! with its tests.
 #![tactic(auto)]
 
@@ -42,5 +42,3 @@ mod small_volume;
 mod space;
 #[cfg(test)]
 mod text;
-#[cfg(test)]
-mod tools;

@@ -17,7 +17,7 @@ use xfs_geom::{InoRec, RmapRec};
 use xfs_heads::LogState;
 use xfs_place::GroupInodes;
 use xfs_render::{SlotBase, SlotWanted};
-use xfs_request::{Request, SlotSeen, SlotState, ask, due_cycle};
+use xfs_request::{Request, SlotSeen, SlotState, ask, due_cycle, kept_lsns};
 use xfs_runs::Steps;
 use xfs_salvage::{FoundRecords, salvage};
 use xfs_volume::{ClusterRec, Records};
@@ -186,7 +186,8 @@ fn try_asked<R: Threads + Sync + Abort + AllocGlobal, L: Ledger>(
     tells_wanted(rt, alloc, &asked, &mut row, case)?;
     same!(rt; asked.kept, row.number(rt); case);
     same!(rt; asked.cleared, row.number(rt); case);
-    let cycle = due_cycle(alloc, &g, &kept, slots.as_slice(), lsns.as_slice(), &log)?;
+    let numbers = kept_lsns(alloc, &g, &kept, slots.as_slice(), lsns.as_slice())?;
+    let cycle = due_cycle(numbers.as_slice(), &log)?;
     same!(rt; cycle, row.optional(rt); case);
     sure(rt, row.is_read(), case);
     Ok(())

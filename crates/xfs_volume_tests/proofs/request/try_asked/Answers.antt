@@ -18,10 +18,10 @@ ask-requires-clause-clusters g c = subst (NumbersAscend 0) (sym c.in_ok-kept.ens
 pub ask-requires-clause-forks : goal.ask-requires-clause-forks
 ask-requires-clause-forks g c = subst (All (HasLawfulForks _)) (sym c.in_ok-kept.ensures.files) (files_have_forks _ _ _ c.in_ok-kept.ensures.can)
 
-pub due_cycle-requires-clause-files : goal.due_cycle-requires-clause-files
-due_cycle-requires-clause-files g c =
+pub kept_lsns-requires-clause-files : goal.kept_lsns-requires-clause-files
+kept_lsns-requires-clause-files g c =
     files_in_order c.in_ok-kept.kept.files
     (subst (λ (fs : List FileRec). NumbersAscend 0 (numbers_of fs)) (sym c.in_ok-kept.ensures.files) (files_of_volume_ascend _ _ _ c.in_ok-kept.ensures.can))
 
-pub due_cycle-requires-clause-clusters : goal.due_cycle-requires-clause-clusters
-due_cycle-requires-clause-clusters g c = subst (NumbersAscend 0) (sym c.in_ok-kept.ensures.clusters) (clusters_of_volume_ascend _ _ _)
+pub kept_lsns-requires-clause-clusters : goal.kept_lsns-requires-clause-clusters
+kept_lsns-requires-clause-clusters g c = subst (NumbersAscend 0) (sym c.in_ok-kept.ensures.clusters) (clusters_of_volume_ascend _ _ _)

@@ -1,13 +1,11 @@
 //! The lines of the answers that no call of the tools sees yet.
 
-use crate::checks::compare_at;
 use std::process::Abort;
 use std::test::Fail;
 use xfs_disk::MemorySink;
 use xfs_image::Finding;
-use xfs_mend::Summary;
 use xfs_place::Unplaced;
-use xfs_tools::{Answer, put_answer};
+use xfs_tools::{Answer, Summary, put_answer};
 use xfs_volume::Law;
 
 /// The lines of the answers, in their order.
@@ -64,7 +62,7 @@ fn answers() -> [Answer; 12] {
 fn puts(rt: &(impl Abort + AllocGlobal), answer: Answer, lines: &str) -> Result<(), Fail> {
     let mut sink = MemorySink::make(rt.alloc(), 80)?;
     put_answer(&mut sink, answer)?;
-    compare_at(rt, &sink.bytes(), &lines.as_bytes(), &lines);
+    assert_eq!(rt; sink.bytes(), lines.as_bytes(), "{lines:?}");
     Ok(())
 }
 
