@@ -396,14 +396,18 @@ def cases_of_one_block():
     made.finish(FIRST_TREES, FIRST_LISTS)
     words = Words().pipes(132, 162).entries(24, 96, 0, 132, 30)
     lost = numbers(range(132, 162))
-    damaged = changed(made.image, (24, 0, bytes(BLOCK)))
-    now = after(damaged, WHOLE, [24], range(128, 163))
-    now.fix_pool()
-    now.rebuild(128, 128, [(b"d", 131, FOLDER), (LOST, 162, FOLDER)], 4)
-    now.rebuild(131, 128, [])
-    now.rebuild(162, 128, lost, mode=0x41c0)
-    told("a directory whose one block is lost is empty then, and what it named is in lost+found", ["A directory of 30 pipes, its one block all zeros."],
-         damaged, "damaged: law 7 at 131, held 1, due 0", "kept=35 cleared=0 orphans=30", now.settle().image, words=words)
+    for name, note, damage in (
+            ("a directory whose one block is lost is empty then, and what it named is in lost+found", "its one block all zeros", (24, 0, bytes(BLOCK))),
+            ("the number of a cycle that no log has does not count in a block that is given up",
+             "in whose one block other bytes stand for the log sequence number, of cycle 2^31, under the checksum that it had", (24, 16, b"\x80" + bytes(7)))):
+        damaged = changed(made.image, damage)
+        now = after(damaged, WHOLE, [24], range(128, 163))
+        now.fix_pool()
+        now.rebuild(128, 128, [(b"d", 131, FOLDER), (LOST, 162, FOLDER)], 4)
+        now.rebuild(131, 128, [])
+        now.rebuild(162, 128, lost, mode=0x41c0)
+        told(name, [f"A directory of 30 pipes, {note}."], damaged, "damaged: law 7 at 131, held 1, due 0", "kept=35 cleared=0 orphans=30", now.settle().image,
+             words=words)
     damaged = changed(made.image, (16, 1536, bytes(512)))
     now = after(damaged, WHOLE, (), range(128, 162))
     now.fix_pool()
