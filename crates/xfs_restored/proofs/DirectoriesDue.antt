@@ -19,7 +19,7 @@ use Rattle.xfs_volume.specs.Names.{is_directory, type_of}
 use Rattle.xfs_volume.specs.declared.cores.Core.{Core}
 use Rattle.xfs_volume.specs.declared.directories.DirRec.{DirRec}
 use Rattle.xfs_volume.specs.declared.files.FileRec.{FileRec}
-use Rattle.xfs_naming.specs.Naming.{entries_in}
+use Rattle.xfs_naming.specs.Naming.{entries_in, file_at}
 use Rattle.xfs_links.specs.declared.records.NodeRec.{NodeRec}
 use Rattle.xfs_names.specs.Having.{node_of}
 use Rattle.xfs_names.specs.Pairs.{PairsAscend, parent_among, parent_or_itself}
@@ -46,7 +46,7 @@ use Rattle.xfs_restored.proofs.Planned.{all_read, holds_built}
 use Rattle.xfs_reread.specs.DueFiles.{linked_core, new_core}
 use Rattle.xfs_reread.proofs.Fresh.{empty_form, made_root}
 use Rattle.xfs_reread.proofs.RootInodes.{low_root}
-use Rattle.xfs_restored.specs.Relinking.{IsRelinked, built_at, entries_due, file_at, renamed_dirs, renamed_entries, renamed_files, whole_with, with_built}
+use Rattle.xfs_restored.specs.Relinking.{IsRelinked, built_at, entries_due, renamed_dirs, renamed_entries, renamed_files, whole_with, with_built}
 use Rattle.xfs_restored.proofs.BuiltForks.{built_file, fork_changes, fork_put, links_leave, short_bytes_of}
 use Rattle.xfs_restored.proofs.DueNodes as Due
 use Rattle.xfs_restored.proofs.EntriesAlike.{IsRight, right_directory}

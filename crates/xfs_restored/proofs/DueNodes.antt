@@ -1,5 +1,5 @@
 -- The files that are due are those that are wanted, each with its links, and so are the directories.
-use Rattle.std.proofs.Common.{◌≡◌, ℕ, Bool, true, false, ◌/◌, ◌^◌, inl, inr, ◌==◌, ◌&&◌, ◌||◌, ◌+◌, if◌then◌else◌, List, map, Option, Some, None, refl, sym, ap, ◌∙◌, subst}
+use Rattle.std.proofs.Common.{◌≡◌, ℕ, Bool, true, false, ◌/◌, ◌^◌, inl, inr, ◌==◌, ◌&&◌, ◌||◌, ◌+◌, if◌then◌else◌, List, map, Option, Some, None, refl, sym, ap, ◌∙◌, subst, []}
 use Rattle.std.proofs.lemmas.Bool.{and_from, eq-eqb, eqb-true, ne_eqb, or_cases}
 use Rattle.xfs_disk.specs.Blocks.{Image}
 use Rattle.xfs_disk.specs.declared.stamp.Stamp.{Stamp}
@@ -8,7 +8,7 @@ use Rattle.xfs_geom.specs.declared.geometry.Geometry.{Geometry}
 use Rattle.xfs_volume.specs.Names.{type_of}
 use Rattle.xfs_volume.specs.declared.cores.Core.{Core}
 use Rattle.xfs_volume.specs.declared.files.FileRec.{FileRec}
-use Rattle.xfs_naming.specs.Naming.{is_in_use}
+use Rattle.xfs_naming.specs.Naming.{file_at, is_in_use}
 use Rattle.xfs_links.specs.Entries.{is_kept_node, is_reserved_inode}
 use Rattle.xfs_links.specs.declared.records.NodeRec.{NodeRec}
 use Rattle.xfs_names.specs.Having.{HasWanted, node_of}
@@ -26,11 +26,12 @@ use Rattle.xfs_rename.specs.declared.lost.Lost.{Lost}
 use Rattle.xfs_rename.specs.declared.planning.Renamed.{Renamed}
 use Rattle.xfs_restored.specs.Directories.{BuiltRuns}
 use Rattle.xfs_reread.specs.DueFiles.{new_core, stated_crc}
-use Rattle.xfs_restored.specs.Relinking.{IsRelinked, built_at, built_of, file_at, file_due, first_file, fresh_core, linked_file, renamed_dirs, renamed_files, with_built}
+use Rattle.xfs_restored.specs.Relinking.{IsRelinked, built_at, built_of, file_due, core_anew, file_with_links, renamed_dirs, renamed_files, with_built}
 use Rattle.xfs_restored.proofs.FilesAlike.{all_whole, built_kind, built_links, built_number, linked_links, linked_number, links_are, node_same, nodes_are, pairs_are}
 use Rattle.xfs_restored.proofs.NamedFiles.{own_inode}
 use Rattle.xfs_restored.proofs.WantedBuilt.{lost_none}
 use Rattle.xfs_restored.proofs.WantedNumbers.{file_cases, file_not_lost, fresh_is_not_lost, fresh_not_kept, kept_at, kept_is_not_lost, node_cases}
+use Rattle.xfs_restored.proofs.WantedLists.{at_first}
 
 none_any : (k : ℕ) (ms : List NodeRec) → ((m : NodeRec) → Member m ms → m.ino ≡ k → ⊥) → is_kept_node ms k ≡ false
 none_any k ms none = by_case (is_kept_node ms k) refl
@@ -93,7 +94,7 @@ module _ (g : Geometry) (sector : List ℕ) (s : Stamp) (image now : Image) (e :
 
   -- a file that is due, by its number and its links
   abbrev pub before : ℕ × ℕ → Option FileRec → FileRec
-  before p o = linked_file (volume_of g) s l has.on.seen crc p o
+  before p o = file_with_links (volume_of g) s l has.on.seen crc p o
 
   pub due_number : (p : ℕ × ℕ) → (due p).ino ≡ p.0
   due_number p =
@@ -115,7 +116,7 @@ module _ (g : Geometry) (sector : List ℕ) (s : Stamp) (image now : Image) (e :
   due_is p o found none = λ i. with_built (volume_of g) (old_files n w) crc (before p (found i)) (none i)
 
   -- an inode that is made anew is not lost+found
-  pub fresh_core_is : (ino : ℕ) → Member ino has.on.kept.fresh → fresh_core (volume_of g) s l ino ≡ new_core (volume_of g) s ino
+  pub fresh_core_is : (ino : ℕ) → Member ino has.on.kept.fresh → core_anew (volume_of g) s l ino ≡ new_core (volume_of g) s ino
   fresh_core_is ino is =
       ap (λ (t : Bool). if t then lost_core (volume_of g) s ino else new_core (volume_of g) s ino)
       (off l.made (ne_eqb ino l.new (λ same. fresh_is_not_lost g sector s image now e n r has ino is (sym same))))
@@ -134,7 +135,7 @@ module _ (g : Geometry) (sector : List ℕ) (s : Stamp) (image now : Image) (e :
 
   pub lost_kind : (k : ℕ) → l.made ≡ true → type_of (due (l.new, k)) ≡ 4
   lost_kind k made =
-      due_kind (l.new, k) None (ap first_file (lost_none g sector s image now e n r has))
+      due_kind (l.new, k) None (at_first has.on.kept.files l.new [] (lost_none g sector s image now e n r has))
       ∙ ap (λ (t : Bool). (if t then lost_core (volume_of g) s l.new else new_core (volume_of g) s l.new).mode / 2 ^ 12)
       (and_from l.made (l.new == l.new) made (eq-eqb l.new l.new refl))
 

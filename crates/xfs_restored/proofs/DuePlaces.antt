@@ -18,7 +18,7 @@ use Rattle.xfs_image.specs.Files.{clusters_of}
 use Rattle.xfs_image.specs.Lsns.{LsnPlace, at, cluster_places, data_places, dir_byte, extent_places, file_places, lsn_at, lsn_places, lsn_places_in_order, lsns_read}
 use Rattle.xfs_place.specs.Wanted.{IsOffFixed}
 use Rattle.xfs_protected.proofs.Claimed.{same_claims}
-use Rattle.xfs_protected.proofs.Members.{Member, any_member, filter_member, member_all, member_either, member_filter, member_flat, member_map, member_right}
+use Rattle.xfs_protected.proofs.Members.{Member, any_member, member_all, member_either, member_filter, member_flat, member_map, member_right}
 use Rattle.xfs_frames.specs.SameFiles.{HasSameClaims}
 use Rattle.xfs_space.specs.Owners.{file_runs}
 use Rattle.xfs_volume.specs.Names.{type_of}
@@ -32,7 +32,7 @@ use Rattle.xfs_reread.proofs.FileLsns.{in_order, place_claimed}
 use Rattle.xfs_rename.specs.Settled.{staying_file, without_data}
 use Rattle.xfs_rename.specs.declared.lost.Lost.{Lost}
 use Rattle.xfs_restored.specs.Directories.{BuiltRuns}
-use Rattle.xfs_restored.specs.Relinking.{extents_built, file_at, first_file, linked_file, with_built}
+use Rattle.xfs_restored.specs.Relinking.{extents_built, file_with_links, with_built}
 
 -- of a directory that has no tree: in its blocks, or in those of its attributes
 split_places : (v : Volume) (place : LsnPlace) (f : FileRec) → type_of f ≡ 4 → f.tree ≡ [] → Member place (file_places v f)
@@ -53,17 +53,9 @@ no_place place true link is = is
 no_place place false true is = is
 no_place place false false is = is
 
--- the file at a number is one of the files
-first_member : (x : FileRec) (xs : List FileRec) → first_file xs ≡ Some x → Member x xs
-first_member x [] is = absurd cc
-first_member x (y ∷ ys) is = let same : y ≡ x = cc in inl same
-
-pub at_member : (files : List FileRec) (ino : ℕ) (x : FileRec) → file_at files ino ≡ Some x → Member x files
-at_member files ino x is = (filter_member (λ (f : FileRec). f.ino == ino) x files (first_member x (filter (λ (f : FileRec). f.ino == ino) files) is)).0
-
 module _ (v : Volume) (s : Stamp) (l : Lost) (seen : List SlotSeen) (crc : ℕ → ℕ) (old : List FileRec) (pair : ℕ × ℕ) (place : LsnPlace) where
   abbrev due : Option FileRec → Option BuiltRuns → FileRec
-  due o b = with_built v old crc (linked_file v s l seen crc pair o) b
+  due o b = with_built v old crc (file_with_links v s l seen crc pair o) b
 
   abbrev IsOfOld : Option FileRec → Option BuiltRuns → Type 0
   IsOfOld o b = (x : FileRec) × (o ≡ Some x) × Member place (file_places v (if is_some b then without_data x else x))

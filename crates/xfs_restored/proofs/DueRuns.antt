@@ -10,7 +10,7 @@ use Rattle.xfs_geom.specs.Volumes.{Volume, volume_of}
 use Rattle.xfs_geom.specs.declared.geometry.Geometry.{Geometry}
 use Rattle.xfs_geom.specs.declared.records.Run.{Run}
 use Rattle.xfs_laws.specs.Counting.{is_used}
-use Rattle.xfs_naming.specs.Naming.{NumbersAscend, is_in_use, numbers_of}
+use Rattle.xfs_naming.specs.Naming.{NumbersAscend, file_at, is_in_use, numbers_of}
 use Rattle.xfs_names.specs.declared.building.BuiltDirectory.{BuiltDirectory}
 use Rattle.xfs_names.specs.declared.records.WantedNames.{WantedNames}
 use Rattle.xfs_place.specs.Objects.{ServeAsks, asks_of}
@@ -35,15 +35,12 @@ use Rattle.xfs_rename.specs.Settled.{fork_rooms, settled, staying_file, without_
 use Rattle.xfs_rename.specs.declared.lost.Lost.{Lost}
 use Rattle.xfs_restored.specs.Directories.{BuiltRuns, asks_of_built, built_runs, runs_of_built, with_runs}
 use Rattle.xfs_restored.specs.Numbered.{AreNumbered, IsNumberOf, numbers_linked}
-use Rattle.xfs_restored.specs.Relinking.{built_at, built_of, extents_built, file_at, file_due, first_built, first_file, linked_file, renamed_files, with_built}
+use Rattle.xfs_restored.specs.Relinking.{built_at, built_of, extents_built, file_due, first_built, file_with_links, renamed_files, with_built}
 use Rattle.xfs_restored.proofs.NumberedSums.{none_at, one_at, sum_each, sum_flat, sum_mapped, sum_same, sum_two}
 use Rattle.xfs_restored.proofs.ServedRuns.{all_served, runs_built}
+use Rattle.xfs_restored.proofs.WantedLists.{at_first, at_has}
 
--- the first of some items that have a number has it
-first_number : (ino : ℕ) (xs : List FileRec) (x : FileRec) → ((y : FileRec) → Member y xs → y.ino ≡ ino) → first_file xs ≡ Some x → x.ino ≡ ino
-first_number ino [] x each is = absurd cc
-first_number ino (y ∷ ys) x each is = let same : y ≡ x = cc in sym (ap (λ (f : FileRec). f.ino) same) ∙ each y (inl refl)
-
+-- the first of some directories that have a number has it
 first_directory : (ino : ℕ) (xs : List BuiltRuns) (x : BuiltRuns) → ((y : BuiltRuns) → Member y xs → y.directory.ino ≡ ino) → first_built xs ≡ Some x → x.directory.ino ≡ ino
 first_directory ino [] x each is = absurd cc
 first_directory ino (y ∷ ys) x each is = let same : y ≡ x = cc in sym (ap (λ (d : BuiltRuns). d.directory.ino) same) ∙ each y (inl refl)
@@ -56,9 +53,6 @@ passing {X} number ino (x ∷ xs) y is = by_test (number x == ino) refl is (pass
         → (Member y (filter (λ (z : X). number z == ino) xs) → number y ≡ ino) → number y ≡ ino
     by_test true e has rest = elim has [ inl same ↦ sym (ap number same) ∙ eqb-true (number x) ino e | inr there ↦ rest there ]
     by_test false e has rest = rest has
-
-pub file_at_number : (files : List FileRec) (ino : ℕ) (x : FileRec) → file_at files ino ≡ Some x → x.ino ≡ ino
-file_at_number files ino x is = first_number ino (filter (λ (f : FileRec). f.ino == ino) files) x (passing (λ (f : FileRec). f.ino) ino files) is
 
 built_at_number : (ds : List BuiltRuns) (ino : ℕ) (x : BuiltRuns) → built_at ds ino ≡ Some x → x.directory.ino ≡ ino
 built_at_number ds ino x is = first_directory ino (filter (λ (d : BuiltRuns). d.directory.ino == ino) ds) x (passing (λ (d : BuiltRuns). d.directory.ino) ino ds) is
@@ -96,7 +90,7 @@ placed_part v (Some d) = runs_built v d
 
 module _ (v : Volume) (s : Stamp) (l : Lost) (seen : List SlotSeen) (crc : ℕ → ℕ) (old : List FileRec) (rebuilt : List ℕ) (f : Run → ℕ) (pair : ℕ × ℕ) where
   abbrev due_runs : Option FileRec → Option BuiltRuns → List Run
-  due_runs o b = file_runs v (with_built v old crc (linked_file v s l seen crc pair o) b)
+  due_runs o b = file_runs v (with_built v old crc (file_with_links v s l seen crc pair o) b)
 
   due_sum : (o : Option FileRec) (b : Option BuiltRuns) → ((x : FileRec) → o ≡ Some x → x.ino ≡ pair.0) → ((d : BuiltRuns) → b ≡ Some d → d.directory.ino ≡ pair.0)
       → is_among rebuilt pair.0 ≡ is_some b → sum_by f (due_runs o b) ≡ sum_by f (staying_part v rebuilt o) + sum_by f (placed_part v b)
@@ -123,7 +117,7 @@ module _ (v : Volume) (s : Stamp) (l : Lost) (seen : List SlotSeen) (crc : ℕ �
       let same : sum_by f (es x.ino) ≡ sum_by f (es d.directory.ino) = ap (λ (ino : ℕ). sum_by f (es ino)) (own x refl ∙ sym (mine d refl)) in
       omega (arith, stays, whole, same)
 
-  due_number : (o : Option FileRec) (b : Option BuiltRuns) → ((x : FileRec) → o ≡ Some x → x.ino ≡ pair.0) → (with_built v old crc (linked_file v s l seen crc pair o) b).ino ≡ pair.0
+  due_number : (o : Option FileRec) (b : Option BuiltRuns) → ((x : FileRec) → o ≡ Some x → x.ino ≡ pair.0) → (with_built v old crc (file_with_links v s l seen crc pair o) b).ino ≡ pair.0
   due_number None None own = refl
   due_number None (Some d) own = refl
   due_number (Some x) None own = own x refl
@@ -198,7 +192,7 @@ module _ (g : Geometry) (s : Stamp) (now : Image) (on : Ground) (n : NamesDue) (
 
     each_pair : (pair : ℕ × ℕ) → sum_by f (file_runs v (due pair)) ≡ A pair.0 + B pair.0
     each_pair pair =
-        due_sum v s l on.seen crc old w.rebuilt f pair (file_at kept.files pair.0) (built_at ds pair.0) (λ x is. file_at_number kept.files pair.0 x is) (λ d is. built_at_number ds pair.0 d is)
+        due_sum v s l on.seen crc old w.rebuilt f pair (file_at kept.files pair.0) (built_at ds pair.0) (λ x is. (at_has kept.files pair.0 x is).1) (λ d is. built_at_number ds pair.0 d is)
         (among_built pair.0)
 
     -- the files that stay
@@ -206,10 +200,10 @@ module _ (g : Geometry) (s : Stamp) (now : Image) (on : Ground) (n : NamesDue) (
     staying_sum =
         sum_same A 0 (numbers_linked w) (numbers_of kept.files) has.up has.kept_up
         (λ ino is. contained ino (numbers_linked w) (has.each ino (inl (contains ino (numbers_of kept.files) is))))
-        (λ ino is off. ap (λ (xs : List FileRec). sum_by f (staying_part v w.rebuilt (first_file xs))) (none_at (λ (x : FileRec). x.ino) ino kept.files off))
+        (λ ino is off. ap (λ (o : Option FileRec). sum_by f (staying_part v w.rebuilt o)) (at_first kept.files ino [] (none_at (λ (x : FileRec). x.ino) ino kept.files off)))
         ∙ (sum_mapped A (λ (x : FileRec). x.ino) kept.files
         ∙ (sum_each (λ (x : FileRec). A x.ino) (λ (x : FileRec). sum_by f (file_runs v (staying_file w.rebuilt x))) kept.files
-        (λ x is. ap (λ (xs : List FileRec). sum_by f (staying_part v w.rebuilt (first_file xs))) (one_at (λ (y : FileRec). y.ino) 0 x kept.files has.kept_up is))
+        (λ x is. ap (λ (o : Option FileRec). sum_by f (staying_part v w.rebuilt o)) (at_first kept.files x.ino (x ∷ []) (one_at (λ (y : FileRec). y.ino) 0 x kept.files has.kept_up is)))
         ∙ (sym (sum_flat f (λ (x : FileRec). file_runs v (staying_file w.rebuilt x)) kept.files) ∙ ap (sum_by f) (sym old_runs))))
       where
         one_old : (x : FileRec) → file_runs v (staying_file w.rebuilt (Names.linked_file g.rootino kept x)) ≡ file_runs v (staying_file w.rebuilt x)
@@ -253,7 +247,7 @@ module _ (g : Geometry) (s : Stamp) (now : Image) (on : Ground) (n : NamesDue) (
 
   -- who is used
   pub number_is : (pair : ℕ × ℕ) → (due pair).ino ≡ pair.0
-  number_is pair = due_number v s l on.seen crc old w.rebuilt (λ r. 0) pair (file_at kept.files pair.0) (built_at ds pair.0) (λ x is. file_at_number kept.files pair.0 x is)
+  number_is pair = due_number v s l on.seen crc old w.rebuilt (λ r. 0) pair (file_at kept.files pair.0) (built_at ds pair.0) (λ x is. (at_has kept.files pair.0 x is).1)
 
   used_linked : (ino : ℕ) → is_used files ino ≡ true → Member ino (numbers_linked w)
   unfolding renamed_files

@@ -12,8 +12,9 @@ use Rattle.xfs_names.specs.Having.{node_of}
 use Rattle.xfs_protected.proofs.Members.{Member}
 use Rattle.xfs_request.specs.declared.seen.SlotSeen.{SlotSeen}
 use Rattle.xfs_rename.specs.declared.lost.Lost.{Lost}
+use Rattle.xfs_naming.specs.Naming.{file_at}
 use Rattle.xfs_restored.specs.Directories.{BuiltRuns}
-use Rattle.xfs_restored.specs.Relinking.{file_at, linked_file, whole_with, with_built}
+use Rattle.xfs_restored.specs.Relinking.{file_with_links, whole_with, with_built}
 use Rattle.xfs_restored.proofs.WantedLists.{at_has}
 
 -- a file that is built keeps its number, its kind and its links
@@ -31,11 +32,11 @@ module _ (v : Volume) (old : List FileRec) (crc : ℕ → ℕ) (f : FileRec) whe
   built_links (Some d) = refl
 
 module _ (v : Volume) (s : Stamp) (l : Lost) (seen : List SlotSeen) (crc : ℕ → ℕ) (p : ℕ × ℕ) (files : List FileRec) where
-  pub linked_number : (o : Option FileRec) → file_at files p.0 ≡ o → (linked_file v s l seen crc p o).ino ≡ p.0
+  pub linked_number : (o : Option FileRec) → file_at files p.0 ≡ o → (file_with_links v s l seen crc p o).ino ≡ p.0
   linked_number None is = refl
   linked_number (Some f) is = (at_has files p.0 f is).1
 
-  pub linked_links : (o : Option FileRec) → (linked_file v s l seen crc p o).core.nlink ≡ p.1
+  pub linked_links : (o : Option FileRec) → (file_with_links v s l seen crc p o).core.nlink ≡ p.1
   linked_links None = refl
   linked_links (Some f) = refl
 

@@ -14,7 +14,7 @@ use Rattle.xfs_image.specs.Candidates.{candidates}
 use Rattle.xfs_image.specs.Claims.{candidate_files}
 use Rattle.xfs_image.specs.Directories.{dir_of, directories, dirs_read, entries_of, entries_read, is_whole, parent_of}
 use Rattle.xfs_kept.proofs.Images.{image_can}
-use Rattle.xfs_naming.specs.Naming.{AreGrouped, NumbersAscend, entries_in, is_directory_at, numbers_of}
+use Rattle.xfs_naming.specs.Naming.{AreGrouped, NumbersAscend, entries_in, file_at, is_directory_at, numbers_of}
 use Rattle.xfs_names.specs.Rebuilt.{is_whole_with}
 use Rattle.xfs_protected.proofs.Members.{Member, any_member, filter_member, map_member, member_any, member_filter, member_map}
 use Rattle.xfs_salvage.proofs.Ascending.{claiming_ascend}
@@ -30,7 +30,7 @@ use Rattle.xfs_rename.specs.declared.planning.Renamed.{Renamed}
 use Rattle.xfs_reread.proofs.DueList.{number_least}
 use Rattle.xfs_reread.proofs.Wanted.{one_alone}
 use Rattle.xfs_restored.proofs.Handed.{dirs_of_image, entries_of_image}
-use Rattle.xfs_restored.specs.Relinking.{IsRelinked, file_at}
+use Rattle.xfs_restored.specs.Relinking.{IsRelinked}
 use Rattle.xfs_restored.proofs.WantedNumbers.{fresh_not_kept, kept_at, of_image}
 
 -- the entries of a directory are its own

@@ -32,9 +32,10 @@ use Rattle.xfs_rename.specs.Settled.{settled, staying_file}
 use Rattle.xfs_rename.specs.Slots.{lost_core}
 use Rattle.xfs_rename.specs.declared.lost.Lost.{Lost}
 use Rattle.xfs_rename.specs.declared.planning.Renamed.{Renamed}
+use Rattle.xfs_naming.specs.Naming.{file_at}
 use Rattle.xfs_restored.specs.Changes.{LinksAscend}
 use Rattle.xfs_restored.specs.Directories.{BuiltRuns, fork_of_runs, with_runs}
-use Rattle.xfs_restored.specs.Relinking.{IsRelinked, built_at, file_at}
+use Rattle.xfs_restored.specs.Relinking.{IsRelinked, built_at}
 use Rattle.xfs_restored.proofs.PlainSlots.{IsLinked, kept_change}
 
 -- the data fork of a file that is made anew

@@ -83,4 +83,3 @@ pub mod StayingOf
 pub mod Joined
 pub mod ProtectedFiles
 pub mod Relinked
-pub mod GivenNumbers

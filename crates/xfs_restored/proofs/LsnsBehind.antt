@@ -52,6 +52,7 @@ use Rattle.xfs_rename.specs.Objects.{stands_in_blocks, wanted_with}
 use Rattle.xfs_rename.specs.Renames.{old_files, placed_forks, renamed_slots, renamed_wanted}
 use Rattle.xfs_rename.specs.Settled.{fork_rooms, settled, staying_file}
 use Rattle.xfs_rename.specs.declared.planning.Renamed.{Renamed}
+use Rattle.xfs_naming.specs.Naming.{file_at}
 use Rattle.xfs_restored.specs.Directories.{BuiltRuns, HasOwnCounts, StandsInRuns}
 use Rattle.xfs_restored.specs.Renamed.{HoldsBuilt}
 use Rattle.xfs_restored.proofs.DueSlots.{slots_due}
@@ -59,14 +60,15 @@ use Rattle.xfs_restored.proofs.HeldPlans.{others_stay}
 use Rattle.xfs_restored.proofs.Planned.{all_runs, all_stand, holds_built, sized_all}
 use Rattle.xfs_restored.proofs.Known.{evidence_known}
 use Rattle.xfs_restored.specs.Numbered.{AreNumbered}
-use Rattle.xfs_restored.specs.Relinking.{IsRelinked, built_at, built_of, extents_built, file_at, file_due, renamed_files}
+use Rattle.xfs_restored.specs.Relinking.{IsRelinked, built_at, built_of, extents_built, file_due, renamed_files}
 use Rattle.xfs_restored.specs.StayingNumbers.{AreDirectories, AreStaying}
 use Rattle.xfs_restored.proofs.BuiltNumbers.{built_zero}
-use Rattle.xfs_restored.proofs.DuePlaces.{at_member, due_place, number_stays, staying_place}
-use Rattle.xfs_restored.proofs.DueRuns.{among_built, built_member, file_at_number, number_is}
+use Rattle.xfs_restored.proofs.DuePlaces.{due_place, number_stays, staying_place}
+use Rattle.xfs_restored.proofs.DueRuns.{among_built, built_member, number_is}
 use Rattle.xfs_restored.proofs.MadeNumbers.{place_number}
 use Rattle.xfs_restored.proofs.ReadHeads.{large, log_due, plan_held, standing}
 use Rattle.xfs_restored.proofs.SettledClusters.{clusters_settled, settled_halves}
+use Rattle.xfs_restored.proofs.WantedLists.{at_has}
 
 lsns_keep : (head : ℕ) (ls : List BlockLsn) → AllByRecursion (λ (l : BlockLsn). is_behind head l.lsn ≡ true) ls → AreKept (map (lsn_law head) ls)
 lsns_keep head [] all = tt
@@ -204,10 +206,10 @@ module _ (g : Geometry) (sector : List ℕ) (s : Stamp) (image now : Image) (e :
       (due_place v s (lost_due g n) has.on.seen (stated_crc v now) old pair place (file_at has.on.kept.files pair.0) (built_at ds pair.0) (kind_of pair is) at_place) [
         | inl kept ↦
             let x : FileRec = kept.0 in
-            let number : x.ino ≡ pair.0 = file_at_number has.on.kept.files pair.0 x kept.1 in
+            let number : x.ino ≡ pair.0 = (at_has has.on.kept.files pair.0 x kept.1).1 in
             let among : is_among has.is.w.rebuilt x.ino ≡ is_some (built_at ds pair.0) =
             ap (is_among has.is.w.rebuilt) number ∙ among_built g s now has.on n has.is.w has.is.built p has.due.fresh' has.is.names.numbers has.is.ascend has.is.cuts numbered pair.0 in
-            of_old (staying_file has.is.w.rebuilt (Names.linked_file g.rootino has.on.kept x)) place (old_there x (at_member has.on.kept.files pair.0 x kept.1))
+            of_old (staying_file has.is.w.rebuilt (Names.linked_file g.rootino has.on.kept x)) place (old_there x (at_has has.on.kept.files pair.0 x kept.1).0)
             (staying_place v has.is.w.rebuilt g.rootino has.on.kept place x (is_some (built_at ds pair.0)) among kept.2)
         | inr built ↦ of_built built.0 place (built_member ds pair.0 built.0 built.1) built.2
       ]

@@ -1,6 +1,6 @@
 -- A protected file is kept where names change: with the same bytes, attributes, target and device, and the same core but for what may
 -- change.
-use Rattle.std.proofs.Common.{◌≡◌, ℕ, Bool, ◌==◌, List, Option, Some, None, refl, sym, ap, ◌∙◌, subst, false}
+use Rattle.std.proofs.Common.{◌≡◌, ℕ, Bool, ◌==◌, List, Option, Some, None, refl, sym, ap, ◌∙◌, subst, false, [], ◌∷◌}
 use Rattle.std.proofs.lemmas.Bool.{eq-eqb, eqb-true, false≢true}
 use Rattle.xfs_disk.specs.Blocks.{Image}
 use Rattle.xfs_disk.specs.declared.stamp.Stamp.{Stamp}
@@ -11,7 +11,7 @@ use Rattle.xfs_image.specs.Claims.{candidate_files, candidate_inodes}
 use Rattle.xfs_image.specs.Keeping.{Keeps, Protected, file_bytes, lasting}
 use Rattle.xfs_image.specs.Slots.{reads_as}
 use Rattle.xfs_inode.specs.declared.files.FileRead.TheVariants as Reads
-use Rattle.xfs_naming.specs.Naming.{NumbersAscend, numbers_of}
+use Rattle.xfs_naming.specs.Naming.{NumbersAscend, file_at, numbers_of}
 use Rattle.xfs_volume.specs.Names.{type_of}
 use Rattle.xfs_volume.specs.declared.files.FileRec.{FileRec}
 use Rattle.xfs_scan.specs.declared.evidence.Evidence.{Evidence}
@@ -40,7 +40,8 @@ use Rattle.xfs_reread.proofs.Wanted.{one_alone, state_is}
 use Rattle.xfs_restored.proofs.Handed.{kept_of_image}
 use Rattle.xfs_restored.proofs.Known.{evidence_known}
 use Rattle.xfs_views.proofs.Files.{file_sound}
-use Rattle.xfs_restored.specs.Relinking.{IsRelinked, built_at, built_of, file_at, file_due, first_file, linked_file, with_built}
+use Rattle.xfs_restored.specs.Relinking.{IsRelinked, built_at, built_of, file_due, file_with_links, with_built}
+use Rattle.xfs_restored.proofs.WantedLists.{at_first}
 
 module _ (g : Geometry) (sector : List ℕ) (s : Stamp) (image now : Image) (e : Evidence) (n : NamesDue) (r : Renamed) (is : IsRelinked g sector s image now e n r)
     (ino : ℕ) (safe : Protected (volume_of g) image ino) where
@@ -84,7 +85,7 @@ module _ (g : Geometry) (sector : List ℕ) (s : Stamp) (image now : Image) (e :
 
   -- and it is found by its number
   found : file_at on.kept.files f.ino ≡ Some f
-  found = ap first_file (one_alone 0 f on.kept.files kept_ascend among)
+  found = at_first on.kept.files f.ino (f ∷ []) (one_alone 0 f on.kept.files kept_ascend among)
 
   candidate : Member f.ino (candidate_inodes v image)
   candidate =
@@ -127,8 +128,8 @@ module _ (g : Geometry) (sector : List ℕ) (s : Stamp) (image now : Image) (e :
 
     due_is : (k : ℕ) → file_due g s now on n w built p (f.ino, k) ≡ with_names k
     due_is k =
-        ap (λ (o : Option BuiltRuns). with_built v (old_files n w) crc (linked_file v s l on.seen crc (f.ino, k) (file_at on.kept.files f.ino)) o) not_built
-        ∙ ap (λ (o : Option FileRec). linked_file v s l on.seen crc (f.ino, k) o) found
+        ap (λ (o : Option BuiltRuns). with_built v (old_files n w) crc (file_with_links v s l on.seen crc (f.ino, k) (file_at on.kept.files f.ino)) o) not_built
+        ∙ ap (λ (o : Option FileRec). file_with_links v s l on.seen crc (f.ino, k) o) found
 
     kept_with : (k : ℕ) → Member (f.ino, k) w.links → Keeps (volume_of g) image now ino
     kept_with k has = record {

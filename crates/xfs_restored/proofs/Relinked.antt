@@ -1,5 +1,5 @@
 -- A volume in which names were changed is consistent, and keeps each file that was protected.
-use Rattle.std.proofs.Common.{ℕ, List}
+use Rattle.std.proofs.Common.{ℕ, List, refl}
 use Rattle.xfs_disk.specs.Blocks.{Image}
 use Rattle.xfs_disk.specs.declared.stamp.Stamp.{Stamp}
 use Rattle.xfs_geom.specs.Volumes.{Volume, volume_of}
@@ -18,11 +18,12 @@ use Rattle.xfs_rebuild.specs.declared.names_due.NamesDue.{NamesDue}
 use Rattle.xfs_rename.specs.declared.planning.Renamed.{Renamed}
 use Rattle.xfs_rendered.specs.Standing.{agf_crc_at, agi_crc_at}
 use Rattle.xfs_restored.proofs.Handed.{kept_of_image}
-use Rattle.xfs_restored.specs.Catalogs.{renamed_groups}
+use Rattle.xfs_restored.specs.Catalogs.{renamed_catalog, renamed_groups}
+use Rattle.xfs_restored.specs.Names.{HasWantedNames}
 use Rattle.xfs_restored.specs.Relinking.{IsRelinked}
 use Rattle.xfs_restored.proofs.DirectoriesDue.{dirs_are_read, entries_are_read}
 use Rattle.xfs_restored.proofs.FilesDue.{files_are}
-use Rattle.xfs_restored.proofs.Joined.{HasSupers, KeepsLaws, ReadsAsDue, consistent}
+use Rattle.xfs_restored.proofs.Joined.{HasSupers, KeepsLaws, ReadsAsDue, consistent, says}
 use Rattle.xfs_restored.proofs.KnownJoined.{all_known}
 use Rattle.xfs_restored.proofs.LsnsBehind.{log_keeps}
 use Rattle.xfs_restored.proofs.NamesLawful.{names_kept}
@@ -88,6 +89,15 @@ module _ (g : Geometry) (sector : List ℕ) (s : Stamp) (image now : Image) (e :
 
   pub consistent_renamed : IsConsistent broken_law g now
   consistent_renamed = consistent g s now has.on n has.is.w has.is.built has.is.placed reads laws supers
+
+  -- it has the names that are wanted
+  pub names_wanted : HasWantedNames g n has.is.w now
+  names_wanted = record {
+    catalog = renamed_catalog g s now has.on n has.is.w has.is.built has.is.placed;
+    reads = says g s now has.on n has.is.w has.is.built has.is.placed reads;
+    entries' = refl;
+    dirs' = refl;
+  }
 
   pub kept_renamed : (ino : ℕ) → Protected (volume_of g) image ino → Keeps (volume_of g) image now ino
   kept_renamed ino safe =

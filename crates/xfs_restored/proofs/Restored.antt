@@ -28,6 +28,7 @@ use Rattle.xfs_reread.proofs.DueList.{files_are}
 use Rattle.xfs_reread.proofs.KeptChunks.{inodes_are_kept}
 use Rattle.xfs_restored.proofs.Handed.{dirs_of_image, entries_of_image, has_kept, kept_of_image}
 use Rattle.xfs_restored.proofs.Lawful.{lawful}
+use Rattle.xfs_restored.specs.Names.{HasKeptNames}
 use Rattle.xfs_restored.specs.Restoring.{checksums_in, files_due, groups_due, restored_catalog}
 
 module _ (g : Geometry) (sector : List ℕ) (s : Stamp) (image now : Image) (e : Evidence) (r : Rebuilt) (told : IsEvidence g image e)
@@ -64,6 +65,10 @@ module _ (g : Geometry) (sector : List ℕ) (s : Stamp) (image now : Image) (e :
       (due_entries g s image now on.kept on.seen has crcs.slot (entries_of_image g image e on told is.ground))
       (due_dirs_are g s image now on.kept on.seen has crcs.slot (dirs_of_image g image e on told is.ground))
       (counts_rebuilt g sector s image now on r is.planned new) refl refl
+
+  -- so it has the entries and the directories that are kept
+  pub names_kept : HasKeptNames g on now
+  names_kept = record { catalog = restored_catalog g s now on p; reads = says; entries' = refl; dirs' = refl }
 
   pub consistent : IsConsistent broken_law g now
   consistent =

@@ -50,6 +50,7 @@ use Rattle.xfs_rename.specs.Lost.{lost_due}
 use Rattle.xfs_rename.specs.Settled.{fork_rooms, settled, staying_file, without_data}
 use Rattle.xfs_rename.specs.Slots.{lost_core}
 use Rattle.xfs_rename.specs.declared.planning.Renamed.{Renamed}
+use Rattle.xfs_naming.specs.Naming.{file_at}
 use Rattle.xfs_restored.specs.Directories.{BuiltRuns, fork_of_runs}
 use Rattle.xfs_restored.specs.Reading.{IsFreshDirectory, fresh_directory_slot}
 use Rattle.xfs_restored.proofs.DueSlots.{slots_due}
@@ -58,7 +59,7 @@ use Rattle.xfs_restored.proofs.NewSlots.{added_made}
 use Rattle.xfs_restored.proofs.ShortRoom.{fork_room_is}
 use Rattle.xfs_restored.proofs.Handed.{kept_of_image}
 use Rattle.xfs_restored.proofs.Known.{evidence_known}
-use Rattle.xfs_restored.specs.Relinking.{IsRelinked, built_at, extents_built, file_at, file_due, fresh_core, linked_file, with_built}
+use Rattle.xfs_restored.specs.Relinking.{IsRelinked, built_at, extents_built, file_due, core_anew, file_with_links, with_built}
 use Rattle.xfs_restored.proofs.BuiltRooms.{all_own, built_for, whole_room}
 use Rattle.xfs_restored.proofs.ClaimsStay.{claims_stay, runs_apart}
 use Rattle.xfs_restored.proofs.PlainSlots.{IsMadeOf, ReadsKept, drop_due, forked_made, kept_change, kept_reads, unforked_parts}
@@ -254,19 +255,19 @@ module _ (g : Geometry) (sector : List ℕ) (s : Stamp) (image now : Image) (e :
     kept_slot =
         kept_by (built_at dirs f.ino) refl
         (slot_made f.ino (kept_change f.ino (drop_due f (bare f)) (option_map (fork_of_runs vol before) (built_at dirs f.ino)) wanted.nlink) (kept_among f.ino (known.kept_inode f is)) wanted.wanted')
-        ∙ ap (λ (o : Option FileRec). Reads.File (with_built vol before crc (linked_file vol s (l g sector s image now e n r has) has.on.seen crc (f.ino, k) o) (built_at dirs f.ino)))
+        ∙ ap (λ (o : Option FileRec). Reads.File (with_built vol before crc (file_with_links vol s (l g sector s image now e n r has) has.on.seen crc (f.ino, k) o) (built_at dirs f.ino)))
         (sym (known.kept_at f is))
 
   -- a file that is made anew, by its core
   abbrev made_due : ℕ → Core → ℕ → FileRec
   made_due ino core k = with_built vol before crc (Names.new_file ino (linked_core core k (crc ino))) (built_at dirs ino)
 
-  due_made : (ino k : ℕ) (core : Core) → file_at files ino ≡ None → fresh_core vol s (l g sector s image now e n r has) ino ≡ core → due (ino, k) ≡ made_due ino core k
+  due_made : (ino k : ℕ) (core : Core) → file_at files ino ≡ None → core_anew vol s (l g sector s image now e n r has) ino ≡ core → due (ino, k) ≡ made_due ino core k
   due_made ino k core none is =
-      ap (λ (o : Option FileRec). with_built vol before crc (linked_file vol s (l g sector s image now e n r has) has.on.seen crc (ino, k) o) (built_at dirs ino)) none
+      ap (λ (o : Option FileRec). with_built vol before crc (file_with_links vol s (l g sector s image now e n r has) has.on.seen crc (ino, k) o) (built_at dirs ino)) none
       ∙ ap (λ (c : Core). made_due ino c k) is
 
-  fresh_is : (ino : ℕ) → Member ino has.on.kept.fresh → fresh_core vol s (l g sector s image now e n r has) ino ≡ new_core vol s ino
+  fresh_is : (ino : ℕ) → Member ino has.on.kept.fresh → core_anew vol s (l g sector s image now e n r has) ino ≡ new_core vol s ino
   fresh_is ino is =
       let made : Bool = (l g sector s image now e n r has).made in
       let other : (ino == (l g sector s image now e n r has).new) ≡ false = ne_eqb ino (l g sector s image now e n r has).new (λ same. known.fresh_is_not_lost ino is (sym same)) in
@@ -379,7 +380,7 @@ module _ (g : Geometry) (sector : List ℕ) (s : Stamp) (image now : Image) (e :
         let made = slot_made lost
         (Some (record { ino = lost; base = Fresh (lost_core vol s lost); drop_attrs = None; fork = option_map (fork_of_runs vol before) (built_at dirs lost); nlink = Some k }))
         (lost_inode g sector s image now n r has.is holds size is) (known.lost_wanted k is linked) in
-        let core : fresh_core vol s (l g sector s image now e n r has) lost ≡ lost_core vol s lost =
+        let core : core_anew vol s (l g sector s image now e n r has) lost ≡ lost_core vol s lost =
         ap (λ (t : Bool). if t then lost_core vol s lost else new_core vol s lost) (and_from (l g sector s image now e n r has).made (lost == lost) is (eq-eqb lost lost refl)) in
         lost_by at.0 at.1
         (subst (λ (o : Option BuiltRuns). IsMadeSlot vol s.generation

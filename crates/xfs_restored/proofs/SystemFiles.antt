@@ -32,7 +32,7 @@ use Rattle.xfs_rename.specs.declared.planning.Renamed.{Renamed}
 use Rattle.xfs_restored.specs.Directories.{BuiltRuns}
 use Rattle.xfs_reread.specs.DueFiles.{new_core}
 use Rattle.xfs_reread.proofs.Others.{among}
-use Rattle.xfs_restored.specs.Relinking.{IsRelinked, built_at, fresh_core, renamed_files}
+use Rattle.xfs_restored.specs.Relinking.{IsRelinked, built_at, core_anew, renamed_files}
 use Rattle.xfs_restored.proofs.DueNodes as Due
 use Rattle.xfs_restored.proofs.NamedFiles.{IsEmptyRegular, file_stands, new_system, own_inode, standing_system, system_reserved}
 use Rattle.xfs_restored.proofs.NamedNodes.{system_plain}
@@ -143,7 +143,7 @@ module _ (g : Geometry) (sector : List ℕ) (s : Stamp) (image now : Image) (e :
           tree_none = ap (λ (x : FileRec). length x.tree) same ∙ empty.tree_none;
         }
 
-    core_is : Member ino has.on.kept.fresh → fresh_core (volume_of g) s l ino ≡ new_system_core (volume_of g) s ino
+    core_is : Member ino has.on.kept.fresh → core_anew (volume_of g) s l ino ≡ new_system_core (volume_of g) s ino
     core_is is = Due.fresh_core_is g sector s image now e n r has ino is ∙ new_system (volume_of g) s ino off
 
     fresh_case : Member ino has.on.kept.fresh → (k : ℕ) → IsEmptyRegular (due (ino, k))

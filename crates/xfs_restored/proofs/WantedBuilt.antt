@@ -14,7 +14,7 @@ use Rattle.xfs_names.specs.Rebuilt.{are_right_entries, is_rebuilt, is_whole_with
 use Rattle.xfs_names.specs.Wanted.{directory_node, wanted_entries, wanted_nodes, wanted_parents, with_parent}
 use Rattle.xfs_names.specs.declared.building.BuiltDirectory.{BuiltDirectory}
 use Rattle.xfs_names.specs.declared.records.WantedNames.{WantedNames}
-use Rattle.xfs_naming.specs.Naming.{entries_in}
+use Rattle.xfs_naming.specs.Naming.{entries_in, file_at}
 use Rattle.xfs_protected.proofs.Members.{Member, any_member, filter_member, map_member, member_any, member_filter, member_map}
 use Rattle.xfs_salvage.specs.declared.found.Salvaged.{Salvaged}
 use Rattle.xfs_request.specs.Fresh.{new_root_core, new_system_core}
@@ -39,8 +39,8 @@ use Rattle.xfs_rename.specs.declared.lost.Lost.{Lost}
 use Rattle.xfs_rename.specs.declared.planning.Renamed.{Renamed}
 use Rattle.xfs_restored.proofs.ForkRuns.{forks_go}
 use Rattle.xfs_restored.specs.Directories.{BuiltRuns, asks_of_built, built_runs, fork_of_runs, runs_of_built, with_runs}
-use Rattle.xfs_restored.specs.Relinking.{IsRelinked, built_at, file_at, first_built, first_file}
-use Rattle.xfs_restored.proofs.WantedLists.{all_stay, at_none, filter_map, mades_gone, none_other}
+use Rattle.xfs_restored.specs.Relinking.{IsRelinked, built_at, first_built}
+use Rattle.xfs_restored.proofs.WantedLists.{all_stay, at_first, at_none, filter_map, mades_gone, none_other}
 use Rattle.xfs_restored.proofs.WantedNumbers.{file_cases, file_not_lost, fresh_is_not_lost, fresh_none, fresh_there, kept_alone, kept_there, lost_node, node_cases}
 use Rattle.xfs_restored.proofs.WantedSlots.{made_is}
 
@@ -211,7 +211,7 @@ module _ (g : Geometry) (sector : List ℕ) (s : Stamp) (image now : Image) (e :
       none_other kept.files l.new (λ f is same. file_not_lost g sector s image now e n r has (linked_file g.rootino kept f) (kept_there g sector s image now e n r has f is) (sym same))
 
   pub lost_not_kept : l.made ≡ true → file_at kept.files l.new ≡ None
-  lost_not_kept made = ap first_file lost_none
+  lost_not_kept made = at_first kept.files l.new [] lost_none
 
   pub lost_not_fresh : l.made ≡ true → Member l.new kept.fresh → ⊥
   lost_not_fresh made is = fresh_is_not_lost g sector s image now e n r has l.new is refl

@@ -1,11 +1,11 @@
 -- Files among others, by their numbers.
-use Rattle.std.proofs.Common.{◌≡◌, ◌⊎◌, inl, inr, ℕ, Bool, true, false, cond, ◌==◌, nat_lt, if◌then◌else◌, List, [], ◌∷◌, map, filter, Some, None, refl, ap, ◌∙◌, subst}
+use Rattle.std.proofs.Common.{◌≡◌, ◌⊎◌, inl, inr, ℕ, Bool, true, false, cond, ◌==◌, nat_lt, if◌then◌else◌, List, [], ◌∷◌, map, filter, Some, None, slice_get, refl, sym, ap, ◌∙◌, subst}
 use Rattle.std.proofs.lemmas.Bool.{eqb-true, ne_eqb, or_parts}
 use Rattle.xfs_volume.specs.declared.files.FileRec.{FileRec}
-use Rattle.xfs_naming.specs.Naming.{is_in_use}
+use Rattle.xfs_naming.specs.Naming.{file_at, is_in_use}
+use Rattle.xfs_naming.proofs.Chosen.{first_of_run}
 use Rattle.xfs_protected.proofs.Members.{Member, filter_member}
 use Rattle.xfs_rebuild.specs.Names.{with_made_file, with_made_files}
-use Rattle.xfs_restored.specs.Relinking.{file_at, first_file}
 
 -- files that are made anew among others: each is one of these or of those, and each of both is there
 made_either : (x f : FileRec) (files : List FileRec) → Member x (with_made_file f files) → (f ≡ x) ⊎ Member x files
@@ -89,22 +89,25 @@ module _ (change : FileRec → FileRec) (same : (f : FileRec) → (change f).ino
       by_case true rest = ap (λ (xs : List FileRec). change f ∷ xs) rest
       by_case false rest = rest
 
--- the file at a number is one of the files, and has it
-first_member : (xs : List FileRec) (f : FileRec) → first_file xs ≡ Some f → Member f xs
+-- the file at a number is the first of those that have it: one of the files
+pub at_first : (files : List FileRec) (ino : ℕ) (xs : List FileRec) → filter (λ (f : FileRec). f.ino == ino) files ≡ xs → file_at files ino ≡ slice_get xs 0
+at_first files ino xs is = sym (first_of_run files ino) ∙ ap (λ (ys : List FileRec). slice_get ys 0) is
+
+first_member : (xs : List FileRec) (f : FileRec) → slice_get xs 0 ≡ Some f → Member f xs
 first_member [] f is = absurd cc
 first_member (x ∷ xs) f is = let same : x ≡ f = cc in inl same
 
 pub at_has : (files : List FileRec) (ino : ℕ) (f : FileRec) → file_at files ino ≡ Some f → (Member f files) × (f.ino ≡ ino)
 at_has files ino f is =
-    let found = filter_member (λ (x : FileRec). x.ino == ino) f files (first_member (filter (λ (x : FileRec). x.ino == ino) files) f is) in
+    let found = filter_member (λ (x : FileRec). x.ino == ino) f files (first_member (filter (λ (x : FileRec). x.ino == ino) files) f (first_of_run files ino ∙ is)) in
     (found.0, eqb-true f.ino ino found.1)
 
-none_first : (xs : List FileRec) → first_file xs ≡ None → xs ≡ []
+none_first : (xs : List FileRec) → slice_get xs 0 ≡ None → xs ≡ []
 none_first [] is = refl
 none_first (x ∷ xs) is = absurd cc
 
 pub at_none : (files : List FileRec) (ino : ℕ) → file_at files ino ≡ None → filter (λ (f : FileRec). f.ino == ino) files ≡ []
-at_none files ino is = none_first (filter (λ (f : FileRec). f.ino == ino) files) is
+at_none files ino is = none_first (filter (λ (f : FileRec). f.ino == ino) files) (first_of_run files ino ∙ is)
 
 -- no file has a number that is not in use
 pub none_used : (files : List FileRec) (n : ℕ) → is_in_use files n ≡ false → filter (λ (f : FileRec). f.ino == n) files ≡ []

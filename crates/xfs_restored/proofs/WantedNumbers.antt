@@ -15,7 +15,7 @@ use Rattle.xfs_image.specs.Slots.{cluster_inodes}
 use Rattle.xfs_hanging.specs.Together.{adds_lost, old_lost, orphans_of}
 use Rattle.xfs_links.specs.Entries.{is_kept_node, is_reserved_inode}
 use Rattle.xfs_links.specs.declared.records.NodeRec.{NodeRec}
-use Rattle.xfs_naming.specs.Naming.{NumbersAscend, is_in_use, numbers_of}
+use Rattle.xfs_naming.specs.Naming.{NumbersAscend, file_at, is_in_use, numbers_of}
 use Rattle.xfs_names.specs.Having.{node_of}
 use Rattle.xfs_names.specs.Place.{free_inode, inodes_from, is_free_inode}
 use Rattle.xfs_names.specs.Wanted.{directory_node, wanted_entries, wanted_nodes, with_directory, with_links}
@@ -46,9 +46,9 @@ use Rattle.xfs_rename.specs.declared.planning.Renamed.{Renamed}
 use Rattle.xfs_restored.proofs.NewSlots.{added_few, added_made}
 use Rattle.xfs_restored.proofs.Room.{links_ascend}
 use Rattle.xfs_restored.specs.Changes.{LeavesRoom, LinksAscend, inodes_taken}
-use Rattle.xfs_restored.specs.Relinking.{IsRelinked, file_at, first_file}
+use Rattle.xfs_restored.specs.Relinking.{IsRelinked}
 use Rattle.xfs_restored.proofs.WantedApart.{cluster_low, clusters_apart, inode_low, inodes_apart}
-use Rattle.xfs_restored.proofs.WantedLists.{at_has, mades_either, mades_have, mades_keep, none_used}
+use Rattle.xfs_restored.proofs.WantedLists.{at_first, at_has, mades_either, mades_have, mades_keep, none_used}
 use Rattle.xfs_restored.proofs.WantedPlace.{directory_either, directory_keeps, directory_there, find_passes, made_adds, slot_free}
 use Rattle.xfs_restored.proofs.WantedSlots.{IsMadeFor, made_is, made_there}
 
@@ -117,7 +117,7 @@ module _ (g : Geometry) (sector : List ℕ) (s : Stamp) (image now : Image) (e :
   kept_alone f is = one_alone 0 f kept.files kept_ascend is
 
   pub kept_at : (f : FileRec) → Member f kept.files → file_at kept.files f.ino ≡ Some f
-  kept_at f is = ap first_file (kept_alone f is)
+  kept_at f is = at_first kept.files f.ino (f ∷ []) (kept_alone f is)
 
   pub at_kept : (ino : ℕ) (f : FileRec) → file_at kept.files ino ≡ Some f → (Member f kept.files) × (f.ino ≡ ino)
   at_kept ino f is = at_has kept.files ino f is
@@ -136,7 +136,7 @@ module _ (g : Geometry) (sector : List ℕ) (s : Stamp) (image now : Image) (e :
   fresh_none ino is = none_used kept.files ino (not-true (is_in_use kept.files ino) (fresh_own ino is).1)
 
   pub fresh_not_kept : (ino : ℕ) → Member ino kept.fresh → file_at kept.files ino ≡ None
-  fresh_not_kept ino is = ap first_file (fresh_none ino is)
+  fresh_not_kept ino is = at_first kept.files ino [] (fresh_none ino is)
 
   near_root : (ino : ℕ) → Member ino (own_inodes g.rootino) → (g.rootino ≤ ino) × (ino ≤ g.rootino + 2)
   near_root ino is = elim is [

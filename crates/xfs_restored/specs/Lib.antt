@@ -6,5 +6,6 @@ pub mod Changes
 pub mod Reading
 pub mod Relinking
 pub mod Catalogs
+pub mod Names
 pub mod Numbered
 pub mod StayingNumbers

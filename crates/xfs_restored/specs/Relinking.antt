@@ -11,7 +11,7 @@ use Rattle.xfs_dirdata.specs.declared.records.EntryRec.{EntryRec}
 use Rattle.xfs_volume.specs.declared.cores.Core.{Core}
 use Rattle.xfs_volume.specs.declared.directories.DirRec.{DirRec}
 use Rattle.xfs_volume.specs.declared.files.FileRec.{FileRec}
-use Rattle.xfs_naming.specs.Naming.{entries_in}
+use Rattle.xfs_naming.specs.Naming.{entries_in, file_at}
 use Rattle.xfs_scan.specs.Evidence.{IsEvidence}
 use Rattle.xfs_scan.specs.declared.evidence.Evidence.{Evidence}
 use Rattle.xfs_names.specs.declared.building.BuiltDirectory.{BuiltDirectory}
@@ -46,14 +46,7 @@ pub record IsRelinked (g : Geometry) (sector : List ℕ) (s : Stamp) (image now 
   pub is : IsRenamed g sector s image n r
   pub new : IsRewritten g r.rebuilt image now
 
--- the first of some files, or of some directories that were built, with a number
-abbrev pub first_file : List FileRec → Option FileRec
-first_file [] = None
-first_file (f ∷ fs) = Some f
-
-abbrev pub file_at : List FileRec → ℕ → Option FileRec
-file_at files ino = first_file (filter (λ (f : FileRec). f.ino == ino) files)
-
+-- the first of some directories that were built, with a number
 abbrev pub first_built : List BuiltRuns → Option BuiltRuns
 first_built [] = None
 first_built (d ∷ ds) = Some d
@@ -62,14 +55,14 @@ abbrev pub built_at : List BuiltRuns → ℕ → Option BuiltRuns
 built_at built ino = first_built (filter (λ (d : BuiltRuns). d.directory.ino == ino) built)
 
 -- the core of a file that is made anew: lost+found, the root, or a system inode
-abbrev pub fresh_core : Volume → Stamp → Lost → ℕ → Core
-fresh_core v s l ino = if l.made && ino == l.new then lost_core v s ino else new_core v s ino
+abbrev pub core_anew : Volume → Stamp → Lost → ℕ → Core
+core_anew v s l ino = if l.made && ino == l.new then lost_core v s ino else new_core v s ino
 
 -- a file by its number and its links, and by the checksum of its slot, but for its data where that is built anew: one that is kept, without
 -- attributes where these do not read, or one that is made anew
-abbrev pub linked_file : Volume → Stamp → Lost → List SlotSeen → (ℕ → ℕ) → ℕ × ℕ → Option FileRec → FileRec
-linked_file v s l seen crc p None = new_file p.0 (linked_core (fresh_core v s l p.0) p.1 (crc p.0))
-linked_file v s l seen crc p (Some f) = record f { core = due_core (is_bare (state_at seen f.ino)) (own_blocks f) p.1 (crc f.ino) f.core }
+abbrev pub file_with_links : Volume → Stamp → Lost → List SlotSeen → (ℕ → ℕ) → ℕ × ℕ → Option FileRec → FileRec
+file_with_links v s l seen crc p None = new_file p.0 (linked_core (core_anew v s l p.0) p.1 (crc p.0))
+file_with_links v s l seen crc p (Some f) = record f { core = due_core (is_bare (state_at seen f.ino)) (own_blocks f) p.1 (crc f.ino) f.core }
 
 -- the same with the data that was built for it, in its runs or in short form
 abbrev pub extents_built : Volume → BuiltRuns → List Extent
@@ -88,7 +81,7 @@ module _ (g : Geometry) (s : Stamp) (now : Image) (on : Ground) (n : NamesDue) (
   abbrev pub file_due : ℕ × ℕ → FileRec
   file_due pair =
       with_built (volume_of g) (old_files n w) (stated_crc (volume_of g) now)
-      (linked_file (volume_of g) s (lost_due g n) on.seen (stated_crc (volume_of g) now) pair (file_at on.kept.files pair.0)) (built_at built_of pair.0)
+      (file_with_links (volume_of g) s (lost_due g n) on.seen (stated_crc (volume_of g) now) pair (file_at on.kept.files pair.0)) (built_at built_of pair.0)
 
   unfoldable pub renamed_files : List FileRec
   renamed_files = map file_due w.links

@@ -3,7 +3,8 @@
 //!
 //! The last step of the proof that a rebuild may be trusted. Where no name changes, an image in which it was written has what is kept of
 //! the first one (`rebuilt_images_have_what_is_kept`), it says just what was due (`restored_volumes_say_what_is_due`), which breaks no law
-//! (`due_volumes_are_lawful`), so it is consistent (`restored_volumes_are_consistent`), and each file that was protected is in it as it
+//! (`due_volumes_are_lawful`), so it is consistent (`restored_volumes_are_consistent`), has what it named
+//! (`restored_volumes_have_what_they_named`), and each file that was protected is in it as it
 //! was (`restored_volumes_keep_protected_files`).
 //!
 //! Where names change, no block of the plan stands twice, so the image holds it (`renamed_images_hold_the_plan`), and each slot is what was
@@ -57,5 +58,6 @@ pub use slots::{
 };
 pub use space::{renamed_chunks_are_settled, renamed_space_is_lawful};
 pub use volumes::{
-    due_volumes_are_lawful, restored_volumes_are_consistent, restored_volumes_say_what_is_due,
+    due_volumes_are_lawful, restored_volumes_are_consistent, restored_volumes_have_what_they_named,
+    restored_volumes_say_what_is_due,
 };

@@ -14,6 +14,7 @@ ghost use Rattle.xfs_writing.specs.Writing.{writes_of_rows, written};
 ghost use Rattle.xfs_rebuild.specs.Rebuilds.{IsRebuildOf};
 ghost use Rattle.xfs_rebuild.specs.declared.planning.Rebuilt.{Rebuilt};
 ghost use Rattle.xfs_rewritten.specs.Rewriting.{IsRewritten};
+ghost use Rattle.xfs_restored.specs.Names.{HasKeptNames};
 ghost use Rattle.xfs_restored.specs.Restoring.{restored_catalog};
 
 /// An image in which a rebuild was written says just what was due: the groups with what was placed in each, the kept files and those
@@ -21,6 +22,12 @@ ghost use Rattle.xfs_restored.specs.Restoring.{restored_catalog};
 pub fn restored_volumes_say_what_is_due()
     ensures { (g : Geometry) (sector : List ℕ) (s : Stamp) (image now : Image) (e : Evidence) (r : Rebuilt) → IsEvidence g image e
         → (is : IsRebuildOf g sector s image e r) → IsRewritten g r image now → view g now ≡ Ok (restored_catalog g s now is.on is.planned.planned.placed) }
+{}
+
+/// So it has the names that are kept.
+pub fn restored_volumes_have_what_they_named()
+    ensures { (g : Geometry) (sector : List ℕ) (s : Stamp) (image now : Image) (e : Evidence) (r : Rebuilt) → IsEvidence g image e
+        → (is : IsRebuildOf g sector s image e r) → IsRewritten g r image now → HasKeptNames g is.on now }
 {}
 
 /// What was due breaks no law: space, counters, free lists, chunks, names and the log.

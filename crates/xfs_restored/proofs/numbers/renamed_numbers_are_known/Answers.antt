@@ -1,4 +1,5 @@
-use Rattle.xfs_restored.proofs.GivenNumbers.{directories, numbered, staying}
+use Rattle.xfs_restored.proofs.NumberedOf.{numbered}
+use Rattle.xfs_restored.proofs.StayingOf.{directories, staying}
 use Rattle.xfs_restored.proofs.numbers.renamed_numbers_are_known.Goals as goal
 
 pub returns-clause-numbered : goal.returns-clause-numbered

@@ -1,4 +1,4 @@
-use Rattle.xfs_restored.proofs.Relinked.{consistent_renamed, kept_renamed}
+use Rattle.xfs_restored.proofs.Relinked.{consistent_renamed, kept_renamed, names_wanted}
 use Rattle.xfs_restored.proofs.relinking.relinked_volumes_are_consistent.Goals as goal
 
 pub returns-clause-consistent : goal.returns-clause-consistent
@@ -6,3 +6,6 @@ returns-clause-consistent c = λ g sector s image now e n r elected is. consiste
 
 pub returns-clause-keeps : goal.returns-clause-keeps
 returns-clause-keeps c = λ g sector s image now e n r elected is ino safe. kept_renamed g sector s image now e n r is ino safe
+
+pub returns-clause-names : goal.returns-clause-names
+returns-clause-names c = names_wanted
