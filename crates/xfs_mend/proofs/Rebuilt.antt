@@ -8,18 +8,18 @@ use Rattle.xfs_laws.specs.Lawful.{broken_law}
 use Rattle.xfs_image.specs.Consistent.{IsConsistent}
 use Rattle.xfs_image.specs.Keeping.{Keeps, Protected}
 use Rattle.xfs_rebuild.specs.declared.planning.Rebuilt.{Rebuilt}
-use Rattle.xfs_restored.proofs.Relinked.{consistent_renamed, ground_found, kept_renamed}
+use Rattle.xfs_restored.proofs.Relinked.{consistent_renamed, ground_found, kept_renamed, names_wanted}
 use Rattle.xfs_restored.specs.Relinking.{IsRelinked}
 use Rattle.xfs_rename.specs.declared.planning.Renamed.{Renamed}
 use Rattle.xfs_rewritten.specs.Rewriting.{IsRewritten}
 use Rattle.xfs_restored.proofs.Keeping.{file_kept}
-use Rattle.xfs_restored.proofs.Restored.{consistent}
+use Rattle.xfs_restored.proofs.Restored.{consistent, names_kept}
 use Rattle.xfs_restored.proofs.Sizes.{elected_fits}
 use Rattle.xfs_scan.specs.Evidence.{IsEvidence}
 use Rattle.xfs_scan.specs.declared.evidence.Evidence.{Evidence}
 use Rattle.xfs_mend.proofs.Again.{stays_quiet}
 use Rattle.xfs_mend.specs.Outcome.{IsRebuilt}
-use Rattle.xfs_mend.specs.Rebuilding.{IsPlannedRebuild, IsRenamingOf, IsRepairPlan, rebuild_writes}
+use Rattle.xfs_mend.specs.Rebuilding.{HasPlannedNames, IsPlannedRebuild, IsRenamingOf, IsRepairPlan, rebuild_writes}
 use Rattle.xfs_writing.specs.Writing.{written}
 
 -- a plan in which names change, written into the image
@@ -48,6 +48,11 @@ module _ (g : Geometry) (sector : List ℕ) (s : Stamp) (image now : Image) (e :
   plan_keeps (inl is) ino safe = file_kept g sector s image now e r told is.0 new ino safe
   plan_keeps (inr is) ino safe = kept_renamed g sector s image now e is.n (renaming r orphans) (relinked is) ino safe
 
+  plan_names : (is : IsRepairPlan g sector s image e r orphans) → HasPlannedNames g sector s image now e r orphans is
+  unfolding relinked
+  plan_names (inl is) = names_kept g sector s image now e r told is.0 new
+  plan_names (inr is) = names_wanted g sector s image now e is.n (renaming r orphans) (relinked is)
+
 rewritten : (s : Stamp) (image : Image) (r : Rebuilt) (orphans : ℕ) (plan : IsPlannedRebuild s image r orphans)
     → IsRewritten plan.has.geometry r image (written (rebuild_writes r) image)
 rewritten s image r orphans plan = record { enough = elected_fits plan.has.geometry image plan.has.elected; is = refl }
@@ -64,6 +69,11 @@ kept_anew s image r orphans plan ino safe =
     plan_keeps plan.has.geometry plan.has.elected.vote.sector s image (written (rebuild_writes r) image) plan.e r orphans plan.evidence (rewritten s image r orphans plan) plan.is
     ino safe
 
+named_anew : (s : Stamp) (image : Image) (r : Rebuilt) (orphans : ℕ) (plan : IsPlannedRebuild s image r orphans)
+    → HasPlannedNames plan.has.geometry plan.has.elected.vote.sector s image (written (rebuild_writes r) image) plan.e r orphans plan.is
+named_anew s image r orphans plan =
+    plan_names plan.has.geometry plan.has.elected.vote.sector s image (written (rebuild_writes r) image) plan.e r orphans plan.evidence (rewritten s image r orphans plan) plan.is
+
 pub is_rebuilt : (s : Stamp) (image : Image) (now : Option Image) (r : Rebuilt) (blocks kept cleared orphans : ℕ) → IsPlannedRebuild s image r orphans
     → now ≡ Some (written (rebuild_writes r) image) → blocks ≡ length r.fresh + length r.in_place → kept ≡ r.kept → cleared ≡ r.cleared
     → IsRebuilt s image now blocks kept cleared orphans
@@ -76,5 +86,6 @@ is_rebuilt s image now r blocks kept cleared orphans plan holds counted same fre
   cleared' = freed;
   consistent = consistent_anew s image r orphans plan;
   keeps = λ ino safe. kept_anew s image r orphans plan ino safe;
+  names = named_anew s image r orphans plan;
   stays = λ o t outcome due. stays_quiet o t plan.has.geometry (written (rebuild_writes r) image) outcome (consistent_anew s image r orphans plan) due;
 }

@@ -16,7 +16,7 @@ use Rattle.xfs_rebuild.specs.declared.planning.Rebuilt.{Rebuilt}
 use Rattle.xfs_mend.specs.Asked.{Asked}
 use Rattle.xfs_backups.specs.Backups.{with_super, start_of, backup_plan}
 use Rattle.xfs_mend.specs.Due.{IsAnswer, IsDueRepair, IsOwed}
-use Rattle.xfs_mend.specs.Rebuilding.{IsBackupFound, IsPartlyRebuilt, IsPlannedRebuild, IsStoppedAnew, rebuild_writes}
+use Rattle.xfs_mend.specs.Rebuilding.{IsBackupFound, HasPlannedNames, IsPartlyRebuilt, IsPlannedRebuild, IsStoppedAnew, rebuild_writes}
 use Rattle.xfs_writing.specs.Writing.{Writes, written, IsPartly}
 use Rattle.xfs_writing.specs.Stopped.{IsStopped}
 use Rattle.xfs_mend.specs.declared.outcome.Outcome.{Outcome}
@@ -74,7 +74,8 @@ pub record IsRepaired (image : Image) (now : Option Image) : Type 0 where
   pub stays : StaysClean (written (backup_plan image) image)
 
 -- A rebuilt image has just the planned blocks, as the summary counts them. Whether names changed or not, it is consistent by the geometry
--- that it elected before, each file that was protected is kept, and a further repair writes nothing.
+-- that it elected before, each file that was protected is kept, its directories have the names that are kept or wanted, in their order, and
+-- a further repair writes nothing.
 pub record IsRebuilt (s : Stamp) (image : Image) (now : Option Image) (blocks kept cleared orphans : ℕ) : Type 0 where
   pub r : Rebuilt
   pub plan : IsPlannedRebuild s image r orphans
@@ -85,6 +86,7 @@ pub record IsRebuilt (s : Stamp) (image : Image) (now : Option Image) (blocks ke
   pub consistent : IsConsistent broken_law plan.has.geometry (written (rebuild_writes r) image)
   pub keeps : (ino : ℕ) → Protected (volume_of plan.has.geometry) image ino
       → Keeps (volume_of plan.has.geometry) image (written (rebuild_writes r) image) ino
+  pub names : HasPlannedNames plan.has.geometry plan.has.elected.vote.sector s image (written (rebuild_writes r) image) plan.e r orphans plan.is
   pub stays : (o : Asked) (t : Stamp) (outcome : Outcome) → IsDueRepair o t (written (rebuild_writes r) image) outcome
       → is_quiet outcome ≡ true
 

@@ -1,5 +1,6 @@
 -- What is due to an image that is to be rebuilt, and what is planned of it.
 use Rattle.std.specs.Prelude.{◌≡◌, ◌==◌, ℕ, ◌≤◌, ◌+◌, ◌++◌, ◌⊎◌, Bool, true, false, List, length, Option}
+use mathlib.Core.Logic.{inl, inr}
 use Rattle.xfs_disk.specs.Blocks.{Image}
 use Rattle.xfs_disk.specs.declared.stamp.Stamp.{Stamp}
 use Rattle.xfs_geom.specs.Volumes.{volume_of}
@@ -25,6 +26,7 @@ use Rattle.xfs_rename.specs.Nodes.{nodes_of_files}
 use Rattle.xfs_rename.specs.Renames.{AreBuilt, FindsNoRoomRenamed, IsRenamed, LacksCluster, renamed_wanted}
 use Rattle.xfs_rename.specs.Slots.{cleared_beside}
 use Rattle.xfs_rebuild.specs.declared.planning.Rebuilt.{Rebuilt}
+use Rattle.xfs_restored.specs.Names.{HasKeptNames, HasWantedNames}
 use Rattle.xfs_writing.specs.Stopped.{IsStopped}
 use Rattle.xfs_writing.specs.Writing.{IsPartly, Writes, writes_of_rows}
 use Rattle.xfs_mend.specs.declared.outcome.Outcome.{Outcome}
@@ -111,6 +113,11 @@ pub record IsRenamingOf (g : Geometry) (sector : List ℕ) (s : Stamp) (image : 
 -- a plan for an evidence, and how many inodes it puts into lost+found: none where no name has to change
 abbrev pub IsRepairPlan : Geometry → List ℕ → Stamp → Image → Evidence → Rebuilt → ℕ → Type 0
 IsRepairPlan g sector s image e r orphans = (IsRebuildOf g sector s image e r × (orphans ≡ 0)) ⊎ IsRenamingOf g sector s image e r orphans
+
+-- the names that the volume has once a plan is written: those that are kept, or those that are wanted
+abbrev pub HasPlannedNames : (g : Geometry) (sector : List ℕ) (s : Stamp) (image now : Image) (e : Evidence) (r : Rebuilt) (orphans : ℕ) → IsRepairPlan g sector s image e r orphans → Type 0
+HasPlannedNames g sector s image now e r orphans (inl is) = HasKeptNames g is.0.on now
+HasPlannedNames g sector s image now e r orphans (inr is) = HasWantedNames g is.n is.renamed.w now
 
 -- This is planned of an image in which something else than a backup superblock is found first: the blocks round what is kept of its
 -- evidence that differ from its own. The superblock is the one that it elects.
