@@ -22,5 +22,7 @@ mod protofile;
 mod reading;
 mod scanning;
 
+pub use modes::{FileType, Mode};
 pub use protofile::{Proto, ProtoFault, ProtoKind, ProtoNode};
+pub use reading::Open;
 pub use scanning::read_proto;

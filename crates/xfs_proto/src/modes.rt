@@ -5,7 +5,7 @@ ghost use Rattle.xfs_proto.specs.Modes.{bits_of, digit_of, flag_of, mode_of, mod
 
 /// The type of a file.
 #[derive(Clone, Copy, Debug, PartialEq, Eq)]
-pub(crate) enum FileType {
+pub enum FileType {
     Regular,
     Directory,
     Link,
@@ -16,7 +16,7 @@ pub(crate) enum FileType {
 
 /// A mode.
 #[derive(Clone, Copy, Debug)]
-pub(crate) struct Mode {
+pub struct Mode {
     pub kind: FileType,
     /// As it stands in an inode, the type in the upper four bits.
     pub bits: u16,

@@ -63,7 +63,7 @@ pub(crate) enum NextToken {
 
 /// A directory that is open.
 #[derive(Clone, Copy, Debug)]
-pub(crate) struct Open {
+pub struct Open {
     /// Its place among the nodes.
     pub directory: u64,
     /// How many entries it has.

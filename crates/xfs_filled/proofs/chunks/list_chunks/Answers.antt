@@ -1,0 +1,26 @@
+use Rattle.std.proofs.Common.{ℕ, ◌/◌, ◌==◌, ◌++◌, ◌∷◌, [], Bool, Vec, Global, get_or, arith, sym, ap, ◌∙◌}
+use Rattle.xfs_geom.specs.Volumes.{volume_of}
+use Rattle.xfs_geom.specs.declared.records.InoRec.{InoRec}
+use Rattle.xfs_filled.specs.Chunks.{chunk_record}
+use Rattle.xfs_filled.proofs.Lists.{mapped_next, mapped_same}
+use Rattle.xfs_filled.proofs.chunks.list_chunks.Goals.{then-is_in_group+in_ok-push, else-is_in_group}
+use Rattle.xfs_filled.proofs.chunks.list_chunks.Goals as goal
+
+pub loop-c-preserved : goal.loop-c-preserved
+loop-c-preserved c =
+    let g = c.args.g.now in
+    let starts = c.args.starts.now in
+    let f : ℕ → InoRec = chunk_record (volume_of g) c.args.files starts in
+    let p : ℕ → Bool = λ m. get_or starts m 0 / g.agblocks == c.args.ag in
+    let i = c.loop-c.c in
+    let now = c.loop-c.records.items in
+    elim c.if-is_in_group.branch [
+      | then-is_in_group+in_ok-push w ↦
+          record {
+            all = ap (λ (rs : Vec InoRec Global). rs.items) w.records-is
+                ∙ mapped_next f p 0 i i now w.push.new.self.items (omega arith) (sym c.is_in_group.ensures ∙ w.if-is_in_group.true) c.loop-c.invariant.all
+                (w.in_ok-push.ensures.items ∙ ap (λ (r : InoRec). now ++ r ∷ []) w.chunk_record.ensures);
+          }
+      | else-is_in_group w ↦
+          record { all = ap (λ (rs : Vec InoRec Global). rs.items) w.records-is ∙ mapped_same f p 0 i i now (omega arith) (sym c.is_in_group.ensures ∙ w.if-is_in_group.false) c.loop-c.invariant.all }
+    ]

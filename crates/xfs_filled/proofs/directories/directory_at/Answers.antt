@@ -1,0 +1,52 @@
+use Rattle.std.proofs.Common.{◌≡◌, length, get_or, arith, sym, subst, ap, ◌∙◌}
+use Rattle.std.specs.List.{All}
+use Rattle.std.proofs.lemmas.List.{get_or_default}
+use Rattle.std.proofs.lemmas.List.FromFn.{length-map-range_with_len}
+use Rattle.xfs_dirdata.specs.Written.{IsWritableEntry}
+use Rattle.xfs_dirindex.specs.Data.{have_no_dots}
+use Rattle.xfs_geom.specs.Volumes.{volume_of}
+use Rattle.xfs_proto.specs.declared.protofile.ProtoNode.{ProtoNode}
+use Rattle.xfs_filled.specs.Entries.{entries_at}
+use Rattle.xfs_filled.specs.FileTrees.{is_directory_kind, no_proto_node}
+use Rattle.xfs_filled.specs.Numbers.{number_of}
+use Rattle.xfs_filled.proofs.Made.{directory_is}
+use Rattle.xfs_filled.proofs.Entering.{entries_few, entries_no_dots, entries_writable, entries_listed}
+use Rattle.xfs_filled.proofs.directories.directory_at.Goals as goal
+
+pub bounds-entries-k : goal.bounds-entries-k
+bounds-entries-k c =
+    let long = ap length c.requires.entries ∙ length-map-range_with_len (entries_at (volume_of c.args.g.now) c.args.starts.now c.args.nodes.now) 0 (length c.args.nodes.now) in
+    let inside = c.requires.inside in
+    omega (arith, long, inside)
+
+pub make_directory-requires-clause-writable : goal.make_directory-requires-clause-writable
+make_directory-requires-clause-writable c =
+    let is = c.as_slice.ensures ∙ c.index-entries-k.is
+    ∙ entries_listed (volume_of c.args.g.now) c.args.starts.now c.args.nodes.now c.args.entries.now c.index-entries-k.result c.args.k c.requires.inside c.requires.entries in
+    subst (All IsWritableEntry) (sym is) (entries_writable c.args.g.now c.args.starts.now c.args.nodes.now c.args.k c.requires.placed c.requires.files)
+
+pub make_directory-requires-clause-names : goal.make_directory-requires-clause-names
+make_directory-requires-clause-names c =
+    let is = c.as_slice.ensures ∙ c.index-entries-k.is
+    ∙ entries_listed (volume_of c.args.g.now) c.args.starts.now c.args.nodes.now c.args.entries.now c.index-entries-k.result c.args.k c.requires.inside c.requires.entries in
+    ap have_no_dots is ∙ entries_no_dots (volume_of c.args.g.now) c.args.starts.now c.args.nodes.now c.args.k c.requires.files
+
+pub make_directory-requires-clause-few : goal.make_directory-requires-clause-few
+make_directory-requires-clause-few c =
+    let is = c.as_slice.ensures ∙ c.index-entries-k.is
+    ∙ entries_listed (volume_of c.args.g.now) c.args.starts.now c.args.nodes.now c.args.entries.now c.index-entries-k.result c.args.k c.requires.inside c.requires.entries in
+    let long = ap length is in
+    let few = entries_few (volume_of c.args.g.now) c.args.starts.now c.args.nodes.now c.args.k c.requires.files in
+    omega (arith, long, few)
+
+pub returns-clause-value : goal.returns-clause-value
+returns-clause-value c =
+    let v = volume_of c.args.g.now in
+    let starts = c.args.starts.now in
+    let ns = c.args.nodes.now in
+    let k = c.args.k in
+    let node : c.index-nodes-k.result ≡ get_or ns k no_proto_node = c.index-nodes-k.is ∙ get_or_default ns k c.index-nodes-k.result no_proto_node c.requires.inside in
+    directory_is v starts ns k c.as_slice.result.now c.number_of-dir.result c.number_of-parent.result c.in_ok-made.made
+    (ap (λ (x : ProtoNode). is_directory_kind x.kind) (sym node) ∙ sym c.is_directory_kind.ensures ∙ c.if-not-is_directory_kind.false)
+    (c.as_slice.ensures ∙ c.index-entries-k.is ∙ entries_listed v starts ns c.args.entries.now c.index-entries-k.result k c.requires.inside c.requires.entries)
+    c.number_of-dir.ensures.value (c.number_of-parent.ensures.value ∙ ap (λ (x : ProtoNode). number_of v starts x.parent) node) c.in_ok-made.ensures.value

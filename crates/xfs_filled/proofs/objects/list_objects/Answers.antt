@@ -1,0 +1,20 @@
+use Rattle.std.proofs.Common.{◌<◌, length, arith, sym, subst, ap, ◌∙◌}
+use Rattle.std.specs.List.{All, flat_map}
+use Rattle.std.proofs.lemmas.List.{take_all}
+use Rattle.xfs_geom.specs.Volumes.{volume_of}
+use Rattle.xfs_filled.specs.Objects.{objects_of_place}
+use Rattle.xfs_filled.proofs.Asking.{objects_are, order_inside}
+use Rattle.xfs_filled.proofs.objects.list_objects.Goals as goal
+
+pub push_object-requires-clause-inside : goal.push_object-requires-clause-inside
+push_object-requires-clause-inside c =
+    let ns = c.args.site.now.nodes.now in
+    subst (All (λ k. k < length ns)) (sym c.requires.site.order') (order_inside ns) c.loop-k.k-index 0 c.loop-k-test.true
+
+pub returns : goal.returns
+returns c =
+    let site = c.args.site.now in
+    let v = volume_of site.geometry.now in
+    let f = objects_of_place v site.starts.now site.nodes.now site.contents.now in
+    let past = c.loop-k-test.false in
+    c.loop-k.invariant.all ∙ ap (flat_map f) (take_all c.loop-k.k-index site.order.now (omega (arith, past)) ∙ c.requires.site.order') ∙ objects_are v site.starts.now site.nodes.now site.contents.now

@@ -1,0 +1,27 @@
+use Rattle.std.proofs.Common.{ℕ, ◌++◌, List, [], ◌∷◌, map, arith, sym, ap, ap₂, ◌∙◌}
+use Rattle.std.specs.List.{range_with_len}
+use Rattle.std.proofs.lemmas.List.FromFn.{map-range_with_len_more}
+use Rattle.xfs_geom.specs.Volumes.{volume_of}
+use Rattle.xfs_render.specs.declared.wanted_slots.SlotWanted.{SlotWanted}
+use Rattle.xfs_filled.specs.Slots.{slot_of_index}
+use Rattle.xfs_filled.proofs.Slotted.{slots_are}
+use Rattle.xfs_filled.proofs.slots.list_slots.Goals as goal
+
+pub loop-j-preserved : goal.loop-j-preserved
+loop-j-preserved c =
+    let site = c.args.site.now in
+    let f : ℕ → SlotWanted = slot_of_index (volume_of site.geometry.now) c.args.stamp.now site.starts.now site.nodes.now site.contents.now c.args.runs.now in
+    record {
+      all = c.in_ok-push.ensures.items ∙ ap₂ (λ (xs : List SlotWanted) (x : SlotWanted). xs ++ x ∷ []) c.loop-j.invariant.all c.in_ok-slot_at.ensures
+          ∙ sym (map-range_with_len_more f 0 c.loop-j.j c.loop-j.j (omega arith));
+    }
+
+pub returns : goal.returns
+returns c =
+    let site = c.args.site.now in
+    let v = volume_of site.geometry.now in
+    let starts = site.starts.now in
+    let f : ℕ → SlotWanted = slot_of_index v c.args.stamp.now starts site.nodes.now site.contents.now c.args.runs.now in
+    let past = c.loop-j-test.false in
+    let end = c.loop-j.auto.j-end in
+    c.loop-j.invariant.all ∙ ap (λ (n : ℕ). map f (range_with_len 0 n)) (omega (arith, past, end)) ∙ slots_are v c.args.stamp.now starts site.nodes.now site.contents.now c.args.runs.now

@@ -1,0 +1,13 @@
+pub mod FileTrees
+pub mod Numbers
+pub mod Chunks
+pub mod Entries
+pub mod Directories
+pub mod Sites
+pub mod Objects
+pub mod Forks
+pub mod Spans
+pub mod Slots
+pub mod Contents
+pub mod Wanting
+pub mod Planning

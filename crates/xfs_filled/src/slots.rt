@@ -1,0 +1,187 @@
+//! The slots of the chunks of a new volume.
+
+ghost use Rattle.std.specs.Prelude.{◌≡◌, ◌*◌, ◌<◌, ◌≤◌, length, IfOk};
+ghost use Rattle.std.specs.List.{All, flat_map};
+ghost use Rattle.std.specs.Option.{option_copied};
+ghost use Rattle.xfs_geom.specs.Volumes.{volume_of};
+ghost use Rattle.xfs_empty.specs.Inodes.{system_core, system_slot, unused_slot};
+ghost use Rattle.xfs_place.specs.Pool.{IsRunOf};
+ghost use Rattle.xfs_filled.specs.FileTrees.{object_order};
+ghost use Rattle.xfs_filled.specs.Forks.{HasOffset, extents_of_run};
+ghost use Rattle.xfs_filled.specs.Numbers.{number_of};
+ghost use Rattle.xfs_filled.specs.Sites.{IsSite};
+ghost use Rattle.xfs_filled.specs.Slots.{all_slots, core_at, fork_of_place, links_of_made, made_slot, slot_of_index};
+ghost use Rattle.xfs_filled.specs.Spans.{AreRunsOf, HasSpans};
+
+use crate::directories::MadeDirectory;
+use crate::forks::{list_extents, make_fork};
+use crate::numbers::{CHUNK_INODES, SYSTEM_INODES, inode_at};
+use crate::site::{Site, content_at, directory_at, ino_at};
+use crate::spans::{RunSpan, list_spans};
+use std::alloc::Global;
+use xfs_disk::{NoMemory, Stamp};
+use xfs_empty::{ROOT_INODE, fresh_core, time_of};
+use xfs_geom::{Geometry, Run};
+use xfs_render::{SlotBase, SlotWanted};
+use xfs_volume::Core;
+
+/// A regular file without permissions.
+const SYSTEM_MODE: u16 = 0x8000;
+
+/// The flag of the inode of the realtime bitmap.
+const NEW_BITMAP: u16 = 4;
+
+/// What is wanted of the slots of all chunks, where all objects have these runs.
+pub fn list_slots(
+    alloc: Global,
+    site: &Site<'_>,
+    stamp: &Stamp,
+    runs: &[Run],
+) -> Result<Vec<SlotWanted>, NoMemory>
+    requires site { IsSite site.now.geometry.now site.now.starts.now site.now.nodes.now site.now.contents.now site.now.directories.now site.now.order.now }
+    requires inside { All (IsRunOf site.now.geometry.now.dblocks) runs.now }
+    requires offsets { All HasOffset runs.now }
+    requires runs { AreRunsOf (volume_of site.now.geometry.now) site.now.starts.now (object_order site.now.nodes.now) runs.now }
+    ensures { IfOk result (λ slots. slots.items
+        ≡ all_slots (volume_of site.now.geometry.now) stamp.now site.now.starts.now site.now.nodes.now site.now.contents.now runs.now) }
+{
+    let spans = list_spans(alloc, site, runs)?;
+    let mut slots = Vec::new(alloc);
+    for j in 0..CHUNK_INODES * site.starts.len() {
+        slots.push(slot_at(alloc, site, stamp, runs, &spans, j)?)?;
+    }
+    Ok(slots)
+}
+
+/// What is wanted of a slot: the root, the two system inodes, the other files, and behind these free inodes.
+fn slot_at(
+    alloc: Global,
+    site: &Site<'_>,
+    stamp: &Stamp,
+    runs: &[Run],
+    spans: &[RunSpan],
+    j: usize,
+) -> Result<SlotWanted, NoMemory>
+    requires site { IsSite site.now.geometry.now site.now.starts.now site.now.nodes.now site.now.contents.now site.now.directories.now site.now.order.now }
+    requires inside { All (IsRunOf site.now.geometry.now.dblocks) runs.now }
+    requires offsets { All HasOffset runs.now }
+    requires spans { HasSpans (volume_of site.now.geometry.now) site.now.starts.now (length site.now.nodes.now) runs.now spans.now }
+    requires slot { j < 64 * length site.now.starts.now }
+    ensures { IfOk result (λ slot. slot
+        ≡ slot_of_index (volume_of site.now.geometry.now) stamp.now site.now.starts.now site.now.nodes.now site.now.contents.now runs.now j) }
+{
+    if j == 1 || j == SYSTEM_INODES {
+        let ino = inode_at(site.geometry, site.starts, j);
+        return Ok(system_slot(site.geometry, stamp, ino));
+    }
+    if j < site.nodes.len() + SYSTEM_INODES {
+        let k = j.saturating_sub(SYSTEM_INODES);
+        let span = spans[k];
+        return file_slot(alloc, site, stamp, &runs[span.from..span.to], k);
+    }
+    Ok(unused_slot(inode_at(site.geometry, site.starts, j)))
+}
+
+/// What is wanted of the slot of the file at a place.
+fn file_slot(
+    alloc: Global,
+    site: &Site<'_>,
+    stamp: &Stamp,
+    runs: &[Run],
+    k: usize,
+) -> Result<SlotWanted, NoMemory>
+    requires site { IsSite site.now.geometry.now site.now.starts.now site.now.nodes.now site.now.contents.now site.now.directories.now site.now.order.now }
+    requires file { k < length site.now.nodes.now }
+    requires inside { All (IsRunOf site.now.geometry.now.dblocks) runs.now }
+    requires offsets { All HasOffset runs.now }
+    requires few { length (flat_map (extents_of_run (volume_of site.now.geometry.now)) runs.now) ≤ 21 }
+    ensures { IfOk result (λ slot. slot ≡ made_slot (number_of (volume_of site.now.geometry.now) site.now.starts.now k)
+        (core_at (volume_of site.now.geometry.now) stamp.now site.now.starts.now site.now.nodes.now k)
+        (fork_of_place (volume_of site.now.geometry.now) site.now.starts.now site.now.nodes.now site.now.contents.now (flat_map (extents_of_run (volume_of site.now.geometry.now)) runs.now) k)) }
+{
+    let kind = &site.nodes[k].kind;
+    let extents = list_extents(alloc, site.geometry, runs)?;
+    let fork = make_fork(
+        alloc,
+        kind,
+        directory_at(site, k),
+        content_at(site, k),
+        &extents,
+    )?;
+    Ok(SlotWanted {
+        ino: ino_at(site, k),
+        base: SlotBase::Fresh(core_at(site, stamp, k)),
+        drop_attrs: None,
+        fork: Some(fork),
+        nlink: None,
+    })
+}
+
+/// The core of the file at a place, but for what goes with its content.
+fn core_at(site: &Site<'_>, stamp: &Stamp, k: usize) -> Core
+    requires site { IsSite site.now.geometry.now site.now.starts.now site.now.nodes.now site.now.contents.now site.now.directories.now site.now.order.now }
+    requires inside { k < length site.now.nodes.now }
+    ensures { result ≡ core_at (volume_of site.now.geometry.now) stamp.now site.now.starts.now site.now.nodes.now k }
+{
+    let node = &site.nodes[k];
+    let ino = ino_at(site, k);
+    Core {
+        uid: node.uid,
+        gid: node.gid,
+        nlink: links_of(directory_at(site, k)),
+        ..fresh_core(
+            site.geometry,
+            time_of(stamp),
+            stamp.generation,
+            ino,
+            node.mode,
+        )
+    }
+}
+
+/// How many names a file has.
+fn links_of(directory: Option<&MadeDirectory>) -> u32
+    ensures { result ≡ links_of_made (option_copied directory.entry) }
+{
+    match directory {
+        Some(made) => made.links,
+        None => 1,
+    }
+}
+
+/// What is wanted of the slot of a system inode: that of the realtime bitmap, which follows the root, or of the realtime summary.
+fn system_slot(g: &Geometry, stamp: &Stamp, ino: u64) -> SlotWanted
+    ensures { result ≡ system_slot (volume_of g.now) stamp.now ino }
+{
+    SlotWanted {
+        ino,
+        base: SlotBase::Fresh(system_core(g, stamp, ino)),
+        drop_attrs: None,
+        fork: None,
+        nlink: None,
+    }
+}
+
+/// The core of a system inode, an empty regular file.
+fn system_core(g: &Geometry, stamp: &Stamp, ino: u64) -> Core
+    ensures { result ≡ system_core (volume_of g.now) stamp.now ino }
+{
+    let flags = if ino == ROOT_INODE + 1 { NEW_BITMAP } else { 0 };
+    Core {
+        flags,
+        ..fresh_core(g, time_of(stamp), stamp.generation, ino, SYSTEM_MODE)
+    }
+}
+
+/// What is wanted of the slot of a free inode.
+fn unused_slot(ino: u64) -> SlotWanted
+    ensures { result ≡ unused_slot ino }
+{
+    SlotWanted {
+        ino,
+        base: SlotBase::Free,
+        drop_attrs: None,
+        fork: None,
+        nlink: None,
+    }
+}
