@@ -2,22 +2,21 @@
 use Rattle.std.proofs.Common.{◌≡◌, ℕ, ◌≤◌, ◌⊎◌, inl, inr, Bool, true, false, List, Option, None, Result, Ok, Err, OnOk, OnErr, arith, refl, sym, subst}
 use Rattle.xfs_disk.specs.Counts.{raised_times}
 use Rattle.xfs_disk.specs.Blocks.{Image}
+use Rattle.xfs_disk.specs.Files.{Files}
 use Rattle.xfs_disk.specs.declared.failed.Failed.{Failed}
 use Rattle.xfs_disk.specs.declared.stamp.Stamp.{Stamp}
 use Rattle.xfs_geom.specs.declared.geometry.Geometry.{Geometry}
 use Rattle.xfs_options.specs.declared.make_words.MakeOptions.{MakeOptions}
-use Rattle.xfs_place.specs.Wanted.{FindsNoRoom}
 use Rattle.xfs_place.specs.declared.faults.Unplaced.{Unplaced}
 use Rattle.xfs_place.specs.declared.faults.PlaceFault.{PlaceFault}
 use Rattle.xfs_place.specs.declared.faults.PlaceFault.TheVariants as Placing
 use Rattle.xfs_render.specs.declared.plan.Plan.{Plan}
-use Rattle.xfs_empty.specs.Placing.{empty_wanted}
-use Rattle.xfs_empty.specs.Planning.{HasRoom}
 use Rattle.xfs_mkfs.specs.Counts.{CountsBlocks, CountsReads, IsUnwritten, LooksPartly, looked}
-use Rattle.xfs_mkfs.specs.Due.{IsGeometry, refusal}
-use Rattle.xfs_mkfs.specs.Outcome.{IsMakingCause, IsDueMake, IsPlanOf, IsPlanned, MakeLeaves, place_outcome, put_outcome}
+use Rattle.xfs_mkfs.specs.Due.{refusal}
+use Rattle.xfs_mkfs.specs.Outcome.{IsMakingCause, IsDueMake, IsPlanOf, IsPlanningCause, IsPrepared, IsVolumeAsked, LacksRoomFor, MakeLeaves, place_outcome, put_outcome}
 use Rattle.xfs_mkfs.specs.Putting.{CountsPut, HasPutCause, LeavesUnput}
 use Rattle.xfs_mkfs.specs.Stops.{IsDurableMake, IsMadeStopped, StopLeaves}
+use Rattle.xfs_mkfs.specs.declared.files.FilesAsked.{FilesAsked}
 use Rattle.xfs_mkfs.specs.declared.outcome.MakeOutcome.{MakeOutcome}
 use Rattle.xfs_mkfs.specs.declared.outcome.MakeOutcome.TheVariants as Out
 use Rattle.xfs_mkfs.specs.declared.volume.PutFault.{PutFault}
@@ -29,40 +28,38 @@ same_place what other h = cc
 no_memory : (what : Unplaced) → Placing.NoRoom what ≡ Placing.NoMemory → ⊥
 no_memory what h = cc
 
-pub due_placing : (o : MakeOptions) (s : Stamp) (blocks : ℕ) (image : Image) (g : Geometry) → refusal o blocks image ≡ None → IsGeometry o s blocks g
-    → (fault : PlaceFault)
-    → (fault ≡ Placing.NoMemory) ⊎ ((what : Unplaced) × (fault ≡ Placing.NoRoom what) × FindsNoRoom (empty_wanted g) what)
-    → IsDueMake o s blocks image (place_outcome fault)
-due_placing o s blocks image g none chosen Placing.NoMemory cause = tt
-due_placing o s blocks image g none chosen (Placing.NoRoom what) (inl is) = absurd (no_memory what is)
-due_placing o s blocks image g none chosen (Placing.NoRoom what) (inr found) = (
+pub due_placing : (o : MakeOptions) (s : Stamp) (told : Option Files) (blocks : ℕ) (image : Image) (g : Geometry) (asked : FilesAsked) → refusal o blocks image ≡ None
+    → IsVolumeAsked o s told blocks g asked → (fault : PlaceFault) → IsPlanningCause g asked fault → IsDueMake o s told blocks image (place_outcome fault)
+due_placing o s told blocks image g asked none volume Placing.NoMemory cause = tt
+due_placing o s told blocks image g asked none volume (Placing.NoRoom what) (inl is) = absurd (no_memory what is)
+due_placing o s told blocks image g asked none volume (Placing.NoRoom what) (inr found) = (
   none,
   record {
     geometry = g;
-    chosen = chosen;
-    none = subst (λ (w : Unplaced). FindsNoRoom (empty_wanted g) w) (same_place what found.0 found.1) found.2;
+    asked = asked;
+    volume = volume;
+    none = subst (λ (w : Unplaced). LacksRoomFor g asked w) (same_place what found.0 found.1) found.2;
   },
 )
 
-pub caused_placing : (a b c d : ℕ) (fault : PlaceFault) → IsMakingCause a b c d (place_outcome fault)
-caused_placing a b c d Placing.NoMemory = tt
-caused_placing a b c d (Placing.NoRoom what) = tt
+pub caused_placing : (a b c d before now : ℕ) (fault : PlaceFault) → IsMakingCause a b c d before now (place_outcome fault)
+caused_placing a b c d before now Placing.NoMemory = tt
+caused_placing a b c d before now (Placing.NoRoom what) = tt
 
-pub due_putting : (o : MakeOptions) (s : Stamp) (blocks : ℕ) (image : Image) (g : Geometry) → refusal o blocks image ≡ None → IsGeometry o s blocks g
-    → HasRoom (empty_wanted g) → (fault : PutFault) → IsDueMake o s blocks image (put_outcome fault)
-due_putting o s blocks image g none chosen room Put.NoMemory = tt
-due_putting o s blocks image g none chosen room (Put.Failed n) = (none, record { geometry = g; chosen = chosen; room = room })
+pub due_putting : (o : MakeOptions) (s : Stamp) (told : Option Files) (blocks : ℕ) (image : Image) (g : Geometry) (plan : Plan) → refusal o blocks image ≡ None
+    → IsPrepared o s told blocks g plan → (fault : PutFault) → IsDueMake o s told blocks image (put_outcome fault)
+due_putting o s told blocks image g plan none is Put.NoMemory = tt
+due_putting o s told blocks image g plan none is (Put.Failed n) = (none, record { geometry = g; asked = is.asked; volume = is.volume; room = is.room })
 
-pub leaves_putting : (o : MakeOptions) (s : Stamp) (blocks : ℕ) (image : Image) (now : Option Image) (g : Geometry) (plan : Plan)
-    → IsGeometry o s blocks g → IsPlanned g o.label s plan → (fault : PutFault) → LeavesUnput plan image now fault
-    → MakeLeaves o s blocks image now (put_outcome fault)
-leaves_putting o s blocks image now g plan chosen is Put.NoMemory left = left
-leaves_putting o s blocks image now g plan chosen is (Put.Failed n) left =
-    record { geometry = g; chosen = chosen; plan = plan; planned = is; put = left }
+pub leaves_putting : (o : MakeOptions) (s : Stamp) (told : Option Files) (blocks : ℕ) (image : Image) (now : Option Image) (g : Geometry) (plan : Plan)
+    → IsPrepared o s told blocks g plan → (fault : PutFault) → LeavesUnput plan image now fault → MakeLeaves o s told blocks image now (put_outcome fault)
+leaves_putting o s told blocks image now g plan is Put.NoMemory left = left
+leaves_putting o s told blocks image now g plan is (Put.Failed n) left =
+    record { geometry = g; asked = is.asked; volume_asked = is.volume; plan = plan; planned = is.rendered; put = left }
 
-pub caused_putting : (a b c d : ℕ) (fault : PutFault) → HasPutCause c d (Err fault) → IsMakingCause a b c d (put_outcome fault)
-caused_putting a b c d Put.NoMemory cause = tt
-caused_putting a b c d (Put.Failed n) cause = cause
+pub caused_putting : (a b c d before now : ℕ) (fault : PutFault) → HasPutCause c d (Err fault) → IsMakingCause a b c d before now (put_outcome fault)
+caused_putting a b c d before now Put.NoMemory cause = tt
+caused_putting a b c d before now (Put.Failed n) cause = cause
 
 -- nothing was written where placing failed
 pub unwritten_placing : (fault : PlaceFault) → IsUnwritten (place_outcome fault)
@@ -104,10 +101,10 @@ pub not_looked : (force : Bool) (before : ℕ) → force ≡ true → before ≡
 not_looked true before is = refl
 not_looked false before is = cc
 
-pub counts_putting : (o : MakeOptions) (s : Stamp) (blocks before now : ℕ) (plan : Plan) → IsPlanOf o s blocks plan → (fault : PutFault)
-    → CountsPut plan before now (Err fault) → CountsBlocks o s blocks before now (put_outcome fault)
-counts_putting o s blocks before now plan due Put.NoMemory counted = counted
-counts_putting o s blocks before now plan due (Put.Failed n) counted = record { plan = plan; due = due; most = counted.0; counted = counted.1 }
+pub counts_putting : (o : MakeOptions) (s : Stamp) (told : Option Files) (blocks before now : ℕ) (plan : Plan) → IsPlanOf o s told blocks plan → (fault : PutFault)
+    → CountsPut plan before now (Err fault) → CountsBlocks o s told blocks before now (put_outcome fault)
+counts_putting o s told blocks before now plan due Put.NoMemory counted = counted
+counts_putting o s told blocks before now plan due (Put.Failed n) counted = record { plan = plan; due = due; most = counted.0; counted = counted.1 }
 
 pub kept_putting : (tells : Type 0) (now : Option Image) (may_leave : ℕ → List ℕ → Type 0) (fault : PutFault) → IsDurableMake tells now may_leave (put_outcome fault)
 kept_putting tells now may_leave Put.NoMemory = tt
@@ -119,13 +116,17 @@ unwritten_putting Put.NoMemory is = refl
 unwritten_putting (Put.Failed n) is = absurd is
 
 -- what a stop leaves where writing failed
-pub stops_putting : (o : MakeOptions) (s : Stamp) (blocks : ℕ) (image stopped : Image) (fault : PutFault) (before now : Type 0)
-    → (fault ≡ Put.NoMemory → now → before) → (now → before ⊎ IsMadeStopped o s blocks image stopped) → now
-    → before ⊎ StopLeaves o s blocks image stopped (put_outcome fault)
-stops_putting o s blocks image stopped Put.NoMemory before now same left it = inl (same refl it)
-stops_putting o s blocks image stopped (Put.Failed n) before now same left it = left it
+pub stops_putting : (o : MakeOptions) (s : Stamp) (told : Option Files) (blocks : ℕ) (image stopped : Image) (fault : PutFault) (before now : Type 0)
+    → (fault ≡ Put.NoMemory → now → before) → (now → before ⊎ IsMadeStopped o s told blocks image stopped) → now
+    → before ⊎ StopLeaves o s told blocks image stopped (put_outcome fault)
+stops_putting o s told blocks image stopped Put.NoMemory before now same left it = inl (same refl it)
+stops_putting o s told blocks image stopped (Put.Failed n) before now same left it = left it
 
 -- the count of failed writes has not fallen
 pub put_rises : (before now : ℕ) (fault : PutFault) → HasPutCause before now (Err fault) → before ≤ now
 put_rises before now Put.NoMemory cause = cause
 put_rises before now (Put.Failed n) cause = cause.0
+
+-- the plan of what was prepared
+pub plan_of : (o : MakeOptions) (s : Stamp) (told : Option Files) (blocks : ℕ) (g : Geometry) (plan : Plan) → IsPrepared o s told blocks g plan → IsPlanOf o s told blocks plan
+plan_of o s told blocks g plan is = record { geometry = g; asked = is.asked; volume = is.volume; rendered = is.rendered }

@@ -1,5 +1,5 @@
 -- While a volume is made, block 0 is as it was until all its other blocks are written.
-use Rattle.std.proofs.Common.{◌≡◌, ℕ, zero, suc, ◌+◌, ◌*◌, ◌≤◌, ◌<◌, inl, inr, Bool, true, cond, not, ◌==◌, List, [], ◌∷◌, ◌++◌, length, map, get_or, refl, sym, ap, ◌∙◌, subst, arith}
+use Rattle.std.proofs.Common.{◌≡◌, ℕ, zero, suc, ◌*◌, ◌≤◌, ◌<◌, inl, inr, Bool, true, cond, false, not, ◌==◌, Option, List, [], ◌∷◌, ◌++◌, length, map, get_or, refl, sym, ap, ◌∙◌, subst, arith}
 use Rattle.std.specs.Prelude.{slice_get, slice_set}
 use Rattle.std.specs.List.{All, Contains, filter, range_with_len, sum_by}
 use Rattle.std.specs.List.Sorted.{IsNonDecreasingBy}
@@ -8,61 +8,92 @@ use Rattle.std.proofs.lemmas.List.Elements.{All-cons, All-head, All-nil, All-tai
 use Rattle.std.proofs.lemmas.List.Sorted.{Contains-permutation, sum_by-IsPermutation}
 use Rattle.std.proofs.lemmas.List.Sums.{sum_by-cons}
 use Rattle.xfs_disk.specs.Blocks.{Image}
+use Rattle.xfs_disk.specs.Files.{Files}
 use Rattle.xfs_disk.specs.declared.stamp.Stamp.{Stamp}
+use Rattle.xfs_geom.specs.Volumes.{volume_of}
 use Rattle.xfs_geom.specs.declared.geometry.Geometry.{Geometry}
+use Rattle.xfs_geom.specs.declared.records.Run.{Run}
 use Rattle.xfs_place.specs.Pool.{is_taken}
+use Rattle.xfs_place.specs.declared.placed.Placed.{Placed}
+use Rattle.xfs_place.specs.declared.wanted.Wanted.{Wanted}
 use Rattle.xfs_render.specs.Drafts.{row_places}
 use Rattle.xfs_render.specs.Plans.{IsOnce, plan_rows, planned}
-use Rattle.xfs_render.specs.Rendering.{blocks_in_place, log_places}
+use Rattle.xfs_render.specs.Rendering.{IsRendered, blocks_in_place, log_places}
 use Rattle.xfs_render.specs.declared.bytes.Bytes.{Bytes}
 use Rattle.xfs_render.specs.declared.plan.Plan.{Plan}
 use Rattle.xfs_empty.specs.Bytes.{header_places}
 use Rattle.xfs_empty.specs.Placing.{chunk_run, empty_wanted}
-use Rattle.xfs_empty.specs.Planning.{IsEmptyPlan}
+use Rattle.xfs_empty.specs.Geometry.{HasFirstChunk}
+use Rattle.xfs_filled.specs.Chunks.{chunk_starts}
+use Rattle.xfs_filled.specs.Wanting.{blocks_of_chunks, filled_bytes, filled_wanted}
 use Rattle.xfs_made.proofs.Once.{planned_once}
 use Rattle.xfs_writing.proofs.Steps.{written-append}
 use Rattle.xfs_writing.specs.Stopped.{IsStopped}
 use Rattle.xfs_writing.specs.Writing.{Writes, write_of, written, writes_of_rows}
 use Rattle.xfs_writing.specs.declared.rows.Row.{Row}
 use Rattle.xfs_options.specs.declared.make_words.MakeOptions.{MakeOptions}
+use Rattle.xfs_mkfs.proofs.Failing.{plan_of}
+use Rattle.xfs_mkfs.proofs.FilledOnce.{chunks_clear, filled_once}
 use Rattle.xfs_mkfs.proofs.Geometries.{first_chunk}
 use Rattle.xfs_mkfs.proofs.Held.{count_planned, one_if}
 use Rattle.xfs_mkfs.proofs.Rows.{count_plan, row_at}
-use Rattle.xfs_mkfs.specs.Due.{IsGeometry}
 use Rattle.xfs_mkfs.specs.Order.{AreRowsOfPlan, all_writes, first_part, last_part}
-use Rattle.xfs_mkfs.specs.Outcome.{IsPlanned}
+use Rattle.xfs_mkfs.specs.Outcome.{IsPlanWith, IsPrepared}
 use Rattle.xfs_mkfs.specs.Putting.{IsPutStopped}
 use Rattle.xfs_mkfs.specs.Stops.{HasPrimaryLast, IsMadeStopped}
+use Rattle.xfs_mkfs.specs.declared.files.FilesAsked.{FilesAsked}
+use Rattle.xfs_mkfs.specs.declared.files.FilesAsked.TheVariants.{Root, Listed}
 
 -- what stands first in a list and passes is kept
 kept_first : (p : ℕ → Bool) (x : ℕ) (xs ys : List ℕ) → p x ≡ true → Contains (filter p (x ∷ xs) ++ ys) x
 kept_first p x xs ys is = subst (λ (b : Bool). Contains (cond b (x ∷ filter p xs) (filter p xs) ++ ys) x) (sym is) (0, omega arith, refl)
 
--- block 0 is not in the first chunk, so it is written in place
-abbrev is_open : ℕ → Bool
-is_open place = not (is_taken (chunk_run ∷ []) place)
+-- block 0 is in no chunk, so it is written in place
+abbrev is_open : List Run → ℕ → Bool
+is_open chunks place = not (is_taken chunks place)
 
-zero_open : (place : ℕ) → place ≡ 0 → is_open place ≡ true
-unfolding is_taken
-zero_open place none = subst (λ (n : ℕ). is_open n ≡ true) (sym none) refl
-
-zero_kept : (w n : ℕ) (rest log : List ℕ) → 2 ≤ n → Contains (filter is_open (header_places w n ++ rest) ++ log) 0
-zero_kept w zero rest log some = absurd (omega (arith, some))
-zero_kept w (suc n) rest log some =
-    subst (λ (place : ℕ). Contains (filter is_open (header_places w (suc n) ++ rest) ++ log) place) (no_group w)
-    (kept_first is_open (0 * w) (map (λ ag. ag * w) (range_with_len 1 n) ++ rest) log (zero_open (0 * w) (no_group w)))
+zero_kept : (chunks : List Run) (w n : ℕ) (rest log : List ℕ) → is_taken chunks 0 ≡ false → 2 ≤ n → Contains (filter (is_open chunks) (header_places w n ++ rest) ++ log) 0
+zero_kept chunks w zero rest log clear some = absurd (omega (arith, some))
+zero_kept chunks w (suc n) rest log clear some =
+    subst (λ (place : ℕ). Contains (filter (is_open chunks) (header_places w (suc n) ++ rest) ++ log) place) (no_group w)
+    (kept_first (is_open chunks) (0 * w) (map (λ ag. ag * w) (range_with_len 1 n) ++ rest) log (ap not (subst (λ (place : ℕ). is_taken chunks place ≡ false) (sym (no_group w)) clear)))
   where
     no_group : (w : ℕ) → 0 * w ≡ 0
     no_group w = omega arith
 
-pub has_zero : (g : Geometry) (sector : List ℕ) (s : Stamp) (plan : Plan) → IsEmptyPlan g sector s plan → Contains (planned plan) 0
-has_zero g sector s plan is =
-    let b : Bytes = is.bytes in
-    let w = empty_wanted g in
+-- so block 0 is planned wherever the headers of the groups are
+has_place : (w : Wanted) (p : Placed) (b : Bytes) (plan : Plan) (rest : List ℕ) → IsRendered w p b plan → b.places ≡ header_places w.geometry.agblocks w.geometry.agcount ++ rest
+    → is_taken w.new 0 ≡ false → Contains (planned plan) 0
+has_place w p b plan rest is places clear =
     let here : Contains (blocks_in_place w b) 0 =
-    subst (λ (ps : List ℕ). Contains (filter is_open ps ++ log_places w b.cycle) 0) (sym is.made.places')
-    (zero_kept g.agblocks g.agcount (range_with_len 16 8) (log_places w b.cycle) g.shape.groups.two) in
-    Contains-append_right (row_places plan.fresh) (row_places plan.in_place) 0 (Contains-permutation (blocks_in_place w b) (row_places plan.in_place) 0 is.is.rendered.in_place here)
+    subst (λ (ps : List ℕ). Contains (filter (is_open w.new) ps ++ log_places w b.cycle) 0) (sym places)
+    (zero_kept w.new w.geometry.agblocks w.geometry.agcount rest (log_places w b.cycle) clear w.geometry.shape.groups.two) in
+    Contains-append_right (row_places plan.fresh) (row_places plan.in_place) 0 (Contains-permutation (blocks_in_place w b) (row_places plan.in_place) 0 is.in_place here)
+
+first_clear : is_taken (chunk_run ∷ []) 0 ≡ false
+unfolding is_taken
+first_clear = refl
+
+-- block 0 is planned, and no block twice
+pub record IsApart (plan : Plan) : Type 0 where
+  pub once : IsOnce (planned plan)
+  pub primary : Contains (planned plan) 0
+
+pub plan_apart : (g : Geometry) (sector : List ℕ) (s : Stamp) (asked : FilesAsked) (plan : Plan) → IsPlanWith g sector s asked plan → HasFirstChunk (volume_of g) → IsApart plan
+plan_apart g sector s Root plan is first =
+    let w = empty_wanted g in
+    record {
+      once = planned_once g sector s plan is first;
+      primary = has_place w is.is.placed is.bytes plan (range_with_len 16 8) is.is.rendered is.made.places' first_clear;
+    }
+plan_apart g sector s (Listed nodes contents) plan is first =
+    let starts = chunk_starts g (length nodes) in
+    record {
+      once = filled_once g sector s nodes contents plan is first;
+      primary =
+          has_place (filled_wanted g nodes contents) is.placed (filled_bytes g sector s nodes contents is.placed.runs) plan (blocks_of_chunks starts) is.rendered refl
+          (chunks_clear g (length nodes) first);
+    }
 
 -- the first of rows that ascend is at block 0, where one is
 last_zero : (rows : List Row) (r : Row) → IsNonDecreasingBy (λ (o : Row). o.at) rows → r.at ≡ 0 → Contains rows r → All (λ (o : Row). o.at ≡ 0) (last_part rows)
@@ -162,13 +193,13 @@ guarded_stop plan rows image stopped are (inr mixed) = inr (λ b v some is. elim
 ])
 
 -- what a stop leaves of a volume that is made
-pub made_stopped : (o : MakeOptions) (s : Stamp) (blocks : ℕ) (image stopped : Image) (g : Geometry) (plan : Plan) → IsGeometry o s blocks g
-    → IsPlanned g o.label s plan → IsPutStopped plan image stopped → IsMadeStopped o s blocks image stopped
-made_stopped o s blocks image stopped g plan chosen is put =
-    let once : IsOnce (planned plan) = planned_once g is.sector s plan is.empty (first_chunk o s blocks g chosen) in
+pub made_stopped : (o : MakeOptions) (s : Stamp) (told : Option Files) (blocks : ℕ) (image stopped : Image) (g : Geometry) (plan : Plan) → IsPrepared o s told blocks g plan
+    → IsPutStopped plan image stopped → IsMadeStopped o s told blocks image stopped
+made_stopped o s told blocks image stopped g plan is put =
+    let apart : IsApart plan = plan_apart g is.rendered.sector s is.asked plan is.rendered.is (first_chunk o s blocks g is.volume.chosen) in
     record {
       plan = plan;
-      due = record { geometry = g; chosen = chosen; rendered = is };
+      due = plan_of o s told blocks g plan is;
       put = put;
-      block_0 = guarded_stop plan put.rows image stopped (guarded_rows plan put.rows put.order once (has_zero g is.sector s plan is.empty)) put.parts;
+      block_0 = guarded_stop plan put.rows image stopped (guarded_rows plan put.rows put.order apart.once apart.primary) put.parts;
     }

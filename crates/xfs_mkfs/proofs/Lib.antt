@@ -2,7 +2,10 @@ pub mod Rows
 pub mod Geometries
 pub mod Unwritten
 pub mod Failing
+pub mod Contents
+pub mod Refusing
 pub mod Held
+pub mod FilledOnce
 pub mod Guarding
 pub mod Parts
 pub mod Volumes

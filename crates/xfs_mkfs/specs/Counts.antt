@@ -1,6 +1,7 @@
 -- How many blocks a call reads and writes, by a disk's counts.
-use Rattle.std.specs.Prelude.{◌≡◌, ℕ, ◌≤◌, Bool, if◌then◌else◌, length}
+use Rattle.std.specs.Prelude.{◌≡◌, ℕ, ◌≤◌, Bool, if◌then◌else◌, length, Option}
 use Rattle.xfs_disk.specs.Counts.{raised_times}
+use Rattle.xfs_disk.specs.Files.{Files}
 use Rattle.xfs_disk.specs.declared.stamp.Stamp.{Stamp}
 use Rattle.xfs_options.specs.declared.make_words.MakeOptions.{MakeOptions}
 use Rattle.xfs_render.specs.Plans.{planned}
@@ -16,23 +17,23 @@ IsUnwritten (Out.WriteFault n) = ⊥
 IsUnwritten outcome = Unit {0}
 
 -- all blocks of the plan were written
-pub record WritesAll (o : MakeOptions) (s : Stamp) (blocks before now : ℕ) : Type 0 where
+pub record WritesAll (o : MakeOptions) (s : Stamp) (told : Option Files) (blocks before now : ℕ) : Type 0 where
   pub plan : Plan
-  pub due : IsPlanOf o s blocks plan
+  pub due : IsPlanOf o s told blocks plan
   pub counted : now ≡ raised_times (length (planned plan)) before
 
 -- n blocks of the plan were written
-pub record WritesSome (o : MakeOptions) (s : Stamp) (blocks n before now : ℕ) : Type 0 where
+pub record WritesSome (o : MakeOptions) (s : Stamp) (told : Option Files) (blocks n before now : ℕ) : Type 0 where
   pub plan : Plan
-  pub due : IsPlanOf o s blocks plan
+  pub due : IsPlanOf o s told blocks plan
   pub most : n ≤ length (planned plan)
   pub counted : now ≡ raised_times n before
 
 -- the count of writes: all blocks of the plan were written, or just as many as a write fault tells; after every other answer none was
-abbrev pub CountsBlocks : MakeOptions → Stamp → ℕ → ℕ → ℕ → MakeOutcome → Type 0
-CountsBlocks o s blocks before now (Out.Made summary) = WritesAll o s blocks before now
-CountsBlocks o s blocks before now (Out.WriteFault n) = WritesSome o s blocks n before now
-CountsBlocks o s blocks before now outcome = now ≡ before
+abbrev pub CountsBlocks : MakeOptions → Stamp → Option Files → ℕ → ℕ → ℕ → MakeOutcome → Type 0
+CountsBlocks o s told blocks before now (Out.Made summary) = WritesAll o s told blocks before now
+CountsBlocks o s told blocks before now (Out.WriteFault n) = WritesSome o s told blocks n before now
+CountsBlocks o s told blocks before now outcome = now ≡ before
 
 -- the count of reads once the four blocks that have the marks were read, which is not done where they are written over anyway
 abbrev pub looked : Bool → ℕ → ℕ

@@ -1,5 +1,5 @@
 -- Which answer is due to what is asked of a new volume.
-use Rattle.std.specs.Prelude.{ℕ, Bool, not, ◌&&◌, ◌||◌, if◌then◌else◌, List, is_some, Option, Some, None}
+use Rattle.std.specs.Prelude.{ℕ, Bool, not, ◌&&◌, if◌then◌else◌, List, is_some, Option, Some, None}
 use Rattle.std.specs.Option.{unwrap_or}
 use Rattle.xfs_disk.specs.Blocks.{Image}
 use Rattle.xfs_disk.specs.declared.stamp.Stamp.{Stamp}
@@ -19,10 +19,6 @@ asked_of o = record { blocks = o.blocks; agcount = o.agcount; agblocks = o.agblo
 abbrev pub identifier : MakeOptions → Stamp → List ℕ
 identifier o s = unwrap_or o.uuid s.uuid
 
--- files of a protofile, or generated ones, are asked for
-abbrev pub asks_files : MakeOptions → Bool
-asks_files o = is_some o.proto || is_some o.generate
-
 abbrev pub by_volume : Bool → Option MakeOutcome
 by_volume there = if there then Some HasVolume else None
 
@@ -30,11 +26,11 @@ abbrev pub by_size : Option ℕ → Option MakeOutcome → Option MakeOutcome
 by_size (Some what) later = Some (TooSmall what)
 by_size None later = later
 
--- the refusal that is due on a disk of so many blocks that holds an image, where one is: files are not built yet; then the bounds of the
+-- the refusal that is due on a disk of so many blocks that holds an image, where one is: generated files are not built yet; then the bounds of the
 -- volume; then what the disk is marked to hold, a volume, another file system or a partition table, unless it is to be written over
 unfoldable pub refusal : MakeOptions → ℕ → Image → Option MakeOutcome
 refusal o blocks image =
-    if asks_files o then Some (Unbuilt 10)
+    if is_some o.generate then Some (Unbuilt 10)
     else by_size (too_small (asked_of o) blocks) (by_volume (not o.force && is_marked image))
 
 -- the geometry of the volume that is made on a disk of so many blocks

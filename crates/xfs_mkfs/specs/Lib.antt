@@ -1,5 +1,6 @@
 pub mod Order
 pub mod Putting
+pub mod FilesAsked
 pub mod Due
 pub mod Outcome
 pub mod Counts

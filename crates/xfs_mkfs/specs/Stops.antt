@@ -2,6 +2,7 @@
 use Rattle.std.specs.Prelude.{◌≡◌, ℕ, ◌≤◌, ◌⊎◌, List, Option, Some, slice_get}
 use Rattle.std.specs.Option.{ForSome}
 use Rattle.xfs_disk.specs.Blocks.{Image}
+use Rattle.xfs_disk.specs.Files.{Files}
 use Rattle.xfs_disk.specs.declared.stamp.Stamp.{Stamp}
 use Rattle.xfs_options.specs.declared.make_words.MakeOptions.{MakeOptions}
 use Rattle.xfs_render.specs.declared.plan.Plan.{Plan}
@@ -24,14 +25,14 @@ HasPrimaryLast image due stopped = ((v : List ℕ) → slice_get stopped 0 ≡ S
     ⊎ ((b : ℕ) (v : List ℕ) → 1 ≤ b → slice_get stopped b ≡ Some v → slice_get due b ≡ Some v)
 
 -- a stop leaves blocks of the plan of the volume, and block 0 as it was until all others are written
-pub record IsMadeStopped (o : MakeOptions) (s : Stamp) (blocks : ℕ) (image stopped : Image) : Type 0 where
+pub record IsMadeStopped (o : MakeOptions) (s : Stamp) (told : Option Files) (blocks : ℕ) (image stopped : Image) : Type 0 where
   pub plan : Plan
-  pub due : IsPlanOf o s blocks plan
+  pub due : IsPlanOf o s told blocks plan
   pub put : IsPutStopped plan image stopped
   pub block_0 : HasPrimaryLast image (written (all_writes plan put.rows) image) stopped
 
 -- what a stop leaves of what was written: nothing was, unless the volume was made or a write or a sync failed
-abbrev pub StopLeaves : MakeOptions → Stamp → ℕ → Image → Image → MakeOutcome → Type 0
-StopLeaves o s blocks image stopped (Out.Made summary) = IsMadeStopped o s blocks image stopped
-StopLeaves o s blocks image stopped (Out.WriteFault n) = IsMadeStopped o s blocks image stopped
-StopLeaves o s blocks image stopped outcome = ⊥
+abbrev pub StopLeaves : MakeOptions → Stamp → Option Files → ℕ → Image → Image → MakeOutcome → Type 0
+StopLeaves o s told blocks image stopped (Out.Made summary) = IsMadeStopped o s told blocks image stopped
+StopLeaves o s told blocks image stopped (Out.WriteFault n) = IsMadeStopped o s told blocks image stopped
+StopLeaves o s told blocks image stopped outcome = ⊥

@@ -1,8 +1,9 @@
-//! Makes an empty volume on a disk.
+//! Makes a volume on a disk.
 //!
-//! What `mkfs.xfs` does, over any disk: it chooses the sizes, looks whether there is a volume, plans all blocks, and
-//! writes them between two syncs, and behind these block 0, which a third one keeps. Each outcome says what the disk then
-//! holds, how many blocks were written, and what a stop of the machine leaves.
+//! What `mkfs.xfs` does, over any disk and library: it chooses the sizes, looks whether there is a volume, takes the files of
+//! a protofile where one is asked for, plans all blocks, and writes them between two syncs, and behind these block 0, which
+//! a third one keeps. Each outcome says what the disk then holds, how many blocks were written, and what a stop of the
+//! machine leaves.
 //!
 //! `xfs_tools` calls it so:
 //!
@@ -11,9 +12,11 @@
 //! ```
 #![tactic(auto)]
 
+mod files;
 mod marks;
 mod order;
 mod outcome;
+mod preparing;
 mod volume;
 mod volume_making;
 

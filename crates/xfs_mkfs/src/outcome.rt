@@ -28,6 +28,12 @@ pub enum MakeOutcome {
     TooSmall { what: u8 },
     /// The disk has the mark of a volume, another file system or a partition table.
     HasVolume,
+    /// The protofile is none: the line of its first token that can't stand where it does, and why, as `read_proto` says it.
+    BadProto { line: u64, reason: u8 },
+    /// The library lacks the name that stands in this line of the protofile; 0 is the protofile itself.
+    NoFile { line: u64 },
+    /// The library failed.
+    LibraryFault,
     /// There is no room for this.
     NoRoom(Unplaced),
     /// A read failed; so many have failed.

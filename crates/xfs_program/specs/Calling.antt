@@ -2,6 +2,7 @@
 use Rattle.std.specs.Prelude.{◌≡◌, ℕ, ◌&&◌, Bool, true, false, drop, List, Option, Some, None, Result}
 use Rattle.xfs_options.specs.Words.{Words}
 use Rattle.xfs_disk.specs.Blocks.{Image}
+use Rattle.xfs_disk.specs.Files.{Files}
 use Rattle.xfs_disk.specs.Reads.{OnlyReads}
 use Rattle.xfs_disk.specs.declared.failed.Failed.{Failed}
 use Rattle.xfs_disk.specs.declared.stamp.Stamp.{Stamp}
@@ -23,13 +24,14 @@ use Rattle.xfs_tools.specs.declared.answer.Status.{Status}
 -- What the words say was done to a disk, with this status. Where they ask for help or the version alone, that text was put and nothing else done.
 -- For the other words of xfs_repair, and those of no tool: a repair, and its line in its stream, behind a line in words where they ask for it;
 -- where it only checks, or the words are refused, the disk was only read. For those of xfs_db: a session, with its input and output, and its line in the
--- other stream. For those of mkfs.xfs: a volume made, or refused, and its line. No file was taken, and none but a session takes input.
+-- other stream. For those of mkfs.xfs: a volume made, or refused, and its line. Only these take
+-- files from the library, which keeps them, and none but a session takes input.
 pub record IsAnswered {D L S O E : Type 0} (holds : D → Option Image) (size faults write_faults reads writes : D → ℕ) (tells_stops : D → Type 0) (moment : D → ℕ)
-    (may_leave : D → ℕ → List ℕ → Type 0) (left_since : D → ℕ → Image → Type 0) (left : S → Option (List ℕ)) (takes : S → ℕ)
+    (may_leave : D → ℕ → List ℕ → Type 0) (left_since : D → ℕ → Image → Type 0) (files_of : L → Option Files) (library_faults : L → ℕ) (left : S → Option (List ℕ)) (takes : S → ℕ)
     (took : O → Option (List ℕ)) (puts : O → ℕ) (took_err : E → Option (List ℕ)) (puts_err : E → ℕ)
     (old new : Environment L S O E) (stamp : Stamp) (words : Words) (disk disk_now : D) (status : Status) : Type 0 where
   pub told : (text : Answer) → text_asked words ≡ Some text → (put : Result (Unit {0}) Failed)
-      × (disk_now ≡ disk) × (new.input ≡ old.input)
+      × (disk_now ≡ disk) × (new.files ≡ old.files) × (new.input ≡ old.input)
       × IsTold took puts took_err puts_err old.out new.out old.err new.err text put
       × (status ≡ status_of false text put)
   pub repaired : text_asked words ≡ None → is_debugger words ≡ false → is_maker words ≡ false → (answer : Answer) × (text : Option (List ℕ)) × (put : Result (Unit {0}) Failed)
@@ -45,10 +47,11 @@ pub record IsAnswered {D L S O E : Type 0} (holds : D → Option Image) (size fa
       × PutsText (took_err old.err) (took_err new.err) (puts_err old.err) (puts_err new.err) (text_of answer) put
       × (status ≡ session_status answer finished put)
   pub made : text_asked words ≡ None → is_debugger words ≡ false → is_maker words ≡ true → (answer : Answer) × (quiet : Bool) × (put : Result (Unit {0}) Failed)
-      × IsMaking (make_of (drop 1 words)) (disk_now ≡ disk) (IsMake holds size faults write_faults reads writes tells_stops moment may_leave left_since stamp disk disk_now) answer quiet
+      × IsMaking (make_of (drop 1 words)) ((disk_now ≡ disk) × (new.files ≡ old.files)) (IsMake holds size faults write_faults reads writes tells_stops moment may_leave left_since files_of library_faults stamp disk disk_now old.files new.files) answer quiet
       × IsToldUnless (quiet && is_made answer) took puts took_err puts_err old.out new.out old.err new.err answer put
       × (status ≡ status_of false answer put)
-  pub same_files : new.files ≡ old.files
+  pub same_library : is_maker words ≡ false → new.files ≡ old.files
+  pub same_files : files_of new.files ≡ files_of old.files
   pub same_input : is_debugger words ≡ false → new.input ≡ old.input
 
 -- With an image, the exit status is that of what was done to it; without one it is 1, and nothing was done.

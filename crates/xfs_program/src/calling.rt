@@ -26,7 +26,7 @@ pub fn call<H: Host + Eprint + Threads + Sync, L: Library, S: Source, O: Sink, E
 ) -> ExitCode
     ensures { (taken : Option H.Image)
         × IsTaken (H.opens host.now) (H.refuses host.now) (H.says_used host.now) H.is_none (image_word words.now) purpose taken
-        × EndsWith (IsAnswered H.Image.holds H.Image.size H.Image.faults H.Image.write_faults H.Image.reads H.Image.writes H.Image.tells_stops H.Image.moment H.Image.may_leave H.Image.left_since
+        × EndsWith (IsAnswered H.Image.holds H.Image.size H.Image.faults H.Image.write_faults H.Image.reads H.Image.writes H.Image.tells_stops H.Image.moment H.Image.may_leave H.Image.left_since L.files L.faults
         S.left S.faults O.took O.faults E.took E.faults environment.old environment.new stamp.now words.now) (environment.new ≡ environment.old) taken (exit_status result) }
 {
     match take_image(host, words, purpose) {
@@ -45,7 +45,7 @@ fn answer<R: Threads + Sync, D: Disk, L: Library, S: Source, O: Sink, E: Sink>(
     environment: &mut Environment<L, S, O, E>,
 ) -> ExitCode
     ensures { (status : Status)
-        × IsAnswered D.holds D.size D.faults D.write_faults D.reads D.writes D.tells_stops D.moment D.may_leave D.left_since
+        × IsAnswered D.holds D.size D.faults D.write_faults D.reads D.writes D.tells_stops D.moment D.may_leave D.left_since L.files L.faults
         S.left S.faults O.took O.faults E.took E.faults environment.old environment.new stamp.now words.now disk.old disk.new status
         × (exit_status result ≡ status.code) }
 {

@@ -31,7 +31,7 @@ pub fn perform<H: Host + Eprint + Threads + Sync, L: Library, S: Source, O: Sink
     ensures { ((environment.new ≡ environment.old) × (exit_status result ≡ 1))
         ⊎ IsPerformed (H.gives_words host.now) (H.tells_time host.now) (H.draws host.now) (H.lacks_streams host.now)
         (H.opens host.now) (H.refuses host.now) (H.says_used host.now) H.is_none
-        (IsAnswered H.Image.holds H.Image.size H.Image.faults H.Image.write_faults H.Image.reads H.Image.writes H.Image.tells_stops H.Image.moment H.Image.may_leave H.Image.left_since
+        (IsAnswered H.Image.holds H.Image.size H.Image.faults H.Image.write_faults H.Image.reads H.Image.writes H.Image.tells_stops H.Image.moment H.Image.may_leave H.Image.left_since L.files L.faults
         S.left S.faults O.took O.faults E.took E.faults environment.old environment.new) (environment.new ≡ environment.old) (exit_status result) }
 {
     match attempt(host, alloc, environment) {
@@ -60,7 +60,7 @@ fn attempt<H: Host + Eprint + Threads + Sync, L: Library, S: Source, O: Sink, E:
     ensures performed { IfOk result (λ code.
         IsPerformed (H.gives_words host.now) (H.tells_time host.now) (H.draws host.now) (H.lacks_streams host.now)
         (H.opens host.now) (H.refuses host.now) (H.says_used host.now) H.is_none
-        (IsAnswered H.Image.holds H.Image.size H.Image.faults H.Image.write_faults H.Image.reads H.Image.writes H.Image.tells_stops H.Image.moment H.Image.may_leave H.Image.left_since
+        (IsAnswered H.Image.holds H.Image.size H.Image.faults H.Image.write_faults H.Image.reads H.Image.writes H.Image.tells_stops H.Image.moment H.Image.may_leave H.Image.left_since L.files L.faults
         S.left S.faults O.took O.faults E.took E.faults environment.old environment.new) (environment.new ≡ environment.old) (exit_status code)) }
     ensures lacking { OnErr result (environment.new ≡ environment.old) }
 {

@@ -25,7 +25,7 @@ abbrev pub repair_ends : List ℕ
 repair_ends = codes "  --help      alone: print this\n  --version   alone: print the version, as -V does\n\nstatus 0     the volume is consistent, or was repaired\nstatus 1     it is damaged, or something else is told in a line\nstatus 2     its log is not clean, and neither -n nor -L is given\nstatus 4     it was repaired, and -e is given\n"
 
 abbrev pub make_called : List ℕ
-make_called = codes "xfs mkfs.xfs [-d list] [-l list] [-m list] [-i list] [-s list] [-b list] [-n list] [-L label] [-f] [-q] [-K] IMAGE\nMakes an empty XFS volume in an image file that is there. A list has items with commas between them.\n\n"
+make_called = codes "xfs mkfs.xfs [-d list] [-l list] [-m list] [-i list] [-s list] [-b list] [-n list] [-L label] [-p protofile] [-f] [-q] [-K] IMAGE\nMakes an XFS volume in an image file that is there, empty or with files. A list has items with commas between them.\n\n"
 
 abbrev pub make_rows : List (ℕ × List ℕ)
 make_rows =
@@ -37,7 +37,7 @@ make_rows =
     ∷ (98, codes " list       size=4096 is always so\n")
     ∷ (110, codes " list       ftype=1 is always so\n")
     ∷ (76, codes " label      the label, of at most 12 bytes\n")
-    ∷ (112, codes " protofile  not built yet\n")
+    ∷ (112, codes " protofile  a text that says which files the volume has\n")
     ∷ (102, codes "            write over what is there\n")
     ∷ (113, codes "            print nothing of the volume that was made\n")
     ∷ (75, codes "            no effect\n")
@@ -62,7 +62,7 @@ abbrev pub debug_ends : List ℕ
 debug_ends = codes "  --help      alone: print this\n  --version   alone: print the version, as -V does\n\nstatus 0     all commands were run, each or a line in its place\nstatus 1     something else is told in a line\n"
 
 abbrev pub program_help : List ℕ
-program_help = codes "xfs TOOL [option]... IMAGE\nChecks, mends, makes and inspects XFS version 5 volumes that are image files. A link to the program with a tool's name is that tool.\n\n  xfs_repair  checks a volume, and repairs it\n  mkfs.xfs    makes an empty volume\n  xfs_db      looks at the objects of a volume, and changes their fields\n\n  --help      alone: print this; alone behind a tool: its options\n  --version   alone: print the version\n\nstatus 0, 2, 4  as the tool tells\nstatus 1        the words are no call of a tool, or something else is told in a line\n"
+program_help = codes "xfs TOOL [option]... IMAGE\nChecks, mends, makes and inspects XFS version 5 volumes that are image files. A link to the program with a tool's name is that tool.\n\n  xfs_repair  checks a volume, and repairs it\n  mkfs.xfs    makes a volume, empty or with files\n  xfs_db      looks at the objects of a volume, and changes their fields\n\n  --help      alone: print this; alone behind a tool: its options\n  --version   alone: print the version\n\nstatus 0, 2, 4  as the tool tells\nstatus 1        the words are no call of a tool, or something else is told in a line\n"
 
 -- the line of an option: its letter, its value and what it does
 abbrev pub option_line : ℕ × List ℕ → List ℕ
@@ -95,7 +95,7 @@ called_by (Some Debug) = codes "xfs_db"
 
 -- the version, behind the name
 abbrev pub version_text : Option Tool → List ℕ
-version_text tool = called_by tool ++ codes " version 0.3\n"
+version_text tool = called_by tool ++ codes " version 0.4\n"
 
 -- the rows have just the letters of these options, in their order
 abbrev pub Names : List (ℕ × List ℕ) → List OptionRow → Type 0

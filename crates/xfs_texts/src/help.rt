@@ -76,8 +76,8 @@ status 4     it was repaired, and -e is given
 
 /// How `mkfs.xfs` is called, and what it does.
 const MAKE_CALLED: &str = "\
-xfs mkfs.xfs [-d list] [-l list] [-m list] [-i list] [-s list] [-b list] [-n list] [-L label] [-f] [-q] [-K] IMAGE
-Makes an empty XFS volume in an image file that is there. A list has items with commas between them.
+xfs mkfs.xfs [-d list] [-l list] [-m list] [-i list] [-s list] [-b list] [-n list] [-L label] [-p protofile] [-f] [-q] [-K] IMAGE
+Makes an XFS volume in an image file that is there, empty or with files. A list has items with commas between them.
 
 ";
 
@@ -117,7 +117,7 @@ const MAKE_ROWS: [OptionLine; 13] = [
     },
     OptionLine {
         letter: b'p',
-        says: " protofile  not built yet\n",
+        says: " protofile  a text that says which files the volume has\n",
     },
     OptionLine {
         letter: b'f',
@@ -188,7 +188,7 @@ xfs TOOL [option]... IMAGE
 Checks, mends, makes and inspects XFS version 5 volumes that are image files. A link to the program with a tool's name is that tool.
 
   xfs_repair  checks a volume, and repairs it
-  mkfs.xfs    makes an empty volume
+  mkfs.xfs    makes a volume, empty or with files
   xfs_db      looks at the objects of a volume, and changes their fields
 
   --help      alone: print this; alone behind a tool: its options
@@ -199,7 +199,7 @@ status 1        the words are no call of a tool, or something else is told in a 
 ";
 
 /// What stands behind a name where the version is told, and the version.
-const VERSION: &str = " version 0.3\n";
+const VERSION: &str = " version 0.4\n";
 
 /// Puts how a tool is called, its options with a line each, and its statuses; `None` is the program without a tool.
 pub fn put_help<S: Sink>(sink: &mut S, tool: Option<Tool>) -> Result<(), Failed>

@@ -2,6 +2,7 @@
 use Rattle.std.specs.Prelude.{◌≡◌, ℕ, ◌≤◌, Bool, true, false, MatchBool, ◌⊎◌, List, Option, Result, Ok, Err}
 use Rattle.std.specs.Option.{ForSome}
 use Rattle.xfs_disk.specs.Blocks.{Image}
+use Rattle.xfs_disk.specs.Files.{Files}
 use Rattle.xfs_disk.specs.Reads.{OnlyReads}
 use Rattle.xfs_disk.specs.declared.failed.Failed.{Failed}
 use Rattle.xfs_disk.specs.declared.stamp.Stamp.{Stamp}
@@ -17,7 +18,7 @@ use Rattle.xfs_mkfs.specs.declared.outcome.MakeOutcome.{MakeOutcome}
 use Rattle.xfs_mkfs.specs.declared.outcome.MakeOutcome.TheVariants as out
 use Rattle.xfs_tools.specs.Answers.{IsTold}
 use Rattle.xfs_tools.specs.declared.answer.Answer.{Answer}
-use Rattle.xfs_tools.specs.declared.answer.Answer.TheVariants.{Usage, Unbuilt, BadOption, TooSmall, HasVolume, NoRoom, Made, ReadFault, WriteFault, NoMemory}
+use Rattle.xfs_tools.specs.declared.answer.Answer.TheVariants.{Usage, Unbuilt, BadOption, TooSmall, HasVolume, BadProto, NoFile, LibraryFault, NoRoom, Made, ReadFault, WriteFault, NoMemory}
 use Rattle.xfs_tools.specs.declared.maker.Making.{Making}
 
 -- the answer that an outcome of making a volume is
@@ -25,6 +26,9 @@ abbrev pub made_answer : MakeOutcome → Answer
 made_answer (out.Made summary) = Made summary
 made_answer (out.TooSmall what) = TooSmall what
 made_answer out.HasVolume = HasVolume
+made_answer (out.BadProto line reason) = BadProto line reason
+made_answer (out.NoFile line) = NoFile line
+made_answer out.LibraryFault = LibraryFault
 made_answer (out.NoRoom place) = NoRoom place
 made_answer (out.ReadFault faults) = ReadFault faults
 made_answer (out.WriteFault written) = WriteFault written
@@ -36,21 +40,25 @@ abbrev pub is_made : Answer → Bool
 is_made (Made summary) = true
 is_made answer = false
 
--- A volume was to be made on a disk, and this came of it. Whatever the disk tells: a fault only where its count rose, all blocks of
+-- A volume was to be made on a disk, with the files of a protofile where that is asked, and this came of it. Whatever the disk and the library tell:
+-- a fault only where its count rose, all blocks of
 -- the plan written, or as many as a write fault says, or none; just the four blocks that have the marks read, and not under -f; before every answer but made and a write fault the disk
--- was only read. Of a disk that tells what it holds, also that the outcome is due and what it leaves; of one that tells its stops, also
--- what a stop may leave.
-pub record IsMake {D : Type 0} (holds : D → Option Image) (size faults write_faults reads writes : D → ℕ) (tells_stops : D → Type 0)
-    (moment : D → ℕ) (may_leave : D → ℕ → List ℕ → Type 0) (left_since : D → ℕ → Image → Type 0) (s : Stamp) (old new : D) (o : MakeOptions) (outcome : MakeOutcome) : Type 0 where
-  pub due : ForSome (holds old) (λ image. mkfs.IsDueMake o s (size old) image outcome)
-  pub leaves : ForSome (holds old) (λ image. mkfs.MakeLeaves o s (size old) image (holds new) outcome)
-  pub cause : mkfs.IsMakingCause (faults old) (faults new) (write_faults old) (write_faults new) outcome
-  pub counts : CountsBlocks o s (size old) (writes old) (writes new) outcome
+-- was only read; the library keeps its files. Of a disk that tells what it holds, also that the outcome is due and what it leaves; of one that tells its stops, also
+-- what a stop may leave. Of a library that tells its files, also that these are the ones of the volume, or that the refusal is due to them.
+pub record IsMake {D L : Type 0} (holds : D → Option Image) (size faults write_faults reads writes : D → ℕ) (tells_stops : D → Type 0)
+    (moment : D → ℕ) (may_leave : D → ℕ → List ℕ → Type 0) (left_since : D → ℕ → Image → Type 0) (files_of : L → Option Files) (library_faults : L → ℕ)
+    (s : Stamp) (old new : D) (library library_now : L) (o : MakeOptions) (outcome : MakeOutcome) : Type 0 where
+  pub due : ForSome (holds old) (λ image. mkfs.IsDueMake o s (files_of library) (size old) image outcome)
+  pub leaves : ForSome (holds old) (λ image. mkfs.MakeLeaves o s (files_of library) (size old) image (holds new) outcome)
+  pub cause : mkfs.IsMakingCause (faults old) (faults new) (write_faults old) (write_faults new) (library_faults library) (library_faults library_now) outcome
+  pub counts : CountsBlocks o s (files_of library) (size old) (writes old) (writes new) outcome
   pub looked : CountsReads o.force (reads old) (reads new) outcome
   pub unwritten : IsUnwritten outcome → OnlyReads size holds write_faults writes tells_stops moment may_leave left_since old new
   pub kept : IsDurableMake (tells_stops old) (holds new) (may_leave new) outcome
   pub stops : tells_stops old → ForSome (holds old) (λ image. (t : ℕ) (stopped : Image) → t ≤ moment old → left_since new t stopped
-      → left_since old t stopped ⊎ StopLeaves o s (size old) image stopped outcome)
+      → left_since old t stopped ⊎ StopLeaves o s (files_of library) (size old) image stopped outcome)
+  pub same_files : files_of library_now ≡ files_of library
+  pub library_rises : library_faults library ≤ library_faults library_now
 
 -- the end of a call whose words were refused, or could not be read for want of memory
 abbrev pub make_refusal : MakeFault → Making

@@ -1,7 +1,7 @@
 -- The text of each answer, which is a line but for help, the stream that it goes to, and the exit status.
 use Rattle.std.specs.Prelude.{ℕ, Bool, true, false, if◌then◌else◌, codes, List, [], ◌∷◌, ◌++◌}
 use Rattle.xfs_tools.specs.declared.answer.Answer.{Answer}
-use Rattle.xfs_tools.specs.declared.answer.Answer.TheVariants.{Usage, Unbuilt, NoGeometry, Unsupported, DirtyLog, TooLarge, UnsupportedFile, Clean, Damaged, Repaired, BadOption, TooSmall, HasVolume, NoRoom, Made, ReadFault, WriteFault, OutputFault, NoMemory, Done, InputFault, InputLong, Help, Version}
+use Rattle.xfs_tools.specs.declared.answer.Answer.TheVariants.{Usage, Unbuilt, NoGeometry, Unsupported, DirtyLog, TooLarge, UnsupportedFile, Clean, Damaged, Repaired, BadOption, TooSmall, HasVolume, BadProto, NoFile, LibraryFault, NoRoom, Made, ReadFault, WriteFault, OutputFault, NoMemory, Done, InputFault, InputLong, Help, Version}
 use Rattle.xfs_mend.specs.declared.outcome.Summary.{Summary}
 use Rattle.xfs_mend.specs.declared.outcome.Summary.TheVariants.{Backups, Rebuilt}
 use Rattle.uuid.specs.Text.{hyphenated_text}
@@ -64,6 +64,9 @@ text_of (Repaired summary) = summary_text summary
 text_of (BadOption word item) = line ((codes "xfs: bad option: word ", Decimal word) ∷ (codes " item ", Decimal item) ∷ []) (codes "\n")
 text_of (TooSmall what) = line ((codes "xfs: too small: ", Decimal what) ∷ []) (codes "\n")
 text_of HasVolume = line [] (codes "xfs: has a volume\n")
+text_of (BadProto at reason) = line ((codes "xfs: bad protofile: line ", Decimal at) ∷ (codes " reason ", Decimal reason) ∷ []) (codes "\n")
+text_of (NoFile at) = line ((codes "xfs: no file: line ", Decimal at) ∷ []) (codes "\n")
+text_of LibraryFault = line [] (codes "xfs: library fault\n")
 text_of (NoRoom place) = no_room_text place
 text_of (Made summary) = made_text summary
 text_of (ReadFault faults) = line ((codes "xfs: read fault: ", Decimal faults) ∷ []) (codes "\n")

@@ -38,6 +38,12 @@ pub enum Answer {
     TooSmall { what: u8 },
     /// There is a volume already where one was to be made.
     HasVolume,
+    /// A protofile is none: the line of its first token that can't stand where it does, and why.
+    BadProto { line: u64, reason: u8 },
+    /// A file that a protofile names is not there: the line of its name; 0 where it is the protofile.
+    NoFile { line: u64 },
+    /// A file could not be read.
+    LibraryFault,
     /// The volume has no room for this.
     NoRoom(Unplaced),
     /// A volume was made.

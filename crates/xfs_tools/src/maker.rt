@@ -37,11 +37,11 @@ pub(crate) fn run_maker<R: Threads + Sync, D: Disk, L: Library, O: Sink, E: Sink
     stamp: &Stamp,
 ) -> Status
     ensures ended { (answer : Answer) × (quiet : Bool) × (put : Result (Unit {0}) Failed)
-        × IsMaking (make_of words.now) (disk.new ≡ disk.old) (IsMake D.holds D.size D.faults D.write_faults D.reads D.writes D.tells_stops D.moment D.may_leave D.left_since stamp.now disk.old disk.new) answer quiet
+        × IsMaking (make_of words.now) ((disk.new ≡ disk.old) × (files.new ≡ files.old)) (IsMake D.holds D.size D.faults D.write_faults D.reads D.writes D.tells_stops D.moment D.may_leave D.left_since L.files L.faults stamp.now disk.old disk.new files.old files.new) answer quiet
         × IsToldUnless (quiet && is_made answer) O.took O.faults E.took E.faults out.old out.new err.old err.new answer put
         × (result ≡ status_of false answer put) }
     ensures size { D.size disk.new ≡ D.size disk.old }
-    ensures files { files.new ≡ files.old }
+    ensures files { L.files files.new ≡ L.files files.old }
 {
     let making = make_words(rt, alloc, words, disk, files, stamp);
     match tell_making(out, err, making) {
@@ -67,9 +67,9 @@ fn make_words<R: Threads + Sync, D: Disk, L: Library>(
     files: &mut L,
     stamp: &Stamp,
 ) -> Making
-    ensures ended { IsMaking (make_of words.now) (disk.new ≡ disk.old) (IsMake D.holds D.size D.faults D.write_faults D.reads D.writes D.tells_stops D.moment D.may_leave D.left_since stamp.now disk.old disk.new) result.answer result.quiet }
+    ensures ended { IsMaking (make_of words.now) ((disk.new ≡ disk.old) × (files.new ≡ files.old)) (IsMake D.holds D.size D.faults D.write_faults D.reads D.writes D.tells_stops D.moment D.may_leave D.left_since L.files L.faults stamp.now disk.old disk.new files.old files.new) result.answer result.quiet }
     ensures size { D.size disk.new ≡ D.size disk.old }
-    ensures files { files.new ≡ files.old }
+    ensures files { L.files files.new ≡ L.files files.old }
 {
     match read_make_words(alloc, words) {
         Ok(line) => make_line(rt, alloc, &line, disk, files, stamp),
@@ -102,9 +102,9 @@ fn make_line<R: Threads + Sync, D: Disk, L: Library>(
     stamp: &Stamp,
 ) -> Making
     requires label { length line.now.options.label ≤ 12 }
-    ensures made { IsOfMaking line.now (IsMake D.holds D.size D.faults D.write_faults D.reads D.writes D.tells_stops D.moment D.may_leave D.left_since stamp.now disk.old disk.new) result.answer result.quiet }
+    ensures made { IsOfMaking line.now (IsMake D.holds D.size D.faults D.write_faults D.reads D.writes D.tells_stops D.moment D.may_leave D.left_since L.files L.faults stamp.now disk.old disk.new files.old files.new) result.answer result.quiet }
     ensures size { D.size disk.new ≡ D.size disk.old }
-    ensures files { files.new ≡ files.old }
+    ensures files { L.files files.new ≡ L.files files.old }
 {
     let outcome = make(rt, alloc, disk, files, &line.options, stamp);
     Making {
@@ -121,6 +121,9 @@ fn made_answer(outcome: MakeOutcome) -> Answer
         MakeOutcome::Made(summary) => Answer::Made(summary),
         MakeOutcome::TooSmall { what } => Answer::TooSmall { what },
         MakeOutcome::HasVolume => Answer::HasVolume,
+        MakeOutcome::BadProto { line, reason } => Answer::BadProto { line, reason },
+        MakeOutcome::NoFile { line } => Answer::NoFile { line },
+        MakeOutcome::LibraryFault => Answer::LibraryFault,
         MakeOutcome::NoRoom(place) => Answer::NoRoom(place),
         MakeOutcome::ReadFault { faults } => Answer::ReadFault { faults },
         MakeOutcome::WriteFault { written } => Answer::WriteFault { written },

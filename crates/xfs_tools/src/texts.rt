@@ -57,6 +57,13 @@ pub fn put_answer<S: Sink>(sink: &mut S, answer: Answer) -> Result<(), Failed>
             "\n",
         ),
         Answer::HasVolume => put_line(sink, &[], "xfs: has a volume\n"),
+        Answer::BadProto { line, reason } => put_bad_proto(sink, line, reason),
+        Answer::NoFile { line } => put_line(
+            sink,
+            &[("xfs: no file: line ", Number::Decimal(line))],
+            "\n",
+        ),
+        Answer::LibraryFault => put_line(sink, &[], "xfs: library fault\n"),
         Answer::NoRoom(place) => put_no_room(sink, place),
         Answer::Made(made) => put_made(sink, &made),
         Answer::ReadFault { faults } => put_line(
@@ -76,6 +83,17 @@ pub fn put_answer<S: Sink>(sink: &mut S, answer: Answer) -> Result<(), Failed>
         Answer::Help(tool) => put_help(sink, tool),
         Answer::Version(tool) => put_version(sink, tool),
     }
+}
+
+/// Puts the line of a protofile that is none.
+fn put_bad_proto<S: Sink>(sink: &mut S, line: u64, reason: u8) -> Result<(), Failed>
+    ensures { PutsText (S.took sink.old) (S.took sink.new) (S.faults sink.old) (S.faults sink.new) (text_of (Answer.BadProto line reason)) result }
+{
+    let numbers = [
+        ("xfs: bad protofile: line ", Number::Decimal(line)),
+        (" reason ", Number::Decimal(reason as u64)),
+    ];
+    put_line(sink, &numbers, "\n")
 }
 
 /// Puts the line of a refused feature word.

@@ -54,7 +54,7 @@ pub fn run<R: Threads + Sync, D: Disk, L: Library, S: Source, O: Sink, E: Sink, 
 ) -> Status
     // Where the words ask for help or the version and nothing else, that text is put to `out`, and nothing else is done.
     ensures told { (text : Answer) → text_asked words.now ≡ Some text → (put : Result (Unit {0}) Failed)
-        × (disk.new ≡ disk.old) × (input.new ≡ input.old)
+        × (disk.new ≡ disk.old) × (files.new ≡ files.old) × (input.new ≡ input.old)
         × IsTold O.took O.faults E.took E.faults out.old out.new err.old err.new text put
         × (result ≡ status_of false text put) }
     // For the other words of `xfs_repair`, and those that name no tool: the words are refused and the disk is the same, or the repair that
@@ -81,7 +81,7 @@ pub fn run<R: Threads + Sync, D: Disk, L: Library, S: Source, O: Sink, E: Sink, 
     // For the words of `mkfs.xfs`: the volume that they ask for was made or refused, and the disk holds what that leaves; or the
     // words were refused, or memory lacked for them, and nothing was done. The line is left out under `-q` where it was made.
     ensures made { text_asked words.now ≡ None → is_debugger words.now ≡ false → is_maker words.now ≡ true → (answer : Answer) × (quiet : Bool) × (put : Result (Unit {0}) Failed)
-        × IsMaking (make_of (drop 1 words.now)) (disk.new ≡ disk.old) (IsMake D.holds D.size D.faults D.write_faults D.reads D.writes D.tells_stops D.moment D.may_leave D.left_since stamp.now disk.old disk.new) answer quiet
+        × IsMaking (make_of (drop 1 words.now)) ((disk.new ≡ disk.old) × (files.new ≡ files.old)) (IsMake D.holds D.size D.faults D.write_faults D.reads D.writes D.tells_stops D.moment D.may_leave D.left_since L.files L.faults stamp.now disk.old disk.new files.old files.new) answer quiet
         × IsToldUnless (quiet && is_made answer) O.took O.faults E.took E.faults out.old out.new err.old err.new answer put
         × (result ≡ status_of false answer put) }
     // The disk keeps its number of blocks.
@@ -90,8 +90,9 @@ pub fn run<R: Threads + Sync, D: Disk, L: Library, S: Source, O: Sink, E: Sink, 
     ensures faults { is_debugger words.now ≡ false → is_maker words.now ≡ false → D.faults disk.old ≤ D.faults disk.new }
     // Nor does that of failed writes and syncs.
     ensures write_faults { is_debugger words.now ≡ false → is_maker words.now ≡ false → D.write_faults disk.old ≤ D.write_faults disk.new }
-    // No file is taken from the library.
-    ensures files { files.new ≡ files.old }
+    // Only `mkfs.xfs` takes files from the library, which keeps them.
+    ensures library { is_maker words.now ≡ false → files.new ≡ files.old }
+    ensures files { L.files files.new ≡ L.files files.old }
     // Only the debugger takes from the input.
     ensures input { is_debugger words.now ≡ false → input.new ≡ input.old }
 {
@@ -127,13 +128,14 @@ fn run_tool<R: Threads + Sync, D: Disk, L: Library, S: Source, O: Sink, E: Sink,
         × PutsText (E.took err.old) (E.took err.new) (E.faults err.old) (E.faults err.new) (text_of answer) put
         × (result ≡ session_status answer finished put) }
     ensures made { is_debugger words.now ≡ false → is_maker words.now ≡ true → (answer : Answer) × (quiet : Bool) × (put : Result (Unit {0}) Failed)
-        × IsMaking (make_of (drop 1 words.now)) (disk.new ≡ disk.old) (IsMake D.holds D.size D.faults D.write_faults D.reads D.writes D.tells_stops D.moment D.may_leave D.left_since stamp.now disk.old disk.new) answer quiet
+        × IsMaking (make_of (drop 1 words.now)) ((disk.new ≡ disk.old) × (files.new ≡ files.old)) (IsMake D.holds D.size D.faults D.write_faults D.reads D.writes D.tells_stops D.moment D.may_leave D.left_since L.files L.faults stamp.now disk.old disk.new files.old files.new) answer quiet
         × IsToldUnless (quiet && is_made answer) O.took O.faults E.took E.faults out.old out.new err.old err.new answer put
         × (result ≡ status_of false answer put) }
     ensures size { D.size disk.new ≡ D.size disk.old }
     ensures faults { is_debugger words.now ≡ false → is_maker words.now ≡ false → D.faults disk.old ≤ D.faults disk.new }
     ensures write_faults { is_debugger words.now ≡ false → is_maker words.now ≡ false → D.write_faults disk.old ≤ D.write_faults disk.new }
-    ensures files { files.new ≡ files.old }
+    ensures library { is_maker words.now ≡ false → files.new ≡ files.old }
+    ensures files { L.files files.new ≡ L.files files.old }
     ensures input { is_debugger words.now ≡ false → input.new ≡ input.old }
 {
     if is_debugger(words) {

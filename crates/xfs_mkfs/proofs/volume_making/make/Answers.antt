@@ -1,100 +1,57 @@
-use Rattle.std.proofs.Common.{◌≡◌, ℕ, ◌≤◌, ◌⊎◌, List, length, Err, arith, inl, inr, sym, ap, subst, ◌∙◌}
+use Rattle.std.proofs.Common.{◌≡◌, ℕ, ◌≤◌, ◌⊎◌, length, Err, arith, inl, inr, sym, ap, subst, ◌∙◌}
 use Rattle.xfs_disk.specs.Counts.{raised_times}
 use Rattle.xfs_disk.specs.Blocks.{IsImage}
 use Rattle.xfs_disk.specs.Reads.{OnlyReads}
 use Rattle.xfs_render.specs.Plans.{planned}
 use Rattle.xfs_mkfs.specs.Counts.{CountsBlocks, CountsReads, IsUnwritten}
-use Rattle.xfs_mkfs.specs.Outcome.{IsMakingCause, IsDueMake, IsPlanned, MakeLeaves}
+use Rattle.xfs_mkfs.specs.Outcome.{IsMakingCause, IsDueMake, MakeLeaves}
 use Rattle.xfs_mkfs.specs.Putting.{CountsPut, HasPutCause}
 use Rattle.xfs_mkfs.specs.Stops.{IsDurableMake, StopLeaves}
 use Rattle.xfs_mkfs.specs.declared.outcome.MakeOutcome.{MakeOutcome}
 use Rattle.xfs_mkfs.specs.declared.volume.PutFault.{PutFault}
 use Rattle.xfs_mkfs.specs.declared.volume.PutFault.TheVariants.{NoMemory}
-use Rattle.xfs_mkfs.proofs.Failing.{caused_placing, caused_putting, counts_putting, due_placing, due_putting, kept_putting, leaves_putting, put_rises, reads_placing, reads_putting, stops_putting, unwritten_putting}
+use Rattle.xfs_mkfs.proofs.Failing.{caused_putting, counts_putting, due_putting, kept_putting, leaves_putting, plan_of, put_rises, reads_putting, stops_putting, unwritten_putting}
 use Rattle.xfs_mkfs.proofs.Geometries.{first_chunk, geometry_on_disk}
 use Rattle.xfs_mkfs.proofs.Guarding.{made_stopped}
 use Rattle.xfs_mkfs.proofs.Unwritten.{counts_unwritten, kept_unwritten, leaves_unwritten}
 use Rattle.xfs_mkfs.proofs.Volumes.{put_is_volume}
 use Rattle.xfs_mkfs.proofs.volume_making.make.Goals as goal
 
-pub plan_volume-requires-clause-chunk : goal.plan_volume-requires-clause-chunk
-plan_volume-requires-clause-chunk g c = λ κs lives.
-    first_chunk c.args.options.now c.args.stamp.now (g.D.Disk.size c.args.disk.now) c.in-Ok.g c.in-Ok.ensures.chosen
-
 pub put_plan-requires-clause-inside : goal.put_plan-requires-clause-inside
 put_plan-requires-clause-inside g c = λ k d low.
     let size = g.D.Disk.size c.args.disk.now in
-    let inside = geometry_on_disk c.args.options.now c.args.stamp.now size c.in-Ok.g c.in-Ok.ensures.chosen c.in-Ok.ensures.fits in
-    let below = c.in-Ok-plan_volume.ensures.inside k d low in
+    let volume = c.in-Ok.volume in
+    let inside = geometry_on_disk c.args.options.now c.args.stamp.now size volume.geometry c.in-Ok.ensures.prepared.volume.chosen c.in-Ok.ensures.fits in
+    let below = c.in-Ok.ensures.inside k d low in
     omega (arith, inside, below, c.in-Ok.ensures.disk.same_size)
 
 pub returns-in-Err-clause-leaves : goal.returns-in-Err-clause-leaves
 returns-in-Err-clause-leaves g c = λ image told.
-    leaves_unwritten c.args.options.now c.args.stamp.now (g.D.Disk.size c.args.disk.now) image (g.D.Disk.holds c.decide.new.disk) c.in-Err.outcome
-    c.in-Err.ensures.early (c.in-Err.ensures.disk.same_contents ∙ told)
+    leaves_unwritten c.args.options.now c.args.stamp.now (g.L.Library.files c.args.files.now) (g.D.Disk.size c.args.disk.now) image
+    (g.D.Disk.holds c.prepare.new.disk) c.in-Err.outcome c.in-Err.ensures.early (c.in-Err.ensures.disk.same_contents ∙ told)
 
 pub returns-in-Err-clause-counts : goal.returns-in-Err-clause-counts
 returns-in-Err-clause-counts g c =
-    counts_unwritten c.args.options.now c.args.stamp.now (g.D.Disk.size c.args.disk.now) (g.D.Disk.writes c.args.disk.now)
-    (g.D.Disk.writes c.decide.new.disk) c.in-Err.outcome c.in-Err.ensures.early c.in-Err.ensures.disk.same_writes
+    counts_unwritten c.args.options.now c.args.stamp.now (g.L.Library.files c.args.files.now) (g.D.Disk.size c.args.disk.now)
+    (g.D.Disk.writes c.args.disk.now) (g.D.Disk.writes c.prepare.new.disk) c.in-Err.outcome c.in-Err.ensures.early c.in-Err.ensures.disk.same_writes
 
 pub returns-in-Err-clause-kept : goal.returns-in-Err-clause-kept
 returns-in-Err-clause-kept g c =
-    kept_unwritten (g.D.Disk.tells_stops c.args.disk.now) (g.D.Disk.holds c.decide.new.disk) (g.D.Disk.may_leave c.decide.new.disk) c.in-Err.outcome
+    kept_unwritten (g.D.Disk.tells_stops c.args.disk.now) (g.D.Disk.holds c.prepare.new.disk) (g.D.Disk.may_leave c.prepare.new.disk) c.in-Err.outcome
     c.in-Err.ensures.early
 
 pub returns-in-Err-clause-stops : goal.returns-in-Err-clause-stops
 returns-in-Err-clause-stops g c = λ tells image told t stopped low left.
     inl ((c.in-Err.ensures.disk.past tells).nothing_new t stopped low left)
 
-pub returns-in-Err-plan_volume-clause-due : goal.returns-in-Err-plan_volume-clause-due
-returns-in-Err-plan_volume-clause-due g c = λ image told.
-    let size = g.D.Disk.size c.args.disk.now in
-    subst (λ (x : MakeOutcome). IsDueMake c.args.options.now c.args.stamp.now size image x) (sym c.place_outcome.ensures.value)
-    (due_placing c.args.options.now c.args.stamp.now size image c.in-Ok.g (c.in-Ok.ensures.none image told) c.in-Ok.ensures.chosen
-    c.in-Err-plan_volume.fault c.in-Err-plan_volume.ensures.cause)
-
-pub returns-in-Err-plan_volume-clause-leaves : goal.returns-in-Err-plan_volume-clause-leaves
-returns-in-Err-plan_volume-clause-leaves g c = λ image told.
-    leaves_unwritten c.args.options.now c.args.stamp.now (g.D.Disk.size c.args.disk.now) image (g.D.Disk.holds c.decide.new.disk) c.place_outcome.result
-    c.place_outcome.ensures.early (c.in-Ok.ensures.disk.same_contents ∙ told)
-
-pub returns-in-Err-plan_volume-clause-counts : goal.returns-in-Err-plan_volume-clause-counts
-returns-in-Err-plan_volume-clause-counts g c =
-    counts_unwritten c.args.options.now c.args.stamp.now (g.D.Disk.size c.args.disk.now) (g.D.Disk.writes c.args.disk.now)
-    (g.D.Disk.writes c.decide.new.disk) c.place_outcome.result c.place_outcome.ensures.early c.in-Ok.ensures.disk.same_writes
-
-pub returns-in-Err-plan_volume-clause-reads : goal.returns-in-Err-plan_volume-clause-reads
-returns-in-Err-plan_volume-clause-reads g c =
-    let force = c.args.options.now.force in
-    let before = g.D.Disk.reads c.args.disk.now in
-    let now = g.D.Disk.reads c.decide.new.disk in
-    subst (λ (x : MakeOutcome). CountsReads force before now x) (sym c.place_outcome.ensures.value)
-    (reads_placing force before now c.in-Err-plan_volume.fault c.in-Ok.ensures.looked)
-
-pub returns-in-Err-plan_volume-clause-kept : goal.returns-in-Err-plan_volume-clause-kept
-returns-in-Err-plan_volume-clause-kept g c =
-    kept_unwritten (g.D.Disk.tells_stops c.args.disk.now) (g.D.Disk.holds c.decide.new.disk) (g.D.Disk.may_leave c.decide.new.disk)
-    c.place_outcome.result c.place_outcome.ensures.early
-
-pub returns-in-Err-plan_volume-clause-stops : goal.returns-in-Err-plan_volume-clause-stops
-returns-in-Err-plan_volume-clause-stops g c = λ tells image told t stopped low left.
-    inl ((c.in-Ok.ensures.disk.past tells).nothing_new t stopped low left)
-
-pub returns-in-Err-plan_volume-clause-cause : goal.returns-in-Err-plan_volume-clause-cause
-returns-in-Err-plan_volume-clause-cause g c =
-    subst
-    (λ (x : MakeOutcome). IsMakingCause (g.D.Disk.faults c.args.disk.now) (g.D.Disk.faults c.decide.new.disk) (g.D.Disk.write_faults c.args.disk.now)
-    (g.D.Disk.write_faults c.decide.new.disk) x)
-    (sym c.place_outcome.ensures.value) (caused_placing _ _ _ _ c.in-Err-plan_volume.fault)
-
 pub returns-in-Ok-put_plan-clause-due : goal.returns-in-Ok-put_plan-clause-due
 returns-in-Ok-put_plan-clause-due g c = λ image told. (
   c.in-Ok.ensures.none image told,
   record {
-    geometry = c.in-Ok.g;
-    chosen = c.in-Ok.ensures.chosen;
-    room = c.in-Ok-plan_volume.ensures.room;
+    geometry = c.in-Ok.volume.geometry;
+    asked = c.in-Ok.ensures.prepared.asked;
+    volume = c.in-Ok.ensures.prepared.volume;
+    room = c.in-Ok.ensures.prepared.room;
     is = c.summary_of.ensures;
   },
 )
@@ -102,35 +59,34 @@ returns-in-Ok-put_plan-clause-due g c = λ image told. (
 pub returns-in-Ok-put_plan-clause-leaves : goal.returns-in-Ok-put_plan-clause-leaves
 returns-in-Ok-put_plan-clause-leaves g c = λ image told.
     let size = g.D.Disk.size c.args.disk.now in
-    let is : IsPlanned c.in-Ok.g c.args.options.now.label c.args.stamp.now c.in-Ok-plan_volume.plan =
-    subst (λ (label : List ℕ). IsPlanned c.in-Ok.g label c.args.stamp.now c.in-Ok-plan_volume.plan) c.bytes.ensures
-    c.in-Ok-plan_volume.ensures.rendered in
+    let volume = c.in-Ok.volume in
+    let is = c.in-Ok.ensures.prepared in
     let put = c.in-Ok-put_plan.ensures.done image (c.in-Ok.ensures.disk.same_contents ∙ told) in
     let same : g.D.Disk.size c.put_plan.new.disk ≡ size = c.in-Ok-put_plan.ensures.size ∙ c.in-Ok.ensures.disk.same_size in
     record {
-      geometry = c.in-Ok.g;
-      chosen = c.in-Ok.ensures.chosen;
+      geometry = volume.geometry;
+      asked = is.asked;
+      volume_asked = is.volume;
       is = c.summary_of.ensures;
-      plan = c.in-Ok-plan_volume.plan;
-      planned = is;
+      plan = volume.plan;
+      planned = is.rendered;
       put = put;
       volume =
-          put_is_volume c.in-Ok.g c.args.options.now.label c.args.stamp.now c.in-Ok-plan_volume.plan size image (g.D.Disk.holds c.put_plan.new.disk) is
-          (first_chunk c.args.options.now c.args.stamp.now size c.in-Ok.g c.in-Ok.ensures.chosen) (g.met.D.Disk.shape c.args.disk.now image told)
-          (geometry_on_disk c.args.options.now c.args.stamp.now size c.in-Ok.g c.in-Ok.ensures.chosen c.in-Ok.ensures.fits)
-          c.in-Ok-plan_volume.ensures.inside put
+          put_is_volume volume.geometry is.rendered.sector c.args.stamp.now is.asked volume.plan size image (g.D.Disk.holds c.put_plan.new.disk) is.rendered.is
+          (first_chunk c.args.options.now c.args.stamp.now size volume.geometry is.volume.chosen) (g.met.D.Disk.shape c.args.disk.now image told)
+          (geometry_on_disk c.args.options.now c.args.stamp.now size volume.geometry is.volume.chosen c.in-Ok.ensures.fits)
+          c.in-Ok.ensures.inside put
           (λ held shown. subst (λ (n : ℕ). IsImage n held) same (g.met.D.Disk.shape c.put_plan.new.disk held shown));
     }
 
 pub returns-in-Ok-put_plan-clause-counts : goal.returns-in-Ok-put_plan-clause-counts
 returns-in-Ok-put_plan-clause-counts g c =
-    let plan = c.in-Ok-plan_volume.plan in
-    let is : IsPlanned c.in-Ok.g c.args.options.now.label c.args.stamp.now plan =
-    subst (λ (label : List ℕ). IsPlanned c.in-Ok.g label c.args.stamp.now plan) c.bytes.ensures c.in-Ok-plan_volume.ensures.rendered in
+    let size = g.D.Disk.size c.args.disk.now in
+    let volume = c.in-Ok.volume in
     record {
-      plan = plan;
-      due = record { geometry = c.in-Ok.g; chosen = c.in-Ok.ensures.chosen; rendered = is };
-      counted = c.in-Ok-put_plan.ensures.counted ∙ ap (raised_times (length (planned plan))) c.in-Ok.ensures.disk.same_writes;
+      plan = volume.plan;
+      due = plan_of c.args.options.now c.args.stamp.now (g.L.Library.files c.args.files.now) size volume.geometry volume.plan c.in-Ok.ensures.prepared;
+      counted = c.in-Ok-put_plan.ensures.counted ∙ ap (raised_times (length (planned volume.plan))) c.in-Ok.ensures.disk.same_writes;
     }
 
 pub returns-in-Ok-put_plan-clause-kept : goal.returns-in-Ok-put_plan-clause-kept
@@ -138,9 +94,7 @@ returns-in-Ok-put_plan-clause-kept g c = λ tells. c.in-Ok-put_plan.ensures.kept
 
 pub returns-in-Ok-put_plan-clause-stops : goal.returns-in-Ok-put_plan-clause-stops
 returns-in-Ok-put_plan-clause-stops g c = λ tells image told t stopped low left.
-    let plan = c.in-Ok-plan_volume.plan in
-    let is : IsPlanned c.in-Ok.g c.args.options.now.label c.args.stamp.now plan =
-    subst (λ (label : List ℕ). IsPlanned c.in-Ok.g label c.args.stamp.now plan) c.bytes.ensures c.in-Ok-plan_volume.ensures.rendered in
+    let volume = c.in-Ok.volume in
     let past = c.in-Ok.ensures.disk.past tells in
     let later = past.later in
     elim
@@ -148,49 +102,48 @@ returns-in-Ok-put_plan-clause-stops g c = λ tells image told t stopped low left
     (omega (arith, low, later)) left) [
       | inl was ↦ inl (past.nothing_new t stopped low was)
       | inr put ↦
-          inr (made_stopped c.args.options.now c.args.stamp.now (g.D.Disk.size c.args.disk.now) image stopped c.in-Ok.g plan c.in-Ok.ensures.chosen is put)
+          inr (made_stopped c.args.options.now c.args.stamp.now (g.L.Library.files c.args.files.now) (g.D.Disk.size c.args.disk.now) image stopped
+          volume.geometry volume.plan c.in-Ok.ensures.prepared put)
     ]
 
 pub returns-clause-due : goal.returns-clause-due
 returns-clause-due g c = λ image told.
     let size = g.D.Disk.size c.args.disk.now in
-    subst (λ (x : MakeOutcome). IsDueMake c.args.options.now c.args.stamp.now size image x) (sym c.put_outcome.ensures)
-    (due_putting c.args.options.now c.args.stamp.now size image c.in-Ok.g (c.in-Ok.ensures.none image told) c.in-Ok.ensures.chosen
-    c.in-Ok-plan_volume.ensures.room c.in-Err-put_plan.fault)
+    let files = g.L.Library.files c.args.files.now in
+    subst (λ (x : MakeOutcome). IsDueMake c.args.options.now c.args.stamp.now files size image x) (sym c.put_outcome.ensures)
+    (due_putting c.args.options.now c.args.stamp.now files size image c.in-Ok.volume.geometry c.in-Ok.volume.plan (c.in-Ok.ensures.none image told)
+    c.in-Ok.ensures.prepared c.in-Err-put_plan.fault)
 
 pub returns-clause-leaves : goal.returns-clause-leaves
 returns-clause-leaves g c = λ image told.
     let size = g.D.Disk.size c.args.disk.now in
-    subst (λ (x : MakeOutcome). MakeLeaves c.args.options.now c.args.stamp.now size image (g.D.Disk.holds c.put_plan.new.disk) x) (sym c.put_outcome.ensures)
-    (leaves_putting c.args.options.now c.args.stamp.now size image (g.D.Disk.holds c.put_plan.new.disk) c.in-Ok.g c.in-Ok-plan_volume.plan
-    c.in-Ok.ensures.chosen
-    (subst (λ (label : List ℕ). IsPlanned c.in-Ok.g label c.args.stamp.now c.in-Ok-plan_volume.plan) c.bytes.ensures
-    c.in-Ok-plan_volume.ensures.rendered)
-    c.in-Err-put_plan.fault (c.in-Err-put_plan.ensures.failed image (c.in-Ok.ensures.disk.same_contents ∙ told)))
+    let files = g.L.Library.files c.args.files.now in
+    subst (λ (x : MakeOutcome). MakeLeaves c.args.options.now c.args.stamp.now files size image (g.D.Disk.holds c.put_plan.new.disk) x) (sym c.put_outcome.ensures)
+    (leaves_putting c.args.options.now c.args.stamp.now files size image (g.D.Disk.holds c.put_plan.new.disk) c.in-Ok.volume.geometry c.in-Ok.volume.plan
+    c.in-Ok.ensures.prepared c.in-Err-put_plan.fault (c.in-Err-put_plan.ensures.failed image (c.in-Ok.ensures.disk.same_contents ∙ told)))
 
 pub returns-clause-cause : goal.returns-clause-cause
 returns-clause-cause g c =
     subst
     (λ (x : MakeOutcome). IsMakingCause (g.D.Disk.faults c.args.disk.now) (g.D.Disk.faults c.put_plan.new.disk) (g.D.Disk.write_faults c.args.disk.now)
-    (g.D.Disk.write_faults c.put_plan.new.disk) x)
+    (g.D.Disk.write_faults c.put_plan.new.disk) (g.L.Library.faults c.args.files.now) (g.L.Library.faults c.prepare.new.files) x)
     (sym c.put_outcome.ensures)
-    (caused_putting _ _ _ _ c.in-Err-put_plan.fault
+    (caused_putting _ _ _ _ _ _ c.in-Err-put_plan.fault
     (subst (λ (before : ℕ). HasPutCause before (g.D.Disk.write_faults c.put_plan.new.disk) (Err c.in-Err-put_plan.fault)) c.in-Ok.ensures.disk.same_write_faults
     c.in-Err-put_plan.ensures.cause))
 
 pub returns-clause-counts : goal.returns-clause-counts
 returns-clause-counts g c =
     let size = g.D.Disk.size c.args.disk.now in
-    let plan = c.in-Ok-plan_volume.plan in
+    let files = g.L.Library.files c.args.files.now in
+    let volume = c.in-Ok.volume in
     let before = g.D.Disk.writes c.args.disk.now in
     let now = g.D.Disk.writes c.put_plan.new.disk in
     let fault = c.in-Err-put_plan.fault in
-    let is : IsPlanned c.in-Ok.g c.args.options.now.label c.args.stamp.now plan =
-    subst (λ (label : List ℕ). IsPlanned c.in-Ok.g label c.args.stamp.now plan) c.bytes.ensures c.in-Ok-plan_volume.ensures.rendered in
-    subst (λ (x : MakeOutcome). CountsBlocks c.args.options.now c.args.stamp.now size before now x) (sym c.put_outcome.ensures)
-    (counts_putting c.args.options.now c.args.stamp.now size before now plan
-    (record { geometry = c.in-Ok.g; chosen = c.in-Ok.ensures.chosen; rendered = is }) fault
-    (subst (λ (b : ℕ). CountsPut plan b now (Err fault)) c.in-Ok.ensures.disk.same_writes c.in-Err-put_plan.ensures.counted))
+    subst (λ (x : MakeOutcome). CountsBlocks c.args.options.now c.args.stamp.now files size before now x) (sym c.put_outcome.ensures)
+    (counts_putting c.args.options.now c.args.stamp.now files size before now volume.plan
+    (plan_of c.args.options.now c.args.stamp.now files size volume.geometry volume.plan c.in-Ok.ensures.prepared) fault
+    (subst (λ (b : ℕ). CountsPut volume.plan b now (Err fault)) c.in-Ok.ensures.disk.same_writes c.in-Err-put_plan.ensures.counted))
 
 pub returns-clause-reads : goal.returns-clause-reads
 returns-clause-reads g c =
@@ -204,7 +157,7 @@ pub returns-clause-unwritten : goal.returns-clause-unwritten
 returns-clause-unwritten g c = λ is.
     let fault = c.in-Err-put_plan.fault in
     let none : fault ≡ NoMemory = unwritten_putting fault (subst IsUnwritten c.put_outcome.ensures is) in
-    let same : c.put_plan.new.disk ≡ c.decide.new.disk = c.in-Err-put_plan.ensures.untouched (ap (λ (f : PutFault). Err f) none) in
+    let same : c.put_plan.new.disk ≡ c.prepare.new.disk = c.in-Err-put_plan.ensures.untouched (ap (λ (f : PutFault). Err f) none) in
     subst
     (λ (d : g.row.D.Denot). OnlyReads g.D.Disk.size g.D.Disk.holds g.D.Disk.write_faults g.D.Disk.writes g.D.Disk.tells_stops g.D.Disk.moment
     g.D.Disk.may_leave g.D.Disk.left_since c.args.disk.now d)
@@ -222,9 +175,8 @@ returns-clause-stops g c = λ tells image told t stopped low left.
     let o = c.args.options.now in
     let stamp = c.args.stamp.now in
     let size = g.D.Disk.size c.args.disk.now in
-    let plan = c.in-Ok-plan_volume.plan in
-    let is : IsPlanned c.in-Ok.g o.label stamp plan =
-    subst (λ (label : List ℕ). IsPlanned c.in-Ok.g label stamp plan) c.bytes.ensures c.in-Ok-plan_volume.ensures.rendered in
+    let files = g.L.Library.files c.args.files.now in
+    let volume = c.in-Ok.volume in
     let past = c.in-Ok.ensures.disk.past tells in
     let later = past.later in
     let before = g.D.Disk.left_since c.args.disk.now t stopped in
@@ -232,13 +184,13 @@ returns-clause-stops g c = λ tells image told t stopped low left.
     let put =
     c.in-Err-put_plan.ensures.stops (c.in-Ok.ensures.disk.tells tells) image (c.in-Ok.ensures.disk.same_contents ∙ told) t stopped
     (omega (arith, low, later)) left in
-    subst (λ (x : MakeOutcome). before ⊎ StopLeaves o stamp size image stopped x) (sym c.put_outcome.ensures)
-    (stops_putting o stamp size image stopped c.in-Err-put_plan.fault before now
+    subst (λ (x : MakeOutcome). before ⊎ StopLeaves o stamp files size image stopped x) (sym c.put_outcome.ensures)
+    (stops_putting o stamp files size image stopped c.in-Err-put_plan.fault before now
     (λ none it. past.nothing_new t stopped low
     (subst (λ (d : g.row.D.Denot). g.D.Disk.left_since d t stopped) (c.in-Err-put_plan.ensures.untouched (ap (λ (f : PutFault). Err f) none)) it))
     (λ it. elim put [
       | inl was ↦ inl (past.nothing_new t stopped low was)
-      | inr of ↦ inr (made_stopped o stamp size image stopped c.in-Ok.g plan c.in-Ok.ensures.chosen is of)
+      | inr of ↦ inr (made_stopped o stamp files size image stopped volume.geometry volume.plan c.in-Ok.ensures.prepared of)
     ])
     left)
 
@@ -257,7 +209,7 @@ returns-clause-later g c = λ tells.
 
 pub returns-clause-write_faults : goal.returns-clause-write_faults
 returns-clause-write_faults g c =
-    let before = g.D.Disk.write_faults c.decide.new.disk in
+    let before = g.D.Disk.write_faults c.prepare.new.disk in
     let now = g.D.Disk.write_faults c.put_plan.new.disk in
     let rises : before ≤ now = put_rises before now c.in-Err-put_plan.fault c.in-Err-put_plan.ensures.cause in
     subst (λ (n : ℕ). n ≤ now) c.in-Ok.ensures.disk.same_write_faults rises

@@ -17,5 +17,7 @@ returns-clause-made g c =
         unwritten = made.unwritten;
         kept = made.kept;
         stops = made.stops;
+        same_files = made.files;
+        library_rises = made.library_faults;
       };
     }

@@ -51,6 +51,15 @@ returns-in-TooSmall g c = puts_as _ _ _ _ _ _ _ (ap text_of c.in-TooSmall.is) c.
 pub returns-in-HasVolume : goal.returns-in-HasVolume
 returns-in-HasVolume g c = puts_as _ _ _ _ _ _ _ (ap text_of c.in-HasVolume.is) c.put_line-in-HasVolume.ensures
 
+pub returns-in-BadProto : goal.returns-in-BadProto
+returns-in-BadProto g c = puts_as _ _ _ _ _ _ _ (ap text_of c.in-BadProto.is) c.put_bad_proto.ensures
+
+pub returns-in-NoFile : goal.returns-in-NoFile
+returns-in-NoFile g c = puts_as _ _ _ _ _ _ _ (ap text_of c.in-NoFile.is) c.put_line-in-NoFile.ensures
+
+pub returns-in-LibraryFault : goal.returns-in-LibraryFault
+returns-in-LibraryFault g c = puts_as _ _ _ _ _ _ _ (ap text_of c.in-LibraryFault.is) c.put_line-in-LibraryFault.ensures
+
 pub returns-in-NoRoom : goal.returns-in-NoRoom
 returns-in-NoRoom g c = puts_as _ _ _ _ _ _ _ (ap text_of c.in-NoRoom.is) c.put_no_room.ensures
 

@@ -14,9 +14,9 @@ returns-in-Some-clause-told g c =
     λ text asked.
     let both : Some c.in-Some.text ≡ Some text = sym c.in-Some.is ∙ (c.text_asked.ensures ∙ asked) in
     let same : c.in-Some.text ≡ text = cc in
-    subst (λ (t : Answer). (put : Result (Unit {0}) Failed) × (c.args.disk.now ≡ c.args.disk.now) × (c.args.input.now ≡ c.args.input.now)
+    subst (λ (t : Answer). (put : Result (Unit {0}) Failed) × (c.args.disk.now ≡ c.args.disk.now) × (c.args.files.now ≡ c.args.files.now) × (c.args.input.now ≡ c.args.input.now)
     × IsTold O.took O.faults E.took E.faults c.args.out.now c.tell_text.new.out c.args.err.now c.tell_text.new.err t put × (c.tell_text.result ≡ status_of false t put))
-    same (told.0, refl, refl, told.1, told.2)
+    same (told.0, refl, refl, refl, told.1, told.2)
 
 pub returns-in-Some-clause-checked : goal.returns-in-Some-clause-checked
 returns-in-Some-clause-checked g c =

@@ -3,7 +3,7 @@ use Rattle.xfs_geom.specs.Volumes.{volume_of}
 use Rattle.xfs_empty.proofs.Kept.{many}
 use Rattle.xfs_mkfs.proofs.Failing.{reads_failed, reads_nothing}
 use Rattle.xfs_mkfs.proofs.Geometries.{on_disk}
-use Rattle.xfs_mkfs.proofs.volume_making.decide.Goals as goal
+use Rattle.xfs_mkfs.proofs.preparing.decide.Goals as goal
 
 pub has_volume-requires : goal.has_volume-requires
 has_volume-requires g c =

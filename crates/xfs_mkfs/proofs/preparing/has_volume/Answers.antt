@@ -1,5 +1,5 @@
 use Rattle.xfs_mkfs.proofs.Failing.{looks_by_result, not_looked, reads_by_result}
-use Rattle.xfs_mkfs.proofs.volume_making.has_volume.Goals as goal
+use Rattle.xfs_mkfs.proofs.preparing.has_volume.Goals as goal
 
 pub returns-then-force-clause-looked : goal.returns-then-force-clause-looked
 returns-then-force-clause-looked g c = not_looked c.args.force (g.D.Disk.reads c.args.disk.now) c.if-force.true

@@ -1,0 +1,139 @@
+//! The files of a new volume: a library has the protofile that says them, and their bytes.
+
+ghost use Rattle.std.specs.Prelude.{◌≡◌, length, Ok, Some, IfErr, IfOk};
+ghost use Rattle.std.specs.Option.{ForSome};
+ghost use Rattle.xfs_mkfs.specs.FilesAsked.{HasFilesCause, IsAsked, IsByProto, IsContentAnswer, IsContentsAnswer, IsFilesAnswer, content_in, contents_in, library_outcome, proto_outcome};
+
+use crate::outcome::MakeOutcome;
+use std::alloc::Global;
+use xfs_disk::{Library, LibraryFault, Word};
+use xfs_filled::protofiles_are_files;
+use xfs_options::MakeOptions;
+use xfs_proto::{ProtoFault, ProtoKind, ProtoNode, read_proto};
+use xfs_volume::Records;
+
+/// The files that a volume gets.
+#[derive(Debug, Drop)]
+pub enum FilesAsked {
+    /// None but its root.
+    Root,
+    /// Those of a protofile.
+    Listed {
+        nodes: Records<ProtoNode>,
+        /// Of each file its bytes; none of one that is not regular.
+        contents: Records<Word>,
+    },
+}
+
+/// The files that are asked for: those of the protofile of this name, or none.
+pub fn read_files<L: Library>(
+    alloc: Global,
+    files: &mut L,
+    options: &MakeOptions,
+) -> Result<FilesAsked, MakeOutcome>
+    ensures asked { IfOk result (IsAsked options.now.proto (L.files files.old)) }
+    ensures refusal { IfErr result (IsFilesAnswer options.now.proto (L.files files.old)) }
+    ensures cause { HasFilesCause (L.faults files.old) (L.faults files.new) result }
+    ensures files { L.files files.new ≡ L.files files.old }
+{
+    match &options.proto {
+        Some(name) => read_listed(alloc, files, name),
+        None => Ok(FilesAsked::Root),
+    }
+}
+
+/// The files of the protofile of this name.
+fn read_listed<L: Library>(
+    alloc: Global,
+    files: &mut L,
+    name: &Word,
+) -> Result<FilesAsked, MakeOutcome>
+    ensures asked { IfOk result (IsAsked (Some name.now) (L.files files.old)) }
+    ensures refusal { IfErr result (IsFilesAnswer (Some name.now) (L.files files.old)) }
+    ensures cause { HasFilesCause (L.faults files.old) (L.faults files.new) result }
+    ensures files { L.files files.new ≡ L.files files.old }
+{
+    let text = match files.file(alloc, name) {
+        Ok(text) => text,
+        Err(fault) => return Err(library_outcome(fault, 0)),
+    };
+    let nodes = match read_proto(alloc, &text) {
+        Ok(proto) => proto.nodes,
+        Err(fault) => return Err(proto_outcome(fault)),
+    };
+    let contents = match read_contents(alloc, files, nodes.as_slice()) {
+        Ok(contents) => contents,
+        Err(outcome) => return Err(outcome),
+    };
+    protofiles_are_files(&text, nodes.as_slice());
+    Ok(FilesAsked::Listed {
+        nodes,
+        contents: Records::from_vec(contents),
+    })
+}
+
+/// The bytes of each file.
+fn read_contents<L: Library>(
+    alloc: Global,
+    files: &mut L,
+    nodes: &[ProtoNode],
+) -> Result<Vec<Word>, MakeOutcome>
+    ensures value { IfOk result (λ all. ForSome (L.files files.old) (λ map. contents_in map nodes.now ≡ Ok all.items)) }
+    ensures count { IfOk result (λ all. length all.items ≡ length nodes.now) }
+    ensures refusal { IfErr result (IsContentsAnswer (L.files files.old) nodes.now) }
+    ensures cause { HasFilesCause (L.faults files.old) (L.faults files.new) result }
+    ensures files { L.files files.new ≡ L.files files.old }
+{
+    let mut contents = Vec::new(alloc);
+    for node in nodes {
+        let bytes = match read_content(alloc, files, &node.kind) {
+            Ok(bytes) => bytes,
+            Err(outcome) => return Err(outcome),
+        };
+        if contents.push(bytes).is_err() {
+            return Err(MakeOutcome::NoMemory);
+        }
+    }
+    Ok(contents)
+}
+
+/// The bytes of a file.
+fn read_content<L: Library>(
+    alloc: Global,
+    files: &mut L,
+    kind: &ProtoKind,
+) -> Result<Word, MakeOutcome>
+    ensures value { IfOk result (λ bytes. ForSome (L.files files.old) (λ map. content_in map kind.now ≡ Some bytes)) }
+    ensures refusal { IfErr result (IsContentAnswer (L.files files.old) kind.now) }
+    ensures cause { HasFilesCause (L.faults files.old) (L.faults files.new) result }
+    ensures files { L.files files.new ≡ L.files files.old }
+{
+    match kind {
+        ProtoKind::Regular { name, line } => match files.file(alloc, name) {
+            Ok(bytes) => Ok(Word::from_vec(bytes)),
+            Err(fault) => Err(library_outcome(fault, *line)),
+        },
+        _ => Ok(Word::from_vec(Vec::new(alloc))),
+    }
+}
+
+/// The answer where a library gives no file for the name in a line of the protofile, or for the protofile in line 0.
+fn library_outcome(fault: LibraryFault, line: u64) -> MakeOutcome
+    ensures { result ≡ library_outcome fault line }
+{
+    match fault {
+        LibraryFault::Missing => MakeOutcome::NoFile { line },
+        LibraryFault::Failed => MakeOutcome::LibraryFault,
+        LibraryFault::NoMemory => MakeOutcome::NoMemory,
+    }
+}
+
+/// The answer where a text is no protofile.
+fn proto_outcome(fault: ProtoFault) -> MakeOutcome
+    ensures { result ≡ proto_outcome fault }
+{
+    match fault {
+        ProtoFault::Bad { line, reason } => MakeOutcome::BadProto { line, reason },
+        ProtoFault::NoMemory => MakeOutcome::NoMemory,
+    }
+}
