@@ -1,10 +1,11 @@
 //! Calls, and what is due of them.
 
 use crate::disk::CaseDisk;
+use crate::library::Shelf;
 use crate::refusal::Refusal;
 use std::alloc::{AllocError, Global};
 use std::thread::Threads;
-use xfs_disk::{MemoryLibrary, MemorySink, MemorySource, NoGate, Stamp, Word};
+use xfs_disk::{MemorySink, MemorySource, NoGate, Stamp, Word};
 use xfs_tools::{Status, run};
 
 /// What a call is given beside its words.
@@ -16,6 +17,8 @@ pub struct Surroundings {
     pub input: String,
     /// Whether reading standard input fails.
     pub unreadable: bool,
+    /// What the library has.
+    pub shelf: Shelf,
 }
 
 /// What a call put and how it ended, and what is due of that.
@@ -46,7 +49,7 @@ impl Call {
         given: &Surroundings,
     ) -> Result<Call, Refusal> {
         let words = words_of(alloc, words)?;
-        let mut files = MemoryLibrary::make();
+        let mut files = given.shelf.library();
         let mut input = MemorySource::make(alloc, given.input.as_bytes())?;
         if given.unreadable {
             input.fail(1)?;

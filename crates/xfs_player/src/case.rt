@@ -1,6 +1,7 @@
 //! A case: a disk, calls on it, and what is due of them.
 
 use crate::calls::{Call, Surroundings};
+use crate::library::Shelf;
 use crate::numbers::{cut, number};
 use crate::refusal::Refusal;
 use crate::stops::stop_by_steps;
@@ -38,6 +39,7 @@ impl Case {
                 room: ROOM,
                 input: String::new(alloc),
                 unreadable: false,
+                shelf: Shelf::new(alloc),
             },
             call: None,
             calls: 0,
@@ -49,12 +51,14 @@ impl Case {
     /// Takes a line: its first word, and what is behind.
     ///
     /// What the disk holds: `zeros`, `filled`, `bytes`, `copy`, `slots`, `pipes`, `entries`, `cycles` and `chunks` of `volume`; behind `then`
-    /// they say what it must hold in the end beside what it held, and `unseen` says that this is not compared.
+    /// they say what it must hold in the end beside what it held, and `unseen` says that this is not compared. `holds BLOCK OFFSET DIGITS`
+    /// says what a block holds there now.
     ///
     /// What a call is given: `fail N` makes the read, write or sync of the disk fail that has this number, counted from 1 from here on;
     /// `halt N` makes all calls of it fail once N more blocks were written, and `restart` none from here on;
     /// `room N` bytes are left for standard output from here on; `input LINE` and `tail TEXT` are added to standard input, which is not
-    /// read where the case has `unreadable`.
+    /// read where the case has `unreadable`. `file`, `text`, `more`, `below`, `many` and `library-fail` say what the library has
+    /// (`library`).
     ///
     /// `stops N STEP WORD|WORD|..` makes a call that writes N blocks on copies of the disk, of which each stops after STEP more of these
     /// (`stops`).
@@ -76,6 +80,7 @@ impl Case {
                 self.unseen = true;
                 Ok(())
             }
+            "holds" => self.compare(rest),
             "fail" => self.disks.held.fail(number(rest)?),
             "halt" => {
                 self.disks.held.stop_after(number(rest)?);
@@ -88,11 +93,23 @@ impl Case {
             "run" => self.run(rt, rest),
             "stops" => self.stop(rt, rest),
             "room" | "input" | "tail" | "unreadable" => self.give(word, rest),
+            "file" | "text" | "more" | "below" | "many" | "library-fail" => {
+                self.given.shelf.take(word, rest)
+            }
             _ => match self.disks.take(word, rest) {
                 Err(Refusal::Unknown) => self.expect(word, rest),
                 taken => taken,
             },
         }
+    }
+
+    /// Tells where a block does not hold the bytes that a line says.
+    fn compare(&mut self, text: &str) -> Result<(), Refusal> {
+        if !self.disks.holds(text)? {
+            let told = format!(in self.alloc; "  not held: {text}\n")?;
+            self.told.push_str(told.as_str())?;
+        }
+        Ok(())
     }
 
     /// Takes a line of what a call is given.

@@ -8,6 +8,7 @@
 mod calls;
 mod case;
 mod disk;
+mod library;
 mod numbers;
 mod player;
 mod refusal;

@@ -17,6 +17,8 @@ pub enum Refusal {
     NoCase,
     /// No call has been made whose answer this could be.
     NoCall,
+    /// No file has been added to the library.
+    NoFile,
     /// The bytes do not lie in a block in memory.
     Outside,
     NoMemory,
@@ -30,6 +32,7 @@ impl fmt::Display for Refusal {
             Refusal::Undefined => "there is no such definition",
             Refusal::NoCase => "no case has begun",
             Refusal::NoCall => "no call has been made",
+            Refusal::NoFile => "the library has no file",
             Refusal::Outside => "the bytes do not lie in a block in memory",
             Refusal::NoMemory => "no memory",
         };

@@ -7,6 +7,7 @@ use crate::numbers::{cut, number, read_byte, read_bytes};
 use crate::refusal::Refusal;
 use crate::vast::put_chunks;
 use std::alloc::Global;
+use xfs_disk::BLOCK_SIZE;
 use xfs_word::{put_checksum, put_part, put16, put32, put64};
 
 /// The identifier of the volumes.
@@ -89,6 +90,21 @@ impl Disks {
         let (from, digits) = cut(rest);
         let bytes = read_bytes(self.alloc, digits)?;
         self.put(number(place)?, number(from)? as usize, bytes.as_slice())
+    }
+
+    /// `BLOCK OFFSET DIGITS`: whether a block holds these bytes from an offset on.
+    pub fn holds(&self, text: &str) -> Result<bool, Refusal> {
+        let (place, rest) = cut(text);
+        let (from, digits) = cut(rest);
+        let due = read_bytes(self.alloc, digits)?;
+        let (place, from) = (number(place)?, number(from)? as usize);
+        let Some(block) = self.held.image().chunks(BLOCK_SIZE).nth(place as usize) else {
+            return Err(Refusal::Outside);
+        };
+        if from > block.len() || due.len() > block.len() - from {
+            return Err(Refusal::Outside);
+        }
+        Ok(&block[from..from + due.len()] == due.as_slice())
     }
 
     /// `copy TO FROM`: writes over a block what another holds.
