@@ -21,9 +21,9 @@ TOOLS = {"xfs_repair": [("Answers", "answer_of")], "mkfs.xfs": [("Making", "made
          "xfs_db": [("Debugging", "session_answer"), ("Debugging", "line_refusal")]}
 # how the definitions of help name the tools
 HELPED = {"xfs_repair": "repair", "mkfs.xfs": "make", "xfs_db": "debug"}
-# the forms of answers that no call of a tool gives today: a repair places directories, inodes and groups, and a new volume has groups alone
+# the forms of answers that no call of a tool gives: a repair places directories, inodes and groups, and a new volume has no lost+found
 LATER = {"xfs_repair": ("xfs: no room: file", "xfs: no room: chunk"),
-         "mkfs.xfs": ("xfs: no room: directory", "xfs: no room: file", "xfs: no room: chunk", "xfs: no room: lost")}
+         "mkfs.xfs": ("xfs: no room: lost",)}
 # a number or an identifier in a text
 HOLE = "#"
 TOKEN = re.compile(r'codes\s+"((?:[^"\\]|\\.)*)"|\b(Decimal|Large|Hexadecimal|hyphenated_text)\b|\b([a-z_]+(?:_text|_numbers))\b')

@@ -86,25 +86,11 @@ rename_each() { # IMAGE
   "$top/examples/renamed_files.py" places "$work/volume.img" > "$work/places"
   while read -r at count name <&3; do lost "$name" "$at" "$count"; done 3< "$work/places"
 }
-attributes() { # IMAGE PATH..: gives each two attributes, the second too long to stand in its inode
-  local image=$1 path inode
-  shift
-  for path in "$@"; do
-    inode=$(xfs_db -r -c "path $path" -c 'print v3.inumber' "$image" | sed 's/.*= //')
-    xfs_db -x -c "inode $inode" -c 'attr_set -v 20 few' -c 'attr_set -v 300 many' "$image" > /dev/null
-  done
-}
 
 if [ $# -gt 0 ]; then
   for image in "$@"; do rename_each "$image"; done
 else
-  protofile 20000 > "$work/proto"
-  make_image "$work/largest.img" 600M "$work/proto"
-  protofile 2000 > "$work/proto"
-  make_image "$work/groups.img" 2G "$work/proto" -d agcount=16
-  protofile 700 > "$work/proto"
-  make_image "$work/attributes.img" 300M "$work/proto" -d agcount=2
-  attributes "$work/attributes.img" / /bytes /names3 /names24 /names60 /names400 /names700 /deep /deep/d1
+  three_volumes 20000
   for image in largest groups attributes; do rename_each "$work/$image.img"; done
 fi
 echo "$damages damages: $repaired repaired, $full without room, $wrong wrong"

@@ -97,7 +97,7 @@ class Tree:
                          if target not in gone and not (ino == hurt and (lost in ("all", place) or words[:2] == ["entry", str(at)]))]
                    for ino, listed in self.entries.items() if ino not in gone}
         named = {target for listed in entries.values() for _, target in listed}
-        orphans = sorted(ino for ino in self.files if ino not in named | gone | {self.root})
+        orphans = sorted(self.files.keys() - named - gone - {self.root})
         fresh = False
         if orphans:
             there = dict(entries[self.root]).get(LOST)

@@ -45,6 +45,15 @@ answer 1 'xfs: bad option: word 2 item 2' "$xfs" mkfs.xfs -d agcount=2,what=3 ne
 answer 1 'xfs: too small: 1' "$xfs" mkfs.xfs -f -d size=1g new.img
 answer 1 'xfs: too small: 2' "$xfs" mkfs.xfs -f -d agcount=500 new.img
 answer 1 'xfs: too small: 3' "$xfs" mkfs.xfs -f -l size=4k new.img
+printf 'x 0 0 d--755 0 0 a ---644 0 0 none $\n' > lacks.proto
+printf 'x 0 0 d--755 0 0\na ---644 0 0 lacks.proto\n$\n' > one.proto
+printf 'x 0 0 d--755 0 0\na ---648 0 0 none\n$\n' > bad.proto
+answer 1 'xfs: no file: line 0' "$xfs" mkfs.xfs -f -p none new.img
+answer 1 'xfs: no file: line 1' "$xfs" mkfs.xfs -f -p lacks.proto new.img
+answer 1 'xfs: bad protofile: line 2 reason 2' "$xfs" mkfs.xfs -f -p bad.proto new.img
+answer 1 'xfs: library fault' "$xfs" mkfs.xfs -f -p . new.img
+answer 0 'made: blocks=32768 *' "$xfs" mkfs.xfs -f -p one.proto new.img
+answer 0 clean "$xfs" xfs_repair -n new.img
 answer 1 'xfs: unbuilt: 10' "$xfs" mkfs.xfs -f -G 3 new.img
 answer 1 'xfs: usage: word 1' "$xfs" mkfs.xfs -Z new.img
 

@@ -44,6 +44,30 @@ trial 'no such file' 1 "xfs: $work/none: No such file or directory* / xfs: read 
 trial 'no such file, to be made' 1 "xfs: $work/none: No such file or directory* / xfs: read fault: 1" "$top/xfs" mkfs.xfs "$work/none"
 trial 'a directory' 1 "xfs: $work/mnt: *is a directory* / xfs: read fault: 1" "$top/xfs" xfs_repair -n "$work/mnt"
 trial 'a directory, to be written' 1 "xfs: $work/mnt: *is a directory* / xfs: read fault: 1" "$top/xfs" mkfs.xfs -f "$work/mnt"
+cp --sparse=always "$work/volume.img" "$work/short.img"
+for bytes in 134213632 67108864 512 0; do
+  truncate -s "$bytes" "$work/short.img"
+  trial "cut to $bytes bytes: xfs_repair" 1 'xfs: no geometry' "$top/xfs" xfs_repair "$work/short.img"
+  trial "cut to $bytes bytes: xfs_db" 1 'xfs: no geometry' "$top/xfs" xfs_db -x -c 'agf 0' -c 'write freeblks 5' "$work/short.img"
+done
+trial 'an empty file, to be made' 1 'xfs: too small: *' "$top/xfs" mkfs.xfs -f "$work/short.img"
+trial 'a device without blocks' 1 'xfs: no geometry' "$top/xfs" xfs_repair /dev/null
+"$top/xfs" xfs_db -x -c 'agf 0' -c 'write freeblks 5' "$work/volume.img" > /dev/null
+for streams in '<&-' '2>&-'; do trial "without a stream, $streams" 1 'damaged: law 5 at 0, *' sh -c "'$top/xfs' xfs_repair -n '$work/volume.img' $streams"; done
+for streams in '>&-' '> /dev/full' '> /dev/full 2>&1'; do trial "a line that can't be written, $streams" 1 '' sh -c "'$top/xfs' xfs_repair -n '$work/volume.img' $streams"; done
+trial 'a repair whose line can not be written' 1 '' sh -c "'$top/xfs' xfs_repair '$work/volume.img' >&-"
+trial 'is a repair' 0 clean "$top/xfs" xfs_repair "$work/volume.img"
+if [ "$(id -u)" = 0 ]; then
+  nobody=(setpriv --reuid=65534 --regid=65534 --clear-groups)
+  cp "$top/xfs" "$work/links/xfs"
+  chmod 755 "$work"
+  cp --sparse=always "$work/volume.img" "$work/denied.img"
+  chmod 0 "$work/denied.img"
+  trial 'a file that may not be read' 1 "xfs: $work/denied.img: Permission denied* / xfs: read fault: 1" "${nobody[@]}" "$work/links/xfs" xfs_repair "$work/denied.img"
+  chmod 444 "$work/denied.img"
+  trial 'a file that may only be read' 1 'xfs: write fault after 0 blocks' "${nobody[@]}" "$work/links/xfs" mkfs.xfs -f "$work/denied.img"
+  trial 'as it was' 0 clean "${nobody[@]}" "$work/links/xfs" xfs_repair -n "$work/denied.img"
+fi
 trial 'words that are refused name no file' 1 'xfs: usage: word 1' "$top/xfs" xfs_repair -q "$work/none"
 
 installed() { make -s -C "$top" -o xfs "$1" DESTDIR="$work/dest" PREFIX=/usr > "$work/make.log" 2>&1; }

@@ -9,11 +9,12 @@ protofile() { # COUNT: the names in the largest directory
   printf 'bytes ---644 3 4 %s\nempty ---600 0 0 %s\n' "$work/bytes" "$work/empty"
   printf 'short l--777 0 0 bytes\nlong l--777 0 0 %s\n' "$(printf 'd/%.0s' $(seq 1 160))"
   printf 'pipe p--600 0 0\nblock b--600 0 0 8 1\ncharacter c--600 0 0 5 1\nset -ug755 1 1 %s\n' "$work/empty"
-  local count name
+  local count name file
   for count in 0 3 24 60 400 "$1"; do
     printf 'names%d d--755 0 0\n' "$count"
     for ((name = 0; name < count; name++)); do
-      printf 'file-%06d-of-a-directory ---644 0 0 %s\n' "$name" "$([ $((name % 50)) = 0 ] && echo "$work/bytes" || echo "$work/empty")"
+      if ((name % 50)); then file=$work/empty; else file=$work/bytes; fi
+      printf 'file-%06d-of-a-directory ---644 0 0 %s\n' "$name" "$file"
     done
     printf '$\n'
   done
@@ -35,4 +36,23 @@ zeroed() { # IMAGE COMMAND..: its block to which xfs_db goes by these commands
   shift
   block=$(xfs_db -r "$@" -c daddr "$image" | sed 's/.* //')
   dd if=/dev/zero of="$image" bs=512 seek="$block" count=8 conv=notrunc status=none
+}
+# gives each path two attributes, the second too long to stand in its inode
+attributes() { # IMAGE PATH..
+  local image=$1 path inode
+  shift
+  for path in "$@"; do
+    inode=$(xfs_db -r -c "path $path" -c 'print v3.inumber' "$image" | sed 's/.*= //')
+    xfs_db -x -c "inode $inode" -c 'attr_set -v 20 few' -c 'attr_set -v 300 many' "$image" > /dev/null
+  done
+}
+# largest.img has a directory of many names, groups.img 16 groups, attributes.img two groups and attributes of both forms
+three_volumes() { # COUNT: the names in the largest directory
+  protofile "$1" > "$work/proto"
+  make_image "$work/largest.img" 600M "$work/proto"
+  protofile 2000 > "$work/proto"
+  make_image "$work/groups.img" 2G "$work/proto" -d agcount=16
+  protofile 700 > "$work/proto"
+  make_image "$work/attributes.img" 300M "$work/proto" -d agcount=2
+  attributes "$work/attributes.img" / /bytes /names3 /names24 /names60 /names400 /names700 /deep /deep/d1
 }
