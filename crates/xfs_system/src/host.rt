@@ -12,10 +12,11 @@ use std::alloc::{AllocError, Global};
 use std::env::Env;
 use std::fs::{OpenFile, OpenOptions};
 use std::io::{Error, ErrorKind, Read, Seek, Write};
+use std::os::unix::fs::FileTypeExt;
 use std::random::RandomSource;
 use std::rt::{Clock, Files};
 use std::time::{Duration, SystemTime, UNIX_EPOCH};
-use std::{io, str};
+use std::{fs, io, str};
 use xfs_disk::{Disk, FileDisk, Word};
 
 /// The system that the program runs on.
@@ -105,7 +106,11 @@ impl<R: Clock + RandomSource + Env + Files + AllocGlobal + Clone + Drop> Host fo
         hold_streams(self)
     }
 
+    /// A pipe is no disk: to open one would wait for who writes into it.
     fn open_name(&self, how: &OpenOptions, name: &str) -> io::Result<FileDisk<R::File>> {
+        if is_pipe(self, name) {
+            return Err(Error::from(ErrorKind::NotSeekable));
+        }
         disk_of(how.open(self, name)?)
     }
 
@@ -115,6 +120,14 @@ impl<R: Clock + RandomSource + Env + Files + AllocGlobal + Clone + Drop> Host fo
 
     fn has_in_use(&self, word: &Word) -> bool {
         is_image_in_use(self, word)
+    }
+}
+
+/// Whether the file of this name is a pipe.
+fn is_pipe<R: Files>(system: &R, name: &str) -> bool {
+    match fs::metadata(system, name) {
+        Ok(attributes) => attributes.file_type().is_fifo(),
+        Err(_) => false,
     }
 }
 
