@@ -12,19 +12,6 @@ work=$(mktemp -d)
 trap 'rm -rf "$work"' EXIT
 . "$top/examples/volumes.sh"
 
-# files of some blocks, 100 in a directory
-many() { # COUNT
-  local file
-  head -c 3000 /dev/urandom > "$work/few"
-  head -c 9000 /dev/urandom > "$work/more"
-  printf 'x 0 0\nd--755 0 0\n'
-  for ((file = 0; file < $1; file++)); do
-    ((file % 100)) || printf 'directory%d d--755 0 0\n' $((file / 100))
-    printf 'file%d ---644 0 0 %s\n' "$file" "$work/$([ $((file % 10)) = 0 ] && echo more || echo few)"
-    ((file % 100 - 99)) || printf '$\n'
-  done
-  printf '$\n'
-}
 # empty files, all in one directory
 wide() { # COUNT
   : > "$work/none"

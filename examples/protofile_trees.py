@@ -139,8 +139,8 @@ def long(tree):
 
 
 def links(tree):
-    """Symbolic links with targets of 1 to 1,024 bytes."""
-    for length in (1, 300, 335, 336, 337, 1023, 1024):
+    """Symbolic links with targets of 1 to 1,023 bytes: xfsprogs and kernels take no longer one, the format 1,024."""
+    for length in (1, 300, 335, 336, 337, 1022, 1023):
         tree.link(f"s{length}", "t" * length, uid=length)
 
 

@@ -1,6 +1,6 @@
 #!/usr/bin/env bash
 # Makes volumes with the files of protofiles by `xfs mkfs.xfs -p`: 20,000 small files in 400 MiB with 4 groups and in 1 GiB with 16; a
-# tree 200 deep; a directory of 50,000 names; names of 255 bytes; symbolic links of up to 1,024 bytes; devices and pipes; and a file of 3 GB
+# tree 200 deep; a directory of 50,000 names; names of 255 bytes; symbolic links of up to 1,023 bytes; devices and pipes; and a file of 3 GB
 # in 4 GiB with 4 groups. Of each `xfs xfs_repair -n` must say `clean` and xfs_repair -n of xfsprogs end with 0; each file, read by the format alone, must have
 # the mode, owners, size, and bytes, target or device that were asked for, and so xfs_db of xfsprogs must show some of them.
 # The names of trees can be given, to try just these. Needs xfsprogs and ./xfs; the large file needs 8 GiB of disk and much memory.

@@ -52,6 +52,9 @@ for bytes in 134213632 67108864 512 0; do
 done
 trial 'an empty file, to be made' 1 'xfs: too small: *' "$top/xfs" mkfs.xfs -f "$work/short.img"
 trial 'a device without blocks' 1 'xfs: no geometry' "$top/xfs" xfs_repair /dev/null
+mkfifo "$work/pipe"
+trial 'a pipe' 1 "xfs: $work/pipe: seek on unseekable file / xfs: read fault: 1" timeout 10 "$top/xfs" xfs_repair -n "$work/pipe"
+trial 'a pipe, to be written' 1 "xfs: $work/pipe: seek on unseekable file / xfs: read fault: 1" timeout 10 "$top/xfs" mkfs.xfs -f "$work/pipe"
 "$top/xfs" xfs_db -x -c 'agf 0' -c 'write freeblks 5' "$work/volume.img" > /dev/null
 for streams in '<&-' '2>&-'; do trial "without a stream, $streams" 1 'damaged: law 5 at 0, *' sh -c "'$top/xfs' xfs_repair -n '$work/volume.img' $streams"; done
 for streams in '>&-' '> /dev/full' '> /dev/full 2>&1'; do trial "a line that can't be written, $streams" 1 '' sh -c "'$top/xfs' xfs_repair -n '$work/volume.img' $streams"; done

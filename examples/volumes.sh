@@ -56,3 +56,16 @@ three_volumes() { # COUNT: the names in the largest directory
   make_image "$work/attributes.img" 300M "$work/proto" -d agcount=2
   attributes "$work/attributes.img" / /bytes /names3 /names24 /names60 /names400 /names700 /deep /deep/d1
 }
+# a protofile of files of some blocks, 100 in a directory; their bytes stand in $work
+many() { # COUNT
+  local file
+  head -c 3000 /dev/urandom > "$work/few"
+  head -c 9000 /dev/urandom > "$work/more"
+  printf 'x 0 0\nd--755 0 0\n'
+  for ((file = 0; file < $1; file++)); do
+    ((file % 100)) || printf 'directory%d d--755 0 0\n' $((file / 100))
+    printf 'file%d ---644 0 0 %s\n' "$file" "$work/$([ $((file % 10)) = 0 ] && echo more || echo few)"
+    ((file % 100 - 99)) || printf '$\n'
+  done
+  printf '$\n'
+}
