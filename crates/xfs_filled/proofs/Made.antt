@@ -1,5 +1,5 @@
 -- A directory as it is built is the one that its entries give, and it is sound.
-use Rattle.std.proofs.Common.{◌≡◌, ℕ, ◌+◌, ◌^◌, ◌≤◌, ◌&&◌, Bool, true, false, cond, nat_le, List, [], length, Some, None, arith, refl, sym, ap, ◌∙◌}
+use Rattle.std.proofs.Common.{◌≡◌, ℕ, ◌+◌, ◌^◌, ◌≤◌, ◌&&◌, Bool, true, false, cond, nat_le, List, [], length, Some, None, arith, refl, sym, subst, ap, ◌∙◌}
 use Rattle.std.specs.List.{All}
 use Rattle.std.proofs.lemmas.Bool.{and_parts, leb-true}
 use Rattle.xfs_dirbuild.specs.Blocks.{dir_blocks}
@@ -11,7 +11,7 @@ use Rattle.xfs_dirdata.specs.Written.{IsWritableEntry, short_length}
 use Rattle.xfs_dirdata.specs.declared.records.EntryRec.{EntryRec}
 use Rattle.xfs_geom.specs.Volumes.{Volume}
 use Rattle.xfs_proto.specs.declared.protofile.ProtoNode.{ProtoNode}
-use Rattle.xfs_filled.specs.Directories.{IsSoundDirectory, made_directory_at, made_directory, short_in}
+use Rattle.xfs_filled.specs.Directories.{HasDirectoryImage, IsSoundDirectory, made_directory_at, made_directory, short_in}
 use Rattle.xfs_filled.specs.Entries.{directories_in, entries_at, parent_of_place}
 use Rattle.xfs_filled.specs.FileTrees.{is_directory_node}
 use Rattle.xfs_filled.specs.Numbers.{number_of}
@@ -68,3 +68,9 @@ pub directory_is : (v : Volume) (starts : List ℕ) (ns : List ProtoNode) (k : �
 directory_is v starts ns k es dir parent made is are own above says =
     ap (λ (d : MadeDirectory). Some d) (says ∙ rw (are, own, above) refl)
     ∙ sym (ap (λ (t : Bool). cond t (Some (made_directory (entries_at v starts ns k) (number_of v starts k) (parent_of_place v starts ns k))) None) is)
+
+pub image_is : (v : Volume) (starts : List ℕ) (ns : List ProtoNode) (k : ℕ) (es : List EntryRec) (dir parent : ℕ) → es ≡ entries_at v starts ns k → dir ≡ number_of v starts k
+    → parent ≡ parent_of_place v starts ns k → HasDirectoryImage es dir parent → HasDirectoryImage (entries_at v starts ns k) (number_of v starts k) (parent_of_place v starts ns k)
+image_is v starts ns k es dir parent are own above has =
+    subst (λ (xs : List EntryRec). HasDirectoryImage xs (number_of v starts k) (parent_of_place v starts ns k)) are
+    (subst (λ (d : ℕ). HasDirectoryImage es d (parent_of_place v starts ns k)) own (subst (λ (p : ℕ). HasDirectoryImage es dir p) above has))

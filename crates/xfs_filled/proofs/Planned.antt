@@ -11,6 +11,7 @@ use Rattle.xfs_geom.specs.Volumes.{stated_volume, volume_of}
 use Rattle.xfs_geom.specs.Writing.{IsAcceptedSector}
 use Rattle.xfs_geom.specs.declared.geometry.Geometry.{Geometry}
 use Rattle.xfs_geom.specs.declared.records.Run.{Run}
+use Rattle.xfs_place.specs.Objects.{ServeAsks, asks_of}
 use Rattle.xfs_place.specs.Pool.{IsRunOf}
 use Rattle.xfs_place.specs.Wanted.{CanBeKept, FindsNoRoom, all_kept, kept_runs}
 use Rattle.xfs_place.specs.declared.faults.PlaceFault.{PlaceFault}
@@ -24,7 +25,7 @@ use Rattle.xfs_render.specs.Rendering.{IsReady, IsRendered}
 use Rattle.xfs_render.specs.declared.bytes.Bytes.{Bytes}
 use Rattle.xfs_render.specs.declared.plan.Plan.{Plan}
 use Rattle.xfs_filled.specs.Chunks.{chunk_starts, spared_list}
-use Rattle.xfs_filled.specs.Directories.{IsSoundWhere, made_directory_at}
+use Rattle.xfs_filled.specs.Directories.{HaveDirectoryImages, IsSoundWhere, made_directory_at}
 use Rattle.xfs_filled.specs.FileTrees.{object_order}
 use Rattle.xfs_filled.specs.Forks.{HasOffset}
 use Rattle.xfs_filled.specs.Planning.{IsFilledPlan}
@@ -81,14 +82,16 @@ module _ (g : Geometry) (starts : List ℕ) (ns : List ProtoNode) (contents : Li
   wanted_is : w ≡ filled_wanted g ns contents
   wanted_is = is ∙ ap (λ (xs : List ℕ). wanted_by_chunks g xs ns contents) are
 
-  pub plan_is : (sector : List ℕ) (s : Stamp) (p : Placed) (b : Bytes) (plan : Plan) → b ≡ bytes_with g sector s starts ns contents p.runs → StandsFor w p → IsRendered w p b plan
-      → IsFilledPlan g sector s ns contents plan
-  plan_is sector s p b plan made stands rendered =
+  pub plan_is : (sector : List ℕ) (s : Stamp) (p : Placed) (b : Bytes) (plan : Plan) → b ≡ bytes_with g sector s starts ns contents p.runs → StandsFor w p
+      → ServeAsks (asks_of w.objects) p.cuts p.runs → IsRendered w p b plan → IsFilledPlan g sector s ns contents plan
+  plan_is sector s p b plan made stands served rendered =
       record {
         placed = p;
+        served = subst (λ (x : Wanted). ServeAsks (asks_of x.objects) p.cuts p.runs) wanted_is served;
         stands = subst (λ (x : Wanted). StandsFor x p) wanted_is stands;
         rendered = subst (λ (x : Wanted). IsRendered x p (filled_bytes g sector s ns contents p.runs) plan) wanted_is
             (subst (λ (y : Bytes). IsRendered w p y plan) (bytes_are sector s p.runs b made) rendered);
+        images = subst (λ (xs : List ℕ). HaveDirectoryImages (volume_of g) xs ns) are site.images;
       }
 
   pub plan_inside : (p : Placed) (b : Bytes) (plan : Plan) → IsReady w p b → IsRendered w p b plan → All (λ place. place < g.dblocks) (planned plan)

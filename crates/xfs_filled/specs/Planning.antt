@@ -1,8 +1,10 @@
 -- The plan of a new volume with files.
 use Rattle.std.specs.Prelude.{◌≡◌, ℕ, ◌+◌, ◌≤◌, ◌<◌, ◌⊎◌, List, length}
 use Rattle.xfs_disk.specs.declared.stamp.Stamp.{Stamp}
+use Rattle.xfs_geom.specs.Volumes.{volume_of}
 use Rattle.xfs_geom.specs.declared.geometry.Geometry.{Geometry}
 use Rattle.xfs_place.specs.Chunks.{asked_rooms}
+use Rattle.xfs_place.specs.Objects.{ServeAsks, asks_of}
 use Rattle.xfs_place.specs.Wanted.{FindsNoRoom}
 use Rattle.xfs_place.specs.declared.faults.PlaceFault.{PlaceFault}
 use Rattle.xfs_place.specs.declared.faults.Unplaced.{Unplaced}
@@ -11,7 +13,8 @@ use Rattle.xfs_render.specs.Rendering.{IsRendered}
 use Rattle.xfs_render.specs.declared.plan.Plan.{Plan}
 use Rattle.xfs_empty.specs.Planning.{HasRoom, StandsFor}
 use Rattle.xfs_proto.specs.declared.protofile.ProtoNode.{ProtoNode}
-use Rattle.xfs_filled.specs.Chunks.{further_ask}
+use Rattle.xfs_filled.specs.Chunks.{chunk_starts, further_ask}
+use Rattle.xfs_filled.specs.Directories.{HaveDirectoryImages}
 use Rattle.xfs_filled.specs.Numbers.{chunk_count}
 use Rattle.xfs_filled.specs.Wanting.{filled_bytes, filled_wanted}
 
@@ -37,5 +40,7 @@ IsFilledCause g ns contents fault = (fault ≡ PlaceFault.NoMemory) ⊎ ((what :
 -- the plan of a new volume with these files, of which each regular one has these bytes, and with this superblock
 pub record IsFilledPlan (g : Geometry) (sector : List ℕ) (s : Stamp) (ns : List ProtoNode) (contents : List (List ℕ)) (plan : Plan) : Type 0 where
   pub placed : Placed
+  pub served : ServeAsks (asks_of (filled_wanted g ns contents).objects) placed.cuts placed.runs
   pub stands : StandsFor (filled_wanted g ns contents) placed
   pub rendered : IsRendered (filled_wanted g ns contents) placed (filled_bytes g sector s ns contents placed.runs) plan
+  pub images : HaveDirectoryImages (volume_of g) (chunk_starts g (length ns)) ns

@@ -4,7 +4,7 @@ use Rattle.std.specs.List.{All, range_with_len}
 use Rattle.xfs_geom.specs.Volumes.{volume_of}
 use Rattle.xfs_geom.specs.declared.geometry.Geometry.{Geometry}
 use Rattle.xfs_proto.specs.declared.protofile.ProtoNode.{ProtoNode}
-use Rattle.xfs_filled.specs.Directories.{IsSoundWhere, made_directory_at}
+use Rattle.xfs_filled.specs.Directories.{HaveDirectoryImages, IsSoundWhere, made_directory_at}
 use Rattle.xfs_filled.specs.FileTrees.{AreProtoNodes, object_order}
 use Rattle.xfs_filled.specs.declared.directories.MadeDirectory.{MadeDirectory}
 
@@ -22,4 +22,5 @@ pub record IsSite (g : Geometry) (starts : List ℕ) (ns : List ProtoNode) (cont
   pub bytes : length contents ≡ length ns
   pub built : directories ≡ map (made_directory_at (volume_of g) starts ns) (range_with_len 0 (length ns))
   pub sound : All IsSoundWhere directories
+  pub images : HaveDirectoryImages (volume_of g) starts ns
   pub order' : order ≡ object_order ns

@@ -1,13 +1,14 @@
 //! The directories of a new volume, built.
 
-ghost use Rattle.std.specs.Prelude.{◌≡◌, ◌≤◌, ◌<◌, ◌^◌, ◌+◌, length, map, Some, IfOk, IsTrue};
+ghost use Rattle.std.specs.Prelude.{◌≡◌, ◌≤◌, ◌<◌, ◌^◌, ◌+◌, length, map, true, Some, IfOk, OnOk, IsTrue};
 ghost use Rattle.std.specs.List.{All, range_with_len};
 ghost use Rattle.xfs_dirdata.specs.Written.{IsWritableEntry};
 ghost use Rattle.xfs_dirindex.specs.Data.{have_no_dots};
 ghost use Rattle.xfs_geom.specs.Volumes.{volume_of};
-ghost use Rattle.xfs_filled.specs.Directories.{IsSoundDirectory, IsSoundWhere, made_directory_at, made_directory};
-ghost use Rattle.xfs_filled.specs.Entries.{directories_in, entries_at};
-ghost use Rattle.xfs_filled.specs.FileTrees.{AreProtoNodes, is_directory_kind};
+ghost use Rattle.xfs_filled.specs.Directories.{HasDirectoryImage, HaveDirectoryImages, IsSoundDirectory, IsSoundWhere, made_directory_at, made_directory};
+ghost use Rattle.xfs_filled.specs.Entries.{directories_in, entries_at, parent_of_place};
+ghost use Rattle.xfs_filled.specs.FileTrees.{AreProtoNodes, is_directory_kind, is_directory_node};
+ghost use Rattle.xfs_filled.specs.Numbers.{number_of};
 ghost use Rattle.xfs_filled.specs.Sites.{AreChunksPlaced};
 
 use crate::entries::{EntryList, list_entries};
@@ -49,6 +50,7 @@ pub fn list_directories(
     requires files { AreProtoNodes nodes.now }
     ensures value { IfOk result (λ all. all.items ≡ map (made_directory_at (volume_of g.now) starts.now nodes.now) (range_with_len 0 (length nodes.now))) }
     ensures sound { IfOk result (λ all. All IsSoundWhere all.items) }
+    ensures images { OnOk result (HaveDirectoryImages (volume_of g.now) starts.now nodes.now) }
 {
     let entries = list_entries(alloc, g, starts, nodes)?;
     let mut all = Vec::new(alloc);
@@ -73,6 +75,8 @@ fn directory_at(
     requires inside { k < length nodes.now }
     ensures value { IfOk result (λ made. made ≡ made_directory_at (volume_of g.now) starts.now nodes.now k) }
     ensures sound { IfOk result IsSoundWhere }
+    ensures image { OnOk result (is_directory_node nodes.now k ≡ true
+        → HasDirectoryImage (entries_at (volume_of g.now) starts.now nodes.now k) (number_of (volume_of g.now) starts.now k) (parent_of_place (volume_of g.now) starts.now nodes.now k)) }
 {
     let node = &nodes[k];
     if !is_directory_kind(&node.kind) {
@@ -105,6 +109,7 @@ fn make_directory(
     requires parent { parent < 2 ^ 32 }
     ensures value { IfOk result (λ made. made ≡ made_directory entries.now dir parent) }
     ensures sound { IfOk result IsSoundDirectory }
+    ensures image { OnOk result (HasDirectoryImage entries.now dir parent) }
 {
     let image = build(alloc, entries, dir, parent, FORK_ROOM)?;
     let links = directory_links(entries);

@@ -9,7 +9,7 @@ use Rattle.xfs_proto.specs.declared.protofile.ProtoNode.{ProtoNode}
 use Rattle.xfs_filled.specs.Entries.{entries_at}
 use Rattle.xfs_filled.specs.FileTrees.{is_directory_kind, no_proto_node}
 use Rattle.xfs_filled.specs.Numbers.{number_of}
-use Rattle.xfs_filled.proofs.Made.{directory_is}
+use Rattle.xfs_filled.proofs.Made.{directory_is, image_is}
 use Rattle.xfs_filled.proofs.Entering.{entries_few, entries_no_dots, entries_writable, entries_listed}
 use Rattle.xfs_filled.proofs.directories.directory_at.Goals as goal
 
@@ -50,3 +50,15 @@ returns-clause-value c =
     (ap (λ (x : ProtoNode). is_directory_kind x.kind) (sym node) ∙ sym c.is_directory_kind.ensures ∙ c.if-not-is_directory_kind.false)
     (c.as_slice.ensures ∙ c.index-entries-k.is ∙ entries_listed v starts ns c.args.entries.now c.index-entries-k.result k c.requires.inside c.requires.entries)
     c.number_of-dir.ensures.value (c.number_of-parent.ensures.value ∙ ap (λ (x : ProtoNode). number_of v starts x.parent) node) c.in_ok-made.ensures.value
+
+pub returns-clause-image : goal.returns-clause-image
+returns-clause-image c =
+    let v = volume_of c.args.g.now in
+    let starts = c.args.starts.now in
+    let ns = c.args.nodes.now in
+    let k = c.args.k in
+    let node : c.index-nodes-k.result ≡ get_or ns k no_proto_node = c.index-nodes-k.is ∙ get_or_default ns k c.index-nodes-k.result no_proto_node c.requires.inside in
+    λ is.
+    image_is v starts ns k c.as_slice.result.now c.number_of-dir.result c.number_of-parent.result
+    (c.as_slice.ensures ∙ c.index-entries-k.is ∙ entries_listed v starts ns c.args.entries.now c.index-entries-k.result k c.requires.inside c.requires.entries)
+    c.number_of-dir.ensures.value (c.number_of-parent.ensures.value ∙ ap (λ (x : ProtoNode). number_of v starts x.parent) node) c.in_ok-made.ensures.image

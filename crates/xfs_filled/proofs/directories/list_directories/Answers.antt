@@ -1,15 +1,30 @@
-use Rattle.std.proofs.Common.{◌++◌, List, Option, [], ◌∷◌, zero, suc, arith, sym, subst, ap₂, ◌∙◌}
+use Rattle.std.proofs.Common.{◌≡◌, inl, inr, ℕ, ◌+◌, ◌<◌, true, ◌++◌, List, Option, [], ◌∷◌, zero, suc, arith, sym, subst, ap₂, ◌∙◌}
 use Rattle.std.specs.List.{All}
+use Rattle.std.proofs.lemmas.Bool.{cases_lt}
 use Rattle.std.proofs.lemmas.List.Elements.{All-append}
 use Rattle.std.proofs.lemmas.List.FromFn.{map-range_with_len_more}
-use Rattle.xfs_geom.specs.Volumes.{volume_of}
-use Rattle.xfs_filled.specs.Directories.{IsSoundWhere, made_directory_at}
+use Rattle.xfs_geom.specs.Volumes.{Volume, volume_of}
+use Rattle.xfs_proto.specs.declared.protofile.ProtoNode.{ProtoNode}
+use Rattle.xfs_filled.specs.Directories.{HasDirectoryImage, IsSoundWhere, made_directory_at}
+use Rattle.xfs_filled.specs.Entries.{entries_at, parent_of_place}
+use Rattle.xfs_filled.specs.FileTrees.{is_directory_node}
+use Rattle.xfs_filled.specs.Numbers.{number_of}
 use Rattle.xfs_filled.specs.declared.directories.MadeDirectory.{MadeDirectory}
 use Rattle.xfs_filled.proofs.directories.list_directories.Goals as goal
 
 one_sound : (d : Option MadeDirectory) → IsSoundWhere d → All IsSoundWhere (d ∷ [])
 one_sound d sound zero e low = sound
 one_sound d sound (suc k) e low = absurd (omega (arith, low))
+
+abbrev IsBuiltAt : Volume → List ℕ → List ProtoNode → ℕ → Type 0
+IsBuiltAt v starts ns k = is_directory_node ns k ≡ true → HasDirectoryImage (entries_at v starts ns k) (number_of v starts k) (parent_of_place v starts ns k)
+
+next_image : (v : Volume) (starts : List ℕ) (ns : List ProtoNode) (k j : ℕ) → j < k + 1 → ((i : ℕ) → i < k → IsBuiltAt v starts ns i) → IsBuiltAt v starts ns k → IsBuiltAt v starts ns j
+next_image v starts ns k j low first last =
+    elim (cases_lt j k) [
+      | inl less ↦ first j less
+      | inr far ↦ let same : k ≡ j = omega (arith, far, low) in subst (IsBuiltAt v starts ns) same last
+    ]
 
 pub loop-k-preserved : goal.loop-k-preserved
 loop-k-preserved c =
@@ -21,4 +36,9 @@ loop-k-preserved c =
       all = c.in_ok-push.ensures.items ∙ ap₂ (λ (xs : List (Option MadeDirectory)) (x : Option MadeDirectory). xs ++ x ∷ []) c.loop-k.invariant.all c.in_ok-directory_at.ensures.value
           ∙ sym (map-range_with_len_more f 0 k k (omega arith));
       sound = subst (All IsSoundWhere) (sym c.in_ok-push.ensures.items) (All-append IsSoundWhere now (made ∷ []) c.loop-k.invariant.sound (one_sound made c.in_ok-directory_at.ensures.sound));
+      images = λ j low. next_image (volume_of c.args.g.now) c.args.starts.now c.args.nodes.now c.loop-k.k j low c.loop-k.invariant.images c.in_ok-directory_at.ensures.image;
     }
+
+pub returns-clause-images : goal.returns-clause-images
+returns-clause-images c =
+    record { each = λ j low is. let done = c.loop-k-test.false in c.loop-k.invariant.images j (omega (arith, low, done)) is }

@@ -26,3 +26,22 @@ returns-clause-sound c =
     let indexes = says.index in
     let frees = says.free in
     subst IsSoundDirectory (sym value) (made_sound es c.args.dir c.args.parent c.requires.writable c.requires.few (omega (arith, long, count, datas, indexes, frees)))
+
+pub returns-clause-image : goal.returns-clause-image
+returns-clause-image c =
+    let says = c.in_ok-image.ensures in
+    record {
+      image = c.in_ok-image.image;
+      is = record {
+        short_bytes_are = says.short_bytes;
+        short_reads = says.short;
+        short_none = says.none;
+        data_count = says.data;
+        index_count = says.index;
+        free_count = says.free;
+        count = says.blocks;
+        blocks_are = says.bytes;
+        magics = says.magics;
+        whole = says.whole;
+      };
+    }

@@ -18,5 +18,6 @@ plan_site-requires-clause-site g c = λ κs lives.
       bytes = c.requires.contents;
       built = c.deref.ensures.value ∙ c.in_ok-directories.ensures.value;
       sound = subst (All IsSoundWhere) (sym c.deref.ensures.value) c.in_ok-directories.ensures.sound;
+      images = c.in_ok-directories.ensures.images;
       order' = c.deref-2.ensures.value ∙ c.in_ok-order.ensures;
     }

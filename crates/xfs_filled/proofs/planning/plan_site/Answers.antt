@@ -67,7 +67,7 @@ returns-clause-rendered g c =
       pool = c.in_ok-placed.ensures.pool;
       counts' = c.in_ok-placed.ensures.counts;
     })
-    c.in_ok-plan.ensures
+    c.in_ok-placed.ensures.cuts c.in_ok-plan.ensures
 
 pub returns-clause-inside : goal.returns-clause-inside
 returns-clause-inside g c =
