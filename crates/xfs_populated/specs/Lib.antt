@@ -1,0 +1,5 @@
+pub mod Populated
+pub mod FilledSlots
+pub mod Names
+pub mod Bytes
+pub mod Volumes
