@@ -17,6 +17,7 @@ use Rattle.xfs_empty.specs.Placing.{empty_wanted}
 use Rattle.xfs_empty.specs.Planning.{HasRoom, IsEmptyPlan}
 use Rattle.xfs_filled.specs.Planning.{HoldsFiles, IsFilledPlan, LacksRoom}
 use Rattle.xfs_made.specs.Volumes.{IsMadeVolume}
+use Rattle.xfs_populated.specs.Volumes.{IsFilledVolume}
 use Rattle.xfs_mkfs.specs.Due.{IsGeometry, refusal}
 use Rattle.xfs_mkfs.specs.FilesAsked.{IsAsked, IsFilesRefusal}
 use Rattle.xfs_mkfs.specs.Putting.{IsPut, IsPutPartly}
@@ -137,12 +138,12 @@ IsMakingCause faults_before faults writes_before writes library_before library (
 IsMakingCause faults_before faults writes_before writes library_before library Out.NoMemory = Unit {0}
 IsMakingCause faults_before faults writes_before writes library_before library (Out.Unbuilt request) = Unit {0}
 
--- what is said of the volume that a disk holds: of an empty one all, of one with files its plan alone
+-- the volume that a disk holds is the one that was made: with none but its root, or with files, each regular one of which has its bytes
 abbrev pub SaysVolume : Geometry → Stamp → FilesAsked → Option Image → Type 0
 SaysVolume g s Root now = ForSome now (IsMadeVolume g s)
-SaysVolume g s (Listed nodes contents) now = Unit {0}
+SaysVolume g s (Listed nodes contents) now = ForSome now (IsFilledVolume g s nodes contents)
 
--- the volume was made on a disk that held an image: its plan was written; what the disk then holds of an empty one says just that and is consistent
+-- the volume was made on a disk that held an image: its plan was written, and what the disk then holds says just that volume and is consistent
 pub record IsMade (o : MakeOptions) (s : Stamp) (told : Option Files) (blocks : ℕ) (image : Image) (now : Option Image) (summary : MadeSummary) : Type 0 where
   pub geometry : Geometry
   pub asked : FilesAsked
