@@ -6,16 +6,7 @@
 #   examples/make-volumes.sh
 set -eu
 top=$(cd "$(dirname "$0")/.." && pwd)
-work=$(mktemp -d)
-trap 'rm -rf "$work"' EXIT
-failed=0
-judge() { # NAME COMMAND..: tells the command's last line, and fails where the command does
-  local name=$1 said status=0
-  shift
-  said=$("$@" 2>&1) || status=$?
-  printf '  %-18s %s\n' "$name" "$(printf '%s\n' "$said" | tail -1)"
-  if [ "$status" -ne 0 ]; then printf '%s\n' "$said"; failed=1; fi
-}
+. "$top/examples/judge.sh"
 for row in '64M 2 small' '300M 4 three-hundred' '1G 16 one-gigabyte' '16G 64 sixteen'; do
   read -r size groups label <<< "$row"
   image=$work/$label.img

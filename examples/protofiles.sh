@@ -8,16 +8,7 @@
 #   examples/protofiles.sh [small|deep|names|long|links|devices|large]..
 set -eu
 top=$(cd "$(dirname "$0")/.." && pwd)
-work=$(mktemp -d)
-trap 'rm -rf "$work"' EXIT
-failed=0
-judge() { # NAME COMMAND..: tells the command's last line, and fails where the command does
-  local name=$1 said status=0
-  shift
-  said=$("$@" 2>&1) || status=$?
-  printf '  %-18s %s\n' "$name" "$(printf '%s\n' "$said" | tail -1 | sed 's/^ *//')"
-  if [ "$status" -ne 0 ]; then printf '%s\n' "$said" | tail -20; failed=1; fi
-}
+. "$top/examples/judge.sh"
 try() { # TREE SIZE GROUPS
   local tree=$1 size=$2 groups=$3 image=$work/image
   if [ "${#asked[@]}" -gt 0 ] && [[ " ${asked[*]} " != *" $tree "* ]]; then return; fi
