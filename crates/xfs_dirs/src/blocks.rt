@@ -37,6 +37,7 @@ pub fn read_extents<D: Disk, L: Ledger>(
     ensures order { IfOk result (λ gathered. BlocksInOrder gathered.kept) }
     ensures cause { HasDirCause (D.faults disk.old) (D.faults disk.new) result }
     ensures disk { OnlyReads D.size D.holds D.write_faults D.writes D.tells_stops D.moment D.may_leave D.left_since disk.old disk.new }
+    ensures reads { D.reads disk.new + steps.old ≤ D.reads disk.old + steps.new }
 {
     let mut gathered = Gathered::new(alloc);
     for extent in extents {
@@ -65,6 +66,7 @@ fn read_extent<D: Disk, L: Ledger>(
     ensures below { OnOk result (AreBelow gathered.new.kept (extent.now.offset + extent.now.count)) }
     ensures cause { HasDirCause (D.faults disk.old) (D.faults disk.new) result }
     ensures disk { OnlyReads D.size D.holds D.write_faults D.writes D.tells_stops D.moment D.may_leave D.left_since disk.old disk.new }
+    ensures reads { D.reads disk.new + steps.old ≤ D.reads disk.old + steps.new }
 {
     let start = start_of(g, extent);
     let mut block = [0; BLOCK_SIZE];

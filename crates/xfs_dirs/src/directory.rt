@@ -1,6 +1,6 @@
 //! A directory, read from a disk.
 
-ghost use Rattle.std.specs.Prelude.{◌≡◌, ◌≤◌, true, None, length, unwrap_or, IfOk};
+ghost use Rattle.std.specs.Prelude.{◌≡◌, ◌+◌, ◌≤◌, true, None, length, unwrap_or, IfOk};
 ghost use Rattle.std.specs.Option.{ForSome};
 ghost use Rattle.xfs_geom.specs.Volumes.{volume_of};
 ghost use Rattle.xfs_disk.specs.Reads.{OnlyReads};
@@ -42,6 +42,7 @@ pub fn read_directory<D: Disk, L: Ledger>(
     ensures whole { IfOk result (λ found. ForSome (D.holds disk.old) (λ image. found.whole ≡ is_whole (volume_of g.now) image file.now)) }
     ensures cause { HasDirCause (D.faults disk.old) (D.faults disk.new) result }
     ensures disk { OnlyReads D.size D.holds D.write_faults D.writes D.tells_stops D.moment D.may_leave D.left_since disk.old disk.new }
+    ensures reads { D.reads disk.new + steps.old ≤ D.reads disk.old + steps.new }
 {
     if file.core.format == 1 {
         return match read_form(alloc, file.ino, file.core.size, slot) {

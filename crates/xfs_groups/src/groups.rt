@@ -1,6 +1,6 @@
 //! All groups of a volume.
 
-ghost use Rattle.std.specs.Prelude.{◌≡◌, ◌/◌, ◌<◌, ◌≤◌, ◌++◌, ◌∷◌, [], Ok, IfOk, IsTrue};
+ghost use Rattle.std.specs.Prelude.{◌≡◌, ◌+◌, ◌/◌, ◌<◌, ◌≤◌, ◌++◌, ◌∷◌, [], Ok, IfOk, IsTrue};
 ghost use Rattle.std.specs.Option.{ForSome};
 ghost use Rattle.xfs_geom.specs.Conversions.{group_length};
 ghost use Rattle.xfs_geom.specs.Volumes.{volume_of};
@@ -57,6 +57,7 @@ pub fn see_groups<D: Disk, L: Ledger>(
     ensures root { IfOk result (λ seen. IsTrue (has_root_cluster (volume_of g.now) seen.clusters)) }
     ensures cause { HasGroupsCause (D.faults disk.old) (D.faults disk.new) result }
     ensures disk { OnlyReads D.size D.holds D.write_faults D.writes D.tells_stops D.moment D.may_leave D.left_since disk.old disk.new }
+    ensures reads { D.reads disk.new + steps.old ≤ D.reads disk.old + steps.new }
 {
     let mut all = no_groups(alloc);
     for ag in 0..g.agcount {
@@ -98,6 +99,7 @@ fn add_group<D: Disk, L: Ledger>(
     ensures placed { IfOk result (λ new. WithPlaced (volume_of g.now) ag (group_length (volume_of g.now) ag / 4) all.clusters new.clusters) }
     ensures cause { HasGroupsCause (D.faults disk.old) (D.faults disk.new) result }
     ensures disk { OnlyReads D.size D.holds D.write_faults D.writes D.tells_stops D.moment D.may_leave D.left_since disk.old disk.new }
+    ensures reads { D.reads disk.new + steps.old ≤ D.reads disk.old + steps.new }
 {
     let seen = match see_group(alloc, g, disk, ag, steps) {
         Ok(seen) => seen,

@@ -43,6 +43,7 @@ pub(crate) fn read_heads<D: Disk, L: Ledger>(
     ensures agi_shaped { IfOk result (λ heads. IfSome heads.agi (λ agi. IsTrue (is_agi_shaped (volume_of g.now) ag agi))) }
     ensures cause { HasCause (D.faults disk.old) (D.faults disk.new) result }
     ensures disk { OnlyReads D.size D.holds D.write_faults D.writes D.tells_stops D.moment D.may_leave D.left_since disk.old disk.new }
+    ensures reads { D.reads disk.new + steps.old ≤ D.reads disk.old + steps.new }
     ensures ticks { steps.new ≡ steps.old + 1 }
 {
     let mut block = [0; BLOCK_SIZE];
@@ -95,6 +96,7 @@ pub(crate) fn read_block<D: Disk, L: Ledger>(
     ensures whole { length block.new ≡ 4096 }
     ensures cause { HasCause (D.faults disk.old) (D.faults disk.new) result }
     ensures disk { OnlyReads D.size D.holds D.write_faults D.writes D.tells_stops D.moment D.may_leave D.left_since disk.old disk.new }
+    ensures reads { D.reads disk.new + steps.old ≤ D.reads disk.old + steps.new }
     ensures ticks { steps.new ≡ steps.old + 1 }
 {
     steps.tick();

@@ -74,6 +74,7 @@ pub(crate) fn look<D: Disk, L: Ledger>(
     ensures seen { IfOk result (λ seen. ForSome (D.holds disk.old) (λ image. IsSeen (volume_of g.now) image place seen)) }
     ensures cause { HasCause (D.faults disk.old) (D.faults disk.new) result }
     ensures disk { OnlyReads D.size D.holds D.write_faults D.writes D.tells_stops D.moment D.may_leave D.left_since disk.old disk.new }
+    ensures reads { D.reads disk.new + steps.old ≤ D.reads disk.old + steps.new }
     ensures ticks { steps.new ≡ steps.old + 1 }
 {
     let mut block = [0; BLOCK_SIZE];
@@ -95,6 +96,7 @@ pub(crate) fn look_whole<D: Disk, L: Ledger>(
     ensures whole { IfOk result (λ whole. ForSome (D.holds disk.old) (λ image. whole ≡ has_whole_seal (volume_of g.now) image place)) }
     ensures cause { HasCause (D.faults disk.old) (D.faults disk.new) result }
     ensures disk { OnlyReads D.size D.holds D.write_faults D.writes D.tells_stops D.moment D.may_leave D.left_since disk.old disk.new }
+    ensures reads { D.reads disk.new + steps.old ≤ D.reads disk.old + steps.new }
     ensures ticks { steps.new ≡ steps.old + 1 }
 {
     let mut block = [0; BLOCK_SIZE];

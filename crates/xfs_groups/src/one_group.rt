@@ -1,6 +1,6 @@
 //! One group of a volume.
 
-ghost use Rattle.std.specs.Prelude.{◌≡◌, ◌^◌, ◌/◌, ◌<◌, ◌≤◌, ◌||◌, ℕ, IfOk, IfSome};
+ghost use Rattle.std.specs.Prelude.{◌≡◌, ◌^◌, ◌/◌, ◌<◌, ◌≤◌, ◌||◌, ℕ, ◌+◌, IfOk, IfSome};
 ghost use Rattle.std.specs.List.{All};
 ghost use Rattle.std.specs.Option.{ForSome};
 ghost use Rattle.xfs_disk.specs.Lists.{is_among};
@@ -81,6 +81,7 @@ pub(crate) fn see_group<D: Disk, L: Ledger>(
     ensures placed { IfOk result (λ seen. ClustersPlaced (volume_of g.now) ag (group_length (volume_of g.now) ag / 4) seen.clusters.items) }
     ensures cause { HasGroupsCause (D.faults disk.old) (D.faults disk.new) result }
     ensures disk { OnlyReads D.size D.holds D.write_faults D.writes D.tells_stops D.moment D.may_leave D.left_since disk.old disk.new }
+    ensures reads { D.reads disk.new + steps.old ≤ D.reads disk.old + steps.new }
 {
     let group = match read_group(alloc, g, disk, ag, steps) {
         Ok(group) => group,
@@ -120,6 +121,7 @@ fn read_group<D: Disk, L: Ledger>(
     ensures told { IfOk result (λ group. ForSome (D.holds disk.old) (λ image. IsGroupTold (volume_of g.now) image ag group)) }
     ensures cause { HasGroupsCause (D.faults disk.old) (D.faults disk.new) result }
     ensures disk { OnlyReads D.size D.holds D.write_faults D.writes D.tells_stops D.moment D.may_leave D.left_since disk.old disk.new }
+    ensures reads { D.reads disk.new + steps.old ≤ D.reads disk.old + steps.new }
 {
     let heads = match read_heads(g, disk, ag, steps) {
         Ok(heads) => heads,
@@ -196,6 +198,7 @@ fn look_through<D: Disk, L: Ledger>(
     ensures placed { IfOk result (λ found. ClustersPlaced (volume_of g.now) ag (group_length (volume_of g.now) ag / 4) found.clusters.items) }
     ensures cause { HasGroupsCause (D.faults disk.old) (D.faults disk.new) result }
     ensures disk { OnlyReads D.size D.holds D.write_faults D.writes D.tells_stops D.moment D.may_leave D.left_since disk.old disk.new }
+    ensures reads { D.reads disk.new + steps.old ≤ D.reads disk.old + steps.new }
 {
     if !told.trusted {
         return scan_group(alloc, g, disk, ag, &told.named, &told.held, steps);

@@ -37,6 +37,7 @@ pub(crate) fn recorded_clusters<D: Disk, L: Ledger>(
     ensures placed { IfOk result (λ clusters. ClustersPlaced (volume_of g.now) ag (group_length (volume_of g.now) ag / 4) clusters.items) }
     ensures cause { HasGroupsCause (D.faults disk.old) (D.faults disk.new) result }
     ensures disk { OnlyReads D.size D.holds D.write_faults D.writes D.tells_stops D.moment D.may_leave D.left_since disk.old disk.new }
+    ensures reads { D.reads disk.new + steps.old ≤ D.reads disk.old + steps.new }
 {
     let start = g.start_of_group(ag);
     let mut clusters = Vec::new(alloc);
@@ -69,6 +70,7 @@ fn is_chosen<D: Disk, L: Ledger>(
     ensures root { IfOk result (λ is. cluster ≡ root_cluster (volume_of g.now) → is ≡ true) }
     ensures cause { HasCause (D.faults disk.old) (D.faults disk.new) result }
     ensures disk { OnlyReads D.size D.holds D.write_faults D.writes D.tells_stops D.moment D.may_leave D.left_since disk.old disk.new }
+    ensures reads { D.reads disk.new + steps.old ≤ D.reads disk.old + steps.new }
 {
     if cluster == root_cluster(g) {
         return Ok(true);
@@ -95,6 +97,7 @@ fn are_clear<D: Disk, L: Ledger>(
     ensures clear { IfOk result (λ clear. ForSome (D.holds disk.old) (λ image. clear ≡ are_clear (volume_of g.now) image first count)) }
     ensures cause { HasCause (D.faults disk.old) (D.faults disk.new) result }
     ensures disk { OnlyReads D.size D.holds D.write_faults D.writes D.tells_stops D.moment D.may_leave D.left_since disk.old disk.new }
+    ensures reads { D.reads disk.new + steps.old ≤ D.reads disk.old + steps.new }
 {
     for k in 0..count {
         match can_hold_cluster(g, disk, first + k, steps) {
@@ -118,6 +121,7 @@ fn can_hold_cluster<D: Disk, L: Ledger>(
     ensures clear { IfOk result (λ clear. ForSome (D.holds disk.old) (λ image. clear ≡ can_hold_cluster (volume_of g.now) image block)) }
     ensures cause { HasCause (D.faults disk.old) (D.faults disk.new) result }
     ensures disk { OnlyReads D.size D.holds D.write_faults D.writes D.tells_stops D.moment D.may_leave D.left_since disk.old disk.new }
+    ensures reads { D.reads disk.new + steps.old ≤ D.reads disk.old + steps.new }
     ensures ticks { steps.new ≤ steps.old + 1 }
 {
     if g.is_fixed(block) {

@@ -56,6 +56,7 @@ pub(crate) fn scan_group<D: Disk, L: Ledger>(
     ensures placed { IfOk result (λ found. ClustersPlaced (volume_of g.now) ag (group_length (volume_of g.now) ag / 4) found.clusters.items) }
     ensures cause { HasGroupsCause (D.faults disk.old) (D.faults disk.new) result }
     ensures disk { OnlyReads D.size D.holds D.write_faults D.writes D.tells_stops D.moment D.may_leave D.left_since disk.old disk.new }
+    ensures reads { D.reads disk.new + steps.old ≤ D.reads disk.old + steps.new }
 {
     let start = g.start_of_group(ag);
     let blocks = g.group_length(ag);
@@ -104,6 +105,7 @@ fn scan_cluster<D: Disk, L: Ledger>(
     ensures root { OnOk result (WithCluster (volume_of g.now) named.now cluster all.old.clusters.items all.new.clusters.items) }
     ensures cause { HasGroupsCause (D.faults disk.old) (D.faults disk.new) result }
     ensures disk { OnlyReads D.size D.holds D.write_faults D.writes D.tells_stops D.moment D.may_leave D.left_since disk.old disk.new }
+    ensures reads { D.reads disk.new + steps.old ≤ D.reads disk.old + steps.new }
 {
     let seen = match look_at(g, disk, held, cluster, 4, &mut all.reserved, steps) {
         Ok(seen) => seen,
@@ -143,6 +145,7 @@ fn look_at<D: Disk, L: Ledger>(
         reserved.new.items ≡ reserved.old.items ++ withheld (volume_of g.now) image false held.now first count)) }
     ensures cause { HasGroupsCause (D.faults disk.old) (D.faults disk.new) result }
     ensures disk { OnlyReads D.size D.holds D.write_faults D.writes D.tells_stops D.moment D.may_leave D.left_since disk.old disk.new }
+    ensures reads { D.reads disk.new + steps.old ≤ D.reads disk.old + steps.new }
 {
     let mut all = ClusterSeen {
         used: false,

@@ -1,6 +1,6 @@
 //! The five trees of a group.
 
-ghost use Rattle.std.specs.Prelude.{◌≡◌, ◌<◌, ◌≤◌, IfOk, IfSome, IsTrue};
+ghost use Rattle.std.specs.Prelude.{◌≡◌, ◌+◌, ◌<◌, ◌≤◌, IfOk, IfSome, IsTrue};
 ghost use Rattle.std.specs.Option.{ForSome, option_and_then};
 ghost use Rattle.xfs_geom.specs.Volumes.{volume_of};
 ghost use Rattle.xfs_heads.specs.FreeSpace.{is_agf_shaped};
@@ -93,6 +93,7 @@ pub(crate) fn read_trees<D: Disk, L: Ledger>(
     ensures rmap { IfOk result (λ trees. ForSome (D.holds disk.old) (λ image. trees.rmap ≡ option_and_then (rmap_at (volume_of g.now) image ag) heads.now.agf)) }
     ensures cause { HasGroupsCause (D.faults disk.old) (D.faults disk.new) result }
     ensures disk { OnlyReads D.size D.holds D.write_faults D.writes D.tells_stops D.moment D.may_leave D.left_since disk.old disk.new }
+    ensures reads { D.reads disk.new + steps.old ≤ D.reads disk.old + steps.new }
 {
     let bno = match read_bno(alloc, g, disk, ag, &heads.agf, steps) {
         Ok(tree) => tree,
@@ -137,6 +138,7 @@ fn read_bno<D: Disk, L: Ledger>(
     ensures read { IfOk result (λ tree. ForSome (D.holds disk.old) (λ image. tree ≡ option_and_then (bno_at (volume_of g.now) image ag) agf.now)) }
     ensures cause { HasGroupsCause (D.faults disk.old) (D.faults disk.new) result }
     ensures disk { OnlyReads D.size D.holds D.write_faults D.writes D.tells_stops D.moment D.may_leave D.left_since disk.old disk.new }
+    ensures reads { D.reads disk.new + steps.old ≤ D.reads disk.old + steps.new }
 {
     match agf {
         None => Ok(None),
@@ -168,6 +170,7 @@ fn read_cnt<D: Disk, L: Ledger>(
     ensures read { IfOk result (λ tree. ForSome (D.holds disk.old) (λ image. tree ≡ option_and_then (cnt_at (volume_of g.now) image ag) agf.now)) }
     ensures cause { HasGroupsCause (D.faults disk.old) (D.faults disk.new) result }
     ensures disk { OnlyReads D.size D.holds D.write_faults D.writes D.tells_stops D.moment D.may_leave D.left_since disk.old disk.new }
+    ensures reads { D.reads disk.new + steps.old ≤ D.reads disk.old + steps.new }
 {
     match agf {
         None => Ok(None),
@@ -199,6 +202,7 @@ fn read_ino<D: Disk, L: Ledger>(
     ensures read { IfOk result (λ tree. ForSome (D.holds disk.old) (λ image. tree ≡ option_and_then (ino_at (volume_of g.now) image ag) agi.now)) }
     ensures cause { HasGroupsCause (D.faults disk.old) (D.faults disk.new) result }
     ensures disk { OnlyReads D.size D.holds D.write_faults D.writes D.tells_stops D.moment D.may_leave D.left_since disk.old disk.new }
+    ensures reads { D.reads disk.new + steps.old ≤ D.reads disk.old + steps.new }
 {
     match agi {
         None => Ok(None),
@@ -221,6 +225,7 @@ fn read_fino<D: Disk, L: Ledger>(
     ensures read { IfOk result (λ tree. ForSome (D.holds disk.old) (λ image. tree ≡ option_and_then (fino_at (volume_of g.now) image ag) agi.now)) }
     ensures cause { HasGroupsCause (D.faults disk.old) (D.faults disk.new) result }
     ensures disk { OnlyReads D.size D.holds D.write_faults D.writes D.tells_stops D.moment D.may_leave D.left_since disk.old disk.new }
+    ensures reads { D.reads disk.new + steps.old ≤ D.reads disk.old + steps.new }
 {
     match agi {
         None => Ok(None),
@@ -252,6 +257,7 @@ fn read_rmap<D: Disk, L: Ledger>(
     ensures read { IfOk result (λ tree. ForSome (D.holds disk.old) (λ image. tree ≡ option_and_then (rmap_at (volume_of g.now) image ag) agf.now)) }
     ensures cause { HasGroupsCause (D.faults disk.old) (D.faults disk.new) result }
     ensures disk { OnlyReads D.size D.holds D.write_faults D.writes D.tells_stops D.moment D.may_leave D.left_since disk.old disk.new }
+    ensures reads { D.reads disk.new + steps.old ≤ D.reads disk.old + steps.new }
 {
     match agf {
         None => Ok(None),
@@ -285,6 +291,7 @@ fn read_at<K: Kind, D: Disk, L: Ledger>(
     ensures read { IfOk result (λ tree. ForSome (D.holds disk.old) (λ image. tree ≡ tree_at (K.shape kind.now) (volume_of g.now) image ag root levels)) }
     ensures cause { HasGroupsCause (D.faults disk.old) (D.faults disk.new) result }
     ensures disk { OnlyReads D.size D.holds D.write_faults D.writes D.tells_stops D.moment D.may_leave D.left_since disk.old disk.new }
+    ensures reads { D.reads disk.new + steps.old ≤ D.reads disk.old + steps.new }
 {
     match read_tree(
         alloc,

@@ -46,7 +46,29 @@ pub fn decide_file(
     ensures read { IfOk result (λ read. read ≡ file_read (volume_of g.now) ino slot.now (option_map contents_of (option_copied tree.entry)) (option_copied attr_leaf.entry) (option_copied link.entry)) }
     ensures sound { IfOk result (λ read. IsSound (volume_of g.now) ino read) }
 {
-    by_slot(alloc, g, ino, slot, tree, attr_leaf, link)
+    let read = read_slot(g, ino, slot);
+    decide_read(alloc, g, ino, slot, &read, tree, attr_leaf, link)
+}
+
+/// The same of a slot that reads so by itself.
+pub fn decide_read(
+    alloc: Global,
+    g: &Geometry,
+    ino: u64,
+    slot: &[u8],
+    read: &SlotRead,
+    tree: Option<&Tree<Bmbt>>,
+    attr_leaf: Option<&[u8]>,
+    link: Option<&[u8]>,
+) -> Result<FileRead, NoMemory>
+    requires slot { length slot.now ≡ 512 }
+    requires read { read.now ≡ slot_read (volume_of g.now) ino slot.now }
+    requires attr_leaf { IfSome (option_copied attr_leaf) (λ block. length block ≡ 4096) }
+    requires link { IfSome (option_copied link) (λ block. length block ≡ 4096) }
+    ensures read { IfOk result (λ file. file ≡ file_read (volume_of g.now) ino slot.now (option_map contents_of (option_copied tree.entry)) (option_copied attr_leaf.entry) (option_copied link.entry)) }
+    ensures sound { IfOk result (λ file. IsSound (volume_of g.now) ino file) }
+{
+    by_slot(alloc, g, ino, slot, read, tree, attr_leaf, link)
 }
 
 /// What a slot reads as by itself, or where it is in use with the blocks that it names.
@@ -56,20 +78,22 @@ fn by_slot(
     g: &Geometry,
     ino: u64,
     slot: &[u8],
+    read: &SlotRead,
     tree: Option<&Tree<Bmbt>>,
     attr_leaf: Option<&[u8]>,
     link: Option<&[u8]>,
 ) -> Result<FileRead, NoMemory>
     requires slot { length slot.now ≡ 512 }
+    requires read { read.now ≡ slot_read (volume_of g.now) ino slot.now }
     requires attr_leaf { IfSome (option_copied attr_leaf) (λ block. length block ≡ 4096) }
     requires link { IfSome (option_copied link) (λ block. length block ≡ 4096) }
-    ensures { IfOk result (λ read. read ≡ file_read (volume_of g.now) ino slot.now (option_map contents_of (option_copied tree.entry)) (option_copied attr_leaf.entry) (option_copied link.entry)) }
+    ensures { IfOk result (λ file. file ≡ file_read (volume_of g.now) ino slot.now (option_map contents_of (option_copied tree.entry)) (option_copied attr_leaf.entry) (option_copied link.entry)) }
 {
-    match read_slot(g, ino, slot) {
+    match read {
         SlotRead::Unsound => Ok(FileRead::Unsound),
         SlotRead::Free => Ok(FileRead::Free),
-        SlotRead::Unsupported { what } => Ok(FileRead::Unsupported { what }),
-        SlotRead::InUse(core) => used_file(alloc, g, ino, &core, slot, tree, attr_leaf, link),
+        SlotRead::Unsupported { what } => Ok(FileRead::Unsupported { what: *what }),
+        SlotRead::InUse(core) => used_file(alloc, g, ino, core, slot, tree, attr_leaf, link),
     }
 }
 

@@ -40,7 +40,7 @@ mod support;
 
 pub use deciding::decide_file;
 pub use faults::InodeFault;
-pub use file_reading::read_file;
+pub use file_reading::{read_file, read_file_of};
 pub use files::FileRead;
 pub use forks::fork_bytes;
 pub use named::Needs;

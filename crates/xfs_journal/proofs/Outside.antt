@@ -1,8 +1,8 @@
 -- What stands in a block that an image does not have.
-use Rattle.std.proofs.Common.{◌≡◌, ℕ, ◌≤◌, List, [], length, drop, slice_get, Option, Some, None, true, eqb, refl, subst, ap, ◌∙◌, arith}
+use Rattle.std.proofs.Common.{◌≡◌, ℕ, ◌≤◌, Bool, List, [], length, drop, slice_get, Option, Some, None, true, false, eqb, refl, sym, subst, ap, ◌∙◌, arith}
 use Rattle.std.proofs.lemmas.Option.{get_or_from_slice_get}
 use Rattle.std.proofs.lemmas.List.{drop_all, get_or_past}
-use Rattle.std.proofs.lemmas.Bool.{eqb-true}
+use Rattle.std.proofs.lemmas.Bool.{eq-eqb, eqb-true}
 use Rattle.std.specs.Option.{option_eq}
 use Rattle.xfs_word.specs.Field.{field_of}
 use Rattle.xfs_disk.specs.Blocks.{Image, bytes_of_block}
@@ -26,3 +26,15 @@ read_bytes image at block is = get_or_from_slice_get image at block [] is
 pub is_held : (image : Image) (held : Option ℕ) (block : ℕ) (bytes : List ℕ) → option_eq eqb held (Some block) ≡ true → HoldsBlock image held bytes → bytes_of_block image block ≡ bytes
 is_held image None block bytes same holds = cc
 is_held image (Some at) block bytes same holds = subst (λ (b : ℕ). bytes_of_block image b ≡ bytes) (eqb-true at block same) holds
+
+-- a block that is asked is held, where the test says so
+pub is_asked : (held : Option ℕ) (block : ℕ) → option_eq eqb held (Some block) ≡ true → held ≡ Some block
+is_asked None block same = cc
+is_asked (Some at) block same = ap Some (eqb-true at block same)
+
+-- and else it is not
+pub not_asked : (held : Option ℕ) (block a b : ℕ) → option_eq eqb held (Some block) ≡ false → held ≡ Some block → a ≡ b
+not_asked held block a b other same = apart (option_eq eqb held (Some block)) (subst (λ (h : Option ℕ). option_eq eqb h (Some block) ≡ true) (sym same) (eq-eqb block block refl)) other
+  where
+    apart : (test : Bool) → test ≡ true → test ≡ false → a ≡ b
+    apart test is other = cc

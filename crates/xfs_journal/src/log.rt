@@ -40,6 +40,7 @@ pub fn read_log<D: Disk, L: Ledger>(
     ensures state { IfOk result (λ state. ForSome (D.holds disk.old) (λ image. state ≡ log_of (volume_of g.now) image)) }
     ensures cause { HasJournalCause (D.faults disk.old) (D.faults disk.new) result }
     ensures disk { OnlyReads D.size D.holds D.write_faults D.writes D.tells_stops D.moment D.may_leave D.left_since disk.old disk.new }
+    ensures reads { D.reads disk.new + steps.old ≤ D.reads disk.old + steps.new }
 {
     match see_log(alloc, g, disk, steps) {
         Ok(seen) => Ok(log_state(&seen)),
@@ -58,6 +59,7 @@ fn see_log<D: Disk, L: Ledger>(
     ensures seen { IfOk result (λ seen. ForSome (D.holds disk.old) (λ image. seen.items ≡ map seen_of (log_sectors (volume_of g.now) image))) }
     ensures cause { HasJournalCause (D.faults disk.old) (D.faults disk.new) result }
     ensures disk { OnlyReads D.size D.holds D.write_faults D.writes D.tells_stops D.moment D.may_leave D.left_since disk.old disk.new }
+    ensures reads { D.reads disk.new + steps.old ≤ D.reads disk.old + steps.new }
 {
     let mut seen = Vec::new(alloc);
     let mut block = [0; BLOCK_SIZE];
@@ -90,6 +92,7 @@ fn read_block<D: Disk, L: Ledger>(
     ensures cause { HasCause (D.faults disk.old) (D.faults disk.new) result }
     ensures disk { OnlyReads D.size D.holds D.write_faults D.writes D.tells_stops D.moment D.may_leave D.left_since disk.old disk.new }
     ensures ticks { steps.new ≡ steps.old + 1 }
+    ensures reads { D.reads disk.new ≤ D.reads disk.old + 1 }
 {
     steps.tick();
     match disk.read(log_block(g, i), block) {

@@ -1,6 +1,6 @@
 //! The log sequence numbers of a volume, read from a disk.
 
-ghost use Rattle.std.specs.Prelude.{◌≡◌, ◌+◌, ◌^◌, ◌<◌, ◌≤◌, ◌++◌, [], ◌∷◌, length, map, IfOk, OnOk};
+ghost use Rattle.std.specs.Prelude.{◌≡◌, ◌+◌, ◌^◌, ◌<◌, ◌≤◌, ◌++◌, [], ◌∷◌, Some, length, map, IfOk, OnOk};
 ghost use Rattle.std.specs.List.{All};
 ghost use Rattle.std.specs.Option.{ForSome};
 ghost use Rattle.xfs_word.specs.Field.{field_of};
@@ -43,6 +43,7 @@ pub fn read_lsns<D: Disk, L: Ledger>(
     ensures lsns { IfOk result (λ lsns. ForSome (D.holds disk.old) (λ image. lsns ≡ lsns_read (volume_of g.now) image groups.now files.now)) }
     ensures cause { HasJournalCause (D.faults disk.old) (D.faults disk.new) result }
     ensures disk { OnlyReads D.size D.holds D.write_faults D.writes D.tells_stops D.moment D.may_leave D.left_since disk.old disk.new }
+    ensures reads { D.reads disk.new + steps.old ≤ D.reads disk.old + steps.new }
 {
     let places = match ordered_places(alloc, g, groups, clusters, files) {
         Ok(places) => places,
@@ -83,6 +84,7 @@ fn read_places<D: Disk, L: Ledger>(
     ensures lsns { IfOk result (λ lsns. ForSome (D.holds disk.old) (λ image. lsns.items ≡ map (lsn_at image) (listed places.now))) }
     ensures cause { HasJournalCause (D.faults disk.old) (D.faults disk.new) result }
     ensures disk { OnlyReads D.size D.holds D.write_faults D.writes D.tells_stops D.moment D.may_leave D.left_since disk.old disk.new }
+    ensures reads { D.reads disk.new + steps.old ≤ D.reads disk.old + steps.new }
 {
     let size = match disk.blocks() {
         Ok(size) => size,
@@ -138,6 +140,7 @@ fn read_lsn<D: Disk, L: Ledger>(
     ensures cause { HasCause (D.faults disk.old) (D.faults disk.new) result }
     ensures disk { OnlyReads D.size D.holds D.write_faults D.writes D.tells_stops D.moment D.may_leave D.left_since disk.old disk.new }
     ensures ticks { steps.new ≤ steps.old + 1 }
+    ensures reads { D.reads disk.new + steps.old ≤ D.reads disk.old + steps.new }
 {
     if place.block >= size {
         return Ok(0);
@@ -162,6 +165,9 @@ fn hold<D: Disk, L: Ledger>(
     ensures cause { HasCause (D.faults disk.old) (D.faults disk.new) result }
     ensures disk { OnlyReads D.size D.holds D.write_faults D.writes D.tells_stops D.moment D.may_leave D.left_since disk.old disk.new }
     ensures ticks { steps.new ≤ steps.old + 1 }
+    ensures once { held.old.block ≡ Some block → steps.new ≡ steps.old }
+    ensures stays { OnOk result (held.new.block ≡ Some block) }
+    ensures reads { D.reads disk.new + steps.old ≤ D.reads disk.old + steps.new }
 {
     if held.block == Some(block) {
         return Ok(());

@@ -1,6 +1,6 @@
 //! The evidence of a volume, gathered from a disk.
 
-ghost use Rattle.std.specs.Prelude.{◌≡◌, ◌≤◌, IfOk};
+ghost use Rattle.std.specs.Prelude.{◌≡◌, ◌+◌, ◌≤◌, IfOk};
 ghost use Rattle.std.specs.Option.{ForSome};
 ghost use Rattle.xfs_geom.specs.Volumes.{volume_of};
 ghost use Rattle.xfs_disk.specs.Reads.{OnlyReads};
@@ -43,6 +43,7 @@ pub fn gather<D: Disk, L: Ledger>(
     ensures refused { ForSome (D.holds disk.old) (λ image. HasRefused (refused (volume_of g.now) image) result) }
     ensures cause { HasScanCause (D.faults disk.old) (D.faults disk.new) result }
     ensures disk { OnlyReads D.size D.holds D.write_faults D.writes D.tells_stops D.moment D.may_leave D.left_since disk.old disk.new }
+    ensures reads { D.reads disk.new + steps.old ≤ D.reads disk.old + steps.new }
 {
     let seen = match see_groups(alloc, g, disk, steps) {
         Ok(seen) => seen,
@@ -74,6 +75,7 @@ fn gather_files<D: Disk, L: Ledger>(
     ensures refused { ForSome (D.holds disk.old) (λ image. HasRefused (refused_late (volume_of g.now) image) result) }
     ensures cause { HasScanCause (D.faults disk.old) (D.faults disk.new) result }
     ensures disk { OnlyReads D.size D.holds D.write_faults D.writes D.tells_stops D.moment D.may_leave D.left_since disk.old disk.new }
+    ensures reads { D.reads disk.new + steps.old ≤ D.reads disk.old + steps.new }
 {
     let scanned = match scan(alloc, g, disk, seen.clusters.as_slice(), steps) {
         Ok(scanned) => scanned,
@@ -112,6 +114,7 @@ fn gather_view<D: Disk, L: Ledger>(
     ensures evidence { IfOk result (λ e. ForSome (D.holds disk.old) (λ image. IsEvidence g.now image e)) }
     ensures cause { HasReadCause (D.faults disk.old) (D.faults disk.new) result }
     ensures disk { OnlyReads D.size D.holds D.write_faults D.writes D.tells_stops D.moment D.may_leave D.left_since disk.old disk.new }
+    ensures reads { D.reads disk.new + steps.old ≤ D.reads disk.old + steps.new }
 {
     let log = match read_log(alloc, g, disk, steps) {
         Ok(log) => log,

@@ -1,6 +1,6 @@
 //! The candidate clusters, read from a disk.
 
-ghost use Rattle.std.specs.Prelude.{◌≡◌, ◌<◌, ◌≤◌, ◌++◌, map, IfOk, OnOk};
+ghost use Rattle.std.specs.Prelude.{◌≡◌, ◌+◌, ◌<◌, ◌≤◌, ◌++◌, map, IfOk, OnOk};
 ghost use Rattle.std.specs.List.{All, flat_map};
 ghost use Rattle.std.specs.Option.{ForSome};
 ghost use Rattle.xfs_geom.specs.Volumes.{volume_of};
@@ -17,7 +17,7 @@ use std::sync::ledger::Ledger;
 use xfs_disk::{BLOCK_SIZE, Disk, Failed, NoMemory};
 use xfs_geom::Geometry;
 use xfs_runs::Steps;
-use xfs_slots::{Inodes, PartFault, SlotFact, blocks_of_candidates, push_facts, see_block};
+use xfs_slots::{Inodes, PartFault, SlotFact, blocks_of_candidates, take_block};
 use xfs_volume::ClusterRec;
 
 /// What is kept of the slots of clusters, and what they give.
@@ -41,6 +41,7 @@ pub fn scan<D: Disk, L: Ledger>(
     ensures inodes { IfOk result (λ scanned. ForSome (D.holds disk.old) (λ image. held_in scanned.inodes ≡ gathered (volume_of g.now) image (flat_map (λ (c : ClusterRec). cluster_inodes (volume_of g.now) c.block) clusters.now))) }
     ensures cause { HasReadCause (D.faults disk.old) (D.faults disk.new) result }
     ensures disk { OnlyReads D.size D.holds D.write_faults D.writes D.tells_stops D.moment D.may_leave D.left_since disk.old disk.new }
+    ensures reads { D.reads disk.new + steps.old ≤ D.reads disk.old + steps.new }
 {
     let blocks = match blocks_of_candidates(alloc, clusters, g.dblocks) {
         Ok(blocks) => blocks,
@@ -70,6 +71,7 @@ fn scan_blocks<D: Disk, L: Ledger>(
     ensures inodes { OnOk result (ForSome (D.holds disk.old) (λ image. held_in inodes.new ≡ gathered_both (held_in inodes.old) (gathered (volume_of g.now) image (inodes_of_blocks (volume_of g.now) blocks.now)))) }
     ensures cause { HasReadCause (D.faults disk.old) (D.faults disk.new) result }
     ensures disk { OnlyReads D.size D.holds D.write_faults D.writes D.tells_stops D.moment D.may_leave D.left_since disk.old disk.new }
+    ensures reads { D.reads disk.new + steps.old ≤ D.reads disk.old + steps.new }
 {
     for block in blocks {
         match scan_block(alloc, g, disk, *block, slots, inodes, steps) {
@@ -96,6 +98,7 @@ fn scan_block<D: Disk, L: Ledger>(
     ensures inodes { OnOk result (ForSome (D.holds disk.old) (λ image. held_in inodes.new ≡ gathered_both (held_in inodes.old) (gathered (volume_of g.now) image (inodes_of_block (volume_of g.now) block)))) }
     ensures cause { HasReadCause (D.faults disk.old) (D.faults disk.new) result }
     ensures disk { OnlyReads D.size D.holds D.write_faults D.writes D.tells_stops D.moment D.may_leave D.left_since disk.old disk.new }
+    ensures reads { D.reads disk.new + steps.old ≤ D.reads disk.old + steps.new }
 {
     let mut bytes = [0; BLOCK_SIZE];
     steps.tick();
@@ -103,11 +106,7 @@ fn scan_block<D: Disk, L: Ledger>(
         Ok(()) => {}
         Err(Failed) => return Err(PartFault::ReadFault),
     }
-    match push_facts(g, block, &bytes, slots) {
-        Ok(()) => {}
-        Err(NoMemory) => return Err(PartFault::NoMemory),
-    }
-    match see_block(alloc, g, disk, block, &bytes, inodes, steps) {
+    match take_block(alloc, g, disk, block, &bytes, slots, inodes, steps) {
         Ok(()) => Ok(()),
         Err(fault) => Err(fault),
     }

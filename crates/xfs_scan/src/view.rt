@@ -59,6 +59,7 @@ pub fn see_view<D: Disk, L: Ledger>(
     ensures files { IfOk result (SeesInodes inodes) }
     ensures cause { HasReadCause (D.faults disk.old) (D.faults disk.new) result }
     ensures disk { OnlyReads D.size D.holds D.write_faults D.writes D.tells_stops D.moment D.may_leave D.left_since disk.old disk.new }
+    ensures reads { D.reads disk.new + steps.old ≤ D.reads disk.old + steps.new }
 {
     match groups {
         Err(found) => Ok(apart(inodes, Err(found))),
@@ -88,6 +89,7 @@ fn see_with_groups<D: Disk, L: Ledger>(
     ensures files { IfOk result (SeesInodes inodes) }
     ensures cause { HasReadCause (D.faults disk.old) (D.faults disk.new) result }
     ensures disk { OnlyReads D.size D.holds D.write_faults D.writes D.tells_stops D.moment D.may_leave D.left_since disk.old disk.new }
+    ensures reads { D.reads disk.new + steps.old ≤ D.reads disk.old + steps.new }
 {
     if groups.as_slice().len() > MOST_GROUPS {
         return Err(PartFault::NoMemory);
@@ -127,6 +129,7 @@ fn see_same<D: Disk, L: Ledger>(
     ensures files { IfOk result (SeesInodes inodes) }
     ensures cause { HasReadCause (D.faults disk.old) (D.faults disk.new) result }
     ensures disk { OnlyReads D.size D.holds D.write_faults D.writes D.tells_stops D.moment D.may_leave D.left_since disk.old disk.new }
+    ensures reads { D.reads disk.new + steps.old ≤ D.reads disk.old + steps.new }
 {
     match inodes.unread {
         Some(place) => return Ok(apart(inodes, Err(missing(place)))),
@@ -157,6 +160,7 @@ fn see_recorded<D: Disk, L: Ledger>(
     ensures view { IfOk result (λ seen. ForSome (D.holds disk.old) (λ image. seen ≡ view g.now image)) }
     ensures cause { HasReadCause (D.faults disk.old) (D.faults disk.new) result }
     ensures disk { OnlyReads D.size D.holds D.write_faults D.writes D.tells_stops D.moment D.may_leave D.left_since disk.old disk.new }
+    ensures reads { D.reads disk.new + steps.old ≤ D.reads disk.old + steps.new }
 {
     let inodes = match see_clusters(alloc, g, disk, clusters, steps) {
         Ok(inodes) => inodes,
@@ -217,6 +221,7 @@ fn build_view<D: Disk, L: Ledger>(
     ensures files { IfOk result (λ catalog. SeesInodes inodes (Seen.Whole catalog)) }
     ensures cause { HasReadCause (D.faults disk.old) (D.faults disk.new) result }
     ensures disk { OnlyReads D.size D.holds D.write_faults D.writes D.tells_stops D.moment D.may_leave D.left_since disk.old disk.new }
+    ensures reads { D.reads disk.new + steps.old ≤ D.reads disk.old + steps.new }
 {
     let lsns = match read_lsns(
         alloc,
@@ -257,6 +262,7 @@ fn read_counts<D: Disk, L: Ledger>(
     ensures counts { IfOk result (λ counts. ForSome (D.holds disk.old) (λ image. counts ≡ counts_of image)) }
     ensures cause { HasCause (D.faults disk.old) (D.faults disk.new) result }
     ensures disk { OnlyReads D.size D.holds D.write_faults D.writes D.tells_stops D.moment D.may_leave D.left_since disk.old disk.new }
+    ensures reads { D.reads disk.new + steps.old ≤ D.reads disk.old + steps.new }
     ensures ticks { steps.new ≡ steps.old + 1 }
 {
     let mut block = [0; BLOCK_SIZE];
@@ -299,6 +305,7 @@ fn see_clusters<D: Disk, L: Ledger>(
     ensures inodes { IfOk result (λ inodes. ForSome (D.holds disk.old) (λ image. held_in inodes ≡ gathered (volume_of g.now) image (flat_map (cluster_inodes (volume_of g.now)) clusters.now))) }
     ensures cause { HasReadCause (D.faults disk.old) (D.faults disk.new) result }
     ensures disk { OnlyReads D.size D.holds D.write_faults D.writes D.tells_stops D.moment D.may_leave D.left_since disk.old disk.new }
+    ensures reads { D.reads disk.new + steps.old ≤ D.reads disk.old + steps.new }
 {
     let blocks = match blocks_of(alloc, clusters) {
         Ok(blocks) => blocks,
@@ -325,6 +332,7 @@ fn look_at<D: Disk, L: Ledger>(
     ensures held { OnOk result (ForSome (D.holds disk.old) (λ image. held_in inodes.new ≡ gathered_both (held_in inodes.old) (gathered (volume_of g.now) image (inodes_of_blocks (volume_of g.now) blocks.now)))) }
     ensures cause { HasReadCause (D.faults disk.old) (D.faults disk.new) result }
     ensures disk { OnlyReads D.size D.holds D.write_faults D.writes D.tells_stops D.moment D.may_leave D.left_since disk.old disk.new }
+    ensures reads { D.reads disk.new + steps.old ≤ D.reads disk.old + steps.new }
 {
     for block in blocks {
         match look_at_block(alloc, g, disk, *block, inodes, steps) {
@@ -349,6 +357,7 @@ fn look_at_block<D: Disk, L: Ledger>(
     ensures held { OnOk result (ForSome (D.holds disk.old) (λ image. held_in inodes.new ≡ gathered_both (held_in inodes.old) (gathered (volume_of g.now) image (inodes_of_block (volume_of g.now) block)))) }
     ensures cause { HasReadCause (D.faults disk.old) (D.faults disk.new) result }
     ensures disk { OnlyReads D.size D.holds D.write_faults D.writes D.tells_stops D.moment D.may_leave D.left_since disk.old disk.new }
+    ensures reads { D.reads disk.new + steps.old ≤ D.reads disk.old + steps.new }
 {
     if block >= g.dblocks {
         inodes.pass(first_inode(g, block), None);

@@ -7,8 +7,7 @@
 //! `xfs_scan` takes up the block of a cluster so:
 //!
 //! ```text
-//! push_facts(g, block, bytes, &mut slots)?;               // of each slot by itself
-//! see_block(alloc, g, disk, block, bytes, &mut inodes, steps)?; // the files that they give
+//! take_block(alloc, g, disk, block, bytes, &mut slots, &mut inodes, steps)?; // of each slot by itself, and the files that they give
 //! ```
 #![tactic(auto)]
 
@@ -21,8 +20,8 @@ mod recorded;
 mod slots;
 
 pub use blocks::{blocks_of, blocks_of_candidates};
-pub use clusters::see_block;
-pub use facts::{SlotFact, SlotReading, push_facts};
+pub use clusters::{see_block, take_block};
+pub use facts::{SlotFact, SlotReading};
 pub use faults::PartFault;
 pub use inodes::{InodeFeature, Inodes};
 pub use recorded::clusters_of;

@@ -1,10 +1,11 @@
 //! The slots of inodes, read one by one (chapter "On-disk Inode").
 
-ghost use Rattle.std.specs.Prelude.{◌≡◌, ◌≤◌, [], ◌∷◌, true, Some, None, length, OnOk};
+ghost use Rattle.std.specs.Prelude.{◌≡◌, ◌+◌, ◌≤◌, [], ◌∷◌, true, Some, None, length, OnOk};
 ghost use Rattle.std.specs.Option.{ForSome};
 ghost use Rattle.xfs_geom.specs.Volumes.{volume_of};
 ghost use Rattle.xfs_disk.specs.Reads.{OnlyReads};
 ghost use Rattle.xfs_inode.specs.Files.{are_extents};
+ghost use Rattle.xfs_inode.specs.Slots.{slot_read};
 ghost use Rattle.xfs_inode.specs.Sound.{IsSound};
 ghost use Rattle.xfs_volume.specs.Names.{is_directory};
 ghost use Rattle.xfs_image.specs.Slots.{slot_bytes};
@@ -18,14 +19,14 @@ use std::sync::ledger::Ledger;
 use xfs_dirs::{DirFound, DirectoryFault, read_directory};
 use xfs_disk::{Disk, NoMemory};
 use xfs_geom::Geometry;
-use xfs_inode::{FileRead, InodeFault, read_file};
+use xfs_inode::{FileRead, InodeFault, SlotRead, read_file_of};
 use xfs_runs::Steps;
 use xfs_volume::{DirRec, FileRec};
 
 /// The type of a directory, in the upper four bits of a mode.
 const DIRECTORY: u16 = 4;
 
-/// Takes up the slot of an inode, of 512 bytes.
+/// Takes up the slot of an inode, of 512 bytes, that reads so by itself.
 #[tactic(auto, unfolding(xfs_image::specs::Slots::reads_as))]
 pub fn see_slot<D: Disk, L: Ledger>(
     alloc: Global,
@@ -33,18 +34,21 @@ pub fn see_slot<D: Disk, L: Ledger>(
     disk: &mut D,
     ino: u64,
     slot: &[u8],
+    read: &SlotRead,
     inodes: &mut Inodes,
     steps: &mut Steps<L>,
 ) -> Result<(), PartFault>
     requires slot { length slot.now ≡ 512 }
+    requires itself { read.now ≡ slot_read (volume_of g.now) ino slot.now }
     requires inside { g.now.dblocks ≤ D.size disk.old }
     requires held { ForSome (D.holds disk.old) (λ image. slot_bytes (volume_of g.now) image ino ≡ slot.now) }
     ensures held { OnOk result (ForSome (D.holds disk.old) (λ image. held_in inodes.new ≡ gathered_both (held_in inodes.old) (of_slot (volume_of g.now) image ino))) }
     ensures cause { HasReadCause (D.faults disk.old) (D.faults disk.new) result }
     ensures disk { OnlyReads D.size D.holds D.write_faults D.writes D.tells_stops D.moment D.may_leave D.left_since disk.old disk.new }
+    ensures reads { D.reads disk.new + steps.old ≤ D.reads disk.old + steps.new }
 {
-    match read_file(alloc, g, disk, ino, slot, steps) {
-        Ok(read) => take_read(alloc, g, disk, ino, slot, read, inodes, steps),
+    match read_file_of(alloc, g, disk, ino, slot, read, steps) {
+        Ok(file) => take_read(alloc, g, disk, ino, slot, file, inodes, steps),
         Err(InodeFault::ReadFault) => Err(PartFault::ReadFault),
         Err(InodeFault::NoMemory) => Err(PartFault::NoMemory),
     }
@@ -68,6 +72,7 @@ fn take_read<D: Disk, L: Ledger>(
     ensures held { OnOk result (ForSome (D.holds disk.old) (λ image. held_in inodes.new ≡ gathered_both (held_in inodes.old) (of_read (volume_of g.now) image ino read))) }
     ensures cause { HasReadCause (D.faults disk.old) (D.faults disk.new) result }
     ensures disk { OnlyReads D.size D.holds D.write_faults D.writes D.tells_stops D.moment D.may_leave D.left_since disk.old disk.new }
+    ensures reads { D.reads disk.new + steps.old ≤ D.reads disk.old + steps.new }
 {
     match read {
         FileRead::Free => Ok(()),
@@ -101,6 +106,7 @@ fn take_bare<D: Disk, L: Ledger>(
     ensures held { OnOk result (ForSome (D.holds disk.old) (λ image. held_in inodes.new ≡ gathered_both (held_in inodes.old) (of_file (volume_of g.now) image file (file.ino ∷ []) (Some file.ino)))) }
     ensures cause { HasReadCause (D.faults disk.old) (D.faults disk.new) result }
     ensures disk { OnlyReads D.size D.holds D.write_faults D.writes D.tells_stops D.moment D.may_leave D.left_since disk.old disk.new }
+    ensures reads { D.reads disk.new + steps.old ≤ D.reads disk.old + steps.new }
 {
     match note_bare(file.ino, inodes) {
         Ok(()) => take_file(alloc, g, disk, slot, file, inodes, steps),
@@ -134,6 +140,7 @@ fn take_file<D: Disk, L: Ledger>(
     ensures held { OnOk result (ForSome (D.holds disk.old) (λ image. held_in inodes.new ≡ gathered_both (held_in inodes.old) (of_file (volume_of g.now) image file [] None))) }
     ensures cause { HasReadCause (D.faults disk.old) (D.faults disk.new) result }
     ensures disk { OnlyReads D.size D.holds D.write_faults D.writes D.tells_stops D.moment D.may_leave D.left_since disk.old disk.new }
+    ensures reads { D.reads disk.new + steps.old ≤ D.reads disk.old + steps.new }
 {
     match take_directory(alloc, g, disk, slot, &file, inodes, steps) {
         Ok(()) => {}
@@ -170,6 +177,7 @@ fn take_directory<D: Disk, L: Ledger>(
     ensures held { OnOk result (ForSome (D.holds disk.old) (λ image. held_in inodes.new ≡ gathered_both (held_in inodes.old) (of_directory (volume_of g.now) image file.now))) }
     ensures cause { HasReadCause (D.faults disk.old) (D.faults disk.new) result }
     ensures disk { OnlyReads D.size D.holds D.write_faults D.writes D.tells_stops D.moment D.may_leave D.left_since disk.old disk.new }
+    ensures reads { D.reads disk.new + steps.old ≤ D.reads disk.old + steps.new }
 {
     if !is_directory(file) {
         return Ok(());

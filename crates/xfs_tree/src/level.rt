@@ -46,6 +46,7 @@ pub(crate) fn read_nodes<K: Kind, D: Disk, L: Ledger>(
     ensures met { OnOk result (IsMet met.new) }
     ensures cause { HasTreeCause (D.faults disk.old) (D.faults disk.new) result }
     ensures disk { OnlyReads D.size D.holds D.write_faults D.writes D.tells_stops D.moment D.may_leave D.left_since disk.old disk.new }
+    ensures reads { D.reads disk.new + steps.old ≤ D.reads disk.old + steps.new }
 {
     let mut next = Vec::new(alloc);
     let mut left = None;
@@ -90,6 +91,7 @@ pub(crate) fn read_leaves<K: Kind, D: Disk, L: Ledger>(
     ensures met { OnOk result (IsMet met.new) }
     ensures cause { HasTreeCause (D.faults disk.old) (D.faults disk.new) result }
     ensures disk { OnlyReads D.size D.holds D.write_faults D.writes D.tells_stops D.moment D.may_leave D.left_since disk.old disk.new }
+    ensures reads { D.reads disk.new + steps.old ≤ D.reads disk.old + steps.new }
 {
     let mut records = Vec::new(alloc);
     let mut left = None;
@@ -143,6 +145,7 @@ fn enter<K: Kind, D: Disk, L: Ledger>(
     ensures met { OnOk result (IsMet met.new) }
     ensures cause { HasTreeCause (D.faults disk.old) (D.faults disk.new) result }
     ensures disk { OnlyReads D.size D.holds D.write_faults D.writes D.tells_stops D.moment D.may_leave D.left_since disk.old disk.new }
+    ensures reads { D.reads disk.new + steps.old ≤ D.reads disk.old + steps.new }
     ensures ticks { steps.new ≤ steps.old + 1 }
 {
     let place = seat.place;

@@ -1,6 +1,6 @@
 //! Reading a tree from a disk, level by level, each block once.
 
-ghost use Rattle.std.specs.Prelude.{◌≡◌, ℕ, ◌-◌, ◌≤◌, [], ◌∷◌, List, Ok, OnOk, MatchResult};
+ghost use Rattle.std.specs.Prelude.{◌≡◌, ℕ, ◌+◌, ◌-◌, ◌≤◌, [], ◌∷◌, List, Ok, OnOk, MatchResult};
 ghost use Rattle.std.specs.Option.{ForSome};
 ghost use Rattle.xfs_geom.specs.Volumes.{volume_of};
 ghost use Rattle.xfs_tree.specs.Answers.{Fails, HasTreeCause};
@@ -40,6 +40,7 @@ pub fn read_tree<K: Kind, D: Disk, L: Ledger>(
         (λ error. Fails error (reading (K.shape kind.now) (volume_of g.now) image (root_seat root ∷ []) (levels - 1)))) }
     ensures cause { HasTreeCause (D.faults disk.old) (D.faults disk.new) result }
     ensures disk { OnlyReads D.size D.holds D.write_faults D.writes D.tells_stops D.moment D.may_leave D.left_since disk.old disk.new }
+    ensures reads { D.reads disk.new + steps.old ≤ D.reads disk.old + steps.new }
 {
     let mut row = Vec::new(alloc);
     match push_root(root, &mut row) {
@@ -64,6 +65,7 @@ pub fn read_below<K: Kind, D: Disk, L: Ledger>(
         (λ error. Fails error (reading (K.shape kind.now) (volume_of g.now) image (seats_of top.now.places.items top.now.lows.items top.now.highs.items) top.now.level))) }
     ensures cause { HasTreeCause (D.faults disk.old) (D.faults disk.new) result }
     ensures disk { OnlyReads D.size D.holds D.write_faults D.writes D.tells_stops D.moment D.may_leave D.left_since disk.old disk.new }
+    ensures reads { D.reads disk.new + steps.old ≤ D.reads disk.old + steps.new }
 {
     match top.seats(alloc) {
         Ok(row) => read_levels(alloc, kind, g, disk, row, top.level, steps),
@@ -87,6 +89,7 @@ fn read_levels<K: Kind, D: Disk, L: Ledger>(
         (λ error. Fails error (reading (K.shape kind.now) (volume_of g.now) image tops.items height))) }
     ensures cause { HasTreeCause (D.faults disk.old) (D.faults disk.new) result }
     ensures disk { OnlyReads D.size D.holds D.write_faults D.writes D.tells_stops D.moment D.may_leave D.left_since disk.old disk.new }
+    ensures reads { D.reads disk.new + steps.old ≤ D.reads disk.old + steps.new }
 {
     let mut row = tops;
     let mut met = MetBlocks::new(alloc);

@@ -45,6 +45,7 @@ loop-i-preserved g c =
       later = let up = before.later in let cause = read.cause in omega (arith, up, cause);
       disk = reads_on D.size D.holds D.write_faults D.writes D.tells_stops D.moment D.may_leave D.left_since c.args.disk.now c.loop-i.disk c.read.new.self before.disk
           (record { same_size = read.size; same_contents = read.holds; same_write_faults = read.write_faults; same_writes = read.writes; tells = read.tells; leaves = read.stops; past = read.past });
+      reads = let up = before.reads in let more = read.reads in let step = c.tick.ensures in omega (arith, up, more, step);
     }
 
 pub returns-clause-found : goal.returns-clause-found

@@ -32,6 +32,7 @@ loop-extent-preserved g c =
       before = before_next v c.read_extent.new.gathered.kept e (drop (i + 1) es) lawful read.below;
       later = let up = before.later in let cause = read.cause in omega (arith, up, cause);
       disk = reads_on D.size D.holds D.write_faults D.writes D.tells_stops D.moment D.may_leave D.left_since c.args.disk.now c.loop-extent.disk c.read_extent.new.disk before.disk read.disk;
+      reads = let up = before.reads in let more = read.reads in omega (arith, up, more);
     }
 
 pub returns-clause-found : goal.returns-clause-found

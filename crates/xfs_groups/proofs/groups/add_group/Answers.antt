@@ -1,14 +1,14 @@
-use Rattle.std.proofs.Common.{◌∙◌, ◌++◌, ◌∷◌, [], List, ℕ, ap}
+use Rattle.std.proofs.Common.{◌∙◌, ◌++◌, ◌∷◌, [], List, ℕ, ap, arith}
 use Rattle.xfs_volume.specs.declared.clusters.ClusterRec.{ClusterRec}
 use Rattle.xfs_groups.specs.Answers.{lists_of}
 use Rattle.xfs_groups.specs.Private.Parts.{then_read}
 use Rattle.xfs_groups.proofs.groups.add_group.Goals as goal
 
 pub returns-in-Err : goal.returns-in-Err
-returns-in-Err g c = record { groups = tt; clusters = tt; trees = tt; placed = tt; cause = c.in-Err.ensures.cause; disk = c.in-Err.ensures.disk }
+returns-in-Err g c = record { groups = tt; clusters = tt; trees = tt; placed = tt; cause = c.in-Err.ensures.cause; disk = c.in-Err.ensures.disk; reads = omega arith }
 
 pub returns-in-Err-with_seen : goal.returns-in-Err-with_seen
-returns-in-Err-with_seen g c = record { groups = tt; clusters = tt; trees = tt; placed = tt; cause = c.in-Ok.ensures.cause; disk = c.in-Ok.ensures.disk }
+returns-in-Err-with_seen g c = record { groups = tt; clusters = tt; trees = tt; placed = tt; cause = c.in-Ok.ensures.cause; disk = c.in-Ok.ensures.disk; reads = omega arith }
 
 pub returns-in-Ok-with_seen : goal.returns-in-Ok-with_seen
 returns-in-Ok-with_seen g c =
@@ -20,4 +20,5 @@ returns-in-Ok-with_seen g c =
       placed = record { more = c.in-Ok.seen.clusters.items; joined = c.in-Ok-with_seen.ensures.clusters; placed = c.in-Ok.ensures.placed };
       cause = c.in-Ok.ensures.cause;
       disk = c.in-Ok.ensures.disk;
+      reads = omega arith;
     }

@@ -1,8 +1,7 @@
-use Rattle.std.proofs.Common.{◌≡◌, ℕ, ◌+◌, ◌<◌, ◌≤◌, List, IsTrue, map, refl, sym, ap, subst, ◌∙◌, arith}
+use Rattle.std.proofs.Common.{◌≡◌, ℕ, ◌+◌, ◌<◌, ◌≤◌, map, refl, sym, ap, subst, ◌∙◌, arith}
 use Rattle.std.specs.List.{range_with_len}
 use Rattle.xfs_geom.specs.Volumes.{volume_of}
 use Rattle.xfs_disk.proofs.Reading.{reads_none, reads_on}
-use Rattle.xfs_volume.specs.declared.clusters.ClusterRec.{ClusterRec}
 use Rattle.xfs_image.specs.Groups.{group_read, groups_from, groups_read}
 use Rattle.xfs_image.specs.Reserved.{reserved_in}
 use Rattle.xfs_groups.specs.Answers.{lists_of}
@@ -22,6 +21,7 @@ loop-ag-init g c =
       placed = subst (GroupsPlaced c.args.g.now 0) (sym c.no_groups-all.ensures.clusters) (none_placed c.args.g.now);
       later = no_later (D.faults c.args.disk.now);
       disk = reads_none D.size D.holds D.write_faults D.writes D.tells_stops D.moment D.may_leave D.left_since c.args.disk.now;
+      reads = omega arith;
     }
 
 pub add_group-requires-clause-inside : goal.add_group-requires-clause-inside
@@ -50,6 +50,7 @@ loop-ag-preserved g c =
           (placed_on c.args.g.now ag old.clusters with.more (omega arith) before.placed with.placed);
       later = later (D.faults c.args.disk.now) (D.faults c.loop-ag.disk) (D.faults c.add_group.new.disk) before.later c.in-Ok.ensures.cause;
       disk = reads_on D.size D.holds D.write_faults D.writes D.tells_stops D.moment D.may_leave D.left_since c.args.disk.now c.loop-ag.disk c.add_group.new.disk before.disk c.in-Ok.ensures.disk;
+      reads = omega arith;
     }
 
 pub returns-in-Err : goal.returns-in-Err
@@ -65,6 +66,7 @@ returns-in-Err g c =
       root = tt;
       cause = caused_on (D.faults c.args.disk.now) (D.faults c.loop-ag.disk) (D.faults c.add_group.new.disk) c.in-Err.fault before.later c.in-Err.ensures.cause;
       disk = reads_on D.size D.holds D.write_faults D.writes D.tells_stops D.moment D.may_leave D.left_since c.args.disk.now c.loop-ag.disk c.add_group.new.disk before.disk c.in-Err.ensures.disk;
+      reads = omega arith;
     }
 
 pub returns : goal.returns
@@ -83,4 +85,5 @@ returns g c =
       root = all.placed.root (subst (λ (n : ℕ). root.group < n) (sym last) root.there);
       cause = all.later;
       disk = all.disk;
+      reads = omega arith;
     }

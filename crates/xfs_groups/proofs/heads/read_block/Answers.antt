@@ -1,4 +1,4 @@
-use Rattle.std.proofs.Common.{[], ◌∙◌}
+use Rattle.std.proofs.Common.{[], ◌∙◌, arith}
 use Rattle.std.proofs.lemmas.Option.{get_or_from_slice_get}
 use Rattle.xfs_groups.proofs.heads.read_block.Goals as goal
 
@@ -16,6 +16,7 @@ returns-in-Ok g c = record {
     leaves = c.in-Ok.ensures.stops;
     past = c.in-Ok.ensures.past;
   };
+  reads = let more = c.in-Ok.ensures.reads in let step = c.tick.ensures in omega (arith, more, step);
   ticks = c.tick.ensures;
 }
 
@@ -33,5 +34,6 @@ returns-in-Err g c = record {
     leaves = c.in-Err.ensures.stops;
     past = c.in-Err.ensures.past;
   };
+  reads = let more = c.in-Err.ensures.reads in let step = c.tick.ensures in omega (arith, more, step);
   ticks = c.tick.ensures;
 }

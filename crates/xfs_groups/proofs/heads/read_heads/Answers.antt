@@ -1,4 +1,4 @@
-use Rattle.std.proofs.Common.{◌≡◌, ℕ, List, sym, ap, ◌∙◌}
+use Rattle.std.proofs.Common.{ℕ, List, sym, ap, ◌∙◌, arith}
 use Rattle.std.specs.Option.{option_and_then}
 use Rattle.xfs_geom.specs.Volumes.{volume_of}
 use Rattle.xfs_heads.specs.FreeList.{agfl_of}
@@ -26,6 +26,7 @@ returns-in-Ok g c =
       agi_shaped = heads.agi_shaped;
       cause = c.in-Ok.ensures.cause;
       disk = c.in-Ok.ensures.disk;
+      reads = omega arith;
       ticks = c.in-Ok.ensures.ticks;
     }
 
@@ -38,5 +39,6 @@ returns-in-Err g c = record {
   agi_shaped = tt;
   cause = c.in-Err.ensures.cause;
   disk = c.in-Err.ensures.disk;
+  reads = omega arith;
   ticks = c.in-Err.ensures.ticks;
 }

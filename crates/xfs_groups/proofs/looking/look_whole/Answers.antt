@@ -1,3 +1,4 @@
+use Rattle.std.proofs.Common.{arith}
 use Rattle.xfs_groups.proofs.looking.look_whole.Goals as goal
 
 pub returns-in-Ok : goal.returns-in-Ok
@@ -5,8 +6,9 @@ returns-in-Ok g c = record {
   whole = λ image told. c.has_whole_seal.ensures image (c.in-Ok.ensures.bytes image told);
   cause = c.in-Ok.ensures.cause;
   disk = c.in-Ok.ensures.disk;
+  reads = omega arith;
   ticks = c.in-Ok.ensures.ticks;
 }
 
 pub returns-in-Err : goal.returns-in-Err
-returns-in-Err g c = record { whole = tt; cause = c.in-Err.ensures.cause; disk = c.in-Err.ensures.disk; ticks = c.in-Err.ensures.ticks }
+returns-in-Err g c = record { whole = tt; cause = c.in-Err.ensures.cause; disk = c.in-Err.ensures.disk; reads = omega arith; ticks = c.in-Err.ensures.ticks }

@@ -1,4 +1,4 @@
-use Rattle.std.proofs.Common.{◌/◌, Bool, sym, ap, ap₂, ◌∙◌}
+use Rattle.std.proofs.Common.{◌/◌, Bool, sym, ap, ap₂, ◌∙◌, arith}
 use Rattle.xfs_geom.specs.Conversions.{group_length}
 use Rattle.xfs_geom.specs.Volumes.{volume_of}
 use Rattle.xfs_disk.proofs.Reading.{reads_none}
@@ -22,12 +22,13 @@ returns-in-Err g c =
       placed = tt;
       cause = no_later (D.faults c.args.disk.now);
       disk = reads_none D.size D.holds D.write_faults D.writes D.tells_stops D.moment D.may_leave D.left_since c.args.disk.now;
+      reads = omega arith;
     }
 
 pub returns-in-Err-recorded_clusters : goal.returns-in-Err-recorded_clusters
 returns-in-Err-recorded_clusters g c =
     let found = c.in-Err-recorded_clusters.ensures in
-    record { chosen = tt; withheld = tt; placed = tt; cause = found.cause; disk = found.disk }
+    record { chosen = tt; withheld = tt; placed = tt; cause = found.cause; disk = found.disk; reads = omega arith }
 
 pub returns-in-Ok-recorded_clusters : goal.returns-in-Ok-recorded_clusters
 returns-in-Ok-recorded_clusters g c =
@@ -44,4 +45,5 @@ returns-in-Ok-recorded_clusters g c =
       placed = found.placed;
       cause = found.cause;
       disk = found.disk;
+      reads = omega arith;
     }

@@ -1,10 +1,10 @@
-use Rattle.std.proofs.Common.{◌∙◌}
+use Rattle.std.proofs.Common.{◌∙◌, arith}
 use Rattle.xfs_disk.proofs.Reading.{reads_on}
 use Rattle.xfs_groups.proofs.Causes.{caused_on, later}
 use Rattle.xfs_groups.proofs.one_group.read_group.Goals as goal
 
 pub returns-in-Err : goal.returns-in-Err
-returns-in-Err g c = record { told = tt; cause = c.in-Err.ensures.cause; disk = c.in-Err.ensures.disk }
+returns-in-Err g c = record { told = tt; cause = c.in-Err.ensures.cause; disk = c.in-Err.ensures.disk; reads = omega arith }
 
 pub returns-in-Err-read_trees : goal.returns-in-Err-read_trees
 returns-in-Err-read_trees g c =
@@ -15,6 +15,7 @@ returns-in-Err-read_trees g c =
           c.in-Err-read_trees.ensures.cause;
       disk = reads_on D.size D.holds D.write_faults D.writes D.tells_stops D.moment D.may_leave D.left_since c.args.disk.now c.read_heads.new.disk c.read_trees.new.disk c.in-Ok.ensures.disk
           c.in-Err-read_trees.ensures.disk;
+      reads = omega arith;
     }
 
 pub returns-in-Err-group_told : goal.returns-in-Err-group_told
@@ -25,6 +26,7 @@ returns-in-Err-group_told g c =
       cause = later (D.faults c.args.disk.now) (D.faults c.read_heads.new.disk) (D.faults c.read_trees.new.disk) c.in-Ok.ensures.cause c.in-Ok-read_trees.ensures.cause;
       disk = reads_on D.size D.holds D.write_faults D.writes D.tells_stops D.moment D.may_leave D.left_since c.args.disk.now c.read_heads.new.disk c.read_trees.new.disk c.in-Ok.ensures.disk
           c.in-Ok-read_trees.ensures.disk;
+      reads = omega arith;
     }
 
 pub returns-in-Ok-group_told : goal.returns-in-Ok-group_told
@@ -47,4 +49,5 @@ returns-in-Ok-group_told g c =
       cause = later (D.faults c.args.disk.now) (D.faults c.read_heads.new.disk) (D.faults c.read_trees.new.disk) c.in-Ok.ensures.cause c.in-Ok-read_trees.ensures.cause;
       disk = reads_on D.size D.holds D.write_faults D.writes D.tells_stops D.moment D.may_leave D.left_since c.args.disk.now c.read_heads.new.disk c.read_trees.new.disk c.in-Ok.ensures.disk
           c.in-Ok-read_trees.ensures.disk;
+      reads = omega arith;
     }

@@ -1,4 +1,4 @@
-use Rattle.std.proofs.Common.{◌≡◌, ◌/◌, Some, sym, subst, ◌∙◌}
+use Rattle.std.proofs.Common.{◌≡◌, ◌/◌, Some, sym, subst, ◌∙◌, arith}
 use Rattle.xfs_geom.specs.Conversions.{group_length}
 use Rattle.xfs_geom.specs.Volumes.{volume_of}
 use Rattle.xfs_disk.proofs.Reading.{reads_on}
@@ -11,7 +11,7 @@ use Rattle.xfs_groups.proofs.Wholes.{candidates_are, reserved_are}
 use Rattle.xfs_groups.proofs.one_group.see_group.Goals as goal
 
 pub returns-in-Err : goal.returns-in-Err
-returns-in-Err g c = record { «record» = tt; clusters = tt; reserved = tt; placed = tt; cause = c.in-Err.ensures.cause; disk = c.in-Err.ensures.disk }
+returns-in-Err g c = record { «record» = tt; clusters = tt; reserved = tt; placed = tt; cause = c.in-Err.ensures.cause; disk = c.in-Err.ensures.disk; reads = omega arith }
 
 pub returns-in-Err-look_through : goal.returns-in-Err-look_through
 returns-in-Err-look_through g c =
@@ -25,6 +25,7 @@ returns-in-Err-look_through g c =
           c.in-Err-look_through.ensures.cause;
       disk = reads_on D.size D.holds D.write_faults D.writes D.tells_stops D.moment D.may_leave D.left_since c.args.disk.now c.read_group.new.disk c.look_through.new.disk c.in-Ok.ensures.disk
           c.in-Err-look_through.ensures.disk;
+      reads = omega arith;
     }
 
 pub returns-in-Ok-look_through : goal.returns-in-Ok-look_through
@@ -49,4 +50,5 @@ returns-in-Ok-look_through g c =
       cause = later (D.faults c.args.disk.now) (D.faults c.read_group.new.disk) (D.faults c.look_through.new.disk) c.in-Ok.ensures.cause c.in-Ok-look_through.ensures.cause;
       disk = reads_on D.size D.holds D.write_faults D.writes D.tells_stops D.moment D.may_leave D.left_since c.args.disk.now c.read_group.new.disk c.look_through.new.disk c.in-Ok.ensures.disk
           c.in-Ok-look_through.ensures.disk;
+      reads = omega arith;
     }

@@ -1,4 +1,4 @@
-use Rattle.std.proofs.Common.{ℕ, List, Option, Bool, ◌||◌, ap₂, ◌∙◌}
+use Rattle.std.proofs.Common.{ℕ, List, Option, ◌||◌, ap₂, ◌∙◌}
 use Rattle.xfs_image.specs.Clusters.{both_name}
 use Rattle.xfs_image.specs.Reserved.{is_of_named, is_of_tree}
 use Rattle.xfs_groups.specs.Named.{is_named}

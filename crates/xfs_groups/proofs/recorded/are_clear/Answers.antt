@@ -28,6 +28,7 @@ loop-k-preserved g c =
           ∙ and_from (list_all p (range_with_len c.args.first c.loop-k.k)) (p (c.args.first + c.loop-k.k)) (before.clear image told) here;
       later = later (D.faults c.args.disk.now) (D.faults c.loop-k.disk) (D.faults c.can_hold_cluster.new.disk) before.later c.in-Ok-true.ensures.cause;
       disk = reads_on D.size D.holds D.write_faults D.writes D.tells_stops D.moment D.may_leave D.left_since c.args.disk.now c.loop-k.disk c.can_hold_cluster.new.disk before.disk c.in-Ok-true.ensures.disk;
+      reads = omega arith;
     }
 
 pub loop-k-init : goal.loop-k-init
@@ -37,6 +38,7 @@ loop-k-init g c =
       clear = λ image told. refl;
       later = no_later (D.faults c.args.disk.now);
       disk = reads_none D.size D.holds D.write_faults D.writes D.tells_stops D.moment D.may_leave D.left_since c.args.disk.now;
+      reads = omega arith;
     }
 
 pub can_hold_cluster-requires-clause-inside : goal.can_hold_cluster-requires-clause-inside
@@ -59,6 +61,7 @@ returns-in-Err g c =
       clear = tt;
       cause = caused_on (D.faults c.args.disk.now) (D.faults c.loop-k.disk) (D.faults c.can_hold_cluster.new.disk) faults.ReadFault c.loop-k.invariant.later c.in-Err.ensures.cause;
       disk = reads_on D.size D.holds D.write_faults D.writes D.tells_stops D.moment D.may_leave D.left_since c.args.disk.now c.loop-k.disk c.can_hold_cluster.new.disk c.loop-k.invariant.disk c.in-Err.ensures.disk;
+      reads = omega arith;
     }
 
 pub returns : goal.returns
@@ -69,4 +72,5 @@ returns g c =
       clear = λ image told. sym (all.clear image told) ∙ ap (are_clear (volume_of c.args.g.now) image c.args.first) last;
       cause = all.later;
       disk = all.disk;
+      reads = omega arith;
     }

@@ -1,4 +1,4 @@
-use Rattle.std.proofs.Common.{Bool, not, ◌+◌, ◌||◌, sym, ap, ap₂, ◌∙◌}
+use Rattle.std.proofs.Common.{Bool, not, ◌+◌, ◌||◌, sym, ap, ap₂, ◌∙◌, arith}
 use Rattle.xfs_geom.specs.Volumes.{volume_of}
 use Rattle.xfs_disk.proofs.Reading.{reads_none}
 use Rattle.xfs_image.specs.Candidates.{has_whole_seal}
@@ -13,6 +13,7 @@ returns-then-is_fixed g c =
           ap (λ (b : Bool). not (b || has_whole_seal (volume_of c.args.g.now) image c.args.block)) (sym c.if-is_fixed.true ∙ c.is_fixed.ensures);
       cause = no_later (D.faults c.args.disk.now);
       disk = reads_none D.size D.holds D.write_faults D.writes D.tells_stops D.moment D.may_leave D.left_since c.args.disk.now;
+      reads = omega arith;
       ticks = below_next c.args.steps.now;
     }
 
@@ -21,6 +22,7 @@ returns-in-Ok g c = record {
   clear = λ image told. ap₂ (λ (x y : Bool). not (x || y)) (sym c.if-is_fixed.false ∙ c.is_fixed.ensures) (c.in-Ok.ensures.whole image told);
   cause = c.in-Ok.ensures.cause;
   disk = c.in-Ok.ensures.disk;
+  reads = omega arith;
   ticks = at_most c.look_whole.new.steps (c.args.steps.now + 1) c.in-Ok.ensures.ticks;
 }
 
@@ -29,5 +31,6 @@ returns-in-Err g c = record {
   clear = tt;
   cause = c.in-Err.ensures.cause;
   disk = c.in-Err.ensures.disk;
+  reads = omega arith;
   ticks = at_most c.look_whole.new.steps (c.args.steps.now + 1) c.in-Err.ensures.ticks;
 }

@@ -17,6 +17,7 @@ loop-i-init g c =
       placed = subst (ClustersPlaced (volume_of c.args.g.now) c.args.ag 0) (sym c.new-clusters.ensures.items) (none_placed (volume_of c.args.g.now) c.args.ag);
       later = no_later (D.faults c.args.disk.now);
       disk = reads_none D.size D.holds D.write_faults D.writes D.tells_stops D.moment D.may_leave D.left_since c.args.disk.now;
+      reads = omega arith;
     }
 
 pub loop-i-preserved : goal.loop-i-preserved
@@ -33,6 +34,7 @@ loop-i-preserved g c =
           c.push_chosen.new.clusters.items at before.placed c.in-Ok.ensures.root c.in-Ok-push_chosen.ensures;
       later = later (D.faults c.args.disk.now) (D.faults c.loop-i.disk) (D.faults c.is_chosen.new.disk) before.later c.in-Ok.ensures.cause;
       disk = reads_on D.size D.holds D.write_faults D.writes D.tells_stops D.moment D.may_leave D.left_since c.args.disk.now c.loop-i.disk c.is_chosen.new.disk before.disk c.in-Ok.ensures.disk;
+      reads = omega arith;
     }
 
 pub is_chosen-requires-clause-inside : goal.is_chosen-requires-clause-inside
@@ -46,6 +48,7 @@ returns-in-Err g c =
       placed = tt;
       cause = caused_on (D.faults c.args.disk.now) (D.faults c.loop-i.disk) (D.faults c.is_chosen.new.disk) faults.ReadFault c.loop-i.invariant.later c.in-Err.ensures.cause;
       disk = reads_on D.size D.holds D.write_faults D.writes D.tells_stops D.moment D.may_leave D.left_since c.args.disk.now c.loop-i.disk c.is_chosen.new.disk c.loop-i.invariant.disk c.in-Err.ensures.disk;
+      reads = omega arith;
     }
 
 pub returns-in-Err-push_chosen : goal.returns-in-Err-push_chosen
@@ -56,6 +59,7 @@ returns-in-Err-push_chosen g c =
       placed = tt;
       cause = later (D.faults c.args.disk.now) (D.faults c.loop-i.disk) (D.faults c.is_chosen.new.disk) c.loop-i.invariant.later c.in-Ok.ensures.cause;
       disk = reads_on D.size D.holds D.write_faults D.writes D.tells_stops D.moment D.may_leave D.left_since c.args.disk.now c.loop-i.disk c.is_chosen.new.disk c.loop-i.invariant.disk c.in-Ok.ensures.disk;
+      reads = omega arith;
     }
 
 pub returns : goal.returns
@@ -69,4 +73,5 @@ returns g c =
       placed = subst (λ (n : ℕ). ClustersPlaced v c.args.ag n c.loop-i.clusters.items) end all.placed;
       cause = all.later;
       disk = all.disk;
+      reads = omega arith;
     }

@@ -22,6 +22,7 @@ loop-k-init g c =
           ∙ append-nil c.args.reserved.now.items);
       later = no_later (D.faults c.args.disk.now);
       disk = reads_none D.size D.holds D.write_faults D.writes D.tells_stops D.moment D.may_leave D.left_since c.args.disk.now;
+      reads = omega arith;
     }
 
 pub loop-k-preserved : goal.loop-k-preserved
@@ -45,6 +46,7 @@ loop-k-preserved g c =
           (before.held_so image told) c.in-Ok-push_if.ensures;
       later = later (D.faults c.args.disk.now) (D.faults c.loop-k.disk) (D.faults c.look.new.disk) before.later c.in-Ok.ensures.cause;
       disk = reads_on D.size D.holds D.write_faults D.writes D.tells_stops D.moment D.may_leave D.left_since c.args.disk.now c.loop-k.disk c.look.new.disk before.disk c.in-Ok.ensures.disk;
+      reads = omega arith;
     }
 
 pub look-requires-clause-inside : goal.look-requires-clause-inside
@@ -59,6 +61,7 @@ returns-in-Err g c =
       withheld = tt;
       cause = caused_on (D.faults c.args.disk.now) (D.faults c.loop-k.disk) (D.faults c.look.new.disk) faults.ReadFault c.loop-k.invariant.later c.in-Err.ensures.cause;
       disk = reads_on D.size D.holds D.write_faults D.writes D.tells_stops D.moment D.may_leave D.left_since c.args.disk.now c.loop-k.disk c.look.new.disk c.loop-k.invariant.disk c.in-Err.ensures.disk;
+      reads = omega arith;
     }
 
 pub returns-in-Err-push_if : goal.returns-in-Err-push_if
@@ -70,6 +73,7 @@ returns-in-Err-push_if g c =
       withheld = tt;
       cause = later (D.faults c.args.disk.now) (D.faults c.loop-k.disk) (D.faults c.look.new.disk) c.loop-k.invariant.later c.in-Ok.ensures.cause;
       disk = reads_on D.size D.holds D.write_faults D.writes D.tells_stops D.moment D.may_leave D.left_since c.args.disk.now c.loop-k.disk c.look.new.disk c.loop-k.invariant.disk c.in-Ok.ensures.disk;
+      reads = omega arith;
     }
 
 pub returns : goal.returns
@@ -84,4 +88,5 @@ returns g c =
           all.held_so image told ∙ ap (λ (n : ℕ). c.args.reserved.now.items ++ withheld v image false c.args.held.now c.args.first n) last;
       cause = all.later;
       disk = all.disk;
+      reads = omega arith;
     }

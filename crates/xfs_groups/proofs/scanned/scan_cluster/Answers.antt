@@ -1,15 +1,14 @@
-use Rattle.std.proofs.Common.{◌≡◌, ◌++◌, ◌∷◌, [], if◌then◌else◌, Bool, List, ap, ap₂, ◌∙◌}
+use Rattle.std.proofs.Common.{◌++◌, ◌∷◌, [], if◌then◌else◌, Bool, ap, ap₂, ◌∙◌, arith}
 use Rattle.xfs_geom.specs.Volumes.{volume_of}
-use Rattle.xfs_volume.specs.declared.clusters.ClusterRec.{ClusterRec}
 use Rattle.xfs_groups.specs.Private.Chosen.{chosen_rec, is_chosen_as}
 use Rattle.xfs_groups.proofs.Placed.{root_chosen}
 use Rattle.xfs_groups.proofs.scanned.scan_cluster.Goals as goal
 
 pub returns-in-Err : goal.returns-in-Err
-returns-in-Err g c = record { chosen = tt; withheld = tt; root = tt; cause = c.in-Err.ensures.cause; disk = c.in-Err.ensures.disk }
+returns-in-Err g c = record { chosen = tt; withheld = tt; root = tt; cause = c.in-Err.ensures.cause; disk = c.in-Err.ensures.disk; reads = omega arith }
 
 pub returns-in-Err-push_chosen : goal.returns-in-Err-push_chosen
-returns-in-Err-push_chosen g c = record { chosen = tt; withheld = tt; root = tt; cause = c.in-Ok.ensures.cause; disk = c.in-Ok.ensures.disk }
+returns-in-Err-push_chosen g c = record { chosen = tt; withheld = tt; root = tt; cause = c.in-Ok.ensures.cause; disk = c.in-Ok.ensures.disk; reads = omega arith }
 
 pub returns-in-Ok-push_chosen : goal.returns-in-Ok-push_chosen
 returns-in-Ok-push_chosen g c =
@@ -29,4 +28,5 @@ returns-in-Ok-push_chosen g c =
       };
       cause = c.in-Ok.ensures.cause;
       disk = c.in-Ok.ensures.disk;
+      reads = omega arith;
     }

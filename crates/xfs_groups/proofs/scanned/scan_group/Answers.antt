@@ -19,6 +19,7 @@ loop-i-init g c =
       placed = subst (ClustersPlaced v c.args.ag 0) (sym none.clusters) (none_placed v c.args.ag);
       later = no_later (D.faults c.args.disk.now);
       disk = reads_none D.size D.holds D.write_faults D.writes D.tells_stops D.moment D.may_leave D.left_since c.args.disk.now;
+      reads = omega arith;
     }
 
 pub loop-i-preserved : goal.loop-i-preserved
@@ -44,6 +45,7 @@ loop-i-preserved g c =
       placed = placed_step v c.args.ag i cluster named with.wanted old.clusters.items new.clusters.items at before.placed with.root with.joined;
       later = later (D.faults c.args.disk.now) (D.faults c.loop-i.disk) (D.faults c.scan_cluster.new.disk) before.later c.in-Ok.ensures.cause;
       disk = reads_on D.size D.holds D.write_faults D.writes D.tells_stops D.moment D.may_leave D.left_since c.args.disk.now c.loop-i.disk c.scan_cluster.new.disk before.disk c.in-Ok.ensures.disk;
+      reads = omega arith;
     }
 
 pub scan_cluster-requires-clause-inside : goal.scan_cluster-requires-clause-inside
@@ -61,6 +63,7 @@ returns-in-Err g c =
       placed = tt;
       cause = caused_on (D.faults c.args.disk.now) (D.faults c.loop-i.disk) (D.faults c.scan_cluster.new.disk) c.in-Err.fault c.loop-i.invariant.later c.in-Err.ensures.cause;
       disk = reads_on D.size D.holds D.write_faults D.writes D.tells_stops D.moment D.may_leave D.left_since c.args.disk.now c.loop-i.disk c.scan_cluster.new.disk c.loop-i.invariant.disk c.in-Err.ensures.disk;
+      reads = omega arith;
     }
 
 pub returns-in-Err-look_at : goal.returns-in-Err-look_at
@@ -73,6 +76,7 @@ returns-in-Err-look_at g c =
       cause = caused_on (D.faults c.args.disk.now) (D.faults c.loop-i.disk) (D.faults c.look_at.new.disk) c.in-Err-look_at.fault c.loop-i.invariant.later
           c.in-Err-look_at.ensures.cause;
       disk = reads_on D.size D.holds D.write_faults D.writes D.tells_stops D.moment D.may_leave D.left_since c.args.disk.now c.loop-i.disk c.look_at.new.disk c.loop-i.invariant.disk c.in-Err-look_at.ensures.disk;
+      reads = omega arith;
     }
 
 pub returns-in-Ok-look_at : goal.returns-in-Ok-look_at
@@ -95,4 +99,5 @@ returns-in-Ok-look_at g c =
       placed = subst (λ (n : ℕ). ClustersPlaced v c.args.ag n c.loop-i.all.clusters.items) end before.placed;
       cause = later (D.faults c.args.disk.now) (D.faults c.loop-i.disk) (D.faults c.look_at.new.disk) before.later c.in-Ok-look_at.ensures.cause;
       disk = reads_on D.size D.holds D.write_faults D.writes D.tells_stops D.moment D.may_leave D.left_since c.args.disk.now c.loop-i.disk c.look_at.new.disk before.disk c.in-Ok-look_at.ensures.disk;
+      reads = omega arith;
     }

@@ -1,4 +1,4 @@
-use Rattle.std.proofs.Common.{◌≡◌, ◌≤◌, ◌*◌, false}
+use Rattle.std.proofs.Common.{◌≡◌, ◌+◌, ◌≤◌, ◌*◌, false}
 use Rattle.std.specs.Option.{ForSome}
 use Rattle.xfs_geom.specs.Volumes.{volume_of}
 use Rattle.xfs_disk.specs.Reads.{OnlyReads}
@@ -12,4 +12,5 @@ invariant-loop-i g l = record {
   placed : ClustersPlaced (volume_of l.g) l.ag l.i l.all.clusters.items;
   later : g.D.Disk.faults l.fn.disk ≤ g.D.Disk.faults l.disk;
   disk : OnlyReads g.D.Disk.size g.D.Disk.holds g.D.Disk.write_faults g.D.Disk.writes g.D.Disk.tells_stops g.D.Disk.moment g.D.Disk.may_leave g.D.Disk.left_since l.fn.disk l.disk;
+  reads : g.D.Disk.reads l.disk + l.fn.steps ≤ g.D.Disk.reads l.fn.disk + l.steps;
 }

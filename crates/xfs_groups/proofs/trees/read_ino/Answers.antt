@@ -1,4 +1,4 @@
-use Rattle.std.proofs.Common.{sym, ap}
+use Rattle.std.proofs.Common.{sym, ap, arith}
 use Rattle.std.specs.Option.{option_and_then}
 use Rattle.xfs_geom.specs.Volumes.{volume_of}
 use Rattle.xfs_disk.proofs.Reading.{reads_none}
@@ -13,6 +13,7 @@ returns-in-None g c =
       read = λ image told. ap (option_and_then (ino_at (volume_of c.args.g.now) image c.args.ag)) (sym c.in-None.is);
       cause = no_later (D.faults c.args.disk.now);
       disk = reads_none D.size D.holds D.write_faults D.writes D.tells_stops D.moment D.may_leave D.left_since c.args.disk.now;
+      reads = omega arith;
     }
 
 pub returns-in-Some-clause-cause : goal.returns-in-Some-clause-cause

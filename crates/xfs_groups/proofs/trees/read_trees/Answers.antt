@@ -1,10 +1,10 @@
-use Rattle.std.proofs.Common.{◌∙◌}
+use Rattle.std.proofs.Common.{◌∙◌, arith}
 use Rattle.xfs_disk.proofs.Reading.{reads_on}
 use Rattle.xfs_groups.proofs.Causes.{caused_on, later}
 use Rattle.xfs_groups.proofs.trees.read_trees.Goals as goal
 
 pub returns-in-Err : goal.returns-in-Err
-returns-in-Err g c = record { bno = tt; cnt = tt; ino = tt; fino = tt; rmap = tt; cause = c.in-Err.ensures.cause; disk = c.in-Err.ensures.disk }
+returns-in-Err g c = record { bno = tt; cnt = tt; ino = tt; fino = tt; rmap = tt; cause = c.in-Err.ensures.cause; disk = c.in-Err.ensures.disk; reads = omega arith }
 
 pub returns-in-Err-read_cnt : goal.returns-in-Err-read_cnt
 returns-in-Err-read_cnt g c =
@@ -19,6 +19,7 @@ returns-in-Err-read_cnt g c =
           c.in-Err-read_cnt.ensures.cause;
       disk = reads_on D.size D.holds D.write_faults D.writes D.tells_stops D.moment D.may_leave D.left_since c.args.disk.now c.read_bno.new.disk c.read_cnt.new.disk c.in-Ok.ensures.disk
           c.in-Err-read_cnt.ensures.disk;
+      reads = omega arith;
     }
 
 pub returns-in-Err-read_ino : goal.returns-in-Err-read_ino
@@ -35,6 +36,7 @@ returns-in-Err-read_ino g c =
       rmap = tt;
       cause = caused_on (D.faults c.args.disk.now) (D.faults c.read_cnt.new.disk) (D.faults c.read_ino.new.disk) c.in-Err-read_ino.fault up c.in-Err-read_ino.ensures.cause;
       disk = on c.read_cnt.new.disk c.read_ino.new.disk cnt c.in-Err-read_ino.ensures.disk;
+      reads = omega arith;
     }
 
 pub returns-in-Err-read_fino : goal.returns-in-Err-read_fino
@@ -54,6 +56,7 @@ returns-in-Err-read_fino g c =
       rmap = tt;
       cause = caused_on (D.faults c.args.disk.now) (D.faults c.read_ino.new.disk) (D.faults c.read_fino.new.disk) c.in-Err-read_fino.fault up c.in-Err-read_fino.ensures.cause;
       disk = on c.read_ino.new.disk c.read_fino.new.disk ino c.in-Err-read_fino.ensures.disk;
+      reads = omega arith;
     }
 
 pub returns-in-Err-read_rmap : goal.returns-in-Err-read_rmap
@@ -76,6 +79,7 @@ returns-in-Err-read_rmap g c =
       rmap = tt;
       cause = caused_on (D.faults c.args.disk.now) (D.faults c.read_fino.new.disk) (D.faults c.read_rmap.new.disk) c.in-Err-read_rmap.fault up c.in-Err-read_rmap.ensures.cause;
       disk = on c.read_fino.new.disk c.read_rmap.new.disk fino c.in-Err-read_rmap.ensures.disk;
+      reads = omega arith;
     }
 
 pub returns-in-Ok-read_rmap : goal.returns-in-Ok-read_rmap
@@ -99,4 +103,5 @@ returns-in-Ok-read_rmap g c =
       rmap = λ image told. c.in-Ok-read_rmap.ensures.read image (fino.same_contents ∙ told);
       cause = risen (D.faults c.read_fino.new.disk) (D.faults c.read_rmap.new.disk) up c.in-Ok-read_rmap.ensures.cause;
       disk = on c.read_fino.new.disk c.read_rmap.new.disk fino c.in-Ok-read_rmap.ensures.disk;
+      reads = omega arith;
     }

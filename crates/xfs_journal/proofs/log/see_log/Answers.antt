@@ -20,6 +20,7 @@ loop-i-preserved g c =
       block = c.read_block.ensures.whole;
       later = let up = before.later in let cause = c.in-Ok.ensures.cause in omega (arith, up, cause);
       disk = reads_on D.size D.holds D.write_faults D.writes D.tells_stops D.moment D.may_leave D.left_since c.args.disk.now c.loop-i.disk c.read_block.new.disk before.disk c.read_block.ensures.disk;
+      reads = let up = before.reads in let more = c.read_block.ensures.reads in let step = c.read_block.ensures.ticks in omega (arith, up, more, step);
     }
 
 pub returns-clause-seen : goal.returns-clause-seen

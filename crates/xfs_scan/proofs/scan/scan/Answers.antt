@@ -1,4 +1,4 @@
-use Rattle.std.proofs.Common.{ℕ, List, [], ◌++◌, map, ap, ◌∙◌}
+use Rattle.std.proofs.Common.{ℕ, List, ◌++◌, map, ap, ◌∙◌}
 use Rattle.xfs_geom.specs.Volumes.{volume_of}
 use Rattle.xfs_slots.specs.Facts.{slot_fact}
 use Rattle.xfs_slots.specs.Gathered.{Gathered, gathered, inodes_of_blocks, gathered_both}

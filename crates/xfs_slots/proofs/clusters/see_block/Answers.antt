@@ -19,6 +19,7 @@ loop-slot-preserved g c =
           (c.in-Ok.ensures.held image (before.disk.same_contents ∙ told)) (before.held image told);
       later = let up = before.later in let cause = c.in-Ok.ensures.cause in omega (arith, up, cause);
       disk = reads_on D.size D.holds D.write_faults D.writes D.tells_stops D.moment D.may_leave D.left_since c.args.disk.now c.loop-slot.disk c.see_part.new.disk before.disk c.in-Ok.ensures.disk;
+      reads = let up = before.reads in let more = c.in-Ok.ensures.reads in omega (arith, up, more);
     }
 
 pub returns-clause-held : goal.returns-clause-held

@@ -21,9 +21,10 @@ returns-in-Ok g c =
           c.take_file.result (λ held image told. bare_taken v image file old mid new c.in-Ok.ensures (held image told)) c.take_file.ensures.held;
       cause = c.take_file.ensures.cause;
       disk = c.take_file.ensures.disk;
+      reads = c.take_file.ensures.reads;
     }
 
 pub returns-in-Err : goal.returns-in-Err
 returns-in-Err g c =
     let D = g.D.Disk in
-    record { held = tt; cause = omega arith; disk = reads_none D.size D.holds D.write_faults D.writes D.tells_stops D.moment D.may_leave D.left_since c.args.disk.now }
+    record { held = tt; cause = omega arith; disk = reads_none D.size D.holds D.write_faults D.writes D.tells_stops D.moment D.may_leave D.left_since c.args.disk.now; reads = omega arith }

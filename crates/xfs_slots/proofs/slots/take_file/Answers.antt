@@ -4,7 +4,7 @@ use Rattle.xfs_slots.proofs.Gathering.{file_taken}
 use Rattle.xfs_slots.proofs.slots.take_file.Goals as goal
 
 pub returns-in-Err : goal.returns-in-Err
-returns-in-Err g c = record { held = tt; cause = c.in-Err.ensures.cause; disk = c.in-Err.ensures.disk }
+returns-in-Err g c = record { held = tt; cause = c.in-Err.ensures.cause; disk = c.in-Err.ensures.disk; reads = c.in-Err.ensures.reads }
 
 pub returns-in-Ok-push_file : goal.returns-in-Ok-push_file
 returns-in-Ok-push_file g c = record {
@@ -12,7 +12,8 @@ returns-in-Ok-push_file g c = record {
       (c.in-Ok.ensures.held image told) c.in-Ok-push_file.ensures;
   cause = c.in-Ok.ensures.cause;
   disk = c.in-Ok.ensures.disk;
+  reads = c.in-Ok.ensures.reads;
 }
 
 pub returns-in-Err-push_file : goal.returns-in-Err-push_file
-returns-in-Err-push_file g c = record { held = tt; cause = c.in-Ok.ensures.cause; disk = c.in-Ok.ensures.disk }
+returns-in-Err-push_file g c = record { held = tt; cause = c.in-Ok.ensures.cause; disk = c.in-Ok.ensures.disk; reads = c.in-Ok.ensures.reads }

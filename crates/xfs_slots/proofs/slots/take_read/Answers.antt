@@ -35,6 +35,7 @@ returns-in-Free g c =
       held = λ image told. sym (ap (λ (r : FileRead). gathered_both old (of_read (volume_of c.args.g.now) image c.args.ino r)) c.in-Free.is ∙ joined_nothing old);
       cause = omega arith;
       disk = reads_none D.size D.holds D.write_faults D.writes D.tells_stops D.moment D.may_leave D.left_since c.args.disk.now;
+      reads = omega arith;
     }
 
 pub returns-in-File : goal.returns-in-File
@@ -46,6 +47,7 @@ returns-in-File g c =
           held_in c.take_file.new.inodes ≡ gathered_both old (of_read v image c.args.ino r)))) (sym c.in-File.is) c.take_file.ensures.held;
       cause = c.take_file.ensures.cause;
       disk = c.take_file.ensures.disk;
+      reads = c.take_file.ensures.reads;
     }
 
 pub returns-in-FileWithoutAttrs : goal.returns-in-FileWithoutAttrs
@@ -61,6 +63,7 @@ returns-in-FileWithoutAttrs g c =
           held_in c.take_bare.new.inodes ≡ gathered_both old (of_read v image c.args.ino r)))) (sym c.in-FileWithoutAttrs.is) held;
       cause = c.take_bare.ensures.cause;
       disk = c.take_bare.ensures.disk;
+      reads = c.take_bare.ensures.reads;
     }
 
 pub returns-in-Unsupported : goal.returns-in-Unsupported
@@ -71,6 +74,7 @@ returns-in-Unsupported g c =
       held = λ image told. subst (λ (r : FileRead). held_in c.pass.new.self ≡ gathered_both old (of_read (volume_of c.args.g.now) image c.args.ino r)) (sym c.in-Unsupported.is) c.pass.ensures;
       cause = omega arith;
       disk = reads_none D.size D.holds D.write_faults D.writes D.tells_stops D.moment D.may_leave D.left_since c.args.disk.now;
+      reads = omega arith;
     }
 
 pub returns-in-Unsound : goal.returns-in-Unsound
@@ -81,4 +85,5 @@ returns-in-Unsound g c =
       held = λ image told. subst (λ (r : FileRead). held_in c.pass-in-Unsound.new.self ≡ gathered_both old (of_read (volume_of c.args.g.now) image c.args.ino r)) (sym c.in-Unsound.is) c.pass-in-Unsound.ensures;
       cause = omega arith;
       disk = reads_none D.size D.holds D.write_faults D.writes D.tells_stops D.moment D.may_leave D.left_since c.args.disk.now;
+      reads = omega arith;
     }

@@ -54,6 +54,7 @@ loop-i-preserved g c =
       block = c.in-Ok.ensures.whole;
       later = let up = before.later in let cause = c.in-Ok.ensures.cause in omega (arith, up, cause);
       disk = reads_on D.size D.holds D.write_faults D.writes D.tells_stops D.moment D.may_leave D.left_since c.args.disk.now c.loop-i.disk c.enter.new.disk before.disk c.in-Ok.ensures.disk;
+      reads = let up = before.reads in let more = c.in-Ok.ensures.reads in omega (arith, up, more);
     }
 
 pub returns-clause-judged : goal.returns-clause-judged

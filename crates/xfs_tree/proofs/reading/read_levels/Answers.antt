@@ -16,6 +16,7 @@ loop-depth-init g c =
           (none_read s (volume_of c.args.g.now) image c.args.tops.items c.args.height);
       later = omega arith;
       disk = reads_none D.size D.holds D.write_faults D.writes D.tells_stops D.moment D.may_leave D.left_since c.args.disk.now;
+      reads = omega arith;
     }
 
 pub returns-in-Err-clause-read : goal.returns-in-Err-clause-read
@@ -44,6 +45,7 @@ loop-depth-preserved g c =
           _ _ _ _ (omega arith) refl (subst (λ row. IsRead (g.K.Kind.shape c.args.kind.now) (volume_of c.args.g.now) image c.args.tops.items c.args.height c.loop-depth.depth row c.loop-depth.met.blocks.items) (sym c.deref.ensures.value) (c.loop-depth.invariant.read image told)) (c.in-Ok.ensures.judged image there) (c.in-Ok.ensures.children image there) c.in-Ok.ensures.blocks;
       later = let up = before.later in let cause = c.in-Ok.ensures.cause in omega (arith, up, cause);
       disk = reads_on D.size D.holds D.write_faults D.writes D.tells_stops D.moment D.may_leave D.left_since c.args.disk.now c.loop-depth.disk c.read_nodes.new.disk before.disk c.in-Ok.ensures.disk;
+      reads = let up = before.reads in let more = c.in-Ok.ensures.reads in omega (arith, up, more);
     }
 
 pub returns-in-Ok-read_leaves-clause-read : goal.returns-in-Ok-read_leaves-clause-read

@@ -3,7 +3,7 @@ use Rattle.std.specs.Option.{option_copied}
 use Rattle.xfs_geom.specs.Volumes.{volume_of}
 use Rattle.xfs_inode.specs.Files.{contents_of}
 use Rattle.xfs_inode.proofs.Sound.{answer_sound}
-use Rattle.xfs_inode.proofs.deciding.decide_file.Goals as goal
+use Rattle.xfs_inode.proofs.deciding.decide_read.Goals as goal
 
 pub returns-clause-sound : goal.returns-clause-sound
 returns-clause-sound c =
