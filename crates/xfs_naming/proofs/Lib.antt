@@ -1,4 +1,5 @@
 pub mod Chosen
+pub mod Placing
 pub mod Different
 pub mod Broken
 pub mod Ascending

@@ -11,7 +11,7 @@ ghost use Rattle.xfs_naming.specs.Ordered.{IsOrdered};
 
 use crate::lookups::{entry_type, is_in_use, is_system};
 use crate::naming::Names;
-use crate::runs::records_by_number;
+use crate::runs::{records_by_number, records_near};
 use crate::texts::has_right_names;
 use std::alloc::Global;
 use xfs_dirdata::EntryRec;
@@ -19,11 +19,11 @@ use xfs_disk::NoMemory;
 use xfs_volume::{DirRec, FileRec, Law, type_of};
 
 /// Whether an entry names a file in use that is not one of the system's.
-fn has_target(names: &Names, entry: &EntryRec) -> bool
+fn has_target(names: &Names, near: &mut usize, entry: &EntryRec) -> bool
     requires { IsOrdered names.now }
     ensures { result ≡ has_target names.now.root names.now.files.now entry.now }
 {
-    is_in_use(names, entry.ino) && !is_system(names.root, entry.ino)
+    is_in_use(names, near, entry.ino) && !is_system(names.root, entry.ino)
 }
 
 /// Whether one of these files has the type that an entry states.
@@ -34,11 +34,11 @@ fn have_type(files: &[FileRec], ftype: u8) -> bool
 }
 
 /// Whether an entry states the type of the file that it names, or none.
-fn has_type(names: &Names, entry: &EntryRec) -> bool
+fn has_type(names: &Names, near: &mut usize, entry: &EntryRec) -> bool
     requires { IsOrdered names.now }
     ensures { result ≡ has_type names.now.files.now entry.now }
 {
-    entry.ftype == 0 || have_type(records_by_number(names.files, entry.ino), entry.ftype)
+    entry.ftype == 0 || have_type(records_near(names.files, near, entry.ino), entry.ftype)
 }
 
 /// Whether each entry names a file in use that is not one of the system's.
@@ -46,7 +46,13 @@ fn have_targets(names: &Names, own: &[EntryRec]) -> bool
     requires { IsOrdered names.now }
     ensures { result ≡ list_all (has_target names.now.root names.now.files.now) own.now }
 {
-    own.iter().all(|entry| has_target(names, entry))
+    let mut near = 0;
+    for entry in own {
+        if !has_target(names, &mut near, entry) {
+            return false;
+        }
+    }
+    true
 }
 
 /// Whether each entry states the type of the file that it names, or none.
@@ -54,7 +60,13 @@ fn have_types(names: &Names, own: &[EntryRec]) -> bool
     requires { IsOrdered names.now }
     ensures { result ≡ list_all (has_type names.now.files.now) own.now }
 {
-    own.iter().all(|entry| has_type(names, entry))
+    let mut near = 0;
+    for entry in own {
+        if !has_type(names, &mut near, entry) {
+            return false;
+        }
+    }
+    true
 }
 
 /// The number of the first test that a directory with these entries fails, or 0.

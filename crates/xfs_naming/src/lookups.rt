@@ -9,7 +9,7 @@ ghost use Rattle.xfs_naming.specs.Naming.{is_system, is_in_use, is_directory_at,
 ghost use Rattle.xfs_naming.specs.Ordered.{IsOrdered};
 
 use crate::naming::Names;
-use crate::runs::records_by_number;
+use crate::runs::{records_by_number, records_near};
 use xfs_volume::{DirRec, FileRec, is_directory};
 
 /// Whether a number is that of one of the two files of the system's own, which stand behind the root.
@@ -37,20 +37,21 @@ pub fn entry_type(kind: u16) -> u8
     }
 }
 
-/// The file with a number.
-pub fn file_at<'a>(names: &Names<'a>, ino: u64) -> Option<&'a FileRec>
+/// The file with a number. `near` is a place among the files at which it may stand, and then the one behind it; so in
+/// what follows.
+pub fn file_at<'a>(names: &Names<'a>, near: &mut usize, ino: u64) -> Option<&'a FileRec>
     requires { IsOrdered names.now }
     ensures { option_copied result ≡ file_at names.now.files.now ino }
 {
-    records_by_number(names.files, ino).first()
+    records_near(names.files, near, ino).first()
 }
 
 /// Whether a file with the number is in use.
-pub fn is_in_use(names: &Names, ino: u64) -> bool
+pub fn is_in_use(names: &Names, near: &mut usize, ino: u64) -> bool
     requires { IsOrdered names.now }
     ensures { result ≡ is_in_use names.now.files.now ino }
 {
-    !records_by_number(names.files, ino).is_empty()
+    !records_near(names.files, near, ino).is_empty()
 }
 
 /// Whether one of these files is a directory.
@@ -68,11 +69,11 @@ fn have_parent(dirs: &[DirRec], parent: u64) -> bool
 }
 
 /// Whether a directory with the number is in use.
-pub fn is_directory_at(names: &Names, ino: u64) -> bool
+pub fn is_directory_at(names: &Names, near: &mut usize, ino: u64) -> bool
     requires { IsOrdered names.now }
     ensures { result ≡ is_directory_at names.now.files.now ino }
 {
-    have_directory(records_by_number(names.files, ino))
+    have_directory(records_near(names.files, near, ino))
 }
 
 /// Whether a directory states this parent.

@@ -18,3 +18,12 @@ pub struct Names<'a> {
     /// A link for each entry, by what it names.
     pub links: &'a [Link],
 }
+
+/// Where files and links are looked for first: what goes by ascending numbers finds them so.
+#[derive(Clone, Copy, Debug)]
+pub struct Near {
+    /// A place among the files.
+    pub files: usize,
+    /// A place among the links.
+    pub links: usize,
+}

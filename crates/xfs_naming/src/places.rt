@@ -10,17 +10,17 @@ ghost use Rattle.xfs_disk.specs.Lists.{with_number};
 ghost use Rattle.xfs_naming.specs.Ordered.{IsOrdered, IsWalked, links_to};
 
 use crate::lookups::{is_directory_at, is_system, states_parent};
-use crate::naming::Names;
-use crate::runs::{Link, records_by_number};
+use crate::naming::{Names, Near};
+use crate::runs::{Link, records_by_number, records_near};
 use std::collections::HashSet;
 use xfs_volume::Law;
 
-/// How many entries name a file.
-pub fn names_of(names: &Names, ino: u64) -> usize
+/// How many entries name a file. `near` is a place among the links at which they may begin, and then the one behind them.
+pub fn names_of(names: &Names, near: &mut usize, ino: u64) -> usize
     requires { IsOrdered names.now }
     ensures { result ≡ length (entries_to names.now.entries.now ino) }
 {
-    records_by_number(names.links, ino).len()
+    records_near(names.links, near, ino).len()
 }
 
 /// Whether each of these links is from a directory that a directory states as its parent.
@@ -40,15 +40,15 @@ fn is_below_parent(names: &Names, ino: u64) -> bool
 }
 
 /// The number of the first test that the root fails, or 0.
-fn root_failing(names: &Names) -> u8
+fn root_failing(names: &Names, near: &mut Near) -> u8
     requires { IsOrdered names.now }
     ensures { result ≡ first_failing (root_tests names.now.root names.now.files.now names.now.entries.now names.now.dirs.now) }
 {
     let root = names.root;
-    if names_of(names, root) != 0 {
+    if names_of(names, &mut near.links, root) != 0 {
         return 1;
     }
-    if !is_directory_at(names, root) {
+    if !is_directory_at(names, &mut near.files, root) {
         return 3;
     }
     if !states_parent(names, root, root) {
@@ -58,13 +58,13 @@ fn root_failing(names: &Names) -> u8
 }
 
 /// The number of the first test that another directory fails, or 0.
-fn directory_failing(names: &Names, reached: &HashSet<u64>, ino: u64) -> u8
+fn directory_failing(names: &Names, near: &mut Near, reached: &HashSet<u64>, ino: u64) -> u8
     requires ordered { IsOrdered names.now }
     requires walked { IsWalked names.now reached.now.keys }
     requires directory { is_directory_at names.now.files.now ino ≡ true }
     ensures { result ≡ first_failing (other_directory_tests names.now.root names.now.entries.now names.now.dirs.now ino) }
 {
-    if names_of(names, ino) != 1 {
+    if names_of(names, &mut near.links, ino) != 1 {
         return 1;
     }
     if !is_below_parent(names, ino) {
@@ -77,36 +77,36 @@ fn directory_failing(names: &Names, reached: &HashSet<u64>, ino: u64) -> u8
 }
 
 /// The number of the test that a file that is no directory fails, or 0.
-fn file_failing(names: &Names, ino: u64) -> u8
+fn file_failing(names: &Names, near: &mut Near, ino: u64) -> u8
     requires { IsOrdered names.now }
     ensures { result ≡ first_failing (other_file_tests names.now.root names.now.entries.now ino) }
 {
     if is_system(names.root, ino) {
         return 0;
     }
-    if names_of(names, ino) == 0 {
+    if names_of(names, &mut near.links, ino) == 0 {
         return 4;
     }
     0
 }
 
 /// The number of the first test of the eighth law that a file fails, or 0.
-fn first_failing(names: &Names, reached: &HashSet<u64>, ino: u64) -> u8
+fn first_failing(names: &Names, near: &mut Near, reached: &HashSet<u64>, ino: u64) -> u8
     requires ordered { IsOrdered names.now }
     requires walked { IsWalked names.now reached.now.keys }
     ensures { result ≡ first_failing (place_tests names.now.root names.now.files.now names.now.entries.now names.now.dirs.now ino) }
 {
     if ino == names.root {
-        return root_failing(names);
+        return root_failing(names, near);
     }
-    if is_directory_at(names, ino) {
-        return directory_failing(names, reached, ino);
+    if is_directory_at(names, &mut near.files, ino) {
+        return directory_failing(names, near, reached, ino);
     }
-    file_failing(names, ino)
+    file_failing(names, near, ino)
 }
 
 /// What the eighth law says of a file.
-fn place_law(names: &Names, reached: &HashSet<u64>, ino: u64) -> Law
+fn place_law(names: &Names, near: &mut Near, reached: &HashSet<u64>, ino: u64) -> Law
     requires ordered { IsOrdered names.now }
     requires walked { IsWalked names.now reached.now.keys }
     ensures { result ≡ place_law names.now.root names.now.files.now names.now.entries.now names.now.dirs.now ino }
@@ -114,7 +114,7 @@ fn place_law(names: &Names, reached: &HashSet<u64>, ino: u64) -> Law
     Law {
         law: 8,
         place: ino,
-        held: first_failing(names, reached, ino) as u128,
+        held: first_failing(names, near, reached, ino) as u128,
         due: 0,
     }
 }
@@ -125,8 +125,9 @@ pub fn broken_place(names: &Names, reached: &HashSet<u64>, numbers: &[u64]) -> O
     requires walked { IsWalked names.now reached.now.keys }
     ensures { result ≡ first_broken (map (place_law names.now.root names.now.files.now names.now.entries.now names.now.dirs.now) numbers.now) }
 {
+    let mut near = Near { files: 0, links: 0 };
     for ino in numbers {
-        let law = place_law(names, reached, *ino);
+        let law = place_law(names, &mut near, reached, *ino);
         if law.held != law.due {
             return Some(law);
         }

@@ -1,8 +1,9 @@
 //! Records in the order of a number, and those among them that have it.
 
-ghost use Rattle.std.specs.Prelude.{◌≡◌, ℕ, ◌==◌, filter};
-ghost use Rattle.std.specs.List.{prefix_len};
+ghost use Rattle.std.specs.Prelude.{◌≡◌, ℕ, ◌==◌, ◌<◌, ◌≤◌, true, filter, length};
+ghost use Rattle.std.specs.List.{AllWithin, prefix_len};
 ghost use Rattle.std.specs.List.Sorted.{IsNonDecreasingBy};
+ghost use Rattle.xfs_naming.specs.Private.Places.{IsPlace};
 
 use xfs_dirdata::EntryRec;
 use xfs_volume::{DirRec, FileRec};
@@ -80,4 +81,65 @@ pub fn records_by_number<T: Numbered>(records: &[T], number: u64) -> &[T]
     let start = records.partition_point(|record| record.number() < number);
     let rest = &records[start..];
     &rest[..run_length(rest, number)]
+}
+
+/// The same, where `near` is a place at which the run may begin; it then is the place behind the run. There the search
+/// takes two steps: what is asked for in the order of the records is found so.
+pub fn records_near<'a, T: Numbered>(records: &'a [T], near: &mut usize, number: u64) -> &'a [T]
+    requires { IsNonDecreasingBy T.key records.now }
+    ensures { result.now ≡ filter (λ x. T.key x == number) records.now }
+{
+    let start = place_near(records, *near, number);
+    let rest = &records[start..];
+    let run = run_length(rest, number);
+    *near = start.wrapping_add(run);
+    &rest[..run]
+}
+
+/// The place of a number among records in order: `near`, where it is that, else it is searched for.
+fn place_near<T: Numbered>(records: &[T], near: usize, number: u64) -> usize
+    requires { IsNonDecreasingBy T.key records.now }
+    ensures inside { result ≤ length records.now }
+    ensures place { IsPlace T.key number records.now result }
+{
+    if is_place(records, near, number) {
+        return near;
+    }
+    records.partition_point(|record| record.number() < number)
+}
+
+/// Whether a place is that of a number among records in order.
+fn is_place<T: Numbered>(records: &[T], near: usize, number: u64) -> bool
+    requires { IsNonDecreasingBy T.key records.now }
+    ensures inside { result ≡ true → near ≤ length records.now }
+    ensures place { result ≡ true → IsPlace T.key number records.now near }
+{
+    if near > records.len() || !is_less_before(records, near, number) {
+        return false;
+    }
+    is_none_less_from(records, near, number)
+}
+
+/// Whether the records before a place go by less than a number, of records in order.
+fn is_less_before<T: Numbered>(records: &[T], near: usize, number: u64) -> bool
+    requires inside { near ≤ length records.now }
+    requires rise { IsNonDecreasingBy T.key records.now }
+    ensures { result ≡ true → AllWithin (λ x. T.key x < number) records.now 0 near }
+{
+    if near == 0 {
+        return true;
+    }
+    records[near - 1].number() < number
+}
+
+/// Whether no record from a place on goes by less than a number, of records in order.
+fn is_none_less_from<T: Numbered>(records: &[T], near: usize, number: u64) -> bool
+    requires inside { near ≤ length records.now }
+    requires rise { IsNonDecreasingBy T.key records.now }
+    ensures { result ≡ true → AllWithin (λ x. number ≤ T.key x) records.now near (length records.now) }
+{
+    if near == records.len() {
+        return true;
+    }
+    number <= records[near].number()
 }

@@ -18,6 +18,7 @@ use xfs_disk::NoMemory;
 /// Marks a number as reached where it is a directory's; one that was not reached before waits.
 fn mark(
     names: &Names,
+    near: &mut usize,
     ino: u64,
     reached: &mut HashSet<u64>,
     waiting: &mut Vec<u64>,
@@ -25,7 +26,7 @@ fn mark(
     requires { IsOrdered names.now }
     ensures { OnOk result (HasMarked names.now.files.now (λ x. ino == x) reached.old.keys reached.new.keys waiting.old.items waiting.new.items) }
 {
-    if !is_directory_at(names, ino) {
+    if !is_directory_at(names, near, ino) {
         return Ok(());
     }
     if reached.insert(ino)? {
@@ -44,8 +45,9 @@ fn mark_named(
     requires { IsOrdered names.now }
     ensures { OnOk result (HasMarked names.now.files.now (λ x. list_any (λ (e : EntryRec). e.ino == x) own.now) reached.old.keys reached.new.keys waiting.old.items waiting.new.items) }
 {
+    let mut near = 0;
     for entry in own {
-        mark(names, entry.ino, reached, waiting)?;
+        mark(names, &mut near, entry.ino, reached, waiting)?;
     }
     Ok(())
 }

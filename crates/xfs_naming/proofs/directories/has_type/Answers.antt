@@ -9,5 +9,5 @@ pub returns-else-entry-eq0 : goal.returns-else-entry-eq0
 returns-else-entry-eq0 c =
     let same : FileRec → Bool = λ f. entry_type (type_of f) == c.args.entry.now.ftype in
     let stated : c.args.entry.now.ftype == 0 ≡ false = search rules in
-    c.have_type.ensures ∙ ap (list_any same) c.records_by_number.ensures ∙ any_of_run (λ (f : FileRec). f.ino == c.args.entry.now.ino) same c.args.names.now.files.now
+    c.have_type.ensures ∙ ap (list_any same) c.records_near.ensures ∙ any_of_run (λ (f : FileRec). f.ino == c.args.entry.now.ino) same c.args.names.now.files.now
     ∙ sym (ap (λ (t : Bool). t || list_any (λ (f : FileRec). f.ino == c.args.entry.now.ino && entry_type (type_of f) == c.args.entry.now.ftype) c.args.names.now.files.now) stated)
