@@ -1,6 +1,7 @@
 pub mod Marking
 pub mod Ranges
 pub mod Rooms
+pub mod Windowed
 pub mod Totals
 pub mod Ranks
 pub mod OwnedSteps

@@ -1,17 +1,17 @@
 -- Lists of uses, as blocks are marked in them.
 use Rattle.std.specs.Option.{unwrap_or}
 use Rattle.std.proofs.lemmas.List.{drop_more}
-use Rattle.std.proofs.Common.{Option, Some, subst, drop, ◌≡◌, ℕ, Bool, true, false, ◌+◌, ◌-◌, ◌*◌, ◌/◌, ◌%◌, ◌≤◌, ◌<◌, ◌&&◌, ◌||◌, ◌==◌, nat_lt, if◌then◌else◌, List, [], ◌∷◌, length, get_or, set, take, inl, inr, refl, sym, ◌∙◌, ap, arith, get_or-set_same, get_or-set_other}
+use Rattle.std.proofs.Common.{Option, Some, subst, drop, ◌≡◌, ℕ, Bool, true, false, ◌+◌, ◌-◌, ◌*◌, ◌/◌, ◌%◌, ◌≤◌, ◌<◌, ◌&&◌, ◌||◌, ◌==◌, nat_lt, if◌then◌else◌, List, [], ◌∷◌, length, get_or, min, set, take, inl, inr, refl, sym, ◌∙◌, ap, arith, get_or-set_same, get_or-set_other}
 use Rattle.std.specs.List.{list_any}
 use Rattle.std.proofs.Math.ListN.{length-set}
 use Rattle.std.proofs.Math.Nat.{mul-le-mul_right}
-use Rattle.std.proofs.lemmas.Bool.{cases_eq, cases_lt, eq-eqb, ne_eqb, eqb-false, lt-ltb, le-ltb}
+use Rattle.std.proofs.lemmas.Bool.{cases_eq, cases_lt, eq-eqb, ne_eqb, eqb-false, lt-ltb, le-ltb, true≢false}
 use Rattle.std.proofs.lemmas.Bool.Decides.{nat_tests}
 use Rattle.std.proofs.lemmas.List.Folds.{list_any_more}
 use Rattle.std.proofs.lemmas.Nat.{mod-mul-add}
 use Rattle.xfs_geom.specs.Runs.{covers}
 use Rattle.xfs_disk.specs.Lists.{is_in_range}
-use Rattle.xfs_geom.specs.Conversions.{is_fixed}
+use Rattle.xfs_geom.specs.Conversions.{group_length, is_fixed}
 use Rattle.xfs_geom.specs.Shape.{HasGroups, HasLog}
 use Rattle.xfs_geom.specs.Volumes.{Volume}
 use Rattle.xfs_geom.specs.declared.records.Run.{Run}
@@ -108,46 +108,49 @@ unfolding is_listed
 none_listed b = refl
 
 -- where nothing is said, nothing changes
-pub puts_none : (uses : List Use) → PutsUses uses uses (use_held [])
+pub puts_none : (from : ℕ) (uses : List Use) → PutsUses uses uses (λ b. use_held [] (from + b))
 unfolding use_held
-puts_none uses = record { all = refl; each = λ b h. refl }
+puts_none from uses = record { all = refl; each = λ b h. refl }
 
 -- one run in front of those that are said already
-pub puts_more : (old mid new : List Use) (r : Run) (rest : List Run) → PutsUses old mid (use_held rest) → MarksUses mid new (is_in_range r.start r.count) (use_of_run r)
-    → PutsUses old new (use_held (r ∷ rest))
+pub puts_more : (from : ℕ) (old mid new : List Use) (r : Run) (rest : List Run) → PutsUses old mid (λ b. use_held rest (from + b))
+    → MarksUses mid new (λ b. is_in_range r.start r.count (from + b)) (use_of_run r) → PutsUses old new (λ b. use_held (r ∷ rest) (from + b))
 unfolding use_held
-puts_more old mid new r rest first next = record {
+puts_more from old mid new r rest first next = record {
   all = next.all ∙ first.all;
   each = λ b h.
       let here : b < length mid = omega (arith, first.all, h) in
-      by_case (covers b r) (use_held rest b) (use_of_run r) (use_at old b) (use_at mid b) (use_at new b) (first.each b h) (next.each b here);
+      by_case (covers (from + b) r) (use_held rest (from + b)) (use_of_run r) (use_at old b) (use_at mid b) (use_at new b) (first.each b h) (next.each b here);
 }
   where
     by_case : (t : Bool) (said : Option Use) (now u v w : Use) → v ≡ unwrap_or said u → w ≡ (if t then now else v) → w ≡ unwrap_or (if t then Some now else said) u
     by_case true said now u v w hv hw = hw
     by_case false said now u v w hv hw = hw ∙ hv
 
-pub puts_at : (old mid new : List Use) (runs : List Run) (i : ℕ) (none : Run) → i < length runs → PutsUses old mid (use_held (drop (length runs - i) runs))
-    → MarksUses mid new (is_in_range (get_or runs (length runs - 1 - i) none).start (get_or runs (length runs - 1 - i) none).count) (use_of_run (get_or runs (length runs - 1 - i) none))
-    → PutsUses old new (use_held (drop (length runs - (i + 1)) runs))
-puts_at old mid new runs i none in' first next =
+pub puts_at : (from : ℕ) (old mid new : List Use) (runs : List Run) (i : ℕ) (none : Run) → i < length runs → PutsUses old mid (λ b. use_held (drop (length runs - i) runs) (from + b))
+    → MarksUses mid new (λ b. is_in_range (get_or runs (length runs - 1 - i) none).start (get_or runs (length runs - 1 - i) none).count (from + b)) (use_of_run (get_or runs (length runs - 1 - i) none))
+    → PutsUses old new (λ b. use_held (drop (length runs - (i + 1)) runs) (from + b))
+puts_at from old mid new runs i none in' first next =
     let at = length runs - 1 - i in
     let step : drop at runs ≡ get_or runs at none ∷ drop (at + 1) runs = drop_more runs at none (omega (arith, in')) in
     let after : at + 1 ≡ length runs - i = omega (arith, in') in
     let before : at ≡ length runs - (i + 1) = omega (arith, in') in
-    let rest : PutsUses old mid (use_held (drop (at + 1) runs)) = subst (λ (k : ℕ). PutsUses old mid (use_held (drop k runs))) (sym after) first in
-    let whole = puts_more old mid new (get_or runs at none) (drop (at + 1) runs) rest next in
-    subst (λ (rs : List Run). PutsUses old new (use_held rs)) (sym step ∙ ap (λ (k : ℕ). drop k runs) before) whole
+    let rest : PutsUses old mid (λ b. use_held (drop (at + 1) runs) (from + b)) = subst (λ (k : ℕ). PutsUses old mid (λ b. use_held (drop k runs) (from + b))) (sym after) first in
+    let whole = puts_more from old mid new (get_or runs at none) (drop (at + 1) runs) rest next in
+    subst (λ (rs : List Run). PutsUses old new (λ b. use_held rs (from + b))) (sym step ∙ ap (λ (k : ℕ). drop k runs) before) whole
 
 -- a block beyond the list is not there
 or_false : (x y : Bool) → y ≡ false → x ≡ (x || y)
 or_false true y h = refl
 or_false false y h = sym h
 
-pub listed_beyond : (blocks : List ℕ) (i block n : ℕ) → i < length blocks → n ≤ get_or blocks i block → (b : ℕ) → b < n → is_listed (take (i + 1) blocks) b ≡ is_listed (take i blocks) b
-listed_beyond blocks i block n in' far b h =
-    let other : (b == get_or blocks i block) ≡ false = ne_eqb b (get_or blocks i block) (λ e. omega (arith, e)) in
-    listed_more blocks i block in' b ∙ sym (or_false (is_listed (take i blocks) b) (b == get_or blocks i block) other)
+pub listed_beyond : (from : ℕ) (blocks : List ℕ) (i block n : ℕ) → i < length blocks → is_in_range from n (get_or blocks i block) ≡ false → (b : ℕ) → b < n
+    → is_listed (take (i + 1) blocks) (from + b) ≡ is_listed (take i blocks) (from + b)
+listed_beyond from blocks i block n in' far b h =
+    let other : (from + b == get_or blocks i block) ≡ false = ne_eqb (from + b) (get_or blocks i block) (λ e.
+    let here : is_in_range from n (from + b) ≡ true = grind (arith, nat_tests, h) in
+    true≢false (sym here ∙ ap (is_in_range from n) e ∙ far)) in
+    listed_more blocks i block in' (from + b) ∙ sym (or_false (is_listed (take i blocks) (from + b)) (from + b == get_or blocks i block) other)
 
 first_only : (x y : Bool) → x ≡ y → (x && true) ≡ ((x && false) || y)
 first_only true y h = h
@@ -158,7 +161,7 @@ neither true = refl
 neither false = refl
 
 -- the first block of the next group is the one more that begins a group
-pub headers_more : (width ag at b : ℕ) → at ≡ ag * width → 1 ≤ width
+headers_more : (width ag at b : ℕ) → at ≡ ag * width → 1 ≤ width
     → (b % width == 0 && nat_lt b ((ag + 1) * width)) ≡ ((b % width == 0 && nat_lt b (ag * width)) || (b == at))
 headers_more width ag at b is some = elim (cases_lt b (ag * width)) [
   | inl low ↦
@@ -182,19 +185,59 @@ headers_more width ag at b is some = elim (cases_lt b (ag * width)) [
       ]
 ]
 
+pub headers_next : (width ag at b : ℕ) → at ≡ ag * width → 1 ≤ width
+    → (b % width == 0 && nat_lt b ((ag + 1) * width)) ≡ ((b % width == 0 && nat_lt b (ag * width)) || is_in_range at 1 b)
+headers_next width ag at b is some =
+    let one : (b == at) ≡ is_in_range at 1 b = grind (arith, nat_tests) in
+    headers_more width ag at b is some ∙ ap (λ (t : Bool). (b % width == 0 && nat_lt b (ag * width)) || t) one
+
+-- a block of the volume behind the start of a group is of that group or of one behind
+pub stands_in : (v : Volume) (ag b at length : ℕ) → at ≡ ag * v.agblocks → length ≡ group_length v ag → b < v.dblocks → b < at + v.agblocks → b < at + length
+stands_in v ag b at length is long low near = by_case (ag + 1 == v.agcount) length long
+  where
+    by_case : (r : Bool) (n : ℕ) → n ≡ (if r then v.dblocks - ag * v.agblocks else v.agblocks) → b < at + n
+    by_case true n h = omega (arith, h, low, is)
+    by_case false n h = omega (arith, h, near)
+
+-- the fronts of groups, of one group more
+pub fronts_more : (width length from ag at blocks b : ℕ) → at ≡ ag * width → blocks ≡ min length from → length ≤ width → (b < at + width → b < at + length) → 1 ≤ width
+    → (nat_lt (b % width) from && nat_lt b ((ag + 1) * width)) ≡ ((nat_lt (b % width) from && nat_lt b (ag * width)) || is_in_range at blocks b)
+fronts_more width length from ag at blocks b is least short place some = elim (cases_lt b (ag * width)) [
+  | inl low ↦
+      let e : nat_lt b (ag * width) ≡ true = lt-ltb b (ag * width) low in
+      let f : nat_lt b ((ag + 1) * width) ≡ true = lt-ltb b ((ag + 1) * width) (omega (arith, low)) in
+      let g : is_in_range at blocks b ≡ false = grind (arith, nat_tests, low, is) in
+      rw (e, f, g) (or_false (nat_lt (b % width) from && true) false refl)
+  | inr high ↦
+      let e : nat_lt b (ag * width) ≡ false = le-ltb b (ag * width) high in
+      elim (cases_lt (b - ag * width) width) [
+        | inl near ↦
+            let whole : b ≡ ag * width + (b - ag * width) = omega (arith, high) in
+            let rest : b % width ≡ b - ag * width = ap (λ (n : ℕ). n % width) whole ∙ mod-mul-add ag width (b - ag * width) near in
+            let f : nat_lt b ((ag + 1) * width) ≡ true = lt-ltb b ((ag + 1) * width) (omega (arith, high, near)) in
+            let inside : b < at + length = place (omega (arith, high, near, is)) in
+            let few : blocks ≡ min length from = least in
+            let g : nat_lt (b - ag * width) from ≡ is_in_range at blocks b = grind (arith, nat_tests, is, few, inside, high) in
+            rw (e, f, rest) (first_only (nat_lt (b - ag * width) from) (is_in_range at blocks b) g)
+        | inr far ↦
+            let f : nat_lt b ((ag + 1) * width) ≡ false = le-ltb b ((ag + 1) * width) (omega (arith, high, far)) in
+            let g : is_in_range at blocks b ≡ false = grind (arith, nat_tests, far, is, least, short) in
+            rw (e, f, g) (neither (nat_lt (b % width) from))
+      ]
+]
+
 -- the uses after all three marks
-pub uses_set : (v : Volume) (runs : List Run) (reserved : List ℕ) (fresh kept fixed claimed : List Use) → Shows fresh v.dblocks (λ _. Pool)
-    → MarksUses fresh kept (is_listed reserved) Reserved → MarksUses kept fixed (is_fixed v) Claimed → PutsUses fixed claimed (use_held runs)
-    → Shows claimed v.dblocks (use_of v runs reserved)
+pub uses_set : (v : Volume) (runs : List Run) (reserved : List ℕ) (from : ℕ) (fresh kept fixed claimed : List Use) → ((b : ℕ) → b < length fresh → use_at fresh b ≡ Pool)
+    → MarksUses fresh kept (λ b. is_listed reserved (from + b)) Reserved → MarksUses kept fixed (λ b. is_fixed v (from + b)) Claimed → PutsUses fixed claimed (λ b. use_held runs (from + b))
+    → Shows claimed (length fresh) (λ b. use_of v runs reserved (from + b))
 unfolding use_of
-uses_set v runs reserved fresh kept fixed claimed all first second third = record {
-  all = third.all ∙ second.all ∙ first.all ∙ all.all;
-  each = λ b h.
-      let a : b < length fresh = omega (arith, all.all, h) in
+uses_set v runs reserved from fresh kept fixed claimed all first second third = record {
+  all = third.all ∙ second.all ∙ first.all;
+  each = λ b a.
       let k : b < length kept = omega (arith, first.all, a) in
       let f : b < length fixed = omega (arith, second.all, k) in
-      by_cases (is_fixed v b) (is_listed reserved b) (use_held runs b) (use_at fresh b) (use_at kept b) (use_at fixed b) (use_at claimed b)
-      (all.each b h) (first.each b a) (second.each b k) (third.each b f);
+      by_cases (is_fixed v (from + b)) (is_listed reserved (from + b)) (use_held runs (from + b)) (use_at fresh b) (use_at kept b) (use_at fixed b) (use_at claimed b)
+      (all b a) (first.each b a) (second.each b k) (third.each b f);
 }
   where
     by_cases : (x l : Bool) (t : Option Use) (u k f c : Use) → u ≡ Pool → k ≡ (if l then Reserved else u) → f ≡ (if x then Claimed else k) → c ≡ unwrap_or t f → c ≡ use_by x t l

@@ -1,8 +1,7 @@
 -- One group of a volume as placing has it.
-use Rattle.std.proofs.Common.{◌≡◌, ℕ, ◌+◌, ◌-◌, ◌*◌, ◌≤◌, ◌<◌, inl, inr, Bool, false, if◌then◌else◌, List, [], ◌∷◌, ◌++◌, length, take, drop, map, Option, None, refl, sym, ◌∙◌, ap, ap₂, subst, arith, length-drop, length-take, get_or-take, get_or-drop}
+use Rattle.std.proofs.Common.{◌≡◌, ℕ, ◌+◌, ◌-◌, ◌*◌, ◌≤◌, ◌<◌, inl, inr, Bool, false, if◌then◌else◌, List, [], ◌∷◌, ◌++◌, length, map, Option, None, refl, sym, ◌∙◌, ap, ap₂, subst, arith}
 use Rattle.std.specs.List.{filter}
 use Rattle.std.proofs.lemmas.Bool.{cases_lt, lt-ltb, le-ltb}
-use Rattle.std.proofs.lemmas.List.FromFn.{fill_by_all}
 use Rattle.std.proofs.lemmas.Bool.Decides.{nat_tests}
 use Rattle.xfs_disk.specs.Lists.{is_in_range}
 use Rattle.xfs_geom.specs.Conversions.{group_length}
@@ -11,8 +10,6 @@ use Rattle.xfs_geom.specs.Volumes.{Volume}
 use Rattle.xfs_geom.specs.declared.records.Run.{Run}
 use Rattle.xfs_kinds.specs.MergedRuns.{AreRuns, held_at}
 use Rattle.xfs_place.specs.declared.uses.Use.{Use}
-use Rattle.xfs_place.specs.declared.uses.Use.TheVariants.{Claimed}
-use Rattle.xfs_place.specs.Pool.{Shows, use_of}
 use Rattle.xfs_place.specs.Choice.{Group, IsChosenCount, group, group_claimed}
 use Rattle.xfs_place.specs.Placing.{IsPlacedGroup}
 use Rattle.xfs_place.specs.declared.placed.GroupPlaced.{GroupPlaced}
@@ -55,17 +52,6 @@ module _ (v : Volume) (kept : List Run) (reserved : List ℕ) (claims : List Run
         ∙ sym (ap (λ (t : Bool). if t then held_at (fixed_runs v ++ kept) (ag * v.agblocks + b) else None) (le-ltb b (group_length v ag) far))
   ]
 
-  -- the part of the list of uses
-  pub part_uses : (uses : List Use) → Shows uses v.dblocks (use_of v kept reserved) → ag * v.agblocks + group_length v ag ≤ v.dblocks
-      → take (group_length v ag) (drop (ag * v.agblocks) uses) ≡ uses_in v kept reserved ag
-  unfolding uses_in
-  part_uses uses shows inside =
-      let base = ag * v.agblocks in
-      let n = group_length v ag in
-      fill_by_all (λ b. use_of v kept reserved (base + b)) (take n (drop base uses)) n Claimed
-      (omega (arith, length-take n (drop base uses), length-drop base uses, shows.all, inside))
-      (λ k h. get_or-take n (drop base uses) k Claimed h ∙ get_or-drop base uses k Claimed ∙ shows.each (base + k) (omega (arith, h, inside)))
-
   -- the group that is placed is that of the volume
   pub same_group : (uses : List Use) (inner : ℕ) → uses ≡ uses_in v kept reserved ag → group_claimed uses part inner ≡ group_in v kept reserved ag inner
   same_group uses inner hu = ap₂ (λ (us : List Use) (claim : ℕ → Option (ℕ × ℕ)). group us claim inner) hu (λ k b. part_claim b k)
@@ -77,21 +63,12 @@ module _ (v : Volume) (kept : List Run) (reserved : List ℕ) (claims : List Run
   part_is : part ≡ map (run_in_group (ag * v.agblocks)) (filter (begins_in (ag * v.agblocks) (group_length v ag)) claims)
   part_is = here ∙ is ∙ ap₂ (λ (b n : ℕ). map (run_in_group b) (filter (begins_in b n) claims)) hb hn
 
-  slice_is : (uses : List Use) → Shows uses v.dblocks (use_of v kept reserved) → ag * v.agblocks + group_length v ag ≤ v.dblocks
-      → take (base + blocks - base) (drop base uses) ≡ uses_in v kept reserved ag
-  slice_is uses shows inside =
-      let count : base + blocks - base ≡ group_length v ag = omega (arith, hn) in
-      ap₂ (λ (n b : ℕ). take n (drop b uses)) count hb ∙ part_uses v kept reserved claims ag groups low all part part_is uses shows inside
+  pub same_here : (uses : List Use) (inner : ℕ) → uses ≡ uses_in v kept reserved ag → group_claimed uses part inner ≡ group_in v kept reserved ag inner
+  same_here uses inner hu = same_group v kept reserved claims ag groups low all part part_is uses inner hu
 
-  pub same_here : (uses : List Use) (inner : ℕ) → Shows uses v.dblocks (use_of v kept reserved) → ag * v.agblocks + group_length v ag ≤ v.dblocks
-      → group_claimed (take (base + blocks - base) (drop base uses)) part inner ≡ group_in v kept reserved ag inner
-  same_here uses inner shows inside =
-      same_group v kept reserved claims ag groups low all part part_is (take (base + blocks - base) (drop base uses)) inner (slice_is uses shows inside)
-
-  pub claims_here : (uses : List Use) → Shows uses v.dblocks (use_of v kept reserved) → ag * v.agblocks + group_length v ag ≤ v.dblocks
-      → AreClaims (length (take (base + blocks - base) (drop base uses))) part
-  claims_here uses shows inside =
-      let long : length (take (base + blocks - base) (drop base uses)) ≡ group_length v ag = ap length (slice_is uses shows inside) ∙ length_uses v kept reserved ag in
+  pub claims_here : (uses : List Use) → uses ≡ uses_in v kept reserved ag → AreClaims (length uses) part
+  claims_here uses hu =
+      let long : length uses ≡ group_length v ag = ap length hu ∙ length_uses v kept reserved ag in
       subst (λ (n : ℕ). AreClaims n part) (sym long) (part_claims v kept reserved claims ag groups low all part part_is)
 
 pub placed_here : (o : Option GroupPlaced) (g h : Group) (base due : ℕ) (inodes : List InoRec) → h ≡ g → base ≡ due

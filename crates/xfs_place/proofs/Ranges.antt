@@ -1,8 +1,9 @@
 -- Numbers in a row, tests of them, and fronts of lists.
-use Rattle.std.proofs.Common.{◌≡◌, ℕ, zero, suc, ◌+◌, ◌≤◌, ◌<◌, inl, inr, Bool, true, false, ◌&&◌, List, [], ◌∷◌, ◌++◌, length, take, refl, sym, ◌∙◌, ap, ap₂, arith, length-take, length-append}
+use Rattle.std.proofs.Common.{◌≡◌, ℕ, zero, suc, ◌+◌, ◌-◌, ◌≤◌, ◌<◌, inl, inr, Bool, true, false, ◌&&◌, List, [], ◌∷◌, ◌++◌, length, take, refl, sym, ◌∙◌, ap, ap₂, arith, length-take, length-append}
 use Rattle.std.specs.List.{flat_map, list_all, range_with_len}
 use Rattle.std.proofs.lemmas.Bool.{cases_lt, cases_eq}
 use Rattle.std.proofs.lemmas.List.{take_all, take-append-le, take-take, flat_map_more}
+use Rattle.std.proofs.lemmas.List.Concat.{flat_map-append}
 
 pub range_split : (a i k n : ℕ) → n ≡ i + k → range_with_len a n ≡ range_with_len a i ++ range_with_len (a + i) k
 range_split a zero k n is =
@@ -68,3 +69,12 @@ take_again n xs ys = elim (cases_lt (length xs) n) [
 
 pub flat_more : (f : ℕ → List ℕ) (n : ℕ) → flat_map f (range_with_len 0 (n + 1)) ≡ flat_map f (range_with_len 0 n) ++ f n
 flat_more f n = ap (flat_map f) (range_more n) ∙ sym (flat_map_more f [] (range_with_len 0 n) n)
+
+-- a front of what some numbers give stays where more follow, once it is full
+pub flat_full : (n : ℕ) (f : ℕ → List ℕ) (i all : ℕ) (ys : List ℕ) → i ≤ all → ys ≡ take n (flat_map f (range_with_len 0 i)) → n ≤ length ys → ys ≡ take n (flat_map f (range_with_len 0 all))
+flat_full n f i all ys low so full =
+    let k : ℕ = all - i in
+    let many : all ≡ i + k = omega (arith, low) in
+    let enough : n ≤ length (take n (flat_map f (range_with_len 0 i))) = omega (arith, full, ap length so) in
+    so ∙ sym (take_full n (flat_map f (range_with_len 0 i)) (flat_map f (range_with_len (0 + i) k)) enough)
+    ∙ ap (take n) (sym (ap (flat_map f) (range_split 0 i k all many) ∙ flat_map-append f (range_with_len 0 i) (range_with_len (0 + i) k)))

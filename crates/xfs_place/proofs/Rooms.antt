@@ -12,9 +12,9 @@ use Rattle.xfs_geom.specs.Conversions.{group_length, is_fixed}
 use Rattle.xfs_geom.specs.declared.records.Run.{Run}
 use Rattle.xfs_place.specs.declared.uses.Use.{Use}
 use Rattle.xfs_place.specs.declared.uses.Use.TheVariants.{Pool, Reserved, Claimed, ForSpace, ForInodes}
-use Rattle.xfs_place.specs.Pool.{MarksUses, Shows, is_listed, is_open, is_pool, is_pool_unspared, is_taken, is_unspared, use_at, use_held, use_of, use_of_run}
+use Rattle.xfs_place.specs.Pool.{is_listed, is_open, is_pool, is_taken, use_held, use_of, use_of_run}
 use Rattle.xfs_place.specs.Chunks.{is_room, lies_in_chunks, rooms_below}
-use Rattle.xfs_place.proofs.Ranges.{range_more, range_split, same_tests, take_full, take_open}
+use Rattle.xfs_place.proofs.Ranges.{range_more, range_split, take_full, take_open}
 
 never_open : (r : Run) → is_open (use_of_run r) ≡ false
 never_open r = by_cases (nat_lt r.offset_word (2 ^ 61)) (r.owner == group_owner) (r.owner == inode_trees_owner)
@@ -51,24 +51,6 @@ open_is v runs reserved b =
     by_cases false true false = refl
     by_cases false false true = refl
     by_cases false false false = refl
-
--- what the list of uses says of some blocks of the volume
-pub open_blocks : (pool : ℕ → Bool) (uses : List Use) (n start count : ℕ) → ((b : ℕ) → b < n → is_open (use_at uses b) ≡ pool b) → start + count ≤ n
-    → list_all (λ b. is_open (use_at uses b)) (range_with_len start count) ≡ list_all pool (range_with_len start count)
-open_blocks pool uses n start count shows inside =
-    same_tests (λ b. is_open (use_at uses b)) pool start count (λ b low high. shows b (omega (arith, high, inside)))
-
--- the list of uses once the blocks that are spared are closed
-pub open_unspared : (v : Volume) (runs : List Run) (reserved spared : List ℕ) (uses now : List Use) (n b : ℕ) → Shows uses n (use_of v runs reserved)
-    → MarksUses uses now (λ block. not (is_unspared v spared block)) Claimed → b < n → is_open (use_at now b) ≡ is_pool_unspared v runs reserved spared b
-open_unspared v runs reserved spared uses now n b shows marks low =
-    by_case (is_unspared v spared b) (use_at uses b) (use_at now b) (is_pool v runs reserved b) (marks.each b (omega (arith, low, shows.all))) (ap is_open (shows.each b low) ∙ open_is v runs reserved b)
-  where
-    by_case : (t : Bool) (u w : Use) (p : Bool) → w ≡ (if not t then Claimed else u) → is_open u ≡ p → is_open w ≡ (p && t)
-    by_case true u w true hw hu = ap is_open hw ∙ hu
-    by_case true u w false hw hu = ap is_open hw ∙ hu
-    by_case false u w true hw hu = ap is_open hw
-    by_case false u w false hw hu = ap is_open hw
 
 module _ (v : Volume) (pool : ℕ → Bool) (size from ag : ℕ) where
   pub no_rooms : rooms_below v pool size from ag 0 ≡ []

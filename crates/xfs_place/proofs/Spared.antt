@@ -1,13 +1,15 @@
 -- Which blocks are spared, as one block of a group after another is looked at from its end.
-use Rattle.std.proofs.Common.{◌≡◌, ℕ, zero, suc, ◌+◌, ◌-◌, ◌*◌, ◌≤◌, ◌<◌, ◌==◌, ◌&&◌, Bool, true, false, if◌then◌else◌, List, length, get_or, refl, sym, ◌∙◌, ap, arith}
+use Rattle.std.proofs.Common.{◌≡◌, ℕ, zero, suc, ◌+◌, ◌-◌, ◌*◌, ◌<◌, ◌==◌, ◌&&◌, Bool, true, false, if◌then◌else◌, List, length, refl, sym, ◌∙◌, ap, arith}
 use Rattle.std.proofs.lemmas.Bool.{eqb-true, true≢false}
 use Rattle.xfs_geom.specs.Conversions.{group_length}
 use Rattle.xfs_geom.specs.Volumes.{Volume}
 use Rattle.xfs_geom.specs.declared.records.Run.{Run}
 use Rattle.xfs_place.specs.declared.uses.Use.{Use}
-use Rattle.xfs_place.specs.Pool.{Shows, is_open, is_pool, use_at, use_of}
+use Rattle.xfs_place.specs.Pool.{is_open, is_pool, use_at}
 use Rattle.xfs_place.specs.Sparing.{by_left, room_for, spared_below, spared_of}
-use Rattle.xfs_place.proofs.Rooms.{open_is}
+use Rattle.xfs_place.specs.Wanted.{uses_in}
+use Rattle.xfs_place.proofs.GroupIs.{length_uses}
+use Rattle.xfs_place.proofs.Windowed.{open_in}
 
 pub spared_none : (pool : ℕ → Bool) (left : ℕ) → spared_below pool left 0 ≡ 0
 unfolding spared_below
@@ -47,9 +49,11 @@ spared_same p q (suc n) left same =
     by_case true (suc l) rest = rest l
     by_case false l rest = rest l
 
--- the list of uses says of each group what the pool does
-pub spared_by_uses : (v : Volume) (runs : List Run) (reserved : List ℕ) (uses : List Use) (anew : Bool) (ag : ℕ) → Shows uses v.dblocks (use_of v runs reserved)
-    → ag * v.agblocks + group_length v ag ≤ v.dblocks → spared_of v (λ block. is_open (use_at uses block)) anew ag ≡ spared_of v (is_pool v runs reserved) anew ag
-spared_by_uses v runs reserved uses anew ag shows inside =
-    spared_same (λ k. is_open (use_at uses (ag * v.agblocks + k))) (λ k. is_pool v runs reserved (ag * v.agblocks + k)) (group_length v ag) (room_for anew (group_length v ag))
-    (λ k low. ap is_open (shows.each (ag * v.agblocks + k) (omega (arith, low, inside))) ∙ open_is v runs reserved (ag * v.agblocks + k))
+-- the list of uses of a group says what the pool does
+pub spared_by_uses : (v : Volume) (runs : List Run) (reserved : List ℕ) (uses : List Use) (anew : Bool) (ag at : ℕ) → uses ≡ uses_in v runs reserved ag
+    → at ≡ spared_below (λ block. is_open (use_at uses block)) (room_for anew (length uses)) (length uses) → at ≡ spared_of v (is_pool v runs reserved) anew ag
+spared_by_uses v runs reserved uses anew ag at is spares =
+    let long : length uses ≡ group_length v ag = ap length is ∙ length_uses v runs reserved ag in
+    spares ∙ ap (λ (n : ℕ). spared_below (λ block. is_open (use_at uses block)) (room_for anew n) n) long
+    ∙ spared_same (λ k. is_open (use_at uses k)) (λ k. is_pool v runs reserved (ag * v.agblocks + k)) (group_length v ag) (room_for anew (group_length v ag))
+    (λ k low. open_in v runs reserved uses ag k is low)

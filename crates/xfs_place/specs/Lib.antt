@@ -10,3 +10,4 @@ pub mod Finding
 pub mod Sparing
 pub mod Counts
 pub mod Standing
+pub mod Windows

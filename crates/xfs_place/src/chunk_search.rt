@@ -1,16 +1,17 @@
 //! Where chunks of inodes stand (chapter "AG Inode Management").
 
-ghost use Rattle.std.specs.Prelude.{◌≡◌, ◌+◌, ◌*◌, ◌≤◌, ◌<◌, ◌^◌, ◌⊎◌, ◌++◌, ℕ, not, length, take, All, IfErr, IfOk, OnOk};
+ghost use Rattle.std.specs.Prelude.{◌≡◌, ◌+◌, ◌*◌, ◌≤◌, ◌<◌, ◌^◌, ◌⊎◌, ◌++◌, ◌&&◌, nat_le, length, slice_index_or, take, All, IfErr, IfOk, OnOk};
 ghost use Rattle.std.specs.List.{list_all, range_with_len};
 ghost use Rattle.xfs_geom.specs.Conversions.{group_length};
 ghost use Rattle.xfs_geom.specs.Volumes.{volume_of};
 ghost use Rattle.xfs_place.specs.Chunks.{asked_pool, asked_rooms, is_room, lies_in_chunks, rooms_of};
-ghost use Rattle.xfs_place.specs.Pool.{IsRunOf, MarksUses, is_open, is_unspared, use_at};
-ghost use Rattle.xfs_place.specs.declared.uses.Use.TheVariants.{Claimed};
+ghost use Rattle.xfs_place.specs.Pool.{IsRunOf, is_open, use_at};
+ghost use Rattle.xfs_place.specs.Wanted.{uses_in};
 
 use crate::faults::{PlaceFault, Unplaced};
 use crate::open_rows::spared_from;
-use crate::uses::{Use, is_open, list_uses};
+use crate::uses::{Use, is_open};
+use crate::windows::Window;
 use std::alloc::Global;
 use xfs_disk::NoMemory;
 use xfs_geom::{Geometry, Run};
@@ -64,40 +65,25 @@ fn find_chunks(alloc: Global, ask: &ChunkAsk) -> Result<Vec<u64>, NoMemory>
     ensures { IfOk result (λ starts. starts.items ≡ take ask.now.count (asked_rooms ask.now)) }
 {
     let g = &ask.geometry;
-    let mut uses = list_uses(alloc, g, ask.taken.as_slice(), ask.reserved.as_slice())?;
-    close_spared(&mut uses, g, ask.spared_from.as_slice());
+    let taken = ask.taken.as_slice();
+    let reserved = ask.reserved.as_slice();
+    let mut window = Window::new(alloc);
     let mut starts = Vec::new(alloc);
     for ag in 0..g.agcount {
-        push_rooms(&mut starts, ask, &uses, ag)?;
+        if starts.len() >= ask.count as usize {
+            return Ok(starts);
+        }
+        window.reach(alloc, g, taken, reserved, ag)?;
+        push_rooms(&mut starts, ask, window.group(g, ag), ag)?;
     }
     Ok(starts)
 }
 
-/// Closes the blocks that are spared.
-fn close_spared(uses: &mut [Use], g: &Geometry, spared: &[u32])
-    requires few { length uses.old < 2 ^ 32 }
-    ensures { MarksUses uses.old uses.new (λ block. not (is_unspared (volume_of g.now) spared.now block)) Claimed }
-{
-    for block in 0..uses.len() {
-        if !is_unspared(g, spared, block as u32) {
-            uses[block] = Use::Claimed;
-        }
-    }
-}
-
-/// Whether a block stands before those of its group that are spared.
-fn is_unspared(g: &Geometry, spared: &[u32], block: u32) -> bool
-    ensures { result ≡ is_unspared (volume_of g.now) spared.now block }
-{
-    block % g.agblocks < spared_from(spared, (block / g.agblocks) as usize, g.agblocks)
-}
-
-/// Adds the chunks of a group, up to the number that is wanted.
+/// Adds the chunks of a group, up to the number that is wanted, by the uses of its blocks.
 fn push_rooms(starts: &mut Vec<u64>, ask: &ChunkAsk, uses: &[Use], ag: u32) -> Result<(), NoMemory>
     requires size { 1 ≤ ask.now.size }
     requires group { ag < ask.now.geometry.agcount }
-    requires uses { (b : ℕ) → b < ask.now.geometry.dblocks → is_open (use_at uses.now b) ≡ asked_pool ask.now b }
-    requires all { length uses.now ≡ ask.now.geometry.dblocks }
+    requires uses { uses.now ≡ uses_in (volume_of ask.now.geometry) ask.now.taken ask.now.reserved ag }
     requires few { length starts.old.items ≤ ask.now.count }
     ensures { OnOk result (starts.new.items ≡ take ask.now.count (starts.old.items
         ++ rooms_of (volume_of ask.now.geometry) (asked_pool ask.now) ask.now.size ask.now.from ag)) }
@@ -115,18 +101,32 @@ fn push_rooms(starts: &mut Vec<u64>, ask: &ChunkAsk, uses: &[Use], ag: u32) -> R
     Ok(())
 }
 
-/// Whether the blocks of this number, among those of `size` blocks of a group, can be a chunk.
+/// Whether the blocks of this number, among those of `size` blocks of a group, can be a chunk, by the uses of the group's blocks.
 fn is_room(ask: &ChunkAsk, uses: &[Use], ag: u32, i: u64) -> bool
+    requires size { 1 ≤ ask.now.size }
     requires group { ag < ask.now.geometry.agcount }
     requires inside { i * ask.now.size + ask.now.size ≤ group_length (volume_of ask.now.geometry) ag }
-    requires uses { (b : ℕ) → b < ask.now.geometry.dblocks → is_open (use_at uses.now b) ≡ asked_pool ask.now b }
-    requires all { length uses.now ≡ ask.now.geometry.dblocks }
+    requires uses { uses.now ≡ uses_in (volume_of ask.now.geometry) ask.now.taken ask.now.reserved ag }
     ensures { result ≡ is_room (volume_of ask.now.geometry) (asked_pool ask.now) ask.now.size ask.now.from ag i }
 {
-    let size = ask.size as u64;
     let length = ask.geometry.group_length(ag);
-    let start = ask.geometry.start_of_group(ag) + i * size;
-    lies_in_chunks(ask, length, i * size) && are_open(uses, start, size)
+    let at = i * ask.size as u64;
+    lies_in_chunks(ask, length, at) && are_asked(ask, uses, ag, at)
+}
+
+/// Whether the `size` blocks from an AG block on are of the pool and not spared, by the uses of the group's blocks.
+fn are_asked(ask: &ChunkAsk, uses: &[Use], ag: u32, at: u64) -> bool
+    requires { at + ask.now.size ≤ length uses.now }
+    ensures { result ≡ (nat_le (at + ask.now.size) (slice_index_or ask.now.spared_from ag ask.now.geometry.agblocks)
+        && list_all (λ block. is_open (use_at uses.now block)) (range_with_len at ask.now.size)) }
+{
+    let size = ask.size as u64;
+    let spared = spared_from(
+        ask.spared_from.as_slice(),
+        ag as usize,
+        ask.geometry.agblocks,
+    );
+    at + size <= spared as u64 && are_open(uses, at, size)
 }
 
 /// Whether the `size` blocks from an AG block on lie where chunks may stand, in a group of so many blocks.

@@ -32,6 +32,7 @@ mod sparing;
 mod uses;
 mod volume_placing;
 mod wanted;
+mod windows;
 
 pub use chunk_search::{ChunkAsk, chunks};
 pub use faults::{PlaceFault, Unplaced};

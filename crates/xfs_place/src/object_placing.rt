@@ -56,6 +56,10 @@ pub fn keep_with(
     ensures cause { IfErr result (λ fault. (fault ≡ PlaceFault.NoMemory)
         ⊎ ((what : Unplaced) × (fault ≡ PlaceFault.NoRoom what) × (keep_with (volume_of site.now.geometry.now) site.now.reserved.now site.now.from site.now.spared.now site.now.takes kept.items objects.now ≡ Err what))) }
 {
+    if objects.is_empty() {
+        let cuts = Vec::new(alloc);
+        return Ok(ObjectsKept { all: kept, cuts });
+    }
     let first = kept.len();
     let pool = OpenBlocks::new(alloc, site, &kept)?;
     let mut keeper = Keeper { pool, all: kept };

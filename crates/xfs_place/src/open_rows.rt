@@ -8,7 +8,7 @@ ghost use Rattle.xfs_place.specs.Pool.{MarksUses, is_pool};
 ghost use Rattle.xfs_place.specs.Wanted.{CanBeKept};
 ghost use Rattle.xfs_place.specs.declared.uses.Use.TheVariants.{Claimed};
 
-use crate::uses::{Use, is_open, list_uses};
+use crate::uses::{Use, is_open, list_uses, mark};
 use std::alloc::Global;
 use xfs_disk::NoMemory;
 use xfs_geom::{Geometry, Run};
@@ -42,12 +42,12 @@ pub fn list_uses_open(alloc: Global, site: &Site<'_>, kept: &[Run]) -> Result<Ve
 
 /// Closes the blocks of each group before AG block `from`.
 fn close_fronts(uses: &mut [Use], g: &Geometry, from: u32)
+    requires { length uses.old ≡ g.now.dblocks }
     ensures { MarksUses uses.old uses.new (λ block. nat_lt (block % g.now.agblocks) from) Claimed }
 {
-    for block in 0..uses.len() {
-        if (block as u64 % g.agblocks as u64) < from as u64 {
-            uses[block] = Use::Claimed;
-        }
+    for ag in 0..g.agcount {
+        let blocks = g.group_length(ag).min(from);
+        mark(uses, g.start_of_group(ag), blocks as u64, Use::Claimed);
     }
 }
 

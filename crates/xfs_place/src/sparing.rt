@@ -6,7 +6,8 @@ ghost use Rattle.xfs_place.specs.Pool.{IsRunOf, is_open, is_pool, use_at};
 ghost use Rattle.xfs_place.specs.Sparing.{lasting_room, room_for, spared_below, spared_of, tree_room};
 
 use crate::lowest::tree_blocks;
-use crate::uses::{Use, is_open, list_uses};
+use crate::uses::{Use, is_open};
+use crate::windows::Window;
 use std::alloc::Global;
 use xfs_disk::NoMemory;
 use xfs_geom::{Geometry, Run};
@@ -30,35 +31,34 @@ pub fn spare(
     ensures each { IfOk result (λ spared. (ag : ℕ) → ag < g.now.agcount
         → slice_index spared ag ≡ spared_of (volume_of g.now) (is_pool (volume_of g.now) taken.now reserved.now) anew ag) }
 {
-    let uses = list_uses(alloc, g, taken, reserved)?;
+    let mut window = Window::new(alloc);
     let mut spared = Vec::new(alloc);
     for ag in 0..g.agcount {
-        spared.push(spared_of(&uses, g, anew, ag))?;
+        window.reach(alloc, g, taken, reserved, ag)?;
+        spared.push(spared_of(window.group(g, ag), anew))?;
     }
     Ok(Records::from_vec(spared))
 }
 
-/// The AG block from which on the blocks of a group are spared, by the uses of all blocks.
-fn spared_of(uses: &[Use], g: &Geometry, anew: bool, ag: u32) -> u32
-    requires group { ag < g.now.agcount }
-    requires all { length uses.now ≡ g.now.dblocks }
-    ensures { result ≡ spared_of (volume_of g.now) (λ block. is_open (use_at uses.now block)) anew ag }
+/// The AG block from which on the blocks of a group are spared, by the uses of its blocks.
+fn spared_of(uses: &[Use], anew: bool) -> u32
+    requires few { length uses.now < 2 ^ 32 }
+    ensures { result ≡ spared_below (λ block. is_open (use_at uses.now block)) (room_for anew (length uses.now)) (length uses.now) }
 {
-    let blocks = g.group_length(ag) as u64;
-    let room = room_for(anew, blocks);
-    spared_below(uses, g.start_of_group(ag), blocks, room)
+    let room = room_for(anew, uses.len() as u64);
+    spared_below(uses, room)
 }
 
-/// The least AG block from which on at most so many blocks are of the pool, of the blocks of a group from block `base` on.
-fn spared_below(uses: &[Use], base: u64, blocks: u64, room: u64) -> u32
-    requires inside { base + blocks ≤ length uses.now }
-    requires few { blocks < 2 ^ 32 }
-    ensures { result ≡ spared_below (λ block. is_open (use_at uses.now (base + block))) room blocks }
+/// The least AG block from which on at most so many blocks of a group are of the pool, by their uses.
+fn spared_below(uses: &[Use], room: u64) -> u32
+    requires few { length uses.now < 2 ^ 32 }
+    ensures { result ≡ spared_below (λ block. is_open (use_at uses.now block)) room (length uses.now) }
 {
+    let blocks = uses.len();
     let mut left = room;
     for i in 0..blocks {
         let block = blocks - 1 - i;
-        let open = is_open(uses[(base + block) as usize]);
+        let open = is_open(uses[block]);
         if is_over(left, open) {
             return block as u32 + 1;
         }

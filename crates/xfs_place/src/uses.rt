@@ -1,10 +1,10 @@
 //! What each block of a volume is for, in one list: a byte a block.
 
-ghost use Rattle.std.specs.Prelude.{◌≡◌, ◌+◌, ◌%◌, ◌==◌, ◌≤◌, ◌<◌, length, All, IfOk};
+ghost use Rattle.std.specs.Prelude.{◌≡◌, ◌+◌, ◌%◌, ◌^◌, ◌==◌, ◌≤◌, ◌<◌, ℕ, length, All, IfOk};
 ghost use Rattle.xfs_disk.specs.Lists.{is_in_range};
 ghost use Rattle.xfs_geom.specs.Volumes.{volume_of};
 ghost use Rattle.xfs_geom.specs.Conversions.{is_fixed};
-ghost use Rattle.xfs_place.specs.Pool.{IsRunOf, MarksUses, PutsUses, Shows, is_listed, is_open, use_held, use_of, use_of_run};
+ghost use Rattle.xfs_place.specs.Pool.{IsRunOf, MarksUses, PutsUses, Shows, is_listed, is_open, use_at, use_held, use_of, use_of_run};
 
 use std::alloc::Global;
 use xfs_disk::NoMemory;
@@ -53,20 +53,39 @@ pub fn list_uses(
     requires { All (IsRunOf g.now.dblocks) runs.now }
     ensures { IfOk result (λ uses. Shows uses.items g.now.dblocks (use_of (volume_of g.now) runs.now reserved.now)) }
 {
-    let mut uses = vec![in alloc; Use::Pool; g.dblocks as usize]?;
-    set_uses(&mut uses, g, runs, reserved);
+    Ok(list_uses_in(alloc, g, runs, reserved, 0, g.dblocks)?)
+}
+
+/// The uses of the `count` blocks from block `from` on, as `list_uses` has them.
+///
+/// `NoMemory` where memory is wanting.
+pub fn list_uses_in(
+    alloc: Global,
+    g: &Geometry,
+    runs: &[Run],
+    reserved: &[u64],
+    from: u64,
+    count: u64,
+) -> Result<Vec<Use>, NoMemory>
+    requires runs { All (IsRunOf g.now.dblocks) runs.now }
+    requires inside { from + count ≤ g.now.dblocks }
+    ensures { IfOk result (λ uses. Shows uses.items count (λ b. use_of (volume_of g.now) runs.now reserved.now (from + b))) }
+{
+    let mut uses = vec![in alloc; Use::Pool; count as usize]?;
+    set_uses(&mut uses, g, runs, reserved, from);
     Ok(uses)
 }
 
-/// Sets the use of each block, of blocks that are all of the pool.
-fn set_uses(uses: &mut [Use], g: &Geometry, runs: &[Run], reserved: &[u64])
+/// Sets the use of each block, of blocks from block `from` on that are all of the pool.
+fn set_uses(uses: &mut [Use], g: &Geometry, runs: &[Run], reserved: &[u64], from: u64)
     requires runs { All (IsRunOf g.now.dblocks) runs.now }
-    requires all { Shows uses.old g.now.dblocks (λ _. Use.Pool) }
-    ensures { Shows uses.new g.now.dblocks (use_of (volume_of g.now) runs.now reserved.now) }
+    requires inside { from + length uses.old ≤ g.now.dblocks }
+    requires all { (b : ℕ) → b < length uses.old → use_at uses.old b ≡ Use.Pool }
+    ensures { Shows uses.new (length uses.old) (λ b. use_of (volume_of g.now) runs.now reserved.now (from + b)) }
 {
-    reserve(uses, reserved);
-    claim_fixed(uses, g);
-    claim_runs(uses, runs);
+    reserve(uses, reserved, from);
+    claim_fixed(uses, g, from);
+    claim_runs(uses, runs, from);
 }
 
 /// Gives the `count` blocks from `start` on a use.
@@ -79,25 +98,43 @@ pub fn mark(uses: &mut [Use], start: u64, count: u64, now: Use)
     }
 }
 
-/// Reserves the listed blocks of the volume.
-fn reserve(uses: &mut [Use], reserved: &[u64])
-    ensures { MarksUses uses.old uses.new (is_listed reserved.now) Use.Reserved }
+/// Gives the `count` blocks from block `start` on a use, of a list of those from block `from` on.
+fn mark_in(uses: &mut [Use], from: u64, start: u64, count: u64, now: Use)
+    requires { start + count < 2 ^ 63 }
+    ensures { MarksUses uses.old uses.new (λ b. is_in_range start count (from + b)) now }
+{
+    let all = uses.len() as u64;
+    let first = start.saturating_sub(from).min(all);
+    let end = (start + count).saturating_sub(from).min(all);
+    mark(uses, first, end - first, now);
+}
+
+/// Reserves the listed blocks, of a list of those from block `from` on.
+fn reserve(uses: &mut [Use], reserved: &[u64], from: u64)
+    ensures { MarksUses uses.old uses.new (λ b. is_listed reserved.now (from + b)) Use.Reserved }
 {
     for block in reserved {
-        if *block < uses.len() as u64 {
-            uses[*block as usize] = Use::Reserved;
+        if is_in_range(from, uses.len() as u64, *block) {
+            uses[(*block - from) as usize] = Use::Reserved;
         }
     }
 }
 
-/// Claims the blocks of the runs. A block of several runs goes by the first of them.
-pub fn claim_runs(uses: &mut [Use], runs: &[Run])
-    requires { All (IsRunOf (length uses.old)) runs.now }
-    ensures { PutsUses uses.old uses.new (use_held runs.now) }
+/// Whether a block is one of the `count` blocks from block `from` on.
+fn is_in_range(from: u64, count: u64, block: u64) -> bool
+    ensures { result ≡ is_in_range from count block }
+{
+    from <= block && block - from < count
+}
+
+/// Claims the blocks of the runs, of a list of those from block `from` on. A block of several runs goes by the first of them.
+fn claim_runs(uses: &mut [Use], runs: &[Run], from: u64)
+    requires { All (λ run. run.start + run.count < 2 ^ 63) runs.now }
+    ensures { PutsUses uses.old uses.new (λ b. use_held runs.now (from + b)) }
 {
     for i in 0..runs.len() {
         let run = &runs[runs.len() - 1 - i];
-        mark(uses, run.start, run.count, use_of_run(run));
+        mark_in(uses, from, run.start, run.count, use_of_run(run));
     }
 }
 
@@ -115,22 +152,22 @@ fn use_of_run(run: &Run) -> Use
     }
 }
 
-/// Claims the blocks that have a fixed use: the first of each group, and the log.
-fn claim_fixed(uses: &mut [Use], g: &Geometry)
-    requires { length uses.old ≡ g.now.dblocks }
-    ensures { MarksUses uses.old uses.new (is_fixed (volume_of g.now)) Use.Claimed }
+/// Claims the blocks that have a fixed use: the first of each group, and the log. The list is of the blocks from block `from` on.
+fn claim_fixed(uses: &mut [Use], g: &Geometry, from: u64)
+    requires { from + length uses.old ≤ g.now.dblocks }
+    ensures { MarksUses uses.old uses.new (λ b. is_fixed (volume_of g.now) (from + b)) Use.Claimed }
 {
-    claim_headers(uses, g);
-    mark(uses, g.log, g.logblocks as u64, Use::Claimed);
+    claim_headers(uses, g, from);
+    mark_in(uses, from, g.log, g.logblocks as u64, Use::Claimed);
 }
 
-/// Claims the first block of each group.
-fn claim_headers(uses: &mut [Use], g: &Geometry)
-    requires { length uses.old ≡ g.now.dblocks }
-    ensures { MarksUses uses.old uses.new (λ block. block % g.now.agblocks == 0) Use.Claimed }
+/// Claims the first block of each group, of a list of the blocks from block `from` on.
+fn claim_headers(uses: &mut [Use], g: &Geometry, from: u64)
+    requires { from + length uses.old ≤ g.now.dblocks }
+    ensures { MarksUses uses.old uses.new (λ b. (from + b) % g.now.agblocks == 0) Use.Claimed }
 {
     for ag in 0..g.agcount {
-        uses[g.start_of_group(ag) as usize] = Use::Claimed;
+        mark_in(uses, from, g.start_of_group(ag), 1, Use::Claimed);
     }
 }
 

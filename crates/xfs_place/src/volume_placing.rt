@@ -5,15 +5,15 @@ ghost use Rattle.xfs_geom.specs.Volumes.{volume_of};
 ghost use Rattle.xfs_place.specs.Choice.{IsChosenCount};
 ghost use Rattle.xfs_place.specs.Placing.{IsPlacedGroup, inner_blocks};
 ghost use Rattle.xfs_place.specs.Standing.{AreOfPool};
-ghost use Rattle.xfs_place.specs.Pool.{Shows, use_of};
-ghost use Rattle.xfs_place.specs.Wanted.{AreAllClaims, CanBeKept, ArePlaced, IsWithoutRoom, group_in};
+ghost use Rattle.xfs_place.specs.Wanted.{AreAllClaims, CanBeKept, ArePlaced, IsWithoutRoom, group_in, uses_in};
 
 use crate::claims::{list_claims, list_group};
 use crate::faults::{PlaceFault, Unplaced};
 use crate::group_placing::place_group;
 use crate::placed::GroupPlaced;
-use crate::uses::{Use, list_uses};
+use crate::uses::Use;
 use crate::wanted::GroupInodes;
+use crate::windows::Window;
 use std::alloc::Global;
 use xfs_disk::NoMemory;
 use xfs_geom::{Geometry, InoRec, Run};
@@ -37,19 +37,20 @@ pub fn place_groups(
     ensures cause { IfErr result (λ fault. (fault ≡ PlaceFault.NoMemory)
         ⊎ ((ag : ℕ) × (fault ≡ PlaceFault.NoRoom (Unplaced.Group ag)) × IsWithoutRoom (volume_of g.now) kept.now reserved.now inodes.now ag)) }
 {
-    let uses = list_uses(alloc, g, kept, reserved)?;
     let claims = list_claims(alloc, g, kept)?;
     let work = Work {
         geometry: g,
         kept,
         reserved,
-        uses: &uses,
         claims: &claims,
     };
+    let mut window = Window::new(alloc);
     let mut groups = Vec::new(alloc);
     for ag in 0..g.agcount {
-        let Some(placed) = place_one(alloc, &work, ag, inodes[ag as usize].records.as_slice())?
-        else {
+        window.reach(alloc, g, kept, reserved, ag)?;
+        let uses = window.group(g, ag);
+        let records = inodes[ag as usize].records.as_slice();
+        let Some(placed) = place_one(alloc, &work, uses, ag, records)? else {
             return Err(PlaceFault::NoRoom(Unplaced::Group(ag)));
         };
         groups.push(placed)?;
@@ -64,23 +65,22 @@ struct Work<'a> {
     /// The runs of what is kept.
     kept: &'a [Run],
     reserved: &'a [u64],
-    /// The use of each block.
-    uses: &'a [Use],
     /// The claims of the volume in order.
     claims: &'a [Run],
 }
 
-/// Places the trees and the free list of one group.
+/// Places the trees and the free list of one group, by the uses of its blocks.
 fn place_one(
     alloc: Global,
     work: &Work<'_>,
+    uses: &[Use],
     ag: u32,
     inodes: &[InoRec],
 ) -> Result<Option<GroupPlaced>, NoMemory>
     requires group { ag < work.now.geometry.now.agcount }
     requires few { length inodes.now < 2 ^ 32 }
     requires kept { CanBeKept (volume_of work.now.geometry.now) work.now.kept.now }
-    requires uses { Shows work.now.uses.now work.now.geometry.now.dblocks (use_of (volume_of work.now.geometry.now) work.now.kept.now work.now.reserved.now) }
+    requires uses { uses.now ≡ uses_in (volume_of work.now.geometry.now) work.now.kept.now work.now.reserved.now ag }
     requires claims { AreAllClaims (volume_of work.now.geometry.now) work.now.kept.now work.now.claims.now }
     ensures { IfOk result (λ placed. MatchOption placed
         (IsChosenCount (group_in (volume_of work.now.geometry.now) work.now.kept.now work.now.reserved.now ag (inner_blocks inodes.now)) None)
@@ -89,6 +89,5 @@ fn place_one(
     let base = work.geometry.start_of_group(ag);
     let blocks = work.geometry.group_length(ag) as u64;
     let claims = list_group(alloc, work.claims, base, blocks)?;
-    let uses = &work.uses[base as usize..(base + blocks) as usize];
     Ok(place_group(alloc, uses, &claims, inodes, base)?)
 }

@@ -1,14 +1,11 @@
-use Rattle.std.proofs.Common.{◌≡◌, ◌+◌, ◌++◌, List, ℕ, not, take, sym, subst, ◌∙◌, ap, arith}
+use Rattle.std.proofs.Common.{◌≡◌, ◌+◌, ◌++◌, ◌≤◌, List, [], ℕ, length, take, sym, subst, ◌∙◌, ap, arith}
 use Rattle.std.specs.List.{flat_map, range_with_len}
+use Rattle.std.proofs.lemmas.List.{take_all}
 use Rattle.xfs_geom.specs.Volumes.{volume_of}
-use Rattle.xfs_place.specs.Chunks.{asked_pool, rooms, rooms_of}
-use Rattle.xfs_place.specs.Pool.{MarksUses, Shows, is_open, is_unspared, use_at, use_of}
 use Rattle.xfs_geom.specs.declared.records.Run.{Run}
-use Rattle.xfs_place.specs.declared.uses.Use.{Use}
-use Rattle.xfs_place.specs.declared.uses.Use.TheVariants.{Claimed}
-use Rattle.xfs_place.proofs.HeldRuns.{written}
-use Rattle.xfs_place.proofs.Rooms.{open_unspared}
-use Rattle.xfs_place.proofs.Ranges.{flat_more, take_again}
+use Rattle.xfs_place.specs.Chunks.{asked_pool, rooms, rooms_of}
+use Rattle.xfs_place.specs.Windows.{IsWindow}
+use Rattle.xfs_place.proofs.Ranges.{flat_full, flat_more, take_again}
 use Rattle.xfs_place.proofs.chunk_search.find_chunks.Goals as goal
 
 -- the chunks of one group more
@@ -19,25 +16,44 @@ more n ag f ys zs so is =
 pub loop-ag-preserved : goal.loop-ag-preserved
 loop-ag-preserved c =
     let ask = c.args.ask.now in
-    more ask.count c.loop-ag.ag (rooms_of (volume_of ask.geometry) (asked_pool ask) ask.size ask.from) c.loop-ag.starts.items c.push_rooms.new.starts.items
-    c.loop-ag.invariant c.in_ok-push_rooms.ensures
+    let v = volume_of ask.geometry in
+    let stands = subst (λ (rs : List ℕ). IsWindow v c.as_slice-taken.result.now rs c.reach.new.self) c.as_slice-reserved.ensures c.in_ok-reach.ensures.stands in
+    record {
+      stands = subst (λ (rs : List Run). IsWindow v rs ask.reserved c.reach.new.self) c.as_slice-taken.ensures stands;
+      found = more ask.count c.loop-ag.ag (rooms_of v (asked_pool ask) ask.size ask.from) c.loop-ag.starts.items c.push_rooms.new.starts.items
+          c.loop-ag.invariant.found c.in_ok-push_rooms.ensures;
+    }
+
+pub reach-requires-clause-stands : goal.reach-requires-clause-stands
+reach-requires-clause-stands c =
+    let ask = c.args.ask.now in
+    let v = volume_of ask.geometry in
+    subst (λ (rs : List ℕ). IsWindow v c.as_slice-taken.result.now rs c.loop-ag.window) (sym c.as_slice-reserved.ensures)
+    (subst (λ (rs : List Run). IsWindow v rs ask.reserved c.loop-ag.window) (sym c.as_slice-taken.ensures) c.loop-ag.invariant.stands)
+
+pub push_rooms-requires-clause-uses : goal.push_rooms-requires-clause-uses
+push_rooms-requires-clause-uses c =
+    let ask = c.args.ask.now in
+    let v = volume_of ask.geometry in
+    let stands = subst (λ (rs : List ℕ). IsWindow v c.as_slice-taken.result.now rs c.reach.new.self) c.as_slice-reserved.ensures c.in_ok-reach.ensures.stands in
+    c.group.ensures ask.taken ask.reserved (subst (λ (rs : List Run). IsWindow v rs ask.reserved c.reach.new.self) c.as_slice-taken.ensures stands)
+
+pub returns-then-len-ask : goal.returns-then-len-ask
+unfolding rooms
+returns-then-len-ask c =
+    let ask = c.args.ask.now in
+    let f = rooms_of (volume_of ask.geometry) (asked_pool ask) ask.size ask.from in
+    let full : ask.count ≤ length c.loop-ag.starts.items = omega (arith, c.len.ensures, c.loop-ag.starts.ok.0, c.if-len-ask.true) in
+    flat_full ask.count f c.loop-ag.ag ask.geometry.agcount c.loop-ag.starts.items (omega (arith, c.loop-ag-test.true)) c.loop-ag.invariant.found full
 
 pub returns : goal.returns
 unfolding rooms
 returns c =
     let ask = c.args.ask.now in
     let all : c.loop-ag.ag ≡ ask.geometry.agcount = omega arith in
-    c.loop-ag.invariant ∙ ap (λ (n : ℕ). take ask.count (flat_map (rooms_of (volume_of ask.geometry) (asked_pool ask) ask.size ask.from) (range_with_len 0 n))) all
+    c.loop-ag.invariant.found ∙ ap (λ (n : ℕ). take ask.count (flat_map (rooms_of (volume_of ask.geometry) (asked_pool ask) ask.size ask.from) (range_with_len 0 n))) all
 
-pub push_rooms-requires-clause-uses : goal.push_rooms-requires-clause-uses
-push_rooms-requires-clause-uses c = λ b low.
+pub loop-ag-init : goal.loop-ag-init
+loop-ag-init c =
     let ask = c.args.ask.now in
-    let uses = c.in_ok-uses.uses in
-    let v = volume_of ask.geometry in
-    let closed = subst (λ (sp : List ℕ). MarksUses c.deref_mut.result.now c.close_spared.new.uses (λ block. not (is_unspared v sp block)) Claimed) c.as_slice-3.ensures c.close_spared.ensures in
-    let marks = subst (λ (us : List Use). MarksUses us c.close_spared.new.uses (λ block. not (is_unspared v ask.spared_from block)) Claimed) c.deref_mut.ensures.value closed in
-    let shows = subst (λ (rs : List ℕ). Shows uses.items ask.geometry.dblocks (use_of v c.as_slice.result.now rs)) c.as_slice-2.ensures c.in_ok-uses.ensures in
-    let shows' = subst (λ (ts : List Run). Shows uses.items ask.geometry.dblocks (use_of v ts ask.reserved)) c.as_slice.ensures shows in
-    let whole = c.deref.ensures.value ∙ written uses.len c.close_spared.new.uses _ (omega (arith, uses.ok.0, marks.all)) in
-    subst (λ (us : List Use). is_open (use_at us b) ≡ asked_pool ask b) (sym whole)
-    (open_unspared (volume_of ask.geometry) ask.taken ask.reserved ask.spared_from uses.items c.close_spared.new.uses ask.geometry.dblocks b shows' marks low)
+    record { stands = c.new-window.ensures (volume_of ask.geometry) ask.taken ask.reserved; found = c.new-starts.ensures.items ∙ sym (take_all ask.count [] (omega arith)) }

@@ -1,9 +1,12 @@
-use Rattle.std.proofs.Common.{inr, Bool, List, Some, None, Err, if◌then◌else◌, take, drop, refl, sym, ◌∙◌, ap, subst, arith}
+use Rattle.std.proofs.Common.{◌≤◌, inr, Bool, List, length, Some, None, Err, if◌then◌else◌, take, drop, refl, sym, ◌∙◌, ap, subst, arith}
+use Rattle.std.specs.List.{All}
+use Rattle.std.proofs.lemmas.Bool.{eqb-true}
 use Rattle.std.proofs.lemmas.List.{drop_all}
 use Rattle.xfs_geom.specs.Volumes.{volume_of}
 use Rattle.xfs_place.specs.declared.faults.Unplaced.{Unplaced}
+use Rattle.xfs_place.specs.declared.wanted.Object.{Object}
 use Rattle.xfs_place.specs.declared.wanted.RunAsk.{RunAsk}
-use Rattle.xfs_place.specs.Objects.{ServeAsks, asks_of}
+use Rattle.xfs_place.specs.Objects.{IsAsk, ServeAsks, asks_of}
 use Rattle.xfs_place.proofs.Pieces.{asks_more, first_stays, objects_end, objects_next, objects_stop}
 use Rattle.xfs_place.proofs.object_placing.keep_with.Goals as goal
 
@@ -50,3 +53,14 @@ returns-clause-behind c =
     let l = c.loop-object in
     first_stays (volume_of s.geometry.now) s.reserved.now s.from s.spared.now s.takes c.args.kept.items c.args.objects.now l.keeper.all.items (l.invariant.same
     ∙ objects_end (volume_of s.geometry.now) s.reserved.now s.from s.spared.now s.takes l.keeper.all.items (drop l.object-index c.args.objects.now) (drop_all l.object-index c.args.objects.now c.loop-object-test.false))
+
+pub returns-then-is_empty-clause-placed : goal.returns-then-is_empty-clause-placed
+returns-then-is_empty-clause-placed c =
+    let s = c.args.site.now in
+    let none : length c.args.objects.now ≤ 0 = omega (arith, eqb-true (length c.args.objects.now) 0 (sym c.is_empty.ensures ∙ c.if-is_empty.true)) in
+    objects_end (volume_of s.geometry.now) s.reserved.now s.from s.spared.now s.takes c.args.kept.items c.args.objects.now (drop_all 0 c.args.objects.now none)
+
+pub put_object-requires-clause-asks : goal.put_object-requires-clause-asks
+put_object-requires-clause-asks c =
+    let o = c.object-item.result in
+    subst (λ (x : Object). All IsAsk x.runs) (sym c.object-item.is) (c.requires.asks c.loop-object.object-index o c.loop-object-test.true)

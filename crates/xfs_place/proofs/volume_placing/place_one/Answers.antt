@@ -1,13 +1,21 @@
-use Rattle.std.proofs.Common.{◌+◌, ◌-◌, ◌*◌, ◌≤◌, take, drop, sym, subst, arith}
-use Rattle.xfs_geom.specs.Conversions.{group_length}
+use Rattle.std.proofs.Common.{◌*◌, length, sym, ap, subst, arith}
 use Rattle.xfs_geom.specs.Volumes.{volume_of}
 use Rattle.xfs_place.specs.Choice.{IsPlacingGroup, group_claimed}
 use Rattle.xfs_place.specs.Placing.{inner_blocks}
 use Rattle.xfs_place.specs.Wanted.{group_in}
-use Rattle.xfs_place.proofs.GroupIs.{group_is}
+use Rattle.xfs_place.proofs.GroupIs.{group_is, length_uses}
 use Rattle.xfs_place.proofs.OneGroup.{claims_here, placed_here, same_here}
 use Rattle.xfs_place.proofs.Parted.{runs_rise}
 use Rattle.xfs_place.proofs.volume_placing.place_one.Goals as goal
+
+pub place_group-requires-clause-few : goal.place_group-requires-clause-few
+place_group-requires-clause-few c =
+    let w = c.args.work.now in
+    let g = w.geometry.now in
+    let long = c.group_length-blocks.ensures in (
+      omega (arith, ap length c.requires.uses, length_uses (volume_of g) w.kept.now w.reserved.now c.args.ag, long.most, long.value, g.shape.groups.last, g.shape.groups.small),
+      c.requires.few,
+    )
 
 pub place_group-requires-clause-group : goal.place_group-requires-clause-group
 place_group-requires-clause-group c =
@@ -17,9 +25,8 @@ place_group-requires-clause-group c =
     let ag = c.args.ag in
     let inner = inner_blocks c.args.inodes.now in
     let long = c.group_length-blocks.ensures in
-    let inside : ag * g.agblocks + group_length v ag ≤ g.dblocks = omega (arith, long.inside, long.value) in
     let same = same_here v w.kept.now w.reserved.now w.claims.now ag g.shape.groups c.requires.group c.requires.claims c.start_of_group-base.result c.group_length-blocks.result
-    c.start_of_group-base.ensures.value long.value c.in_ok-claims.claims.items c.deref.result.now c.deref.ensures.value c.in_ok-claims.ensures w.uses.now inner c.requires.uses inside in
+    c.start_of_group-base.ensures.value long.value c.in_ok-claims.claims.items c.deref.result.now c.deref.ensures.value c.in_ok-claims.ensures c.args.uses.now inner c.requires.uses in
     subst IsPlacingGroup (sym same)
     (group_is v w.kept.now w.reserved.now ag inner c.requires.kept c.requires.group (omega (arith, g.shape.groups.large)) (omega (arith, long.least, long.value)) (omega (arith, long.most, long.value)))
 
@@ -27,12 +34,9 @@ pub place_group-requires-clause-claims : goal.place_group-requires-clause-claims
 place_group-requires-clause-claims c =
     let w = c.args.work.now in
     let g = w.geometry.now in
-    let v = volume_of g in
-    let ag = c.args.ag in
     let long = c.group_length-blocks.ensures in
-    let inside : ag * g.agblocks + group_length v ag ≤ g.dblocks = omega (arith, long.inside, long.value) in
-    claims_here v w.kept.now w.reserved.now w.claims.now ag g.shape.groups c.requires.group c.requires.claims c.start_of_group-base.result c.group_length-blocks.result
-    c.start_of_group-base.ensures.value long.value c.in_ok-claims.claims.items c.deref.result.now c.deref.ensures.value c.in_ok-claims.ensures w.uses.now c.requires.uses inside
+    claims_here (volume_of g) w.kept.now w.reserved.now w.claims.now c.args.ag g.shape.groups c.requires.group c.requires.claims c.start_of_group-base.result c.group_length-blocks.result
+    c.start_of_group-base.ensures.value long.value c.in_ok-claims.claims.items c.deref.result.now c.deref.ensures.value c.in_ok-claims.ensures c.args.uses.now c.requires.uses
 
 pub returns : goal.returns
 returns c =
@@ -42,11 +46,9 @@ returns c =
     let ag = c.args.ag in
     let inner = inner_blocks c.args.inodes.now in
     let long = c.group_length-blocks.ensures in
-    let inside : ag * g.agblocks + group_length v ag ≤ g.dblocks = omega (arith, long.inside, long.value) in
     let same = same_here v w.kept.now w.reserved.now w.claims.now ag g.shape.groups c.requires.group c.requires.claims c.start_of_group-base.result c.group_length-blocks.result
-    c.start_of_group-base.ensures.value long.value c.in_ok-claims.claims.items c.deref.result.now c.deref.ensures.value c.in_ok-claims.ensures w.uses.now inner c.requires.uses inside in
-    placed_here c.in_ok-place_group.field-0 (group_in v w.kept.now w.reserved.now ag inner)
-    (group_claimed (take (c.start_of_group-base.result + c.group_length-blocks.result - c.start_of_group-base.result) (drop c.start_of_group-base.result w.uses.now)) c.deref.result.now inner)
+    c.start_of_group-base.ensures.value long.value c.in_ok-claims.claims.items c.deref.result.now c.deref.ensures.value c.in_ok-claims.ensures c.args.uses.now inner c.requires.uses in
+    placed_here c.in_ok-place_group.field-0 (group_in v w.kept.now w.reserved.now ag inner) (group_claimed c.args.uses.now c.deref.result.now inner)
     c.start_of_group-base.result (ag * g.agblocks) c.args.inodes.now same c.start_of_group-base.ensures.value c.in_ok-place_group.ensures
 
 pub list_group-requires-clause-order : goal.list_group-requires-clause-order
