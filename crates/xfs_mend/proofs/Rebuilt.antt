@@ -11,7 +11,7 @@ use Rattle.xfs_rebuild.specs.declared.planning.Rebuilt.{Rebuilt}
 use Rattle.xfs_restored.proofs.Relinked.{consistent_renamed, ground_found, kept_renamed, names_wanted}
 use Rattle.xfs_restored.specs.Relinking.{IsRelinked}
 use Rattle.xfs_rename.specs.declared.planning.Renamed.{Renamed}
-use Rattle.xfs_rewritten.specs.Rewriting.{IsRewritten}
+use Rattle.xfs_restored.specs.Rewriting.{IsRewritten}
 use Rattle.xfs_restored.proofs.Keeping.{file_kept}
 use Rattle.xfs_restored.proofs.Restored.{consistent, names_kept}
 use Rattle.xfs_restored.proofs.Sizes.{elected_fits}

@@ -22,7 +22,7 @@ use Rattle.xfs_place.specs.Claims.{IsClaimedRun}
 use Rattle.xfs_place.specs.Wanted.{kept_runs}
 use Rattle.xfs_proto.specs.declared.protofile.ProtoNode.{ProtoNode}
 use Rattle.xfs_render.specs.declared.plan.Plan.{Plan}
-use Rattle.xfs_rename.specs.Objects.{stands_in_blocks}
+use Rattle.xfs_built.specs.Asks.{stands_in_blocks}
 use Rattle.xfs_volume.specs.declared.files.FileRec.{FileRec}
 use Rattle.xfs_filled.specs.Chunks.{chunk_starts}
 use Rattle.xfs_filled.specs.Contents.{all_blocks}
@@ -38,9 +38,9 @@ use Rattle.xfs_filled.proofs.Asking.{order_inside}
 use Rattle.xfs_filled.proofs.Entering.{entries_few, entries_no_dots, entries_writable}
 use Rattle.xfs_filled.proofs.Numbering.{number_low}
 use Rattle.xfs_filled.proofs.Ordered.{number_once, order_differs}
-use Rattle.xfs_restored.specs.Directories.{IsFileOf, IsShortFileOf}
-use Rattle.xfs_restored.proofs.Sized.{none_short}
-use Rattle.xfs_restored.proofs.Whole as Whole
+use Rattle.xfs_built.specs.Directories.{IsFileOf, IsShortFileOf}
+use Rattle.xfs_built.proofs.Sized.{none_short}
+use Rattle.xfs_built.proofs.Whole as Whole
 use Rattle.xfs_populated.specs.Names.{AreDirectoriesBuilt, HasImage, HasShortForms, ReadsDirectory}
 use Rattle.xfs_populated.specs.Populated.{IsPopulated, filled_file}
 use Rattle.xfs_populated.proofs.DirectoriesStand as Stand

@@ -15,7 +15,7 @@ use Rattle.xfs_proto.specs.declared.protofile.ProtoNode.{ProtoNode}
 use Rattle.xfs_render.specs.Objects.{HasObjects, IsObjectBlock, asks_with_kind, blocks_of_asks}
 use Rattle.xfs_render.specs.declared.object_blocks.ObjectAsk.{ObjectAsk}
 use Rattle.xfs_render.specs.declared.object_blocks.ObjectBlock.{ObjectBlock}
-use Rattle.xfs_rename.specs.Objects.{asks_for}
+use Rattle.xfs_built.specs.Asks.{asks_for}
 use Rattle.xfs_filled.specs.Contents.{blocks_of_place}
 use Rattle.xfs_filled.specs.Entries.{entries_at, parent_of_place}
 use Rattle.xfs_filled.specs.FileTrees.{is_directory_node}
@@ -24,10 +24,10 @@ use Rattle.xfs_filled.specs.Numbers.{number_of}
 use Rattle.xfs_filled.specs.Objects.{objects_of_place, runs_at}
 use Rattle.xfs_filled.proofs.Serving.{asks_next}
 use Rattle.xfs_filled.proofs.Spanning.{all_owned, none_owned}
-use Rattle.xfs_restored.specs.Directories.{HasOwnCounts, StandsIn}
-use Rattle.xfs_restored.specs.Pieces.{IsFrontOfAsks, IsLowRun, IsPlainAsk, asked_offsets, blocks_of_owner, offsets_in, places_of_runs, run_places, taken}
-use Rattle.xfs_restored.proofs.Fronts.{front_is}
-use Rattle.xfs_restored.proofs.Standing.{asks_plain, counted_both, counted_file}
+use Rattle.xfs_built.specs.Directories.{HasOwnCounts, StandsIn}
+use Rattle.xfs_built.specs.Pieces.{IsFrontOfAsks, IsLowRun, IsPlainAsk, asked_offsets, blocks_of_owner, offsets_in, places_of_runs, run_places, taken}
+use Rattle.xfs_built.proofs.Fronts.{front_is}
+use Rattle.xfs_built.proofs.Standing.{asks_plain, counted_both, counted_file}
 use Rattle.xfs_populated.specs.Names.{HasImage}
 use Rattle.xfs_populated.proofs.DirectoryObjects as Objects
 use Rattle.xfs_populated.proofs.RunOwners.{front_owned, other_asks, own_asks, served_owned}

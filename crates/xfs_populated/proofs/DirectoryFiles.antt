@@ -22,8 +22,8 @@ use Rattle.xfs_place.specs.Objects.{most_extent_blocks}
 use Rattle.xfs_proto.specs.declared.protofile.ProtoKind.{ProtoKind}
 use Rattle.xfs_proto.specs.declared.protofile.ProtoNode.{ProtoNode}
 use Rattle.xfs_volume.specs.declared.files.FileRec.{FileRec}
-use Rattle.xfs_rename.specs.Forks.{extent_of_run}
-use Rattle.xfs_rename.specs.Objects.{stands_in_blocks}
+use Rattle.xfs_built.specs.Extents.{extent_of_run}
+use Rattle.xfs_built.specs.Asks.{stands_in_blocks}
 use Rattle.xfs_filled.specs.Directories.{made_directory_at, fresh_fork_bytes, made_directory, short_in}
 use Rattle.xfs_filled.specs.Entries.{entries_at, parent_of_place}
 use Rattle.xfs_filled.specs.FileTrees.{is_directory_node}
@@ -31,9 +31,9 @@ use Rattle.xfs_filled.specs.Forks.{directory_fork, extent_fork, extent_of_piece,
 use Rattle.xfs_filled.specs.Numbers.{number_of}
 use Rattle.xfs_filled.specs.Objects.{content_at}
 use Rattle.xfs_filled.specs.declared.directories.MadeDirectory.{MadeDirectory}
-use Rattle.xfs_restored.specs.Directories.{IsFileOf, IsShortFileOf}
-use Rattle.xfs_restored.specs.Pieces.{IsLowRun}
-use Rattle.xfs_restored.proofs.Sized.{none_short}
+use Rattle.xfs_built.specs.Directories.{IsFileOf, IsShortFileOf}
+use Rattle.xfs_built.specs.Pieces.{IsLowRun}
+use Rattle.xfs_built.proofs.Sized.{none_short}
 use Rattle.xfs_populated.specs.Names.{HasImage, HasShortForms, short_at}
 use Rattle.xfs_populated.specs.Populated.{filled_file, filled_fork}
 use Rattle.xfs_populated.proofs.DirectoryObjects.{directory_made, kind_is}

@@ -20,7 +20,7 @@ use Rattle.xfs_proto.specs.declared.protofile.ProtoKind.TheVariants as Kind
 use Rattle.xfs_proto.specs.declared.protofile.ProtoNode.{ProtoNode}
 use Rattle.xfs_render.specs.Objects.{asks_in, asks_with_kind}
 use Rattle.xfs_render.specs.declared.object_blocks.ObjectAsk.{ObjectAsk}
-use Rattle.xfs_rename.specs.Objects.{asked_run, asks_for}
+use Rattle.xfs_built.specs.Asks.{asked_run, asks_for}
 use Rattle.xfs_filled.specs.Contents.{blocks_of_place, blocks_of_kind}
 use Rattle.xfs_filled.specs.Directories.{made_directory_at, made_directory}
 use Rattle.xfs_filled.specs.Entries.{entries_at, parent_of_place}
@@ -28,9 +28,9 @@ use Rattle.xfs_filled.specs.FileTrees.{is_directory_node, is_directory_kind, nod
 use Rattle.xfs_filled.specs.Numbers.{number_of}
 use Rattle.xfs_filled.specs.Objects.{content_at, directory_runs, objects_of_place, object_kind, object_with_runs, run_of, runs_at, runs_of_kind}
 use Rattle.xfs_filled.specs.declared.directories.MadeDirectory.{MadeDirectory}
-use Rattle.xfs_restored.specs.Directories.{HasOwnCounts}
-use Rattle.xfs_restored.specs.Pieces.{asked_offsets, directory_ask}
-use Rattle.xfs_restored.proofs.Sized.{data_low, free_low, index_low, none_short}
+use Rattle.xfs_built.specs.Directories.{HasOwnCounts}
+use Rattle.xfs_built.specs.Pieces.{asked_offsets, directory_ask}
+use Rattle.xfs_built.proofs.Sized.{data_low, free_low, index_low, none_short}
 use Rattle.xfs_populated.specs.Names.{HasImage}
 
 pub is_directory : (kind : ProtoKind) → is_directory_kind kind ≡ true → kind ≡ Kind.Directory

@@ -13,7 +13,7 @@ use Rattle.xfs_place.specs.declared.wanted.ObjectKind.TheVariants as kinds
 use Rattle.xfs_place.specs.declared.wanted.RunAsk.{RunAsk}
 use Rattle.xfs_render.specs.Objects.{IsObjectBlock, asks_with_kind, blocks_of_asks, run_blocks}
 use Rattle.xfs_render.specs.declared.object_blocks.ObjectBlock.{ObjectBlock}
-use Rattle.xfs_restored.specs.Pieces.{places_of_runs, run_places}
+use Rattle.xfs_built.specs.Pieces.{places_of_runs, run_places}
 use Rattle.xfs_filled.specs.Contents.{content_blocks}
 use Rattle.xfs_filled.specs.Forks.{extents_of_run, owned_by}
 use Rattle.xfs_filled.specs.Objects.{blocks_of_length}

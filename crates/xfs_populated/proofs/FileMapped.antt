@@ -14,8 +14,8 @@ use Rattle.xfs_image.specs.Keeping.{byte_in, byte_over, has_block}
 use Rattle.xfs_kinds.specs.OffsetWords.{offset_in_fork}
 use Rattle.xfs_place.specs.Objects.{AreJoined, rest_of}
 use Rattle.xfs_place.specs.declared.wanted.RunAsk.{RunAsk}
-use Rattle.xfs_restored.specs.Pieces.{places_of_runs, run_places}
-use Rattle.xfs_restored.proofs.Mapping.{address_leads, length_range}
+use Rattle.xfs_built.specs.Pieces.{places_of_runs, run_places}
+use Rattle.xfs_built.proofs.Mapping.{address_leads, length_range}
 use Rattle.xfs_filled.specs.Forks.{extent_of_piece, extents_of_run}
 use Rattle.xfs_populated.proofs.FileOrder.{data_word}
 

@@ -22,9 +22,9 @@ use Rattle.xfs_proto.specs.declared.protofile.ProtoNode.{ProtoNode}
 use Rattle.xfs_protected.proofs.Members.{row_member}
 use Rattle.xfs_space.specs.Owners.{extent_run, file_runs}
 use Rattle.xfs_volume.specs.declared.files.FileRec.{FileRec}
-use Rattle.xfs_restored.proofs.Mapping.{address_leads}
-use Rattle.xfs_restored.proofs.NumberedSums.{sum_each, sum_flat, sum_mapped}
-use Rattle.xfs_restored.proofs.Sized.{none_short}
+use Rattle.xfs_built.proofs.Mapping.{address_leads}
+use Rattle.xfs_built.proofs.NumberedSums.{sum_each, sum_flat, sum_mapped}
+use Rattle.xfs_built.proofs.Sized.{none_short}
 use Rattle.xfs_empty.specs.Inodes.{system_core}
 use Rattle.xfs_made.specs.Files.{plain_file}
 use Rattle.xfs_filled.specs.Directories.{IsSoundWhere, made_directory_at, fresh_fork_bytes, made_directory}

@@ -42,7 +42,6 @@ pub mod SpaceDue
 pub mod ChunkMarks
 pub mod ChunksDue
 pub mod LsnSlots
-pub mod LsnBuilt
 pub mod LsnFiles
 pub mod LsnsDue
 pub mod FileParts

@@ -21,8 +21,8 @@ use Rattle.xfs_proto.specs.declared.protofile.ProtoKind.TheVariants as Kind
 use Rattle.xfs_proto.specs.declared.protofile.ProtoNode.{ProtoNode}
 use Rattle.xfs_protected.proofs.Members.{Member, all_members, member_either}
 use Rattle.xfs_render.specs.declared.plan.Plan.{Plan}
-use Rattle.xfs_restored.proofs.Mapping.{address_leads}
-use Rattle.xfs_rename.specs.Forks.{extent_of_run}
+use Rattle.xfs_built.proofs.Mapping.{address_leads}
+use Rattle.xfs_built.specs.Extents.{extent_of_run}
 use Rattle.xfs_volume.specs.declared.files.FileRec.{FileRec}
 use Rattle.xfs_empty.specs.Inodes.{system_core}
 use Rattle.xfs_made.specs.Files.{plain_file}
@@ -41,7 +41,7 @@ use Rattle.xfs_populated.proofs.DirectoryFiles.{runs_extents}
 use Rattle.xfs_populated.proofs.DueNames.{due_states}
 use Rattle.xfs_populated.proofs.FileServed.{AreServed, file_served}
 use Rattle.xfs_populated.proofs.FilesLinked.{link_blocks}
-use Rattle.xfs_populated.proofs.LsnBuilt.{built_zero}
+use Rattle.xfs_built.proofs.BuiltNumbers.{built_zero}
 use Rattle.xfs_populated.proofs.NameLists.{all_flat}
 use Rattle.xfs_populated.proofs.NamedFiles.{all_files}
 use Rattle.xfs_populated.proofs.NumbersStand.{chunks_placed, numbers_stand}

@@ -22,8 +22,8 @@ use Rattle.xfs_rendered.proofs.Numbers.{number_in_part}
 use Rattle.xfs_volume.specs.declared.cores.Core.{Core}
 use Rattle.xfs_empty.specs.Inodes.{system_slot, unused_slot}
 use Rattle.xfs_proto.specs.declared.protofile.ProtoNode.{ProtoNode}
-use Rattle.xfs_reread.proofs.SlotLsns.{slot_back, slot_lsn}
-use Rattle.xfs_restored.specs.StayingNumbers.{StartsAtZero}
+use Rattle.xfs_built.proofs.SlotNumbers.{slot_back, slot_lsn}
+use Rattle.xfs_built.specs.Bases.{StartsAtZero}
 use Rattle.xfs_filled.specs.Numbers.{inode_at}
 use Rattle.xfs_filled.specs.Slots.{slot_of_place, place_of_index, slot_of_index}
 use Rattle.xfs_populated.specs.FilledSlots.{HasFilledSlots}

@@ -20,7 +20,7 @@ use Rattle.xfs_filled.specs.Entries.{directories_in, entries_at, entry_of_place,
 use Rattle.xfs_filled.specs.FileTrees.{AreProtoNodes, child_places, is_directory_node, is_directory_kind, node_at, type_of_kind}
 use Rattle.xfs_filled.specs.Numbers.{number_of}
 use Rattle.xfs_filled.specs.Slots.{links_of_made}
-use Rattle.xfs_restored.proofs.NamingKept.{naming_kept}
+use Rattle.xfs_built.proofs.NamingKept.{naming_kept}
 use Rattle.xfs_populated.specs.Names.{HasFileNumbers}
 use Rattle.xfs_populated.specs.Populated.{directory_due, dirs_due, filled_entries}
 use Rattle.xfs_populated.proofs.NameLists.{contains_map, list_passes, map_both, same_pass}

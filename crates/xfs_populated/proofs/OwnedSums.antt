@@ -7,7 +7,7 @@ use Rattle.std.proofs.lemmas.List.Elements.{All-append}
 use Rattle.std.proofs.lemmas.List.Sums.{sum_by-cons}
 use Rattle.xfs_geom.specs.Volumes.{Volume}
 use Rattle.xfs_geom.specs.declared.records.Run.{Run}
-use Rattle.xfs_restored.proofs.NumberedSums.{sum_each, sum_two}
+use Rattle.xfs_built.proofs.NumberedSums.{sum_each, sum_two}
 use Rattle.xfs_filled.specs.Forks.{owned_by}
 use Rattle.xfs_filled.specs.Numbers.{number_of}
 use Rattle.xfs_filled.specs.Spans.{AreRunsOf}

@@ -18,7 +18,7 @@ use Rattle.xfs_filled.specs.Numbers.{number_of}
 use Rattle.xfs_filled.specs.Objects.{blocks_of_length, content_at, directory_runs, objects_of_place, run_of, runs_at, runs_of_kind, target_blocks}
 use Rattle.xfs_filled.specs.declared.directories.MadeDirectory.{MadeDirectory}
 use Rattle.xfs_filled.proofs.Serving.{asks_next}
-use Rattle.xfs_restored.specs.Pieces.{taken}
+use Rattle.xfs_built.specs.Pieces.{taken}
 
 none_of : {X : Type 0} (P : X → Type 0) → All P []
 none_of P k d low = absurd (omega (arith, low))

@@ -38,7 +38,8 @@ use Rattle.xfs_rebuild.specs.declared.names_due.NamesDue.{NamesDue}
 use Rattle.xfs_rebuild.specs.declared.planning.Rebuilt.{Rebuilt}
 use Rattle.xfs_rename.specs.Forks.{forks_of}
 use Rattle.xfs_rename.specs.Lost.{lost_due}
-use Rattle.xfs_rename.specs.Objects.{blocks_of_built, objects_of, wanted_with}
+use Rattle.xfs_built.specs.Asks.{blocks_of_built, objects_of}
+use Rattle.xfs_rename.specs.Objects.{wanted_with}
 use Rattle.xfs_rename.specs.Renames.{IsRenamed, IsRenameRefused, IsSettling, lsns_due, old_files, placed_forks, renamed_slots, renamed_wanted}
 use Rattle.xfs_rename.specs.Settled.{fork_rooms, settled}
 use Rattle.xfs_rename.specs.Slots.{changes_of, cleared_beside, with_changes}
@@ -125,7 +126,7 @@ module _ (g : Geometry) (s : Stamp) (n : NamesDue) (has : HasNamesDue g s n) (t 
     order = subst (IsNonDecreasingBy (λ (w : SlotWanted). w.ino)) (sym hand.slots') order;
     slots = λ i low inner.
         subst (λ (ws : List SlotWanted). CanCluster (volume_of g) ws (get_or b.places i 0) (get_or b.old i [])) (sym (hand.slots' ∙ of))
-        (renamed_serve g s n has t.lost (old_files n t.names) (forks_of (volume_of g) (old_files n t.names) t.built p.cuts p.runs) t.names.links b.places b.old
+        (renamed_serve g s has.on n has.due.slots' t.lost (old_files n t.names) (forks_of (volume_of g) (old_files n t.names) t.built p.cuts p.runs) t.names.links b.places b.old
         (subst (λ (ws : List SlotWanted). CanChangeAll (volume_of g) ws b.places b.old) (hand.slots' ∙ of) hand.can) i low inner);
     cycle = hand.few;
   }

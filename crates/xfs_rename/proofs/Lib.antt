@@ -13,7 +13,7 @@ mod NewClusters
 mod NumberPlaced
 mod PushedRange
 mod Pushing
-mod RenamedSlots
+pub mod RenamedSlots
 mod Renderable
 mod SettledAsked
 mod SettledNames

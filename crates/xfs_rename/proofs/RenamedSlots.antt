@@ -17,7 +17,7 @@ use Rattle.xfs_render.specs.declared.wanted_slots.SlotWanted.{SlotWanted}
 use Rattle.xfs_volume.specs.declared.files.FileRec.{FileRec}
 use Rattle.xfs_request.specs.Slots.{wanted_slots}
 use Rattle.xfs_rebuild.specs.Changes.{CanChangeAll}
-use Rattle.xfs_rebuild.specs.Rebuilds.{HasNamesDue}
+use Rattle.xfs_rebuild.specs.Rebuilds.{Ground, slots_asked}
 use Rattle.xfs_rebuild.specs.declared.names_due.NamesDue.{NamesDue}
 use Rattle.xfs_rebuild.proofs.Served.{IsMadeBase, changes_serve, slots_made}
 use Rattle.xfs_rename.specs.Slots.{base_made, base_or, change_listed, change_of, changed, changed_alone, changes_of, changes_something, free_change, free_changes, lost_core, put_first, slots_before, with_changes}
@@ -107,19 +107,19 @@ module _ (v : Volume) where
     changes_sound (p ∷ ps) =
         All-append (IsSoundChange v) (change_listed v s l files forks p) (flat_map (change_listed v s l files forks) ps) (listed_sound p) (changes_sound ps)
 
-module _ (g : Geometry) (s : Stamp) (n : NamesDue) (has : HasNamesDue g s n) (l : Lost) (files : List FileRec) (forks : List DirectoryFork) (links : List (ℕ × ℕ)) where
+module _ (g : Geometry) (s : Stamp) (on : Ground) (n : NamesDue) (asked : n.slots ≡ slots_asked g s on) (l : Lost) (files : List FileRec) (forks : List DirectoryFork) (links : List (ℕ × ℕ)) where
   abbrev slots_now : List SlotWanted
   slots_now = with_changes (changes_of (volume_of g) s l files forks links) n.slots
 
-  before_sound : All (IsSound (volume_of g)) (wanted_slots (volume_of g) s has.on.kept has.on.seen)
+  before_sound : All (IsSound (volume_of g)) (wanted_slots (volume_of g) s on.kept on.seen)
   before_sound =
-      All-from_recursion (IsSound (volume_of g)) (wanted_slots (volume_of g) s has.on.kept has.on.seen)
-      (all_members (IsSound (volume_of g)) (wanted_slots (volume_of g) s has.on.kept has.on.seen) (slots_made (volume_of g) s has.on.kept has.on.seen))
+      All-from_recursion (IsSound (volume_of g)) (wanted_slots (volume_of g) s on.kept on.seen)
+      (all_members (IsSound (volume_of g)) (wanted_slots (volume_of g) s on.kept on.seen) (slots_made (volume_of g) s on.kept on.seen))
 
   now_sound : All (IsSound (volume_of g)) slots_now
   now_sound =
       with_sound (volume_of g) (changes_of (volume_of g) s l files forks links) n.slots (changes_sound (volume_of g) s l files forks links)
-      (subst (All (IsSound (volume_of g))) (sym has.due.slots') before_sound)
+      (subst (All (IsSound (volume_of g))) (sym asked) before_sound)
 
   pub renamed_serve : (places : List ℕ) (old : Image) → CanChangeAll (volume_of g) slots_now places old
       → (i : ℕ) → i < length places → is_head (volume_of g) (get_or places i 0) ≡ false → CanCluster (volume_of g) slots_now (get_or places i 0) (get_or old i [])

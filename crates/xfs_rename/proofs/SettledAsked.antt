@@ -18,7 +18,8 @@ use Rattle.xfs_volume.specs.declared.files.FileRec.{FileRec}
 use Rattle.xfs_rebuild.specs.Rebuilds.{HasNamesDue}
 use Rattle.xfs_rebuild.specs.declared.names_due.NamesDue.{NamesDue}
 use Rattle.xfs_rebuild.proofs.Known.{known_files_ascend}
-use Rattle.xfs_rename.specs.Objects.{objects_of, wanted_with}
+use Rattle.xfs_built.specs.Asks.{objects_of}
+use Rattle.xfs_rename.specs.Objects.{wanted_with}
 use Rattle.xfs_rename.specs.Renames.{IsSettling}
 use Rattle.xfs_rename.specs.Settled.{fresh_with, replaced_blocks, settled, staying_files, with_numbers}
 use Rattle.xfs_rename.specs.declared.settling.Settling.{Settling}

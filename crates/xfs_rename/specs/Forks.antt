@@ -1,22 +1,19 @@
 -- The data forks of the directories that are built anew, by where their blocks stand (chapter "Data Extents").
-use Rattle.std.specs.Prelude.{◌≡◌, ℕ, ◌≤◌, ◌+◌, ◌*◌, ◌==◌, if◌then◌else◌, false, List, [], ◌∷◌, take, drop, length}
+use Rattle.std.specs.Prelude.{◌≡◌, ℕ, ◌≤◌, ◌+◌, ◌*◌, ◌==◌, if◌then◌else◌, List, [], ◌∷◌, take, drop, length}
 use Rattle.std.specs.List.{filter, flat_map, sum_by}
 use Rattle.xfs_word.specs.Extent.{packed}
 use Rattle.xfs_word.specs.declared.extents.Extent.{Extent}
-use Rattle.xfs_geom.specs.Conversions.{address_of}
 use Rattle.xfs_geom.specs.Volumes.{Volume}
 use Rattle.xfs_geom.specs.declared.records.Run.{Run}
 use Rattle.xfs_volume.specs.declared.files.FileRec.{FileRec}
 use Rattle.xfs_inodebuild.specs.declared.forks.ForkWanted.{ForkWanted}
 use Rattle.xfs_names.specs.declared.building.BuiltDirectory.{BuiltDirectory}
-use Rattle.xfs_rename.specs.Objects.{asks_for, stands_in_blocks}
+use Rattle.xfs_built.specs.Extents.{extent_of_run}
+use Rattle.xfs_built.specs.Asks.{asks_for, stands_in_blocks}
 use Rattle.xfs_rename.specs.declared.forks.DirectoryFork.{DirectoryFork}
 use Rattle.xfs_rename.specs.declared.forks.TakenFork.{TakenFork}
 
--- a run as an extent of its file
-abbrev pub extent_of_run : Volume → Run → Extent
-extent_of_run v r = record { offset = r.offset_word; start = address_of v r.start; count = r.count; unwritten = false }
-
+-- a run as the bytes of its extent
 abbrev pub run_bytes : Volume → Run → List ℕ
 run_bytes v r = packed (extent_of_run v r)
 

@@ -1,45 +1,15 @@
--- The directories that are built anew as objects to be placed, and what is asked of the volume (chapter "Directories").
-use Rattle.std.specs.Prelude.{ℕ, Bool, true, ◌/◌, ◌==◌, not, if◌then◌else◌, List, [], ◌∷◌, ◌++◌, map}
-use Rattle.std.specs.List.{filter, flat_map}
-use Rattle.xfs_disk.specs.Blocks.{Image}
+-- What is asked of a volume in which directories are built anew.
+use Rattle.std.specs.Prelude.{true, List, ◌++◌, map}
 use Rattle.xfs_geom.specs.Volumes.{volume_of}
 use Rattle.xfs_geom.specs.declared.geometry.Geometry.{Geometry}
-use Rattle.xfs_dirbuild.specs.declared.image.DirImage.{DirImage}
-use Rattle.xfs_names.specs.Built.{fork_room}
-use Rattle.xfs_names.specs.declared.building.BuiltDirectory.{BuiltDirectory}
-use Rattle.xfs_names.specs.declared.building.ForkRoom.{ForkRoom}
 use Rattle.xfs_names.specs.declared.records.WantedNames.{WantedNames}
 use Rattle.xfs_place.specs.declared.wanted.Object.{Object}
-use Rattle.xfs_place.specs.declared.wanted.ObjectKind.TheVariants.{Directory}
-use Rattle.xfs_place.specs.declared.wanted.RunAsk.{RunAsk}
 use Rattle.xfs_place.specs.declared.wanted.Wanted.{Wanted}
 use Rattle.xfs_request.specs.Chunks.{inodes_wanted}
 use Rattle.xfs_salvage.specs.Kept.{run_of_cluster, taken_of}
 use Rattle.xfs_rebuild.specs.declared.names_due.NamesDue.{NamesDue}
 use Rattle.xfs_rename.specs.Settled.{replaced_blocks, settled, staying_files}
 use Rattle.xfs_rename.specs.declared.lost.Lost.{Lost}
-
--- a run of so many blocks from a file block on, where there are some
-abbrev pub asked_run : ℕ → ℕ → ℕ → List RunAsk
-asked_run ino offset blocks = if blocks == 0 then [] else (record { blocks = blocks; owner = ino; offset_word = offset } ∷ [])
-
--- the data of a directory from file block 0 on, its index from 32 GiB on, its free blocks from 64 GiB on
-abbrev pub asks_for : ℕ → DirImage → List RunAsk
-asks_for ino image = asked_run ino 0 image.data_blocks ++ asked_run ino 0x800000 image.index_blocks ++ asked_run ino 0x1000000 image.free_blocks
-
--- as many runs as there is room for extents of 16 bytes
-abbrev pub object_of : List ForkRoom → BuiltDirectory → Object
-object_of rooms b = record { ino = b.ino; kind = Directory; runs = asks_for b.ino b.image; most = fork_room rooms b.ino / 16 }
-
-abbrev pub stands_in_blocks : BuiltDirectory → Bool
-stands_in_blocks b = not (b.image.data_blocks == 0)
-
-abbrev pub objects_of : List ForkRoom → List BuiltDirectory → List Object
-objects_of rooms built = map (object_of rooms) (filter stands_in_blocks built)
-
--- their blocks, one directory after the other
-abbrev pub blocks_of_built : List BuiltDirectory → Image
-blocks_of_built built = flat_map (λ (b : BuiltDirectory). b.image.blocks) built
 
 -- what is asked of the volume
 unfoldable pub wanted_with : Geometry → NamesDue → Lost → WantedNames → List Object → Wanted

@@ -33,7 +33,8 @@ use Rattle.xfs_rebuild.specs.declared.names_due.NamesDue.{NamesDue}
 use Rattle.xfs_rename.specs.Forks.{forks_of}
 use Rattle.xfs_rename.specs.Lost.{cluster_found, lost_due, place_due}
 use Rattle.xfs_rename.specs.Nodes.{nodes_of_files}
-use Rattle.xfs_rename.specs.Objects.{blocks_of_built, objects_of, wanted_with}
+use Rattle.xfs_built.specs.Asks.{blocks_of_built, objects_of}
+use Rattle.xfs_rename.specs.Objects.{wanted_with}
 use Rattle.xfs_rename.specs.Settled.{AreWanted, fork_rooms, settled, staying_files}
 use Rattle.xfs_rename.specs.Slots.{changes_of, cleared_beside, with_changes}
 use Rattle.xfs_rename.specs.declared.forks.DirectoryFork.{DirectoryFork}

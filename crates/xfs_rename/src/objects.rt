@@ -4,7 +4,7 @@ ghost use Rattle.std.specs.Prelude.{◌≡◌, ◌++◌, ◌≤◌, ◌<◌, ◌
 ghost use Rattle.std.specs.List.Sorted.{IsNonDecreasingBy};
 ghost use Rattle.xfs_names.specs.Built.{fork_room};
 ghost use Rattle.xfs_names.specs.declared.building.ForkRoom.{ForkRoom};
-ghost use Rattle.xfs_rename.specs.Objects.{asked_run, asks_for, blocks_of_built, stands_in_blocks, object_of, objects_of};
+ghost use Rattle.xfs_built.specs.Asks.{asked_run, asks_for, blocks_of_built, object_of, objects_of, stands_in_blocks};
 
 use std::alloc::Global;
 use xfs_bank::BlockBank;

@@ -16,7 +16,7 @@ ghost use Rattle.xfs_rebuild.specs.Refusals.{HasRebuildCause, IsReadRefused};
 ghost use Rattle.xfs_names.specs.declared.building.BuiltDirectory.{BuiltDirectory};
 ghost use Rattle.xfs_volume.specs.declared.files.FileRec.{FileRec};
 ghost use Rattle.xfs_rename.specs.Forks.{forks_of};
-ghost use Rattle.xfs_rename.specs.Objects.{blocks_of_built};
+ghost use Rattle.xfs_built.specs.Asks.{blocks_of_built};
 ghost use Rattle.xfs_rename.specs.Slots.{changes_of, cleared_beside, stays_freed, with_changes};
 ghost use Rattle.xfs_rename.specs.Renames.{IsRenamed, IsRenameRefused, IsSettling, lsns_due};
 

@@ -4,7 +4,8 @@ ghost use Rattle.std.specs.Prelude.{◌≡◌, [], map, true, IfOk};
 ghost use Rattle.xfs_naming.specs.Naming.{NumbersAscend};
 ghost use Rattle.xfs_rebuild.specs.Rebuilds.{HasNamesDue};
 ghost use Rattle.xfs_salvage.specs.Kept.{run_of_cluster};
-ghost use Rattle.xfs_rename.specs.Objects.{objects_of, wanted_with};
+ghost use Rattle.xfs_built.specs.Asks.{objects_of};
+ghost use Rattle.xfs_rename.specs.Objects.{wanted_with};
 ghost use Rattle.xfs_rename.specs.Renames.{IsSettling};
 ghost use Rattle.xfs_rename.specs.Settled.{fresh_with, settled, staying_files, with_numbers};
 

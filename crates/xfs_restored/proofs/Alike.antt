@@ -21,12 +21,12 @@ use Rattle.xfs_request.specs.Slots.{as_list, attrs_wanted, bare_slot, freed_slot
 use Rattle.xfs_request.specs.declared.seen.SlotSeen.{SlotSeen}
 use Rattle.xfs_rebuild.specs.Names as Names
 use Rattle.xfs_rebuild.specs.Names.{linked_file, linked_files, made_files, made_of, with_dir, with_made_file, with_made_files}
-use Rattle.xfs_reread.specs.DueFiles as DueFiles
-use Rattle.xfs_reread.specs.DueFiles.{due_file, fresh_file, fresh_root, kept_inodes, new_core, with_new}
-use Rattle.xfs_reread.specs.Kept.{HasKept}
-use Rattle.xfs_reread.proofs.DueList.{fresh_ascend, inodes_ascend, number_least, some_up}
-use Rattle.xfs_reread.proofs.Others.{fresh_inode, fresh_unused, none_found}
-use Rattle.xfs_reread.proofs.Wanted.{flat_flat, listed}
+use Rattle.xfs_restored.specs.DueFiles as DueFiles
+use Rattle.xfs_restored.specs.DueFiles.{due_file, fresh_file, fresh_root, kept_inodes, new_core, with_new}
+use Rattle.xfs_restored.specs.Kept.{HasKept}
+use Rattle.xfs_restored.proofs.DueList.{fresh_ascend, inodes_ascend, number_least, some_up}
+use Rattle.xfs_restored.proofs.Others.{fresh_inode, fresh_unused, none_found}
+use Rattle.xfs_restored.proofs.Wanted.{flat_flat, listed}
 use Rattle.xfs_restored.proofs.Plain.{plain}
 
 abbrev number : FileRec → ℕ

@@ -27,12 +27,12 @@ use Rattle.xfs_salvage.specs.Kept.{run_of_cluster}
 use Rattle.xfs_frames.specs.SameFiles.{HasSameClaims}
 use Rattle.xfs_rebuild.specs.Places.{old_places}
 use Rattle.xfs_rebuild.specs.declared.names_due.NamesDue.{NamesDue}
-use Rattle.xfs_rewritten.proofs.Counting.{taken_on, untaken_on}
-use Rattle.xfs_rewritten.proofs.Kept.{places_used}
-use Rattle.xfs_rewritten.proofs.PlansApart.{head_fixed, kept_off, taken_unfixed}
-use Rattle.xfs_rewritten.proofs.Staying.{off_list}
-use Rattle.xfs_rewritten.specs.Rewriting.{IsRewritten}
-use Rattle.xfs_rewritten.specs.Unused.{IsHeadOrKept}
+use Rattle.xfs_apart.proofs.Counting.{taken_on, untaken_on}
+use Rattle.xfs_restored.proofs.Kept.{places_used}
+use Rattle.xfs_apart.proofs.PlansApart.{head_fixed, kept_off, taken_unfixed}
+use Rattle.xfs_restored.proofs.Staying.{off_list}
+use Rattle.xfs_restored.specs.Rewriting.{IsRewritten}
+use Rattle.xfs_apart.specs.Unused.{IsHeadOrKept}
 use Rattle.xfs_rename.specs.Lost.{lost_due}
 use Rattle.xfs_rename.specs.Objects.{wanted_with}
 use Rattle.xfs_rename.specs.Renames.{IsRenamed, old_files, placed_forks, renamed_slots, renamed_wanted}

@@ -11,7 +11,7 @@ use Rattle.xfs_rename.specs.Lost.{lost_due}
 use Rattle.xfs_rename.specs.Renames.{IsRenamed}
 use Rattle.xfs_rename.specs.Settled.{settled}
 use Rattle.xfs_rename.specs.declared.planning.Renamed.{Renamed}
-use Rattle.xfs_reread.specs.Logs.{numbers_kept}
+use Rattle.xfs_restored.specs.Logs.{numbers_kept}
 
 pub cycle_due : (g : Geometry) (sector : List ℕ) (s : Stamp) (image : Image) (n : NamesDue) (r : Renamed) (is : IsRenamed g sector s image n r)
     → is.bytes.cycle ≡ due_cycle n.log (numbers_kept (volume_of g) image (settled n (lost_due g n) is.w) n.seen)

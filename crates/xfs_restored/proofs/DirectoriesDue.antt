@@ -35,17 +35,18 @@ use Rattle.xfs_scan.specs.declared.evidence.Evidence.{Evidence}
 use Rattle.xfs_rebuild.specs.Names as Names
 use Rattle.xfs_rebuild.specs.declared.names_due.NamesDue.{NamesDue}
 use Rattle.xfs_rename.specs.Lost.{lost_due}
-use Rattle.xfs_rename.specs.Objects.{stands_in_blocks}
+use Rattle.xfs_built.specs.Asks.{stands_in_blocks}
 use Rattle.xfs_rename.specs.Renames.{old_files}
 use Rattle.xfs_rename.specs.Slots.{lost_core}
 use Rattle.xfs_rename.specs.declared.lost.Lost.{Lost}
 use Rattle.xfs_rename.specs.declared.planning.Renamed.{Renamed}
-use Rattle.xfs_restored.specs.Directories.{BuiltRuns, IsBuiltFile, ReadsAsWanted, ReadsSo, fork_of_runs}
+use Rattle.xfs_built.specs.Directories.{BuiltRuns, IsBuiltFile, ReadsAsWanted, ReadsSo}
+use Rattle.xfs_restored.specs.RunForks.{fork_of_runs}
 use Rattle.xfs_restored.specs.Renamed.{HoldsBuilt}
 use Rattle.xfs_restored.proofs.Planned.{all_read, holds_built}
-use Rattle.xfs_reread.specs.DueFiles.{linked_core, new_core}
-use Rattle.xfs_reread.proofs.Fresh.{empty_form, made_root}
-use Rattle.xfs_reread.proofs.RootInodes.{low_root}
+use Rattle.xfs_restored.specs.DueFiles.{linked_core, new_core}
+use Rattle.xfs_restored.proofs.Fresh.{empty_form, made_root}
+use Rattle.xfs_restored.proofs.RootInodes.{low_root}
 use Rattle.xfs_restored.specs.Relinking.{IsRelinked, built_at, entries_due, renamed_dirs, renamed_entries, renamed_files, whole_with, with_built}
 use Rattle.xfs_restored.proofs.BuiltForks.{built_file, fork_changes, fork_put, links_leave, short_bytes_of}
 use Rattle.xfs_restored.proofs.DueNodes as Due

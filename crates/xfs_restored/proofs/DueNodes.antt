@@ -24,8 +24,8 @@ use Rattle.xfs_rename.specs.Renames.{old_files}
 use Rattle.xfs_rename.specs.Slots.{lost_core}
 use Rattle.xfs_rename.specs.declared.lost.Lost.{Lost}
 use Rattle.xfs_rename.specs.declared.planning.Renamed.{Renamed}
-use Rattle.xfs_restored.specs.Directories.{BuiltRuns}
-use Rattle.xfs_reread.specs.DueFiles.{new_core, stated_crc}
+use Rattle.xfs_built.specs.Directories.{BuiltRuns}
+use Rattle.xfs_restored.specs.DueFiles.{new_core, stated_crc}
 use Rattle.xfs_restored.specs.Relinking.{IsRelinked, built_at, built_of, file_due, core_anew, file_with_links, renamed_dirs, renamed_files, with_built}
 use Rattle.xfs_restored.proofs.FilesAlike.{all_whole, built_kind, built_links, built_number, linked_links, linked_number, links_are, node_same, nodes_are, pairs_are}
 use Rattle.xfs_restored.proofs.NamedFiles.{own_inode}

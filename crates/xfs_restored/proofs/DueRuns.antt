@@ -26,17 +26,17 @@ use Rattle.xfs_rebuild.specs.Names as Names
 use Rattle.xfs_rebuild.specs.Names.{linked_files}
 use Rattle.xfs_rebuild.specs.Rebuilds.{Ground}
 use Rattle.xfs_rebuild.specs.declared.names_due.NamesDue.{NamesDue}
-use Rattle.xfs_reread.proofs.DueOwners.{mapped_same}
-use Rattle.xfs_reread.specs.DueFiles.{stated_crc}
+use Rattle.xfs_restored.proofs.DueOwners.{mapped_same}
+use Rattle.xfs_restored.specs.DueFiles.{stated_crc}
 use Rattle.xfs_rename.specs.Lost.{lost_due}
-use Rattle.xfs_rename.specs.Objects.{objects_of, stands_in_blocks}
+use Rattle.xfs_built.specs.Asks.{objects_of, stands_in_blocks}
 use Rattle.xfs_rename.specs.Renames.{old_files}
 use Rattle.xfs_rename.specs.Settled.{fork_rooms, settled, staying_file, without_data}
 use Rattle.xfs_rename.specs.declared.lost.Lost.{Lost}
-use Rattle.xfs_restored.specs.Directories.{BuiltRuns, asks_of_built, built_runs, runs_of_built, with_runs}
+use Rattle.xfs_built.specs.Directories.{BuiltRuns, asks_of_built, built_runs, runs_of_built, with_runs}
 use Rattle.xfs_restored.specs.Numbered.{AreNumbered, IsNumberOf, numbers_linked}
 use Rattle.xfs_restored.specs.Relinking.{built_at, built_of, extents_built, file_due, first_built, file_with_links, renamed_files, with_built}
-use Rattle.xfs_restored.proofs.NumberedSums.{none_at, one_at, sum_each, sum_flat, sum_mapped, sum_same, sum_two}
+use Rattle.xfs_built.proofs.NumberedSums.{none_at, one_at, sum_each, sum_flat, sum_mapped, sum_same, sum_two}
 use Rattle.xfs_restored.proofs.ServedRuns.{all_served, runs_built}
 use Rattle.xfs_restored.proofs.WantedLists.{at_first, at_has}
 

@@ -29,9 +29,9 @@ use Rattle.xfs_rendered.specs.Standing.{HasHeads, IsStanding}
 use Rattle.xfs_salvage.specs.Kept.{run_of_cluster}
 use Rattle.xfs_rebuild.specs.Places.{has_wanted, old_places}
 use Rattle.xfs_rebuild.specs.declared.names_due.NamesDue.{NamesDue}
-use Rattle.xfs_rewritten.proofs.Kept.{cluster_place, head_place, none_wanted, some_wanted, unwanted_off}
-use Rattle.xfs_rewritten.proofs.PlansApart.{kept_off}
-use Rattle.xfs_rewritten.proofs.Staying.{off_list}
+use Rattle.xfs_restored.proofs.Kept.{cluster_place, head_place, none_wanted, some_wanted, unwanted_off}
+use Rattle.xfs_apart.proofs.PlansApart.{kept_off}
+use Rattle.xfs_restored.proofs.Staying.{off_list}
 use Rattle.xfs_rename.specs.Lost.{lost_due}
 use Rattle.xfs_rename.specs.Objects.{wanted_with}
 use Rattle.xfs_rename.specs.Renames.{IsRenamed, placed_forks, renamed_slots, renamed_wanted}

@@ -9,10 +9,11 @@ use Rattle.xfs_naming.specs.Naming.{NumbersAscend}
 use Rattle.xfs_names.specs.declared.building.BuiltDirectory.{BuiltDirectory}
 use Rattle.xfs_protected.proofs.Members.{Member, all_members}
 use Rattle.xfs_rename.specs.Forks.{attribute_blocks_at, extents_fork, fork_listed, forks_of, short_fork}
-use Rattle.xfs_rename.specs.Objects.{stands_in_blocks}
+use Rattle.xfs_built.specs.Asks.{stands_in_blocks}
 use Rattle.xfs_rename.specs.Slots.{first_fork, fork_at}
 use Rattle.xfs_rename.specs.declared.forks.DirectoryFork.{DirectoryFork}
-use Rattle.xfs_restored.specs.Directories.{BuiltRuns, FindsFork, asks_of_built, built_runs, fork_of_runs, runs_of_built, with_runs}
+use Rattle.xfs_built.specs.Directories.{BuiltRuns, asks_of_built, built_runs, runs_of_built, with_runs}
+use Rattle.xfs_restored.specs.RunForks.{FindsFork, fork_of_runs}
 
 module _ (v : Volume) (files : List FileRec) where
   abbrev listed : BuiltRuns → DirectoryFork

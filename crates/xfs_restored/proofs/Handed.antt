@@ -16,11 +16,11 @@ use Rattle.xfs_salvage.specs.Kept.{entries_of_kept, fresh_inodes, kept_clusters,
 use Rattle.xfs_requested.specs.Handed.{IsKeptOf}
 use Rattle.xfs_rebuild.specs.Rebuilds.{Ground, IsGround, IsRebuildOf, slots_asked}
 use Rattle.xfs_rebuild.specs.declared.planning.Rebuilt.{Rebuilt}
-use Rattle.xfs_rewritten.specs.Rewriting.{IsRewritten}
-use Rattle.xfs_rewritten.proofs.SlotsDue.{slots_due}
-use Rattle.xfs_rewritten.proofs.Staying.{claims_stay}
-use Rattle.xfs_reread.specs.DueFiles.{kept_inodes}
-use Rattle.xfs_reread.specs.Kept.{HasKept}
+use Rattle.xfs_restored.specs.Rewriting.{IsRewritten}
+use Rattle.xfs_restored.proofs.SlotsDue.{slots_due}
+use Rattle.xfs_restored.proofs.Staying.{claims_stay}
+use Rattle.xfs_restored.specs.DueFiles.{kept_inodes}
+use Rattle.xfs_restored.specs.Kept.{HasKept}
 use Rattle.xfs_restored.proofs.Known.{evidence_known}
 
 -- what is kept of an evidence is kept of the image

@@ -35,12 +35,12 @@ use Rattle.xfs_rebuild.specs.Places.{old_places}
 use Rattle.xfs_rebuild.specs.Rebuilds.{IsLeft}
 use Rattle.xfs_rebuild.specs.declared.names_due.NamesDue.{NamesDue}
 use Rattle.xfs_rebuild.specs.declared.planning.Rebuilt.{Rebuilt}
-use Rattle.xfs_rewritten.proofs.Kept.{places_apart, places_used}
-use Rattle.xfs_rewritten.proofs.PlansApart.{all_of_log, plans_apart, trees}
-use Rattle.xfs_rewritten.proofs.RowsWritten.{both_left}
-use Rattle.xfs_rewritten.proofs.Standing.{plan_beside, plan_held}
-use Rattle.xfs_rewritten.specs.Rewriting.{IsRewritten}
-use Rattle.xfs_rewritten.specs.Unused.{AreHeadsOrKept, IsHeadOrKept, IsOfLog}
+use Rattle.xfs_restored.proofs.Kept.{places_apart, places_used}
+use Rattle.xfs_apart.proofs.PlansApart.{all_of_log, plans_apart, trees}
+use Rattle.xfs_restored.proofs.RowsWritten.{both_left}
+use Rattle.xfs_restored.proofs.Standing.{plan_beside, plan_held}
+use Rattle.xfs_restored.specs.Rewriting.{IsRewritten}
+use Rattle.xfs_apart.specs.Unused.{AreHeadsOrKept, IsHeadOrKept, IsOfLog}
 use Rattle.xfs_writing.specs.Writing.{writes_of_rows, written}
 use Rattle.xfs_writing.specs.declared.rows.Row.{Row}
 use Rattle.xfs_rename.specs.Lost.{lost_due}

@@ -18,11 +18,11 @@ use Rattle.xfs_views.proofs.Files.{file_sound}
 use Rattle.xfs_request.specs.Slots.{is_bare, links_due, own_blocks, state_at}
 use Rattle.xfs_rebuild.specs.Rebuilds.{Ground, IsRebuildOf}
 use Rattle.xfs_rebuild.specs.declared.planning.Rebuilt.{Rebuilt}
-use Rattle.xfs_rewritten.specs.Rewriting.{IsRewritten}
-use Rattle.xfs_rewritten.proofs.Staying.{files_of_image, protected_claims}
-use Rattle.xfs_reread.specs.DueFiles.{due_core, due_file, stated_crc}
-use Rattle.xfs_reread.specs.Kept.{HasKept, state_read}
-use Rattle.xfs_reread.proofs.KeptSlots.{kept_file_reads, state_known}
+use Rattle.xfs_restored.specs.Rewriting.{IsRewritten}
+use Rattle.xfs_restored.proofs.Staying.{files_of_image, protected_claims}
+use Rattle.xfs_restored.specs.DueFiles.{due_core, due_file, stated_crc}
+use Rattle.xfs_restored.specs.Kept.{HasKept, state_read}
+use Rattle.xfs_restored.proofs.RereadSlots.{kept_file_reads, state_known}
 use Rattle.xfs_restored.proofs.Handed.{has_kept}
 
 module _ (g : Geometry) (sector : List ℕ) (s : Stamp) (image now : Image) (e : Evidence) (r : Rebuilt) (told : IsEvidence g image e)

@@ -27,8 +27,8 @@ use Rattle.xfs_scan.specs.declared.evidence.Evidence.{Evidence}
 use Rattle.xfs_rebuild.specs.Names.{new_root, with_dir}
 use Rattle.xfs_rebuild.specs.declared.names_due.NamesDue.{NamesDue}
 use Rattle.xfs_rename.specs.declared.planning.Renamed.{Renamed}
-use Rattle.xfs_reread.proofs.DueList.{number_least}
-use Rattle.xfs_reread.proofs.Wanted.{one_alone}
+use Rattle.xfs_restored.proofs.DueList.{number_least}
+use Rattle.xfs_restored.proofs.Wanted.{one_alone}
 use Rattle.xfs_restored.proofs.Handed.{dirs_of_image, entries_of_image}
 use Rattle.xfs_restored.specs.Relinking.{IsRelinked}
 use Rattle.xfs_restored.proofs.WantedNumbers.{fresh_not_kept, kept_at, of_image}

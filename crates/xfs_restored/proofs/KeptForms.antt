@@ -33,16 +33,17 @@ use Rattle.xfs_rename.specs.Lost.{lost_due}
 use Rattle.xfs_rename.specs.Renames.{old_files, placed_forks, renamed_slots}
 use Rattle.xfs_rename.specs.Settled.{settled, staying_file, without_data}
 use Rattle.xfs_rename.specs.declared.planning.Renamed.{Renamed}
-use Rattle.xfs_restored.specs.Directories.{BuiltRuns, fork_of_runs, with_runs}
+use Rattle.xfs_built.specs.Directories.{BuiltRuns, with_runs}
+use Rattle.xfs_restored.specs.RunForks.{fork_of_runs}
 use Rattle.xfs_restored.proofs.DueSlots.{slots_due}
 use Rattle.xfs_restored.proofs.HeldPlans.{others_stay, renamed_holds}
-use Rattle.xfs_rewritten.proofs.Standing.{same_size}
-use Rattle.xfs_reread.specs.DueFiles.{kept_inodes}
-use Rattle.xfs_reread.proofs.Changes.{drops_same, links_forks}
-use Rattle.xfs_reread.proofs.DirectoriesRead.{dir_same, entries_same}
-use Rattle.xfs_reread.proofs.Forks.{HasSameFork}
-use Rattle.xfs_reread.proofs.InKept.{kept_read}
-use Rattle.xfs_reread.proofs.Readings.{attrs_have, bare_is, file_has}
+use Rattle.xfs_restored.proofs.Standing.{same_size}
+use Rattle.xfs_restored.specs.DueFiles.{kept_inodes}
+use Rattle.xfs_restored.proofs.Changes.{drops_same, links_forks}
+use Rattle.xfs_restored.proofs.DirectoriesRead.{dir_same, entries_same}
+use Rattle.xfs_restored.proofs.Forks.{HasSameFork}
+use Rattle.xfs_restored.proofs.InKept.{kept_read}
+use Rattle.xfs_restored.proofs.Readings.{attrs_have, bare_is, file_has}
 use Rattle.xfs_restored.specs.Relinking.{IsRelinked, built_at}
 use Rattle.xfs_restored.proofs.ClaimsStay.{claims_stay}
 use Rattle.xfs_restored.proofs.PlainSlots.{AreParts, unforked_parts}

@@ -19,8 +19,8 @@ use Rattle.xfs_request.specs.declared.seen.SlotSeen.{SlotSeen}
 use Rattle.xfs_request.specs.declared.seen.SlotState.{SlotState}
 use Rattle.xfs_rebuild.specs.Found.{seen_in_evidence}
 use Rattle.xfs_rebuild.specs.Seen as Seen
-use Rattle.xfs_reread.specs.Kept.{all_slots_seen, slot_seen, state_by}
-use Rattle.xfs_reread.proofs.KnownSlots.{known}
+use Rattle.xfs_restored.specs.Kept.{all_slots_seen, slot_seen, state_by}
+use Rattle.xfs_restored.proofs.KnownSlots.{known}
 
 same_state : (bare : List ℕ) (ino : ℕ) (reading : SlotReading) → Seen.state_of_reading bare ino reading ≡ state_by (is_among bare ino) reading
 same_state bare ino Reading.Free = refl

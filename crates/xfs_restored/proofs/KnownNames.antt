@@ -24,7 +24,7 @@ use Rattle.xfs_request.specs.Slots.{attrs_wanted, freed_slot, is_free, state_at}
 use Rattle.xfs_request.specs.declared.seen.SlotSeen.{SlotSeen}
 use Rattle.xfs_rebuild.specs.Names as Names
 use Rattle.xfs_rebuild.specs.declared.names_due.NamesDue.{NamesDue}
-use Rattle.xfs_reread.specs.DueFiles.{kept_inodes, new_core}
+use Rattle.xfs_restored.specs.DueFiles.{kept_inodes, new_core}
 use Rattle.xfs_rename.specs.Forks.{attribute_blocks, attribute_blocks_at}
 use Rattle.xfs_rename.specs.Lost.{lost_due}
 use Rattle.xfs_rename.specs.Renames.{old_files, placed_forks, renamed_slots}
@@ -34,7 +34,8 @@ use Rattle.xfs_rename.specs.declared.lost.Lost.{Lost}
 use Rattle.xfs_rename.specs.declared.planning.Renamed.{Renamed}
 use Rattle.xfs_naming.specs.Naming.{file_at}
 use Rattle.xfs_restored.specs.Changes.{LinksAscend}
-use Rattle.xfs_restored.specs.Directories.{BuiltRuns, fork_of_runs, with_runs}
+use Rattle.xfs_built.specs.Directories.{BuiltRuns, with_runs}
+use Rattle.xfs_restored.specs.RunForks.{fork_of_runs}
 use Rattle.xfs_restored.specs.Relinking.{IsRelinked, built_at}
 use Rattle.xfs_restored.proofs.PlainSlots.{IsLinked, kept_change}
 

@@ -54,15 +54,15 @@ use Rattle.xfs_rebuild.specs.Names as Names
 use Rattle.xfs_rebuild.specs.Names.{needs_names}
 use Rattle.xfs_rebuild.specs.Rebuilds.{Ground, IsRebuildOf, asked}
 use Rattle.xfs_rebuild.specs.declared.planning.Rebuilt.{Rebuilt}
-use Rattle.xfs_rewritten.specs.Rewriting.{IsRewritten}
-use Rattle.xfs_rewritten.proofs.Logs.{evidence_log_due}
-use Rattle.xfs_rewritten.proofs.Standing.{stands}
-use Rattle.xfs_reread.specs.DueFiles as DueFiles
-use Rattle.xfs_reread.specs.Kept.{HasKept}
-use Rattle.xfs_reread.specs.Logs.{IsLogDue, numbers_kept}
-use Rattle.xfs_reread.proofs.AllBehind.{log_keeps}
-use Rattle.xfs_reread.proofs.DueOwners.{due_runs, due_used}
-use Rattle.xfs_reread.proofs.KeptChunks.{clusters_are}
+use Rattle.xfs_restored.specs.Rewriting.{IsRewritten}
+use Rattle.xfs_restored.proofs.Logs.{evidence_log_due}
+use Rattle.xfs_restored.proofs.Standing.{stands}
+use Rattle.xfs_restored.specs.DueFiles as DueFiles
+use Rattle.xfs_restored.specs.Kept.{HasKept}
+use Rattle.xfs_restored.specs.Logs.{IsLogDue, numbers_kept}
+use Rattle.xfs_restored.proofs.AllBehind.{log_keeps}
+use Rattle.xfs_restored.proofs.DueOwners.{due_runs, due_used}
+use Rattle.xfs_restored.proofs.KeptChunks.{clusters_are}
 use Rattle.xfs_restored.proofs.Alike.{dirs_are, files_alike}
 use Rattle.xfs_restored.proofs.Handed.{has_kept, kept_of_image}
 use Rattle.xfs_restored.proofs.Plain.{naming_plain}

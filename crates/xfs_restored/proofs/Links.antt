@@ -13,7 +13,7 @@ use Rattle.xfs_rename.specs.declared.forks.DirectoryFork.{DirectoryFork}
 use Rattle.xfs_rename.specs.declared.lost.Lost.{Lost}
 use Rattle.xfs_restored.specs.Changes.{ChangesAscend, LinksAscend, change_if, first_change, inodes_taken}
 use Rattle.xfs_restored.proofs.Changing.{none_changed}
-use Rattle.xfs_restored.proofs.Fronts.{all_append}
+use Rattle.xfs_built.proofs.Fronts.{all_append}
 
 -- changes in front of others
 first_append : (xs ys : List SlotChange) (ino : ℕ) → first_change (xs ++ ys) ino ≡ or_else (first_change xs ino) (first_change ys ino)

@@ -42,18 +42,19 @@ use Rattle.xfs_rebuild.specs.Bytes.{file_lsns}
 use Rattle.xfs_rebuild.specs.Names as Names
 use Rattle.xfs_rebuild.specs.Names.{linked_files}
 use Rattle.xfs_rebuild.specs.declared.names_due.NamesDue.{NamesDue}
-use Rattle.xfs_reread.specs.DueFiles.{stated_crc}
-use Rattle.xfs_reread.specs.Logs.{IsLogDue, numbers_kept}
-use Rattle.xfs_reread.proofs.FileLsns.{of_order}
-use Rattle.xfs_reread.proofs.Heads.{due_clean, number_behind, zero_behind}
-use Rattle.xfs_rename.specs.Forks.{extent_of_run}
+use Rattle.xfs_restored.specs.DueFiles.{stated_crc}
+use Rattle.xfs_restored.specs.Logs.{IsLogDue, numbers_kept}
+use Rattle.xfs_restored.proofs.FileLsns.{of_order}
+use Rattle.xfs_restored.proofs.WrittenHeads.{due_clean, number_behind, zero_behind}
+use Rattle.xfs_built.specs.Extents.{extent_of_run}
 use Rattle.xfs_rename.specs.Lost.{lost_due}
-use Rattle.xfs_rename.specs.Objects.{stands_in_blocks, wanted_with}
+use Rattle.xfs_built.specs.Asks.{stands_in_blocks}
+use Rattle.xfs_rename.specs.Objects.{wanted_with}
 use Rattle.xfs_rename.specs.Renames.{old_files, placed_forks, renamed_slots, renamed_wanted}
 use Rattle.xfs_rename.specs.Settled.{fork_rooms, settled, staying_file}
 use Rattle.xfs_rename.specs.declared.planning.Renamed.{Renamed}
 use Rattle.xfs_naming.specs.Naming.{file_at}
-use Rattle.xfs_restored.specs.Directories.{BuiltRuns, HasOwnCounts, StandsInRuns}
+use Rattle.xfs_built.specs.Directories.{BuiltRuns, HasOwnCounts, StandsInRuns}
 use Rattle.xfs_restored.specs.Renamed.{HoldsBuilt}
 use Rattle.xfs_restored.proofs.DueSlots.{slots_due}
 use Rattle.xfs_restored.proofs.HeldPlans.{others_stay}
@@ -62,7 +63,7 @@ use Rattle.xfs_restored.proofs.Known.{evidence_known}
 use Rattle.xfs_restored.specs.Numbered.{AreNumbered}
 use Rattle.xfs_restored.specs.Relinking.{IsRelinked, built_at, built_of, extents_built, file_due, renamed_files}
 use Rattle.xfs_restored.specs.StayingNumbers.{AreDirectories, AreStaying}
-use Rattle.xfs_restored.proofs.BuiltNumbers.{built_zero}
+use Rattle.xfs_restored.proofs.BuiltNumbers.{wanted_zero}
 use Rattle.xfs_restored.proofs.DuePlaces.{due_place, number_stays, staying_place}
 use Rattle.xfs_restored.proofs.DueRuns.{among_built, built_member, number_is}
 use Rattle.xfs_restored.proofs.MadeNumbers.{place_number}
@@ -181,7 +182,7 @@ module _ (g : Geometry) (sector : List ℕ) (s : Stamp) (image now : Image) (e :
       by_blocks true blocks there =
           let room = g.shape.groups.large in
           none_is_behind place
-          (built_zero v now (omega (arith, room)) g.shape.addresses.enough has.is.w rooms d.directory d.runs has.is.buildable (as_wanted d is) (sized d is) (stands_in_runs d is blocks) place there)
+          (wanted_zero v now (omega (arith, room)) g.shape.addresses.enough has.is.w rooms d.directory d.runs has.is.buildable (as_wanted d is) (sized d is) (stands_in_runs d is blocks) place there)
       by_blocks false blocks none = absurd none
 
   -- of all files

@@ -28,9 +28,10 @@ use Rattle.xfs_salvage.specs.declared.found.Salvaged.{Salvaged}
 use Rattle.xfs_request.specs.Cycles.{keeps_lsn, kept_lsns, lsn_listed}
 use Rattle.xfs_request.specs.declared.seen.SlotSeen.{SlotSeen}
 use Rattle.xfs_requested.proofs.Chunked.{IsHalf}
-use Rattle.xfs_reread.specs.Kept.{all_slots_seen, slot_seen}
-use Rattle.xfs_reread.proofs.SlotLsns.{slot_back, slot_lsn}
-use Rattle.xfs_restored.specs.StayingNumbers.{IsMadeAnew, IsStayingSlot, StartsAtZero, StaysKept}
+use Rattle.xfs_restored.specs.Kept.{all_slots_seen, slot_seen}
+use Rattle.xfs_built.proofs.SlotNumbers.{slot_back, slot_lsn}
+use Rattle.xfs_restored.specs.StayingNumbers.{IsMadeAnew, IsStayingSlot, StaysKept}
+use Rattle.xfs_built.specs.Bases.{StartsAtZero}
 
 abbrev lsn_of : Core → ℕ
 lsn_of core = core.lsn

@@ -19,7 +19,7 @@ use Rattle.xfs_salvage.specs.Kept.{claims_held, fresh_among, is_kept_file, kept_
 use Rattle.xfs_request.specs.Fresh.{new_root_core, new_system_core}
 use Rattle.xfs_rebuild.specs.declared.names_due.NamesDue.{NamesDue}
 use Rattle.xfs_rename.specs.declared.planning.Renamed.{Renamed}
-use Rattle.xfs_reread.specs.DueFiles.{new_core}
+use Rattle.xfs_restored.specs.DueFiles.{new_core}
 use Rattle.xfs_restored.specs.Relinking.{IsRelinked}
 use Rattle.xfs_restored.proofs.WantedNumbers.{of_image}
 

@@ -26,7 +26,7 @@ use Rattle.xfs_rebuild.specs.declared.names_due.NamesDue.{NamesDue}
 use Rattle.xfs_rename.specs.Lost.{no_inode}
 use Rattle.xfs_rename.specs.Nodes.{nodes_of_files}
 use Rattle.xfs_rename.specs.declared.planning.Renamed.{Renamed}
-use Rattle.xfs_reread.specs.DueFiles.{new_core}
+use Rattle.xfs_restored.specs.DueFiles.{new_core}
 use Rattle.xfs_restored.specs.Relinking.{IsRelinked}
 use Rattle.xfs_restored.proofs.NamedFiles.{file_stands, new_root, new_system, own_inode, reserved_system, standing_root, standing_system}
 use Rattle.xfs_restored.proofs.WantedNumbers.{file_cases, file_kept, fresh_there, kept_there, low_inode}

@@ -29,7 +29,7 @@ use Rattle.xfs_restored.proofs.DueNodes as Due
 use Rattle.xfs_restored.proofs.EntriesAlike.{IsTyped, counted_untyped, entries_alike, entries_grouped, entries_typed}
 use Rattle.xfs_restored.proofs.KeptFew.{entries_few}
 use Rattle.xfs_restored.proofs.NamedNodes.{are_entries, are_files, root_directory, system_plain}
-use Rattle.xfs_restored.proofs.NamingKept.{naming_kept}
+use Rattle.xfs_built.proofs.NamingKept.{naming_kept}
 use Rattle.xfs_restored.proofs.SystemFiles.{system_file}
 
 module _ (g : Geometry) (sector : List ℕ) (s : Stamp) (image now : Image) (e : Evidence) (n : NamesDue) (r : Renamed) (has : IsRelinked g sector s image now e n r) where

@@ -27,7 +27,7 @@ use Rattle.xfs_rename.specs.Settled.{with_number_in_order, with_numbers}
 use Rattle.xfs_rename.specs.declared.planning.Renamed.{Renamed}
 use Rattle.xfs_restored.specs.Changes.{LinksAscend, SlotsAscend, inodes_taken, lost_slot}
 use Rattle.xfs_restored.proofs.DueSlots.{asked_due, cluster_clear}
-use Rattle.xfs_restored.proofs.Joining.{range_split}
+use Rattle.xfs_built.proofs.Joining.{range_split}
 use Rattle.xfs_restored.proofs.NewCluster.{free_due, free_now, lost_wanted}
 use Rattle.xfs_restored.proofs.Placing.{next_head}
 

@@ -19,9 +19,9 @@ use Rattle.xfs_render.specs.Slots.{DropsAttrs, IsMadeSlot, SetsFork, SetsLinks}
 use Rattle.xfs_render.specs.declared.wanted_slots.SlotBase.TheVariants.{Kept}
 use Rattle.xfs_render.specs.declared.wanted_slots.SlotWanted.{SlotWanted}
 use Rattle.xfs_request.specs.Slots.{own_blocks}
-use Rattle.xfs_reread.specs.DueFiles.{due_core, linked_core, plain_core}
-use Rattle.xfs_reread.proofs.Changes.{drops_read, links_read, with_core}
-use Rattle.xfs_reread.proofs.Readings.{attrs_have, file_has, stated}
+use Rattle.xfs_restored.specs.DueFiles.{due_core, linked_core, plain_core}
+use Rattle.xfs_restored.proofs.Changes.{drops_read, links_read, with_core}
+use Rattle.xfs_restored.proofs.Readings.{attrs_have, file_has, stated}
 
 -- the number of names of a file is set, or it has it already, and does not wait to be removed
 abbrev pub IsLinked : Core → Option ℕ → ℕ → Type 0

@@ -18,15 +18,16 @@ use Rattle.xfs_render.specs.Objects.{HasObjects, asks_with_kind, blocks_of_asks}
 use Rattle.xfs_render.specs.Plans.{HoldsPlan}
 use Rattle.xfs_render.specs.declared.bytes.Bytes.{Bytes}
 use Rattle.xfs_rebuild.specs.declared.names_due.NamesDue.{NamesDue}
-use Rattle.xfs_rename.specs.Objects.{stands_in_blocks, objects_of, wanted_with}
+use Rattle.xfs_built.specs.Asks.{objects_of, stands_in_blocks}
+use Rattle.xfs_rename.specs.Objects.{wanted_with}
 use Rattle.xfs_rename.specs.Renames.{IsRenamed, renamed_wanted}
 use Rattle.xfs_rename.specs.Settled.{fork_rooms}
 use Rattle.xfs_rename.specs.declared.planning.Renamed.{Renamed}
-use Rattle.xfs_restored.specs.Directories.{BuiltRuns, HasOwnCounts, StandsInRuns, ReadsSo, asks_of_built, built_runs, runs_of_built, with_runs}
+use Rattle.xfs_built.specs.Directories.{BuiltRuns, HasOwnCounts, StandsInRuns, ReadsSo, asks_of_built, built_runs, runs_of_built, with_runs}
 use Rattle.xfs_restored.specs.Renamed.{HoldsBuilt}
-use Rattle.xfs_restored.proofs.Sized.{built_sized}
-use Rattle.xfs_restored.proofs.Standing.{directories_stand}
-use Rattle.xfs_restored.proofs.Whole.{reads_now, short_reads_now}
+use Rattle.xfs_built.proofs.Sized.{built_sized}
+use Rattle.xfs_built.proofs.Standing.{directories_stand}
+use Rattle.xfs_built.proofs.Whole.{reads_now, short_reads_now}
 
 -- what a plan says of directories, in an image that holds it
 pub holds_built : (g : Geometry) (sector : List ℕ) (s : Stamp) (image : Image) (n : NamesDue) (r : Renamed) (is : IsRenamed g sector s image n r) → CanBeBuilt is.w

@@ -30,13 +30,13 @@ use Rattle.xfs_rename.specs.Lost.{lost_due}
 use Rattle.xfs_rename.specs.Renames.{old_files}
 use Rattle.xfs_rename.specs.declared.lost.Lost.{Lost}
 use Rattle.xfs_rename.specs.declared.planning.Renamed.{Renamed}
-use Rattle.xfs_restored.specs.Directories.{BuiltRuns, with_runs}
+use Rattle.xfs_built.specs.Directories.{BuiltRuns, with_runs}
 use Rattle.xfs_request.specs.Slots.{is_bare, own_blocks, state_at}
 use Rattle.xfs_request.specs.declared.seen.SlotSeen.{SlotSeen}
 use Rattle.xfs_requested.specs.Handed.{IsKeptOf}
-use Rattle.xfs_reread.specs.DueFiles.{due_core, stated_crc}
-use Rattle.xfs_reread.specs.Kept.{state_read}
-use Rattle.xfs_reread.proofs.Wanted.{one_alone, state_is}
+use Rattle.xfs_restored.specs.DueFiles.{due_core, stated_crc}
+use Rattle.xfs_restored.specs.Kept.{state_read}
+use Rattle.xfs_restored.proofs.Wanted.{one_alone, state_is}
 use Rattle.xfs_restored.proofs.Handed.{kept_of_image}
 use Rattle.xfs_restored.proofs.Known.{evidence_known}
 use Rattle.xfs_views.proofs.Files.{file_sound}

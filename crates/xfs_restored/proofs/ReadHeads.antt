@@ -41,12 +41,12 @@ use Rattle.xfs_salvage.specs.Kept.{run_of_cluster}
 use Rattle.xfs_salvage.specs.declared.found.Salvaged.{Salvaged}
 use Rattle.xfs_rebuild.specs.Places.{old_places}
 use Rattle.xfs_rebuild.specs.declared.names_due.NamesDue.{NamesDue}
-use Rattle.xfs_rewritten.specs.Unused.{IsFreshFor, IsHeadOrKept, IsOfLog}
-use Rattle.xfs_rewritten.proofs.Kept.{places_used}
-use Rattle.xfs_rewritten.proofs.PlansApart.{head_off_log, log_fixed, plans_fresh, taken_right, taken_unfixed}
-use Rattle.xfs_rewritten.proofs.Standing.{same_size}
-use Rattle.xfs_rewritten.proofs.Staying.{off_list}
-use Rattle.xfs_reread.specs.Logs.{IsLogDue, numbers_kept}
+use Rattle.xfs_apart.specs.Unused.{IsFreshFor, IsHeadOrKept, IsOfLog}
+use Rattle.xfs_restored.proofs.Kept.{places_used}
+use Rattle.xfs_apart.proofs.PlansApart.{head_off_log, log_fixed, plans_fresh, taken_right, taken_unfixed}
+use Rattle.xfs_restored.proofs.Standing.{same_size}
+use Rattle.xfs_restored.proofs.Staying.{off_list}
+use Rattle.xfs_restored.specs.Logs.{IsLogDue, numbers_kept}
 use Rattle.xfs_rename.specs.Lost.{lost_due}
 use Rattle.xfs_rename.specs.Objects.{wanted_with}
 use Rattle.xfs_rename.specs.Renames.{placed_forks, renamed_slots, renamed_wanted}

@@ -34,16 +34,17 @@ use Rattle.xfs_frames.proofs.FilesStay.{block_is}
 use Rattle.xfs_protected.proofs.Members.{Member}
 use Rattle.xfs_render.specs.Slots.{IsMadeSlot}
 use Rattle.xfs_request.specs.Slots.{own_blocks}
-use Rattle.xfs_reread.specs.DueFiles.{due_core, linked_core, plain_core}
-use Rattle.xfs_reread.proofs.Changes.{attr_is}
-use Rattle.xfs_reread.proofs.Readings.{HasAttrs, HasData, attrs_have, bare_is, file_has}
-use Rattle.xfs_rename.specs.Forks.{attribute_blocks, extent_of_run, extents_fork, short_fork}
-use Rattle.xfs_rename.specs.Objects.{stands_in_blocks}
+use Rattle.xfs_restored.specs.DueFiles.{due_core, linked_core, plain_core}
+use Rattle.xfs_restored.proofs.Changes.{attr_is}
+use Rattle.xfs_restored.proofs.Readings.{HasAttrs, HasData, attrs_have, bare_is, file_has}
+use Rattle.xfs_rename.specs.Forks.{attribute_blocks, extents_fork, short_fork}
+use Rattle.xfs_built.specs.Extents.{extent_of_run}
+use Rattle.xfs_built.specs.Asks.{stands_in_blocks}
 use Rattle.xfs_rename.specs.Settled.{without_data}
-use Rattle.xfs_restored.specs.Directories.{BuiltRuns}
+use Rattle.xfs_built.specs.Directories.{BuiltRuns}
 use Rattle.xfs_restored.specs.Reading.{HasFileExtents, KeepsAttributes, ReadsBefore, StandsBeside, forked_core, forked_file, fork_contents, rebuilt_file}
 use Rattle.xfs_restored.proofs.KeptSlots.{kept_blocks, kept_short}
-use Rattle.xfs_restored.proofs.Mapping.{address_leads}
+use Rattle.xfs_built.proofs.Mapping.{address_leads}
 use Rattle.xfs_restored.specs.Relinking.{extents_built}
 use Rattle.xfs_restored.proofs.PlainSlots.{IsLinked, ReadsKept, drop_due, kept_due}
 

@@ -19,13 +19,13 @@ use Rattle.xfs_made.specs.Volumes.{Checksums}
 use Rattle.xfs_request.specs.Requests.{volume_wanted}
 use Rattle.xfs_rebuild.specs.Rebuilds.{Ground, IsRebuildOf}
 use Rattle.xfs_rebuild.specs.declared.planning.Rebuilt.{Rebuilt}
-use Rattle.xfs_rewritten.specs.Rewriting.{IsRewritten}
-use Rattle.xfs_rewritten.proofs.Logs.{backups_rebuilt, counts_rebuilt, groups_rebuilt, super_rebuilt}
-use Rattle.xfs_reread.specs.DueFiles.{kept_inodes, rebuilt_dirs}
-use Rattle.xfs_reread.specs.Kept.{HasKept}
-use Rattle.xfs_reread.proofs.DueDirectories.{due_dirs_are, due_entries}
-use Rattle.xfs_reread.proofs.DueList.{files_are}
-use Rattle.xfs_reread.proofs.KeptChunks.{inodes_are_kept}
+use Rattle.xfs_restored.specs.Rewriting.{IsRewritten}
+use Rattle.xfs_restored.proofs.Logs.{backups_rebuilt, counts_rebuilt, groups_rebuilt, super_rebuilt}
+use Rattle.xfs_restored.specs.DueFiles.{kept_inodes, rebuilt_dirs}
+use Rattle.xfs_restored.specs.Kept.{HasKept}
+use Rattle.xfs_restored.proofs.DueDirectories.{due_dirs_are, due_entries}
+use Rattle.xfs_restored.proofs.DueList.{files_are}
+use Rattle.xfs_restored.proofs.KeptChunks.{inodes_are_kept}
 use Rattle.xfs_restored.proofs.Handed.{dirs_of_image, entries_of_image, has_kept, kept_of_image}
 use Rattle.xfs_restored.proofs.Lawful.{lawful}
 use Rattle.xfs_restored.specs.Names.{HasKeptNames}

@@ -41,7 +41,7 @@ use Rattle.xfs_requested.proofs.Lawful.{chunks_lawful}
 use Rattle.xfs_requested.proofs.Taken.{among_member}
 use Rattle.xfs_requested.proofs.Writable.{inodes_are}
 use Rattle.xfs_rebuild.specs.declared.names_due.NamesDue.{NamesDue}
-use Rattle.xfs_reread.proofs.KeptChunks.{asked_clusters_are}
+use Rattle.xfs_restored.proofs.KeptChunks.{asked_clusters_are}
 use Rattle.xfs_rename.specs.Lost.{added_for, cluster_ask, first_of, lost_due, place_due, spared}
 use Rattle.xfs_rename.specs.Objects.{wanted_with}
 use Rattle.xfs_rename.specs.Renames.{renamed_wanted}

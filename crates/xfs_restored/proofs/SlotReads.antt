@@ -37,21 +37,22 @@ use Rattle.xfs_request.specs.declared.seen.SlotSeen.{SlotSeen}
 use Rattle.xfs_requested.specs.Handed.{IsKeptOf}
 use Rattle.xfs_rebuild.specs.Names as Names
 use Rattle.xfs_rebuild.specs.declared.names_due.NamesDue.{NamesDue}
-use Rattle.xfs_rewritten.proofs.Standing.{same_size}
-use Rattle.xfs_reread.specs.DueFiles.{due_core, kept_inodes, linked_core, new_core, stated_crc}
-use Rattle.xfs_reread.specs.Kept.{state_read}
-use Rattle.xfs_reread.proofs.Changes.{with_core}
-use Rattle.xfs_reread.proofs.Fresh.{freed_reads}
-use Rattle.xfs_reread.proofs.InKept.{kept_read, of_kept}
-use Rattle.xfs_reread.proofs.RootInodes.{low_root}
-use Rattle.xfs_reread.proofs.Wanted.{state_is}
+use Rattle.xfs_restored.proofs.Standing.{same_size}
+use Rattle.xfs_restored.specs.DueFiles.{due_core, kept_inodes, linked_core, new_core, stated_crc}
+use Rattle.xfs_restored.specs.Kept.{state_read}
+use Rattle.xfs_restored.proofs.Changes.{with_core}
+use Rattle.xfs_restored.proofs.Fresh.{freed_reads}
+use Rattle.xfs_restored.proofs.InKept.{kept_read, of_kept}
+use Rattle.xfs_restored.proofs.RootInodes.{low_root}
+use Rattle.xfs_restored.proofs.Wanted.{state_is}
 use Rattle.xfs_rename.specs.Forks.{attribute_blocks, attribute_blocks_at}
 use Rattle.xfs_rename.specs.Lost.{lost_due}
 use Rattle.xfs_rename.specs.Settled.{fork_rooms, settled, staying_file, without_data}
 use Rattle.xfs_rename.specs.Slots.{lost_core}
 use Rattle.xfs_rename.specs.declared.planning.Renamed.{Renamed}
 use Rattle.xfs_naming.specs.Naming.{file_at}
-use Rattle.xfs_restored.specs.Directories.{BuiltRuns, fork_of_runs}
+use Rattle.xfs_built.specs.Directories.{BuiltRuns}
+use Rattle.xfs_restored.specs.RunForks.{fork_of_runs}
 use Rattle.xfs_restored.specs.Reading.{IsFreshDirectory, fresh_directory_slot}
 use Rattle.xfs_restored.proofs.DueSlots.{slots_due}
 use Rattle.xfs_restored.proofs.HeldPlans.{others_stay, renamed_holds}

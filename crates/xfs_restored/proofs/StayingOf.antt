@@ -27,7 +27,7 @@ use Rattle.xfs_rename.specs.Renames.{old_files, placed_forks, renamed_slots}
 use Rattle.xfs_rename.specs.Settled.{fresh_with, settled, staying_file, without_data}
 use Rattle.xfs_rename.specs.declared.lost.Lost.{Lost}
 use Rattle.xfs_rename.specs.declared.planning.Renamed.{Renamed}
-use Rattle.xfs_restored.specs.Directories.{with_runs}
+use Rattle.xfs_built.specs.Directories.{with_runs}
 use Rattle.xfs_restored.proofs.NewSlots.{added_made}
 use Rattle.xfs_render.specs.Slots.{wanted_of}
 use Rattle.xfs_render.specs.declared.wanted_slots.SlotBase.TheVariants.{Kept}
@@ -37,10 +37,10 @@ use Rattle.xfs_request.specs.Slots.{freed_slot, is_free, state_at}
 use Rattle.xfs_request.specs.declared.seen.SlotSeen.{SlotSeen}
 use Rattle.xfs_requested.specs.Handed.{IsKeptOf}
 use Rattle.xfs_requested.proofs.Taken.{among_member}
-use Rattle.xfs_reread.specs.DueFiles.{kept_inodes, new_core}
-use Rattle.xfs_reread.specs.Kept.{slot_seen}
-use Rattle.xfs_reread.proofs.InKept.{of_kept}
-use Rattle.xfs_reread.proofs.Wanted.{state_is}
+use Rattle.xfs_restored.specs.DueFiles.{kept_inodes, new_core}
+use Rattle.xfs_restored.specs.Kept.{slot_seen}
+use Rattle.xfs_restored.proofs.InKept.{of_kept}
+use Rattle.xfs_restored.proofs.Wanted.{state_is}
 use Rattle.xfs_restored.proofs.Handed.{kept_of_image}
 use Rattle.xfs_restored.proofs.Known.{evidence_known}
 use Rattle.xfs_restored.specs.Relinking.{IsRelinked, built_at, file_due, renamed_files}

@@ -29,9 +29,9 @@ use Rattle.xfs_rebuild.specs.declared.names_due.NamesDue.{NamesDue}
 use Rattle.xfs_rename.specs.Lost.{lost_due}
 use Rattle.xfs_rename.specs.declared.lost.Lost.{Lost}
 use Rattle.xfs_rename.specs.declared.planning.Renamed.{Renamed}
-use Rattle.xfs_restored.specs.Directories.{BuiltRuns}
-use Rattle.xfs_reread.specs.DueFiles.{new_core}
-use Rattle.xfs_reread.proofs.Others.{among}
+use Rattle.xfs_built.specs.Directories.{BuiltRuns}
+use Rattle.xfs_restored.specs.DueFiles.{new_core}
+use Rattle.xfs_restored.proofs.Others.{among}
 use Rattle.xfs_restored.specs.Relinking.{IsRelinked, built_at, core_anew, renamed_files}
 use Rattle.xfs_restored.proofs.DueNodes as Due
 use Rattle.xfs_restored.proofs.NamedFiles.{IsEmptyRegular, file_stands, new_system, own_inode, standing_system, system_reserved}

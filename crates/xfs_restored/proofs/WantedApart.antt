@@ -26,7 +26,7 @@ use Rattle.xfs_rename.specs.Objects.{wanted_with}
 use Rattle.xfs_rename.specs.Renames.{IsRenamed}
 use Rattle.xfs_rename.specs.Settled.{staying_files}
 use Rattle.xfs_rename.specs.declared.planning.Renamed.{Renamed}
-use Rattle.xfs_rewritten.proofs.Counting.{taken_on}
+use Rattle.xfs_apart.proofs.Counting.{taken_on}
 use Rattle.xfs_space.specs.Owners.{file_runs}
 
 -- addresses of blocks ascend, by groups of w blocks that have k addresses each

@@ -26,11 +26,11 @@ use Rattle.xfs_volume.specs.declared.directories.DirRec.{DirRec}
 use Rattle.xfs_volume.specs.declared.files.FileRec.{FileRec}
 use Rattle.xfs_rebuild.specs.Names.{due_files, linked_file, linked_files, made_files, new_file}
 use Rattle.xfs_rebuild.specs.declared.names_due.NamesDue.{NamesDue}
-use Rattle.xfs_reread.specs.DueFiles.{new_core}
+use Rattle.xfs_restored.specs.DueFiles.{new_core}
 use Rattle.xfs_rename.specs.Forks.{attribute_blocks, attribute_blocks_at, first_attribute_blocks, fork_listed, forks_of}
 use Rattle.xfs_rename.specs.Lost.{lost_due}
 use Rattle.xfs_rename.specs.Nodes.{nodes_of_files}
-use Rattle.xfs_rename.specs.Objects.{stands_in_blocks}
+use Rattle.xfs_built.specs.Asks.{stands_in_blocks}
 use Rattle.xfs_rename.specs.Renames.{old_files, placed_forks}
 use Rattle.xfs_rename.specs.Settled.{is_old, staying_file, staying_files, without_data}
 use Rattle.xfs_rename.specs.Slots.{first_fork, first_links, fork_at, links_held_at}
@@ -38,7 +38,8 @@ use Rattle.xfs_rename.specs.declared.forks.DirectoryFork.{DirectoryFork}
 use Rattle.xfs_rename.specs.declared.lost.Lost.{Lost}
 use Rattle.xfs_rename.specs.declared.planning.Renamed.{Renamed}
 use Rattle.xfs_restored.proofs.ForkRuns.{forks_go}
-use Rattle.xfs_restored.specs.Directories.{BuiltRuns, asks_of_built, built_runs, fork_of_runs, runs_of_built, with_runs}
+use Rattle.xfs_built.specs.Directories.{BuiltRuns, asks_of_built, built_runs, runs_of_built, with_runs}
+use Rattle.xfs_restored.specs.RunForks.{fork_of_runs}
 use Rattle.xfs_restored.specs.Relinking.{IsRelinked, built_at, first_built}
 use Rattle.xfs_restored.proofs.WantedLists.{all_stay, at_first, at_none, filter_map, mades_gone, none_other}
 use Rattle.xfs_restored.proofs.WantedNumbers.{file_cases, file_not_lost, fresh_is_not_lost, fresh_none, fresh_there, kept_alone, kept_there, lost_node, node_cases}

@@ -29,8 +29,8 @@ use Rattle.xfs_scan.specs.declared.evidence.Evidence.{Evidence}
 use Rattle.xfs_volume.specs.declared.cores.Core.{Core}
 use Rattle.xfs_volume.specs.declared.files.FileRec.{FileRec}
 use Rattle.xfs_rebuild.specs.declared.names_due.NamesDue.{NamesDue}
-use Rattle.xfs_reread.proofs.Wanted.{file_wanted, listed, other_wanted, wanted_is}
-use Rattle.xfs_reread.specs.DueFiles.{kept_inodes, new_core}
+use Rattle.xfs_restored.proofs.Wanted.{file_wanted, listed, other_wanted, wanted_is}
+use Rattle.xfs_restored.specs.DueFiles.{kept_inodes, new_core}
 use Rattle.xfs_rename.specs.Lost.{lost_due}
 use Rattle.xfs_rename.specs.Nodes.{first_of_cluster}
 use Rattle.xfs_rename.specs.Renames.{old_files, placed_forks, renamed_slots}
@@ -47,8 +47,9 @@ use Rattle.xfs_restored.proofs.Links.{changes_ascend, file_change}
 use Rattle.xfs_restored.proofs.NewCluster.{free_due}
 use Rattle.xfs_restored.proofs.NewSlots.{added_few, added_made, cluster_row}
 use Rattle.xfs_restored.specs.Changes.{SlotsAscend, change_if, first_change, with_change}
-use Rattle.xfs_restored.specs.Directories.{BuiltRuns, fork_of_runs, with_runs}
-use Rattle.xfs_rewritten.proofs.Standing.{same_size}
+use Rattle.xfs_built.specs.Directories.{BuiltRuns, with_runs}
+use Rattle.xfs_restored.specs.RunForks.{fork_of_runs}
+use Rattle.xfs_restored.proofs.Standing.{same_size}
 use Rattle.xfs_restored.specs.Relinking.{IsRelinked, built_at}
 use Rattle.xfs_restored.proofs.WantedBuilt.{fork_is, lost_none, no_links, own_links}
 use Rattle.xfs_restored.proofs.WantedNumbers.{fresh_among_it, fresh_inode, fresh_is_not_lost, fresh_linked, fresh_none, inode_apart, kept_alone, kept_inode, kept_is_not_lost, kept_linked, links_rise, lost_linked, one_added, taken_all}

@@ -34,10 +34,10 @@ use Rattle.xfs_rebuild.proofs.Grounds.{files_found}
 use Rattle.xfs_rebuild.specs.Names.{due_files, linked_file, linked_files, made_files, new_file}
 use Rattle.xfs_rebuild.specs.Rebuilds.{HasNamesDue}
 use Rattle.xfs_rebuild.specs.declared.names_due.NamesDue.{NamesDue}
-use Rattle.xfs_reread.proofs.InKept.{file_inode}
-use Rattle.xfs_reread.proofs.RootInodes.{root_has}
-use Rattle.xfs_reread.proofs.Wanted.{one_alone}
-use Rattle.xfs_reread.specs.DueFiles.{kept_inodes, new_core}
+use Rattle.xfs_restored.proofs.InKept.{file_inode}
+use Rattle.xfs_restored.proofs.RootInodes.{root_has}
+use Rattle.xfs_restored.proofs.Wanted.{one_alone}
+use Rattle.xfs_restored.specs.DueFiles.{kept_inodes, new_core}
 use Rattle.xfs_restored.proofs.Handed.{kept_of_image}
 use Rattle.xfs_rename.specs.Lost.{added_for, lost_due, new_for, no_inode, place_due}
 use Rattle.xfs_rename.specs.Nodes.{first_of_cluster, firsts_of_clusters, nodes_of_files}

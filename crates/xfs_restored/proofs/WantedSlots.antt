@@ -18,8 +18,8 @@ use Rattle.xfs_request.specs.Slots.{as_list, attrs_wanted, bare_slot, freed_slot
 use Rattle.xfs_request.specs.declared.seen.SlotSeen.{SlotSeen}
 use Rattle.xfs_requested.proofs.Spaced.{IsOf, wanted_of_ino}
 use Rattle.xfs_rebuild.specs.Names.{made_files, made_of, new_file}
-use Rattle.xfs_reread.specs.DueFiles.{kept_inodes, new_core}
-use Rattle.xfs_reread.proofs.Wanted.{listed, other_wanted}
+use Rattle.xfs_restored.specs.DueFiles.{kept_inodes, new_core}
+use Rattle.xfs_restored.proofs.Wanted.{listed, other_wanted}
 use Rattle.xfs_rename.specs.declared.changes.SlotChange.{SlotChange}
 use Rattle.xfs_restored.specs.Changes.{SlotsAscend, first_change}
 

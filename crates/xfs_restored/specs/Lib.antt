@@ -1,6 +1,10 @@
+pub mod Rewriting
+pub mod InPlace
+pub mod DueFiles
+pub mod Kept
+pub mod Logs
 pub mod Restoring
-pub mod Pieces
-pub mod Directories
+pub mod RunForks
 pub mod Renamed
 pub mod Changes
 pub mod Reading

@@ -9,7 +9,7 @@ use Rattle.xfs_volume.specs.declared.directories.DirRec.{DirRec}
 use Rattle.xfs_names.specs.declared.records.WantedNames.{WantedNames}
 use Rattle.xfs_rebuild.specs.Rebuilds.{Ground}
 use Rattle.xfs_rebuild.specs.declared.names_due.NamesDue.{NamesDue}
-use Rattle.xfs_reread.specs.DueFiles.{rebuilt_dirs}
+use Rattle.xfs_restored.specs.DueFiles.{rebuilt_dirs}
 use Rattle.xfs_restored.specs.Relinking.{renamed_dirs, renamed_entries}
 
 -- an image reads as a volume with these entries, directory by directory and in this order, and with these directories

@@ -22,17 +22,18 @@ use Rattle.xfs_request.specs.declared.seen.SlotSeen.{SlotSeen}
 use Rattle.xfs_rebuild.specs.Names.{new_file}
 use Rattle.xfs_rebuild.specs.Rebuilds.{AreNamesDue, Ground, IsFound, IsGround, names_change}
 use Rattle.xfs_rebuild.specs.declared.names_due.NamesDue.{NamesDue}
-use Rattle.xfs_rename.specs.Forks.{extent_of_run}
+use Rattle.xfs_built.specs.Extents.{extent_of_run}
 use Rattle.xfs_rename.specs.Lost.{lost_due}
-use Rattle.xfs_rename.specs.Objects.{stands_in_blocks}
+use Rattle.xfs_built.specs.Asks.{stands_in_blocks}
 use Rattle.xfs_rename.specs.Renames.{IsRenamed, old_files}
 use Rattle.xfs_rename.specs.Slots.{lost_core}
 use Rattle.xfs_rename.specs.declared.lost.Lost.{Lost}
 use Rattle.xfs_rename.specs.declared.planning.Renamed.{Renamed}
-use Rattle.xfs_restored.specs.Directories.{BuiltRuns, fork_of_runs, with_runs}
+use Rattle.xfs_built.specs.Directories.{BuiltRuns, with_runs}
+use Rattle.xfs_restored.specs.RunForks.{fork_of_runs}
 use Rattle.xfs_restored.specs.Reading.{forked_core, forked_file}
-use Rattle.xfs_rewritten.specs.Rewriting.{IsRewritten}
-use Rattle.xfs_reread.specs.DueFiles.{due_core, linked_core, new_core, stated_crc}
+use Rattle.xfs_restored.specs.Rewriting.{IsRewritten}
+use Rattle.xfs_restored.specs.DueFiles.{due_core, linked_core, new_core, stated_crc}
 
 -- A rebuild in which names change was written: round what the evidence of an image gives it to go by, a name has to change, and the
 -- image now has what was to be written.

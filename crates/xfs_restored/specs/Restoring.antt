@@ -17,7 +17,7 @@ use Rattle.xfs_rendered.specs.Standing.{agf_crc_at, agi_crc_at}
 use Rattle.xfs_made.specs.Volumes.{Checksums}
 use Rattle.xfs_request.specs.Chunks.{inodes_wanted}
 use Rattle.xfs_rebuild.specs.Rebuilds.{Ground}
-use Rattle.xfs_reread.specs.DueFiles.{rebuilt_dirs, rebuilt_files, stated_crc}
+use Rattle.xfs_restored.specs.DueFiles.{rebuilt_dirs, rebuilt_files, stated_crc}
 
 -- the groups, with the chunks of the kept clusters and what is placed in each; the kept files and those that are made anew
 abbrev pub groups_due : Geometry → Ground → Placed → Checksums → List GroupRec

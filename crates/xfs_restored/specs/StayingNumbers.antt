@@ -11,18 +11,12 @@ use Rattle.xfs_volume.specs.Names.{type_of}
 use Rattle.xfs_volume.specs.declared.files.FileRec.{FileRec}
 use Rattle.xfs_frames.specs.SameFiles.{HasSameClaims}
 use Rattle.xfs_render.specs.Slots.{wanted_of}
-use Rattle.xfs_render.specs.declared.wanted_slots.SlotBase.{SlotBase}
+use Rattle.xfs_built.specs.Bases.{StartsAtZero}
 use Rattle.xfs_render.specs.declared.wanted_slots.SlotBase.TheVariants as Base
 use Rattle.xfs_render.specs.declared.wanted_slots.SlotWanted.{SlotWanted}
 use Rattle.xfs_salvage.specs.declared.found.Salvaged.{Salvaged}
 use Rattle.xfs_request.specs.Slots.{is_free}
-use Rattle.xfs_reread.specs.Kept.{slot_seen}
-
--- a slot that is made anew or freed begins with 0
-abbrev pub StartsAtZero : SlotBase → Type 0
-StartsAtZero Base.Kept = ⊥
-StartsAtZero Base.Free = Unit {0}
-StartsAtZero (Base.Fresh core) = core.lsn ≡ 0
+use Rattle.xfs_restored.specs.Kept.{slot_seen}
 
 abbrev pub IsMadeAnew : Option SlotWanted → Type 0
 IsMadeAnew None = ⊥

@@ -1,6 +1,6 @@
 //! Laws about directories that were built anew. Each function does nothing; its contract is the laws.
 
-ghost use Rattle.std.specs.Prelude.{◌≡◌, ◌/◌, ◌≤◌, ◌<◌, ◌^◌, true, false, ℕ, List, length, map};
+ghost use Rattle.std.specs.Prelude.{◌≡◌, ◌/◌, ◌≤◌, true, false, ℕ, List, length, map};
 ghost use Rattle.std.specs.List.{AllByRecursion, Contains};
 ghost use Rattle.xfs_disk.specs.Blocks.{Image};
 ghost use Rattle.xfs_disk.specs.Lists.{is_among};
@@ -23,11 +23,12 @@ ghost use Rattle.xfs_render.specs.declared.bytes.Bytes.{Bytes};
 ghost use Rattle.xfs_empty.specs.Planning.{StandsFor};
 ghost use Rattle.xfs_rebuild.specs.declared.names_due.NamesDue.{NamesDue};
 ghost use Rattle.xfs_rename.specs.Forks.{forks_of};
-ghost use Rattle.xfs_rename.specs.Objects.{blocks_of_built, stands_in_blocks, objects_of};
+ghost use Rattle.xfs_built.specs.Asks.{blocks_of_built, objects_of, stands_in_blocks};
 ghost use Rattle.xfs_rename.specs.Renames.{IsRenamed, renamed_wanted};
 ghost use Rattle.xfs_rename.specs.Settled.{fork_rooms};
 ghost use Rattle.xfs_rename.specs.declared.planning.Renamed.{Renamed};
-ghost use Rattle.xfs_restored.specs.Directories.{BuiltRuns, FindsFork, IsFileOf, IsShortFileOf, HasOwnCounts, StandsInRuns, MapsRuns, ReadsAsWanted, ReadsSo, StandsIn, with_runs};
+ghost use Rattle.xfs_built.specs.Directories.{BuiltRuns, HasOwnCounts, StandsInRuns, ReadsSo, with_runs};
+ghost use Rattle.xfs_restored.specs.RunForks.{FindsFork};
 ghost use Rattle.xfs_restored.specs.Reading.{HasFileExtents};
 ghost use Rattle.xfs_restored.specs.Renamed.{HoldsBuilt};
 
@@ -38,20 +39,6 @@ pub fn directories_stand_in_their_runs()
         → ServeAsks (asks_of (objects_of rooms built)) cuts runs
         → HasObjects v (blocks_of_asks (asks_with_kind (objects_of rooms built)) cuts runs) (blocks_of_built built) (length (blocks_of_asks (asks_with_kind (objects_of rooms built)) cuts runs)) image
         → AllByRecursion (StandsInRuns v image) (with_runs built cuts runs) }
-{}
-
-/// A directory that was built as it is wanted has few blocks, all of them told (`sized`). Where they stand in its runs, a file that
-/// has these as its extents maps just them (`mapped`) and reads as whole, with the entries and the parent that are wanted
-/// (`blocks`). One in short form reads so where its slot has the bytes of the form (`short`).
-pub fn built_directories_read()
-    ensures sized { (w : WantedNames) (rooms : List ForkRoom) (b : BuiltDirectory) → CanBeBuilt w → b.ino < 2 ^ 32 → IsBuiltAsWanted w rooms b → HasOwnCounts b }
-    ensures mapped { (v : Volume) (image : Image) → 1 ≤ v.agblocks → v.agblocks ≤ 2 ^ v.agblklog → (b : BuiltDirectory) (runs : List Run) (f : FileRec)
-        → IsFileOf v b runs f → StandsIn v image b runs → MapsRuns v image b runs f }
-    ensures blocks { (v : Volume) (image : Image) (w : WantedNames) (rooms : List ForkRoom) (b : BuiltDirectory) (runs : List Run) (f : FileRec) → 1 ≤ v.agblocks
-        → v.agblocks ≤ 2 ^ v.agblklog → CanBeBuilt w → IsBuiltAsWanted w rooms b → HasOwnCounts b → stands_in_blocks b ≡ true → StandsIn v image b runs → IsFileOf v b runs f
-        → ReadsAsWanted v image w f }
-    ensures short { (v : Volume) (image : Image) (w : WantedNames) (rooms : List ForkRoom) (b : BuiltDirectory) (f : FileRec) → IsBuiltAsWanted w rooms b
-        → stands_in_blocks b ≡ false → IsShortFileOf v image b f → ReadsAsWanted v image w f }
 {}
 
 /// In an image that holds the plan of a rebuild in which names change, the blocks of each directory that is built anew stand in its

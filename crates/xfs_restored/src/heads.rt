@@ -13,7 +13,7 @@ ghost use Rattle.xfs_scan.specs.declared.evidence.Evidence.{Evidence};
 ghost use Rattle.xfs_due.specs.Groups.{due_groups};
 ghost use Rattle.xfs_rendered.specs.Standing.{agf_crc_at, agi_crc_at};
 ghost use Rattle.xfs_request.specs.Chunks.{inodes_wanted};
-ghost use Rattle.xfs_reread.specs.Logs.{IsLogDue, numbers_kept};
+ghost use Rattle.xfs_restored.specs.Logs.{IsLogDue, numbers_kept};
 ghost use Rattle.xfs_rebuild.specs.declared.names_due.NamesDue.{NamesDue};
 ghost use Rattle.xfs_rename.specs.Lost.{lost_due};
 ghost use Rattle.xfs_rename.specs.Settled.{settled};

@@ -10,8 +10,8 @@ ghost use Rattle.xfs_scan.specs.Evidence.{IsEvidence};
 ghost use Rattle.xfs_scan.specs.declared.evidence.Evidence.{Evidence};
 ghost use Rattle.xfs_rebuild.specs.Rebuilds.{IsRebuildOf};
 ghost use Rattle.xfs_rebuild.specs.declared.planning.Rebuilt.{Rebuilt};
-ghost use Rattle.xfs_rewritten.specs.Rewriting.{IsRewritten};
-ghost use Rattle.xfs_reread.specs.Kept.{HasKept};
+ghost use Rattle.xfs_restored.specs.Rewriting.{IsRewritten};
+ghost use Rattle.xfs_restored.specs.Kept.{HasKept};
 
 /// An image is as large as the volume that it elects (`size`). Where what is planned of it was written, it has what is kept of it:
 /// what is wanted of the slots of kept clusters, and the blocks that kept files claim (`kept`).

@@ -11,8 +11,8 @@ ghost use Rattle.xfs_salvage.specs.declared.found.Salvaged.{Salvaged};
 ghost use Rattle.xfs_request.specs.Slots.{wanted_slots};
 ghost use Rattle.xfs_request.specs.declared.seen.SlotSeen.{SlotSeen};
 ghost use Rattle.xfs_rebuild.specs.Names.{needs_names};
-ghost use Rattle.xfs_reread.specs.DueFiles.{rebuilt_dirs, rebuilt_files};
-ghost use Rattle.xfs_reread.specs.Kept.{HasKept};
+ghost use Rattle.xfs_restored.specs.DueFiles.{rebuilt_dirs, rebuilt_files};
+ghost use Rattle.xfs_restored.specs.Kept.{HasKept};
 
 /// Where no name has to change, the files that the volume then has, with their checksums and attributes, break no law of names.
 pub fn restored_names_are_lawful()

@@ -16,7 +16,7 @@ ghost use Rattle.xfs_render.specs.Plans.{HoldsPlan, IsOnce, planned};
 ghost use Rattle.xfs_render.specs.Slots.{IsMadeSlot, IsSlotDue, wanted_of};
 ghost use Rattle.xfs_rendered.specs.Standing.{IsStanding};
 ghost use Rattle.xfs_rebuild.specs.declared.names_due.NamesDue.{NamesDue};
-ghost use Rattle.xfs_rewritten.specs.Rewriting.{IsRewritten};
+ghost use Rattle.xfs_restored.specs.Rewriting.{IsRewritten};
 ghost use Rattle.xfs_rename.specs.Lost.{lost_due};
 ghost use Rattle.xfs_rename.specs.Nodes.{first_of_cluster};
 ghost use Rattle.xfs_rename.specs.Renames.{IsRenamed, old_files, placed_forks, renamed_slots, renamed_wanted};

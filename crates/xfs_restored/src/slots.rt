@@ -22,7 +22,8 @@ ghost use Rattle.xfs_inode.specs.Forks.{core_type, fork_extent};
 ghost use Rattle.xfs_inode.specs.Slots.{fork_bytes};
 ghost use Rattle.xfs_render.specs.Slots.{IsMadeSlot, IsSlotDue, SetsFork, wanted_of};
 ghost use Rattle.xfs_render.specs.declared.wanted_slots.SlotWanted.{SlotWanted};
-ghost use Rattle.xfs_rename.specs.Forks.{extent_of_run, extents_fork, run_bytes, short_fork};
+ghost use Rattle.xfs_built.specs.Extents.{extent_of_run};
+ghost use Rattle.xfs_rename.specs.Forks.{extents_fork, run_bytes, short_fork};
 ghost use Rattle.xfs_rename.specs.Slots.{changes_of, fork_at, links_held_at, links_set, with_changes};
 ghost use Rattle.xfs_disk.specs.Blocks.{Image, bytes_of_block};
 ghost use Rattle.xfs_disk.specs.declared.stamp.Stamp.{Stamp};
@@ -33,8 +34,8 @@ ghost use Rattle.xfs_rename.specs.declared.forks.DirectoryFork.{DirectoryFork};
 ghost use Rattle.xfs_rename.specs.declared.lost.Lost.{Lost};
 ghost use Rattle.xfs_rename.specs.declared.changes.SlotChange.{SlotChange};
 ghost use Rattle.xfs_restored.specs.Changes.{ChangesAscend, LinksAscend, SlotsAscend, directory_change, first_change, inodes_taken, lost_slot, with_change};
-ghost use Rattle.xfs_restored.specs.Directories.{BuiltRuns, FitsExtent, IsFileOf, IsShortFileOf};
-ghost use Rattle.xfs_restored.specs.Pieces.{IsPlacedRun, offsets_in, places_of_runs};
+ghost use Rattle.xfs_built.specs.Directories.{BuiltRuns, FitsExtent, IsFileOf, IsShortFileOf};
+ghost use Rattle.xfs_built.specs.Pieces.{IsPlacedRun, offsets_in, places_of_runs};
 ghost use Rattle.xfs_restored.specs.Reading.{AreExtents, IsFreshDirectory, KeepsAttributes, ReadsBefore, StandsBeside, directory_file, forked_core, forked_file, fresh_directory_slot, kept_directory_slot, made_core, rebuilt_file};
 
 /// What is then wanted of a slot is what was wanted of it before, with what names change in it.

@@ -13,7 +13,7 @@ ghost use Rattle.xfs_scan.specs.declared.evidence.Evidence.{Evidence};
 ghost use Rattle.xfs_writing.specs.Writing.{writes_of_rows, written};
 ghost use Rattle.xfs_rebuild.specs.Rebuilds.{IsRebuildOf};
 ghost use Rattle.xfs_rebuild.specs.declared.planning.Rebuilt.{Rebuilt};
-ghost use Rattle.xfs_rewritten.specs.Rewriting.{IsRewritten};
+ghost use Rattle.xfs_restored.specs.Rewriting.{IsRewritten};
 ghost use Rattle.xfs_restored.specs.Names.{HasKeptNames};
 ghost use Rattle.xfs_restored.specs.Restoring.{restored_catalog};
 

@@ -24,7 +24,8 @@ use Rattle.xfs_volume.specs.declared.files.FileRec.{FileRec}
 use Rattle.xfs_rebuild.specs.Changes.{can_fork}
 use Rattle.xfs_rebuild.specs.declared.names_due.NamesDue.{NamesDue}
 use Rattle.xfs_rename.specs.Forks.{attribute_blocks_at, extents_fork, fork_listed, forks_of, short_fork}
-use Rattle.xfs_rename.specs.Objects.{stands_in_blocks, wanted_with}
+use Rattle.xfs_built.specs.Asks.{stands_in_blocks}
+use Rattle.xfs_rename.specs.Objects.{wanted_with}
 use Rattle.xfs_rename.specs.Renames.{AreBuilt, old_files, placed_forks, renamed_wanted}
 use Rattle.xfs_rename.specs.Settled.{fork_rooms}
 use Rattle.xfs_rename.specs.Slots.{first_fork, fork_at}
@@ -34,8 +35,8 @@ use Rattle.xfs_restored.proofs.Extents.{run_fits, runs_long}
 use Rattle.xfs_restored.proofs.FewRuns.{all_few}
 use Rattle.xfs_restored.proofs.Planned.{all_of_both, all_runs}
 use Rattle.xfs_restored.proofs.ShortRoom.{short_fits}
-use Rattle.xfs_restored.specs.Directories.{BuiltRuns, FitsExtent, HasOwnCounts, asks_of_built, built_runs, runs_of_built, with_runs}
-use Rattle.xfs_restored.specs.Pieces.{IsLowRun}
+use Rattle.xfs_built.specs.Directories.{BuiltRuns, FitsExtent, HasOwnCounts, asks_of_built, built_runs, runs_of_built, with_runs}
+use Rattle.xfs_built.specs.Pieces.{IsLowRun}
 use Rattle.xfs_settled.proofs.ServedForks.{all_back, all_inside, all_low, all_sized}
 
 -- a directory whose runs, or whose short form, its fork has room for

@@ -19,15 +19,16 @@ use Rattle.xfs_place.specs.declared.placed.Placed.{Placed}
 use Rattle.xfs_place.specs.declared.wanted.Object.{Object}
 use Rattle.xfs_place.specs.declared.wanted.RunAsk.{RunAsk}
 use Rattle.xfs_rebuild.specs.declared.names_due.NamesDue.{NamesDue}
-use Rattle.xfs_rename.specs.Objects.{asks_for, object_of, objects_of, stands_in_blocks, wanted_with}
+use Rattle.xfs_built.specs.Asks.{asks_for, object_of, objects_of, stands_in_blocks}
+use Rattle.xfs_rename.specs.Objects.{wanted_with}
 use Rattle.xfs_rename.specs.Renames.{AreBuilt, renamed_wanted}
 use Rattle.xfs_rename.specs.Settled.{fork_rooms}
-use Rattle.xfs_restored.proofs.Fronts.{all_append, front_is}
+use Rattle.xfs_built.proofs.Fronts.{all_append, front_is}
 use Rattle.xfs_restored.proofs.Planned.{all_of_both}
-use Rattle.xfs_restored.proofs.Sized.{built_sized}
-use Rattle.xfs_restored.proofs.Standing.{asks_plain}
-use Rattle.xfs_restored.specs.Directories.{HasOwnCounts, asks_of_built, runs_of_built}
-use Rattle.xfs_restored.specs.Pieces.{IsFrontOfAsks, IsLowRun, taken}
+use Rattle.xfs_built.proofs.Sized.{built_sized}
+use Rattle.xfs_built.proofs.Standing.{asks_plain}
+use Rattle.xfs_built.specs.Directories.{HasOwnCounts, asks_of_built, runs_of_built}
+use Rattle.xfs_built.specs.Pieces.{IsFrontOfAsks, IsLowRun, taken}
 use Rattle.xfs_settled.specs.Served.{AreServed, IsServed}
 
 low_numbers : (built : List BuiltDirectory) → AllByRecursion (λ (d : ℕ). d < 2 ^ 32) (map (λ (b : BuiltDirectory). b.ino) built) → AllByRecursion (λ (b : BuiltDirectory). b.ino < 2 ^ 32) built

@@ -40,8 +40,8 @@ use Rattle.xfs_rebuild.specs.Changes.{CanChange, can_fork, can_make, is_whole_sl
 use Rattle.xfs_rebuild.specs.Names.{linked_file}
 use Rattle.xfs_rebuild.specs.Rebuilds.{Ground}
 use Rattle.xfs_rebuild.specs.declared.names_due.NamesDue.{NamesDue}
-use Rattle.xfs_reread.proofs.Wanted.{wanted_is}
-use Rattle.xfs_reread.specs.DueFiles.{new_core}
+use Rattle.xfs_restored.proofs.Wanted.{wanted_is}
+use Rattle.xfs_restored.specs.DueFiles.{new_core}
 use Rattle.xfs_rename.specs.Lost.{lost_due}
 use Rattle.xfs_rename.specs.Nodes.{firsts_of_clusters, nodes_of_files}
 use Rattle.xfs_rename.specs.Renames.{AreBuilt, old_files, placed_forks, renamed_slots, renamed_wanted}

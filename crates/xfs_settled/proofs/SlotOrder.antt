@@ -19,8 +19,8 @@ use Rattle.xfs_scan.specs.declared.evidence.Evidence.{Evidence}
 use Rattle.xfs_volume.specs.declared.files.FileRec.{FileRec}
 use Rattle.xfs_rebuild.specs.Rebuilds.{Ground, IsFound}
 use Rattle.xfs_rebuild.specs.declared.names_due.NamesDue.{NamesDue}
-use Rattle.xfs_reread.proofs.Wanted.{listed}
-use Rattle.xfs_reread.specs.DueFiles.{kept_inodes}
+use Rattle.xfs_restored.proofs.Wanted.{listed}
+use Rattle.xfs_restored.specs.DueFiles.{kept_inodes}
 use Rattle.xfs_rename.specs.Lost.{lost_due}
 use Rattle.xfs_rename.specs.Renames.{old_files, renamed_slots}
 use Rattle.xfs_rename.specs.Settled.{AreWanted}

@@ -24,8 +24,8 @@ use Rattle.xfs_volume.specs.declared.files.FileRec.{FileRec}
 use Rattle.xfs_rebuild.specs.Changes.{is_whole_slot}
 use Rattle.xfs_rebuild.specs.Rebuilds.{Ground}
 use Rattle.xfs_rebuild.specs.declared.names_due.NamesDue.{NamesDue}
-use Rattle.xfs_reread.proofs.InKept.{kept_read}
-use Rattle.xfs_reread.proofs.Readings.{HasData, attrs_have, bare_is, file_has, stated}
+use Rattle.xfs_restored.proofs.InKept.{kept_read}
+use Rattle.xfs_restored.proofs.Readings.{HasData, attrs_have, bare_is, file_has, stated}
 use Rattle.xfs_settled.specs.Gathered.{IsGathered}
 use Rattle.xfs_settled.proofs.Found as Found
 

@@ -2,8 +2,8 @@
 use Rattle.std.specs.Prelude.{◌≡◌, ℕ, ◌≤◌, true, if◌then◌else◌, List, [], ◌∷◌, length, drop}
 use Rattle.xfs_geom.specs.declared.records.Run.{Run}
 use Rattle.xfs_names.specs.declared.building.BuiltDirectory.{BuiltDirectory}
-use Rattle.xfs_rename.specs.Objects.{stands_in_blocks}
-use Rattle.xfs_restored.specs.Directories.{asks_of_built, runs_of_built}
+use Rattle.xfs_built.specs.Asks.{stands_in_blocks}
+use Rattle.xfs_built.specs.Directories.{asks_of_built, runs_of_built}
 
 -- the first of the cuts and runs serve a directory: if it has blocks there are as many cuts as it asks for runs, and as many runs as these say
 pub record IsServed (b : BuiltDirectory) (cuts : List ℕ) (runs : List Run) : Type 0 where

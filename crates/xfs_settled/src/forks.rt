@@ -12,10 +12,10 @@ ghost use Rattle.xfs_names.specs.declared.records.WantedNames.{WantedNames};
 ghost use Rattle.xfs_place.specs.Objects.{ServeAsks, asks_of};
 ghost use Rattle.xfs_place.specs.declared.placed.Placed.{Placed};
 ghost use Rattle.xfs_rebuild.specs.declared.names_due.NamesDue.{NamesDue};
-ghost use Rattle.xfs_rename.specs.Objects.{objects_of};
+ghost use Rattle.xfs_built.specs.Asks.{objects_of};
 ghost use Rattle.xfs_rename.specs.Renames.{AreBuilt, renamed_wanted};
-ghost use Rattle.xfs_restored.specs.Directories.{HasOwnCounts};
-ghost use Rattle.xfs_restored.specs.Pieces.{IsLowRun};
+ghost use Rattle.xfs_built.specs.Directories.{HasOwnCounts};
+ghost use Rattle.xfs_built.specs.Pieces.{IsLowRun};
 ghost use Rattle.xfs_settled.specs.Served.{AreServed};
 
 /// Directories that are built of the names that are wanted have fewer than 2^21 blocks of each kind (`counts`). Where the runs of their

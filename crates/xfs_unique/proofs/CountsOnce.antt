@@ -17,7 +17,7 @@ use Rattle.xfs_render.specs.Plans.{HoldsPlan, plan_rows, planned}
 use Rattle.xfs_render.specs.Rendering.{IsRendered, blocks_in_place, fresh_blocks}
 use Rattle.xfs_render.specs.declared.bytes.Bytes.{Bytes}
 use Rattle.xfs_render.specs.declared.plan.Plan.{Plan}
-use Rattle.xfs_rewritten.proofs.RowsWritten.{both_left, planned_is}
+use Rattle.xfs_restored.proofs.RowsWritten.{both_left, planned_is}
 use Rattle.xfs_writing.specs.declared.rows.Row.{Row}
 
 -- all blocks that are planned

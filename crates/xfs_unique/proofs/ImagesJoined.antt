@@ -17,8 +17,8 @@ use Rattle.xfs_render.specs.declared.bytes.Bytes.{Bytes}
 use Rattle.xfs_render.specs.declared.wanted_slots.SlotWanted.{SlotWanted}
 use Rattle.xfs_request.specs.Cycles.{kept_lsns}
 use Rattle.xfs_request.specs.Requests.{volume_wanted}
-use Rattle.xfs_rewritten.proofs.Standing.{holds, others_stay}
-use Rattle.xfs_rewritten.specs.Rewriting.{IsRewritten}
+use Rattle.xfs_restored.proofs.Standing.{holds, others_stay}
+use Rattle.xfs_restored.specs.Rewriting.{IsRewritten}
 use Rattle.xfs_scan.specs.Evidence.{IsEvidence}
 use Rattle.xfs_scan.specs.declared.evidence.Evidence.{Evidence}
 use Rattle.xfs_unique.proofs.Grounding.{bytes_one, ground_one}

@@ -14,7 +14,6 @@ pub mod ImagesOnce
 pub mod ImagesJoined
 pub mod BuiltOnce
 pub mod NamesOnce
-pub mod NamesServed
 pub mod ObjectKinds
 pub mod NamesJoined
 pub mod RewritesOnce

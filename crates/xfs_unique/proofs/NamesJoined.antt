@@ -21,7 +21,8 @@ use Rattle.xfs_rebuild.specs.Rebuilds.{AreNamesDue, Ground, slots_asked}
 use Rattle.xfs_rebuild.specs.declared.names_due.NamesDue.{NamesDue}
 use Rattle.xfs_rename.specs.Forks.{forks_of}
 use Rattle.xfs_rename.specs.Lost.{lost_due}
-use Rattle.xfs_rename.specs.Objects.{blocks_of_built, wanted_with}
+use Rattle.xfs_built.specs.Asks.{blocks_of_built}
+use Rattle.xfs_rename.specs.Objects.{wanted_with}
 use Rattle.xfs_rename.specs.Renames.{AreBuilt, AreRenamedBytes, IsRenamed, lsns_due, old_files, placed_forks, renamed_slots, renamed_wanted}
 use Rattle.xfs_rename.specs.Settled.{fork_rooms, settled}
 use Rattle.xfs_rename.specs.declared.forks.DirectoryFork.{DirectoryFork}
@@ -32,16 +33,16 @@ use Rattle.xfs_render.specs.Objects.{asks_with_kind, blocks_of_asks, object_bloc
 use Rattle.xfs_render.specs.declared.bytes.Bytes.{Bytes}
 use Rattle.xfs_render.specs.declared.wanted_slots.SlotWanted.{SlotWanted}
 use Rattle.xfs_restored.proofs.HeldPlans.{others_stay, renamed_holds}
-use Rattle.xfs_restored.proofs.Sized.{built_sized}
-use Rattle.xfs_restored.specs.Directories.{HasOwnCounts}
+use Rattle.xfs_built.proofs.Sized.{built_sized}
+use Rattle.xfs_built.specs.Directories.{HasOwnCounts}
 use Rattle.xfs_restored.specs.Relinking.{IsRelinked}
-use Rattle.xfs_rewritten.specs.Rewriting.{IsRewritten}
+use Rattle.xfs_restored.specs.Rewriting.{IsRewritten}
 use Rattle.xfs_scan.specs.declared.evidence.Evidence.{Evidence}
 use Rattle.xfs_unique.proofs.BuiltOnce.{AreAlike, blocks_alike, blocks_counted, built_alike, built_sealed, forks_alike, objects_alike}
 use Rattle.xfs_unique.proofs.Grounding.{bytes_one, ground_one}
 use Rattle.xfs_unique.proofs.ImagesOnce.{CanSeal, CanServe, IsPut, IsSameWork, works_one}
 use Rattle.xfs_unique.proofs.NamesOnce.{cuts_one, due_one, names_one, placed_some}
-use Rattle.xfs_unique.proofs.NamesServed.{renamed_serve}
+use Rattle.xfs_rename.proofs.RenamedSlots.{renamed_serve}
 use Rattle.xfs_unique.proofs.ObjectKinds.{objects_seal}
 use Rattle.xfs_unique.proofs.PlacedOnce.{placed_runs_one}
 

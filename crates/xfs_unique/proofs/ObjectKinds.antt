@@ -11,11 +11,11 @@ use Rattle.xfs_place.specs.declared.wanted.Object.{Object}
 use Rattle.xfs_place.specs.declared.wanted.ObjectKind.{ObjectKind}
 use Rattle.xfs_place.specs.declared.wanted.ObjectKind.TheVariants.{Directory}
 use Rattle.xfs_place.specs.declared.wanted.RunAsk.{RunAsk}
-use Rattle.xfs_rename.specs.Objects.{object_of, objects_of, stands_in_blocks}
+use Rattle.xfs_built.specs.Asks.{object_of, objects_of, stands_in_blocks}
 use Rattle.xfs_render.specs.Objects.{ask_blocks, asks_with_kind, blocks_of_asks, run_blocks}
 use Rattle.xfs_render.specs.declared.object_blocks.ObjectAsk.{ObjectAsk}
 use Rattle.xfs_render.specs.declared.object_blocks.ObjectBlock.{ObjectBlock}
-use Rattle.xfs_restored.proofs.Fronts.{all_append}
+use Rattle.xfs_built.proofs.Fronts.{all_append}
 use Rattle.xfs_unique.specs.Sectors.{CanBeSealed}
 use Rattle.xfs_unique.proofs.ImagesOnce.{CanSeal}
 

@@ -11,7 +11,7 @@ use Rattle.xfs_mend.specs.Rebuilding.{IsRenamingOf, IsRepairPlan, rebuild_writes
 use Rattle.xfs_rebuild.specs.Rebuilds.{AreNamesDue, Ground, names_change}
 use Rattle.xfs_rebuild.specs.declared.planning.Rebuilt.{Rebuilt}
 use Rattle.xfs_restored.proofs.Sizes.{elected_fits}
-use Rattle.xfs_rewritten.specs.Rewriting.{IsRewritten}
+use Rattle.xfs_restored.specs.Rewriting.{IsRewritten}
 use Rattle.xfs_scan.specs.Evidence.{IsEvidence}
 use Rattle.xfs_scan.specs.declared.evidence.Evidence.{Evidence}
 use Rattle.xfs_writing.specs.Writing.{written}

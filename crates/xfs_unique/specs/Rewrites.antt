@@ -8,7 +8,7 @@ use Rattle.xfs_rebuild.specs.declared.names_due.NamesDue.{NamesDue}
 use Rattle.xfs_rebuild.specs.declared.planning.Rebuilt.{Rebuilt}
 use Rattle.xfs_rename.specs.declared.planning.Renamed.{Renamed}
 use Rattle.xfs_restored.specs.Relinking.{IsRelinked}
-use Rattle.xfs_rewritten.specs.Rewriting.{IsRewritten}
+use Rattle.xfs_restored.specs.Rewriting.{IsRewritten}
 use Rattle.xfs_scan.specs.Evidence.{IsEvidence}
 use Rattle.xfs_scan.specs.declared.evidence.Evidence.{Evidence}
 

@@ -10,7 +10,7 @@ ghost use Rattle.xfs_names.specs.declared.building.ForkRoom.{ForkRoom};
 ghost use Rattle.xfs_names.specs.declared.records.WantedNames.{WantedNames};
 ghost use Rattle.xfs_place.specs.declared.wanted.ObjectKind.TheVariants.{Directory};
 ghost use Rattle.xfs_rename.specs.Forks.{forks_of};
-ghost use Rattle.xfs_rename.specs.Objects.{blocks_of_built, objects_of};
+ghost use Rattle.xfs_built.specs.Asks.{blocks_of_built, objects_of};
 ghost use Rattle.xfs_unique.specs.Sectors.{CanBeSealed};
 ghost use Rattle.xfs_volume.specs.declared.files.FileRec.{FileRec};
 

@@ -9,7 +9,7 @@ ghost use Rattle.xfs_rebuild.specs.declared.names_due.NamesDue.{NamesDue};
 ghost use Rattle.xfs_rebuild.specs.declared.planning.Rebuilt.{Rebuilt};
 ghost use Rattle.xfs_rename.specs.declared.planning.Renamed.{Renamed};
 ghost use Rattle.xfs_restored.specs.Relinking.{IsRelinked};
-ghost use Rattle.xfs_rewritten.specs.Rewriting.{IsRewritten};
+ghost use Rattle.xfs_restored.specs.Rewriting.{IsRewritten};
 ghost use Rattle.xfs_scan.specs.Evidence.{IsEvidence};
 ghost use Rattle.xfs_scan.specs.declared.evidence.Evidence.{Evidence};
 ghost use Rattle.xfs_unique.specs.Rewrites.{IsRewriteOf};

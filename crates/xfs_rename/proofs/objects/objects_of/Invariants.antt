@@ -1,6 +1,6 @@
 use Rattle.std.proofs.Common.{◌≡◌, ◌++◌, drop, map}
 use Rattle.std.specs.List.{filter}
-use Rattle.xfs_rename.specs.Objects.{stands_in_blocks, object_of}
+use Rattle.xfs_built.specs.Asks.{object_of, stands_in_blocks}
 use Rattle.xfs_rename.proofs.objects.objects_of.Given as goal
 
 abbrev pub invariant-loop-directory : goal.invariant-loop-directory

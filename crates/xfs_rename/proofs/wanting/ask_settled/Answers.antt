@@ -1,6 +1,6 @@
 use Rattle.std.proofs.Common.{◌∙◌, ◌++◌}
 use Rattle.xfs_geom.specs.Volumes.{volume_of}
-use Rattle.xfs_rename.specs.Objects.{objects_of}
+use Rattle.xfs_built.specs.Asks.{objects_of}
 use Rattle.xfs_rename.specs.Settled.{replaced_blocks}
 use Rattle.xfs_rename.proofs.SettledAsked.{first_forks, rooms_rise, settled_clusters, settled_files, wanted_is}
 use Rattle.xfs_rename.proofs.wanting.ask_settled.Goals as goal

@@ -1,0 +1,14 @@
+pub mod NumberedSums
+pub mod Joining
+pub mod Fronts
+pub mod Mapping
+pub mod Standing
+pub mod Sized
+pub mod IndexBlocks
+pub mod Sealed
+pub mod Own
+pub mod Whole
+pub mod ShortWays
+pub mod NamingKept
+pub mod BuiltNumbers
+pub mod SlotNumbers

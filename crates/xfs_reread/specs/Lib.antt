@@ -1,3 +1,0 @@
-pub mod DueFiles
-pub mod Kept
-pub mod Logs

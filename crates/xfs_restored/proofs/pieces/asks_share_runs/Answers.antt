@@ -1,5 +1,0 @@
-use Rattle.xfs_restored.proofs.Fronts.{front_is}
-use Rattle.xfs_restored.proofs.pieces.asks_share_runs.Goals as goal
-
-pub returns : goal.returns
-returns c = front_is

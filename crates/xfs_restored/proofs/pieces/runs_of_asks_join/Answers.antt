@@ -1,5 +1,0 @@
-use Rattle.xfs_restored.proofs.Joining.{joined_offsets}
-use Rattle.xfs_restored.proofs.pieces.runs_of_asks_join.Goals as goal
-
-pub returns : goal.returns
-returns c = joined_offsets
