@@ -66,4 +66,3 @@ contents_answer told nodes kind (Out.NoRoom what) is missing = absurd is
 contents_answer told nodes kind (Out.ReadFault faults) is missing = absurd is
 contents_answer told nodes kind (Out.WriteFault n) is missing = absurd is
 contents_answer told nodes kind Out.NoMemory is missing = tt
-contents_answer told nodes kind (Out.Unbuilt request) is missing = absurd is

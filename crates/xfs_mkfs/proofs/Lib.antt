@@ -2,6 +2,7 @@ pub mod Rows
 pub mod Geometries
 pub mod Unwritten
 pub mod Failing
+pub mod Asking
 pub mod Contents
 pub mod Refusing
 pub mod Held
@@ -10,3 +11,4 @@ pub mod Guarding
 pub mod Parts
 pub mod Volumes
 pub mod Marking
+pub mod Roots

@@ -23,7 +23,6 @@ leaves_unwritten o s told blocks image now Out.LibraryFault is held = held
 leaves_unwritten o s told blocks image now (Out.NoRoom what) is held = held
 leaves_unwritten o s told blocks image now (Out.ReadFault faults) is held = held
 leaves_unwritten o s told blocks image now Out.NoMemory is held = held
-leaves_unwritten o s told blocks image now (Out.Unbuilt request) is held = held
 
 -- its count of writes stays
 pub counts_unwritten : (o : MakeOptions) (s : Stamp) (told : Option Files) (blocks before now : ℕ) (outcome : MakeOutcome) → IsUnwritten outcome → now ≡ before
@@ -38,7 +37,6 @@ counts_unwritten o s told blocks before now Out.LibraryFault is same = same
 counts_unwritten o s told blocks before now (Out.NoRoom what) is same = same
 counts_unwritten o s told blocks before now (Out.ReadFault faults) is same = same
 counts_unwritten o s told blocks before now Out.NoMemory is same = same
-counts_unwritten o s told blocks before now (Out.Unbuilt request) is same = same
 
 -- nothing has to be kept
 pub kept_unwritten : (tells : Type 0) (now : Option Image) (may_leave : ℕ → List ℕ → Type 0) (outcome : MakeOutcome) → IsUnwritten outcome
@@ -53,4 +51,3 @@ kept_unwritten tells now may_leave Out.LibraryFault is = tt
 kept_unwritten tells now may_leave (Out.NoRoom what) is = tt
 kept_unwritten tells now may_leave (Out.ReadFault faults) is = tt
 kept_unwritten tells now may_leave Out.NoMemory is = tt
-kept_unwritten tells now may_leave (Out.Unbuilt request) is = tt

@@ -1,5 +1,5 @@
 -- What a disk holds once the plan of a volume was written is that volume.
-use Rattle.std.proofs.Common.{◌≡◌, ℕ, ◌<◌, ◌≤◌, List, length, Option, Some, None, sym, subst, arith}
+use Rattle.std.proofs.Common.{◌≡◌, ℕ, ◌<◌, ◌≤◌, List, length, Option, Some, sym, subst, arith}
 use Rattle.std.specs.List.{All}
 use Rattle.xfs_disk.specs.Blocks.{Image, IsImage}
 use Rattle.xfs_disk.specs.declared.stamp.Stamp.{Stamp}
@@ -14,7 +14,7 @@ use Rattle.xfs_populated.proofs.VolumesFilled.{volume_filled}
 use Rattle.xfs_writing.specs.Writing.{written}
 use Rattle.xfs_mkfs.proofs.FilledOnce.{filled_once}
 use Rattle.xfs_mkfs.proofs.Held.{plan_held}
-use Rattle.xfs_mkfs.specs.FilesAsked.{CanBePlanned, IsByProto}
+use Rattle.xfs_mkfs.specs.FilesAsked.{CanBePlanned}
 use Rattle.xfs_mkfs.specs.Order.{all_writes}
 use Rattle.xfs_mkfs.specs.Outcome.{HasRoomFor, IsPlanWith, SaysVolume}
 use Rattle.xfs_mkfs.specs.Putting.{IsPut}
@@ -35,12 +35,6 @@ put_holds plan blocks most image held now once whole enough inside put told =
   where
     some_same : (a b : Image) (o : Option Image) → o ≡ Some a → o ≡ Some b → a ≡ b
     some_same a b o one other = cc
-
--- files that are asked for can be planned
-pub listed_planned : (proto : Option (List ℕ)) (asked : FilesAsked) → IsByProto proto asked → CanBePlanned asked
-listed_planned proto Root is = tt
-listed_planned None (Listed nodes contents) is = absurd cc
-listed_planned (Some name) (Listed nodes contents) is = is
 
 pub put_is_volume : (g : Geometry) (sector : List ℕ) (s : Stamp) (asked : FilesAsked) (plan : Plan) (blocks : ℕ) (image : Image) (now : Option Image)
     → IsPlanWith g sector s asked plan → CanBePlanned asked → HasRoomFor g asked → HasFirstChunk (volume_of g) → IsImage blocks image → g.dblocks ≤ blocks

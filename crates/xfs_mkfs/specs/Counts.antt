@@ -45,7 +45,6 @@ LooksPartly force before now = (k : ℕ) × (k ≤ (if force then 0 else 3)) × 
 
 -- the count of reads at an answer: nothing is read for one that is due before the look
 abbrev pub CountsReads : Bool → ℕ → ℕ → MakeOutcome → Type 0
-CountsReads force before now (Out.Unbuilt request) = now ≡ before
 CountsReads force before now (Out.TooSmall what) = now ≡ before
 CountsReads force before now (Out.ReadFault faults) = LooksPartly force before now
 CountsReads force before now outcome = now ≡ looked force before

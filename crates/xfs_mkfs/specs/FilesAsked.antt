@@ -1,4 +1,5 @@
--- Which files a new volume gets: none but its root, or those of a protofile with the bytes that a library has of them (mkfs.xfs(8)).
+-- Which files a new volume gets: none but its root, those of a protofile with the bytes that a library has of them, or generated ones
+-- (mkfs.xfs(8)).
 use Rattle.std.specs.Prelude.{◌≡◌, ℕ, ◌≤◌, List, [], ◌∷◌, length, Option, Some, None, Result, Ok, Err}
 use Rattle.std.specs.Option.{ForSome}
 use Rattle.xfs_disk.specs.Faults.{Rose}
@@ -12,6 +13,8 @@ use Rattle.xfs_proto.specs.declared.protofile.ProtoKind.{ProtoKind}
 use Rattle.xfs_proto.specs.declared.protofile.ProtoKind.TheVariants as Kind
 use Rattle.xfs_proto.specs.declared.protofile.ProtoNode.{ProtoNode}
 use Rattle.xfs_filled.specs.FileTrees.{AreProtoNodes}
+use Rattle.xfs_generator.specs.Files.{generated_contents, generated_nodes}
+use Rattle.xfs_options.specs.declared.make_words.MakeOptions.{MakeOptions}
 use Rattle.xfs_mkfs.specs.declared.files.FilesAsked.{FilesAsked}
 use Rattle.xfs_mkfs.specs.declared.files.FilesAsked.TheVariants.{Root, Listed}
 use Rattle.xfs_mkfs.specs.declared.outcome.MakeOutcome.{MakeOutcome}
@@ -72,9 +75,21 @@ by_text map None = Err (NoFile 0)
 
 -- the files that are asked for by the name of a protofile; or the answer: the library lacks the protofile, it is none, or the library
 -- lacks a file of it
-abbrev pub files_or_answer : Option (List ℕ) → Files → Result FilesAsked MakeOutcome
-files_or_answer None map = Ok Root
-files_or_answer (Some name) map = by_text map (file_named name map)
+abbrev pub by_proto : Option (List ℕ) → Files → Result FilesAsked MakeOutcome
+by_proto None map = Ok Root
+by_proto (Some name) map = by_text map (file_named name map)
+
+-- so many generated files
+abbrev pub generated_files : ℕ → FilesAsked
+generated_files n = Listed (generated_nodes n) (generated_contents n)
+
+abbrev pub by_count : Option ℕ → Result FilesAsked MakeOutcome → Result FilesAsked MakeOutcome
+by_count (Some n) later = Ok (generated_files n)
+by_count None later = later
+
+-- the files that are asked for, or the answer: generated ones, whatever the library has, or those of a protofile
+abbrev pub files_or_answer : MakeOptions → Files → Result FilesAsked MakeOutcome
+files_or_answer o map = by_count o.generate (by_proto o.proto map)
 
 -- files can be planned: of each there are bytes
 abbrev pub CanBePlanned : FilesAsked → Type 0
@@ -90,22 +105,46 @@ abbrev pub IsByProto : Option (List ℕ) → FilesAsked → Type 0
 IsByProto None asked = asked ≡ Root
 IsByProto (Some name) asked = AreListed asked
 
--- they are the ones that are asked for, where the library tells what it has
-pub record IsAsked (proto : Option (List ℕ)) (told : Option Files) (asked : FilesAsked) : Type 0 where
+-- they are the ones that the protofile says, where the library tells what it has
+pub record IsReadByProto (proto : Option (List ℕ)) (told : Option Files) (asked : FilesAsked) : Type 0 where
   pub kind : IsByProto proto asked
-  pub due : ForSome told (λ map. files_or_answer proto map ≡ Ok asked)
+  pub due : ForSome told (λ map. by_proto proto map ≡ Ok asked)
+
+-- no files of a protofile are read for want of memory, since the library failed, or for what is due to what it has
+abbrev pub IsProtoRefusal : Option (List ℕ) → Option Files → MakeOutcome → Type 0
+IsProtoRefusal proto told outcome = ForSome told (λ map. by_proto proto map ≡ Err outcome)
+
+abbrev pub IsProtoAnswer : Option (List ℕ) → Option Files → MakeOutcome → Type 0
+IsProtoAnswer proto told NoMemory = Unit {0}
+IsProtoAnswer proto told LibraryFault = Unit {0}
+IsProtoAnswer proto told (BadProto line reason) = IsProtoRefusal proto told (BadProto line reason)
+IsProtoAnswer proto told (NoFile line) = IsProtoRefusal proto told (NoFile line)
+IsProtoAnswer proto told outcome = ⊥
+
+-- so many generated ones, which can be planned
+abbrev pub AreGenerated : ℕ → FilesAsked → Type 0
+AreGenerated n asked = (asked ≡ generated_files n) × CanBePlanned asked
+
+abbrev pub IsByCount : Option ℕ → Option (List ℕ) → FilesAsked → Type 0
+IsByCount (Some n) proto asked = AreGenerated n asked
+IsByCount None proto asked = IsByProto proto asked
+
+-- they are the ones that are asked for, where the library tells what it has
+pub record IsAsked (o : MakeOptions) (told : Option Files) (asked : FilesAsked) : Type 0 where
+  pub kind : IsByCount o.generate o.proto asked
+  pub due : ForSome told (λ map. files_or_answer o map ≡ Ok asked)
 
 -- the answer is due, where the library tells what it has
-abbrev pub IsFilesRefusal : Option (List ℕ) → Option Files → MakeOutcome → Type 0
-IsFilesRefusal proto told outcome = ForSome told (λ map. files_or_answer proto map ≡ Err outcome)
+abbrev pub IsFilesRefusal : MakeOptions → Option Files → MakeOutcome → Type 0
+IsFilesRefusal o told outcome = ForSome told (λ map. files_or_answer o map ≡ Err outcome)
 
 -- no files are read for want of memory, since the library failed, or for what is due to what it has
-abbrev pub IsFilesAnswer : Option (List ℕ) → Option Files → MakeOutcome → Type 0
-IsFilesAnswer proto told NoMemory = Unit {0}
-IsFilesAnswer proto told LibraryFault = Unit {0}
-IsFilesAnswer proto told (BadProto line reason) = IsFilesRefusal proto told (BadProto line reason)
-IsFilesAnswer proto told (NoFile line) = IsFilesRefusal proto told (NoFile line)
-IsFilesAnswer proto told outcome = ⊥
+abbrev pub IsFilesAnswer : MakeOptions → Option Files → MakeOutcome → Type 0
+IsFilesAnswer o told NoMemory = Unit {0}
+IsFilesAnswer o told LibraryFault = Unit {0}
+IsFilesAnswer o told (BadProto line reason) = IsFilesRefusal o told (BadProto line reason)
+IsFilesAnswer o told (NoFile line) = IsFilesRefusal o told (NoFile line)
+IsFilesAnswer o told outcome = ⊥
 
 -- the same of the bytes of the files of a protofile, and of one of them
 abbrev pub IsContentsAnswer : Option Files → List ProtoNode → MakeOutcome → Type 0

@@ -6,3 +6,4 @@ pub mod Outcome
 pub mod Counts
 pub mod Stops
 pub mod Marks
+pub mod Roots

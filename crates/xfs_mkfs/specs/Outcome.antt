@@ -70,7 +70,7 @@ IsPlanningCause g asked fault = (fault ≡ Placing.NoMemory) ⊎ ((what : Unplac
 -- the geometry and the files of the volume that is asked for
 pub record IsVolumeAsked (o : MakeOptions) (s : Stamp) (told : Option Files) (blocks : ℕ) (g : Geometry) (asked : FilesAsked) : Type 0 where
   pub chosen : IsGeometry o s blocks g
-  pub files : IsAsked o.proto told asked
+  pub files : IsAsked o told asked
 
 -- the plan of the volume that is asked for
 pub record IsPlanOf (o : MakeOptions) (s : Stamp) (told : Option Files) (blocks : ℕ) (plan : Plan) : Type 0 where
@@ -114,14 +114,13 @@ abbrev pub IsDueMake : MakeOptions → Stamp → Option Files → ℕ → Image 
 IsDueMake o s told blocks image (Out.Made summary) = (refusal o blocks image ≡ None) × HasSummary o s told blocks summary
 IsDueMake o s told blocks image (Out.TooSmall what) = refusal o blocks image ≡ Some (Out.TooSmall what)
 IsDueMake o s told blocks image Out.HasVolume = refusal o blocks image ≡ Some Out.HasVolume
-IsDueMake o s told blocks image (Out.BadProto line reason) = (refusal o blocks image ≡ None) × IsFilesRefusal o.proto told (Out.BadProto line reason)
-IsDueMake o s told blocks image (Out.NoFile line) = (refusal o blocks image ≡ None) × IsFilesRefusal o.proto told (Out.NoFile line)
+IsDueMake o s told blocks image (Out.BadProto line reason) = (refusal o blocks image ≡ None) × IsFilesRefusal o told (Out.BadProto line reason)
+IsDueMake o s told blocks image (Out.NoFile line) = (refusal o blocks image ≡ None) × IsFilesRefusal o told (Out.NoFile line)
 IsDueMake o s told blocks image Out.LibraryFault = Unit {0}
 IsDueMake o s told blocks image (Out.NoRoom what) = (refusal o blocks image ≡ None) × HasNoRoom o s told blocks what
 IsDueMake o s told blocks image (Out.ReadFault faults) = Unit {0}
 IsDueMake o s told blocks image (Out.WriteFault n) = (refusal o blocks image ≡ None) × HasAllRoom o s told blocks
 IsDueMake o s told blocks image Out.NoMemory = Unit {0}
-IsDueMake o s told blocks image (Out.Unbuilt request) = refusal o blocks image ≡ Some (Out.Unbuilt request)
 
 -- a read fault comes only where a read failed, and it tells how many have; a write fault only where a write or a sync failed; a library
 -- fault only where the library failed
@@ -136,7 +135,6 @@ IsMakingCause faults_before faults writes_before writes library_before library (
 IsMakingCause faults_before faults writes_before writes library_before library Out.LibraryFault = Rose library_before library
 IsMakingCause faults_before faults writes_before writes library_before library (Out.NoRoom what) = Unit {0}
 IsMakingCause faults_before faults writes_before writes library_before library Out.NoMemory = Unit {0}
-IsMakingCause faults_before faults writes_before writes library_before library (Out.Unbuilt request) = Unit {0}
 
 -- the volume that a disk holds is the one that was made: with none but its root, or with files, each regular one of which has its bytes
 abbrev pub SaysVolume : Geometry → Stamp → FilesAsked → Option Image → Type 0
@@ -175,4 +173,3 @@ MakeLeaves o s told blocks image now Out.LibraryFault = now ≡ Some image
 MakeLeaves o s told blocks image now (Out.NoRoom what) = now ≡ Some image
 MakeLeaves o s told blocks image now (Out.ReadFault faults) = now ≡ Some image
 MakeLeaves o s told blocks image now Out.NoMemory = now ≡ Some image
-MakeLeaves o s told blocks image now (Out.Unbuilt request) = now ≡ Some image

@@ -1,13 +1,14 @@
-//! The files of a new volume: a library has the protofile that says them, and their bytes.
+//! The files of a new volume: a library has the protofile that says them, and their bytes; or they are generated.
 
-ghost use Rattle.std.specs.Prelude.{◌≡◌, length, Ok, Some, IfErr, IfOk};
+ghost use Rattle.std.specs.Prelude.{◌≡◌, ◌≤◌, ℕ, length, Ok, Some, IfErr, IfOk};
 ghost use Rattle.std.specs.Option.{ForSome};
-ghost use Rattle.xfs_mkfs.specs.FilesAsked.{HasFilesCause, IsAsked, IsByProto, IsContentAnswer, IsContentsAnswer, IsFilesAnswer, content_in, contents_in, library_outcome, proto_outcome};
+ghost use Rattle.xfs_mkfs.specs.FilesAsked.{AreGenerated, HasFilesCause, IsAsked, IsByProto, IsContentAnswer, IsContentsAnswer, IsFilesAnswer, IsProtoAnswer, IsReadByProto, content_in, contents_in, library_outcome, proto_outcome};
 
 use crate::outcome::MakeOutcome;
 use std::alloc::Global;
-use xfs_disk::{Library, LibraryFault, Word};
+use xfs_disk::{Library, LibraryFault, NoMemory, Word};
 use xfs_filled::protofiles_are_files;
+use xfs_generator::{generate, generated_files_are_files};
 use xfs_options::MakeOptions;
 use xfs_proto::{ProtoFault, ProtoKind, ProtoNode, read_proto};
 use xfs_volume::Records;
@@ -17,7 +18,7 @@ use xfs_volume::Records;
 pub enum FilesAsked {
     /// None but its root.
     Root,
-    /// Those of a protofile.
+    /// Those of a protofile, or generated ones.
     Listed {
         nodes: Records<ProtoNode>,
         /// Of each file its bytes; none of one that is not regular.
@@ -25,18 +26,55 @@ pub enum FilesAsked {
     },
 }
 
-/// The files that are asked for: those of the protofile of this name, or none.
+/// The files that are asked for: generated ones, those of the protofile of this name, or none. The library is not asked for
+/// generated ones.
 pub fn read_files<L: Library>(
     alloc: Global,
     files: &mut L,
     options: &MakeOptions,
 ) -> Result<FilesAsked, MakeOutcome>
-    ensures asked { IfOk result (IsAsked options.now.proto (L.files files.old)) }
-    ensures refusal { IfErr result (IsFilesAnswer options.now.proto (L.files files.old)) }
+    requires generate { ForSome options.now.generate (λ n. n ≤ 100000) }
+    ensures asked { IfOk result (IsAsked options.now (L.files files.old)) }
+    ensures refusal { IfErr result (IsFilesAnswer options.now (L.files files.old)) }
+    ensures cause { HasFilesCause (L.faults files.old) (L.faults files.new) result }
+    ensures files { L.files files.new ≡ L.files files.old }
+    ensures unasked { ForSome options.now.generate (λ n. files.new ≡ files.old) }
+{
+    match options.generate {
+        Some(count) => generate_files(alloc, count),
+        None => read_named(alloc, files, &options.proto),
+    }
+}
+
+/// So many generated files.
+fn generate_files(alloc: Global, count: u32) -> Result<FilesAsked, MakeOutcome>
+    requires few { count ≤ 100000 }
+    ensures asked { IfOk result (AreGenerated count) }
+    ensures refusal { IfErr result (λ outcome. outcome ≡ MakeOutcome.NoMemory) }
+    ensures cause { (faults : ℕ) → HasFilesCause faults faults result }
+{
+    generated_files_are_files(count);
+    match generate(alloc, count) {
+        Ok(generated) => Ok(FilesAsked::Listed {
+            nodes: generated.nodes,
+            contents: generated.contents,
+        }),
+        Err(NoMemory) => Err(MakeOutcome::NoMemory),
+    }
+}
+
+/// The files of the protofile of this name, or none but the root.
+fn read_named<L: Library>(
+    alloc: Global,
+    files: &mut L,
+    proto: &Option<Word>,
+) -> Result<FilesAsked, MakeOutcome>
+    ensures asked { IfOk result (IsReadByProto proto.now (L.files files.old)) }
+    ensures refusal { IfErr result (IsProtoAnswer proto.now (L.files files.old)) }
     ensures cause { HasFilesCause (L.faults files.old) (L.faults files.new) result }
     ensures files { L.files files.new ≡ L.files files.old }
 {
-    match &options.proto {
+    match proto {
         Some(name) => read_listed(alloc, files, name),
         None => Ok(FilesAsked::Root),
     }
@@ -48,8 +86,8 @@ fn read_listed<L: Library>(
     files: &mut L,
     name: &Word,
 ) -> Result<FilesAsked, MakeOutcome>
-    ensures asked { IfOk result (IsAsked (Some name.now) (L.files files.old)) }
-    ensures refusal { IfErr result (IsFilesAnswer (Some name.now) (L.files files.old)) }
+    ensures asked { IfOk result (IsReadByProto (Some name.now) (L.files files.old)) }
+    ensures refusal { IfErr result (IsProtoAnswer (Some name.now) (L.files files.old)) }
     ensures cause { HasFilesCause (L.faults files.old) (L.faults files.new) result }
     ensures files { L.files files.new ≡ L.files files.old }
 {

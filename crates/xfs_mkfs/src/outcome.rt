@@ -42,6 +42,4 @@ pub enum MakeOutcome {
     WriteFault { written: u64 },
     /// Memory is wanting; nothing was written.
     NoMemory,
-    /// What is asked is not built yet.
-    Unbuilt { request: u8 },
 }

@@ -31,9 +31,6 @@ use xfs_place::PlaceFault;
 use xfs_render::Plan;
 use xfs_sizing::{SizesAsked, choose, put_super};
 
-/// What is still to be built: generated files.
-const GENERATED: u8 = 10;
-
 /// A volume that is to be written.
 #[derive(Debug, Drop)]
 pub struct Prepared {
@@ -51,6 +48,7 @@ pub fn prepare<R: Threads + Sync, D: Disk, L: Library>(
     stamp: &Stamp,
 ) -> Result<Prepared, MakeOutcome>
     requires label { length options.now.label ≤ 12 }
+    requires generate { ForSome options.now.generate (λ n. n ≤ 100000) }
     ensures due { IfErr result (λ outcome. ForSome (D.holds disk.old) (λ image. IsDueMake options.now stamp.now (L.files files.old) (D.size disk.old) image outcome)) }
     ensures early { IfErr result IsUnwritten }
     ensures cause { IfErr result (λ outcome. IsMakingCause (D.faults disk.old) (D.faults disk.new) (D.write_faults disk.old) (D.write_faults disk.new) (L.faults files.old) (L.faults files.new) outcome) }
@@ -65,6 +63,7 @@ pub fn prepare<R: Threads + Sync, D: Disk, L: Library>(
     ensures faults { D.faults disk.old ≤ D.faults disk.new }
     ensures files { L.files files.new ≡ L.files files.old }
     ensures library_faults { L.faults files.old ≤ L.faults files.new }
+    ensures unasked { ForSome options.now.generate (λ n. files.new ≡ files.old) }
 {
     let geometry = match decide(disk, options, stamp) {
         Ok(geometry) => geometry,
@@ -98,9 +97,6 @@ fn decide<D: Disk>(
     ensures looked { OnOk result (D.reads disk.new ≡ looked options.now.force (D.reads disk.old)) }
     ensures faults { D.faults disk.old ≤ D.faults disk.new }
 {
-    if options.generate.is_some() {
-        return Err(MakeOutcome::Unbuilt { request: GENERATED });
-    }
     let blocks = match disk.blocks() {
         Ok(blocks) => blocks,
         Err(Failed) => return Err(read_fault(disk)),

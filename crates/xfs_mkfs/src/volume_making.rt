@@ -18,8 +18,8 @@ use xfs_disk::{Disk, Library, Stamp};
 use xfs_geom::Geometry;
 use xfs_options::MakeOptions;
 
-/// Makes a volume on a disk, with the files that a protofile of the library says, or with none but its root. Its geometry is
-/// what is asked or follows from the disk's blocks. Its planned blocks are written in ascending order, but block 0 last, with
+/// Makes a volume on a disk, with generated files, with those that a protofile of the library says, or with none but its root.
+/// Its geometry is what is asked or follows from the disk's blocks. Its planned blocks are written in ascending order, but block 0 last, with
 /// a sync before all, one before block 0 and one behind it; all other blocks stay. Nothing is written, and no sync asked for,
 /// before an answer other than `Made` and `WriteFault`.
 ///
@@ -28,7 +28,7 @@ use xfs_options::MakeOptions;
 /// written over; `NoFile` of line 0 where the library lacks the protofile, `BadProto` where that is none, `NoFile` of the first
 /// line whose file the library lacks; `NoRoom` of a chunk, of the first directory or file, or of the first group without room
 /// for its trees; `ReadFault`, `WriteFault` and `LibraryFault` only where the count of the disk or the library rose; `NoMemory`
-/// where memory is wanting. Generated files are not built yet: `Unbuilt`.
+/// where memory is wanting. Up to 100000 files are generated, and then the library is not asked.
 pub fn make<R: Threads + Sync, D: Disk, L: Library>(
     rt: &R,
     alloc: Global,
@@ -38,6 +38,7 @@ pub fn make<R: Threads + Sync, D: Disk, L: Library>(
     stamp: &Stamp,
 ) -> MakeOutcome
     requires label { length options.now.label ≤ 12 }
+    requires generate { ForSome options.now.generate (λ n. n ≤ 100000) }
     ensures due { ForSome (D.holds disk.old) (λ image. IsDueMake options.now stamp.now (L.files files.old) (D.size disk.old) image result) }
     ensures leaves { ForSome (D.holds disk.old) (λ image. MakeLeaves options.now stamp.now (L.files files.old) (D.size disk.old) image (D.holds disk.new) result) }
     ensures cause { IsMakingCause (D.faults disk.old) (D.faults disk.new) (D.write_faults disk.old) (D.write_faults disk.new) (L.faults files.old) (L.faults files.new) result }
@@ -61,6 +62,8 @@ pub fn make<R: Threads + Sync, D: Disk, L: Library>(
     // the library is asked for files, and keeps them
     ensures files { L.files files.new ≡ L.files files.old }
     ensures library_faults { L.faults files.old ≤ L.faults files.new }
+    // it is not asked where files are generated
+    ensures unasked { ForSome options.now.generate (λ n. files.new ≡ files.old) }
 {
     let volume = match prepare(rt, alloc, disk, files, options, stamp) {
         Ok(volume) => volume,

@@ -3,9 +3,10 @@ use Rattle.xfs_mkfs.specs.Counts.{CountsReads}
 use Rattle.xfs_mkfs.specs.Outcome.{IsDueMake, IsMakingCause, IsPlanned}
 use Rattle.xfs_mkfs.specs.declared.files.FilesAsked.{FilesAsked}
 use Rattle.xfs_mkfs.specs.declared.outcome.MakeOutcome.{MakeOutcome}
+use Rattle.xfs_mkfs.proofs.Asking.{can_be_planned}
 use Rattle.xfs_mkfs.proofs.Failing.{caused_placing, due_placing, reads_placing}
 use Rattle.xfs_mkfs.proofs.Geometries.{first_chunk}
-use Rattle.xfs_mkfs.proofs.Refusing.{can_be_planned, caused_files, due_files, early_files, files_rise, reads_files}
+use Rattle.xfs_mkfs.proofs.Refusing.{caused_files, due_files, early_files, files_rise, reads_files}
 use Rattle.xfs_mkfs.proofs.preparing.prepare.Goals as goal
 
 pub plan_volume-requires-clause-chunk : goal.plan_volume-requires-clause-chunk
@@ -13,7 +14,7 @@ plan_volume-requires-clause-chunk g c = λ κs lives.
     first_chunk c.args.options.now c.args.stamp.now (g.D.Disk.size c.args.disk.now) c.in-Ok.geometry c.in-Ok.ensures.chosen
 
 pub plan_volume-requires-clause-listed : goal.plan_volume-requires-clause-listed
-plan_volume-requires-clause-listed g c = λ κs lives. can_be_planned c.args.options.now.proto c.in-Ok-read_files.asked c.in-Ok-read_files.ensures.asked.kind
+plan_volume-requires-clause-listed g c = λ κs lives. can_be_planned c.args.options.now.generate c.args.options.now.proto c.in-Ok-read_files.asked c.in-Ok-read_files.ensures.asked.kind
 
 pub returns-in-Err-clause-due : goal.returns-in-Err-clause-due
 returns-in-Err-clause-due g c = c.in-Err.ensures.due (g.L.Library.files c.args.files.now)
@@ -28,17 +29,17 @@ returns-in-Err-read_files-clause-due g c = λ image told.
 
 pub returns-in-Err-read_files-clause-early : goal.returns-in-Err-read_files-clause-early
 returns-in-Err-read_files-clause-early g c =
-    early_files c.args.options.now.proto (g.L.Library.files c.args.files.now) c.in-Err-read_files.outcome c.in-Err-read_files.ensures.refusal
+    early_files c.args.options.now (g.L.Library.files c.args.files.now) c.in-Err-read_files.outcome c.in-Err-read_files.ensures.refusal
 
 pub returns-in-Err-read_files-clause-cause : goal.returns-in-Err-read_files-clause-cause
 returns-in-Err-read_files-clause-cause g c =
-    caused_files FilesAsked c.args.options.now.proto (g.L.Library.files c.args.files.now) (g.D.Disk.faults c.args.disk.now) (g.D.Disk.faults c.decide.new.disk)
+    caused_files FilesAsked c.args.options.now (g.L.Library.files c.args.files.now) (g.D.Disk.faults c.args.disk.now) (g.D.Disk.faults c.decide.new.disk)
     (g.D.Disk.write_faults c.args.disk.now) (g.D.Disk.write_faults c.decide.new.disk) (g.L.Library.faults c.args.files.now) (g.L.Library.faults c.read_files.new.files)
     c.in-Err-read_files.outcome c.in-Err-read_files.ensures.refusal c.in-Err-read_files.ensures.cause
 
 pub returns-in-Err-read_files-clause-reads : goal.returns-in-Err-read_files-clause-reads
 returns-in-Err-read_files-clause-reads g c =
-    reads_files c.args.options.now.proto (g.L.Library.files c.args.files.now) c.args.options.now.force (g.D.Disk.reads c.args.disk.now) (g.D.Disk.reads c.decide.new.disk)
+    reads_files c.args.options.now (g.L.Library.files c.args.files.now) c.args.options.now.force (g.D.Disk.reads c.args.disk.now) (g.D.Disk.reads c.decide.new.disk)
     c.in-Err-read_files.outcome c.in-Err-read_files.ensures.refusal c.in-Ok.ensures.looked
 
 pub returns-in-Err-read_files-clause-library_faults : goal.returns-in-Err-read_files-clause-library_faults

@@ -10,11 +10,12 @@ use Rattle.xfs_mkfs.specs.Stops.{IsDurableMake, StopLeaves}
 use Rattle.xfs_mkfs.specs.declared.outcome.MakeOutcome.{MakeOutcome}
 use Rattle.xfs_mkfs.specs.declared.volume.PutFault.{PutFault}
 use Rattle.xfs_mkfs.specs.declared.volume.PutFault.TheVariants.{NoMemory}
+use Rattle.xfs_mkfs.proofs.Asking.{can_be_planned}
 use Rattle.xfs_mkfs.proofs.Failing.{caused_putting, counts_putting, due_putting, kept_putting, leaves_putting, plan_of, put_rises, reads_putting, stops_putting, unwritten_putting}
 use Rattle.xfs_mkfs.proofs.Geometries.{first_chunk, geometry_on_disk}
 use Rattle.xfs_mkfs.proofs.Guarding.{made_stopped}
 use Rattle.xfs_mkfs.proofs.Unwritten.{counts_unwritten, kept_unwritten, leaves_unwritten}
-use Rattle.xfs_mkfs.proofs.Volumes.{listed_planned, put_is_volume}
+use Rattle.xfs_mkfs.proofs.Volumes.{put_is_volume}
 use Rattle.xfs_mkfs.proofs.volume_making.make.Goals as goal
 
 pub put_plan-requires-clause-inside : goal.put_plan-requires-clause-inside
@@ -73,7 +74,7 @@ returns-in-Ok-put_plan-clause-leaves g c = λ image told.
       put = put;
       volume =
           put_is_volume volume.geometry is.rendered.sector c.args.stamp.now is.asked volume.plan size image (g.D.Disk.holds c.put_plan.new.disk) is.rendered.is
-          (listed_planned c.args.options.now.proto is.asked is.volume.files.kind) is.room
+          (can_be_planned c.args.options.now.generate c.args.options.now.proto is.asked is.volume.files.kind) is.room
           (first_chunk c.args.options.now c.args.stamp.now size volume.geometry is.volume.chosen) (g.met.D.Disk.shape c.args.disk.now image told)
           (geometry_on_disk c.args.options.now c.args.stamp.now size volume.geometry is.volume.chosen c.in-Ok.ensures.fits)
           c.in-Ok.ensures.inside put

@@ -1,0 +1,5 @@
+pub mod Making
+pub mod Stepping
+pub mod Names
+pub mod Trees
+pub mod Standing
