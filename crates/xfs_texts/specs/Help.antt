@@ -25,7 +25,7 @@ abbrev pub repair_ends : List ℕ
 repair_ends = codes "  --help      alone: print this\n  --version   alone: print the version, as -V does\n\nstatus 0     the volume is consistent, or was repaired\nstatus 1     it is damaged, or something else is told in a line\nstatus 2     its log is not clean, and neither -n nor -L is given\nstatus 4     it was repaired, and -e is given\n"
 
 abbrev pub make_called : List ℕ
-make_called = codes "xfs mkfs.xfs [-d list] [-l list] [-m list] [-i list] [-s list] [-b list] [-n list] [-L label] [-p protofile] [-f] [-q] [-K] IMAGE\nMakes an XFS volume in an image file that is there, empty or with files. A list has items with commas between them.\n\n"
+make_called = codes "xfs mkfs.xfs [-d list] [-l list] [-m list] [-i list] [-s list] [-b list] [-n list] [-L label] [-p protofile | -G number] [-f] [-q] [-K] IMAGE\nMakes an XFS volume in an image file that is there, empty or with files. A list has items with commas between them.\n\n"
 
 abbrev pub make_rows : List (ℕ × List ℕ)
 make_rows =
@@ -41,7 +41,7 @@ make_rows =
     ∷ (102, codes "            write over what is there\n")
     ∷ (113, codes "            print nothing of the volume that was made\n")
     ∷ (75, codes "            no effect\n")
-    ∷ (71, codes " number     not built yet\n")
+    ∷ (71, codes " number     make so many files, then lose the root of a tree and repair the volume, each with its line\n")
     ∷ []
 
 abbrev pub make_ends : List ℕ
@@ -95,7 +95,7 @@ called_by (Some Debug) = codes "xfs_db"
 
 -- the version, behind the name
 abbrev pub version_text : Option Tool → List ℕ
-version_text tool = called_by tool ++ codes " version 0.4\n"
+version_text tool = called_by tool ++ codes " version 0.5\n"
 
 -- the rows have just the letters of these options, in their order
 abbrev pub Names : List (ℕ × List ℕ) → List OptionRow → Type 0

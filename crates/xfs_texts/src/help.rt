@@ -76,7 +76,7 @@ status 4     it was repaired, and -e is given
 
 /// How `mkfs.xfs` is called, and what it does.
 const MAKE_CALLED: &str = "\
-xfs mkfs.xfs [-d list] [-l list] [-m list] [-i list] [-s list] [-b list] [-n list] [-L label] [-p protofile] [-f] [-q] [-K] IMAGE
+xfs mkfs.xfs [-d list] [-l list] [-m list] [-i list] [-s list] [-b list] [-n list] [-L label] [-p protofile | -G number] [-f] [-q] [-K] IMAGE
 Makes an XFS volume in an image file that is there, empty or with files. A list has items with commas between them.
 
 ";
@@ -133,7 +133,7 @@ const MAKE_ROWS: [OptionLine; 13] = [
     },
     OptionLine {
         letter: b'G',
-        says: " number     not built yet\n",
+        says: " number     make so many files, then lose the root of a tree and repair the volume, each with its line\n",
     },
 ];
 
@@ -199,7 +199,7 @@ status 1        the words are no call of a tool, or something else is told in a 
 ";
 
 /// What stands behind a name where the version is told, and the version.
-const VERSION: &str = " version 0.4\n";
+const VERSION: &str = " version 0.5\n";
 
 /// Puts how a tool is called, its options with a line each, and its statuses; `None` is the program without a tool.
 pub fn put_help<S: Sink>(sink: &mut S, tool: Option<Tool>) -> Result<(), Failed>

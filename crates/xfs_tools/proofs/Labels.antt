@@ -1,9 +1,10 @@
--- The label that words give is short, as the values of options that were read are of the forms that their rows state.
+-- The label that words give is short, and the files are few that they ask for, as the values of options that were read are of the forms that their rows state.
 use Rattle.std.proofs.Common.{◌≡◌, ℕ, ◌+◌, ◌≤◌, ◌==◌, Bool, true, false, cond, nat_le, not, List, [], ◌∷◌, ◌++◌, length, Option, Some, None, Result, Ok, Err, bytes_eq, codes, refl, sym, subst, arith}
 use Rattle.std.specs.List.{All, list_any}
+use Rattle.std.specs.Option.{ForSome}
 use Rattle.std.proofs.lemmas.Bool.{and_parts, eqb-true, leb-true}
 use Rattle.std.proofs.lemmas.List.Elements.{All-append, All-cons, All-head, All-nil, All-tail}
-use Rattle.xfs_options.specs.MakeWords.{Refusal, judged_making, judged_by, label_of, last_from, last_value, make_from, make_line, make_of, make_options}
+use Rattle.xfs_options.specs.MakeWords.{Refusal, counted, judged_making, judged_by, label_of, last_from, last_value, make_from, make_line, make_of, make_options, small_count}
 use Rattle.xfs_options.specs.Options.{accepts, is_label, row_of}
 use Rattle.xfs_options.specs.SubOptions.{first_bad, items_given}
 use Rattle.xfs_options.specs.Words.{Words, Read, after_form, after_letters, after_option, after_rest, after_row, after_value, after_word, after_words, free_row, is_not_excluded, is_option, options_of, reading_of_words, finished_reading}
@@ -166,3 +167,30 @@ by_said rest (Err n) accepted line is = cc
 pub line_label : (rest : Words) (line : MakeLine) → make_of rest ≡ Ok line → length line.options.label ≤ 12
 unfolding make_of
 line_label rest line is = by_said rest (options_of make_options rest) refl line is
+
+few_by : (n : ℕ) (test : Bool) → nat_le n 100000 ≡ test → (k : ℕ) → cond test (Some n) None ≡ Some k → k ≤ 100000
+few_by n true is k e =
+    let same : n ≡ k = cc in
+    subst (λ (m : ℕ). m ≤ 100000) same (leb-true n 100000 is)
+few_by n false is k e = cc
+
+few_files : (n : Option ℕ) (k : ℕ) → small_count n ≡ Some k → k ≤ 100000
+few_files None k e = cc
+few_files (Some n) k e = few_by n (nat_le n 100000) refl k e
+
+files_by_given : (given : List Given) (line : MakeLine) → judged_making given ≡ Ok line → ForSome line.options.generate (λ (n : ℕ). n ≤ 100000)
+files_by_given given line is =
+    let items = items_given given in
+    let said : judged_by None given items ≡ Ok line =
+    none_found (λ found. judged_by found given items) line (λ i refused. cc) (first_bad [] items) is in
+    let same : make_line given items ≡ line = cc in
+    subst (λ (l : MakeLine). ForSome l.options.generate (λ (n : ℕ). n ≤ 100000)) same (few_files (counted (last_value 71 given)))
+
+files_by_said : (said : Result (List Given) ℕ) (line : MakeLine) → make_from said ≡ Ok line → ForSome line.options.generate (λ (n : ℕ). n ≤ 100000)
+files_by_said (Ok given) line is = files_by_given given line is
+files_by_said (Err n) line is = cc
+
+-- the files are few that a command line asks for
+pub line_files : (rest : Words) (line : MakeLine) → make_of rest ≡ Ok line → ForSome line.options.generate (λ (n : ℕ). n ≤ 100000)
+unfolding make_of
+line_files rest line is = files_by_said (options_of make_options rest) line is

@@ -4,3 +4,4 @@ pub mod Looking
 pub mod Making
 pub mod Offending
 pub mod Refusing
+pub mod Roots

@@ -31,7 +31,11 @@ IsTold out_took out_faults err_took err_faults out out_now err err_now answer pu
     ((err_now ≡ err) × PutsText (out_took out) (out_took out_now) (out_faults out) (out_faults out_now) (text_of answer) put)
     ((out_now ≡ out) × PutsText (err_took err) (err_took err_now) (err_faults err) (err_faults err_now) (text_of answer) put)
 
+-- the status where a line could not be put
+abbrev pub output_fault : Status
+output_fault = record { code = 1; answer = OutputFault; finished = 0 }
+
 -- the status of an answer; where its line could not be put, an output fault stands in its place
 abbrev pub status_of : Bool → Answer → Result (Unit {0}) Failed → Status
 status_of tells answer (Ok done) = record { code = code_of tells answer; answer = answer; finished = 0 }
-status_of tells answer (Err failed) = record { code = 1; answer = OutputFault; finished = 0 }
+status_of tells answer (Err failed) = output_fault

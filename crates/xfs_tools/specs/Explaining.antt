@@ -21,7 +21,7 @@ use Rattle.xfs_tools.specs.Answers.{IsTold}
 use Rattle.xfs_tools.specs.CommandLine.{options_of_words}
 use Rattle.xfs_tools.specs.Repairing.{IsRepair}
 use Rattle.xfs_tools.specs.declared.answer.Answer.{Answer}
-use Rattle.xfs_tools.specs.declared.answer.Answer.TheVariants.{Damaged, Repaired, NoRoom, Unbuilt}
+use Rattle.xfs_tools.specs.declared.answer.Answer.TheVariants.{Damaged, Repaired, NoRoom}
 use Rattle.xfs_tools.specs.declared.command_line.Call.{Call}
 use Rattle.xfs_tools.specs.declared.command_line.Call.TheVariants.{Repair, Refused}
 use Rattle.xfs_tools.specs.declared.command_line.RepairWords.{RepairWords}
@@ -66,7 +66,6 @@ abbrev pub told_in : Option Finding → Answer → Option Finding
 told_in looked (Damaged finding) = Some finding
 told_in looked (Repaired summary) = looked
 told_in looked (NoRoom place) = looked
-told_in looked (Unbuilt request) = looked
 told_in looked answer = None
 
 abbrev pub told_of : Bool → Option Finding → Answer → Option Finding

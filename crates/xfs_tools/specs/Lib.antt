@@ -2,7 +2,9 @@ pub mod Answers
 pub mod HelpWords
 pub mod CommandLine
 pub mod Texts
+pub mod Damaging
 pub mod Debugging
 pub mod Explaining
+pub mod Generating
 pub mod Making
 pub mod Repairing

@@ -18,8 +18,7 @@ use Rattle.xfs_mkfs.specs.declared.outcome.MakeOutcome.{MakeOutcome}
 use Rattle.xfs_mkfs.specs.declared.outcome.MakeOutcome.TheVariants as out
 use Rattle.xfs_tools.specs.Answers.{IsTold}
 use Rattle.xfs_tools.specs.declared.answer.Answer.{Answer}
-use Rattle.xfs_tools.specs.declared.answer.Answer.TheVariants.{Usage, Unbuilt, BadOption, TooSmall, HasVolume, BadProto, NoFile, LibraryFault, NoRoom, Made, ReadFault, WriteFault, NoMemory}
-use Rattle.xfs_tools.specs.declared.maker.Making.{Making}
+use Rattle.xfs_tools.specs.declared.answer.Answer.TheVariants.{Usage, BadOption, TooSmall, HasVolume, BadProto, NoFile, LibraryFault, NoRoom, Made, ReadFault, WriteFault, NoMemory}
 
 -- the answer that an outcome of making a volume is
 abbrev pub made_answer : MakeOutcome → Answer
@@ -33,7 +32,6 @@ made_answer (out.NoRoom place) = NoRoom place
 made_answer (out.ReadFault faults) = ReadFault faults
 made_answer (out.WriteFault written) = WriteFault written
 made_answer out.NoMemory = NoMemory
-made_answer (out.Unbuilt request) = Unbuilt request
 
 -- the answer tells of a volume that was made
 abbrev pub is_made : Answer → Bool
@@ -60,11 +58,11 @@ pub record IsMake {D L : Type 0} (holds : D → Option Image) (size faults write
   pub same_files : files_of library_now ≡ files_of library
   pub library_rises : library_faults library ≤ library_faults library_now
 
--- the end of a call whose words were refused, or could not be read for want of memory
-abbrev pub make_refusal : MakeFault → Making
-make_refusal (words.Offends n) = record { answer = Usage n; quiet = false }
-make_refusal (words.BadOption word item) = record { answer = BadOption word item; quiet = false }
-make_refusal words.NoMemory = record { answer = NoMemory; quiet = false }
+-- the answer where words were refused, or could not be read for want of memory
+abbrev pub make_refusal : MakeFault → Answer
+make_refusal (words.Offends n) = Usage n
+make_refusal (words.BadOption word item) = BadOption word item
+make_refusal words.NoMemory = NoMemory
 
 -- nothing was made, for this answer, and all is the same
 pub record IsNoMaking (due : Answer) (same : Type 0) (answer : Answer) : Type 0 where

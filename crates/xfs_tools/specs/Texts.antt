@@ -1,7 +1,7 @@
 -- The text of each answer, which is a line but for help, the stream that it goes to, and the exit status.
 use Rattle.std.specs.Prelude.{ℕ, Bool, true, false, if◌then◌else◌, codes, List, [], ◌∷◌, ◌++◌}
 use Rattle.xfs_tools.specs.declared.answer.Answer.{Answer}
-use Rattle.xfs_tools.specs.declared.answer.Answer.TheVariants.{Usage, Unbuilt, NoGeometry, Unsupported, DirtyLog, TooLarge, UnsupportedFile, Clean, Damaged, Repaired, BadOption, TooSmall, HasVolume, BadProto, NoFile, LibraryFault, NoRoom, Made, ReadFault, WriteFault, OutputFault, NoMemory, Done, InputFault, InputLong, Help, Version}
+use Rattle.xfs_tools.specs.declared.answer.Answer.TheVariants.{Usage, NoGeometry, Unsupported, DirtyLog, TooLarge, UnsupportedFile, Clean, Damaged, Repaired, BadOption, TooSmall, HasVolume, BadProto, NoFile, LibraryFault, NoRoom, Made, ReadFault, WriteFault, OutputFault, NoMemory, Done, InputFault, InputLong, Help, Version}
 use Rattle.xfs_mend.specs.declared.outcome.Summary.{Summary}
 use Rattle.xfs_mend.specs.declared.outcome.Summary.TheVariants.{Backups, Rebuilt}
 use Rattle.uuid.specs.Text.{hyphenated_text}
@@ -52,7 +52,6 @@ made_text made = line (made_numbers made) (codes " uuid=") ++ (hyphenated_text 9
 -- the text of an answer
 abbrev pub text_of : Answer → List ℕ
 text_of (Usage word) = line ((codes "xfs: usage: word ", Decimal word) ∷ []) (codes "\n")
-text_of (Unbuilt request) = line ((codes "xfs: unbuilt: ", Decimal request) ∷ []) (codes "\n")
 text_of (Unsupported word bits) = line ((codes "xfs: unsupported: word ", Decimal word) ∷ (codes " bits 0x", Hexadecimal bits) ∷ []) (codes "\n")
 text_of (Damaged finding) = finding_text finding
 text_of DirtyLog = line [] (codes "xfs: dirty log\n")

@@ -12,8 +12,6 @@ pub enum Answer {
     /// The words are not those of a tool: `word` is the first offending one, or the number of words
     /// where one lacks.
     Usage { word: usize },
-    /// A command or a form of image that is not built yet. `request` names the step that brings it.
-    Unbuilt { request: u8 },
     /// No superblock states a geometry.
     NoGeometry,
     /// The primary superblock has a feature word that is refused: its number, and the bits by which it

@@ -136,7 +136,7 @@ pub(crate) fn told_of(verbose: bool, looked: Option<Finding>, answer: Answer) ->
     }
     match answer {
         Answer::Damaged(finding) => Some(finding),
-        Answer::Repaired(_) | Answer::NoRoom(_) | Answer::Unbuilt { .. } => looked,
+        Answer::Repaired(_) | Answer::NoRoom(_) => looked,
         _ => None,
     }
 }

@@ -1,13 +1,10 @@
 //! Words that ask for help or for the version, and nothing else.
 
-ghost use Rattle.std.specs.Prelude.{◌≡◌, Result, false};
-ghost use Rattle.xfs_disk.specs.declared.failed.Failed.{Failed};
-ghost use Rattle.xfs_tools.specs.Answers.{IsTold, status_of};
+ghost use Rattle.std.specs.Prelude.{◌≡◌};
 ghost use Rattle.xfs_tools.specs.HelpWords.{text_asked, text_behind, text_named, tool_named};
 
-use crate::answer::{Answer, Status};
-use crate::texts::tell;
-use xfs_disk::{Failed, Sink, Word};
+use crate::answer::Answer;
+use xfs_disk::Word;
 use xfs_texts::Tool;
 
 /// The help or the version, where the words ask for it alone: one word, or one behind a tool.
@@ -56,23 +53,5 @@ fn tool_named(name: &[u8]) -> Option<Tool>
         Some(Tool::Debug)
     } else {
         None
-    }
-}
-
-/// Puts the text that was asked for.
-pub(crate) fn tell_text<O: Sink, E: Sink>(out: &mut O, err: &mut E, text: Answer) -> Status
-    ensures { (put : Result (Unit {0}) Failed) × IsTold O.took O.faults E.took E.faults out.old out.new err.old err.new text put × (result ≡ status_of false text put) }
-{
-    match tell(out, err, text) {
-        Ok(()) => Status {
-            code: text.code(false),
-            answer: text,
-            finished: 0,
-        },
-        Err(Failed) => Status {
-            code: 1,
-            answer: Answer::OutputFault,
-            finished: 0,
-        },
     }
 }

@@ -12,8 +12,10 @@
 
 mod answer;
 mod command_line;
+mod damaging;
 mod debugger;
 mod explaining;
+mod generating;
 mod help_words;
 mod maker;
 mod texts;

@@ -1,32 +1,28 @@
 //! mkfs.xfs: the volume that words ask for, and the line that tells of it.
 
-ghost use Rattle.std.specs.Prelude.{◌≡◌, ◌≤◌, ◌&&◌, Bool, Result, false, length};
+ghost use Rattle.std.specs.Prelude.{◌≡◌, ◌≤◌, ◌&&◌, Bool, Result, Ok, None, false, length};
+ghost use Rattle.std.specs.Option.{ForSome};
 ghost use Rattle.xfs_disk.specs.declared.failed.Failed.{Failed};
+ghost use Rattle.xfs_mkfs.specs.Roots.{HasInodeRoot};
 ghost use Rattle.xfs_options.specs.MakeWords.{make_of};
 ghost use Rattle.xfs_tools.specs.Answers.{status_of};
+ghost use Rattle.xfs_tools.specs.Generating.{IsGenerated, files_asked, made_in};
 ghost use Rattle.xfs_tools.specs.Making.{IsMake, IsMaking, IsOfMaking, IsToldUnless, is_made, made_answer, make_refusal};
 ghost use Rattle.xfs_tools.specs.declared.answer.Answer.{Answer};
 
 use crate::answer::{Answer, Status};
-use crate::texts::tell;
+use crate::generating::show_made;
+use crate::texts::{end_with, output_fault, tell};
 use std::alloc::Global;
 use std::marker::Sync;
 use std::thread::Threads;
-use xfs_disk::{Disk, Failed, Library, Sink, Stamp, Word};
+use xfs_disk::{Disk, Failed, Gate, Library, Sink, Stamp, Word};
 use xfs_mkfs::{MakeOutcome, make};
 use xfs_options::{MakeFault, MakeLine, read_make_words};
 
-/// How a call ended.
-#[derive(Clone, Copy, Debug)]
-struct Making {
-    answer: Answer,
-    /// The line of a volume that was made is left out.
-    quiet: bool,
-}
-
 /// Makes the volume that the words behind `mkfs.xfs` ask for. The line of its answer goes to `out` where it was made, else to
-/// `err`.
-pub(crate) fn run_maker<R: Threads + Sync, D: Disk, L: Library, O: Sink, E: Sink>(
+/// `err`. A volume with generated files is then damaged and repaired.
+pub(crate) fn run_maker<R: Threads + Sync, D: Disk, L: Library, O: Sink, E: Sink, G: Gate>(
     rt: &R,
     alloc: Global,
     words: &[Word],
@@ -35,60 +31,61 @@ pub(crate) fn run_maker<R: Threads + Sync, D: Disk, L: Library, O: Sink, E: Sink
     out: &mut O,
     err: &mut E,
     stamp: &Stamp,
+    gate: &G,
 ) -> Status
-    ensures ended { (answer : Answer) × (quiet : Bool) × (put : Result (Unit {0}) Failed)
+    ensures made { files_asked (make_of words.now) ≡ None → (answer : Answer) × (quiet : Bool) × (put : Result (Unit {0}) Failed)
         × IsMaking (make_of words.now) ((disk.new ≡ disk.old) × (files.new ≡ files.old)) (IsMake D.holds D.size D.faults D.write_faults D.reads D.writes D.tells_stops D.moment D.may_leave D.left_since L.files L.faults stamp.now disk.old disk.new files.old files.new) answer quiet
         × IsToldUnless (quiet && is_made answer) O.took O.faults E.took E.faults out.old out.new err.old err.new answer put
         × (result ≡ status_of false answer put) }
-    ensures size { D.size disk.new ≡ D.size disk.old }
-    ensures files { L.files files.new ≡ L.files files.old }
-{
-    let making = make_words(rt, alloc, words, disk, files, stamp);
-    match tell_making(out, err, making) {
-        Ok(()) => Status {
-            code: making.answer.code(false),
-            answer: making.answer,
-            finished: 0,
-        },
-        Err(Failed) => Status {
-            code: 1,
-            answer: Answer::OutputFault,
-            finished: 0,
-        },
-    }
-}
-
-/// Makes the volume that the words behind `mkfs.xfs` ask for.
-fn make_words<R: Threads + Sync, D: Disk, L: Library>(
-    rt: &R,
-    alloc: Global,
-    words: &[Word],
-    disk: &mut D,
-    files: &mut L,
-    stamp: &Stamp,
-) -> Making
-    ensures ended { IsMaking (make_of words.now) ((disk.new ≡ disk.old) × (files.new ≡ files.old)) (IsMake D.holds D.size D.faults D.write_faults D.reads D.writes D.tells_stops D.moment D.may_leave D.left_since L.files L.faults stamp.now disk.old disk.new files.old files.new) result.answer result.quiet }
+    ensures generated { ForSome (files_asked (make_of words.now)) (IsGenerated D.holds D.size D.faults D.write_faults D.reads D.writes D.tells_stops D.moment D.may_leave D.left_since L.files L.faults O.took O.faults E.took E.faults stamp.now (make_of words.now) disk.old disk.new files.old files.new out.old out.new err.old err.new result) }
     ensures size { D.size disk.new ≡ D.size disk.old }
     ensures files { L.files files.new ≡ L.files files.old }
 {
     match read_make_words(alloc, words) {
-        Ok(line) => make_line(rt, alloc, &line, disk, files, stamp),
-        Err(fault) => refused(fault),
+        Ok(line) => run_line(rt, alloc, &line, disk, files, out, err, stamp, gate),
+        Err(fault) => end_with(out, err, make_refusal(fault)),
     }
 }
 
-/// The end of a call whose words are refused, or could not be read.
-fn refused(fault: MakeFault) -> Making
+/// The answer where words are refused, or could not be read.
+fn make_refusal(fault: MakeFault) -> Answer
     ensures { result ≡ make_refusal fault }
 {
-    let answer = match fault {
+    match fault {
         MakeFault::Offends(word) => Answer::Usage { word },
         MakeFault::BadOption { word, item } => Answer::BadOption { word, item },
         MakeFault::NoMemory => Answer::NoMemory,
-    };
-    Making {
-        answer,
-        quiet: false,
+    }
+}
+
+/// The same where the words are a command line.
+fn run_line<R: Threads + Sync, D: Disk, L: Library, O: Sink, E: Sink, G: Gate>(
+    rt: &R,
+    alloc: Global,
+    line: &MakeLine,
+    disk: &mut D,
+    files: &mut L,
+    out: &mut O,
+    err: &mut E,
+    stamp: &Stamp,
+    gate: &G,
+) -> Status
+    requires label { length line.now.options.label ≤ 12 }
+    requires generate { ForSome line.now.options.generate (λ n. n ≤ 100000) }
+    ensures made { line.now.options.generate ≡ None → (answer : Answer) × (quiet : Bool) × (put : Result (Unit {0}) Failed)
+        × IsMaking (Ok line.now) ((disk.new ≡ disk.old) × (files.new ≡ files.old)) (IsMake D.holds D.size D.faults D.write_faults D.reads D.writes D.tells_stops D.moment D.may_leave D.left_since L.files L.faults stamp.now disk.old disk.new files.old files.new) answer quiet
+        × IsToldUnless (quiet && is_made answer) O.took O.faults E.took E.faults out.old out.new err.old err.new answer put
+        × (result ≡ status_of false answer put) }
+    ensures generated { ForSome line.now.options.generate (IsGenerated D.holds D.size D.faults D.write_faults D.reads D.writes D.tells_stops D.moment D.may_leave D.left_since L.files L.faults O.took O.faults E.took E.faults stamp.now (Ok line.now) disk.old disk.new files.old files.new out.old out.new err.old err.new result) }
+    ensures size { D.size disk.new ≡ D.size disk.old }
+    ensures files { L.files files.new ≡ L.files files.old }
+{
+    let answer = make_line(rt, alloc, line, disk, files, stamp);
+    match line.options.generate {
+        Some(count) => show_made(
+            rt, alloc, disk, out, err, stamp, gate, line.quiet, answer, count,
+        ),
+        None => end_making(out, err, line.quiet, answer),
     }
 }
 
@@ -100,17 +97,19 @@ fn make_line<R: Threads + Sync, D: Disk, L: Library>(
     disk: &mut D,
     files: &mut L,
     stamp: &Stamp,
-) -> Making
+) -> Answer
     requires label { length line.now.options.label ≤ 12 }
-    ensures made { IsOfMaking line.now (IsMake D.holds D.size D.faults D.write_faults D.reads D.writes D.tells_stops D.moment D.may_leave D.left_since L.files L.faults stamp.now disk.old disk.new files.old files.new) result.answer result.quiet }
+    requires generate { ForSome line.now.options.generate (λ n. n ≤ 100000) }
+    ensures made { IsOfMaking line.now (IsMake D.holds D.size D.faults D.write_faults D.reads D.writes D.tells_stops D.moment D.may_leave D.left_since L.files L.faults stamp.now disk.old disk.new files.old files.new) result line.now.quiet }
+    // of a disk that tells what it holds, the root of the inode tree of group 0 is a block
+    ensures inside { ForSome (D.holds disk.old) (λ image. ForSome (made_in result) (λ made. ForSome (D.holds disk.new) (HasInodeRoot (D.size disk.new)))) }
+    ensures unasked { ForSome line.now.options.generate (λ n. files.new ≡ files.old) }
+    ensures tells { D.tells_stops disk.old → D.tells_stops disk.new }
+    ensures later { D.tells_stops disk.old → D.moment disk.old ≤ D.moment disk.new }
     ensures size { D.size disk.new ≡ D.size disk.old }
     ensures files { L.files files.new ≡ L.files files.old }
 {
-    let outcome = make(rt, alloc, disk, files, &line.options, stamp);
-    Making {
-        answer: made_answer(outcome),
-        quiet: line.quiet,
-    }
+    made_answer(make(rt, alloc, disk, files, &line.options, stamp))
 }
 
 /// The answer that an outcome of making a volume is.
@@ -128,18 +127,38 @@ fn made_answer(outcome: MakeOutcome) -> Answer
         MakeOutcome::ReadFault { faults } => Answer::ReadFault { faults },
         MakeOutcome::WriteFault { written } => Answer::WriteFault { written },
         MakeOutcome::NoMemory => Answer::NoMemory,
-        MakeOutcome::Unbuilt { request } => Answer::Unbuilt { request },
+    }
+}
+
+/// Puts the line of the answer, and ends the call with its status.
+fn end_making<O: Sink, E: Sink>(out: &mut O, err: &mut E, quiet: bool, answer: Answer) -> Status
+    ensures { (put : Result (Unit {0}) Failed)
+        × IsToldUnless (quiet && is_made answer) O.took O.faults E.took E.faults out.old out.new err.old err.new answer put
+        × (result ≡ status_of false answer put) }
+{
+    match tell_making(out, err, quiet, answer) {
+        Ok(()) => Status {
+            code: answer.code(false),
+            answer,
+            finished: 0,
+        },
+        Err(Failed) => output_fault(),
     }
 }
 
 /// Puts the line of the answer, but not that of a volume that was made where it is to be left out.
-fn tell_making<O: Sink, E: Sink>(out: &mut O, err: &mut E, making: Making) -> Result<(), Failed>
-    ensures { IsToldUnless (making.quiet && is_made making.answer) O.took O.faults E.took E.faults out.old out.new err.old err.new making.answer result }
+fn tell_making<O: Sink, E: Sink>(
+    out: &mut O,
+    err: &mut E,
+    quiet: bool,
+    answer: Answer,
+) -> Result<(), Failed>
+    ensures { IsToldUnless (quiet && is_made answer) O.took O.faults E.took E.faults out.old out.new err.old err.new answer result }
 {
-    if making.quiet && is_made(making.answer) {
+    if quiet && is_made(answer) {
         return Ok(());
     }
-    tell(out, err, making.answer)
+    tell(out, err, answer)
 }
 
 /// Whether the answer tells of a volume that was made.

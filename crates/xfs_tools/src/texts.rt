@@ -1,14 +1,17 @@
 //! The line of each answer. Putting one takes no memory.
 
-ghost use Rattle.std.specs.Prelude.{◌++◌, codes};
+ghost use Rattle.std.specs.Prelude.{◌≡◌, ◌++◌, Result, codes, false};
+ghost use Rattle.xfs_disk.specs.declared.failed.Failed.{Failed};
 ghost use Rattle.xfs_texts.specs.Lines.{PutsText, line};
-ghost use Rattle.xfs_tools.specs.Answers.{IsTold};
+ghost use Rattle.xfs_tools.specs.Answers.{IsTold, output_fault, status_of};
+ghost use Rattle.xfs_tools.specs.Generating.{damaged_text, generated_text, made_lines};
 ghost use Rattle.xfs_tools.specs.Texts.{finding_text, law_text, made_numbers, made_text, no_room_text, summary_text, text_of};
 ghost use Rattle.uuid.specs.Text.{hyphenated_text};
 
-use crate::answer::Answer;
+use crate::answer::{Answer, Status};
 use uuid::Uuid;
 use xfs_disk::{Failed, Sink};
+use xfs_generator::directory_count;
 use xfs_image::Finding;
 use xfs_mend::Summary;
 use xfs_mkfs::MadeSummary;
@@ -27,6 +30,31 @@ pub fn tell<O: Sink, E: Sink>(out: &mut O, err: &mut E, answer: Answer) -> Resul
     }
 }
 
+/// Puts the answer's line to the stream that it goes to, and ends the call with its status.
+pub(crate) fn end_with<O: Sink, E: Sink>(out: &mut O, err: &mut E, answer: Answer) -> Status
+    ensures { (put : Result (Unit {0}) Failed) × IsTold O.took O.faults E.took E.faults out.old out.new err.old err.new answer put × (result ≡ status_of false answer put) }
+{
+    match tell(out, err, answer) {
+        Ok(()) => Status {
+            code: answer.code(false),
+            answer,
+            finished: 0,
+        },
+        Err(Failed) => output_fault(),
+    }
+}
+
+/// The status where a line could not be put.
+pub(crate) fn output_fault() -> Status
+    ensures { result ≡ output_fault }
+{
+    Status {
+        code: 1,
+        answer: Answer::OutputFault,
+        finished: 0,
+    }
+}
+
 /// Puts the line of an answer.
 pub fn put_answer<S: Sink>(sink: &mut S, answer: Answer) -> Result<(), Failed>
     ensures { PutsText (S.took sink.old) (S.took sink.new) (S.faults sink.old) (S.faults sink.new) (text_of answer) result }
@@ -35,11 +63,6 @@ pub fn put_answer<S: Sink>(sink: &mut S, answer: Answer) -> Result<(), Failed>
         Answer::Usage { word } => put_line(
             sink,
             &[("xfs: usage: word ", Number::Decimal(word as u64))],
-            "\n",
-        ),
-        Answer::Unbuilt { request } => put_line(
-            sink,
-            &[("xfs: unbuilt: ", Number::Decimal(request as u64))],
             "\n",
         ),
         Answer::NoGeometry => put_line(sink, &[], "xfs: no geometry\n"),
@@ -174,6 +197,43 @@ fn put_made<S: Sink>(sink: &mut S, made: &MadeSummary) -> Result<(), Failed>
         Err(Failed) => return Err(Failed),
     }
     put_identifier_line(sink, made.uuid)
+}
+
+/// Puts the lines of a volume that was made with generated files; its own is left out where it is to be quiet.
+pub(crate) fn put_made_lines<S: Sink>(
+    sink: &mut S,
+    quiet: bool,
+    made: &MadeSummary,
+    files: u32,
+) -> Result<(), Failed>
+    ensures { PutsText (S.took sink.old) (S.took sink.new) (S.faults sink.old) (S.faults sink.new) (made_lines quiet made.now files) result }
+{
+    if quiet {
+        return put_generated(sink, files);
+    }
+    match put_made(sink, made) {
+        Ok(()) => {}
+        Err(Failed) => return Err(Failed),
+    }
+    put_generated(sink, files)
+}
+
+/// Puts the line of files that were generated.
+fn put_generated<S: Sink>(sink: &mut S, files: u32) -> Result<(), Failed>
+    ensures { PutsText (S.took sink.old) (S.took sink.new) (S.faults sink.old) (S.faults sink.new) (generated_text files) result }
+{
+    let numbers = [
+        ("generated: files=", Number::Decimal(files as u64)),
+        (" directories=", Number::Decimal(directory_count(files))),
+    ];
+    put_line(sink, &numbers, "\n")
+}
+
+/// Puts the line of a block that was written as zeros.
+pub(crate) fn put_damaged<S: Sink>(sink: &mut S, place: u64) -> Result<(), Failed>
+    ensures { PutsText (S.took sink.old) (S.took sink.new) (S.faults sink.old) (S.faults sink.new) (damaged_text place) result }
+{
+    put_line(sink, &[("damaged: block=", Number::Decimal(place))], "\n")
 }
 
 /// Puts the numbers of a volume that was made, and what stands before its identifier.

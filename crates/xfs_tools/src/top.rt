@@ -1,6 +1,7 @@
 //! The top call: a command line and an image in, an answer, its line and an exit status out.
 
 ghost use Rattle.std.specs.Prelude.{◌≡◌, ℕ, ◌≤◌, ◌&&◌, Bool, true, false, drop, Result, Option, List, Some, None};
+ghost use Rattle.std.specs.Option.{ForSome};
 ghost use Rattle.xfs_disk.specs.Reads.{OnlyReads};
 ghost use Rattle.xfs_disk.specs.declared.failed.Failed.{Failed};
 ghost use Rattle.xfs_options.specs.DebugWords.{debug_of};
@@ -9,6 +10,7 @@ ghost use Rattle.xfs_tools.specs.CommandLine.{is_debugger, is_maker, judged, tel
 ghost use Rattle.xfs_tools.specs.Debugging.{IsDebugged, IsShelled, session_status};
 ghost use Rattle.xfs_tools.specs.Explaining.{IsLook, IsText, IsToldBehind, explained};
 ghost use Rattle.xfs_tools.specs.HelpWords.{text_asked};
+ghost use Rattle.xfs_tools.specs.Generating.{IsGenerated, files_asked};
 ghost use Rattle.xfs_tools.specs.Making.{IsMake, IsMaking, IsToldUnless, is_made};
 ghost use Rattle.xfs_tools.specs.Repairing.{IsRepair, IsRepairing, only_checks};
 ghost use Rattle.xfs_tools.specs.Texts.{text_of};
@@ -20,8 +22,9 @@ use crate::answer::{Answer, Status};
 use crate::command_line::{Call, RepairWords, is_debugger, is_maker, judge};
 use crate::debugger::run_debugger;
 use crate::explaining::{look_before, tell_found, told_of};
-use crate::help_words::{tell_text, text_asked};
+use crate::help_words::text_asked;
 use crate::maker::run_maker;
+use crate::texts::end_with;
 use std::alloc::Global;
 use std::thread::Threads;
 use xfs_disk::{Disk, Failed, Gate, Library, Sink, Source, Stamp, Word};
@@ -78,12 +81,16 @@ pub fn run<R: Threads + Sync, D: Disk, L: Library, S: Source, O: Sink, E: Sink, 
         (IsShelled D.holds D.size D.faults D.write_faults D.reads D.writes D.tells_stops D.moment D.may_leave D.left_since S.left S.faults O.took O.faults disk.old disk.new input.old input.new out.old out.new) (D.faults disk.new) answer finished
         × PutsText (E.took err.old) (E.took err.new) (E.faults err.old) (E.faults err.new) (text_of answer) put
         × (result ≡ session_status answer finished put) }
-    // For the words of `mkfs.xfs`: the volume that they ask for was made or refused, and the disk holds what that leaves; or the
+    // For the words of `mkfs.xfs` that ask for no generated files: the volume that they ask for was made or refused, and the disk holds what that leaves; or the
     // words were refused, or memory lacked for them, and nothing was done. The line is left out under `-q` where it was made.
-    ensures made { text_asked words.now ≡ None → is_debugger words.now ≡ false → is_maker words.now ≡ true → (answer : Answer) × (quiet : Bool) × (put : Result (Unit {0}) Failed)
+    ensures made { text_asked words.now ≡ None → is_debugger words.now ≡ false → is_maker words.now ≡ true → files_asked (make_of (drop 1 words.now)) ≡ None → (answer : Answer) × (quiet : Bool) × (put : Result (Unit {0}) Failed)
         × IsMaking (make_of (drop 1 words.now)) ((disk.new ≡ disk.old) × (files.new ≡ files.old)) (IsMake D.holds D.size D.faults D.write_faults D.reads D.writes D.tells_stops D.moment D.may_leave D.left_since L.files L.faults stamp.now disk.old disk.new files.old files.new) answer quiet
         × IsToldUnless (quiet && is_made answer) O.took O.faults E.took E.faults out.old out.new err.old err.new answer put
         × (result ≡ status_of false answer put) }
+    // Where they ask for generated files: the same, and a volume that was made was then damaged, and repaired as `xfs_repair` does it
+    // without options, each with its line. A line that could not be put ends the call.
+    ensures generated { text_asked words.now ≡ None → is_debugger words.now ≡ false → is_maker words.now ≡ true → ForSome (files_asked (make_of (drop 1 words.now)))
+        (IsGenerated D.holds D.size D.faults D.write_faults D.reads D.writes D.tells_stops D.moment D.may_leave D.left_since L.files L.faults O.took O.faults E.took E.faults stamp.now (make_of (drop 1 words.now)) disk.old disk.new files.old files.new out.old out.new err.old err.new result) }
     // The disk keeps its number of blocks.
     ensures size { D.size disk.new ≡ D.size disk.old }
     // Where a volume is checked or repaired, the count of failed reads does not fall.
@@ -97,7 +104,7 @@ pub fn run<R: Threads + Sync, D: Disk, L: Library, S: Source, O: Sink, E: Sink, 
     ensures input { is_debugger words.now ≡ false → input.new ≡ input.old }
 {
     match text_asked(words) {
-        Some(text) => tell_text(out, err, text),
+        Some(text) => end_with(out, err, text),
         None => run_tool(rt, alloc, words, disk, files, input, out, err, stamp, gate),
     }
 }
@@ -127,10 +134,12 @@ fn run_tool<R: Threads + Sync, D: Disk, L: Library, S: Source, O: Sink, E: Sink,
         (IsShelled D.holds D.size D.faults D.write_faults D.reads D.writes D.tells_stops D.moment D.may_leave D.left_since S.left S.faults O.took O.faults disk.old disk.new input.old input.new out.old out.new) (D.faults disk.new) answer finished
         × PutsText (E.took err.old) (E.took err.new) (E.faults err.old) (E.faults err.new) (text_of answer) put
         × (result ≡ session_status answer finished put) }
-    ensures made { is_debugger words.now ≡ false → is_maker words.now ≡ true → (answer : Answer) × (quiet : Bool) × (put : Result (Unit {0}) Failed)
+    ensures made { is_debugger words.now ≡ false → is_maker words.now ≡ true → files_asked (make_of (drop 1 words.now)) ≡ None → (answer : Answer) × (quiet : Bool) × (put : Result (Unit {0}) Failed)
         × IsMaking (make_of (drop 1 words.now)) ((disk.new ≡ disk.old) × (files.new ≡ files.old)) (IsMake D.holds D.size D.faults D.write_faults D.reads D.writes D.tells_stops D.moment D.may_leave D.left_since L.files L.faults stamp.now disk.old disk.new files.old files.new) answer quiet
         × IsToldUnless (quiet && is_made answer) O.took O.faults E.took E.faults out.old out.new err.old err.new answer put
         × (result ≡ status_of false answer put) }
+    ensures generated { is_debugger words.now ≡ false → is_maker words.now ≡ true → ForSome (files_asked (make_of (drop 1 words.now)))
+        (IsGenerated D.holds D.size D.faults D.write_faults D.reads D.writes D.tells_stops D.moment D.may_leave D.left_since L.files L.faults O.took O.faults E.took E.faults stamp.now (make_of (drop 1 words.now)) disk.old disk.new files.old files.new out.old out.new err.old err.new result) }
     ensures size { D.size disk.new ≡ D.size disk.old }
     ensures faults { is_debugger words.now ≡ false → is_maker words.now ≡ false → D.faults disk.old ≤ D.faults disk.new }
     ensures write_faults { is_debugger words.now ≡ false → is_maker words.now ≡ false → D.write_faults disk.old ≤ D.write_faults disk.new }
@@ -141,7 +150,7 @@ fn run_tool<R: Threads + Sync, D: Disk, L: Library, S: Source, O: Sink, E: Sink,
     if is_debugger(words) {
         run_debugger(alloc, &words[1..], disk, input, out, err)
     } else if is_maker(words) {
-        run_maker(rt, alloc, &words[1..], disk, files, out, err, stamp)
+        run_maker(rt, alloc, &words[1..], disk, files, out, err, stamp, gate)
     } else {
         run_volume(rt, alloc, words, disk, out, err, stamp, gate)
     }

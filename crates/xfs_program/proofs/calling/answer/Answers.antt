@@ -10,6 +10,7 @@ returns g c = (
     checked = c.run-status.ensures.checked;
     debugged = c.run-status.ensures.debugged;
     made = c.run-status.ensures.made;
+    generated = c.run-status.ensures.generated;
     same_library = c.run-status.ensures.library;
     same_files = c.run-status.ensures.files;
     same_input = c.run-status.ensures.input;

@@ -1,11 +1,17 @@
-use Rattle.std.proofs.Common.{refl}
+use Rattle.std.proofs.Common.{ℕ, refl, sym, subst}
+use Rattle.std.specs.Option.{ForSome}
+use Rattle.xfs_mkfs.specs.Roots.{HasInodeRoot}
+use Rattle.xfs_tools.specs.Generating.{made_in}
+use Rattle.xfs_tools.specs.Making.{made_answer}
+use Rattle.xfs_tools.specs.declared.answer.Answer.{Answer}
+use Rattle.xfs_tools.proofs.Roots.{root_on_disk}
 use Rattle.xfs_tools.proofs.maker.make_line.Goals as goal
 
 pub returns-clause-made : goal.returns-clause-made
 returns-clause-made g c =
-    let made = c.make-outcome.ensures in
+    let made = c.make.ensures in
     record {
-      outcome = c.make-outcome.result;
+      outcome = c.make.result;
       answer_is = c.made_answer.ensures;
       quiet_is = refl;
       is_done = record {
@@ -21,3 +27,14 @@ returns-clause-made g c =
         library_rises = made.library_faults;
       };
     }
+
+pub returns-clause-inside : goal.returns-clause-inside
+returns-clause-inside g c =
+    let D = g.D.Disk in
+    let L = g.L.Library in
+    let made = c.make.ensures in
+    λ image told.
+    subst (λ (a : Answer). ForSome (made_in a) (λ summary. ForSome (D.holds c.make.new.disk) (HasInodeRoot (D.size c.make.new.disk)))) (sym c.made_answer.ensures)
+    (subst (λ (blocks : ℕ). ForSome (made_in (made_answer c.make.result)) (λ summary. ForSome (D.holds c.make.new.disk) (HasInodeRoot blocks))) (sym made.size)
+    (root_on_disk c.args.line.now.options c.args.stamp.now (L.files c.args.files.now) (D.size c.args.disk.now) image (D.holds c.make.new.disk) c.make.result
+    (made.due image told) (made.leaves image told)))

@@ -6,9 +6,6 @@ use Rattle.xfs_tools.proofs.texts.put_answer.Goals as goal
 pub returns-in-Usage : goal.returns-in-Usage
 returns-in-Usage g c = puts_as _ _ _ _ _ _ _ (ap text_of c.in-Usage.is) c.put_line.ensures
 
-pub returns-in-Unbuilt : goal.returns-in-Unbuilt
-returns-in-Unbuilt g c = puts_as _ _ _ _ _ _ _ (ap text_of c.in-Unbuilt.is) c.put_line-in-Unbuilt.ensures
-
 pub returns-in-NoGeometry : goal.returns-in-NoGeometry
 returns-in-NoGeometry g c = puts_as _ _ _ _ _ _ _ (ap text_of c.in-NoGeometry.is) c.put_line-in-NoGeometry.ensures
 

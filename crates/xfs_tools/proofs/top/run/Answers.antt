@@ -10,12 +10,12 @@ pub returns-in-Some-clause-told : goal.returns-in-Some-clause-told
 returns-in-Some-clause-told g c =
     let O = g.O.Sink in
     let E = g.E.Sink in
-    let told = c.tell_text.ensures in
+    let told = c.end_with.ensures in
     λ text asked.
     let both : Some c.in-Some.text ≡ Some text = sym c.in-Some.is ∙ (c.text_asked.ensures ∙ asked) in
     let same : c.in-Some.text ≡ text = cc in
     subst (λ (t : Answer). (put : Result (Unit {0}) Failed) × (c.args.disk.now ≡ c.args.disk.now) × (c.args.files.now ≡ c.args.files.now) × (c.args.input.now ≡ c.args.input.now)
-    × IsTold O.took O.faults E.took E.faults c.args.out.now c.tell_text.new.out c.args.err.now c.tell_text.new.err t put × (c.tell_text.result ≡ status_of false t put))
+    × IsTold O.took O.faults E.took E.faults c.args.out.now c.end_with.new.out c.args.err.now c.end_with.new.err t put × (c.end_with.result ≡ status_of false t put))
     same (told.0, refl, refl, refl, told.1, told.2)
 
 pub returns-in-Some-clause-checked : goal.returns-in-Some-clause-checked
