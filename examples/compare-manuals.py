@@ -17,8 +17,10 @@ import sys
 TOP = os.path.join(os.path.dirname(os.path.abspath(__file__)), "..")
 SPECS = "crates/xfs_tools/specs/"
 # the tools, and the definitions that say which answers each of them gives
-TOOLS = {"xfs_repair": [("Answers", "answer_of")], "mkfs.xfs": [("Making", "made_answer"), ("Making", "make_refusal")],
+TOOLS = {"xfs_repair": [("Answers", "answer_of")], "mkfs.xfs": [("Making", "made_answer"), ("Making", "make_refusal"), ("Damaging", "damage_answer")],
          "xfs_db": [("Debugging", "session_answer"), ("Debugging", "line_refusal")]}
+# what else a tool prints: the answers of a repair of the volume that it made, but for those that no such volume gives, and the lines of its steps
+BESIDE = {"mkfs.xfs": (("repaired: blocks",), ("generated_text", "damaged_text"))}
 # how the definitions of help name the tools
 HELPED = {"xfs_repair": "repair", "mkfs.xfs": "make", "xfs_db": "debug"}
 # the forms of answers that no call of a tool gives: a repair places directories, inodes and groups, and a new volume has no lost+found
@@ -82,6 +84,9 @@ def due(tool, answers):
     """The lines that a tool prints: those of its answers, and those of the program, with a hole for each value in them."""
     lines = {line for name in variants(TOOLS[tool]) | {"Usage"} for line in answers[name]
              if line and not line.startswith(LATER.get(tool, ("no line",)))}
+    begins, steps = BESIDE.get(tool, ((), ()))
+    lines |= {line for line in answers["Repaired"] if line.startswith(begins)} if begins else set()
+    lines |= {form for name, _, value in equations(read(SPECS + "Generating.antt")) if name in steps for form in forms(value, {})}
     program = read("crates/xfs_system/src/image.rt") + read("crates/xfs_program/src/performing.rt")
     printed = re.findall(r'eprintln!\(host; "([^"]*)"[,)]', program)
     return lines | {re.sub(r"\{\w*\}", HOLE, line) + "\n" for line in printed}

@@ -54,7 +54,9 @@ answer 1 'xfs: bad protofile: line 2 reason 2' "$xfs" mkfs.xfs -f -p bad.proto n
 answer 1 'xfs: library fault' "$xfs" mkfs.xfs -f -p . new.img
 answer 0 'made: blocks=32768 *' "$xfs" mkfs.xfs -f -p one.proto new.img
 answer 0 clean "$xfs" xfs_repair -n new.img
-answer 1 'xfs: unbuilt: 10' "$xfs" mkfs.xfs -f -G 3 new.img
+answer 0 'made: blocks=32768 * / generated: files=3 directories=1 / damaged: block=3 / repaired: blocks=* kept=7 cleared=0 orphans=0' "$xfs" mkfs.xfs -f -l size=8m -G 3 new.img
+answer 0 'generated: files=1 directories=1 / damaged: block=3 / repaired: blocks=* kept=5 cleared=0 orphans=0' "$xfs" mkfs.xfs -fq -G 1 new.img
+answer 0 clean "$xfs" xfs_repair -n new.img
 answer 1 'xfs: usage: word 1' "$xfs" mkfs.xfs -Z new.img
 
 # xfs_repair

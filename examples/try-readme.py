@@ -1,6 +1,6 @@
 #!/usr/bin/env python3
 """Runs the lines of README.md that call the program, in their order, in a folder of its own that it removes, and compares what each
-prints with what stands behind it there (`..` stands for anything). The lines that mount and unmount are run as root alone, at a
+prints with what stands behind it there (`..` stands for anything, ` / ` between lines). The lines that mount and unmount are run as root alone, at a
 folder of its own in place of /mnt. README is to have at most 2,000 words.
 
     examples/try-readme.py
@@ -29,7 +29,7 @@ def commands(text):
 
 def is_as_said(run, printed):
     """Whether a call printed what the page says, and ended as that does."""
-    said = (run.stdout + run.stderr).strip()
+    said = (run.stdout + run.stderr).strip().replace("\n", " / ")
     if not printed:
         return run.returncode == 0
     pattern = ".*".join(re.escape(part) for part in printed.split(".."))
