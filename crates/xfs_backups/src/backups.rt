@@ -20,12 +20,13 @@ use xfs_bank::BlockBank;
 use xfs_disk::{BLOCK_SIZE, Disk, Failed, NoMemory};
 use xfs_geom::superblock::SECTOR_SIZE;
 use xfs_geom::{Geometry, agrees};
+use xfs_shared::BlockList;
 use xfs_writing::Row;
 
 /// What is to be written so that every backup agrees with the primary superblock: blocks, and a row for each in ascending order.
 #[derive(Drop)]
 pub struct BackupPlan {
-    pub bank: BlockBank,
+    pub bank: BlockList,
     pub rows: Vec<Row>,
 }
 
@@ -59,10 +60,21 @@ pub fn plan_backups<D: Disk>(
         Err(Failed) => return Err(MendFault::ReadFault),
     }
     put_primary(&mut bank, primary);
-    match rows_of(alloc, places.as_slice()) {
-        Ok(rows) => Ok(BackupPlan { bank, rows }),
+    match join(alloc, &bank, places.as_slice()) {
+        Ok(plan) => Ok(plan),
         Err(NoMemory) => Err(MendFault::NoMemory),
     }
+}
+
+/// The plan that puts the blocks of a bank at these places.
+fn join(alloc: Global, bank: &BlockBank, places: &[u64]) -> Result<BackupPlan, NoMemory>
+    ensures bank { IfOk result (λ plan. plan.bank ≡ bank.now) }
+    ensures rows { IfOk result (λ plan. plan.rows.items ≡ rows_from 0 places.now) }
+{
+    let mut blocks = BlockList::make(alloc);
+    blocks.push_bank(bank)?;
+    let rows = rows_of(alloc, places)?;
+    Ok(BackupPlan { bank: blocks, rows })
 }
 
 /// The blocks at which groups begin whose backup does not agree with the primary superblock, in ascending order.

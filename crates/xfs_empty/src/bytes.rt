@@ -6,10 +6,10 @@ ghost use Rattle.xfs_empty.specs.Bytes.{AreFirstSlots, IsEmptyBytes, empty_place
 use crate::roots::{ROOT_INODE, first_slot};
 use crate::wanted::{CHUNK_BLOCKS, FIRST_CHUNK};
 use std::alloc::Global;
-use xfs_bank::BlockBank;
 use xfs_disk::{NoMemory, Stamp};
 use xfs_geom::Geometry;
 use xfs_render::{Bytes, SlotWanted};
+use xfs_shared::BlockList;
 use xfs_volume::Records;
 
 /// The slots of the first chunk.
@@ -26,12 +26,12 @@ pub fn empty_bytes(
     ensures { IfOk result (λ bytes. IsEmptyBytes g.now sector.now stamp.now bytes) }
 {
     let places = list_places(alloc, g)?;
-    let old = BlockBank::make(alloc, places.len())?;
+    let old = BlockList::zeros(alloc, places.len())?;
     Ok(Bytes {
         sector: *sector,
         places: Records::from_vec(places),
         old,
-        objects: BlockBank::make(alloc, 0)?,
+        objects: BlockList::make(alloc),
         slots: Records::from_vec(list_slots(alloc, g, stamp)?),
         cycle: Some(1),
         stamp: *stamp,

@@ -19,8 +19,7 @@ use crate::faults::RebuildFault;
 use crate::places::old_places;
 use std::alloc::Global;
 use std::sync::ledger::Ledger;
-use xfs_bank::BlockBank;
-use xfs_disk::{Disk, Failed, NoMemory, Stamp};
+use xfs_disk::{BLOCK_SIZE, Disk, Failed, NoMemory, Stamp};
 use xfs_geom::{Elected, Geometry};
 use xfs_heads::LogState;
 use xfs_journal::{JournalFault, read_lsns};
@@ -28,6 +27,7 @@ use xfs_render::{Bytes, SlotWanted};
 use xfs_request::{SlotSeen, due_cycle, kept_lsns};
 use xfs_runs::Steps;
 use xfs_salvage::Salvaged;
+use xfs_shared::BlockList;
 use xfs_volume::{BlockLsn, FileRec, Records};
 
 /// The bytes of a superblock.
@@ -103,10 +103,7 @@ pub fn gather_bytes<D: Disk>(
     if !can_change_all(g, places.as_slice(), &old, slots.as_slice()) {
         return Err(RebuildFault::NoMemory);
     }
-    let objects = match BlockBank::make(alloc, 0) {
-        Ok(objects) => objects,
-        Err(NoMemory) => return Err(RebuildFault::NoMemory),
-    };
+    let objects = BlockList::make(alloc);
     Ok(joined(&chosen.sector, places, old, objects, slots, cycle, stamp))
 }
 
@@ -114,8 +111,8 @@ pub fn gather_bytes<D: Disk>(
 fn joined(
     sector: &[u8; SECTOR_SIZE],
     places: Vec<u64>,
-    old: BlockBank,
-    objects: BlockBank,
+    old: BlockList,
+    objects: BlockList,
     slots: Records<SlotWanted>,
     cycle: Option<u32>,
     stamp: &Stamp,
@@ -176,7 +173,7 @@ fn read_blocks<D: Disk>(
     alloc: Global,
     disk: &mut D,
     places: &[u64],
-) -> Result<BlockBank, RebuildFault>
+) -> Result<BlockList, RebuildFault>
     requires inside { All (λ place. place < D.size disk.old) places.now }
     ensures old { IfOk result (λ bank. ForSome (D.holds disk.old) (λ image. bank ≡ blocks_at image places.now)) }
     ensures many { IfOk result (λ bank. length bank ≡ length places.now) }
@@ -184,12 +181,17 @@ fn read_blocks<D: Disk>(
     ensures cause { HasRebuildCause (D.faults disk.old) (D.faults disk.new) result }
     ensures disk { OnlyReads D.size D.holds D.write_faults D.writes D.tells_stops D.moment D.may_leave D.left_since disk.old disk.new }
 {
-    let mut bank = match BlockBank::make(alloc, places.len()) {
-        Ok(bank) => bank,
-        Err(NoMemory) => return Err(RebuildFault::NoMemory),
-    };
-    match bank.fill(disk, places) {
-        Ok(()) => Ok(bank),
-        Err(Failed) => Err(RebuildFault::ReadFault),
+    let mut bank = BlockList::make(alloc);
+    let mut block = [0; BLOCK_SIZE];
+    for place in places {
+        match disk.read(*place, &mut block) {
+            Ok(()) => {}
+            Err(Failed) => return Err(RebuildFault::ReadFault),
+        }
+        match bank.push(&block) {
+            Ok(()) => {}
+            Err(NoMemory) => return Err(RebuildFault::NoMemory),
+        }
     }
+    Ok(bank)
 }

@@ -12,15 +12,15 @@ ghost use Rattle.xfs_rebuild.specs.Refusals.{HasRebuildCause, IsReadRefused};
 
 use crate::faults::RebuildFault;
 use std::alloc::Global;
-use xfs_bank::BlockBank;
 use xfs_disk::{BLOCK_SIZE, Disk, Failed};
+use xfs_shared::BlockList;
 use xfs_writing::Row;
 
 /// The rows whose blocks the disk does not hold already, in their order. Each block is read once.
 pub(crate) fn left_to_write<D: Disk>(
     alloc: Global,
     disk: &mut D,
-    bank: &BlockBank,
+    bank: &BlockList,
     rows: &[Row],
 ) -> Result<Vec<Row>, RebuildFault>
     requires inside { All (λ (r : Row). r.at < D.size disk.old) rows.now }
@@ -47,7 +47,7 @@ pub(crate) fn left_to_write<D: Disk>(
 }
 
 /// Whether the disk has other bytes at the row's block.
-fn differs<D: Disk>(disk: &mut D, bank: &BlockBank, row: &Row) -> Result<bool, Failed>
+fn differs<D: Disk>(disk: &mut D, bank: &BlockList, row: &Row) -> Result<bool, Failed>
     requires inside { row.now.at < D.size disk.old }
     requires banked { row.now.index < length bank.now }
     ensures differs { IfOk result (λ other. ForSome (D.holds disk.old) (λ image. other ≡ differs bank.now image row.now)) }

@@ -18,7 +18,6 @@ use crate::seen::slots_seen;
 use std::alloc::Global;
 use std::sync::ledger::Ledger;
 use std::thread::Threads;
-use xfs_bank::BlockBank;
 use xfs_disk::{Disk, Gate, NoMemory, Stamp};
 use xfs_geom::Elected;
 use xfs_heads::LogState;
@@ -28,6 +27,7 @@ use xfs_request::{Request, SlotSeen, ask};
 use xfs_runs::Steps;
 use xfs_salvage::{Salvaged, salvage};
 use xfs_scan::Evidence;
+use xfs_shared::BlockList;
 use xfs_volume::{Blocks, Records};
 use xfs_writing::Row;
 
@@ -35,7 +35,7 @@ use xfs_writing::Row;
 #[derive(Drop)]
 pub struct Rebuilt {
     /// Their bytes, and those of blocks that are equal.
-    pub bank: BlockBank,
+    pub bank: BlockList,
     /// The blocks that nothing kept stands on, ascending.
     pub fresh: Records<Row>,
     /// Those that are written in place, ascending.

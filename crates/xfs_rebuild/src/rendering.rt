@@ -19,10 +19,10 @@ use crate::faults::RebuildFault;
 use crate::planning::Rebuilt;
 use std::alloc::Global;
 use std::thread::Threads;
-use xfs_bank::BlockBank;
 use xfs_disk::{Disk, Gate, NoMemory};
 use xfs_place::{PlaceFault, Placed, Wanted, place};
 use xfs_render::{Bytes, Plan, chunks_are_few, placed_is_ready, render};
+use xfs_shared::BlockList;
 use xfs_volume::Records;
 use xfs_writing::Row;
 
@@ -130,7 +130,7 @@ fn leave_equal<D: Disk>(
 }
 
 /// What is to be written, from its parts.
-fn joined(bank: BlockBank, fresh: Vec<Row>, in_place: Vec<Row>, kept: u64, cleared: u64) -> Rebuilt
+fn joined(bank: BlockList, fresh: Vec<Row>, in_place: Vec<Row>, kept: u64, cleared: u64) -> Rebuilt
     ensures { result ≡ record { bank = bank; fresh = fresh.items; in_place = in_place.items; kept = kept; cleared = cleared } }
 {
     Rebuilt {

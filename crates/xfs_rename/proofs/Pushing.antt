@@ -1,8 +1,7 @@
 -- Lists that grow at their end.
-use Rattle.std.proofs.Common.{◌≡◌, ℕ, suc, ◌+◌, ◌-◌, ◌<◌, ◌≤◌, List, [], ◌∷◌, ◌++◌, map, drop, length, get_or, Some, sym, ap, ◌∙◌, arith}
-use Rattle.std.specs.List.{flat_map, range_with_len, slice_get}
+use Rattle.std.proofs.Common.{◌≡◌, ℕ, suc, ◌+◌, ◌-◌, ◌<◌, ◌≤◌, List, [], ◌∷◌, ◌++◌, map, drop, length, get_or, sym, ap, ◌∙◌, arith}
+use Rattle.std.specs.List.{flat_map, range_with_len}
 use Rattle.std.proofs.lemmas.List.{append_assoc, append-nil, drop_all, drop_more}
-use Rattle.std.proofs.lemmas.Option.{get_or_from_slice_get, slice_get_within}
 use Rattle.xfs_geom.specs.Volumes.{Volume}
 use Rattle.xfs_geom.specs.declared.records.Run.{Run}
 use Rattle.xfs_volume.specs.declared.files.FileRec.{FileRec}
@@ -25,13 +24,6 @@ number_more item first i n old new all low added held =
 -- what is left of a list from the place of an item on
 from_place : {A : Type 0} (xs : List A) (i : ℕ) (x : A) → i < length xs → get_or xs i x ≡ x → drop i xs ≡ x ∷ drop (i + 1) xs
 from_place xs i x low is = drop_more xs i x low ∙ ap (λ y. y ∷ drop (i + 1) xs) is
-
--- blocks, of which one more was added
-pub block_more : (blocks : List (List ℕ)) (i : ℕ) (x : List ℕ) (old new all : List (List ℕ)) → slice_get blocks i ≡ Some x → new ≡ old ++ x ∷ [] → old ++ drop i blocks ≡ all → new ++ drop (i + 1) blocks ≡ all
-block_more blocks i x old new all is added held =
-    ap (λ xs. xs ++ drop (i + 1) blocks) added
-    ∙ append_assoc old (x ∷ []) (drop (i + 1) blocks)
-    ∙ ap (λ xs. old ++ xs) (sym (from_place blocks i x (slice_get_within blocks i x is) (get_or_from_slice_get blocks i x x is))) ∙ held
 
 -- forks, of which one more was added
 pub fork_more : (v : Volume) (files : List FileRec) (built : List BuiltDirectory) (i : ℕ) (b : BuiltDirectory) (t : TakenFork) (old new all : List DirectoryFork) (cuts cuts' : List ℕ) (runs runs' : List Run)

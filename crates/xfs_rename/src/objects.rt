@@ -7,12 +7,12 @@ ghost use Rattle.xfs_names.specs.declared.building.ForkRoom.{ForkRoom};
 ghost use Rattle.xfs_built.specs.Asks.{asked_run, asks_for, blocks_of_built, object_of, objects_of, stands_in_blocks};
 
 use std::alloc::Global;
-use xfs_bank::BlockBank;
 use xfs_dirbuild::DirImage;
 use xfs_disk::NoMemory;
 use xfs_names::{BuiltDirectory, ForkRoom};
 use xfs_naming::records_by_number;
 use xfs_place::{Object, ObjectKind, RunAsk};
+use xfs_shared::BlockList;
 use xfs_volume::Records;
 
 /// The file block from which on the index of a directory stands, and that of its free blocks.
@@ -111,22 +111,12 @@ fn fork_room(rooms: &[ForkRoom], dir: u64) -> u16
 pub(crate) fn blocks_of_built(
     alloc: Global,
     built: &[BuiltDirectory],
-) -> Result<BlockBank, NoMemory>
+) -> Result<BlockList, NoMemory>
     ensures { IfOk result (λ bank. bank ≡ blocks_of_built built.now) }
 {
-    let mut bank = BlockBank::make(alloc, 0)?;
+    let mut bank = BlockList::make(alloc);
     for directory in built {
-        push_blocks(&directory.image.blocks, &mut bank)?;
+        bank.push_bank(&directory.image.blocks)?;
     }
     Ok(bank)
-}
-
-/// Adds the blocks of a bank to another.
-fn push_blocks(blocks: &BlockBank, bank: &mut BlockBank) -> Result<(), NoMemory>
-    ensures { OnOk result (bank.new ≡ bank.old ++ blocks.now) }
-{
-    for i in 0..blocks.len() {
-        bank.push(blocks.view(i))?;
-    }
-    Ok(())
 }

@@ -30,7 +30,6 @@ use crate::wanting::{SettledAsk, ask_settled};
 use std::alloc::Global;
 use std::sync::ledger::Ledger;
 use std::thread::Threads;
-use xfs_bank::BlockBank;
 use xfs_disk::{Disk, Gate, NoMemory, Stamp};
 use xfs_geom::Elected;
 use xfs_place::{PlaceFault, Placed, place};
@@ -38,6 +37,7 @@ use xfs_rebuild::{NamesDue, RebuildFault, Rebuilt, gather_bytes, kept_numbers, p
 use xfs_render::{Bytes, SlotBase, SlotWanted, chunks_are_few};
 use xfs_runs::Steps;
 use xfs_salvage::Salvaged;
+use xfs_shared::BlockList;
 use xfs_volume::Records;
 
 /// What is to be written of a volume in which names change.
@@ -195,7 +195,7 @@ fn settled_bytes<D: Disk, L: Ledger>(
 }
 
 /// The bytes, with the blocks of objects.
-fn with_objects(bytes: Bytes, objects: BlockBank) -> Bytes
+fn with_objects(bytes: Bytes, objects: BlockList) -> Bytes
     ensures { result ≡ record bytes { objects = objects } }
 {
     Bytes { objects, ..bytes }

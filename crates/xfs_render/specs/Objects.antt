@@ -16,7 +16,7 @@ use Rattle.xfs_place.specs.declared.wanted.ObjectKind.{ObjectKind}
 use Rattle.xfs_place.specs.declared.wanted.ObjectKind.TheVariants as kinds
 use Rattle.xfs_place.specs.declared.wanted.RunAsk.{RunAsk}
 use Rattle.xfs_place.specs.declared.wanted.Wanted.{Wanted}
-use Rattle.xfs_render.specs.Drafts.{Adds, HoldsDraft}
+use Rattle.xfs_render.specs.Drafts.{Adds, AddsBlock, HoldsDraft}
 use Rattle.xfs_render.specs.declared.draft.Draft.{Draft}
 use Rattle.xfs_render.specs.declared.object_blocks.ObjectAsk.{ObjectAsk}
 use Rattle.xfs_render.specs.declared.object_blocks.ObjectBlock.{ObjectBlock}
@@ -88,6 +88,12 @@ IsObjectBlock v at built block = IsKindBlock at.kind v at built block
 pub record HasObjects (v : Volume) (blocks : List ObjectBlock) (built : Image) (n : ℕ) (image : Image) : Type 0 where
   pub each : (j : ℕ) (d : ObjectBlock) → j < n
       → IsObjectBlock v (slice_index_or blocks j d) (slice_index_or built j []) (bytes_of_block image (slice_index_or blocks j d).place)
+
+-- a block of an object was put down, made of a block that was built for it
+pub record AddsObject (v : Volume) (at : ObjectBlock) (built : List ℕ) (old new : Draft) : Type 0 where
+  pub block : List ℕ
+  pub due : IsObjectBlock v at built block
+  pub adds : AddsBlock old new at.place block
 
 -- the first n of these blocks were put down
 pub record AddsObjects (v : Volume) (blocks : List ObjectBlock) (built : Image) (n : ℕ) (old new : Draft) : Type 0 where

@@ -1,8 +1,8 @@
 //! What the blocks of a volume are made of.
 
 use crate::wanted_slots::SlotWanted;
-use xfs_bank::BlockBank;
 use xfs_disk::Stamp;
+use xfs_shared::BlockList;
 use xfs_volume::{Blocks, Records};
 
 /// What the blocks of a volume are made of, besides what is placed in it.
@@ -13,9 +13,9 @@ pub struct Bytes {
     /// The numbers of the first block of each group and of the blocks of all clusters.
     pub places: Blocks,
     /// Their bytes, in the same order.
-    pub old: BlockBank,
+    pub old: BlockList,
     /// The blocks of the runs of all objects that are not unwritten, in order.
-    pub objects: BlockBank,
+    pub objects: BlockList,
     /// What is wanted of slots, by the numbers of their inodes.
     pub slots: Records<SlotWanted>,
     /// The cycle of a log that is to be blank; the log stays where there is none.

@@ -1,11 +1,11 @@
 //! Blocks that are put down one after the other, each with its place, before they are put in order.
 
-ghost use Rattle.std.specs.Prelude.{◌≡◌, ◌≤◌, ◌*◌, [], length, IfOk, OnOk};
+ghost use Rattle.std.specs.Prelude.{◌≡◌, ◌≤◌, ◌<◌, ◌*◌, [], length, slice_index_or, IfOk, OnOk};
 ghost use Rattle.xfs_render.specs.Drafts.{AddsAgain, AddsBlock, AddsPart, IsDraft};
 
 use std::alloc::Global;
-use xfs_bank::BlockBank;
 use xfs_disk::{BLOCK_SIZE, NoMemory};
+use xfs_shared::BlockList;
 use xfs_word::part;
 use xfs_writing::Row;
 
@@ -14,7 +14,7 @@ use xfs_writing::Row;
 pub struct Draft {
     /// Each place, with the index of its bytes.
     pub rows: Vec<Row>,
-    pub bank: BlockBank,
+    pub bank: BlockList,
 }
 
 impl Draft {
@@ -26,7 +26,7 @@ impl Draft {
     {
         Ok(Draft {
             rows: Vec::new(alloc),
-            bank: BlockBank::make(alloc, 0)?,
+            bank: BlockList::make(alloc),
         })
     }
 
@@ -50,6 +50,18 @@ impl Draft {
     {
         let index = self.bank.len();
         self.bank.push(block)?;
+        self.rows.push(Row { at: place, index })?;
+        Ok(())
+    }
+
+    /// Puts block `i` of a list behind the others, which takes no bytes.
+    pub fn add_shared(&mut self, place: u64, list: &BlockList, i: usize) -> Result<(), NoMemory>
+        requires draft { IsDraft self.old }
+        requires inside { i < length list.now }
+        ensures { OnOk result (AddsBlock self.old self.new place (slice_index_or list.now i [])) }
+    {
+        let index = self.bank.len();
+        self.bank.push_shared(list, i)?;
         self.rows.push(Row { at: place, index })?;
         Ok(())
     }

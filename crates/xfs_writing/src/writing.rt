@@ -11,14 +11,14 @@ ghost use Rattle.xfs_writing.specs.Writing.{IsPartly, written, writes_of_rows};
 ghost use Rattle.xfs_writing.specs.declared.rows.Row.{Row};
 
 use crate::rows::Row;
-use xfs_bank::BlockBank;
 use xfs_disk::{Disk, Failed};
+use xfs_shared::BlockList;
 
 /// Writes blocks of a bank: a sync, those of the first rows in order, a sync, those of the last rows in order, and a sync. After
 /// an `Err` so many blocks were written.
 pub fn write_parts<D: Disk>(
     disk: &mut D,
-    bank: &BlockBank,
+    bank: &BlockList,
     first: &[Row],
     last: &[Row],
 ) -> Result<(), u64>
@@ -62,7 +62,7 @@ pub fn write_parts<D: Disk>(
 }
 
 /// A sync, and then the blocks of rows, in order. After an `Err` so many were written.
-fn write_part<D: Disk>(disk: &mut D, bank: &BlockBank, rows: &[Row]) -> Result<(), u64>
+fn write_part<D: Disk>(disk: &mut D, bank: &BlockList, rows: &[Row]) -> Result<(), u64>
     requires places { All (λ (r : Row). r.at < D.size disk.old) rows.now }
     requires inside { All (λ (r : Row). r.index < length bank.now) rows.now }
     ensures done { OnOk result (ForSome (D.holds disk.old) (λ image. D.holds disk.new ≡ Some (written (writes_of_rows bank.now rows.now) image))) }
@@ -86,7 +86,7 @@ fn write_part<D: Disk>(disk: &mut D, bank: &BlockBank, rows: &[Row]) -> Result<(
 }
 
 /// Writes the blocks of rows, in order. After an `Err` so many were written.
-fn write_each<D: Disk>(disk: &mut D, bank: &BlockBank, rows: &[Row]) -> Result<(), u64>
+fn write_each<D: Disk>(disk: &mut D, bank: &BlockList, rows: &[Row]) -> Result<(), u64>
     requires places { All (λ (r : Row). r.at < D.size disk.old) rows.now }
     requires inside { All (λ (r : Row). r.index < length bank.now) rows.now }
     ensures done { OnOk result (ForSome (D.holds disk.old) (λ image. D.holds disk.new ≡ Some (written (writes_of_rows bank.now rows.now) image))) }

@@ -8,37 +8,38 @@ use Rattle.xfs_backups.proofs.Rows.{filled_all, filled_count, rows_steps}
 use Rattle.xfs_backups.specs.Backups.{with_super}
 use Rattle.xfs_backups.proofs.backups.plan_backups.Goals as goal
 
-pub returns-in-Ok-rows_of-clause-plan : goal.returns-in-Ok-rows_of-clause-plan
-returns-in-Ok-rows_of-clause-plan g c = λ image told.
+pub returns-in-Ok-join-clause-plan : goal.returns-in-Ok-join-clause-plan
+returns-in-Ok-join-clause-plan g c = λ image told.
     let primary = c.args.primary.now in
     let places = c.in-Ok.places.items in
     let count : c.len.result ≡ length places = omega (arith, c.len.ensures, c.in-Ok.places.ok.0) in
     let blocks = filled_all places c.as_slice.result.now c.in-Ok-make.bank c.fill.new.self image c.len.result _ c.as_slice.ensures.value count c.in-Ok-make.ensures
     c.in-Ok-fill.ensures.len (c.in-Ok-fill.ensures.filled.first image (c.in-Ok.ensures.disk.same_contents ∙ told)) in
-    let rows : c.in-Ok-rows_of.rows.items ≡ rows_from 0 places = c.in-Ok-rows_of.ensures ∙ ap (rows_from 0) c.as_slice-2.ensures.value in
-    ap (writes_of_rows c.put_primary.new.bank) rows
+    let rows : c.in-Ok-join.plan.rows.items ≡ rows_from 0 places = c.in-Ok-join.ensures.rows ∙ ap (rows_from 0) c.as_slice-2.ensures.value in
+    (λ k. writes_of_rows (c.in-Ok-join.ensures.bank k) (rows k))
     ∙ rows_steps primary image c.put_primary.new.bank places (c.args.geometry.now.agcount - 1) (c.in-Ok.ensures.places image told)
     (c.put_primary.ensures ∙ ap (map (with_super primary)) blocks)
 
-pub returns-in-Ok-rows_of-clause-places : goal.returns-in-Ok-rows_of-clause-places
-returns-in-Ok-rows_of-clause-places g c =
+pub returns-in-Ok-join-clause-places : goal.returns-in-Ok-join-clause-places
+returns-in-Ok-join-clause-places g c =
     let places = c.in-Ok.places.items in
-    let rows : c.in-Ok-rows_of.rows.items ≡ rows_from 0 places = c.in-Ok-rows_of.ensures ∙ ap (rows_from 0) c.as_slice-2.ensures.value in
+    let rows : c.in-Ok-join.plan.rows.items ≡ rows_from 0 places = c.in-Ok-join.ensures.rows ∙ ap (rows_from 0) c.as_slice-2.ensures.value in
     subst (λ (rs : List Row). All (λ (r : Row). r.at < g.D.Disk.size c.args.disk.now) rs) (sym rows)
     (rows_at (λ (p : ℕ). p < g.D.Disk.size c.args.disk.now) places 0 c.in-Ok.ensures.inside)
 
-pub returns-in-Ok-rows_of-clause-inside : goal.returns-in-Ok-rows_of-clause-inside
-returns-in-Ok-rows_of-clause-inside g c =
+pub returns-in-Ok-join-clause-inside : goal.returns-in-Ok-join-clause-inside
+returns-in-Ok-join-clause-inside g c =
     let places = c.in-Ok.places.items in
     let count : c.len.result ≡ length places = omega (arith, c.len.ensures, c.in-Ok.places.ok.0) in
-    let rows : c.in-Ok-rows_of.rows.items ≡ rows_from 0 places = c.in-Ok-rows_of.ensures ∙ ap (rows_from 0) c.as_slice-2.ensures.value in
+    let rows : c.in-Ok-join.plan.rows.items ≡ rows_from 0 places = c.in-Ok-join.ensures.rows ∙ ap (rows_from 0) c.as_slice-2.ensures.value in
     let few = filled_count places c.in-Ok-make.bank c.fill.new.self c.put_primary.new.bank (with_super c.args.primary.now) c.len.result _ count c.in-Ok-make.ensures
     c.in-Ok-fill.ensures.len c.put_primary.ensures in
-    subst (λ (rs : List Row). All (λ (r : Row). r.index < length c.put_primary.new.bank) rs) (sym rows)
-    (rows_below places 0 (length c.put_primary.new.bank) (omega (arith, few)))
+    let count : length c.put_primary.new.bank ≡ length c.in-Ok-join.plan.bank = ap length (sym c.in-Ok-join.ensures.bank) in
+    subst (λ (rs : List Row). All (λ (r : Row). r.index < length c.in-Ok-join.plan.bank) rs) (sym rows)
+    (rows_below places 0 (length c.in-Ok-join.plan.bank) (omega (arith, few, count)))
 
-pub returns-in-Ok-rows_of-clause-disk : goal.returns-in-Ok-rows_of-clause-disk
-returns-in-Ok-rows_of-clause-disk g c =
+pub returns-in-Ok-join-clause-disk : goal.returns-in-Ok-join-clause-disk
+returns-in-Ok-join-clause-disk g c =
     let D = g.D.Disk in
     reads_on D.size D.holds D.write_faults D.writes D.tells_stops D.moment D.may_leave D.left_since c.args.disk.now c.list_places.new.disk c.fill.new.disk
     c.in-Ok.ensures.disk c.in-Ok-fill.ensures.disk
