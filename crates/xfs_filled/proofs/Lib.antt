@@ -13,6 +13,7 @@ pub mod Sized
 pub mod Made
 pub mod Asking
 pub mod Blocks
+pub mod Padded
 pub mod Writable
 pub mod Serving
 pub mod Few

@@ -9,5 +9,6 @@ pub mod Forks
 pub mod Spans
 pub mod Slots
 pub mod Contents
+pub mod Padding
 pub mod Wanting
 pub mod Planning

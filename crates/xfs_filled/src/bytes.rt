@@ -15,10 +15,10 @@ use crate::contents::list_blocks;
 use crate::site::Site;
 use crate::slots::list_slots;
 use std::alloc::Global;
-use xfs_bank::BlockBank;
 use xfs_disk::{NoMemory, Stamp};
 use xfs_geom::{Geometry, Run};
 use xfs_render::Bytes;
+use xfs_shared::BlockList;
 use xfs_volume::Records;
 
 /// What the blocks of a volume with these files are made of, with this superblock, where its objects have these runs: blocks
@@ -37,7 +37,7 @@ pub fn make_bytes(
     ensures { IfOk result (λ bytes. bytes ≡ bytes_with site.now.geometry.now sector.now stamp.now site.now.starts.now site.now.nodes.now site.now.contents.now runs.now) }
 {
     let places = list_places(alloc, site.geometry, site.starts)?;
-    let old = BlockBank::make(alloc, places.len())?;
+    let old = BlockList::zeros(alloc, places.len())?;
     Ok(Bytes {
         sector: *sector,
         places: Records::from_vec(places),

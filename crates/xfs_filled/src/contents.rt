@@ -1,19 +1,18 @@
 //! The blocks of objects, before they get places and seals.
 
-ghost use Rattle.std.specs.Prelude.{◌≡◌, ◌<◌, ◌≤◌, ◌++◌, ◌*◌, [], ◌∷◌, nat_le, if◌then◌else◌, length, IfOk, OnOk};
+ghost use Rattle.std.specs.Prelude.{◌≡◌, ◌<◌, ◌≤◌, ◌++◌, [], ◌∷◌, nat_le, if◌then◌else◌, length, IfOk, OnOk};
 ghost use Rattle.std.specs.Option.{option_copied};
 ghost use Rattle.xfs_geom.specs.Volumes.{volume_of};
 ghost use Rattle.xfs_word.specs.Field.{zeros};
-ghost use Rattle.xfs_filled.specs.Contents.{all_blocks, blocks_of_place, blocks_in, content_block, content_blocks, padded, block_of_target, target_head};
+ghost use Rattle.xfs_filled.specs.Contents.{all_blocks, blocks_of_place, blocks_in, padded, block_of_target, target_head};
 ghost use Rattle.xfs_filled.specs.Sites.{IsSite};
 
 use crate::directories::{FORK_ROOM, MadeDirectory};
-use crate::objects::blocks_for;
 use crate::site::{Site, content_at, directory_at};
 use std::alloc::Global;
-use xfs_bank::BlockBank;
 use xfs_disk::{BLOCK_SIZE, NoMemory};
 use xfs_proto::ProtoKind;
+use xfs_shared::BlockList;
 
 /// The magic number of the block of a symbolic link (chapter "Symbolic Links").
 const LINK_MAGIC: u32 = 0x5853_4c4d;
@@ -22,11 +21,11 @@ const LINK_MAGIC: u32 = 0x5853_4c4d;
 const SEAL_SIZE: usize = 44;
 
 /// The blocks of all objects: those of directories, and behind them those of the other files.
-pub fn list_blocks(alloc: Global, site: &Site<'_>) -> Result<BlockBank, NoMemory>
+pub fn list_blocks(alloc: Global, site: &Site<'_>) -> Result<BlockList, NoMemory>
     requires site { IsSite site.now.geometry.now site.now.starts.now site.now.nodes.now site.now.contents.now site.now.directories.now site.now.order.now }
     ensures { IfOk result (λ bank. bank ≡ all_blocks (volume_of site.now.geometry.now) site.now.starts.now site.now.nodes.now site.now.contents.now) }
 {
-    let mut bank = BlockBank::make(alloc, 0)?;
+    let mut bank = BlockList::make(alloc);
     for k in site.order {
         push_file(alloc, site, *k, &mut bank)?;
     }
@@ -34,13 +33,13 @@ pub fn list_blocks(alloc: Global, site: &Site<'_>) -> Result<BlockBank, NoMemory
 }
 
 /// Adds the blocks of the file at a place.
-fn push_file(alloc: Global, site: &Site<'_>, k: usize, bank: &mut BlockBank) -> Result<(), NoMemory>
+fn push_file(alloc: Global, site: &Site<'_>, k: usize, bank: &mut BlockList) -> Result<(), NoMemory>
     requires site { IsSite site.now.geometry.now site.now.starts.now site.now.nodes.now site.now.contents.now site.now.directories.now site.now.order.now }
     requires inside { k < length site.now.nodes.now }
     ensures { OnOk result (bank.new ≡ bank.old ++ blocks_of_place (volume_of site.now.geometry.now) site.now.starts.now site.now.nodes.now site.now.contents.now k) }
 {
     match &site.nodes[k].kind {
-        ProtoKind::Regular { .. } => push_data(alloc, content_at(site, k), bank),
+        ProtoKind::Regular { .. } => content_at(site, k).push_blocks(bank),
         ProtoKind::Directory => push_directory(directory_at(site, k), bank),
         ProtoKind::Link(target) => push_target(alloc, target.bytes(), bank),
         ProtoKind::Block { .. } | ProtoKind::Character { .. } | ProtoKind::Pipe => Ok(()),
@@ -48,37 +47,13 @@ fn push_file(alloc: Global, site: &Site<'_>, k: usize, bank: &mut BlockBank) -> 
 }
 
 /// Adds the blocks of a directory.
-fn push_directory(directory: Option<&MadeDirectory>, bank: &mut BlockBank) -> Result<(), NoMemory>
+fn push_directory(directory: Option<&MadeDirectory>, bank: &mut BlockList) -> Result<(), NoMemory>
     ensures { OnOk result (bank.new ≡ bank.old ++ blocks_in (option_copied directory.entry)) }
 {
     let Some(made) = directory else {
         return Ok(());
     };
-    for i in 0..made.blocks.len() {
-        bank.push(made.blocks.view(i))?;
-    }
-    Ok(())
-}
-
-/// Adds the blocks of some bytes.
-fn push_data(alloc: Global, bytes: &[u8], bank: &mut BlockBank) -> Result<(), NoMemory>
-    ensures { OnOk result (bank.new ≡ bank.old ++ content_blocks bytes.now) }
-{
-    for i in 0..blocks_for(bytes.len()) {
-        let block = data_block(alloc, bytes, i as usize)?;
-        bank.push(&block)?;
-    }
-    Ok(())
-}
-
-/// A block of some bytes, with zeros behind them.
-fn data_block(alloc: Global, bytes: &[u8], i: usize) -> Result<Vec<u8>, NoMemory>
-    requires inside { 4096 * i < length bytes.now }
-    ensures { IfOk result (λ block. block.items ≡ content_block bytes.now i) }
-{
-    let start = BLOCK_SIZE * i;
-    let end = bytes.len().min(start + BLOCK_SIZE);
-    padded(alloc, &bytes[start..end])
+    bank.push_bank(&made.blocks)
 }
 
 /// A block that begins with a part, and is zero behind it.
@@ -101,7 +76,7 @@ fn list_zeros(alloc: Global, count: usize) -> Result<Vec<u8>, NoMemory>
 }
 
 /// Adds the block of a target that has one.
-fn push_target(alloc: Global, target: &[u8], bank: &mut BlockBank) -> Result<(), NoMemory>
+fn push_target(alloc: Global, target: &[u8], bank: &mut BlockList) -> Result<(), NoMemory>
     requires { length target.now ≤ 1024 }
     ensures { OnOk result (bank.new ≡ bank.old ++ (if nat_le (length target.now) 336 then [] else block_of_target target.now ∷ [])) }
 {

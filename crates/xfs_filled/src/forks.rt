@@ -11,6 +11,7 @@ ghost use Rattle.xfs_filled.specs.Directories.{IsSoundWhere};
 ghost use Rattle.xfs_filled.specs.FileTrees.{CanHold};
 ghost use Rattle.xfs_filled.specs.Forks.{HasOffset, device_bytes, device_fork, directory_fork, extent_fork, extent_of_piece, extents_of_run, fork_of_kind, local_fork, target_fork};
 
+use crate::content::Content;
 use crate::directories::{FORK_ROOM, MadeDirectory};
 use std::alloc::Global;
 use xfs_disk::{BLOCK_SIZE, NoMemory, Word};
@@ -78,7 +79,7 @@ pub fn make_fork(
     alloc: Global,
     kind: &ProtoKind,
     directory: Option<&MadeDirectory>,
-    content: &[u8],
+    content: &Content,
     extents: &[Extent],
 ) -> Result<ForkWanted, NoMemory>
     requires can { CanHold kind.now }

@@ -7,13 +7,14 @@
 //!
 //! ```text
 //! let proto = read_proto(alloc, &text)?;
-//! let contents = read_contents(alloc, library, &proto)?; // of each file its bytes, in the order of the files
+//! contents.push(Content::make(alloc, bytes)?)?; // of each file its bytes, in the order of the files; those of two may be shared
 //! let plan = plan_filled(rt, alloc, &g, &sector, stamp, proto.nodes.as_slice(), &contents)?;
 //! ```
 #![tactic(auto)]
 
 mod bytes;
 mod chunks;
+mod content;
 mod contents;
 mod directories;
 mod entries;
@@ -27,5 +28,6 @@ mod slots;
 mod spans;
 mod wanting;
 
+pub use content::Content;
 pub use laws::protofiles_are_files;
 pub use planning::plan_filled;

@@ -17,13 +17,14 @@ ghost use Rattle.xfs_filled.specs.Wanting.{filled_wanted};
 
 use crate::bytes::make_bytes;
 use crate::chunks::place_chunks;
+use crate::content::Content;
 use crate::directories::list_directories;
 use crate::site::{Site, list_order};
 use crate::wanting::make_wanted;
 use std::alloc::Global;
 use std::marker::Sync;
 use std::thread::Threads;
-use xfs_disk::{NoGate, Stamp, Word};
+use xfs_disk::{NoGate, Stamp};
 use xfs_geom::Geometry;
 use xfs_place::{PlaceFault, place};
 use xfs_proto::ProtoNode;
@@ -46,7 +47,7 @@ pub fn plan_filled<R: Threads + Sync>(
     sector: &[u8; 512],
     stamp: &Stamp,
     nodes: &[ProtoNode],
-    contents: &[Word],
+    contents: &[Content],
 ) -> Result<Plan, PlaceFault>
     requires accepted { IsAcceptedSector sector.now }
     requires states { stated_volume sector.now ≡ volume_of g.now }

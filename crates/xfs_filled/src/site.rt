@@ -9,10 +9,11 @@ ghost use Rattle.xfs_filled.specs.Numbers.{number_of};
 ghost use Rattle.xfs_filled.specs.Objects.{content_at};
 ghost use Rattle.xfs_filled.specs.Sites.{IsSite};
 
+use crate::content::Content;
 use crate::directories::{MadeDirectory, is_directory_kind};
 use crate::numbers::number_of;
 use std::alloc::Global;
-use xfs_disk::{NoMemory, Word};
+use xfs_disk::NoMemory;
 use xfs_geom::Geometry;
 use xfs_proto::{ProtoKind, ProtoNode};
 
@@ -24,7 +25,7 @@ pub struct Site<'a> {
     pub starts: &'a [u64],
     pub nodes: &'a [ProtoNode],
     /// Of each file its bytes.
-    pub contents: &'a [Word],
+    pub contents: &'a [Content],
     /// Of each file what is built of it where it is a directory.
     pub directories: &'a [Option<MadeDirectory>],
     /// The places of all files, in the order in which they get blocks.
@@ -42,12 +43,12 @@ pub fn directory_at<'a>(site: &Site<'a>, k: usize) -> Option<&'a MadeDirectory>
 }
 
 /// The bytes of the file at a place.
-pub fn content_at<'a>(site: &Site<'a>, k: usize) -> &'a [u8]
+pub fn content_at<'a>(site: &Site<'a>, k: usize) -> &'a Content
     requires site { IsSite site.now.geometry.now site.now.starts.now site.now.nodes.now site.now.contents.now site.now.directories.now site.now.order.now }
     requires inside { k < length site.now.nodes.now }
     ensures { result.now ≡ content_at site.now.contents.now k }
 {
-    site.contents[k].bytes()
+    &site.contents[k]
 }
 
 /// The number of the file at a place.

@@ -46,7 +46,7 @@ pub fn list_slots(
         ≡ all_slots (volume_of site.now.geometry.now) stamp.now site.now.starts.now site.now.nodes.now site.now.contents.now runs.now) }
 {
     let spans = list_spans(alloc, site, runs)?;
-    let mut slots = Vec::new(alloc);
+    let mut slots = Vec::with_capacity(alloc, CHUNK_INODES * site.starts.len())?;
     for j in 0..CHUNK_INODES * site.starts.len() {
         slots.push(slot_at(alloc, site, stamp, runs, &spans, j)?)?;
     }

@@ -8,6 +8,7 @@ use crate::spots::{FILES_OF_DIRECTORY, Spot, spot_of};
 use itoa::Buffer;
 use std::alloc::Global;
 use xfs_disk::{NoMemory, Word};
+use xfs_filled::Content;
 use xfs_proto::{ProtoKind, ProtoNode};
 use xfs_volume::Records;
 
@@ -17,7 +18,7 @@ pub struct Generated {
     /// One for each file, depth first: the root, then each directory before its files.
     pub nodes: Records<ProtoNode>,
     /// Of each file its bytes; none of a directory.
-    pub contents: Records<Word>,
+    pub contents: Records<Content>,
 }
 
 /// The mode of a directory, and of a file.
@@ -66,7 +67,7 @@ fn generate_nodes(alloc: Global, count: u64) -> Result<Records<ProtoNode>, NoMem
 }
 
 /// The bytes of the files at so many places, from the root on.
-fn generate_contents(alloc: Global, count: u64) -> Result<Records<Word>, NoMemory>
+fn generate_contents(alloc: Global, count: u64) -> Result<Records<Content>, NoMemory>
     requires few { count < 2 ^ 40 }
     ensures { IfOk result (λ contents. contents ≡ map generated_content (range_with_len 0 count)) }
 {
@@ -148,19 +149,19 @@ fn numbered(alloc: Global, first: &[u8], number: u64) -> Result<Word, NoMemory>
 }
 
 /// The bytes of what stands there.
-fn content_of(alloc: Global, spot: Spot) -> Result<Word, NoMemory>
+fn content_of(alloc: Global, spot: Spot) -> Result<Content, NoMemory>
     requires few { IsFew spot }
     ensures { IfOk result (λ content. content ≡ content_of spot) }
 {
     match spot {
         Spot::File { number, .. } => bytes_of_file(alloc, number),
-        _ => Ok(Word::from_vec(Vec::new(alloc))),
+        _ => Content::make(alloc, Vec::new(alloc)),
     }
 }
 
 /// The bytes of the file of this number.
 #[tactic(auto, unfolding(crate::specs::Files::bytes_of_file))]
-fn bytes_of_file(alloc: Global, number: u64) -> Result<Word, NoMemory>
+fn bytes_of_file(alloc: Global, number: u64) -> Result<Content, NoMemory>
     requires few { number < 2 ^ 48 }
     ensures { IfOk result (λ bytes. bytes ≡ bytes_of_file number) }
 {
@@ -168,5 +169,5 @@ fn bytes_of_file(alloc: Global, number: u64) -> Result<Word, NoMemory>
     for place in 0..number * 37 % 5000 {
         bytes.push(((number + place) % 251) as u8)?;
     }
-    Ok(Word::from_vec(bytes))
+    Content::make(alloc, bytes)
 }

@@ -4,6 +4,7 @@ pub mod Unwritten
 pub mod Failing
 pub mod Asking
 pub mod Contents
+pub mod Shared
 pub mod Refusing
 pub mod Held
 pub mod FilledOnce

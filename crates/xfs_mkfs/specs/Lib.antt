@@ -1,6 +1,7 @@
 pub mod Order
 pub mod Putting
 pub mod FilesAsked
+pub mod Sharing
 pub mod Due
 pub mod Outcome
 pub mod Counts

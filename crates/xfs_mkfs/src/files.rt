@@ -1,13 +1,16 @@
 //! The files of a new volume: a library has the protofile that says them, and their bytes; or they are generated.
 
-ghost use Rattle.std.specs.Prelude.{◌≡◌, ◌≤◌, ℕ, length, Ok, Some, IfErr, IfOk};
+ghost use Rattle.std.specs.Prelude.{◌≡◌, ◌<◌, ◌≤◌, ℕ, length, Ok, Some, IfErr, IfOk};
 ghost use Rattle.std.specs.Option.{ForSome};
+ghost use Rattle.xfs_filled.specs.FileTrees.{node_at};
+ghost use Rattle.xfs_mkfs.specs.Sharing.{AreContents};
 ghost use Rattle.xfs_mkfs.specs.FilesAsked.{AreGenerated, HasFilesCause, IsAsked, IsByProto, IsContentAnswer, IsContentsAnswer, IsFilesAnswer, IsProtoAnswer, IsReadByProto, content_in, contents_in, library_outcome, proto_outcome};
 
 use crate::outcome::MakeOutcome;
+use crate::sharing::{content_before, list_firsts};
 use std::alloc::Global;
 use xfs_disk::{Library, LibraryFault, NoMemory, Word};
-use xfs_filled::protofiles_are_files;
+use xfs_filled::{Content, protofiles_are_files};
 use xfs_generator::{generate, generated_files_are_files};
 use xfs_options::MakeOptions;
 use xfs_proto::{ProtoFault, ProtoKind, ProtoNode, read_proto};
@@ -22,7 +25,7 @@ pub enum FilesAsked {
     Listed {
         nodes: Records<ProtoNode>,
         /// Of each file its bytes; none of one that is not regular.
-        contents: Records<Word>,
+        contents: Records<Content>,
     },
 }
 
@@ -110,29 +113,59 @@ fn read_listed<L: Library>(
     })
 }
 
-/// The bytes of each file.
+/// The bytes of each file. The library is asked once for each name.
 fn read_contents<L: Library>(
     alloc: Global,
     files: &mut L,
     nodes: &[ProtoNode],
-) -> Result<Vec<Word>, MakeOutcome>
+) -> Result<Vec<Content>, MakeOutcome>
     ensures value { IfOk result (λ all. ForSome (L.files files.old) (λ map. contents_in map nodes.now ≡ Ok all.items)) }
     ensures count { IfOk result (λ all. length all.items ≡ length nodes.now) }
     ensures refusal { IfErr result (IsContentsAnswer (L.files files.old) nodes.now) }
     ensures cause { HasFilesCause (L.faults files.old) (L.faults files.new) result }
     ensures files { L.files files.new ≡ L.files files.old }
 {
+    let firsts = match list_firsts(alloc, nodes) {
+        Ok(firsts) => firsts,
+        Err(NoMemory) => return Err(MakeOutcome::NoMemory),
+    };
     let mut contents = Vec::new(alloc);
-    for node in nodes {
-        let bytes = match read_content(alloc, files, &node.kind) {
+    for k in 0..nodes.len() {
+        let bytes = match content_of(alloc, files, nodes, contents.as_slice(), k, firsts[k]) {
             Ok(bytes) => bytes,
             Err(outcome) => return Err(outcome),
         };
-        if contents.push(bytes).is_err() {
-            return Err(MakeOutcome::NoMemory);
+        match contents.push(bytes) {
+            Ok(()) => {}
+            Err(_) => return Err(MakeOutcome::NoMemory),
         }
     }
     Ok(contents)
+}
+
+/// The bytes of the file at a place, where those of the files before it were read: the ones of the first file that may have the
+/// same name in the library, where it has it, and else those that the library gives.
+fn content_of<L: Library>(
+    alloc: Global,
+    files: &mut L,
+    nodes: &[ProtoNode],
+    contents: &[Content],
+    k: usize,
+    first: usize,
+) -> Result<Content, MakeOutcome>
+    requires inside { k < length nodes.now }
+    requires few { length contents.now ≤ length nodes.now }
+    ensures value { IfOk result (λ bytes. ForSome (L.files files.old) (λ map.
+        AreContents map nodes.now contents.now → content_in map (node_at nodes.now k).kind ≡ Some bytes)) }
+    ensures refusal { IfErr result (IsContentAnswer (L.files files.old) (node_at nodes.now k).kind) }
+    ensures cause { HasFilesCause (L.faults files.old) (L.faults files.new) result }
+    ensures files { L.files files.new ≡ L.files files.old }
+{
+    match content_before(nodes, contents, k, first) {
+        Ok(Some(bytes)) => Ok(bytes),
+        Ok(None) => read_content(alloc, files, &nodes[k].kind),
+        Err(NoMemory) => Err(MakeOutcome::NoMemory),
+    }
 }
 
 /// The bytes of a file.
@@ -140,7 +173,7 @@ fn read_content<L: Library>(
     alloc: Global,
     files: &mut L,
     kind: &ProtoKind,
-) -> Result<Word, MakeOutcome>
+) -> Result<Content, MakeOutcome>
     ensures value { IfOk result (λ bytes. ForSome (L.files files.old) (λ map. content_in map kind.now ≡ Some bytes)) }
     ensures refusal { IfErr result (IsContentAnswer (L.files files.old) kind.now) }
     ensures cause { HasFilesCause (L.faults files.old) (L.faults files.new) result }
@@ -148,10 +181,21 @@ fn read_content<L: Library>(
 {
     match kind {
         ProtoKind::Regular { name, line } => match files.file(alloc, name) {
-            Ok(bytes) => Ok(Word::from_vec(bytes)),
+            Ok(bytes) => held(alloc, bytes),
             Err(fault) => Err(library_outcome(fault, *line)),
         },
-        _ => Ok(Word::from_vec(Vec::new(alloc))),
+        _ => held(alloc, Vec::new(alloc)),
+    }
+}
+
+/// These bytes, to be held by several files.
+fn held(alloc: Global, bytes: Vec<u8>) -> Result<Content, MakeOutcome>
+    ensures value { IfOk result (λ content. content ≡ bytes.items) }
+    ensures refusal { IfErr result (λ outcome. outcome ≡ MakeOutcome.NoMemory) }
+{
+    match Content::make(alloc, bytes) {
+        Ok(content) => Ok(content),
+        Err(NoMemory) => Err(MakeOutcome::NoMemory),
     }
 }
 

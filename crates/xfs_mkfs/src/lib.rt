@@ -18,6 +18,7 @@ mod marks;
 mod order;
 mod outcome;
 mod preparing;
+mod sharing;
 mod volume;
 mod volume_making;
 

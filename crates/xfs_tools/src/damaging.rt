@@ -9,8 +9,8 @@ ghost use Rattle.xfs_tools.specs.Damaging.{IsDamaging, damage_answer};
 
 use crate::answer::Answer;
 use std::alloc::Global;
-use xfs_bank::BlockBank;
 use xfs_disk::{BLOCK_SIZE, Disk, Failed, NoMemory};
+use xfs_shared::BlockList;
 use xfs_word::get32;
 use xfs_writing::{Row, write_parts};
 
@@ -41,15 +41,15 @@ pub(crate) fn damage<D: Disk>(alloc: Global, disk: &mut D) -> Result<u64, Damage
             });
         }
     };
-    let bank = match BlockBank::make(alloc, 1) {
-        Ok(bank) => bank,
+    let zeros = match BlockList::zeros(alloc, 1) {
+        Ok(zeros) => zeros,
         Err(NoMemory) => return Err(DamageFault::NoMemory),
     };
     let row = Row {
         at: place,
         index: 0,
     };
-    match write_parts(disk, &bank, &[], &[row]) {
+    match write_parts(disk, &zeros, &[], &[row]) {
         Ok(()) => Ok(place),
         Err(written) => Err(DamageFault::WriteFault { written }),
     }

@@ -1,18 +1,37 @@
-use Rattle.std.proofs.Common.{◌≡◌, Option, None, ap, subst, ◌∙◌}
+use Rattle.std.proofs.Common.{◌≡◌, ◌+◌, ℕ, List, Option, Some, rules, sym, subst, ◌∙◌}
 use Rattle.xfs_disk.specs.Files.{Files}
-use Rattle.xfs_proto.specs.declared.protofile.ProtoKind.{ProtoKind}
-use Rattle.xfs_proto.specs.declared.protofile.ProtoNode.{ProtoNode}
-use Rattle.xfs_mkfs.specs.FilesAsked.{IsContentAnswer, content_in, line_in}
-use Rattle.xfs_mkfs.proofs.Contents.{contents_answer, missing_there}
+use Rattle.xfs_filled.specs.FileTrees.{no_proto_node, node_at}
+use Rattle.xfs_mkfs.specs.FilesAsked.{IsContentAnswer}
+use Rattle.xfs_mkfs.specs.Sharing.{AreContents}
+use Rattle.xfs_mkfs.proofs.Contents.{IsReadUpTo, contents_answer, missing_there, one_more_read}
+use Rattle.xfs_mkfs.proofs.Shared.{one_more_content}
 use Rattle.xfs_mkfs.proofs.files.read_contents.Goals as goal
 
-pub returns-in-Err-clause-refusal : goal.returns-in-Err-clause-refusal
-returns-in-Err-clause-refusal g c =
+pub returns-in-Err-content_of-clause-refusal : goal.returns-in-Err-content_of-clause-refusal
+returns-in-Err-content_of-clause-refusal g c =
     let told = g.L.Library.files c.args.files.now in
-    let kind = c.node-item.result.kind in
-    contents_answer told c.args.nodes.now kind c.in-Err.outcome
-    (subst (λ (files : Option Files). IsContentAnswer files kind c.in-Err.outcome) c.loop-node.invariant.files c.in-Err.ensures.refusal)
-    (λ map line tells at none.
-    let same = ap (λ (n : ProtoNode). n.kind) c.node-item.is in
-    missing_there map c.args.nodes.now c.loop-node.node-index c.node-item.result c.loop-node.contents.items line c.loop-node-test.true
-    (at ∙ ap line_in same) (subst (λ (k : ProtoKind). content_in map k ≡ None) same none) (c.loop-node.invariant.read map tells))
+    let ns = c.args.nodes.now in
+    let k = c.loop-k.k in
+    let outcome = c.in-Err-content_of.outcome in
+    contents_answer told ns (node_at ns k).kind outcome
+    (subst (λ (files : Option Files). IsContentAnswer files (node_at ns k).kind outcome) c.loop-k.invariant.files c.in-Err-content_of.ensures.refusal)
+    (λ map line tells at none. missing_there map ns k no_proto_node c.loop-k.contents.items line c.loop-k-test.true at none (c.loop-k.invariant.read map tells))
+
+pub loop-k-preserved : goal.loop-k-preserved
+loop-k-preserved g c =
+    let ns = c.args.nodes.now in
+    let k = c.loop-k.k in
+    let were = c.loop-k.contents.items in
+    let bytes = c.in-Ok-content_of.bytes in
+    let now = c.in-Ok-push.ensures.items in
+    let is = λ (map : Files) (tells : g.L.Library.files c.args.files.now ≡ Some map). c.in-Ok-content_of.ensures.value map (c.loop-k.invariant.files ∙ tells)
+    (subst (λ (xs : List (List ℕ)). AreContents map ns xs) (sym {A = List (List ℕ)} c.as_slice.ensures.value) (c.loop-k.invariant.each map tells)) in
+    record {
+      read = λ map tells. subst (λ (xs : List (List ℕ)). IsReadUpTo map ns (k + 1) xs) (sym {A = List (List ℕ)} now)
+          (one_more_read map ns k no_proto_node were bytes c.loop-k-test.true (is map tells) (c.loop-k.invariant.read map tells));
+      each = λ map tells. subst (λ (xs : List (List ℕ)). AreContents map ns xs) (sym {A = List (List ℕ)} now)
+          (one_more_content map ns k were bytes c.loop-k.invariant.count (is map tells) (c.loop-k.invariant.each map tells));
+      count = search rules;
+      files = c.in-Ok-content_of.ensures.files ∙ c.loop-k.invariant.files;
+      faults = search rules;
+    }
