@@ -30,6 +30,8 @@ mod proto;
 #[cfg(test)]
 mod runs;
 #[cfg(test)]
+mod shared;
+#[cfg(test)]
 mod shell;
 #[cfg(test)]
 mod text;

@@ -11,7 +11,6 @@ use std::alloc::Global;
 use std::process::Abort;
 use std::test::Fail;
 use wanted::plan_of;
-use xfs_bank::BlockBank;
 use xfs_disk::{BLOCK_SIZE, Disk, MemoryDisk};
 use xfs_render::Plan;
 use xfs_word::{put_part, put32, put64};
@@ -123,7 +122,7 @@ fn volume_with_two_files(rt: HostRuntime) -> Result<(), Fail> {
     let mut due = due_disk(&rt, alloc)?;
     let head = block_of(&rt, &mut due, 0);
     let objects = objects::two_files(alloc)?;
-    let plan = plan_of(&rt, alloc, &head, objects, BlockBank::make(alloc, 2)?)?;
+    let plan = plan_of(&rt, alloc, &head, objects, objects::blocks_of_two(alloc)?)?;
     // both groups have a first block and five trees, the chunk has eight blocks, each file one, and the log 512, which have two blocks of bytes
     same!(rt; (plan.fresh.as_slice().len(), plan.in_place.as_slice().len(), plan.bank.len()), (20, 514, 24));
     let mut held = planned_disk(&rt, alloc, &plan)?;

@@ -1,6 +1,6 @@
 //! Objects: two files of one block, and one of each kind, with the blocks that are built for them.
 
-ghost use Rattle.std.specs.Prelude.{◌≡◌, ◌+◌, ◌^◌, [], ◌∷◌, IfOk, IfSome};
+ghost use Rattle.std.specs.Prelude.{◌≡◌, ◌+◌, ◌^◌, [], ◌∷◌, length, IfOk, IfSome};
 ghost use Rattle.xfs_word.specs.Seal.{layout_of};
 ghost use Rattle.xfs_volume_tests.specs.Rendered.{AreAsked};
 
@@ -11,9 +11,9 @@ use crate::text::{Row, put_parts};
 use std::alloc::{AllocError, Global};
 use std::process::Abort;
 use std::test::Fail;
-use xfs_bank::BlockBank;
-use xfs_disk::BLOCK_SIZE;
+use xfs_disk::{BLOCK_SIZE, NoMemory};
 use xfs_place::{Object, ObjectKind, RunAsk};
+use xfs_shared::BlockList;
 use xfs_volume::Records;
 use xfs_word::{Seal, SealKind, part, put_part, sealed};
 
@@ -32,6 +32,13 @@ pub fn two_files(alloc: Global) -> Result<Vec<Object>, AllocError>
     let first = link(alloc, 131, ObjectKind::Data)?;
     let second = link(alloc, 132, ObjectKind::Data)?;
     Ok(vec![in alloc; first, second]?)
+}
+
+/// What is built for them: a block of zeros each.
+pub fn blocks_of_two(alloc: Global) -> Result<BlockList, NoMemory>
+    ensures { IfOk result (λ blocks. length blocks ≡ 2) }
+{
+    BlockList::zeros(alloc, 2)
 }
 
 /// An object of one block.
@@ -125,8 +132,8 @@ const SEALED: &str = "\
 ";
 
 /// The blocks that are built.
-fn built_blocks(rt: &(impl Abort + AllocGlobal), alloc: Global) -> Result<BlockBank, Fail> {
-    let mut bank = BlockBank::make(alloc, 0)?;
+fn built_blocks(rt: &(impl Abort + AllocGlobal), alloc: Global) -> Result<BlockList, Fail> {
+    let mut bank = BlockList::make(alloc);
     for line in BUILT.lines() {
         let mut block = [0; BLOCK_SIZE];
         put_parts(rt, &mut block, line)?;

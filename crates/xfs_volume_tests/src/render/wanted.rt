@@ -12,12 +12,12 @@ use std::alloc::{AllocError, Global};
 use std::marker::Sync;
 use std::process::Abort;
 use std::thread::Threads;
-use xfs_bank::BlockBank;
 use xfs_disk::{BLOCK_SIZE, NoGate, NoMemory, Stamp};
 use xfs_empty::{empty_bytes, empty_wanted};
 use xfs_geom::{Geometry, InoRec, read_super};
 use xfs_place::{GroupInodes, Object, PlaceFault, Wanted, place};
 use xfs_render::{Bytes, Plan, chunks_are_few, placed_is_ready, render};
+use xfs_shared::BlockList;
 use xfs_volume::Records;
 use xfs_word::part;
 
@@ -27,7 +27,7 @@ pub fn plan_of<R: Threads + Sync + Abort>(
     alloc: Global,
     head: &[u8; BLOCK_SIZE],
     objects: Vec<Object>,
-    built: BlockBank,
+    built: BlockList,
 ) -> Result<Plan, PlaceFault>
     requires { AreAsked (length built) objects.items }
 {
@@ -118,7 +118,7 @@ fn bytes_of(
     g: &Geometry,
     sector: &[u8; 512],
     stamp: &Stamp,
-    built: BlockBank,
+    built: BlockList,
 ) -> Result<Bytes, NoMemory>
     ensures { IfOk result (λ b. AreSmallBytes g.now sector.now stamp.now built b) }
 {
