@@ -3,7 +3,8 @@ use Rattle.std.proofs.Common.{◌≡◌, ℕ, zero, suc, ◌+◌, ◌*◌, ◌/�
 use Rattle.std.specs.Int.Bits.{xor_zero_r, xor_comm, xor_assoc, xor_shr, xor_self, xor_shifted}
 use Rattle.std.proofs.lemmas.Nat.Bits.{bit_at_xor}
 use Rattle.std.proofs.Math.Nat.{pow-suc, mul_assoc, zero-mul}
-use Rattle.std.proofs.lemmas.List.{drop-drop, take-append-drop}
+use Rattle.std.proofs.Math.Seq.{take-add}
+use Rattle.std.proofs.lemmas.List.{drop-drop, length-drop, take-append-drop}
 use Rattle.std.proofs.lemmas.List.Sums.{fold-append}
 use Rattle.byteorder.specs.Endian.{little_number}
 use Rattle.byteorder.specs.Numbers.{little_from-cons}
@@ -128,13 +129,13 @@ after_zeros-split k n x e =
 lowest_first : (k n x a rest : ℕ) → k ≡ 8 + n → a ≡ after_zeros k (x % 256) → rest ≡ after_zeros n (x / 256) → bit_xor a rest ≡ after_zeros k x
 lowest_first k n x a rest e first then = ap₂ bit_xor first then ∙ sym (after_zeros-split k n x e)
 
--- eight bytes, each taken in apart
-pub eight : (w a b c d e f g h : ℕ) → w < 2 ^ 64
-    → a ≡ after_zeros 64 (w % 256) → b ≡ after_zeros 56 (w / 2 ^ 8 % 256) → c ≡ after_zeros 48 (w / 2 ^ 16 % 256)
-    → d ≡ after_zeros 40 (w / 2 ^ 24 % 256) → e ≡ after_zeros 32 (w / 2 ^ 32 % 256) → f ≡ after_zeros 24 (w / 2 ^ 40 % 256)
-    → g ≡ after_zeros 16 (w / 2 ^ 48 % 256) → h ≡ after_zeros 8 (w / 2 ^ 56 % 256)
-    → bit_xor (bit_xor (bit_xor (bit_xor (bit_xor (bit_xor (bit_xor a b) c) d) e) f) g) h ≡ after_zeros 64 w
-eight w a b c d e f g h fits ha hb hc hd he hf hg hh =
+-- eight bytes with n zero bits behind them, each taken in apart
+pub eight : (n w a b c d e f g h : ℕ) → w < 2 ^ 64
+    → a ≡ after_zeros (n + 64) (w % 256) → b ≡ after_zeros (n + 56) (w / 2 ^ 8 % 256) → c ≡ after_zeros (n + 48) (w / 2 ^ 16 % 256)
+    → d ≡ after_zeros (n + 40) (w / 2 ^ 24 % 256) → e ≡ after_zeros (n + 32) (w / 2 ^ 32 % 256) → f ≡ after_zeros (n + 24) (w / 2 ^ 40 % 256)
+    → g ≡ after_zeros (n + 16) (w / 2 ^ 48 % 256) → h ≡ after_zeros (n + 8) (w / 2 ^ 56 % 256)
+    → bit_xor (bit_xor (bit_xor (bit_xor (bit_xor (bit_xor (bit_xor a b) c) d) e) f) g) h ≡ after_zeros (n + 64) w
+eight n w a b c d e f g h fits ha hb hc hd he hf hg hh =
     let top : w / 2 ^ 56 % 256 ≡ w / 2 ^ 56 = omega arith in
     let w7 : w / 2 ^ 48 / 256 ≡ w / 2 ^ 56 = omega arith in
     let w6 : w / 2 ^ 40 / 256 ≡ w / 2 ^ 48 = omega arith in
@@ -142,15 +143,25 @@ eight w a b c d e f g h fits ha hb hc hd he hf hg hh =
     let w4 : w / 2 ^ 24 / 256 ≡ w / 2 ^ 32 = omega arith in
     let w3 : w / 2 ^ 16 / 256 ≡ w / 2 ^ 24 = omega arith in
     let w2 : w / 2 ^ 8 / 256 ≡ w / 2 ^ 16 = omega arith in
-    let s7 : h ≡ after_zeros 8 (w / 2 ^ 48 / 256) = hh ∙ ap (after_zeros 8) (top ∙ sym w7) in
-    let s6 = lowest_first 16 8 (w / 2 ^ 48) g h refl hg s7 in
-    let s5 = lowest_first 24 16 (w / 2 ^ 40) f (bit_xor g h) refl hf (s6 ∙ ap (after_zeros 16) (sym w6)) in
-    let s4 = lowest_first 32 24 (w / 2 ^ 32) e (bit_xor f (bit_xor g h)) refl he (s5 ∙ ap (after_zeros 24) (sym w5)) in
-    let s3 = lowest_first 40 32 (w / 2 ^ 24) d (bit_xor e (bit_xor f (bit_xor g h))) refl hd (s4 ∙ ap (after_zeros 32) (sym w4)) in
-    let s2 = lowest_first 48 40 (w / 2 ^ 16) c (bit_xor d (bit_xor e (bit_xor f (bit_xor g h)))) refl hc (s3 ∙ ap (after_zeros 40) (sym w3)) in
-    let s1 = lowest_first 56 48 (w / 2 ^ 8) b (bit_xor c (bit_xor d (bit_xor e (bit_xor f (bit_xor g h))))) refl hb (s2 ∙ ap (after_zeros 48) (sym w2)) in
-    let s0 = lowest_first 64 56 w a (bit_xor b (bit_xor c (bit_xor d (bit_xor e (bit_xor f (bit_xor g h)))))) refl ha s1 in
+    let s7 : h ≡ after_zeros (n + 8) (w / 2 ^ 48 / 256) = hh ∙ ap (after_zeros (n + 8)) (top ∙ sym w7) in
+    let s6 = lowest_first (n + 16) (n + 8) (w / 2 ^ 48) g h (omega arith) hg s7 in
+    let s5 = lowest_first (n + 24) (n + 16) (w / 2 ^ 40) f (bit_xor g h) (omega arith) hf (s6 ∙ ap (after_zeros (n + 16)) (sym w6)) in
+    let s4 = lowest_first (n + 32) (n + 24) (w / 2 ^ 32) e (bit_xor f (bit_xor g h)) (omega arith) he (s5 ∙ ap (after_zeros (n + 24)) (sym w5)) in
+    let s3 = lowest_first (n + 40) (n + 32) (w / 2 ^ 24) d (bit_xor e (bit_xor f (bit_xor g h))) (omega arith) hd (s4 ∙ ap (after_zeros (n + 32)) (sym w4)) in
+    let s2 = lowest_first (n + 48) (n + 40) (w / 2 ^ 16) c (bit_xor d (bit_xor e (bit_xor f (bit_xor g h)))) (omega arith) hc (s3 ∙ ap (after_zeros (n + 40)) (sym w3)) in
+    let s1 = lowest_first (n + 56) (n + 48) (w / 2 ^ 8) b (bit_xor c (bit_xor d (bit_xor e (bit_xor f (bit_xor g h))))) (omega arith) hb (s2 ∙ ap (after_zeros (n + 48)) (sym w2)) in
+    let s0 = lowest_first (n + 64) (n + 56) w a (bit_xor b (bit_xor c (bit_xor d (bit_xor e (bit_xor f (bit_xor g h)))))) (omega arith) ha s1 in
     simp xor_assoc s0
+
+-- an entry of a row behind others, by its place in them
+pub entry_behind : (rows k bits e x : ℕ) → e ≡ after_zeros (8 * (rows + k + 1)) x → 8 * rows + bits ≡ 8 * (rows + k + 1) → e ≡ after_zeros (8 * rows + bits) x
+entry_behind rows k bits e x is same = is ∙ ap (λ (n : ℕ). after_zeros n x) (sym same)
+
+-- an entry of the first row behind others
+pub entry_first : (rows e x : ℕ) → e ≡ after_zeros (8 * (rows + 1)) x → e ≡ after_zeros (8 * rows + 8) x
+entry_first rows e x is =
+    let same : 8 * (rows + 1) ≡ 8 * rows + 8 = omega arith in
+    is ∙ ap (λ (n : ℕ). after_zeros n x) same
 
 -- one byte by its look-up
 pub one : (r x a : ℕ) → x < 256 → a ≡ after_zeros 8 (bit_xor r x % 256) → bit_xor a (r / 256) ≡ after_byte r x
@@ -183,10 +194,40 @@ together (suc n) r (x ∷ xs) fit long =
     ∙ ap (after_zeros (8 * n)) (sym down) ∙ sym (after_zeros-add 8 (8 * n) (bit_xor (bit_xor r x) (more * 256)))
     ∙ sym (ap₂ after_zeros eight (ap (bit_xor r) (number ∙ apart) ∙ sym (xor_assoc r x (more * 256))))
 
--- the register after eight bytes and what is left leads to what it and all lead to
-pub turn : (r next at : ℕ) (xs part : List ℕ) → part ≡ drop at xs → next ≡ after_bytes r (take 8 part) → after_bytes next (drop (at + 8) xs) ≡ after_bytes r (drop at xs)
+-- the register after sixteen bytes and what is left leads to what it and all lead to
+pub turn : (r next at : ℕ) (xs part : List ℕ) → part ≡ drop at xs → next ≡ after_bytes r (take 16 part) → after_bytes next (drop (at + 16) xs) ≡ after_bytes r (drop at xs)
 turn r next at xs part whole taken =
     let ys = drop at xs in
-    let rest : drop (at + 8) xs ≡ drop 8 ys = sym (drop-drop 8 at xs) in
-    let front : next ≡ after_bytes r (take 8 ys) = taken ∙ ap (λ (p : List ℕ). after_bytes r (take 8 p)) whole in
-    ap₂ after_bytes front rest ∙ sym (fold-append after_byte r (take 8 ys) (drop 8 ys)) ∙ ap (after_bytes r) (take-append-drop 8 ys)
+    let rest : drop (at + 16) xs ≡ drop 16 ys = sym (drop-drop 16 at xs) in
+    let front : next ≡ after_bytes r (take 16 ys) = taken ∙ ap (λ (p : List ℕ). after_bytes r (take 16 p)) whole in
+    ap₂ after_bytes front rest ∙ sym (fold-append after_byte r (take 16 ys) (drop 16 ys)) ∙ ap (after_bytes r) (take-append-drop 16 ys)
+
+-- the register after eight bytes that are taken in together
+pub eight_in : (r word : ℕ) (xs : List ℕ) → AreBytes xs → 8 ≤ length xs → word ≡ bit_xor r (little_number 8 xs) → after_zeros 64 word ≡ after_bytes r (take 8 xs)
+eight_in r word xs fit long is = ap (after_zeros 64) is ∙ sym (together 8 r xs fit long)
+
+bytes_behind : (n : ℕ) (xs : List ℕ) → AreBytes xs → AreBytes (drop n xs)
+bytes_behind zero xs fit = fit
+bytes_behind (suc n) [] fit = fit
+bytes_behind (suc n) (x ∷ xs) fit = bytes_behind n xs (record { below = λ k. fit.below (suc k) })
+
+-- sixteen bytes, the last eight apart from the register
+pub sixteen : (r first last : ℕ) (xs : List ℕ) → AreBytes xs → 16 ≤ length xs → first ≡ bit_xor r (little_number 8 xs) → last ≡ little_number 8 (drop 8 xs)
+    → bit_xor (after_zeros 64 last) (after_zeros 128 first) ≡ after_bytes r (take 16 xs)
+sixteen r first last xs fit long is behind =
+    let next = after_zeros 64 first in
+    let front : next ≡ after_bytes r (take 8 xs) = eight_in r first xs fit (omega arith) is in
+    let rest : 8 ≤ length (drop 8 xs) = let e = length-drop 8 xs in omega (arith, e) in
+    let all : after_zeros 64 (bit_xor next last) ≡ after_bytes next (take 8 (drop 8 xs)) =
+    eight_in next (bit_xor next last) (drop 8 xs) (bytes_behind 8 xs fit) rest (ap (bit_xor next) behind) in
+    xor_comm (after_zeros 64 last) (after_zeros 128 first)
+    ∙ ap (λ (x : ℕ). bit_xor x (after_zeros 64 last)) (after_zeros-add 64 64 first)
+    ∙ sym (after_zeros-xor 64 next last)
+    ∙ all
+    ∙ ap (λ (x : ℕ). after_bytes x (take 8 (drop 8 xs))) front
+    ∙ sym (fold-append after_byte r (take 8 xs) (take 8 (drop 8 xs)))
+    ∙ ap (after_bytes r) (sym (take-add 8 8 xs))
+
+-- the first eight of a few bytes, and the rest
+pub first_few : (r next : ℕ) (xs : List ℕ) → next ≡ after_bytes r (take 8 xs) → after_bytes next (drop 8 xs) ≡ after_bytes r xs
+first_few r next xs is = ap (λ (x : ℕ). after_bytes x (drop 8 xs)) is ∙ sym (fold-append after_byte r (take 8 xs) (drop 8 xs)) ∙ ap (after_bytes r) (take-append-drop 8 xs)

@@ -10,8 +10,8 @@ use Rattle.xfs_word.specs.declared.tables.TheConstants.{TABLES}
 unfoldable pub row : ℕ → List ℕ
 row k = map (after_zeros (8 * k)) (range_with_len 0 256)
 
--- the table is the rows 1 to 8
-pub tables : TABLES ≡ map row (range_with_len 1 8)
+-- the table is the rows 1 to 16
+pub tables : TABLES ≡ map row (range_with_len 1 16)
 unfolding row after_zeros
 tables = refl
 
@@ -21,12 +21,12 @@ unfolding row
 row_entry k b h = get_or-map-range_with_len (after_zeros (8 * k)) 0 256 b b 0 h (omega arith)
 
 -- an entry of the table
-pub entry_of : (r word : ℕ) → r < 8 → get_or (get_or TABLES r []) (bit_and word 255) 0 ≡ after_zeros (8 * (r + 1)) (word % 256)
+pub entry_of : (r word : ℕ) → r < 16 → get_or (get_or TABLES r []) (bit_and word 255) 0 ≡ after_zeros (8 * (r + 1)) (word % 256)
 entry_of r word h =
     let masked : bit_and word 255 ≡ word % 256 = and_mask word 8 in
     let place : 1 + r ≡ r + 1 = omega arith in
     let byte : word % 256 < 256 = omega arith in
     ap (λ (t : List (List ℕ)). get_or (get_or t r []) (bit_and word 255) 0) tables
-    ∙ ap (λ (l : List ℕ). get_or l (bit_and word 255) 0) (get_or-map-range_with_len row 1 8 r (r + 1) [] h place)
+    ∙ ap (λ (l : List ℕ). get_or l (bit_and word 255) 0) (get_or-map-range_with_len row 1 16 r (r + 1) [] h place)
     ∙ ap (λ (i : ℕ). get_or (row (r + 1)) i 0) masked
     ∙ row_entry (r + 1) (word % 256) byte

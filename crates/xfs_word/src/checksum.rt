@@ -69,17 +69,27 @@ fn write(bytes: &mut [u8], at: usize, width: usize, value: u64)
     LittleEndian::write_uint(&mut bytes[at..], value, width);
 }
 
-/// The register after `bytes`, eight at a time.
+/// The register after `bytes`, sixteen at a time.
 fn after(start: u32, bytes: &[u8]) -> u32
     ensures { result ≡ after_bytes start bytes.now }
 {
     let mut register = start;
     let mut at = 0;
-    while bytes.len() - at >= 8 {
-        register = after_eight(register, &bytes[at..]);
-        at += 8;
+    while bytes.len() - at >= 16 {
+        register = after_sixteen(register, &bytes[at..]);
+        at += 16;
     }
-    after_each(register, &bytes[at..])
+    after_few(register, &bytes[at..])
+}
+
+/// The register after `bytes`, the first eight together.
+fn after_few(register: u32, bytes: &[u8]) -> u32
+    ensures { result ≡ after_bytes register bytes.now }
+{
+    if bytes.len() < 8 {
+        return after_each(register, bytes);
+    }
+    after_each(after_eight(register, bytes), &bytes[8..])
 }
 
 /// The register after `bytes`, one at a time.
@@ -100,25 +110,42 @@ fn after_one(register: u32, byte: u8) -> u32
     entry(0, (register ^ byte as u32) as u64) ^ register >> 8
 }
 
+/// The register after the first sixteen of `bytes`. What the last eight leave does not wait for the register.
+fn after_sixteen(register: u32, bytes: &[u8]) -> u32
+    requires { 16 ≤ length bytes.now }
+    ensures { result ≡ after_bytes register (take 16 bytes.now) }
+{
+    let first = LittleEndian::read_u64(bytes) ^ register as u64;
+    let last = LittleEndian::read_u64(&bytes[8..]);
+    entries(0, last) ^ entries(8, first)
+}
+
 /// The register after the first eight of `bytes`.
 fn after_eight(register: u32, bytes: &[u8]) -> u32
     requires { 8 ≤ length bytes.now }
     ensures { result ≡ after_bytes register (take 8 bytes.now) }
 {
-    let word = LittleEndian::read_u64(bytes) ^ register as u64;
-    entry(7, word)
-        ^ entry(6, word >> 8)
-        ^ entry(5, word >> 16)
-        ^ entry(4, word >> 24)
-        ^ entry(3, word >> 32)
-        ^ entry(2, word >> 40)
-        ^ entry(1, word >> 48)
-        ^ entry(0, word >> 56)
+    entries(0, LittleEndian::read_u64(bytes) ^ register as u64)
+}
+
+/// What the eight bytes of `word` leave after themselves and `rows` zero bytes behind them.
+fn entries(rows: usize, word: u64) -> u32
+    requires { rows ≤ 8 }
+    ensures { result ≡ after_zeros (8 * rows + 64) word }
+{
+    entry(rows + 7, word)
+        ^ entry(rows + 6, word >> 8)
+        ^ entry(rows + 5, word >> 16)
+        ^ entry(rows + 4, word >> 24)
+        ^ entry(rows + 3, word >> 32)
+        ^ entry(rows + 2, word >> 40)
+        ^ entry(rows + 1, word >> 48)
+        ^ entry(rows, word >> 56)
 }
 
 /// What the lowest byte of `word` leaves after itself and `row` zero bytes behind it.
 fn entry(row: usize, word: u64) -> u32
-    requires { row < 8 }
+    requires { row < 16 }
     ensures { result ≡ after_zeros (8 * (row + 1)) (word % 256) }
 {
     TABLES[row][(word & 0xff) as usize]

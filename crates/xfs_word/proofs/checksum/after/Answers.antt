@@ -6,10 +6,10 @@ use Rattle.xfs_word.proofs.checksum.after.Goals as goal
 pub loop-at-preserved : goal.loop-at-preserved
 loop-at-preserved c =
     let bytes = c.args.bytes.now in
-    let room : c.loop-at.at + 8 ≤ length bytes = omega arith in (
+    let room : c.loop-at.at + 16 ≤ length bytes = omega arith in (
       room,
-      turn c.loop-at.register c.after_eight-register.result c.loop-at.at bytes
+      turn c.loop-at.register c.after_sixteen-register.result c.loop-at.at bytes
           (take (length bytes - c.loop-at.at) (drop c.loop-at.at bytes)) (take_rest bytes c.loop-at.at)
-          c.after_eight-register.ensures
+          c.after_sixteen-register.ensures
           ∙ c.loop-at.invariant.1,
     )
