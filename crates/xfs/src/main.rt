@@ -2,7 +2,7 @@
 #![tactic(auto)]
 
 use std::process::ExitCode;
-use xfs_disk::FileLibrary;
+use xfs_files::FileLibrary;
 use xfs_program::perform;
 use xfs_system::over_streams;
 

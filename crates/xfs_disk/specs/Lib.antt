@@ -6,14 +6,5 @@ pub mod Files
 pub mod Counts
 pub mod Memory
 pub mod MemoryImage
-pub mod Schedule
-pub mod MemoryDisk
-pub mod MemorySource
-pub mod MemorySink
-pub mod Ahead
-pub mod FileDisk
-pub mod Streams
-pub mod System
-pub mod FileLibrary
 pub mod Lists
 pub mod Shares

@@ -9,7 +9,7 @@ use crate::failed::Failed;
 use std::io;
 
 /// A failure, which is counted.
-pub(crate) fn count_failure(faults: &mut u64) -> Failed
+pub fn count_failure(faults: &mut u64) -> Failed
     ensures risen { Rose faults.old faults.new }
     ensures once { faults.new ≤ faults.old + 1 }
 {
@@ -18,7 +18,7 @@ pub(crate) fn count_failure(faults: &mut u64) -> Failed
 }
 
 /// The outcome of a call of the system, whose failure is counted.
-pub(crate) fn counted<T: Drop>(outcome: io::Result<T>, faults: &mut u64) -> Result<T, Failed>
+pub fn counted<T: Drop>(outcome: io::Result<T>, faults: &mut u64) -> Result<T, Failed>
     ensures ok { result_ok result ≡ result_ok outcome }
     ensures faults { CountsFailure faults.old faults.new result }
 {
@@ -29,7 +29,7 @@ pub(crate) fn counted<T: Drop>(outcome: io::Result<T>, faults: &mut u64) -> Resu
 }
 
 /// Counts a call where it went well.
-pub(crate) fn count_done<T>(outcome: &Result<T, Failed>, done: &mut u64)
+pub fn count_done<T>(outcome: &Result<T, Failed>, done: &mut u64)
     ensures { CountsDone done.old done.new outcome.now }
 {
     if outcome.is_ok() {

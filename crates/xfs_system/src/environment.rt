@@ -1,10 +1,10 @@
 //! What the tools are handed in beside words, a disk and a stamp.
 
 ghost use Rattle.std.specs.Prelude.{◌≡◌};
-ghost use Rattle.xfs_disk.specs.Streams.{reader_of, writer_of};
+ghost use Rattle.xfs_files.specs.Streams.{reader_of, writer_of};
 
 use std::io::{Stderr, Stdin, Stdout};
-use xfs_disk::{StreamSink, StreamSource};
+use xfs_files::{StreamSink, StreamSource};
 
 /// The files that are found by name, the input, and the streams of the answers.
 #[derive(Drop)]

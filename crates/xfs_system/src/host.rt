@@ -3,7 +3,7 @@
 ghost use Rattle.std.specs.Prelude.{◌≡◌, ℕ, Bool, List, None, IsSome, OnErr, OnOk, IfOk};
 ghost use Rattle.std.specs.Duration.{as_nanos};
 ghost use Rattle.std.specs.declared.fs.options.OpenOptions.{OpenOptions};
-ghost use Rattle.xfs_disk.specs.FileDisk.{file_of};
+ghost use Rattle.xfs_files.specs.FileDisk.{file_of};
 
 use crate::in_use::is_image_in_use;
 use crate::streams::hold_streams;
@@ -17,7 +17,8 @@ use std::random::RandomSource;
 use std::rt::{Clock, Files};
 use std::time::{Duration, SystemTime, UNIX_EPOCH};
 use std::{fs, io, str};
-use xfs_disk::{Disk, FileDisk, Word};
+use xfs_disk::{Disk, Word};
+use xfs_files::FileDisk;
 
 /// The system that the program runs on.
 ///

@@ -1,5 +1,0 @@
-use Rattle.xfs_disk.proofs.Pieces.{HasRead}
-use Rattle.xfs_disk.proofs.file_disk.read_at.Given as goal
-
-abbrev pub invariant-loop : goal.invariant-loop
-invariant-loop g l = HasRead g.F.ByteFile.bytes g.F.ByteFile.place l.start l.done l.fn.file l.file l.fn.into l.into

@@ -1,5 +1,0 @@
-use Rattle.xfs_disk.proofs.Pieces.{HasWritten}
-use Rattle.xfs_disk.proofs.file_disk.write_at.Given as goal
-
-abbrev pub invariant-loop : goal.invariant-loop
-invariant-loop g l = HasWritten g.F.ByteFile.bytes g.F.ByteFile.place l.start l.done l.fn.file l.file l.from

@@ -1,6 +1,0 @@
--- The part that was written has the block's length.
-use Rattle.xfs_disk.proofs.Places.{with_block-put_mid}
-use Rattle.xfs_disk.proofs.memory_disk.put_block.Goals as goal
-
-pub returns : goal.returns
-returns c = with_block-put_mid c.args.bytes.now c.args.from.now c.copy_from_slice.new.self c.args.at c.requires.inside c.copy_from_slice.ensures.after c.requires.whole

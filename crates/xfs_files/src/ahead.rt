@@ -1,0 +1,132 @@
+//! The blocks of a file that were read ahead, many by one call of the system.
+
+ghost use Rattle.std.specs.Prelude.{◌≡◌, ◌*◌, ◌^◌, ◌<◌, ◌≤◌, length, take, drop, IsTrue};
+ghost use Rattle.std.specs.Option.{ForSome};
+
+use crate::system::ByteFile;
+use xfs_disk::BLOCK_SIZE;
+
+/// The most bytes that are read ahead: those of sixteen blocks.
+const AHEAD_SIZE: usize = 65536;
+
+/// The most blocks that are read ahead.
+const MOST_AHEAD: u64 = 16;
+
+/// Blocks are first read ahead up to the next multiple of so many: a chunk of inodes has them.
+const FIRST_AHEAD: u64 = 8;
+
+/// The bytes of a block, as a distance in a file.
+const BLOCK_BYTES: u64 = BLOCK_SIZE as u64;
+
+/// Blocks of a file that follow one another.
+///
+/// Blocks are read ahead only where the one behind the last is asked for, so that a block that stands alone costs what it did: first
+/// those up to the next multiple of eight, since chunks of inodes begin and end there, then eight, then sixteen each time.
+#[derive(Drop)]
+pub(crate) struct Ahead {
+    bytes: [u8; AHEAD_SIZE],
+    /// The first block.
+    first: u64,
+    /// How many there are.
+    count: u64,
+    /// How many are read ahead next.
+    next: u64,
+    ghost held_fit: { count ≤ 16 },
+    ghost next_fit: { next ≤ 16 },
+}
+
+impl Ahead {
+    ghost use Rattle.xfs_files.specs.Ahead.{HoldsPart};
+
+    /// No block, before any is read.
+    pub(crate) fn none() -> Ahead
+        ensures { (told : _) → HoldsPart told result }
+    {
+        Ahead {
+            bytes: [0; AHEAD_SIZE],
+            first: 0,
+            count: 0,
+            next: FIRST_AHEAD,
+        }
+    }
+
+    /// Gives up all blocks.
+    pub(crate) fn drop_all(&mut self)
+        ensures { (told : _) → HoldsPart told self.new }
+    {
+        self.count = 0;
+    }
+
+    /// Gives up all blocks; the one behind this is expected next.
+    pub(crate) fn expect_behind(&mut self, at: u64)
+        ensures { (told : _) → HoldsPart told self.new }
+    {
+        self.count = 0;
+        self.first = at.saturating_add(1);
+        self.next = FIRST_AHEAD - self.first % FIRST_AHEAD;
+    }
+
+    /// Copies a block, where it is held.
+    pub(crate) fn give(&self, at: u64, into: &mut [u8]) -> bool
+        requires whole { length into.old ≡ 4096 }
+        ensures { IsTrue result → (told : _) → HoldsPart told self.now → ForSome told (λ all. into.new ≡ take 4096 (drop (at * 4096) all)) }
+    {
+        if at < self.first || at - self.first >= self.count {
+            return false;
+        }
+        let start = (at - self.first) as usize * BLOCK_SIZE;
+        into.copy_from_slice(&self.bytes[start..start + BLOCK_SIZE]);
+        true
+    }
+
+    /// Reads blocks ahead from this one on, where it is the one behind the last.
+    pub(crate) fn look<F: ByteFile>(&mut self, file: &mut F, at: u64)
+        requires range { at * 4096 < 2 ^ 64 }
+        requires held { HoldsPart (F.bytes file.old) self.old }
+        ensures held { HoldsPart (F.bytes file.new) self.new }
+        ensures bytes { F.bytes file.new ≡ F.bytes file.old }
+    {
+        if at != self.first.saturating_add(self.count) {
+            return;
+        }
+        let size = self.next as usize * BLOCK_SIZE;
+        let got = fill_front(file, at * BLOCK_BYTES, &mut self.bytes, size);
+        self.first = at;
+        self.count = (got / BLOCK_SIZE) as u64;
+        self.next = if self.next < FIRST_AHEAD {
+            FIRST_AHEAD
+        } else {
+            MOST_AHEAD
+        };
+    }
+}
+
+/// The same into the front of the bytes that are read ahead.
+fn fill_front<F: ByteFile>(
+    file: &mut F,
+    start: u64,
+    bytes: &mut [u8; AHEAD_SIZE],
+    size: usize,
+) -> usize
+    requires fits { size ≤ 65536 }
+    ensures within { result ≤ size }
+    ensures read { ForSome (F.bytes file.old) (λ all. take result bytes.new ≡ take result (drop start all)) }
+    ensures bytes { F.bytes file.new ≡ F.bytes file.old }
+{
+    fill(file, start, &mut bytes[..size])
+}
+
+/// Reads into a slice by one call from this byte of the file on, and says how many bytes; none where that fails.
+fn fill<F: ByteFile>(file: &mut F, start: u64, into: &mut [u8]) -> usize
+    ensures within { result ≤ length into.old }
+    ensures read { ForSome (F.bytes file.old) (λ all. take result into.new ≡ take result (drop start all)) }
+    ensures bytes { F.bytes file.new ≡ F.bytes file.old }
+{
+    if file.go_to(start).is_err() {
+        return 0;
+    }
+    match file.read_some(into) {
+        Ok(count) => count,
+        Err(_) => 0,
+    }
+}

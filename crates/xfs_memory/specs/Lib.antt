@@ -1,0 +1,4 @@
+pub mod Schedule
+pub mod MemoryDisk
+pub mod MemorySource
+pub mod MemorySink
