@@ -87,8 +87,9 @@ fn elect_backup<D: Disk>(alloc: Global, disk: &mut D, size: u64) -> Result<Elect
     ensures reads { D.reads disk.new + 1 ≤ D.reads disk.old + size }
 {
     let mut poll = Poll::new(alloc);
+    let mut block = [0; BLOCK_SIZE];
     for place in 1..size {
-        match ask_block(disk, &mut poll, place, size) {
+        match ask_block(disk, &mut poll, place, size, &mut block) {
             Ok(()) => {}
             Err(fault) => return Err(fault),
         }
@@ -99,13 +100,15 @@ fn elect_backup<D: Disk>(alloc: Global, disk: &mut D, size: u64) -> Result<Elect
     }
 }
 
-/// Reads a block of the disk, which has so many, and counts its vote, where it has one.
+/// Reads a block of the disk, which has so many, and counts its vote, where it has one. Its bytes are then in the slice.
 fn ask_block<D: Disk>(
     disk: &mut D,
     poll: &mut Poll,
     place: u64,
     size: u64,
+    block: &mut [u8],
 ) -> Result<(), ElectFault>
+    requires whole { length block.old ≡ 4096 }
     requires above { 0 < place }
     requires inside { place < size }
     requires size { size ≡ D.size disk.old }
@@ -116,12 +119,11 @@ fn ask_block<D: Disk>(
     ensures disk { OnlyReads D.size D.holds D.write_faults D.writes D.tells_stops D.moment D.may_leave D.left_since disk.old disk.new }
     ensures reads { D.reads disk.new ≤ D.reads disk.old + 1 }
 {
-    let mut block = [0; BLOCK_SIZE];
-    match disk.read(place, &mut block) {
+    match disk.read(place, block) {
         Ok(()) => {}
         Err(Failed) => return Err(ElectFault::ReadFault),
     }
-    match poll.ask(first_sector(&block), place, size) {
+    match poll.ask(first_sector(block), place, size) {
         Ok(()) => Ok(()),
         Err(NoMemory) => Err(ElectFault::NoMemory),
     }
