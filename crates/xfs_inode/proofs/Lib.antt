@@ -1,3 +1,4 @@
 pub mod Runs
 pub mod NamedBlocks
 pub mod Sound
+mod Single

@@ -3,7 +3,7 @@
 ghost use Rattle.std.specs.Prelude.{None, ◌≡◌, ℕ, ◌+◌, ◌<◌, ◌≤◌, ◌++◌, nat_lt, map, true, IsTrue, IfOk, OnOk, IsPermutation};
 ghost use Rattle.std.specs.List.{All, list_all};
 ghost use Rattle.xfs_word.specs.declared.extents.Extent.{Extent};
-ghost use Rattle.xfs_geom.specs.Volumes.{volume_of};
+ghost use Rattle.xfs_geom.specs.Volumes.{Volume, volume_of};
 ghost use Rattle.xfs_kinds.specs.FileTrees.{is_extent};
 ghost use Rattle.xfs_inode.specs.Private.Claims.{RangesRanked, in_turn};
 ghost use Rattle.xfs_inode.specs.Files.{ranges_apart, are_blocks, are_extents, is_apart, is_placed, range_of, range_of_block, ranges_of};
@@ -54,6 +54,25 @@ fn are_blocks(g: &Geometry, blocks: &[u64]) -> bool
 
 /// Whether no block lies in two of the runs of what a data fork holds.
 pub fn ranges_apart(alloc: Global, g: &Geometry, held: &DataHeld) -> Result<bool, AllocError>
+    requires { is_placed (volume_of g.now) held.now ≡ true }
+    ensures { IfOk result (λ apart. apart ≡ ranges_apart (ranges_of (volume_of g.now) held.now)) }
+{
+    if is_single(held) {
+        return Ok(true);
+    }
+    are_apart(alloc, g, held)
+}
+
+/// Whether a data fork has one extent at most, and no tree, as most have.
+#[tactic(auto, using(crate::proofs::Single::single_apart))]
+fn is_single(held: &DataHeld) -> bool
+    ensures { result ≡ true → (v : Volume) → true ≡ ranges_apart (ranges_of v held.now) }
+{
+    held.blocks().is_empty() && held.extents().len() <= 1
+}
+
+/// Whether no block lies in two of the runs, by their order.
+fn are_apart(alloc: Global, g: &Geometry, held: &DataHeld) -> Result<bool, AllocError>
     requires { is_placed (volume_of g.now) held.now ≡ true }
     ensures { IfOk result (λ apart. apart ≡ ranges_apart (ranges_of (volume_of g.now) held.now)) }
 {
