@@ -39,7 +39,7 @@ pub struct DirImage {
 /// Builds the directory `dir` with these entries and this parent, in the first form that fits; `fork` is how many
 /// bytes its data fork may have. Names have at most 255 bytes and are neither "." nor ".."; inode numbers have at
 /// most 4 bytes. Whatever places, owners and seals its blocks get, they are then whole, with exactly these entries
-/// (chapter "Directories").
+/// (chapter "Directories"). `NoMemory` where the blocks do not fit.
 pub fn build(
     alloc: Global,
     entries: &[EntryRec],

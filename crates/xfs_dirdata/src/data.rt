@@ -32,8 +32,9 @@ pub struct DataBlock {
     pub bests: [FreeSpan; 3],
 }
 
-/// Reads a data block of the directory `dir`, without its seal; `whole` in the single-block form, whose
-/// tail says where the entries end. `Unsound` where the block breaks a rule (chapter "Directories").
+/// Reads a data block, of 4096 bytes, of the directory with inode number `dir`, without its seal; `whole` says that it is the only
+/// block of its directory, whose tail says where the entries end. `Unsound` where the block breaks a rule, `NoMemory` where the
+/// lists do not fit (chapter "Directories").
 #[tactic(auto, unfolding(crate::specs::Data::data_of, crate::specs::Data::data_area))]
 pub fn read_data(
     alloc: Global,

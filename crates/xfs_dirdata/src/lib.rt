@@ -4,7 +4,7 @@
 //! Reads what stands in a directory's inode or in one of its data blocks as a list of entries, or says that it is
 //! unsound, and puts entries there, as many as fit.
 //!
-//! `xfs_dirs` gathers entries so:
+//! `xfs_dirs` gathers entries so, where `dir` is the directory's inode number, and `whole` says that it has no other block:
 //!
 //! ```text
 //! let data = read_data(alloc, dir, block, whole)?; // entries, their places, unused spans

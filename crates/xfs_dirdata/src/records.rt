@@ -14,7 +14,8 @@ pub struct EntryRec {
     pub name: Word,
     /// The inode number that the entry names.
     pub ino: u64,
-    /// What kind of file the entry says that the inode is.
+    /// What kind of file the entry says that the inode is: 1 a regular file, 2 a directory, 3 a character device, 4 a block device,
+    /// 5 a pipe, 6 a socket, 7 a link; 0 says nothing.
     pub ftype: u8,
 }
 

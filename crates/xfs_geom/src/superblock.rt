@@ -1,5 +1,6 @@
 //! The superblock's layout: sector 0 of each allocation group (chapter "Superblocks").
-//! One constant for each field, and the table of all in the order of their offsets.
+//! One constant for each field, and the table of all in the order of their offsets, which are bytes from the sector's start; widths
+//! are bytes too.
 
 use xfs_word::{FieldLayout, Form};
 
