@@ -5,8 +5,8 @@ use Rattle.std.specs.Str.{bytes_eq}
 use Rattle.std.proofs.lemmas.Bool.{and_parts, eq-eqb, leb-true, ltb-true, true≢false}
 use Rattle.std.proofs.lemmas.List.Elements.{All-append}
 use Rattle.std.proofs.lemmas.Slice.Eq.{bytes_eq-Decides}
-use Rattle.xfs_proto.specs.Grammar.{Content, Entries, Head, IsProtofile, empty_directory, entry_node, head_tokens}
-use Rattle.xfs_proto.specs.Grammar.Content.{regular, link, block, character, pipe}
+use Rattle.xfs_proto.specs.Grammar.{TypeTokens, Entries, Head, IsProtofile, empty_directory, entry_node, head_tokens}
+use Rattle.xfs_proto.specs.Grammar.TypeTokens.{regular, link, block, character, pipe}
 use Rattle.xfs_proto.specs.Grammar.Entries.{none, file, directory}
 use Rattle.xfs_proto.specs.Modes.{bits_of, digit_of, flag_of, mode_of, mode_with, permissions_of, permissions_with, type_of_letter}
 use Rattle.xfs_proto.specs.Numbers.{limited, number_below}
@@ -159,14 +159,14 @@ unfolding number_below
 below_low limit n text said = limited_low limit n _ said
 
 -- what stands behind the owners of an entry says a content of its type, which a file can hold
-content_typed : (kind : FileType) (content : List Token) (says : ProtoKind) → Content kind content says → type_of_kind says ≡ number_of_type kind
+content_typed : (kind : FileType) (content : List Token) (says : ProtoKind) → TypeTokens kind content says → type_of_kind says ≡ number_of_type kind
 content_typed _ _ _ (regular source) = refl
 content_typed _ _ _ (link target short) = refl
 content_typed _ _ _ (block upper lower m n is_upper is_lower) = refl
 content_typed _ _ _ (character upper lower m n is_upper is_lower) = refl
 content_typed _ _ _ pipe = refl
 
-content_holds : (kind : FileType) (content : List Token) (says : ProtoKind) → Content kind content says → All HasText content → CanHold says
+content_holds : (kind : FileType) (content : List Token) (says : ProtoKind) → TypeTokens kind content says → All HasText content → CanHold says
 content_holds _ _ _ (regular source) have = tt
 content_holds _ _ _ (link target short) have = (have zero target (omega arith), leb-true (length target.text) 1024 short)
 content_holds _ _ _ (block upper lower m n is_upper is_lower) have = (below_low (2 ^ 14) m upper.text is_upper, below_low (2 ^ 18) n lower.text is_lower)

@@ -10,7 +10,7 @@ use Rattle.xfs_proto.specs.declared.protofile.ProtoKind.TheVariants as Kind
 use Rattle.xfs_proto.specs.declared.protofile.ProtoNode.{ProtoNode}
 use Rattle.xfs_filled.specs.FileTrees.{no_proto_node, node_at}
 use Rattle.xfs_mkfs.specs.FilesAsked.{content_in}
-use Rattle.xfs_mkfs.specs.Sharing.{AreContents, IsContentBefore, have_one_name, is_named}
+use Rattle.xfs_mkfs.specs.Sharing.{AreContents, IsContentBefore, have_one_name, is_so_named}
 
 pub no_contents : (map : Files) (nodes : List ProtoNode) → AreContents map nodes []
 no_contents map nodes j low = absurd (omega (arith, low))
@@ -27,7 +27,7 @@ one_more_content map nodes k contents bytes count is each j low = elim (cases_lt
 ]
 
 -- files that have their bytes by one name have the same
-named : (map : Files) (name : List ℕ) (kind : ProtoKind) → is_named kind name ≡ true → file_named name map ≡ content_in map kind
+named : (map : Files) (name : List ℕ) (kind : ProtoKind) → is_so_named kind name ≡ true → file_named name map ≡ content_in map kind
 named map name (Kind.Regular own line) same = ap (λ (word : List ℕ). file_named word map) (sym ((bytes_eq-Decides own name).0 same))
 named map name Kind.Directory same = absurd (false≢true same)
 named map name (Kind.Link target) same = absurd (false≢true same)

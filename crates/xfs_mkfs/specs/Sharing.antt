@@ -9,17 +9,17 @@ use Rattle.xfs_filled.specs.FileTrees.{node_at}
 use Rattle.xfs_mkfs.specs.FilesAsked.{content_in}
 
 -- a file has its bytes by this name
-abbrev pub is_named : ProtoKind → List ℕ → Bool
-is_named (Kind.Regular own line) name = bytes_eq own name
-is_named Kind.Directory name = false
-is_named (Kind.Link target) name = false
-is_named (Kind.Block major minor) name = false
-is_named (Kind.Character major minor) name = false
-is_named Kind.Pipe name = false
+abbrev pub is_so_named : ProtoKind → List ℕ → Bool
+is_so_named (Kind.Regular own line) name = bytes_eq own name
+is_so_named Kind.Directory name = false
+is_so_named (Kind.Link target) name = false
+is_so_named (Kind.Block major minor) name = false
+is_so_named (Kind.Character major minor) name = false
+is_so_named Kind.Pipe name = false
 
 -- two files have their bytes by one name
 abbrev pub have_one_name : ProtoKind → ProtoKind → Bool
-have_one_name (Kind.Regular name line) other = is_named other name
+have_one_name (Kind.Regular name line) other = is_so_named other name
 have_one_name Kind.Directory other = false
 have_one_name (Kind.Link target) other = false
 have_one_name (Kind.Block major minor) other = false

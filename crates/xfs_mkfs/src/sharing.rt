@@ -1,7 +1,7 @@
 //! Files that have their bytes by one name: these are held once.
 
 ghost use Rattle.std.specs.Prelude.{◌≡◌, ◌<◌, ◌≤◌, length, IfOk, MatchOption};
-ghost use Rattle.xfs_mkfs.specs.Sharing.{IsContentBefore, have_one_name, is_named};
+ghost use Rattle.xfs_mkfs.specs.Sharing.{IsContentBefore, have_one_name, is_so_named};
 
 use std::alloc::Global;
 use std::collections::BTreeMap;
@@ -61,14 +61,14 @@ fn have_one_name(one: &ProtoKind, other: &ProtoKind) -> bool
     ensures { result ≡ have_one_name one.now other.now }
 {
     match one {
-        ProtoKind::Regular { name, .. } => is_named(other, name),
+        ProtoKind::Regular { name, .. } => is_so_named(other, name),
         _ => false,
     }
 }
 
 /// Whether a file has its bytes by this name.
-fn is_named(kind: &ProtoKind, name: &Word) -> bool
-    ensures { result ≡ is_named kind.now name.now }
+fn is_so_named(kind: &ProtoKind, name: &Word) -> bool
+    ensures { result ≡ is_so_named kind.now name.now }
 {
     match kind {
         ProtoKind::Regular { name: own, .. } => own.bytes() == name.bytes(),

@@ -2,8 +2,8 @@
 use Rattle.std.proofs.Common.{◌≡◌, ℕ, ◌+◌, ◌-◌, Bool, true, cond, List, [], ◌∷◌, ◌++◌, length, take, Option, Some, None, Result, Ok, nat_le, refl, sym, ap, ◌∙◌, arith, append_assoc}
 use Rattle.std.proofs.lemmas.List.{append-nil, take_at, length-append}
 use Rattle.std.specs.List.{slice_get}
-use Rattle.xfs_proto.specs.Grammar.{Content, Entries, Head, IsProtofile, empty_directory, head_tokens, is_end, entry_node}
-use Rattle.xfs_proto.specs.Grammar.Content.{regular, link, block, character, pipe}
+use Rattle.xfs_proto.specs.Grammar.{TypeTokens, Entries, Head, IsProtofile, empty_directory, head_tokens, is_end, entry_node}
+use Rattle.xfs_proto.specs.Grammar.TypeTokens.{regular, link, block, character, pipe}
 use Rattle.xfs_proto.specs.Grammar.Entries.{none, file, directory}
 use Rattle.xfs_proto.specs.Reading.{Pending, SyntaxError, State, after_group, after_kind, after_major, after_minor, after_mode, after_next, after_tokens, after_user, closed, finished, fits_name, named, one_more, token_error, start, with_node}
 use Rattle.xfs_proto.specs.Tokens.{Token}
@@ -62,7 +62,7 @@ chosen : (b : Bool) (s : State) (other : Result State SyntaxError) → b ≡ tru
 chosen b s other holds = ap (λ (x : Bool). cond x (read s) other) holds
 
 -- what stands behind the owners gives the node
-content_gives : (kind : FileType) (content : List Token) (says : ProtoKind) → Content kind content says
+content_gives : (kind : FileType) (content : List Token) (says : ProtoKind) → TypeTokens kind content says
     → (at : Open) (outer : List Open) (line : ℕ) (name : List ℕ) (bits uid gid major : ℕ) (before : List ProtoNode)
     → Gives at outer before (node_with at name bits uid gid says)
     (after_tokens content (Ok (after_kind kind (awaiting Next.Group at outer line (pending_of name kind bits uid gid major) before))))

@@ -2,8 +2,8 @@
 use Rattle.std.proofs.Common.{◌≡◌, ℕ, zero, suc, ◌+◌, ◌^◌, ◌<◌, Bool, true, false, cond, List, [], ◌∷◌, ◌++◌, length, Option, Some, None, Result, Ok, Err, is_ok, nat_le, refl, sym, ap, ◌∙◌, subst, arith, append_assoc}
 use Rattle.std.proofs.lemmas.Bool.{false≢true}
 use Rattle.std.proofs.lemmas.List.{append-nil, length-append}
-use Rattle.xfs_proto.specs.Grammar.{Content, Entries, Head, IsProtofile, empty_directory, head_tokens, is_end, entry_node}
-use Rattle.xfs_proto.specs.Grammar.Content.{regular, link, block, character, pipe}
+use Rattle.xfs_proto.specs.Grammar.{TypeTokens, Entries, Head, IsProtofile, empty_directory, head_tokens, is_end, entry_node}
+use Rattle.xfs_proto.specs.Grammar.TypeTokens.{regular, link, block, character, pipe}
 use Rattle.xfs_proto.specs.Grammar.Entries.{none, file, directory}
 use Rattle.xfs_proto.specs.Numbers.{number_below}
 use Rattle.xfs_proto.specs.Modes.{mode_of}
@@ -109,14 +109,14 @@ record Held (all : List ProtoNode) (tokens : List Token) (kind : FileType) (at :
   line : ℕ
   entry : Pending
   split : tokens ≡ content ++ rest
-  has : Content kind content says
+  has : TypeTokens kind content says
   leads : Leads all rest (Ok (naming at outer line entry (before ++ node_for at e says ∷ [])))
 
 -- what a device's two numbers lead to
 devices : (all : List ProtoNode) (tokens : List Token) (kind : FileType) (at : Open) (outer : List Open) (line : ℕ) (e : Pending) (before : List ProtoNode)
     → e.mode.kind ≡ kind
     → ((upper lower : Token) (major minor : ℕ) → number_below (2 ^ 14) upper.text ≡ Some major → number_below (2 ^ 18) lower.text ≡ Some minor
-    → Content kind (upper ∷ lower ∷ []) (device kind major minor))
+    → TypeTokens kind (upper ∷ lower ∷ []) (device kind major minor))
     → Leads all tokens (Ok (awaiting Next.Major at outer line e before)) → Held all tokens kind at outer e before
 devices all tokens kind at outer line e before is_kind makes h =
     let first = major_step all tokens at outer line e before h in

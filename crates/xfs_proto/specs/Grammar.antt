@@ -18,14 +18,14 @@ is_end token = bytes_eq token.text (codes "$")
 
 -- what stands behind the owners of an entry that is no directory: the library's name of a regular file's bytes, a link's target, the two
 -- numbers of a device, or nothing
-pub data Content : FileType → List Token → ProtoKind → Type 0 where
-  regular : (source : Token) → Content File.Regular (source ∷ []) (Kind.Regular source.text source.line)
-  link : (target : Token) → nat_le (length target.text) 1024 ≡ true → Content File.Link (target ∷ []) (Kind.Link target.text)
+pub data TypeTokens : FileType → List Token → ProtoKind → Type 0 where
+  regular : (source : Token) → TypeTokens File.Regular (source ∷ []) (Kind.Regular source.text source.line)
+  link : (target : Token) → nat_le (length target.text) 1024 ≡ true → TypeTokens File.Link (target ∷ []) (Kind.Link target.text)
   block : (upper lower : Token) (major minor : ℕ) → number_below (2 ^ 14) upper.text ≡ Some major → number_below (2 ^ 18) lower.text ≡ Some minor
-      → Content File.Block (upper ∷ lower ∷ []) (Kind.Block major minor)
+      → TypeTokens File.Block (upper ∷ lower ∷ []) (Kind.Block major minor)
   character : (upper lower : Token) (major minor : ℕ) → number_below (2 ^ 14) upper.text ≡ Some major
-      → number_below (2 ^ 18) lower.text ≡ Some minor → Content File.Character (upper ∷ lower ∷ []) (Kind.Character major minor)
-  pipe : Content File.Pipe [] Kind.Pipe
+      → number_below (2 ^ 18) lower.text ≡ Some minor → TypeTokens File.Character (upper ∷ lower ∷ []) (Kind.Character major minor)
+  pipe : TypeTokens File.Pipe [] Kind.Pipe
 
 -- how an entry of a directory begins, behind these files: a name that its directory can have, a mode, the numbers of a user and a group
 pub record Head (at : Open) (before : List ProtoNode) : Type 0 where
@@ -58,7 +58,7 @@ empty_directory before = record { directory = length before; entries = 0 }
 pub data Entries : Open → List ProtoNode → List Token → List ProtoNode → Type 0 where
   none : (at : Open) (before : List ProtoNode) (token : Token) → is_end token ≡ true → Entries at before (token ∷ []) []
   file : (at : Open) (before : List ProtoNode) (h : Head at before) (content rest : List Token) (kind : ProtoKind) (nodes : List ProtoNode)
-      → Content h.says.kind content kind
+      → TypeTokens h.says.kind content kind
       → Entries (one_more at) (before ++ entry_node h kind ∷ []) rest nodes
       → Entries at before (head_tokens h ++ (content ++ rest)) (entry_node h kind ∷ nodes)
   directory : (at : Open) (before : List ProtoNode) (h : Head at before) (inner rest : List Token) (below nodes : List ProtoNode)

@@ -8,7 +8,7 @@ use Rattle.std.proofs.lemmas.Option.{get_or_from_slice_get}
 use Rattle.xfs_bank.proofs.Blocks.{length-blocks_of, slice_get-blocks_of}
 use Rattle.xfs_disk.specs.Blocks.{Image}
 use Rattle.xfs_disk.specs.Memory.{blocks_of_bytes}
-use Rattle.xfs_shared.specs.Pieces.{IsInside, block_of}
+use Rattle.xfs_shared.specs.Pieces.{HasBlock, block_of}
 use Rattle.xfs_shared.specs.declared.piece.Piece.{Piece}
 
 -- one more piece behind the others
@@ -16,11 +16,11 @@ pub one_more : (pieces : List Piece) (p : Piece) (list : Image) (block : List �
     → map block_of (pieces ++ p ∷ []) ≡ list ++ block ∷ []
 one_more pieces p list block held is = map-append block_of pieces (p ∷ []) ∙ (λ k. held k ++ is k ∷ [])
 
-pub more_inside : (pieces : List Piece) (p : Piece) → All IsInside pieces → IsInside p → All IsInside (pieces ++ p ∷ [])
-more_inside pieces p all one = All-append IsInside pieces (p ∷ []) all (All-cons IsInside p [] one (All-nil IsInside))
+pub more_inside : (pieces : List Piece) (p : Piece) → All HasBlock pieces → HasBlock p → All HasBlock (pieces ++ p ∷ [])
+more_inside pieces p all one = All-append HasBlock pieces (p ∷ []) all (All-cons HasBlock p [] one (All-nil HasBlock))
 
 -- a block has 4096 bytes
-pub block_long : (p : Piece) → IsInside p → length (block_of p) ≡ 4096
+pub block_long : (p : Piece) → HasBlock p → length (block_of p) ≡ 4096
 block_long p inside = length-take-le 4096 (drop p.at p.bytes) (omega (arith, inside, length-drop p.at p.bytes))
 
 -- a whole block of some bytes is all of these

@@ -7,5 +7,5 @@ abbrev pub block_of : Piece → List ℕ
 block_of p = take 4096 (drop p.at p.bytes)
 
 -- a block lies among the bytes
-abbrev pub IsInside : Piece → Type 0
-IsInside p = p.at + 4096 ≤ length p.bytes
+abbrev pub HasBlock : Piece → Type 0
+HasBlock p = p.at + 4096 ≤ length p.bytes

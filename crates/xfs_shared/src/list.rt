@@ -19,13 +19,13 @@ pub struct BlockList {
 impl Model for BlockList {
     ghost use Rattle.std.specs.Prelude.{List, ℕ, map};
     ghost use Rattle.std.specs.List.{All};
-    ghost use Rattle.xfs_shared.specs.Pieces.{IsInside, block_of};
+    ghost use Rattle.xfs_shared.specs.Pieces.{HasBlock, block_of};
 
     ghost Value = { List (List ℕ) };
 
     ghost view = { λ list. map block_of list.pieces.items };
 
-    ghost invariant = { λ list. All IsInside list.pieces.items };
+    ghost invariant = { λ list. All HasBlock list.pieces.items };
 }
 
 impl BlockList {

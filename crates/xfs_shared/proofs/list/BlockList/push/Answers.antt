@@ -1,6 +1,6 @@
 use Rattle.std.proofs.Common.{◌≡◌, ℕ, List, map, take, drop, length, arith, ap, subst, sym, ◌∙◌}
 use Rattle.std.specs.List.{All}
-use Rattle.xfs_shared.specs.Pieces.{IsInside, block_of}
+use Rattle.xfs_shared.specs.Pieces.{HasBlock, block_of}
 use Rattle.xfs_shared.specs.declared.piece.Piece.{Piece}
 use Rattle.xfs_shared.proofs.Lists.{more_inside, one_more, whole_block}
 use Rattle.xfs_shared.proofs.list.BlockList.push.Goals as goal
@@ -9,7 +9,7 @@ pub invariant_of-self-2 : goal.invariant_of-self-2
 invariant_of-self-2 c =
     let p : Piece = record { bytes = c.in_ok-bytes.bytes; at = 0 } in
     let is : c.in_ok-bytes.bytes ≡ c.args.block.now = c.in_ok-bytes.ensures ∙ c.in_ok-from_slice.ensures.items in
-    subst (λ (ps : List Piece). All IsInside ps) (sym c.in_ok-push.ensures.items)
+    subst (λ (ps : List Piece). All HasBlock ps) (sym c.in_ok-push.ensures.items)
     (more_inside c.self.inside.pieces.items p c.self.invariant (omega (arith, ap length is, c.requires.whole)))
 
 pub returns : goal.returns
