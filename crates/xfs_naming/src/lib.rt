@@ -26,4 +26,4 @@ mod walks;
 pub use checks::check_names;
 pub use linking::links_of;
 pub use lookups::entry_type;
-pub use runs::{Link, Numbered, records_by_number};
+pub use runs::{Link, Numbered, records_by_number, records_near};

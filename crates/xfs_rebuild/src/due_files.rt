@@ -17,7 +17,7 @@ use xfs_dirdata::EntryRec;
 use xfs_disk::{NoMemory, Word};
 use xfs_naming::{Link, Numbered};
 use xfs_render::{SlotBase, SlotWanted};
-use xfs_request::links_due;
+use xfs_request::{Near, links_due};
 use xfs_volume::{Core, DirRec, FileRec, Records};
 
 /// How many links each file is to have. `NoMemory` where memory is wanting, or where a number cannot be held.
@@ -36,8 +36,10 @@ pub(crate) fn all_due(
     ensures { IfOk result (λ dues. dues.items ≡ map (links_due root files.now entries.now) files.now) }
 {
     let mut dues = Vec::new(alloc);
+    let mut near = Near::first();
     for file in files {
-        dues.push(narrow(links_due(root, files, entries, links, file))?)?;
+        let due = links_due(root, files, entries, links, &mut near, file);
+        dues.push(narrow(due)?)?;
     }
     Ok(dues)
 }

@@ -37,20 +37,22 @@ pub fn inodes_wanted(
     ensures { IfOk result (λ groups. groups.items ≡ inodes_wanted (volume_of g.now) kept.now) }
 {
     let mut groups = Vec::new(alloc);
+    let mut near = 0;
     for ag in 0..g.agcount {
         groups.push(GroupInodes {
-            records: kept_chunks(alloc, g, kept, ag)?,
+            records: kept_chunks(alloc, g, kept, &mut near, ag)?,
         })?;
     }
     Ok(groups)
 }
 
-/// Those of a group.
+/// Those of a group. `near` is a place among the files at which its first may stand.
 #[tactic(auto, unfolding(crate::specs::Chunks::kept_chunks))]
 fn kept_chunks(
     alloc: Global,
     g: &Geometry,
     kept: &Salvaged,
+    near: &mut usize,
     ag: u32,
 ) -> Result<Records<InoRec>, NoMemory>
     requires files { IsNonDecreasingBy (λ (f : FileRec). f.ino) kept.now.files }
@@ -60,7 +62,7 @@ fn kept_chunks(
 {
     let mut chunks = Vec::new(alloc);
     for c in 1..g.group_length(ag) / CHUNK_BLOCKS {
-        push_chunk(g, kept, ag, c, &mut chunks)?;
+        push_chunk(g, kept, near, ag, c, &mut chunks)?;
     }
     Ok(Records::from_vec(chunks))
 }
@@ -70,6 +72,7 @@ fn kept_chunks(
 fn push_chunk(
     g: &Geometry,
     kept: &Salvaged,
+    near: &mut usize,
     ag: u32,
     c: u32,
     chunks: &mut Vec<InoRec>,
@@ -83,7 +86,7 @@ fn push_chunk(
     let first = has_kept_cluster(g, kept, ag, c, 0);
     let second = has_kept_cluster(g, kept, ag, c, CLUSTER_BLOCKS);
     if first || second {
-        chunks.push(counted_chunk(g, kept, ag, SLOTS * c, holes(first, second)))?;
+        chunks.push(counted_chunk(g, kept, near, ag, SLOTS * c, holes(first, second)))?;
     }
     Ok(())
 }
@@ -109,7 +112,14 @@ fn holes(first: bool, second: bool) -> u16
 }
 
 /// A chunk with its free inodes.
-fn counted_chunk(g: &Geometry, kept: &Salvaged, ag: u32, startino: u32, holemask: u16) -> InoRec
+fn counted_chunk(
+    g: &Geometry,
+    kept: &Salvaged,
+    near: &mut usize,
+    ag: u32,
+    startino: u32,
+    holemask: u16,
+) -> InoRec
     requires files { IsNonDecreasingBy (λ (f : FileRec). f.ino) kept.now.files }
     requires group { ag < g.now.agcount }
     ensures { result ≡ counted_chunk (volume_of g.now) kept.now ag startino holemask }
@@ -117,7 +127,7 @@ fn counted_chunk(g: &Geometry, kept: &Salvaged, ag: u32, startino: u32, holemask
     let mut freecount = 0;
     let mut free = 0;
     for inode in 0..SLOTS {
-        let bit = bit_of(is_idle(g, kept, ag, startino, holemask, inode));
+        let bit = bit_of(is_idle(g, kept, near, ag, startino, holemask, inode));
         freecount += bit as u8;
         free += bit << inode;
     }
@@ -146,22 +156,35 @@ fn bit_of(passes: bool) -> u64
 }
 
 /// Whether an inode of a chunk is there and not in use.
-fn is_idle(g: &Geometry, kept: &Salvaged, ag: u32, startino: u32, holemask: u16, inode: u32) -> bool
+fn is_idle(
+    g: &Geometry,
+    kept: &Salvaged,
+    near: &mut usize,
+    ag: u32,
+    startino: u32,
+    holemask: u16,
+    inode: u32,
+) -> bool
     requires files { IsNonDecreasingBy (λ (f : FileRec). f.ino) kept.now.files }
     requires group { ag < g.now.agcount }
     requires inode { inode < 64 }
     ensures { result ≡ is_idle (volume_of g.now) kept.now ag startino holemask inode }
 {
     let is_missing = holemask >> (inode / 4) & 1 == 1;
-    !(is_missing || is_inode_used(kept, inode_number(g, ag, startino as u64 + inode as u64)))
+    !(is_missing
+        || is_inode_used(
+            kept,
+            near,
+            inode_number(g, ag, startino as u64 + inode as u64),
+        ))
 }
 
 /// Whether an inode is in use: a kept file has its number, or it is made anew.
-fn is_inode_used(kept: &Salvaged, ino: u64) -> bool
+fn is_inode_used(kept: &Salvaged, near: &mut usize, ino: u64) -> bool
     requires { IsNonDecreasingBy (λ (f : FileRec). f.ino) kept.now.files }
     ensures { result ≡ is_inode_used kept.now ino }
 {
-    is_in_use(kept.files.as_slice(), ino) || is_one_of(kept.fresh.as_slice(), ino)
+    is_in_use(kept.files.as_slice(), near, ino) || is_one_of(kept.fresh.as_slice(), ino)
 }
 
 /// The number of an inode of a group, by its number inside the group.

@@ -13,15 +13,40 @@ ghost use Rattle.xfs_request.specs.Slots.{links_due, nlink_wanted};
 
 use xfs_dirdata::EntryRec;
 use xfs_disk::NoMemory;
-use xfs_naming::{Link, records_by_number};
+use xfs_naming::{Link, records_near};
 use xfs_volume::{FileRec, is_directory};
 
-/// Whether a file has the number.
-pub(crate) fn is_in_use(files: &[FileRec], ino: u64) -> bool
+/// Where files, entries, links and slots are looked for first: what goes by ascending numbers is found so.
+#[derive(Clone, Copy, Debug)]
+pub struct Near {
+    /// A place among the files.
+    pub files: usize,
+    /// A place among the entries.
+    pub entries: usize,
+    /// A place among the links.
+    pub links: usize,
+    /// A place among the slots.
+    pub slots: usize,
+}
+
+impl Near {
+    /// The first place of each.
+    pub fn first() -> Near {
+        Near {
+            files: 0,
+            entries: 0,
+            links: 0,
+            slots: 0,
+        }
+    }
+}
+
+/// Whether a file has the number. `near` is a place among the files at which it may stand, and then the one behind it.
+pub(crate) fn is_in_use(files: &[FileRec], near: &mut usize, ino: u64) -> bool
     requires { IsNonDecreasingBy (λ (f : FileRec). f.ino) files.now }
     ensures { result ≡ is_in_use files.now ino }
 {
-    !records_by_number(files, ino).is_empty()
+    !records_near(files, near, ino).is_empty()
 }
 
 /// Whether one of these files is a directory.
@@ -31,12 +56,12 @@ fn have_directory(files: &[FileRec]) -> bool
     files.iter().any(|file| is_directory(file))
 }
 
-/// Whether a directory has the number.
-fn is_directory_at(files: &[FileRec], ino: u64) -> bool
+/// Whether a directory has the number. `near` is a place among the files at which it may stand.
+fn is_directory_at(files: &[FileRec], near: &mut usize, ino: u64) -> bool
     requires { IsNonDecreasingBy (λ (f : FileRec). f.ino) files.now }
     ensures { result ≡ is_directory_at files.now ino }
 {
-    have_directory(records_by_number(files, ino))
+    have_directory(records_near(files, near, ino))
 }
 
 /// How many of some entries name a directory.
@@ -44,13 +69,24 @@ fn count_directories(files: &[FileRec], own: &[EntryRec]) -> usize
     requires { IsNonDecreasingBy (λ (f : FileRec). f.ino) files.now }
     ensures { result ≡ count_by (λ (e : EntryRec). is_directory_at files.now e.ino) own.now }
 {
-    own.iter()
-        .filter(|entry| is_directory_at(files, entry.ino))
-        .count()
+    let mut near = 0;
+    let mut count = 0;
+    for entry in own {
+        if is_directory_at(files, &mut near, entry.ino) {
+            count += 1;
+        }
+    }
+    count
 }
 
 /// How many names the entries give a file: a directory two and one for each directory in it.
-fn links_of(files: &[FileRec], entries: &[EntryRec], links: &[Link], file: &FileRec) -> u128
+fn links_of(
+    files: &[FileRec],
+    entries: &[EntryRec],
+    links: &[Link],
+    near: &mut Near,
+    file: &FileRec,
+) -> u128
     requires files { IsNonDecreasingBy (λ (f : FileRec). f.ino) files.now }
     requires entries { IsNonDecreasingBy (λ (e : EntryRec). e.dir) entries.now }
     requires links { IsNonDecreasingBy (λ (l : Link). l.target) links.now }
@@ -58,9 +94,10 @@ fn links_of(files: &[FileRec], entries: &[EntryRec], links: &[Link], file: &File
     ensures { result ≡ links_of files.now entries.now file.now }
 {
     if is_directory(file) {
-        2 + count_directories(files, records_by_number(entries, file.ino)) as u128
+        let own = records_near(entries, &mut near.entries, file.ino);
+        2 + count_directories(files, own) as u128
     } else {
-        records_by_number(links, file.ino).len() as u128
+        records_near(links, &mut near.links, file.ino).len() as u128
     }
 }
 
@@ -72,12 +109,13 @@ fn is_system(root: u64, ino: u64) -> bool
     ino == root + 1 || ino == root + 2
 }
 
-/// How many names a file is to have.
+/// How many names a file is to have. `near` says where what names it may stand.
 pub fn links_due(
     root: u64,
     files: &[FileRec],
     entries: &[EntryRec],
     links: &[Link],
+    near: &mut Near,
     file: &FileRec,
 ) -> u128
     requires low { root < 2 ^ 32 }
@@ -90,7 +128,7 @@ pub fn links_due(
     if is_system(root, file.ino) {
         return 1;
     }
-    links_of(files, entries, links, file)
+    links_of(files, entries, links, near, file)
 }
 
 /// Their number where it is to be set: where the file has another, or waits to be removed. `NoMemory` where it cannot be held.

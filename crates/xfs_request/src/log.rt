@@ -56,8 +56,9 @@ pub fn kept_lsns(
     ensures { IfOk result (λ numbers. numbers.items ≡ kept_lsns (volume_of g.now) kept.now slots.now lsns.now) }
 {
     let mut numbers = Vec::new(alloc);
+    let mut near = 0;
     for slot in slots {
-        push_lsn(g, kept, slot, &mut numbers)?;
+        push_lsn(g, kept, &mut near, slot, &mut numbers)?;
     }
     numbers.extend_from_slice(lsns)?;
     Ok(numbers)
@@ -67,6 +68,7 @@ pub fn kept_lsns(
 fn push_lsn(
     g: &Geometry,
     kept: &Salvaged,
+    near: &mut usize,
     slot: &SlotSeen,
     numbers: &mut Vec<u64>,
 ) -> Result<(), NoMemory>
@@ -74,14 +76,14 @@ fn push_lsn(
     requires clusters { NumbersAscend 0 kept.now.clusters }
     ensures { OnOk result (numbers.new.items ≡ numbers.old.items ++ lsn_listed (volume_of g.now) kept.now slot.now) }
 {
-    if keeps_lsn(g, kept, slot) {
+    if keeps_lsn(g, kept, near, slot) {
         numbers.push(slot.lsn)?;
     }
     Ok(())
 }
 
-/// Whether a slot keeps its number.
-fn keeps_lsn(g: &Geometry, kept: &Salvaged, slot: &SlotSeen) -> bool
+/// Whether a slot keeps its number. `near` is a place among the files at which its own may stand.
+fn keeps_lsn(g: &Geometry, kept: &Salvaged, near: &mut usize, slot: &SlotSeen) -> bool
     requires files { IsNonDecreasingBy (λ (f : FileRec). f.ino) kept.now.files }
     requires clusters { NumbersAscend 0 kept.now.clusters }
     ensures { result ≡ keeps_lsn (volume_of g.now) kept.now slot.now }
@@ -89,7 +91,7 @@ fn keeps_lsn(g: &Geometry, kept: &Salvaged, slot: &SlotSeen) -> bool
     if !is_among(kept.clusters.as_slice(), cluster_of(g, slot.ino)) {
         return false;
     }
-    if is_in_use(kept.files.as_slice(), slot.ino) {
+    if is_in_use(kept.files.as_slice(), near, slot.ino) {
         return true;
     }
     is_free(slot.state) && !is_one_of(kept.fresh.as_slice(), slot.ino)

@@ -4,7 +4,7 @@ ghost use Rattle.std.specs.Prelude.{◌≡◌, ◌==◌, filter};
 ghost use Rattle.std.specs.List.Sorted.{IsNonDecreasingBy};
 ghost use Rattle.xfs_request.specs.Slots.{is_bare, is_free, state_at};
 
-use xfs_naming::{Numbered, records_by_number};
+use xfs_naming::{Numbered, records_near};
 
 /// What a slot reads as.
 #[derive(Clone, Copy, Debug, PartialEq, Eq)]
@@ -35,12 +35,12 @@ impl Numbered for SlotSeen {
     }
 }
 
-/// What the slot of an inode reads as.
-pub(crate) fn state_at(slots: &[SlotSeen], ino: u64) -> SlotState
+/// What the slot of an inode reads as. `near` is a place among the slots at which it may stand.
+pub(crate) fn state_at(slots: &[SlotSeen], near: &mut usize, ino: u64) -> SlotState
     requires { IsNonDecreasingBy (λ (slot : SlotSeen). slot.ino) slots.now }
     ensures { result ≡ state_at slots.now ino }
 {
-    match records_by_number(slots, ino).first() {
+    match records_near(slots, near, ino).first() {
         Some(slot) => slot.state,
         None => SlotState::Other,
     }

@@ -8,12 +8,12 @@ ghost use Rattle.xfs_word.specs.declared.extents.Extent.{Extent};
 ghost use Rattle.xfs_request.specs.Slots.{CanBeSearched, attrs_wanted, bare_slot, block_slots, cluster_slots, file_slot, freed_slot, kept_slot, as_list, own_blocks, slot_listed, slot_wanted, wanted_slots};
 
 use crate::fresh::new_slot;
-use crate::links::{links_due, nlink_wanted};
+use crate::links::{Near, links_due, nlink_wanted};
 use crate::seen::{SlotSeen, SlotState, is_bare, is_free, state_at};
 use std::alloc::Global;
 use xfs_disk::{NoMemory, Stamp};
 use xfs_geom::Geometry;
-use xfs_naming::{Link, records_by_number};
+use xfs_naming::{Link, records_near};
 use xfs_render::{SlotBase, SlotWanted};
 use xfs_salvage::Salvaged;
 use xfs_volume::FileRec;
@@ -45,9 +45,10 @@ pub(crate) fn wanted_slots(alloc: Global, basis: &Basis) -> Result<Vec<SlotWante
     ensures { IfOk result (λ slots. slots.items ≡ wanted_slots (volume_of basis.now.g.now) basis.now.stamp.now basis.now.kept.now basis.now.slots.now) }
 {
     let mut slots = Vec::new(alloc);
+    let mut near = Near::first();
     let clusters = basis.kept.clusters.as_slice();
     for cluster in clusters {
-        push_cluster(alloc, basis, *cluster, &mut slots)?;
+        push_cluster(alloc, basis, &mut near, *cluster, &mut slots)?;
     }
     Ok(slots)
 }
@@ -57,6 +58,7 @@ pub(crate) fn wanted_slots(alloc: Global, basis: &Basis) -> Result<Vec<SlotWante
 fn push_cluster(
     alloc: Global,
     basis: &Basis,
+    near: &mut Near,
     cluster: u64,
     slots: &mut Vec<SlotWanted>,
 ) -> Result<(), NoMemory>
@@ -68,7 +70,7 @@ fn push_cluster(
         return Err(NoMemory);
     }
     for block in cluster..cluster + CLUSTER_BLOCKS {
-        push_block(alloc, basis, block, slots)?;
+        push_block(alloc, basis, near, block, slots)?;
     }
     Ok(())
 }
@@ -78,6 +80,7 @@ fn push_cluster(
 fn push_block(
     alloc: Global,
     basis: &Basis,
+    near: &mut Near,
     block: u64,
     slots: &mut Vec<SlotWanted>,
 ) -> Result<(), NoMemory>
@@ -87,7 +90,13 @@ fn push_block(
     ensures { OnOk result (slots.new.items ≡ slots.old.items ++ block_slots (volume_of basis.now.g.now) basis.now.stamp.now basis.now.kept.now basis.now.slots.now block) }
 {
     for slot in 0..SLOTS {
-        push_slot(alloc, basis, basis.g.inode_of_slot(block, slot), slots)?;
+        push_slot(
+            alloc,
+            basis,
+            near,
+            basis.g.inode_of_slot(block, slot),
+            slots,
+        )?;
     }
     Ok(())
 }
@@ -96,6 +105,7 @@ fn push_block(
 fn push_slot(
     alloc: Global,
     basis: &Basis,
+    near: &mut Near,
     ino: u64,
     slots: &mut Vec<SlotWanted>,
 ) -> Result<(), NoMemory>
@@ -103,7 +113,7 @@ fn push_slot(
     requires order { CanBeSearched basis.now.kept.now basis.now.slots.now basis.now.links.now }
     ensures { OnOk result (slots.new.items ≡ slots.old.items ++ slot_listed (volume_of basis.now.g.now) basis.now.stamp.now basis.now.kept.now basis.now.slots.now ino) }
 {
-    match slot_wanted(alloc, basis, ino)? {
+    match slot_wanted(alloc, basis, near, ino)? {
         Some(slot) => slots.push(slot)?,
         None => {}
     }
@@ -112,29 +122,35 @@ fn push_slot(
 
 /// What is wanted of the slot of an inode.
 #[tactic(auto, unfolding(crate::specs::Slots::slot_wanted))]
-fn slot_wanted(alloc: Global, basis: &Basis, ino: u64) -> Result<Option<SlotWanted>, NoMemory>
+fn slot_wanted(
+    alloc: Global,
+    basis: &Basis,
+    near: &mut Near,
+    ino: u64,
+) -> Result<Option<SlotWanted>, NoMemory>
     requires low { basis.now.g.now.rootino < 2 ^ 32 }
     requires order { CanBeSearched basis.now.kept.now basis.now.slots.now basis.now.links.now }
     ensures { IfOk result (λ slot. slot ≡ slot_wanted (volume_of basis.now.g.now) basis.now.stamp.now basis.now.kept.now basis.now.slots.now ino) }
 {
-    match records_by_number(basis.kept.files.as_slice(), ino).first() {
-        Some(file) => file_slot(basis, file),
-        None => bare_slot(alloc, basis, ino),
+    match records_near(basis.kept.files.as_slice(), &mut near.files, ino).first() {
+        Some(file) => file_slot(basis, near, file),
+        None => bare_slot(alloc, basis, near, ino),
     }
 }
 
 /// What is wanted of the slot of a kept file.
-fn file_slot(basis: &Basis, file: &FileRec) -> Result<Option<SlotWanted>, NoMemory>
+fn file_slot(basis: &Basis, near: &mut Near, file: &FileRec) -> Result<Option<SlotWanted>, NoMemory>
     requires low { basis.now.g.now.rootino < 2 ^ 32 }
     requires order { CanBeSearched basis.now.kept.now basis.now.slots.now basis.now.links.now }
     ensures { IfOk result (λ slot. slot ≡ file_slot (volume_of basis.now.g.now) basis.now.stamp.now basis.now.kept.now basis.now.slots.now file.now) }
 {
-    let attrs = attrs_wanted(file, state_at(basis.slots, file.ino))?;
+    let attrs = attrs_wanted(file, state_at(basis.slots, &mut near.slots, file.ino))?;
     let due = links_due(
         basis.g.rootino,
         basis.kept.files.as_slice(),
         basis.kept.entries.as_slice(),
         basis.links,
+        near,
         file,
     );
     Ok(kept_slot(file.ino, attrs, nlink_wanted(file, due)?))
@@ -189,7 +205,12 @@ fn kept_slot(ino: u64, attrs: Option<u64>, nlink: Option<u32>) -> Option<SlotWan
 }
 
 /// What is wanted of a slot without a kept file.
-fn bare_slot(alloc: Global, basis: &Basis, ino: u64) -> Result<Option<SlotWanted>, NoMemory>
+fn bare_slot(
+    alloc: Global,
+    basis: &Basis,
+    near: &mut Near,
+    ino: u64,
+) -> Result<Option<SlotWanted>, NoMemory>
     requires low { basis.now.g.now.rootino < 2 ^ 32 }
     requires order { CanBeSearched basis.now.kept.now basis.now.slots.now basis.now.links.now }
     ensures { IfOk result (λ slot. slot ≡ bare_slot (volume_of basis.now.g.now) basis.now.stamp.now basis.now.kept.now basis.now.slots.now ino) }
@@ -197,7 +218,7 @@ fn bare_slot(alloc: Global, basis: &Basis, ino: u64) -> Result<Option<SlotWanted
     if is_one_of(basis.kept.fresh.as_slice(), ino) {
         return Ok(Some(new_slot(alloc, basis.g, basis.stamp, ino)?));
     }
-    if is_free(state_at(basis.slots, ino)) {
+    if is_free(state_at(basis.slots, &mut near.slots, ino)) {
         return Ok(None);
     }
     Ok(Some(freed_slot(ino)))

@@ -10,7 +10,7 @@ ghost use Rattle.xfs_salvage.specs.Kept.{run_of_cluster, taken_of};
 use std::alloc::Global;
 use xfs_disk::NoMemory;
 use xfs_geom::{Geometry, Run};
-use xfs_salvage::{Salvaged, file_runs};
+use xfs_salvage::{Salvaged, push_file_runs};
 use xfs_volume::FileRec;
 
 /// The owner of the blocks of inodes.
@@ -26,7 +26,7 @@ pub fn taken_runs(alloc: Global, g: &Geometry, kept: &Salvaged) -> Result<Vec<Ru
 {
     let mut runs = Vec::new(alloc);
     push_clusters(kept.clusters.as_slice(), &mut runs)?;
-    push_files(alloc, g, kept.files.as_slice(), &mut runs)?;
+    push_files(g, kept.files.as_slice(), &mut runs)?;
     Ok(runs)
 }
 
@@ -46,18 +46,12 @@ fn push_clusters(clusters: &[u64], runs: &mut Vec<Run>) -> Result<(), NoMemory>
 }
 
 /// Adds the runs that files claim.
-fn push_files(
-    alloc: Global,
-    g: &Geometry,
-    files: &[FileRec],
-    runs: &mut Vec<Run>,
-) -> Result<(), NoMemory>
+fn push_files(g: &Geometry, files: &[FileRec], runs: &mut Vec<Run>) -> Result<(), NoMemory>
     requires { All (HasLawfulForks (volume_of g.now)) files.now }
     ensures { OnOk result (runs.new.items ≡ runs.old.items ++ flat_map (file_runs (volume_of g.now)) files.now) }
 {
     for file in files {
-        let claimed = file_runs(alloc, g, file)?;
-        runs.extend_from_slice(claimed.as_slice())?;
+        push_file_runs(runs, g, file)?;
     }
     Ok(())
 }

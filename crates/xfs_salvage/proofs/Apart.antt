@@ -1,5 +1,5 @@
 -- Runs that are put into a set one after the other have no block in common where none meets what was put in before.
-use Rattle.std.proofs.Common.{◌≡◌, ◌↔◌, ℕ, Bool, true, false, ◌+◌, ◌≤◌, ◌<◌, inl, inr, ◌||◌, nat_le, List, [], ◌∷◌, length, drop, get_or, refl, subst, arith}
+use Rattle.std.proofs.Common.{◌≡◌, ◌↔◌, ℕ, Bool, true, false, ◌+◌, ◌≤◌, ◌<◌, inl, inr, IsTrue, ◌||◌, nat_le, List, [], ◌∷◌, length, drop, get_or, refl, subst, arith}
 use Rattle.std.specs.List.{All, AllByRecursion, list_all}
 use Rattle.std.proofs.lemmas.Bool.{and_from, both_ways, cases_lt, le-leb, lt-ltb, or_from, or_left, or_parts, or_right}
 use Rattle.std.proofs.lemmas.List.Elements.{All-drop, recursion_from_All}
@@ -93,3 +93,13 @@ left_after old new runs i inside are off more before =
     (spans_some (drop (i + 1) runs) (recursion_from_All IsRun (drop (i + 1) runs) (All-drop IsRun (i + 1) runs are))) off in
     let same : AreLeft old (run ∷ rest) ↔ SpansApart (spans_of runs) = subst (λ (left : List (ℕ × ℕ)). AreLeft old left ↔ SpansApart (spans_of runs)) at before in
     (λ left. same.0 (next.0 left), λ apart. next.1 (same.1 apart))
+
+-- one run at most is apart
+pub single_apart : (runs : List Run) → length runs ≤ 1 → SpansApart (spans_of runs)
+single_apart [] few = tt
+single_apart (r ∷ []) few = (refl, tt)
+single_apart (r ∷ s ∷ rest) few = absurd (omega (arith, few))
+
+-- the same, as it is told
+pub single_told : (runs : List Run) → length runs ≤ 1 → IsTrue true ↔ SpansApart (spans_of runs)
+single_told runs few = (λ yes. single_apart runs few, λ apart. refl)

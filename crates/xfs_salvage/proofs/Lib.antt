@@ -2,3 +2,4 @@ pub mod Apart
 pub mod Conditions
 pub mod Ascending
 pub mod Directories
+pub mod Joined

@@ -23,4 +23,4 @@ pub use claiming::claims_in;
 pub use found::{FoundRecords, Salvaged};
 pub use keeping::salvage;
 pub use order::is_among;
-pub use runs::{cluster_of, file_runs};
+pub use runs::{cluster_of, push_file_runs};

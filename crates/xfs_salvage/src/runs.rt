@@ -28,21 +28,23 @@ const TREE_BLOCK: u64 = 1 << 62;
 const ATTRIBUTE: u64 = 1 << 63;
 
 /// What a file claims: its data, its attributes, the blocks of its tree of extents.
-pub fn file_runs(alloc: Global, g: &Geometry, file: &FileRec) -> Result<Vec<Run>, NoMemory>
+pub(crate) fn file_runs(alloc: Global, g: &Geometry, file: &FileRec) -> Result<Vec<Run>, NoMemory>
     requires { HasLawfulForks (volume_of g.now) file.now }
     ensures { IfOk result (λ runs. runs.items ≡ file_runs (volume_of g.now) file.now) }
 {
     let mut runs = Vec::new(alloc);
-    push_extents(&mut runs, g, file.ino, 0, file.extents.as_slice())?;
-    push_extents(
-        &mut runs,
-        g,
-        file.ino,
-        ATTRIBUTE,
-        file.attr_extents.as_slice(),
-    )?;
-    push_blocks(&mut runs, file.ino, file.tree.as_slice())?;
+    push_file_runs(&mut runs, g, file)?;
     Ok(runs)
+}
+
+/// Adds what a file claims.
+pub fn push_file_runs(runs: &mut Vec<Run>, g: &Geometry, file: &FileRec) -> Result<(), NoMemory>
+    requires { HasLawfulForks (volume_of g.now) file.now }
+    ensures { OnOk result (runs.new.items ≡ runs.old.items ++ file_runs (volume_of g.now) file.now) }
+{
+    push_extents(runs, g, file.ino, 0, file.extents.as_slice())?;
+    push_extents(runs, g, file.ino, ATTRIBUTE, file.attr_extents.as_slice())?;
+    push_blocks(runs, file.ino, file.tree.as_slice())
 }
 
 /// Adds the blocks of the extents of a fork, with the fork's flag.
@@ -118,8 +120,24 @@ pub(crate) fn root_cluster(g: &Geometry) -> u64
     cluster_of(g, g.rootino)
 }
 
-/// Whether no block is of two of the runs.
+/// Whether no block is of two of the runs. A single run, as most files have, is put into no set.
+#[tactic(auto, using(crate::proofs::Apart::single_told))]
 pub(crate) fn are_apart<L: Ledger>(
+    alloc: Global,
+    runs: &[Run],
+    steps: &mut Steps<L>,
+) -> Result<bool, NoMemory>
+    requires { All IsRun runs.now }
+    ensures { IfOk result (λ apart. IsTrue apart ↔ SpansApart (spans_of runs.now)) }
+{
+    if runs.len() <= 1 {
+        return Ok(true);
+    }
+    are_all_apart(alloc, runs, steps)
+}
+
+/// The same, by a set of the blocks of the runs in front.
+fn are_all_apart<L: Ledger>(
     alloc: Global,
     runs: &[Run],
     steps: &mut Steps<L>,

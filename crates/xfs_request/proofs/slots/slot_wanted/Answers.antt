@@ -11,7 +11,7 @@ unfolding slot_wanted
 returns-in-Some c =
     let b = c.args.basis.now in
     let own : List FileRec = filter (λ (f : FileRec). f.ino == c.args.ino) b.kept.now.files in
-    let same : c.records_by_number.result.now ≡ own = c.records_by_number.ensures ∙ ap (filter (λ (f : FileRec). f.ino == c.args.ino)) c.as_slice.ensures in
+    let same : c.records_near.result.now ≡ own = c.records_near.ensures ∙ ap (filter (λ (f : FileRec). f.ino == c.args.ino)) c.as_slice.ensures in
     subst (λ (w : Option SlotWanted). IfOk c.file_slot.result (λ slot. slot ≡ w))
     (sym (of_first (volume_of b.g.now) b.stamp.now b.kept.now b.slots.now c.args.ino own c.in-Some.file.now (sym (c.in-Some.ensures.value ∙ ap (λ (fs : List FileRec). slice_get fs 0) same))))
     c.file_slot.ensures

@@ -2,7 +2,7 @@ use Rattle.std.proofs.Common.{sym, ◌∙◌}
 use Rattle.xfs_runs.specs.Blocks.{is_in}
 use Rattle.xfs_claims.specs.Spans.{spans_of}
 use Rattle.xfs_salvage.proofs.Apart.{left_after, left_first}
-use Rattle.xfs_salvage.proofs.runs.are_apart.Goals as goal
+use Rattle.xfs_salvage.proofs.runs.are_all_apart.Goals as goal
 
 pub loop-run-init : goal.loop-run-init
 loop-run-init g c = left_first c.make-set.result (spans_of c.args.runs.now) c.make-set.ensures
