@@ -16,6 +16,7 @@
 //! ```
 #![tactic(auto)]
 
+mod alone;
 mod attributes;
 mod claims;
 mod conditions;
@@ -38,6 +39,7 @@ mod roots;
 mod seals;
 mod support;
 
+pub use alone::decide_alone;
 pub use deciding::decide_file;
 pub use faults::InodeFault;
 pub use file_reading::{read_file, read_file_of};

@@ -15,8 +15,9 @@ use crate::outcome::RepairOptions;
 use std::alloc::Global;
 use std::marker::Brand;
 use std::sync::ledger::{Blank, Ledger};
+use std::thread::Threads;
 use xfs_backups::MendFault;
-use xfs_disk::Disk;
+use xfs_disk::{Disk, Gate};
 use xfs_geom::Geometry;
 use xfs_heads::LogState;
 use xfs_journal::{JournalFault, read_log};
@@ -38,27 +39,31 @@ pub(crate) enum Admitted {
 
 /// What a repair of the volume goes by; or the first cause for which it is not looked at further: its log is not clean, it is too large, or a
 /// file is not supported.
-pub(crate) fn admit<D: Disk>(
+pub(crate) fn admit<R: Threads + Sync, D: Disk, G: Gate>(
+    rt: &R,
     alloc: Global,
     disk: &mut D,
     options: &RepairOptions,
     g: &Geometry,
+    gate: &G,
 ) -> Result<Admitted, MendFault>
     requires inside { g.now.dblocks ≤ D.size disk.old }
     ensures admitted { IfOk result (λ admitted. ForSome (D.holds disk.old) (λ image. IsAdmission (repair_asked options.now) g.now image admitted)) }
     ensures cause { HasMendCause (D.faults disk.old) (D.faults disk.new) result }
     ensures disk { OnlyReads D.size D.holds D.write_faults D.writes D.tells_stops D.moment D.may_leave D.left_since disk.old disk.new }
 {
-    admit_counted::<D, Brand>(alloc, disk, options, g, Blank::new(1))
+    admit_counted::<R, D, G, Brand>(rt, alloc, disk, options, g, gate, Blank::new(1))
 }
 
 /// The same, where the blocks that are read are counted in the ledger of a blank.
 #[tactic(auto, unfolding(crate::specs::Due::turned_away))]
-fn admit_counted<D: Disk, L: Ledger>(
+fn admit_counted<R: Threads + Sync, D: Disk, G: Gate, L: Ledger>(
+    rt: &R,
     alloc: Global,
     disk: &mut D,
     options: &RepairOptions,
     g: &Geometry,
+    gate: &G,
     blank: Blank,
 ) -> Result<Admitted, MendFault>
     requires name { blank.name ≡ L.name }
@@ -70,7 +75,7 @@ fn admit_counted<D: Disk, L: Ledger>(
     ensures disk { OnlyReads D.size D.holds D.write_faults D.writes D.tells_stops D.moment D.may_leave D.left_since disk.old disk.new }
 {
     let mut steps = Steps::<L>::from_blank(blank);
-    match gather(alloc, g, disk, &mut steps) {
+    match gather(rt, alloc, g, disk, options.workers, gate, &mut steps) {
         Ok(evidence) => Ok(unless_asked(options, evidence)),
         Err(ScanFault::ReadFault) => Err(MendFault::ReadFault),
         Err(ScanFault::NoMemory) => Err(MendFault::NoMemory),

@@ -123,7 +123,7 @@ fn repair_volume<R: Threads + Sync, D: Disk, G: Gate>(
     ensures possible { CanCome (repair_asked options.now) result }
     ensures ends { Ends D.size D.holds D.faults D.write_faults D.writes D.tells_stops D.moment D.may_leave D.left_since disk.old disk.new result }
 {
-    let evidence = match admit(alloc, disk, options, &chosen.geometry) {
+    let evidence = match admit(rt, alloc, disk, options, &chosen.geometry, gate) {
         Ok(Admitted::Seen(evidence)) => evidence,
         Ok(Admitted::DirtyLog) => return Outcome::DirtyLog,
         Ok(Admitted::TooLarge { what, count }) => return Outcome::TooLarge { what, count },

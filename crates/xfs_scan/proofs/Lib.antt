@@ -1,3 +1,4 @@
 mod Counting
 mod Refusing
+mod Rounds
 mod Views

@@ -20,7 +20,8 @@ use crate::scan::{ScannedSlots, scan};
 use crate::view::see_view;
 use std::alloc::Global;
 use std::sync::ledger::Ledger;
-use xfs_disk::{Disk, NoMemory};
+use std::thread::Threads;
+use xfs_disk::{Disk, Gate, NoMemory};
 use xfs_geom::Geometry;
 use xfs_groups::{GroupTrees, Groups, GroupsFault, see_groups};
 use xfs_heads::LogState;
@@ -30,12 +31,15 @@ use xfs_slots::{Inodes, PartFault, SlotFact};
 use xfs_volume::{Blocks, ClusterRec, Records};
 
 /// The evidence of the volume that a disk holds. `ReadFault` only where a read failed. Each block that is read counts as a
-/// step, also where the read fails.
+/// step, also where the read fails. The work is cut into pieces for so many workers, each of which goes through the gate first.
 #[tactic(auto, unfolding(crate::specs::Refused::refused, xfs_image::specs::Claims::inode_count))]
-pub fn gather<D: Disk, L: Ledger>(
+pub fn gather<R: Threads + Sync, D: Disk, G: Gate, L: Ledger>(
+    rt: &R,
     alloc: Global,
     g: &Geometry,
     disk: &mut D,
+    workers: u32,
+    gate: &G,
     steps: &mut Steps<L>,
 ) -> Result<Evidence, ScanFault>
     requires inside { g.now.dblocks ≤ D.size disk.old }
@@ -57,15 +61,18 @@ pub fn gather<D: Disk, L: Ledger>(
             count,
         });
     }
-    gather_files(alloc, g, disk, seen, steps)
+    gather_files(rt, alloc, g, disk, seen, workers, gate, steps)
 }
 
 /// The evidence of a volume whose clusters are not too many.
-fn gather_files<D: Disk, L: Ledger>(
+fn gather_files<R: Threads + Sync, D: Disk, G: Gate, L: Ledger>(
+    rt: &R,
     alloc: Global,
     g: &Geometry,
     disk: &mut D,
     seen: Groups,
+    workers: u32,
+    gate: &G,
     steps: &mut Steps<L>,
 ) -> Result<Evidence, ScanFault>
     requires inside { g.now.dblocks ≤ D.size disk.old }
@@ -77,7 +84,16 @@ fn gather_files<D: Disk, L: Ledger>(
     ensures disk { OnlyReads D.size D.holds D.write_faults D.writes D.tells_stops D.moment D.may_leave D.left_since disk.old disk.new }
     ensures reads { D.reads disk.new + steps.old ≤ D.reads disk.old + steps.new }
 {
-    let scanned = match scan(alloc, g, disk, seen.clusters.as_slice(), steps) {
+    let scanned = match scan(
+        rt,
+        alloc,
+        g,
+        disk,
+        seen.clusters.as_slice(),
+        workers,
+        gate,
+        steps,
+    ) {
         Ok(scanned) => scanned,
         Err(error) => return Err(answer(error)),
     };

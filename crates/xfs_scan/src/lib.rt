@@ -8,7 +8,7 @@
 //! `xfs_mend` gathers so:
 //!
 //! ```text
-//! match gather(alloc, g, disk, &mut steps) {
+//! match gather(rt, alloc, g, disk, workers, gate, &mut steps) {
 //!     Ok(evidence) => ..,
 //!     Err(ScanFault::TooLarge { what, count }) => ..,
 //!     Err(ScanFault::UnsupportedFile { ino, what }) => ..,

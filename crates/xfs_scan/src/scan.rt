@@ -1,12 +1,12 @@
-//! The candidate clusters, read from a disk.
+//! The candidate clusters, read from a disk in rounds, whose slots are judged by several workers.
 
-ghost use Rattle.std.specs.Prelude.{◌≡◌, ◌+◌, ◌<◌, ◌≤◌, ◌++◌, map, IfOk, OnOk};
+ghost use Rattle.std.specs.Prelude.{◌≡◌, ◌+◌, ◌<◌, ◌≤◌, ◌++◌, ℕ, length, map, take, IfOk, OnOk};
 ghost use Rattle.std.specs.List.{All, flat_map};
 ghost use Rattle.std.specs.Option.{ForSome};
 ghost use Rattle.xfs_geom.specs.Volumes.{volume_of};
 ghost use Rattle.xfs_disk.specs.Reads.{OnlyReads};
 ghost use Rattle.xfs_volume.specs.declared.clusters.ClusterRec.{ClusterRec};
-ghost use Rattle.xfs_image.specs.Slots.{cluster_inodes, inodes_of_block};
+ghost use Rattle.xfs_image.specs.Slots.{cluster_inodes};
 ghost use Rattle.xfs_groups.specs.Answers.{EndBelow};
 ghost use Rattle.xfs_slots.specs.Causes.{HasReadCause};
 ghost use Rattle.xfs_slots.specs.Facts.{slot_fact};
@@ -14,11 +14,16 @@ ghost use Rattle.xfs_slots.specs.Gathered.{gathered, held_in, inodes_of_blocks, 
 
 use std::alloc::Global;
 use std::sync::ledger::Ledger;
-use xfs_disk::{BLOCK_SIZE, Disk, Failed, NoMemory};
+use std::thread::Threads;
+use xfs_disk::{Disk, Gate, NoMemory};
 use xfs_geom::Geometry;
+use xfs_rounds::{RoundFault, judge_round, load_round};
 use xfs_runs::Steps;
-use xfs_slots::{Inodes, PartFault, SlotFact, blocks_of_candidates, take_block};
+use xfs_slots::{Inodes, PartFault, SlotFact, blocks_of_candidates, take_round};
 use xfs_volume::ClusterRec;
+
+/// The most blocks of a round.
+const ROUND: usize = 512;
 
 /// What is kept of the slots of clusters, and what they give.
 #[derive(Drop)]
@@ -27,12 +32,16 @@ pub struct ScannedSlots {
     pub inodes: Inodes,
 }
 
-/// Reads the blocks of clusters, each once, and takes up their slots.
-pub fn scan<D: Disk, L: Ledger>(
+/// Reads the blocks of clusters, each once, and takes up their slots. They are read in rounds, in order; the slots of a round are
+/// judged in pieces by the workers, each of which goes through the gate, and are then taken up in order.
+pub fn scan<R: Threads + Sync, D: Disk, G: Gate, L: Ledger>(
+    rt: &R,
     alloc: Global,
     g: &Geometry,
     disk: &mut D,
     clusters: &[ClusterRec],
+    workers: u32,
+    gate: &G,
     steps: &mut Steps<L>,
 ) -> Result<ScannedSlots, PartFault>
     requires inside { g.now.dblocks ≤ D.size disk.old }
@@ -49,18 +58,32 @@ pub fn scan<D: Disk, L: Ledger>(
     };
     let mut slots = Vec::new(alloc);
     let mut inodes = Inodes::new(alloc);
-    match scan_blocks(alloc, g, disk, &blocks, &mut slots, &mut inodes, steps) {
+    match scan_blocks(
+        rt,
+        alloc,
+        g,
+        disk,
+        &blocks,
+        workers,
+        gate,
+        &mut slots,
+        &mut inodes,
+        steps,
+    ) {
         Ok(()) => Ok(ScannedSlots { slots, inodes }),
         Err(fault) => Err(fault),
     }
 }
 
-/// Reads blocks, each once, and takes up their slots. A block is given up as soon as its slots are taken up.
-fn scan_blocks<D: Disk, L: Ledger>(
+/// Reads blocks, each once, in rounds, and takes up their slots.
+fn scan_blocks<R: Threads + Sync, D: Disk, G: Gate, L: Ledger>(
+    rt: &R,
     alloc: Global,
     g: &Geometry,
     disk: &mut D,
     blocks: &[u64],
+    workers: u32,
+    gate: &G,
     slots: &mut Vec<SlotFact>,
     inodes: &mut Inodes,
     steps: &mut Steps<L>,
@@ -73,40 +96,62 @@ fn scan_blocks<D: Disk, L: Ledger>(
     ensures disk { OnlyReads D.size D.holds D.write_faults D.writes D.tells_stops D.moment D.may_leave D.left_since disk.old disk.new }
     ensures reads { D.reads disk.new + steps.old ≤ D.reads disk.old + steps.new }
 {
-    for block in blocks {
-        match scan_block(alloc, g, disk, *block, slots, inodes, steps) {
-            Ok(()) => {}
+    let mut start = 0;
+    while start < blocks.len() {
+        let round = round_from(blocks, start);
+        match scan_round(
+            rt, alloc, g, disk, round, workers, gate, slots, inodes, steps,
+        ) {
+            Ok(()) => start += round.len(),
             Err(fault) => return Err(fault),
         }
     }
     Ok(())
 }
 
-/// Reads a block, and takes up its slots.
-fn scan_block<D: Disk, L: Ledger>(
+/// The round of blocks that begins at one of them.
+fn round_from(blocks: &[u64], start: usize) -> &[u64]
+    requires { start < length blocks.now }
+    ensures some { 0 < length result.now }
+    ensures within { start + length result.now ≤ length blocks.now }
+    ensures next { take (start + length result.now) blocks.now ≡ take start blocks.now ++ result.now }
+    ensures low { (end : ℕ) → All (λ block. block < end) blocks.now → All (λ block. block < end) result.now }
+{
+    let rest = &blocks[start..];
+    &rest[..rest.len().min(ROUND)]
+}
+
+/// Reads the blocks of a round, judges their slots, and takes them up.
+fn scan_round<R: Threads + Sync, D: Disk, G: Gate, L: Ledger>(
+    rt: &R,
     alloc: Global,
     g: &Geometry,
     disk: &mut D,
-    block: u64,
+    round: &[u64],
+    workers: u32,
+    gate: &G,
     slots: &mut Vec<SlotFact>,
     inodes: &mut Inodes,
     steps: &mut Steps<L>,
 ) -> Result<(), PartFault>
     requires inside { g.now.dblocks ≤ D.size disk.old }
-    requires volume { block < g.now.dblocks }
-    ensures slots { OnOk result (ForSome (D.holds disk.old) (λ image. slots.new.items ≡ slots.old.items ++ map (slot_fact (volume_of g.now) image) (inodes_of_block (volume_of g.now) block))) }
-    ensures inodes { OnOk result (ForSome (D.holds disk.old) (λ image. held_in inodes.new ≡ gathered_both (held_in inodes.old) (gathered (volume_of g.now) image (inodes_of_block (volume_of g.now) block)))) }
+    requires volume { All (λ block. block < g.now.dblocks) round.now }
+    ensures slots { OnOk result (ForSome (D.holds disk.old) (λ image. slots.new.items ≡ slots.old.items ++ map (slot_fact (volume_of g.now) image) (inodes_of_blocks (volume_of g.now) round.now))) }
+    ensures inodes { OnOk result (ForSome (D.holds disk.old) (λ image. held_in inodes.new ≡ gathered_both (held_in inodes.old) (gathered (volume_of g.now) image (inodes_of_blocks (volume_of g.now) round.now)))) }
     ensures cause { HasReadCause (D.faults disk.old) (D.faults disk.new) result }
     ensures disk { OnlyReads D.size D.holds D.write_faults D.writes D.tells_stops D.moment D.may_leave D.left_since disk.old disk.new }
     ensures reads { D.reads disk.new + steps.old ≤ D.reads disk.old + steps.new }
 {
-    let mut bytes = [0; BLOCK_SIZE];
-    steps.tick();
-    match disk.read(block, &mut bytes) {
-        Ok(()) => {}
-        Err(Failed) => return Err(PartFault::ReadFault),
-    }
-    match take_block(alloc, g, disk, block, &bytes, slots, inodes, steps) {
+    let bank = match load_round(alloc, disk, round, steps) {
+        Ok(bank) => bank,
+        Err(RoundFault::ReadFault) => return Err(PartFault::ReadFault),
+        Err(RoundFault::NoMemory) => return Err(PartFault::NoMemory),
+    };
+    let judged = match judge_round(rt, alloc, g, &bank, round, workers, gate) {
+        Ok(judged) => judged,
+        Err(NoMemory) => return Err(PartFault::NoMemory),
+    };
+    match take_round(alloc, g, disk, round, &bank, judged, slots, inodes, steps) {
         Ok(()) => Ok(()),
         Err(fault) => Err(fault),
     }

@@ -2,3 +2,5 @@ pub mod Gathering
 pub mod Kept
 pub mod Outside
 pub mod Rests
+pub mod Turns
+pub mod Known

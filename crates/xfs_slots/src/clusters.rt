@@ -10,16 +10,18 @@ ghost use Rattle.xfs_image.specs.Slots.{inodes_of_block};
 ghost use Rattle.xfs_slots.specs.Causes.{HasReadCause};
 ghost use Rattle.xfs_slots.specs.Facts.{AddsFacts};
 ghost use Rattle.xfs_slots.specs.Gathered.{gathered, held_in, gathered_both, of_slot};
+ghost use Rattle.xfs_rounds.specs.Judged.{ArePartsOf, IsPartOf};
 
 use crate::facts::{SlotFact, push_fact};
 use crate::faults::PartFault;
 use crate::inodes::Inodes;
-use crate::slots::see_slot;
+use crate::slots::{see_slot, take_read};
 use std::alloc::Global;
 use std::sync::ledger::Ledger;
 use xfs_disk::{Disk, NoMemory};
 use xfs_geom::Geometry;
 use xfs_inode::read_slot;
+use xfs_rounds::SlotPart;
 use xfs_runs::Steps;
 use xfs_word::part;
 
@@ -83,13 +85,14 @@ fn see_part<D: Disk, L: Ledger>(
     see_slot(alloc, g, disk, ino, held, &read, inodes, steps)
 }
 
-/// Takes up the eight slots of a block, and adds what is kept of each by itself.
-pub fn take_block<D: Disk, L: Ledger>(
+/// Takes up the eight slots of a block, of which this is known from their bytes alone, and adds what is kept of each by itself.
+pub(crate) fn take_block<D: Disk, L: Ledger>(
     alloc: Global,
     g: &Geometry,
     disk: &mut D,
     block: u64,
     bytes: &[u8],
+    parts: Vec<SlotPart>,
     facts: &mut Vec<SlotFact>,
     inodes: &mut Inodes,
     steps: &mut Steps<L>,
@@ -98,14 +101,15 @@ pub fn take_block<D: Disk, L: Ledger>(
     requires volume { block < g.now.dblocks }
     requires whole { length bytes.now ≡ 4096 }
     requires held { ForSome (D.holds disk.old) (λ image. bytes_of_block image block ≡ bytes.now) }
+    requires parts { ArePartsOf (volume_of g.now) block bytes.now parts.items }
     ensures facts { OnOk result (AddsFacts (volume_of g.now) block bytes.now (inodes_of_block (volume_of g.now) block) facts.old.items facts.new.items) }
     ensures held { OnOk result (ForSome (D.holds disk.old) (λ image. held_in inodes.new ≡ gathered_both (held_in inodes.old) (gathered (volume_of g.now) image (inodes_of_block (volume_of g.now) block)))) }
     ensures cause { HasReadCause (D.faults disk.old) (D.faults disk.new) result }
     ensures disk { OnlyReads D.size D.holds D.write_faults D.writes D.tells_stops D.moment D.may_leave D.left_since disk.old disk.new }
     ensures reads { D.reads disk.new + steps.old ≤ D.reads disk.old + steps.new }
 {
-    for slot in 0..SLOTS {
-        match take_part(alloc, g, disk, block, slot, bytes, facts, inodes, steps) {
+    for part in parts {
+        match take_part(alloc, g, disk, block, bytes, part, facts, inodes, steps) {
             Ok(()) => {}
             Err(fault) => return Err(fault),
         }
@@ -113,35 +117,38 @@ pub fn take_block<D: Disk, L: Ledger>(
     Ok(())
 }
 
-/// Takes up one of the eight slots of a block, and adds what is kept of it by itself: it is read once for both.
+/// Takes up one of the eight slots of a block, and adds what is kept of it by itself.
 fn take_part<D: Disk, L: Ledger>(
     alloc: Global,
     g: &Geometry,
     disk: &mut D,
     block: u64,
-    slot: u8,
     bytes: &[u8],
+    known: SlotPart,
     facts: &mut Vec<SlotFact>,
     inodes: &mut Inodes,
     steps: &mut Steps<L>,
 ) -> Result<(), PartFault>
     requires inside { g.now.dblocks ≤ D.size disk.old }
     requires volume { block < g.now.dblocks }
-    requires slot { slot < 8 }
     requires whole { length bytes.now ≡ 4096 }
     requires held { ForSome (D.holds disk.old) (λ image. bytes_of_block image block ≡ bytes.now) }
-    ensures facts { OnOk result (AddsFacts (volume_of g.now) block bytes.now (inode_of (volume_of g.now) block slot ∷ []) facts.old.items facts.new.items) }
-    ensures held { OnOk result (ForSome (D.holds disk.old) (λ image. held_in inodes.new ≡ gathered_both (held_in inodes.old) (of_slot (volume_of g.now) image (inode_of (volume_of g.now) block slot)))) }
+    requires known { IsPartOf (volume_of g.now) block bytes.now known }
+    ensures facts { OnOk result (AddsFacts (volume_of g.now) block bytes.now (inode_of (volume_of g.now) block known.slot ∷ []) facts.old.items facts.new.items) }
+    ensures held { OnOk result (ForSome (D.holds disk.old) (λ image. held_in inodes.new ≡ gathered_both (held_in inodes.old) (of_slot (volume_of g.now) image (inode_of (volume_of g.now) block known.slot)))) }
     ensures cause { HasReadCause (D.faults disk.old) (D.faults disk.new) result }
     ensures disk { OnlyReads D.size D.holds D.write_faults D.writes D.tells_stops D.moment D.may_leave D.left_since disk.old disk.new }
     ensures reads { D.reads disk.new + steps.old ≤ D.reads disk.old + steps.new }
 {
+    let SlotPart { slot, read, file } = known;
     let ino = g.inode_of_slot(block, slot);
     let held = part(bytes, SLOT_SIZE * slot as usize, SLOT_SIZE);
-    let read = read_slot(g, ino, held);
     match push_fact(held, &read, facts) {
         Ok(()) => {}
         Err(NoMemory) => return Err(PartFault::NoMemory),
     }
-    see_slot(alloc, g, disk, ino, held, &read, inodes, steps)
+    match file {
+        Some(file) => take_read(alloc, g, disk, ino, held, file, inodes, steps),
+        None => see_slot(alloc, g, disk, ino, held, &read, inodes, steps),
+    }
 }

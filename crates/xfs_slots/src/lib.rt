@@ -4,10 +4,10 @@
 //! `Inodes` what it has; one that has no file is passed over and noted. The crate knows no group, so it stands beside
 //! `xfs_groups`.
 //!
-//! `xfs_scan` takes up the block of a cluster so:
+//! `xfs_scan` takes up the blocks of a round, whose slots were judged by themselves, so:
 //!
 //! ```text
-//! take_block(alloc, g, disk, block, bytes, &mut slots, &mut inodes, steps)?; // of each slot by itself, and the files that they give
+//! take_round(alloc, g, disk, round, &bank, judged, &mut slots, &mut inodes, steps)?; // of each slot by itself, and the files that they give
 //! ```
 #![tactic(auto)]
 
@@ -17,11 +17,13 @@ mod facts;
 mod faults;
 mod inodes;
 mod recorded;
+mod rounds;
 mod slots;
 
 pub use blocks::{blocks_of, blocks_of_candidates};
-pub use clusters::{see_block, take_block};
+pub use clusters::see_block;
 pub use facts::{SlotFact, SlotReading};
 pub use faults::PartFault;
 pub use inodes::{InodeFeature, Inodes};
 pub use recorded::clusters_of;
+pub use rounds::take_round;

@@ -55,7 +55,7 @@ pub fn see_slot<D: Disk, L: Ledger>(
 }
 
 /// Takes up what a slot reads as.
-fn take_read<D: Disk, L: Ledger>(
+pub fn take_read<D: Disk, L: Ledger>(
     alloc: Global,
     g: &Geometry,
     disk: &mut D,

@@ -1,0 +1,27 @@
+use Rattle.std.proofs.Common.{◌<◌, length, get_or, set, refl, sym, subst, ◌∙◌, arith}
+use Rattle.std.proofs.lemmas.List.{get_or_default, get_or-set_other, get_or-set_same}
+use Rattle.xfs_geom.specs.Volumes.{volume_of}
+use Rattle.xfs_rounds.specs.Judged.{IsJudged}
+use Rattle.xfs_rounds.specs.declared.pieces.BlockParts.{BlockParts}
+use Rattle.xfs_rounds.proofs.Rows.{below_more}
+use Rattle.xfs_rounds.proofs.pieces.judge_piece.Goals as goal
+
+pub loop-i-init : goal.loop-i-init
+loop-i-init g c = record { rest = λ j d later. refl; done = λ j d before. absurd (omega arith) }
+
+pub loop-i-preserved : goal.loop-i-preserved
+loop-i-preserved g c =
+    let k = c.loop-i.i in
+    let xs = c.args.piece.now in
+    let ys = c.loop-i.piece in
+    let y = c.judge_one.new.block in
+    let R : BlockParts → BlockParts → Type 0 = IsJudged (volume_of c.args.g.now) c.args.bank.now in
+    let inside : k < length ys = omega arith in
+    record {
+      rest = λ j d later. get_or-set_other ys k j y d (λ e. omega arith) ∙ c.loop-i.invariant.rest j d (omega arith);
+      done = λ j d before. below_more (λ i. R (get_or xs i d) (get_or (set ys k y) i d)) k
+          (λ i under. subst (R (get_or xs i d)) (sym (get_or-set_other ys k i y d (λ e. omega arith))) (c.loop-i.invariant.done i d under))
+          (subst (R (get_or xs k d)) (sym (get_or-set_same ys k y d inside))
+          (subst (λ (x : BlockParts). R x y) (get_or_default ys k _ d inside ∙ c.loop-i.invariant.rest k d (omega arith)) c.judge_one.ensures))
+          j before;
+    }

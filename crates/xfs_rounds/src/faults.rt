@@ -1,0 +1,10 @@
+//! Why a round is not read.
+
+/// Why a round is not read.
+#[derive(Clone, Copy, Debug, PartialEq, Eq)]
+pub enum RoundFault {
+    /// A read failed.
+    ReadFault,
+    /// There is not enough memory.
+    NoMemory,
+}
