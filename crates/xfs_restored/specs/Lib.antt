@@ -13,3 +13,4 @@ pub mod Catalogs
 pub mod Names
 pub mod Numbered
 pub mod StayingNumbers
+pub mod Laws

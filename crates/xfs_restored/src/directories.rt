@@ -1,44 +1,11 @@
 //! Laws about directories that were built anew. Each function does nothing; its contract is the laws.
 
-ghost use Rattle.std.specs.Prelude.{◌≡◌, ◌/◌, ◌≤◌, true, false, ℕ, List, length, map};
-ghost use Rattle.std.specs.List.{AllByRecursion, Contains};
-ghost use Rattle.xfs_disk.specs.Blocks.{Image};
-ghost use Rattle.xfs_disk.specs.Lists.{is_among};
-ghost use Rattle.xfs_inode.specs.Slots.{fork_bytes};
-ghost use Rattle.xfs_disk.specs.declared.stamp.Stamp.{Stamp};
-ghost use Rattle.xfs_geom.specs.Volumes.{Volume, volume_of};
-ghost use Rattle.xfs_geom.specs.declared.geometry.Geometry.{Geometry};
-ghost use Rattle.xfs_geom.specs.declared.records.Run.{Run};
-ghost use Rattle.xfs_volume.specs.declared.files.FileRec.{FileRec};
-ghost use Rattle.xfs_naming.specs.Naming.{NumbersAscend};
-ghost use Rattle.xfs_names.specs.Built.{CanBeBuilt, IsBuiltAsWanted, fork_room};
-ghost use Rattle.xfs_names.specs.declared.building.BuiltDirectory.{BuiltDirectory};
-ghost use Rattle.xfs_names.specs.declared.building.ForkRoom.{ForkRoom};
-ghost use Rattle.xfs_names.specs.declared.records.WantedNames.{WantedNames};
-ghost use Rattle.xfs_place.specs.Objects.{ServeAsks, asks_of};
-ghost use Rattle.xfs_place.specs.declared.placed.Placed.{Placed};
-ghost use Rattle.xfs_render.specs.Objects.{HasObjects, asks_with_kind, blocks_of_asks};
-ghost use Rattle.xfs_render.specs.Plans.{HoldsPlan};
-ghost use Rattle.xfs_render.specs.declared.bytes.Bytes.{Bytes};
-ghost use Rattle.xfs_empty.specs.Planning.{StandsFor};
-ghost use Rattle.xfs_rebuild.specs.declared.names_due.NamesDue.{NamesDue};
-ghost use Rattle.xfs_rename.specs.Forks.{forks_of};
-ghost use Rattle.xfs_built.specs.Asks.{blocks_of_built, objects_of, stands_in_blocks};
-ghost use Rattle.xfs_rename.specs.Renames.{IsRenamed, renamed_wanted};
-ghost use Rattle.xfs_rename.specs.Settled.{fork_rooms};
-ghost use Rattle.xfs_rename.specs.declared.planning.Renamed.{Renamed};
-ghost use Rattle.xfs_built.specs.Directories.{BuiltRuns, HasOwnCounts, StandsInRuns, ReadsSo, with_runs};
-ghost use Rattle.xfs_restored.specs.RunForks.{FindsFork};
-ghost use Rattle.xfs_restored.specs.Reading.{HasFileExtents};
-ghost use Rattle.xfs_restored.specs.Renamed.{HoldsBuilt};
+ghost use Rattle.xfs_restored.specs.Laws.Directories.{BuiltForksFitShort, BuiltForksFitTold, DirectoriesFindTheirForks, DirectoriesStandInTheirRuns, RebuiltDirectoriesReadHeld, RebuiltDirectoriesReadReads, RebuiltDirectoriesReadStands, RebuiltRunsAreExtentsExtents, RebuiltRunsAreExtentsFew};
 
 /// An image that has the blocks of directories as objects has those of each directory in the runs of its own, in the order of its
 /// file blocks, however many runs these are.
 pub fn directories_stand_in_their_runs()
-    ensures { (v : Volume) (image : Image) (rooms : List ForkRoom) (built : List BuiltDirectory) (cuts : List ℕ) (runs : List Run) → AllByRecursion HasOwnCounts built
-        → ServeAsks (asks_of (objects_of rooms built)) cuts runs
-        → HasObjects v (blocks_of_asks (asks_with_kind (objects_of rooms built)) cuts runs) (blocks_of_built built) (length (blocks_of_asks (asks_with_kind (objects_of rooms built)) cuts runs)) image
-        → AllByRecursion (StandsInRuns v image) (with_runs built cuts runs) }
+    ensures { DirectoriesStandInTheirRuns }
 {}
 
 /// In an image that holds the plan of a rebuild in which names change, the blocks of each directory that is built anew stand in its
@@ -46,36 +13,27 @@ pub fn directories_stand_in_their_runs()
 /// has these runs as its extents, or its short form in its slot, reads as whole, with the entries that are wanted, in their order, and
 /// the parent that is wanted (`reads`). All this of what a plan says of directories, which an image that holds it has (`held`).
 pub fn rebuilt_directories_read()
-    ensures held { (g : Geometry) (sector : List ℕ) (s : Stamp) (image : Image) (n : NamesDue) (r : Renamed) (is : IsRenamed g sector s image n r) → CanBeBuilt is.w
-        → ServeAsks (asks_of (renamed_wanted g n is.w is.built).objects) is.placed.cuts is.placed.runs → (now : Image) → HoldsPlan now is.left.plan
-        → HoldsBuilt g n is.w is.built is.placed is.bytes now }
-    ensures stands { (g : Geometry) (n : NamesDue) (w : WantedNames) (built : List BuiltDirectory) (p : Placed) (b : Bytes) (image : Image) → HoldsBuilt g n w built p b image
-        → AllByRecursion (StandsInRuns (volume_of g) image) (with_runs built p.cuts p.runs) }
-    ensures reads { (g : Geometry) (n : NamesDue) (w : WantedNames) (built : List BuiltDirectory) (p : Placed) (b : Bytes) (image : Image) → HoldsBuilt g n w built p b image
-        → AllByRecursion (ReadsSo (volume_of g) image w) (with_runs built p.cuts p.runs) }
+    ensures held { RebuiltDirectoriesReadHeld }
+    ensures stands { RebuiltDirectoriesReadStands }
+    ensures reads { RebuiltDirectoriesReadReads }
 {}
 
 /// Each directory that is built anew finds its own fork among those of all: that of its runs, or its short form.
 pub fn directories_find_their_forks()
-    ensures { (v : Volume) (files : List FileRec) (built : List BuiltDirectory) (cuts : List ℕ) (runs : List Run)
-        → NumbersAscend 0 (map (λ (b : BuiltDirectory). b.ino) built) → AllByRecursion (FindsFork v files (forks_of v files built cuts runs)) (with_runs built cuts runs) }
+    ensures { DirectoriesFindTheirForks }
 {}
 
 /// The runs of each directory with blocks, where they were placed for the plan, are extents of a file: they lie in the volume, in file
 /// order, no two with a block in common, and have the blocks that the directory was built with (`extents`). They are no more than its
 /// fork has room for extents of 16 bytes (`few`).
 pub fn rebuilt_runs_are_extents()
-    ensures extents { (g : Geometry) (n : NamesDue) (w : WantedNames) (built : List BuiltDirectory) (p : Placed) (b : Bytes) (image : Image) → HoldsBuilt g n w built p b image
-        → StandsFor (renamed_wanted g n w built) p → AllByRecursion (λ (d : BuiltRuns). stands_in_blocks d.directory ≡ true → HasFileExtents (volume_of g) d) (with_runs built p.cuts p.runs) }
-    ensures few { (g : Geometry) (n : NamesDue) (w : WantedNames) (built : List BuiltDirectory) (p : Placed) (b : Bytes) (image : Image) → HoldsBuilt g n w built p b image
-        → StandsFor (renamed_wanted g n w built) p
-        → AllByRecursion (λ (d : BuiltRuns). stands_in_blocks d.directory ≡ true → length d.runs ≤ fork_room (fork_rooms w.rebuilt n.files) d.directory.ino / 16) (with_runs built p.cuts p.runs) }
+    ensures extents { RebuiltRunsAreExtentsExtents }
+    ensures few { RebuiltRunsAreExtentsFew }
 {}
 
 /// A directory that was built in short form has no more bytes than there is room in its fork (`short`), and the room that is told of
 /// the fork of a file that is built anew is that up to its attributes (`told`).
 pub fn built_forks_fit()
-    ensures short { (w : WantedNames) (rooms : List ForkRoom) (b : BuiltDirectory) → IsBuiltAsWanted w rooms b → stands_in_blocks b ≡ false → length b.image.short.items ≤ fork_room rooms b.ino }
-    ensures told { (rebuilt : List ℕ) (files : List FileRec) (f : FileRec) → NumbersAscend 0 (map (λ (x : FileRec). x.ino) files) → Contains files f
-        → is_among rebuilt f.ino ≡ true → fork_room (fork_rooms rebuilt files) f.ino ≡ fork_bytes f.core.forkoff }
+    ensures short { BuiltForksFitShort }
+    ensures told { BuiltForksFitTold }
 {}

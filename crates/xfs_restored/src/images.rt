@@ -1,22 +1,10 @@
 //! A law about images in which a rebuild was written. The function does nothing; its contract is the laws.
 
-ghost use Rattle.std.specs.Prelude.{◌≤◌, ℕ, List, length};
-ghost use Rattle.xfs_disk.specs.Blocks.{Image};
-ghost use Rattle.xfs_disk.specs.declared.stamp.Stamp.{Stamp};
-ghost use Rattle.xfs_geom.specs.Volumes.{volume_of};
-ghost use Rattle.xfs_geom.specs.declared.geometry.Geometry.{Geometry};
-ghost use Rattle.xfs_image.specs.Consistent.{IsElected};
-ghost use Rattle.xfs_scan.specs.Evidence.{IsEvidence};
-ghost use Rattle.xfs_scan.specs.declared.evidence.Evidence.{Evidence};
-ghost use Rattle.xfs_rebuild.specs.Rebuilds.{IsRebuildOf};
-ghost use Rattle.xfs_rebuild.specs.declared.planning.Rebuilt.{Rebuilt};
-ghost use Rattle.xfs_restored.specs.Rewriting.{IsRewritten};
-ghost use Rattle.xfs_restored.specs.Kept.{HasKept};
+ghost use Rattle.xfs_restored.specs.Laws.Images.{RebuiltImagesHaveWhatIsKeptKept, RebuiltImagesHaveWhatIsKeptSize};
 
 /// An image is as large as the volume that it elects (`size`). Where what is planned of it was written, it has what is kept of it:
 /// what is wanted of the slots of kept clusters, and the blocks that kept files claim (`kept`).
 pub fn rebuilt_images_have_what_is_kept()
-    ensures size { (g : Geometry) (image : Image) → IsElected (volume_of g) image → g.dblocks ≤ length image }
-    ensures kept { (g : Geometry) (sector : List ℕ) (s : Stamp) (image now : Image) (e : Evidence) (r : Rebuilt) → IsEvidence g image e
-        → (is : IsRebuildOf g sector s image e r) → IsRewritten g r image now → HasKept g s image now is.on.kept is.on.seen }
+    ensures size { RebuiltImagesHaveWhatIsKeptSize }
+    ensures kept { RebuiltImagesHaveWhatIsKeptKept }
 {}

@@ -1,33 +1,14 @@
 //! Laws about the blocks that a rebuild takes. The function does nothing; its contract is the laws.
 
-ghost use Rattle.std.specs.Prelude.{◌≡◌, ◌<◌, ℕ, false, List, None};
-ghost use Rattle.std.specs.List.{All};
-ghost use Rattle.xfs_disk.specs.Blocks.{Image};
-ghost use Rattle.xfs_disk.specs.declared.stamp.Stamp.{Stamp};
-ghost use Rattle.xfs_geom.specs.Volumes.{volume_of};
-ghost use Rattle.xfs_geom.specs.declared.geometry.Geometry.{Geometry};
-ghost use Rattle.xfs_image.specs.Claims.{claims};
-ghost use Rattle.xfs_volume.specs.declared.files.FileRec.{FileRec};
-ghost use Rattle.xfs_render.specs.Drafts.{row_places};
-ghost use Rattle.xfs_render.specs.Plans.{planned};
-ghost use Rattle.xfs_salvage.specs.Kept.{taken_of};
-ghost use Rattle.xfs_rebuild.specs.Rebuilds.{Ground, IsPlannedOn};
-ghost use Rattle.xfs_rebuild.specs.declared.planning.Rebuilt.{Rebuilt};
-ghost use Rattle.xfs_apart.specs.Unused.{IsOfLog, IsUnusedBlock};
-ghost use Rattle.xfs_restored.specs.InPlace.{IsInPlace};
+ghost use Rattle.xfs_restored.specs.Laws.Pool.{RebuildsUseThePoolClaimed, RebuildsUseThePoolFresh, RebuildsUseThePoolInPlace, RebuildsUseThePoolInside, RebuildsUseThePoolLog};
 
 /// The first blocks of the plan of a rebuild are blocks that nothing kept has, without a fixed use and not reserved (`fresh`);
 /// written in place are first blocks of groups, blocks of kept clusters, and the log (`in_place`), which is left alone where it stays
 /// (`log`). All lie in the volume (`inside`), and no kept file claims one (`claimed`).
 pub fn rebuilds_use_the_pool()
-    ensures fresh { (g : Geometry) (sector : List ℕ) (s : Stamp) (image : Image) (on : Ground) (r : Rebuilt) (is : IsPlannedOn g sector s image on r)
-        → All (IsUnusedBlock (volume_of g) (taken_of (volume_of g) on.kept.clusters on.kept.files) on.reserved) (row_places is.planned.plan.fresh) }
-    ensures in_place { (g : Geometry) (sector : List ℕ) (s : Stamp) (image : Image) (on : Ground) (r : Rebuilt) (is : IsPlannedOn g sector s image on r)
-        → All (IsInPlace (volume_of g) on.kept.clusters) (row_places is.planned.plan.in_place) }
-    ensures log { (g : Geometry) (sector : List ℕ) (s : Stamp) (image : Image) (on : Ground) (r : Rebuilt) (is : IsPlannedOn g sector s image on r)
-        → is.bytes.cycle ≡ None → All (λ block. IsOfLog (volume_of g) block → ⊥) (planned is.planned.plan) }
-    ensures inside { (g : Geometry) (sector : List ℕ) (s : Stamp) (image : Image) (on : Ground) (r : Rebuilt) (is : IsPlannedOn g sector s image on r)
-        → All (λ block. block < g.dblocks) (planned is.planned.plan) }
-    ensures claimed { (g : Geometry) (sector : List ℕ) (s : Stamp) (image : Image) (on : Ground) (r : Rebuilt) (is : IsPlannedOn g sector s image on r)
-        → All (λ (f : FileRec). All (λ block. claims (volume_of g) f block ≡ false) (planned is.planned.plan)) on.kept.files }
+    ensures fresh { RebuildsUseThePoolFresh }
+    ensures in_place { RebuildsUseThePoolInPlace }
+    ensures log { RebuildsUseThePoolLog }
+    ensures inside { RebuildsUseThePoolInside }
+    ensures claimed { RebuildsUseThePoolClaimed }
 {}

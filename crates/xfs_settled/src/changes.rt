@@ -1,28 +1,9 @@
 //! A law about what names change in slots. The function does nothing; its contract is the law.
 
-ghost use Rattle.std.specs.Prelude.{◌<◌, ℕ, List};
-ghost use Rattle.xfs_disk.specs.Blocks.{Image, bytes_of_block};
-ghost use Rattle.xfs_disk.specs.declared.stamp.Stamp.{Stamp};
-ghost use Rattle.xfs_empty.specs.Planning.{StandsFor};
-ghost use Rattle.xfs_geom.specs.Volumes.{volume_of};
-ghost use Rattle.xfs_geom.specs.declared.geometry.Geometry.{Geometry};
-ghost use Rattle.xfs_names.specs.Built.{CanBeBuilt};
-ghost use Rattle.xfs_names.specs.declared.building.BuiltDirectory.{BuiltDirectory};
-ghost use Rattle.xfs_names.specs.declared.records.WantedNames.{WantedNames};
-ghost use Rattle.xfs_place.specs.Objects.{ServeAsks, asks_of};
-ghost use Rattle.xfs_place.specs.declared.placed.Placed.{Placed};
-ghost use Rattle.xfs_scan.specs.declared.evidence.Evidence.{Evidence};
-ghost use Rattle.xfs_rebuild.specs.Changes.{CanChange};
-ghost use Rattle.xfs_rebuild.specs.Rebuilds.{Ground};
-ghost use Rattle.xfs_rebuild.specs.declared.names_due.NamesDue.{NamesDue};
-ghost use Rattle.xfs_rename.specs.Renames.{AreBuilt, placed_forks, renamed_slots, renamed_wanted};
-ghost use Rattle.xfs_settled.specs.Gathered.{IsGathered};
+ghost use Rattle.xfs_settled.specs.Laws.Changes.{SettledSlotsCanBeMade};
 
 /// What is wanted of slots once names are settled can be made of what stands there, in each block of the volume, whatever place the
 /// directories found that are built anew.
 pub fn settled_slots_can_be_made()
-    ensures { (g : Geometry) (s : Stamp) (image : Image) (e : Evidence) (on : Ground) (n : NamesDue) → IsGathered g s image e on n
-        → (w : WantedNames) (built : List BuiltDirectory) (p : Placed) → AreBuilt g n w built → CanBeBuilt w → StandsFor (renamed_wanted g n w built) p
-        → ServeAsks (asks_of (renamed_wanted g n w built).objects) p.cuts p.runs → (block : ℕ) → block < g.dblocks
-        → CanChange (volume_of g) (renamed_slots g s n w (placed_forks g n w built p)) block (bytes_of_block image block) }
+    ensures { SettledSlotsCanBeMade }
 {}

@@ -1,22 +1,11 @@
 //! Laws about the files and entries by which names are decided. The function does nothing; its contract is the laws.
 
-ghost use Rattle.std.specs.Prelude.{◌≡◌, true};
-ghost use Rattle.xfs_disk.specs.Blocks.{Image};
-ghost use Rattle.xfs_disk.specs.declared.stamp.Stamp.{Stamp};
-ghost use Rattle.xfs_geom.specs.declared.geometry.Geometry.{Geometry};
-ghost use Rattle.xfs_links.specs.Entries.{AreEntries, AreFiles, is_directory_number};
-ghost use Rattle.xfs_scan.specs.declared.evidence.Evidence.{Evidence};
-ghost use Rattle.xfs_rebuild.specs.Rebuilds.{Ground};
-ghost use Rattle.xfs_rebuild.specs.declared.names_due.NamesDue.{NamesDue};
-ghost use Rattle.xfs_rename.specs.Nodes.{nodes_of_files};
-ghost use Rattle.xfs_settled.specs.Gathered.{IsGathered};
+ghost use Rattle.xfs_settled.specs.Laws.Deciding.{GatheredNamesCanBeDecidedEntries, GatheredNamesCanBeDecidedFiles, GatheredNamesCanBeDecidedRoot};
 
 /// Of what is gathered of any image names can be decided: its files ascend by numbers below 2^32 and are fewer (`files`), its entries
 /// stand by directory, each of a directory among the files (`entries`), and its root is a directory (`root`).
 pub fn gathered_names_can_be_decided()
-    ensures files { (g : Geometry) (s : Stamp) (image : Image) (e : Evidence) (on : Ground) (n : NamesDue) → IsGathered g s image e on n → AreFiles (nodes_of_files n.files) }
-    ensures entries { (g : Geometry) (s : Stamp) (image : Image) (e : Evidence) (on : Ground) (n : NamesDue) → IsGathered g s image e on n
-        → AreEntries (nodes_of_files n.files) n.entries }
-    ensures root { (g : Geometry) (s : Stamp) (image : Image) (e : Evidence) (on : Ground) (n : NamesDue) → IsGathered g s image e on n
-        → is_directory_number (nodes_of_files n.files) g.rootino ≡ true }
+    ensures files { GatheredNamesCanBeDecidedFiles }
+    ensures entries { GatheredNamesCanBeDecidedEntries }
+    ensures root { GatheredNamesCanBeDecidedRoot }
 {}

@@ -1,19 +1,9 @@
 //! A law about the blocks that directories give up. The function does nothing; its contract is the law.
 
-ghost use Rattle.std.specs.Prelude.{List};
-ghost use Rattle.std.specs.List.{All};
-ghost use Rattle.xfs_disk.specs.Blocks.{Image};
-ghost use Rattle.xfs_disk.specs.declared.stamp.Stamp.{Stamp};
-ghost use Rattle.xfs_geom.specs.declared.geometry.Geometry.{Geometry};
-ghost use Rattle.xfs_scan.specs.declared.evidence.Evidence.{Evidence};
-ghost use Rattle.xfs_volume.specs.declared.files.FileRec.{FileRec};
-ghost use Rattle.xfs_rebuild.specs.Rebuilds.{Ground};
-ghost use Rattle.xfs_rebuild.specs.declared.names_due.NamesDue.{NamesDue};
-ghost use Rattle.xfs_settled.specs.Gathered.{IsGathered, LiesInside};
+ghost use Rattle.xfs_settled.specs.Laws.Replaced.{GatheredExtentsLieInside};
 
 /// The extents of the files that are gathered of any image lie in the volume, so that a directory that is built anew gives up blocks of
 /// it.
 pub fn gathered_extents_lie_inside()
-    ensures { (g : Geometry) (s : Stamp) (image : Image) (e : Evidence) (on : Ground) (n : NamesDue) → IsGathered g s image e on n
-        → All (λ (f : FileRec). All (LiesInside g) f.extents) n.files }
+    ensures { GatheredExtentsLieInside }
 {}

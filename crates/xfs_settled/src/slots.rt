@@ -1,24 +1,8 @@
 //! Laws about what is wanted of slots once names are settled. The function does nothing; its contract is the laws.
 
-ghost use Rattle.std.specs.Prelude.{List};
-ghost use Rattle.xfs_disk.specs.Blocks.{Image};
-ghost use Rattle.xfs_disk.specs.declared.stamp.Stamp.{Stamp};
-ghost use Rattle.xfs_geom.specs.declared.geometry.Geometry.{Geometry};
-ghost use Rattle.xfs_names.specs.declared.records.WantedNames.{WantedNames};
-ghost use Rattle.xfs_render.specs.declared.wanted_slots.SlotWanted.{SlotWanted};
-ghost use Rattle.xfs_request.specs.Slots.{StandByNumber};
-ghost use Rattle.xfs_scan.specs.declared.evidence.Evidence.{Evidence};
-ghost use Rattle.xfs_rebuild.specs.Rebuilds.{Ground};
-ghost use Rattle.xfs_rebuild.specs.declared.names_due.NamesDue.{NamesDue};
-ghost use Rattle.xfs_rename.specs.Lost.{lost_due};
-ghost use Rattle.xfs_rename.specs.Renames.{renamed_slots};
-ghost use Rattle.xfs_rename.specs.Settled.{AreWanted};
-ghost use Rattle.xfs_rename.specs.declared.forks.DirectoryFork.{DirectoryFork};
-ghost use Rattle.xfs_settled.specs.Gathered.{IsGathered};
+ghost use Rattle.xfs_settled.specs.Laws.Slots.{SettledSlotsStandByNumber};
 
 /// With what names change of any image, what is wanted of slots stands by inode, whatever forks directories are given.
 pub fn settled_slots_stand_by_number()
-    ensures { (g : Geometry) (s : Stamp) (image : Image) (e : Evidence) (on : Ground) (n : NamesDue) → IsGathered g s image e on n
-        → (w : WantedNames) → AreWanted g n (lost_due g n) w → (forks : List DirectoryFork)
-        → StandByNumber (λ (slot : SlotWanted). slot.ino) 0 (renamed_slots g s n w forks) }
+    ensures { SettledSlotsStandByNumber }
 {}

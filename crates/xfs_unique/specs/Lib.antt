@@ -1,3 +1,4 @@
 pub mod Sectors
 pub mod Rewrites
 pub mod Outcomes
+pub mod Laws

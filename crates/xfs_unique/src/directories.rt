@@ -1,32 +1,13 @@
 //! A law about directories that are built anew. The function does nothing; its contract is the laws.
 
-ghost use Rattle.std.specs.Prelude.{◌≡◌, ℕ, List, map};
-ghost use Rattle.std.specs.List.{All};
-ghost use Rattle.xfs_geom.specs.Volumes.{Volume};
-ghost use Rattle.xfs_geom.specs.declared.records.Run.{Run};
-ghost use Rattle.xfs_names.specs.Built.{IsBuiltAsWanted};
-ghost use Rattle.xfs_names.specs.declared.building.BuiltDirectory.{BuiltDirectory};
-ghost use Rattle.xfs_names.specs.declared.building.ForkRoom.{ForkRoom};
-ghost use Rattle.xfs_names.specs.declared.records.WantedNames.{WantedNames};
-ghost use Rattle.xfs_place.specs.declared.wanted.ObjectKind.TheVariants.{Directory};
-ghost use Rattle.xfs_rename.specs.Forks.{forks_of};
-ghost use Rattle.xfs_built.specs.Asks.{blocks_of_built, objects_of};
-ghost use Rattle.xfs_unique.specs.Sectors.{CanBeSealed};
-ghost use Rattle.xfs_volume.specs.declared.files.FileRec.{FileRec};
+ghost use Rattle.xfs_unique.specs.Laws.Directories.{BuiltDirectoriesAreOneBlocks, BuiltDirectoriesAreOneForks, BuiltDirectoriesAreOneObjects, BuiltDirectoriesAreOneSealed};
 
 /// Directories with the same numbers that are built of the same names, with the same room in their forks, have the same bytes in
 /// their blocks (`blocks`), ask for the same runs (`objects`), and have the same forks where they get the same (`forks`). Each of
 /// their blocks has the magic number of what it is sealed as (`sealed`).
 pub fn built_directories_are_one()
-    ensures blocks { (w : WantedNames) (rooms : List ForkRoom) (built other : List BuiltDirectory)
-        → map (λ (b : BuiltDirectory). b.ino) built ≡ map (λ (b : BuiltDirectory). b.ino) other → All (IsBuiltAsWanted w rooms) built
-        → All (IsBuiltAsWanted w rooms) other → blocks_of_built built ≡ blocks_of_built other }
-    ensures objects { (w : WantedNames) (rooms : List ForkRoom) (built other : List BuiltDirectory)
-        → map (λ (b : BuiltDirectory). b.ino) built ≡ map (λ (b : BuiltDirectory). b.ino) other → All (IsBuiltAsWanted w rooms) built
-        → All (IsBuiltAsWanted w rooms) other → objects_of rooms built ≡ objects_of rooms other }
-    ensures forks { (v : Volume) (files : List FileRec) (w : WantedNames) (rooms : List ForkRoom) (built other : List BuiltDirectory)
-        → map (λ (b : BuiltDirectory). b.ino) built ≡ map (λ (b : BuiltDirectory). b.ino) other → All (IsBuiltAsWanted w rooms) built
-        → All (IsBuiltAsWanted w rooms) other → (cuts : List ℕ) (runs : List Run) → forks_of v files built cuts runs ≡ forks_of v files other cuts runs }
-    ensures sealed { (w : WantedNames) (rooms : List ForkRoom) (built : List BuiltDirectory) → All (IsBuiltAsWanted w rooms) built
-        → All (CanBeSealed Directory) (blocks_of_built built) }
+    ensures blocks { BuiltDirectoriesAreOneBlocks }
+    ensures objects { BuiltDirectoriesAreOneObjects }
+    ensures forks { BuiltDirectoriesAreOneForks }
+    ensures sealed { BuiltDirectoriesAreOneSealed }
 {}

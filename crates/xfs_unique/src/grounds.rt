@@ -1,27 +1,14 @@
 //! Laws about what a rebuild goes by. Each function does nothing; its contract is the law.
 
-ghost use Rattle.std.specs.Prelude.{◌≡◌, ℕ, List};
-ghost use Rattle.xfs_disk.specs.Blocks.{Image};
-ghost use Rattle.xfs_disk.specs.declared.stamp.Stamp.{Stamp};
-ghost use Rattle.xfs_geom.specs.Volumes.{volume_of};
-ghost use Rattle.xfs_geom.specs.declared.geometry.Geometry.{Geometry};
-ghost use Rattle.xfs_heads.specs.declared.log.state.LogState.{LogState};
-ghost use Rattle.xfs_rebuild.specs.Bytes.{AreAtHand, AreReadOf};
-ghost use Rattle.xfs_rebuild.specs.Rebuilds.{Ground, IsGround};
-ghost use Rattle.xfs_render.specs.declared.bytes.Bytes.{Bytes};
-ghost use Rattle.xfs_render.specs.declared.wanted_slots.SlotWanted.{SlotWanted};
-ghost use Rattle.xfs_scan.specs.Evidence.{IsEvidence};
-ghost use Rattle.xfs_scan.specs.declared.evidence.Evidence.{Evidence};
+ghost use Rattle.xfs_unique.specs.Laws.Grounds.{BytesAtHandAreOne, GroundsAreOne};
 
 /// An image gives a rebuild one thing to go by, whatever evidence was gathered of it.
 pub fn grounds_are_one()
-    ensures { (g : Geometry) (image : Image) (e f : Evidence) (on other : Ground) → IsEvidence g image e → IsEvidence g image f
-        → IsGround (volume_of g) e on → IsGround (volume_of g) f other → on ≡ other }
+    ensures { GroundsAreOne }
 {}
 
 /// What a plan is made of, beside what is placed, is given by the superblock, the stamp, the clusters, what is wanted of their slots, the
 /// numbers that stay, the log, and the image.
 pub fn bytes_at_hand_are_one()
-    ensures { (g : Geometry) (sector : List ℕ) (s : Stamp) (clusters : List ℕ) (slots : List SlotWanted) (image : Image) (lsns : List ℕ) (log : LogState) (b c : Bytes)
-        → AreAtHand g sector s clusters slots b → AreReadOf image lsns log b → AreAtHand g sector s clusters slots c → AreReadOf image lsns log c → b ≡ c }
+    ensures { BytesAtHandAreOne }
 {}

@@ -1,38 +1,20 @@
 //! Laws about images in which a rebuild was written. Each function does nothing; its contract is the law.
 
-ghost use Rattle.std.specs.Prelude.{◌≡◌, ℕ, List, length};
-ghost use Rattle.xfs_disk.specs.Blocks.{Image, IsImage};
-ghost use Rattle.xfs_disk.specs.declared.stamp.Stamp.{Stamp};
-ghost use Rattle.xfs_geom.specs.declared.geometry.Geometry.{Geometry};
-ghost use Rattle.xfs_rebuild.specs.Rebuilds.{IsRebuildOf};
-ghost use Rattle.xfs_rebuild.specs.declared.names_due.NamesDue.{NamesDue};
-ghost use Rattle.xfs_rebuild.specs.declared.planning.Rebuilt.{Rebuilt};
-ghost use Rattle.xfs_rename.specs.declared.planning.Renamed.{Renamed};
-ghost use Rattle.xfs_restored.specs.Relinking.{IsRelinked};
-ghost use Rattle.xfs_restored.specs.Rewriting.{IsRewritten};
-ghost use Rattle.xfs_scan.specs.Evidence.{IsEvidence};
-ghost use Rattle.xfs_scan.specs.declared.evidence.Evidence.{Evidence};
-ghost use Rattle.xfs_unique.specs.Rewrites.{IsRewriteOf};
+ghost use Rattle.xfs_unique.specs.Laws.Images.{RebuiltImagesAreOne, RelinkedImagesAreOne, RewritesAreOne};
 
 /// Where no name changes, two images in which a rebuild of one image was written are the same, block by block, whatever evidence
 /// each rebuild goes by.
 pub fn rebuilt_images_are_one()
-    ensures { (g : Geometry) (sector : List ℕ) (s : Stamp) (image now other : Image) (e f : Evidence) (r q : Rebuilt)
-        → IsEvidence g image e → IsRebuildOf g sector s image e r → IsRewritten g r image now → IsImage (length image) now
-        → IsEvidence g image f → IsRebuildOf g sector s image f q → IsRewritten g q image other → IsImage (length image) other
-        → now ≡ other }
+    ensures { RebuiltImagesAreOne }
 {}
 
 /// And so are two in which a rebuild was written that changes names.
 pub fn relinked_images_are_one()
-    ensures { (g : Geometry) (sector : List ℕ) (s : Stamp) (image now other : Image) (e f : Evidence) (n m : NamesDue) (r q : Renamed)
-        → IsRelinked g sector s image now e n r → IsImage (length image) now → IsRelinked g sector s image other f m q → IsImage (length image) other
-        → now ≡ other }
+    ensures { RelinkedImagesAreOne }
 {}
 
 /// So all images in which some rebuild of one image was written are the same, whatever evidence it goes by and whether names change or
 /// not, which the image decides: each block that is planned has the same bytes, and all others are as they were.
 pub fn rewrites_are_one()
-    ensures { (g : Geometry) (sector : List ℕ) (s : Stamp) (image now other : Image) → IsImage (length image) now → IsImage (length image) other
-        → IsRewriteOf g sector s image now → IsRewriteOf g sector s image other → now ≡ other }
+    ensures { RewritesAreOne }
 {}

@@ -1,24 +1,12 @@
 //! Laws about names. The function does nothing; its contract is the laws.
 
-ghost use Rattle.std.specs.Prelude.{◌≡◌, ℕ, ◌≤◌, List};
-ghost use Rattle.std.specs.List.{AllByRecursion};
-ghost use Rattle.xfs_disk.specs.declared.stamp.Stamp.{Stamp};
-ghost use Rattle.xfs_geom.specs.declared.geometry.Geometry.{Geometry};
-ghost use Rattle.xfs_geom.specs.declared.records.Run.{Run};
-ghost use Rattle.xfs_names.specs.declared.records.WantedNames.{WantedNames};
-ghost use Rattle.xfs_place.specs.Objects.{ServeAsks};
-ghost use Rattle.xfs_place.specs.declared.wanted.RunAsk.{RunAsk};
-ghost use Rattle.xfs_rebuild.specs.Rebuilds.{AreNamesDue, Ground};
-ghost use Rattle.xfs_rebuild.specs.declared.names_due.NamesDue.{NamesDue};
-ghost use Rattle.xfs_rename.specs.Settled.{AreWanted};
-ghost use Rattle.xfs_rename.specs.declared.lost.Lost.{Lost};
+ghost use Rattle.xfs_unique.specs.Laws.Names.{NamesAreOneCuts, NamesAreOneDue, NamesAreOneWanted};
 
 /// What is known of a volume in which a name has to change is given by what its rebuild goes by (`due`), and the names that are
 /// wanted by this and by where lost+found stands (`wanted`). Runs that have some blocks each are shared out among what is asked for in
 /// one way (`cuts`).
 pub fn names_are_one()
-    ensures due { (g : Geometry) (s : Stamp) (on : Ground) (m n : NamesDue) → AreNamesDue g s on m → AreNamesDue g s on n → m ≡ n }
-    ensures wanted { (g : Geometry) (n : NamesDue) (l : Lost) (w x : WantedNames) → AreWanted g n l w → AreWanted g n l x → w ≡ x }
-    ensures cuts { (asks : List RunAsk) (cuts others : List ℕ) (runs : List Run) → AllByRecursion (λ (r : Run). 1 ≤ r.count) runs
-        → ServeAsks asks cuts runs → ServeAsks asks others runs → cuts ≡ others }
+    ensures due { NamesAreOneDue }
+    ensures wanted { NamesAreOneWanted }
+    ensures cuts { NamesAreOneCuts }
 {}

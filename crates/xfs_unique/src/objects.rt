@@ -1,14 +1,9 @@
 //! A law about the blocks of directories, symbolic links and files. The function does nothing; its contract is the law.
 
-ghost use Rattle.std.specs.Prelude.{◌≡◌, ℕ, List};
-ghost use Rattle.xfs_geom.specs.Volumes.{Volume};
-ghost use Rattle.xfs_render.specs.Objects.{IsObjectBlock};
-ghost use Rattle.xfs_render.specs.declared.object_blocks.ObjectBlock.{ObjectBlock};
-ghost use Rattle.xfs_unique.specs.Sectors.{AreSized, CanBeSealed};
+ghost use Rattle.xfs_unique.specs.Laws.Objects.{ObjectBlocksAreOne};
 
 /// Of the bytes that were built for a block of an object there is one block at its place, where they have the magic number of what they
 /// are sealed as.
 pub fn object_blocks_are_one()
-    ensures { (v : Volume) (at : ObjectBlock) (built a b : List ℕ) → AreSized 4096 a → AreSized 4096 b → CanBeSealed at.kind built
-        → IsObjectBlock v at built a → IsObjectBlock v at built b → a ≡ b }
+    ensures { ObjectBlocksAreOne }
 {}

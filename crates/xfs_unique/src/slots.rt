@@ -1,37 +1,24 @@
 //! Laws about the slots of inodes. Each function does nothing; its contract is the laws.
 
-ghost use Rattle.std.specs.Prelude.{◌≡◌, ℕ, ◌≤◌, List, length};
-ghost use Rattle.xfs_word.specs.Field.{field_of};
-ghost use Rattle.xfs_geom.specs.Volumes.{Volume};
-ghost use Rattle.xfs_volume.specs.declared.cores.Core.{Core};
-ghost use Rattle.xfs_inode.specs.Slots.{fork_bytes};
-ghost use Rattle.xfs_inodebuild.specs.declared.forks.ForkWanted.{ForkWanted};
-ghost use Rattle.xfs_render.specs.Clusters.{CanCluster, IsClusterBlock};
-ghost use Rattle.xfs_render.specs.Slots.{CanMake, DropsAttrs, IsFreeSlot, IsFreshSlot, IsMadeSlot, SetsFork, SetsLinks};
-ghost use Rattle.xfs_render.specs.declared.wanted_slots.SlotWanted.{SlotWanted};
-ghost use Rattle.xfs_unique.specs.Sectors.{AreSized};
+ghost use Rattle.xfs_unique.specs.Laws.Slots.{ChangedSlotsAreOneAttrs, ChangedSlotsAreOneFork, ChangedSlotsAreOneLinks, MadeSlotsAreOneFree, MadeSlotsAreOneFresh, WantedSlotsAreOneBlock, WantedSlotsAreOneSlot};
 
 /// There is one free slot of an inode and a generation, and one slot of a core whose data fork is empty.
 pub fn made_slots_are_one()
-    ensures free { (v : Volume) (ino generation : ℕ) (a b : List ℕ) → AreSized 512 a → AreSized 512 b → IsFreeSlot v ino generation a → IsFreeSlot v ino generation b → a ≡ b }
-    ensures fresh { (v : Volume) (core : Core) (a b : List ℕ) → AreSized 512 a → AreSized 512 b → IsFreshSlot v core a → IsFreshSlot v core b → a ≡ b }
+    ensures free { MadeSlotsAreOneFree }
+    ensures fresh { MadeSlotsAreOneFresh }
 {}
 
 /// Of one old slot, whose attribute fork begins inside it, there is one without its attributes, one with a data fork that fits in front
 /// of them, and one with a number of links.
 pub fn changed_slots_are_one()
-    ensures attrs { (v : Volume) (ino nblocks : ℕ) (old a b : List ℕ) → field_of old 82 1 ≤ 41 → AreSized 512 a → AreSized 512 b
-        → DropsAttrs v ino nblocks old a → DropsAttrs v ino nblocks old b → a ≡ b }
-    ensures fork { (v : Volume) (ino : ℕ) (fork : ForkWanted) (old a b : List ℕ) → field_of old 82 1 ≤ 41 → length fork.bytes ≤ fork_bytes (field_of old 82 1)
-        → AreSized 512 a → AreSized 512 b → SetsFork v ino fork old a → SetsFork v ino fork old b → a ≡ b }
-    ensures links { (v : Volume) (ino nlink : ℕ) (old a b : List ℕ) → AreSized 512 a → AreSized 512 b → SetsLinks v ino nlink old a → SetsLinks v ino nlink old b → a ≡ b }
+    ensures attrs { ChangedSlotsAreOneAttrs }
+    ensures fork { ChangedSlotsAreOneFork }
+    ensures links { ChangedSlotsAreOneLinks }
 {}
 
 /// Of one old slot there is one that is what is wanted of it, change by change, whatever stood there on the way; and of one old block of
 /// a cluster there is one whose slots are.
 pub fn wanted_slots_are_one()
-    ensures slot { (v : Volume) (generation : ℕ) (w : SlotWanted) (old a b : List ℕ) → CanMake v w old → AreSized 512 a → AreSized 512 b
-        → IsMadeSlot v generation w old a → IsMadeSlot v generation w old b → a ≡ b }
-    ensures block { (v : Volume) (generation : ℕ) (slots : List SlotWanted) (number : ℕ) (old a b : List ℕ) → CanCluster v slots number old → AreSized 4096 a → AreSized 4096 b
-        → IsClusterBlock v generation slots number old a → IsClusterBlock v generation slots number old b → a ≡ b }
+    ensures slot { WantedSlotsAreOneSlot }
+    ensures block { WantedSlotsAreOneBlock }
 {}

@@ -1,0 +1,12 @@
+pub mod Directories
+pub mod Grounds
+pub mod Heads
+pub mod Images
+pub mod Logs
+pub mod Names
+pub mod Objects
+pub mod Placing
+pub mod Repairs
+pub mod Slots
+pub mod Trees
+pub mod Volumes
