@@ -2,8 +2,8 @@
 
 use std::process::Abort;
 use std::test::Fail;
-use xfs_disk::MemorySink;
 use xfs_image::Finding;
+use xfs_memory::MemorySink;
 use xfs_place::Unplaced;
 use xfs_tools::{Answer, Summary, put_answer};
 use xfs_volume::Law;

@@ -4,57 +4,37 @@ mod real;
 
 use crate::checks::same;
 use crate::text::{Row, parts_of, put_parts, tells};
-use std::alloc::AllocError;
 use std::process::Abort;
-use std::test::Fail;
 use xfs_attr::*;
 use xfs_disk::BLOCK_SIZE;
 
 /// Fails where a reader does not answer what is due: attributes, of each its flags, its name and the bytes of its
 /// value, or a fault.
-fn expect(
-    rt: &(impl Abort + AllocGlobal),
-    read: Result<Attrs, AttrFault>,
-    due: &str,
-    case: &str,
-) -> Result<(), AllocError> {
+fn expect(rt: &(impl Abort + AllocGlobal), read: Result<Attrs, AttrFault>, due: &str, case: &str) {
     match read {
         Ok(attributes) => expect_attributes(rt, attributes.as_slice(), due, case),
         Err(fault) => {
             tells(rt, &fault, due, case);
-            Ok(())
         }
     }
 }
 
 /// Fails where attributes are not those that are due.
-fn expect_attributes(
-    rt: &(impl Abort + AllocGlobal),
-    attributes: &[Attr],
-    due: &str,
-    case: &str,
-) -> Result<(), AllocError> {
+fn expect_attributes(rt: &(impl Abort + AllocGlobal), attributes: &[Attr], due: &str, case: &str) {
     let dues = parts_of(rt, due);
     same!(rt; attributes.len(), dues.len(); case);
     for (attribute, due) in attributes.iter().zip(dues.iter()) {
-        expect_attribute(rt, attribute, *due, case)?;
+        expect_attribute(rt, attribute, *due, case);
     }
-    Ok(())
 }
 
 /// Fails where an attribute is not the one that is due.
-fn expect_attribute(
-    rt: &(impl Abort + AllocGlobal),
-    attribute: &Attr,
-    mut due: Row,
-    case: &str,
-) -> Result<(), AllocError> {
+fn expect_attribute(rt: &(impl Abort + AllocGlobal), attribute: &Attr, mut due: Row, case: &str) {
     let flags: u8 = due.number(rt);
     let (name, value) = due.text().split_once('=').unwrap_or(("", ""));
-    let value = Row::new(value).bytes(rt, rt.alloc())?;
+    let value = Row::new(value).bytes(rt, rt.alloc());
     same!(rt; (attribute.flags, attribute.name.bytes()), (flags, name.as_bytes()); case);
     same!(rt; attribute.value.bytes(), value.as_slice(); case);
-    Ok(())
 }
 
 /// The bytes of a fork, and what they are read as.
@@ -77,19 +57,18 @@ no fork | | Unsound
 ";
 
 #[test]
-fn short_forms(rt: HostRuntime) -> Result<(), Fail> {
+fn short_forms(rt: HostRuntime) {
     for line in SHORT_FORMS.lines() {
         let mut row = Row::new(line);
         let case = row.text();
-        let fork = row.bytes(&rt, rt.alloc())?;
+        let fork = row.bytes(&rt, rt.alloc());
         expect(
             &rt,
             read_short_attributes(rt.alloc(), &fork),
             row.text(),
             case,
-        )?;
+        );
     }
-    Ok(())
 }
 
 /// A leaf of `a`, whose value is `xy`, an incomplete `..`, and the root's `abcd`, whose value is `z`.
@@ -131,15 +110,14 @@ entries past the block that are local | 56 ffff, 80 ff*4016 | Unsound
 ";
 
 #[test]
-fn leaves(rt: HostRuntime) -> Result<(), Fail> {
+fn leaves(rt: HostRuntime) {
     let mut whole = [0; BLOCK_SIZE];
-    put_parts(&rt, &mut whole, LEAF)?;
+    put_parts(&rt, &mut whole, LEAF);
     for line in LEAVES.lines() {
         let mut row = Row::new(line);
         let case = row.text();
         let mut block = whole;
-        put_parts(&rt, &mut block, row.text())?;
-        expect(&rt, read_leaf(rt.alloc(), &block), row.text(), case)?;
+        put_parts(&rt, &mut block, row.text());
+        expect(&rt, read_leaf(rt.alloc(), &block), row.text(), case);
     }
-    Ok(())
 }

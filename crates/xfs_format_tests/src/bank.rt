@@ -1,26 +1,43 @@
 //! A bank filled from a disk of three blocks, and worked on in parts.
 
-ghost use Rattle.std.specs.Prelude.{◌≡◌, ◌<◌, IfOk, length};
+ghost use Rattle.std.specs.Prelude.{◌≡◌, ◌<◌, length};
 ghost use Rattle.xfs_bank.specs.Bank.{AreCuts};
 
-use crate::checks::same;
-use crate::text::parts_of;
+use crate::checks::{must, same};
+use crate::text::{parts_of, refuse};
 use std::alloc::Global;
 use std::process::Abort;
-use std::test::Fail;
 use std::thread::Threads;
 use xfs_bank::*;
-use xfs_disk::{Disk, Failed, MemoryDisk};
+use xfs_disk::{Disk, Failed};
+use xfs_memory::MemoryDisk;
 
 /// A disk whose block b has the byte 10 + b everywhere.
-fn three_blocks(alloc: Global) -> Result<MemoryDisk, Fail>
-    ensures { IfOk result (λ disk. ⟦<MemoryDisk as Disk>⟧.size disk ≡ 3) }
+fn three_blocks(rt: &impl Abort, alloc: Global) -> MemoryDisk
+    ensures { ⟦<MemoryDisk as Disk>⟧.size result ≡ 3 }
 {
-    let mut disk = MemoryDisk::make(alloc, 3)?;
-    disk.write(0, &[10; 4096])?;
-    disk.write(1, &[11; 4096])?;
-    disk.write(2, &[12; 4096])?;
-    Ok(disk)
+    let mut disk = must(rt, MemoryDisk::make(alloc, 3));
+    for (place, byte) in [(0, 10), (1, 11), (2, 12)] {
+        put(rt, &mut disk, place, &[byte; 4096]);
+    }
+    assert!(rt; matches!(disk.blocks(), Ok(3)));
+    disk
+}
+
+/// A bank of three blocks of zeros.
+fn three_zeros(rt: &impl Abort, alloc: Global) -> BlockBank
+    ensures { length result ≡ 3 }
+{
+    match BlockBank::make(alloc, 3) {
+        Ok(bank) => bank,
+        Err(_) => refuse(rt, "memory is wanting", "a bank"),
+    }
+}
+
+/// Writes a block.
+fn put(rt: &impl Abort, disk: &mut MemoryDisk, place: u64, block: &[u8; 4096]) {
+    assert!(rt; matches!(disk.blocks(), Ok(count) if place < count));
+    must(rt, disk.write(place, block));
 }
 
 /// Asserts that of each of the bank's blocks the first byte and all others are these.
@@ -50,9 +67,9 @@ fn number_parts<R: Threads + Sync>(rt: &R, bank: &mut BlockBank, cuts: &[usize])
 }
 
 #[test]
-fn filled_and_marked(rt: HostRuntime) -> Result<(), Fail> {
-    let mut disk = three_blocks(rt.alloc())?;
-    let mut bank = BlockBank::make(rt.alloc(), 3)?;
+fn filled_and_marked(rt: HostRuntime) {
+    let mut disk = three_blocks(&rt, rt.alloc());
+    let mut bank = three_zeros(&rt, rt.alloc());
     same!(rt; bank.len(), 3);
     assert_blocks(&rt, &bank, "0 0, 0 0, 0 0");
     same!(rt; bank.fill(&mut disk, &[2, 0, 1]), Ok(()));
@@ -69,12 +86,11 @@ fn filled_and_marked(rt: HostRuntime) -> Result<(), Fail> {
     assert_blocks(&rt, &bank, "1 12, 2 10, 11 11");
     bank.view_mut(2)[0] = 7;
     assert_blocks(&rt, &bank, "1 12, 2 10, 7 11");
-    Ok(())
 }
 
 #[test]
-fn cut_into_parts(rt: HostRuntime) -> Result<(), Fail> {
-    let mut bank = BlockBank::make(rt.alloc(), 3)?;
+fn cut_into_parts(rt: HostRuntime) {
+    let mut bank = three_zeros(&rt, rt.alloc());
     number_parts(&rt, &mut bank, &[1]);
     assert_blocks(&rt, &bank, "1 1, 2 2, 2 2");
     number_parts(&rt, &mut bank, &[]);
@@ -83,16 +99,14 @@ fn cut_into_parts(rt: HostRuntime) -> Result<(), Fail> {
     assert_blocks(&rt, &bank, "1 1, 3 3, 3 3");
     number_parts(&rt, &mut bank, &[0, 2, 3]);
     assert_blocks(&rt, &bank, "2 2, 2 2, 3 3");
-    Ok(())
 }
 
 #[test]
-fn filled_up_to_a_failed_read(rt: HostRuntime) -> Result<(), Fail> {
-    let mut disk = three_blocks(rt.alloc())?;
-    disk.fail(2)?;
-    let mut bank = BlockBank::make(rt.alloc(), 3)?;
+fn filled_up_to_a_failed_read(rt: HostRuntime) {
+    let mut disk = three_blocks(&rt, rt.alloc());
+    must(&rt, disk.fail(2));
+    let mut bank = three_zeros(&rt, rt.alloc());
     same!(rt; bank.fill(&mut disk, &[2, 0, 1]), Err(Failed));
     same!(rt; disk.faults(), 1);
     assert_blocks(&rt, &bank, "12 12, 0 0, 0 0");
-    Ok(())
 }

@@ -5,17 +5,16 @@ ghost use Rattle.xfs_word.specs.Seal.{layout_of};
 ghost use Rattle.xfs_dirindex.specs.Mapped.{OffsetsAscend};
 ghost use Rattle.xfs_dirbuild.specs.Names.{HasNameOfSix};
 
-use crate::checks::same;
+use crate::checks::{must, same};
 use crate::dirindex::{assert_ascending, check};
 use crate::text::{Row, tells};
 use std::alloc::{AllocError, Global};
 use std::process::Abort;
-use std::test::Fail;
 use xfs_bank::BlockBank;
 use xfs_dirbuild::*;
 use xfs_dirdata::{EntryRec, read_data};
 use xfs_dirindex::DirSeen;
-use xfs_disk::Word;
+use xfs_disk::{NoMemory, Word};
 use xfs_word::{Seal, SealKind, get16, get32, put_part, put32, put64, seal, sealed};
 
 /// The inode number of the directories.
@@ -65,11 +64,11 @@ fn entries(alloc: Global, count: u32) -> Result<Vec<EntryRec>, AllocError>
 }
 
 /// A directory with so many entries.
-fn built(alloc: Global, count: u32) -> Result<DirImage, Fail>
+fn built(alloc: Global, count: u32) -> Result<DirImage, NoMemory>
     requires { count ≤ 2 ^ 24 }
 {
     let entries = entries(alloc, count)?;
-    Ok(build(alloc, &entries, DIR, DIR, FORK)?)
+    build(alloc, &entries, DIR, DIR, FORK)
 }
 
 /// The file block of a block of a directory with so many data and index blocks.
@@ -129,9 +128,9 @@ fn place(offset: u64, block: &mut [u8]) -> bool
 }
 
 /// The directory as it is seen once its blocks are placed and sealed.
-fn placed(rt: &impl Abort, alloc: Global, image: DirImage) -> Result<DirSeen, Fail>
-    ensures mapped { IfOk result (λ dir. length dir.blocks ≡ length dir.offsets.items) }
-    ensures ascending { IfOk result (λ dir. OffsetsAscend 0 dir.offsets.items) }
+fn placed(rt: &impl Abort, alloc: Global, image: DirImage) -> DirSeen
+    ensures mapped { length result.blocks ≡ length result.offsets.items }
+    ensures ascending { OffsetsAscend 0 result.offsets.items }
 {
     let DirImage {
         short: _,
@@ -148,16 +147,16 @@ fn placed(rt: &impl Abort, alloc: Global, image: DirImage) -> Result<DirSeen, Fa
         let offset = file_block(i, data_blocks, index_blocks);
         assert!(rt; (i as usize) < blocks.len());
         same!(rt; place(offset, blocks.view_mut(i as usize)), true; offset);
-        offsets.push(offset)?;
+        must(rt, offsets.push(offset));
     }
     assert_ascending(rt, 0, offsets.as_slice());
     assert!(rt; offsets.len() == blocks.len());
-    Ok(DirSeen {
+    DirSeen {
         dir: DIR,
         size: 4096 * data_blocks,
         offsets,
         blocks,
-    })
+    }
 }
 
 /// How many names there are, the form, the numbers of data, index and free blocks, the bytes of the short form, how many
@@ -198,18 +197,18 @@ fn assert_shares(rt: &impl Abort, alloc: Global, image: &DirImage, shares: &str)
 }
 
 /// Asserts that what is built of a row is as the row says, and whole, and is not with another address.
-fn assert_row(rt: &(impl Abort + AllocGlobal), line: &str) -> Result<(), Fail> {
+fn assert_row(rt: &(impl Abort + AllocGlobal), line: &str) {
     let mut row = Row::new(line);
     let (count, form) = (row.number(rt), row.word());
     assert!(rt; count <= 20000);
-    let image = built(rt.alloc(), count)?;
+    let image = must(rt, built(rt.alloc(), count));
     let blocks = (image.data_blocks, image.index_blocks, image.free_blocks);
     tells(rt, &blocks, row.text(), line);
     same!(rt; image.short.len(), row.number(rt); line);
     assert_shares(rt, rt.alloc(), &image, row.text());
-    let mut dir = placed(rt, rt.alloc(), image)?;
+    let mut dir = placed(rt, rt.alloc(), image);
     if form == "short" {
-        return Ok(());
+        return;
     }
     tells(rt, &check(rt.alloc(), form, &dir), "Ok(())", line);
     let (block, at) = (row.number(rt), row.number(rt));
@@ -220,13 +219,11 @@ fn assert_row(rt: &(impl Abort + AllocGlobal), line: &str) -> Result<(), Fail> {
     put32(bytes, at, address.wrapping_add(1));
     assert!(rt; dir.blocks.len() == dir.offsets.len());
     tells(rt, &check(rt.alloc(), form, &dir), "Err(Unsound)", line);
-    Ok(())
 }
 
 #[test]
-fn forms(rt: HostRuntime) -> Result<(), Fail> {
+fn forms(rt: HostRuntime) {
     for line in ROWS.lines() {
-        assert_row(&rt, line)?;
+        assert_row(&rt, line);
     }
-    Ok(())
 }

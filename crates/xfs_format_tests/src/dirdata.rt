@@ -1,16 +1,15 @@
 //! Short forms and data blocks.
 
 ghost use Rattle.std.specs.Prelude.{◌≡◌, ◌<◌, ◌≤◌, ◌^◌, length, All, IfOk};
-ghost use Rattle.xfs_dirdata.specs.Written.{IsWritableEntry};
+ghost use Rattle.xfs_dirdata.specs.Written.{IsWritableEntry, short_length, data_length};
 
 mod real;
 
-use crate::checks::same;
-use crate::text::{Row, put_parts};
+use crate::checks::{must, same};
+use crate::text::{Row, put_parts, refuse};
 use real::{MADE, MADE_ENTRIES, SHORT, SHORT_ENTRIES, WRITTEN, WRITTEN_ENTRIES, WRITTEN_FREE};
 use std::alloc::{AllocError, Global};
 use std::process::Abort;
-use std::test::Fail;
 use xfs_dirdata::*;
 use xfs_disk::Word;
 use xfs_word::put32;
@@ -39,7 +38,7 @@ fn entry(alloc: Global, name: &[u8], ino: u32, ftype: u8) -> Result<EntryRec, Al
 }
 
 /// Entries that can be written, from rows with the offset, the inode number, the file type and the name.
-fn entries(rt: &impl Abort, alloc: Global, rows: &str) -> Result<Vec<EntryRec>, Fail>
+fn entries(rt: &impl Abort, alloc: Global, rows: &str) -> Result<Vec<EntryRec>, AllocError>
     ensures { IfOk result (λ entries. All IsWritableEntry entries.items) }
 {
     let mut entries = Vec::new(alloc);
@@ -68,24 +67,40 @@ fn assert_entries(rt: &impl Abort, entries: &[EntryRec], rows: &str) {
 }
 
 #[test]
-fn short_form(rt: HostRuntime) -> Result<(), Fail> {
-    let two = Row::new(TWO).bytes(&rt, rt.alloc())?;
-    let read = read_short_entries(rt.alloc(), 100, &two)?;
-    same!(rt; read.parent, 128);
-    assert_entries(&rt, &read.entries, TWO_ENTRIES);
-    let made = read_short_entries(rt.alloc(), 100, &Row::new(SHORT).bytes(&rt, rt.alloc())?)?;
-    same!(rt; made.parent, 128);
-    assert_entries(&rt, &made.entries, SHORT_ENTRIES);
-    let entries = [
-        entry(rt.alloc(), b"a", 131, 1)?,
-        entry(rt.alloc(), b"b", 132, 1)?,
-    ];
+fn short_form(rt: HostRuntime) {
+    assert_short(&rt, TWO, TWO_ENTRIES);
+    assert_short(&rt, SHORT, SHORT_ENTRIES);
+    let entries = two_entries(&rt, rt.alloc());
     let mut form = [0xee; 26];
     let size = put_short(128, &entries, &mut form);
     same!(rt; size, 24);
+    let two = Row::new(TWO).bytes(&rt, rt.alloc());
     same!(rt; &form[..24], two.as_slice());
     same!(rt; &form[24..], [0xee, 0xee].as_slice());
-    Ok(())
+}
+
+/// Asserts that a short form of parent 128 is read as these entries.
+fn assert_short(rt: &(impl Abort + AllocGlobal), form: &str, rows: &str) {
+    let form = Row::new(form).bytes(rt, rt.alloc());
+    let read = must(rt, read_short_entries(rt.alloc(), 100, &form));
+    same!(rt; read.parent, 128);
+    assert_entries(rt, &read.entries, rows);
+}
+
+/// The entries `a` and `b`.
+fn two_entries(rt: &impl Abort, alloc: Global) -> [EntryRec; 2]
+    ensures writable { All IsWritableEntry result }
+    ensures short { short_length result ≡ 18 }
+    ensures data { data_length result ≡ 32 }
+    ensures count { length result ≡ 2 }
+{
+    let Ok(first) = entry(alloc, b"a", 131, 1) else {
+        refuse(rt, "memory is wanting", "an entry");
+    };
+    let Ok(second) = entry(alloc, b"b", 132, 1) else {
+        refuse(rt, "memory is wanting", "an entry");
+    };
+    [first, second]
 }
 
 /// At a byte offset of the short form of two entries, other bytes, and whether it is read then.
@@ -112,19 +127,23 @@ const FORMS: &str = "\
 ";
 
 #[test]
-fn short_form_rules(rt: HostRuntime) -> Result<(), Fail> {
+fn short_form_rules(rt: HostRuntime) {
     for line in CHANGED_FORMS.lines() {
         let mut row = Row::new(line);
-        let mut form = Row::new(TWO).bytes(&rt, rt.alloc())?;
-        put_parts(&rt, &mut form, row.text())?;
-        same!(rt; read_short_entries(rt.alloc(), 100, &form).is_ok(), row.flag(&rt); line);
+        let mut form = Row::new(TWO).bytes(&rt, rt.alloc());
+        put_parts(&rt, &mut form, row.text());
+        is_read(&rt, &form, row.flag(&rt), line);
     }
     for line in FORMS.lines() {
         let mut row = Row::new(line);
-        let form = row.bytes(&rt, rt.alloc())?;
-        same!(rt; read_short_entries(rt.alloc(), 100, &form).is_ok(), row.flag(&rt); line);
+        let form = row.bytes(&rt, rt.alloc());
+        is_read(&rt, &form, row.flag(&rt), line);
     }
-    Ok(())
+}
+
+/// Asserts that a short form is read, or that it is not.
+fn is_read(rt: &(impl Abort + AllocGlobal), form: &[u8], due: bool, line: &str) {
+    same!(rt; read_short_entries(rt.alloc(), 100, form).is_ok(), due; line);
 }
 
 /// Asserts that a block of these parts is read as these entries and spans.
@@ -134,10 +153,10 @@ fn assert_block(
     rows: &str,
     spans: &str,
     whole: bool,
-) -> Result<(), Fail> {
+) {
     let mut block = [0; 4096];
-    put_parts(rt, &mut block, parts)?;
-    let read = read_data(rt.alloc(), 100, &block, whole)?;
+    put_parts(rt, &mut block, parts);
+    let read = must(rt, read_data(rt.alloc(), 100, &block, whole));
     assert_entries(rt, &read.entries, rows);
     for (place, line) in read.places.iter().zip(rows.lines()) {
         same!(rt; *place, Row::new(line).number(rt); line);
@@ -148,20 +167,28 @@ fn assert_block(
         same!(rt; (span.offset, span.length), (row.number(rt), row.number(rt)); line);
     }
     same!(rt; read.bests, bestfree(&read.free));
-    Ok(())
 }
 
 #[test]
-fn real_blocks(rt: HostRuntime) -> Result<(), Fail> {
-    assert_block(&rt, MADE, MADE_ENTRIES, "552 3544", false)?;
-    assert_block(&rt, WRITTEN, WRITTEN_ENTRIES, WRITTEN_FREE, true)?;
+fn real_blocks(rt: HostRuntime) {
+    assert_block(&rt, MADE, MADE_ENTRIES, "552 3544", false);
+    assert_block(&rt, WRITTEN, WRITTEN_ENTRIES, WRITTEN_FREE, true);
+    let entries = rows_of(&rt, rt.alloc(), MADE_ENTRIES);
     let mut block = [0; 4096];
-    let placed = put_data(&entries(&rt, rt.alloc(), MADE_ENTRIES)?, None, &mut block);
-    same!(rt; placed, 13);
+    same!(rt; put_data(&entries, None, &mut block), 13);
     let mut due = [0; 4096];
-    put_parts(&rt, &mut due, MADE)?;
+    put_parts(&rt, &mut due, MADE);
     same!(rt; block, due);
-    Ok(())
+}
+
+/// Entries that can be written, from rows.
+fn rows_of(rt: &impl Abort, alloc: Global, rows: &str) -> Vec<EntryRec>
+    ensures { All IsWritableEntry result.items }
+{
+    match entries(rt, alloc, rows) {
+        Ok(entries) => entries,
+        Err(_) => refuse(rt, "memory is wanting", "entries"),
+    }
 }
 
 /// At byte offsets of the block that a kernel wrote, other bytes, and whether it is read then.
@@ -183,17 +210,16 @@ const CHANGED_BLOCKS: &str = "\
 ";
 
 #[test]
-fn data_block_rules(rt: HostRuntime) -> Result<(), Fail> {
+fn data_block_rules(rt: HostRuntime) {
     let mut whole = [0; 4096];
-    put_parts(&rt, &mut whole, WRITTEN)?;
+    put_parts(&rt, &mut whole, WRITTEN);
     for line in CHANGED_BLOCKS.lines() {
         let mut row = Row::new(line);
         let mut block = whole;
-        put_parts(&rt, &mut block, row.text())?;
+        put_parts(&rt, &mut block, row.text());
         let read = read_data(rt.alloc(), 100, &block, true);
         same!(rt; read.is_ok(), row.flag(&rt); line);
     }
-    Ok(())
 }
 
 /// Entries of a directory that stand behind its own and its parent's.
@@ -224,23 +250,29 @@ const ENDS: &str = "\
 ";
 
 #[test]
-fn filled_blocks(rt: HostRuntime) -> Result<(), Fail> {
-    let entries = entries(&rt, rt.alloc(), NAMED)?;
+fn filled_blocks(rt: HostRuntime) {
+    let entries = rows_of(&rt, rt.alloc(), NAMED);
     for line in ENDS.lines() {
-        let mut row = Row::new(line);
-        let end: usize = row.number(&rt);
-        let mut block = [0xee; 4096];
-        assert!(rt; end % 8 == 0 && 96 <= end && end <= 4096);
-        let placed = put_data(&entries, Some((100, 128)), &mut block[..end]);
-        same!(rt; placed, row.number(&rt); line);
-        same!(rt; (block[0], block[4095]), (0xee, 0xee); line);
+        try_end(&rt, &entries, line);
     }
     let mut block = [0; 4096];
     same!(rt; put_data(&entries, Some((100, 128)), &mut block[..4048]), 3);
     put32(&mut block, 4088, 5);
-    let read = read_data(rt.alloc(), 100, &block, true)?;
+    let read = must(&rt, read_data(rt.alloc(), 100, &block, true));
     assert_entries(&rt, &read.entries, ALL_NAMED);
-    Ok(())
+}
+
+/// Tries a block that ends where a line says.
+fn try_end(rt: &impl Abort, entries: &[EntryRec], line: &str)
+    requires { All IsWritableEntry entries.now }
+{
+    let mut row = Row::new(line);
+    let end: usize = row.number(rt);
+    let mut block = [0xee; 4096];
+    assert!(rt; end % 8 == 0 && 96 <= end && end <= 4096);
+    let placed = put_data(entries, Some((100, 128)), &mut block[..end]);
+    same!(rt; placed, row.number(rt); line);
+    same!(rt; (block[0], block[4095]), (0xee, 0xee); line);
 }
 
 #[test]

@@ -1,12 +1,12 @@
 //! Directories in single-block, leaf and node form, sound and with one number changed.
 
-ghost use Rattle.std.specs.Prelude.{◌≡◌, length, IfOk};
+ghost use Rattle.std.specs.Prelude.{◌≡◌, length};
 ghost use Rattle.xfs_dirindex.specs.Mapped.{OffsetsAscend};
 
+use crate::checks::must;
 use crate::text::{Row, tells};
-use std::alloc::{AllocError, Global};
+use std::alloc::Global;
 use std::process::Abort;
-use std::test::Fail;
 use xfs_bank::BlockBank;
 use xfs_dirindex::*;
 
@@ -160,20 +160,15 @@ pub fn assert_ascending(rt: &impl Abort, least: u64, offsets: &[u64])
 }
 
 /// Puts bytes into blocks: in each line, or behind each comma, stand a block, a byte offset and the bytes.
-fn put_blocks(
-    rt: &(impl Abort + AllocGlobal),
-    blocks: &mut BlockBank,
-    text: &str,
-) -> Result<(), AllocError> {
+fn put_blocks(rt: &(impl Abort + AllocGlobal), blocks: &mut BlockBank, text: &str) {
     for line in text.lines() {
         for part in line.split_terminator(',') {
             let mut row = Row::new(part);
             let (block, at) = (row.number(rt), row.number(rt));
             assert!(rt; block < blocks.len());
-            row.put(rt, blocks.view_mut(block), at)?;
+            row.put(rt, blocks.view_mut(block), at);
         }
     }
-    Ok(())
 }
 
 /// The size and the file blocks of a form.
@@ -203,24 +198,24 @@ fn seen(
     size: &str,
     offsets: &str,
     changes: &str,
-) -> Result<DirSeen, Fail>
-    ensures mapped { IfOk result (λ dir. length dir.blocks ≡ length dir.offsets.items) }
-    ensures ascending { IfOk result (λ dir. OffsetsAscend 0 dir.offsets.items) }
+) -> DirSeen
+    ensures mapped { length result.blocks ≡ length result.offsets.items }
+    ensures ascending { OffsetsAscend 0 result.offsets.items }
 {
-    let offsets = Row::new(offsets).numbers(rt, rt.alloc())?;
-    let mut blocks = BlockBank::make(rt.alloc(), offsets.len())?;
+    let offsets = Row::new(offsets).numbers(rt, rt.alloc());
+    let mut blocks = must(rt, BlockBank::make(rt.alloc(), offsets.len()));
     for parts in parts_of(form) {
-        put_blocks(rt, &mut blocks, parts)?;
+        put_blocks(rt, &mut blocks, parts);
     }
-    put_blocks(rt, &mut blocks, changes)?;
+    put_blocks(rt, &mut blocks, changes);
     assert_ascending(rt, 0, offsets.as_slice());
     assert!(rt; blocks.len() == offsets.len());
-    Ok(DirSeen {
+    DirSeen {
         dir: 100,
         size: Row::new(size).number(rt),
         offsets,
         blocks,
-    })
+    }
 }
 
 /// What the check of a form says.
@@ -236,27 +231,25 @@ pub fn check(alloc: Global, form: &str, dir: &DirSeen) -> Result<(), IndexFault>
 }
 
 #[test]
-fn forms_of_directories(rt: HostRuntime) -> Result<(), Fail> {
+fn forms_of_directories(rt: HostRuntime) {
     for line in CASES.lines() {
         let mut row = Row::new(line);
         let (form, by) = (row.word(), row.word());
         let (answer, case) = (row.text(), row.text());
         let (size, offsets) = shape(form);
-        let dir = seen(&rt, form, size, offsets, row.text())?;
+        let dir = seen(&rt, form, size, offsets, row.text());
         tells(&rt, &check(rt.alloc(), by, &dir), answer, case);
     }
-    Ok(())
 }
 
 #[test]
-fn shapes_of_directories(rt: HostRuntime) -> Result<(), Fail> {
+fn shapes_of_directories(rt: HostRuntime) {
     for line in SHAPES.lines() {
         let mut row = Row::new(line);
         let (form, by) = (row.word(), row.word());
         let (answer, case) = (row.text(), row.text());
         let (size, offsets) = (row.text(), row.text());
-        let dir = seen(&rt, form, size, offsets, row.text())?;
+        let dir = seen(&rt, form, size, offsets, row.text());
         tells(&rt, &check(rt.alloc(), by, &dir), answer, case);
     }
-    Ok(())
 }

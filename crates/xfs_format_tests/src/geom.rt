@@ -3,14 +3,13 @@
 ghost use Rattle.std.specs.Prelude.{◌+◌, ◌≤◌, IfOk};
 ghost use Rattle.xfs_geom.specs.Writing.{IsAcceptedSector};
 
-use crate::checks::same;
+use crate::checks::{must, same, sure};
 use crate::text::{Row, parts_of, put_parts, refuse, tells};
-use std::alloc::AllocError;
 use std::process::Abort;
-use std::test::Fail;
-use xfs_disk::{Disk, MemoryDisk};
+use xfs_disk::Disk;
 use xfs_geom::superblock::*;
 use xfs_geom::*;
+use xfs_memory::MemoryDisk;
 use xfs_word::{Seal, SealKind, put_part, put64, seal};
 
 /// Two groups of 1024 blocks, with the log at AG block 6 of the second.
@@ -72,15 +71,12 @@ const COMMON: &str = "\
 ";
 
 /// A superblock of the shape, sealed.
-fn superblock(
-    rt: &(impl Abort + AllocGlobal),
-    shape: &str,
-) -> Result<[u8; SECTOR_SIZE], AllocError> {
+fn superblock(rt: &(impl Abort + AllocGlobal), shape: &str) -> [u8; SECTOR_SIZE] {
     let mut sector = [0; SECTOR_SIZE];
-    put_parts(rt, &mut sector, COMMON)?;
-    put_parts(rt, &mut sector, shape)?;
+    put_parts(rt, &mut sector, COMMON);
+    put_parts(rt, &mut sector, shape);
     reseal(&mut sector);
-    Ok(sector)
+    sector
 }
 
 fn reseal(sector: &mut [u8; SECTOR_SIZE]) {
@@ -111,49 +107,43 @@ fn without(sector: &[u8; SECTOR_SIZE], at: usize) -> [u8; SECTOR_SIZE]
 }
 
 /// A superblock by its name in the table of elections.
-fn named(rt: &(impl Abort + AllocGlobal), name: &str) -> Result<[u8; SECTOR_SIZE], AllocError> {
-    let two = superblock(rt, TWO_GROUPS)?;
-    let four = superblock(rt, FOUR_GROUPS)?;
-    let no_inodes = without(&without(&two, RBMINO.offset), RSUMINO.offset);
-    Ok(match name {
+fn named(rt: &(impl Abort + AllocGlobal), name: &str) -> [u8; SECTOR_SIZE] {
+    let two = superblock(rt, TWO_GROUPS);
+    match name {
         "two" => two,
-        "four" => four,
-        "other" => with_number(&four, UUID.offset, 0),
+        "four" => superblock(rt, FOUR_GROUPS),
+        "other" => with_number(&superblock(rt, FOUR_GROUPS), UUID.offset, 0),
         "unsupported" => with_number(&two, FEATURES_RO_COMPAT.offset, 7 << 32 | 3),
-        "no inodes" => no_inodes,
-        "no root" => without(&no_inodes, ROOTINO.offset),
+        "no inodes" => without_inodes(&two),
+        "no root" => without(&without_inodes(&two), ROOTINO.offset),
         "zeros" => [0; SECTOR_SIZE],
         _ => refuse(rt, "no superblock", name),
-    })
+    }
+}
+
+/// A superblock that does not know the realtime inodes.
+fn without_inodes(sector: &[u8; SECTOR_SIZE]) -> [u8; SECTOR_SIZE] {
+    without(&without(sector, RBMINO.offset), RSUMINO.offset)
 }
 
 /// Puts a superblock at the front of a block.
-fn put_super(
-    rt: &(impl Abort + AllocGlobal),
-    disk: &mut MemoryDisk,
-    mut row: Row,
-) -> Result<(), Fail> {
+fn put_super(rt: &(impl Abort + AllocGlobal), disk: &mut MemoryDisk, mut row: Row) {
     let at: u64 = row.number(rt);
     let mut block = [0; 4096];
-    put_part(&mut block, 0, &named(rt, row.text())?);
-    let blocks = disk.blocks()?;
-    assert!(rt; at < blocks);
-    disk.write(at, &block)?;
-    Ok(())
+    put_part(&mut block, 0, &named(rt, row.text()));
+    assert!(rt; matches!(disk.blocks(), Ok(count) if at < count));
+    must(rt, disk.write(at, &block));
 }
 
 /// The answer of an election on a disk of 4096 blocks, of which some begin with a superblock.
-fn elect_of(
-    rt: &(impl Abort + AllocGlobal),
-    supers: &str,
-) -> Result<Result<Elected, ElectFault>, Fail>
-    ensures { IfOk result (λ answer. IfOk answer (λ e. IsAcceptedSector e.sector)) }
+fn elect_of(rt: &(impl Abort + AllocGlobal), supers: &str) -> Result<Elected, ElectFault>
+    ensures { IfOk result (λ e. IsAcceptedSector e.sector) }
 {
-    let mut disk = MemoryDisk::make(rt.alloc(), 4096)?;
+    let mut disk = must(rt, MemoryDisk::make(rt.alloc(), 4096));
     for row in parts_of(rt, supers).iter() {
-        put_super(rt, &mut disk, *row)?;
+        put_super(rt, &mut disk, *row);
     }
-    Ok(elect(rt.alloc(), &mut disk))
+    elect(rt.alloc(), &mut disk)
 }
 
 /// At which blocks superblocks stand, and from which block what is elected is.
@@ -168,20 +158,34 @@ Err(Unsupported { word: 11, bits: 4 })
 ";
 
 #[test]
-fn elections(rt: HostRuntime) -> Result<(), Fail> {
+fn elections(rt: HostRuntime) {
     for line in ELECTIONS.lines() {
         let mut row = Row::new(line);
         let case = row.text();
-        let elected = elect_of(&rt, row.text())?;
+        let elected = elect_of(&rt, row.text());
         tells(&rt, &elected.map(|e| e.from), row.text(), case);
     }
-    Ok(())
 }
 
 #[test]
-fn writing(rt: HostRuntime) -> Result<(), Fail> {
-    let Ok(elected) = elect_of(&rt, "1024 no inodes")? else {
-        return Err(Fail::from("nothing is elected"));
+fn writing(rt: HostRuntime) {
+    let sector = written(&rt);
+    let values = [
+        RBMINO.read(&sector),
+        RSUMINO.read(&sector),
+        ICOUNT.read(&sector),
+        IFREE.read(&sector),
+        FDBLOCKS.read(&sector),
+        IMAX_PCT.read(&sector),
+    ];
+    tells(&rt, &values, "[129, 130, 32, 29, 7, 25]", "written fields");
+    same!(rt; read_super(&sector, 0, 2048).is_ok(), true);
+}
+
+/// The superblock that is elected, written with other counts.
+fn written(rt: &(impl Abort + AllocGlobal)) -> [u8; SECTOR_SIZE] {
+    let Ok(elected) = elect_of(rt, "1024 no inodes") else {
+        refuse(rt, "nothing is elected", "")
     };
     let counts = Counts {
         icount: 32,
@@ -190,14 +194,7 @@ fn writing(rt: HostRuntime) -> Result<(), Fail> {
     };
     let mut sector = [0; SECTOR_SIZE];
     write_super(&elected.sector, &counts, &mut sector);
-    same!(rt; RBMINO.read(&sector), 129);
-    same!(rt; RSUMINO.read(&sector), 130);
-    same!(rt; ICOUNT.read(&sector), 32);
-    same!(rt; IFREE.read(&sector), 29);
-    same!(rt; FDBLOCKS.read(&sector), 7);
-    same!(rt; IMAX_PCT.read(&sector), 25);
-    assert!(rt; read_super(&sector, 0, 2048).is_ok());
-    Ok(())
+    sector
 }
 
 /// Addresses in the uneven groups, and the blocks that they are of.
@@ -224,28 +221,35 @@ const FIXED: &str = "\
 ";
 
 #[test]
-fn conversions(rt: HostRuntime) -> Result<(), Fail> {
-    let geometry = read_super(&superblock(&rt, UNEVEN_GROUPS)?, 0, 2000)?;
+fn conversions(rt: HostRuntime) {
+    let Ok(geometry) = read_super(&superblock(&rt, UNEVEN_GROUPS), 0, 2000) else {
+        refuse(&rt, "no superblock", "uneven groups");
+    };
     same!(rt; geometry.log, 1106);
-    same!(rt; geometry.group_length(0), 1100);
-    same!(rt; geometry.group_length(1), 900);
     for line in ADDRESSES.lines() {
-        let mut row = Row::new(line);
-        let (address, block): (u64, Option<u64>) = (row.number(&rt), row.optional(&rt));
-        assert!(rt; address < 1 << 32);
-        same!(rt; geometry.block_of_address(address), block; address);
-        same!(rt; geometry.slot_of_inode(address * 8 + 5), block.map(|b| (b, 5)); address);
-        if let Some(block) = block {
-            assert!(rt; block < geometry.dblocks);
-            same!(rt; geometry.address_of_block(block), address);
-            same!(rt; geometry.inode_of_slot(block, 5), address * 8 + 5);
-        }
+        try_address(&rt, &geometry, line);
     }
     for line in FIXED.lines() {
         let mut row = Row::new(line);
         let block = row.number(&rt);
-        assert!(rt; block < geometry.dblocks);
-        same!(rt; geometry.is_fixed(block), row.flag(&rt); block);
+        sure(&rt, block < geometry.dblocks, line);
+        same!(rt; geometry.is_fixed(block), row.flag(&rt); line);
     }
-    Ok(())
+    sure(&rt, geometry.agcount == 2, "two groups");
+    same!(rt; geometry.group_length(0), 1100);
+    same!(rt; geometry.group_length(1), 900);
+}
+
+/// Tries an address of a line and an inode there.
+fn try_address(rt: &impl Abort, geometry: &Geometry, line: &str) {
+    let mut row = Row::new(line);
+    let (address, block): (u64, Option<u64>) = (row.number(rt), row.optional(rt));
+    sure(rt, address < 1 << 32, line);
+    same!(rt; geometry.block_of_address(address), block; line);
+    same!(rt; geometry.slot_of_inode(address * 8 + 5), block.map(|b| (b, 5)); line);
+    if let Some(block) = block {
+        sure(rt, block < geometry.dblocks, line);
+        same!(rt; geometry.address_of_block(block), address; line);
+        same!(rt; geometry.inode_of_slot(block, 5), address * 8 + 5; line);
+    }
 }

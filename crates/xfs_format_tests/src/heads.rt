@@ -9,7 +9,6 @@ mod real;
 use crate::checks::same;
 use crate::text::{Row, refuse};
 use std::process::Abort;
-use std::test::Fail;
 use xfs_geom::Geometry;
 use xfs_heads::layouts::{agf, agfl, agi};
 use xfs_heads::*;
@@ -86,7 +85,7 @@ freeblks 7 true
 ";
 
 #[test]
-fn free_space(rt: HostRuntime) -> Result<(), Fail> {
+fn free_space(rt: HostRuntime) {
     let g = volume();
     let header = Agf {
         magicnum: 0x5841_4746,
@@ -123,7 +122,6 @@ fn free_space(rt: HostRuntime) -> Result<(), Fail> {
         let changed = with_number(&sector, SealKind::Agf, at, row.number(&rt));
         same!(rt; read_agf(&g, 0, &changed).is_some(), row.flag(&rt); line);
     }
-    Ok(())
 }
 
 /// The same of the header of inodes.
@@ -141,7 +139,7 @@ dirino 7 true
 ";
 
 #[test]
-fn inodes(rt: HostRuntime) -> Result<(), Fail> {
+fn inodes(rt: HostRuntime) {
     let g = volume();
     let mut unlinked = [u32::MAX; 64];
     unlinked[63] = 131;
@@ -176,7 +174,6 @@ fn inodes(rt: HostRuntime) -> Result<(), Fail> {
         let changed = with_number(&sector, SealKind::Agi, at, row.number(&rt));
         same!(rt; read_agi(&g, 0, &changed).is_some(), row.flag(&rt); line);
     }
-    Ok(())
 }
 
 /// A header of free space that only bounds the free list.
@@ -222,13 +219,13 @@ fn list_sector(flfirst: u32, flcount: u32) -> [u8; 512]
 }
 
 #[test]
-fn free_lists(rt: HostRuntime) -> Result<(), Fail> {
+fn free_lists(rt: HostRuntime) {
     let g = volume();
     for flfirst in 0..119 {
         for flcount in [0, 1, 6, 118, 119] {
             let sector = list_sector(flfirst, flcount);
             let Some(list) = read_agfl(&g, 0, &bounds(flfirst, flcount), &sector) else {
-                return Err(Fail::from("a free list is refused"));
+                refuse(&rt, "a free list is refused", "")
             };
             same!(rt; list.count, flcount);
             for (index, entry) in list.entries.iter().enumerate() {
@@ -241,7 +238,6 @@ fn free_lists(rt: HostRuntime) -> Result<(), Fail> {
             }
         }
     }
-    Ok(())
 }
 
 /// A group, a block of it, and whether a free list of the group may have it.
@@ -257,7 +253,7 @@ const LISTED: &str = "\
 ";
 
 #[test]
-fn listed_blocks(rt: HostRuntime) -> Result<(), Fail> {
+fn listed_blocks(rt: HostRuntime) {
     let g = volume();
     for line in LISTED.lines() {
         let mut row = Row::new(line);
@@ -273,5 +269,4 @@ fn listed_blocks(rt: HostRuntime) -> Result<(), Fail> {
             same!(rt; read_agfl(&g, 1 - ag, &bounds(0, 2), &sector), None);
         }
     }
-    Ok(())
 }

@@ -7,12 +7,11 @@ mod disks;
 mod files;
 mod real;
 
-use crate::checks::same;
+use crate::checks::{must, same};
 use crate::text::{Row, put_parts, tells};
-use std::alloc::{AllocError, Global};
+use std::alloc::Global;
 use std::process::Abort;
 use std::sync::ledger::{Blank, Ledger};
-use std::test::Fail;
 use xfs_disk::{Disk, Stamp, Word};
 use xfs_geom::Geometry;
 use xfs_inode::*;
@@ -93,12 +92,12 @@ fn geometry() -> Geometry {
 }
 
 /// The slot of the fresh file with these parts written into it, sealed as inode 131.
-fn file_with(rt: &(impl Abort + AllocGlobal), parts: &str) -> Result<[u8; 512], AllocError> {
+fn file_with(rt: &(impl Abort + AllocGlobal), parts: &str) -> [u8; 512] {
     let mut slot = [0; 512];
-    put_parts(rt, &mut slot, SLOT)?;
-    put_parts(rt, &mut slot, parts)?;
+    put_parts(rt, &mut slot, SLOT);
+    put_parts(rt, &mut slot, parts);
     seal_file(&mut slot);
-    Ok(slot)
+    slot
 }
 
 /// Writes the checksum of a slot.
@@ -162,21 +161,20 @@ const SLOTS: &str = "\
 ";
 
 #[test]
-fn slots(rt: HostRuntime) -> Result<(), Fail> {
+fn slots(rt: HostRuntime) {
     let g = geometry();
     for line in SLOTS.lines() {
         let mut row = Row::new(line);
         let ino = row.number(&rt);
         let (case, due) = (row.text(), row.text());
-        let mut slot = file_with(&rt, row.text())?;
-        put_parts(&rt, &mut slot, row.text())?;
+        let mut slot = file_with(&rt, row.text());
+        put_parts(&rt, &mut slot, row.text());
         tells(&rt, &refused(read_slot(&g, ino, &slot)), due, case);
     }
-    Ok(())
 }
 
 #[test]
-fn blank_slots(rt: HostRuntime) -> Result<(), Fail> {
+fn blank_slots(rt: HostRuntime) {
     let g = volume(IDENTIFIER);
     let stamp = Stamp {
         seconds: 16,
@@ -192,16 +190,15 @@ fn blank_slots(rt: HostRuntime) -> Result<(), Fail> {
         &rt,
         &mut due,
         "0 494e, 4 03, 95 07ffffffff, 159 83, 160 00112233445566778899aabbccddeeff",
-    )?;
+    );
     seal_file(&mut due);
     same!(rt; slot, due);
-    due = file_with(&rt, "")?;
+    due = file_with(&rt, "");
     slot = [0xff; 512];
     fresh_slot(&g, &FRESH, &due[176..192], &mut slot);
     let crc = stored_checksum(&slot, 100);
     same!(rt; read_slot(&g, 131, &slot), SlotRead::InUse(Core { crc, ..FRESH }));
     same!(rt; slot, due);
-    Ok(())
 }
 
 /// Tests that a slot is what is due, with zero from a byte on, these parts and its seal.
@@ -211,39 +208,38 @@ fn is_due(
     due: &mut [u8; 512],
     end: usize,
     parts: &str,
-) -> Result<(), AllocError> {
+) {
     assert!(rt; end <= 512);
     due[end..].fill(0);
-    put_parts(rt, due, parts)?;
+    put_parts(rt, due, parts);
     seal_file(due);
     same!(rt; *slot, *due; parts);
-    Ok(())
 }
 
 /// Where the attribute fork begins, in units of 8 bytes behind byte 176, and the byte behind the data fork.
 const FORKS: &str = "0 512, 6 224, 41 504";
 
 #[test]
-fn changed_slots(rt: HostRuntime) -> Result<(), Fail> {
+fn changed_slots(rt: HostRuntime) {
     let g = geometry();
     let wanted = ForkWanted {
         format: 1,
         size: 2,
         nblocks: 5,
         nextents: 6,
-        bytes: Word::from_vec(vec![in rt.alloc(); 0xab, 0xcd]?),
+        bytes: Word::from_vec(must(&rt, vec![in rt.alloc(); 0xab, 0xcd])),
     };
     for fork in FORKS.split(',') {
         let mut row = Row::new(fork);
         let mut slot = [0x5a; 512];
         let parts = "0 494e, 4 03, 152 0000000000000083, 160 00112233445566778899aabbccddeeff";
-        put_parts(&rt, &mut slot, parts)?;
+        put_parts(&rt, &mut slot, parts);
         slot[82] = row.number(&rt);
         let mut due = slot;
         seal_file(&mut slot);
         assert!(rt; sealed(&slot_seal(&g, 131), &slot));
         set_links(&g, 131, 9, &mut slot);
-        is_due(&rt, &slot, &mut due, 512, "16 00000009, 96 ffffffff")?;
+        is_due(&rt, &slot, &mut due, 512, "16 00000009, 96 ffffffff");
         assert!(rt; get8(&slot, 82) <= 41);
         drop_attrs(&g, 131, 3, &mut slot);
         let end = row.number(&rt);
@@ -253,11 +249,10 @@ fn changed_slots(rt: HostRuntime) -> Result<(), Fail> {
             &mut due,
             end,
             "64 0000000000000003, 80 0000, 83 02",
-        )?;
+        );
         assert!(rt; get8(&slot, 82) <= 41);
         set_fork(&g, 131, &wanted, &mut slot);
         let parts = "5 01, 56 0000000000000002, 71 05, 76 00000006, 176 abcd";
-        is_due(&rt, &slot, &mut due, 176, parts)?;
+        is_due(&rt, &slot, &mut due, 176, parts);
     }
-    Ok(())
 }

@@ -5,10 +5,9 @@ ghost use Rattle.xfs_kinds.specs.FreeRuns.{span};
 
 mod hostile;
 
-use crate::checks::same;
+use crate::checks::{must, same};
 use crate::text::{Row, put_parts, tells};
 use std::cmp::Ordering;
-use std::test::Fail;
 use xfs_geom::{Geometry, InoRec, RmapRec, Run, Span};
 use xfs_kinds::*;
 use xfs_tree::{Kind, tree_layout};
@@ -249,18 +248,17 @@ const WRITTEN_RECORD: &str = "0 0000023d000000010000000000000094000000000000002c
 const ITS_LOW_KEY: &str = "0 0000023d0000000000000094200000000000002c";
 
 #[test]
-fn keys_of_a_kernel(rt: HostRuntime) -> Result<(), Fail> {
+fn keys_of_a_kernel(rt: HostRuntime) {
     let rmap = Rmap { ag: 0 };
     let mut record = [0; 24];
     let mut key = [0; 20];
-    put_parts(&rt, &mut record, UNWRITTEN_RECORD)?;
+    put_parts(&rt, &mut record, UNWRITTEN_RECORD);
     rmap.put_key(&rmap.high_key(&rmap.read_record(&record)), &mut key);
     tells(&rt, &key, ITS_HIGH_KEY, "the high key");
-    put_parts(&rt, &mut record, WRITTEN_RECORD)?;
-    put_parts(&rt, &mut key, ITS_LOW_KEY)?;
+    put_parts(&rt, &mut record, WRITTEN_RECORD);
+    put_parts(&rt, &mut key, ITS_LOW_KEY);
     let run = rmap.read_record(&record);
     same!(rt; rmap.read_key(&key), rmap.low_key(&run));
-    Ok(())
 }
 
 /// The bytes of an extent.
@@ -307,7 +305,7 @@ fn extent_trees(rt: HostRuntime) {
 }
 
 #[test]
-fn free_runs_of_a_group(rt: HostRuntime) -> Result<(), Fail> {
+fn free_runs_of_a_group(rt: HostRuntime) {
     let used = [
         span(0, 1),
         span(1, 1),
@@ -319,12 +317,11 @@ fn free_runs_of_a_group(rt: HostRuntime) -> Result<(), Fail> {
         span(16, 4),
         span(20, 4),
     ];
-    let free = free_runs(rt.alloc(), &used, 1024)?;
+    let free = must(&rt, free_runs(rt.alloc(), &used, 1024));
     same!(rt; free.as_slice(), [span(12, 4), span(24, 1000)].as_slice());
     let used = [span(3, 0), span(5, 2), span(9, u32::MAX)];
-    let free = free_runs(rt.alloc(), &used, 8)?;
+    let free = must(&rt, free_runs(rt.alloc(), &used, 8));
     same!(rt; free.as_slice(), [span(0, 5), span(7, 1)].as_slice());
-    Ok(())
 }
 
 /// The offset words of a run of two blocks and of the block behind it, and how many blocks the first merged run has.
@@ -338,7 +335,7 @@ const PAIRS: &str = "\
 ";
 
 #[test]
-fn merged_runs_of_a_group(rt: HostRuntime) -> Result<(), Fail> {
+fn merged_runs_of_a_group(rt: HostRuntime) {
     let run = |start, count, owner, offset| Run {
         start,
         count,
@@ -356,7 +353,7 @@ fn merged_runs_of_a_group(rt: HostRuntime) -> Result<(), Fail> {
         run(16, 4, INODES, 0),
         run(20, 4, INODES, 0),
     ];
-    let merged = merge_runs(rt.alloc(), &runs)?;
+    let merged = must(&rt, merge_runs(rt.alloc(), &runs));
     let expected = [
         run(0, 1, FS, 0),
         run(1, 2, AG, 0),
@@ -369,8 +366,7 @@ fn merged_runs_of_a_group(rt: HostRuntime) -> Result<(), Fail> {
         let mut row = Row::new(line);
         let (offset, next) = (row.number(&rt), row.number(&rt));
         let pair = [run(24, 2, 131, offset), run(26, 1, 131, next)];
-        let merged = merge_runs(rt.alloc(), &pair)?;
+        let merged = must(&rt, merge_runs(rt.alloc(), &pair));
         same!(rt; merged.first(), Some(&run(24, row.number(&rt), 131, offset)); line);
     }
-    Ok(())
 }

@@ -1,36 +1,33 @@
 //! Whole command lines. Words stand between semicolons, and so do commands.
 
-use crate::checks::same;
-use crate::text::{Row, tells};
+use crate::checks::{must, same};
+use crate::text::{Row, refuse, tells};
 use std::alloc::Global;
-use std::test::Fail;
-use xfs_disk::{NoMemory, Word};
+use std::process::Abort;
+use xfs_disk::Word;
 use xfs_options::{MakeLine, MakeOptions, read_debug_words, read_make_words};
 
 /// The words of a text.
-fn words(alloc: Global, text: &str) -> Result<Vec<Word>, NoMemory> {
+fn words(rt: &impl Abort, alloc: Global, text: &str) -> Vec<Word> {
     let mut words = Vec::new(alloc);
-    let mut word = Vec::new(alloc);
-    for byte in text.as_bytes() {
-        if *byte == b';' {
-            words.push(Word::from_vec(word))?;
-            word = Vec::new(alloc);
-        } else {
-            word.push(*byte)?;
-        }
+    for word in text.split(';') {
+        must(rt, words.push(word_of(rt, alloc, word)));
     }
-    words.push(Word::from_vec(word))?;
-    Ok(words)
+    words
+}
+
+fn word_of(rt: &impl Abort, alloc: Global, text: &str) -> Word {
+    Word::from_vec(must(rt, Vec::from_slice(alloc, text.as_bytes())))
 }
 
 /// The text of words, each with a semicolon behind it.
-fn text_of(alloc: Global, words: &[Word]) -> Result<Vec<u8>, NoMemory> {
+fn text_of(rt: &impl Abort, alloc: Global, words: &[Word]) -> Vec<u8> {
     let mut text = Vec::new(alloc);
     for word in words {
-        text.extend_from_slice(word.bytes())?;
-        text.push(b';')?;
+        must(rt, text.extend_from_slice(word.bytes()));
+        must(rt, text.push(b';'));
     }
-    Ok(text)
+    text
 }
 
 /// Words, and whether they say -r and -x, and their commands; or the number of the first that offends.
@@ -54,20 +51,19 @@ V;-x | Offends(2)
 ";
 
 #[test]
-fn lines_of_the_debugger(rt: HostRuntime) -> Result<(), Fail> {
+fn lines_of_the_debugger(rt: HostRuntime) {
     for line in DEBUGGER.lines() {
         let mut row = Row::new(line);
-        let words = words(rt.alloc(), row.text())?;
+        let words = words(&rt, rt.alloc(), row.text());
         match read_debug_words(rt.alloc(), &words) {
             Ok(read) => {
                 same!(rt; (read.read_only, read.expert), (row.flag(&rt), row.flag(&rt)); line);
-                let commands = text_of(rt.alloc(), &read.commands)?;
+                let commands = text_of(&rt, rt.alloc(), &read.commands);
                 same!(rt; commands.as_slice(), row.text().as_bytes(); line);
             }
             Err(fault) => tells(&rt, &fault, row.text(), line),
         }
     }
-    Ok(())
 }
 
 /// Words, and the blocks, the groups, the blocks of a group and those of the log, and the number of files that they
@@ -106,10 +102,10 @@ V | [None, None, None, None, None]
 ";
 
 #[test]
-fn lines_of_the_maker(rt: HostRuntime) -> Result<(), Fail> {
+fn lines_of_the_maker(rt: HostRuntime) {
     for line in MAKER.lines() {
         let mut row = Row::new(line);
-        let words = words(rt.alloc(), row.text())?;
+        let words = words(&rt, rt.alloc(), row.text());
         match read_make_words(rt.alloc(), &words) {
             Ok(MakeLine { options, .. }) => {
                 let numbers = [
@@ -124,17 +120,17 @@ fn lines_of_the_maker(rt: HostRuntime) -> Result<(), Fail> {
             Err(fault) => tells(&rt, &fault, row.text(), line),
         }
     }
-    Ok(())
 }
 
 #[test]
-fn values_of_the_maker(rt: HostRuntime) -> Result<(), Fail> {
+fn values_of_the_maker(rt: HostRuntime) {
     let words = words(
+        &rt,
         rt.alloc(),
         "-fL;a;-m;uuid=00112233-4455-6677-8899-aabbccddeeff;-pP;-qLb c;V",
-    )?;
+    );
     let Ok(MakeLine { options, quiet }) = read_make_words(rt.alloc(), &words) else {
-        return Err(Fail::from("the words are refused"));
+        refuse(&rt, "the words are refused", "")
     };
     let MakeOptions {
         uuid: given,
@@ -147,9 +143,8 @@ fn values_of_the_maker(rt: HostRuntime) -> Result<(), Fail> {
     tells(&rt, &given, due, "the identifier");
     same!(rt; label.bytes(), b"b c".as_slice());
     let Some(proto) = proto else {
-        return Err(Fail::from("no protofile is named"));
+        refuse(&rt, "no protofile is named", "")
     };
     same!(rt; proto.bytes(), b"P".as_slice());
     assert!(rt; force && quiet);
-    Ok(())
 }

@@ -1,42 +1,46 @@
 //! Whole protofiles. In their texts a semicolon stands for a line feed, `~` for a tab, and `<3*ab>` for `ababab`.
 
-use crate::checks::same;
+use crate::checks::{must, same};
 use crate::text::{Row, tells};
 use std::alloc::{AllocError, Global};
 use std::fmt::Write;
-use std::test::Fail;
+use std::process::Abort;
 use xfs_disk::Word;
 use xfs_proto::{ProtoKind, ProtoNode, read_proto};
 
 /// The bytes that a text stands for.
-fn expanded(alloc: Global, text: &str) -> Result<Vec<u8>, AllocError> {
+fn expanded(rt: &impl Abort, alloc: Global, text: &str) -> Vec<u8> {
     let mut bytes = Vec::new(alloc);
     for piece in text.split('<') {
-        match piece.split_once('>') {
-            None => push_text(&mut bytes, piece)?,
-            Some((repeated, rest)) => {
-                let (count, part) = repeated.split_once('*').unwrap_or(("1", repeated));
-                for _ in 0..count.parse::<u32>().unwrap_or(1) {
-                    push_text(&mut bytes, part)?;
-                }
-                push_text(&mut bytes, rest)?;
-            }
-        }
+        push_piece(rt, &mut bytes, piece);
     }
-    Ok(bytes)
+    bytes
+}
+
+/// Adds the bytes of a piece, which may begin with a repetition.
+fn push_piece(rt: &impl Abort, bytes: &mut Vec<u8>, piece: &str) {
+    let (repeated, rest) = piece.split_once('>').unwrap_or(("0*", piece));
+    let (count, part) = repeated.split_once('*').unwrap_or(("1", repeated));
+    for _ in 0..count.parse::<u32>().unwrap_or(1) {
+        push_text(rt, bytes, part);
+    }
+    push_text(rt, bytes, rest);
 }
 
 /// Adds the bytes of a text without repetitions.
-fn push_text(bytes: &mut Vec<u8>, text: &str) -> Result<(), AllocError> {
+fn push_text(rt: &impl Abort, bytes: &mut Vec<u8>, text: &str) {
     for byte in text.as_bytes() {
-        let byte = match *byte {
-            b';' => b'\n',
-            b'~' => b'\t',
-            byte => byte,
-        };
-        bytes.extend_from_slice(&[byte])?;
+        must(rt, bytes.push(byte_of(*byte)));
     }
-    Ok(())
+}
+
+/// The byte that a character stands for.
+fn byte_of(byte: u8) -> u8 {
+    match byte {
+        b';' => b'\n',
+        b'~' => b'\t',
+        byte => byte,
+    }
 }
 
 /// A word as text.
@@ -66,15 +70,15 @@ fn write_node(text: &mut String, node: &ProtoNode) -> Result<(), AllocError> {
 }
 
 /// Nodes as text, with commas between them.
-fn text_of(alloc: Global, nodes: &[ProtoNode]) -> Result<String, AllocError> {
+fn text_of(rt: &impl Abort, alloc: Global, nodes: &[ProtoNode]) -> String {
     let mut text = String::new(alloc);
     for (k, node) in nodes.iter().enumerate() {
         if k > 0 {
-            write!(text, ", ")?;
+            must(rt, text.push_str(", "));
         }
-        write_node(&mut text, node)?;
+        must(rt, write_node(&mut text, node));
     }
-    Ok(text)
+    text
 }
 
 /// Protofiles, and their files or why they are refused.
@@ -124,19 +128,18 @@ x 0 0 d--755 0 0;<200*d d--755 0 0;><201*$ >;;$ | Bad { line: 204, reason: 6 }
 ";
 
 #[test]
-fn protofiles(rt: HostRuntime) -> Result<(), Fail> {
+fn protofiles(rt: HostRuntime) {
     for line in WHOLE.lines() {
         let mut row = Row::new(line);
-        let text = expanded(rt.alloc(), row.text())?;
+        let text = expanded(&rt, rt.alloc(), row.text());
         match read_proto(rt.alloc(), &text) {
             Ok(proto) => {
-                let held = text_of(rt.alloc(), proto.nodes.as_slice())?;
+                let held = text_of(&rt, rt.alloc(), proto.nodes.as_slice());
                 same!(rt; held.as_str(), row.text(); line);
             }
             Err(fault) => tells(&rt, &fault, row.text(), line),
         }
     }
-    Ok(())
 }
 
 /// Protofiles, how many files they say, and the last of them.
@@ -149,23 +152,22 @@ x 0 0 d--755 0 0;<300*d d--755 0 0;><300*$;a ---644 0 0 src;>$ | 601 | 0 a 10064
 ";
 
 #[test]
-fn long_protofiles(rt: HostRuntime) -> Result<(), Fail> {
+fn long_protofiles(rt: HostRuntime) {
     for line in LONG.lines() {
         let mut row = Row::new(line);
-        let text = expanded(rt.alloc(), row.text())?;
+        let text = expanded(&rt, rt.alloc(), row.text());
         match read_proto(rt.alloc(), &text) {
             Ok(proto) => {
                 let nodes = proto.nodes.as_slice();
                 same!(rt; nodes.len(), row.number::<usize>(&rt); line);
                 let mut last = String::new(rt.alloc());
                 if let Some(node) = nodes.last() {
-                    write_node(&mut last, node)?;
+                    must(&rt, write_node(&mut last, node));
                 }
-                let due = expanded(rt.alloc(), row.text())?;
+                let due = expanded(&rt, rt.alloc(), row.text());
                 same!(rt; last.as_bytes(), due.as_slice(); line);
             }
             Err(fault) => tells(&rt, &fault, "", line),
         }
     }
-    Ok(())
 }

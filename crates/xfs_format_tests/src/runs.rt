@@ -2,14 +2,13 @@
 
 ghost use Rattle.std.specs.Prelude.{◌≡◌, ◌+◌, ◌^◌, ◌<◌, ◌≤◌};
 
-use crate::checks::same;
+use crate::checks::{must, same};
 use crate::text::Row;
 use std::alloc::Global;
 use std::marker::Brand;
 use std::mem;
 use std::process::Abort;
 use std::sync::ledger::{Blank, Ledger};
-use std::test::Fail;
 use xfs_disk::NoMemory;
 use xfs_runs::*;
 
@@ -59,7 +58,7 @@ fn put<L: Ledger>(
     Ok(false)
 }
 
-fn try_all<L: Ledger, R: Abort>(rt: &R, alloc: Global, blank: Blank) -> Result<(), Fail>
+fn try_all<L: Ledger, R: Abort>(rt: &R, alloc: Global, blank: Blank)
     requires name { blank.name ≡ L.name }
     requires parts { blank.parts ≡ L.parts }
     requires some { 0 < blank.parts }
@@ -70,7 +69,10 @@ fn try_all<L: Ledger, R: Abort>(rt: &R, alloc: Global, blank: Blank) -> Result<(
         let mut row = Row::new(line);
         let (start, count): (u32, u32) = (row.number(rt), row.number(rt));
         assert!(rt; count > 0);
-        let found = put(&mut set, u64::from(start), u64::from(count), &mut steps)?;
+        let found = must(
+            rt,
+            put(&mut set, u64::from(start), u64::from(count), &mut steps),
+        );
         same!(rt; found, row.flag(rt); line);
     }
     for line in ASKED.lines() {
@@ -80,11 +82,10 @@ fn try_all<L: Ledger, R: Abort>(rt: &R, alloc: Global, blank: Blank) -> Result<(
         let found = set.meets(u64::from(start), u64::from(count), &mut steps);
         same!(rt; found, row.flag(rt); line);
     }
-    Ok(())
 }
 
 #[test]
-fn runs_in_turn(rt: HostRuntime) -> Result<(), Fail> {
+fn runs_in_turn(rt: HostRuntime) {
     try_all::<Brand, HostRuntime>(&rt, rt.alloc(), Blank::new(1))
 }
 

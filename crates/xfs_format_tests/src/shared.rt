@@ -1,12 +1,11 @@
 //! Lists of blocks that share their bytes.
 
-ghost use Rattle.std.specs.Prelude.{◌≡◌, length, IfOk};
+ghost use Rattle.std.specs.Prelude.{◌≡◌, length};
 
-use crate::checks::same;
+use crate::checks::{must, same};
 use crate::text::parts_of;
 use std::alloc::Global;
 use std::process::Abort;
-use std::test::Fail;
 use xfs_bank::BlockBank;
 use xfs_shared::{BlockList, SharedBytes};
 
@@ -23,38 +22,37 @@ fn assert_blocks(rt: &(impl Abort + AllocGlobal), list: &BlockList, due: &str) {
 }
 
 /// Two blocks and a part of one that stand in the same bytes, and a block with bytes of its own.
-fn three_blocks(rt: &impl Abort, alloc: Global) -> Result<BlockList, Fail>
-    ensures { IfOk result (λ list. length list ≡ 3) }
+fn three_blocks(rt: &impl Abort, alloc: Global) -> BlockList
+    ensures { length result ≡ 3 }
 {
-    let mut bytes = vec![in alloc; 3; 8197]?;
+    let mut bytes = must(rt, vec![in alloc; 3; 8197]);
     assert!(rt; bytes.len() == 8197);
     bytes[4096] = 4;
-    let bytes = SharedBytes::make(alloc, bytes)?;
+    let bytes = must(rt, SharedBytes::make(alloc, bytes));
     let mut list = BlockList::make(alloc);
-    list.push_blocks(&bytes)?;
-    list.push(&[5; 4096])?;
+    must(rt, list.push_blocks(&bytes));
+    must(rt, list.push(&[5; 4096]));
     assert!(rt; list.len() == 3);
-    Ok(list)
+    list
 }
 
 /// The last two of three blocks, and a block of a bank.
-fn other_blocks(alloc: Global, first: &BlockList) -> Result<BlockList, Fail>
+fn other_blocks(rt: &impl Abort, alloc: Global, first: &BlockList) -> BlockList
     requires { length first.now ≡ 3 }
 {
     let mut list = BlockList::make(alloc);
-    list.push_shared(first, 1)?;
-    list.push_shared(first, 2)?;
-    list.push_bank(&BlockBank::make(alloc, 1)?)?;
-    Ok(list)
+    must(rt, list.push_shared(first, 1));
+    must(rt, list.push_shared(first, 2));
+    must(rt, list.push_bank(&must(rt, BlockBank::make(alloc, 1))));
+    list
 }
 
 #[test]
-fn blocks_of_two_lists(rt: HostRuntime) -> Result<(), Fail> {
-    let first = three_blocks(&rt, rt.alloc())?;
-    let second = other_blocks(rt.alloc(), &first)?;
+fn blocks_of_two_lists(rt: HostRuntime) {
+    let first = three_blocks(&rt, rt.alloc());
+    let second = other_blocks(&rt, rt.alloc(), &first);
     same!(rt; second.len(), 3);
     assert_blocks(&rt, &first, "3 3, 4 3, 5 5");
     drop(first);
     assert_blocks(&rt, &second, "4 3, 5 5, 0 0");
-    Ok(())
 }

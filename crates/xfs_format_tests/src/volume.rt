@@ -1,25 +1,23 @@
 //! Lists, there and back.
 
-use crate::checks::same;
+use crate::checks::{must, same};
 use std::alloc::Global;
 use std::process::Abort;
-use std::test::Fail;
 use xfs_volume::*;
 use xfs_word::Extent;
 
 #[test]
-fn lists(rt: HostRuntime) -> Result<(), Fail> {
+fn lists(rt: HostRuntime) {
     let extent = Extent {
         offset: 3,
         start: 20,
         count: 5,
         unwritten: false,
     };
-    let extents = Extents::from_vec(vec![in rt.alloc(); extent]?);
+    let extents = Extents::from_vec(must(&rt, vec![in rt.alloc(); extent]));
     same!(rt; extents.as_slice(), &[extent][..]);
     same!(rt; extents.into_vec().as_slice(), &[extent][..]);
-    let blocks = Blocks::from_vec(vec![in rt.alloc(); 20, 24]?);
+    let blocks = Blocks::from_vec(must(&rt, vec![in rt.alloc(); 20, 24]));
     same!(rt; blocks.as_slice(), &[20, 24][..]);
     same!(rt; blocks.into_vec().as_slice(), &[20, 24][..]);
-    Ok(())
 }

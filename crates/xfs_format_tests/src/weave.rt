@@ -1,12 +1,14 @@
 //! Tests of the weave.
 
 use crate::checks::same;
-use std::test::Fail;
+use crate::text::refuse;
 use xfs_weave::Weave;
 
 #[test]
-fn moves_a_node(rt: HostRuntime) -> Result<(), Fail> {
-    let mut weave = Weave::make(rt.alloc(), 4, 2)?;
+fn moves_a_node(rt: HostRuntime) {
+    let Ok(mut weave) = Weave::make(rt.alloc(), 4, 2) else {
+        refuse(&rt, "memory is wanting", "a weave");
+    };
     weave.push_back(0, 2);
     weave.push_back(0, 1);
     weave.move_to(1, 2);
@@ -17,12 +19,13 @@ fn moves_a_node(rt: HostRuntime) -> Result<(), Fail> {
     same!(rt; weave.list_of(1), Some(0));
     same!(rt; weave.list_of(2), Some(1));
     same!(rt; weave.list_of(3), None);
-    Ok(())
 }
 
 #[test]
-fn takes_from_the_front_and_the_middle(rt: HostRuntime) -> Result<(), Fail> {
-    let mut weave = Weave::make(rt.alloc(), 5, 1)?;
+fn takes_from_the_front_and_the_middle(rt: HostRuntime) {
+    let Ok(mut weave) = Weave::make(rt.alloc(), 5, 1) else {
+        refuse(&rt, "memory is wanting", "a weave");
+    };
     weave.push_back(0, 4);
     weave.push_back(0, 0);
     weave.push_back(0, 3);
@@ -35,5 +38,4 @@ fn takes_from_the_front_and_the_middle(rt: HostRuntime) -> Result<(), Fail> {
     weave.move_to(0, 0);
     same!(rt; (weave.pop_front(0), weave.pop_front(0), weave.pop_front(0)), (Some(1), Some(0), None));
     same!(rt; weave.first(0), None);
-    Ok(())
 }

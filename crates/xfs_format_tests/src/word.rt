@@ -1,12 +1,11 @@
 //! The words against values from outside: the format's worked examples and its tables.
 
 ghost use Rattle.std.specs.Prelude.{◌≡◌, length};
+ghost use Rattle.xfs_word.specs.Seal.{layout_of};
 
-use crate::checks::same;
-use crate::text::{Row, parts_of, refuse, tells};
-use std::alloc::AllocError;
+use crate::checks::{same, sure};
+use crate::text::{Row, parts_of, tells};
 use std::process::Abort;
-use std::test::Fail;
 use xfs_word::*;
 
 /// The identifier of the file system that the objects belong to.
@@ -115,7 +114,7 @@ fn turn(object: &mut [u8], at: usize, mask: u8)
 }
 
 /// Asserts that the row's object is sealed, and that it is not with any of its parts wrong.
-fn check(rt: &(impl Abort + AllocGlobal), kind: SealKind, mut row: Row) -> Result<(), AllocError> {
+fn check(rt: &(impl Abort + AllocGlobal), kind: SealKind, mut row: Row) {
     let what = Seal {
         kind,
         place: 7,
@@ -126,42 +125,47 @@ fn check(rt: &(impl Abort + AllocGlobal), kind: SealKind, mut row: Row) -> Resul
     let name = row.text();
     tells(rt, &kind, name, name);
     same!(rt; (layout.size, layout.checksum), (row.number(rt), row.number(rt)); name);
-    assert!(rt; layout.size <= 4096);
+    sure(rt, layout.size <= 4096, name);
     let mut buffer = [0; 4096];
     let object = &mut buffer[..layout.size];
     let parts = parts_of(rt, row.rest());
     for part in parts.iter() {
-        let mut part = *part;
-        let at = part.number(rt);
-        let _wrong: u8 = part.number(rt);
-        part.put(rt, object, at)?;
+        put_right(rt, object, *part);
     }
     seal(&what, object);
-    if !sealed(&what, object) {
-        refuse(rt, name, "is not sealed");
-    }
+    same!(rt; sealed(&what, object), true; name);
     for part in parts.iter() {
-        let mut row = *part;
-        let (at, wrong) = (row.number(rt), row.number(rt));
-        turn(object, at, wrong);
-        seal(&what, object);
-        if sealed(&what, object) {
-            refuse(rt, name, row.rest());
-        }
-        turn(object, at, wrong);
+        try_wrong(rt, &what, object, *part);
     }
     turn(object, 511, 1);
-    if sealed(&what, object) {
-        refuse(rt, name, "a wrong checksum");
-    }
-    Ok(())
+    same!(rt; sealed(&what, object), false; name);
+}
+
+/// Writes a part of an object.
+fn put_right(rt: &(impl Abort + AllocGlobal), object: &mut [u8], mut part: Row)
+    ensures { length object.new ≡ length object.old }
+{
+    let at = part.number(rt);
+    let _wrong: u8 = part.number(rt);
+    part.put(rt, object, at);
+}
+
+/// Asserts that an object is not sealed with a part wrong.
+fn try_wrong(rt: &(impl Abort + AllocGlobal), what: &Seal, object: &mut [u8], mut part: Row)
+    requires { length object.old ≡ (layout_of what.now.kind).size }
+    ensures { length object.new ≡ length object.old }
+{
+    let (at, wrong) = (part.number(rt), part.number(rt));
+    turn(object, at, wrong);
+    seal(what, object);
+    same!(rt; sealed(what, object), false; part.rest());
+    turn(object, at, wrong);
 }
 
 #[test]
-fn seals_of_each_kind(rt: HostRuntime) -> Result<(), Fail> {
+fn seals_of_each_kind(rt: HostRuntime) {
     same!(rt; SEALS.lines().count(), KINDS.len());
     for (kind, line) in KINDS.iter().zip(SEALS.lines()) {
-        check(&rt, *kind, Row::new(line))?;
+        check(&rt, *kind, Row::new(line));
     }
-    Ok(())
 }

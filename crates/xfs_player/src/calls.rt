@@ -5,7 +5,8 @@ use crate::library::Shelf;
 use crate::refusal::Refusal;
 use std::alloc::{AllocError, Global};
 use std::thread::Threads;
-use xfs_disk::{MemorySink, MemorySource, NoGate, Stamp, Word};
+use xfs_disk::{NoGate, Stamp, Word};
+use xfs_memory::{MemorySink, MemorySource};
 use xfs_tools::{Status, run};
 
 /// What a call is given beside its words.

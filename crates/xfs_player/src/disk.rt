@@ -5,7 +5,8 @@ ghost use Rattle.std.proofs.Common.{rules};
 
 use crate::refusal::Refusal;
 use std::alloc::Global;
-use xfs_disk::{BLOCK_SIZE, Disk, Failed, MemoryDisk};
+use xfs_disk::{BLOCK_SIZE, Disk, Failed};
+use xfs_memory::MemoryDisk;
 
 /// A disk of `blocks` blocks. Those behind the ones in memory are zeros, and stay so.
 #[derive(Drop)]
@@ -17,7 +18,7 @@ pub struct CaseDisk {
 }
 
 impl CaseDisk {
-    ghost use Rattle.xfs_disk.specs.MemoryDisk.{size_of};
+    ghost use Rattle.xfs_memory.specs.MemoryDisk.{size_of};
 
     /// A disk of zeros.
     pub fn make(alloc: Global, held: u64, blocks: u64) -> Result<CaseDisk, Refusal> {
@@ -102,7 +103,7 @@ impl CaseDisk {
 }
 
 impl Disk for CaseDisk {
-    ghost use Rattle.xfs_disk.specs.MemoryDisk.{faults_of, write_faults_of};
+    ghost use Rattle.xfs_memory.specs.MemoryDisk.{faults_of, write_faults_of};
 
     ghost size = { λ disk. disk.blocks };
 

@@ -18,7 +18,7 @@ repair_rows =
     ∷ (101, codes "          end with 4 after a repair\n")
     ∷ (102, codes "          the image is a file; no effect\n")
     ∷ (118, codes "          say in words what was found\n")
-    ∷ (119, codes " workers  a number from 1 to 64; no effect yet\n")
+    ∷ (119, codes " workers  so many pieces of work at once, 1 to 64; 4 by default\n")
     ∷ []
 
 abbrev pub repair_ends : List ℕ

@@ -60,7 +60,7 @@ const REPAIR_ROWS: [OptionLine; 6] = [
     },
     OptionLine {
         letter: b'w',
-        says: " workers  a number from 1 to 64; no effect yet\n",
+        says: " workers  so many pieces of work at once, 1 to 64; 4 by default\n",
     },
 ];
 

@@ -8,10 +8,10 @@
 //!   owners and offset words), `trees` (the block of each tree);
 //! - of the `volume`: `files`, `dirs`, `entries`, `counts`, `head` (of the log, or `-` where it is dirty), `lsns`.
 
-use crate::checks::{same, sure};
+use crate::checks::{must, same, sure};
 use crate::items::{Item, items, records};
 use crate::text::{Row, refuse};
-use std::alloc::{AllocError, Global};
+use std::alloc::Global;
 use std::process::Abort;
 use xfs_attr::Attrs;
 use xfs_disk::Word;
@@ -80,31 +80,28 @@ impl<'a> Sketch<'a> {
     }
 
     /// The items of a part.
-    fn list<T: Item>(
-        &self,
-        rt: &impl Abort,
-        alloc: Global,
-        owner: &str,
-        name: &str,
-    ) -> Result<Records<T>, AllocError> {
+    fn list<T: Item>(&self, rt: &impl Abort, alloc: Global, owner: &str, name: &str) -> Records<T> {
         records(rt, alloc, self.part(rt, owner, name).text())
     }
 
     /// The catalog of the volume.
-    pub fn catalog(&self, rt: &impl Abort, alloc: Global) -> Result<Catalog, AllocError> {
-        Ok(Catalog {
+    pub fn catalog(&self, rt: &impl Abort, alloc: Global) -> Catalog {
+        Catalog {
             geometry: geometry(),
-            groups: Records::from_vec(vec![in alloc;
-                self.group(rt, alloc, "first")?,
-                self.group(rt, alloc, "last")?,
-            ]?),
-            files: self.list(rt, alloc, "volume", "files")?,
-            entries: self.list(rt, alloc, "volume", "entries")?,
-            dirs: self.list(rt, alloc, "volume", "dirs")?,
+            groups: Records::from_vec(must(
+                rt,
+                vec![in alloc;
+                    self.group(rt, alloc, "first"),
+                    self.group(rt, alloc, "last"),
+                ],
+            )),
+            files: self.list(rt, alloc, "volume", "files"),
+            entries: self.list(rt, alloc, "volume", "entries"),
+            dirs: self.list(rt, alloc, "volume", "dirs"),
             counts: self.counts(rt),
             log: self.log(rt),
-            lsns: self.list(rt, alloc, "volume", "lsns")?,
-        })
+            lsns: self.list(rt, alloc, "volume", "lsns"),
+        }
     }
 
     fn counts(&self, rt: &impl Abort) -> Counts {
@@ -123,18 +120,18 @@ impl<'a> Sketch<'a> {
         }
     }
 
-    fn group(&self, rt: &impl Abort, alloc: Global, owner: &str) -> Result<GroupRec, AllocError> {
-        Ok(GroupRec {
+    fn group(&self, rt: &impl Abort, alloc: Global, owner: &str) -> GroupRec {
+        GroupRec {
             agf: agf(rt, &mut self.part(rt, owner, "agf")),
             agi: self.agi(rt, owner),
-            agfl: agfl(rt, alloc, &mut self.part(rt, owner, "listed"))?,
-            bno: self.list(rt, alloc, owner, "bno")?,
-            cnt: self.list(rt, alloc, owner, "cnt")?,
-            ino: self.list(rt, alloc, owner, "ino")?,
-            fino: self.list(rt, alloc, owner, "fino")?,
-            rmap: self.list(rt, alloc, owner, "rmap")?,
-            blocks: self.list(rt, alloc, owner, "trees")?,
-        })
+            agfl: agfl(rt, alloc, &mut self.part(rt, owner, "listed")),
+            bno: self.list(rt, alloc, owner, "bno"),
+            cnt: self.list(rt, alloc, owner, "cnt"),
+            ino: self.list(rt, alloc, owner, "ino"),
+            fino: self.list(rt, alloc, owner, "fino"),
+            rmap: self.list(rt, alloc, owner, "rmap"),
+            blocks: self.list(rt, alloc, owner, "trees"),
+        }
     }
 
     fn agi(&self, rt: &impl Abort, owner: &str) -> Agi {
@@ -221,50 +218,50 @@ fn chains(rt: &impl Abort, chain: &mut Row) -> [u32; 64] {
     heads
 }
 
-fn agfl(rt: &impl Abort, alloc: Global, listed: &mut Row) -> Result<Agfl, AllocError> {
-    let blocks = listed.numbers(rt, alloc)?;
+fn agfl(rt: &impl Abort, alloc: Global, listed: &mut Row) -> Agfl {
+    let blocks = listed.numbers(rt, alloc);
     sure(rt, blocks.len() <= 119, "a free list");
-    Ok(Agfl::new(blocks.as_slice()))
+    Agfl::new(blocks.as_slice())
 }
 
 /// Each tree has one block.
 impl Item for TreeBlocks {
-    fn read(rt: &impl Abort, alloc: Global, row: &mut Row) -> Result<Self, AllocError> {
-        Ok(TreeBlocks {
-            blocks: Records::from_vec(vec![in alloc; row.number(rt)]?),
-        })
+    fn read(rt: &impl Abort, alloc: Global, row: &mut Row) -> Self {
+        TreeBlocks {
+            blocks: Records::from_vec(must(rt, vec![in alloc; row.number(rt)])),
+        }
     }
 }
 
 impl Item for Span {
-    fn read(rt: &impl Abort, _alloc: Global, row: &mut Row) -> Result<Self, AllocError> {
-        Ok(Span {
+    fn read(rt: &impl Abort, _alloc: Global, row: &mut Row) -> Self {
+        Span {
             start: row.number(rt),
             count: row.number(rt),
-        })
+        }
     }
 }
 
 impl Item for InoRec {
-    fn read(rt: &impl Abort, _alloc: Global, row: &mut Row) -> Result<Self, AllocError> {
-        Ok(InoRec {
+    fn read(rt: &impl Abort, _alloc: Global, row: &mut Row) -> Self {
+        InoRec {
             startino: row.number(rt),
             holemask: row.number(rt),
             count: row.number(rt),
             freecount: row.number(rt),
             free: row.number(rt),
-        })
+        }
     }
 }
 
 impl Item for RmapRec {
-    fn read(rt: &impl Abort, _alloc: Global, row: &mut Row) -> Result<Self, AllocError> {
-        Ok(RmapRec {
+    fn read(rt: &impl Abort, _alloc: Global, row: &mut Row) -> Self {
+        RmapRec {
             start: row.number(rt),
             count: row.number(rt),
             owner: owner_of(rt, row.word()),
             offset_word: row.number(rt),
-        })
+        }
     }
 }
 
@@ -281,63 +278,66 @@ fn owner_of(rt: &impl Abort, word: &str) -> u64 {
 }
 
 impl Item for DirRec {
-    fn read(rt: &impl Abort, _alloc: Global, row: &mut Row) -> Result<Self, AllocError> {
-        Ok(DirRec {
+    fn read(rt: &impl Abort, _alloc: Global, row: &mut Row) -> Self {
+        DirRec {
             ino: row.number(rt),
             parent: row.number(rt),
             whole: row.flag(rt),
-        })
+        }
     }
 }
 
 impl Item for BlockLsn {
-    fn read(rt: &impl Abort, _alloc: Global, row: &mut Row) -> Result<Self, AllocError> {
-        Ok(BlockLsn {
+    fn read(rt: &impl Abort, _alloc: Global, row: &mut Row) -> Self {
+        BlockLsn {
             block: row.number(rt),
             lsn: row.number(rt),
-        })
+        }
     }
 }
 
 /// A file: its number, its mode, its links and its bytes; then an extent of data, one of attributes and a block of its
 /// tree, `-` for one that it has not, and all that it has not at the end left out.
 impl Item for FileRec {
-    fn read(rt: &impl Abort, alloc: Global, row: &mut Row) -> Result<Self, AllocError> {
+    fn read(rt: &impl Abort, alloc: Global, row: &mut Row) -> Self {
         let core = core(rt, row);
-        Ok(FileRec {
+        FileRec {
             ino: core.ino,
             core,
-            extents: extents(rt, alloc, row)?,
-            attr_extents: extents(rt, alloc, row)?,
-            tree: records(rt, alloc, row.text())?,
+            extents: extents(rt, alloc, row),
+            attr_extents: extents(rt, alloc, row),
+            tree: records(rt, alloc, row.text()),
             attrs: Attrs::from_vec(Vec::new(alloc)),
             target: Word::from_vec(Vec::new(alloc)),
             device: 0,
-        })
+        }
     }
 }
 
 /// An extent from offset 0 on, where there is one: its start, its count and whether it is unwritten.
-fn extents(rt: &impl Abort, alloc: Global, row: &mut Row) -> Result<Extents, AllocError> {
+fn extents(rt: &impl Abort, alloc: Global, row: &mut Row) -> Extents {
     let mut extents = Vec::new(alloc);
     if row.is_read() {
-        return Ok(Records::from_vec(extents));
+        return Records::from_vec(extents);
     }
     if let Some(start) = row.optional(rt) {
-        extents.push(Extent {
-            offset: 0,
-            start,
-            count: row.number(rt),
-            unwritten: row.flag(rt),
-        })?;
+        must(
+            rt,
+            extents.push(Extent {
+                offset: 0,
+                start,
+                count: row.number(rt),
+                unwritten: row.flag(rt),
+            }),
+        );
     }
-    Ok(Records::from_vec(extents))
+    Records::from_vec(extents)
 }
 
 /// Blocks.
 impl Item for u64 {
-    fn read(rt: &impl Abort, _alloc: Global, row: &mut Row) -> Result<Self, AllocError> {
-        Ok(row.number(rt))
+    fn read(rt: &impl Abort, _alloc: Global, row: &mut Row) -> Self {
+        row.number(rt)
     }
 }
 

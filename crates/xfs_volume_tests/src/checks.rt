@@ -1,6 +1,6 @@
 //! Comparisons of tests. Each is proved once, where a macro would be proved at every use.
 
-ghost use Rattle.std.specs.Prelude.{IsTrue};
+ghost use Rattle.std.specs.Prelude.{◌≡◌, Ok, IsTrue};
 
 use std::fmt::Debug;
 use std::process::Abort;
@@ -21,6 +21,17 @@ pub fn sure(rt: &impl Abort, holds: bool, case: &str)
 {
     if !holds {
         panic!(rt; "not as it has to be: {case}");
+    }
+}
+
+/// The value of a call that has to succeed. A test that says so has one way to its end, where `?` has as many as there are
+/// calls, on each of which all that is live is dropped.
+pub fn must<T, E: Drop>(rt: &impl Abort, held: Result<T, E>) -> T
+    ensures { held ≡ Ok result }
+{
+    match held {
+        Ok(value) => value,
+        Err(_) => panic!(rt; "a call fails that has to succeed"),
     }
 }
 

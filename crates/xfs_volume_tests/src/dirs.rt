@@ -1,25 +1,24 @@
 //! Directories built by hand, on a disk of which no contract tells what it holds.
 
-ghost use Rattle.std.specs.Prelude.{◌≡◌, ◌<◌, ◌≤◌, ◌^◌, true, None, length, IsTrue, IfOk};
-ghost use Rattle.xfs_disk.specs.MemoryDisk.{size_of};
+ghost use Rattle.std.specs.Prelude.{◌≡◌, ◌<◌, ◌≤◌, ◌^◌, true, None, IsTrue};
+ghost use Rattle.xfs_memory.specs.MemoryDisk.{size_of};
 ghost use Rattle.xfs_geom.specs.Volumes.{volume_of};
 ghost use Rattle.xfs_inode.specs.Files.{are_extents};
 
 mod disks;
 
-use crate::checks::same;
+use crate::checks::{must, same, sure};
 use crate::small_volume::{ROOT, volume};
-use crate::text::{Row, put_parts, refuse};
+use crate::text::{Row, put_parts, refuse, tells};
 use disks::Untold;
 use std::alloc::Global;
 use std::marker::Brand;
 use std::process::Abort;
 use std::sync::ledger::{Blank, Ledger};
-use std::test::Fail;
 use xfs_attr::Attrs;
 use xfs_dirdata::{EntryRec, put_data, put_short};
 use xfs_dirs::*;
-use xfs_disk::{BLOCK_SIZE, Disk, NoMemory, Word};
+use xfs_disk::{BLOCK_SIZE, Disk, Word};
 use xfs_geom::Geometry;
 use xfs_kinds::Bmbt;
 use xfs_runs::Steps;
@@ -47,24 +46,23 @@ const SINGLE: &str =
     "4056 0000002e00000008 000000610000000c 0000006100000000 0000172e0000000a 0000000400000001";
 
 /// Directory 131 in the first blocks from block 24 on.
-fn directory(alloc: Global, core: Core, count: u64, unwritten: bool) -> Result<FileRec, NoMemory> {
-    let mut extents = Vec::new(alloc);
-    extents.push(Extent {
+fn directory(rt: &impl Abort, alloc: Global, core: Core, count: u64, unwritten: bool) -> FileRec {
+    let extent = Extent {
         offset: 0,
         start: 24,
         count,
         unwritten,
-    })?;
-    Ok(FileRec {
+    };
+    FileRec {
         ino: 131,
         core,
-        extents: Records::from_vec(extents),
+        extents: Records::from_vec(must(rt, vec![in alloc; extent])),
         attr_extents: Records::from_vec(Vec::new(alloc)),
         tree: Records::from_vec(Vec::new(alloc)),
         attrs: Attrs::from_vec(Vec::new(alloc)),
         target: Word::from_vec(Vec::new(alloc)),
         device: 0,
-    })
+    }
 }
 
 /// Whether it is one extent, and it lies in the volume.
@@ -111,16 +109,19 @@ fn read(
 }
 
 /// An entry of directory 131.
-fn entry(alloc: Global, name: &[u8], ino: u32) -> Result<EntryRec, NoMemory>
-    ensures name { IfOk result (λ entry. entry.name ≡ name.now) }
-    ensures ino { IfOk result (λ entry. entry.ino ≡ ino) }
+fn entry(rt: &impl Abort, alloc: Global, name: &[u8], ino: u32) -> EntryRec
+    ensures name { result.name ≡ name.now }
+    ensures ino { result.ino ≡ ino }
 {
-    Ok(EntryRec {
+    let Ok(bytes) = Vec::from_slice(alloc, name) else {
+        refuse(rt, "memory is wanting", "an entry");
+    };
+    EntryRec {
         dir: 131,
-        name: Word::from_vec(Vec::from_slice(alloc, name)?),
+        name: Word::from_vec(bytes),
         ino: ino as u64,
         ftype: 1,
-    })
+    }
 }
 
 /// Writes a data block with this magic number, sealed at its place for directory 131 but for some parts that are changed before the seal
@@ -132,13 +133,13 @@ fn put_block(
     magic: u32,
     (before, after): (&str, &str),
     block: &mut [u8; BLOCK_SIZE],
-) -> Result<(), Fail> {
+) {
     assert!(rt; place < 2048);
     put32(block, 0, magic);
     put64(block, 8, 8 * place);
     put_part(block, 24, &IDENTIFIER);
     put64(block, 40, 131);
-    put_parts(rt, block, before)?;
+    put_parts(rt, block, before);
     let wanted = Seal {
         kind: SealKind::DirData,
         place: 8 * place,
@@ -146,9 +147,8 @@ fn put_block(
         uuid: IDENTIFIER,
     };
     seal(&wanted, block);
-    put_parts(rt, block, after)?;
+    put_parts(rt, block, after);
     assert!(rt; matches!(disk.blocks(), Ok(2048)) && disk.write(place, block).is_ok());
-    Ok(())
 }
 
 /// What is changed before the seal and after it, whether the directory is whole then, and whether its entry and its parent are kept.
@@ -162,60 +162,89 @@ a hash of the index | 4066 0062 | | false true
 ";
 
 #[test]
-fn single_block_form(rt: HostRuntime) -> Result<(), Fail> {
+fn single_block_form(rt: HostRuntime) {
     for (number, line) in CHANGED.lines().enumerate() {
-        let mut row = Row::new(line);
-        let (name, changes) = (row.text(), (row.text(), row.text()));
-        let (whole, kept) = (row.flag(&rt), row.flag(&rt));
-        let mut disk = Untold::make(rt.alloc())?;
-        let mut block = [0; BLOCK_SIZE];
-        put_data(
-            &[entry(rt.alloc(), b"a", 140)?],
-            Some((131, 128)),
-            &mut block[..4056],
-        );
-        put_parts(&rt, &mut block, SINGLE)?;
-        put_block(&rt, &mut disk, 24, 0x5844_4233, changes, &mut block)?;
-        let file = directory(rt.alloc(), CORE, 1, number % 2 == 0)?;
-        let Ok(found) = read(&rt, rt.alloc(), &mut disk, &[0; 512], &file) else {
-            refuse(&rt, "it is not read", line);
-        };
-        same!(rt; found.whole, whole; name);
-        same!(rt; found.entries.as_slice().len(), kept as usize; name);
-        same!(rt; found.parent, if kept { 128 } else { 0 }; name);
+        try_single(&rt, number % 2 == 0, line);
     }
-    Ok(())
 }
 
+/// Tries a single block with its changes, in an extent that is unwritten or not.
+fn try_single(rt: &(impl Abort + AllocGlobal), unwritten: bool, line: &str) {
+    let mut row = Row::new(line);
+    let name = row.text();
+    let mut disk = Untold::make(rt, rt.alloc());
+    put_single(rt, &mut disk, (row.text(), row.text()));
+    let file = directory(rt, rt.alloc(), CORE, 1, unwritten);
+    let found = found_of(rt, &mut disk, &[0; 512], &file, name);
+    same!(*rt; found.whole, row.flag(rt); name);
+    tells_kept(rt, &found, row.flag(rt), name);
+    drop((found, file));
+}
+
+/// Writes block 24 with one entry in the single-block form, with some parts that are changed before the seal and after it.
+fn put_single(rt: &(impl Abort + AllocGlobal), disk: &mut Untold, changes: (&str, &str)) {
+    let mut block = [0; BLOCK_SIZE];
+    let entries = [entry(rt, rt.alloc(), b"a", 140)];
+    put_data(&entries, Some((131, 128)), &mut block[..4056]);
+    put_parts(rt, &mut block, SINGLE);
+    put_block(rt, disk, 24, 0x5844_4233, changes, &mut block);
+}
+
+/// What the directory reads as, which has to be read.
+fn found_of(
+    rt: &(impl Abort + AllocGlobal),
+    disk: &mut Untold,
+    slot: &[u8; 512],
+    file: &FileRec,
+    case: &str,
+) -> DirFound {
+    match read(rt, rt.alloc(), disk, slot, file) {
+        Ok(found) => found,
+        Err(_) => refuse(rt, "it is not read", case),
+    }
+}
+
+/// Fails where not one entry and the parent 128 are kept, or nothing.
+fn tells_kept(rt: &impl Abort, found: &DirFound, kept: bool, case: &str) {
+    same!(*rt; found.entries.as_slice().len(), kept as usize; case);
+    same!(*rt; found.parent, if kept { 128 } else { 0 }; case);
+}
+
+/// Writes the blocks 24 and 25, with an entry, and with `..` and another one.
+fn put_two(rt: &(impl Abort + AllocGlobal), disk: &mut Untold) {
+    let mut block = [0; BLOCK_SIZE];
+    let first = [entry(rt, rt.alloc(), b"a", 140)];
+    put_data(&first, Some((131, 0)), &mut block);
+    put_block(rt, disk, 24, 0x5844_4433, ("", ""), &mut block);
+    let mut block = [0; BLOCK_SIZE];
+    let second = [
+        entry(rt, rt.alloc(), b"..", 129),
+        entry(rt, rt.alloc(), b"b", 141),
+    ];
+    put_data(&second, None, &mut block);
+    put_block(rt, disk, 25, 0x5844_4433, ("", ""), &mut block);
+}
+
+/// The entries that are kept of both blocks.
+const TWO: &str = "[EntryRec { dir: 131, name: Word { bytes: [97] }, ino: 140, ftype: 1 }, \
+EntryRec { dir: 131, name: Word { bytes: [98] }, ino: 141, ftype: 1 }]";
+
 #[test]
-fn two_data_blocks(rt: HostRuntime) -> Result<(), Fail> {
-    let mut disk = Untold::make(rt.alloc())?;
-    let mut block = [0; BLOCK_SIZE];
-    put_data(&[entry(rt.alloc(), b"a", 140)?], Some((131, 0)), &mut block);
-    put_block(&rt, &mut disk, 24, 0x5844_4433, ("", ""), &mut block)?;
-    let mut block = [0; BLOCK_SIZE];
-    put_data(
-        &[
-            entry(rt.alloc(), b"..", 129)?,
-            entry(rt.alloc(), b"b", 141)?,
-        ],
-        None,
-        &mut block,
-    );
-    put_block(&rt, &mut disk, 25, 0x5844_4433, ("", ""), &mut block)?;
-    let file = directory(rt.alloc(), CORE, 2, false)?;
-    let Ok(found) = read(&rt, rt.alloc(), &mut disk, &[0; 512], &file) else {
-        refuse(&rt, "it is not read", "two data blocks");
-    };
-    assert!(rt; !found.whole && found.parent == 0);
-    let entries = found.entries.as_slice();
-    assert!(rt; entries.len() == 2);
-    assert!(rt; entries[0].name.bytes() == b"a".as_slice() && entries[0].ino == 140);
-    assert!(rt; entries[1].name.bytes() == b"b".as_slice() && entries[1].ino == 141);
-    disk.disk.fail(2)?;
+fn two_data_blocks(rt: HostRuntime) {
+    let mut disk = Untold::make(&rt, rt.alloc());
+    put_two(&rt, &mut disk);
+    let file = directory(&rt, rt.alloc(), CORE, 2, false);
+    let found = found_of(&rt, &mut disk, &[0; 512], &file, "two data blocks");
+    same!(rt; (found.whole, found.parent), (false, 0));
+    tells(&rt, &found.entries.as_slice(), TWO, "two data blocks");
+    must(&rt, disk.disk.fail(2));
     let fault = read(&rt, rt.alloc(), &mut disk, &[0; 512], &file);
-    assert!(rt; matches!(fault, Err(DirectoryFault::ReadFault)));
-    Ok(())
+    sure(
+        &rt,
+        matches!(fault, Err(DirectoryFault::ReadFault)),
+        "a read that fails",
+    );
+    drop((fault, found, file));
 }
 
 /// The size of a directory of 15 bytes, and whether it is whole.
@@ -228,25 +257,28 @@ const SIZES: &str = "\
 ";
 
 #[test]
-fn short_form(rt: HostRuntime) -> Result<(), Fail> {
+fn short_form(rt: HostRuntime) {
     let mut slot = [0; 512];
-    put_short(128, &[entry(rt.alloc(), b"a", 140)?], &mut slot[176..]);
+    let entries = [entry(&rt, rt.alloc(), b"a", 140)];
+    put_short(128, &entries, &mut slot[176..]);
     for line in SIZES.lines() {
-        let mut row = Row::new(line);
-        let (size, whole) = (row.number(&rt), row.flag(&rt));
-        let core = Core {
-            format: 1,
-            size,
-            ..CORE
-        };
-        let file = directory(rt.alloc(), core, 1, false)?;
-        let mut disk = Untold::make(rt.alloc())?;
-        let Ok(found) = read(&rt, rt.alloc(), &mut disk, &slot, &file) else {
-            refuse(&rt, "it is not read", line);
-        };
-        same!(rt; found.whole, whole; size);
-        same!(rt; found.entries.as_slice().len(), whole as usize; size);
-        same!(rt; found.parent, if whole { 128 } else { 0 }; size);
+        try_size(&rt, &slot, line);
     }
-    Ok(())
+}
+
+/// Tries a short form with the size of a line.
+fn try_size(rt: &(impl Abort + AllocGlobal), slot: &[u8; 512], line: &str) {
+    let mut row = Row::new(line);
+    let core = Core {
+        format: 1,
+        size: row.number(rt),
+        ..CORE
+    };
+    let whole = row.flag(rt);
+    let file = directory(rt, rt.alloc(), core, 1, false);
+    let mut disk = Untold::make(rt, rt.alloc());
+    let found = found_of(rt, &mut disk, slot, &file, line);
+    same!(*rt; found.whole, whole; line);
+    tells_kept(rt, &found, whole, line);
+    drop((found, file));
 }

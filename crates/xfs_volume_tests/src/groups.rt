@@ -3,16 +3,16 @@
 
 ghost use Rattle.std.specs.Prelude.{◌≡◌, ◌<◌, ◌≤◌};
 
-use crate::checks::same;
+use crate::checks::{must, same};
 use crate::small_volume::{put, volume};
 use crate::text::{Row, refuse, tells};
 use std::alloc::Global;
 use std::marker::Brand;
 use std::process::Abort;
 use std::sync::ledger::{Blank, Ledger};
-use std::test::Fail;
-use xfs_disk::{BLOCK_SIZE, Disk, MemoryDisk};
+use xfs_disk::{BLOCK_SIZE, Disk};
 use xfs_groups::*;
+use xfs_memory::MemoryDisk;
 use xfs_runs::Steps;
 use xfs_word::{put_checksum, put_part, put32, put64};
 
@@ -53,40 +53,35 @@ fn seal(rt: &impl Abort, bytes: &mut [u8], identifier: usize, checksum: usize) {
 }
 
 /// Writes the headers of both groups.
-fn put_headers(rt: &(impl Abort + AllocGlobal), disk: &mut MemoryDisk) -> Result<(), Fail> {
+fn put_headers(rt: &(impl Abort + AllocGlobal), disk: &mut MemoryDisk) {
     let mut blocks = [[0; BLOCK_SIZE]; 2];
     for line in HEADERS.lines() {
         let mut row = Row::new(line);
         let (place, at) = (row.number::<usize>(rt), row.number::<usize>(rt));
         let (identifier, checksum) = (row.number(rt), row.number(rt));
         let mut sector = [0; 512];
-        row.put(rt, &mut sector, 0)?;
+        row.put(rt, &mut sector, 0);
         let further = row.number(rt);
-        row.put(rt, &mut sector, further)?;
+        row.put(rt, &mut sector, further);
         seal(rt, &mut sector, identifier, checksum);
         assert!(rt; place < 2048 && at <= BLOCK_SIZE - 512);
         put_part(&mut blocks[place / 1024], at, &sector);
     }
     put(rt, disk, 0, &blocks[0]);
     put(rt, disk, 1024, &blocks[1]);
-    Ok(())
 }
 
 /// A leaf of a tree that is its root, from the words of its line behind its block.
-pub fn leaf(
-    rt: &(impl Abort + AllocGlobal),
-    place: u64,
-    row: &mut Row<'_>,
-) -> Result<[u8; BLOCK_SIZE], Fail> {
+pub fn leaf(rt: &(impl Abort + AllocGlobal), place: u64, row: &mut Row<'_>) -> [u8; BLOCK_SIZE] {
     let mut block = [0; BLOCK_SIZE];
-    row.put(rt, &mut block, 0)?;
-    row.put(rt, &mut block, 56)?;
+    row.put(rt, &mut block, 0);
+    row.put(rt, &mut block, 56);
     assert!(rt; place < 2048);
     put64(&mut block, 8, u64::MAX);
     put64(&mut block, 16, 8 * place);
     put32(&mut block, 48, place as u32 / 1024);
     seal(rt, &mut block, 32, 52);
-    Ok(block)
+    block
 }
 
 /// A block whose first slot is that of a file.
@@ -101,21 +96,17 @@ fn slots(rt: &impl Abort, ino: u32) -> [u8; BLOCK_SIZE] {
 }
 
 /// The volume, without the blocks of some of its trees.
-pub fn disk(
-    rt: &(impl Abort + AllocGlobal),
-    alloc: Global,
-    lost: &[u64],
-) -> Result<MemoryDisk, Fail> {
-    let mut disk = MemoryDisk::make(alloc, 2048)?;
-    put_headers(rt, &mut disk)?;
+pub fn disk(rt: &(impl Abort + AllocGlobal), alloc: Global, lost: &[u64]) -> MemoryDisk {
+    let mut disk = must(rt, MemoryDisk::make(alloc, 2048));
+    put_headers(rt, &mut disk);
     for line in TREES.lines() {
         let mut row = Row::new(line);
         let place = row.number(rt);
         if !lost.contains(&place) {
-            put(rt, &mut disk, place, &leaf(rt, place, &mut row)?);
+            put(rt, &mut disk, place, &leaf(rt, place, &mut row));
         }
     }
-    Ok(disk)
+    disk
 }
 
 /// What the groups of a volume are found to be: the blocks that are lost, the groups or the first part that does not read, the clusters, the
@@ -139,12 +130,7 @@ fn see<D: Disk, L: Ledger>(alloc: Global, disk: &mut D, blank: Blank) -> Result<
 }
 
 /// Tests that the groups are found to be as the rest of a line says.
-fn is_found(
-    rt: &(impl Abort + AllocGlobal),
-    seen: &Groups,
-    row: &mut Row<'_>,
-    line: &str,
-) -> Result<(), Fail> {
+fn is_found(rt: &(impl Abort + AllocGlobal), seen: &Groups, row: &mut Row<'_>, line: &str) {
     let due = row.text();
     match &seen.groups {
         Ok(groups) => {
@@ -153,46 +139,70 @@ fn is_found(
         }
         Err(found) => tells(rt, found, due, line),
     }
-    let mut clusters = Vec::new(rt.alloc());
-    for cluster in seen.clusters.as_slice() {
-        clusters.push((cluster.block, cluster.recorded))?;
-    }
+    let clusters = clusters_of(rt, rt.alloc(), seen);
     tells(rt, &clusters, row.text(), line);
-    let trees = seen.trees.as_slice();
-    assert!(rt; trees.len() == 2);
-    tells(rt, &trees[0].reserved.as_slice(), row.text(), line);
-    tells(rt, &trees[1].reserved.as_slice(), row.text(), line);
-    Ok(())
+    are_reserved(rt, seen, row, line);
+}
+
+/// The clusters, and whether they are recorded.
+fn clusters_of(rt: &impl Abort, alloc: Global, seen: &Groups) -> Vec<(u64, bool)> {
+    let mut clusters = Vec::new(alloc);
+    for cluster in seen.clusters.as_slice() {
+        must(rt, clusters.push((cluster.block, cluster.recorded)));
+    }
+    clusters
+}
+
+/// Tests that the blocks of both groups are reserved that the rest of a line says.
+fn are_reserved(rt: &(impl Abort + AllocGlobal), seen: &Groups, row: &mut Row<'_>, line: &str) {
+    same!(*rt; seen.trees.as_slice().len(), 2; line);
+    for trees in seen.trees.as_slice() {
+        tells(rt, &trees.reserved.as_slice(), row.text(), line);
+    }
+}
+
+/// The groups of the disk.
+fn seen(rt: &impl Abort, alloc: Global, disk: &mut MemoryDisk) -> Result<Groups, GroupsFault> {
+    assert!(rt; matches!(disk.blocks(), Ok(count) if 2048 <= count));
+    see::<MemoryDisk, Brand>(alloc, disk, Blank::new(1))
 }
 
 #[test]
-fn groups(rt: HostRuntime) -> Result<(), Fail> {
-    let alloc = rt.alloc();
+fn groups(rt: HostRuntime) {
     for line in CASES.lines() {
-        let mut row = Row::new(line);
-        let mut disk = disk(&rt, alloc, row.numbers(&rt, alloc)?.as_slice())?;
-        put(&rt, &mut disk, 24, &slots(&rt, 192));
-        put(&rt, &mut disk, 28, &slots(&rt, 224));
-        let mut unused = Row::new("49414233 00000000 |");
-        put(&rt, &mut disk, 29, &leaf(&rt, 29, &mut unused)?);
-        assert!(rt; matches!(disk.blocks(), Ok(count) if 2048 <= count));
-        match see::<MemoryDisk, Brand>(alloc, &mut disk, Blank::new(1)) {
-            Ok(seen) => is_found(&rt, &seen, &mut row, line)?,
-            Err(_) => refuse(&rt, "the groups are not seen", line),
-        }
+        try_lost(&rt, line);
     }
-    Ok(())
+}
+
+fn try_lost(rt: &(impl Abort + AllocGlobal), line: &str) {
+    let mut row = Row::new(line);
+    let lost = row.numbers::<u64>(rt, rt.alloc());
+    let mut disk = disk(rt, rt.alloc(), &lost);
+    put_unnamed(rt, &mut disk);
+    match seen(rt, rt.alloc(), &mut disk) {
+        Ok(seen) => is_found(rt, &seen, &mut row, line),
+        Err(_) => refuse(rt, "the groups are not seen", line),
+    }
+}
+
+/// Writes two blocks of slots that no tree names, and a leaf that none does.
+fn put_unnamed(rt: &(impl Abort + AllocGlobal), disk: &mut MemoryDisk) {
+    put(rt, disk, 24, &slots(rt, 192));
+    put(rt, disk, 28, &slots(rt, 224));
+    let mut unused = Row::new("49414233 00000000 |");
+    put(rt, disk, 29, &leaf(rt, 29, &mut unused));
 }
 
 #[test]
-fn failing_reads(rt: HostRuntime) -> Result<(), Fail> {
-    let alloc = rt.alloc();
+fn failing_reads(rt: HostRuntime) {
     for call in [1, 3, 8, 12] {
-        let mut disk = disk(&rt, alloc, &[3, 5])?;
-        assert!(rt; matches!(disk.blocks(), Ok(count) if 2048 <= count));
-        disk.fail(call)?;
-        let seen = see::<MemoryDisk, Brand>(alloc, &mut disk, Blank::new(1));
-        same!(rt; matches!(seen, Err(GroupsFault::ReadFault)), true; call);
+        try_failing(&rt, call);
     }
-    Ok(())
+}
+
+fn try_failing(rt: &(impl Abort + AllocGlobal), call: u64) {
+    let mut disk = disk(rt, rt.alloc(), &[3, 5]);
+    must(rt, disk.fail(call));
+    let seen = seen(rt, rt.alloc(), &mut disk);
+    same!(*rt; matches!(seen, Err(GroupsFault::ReadFault)), true; call);
 }

@@ -2,18 +2,18 @@
 
 ghost use Rattle.std.specs.Prelude.{◌≡◌, ◌<◌, ◌≤◌};
 
-use crate::checks::same;
+use crate::checks::{must, same};
 use crate::small_volume::{ROOT, put, volume};
 use crate::text::{Row, refuse, tells};
 use std::alloc::Global;
 use std::marker::Brand;
 use std::process::Abort;
 use std::sync::ledger::{Blank, Ledger};
-use std::test::Fail;
 use xfs_attr::Attrs;
-use xfs_disk::{BLOCK_SIZE, Disk, MemoryDisk, Word};
+use xfs_disk::{BLOCK_SIZE, Disk, Word};
 use xfs_heads::LogState;
 use xfs_journal::*;
+use xfs_memory::MemoryDisk;
 use xfs_runs::Steps;
 use xfs_volume::{BlockLsn, Blocks, Core, Extents, FileRec, Records};
 use xfs_word::{Extent, put64};
@@ -29,14 +29,11 @@ fn extent(offset: u64, start: u64) -> Extent {
 }
 
 /// A file of this mode with data at block 40 and on, a tree of extents at block 30, and attributes at block 50 and on.
-fn file(alloc: Global, mode: u16, offset: u64) -> Result<FileRec, Fail> {
-    let mut data = Vec::new(alloc);
-    data.push(extent(offset, 40))?;
-    let mut attr_extents = Vec::new(alloc);
-    attr_extents.push(extent(0, 50))?;
-    let mut tree = Vec::new(alloc);
-    tree.push(30)?;
-    Ok(FileRec {
+fn file(rt: &impl Abort, alloc: Global, mode: u16, offset: u64) -> FileRec {
+    let data = must(rt, vec![in alloc; extent(offset, 40)]);
+    let attr_extents = must(rt, vec![in alloc; extent(0, 50)]);
+    let tree = must(rt, vec![in alloc; 30]);
+    FileRec {
         ino: 128,
         core: Core {
             mode,
@@ -52,12 +49,12 @@ fn file(alloc: Global, mode: u16, offset: u64) -> Result<FileRec, Fail> {
         attrs: Attrs::from_vec(Vec::new(alloc)),
         target: Word::from_vec(Vec::new(alloc)),
         device: 0,
-    })
+    }
 }
 
 /// A disk each of whose first blocks has at each eighth byte this byte's offset.
-fn disk(rt: &impl Abort, alloc: Global) -> Result<MemoryDisk, Fail> {
-    let mut disk = MemoryDisk::make(alloc, 2048)?;
+fn disk(rt: &impl Abort, alloc: Global) -> MemoryDisk {
+    let mut disk = must(rt, MemoryDisk::make(alloc, 2048));
     let mut block = [0; BLOCK_SIZE];
     for i in 0..512usize {
         put64(&mut block, 8 * i, 8 * i as u64);
@@ -65,7 +62,7 @@ fn disk(rt: &impl Abort, alloc: Global) -> Result<MemoryDisk, Fail> {
     for place in [0, 30, 40, 41, 50, 51] {
         put(rt, &mut disk, place, &block);
     }
-    Ok(disk)
+    disk
 }
 
 /// The numbers of files, with the steps counted.
@@ -93,23 +90,30 @@ const NUMBERS: &str = "\
 ";
 
 #[test]
-fn numbers(rt: HostRuntime) -> Result<(), Fail> {
-    let alloc = rt.alloc();
+fn numbers(rt: HostRuntime) {
     for line in NUMBERS.lines() {
-        let mut row = Row::new(line);
-        let mut disk = disk(&rt, alloc)?;
-        let files = [file(alloc, row.number(&rt), row.number(&rt))?];
-        let Ok(lsns) = numbers_of::<MemoryDisk, Brand>(alloc, &mut disk, &files, Blank::new(1))
-        else {
-            refuse(&rt, "the numbers are not read", line);
-        };
-        let mut found = Vec::new(alloc);
-        for number in lsns.as_slice() {
-            found.push((number.block, number.lsn))?;
-        }
-        tells(&rt, &found, row.text(), line);
+        try_numbers(&rt, line);
     }
-    Ok(())
+}
+
+fn try_numbers(rt: &(impl Abort + AllocGlobal), line: &str) {
+    let mut row = Row::new(line);
+    let files = [file(rt, rt.alloc(), row.number(rt), row.number(rt))];
+    let lsns = numbers_in(rt, rt.alloc(), &files, line);
+    let mut found = Vec::new(rt.alloc());
+    for number in lsns.as_slice() {
+        must(rt, found.push((number.block, number.lsn)));
+    }
+    tells(rt, &found, row.text(), line);
+}
+
+/// The numbers of files on the disk, which are read.
+fn numbers_in(rt: &impl Abort, alloc: Global, files: &[FileRec], line: &str) -> Records<BlockLsn> {
+    let mut disk = disk(rt, alloc);
+    match numbers_of::<MemoryDisk, Brand>(alloc, &mut disk, files, Blank::new(1)) {
+        Ok(lsns) => lsns,
+        Err(_) => refuse(rt, "the numbers are not read", line),
+    }
 }
 
 /// The state of the log, with the steps counted.
@@ -136,20 +140,23 @@ const LOGS: &str = "\
 ";
 
 #[test]
-fn logs(rt: HostRuntime) -> Result<(), Fail> {
-    let alloc = rt.alloc();
+fn logs(rt: HostRuntime) {
     for line in LOGS.lines() {
         let mut row = Row::new(line);
-        let place = row.number(&rt);
-        let mut disk = MemoryDisk::make(alloc, 2048)?;
-        let mut block = [0; BLOCK_SIZE];
-        put64(&mut block, 3584, 1 << 32);
-        put(&rt, &mut disk, place, &block);
-        assert!(rt; matches!(disk.blocks(), Ok(count) if 2048 <= count));
-        let Ok(state) = state_of::<MemoryDisk, Brand>(alloc, &mut disk, Blank::new(1)) else {
-            refuse(&rt, "the log is not read", line);
-        };
+        let state = state_with(&rt, rt.alloc(), row.number(&rt), line);
         same!(rt; state == LogState::Clean { head: 1 << 32 }, row.flag(&rt); line);
     }
-    Ok(())
+}
+
+/// The state of the log of a disk that has a sector of cycle 1 in this block.
+fn state_with(rt: &impl Abort, alloc: Global, place: u64, line: &str) -> LogState {
+    let mut disk = must(rt, MemoryDisk::make(alloc, 2048));
+    let mut block = [0; BLOCK_SIZE];
+    put64(&mut block, 3584, 1 << 32);
+    put(rt, &mut disk, place, &block);
+    assert!(rt; matches!(disk.blocks(), Ok(count) if 2048 <= count));
+    match state_of::<MemoryDisk, Brand>(alloc, &mut disk, Blank::new(1)) {
+        Ok(state) => state,
+        Err(_) => refuse(rt, "the log is not read", line),
+    }
 }

@@ -1,5 +1,7 @@
 //! Tests of all that judges, gathers, places and builds whole volumes. They stand in a crate of their own, since a crate is proved once more
 //! with its tests.
+//!
+//! A test gives what has many lists to `drop` in the end: where it leaves scope instead, its proof goes through each list anew.
 #![tactic(auto)]
 
 #[cfg(test)]

@@ -3,36 +3,36 @@
 mod worlds;
 
 use crate::catalogs::{EMPTY, Sketch, tells_law};
-use crate::checks::sure;
+use crate::checks::{must, sure};
 use crate::text::Row;
 use std::alloc::Global;
 use std::process::Abort;
-use std::test::Fail;
 use worlds::WORLDS;
-use xfs_disk::NoMemory;
 use xfs_laws::is_catalog;
 use xfs_naming::check_names;
 
 #[test]
-fn small_volumes(rt: HostRuntime) -> Result<(), Fail> {
+fn small_volumes(rt: HostRuntime) {
     for line in WORLDS.lines() {
-        try_world(&rt, rt.alloc(), line)?;
+        try_world(&rt, rt.alloc(), line);
     }
-    Ok(())
 }
 
-fn try_world(rt: &impl Abort, alloc: Global, line: &str) -> Result<(), NoMemory> {
+fn try_world(rt: &impl Abort, alloc: Global, line: &str) {
     let mut row = Row::new(line);
     let case = row.text();
-    let catalog = Sketch::new(rt, EMPTY, row.text()).catalog(rt, alloc)?;
+    let catalog = Sketch::new(rt, EMPTY, row.text()).catalog(rt, alloc);
     sure(rt, is_catalog(&catalog), case);
-    let found = check_names(
-        alloc,
-        128,
-        catalog.files.as_slice(),
-        catalog.entries.as_slice(),
-        catalog.dirs.as_slice(),
-    )?;
+    let found = must(
+        rt,
+        check_names(
+            alloc,
+            128,
+            catalog.files.as_slice(),
+            catalog.entries.as_slice(),
+            catalog.dirs.as_slice(),
+        ),
+    );
     tells_law(rt, found, &mut row, case);
-    Ok(())
+    drop(catalog);
 }

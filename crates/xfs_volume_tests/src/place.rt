@@ -1,6 +1,6 @@
 //! A volume of two groups of 1024 and 1023 blocks, with its log at AG blocks 6 to 517 of the second.
 
-ghost use Rattle.std.specs.Prelude.{◌≡◌, ◌≤◌, IfOk, [], ◌∷◌};
+ghost use Rattle.std.specs.Prelude.{◌≡◌, ◌≤◌, [], ◌∷◌};
 
 mod aged;
 mod filled;
@@ -9,9 +9,10 @@ mod objects;
 mod pieces;
 mod spared;
 
+use crate::checks::{must, sure};
 use crate::text::{Row, refuse, tells};
 use std::alloc::{AllocError, Global};
-use std::test::Fail;
+use std::process::Abort;
 use xfs_geom::{Geometry, Run};
 use xfs_place::*;
 use xfs_volume::Records;
@@ -37,16 +38,17 @@ fn volume() -> Geometry
 
 /// A request for chunks of a volume with the root's chunk at blocks 16 to 23, and block 25 reserved.
 fn ask(
+    rt: &impl Abort,
     alloc: Global,
     size: u32,
     from: u32,
     spared_from: Vec<u32>,
     count: u32,
-) -> Result<ChunkAsk, AllocError>
+) -> ChunkAsk
     requires { 1 ≤ size }
-    ensures size { IfOk result (λ ask. ask.size ≡ size) }
-    ensures blocks { IfOk result (λ ask. ask.geometry.dblocks ≡ 2047) }
-    ensures runs { IfOk result (λ ask. ask.taken ≡ record { start = 16; count = 8; owner = INODES; offset_word = 0 } ∷ []) }
+    ensures size { result.size ≡ size }
+    ensures blocks { result.geometry.dblocks ≡ 2047 }
+    ensures runs { result.taken ≡ record { start = 16; count = 8; owner = INODES; offset_word = 0 } ∷ [] }
 {
     let root = Run {
         start: 16,
@@ -54,16 +56,20 @@ fn ask(
         owner: INODES,
         offset_word: 0,
     };
-    Ok(ChunkAsk {
+    let Ok(taken) = vec![in alloc; root] else {
+        refuse(rt, "memory is wanting", "an ask");
+    };
+    let reserved = must(rt, vec![in alloc; 25, 5000]);
+    ChunkAsk {
         geometry: volume(),
-        taken: Records::from_vec(vec![in alloc; root]?),
-        reserved: Records::from_vec(vec![in alloc; 25, 5000]?),
+        taken: Records::from_vec(taken),
+        reserved: Records::from_vec(reserved),
         size,
         from,
         spared_from: Records::from_vec(spared_from),
         count,
         what: Unplaced::LostFound,
-    })
+    }
 }
 
 /// The blocks of a chunk, the AG block from which on they are looked for, those from which on blocks are spared, how many are wanted, and where
@@ -83,30 +89,37 @@ const LOWEST: &str = "\
 ";
 
 #[test]
-fn lowest_chunks(rt: HostRuntime) -> Result<(), Fail> {
-    let alloc = rt.alloc();
+fn lowest_chunks(rt: HostRuntime) {
     for line in LOWEST.lines() {
-        let mut row = Row::new(line);
-        let (size, from) = (row.number::<u32>(&rt), row.number(&rt));
-        let spared = row.numbers::<u32>(&rt, alloc)?;
-        match chunks(
-            alloc,
-            &ask(alloc, size.max(1), from, spared, row.number(&rt))?,
-        ) {
-            Ok(starts) => tells(&rt, &starts.as_slice(), row.text(), line),
-            Err(_) => refuse(&rt, "no chunks are found", line),
-        }
+        try_chunks(&rt, line);
     }
-    Ok(())
+}
+
+fn try_chunks(rt: &(impl Abort + AllocGlobal), line: &str) {
+    let mut row = Row::new(line);
+    let (size, from) = (row.number::<u32>(rt), row.number(rt));
+    let spared = row.numbers::<u32>(rt, rt.alloc());
+    let asked = ask(rt, rt.alloc(), size.max(1), from, spared, row.number(rt));
+    match chunks(rt.alloc(), &asked) {
+        Ok(starts) => tells(rt, &starts.as_slice(), row.text(), line),
+        Err(_) => refuse(rt, "no chunks are found", line),
+    }
 }
 
 #[test]
-fn too_few_chunks(rt: HostRuntime) -> Result<(), Fail> {
+fn too_few_chunks(rt: HostRuntime) {
     let alloc = rt.alloc();
     // AG blocks 8 to 1023 without 16 to 31, and of the second group 520 to 1015
     let all = (1016 - 16) / 8 + (1016 - 520) / 8;
-    assert!(rt; chunks(alloc, &ask(alloc, 8, 0, Vec::new(alloc), all)?).is_ok());
-    let found = chunks(alloc, &ask(alloc, 8, 0, Vec::new(alloc), all + 1)?);
-    assert!(rt; matches!(found, Err(PlaceFault::NoRoom(Unplaced::LostFound))));
-    Ok(())
+    let asked = ask(&rt, alloc, 8, 0, Vec::new(alloc), all);
+    sure(&rt, chunks(alloc, &asked).is_ok(), "all chunks");
+    drop(asked);
+    let asked = ask(&rt, alloc, 8, 0, Vec::new(alloc), all + 1);
+    let found = chunks(alloc, &asked);
+    sure(
+        &rt,
+        matches!(found, Err(PlaceFault::NoRoom(Unplaced::LostFound))),
+        "one chunk more",
+    );
+    drop((found, asked));
 }

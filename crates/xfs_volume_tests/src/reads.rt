@@ -4,19 +4,21 @@
 ghost use Rattle.std.specs.Prelude.{None};
 ghost use Rattle.std.proofs.Common.{rules};
 
-use crate::checks::same;
+use crate::checks::{must, same};
 use crate::groups::{self, IDENTIFIER, leaf};
-use crate::scan::{ENTRY, EXTENT, LOST_ATTRIBUTES, PLAIN, file, gather_counted, put_slot};
+use crate::scan::{ENTRY, EXTENT, LOST_ATTRIBUTES, PLAIN, file, gather_counted, put_slot, view_of};
 use crate::small_volume::{ROOT, put, volume};
 use crate::text::{Row, parts_of, put_parts, refuse};
 use std::alloc::Global;
 use std::marker::Brand;
 use std::process::Abort;
 use std::sync::ledger::Blank;
-use std::test::Fail;
+use std::thread::Threads;
 use xfs_dirdata::{EntryRec, put_data};
-use xfs_disk::{BLOCK_SIZE, Disk, Failed, MemoryDisk, Stamp, Word};
+use xfs_disk::{BLOCK_SIZE, Disk, Failed, NoGate, Stamp, Word};
 use xfs_inodebuild::free_slot;
+use xfs_memory::MemoryDisk;
+use xfs_scan::Evidence;
 use xfs_volume::Core;
 use xfs_word::{Seal, SealKind, put_part, put32, put64, seal};
 
@@ -29,7 +31,7 @@ struct Counted {
 }
 
 impl Disk for Counted {
-    ghost use Rattle.xfs_disk.specs.MemoryDisk.{size_of, faults_of, write_faults_of, reads_of, writes_of};
+    ghost use Rattle.xfs_memory.specs.MemoryDisk.{size_of, faults_of, write_faults_of, reads_of, writes_of};
 
     ghost size = { λ counted. size_of counted.disk };
 
@@ -96,20 +98,16 @@ const INDEX: &str =
     "4056 0000002e00000008 000000610000000c 0000006100000000 0000172e0000000a 0000000400000001";
 
 /// Writes the directory's block, with one entry.
-fn put_directory(
-    rt: &(impl Abort + AllocGlobal),
-    alloc: Global,
-    disk: &mut MemoryDisk,
-) -> Result<(), Fail> {
+fn put_directory(rt: &(impl Abort + AllocGlobal), alloc: Global, disk: &mut MemoryDisk) {
     let entry = EntryRec {
         dir: 131,
-        name: Word::from_vec(Vec::from_slice(alloc, b"a")?),
+        name: Word::from_vec(must(rt, Vec::from_slice(alloc, b"a"))),
         ino: 132,
         ftype: 1,
     };
     let mut block = [0; BLOCK_SIZE];
     put_data(&[entry], Some((131, 128)), &mut block[..4056]);
-    put_parts(rt, &mut block, INDEX)?;
+    put_parts(rt, &mut block, INDEX);
     put32(&mut block, 0, 0x5844_4233);
     put64(&mut block, 8, 8 * 24);
     put_part(&mut block, 24, &IDENTIFIER);
@@ -122,7 +120,6 @@ fn put_directory(
     };
     seal(&wanted, &mut block);
     put(rt, disk, 24, &block);
-    Ok(())
 }
 
 /// Writes the slot of an inode of the chunk into its block; one may have lost its attributes.
@@ -181,56 +178,78 @@ one cluster more | | - true | true | 0 1024 1, 0 1 4, 1 6 3, 16 25 4, 40 44 2, 1
 ";
 
 #[test]
-fn reads(rt: HostRuntime) -> Result<(), Fail> {
-    let alloc = rt.alloc();
+fn reads(rt: HostRuntime) {
     for line in CASES.lines() {
-        let mut row = Row::new(line);
-        let case = row.text();
-        let mut disk = groups::disk(&rt, alloc, row.numbers(&rt, alloc)?.as_slice())?;
-        put_chunk(&rt, &mut disk, row.optional(&rt));
-        put_directory(&rt, alloc, &mut disk)?;
-        if row.flag(&rt) {
-            put(&rt, &mut disk, 5, &leaf(&rt, 5, &mut Row::new(OWNERS))?);
-        }
-        let mut counted = Counted {
-            disk,
-            reads: vec![in alloc; 0u32; 2048]?,
-        };
-        let Ok(count) = counted.blocks() else {
-            refuse(&rt, "the disk tells no size", case);
-        };
-        assert!(rt; 2048 <= count);
-        let gathered = gather_counted::<Counted, Brand>(alloc, &mut counted, Blank::new(1));
-        let Ok(found) = gathered else {
-            refuse(&rt, "the volume is refused", case);
-        };
-        same!(rt; found.seen.dirs().len(), 2; case);
-        same!(rt; found.seen.into_view().is_ok(), row.flag(&rt); case);
-        are_counted(&rt, counted.reads.as_slice(), row.text(), case)?;
+        try_reads(&rt, line);
     }
-    Ok(())
+}
+
+fn try_reads<R: Abort + AllocGlobal + Threads + Sync>(rt: &R, line: &str) {
+    let mut row = Row::new(line);
+    let case = row.text();
+    let disk = disk_of(rt, &mut row);
+    let mut counted = Counted {
+        disk,
+        reads: must(rt, vec![in rt.alloc(); 0u32; 2048]),
+    };
+    let found = gathered(rt, rt.alloc(), &mut counted, case);
+    same!(*rt; found.seen.dirs().len(), 2; case);
+    let view = view_of(found);
+    same!(*rt; view.is_ok(), row.flag(rt); case);
+    are_counted(rt, counted.reads.as_slice(), row.text(), case);
+    drop(view);
+}
+
+/// The disk of a line.
+fn disk_of(rt: &(impl Abort + AllocGlobal), row: &mut Row<'_>) -> MemoryDisk {
+    let lost = row.numbers::<u64>(rt, rt.alloc());
+    let mut disk = groups::disk(rt, rt.alloc(), &lost);
+    put_chunk(rt, &mut disk, row.optional(rt));
+    put_directory(rt, rt.alloc(), &mut disk);
+    if row.flag(rt) {
+        put(rt, &mut disk, 5, &leaf(rt, 5, &mut Row::new(OWNERS)));
+    }
+    disk
+}
+
+/// The evidence of the disk, which is not refused.
+fn gathered<R: Abort + Threads + Sync>(
+    rt: &R,
+    alloc: Global,
+    counted: &mut Counted,
+    case: &str,
+) -> Evidence {
+    assert!(rt; matches!(counted.blocks(), Ok(count) if 2048 <= count));
+    match gather_counted::<R, Counted, NoGate, Brand>(rt, alloc, counted, &NoGate, Blank::new(1)) {
+        Ok(found) => found,
+        Err(_) => refuse(rt, "the volume is refused", case),
+    }
 }
 
 /// Fails where blocks were not read as often as is due.
-fn are_counted(
-    rt: &(impl Abort + AllocGlobal),
-    reads: &[u32],
-    due: &str,
-    case: &str,
-) -> Result<(), Fail> {
-    let mut wanted = vec![in rt.alloc(); 0u32; 2048]?;
-    for part in parts_of(rt, due).iter() {
-        let mut part = *part;
-        let (first, end): (usize, usize) = (part.number(rt), part.number(rt));
-        let times = part.number(rt);
-        for block in first..end {
-            if let Some(count) = wanted.get_mut(block) {
-                *count = times;
-            }
-        }
-    }
+fn are_counted(rt: &(impl Abort + AllocGlobal), reads: &[u32], due: &str, case: &str) {
+    let wanted = wanted_counts(rt, due);
     for (block, (held, due)) in reads.iter().zip(wanted.iter()).enumerate() {
         same!(*rt; *held, *due; (case, block));
     }
-    Ok(())
+}
+
+/// How often each block is to be read.
+fn wanted_counts(rt: &(impl Abort + AllocGlobal), due: &str) -> Vec<u32> {
+    let mut wanted = must(rt, vec![in rt.alloc(); 0u32; 2048]);
+    for part in parts_of(rt, due).iter() {
+        put_counts(rt, &mut wanted, *part);
+    }
+    wanted
+}
+
+/// Writes how often the blocks of a part are to be read: from a block on, before another, so many times.
+fn put_counts(rt: &impl Abort, wanted: &mut [u32], mut part: Row) {
+    let (first, end): (usize, usize) = (part.number(rt), part.number(rt));
+    let times = part.number(rt);
+    for block in first..end {
+        if let Some(count) = wanted.get_mut(block) {
+            *count = times;
+        }
+    }
 }

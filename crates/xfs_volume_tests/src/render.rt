@@ -4,14 +4,16 @@ mod objects;
 mod slots;
 mod wanted;
 
-use crate::checks::{same, sure};
+use crate::checks::{must, same, sure};
 use crate::small_volume::put;
 use crate::text::{Row, put_parts, refuse};
 use std::alloc::Global;
+use std::marker::Sync;
 use std::process::Abort;
-use std::test::Fail;
+use std::thread::Threads;
 use wanted::plan_of;
-use xfs_disk::{BLOCK_SIZE, Disk, MemoryDisk};
+use xfs_disk::{BLOCK_SIZE, Disk};
+use xfs_memory::MemoryDisk;
 use xfs_render::Plan;
 use xfs_word::{put_part, put32, put64};
 
@@ -48,54 +50,64 @@ const CHECKSUMS: &str = "\
 ";
 
 /// The disk of the volume with two files.
-fn due_disk(rt: &(impl Abort + AllocGlobal), alloc: Global) -> Result<MemoryDisk, Fail> {
-    let mut disk = MemoryDisk::make(alloc, 2048)?;
-    let mut clusters = [[0; BLOCK_SIZE]; 8];
+fn due_disk(rt: &(impl Abort + AllocGlobal), alloc: Global) -> MemoryDisk {
+    let mut disk = must(rt, MemoryDisk::make(alloc, 2048));
     for line in FILES.lines() {
         let mut row = Row::new(line);
         let place = row.number(rt);
         let mut block = [0; BLOCK_SIZE];
-        put_parts(rt, &mut block, row.rest())?;
+        put_parts(rt, &mut block, row.rest());
         if place == 16 {
-            clusters[0] = block;
+            put_chunk(rt, &mut disk, &chunk_of(rt, alloc, block));
         } else {
             put(rt, &mut disk, place, &block);
         }
     }
+    disk
+}
+
+/// The blocks of the root's chunk, from the slots in use of its first block.
+fn chunk_of(
+    rt: &(impl Abort + AllocGlobal),
+    alloc: Global,
+    first: [u8; BLOCK_SIZE],
+) -> [[u8; BLOCK_SIZE]; 8] {
+    let mut clusters = [[0; BLOCK_SIZE]; 8];
+    clusters[0] = first;
     let mut k = 5;
     for line in CHECKSUMS.lines() {
-        for checksum in Row::new(line).numbers::<u32>(rt, alloc)? {
+        for checksum in Row::new(line).numbers::<u32>(rt, alloc) {
             sure(rt, k < 64, "there are 59 checksums");
             put_part(
                 &mut clusters[k / 8],
                 512 * (k % 8),
-                &free_slot(rt, 128 + k as u64, checksum)?,
+                &free_slot(rt, 128 + k as u64, checksum),
             );
             k += 1;
         }
     }
+    clusters
+}
+
+/// Writes the blocks of the root's chunk.
+fn put_chunk(rt: &impl Abort, disk: &mut MemoryDisk, clusters: &[[u8; BLOCK_SIZE]; 8]) {
     for (k, block) in clusters.iter().enumerate() {
-        put(rt, &mut disk, 16 + k as u64, block);
+        put(rt, disk, 16 + k as u64, block);
     }
-    Ok(disk)
 }
 
 /// The slot of a free inode.
-fn free_slot(rt: &(impl Abort + AllocGlobal), ino: u64, checksum: u32) -> Result<[u8; 512], Fail> {
+fn free_slot(rt: &(impl Abort + AllocGlobal), ino: u64, checksum: u32) -> [u8; 512] {
     let mut slot = [0; 512];
-    put_parts(rt, &mut slot, FREE)?;
+    put_parts(rt, &mut slot, FREE);
     put64(&mut slot, 152, ino);
     put32(&mut slot, 100, checksum);
-    Ok(slot)
+    slot
 }
 
 /// A disk of so many blocks that holds those of a plan, and else zeros.
-fn planned_disk(
-    rt: &(impl Abort + AllocGlobal),
-    alloc: Global,
-    plan: &Plan,
-) -> Result<MemoryDisk, Fail> {
-    let mut disk = MemoryDisk::make(alloc, 2048)?;
+fn planned_disk(rt: &(impl Abort + AllocGlobal), alloc: Global, plan: &Plan) -> MemoryDisk {
+    let mut disk = must(rt, MemoryDisk::make(alloc, 2048));
     for rows in [plan.fresh.as_slice(), plan.in_place.as_slice()] {
         for row in rows {
             sure(rt, row.index < plan.bank.len(), "a row has bytes");
@@ -104,7 +116,7 @@ fn planned_disk(
             put(rt, &mut disk, row.at, &block);
         }
     }
-    Ok(disk)
+    disk
 }
 
 /// A block of a disk.
@@ -116,18 +128,32 @@ fn block_of(rt: &impl Abort, disk: &mut MemoryDisk, place: u64) -> [u8; BLOCK_SI
 }
 
 #[test]
-#[tactic(auto, using(crate::proofs::Asked::counted))]
-fn volume_with_two_files(rt: HostRuntime) -> Result<(), Fail> {
+fn volume_with_two_files(rt: HostRuntime) {
     let alloc = rt.alloc();
-    let mut due = due_disk(&rt, alloc)?;
-    let head = block_of(&rt, &mut due, 0);
-    let objects = objects::two_files(alloc)?;
-    let plan = plan_of(&rt, alloc, &head, objects, objects::blocks_of_two(alloc)?)?;
+    let mut due = due_disk(&rt, alloc);
+    let plan = plan_two(&rt, alloc, &block_of(&rt, &mut due, 0));
     // both groups have a first block and five trees, the chunk has eight blocks, each file one, and the log 512, which have two blocks of bytes
     same!(rt; (plan.fresh.as_slice().len(), plan.in_place.as_slice().len(), plan.bank.len()), (20, 514, 24));
-    let mut held = planned_disk(&rt, alloc, &plan)?;
+    let mut held = planned_disk(&rt, alloc, &plan);
     for place in 0..2048 {
-        same!(rt; block_of(&rt, &mut held, place), block_of(&rt, &mut due, place); place);
+        are_same(&rt, &mut held, &mut due, place);
     }
-    Ok(())
+    drop(plan);
+}
+
+/// The plan of the volume with two files, whose first block is this.
+#[tactic(auto, using(crate::proofs::Asked::counted))]
+fn plan_two<R: Threads + Sync + Abort>(rt: &R, alloc: Global, head: &[u8; BLOCK_SIZE]) -> Plan {
+    let Ok(objects) = objects::two_files(alloc) else {
+        refuse(rt, "memory is wanting", "two files");
+    };
+    let Ok(built) = objects::blocks_of_two(alloc) else {
+        refuse(rt, "memory is wanting", "two blocks");
+    };
+    plan_of(rt, alloc, head, objects, built)
+}
+
+/// Fails where two disks differ in a block.
+fn are_same(rt: &impl Abort, held: &mut MemoryDisk, due: &mut MemoryDisk, place: u64) {
+    same!(*rt; block_of(rt, held, place), block_of(rt, due, place); place);
 }

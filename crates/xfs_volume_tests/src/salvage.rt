@@ -2,17 +2,15 @@
 
 ghost use Rattle.std.specs.Prelude.{◌≡◌, ◌<◌};
 
-use crate::checks::{same, sure};
-use crate::items::records;
+use crate::checks::{must, same, sure};
+use crate::items::{records, tells_number, tells_numbers};
 use crate::small_volume::volume;
 use crate::text::Row;
-use std::alloc::{AllocError, Global};
+use std::alloc::Global;
 use std::marker::Brand;
 use std::process::Abort;
 use std::sync::ledger::{Blank, Ledger};
-use std::test::Fail;
 use std::thread::Threads;
-use xfs_disk::NoMemory;
 use xfs_runs::Steps;
 use xfs_salvage::{FoundRecords, Salvaged, claims_in, salvage};
 
@@ -66,36 +64,21 @@ A block of data that is one of attributes | 16 true | 131 0x8000 1 0 40 3 false 
 A block of data that is one of the tree | 16 true | 131 0x8000 1 0 40 3 false - 41 | false
 ";
 
-fn found_in(rt: &impl Abort, alloc: Global, row: &mut Row) -> Result<FoundRecords, AllocError> {
-    Ok(FoundRecords {
-        clusters: records(rt, alloc, row.text())?,
-        files: records(rt, alloc, row.text())?,
-        dirs: records(rt, alloc, row.text())?,
-        entries: records(rt, alloc, row.text())?,
-    })
-}
-
-/// Fails where the number is not the next one of a text.
-fn tells_next(rt: &impl Abort, number: u64, due: &mut Row, case: &str) {
-    sure(rt, !due.is_read(), case);
-    same!(rt; number, due.number(rt); case);
-}
-
-/// Fails where these are not the numbers that a row tells next.
-fn tells_numbers(rt: &impl Abort, held: &[u64], row: &mut Row, case: &str) {
-    let mut due = Row::new(row.text());
-    for number in held {
-        tells_next(rt, *number, &mut due, case);
+pub fn found_in(rt: &impl Abort, alloc: Global, row: &mut Row) -> FoundRecords {
+    FoundRecords {
+        clusters: records(rt, alloc, row.text()),
+        files: records(rt, alloc, row.text()),
+        dirs: records(rt, alloc, row.text()),
+        entries: records(rt, alloc, row.text()),
     }
-    sure(rt, due.is_read(), case);
 }
 
-/// The same of the numbers of files, of directories and of what entries name.
+/// Fails where these are not the clusters that are kept, the numbers of files, of directories and of what entries name.
 fn tells_kept(rt: &impl Abort, kept: &Salvaged, row: &mut Row, case: &str) {
     tells_numbers(rt, kept.clusters.as_slice(), row, case);
     let mut files = Row::new(row.text());
     for file in kept.files.as_slice() {
-        tells_next(rt, file.ino, &mut files, case);
+        tells_number(rt, file.ino, &mut files, case);
     }
     sure(rt, files.is_read(), case);
     tells_numbers(rt, kept.fresh.as_slice(), row, case);
@@ -105,12 +88,12 @@ fn tells_kept(rt: &impl Abort, kept: &Salvaged, row: &mut Row, case: &str) {
 fn tells_names(rt: &impl Abort, kept: &Salvaged, row: &mut Row, case: &str) {
     let mut dirs = Row::new(row.text());
     for dir in kept.dirs.as_slice() {
-        tells_next(rt, dir.ino, &mut dirs, case);
+        tells_number(rt, dir.ino, &mut dirs, case);
     }
     sure(rt, dirs.is_read(), case);
     let mut entries = Row::new(row.text());
     for entry in kept.entries.as_slice() {
-        tells_next(rt, entry.ino, &mut entries, case);
+        tells_number(rt, entry.ino, &mut entries, case);
     }
     sure(rt, entries.is_read(), case);
 }
@@ -120,54 +103,46 @@ fn try_kept<R: Threads + Sync + Abort, L: Ledger>(
     alloc: Global,
     line: &str,
     steps: &mut Steps<L>,
-) -> Result<(), NoMemory> {
+) {
     let g = volume([7; 16]);
     let mut row = Row::new(line);
     let case = row.text();
-    let found = found_in(rt, alloc, &mut row)?;
-    let kept = salvage(rt, alloc, &g, found, steps)?;
+    let found = found_in(rt, alloc, &mut row);
+    let kept = must(rt, salvage(rt, alloc, &g, found, steps));
     tells_kept(rt, &kept, &mut row, case);
     sure(rt, row.is_read(), case);
-    Ok(())
+    drop(kept);
 }
 
-fn try_can<L: Ledger>(
-    rt: &impl Abort,
-    alloc: Global,
-    line: &str,
-    steps: &mut Steps<L>,
-) -> Result<(), NoMemory> {
+fn try_can<L: Ledger>(rt: &impl Abort, alloc: Global, line: &str, steps: &mut Steps<L>) {
     let g = volume([7; 16]);
     let mut row = Row::new(line);
     let case = row.text();
-    let clusters = records(rt, alloc, row.text())?;
-    let files = records(rt, alloc, row.text())?;
-    let claims = claims_in(alloc, &g, clusters.as_slice(), files.as_slice(), steps)?;
+    let clusters = records(rt, alloc, row.text());
+    let files = records(rt, alloc, row.text());
+    let claims = must(
+        rt,
+        claims_in(alloc, &g, clusters.as_slice(), files.as_slice(), steps),
+    );
     same!(rt; claims.is_some(), row.flag(rt); case);
-    Ok(())
+    drop((claims, files, clusters));
 }
 
-fn try_all<R: Threads + Sync + Abort, L: Ledger>(
-    rt: &R,
-    alloc: Global,
-    blank: Blank,
-) -> Result<(), NoMemory>
+fn try_all<R: Threads + Sync + Abort, L: Ledger>(rt: &R, alloc: Global, blank: Blank)
     requires name { blank.name ≡ L.name }
     requires parts { blank.parts ≡ L.parts }
     requires some { 0 < blank.parts }
 {
     let mut steps = Steps::<L>::from_blank(blank);
     for line in KEPT.lines() {
-        try_kept(rt, alloc, line, &mut steps)?;
+        try_kept(rt, alloc, line, &mut steps);
     }
     for line in CAN.lines() {
-        try_can(rt, alloc, line, &mut steps)?;
+        try_can(rt, alloc, line, &mut steps);
     }
-    Ok(())
 }
 
 #[test]
-fn small_cases(rt: HostRuntime) -> Result<(), Fail> {
-    try_all::<HostRuntime, Brand>(&rt, rt.alloc(), Blank::new(1))?;
-    Ok(())
+fn small_cases(rt: HostRuntime) {
+    try_all::<HostRuntime, Brand>(&rt, rt.alloc(), Blank::new(1));
 }

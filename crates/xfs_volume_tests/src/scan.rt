@@ -3,21 +3,23 @@
 
 ghost use Rattle.std.specs.Prelude.{◌≡◌, ◌<◌, ◌≤◌};
 
-use crate::checks::same;
+use crate::checks::{must, same, sure};
 use crate::small_volume::{ROOT, put, volume};
 use crate::text::{Row, refuse, tells};
 use std::alloc::Global;
 use std::marker::Brand;
 use std::process::Abort;
+use std::sync::atomic::{AtomicBool, Ordering};
 use std::sync::ledger::{Blank, Ledger};
-use std::test::Fail;
-use xfs_disk::{BLOCK_SIZE, Disk, MemoryDisk};
+use std::thread::Threads;
+use xfs_disk::{BLOCK_SIZE, Disk, Gate, NoGate};
 use xfs_heads::LogState;
 use xfs_image::Finding;
 use xfs_inodebuild::fresh_slot;
+use xfs_memory::MemoryDisk;
 use xfs_runs::Steps;
 use xfs_scan::*;
-use xfs_volume::Core;
+use xfs_volume::{Catalog, Core, FileRec};
 use xfs_word::{put_checksum, put_part, put16};
 
 /// The identifier of the volume.
@@ -76,8 +78,8 @@ pub fn put_slot(
 }
 
 /// The volume, with files whose slots are changed so in block 17.
-fn disk(rt: &impl Abort, alloc: Global, changed: &[(u64, Change)]) -> Result<MemoryDisk, Fail> {
-    let mut disk = MemoryDisk::make(alloc, 2048)?;
+fn disk(rt: &impl Abort, alloc: Global, changed: &[(u64, Change)]) -> MemoryDisk {
+    let mut disk = must(rt, MemoryDisk::make(alloc, 2048));
     let mut block = [0; BLOCK_SIZE];
     put_slot(rt, &mut block, &ROOT, &ENTRY, PLAIN);
     put_slot(rt, &mut block, &file(131), &EXTENT, PLAIN);
@@ -90,13 +92,15 @@ fn disk(rt: &impl Abort, alloc: Global, changed: &[(u64, Change)]) -> Result<Mem
     block = [0; BLOCK_SIZE];
     put_slot(rt, &mut block, &file(192), &EXTENT, PLAIN);
     put(rt, &mut disk, 24, &block);
-    Ok(disk)
+    disk
 }
 
 /// The evidence of a disk, with the steps counted.
-pub fn gather_counted<D: Disk, L: Ledger>(
+pub fn gather_counted<R: Threads + Sync, D: Disk, G: Gate, L: Ledger>(
+    rt: &R,
     alloc: Global,
     disk: &mut D,
+    gate: &G,
     blank: Blank,
 ) -> Result<Evidence, ScanFault>
     requires name { blank.name ≡ L.name }
@@ -105,43 +109,71 @@ pub fn gather_counted<D: Disk, L: Ledger>(
     requires inside { 2048 ≤ D.size disk.old }
 {
     let mut steps = Steps::<L>::from_blank(blank);
-    gather(alloc, &volume(IDENTIFIER), disk, &mut steps)
+    gather(rt, alloc, &volume(IDENTIFIER), disk, 4, gate, &mut steps)
 }
 
 /// The evidence of the disk.
-fn seen(alloc: Global, rt: &impl Abort, disk: &mut MemoryDisk) -> Result<Evidence, ScanFault> {
+fn seen<R: Abort + Threads + Sync>(
+    alloc: Global,
+    rt: &R,
+    disk: &mut MemoryDisk,
+) -> Result<Evidence, ScanFault> {
     assert!(rt; matches!(disk.blocks(), Ok(count) if 2048 <= count));
-    gather_counted::<MemoryDisk, Brand>(alloc, disk, Blank::new(1))
+    gather_counted::<R, MemoryDisk, NoGate, Brand>(rt, alloc, disk, &NoGate, Blank::new(1))
 }
 
-#[test]
-fn evidence(rt: HostRuntime) -> Result<(), Fail> {
-    let alloc = rt.alloc();
-    let mut disk = disk(&rt, alloc, &[(137, LOST_ATTRIBUTES)])?;
-    let Ok(found) = seen(alloc, &rt, &mut disk) else {
-        refuse(&rt, "the volume is refused", "");
-    };
-    let clusters =
-        "[ClusterRec { block: 16, recorded: true }, ClusterRec { block: 24, recorded: false }]";
-    tells(&rt, &found.clusters.as_slice(), clusters, "clusters");
-    same!(rt; found.slots.as_slice().len(), 64);
-    let files = found.seen.files();
-    same!(rt; files.len(), 4);
-    for (file, ino) in files.iter().zip([128, 131, 137, 192]) {
-        same!(rt; file.ino, ino);
+/// The evidence of the volume with these files, which is not refused.
+fn seen_with<R: Abort + Threads + Sync>(
+    rt: &R,
+    alloc: Global,
+    changed: &[(u64, Change)],
+) -> Evidence {
+    let mut disk = disk(rt, alloc, changed);
+    match seen(alloc, rt, &mut disk) {
+        Ok(found) => found,
+        Err(_) => refuse(rt, "the volume is refused", ""),
     }
+}
+
+/// What the whole image says, or the first part that does not read.
+pub fn view_of(found: Evidence) -> Result<Catalog, Finding> {
+    found.seen.into_view()
+}
+
+/// The clusters, the entries and the directories.
+const CLUSTERS: &str =
+    "[ClusterRec { block: 16, recorded: true }, ClusterRec { block: 24, recorded: false }]";
+
+const ENTRIES: &str = "[EntryRec { dir: 128, name: Word { bytes: [97] }, ino: 131, ftype: 1 }]";
+
+const DIRECTORIES: &str = "[DirRec { ino: 128, parent: 128, whole: true }]";
+
+#[test]
+fn evidence(rt: HostRuntime) {
+    let found = seen_with(&rt, rt.alloc(), &[(137, LOST_ATTRIBUTES)]);
+    tells(&rt, &found.clusters.as_slice(), CLUSTERS, "clusters");
+    same!(rt; found.slots.as_slice().len(), 64);
+    are_files(&rt, found.seen.files());
     tells(&rt, &found.bare.as_slice(), "[137]", "bare files");
-    let entries = found.seen.entries();
-    assert!(rt;
-        entries.len() == 1 && entries[0].ino == 131 && entries[0].name.bytes() == b"a".as_slice()
-    );
-    let root = "[DirRec { ino: 128, parent: 128, whole: true }]";
-    tells(&rt, &found.seen.dirs(), root, "directories");
+    tells(&rt, &found.seen.entries(), ENTRIES, "entries");
+    tells(&rt, &found.seen.dirs(), DIRECTORIES, "directories");
     same!(rt; found.trees.as_slice().len(), 2);
     same!(rt; found.log, LogState::Clean { head: 1 << 32 });
-    let view = found.seen.into_view();
-    assert!(rt; matches!(view, Err(Finding::Part { part: 1, place: 0 })));
-    Ok(())
+    let view = view_of(found);
+    sure(
+        &rt,
+        matches!(view, Err(Finding::Part { part: 1, place: 0 })),
+        "the first part that does not read",
+    );
+    drop(view);
+}
+
+/// Fails where the files are not the root and the three others.
+fn are_files(rt: &impl Abort, files: &[FileRec]) {
+    same!(*rt; files.len(), 4);
+    for (file, ino) in files.iter().zip([128, 131, 137, 192]) {
+        same!(*rt; file.ino, ino);
+    }
 }
 
 /// What is kept of some of the 64 slots of the candidate clusters.
@@ -158,49 +190,91 @@ const SLOTS: &str = "\
 ";
 
 #[test]
-fn slots(rt: HostRuntime) -> Result<(), Fail> {
-    let alloc = rt.alloc();
+fn slots(rt: HostRuntime) {
     let changed = [(137, LOST_ATTRIBUTES), (139, (118, 7)), (140, (2, 0))];
-    let mut disk = disk(&rt, alloc, &changed)?;
-    let Ok(found) = seen(alloc, &rt, &mut disk) else {
-        refuse(&rt, "the volume is refused", "");
-    };
+    let found = seen_with(&rt, rt.alloc(), &changed);
     let slots = found.slots.as_slice();
     for line in SLOTS.lines() {
         let mut row = Row::new(line);
         let place: usize = row.number(&rt);
-        assert!(rt; place < slots.len());
+        sure(&rt, place < slots.len(), line);
         tells(&rt, &slots[place], row.text(), line);
     }
-    Ok(())
+    drop(found);
 }
 
 #[test]
-fn least_feature(rt: HostRuntime) -> Result<(), Fail> {
-    let alloc = rt.alloc();
-    let mut disk = disk(
-        &rt,
-        alloc,
-        &[(136, PLAIN), (138, (126, 2)), (141, (126, 8))],
-    )?;
-    let refused = seen(alloc, &rt, &mut disk);
-    assert!(rt;
-        matches!(
-            refused,
-            Err(ScanFault::UnsupportedFile { ino: 138, what: 4 })
-        )
+fn least_feature(rt: HostRuntime) {
+    let changed = [(136, PLAIN), (138, (126, 2)), (141, (126, 8))];
+    let mut disk = disk(&rt, rt.alloc(), &changed);
+    let refused = seen(rt.alloc(), &rt, &mut disk);
+    let least = matches!(
+        refused,
+        Err(ScanFault::UnsupportedFile { ino: 138, what: 4 })
     );
-    Ok(())
+    sure(&rt, least, "the least inode");
+    drop(refused);
 }
 
 #[test]
-fn failing_reads(rt: HostRuntime) -> Result<(), Fail> {
-    let alloc = rt.alloc();
+fn failing_reads(rt: HostRuntime) {
     for call in [1, 10, 40, 560] {
-        let mut disk = disk(&rt, alloc, &[])?;
-        disk.fail(call)?;
-        let refused = seen(alloc, &rt, &mut disk);
-        same!(rt; matches!(refused, Err(ScanFault::ReadFault)), true; call);
+        try_failing(&rt, rt.alloc(), call);
     }
-    Ok(())
+}
+
+fn try_failing<R: Abort + Threads + Sync>(rt: &R, alloc: Global, call: u64) {
+    let mut disk = disk(rt, alloc, &[]);
+    must(rt, disk.fail(call));
+    let refused = seen(alloc, rt, &mut disk);
+    same!(*rt; matches!(refused, Err(ScanFault::ReadFault)), true; call);
+    drop(refused);
+}
+
+/// A gate that holds the first piece until the second has come, for so many turns at most.
+#[derive(Drop)]
+struct HoldingGate {
+    come: AtomicBool,
+    met: AtomicBool,
+}
+
+impl Gate for HoldingGate {
+    fn enter(&self, piece: usize) {
+        if piece == 1 {
+            self.come.store(true, Ordering::SeqCst);
+        }
+        if piece != 0 {
+            return;
+        }
+        for _ in 0..1_000_000_000 {
+            if self.come.load(Ordering::SeqCst) {
+                self.met.store(true, Ordering::SeqCst);
+                return;
+            }
+        }
+    }
+}
+
+#[test]
+fn pieces_run_at_once(rt: HostRuntime) {
+    let mut disk = disk(&rt, rt.alloc(), &[]);
+    assert!(rt; matches!(disk.blocks(), Ok(count) if 2048 <= count));
+    let gate = HoldingGate {
+        come: AtomicBool::new(false),
+        met: AtomicBool::new(false),
+    };
+    let gathered = gather_counted::<HostRuntime, MemoryDisk, HoldingGate, Brand>(
+        &rt,
+        rt.alloc(),
+        &mut disk,
+        &gate,
+        Blank::new(1),
+    );
+    sure(&rt, gathered.is_ok(), "the volume is not refused");
+    sure(
+        &rt,
+        gate.met.load(Ordering::SeqCst),
+        "the second piece came while the first was held",
+    );
+    drop(gathered);
 }

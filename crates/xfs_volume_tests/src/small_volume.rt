@@ -4,8 +4,9 @@
 ghost use Rattle.std.specs.Prelude.{◌≡◌};
 
 use std::process::Abort;
-use xfs_disk::{BLOCK_SIZE, Disk, MemoryDisk};
+use xfs_disk::{BLOCK_SIZE, Disk};
 use xfs_geom::Geometry;
+use xfs_memory::MemoryDisk;
 use xfs_volume::Core;
 
 /// The root: a directory in short form.

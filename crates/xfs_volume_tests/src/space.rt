@@ -4,41 +4,41 @@ mod judging;
 mod rows;
 
 use crate::catalogs::{Sketch, tells_law};
-use crate::checks::sure;
+use crate::checks::{must, sure};
 use crate::items::items;
 use crate::text::Row;
 use judging::are_files;
 use rows::{BASE, ROWS};
 use std::alloc::Global;
 use std::process::Abort;
-use std::test::Fail;
 use std::thread::Threads;
-use xfs_disk::NoMemory;
 use xfs_laws::is_catalog;
 use xfs_space::check_space;
 
 #[test]
-fn small_volumes(rt: HostRuntime) -> Result<(), Fail> {
+fn small_volumes(rt: HostRuntime) {
     for line in ROWS.lines() {
-        try_row(&rt, rt.alloc(), line)?;
+        try_row(&rt, rt.alloc(), line);
     }
-    Ok(())
 }
 
-fn try_row<R: Threads + Abort + Sync>(rt: &R, alloc: Global, line: &str) -> Result<(), NoMemory> {
+fn try_row<R: Threads + Abort + Sync>(rt: &R, alloc: Global, line: &str) {
     let mut row = Row::new(line);
     let case = row.text();
-    let catalog = Sketch::new(rt, BASE, row.text()).catalog(rt, alloc)?;
-    let files = items(rt, alloc, row.text())?;
+    let catalog = Sketch::new(rt, BASE, row.text()).catalog(rt, alloc);
+    let files = items(rt, alloc, row.text());
     sure(rt, is_catalog(&catalog), case);
     sure(rt, are_files(&catalog.geometry, &files), case);
-    let found = check_space(
+    let found = must(
         rt,
-        alloc,
-        &catalog.geometry,
-        catalog.groups.as_slice(),
-        &files,
-    )?;
+        check_space(
+            rt,
+            alloc,
+            &catalog.geometry,
+            catalog.groups.as_slice(),
+            &files,
+        ),
+    );
     tells_law(rt, found, &mut row, case);
-    Ok(())
+    drop((files, catalog));
 }

@@ -22,8 +22,8 @@
 
 ghost use Rattle.std.specs.Prelude.{◌≡◌, ◌<◌, length};
 
-use crate::checks::compare_at;
-use std::alloc::{AllocError, Global};
+use crate::checks::{compare_at, must};
+use std::alloc::Global;
 use std::fmt::Debug;
 use std::process::Abort;
 
@@ -98,26 +98,22 @@ impl<'a> Row<'a> {
     }
 
     /// The words up to the next bar or the end as numbers.
-    pub fn numbers<T: TryFrom<u64> + Drop>(
-        &mut self,
-        rt: &impl Abort,
-        alloc: Global,
-    ) -> Result<Vec<T>, AllocError>
+    pub fn numbers<T: TryFrom<u64> + Drop>(&mut self, rt: &impl Abort, alloc: Global) -> Vec<T>
     where
         T::Error: Drop,
     {
         let mut numbers = Vec::new(alloc);
         for word in self.text().split_whitespace() {
             match number_of(word) {
-                Some(number) => numbers.push(number)?,
+                Some(number) => must(rt, numbers.push(number)),
                 None => refuse(rt, "a word is no number", self.line),
             }
         }
-        Ok(numbers)
+        numbers
     }
 
     /// The text up to the next bar or the end as bytes, two hexadecimal digits each, with blanks anywhere.
-    pub fn bytes(&mut self, rt: &impl Abort, alloc: Global) -> Result<Vec<u8>, AllocError> {
+    pub fn bytes(&mut self, rt: &impl Abort, alloc: Global) -> Vec<u8> {
         let mut bytes = Vec::new(alloc);
         let mut high = None;
         for byte in self.text().as_bytes() {
@@ -125,26 +121,21 @@ impl<'a> Row<'a> {
                 let low = digit(rt, *byte);
                 match high.take() {
                     None => high = Some(low),
-                    Some(high) => bytes.push(high << 4 | low)?,
+                    Some(high) => must(rt, bytes.push(high << 4 | low)),
                 }
             }
         }
         if high.is_some() {
             refuse(rt, "half a byte", self.line);
         }
-        Ok(bytes)
+        bytes
     }
 
     /// Writes the same bytes over those of an object, from a byte offset on.
-    pub fn put(
-        &mut self,
-        rt: &(impl Abort + AllocGlobal),
-        object: &mut [u8],
-        at: usize,
-    ) -> Result<(), AllocError>
+    pub fn put(&mut self, rt: &(impl Abort + AllocGlobal), object: &mut [u8], at: usize)
         ensures { length object.new ≡ length object.old }
     {
-        let bytes = self.bytes(rt, rt.alloc())?;
+        let bytes = self.bytes(rt, rt.alloc());
         let room = object
             .get_mut(at..)
             .and_then(|rest| rest.get_mut(..bytes.len()));
@@ -152,7 +143,6 @@ impl<'a> Row<'a> {
             Some(room) => room.copy_from_slice(bytes.as_slice()),
             None => refuse(rt, "bytes lie past the object", self.line),
         }
-        Ok(())
     }
 
     /// Whether no field is left.
@@ -204,27 +194,18 @@ pub fn parts_of<'a>(rt: &(impl Abort + AllocGlobal), text: &'a str) -> Vec<Row<'
 
 /// Writes the parts of an object over its bytes. The parts stand in lines or between commas, each as a byte offset and
 /// the bytes from there on. `ff*260` is a byte so many times.
-pub fn put_parts(
-    rt: &(impl Abort + AllocGlobal),
-    object: &mut [u8],
-    parts: &str,
-) -> Result<(), AllocError>
+pub fn put_parts(rt: &(impl Abort + AllocGlobal), object: &mut [u8], parts: &str)
     ensures { length object.new ≡ length object.old }
 {
     for line in parts.lines() {
         for part in parts_of(rt, line).iter() {
-            put_part(rt, object, *part)?;
+            put_part(rt, object, *part);
         }
     }
-    Ok(())
 }
 
 /// Writes one part.
-fn put_part(
-    rt: &(impl Abort + AllocGlobal),
-    object: &mut [u8],
-    mut part: Row,
-) -> Result<(), AllocError>
+fn put_part(rt: &(impl Abort + AllocGlobal), object: &mut [u8], mut part: Row)
     ensures { length object.new ≡ length object.old }
 {
     let at: usize = part.number(rt);
@@ -234,9 +215,8 @@ fn put_part(
         None => (text, 1),
     };
     for k in 0..count {
-        Row::new(bytes).put(rt, object, at.saturating_add(k))?;
+        Row::new(bytes).put(rt, object, at.saturating_add(k));
     }
-    Ok(())
 }
 
 /// Fails where a value is not told by this text, as `{:?}` writes it.

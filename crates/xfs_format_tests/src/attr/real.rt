@@ -35,12 +35,11 @@ const HELD: &str = "\
 1 n0_xxxxxxxx=887d91f5fcc1a792b2f3deb1a321e4bb946c25cb371b2be9974fce060ba8e2e4887d91f5fcc1a792b2f3deb1a321e4bb946c25cb371b2be9974fce060ba8e2e4887d91f5fcc1a792b2f3deb1a321e4bb946c25cb371b2be9974fce060ba8e2e4887d91f5fcc1a792b2f3deb1a321e4bb946c25cb371b2be9974fce060ba8e2e4887d91f5fcc1a792b2f3deb1a321e4bb946c";
 
 #[test]
-fn attributes_that_a_kernel_wrote(rt: HostRuntime) -> Result<(), Fail> {
+fn attributes_that_a_kernel_wrote(rt: HostRuntime) {
     let alloc = rt.alloc();
-    let label = Row::new(LABEL).bytes(&rt, alloc)?;
-    expect(&rt, read_short_attributes(alloc, &label), LABELLED, "label")?;
+    let label = Row::new(LABEL).bytes(&rt, alloc);
+    expect(&rt, read_short_attributes(alloc, &label), LABELLED, "label");
     let mut block = [0; BLOCK_SIZE];
-    put_parts(&rt, &mut block, LEAF)?;
-    expect(&rt, read_leaf(alloc, &block), HELD, "leaf")?;
-    Ok(())
+    put_parts(&rt, &mut block, LEAF);
+    expect(&rt, read_leaf(alloc, &block), HELD, "leaf");
 }

@@ -1,15 +1,14 @@
 //! The objects in memory.
 
 ghost use Rattle.std.specs.Prelude.{◌≡◌};
-ghost use Rattle.xfs_disk.specs.MemoryDisk.{size_of};
+ghost use Rattle.xfs_memory.specs.MemoryDisk.{size_of};
 
-use crate::checks::same;
+use crate::checks::{must, same, sure};
 use crate::text::{Row, tells};
-use std::test::Fail;
-use xfs_disk::{
-    BLOCK_SIZE, Disk, Failed, Library, LibraryFault, MemoryDisk, MemoryLibrary, MemorySink,
-    MemorySource, NoMemory, Sink, Source, Word,
-};
+use std::alloc::Global;
+use std::process::Abort;
+use xfs_disk::{BLOCK_SIZE, Disk, Failed, Library, LibraryFault, NoMemory, Sink, Source, Word};
+use xfs_memory::{MemoryDisk, MemoryLibrary, MemorySink, MemorySource};
 
 /// The outcomes of write 0, read 0, write 1, sync and read 1.
 fn outcomes(disk: &mut MemoryDisk) -> [bool; 5]
@@ -37,36 +36,45 @@ const FAILING: &str = "\
 ";
 
 #[test]
-fn a_disk_fails_where_it_is_told_to(rt: HostRuntime) -> Result<(), Fail> {
+fn a_disk_fails_where_it_is_told_to(rt: HostRuntime) {
     for line in FAILING.lines() {
-        let mut row = Row::new(line);
-        let mut disk = MemoryDisk::make(rt.alloc(), 2)?;
-        if let Some(call) = row.optional(&rt) {
-            disk.fail(call)?;
-        }
-        if let Some(writes) = row.optional(&rt) {
-            disk.stop_after(writes);
-        }
-        let done = outcomes(&mut disk);
-        let image = disk.image();
-        let left = (image.first().copied(), image.get(BLOCK_SIZE).copied());
-        tells(
-            &rt,
-            &(done, disk.faults(), left.0, left.1),
-            row.text(),
-            line,
-        );
+        try_failing(&rt, line);
     }
-    assert!(rt; matches!(MemoryDisk::make(rt.alloc(), 1 << 52), Err(NoMemory)));
-    Ok(())
+    let large = MemoryDisk::make(rt.alloc(), 1 << 52);
+    sure(&rt, matches!(large, Err(NoMemory)), "a disk without memory");
+}
+
+fn try_failing(rt: &(impl Abort + AllocGlobal), line: &str) {
+    let mut row = Row::new(line);
+    let mut disk = disk_with(rt, rt.alloc(), row.optional(rt), row.optional(rt));
+    let done = outcomes(&mut disk);
+    let image = disk.image();
+    let left = (image.first().copied(), image.get(BLOCK_SIZE).copied());
+    let held = (done, disk.faults(), left.0, left.1);
+    tells(rt, &held, row.text(), line);
+}
+
+/// A disk of two blocks, with the call that fails and the writes until it stops.
+fn disk_with(rt: &impl Abort, alloc: Global, call: Option<u64>, writes: Option<u64>) -> MemoryDisk
+    ensures { size_of result ≡ 2 }
+{
+    let mut disk = must(rt, MemoryDisk::make(alloc, 2));
+    assert!(rt; matches!(disk.blocks(), Ok(2)));
+    if let Some(call) = call {
+        must(rt, disk.fail(call));
+    }
+    if let Some(writes) = writes {
+        disk.stop_after(writes);
+    }
+    disk
 }
 
 #[test]
-fn streams_keep_their_bytes(rt: HostRuntime) -> Result<(), Fail> {
-    let mut source = MemorySource::make(rt.alloc(), b"hello")?;
-    source.fail(2)?;
-    let mut sink = MemorySink::make(rt.alloc(), 7)?;
-    sink.fail(3)?;
+fn streams_keep_their_bytes(rt: HostRuntime) {
+    let mut source = must(&rt, MemorySource::make(rt.alloc(), b"hello"));
+    must(&rt, source.fail(2));
+    let mut sink = must(&rt, MemorySink::make(rt.alloc(), 7));
+    must(&rt, sink.fail(3));
     let mut part = [b'.'; 3];
     let steps: [(Result<usize, Failed>, Result<(), Failed>, &[u8]); 4] = [
         (Ok(3), Ok(()), b"hel"),
@@ -79,8 +87,17 @@ fn streams_keep_their_bytes(rt: HostRuntime) -> Result<(), Fail> {
         same!(rt; sink.put(&part), put);
         same!(rt; sink.bytes(), bytes);
     }
-    let name = Word::from_vec(Vec::new(rt.alloc()));
+    let missing = file_of(rt.alloc());
+    sure(
+        &rt,
+        matches!(missing, Err(LibraryFault::Missing)),
+        "an empty library",
+    );
+}
+
+/// What a library without files answers.
+fn file_of(alloc: Global) -> Result<Vec<u8>, LibraryFault> {
+    let name = Word::from_vec(Vec::new(alloc));
     let mut library = MemoryLibrary::make();
-    assert!(rt; matches!(library.file(rt.alloc(), &name), Err(LibraryFault::Missing)));
-    Ok(())
+    library.file(alloc, &name)
 }

@@ -1,77 +1,115 @@
 //! The objects over the system, on files of the folder for temporary files.
 
-use crate::checks::same;
-use std::alloc::{AllocError, Global};
+use crate::checks::{must, same, sure};
 use std::fs::{File, OpenOptions};
 use std::io::{ErrorKind, Write};
 use std::path::PathBuf;
-use std::test::Fail;
+use std::process::Abort;
 use std::{env, fs, io, process};
-use xfs_disk::{
-    BLOCK_SIZE, Disk, Failed, FileDisk, FileLibrary, Library, LibraryFault, Sink, Source,
-    StreamSink, StreamSource, Word,
-};
+use xfs_disk::{BLOCK_SIZE, Disk, Failed, Library, LibraryFault, Sink, Source, Word};
+use xfs_files::{FileDisk, FileLibrary, StreamSink, StreamSource};
 
 /// The path of a temporary file of this process.
-fn path_of(rt: &HostRuntime, name: &str) -> io::Result<PathBuf> {
-    let id = process::id(rt.process());
-    let file = format!(in rt.alloc(); "xfs_disk-{id}-{name}")?;
-    Ok(env::temp_dir(rt)?.join(rt.alloc(), file)?)
+fn path_of(rt: &impl Abort, system: &HostRuntime, name: &str) -> PathBuf {
+    let id = process::id(system.process());
+    let file = must(rt, format!(in system.alloc(); "xfs_disk-{id}-{name}"));
+    let folder = must(rt, env::temp_dir(system));
+    must(rt, folder.join(system.alloc(), file))
 }
 
-fn word(alloc: Global, bytes: &[u8]) -> Result<Word, AllocError> {
-    Ok(Word::from_vec(Vec::from_slice(alloc, bytes)?))
+fn word(rt: &impl Abort, system: &HostRuntime, bytes: &[u8]) -> Word {
+    Word::from_vec(must(rt, Vec::from_slice(system.alloc(), bytes)))
 }
 
 #[test]
-fn a_file_is_a_disk_of_its_whole_blocks(rt: HostRuntime) -> Result<(), Fail> {
-    let path = path_of(&rt, "disk")?;
-    let mut bytes = vec![in rt.alloc(); 1u8; 2 * BLOCK_SIZE + 100]?;
-    fs::write(&rt, path.as_path(), bytes.as_slice())?;
-    let mut options = OpenOptions::new();
-    options.read(true).write(true);
-    let mut disk = FileDisk::open(options.open(&rt, path.as_path())?)?;
-    let mut block = [0; BLOCK_SIZE];
-    let count = disk.blocks()?;
-    assert!(rt; count == 2);
+fn a_file_is_a_disk_of_its_whole_blocks(rt: HostRuntime) {
+    let path = path_of(&rt, &rt, "disk");
+    let bytes = must(&rt, vec![in rt.alloc(); 1u8; 2 * BLOCK_SIZE + 100]);
+    must(&rt, fs::write(&rt, path.as_path(), bytes.as_slice()));
+    let mut disk = opened(&rt, &rt, &path);
+    assert!(rt; matches!(disk.blocks(), Ok(2)));
     same!(rt; disk.write(1, &[2; BLOCK_SIZE]), Ok(()));
     same!(rt; disk.sync(), Ok(()));
+    are_read(&rt, &mut disk);
+    holds(&rt, &rt, &path, bytes);
+    cut(&rt, &rt, &path);
+    does_not_read(&rt, &mut disk);
+    must(&rt, fs::remove_file(&rt, path.as_path()));
+}
+
+/// The options that a disk is opened with.
+fn writable() -> OpenOptions {
+    let mut options = OpenOptions::new();
+    options.read(true).write(true);
+    options
+}
+
+/// The disk of a file.
+fn opened(rt: &impl Abort, system: &HostRuntime, path: &PathBuf) -> FileDisk<File> {
+    let file = must(rt, writable().open(system, path.as_path()));
+    must(rt, FileDisk::open(file))
+}
+
+/// Fails where block 1 is not of twos, or block 0 not of ones.
+fn are_read(rt: &impl Abort, disk: &mut FileDisk<File>) {
+    assert!(rt; matches!(disk.blocks(), Ok(2)));
+    let mut block = [0; BLOCK_SIZE];
     same!(rt; disk.read(1, &mut block), Ok(()));
-    assert!(rt; block == [2; BLOCK_SIZE]);
+    sure(rt, block == [2; BLOCK_SIZE], "block 1");
     same!(rt; disk.read(0, &mut block), Ok(()));
-    assert!(rt; block == [1; BLOCK_SIZE]);
+    sure(rt, block == [1; BLOCK_SIZE], "block 0");
+}
+
+/// Fails where a file does not hold these bytes, those of block 1 replaced by twos.
+fn holds(rt: &impl Abort, system: &HostRuntime, path: &PathBuf, mut bytes: Vec<u8>) {
     for byte in bytes.iter_mut().skip(BLOCK_SIZE).take(BLOCK_SIZE) {
         *byte = 2;
     }
-    let now: Vec<u8> = fs::read(&rt, path.as_path())?;
-    assert!(rt; now == bytes);
-    options
-        .open(&rt, path.as_path())?
-        .set_len(BLOCK_SIZE as u64 + 1)?;
+    let now: Vec<u8> = must(rt, fs::read(system, path.as_path()));
+    sure(rt, now == bytes, "the bytes of the file");
+}
+
+/// Cuts a file behind the first byte of block 1.
+fn cut(rt: &impl Abort, system: &HostRuntime, path: &PathBuf) {
+    let file = must(rt, writable().open(system, path.as_path()));
+    must(rt, file.set_len(BLOCK_SIZE as u64 + 1));
+}
+
+/// Fails where block 1 is read, or where a fault is not counted.
+fn does_not_read(rt: &impl Abort, disk: &mut FileDisk<File>) {
+    let mut block = [0; BLOCK_SIZE];
     same!(rt; disk.faults(), 0);
+    assert!(rt; matches!(disk.blocks(), Ok(2)));
     same!(rt; disk.read(1, &mut block), Err(Failed));
     same!(rt; disk.faults(), 1);
-    fs::remove_file(&rt, path.as_path())?;
+}
+
+#[test]
+fn no_file_is_no_disk(rt: HostRuntime) {
     let mut none = FileDisk::<File>::unopened();
     same!(rt; none.blocks(), Err(Failed));
     same!(rt; none.sync(), Err(Failed));
     same!(rt; none.faults(), 1);
-    Ok(())
 }
 
 #[test]
-fn a_file_that_is_only_read_takes_no_block(rt: HostRuntime) -> Result<(), Fail> {
-    let path = path_of(&rt, "read_only")?;
-    fs::write(&rt, path.as_path(), [3; BLOCK_SIZE].as_slice())?;
-    let mut disk = FileDisk::open(File::open(&rt, path.as_path())?)?;
-    let count = disk.blocks()?;
-    assert!(rt; count == 1);
+fn a_file_that_is_only_read_takes_no_block(rt: HostRuntime) {
+    let path = path_of(&rt, &rt, "read_only");
+    let threes = [3; BLOCK_SIZE];
+    must(&rt, fs::write(&rt, path.as_path(), threes.as_slice()));
+    let file = must(&rt, File::open(&rt, path.as_path()));
+    let mut disk = must(&rt, FileDisk::open(file));
+    assert!(rt; matches!(disk.blocks(), Ok(1)));
     same!(rt; disk.write(0, &[4; BLOCK_SIZE]), Err(Failed));
     same!(rt; disk.faults(), 0);
-    let now: Vec<u8> = fs::read(&rt, path.as_path())?;
-    assert!(rt; now.as_slice() == [3; BLOCK_SIZE].as_slice());
-    fs::remove_file(&rt, path.as_path())?;
-    Ok(())
+    has_bytes(&rt, &rt, &path, &threes);
+    must(&rt, fs::remove_file(&rt, path.as_path()));
+}
+
+/// Fails where a file does not hold these bytes.
+fn has_bytes(rt: &impl Abort, system: &HostRuntime, path: &PathBuf, bytes: &[u8]) {
+    let now: Vec<u8> = must(rt, fs::read(system, path.as_path()));
+    sure(rt, now.as_slice() == bytes, "the bytes of the file");
 }
 
 /// A writer that takes three bytes at a time and fails once it has taken so many.
@@ -97,21 +135,14 @@ impl Write for Narrow {
 }
 
 #[test]
-fn streams_reach_the_system(rt: HostRuntime) -> Result<(), Fail> {
-    let path = path_of(&rt, "streams")?;
-    let mut sink = StreamSink::new(fs::create(&rt, path.as_path())?);
+fn streams_reach_the_system(rt: HostRuntime) {
+    let path = path_of(&rt, &rt, "streams");
+    let mut sink = StreamSink::new(must(&rt, fs::create(&rt, path.as_path())));
     same!(rt; sink.put(b"four words "), Ok(()));
     same!(rt; sink.put(b"of text"), Ok(()));
-    let now: Vec<u8> = fs::read(&rt, path.as_path())?;
-    assert!(rt; now.as_slice() == b"four words of text".as_slice());
-    let mut source = StreamSource::new(File::open(&rt, path.as_path())?);
-    let mut part = [0; 16];
-    same!(rt; source.take(&mut part), Ok(16));
-    assert!(rt; part == *b"four words of te");
-    same!(rt; source.take(&mut part), Ok(2));
-    assert!(rt; part == *b"xtur words of te");
-    same!(rt; source.take(&mut part), Ok(0));
-    fs::remove_file(&rt, path.as_path())?;
+    has_bytes(&rt, &rt, &path, b"four words of text");
+    gives_words(&rt, &rt, &path);
+    must(&rt, fs::remove_file(&rt, path.as_path()));
     for (left, fault, put) in [
         (7, None, Ok(())),
         (6, None, Err(Failed)),
@@ -120,29 +151,53 @@ fn streams_reach_the_system(rt: HostRuntime) -> Result<(), Fail> {
         let mut sink = StreamSink::new(Narrow { left, fault });
         same!(rt; sink.put(b"letters"), put);
     }
-    Ok(())
+}
+
+/// Fails where a source over the file does not give the words in parts.
+fn gives_words(rt: &impl Abort, system: &HostRuntime, path: &PathBuf) {
+    let mut source = StreamSource::new(must(rt, File::open(system, path.as_path())));
+    let mut part = [0; 16];
+    for (taken, held) in [
+        (16, b"four words of te"),
+        (2, b"xtur words of te"),
+        (0, b"xtur words of te"),
+    ] {
+        same!(rt; source.take(&mut part), Ok(taken));
+        sure(rt, part == *held, "the bytes of the part");
+    }
 }
 
 #[test]
-fn a_library_reads_the_files_of_the_system(rt: HostRuntime) -> Result<(), Fail> {
-    let path = path_of(&rt, "library")?;
-    fs::write(&rt, path.as_path(), b"mode 0644".as_slice())?;
-    let name = word(rt.alloc(), path.as_str().as_bytes())?;
-    let mut library = FileLibrary::new(&rt);
-    let bytes = library
-        .file(rt.alloc(), &name)
-        .unwrap_or(Vec::new(rt.alloc()));
-    assert!(rt; bytes.as_slice() == b"mode 0644".as_slice());
-    fs::remove_file(&rt, path.as_path())?;
-    assert!(rt; matches!(library.file(rt.alloc(), &name), Err(LibraryFault::Missing)));
-    let strange = word(rt.alloc(), b"\xff")?;
-    assert!(rt;
-        matches!(
-            library.file(rt.alloc(), &strange),
-            Err(LibraryFault::Failed)
-        )
+fn a_library_reads_the_files_of_the_system(rt: HostRuntime) {
+    let path = path_of(&rt, &rt, "library");
+    must(&rt, fs::write(&rt, path.as_path(), b"mode 0644".as_slice()));
+    let bytes = must(&rt, file_of(&rt, &rt, path.as_str().as_bytes()));
+    sure(
+        &rt,
+        bytes.as_slice() == b"mode 0644".as_slice(),
+        "its bytes",
     );
-    let folder = word(rt.alloc(), env::temp_dir(&rt)?.as_str().as_bytes())?;
-    assert!(rt; matches!(library.file(rt.alloc(), &folder), Err(LibraryFault::Failed)));
-    Ok(())
+    must(&rt, fs::remove_file(&rt, path.as_path()));
+    let missing = file_of(&rt, &rt, path.as_str().as_bytes());
+    sure(
+        &rt,
+        matches!(missing, Err(LibraryFault::Missing)),
+        "a file that is removed",
+    );
+    let strange = file_of(&rt, &rt, b"\xff");
+    sure(
+        &rt,
+        matches!(strange, Err(LibraryFault::Failed)),
+        "a name that is no text",
+    );
+    let folder = must(&rt, env::temp_dir(&rt));
+    let folder = file_of(&rt, &rt, folder.as_str().as_bytes());
+    sure(&rt, matches!(folder, Err(LibraryFault::Failed)), "a folder");
+}
+
+/// What the library of the system answers to a name.
+fn file_of(rt: &impl Abort, system: &HostRuntime, name: &[u8]) -> Result<Vec<u8>, LibraryFault> {
+    let name = word(rt, system, name);
+    let mut library = FileLibrary::new(system);
+    library.file(system.alloc(), &name)
 }

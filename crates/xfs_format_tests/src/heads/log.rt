@@ -3,9 +3,8 @@
 ghost use Rattle.std.specs.Prelude.{◌≡◌, ◌≤◌, ◌<◌, ◌^◌, length};
 
 use super::*;
-use crate::checks::same;
+use crate::checks::{must, same};
 use crate::text::{Row, parts_of, put_parts, refuse, tells};
-use std::alloc::AllocError;
 use xfs_heads::{LogState, SectorSeen, blank_log_sector, log_state, see_sector};
 
 /// A sector that was never written.
@@ -52,17 +51,17 @@ fn sector_of(rt: &impl Abort, mut row: Row) -> SectorSeen {
 }
 
 /// The sectors of these runs, in each of which so many are equal.
-fn lay(rt: &(impl Abort + AllocGlobal), runs: &str) -> Result<Vec<SectorSeen>, AllocError> {
+fn lay(rt: &(impl Abort + AllocGlobal), runs: &str) -> Vec<SectorSeen> {
     let mut seen = Vec::new(rt.alloc());
     for run in parts_of(rt, runs).iter() {
         let mut run = *run;
         let count: usize = run.number(rt);
         let sector = sector_of(rt, run);
         for _ in 0..count {
-            seen.push(sector)?;
+            must(rt, seen.push(sector));
         }
     }
-    Ok(seen)
+    seen
 }
 
 /// The state of a log: `dirty`, or `clean` with the cycle and the block of its head.
@@ -145,16 +144,15 @@ cleared by xfs_repair | 1 header 4 512 1, 1 data 4 32, 510 new, 1 record 3 2 258
 ";
 
 #[test]
-fn states(rt: HostRuntime) -> Result<(), Fail> {
+fn states(rt: HostRuntime) {
     for table in [UNMOUNTED, RECORDS, AROUND_THE_END, CLEARED, REAL] {
         for line in table.lines() {
             let mut row = Row::new(line);
             let _case = row.text();
-            let seen = lay(&rt, row.text())?;
+            let seen = lay(&rt, row.text());
             same!(rt; log_state(&seen), state_of(&rt, row); line);
         }
     }
-    Ok(())
 }
 
 /// The first sector of the log that `mkfs.xfs` wrote, up to the first replaced number and from the format on.
@@ -168,11 +166,11 @@ const MADE_HEADER: &str = "\
 const MADE_DATA: &str = "0 0000000100000008aa2000006e550000";
 
 #[test]
-fn blank_sectors(rt: HostRuntime) -> Result<(), Fail> {
+fn blank_sectors(rt: HostRuntime) {
     let mut sector = [0xff; 512];
     for (index, parts) in [MADE_HEADER, MADE_DATA].iter().enumerate() {
         let mut due = [0; 512];
-        put_parts(&rt, &mut due, parts)?;
+        put_parts(&rt, &mut due, parts);
         blank_log_sector(1, index as u64, &IDENTIFIER, &mut sector);
         same!(rt; sector, due);
     }
@@ -180,12 +178,11 @@ fn blank_sectors(rt: HostRuntime) -> Result<(), Fail> {
         let mut seen = Vec::new(rt.alloc());
         for index in 0..64 {
             blank_log_sector(cycle, index, &IDENTIFIER, &mut sector);
-            seen.push(see_sector(&sector))?;
+            must(&rt, seen.push(see_sector(&sector)));
         }
         let head = ((cycle as u64) << 32) + 2;
         same!(rt; log_state(&seen), LogState::Clean { head });
     }
-    Ok(())
 }
 
 /// The sector of a record's header, and what is seen of it.
@@ -196,14 +193,13 @@ const SEEN: &str =
 const CHANGED: &str = "0 feedbabd, 8 aa200000";
 
 #[test]
-fn seen_sectors(rt: HostRuntime) -> Result<(), Fail> {
+fn seen_sectors(rt: HostRuntime) {
     let mut sector = [0; 512];
     let mut row = Row::new(SEEN);
-    put_parts(&rt, &mut sector, row.text())?;
+    put_parts(&rt, &mut sector, row.text());
     same!(rt; see_sector(&sector), sector_of(&rt, row));
-    put_parts(&rt, &mut sector, CHANGED)?;
+    put_parts(&rt, &mut sector, CHANGED);
     let due =
         "SectorSeen { cycle: 4276992701, header: false, version: 2854223872, len: 2048, ops: 16, size: 32768, flag: 32 }";
     tells(&rt, &see_sector(&sector), due, CHANGED);
-    Ok(())
 }

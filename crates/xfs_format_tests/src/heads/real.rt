@@ -1,12 +1,11 @@
 //! Headers cut from real images, and what the `xfs_db` of xfsprogs prints of them, but for the checksums: it
 //! prints their bytes in the order in which they are stored.
 
-ghost use Rattle.std.specs.Prelude.{◌≡◌, ◌≤◌, IfOk};
+ghost use Rattle.std.specs.Prelude.{◌≡◌, ◌≤◌};
 
 use super::*;
 use crate::checks::same;
-use crate::text::{put_parts, tells};
-use std::alloc::AllocError;
+use crate::text::{put_parts, refuse, tells};
 
 /// Group 2 of 4 in an image that `mkfs.xfs` filled from a protofile. The group holds the log.
 const MADE: &str = "0 497d6d7b117f4804809b9c7ce8ea0e17";
@@ -82,29 +81,21 @@ rmaproot: 7, bnolevel: 2, cntlevel: 2, rmaplevel: 2, flfirst: 44, fllast: 51, fl
 245, 23], rmapblocks: 30, lsn: 12884903004, crc: 3687157264 }";
 
 /// A sector that holds these parts, and `fill` elsewhere.
-fn sector_of(
-    rt: &(impl Abort + AllocGlobal),
-    fill: u8,
-    parts: &str,
-) -> Result<[u8; 512], AllocError> {
+fn sector_of(rt: &(impl Abort + AllocGlobal), fill: u8, parts: &str) -> [u8; 512] {
     let mut sector = [fill; 512];
-    put_parts(rt, &mut sector, parts)?;
-    Ok(sector)
+    put_parts(rt, &mut sector, parts);
+    sector
 }
 
 /// The geometry of an image of 4 groups with 8192 blocks each, with its log in group 2.
-fn image(
-    rt: &(impl Abort + AllocGlobal),
-    logblocks: u32,
-    identifier: &str,
-) -> Result<Geometry, AllocError>
+fn image(rt: &(impl Abort + AllocGlobal), logblocks: u32, identifier: &str) -> Geometry
     requires few { logblocks ≤ 1000 }
     requires some { 512 ≤ logblocks }
-    ensures { IfOk result (λ g. g.agcount ≡ 4) }
+    ensures { result.agcount ≡ 4 }
 {
     let mut uuid = [0; 16];
-    put_parts(rt, &mut uuid, identifier)?;
-    Ok(Geometry {
+    put_parts(rt, &mut uuid, identifier);
+    Geometry {
         dblocks: 32768,
         agblocks: 8192,
         agcount: 4,
@@ -114,35 +105,33 @@ fn image(
         rootino: 128,
         logsectlog: 0,
         uuid,
-    })
+    }
 }
 
 #[test]
-fn headers_that_mkfs_made(rt: HostRuntime) -> Result<(), Fail> {
-    let g = image(&rt, 878, MADE)?;
-    let Some(agf) = read_agf(&g, 2, &sector_of(&rt, 0, MADE_AGF)?) else {
-        return Err(Fail::from("the header of free space is refused"));
+fn headers_that_mkfs_made(rt: HostRuntime) {
+    let g = image(&rt, 878, MADE);
+    let Some(agf) = read_agf(&g, 2, &sector_of(&rt, 0, MADE_AGF)) else {
+        refuse(&rt, "the header of free space is refused", "")
     };
     tells(&rt, &agf, MADE_AGF_PRINTED, "free space");
-    let Some(agi) = read_agi(&g, 2, &sector_of(&rt, 0, MADE_AGI)?) else {
-        return Err(Fail::from("the header of inodes is refused"));
+    let Some(agi) = read_agi(&g, 2, &sector_of(&rt, 0, MADE_AGI)) else {
+        refuse(&rt, "the header of inodes is refused", "")
     };
     tells(&rt, &agi, MADE_AGI_PRINTED, "inodes");
     let agfl = Agfl::new(&[884, 885, 886, 887, 888, 889]);
-    let sector = sector_of(&rt, 0xff, MADE_AGFL)?;
+    let sector = sector_of(&rt, 0xff, MADE_AGFL);
     same!(rt; read_agfl(&g, 2, &agf, &sector), Some(agfl));
-    Ok(())
 }
 
 #[test]
-fn headers_that_a_kernel_wrote(rt: HostRuntime) -> Result<(), Fail> {
-    let g = image(&rt, 1000, WRITTEN)?;
-    let Some(agf) = read_agf(&g, 0, &sector_of(&rt, 0, WRITTEN_AGF)?) else {
-        return Err(Fail::from("the header of free space is refused"));
+fn headers_that_a_kernel_wrote(rt: HostRuntime) {
+    let g = image(&rt, 1000, WRITTEN);
+    let Some(agf) = read_agf(&g, 0, &sector_of(&rt, 0, WRITTEN_AGF)) else {
+        refuse(&rt, "the header of free space is refused", "")
     };
     tells(&rt, &agf, WRITTEN_AGF_PRINTED, "free space");
     let agfl = Agfl::new(&[790, 792, 794, 796, 798, 800, 802, 804]);
-    let sector = sector_of(&rt, 0xff, WRITTEN_AGFL)?;
+    let sector = sector_of(&rt, 0xff, WRITTEN_AGFL);
     same!(rt; read_agfl(&g, 0, &agf, &sector), Some(agfl));
-    Ok(())
 }

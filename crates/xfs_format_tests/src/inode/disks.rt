@@ -4,12 +4,12 @@ ghost use Rattle.std.specs.Prelude.{◌≤◌};
 ghost use Rattle.xfs_word.specs.Extent.{IsPackable};
 
 use super::*;
-use crate::checks::same;
+use crate::checks::{must, same};
 use crate::text::tells;
-use std::alloc::{AllocError, Global};
 use std::marker::Brand;
 use std::sync::ledger::Blank;
-use xfs_disk::{BLOCK_SIZE, Disk, MemoryDisk};
+use xfs_disk::{BLOCK_SIZE, Disk};
+use xfs_memory::MemoryDisk;
 use xfs_volume::FileRec;
 use xfs_word::{Extent, Seal, SealKind, pack_extent};
 
@@ -30,19 +30,14 @@ fn extent(i: u64) -> Extent
 }
 
 /// A leaf of 150 extents, from the extent of a number on, with its siblings and its place.
-fn leaf(
-    rt: &(impl Abort + AllocGlobal),
-    place: u64,
-    parts: &str,
-    first: u64,
-) -> Result<[u8; BLOCK_SIZE], AllocError> {
+fn leaf(rt: &(impl Abort + AllocGlobal), place: u64, parts: &str, first: u64) -> [u8; BLOCK_SIZE] {
     let mut block = [0; BLOCK_SIZE];
     put_parts(
         rt,
         &mut block,
         "0 424d4133, 6 0096, 40 00112233445566778899aabbccddeeff, 63 83",
-    )?;
-    put_parts(rt, &mut block, parts)?;
+    );
+    put_parts(rt, &mut block, parts);
     assert!(rt; first <= 150);
     for i in 0..150 {
         put_part(
@@ -58,7 +53,7 @@ fn leaf(
         uuid: IDENTIFIER,
     };
     seal(&wanted, &mut block);
-    Ok(block)
+    block
 }
 
 /// What in the slot of the file differs from the fresh file's, but for the first key of its second leaf.
@@ -68,11 +63,11 @@ const SLOT: &str = "\
 340 000000000000012c 000000000000012d";
 
 /// The slot of the file, with this key.
-fn slot_with(rt: &(impl Abort + AllocGlobal), key: &str) -> Result<[u8; 512], AllocError> {
-    let mut slot = file_with(rt, SLOT)?;
-    put_parts(rt, &mut slot, key)?;
+fn slot_with(rt: &(impl Abort + AllocGlobal), key: &str) -> [u8; 512] {
+    let mut slot = file_with(rt, SLOT);
+    put_parts(rt, &mut slot, key);
     seal_file(&mut slot);
-    Ok(slot)
+    slot
 }
 
 /// What the slot with a key reads as.
@@ -80,10 +75,10 @@ fn reads(
     rt: &(impl Abort + AllocGlobal),
     disk: &mut MemoryDisk,
     key: &str,
-) -> Result<Result<FileRead, InodeFault>, AllocError> {
+) -> Result<FileRead, InodeFault> {
     assert!(rt; matches!(disk.blocks(), Ok(count) if 2048 <= count));
-    let slot = slot_with(rt, key)?;
-    Ok(read_counted::<MemoryDisk, Brand>(rt.alloc(), IDENTIFIER, disk, 131, &slot, Blank::new(1)))
+    let slot = slot_with(rt, key);
+    read_counted::<MemoryDisk, Brand>(rt.alloc(), IDENTIFIER, disk, 131, &slot, Blank::new(1))
 }
 
 /// Tests that the file is read whole.
@@ -100,8 +95,8 @@ fn is_whole(rt: &(impl Abort + AllocGlobal), file: &FileRec) {
 }
 
 /// Tests what the slot of the file names.
-fn is_named(rt: &(impl Abort + AllocGlobal)) -> Result<(), Fail> {
-    let slot = slot_with(rt, "194 012c")?;
+fn is_named(rt: &(impl Abort + AllocGlobal)) {
+    let slot = slot_with(rt, "194 012c");
     match needs(rt.alloc(), &geometry(), 131, &slot) {
         Ok(
             Needs {
@@ -115,35 +110,49 @@ fn is_named(rt: &(impl Abort + AllocGlobal)) -> Result<(), Fail> {
         }
         _ => panic!(rt; "a tree is named"),
     }
-    Ok(())
 }
 
-#[test]
-fn a_file_of_two_leaves(rt: HostRuntime) -> Result<(), Fail> {
-    is_named(&rt)?;
-    let mut disk = MemoryDisk::make(rt.alloc(), 2048)?;
+/// The disk with the leaves of the file.
+fn disk_of_leaves(rt: &(impl Abort + AllocGlobal)) -> MemoryDisk {
+    let mut disk = must(rt, MemoryDisk::make(rt.alloc(), 2048));
     let first = leaf(
-        &rt,
+        rt,
         2400,
         "8 ffffffffffffffff 000000000000012d 0000000000000960",
         0,
-    )?;
+    );
     let second = leaf(
-        &rt,
+        rt,
         2408,
         "8 000000000000012c ffffffffffffffff 0000000000000968",
         150,
-    )?;
-    assert!(rt; matches!(disk.blocks(), Ok(2048)) && disk.write(300, &first).is_ok());
-    assert!(rt; matches!(disk.blocks(), Ok(2048)) && disk.write(301, &second).is_ok());
-    match reads(&rt, &mut disk, "194 012c")? {
-        Ok(FileRead::File(file)) => is_whole(&rt, &file),
+    );
+    assert!(rt; matches!(disk.blocks(), Ok(2048)));
+    must(rt, disk.write(300, &first));
+    must(rt, disk.write(301, &second));
+    disk
+}
+
+/// Tests that the slot with a key reads as the whole file.
+fn is_read(rt: &(impl Abort + AllocGlobal), disk: &mut MemoryDisk, key: &str) {
+    match reads(rt, disk, key) {
+        Ok(FileRead::File(file)) => is_whole(rt, &file),
         _ => panic!(rt; "the file is read"),
     }
-    let other = reads(&rt, &mut disk, "194 012d")?;
-    tells(&rt, &other, "Ok(Unsound)", "another key");
-    disk.fail(2)?;
-    let failed = reads(&rt, &mut disk, "194 012c")?;
-    tells(&rt, &failed, "Err(ReadFault)", "a failing read");
-    Ok(())
+}
+
+/// Tests that the slot with a key reads as no file.
+fn is_not_read(rt: &(impl Abort + AllocGlobal), disk: &mut MemoryDisk, key: &str, due: &str) {
+    let read = reads(rt, disk, key);
+    tells(rt, &read, due, key);
+}
+
+#[test]
+fn a_file_of_two_leaves(rt: HostRuntime) {
+    is_named(&rt);
+    let mut disk = disk_of_leaves(&rt);
+    is_read(&rt, &mut disk, "194 012c");
+    is_not_read(&rt, &mut disk, "194 012d", "Ok(Unsound)");
+    must(&rt, disk.fail(2));
+    is_not_read(&rt, &mut disk, "194 012c", "Err(ReadFault)");
 }

@@ -1,12 +1,13 @@
 //! Slots with the blocks that they name.
 
-ghost use Rattle.std.specs.Prelude.{◌≡◌, length, IfSome};
+ghost use Rattle.std.specs.Prelude.{◌≡◌, ◌<◌, length, IfSome};
 ghost use Rattle.std.specs.Option.{option_copied};
 ghost use Rattle.xfs_word.specs.Seal.{layout_of};
 
 use super::*;
+use crate::checks::must;
 use crate::text::{Row, tells};
-use std::alloc::{AllocError, Global};
+use std::alloc::Global;
 use xfs_disk::{BLOCK_SIZE, NoMemory};
 use xfs_kinds::Bmbt;
 use xfs_tree::Tree;
@@ -136,7 +137,7 @@ fn read_rows(
     tree: Option<&Tree<Bmbt>>,
     attr_leaf: Option<&[u8]>,
     link: Option<&[u8]>,
-) -> Result<(), AllocError>
+)
     requires attr_leaf { IfSome (option_copied attr_leaf) (λ block. length block ≡ 4096) }
     requires link { IfSome (option_copied link) (λ block. length block ≡ 4096) }
 {
@@ -144,23 +145,18 @@ fn read_rows(
     for line in rows.lines() {
         let mut row = Row::new(line);
         let (case, due) = (row.text(), row.text());
-        let slot = file_with(rt, row.text())?;
+        let slot = file_with(rt, row.text());
         let read = decide_file(rt.alloc(), &g, 131, &slot, tree, attr_leaf, link);
         tells(rt, &kind_of(rt, read), due, case);
     }
-    Ok(())
 }
 
 /// Block 30 of inode 131 with these parts, sealed.
-fn block_with(
-    rt: &(impl Abort + AllocGlobal),
-    kind: SealKind,
-    parts: &str,
-) -> Result<[u8; BLOCK_SIZE], AllocError>
+fn block_with(rt: &(impl Abort + AllocGlobal), kind: SealKind, parts: &str) -> [u8; BLOCK_SIZE]
     requires { (layout_of kind).size ≡ 4096 }
 {
     let mut block = [0; BLOCK_SIZE];
-    put_parts(rt, &mut block, parts)?;
+    put_parts(rt, &mut block, parts);
     let wanted = Seal {
         kind,
         place: 240,
@@ -168,36 +164,56 @@ fn block_with(
         uuid: IDENTIFIER,
     };
     seal(&wanted, &mut block);
-    Ok(block)
+    block
 }
 
 /// A tree of 300 extents of one block at every other file block, in blocks from 302 on, with tree blocks 300 and 301.
-fn tree(alloc: Global) -> Result<Tree<Bmbt>, Fail> {
+fn tree(rt: &impl Abort, alloc: Global) -> Tree<Bmbt> {
     let mut records = Vec::new(alloc);
     for i in 0..300 {
-        records.push(Extent {
-            offset: 2 * i,
-            start: 302 + i,
-            count: 1,
-            unwritten: i == 299,
-        })?;
+        must(rt, records.push(extent(i)));
     }
-    let blocks = vec![in alloc; 300, 301]?;
-    Ok(Tree { records, blocks })
+    let blocks = must(rt, vec![in alloc; 300, 301]);
+    Tree { records, blocks }
+}
+
+/// The extent of this number.
+fn extent(i: u64) -> Extent
+    requires { i < 300 }
+{
+    Extent {
+        offset: 2 * i,
+        start: 302 + i,
+        count: 1,
+        unwritten: i == 299,
+    }
+}
+
+/// Reads the rows with an index block of these parts.
+fn read_index_rows(rt: &(impl Abort + AllocGlobal), rows: &str, magic: u16, parts: &str) {
+    let block = block_with(rt, SealKind::Index { magic }, parts);
+    read_rows(rt, rows, None, Some(&block), None);
+}
+
+/// Reads the rows with a block of a symbolic link of these parts.
+fn read_link_rows(rt: &(impl Abort + AllocGlobal), rows: &str, parts: &str) {
+    let block = block_with(rt, SealKind::Symlink, parts);
+    read_rows(rt, rows, None, None, Some(&block));
+}
+
+/// Reads the rows with the tree.
+fn read_tree_rows(rt: &(impl Abort + AllocGlobal), rows: &str) {
+    let tree = tree(rt, rt.alloc());
+    read_rows(rt, rows, Some(&tree), None, None);
 }
 
 #[test]
-fn files(rt: HostRuntime) -> Result<(), Fail> {
-    read_rows(&rt, OWN, None, None, None)?;
-    let leaf = block_with(&rt, SealKind::Index { magic: 0x3bee }, LEAF)?;
-    read_rows(&rt, WITH_LEAF, None, Some(&leaf), None)?;
-    read_rows(&rt, WITHOUT_LEAF, None, Some(&[0; BLOCK_SIZE]), None)?;
-    let node = block_with(&rt, SealKind::Index { magic: 0x3ebe }, NODE)?;
-    read_rows(&rt, WITH_NODE, None, Some(&node), None)?;
-    let remote = block_with(&rt, SealKind::Index { magic: 0x3bee }, REMOTE)?;
-    read_rows(&rt, WITH_REMOTE, None, Some(&remote), None)?;
-    let link = block_with(&rt, SealKind::Symlink, LINK)?;
-    read_rows(&rt, LINKS, None, None, Some(&link))?;
-    read_rows(&rt, TREES, Some(&tree(rt.alloc())?), None, None)?;
-    Ok(())
+fn files(rt: HostRuntime) {
+    read_rows(&rt, OWN, None, None, None);
+    read_index_rows(&rt, WITH_LEAF, 0x3bee, LEAF);
+    read_rows(&rt, WITHOUT_LEAF, None, Some(&[0; BLOCK_SIZE]), None);
+    read_index_rows(&rt, WITH_NODE, 0x3ebe, NODE);
+    read_index_rows(&rt, WITH_REMOTE, 0x3bee, REMOTE);
+    read_link_rows(&rt, LINKS, LINK);
+    read_tree_rows(&rt, TREES);
 }

@@ -4,26 +4,27 @@ ghost use Rattle.std.specs.Prelude.{◌≤◌};
 
 use super::cuts::{BLOCKS, CUTS};
 use super::*;
-use crate::checks::same;
+use crate::checks::{must, same};
 use crate::text::{Row, refuse, tells};
 use std::marker::Brand;
 use std::sync::ledger::Blank;
 use xfs_attr::Attr;
-use xfs_disk::{BLOCK_SIZE, Disk, MemoryDisk};
+use xfs_disk::{BLOCK_SIZE, Disk};
+use xfs_memory::MemoryDisk;
 use xfs_volume::FileRec;
 
 /// The blocks of an image, as a disk.
-fn disk_of(rt: &(impl Abort + AllocGlobal)) -> Result<MemoryDisk, Fail> {
-    let mut disk = MemoryDisk::make(rt.alloc(), 2048)?;
+fn disk_of(rt: &(impl Abort + AllocGlobal)) -> MemoryDisk {
+    let mut disk = must(rt, MemoryDisk::make(rt.alloc(), 2048));
     for line in BLOCKS.lines() {
         let mut row = Row::new(line);
         let at = row.number(rt);
         let mut block = [0; BLOCK_SIZE];
-        put_parts(rt, &mut block, row.text())?;
+        put_parts(rt, &mut block, row.text());
         assert!(rt; matches!(disk.blocks(), Ok(count) if at < count));
-        disk.write(at, &block)?;
+        must(rt, disk.write(at, &block));
     }
-    Ok(disk)
+    disk
 }
 
 /// Tests that attributes are those that are printed.
@@ -50,13 +51,13 @@ fn same_file(rt: &(impl Abort + AllocGlobal), file: &FileRec, case: &str, mut du
 }
 
 /// Tests that an inode reads as it is printed.
-fn read_cut(rt: &(impl Abort + AllocGlobal), disk: &mut MemoryDisk, cut: &str) -> Result<(), Fail> {
+fn read_cut(rt: &(impl Abort + AllocGlobal), disk: &mut MemoryDisk, cut: &str) {
     let mut row = Row::new(cut);
     let (case, ino) = (row.text(), row.number(rt));
     let mut image = [0; 16];
-    row.put(rt, &mut image, 0)?;
+    row.put(rt, &mut image, 0);
     let mut slot = [0; 512];
-    put_parts(rt, &mut slot, row.text())?;
+    put_parts(rt, &mut slot, row.text());
     assert!(rt; matches!(disk.blocks(), Ok(count) if 2048 <= count));
     let blank = Blank::new(1);
     match read_counted::<MemoryDisk, Brand>(rt.alloc(), image, disk, ino, &slot, blank) {
@@ -66,14 +67,12 @@ fn read_cut(rt: &(impl Abort + AllocGlobal), disk: &mut MemoryDisk, cut: &str) -
         }
         _ => refuse(rt, "no file is read", case),
     }
-    Ok(())
 }
 
 #[test]
-fn inodes_of_every_type(rt: HostRuntime) -> Result<(), Fail> {
-    let mut disk = disk_of(&rt)?;
+fn inodes_of_every_type(rt: HostRuntime) {
+    let mut disk = disk_of(&rt);
     for cut in CUTS.split('#') {
-        read_cut(&rt, &mut disk, cut)?;
+        read_cut(&rt, &mut disk, cut);
     }
-    Ok(())
 }

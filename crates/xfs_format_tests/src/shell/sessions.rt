@@ -1,12 +1,12 @@
 //! Sessions over the volume, one row each.
 
 use super::volume::volume;
-use crate::checks::same;
+use crate::checks::{must, same};
 use crate::text::{Row, tells};
-use std::alloc::{AllocError, Global};
+use std::alloc::Global;
 use std::process::Abort;
-use std::test::Fail;
-use xfs_disk::{MemorySink, MemorySource, Word};
+use xfs_disk::Word;
+use xfs_memory::{MemorySink, MemorySource};
 use xfs_shell::{ShellOptions, shell};
 use xfs_volume::Records;
 
@@ -34,62 +34,72 @@ a failing input | true false - 1 80 | InputFault | | hash a~ |
 ";
 
 /// The lines of a field, in which `~` ends each.
-fn lines_of(alloc: Global, text: &str) -> Result<Vec<u8>, AllocError> {
+fn lines_of(rt: &impl Abort, alloc: Global, text: &str) -> Vec<u8> {
     let mut lines = Vec::new(alloc);
     for byte in text.as_bytes() {
-        lines.push(if *byte == b'~' { b'\n' } else { *byte })?;
+        let byte = if *byte == b'~' { b'\n' } else { *byte };
+        must(rt, lines.push(byte));
     }
-    Ok(lines)
+    lines
+}
+
+/// The lines of a field as an input.
+fn input_of(rt: &impl Abort, alloc: Global, text: &str) -> MemorySource {
+    let lines = lines_of(rt, alloc, text);
+    must(rt, MemorySource::make(alloc, lines.as_slice()))
 }
 
 /// The options of a session.
 fn options_of(
+    rt: &impl Abort,
     alloc: Global,
     expert: bool,
     read_only: bool,
     texts: &str,
-) -> Result<ShellOptions, AllocError> {
+) -> ShellOptions {
     let mut commands = Vec::new(alloc);
     for text in texts.split_terminator('~') {
-        commands.push(Word::from_vec(Vec::from_slice(alloc, text.as_bytes())?))?;
+        must(rt, commands.push(word_of(rt, alloc, text)));
     }
-    Ok(ShellOptions {
+    ShellOptions {
         expert,
         read_only,
         commands: Records::from_vec(commands),
-    })
+    }
+}
+
+fn word_of(rt: &impl Abort, alloc: Global, text: &str) -> Word {
+    Word::from_vec(must(rt, Vec::from_slice(alloc, text.as_bytes())))
 }
 
 /// Runs the session of a line, and compares what it put and its outcome.
-fn check(rt: &(impl Abort + AllocGlobal), line: &str) -> Result<(), Fail> {
+fn check(rt: &(impl Abort + AllocGlobal), line: &str) {
     let mut row = Row::new(line);
     let case = row.text();
     let (expert, read_only) = (row.flag(rt), row.flag(rt));
     let (failing, failing_input) = (row.optional(rt), row.optional(rt));
     let (room, outcome) = (row.number(rt), row.text());
-    let options = options_of(rt.alloc(), expert, read_only, row.text())?;
-    let mut disk = volume(rt)?;
+    let options = options_of(rt, rt.alloc(), expert, read_only, row.text());
+    let mut disk = volume(rt);
     if let Some(call) = failing {
-        disk.fail(call)?;
+        must(rt, disk.fail(call));
     }
-    let mut input = MemorySource::make(rt.alloc(), lines_of(rt.alloc(), row.text())?.as_slice())?;
+    let mut input = input_of(rt, rt.alloc(), row.text());
     if let Some(call) = failing_input {
-        input.fail(call)?;
+        must(rt, input.fail(call));
     }
-    let mut out = MemorySink::make(rt.alloc(), room)?;
+    let mut out = must(rt, MemorySink::make(rt.alloc(), room));
     let answer = shell(rt.alloc(), &mut disk, &mut input, &mut out, &options);
     tells(rt, &answer, outcome, case);
-    let told = lines_of(rt.alloc(), row.text())?;
+    let told = lines_of(rt, rt.alloc(), row.text());
     same!(rt; out.bytes(), told.as_slice(); case);
-    Ok(())
 }
 
 #[test]
-fn sessions(rt: HostRuntime) -> Result<(), Fail> {
+fn sessions(rt: HostRuntime) {
     for line in SESSIONS.lines() {
-        check(&rt, line)?;
+        check(&rt, line);
     }
-    Ok(())
 }
 
 /// The letter that the input is made of, how often it stands there, and the outcome.
@@ -100,17 +110,16 @@ const LONG: &str = "\
 ";
 
 #[test]
-fn inputs_of_more_bytes_than_there_may_be_are_too_long(rt: HostRuntime) -> Result<(), Fail> {
-    let options = options_of(rt.alloc(), true, false, "")?;
+fn inputs_of_more_bytes_than_there_may_be_are_too_long(rt: HostRuntime) {
+    let options = options_of(&rt, rt.alloc(), true, false, "");
     for line in LONG.lines() {
         let mut row = Row::new(line);
         let (letter, count) = (row.number(&rt), row.number(&rt));
-        let mut disk = volume(&rt)?;
-        let bytes = vec![in rt.alloc(); letter; count]?;
-        let mut input = MemorySource::make(rt.alloc(), bytes.as_slice())?;
-        let mut out = MemorySink::make(rt.alloc(), 80)?;
+        let mut disk = volume(&rt);
+        let bytes = must(&rt, vec![in rt.alloc(); letter; count]);
+        let mut input = must(&rt, MemorySource::make(rt.alloc(), bytes.as_slice()));
+        let mut out = must(&rt, MemorySink::make(rt.alloc(), 80));
         let answer = shell(rt.alloc(), &mut disk, &mut input, &mut out, &options);
         tells(&rt, &answer, row.text(), line);
     }
-    Ok(())
 }

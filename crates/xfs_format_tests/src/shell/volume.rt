@@ -1,9 +1,10 @@
 //! A volume of two allocation groups, of which only what the sessions look at is there.
 
+use crate::checks::must;
 use crate::text::Row;
 use std::process::Abort;
-use std::test::Fail;
-use xfs_disk::{BLOCK_SIZE, Disk, MemoryDisk};
+use xfs_disk::{BLOCK_SIZE, Disk};
+use xfs_memory::MemoryDisk;
 use xfs_word::{Seal, SealKind, put_part, seal};
 
 /// The superblock, with a label: in each line stand a field, its byte offset and its bytes. Each other field is 0.
@@ -60,31 +61,30 @@ count 60 000001f4
 
 /// The disk of the volume: the superblock with a label, both headers of free space, and in the second group the root of
 /// the tree of free runs, with one run.
-pub fn volume(rt: &(impl Abort + AllocGlobal)) -> Result<MemoryDisk, Fail> {
-    let mut disk = MemoryDisk::make(rt.alloc(), 2048)?;
+pub fn volume(rt: &(impl Abort + AllocGlobal)) -> MemoryDisk {
+    let mut disk = must(rt, MemoryDisk::make(rt.alloc(), 2048));
     let mut block = [0; BLOCK_SIZE];
-    put_fields(rt, &mut block[512..], HEADER)?;
-    put(rt, &mut disk, 1024, &block)?;
-    put_part(&mut block, 0, &superblock(rt)?);
-    put(rt, &mut disk, 0, &block)?;
+    put_fields(rt, &mut block[512..], HEADER);
+    put(rt, &mut disk, 1024, &block);
+    put_part(&mut block, 0, &superblock(rt));
+    put(rt, &mut disk, 0, &block);
     block = [0; BLOCK_SIZE];
-    put_fields(rt, &mut block, ROOT)?;
-    put(rt, &mut disk, 1025, &block)?;
-    Ok(disk)
+    put_fields(rt, &mut block, ROOT);
+    put(rt, &mut disk, 1025, &block);
+    disk
 }
 
 /// Writes a block.
-fn put(rt: &impl Abort, disk: &mut MemoryDisk, at: u64, block: &[u8; 4096]) -> Result<(), Fail> {
-    let size = disk.blocks()?;
+fn put(rt: &impl Abort, disk: &mut MemoryDisk, at: u64, block: &[u8; 4096]) {
+    let size = must(rt, disk.blocks());
     assert!(rt; at < size);
-    disk.write(at, block)?;
-    Ok(())
+    must(rt, disk.write(at, block));
 }
 
 /// The superblock.
-fn superblock(rt: &(impl Abort + AllocGlobal)) -> Result<[u8; 512], Fail> {
+fn superblock(rt: &(impl Abort + AllocGlobal)) -> [u8; 512] {
     let mut sector = [0; 512];
-    put_fields(rt, &mut sector, SUPERBLOCK)?;
+    put_fields(rt, &mut sector, SUPERBLOCK);
     let what = Seal {
         kind: SealKind::Super,
         place: 0,
@@ -92,20 +92,15 @@ fn superblock(rt: &(impl Abort + AllocGlobal)) -> Result<[u8; 512], Fail> {
         uuid: [0; 16],
     };
     seal(&what, &mut sector);
-    Ok(sector)
+    sector
 }
 
 /// Puts bytes into the fields of an object: in each line stand a field, its byte offset and its bytes.
-fn put_fields(
-    rt: &(impl Abort + AllocGlobal),
-    object: &mut [u8],
-    fields: &str,
-) -> Result<(), Fail> {
+fn put_fields(rt: &(impl Abort + AllocGlobal), object: &mut [u8], fields: &str) {
     for line in fields.lines() {
         let mut row = Row::new(line);
         let _name = row.word();
         let at = row.number(rt);
-        row.put(rt, object, at)?;
+        row.put(rt, object, at);
     }
-    Ok(())
 }

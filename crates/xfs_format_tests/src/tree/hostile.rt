@@ -3,15 +3,15 @@
 ghost use Rattle.std.specs.Prelude.{◌≡◌, ◌+◌, ◌*◌, ◌<◌, ◌≤◌, ◌^◌, length};
 
 use super::numbers::Numbers;
-use crate::checks::same;
+use crate::checks::{must, sure};
 use crate::text::{Row, refuse, tells};
-use std::alloc::{AllocError, Global};
+use std::alloc::Global;
 use std::marker::Brand;
 use std::process::Abort;
 use std::sync::ledger::{Blank, Ledger};
-use std::test::Fail;
-use xfs_disk::{Disk, Failed, MemoryDisk, NoMemory};
+use xfs_disk::Disk;
 use xfs_geom::Geometry;
+use xfs_memory::MemoryDisk;
 use xfs_runs::Steps;
 use xfs_tree::{Tree, TreeFault, read_tree};
 use xfs_word::{Seal, SealKind, put_part, put16, put32, put64, seal};
@@ -43,7 +43,7 @@ fn volume() -> Geometry
 
 /// A block of a tree of the first group: its place, its level, how many it holds, its siblings, and at most eight numbers
 /// of four bytes behind the header.
-fn block(rt: &impl Abort, alloc: Global, text: &str) -> Result<[u8; 4096], AllocError> {
+fn block(rt: &impl Abort, alloc: Global, text: &str) -> [u8; 4096] {
     let mut row = Row::new(text);
     let place = 8 * u64::from(row.number::<u32>(rt));
     let mut bytes = [0; 4096];
@@ -54,7 +54,7 @@ fn block(rt: &impl Abort, alloc: Global, text: &str) -> Result<[u8; 4096], Alloc
     put32(&mut bytes, 12, row.optional(rt).unwrap_or(NONE));
     put64(&mut bytes, 16, place);
     put_part(&mut bytes, 32, &IDENTIFIER);
-    let numbers: Vec<u32> = row.numbers(rt, alloc)?;
+    let numbers: Vec<u32> = row.numbers(rt, alloc);
     assert!(rt; numbers.len() <= 8, "{text}");
     for (i, number) in numbers.iter().enumerate() {
         put32(&mut bytes, 56 + 4 * i, *number);
@@ -66,7 +66,7 @@ fn block(rt: &impl Abort, alloc: Global, text: &str) -> Result<[u8; 4096], Alloc
         uuid: IDENTIFIER,
     };
     seal(&what, &mut bytes);
-    Ok(bytes)
+    bytes
 }
 
 /// What the tree of two levels at block 20 reads as, with its steps counted.
@@ -93,25 +93,31 @@ fn read<D: Disk, L: Ledger>(
     )
 }
 
-/// What the tree of these three blocks, at blocks 20 to 22, reads as.
+/// What the tree reads as.
 fn reading(
+    rt: &impl Abort,
     alloc: Global,
-    top: &[u8; 4096],
-    left: &[u8; 4096],
-    right: &[u8; 4096],
+    disk: &mut MemoryDisk,
 ) -> Result<Tree<Numbers>, TreeFault> {
-    let mut disk = match MemoryDisk::make(alloc, 2048) {
-        Ok(disk) => disk,
-        Err(NoMemory) => return Err(TreeFault::NoMemory),
-    };
-    match disk
-        .write(20, top)
-        .and(disk.write(21, left))
-        .and(disk.write(22, right))
-    {
-        Ok(()) => read::<MemoryDisk, Brand>(alloc, &mut disk, Blank::new(1)),
-        Err(Failed) => Err(TreeFault::ReadFault),
-    }
+    assert!(rt; matches!(disk.blocks(), Ok(count) if 2048 <= count));
+    read::<MemoryDisk, Brand>(alloc, disk, Blank::new(1))
+}
+
+/// The disk with these three blocks, at blocks 20 to 22, of which the last may have a wrong byte.
+fn disk_of(rt: &impl Abort, alloc: Global, blocks: [&str; 3], wrong: u8) -> MemoryDisk {
+    let mut disk = must(rt, MemoryDisk::make(alloc, 2048));
+    put(rt, &mut disk, 20, &block(rt, alloc, blocks[0]));
+    put(rt, &mut disk, 21, &block(rt, alloc, blocks[1]));
+    let mut right = block(rt, alloc, blocks[2]);
+    right[4000] = wrong;
+    put(rt, &mut disk, 22, &right);
+    disk
+}
+
+/// Writes a block.
+fn put(rt: &impl Abort, disk: &mut MemoryDisk, place: u64, block: &[u8; 4096]) {
+    assert!(rt; matches!(disk.blocks(), Ok(count) if place < count));
+    must(rt, disk.write(place, block));
 }
 
 /// The root and its two leaves, and the block and the rule that is broken.
@@ -135,41 +141,46 @@ sibling right of all | 20 1 2 - - 10 30 21 22 | 21 0 2 - 22 10 20 | 22 0 1 21 21
 ";
 
 #[test]
-fn hostile(rt: HostRuntime) -> Result<(), Fail> {
+fn hostile(rt: HostRuntime) {
     for line in BROKEN.lines() {
-        let mut row = Row::new(line);
-        let what = row.text();
-        let top = block(&rt, rt.alloc(), row.text())?;
-        let left = block(&rt, rt.alloc(), row.text())?;
-        let mut right = block(&rt, rt.alloc(), row.text())?;
-        if what == "checksum" {
-            right[4000] = 1;
-        }
-        match reading(rt.alloc(), &top, &left, &right) {
-            Err(TreeFault::Unread(fault)) => tells(&rt, &fault, row.text(), what),
-            _ => refuse(&rt, "this is not found", what),
-        }
+        try_broken(&rt, line);
     }
-    Ok(())
 }
 
+fn try_broken(rt: &(impl Abort + AllocGlobal), line: &str) {
+    let mut row = Row::new(line);
+    let what = row.text();
+    let blocks = [row.text(), row.text(), row.text()];
+    let wrong = (what == "checksum") as u8;
+    let mut disk = disk_of(rt, rt.alloc(), blocks, wrong);
+    match reading(rt, rt.alloc(), &mut disk) {
+        Err(TreeFault::Unread(fault)) => tells(rt, &fault, row.text(), what),
+        _ => refuse(rt, "this is not found", what),
+    }
+}
+
+/// A tree that is whole.
+const WHOLE: [&str; 3] = [
+    "20 1 2 - - 10 30 21 22",
+    "21 0 2 - 22 10 20",
+    "22 0 1 21 - 30",
+];
+
 #[test]
-fn each_block_is_read_once(rt: HostRuntime) -> Result<(), Fail> {
-    let mut disk = MemoryDisk::make(rt.alloc(), 2048)?;
-    disk.write(20, &block(&rt, rt.alloc(), "20 1 2 - - 10 30 21 22")?)?;
-    disk.write(21, &block(&rt, rt.alloc(), "21 0 2 - 22 10 20")?)?;
-    disk.write(22, &block(&rt, rt.alloc(), "22 0 1 21 - 30")?)?;
-    disk.fail(4)?;
-    match read::<MemoryDisk, Brand>(rt.alloc(), &mut disk, Blank::new(1)) {
+fn each_block_is_read_once(rt: HostRuntime) {
+    let mut disk = disk_of(&rt, rt.alloc(), WHOLE, 0);
+    must(&rt, disk.fail(4));
+    match reading(&rt, rt.alloc(), &mut disk) {
         Ok(tree) => {
-            same!(rt; tree.records.as_slice(), [10, 20, 30].as_slice());
-            same!(rt; tree.blocks.as_slice(), [20, 21, 22].as_slice());
+            tells(&rt, &tree.records.as_slice(), "[10, 20, 30]", "records");
+            tells(&rt, &tree.blocks.as_slice(), "[20, 21, 22]", "blocks");
         }
-        Err(_) => assert!(rt; false),
+        Err(_) => refuse(&rt, "the tree is not read", ""),
     }
-    match read::<MemoryDisk, Brand>(rt.alloc(), &mut disk, Blank::new(1)) {
-        Err(fault) => same!(rt; fault, TreeFault::ReadFault),
-        Ok(_) => assert!(rt; false),
-    }
-    Ok(())
+    let failed = reading(&rt, rt.alloc(), &mut disk);
+    sure(
+        &rt,
+        matches!(failed, Err(TreeFault::ReadFault)),
+        "the fourth read fails",
+    );
 }

@@ -3,17 +3,15 @@
 ghost use Rattle.std.specs.Prelude.{◌≡◌, ◌<◌};
 
 use super::sound::is_sound;
-use crate::checks::{same, sure};
-use crate::items::{Item, records};
-use crate::text::Row;
-use std::alloc::{AllocError, Global};
+use crate::checks::{must, sure};
+use crate::items::{Item, records, tells_numbers};
+use crate::text::{Row, refuse};
+use std::alloc::Global;
 use std::marker::Brand;
 use std::process::Abort;
 use std::sync::ledger::{Blank, Ledger};
-use std::test::Fail;
 use std::thread::Threads;
 use xfs_claims::{Claims, FileClaim, KeptClaims, keep};
-use xfs_disk::NoMemory;
 use xfs_geom::Run;
 use xfs_runs::Steps;
 use xfs_volume::{ClusterRec, Records};
@@ -46,47 +44,50 @@ The greatest numbers, and a file whose cluster is none of these | 0x7fffffffffff
 
 /// A run that no one owns.
 impl Item for Run {
-    fn read(rt: &impl Abort, _alloc: Global, row: &mut Row) -> Result<Self, AllocError> {
-        Ok(Run {
+    fn read(rt: &impl Abort, _alloc: Global, row: &mut Row) -> Self {
+        Run {
             start: row.number(rt),
             count: row.number(rt),
             owner: 0,
             offset_word: 0,
-        })
+        }
     }
 }
 
 impl Item for ClusterRec {
-    fn read(rt: &impl Abort, _alloc: Global, row: &mut Row) -> Result<Self, AllocError> {
-        Ok(ClusterRec {
+    fn read(rt: &impl Abort, _alloc: Global, row: &mut Row) -> Self {
+        ClusterRec {
             block: row.number(rt),
             recorded: row.flag(rt),
-        })
+        }
     }
 }
 
 /// The files of a row, with semicolons between them.
-fn files_of(rt: &impl Abort, alloc: Global, text: &str) -> Result<Records<FileClaim>, AllocError> {
+fn files_of(rt: &impl Abort, alloc: Global, text: &str) -> Records<FileClaim> {
     let mut files = Vec::new(alloc);
     for file in text.split_terminator(';') {
         let (numbers, runs) = file.split_once(',').unwrap_or((file, ""));
         let mut numbers = Row::new(numbers);
-        files.push(FileClaim {
-            ino: numbers.number(rt),
-            cluster: numbers.number(rt),
-            runs: records(rt, alloc, runs)?,
-        })?;
+        must(
+            rt,
+            files.push(FileClaim {
+                ino: numbers.number(rt),
+                cluster: numbers.number(rt),
+                runs: records(rt, alloc, runs),
+            }),
+        );
     }
-    Ok(Records::from_vec(files))
+    Records::from_vec(files)
 }
 
-fn claims_of(rt: &impl Abort, alloc: Global, row: &mut Row) -> Result<Claims, AllocError> {
-    Ok(Claims {
+fn claims_of(rt: &impl Abort, alloc: Global, row: &mut Row) -> Claims {
+    Claims {
         root: 16,
-        fixed: records(rt, alloc, row.text())?,
-        clusters: records(rt, alloc, row.text())?,
-        files: files_of(rt, alloc, row.text())?,
-    })
+        fixed: records(rt, alloc, row.text()),
+        clusters: records(rt, alloc, row.text()),
+        files: files_of(rt, alloc, row.text()),
+    }
 }
 
 /// What is kept of claims, which are sound.
@@ -96,18 +97,12 @@ pub(super) fn decide<R: Threads + Sync + Abort, L: Ledger>(
     claims: &Claims,
     steps: &mut Steps<L>,
     case: &str,
-) -> Result<KeptClaims, NoMemory> {
-    sure(rt, is_sound(alloc, claims)?, case);
-    keep(rt, alloc, claims, steps)
-}
-
-/// Fails where these are not the numbers that a row tells next.
-pub(super) fn tells_numbers(rt: &impl Abort, held: &[u64], row: &mut Row, case: &str) {
-    let mut due = Row::new(row.text());
-    for number in held {
-        same!(rt; *number, due.number(rt); case);
-    }
-    sure(rt, due.is_read(), case);
+) -> KeptClaims {
+    let Ok(sound) = is_sound(alloc, claims) else {
+        refuse(rt, "memory is wanting", case);
+    };
+    sure(rt, sound, case);
+    must(rt, keep(rt, alloc, claims, steps))
 }
 
 fn try_case<R: Threads + Sync + Abort, L: Ledger>(
@@ -115,34 +110,28 @@ fn try_case<R: Threads + Sync + Abort, L: Ledger>(
     alloc: Global,
     line: &str,
     steps: &mut Steps<L>,
-) -> Result<(), NoMemory> {
+) {
     let mut row = Row::new(line);
     let case = row.text();
-    let claims = claims_of(rt, alloc, &mut row)?;
-    let kept = decide(rt, alloc, &claims, steps, case)?;
+    let claims = claims_of(rt, alloc, &mut row);
+    let kept = decide(rt, alloc, &claims, steps, case);
     tells_numbers(rt, kept.clusters.as_slice(), &mut row, case);
     tells_numbers(rt, kept.files.as_slice(), &mut row, case);
-    Ok(())
+    drop((kept, claims));
 }
 
-fn try_cases<R: Threads + Sync + Abort, L: Ledger>(
-    rt: &R,
-    alloc: Global,
-    blank: Blank,
-) -> Result<(), NoMemory>
+fn try_cases<R: Threads + Sync + Abort, L: Ledger>(rt: &R, alloc: Global, blank: Blank)
     requires name { blank.name ≡ L.name }
     requires parts { blank.parts ≡ L.parts }
     requires some { 0 < blank.parts }
 {
     let mut steps = Steps::<L>::from_blank(blank);
     for line in CASES.lines() {
-        try_case(rt, alloc, line, &mut steps)?;
+        try_case(rt, alloc, line, &mut steps);
     }
-    Ok(())
 }
 
 #[test]
-fn small_cases(rt: HostRuntime) -> Result<(), Fail> {
-    try_cases::<HostRuntime, Brand>(&rt, rt.alloc(), Blank::new(1))?;
-    Ok(())
+fn small_cases(rt: HostRuntime) {
+    try_cases::<HostRuntime, Brand>(&rt, rt.alloc(), Blank::new(1));
 }

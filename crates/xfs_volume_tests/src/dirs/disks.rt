@@ -3,8 +3,11 @@
 ghost use Rattle.std.specs.Prelude.{None};
 ghost use Rattle.std.proofs.Common.{rules};
 
+use crate::checks::must;
 use std::alloc::Global;
-use xfs_disk::{Disk, Failed, MemoryDisk, NoMemory};
+use std::process::Abort;
+use xfs_disk::{Disk, Failed};
+use xfs_memory::MemoryDisk;
 
 /// A disk of 2048 blocks.
 #[derive(Drop)]
@@ -14,15 +17,15 @@ pub struct Untold {
 
 impl Untold {
     /// A disk of zeros.
-    pub fn make(alloc: Global) -> Result<Untold, NoMemory> {
-        Ok(Untold {
-            disk: MemoryDisk::make(alloc, 2048)?,
-        })
+    pub fn make(rt: &impl Abort, alloc: Global) -> Untold {
+        Untold {
+            disk: must(rt, MemoryDisk::make(alloc, 2048)),
+        }
     }
 }
 
 impl Disk for Untold {
-    ghost use Rattle.xfs_disk.specs.MemoryDisk.{size_of, faults_of, write_faults_of, reads_of, writes_of};
+    ghost use Rattle.xfs_memory.specs.MemoryDisk.{size_of, faults_of, write_faults_of, reads_of, writes_of};
 
     ghost size = { λ untold. size_of untold.disk };
 

@@ -3,12 +3,11 @@
 ghost use Rattle.xfs_names.specs.Built.{CanBeBuilt};
 
 use super::wanted::wanted_of;
-use crate::checks::{same, sure};
+use crate::checks::{must, same, sure};
 use crate::items::{Item, items};
-use crate::text::{Row, parts_of};
-use std::alloc::{AllocError, Global};
+use crate::text::{Row, parts_of, refuse};
+use std::alloc::Global;
 use std::process::Abort;
-use std::test::Fail;
 use xfs_disk::NoMemory;
 use xfs_names::{BuiltDirectory, ForkRoom, WantedNames, build_all};
 use xfs_volume::Records;
@@ -25,23 +24,22 @@ a cycle of two | 128 4, 150 4, 151 4 | 150 151 2 x, 151 150 2 y | 128 128 true, 
 ";
 
 #[test]
-fn built_directories(rt: HostRuntime) -> Result<(), Fail> {
+fn built_directories(rt: HostRuntime) {
     for line in BUILT.lines() {
-        try_building(&rt, line)?;
+        try_building(&rt, line);
     }
-    Ok(())
 }
 
-fn try_building(rt: &(impl Abort + AllocGlobal), line: &str) -> Result<(), NoMemory> {
+fn try_building(rt: &(impl Abort + AllocGlobal), line: &str) {
     let mut row = Row::new(line);
     let case = row.text();
-    let wanted = wanted_of(rt, &mut row, case)?;
-    let rooms = items::<ForkRoom>(rt, rt.alloc(), row.text())?;
-    let built = build_in_order(rt.alloc(), &wanted, rooms)?;
+    let wanted = wanted_of(rt, &mut row, case);
+    let rooms = items::<ForkRoom>(rt, rt.alloc(), row.text());
+    let built = must(rt, build_in_order(rt.alloc(), &wanted, rooms));
     tells_blocks(rt, built.as_slice(), row.text(), case);
-    tells_shorts(rt, built.as_slice(), row.text(), case)?;
-    tells_bytes(rt, built.as_slice(), row.text(), case)?;
-    Ok(())
+    tells_shorts(rt, built.as_slice(), row.text(), case);
+    tells_bytes(rt, built.as_slice(), row.text(), case);
+    drop((built, wanted));
 }
 
 /// What is built, with the rooms in the order of their directories.
@@ -59,11 +57,11 @@ fn build_in_order(
 
 /// The room of a fork: the directory, and how many bytes.
 impl Item for ForkRoom {
-    fn read(rt: &impl Abort, _alloc: Global, row: &mut Row) -> Result<Self, AllocError> {
-        Ok(ForkRoom {
+    fn read(rt: &impl Abort, _alloc: Global, row: &mut Row) -> Self {
+        ForkRoom {
             ino: row.number(rt),
             bytes: row.number(rt),
-        })
+        }
     }
 }
 
@@ -84,12 +82,7 @@ fn tells_counts(rt: &impl Abort, directory: &BuiltDirectory, mut due: Row, case:
 }
 
 /// Fails where these are not the short forms of those that have one.
-fn tells_shorts(
-    rt: &(impl Abort + AllocGlobal),
-    built: &[BuiltDirectory],
-    due: &str,
-    case: &str,
-) -> Result<(), AllocError> {
+fn tells_shorts(rt: &(impl Abort + AllocGlobal), built: &[BuiltDirectory], due: &str, case: &str) {
     let rows = parts_of(rt, due);
     let mut at: usize = 0;
     for directory in built {
@@ -97,7 +90,7 @@ fn tells_shorts(
             continue;
         }
         let mut row = row_at(rt, &rows, at, case);
-        let bytes = row.bytes(rt, rt.alloc())?;
+        let bytes = row.bytes(rt, rt.alloc());
         sure(
             rt,
             directory.image.short.as_slice() == bytes.as_slice(),
@@ -106,7 +99,6 @@ fn tells_shorts(
         at = at.saturating_add(1);
     }
     same!(rt; at, rows.len(); case);
-    Ok(())
 }
 
 fn row_at<'a>(rt: &impl Abort, rows: &[Row<'a>], at: usize, case: &str) -> Row<'a> {
@@ -117,32 +109,20 @@ fn row_at<'a>(rt: &impl Abort, rows: &[Row<'a>], at: usize, case: &str) -> Row<'
 }
 
 /// Fails where the first block of one that has blocks does not hold these bytes.
-fn tells_bytes(
-    rt: &(impl Abort + AllocGlobal),
-    built: &[BuiltDirectory],
-    due: &str,
-    case: &str,
-) -> Result<(), AllocError> {
+fn tells_bytes(rt: &(impl Abort + AllocGlobal), built: &[BuiltDirectory], due: &str, case: &str) {
     for directory in built {
         let blocks = &directory.image.blocks;
         if blocks.len() > 0 {
             for part in parts_of(rt, due).iter() {
-                tells_part(rt, blocks.view(0), *part, case)?;
+                tells_part(rt, blocks.view(0), *part, case);
             }
         }
     }
-    Ok(())
 }
 
-fn tells_part(
-    rt: &(impl Abort + AllocGlobal),
-    block: &[u8],
-    mut part: Row,
-    case: &str,
-) -> Result<(), AllocError> {
+fn tells_part(rt: &(impl Abort + AllocGlobal), block: &[u8], mut part: Row, case: &str) {
     let at: usize = part.number(rt);
-    let bytes = part.bytes(rt, rt.alloc())?;
+    let bytes = part.bytes(rt, rt.alloc());
     let held = block.get(at..).and_then(|rest| rest.get(..bytes.len()));
     sure(rt, held == Some(bytes.as_slice()), case);
-    Ok(())
 }

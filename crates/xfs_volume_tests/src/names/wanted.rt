@@ -11,7 +11,7 @@ use super::ordered::{are_ordered, is_free};
 use crate::checks::sure;
 use crate::items::items;
 use crate::links::listed::are_listed;
-use crate::text::{Row, tells};
+use crate::text::{Row, refuse, tells};
 use std::alloc::Global;
 use std::process::Abort;
 use xfs_dirdata::EntryRec;
@@ -28,18 +28,17 @@ const LIMIT: u64 = 1 << 32;
 
 /// The names that are wanted. Reads the files, the entries and what was found of the directories, the clusters, where lost+found
 /// is placed, at which it fails where that is not so, and the number of a new one.
-pub fn wanted_of(
-    rt: &(impl Abort + AllocGlobal),
-    row: &mut Row,
-    case: &str,
-) -> Result<WantedNames, NoMemory>
-    ensures { IfOk result (λ wanted. CanBeBuilt wanted) }
+pub fn wanted_of(rt: &(impl Abort + AllocGlobal), row: &mut Row, case: &str) -> WantedNames
+    ensures { CanBeBuilt result }
 {
-    let nodes = items::<NodeRec>(rt, rt.alloc(), row.text())?;
-    let listed = items::<EntryRec>(rt, rt.alloc(), row.text())?;
-    let dirs = items::<DirRec>(rt, rt.alloc(), row.text())?;
-    let clusters: Vec<u64> = Row::new(row.text()).numbers(rt, rt.alloc())?;
-    wanted_names(rt, rt.alloc(), row, &nodes, &listed, &dirs, &clusters, case)
+    let nodes = items::<NodeRec>(rt, rt.alloc(), row.text());
+    let listed = items::<EntryRec>(rt, rt.alloc(), row.text());
+    let dirs = items::<DirRec>(rt, rt.alloc(), row.text());
+    let clusters: Vec<u64> = Row::new(row.text()).numbers(rt, rt.alloc());
+    match wanted_names(rt, rt.alloc(), row, &nodes, &listed, &dirs, &clusters, case) {
+        Ok(wanted) => wanted,
+        Err(_) => refuse(rt, "memory is wanting", case),
+    }
 }
 
 fn wanted_names(

@@ -2,11 +2,11 @@
 
 ghost use Rattle.std.specs.Prelude.{◌≤◌};
 
-use super::groups::{SMALLEST, SparedBlocks, place_sparing, root_chunk, shaped};
-use super::objects::object;
-use super::pieces::{all_but, runs_of};
+use super::groups::{SMALLEST, SparedBlocks, are_next, shaped, spare_small};
+use super::objects::one_object;
+use super::pieces::{reserved_of, tells_runs};
 use super::*;
-use crate::checks::same;
+use crate::checks::{must, same};
 use crate::text::{Row, refuse, tells};
 use std::process::Abort;
 
@@ -19,12 +19,12 @@ fn spare_in_repair(rt: &impl Abort, alloc: Global, reserved: &[u64], line: &str)
 }
 
 /// The blocks of all trees of a group.
-fn blocks_of(alloc: Global, group: &GroupPlaced) -> Result<Vec<u64>, AllocError> {
+fn blocks_of(rt: &impl Abort, alloc: Global, group: &GroupPlaced) -> Vec<u64> {
     let mut blocks = Vec::new(alloc);
     for tree in group.trees.as_slice() {
-        blocks.extend_from_slice(tree.blocks.as_slice())?;
+        must(rt, blocks.extend_from_slice(tree.blocks.as_slice()));
     }
-    Ok(blocks)
+    blocks
 }
 
 /// Fails where the groups do not have what is left of a line: of each the blocks of its trees, and those of its free list.
@@ -33,14 +33,12 @@ pub fn stand_behind(
     placed: &Placed,
     row: &mut Row<'_>,
     line: &str,
-) -> Result<(), Fail> {
-    let alloc = rt.alloc();
+) {
     for group in placed.groups.as_slice() {
-        same!(*rt; blocks_of(alloc, group)?.as_slice(), row.numbers::<u64>(rt, alloc)?.as_slice(); line);
-        same!(*rt; group.agfl.as_slice(), row.numbers::<u32>(rt, alloc)?.as_slice(); line);
+        are_next::<u64>(rt, &blocks_of(rt, rt.alloc(), group), row, line);
+        are_next::<u32>(rt, group.agfl.as_slice(), row, line);
     }
     same!(*rt; row.is_read(), true; line);
-    Ok(())
 }
 
 /// The rows of blocks (start and blocks) that are all of the pool, from which AG block on those of each group are spared, the runs of three
@@ -52,21 +50,21 @@ const AGED: &str = "\
 ";
 
 #[test]
-fn directory_placed_anew(rt: HostRuntime) -> Result<(), Fail> {
-    let alloc = rt.alloc();
+fn directory_placed_anew(rt: HostRuntime) {
     for line in AGED.lines() {
-        let mut row = Row::new(line);
-        let rows = row.numbers::<u64>(&rt, alloc)?;
-        let reserved = all_but(alloc, &rows, SMALLEST.dblocks)?;
-        let from = spare_in_repair(&rt, alloc, &reserved, line);
-        tells(&rt, &from.as_slice(), row.text(), line);
-        let directory = object(alloc, 131, ObjectKind::Directory, &[3, 1], 21)?;
-        let objects = vec![in alloc; directory]?;
-        let spared = SparedBlocks { from, takes: true };
-        let placed = place_sparing(alloc, &SMALLEST, root_chunk(), reserved, objects, 1, spared)?;
-        tells(&rt, &runs_of(alloc, &placed)?.as_slice(), row.text(), line);
-        tells(&rt, &placed.cuts.as_slice(), row.text(), line);
-        stand_behind(&rt, &placed, &mut row, line)?;
+        try_aged(&rt, line);
     }
-    Ok(())
+}
+
+fn try_aged(rt: &(impl Abort + AllocGlobal), line: &str) {
+    let mut row = Row::new(line);
+    let reserved = reserved_of(rt, &mut row);
+    let from = spare_in_repair(rt, rt.alloc(), &reserved, line);
+    tells(rt, &from.as_slice(), row.text(), line);
+    let objects = one_object(rt, rt.alloc(), 131, ObjectKind::Directory, &[3, 1], 21);
+    let spared = SparedBlocks { from, takes: true };
+    let placed = must(rt, spare_small(rt.alloc(), reserved, objects, 1, spared));
+    tells_runs(rt, &placed, &mut row, line);
+    stand_behind(rt, &placed, &mut row, line);
+    drop(placed);
 }

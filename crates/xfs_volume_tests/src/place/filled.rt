@@ -7,9 +7,9 @@ ghost use Rattle.xfs_place.specs.Pool.{IsRunOf};
 use super::aged::stand_behind;
 use super::groups::{Size, SparedBlocks, place_sparing, root_chunk, shaped};
 use super::objects::object;
-use super::pieces::runs_of;
+use super::pieces::tells_placed;
 use super::*;
-use crate::checks::same;
+use crate::checks::{must, same};
 use crate::text::{Row, refuse, tells};
 use std::process::Abort;
 
@@ -64,33 +64,45 @@ const LARGE: &str = "\
 ";
 
 #[test]
-fn files_larger_than_a_group(rt: HostRuntime) -> Result<(), Fail> {
-    let alloc = rt.alloc();
+fn files_larger_than_a_group(rt: HostRuntime) {
     for line in LARGE.lines() {
-        let mut row = Row::new(line);
-        let objects = files_of(alloc, &row.numbers::<u32>(&rt, alloc)?)?;
-        let spared = spare_anew(&rt, alloc, root_chunk());
-        tells(&rt, &spared.from.as_slice(), "[1997, 1997]", line);
-        match place_sparing(
-            alloc,
-            &NEW,
-            root_chunk(),
-            Vec::new(alloc),
-            objects,
-            24,
-            spared,
-        ) {
-            Ok(placed) => {
-                tells(&rt, &runs_of(alloc, &placed)?.as_slice(), row.text(), line);
-                tells(&rt, &placed.cuts.as_slice(), row.text(), line);
-                same!(rt; placed.counts.fdblocks, row.number::<u64>(&rt); line);
-                stand_behind(&rt, &placed, &mut row, line)?;
-            }
-            Err(PlaceFault::NoRoom(what)) => tells(&rt, &what, row.text(), line),
-            Err(PlaceFault::NoMemory) => refuse(&rt, "memory is wanting", line),
-        }
+        try_large(&rt, line);
     }
-    Ok(())
+}
+
+fn try_large(rt: &(impl Abort + AllocGlobal), line: &str) {
+    let mut row = Row::new(line);
+    let lengths = row.numbers::<u32>(rt, rt.alloc());
+    let spared = spare_anew(rt, rt.alloc(), root_chunk());
+    tells(rt, &spared.from.as_slice(), "[1997, 1997]", line);
+    let placed = place_files(rt, rt.alloc(), &lengths, spared);
+    tells_placed(rt, &placed, &mut row, line);
+    if let Ok(placed) = &placed {
+        same!(*rt; placed.counts.fdblocks, row.number::<u64>(rt); line);
+        stand_behind(rt, placed, &mut row, line);
+    }
+    drop(placed);
+}
+
+/// Places files of so many blocks each behind the root's chunk.
+fn place_files(
+    rt: &impl Abort,
+    alloc: Global,
+    lengths: &[u32],
+    spared: SparedBlocks,
+) -> Result<Placed, PlaceFault> {
+    let Ok(objects) = files_of(alloc, lengths) else {
+        refuse(rt, "memory is wanting", "files");
+    };
+    place_sparing(
+        alloc,
+        &NEW,
+        root_chunk(),
+        Vec::new(alloc),
+        objects,
+        24,
+        spared,
+    )
 }
 
 /// Thirty chunks of inodes.
@@ -106,12 +118,12 @@ fn thirty_chunks() -> Run
 }
 
 /// The runs of a directory with 1,900 names, and then so many files of one block.
-fn many_files(alloc: Global) -> Result<Vec<u32>, AllocError> {
-    let mut lengths = vec![in alloc; 12, 5, 1]?;
+fn many_files(rt: &impl Abort, alloc: Global) -> Vec<u32> {
+    let mut lengths = must(rt, vec![in alloc; 12, 5, 1]);
     for _file in 0..1900 {
-        lengths.push(1)?;
+        must(rt, lengths.push(1));
     }
-    Ok(lengths)
+    lengths
 }
 
 /// The numbers of some runs, and their first blocks.
@@ -131,21 +143,28 @@ const TREES: &str = "\
 ";
 
 #[test]
-fn many_files_beside_spared_blocks(rt: HostRuntime) -> Result<(), Fail> {
+fn many_files_beside_spared_blocks(rt: HostRuntime) {
     let alloc = rt.alloc();
-    let objects = files_of(alloc, &many_files(alloc)?)?;
+    let lengths = many_files(&rt, alloc);
     let chunks = thirty_chunks();
     let spared = spare_anew(&rt, alloc, chunks);
-    let placed = place_sparing(alloc, &NEW, chunks, Vec::new(alloc), objects, 256, spared)?;
-    same!(rt; placed.runs.as_slice().len(), 1903);
+    let Ok(objects) = files_of(alloc, &lengths) else {
+        refuse(&rt, "memory is wanting", "files");
+    };
+    let placed = place_sparing(alloc, &NEW, chunks, Vec::new(alloc), objects, 256, spared);
+    tells_many(&rt, &must(&rt, placed));
+}
+
+/// Fails where the many files do not stand as they are due.
+fn tells_many(rt: &(impl Abort + AllocGlobal), placed: &Placed) {
+    same!(*rt; placed.runs.as_slice().len(), 1903);
     for line in STARTS.lines() {
         let mut row = Row::new(line);
-        let run = placed.runs.as_slice().get(row.number::<usize>(&rt));
-        same!(rt; run.map(|run| run.start), Some(row.number::<u64>(&rt)); line);
+        let run = placed.runs.as_slice().get(row.number::<usize>(rt));
+        same!(*rt; run.map(|run| run.start), Some(row.number::<u64>(rt)); line);
     }
-    same!(rt; placed.counts.fdblocks, 1414);
+    same!(*rt; placed.counts.fdblocks, 1414);
     for line in TREES.lines() {
-        stand_behind(&rt, &placed, &mut Row::new(line), line)?;
+        stand_behind(rt, placed, &mut Row::new(line), line);
     }
-    Ok(())
 }

@@ -5,8 +5,9 @@ ghost use Rattle.xfs_geom.specs.Shape.{IsShaped};
 ghost use Rattle.xfs_place.specs.Objects.{IsAsk};
 
 use super::*;
-use crate::checks::same;
+use crate::checks::{must, same, sure};
 use crate::text::{Row, tells};
+use std::fmt::Debug;
 use std::process::Abort;
 use xfs_geom::{Counts, InoRec, RmapRec, Span};
 
@@ -74,6 +75,39 @@ pub fn place_beside(
         takes: false,
     };
     place_sparing(alloc, size, run, reserved, objects, from, spared)
+}
+
+/// The same in the smallest volume with the root's chunk.
+pub fn place_small(
+    alloc: Global,
+    reserved: Vec<u64>,
+    objects: Vec<Object>,
+    from: u32,
+) -> Result<Placed, PlaceFault>
+    requires asks { All (λ object. All IsAsk object.runs) objects.items }
+{
+    place_beside(alloc, &SMALLEST, root_chunk(), reserved, objects, from)
+}
+
+/// The same where blocks are spared.
+pub fn spare_small(
+    alloc: Global,
+    reserved: Vec<u64>,
+    objects: Vec<Object>,
+    from: u32,
+    spared: SparedBlocks,
+) -> Result<Placed, PlaceFault>
+    requires asks { All (λ object. All IsAsk object.runs) objects.items }
+{
+    place_sparing(
+        alloc,
+        &SMALLEST,
+        root_chunk(),
+        reserved,
+        objects,
+        from,
+        spared,
+    )
 }
 
 /// Of each group the AG block from which on its blocks are spared, and whether objects may take these.
@@ -158,64 +192,78 @@ pub fn root_chunk() -> Run
 /// Fails where the groups do not hold what the lines of a table say, each with a group's number, the blocks of its trees, of one block each,
 /// how many chunks have a free inode, the free list, the free runs (start and blocks), and the owners' runs (start, blocks and owner, which is
 /// of the sixteen digits fd for the file system, fc for the log, fb for the group, fa for the trees of inodes and f9 for inodes at the end).
-fn hold(rt: &(impl Abort + AllocGlobal), placed: &Placed, table: &str) -> Result<(), Fail> {
+fn hold(rt: &(impl Abort + AllocGlobal), placed: &Placed, table: &str) {
     for line in table.lines() {
         let mut row = Row::new(line);
         let ag = row.number::<usize>(rt);
         let groups = placed.groups.as_slice();
         assert!(rt; ag < groups.len());
-        holds(rt, &groups[ag], &mut row, line)?;
+        holds(rt, &groups[ag], &mut row, line);
     }
-    Ok(())
 }
 
 /// Fails where a group does not hold what the rest of a line says.
-fn holds(
+fn holds(rt: &(impl Abort + AllocGlobal), group: &GroupPlaced, row: &mut Row<'_>, line: &str) {
+    let alloc = rt.alloc();
+    hold_trees(rt, group, &row.numbers::<u64>(rt, alloc), line);
+    same!(*rt; group.fino.as_slice().len(), row.number::<usize>(rt); line);
+    are_next::<u32>(rt, group.agfl.as_slice(), row, line);
+    let mut free = *row;
+    are_next::<u64>(
+        rt,
+        &numbers_of(rt, alloc, group.bno.as_slice()),
+        &mut free,
+        line,
+    );
+    are_next::<u64>(rt, &numbers_of(rt, alloc, group.cnt.as_slice()), row, line);
+    are_next::<u64>(rt, &owners_of(rt, alloc, group.rmap.as_slice()), row, line);
+}
+
+/// Fails where these are not the numbers that stand next in a line.
+pub fn are_next<T: TryFrom<u64> + PartialEq + Debug + Drop>(
     rt: &(impl Abort + AllocGlobal),
-    group: &GroupPlaced,
+    held: &[T],
     row: &mut Row<'_>,
     line: &str,
-) -> Result<(), Fail> {
-    let alloc = rt.alloc();
+)
+where
+    T::Error: Drop,
+{
+    same!(*rt; held, row.numbers::<T>(rt, rt.alloc()).as_slice(); line);
+}
+
+/// Fails where the five trees of a group do not have one block each, and these.
+fn hold_trees(rt: &impl Abort, group: &GroupPlaced, blocks: &[u64], line: &str) {
     let trees = group.trees.as_slice();
-    let blocks = row.numbers::<u64>(rt, alloc)?;
     same!(*rt; trees.len(), 5; line);
     same!(*rt; blocks.len(), 5; line);
-    for (tree, block) in trees.iter().zip(&blocks) {
+    for (tree, block) in trees.iter().zip(blocks) {
         same!(*rt; tree.blocks.as_slice(), [*block].as_slice(); line);
     }
-    same!(*rt; group.fino.as_slice().len(), row.number::<usize>(rt); line);
-    same!(*rt; group.agfl.as_slice(), row.numbers::<u32>(rt, alloc)?.as_slice(); line);
-    let free = row.numbers::<u64>(rt, alloc)?;
-    same!(*rt; numbers_of(alloc, group.bno.as_slice())?.as_slice(), free.as_slice(); line);
-    same!(*rt; numbers_of(alloc, group.cnt.as_slice())?.as_slice(), free.as_slice(); line);
-    let owners = owners_of(alloc, group.rmap.as_slice())?;
-    same!(*rt; owners.as_slice(), row.numbers::<u64>(rt, alloc)?.as_slice(); line);
-    Ok(())
 }
 
 /// The starts and blocks of free runs.
-fn numbers_of(alloc: Global, spans: &[Span]) -> Result<Vec<u64>, AllocError> {
+fn numbers_of(rt: &impl Abort, alloc: Global, spans: &[Span]) -> Vec<u64> {
     let mut numbers = Vec::new(alloc);
     for span in spans {
-        numbers.push(span.start as u64)?;
-        numbers.push(span.count as u64)?;
+        must(rt, numbers.push(span.start as u64));
+        must(rt, numbers.push(span.count as u64));
     }
-    Ok(numbers)
+    numbers
 }
 
 /// The starts, blocks and owners of runs, and the offsets of those that have one.
-fn owners_of(alloc: Global, runs: &[RmapRec]) -> Result<Vec<u64>, AllocError> {
+fn owners_of(rt: &impl Abort, alloc: Global, runs: &[RmapRec]) -> Vec<u64> {
     let mut numbers = Vec::new(alloc);
     for run in runs {
-        numbers.push(run.start as u64)?;
-        numbers.push(run.count as u64)?;
-        numbers.push(run.owner)?;
+        must(rt, numbers.push(run.start as u64));
+        must(rt, numbers.push(run.count as u64));
+        must(rt, numbers.push(run.owner));
         if run.offset_word != 0 {
-            numbers.push(run.offset_word)?;
+            must(rt, numbers.push(run.offset_word));
         }
     }
-    Ok(numbers)
+    numbers
 }
 
 /// The groups of a new volume.
@@ -225,10 +273,10 @@ const NEW: &str = "\
 ";
 
 #[test]
-fn new_volume(rt: HostRuntime) -> Result<(), Fail> {
+fn new_volume(rt: HostRuntime) {
     let alloc = rt.alloc();
     let none = Vec::new(alloc);
-    let placed = place_beside(alloc, &SMALLEST, root_chunk(), none, Vec::new(alloc), 1)?;
+    let placed = must(&rt, place_small(alloc, none, Vec::new(alloc), 1));
     let counts = Counts {
         icount: 64,
         ifree: 61,
@@ -236,7 +284,8 @@ fn new_volume(rt: HostRuntime) -> Result<(), Fail> {
     };
     same!(rt; placed.counts, counts);
     same!(rt; placed.groups.as_slice().len(), 2);
-    hold(&rt, &placed, NEW)
+    hold(&rt, &placed, NEW);
+    drop(placed);
 }
 
 /// The groups where blocks 3 and 5 of each are reserved.
@@ -246,12 +295,13 @@ const BESIDE_RESERVED: &str = "\
 ";
 
 #[test]
-fn trees_beside_reserved_blocks(rt: HostRuntime) -> Result<(), Fail> {
+fn trees_beside_reserved_blocks(rt: HostRuntime) {
     let alloc = rt.alloc();
-    let reserved = vec![in alloc; 3, 5, 1027, 1029]?;
-    let placed = place_beside(alloc, &SMALLEST, root_chunk(), reserved, Vec::new(alloc), 1)?;
+    let reserved = must(&rt, vec![in alloc; 3, 5, 1027, 1029]);
+    let placed = must(&rt, place_small(alloc, reserved, Vec::new(alloc), 1));
     same!(rt; placed.groups.as_slice().len(), 2);
-    hold(&rt, &placed, BESIDE_RESERVED)
+    hold(&rt, &placed, BESIDE_RESERVED);
+    drop(placed);
 }
 
 /// A last group of 64 blocks.
@@ -281,16 +331,24 @@ const FULL_LAST: &str = "\
 ";
 
 #[test]
-fn small_last_group(rt: HostRuntime) -> Result<(), Fail> {
+fn small_last_group(rt: HostRuntime) {
     let alloc = rt.alloc();
     let none = Vec::new(alloc);
-    let placed = place_beside(alloc, &SMALL_LAST, file(1034, 54), none, Vec::new(alloc), 1)?;
+    let placed = must(
+        &rt,
+        place_beside(alloc, &SMALL_LAST, file(1034, 54), none, Vec::new(alloc), 1),
+    );
     same!(rt; placed.groups.as_slice().len(), 2);
-    hold(&rt, &placed, FULL_LAST)?;
+    hold(&rt, &placed, FULL_LAST);
+    drop(placed);
     let none = Vec::new(alloc);
     let found = place_beside(alloc, &SMALL_LAST, file(1029, 59), none, Vec::new(alloc), 1);
-    assert!(rt; matches!(found, Err(PlaceFault::NoRoom(Unplaced::Group(1)))));
-    Ok(())
+    sure(
+        &rt,
+        matches!(found, Err(PlaceFault::NoRoom(Unplaced::Group(1)))),
+        "a full group",
+    );
+    drop(found);
 }
 
 /// The free blocks, and the blocks of the free list and the free runs then.
@@ -311,26 +369,33 @@ const NEARLY_FULL: &str = "\
 ";
 
 #[test]
-fn groups_nearly_full(rt: HostRuntime) -> Result<(), Fail> {
-    let alloc = rt.alloc();
+fn groups_nearly_full(rt: HostRuntime) {
     for line in NEARLY_FULL.lines() {
         let mut row = Row::new(line);
-        let blocks = row.number::<u64>(&rt).min(12);
-        let full = file(1 + blocks, 1023 - blocks);
-        let found = place_beside(alloc, &SMALLEST, full, Vec::new(alloc), Vec::new(alloc), 1);
-        let seen = match found {
-            Ok(placed) => {
-                let first = placed.groups.as_slice().first();
-                first.map(|group| (group.agfl.as_slice().len(), group.bno.as_slice().len()))
-            }
-            Err(fault) => {
-                tells(&rt, &fault, "NoRoom(Group(0))", line);
-                None
-            }
-        };
+        let seen = seen_with(&rt, row.number::<u64>(&rt).min(12), line);
         tells(&rt, &seen, row.text(), line);
     }
-    Ok(())
+}
+
+/// The blocks of the free list and the free runs of the first group where so many of its blocks are free.
+fn seen_with(rt: &(impl Abort + AllocGlobal), blocks: u64, line: &str) -> Option<(usize, usize)>
+    requires { blocks ≤ 12 }
+{
+    let alloc = rt.alloc();
+    let full = file(1 + blocks, 1023 - blocks);
+    match place_beside(alloc, &SMALLEST, full, Vec::new(alloc), Vec::new(alloc), 1) {
+        Ok(placed) => first_lengths(&placed),
+        Err(fault) => {
+            tells(rt, &fault, "NoRoom(Group(0))", line);
+            None
+        }
+    }
+}
+
+/// The blocks of the free list and the free runs of the first group.
+fn first_lengths(placed: &Placed) -> Option<(usize, usize)> {
+    let first = placed.groups.as_slice().first();
+    first.map(|group| (group.agfl.as_slice().len(), group.bno.as_slice().len()))
 }
 
 /// Four groups of 2048 blocks.
@@ -351,11 +416,15 @@ const FOUR: &str = "\
 ";
 
 #[test]
-fn four_groups(rt: HostRuntime) -> Result<(), Fail> {
+fn four_groups(rt: HostRuntime) {
     let alloc = rt.alloc();
     let none = Vec::new(alloc);
-    let placed = place_beside(alloc, &FOUR_GROUPS, root_chunk(), none, Vec::new(alloc), 1)?;
+    let placed = must(
+        &rt,
+        place_beside(alloc, &FOUR_GROUPS, root_chunk(), none, Vec::new(alloc), 1),
+    );
     same!(rt; placed.counts.fdblocks, 7648);
     same!(rt; placed.groups.as_slice().len(), 4);
-    hold(&rt, &placed, FOUR)
+    hold(&rt, &placed, FOUR);
+    drop(placed);
 }

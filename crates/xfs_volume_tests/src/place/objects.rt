@@ -4,10 +4,10 @@ ghost use Rattle.std.specs.Prelude.{◌≡◌, ◌≤◌, ◌<◌, ◌+◌, ◌*
 ghost use Rattle.xfs_geom.specs.Shape.{IsShaped};
 ghost use Rattle.xfs_place.specs.Objects.{IsAsk};
 
-use super::groups::{SMALLEST, Size, file, place_beside, root_chunk};
+use super::groups::{SMALLEST, Size, file, place_beside, place_small};
 use super::*;
-use crate::checks::same;
-use crate::text::tells;
+use crate::checks::{must, same, sure};
+use crate::text::{refuse, tells};
 
 /// An object that asks for runs of these lengths, and may take so many.
 pub fn object(
@@ -34,6 +34,27 @@ pub fn object(
         runs: Records::from_vec(runs),
         most,
     })
+}
+
+/// The only object of a volume.
+pub fn one_object(
+    rt: &impl Abort,
+    alloc: Global,
+    ino: u64,
+    kind: ObjectKind,
+    lengths: &[u32],
+    most: u32,
+) -> Vec<Object>
+    requires { All (λ blocks. 1 ≤ blocks) lengths.now }
+    ensures { All (λ object. All IsAsk object.runs) result.items }
+{
+    let Ok(only) = object(alloc, ino, kind, lengths, most) else {
+        refuse(rt, "memory is wanting", "an object");
+    };
+    let Ok(objects) = vec![in alloc; only] else {
+        refuse(rt, "memory is wanting", "an object");
+    };
+    objects
 }
 
 /// A directory of three blocks in two runs, a symbolic link, and data in three runs of which the last is so long.
@@ -64,11 +85,8 @@ const LISTS: &str = "\
 ";
 
 #[test]
-fn objects_before_trees(rt: HostRuntime) -> Result<(), Fail> {
-    let alloc = rt.alloc();
-    let objects = three_objects(alloc, 500)?;
-    let reserved = vec![in alloc; 25]?;
-    let placed = place_beside(alloc, &SMALLEST, root_chunk(), reserved, objects, 1)?;
+fn objects_before_trees(rt: HostRuntime) {
+    let placed = must(&rt, place_three(&rt, rt.alloc(), 500));
     let runs = placed.runs.as_slice();
     same!(rt; runs.len(), 6);
     for (run, due) in runs.iter().zip(RUNS.lines()) {
@@ -79,27 +97,38 @@ fn objects_before_trees(rt: HostRuntime) -> Result<(), Fail> {
     for (group, due) in groups.iter().zip(LISTS.lines()) {
         tells(&rt, &group.agfl.as_slice(), due, "a free list");
     }
-    Ok(())
+    drop(placed);
+}
+
+/// The three objects, placed beside block 25.
+fn place_three(rt: &impl Abort, alloc: Global, last: u32) -> Result<Placed, PlaceFault>
+    requires { 1 ≤ last }
+{
+    let Ok(objects) = three_objects(alloc, last) else {
+        refuse(rt, "memory is wanting", "three objects");
+    };
+    let reserved = must(rt, vec![in alloc; 25]);
+    place_small(alloc, reserved, objects, 1)
 }
 
 #[test]
-fn objects_without_room(rt: HostRuntime) -> Result<(), Fail> {
+fn objects_without_room(rt: HostRuntime) {
     let alloc = rt.alloc();
-    let reserved = vec![in alloc; 25]?;
-    let found = place_beside(
-        alloc,
-        &SMALLEST,
-        root_chunk(),
-        reserved,
-        three_objects(alloc, 507)?,
-        1,
+    let found = place_three(&rt, alloc, 507);
+    sure(
+        &rt,
+        matches!(found, Err(PlaceFault::NoRoom(Unplaced::File(133)))),
+        "a file",
     );
-    assert!(rt; matches!(found, Err(PlaceFault::NoRoom(Unplaced::File(133)))));
-    let directory = object(alloc, 131, ObjectKind::Directory, &[1, 1000], 2)?;
-    let objects = vec![in alloc; directory]?;
-    let found = place_beside(alloc, &SMALLEST, root_chunk(), Vec::new(alloc), objects, 25);
-    assert!(rt; matches!(found, Err(PlaceFault::NoRoom(Unplaced::Directory(131)))));
-    Ok(())
+    drop(found);
+    let objects = one_object(&rt, alloc, 131, ObjectKind::Directory, &[1, 1000], 2);
+    let found = place_small(alloc, Vec::new(alloc), objects, 25);
+    sure(
+        &rt,
+        matches!(found, Err(PlaceFault::NoRoom(Unplaced::Directory(131)))),
+        "a directory",
+    );
+    drop(found);
 }
 
 /// Two groups of 409,600 blocks.
@@ -150,13 +179,12 @@ fn tree_blocks(placed: &Placed, runs: usize) -> Option<[usize; 5]> {
 }
 
 #[test]
-fn many_free_runs(rt: HostRuntime) -> Result<(), Fail> {
+fn many_free_runs(rt: HostRuntime) {
     let alloc = rt.alloc();
     for runs in [335, 336, 337] {
-        let due = Some([1, 1, 1, 1, 4]);
-        same!(rt; trees_beside(alloc, &SMALLEST, runs.min(400), 100)?, due; runs);
+        let blocks = must(&rt, trees_beside(alloc, &SMALLEST, runs.min(400), 100));
+        same!(rt; blocks, Some([1, 1, 1, 1, 4]); runs);
     }
-    let due = Some([400, 400, 1, 1, 1206]);
-    same!(rt; trees_beside(alloc, &LARGE, 200_000, 3000)?, due);
-    Ok(())
+    let blocks = must(&rt, trees_beside(alloc, &LARGE, 200_000, 3000));
+    same!(rt; blocks, Some([400, 400, 1, 1, 1206]));
 }

@@ -1,22 +1,24 @@
 //! Objects that take several runs where a single one is not to be had.
 
 ghost use Rattle.std.specs.Prelude.{◌≤◌, All, IfOk};
+ghost use Rattle.xfs_place.specs.Objects.{IsAsk};
 
-use super::groups::{SMALLEST, place_beside, root_chunk};
-use super::objects::object;
+use super::groups::{SMALLEST, place_small};
+use super::objects::one_object;
 use super::*;
+use crate::checks::must;
 use crate::text::{Row, refuse, tells};
 use std::process::Abort;
 
 /// The blocks of a volume of so many, but for those of these rows, each a first block and a number of blocks.
-pub fn all_but(alloc: Global, rows: &[u64], blocks: u64) -> Result<Vec<u64>, AllocError> {
+pub fn all_but(rt: &impl Abort, alloc: Global, rows: &[u64], blocks: u64) -> Vec<u64> {
     let mut reserved = Vec::new(alloc);
     for block in 1..blocks {
         if !is_of(rows, block) {
-            reserved.push(block)?;
+            must(rt, reserved.push(block));
         }
     }
-    Ok(reserved)
+    reserved
 }
 
 /// Whether a block is one of the rows.
@@ -47,36 +49,64 @@ pub fn lengths_of(alloc: Global, numbers: &[u32]) -> Result<Vec<u32>, AllocError
 }
 
 /// The runs of what is placed: the first block, the blocks and the offset of each.
-pub fn runs_of(alloc: Global, placed: &Placed) -> Result<Vec<(u64, u64, u64)>, AllocError> {
+pub fn runs_of(rt: &impl Abort, alloc: Global, placed: &Placed) -> Vec<(u64, u64, u64)> {
     let mut runs = Vec::new(alloc);
     for run in placed.runs.as_slice() {
-        runs.push((run.start, run.count, run.offset_word))?;
+        must(rt, runs.push((run.start, run.count, run.offset_word)));
     }
-    Ok(runs)
+    runs
+}
+
+/// The blocks of the smallest volume, but for those of the rows that stand next in a line.
+pub fn reserved_of(rt: &(impl Abort + AllocGlobal), row: &mut Row<'_>) -> Vec<u64> {
+    let rows = row.numbers::<u64>(rt, rt.alloc());
+    all_but(rt, rt.alloc(), &rows, SMALLEST.dblocks)
+}
+
+/// The data of a file, in asks of the lengths that stand next in a line, which may take as many runs as stand behind these.
+pub fn data_of(rt: &(impl Abort + AllocGlobal), row: &mut Row<'_>) -> Vec<Object>
+    ensures { All (λ object. All IsAsk object.runs) result.items }
+{
+    let numbers = row.numbers::<u32>(rt, rt.alloc());
+    let Ok(lengths) = lengths_of(rt.alloc(), &numbers) else {
+        refuse(rt, "memory is wanting", "lengths");
+    };
+    let most = row.number(rt);
+    one_object(rt, rt.alloc(), 133, ObjectKind::Data, &lengths, most)
+}
+
+/// Fails where what was placed does not stand as the end of a line says: the runs and how many each ask has.
+pub fn tells_runs(rt: &(impl Abort + AllocGlobal), placed: &Placed, row: &mut Row<'_>, line: &str) {
+    let runs = runs_of(rt, rt.alloc(), placed);
+    tells(rt, &runs.as_slice(), row.text(), line);
+    tells(rt, &placed.cuts.as_slice(), row.text(), line);
+}
+
+/// The same, or where not as it says what finds no room.
+pub fn tells_placed(
+    rt: &(impl Abort + AllocGlobal),
+    placed: &Result<Placed, PlaceFault>,
+    row: &mut Row<'_>,
+    line: &str,
+) {
+    match placed {
+        Ok(placed) => tells_runs(rt, placed, row, line),
+        Err(PlaceFault::NoRoom(what)) => tells(rt, what, row.text(), line),
+        Err(PlaceFault::NoMemory) => refuse(rt, "memory is wanting", line),
+    }
 }
 
 /// Fails where an object does not stand as a line says in a volume in which only some rows of blocks are open. The line has the AG block from
 /// which on it may stand, the rows (start and blocks), the lengths of the asks, how many runs they may take, and what stands: the runs and how
 /// many each ask has, or what finds no room.
-fn stands(rt: &(impl Abort + AllocGlobal), row: &mut Row<'_>, line: &str) -> Result<(), Fail> {
-    let alloc = rt.alloc();
+fn stands(rt: &(impl Abort + AllocGlobal), line: &str) {
+    let mut row = Row::new(line);
     let from = row.number(rt);
-    let rows = row.numbers::<u64>(rt, alloc)?;
-    let reserved = all_but(alloc, &rows, SMALLEST.dblocks)?;
-    let lengths = row.numbers::<u32>(rt, alloc)?;
-    let lengths = lengths_of(alloc, &lengths)?;
-    let most = row.number(rt);
-    let data = object(alloc, 133, ObjectKind::Data, &lengths, most)?;
-    let objects = vec![in alloc; data]?;
-    match place_beside(alloc, &SMALLEST, root_chunk(), reserved, objects, from) {
-        Ok(placed) => {
-            tells(rt, &runs_of(alloc, &placed)?.as_slice(), row.text(), line);
-            tells(rt, &placed.cuts.as_slice(), row.text(), line);
-        }
-        Err(PlaceFault::NoRoom(what)) => tells(rt, &what, row.text(), line),
-        Err(PlaceFault::NoMemory) => refuse(rt, "memory is wanting", line),
-    }
-    Ok(())
+    let reserved = reserved_of(rt, &mut row);
+    let objects = data_of(rt, &mut row);
+    let placed = place_small(rt.alloc(), reserved, objects, from);
+    tells_placed(rt, &placed, &mut row, line);
+    drop(placed);
 }
 
 /// In a pool of single blocks an object has as many blocks as it may take runs; elsewhere the longest runs come first, and one run where
@@ -105,9 +135,8 @@ const PIECES: &str = "\
 ";
 
 #[test]
-fn pieces_of_asks(rt: HostRuntime) -> Result<(), Fail> {
+fn pieces_of_asks(rt: HostRuntime) {
     for line in PIECES.lines() {
-        stands(&rt, &mut Row::new(line), line)?;
+        stands(&rt, line);
     }
-    Ok(())
 }

@@ -3,11 +3,11 @@
 ghost use Rattle.std.specs.Prelude.{◌≡◌, ◌≤◌, All, IfOk};
 ghost use Rattle.xfs_place.specs.Objects.{IsAsk};
 
-use super::groups::{SMALLEST, SparedBlocks, place_sparing, root_chunk, shaped};
+use super::groups::{SMALLEST, SparedBlocks, shaped, spare_small};
 use super::objects::object;
-use super::pieces::{all_but, lengths_of, runs_of};
+use super::pieces::{data_of, reserved_of, tells_placed};
 use super::*;
-use crate::checks::same;
+use crate::checks::{must, same, sure};
 use crate::text::{Row, refuse, tells};
 use std::process::Abort;
 
@@ -22,19 +22,20 @@ const SPARED: &str = "\
 ";
 
 #[test]
-fn spared_blocks(rt: HostRuntime) -> Result<(), Fail> {
-    let alloc = rt.alloc();
+fn spared_blocks(rt: HostRuntime) {
     for line in SPARED.lines() {
-        let mut row = Row::new(line);
-        let anew = row.number::<u32>(&rt) == 1;
-        let rows = row.numbers::<u64>(&rt, alloc)?;
-        let reserved = all_but(alloc, &rows, SMALLEST.dblocks)?;
-        match spare(alloc, &shaped(&SMALLEST), &[], &reserved, anew) {
-            Ok(spared) => tells(&rt, &spared.as_slice(), row.text(), line),
-            Err(_) => refuse(&rt, "memory is wanting", line),
-        }
+        try_spared(&rt, line);
     }
-    Ok(())
+}
+
+fn try_spared(rt: &(impl Abort + AllocGlobal), line: &str) {
+    let mut row = Row::new(line);
+    let anew = row.number::<u32>(rt) == 1;
+    let reserved = reserved_of(rt, &mut row);
+    match spare(rt.alloc(), &shaped(&SMALLEST), &[], &reserved, anew) {
+        Ok(spared) => tells(rt, &spared.as_slice(), row.text(), line),
+        Err(_) => refuse(rt, "memory is wanting", line),
+    }
 }
 
 /// The rows of blocks (start and blocks) that are all of the pool, from which AG block on those of each group are spared, whether objects
@@ -57,38 +58,22 @@ const BESIDE: &str = "\
 ";
 
 #[test]
-fn objects_beside_spared_blocks(rt: HostRuntime) -> Result<(), Fail> {
-    let alloc = rt.alloc();
+fn objects_beside_spared_blocks(rt: HostRuntime) {
     for line in BESIDE.lines() {
-        let mut row = Row::new(line);
-        let rows = row.numbers::<u64>(&rt, alloc)?;
-        let reserved = all_but(alloc, &rows, SMALLEST.dblocks)?;
-        let spared = SparedBlocks {
-            from: Records::from_vec(row.numbers::<u32>(&rt, alloc)?),
-            takes: row.number::<u32>(&rt) == 1,
-        };
-        let lengths = row.numbers::<u32>(&rt, alloc)?;
-        let lengths = lengths_of(alloc, &lengths)?;
-        let data = object(alloc, 133, ObjectKind::Data, &lengths, row.number(&rt))?;
-        let objects = vec![in alloc; data]?;
-        match place_sparing(
-            alloc,
-            &SMALLEST,
-            root_chunk(),
-            reserved,
-            objects,
-            24,
-            spared,
-        ) {
-            Ok(placed) => {
-                tells(&rt, &runs_of(alloc, &placed)?.as_slice(), row.text(), line);
-                tells(&rt, &placed.cuts.as_slice(), row.text(), line);
-            }
-            Err(PlaceFault::NoRoom(what)) => tells(&rt, &what, row.text(), line),
-            Err(PlaceFault::NoMemory) => refuse(&rt, "memory is wanting", line),
-        }
+        try_beside(&rt, line);
     }
-    Ok(())
+}
+
+fn try_beside(rt: &(impl Abort + AllocGlobal), line: &str) {
+    let mut row = Row::new(line);
+    let reserved = reserved_of(rt, &mut row);
+    let spared = SparedBlocks {
+        from: Records::from_vec(row.numbers::<u32>(rt, rt.alloc())),
+        takes: row.number::<u32>(rt) == 1,
+    };
+    let objects = data_of(rt, &mut row);
+    let placed = spare_small(rt.alloc(), reserved, objects, 24, spared);
+    tells_placed(rt, &placed, &mut row, line);
 }
 
 /// So many files of one block, with numbers from 1000 on.
@@ -104,40 +89,43 @@ fn small_files(alloc: Global, count: u64) -> Result<Vec<Object>, AllocError>
 }
 
 /// Places so many files of one block in a volume of which the highest 31 blocks of each group are spared.
-fn fill(alloc: Global, count: u64, takes: bool) -> Result<Placed, PlaceFault>
+fn fill(rt: &impl Abort, alloc: Global, count: u64, takes: bool) -> Result<Placed, PlaceFault>
     requires { count ≤ 4096 }
 {
     let spared = SparedBlocks {
-        from: Records::from_vec(vec![in alloc; 993, 993]?),
+        from: Records::from_vec(must(rt, vec![in alloc; 993, 993])),
         takes,
     };
-    let files = small_files(alloc, count)?;
-    place_sparing(
-        alloc,
-        &SMALLEST,
-        root_chunk(),
-        Vec::new(alloc),
-        files,
-        24,
-        spared,
-    )
+    let Ok(files) = small_files(alloc, count) else {
+        refuse(rt, "memory is wanting", "files");
+    };
+    spare_small(alloc, Vec::new(alloc), files, 24, spared)
+}
+
+/// The first block of the last run.
+fn last_start(placed: &Placed) -> Option<u64> {
+    placed.runs.as_slice().last().map(|run| run.start)
 }
 
 /// Both groups filled to their brim, each block with another owner: AG blocks 24 to 992 of the first, 518 to 992 of the second.
 #[test]
-fn groups_filled_to_their_brim(rt: HostRuntime) -> Result<(), Fail> {
+fn groups_filled_to_their_brim(rt: HostRuntime) {
     let alloc = rt.alloc();
     let all = 993 - 24 + (993 - 518);
-    let placed = fill(alloc, all, false)?;
-    let last = placed.runs.as_slice().last().map(|run| run.start);
-    same!(rt; last, Some(1024 + 992));
+    let placed = must(&rt, fill(&rt, alloc, all, false));
+    same!(rt; last_start(&placed), Some(1024 + 992));
     for group in placed.groups.as_slice() {
         same!(rt; group.agfl.as_slice().len(), 6);
     }
-    let found = fill(alloc, all + 1, false);
-    assert!(rt; matches!(found, Err(PlaceFault::NoRoom(Unplaced::File(2444)))));
-    let placed = fill(alloc, all + 1, true)?;
-    let last = placed.runs.as_slice().last().map(|run| run.start);
-    same!(rt; last, Some(993));
-    Ok(())
+    drop(placed);
+    let found = fill(&rt, alloc, all + 1, false);
+    sure(
+        &rt,
+        matches!(found, Err(PlaceFault::NoRoom(Unplaced::File(2444)))),
+        "one file more",
+    );
+    drop(found);
+    let placed = must(&rt, fill(&rt, alloc, all + 1, true));
+    same!(rt; last_start(&placed), Some(993));
+    drop(placed);
 }

@@ -6,13 +6,15 @@ ghost use Rattle.xfs_volume_tests.specs.Rendered.{AreAsked};
 
 use super::wanted::plan_of;
 use super::{block_of, due_disk, planned_disk};
-use crate::checks::{same, sure};
-use crate::text::{Row, put_parts};
+use crate::checks::{must, same, sure};
+use crate::text::{Row, put_parts, refuse};
 use std::alloc::{AllocError, Global};
+use std::marker::Sync;
 use std::process::Abort;
-use std::test::Fail;
+use std::thread::Threads;
 use xfs_disk::{BLOCK_SIZE, NoMemory};
 use xfs_place::{Object, ObjectKind, RunAsk};
+use xfs_render::Plan;
 use xfs_shared::BlockList;
 use xfs_volume::Records;
 use xfs_word::{Seal, SealKind, part, put_part, sealed};
@@ -132,14 +134,14 @@ const SEALED: &str = "\
 ";
 
 /// The blocks that are built.
-fn built_blocks(rt: &(impl Abort + AllocGlobal), alloc: Global) -> Result<BlockList, Fail> {
+fn built_blocks(rt: &(impl Abort + AllocGlobal), alloc: Global) -> BlockList {
     let mut bank = BlockList::make(alloc);
     for line in BUILT.lines() {
         let mut block = [0; BLOCK_SIZE];
-        put_parts(rt, &mut block, line)?;
-        bank.push(&block)?;
+        put_parts(rt, &mut block, line);
+        must(rt, bank.push(&block));
     }
-    Ok(bank)
+    bank
 }
 
 /// How a block is sealed.
@@ -162,19 +164,18 @@ fn is_built(
     built: &str,
     place: u64,
     row: &mut Row<'_>,
-) -> Result<(), Fail> {
+) {
     let kind = kind_of(row.word());
     let checksum = row.number::<usize>(rt).min(BLOCK_SIZE - 4);
     let owner = row.number(rt);
     let mut due = [0; BLOCK_SIZE];
-    put_parts(rt, &mut due, built)?;
-    put_parts(rt, &mut due, row.rest())?;
+    put_parts(rt, &mut due, built);
+    put_parts(rt, &mut due, row.rest());
     if let Some(kind) = kind {
         put_part(&mut due, checksum, part(held, checksum, 4));
         is_sealed(rt, held, kind, place, owner);
     }
     same!(*rt; *held, due; place);
-    Ok(())
 }
 
 /// Fails where a block is not sealed for its owner at its place, or for another too.
@@ -196,14 +197,10 @@ fn is_sealed(rt: &impl Abort, held: &[u8; BLOCK_SIZE], kind: SealKind, place: u6
 }
 
 #[test]
-#[tactic(auto, using(crate::proofs::Asked::counted))]
-fn blocks_of_each_kind(rt: HostRuntime) -> Result<(), Fail> {
+fn blocks_of_each_kind(rt: HostRuntime) {
     let alloc = rt.alloc();
-    let head = block_of(&rt, &mut due_disk(&rt, alloc)?, 0);
-    let objects = of_each_kind(alloc)?;
-    let built = built_blocks(&rt, alloc)?;
-    sure(&rt, built.len() == 8, "eight blocks are built");
-    let plan = plan_of(&rt, alloc, &head, objects, built)?;
+    let head = block_of(&rt, &mut due_disk(&rt, alloc), 0);
+    let plan = plan_each(&rt, alloc, &head);
     // both groups have five trees, and the chunk has eight blocks
     same!(rt; plan.fresh.as_slice().len(), 10 + 8 + 8);
     for row in plan.fresh.as_slice() {
@@ -213,17 +210,27 @@ fn blocks_of_each_kind(rt: HostRuntime) -> Result<(), Fail> {
             "unwritten blocks are not planned",
         );
     }
-    let mut disk = planned_disk(&rt, alloc, &plan)?;
+    let mut disk = planned_disk(&rt, alloc, &plan);
     for (line, built) in SEALED.lines().zip(BUILT.lines()) {
         let mut row = Row::new(line);
         let place = row.number(&rt);
-        is_built(
-            &rt,
-            &block_of(&rt, &mut disk, place),
-            built,
-            place,
-            &mut row,
-        )?;
+        let held = block_of(&rt, &mut disk, place);
+        is_built(&rt, &held, built, place, &mut row);
     }
-    Ok(())
+    drop(plan);
+}
+
+/// The plan of the volume with an object of each kind, whose first block is this.
+#[tactic(auto, using(crate::proofs::Asked::counted))]
+fn plan_each<R: Threads + Sync + Abort + AllocGlobal>(
+    rt: &R,
+    alloc: Global,
+    head: &[u8; BLOCK_SIZE],
+) -> Plan {
+    let Ok(objects) = of_each_kind(alloc) else {
+        refuse(rt, "memory is wanting", "objects");
+    };
+    let built = built_blocks(rt, alloc);
+    sure(rt, built.len() == 8, "eight blocks are built");
+    plan_of(rt, alloc, head, objects, built)
 }

@@ -7,6 +7,7 @@ ghost use Rattle.xfs_empty.specs.Geometry.{HasFirstChunk};
 ghost use Rattle.xfs_volume_tests.specs.Rendered.{AreAsked, AreSmallBytes, AreSmallInodes, IsSmall, small_chunks};
 
 use super::slots::list_slots;
+use crate::checks::must;
 use crate::text::refuse;
 use std::alloc::{AllocError, Global};
 use std::marker::Sync;
@@ -15,7 +16,7 @@ use std::thread::Threads;
 use xfs_disk::{BLOCK_SIZE, NoGate, NoMemory, Stamp};
 use xfs_empty::{empty_bytes, empty_wanted};
 use xfs_geom::{Geometry, InoRec, read_super};
-use xfs_place::{GroupInodes, Object, PlaceFault, Wanted, place};
+use xfs_place::{GroupInodes, Object, Wanted, place};
 use xfs_render::{Bytes, Plan, chunks_are_few, placed_is_ready, render};
 use xfs_shared::BlockList;
 use xfs_volume::Records;
@@ -28,24 +29,32 @@ pub fn plan_of<R: Threads + Sync + Abort>(
     head: &[u8; BLOCK_SIZE],
     objects: Vec<Object>,
     built: BlockList,
-) -> Result<Plan, PlaceFault>
+) -> Plan
     requires { AreAsked (length built) objects.items }
 {
     let mut sector = [0; 512];
     sector.copy_from_slice(part(head, 0, 512));
     let g = volume_in(rt, &sector);
-    let wanted = wanted_of(alloc, &g, objects)?;
+    let Ok(wanted) = wanted_of(alloc, &g, objects) else {
+        refuse(rt, "memory is wanting", "what is wanted");
+    };
     let stamp = Stamp {
         seconds: 0,
         nanos: 0,
         generation: 0,
         uuid: g.uuid,
     };
-    let bytes = bytes_of(alloc, &g, &sector, &stamp, built)?;
+    let Ok(bytes) = bytes_of(alloc, &g, &sector, &stamp, built) else {
+        refuse(rt, "memory is wanting", "bytes");
+    };
     chunks_are_few(&wanted);
-    let placed = place(alloc, &wanted)?;
+    let Ok(placed) = place(alloc, &wanted) else {
+        refuse(rt, "it is not placed", "what is wanted");
+    };
     placed_is_ready(&wanted, &placed, &bytes);
-    Ok(render(rt, alloc, &wanted, &placed, &bytes, 1, &NoGate)?)
+    let plan = must(rt, render(rt, alloc, &wanted, &placed, &bytes, 1, &NoGate));
+    drop((placed, bytes, wanted));
+    plan
 }
 
 /// The volume that a superblock states, whose root stands in the first chunk.

@@ -1,4 +1,4 @@
 use Rattle.xfs_format_tests.proofs.tree.hostile.reading.Given as goal
 
 abbrev pub ghosts-read : goal.ghosts-read
-ghosts-read a = record { name = a.blank.name; parts = a.blank.parts }
+ghosts-read g a = record { name = a.blank.name; parts = a.blank.parts }

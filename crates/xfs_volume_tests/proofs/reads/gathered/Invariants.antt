@@ -1,4 +1,4 @@
-use Rattle.xfs_volume_tests.proofs.reads.reads.Given as goal
+use Rattle.xfs_volume_tests.proofs.reads.gathered.Given as goal
 
 abbrev pub ghosts-gather_counted : goal.ghosts-gather_counted
 ghosts-gather_counted g a = record { name = a.blank.name; parts = a.blank.parts }

@@ -1,4 +1,4 @@
-use Rattle.xfs_volume_tests.proofs.groups.failing_reads.Given as goal
+use Rattle.xfs_volume_tests.proofs.groups.seen.Given as goal
 
 abbrev pub ghosts-see : goal.ghosts-see
 ghosts-see g a = record { name = a.blank.name; parts = a.blank.parts }

@@ -1,4 +1,4 @@
-use Rattle.xfs_volume_tests.proofs.journal.numbers.Given as goal
+use Rattle.xfs_volume_tests.proofs.journal.numbers_in.Given as goal
 
 abbrev pub ghosts-numbers_of : goal.ghosts-numbers_of
 ghosts-numbers_of g a = record { name = a.blank.name; parts = a.blank.parts }

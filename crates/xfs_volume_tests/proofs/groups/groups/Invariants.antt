@@ -1,4 +1,0 @@
-use Rattle.xfs_volume_tests.proofs.groups.groups.Given as goal
-
-abbrev pub ghosts-see : goal.ghosts-see
-ghosts-see g a = record { name = a.blank.name; parts = a.blank.parts }
