@@ -1,11 +1,13 @@
 # The proved program, ready to be used as ./xfs. `rt` is the kit's command.
 #
-# What the program stands on is proved once, in a copy that has neither tests nor must-fail edits. What was proved on this machine is taken as it is.
-# The longest chain of crates ends in xfs_scan before it comes to the tools: what it needs is proved by a run of its own beside the run
-# of all, where no other crate takes its processors. Each of the two takes what the other has proved, or waits for what it is proving.
+# What the program stands on is proved once, in a copy that has neither tests nor must-fail edits. A kit that keeps what it proved takes
+# what was proved on this machine as it is. There the longest chain of crates, which ends in xfs_scan before it comes to the tools, has a
+# run of its own beside the run of all, where no other crate takes its processors: each of the two takes what the other has proved, or
+# waits for what it is proving. With a kit that keeps nothing the second run would only prove the same again.
 SHELL := bash
 .SHELLFLAGS := -eu -o pipefail -c
 RT := rt ci
+KEEPS = rt help 2>&1 | grep -E '^ *rt ci \[?NAME' > /dev/null
 
 # The lines of crates.txt for a crate and all that it stands on.
 LINES = awk -F: -v top=$(1) '/^[a-z]/ { name = $$1; sub(/ .*/, "", name); line[name] = $$0; below[name] = $$2 } \
@@ -29,7 +31,7 @@ xfs: crates.txt HANDLES $(SOURCES)
 	@echo "Proving and building $(words $(NEEDED)) crates: about 50 minutes on four processors, a quarter of one where all was proved here before."
 	@work=$$(mktemp -d); trap 'kill %1 2> /dev/null || true; wait; rm -rf $$work' EXIT; \
 	$(call COPY,xfs_scan,$$work/chain); $(call COPY,xfs,$$work/all); \
-	(cd $$work/chain; exec $(RT) > log 2>&1) & \
+	if $(KEEPS); then (cd $$work/chain; exec $(RT) > log 2>&1) & fi; \
 	(cd $$work/all; $(RT) 2>&1 | tee log | sed -nu 's/^rt: \([a-z_]*\) \(proved\|is kept\).*/  \1/p') || { cat $$work/all/log; exit 1; }; \
 	cp $$work/all/crates/xfs/out/xfs $@
 
