@@ -1,0 +1,15 @@
+-- The blocks passed are the disk's, and the disk is only read, once for each block passed.
+use Rattle.std.proofs.Common.{◌≡◌, ◌≤◌, ◌+◌, length, take}
+use Rattle.std.specs.Option.{ForSome}
+use Rattle.xfs_disk.specs.Reads.{OnlyReads}
+use Rattle.xfs_bank.specs.Bank.{blocks_at}
+use Rattle.xfs_rounds.proofs.loading.read_blocks.Given as goal
+
+abbrev pub invariant-loop-i : goal.invariant-loop-i
+invariant-loop-i g l = record {
+  first : ForSome (g.D.Disk.holds l.fn.disk) (λ image. take l.i l.bank ≡ blocks_at image (take l.i l.round));
+  len : length l.bank ≡ length l.fn.bank;
+  faults : g.D.Disk.faults l.fn.disk ≤ g.D.Disk.faults l.disk;
+  disk : OnlyReads g.D.Disk.size g.D.Disk.holds g.D.Disk.write_faults g.D.Disk.writes g.D.Disk.tells_stops g.D.Disk.moment g.D.Disk.may_leave g.D.Disk.left_since l.fn.disk l.disk;
+  reads : g.D.Disk.reads l.disk ≤ g.D.Disk.reads l.fn.disk + l.i;
+}
