@@ -17,7 +17,7 @@ use Rattle.xfs_render.specs.declared.wanted_slots.SlotWanted.{SlotWanted}
 use Rattle.xfs_scan.specs.Evidence.{dirs_seen, entries_seen, files_seen}
 use Rattle.xfs_scan.specs.declared.evidence.Evidence.{Evidence}
 use Rattle.xfs_groups.specs.declared.groups.GroupTrees.{GroupTrees}
-use Rattle.xfs_slots.specs.declared.facts.SlotFact.{SlotFact}
+use Rattle.xfs_rounds.specs.declared.facts.SlotFact.{SlotFact}
 use Rattle.xfs_volume.specs.declared.clusters.ClusterRec.{ClusterRec}
 use Rattle.xfs_salvage.specs.Kept.{entries_of_kept, fresh_inodes, kept_clusters, kept_dirs, kept_files}
 use Rattle.xfs_salvage.specs.declared.found.FoundRecords.{FoundRecords}

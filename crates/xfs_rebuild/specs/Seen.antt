@@ -5,9 +5,9 @@ use Rattle.xfs_disk.specs.Lists.{is_among}
 use Rattle.xfs_geom.specs.Volumes.{Volume}
 use Rattle.xfs_volume.specs.declared.clusters.ClusterRec.{ClusterRec}
 use Rattle.xfs_image.specs.Slots.{cluster_inodes}
-use Rattle.xfs_slots.specs.declared.facts.SlotFact.{SlotFact}
-use Rattle.xfs_slots.specs.declared.facts.SlotReading.{SlotReading}
-use Rattle.xfs_slots.specs.declared.facts.SlotReading.TheVariants as Reading
+use Rattle.xfs_rounds.specs.declared.facts.SlotFact.{SlotFact}
+use Rattle.xfs_rounds.specs.declared.facts.SlotReading.{SlotReading}
+use Rattle.xfs_rounds.specs.declared.facts.SlotReading.TheVariants as Reading
 use Rattle.xfs_request.specs.declared.seen.SlotSeen.{SlotSeen}
 use Rattle.xfs_request.specs.declared.seen.SlotState.{SlotState}
 use Rattle.xfs_request.specs.declared.seen.SlotState.TheVariants as State

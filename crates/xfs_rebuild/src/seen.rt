@@ -10,8 +10,8 @@ use std::alloc::Global;
 use xfs_disk::NoMemory;
 use xfs_geom::Geometry;
 use xfs_request::{SlotSeen, SlotState};
+use xfs_rounds::{SlotFact, SlotReading};
 use xfs_salvage::is_among;
-use xfs_slots::{SlotFact, SlotReading};
 use xfs_volume::ClusterRec;
 
 /// The slots of a block, and the blocks of a cluster.

@@ -11,8 +11,8 @@ use Rattle.xfs_image.specs.Slots.{slot_bytes}
 use Rattle.xfs_protected.proofs.Members.{Member}
 use Rattle.xfs_slots.specs.Facts.{slot_fact, slot_facts}
 use Rattle.xfs_slots.specs.Gathered.{bare_inodes}
-use Rattle.xfs_slots.specs.declared.facts.SlotReading.{SlotReading}
-use Rattle.xfs_slots.specs.declared.facts.SlotReading.TheVariants as Reading
+use Rattle.xfs_rounds.specs.declared.facts.SlotReading.{SlotReading}
+use Rattle.xfs_rounds.specs.declared.facts.SlotReading.TheVariants as Reading
 use Rattle.xfs_scan.specs.Evidence.{IsEvidence}
 use Rattle.xfs_scan.specs.declared.evidence.Evidence.{Evidence}
 use Rattle.xfs_request.specs.declared.seen.SlotSeen.{SlotSeen}

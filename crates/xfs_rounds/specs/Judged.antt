@@ -1,5 +1,5 @@
 -- What is known of the slots of a round's blocks from their bytes alone (chapter "On-disk Inode").
-use Rattle.std.specs.Prelude.{◌≡◌, ℕ, ◌*◌, ◌<◌, List, [], IfOk, IfSome, length, map, take, slice_index_or}
+use Rattle.std.specs.Prelude.{◌≡◌, ℕ, ◌*◌, ◌<◌, List, [], IfOk, length, map, take, slice_index_or}
 use Rattle.std.specs.List.{All, range_with_len}
 use Rattle.xfs_word.specs.Field.{part_of}
 use Rattle.xfs_disk.specs.Blocks.{Image}
@@ -8,6 +8,10 @@ use Rattle.xfs_geom.specs.Volumes.{Volume}
 use Rattle.xfs_inode.specs.Named.{slot_reads}
 use Rattle.xfs_inode.specs.Slots.{slot_read}
 use Rattle.xfs_inode.specs.Sound.{IsSound}
+use Rattle.xfs_inode.specs.declared.files.FileRead.{FileRead}
+use Rattle.xfs_rounds.specs.Facts.{fact_of}
+use Rattle.xfs_rounds.specs.declared.judging.SlotFile.{SlotFile}
+use Rattle.xfs_rounds.specs.declared.judging.SlotFile.TheVariants as Files
 use Rattle.xfs_rounds.specs.declared.pieces.BlockParts.{BlockParts}
 use Rattle.xfs_rounds.specs.declared.judging.SlotPart.{SlotPart}
 
@@ -15,13 +19,21 @@ use Rattle.xfs_rounds.specs.declared.judging.SlotPart.{SlotPart}
 abbrev pub slot_of : List ℕ → ℕ → List ℕ
 slot_of bytes slot = part_of bytes (512 * slot) 512
 
--- what is known of a slot of a block with these bytes: what it reads as by itself, and what it reads as in every image where that
--- is known
+-- a slot reads so in every image
+pub record IsDecided (v : Volume) (ino : ℕ) (slot : List ℕ) (file : FileRead) : Type 0 where
+  pub always : (image : Image) → file ≡ slot_reads v image ino slot
+  pub sound : IsSound v ino file
+
+-- what the bytes of a slot alone say of what it reads as
+abbrev pub IsFileOf : Volume → ℕ → List ℕ → SlotFile → Type 0
+IsFileOf v ino slot (Files.Decided file) = IsDecided v ino slot file
+IsFileOf v ino slot (Files.Naming read) = read ≡ slot_read v ino slot
+
+-- what is known of a slot of a block with these bytes
 pub record IsPartOf (v : Volume) (block : ℕ) (bytes : List ℕ) (part : SlotPart) : Type 0 where
   pub few : part.slot < 8
-  pub itself : part.read ≡ slot_read v (inode_of v block part.slot) (slot_of bytes part.slot)
-  pub decided : IfSome part.file (λ file. (image : Image) → file ≡ slot_reads v image (inode_of v block part.slot) (slot_of bytes part.slot))
-  pub sound : IfSome part.file (λ file. IsSound v (inode_of v block part.slot) file)
+  pub fact : part.fact ≡ fact_of v (inode_of v block part.slot) (slot_of bytes part.slot)
+  pub file : IsFileOf v (inode_of v block part.slot) (slot_of bytes part.slot) part.file
 
 -- of the first slots of a block, in order
 pub record ArePartsBelow (v : Volume) (block : ℕ) (bytes : List ℕ) (count : ℕ) (parts : List SlotPart) : Type 0 where

@@ -2,8 +2,10 @@
 
 ghost use Rattle.std.specs.Prelude.{◌≡◌, ◌+◌, ◌<◌, length, IfOk, OnOk};
 ghost use Rattle.xfs_geom.specs.Volumes.{volume_of};
-ghost use Rattle.xfs_rounds.specs.Judged.{ArePartsBelow, ArePartsOf, IsPartOf};
+ghost use Rattle.xfs_inode.specs.Slots.{slot_read};
+ghost use Rattle.xfs_rounds.specs.Judged.{ArePartsBelow, ArePartsOf, IsFileOf, IsPartOf};
 
+use crate::facts::{SlotFact, fact_of};
 use std::alloc::Global;
 use xfs_disk::NoMemory;
 use xfs_geom::Geometry;
@@ -15,15 +17,24 @@ const SLOTS: u8 = 8;
 
 const SLOT_SIZE: usize = 512;
 
+/// What the bytes of a slot alone say of what it reads as.
+#[derive(Debug, Drop)]
+pub enum SlotFile {
+    /// It names no other block, and reads so.
+    Decided(FileRead),
+    /// It names other blocks. By itself it reads so.
+    Naming(SlotRead),
+}
+
 /// What is known of a slot from its bytes alone.
 #[derive(Debug, Drop)]
 pub struct SlotPart {
     /// Its number in its block, from 0 to 7.
     pub slot: u8,
-    /// What it reads as by itself.
-    pub read: SlotRead,
-    /// What it reads as, where it names no other block.
-    pub file: Option<FileRead>,
+    /// What is kept of it.
+    pub fact: SlotFact,
+    /// What it reads as.
+    pub file: SlotFile,
 }
 
 /// Judges the eight slots of a block.
@@ -37,7 +48,7 @@ pub(crate) fn judge_block(
     requires whole { length bytes.now ≡ 4096 }
     ensures { IfOk result (λ parts. ArePartsOf (volume_of g.now) block bytes.now parts.items) }
 {
-    let mut parts = Vec::new(alloc);
+    let mut parts = Vec::with_capacity(alloc, SLOTS as usize)?;
     for slot in 0..SLOTS {
         push_slot(alloc, g, block, slot, bytes, &mut parts)?;
     }
@@ -81,6 +92,25 @@ fn judge_slot(
     let ino = g.inode_of_slot(block, slot);
     let held = part(bytes, SLOT_SIZE * slot as usize, SLOT_SIZE);
     let read = read_slot(g, ino, held);
-    let file = decide_alone(alloc, g, ino, held, &read)?;
-    Ok(SlotPart { slot, read, file })
+    let fact = fact_of(held, &read);
+    let file = judge_file(alloc, g, ino, held, read)?;
+    Ok(SlotPart { slot, fact, file })
+}
+
+/// What the bytes of the slot of an inode say of what it reads as, where it reads so by itself.
+fn judge_file(
+    alloc: Global,
+    g: &Geometry,
+    ino: u64,
+    slot: &[u8],
+    read: SlotRead,
+) -> Result<SlotFile, NoMemory>
+    requires slot { length slot.now ≡ 512 }
+    requires itself { read ≡ slot_read (volume_of g.now) ino slot.now }
+    ensures { IfOk result (IsFileOf (volume_of g.now) ino slot.now) }
+{
+    match decide_alone(alloc, g, ino, slot, &read)? {
+        Some(file) => Ok(SlotFile::Decided(file)),
+        None => Ok(SlotFile::Naming(read)),
+    }
 }

@@ -13,12 +13,14 @@
 //! ```
 #![tactic(auto)]
 
+mod facts;
 mod faults;
 mod judging;
 mod loading;
 mod pieces;
 
+pub use facts::{SlotFact, SlotReading};
 pub use faults::RoundFault;
-pub use judging::SlotPart;
+pub use judging::{SlotFile, SlotPart};
 pub use loading::load_round;
 pub use pieces::{BlockParts, judge_round};

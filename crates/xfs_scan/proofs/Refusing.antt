@@ -17,7 +17,7 @@ use Rattle.xfs_slots.specs.Facts.{slot_facts}
 use Rattle.xfs_slots.specs.Gathered.{Gathered, bare_inodes, first_feature, gathered, held_in}
 use Rattle.xfs_scan.specs.Refused.{extents_of, feature_refused, refused_late, unless_more}
 use Rattle.xfs_scan.specs.declared.evidence.Seen.{Seen}
-use Rattle.xfs_slots.specs.declared.facts.SlotFact.{SlotFact}
+use Rattle.xfs_rounds.specs.declared.facts.SlotFact.{SlotFact}
 use Rattle.xfs_slots.specs.declared.inodes.Inodes.{Inodes}
 use Rattle.xfs_scan.specs.Answers.{IsRefusal}
 use Rattle.xfs_scan.specs.declared.faults.ScanFault.{ScanFault}

@@ -23,7 +23,7 @@ use Rattle.xfs_volume.specs.declared.files.FileRec.{FileRec}
 use Rattle.xfs_scan.specs.declared.evidence.Evidence.{Evidence}
 use Rattle.xfs_scan.specs.declared.evidence.Seen.{Seen}
 use Rattle.xfs_scan.specs.declared.evidence.Seen.TheVariants as Sight
-use Rattle.xfs_slots.specs.declared.facts.SlotFact.{SlotFact}
+use Rattle.xfs_rounds.specs.declared.facts.SlotFact.{SlotFact}
 use Rattle.xfs_slots.specs.declared.inodes.Inodes.{Inodes}
 
 -- the files of an evidence, their entries and their directories: those of the catalog, where they are that catalog's

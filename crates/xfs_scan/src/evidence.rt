@@ -7,7 +7,7 @@ use xfs_dirdata::EntryRec;
 use xfs_groups::GroupTrees;
 use xfs_heads::LogState;
 use xfs_image::Finding;
-use xfs_slots::SlotFact;
+use xfs_rounds::SlotFact;
 use xfs_volume::{Blocks, Catalog, ClusterRec, DirRec, FileRec, Records};
 
 /// All that a repair goes by.

@@ -26,8 +26,9 @@ use xfs_geom::Geometry;
 use xfs_groups::{GroupTrees, Groups, GroupsFault, see_groups};
 use xfs_heads::LogState;
 use xfs_journal::{JournalFault, read_log};
+use xfs_rounds::SlotFact;
 use xfs_runs::Steps;
-use xfs_slots::{Inodes, PartFault, SlotFact};
+use xfs_slots::{Inodes, PartFault};
 use xfs_volume::{Blocks, ClusterRec, Records};
 
 /// The evidence of the volume that a disk holds. `ReadFault` only where a read failed. Each block that is read counts as a

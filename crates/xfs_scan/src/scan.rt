@@ -17,9 +17,9 @@ use std::sync::ledger::Ledger;
 use std::thread::Threads;
 use xfs_disk::{Disk, Gate, NoMemory};
 use xfs_geom::Geometry;
-use xfs_rounds::{RoundFault, judge_round, load_round};
+use xfs_rounds::{RoundFault, SlotFact, judge_round, load_round};
 use xfs_runs::Steps;
-use xfs_slots::{Inodes, PartFault, SlotFact, blocks_of_candidates, take_round};
+use xfs_slots::{Inodes, PartFault, blocks_of_candidates, take_round};
 use xfs_volume::ClusterRec;
 
 /// The most blocks of a round.

@@ -9,7 +9,7 @@ use Rattle.xfs_image.specs.Candidates.{candidates}
 use Rattle.xfs_image.specs.Claims.{candidate_inodes}
 use Rattle.xfs_image.specs.Slots.{cluster_inodes}
 use Rattle.xfs_slots.specs.Facts.{slot_fact, slot_facts}
-use Rattle.xfs_slots.specs.declared.facts.SlotFact.{SlotFact}
+use Rattle.xfs_rounds.specs.declared.facts.SlotFact.{SlotFact}
 
 module _ (v : Volume) (image : Image) where
   -- some slots more, and none more

@@ -1,17 +1,16 @@
 -- A slot of which something is known from its bytes alone, as it stands in an image.
 use Rattle.std.proofs.Common.{◌≡◌, ℕ, ◌*◌, List, [], ◌∷◌, ◌++◌, map, Some, Result, Ok, Err, OnOk, sym, ap, ◌∙◌}
-use Rattle.xfs_word.specs.Field.{field_of, part_of}
+use Rattle.xfs_word.specs.Field.{part_of}
 use Rattle.xfs_disk.specs.Blocks.{Image, bytes_of_block}
 use Rattle.xfs_geom.specs.Conversions.{slot_at}
 use Rattle.xfs_geom.specs.Volumes.{Volume}
 use Rattle.xfs_inode.specs.Named.{slot_reads}
-use Rattle.xfs_inode.specs.Slots.{slot_read}
 use Rattle.xfs_inode.specs.declared.files.FileRead.{FileRead}
-use Rattle.xfs_inode.specs.declared.reading.SlotRead.{SlotRead}
 use Rattle.xfs_image.specs.Slots.{bytes_in, reads_as, slot_bytes}
+use Rattle.xfs_rounds.specs.Facts.{fact_of}
 use Rattle.xfs_rounds.specs.Judged.{slot_of}
-use Rattle.xfs_slots.specs.Facts.{fact_of, reading_of, slot_fact}
-use Rattle.xfs_slots.specs.declared.facts.SlotFact.{SlotFact}
+use Rattle.xfs_slots.specs.Facts.{slot_fact}
+use Rattle.xfs_rounds.specs.declared.facts.SlotFact.{SlotFact}
 
 -- what holds anyway holds where a call ended well
 pub ok_anyway : {T E : Type 0} (P : Type 0) (r : Result T E) → P → OnOk r P
@@ -24,12 +23,9 @@ module _ (v : Volume) (image : Image) (block slot ino : ℕ) (bytes : List ℕ) 
   slot_is = ap (bytes_in image) place ∙ ap (λ (b : List ℕ). part_of b (512 * slot) 512) is
 
   -- what is kept of it
-  pub fact_is : (read : SlotRead) → read ≡ slot_read v ino (slot_of bytes slot) → (old new : List SlotFact)
-      → new ≡ old ++ record { reading = reading_of read; lsn = field_of (slot_of bytes slot) 112 8 } ∷ [] → new ≡ old ++ map (slot_fact v image) (ino ∷ [])
-  fact_is read itself old new more =
-      let one : record { reading = reading_of read; lsn = field_of (slot_of bytes slot) 112 8 } ≡ slot_fact v image ino
-      = (λ i. record { reading = reading_of (itself i); lsn = field_of (slot_of bytes slot) 112 8 }) ∙ sym (ap (fact_of v ino) slot_is) in
-      more ∙ ap (λ (fact : SlotFact). old ++ fact ∷ []) one
+  pub fact_is : (fact : SlotFact) → fact ≡ fact_of v ino (slot_of bytes slot) → (old new : List SlotFact) → new ≡ old ++ fact ∷ [] → new ≡ old ++ map (slot_fact v image) (ino ∷ [])
+  fact_is fact known old new more =
+      more ∙ ap (λ (fact : SlotFact). old ++ fact ∷ []) (known ∙ sym (ap (fact_of v ino) slot_is))
 
   -- what it reads as
   pub read_is : (file : FileRead) → ((image : Image) → file ≡ slot_reads v image ino (slot_of bytes slot)) → file ≡ reads_as v image ino

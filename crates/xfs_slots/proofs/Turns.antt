@@ -12,7 +12,7 @@ use Rattle.xfs_image.specs.Slots.{inodes_of_block}
 use Rattle.xfs_rounds.specs.declared.pieces.BlockParts.{BlockParts}
 use Rattle.xfs_slots.specs.Facts.{slot_fact}
 use Rattle.xfs_slots.specs.Gathered.{Gathered, gathered, gathered_both, inodes_of_blocks, of_slot}
-use Rattle.xfs_slots.specs.declared.facts.SlotFact.{SlotFact}
+use Rattle.xfs_rounds.specs.declared.facts.SlotFact.{SlotFact}
 use Rattle.xfs_slots.proofs.Gathering.{gathered-append, joined_assoc, joined_nothing}
 
 -- one item more

@@ -1,28 +1,13 @@
 -- What is kept of the slots of candidate clusters in place of their bytes (chapter "On-disk Inode").
 use Rattle.std.specs.Prelude.{◌≡◌, ℕ, List, ◌++◌, map}
-use Rattle.xfs_word.specs.Field.{field_of}
 use Rattle.xfs_disk.specs.Blocks.{Image, bytes_of_block}
 use Rattle.xfs_geom.specs.Volumes.{Volume}
-use Rattle.xfs_inode.specs.Slots.{slot_read}
-use Rattle.xfs_inode.specs.declared.reading.SlotRead.{SlotRead}
-use Rattle.xfs_inode.specs.declared.reading.SlotRead.TheVariants as Read
 use Rattle.xfs_image.specs.Claims.{candidate_inodes}
 use Rattle.xfs_image.specs.Slots.{slot_bytes}
-use Rattle.xfs_slots.specs.declared.facts.SlotFact.{SlotFact}
-use Rattle.xfs_slots.specs.declared.facts.SlotReading.{SlotReading}
-use Rattle.xfs_slots.specs.declared.facts.SlotReading.TheVariants as Reading
-
--- a slot is free, in use, with a feature that is not supported or without, or unsound
-abbrev pub reading_of : SlotRead → SlotReading
-reading_of Read.Unsound = Reading.Unsound
-reading_of Read.Free = Reading.Free
-reading_of (Read.Unsupported what) = Reading.InUse
-reading_of (Read.InUse core) = Reading.InUse
+use Rattle.xfs_rounds.specs.Facts.{fact_of}
+use Rattle.xfs_rounds.specs.declared.facts.SlotFact.{SlotFact}
 
 -- what the slot of an inode reads as by itself, and the log sequence number that stands in it
-abbrev pub fact_of : Volume → ℕ → List ℕ → SlotFact
-fact_of v ino slot = record { reading = reading_of (slot_read v ino slot); lsn = field_of slot 112 8 }
-
 abbrev pub slot_fact : Volume → Image → ℕ → SlotFact
 slot_fact v image ino = fact_of v ino (slot_bytes v image ino)
 

@@ -1,6 +1,6 @@
 //! The blocks of clusters, and the slots in them (chapter "AG Inode Management").
 
-ghost use Rattle.std.specs.Prelude.{◌≡◌, ◌+◌, ◌<◌, ◌≤◌, [], ◌∷◌, length, OnOk};
+ghost use Rattle.std.specs.Prelude.{◌≡◌, ◌+◌, ◌<◌, ◌≤◌, ◌++◌, [], ◌∷◌, length, OnOk};
 ghost use Rattle.std.specs.Option.{ForSome};
 ghost use Rattle.xfs_geom.specs.Conversions.{inode_of};
 ghost use Rattle.xfs_geom.specs.Volumes.{volume_of};
@@ -12,7 +12,6 @@ ghost use Rattle.xfs_slots.specs.Facts.{AddsFacts};
 ghost use Rattle.xfs_slots.specs.Gathered.{gathered, held_in, gathered_both, of_slot};
 ghost use Rattle.xfs_rounds.specs.Judged.{ArePartsOf, IsPartOf};
 
-use crate::facts::{SlotFact, push_fact};
 use crate::faults::PartFault;
 use crate::inodes::Inodes;
 use crate::slots::{see_slot, take_read};
@@ -21,7 +20,7 @@ use std::sync::ledger::Ledger;
 use xfs_disk::{Disk, NoMemory};
 use xfs_geom::Geometry;
 use xfs_inode::read_slot;
-use xfs_rounds::SlotPart;
+use xfs_rounds::{SlotFact, SlotFile, SlotPart};
 use xfs_runs::Steps;
 use xfs_word::part;
 
@@ -140,15 +139,23 @@ fn take_part<D: Disk, L: Ledger>(
     ensures disk { OnlyReads D.size D.holds D.write_faults D.writes D.tells_stops D.moment D.may_leave D.left_since disk.old disk.new }
     ensures reads { D.reads disk.new + steps.old ≤ D.reads disk.old + steps.new }
 {
-    let SlotPart { slot, read, file } = known;
-    let ino = g.inode_of_slot(block, slot);
-    let held = part(bytes, SLOT_SIZE * slot as usize, SLOT_SIZE);
-    match push_fact(held, &read, facts) {
+    let SlotPart { slot, fact, file } = known;
+    match push_fact(fact, facts) {
         Ok(()) => {}
         Err(NoMemory) => return Err(PartFault::NoMemory),
     }
+    let ino = g.inode_of_slot(block, slot);
+    let held = part(bytes, SLOT_SIZE * slot as usize, SLOT_SIZE);
     match file {
-        Some(file) => take_read(alloc, g, disk, ino, held, file, inodes, steps),
-        None => see_slot(alloc, g, disk, ino, held, &read, inodes, steps),
+        SlotFile::Decided(file) => take_read(alloc, g, disk, ino, held, file, inodes, steps),
+        SlotFile::Naming(read) => see_slot(alloc, g, disk, ino, held, &read, inodes, steps),
     }
+}
+
+/// Adds what is kept of a slot.
+fn push_fact(fact: SlotFact, facts: &mut Vec<SlotFact>) -> Result<(), NoMemory>
+    ensures { OnOk result (facts.new.items ≡ facts.old.items ++ fact ∷ []) }
+{
+    facts.push(fact)?;
+    Ok(())
 }

@@ -13,7 +13,6 @@
 
 mod blocks;
 mod clusters;
-mod facts;
 mod faults;
 mod inodes;
 mod recorded;
@@ -22,7 +21,6 @@ mod slots;
 
 pub use blocks::{blocks_of, blocks_of_candidates};
 pub use clusters::see_block;
-pub use facts::{SlotFact, SlotReading};
 pub use faults::PartFault;
 pub use inodes::{InodeFeature, Inodes};
 pub use recorded::clusters_of;

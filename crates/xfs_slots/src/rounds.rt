@@ -13,7 +13,6 @@ ghost use Rattle.xfs_slots.specs.Facts.{slot_fact};
 ghost use Rattle.xfs_slots.specs.Gathered.{gathered, held_in, inodes_of_blocks, gathered_both};
 
 use crate::clusters::take_block;
-use crate::facts::SlotFact;
 use crate::faults::PartFault;
 use crate::inodes::Inodes;
 use std::alloc::Global;
@@ -21,7 +20,7 @@ use std::sync::ledger::Ledger;
 use xfs_bank::BlockBank;
 use xfs_disk::{Disk, NoMemory};
 use xfs_geom::Geometry;
-use xfs_rounds::BlockParts;
+use xfs_rounds::{BlockParts, SlotFact};
 use xfs_runs::Steps;
 
 /// Takes up the slots of the blocks of a round, which were judged by themselves.

@@ -1,23 +1,20 @@
-use Rattle.std.proofs.Common.{◌≡◌, ℕ, List, IfSome, subst, ◌∙◌}
-use Rattle.xfs_disk.specs.Blocks.{Image}
+use Rattle.std.proofs.Common.{ℕ, List, subst, ◌∙◌}
+use Rattle.xfs_word.specs.Field.{field_of}
 use Rattle.xfs_geom.specs.Conversions.{inode_of}
 use Rattle.xfs_geom.specs.Volumes.{volume_of}
-use Rattle.xfs_inode.specs.Named.{slot_reads}
-use Rattle.xfs_inode.specs.Slots.{slot_read}
-use Rattle.xfs_inode.specs.Sound.{IsSound}
-use Rattle.xfs_inode.specs.declared.files.FileRead.{FileRead}
+use Rattle.xfs_rounds.specs.Facts.{fact_of, reading_of}
+use Rattle.xfs_rounds.specs.Judged.{IsFileOf}
 use Rattle.xfs_rounds.proofs.judging.judge_slot.Goals as goal
 
 pub returns-clause-part : goal.returns-clause-part
 returns-clause-part c =
     let v = volume_of c.args.g.now in
-    let file = c.in_ok-file.file in
     let ino = c.inode_of_slot-ino.ensures.value in
     let held = c.part-held.ensures.value in
+    let bytes = c.part-held.result.now in
+    let file = c.in_ok-file.file in
     record {
       few = c.requires.slot;
-      itself = c.read_slot-read.ensures ∙ (λ i. slot_read v (ino i) (held i));
-      decided = subst (λ (bytes : List ℕ). IfSome file (λ (f : FileRead). (image : Image) → f ≡ slot_reads v image (inode_of v c.args.block c.args.slot) bytes)) held
-          (subst (λ (n : ℕ). IfSome file (λ (f : FileRead). (image : Image) → f ≡ slot_reads v image n c.part-held.result.now)) ino c.in_ok-file.ensures.read);
-      sound = subst (λ (n : ℕ). IfSome file (λ (f : FileRead). IsSound v n f)) ino c.in_ok-file.ensures.sound;
+      fact = c.fact_of-fact.ensures ∙ (λ i. record { reading = reading_of (c.read_slot-read.ensures i); lsn = field_of bytes 112 8 }) ∙ (λ i. fact_of v (ino i) (held i));
+      file = subst (λ (slot : List ℕ). IsFileOf v (inode_of v c.args.block c.args.slot) slot file) held (subst (λ (n : ℕ). IsFileOf v n bytes file) ino c.in_ok-file.ensures);
     }

@@ -2,7 +2,7 @@ use Rattle.std.proofs.Common.{ℕ, List, ◌++◌, map, ap, ◌∙◌}
 use Rattle.xfs_geom.specs.Volumes.{volume_of}
 use Rattle.xfs_slots.specs.Facts.{slot_fact}
 use Rattle.xfs_slots.specs.Gathered.{Gathered, gathered, inodes_of_blocks, gathered_both}
-use Rattle.xfs_slots.specs.declared.facts.SlotFact.{SlotFact}
+use Rattle.xfs_rounds.specs.declared.facts.SlotFact.{SlotFact}
 use Rattle.xfs_slots.proofs.Rests.{inodes_of_candidates}
 use Rattle.xfs_scan.proofs.scan.scan.Goals as goal
 

@@ -1,12 +1,12 @@
-use Rattle.std.proofs.Common.{◌≡◌, ℕ, List, ◌++◌, [], ◌∷◌, ap, sym, subst, ◌∙◌}
+use Rattle.std.proofs.Common.{◌≡◌, ℕ, [], ◌∷◌, ap, sym, subst, ◌∙◌}
 use Rattle.std.specs.Option.{ForSome}
-use Rattle.xfs_word.specs.Field.{field_of}
 use Rattle.xfs_geom.specs.Conversions.{inode_of, slot_at}
 use Rattle.xfs_geom.specs.Volumes.{volume_of}
 use Rattle.xfs_inode.specs.Slots.{slot_read}
 use Rattle.xfs_inode.specs.Sound.{IsSound}
 use Rattle.xfs_inode.specs.declared.files.FileRead.{FileRead}
-use Rattle.xfs_slots.specs.Facts.{AddsFacts, reading_of}
+use Rattle.xfs_rounds.specs.Judged.{IsDecided, slot_of}
+use Rattle.xfs_slots.specs.Facts.{AddsFacts}
 use Rattle.xfs_slots.specs.Gathered.{gathered_both, held_in, of_read, of_slot}
 use Rattle.xfs_slots.proofs.Gathering.{on_ok}
 use Rattle.xfs_slots.proofs.Known.{fact_is, ok_anyway, read_is, slot_is}
@@ -17,7 +17,10 @@ inode_of_slot-ino-requires-clause-slot g c = c.requires.known.few
 
 pub take_read-requires-clause-sound : goal.take_read-requires-clause-sound
 take_read-requires-clause-sound g c =
-    subst (λ (n : ℕ). IsSound (volume_of c.args.g.now) n c.in-Some.file) (sym c.inode_of_slot-ino.ensures.value) (rw c.in-Some.is at c.requires.known.sound)
+    let v = volume_of c.args.g.now in
+    let known = c.args.known in
+    let is : IsDecided v (inode_of v c.args.block known.slot) (slot_of c.args.bytes.now known.slot) c.in-Decided.file = rw c.in-Decided.is at c.requires.known.file in
+    subst (λ (n : ℕ). IsSound v n c.in-Decided.file) (sym c.inode_of_slot-ino.ensures.value) is.sound
 
 pub take_read-requires-clause-held : goal.take_read-requires-clause-held
 take_read-requires-clause-held g c = λ image told.
@@ -26,54 +29,56 @@ take_read-requires-clause-held g c = λ image told.
 
 pub see_slot-requires-clause-itself : goal.see_slot-requires-clause-itself
 see_slot-requires-clause-itself g c =
-    c.requires.known.itself ∙ sym (λ i. slot_read (volume_of c.args.g.now) (c.inode_of_slot-ino.ensures.value i) (c.part-held.ensures.value i))
+    let v = volume_of c.args.g.now in
+    let known = c.args.known in
+    let itself : c.in-Naming.read ≡ slot_read v (inode_of v c.args.block known.slot) (slot_of c.args.bytes.now known.slot) = rw c.in-Naming.is at c.requires.known.file in
+    itself ∙ sym (λ i. slot_read v (c.inode_of_slot-ino.ensures.value i) (c.part-held.ensures.value i))
 
 pub see_slot-requires-clause-held : goal.see_slot-requires-clause-held
 see_slot-requires-clause-held g c = λ image told.
     slot_is (volume_of c.args.g.now) image c.args.block c.args.known.slot _ c.args.bytes.now c.inode_of_slot-ino.ensures.inverse (c.requires.held image told)
     ∙ sym c.part-held.ensures.value
 
-pub returns-in-Some-clause-facts : goal.returns-in-Some-clause-facts
-returns-in-Some-clause-facts g c =
+pub returns-in-Decided-clause-facts : goal.returns-in-Decided-clause-facts
+returns-in-Decided-clause-facts g c =
     let v = volume_of c.args.g.now in
     let known = c.args.known in
     let ino = inode_of v c.args.block known.slot in
     let old = c.args.facts.now.items in
     ok_anyway (AddsFacts v c.args.block c.args.bytes.now (ino ∷ []) old c.push_fact.new.facts.items) c.take_read.result (λ image is.
-    fact_is v image c.args.block known.slot ino c.args.bytes.now (ap (slot_at v) (sym c.inode_of_slot-ino.ensures.value) ∙ c.inode_of_slot-ino.ensures.inverse) is known.read
-    c.requires.known.itself old c.push_fact.new.facts.items
-    (c.in-Ok.ensures ∙ ap (λ (b : List ℕ). old ++ record { reading = reading_of known.read; lsn = field_of b 112 8 } ∷ []) c.part-held.ensures.value))
+    fact_is v image c.args.block known.slot ino c.args.bytes.now (ap (slot_at v) (sym c.inode_of_slot-ino.ensures.value) ∙ c.inode_of_slot-ino.ensures.inverse) is known.fact
+    c.requires.known.fact old c.push_fact.new.facts.items c.in-Ok.ensures)
 
-pub returns-in-None-clause-facts : goal.returns-in-None-clause-facts
-returns-in-None-clause-facts g c =
+pub returns-in-Naming-clause-facts : goal.returns-in-Naming-clause-facts
+returns-in-Naming-clause-facts g c =
     let v = volume_of c.args.g.now in
     let known = c.args.known in
     let ino = inode_of v c.args.block known.slot in
     let old = c.args.facts.now.items in
     ok_anyway (AddsFacts v c.args.block c.args.bytes.now (ino ∷ []) old c.push_fact.new.facts.items) c.see_slot.result (λ image is.
-    fact_is v image c.args.block known.slot ino c.args.bytes.now (ap (slot_at v) (sym c.inode_of_slot-ino.ensures.value) ∙ c.inode_of_slot-ino.ensures.inverse) is known.read
-    c.requires.known.itself old c.push_fact.new.facts.items
-    (c.in-Ok.ensures ∙ ap (λ (b : List ℕ). old ++ record { reading = reading_of known.read; lsn = field_of b 112 8 } ∷ []) c.part-held.ensures.value))
+    fact_is v image c.args.block known.slot ino c.args.bytes.now (ap (slot_at v) (sym c.inode_of_slot-ino.ensures.value) ∙ c.inode_of_slot-ino.ensures.inverse) is known.fact
+    c.requires.known.fact old c.push_fact.new.facts.items c.in-Ok.ensures)
 
-pub returns-in-Some-clause-held : goal.returns-in-Some-clause-held
-returns-in-Some-clause-held g c =
+pub returns-in-Decided-clause-held : goal.returns-in-Decided-clause-held
+returns-in-Decided-clause-held g c =
     let v = volume_of c.args.g.now in
     let known = c.args.known in
     let ino = inode_of v c.args.block known.slot in
-    let file = c.in-Some.file in
+    let file = c.in-Decided.file in
     let old = held_in c.args.inodes.now in
     let new = held_in c.take_read.new.inodes in
     let told = g.D.Disk.holds c.args.disk.now in
+    let is_file : IsDecided v ino (slot_of c.args.bytes.now c.args.known.slot) file = rw c.in-Decided.is at c.requires.known.file in
     on_ok (ForSome told (λ image. new ≡ gathered_both old (of_read v image c.inode_of_slot-ino.result file))) (ForSome told (λ image. new ≡ gathered_both old (of_slot v image ino)))
     c.take_read.result
     (λ held image is. held image is
     ∙ ap (λ (n : ℕ). gathered_both old (of_read v image n file)) c.inode_of_slot-ino.ensures.value
     ∙ ap (λ (f : FileRead). gathered_both old (of_read v image ino f)) (read_is v image c.args.block known.slot ino c.args.bytes.now
-    (ap (slot_at v) (sym c.inode_of_slot-ino.ensures.value) ∙ c.inode_of_slot-ino.ensures.inverse) (c.requires.held image is) file (rw c.in-Some.is at c.requires.known.decided)))
+    (ap (slot_at v) (sym c.inode_of_slot-ino.ensures.value) ∙ c.inode_of_slot-ino.ensures.inverse) (c.requires.held image is) file is_file.always))
     c.take_read.ensures.held
 
-pub returns-in-None-clause-held : goal.returns-in-None-clause-held
-returns-in-None-clause-held g c =
+pub returns-in-Naming-clause-held : goal.returns-in-Naming-clause-held
+returns-in-Naming-clause-held g c =
     let v = volume_of c.args.g.now in
     let ino = inode_of v c.args.block c.args.known.slot in
     let old = held_in c.args.inodes.now in

@@ -1,10 +1,9 @@
 //! What slots read as by themselves (chapter "On-disk Inode").
 
-ghost use Rattle.std.specs.Prelude.{◌≡◌, ◌++◌, [], ◌∷◌, length, OnOk};
+ghost use Rattle.std.specs.Prelude.{◌≡◌, length};
 ghost use Rattle.xfs_word.specs.Field.{field_of};
-ghost use Rattle.xfs_slots.specs.Facts.{reading_of};
+ghost use Rattle.xfs_rounds.specs.Facts.{reading_of};
 
-use xfs_disk::NoMemory;
 use xfs_inode::SlotRead;
 use xfs_inode::layouts::inode::LSN;
 
@@ -27,16 +26,15 @@ pub struct SlotFact {
     pub lsn: u64,
 }
 
-/// Adds what is kept of a slot of 512 bytes that reads so by itself.
-pub fn push_fact(slot: &[u8], read: &SlotRead, facts: &mut Vec<SlotFact>) -> Result<(), NoMemory>
+/// What is kept of a slot of 512 bytes that reads so by itself.
+pub(crate) fn fact_of(slot: &[u8], read: &SlotRead) -> SlotFact
     requires { length slot.now ≡ 512 }
-    ensures { OnOk result (facts.new.items ≡ facts.old.items ++ record { reading = reading_of read.now; lsn = field_of slot.now 112 8 } ∷ []) }
+    ensures { result ≡ record { reading = reading_of read.now; lsn = field_of slot.now 112 8 } }
 {
-    facts.push(SlotFact {
+    SlotFact {
         reading: reading_of(read),
         lsn: LSN.read(slot),
-    })?;
-    Ok(())
+    }
 }
 
 /// What of a slot's reading is kept.
