@@ -22,8 +22,11 @@ use xfs_runs::Steps;
 use xfs_slots::{Inodes, PartFault, blocks_of_candidates, take_round};
 use xfs_volume::ClusterRec;
 
-/// The most blocks of a round.
-const ROUND: usize = 512;
+/// The blocks of a round for each worker: so few that their bytes, and what is known of their slots, stay in a processor's cache.
+const PIECE: usize = 64;
+
+/// The most workers whose blocks a round has.
+const WORKERS: u32 = 8;
 
 /// What is kept of the slots of clusters, and what they give.
 #[derive(Drop)]
@@ -96,9 +99,10 @@ fn scan_blocks<R: Threads + Sync, D: Disk, G: Gate, L: Ledger>(
     ensures disk { OnlyReads D.size D.holds D.write_faults D.writes D.tells_stops D.moment D.may_leave D.left_since disk.old disk.new }
     ensures reads { D.reads disk.new + steps.old ≤ D.reads disk.old + steps.new }
 {
+    let size = round_size(workers);
     let mut start = 0;
     while start < blocks.len() {
-        let round = round_from(blocks, start);
+        let round = round_from(blocks, start, size);
         match scan_round(
             rt, alloc, g, disk, round, workers, gate, slots, inodes, steps,
         ) {
@@ -109,16 +113,24 @@ fn scan_blocks<R: Threads + Sync, D: Disk, G: Gate, L: Ledger>(
     Ok(())
 }
 
-/// The round of blocks that begins at one of them.
-fn round_from(blocks: &[u64], start: usize) -> &[u64]
-    requires { start < length blocks.now }
+/// How many blocks a round has at most.
+fn round_size(workers: u32) -> usize
+    ensures { 0 < result }
+{
+    PIECE * workers.max(1).min(WORKERS) as usize
+}
+
+/// The round of blocks that begins at one of them, of so many at most.
+fn round_from(blocks: &[u64], start: usize, size: usize) -> &[u64]
+    requires start { start < length blocks.now }
+    requires size { 0 < size }
     ensures some { 0 < length result.now }
     ensures within { start + length result.now ≤ length blocks.now }
     ensures next { take (start + length result.now) blocks.now ≡ take start blocks.now ++ result.now }
     ensures low { (end : ℕ) → All (λ block. block < end) blocks.now → All (λ block. block < end) result.now }
 {
     let rest = &blocks[start..];
-    &rest[..rest.len().min(ROUND)]
+    &rest[..rest.len().min(size)]
 }
 
 /// Reads the blocks of a round, judges their slots, and takes them up.
