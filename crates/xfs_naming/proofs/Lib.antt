@@ -9,6 +9,8 @@ pub mod Reaching
 pub mod Order
 pub mod Kept
 pub mod Single
+pub mod FileKinds
+pub mod ByKind
 pub mod Worded
 pub mod Cataloged
 pub mod Judged

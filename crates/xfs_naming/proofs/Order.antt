@@ -7,9 +7,12 @@ use Rattle.xfs_dirdata.specs.declared.records.EntryRec.{EntryRec}
 use Rattle.xfs_volume.specs.declared.directories.DirRec.{DirRec}
 use Rattle.xfs_volume.specs.declared.files.FileRec.{FileRec}
 use Rattle.xfs_volume.specs.Names.{is_directory}
+use Rattle.xfs_naming.specs.declared.kinds.FileKind.{FileKind}
 use Rattle.xfs_naming.specs.declared.runs.Link.{Link}
 use Rattle.xfs_naming.specs.Naming.{NumbersAscend, AreGrouped, AreNamed, numbers_of}
 use Rattle.xfs_naming.specs.Ordered.{AreOrdered, AreLinks}
+use Rattle.xfs_naming.specs.Private.Kinds.{kind_of}
+use Rattle.xfs_naming.proofs.FileKinds.{kind_numbers}
 
 -- the numbers rise, or stay
 abbrev pub Rises : ℕ → List ℕ → Type 0
@@ -66,6 +69,10 @@ grouped_rise low [] entries up none = subst (λ (es : List EntryRec). Rises low 
 grouped_rise low (d ∷ ds) entries up (own, rest, is, all, more) =
     subst (λ (es : List EntryRec). Rises low (dirs_of es)) (sym is)
     (own_rises low d.ino own rest all up.0 (rises_lower d.ino (d.ino + 1) (dirs_of rest) (omega arith) (grouped_rise (d.ino + 1) ds rest up.1 more)))
+
+-- what is asked of files stands in their order
+pub kinds_rise : (files : List FileRec) → NumbersAscend 0 (numbers_of files) → IsNonDecreasingBy (λ (k : FileKind). k.ino) (map kind_of files)
+kinds_rise files up = rises_by (λ (k : FileKind). k.ino) 0 (map kind_of files) (subst (Rises 0) (sym (kind_numbers files)) (ascend_rise 0 (numbers_of files) up))
 
 -- all that is looked at stands in its order
 pub ordered : (root : ℕ) (files : List FileRec) (entries : List EntryRec) (dirs : List DirRec) (links : List Link) → AreNamed files entries dirs → root < 2 ^ 32

@@ -14,7 +14,7 @@ pub any_of : {X : Type 0} (p : X → Bool) (P : X → Type 0) (xs : List X) → 
 any_of p P xs says any = let found = Any-from_list_any p xs any in (found.0, found.1, found.2, found.3, says found.1 found.4)
 
 -- none has a number that is lower
-none_lower : (q : FileRec → Bool) (low x : ℕ) (files : List FileRec) → NumbersAscend low (numbers_of files) → x < low → list_any (λ (f : FileRec). f.ino == x && q f) files ≡ false
+pub none_lower : (q : FileRec → Bool) (low x : ℕ) (files : List FileRec) → NumbersAscend low (numbers_of files) → x < low → list_any (λ (f : FileRec). f.ino == x && q f) files ≡ false
 none_lower q low x [] up less = refl
 none_lower q low x (f ∷ fs) up less =
     let apart : f.ino == x ≡ false = grind (arith, nat_tests, up.0) in

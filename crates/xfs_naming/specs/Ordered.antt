@@ -1,14 +1,16 @@
 -- What is looked at by number stands in the order of that number.
-use Rattle.std.specs.Prelude.{ℕ, ◌<◌, ◌≤◌, ◌^◌, slice_index, ◌≡◌, ◌==◌, Bool, true, List, filter, length}
+use Rattle.std.specs.Prelude.{ℕ, ◌<◌, ◌≤◌, ◌^◌, slice_index, ◌≡◌, ◌==◌, Bool, true, List, map, filter, length}
 use Rattle.std.specs.List.{list_all, list_any}
 use Rattle.std.specs.List.Sorted.{IsNonDecreasingBy}
 use Rattle.xfs_dirdata.specs.declared.records.EntryRec.{EntryRec}
 use Rattle.xfs_volume.specs.declared.directories.DirRec.{DirRec}
 use Rattle.xfs_volume.specs.declared.files.FileRec.{FileRec}
 use Rattle.xfs_naming.specs.declared.runs.Link.{Link}
+use Rattle.xfs_naming.specs.declared.kinds.FileKind.{FileKind}
 use Rattle.xfs_naming.specs.declared.naming.Names.{Names}
 use Rattle.xfs_naming.specs.Lawful.{IsReached}
-use Rattle.xfs_naming.specs.Naming.{entries_to, is_directory_at, is_reached}
+use Rattle.xfs_naming.specs.Naming.{entries_to, is_directory_at, is_reached, NumbersAscend, numbers_of}
+use Rattle.xfs_naming.specs.Private.Kinds.{kind_of}
 
 -- the link that an entry is
 abbrev pub link_of : EntryRec → Link
@@ -33,8 +35,12 @@ pub record AreOrdered (root : ℕ) (files : List FileRec) (entries : List EntryR
   pub by_target : IsNonDecreasingBy (λ (l : Link). l.target) links
   pub linked : AreLinks entries links
 
-abbrev pub IsOrdered : Names → Type 0
-IsOrdered names = AreOrdered names.root names.files.now names.entries.now names.dirs.now names.links.now
+-- files ascend, and what is asked of them again and again is of the same files, in their order
+pub record IsOrdered (names : Names) : Type 0 where
+  pub lists : AreOrdered names.root names.files.now names.entries.now names.dirs.now names.links.now
+  pub ascend : NumbersAscend 0 (numbers_of names.files.now)
+  pub by_kind : IsNonDecreasingBy (λ (k : FileKind). k.ino) names.kinds.now
+  pub kinds : names.kinds.now ≡ map kind_of names.files.now
 
 -- a list of numbers has those directories that are reached from the root
 abbrev pub IsWalked : Names → List ℕ → Type 0

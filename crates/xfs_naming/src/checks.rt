@@ -8,6 +8,7 @@ ghost use Rattle.xfs_naming.specs.Ordered.{IsOrdered, IsWalked};
 
 use crate::counts::broken_links;
 use crate::directories::broken_directory;
+use crate::kinds::kinds_of;
 use crate::linking::links_of;
 use crate::naming::Names;
 use crate::numbering::{numbers_of, with_number};
@@ -31,7 +32,7 @@ fn first_place(
     requires walked { IsWalked names.now reached.now.keys }
     ensures { IfOk result (λ law. law ≡ first_broken (place_laws names.now.root names.now.files.now names.now.entries.now names.now.dirs.now)) }
 {
-    let numbers = with_number(numbers_of(alloc, names.files)?, names.root)?;
+    let numbers = with_number(numbers_of(alloc, names)?, names.root)?;
     Ok(broken_place(names, reached, numbers.as_slice()))
 }
 
@@ -42,7 +43,7 @@ fn first_links(alloc: Global, names: &Names) -> Result<Option<Law>, NoMemory>
     requires named { AreNamed names.now.files.now names.now.entries.now names.now.dirs.now }
     ensures { IfOk result (λ law. law ≡ first_broken (link_laws names.now.root names.now.files.now names.now.entries.now)) }
 {
-    let second = with_number(numbers_of(alloc, names.files)?, names.root + 2)?;
+    let second = with_number(numbers_of(alloc, names)?, names.root + 2)?;
     let numbers = with_number(second, names.root + 1)?;
     Ok(broken_links(names, numbers.as_slice()))
 }
@@ -83,10 +84,12 @@ pub fn check_names(
     ensures law { IfOk result (λ law. law ≡ first_broken (naming_laws root files.now entries.now dirs.now)) }
     ensures lawful { IfOk result (λ law. law ≡ None ↔ IsNamingLawful root files.now entries.now dirs.now) }
 {
+    let kinds = kinds_of(alloc, files)?;
     let links = links_of(alloc, entries)?;
     let names = Names {
         root,
         files,
+        kinds: kinds.as_slice(),
         entries,
         dirs,
         links: links.as_slice(),

@@ -1,18 +1,20 @@
 //! The ninth law: each file has as many links as names, a directory two and one for each directory in it, and a file of
 //! the system's own is there, empty, with one.
 
-ghost use Rattle.std.specs.Prelude.{◌≡◌, ◌==◌, ◌&&◌, length, map, count_by, Some};
+ghost use Rattle.std.specs.Prelude.{◌≡◌, ◌==◌, ◌&&◌, true, false, length, map, count_by};
 ghost use Rattle.xfs_dirdata.specs.declared.records.EntryRec.{EntryRec};
-ghost use Rattle.xfs_volume.specs.Laws.{first_broken};
-ghost use Rattle.xfs_naming.specs.Naming.{is_directory_at, is_empty_regular, entries_in, links_of, links_at, file_at};
+ghost use Rattle.xfs_volume.specs.Laws.{first_broken, law_at};
+ghost use Rattle.xfs_naming.specs.Naming.{is_system, is_directory_at, is_empty_regular, links_at, file_at};
 ghost use Rattle.xfs_naming.specs.Ordered.{IsOrdered};
+ghost use Rattle.xfs_naming.specs.Private.Kinds.{links_due, empty_links};
 
-use crate::lookups::{file_at, is_directory_at, is_system};
+use crate::kinds::{FileKind, kind_at};
+use crate::lookups::{DIRECTORY, file_at, is_directory_at, is_system};
 use crate::naming::{Names, Near};
 use crate::places::names_of;
 use crate::runs::records_by_number;
 use xfs_dirdata::EntryRec;
-use xfs_volume::{FileRec, Law, is_directory, type_of};
+use xfs_volume::{FileRec, Law, type_of};
 
 /// The type of a regular file (chapter "On-disk Inode").
 const REGULAR: u16 = 8;
@@ -32,16 +34,16 @@ fn count_directories(names: &Names, own: &[EntryRec]) -> usize
     count
 }
 
-/// The links that a file should have: for a directory two and one for each directory in it, for another file one for
-/// each name.
-fn links_due(names: &Names, near: &mut Near, file: &FileRec) -> u128
+/// The links that a file of a kind should have: for a directory two and one for each directory in it, for another file one
+/// for each name.
+fn links_due(names: &Names, near: &mut Near, kind: FileKind) -> u128
     requires { IsOrdered names.now }
-    ensures { result ≡ links_of names.now.files.now names.now.entries.now file.now }
+    ensures { result ≡ links_due names.now.files.now names.now.entries.now kind }
 {
-    if is_directory(file) {
-        2 + count_directories(names, records_by_number(names.entries, file.ino)) as u128
+    if kind.kind == DIRECTORY {
+        2 + count_directories(names, records_by_number(names.entries, kind.ino)) as u128
     } else {
-        names_of(names, &mut near.links, file.ino) as u128
+        names_of(names, &mut near.links, kind.ino) as u128
     }
 }
 
@@ -55,27 +57,43 @@ fn is_empty_regular(file: &FileRec) -> bool
         && file.tree.as_slice().is_empty()
 }
 
-/// What the ninth law says of a file that stands for a number.
-fn file_links(names: &Names, near: &mut Near, file: &FileRec, ino: u64) -> Law
-    requires { IsOrdered names.now }
-    ensures { result ≡ links_at names.now.root names.now.files.now names.now.entries.now (Some file.now) ino }
+/// What the ninth law says of a number of the system's own.
+fn system_links(names: &Names, ino: u64) -> Law
+    requires ordered { IsOrdered names.now }
+    requires system { is_system names.now.root ino ≡ true }
+    ensures { result ≡ links_at names.now.root names.now.files.now names.now.entries.now (file_at names.now.files.now ino) ino }
 {
-    let nlink = file.core.nlink as u128;
-    if !is_system(names.root, ino) {
-        return law_nine(ino, nlink, links_due(names, near, file));
+    match file_at(names, ino) {
+        Some(file) => empty_links(file, ino),
+        None => missing_law(ino),
     }
+}
+
+/// What the ninth law says of a file of the system's own.
+fn empty_links(file: &FileRec, ino: u64) -> Law
+    ensures { result ≡ empty_links file.now ino }
+{
     if is_empty_regular(file) {
-        return law_nine(ino, nlink, 1);
+        return law_nine(ino, file.core.nlink as u128, 1);
     }
     law_nine(ino, 0, 1)
 }
 
+/// What the ninth law says of another number.
+fn other_links(names: &Names, near: &mut Near, ino: u64) -> Law
+    requires ordered { IsOrdered names.now }
+    requires other { is_system names.now.root ino ≡ false }
+    ensures { result ≡ links_at names.now.root names.now.files.now names.now.entries.now (file_at names.now.files.now ino) ino }
+{
+    match kind_at(names, &mut near.files, ino) {
+        Some(kind) => law_nine(ino, kind.nlink as u128, links_due(names, near, kind)),
+        None => missing_law(ino),
+    }
+}
+
 /// The ninth law at a number, with the links that are held and those that are due.
 fn law_nine(place: u64, held: u128, due: u128) -> Law
-    ensures law { result.law ≡ 9 }
-    ensures place { result.place ≡ place }
-    ensures held { result.held ≡ held }
-    ensures due { result.due ≡ due }
+    ensures { result ≡ law_at 9 place held due }
 {
     Law {
         law: 9,
@@ -85,15 +103,22 @@ fn law_nine(place: u64, held: u128, due: u128) -> Law
     }
 }
 
+/// The ninth law at a number of which there is no file.
+fn missing_law(ino: u64) -> Law
+    ensures { result ≡ law_at 9 ino 0 1 }
+{
+    law_nine(ino, 0, 1)
+}
+
 /// What the ninth law says of a number.
 fn links_at(names: &Names, near: &mut Near, ino: u64) -> Law
     requires { IsOrdered names.now }
     ensures { result ≡ links_at names.now.root names.now.files.now names.now.entries.now (file_at names.now.files.now ino) ino }
 {
-    match file_at(names, &mut near.files, ino) {
-        Some(file) => file_links(names, near, file, ino),
-        None => law_nine(ino, 0, 1),
+    if is_system(names.root, ino) {
+        return system_links(names, ino);
     }
+    other_links(names, near, ino)
 }
 
 /// The first of these numbers that breaks the ninth law.

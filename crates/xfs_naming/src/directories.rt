@@ -1,71 +1,67 @@
 //! The seventh law: directories are whole, and their entries name files in use by their types.
 
-ghost use Rattle.std.specs.Prelude.{◌≡◌, ◌==◌, ◌&&◌, IfOk, map};
-ghost use Rattle.std.specs.List.{list_all, list_any};
-ghost use Rattle.xfs_dirdata.specs.declared.records.EntryRec.{EntryRec};
+ghost use Rattle.std.specs.Prelude.{◌≡◌, true, IfOk};
+ghost use Rattle.std.specs.List.{list_all};
+ghost use Rattle.std.specs.Option.{option_map};
 ghost use Rattle.xfs_volume.specs.Laws.{first_broken};
-ghost use Rattle.xfs_volume.specs.declared.files.FileRec.{FileRec};
-ghost use Rattle.xfs_volume.specs.Names.{is_name, type_of, entry_type};
-ghost use Rattle.xfs_naming.specs.Naming.{has_target, has_type, first_failing, directory_tests, directory_at, directory_laws, names_differ};
+ghost use Rattle.xfs_naming.specs.Naming.{has_target, has_type, file_at, first_failing, directory_tests, directory_at, directory_laws};
 ghost use Rattle.xfs_naming.specs.Ordered.{IsOrdered};
+ghost use Rattle.xfs_naming.specs.Private.Kinds.{kind_of};
 
-use crate::lookups::{entry_type, is_in_use, is_system};
+use crate::kinds::{FileKind, kind_at};
+use crate::lookups::{entry_type, is_system};
 use crate::naming::Names;
-use crate::runs::{records_by_number, records_near};
+use crate::runs::records_by_number;
 use crate::texts::has_right_names;
 use std::alloc::Global;
 use xfs_dirdata::EntryRec;
 use xfs_disk::NoMemory;
-use xfs_volume::{DirRec, FileRec, Law, type_of};
+use xfs_volume::{DirRec, Law};
 
-/// Whether an entry names a file in use that is not one of the system's.
-fn has_target(names: &Names, near: &mut usize, entry: &EntryRec) -> bool
-    requires { IsOrdered names.now }
+/// Whether an entry names a file in use that is not one of the system's, by the kind of the file that it names.
+fn has_target(names: &Names, kind: Option<FileKind>, entry: &EntryRec) -> bool
+    requires ordered { IsOrdered names.now }
+    requires known { kind ≡ option_map kind_of (file_at names.now.files.now entry.now.ino) }
     ensures { result ≡ has_target names.now.root names.now.files.now entry.now }
 {
-    is_in_use(names, near, entry.ino) && !is_system(names.root, entry.ino)
+    match kind {
+        Some(_) => !is_system(names.root, entry.ino),
+        None => false,
+    }
 }
 
-/// Whether one of these files has the type that an entry states.
-fn have_type(files: &[FileRec], ftype: u8) -> bool
-    ensures { result ≡ list_any (λ (f : FileRec). entry_type (type_of f) == ftype) files.now }
-{
-    files.iter().any(|file| entry_type(type_of(file)) == ftype)
-}
-
-/// Whether an entry states the type of the file that it names, or none.
-fn has_type(names: &Names, near: &mut usize, entry: &EntryRec) -> bool
-    requires { IsOrdered names.now }
+/// Whether an entry states the type of the file that it names, or none, by the kind of that file.
+fn has_type(names: &Names, kind: Option<FileKind>, entry: &EntryRec) -> bool
+    requires ordered { IsOrdered names.now }
+    requires known { kind ≡ option_map kind_of (file_at names.now.files.now entry.now.ino) }
     ensures { result ≡ has_type names.now.files.now entry.now }
 {
-    entry.ftype == 0 || have_type(records_near(names.files, near, entry.ino), entry.ftype)
+    if entry.ftype == 0 {
+        return true;
+    }
+    match kind {
+        Some(kind) => entry_type(kind.kind) == entry.ftype,
+        None => false,
+    }
 }
 
-/// Whether each entry names a file in use that is not one of the system's.
-fn have_targets(names: &Names, own: &[EntryRec]) -> bool
+/// Whether each entry names a file in use that is not one of the system's; where each does, `typed` tells whether each
+/// states the type of that file, or none.
+fn have_targets(names: &Names, own: &[EntryRec], typed: &mut bool) -> bool
     requires { IsOrdered names.now }
-    ensures { result ≡ list_all (has_target names.now.root names.now.files.now) own.now }
+    ensures targets { result ≡ list_all (has_target names.now.root names.now.files.now) own.now }
+    ensures types { result ≡ true → typed.new ≡ list_all (has_type names.now.files.now) own.now }
 {
     let mut near = 0;
+    let mut right = true;
     for entry in own {
-        if !has_target(names, &mut near, entry) {
+        let kind = kind_at(names, &mut near, entry.ino);
+        if !has_target(names, kind, entry) {
             return false;
         }
+        right = right && has_type(names, kind, entry);
     }
-    true
-}
-
-/// Whether each entry states the type of the file that it names, or none.
-fn have_types(names: &Names, own: &[EntryRec]) -> bool
-    requires { IsOrdered names.now }
-    ensures { result ≡ list_all (has_type names.now.files.now) own.now }
-{
-    let mut near = 0;
-    for entry in own {
-        if !has_type(names, &mut near, entry) {
-            return false;
-        }
-    }
+    *typed = right;
     true
 }
 
@@ -85,10 +81,11 @@ fn first_failing(
     if !has_right_names(alloc, own)? {
         return Ok(2);
     }
-    if !have_targets(names, own) {
+    let mut typed = true;
+    if !have_targets(names, own, &mut typed) {
         return Ok(3);
     }
-    if !have_types(names, own) {
+    if !typed {
         return Ok(4);
     }
     Ok(0)

@@ -14,6 +14,7 @@
 mod checks;
 mod counts;
 mod directories;
+mod kinds;
 mod linking;
 mod lookups;
 mod naming;

@@ -4,13 +4,17 @@ ghost use Rattle.std.specs.Prelude.{◌≡◌, ◌<◌, ◌^◌, ◌==◌};
 ghost use Rattle.std.specs.List.{list_any};
 ghost use Rattle.std.specs.Option.{option_copied};
 ghost use Rattle.xfs_volume.specs.declared.directories.DirRec.{DirRec};
-ghost use Rattle.xfs_volume.specs.Names.{is_directory, entry_type};
-ghost use Rattle.xfs_naming.specs.Naming.{is_system, is_in_use, is_directory_at, file_at, states_parent};
+ghost use Rattle.xfs_volume.specs.Names.{entry_type};
+ghost use Rattle.xfs_naming.specs.Naming.{is_system, is_directory_at, file_at, states_parent};
 ghost use Rattle.xfs_naming.specs.Ordered.{IsOrdered};
 
+use crate::kinds::kind_at;
 use crate::naming::Names;
-use crate::runs::{records_by_number, records_near};
-use xfs_volume::{DirRec, FileRec, is_directory};
+use crate::runs::records_by_number;
+use xfs_volume::{DirRec, FileRec};
+
+/// The type of a directory (chapter "On-disk Inode").
+pub const DIRECTORY: u16 = 4;
 
 /// Whether a number is that of one of the two files of the system's own, which stand behind the root.
 pub fn is_system(root: u64, ino: u64) -> bool
@@ -37,28 +41,12 @@ pub fn entry_type(kind: u16) -> u8
     }
 }
 
-/// The file with a number. `near` is a place among the files at which it may stand, and then the one behind it; so in
-/// what follows.
-pub fn file_at<'a>(names: &Names<'a>, near: &mut usize, ino: u64) -> Option<&'a FileRec>
+/// The file with a number.
+pub fn file_at<'a>(names: &Names<'a>, ino: u64) -> Option<&'a FileRec>
     requires { IsOrdered names.now }
     ensures { option_copied result ≡ file_at names.now.files.now ino }
 {
-    records_near(names.files, near, ino).first()
-}
-
-/// Whether a file with the number is in use.
-pub fn is_in_use(names: &Names, near: &mut usize, ino: u64) -> bool
-    requires { IsOrdered names.now }
-    ensures { result ≡ is_in_use names.now.files.now ino }
-{
-    !records_near(names.files, near, ino).is_empty()
-}
-
-/// Whether one of these files is a directory.
-fn have_directory(files: &[FileRec]) -> bool
-    ensures { result ≡ list_any is_directory files.now }
-{
-    files.iter().any(|file| is_directory(file))
+    records_by_number(names.files, ino).first()
 }
 
 /// Whether one of these directories states the parent.
@@ -73,7 +61,10 @@ pub fn is_directory_at(names: &Names, near: &mut usize, ino: u64) -> bool
     requires { IsOrdered names.now }
     ensures { result ≡ is_directory_at names.now.files.now ino }
 {
-    have_directory(records_near(names.files, near, ino))
+    match kind_at(names, near, ino) {
+        Some(kind) => kind.kind == DIRECTORY,
+        None => false,
+    }
 }
 
 /// Whether a directory states this parent.

@@ -1,5 +1,6 @@
 //! What the laws of names look at.
 
+use crate::kinds::FileKind;
 use crate::runs::Link;
 use xfs_dirdata::EntryRec;
 use xfs_volume::{DirRec, FileRec};
@@ -11,6 +12,8 @@ pub struct Names<'a> {
     pub root: u64,
     /// The files in use, by number.
     pub files: &'a [FileRec],
+    /// What is asked of each of them again and again, in their order.
+    pub kinds: &'a [FileKind],
     /// The entries of all directories, by directory.
     pub entries: &'a [EntryRec],
     /// The directories, by number.
@@ -22,7 +25,7 @@ pub struct Names<'a> {
 /// Where files and links are looked for first: what goes by ascending numbers finds them so.
 #[derive(Clone, Copy, Debug)]
 pub struct Near {
-    /// A place among the files.
+    /// A place among the files and their kinds.
     pub files: usize,
     /// A place among the links.
     pub links: usize,

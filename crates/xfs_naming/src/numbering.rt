@@ -1,18 +1,30 @@
 //! The numbers of files, and of some that should be.
 
-ghost use Rattle.std.specs.Prelude.{◌≡◌, ℕ, ◌<◌, length, slice_index, IfOk, MatchResult};
+ghost use Rattle.std.specs.Prelude.{◌≡◌, ℕ, ◌<◌, length, slice_index, map, IfOk, MatchResult};
 ghost use Rattle.xfs_naming.specs.Naming.{NumbersAscend, numbers_of};
 ghost use Rattle.xfs_disk.specs.Lists.{with_number};
-ghost use Rattle.xfs_naming.specs.Ordered.{IsPlaceFor};
+ghost use Rattle.xfs_naming.specs.Ordered.{IsOrdered, IsPlaceFor};
+ghost use Rattle.xfs_naming.specs.declared.kinds.FileKind.{FileKind};
 
+use crate::kinds::FileKind;
+use crate::naming::Names;
 use std::alloc::{AllocError, AllocFailed, Global};
-use xfs_volume::FileRec;
 
-/// The numbers of these files.
-pub fn numbers_of(alloc: Global, files: &[FileRec]) -> Result<Vec<u64>, AllocError>
-    ensures { IfOk result (λ numbers. numbers.items ≡ numbers_of files.now) }
+/// The numbers that these kinds state.
+fn each_number(alloc: Global, kinds: &[FileKind]) -> Result<Vec<u64>, AllocError>
+    ensures { IfOk result (λ numbers. numbers.items ≡ map (λ (k : FileKind). k.ino) kinds.now) }
 {
-    files.iter().map(|file| file.ino).collect(alloc)
+    kinds.iter().map(|kind| kind.ino).collect(alloc)
+}
+
+/// The numbers of all files.
+pub fn numbers_of(alloc: Global, names: &Names) -> Result<Vec<u64>, AllocError>
+    requires { IsOrdered names.now }
+    ensures numbers { IfOk result (λ numbers. numbers.items ≡ numbers_of names.now.files.now) }
+    ensures ascend { IfOk result (λ numbers. NumbersAscend 0 numbers.items) }
+{
+    let numbers = each_number(alloc, names.kinds)?;
+    Ok(numbers)
 }
 
 /// Where a number stands among ascending ones, or where it has to stand.

@@ -1,9 +1,10 @@
-use Rattle.std.proofs.Common.{◌==◌, ap, ◌∙◌}
-use Rattle.std.specs.List.{list_any}
-use Rattle.xfs_volume.specs.Names.{is_directory}
-use Rattle.xfs_volume.specs.declared.files.FileRec.{FileRec}
-use Rattle.xfs_naming.proofs.Chosen.{any_of_run}
+use Rattle.std.proofs.Common.{◌==◌, sym, ◌∙◌}
+use Rattle.xfs_naming.specs.declared.kinds.FileKind.{FileKind}
+use Rattle.xfs_naming.proofs.FileKinds.{kind_says, none_says}
 use Rattle.xfs_naming.proofs.lookups.is_directory_at.Goals as goal
 
-pub returns : goal.returns
-returns c = c.have_directory.ensures ∙ ap (list_any is_directory) c.records_near.ensures ∙ any_of_run (λ (f : FileRec). f.ino == c.args.ino) is_directory c.args.names.now.files.now
+pub returns-in-Some : goal.returns-in-Some
+returns-in-Some c = kind_says (λ (k : FileKind). k.kind == 4) c.args.names.now.files.now c.requires.ascend c.args.ino c.in-Some.kind (sym c.in-Some.is ∙ c.kind_at.ensures)
+
+pub returns-in-None : goal.returns-in-None
+returns-in-None c = none_says (λ (k : FileKind). k.kind == 4) c.args.names.now.files.now c.requires.ascend c.args.ino (sym c.in-None.is ∙ c.kind_at.ensures)
