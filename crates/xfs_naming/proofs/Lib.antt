@@ -5,6 +5,7 @@ pub mod Broken
 pub mod Ascending
 pub mod Linked
 pub mod Grouped
+pub mod Numbers
 pub mod Reaching
 pub mod Order
 pub mod Kept

@@ -15,7 +15,7 @@ use crate::numbering::{numbers_of, with_number};
 use crate::places::broken_place;
 use crate::walks::walk;
 use std::alloc::Global;
-use std::collections::HashSet;
+use std::collections::BTreeSet;
 use xfs_dirdata::EntryRec;
 use xfs_disk::NoMemory;
 use xfs_volume::{DirRec, FileRec, Law};
@@ -25,7 +25,7 @@ use xfs_volume::{DirRec, FileRec, Law};
 fn first_place(
     alloc: Global,
     names: &Names,
-    reached: &HashSet<u64>,
+    reached: &BTreeSet<u64>,
 ) -> Result<Option<Law>, NoMemory>
     requires ordered { IsOrdered names.now }
     requires named { AreNamed names.now.files.now names.now.entries.now names.now.dirs.now }
@@ -50,7 +50,7 @@ fn first_links(alloc: Global, names: &Names) -> Result<Option<Law>, NoMemory>
 
 /// The first of the laws of names that is broken.
 #[tactic(auto, unfolding(crate::specs::Naming::naming_laws))]
-fn first_law(alloc: Global, names: &Names, reached: &HashSet<u64>) -> Result<Option<Law>, NoMemory>
+fn first_law(alloc: Global, names: &Names, reached: &BTreeSet<u64>) -> Result<Option<Law>, NoMemory>
     requires ordered { IsOrdered names.now }
     requires named { AreNamed names.now.files.now names.now.entries.now names.now.dirs.now }
     requires walked { IsWalked names.now reached.now.keys }

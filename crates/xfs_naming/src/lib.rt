@@ -20,6 +20,7 @@ mod lookups;
 mod naming;
 mod numbering;
 mod places;
+mod reached;
 mod runs;
 mod texts;
 mod walks;

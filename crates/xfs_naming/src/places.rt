@@ -11,8 +11,9 @@ ghost use Rattle.xfs_naming.specs.Ordered.{IsOrdered, IsWalked, links_to};
 
 use crate::lookups::{is_directory_at, is_system, states_parent};
 use crate::naming::{Names, Near};
+use crate::reached::is_reached;
 use crate::runs::{Link, records_by_number, records_near};
-use std::collections::HashSet;
+use std::collections::BTreeSet;
 use xfs_volume::Law;
 
 /// How many entries name a file. `near` is a place among the links at which they may begin, and then the one behind them.
@@ -58,7 +59,7 @@ fn root_failing(names: &Names, near: &mut Near) -> u8
 }
 
 /// The number of the first test that another directory fails, or 0.
-fn directory_failing(names: &Names, near: &mut Near, reached: &HashSet<u64>, ino: u64) -> u8
+fn directory_failing(names: &Names, near: &mut Near, reached: &BTreeSet<u64>, ino: u64) -> u8
     requires ordered { IsOrdered names.now }
     requires walked { IsWalked names.now reached.now.keys }
     requires directory { is_directory_at names.now.files.now ino ≡ true }
@@ -70,7 +71,7 @@ fn directory_failing(names: &Names, near: &mut Near, reached: &HashSet<u64>, ino
     if !is_below_parent(names, ino) {
         return 2;
     }
-    if !reached.contains(&ino) {
+    if !is_reached(reached, ino) {
         return 3;
     }
     0
@@ -91,7 +92,7 @@ fn file_failing(names: &Names, near: &mut Near, ino: u64) -> u8
 }
 
 /// The number of the first test of the eighth law that a file fails, or 0.
-fn first_failing(names: &Names, near: &mut Near, reached: &HashSet<u64>, ino: u64) -> u8
+fn first_failing(names: &Names, near: &mut Near, reached: &BTreeSet<u64>, ino: u64) -> u8
     requires ordered { IsOrdered names.now }
     requires walked { IsWalked names.now reached.now.keys }
     ensures { result ≡ first_failing (place_tests names.now.root names.now.files.now names.now.entries.now names.now.dirs.now ino) }
@@ -106,7 +107,7 @@ fn first_failing(names: &Names, near: &mut Near, reached: &HashSet<u64>, ino: u6
 }
 
 /// What the eighth law says of a file.
-fn place_law(names: &Names, near: &mut Near, reached: &HashSet<u64>, ino: u64) -> Law
+fn place_law(names: &Names, near: &mut Near, reached: &BTreeSet<u64>, ino: u64) -> Law
     requires ordered { IsOrdered names.now }
     requires walked { IsWalked names.now reached.now.keys }
     ensures { result ≡ place_law names.now.root names.now.files.now names.now.entries.now names.now.dirs.now ino }
@@ -120,7 +121,7 @@ fn place_law(names: &Names, near: &mut Near, reached: &HashSet<u64>, ino: u64) -
 }
 
 /// The first of these files that breaks the eighth law.
-pub fn broken_place(names: &Names, reached: &HashSet<u64>, numbers: &[u64]) -> Option<Law>
+pub fn broken_place(names: &Names, reached: &BTreeSet<u64>, numbers: &[u64]) -> Option<Law>
     requires ordered { IsOrdered names.now }
     requires walked { IsWalked names.now reached.now.keys }
     ensures { result ≡ first_broken (map (place_law names.now.root names.now.files.now names.now.entries.now names.now.dirs.now) numbers.now) }

@@ -9,9 +9,10 @@ ghost use Rattle.xfs_naming.specs.Private.Walking.{HasMarked};
 
 use crate::lookups::is_directory_at;
 use crate::naming::Names;
+use crate::reached::reach;
 use crate::runs::records_by_number;
 use std::alloc::Global;
-use std::collections::HashSet;
+use std::collections::BTreeSet;
 use xfs_dirdata::EntryRec;
 use xfs_disk::NoMemory;
 
@@ -20,7 +21,7 @@ fn mark(
     names: &Names,
     near: &mut usize,
     ino: u64,
-    reached: &mut HashSet<u64>,
+    reached: &mut BTreeSet<u64>,
     waiting: &mut Vec<u64>,
 ) -> Result<(), NoMemory>
     requires { IsOrdered names.now }
@@ -29,7 +30,7 @@ fn mark(
     if !is_directory_at(names, near, ino) {
         return Ok(());
     }
-    if reached.insert(ino)? {
+    if reach(reached, ino)? {
         waiting.push(ino)?;
     }
     Ok(())
@@ -39,7 +40,7 @@ fn mark(
 fn mark_named(
     names: &Names,
     own: &[EntryRec],
-    reached: &mut HashSet<u64>,
+    reached: &mut BTreeSet<u64>,
     waiting: &mut Vec<u64>,
 ) -> Result<(), NoMemory>
     requires { IsOrdered names.now }
@@ -53,15 +54,15 @@ fn mark_named(
 }
 
 /// The directories that are reached from the root; the root is one of them even where it is none.
-pub fn walk(alloc: Global, names: &Names) -> Result<HashSet<u64>, NoMemory>
+pub fn walk(alloc: Global, names: &Names) -> Result<BTreeSet<u64>, NoMemory>
     requires ordered { IsOrdered names.now }
     requires named { AreNamed names.now.files.now names.now.entries.now names.now.dirs.now }
     ensures walked { IfOk result (λ reached. IsWalked names.now reached.keys) }
     ensures ways { IfOk result (λ _. HasShortWays names.now) }
 {
-    let mut reached = HashSet::new(alloc);
+    let mut reached = BTreeSet::new(alloc);
     let mut waiting = Vec::new(alloc);
-    reached.insert(names.root)?;
+    reach(&mut reached, names.root)?;
     waiting.push(names.root)?;
     while let Some(dir) = waiting.pop() {
         mark_named(

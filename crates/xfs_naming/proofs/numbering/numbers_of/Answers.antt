@@ -1,4 +1,4 @@
-use Rattle.std.proofs.Common.{ℕ, List, map, ap, ◌∙◌, sym, subst}
+use Rattle.std.proofs.Common.{map, ap, ◌∙◌, sym, subst}
 use Rattle.xfs_naming.specs.declared.kinds.FileKind.{FileKind}
 use Rattle.xfs_naming.specs.Naming.{NumbersAscend}
 use Rattle.xfs_naming.proofs.FileKinds.{kind_numbers}

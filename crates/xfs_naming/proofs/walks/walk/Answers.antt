@@ -8,9 +8,9 @@ use Rattle.xfs_naming.proofs.walks.walk.Goals as goal
 pub loop-dir-init : goal.loop-dir-init
 loop-dir-init c =
     let n = c.args.names.now in
-    walk_starts n.root n.files.now n.entries.now n.dirs.now c.new-reached.result.keys c.insert.new.self.keys c.push.new.self.items c.new-reached.ensures.empty c.in_ok-insert.ensures.updates.0
-    (at_most_one c.new-reached.result.keys (length c.insert.new.self.keys) c.in_ok-insert.field-0 c.new-reached.ensures.empty c.in_ok-insert.ensures.len)
-    c.in_ok-insert.ensures.unique
+    walk_starts n.root n.files.now n.entries.now n.dirs.now c.new-reached.result.keys c.reach.new.reached.keys c.push.new.self.items c.new-reached.ensures.empty c.in_ok-reach.ensures.updates
+    (at_most_one c.new-reached.result.keys (length c.reach.new.reached.keys) c.in_ok-reach.field-0 c.new-reached.ensures.empty c.in_ok-reach.ensures.len)
+    c.in_ok-reach.ensures.unique
     (c.in_ok-push.ensures.items ∙ ap (λ (xs : List ℕ). xs ++ n.root ∷ []) c.new-waiting.ensures.items)
 
 pub loop-dir-preserved : goal.loop-dir-preserved
