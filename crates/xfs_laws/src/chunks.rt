@@ -28,8 +28,15 @@ fn inode_number(g: &Geometry, ag: u32, agino: u64) -> u64
     ag as u64 * (1 << g.agblklog) * 8 + agino
 }
 
-/// Whether an inode of a chunk is there and not in use.
-fn is_unused(g: &Geometry, files: &[FileRec], ag: u32, chunk: &InoRec, inode: u32) -> bool
+/// Whether an inode of a chunk is there and not in use. `near` is a place among the files at which it may stand.
+fn is_unused(
+    g: &Geometry,
+    files: &[FileRec],
+    near: &mut usize,
+    ag: u32,
+    chunk: &InoRec,
+    inode: u32,
+) -> bool
     requires group { ag < g.now.agcount }
     requires files { FilesOrdered files.now }
     requires inode { inode < 64 }
@@ -39,13 +46,14 @@ fn is_unused(g: &Geometry, files: &[FileRec], ag: u32, chunk: &InoRec, inode: u3
     !(is_missing
         || is_used(
             files,
+            near,
             inode_number(g, ag, chunk.startino as u64 + inode as u64),
         ))
 }
 
 /// The chunk with the numbers that it should have.
 #[tactic(auto, unfolding(crate::specs::Counting::due_chunk))]
-fn due_chunk(g: &Geometry, files: &[FileRec], ag: u32, chunk: &InoRec) -> InoRec
+fn due_chunk(g: &Geometry, files: &[FileRec], near: &mut usize, ag: u32, chunk: &InoRec) -> InoRec
     requires group { ag < g.now.agcount }
     requires files { FilesOrdered files.now }
     ensures value { result ≡ due_chunk (volume_of g.now) files.now ag chunk.now }
@@ -54,7 +62,7 @@ fn due_chunk(g: &Geometry, files: &[FileRec], ag: u32, chunk: &InoRec) -> InoRec
     let mut freecount = 0;
     let mut free = 0;
     for inode in 0..SLOTS {
-        let bit = bit_of(is_unused(g, files, ag, chunk, inode));
+        let bit = bit_of(is_unused(g, files, near, ag, chunk, inode));
         freecount += bit as u8;
         free += bit << inode;
     }
@@ -87,7 +95,13 @@ fn chunk_number(chunk: &InoRec) -> u128
 }
 
 /// The first chunk of a group whose numbers are not those that it should have.
-fn check_chunks(g: &Geometry, files: &[FileRec], ag: u32, chunks: &[InoRec]) -> Option<Law>
+fn check_chunks(
+    g: &Geometry,
+    files: &[FileRec],
+    near: &mut usize,
+    ag: u32,
+    chunks: &[InoRec],
+) -> Option<Law>
     requires group { ag < g.now.agcount }
     requires files { FilesOrdered files.now }
     requires chunks { AreChunks chunks.now }
@@ -95,7 +109,7 @@ fn check_chunks(g: &Geometry, files: &[FileRec], ag: u32, chunks: &[InoRec]) -> 
 {
     for chunk in chunks {
         let held = chunk_number(chunk);
-        let due = chunk_number(&due_chunk(g, files, ag, chunk));
+        let due = chunk_number(&due_chunk(g, files, near, ag, chunk));
         if held != due {
             return broken(4, 2 * ag as u64, held, due);
         }
@@ -146,8 +160,9 @@ pub fn check_inodes(g: &Geometry, files: &[FileRec], groups: &[GroupRec]) -> Opt
     ensures { result ≡ first_broken (chunk_laws (volume_of g.now) files.now groups.now) }
 {
     let mut ag = 0;
+    let mut near = 0;
     for group in groups {
-        if let Some(law) = check_group(g, files, ag, group) {
+        if let Some(law) = check_group(g, files, &mut near, ag, group) {
             return Some(law);
         }
         ag += 1;
@@ -155,16 +170,22 @@ pub fn check_inodes(g: &Geometry, files: &[FileRec], groups: &[GroupRec]) -> Opt
     None
 }
 
-/// The first chunk of a group that is not as it should be.
+/// The first chunk of a group that is not as it should be. `near` is a place among the files at which its first may stand.
 #[tactic(auto, using(crate::proofs::Firsts::joined))]
-fn check_group(g: &Geometry, files: &[FileRec], ag: u32, group: &GroupRec) -> Option<Law>
+fn check_group(
+    g: &Geometry,
+    files: &[FileRec],
+    near: &mut usize,
+    ag: u32,
+    group: &GroupRec,
+) -> Option<Law>
     requires group { ag < g.now.agcount }
     requires files { FilesOrdered files.now }
     requires chunks { HasChunks group.now }
     ensures { result ≡ first_broken (group_chunks (volume_of g.now) files.now ag group.now) }
 {
     let chunks = group.ino.as_slice();
-    match check_chunks(g, files, ag, chunks) {
+    match check_chunks(g, files, near, ag, chunks) {
         Some(law) => Some(law),
         None => check_free_chunks(ag, group.fino.as_slice(), chunks),
     }

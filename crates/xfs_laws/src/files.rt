@@ -3,13 +3,14 @@
 ghost use Rattle.std.specs.Prelude.{◌≡◌};
 ghost use Rattle.xfs_laws.specs.Counting.{FilesOrdered, is_used};
 
-use xfs_naming::records_by_number;
+use xfs_naming::records_near;
 use xfs_volume::FileRec;
 
-/// Whether a file with this number is in use. The files ascend by number.
-pub fn is_used(files: &[FileRec], ino: u64) -> bool
+/// Whether a file with this number is in use. The files ascend by number; `near` is a place among them at which it may
+/// stand, and then the one behind it.
+pub fn is_used(files: &[FileRec], near: &mut usize, ino: u64) -> bool
     requires { FilesOrdered files.now }
     ensures { result ≡ is_used files.now ino }
 {
-    !records_by_number(files, ino).is_empty()
+    !records_near(files, near, ino).is_empty()
 }
