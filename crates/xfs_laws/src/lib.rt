@@ -8,7 +8,7 @@
 //!
 //! ```text
 //! if !is_catalog(catalog) { .. }
-//! match lawful(rt, alloc, catalog) {
+//! match lawful(rt, alloc, workers, catalog) {
 //!     Ok(()) => ..,
 //!     Err(LawFault::Broken(law)) => ..,
 //!     Err(LawFault::NoMemory) => ..,

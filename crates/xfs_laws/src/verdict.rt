@@ -1,10 +1,13 @@
 //! Whether a volume is lawful.
 
-ghost use Rattle.std.specs.Prelude.{◌≡◌, ◌↔◌, None, IfErr, IfOk, IsTrue, OnOk};
+ghost use denote.Param.Send.{IsSync};
+ghost use Rattle.std.specs.Prelude.{◌≡◌, ◌++◌, ◌↔◌, None, IfErr, IfOk, IsTrue, OnOk};
 ghost use Rattle.xfs_geom.specs.Volumes.{volume_of};
 ghost use Rattle.xfs_naming.specs.Lawful.{IsNamingLawful};
-ghost use Rattle.xfs_space.specs.SpaceLaws.{IsSpaceLawful};
+ghost use Rattle.xfs_naming.specs.Naming.{naming_laws};
+ghost use Rattle.xfs_space.specs.SpaceLaws.{IsSpaceLawful, space_laws};
 ghost use Rattle.xfs_volume.specs.Laws.{AreKept, first_broken};
+ghost use Rattle.xfs_laws.specs.Counting.{log_laws};
 ghost use Rattle.xfs_laws.specs.Lawful.{Differs, IsCatalog, IsVerdict, broken_law, counting_laws, laws_of};
 
 use crate::chunks::check_inodes;
@@ -14,16 +17,24 @@ use crate::log::check_log;
 use crate::named::are_named;
 use crate::parts::{are_files, are_groups, are_lsns};
 use std::alloc::Global;
-use std::thread::Threads;
+use std::thread::{Threads, join};
 use xfs_disk::NoMemory;
 use xfs_naming::check_names;
 use xfs_space::check_space;
 use xfs_volume::{Catalog, Law, LawFault};
 
+/// From how many files on the laws of names are judged in a thread of their own.
+const FILES_OF_A_THREAD: usize = 4096;
+
 /// Whether a volume is lawful: its blocks have one owner each, its trees say just that, its counters are right, its
 /// names hang together, and its log ends behind everything. `Broken` with the first law that is broken, at its least
-/// place.
-pub fn lawful<R: Threads + Sync>(rt: &R, alloc: Global, catalog: &Catalog) -> Result<(), LawFault>
+/// place. Where there are `workers` enough, the names of a volume with many files are judged beside the rest.
+pub fn lawful<R: Threads + Sync>(
+    rt: &R,
+    alloc: Global,
+    workers: u32,
+    catalog: &Catalog,
+) -> Result<(), LawFault>
     requires { IsCatalog catalog.now }
     ensures verdict { IsVerdict (broken_law catalog.now) result }
     ensures kept { OnOk result (AreKept (laws_of catalog.now)) }
@@ -31,7 +42,7 @@ pub fn lawful<R: Threads + Sync>(rt: &R, alloc: Global, catalog: &Catalog) -> Re
     ensures names { OnOk result (IsNamingLawful catalog.now.geometry.rootino catalog.now.files catalog.now.entries catalog.now.dirs) }
     ensures differs { IfErr result Differs }
 {
-    match first_broken_law(rt, alloc, catalog) {
+    match first_broken_law(rt, alloc, workers, catalog) {
         Ok(None) => Ok(()),
         Ok(Some(law)) => Err(LawFault::Broken(law)),
         Err(NoMemory) => Err(LawFault::NoMemory),
@@ -39,8 +50,27 @@ pub fn lawful<R: Threads + Sync>(rt: &R, alloc: Global, catalog: &Catalog) -> Re
 }
 
 /// The first law that is broken.
-#[tactic(auto, using(crate::proofs::Firsts::joined), unfolding(crate::specs::Lawful::broken_law))]
 fn first_broken_law<R: Threads + Sync>(
+    rt: &R,
+    alloc: Global,
+    workers: u32,
+    catalog: &Catalog,
+) -> Result<Option<Law>, NoMemory>
+    requires { IsCatalog catalog.now }
+    ensures law { IfOk result (λ law. law ≡ broken_law catalog.now) }
+    ensures space { IfOk result (λ law. law ≡ None → IsSpaceLawful (volume_of catalog.now.geometry) catalog.now.groups catalog.now.files) }
+    ensures names { IfOk result (λ law. law ≡ None → IsNamingLawful catalog.now.geometry.rootino catalog.now.files catalog.now.entries catalog.now.dirs) }
+{
+    if workers < 2 || catalog.files.as_slice().len() < FILES_OF_A_THREAD {
+        judge_in_turn(rt, alloc, catalog)
+    } else {
+        judge_beside(rt, alloc, catalog)
+    }
+}
+
+/// The first law that is broken, where each is judged behind those before it.
+#[tactic(auto, using(crate::proofs::Firsts::joined_two), unfolding(crate::specs::Lawful::broken_law))]
+fn judge_in_turn<R: Threads + Sync>(
     rt: &R,
     alloc: Global,
     catalog: &Catalog,
@@ -50,20 +80,83 @@ fn first_broken_law<R: Threads + Sync>(
     ensures space { IfOk result (λ law. law ≡ None → IsSpaceLawful (volume_of catalog.now.geometry) catalog.now.groups catalog.now.files) }
     ensures names { IfOk result (λ law. law ≡ None → IsNamingLawful catalog.now.geometry.rootino catalog.now.files catalog.now.entries catalog.now.dirs) }
 {
+    if let Some(law) = judge_numbers(rt, alloc, catalog)? {
+        return Ok(Some(law));
+    }
+    if let Some(law) = judge_names(alloc, catalog)? {
+        return Ok(Some(law));
+    }
+    Ok(judge_log(catalog))
+}
+
+/// The first law that is broken, where those of names are judged in a thread of their own, beside those of space and
+/// counts. What these say comes first.
+#[tactic(auto, using(crate::proofs::Firsts::joined_two), unfolding(crate::specs::Lawful::broken_law))]
+fn judge_beside<R: Threads + Sync>(
+    rt: &R,
+    alloc: Global,
+    catalog: &Catalog,
+) -> Result<Option<Law>, NoMemory>
+    requires { IsCatalog catalog.now }
+    ensures law { IfOk result (λ law. law ≡ broken_law catalog.now) }
+    ensures space { IfOk result (λ law. law ≡ None → IsSpaceLawful (volume_of catalog.now.geometry) catalog.now.groups catalog.now.files) }
+    ensures names { IfOk result (λ law. law ≡ None → IsNamingLawful catalog.now.geometry.rootino catalog.now.files catalog.now.entries catalog.now.dirs) }
+{
+    let (names, numbers) = join(
+        rt,
+        || judge_names(alloc, catalog),
+        || -> Result<Option<Law>, NoMemory>
+            requires { IsSync R.row × IsCatalog catalog.now }
+            ensures { IfOk result (λ law. law ≡ first_broken (space_laws (volume_of catalog.entry.now.geometry) catalog.entry.now.groups catalog.entry.now.files ++ counting_laws catalog.entry.now)) × IfOk result (λ law. law ≡ None → IsSpaceLawful (volume_of catalog.entry.now.geometry) catalog.entry.now.groups catalog.entry.now.files) }
+        { judge_numbers(rt, alloc, catalog) },
+    );
+    if let Some(law) = numbers? {
+        return Ok(Some(law));
+    }
+    if let Some(law) = names? {
+        return Ok(Some(law));
+    }
+    Ok(judge_log(catalog))
+}
+
+/// The first law of space or of counts that is broken.
+#[tactic(auto, using(crate::proofs::Firsts::joined))]
+fn judge_numbers<R: Threads + Sync>(
+    rt: &R,
+    alloc: Global,
+    catalog: &Catalog,
+) -> Result<Option<Law>, NoMemory>
+    requires { IsCatalog catalog.now }
+    ensures law { IfOk result (λ law. law ≡ first_broken (space_laws (volume_of catalog.now.geometry) catalog.now.groups catalog.now.files ++ counting_laws catalog.now)) }
+    ensures space { IfOk result (λ law. law ≡ None → IsSpaceLawful (volume_of catalog.now.geometry) catalog.now.groups catalog.now.files) }
+{
     let groups = catalog.groups.as_slice();
     let files = catalog.files.as_slice();
     if let Some(law) = check_space(rt, alloc, &catalog.geometry, groups, files)? {
         return Ok(Some(law));
     }
-    if let Some(law) = check_counts(catalog) {
-        return Ok(Some(law));
-    }
+    Ok(check_counts(catalog))
+}
+
+/// The first law of names that is broken.
+fn judge_names(alloc: Global, catalog: &Catalog) -> Result<Option<Law>, NoMemory>
+    requires { IsCatalog catalog.now }
+    ensures law { IfOk result (λ law. law ≡ first_broken (naming_laws catalog.now.geometry.rootino catalog.now.files catalog.now.entries catalog.now.dirs)) }
+    ensures names { IfOk result (λ law. law ≡ None → IsNamingLawful catalog.now.geometry.rootino catalog.now.files catalog.now.entries catalog.now.dirs) }
+{
     let root = catalog.geometry.rootino;
+    let files = catalog.files.as_slice();
     let entries = catalog.entries.as_slice();
-    if let Some(law) = check_names(alloc, root, files, entries, catalog.dirs.as_slice())? {
-        return Ok(Some(law));
-    }
-    Ok(check_log(groups, &catalog.log, catalog.lsns.as_slice()))
+    check_names(alloc, root, files, entries, catalog.dirs.as_slice())
+}
+
+/// The first number that says that the log has something to do.
+fn judge_log(catalog: &Catalog) -> Option<Law>
+    requires { IsCatalog catalog.now }
+    ensures { result ≡ first_broken (log_laws catalog.now.groups catalog.now.log catalog.now.lsns) }
+{
+    let groups = catalog.groups.as_slice();
+    check_log(groups, &catalog.log, catalog.lsns.as_slice())
 }
 
 /// The first law of counts that is broken.

@@ -24,10 +24,11 @@ use xfs_scan::Seen;
 use xfs_volume::{Catalog, LawFault};
 
 /// The first thing that is wrong with a volume which says this: a geometry that comes from a backup, a part that does not read,
-/// a law that is broken, a backup that does not agree.
+/// a law that is broken, a backup that does not agree. Laws are judged by one worker or more.
 pub(crate) fn find_first<R: Threads + Sync, D: Disk>(
     rt: &R,
     alloc: Global,
+    workers: u32,
     disk: &mut D,
     chosen: &Elected,
     seen: &Seen,
@@ -44,7 +45,7 @@ pub(crate) fn find_first<R: Threads + Sync, D: Disk>(
     if chosen.from != 0 {
         return Ok(Some(Finding::Part { part: 0, place: 0 }));
     }
-    match judge(rt, alloc, seen) {
+    match judge(rt, alloc, workers, seen) {
         Ok(Some(found)) => Ok(Some(found)),
         Ok(None) => find_backup(disk, &chosen.geometry, &chosen.sector),
         Err(fault) => Err(fault),
@@ -55,14 +56,15 @@ pub(crate) fn find_first<R: Threads + Sync, D: Disk>(
 fn judge<R: Threads + Sync>(
     rt: &R,
     alloc: Global,
+    workers: u32,
     seen: &Seen,
 ) -> Result<Option<Finding>, MendFault>
     ensures found { IfOk result (λ found. found ≡ view_found broken_law (view_seen seen.now) None) }
     ensures fault { IfErr result (λ fault. fault ≡ MendFault.NoMemory) }
 {
     match seen {
-        Seen::Whole(catalog) => judge_catalog(rt, alloc, catalog),
-        Seen::Apart(_, Ok(catalog)) => judge_catalog(rt, alloc, catalog),
+        Seen::Whole(catalog) => judge_catalog(rt, alloc, workers, catalog),
+        Seen::Apart(_, Ok(catalog)) => judge_catalog(rt, alloc, workers, catalog),
         Seen::Apart(_, Err(found)) => Ok(Some(*found)),
     }
 }
@@ -72,6 +74,7 @@ fn judge<R: Threads + Sync>(
 fn judge_catalog<R: Threads + Sync>(
     rt: &R,
     alloc: Global,
+    workers: u32,
     catalog: &Catalog,
 ) -> Result<Option<Finding>, MendFault>
     ensures found { IfOk result (λ found. found ≡ law_found (broken_law catalog.now) None) }
@@ -80,7 +83,7 @@ fn judge_catalog<R: Threads + Sync>(
     if !is_catalog(catalog) {
         return Err(MendFault::NoMemory);
     }
-    match lawful(rt, alloc, catalog) {
+    match lawful(rt, alloc, workers, catalog) {
         Ok(()) => Ok(None),
         Err(LawFault::Broken(law)) => Ok(Some(Finding::Law(law))),
         Err(LawFault::NoMemory) => Err(MendFault::NoMemory),

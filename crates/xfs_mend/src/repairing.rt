@@ -136,7 +136,7 @@ fn repair_volume<R: Threads + Sync, D: Disk, G: Gate>(
         },
         Err(MendFault::NoMemory) => return Outcome::NoMemory,
     };
-    match find_first(rt, alloc, disk, chosen, &evidence.seen) {
+    match find_first(rt, alloc, options.workers, disk, chosen, &evidence.seen) {
         Ok(Some(found)) => answer_found(
             rt, alloc, disk, options, chosen, found, evidence, stamp, gate,
         ),
