@@ -87,3 +87,12 @@ a chain of the last group | last chain 63 130 | 10 128 130 0xffffffff
 a block behind the log | volume lsns 0 0, 16 0x100000003 | 10 0x10000000010 0x100000003 0x100000002
 a block far behind the log | volume lsns 0 0, 16 0xfffffffffffffffe | 10 0x10000000010 0xfffffffffffffffe 0x100000002
 ";
+
+/// Changes of the volume with more files. Where several laws are broken the first is told, whichever is found sooner.
+pub const CHANGES_OF_MANY: &str = "\
+as it was made | | -
+a log that is not clean | volume head - | 10 0 1 0
+a listed block of a file and a root that is not whole | first listed 6 7 8 9 10 24; volume dirs 128 128 false | 1 24 2 1
+free inodes of a chunk and a root that is not whole | first ino 128 0 64 58 0xffffffffffffffe0; volume dirs 128 128 false | 4 0 128:0x403a:0xffffffff:0xffffffe0 128:0x403b:0xffffffff:0xffffffe0
+a root that is not whole and a log that is not clean | volume dirs 128 128 false; volume head - | 7 128 1 0
+";
