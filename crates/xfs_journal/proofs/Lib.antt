@@ -3,4 +3,6 @@ mod Ordering
 mod Reading
 mod Outside
 mod LogSeen
+mod Slots
+pub mod Inodes
 mod Sums

@@ -1,13 +1,13 @@
 -- Places of log sequence numbers, as they are listed and read.
-use Rattle.std.specs.Prelude.{◌≡◌, ℕ, ◌+◌, ◌*◌, ◌≤◌, List, map, Option, Some, None, ⊤}
+use Rattle.std.specs.Prelude.{◌≡◌, ℕ, ◌+◌, ◌*◌, ◌≤◌, List, length, map, take, Option, Some, None, ⊤}
 use Rattle.std.specs.List.{flat_map}
-use Rattle.xfs_word.specs.Field.{part_of}
+use Rattle.xfs_word.specs.Field.{field_of, part_of}
 use Rattle.xfs_heads.specs.Log.{seen_of}
 use Rattle.xfs_heads.specs.declared.log.SectorSeen.{SectorSeen}
 use Rattle.xfs_word.specs.declared.extents.Extent.{Extent}
 use Rattle.xfs_disk.specs.Blocks.{Image, bytes_of_block}
 use Rattle.xfs_geom.specs.Volumes.{Volume}
-use Rattle.xfs_image.specs.Lsns.{LsnPlace, dir_byte, extent_places}
+use Rattle.xfs_image.specs.Lsns.{LsnPlace, cluster_places, dir_byte, extent_places}
 use Rattle.xfs_journal.specs.declared.extents.Owner.{Owner}
 use Rattle.xfs_journal.specs.declared.extents.Owner.TheVariants as owners
 use Rattle.xfs_journal.specs.declared.places.LsnPosition.{LsnPosition}
@@ -35,6 +35,14 @@ fork_places v owner extents = flat_map (extent_places v (byte_of owner)) extents
 abbrev pub HoldsBlock : Image → Option ℕ → List ℕ → Type 0
 HoldsBlock image None bytes = ⊤
 HoldsBlock image (Some block) bytes = bytes_of_block image block ≡ bytes
+
+-- the number that stands at a place
+abbrev pub number_at : Image → LsnPlace → ℕ
+number_at image p = field_of (bytes_of_block image p.block) p.byte 8
+
+-- these are the numbers of the first slots of clusters, as many as there are
+abbrev pub AreFirstNumbers : Image → List ℕ → List ℕ → Type 0
+AreFirstNumbers image clusters numbers = numbers ≡ take (length numbers) (map (number_at image) (flat_map cluster_places clusters))
 
 -- what is seen of a sector of a block
 abbrev pub seen_in : List ℕ → ℕ → SectorSeen

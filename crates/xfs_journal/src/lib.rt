@@ -18,6 +18,7 @@ mod extents;
 mod faults;
 mod files;
 mod groups;
+mod known;
 mod laws;
 mod log;
 mod lsns;

@@ -144,7 +144,7 @@ fn file_lsns<D: Disk, L: Ledger>(
     ensures cause { HasRebuildCause (D.faults disk.old) (D.faults disk.new) result }
     ensures disk { OnlyReads D.size D.holds D.write_faults D.writes D.tells_stops D.moment D.may_leave D.left_since disk.old disk.new }
 {
-    let lsns = match read_lsns(alloc, g, disk, &[], &[], files, steps) {
+    let lsns = match read_lsns(alloc, g, disk, &[], &[], &[], files, steps) {
         Ok(lsns) => lsns,
         Err(JournalFault::ReadFault) => return Err(RebuildFault::ReadFault),
         Err(JournalFault::NoMemory) => return Err(RebuildFault::NoMemory),

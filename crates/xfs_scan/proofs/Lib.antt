@@ -2,3 +2,4 @@ mod Counting
 mod Refusing
 mod Rounds
 mod Views
+mod Numbers

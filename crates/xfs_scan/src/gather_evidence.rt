@@ -126,6 +126,7 @@ fn gather_view<D: Disk, L: Ledger>(
 ) -> Result<Evidence, PartFault>
     requires inside { g.now.dblocks ≤ D.size disk.old }
     requires seen { ForSome (D.holds disk.old) (λ image. AreSeen g.now image seen) }
+    requires low { EndBelow g.now.dblocks seen.clusters }
     requires slots { ForSome (D.holds disk.old) (λ image. scanned.slots.items ≡ slot_facts (volume_of g.now) image) }
     requires inodes { ForSome (D.holds disk.old) (λ image. held_in scanned.inodes ≡ gathered (volume_of g.now) image (candidate_inodes (volume_of g.now) image)) }
     ensures evidence { IfOk result (λ e. ForSome (D.holds disk.old) (λ image. IsEvidence g.now image e)) }
@@ -154,6 +155,7 @@ fn gather_view<D: Disk, L: Ledger>(
         disk,
         groups,
         clusters.as_slice(),
+        &slots,
         inodes,
         log,
         steps,

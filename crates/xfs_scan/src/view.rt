@@ -15,7 +15,11 @@ ghost use Rattle.xfs_image.specs.Files.{clusters_of};
 ghost use Rattle.xfs_image.specs.Groups.{groups_read};
 ghost use Rattle.xfs_image.specs.Slots.{cluster_inodes, inodes_of_block};
 ghost use Rattle.xfs_image.specs.View.{catalog_of, counts_of, log_of, view};
+ghost use Rattle.xfs_groups.specs.Answers.{EndBelow};
 ghost use Rattle.xfs_slots.specs.Causes.{HasReadCause};
+ghost use Rattle.xfs_slots.specs.Facts.{slot_fact, slot_facts};
+ghost use Rattle.xfs_rounds.specs.declared.facts.SlotFact.{SlotFact};
+ghost use Rattle.xfs_journal.specs.Placed.{AreFirstNumbers};
 ghost use Rattle.xfs_scan.specs.Evidence.{SeesInodes, view_seen};
 ghost use Rattle.xfs_slots.specs.Gathered.{gathered, held_in, inodes_of_blocks, gathered_both};
 
@@ -28,6 +32,7 @@ use xfs_geom::{Counts, Geometry};
 use xfs_heads::LogState;
 use xfs_image::Finding;
 use xfs_journal::{JournalFault, read_lsns};
+use xfs_rounds::SlotFact;
 use xfs_runs::Steps;
 use xfs_slots::{Inodes, PartFault, blocks_of, clusters_of, see_block};
 use xfs_volume::{Catalog, ClusterRec, GroupRec, Records};
@@ -38,14 +43,15 @@ const MOST_GROUPS: usize = 512;
 /// The part of an image that a slot is.
 const SLOT_PART: u8 = 9;
 
-/// The files that the candidate clusters of an image have, which are handed in, and what the image says, whose groups and whose
-/// log are these.
+/// The files that the candidate clusters of an image have, which are handed in beside what is kept of each of their slots, and what
+/// the image says, whose groups and whose log are these.
 pub fn see_view<D: Disk, L: Ledger>(
     alloc: Global,
     g: &Geometry,
     disk: &mut D,
     groups: Result<Records<GroupRec>, Finding>,
     scanned: &[ClusterRec],
+    facts: &[SlotFact],
     inodes: Inodes,
     log: LogState,
     steps: &mut Steps<L>,
@@ -53,6 +59,8 @@ pub fn see_view<D: Disk, L: Ledger>(
     requires inside { g.now.dblocks ≤ D.size disk.old }
     requires groups { ForSome (D.holds disk.old) (λ image. groups ≡ groups_read (volume_of g.now) image) }
     requires scanned { ForSome (D.holds disk.old) (λ image. scanned.now ≡ candidates (volume_of g.now) image) }
+    requires ends { EndBelow g.now.dblocks scanned.now }
+    requires facts { ForSome (D.holds disk.old) (λ image. facts.now ≡ slot_facts (volume_of g.now) image) }
     requires inodes { ForSome (D.holds disk.old) (λ image. held_in inodes ≡ gathered (volume_of g.now) image (candidate_inodes (volume_of g.now) image)) }
     requires log { ForSome (D.holds disk.old) (λ image. log ≡ log_of (volume_of g.now) image) }
     ensures view { IfOk result (λ seen. ForSome (D.holds disk.old) (λ image. view_seen seen ≡ view g.now image)) }
@@ -63,19 +71,20 @@ pub fn see_view<D: Disk, L: Ledger>(
 {
     match groups {
         Err(found) => Ok(apart(inodes, Err(found))),
-        Ok(groups) => see_with_groups(alloc, g, disk, groups, scanned, inodes, log, steps),
+        Ok(groups) => see_with_groups(alloc, g, disk, groups, scanned, facts, inodes, log, steps),
     }
 }
 
 /// The same, of groups that read. That they are not too many is tested here, as a disk that does not tell what it holds, a file,
 /// says nothing of what was read from it; of each image they are as many as the volume has (`view_is_of_what_reads`). Where their
-/// clusters are just the candidates, no block is read again.
+/// clusters are just the candidates, no block of a cluster is read again.
 fn see_with_groups<D: Disk, L: Ledger>(
     alloc: Global,
     g: &Geometry,
     disk: &mut D,
     groups: Records<GroupRec>,
     scanned: &[ClusterRec],
+    facts: &[SlotFact],
     inodes: Inodes,
     log: LogState,
     steps: &mut Steps<L>,
@@ -83,6 +92,8 @@ fn see_with_groups<D: Disk, L: Ledger>(
     requires inside { g.now.dblocks ≤ D.size disk.old }
     requires groups { ForSome (D.holds disk.old) (λ image. groups_read (volume_of g.now) image ≡ Ok groups) }
     requires scanned { ForSome (D.holds disk.old) (λ image. scanned.now ≡ candidates (volume_of g.now) image) }
+    requires ends { EndBelow g.now.dblocks scanned.now }
+    requires facts { ForSome (D.holds disk.old) (λ image. facts.now ≡ slot_facts (volume_of g.now) image) }
     requires inodes { ForSome (D.holds disk.old) (λ image. held_in inodes ≡ gathered (volume_of g.now) image (candidate_inodes (volume_of g.now) image)) }
     requires log { ForSome (D.holds disk.old) (λ image. log ≡ log_of (volume_of g.now) image) }
     ensures view { IfOk result (λ seen. ForSome (D.holds disk.old) (λ image. view_seen seen ≡ view g.now image)) }
@@ -99,7 +110,7 @@ fn see_with_groups<D: Disk, L: Ledger>(
         Err(NoMemory) => return Err(PartFault::NoMemory),
     };
     if are_candidates(&clusters, scanned) {
-        return see_same(alloc, g, disk, groups, &clusters, inodes, log, steps);
+        return see_same(alloc, g, disk, groups, &clusters, facts, inodes, log, steps);
     }
     match see_recorded(alloc, g, disk, groups, &clusters, log, steps) {
         Ok(view) => Ok(apart(inodes, view)),
@@ -107,13 +118,14 @@ fn see_with_groups<D: Disk, L: Ledger>(
     }
 }
 
-/// The same, where these inodes are those of the clusters of the groups.
+/// The same, where these inodes are those of the clusters of the groups, and the log sequence numbers of their slots are known.
 fn see_same<D: Disk, L: Ledger>(
     alloc: Global,
     g: &Geometry,
     disk: &mut D,
     groups: Records<GroupRec>,
     clusters: &[u64],
+    facts: &[SlotFact],
     inodes: Inodes,
     log: LogState,
     steps: &mut Steps<L>,
@@ -123,6 +135,8 @@ fn see_same<D: Disk, L: Ledger>(
     requires groups { ForSome (D.holds disk.old) (λ image. groups_read (volume_of g.now) image ≡ Ok groups) }
     requires clusters { clusters.now ≡ clusters_of (volume_of g.now) groups }
     requires low { All (λ cluster. cluster < 2 ^ 42) clusters.now }
+    requires ends { All (λ cluster. cluster + 4 ≤ g.now.dblocks) clusters.now }
+    requires facts { ForSome (D.holds disk.old) (λ image. facts.now ≡ map (slot_fact (volume_of g.now) image) (flat_map (cluster_inodes (volume_of g.now)) clusters.now)) }
     requires inodes { ForSome (D.holds disk.old) (λ image. held_in inodes ≡ gathered (volume_of g.now) image (flat_map (cluster_inodes (volume_of g.now)) clusters.now)) }
     requires log { ForSome (D.holds disk.old) (λ image. log ≡ log_of (volume_of g.now) image) }
     ensures view { IfOk result (λ seen. ForSome (D.holds disk.old) (λ image. view_seen seen ≡ view g.now image)) }
@@ -135,7 +149,11 @@ fn see_same<D: Disk, L: Ledger>(
         Some(place) => return Ok(apart(inodes, Err(missing(place)))),
         None => {}
     }
-    match build_view(alloc, g, disk, groups, clusters, inodes, log, steps) {
+    let known = match numbers_of(alloc, facts) {
+        Ok(known) => known,
+        Err(NoMemory) => return Err(PartFault::NoMemory),
+    };
+    match build_view(alloc, g, disk, groups, clusters, &known, inodes, log, steps) {
         Ok(catalog) => Ok(Seen::Whole(catalog)),
         Err(fault) => Err(fault),
     }
@@ -170,7 +188,7 @@ fn see_recorded<D: Disk, L: Ledger>(
         Some(place) => return Ok(Err(missing(place))),
         None => {}
     }
-    match build_view(alloc, g, disk, groups, clusters, inodes, log, steps) {
+    match build_view(alloc, g, disk, groups, clusters, &[], inodes, log, steps) {
         Ok(catalog) => Ok(Ok(catalog)),
         Err(fault) => Err(fault),
     }
@@ -199,13 +217,25 @@ fn apart(inodes: Inodes, view: Result<Catalog, Finding>) -> Seen
     Seen::Apart(lists, view)
 }
 
-/// The catalog of groups and inodes that all read.
+/// The log sequence numbers of slots.
+fn numbers_of(alloc: Global, facts: &[SlotFact]) -> Result<Vec<u64>, NoMemory>
+    ensures { IfOk result (λ numbers. numbers.items ≡ map (λ (fact : SlotFact). fact.lsn) facts.now) }
+{
+    let mut numbers = Vec::new(alloc);
+    for fact in facts {
+        numbers.push(fact.lsn)?;
+    }
+    Ok(numbers)
+}
+
+/// The catalog of groups and inodes that all read. The numbers of the first slots of the clusters may be known.
 fn build_view<D: Disk, L: Ledger>(
     alloc: Global,
     g: &Geometry,
     disk: &mut D,
     groups: Records<GroupRec>,
     clusters: &[u64],
+    known: &[u64],
     inodes: Inodes,
     log: LogState,
     steps: &mut Steps<L>,
@@ -214,6 +244,7 @@ fn build_view<D: Disk, L: Ledger>(
     requires few { length groups ≤ 512 }
     requires clusters { clusters.now ≡ clusters_of (volume_of g.now) groups }
     requires low { All (λ cluster. cluster < 2 ^ 42) clusters.now }
+    requires known { ForSome (D.holds disk.old) (λ image. AreFirstNumbers image clusters.now known.now) }
     requires entries { ForSome (D.holds disk.old) (λ image. inodes.entries.items ≡ entries_read (volume_of g.now) image inodes.files.items) }
     requires dirs { ForSome (D.holds disk.old) (λ image. inodes.dirs.items ≡ dirs_read (volume_of g.now) image inodes.files.items) }
     requires log { ForSome (D.holds disk.old) (λ image. log ≡ log_of (volume_of g.now) image) }
@@ -229,6 +260,7 @@ fn build_view<D: Disk, L: Ledger>(
         disk,
         groups.as_slice(),
         clusters,
+        known,
         &inodes.files,
         steps,
     ) {

@@ -78,7 +78,16 @@ fn numbers_of<D: Disk, L: Ledger>(
     requires some { 0 < blank.parts }
 {
     let mut steps = Steps::<L>::from_blank(blank);
-    read_lsns(alloc, &volume([0; 16]), disk, &[], &[], files, &mut steps)
+    read_lsns(
+        alloc,
+        &volume([0; 16]),
+        disk,
+        &[],
+        &[],
+        &[],
+        files,
+        &mut steps,
+    )
 }
 
 /// The mode of a file, the offset of its data, and the blocks that have a number, with the number.

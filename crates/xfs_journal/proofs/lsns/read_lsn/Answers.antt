@@ -9,3 +9,6 @@ returns-then-place-size-clause-lsn g c = λ image told.
     let size = c.requires.size in
     let outside = c.if-place-size.true in
     sym (no_number image c.args.place.now.block c.args.place.now.byte (omega (arith, count, size, outside)))
+
+pub returns-in-Some-clause-lsn : goal.returns-in-Some-clause-lsn
+returns-in-Some-clause-lsn g c = λ image told. rw c.in-Some.is at (c.requires.known image told)
