@@ -94,12 +94,16 @@ fn extents_held(alloc: Global, core: &Core, slot: &[u8]) -> Result<Option<DataHe
     }))
 }
 
-/// So many extents of the data fork.
+/// So many extents of the data fork, in a list that has no room for more: most files have one.
 fn list_extents(alloc: Global, slot: &[u8], count: usize) -> Result<Vec<Extent>, AllocError>
     requires { 176 + 16 * count ≤ length slot.now }
     ensures { IfOk result (λ extents. extents.items ≡ each_of count (fork_extent slot.now)) }
 {
-    (0..count).map(|i| fork_extent(slot, i)).collect(alloc)
+    let mut extents = Vec::with_capacity(alloc, count)?;
+    for i in 0..count {
+        extents.push(fork_extent(slot, i))?;
+    }
+    Ok(extents)
 }
 
 /// What a fork in tree format holds.
