@@ -73,7 +73,7 @@ lost() { # NAME FROM COUNT: bytes of the volume are zero in a copy, which is rep
 rename_each() { # IMAGE
   local said at count name
   image=$(basename "$1" .zst)
-  case $1 in *.zst) zstd -dqf --sparse "$1" -o "$work/volume.img" ;; *) cp --sparse=always "$1" "$work/volume.img" ;; esac
+  unpack "$1"
   said=$("$top/xfs" xfs_repair "$work/volume.img" 2>&1) || true
   if [ "$said" = 'xfs: dirty log' ]; then said=$("$top/xfs" xfs_repair -L "$work/volume.img" 2>&1) || true; fi
   case $said in

@@ -31,6 +31,14 @@ make_image() { # IMAGE SIZE PROTOFILE OPTION..
   mkfs.xfs -q -f -m crc=1,finobt=1,rmapbt=1,reflink=0,bigtime=0,inobtcount=0 -i size=512,sparse=1,nrext64=0 -s size=512 \
     ${proto:+-p "$proto"} "$@" "$image" > /dev/null
 }
+# "$work/volume.img" is an image then, which may be packed by zstd
+unpack() { # IMAGE|IMAGE.zst
+  case $1 in
+  *.zst) zstd -dqf --sparse "$1" -o "$work/volume.img" ;;
+  *) cp --sparse=always "$1" "$work/volume.img" ;;
+  esac
+  chmod u+w "$work/volume.img"
+}
 zeroed() { # IMAGE COMMAND..: its block to which xfs_db goes by these commands
   local image=$1 block
   shift

@@ -1,12 +1,14 @@
 #!/usr/bin/env bash
 # Checks and repairs copies of each image with 1, 2, 3, 7 and 64 workers: as it is, and with each of three damages (the headers of group 1,
 # the root of the inode tree of group 0, the root of the tree of owners of group 1). Text, status and image have to be the same whatever
-# the number is. None of these damages takes a name, so no inode is made anew, whose times would differ. Needs xfsprogs and ./xfs.
+# the number is. None of these damages takes a name, so no inode is made anew, whose times would differ. Needs xfsprogs,
+# zstd where an image is packed by it, and ./xfs.
 #
-#   examples/workers.sh IMAGE..
+#   examples/workers.sh IMAGE|IMAGE.zst ..
 set -eu
 top=$(cd "$(dirname "$0")/.." && pwd)
 . "$top/examples/judge.sh"
+. "$top/examples/volumes.sh"
 number() { xfs_db -r -c "$1" -c "print $2" "$work/volume.img" 2> /dev/null | sed 's/.*= //'; }
 blank() { dd if=/dev/zero of="$work/damaged.img" bs=512 seek="$1" count="$2" conv=notrunc status=none; } # SECTOR COUNT
 nothing() { :; }
@@ -33,13 +35,13 @@ same() { # NAME OPTION..
   [ -z "$wrong" ] || failed=1
 }
 for image in "$@"; do
-  cp --sparse=always "$image" "$work/volume.img"
+  unpack "$image"
+  name=$(basename "$image" .zst)
   for damage in nothing headers inode_root owner_root; do
     cp --sparse=always "$work/volume.img" "$work/damaged.img"
-    chmod u+w "$work/damaged.img"
     $damage
-    same "$(basename "$image" .img), $damage, -n" -n
-    same "$(basename "$image" .img), $damage"
+    same "${name%.img}, $damage, -n" -n
+    same "${name%.img}, $damage"
   done
 done
 exit "$failed"
