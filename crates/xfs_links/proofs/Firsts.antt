@@ -1,10 +1,12 @@
 -- Candidates, one entry after the other.
-use Rattle.std.proofs.Common.{◌≡◌, ℕ, ◌+◌, ◌<◌, ◌==◌, ◌&&◌, ◌||◌, Bool, true, false, not, cond, List, [], ◌∷◌, ◌++◌, map, length, drop, suc, refl, sym, ◌∙◌, ap, subst, arith, add-one, append_assoc, drop-cons, slice_index_or}
+use Rattle.std.proofs.Common.{◌≡◌, ℕ, ◌+◌, ◌<◌, ◌==◌, ◌&&◌, ◌||◌, Bool, true, false, not, cond, List, [], ◌∷◌, ◌++◌, map, length, drop, suc, refl, sym, ◌∙◌, ap, subst, arith, eq-eqb, add-one, append_assoc, drop-cons, slice_index_or}
 use denote.Bor.{Bor}
 use Rattle.std.specs.List.{list_any, filter}
 use Rattle.std.specs.Str.{bytes_eq}
 use Rattle.std.specs.Bool.{OnFalse}
-use Rattle.std.specs.Ordering.{is_eq, nat_cmp}
+use Rattle.std.specs.Ordering.{is_eq, nat_cmp, ordering_then}
+use Rattle.std.specs.Cmp.Lexicographic.{bytes_decides}
+use Rattle.xfs_word.specs.Hash.{hash_of}
 use Rattle.std.specs.Cmp.{both_tied, unsigned_ties}
 use Rattle.std.proofs.lemmas.Map.Text.{is_eq-slice_cmp}
 use Rattle.std.proofs.lemmas.Bool.Decides.{nat_tests}
@@ -17,9 +19,17 @@ use Rattle.xfs_links.specs.Entries.{passes, firsts, same_name}
 use Rattle.xfs_links.specs.Places.{candidate_entry, IsPlacedCandidate, IsPlacedAt, no_entry}
 use Rattle.xfs_links.specs.Met.{name_cmp}
 
--- names are one where neither comes first
-pub names_tied : (a d : ℕ) (x y : Bor (List ℕ)) → is_eq (name_cmp (a, x) (d, y)) ≡ (a == d && bytes_eq x.now y.now)
-names_tied a d x y = sym (both_tied (a == d) (bytes_eq x.now y.now) (nat_cmp a d) _ (unsigned_ties a d) (sym (is_eq-slice_cmp x.now y.now)))
+-- names with their hashes are one where neither comes first
+pub names_tied : (a d : ℕ) (x y : Bor (List ℕ)) → is_eq (name_cmp (a, hash_of x.now, x) (d, hash_of y.now, y)) ≡ (a == d && bytes_eq x.now y.now)
+names_tied a d x y = sym (both_tied (a == d && hash_of x.now == hash_of y.now) (bytes_eq x.now y.now) (ordering_then (nat_cmp a d) (nat_cmp (hash_of x.now) (hash_of y.now))) _
+    (both_tied (a == d) (hash_of x.now == hash_of y.now) (nat_cmp a d) _ (unsigned_ties a d) (unsigned_ties (hash_of x.now) (hash_of y.now))) (sym (is_eq-slice_cmp x.now y.now)))
+    ∙ without (a == d) (hash_of x.now == hash_of y.now) (bytes_eq x.now y.now) (λ t. eq-eqb (hash_of x.now) (hash_of y.now) (ap hash_of ((bytes_decides x.now y.now).0 t)))
+  where
+    without : (s h r : Bool) → (r ≡ true → h ≡ true) → ((s && h) && r) ≡ (s && r)
+    without false h r t = refl
+    without true true r t = refl
+    without true false false t = refl
+    without true false true t = t refl
 
 -- an entry that passes is the first of those that are left
 pub next_passes : (files : List NodeRec) (root i : ℕ) (entries : List EntryRec) (e : EntryRec) → i < length entries

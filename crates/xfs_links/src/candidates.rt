@@ -5,7 +5,7 @@ ghost use Rattle.std.specs.List.{All};
 ghost use Rattle.xfs_links.specs.Entries.{AreFiles, is_kept_node, is_reserved_inode, passes, candidate_entries};
 ghost use Rattle.xfs_links.specs.Places.{candidate_entry, IsPlacedCandidate, IsPlacedAt};
 
-use crate::lookup::place_of;
+use crate::lookup::place_near;
 use crate::met::MetNames;
 use crate::records::NodeRec;
 use std::alloc::Global;
@@ -39,10 +39,16 @@ pub fn find_candidates(
 {
     let mut met = MetNames::new(alloc);
     let mut found = Vec::new(alloc);
+    let mut last = Candidate {
+        entry: 0,
+        directory: 0,
+        target: 0,
+    };
     for (i, entry) in entries.iter().enumerate() {
-        let Some(candidate) = candidate_of(files, entry, i, root) else {
+        let Some(candidate) = candidate_of(files, &last, entry, i, root) else {
             continue;
         };
+        last = candidate;
         if !met.add(entry.dir, entry.name.bytes())? {
             continue;
         }
@@ -51,8 +57,15 @@ pub fn find_candidates(
     Ok(found)
 }
 
-/// The entry as a candidate, where it can name its file.
-fn candidate_of(files: &[NodeRec], entry: &EntryRec, i: usize, root: u64) -> Option<Candidate>
+/// The entry as a candidate, where it can name its file. Its directory may be that of the last candidate, and the file stand
+/// behind that which that one names.
+fn candidate_of(
+    files: &[NodeRec],
+    last: &Candidate,
+    entry: &EntryRec,
+    i: usize,
+    root: u64,
+) -> Option<Candidate>
     requires files { AreFiles files.now }
     requires known { is_kept_node files.now entry.now.dir ≡ true }
     requires root { root < 2 ^ 32 }
@@ -61,8 +74,8 @@ fn candidate_of(files: &[NodeRec], entry: &EntryRec, i: usize, root: u64) -> Opt
     if !is_name(entry.name.bytes()) || is_reserved_inode(root, entry.ino) {
         return None;
     }
-    let target = place_of(files, entry.ino)?;
-    let directory = place_of(files, entry.dir)?;
+    let target = place_near(files, last.target as usize + 1, entry.ino)?;
+    let directory = place_near(files, last.directory as usize, entry.dir)?;
     Some(Candidate {
         entry: i,
         directory,

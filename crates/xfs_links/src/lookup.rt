@@ -16,6 +16,17 @@ pub fn place_of(files: &[NodeRec], ino: u64) -> Option<u32>
     }
 }
 
+/// The same, where `near` is a place at which it may stand.
+pub fn place_near(files: &[NodeRec], near: usize, ino: u64) -> Option<u32>
+    requires { AreFiles files.now }
+    ensures { MatchOption result (is_kept_node files.now ino ≡ false) (λ place. (place < length files.now) × (node_number files.now place ≡ ino)) }
+{
+    if near < files.len() && files[near].ino == ino {
+        return Some(near as u32);
+    }
+    place_of(files, ino)
+}
+
 /// Whether the file at a place is a directory.
 pub fn is_directory_at_place(files: &[NodeRec], place: u32) -> bool
     requires { place < length files.now }

@@ -8,11 +8,13 @@ ghost use Rattle.xfs_links.specs.Met.{is_met};
 use std::alloc::Global;
 use std::collections::BTreeSet;
 use xfs_disk::NoMemory;
+use xfs_word::name_hash;
 
-/// Names of entries, each with the directory's number.
+/// Names of entries, each with the directory's number. They stand by the hash of the name first, since names of one directory
+/// often begin alike.
 #[derive(Drop)]
 pub struct MetNames<'a> {
-    names: BTreeSet<(u64, &'a [u8])>,
+    names: BTreeSet<(u64, u32, &'a [u8])>,
 }
 
 impl<'a> MetNames<'a> {
@@ -31,7 +33,7 @@ impl<'a> MetNames<'a> {
         ensures met { OnOk result ((d : ℕ) (q : List ℕ) → is_met self.new d q ≡ ((directory == d && bytes_eq name.now q) || is_met self.old d q)) }
         ensures same { IfOk result (λ fresh. OnFalse fresh ((d : ℕ) (q : List ℕ) → is_met self.new d q ≡ is_met self.old d q)) }
     {
-        let fresh = self.names.insert((directory, name))?;
+        let fresh = self.names.insert((directory, name_hash(name), name))?;
         Ok(fresh)
     }
 }
