@@ -12,7 +12,7 @@ ghost use Rattle.xfs_hanging.specs.Settled.{by_directory as each_directory};
 ghost use Rattle.xfs_names.specs.Wanted.{with_type, with_directory};
 ghost use Rattle.xfs_names.specs.Private.Joined.{joined};
 
-use crate::lookup::kind_at;
+use crate::lookup::kind_near;
 use std::alloc::Global;
 use xfs_dirdata::EntryRec;
 use xfs_disk::{NoMemory, Word};
@@ -145,8 +145,9 @@ fn set_types(nodes: &[NodeRec], entries: &mut [EntryRec])
     requires { NodesAscend 0 nodes.now }
     ensures { entries.new ≡ map (with_type nodes.now) entries.old }
 {
+    let mut near = 0;
     for entry in entries.iter_mut() {
-        set_type(nodes, entry);
+        set_type(nodes, &mut near, entry);
     }
 }
 
@@ -160,12 +161,12 @@ fn with_types(nodes: &[NodeRec], all: Vec<EntryRec>) -> Records<EntryRec>
     Records::from_vec(all)
 }
 
-/// Lets an entry state the type of the file that it names.
-fn set_type(nodes: &[NodeRec], entry: &mut EntryRec)
+/// Lets an entry state the type of the file that it names. `near` is a place at which the file may stand.
+fn set_type(nodes: &[NodeRec], near: &mut usize, entry: &mut EntryRec)
     requires { NodesAscend 0 nodes.now }
     ensures { entry.new ≡ with_type nodes.now entry.old }
 {
-    entry.ftype = entry_type(u16::from(kind_at(nodes, entry.ino)));
+    entry.ftype = entry_type(u16::from(kind_near(nodes, near, entry.ino)));
 }
 
 /// How many entries all directories together may have.

@@ -28,6 +28,7 @@ mod wanting;
 
 pub use building::{BuiltDirectory, ForkRoom, build_all};
 pub use laws::wanted_names_are_lawful;
+pub use lookup::{is_directory_near, is_kept};
 pub use place::{LostPlace, lost_place};
 pub use records::WantedNames;
 pub use wanting::want_names;

@@ -8,12 +8,12 @@ ghost use Rattle.xfs_links.specs.Entries.{NodesAscend, is_directory_number};
 ghost use Rattle.xfs_names.specs.Wanted.{link_count, with_links};
 ghost use Rattle.xfs_names.specs.Private.Targets.{AreTargets, target_of};
 
-use crate::lookup::is_directory_number;
+use crate::lookup::is_directory_near;
 use std::alloc::{AllocError, Global};
 use xfs_dirdata::EntryRec;
 use xfs_disk::NoMemory;
 use xfs_links::{DIRECTORY, NodeRec, is_reserved_inode};
-use xfs_naming::{Numbered, records_by_number};
+use xfs_naming::{Numbered, records_by_number, records_near};
 use xfs_volume::Records;
 
 /// An inode that an entry names.
@@ -54,29 +54,35 @@ fn each_target(alloc: Global, entries: &[EntryRec]) -> Result<Vec<Target>, Alloc
     entries.iter().map(|entry| target_of(entry)).collect(alloc)
 }
 
-/// How many links name a number.
-fn count_of(targets: &[Target], ino: u64) -> u64
+/// How many links name a number. `near` is a place at which the first of them may stand.
+fn count_of(targets: &[Target], near: &mut usize, ino: u64) -> u64
     requires { IsNonDecreasingBy (λ (t : Target). t.ino) targets.now }
     ensures { result ≡ length (filter (λ (t : Target). t.ino == ino) targets.now) }
 {
-    records_by_number(targets, ino).len() as u64
+    records_near(targets, near, ino).len() as u64
 }
 
 /// How many of these entries name a directory.
-fn count_directories(nodes: &[NodeRec], own: &[EntryRec]) -> u64
+fn count_directories(nodes: &[NodeRec], own: &[EntryRec]) -> usize
     requires { NodesAscend 0 nodes.now }
     ensures { result ≡ length (filter (λ (e : EntryRec). is_directory_number nodes.now e.ino) own.now) }
 {
-    own.iter()
-        .filter(|entry| is_directory_number(nodes, entry.ino))
-        .count() as u64
+    let mut near = 0;
+    let mut count = 0;
+    for entry in own {
+        if is_directory_near(nodes, &mut near, entry.ino) {
+            count += 1;
+        }
+    }
+    count
 }
 
-/// The links of a file.
+/// The links of a file. `near` is a place at which those that name it may stand.
 fn link_count(
     nodes: &[NodeRec],
     entries: &[EntryRec],
     targets: &[Target],
+    near: &mut usize,
     root: u64,
     node: &NodeRec,
 ) -> u64
@@ -88,12 +94,12 @@ fn link_count(
     ensures { result ≡ link_count nodes.now entries.now root node.now }
 {
     if node.kind == DIRECTORY {
-        return 2 + count_directories(nodes, records_by_number(entries, node.ino));
+        return 2 + count_directories(nodes, records_by_number(entries, node.ino)) as u64;
     }
     if is_reserved_inode(root, node.ino) {
         return 1;
     }
-    count_of(targets, node.ino)
+    count_of(targets, near, node.ino)
 }
 
 /// Each file with the links that it is to have.
@@ -111,8 +117,12 @@ pub fn all_links(
 {
     let targets = targets_of(alloc, entries)?;
     let mut all = Vec::with_capacity(alloc, nodes.len())?;
+    let mut near = 0;
     for node in nodes {
-        all.push((node.ino, link_count(nodes, entries, &targets, root, node)))?;
+        all.push((
+            node.ino,
+            link_count(nodes, entries, &targets, &mut near, root, node),
+        ))?;
     }
     Ok(Records::from_vec(all))
 }
