@@ -16,7 +16,7 @@ use xfs_disk::{NoMemory, Stamp};
 use xfs_empty::{fresh_core, time_of};
 use xfs_geom::Geometry;
 use xfs_inodebuild::ForkWanted;
-use xfs_naming::records_by_number;
+use xfs_naming::{records_by_number, records_near};
 use xfs_render::SlotBase;
 use xfs_volume::{Core, FileRec};
 
@@ -66,17 +66,19 @@ pub(crate) fn changes_of(
     ensures { IfOk result (λ changes. changes.items ≡ changes_of (volume_of ways.now.g.now) ways.now.stamp.now ways.now.lost.now ways.now.files.now ways.now.forks.now links.now) }
 {
     let mut changes = Vec::new(alloc);
+    let mut near = 0;
     for link in links {
-        push_change(alloc, ways, link.0, link.1, &mut changes)?;
+        push_change(alloc, ways, &mut near, link.0, link.1, &mut changes)?;
         push_free(ways.lost, link.0, &mut changes)?;
     }
     Ok(changes)
 }
 
-/// Adds that of a file, where there is one.
+/// Adds that of a file, where there is one. `near` is a place among the files at which it may stand.
 fn push_change(
     alloc: Global,
     ways: &Ways,
+    near: &mut usize,
     ino: u64,
     due: u64,
     changes: &mut Vec<SlotChange>,
@@ -90,7 +92,7 @@ fn push_change(
         ino,
         base: base_made(ways, ino),
         fork: fork_at(alloc, ways.forks, ino)?,
-        nlink: links_set(links_held_at(ways.files, ino), due)?,
+        nlink: links_set(links_held_at(ways.files, near, ino), due)?,
     };
     if change.base.is_some() || change.fork.is_some() || change.nlink.is_some() {
         changes.push(change)?;
@@ -189,12 +191,12 @@ fn fork_at(alloc: Global, forks: &[DirectoryFork], ino: u64) -> Result<Option<Fo
     }
 }
 
-/// How many links the file with a number states, where it is there.
-fn links_held_at(files: &[FileRec], ino: u64) -> Option<u32>
+/// How many links the file with a number states, where it is there. `near` is a place at which it may stand.
+fn links_held_at(files: &[FileRec], near: &mut usize, ino: u64) -> Option<u32>
     requires files { IsNonDecreasingBy (λ (f : FileRec). f.ino) files.now }
     ensures { result ≡ links_held_at files.now ino }
 {
-    match records_by_number(files, ino).first() {
+    match records_near(files, near, ino).first() {
         Some(file) => Some(file.core.nlink),
         None => None,
     }

@@ -3,7 +3,7 @@
 ghost use Rattle.std.specs.Prelude.{◌≡◌, ◌++◌, ◌<◌, ◌^◌, [], ◌∷◌, true, IfOk, IsTrue, OnOk};
 ghost use Rattle.std.specs.List.{All};
 ghost use Rattle.xfs_geom.specs.Volumes.{volume_of};
-ghost use Rattle.xfs_links.specs.Entries.{AreEntries, AreFiles, NodesAscend, is_directory_number, is_kept_node};
+ghost use Rattle.xfs_links.specs.Entries.{AreEntries, AreFiles, NodesAscend, is_directory_number};
 ghost use Rattle.xfs_names.specs.Having.{node_of};
 ghost use Rattle.xfs_rename.specs.Nodes.{first_of_cluster, firsts_of_clusters, nodes_of_files};
 
@@ -11,7 +11,8 @@ use std::alloc::Global;
 use xfs_dirdata::EntryRec;
 use xfs_disk::NoMemory;
 use xfs_geom::Geometry;
-use xfs_links::{DIRECTORY, NodeRec};
+use xfs_links::NodeRec;
+use xfs_names::is_directory_near;
 use xfs_volume::FileRec;
 
 /// The files, each by its number and kind.
@@ -71,7 +72,7 @@ pub(crate) fn can_connect(nodes: &[NodeRec], entries: &[EntryRec], root: u64) ->
     ensures entries { IsTrue result → AreEntries nodes.now entries.now }
     ensures root { IsTrue result → is_directory_number nodes.now root ≡ true }
 {
-    are_files(nodes) && are_entries(nodes, entries) && has_directory(nodes, root)
+    are_files(nodes) && are_entries(nodes, entries) && is_directory_near(nodes, &mut 0, root)
 }
 
 /// Whether files ascend by numbers below 2^32.
@@ -96,34 +97,14 @@ fn are_entries(nodes: &[NodeRec], entries: &[EntryRec]) -> bool
     requires { NodesAscend 0 nodes.now }
     ensures { IsTrue result → AreEntries nodes.now entries.now }
 {
+    let mut near = 0;
     let mut least = 0;
     for entry in entries {
-        if entry.dir < least || !has_directory(nodes, entry.dir) {
+        if entry.dir < least || !is_directory_near(nodes, &mut near, entry.dir) {
             return false;
         }
+        near = near.saturating_sub(1);
         least = entry.dir;
     }
     true
-}
-
-/// Whether a directory has the number.
-fn has_directory(nodes: &[NodeRec], number: u64) -> bool
-    requires { NodesAscend 0 nodes.now }
-    ensures { result ≡ is_directory_number nodes.now number }
-{
-    match nodes.binary_search_by_key(&number, |node| node.ino) {
-        Ok(place) => nodes[place].kind == DIRECTORY,
-        Err(_) => false,
-    }
-}
-
-/// Whether a file has the number.
-pub(crate) fn has_node(nodes: &[NodeRec], number: u64) -> bool
-    requires { NodesAscend 0 nodes.now }
-    ensures { result ≡ is_kept_node nodes.now number }
-{
-    match nodes.binary_search_by_key(&number, |node| node.ino) {
-        Ok(_) => true,
-        Err(_) => false,
-    }
 }

@@ -13,12 +13,12 @@ ghost use Rattle.xfs_rename.specs.Settled.{fork_rooms};
 
 use crate::fork_rooms::fork_rooms;
 use crate::lost::{Lost, find_lost};
-use crate::nodes::{can_connect, has_node, nodes_of_files};
+use crate::nodes::{can_connect, nodes_of_files};
 use std::alloc::Global;
 use xfs_disk::{NoMemory, Stamp};
 use xfs_geom::Geometry;
 use xfs_links::connect;
-use xfs_names::{BuiltDirectory, ForkRoom, WantedNames, build_all, want_names};
+use xfs_names::{BuiltDirectory, ForkRoom, WantedNames, build_all, is_kept, want_names};
 use xfs_place::PlaceFault;
 use xfs_rebuild::NamesDue;
 use xfs_volume::{FileRec, Records};
@@ -64,7 +64,7 @@ pub(crate) fn settle(
     let decided = connect(alloc, &nodes, entries, g.rootino)?;
     let orphans = decided.orphans.as_slice().len() as u64;
     let lost = find_lost(alloc, g, due, &nodes, &decided)?;
-    if lost.new >= INODES_END || has_node(&nodes, lost.new) {
+    if lost.new >= INODES_END || is_kept(&nodes, lost.new) {
         return Err(PlaceFault::NoMemory);
     }
     let names = want_names(
