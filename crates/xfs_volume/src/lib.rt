@@ -9,7 +9,7 @@
 //!
 //! ```text
 //! let catalog = Catalog { geometry, groups, files, entries, dirs, counts, log, lsns };
-//! match lawful(rt, alloc, &catalog) { .. }
+//! match lawful(rt, alloc, workers, &catalog) { .. }
 //! ```
 #![tactic(auto)]
 
