@@ -62,9 +62,9 @@ fn first_broken_law<R: Threads + Sync>(
     ensures names { IfOk result (λ law. law ≡ None → IsNamingLawful catalog.now.geometry.rootino catalog.now.files catalog.now.entries catalog.now.dirs) }
 {
     if workers < 2 || catalog.files.as_slice().len() < FILES_OF_A_THREAD {
-        judge_in_turn(rt, alloc, catalog)
+        judge_in_turn(rt, alloc, workers, catalog)
     } else {
-        judge_beside(rt, alloc, catalog)
+        judge_beside(rt, alloc, workers, catalog)
     }
 }
 
@@ -73,6 +73,7 @@ fn first_broken_law<R: Threads + Sync>(
 fn judge_in_turn<R: Threads + Sync>(
     rt: &R,
     alloc: Global,
+    workers: u32,
     catalog: &Catalog,
 ) -> Result<Option<Law>, NoMemory>
     requires { IsCatalog catalog.now }
@@ -80,7 +81,7 @@ fn judge_in_turn<R: Threads + Sync>(
     ensures space { IfOk result (λ law. law ≡ None → IsSpaceLawful (volume_of catalog.now.geometry) catalog.now.groups catalog.now.files) }
     ensures names { IfOk result (λ law. law ≡ None → IsNamingLawful catalog.now.geometry.rootino catalog.now.files catalog.now.entries catalog.now.dirs) }
 {
-    if let Some(law) = judge_numbers(rt, alloc, catalog)? {
+    if let Some(law) = judge_numbers(rt, alloc, workers, catalog)? {
         return Ok(Some(law));
     }
     if let Some(law) = judge_names(alloc, catalog)? {
@@ -95,6 +96,7 @@ fn judge_in_turn<R: Threads + Sync>(
 fn judge_beside<R: Threads + Sync>(
     rt: &R,
     alloc: Global,
+    workers: u32,
     catalog: &Catalog,
 ) -> Result<Option<Law>, NoMemory>
     requires { IsCatalog catalog.now }
@@ -108,7 +110,7 @@ fn judge_beside<R: Threads + Sync>(
         || -> Result<Option<Law>, NoMemory>
             requires { IsSync R.row × IsCatalog catalog.now }
             ensures { IfOk result (λ law. law ≡ first_broken (space_laws (volume_of catalog.entry.now.geometry) catalog.entry.now.groups catalog.entry.now.files ++ counting_laws catalog.entry.now)) × IfOk result (λ law. law ≡ None → IsSpaceLawful (volume_of catalog.entry.now.geometry) catalog.entry.now.groups catalog.entry.now.files) }
-        { judge_numbers(rt, alloc, catalog) },
+        { judge_numbers(rt, alloc, workers, catalog) },
     );
     if let Some(law) = numbers? {
         return Ok(Some(law));
@@ -124,6 +126,7 @@ fn judge_beside<R: Threads + Sync>(
 fn judge_numbers<R: Threads + Sync>(
     rt: &R,
     alloc: Global,
+    workers: u32,
     catalog: &Catalog,
 ) -> Result<Option<Law>, NoMemory>
     requires { IsCatalog catalog.now }
@@ -132,7 +135,7 @@ fn judge_numbers<R: Threads + Sync>(
 {
     let groups = catalog.groups.as_slice();
     let files = catalog.files.as_slice();
-    if let Some(law) = check_space(rt, alloc, &catalog.geometry, groups, files)? {
+    if let Some(law) = check_space(rt, alloc, workers, &catalog.geometry, groups, files)? {
         return Ok(Some(law));
     }
     Ok(check_counts(catalog))

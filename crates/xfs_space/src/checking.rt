@@ -28,12 +28,13 @@ use xfs_volume::{FileRec, GroupRec, Law};
 /// and offset word, and no other block.
 ///
 /// The groups are those of the volume in their order; each has lawful records in its trees and lists, and each
-/// file lawful extents. The owned runs are sorted in as many threads as there are processors.
+/// file lawful extents. From two `workers` on the owned runs are sorted in as many threads as there are processors.
 ///
 /// `NoMemory` where memory is wanting.
 pub fn check_space<R: Threads + Sync>(
     rt: &R,
     alloc: Global,
+    workers: u32,
     g: &Geometry,
     groups: &[GroupRec],
     files: &[FileRec],
@@ -46,7 +47,7 @@ pub fn check_space<R: Threads + Sync>(
     ensures lawful { IfOk result (λ law. law ≡ None ↔ IsSpaceLawful (volume_of g.now) groups.now files.now) }
 {
     let runs = owned_runs(alloc, g, groups, files)?;
-    let sorted = in_order(rt, alloc, runs)?;
+    let sorted = in_order(rt, alloc, workers, runs)?;
     let law = runs_law(alloc, g, groups, &sorted)?;
     Ok(law)
 }

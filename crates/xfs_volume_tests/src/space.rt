@@ -17,12 +17,18 @@ use xfs_space::check_space;
 
 #[test]
 fn small_volumes(rt: HostRuntime) {
-    for line in ROWS.lines() {
-        try_row(&rt, rt.alloc(), line);
+    for workers in 1..3 {
+        try_rows(&rt, rt.alloc(), workers);
     }
 }
 
-fn try_row<R: Threads + Abort + Sync>(rt: &R, alloc: Global, line: &str) {
+fn try_rows<R: Threads + Abort + Sync>(rt: &R, alloc: Global, workers: u32) {
+    for line in ROWS.lines() {
+        try_row(rt, alloc, workers, line);
+    }
+}
+
+fn try_row<R: Threads + Abort + Sync>(rt: &R, alloc: Global, workers: u32, line: &str) {
     let mut row = Row::new(line);
     let case = row.text();
     let catalog = Sketch::new(rt, BASE, row.text()).catalog(rt, alloc);
@@ -34,6 +40,7 @@ fn try_row<R: Threads + Abort + Sync>(rt: &R, alloc: Global, line: &str) {
         check_space(
             rt,
             alloc,
+            workers,
             &catalog.geometry,
             catalog.groups.as_slice(),
             &files,

@@ -2,7 +2,7 @@ use Rattle.std.proofs.Common.{List, length, sym, ◌∙◌, ap, subst, arith}
 use Rattle.xfs_geom.specs.declared.records.Run.{Run}
 use Rattle.xfs_space.specs.Sorted.{StartsRise}
 use Rattle.xfs_space.proofs.Order.{rise_if_sorted, restored}
-use Rattle.xfs_space.proofs.sorting.in_order.Goals as goal
+use Rattle.xfs_space.proofs.sorting.in_order_beside.Goals as goal
 
 pub returns-clause-rise : goal.returns-clause-rise
 returns-clause-rise g c =
