@@ -5,6 +5,7 @@ ghost use Rattle.xfs_geom.specs.Volumes.{Volume};
 ghost use Rattle.xfs_format_tests.specs.Numbers.{numbers_shape};
 ghost use Rattle.xfs_tree.specs.Rules.{are_lawful};
 
+mod forest;
 mod hostile;
 mod numbers;
 

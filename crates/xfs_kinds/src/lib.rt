@@ -1,13 +1,13 @@
 //! The six kinds of B+tree of a volume (chapter "Common B+trees"), and runs of its blocks.
 //!
 //! What one kind of tree is: its records and keys, how they are put into bytes, which record may follow which.
-//! `read_tree` and `pack` then work for it, with all their promises. The runs of a group's blocks, those without an owner
+//! Reading and packing then work for it, with all their promises. The runs of a group's blocks, those without an owner
 //! and those that can be joined, are found here.
 //!
-//! `xfs_groups` reads the tree of free space, and `xfs_space` says what it should hold:
+//! `xfs_groups` reads the trees of free space of all groups, and `xfs_space` says what each should hold:
 //!
 //! ```text
-//! let tree = read_tree(alloc, &Bno { ag }, g, disk, root, levels, steps)?; // its records are Span
+//! let trees = read_forest(rt, alloc, g, disk, plants, workers, gate, steps)?; // a plant of kind Bno { ag } for each group
 //! let free = free_runs(alloc, &used, g.group_length(ag))?;
 //! ```
 #![tactic(auto)]

@@ -30,7 +30,7 @@ pub struct Frontier<K: Kind> {
 
 impl<K: Kind> Frontier<K> {
     /// The blocks of the run with the keys that their parents state.
-    pub(crate) fn seats(&self, alloc: Global) -> Result<Vec<Seat<K::Key>>, NoMemory>
+    pub fn seats(&self, alloc: Global) -> Result<Vec<Seat<K::Key>>, NoMemory>
         ensures { IfOk result (λ seats. seats.items ≡ seats_of self.now.places.items self.now.lows.items self.now.highs.items) }
     {
         let mut seats = Vec::new(alloc);

@@ -190,7 +190,7 @@ fn admit_block<K: Kind>(
 }
 
 /// The place of a block of a row, where there is one.
-fn place_at<Key: Copy>(row: &[Seat<Key>], i: usize) -> Option<u64>
+pub fn place_at<Key: Copy>(row: &[Seat<Key>], i: usize) -> Option<u64>
     ensures { result ≡ next_of None (drop i row.now) }
 {
     if i < row.len() {
@@ -201,7 +201,7 @@ fn place_at<Key: Copy>(row: &[Seat<Key>], i: usize) -> Option<u64>
 }
 
 /// Adds the children of a node.
-fn push_children<K: Kind>(
+pub(crate) fn push_children<K: Kind>(
     kind: &K,
     g: &Geometry,
     block: &[u8],
@@ -218,7 +218,7 @@ fn push_children<K: Kind>(
 }
 
 /// Adds the records of a leaf.
-fn push_records<K: Kind>(
+pub(crate) fn push_records<K: Kind>(
     kind: &K,
     block: &[u8],
     records: &mut Vec<K::Record>,

@@ -11,7 +11,7 @@ use xfs_disk::NoMemory;
 
 /// Blocks by number: a list of them in the order in which they were met, and their set.
 #[derive(Drop)]
-pub(crate) struct MetBlocks {
+pub struct MetBlocks {
     pub blocks: Vec<u64>,
     pub set: BTreeSet<u64>,
 }
@@ -26,6 +26,14 @@ impl MetBlocks {
             blocks: Vec::new(alloc),
             set: BTreeSet::new(alloc),
         }
+    }
+
+    /// Whether a block is one of them.
+    pub fn holds(&self, block: u64) -> bool
+        requires { IsMet self.now }
+        ensures { result ≡ list_any (λ other. other == block) self.now.blocks.items }
+    {
+        self.set.contains(&block)
     }
 
     /// Adds a block, and says whether it was not there.

@@ -12,7 +12,7 @@ use xfs_word::{Seal, SealKind};
 
 /// Whether a block can be one of the owner's tree: it lies in the group, or for an inode's tree in the
 /// volume, has no fixed use and is not of the root's cluster.
-pub(crate) fn can_hold(g: &Geometry, layout: &Layout, owner: u64, block: u64) -> bool
+pub fn can_hold(g: &Geometry, layout: &Layout, owner: u64, block: u64) -> bool
     ensures value { result ≡ can_hold (volume_of g.now) layout.now owner block }
     ensures inside { IsTrue result → block < g.now.dblocks }
 {

@@ -60,7 +60,7 @@ pub(crate) fn block_fault<K: Kind>(
 }
 
 /// How many records or children a block needs: a leaf that is the root, which has no key due, needs none.
-fn least_of<Key: Copy>(level: u32, low: Option<Key>) -> u64
+pub(crate) fn least_of<Key: Copy>(level: u32, low: Option<Key>) -> u64
     ensures { result ≡ least_of level low }
 {
     match low {
@@ -71,7 +71,7 @@ fn least_of<Key: Copy>(level: u32, low: Option<Key>) -> u64
 }
 
 /// Whether a block holds at least `least` records or children and at most its capacity.
-fn has_count(layout: &Layout, level: u32, least: u64, block: &[u8]) -> bool
+pub(crate) fn has_count(layout: &Layout, level: u32, least: u64, block: &[u8]) -> bool
     requires { length block.now ≡ 4096 }
     ensures { result ≡ nat_le least (count_of block.now) && nat_le (count_of block.now) (capacity layout.now level) }
 {
@@ -115,7 +115,7 @@ fn are_lawful<K: Kind>(kind: &K, g: &Geometry, before: Option<K::Record>, block:
 }
 
 /// Whether each low key in a block of a level is above the one in front of it.
-fn ascends<K: Kind>(kind: &K, level: u32, block: &[u8]) -> bool
+pub(crate) fn ascends<K: Kind>(kind: &K, level: u32, block: &[u8]) -> bool
     requires block { length block.now ≡ 4096 }
     requires count { count_of block.now ≤ capacity (K.shape kind.now).layout level }
     ensures { result ≡ ascend_behind (K.shape kind.now) None (lows_of (K.shape kind.now) level block.now) }
@@ -142,7 +142,7 @@ fn is_above<K: Kind>(kind: &K, before: Option<K::Key>, key: K::Key) -> bool
 }
 
 /// Whether the low key of a block and, where keys are pairs, its high key are those that its parent states.
-fn has_keys<K: Kind>(kind: &K, level: u32, seat: &Seat<K::Key>, block: &[u8]) -> bool
+pub(crate) fn has_keys<K: Kind>(kind: &K, level: u32, seat: &Seat<K::Key>, block: &[u8]) -> bool
     requires block { length block.now ≡ 4096 }
     requires count { count_of block.now ≤ capacity (K.shape kind.now).layout level }
     ensures { result ≡ bound_agrees (K.shape kind.now) seat.now.low (low_of (K.shape kind.now) level block.now)
@@ -206,7 +206,12 @@ fn greater<K: Kind>(kind: &K, best: Option<K::Key>, key: K::Key) -> K::Key
 }
 
 /// Whether the siblings that a block states are its neighbours.
-fn has_siblings<K: Kind>(kind: &K, g: &Geometry, beside: &Neighbours, block: &[u8]) -> bool
+pub(crate) fn has_siblings<K: Kind>(
+    kind: &K,
+    g: &Geometry,
+    beside: &Neighbours,
+    block: &[u8],
+) -> bool
     requires { length block.now ≡ 4096 }
     ensures { result ≡ is_sibling (volume_of g.now) (K.shape kind.now).layout (K.shape kind.now).owner beside.now.left (left_of (K.shape kind.now).layout block.now)
         && is_sibling (volume_of g.now) (K.shape kind.now).layout (K.shape kind.now).owner beside.now.right (right_of (K.shape kind.now).layout block.now) }

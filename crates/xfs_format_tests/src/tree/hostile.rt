@@ -25,7 +25,7 @@ const IDENTIFIER: [u8; 16] = [
 const NONE: u32 = u32::MAX;
 
 /// The geometry of the volume; blocks 16 to 19 have the root inode.
-fn volume() -> Geometry
+pub(super) fn volume() -> Geometry
     ensures { result.dblocks ≡ 2048 }
 {
     Geometry {
@@ -104,7 +104,7 @@ fn reading(
 }
 
 /// The disk with these three blocks, at blocks 20 to 22, of which the last may have a wrong byte.
-fn disk_of(rt: &impl Abort, alloc: Global, blocks: [&str; 3], wrong: u8) -> MemoryDisk {
+pub(super) fn disk_of(rt: &impl Abort, alloc: Global, blocks: [&str; 3], wrong: u8) -> MemoryDisk {
     let mut disk = must(rt, MemoryDisk::make(alloc, 2048));
     put(rt, &mut disk, 20, &block(rt, alloc, blocks[0]));
     put(rt, &mut disk, 21, &block(rt, alloc, blocks[1]));
@@ -121,7 +121,7 @@ fn put(rt: &impl Abort, disk: &mut MemoryDisk, place: u64, block: &[u8; 4096]) {
 }
 
 /// The root and its two leaves, and the block and the rule that is broken.
-const BROKEN: &str = "\
+pub(super) const BROKEN: &str = "\
 outside the group | 20 1 2 - - 10 30 21 5000 | 21 0 2 - 5000 10 20 | 22 0 1 21 - 30 | Unread { block: 5000, rule: 1 }
 the root's cluster | 20 1 2 - - 10 30 21 16 | 21 0 2 - 16 10 20 | 22 0 1 21 - 30 | Unread { block: 16, rule: 1 }
 a shared child | 20 1 2 - - 10 30 21 21 | 21 0 2 - 21 10 20 | 22 0 1 21 - 30 | Unread { block: 21, rule: 2 }
@@ -160,7 +160,7 @@ fn try_broken(rt: &(impl Abort + AllocGlobal), line: &str) {
 }
 
 /// A tree that is whole.
-const WHOLE: [&str; 3] = [
+pub(super) const WHOLE: [&str; 3] = [
     "20 1 2 - - 10 30 21 22",
     "21 0 2 - 22 10 20",
     "22 0 1 21 - 30",

@@ -1,0 +1,4 @@
+mod Causes
+mod Forests
+mod Growth
+mod Trees

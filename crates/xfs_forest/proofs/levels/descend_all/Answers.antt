@@ -1,0 +1,21 @@
+use Rattle.std.proofs.Common.{refl, sym, subst, arith, rules}
+use Rattle.xfs_forest.specs.Forest.{IsDescended, IsThrough}
+use Rattle.xfs_forest.proofs.Forests.{done_after, rest_after}
+use Rattle.xfs_forest.proofs.levels.descend_all.Goals as goal
+
+pub loop-i-init : goal.loop-i-init
+loop-i-init g c = record { rest = λ j d later. refl; done = λ j d before. absurd (omega arith) }
+
+pub descend-requires : goal.descend-requires
+descend-requires g c =
+    record {
+      through = subst IsThrough (sym (c.loop-i.invariant.rest c.loop-i.i c.index-trees-i.result (omega arith))) (c.requires.through c.loop-i.i c.index-trees-i.result (omega arith));
+    }
+
+pub loop-i-preserved : goal.loop-i-preserved
+loop-i-preserved g c =
+    record {
+      rest = rest_after c.args.trees.now c.loop-i.trees c.loop-i.i c.descend.new.tree c.loop-i.invariant.rest;
+      done = done_after IsDescended c.args.trees.now c.loop-i.trees c.loop-i.i _ c.descend.new.tree (omega arith)
+          c.loop-i.invariant.rest c.loop-i.invariant.done (search rules) c.descend.ensures;
+    }

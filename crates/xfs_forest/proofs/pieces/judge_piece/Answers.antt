@@ -1,0 +1,22 @@
+use Rattle.std.proofs.Common.{refl, sym, subst, arith, rules}
+use Rattle.xfs_geom.specs.Volumes.{volume_of}
+use Rattle.xfs_forest.specs.Forest.{IsInRound, IsJudged}
+use Rattle.xfs_forest.proofs.Forests.{done_after, rest_after}
+use Rattle.xfs_forest.proofs.pieces.judge_piece.Goals as goal
+
+pub loop-i-init : goal.loop-i-init
+loop-i-init g c = record { rest = λ j d later. refl; done = λ j d before. absurd (omega arith) }
+
+pub judge_one-requires-after_bounds : goal.judge_one-requires-after_bounds
+judge_one-requires-after_bounds g c = λ κs lives.
+    let i = c.loop-i.i in
+    let cell = c.index-piece-i.result in
+    subst (IsInRound c.args.plants.now c.args.bank.now c.args.g.now.dblocks) (sym (c.loop-i.invariant.rest i cell (omega arith))) (c.requires i cell (omega arith))
+
+pub loop-i-preserved : goal.loop-i-preserved
+loop-i-preserved g c =
+    record {
+      rest = rest_after c.args.piece.now c.loop-i.piece c.loop-i.i c.judge_one.new.cell c.loop-i.invariant.rest;
+      done = done_after (IsJudged g.K.Kind.shape (volume_of c.args.g.now) c.args.plants.now c.args.bank.now) c.args.piece.now c.loop-i.piece c.loop-i.i _ c.judge_one.new.cell (omega arith)
+          c.loop-i.invariant.rest c.loop-i.invariant.done (search rules) c.judge_one.ensures;
+    }

@@ -1,0 +1,54 @@
+use Rattle.std.proofs.Common.{◌<◌, length, get_or, rules, subst, arith, ◌∙◌}
+use Rattle.std.proofs.lemmas.List.{get_or_default}
+use Rattle.xfs_disk.proofs.Reading.{reads_none, reads_on}
+use Rattle.xfs_forest.specs.Forest.{IsOnward, IsThrough}
+use Rattle.xfs_forest.proofs.Causes.{forest_caused}
+use Rattle.xfs_forest.proofs.Forests.{both_both, onward_on, onward_same}
+use Rattle.xfs_forest.proofs.sweeping.read_row.Goals as goal
+
+pub taking-init : goal.taking-init
+taking-init g c =
+    let D = g.D.Disk in
+    record {
+      forest = c.requires.forest;
+      onward = λ i d inside. onward_same (get_or c.args.trees.now i d);
+      grows = λ image told growing. growing;
+      later = omega arith;
+      disk = reads_none D.size D.holds D.write_faults D.writes D.tells_stops D.moment D.may_leave D.left_since c.args.disk.now;
+      reads = omega arith;
+    }
+
+pub read_next-requires-clause-more : goal.read_next-requires-clause-more
+read_next-requires-clause-more g c = λ κs lives d.
+    let t = c.args.t in
+    let trees = c.taking.trees in
+    let inside : t < length trees = omega (arith, c.requires.number, c.taking.invariant.forest.count) in
+    subst (λ tree. tree.at < length tree.row.items) (get_or_default trees t c.index-trees-t.result d inside) (c.has_more.ensures.more (search rules))
+
+pub taking-preserved : goal.taking-preserved
+taking-preserved g c =
+    let D = g.D.Disk in
+    let before = c.taking.invariant in
+    record {
+      forest = c.in-Ok.ensures.forest;
+      onward = both_both IsOnward IsOnward IsOnward c.args.trees.now c.taking.trees c.read_next.new.trees (omega arith) onward_on before.onward c.in-Ok.ensures.onward;
+      grows = λ image told growing. c.in-Ok.ensures.grows image (before.disk.same_contents ∙ told) (before.grows image told growing);
+      later = let up = before.later in let cause = c.in-Ok.ensures.cause in omega (arith, up, cause);
+      disk = reads_on D.size D.holds D.write_faults D.writes D.tells_stops D.moment D.may_leave D.left_since c.args.disk.now c.taking.disk c.read_next.new.disk before.disk c.in-Ok.ensures.disk;
+      reads = let up = before.reads in let more = c.in-Ok.ensures.reads in omega (arith, up, more);
+    }
+
+pub returns-in-Err-clause-cause : goal.returns-in-Err-clause-cause
+returns-in-Err-clause-cause g c = forest_caused _ _ _ c.in-Err.fault c.taking.invariant.later c.in-Err.ensures.cause
+
+pub returns-in-Err-clause-disk : goal.returns-in-Err-clause-disk
+returns-in-Err-clause-disk g c =
+    let D = g.D.Disk in
+    reads_on D.size D.holds D.write_faults D.writes D.tells_stops D.moment D.may_leave D.left_since c.args.disk.now c.taking.disk c.read_next.new.disk c.taking.invariant.disk c.in-Err.ensures.disk
+
+pub returns-clause-through : goal.returns-clause-through
+returns-clause-through g c = λ d.
+    let t = c.args.t in
+    let trees = c.taking.trees in
+    let inside : t < length trees = omega (arith, c.requires.number, c.taking.invariant.forest.count) in
+    subst IsThrough (get_or_default trees t c.index-trees-t.result d inside) (c.has_more.ensures.through (search rules))

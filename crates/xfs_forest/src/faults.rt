@@ -1,0 +1,10 @@
+//! Why trees are not read.
+
+/// Why trees are not read.
+#[derive(Clone, Copy, Debug, PartialEq, Eq)]
+pub enum ForestFault {
+    /// A read failed.
+    ReadFault,
+    /// There is not enough memory.
+    NoMemory,
+}

@@ -1,0 +1,65 @@
+//! The blocks of a round, read into a bank.
+
+ghost use Rattle.std.specs.Prelude.{◌≡◌, ◌+◌, ◌<◌, ◌≤◌, length, IfOk};
+ghost use Rattle.std.specs.List.{All};
+ghost use Rattle.std.specs.Option.{ForSome};
+ghost use Rattle.xfs_bank.specs.Bank.{blocks_at};
+ghost use Rattle.xfs_disk.specs.Reads.{OnlyReads};
+ghost use Rattle.xfs_forest.specs.Causes.{HasForestCause};
+ghost use Rattle.xfs_forest.specs.Forest.{cell_places};
+
+use crate::cells::Cell;
+use crate::faults::ForestFault;
+use std::alloc::Global;
+use std::sync::ledger::Ledger;
+use xfs_bank::BlockBank;
+use xfs_disk::{Disk, Failed, NoMemory};
+use xfs_runs::Steps;
+
+/// Reads the blocks of a round in order, each once. Each counts as a step, also where the read fails.
+pub(crate) fn load_round<D: Disk, L: Ledger>(
+    alloc: Global,
+    disk: &mut D,
+    round: &[u64],
+    steps: &mut Steps<L>,
+) -> Result<BlockBank, ForestFault>
+    requires inside { All (λ block. block < D.size disk.old) round.now }
+    ensures size { IfOk result (λ bank. length bank ≡ length round.now) }
+    ensures held { IfOk result (λ bank. ForSome (D.holds disk.old) (λ image. bank ≡ blocks_at image round.now)) }
+    ensures cause { HasForestCause (D.faults disk.old) (D.faults disk.new) result }
+    ensures disk { OnlyReads D.size D.holds D.write_faults D.writes D.tells_stops D.moment D.may_leave D.left_since disk.old disk.new }
+    ensures reads { D.reads disk.new + steps.old ≤ D.reads disk.old + steps.new }
+{
+    let mut bank = match BlockBank::make(alloc, round.len()) {
+        Ok(bank) => bank,
+        Err(NoMemory) => return Err(ForestFault::NoMemory),
+    };
+    count_steps(round.len(), steps);
+    match bank.fill(disk, round) {
+        Ok(()) => Ok(bank),
+        Err(Failed) => Err(ForestFault::ReadFault),
+    }
+}
+
+/// The numbers of the blocks of a round.
+pub(crate) fn places_of<Record: Drop, Key: Drop>(
+    alloc: Global,
+    cells: &[Cell<Record, Key>],
+) -> Result<Vec<u64>, NoMemory>
+    ensures { IfOk result (λ places. places.items ≡ cell_places cells.now) }
+{
+    let mut places = Vec::with_capacity(alloc, cells.len())?;
+    for i in 0..cells.len() {
+        places.push(cells[i].spot.seat.place)?;
+    }
+    Ok(places)
+}
+
+/// Counts so many steps.
+fn count_steps<L: Ledger>(count: usize, steps: &mut Steps<L>)
+    ensures { steps.new ≡ steps.old + count }
+{
+    for _ in 0..count {
+        steps.tick();
+    }
+}
