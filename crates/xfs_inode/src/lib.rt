@@ -40,12 +40,12 @@ mod seals;
 mod support;
 
 pub use alone::decide_alone;
-pub use deciding::decide_file;
+pub use deciding::{decide_file, decide_read};
 pub use faults::InodeFault;
 pub use file_reading::{read_file, read_file_of};
 pub use files::FileRead;
 pub use forks::fork_bytes;
 pub use named::Needs;
-pub use naming::needs;
+pub use naming::{needs, needs_of};
 pub use reading::{SlotRead, read_slot};
 pub use seals::slot_seal;
