@@ -8,3 +8,4 @@ pub mod Lawful
 pub mod Wholes
 pub mod Lengths
 pub mod Grouped
+pub mod Taken

@@ -11,12 +11,17 @@ ghost use Rattle.xfs_image.specs.Reserved.{reserved_in};
 ghost use Rattle.xfs_groups.specs.Answers.{EndBelow, HasGroupsCause, has_root_cluster, lists_of, reserved_lists};
 ghost use Rattle.xfs_groups.specs.Private.Chosen.{WithPlaced, candidates_in};
 ghost use Rattle.xfs_groups.specs.Private.Parts.{then_read};
+ghost use Rattle.xfs_groups.specs.Private.ReadGroups.{ArePartsRead};
 
 use crate::faults::GroupsFault;
+use crate::forests::read_forests;
+use crate::heads::{Heads, read_all_heads};
 use crate::one_group::{GroupSeen, see_group};
+use crate::trees::Trees;
 use std::alloc::Global;
 use std::sync::ledger::Ledger;
-use xfs_disk::{Disk, NoMemory};
+use std::thread::Threads;
+use xfs_disk::{Disk, Gate, NoMemory};
 use xfs_geom::Geometry;
 use xfs_image::Finding;
 use xfs_runs::Steps;
@@ -42,10 +47,16 @@ pub struct Groups {
 
 /// Reads the groups of a volume (chapters "Allocation Groups", "AG Inode Management" and "Reverse-Mapping B+tree").
 /// `ReadFault` only where a read failed. Each block that is read counts as a step, also where the read fails.
-pub fn see_groups<D: Disk, L: Ledger>(
+///
+/// The headers of all groups are read first, then their trees, by kind, those of all groups together; only then are groups looked
+/// through. The blocks of trees are judged in pieces by so many workers, each of which goes through the gate first.
+pub fn see_groups<R: Threads + Sync, D: Disk, G: Gate, L: Ledger>(
+    rt: &R,
     alloc: Global,
     g: &Geometry,
     disk: &mut D,
+    workers: u32,
+    gate: &G,
     steps: &mut Steps<L>,
 ) -> Result<Groups, GroupsFault>
     requires inside { g.now.dblocks ≤ D.size disk.old }
@@ -59,9 +70,19 @@ pub fn see_groups<D: Disk, L: Ledger>(
     ensures disk { OnlyReads D.size D.holds D.write_faults D.writes D.tells_stops D.moment D.may_leave D.left_since disk.old disk.new }
     ensures reads { D.reads disk.new + steps.old ≤ D.reads disk.old + steps.new }
 {
+    let all_heads = match read_all_heads(alloc, g, disk, steps) {
+        Ok(heads) => heads,
+        Err(fault) => return Err(fault),
+    };
+    let mut forests = match read_forests(rt, alloc, g, disk, &all_heads, workers, gate, steps) {
+        Ok(forests) => forests,
+        Err(fault) => return Err(fault),
+    };
     let mut all = no_groups(alloc);
     for ag in 0..g.agcount {
-        all = match add_group(alloc, g, disk, ag, all, steps) {
+        let heads = &all_heads[ag as usize];
+        let trees = forests.next(heads);
+        all = match add_group(alloc, g, disk, ag, heads, trees, all, steps) {
             Ok(grown) => grown,
             Err(fault) => return Err(fault),
         };
@@ -82,17 +103,20 @@ fn no_groups(alloc: Global) -> Groups
     }
 }
 
-/// Reads a group, and adds it to those in front of it.
+/// Looks through a group whose headers and trees these are, and adds it to those in front of it.
 fn add_group<D: Disk, L: Ledger>(
     alloc: Global,
     g: &Geometry,
     disk: &mut D,
     ag: u32,
+    heads: &Heads,
+    trees: Trees,
     all: Groups,
     steps: &mut Steps<L>,
 ) -> Result<Groups, GroupsFault>
     requires group { ag < g.now.agcount }
     requires inside { g.now.dblocks ≤ D.size disk.old }
+    requires parts { ForSome (D.holds disk.old) (λ image. ArePartsRead (volume_of g.now) image ag heads.now trees) }
     ensures groups { IfOk result (λ new. ForSome (D.holds disk.old) (λ image. new.groups ≡ then_read all.groups (group_read (volume_of g.now) image ag))) }
     ensures clusters { IfOk result (λ new. ForSome (D.holds disk.old) (λ image. new.clusters ≡ all.clusters ++ candidates_in (volume_of g.now) image ag)) }
     ensures trees { IfOk result (λ new. ForSome (D.holds disk.old) (λ image. lists_of new.trees ≡ lists_of all.trees ++ reserved_in (volume_of g.now) image ag ∷ [])) }
@@ -101,7 +125,7 @@ fn add_group<D: Disk, L: Ledger>(
     ensures disk { OnlyReads D.size D.holds D.write_faults D.writes D.tells_stops D.moment D.may_leave D.left_since disk.old disk.new }
     ensures reads { D.reads disk.new + steps.old ≤ D.reads disk.old + steps.new }
 {
-    let seen = match see_group(alloc, g, disk, ag, steps) {
+    let seen = match see_group(alloc, g, disk, ag, heads, trees, steps) {
         Ok(seen) => seen,
         Err(fault) => return Err(fault),
     };

@@ -1,19 +1,20 @@
 //! The headers of a group.
 
-ghost use Rattle.std.specs.Prelude.{◌≡◌, ◌+◌, ◌*◌, ◌<◌, ◌≤◌, length, IfOk, IfSome, OnOk, IsTrue};
+ghost use Rattle.std.specs.Prelude.{◌≡◌, ◌+◌, ◌<◌, ◌≤◌, ◌++◌, [], ◌∷◌, length, map, IfOk, OnOk};
+ghost use Rattle.std.specs.List.{range_with_len};
 ghost use Rattle.std.specs.Option.{ForSome, option_and_then};
+ghost use Rattle.xfs_disk.specs.Blocks.{bytes_of_block};
 ghost use Rattle.xfs_disk.specs.Faults.{HasCause};
+ghost use Rattle.xfs_disk.specs.Reads.{OnlyReads};
 ghost use Rattle.xfs_geom.specs.Volumes.{volume_of};
 ghost use Rattle.xfs_heads.specs.FreeList.{agfl_of};
-ghost use Rattle.xfs_heads.specs.FreeSpace.{agf_of, is_agf_shaped};
-ghost use Rattle.xfs_heads.specs.Inodes.{agi_of, is_agi_shaped};
-ghost use Rattle.xfs_image.specs.Groups.{agf_at, agfl_at, agi_at};
-ghost use Rattle.xfs_disk.specs.Reads.{OnlyReads};
-ghost use Rattle.xfs_disk.specs.Blocks.{bytes_of_block};
-ghost use Rattle.xfs_word.specs.Field.{part_of};
+ghost use Rattle.xfs_groups.specs.Answers.{HasGroupsCause};
+ghost use Rattle.xfs_groups.specs.Private.Heads.{heads_at, heads_of};
 
+use crate::faults::GroupsFault;
+use std::alloc::Global;
 use std::sync::ledger::Ledger;
-use xfs_disk::{BLOCK_SIZE, Disk, Failed};
+use xfs_disk::{BLOCK_SIZE, Disk, Failed, NoMemory};
 use xfs_geom::Geometry;
 use xfs_heads::{Agf, Agfl, Agi, read_agf, read_agfl, read_agi};
 use xfs_runs::Steps;
@@ -27,8 +28,44 @@ pub(crate) struct Heads {
     pub agfl: Option<Agfl>,
 }
 
+/// Reads the headers of all groups.
+pub(crate) fn read_all_heads<D: Disk, L: Ledger>(
+    alloc: Global,
+    g: &Geometry,
+    disk: &mut D,
+    steps: &mut Steps<L>,
+) -> Result<Vec<Heads>, GroupsFault>
+    requires inside { g.now.dblocks ≤ D.size disk.old }
+    ensures read { IfOk result (λ heads. ForSome (D.holds disk.old) (λ image. heads.items ≡ map (heads_at (volume_of g.now) image) (range_with_len 0 g.now.agcount))) }
+    ensures count { IfOk result (λ heads. length heads.items ≡ g.now.agcount) }
+    ensures cause { HasGroupsCause (D.faults disk.old) (D.faults disk.new) result }
+    ensures disk { OnlyReads D.size D.holds D.write_faults D.writes D.tells_stops D.moment D.may_leave D.left_since disk.old disk.new }
+    ensures reads { D.reads disk.new + steps.old ≤ D.reads disk.old + steps.new }
+{
+    let mut all = Vec::new(alloc);
+    for ag in 0..g.agcount {
+        let heads = match read_heads(g, disk, ag, steps) {
+            Ok(heads) => heads,
+            Err(Failed) => return Err(GroupsFault::ReadFault),
+        };
+        match push_heads(&mut all, heads) {
+            Ok(()) => {}
+            Err(NoMemory) => return Err(GroupsFault::NoMemory),
+        }
+    }
+    Ok(all)
+}
+
+/// Adds the headers of a group to those in front of it.
+fn push_heads(all: &mut Vec<Heads>, heads: Heads) -> Result<(), NoMemory>
+    ensures { OnOk result (all.new.items ≡ all.old.items ++ heads ∷ []) }
+{
+    all.push(heads)?;
+    Ok(())
+}
+
 /// Reads the headers of a group.
-pub(crate) fn read_heads<D: Disk, L: Ledger>(
+fn read_heads<D: Disk, L: Ledger>(
     g: &Geometry,
     disk: &mut D,
     ag: u32,
@@ -36,11 +73,7 @@ pub(crate) fn read_heads<D: Disk, L: Ledger>(
 ) -> Result<Heads, Failed>
     requires group { ag < g.now.agcount }
     requires inside { g.now.dblocks ≤ D.size disk.old }
-    ensures agf { IfOk result (λ heads. ForSome (D.holds disk.old) (λ image. heads.agf ≡ agf_at (volume_of g.now) image ag)) }
-    ensures agi { IfOk result (λ heads. ForSome (D.holds disk.old) (λ image. heads.agi ≡ agi_at (volume_of g.now) image ag)) }
-    ensures agfl { IfOk result (λ heads. ForSome (D.holds disk.old) (λ image. heads.agfl ≡ option_and_then (agfl_at (volume_of g.now) image ag) heads.agf)) }
-    ensures agf_shaped { IfOk result (λ heads. IfSome heads.agf (λ agf. IsTrue (is_agf_shaped (volume_of g.now) ag agf))) }
-    ensures agi_shaped { IfOk result (λ heads. IfSome heads.agi (λ agi. IsTrue (is_agi_shaped (volume_of g.now) ag agi))) }
+    ensures read { IfOk result (λ heads. ForSome (D.holds disk.old) (λ image. heads ≡ heads_at (volume_of g.now) image ag)) }
     ensures cause { HasCause (D.faults disk.old) (D.faults disk.new) result }
     ensures disk { OnlyReads D.size D.holds D.write_faults D.writes D.tells_stops D.moment D.may_leave D.left_since disk.old disk.new }
     ensures reads { D.reads disk.new + steps.old ≤ D.reads disk.old + steps.new }
@@ -57,11 +90,7 @@ pub(crate) fn read_heads<D: Disk, L: Ledger>(
 fn heads_in(g: &Geometry, ag: u32, block: &[u8]) -> Heads
     requires group { ag < g.now.agcount }
     requires block { length block.now ≡ 4096 }
-    ensures agf { result.agf ≡ agf_of (volume_of g.now) ag (part_of block.now 512 512) }
-    ensures agi { result.agi ≡ agi_of (volume_of g.now) ag (part_of block.now 1024 512) }
-    ensures agfl { result.agfl ≡ option_and_then (λ agf. agfl_of (volume_of g.now) ag agf (part_of block.now 1536 512)) result.agf }
-    ensures agf_shaped { IfSome result.agf (λ agf. IsTrue (is_agf_shaped (volume_of g.now) ag agf)) }
-    ensures agi_shaped { IfSome result.agi (λ agi. IsTrue (is_agi_shaped (volume_of g.now) ag agi)) }
+    ensures { result ≡ heads_of (volume_of g.now) ag block.now }
 {
     let agf = read_agf(g, ag, part(block, 512, 512));
     Heads {

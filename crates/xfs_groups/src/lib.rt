@@ -7,12 +7,13 @@
 //! `xfs_scan` begins so:
 //!
 //! ```text
-//! let seen = match see_groups(alloc, g, disk, steps) { .. };
+//! let seen = match see_groups(rt, alloc, g, disk, workers, gate, steps) { .. };
 //! // seen.groups: each group, or the first part that does not read; seen.clusters; seen.trees
 //! ```
 #![tactic(auto)]
 
 mod faults;
+mod forests;
 mod groups;
 mod heads;
 mod looking;
@@ -20,6 +21,7 @@ mod named;
 mod one_group;
 mod parts;
 mod recorded;
+mod roots;
 mod scanned;
 mod sets;
 mod sweep;

@@ -17,16 +17,16 @@ ghost use Rattle.xfs_groups.specs.Named.{AreOwnersApart, is_named};
 ghost use Rattle.xfs_groups.specs.Private.ReadGroups.{ArePartsRead, IsGroupTold};
 
 use crate::faults::GroupsFault;
-use crate::heads::{Heads, read_heads};
+use crate::heads::Heads;
 use crate::named::{Named, held_by_trees, named_by};
 use crate::parts::group_with;
 use crate::recorded::recorded_clusters;
 use crate::scanned::{ScannedGroup, scan_group};
 use crate::sets::BlockSet;
-use crate::trees::{Trees, read_trees};
+use crate::trees::Trees;
 use std::alloc::Global;
 use std::sync::ledger::Ledger;
-use xfs_disk::{Disk, Failed, NoMemory};
+use xfs_disk::{Disk, NoMemory};
 use xfs_geom::Geometry;
 use xfs_image::Finding;
 use xfs_runs::Steps;
@@ -65,16 +65,19 @@ impl GroupTold {
     }
 }
 
-/// Reads a group.
+/// Looks through a group whose headers and trees these are.
 pub(crate) fn see_group<D: Disk, L: Ledger>(
     alloc: Global,
     g: &Geometry,
     disk: &mut D,
     ag: u32,
+    heads: &Heads,
+    trees: Trees,
     steps: &mut Steps<L>,
 ) -> Result<GroupSeen, GroupsFault>
     requires group { ag < g.now.agcount }
     requires inside { g.now.dblocks ≤ D.size disk.old }
+    requires parts { ForSome (D.holds disk.old) (λ image. ArePartsRead (volume_of g.now) image ag heads.now trees) }
     ensures record { IfOk result (λ seen. ForSome (D.holds disk.old) (λ image. seen.record ≡ group_read (volume_of g.now) image ag)) }
     ensures clusters { IfOk result (λ seen. ForSome (D.holds disk.old) (λ image. seen.clusters.items ≡ candidates_in (volume_of g.now) image ag)) }
     ensures reserved { IfOk result (λ seen. ForSome (D.holds disk.old) (λ image. seen.reserved.items ≡ reserved_in (volume_of g.now) image ag)) }
@@ -83,9 +86,9 @@ pub(crate) fn see_group<D: Disk, L: Ledger>(
     ensures disk { OnlyReads D.size D.holds D.write_faults D.writes D.tells_stops D.moment D.may_leave D.left_since disk.old disk.new }
     ensures reads { D.reads disk.new + steps.old ≤ D.reads disk.old + steps.new }
 {
-    let group = match read_group(alloc, g, disk, ag, steps) {
+    let group = match group_told(alloc, g, ag, heads, trees) {
         Ok(group) => group,
-        Err(fault) => return Err(fault),
+        Err(NoMemory) => return Err(GroupsFault::NoMemory),
     };
     match look_through(alloc, g, disk, ag, group.told(), steps) {
         Ok(found) => Ok(seen(group, found)),
@@ -105,35 +108,6 @@ fn seen(group: GroupTold, found: ScannedGroup) -> GroupSeen
         record,
         clusters,
         reserved,
-    }
-}
-
-/// Reads the headers and trees of a group: the group, and what its trees say.
-fn read_group<D: Disk, L: Ledger>(
-    alloc: Global,
-    g: &Geometry,
-    disk: &mut D,
-    ag: u32,
-    steps: &mut Steps<L>,
-) -> Result<GroupTold, GroupsFault>
-    requires group { ag < g.now.agcount }
-    requires inside { g.now.dblocks ≤ D.size disk.old }
-    ensures told { IfOk result (λ group. ForSome (D.holds disk.old) (λ image. IsGroupTold (volume_of g.now) image ag group)) }
-    ensures cause { HasGroupsCause (D.faults disk.old) (D.faults disk.new) result }
-    ensures disk { OnlyReads D.size D.holds D.write_faults D.writes D.tells_stops D.moment D.may_leave D.left_since disk.old disk.new }
-    ensures reads { D.reads disk.new + steps.old ≤ D.reads disk.old + steps.new }
-{
-    let heads = match read_heads(g, disk, ag, steps) {
-        Ok(heads) => heads,
-        Err(Failed) => return Err(GroupsFault::ReadFault),
-    };
-    let trees = match read_trees(alloc, g, disk, ag, &heads, steps) {
-        Ok(trees) => trees,
-        Err(fault) => return Err(fault),
-    };
-    match group_told(alloc, g, ag, &heads, trees) {
-        Ok(group) => Ok(group),
-        Err(NoMemory) => Err(GroupsFault::NoMemory),
     }
 }
 

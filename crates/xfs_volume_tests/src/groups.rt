@@ -10,7 +10,8 @@ use std::alloc::Global;
 use std::marker::Brand;
 use std::process::Abort;
 use std::sync::ledger::{Blank, Ledger};
-use xfs_disk::{BLOCK_SIZE, Disk};
+use std::thread::Threads;
+use xfs_disk::{BLOCK_SIZE, Disk, NoGate};
 use xfs_groups::*;
 use xfs_memory::MemoryDisk;
 use xfs_runs::Steps;
@@ -45,7 +46,7 @@ const TREES: &str = "\
 ";
 
 /// Writes the volume's identifier and the checksum of an object.
-fn seal(rt: &impl Abort, bytes: &mut [u8], identifier: usize, checksum: usize) {
+pub fn seal(rt: &impl Abort, bytes: &mut [u8], identifier: usize, checksum: usize) {
     assert!(rt; identifier < 4096 && identifier + 16 <= bytes.len());
     put_part(bytes, identifier, &IDENTIFIER);
     assert!(rt; checksum < 4096 && checksum + 4 <= bytes.len());
@@ -118,15 +119,20 @@ const CASES: &str = "\
 1027 | Part { part: 6, place: 1 } | [(16, true), (20, true)] | [3, 5, 16, 17, 18, 19, 20, 21, 22, 23] | [1029]
 ";
 
-/// The groups of a disk, with the steps counted.
-fn see<D: Disk, L: Ledger>(alloc: Global, disk: &mut D, blank: Blank) -> Result<Groups, GroupsFault>
+/// The groups of a disk, seen by two workers, with the steps counted.
+pub fn see<R: Threads + Sync, D: Disk, L: Ledger>(
+    rt: &R,
+    alloc: Global,
+    disk: &mut D,
+    blank: Blank,
+) -> Result<Groups, GroupsFault>
     requires name { blank.name ≡ L.name }
     requires parts { blank.parts ≡ L.parts }
     requires some { 0 < blank.parts }
     requires inside { 2048 ≤ D.size disk.old }
 {
     let mut steps = Steps::<L>::from_blank(blank);
-    see_groups(alloc, &volume(IDENTIFIER), disk, &mut steps)
+    see_groups(rt, alloc, &volume(IDENTIFIER), disk, 2, &NoGate, &mut steps)
 }
 
 /// Tests that the groups are found to be as the rest of a line says.
@@ -162,9 +168,13 @@ fn are_reserved(rt: &(impl Abort + AllocGlobal), seen: &Groups, row: &mut Row<'_
 }
 
 /// The groups of the disk.
-fn seen(rt: &impl Abort, alloc: Global, disk: &mut MemoryDisk) -> Result<Groups, GroupsFault> {
+fn seen<R: Abort + Threads + Sync>(
+    rt: &R,
+    alloc: Global,
+    disk: &mut MemoryDisk,
+) -> Result<Groups, GroupsFault> {
     assert!(rt; matches!(disk.blocks(), Ok(count) if 2048 <= count));
-    see::<MemoryDisk, Brand>(alloc, disk, Blank::new(1))
+    see::<R, MemoryDisk, Brand>(rt, alloc, disk, Blank::new(1))
 }
 
 #[test]
@@ -174,7 +184,7 @@ fn groups(rt: HostRuntime) {
     }
 }
 
-fn try_lost(rt: &(impl Abort + AllocGlobal), line: &str) {
+fn try_lost<R: Abort + AllocGlobal + Threads + Sync>(rt: &R, line: &str) {
     let mut row = Row::new(line);
     let lost = row.numbers::<u64>(rt, rt.alloc());
     let mut disk = disk(rt, rt.alloc(), &lost);
@@ -200,7 +210,7 @@ fn failing_reads(rt: HostRuntime) {
     }
 }
 
-fn try_failing(rt: &(impl Abort + AllocGlobal), call: u64) {
+fn try_failing<R: Abort + AllocGlobal + Threads + Sync>(rt: &R, call: u64) {
     let mut disk = disk(rt, rt.alloc(), &[3, 5]);
     must(rt, disk.fail(call));
     let seen = seen(rt, rt.alloc(), &mut disk);

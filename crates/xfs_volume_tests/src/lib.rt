@@ -27,6 +27,10 @@ mod names;
 #[cfg(test)]
 mod naming;
 #[cfg(test)]
+mod noted;
+#[cfg(test)]
+mod order;
+#[cfg(test)]
 mod place;
 #[cfg(test)]
 mod reads;

@@ -1,11 +1,9 @@
 //! How often each block of a volume is read while its evidence is gathered. The volume is that of `groups`, whose chunk has the root, a
 //! directory with one block and a file with one; its other slots are free.
 
-ghost use Rattle.std.specs.Prelude.{None};
-ghost use Rattle.std.proofs.Common.{rules};
-
 use crate::checks::{must, same};
 use crate::groups::{self, IDENTIFIER, leaf};
+use crate::noted::{Noted, counts_of};
 use crate::scan::{ENTRY, EXTENT, LOST_ATTRIBUTES, PLAIN, file, gather_counted, put_slot, view_of};
 use crate::small_volume::{ROOT, put, volume};
 use crate::text::{Row, parts_of, put_parts, refuse};
@@ -15,70 +13,12 @@ use std::process::Abort;
 use std::sync::ledger::Blank;
 use std::thread::Threads;
 use xfs_dirdata::{EntryRec, put_data};
-use xfs_disk::{BLOCK_SIZE, Disk, Failed, NoGate, Stamp, Word};
+use xfs_disk::{BLOCK_SIZE, Disk, NoGate, Stamp, Word};
 use xfs_inodebuild::free_slot;
 use xfs_memory::MemoryDisk;
 use xfs_scan::Evidence;
 use xfs_volume::Core;
 use xfs_word::{Seal, SealKind, put_part, put32, put64, seal};
-
-/// A disk in memory that counts the reads of each block.
-#[derive(Drop)]
-struct Counted {
-    disk: MemoryDisk,
-    /// How often each block was read.
-    reads: Vec<u32>,
-}
-
-impl Disk for Counted {
-    ghost use Rattle.xfs_memory.specs.MemoryDisk.{size_of, faults_of, write_faults_of, reads_of, writes_of};
-
-    ghost size = { λ counted. size_of counted.disk };
-
-    ghost holds = { λ _. None };
-
-    ghost faults = { λ counted. faults_of counted.disk };
-
-    ghost write_faults = { λ counted. write_faults_of counted.disk };
-
-    ghost reads = { λ counted. reads_of counted.disk };
-
-    ghost writes = { λ counted. writes_of counted.disk };
-
-    fn faults(&self) -> u64 {
-        self.disk.faults()
-    }
-
-    fn blocks(&mut self) -> Result<u64, Failed> {
-        self.disk.blocks()
-    }
-
-    fn read(&mut self, at: u64, into: &mut [u8]) -> Result<(), Failed> {
-        count(&mut self.reads, at as usize);
-        self.disk.read(at, into)
-    }
-
-    fn write(&mut self, at: u64, from: &[u8]) -> Result<(), Failed> {
-        self.disk.write(at, from)
-    }
-
-    fn sync(&mut self) -> Result<(), Failed> {
-        self.disk.sync()
-    }
-
-    ghost shape = { λ disk image told. Prim.search rules };
-
-    ghost counts_now = { λ disk t image tells. absurd tells };
-
-    ghost only_now = { λ disk image tells. absurd tells };
-}
-
-/// Counts one more.
-fn count(counts: &mut [u32], place: usize) {
-    if let Some(count) = counts.get_mut(place) {
-        *count = count.saturating_add(1);
-    }
-}
 
 /// Directory 131, with one block at block 24.
 const DIRECTORY: Core = Core {
@@ -188,15 +128,12 @@ fn try_reads<R: Abort + AllocGlobal + Threads + Sync>(rt: &R, line: &str) {
     let mut row = Row::new(line);
     let case = row.text();
     let disk = disk_of(rt, &mut row);
-    let mut counted = Counted {
-        disk,
-        reads: must(rt, vec![in rt.alloc(); 0u32; 2048]),
-    };
-    let found = gathered(rt, rt.alloc(), &mut counted, case);
+    let mut noted = Noted::new(rt.alloc(), disk);
+    let found = gathered(rt, rt.alloc(), &mut noted, case);
     same!(*rt; found.seen.dirs().len(), 2; case);
     let view = view_of(found);
     same!(*rt; view.is_ok(), row.flag(rt); case);
-    are_counted(rt, counted.reads.as_slice(), row.text(), case);
+    are_counted(rt, &counts_of(rt, noted.reads(), 2048), row.text(), case);
     drop(view);
 }
 
@@ -216,11 +153,11 @@ fn disk_of(rt: &(impl Abort + AllocGlobal), row: &mut Row<'_>) -> MemoryDisk {
 fn gathered<R: Abort + Threads + Sync>(
     rt: &R,
     alloc: Global,
-    counted: &mut Counted,
+    noted: &mut Noted,
     case: &str,
 ) -> Evidence {
-    assert!(rt; matches!(counted.blocks(), Ok(count) if 2048 <= count));
-    match gather_counted::<R, Counted, NoGate, Brand>(rt, alloc, counted, &NoGate, Blank::new(1)) {
+    assert!(rt; matches!(noted.blocks(), Ok(count) if 2048 <= count));
+    match gather_counted::<R, Noted, NoGate, Brand>(rt, alloc, noted, &NoGate, Blank::new(1)) {
         Ok(found) => found,
         Err(_) => refuse(rt, "the volume is refused", case),
     }
