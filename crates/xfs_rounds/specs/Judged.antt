@@ -28,6 +28,7 @@ pub record IsDecided (v : Volume) (ino : ℕ) (slot : List ℕ) (file : FileRead
 abbrev pub IsFileOf : Volume → ℕ → List ℕ → SlotFile → Type 0
 IsFileOf v ino slot (Files.Decided file) = IsDecided v ino slot file
 IsFileOf v ino slot (Files.Naming read) = read ≡ slot_read v ino slot
+IsFileOf v ino slot (Files.Named number) = ⊥
 
 -- what is known of a slot of a block with these bytes
 pub record IsPartOf (v : Volume) (block : ℕ) (bytes : List ℕ) (part : SlotPart) : Type 0 where

@@ -24,6 +24,8 @@ pub enum SlotFile {
     Decided(FileRead),
     /// It names other blocks. By itself it reads so.
     Naming(SlotRead),
+    /// It names other blocks, and has this number among the slots of its round that do.
+    Named(usize),
 }
 
 /// What is known of a slot from its bytes alone.

@@ -23,4 +23,4 @@ pub use facts::{SlotFact, SlotReading};
 pub use faults::RoundFault;
 pub use judging::{SlotFile, SlotPart};
 pub use loading::load_round;
-pub use pieces::{BlockParts, judge_round};
+pub use pieces::{BlockParts, judge_round, piece_size};

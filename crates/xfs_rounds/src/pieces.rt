@@ -91,7 +91,7 @@ fn judge_pieces<R: Threads + Sync, G: Gate>(
 }
 
 /// How many blocks a piece has at most: all of them over the workers.
-fn piece_size(blocks: usize, workers: u32) -> usize
+pub fn piece_size(blocks: usize, workers: u32) -> usize
     ensures { 1 ≤ result }
 {
     blocks.div_ceil(workers.max(1) as usize).max(1)

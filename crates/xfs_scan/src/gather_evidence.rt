@@ -50,7 +50,7 @@ pub fn gather<R: Threads + Sync, D: Disk, G: Gate, L: Ledger>(
     ensures disk { OnlyReads D.size D.holds D.write_faults D.writes D.tells_stops D.moment D.may_leave D.left_since disk.old disk.new }
     ensures reads { D.reads disk.new + steps.old ≤ D.reads disk.old + steps.new }
 {
-    let seen = match see_groups(alloc, g, disk, steps) {
+    let seen = match see_groups(rt, alloc, g, disk, workers, gate, steps) {
         Ok(seen) => seen,
         Err(GroupsFault::ReadFault) => return Err(ScanFault::ReadFault),
         Err(GroupsFault::NoMemory) => return Err(ScanFault::NoMemory),

@@ -16,6 +16,7 @@ use std::alloc::Global;
 use std::sync::ledger::Ledger;
 use std::thread::Threads;
 use xfs_disk::{Disk, Gate, NoMemory};
+use xfs_forks::settle_round;
 use xfs_geom::Geometry;
 use xfs_rounds::{RoundFault, SlotFact, judge_round, load_round};
 use xfs_runs::Steps;
@@ -159,10 +160,15 @@ fn scan_round<R: Threads + Sync, D: Disk, G: Gate, L: Ledger>(
         Err(RoundFault::ReadFault) => return Err(PartFault::ReadFault),
         Err(RoundFault::NoMemory) => return Err(PartFault::NoMemory),
     };
-    let judged = match judge_round(rt, alloc, g, &bank, round, workers, gate) {
+    let mut judged = match judge_round(rt, alloc, g, &bank, round, workers, gate) {
         Ok(judged) => judged,
         Err(NoMemory) => return Err(PartFault::NoMemory),
     };
+    match settle_round(rt, alloc, g, disk, &bank, &mut judged, workers, gate, steps) {
+        Ok(()) => {}
+        Err(RoundFault::ReadFault) => return Err(PartFault::ReadFault),
+        Err(RoundFault::NoMemory) => return Err(PartFault::NoMemory),
+    }
     match take_round(alloc, g, disk, round, &bank, judged, slots, inodes, steps) {
         Ok(()) => Ok(()),
         Err(fault) => Err(fault),

@@ -28,6 +28,6 @@ module _ (v : Volume) (image : Image) (block slot ino : ℕ) (bytes : List ℕ) 
       more ∙ ap (λ (fact : SlotFact). old ++ fact ∷ []) (known ∙ sym (ap (fact_of v ino) slot_is))
 
   -- what it reads as
-  pub read_is : (file : FileRead) → ((image : Image) → file ≡ slot_reads v image ino (slot_of bytes slot)) → file ≡ reads_as v image ino
+  pub read_is : (file : FileRead) → file ≡ slot_reads v image ino (slot_of bytes slot) → file ≡ reads_as v image ino
   unfolding reads_as
-  read_is file known = known image ∙ ap (slot_reads v image ino) (sym slot_is)
+  read_is file known = known ∙ ap (slot_reads v image ino) (sym slot_is)

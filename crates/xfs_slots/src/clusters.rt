@@ -10,7 +10,7 @@ ghost use Rattle.xfs_image.specs.Slots.{inodes_of_block};
 ghost use Rattle.xfs_slots.specs.Causes.{HasReadCause};
 ghost use Rattle.xfs_slots.specs.Facts.{AddsFacts};
 ghost use Rattle.xfs_slots.specs.Gathered.{gathered, held_in, gathered_both, of_slot};
-ghost use Rattle.xfs_rounds.specs.Judged.{ArePartsOf, IsPartOf};
+ghost use Rattle.xfs_forks.specs.Settled.{ArePartsIn, IsPartIn, IsTold};
 
 use crate::faults::PartFault;
 use crate::inodes::Inodes;
@@ -84,7 +84,7 @@ fn see_part<D: Disk, L: Ledger>(
     see_slot(alloc, g, disk, ino, held, &read, inodes, steps)
 }
 
-/// Takes up the eight slots of a block, of which this is known from their bytes alone, and adds what is kept of each by itself.
+/// Takes up the eight slots of a block, of which it is decided what they read as, and adds what is kept of each by itself.
 pub(crate) fn take_block<D: Disk, L: Ledger>(
     alloc: Global,
     g: &Geometry,
@@ -100,7 +100,7 @@ pub(crate) fn take_block<D: Disk, L: Ledger>(
     requires volume { block < g.now.dblocks }
     requires whole { length bytes.now ≡ 4096 }
     requires held { ForSome (D.holds disk.old) (λ image. bytes_of_block image block ≡ bytes.now) }
-    requires parts { ArePartsOf (volume_of g.now) block bytes.now parts.items }
+    requires parts { ArePartsIn (volume_of g.now) (IsTold (D.holds disk.old)) block bytes.now parts.items }
     ensures facts { OnOk result (AddsFacts (volume_of g.now) block bytes.now (inodes_of_block (volume_of g.now) block) facts.old.items facts.new.items) }
     ensures held { OnOk result (ForSome (D.holds disk.old) (λ image. held_in inodes.new ≡ gathered_both (held_in inodes.old) (gathered (volume_of g.now) image (inodes_of_block (volume_of g.now) block)))) }
     ensures cause { HasReadCause (D.faults disk.old) (D.faults disk.new) result }
@@ -132,7 +132,7 @@ fn take_part<D: Disk, L: Ledger>(
     requires volume { block < g.now.dblocks }
     requires whole { length bytes.now ≡ 4096 }
     requires held { ForSome (D.holds disk.old) (λ image. bytes_of_block image block ≡ bytes.now) }
-    requires known { IsPartOf (volume_of g.now) block bytes.now known }
+    requires known { IsPartIn (volume_of g.now) (IsTold (D.holds disk.old)) block bytes.now known }
     ensures facts { OnOk result (AddsFacts (volume_of g.now) block bytes.now (inode_of (volume_of g.now) block known.slot ∷ []) facts.old.items facts.new.items) }
     ensures held { OnOk result (ForSome (D.holds disk.old) (λ image. held_in inodes.new ≡ gathered_both (held_in inodes.old) (of_slot (volume_of g.now) image (inode_of (volume_of g.now) block known.slot)))) }
     ensures cause { HasReadCause (D.faults disk.old) (D.faults disk.new) result }
@@ -148,7 +148,7 @@ fn take_part<D: Disk, L: Ledger>(
     let held = part(bytes, SLOT_SIZE * slot as usize, SLOT_SIZE);
     match file {
         SlotFile::Decided(file) => take_read(alloc, g, disk, ino, held, file, inodes, steps),
-        SlotFile::Naming(read) => see_slot(alloc, g, disk, ino, held, &read, inodes, steps),
+        SlotFile::Naming(_) | SlotFile::Named(_) => unreachable!(),
     }
 }
 

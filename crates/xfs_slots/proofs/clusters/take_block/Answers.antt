@@ -6,7 +6,9 @@ use Rattle.std.specs.List.{flat_map}
 use Rattle.xfs_geom.specs.Conversions.{inode_of}
 use Rattle.xfs_geom.specs.Volumes.{volume_of}
 use Rattle.xfs_disk.proofs.Reading.{reads_none, reads_on}
-use Rattle.xfs_rounds.specs.Judged.{IsPartOf}
+use Rattle.std.proofs.Common.{Option}
+use Rattle.xfs_disk.specs.Blocks.{Image}
+use Rattle.xfs_forks.specs.Settled.{IsPartIn, IsTold}
 use Rattle.xfs_rounds.specs.declared.judging.SlotPart.{SlotPart}
 use Rattle.xfs_slots.specs.Facts.{slot_fact}
 use Rattle.xfs_slots.specs.Gathered.{gathered, gathered_both, held_in}
@@ -27,10 +29,13 @@ loop-part-init g c =
 
 pub take_part-requires-clause-known : goal.take_part-requires-clause-known
 take_part-requires-clause-known g c =
-    let is = IsPartOf (volume_of c.args.g.now) c.args.block c.args.bytes.now in
+    let v = volume_of c.args.g.now in
+    let P : Option Image → SlotPart → Type 0 = λ held part. IsPartIn v (IsTold held) c.args.block c.args.bytes.now part in
+    let is = P (g.D.Disk.holds c.args.disk.now) in
     let turn = YieldsList-turn (YieldsList-from_vec {s = c.into_iter-part-iterator.result} c.args.parts.items (search rules) (search rules))
     c.loop-part.yielded c.loop-part.part-iterator c.loop-part.yielded_by c.next.result c.next.new.self c.in-Some.part c.in-Some.is c.next.ensures.steps in
-    subst is (sym turn.1) (All-get_or is c.args.parts.items (length c.loop-part.yielded) c.in-Some.part turn.0 c.requires.parts.each)
+    subst (λ (held : Option Image). P held c.in-Some.part) (sym c.loop-part.invariant.disk.same_contents)
+    (subst is (sym turn.1) (All-get_or is c.args.parts.items (length c.loop-part.yielded) c.in-Some.part turn.0 c.requires.parts.each))
 
 pub loop-part-preserved : goal.loop-part-preserved
 loop-part-preserved g c =

@@ -6,7 +6,10 @@ use Rattle.std.specs.List.{flat_map}
 use Rattle.xfs_geom.specs.Volumes.{volume_of}
 use Rattle.xfs_disk.proofs.Reading.{reads_none, reads_on}
 use Rattle.xfs_image.specs.Slots.{inodes_of_block}
-use Rattle.xfs_rounds.specs.Judged.{IsKnown, IsListed}
+use Rattle.std.proofs.Common.{Option}
+use Rattle.xfs_disk.specs.Blocks.{Image}
+use Rattle.xfs_forks.specs.Settled.{IsSettled, IsTold}
+use Rattle.xfs_rounds.specs.Judged.{IsListed}
 use Rattle.xfs_rounds.specs.declared.pieces.BlockParts.{BlockParts}
 use Rattle.xfs_slots.specs.Facts.{slot_fact}
 use Rattle.xfs_slots.specs.Gathered.{gathered, gathered_both, held_in}
@@ -25,19 +28,21 @@ loop-block-init g c =
       reads = omega arith;
     }
 
-pub take_judged-requires-clause-listed : goal.take_judged-requires-clause-listed
-take_judged-requires-clause-listed g c =
+pub take_settled-requires-clause-listed : goal.take_settled-requires-clause-listed
+take_settled-requires-clause-listed g c =
     let is = IsListed c.args.round.now in
-    let turn = YieldsList-turn (YieldsList-from_vec {s = c.into_iter-block-iterator.result} c.args.judged.items (search rules) (search rules))
+    let turn = YieldsList-turn (YieldsList-from_vec {s = c.into_iter-block-iterator.result} c.args.settled.items (search rules) (search rules))
     c.loop-block.yielded c.loop-block.block-iterator c.loop-block.yielded_by c.next.result c.next.new.self c.in-Some.block c.in-Some.is c.next.ensures.steps in
-    subst is (sym turn.1) (All-get_or is c.args.judged.items (length c.loop-block.yielded) c.in-Some.block turn.0 c.requires.judged.listed.each)
+    subst is (sym turn.1) (All-get_or is c.args.settled.items (length c.loop-block.yielded) c.in-Some.block turn.0 c.requires.settled.listed.each)
 
-pub take_judged-requires-clause-known : goal.take_judged-requires-clause-known
-take_judged-requires-clause-known g c =
-    let is = IsKnown (volume_of c.args.g.now) c.args.bank.now in
-    let turn = YieldsList-turn (YieldsList-from_vec {s = c.into_iter-block-iterator.result} c.args.judged.items (search rules) (search rules))
+pub take_settled-requires-clause-settled : goal.take_settled-requires-clause-settled
+take_settled-requires-clause-settled g c =
+    let P : Option Image → BlockParts → Type 0 = λ held block. IsSettled (volume_of c.args.g.now) (IsTold held) c.args.bank.now block in
+    let is = P (g.D.Disk.holds c.args.disk.now) in
+    let turn = YieldsList-turn (YieldsList-from_vec {s = c.into_iter-block-iterator.result} c.args.settled.items (search rules) (search rules))
     c.loop-block.yielded c.loop-block.block-iterator c.loop-block.yielded_by c.next.result c.next.new.self c.in-Some.block c.in-Some.is c.next.ensures.steps in
-    subst is (sym turn.1) (All-get_or is c.args.judged.items (length c.loop-block.yielded) c.in-Some.block turn.0 c.requires.judged.each)
+    subst (λ (held : Option Image). P held c.in-Some.block) (sym c.loop-block.invariant.disk.same_contents)
+    (subst is (sym turn.1) (All-get_or is c.args.settled.items (length c.loop-block.yielded) c.in-Some.block turn.0 c.requires.settled.each))
 
 pub loop-block-preserved : goal.loop-block-preserved
 loop-block-preserved g c =
@@ -47,12 +52,12 @@ loop-block-preserved g c =
     let inos : BlockParts → List ℕ = λ (block : BlockParts). inodes_of_block v block.place in
     let before = c.loop-block.invariant in
     record {
-      facts = λ image told. facts_turn v image inos c.loop-block.yielded block c.args.facts.now.items c.loop-block.facts.items c.take_judged.new.facts.items
+      facts = λ image told. facts_turn v image inos c.loop-block.yielded block c.args.facts.now.items c.loop-block.facts.items c.take_settled.new.facts.items
           (before.facts image told) (c.in-Ok.ensures.facts image (before.disk.same_contents ∙ told));
-      held = λ image told. held_turn v image inos c.loop-block.yielded block (held_in c.args.inodes.now) (held_in c.loop-block.inodes) (held_in c.take_judged.new.inodes)
+      held = λ image told. held_turn v image inos c.loop-block.yielded block (held_in c.args.inodes.now) (held_in c.loop-block.inodes) (held_in c.take_settled.new.inodes)
           (before.held image told) (c.in-Ok.ensures.held image (before.disk.same_contents ∙ told));
       later = let up = before.later in let cause = c.in-Ok.ensures.cause in omega (arith, up, cause);
-      disk = reads_on D.size D.holds D.write_faults D.writes D.tells_stops D.moment D.may_leave D.left_since c.args.disk.now c.loop-block.disk c.take_judged.new.disk before.disk c.in-Ok.ensures.disk;
+      disk = reads_on D.size D.holds D.write_faults D.writes D.tells_stops D.moment D.may_leave D.left_since c.args.disk.now c.loop-block.disk c.take_settled.new.disk before.disk c.in-Ok.ensures.disk;
       reads = let up = before.reads in let more = c.in-Ok.ensures.reads in omega (arith, up, more);
     }
 
@@ -60,18 +65,18 @@ pub returns-clause-facts : goal.returns-clause-facts
 returns-clause-facts g c = λ image told.
     let v = volume_of c.args.g.now in
     let inos : BlockParts → List ℕ = λ (block : BlockParts). inodes_of_block v block.place in
-    let end = YieldsList-end (YieldsList-from_vec {s = c.into_iter-block-iterator.result} c.args.judged.items (search rules) (search rules))
+    let end = YieldsList-end (YieldsList-from_vec {s = c.into_iter-block-iterator.result} c.args.settled.items (search rules) (search rules))
     c.loop-block.yielded c.loop-block.block-iterator c.loop-block.yielded_by c.next.result c.next.new.self c.in-None.is c.next.ensures.steps in
     c.loop-block.invariant.facts image told
     ∙ ap (λ (inos : List ℕ). c.args.facts.now.items ++ map (slot_fact v image) inos)
-    (ap (flat_map inos) (sym (map-id c.loop-block.yielded) ∙ end.0) ∙ inodes_of_round v c.args.judged.items c.args.round.now c.requires.judged.listed.places)
+    (ap (flat_map inos) (sym (map-id c.loop-block.yielded) ∙ end.0) ∙ inodes_of_round v c.args.settled.items c.args.round.now c.requires.settled.listed.places)
 
 pub returns-clause-held : goal.returns-clause-held
 returns-clause-held g c = λ image told.
     let v = volume_of c.args.g.now in
     let inos : BlockParts → List ℕ = λ (block : BlockParts). inodes_of_block v block.place in
-    let end = YieldsList-end (YieldsList-from_vec {s = c.into_iter-block-iterator.result} c.args.judged.items (search rules) (search rules))
+    let end = YieldsList-end (YieldsList-from_vec {s = c.into_iter-block-iterator.result} c.args.settled.items (search rules) (search rules))
     c.loop-block.yielded c.loop-block.block-iterator c.loop-block.yielded_by c.next.result c.next.new.self c.in-None.is c.next.ensures.steps in
     c.loop-block.invariant.held image told
     ∙ ap (λ (inos : List ℕ). gathered_both (held_in c.args.inodes.now) (gathered v image inos))
-    (ap (flat_map inos) (sym (map-id c.loop-block.yielded) ∙ end.0) ∙ inodes_of_round v c.args.judged.items c.args.round.now c.requires.judged.listed.places)
+    (ap (flat_map inos) (sym (map-id c.loop-block.yielded) ∙ end.0) ∙ inodes_of_round v c.args.settled.items c.args.round.now c.requires.settled.listed.places)

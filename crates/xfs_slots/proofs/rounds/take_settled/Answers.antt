@@ -3,12 +3,12 @@ use Rattle.std.specs.Option.{ForSome}
 use Rattle.std.proofs.lemmas.List.Elements.{All-get_or}
 use Rattle.std.proofs.lemmas.Option.{get_or_from_slice_get}
 use Rattle.xfs_geom.specs.Volumes.{volume_of}
-use Rattle.xfs_rounds.specs.Judged.{ArePartsOf}
+use Rattle.xfs_forks.specs.Settled.{ArePartsIn, IsTold}
 use Rattle.xfs_image.specs.Slots.{inodes_of_block}
 use Rattle.xfs_slots.specs.Facts.{AddsFacts, slot_fact}
 use Rattle.xfs_slots.proofs.Gathering.{on_ok}
 use Rattle.xfs_slots.proofs.Turns.{bank_bytes}
-use Rattle.xfs_slots.proofs.rounds.take_judged.Goals as goal
+use Rattle.xfs_slots.proofs.rounds.take_settled.Goals as goal
 
 pub take_block-requires-clause-volume : goal.take_block-requires-clause-volume
 take_block-requires-clause-volume g c =
@@ -23,8 +23,8 @@ take_block-requires-clause-held g c = λ image told.
 
 pub take_block-requires-clause-parts : goal.take_block-requires-clause-parts
 take_block-requires-clause-parts g c =
-    subst (λ (bytes : List ℕ). ArePartsOf (volume_of c.args.g.now) c.args.block.place bytes c.in-Ok.parts.items)
-    (get_or_from_slice_get c.args.bank.now c.args.block.at c.view.result.now [] c.view.ensures.block) (rw c.in-Ok.is at c.requires.known)
+    subst (λ (bytes : List ℕ). ArePartsIn (volume_of c.args.g.now) (IsTold (g.D.Disk.holds c.args.disk.now)) c.args.block.place bytes c.in-Ok.parts.items)
+    (get_or_from_slice_get c.args.bank.now c.args.block.at c.view.result.now [] c.view.ensures.block) (rw c.in-Ok.is at c.requires.settled)
 
 pub returns-in-Ok-clause-facts : goal.returns-in-Ok-clause-facts
 returns-in-Ok-clause-facts g c =

@@ -1,0 +1,29 @@
+use Rattle.std.proofs.Common.{◌<◌, length, arith}
+use Rattle.xfs_geom.specs.Volumes.{volume_of}
+use Rattle.xfs_rounds.specs.declared.pieces.BlockParts.{BlockParts}
+use Rattle.xfs_forks.specs.Named.{IsInPlace, IsNumbered}
+use Rattle.xfs_forks.proofs.Numbering.{done_after, numbered_more, rest_after}
+use Rattle.xfs_forks.proofs.naming.name_slots.Goals as goal
+
+pub loop-i-preserved : goal.loop-i-preserved
+loop-i-preserved c =
+    let v = volume_of c.args.g.now in
+    let end = c.args.g.now.dblocks in
+    let bank = c.args.bank.now in
+    let xs = c.args.judged.now in
+    let ys = c.loop-i.judged in
+    let k = c.loop-i.i in
+    let x = c.index-judged-i.result in
+    let y = c.name_block.new.block in
+    let old = c.loop-i.named in
+    let new = c.name_block.new.named in
+    let was = c.loop-i.invariant in
+    let now = c.in_ok-name_block.ensures in
+    let inside : k < length ys = omega arith in
+    record {
+      rest = rest_after xs ys k y was.rest;
+      placed = done_after IsInPlace xs ys k x y inside was.rest was.placed now.placed;
+      done = done_after (λ (a b : BlockParts). IsNumbered v end new bank b) xs ys k x y inside was.rest
+          (λ j d under. numbered_more v end bank old new now.more _ (was.done j d under)) now.numbered;
+      within = now.within;
+    }
