@@ -129,12 +129,16 @@ after_zeros-split k n x e =
 lowest_first : (k n x a rest : ℕ) → k ≡ 8 + n → a ≡ after_zeros k (x % 256) → rest ≡ after_zeros n (x / 256) → bit_xor a rest ≡ after_zeros k x
 lowest_first k n x a rest e first then = ap₂ bit_xor first then ∙ sym (after_zeros-split k n x e)
 
--- eight bytes with n zero bits behind them, each taken in apart
+-- the same, the lowest byte last
+lowest_last : (k n x a rest : ℕ) → k ≡ 8 + n → a ≡ after_zeros k (x % 256) → rest ≡ after_zeros n (x / 256) → bit_xor rest a ≡ after_zeros k x
+lowest_last k n x a rest e first then = xor_comm rest a ∙ lowest_first k n x a rest e first then
+
+-- eight bytes with n zero bits behind them, each taken in apart, the highest first
 pub eight : (n w a b c d e f g h : ℕ) → w < 2 ^ 64
     → a ≡ after_zeros (n + 64) (w % 256) → b ≡ after_zeros (n + 56) (w / 2 ^ 8 % 256) → c ≡ after_zeros (n + 48) (w / 2 ^ 16 % 256)
     → d ≡ after_zeros (n + 40) (w / 2 ^ 24 % 256) → e ≡ after_zeros (n + 32) (w / 2 ^ 32 % 256) → f ≡ after_zeros (n + 24) (w / 2 ^ 40 % 256)
     → g ≡ after_zeros (n + 16) (w / 2 ^ 48 % 256) → h ≡ after_zeros (n + 8) (w / 2 ^ 56 % 256)
-    → bit_xor (bit_xor (bit_xor (bit_xor (bit_xor (bit_xor (bit_xor a b) c) d) e) f) g) h ≡ after_zeros (n + 64) w
+    → bit_xor (bit_xor (bit_xor (bit_xor (bit_xor (bit_xor (bit_xor h g) f) e) d) c) b) a ≡ after_zeros (n + 64) w
 eight n w a b c d e f g h fits ha hb hc hd he hf hg hh =
     let top : w / 2 ^ 56 % 256 ≡ w / 2 ^ 56 = omega arith in
     let w7 : w / 2 ^ 48 / 256 ≡ w / 2 ^ 56 = omega arith in
@@ -144,14 +148,18 @@ eight n w a b c d e f g h fits ha hb hc hd he hf hg hh =
     let w3 : w / 2 ^ 16 / 256 ≡ w / 2 ^ 24 = omega arith in
     let w2 : w / 2 ^ 8 / 256 ≡ w / 2 ^ 16 = omega arith in
     let s7 : h ≡ after_zeros (n + 8) (w / 2 ^ 48 / 256) = hh ∙ ap (after_zeros (n + 8)) (top ∙ sym w7) in
-    let s6 = lowest_first (n + 16) (n + 8) (w / 2 ^ 48) g h (omega arith) hg s7 in
-    let s5 = lowest_first (n + 24) (n + 16) (w / 2 ^ 40) f (bit_xor g h) (omega arith) hf (s6 ∙ ap (after_zeros (n + 16)) (sym w6)) in
-    let s4 = lowest_first (n + 32) (n + 24) (w / 2 ^ 32) e (bit_xor f (bit_xor g h)) (omega arith) he (s5 ∙ ap (after_zeros (n + 24)) (sym w5)) in
-    let s3 = lowest_first (n + 40) (n + 32) (w / 2 ^ 24) d (bit_xor e (bit_xor f (bit_xor g h))) (omega arith) hd (s4 ∙ ap (after_zeros (n + 32)) (sym w4)) in
-    let s2 = lowest_first (n + 48) (n + 40) (w / 2 ^ 16) c (bit_xor d (bit_xor e (bit_xor f (bit_xor g h)))) (omega arith) hc (s3 ∙ ap (after_zeros (n + 40)) (sym w3)) in
-    let s1 = lowest_first (n + 56) (n + 48) (w / 2 ^ 8) b (bit_xor c (bit_xor d (bit_xor e (bit_xor f (bit_xor g h))))) (omega arith) hb (s2 ∙ ap (after_zeros (n + 48)) (sym w2)) in
-    let s0 = lowest_first (n + 64) (n + 56) w a (bit_xor b (bit_xor c (bit_xor d (bit_xor e (bit_xor f (bit_xor g h)))))) (omega arith) ha s1 in
-    simp xor_assoc s0
+    let s6 = lowest_last (n + 16) (n + 8) (w / 2 ^ 48) g h (omega arith) hg s7 in
+    let r6 = bit_xor h g in
+    let s5 = lowest_last (n + 24) (n + 16) (w / 2 ^ 40) f r6 (omega arith) hf (s6 ∙ ap (after_zeros (n + 16)) (sym w6)) in
+    let r5 = bit_xor r6 f in
+    let s4 = lowest_last (n + 32) (n + 24) (w / 2 ^ 32) e r5 (omega arith) he (s5 ∙ ap (after_zeros (n + 24)) (sym w5)) in
+    let r4 = bit_xor r5 e in
+    let s3 = lowest_last (n + 40) (n + 32) (w / 2 ^ 24) d r4 (omega arith) hd (s4 ∙ ap (after_zeros (n + 32)) (sym w4)) in
+    let r3 = bit_xor r4 d in
+    let s2 = lowest_last (n + 48) (n + 40) (w / 2 ^ 16) c r3 (omega arith) hc (s3 ∙ ap (after_zeros (n + 40)) (sym w3)) in
+    let r2 = bit_xor r3 c in
+    let s1 = lowest_last (n + 56) (n + 48) (w / 2 ^ 8) b r2 (omega arith) hb (s2 ∙ ap (after_zeros (n + 48)) (sym w2)) in
+    lowest_last (n + 64) (n + 56) w a (bit_xor r2 b) (omega arith) ha s1
 
 -- an entry of a row behind others, by its place in them
 pub entry_behind : (rows k bits e x : ℕ) → e ≡ after_zeros (8 * (rows + k + 1)) x → 8 * rows + bits ≡ 8 * (rows + k + 1) → e ≡ after_zeros (8 * rows + bits) x

@@ -128,19 +128,20 @@ fn after_eight(register: u32, bytes: &[u8]) -> u32
     entries(0, LittleEndian::read_u64(bytes) ^ register as u64)
 }
 
-/// What the eight bytes of `word` leave after themselves and `rows` zero bytes behind them.
+/// What the eight bytes of `word` leave after themselves and `rows` zero bytes behind them. The lowest four come last: they are those that
+/// wait for the register, and the sums of the others need not.
 fn entries(rows: usize, word: u64) -> u32
     requires { rows ≤ 8 }
     ensures { result ≡ after_zeros (8 * rows + 64) word }
 {
-    entry(rows + 7, word)
-        ^ entry(rows + 6, word >> 8)
-        ^ entry(rows + 5, word >> 16)
-        ^ entry(rows + 4, word >> 24)
-        ^ entry(rows + 3, word >> 32)
-        ^ entry(rows + 2, word >> 40)
+    entry(rows, word >> 56)
         ^ entry(rows + 1, word >> 48)
-        ^ entry(rows, word >> 56)
+        ^ entry(rows + 2, word >> 40)
+        ^ entry(rows + 3, word >> 32)
+        ^ entry(rows + 4, word >> 24)
+        ^ entry(rows + 5, word >> 16)
+        ^ entry(rows + 6, word >> 8)
+        ^ entry(rows + 7, word)
 }
 
 /// What the lowest byte of `word` leaves after itself and `row` zero bytes behind it.

@@ -6,7 +6,7 @@ ghost use Rattle.xfs_word.specs.Extent.{packed, IsPackable};
 use byteorder::{BigEndian, ByteOrder};
 
 /// A run of a file's blocks that lie one after the other.
-#[derive(Clone, Copy, Debug, PartialEq, Eq)]
+#[derive(Clone, Copy, Debug, Default, PartialEq, Eq)]
 pub struct Extent {
     /// The first block in the file, counted in blocks.
     pub offset: u64,
