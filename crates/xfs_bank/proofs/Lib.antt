@@ -1,3 +1,4 @@
 pub mod Blocks
 pub mod Cuts
 mod Filling
+mod Scattered

@@ -1,3 +1,4 @@
 pub mod Bank
 pub mod Parts
 pub mod Lending
+pub mod Scattered

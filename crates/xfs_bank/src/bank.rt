@@ -1,13 +1,16 @@
 //! The bank: so many blocks of 4096 bytes, one behind the other.
 
-ghost use Rattle.std.specs.Prelude.{◌≡◌, ℕ, ◌+◌, ◌/◌, ◌≤◌, ◌<◌, List, [], ◌∷◌, ◌++◌, length, take, replicate, Some, IfOk, OnOk, OnErr, slice_get, slice_set, slice_index, slice_index_or, slice_range};
+ghost use Rattle.std.specs.Prelude.{◌≡◌, ℕ, ◌+◌, ◌/◌, ◌≤◌, ◌<◌, List, [], ◌∷◌, ◌++◌, length, drop, replicate, Some, IfOk, OnOk, slice_get, slice_set, slice_index, slice_index_or, slice_range};
 ghost use Rattle.std.specs.List.{All, concat};
 ghost use Rattle.std.specs.Fork.{AcceptsEach, ChangesEach};
 ghost use Rattle.xfs_disk.specs.Blocks.{Image, IsImage};
 ghost use Rattle.xfs_disk.specs.Faults.{HasCause};
 ghost use Rattle.xfs_disk.specs.Reads.{OnlyReads};
+ghost use Rattle.std.specs.Option.{ForSome};
+ghost use Rattle.xfs_bank.specs.Scattered.{NamesEach};
 ghost use Rattle.xfs_bank.specs.Bank.{AreCuts, parts_of, overwritten, IsFilledBank};
 
+use crate::order::reading_order;
 use crate::parts::change_parts;
 use std::alloc::Global;
 use std::marker::{Model, Sync};
@@ -108,13 +111,35 @@ impl BlockBank {
         change_parts(f, 0, 0, cuts, &mut self.bytes);
     }
 
-    /// Makes block `i` the disk's block `places[i]`. After `Failed` only the blocks in front of some
-    /// block were made so.
+    /// Makes block `i` the disk's block `places[i]`. The blocks are read in ascending order of their
+    /// places; where there is no memory for that, in the order of the list. After `Failed` any of these
+    /// blocks may have been made so, and the others are as they were.
     pub fn fill<D: Disk>(&mut self, disk: &mut D, places: &[u64]) -> Result<(), Failed>
         requires room { length places.now ≤ length self.old }
         requires inside { All (λ place. place < D.size disk.old) places.now }
         ensures filled { OnOk result (IsFilledBank (D.holds disk.old) places.now self.old self.new) }
-        ensures prefix { OnErr result ((n : ℕ) × (n < length places.now) × IsFilledBank (D.holds disk.old) (take n places.now) self.old self.new) }
+        ensures rest { drop (length places.now) self.new ≡ drop (length places.now) self.old }
+        ensures len { length self.new ≡ length self.old }
+        ensures cause { HasCause (D.faults disk.old) (D.faults disk.new) result }
+        ensures disk { OnlyReads D.size D.holds D.write_faults D.writes D.tells_stops D.moment D.may_leave D.left_since disk.old disk.new }
+        ensures reads { D.reads disk.new ≤ D.reads disk.old + length places.now }
+    {
+        if places.is_sorted() {
+            return self.fill_in_turn(disk, places);
+        }
+        let alloc = *self.bytes.allocator();
+        match reading_order(alloc, places) {
+            Ok(order) => self.fill_by(disk, places, &order),
+            Err(NoMemory) => self.fill_in_turn(disk, places),
+        }
+    }
+
+    /// The same, in the order of the list.
+    fn fill_in_turn<D: Disk>(&mut self, disk: &mut D, places: &[u64]) -> Result<(), Failed>
+        requires room { length places.now ≤ length self.old }
+        requires inside { All (λ place. place < D.size disk.old) places.now }
+        ensures filled { OnOk result (IsFilledBank (D.holds disk.old) places.now self.old self.new) }
+        ensures rest { drop (length places.now) self.new ≡ drop (length places.now) self.old }
         ensures len { length self.new ≡ length self.old }
         ensures cause { HasCause (D.faults disk.old) (D.faults disk.new) result }
         ensures disk { OnlyReads D.size D.holds D.write_faults D.writes D.tells_stops D.moment D.may_leave D.left_since disk.old disk.new }
@@ -128,6 +153,68 @@ impl BlockBank {
             }
         }
         Ok(())
+    }
+
+    /// The same, in the order of these pairs, which name each index of the list.
+    fn fill_by<D: Disk>(
+        &mut self,
+        disk: &mut D,
+        places: &[u64],
+        order: &[(u64, usize)],
+    ) -> Result<(), Failed>
+        requires room { length places.now ≤ length self.old }
+        requires inside { All (λ place. place < D.size disk.old) places.now }
+        requires each { NamesEach (length places.now) order.now }
+        requires count { length order.now ≡ length places.now }
+        ensures filled { OnOk result (IsFilledBank (D.holds disk.old) places.now self.old self.new) }
+        ensures rest { drop (length places.now) self.new ≡ drop (length places.now) self.old }
+        ensures len { length self.new ≡ length self.old }
+        ensures cause { HasCause (D.faults disk.old) (D.faults disk.new) result }
+        ensures disk { OnlyReads D.size D.holds D.write_faults D.writes D.tells_stops D.moment D.may_leave D.left_since disk.old disk.new }
+        ensures reads { D.reads disk.new ≤ D.reads disk.old + length places.now }
+    {
+        for k in 0..order.len() {
+            match self.read_named(disk, places, order[k].1) {
+                Ok(()) => {}
+                Err(Failed) => return Err(Failed),
+            }
+        }
+        Ok(())
+    }
+
+    /// Reads the place of index `i` into block `i`, if the list has that index.
+    fn read_named<D: Disk>(&mut self, disk: &mut D, places: &[u64], i: usize) -> Result<(), Failed>
+        requires room { length places.now ≤ length self.old }
+        requires inside { All (λ place. place < D.size disk.old) places.now }
+        ensures held { OnOk result (i < length places.now → ForSome (D.holds disk.old) (λ image. self.new ≡ slice_set self.old i (slice_index_or image (slice_index_or places.now i 0) []))) }
+        ensures past { length places.now ≤ i → self.new ≡ self.old }
+        ensures rest { drop (length places.now) self.new ≡ drop (length places.now) self.old }
+        ensures len { length self.new ≡ length self.old }
+        ensures cause { HasCause (D.faults disk.old) (D.faults disk.new) result }
+        ensures disk { OnlyReads D.size D.holds D.write_faults D.writes D.tells_stops D.moment D.may_leave D.left_since disk.old disk.new }
+        ensures reads { D.reads disk.new ≤ D.reads disk.old + 1 }
+    {
+        if i >= places.len() {
+            return Ok(());
+        }
+        self.read_block(disk, places[i], i)
+    }
+
+    /// Reads a block into block `i`.
+    fn read_block<D: Disk>(&mut self, disk: &mut D, place: u64, i: usize) -> Result<(), Failed>
+        requires inside { place < D.size disk.old }
+        requires room { i < length self.old }
+        ensures held { OnOk result (ForSome (D.holds disk.old) (λ image. self.new ≡ slice_set self.old i (slice_index_or image place []))) }
+        ensures over { (bytes : List ℕ) × (self.new ≡ slice_set self.old i bytes) }
+        ensures len { length self.new ≡ length self.old }
+        ensures cause { HasCause (D.faults disk.old) (D.faults disk.new) result }
+        ensures disk { OnlyReads D.size D.holds D.write_faults D.writes D.tells_stops D.moment D.may_leave D.left_since disk.old disk.new }
+        ensures reads { D.reads disk.new ≤ D.reads disk.old + 1 }
+    {
+        match disk.read(place, self.view_mut(i)) {
+            Ok(()) => Ok(()),
+            Err(Failed) => Err(Failed),
+        }
     }
 
     /// Puts a block in the place of block `i`.

@@ -13,6 +13,7 @@
 #![tactic(auto)]
 
 mod bank;
+mod order;
 mod parts;
 
 pub use bank::BlockBank;

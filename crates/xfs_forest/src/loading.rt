@@ -16,7 +16,7 @@ use xfs_bank::BlockBank;
 use xfs_disk::{Disk, Failed, NoMemory};
 use xfs_runs::Steps;
 
-/// Reads the blocks of a round in order, each once. Each counts as a step, also where the read fails.
+/// Reads the blocks of a round in ascending order, each once. Each counts as a step, also where the read fails.
 pub(crate) fn load_round<D: Disk, L: Ledger>(
     alloc: Global,
     disk: &mut D,
@@ -34,7 +34,7 @@ pub(crate) fn load_round<D: Disk, L: Ledger>(
         Ok(bank) => bank,
         Err(NoMemory) => return Err(ForestFault::NoMemory),
     };
-    count_steps(round.len(), steps);
+    steps.tick_often(round.len());
     match bank.fill(disk, round) {
         Ok(()) => Ok(bank),
         Err(Failed) => Err(ForestFault::ReadFault),
@@ -53,13 +53,4 @@ pub(crate) fn places_of<Record: Drop, Key: Drop>(
         places.push(cells[i].spot.seat.place)?;
     }
     Ok(places)
-}
-
-/// Counts so many steps.
-fn count_steps<L: Ledger>(count: usize, steps: &mut Steps<L>)
-    ensures { steps.new ≡ steps.old + count }
-{
-    for _ in 0..count {
-        steps.tick();
-    }
 }

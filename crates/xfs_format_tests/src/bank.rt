@@ -108,5 +108,5 @@ fn filled_up_to_a_failed_read(rt: HostRuntime) {
     let mut bank = three_zeros(&rt, rt.alloc());
     same!(rt; bank.fill(&mut disk, &[2, 0, 1]), Err(Failed));
     same!(rt; disk.faults(), 1);
-    assert_blocks(&rt, &bank, "12 12, 0 0, 0 0");
+    assert_blocks(&rt, &bank, "0 0, 10 10, 0 0");
 }

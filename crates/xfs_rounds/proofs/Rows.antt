@@ -1,12 +1,10 @@
 -- Rows of slots and of blocks, one after the other, and each of them judged.
-use Rattle.std.proofs.Common.{◌≡◌, ℕ, suc, ◌+◌, ◌<◌, ◌≤◌, List, [], ◌∷◌, ◌++◌, map, length, take, get_or, set, inl, inr, refl, sym, ap, subst, ◌∙◌, arith}
+use Rattle.std.proofs.Common.{◌≡◌, ℕ, suc, ◌+◌, ◌<◌, ◌≤◌, List, [], ◌∷◌, ◌++◌, map, length, take, get_or, inl, inr, refl, sym, ap, subst, ◌∙◌, arith}
 use Rattle.std.proofs.lemmas.Bool.{cases_lt}
-use Rattle.std.proofs.lemmas.List.{map-append, take_all, take_more, take_more_set}
+use Rattle.std.proofs.lemmas.List.{map-append, take_all, take_more}
 use Rattle.std.proofs.lemmas.List.Elements.{All-from_get_or, All-get_or, All-nil, All-push}
 use Rattle.std.proofs.lemmas.List.FromFn.{map-range_with_len_more}
 use Rattle.std.specs.List.{All, range_with_len}
-use Rattle.xfs_bank.specs.Bank.{blocks_at}
-use Rattle.xfs_disk.specs.Blocks.{Image}
 use Rattle.xfs_geom.specs.Conversions.{inode_of}
 use Rattle.xfs_geom.specs.Volumes.{Volume}
 use Rattle.xfs_rounds.specs.Judged.{AreJudged, AreListed, AreListedBelow, ArePartsBelow, IsInBank, IsJudged, IsKnown, IsListed, IsPartOf}
@@ -59,19 +57,6 @@ in_bank end bank round blocks listed low size i d inside =
       volume = subst (λ (n : ℕ). n < end) (sym it.place) (All-get_or (λ (n : ℕ). n < end) round block.at 0 it.inside low);
       bank = subst (λ (n : ℕ). block.at < n) (sym size) it.inside;
     }
-
--- one block more was read into its place, and all of them
-pub block_read : (image old new : Image) (round : List ℕ) (i : ℕ) → i < length round → i < length old → new ≡ set old i (get_or image (get_or round i 0) [])
-    → take i old ≡ blocks_at image (take i round) → take (i + 1) new ≡ blocks_at image (take (i + 1) round)
-block_read image old new round i within inside put before =
-    let block : List ℕ = get_or image (get_or round i 0) [] in
-    ap (λ (bank : Image). take (i + 1) bank) put ∙ take_more_set old i block inside ∙ ap (λ (blocks : Image). blocks ++ block ∷ []) before
-    ∙ sym (ap (blocks_at image) (take_more round i 0 within) ∙ map-append (λ place. get_or image place []) (take i round) (get_or round i 0 ∷ []))
-
-pub blocks_read : (image bank : Image) (round : List ℕ) (i : ℕ) → length round ≤ i → length bank ≤ length round → take i bank ≡ blocks_at image (take i round)
-    → bank ≡ blocks_at image round
-blocks_read image bank round i all size read =
-    sym (take_all i bank (omega (arith, all, size))) ∙ read ∙ ap (blocks_at image) (take_all i round all)
 
 -- the same blocks, named otherwise
 pub judged_as : (v : Volume) (bank : List (List ℕ)) {old new named_old named_new : BlockParts} → old ≡ named_old → new ≡ named_new → IsJudged v bank old new

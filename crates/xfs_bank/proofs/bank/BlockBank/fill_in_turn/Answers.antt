@@ -1,8 +1,9 @@
 -- One more block is the disk's.
-use Rattle.std.proofs.Common.{rules, arith, ◌∙◌}
-use Rattle.xfs_disk.proofs.Reading.{reads_none, reads_on}
+use Rattle.std.proofs.Common.{rules, length, arith, ◌∙◌}
+use Rattle.xfs_disk.proofs.Reading.{reads_on}
 use Rattle.xfs_bank.proofs.Filling.{next_first, next_rest}
-use Rattle.xfs_bank.proofs.bank.BlockBank.fill.Goals as goal
+use Rattle.xfs_bank.proofs.Scattered.{drop_later}
+use Rattle.xfs_bank.proofs.bank.BlockBank.fill_in_turn.Goals as goal
 
 pub loop-i-preserved : goal.loop-i-preserved
 loop-i-preserved g c =
@@ -18,3 +19,6 @@ loop-i-preserved g c =
           (record { same_size = read.size; same_contents = read.holds; same_write_faults = read.write_faults; same_writes = read.writes; tells = read.tells; leaves = read.stops; past = read.past });
       reads = let before = c.loop-i.invariant.reads in let more = read.reads in omega (arith, before, more);
     }
+
+pub returns-in-Err-clause-rest : goal.returns-in-Err-clause-rest
+returns-in-Err-clause-rest g c = drop_later c.args.self.now c.loop-i.self c.loop-i.i (length c.args.places.now) (omega arith) c.loop-i.invariant.rest

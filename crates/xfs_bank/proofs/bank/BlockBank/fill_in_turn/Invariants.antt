@@ -3,7 +3,7 @@ use Rattle.std.proofs.Common.{◌≡◌, ◌≤◌, ◌+◌, length, take, drop}
 use Rattle.std.specs.Option.{ForSome}
 use Rattle.xfs_disk.specs.Reads.{OnlyReads}
 use Rattle.xfs_bank.specs.Bank.{blocks_at}
-use Rattle.xfs_bank.proofs.bank.BlockBank.fill.Given as goal
+use Rattle.xfs_bank.proofs.bank.BlockBank.fill_in_turn.Given as goal
 
 abbrev pub invariant-loop-i : goal.invariant-loop-i
 invariant-loop-i g l = record {
