@@ -43,7 +43,7 @@ pub use alone::decide_alone;
 pub use deciding::{decide_file, decide_read};
 pub use faults::InodeFault;
 pub use file_reading::{read_file, read_file_of};
-pub use files::FileRead;
+pub use files::{BoxedFile, FileRead};
 pub use forks::fork_bytes;
 pub use named::Needs;
 pub use naming::{needs, needs_of};

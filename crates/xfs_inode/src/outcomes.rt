@@ -9,7 +9,7 @@ ghost use Rattle.xfs_inode.specs.declared.files.FileRead.TheVariants as Reads;
 
 use crate::attributes::AttrHeld;
 use crate::counts::{is_counted, is_off_attributes};
-use crate::files::FileRead;
+use crate::files::{BoxedFile, FileRead};
 use crate::held::DataHeld;
 use crate::records::file_record;
 use std::alloc::{AllocError, Global};
@@ -57,7 +57,7 @@ fn without_attrs(
     ensures { IfOk result (λ read. read ≡ Reads.FileWithoutAttrs (file_record ino core.now slot.now (option_copied link.entry) held no_attrs)) }
 {
     let file = file_record(alloc, ino, core, slot, link, held, AttrHeld::none(alloc))?;
-    Ok(FileRead::FileWithoutAttrs(file))
+    Ok(FileRead::FileWithoutAttrs(BoxedFile::new(alloc, file)?))
 }
 
 /// What a slot reads as whose attribute fork reads.
@@ -80,7 +80,7 @@ fn with_fork(
 {
     if is_settled(alloc, g, core, &held, &fork)? {
         let file = file_record(alloc, ino, core, slot, link, held, fork)?;
-        return Ok(FileRead::File(file));
+        return Ok(FileRead::File(BoxedFile::new(alloc, file)?));
     }
     if has_leaf(&fork) {
         return without_attrs(alloc, ino, core, slot, link, held);

@@ -76,8 +76,10 @@ pub fn take_read<D: Disk, L: Ledger>(
 {
     match read {
         FileRead::Free => Ok(()),
-        FileRead::File(file) => take_file(alloc, g, disk, slot, file, inodes, steps),
-        FileRead::FileWithoutAttrs(file) => take_bare(alloc, g, disk, slot, file, inodes, steps),
+        FileRead::File(file) => { take_file(alloc, g, disk, slot, file.into_file(), inodes, steps) }
+        FileRead::FileWithoutAttrs(file) => {
+            take_bare(alloc, g, disk, slot, file.into_file(), inodes, steps)
+        }
         FileRead::Unsupported { what } => {
             inodes.pass(ino, Some(InodeFeature { ino, what }));
             Ok(())

@@ -136,7 +136,7 @@ fn disk_of_leaves(rt: &(impl Abort + AllocGlobal)) -> MemoryDisk {
 /// Tests that the slot with a key reads as the whole file.
 fn is_read(rt: &(impl Abort + AllocGlobal), disk: &mut MemoryDisk, key: &str) {
     match reads(rt, disk, key) {
-        Ok(FileRead::File(file)) => is_whole(rt, &file),
+        Ok(FileRead::File(file)) => is_whole(rt, file.as_file()),
         _ => panic!(rt; "the file is read"),
     }
 }

@@ -62,8 +62,9 @@ fn read_cut(rt: &(impl Abort + AllocGlobal), disk: &mut MemoryDisk, cut: &str) {
     let blank = Blank::new(1);
     match read_counted::<MemoryDisk, Brand>(rt.alloc(), image, disk, ino, &slot, blank) {
         Ok(FileRead::File(file)) => {
+            let file = file.as_file();
             same!(rt; file.ino, ino; case);
-            same_file(rt, &file, case, row);
+            same_file(rt, file, case, row);
         }
         _ => refuse(rt, "no file is read", case),
     }
