@@ -45,7 +45,11 @@ fn kind_of(file: &FileRec) -> FileKind
 pub fn kinds_of(alloc: Global, files: &[FileRec]) -> Result<Vec<FileKind>, AllocError>
     ensures { IfOk result (λ kinds. kinds.items ≡ map kind_of files.now) }
 {
-    files.iter().map(|file| kind_of(file)).collect(alloc)
+    let mut kinds = Vec::with_capacity(alloc, files.len())?;
+    for file in files {
+        kinds.push(kind_of(file))?;
+    }
+    Ok(kinds)
 }
 
 /// The kind at a place among the files, where it is that of the file with this number.

@@ -33,6 +33,15 @@ impl Numbered for DirRec {
     }
 }
 
+/// A number goes by itself.
+impl Numbered for u64 {
+    ghost key = { λ n. n };
+
+    fn number(&self) -> u64 {
+        *self
+    }
+}
+
 /// An entry goes by its directory.
 impl Numbered for EntryRec {
     ghost key = { λ e. e.dir };

@@ -1,5 +1,7 @@
 -- A list whose items are set one after the other.
 use Rattle.std.proofs.Common.{◌≡◌, ℕ, ◌+◌, ◌<◌, List, [], ◌∷◌, ◌++◌, length, map, take, drop, zero, suc, refl, sym, ap, ap₂, ◌∙◌, add-one, arith, get_or, slice_index_or, slice_set}
+use Rattle.std.proofs.lemmas.List.{append_assoc}
+use Rattle.xfs_space.proofs.OwnedRuns.{from_head}
 
 pub set_next : {X : Type 0} (f : X → X) (i : ℕ) (xs : List X) (x : X) → i < length xs → x ≡ slice_index_or (map f (take i xs) ++ drop i xs) i x
     → slice_set (map f (take i xs) ++ drop i xs) i (f x) ≡ map f (take (suc i) xs) ++ drop (suc i) xs
@@ -29,3 +31,12 @@ set_more {X = X} set due i xs now dues x new low held are item is =
     ap₂ (λ (ys : List X) (y : X). slice_set ys i y) held (is ∙ ap (set x) own)
     ∙ set_next f i xs x low here
     ∙ ap (λ (k : ℕ). map f (take k xs) ++ drop k xs) (sym (add-one i))
+
+-- what is due for one item more
+pub next_due : {X : Type 0} (due : X → ℕ) (xs : List X) (i : ℕ) (x : X) (dues new whole : List ℕ) (n : ℕ) → i < length xs → x ≡ get_or xs i x → dues ++ map due (drop i xs) ≡ whole
+    → n ≡ due x → new ≡ dues ++ n ∷ [] → new ++ map due (drop (i + 1) xs) ≡ whole
+next_due due xs i x dues new whole n inside is left own put =
+    ap (λ (ns : List ℕ). ns ++ map due (drop (i + 1) xs)) (put ∙ ap (λ (k : ℕ). dues ++ k ∷ []) own)
+    ∙ append_assoc dues (due x ∷ []) (map due (drop (i + 1) xs))
+    ∙ ap (λ (ns : List ℕ). dues ++ ns) (sym (ap (map due) (from_head xs i x inside is)))
+    ∙ left

@@ -17,8 +17,8 @@ use xfs_dirdata::EntryRec;
 use xfs_disk::{NoMemory, Word};
 use xfs_naming::{Link, Numbered};
 use xfs_render::{SlotBase, SlotWanted};
-use xfs_request::{Near, links_due};
-use xfs_volume::{Core, DirRec, FileRec, Records};
+use xfs_request::{Near, directories_of, links_due};
+use xfs_volume::{Core, DirRec, Extents, FileRec, Records};
 
 /// How many links each file is to have. `NoMemory` where memory is wanting, or where a number cannot be held.
 pub(crate) fn all_due(
@@ -36,9 +36,17 @@ pub(crate) fn all_due(
     ensures { IfOk result (λ dues. dues.items ≡ map (links_due root files.now entries.now) files.now) }
 {
     let mut dues = Vec::new(alloc);
+    let directories = directories_of(alloc, files)?;
     let mut near = Near::first();
     for file in files {
-        let due = links_due(root, files, entries, links, &mut near, file);
+        let due = links_due(
+            root,
+            directories.as_slice(),
+            entries,
+            links,
+            &mut near,
+            file,
+        );
         dues.push(narrow(due)?)?;
     }
     Ok(dues)
@@ -109,7 +117,7 @@ fn new_file(alloc: Global, ino: u64, core: &Core) -> FileRec
     FileRec {
         ino,
         core: *core,
-        extents: Records::from_vec(Vec::new(alloc)),
+        extents: Extents::new(alloc),
         attr_extents: Records::from_vec(Vec::new(alloc)),
         tree: Records::from_vec(Vec::new(alloc)),
         attrs: Attrs::from_vec(Vec::new(alloc)),

@@ -2,3 +2,4 @@ mod Rows
 mod Rising
 mod Counted
 mod Found
+mod Numbers

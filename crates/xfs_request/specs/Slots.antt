@@ -1,16 +1,17 @@
 -- What is wanted of the slots of kept clusters (chapter "On-disk Inode").
-use Rattle.std.specs.Prelude.{◌≡◌, ℕ, Bool, true, false, ◌+◌, ◌-◌, ◌^◌, ◌≤◌, ◌==◌, ◌&&◌, ◌||◌, if◌then◌else◌, List, [], ◌∷◌, filter, length, Option, Some, None}
+use Rattle.std.specs.Prelude.{◌≡◌, ℕ, Bool, true, false, ◌+◌, ◌-◌, ◌^◌, ◌≤◌, ◌==◌, ◌&&◌, ◌||◌, if◌then◌else◌, List, [], ◌∷◌, count_by, filter, length, Option, Some, None}
 use Rattle.std.specs.List.{flat_map, sum_by}
-use Rattle.std.specs.List.Sorted.{IsNonDecreasingBy}
+use Rattle.std.specs.List.Sorted.{IsNonDecreasing, IsNonDecreasingBy}
 use Rattle.std.specs.Option.{is_some}
 use Rattle.xfs_disk.specs.Lists.{is_among}
 use Rattle.xfs_disk.specs.declared.stamp.Stamp.{Stamp}
 use Rattle.xfs_word.specs.declared.extents.Extent.{Extent}
 use Rattle.xfs_dirdata.specs.declared.records.EntryRec.{EntryRec}
 use Rattle.xfs_geom.specs.Volumes.{Volume}
+use Rattle.xfs_volume.specs.Names.{is_directory}
 use Rattle.xfs_volume.specs.declared.files.FileRec.{FileRec}
 use Rattle.xfs_image.specs.Slots.{cluster_blocks, inodes_of_block}
-use Rattle.xfs_naming.specs.Naming.{is_system, links_of}
+use Rattle.xfs_naming.specs.Naming.{entries_in, entries_to, is_system, links_of, numbers_of}
 use Rattle.xfs_naming.specs.Ordered.{AreLinks}
 use Rattle.xfs_naming.specs.declared.runs.Link.{Link}
 use Rattle.xfs_render.specs.declared.wanted_slots.SlotBase.TheVariants.{Free, Kept}
@@ -42,6 +43,11 @@ is_bare State.Other = false
 -- how many names a file is to have: a system inode one, any other as many as the entries give it
 abbrev pub links_due : ℕ → List FileRec → List EntryRec → FileRec → ℕ
 links_due root files entries f = if is_system root f.ino then 1 else links_of files entries f
+
+-- how many the entries give it, by the numbers of the directories
+abbrev pub links_among : List ℕ → List EntryRec → FileRec → ℕ
+links_among directories entries f =
+    if is_directory f then 2 + count_by (λ (e : EntryRec). is_among directories e.ino) (entries_in entries f.ino) else length (entries_to entries f.ino)
 
 -- their number is set where the file has another, or where it waits to be removed
 abbrev pub nlink_wanted : FileRec → ℕ → Option ℕ
@@ -100,9 +106,15 @@ abbrev pub StandByNumber : {A : Type 0} → (A → ℕ) → ℕ → List A → T
 StandByNumber number least [] = Unit {0}
 StandByNumber number least (x ∷ xs) = (least ≤ number x) × StandByNumber number (number x) xs
 
--- what is looked up by number stands in its order, and there is a link for each entry
-pub record CanBeSearched (kept : Salvaged) (slots : List SlotSeen) (links : List Link) : Type 0 where
+-- the numbers of files, in their order
+pub record AreNumbers (files : List FileRec) (numbers : List ℕ) : Type 0 where
+  pub are : numbers ≡ numbers_of files
+  pub rise : IsNonDecreasing numbers
+
+-- what is looked up by number stands in its order, the numbers of the directories are at hand, and there is a link for each entry
+pub record CanBeSearched (kept : Salvaged) (directories : List ℕ) (slots : List SlotSeen) (links : List Link) : Type 0 where
   pub by_file : IsNonDecreasingBy (λ (f : FileRec). f.ino) kept.files
+  pub by_number : AreNumbers (filter is_directory kept.files) directories
   pub by_directory : IsNonDecreasingBy (λ (e : EntryRec). e.dir) kept.entries
   pub by_slot : IsNonDecreasingBy (λ (slot : SlotSeen). slot.ino) slots
   pub by_target : IsNonDecreasingBy (λ (l : Link). l.target) links

@@ -11,6 +11,7 @@ ghost use Rattle.xfs_request.specs.Requests.{cleared_count, is_freed, kept_count
 ghost use Rattle.xfs_request.specs.Slots.{wanted_slots};
 
 use crate::chunks::inodes_wanted;
+use crate::links::directories_of;
 use crate::order::stand_by_number;
 use crate::seen::SlotSeen;
 use crate::slots::{Basis, wanted_slots};
@@ -61,10 +62,12 @@ pub fn ask(
         return Err(NoMemory);
     }
     let links = links_of(alloc, kept.entries.as_slice())?;
+    let directories = directories_of(alloc, kept.files.as_slice())?;
     let basis = Basis {
         g,
         stamp,
         kept,
+        directories: directories.as_slice(),
         slots,
         links: links.as_slice(),
     };

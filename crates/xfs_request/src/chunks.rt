@@ -7,8 +7,9 @@ ghost use Rattle.xfs_naming.specs.Naming.{NumbersAscend};
 ghost use Rattle.xfs_volume.specs.declared.files.FileRec.{FileRec};
 ghost use Rattle.xfs_laws.specs.Counting.{bit_of, inode_number};
 ghost use Rattle.xfs_request.specs.Chunks.{chunk_listed, kept_chunk, counted_chunk, kept_chunks, has_kept_cluster, holes, is_idle, is_inode_used, slot_count, inodes_wanted};
+ghost use Rattle.xfs_request.specs.Slots.{AreNumbers};
 
-use crate::links::is_in_use;
+use crate::links::{is_in_use, numbers_of};
 use crate::slots::is_one_of;
 use std::alloc::Global;
 use xfs_disk::NoMemory;
@@ -37,10 +38,11 @@ pub fn inodes_wanted(
     ensures { IfOk result (λ groups. groups.items ≡ inodes_wanted (volume_of g.now) kept.now) }
 {
     let mut groups = Vec::new(alloc);
+    let used = numbers_of(alloc, kept.files.as_slice())?;
     let mut near = 0;
     for ag in 0..g.agcount {
         groups.push(GroupInodes {
-            records: kept_chunks(alloc, g, kept, &mut near, ag)?,
+            records: kept_chunks(alloc, g, kept, used.as_slice(), &mut near, ag)?,
         })?;
     }
     Ok(groups)
@@ -52,17 +54,18 @@ fn kept_chunks(
     alloc: Global,
     g: &Geometry,
     kept: &Salvaged,
+    used: &[u64],
     near: &mut usize,
     ag: u32,
 ) -> Result<Records<InoRec>, NoMemory>
-    requires files { IsNonDecreasingBy (λ (f : FileRec). f.ino) kept.now.files }
+    requires used { AreNumbers kept.now.files used.now }
     requires clusters { NumbersAscend 0 kept.now.clusters }
     requires group { ag < g.now.agcount }
     ensures { IfOk result (λ chunks. chunks ≡ kept_chunks (volume_of g.now) kept.now ag) }
 {
     let mut chunks = Vec::new(alloc);
     for c in 1..g.group_length(ag) / CHUNK_BLOCKS {
-        push_chunk(g, kept, near, ag, c, &mut chunks)?;
+        push_chunk(g, kept, used, near, ag, c, &mut chunks)?;
     }
     Ok(Records::from_vec(chunks))
 }
@@ -72,12 +75,13 @@ fn kept_chunks(
 fn push_chunk(
     g: &Geometry,
     kept: &Salvaged,
+    used: &[u64],
     near: &mut usize,
     ag: u32,
     c: u32,
     chunks: &mut Vec<InoRec>,
 ) -> Result<(), NoMemory>
-    requires files { IsNonDecreasingBy (λ (f : FileRec). f.ino) kept.now.files }
+    requires used { AreNumbers kept.now.files used.now }
     requires clusters { NumbersAscend 0 kept.now.clusters }
     requires group { ag < g.now.agcount }
     requires chunk { c < 2 ^ 24 }
@@ -86,7 +90,7 @@ fn push_chunk(
     let first = has_kept_cluster(g, kept, ag, c, 0);
     let second = has_kept_cluster(g, kept, ag, c, CLUSTER_BLOCKS);
     if first || second {
-        chunks.push(counted_chunk(g, kept, near, ag, SLOTS * c, holes(first, second)))?;
+        chunks.push(counted_chunk(g, kept, used, near, ag, SLOTS * c, holes(first, second)))?;
     }
     Ok(())
 }
@@ -115,19 +119,20 @@ fn holes(first: bool, second: bool) -> u16
 fn counted_chunk(
     g: &Geometry,
     kept: &Salvaged,
+    used: &[u64],
     near: &mut usize,
     ag: u32,
     startino: u32,
     holemask: u16,
 ) -> InoRec
-    requires files { IsNonDecreasingBy (λ (f : FileRec). f.ino) kept.now.files }
+    requires used { AreNumbers kept.now.files used.now }
     requires group { ag < g.now.agcount }
     ensures { result ≡ counted_chunk (volume_of g.now) kept.now ag startino holemask }
 {
     let mut freecount = 0;
     let mut free = 0;
     for inode in 0..SLOTS {
-        let bit = bit_of(is_idle(g, kept, near, ag, startino, holemask, inode));
+        let bit = bit_of(is_idle(g, kept, used, near, ag, startino, holemask, inode));
         freecount += bit as u8;
         free += bit << inode;
     }
@@ -159,13 +164,14 @@ fn bit_of(passes: bool) -> u64
 fn is_idle(
     g: &Geometry,
     kept: &Salvaged,
+    used: &[u64],
     near: &mut usize,
     ag: u32,
     startino: u32,
     holemask: u16,
     inode: u32,
 ) -> bool
-    requires files { IsNonDecreasingBy (λ (f : FileRec). f.ino) kept.now.files }
+    requires used { AreNumbers kept.now.files used.now }
     requires group { ag < g.now.agcount }
     requires inode { inode < 64 }
     ensures { result ≡ is_idle (volume_of g.now) kept.now ag startino holemask inode }
@@ -174,17 +180,18 @@ fn is_idle(
     !(is_missing
         || is_inode_used(
             kept,
+            used,
             near,
             inode_number(g, ag, startino as u64 + inode as u64),
         ))
 }
 
 /// Whether an inode is in use: a kept file has its number, or it is made anew.
-fn is_inode_used(kept: &Salvaged, near: &mut usize, ino: u64) -> bool
-    requires { IsNonDecreasingBy (λ (f : FileRec). f.ino) kept.now.files }
+fn is_inode_used(kept: &Salvaged, used: &[u64], near: &mut usize, ino: u64) -> bool
+    requires used { AreNumbers kept.now.files used.now }
     ensures { result ≡ is_inode_used kept.now ino }
 {
-    is_in_use(kept.files.as_slice(), near, ino) || is_one_of(kept.fresh.as_slice(), ino)
+    is_in_use(used, near, ino) || is_one_of(kept.fresh.as_slice(), ino)
 }
 
 /// The number of an inode of a group, by its number inside the group.

@@ -61,7 +61,7 @@ fn new_root_fork(alloc: Global, g: &Geometry) -> Result<ForkWanted, NoMemory>
         size: EMPTY_FORM as u64,
         nblocks: 0,
         nextents: 0,
-        bytes: Word::from_vec(Vec::from_slice(alloc, &form)?),
+        bytes: Word::from_slice(alloc, &form)?,
     })
 }
 

@@ -25,7 +25,7 @@ mod taken;
 
 pub use asking::{Request, ask};
 pub use chunks::inodes_wanted;
-pub use links::{Near, links_due};
+pub use links::{Near, directories_of, links_due};
 pub use log::{due_cycle, kept_lsns};
 pub use seen::{SlotSeen, SlotState};
 pub use taken::taken_runs;

@@ -1,16 +1,17 @@
 //! How many names a kept file is to have.
 
-ghost use Rattle.std.specs.Prelude.{◌≡◌, ◌==◌, ◌<◌, ◌^◌, IfOk, count_by};
-ghost use Rattle.std.specs.List.{list_any};
-ghost use Rattle.std.specs.List.Sorted.{IsNonDecreasingBy};
+ghost use Rattle.std.specs.Prelude.{◌≡◌, ◌++◌, ◌∷◌, [], ◌<◌, ◌^◌, if◌then◌else◌, IfOk, List, OnOk, count_by, filter};
+ghost use Rattle.std.specs.List.Sorted.{IsNonDecreasing, IsNonDecreasingBy};
+ghost use Rattle.xfs_disk.specs.Lists.{is_among};
 ghost use Rattle.xfs_dirdata.specs.declared.records.EntryRec.{EntryRec};
 ghost use Rattle.xfs_volume.specs.Names.{is_directory};
 ghost use Rattle.xfs_volume.specs.declared.files.FileRec.{FileRec};
-ghost use Rattle.xfs_naming.specs.Naming.{is_directory_at, is_in_use, is_system, links_of};
+ghost use Rattle.xfs_naming.specs.Naming.{is_system, numbers_of};
 ghost use Rattle.xfs_naming.specs.Ordered.{AreLinks};
 ghost use Rattle.xfs_naming.specs.declared.runs.Link.{Link};
-ghost use Rattle.xfs_request.specs.Slots.{links_due, nlink_wanted};
+ghost use Rattle.xfs_request.specs.Slots.{AreNumbers, links_among, links_due, nlink_wanted};
 
+use std::alloc::{AllocError, Global};
 use xfs_dirdata::EntryRec;
 use xfs_disk::NoMemory;
 use xfs_naming::{Link, records_near};
@@ -41,38 +42,73 @@ impl Near {
     }
 }
 
-/// Whether a file has the number. `near` is a place among the files at which it may stand, and then the one behind it.
-pub(crate) fn is_in_use(files: &[FileRec], near: &mut usize, ino: u64) -> bool
-    requires { IsNonDecreasingBy (λ (f : FileRec). f.ino) files.now }
-    ensures { result ≡ is_in_use files.now ino }
+/// The numbers that these files have.
+fn each_number(alloc: Global, files: &[FileRec]) -> Result<Vec<u64>, AllocError>
+    ensures { IfOk result (λ numbers. numbers.items ≡ numbers_of files.now) }
 {
-    !records_near(files, near, ino).is_empty()
+    let mut numbers = Vec::with_capacity(alloc, files.len())?;
+    for file in files {
+        numbers.push(file.ino)?;
+    }
+    Ok(numbers)
 }
 
-/// Whether one of these files is a directory.
-fn have_directory(files: &[FileRec]) -> bool
-    ensures { result ≡ list_any is_directory files.now }
+/// The numbers of files, kept close together: 8 bytes each, where a record has some 300.
+pub(crate) fn numbers_of(alloc: Global, files: &[FileRec]) -> Result<Vec<u64>, AllocError>
+    requires { IsNonDecreasingBy (λ (f : FileRec). f.ino) files.now }
+    ensures { IfOk result (λ numbers. AreNumbers files.now numbers.items) }
 {
-    files.iter().any(|file| is_directory(file))
+    let numbers = each_number(alloc, files)?;
+    Ok(numbers)
 }
 
-/// Whether a directory has the number. `near` is a place among the files at which it may stand.
-fn is_directory_at(files: &[FileRec], near: &mut usize, ino: u64) -> bool
-    requires { IsNonDecreasingBy (λ (f : FileRec). f.ino) files.now }
-    ensures { result ≡ is_directory_at files.now ino }
+/// The numbers that the directories among these files have.
+fn each_directory(alloc: Global, files: &[FileRec]) -> Result<Vec<u64>, AllocError>
+    ensures { IfOk result (λ numbers. numbers.items ≡ numbers_of (filter is_directory files.now)) }
 {
-    have_directory(records_near(files, near, ino))
+    let mut numbers = Vec::new(alloc);
+    for file in files {
+        put_directory(&mut numbers, file)?;
+    }
+    Ok(numbers)
+}
+
+/// Puts the number of a directory behind the others.
+fn put_directory(numbers: &mut Vec<u64>, file: &FileRec) -> Result<(), AllocError>
+    ensures { OnOk result (numbers.new.items ≡ (if is_directory file.now then numbers.old.items ++ file.now.ino ∷ [] else numbers.old.items)) }
+{
+    if is_directory(file) {
+        numbers.push(file.ino)?;
+    }
+    Ok(())
+}
+
+/// The numbers of the directories among files.
+pub fn directories_of(alloc: Global, files: &[FileRec]) -> Result<Vec<u64>, AllocError>
+    requires { IsNonDecreasingBy (λ (f : FileRec). f.ino) files.now }
+    ensures { IfOk result (λ numbers. AreNumbers (filter is_directory files.now) numbers.items) }
+{
+    let numbers = each_directory(alloc, files)?;
+    Ok(numbers)
+}
+
+/// Whether a number is among ascending ones. `near` is a place at which it may stand, and then the one behind it.
+pub(crate) fn is_in_use(numbers: &[u64], near: &mut usize, ino: u64) -> bool
+    requires { IsNonDecreasing numbers.now }
+    ensures { result ≡ is_among numbers.now ino }
+{
+    !records_near(numbers, near, ino).is_empty()
 }
 
 /// How many of some entries name a directory.
-fn count_directories(files: &[FileRec], own: &[EntryRec]) -> usize
-    requires { IsNonDecreasingBy (λ (f : FileRec). f.ino) files.now }
-    ensures { result ≡ count_by (λ (e : EntryRec). is_directory_at files.now e.ino) own.now }
+fn count_directories(directories: &[u64], own: &[EntryRec]) -> usize
+    requires { IsNonDecreasing directories.now }
+    ensures { result ≡ count_by (λ (e : EntryRec). is_among directories.now e.ino) own.now }
 {
     let mut near = 0;
     let mut count = 0;
     for entry in own {
-        if is_directory_at(files, &mut near, entry.ino) {
+        if is_in_use(directories, &mut near, entry.ino) {
             count += 1;
         }
     }
@@ -81,21 +117,21 @@ fn count_directories(files: &[FileRec], own: &[EntryRec]) -> usize
 
 /// How many names the entries give a file: a directory two and one for each directory in it.
 fn links_of(
-    files: &[FileRec],
+    directories: &[u64],
     entries: &[EntryRec],
     links: &[Link],
     near: &mut Near,
     file: &FileRec,
 ) -> u128
-    requires files { IsNonDecreasingBy (λ (f : FileRec). f.ino) files.now }
+    requires directories { IsNonDecreasing directories.now }
     requires entries { IsNonDecreasingBy (λ (e : EntryRec). e.dir) entries.now }
     requires links { IsNonDecreasingBy (λ (l : Link). l.target) links.now }
     requires linked { AreLinks entries.now links.now }
-    ensures { result ≡ links_of files.now entries.now file.now }
+    ensures { result ≡ links_among directories.now entries.now file.now }
 {
     if is_directory(file) {
         let own = records_near(entries, &mut near.entries, file.ino);
-        2 + count_directories(files, own) as u128
+        2 + count_directories(directories, own) as u128
     } else {
         records_near(links, &mut near.links, file.ino).len() as u128
     }
@@ -109,26 +145,26 @@ fn is_system(root: u64, ino: u64) -> bool
     ino == root + 1 || ino == root + 2
 }
 
-/// How many names a file is to have. `near` says where what names it may stand.
+/// How many names a file is to have, by the numbers of all directories. `near` says where what names it may stand.
 pub fn links_due(
     root: u64,
-    files: &[FileRec],
+    directories: &[u64],
     entries: &[EntryRec],
     links: &[Link],
     near: &mut Near,
     file: &FileRec,
 ) -> u128
     requires low { root < 2 ^ 32 }
-    requires files { IsNonDecreasingBy (λ (f : FileRec). f.ino) files.now }
+    requires directories { IsNonDecreasing directories.now }
     requires entries { IsNonDecreasingBy (λ (e : EntryRec). e.dir) entries.now }
     requires links { IsNonDecreasingBy (λ (l : Link). l.target) links.now }
     requires linked { AreLinks entries.now links.now }
-    ensures { result ≡ links_due root files.now entries.now file.now }
+    ensures { (files : List FileRec) → directories.now ≡ numbers_of (filter is_directory files) → result ≡ links_due root files entries.now file.now }
 {
     if is_system(root, file.ino) {
         return 1;
     }
-    links_of(files, entries, links, near, file)
+    links_of(directories, entries, links, near, file)
 }
 
 /// Their number where it is to be set: where the file has another, or waits to be removed. `NoMemory` where it cannot be held.

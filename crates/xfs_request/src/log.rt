@@ -1,15 +1,17 @@
 //! Whether the log is to be blank, and of which cycle (chapter "Journaling Log").
 
-ghost use Rattle.std.specs.Prelude.{◌≡◌, ◌++◌, ◌<◌, ◌≤◌, ◌^◌, IfOk, MatchOption, OnOk};
+ghost use Rattle.std.specs.Prelude.{◌≡◌, ◌++◌, ◌<◌, ◌≤◌, ◌^◌, ◌&&◌, not, IfOk, MatchOption, OnOk};
 ghost use Rattle.std.specs.List.{list_all};
 ghost use Rattle.std.specs.List.Sorted.{IsNonDecreasingBy};
+ghost use Rattle.xfs_disk.specs.Lists.{is_among};
 ghost use Rattle.xfs_geom.specs.Volumes.{volume_of};
 ghost use Rattle.xfs_laws.specs.Counting.{is_behind};
 ghost use Rattle.xfs_naming.specs.Naming.{NumbersAscend};
 ghost use Rattle.xfs_volume.specs.declared.files.FileRec.{FileRec};
 ghost use Rattle.xfs_request.specs.Cycles.{cycle_of, due_cycle, greatest_cycle, keeps_lsn, kept_lsns, keeps_log, lsn_listed};
+ghost use Rattle.xfs_request.specs.Slots.{AreNumbers, is_free};
 
-use crate::links::is_in_use;
+use crate::links::{is_in_use, numbers_of};
 use crate::seen::{SlotSeen, is_free};
 use crate::slots::is_one_of;
 use std::alloc::Global;
@@ -56,9 +58,10 @@ pub fn kept_lsns(
     ensures { IfOk result (λ numbers. numbers.items ≡ kept_lsns (volume_of g.now) kept.now slots.now lsns.now) }
 {
     let mut numbers = Vec::new(alloc);
+    let used = numbers_of(alloc, kept.files.as_slice())?;
     let mut near = 0;
     for slot in slots {
-        push_lsn(g, kept, &mut near, slot, &mut numbers)?;
+        push_lsn(g, kept, used.as_slice(), &mut near, slot, &mut numbers)?;
     }
     numbers.extend_from_slice(lsns)?;
     Ok(numbers)
@@ -68,32 +71,37 @@ pub fn kept_lsns(
 fn push_lsn(
     g: &Geometry,
     kept: &Salvaged,
+    used: &[u64],
     near: &mut usize,
     slot: &SlotSeen,
     numbers: &mut Vec<u64>,
 ) -> Result<(), NoMemory>
-    requires files { IsNonDecreasingBy (λ (f : FileRec). f.ino) kept.now.files }
+    requires used { AreNumbers kept.now.files used.now }
     requires clusters { NumbersAscend 0 kept.now.clusters }
     ensures { OnOk result (numbers.new.items ≡ numbers.old.items ++ lsn_listed (volume_of g.now) kept.now slot.now) }
 {
-    if keeps_lsn(g, kept, near, slot) {
+    if keeps_lsn(g, kept, used, near, slot) {
         numbers.push(slot.lsn)?;
     }
     Ok(())
 }
 
 /// Whether a slot keeps its number. `near` is a place among the files at which its own may stand.
-fn keeps_lsn(g: &Geometry, kept: &Salvaged, near: &mut usize, slot: &SlotSeen) -> bool
-    requires files { IsNonDecreasingBy (λ (f : FileRec). f.ino) kept.now.files }
+fn keeps_lsn(g: &Geometry, kept: &Salvaged, used: &[u64], near: &mut usize, slot: &SlotSeen) -> bool
+    requires used { AreNumbers kept.now.files used.now }
     requires clusters { NumbersAscend 0 kept.now.clusters }
     ensures { result ≡ keeps_lsn (volume_of g.now) kept.now slot.now }
 {
     if !is_among(kept.clusters.as_slice(), cluster_of(g, slot.ino)) {
         return false;
     }
-    if is_in_use(kept.files.as_slice(), near, slot.ino) {
-        return true;
-    }
+    is_in_use(used, near, slot.ino) || stays_free(kept, slot)
+}
+
+/// Whether a slot is free and not made anew.
+fn stays_free(kept: &Salvaged, slot: &SlotSeen) -> bool
+    ensures { result ≡ (is_free slot.now.state && not (is_among kept.now.fresh slot.now.ino)) }
+{
     is_free(slot.state) && !is_one_of(kept.fresh.as_slice(), slot.ino)
 }
 

@@ -30,6 +30,8 @@ pub(crate) struct Basis<'a> {
     pub g: &'a Geometry,
     pub stamp: &'a Stamp,
     pub kept: &'a Salvaged,
+    /// The numbers of the kept directories, ascending.
+    pub directories: &'a [u64],
     /// What is known of the slots of all clusters, by inode.
     pub slots: &'a [SlotSeen],
     /// A link for each kept entry, by what it names.
@@ -41,7 +43,7 @@ pub(crate) struct Basis<'a> {
 #[tactic(auto, unfolding(crate::specs::Slots::wanted_slots))]
 pub(crate) fn wanted_slots(alloc: Global, basis: &Basis) -> Result<Vec<SlotWanted>, NoMemory>
     requires low { basis.now.g.now.rootino < 2 ^ 32 }
-    requires order { CanBeSearched basis.now.kept.now basis.now.slots.now basis.now.links.now }
+    requires order { CanBeSearched basis.now.kept.now basis.now.directories.now basis.now.slots.now basis.now.links.now }
     ensures { IfOk result (λ slots. slots.items ≡ wanted_slots (volume_of basis.now.g.now) basis.now.stamp.now basis.now.kept.now basis.now.slots.now) }
 {
     let mut slots = Vec::new(alloc);
@@ -63,7 +65,7 @@ fn push_cluster(
     slots: &mut Vec<SlotWanted>,
 ) -> Result<(), NoMemory>
     requires low { basis.now.g.now.rootino < 2 ^ 32 }
-    requires order { CanBeSearched basis.now.kept.now basis.now.slots.now basis.now.links.now }
+    requires order { CanBeSearched basis.now.kept.now basis.now.directories.now basis.now.slots.now basis.now.links.now }
     ensures { OnOk result (slots.new.items ≡ slots.old.items ++ cluster_slots (volume_of basis.now.g.now) basis.now.stamp.now basis.now.kept.now basis.now.slots.now cluster) }
 {
     if basis.g.dblocks <= cluster || basis.g.dblocks - cluster < CLUSTER_BLOCKS {
@@ -85,7 +87,7 @@ fn push_block(
     slots: &mut Vec<SlotWanted>,
 ) -> Result<(), NoMemory>
     requires low { basis.now.g.now.rootino < 2 ^ 32 }
-    requires order { CanBeSearched basis.now.kept.now basis.now.slots.now basis.now.links.now }
+    requires order { CanBeSearched basis.now.kept.now basis.now.directories.now basis.now.slots.now basis.now.links.now }
     requires inside { block < basis.now.g.now.dblocks }
     ensures { OnOk result (slots.new.items ≡ slots.old.items ++ block_slots (volume_of basis.now.g.now) basis.now.stamp.now basis.now.kept.now basis.now.slots.now block) }
 {
@@ -110,7 +112,7 @@ fn push_slot(
     slots: &mut Vec<SlotWanted>,
 ) -> Result<(), NoMemory>
     requires low { basis.now.g.now.rootino < 2 ^ 32 }
-    requires order { CanBeSearched basis.now.kept.now basis.now.slots.now basis.now.links.now }
+    requires order { CanBeSearched basis.now.kept.now basis.now.directories.now basis.now.slots.now basis.now.links.now }
     ensures { OnOk result (slots.new.items ≡ slots.old.items ++ slot_listed (volume_of basis.now.g.now) basis.now.stamp.now basis.now.kept.now basis.now.slots.now ino) }
 {
     match slot_wanted(alloc, basis, near, ino)? {
@@ -129,7 +131,7 @@ fn slot_wanted(
     ino: u64,
 ) -> Result<Option<SlotWanted>, NoMemory>
     requires low { basis.now.g.now.rootino < 2 ^ 32 }
-    requires order { CanBeSearched basis.now.kept.now basis.now.slots.now basis.now.links.now }
+    requires order { CanBeSearched basis.now.kept.now basis.now.directories.now basis.now.slots.now basis.now.links.now }
     ensures { IfOk result (λ slot. slot ≡ slot_wanted (volume_of basis.now.g.now) basis.now.stamp.now basis.now.kept.now basis.now.slots.now ino) }
 {
     match records_near(basis.kept.files.as_slice(), &mut near.files, ino).first() {
@@ -141,13 +143,13 @@ fn slot_wanted(
 /// What is wanted of the slot of a kept file.
 fn file_slot(basis: &Basis, near: &mut Near, file: &FileRec) -> Result<Option<SlotWanted>, NoMemory>
     requires low { basis.now.g.now.rootino < 2 ^ 32 }
-    requires order { CanBeSearched basis.now.kept.now basis.now.slots.now basis.now.links.now }
+    requires order { CanBeSearched basis.now.kept.now basis.now.directories.now basis.now.slots.now basis.now.links.now }
     ensures { IfOk result (λ slot. slot ≡ file_slot (volume_of basis.now.g.now) basis.now.stamp.now basis.now.kept.now basis.now.slots.now file.now) }
 {
     let attrs = attrs_wanted(file, state_at(basis.slots, &mut near.slots, file.ino))?;
     let due = links_due(
         basis.g.rootino,
-        basis.kept.files.as_slice(),
+        basis.directories,
         basis.kept.entries.as_slice(),
         basis.links,
         near,
@@ -212,7 +214,7 @@ fn bare_slot(
     ino: u64,
 ) -> Result<Option<SlotWanted>, NoMemory>
     requires low { basis.now.g.now.rootino < 2 ^ 32 }
-    requires order { CanBeSearched basis.now.kept.now basis.now.slots.now basis.now.links.now }
+    requires order { CanBeSearched basis.now.kept.now basis.now.directories.now basis.now.slots.now basis.now.links.now }
     ensures { IfOk result (λ slot. slot ≡ bare_slot (volume_of basis.now.g.now) basis.now.stamp.now basis.now.kept.now basis.now.slots.now ino) }
 {
     if is_one_of(basis.kept.fresh.as_slice(), ino) {

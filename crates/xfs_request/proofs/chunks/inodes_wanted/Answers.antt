@@ -4,7 +4,12 @@ use Rattle.xfs_geom.specs.Volumes.{volume_of}
 use Rattle.xfs_geom.specs.declared.records.InoRec.{InoRec}
 use Rattle.xfs_place.specs.declared.wanted.GroupInodes.{GroupInodes}
 use Rattle.xfs_request.specs.Chunks.{group_asked}
+use Rattle.xfs_request.proofs.Numbers.{same_numbers}
 use Rattle.xfs_request.proofs.chunks.inodes_wanted.Goals as goal
+
+pub kept_chunks-requires-clause-used : goal.kept_chunks-requires-clause-used
+kept_chunks-requires-clause-used c =
+    same_numbers c.args.kept.now.files c.as_slice.result.now c.in_ok-used.used.items c.as_slice-in-loop-ag.result.now c.as_slice.ensures c.as_slice-in-loop-ag.ensures.value c.in_ok-used.ensures
 
 pub loop-ag-preserved : goal.loop-ag-preserved
 loop-ag-preserved c =
