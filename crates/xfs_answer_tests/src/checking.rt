@@ -1,13 +1,11 @@
 //! Checks of volumes by two workers, by the words of a command line: pieces of a round run at once, and of the trees of all groups the roots
 //! are read before any leaf of a tree of owners.
 
-use crate::noted::Noted;
 use std::alloc::Global;
 use std::process::Abort;
-use std::sync::atomic::{AtomicBool, Ordering};
 use std::thread::Threads;
 use xfs_disk::{Disk, Gate, NoGate, Stamp, Word};
-use xfs_memory::{MemoryDisk, MemoryLibrary, MemorySink, MemorySource};
+use xfs_memory::{HoldingGate, MemoryDisk, MemoryLibrary, MemorySink, MemorySource, NotedDisk};
 use xfs_tools::run;
 
 /// The blocks of the volumes.
@@ -26,44 +24,17 @@ const LEAVES: [u64; 2] = [8, 9];
 /// The roots of all trees.
 const ROOTS: [u64; 10] = [1, 2, 3, 4, 10, 1025, 1026, 1028, 1542, 1543];
 
-/// A gate that holds the first piece until the second has come, for so many turns at most.
-#[derive(Drop)]
-struct HoldingGate {
-    come: AtomicBool,
-    met: AtomicBool,
-}
-
-impl Gate for HoldingGate {
-    fn enter(&self, piece: usize) {
-        if piece == 1 {
-            self.come.store(true, Ordering::SeqCst);
-        }
-        if piece != 0 {
-            return;
-        }
-        for _ in 0..10_000_000 {
-            if self.come.load(Ordering::SeqCst) {
-                self.met.store(true, Ordering::SeqCst);
-                return;
-            }
-        }
-    }
-}
-
 #[test]
 fn pieces_run_at_once(rt: HostRuntime) {
     let mut disk = made(&rt, rt.alloc(), MAKING);
-    let gate = HoldingGate {
-        come: AtomicBool::new(false),
-        met: AtomicBool::new(false),
-    };
+    let gate = HoldingGate::new(10_000_000);
     assert!(rt; is_clean(&rt, rt.alloc(), &mut disk, &gate));
-    assert!(rt; gate.met.load(Ordering::SeqCst));
+    assert!(rt; gate.has_met());
 }
 
 #[test]
 fn roots_come_first(rt: HostRuntime) {
-    let mut noted = Noted::new(rt.alloc(), made(&rt, rt.alloc(), GENERATING));
+    let mut noted = NotedDisk::new(rt.alloc(), made(&rt, rt.alloc(), GENERATING));
     assert!(rt; is_clean(&rt, rt.alloc(), &mut noted, &NoGate));
     for leaf in LEAVES {
         for root in ROOTS {
@@ -73,7 +44,7 @@ fn roots_come_first(rt: HostRuntime) {
 }
 
 /// Whether a block is read before another one, which is read too.
-fn comes_first(noted: &Noted, block: u64, other: u64) -> bool {
+fn comes_first(noted: &NotedDisk, block: u64, other: u64) -> bool {
     match (noted.first_read(block), noted.first_read(other)) {
         (Some(first), Some(second)) => first < second,
         _ => false,

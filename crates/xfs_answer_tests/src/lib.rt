@@ -6,5 +6,3 @@
 mod checking;
 #[cfg(test)]
 mod lines;
-#[cfg(test)]
-mod noted;

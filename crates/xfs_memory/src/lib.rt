@@ -10,13 +10,17 @@
 //! ```
 #![tactic(auto)]
 
+mod holding_gate;
 mod memory_disk;
 mod memory_library;
 mod memory_sink;
 mod memory_source;
+mod noted_disk;
 mod schedule;
 
+pub use holding_gate::HoldingGate;
 pub use memory_disk::MemoryDisk;
 pub use memory_library::MemoryLibrary;
 pub use memory_sink::MemorySink;
 pub use memory_source::MemorySource;
+pub use noted_disk::NotedDisk;

@@ -27,8 +27,6 @@ mod names;
 #[cfg(test)]
 mod naming;
 #[cfg(test)]
-mod noted;
-#[cfg(test)]
 mod order;
 #[cfg(test)]
 mod place;

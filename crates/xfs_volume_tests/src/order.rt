@@ -3,7 +3,6 @@
 
 use crate::checks::{must, same};
 use crate::groups::{self, leaf, seal, see};
-use crate::noted::Noted;
 use crate::small_volume::put;
 use crate::text::{Row, refuse};
 use std::alloc::Global;
@@ -13,7 +12,7 @@ use std::sync::ledger::Blank;
 use std::thread::Threads;
 use xfs_disk::{BLOCK_SIZE, Disk};
 use xfs_groups::Groups;
-use xfs_memory::MemoryDisk;
+use xfs_memory::{MemoryDisk, NotedDisk};
 use xfs_word::put32;
 
 /// The tree of owners of the first group, of two levels: the block of each of its blocks, what stands left and right of it, its first
@@ -34,7 +33,7 @@ const ROOTS: [u64; 10] = [1, 2, 3, 4, 5, 1025, 1026, 1027, 1028, 1029];
 
 #[test]
 fn roots_come_first(rt: HostRuntime) {
-    let mut noted = Noted::new(rt.alloc(), tall(&rt, rt.alloc()));
+    let mut noted = NotedDisk::new(rt.alloc(), tall(&rt, rt.alloc()));
     let seen = seen(&rt, rt.alloc(), &mut noted);
     same!(rt; seen.groups.is_ok(), true);
     drop(seen);
@@ -46,17 +45,17 @@ fn roots_come_first(rt: HostRuntime) {
 }
 
 /// The groups of the disk, which can be read.
-fn seen<R: Abort + Threads + Sync>(rt: &R, alloc: Global, noted: &mut Noted) -> Groups {
+fn seen<R: Abort + Threads + Sync>(rt: &R, alloc: Global, noted: &mut NotedDisk) -> Groups {
     assert!(rt; matches!(noted.blocks(), Ok(count) if 2048 <= count));
-    match see::<R, Noted, Brand>(rt, alloc, noted, Blank::new(1)) {
+    match see::<R, NotedDisk, Brand>(rt, alloc, noted, Blank::new(1)) {
         Ok(seen) => seen,
         Err(_) => refuse(rt, "the groups are not seen", ""),
     }
 }
 
 /// Which of all reads is the first of a block.
-fn first_read(rt: &impl Abort, noted: &Noted, block: u64) -> usize {
-    match noted.reads().iter().position(|read| *read == block) {
+fn first_read(rt: &impl Abort, noted: &NotedDisk, block: u64) -> usize {
+    match noted.first_read(block) {
         Some(first) => first,
         None => refuse(rt, "a block is not read", ""),
     }

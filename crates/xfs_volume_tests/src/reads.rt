@@ -3,7 +3,6 @@
 
 use crate::checks::{must, same};
 use crate::groups::{self, IDENTIFIER, leaf};
-use crate::noted::{Noted, counts_of};
 use crate::scan::{ENTRY, EXTENT, LOST_ATTRIBUTES, PLAIN, file, gather_counted, put_slot, view_of};
 use crate::small_volume::{ROOT, put, volume};
 use crate::text::{Row, parts_of, put_parts, refuse};
@@ -15,7 +14,7 @@ use std::thread::Threads;
 use xfs_dirdata::{EntryRec, put_data};
 use xfs_disk::{BLOCK_SIZE, Disk, NoGate, Stamp, Word};
 use xfs_inodebuild::free_slot;
-use xfs_memory::MemoryDisk;
+use xfs_memory::{MemoryDisk, NotedDisk};
 use xfs_scan::Evidence;
 use xfs_volume::Core;
 use xfs_word::{Seal, SealKind, put_part, put32, put64, seal};
@@ -128,7 +127,7 @@ fn try_reads<R: Abort + AllocGlobal + Threads + Sync>(rt: &R, line: &str) {
     let mut row = Row::new(line);
     let case = row.text();
     let disk = disk_of(rt, &mut row);
-    let mut noted = Noted::new(rt.alloc(), disk);
+    let mut noted = NotedDisk::new(rt.alloc(), disk);
     let found = gathered(rt, rt.alloc(), &mut noted, case);
     same!(*rt; found.seen.dirs().len(), 2; case);
     let view = view_of(found);
@@ -153,11 +152,11 @@ fn disk_of(rt: &(impl Abort + AllocGlobal), row: &mut Row<'_>) -> MemoryDisk {
 fn gathered<R: Abort + Threads + Sync>(
     rt: &R,
     alloc: Global,
-    noted: &mut Noted,
+    noted: &mut NotedDisk,
     case: &str,
 ) -> Evidence {
     assert!(rt; matches!(noted.blocks(), Ok(count) if 2048 <= count));
-    match gather_counted::<R, Noted, NoGate, Brand>(rt, alloc, noted, &NoGate, Blank::new(1)) {
+    match gather_counted::<R, NotedDisk, NoGate, Brand>(rt, alloc, noted, &NoGate, Blank::new(1)) {
         Ok(found) => found,
         Err(_) => refuse(rt, "the volume is refused", case),
     }
@@ -188,5 +187,21 @@ fn put_counts(rt: &impl Abort, wanted: &mut [u32], mut part: Row) {
         if let Some(count) = wanted.get_mut(block) {
             *count = times;
         }
+    }
+}
+
+/// How often each of so many blocks was read.
+fn counts_of(rt: &(impl Abort + AllocGlobal), reads: &[u64], blocks: usize) -> Vec<u32> {
+    let mut counts = must(rt, vec![in rt.alloc(); 0u32; blocks]);
+    for block in reads {
+        count(&mut counts, *block as usize);
+    }
+    counts
+}
+
+/// Counts one more.
+fn count(counts: &mut [u32], place: usize) {
+    if let Some(count) = counts.get_mut(place) {
+        *count = count.saturating_add(1);
     }
 }

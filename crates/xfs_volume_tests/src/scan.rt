@@ -9,14 +9,13 @@ use crate::text::{Row, refuse, tells};
 use std::alloc::Global;
 use std::marker::Brand;
 use std::process::Abort;
-use std::sync::atomic::{AtomicBool, Ordering};
 use std::sync::ledger::{Blank, Ledger};
 use std::thread::Threads;
 use xfs_disk::{BLOCK_SIZE, Disk, Gate, NoGate};
 use xfs_heads::LogState;
 use xfs_image::Finding;
 use xfs_inodebuild::fresh_slot;
-use xfs_memory::MemoryDisk;
+use xfs_memory::{HoldingGate, MemoryDisk};
 use xfs_runs::Steps;
 use xfs_scan::*;
 use xfs_volume::{Catalog, Core, FileRec};
@@ -231,38 +230,11 @@ fn try_failing<R: Abort + Threads + Sync>(rt: &R, alloc: Global, call: u64) {
     drop(refused);
 }
 
-/// A gate that holds the first piece until the second has come, for so many turns at most.
-#[derive(Drop)]
-struct HoldingGate {
-    come: AtomicBool,
-    met: AtomicBool,
-}
-
-impl Gate for HoldingGate {
-    fn enter(&self, piece: usize) {
-        if piece == 1 {
-            self.come.store(true, Ordering::SeqCst);
-        }
-        if piece != 0 {
-            return;
-        }
-        for _ in 0..1_000_000_000 {
-            if self.come.load(Ordering::SeqCst) {
-                self.met.store(true, Ordering::SeqCst);
-                return;
-            }
-        }
-    }
-}
-
 #[test]
 fn pieces_run_at_once(rt: HostRuntime) {
     let mut disk = disk(&rt, rt.alloc(), &[]);
     assert!(rt; matches!(disk.blocks(), Ok(count) if 2048 <= count));
-    let gate = HoldingGate {
-        come: AtomicBool::new(false),
-        met: AtomicBool::new(false),
-    };
+    let gate = HoldingGate::new(1_000_000_000);
     let gathered = gather_counted::<HostRuntime, MemoryDisk, HoldingGate, Brand>(
         &rt,
         rt.alloc(),
@@ -273,7 +245,7 @@ fn pieces_run_at_once(rt: HostRuntime) {
     sure(&rt, gathered.is_ok(), "the volume is not refused");
     sure(
         &rt,
-        gate.met.load(Ordering::SeqCst),
+        gate.has_met(),
         "the second piece came while the first was held",
     );
     drop(gathered);

@@ -3,25 +3,30 @@
 ghost use Rattle.std.specs.Prelude.{None};
 ghost use Rattle.std.proofs.Common.{rules};
 
+use crate::memory_disk::MemoryDisk;
 use std::alloc::Global;
 use xfs_disk::{Disk, Failed};
-use xfs_memory::MemoryDisk;
 
 /// A disk in memory that notes its reads.
 #[derive(Drop)]
-pub struct Noted {
+pub struct NotedDisk {
     disk: MemoryDisk,
     /// The number of the block of each read, in order.
     reads: Vec<u64>,
 }
 
-impl Noted {
+impl NotedDisk {
     /// A disk in memory of which nothing is read yet.
-    pub fn new(alloc: Global, disk: MemoryDisk) -> Noted {
-        Noted {
+    pub fn new(alloc: Global, disk: MemoryDisk) -> NotedDisk {
+        NotedDisk {
             disk,
             reads: Vec::new(alloc),
         }
+    }
+
+    /// The number of the block of each read, in order.
+    pub fn reads(&self) -> &[u64] {
+        self.reads.as_slice()
     }
 
     /// Which of all reads is the first of a block.
@@ -30,7 +35,7 @@ impl Noted {
     }
 }
 
-impl Disk for Noted {
+impl Disk for NotedDisk {
     ghost use Rattle.xfs_memory.specs.MemoryDisk.{size_of, faults_of, write_faults_of, reads_of, writes_of};
 
     ghost size = { λ noted. size_of noted.disk };
