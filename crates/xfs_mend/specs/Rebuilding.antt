@@ -22,9 +22,8 @@ use Rattle.xfs_names.specs.declared.records.WantedNames.{WantedNames}
 use Rattle.xfs_rebuild.specs.Rebuilds.{AreNamesDue, Ground, IsGround, IsRebuildOf, asked, names_change, slots_asked}
 use Rattle.xfs_rebuild.specs.declared.names_due.NamesDue.{NamesDue}
 use Rattle.xfs_rename.specs.Lost.{lost_due}
-use Rattle.xfs_rename.specs.Nodes.{nodes_of_files}
-use Rattle.xfs_rename.specs.Renames.{AreBuilt, FindsNoRoomRenamed, IsRenamed, LacksCluster, renamed_wanted}
-use Rattle.xfs_rename.specs.Slots.{cleared_beside}
+use Rattle.xfs_changes.specs.Nodes.{nodes_of_files}
+use Rattle.xfs_rename.specs.Renames.{AreBuilt, FindsNoRoomRenamed, IsRenamed, LacksCluster, cleared_beside, renamed_wanted}
 use Rattle.xfs_rebuild.specs.declared.planning.Rebuilt.{Rebuilt}
 use Rattle.xfs_restored.specs.Names.{HasKeptNames, HasWantedNames}
 use Rattle.xfs_writing.specs.Stopped.{IsStopped}

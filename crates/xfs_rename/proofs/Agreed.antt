@@ -36,14 +36,15 @@ use Rattle.xfs_rebuild.specs.declared.faults.RebuildFault.{RebuildFault}
 use Rattle.xfs_rebuild.specs.declared.faults.RebuildFault.TheVariants as faults
 use Rattle.xfs_rebuild.specs.declared.names_due.NamesDue.{NamesDue}
 use Rattle.xfs_rebuild.specs.declared.planning.Rebuilt.{Rebuilt}
-use Rattle.xfs_rename.specs.Forks.{forks_of}
+use Rattle.xfs_changes.specs.Forks.{forks_of}
 use Rattle.xfs_rename.specs.Lost.{lost_due}
 use Rattle.xfs_built.specs.Asks.{blocks_of_built, objects_of}
 use Rattle.xfs_rename.specs.Objects.{wanted_with}
-use Rattle.xfs_rename.specs.Renames.{IsRenamed, IsRenameRefused, IsSettling, lsns_due, old_files, placed_forks, renamed_slots, renamed_wanted}
-use Rattle.xfs_rename.specs.Settled.{fork_rooms, settled}
-use Rattle.xfs_rename.specs.Slots.{changes_of, cleared_beside, with_changes}
-use Rattle.xfs_rename.specs.declared.lost.Lost.{Lost}
+use Rattle.xfs_rename.specs.Renames.{IsRenamed, IsRenameRefused, IsSettling, cleared_beside, lsns_due, old_files, placed_forks, renamed_slots, renamed_wanted}
+use Rattle.xfs_changes.specs.Rooms.{fork_rooms}
+use Rattle.xfs_rename.specs.Settled.{settled}
+use Rattle.xfs_changes.specs.Slots.{changes_of, with_changes}
+use Rattle.xfs_changes.specs.declared.lost_found.Lost.{Lost}
 use Rattle.xfs_rename.specs.declared.settling.Settling.{Settling}
 use Rattle.xfs_rename.proofs.AskedRuns.{blocks_built, objects_asked, objects_owned}
 use Rattle.xfs_rename.proofs.InTurn.{built_in_order, clusters_in_order, clusters_lie, staying_in_order}

@@ -28,7 +28,7 @@ use Rattle.xfs_rebuild.specs.declared.names_due.NamesDue.{NamesDue}
 use Rattle.xfs_rebuild.proofs.Known.{known_stand, known_writable}
 use Rattle.xfs_rename.specs.Objects.{wanted_with}
 use Rattle.xfs_rename.specs.Settled.{staying_files}
-use Rattle.xfs_rename.specs.declared.lost.Lost.{Lost}
+use Rattle.xfs_changes.specs.declared.lost_found.Lost.{Lost}
 use Rattle.xfs_rename.proofs.NewClusters.{IsFreeCluster, IsOneOrNone}
 use Rattle.xfs_rename.proofs.StayingRuns.{back, both_on, front, staying_count, staying_each}
 

@@ -23,7 +23,8 @@ use Rattle.xfs_rebuild.specs.Rebuilds.{HasNamesDue}
 use Rattle.xfs_rebuild.specs.declared.names_due.NamesDue.{NamesDue}
 use Rattle.xfs_rebuild.proofs.Grounds.{in_order}
 use Rattle.xfs_rebuild.proofs.Known.{known_clusters_ascend, known_clusters_lie, known_files_ascend, known_forks}
-use Rattle.xfs_rename.specs.Settled.{fork_rooms, has_attributes_behind, room_before_attributes, staying_files, with_number_in_order, with_numbers}
+use Rattle.xfs_changes.specs.Rooms.{fork_rooms, has_attributes_behind, room_before_attributes}
+use Rattle.xfs_rename.specs.Settled.{staying_files, with_number_in_order, with_numbers}
 use Rattle.xfs_rename.proofs.NewClusters.{IsFreeCluster, IsOneOrNone}
 use Rattle.xfs_rename.proofs.HeldRuns.{runs_of_taken}
 use Rattle.xfs_rename.proofs.StayingRuns.{staying_ascend, staying_lawful}

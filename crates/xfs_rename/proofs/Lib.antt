@@ -1,18 +1,12 @@
 mod Agreed
 mod SettledBytes
 mod AskedRuns
-mod ChangeNumbers
-mod EachChange
 mod FirstRooms
-mod Firsts
 mod ForkNumbers
 mod HeldRuns
 mod InTurn
-mod Merging
 mod NewClusters
 mod NumberPlaced
-mod PushedRange
-mod Pushing
 pub mod RenamedSlots
 mod Renderable
 mod SettledAsked
@@ -20,4 +14,3 @@ mod SettledNames
 mod SparedGroups
 mod Standing
 mod StayingRuns
-mod Taking

@@ -20,10 +20,10 @@ use Rattle.xfs_rebuild.specs.Changes.{CanChangeAll}
 use Rattle.xfs_rebuild.specs.Rebuilds.{Ground, slots_asked}
 use Rattle.xfs_rebuild.specs.declared.names_due.NamesDue.{NamesDue}
 use Rattle.xfs_rebuild.proofs.Served.{IsMadeBase, changes_serve, slots_made}
-use Rattle.xfs_rename.specs.Slots.{base_made, base_or, change_listed, change_of, changed, changed_alone, changes_of, changes_something, free_change, free_changes, lost_core, put_first, slots_before, with_changes}
-use Rattle.xfs_rename.specs.declared.changes.SlotChange.{SlotChange}
-use Rattle.xfs_rename.specs.declared.forks.DirectoryFork.{DirectoryFork}
-use Rattle.xfs_rename.specs.declared.lost.Lost.{Lost}
+use Rattle.xfs_changes.specs.Slots.{base_made, base_or, change_listed, change_of, changed, changed_alone, changes_of, changes_something, free_change, free_changes, lost_core, put_first, slots_before, with_changes}
+use Rattle.xfs_changes.specs.declared.changes.SlotChange.{SlotChange}
+use Rattle.xfs_changes.specs.declared.forks.DirectoryFork.{DirectoryFork}
+use Rattle.xfs_changes.specs.declared.lost_found.Lost.{Lost}
 
 -- what is made anew has the core of a new inode
 abbrev IsSound : Volume → SlotWanted → Type 0

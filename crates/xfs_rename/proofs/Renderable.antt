@@ -33,7 +33,7 @@ use Rattle.xfs_rebuild.specs.Rebuilds.{HasNamesDue}
 use Rattle.xfs_rebuild.specs.declared.names_due.NamesDue.{NamesDue}
 use Rattle.xfs_rename.specs.Objects.{wanted_with}
 use Rattle.xfs_rename.specs.Settled.{settled, staying_files, with_number_in_order, with_numbers}
-use Rattle.xfs_rename.specs.declared.lost.Lost.{Lost}
+use Rattle.xfs_changes.specs.declared.lost_found.Lost.{Lost}
 use Rattle.xfs_rename.proofs.NewClusters.{IsOneOrNone}
 use Rattle.xfs_rename.proofs.HeldRuns.{runs_owned, runs_stand}
 

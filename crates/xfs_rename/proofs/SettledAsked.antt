@@ -21,7 +21,8 @@ use Rattle.xfs_rebuild.proofs.Known.{known_files_ascend}
 use Rattle.xfs_built.specs.Asks.{objects_of}
 use Rattle.xfs_rename.specs.Objects.{wanted_with}
 use Rattle.xfs_rename.specs.Renames.{IsSettling}
-use Rattle.xfs_rename.specs.Settled.{fresh_with, replaced_blocks, settled, staying_files, with_numbers}
+use Rattle.xfs_rename.specs.Settled.{fresh_with, settled, staying_files, with_numbers}
+use Rattle.xfs_changes.specs.Replaced.{replaced_blocks}
 use Rattle.xfs_rename.specs.declared.settling.Settling.{Settling}
 use Rattle.xfs_rename.proofs.Agreed.{adds_one}
 use Rattle.xfs_rename.proofs.InTurn.{clusters_in_order, rooms_in_order, staying_forks, staying_in_order}

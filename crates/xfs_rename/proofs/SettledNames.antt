@@ -22,10 +22,10 @@ use Rattle.xfs_rebuild.specs.Rebuilds.{HasNamesDue}
 use Rattle.xfs_rebuild.specs.declared.names_due.NamesDue.{NamesDue}
 use Rattle.xfs_salvage.proofs.Ascending.{filtered}
 use Rattle.xfs_rename.specs.Lost.{lost_due}
-use Rattle.xfs_rename.specs.Nodes.{nodes_of_files}
+use Rattle.xfs_changes.specs.Nodes.{nodes_of_files}
 use Rattle.xfs_rename.specs.Renames.{IsSettling, LacksCluster}
-use Rattle.xfs_rename.specs.Settled.{fork_rooms}
-use Rattle.xfs_rename.specs.declared.lost.Lost.{Lost}
+use Rattle.xfs_changes.specs.Rooms.{fork_rooms}
+use Rattle.xfs_changes.specs.declared.lost_found.Lost.{Lost}
 use Rattle.xfs_rename.specs.declared.settling.Settling.{Settling}
 
 lower : (low high : ℕ) (ns : List ℕ) → low ≤ high → NumbersAscend high ns → NumbersAscend low ns

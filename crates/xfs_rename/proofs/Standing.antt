@@ -1,7 +1,6 @@
 -- Records that stand by number.
-use Rattle.std.proofs.Common.{ℕ, zero, suc, ◌+◌, ◌<◌, ◌≤◌, List, [], ◌∷◌, ◌++◌, length, get_or, map, arith}
+use Rattle.std.proofs.Common.{ℕ, zero, suc, ◌<◌, ◌≤◌, List, [], ◌∷◌, length, get_or, arith}
 use Rattle.std.specs.List.Sorted.{IsNonDecreasingBy}
-use Rattle.xfs_naming.specs.Naming.{NumbersAscend}
 use Rattle.xfs_request.specs.Slots.{StandByNumber}
 
 -- each number is at least the least
@@ -25,30 +24,3 @@ stands n low (x ∷ xs) first up = (first x (omega arith), stands n (n x) xs (λ
 
 pub stands_from_none : {A : Type 0} (n : A → ℕ) (xs : List A) → IsNonDecreasingBy n xs → StandByNumber n 0 xs
 stands_from_none n xs up = stands n 0 xs (λ d h. omega arith) up
-
--- a lower least
-pub lowered : {A : Type 0} (n : A → ℕ) (low high : ℕ) (xs : List A) → low ≤ high → StandByNumber n high xs → StandByNumber n low xs
-lowered n low high [] le s = tt
-lowered n low high (x ∷ xs) le s = (omega (arith, le, s.0), s.1)
-
--- numbers that ascend, as those of records
-pub ascending_stand : {A : Type 0} (n : A → ℕ) (low : ℕ) (xs : List A) → NumbersAscend low (map n xs) → StandByNumber n low xs
-ascending_stand n low [] up = tt
-ascending_stand n low (x ∷ xs) up = (up.0, lowered n (n x) (n x + 1) xs (omega arith) (ascending_stand n (n x + 1) xs up.1))
-
--- records from one number to another
-abbrev pub Spans : {A : Type 0} → (A → ℕ) → ℕ → ℕ → List A → Type 0
-Spans n low high [] = low ≤ high
-Spans n low high (x ∷ xs) = (low ≤ n x) × Spans n (n x) high xs
-
-pub spans_then : {A : Type 0} (n : A → ℕ) (low high : ℕ) (xs ys : List A) → Spans n low high xs → StandByNumber n high ys → StandByNumber n low (xs ++ ys)
-spans_then n low high [] ys s t = lowered n low high ys s t
-spans_then n low high (x ∷ xs) ys s t = (s.0, spans_then n (n x) high xs ys s.1 t)
-
-pub spans_both : {A : Type 0} (n : A → ℕ) (low mid high : ℕ) (xs ys : List A) → Spans n low mid xs → Spans n mid high ys → Spans n low high (xs ++ ys)
-spans_both {A = A} n low mid high [] ys s t = from ys t
-  where
-    from : (zs : List A) → Spans n mid high zs → Spans n low high zs
-    from [] u = omega (arith, s, u)
-    from (z ∷ zs) u = (omega (arith, s, u.0), u.1)
-spans_both n low mid high (x ∷ xs) ys s t = (s.0, spans_both n (n x) mid high xs ys s.1 t)

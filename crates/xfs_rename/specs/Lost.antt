@@ -13,8 +13,8 @@ use Rattle.xfs_place.specs.Sparing.{spared_of}
 use Rattle.xfs_place.specs.declared.chunk_search.ChunkAsk.{ChunkAsk}
 use Rattle.xfs_place.specs.declared.faults.Unplaced.TheVariants.{LostFound}
 use Rattle.xfs_rebuild.specs.declared.names_due.NamesDue.{NamesDue}
-use Rattle.xfs_rename.specs.Nodes.{first_of_cluster, firsts_of_clusters, nodes_of_files}
-use Rattle.xfs_rename.specs.declared.lost.Lost.{Lost}
+use Rattle.xfs_changes.specs.Nodes.{first_of_cluster, firsts_of_clusters, nodes_of_files}
+use Rattle.xfs_changes.specs.declared.lost_found.Lost.{Lost}
 
 -- a number that no inode has
 abbrev pub no_inode : ℕ

@@ -8,8 +8,9 @@ use Rattle.xfs_place.specs.declared.wanted.Wanted.{Wanted}
 use Rattle.xfs_request.specs.Chunks.{inodes_wanted}
 use Rattle.xfs_salvage.specs.Kept.{run_of_cluster, taken_of}
 use Rattle.xfs_rebuild.specs.declared.names_due.NamesDue.{NamesDue}
-use Rattle.xfs_rename.specs.Settled.{replaced_blocks, settled, staying_files}
-use Rattle.xfs_rename.specs.declared.lost.Lost.{Lost}
+use Rattle.xfs_changes.specs.Replaced.{replaced_blocks}
+use Rattle.xfs_rename.specs.Settled.{settled, staying_files}
+use Rattle.xfs_changes.specs.declared.lost_found.Lost.{Lost}
 
 -- what is asked of the volume
 unfoldable pub wanted_with : Geometry → NamesDue → Lost → WantedNames → List Object → Wanted

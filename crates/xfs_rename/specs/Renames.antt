@@ -1,7 +1,7 @@
 -- What a rebuild is in which names change: the names that are wanted, the directories that are built, where they stand, the bytes of the
 -- plan, and what of it is written.
-use Rattle.std.specs.Prelude.{◌≡◌, ℕ, ◌⊎◌, List, [], length, map, ⊤}
-use Rattle.std.specs.List.{All}
+use Rattle.std.specs.Prelude.{◌≡◌, ℕ, Bool, ◌==◌, ◌&&◌, not, ◌⊎◌, List, [], length, map, ⊤}
+use Rattle.std.specs.List.{All, filter}
 use Rattle.xfs_disk.specs.Blocks.{Image}
 use Rattle.xfs_disk.specs.declared.stamp.Stamp.{Stamp}
 use Rattle.xfs_geom.specs.Volumes.{volume_of}
@@ -23,6 +23,7 @@ use Rattle.xfs_names.specs.declared.place.LostPlace.TheVariants.{Cluster}
 use Rattle.xfs_render.specs.declared.bytes.Bytes.{Bytes}
 use Rattle.xfs_render.specs.declared.wanted_slots.SlotWanted.{SlotWanted}
 use Rattle.xfs_request.specs.Cycles.{kept_lsns}
+use Rattle.xfs_request.specs.Requests.{is_freed}
 use Rattle.xfs_request.specs.declared.seen.SlotSeen.{SlotSeen}
 use Rattle.xfs_salvage.specs.declared.found.Salvaged.{Salvaged}
 use Rattle.xfs_rebuild.specs.Bytes.{AreAtHand, AreReadOf, file_lsns}
@@ -30,14 +31,16 @@ use Rattle.xfs_rebuild.specs.Rebuilds.{IsRenderedLeft}
 use Rattle.xfs_rebuild.specs.declared.faults.RebuildFault.{RebuildFault}
 use Rattle.xfs_rebuild.specs.declared.faults.RebuildFault.TheVariants as faults
 use Rattle.xfs_rebuild.specs.declared.names_due.NamesDue.{NamesDue}
-use Rattle.xfs_rename.specs.Forks.{forks_of}
+use Rattle.xfs_changes.specs.Forks.{forks_of}
 use Rattle.xfs_rename.specs.Lost.{cluster_found, lost_due, place_due}
-use Rattle.xfs_rename.specs.Nodes.{nodes_of_files}
+use Rattle.xfs_changes.specs.Nodes.{nodes_of_files}
 use Rattle.xfs_built.specs.Asks.{blocks_of_built, objects_of}
 use Rattle.xfs_rename.specs.Objects.{wanted_with}
-use Rattle.xfs_rename.specs.Settled.{AreWanted, fork_rooms, settled, staying_files}
-use Rattle.xfs_rename.specs.Slots.{changes_of, cleared_beside, with_changes}
-use Rattle.xfs_rename.specs.declared.forks.DirectoryFork.{DirectoryFork}
+use Rattle.xfs_rename.specs.Settled.{AreWanted, settled, staying_files}
+use Rattle.xfs_changes.specs.Rooms.{fork_rooms}
+use Rattle.xfs_changes.specs.Slots.{changes_of, with_changes}
+use Rattle.xfs_changes.specs.declared.forks.DirectoryFork.{DirectoryFork}
+use Rattle.xfs_changes.specs.declared.lost_found.Lost.{Lost}
 use Rattle.xfs_rename.specs.declared.planning.Renamed.{Renamed}
 use Rattle.xfs_rename.specs.declared.settling.Settling.{Settling}
 
@@ -60,6 +63,13 @@ placed_forks g n w built p = forks_of (volume_of g) (old_files n w) built p.cuts
 
 abbrev pub renamed_slots : Geometry → Stamp → NamesDue → WantedNames → List DirectoryFork → List SlotWanted
 renamed_slots g s n w forks = with_changes (changes_of (volume_of g) s (lost_due g n) (old_files n w) forks w.links) n.slots
+
+-- the slots that were to be freed, but for that of lost+found
+abbrev pub stays_freed : Lost → SlotWanted → Bool
+stays_freed l w = is_freed w && not (l.made && w.ino == l.new)
+
+abbrev pub cleared_beside : Lost → List SlotWanted → ℕ
+cleared_beside l slots = length (filter (stays_freed l) slots)
 
 -- the log sequence numbers that then stay
 abbrev pub lsns_due : Geometry → Image → Salvaged → List SlotSeen → List ℕ

@@ -1,21 +1,17 @@
 -- What the volume has once its names are settled: its files without the blocks of directories that are built anew, its inodes in use, its
 -- clusters and entries.
-use Rattle.std.specs.Prelude.{◌≡◌, ℕ, Bool, ◌*◌, ◌==◌, ◌&&◌, not, nat_lt, if◌then◌else◌, List, [], ◌∷◌, ◌++◌, map}
-use Rattle.std.specs.List.{filter, flat_map, range_with_len}
+use Rattle.std.specs.Prelude.{◌≡◌, ℕ, Bool, not, nat_lt, if◌then◌else◌, List, [], ◌∷◌, ◌++◌, map}
+use Rattle.std.specs.List.{filter}
 use Rattle.xfs_disk.specs.Lists.{is_among}
-use Rattle.xfs_word.specs.declared.extents.Extent.{Extent}
-use Rattle.xfs_geom.specs.Groups.{block_of_address}
-use Rattle.xfs_geom.specs.Volumes.{Volume}
 use Rattle.xfs_geom.specs.declared.geometry.Geometry.{Geometry}
 use Rattle.xfs_volume.specs.declared.files.FileRec.{FileRec}
 use Rattle.xfs_names.specs.Rebuilt.{wanted_rebuilt}
 use Rattle.xfs_names.specs.Wanted.{wanted_entries, wanted_links, wanted_parents}
-use Rattle.xfs_names.specs.declared.building.ForkRoom.{ForkRoom}
 use Rattle.xfs_names.specs.declared.records.WantedNames.{WantedNames}
 use Rattle.xfs_salvage.specs.declared.found.Salvaged.{Salvaged}
 use Rattle.xfs_rebuild.specs.declared.names_due.NamesDue.{NamesDue}
-use Rattle.xfs_rename.specs.Nodes.{nodes_of_files}
-use Rattle.xfs_rename.specs.declared.lost.Lost.{Lost}
+use Rattle.xfs_changes.specs.Nodes.{nodes_of_files}
+use Rattle.xfs_changes.specs.declared.lost_found.Lost.{Lost}
 
 -- the names are those that are wanted of these files, with lost+found where it stands
 pub record AreWanted (g : Geometry) (n : NamesDue) (l : Lost) (w : WantedNames) : Type 0 where
@@ -37,19 +33,6 @@ is_old fresh f = not (is_among fresh f.ino)
 
 unfoldable pub staying_files : List ℕ → List ℕ → List FileRec → List FileRec
 staying_files rebuilt fresh files = map (staying_file rebuilt) (filter (is_old fresh) files)
-
--- the blocks that are given up
-abbrev pub numbers_of_extent : Volume → Extent → List ℕ
-numbers_of_extent v e = range_with_len (block_of_address v.agblocks v.agblklog e.start) e.count
-
-abbrev pub blocks_of_data : Volume → FileRec → List ℕ
-blocks_of_data v f = flat_map (numbers_of_extent v) f.extents ++ f.tree
-
-abbrev pub blocks_replaced : Volume → List ℕ → FileRec → List ℕ
-blocks_replaced v rebuilt f = if is_among rebuilt f.ino then blocks_of_data v f else []
-
-unfoldable pub replaced_blocks : Volume → List ℕ → List FileRec → List ℕ
-replaced_blocks v rebuilt files = flat_map (blocks_replaced v rebuilt) files
 
 -- a number among others that ascend
 abbrev pub with_number_in_order : ℕ → List ℕ → List ℕ
@@ -73,13 +56,3 @@ settled n l w = record {
   entries = [];
   dirs = [];
 }
-
--- how many bytes the data fork of a directory that is built anew may have, where its attribute fork stands behind it
-abbrev pub room_before_attributes : FileRec → ForkRoom
-room_before_attributes f = record { ino = f.ino; bytes = 8 * f.core.forkoff }
-
-abbrev pub has_attributes_behind : List ℕ → FileRec → Bool
-has_attributes_behind rebuilt f = is_among rebuilt f.ino && not (f.core.forkoff == 0)
-
-abbrev pub fork_rooms : List ℕ → List FileRec → List ForkRoom
-fork_rooms rebuilt files = map room_before_attributes (filter (has_attributes_behind rebuilt) files)

@@ -3,7 +3,7 @@
 //!
 //! `xfs_rebuild` refuses such a volume and says what it found (`NamesDue`). From there on: which names there are to be
 //! (`xfs_links`, `xfs_names`), where lost+found stands, which blocks the directories that are built anew take, what of slots
-//! changes by that, and the blocks that then differ from those on the disk. The disk is only read.
+//! changes by that (`xfs_changes`), and the blocks that then differ from those on the disk. The disk is only read.
 //!
 //! A caller would write:
 //!
@@ -15,17 +15,10 @@
 //! ```
 #![tactic(auto)]
 
-mod changes;
-mod fork_rooms;
-mod forks;
 mod lost;
-mod nodes;
-mod objects;
 mod planning;
-mod replaced;
 mod settled;
 mod settling;
-mod slots;
 mod wanting;
 
 pub use planning::{Renamed, plan_names};

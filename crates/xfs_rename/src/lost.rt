@@ -11,11 +11,11 @@ ghost use Rattle.xfs_place.specs.Pool.{IsRunOf};
 ghost use Rattle.xfs_place.specs.declared.faults.PlaceFault.TheVariants as place_fault;
 ghost use Rattle.xfs_place.specs.declared.faults.Unplaced.TheVariants.{LostFound};
 ghost use Rattle.xfs_rename.specs.Lost.{IsFirst, cluster_ask, cluster_found, lost_in, lost_due, place_due, spared as all_spared};
-ghost use Rattle.xfs_rename.specs.Nodes.{first_of_cluster, nodes_of_files};
+ghost use Rattle.xfs_changes.specs.Nodes.{first_of_cluster, nodes_of_files};
 ghost use Rattle.xfs_rename.specs.Renames.{LacksCluster};
 
-use crate::nodes::firsts_of_clusters;
 use std::alloc::Global;
+use xfs_changes::{Lost, firsts_of_clusters};
 use xfs_disk::NoMemory;
 use xfs_geom::{Geometry, Run};
 use xfs_links::{DecidedNames, NodeRec};
@@ -29,19 +29,6 @@ const CLUSTER_BLOCKS: u32 = 4;
 
 /// A number that no inode has.
 const NO_INODE: u64 = u32::MAX as u64;
-
-/// Where lost+found stands.
-#[derive(Debug, Drop)]
-pub struct Lost {
-    /// It is made anew.
-    pub made: bool,
-    /// Its inode, where it is made anew; else a number that no inode has.
-    pub new: u64,
-    /// The first block of the cluster that is made for it: one, or none.
-    pub added: Records<u64>,
-    /// Of each group the AG block from which on its blocks are spared for its trees.
-    pub spared: Records<u32>,
-}
 
 /// Where it stands, by the names that are decided for the files.
 ///

@@ -6,11 +6,11 @@ ghost use Rattle.xfs_disk.specs.Lists.{is_among};
 ghost use Rattle.xfs_naming.specs.Naming.{NumbersAscend};
 ghost use Rattle.xfs_rename.specs.Settled.{fresh_with, staying_file, staying_files, with_number_in_order, with_numbers};
 
-use crate::lost::Lost;
 use std::alloc::Global;
+use xfs_changes::Lost;
 use xfs_disk::NoMemory;
 use xfs_salvage::is_among;
-use xfs_volume::{FileRec, Records};
+use xfs_volume::{Extents, FileRec, Records};
 
 /// The files that were there before, without the blocks of directories that are built anew.
 #[tactic(auto, unfolding(crate::specs::Settled::staying_files))]
@@ -54,7 +54,7 @@ fn leave_data(alloc: Global, rebuilt: &[u64], file: &mut FileRec)
     ensures { file.new ≡ staying_file rebuilt.now file.old }
 {
     if is_among(rebuilt, file.ino) {
-        file.extents = Records::from_vec(Vec::new(alloc));
+        file.extents = Extents::new(alloc);
         file.tree = Records::from_vec(Vec::new(alloc));
     }
 }

@@ -9,12 +9,11 @@ ghost use Rattle.xfs_place.specs.declared.faults.PlaceFault.TheVariants as place
 ghost use Rattle.xfs_place.specs.declared.faults.Unplaced.TheVariants.{LostFound};
 ghost use Rattle.xfs_rebuild.specs.Rebuilds.{HasNamesDue};
 ghost use Rattle.xfs_rename.specs.Renames.{IsSettling, LacksCluster};
-ghost use Rattle.xfs_rename.specs.Settled.{fork_rooms};
+ghost use Rattle.xfs_changes.specs.Rooms.{fork_rooms};
 
-use crate::fork_rooms::fork_rooms;
-use crate::lost::{Lost, find_lost};
-use crate::nodes::{can_connect, nodes_of_files};
+use crate::lost::find_lost;
 use std::alloc::Global;
+use xfs_changes::{Lost, can_connect, fork_rooms, nodes_of_files};
 use xfs_disk::{NoMemory, Stamp};
 use xfs_geom::Geometry;
 use xfs_links::connect;

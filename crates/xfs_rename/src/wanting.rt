@@ -9,12 +9,10 @@ ghost use Rattle.xfs_rename.specs.Objects.{wanted_with};
 ghost use Rattle.xfs_rename.specs.Renames.{IsSettling};
 ghost use Rattle.xfs_rename.specs.Settled.{fresh_with, settled, staying_files, with_numbers};
 
-use crate::lost::Lost;
-use crate::objects::objects_of;
-use crate::replaced::push_replaced;
 use crate::settled::{fresh_with, staying_files, with_numbers};
 use crate::settling::Settling;
 use std::alloc::Global;
+use xfs_changes::{Lost, objects_of, push_replaced};
 use xfs_disk::{NoMemory, Stamp};
 use xfs_geom::{Geometry, Run};
 use xfs_heads::LogState;

@@ -11,7 +11,7 @@ use Rattle.xfs_volume.specs.declared.files.FileRec.{FileRec}
 use Rattle.xfs_render.specs.Slots.{IsMadeSlot, SetsFork, SetsLinks}
 use Rattle.xfs_render.specs.declared.wanted_slots.SlotBase.TheVariants.{Kept}
 use Rattle.xfs_render.specs.declared.wanted_slots.SlotWanted.{SlotWanted}
-use Rattle.xfs_rename.specs.Forks.{attribute_blocks_at, extents_fork, short_fork}
+use Rattle.xfs_changes.specs.Forks.{attribute_blocks_at, extents_fork, short_fork}
 use Rattle.xfs_built.specs.Extents.{extent_of_run}
 use Rattle.xfs_built.specs.Asks.{stands_in_blocks}
 use Rattle.xfs_built.specs.Directories.{BuiltRuns, IsBuiltFile, IsFileOf, IsShortFileOf}

@@ -17,7 +17,7 @@ use Rattle.xfs_rebuild.specs.declared.names_due.NamesDue.{NamesDue}
 use Rattle.xfs_restored.specs.Rewriting.{IsRewritten}
 use Rattle.xfs_built.specs.Asks.{stands_in_blocks}
 use Rattle.xfs_rename.specs.Renames.{IsRenamed}
-use Rattle.xfs_rename.specs.Settled.{fork_rooms, has_attributes_behind, room_before_attributes}
+use Rattle.xfs_changes.specs.Rooms.{fork_rooms, has_attributes_behind, room_before_attributes}
 use Rattle.xfs_rename.specs.declared.planning.Renamed.{Renamed}
 use Rattle.xfs_built.specs.Directories.{BuiltRuns, HasOwnCounts, asks_of_built, built_runs, runs_of_built, with_runs}
 use Rattle.xfs_restored.specs.Reading.{HasFileExtents}

@@ -19,10 +19,10 @@ use Rattle.xfs_salvage.specs.Kept.{own_inodes}
 use Rattle.xfs_scan.specs.declared.evidence.Evidence.{Evidence}
 use Rattle.xfs_rebuild.specs.declared.names_due.NamesDue.{NamesDue}
 use Rattle.xfs_rename.specs.Lost.{lost_due}
-use Rattle.xfs_rename.specs.Nodes.{nodes_of_files}
+use Rattle.xfs_changes.specs.Nodes.{nodes_of_files}
 use Rattle.xfs_rename.specs.Renames.{old_files}
-use Rattle.xfs_rename.specs.Slots.{lost_core}
-use Rattle.xfs_rename.specs.declared.lost.Lost.{Lost}
+use Rattle.xfs_changes.specs.Slots.{lost_core}
+use Rattle.xfs_changes.specs.declared.lost_found.Lost.{Lost}
 use Rattle.xfs_rename.specs.declared.planning.Renamed.{Renamed}
 use Rattle.xfs_built.specs.Directories.{BuiltRuns}
 use Rattle.xfs_restored.specs.DueFiles.{new_core, stated_crc}

@@ -30,7 +30,7 @@ use Rattle.xfs_rebuild.specs.Bytes.{file_lsns, is_of_file}
 use Rattle.xfs_rebuild.specs.Names as Names
 use Rattle.xfs_restored.proofs.FileLsns.{in_order, place_claimed}
 use Rattle.xfs_rename.specs.Settled.{staying_file, without_data}
-use Rattle.xfs_rename.specs.declared.lost.Lost.{Lost}
+use Rattle.xfs_changes.specs.declared.lost_found.Lost.{Lost}
 use Rattle.xfs_built.specs.Directories.{BuiltRuns}
 use Rattle.xfs_restored.specs.Relinking.{extents_built, file_with_links, with_built}
 

@@ -31,8 +31,9 @@ use Rattle.xfs_restored.specs.DueFiles.{stated_crc}
 use Rattle.xfs_rename.specs.Lost.{lost_due}
 use Rattle.xfs_built.specs.Asks.{objects_of, stands_in_blocks}
 use Rattle.xfs_rename.specs.Renames.{old_files}
-use Rattle.xfs_rename.specs.Settled.{fork_rooms, settled, staying_file, without_data}
-use Rattle.xfs_rename.specs.declared.lost.Lost.{Lost}
+use Rattle.xfs_changes.specs.Rooms.{fork_rooms}
+use Rattle.xfs_rename.specs.Settled.{settled, staying_file, without_data}
+use Rattle.xfs_changes.specs.declared.lost_found.Lost.{Lost}
 use Rattle.xfs_built.specs.Directories.{BuiltRuns, asks_of_built, built_runs, runs_of_built, with_runs}
 use Rattle.xfs_restored.specs.Numbered.{AreNumbered, IsNumberOf, numbers_linked}
 use Rattle.xfs_restored.specs.Relinking.{built_at, built_of, extents_built, file_due, first_built, file_with_links, renamed_files, with_built}

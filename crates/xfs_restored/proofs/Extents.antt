@@ -15,7 +15,7 @@ use Rattle.xfs_kinds.specs.FileTreeLaws.{bmbt_kind}
 use Rattle.xfs_kinds.specs.FileTrees.{extent_of}
 use Rattle.xfs_inode.specs.Forks.{fork_extent}
 use Rattle.xfs_built.specs.Extents.{extent_of_run}
-use Rattle.xfs_rename.specs.Forks.{run_bytes}
+use Rattle.xfs_changes.specs.Forks.{run_bytes}
 use Rattle.xfs_built.specs.Directories.{FitsExtent}
 
 pub run_fits : (g : Geometry) (r : Run) → r.offset_word < 2 ^ 54 → r.start < g.dblocks → r.count < 2 ^ 21 → FitsExtent (volume_of g) r

@@ -26,7 +26,7 @@ use Rattle.xfs_inode.specs.declared.reading.SlotRead.TheVariants as Read
 use Rattle.xfs_inodebuild.specs.declared.forks.ForkWanted.{ForkWanted}
 use Rattle.xfs_render.specs.Slots.{SetsFork}
 use Rattle.xfs_built.specs.Extents.{extent_of_run}
-use Rattle.xfs_rename.specs.Forks.{run_bytes}
+use Rattle.xfs_changes.specs.Forks.{run_bytes}
 use Rattle.xfs_restored.proofs.Changes.{attr_is}
 use Rattle.xfs_restored.proofs.Readings.{attrs_have, file_has, stated}
 use Rattle.xfs_built.specs.Directories.{FitsExtent}

@@ -22,7 +22,7 @@ use Rattle.xfs_inode.specs.declared.reading.SlotRead.TheVariants as Read
 use Rattle.xfs_inodebuild.specs.declared.forks.ForkWanted.{ForkWanted}
 use Rattle.xfs_render.specs.Slots.{DropsAttrs, IsMadeSlot, SetsFork, SetsLinks}
 use Rattle.xfs_built.specs.Extents.{extent_of_run}
-use Rattle.xfs_rename.specs.Forks.{extents_fork, short_fork}
+use Rattle.xfs_changes.specs.Forks.{extents_fork, short_fork}
 use Rattle.xfs_restored.specs.DueFiles.{plain_core}
 use Rattle.xfs_restored.proofs.Changes.{attr_is, drops_read, links_forks, links_read, with_core}
 use Rattle.xfs_restored.proofs.Readings.{HasData, file_has, stated}

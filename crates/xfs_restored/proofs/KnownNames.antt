@@ -25,12 +25,12 @@ use Rattle.xfs_request.specs.declared.seen.SlotSeen.{SlotSeen}
 use Rattle.xfs_rebuild.specs.Names as Names
 use Rattle.xfs_rebuild.specs.declared.names_due.NamesDue.{NamesDue}
 use Rattle.xfs_restored.specs.DueFiles.{kept_inodes, new_core}
-use Rattle.xfs_rename.specs.Forks.{attribute_blocks, attribute_blocks_at}
+use Rattle.xfs_changes.specs.Forks.{attribute_blocks, attribute_blocks_at}
 use Rattle.xfs_rename.specs.Lost.{lost_due}
 use Rattle.xfs_rename.specs.Renames.{old_files, placed_forks, renamed_slots}
 use Rattle.xfs_rename.specs.Settled.{settled, staying_file}
-use Rattle.xfs_rename.specs.Slots.{lost_core}
-use Rattle.xfs_rename.specs.declared.lost.Lost.{Lost}
+use Rattle.xfs_changes.specs.Slots.{lost_core}
+use Rattle.xfs_changes.specs.declared.lost_found.Lost.{Lost}
 use Rattle.xfs_rename.specs.declared.planning.Renamed.{Renamed}
 use Rattle.xfs_naming.specs.Naming.{file_at}
 use Rattle.xfs_restored.specs.Changes.{LinksAscend}

@@ -51,7 +51,8 @@ use Rattle.xfs_rename.specs.Lost.{lost_due}
 use Rattle.xfs_built.specs.Asks.{stands_in_blocks}
 use Rattle.xfs_rename.specs.Objects.{wanted_with}
 use Rattle.xfs_rename.specs.Renames.{old_files, placed_forks, renamed_slots, renamed_wanted}
-use Rattle.xfs_rename.specs.Settled.{fork_rooms, settled, staying_file}
+use Rattle.xfs_changes.specs.Rooms.{fork_rooms}
+use Rattle.xfs_rename.specs.Settled.{settled, staying_file}
 use Rattle.xfs_rename.specs.declared.planning.Renamed.{Renamed}
 use Rattle.xfs_naming.specs.Naming.{file_at}
 use Rattle.xfs_built.specs.Directories.{BuiltRuns, HasOwnCounts, StandsInRuns}

@@ -19,7 +19,7 @@ use Rattle.xfs_restored.specs.DueFiles.{linked_core}
 use Rattle.xfs_restored.proofs.Changes.{links_read}
 use Rattle.xfs_restored.proofs.Fresh.{empty_file, made_root, root_made_reads, system_made_reads}
 use Rattle.xfs_built.specs.Extents.{extent_of_run}
-use Rattle.xfs_rename.specs.Forks.{extents_fork, short_fork}
+use Rattle.xfs_changes.specs.Forks.{extents_fork, short_fork}
 use Rattle.xfs_built.specs.Asks.{stands_in_blocks}
 use Rattle.xfs_built.specs.Directories.{BuiltRuns}
 use Rattle.xfs_restored.specs.Reading.{IsFreshDirectory, forked_core, forked_file, fresh_directory_slot}

@@ -24,7 +24,7 @@ use Rattle.xfs_scan.specs.declared.evidence.Evidence.{Evidence}
 use Rattle.xfs_rebuild.specs.Names as Names
 use Rattle.xfs_rebuild.specs.declared.names_due.NamesDue.{NamesDue}
 use Rattle.xfs_rename.specs.Lost.{no_inode}
-use Rattle.xfs_rename.specs.Nodes.{nodes_of_files}
+use Rattle.xfs_changes.specs.Nodes.{nodes_of_files}
 use Rattle.xfs_rename.specs.declared.planning.Renamed.{Renamed}
 use Rattle.xfs_restored.specs.DueFiles.{new_core}
 use Rattle.xfs_restored.specs.Relinking.{IsRelinked}

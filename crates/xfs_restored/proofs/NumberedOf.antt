@@ -14,7 +14,7 @@ use Rattle.xfs_scan.specs.declared.evidence.Evidence.{Evidence}
 use Rattle.xfs_volume.specs.declared.files.FileRec.{FileRec}
 use Rattle.xfs_rebuild.specs.declared.names_due.NamesDue.{NamesDue}
 use Rattle.xfs_rename.specs.Lost.{lost_due}
-use Rattle.xfs_rename.specs.Nodes.{nodes_of_files}
+use Rattle.xfs_changes.specs.Nodes.{nodes_of_files}
 use Rattle.xfs_rename.specs.Renames.{old_files}
 use Rattle.xfs_rename.specs.declared.planning.Renamed.{Renamed}
 use Rattle.xfs_restored.specs.Numbered.{AreNumbered, IsNumberOf, numbers_linked}

@@ -22,7 +22,7 @@ use Rattle.xfs_rebuild.specs.declared.names_due.NamesDue.{NamesDue}
 use Rattle.xfs_built.specs.Asks.{stands_in_blocks}
 use Rattle.xfs_rename.specs.Objects.{wanted_with}
 use Rattle.xfs_rename.specs.Renames.{renamed_wanted}
-use Rattle.xfs_rename.specs.Settled.{fork_rooms}
+use Rattle.xfs_changes.specs.Rooms.{fork_rooms}
 use Rattle.xfs_built.specs.Directories.{BuiltRuns, HasOwnCounts, StandsInRuns, StandsIn, asks_of_built, built_runs, runs_of_built, with_runs}
 use Rattle.xfs_built.specs.Pieces.{IsLowRun, IsPlacedRun}
 use Rattle.xfs_restored.specs.Reading.{HasFileExtents}

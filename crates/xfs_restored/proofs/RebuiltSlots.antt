@@ -37,7 +37,7 @@ use Rattle.xfs_request.specs.Slots.{own_blocks}
 use Rattle.xfs_restored.specs.DueFiles.{due_core, linked_core, plain_core}
 use Rattle.xfs_restored.proofs.Changes.{attr_is}
 use Rattle.xfs_restored.proofs.Readings.{HasAttrs, HasData, attrs_have, bare_is, file_has}
-use Rattle.xfs_rename.specs.Forks.{attribute_blocks, extents_fork, short_fork}
+use Rattle.xfs_changes.specs.Forks.{attribute_blocks, extents_fork, short_fork}
 use Rattle.xfs_built.specs.Extents.{extent_of_run}
 use Rattle.xfs_built.specs.Asks.{stands_in_blocks}
 use Rattle.xfs_rename.specs.Settled.{without_data}

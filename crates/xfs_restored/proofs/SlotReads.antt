@@ -45,10 +45,11 @@ use Rattle.xfs_restored.proofs.Fresh.{freed_reads}
 use Rattle.xfs_restored.proofs.InKept.{kept_read, of_kept}
 use Rattle.xfs_restored.proofs.RootInodes.{low_root}
 use Rattle.xfs_restored.proofs.Wanted.{state_is}
-use Rattle.xfs_rename.specs.Forks.{attribute_blocks, attribute_blocks_at}
+use Rattle.xfs_changes.specs.Forks.{attribute_blocks, attribute_blocks_at}
 use Rattle.xfs_rename.specs.Lost.{lost_due}
-use Rattle.xfs_rename.specs.Settled.{fork_rooms, settled, staying_file, without_data}
-use Rattle.xfs_rename.specs.Slots.{lost_core}
+use Rattle.xfs_changes.specs.Rooms.{fork_rooms}
+use Rattle.xfs_rename.specs.Settled.{settled, staying_file, without_data}
+use Rattle.xfs_changes.specs.Slots.{lost_core}
 use Rattle.xfs_rename.specs.declared.planning.Renamed.{Renamed}
 use Rattle.xfs_naming.specs.Naming.{file_at}
 use Rattle.xfs_built.specs.Directories.{BuiltRuns}

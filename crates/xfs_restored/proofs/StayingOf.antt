@@ -25,7 +25,7 @@ use Rattle.xfs_rebuild.specs.declared.names_due.NamesDue.{NamesDue}
 use Rattle.xfs_rename.specs.Lost.{lost_due}
 use Rattle.xfs_rename.specs.Renames.{old_files, placed_forks, renamed_slots}
 use Rattle.xfs_rename.specs.Settled.{fresh_with, settled, staying_file, without_data}
-use Rattle.xfs_rename.specs.declared.lost.Lost.{Lost}
+use Rattle.xfs_changes.specs.declared.lost_found.Lost.{Lost}
 use Rattle.xfs_rename.specs.declared.planning.Renamed.{Renamed}
 use Rattle.xfs_built.specs.Directories.{with_runs}
 use Rattle.xfs_restored.proofs.NewSlots.{added_made}

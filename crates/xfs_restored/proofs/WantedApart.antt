@@ -21,7 +21,7 @@ use Rattle.xfs_rebuild.proofs.Known.{known_clusters_lie}
 use Rattle.xfs_rebuild.specs.Rebuilds.{HasNamesDue}
 use Rattle.xfs_rebuild.specs.declared.names_due.NamesDue.{NamesDue}
 use Rattle.xfs_rename.specs.Lost.{lost_due}
-use Rattle.xfs_rename.specs.Nodes.{first_of_cluster}
+use Rattle.xfs_changes.specs.Nodes.{first_of_cluster}
 use Rattle.xfs_rename.specs.Objects.{wanted_with}
 use Rattle.xfs_rename.specs.Renames.{IsRenamed}
 use Rattle.xfs_rename.specs.Settled.{staying_files}

@@ -27,15 +27,15 @@ use Rattle.xfs_volume.specs.declared.files.FileRec.{FileRec}
 use Rattle.xfs_rebuild.specs.Names.{due_files, linked_file, linked_files, made_files, new_file}
 use Rattle.xfs_rebuild.specs.declared.names_due.NamesDue.{NamesDue}
 use Rattle.xfs_restored.specs.DueFiles.{new_core}
-use Rattle.xfs_rename.specs.Forks.{attribute_blocks, attribute_blocks_at, first_attribute_blocks, fork_listed, forks_of}
+use Rattle.xfs_changes.specs.Forks.{attribute_blocks, attribute_blocks_at, first_attribute_blocks, fork_listed, forks_of}
 use Rattle.xfs_rename.specs.Lost.{lost_due}
-use Rattle.xfs_rename.specs.Nodes.{nodes_of_files}
+use Rattle.xfs_changes.specs.Nodes.{nodes_of_files}
 use Rattle.xfs_built.specs.Asks.{stands_in_blocks}
 use Rattle.xfs_rename.specs.Renames.{old_files, placed_forks}
 use Rattle.xfs_rename.specs.Settled.{is_old, staying_file, staying_files, without_data}
-use Rattle.xfs_rename.specs.Slots.{first_fork, first_links, fork_at, links_held_at}
-use Rattle.xfs_rename.specs.declared.forks.DirectoryFork.{DirectoryFork}
-use Rattle.xfs_rename.specs.declared.lost.Lost.{Lost}
+use Rattle.xfs_changes.specs.Slots.{first_fork, first_links, fork_at, links_held_at}
+use Rattle.xfs_changes.specs.declared.forks.DirectoryFork.{DirectoryFork}
+use Rattle.xfs_changes.specs.declared.lost_found.Lost.{Lost}
 use Rattle.xfs_rename.specs.declared.planning.Renamed.{Renamed}
 use Rattle.xfs_restored.proofs.ForkRuns.{forks_go}
 use Rattle.xfs_built.specs.Directories.{BuiltRuns, asks_of_built, built_runs, runs_of_built, with_runs}

@@ -32,13 +32,13 @@ use Rattle.xfs_rebuild.specs.declared.names_due.NamesDue.{NamesDue}
 use Rattle.xfs_restored.proofs.Wanted.{file_wanted, listed, other_wanted, wanted_is}
 use Rattle.xfs_restored.specs.DueFiles.{kept_inodes, new_core}
 use Rattle.xfs_rename.specs.Lost.{lost_due}
-use Rattle.xfs_rename.specs.Nodes.{first_of_cluster}
+use Rattle.xfs_changes.specs.Nodes.{first_of_cluster}
 use Rattle.xfs_rename.specs.Renames.{old_files, placed_forks, renamed_slots}
 use Rattle.xfs_rename.specs.Settled.{settled, with_numbers}
-use Rattle.xfs_rename.specs.Slots.{base_made, change_listed, change_of, changes_of, changes_something, fork_at, free_change, free_changes, links_held_at, links_set, lost_core}
-use Rattle.xfs_rename.specs.declared.changes.SlotChange.{SlotChange}
-use Rattle.xfs_rename.specs.declared.forks.DirectoryFork.{DirectoryFork}
-use Rattle.xfs_rename.specs.declared.lost.Lost.{Lost}
+use Rattle.xfs_changes.specs.Slots.{base_made, change_listed, change_of, changes_of, changes_something, fork_at, free_change, free_changes, links_held_at, links_set, lost_core}
+use Rattle.xfs_changes.specs.declared.changes.SlotChange.{SlotChange}
+use Rattle.xfs_changes.specs.declared.forks.DirectoryFork.{DirectoryFork}
+use Rattle.xfs_changes.specs.declared.lost_found.Lost.{Lost}
 use Rattle.xfs_rename.specs.declared.planning.Renamed.{Renamed}
 use Rattle.xfs_restored.proofs.Changing.{changes_wanted}
 use Rattle.xfs_restored.proofs.DueSlots.{numbers_either}

@@ -40,8 +40,8 @@ use Rattle.xfs_restored.proofs.Wanted.{one_alone}
 use Rattle.xfs_restored.specs.DueFiles.{kept_inodes, new_core}
 use Rattle.xfs_restored.proofs.Handed.{kept_of_image}
 use Rattle.xfs_rename.specs.Lost.{added_for, lost_due, new_for, no_inode, place_due}
-use Rattle.xfs_rename.specs.Nodes.{first_of_cluster, firsts_of_clusters, nodes_of_files}
-use Rattle.xfs_rename.specs.declared.lost.Lost.{Lost}
+use Rattle.xfs_changes.specs.Nodes.{first_of_cluster, firsts_of_clusters, nodes_of_files}
+use Rattle.xfs_changes.specs.declared.lost_found.Lost.{Lost}
 use Rattle.xfs_rename.specs.declared.planning.Renamed.{Renamed}
 use Rattle.xfs_restored.proofs.NewSlots.{added_few, added_made}
 use Rattle.xfs_restored.proofs.Room.{links_ascend}

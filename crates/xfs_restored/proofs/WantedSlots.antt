@@ -20,7 +20,7 @@ use Rattle.xfs_requested.proofs.Spaced.{IsOf, wanted_of_ino}
 use Rattle.xfs_rebuild.specs.Names.{made_files, made_of, new_file}
 use Rattle.xfs_restored.specs.DueFiles.{kept_inodes, new_core}
 use Rattle.xfs_restored.proofs.Wanted.{listed, other_wanted}
-use Rattle.xfs_rename.specs.declared.changes.SlotChange.{SlotChange}
+use Rattle.xfs_changes.specs.declared.changes.SlotChange.{SlotChange}
 use Rattle.xfs_restored.specs.Changes.{SlotsAscend, first_change}
 
 -- a number that no change has is that of none

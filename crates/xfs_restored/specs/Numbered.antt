@@ -7,7 +7,7 @@ use Rattle.xfs_salvage.specs.declared.found.Salvaged.{Salvaged}
 use Rattle.xfs_volume.specs.declared.files.FileRec.{FileRec}
 use Rattle.xfs_rebuild.specs.Names.{linked_files}
 use Rattle.xfs_rename.specs.Settled.{staying_file}
-use Rattle.xfs_rename.specs.declared.lost.Lost.{Lost}
+use Rattle.xfs_changes.specs.declared.lost_found.Lost.{Lost}
 
 -- the numbers of the pairs of names and links
 abbrev pub numbers_linked : WantedNames → List ℕ

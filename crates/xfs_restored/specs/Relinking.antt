@@ -26,8 +26,8 @@ use Rattle.xfs_built.specs.Extents.{extent_of_run}
 use Rattle.xfs_rename.specs.Lost.{lost_due}
 use Rattle.xfs_built.specs.Asks.{stands_in_blocks}
 use Rattle.xfs_rename.specs.Renames.{IsRenamed, old_files}
-use Rattle.xfs_rename.specs.Slots.{lost_core}
-use Rattle.xfs_rename.specs.declared.lost.Lost.{Lost}
+use Rattle.xfs_changes.specs.Slots.{lost_core}
+use Rattle.xfs_changes.specs.declared.lost_found.Lost.{Lost}
 use Rattle.xfs_rename.specs.declared.planning.Renamed.{Renamed}
 use Rattle.xfs_built.specs.Directories.{BuiltRuns, with_runs}
 use Rattle.xfs_restored.specs.RunForks.{fork_of_runs}

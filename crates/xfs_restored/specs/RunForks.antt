@@ -5,9 +5,9 @@ use Rattle.xfs_volume.specs.declared.files.FileRec.{FileRec}
 use Rattle.xfs_inodebuild.specs.declared.forks.ForkWanted.{ForkWanted}
 use Rattle.xfs_built.specs.Asks.{stands_in_blocks}
 use Rattle.xfs_built.specs.Directories.{BuiltRuns}
-use Rattle.xfs_rename.specs.Forks.{attribute_blocks_at, extents_fork, short_fork}
-use Rattle.xfs_rename.specs.Slots.{fork_at}
-use Rattle.xfs_rename.specs.declared.forks.DirectoryFork.{DirectoryFork}
+use Rattle.xfs_changes.specs.Forks.{attribute_blocks_at, extents_fork, short_fork}
+use Rattle.xfs_changes.specs.Slots.{fork_at}
+use Rattle.xfs_changes.specs.declared.forks.DirectoryFork.{DirectoryFork}
 
 -- the fork of a directory by its runs, beside the attributes of its file; and that directory finds it among some forks
 abbrev pub fork_of_runs : Volume → List FileRec → BuiltRuns → ForkWanted

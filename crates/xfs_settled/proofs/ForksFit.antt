@@ -23,13 +23,13 @@ use Rattle.xfs_protected.proofs.Members.{Member, all_members, filter_member, mem
 use Rattle.xfs_volume.specs.declared.files.FileRec.{FileRec}
 use Rattle.xfs_rebuild.specs.Changes.{can_fork}
 use Rattle.xfs_rebuild.specs.declared.names_due.NamesDue.{NamesDue}
-use Rattle.xfs_rename.specs.Forks.{attribute_blocks_at, extents_fork, fork_listed, forks_of, short_fork}
+use Rattle.xfs_changes.specs.Forks.{attribute_blocks_at, extents_fork, fork_listed, forks_of, short_fork}
 use Rattle.xfs_built.specs.Asks.{stands_in_blocks}
 use Rattle.xfs_rename.specs.Objects.{wanted_with}
 use Rattle.xfs_rename.specs.Renames.{AreBuilt, old_files, placed_forks, renamed_wanted}
-use Rattle.xfs_rename.specs.Settled.{fork_rooms}
-use Rattle.xfs_rename.specs.Slots.{first_fork, fork_at}
-use Rattle.xfs_rename.specs.declared.forks.DirectoryFork.{DirectoryFork}
+use Rattle.xfs_changes.specs.Rooms.{fork_rooms}
+use Rattle.xfs_changes.specs.Slots.{first_fork, fork_at}
+use Rattle.xfs_changes.specs.declared.forks.DirectoryFork.{DirectoryFork}
 use Rattle.xfs_restored.proofs.BuiltRooms.{all_own}
 use Rattle.xfs_restored.proofs.Extents.{run_fits, runs_long}
 use Rattle.xfs_restored.proofs.FewRuns.{all_few}

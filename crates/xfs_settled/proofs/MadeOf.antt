@@ -13,7 +13,7 @@ use Rattle.xfs_render.specs.declared.wanted_slots.SlotBase.{SlotBase}
 use Rattle.xfs_render.specs.declared.wanted_slots.SlotBase.TheVariants as Base
 use Rattle.xfs_render.specs.declared.wanted_slots.SlotWanted.{SlotWanted}
 use Rattle.xfs_rebuild.specs.Changes.{can_base, can_fork, can_make, is_whole_slot}
-use Rattle.xfs_rename.specs.declared.changes.SlotChange.{SlotChange}
+use Rattle.xfs_changes.specs.declared.changes.SlotChange.{SlotChange}
 use Rattle.xfs_restored.specs.Changes.{first_change, with_change}
 
 -- what can be made of a slot passes the test

@@ -41,8 +41,8 @@ use Rattle.xfs_restored.proofs.InKept.{file_inode}
 use Rattle.xfs_restored.proofs.RootInodes.{root_has}
 use Rattle.xfs_restored.specs.DueFiles.{kept_inodes, new_core}
 use Rattle.xfs_rename.specs.Lost.{added_for, first_added, lost_due, new_for, no_inode, place_due}
-use Rattle.xfs_rename.specs.Nodes.{first_of_cluster, firsts_of_clusters, nodes_of_files}
-use Rattle.xfs_rename.specs.declared.lost.Lost.{Lost}
+use Rattle.xfs_changes.specs.Nodes.{first_of_cluster, firsts_of_clusters, nodes_of_files}
+use Rattle.xfs_changes.specs.declared.lost_found.Lost.{Lost}
 use Rattle.xfs_restored.proofs.NewSlots.{added_made}
 use Rattle.xfs_restored.proofs.WantedApart.{cluster_low, inode_low, inodes_apart}
 use Rattle.xfs_restored.proofs.WantedLists.{mades_either, mades_have, mades_keep, none_used}

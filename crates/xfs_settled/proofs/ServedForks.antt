@@ -22,7 +22,7 @@ use Rattle.xfs_rebuild.specs.declared.names_due.NamesDue.{NamesDue}
 use Rattle.xfs_built.specs.Asks.{asks_for, object_of, objects_of, stands_in_blocks}
 use Rattle.xfs_rename.specs.Objects.{wanted_with}
 use Rattle.xfs_rename.specs.Renames.{AreBuilt, renamed_wanted}
-use Rattle.xfs_rename.specs.Settled.{fork_rooms}
+use Rattle.xfs_changes.specs.Rooms.{fork_rooms}
 use Rattle.xfs_built.proofs.Fronts.{all_append, front_is}
 use Rattle.xfs_restored.proofs.Planned.{all_of_both}
 use Rattle.xfs_built.proofs.Sized.{built_sized}

@@ -43,13 +43,13 @@ use Rattle.xfs_rebuild.specs.declared.names_due.NamesDue.{NamesDue}
 use Rattle.xfs_restored.proofs.Wanted.{wanted_is}
 use Rattle.xfs_restored.specs.DueFiles.{new_core}
 use Rattle.xfs_rename.specs.Lost.{lost_due}
-use Rattle.xfs_rename.specs.Nodes.{firsts_of_clusters, nodes_of_files}
+use Rattle.xfs_changes.specs.Nodes.{firsts_of_clusters, nodes_of_files}
 use Rattle.xfs_rename.specs.Renames.{AreBuilt, old_files, placed_forks, renamed_slots, renamed_wanted}
-use Rattle.xfs_rename.specs.Settled.{fork_rooms}
-use Rattle.xfs_rename.specs.Slots.{base_made, change_listed, change_of, changes_of, changes_something, fork_at, free_change, free_changes, links_held_at, links_set, lost_core}
-use Rattle.xfs_rename.specs.declared.changes.SlotChange.{SlotChange}
-use Rattle.xfs_rename.specs.declared.forks.DirectoryFork.{DirectoryFork}
-use Rattle.xfs_rename.specs.declared.lost.Lost.{Lost}
+use Rattle.xfs_changes.specs.Rooms.{fork_rooms}
+use Rattle.xfs_changes.specs.Slots.{base_made, change_listed, change_of, changes_of, changes_something, fork_at, free_change, free_changes, links_held_at, links_set, lost_core}
+use Rattle.xfs_changes.specs.declared.changes.SlotChange.{SlotChange}
+use Rattle.xfs_changes.specs.declared.forks.DirectoryFork.{DirectoryFork}
+use Rattle.xfs_changes.specs.declared.lost_found.Lost.{Lost}
 use Rattle.xfs_restored.proofs.BuiltRooms.{whole_room}
 use Rattle.xfs_restored.proofs.Changing.{changes_wanted}
 use Rattle.xfs_restored.proofs.Links.{changes_ascend}

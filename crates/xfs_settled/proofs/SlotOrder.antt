@@ -24,9 +24,9 @@ use Rattle.xfs_restored.specs.DueFiles.{kept_inodes}
 use Rattle.xfs_rename.specs.Lost.{lost_due}
 use Rattle.xfs_rename.specs.Renames.{old_files, renamed_slots}
 use Rattle.xfs_rename.specs.Settled.{AreWanted}
-use Rattle.xfs_rename.specs.Slots.{changed, changed_alone, changes_of, put_first, slots_before, with_changes}
-use Rattle.xfs_rename.specs.declared.changes.SlotChange.{SlotChange}
-use Rattle.xfs_rename.specs.declared.forks.DirectoryFork.{DirectoryFork}
+use Rattle.xfs_changes.specs.Slots.{changed, changed_alone, changes_of, put_first, slots_before, with_changes}
+use Rattle.xfs_changes.specs.declared.changes.SlotChange.{SlotChange}
+use Rattle.xfs_changes.specs.declared.forks.DirectoryFork.{DirectoryFork}
 use Rattle.xfs_restored.proofs.Links.{changes_ascend}
 use Rattle.xfs_restored.proofs.NewSlots.{added_few}
 use Rattle.xfs_restored.proofs.Room.{links_ascend}

@@ -23,7 +23,7 @@ use Rattle.xfs_dirbuild.specs.Forms.{form_of}
 use Rattle.xfs_naming.specs.Naming.{entries_in}
 use Rattle.xfs_place.specs.Objects.{asks_of}
 use Rattle.xfs_place.specs.declared.wanted.ObjectKind.TheVariants.{Directory}
-use Rattle.xfs_rename.specs.Forks.{attribute_blocks_at, forks_of, run_bytes, runs_in}
+use Rattle.xfs_changes.specs.Forks.{attribute_blocks_at, forks_of, run_bytes, runs_in}
 use Rattle.xfs_built.specs.Asks.{asked_run, asks_for, blocks_of_built, object_of, objects_of, stands_in_blocks}
 use Rattle.xfs_render.specs.Objects.{written_blocks, written_in}
 use Rattle.xfs_built.specs.Directories.{HasOwnCounts}

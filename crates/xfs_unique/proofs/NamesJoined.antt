@@ -19,13 +19,14 @@ use Rattle.xfs_rebuild.specs.Bytes.{AreAtHand}
 use Rattle.xfs_rebuild.specs.Changes.{CanChangeAll}
 use Rattle.xfs_rebuild.specs.Rebuilds.{AreNamesDue, Ground, slots_asked}
 use Rattle.xfs_rebuild.specs.declared.names_due.NamesDue.{NamesDue}
-use Rattle.xfs_rename.specs.Forks.{forks_of}
+use Rattle.xfs_changes.specs.Forks.{forks_of}
 use Rattle.xfs_rename.specs.Lost.{lost_due}
 use Rattle.xfs_built.specs.Asks.{blocks_of_built}
 use Rattle.xfs_rename.specs.Objects.{wanted_with}
 use Rattle.xfs_rename.specs.Renames.{AreBuilt, AreRenamedBytes, IsRenamed, lsns_due, old_files, placed_forks, renamed_slots, renamed_wanted}
-use Rattle.xfs_rename.specs.Settled.{fork_rooms, settled}
-use Rattle.xfs_rename.specs.declared.forks.DirectoryFork.{DirectoryFork}
+use Rattle.xfs_changes.specs.Rooms.{fork_rooms}
+use Rattle.xfs_rename.specs.Settled.{settled}
+use Rattle.xfs_changes.specs.declared.forks.DirectoryFork.{DirectoryFork}
 use Rattle.xfs_rename.specs.declared.planning.Renamed.{Renamed}
 use Rattle.xfs_render.proofs.ReadyObjects.{objects_counted}
 use Rattle.xfs_render.specs.Clusters.{CanCluster}

@@ -17,7 +17,7 @@ use Rattle.xfs_place.specs.declared.wanted.Wanted.{Wanted}
 use Rattle.xfs_rebuild.specs.Rebuilds.{AreNamesDue, Ground}
 use Rattle.xfs_rebuild.specs.declared.names_due.NamesDue.{NamesDue}
 use Rattle.xfs_rename.specs.Settled.{AreWanted}
-use Rattle.xfs_rename.specs.declared.lost.Lost.{Lost}
+use Rattle.xfs_changes.specs.declared.lost_found.Lost.{Lost}
 
 pub names_one : (g : Geometry) (n : NamesDue) (l : Lost) (w x : WantedNames) → AreWanted g n l w → AreWanted g n l x → w ≡ x
 names_one g n l w x a b =

@@ -21,10 +21,10 @@ use Rattle.xfs_render.specs.Plans.{HoldsPlan}
 use Rattle.xfs_render.specs.declared.bytes.Bytes.{Bytes}
 use Rattle.xfs_empty.specs.Planning.{StandsFor}
 use Rattle.xfs_rebuild.specs.declared.names_due.NamesDue.{NamesDue}
-use Rattle.xfs_rename.specs.Forks.{forks_of}
+use Rattle.xfs_changes.specs.Forks.{forks_of}
 use Rattle.xfs_built.specs.Asks.{blocks_of_built, objects_of, stands_in_blocks}
 use Rattle.xfs_rename.specs.Renames.{IsRenamed, renamed_wanted}
-use Rattle.xfs_rename.specs.Settled.{fork_rooms}
+use Rattle.xfs_changes.specs.Rooms.{fork_rooms}
 use Rattle.xfs_rename.specs.declared.planning.Renamed.{Renamed}
 use Rattle.xfs_built.specs.Directories.{BuiltRuns, HasOwnCounts, StandsInRuns, ReadsSo, with_runs}
 use Rattle.xfs_restored.specs.RunForks.{FindsFork}

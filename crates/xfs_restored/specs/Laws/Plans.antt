@@ -17,7 +17,7 @@ use Rattle.xfs_rendered.specs.Standing.{IsStanding}
 use Rattle.xfs_rebuild.specs.declared.names_due.NamesDue.{NamesDue}
 use Rattle.xfs_restored.specs.Rewriting.{IsRewritten}
 use Rattle.xfs_rename.specs.Lost.{lost_due}
-use Rattle.xfs_rename.specs.Nodes.{first_of_cluster}
+use Rattle.xfs_changes.specs.Nodes.{first_of_cluster}
 use Rattle.xfs_rename.specs.Renames.{IsRenamed, old_files, placed_forks, renamed_slots, renamed_wanted}
 use Rattle.xfs_rename.specs.Settled.{AreWanted, settled}
 use Rattle.xfs_rename.specs.declared.planning.Renamed.{Renamed}

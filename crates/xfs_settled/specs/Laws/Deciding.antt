@@ -7,7 +7,7 @@ use Rattle.xfs_links.specs.Entries.{AreEntries, AreFiles, is_directory_number}
 use Rattle.xfs_scan.specs.declared.evidence.Evidence.{Evidence}
 use Rattle.xfs_rebuild.specs.Rebuilds.{Ground}
 use Rattle.xfs_rebuild.specs.declared.names_due.NamesDue.{NamesDue}
-use Rattle.xfs_rename.specs.Nodes.{nodes_of_files}
+use Rattle.xfs_changes.specs.Nodes.{nodes_of_files}
 use Rattle.xfs_settled.specs.Gathered.{IsGathered}
 
 -- Of what is gathered of any image names can be decided: its files ascend by numbers below 2^32 and are fewer (`files`), its entries

@@ -6,7 +6,7 @@ use Rattle.xfs_names.specs.Built.{CanBeBuilt}
 use Rattle.xfs_names.specs.declared.records.WantedNames.{WantedNames}
 use Rattle.xfs_rebuild.specs.declared.names_due.NamesDue.{NamesDue}
 use Rattle.xfs_rename.specs.Settled.{AreWanted}
-use Rattle.xfs_rename.specs.declared.lost.Lost.{Lost}
+use Rattle.xfs_changes.specs.declared.lost_found.Lost.{Lost}
 
 -- Where directories can be built of the names that are wanted, 32 bits hold the number of links of each file.
 abbrev pub SettledLinksFit : Type 0

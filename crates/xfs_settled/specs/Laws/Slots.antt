@@ -12,7 +12,7 @@ use Rattle.xfs_rebuild.specs.declared.names_due.NamesDue.{NamesDue}
 use Rattle.xfs_rename.specs.Lost.{lost_due}
 use Rattle.xfs_rename.specs.Renames.{renamed_slots}
 use Rattle.xfs_rename.specs.Settled.{AreWanted}
-use Rattle.xfs_rename.specs.declared.forks.DirectoryFork.{DirectoryFork}
+use Rattle.xfs_changes.specs.declared.forks.DirectoryFork.{DirectoryFork}
 use Rattle.xfs_settled.specs.Gathered.{IsGathered}
 
 -- With what names change of any image, what is wanted of slots stands by inode, whatever forks directories are given.

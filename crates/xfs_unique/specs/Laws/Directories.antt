@@ -8,7 +8,7 @@ use Rattle.xfs_names.specs.declared.building.BuiltDirectory.{BuiltDirectory}
 use Rattle.xfs_names.specs.declared.building.ForkRoom.{ForkRoom}
 use Rattle.xfs_names.specs.declared.records.WantedNames.{WantedNames}
 use Rattle.xfs_place.specs.declared.wanted.ObjectKind.TheVariants.{Directory}
-use Rattle.xfs_rename.specs.Forks.{forks_of}
+use Rattle.xfs_changes.specs.Forks.{forks_of}
 use Rattle.xfs_built.specs.Asks.{blocks_of_built, objects_of}
 use Rattle.xfs_unique.specs.Sectors.{CanBeSealed}
 use Rattle.xfs_volume.specs.declared.files.FileRec.{FileRec}

@@ -10,7 +10,7 @@ use Rattle.xfs_place.specs.declared.wanted.RunAsk.{RunAsk}
 use Rattle.xfs_rebuild.specs.Rebuilds.{AreNamesDue, Ground}
 use Rattle.xfs_rebuild.specs.declared.names_due.NamesDue.{NamesDue}
 use Rattle.xfs_rename.specs.Settled.{AreWanted}
-use Rattle.xfs_rename.specs.declared.lost.Lost.{Lost}
+use Rattle.xfs_changes.specs.declared.lost_found.Lost.{Lost}
 
 -- What is known of a volume in which a name has to change is given by what its rebuild goes by (`due`), and the names that are
 -- wanted by this and by where lost+found stands (`wanted`). Runs that have some blocks each are shared out among what is asked for in

@@ -5,7 +5,7 @@ use Rattle.xfs_names.specs.declared.place.LostPlace.TheVariants.{Cluster}
 use Rattle.xfs_place.specs.declared.faults.PlaceFault.{PlaceFault}
 use Rattle.xfs_place.specs.declared.faults.PlaceFault.TheVariants as fault
 use Rattle.xfs_place.specs.declared.faults.Unplaced.TheVariants.{LostFound}
-use Rattle.xfs_rename.specs.declared.lost.Lost.{Lost}
+use Rattle.xfs_changes.specs.declared.lost_found.Lost.{Lost}
 use Rattle.xfs_rename.specs.Lost.{cluster_found, lost_in, lost_due}
 use Rattle.xfs_rename.specs.Renames.{LacksCluster}
 use Rattle.xfs_rename.proofs.lost.find_lost.Goals as goal

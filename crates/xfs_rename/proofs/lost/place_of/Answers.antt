@@ -3,7 +3,7 @@ use Rattle.xfs_geom.specs.Volumes.{volume_of}
 use Rattle.xfs_links.specs.declared.records.NodeRec.{NodeRec}
 use Rattle.xfs_links.proofs.Deciding.{root_low}
 use Rattle.xfs_names.specs.Place.{lost_place}
-use Rattle.xfs_rename.specs.Nodes.{firsts_of_clusters}
+use Rattle.xfs_changes.specs.Nodes.{firsts_of_clusters}
 use Rattle.xfs_rename.proofs.lost.place_of.Goals as goal
 
 pub lost_place-requires-clause-root : goal.lost_place-requires-clause-root

@@ -1,7 +1,7 @@
 use Rattle.std.proofs.Common.{[], length, ap, ◌∙◌}
 use Rattle.xfs_disk.specs.Blocks.{Image}
 use Rattle.xfs_disk.proofs.Reading.{reads_on}
-use Rattle.xfs_rename.specs.Slots.{cleared_beside}
+use Rattle.xfs_rename.specs.Renames.{cleared_beside}
 use Rattle.xfs_rename.proofs.Agreed.{agreed_built, agreed_bytes, agreed_clusters, agreed_files, agreed_fits, agreed_lie, agreed_slots, agreed_stands, agreed_written, all_refused, all_renamed, cause_on, room_refused}
 use Rattle.xfs_rename.proofs.planning.plan_settled.Goals as goal
 

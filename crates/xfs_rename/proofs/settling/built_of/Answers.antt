@@ -3,7 +3,7 @@ use Rattle.std.specs.List.{All}
 use Rattle.std.specs.List.Sorted.{IsNonDecreasingBy}
 use Rattle.xfs_names.specs.Built.{IsBuiltAsWanted}
 use Rattle.xfs_names.specs.declared.building.ForkRoom.{ForkRoom}
-use Rattle.xfs_rename.specs.Settled.{fork_rooms}
+use Rattle.xfs_changes.specs.Rooms.{fork_rooms}
 use Rattle.xfs_rename.proofs.InTurn.{rooms_in_order}
 use Rattle.xfs_rename.proofs.settling.built_of.Goals as goal
 

@@ -4,7 +4,7 @@ use Rattle.xfs_naming.specs.Naming.{NumbersAscend}
 use Rattle.xfs_volume.specs.declared.directories.DirRec.{DirRec}
 use Rattle.xfs_rebuild.proofs.Grounds.{low_root}
 use Rattle.xfs_rebuild.proofs.Known.{known_taken}
-use Rattle.xfs_rename.specs.Nodes.{nodes_of_files}
+use Rattle.xfs_changes.specs.Nodes.{nodes_of_files}
 use Rattle.xfs_rename.proofs.SettledNames.{decided_is, dirs_ascend, rebuilt_ascends, settling_is}
 use Rattle.xfs_rename.proofs.settling.settle.Goals as goal
 

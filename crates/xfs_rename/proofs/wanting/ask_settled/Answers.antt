@@ -1,7 +1,7 @@
 use Rattle.std.proofs.Common.{◌∙◌, ◌++◌}
 use Rattle.xfs_geom.specs.Volumes.{volume_of}
 use Rattle.xfs_built.specs.Asks.{objects_of}
-use Rattle.xfs_rename.specs.Settled.{replaced_blocks}
+use Rattle.xfs_changes.specs.Replaced.{replaced_blocks}
 use Rattle.xfs_rename.proofs.SettledAsked.{first_forks, rooms_rise, settled_clusters, settled_files, wanted_is}
 use Rattle.xfs_rename.proofs.wanting.ask_settled.Goals as goal
 

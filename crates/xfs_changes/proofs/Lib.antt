@@ -1,0 +1,5 @@
+mod Firsts
+mod Merging
+mod PushedRange
+mod Pushing
+mod Taking

@@ -1,0 +1,5 @@
+pub mod Nodes
+pub mod Forks
+pub mod Rooms
+pub mod Replaced
+pub mod Slots

@@ -1,6 +1,0 @@
-use Rattle.std.proofs.Common.{◌≡◌, ◌++◌, drop}
-use Rattle.xfs_rename.specs.Settled.{fork_rooms}
-use Rattle.xfs_rename.proofs.fork_rooms.fork_rooms.Given as goal
-
-abbrev pub invariant-loop-file : goal.invariant-loop-file
-invariant-loop-file l = l.rooms.items ++ fork_rooms l.rebuilt (drop l.file-index l.files) ≡ fork_rooms l.rebuilt l.files

@@ -1,7 +1,0 @@
-use Rattle.std.proofs.Common.{◌≡◌, ◌+◌, drop}
-use Rattle.xfs_rename.specs.Slots.{slots_before}
-use Rattle.xfs_rename.proofs.slots.slots_before.Given as goal
-
-abbrev pub invariant-loop-index : goal.invariant-loop-index
-invariant-loop-index l =
-    l.index + slots_before l.change (drop l.index l.slots) ≡ slots_before l.change l.slots

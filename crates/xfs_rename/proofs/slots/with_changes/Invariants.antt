@@ -1,7 +1,0 @@
-use Rattle.std.proofs.Common.{◌≡◌, ◌++◌, drop}
-use Rattle.xfs_rename.specs.Slots.{with_changes}
-use Rattle.xfs_rename.proofs.slots.with_changes.Given as goal
-
-abbrev pub invariant-loop-change : goal.invariant-loop-change
-invariant-loop-change l =
-    l.all.items ++ with_changes (drop l.change-index l.changes) l.rest ≡ with_changes l.changes l.slots
