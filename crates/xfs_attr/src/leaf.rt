@@ -72,11 +72,9 @@ fn read_attribute(alloc: Global, block: &[u8], entry: LeafEntry) -> Result<Attr,
     requires { entry.nameidx + leaf_entry_size block.now entry ≤ length block.now }
     ensures { IfOk result (λ attribute. attribute ≡ attribute_of block.now entry) }
 {
-    let name = leaf_entry_name(block, entry).to_vec(alloc)?;
-    let value = value_of(block, entry).to_vec(alloc)?;
     Ok(Attr {
         flags: entry.flags,
-        name: Word::from_vec(name),
-        value: Word::from_vec(value),
+        name: Word::from_slice(alloc, leaf_entry_name(block, entry))?,
+        value: Word::from_slice(alloc, value_of(block, entry))?,
     })
 }

@@ -97,11 +97,9 @@ fn read_entry(alloc: Global, bytes: &[u8]) -> Result<Attr, NoMemory>
 {
     let name_size = NAMELEN.read(bytes) as usize;
     let value_size = VALUELEN.read(bytes) as usize;
-    let name = part(bytes, ENTRY_SIZE, name_size).to_vec(alloc)?;
-    let value = part(bytes, ENTRY_SIZE + name_size, value_size).to_vec(alloc)?;
     Ok(Attr {
         flags: FLAGS.read(bytes) as u8,
-        name: Word::from_vec(name),
-        value: Word::from_vec(value),
+        name: Word::from_slice(alloc, part(bytes, ENTRY_SIZE, name_size))?,
+        value: Word::from_slice(alloc, part(bytes, ENTRY_SIZE + name_size, value_size))?,
     })
 }

@@ -163,7 +163,7 @@ fn read_entry(alloc: Global, dir: u64, bytes: &[u8], at: usize) -> Result<EntryR
     let name_length = get8(bytes, at + NAMELEN.offset) as usize;
     Ok(EntryRec {
         dir,
-        name: Word::from_vec(Vec::from_slice(alloc, part(bytes, at + NAME, name_length))?),
+        name: Word::from_slice(alloc, part(bytes, at + NAME, name_length))?,
         ino: get64(bytes, at + INUMBER.offset),
         ftype: get8(bytes, at + NAME + name_length),
     })

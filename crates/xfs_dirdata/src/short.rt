@@ -122,7 +122,7 @@ fn read_entry(alloc: Global, dir: u64, form: &[u8], at: usize) -> Result<EntryRe
     let behind = at + NAME + name_length;
     Ok(EntryRec {
         dir,
-        name: Word::from_vec(Vec::from_slice(alloc, part(form, at + NAME, name_length))?),
+        name: Word::from_slice(alloc, part(form, at + NAME, name_length))?,
         ino: get32(form, behind + 1) as u64,
         ftype: get8(form, behind),
     })

@@ -100,7 +100,7 @@ fn push_block(
     ensures added { OnOk result (blocks.new.items ≡ blocks.old.items ++ record { offset = offset; bytes = block.now } ∷ []) }
     ensures below { OnOk result (OffsetsRise 0 blocks.new.items (offset + 1)) }
 {
-    let bytes = Word::from_vec(Vec::from_slice(alloc, block)?);
+    let bytes = Word::from_slice(alloc, block)?;
     blocks.push(KeptBlock { offset, bytes })?;
     Ok(())
 }

@@ -1,13 +1,18 @@
 //! Words: lists of bytes.
 
-ghost use Rattle.std.specs.Prelude.{◌≡◌, ℕ, List, length};
+ghost use Rattle.std.specs.Prelude.{◌≡◌, ℕ, List, IfOk};
 
+use smallvec::SmallVec;
+use std::alloc::{AllocError, Global};
 use std::marker::Model;
+
+/// The bytes that stand in a word itself: most names are as short, and then take no memory of their own.
+const SHORT: usize = 16;
 
 /// A word of a command line, a name or a line: a list of bytes.
 #[derive(Debug, Drop)]
 pub struct Word {
-    bytes: Vec<u8>,
+    bytes: SmallVec<u8, SHORT>,
 }
 
 impl Model for Word {
@@ -21,15 +26,18 @@ impl Word {
     pub fn from_vec(bytes: Vec<u8>) -> Word
         ensures { result ≡ bytes.items }
     {
-        Word { bytes }
+        Word {
+            bytes: SmallVec::from_vec(bytes),
+        }
     }
 
-    /// The bytes of the word.
-    pub fn into_vec(self) -> Vec<u8>
-        ensures { result.items ≡ self }
+    /// The word of a copy of these bytes.
+    pub fn from_slice(alloc: Global, bytes: &[u8]) -> Result<Word, AllocError>
+        ensures { IfOk result (λ word. word ≡ bytes.now) }
     {
-        let Word { bytes } = self;
-        bytes
+        Ok(Word {
+            bytes: SmallVec::from_slice(alloc, bytes)?,
+        })
     }
 
     /// The bytes of the word.

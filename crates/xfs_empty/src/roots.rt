@@ -107,7 +107,7 @@ fn root_fork(alloc: Global) -> Result<ForkWanted, NoMemory>
         size: EMPTY_FORM as u64,
         nblocks: 0,
         nextents: 0,
-        bytes: Word::from_vec(Vec::from_slice(alloc, &form)?),
+        bytes: Word::from_slice(alloc, &form)?,
     })
 }
 

@@ -142,7 +142,7 @@ fn local_fork(alloc: Global, bytes: &[u8]) -> Result<ForkWanted, NoMemory>
         size: bytes.len() as u64,
         nblocks: 0,
         nextents: 0,
-        bytes: Word::from_vec(Vec::from_slice(alloc, bytes)?),
+        bytes: Word::from_slice(alloc, bytes)?,
     })
 }
 
@@ -155,7 +155,7 @@ fn device_fork(alloc: Global, bytes: &[u8]) -> Result<ForkWanted, NoMemory>
         size: 0,
         nblocks: 0,
         nextents: 0,
-        bytes: Word::from_vec(Vec::from_slice(alloc, bytes)?),
+        bytes: Word::from_slice(alloc, bytes)?,
     })
 }
 

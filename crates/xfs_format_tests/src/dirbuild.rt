@@ -45,7 +45,7 @@ fn entry(alloc: Global, number: u32) -> Result<EntryRec, AllocError>
     ];
     Ok(EntryRec {
         dir: DIR,
-        name: Word::from_vec(Vec::from_slice(alloc, &name)?),
+        name: Word::from_slice(alloc, &name)?,
         ino: 131,
         ftype: 1,
     })

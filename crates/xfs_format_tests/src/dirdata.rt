@@ -31,7 +31,7 @@ fn entry(alloc: Global, name: &[u8], ino: u32, ftype: u8) -> Result<EntryRec, Al
 {
     Ok(EntryRec {
         dir: 0,
-        name: Word::from_vec(Vec::from_slice(alloc, name)?),
+        name: Word::from_slice(alloc, name)?,
         ino: ino as u64,
         ftype,
     })

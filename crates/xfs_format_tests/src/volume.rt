@@ -14,9 +14,20 @@ fn lists(rt: HostRuntime) {
         count: 5,
         unwritten: false,
     };
-    let extents = Extents::from_vec(must(&rt, vec![in rt.alloc(); extent]));
+    let mut extents = Extents::new(rt.alloc());
+    same!(rt; extents.as_slice(), &[][..]);
+    must(&rt, extents.push(extent));
     same!(rt; extents.as_slice(), &[extent][..]);
-    same!(rt; extents.into_vec().as_slice(), &[extent][..]);
+    let other = Extent {
+        offset: 8,
+        ..extent
+    };
+    must(&rt, extents.push(other));
+    same!(rt; extents.as_slice(), &[extent, other][..]);
+    let copy = must(&rt, Extents::from_slice(rt.alloc(), extents.as_slice()));
+    same!(rt; copy.as_slice(), &[extent, other][..]);
+    let list = Extents::from_vec(must(&rt, vec![in rt.alloc(); extent]));
+    same!(rt; list.as_slice(), &[extent][..]);
     let blocks = Blocks::from_vec(must(&rt, vec![in rt.alloc(); 20, 24]));
     same!(rt; blocks.as_slice(), &[20, 24][..]);
     same!(rt; blocks.into_vec().as_slice(), &[20, 24][..]);

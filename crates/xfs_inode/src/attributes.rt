@@ -22,7 +22,7 @@ use std::marker::Model;
 use xfs_attr::{AttrFault, Attrs, read_leaf, read_short_attributes};
 use xfs_disk::NoMemory;
 use xfs_geom::Geometry;
-use xfs_volume::{Core, Extents};
+use xfs_volume::{Core, Records};
 use xfs_word::{Extent, Seal, SealKind, part, sealed};
 
 /// The magic number of a leaf of attributes.
@@ -67,12 +67,12 @@ impl AttrHeld {
     }
 
     /// The attributes and the extents.
-    pub fn into_lists(self) -> (Attrs, Extents)
+    pub fn into_lists(self) -> (Attrs, Records<Extent>)
         ensures attrs { result.0 ≡ self.attrs }
         ensures extents { result.1 ≡ self.extents }
     {
         let AttrHeld { attrs, extents, .. } = self;
-        (attrs, Extents::from_vec(extents))
+        (attrs, Records::from_vec(extents))
     }
 }
 

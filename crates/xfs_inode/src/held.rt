@@ -21,7 +21,7 @@ use xfs_word::Extent;
 /// The extents of a data fork, and the blocks of their tree.
 #[derive(Drop)]
 pub struct DataHeld {
-    extents: Vec<Extent>,
+    extents: Extents,
     blocks: Vec<u64>,
 }
 
@@ -31,7 +31,7 @@ impl Model for DataHeld {
 
     ghost Value = { Contents Extent };
 
-    ghost view = { λ held. record { records = held.extents.items; blocks = held.blocks.items } };
+    ghost view = { λ held. record { records = held.extents; blocks = held.blocks.items } };
 }
 
 impl DataHeld {
@@ -55,7 +55,7 @@ impl DataHeld {
         ensures blocks { result.1 ≡ self.blocks }
     {
         let DataHeld { extents, blocks } = self;
-        (Extents::from_vec(extents), Blocks::from_vec(blocks))
+        (extents, Blocks::from_vec(blocks))
     }
 }
 
@@ -94,12 +94,12 @@ fn extents_held(alloc: Global, core: &Core, slot: &[u8]) -> Result<Option<DataHe
     }))
 }
 
-/// So many extents of the data fork, in a list that has no room for more: most files have one.
-fn list_extents(alloc: Global, slot: &[u8], count: usize) -> Result<Vec<Extent>, AllocError>
+/// So many extents of the data fork.
+fn list_extents(alloc: Global, slot: &[u8], count: usize) -> Result<Extents, AllocError>
     requires { 176 + 16 * count ≤ length slot.now }
-    ensures { IfOk result (λ extents. extents.items ≡ each_of count (fork_extent slot.now)) }
+    ensures { IfOk result (λ extents. extents ≡ each_of count (fork_extent slot.now)) }
 {
-    let mut extents = Vec::with_capacity(alloc, count)?;
+    let mut extents = Extents::with_capacity(alloc, count)?;
     for i in 0..count {
         extents.push(fork_extent(slot, i))?;
     }
@@ -127,7 +127,7 @@ fn whole_tree(alloc: Global, core: &Core, tree: &Tree<Bmbt>) -> Result<Option<Da
     if tree.records.len() != core.nextents as usize {
         return Ok(None);
     }
-    let extents = Vec::from_slice(alloc, tree.records.as_slice())?;
+    let extents = Extents::from_slice(alloc, tree.records.as_slice())?;
     let blocks = Vec::from_slice(alloc, tree.blocks.as_slice())?;
     Ok(Some(DataHeld { extents, blocks }))
 }
@@ -140,7 +140,7 @@ fn none_held(alloc: Global, core: &Core) -> Option<DataHeld>
         return None;
     }
     Some(DataHeld {
-        extents: Vec::new(alloc),
+        extents: Extents::new(alloc),
         blocks: Vec::new(alloc),
     })
 }

@@ -60,7 +60,7 @@ fn link_target(
     ensures { IfOk result (λ target. target ≡ link_target core.now slot.now (option_copied link.entry)) }
 {
     if core_type(core) == 10 && core.format == 1 {
-        return copied(alloc, part(slot, DATA_FORK, core.size as usize));
+        return Word::from_slice(alloc, part(slot, DATA_FORK, core.size as usize));
     }
     if core_type(core) == 10 && core.format == 2 {
         return target_in(alloc, core, link);
@@ -76,15 +76,8 @@ fn target_in(alloc: Global, core: &Core, link: Option<&[u8]>) -> Result<Word, Al
 {
     match link {
         None => Ok(Word::from_vec(Vec::new(alloc))),
-        Some(block) => copied(alloc, part(block, TARGET, core.size as usize)),
+        Some(block) => Word::from_slice(alloc, part(block, TARGET, core.size as usize)),
     }
-}
-
-/// A word of these bytes.
-fn copied(alloc: Global, bytes: &[u8]) -> Result<Word, AllocError>
-    ensures { IfOk result (λ word. word ≡ bytes.now) }
-{
-    Ok(Word::from_vec(bytes.to_vec(alloc)?))
 }
 
 /// The number of a device; 0 for another file.

@@ -161,7 +161,7 @@ pub fn copied(
         let entry = &entries[candidate.entry];
         copies.push(EntryRec {
             dir: entry.dir,
-            name: Word::from_vec(entry.name.bytes().to_vec(alloc)?),
+            name: Word::from_slice(alloc, entry.name.bytes())?,
             ino: entry.ino,
             ftype: entry.ftype,
         })?;

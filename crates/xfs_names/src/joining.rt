@@ -114,7 +114,7 @@ fn lost_entry(alloc: Global, root: u64, new: u64) -> Result<EntryRec, NoMemory>
 {
     Ok(EntryRec {
         dir: root,
-        name: Word::from_vec(Vec::from_slice(alloc, b"lost+found")?),
+        name: Word::from_slice(alloc, b"lost+found")?,
         ino: new,
         ftype: 0,
     })

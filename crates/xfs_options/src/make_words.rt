@@ -219,7 +219,7 @@ fn make_line(alloc: Global, given: &[Given], items: &[OptionItem]) -> Result<Mak
 fn copied(alloc: Global, bytes: &[u8]) -> Result<Word, NoMemory>
     ensures { IfOk result (λ word. word ≡ bytes.now) }
 {
-    Ok(Word::from_vec(Vec::from_slice(alloc, bytes)?))
+    Ok(Word::from_slice(alloc, bytes)?)
 }
 
 /// The last value of an option.

@@ -240,7 +240,7 @@ impl Reading {
         ensures place { self.new.place ≡ self.old.place }
         ensures given { IfOk result (λ _. self.new.given.items ≡ self.old.given.items ++ record { letter = letter; word = word; value = value.now } ∷ []) }
     {
-        let value = Word::from_vec(Vec::from_slice(alloc, value)?);
+        let value = Word::from_slice(alloc, value)?;
         self.given.push(Given {
             letter,
             word,

@@ -116,7 +116,7 @@ fn words_of(alloc: Global, text: &str) -> Result<Vec<Word>, AllocError> {
     let mut words = Vec::new(alloc);
     if !text.is_empty() {
         for word in text.split('|') {
-            words.push(Word::from_vec(Vec::from_slice(alloc, word.as_bytes())?))?;
+            words.push(Word::from_slice(alloc, word.as_bytes())?)?;
         }
     }
     Ok(words)

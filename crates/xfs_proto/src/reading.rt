@@ -435,5 +435,5 @@ fn device(kind: FileType, major: u32, minor: u32) -> ProtoKind
 fn copied(alloc: Global, bytes: &[u8]) -> Result<Word, NoMemory>
     ensures { IfOk result (λ word. word ≡ bytes.now) }
 {
-    Ok(Word::from_vec(Vec::from_slice(alloc, bytes)?))
+    Ok(Word::from_slice(alloc, bytes)?)
 }

@@ -13,7 +13,7 @@ pub fn read_words(rt: &impl Env, alloc: Global) -> Result<Vec<Word>, AllocError>
     if let Some(name) = read_word(rt, alloc, 0)?
         && is_tool(last_part(name.bytes()))
     {
-        words.push(Word::from_vec(Vec::from_slice(alloc, last_part(name.bytes()))?))?;
+        words.push(Word::from_slice(alloc, last_part(name.bytes()))?)?;
     }
     for at in 1..usize::MAX {
         match read_word(rt, alloc, at)? {

@@ -1,9 +1,11 @@
 //! Files, as they are read from an inode and the blocks that it names.
 
 use crate::cores::Core;
-use crate::lists::{Blocks, Extents};
+use crate::extents::Extents;
+use crate::lists::{Blocks, Records};
 use xfs_attr::Attrs;
 use xfs_disk::Word;
+use xfs_word::Extent;
 
 /// A file with all that its inode says of it.
 #[derive(Debug, Drop)]
@@ -14,7 +16,7 @@ pub struct FileRec {
     /// The extents of its data, in file order.
     pub extents: Extents,
     /// The extents of its attributes, in the order of the attribute fork.
-    pub attr_extents: Extents,
+    pub attr_extents: Records<Extent>,
     /// The block numbers of its tree of extents, level by level, each from the left.
     pub tree: Blocks,
     pub attrs: Attrs,

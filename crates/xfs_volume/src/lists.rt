@@ -3,7 +3,6 @@
 ghost use Rattle.std.specs.Prelude.{◌≡◌, ℕ, List};
 
 use std::marker::Model;
-use xfs_word::Extent;
 
 /// A list of records, which contracts see as the list of its items.
 #[derive(Debug, Drop)]
@@ -42,9 +41,6 @@ impl<T: Drop> Records<T> {
         self.items.as_slice()
     }
 }
-
-/// A list of extents.
-pub type Extents = Records<Extent>;
 
 /// A list of block numbers.
 pub type Blocks = Records<u64>;

@@ -304,8 +304,8 @@ impl Item for FileRec {
         FileRec {
             ino: core.ino,
             core,
-            extents: extents(rt, alloc, row),
-            attr_extents: extents(rt, alloc, row),
+            extents: Extents::from_vec(extents(rt, alloc, row)),
+            attr_extents: Records::from_vec(extents(rt, alloc, row)),
             tree: records(rt, alloc, row.text()),
             attrs: Attrs::from_vec(Vec::new(alloc)),
             target: Word::from_vec(Vec::new(alloc)),
@@ -315,10 +315,10 @@ impl Item for FileRec {
 }
 
 /// An extent from offset 0 on, where there is one: its start, its count and whether it is unwritten.
-fn extents(rt: &impl Abort, alloc: Global, row: &mut Row) -> Extents {
+fn extents(rt: &impl Abort, alloc: Global, row: &mut Row) -> Vec<Extent> {
     let mut extents = Vec::new(alloc);
     if row.is_read() {
-        return Records::from_vec(extents);
+        return extents;
     }
     if let Some(start) = row.optional(rt) {
         must(
@@ -331,7 +331,7 @@ fn extents(rt: &impl Abort, alloc: Global, row: &mut Row) -> Extents {
             }),
         );
     }
-    Records::from_vec(extents)
+    extents
 }
 
 /// Blocks.

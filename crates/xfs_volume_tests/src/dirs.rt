@@ -23,7 +23,7 @@ use xfs_geom::Geometry;
 use xfs_kinds::Bmbt;
 use xfs_runs::Steps;
 use xfs_tree::Kind;
-use xfs_volume::{Core, FileRec, Records};
+use xfs_volume::{Core, Extents, FileRec, Records};
 use xfs_word::{Extent, Seal, SealKind, put_part, put32, put64, seal};
 
 /// The identifier of the volume.
@@ -56,7 +56,7 @@ fn directory(rt: &impl Abort, alloc: Global, core: Core, count: u64, unwritten: 
     FileRec {
         ino: 131,
         core,
-        extents: Records::from_vec(must(rt, vec![in alloc; extent])),
+        extents: Extents::from_vec(must(rt, vec![in alloc; extent])),
         attr_extents: Records::from_vec(Vec::new(alloc)),
         tree: Records::from_vec(Vec::new(alloc)),
         attrs: Attrs::from_vec(Vec::new(alloc)),

@@ -44,7 +44,7 @@ fn file(rt: &impl Abort, alloc: Global, mode: u16, offset: u64) -> FileRec {
             ..ROOT
         },
         extents: Extents::from_vec(data),
-        attr_extents: Extents::from_vec(attr_extents),
+        attr_extents: Records::from_vec(attr_extents),
         tree: Blocks::from_vec(tree),
         attrs: Attrs::from_vec(Vec::new(alloc)),
         target: Word::from_vec(Vec::new(alloc)),

@@ -133,7 +133,7 @@ fn entries(alloc: Global) -> Result<ForkWanted, AllocError>
         size: 24,
         nblocks: 0,
         nextents: 0,
-        bytes: Word::from_vec(Vec::from_slice(alloc, &ENTRIES)?),
+        bytes: Word::from_slice(alloc, &ENTRIES)?,
     })
 }
 
@@ -146,6 +146,6 @@ fn extent(alloc: Global, bytes: &[u8; 16]) -> Result<ForkWanted, AllocError>
         size: 4096,
         nblocks: 1,
         nextents: 1,
-        bytes: Word::from_vec(Vec::from_slice(alloc, bytes)?),
+        bytes: Word::from_slice(alloc, bytes)?,
     })
 }

@@ -7,5 +7,5 @@ pub loop-i-preserved : goal.loop-i-preserved
 loop-i-preserved c =
     record {
       pushed = pushed (fork_extent c.args.slot.now) c.loop-i.i c.args.count
-          c.loop-i.extents.items c.push.new.self.items _ c.fork_extent.result (search rules) c.in_ok-push.ensures.items c.fork_extent.ensures c.loop-i.invariant.pushed;
+          c.loop-i.extents c.push.new.self _ c.fork_extent.result (search rules) c.in_ok-push.ensures c.fork_extent.ensures c.loop-i.invariant.pushed;
     }

@@ -6,5 +6,5 @@ use Rattle.xfs_inode.proofs.held.list_extents.Given as goal
 
 abbrev pub invariant-loop-i : goal.invariant-loop-i
 invariant-loop-i l = record {
-  pushed : l.extents.items ++ rest_of l.i l.count (fork_extent l.slot) ≡ each_of l.count (fork_extent l.slot);
+  pushed : l.extents ++ rest_of l.i l.count (fork_extent l.slot) ≡ each_of l.count (fork_extent l.slot);
 }
