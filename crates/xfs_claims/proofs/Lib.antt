@@ -1,3 +1,4 @@
+pub mod Arrived
 pub mod Gathered
 pub mod Ordered
 pub mod Numbers

@@ -28,10 +28,10 @@ cluster_kept held new block off more clusters files =
 
 -- a file whose cluster is kept and that meets nothing is kept
 pub file_kept : (held new : Holding) (file : FileClaim) → is_among held.clusters file.cluster ≡ true → meets_any held.blocks (spans_of file.runs) ≡ false
-    → new.blocks ≡ with_blocks held.blocks (spans_of file.runs) → new.clusters ≡ held.clusters → new.files ≡ insert_key nat_cmp held.files file.ino → new ≡ with_file held file
+    → new.blocks ≡ with_blocks held.blocks (spans_of file.runs) → new.clusters ≡ held.clusters → new.files ≡ with_number file.ino held.files → new ≡ with_file held file
 file_kept held new file stands off blocks clusters files =
     rw (stands, off) (same_holding new (record { blocks = with_blocks held.blocks (spans_of file.runs); clusters = held.clusters; files = with_number file.ino held.files })
-    blocks clusters (files ∙ insert_is file.ino held.files))
+    blocks clusters files)
 
 -- a file that meets something, or whose cluster is lost, changes nothing
 pub file_lost : (held : Holding) (file : FileClaim) → is_kept held file ≡ false → held ≡ with_file held file

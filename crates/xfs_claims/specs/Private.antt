@@ -1,3 +1,4 @@
 -- What the contracts of private functions alone cite.
+pub mod Arrived
 pub mod Held
 pub mod Places

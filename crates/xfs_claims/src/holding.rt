@@ -8,6 +8,7 @@ ghost use Rattle.xfs_claims.specs.Ranks.{run_count};
 ghost use Rattle.xfs_claims.specs.Keeping.{fixed_alone, with_cluster, with_clusters, with_file, with_files, EndsLow, IsClaim};
 ghost use Rattle.xfs_claims.specs.Private.Places.{file_at_place, IsFilePlace};
 
+use crate::arriving::in_ascending_order;
 use crate::claimants::{FileClaim, KeptClaims};
 use crate::ranks::FilePlace;
 use crate::taking::{meets_runs, take_runs};
@@ -30,7 +31,7 @@ pub(crate) struct TakenBlocks {
     /// The first blocks of the kept clusters.
     clusters: BTreeSet<u64>,
     /// The numbers of the kept files.
-    files: BTreeSet<u64>,
+    files: Vec<u64>,
 }
 
 impl TakenBlocks {
@@ -52,7 +53,7 @@ impl TakenBlocks {
         Ok(TakenBlocks {
             blocks,
             clusters: BTreeSet::new(alloc),
-            files: BTreeSet::new(alloc),
+            files: Vec::new(alloc),
         })
     }
 
@@ -102,7 +103,7 @@ impl TakenBlocks {
         let runs = file.runs.as_slice();
         if self.clusters.contains(&file.cluster) && !meets_runs(&self.blocks, runs, steps) {
             take_runs(&mut self.blocks, runs, steps)?;
-            self.files.insert(file.ino)?;
+            self.files.push(file.ino)?;
         }
         Ok(())
     }
@@ -130,8 +131,13 @@ impl TakenBlocks {
         ensures clusters { IfOk result (λ kept. kept.clusters ≡ (held_of self).clusters) }
         ensures files { IfOk result (λ kept. kept.files ≡ (held_of self).files) }
     {
-        let clusters = self.clusters.iter().copied().collect(alloc)?;
-        let files = self.files.iter().copied().collect(alloc)?;
+        let TakenBlocks {
+            clusters,
+            files,
+            ..
+        } = self;
+        let clusters = clusters.iter().copied().collect(alloc)?;
+        let files = in_ascending_order(alloc, files)?;
         Ok(KeptClaims {
             clusters: Records::from_vec(clusters),
             files: Records::from_vec(files),

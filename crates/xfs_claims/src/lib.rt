@@ -10,6 +10,7 @@
 //! ```
 #![tactic(auto)]
 
+mod arriving;
 mod claimants;
 mod holding;
 mod ranks;
