@@ -1,10 +1,10 @@
 //! What the volume has once its names are settled.
 
 ghost use Rattle.std.specs.Prelude.{◌≡◌, ◌≤◌, nat_lt, length, map, IfOk, OnOk};
-ghost use Rattle.std.specs.List.{prefix_len};
+ghost use Rattle.std.specs.List.{filter, prefix_len};
 ghost use Rattle.xfs_disk.specs.Lists.{is_among};
 ghost use Rattle.xfs_naming.specs.Naming.{NumbersAscend};
-ghost use Rattle.xfs_rename.specs.Settled.{fresh_with, staying_file, staying_files, with_number_in_order, with_numbers};
+ghost use Rattle.xfs_rename.specs.Settled.{fresh_with, is_old, staying_file, staying_files, with_number_in_order, with_numbers};
 
 use std::alloc::Global;
 use xfs_changes::Lost;
@@ -23,9 +23,19 @@ pub(crate) fn staying_files(
     requires rebuilt { NumbersAscend 0 rebuilt.now }
     ensures { result.items ≡ staying_files rebuilt.now fresh.now files.items }
 {
+    leave_all(alloc, rebuilt, old_files(fresh, files))
+}
+
+/// The files that were there before. Mostly none is made anew, and they are not gone through.
+fn old_files(fresh: &[u64], files: Vec<FileRec>) -> Vec<FileRec>
+    ensures { result.items ≡ filter (is_old fresh.now) files.items }
+{
+    if fresh.is_empty() {
+        return files;
+    }
     let mut files = files;
     files.retain(|file| !is_one_of(fresh, file.ino));
-    leave_all(alloc, rebuilt, files)
+    files
 }
 
 /// Has each of these directories among files give its blocks up.
