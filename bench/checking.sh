@@ -2,8 +2,13 @@
 # Measures `xfs xfs_repair -n` beside `xfs_repair -n` of xfsprogs on each image: wall time, time of the processors and peak
 # memory, the best of five runs in turn, and the three ratios. Needs xfsprogs, GNU time and ./xfs.
 #
-#   bench/checking.sh IMAGE..
+#   bench/checking.sh [-w WORKERS] IMAGE..
 set -eu
+workers=()
+if [ "${1-}" = -w ]; then
+  workers=(-w "$2")
+  shift 2
+fi
 top=$(cd "$(dirname "$0")/.." && pwd)
 work=$(mktemp -d)
 trap 'rm -rf "$work"' EXIT
@@ -16,7 +21,7 @@ for image in "$@"; do
   : > "$work/ours"
   : > "$work/theirs"
   for turn in 1 2 3 4 5; do
-    measure "$top/xfs" xfs_repair -n "$image" >> "$work/ours"
+    measure "$top/xfs" xfs_repair -n "${workers[@]}" "$image" >> "$work/ours"
     cp "$work/out" "$work/said"
     measure xfs_repair -n -f "$image" >> "$work/theirs"
   done

@@ -5,8 +5,13 @@
 # counters of the superblock. Then, on a volume with all files in one directory, a data block in the middle of it: its names are
 # lost, and what they named goes to lost+found. Needs xfsprogs, GNU time and ./xfs.
 #
-#   bench/salvaging.sh [FILES ..]
+#   bench/salvaging.sh [-w WORKERS] [FILES ..]
 set -eu
+workers=()
+if [ "${1-}" = -w ]; then
+  workers=(-w "$2")
+  shift 2
+fi
 top=$(cd "$(dirname "$0")/.." && pwd)
 work=$(mktemp -d)
 trap 'rm -rf "$work"' EXIT
@@ -44,7 +49,7 @@ beside() { # NAME: our repair and the other's of the damaged volume
   : > "$work/ours"
   : > "$work/theirs"
   for turn in 1 2 3 4 5; do
-    measure "$top/xfs" xfs_repair >> "$work/ours"
+    measure "$top/xfs" xfs_repair "${workers[@]}" >> "$work/ours"
     cp "$work/out" "$work/said"
     measure xfs_repair -f >> "$work/theirs"
   done
