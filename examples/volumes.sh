@@ -66,14 +66,15 @@ three_volumes() { # COUNT: the names in the largest directory
 }
 # a protofile of files of some blocks, 100 in a directory; their bytes stand in $work
 many() { # COUNT
-  local file
   head -c 3000 /dev/urandom > "$work/few"
   head -c 9000 /dev/urandom > "$work/more"
-  printf 'x 0 0\nd--755 0 0\n'
-  for ((file = 0; file < $1; file++)); do
-    ((file % 100)) || printf 'directory%d d--755 0 0\n' $((file / 100))
-    printf 'file%d ---644 0 0 %s\n' "$file" "$work/$([ $((file % 10)) = 0 ] && echo more || echo few)"
-    ((file % 100 - 99)) || printf '$\n'
-  done
-  printf '$\n'
+  awk -v count="$1" -v work="$work" 'BEGIN {
+    print "x 0 0\nd--755 0 0"
+    for (file = 0; file < count; file++) {
+      if (file % 100 == 0) printf "directory%d d--755 0 0\n", file / 100
+      printf "file%d ---644 0 0 %s/%s\n", file, work, file % 10 ? "few" : "more"
+      if (file % 100 == 99) print "$"
+    }
+    print "$"
+  }'
 }
