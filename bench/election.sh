@@ -1,7 +1,8 @@
 #!/usr/bin/env bash
 # Measures the election of the geometry from the backups of images whose block 0 is zeros, beside `dd bs=1M` of the same file to nothing:
-# 16 GB of holes, and 4 GB of which 3.6 are data. Time of the best of five runs in turn, peak memory, and the ratio of the times. Needs
-# xfsprogs, GNU time, 4 GB of free disk and ./xfs.
+# 16 GB of holes, and 4 GB of which 3.6 are data. Time of the best of five runs in turn, peak memory, and the ratio of the times. A session
+# of `xfs_db` elects and reads no block but the one that it prints, so what is measured is an election and no more. Needs xfsprogs, GNU
+# time, 4 GB of free disk and ./xfs.
 set -eu
 top=$(cd "$(dirname "$0")/.." && pwd)
 work=$(mktemp -d)
@@ -26,7 +27,7 @@ beside() { # NAME: our election and dd of the same file
   : > "$work/ours"
   : > "$work/theirs"
   for turn in 1 2 3 4 5; do
-    measure "$top/xfs" xfs_repair -n "$work/volume.img" >> "$work/ours"
+    measure "$top/xfs" xfs_db -r -c 'sb 0' -c 'print blocksize' "$work/volume.img" >> "$work/ours"
     cp "$work/out" "$work/said"
     measure dd if="$work/volume.img" of=/dev/null bs=1M >> "$work/theirs"
   done
