@@ -31,6 +31,6 @@ fixed_tests words sector = map (λ (w : FixedWord). (w.word, field_of sector w.o
 unfoldable pub fixed_fault : List ℕ → Option ℕ
 fixed_fault sector = first_false (fixed_tests fixed_words sector)
 
--- a word of the code's table without its field's name and form
+-- a word of the code's table as the definition has it
 abbrev pub fixed_word : Fixed → FixedWord
-fixed_word f = fixed_row f.word f.field.offset f.field.width f.number
+fixed_word f = fixed_row f.word f.offset f.width f.number

@@ -1,7 +1,11 @@
 //! Backup superblocks that agree with the volume's geometry.
 
-ghost use Rattle.std.specs.Prelude.{◌≡◌, ℕ, length};
-ghost use Rattle.xfs_geom.specs.Superblocks.{agrees_on_inode, is_agreeing, states_volume};
+ghost use Rattle.std.specs.Prelude.{◌≡◌, ℕ, ◌+◌, ◌^◌, ◌<◌, ◌&&◌, length, is_none};
+ghost use Rattle.xfs_word.specs.Seal.{is_sealed};
+ghost use Rattle.xfs_geom.specs.Features.{refused_feature};
+ghost use Rattle.xfs_geom.specs.Fixed.{fixed_fault};
+ghost use Rattle.xfs_geom.specs.Superblocks.{agrees_on_inode, is_agreeing, states_volume, super_seal};
+ghost use Rattle.xfs_geom.specs.Private.Words.{states_numbers, states_inodes};
 ghost use Rattle.xfs_geom.specs.Parts.{HasParts};
 ghost use Rattle.xfs_geom.specs.Stated.{stated};
 ghost use Rattle.xfs_geom.specs.Volumes.{volume_of};
@@ -21,10 +25,7 @@ pub fn agrees(g: &Geometry, sector: &[u8]) -> bool
     requires { length sector.now ≡ 512 }
     ensures { result ≡ is_agreeing (volume_of g.now) sector.now }
 {
-    if !sealed(&super_seal(), sector) {
-        return false;
-    }
-    if refused_feature(sector).is_some() || fixed_fault(sector).is_some() {
+    if !is_sound(sector) {
         return false;
     }
     let stated = Stated::read(sector);
@@ -34,6 +35,16 @@ pub fn agrees(g: &Geometry, sector: &[u8]) -> bool
     states_volume(g, &stated, sector)
 }
 
+/// Whether a superblock is sealed, and has the features and the fixed words of every volume.
+fn is_sound(sector: &[u8]) -> bool
+    requires { length sector.now ≡ 512 }
+    ensures { result ≡ (is_sealed super_seal sector.now && is_none (refused_feature sector.now) && is_none (fixed_fault sector.now)) }
+{
+    sealed(&super_seal(), sector)
+        && refused_feature(sector).is_none()
+        && fixed_fault(sector).is_none()
+}
+
 /// Whether a superblock has the volume's values of what makes its geometry.
 fn states_volume(g: &Geometry, held: &Stated, sector: &[u8]) -> bool
     requires sector { length sector.now ≡ 512 }
@@ -41,21 +52,33 @@ fn states_volume(g: &Geometry, held: &Stated, sector: &[u8]) -> bool
     requires parts { HasParts held.now }
     ensures { result ≡ states_volume (volume_of g.now) sector.now }
 {
-    if held.dblocks != g.dblocks || held.agblocks != g.agblocks || held.agcount != g.agcount {
-        return false;
-    }
-    if held.agblklog != g.agblklog || held.log() != g.log || held.logblocks != g.logblocks {
-        return false;
-    }
-    if held.logsectlog != g.logsectlog {
-        return false;
-    }
-    if part(sector, UUID.offset, UUID.width) != g.uuid.as_slice() {
-        return false;
-    }
-    agrees_on_inode(g.rootino, held.rootino)
-        && agrees_on_inode(g.rootino + 1, held.rbmino)
-        && agrees_on_inode(g.rootino + 2, held.rsumino)
+    states_numbers(g, held)
+        && part(sector, UUID.offset, UUID.width) == g.uuid.as_slice()
+        && states_inodes(g.rootino, held)
+}
+
+/// Whether a superblock has the volume's numbers.
+fn states_numbers(g: &Geometry, held: &Stated) -> bool
+    requires { HasParts held.now }
+    ensures { result ≡ states_numbers (volume_of g.now) held.now }
+{
+    held.dblocks == g.dblocks
+        && held.agblocks == g.agblocks
+        && held.agcount == g.agcount
+        && held.agblklog == g.agblklog
+        && held.log() == g.log
+        && held.logblocks == g.logblocks
+        && held.logsectlog == g.logsectlog
+}
+
+/// Whether a superblock has the volume's inodes.
+fn states_inodes(rootino: u64, held: &Stated) -> bool
+    requires { rootino + 2 < 2 ^ 64 }
+    ensures { result ≡ states_inodes rootino held.now }
+{
+    agrees_on_inode(rootino, held.rootino)
+        && agrees_on_inode(rootino + 1, held.rbmino)
+        && agrees_on_inode(rootino + 2, held.rsumino)
 }
 
 /// Whether an inode number of a backup is the one that is due, or all ones.

@@ -10,7 +10,7 @@ use crate::superblock::{
     FEATURES_RO_COMPAT, GQUOTINO, INOALIGNMT, INODESIZE, LOGSTART, PQUOTINO, RBLOCKS, SECTSIZE,
     SPINO_ALIGN, UQUOTINO, VERSIONNUM,
 };
-use xfs_word::FieldLayout;
+use xfs_word::field;
 
 /// What a feature word has to hold.
 #[derive(Clone, Copy, Debug)]
@@ -34,93 +34,112 @@ pub struct Departure {
     pub bits: u64,
 }
 
-/// A feature word: the number that a refusal names, its field and its rule.
+/// A feature word: the number that a refusal names, its field in bytes from the sector's start, and its
+/// rule. It holds no name of the field: a borrowed table without references is one constant, and with
+/// them is made anew at each call.
 #[derive(Clone, Copy, Debug)]
 struct Feature {
     word: u8,
-    field: FieldLayout,
+    offset: usize,
+    width: usize,
     rule: Rule,
 }
 
 const FEATURES: [Feature; 16] = [
     Feature {
         word: 1,
-        field: BLOCKSIZE,
+        offset: BLOCKSIZE.offset,
+        width: BLOCKSIZE.width,
         rule: Rule::Exactly(4096),
     },
     Feature {
         word: 2,
-        field: SECTSIZE,
+        offset: SECTSIZE.offset,
+        width: SECTSIZE.width,
         rule: Rule::Exactly(512),
     },
     Feature {
         word: 3,
-        field: INODESIZE,
+        offset: INODESIZE.offset,
+        width: INODESIZE.width,
         rule: Rule::Exactly(512),
     },
     Feature {
         word: 4,
-        field: DIRBLKLOG,
+        offset: DIRBLKLOG.offset,
+        width: DIRBLKLOG.width,
         rule: Rule::Exactly(0),
     },
     Feature {
         word: 5,
-        field: LOGSTART,
+        offset: LOGSTART.offset,
+        width: LOGSTART.width,
         rule: Rule::NotZero,
     },
     Feature {
         word: 6,
-        field: RBLOCKS,
+        offset: RBLOCKS.offset,
+        width: RBLOCKS.width,
         rule: Rule::Exactly(0),
     },
     Feature {
         word: 7,
-        field: UQUOTINO,
+        offset: UQUOTINO.offset,
+        width: UQUOTINO.width,
         rule: Rule::ZeroOrOnes,
     },
     Feature {
         word: 8,
-        field: GQUOTINO,
+        offset: GQUOTINO.offset,
+        width: GQUOTINO.width,
         rule: Rule::ZeroOrOnes,
     },
     Feature {
         word: 9,
-        field: PQUOTINO,
+        offset: PQUOTINO.offset,
+        width: PQUOTINO.width,
         rule: Rule::ZeroOrOnes,
     },
     Feature {
         word: 10,
-        field: FEATURES_COMPAT,
+        offset: FEATURES_COMPAT.offset,
+        width: FEATURES_COMPAT.width,
         rule: Rule::Exactly(0),
     },
     Feature {
         word: 11,
-        field: FEATURES_RO_COMPAT,
+        offset: FEATURES_RO_COMPAT.offset,
+        width: FEATURES_RO_COMPAT.width,
         rule: Rule::Exactly(3),
     },
     Feature {
         word: 12,
-        field: FEATURES_INCOMPAT,
+        offset: FEATURES_INCOMPAT.offset,
+        width: FEATURES_INCOMPAT.width,
         rule: Rule::Exactly(3),
     },
     Feature {
         word: 13,
-        field: FEATURES_LOG_INCOMPAT,
+        offset: FEATURES_LOG_INCOMPAT.offset,
+        width: FEATURES_LOG_INCOMPAT.width,
         rule: Rule::Exactly(0),
     },
     Feature {
         word: 14,
-        field: INOALIGNMT,
+        offset: INOALIGNMT.offset,
+        width: INOALIGNMT.width,
         rule: Rule::Exactly(8),
     },
     Feature {
         word: 15,
-        field: SPINO_ALIGN,
+        offset: SPINO_ALIGN.offset,
+        width: SPINO_ALIGN.width,
         rule: Rule::Exactly(4),
     },
     Feature {
         word: 16,
-        field: VERSIONNUM,
+        offset: VERSIONNUM.offset,
+        width: VERSIONNUM.width,
         rule: Rule::Without(0x4000),
     },
 ];
@@ -152,9 +171,11 @@ impl Feature {
     fn departure(&self, sector: &[u8]) -> Option<Departure>
         requires sector { length sector.now ≡ 512 }
         requires readable { IsTrue (is_readable_feature (feature_word self.now)) }
-        ensures { result ≡ departure_by self.now.word (departing_bits self.now.rule (field_of sector.now self.now.field.offset self.now.field.width)) }
+        ensures { result ≡ departure_by self.now.word (departing_bits self.now.rule (field_of sector.now self.now.offset self.now.width)) }
     {
-        let bits = self.rule.departing_bits(self.field.read(sector))?;
+        let bits = self
+            .rule
+            .departing_bits(field(sector, self.offset, self.width))?;
         Some(Departure {
             word: self.word,
             bits,

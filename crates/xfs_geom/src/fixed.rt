@@ -5,50 +5,59 @@ ghost use Rattle.xfs_geom.specs.First.{first_false};
 ghost use Rattle.xfs_geom.specs.Fixed.{fixed_fault, fixed_tests, is_readable_fixed, fixed_word};
 
 use crate::superblock::{BLOCKLOG, INODELOG, INOPBLOCK, INOPBLOG, RBMBLOCKS, REXTENTS, SECTLOG};
-use xfs_word::FieldLayout;
+use xfs_word::field;
 
-/// A field that holds one number, under the number of its shape word.
+/// A field that holds one number, under the number of its shape word, in bytes from the sector's start.
+/// It holds no name, so that the borrowed table is one constant.
 #[derive(Clone, Copy, Debug)]
 struct Fixed {
     word: u8,
-    field: FieldLayout,
+    offset: usize,
+    width: usize,
     number: u64,
 }
 
 const FIXED: [Fixed; 7] = [
     Fixed {
         word: 1,
-        field: BLOCKLOG,
+        offset: BLOCKLOG.offset,
+        width: BLOCKLOG.width,
         number: 12,
     },
     Fixed {
         word: 2,
-        field: SECTLOG,
+        offset: SECTLOG.offset,
+        width: SECTLOG.width,
         number: 9,
     },
     Fixed {
         word: 3,
-        field: INODELOG,
+        offset: INODELOG.offset,
+        width: INODELOG.width,
         number: 9,
     },
     Fixed {
         word: 4,
-        field: INOPBLOCK,
+        offset: INOPBLOCK.offset,
+        width: INOPBLOCK.width,
         number: 8,
     },
     Fixed {
         word: 5,
-        field: INOPBLOG,
+        offset: INOPBLOG.offset,
+        width: INOPBLOG.width,
         number: 3,
     },
     Fixed {
         word: 6,
-        field: REXTENTS,
+        offset: REXTENTS.offset,
+        width: REXTENTS.width,
         number: 0,
     },
     Fixed {
         word: 7,
-        field: RBMBLOCKS,
+        offset: RBMBLOCKS.offset,
+        width: RBMBLOCKS.width,
         number: 0,
     },
 ];
@@ -69,7 +78,7 @@ fn first_fault(words: &[Fixed], sector: &[u8]) -> Option<u8>
     ensures { result ≡ first_false (fixed_tests (map fixed_word words.now) sector.now) }
 {
     for fixed in words {
-        if fixed.field.read(sector) != fixed.number {
+        if field(sector, fixed.offset, fixed.width) != fixed.number {
             return Some(fixed.word);
         }
     }

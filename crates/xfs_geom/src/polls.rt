@@ -1,6 +1,6 @@
 //! The votes of backup superblocks for the volumes that they state.
 
-ghost use Rattle.std.specs.Prelude.{◌≡◌, ℕ, ◌+◌, ◌^◌, ◌<◌, ◌∷◌, ◌++◌, [], List, length, Some, None, OnOk, IfSome, MatchOption, if◌then◌else◌, is_none};
+ghost use Rattle.std.specs.Prelude.{◌≡◌, ℕ, ◌+◌, ◌^◌, ◌<◌, ◌∷◌, ◌++◌, ◌&&◌, ◌||◌, ◌==◌, nat_lt, [], List, length, Some, None, OnOk, IfSome, MatchOption, if◌then◌else◌, is_none};
 ghost use Rattle.xfs_geom.specs.Polls.{tally_at, with_vote, leading, IsDecided, IsPoll};
 ghost use Rattle.xfs_geom.specs.Volumes.{volume_of, stated_volume};
 ghost use Rattle.xfs_geom.specs.declared.geometry.Geometry.{Geometry};
@@ -71,16 +71,7 @@ impl Poll {
             then Some (with_vote (tally_at self.old vote.geometry) vote) else tally_at self.old g)) }
         ensures leader { OnOk result (self.new.leader ≡ Some (leading self.old.leader (with_vote (tally_at self.old vote.geometry) vote))) }
     {
-        let tally = match self.tally_of(&vote.geometry) {
-            Some(tally) => Tally {
-                first: tally.first,
-                votes: tally.votes + 1,
-            },
-            None => Tally {
-                first: vote,
-                votes: 1,
-            },
-        };
+        let tally = with_vote(self.tally_of(&vote.geometry), vote);
         self.put_tally(&vote.geometry, tally)?;
         self.leader = Some(leading(self.leader, tally));
         Ok(())
@@ -103,6 +94,23 @@ impl Poll {
     }
 }
 
+/// The tally of a volume once a vote is counted. The first of its votes stays.
+fn with_vote(tally: Option<Tally>, vote: Elected) -> Tally
+    requires { IfSome tally (λ tally. tally.votes + 1 < 2 ^ 64) }
+    ensures { result ≡ with_vote tally vote }
+{
+    match tally {
+        Some(tally) => Tally {
+            first: tally.first,
+            votes: tally.votes + 1,
+        },
+        None => Tally {
+            first: vote,
+            votes: 1,
+        },
+    }
+}
+
 /// The one of two tallies that has more votes, or as many and the first of them at a lower block.
 fn leading(leader: Option<Tally>, tally: Tally) -> Tally
     ensures { result ≡ leading leader tally }
@@ -110,10 +118,21 @@ fn leading(leader: Option<Tally>, tally: Tally) -> Tally
     let Some(leader) = leader else {
         return tally;
     };
-    let more = tally.votes > leader.votes;
-    if more || tally.votes == leader.votes && tally.first.from < leader.first.from {
+    if is_ahead(
+        tally.votes,
+        tally.first.from,
+        leader.votes,
+        leader.first.from,
+    ) {
         tally
     } else {
         leader
     }
+}
+
+/// Whether so many votes, of which the first stands at block `from`, come before those of the leader.
+fn is_ahead(votes: u64, from: u64, leader: u64, leader_from: u64) -> bool
+    ensures { result ≡ (nat_lt leader votes || (leader == votes && nat_lt from leader_from)) }
+{
+    leader < votes || leader == votes && from < leader_from
 }

@@ -10,6 +10,7 @@ use crate::superblock::{
     AGBLKLOG, AGBLOCKS, AGCOUNT, DBLOCKS, INPROGRESS, LOGBLOCKS, LOGSECTLOG, LOGSECTSIZE, LOGSTART,
     RBMINO, ROOTINO, RSUMINO,
 };
+use xfs_word::{get8, get16, get32, get64};
 
 /// The least and the most blocks of a log. Kernels take no log of more than 2038 MiB.
 const LEAST_LOG: u32 = 512;
@@ -49,18 +50,18 @@ impl Stated {
         ensures { result ≡ stated sector.now }
     {
         Stated {
-            dblocks: DBLOCKS.read(sector),
-            logstart: LOGSTART.read(sector),
-            rootino: ROOTINO.read(sector),
-            rbmino: RBMINO.read(sector),
-            rsumino: RSUMINO.read(sector),
-            agblocks: AGBLOCKS.read(sector) as u32,
-            agcount: AGCOUNT.read(sector) as u32,
-            logblocks: LOGBLOCKS.read(sector) as u32,
-            agblklog: AGBLKLOG.read(sector) as u8,
-            inprogress: INPROGRESS.read(sector) as u8,
-            logsectlog: LOGSECTLOG.read(sector) as u8,
-            logsectsize: LOGSECTSIZE.read(sector) as u16,
+            dblocks: get64(sector, DBLOCKS.offset),
+            logstart: get64(sector, LOGSTART.offset),
+            rootino: get64(sector, ROOTINO.offset),
+            rbmino: get64(sector, RBMINO.offset),
+            rsumino: get64(sector, RSUMINO.offset),
+            agblocks: get32(sector, AGBLOCKS.offset),
+            agcount: get32(sector, AGCOUNT.offset),
+            logblocks: get32(sector, LOGBLOCKS.offset),
+            agblklog: get8(sector, AGBLKLOG.offset),
+            inprogress: get8(sector, INPROGRESS.offset),
+            logsectlog: get8(sector, LOGSECTLOG.offset),
+            logsectsize: get16(sector, LOGSECTSIZE.offset),
         }
     }
 

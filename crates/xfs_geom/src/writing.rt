@@ -13,7 +13,7 @@ use crate::records::Counts;
 use crate::superblock::{
     FDBLOCKS, FREXTENTS, ICOUNT, IFREE, INPROGRESS, LSN, RBMINO, ROOTINO, RSUMINO,
 };
-use xfs_word::seal;
+use xfs_word::{get64, put8, put64, seal};
 
 /// Writes a superblock with these counters, sealed. All else is the base's, but that the superblock
 /// states its system inodes, no log sequence number, and that it is complete.
@@ -27,12 +27,12 @@ pub fn write_super(base: &[u8], counts: &Counts, sector: &mut [u8])
     ensures primary { (blocks : ℕ) → (stated base.now).dblocks ≤ blocks → super_fault sector.new 0 blocks ≡ None }
     ensures states { stated_volume sector.new ≡ stated_volume base.now }
 {
-    let rootino = ROOTINO.read(base);
+    let rootino = get64(base, ROOTINO.offset);
     sector.copy_from_slice(base);
     put_system_inodes(sector, rootino);
-    INPROGRESS.write(sector, 0);
+    put8(sector, INPROGRESS.offset, 0);
     put_counters(sector, counts);
-    LSN.write(sector, 0);
+    put64(sector, LSN.offset, 0);
     seal_super(sector);
 }
 
@@ -56,8 +56,8 @@ fn put_system_inodes(sector: &mut [u8], rootino: u64)
     ensures keeps { KeepsBeside sector.old sector.new 64 16 }
     ensures keeps_parts { KeepsParts sector.old sector.new 64 16 }
 {
-    RBMINO.write(sector, rootino + 1);
-    RSUMINO.write(sector, rootino + 2);
+    put64(sector, RBMINO.offset, rootino + 1);
+    put64(sector, RSUMINO.offset, rootino + 2);
 }
 
 /// Writes the counters, that of real-time extents as 0.
@@ -70,8 +70,8 @@ fn put_counters(sector: &mut [u8], counts: &Counts)
     ensures keeps { KeepsBeside sector.old sector.new 128 32 }
     ensures keeps_parts { KeepsParts sector.old sector.new 128 32 }
 {
-    ICOUNT.write(sector, counts.icount);
-    IFREE.write(sector, counts.ifree);
-    FDBLOCKS.write(sector, counts.fdblocks);
-    FREXTENTS.write(sector, 0);
+    put64(sector, ICOUNT.offset, counts.icount);
+    put64(sector, IFREE.offset, counts.ifree);
+    put64(sector, FDBLOCKS.offset, counts.fdblocks);
+    put64(sector, FREXTENTS.offset, 0);
 }

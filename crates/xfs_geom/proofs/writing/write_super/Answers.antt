@@ -13,25 +13,25 @@ put_system_inodes-requires-clause-low c =
 
 pub seal_super-requires-clause-ready : goal.seal_super-requires-clause-ready
 seal_super-requires-clause-ready c =
-    let magic : field_of c.write-2.new.bytes 0 4 ≡ field_of c.args.base.now 0 4 = search rules in
-    let version : field_of c.write-2.new.bytes 100 2 ≡ field_of c.args.base.now 100 2 = search rules in
-    ready c.args.base.now c.write-2.new.bytes c.requires.accepted magic version c.write-2.ensures.put
+    let magic : field_of c.put64.new.bytes 0 4 ≡ field_of c.args.base.now 0 4 = search rules in
+    let version : field_of c.put64.new.bytes 100 2 ≡ field_of c.args.base.now 100 2 = search rules in
+    ready c.args.base.now c.put64.new.bytes c.requires.accepted magic version c.put64.ensures.put
 
 pub returns-clause-written : goal.returns-clause-written
 returns-clause-written c =
     let base = c.args.base.now in
     let b0 = c.copy_from_slice.new.self in
     let b1 = c.put_system_inodes.new.sector in
-    let b2 = c.write.new.bytes in
+    let b2 = c.put8.new.bytes in
     let b3 = c.put_counters.new.sector in
-    let b4 = c.write-2.new.bytes in
+    let b4 = c.put64.new.bytes in
     let number = λ (a w : ℕ) (h : is_kept_field a w ≡ true).
-    read_through field_of b0 b1 b2 b3 b4 a w (apart a w h) (c.put_system_inodes.ensures.keeps a w) (c.write.ensures.keeps a w)
-    (c.put_counters.ensures.keeps a w) (c.write-2.ensures.keeps a w)
+    read_through field_of b0 b1 b2 b3 b4 a w (apart a w h) (c.put_system_inodes.ensures.keeps a w) (c.put8.ensures.keeps a w)
+    (c.put_counters.ensures.keeps a w) (c.put64.ensures.keeps a w)
     ∙ ap (λ (b : List ℕ). field_of b a w) c.copy_from_slice.ensures.after in
     let part = λ (a w : ℕ) (h : is_kept_field a w ≡ true).
-    read_through part_of b0 b1 b2 b3 b4 a w (apart a w h) (c.put_system_inodes.ensures.keeps_parts a w) (c.write.ensures.keeps_parts a w)
-    (c.put_counters.ensures.keeps_parts a w) (c.write-2.ensures.keeps_parts a w)
+    read_through part_of b0 b1 b2 b3 b4 a w (apart a w h) (c.put_system_inodes.ensures.keeps_parts a w) (c.put8.ensures.keeps_parts a w)
+    (c.put_counters.ensures.keeps_parts a w) (c.put64.ensures.keeps_parts a w)
     ∙ ap (λ (b : List ℕ). part_of b a w) c.copy_from_slice.ensures.after in
     record {
       rbmino = search rules;

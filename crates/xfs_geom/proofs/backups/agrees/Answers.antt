@@ -1,0 +1,29 @@
+use Rattle.std.proofs.Common.{◌≡◌, ℕ, Bool, true, false, ◌&&◌, Option, Some, None, refl, sym, ap, ◌∙◌}
+use Rattle.std.specs.Option.{is_some, is_none}
+use Rattle.xfs_word.specs.Seal.{is_sealed}
+use Rattle.xfs_geom.specs.Features.{refused_feature}
+use Rattle.xfs_geom.specs.Fixed.{fixed_fault}
+use Rattle.xfs_geom.specs.Stated.{stated, parts_fault}
+use Rattle.xfs_geom.specs.Superblocks.{is_agreeing, states_volume, super_seal}
+use Rattle.xfs_geom.specs.Volumes.{volume_of}
+use Rattle.xfs_geom.proofs.backups.agrees.Goals as goal
+
+last_of_three : (a b c r : Bool) → a ≡ true → b ≡ true → r ≡ c → r ≡ (a && b && c)
+last_of_three true true c r p q e = e
+last_of_three true false c r p q e = cc
+last_of_three false b c r p q e = cc
+
+none_of : (held : Option ℕ) (r : Bool) → r ≡ is_some held → r ≡ false → is_none held ≡ true
+none_of None r e h = refl
+none_of (Some word) r e h = cc
+
+pub returns : goal.returns
+unfolding is_agreeing
+returns c =
+    let sector = c.args.sector.now in
+    let fault : c.parts_fault.result ≡ parts_fault (stated sector) = c.parts_fault.ensures.first ∙ ap parts_fault c.read-stated.ensures in
+    last_of_three (is_sealed super_seal sector && is_none (refused_feature sector) && is_none (fixed_fault sector)) (is_none (parts_fault (stated sector)))
+    (states_volume (volume_of c.args.g.now) sector) c.states_volume.result
+    (sym c.is_sound.ensures ∙ c.if-not-is_sound.false)
+    (sym (ap (λ (held : Option ℕ). is_none held) fault) ∙ none_of c.parts_fault.result c.is_some.result c.is_some.ensures c.if-is_some.false)
+    c.states_volume.ensures
