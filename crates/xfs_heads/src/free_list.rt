@@ -15,7 +15,7 @@ use crate::free_space::Agf;
 use crate::heads::{head_seal, is_listable, seal_head};
 use crate::layouts::agfl::{BNO, LSN, MAGICNUM, SEQNO, UUID};
 use xfs_geom::Geometry;
-use xfs_word::{SealKind, put_part, put32, put64, sealed};
+use xfs_word::{SealKind, get32, put_part, put32, put64, sealed};
 
 /// The magic number of a free list, `XAFL`.
 const MAGIC: u32 = 0x5841_464c;
@@ -99,7 +99,8 @@ fn stated(agf: &Agf, sector: &[u8]) -> Agfl
 {
     let mut entries = [UNUSED; 119];
     for index in 0..agf.flcount as usize {
-        entries[index] = BNO.read(sector, (agf.flfirst as usize + index) % BNO.count);
+        let entry = (agf.flfirst as usize + index) % BNO.count;
+        entries[index] = get32(sector, BNO.offset + 4 * entry);
     }
     Agfl {
         entries,

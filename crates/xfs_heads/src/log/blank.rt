@@ -79,7 +79,7 @@ fn put_front(cycle: u32, sector: &mut [u8])
     put32(sector, CRC.offset, 0);
     put32(sector, PREV_BLOCK.offset, u32::MAX);
     put32(sector, NUM_LOGOPS.offset, 1);
-    CYCLE_DATA.write(sector, 0, TRANSACTION);
+    put32(sector, CYCLE_DATA.offset, TRANSACTION);
 }
 
 /// Writes the fields of the header behind the replaced numbers.
