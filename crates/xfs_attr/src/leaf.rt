@@ -11,6 +11,7 @@ use crate::layouts::leaf::{COUNT, MOST_ENTRIES};
 use crate::soundness::is_sound_leaf;
 use std::alloc::Global;
 use xfs_disk::{NoMemory, Word};
+use xfs_word::get16;
 
 /// What of a leaf is not supported: a value outside it.
 const REMOTE: u8 = 1;
@@ -25,7 +26,7 @@ pub fn read_leaf(alloc: Global, block: &[u8]) -> Result<Attrs, AttrFault>
     ensures due { IsReading (leaf_of block.now) result }
     ensures disjoint { (count : ℕ) → AreInside block.now count → (entries_apart block.now (entries block.now count) ≡ true) ↔ AreDisjoint block.now count }
 {
-    let count = COUNT.read(block) as usize;
+    let count = get16(block, COUNT.offset) as usize;
     if !are_local(block, count.min(MOST_ENTRIES)) {
         return Err(AttrFault::Unsupported { what: REMOTE });
     }

@@ -13,7 +13,7 @@ use crate::layouts::short_form::{
 };
 use std::alloc::Global;
 use xfs_disk::{NoMemory, Word};
-use xfs_word::part;
+use xfs_word::{get8, get16, part};
 
 /// The attributes of the short form that a fork begins with. `Unsound` where the form's size is not that of
 /// its header and entries or exceeds the fork, or a name is empty (chapter "Extended Attributes").
@@ -25,7 +25,7 @@ pub fn read_short_attributes(alloc: Global, fork: &[u8]) -> Result<Attrs, AttrFa
     let Some(bytes) = entry_bytes(fork) else {
         return Err(AttrFault::Unsound);
     };
-    read_attributes(alloc, COUNT.read(fork), bytes)
+    read_attributes(alloc, get8(fork, COUNT.offset) as u64, bytes)
 }
 
 /// The bytes of the entries, where the short form lies in the fork.
@@ -37,7 +37,7 @@ fn entry_bytes(fork: &[u8]) -> Option<&[u8]>
     if fork.len() < HEADER_SIZE {
         return None;
     }
-    let size = TOTSIZE.read(fork) as usize;
+    let size = get16(fork, TOTSIZE.offset) as usize;
     if size < HEADER_SIZE || fork.len() < size {
         return None;
     }
@@ -83,10 +83,12 @@ fn entry_size(bytes: &[u8]) -> Option<usize>
     ensures { MatchOption result (begin_with_entry bytes.now ≡ false)
         (λ size. (size ≡ size_of_entry bytes.now) × (begin_with_entry bytes.now ≡ true)) }
 {
-    if bytes.len() < ENTRY_SIZE || NAMELEN.read(bytes) == 0 {
+    if bytes.len() < ENTRY_SIZE || get8(bytes, NAMELEN.offset) == 0 {
         return None;
     }
-    let size = ENTRY_SIZE + NAMELEN.read(bytes) as usize + VALUELEN.read(bytes) as usize;
+    let size = ENTRY_SIZE
+        + get8(bytes, NAMELEN.offset) as usize
+        + get8(bytes, VALUELEN.offset) as usize;
     if bytes.len() < size { None } else { Some(size) }
 }
 
@@ -95,10 +97,10 @@ fn read_entry(alloc: Global, bytes: &[u8]) -> Result<Attr, NoMemory>
     requires { IsTrue (begin_with_entry bytes.now) }
     ensures { IfOk result (λ attribute. attribute ≡ attribute_of_entry bytes.now) }
 {
-    let name_size = NAMELEN.read(bytes) as usize;
-    let value_size = VALUELEN.read(bytes) as usize;
+    let name_size = get8(bytes, NAMELEN.offset) as usize;
+    let value_size = get8(bytes, VALUELEN.offset) as usize;
     Ok(Attr {
-        flags: FLAGS.read(bytes) as u8,
+        flags: get8(bytes, FLAGS.offset),
         name: Word::from_slice(alloc, part(bytes, ENTRY_SIZE, name_size))?,
         value: Word::from_slice(alloc, part(bytes, ENTRY_SIZE + name_size, value_size))?,
     })

@@ -8,7 +8,7 @@ ghost use Rattle.xfs_attr.specs.Leaf.{leaf_entry_at, entries, leaf_entry_size, i
 use crate::entries::{LeafEntry, leaf_entry_name, leaf_entry_size, read_entry};
 use crate::layouts::leaf::{BACK, ENTRIES, ENTRY_SIZE, FIRSTUSED, FORW, USEDBYTES, VALUE_SIZE};
 use xfs_disk::BLOCK_SIZE;
-use xfs_word::name_hash;
+use xfs_word::{get16, get32, name_hash};
 
 /// Whether a leaf with so many entries keeps the rules of its form.
 #[tactic(auto, unfolding(crate::specs::Leaf::is_sound_leaf))]
@@ -18,8 +18,8 @@ pub fn is_sound_leaf(block: &[u8], count: usize) -> bool
     ensures value { result ≡ is_sound_leaf block.now count }
     ensures inside { IsTrue result → AreInside block.now count }
 {
-    let first = FIRSTUSED.read(block) as usize;
-    if FORW.read(block) != 0 || BACK.read(block) != 0 {
+    let first = get16(block, FIRSTUSED.offset) as usize;
+    if get32(block, FORW.offset) != 0 || get32(block, BACK.offset) != 0 {
         return false;
     }
     if first < ENTRIES + ENTRY_SIZE * count {
@@ -34,7 +34,7 @@ pub fn is_sound_leaf(block: &[u8], count: usize) -> bool
     if !entries_apart(block, count) {
         return false;
     }
-    used_bytes(block, count) as u64 == USEDBYTES.read(block)
+    used_bytes(block, count) == get16(block, USEDBYTES.offset) as usize
 }
 
 /// Whether each value lies in the block from `first` on, and each hash is that of the name.
