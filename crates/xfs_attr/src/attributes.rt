@@ -2,8 +2,9 @@
 
 ghost use Rattle.std.specs.Prelude.{◌≡◌};
 
+use std::alloc::Global;
 use std::marker::Model;
-use xfs_disk::Word;
+use xfs_disk::{NoMemory, Word};
 
 /// An extended attribute.
 #[derive(Debug, Drop)]
@@ -13,6 +14,24 @@ pub struct Attr {
     pub flags: u8,
     pub name: Word,
     pub value: Word,
+}
+
+impl Attr {
+    ghost use Rattle.std.specs.Prelude.{IfOk};
+
+    /// An attribute with copies of this name and value.
+    pub(crate) fn copied(
+        alloc: Global,
+        flags: u8,
+        name: &[u8],
+        value: &[u8],
+    ) -> Result<Attr, NoMemory>
+        ensures { IfOk result (λ attribute. attribute ≡ record { flags = flags; name = name.now; value = value.now }) }
+    {
+        let name = Word::from_slice(alloc, name)?;
+        let value = Word::from_slice(alloc, value)?;
+        Ok(Attr { flags, name, value })
+    }
 }
 
 /// A list of attributes.

@@ -10,7 +10,7 @@ use crate::entries::{LeafEntry, leaf_entry_name, read_entry, value_of};
 use crate::layouts::leaf::{COUNT, MOST_ENTRIES};
 use crate::soundness::is_sound_leaf;
 use std::alloc::Global;
-use xfs_disk::{NoMemory, Word};
+use xfs_disk::NoMemory;
 use xfs_word::get16;
 
 /// What of a leaf is not supported: a value outside it.
@@ -73,9 +73,10 @@ fn read_attribute(alloc: Global, block: &[u8], entry: LeafEntry) -> Result<Attr,
     requires { entry.nameidx + leaf_entry_size block.now entry ≤ length block.now }
     ensures { IfOk result (λ attribute. attribute ≡ attribute_of block.now entry) }
 {
-    Ok(Attr {
-        flags: entry.flags,
-        name: Word::from_slice(alloc, leaf_entry_name(block, entry))?,
-        value: Word::from_slice(alloc, value_of(block, entry))?,
-    })
+    Attr::copied(
+        alloc,
+        entry.flags,
+        leaf_entry_name(block, entry),
+        value_of(block, entry),
+    )
 }

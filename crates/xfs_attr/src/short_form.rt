@@ -1,6 +1,6 @@
 //! The short form of attributes, which stands in an inode.
 
-ghost use Rattle.std.specs.Prelude.{◌≡◌, ◌↔◌, List, Ok, ℕ, ◌-◌, ◌<◌, length, drop, IsTrue, MatchOption, IfOk, nat_le, ◌&&◌, ◌≤◌, true, false};
+ghost use Rattle.std.specs.Prelude.{◌≡◌, ◌↔◌, List, [], ◌∷◌, ◌++◌, Ok, ℕ, ◌-◌, ◌<◌, length, drop, IsTrue, MatchOption, IfOk, nat_le, ◌&&◌, ◌≤◌, true, false};
 ghost use Rattle.std.specs.Option.{ok_or};
 ghost use Rattle.xfs_word.specs.Field.{field_of, part_of};
 ghost use Rattle.xfs_attr.specs.declared.attributes.Attr.{Attr};
@@ -12,7 +12,7 @@ use crate::layouts::short_form::{
     COUNT, ENTRY_SIZE, FLAGS, HEADER_SIZE, NAMELEN, TOTSIZE, VALUELEN,
 };
 use std::alloc::Global;
-use xfs_disk::{NoMemory, Word};
+use xfs_disk::NoMemory;
 use xfs_word::{get8, get16, part};
 
 /// The attributes of the short form that a fork begins with. `Unsound` where the form's size is not that of
@@ -54,13 +54,9 @@ fn read_attributes(alloc: Global, count: u64, bytes: &[u8]) -> Result<Attrs, Att
         let Some(size) = entry_size(rest) else {
             return Err(AttrFault::Unsound);
         };
-        let attribute = match read_entry(alloc, rest) {
-            Ok(attribute) => attribute,
-            Err(NoMemory) => return Err(AttrFault::NoMemory),
-        };
-        match attributes.push(attribute) {
+        match push_entry(alloc, &mut attributes, rest) {
             Ok(()) => {}
-            Err(_) => return Err(AttrFault::NoMemory),
+            Err(NoMemory) => return Err(AttrFault::NoMemory),
         }
         rest = after(rest, size);
     }
@@ -68,6 +64,16 @@ fn read_attributes(alloc: Global, count: u64, bytes: &[u8]) -> Result<Attrs, Att
         return Err(AttrFault::Unsound);
     }
     Ok(Attrs::from_vec(attributes))
+}
+
+/// Adds the attribute of the entry that the bytes begin with.
+fn push_entry(alloc: Global, attributes: &mut Vec<Attr>, bytes: &[u8]) -> Result<(), NoMemory>
+    requires { IsTrue (begin_with_entry bytes.now) }
+    ensures { IfOk result (λ _. attributes.new.items ≡ attributes.old.items ++ attribute_of_entry bytes.now ∷ []) }
+{
+    let attribute = read_entry(alloc, bytes)?;
+    attributes.push(attribute)?;
+    Ok(())
 }
 
 /// The bytes behind the first `size`.
@@ -99,9 +105,7 @@ fn read_entry(alloc: Global, bytes: &[u8]) -> Result<Attr, NoMemory>
 {
     let name_size = get8(bytes, NAMELEN.offset) as usize;
     let value_size = get8(bytes, VALUELEN.offset) as usize;
-    Ok(Attr {
-        flags: get8(bytes, FLAGS.offset),
-        name: Word::from_slice(alloc, part(bytes, ENTRY_SIZE, name_size))?,
-        value: Word::from_slice(alloc, part(bytes, ENTRY_SIZE + name_size, value_size))?,
-    })
+    let name = part(bytes, ENTRY_SIZE, name_size);
+    let value = part(bytes, ENTRY_SIZE + name_size, value_size);
+    Attr::copied(alloc, get8(bytes, FLAGS.offset), name, value)
 }

@@ -20,8 +20,7 @@ returns-in_default c =
 pub loop-preserved : goal.loop-preserved
 loop-preserved c =
     let left : c.args.count - c.loop.counter ≡ suc (c.args.count - (c.loop.counter + 1)) = omega arith in
-    let items : c.push.new.self.items ≡ c.loop.attributes.items ++ (attribute_of_entry c.loop.rest.now ∷ []) =
-    c.in-Ok-push.ensures.items ∙ ap (λ (a : Attr). c.loop.attributes.items ++ (a ∷ [])) c.in-Ok.ensures in
+    let items : c.push_entry.new.attributes.items ≡ c.loop.attributes.items ++ (attribute_of_entry c.loop.rest.now ∷ []) = c.in-Ok.ensures in
     let rest : c.after-rest.result.now ≡ drop (size_of_entry c.loop.rest.now) c.loop.rest.now =
     c.after-rest.ensures ∙ ap (λ (n : ℕ). drop n c.loop.rest.now) c.in-Some.ensures.0 in
     ap₂ (λ (front : List Attr) (bytes : List ℕ). behind front (attributes_of (c.args.count - (c.loop.counter + 1)) bytes)) items rest
