@@ -13,7 +13,7 @@ use crate::superblock::{
 use xfs_word::field;
 
 /// What a feature word has to hold.
-#[derive(Clone, Copy, Debug)]
+#[derive(Clone, Copy)]
 pub enum Rule {
     /// Just this number.
     Exactly(u64),
@@ -26,7 +26,7 @@ pub enum Rule {
 }
 
 /// A feature word that departs from its rule.
-#[derive(Clone, Copy, Debug, PartialEq, Eq)]
+#[derive(Clone, Copy, PartialEq, Eq)]
 pub struct Departure {
     /// The word's number.
     pub word: u8,
@@ -37,7 +37,7 @@ pub struct Departure {
 /// A feature word: the number that a refusal names, its field in bytes from the sector's start, and its
 /// rule. It holds no name of the field: a borrowed table without references is one constant, and with
 /// them is made anew at each call.
-#[derive(Clone, Copy, Debug)]
+#[derive(Clone, Copy)]
 struct Feature {
     word: u8,
     offset: usize,

@@ -9,7 +9,7 @@ use xfs_word::field;
 
 /// A field that holds one number, under the number of its shape word, in bytes from the sector's start.
 /// It holds no name, so that the borrowed table is one constant.
-#[derive(Clone, Copy, Debug)]
+#[derive(Clone, Copy)]
 struct Fixed {
     word: u8,
     offset: usize,

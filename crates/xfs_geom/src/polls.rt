@@ -14,7 +14,7 @@ use std::collections::BTreeMap;
 use xfs_disk::NoMemory;
 
 /// The votes for a volume.
-#[derive(Clone, Copy, Debug)]
+#[derive(Clone, Copy)]
 pub struct Tally {
     /// The superblock at the lowest block that states the volume.
     pub first: Elected,
@@ -23,7 +23,7 @@ pub struct Tally {
 }
 
 /// The votes that were counted so far.
-#[derive(Debug, Drop)]
+#[derive(Drop)]
 pub struct Poll {
     /// The votes for each volume that has any.
     tallies: BTreeMap<Geometry, Tally>,

@@ -18,7 +18,7 @@ const LEAST_LOG: u32 = 512;
 const MOST_LOG: u32 = 521_728;
 
 /// The numbers that a superblock states of its volume, before any of them is judged.
-#[derive(Clone, Copy, Debug)]
+#[derive(Clone, Copy)]
 pub struct Stated {
     /// The blocks of the volume.
     pub dblocks: u64,

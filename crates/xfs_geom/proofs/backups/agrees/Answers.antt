@@ -17,6 +17,35 @@ none_of : (held : Option ℕ) (r : Bool) → r ≡ is_some held → r ≡ false 
 none_of None r e h = refl
 none_of (Some word) r e h = cc
 
+first_fails : (a b c : Bool) → a ≡ false → false ≡ (a && b && c)
+first_fails false b c p = refl
+first_fails true b c p = cc
+
+second_fails : (a b c : Bool) → b ≡ false → false ≡ (a && b && c)
+second_fails false b c p = refl
+second_fails true false c p = refl
+second_fails true true c p = cc
+
+some_of : (held : Option ℕ) (r : Bool) → r ≡ is_some held → r ≡ true → is_none held ≡ false
+some_of None r e h = cc
+some_of (Some word) r e h = refl
+
+pub returns-then-not-is_sound : goal.returns-then-not-is_sound
+unfolding is_agreeing
+returns-then-not-is_sound c =
+    let sector = c.args.sector.now in
+    first_fails (is_sealed super_seal sector && is_none (refused_feature sector) && is_none (fixed_fault sector)) (is_none (parts_fault (stated sector)))
+    (states_volume (volume_of c.args.g.now) sector) (sym c.is_sound.ensures ∙ c.if-not-is_sound.true)
+
+pub returns-then-is_some : goal.returns-then-is_some
+unfolding is_agreeing
+returns-then-is_some c =
+    let sector = c.args.sector.now in
+    let fault : c.parts_fault.result ≡ parts_fault (stated sector) = c.parts_fault.ensures.first ∙ ap parts_fault c.read-stated.ensures in
+    second_fails (is_sealed super_seal sector && is_none (refused_feature sector) && is_none (fixed_fault sector)) (is_none (parts_fault (stated sector)))
+    (states_volume (volume_of c.args.g.now) sector)
+    (sym (ap (λ (held : Option ℕ). is_none held) fault) ∙ some_of c.parts_fault.result c.is_some.result c.is_some.ensures c.if-is_some.true)
+
 pub returns : goal.returns
 unfolding is_agreeing
 returns c =
