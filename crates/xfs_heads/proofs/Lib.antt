@@ -9,3 +9,4 @@ pub mod CleanLog
 pub mod Bytes
 pub mod BlankSectors
 pub mod BlankIsClean
+pub mod Chained
