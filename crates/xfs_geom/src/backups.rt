@@ -5,7 +5,7 @@ ghost use Rattle.xfs_word.specs.Seal.{is_sealed};
 ghost use Rattle.xfs_geom.specs.Features.{refused_feature};
 ghost use Rattle.xfs_geom.specs.Fixed.{fixed_fault};
 ghost use Rattle.xfs_geom.specs.Superblocks.{agrees_on_inode, is_agreeing, states_volume, super_seal};
-ghost use Rattle.xfs_geom.specs.Private.Words.{states_numbers, states_inodes};
+ghost use Rattle.xfs_geom.specs.Private.Words.{states_groups, states_log, states_inodes};
 ghost use Rattle.xfs_geom.specs.Parts.{HasParts};
 ghost use Rattle.xfs_geom.specs.Stated.{stated};
 ghost use Rattle.xfs_geom.specs.Volumes.{volume_of};
@@ -52,23 +52,28 @@ fn states_volume(g: &Geometry, held: &Stated, sector: &[u8]) -> bool
     requires parts { HasParts held.now }
     ensures { result ≡ states_volume (volume_of g.now) sector.now }
 {
-    states_numbers(g, held)
+    states_groups(g, held)
+        && states_log(g, held)
         && part(sector, UUID.offset, UUID.width) == g.uuid.as_slice()
         && states_inodes(g.rootino, held)
 }
 
-/// Whether a superblock has the volume's numbers.
-fn states_numbers(g: &Geometry, held: &Stated) -> bool
-    requires { HasParts held.now }
-    ensures { result ≡ states_numbers (volume_of g.now) held.now }
+/// Whether a superblock has the volume's groups and addresses.
+fn states_groups(g: &Geometry, held: &Stated) -> bool
+    ensures { result ≡ states_groups (volume_of g.now) held.now }
 {
     held.dblocks == g.dblocks
         && held.agblocks == g.agblocks
         && held.agcount == g.agcount
         && held.agblklog == g.agblklog
-        && held.log() == g.log
-        && held.logblocks == g.logblocks
-        && held.logsectlog == g.logsectlog
+}
+
+/// Whether a superblock has the volume's log.
+fn states_log(g: &Geometry, held: &Stated) -> bool
+    requires { HasParts held.now }
+    ensures { result ≡ states_log (volume_of g.now) held.now }
+{
+    held.log() == g.log && held.logblocks == g.logblocks && held.logsectlog == g.logsectlog
 }
 
 /// Whether a superblock has the volume's inodes.

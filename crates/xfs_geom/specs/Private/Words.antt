@@ -11,14 +11,18 @@ use Rattle.xfs_geom.specs.declared.stated.Stated.{Stated}
 abbrev pub feature_word : Feature → FeatureWord
 feature_word f = feature_row f.word f.offset f.width f.rule
 
--- the stated numbers are the volume's
-abbrev pub states_numbers : Volume → Stated → Bool
-states_numbers v held =
+-- the stated groups and addresses are the volume's
+abbrev pub states_groups : Volume → Stated → Bool
+states_groups v held =
     held.dblocks == v.dblocks
     && held.agblocks == v.agblocks
     && held.agcount == v.agcount
     && held.agblklog == v.agblklog
-    && stated_log held == v.log
+
+-- the stated log is the volume's
+abbrev pub states_log : Volume → Stated → Bool
+states_log v held =
+    stated_log held == v.log
     && held.logblocks == v.logblocks
     && held.logsectlog == v.logsectlog
 
