@@ -6,3 +6,5 @@ pub mod Cutting
 pub mod Bad
 pub mod Few
 pub mod MakeLines
+pub mod Values
+pub mod WordSteps

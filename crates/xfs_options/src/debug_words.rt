@@ -1,6 +1,6 @@
 //! The words of xfs_db.
 
-ghost use Rattle.std.specs.Prelude.{◌≡◌, ℕ, Ok, Err, ◌==◌, IfOk, IfErr, List};
+ghost use Rattle.std.specs.Prelude.{◌≡◌, ℕ, Ok, Err, ◌==◌, IfOk, IfErr, List, [], ◌∷◌, ◌++◌};
 ghost use Rattle.std.specs.List.{filter};
 ghost use Rattle.xfs_options.specs.DebugWords.{debug_line, debug_of, debug_options, said, values_of};
 ghost use Rattle.xfs_options.specs.Words.{IsCause, OffendsFirst, Words};
@@ -85,9 +85,17 @@ fn into_values(alloc: Global, letter: u8, given: Vec<Given>) -> Result<Vec<Word>
 {
     let mut values = Vec::new(alloc);
     for given in given {
-        if given.letter == letter {
-            values.push(given.value)?;
-        }
+        push_value(&mut values, letter, given)?;
     }
     Ok(values)
+}
+
+/// Adds the value of an option that has the letter.
+fn push_value(values: &mut Vec<Word>, letter: u8, given: Given) -> Result<(), NoMemory>
+    ensures { IfOk result (λ _. values.new.items ≡ values.old.items ++ values_of letter (given ∷ [])) }
+{
+    if given.letter == letter {
+        values.push(given.value)?;
+    }
+    Ok(())
 }

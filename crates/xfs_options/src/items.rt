@@ -11,7 +11,7 @@ use std::alloc::Global;
 use xfs_disk::{NoMemory, Word};
 
 /// An item of a list.
-#[derive(Debug, Drop)]
+#[derive(Drop)]
 pub(crate) struct OptionItem {
     /// The letter of the option.
     pub option: u8,

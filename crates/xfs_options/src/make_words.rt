@@ -3,7 +3,7 @@
 ghost use Rattle.std.specs.Prelude.{◌≡◌, ℕ, ◌≤◌, ◌==◌, ◌&&◌, nat_le, if◌then◌else◌, Option, Some, None, Ok, Err, List, [], IfOk, IfErr};
 ghost use Rattle.std.specs.List.{find};
 ghost use Rattle.std.specs.Option.{option_copied};
-ghost use Rattle.xfs_options.specs.MakeWords.{counted, generated, identified, IsMakeCause, judged_making, last_value, make_line, make_of, make_options, OffendsFirstItem, sized, small_count, usage, value_in};
+ghost use Rattle.xfs_options.specs.MakeWords.{counted, generated, identified, IsMakeCause, judged_making, label_of, last_value, make_line, make_of, make_options, OffendsFirstItem, sized, small_count, usage, value_in};
 ghost use Rattle.xfs_options.specs.SubOptions.{first_bad, items_given, sub_of};
 ghost use Rattle.xfs_options.specs.Words.{OffendsFirst};
 
@@ -191,15 +191,16 @@ fn bad_option(item: &OptionItem) -> MakeFault
 fn make_line(alloc: Global, given: &[Given], items: &[OptionItem]) -> Result<MakeLine, NoMemory>
     ensures { IfOk result (λ line. line ≡ make_line given.now items.now) }
 {
-    let label = match last_value(given, b'L') {
-        Some(value) => copied(alloc, value)?,
-        None => Word::from_vec(Vec::new(alloc)),
-    };
-    let proto = match last_value(given, b'p') {
-        Some(value) => Some(copied(alloc, value)?),
-        None => None,
-    };
-    Ok(MakeLine {
+    let label = label_in(alloc, given)?;
+    let proto = proto_in(alloc, given)?;
+    Ok(line_with(given, items, label, proto))
+}
+
+/// What the options and items say, with this label and protofile.
+fn line_with(given: &[Given], items: &[OptionItem], label: Word, proto: Option<Word>) -> MakeLine
+    ensures { result ≡ record (make_line given.now items.now) { options = record (make_line given.now items.now).options { label = label; proto = proto } } }
+{
+    MakeLine {
         options: MakeOptions {
             blocks: size_in(items, SubOption::DataSize),
             agcount: count_in(items, SubOption::AgCount),
@@ -212,7 +213,27 @@ fn make_line(alloc: Global, given: &[Given], items: &[OptionItem]) -> Result<Mak
             generate: generated(last_value(given, b'G')),
         },
         quiet: is_given(b'q', given),
-    })
+    }
+}
+
+/// The label, empty where none is given.
+fn label_in(alloc: Global, given: &[Given]) -> Result<Word, NoMemory>
+    ensures { IfOk result (λ label. label ≡ label_of (last_value 76 given.now)) }
+{
+    match last_value(given, b'L') {
+        Some(value) => copied(alloc, value),
+        None => Ok(Word::from_vec(Vec::new(alloc))),
+    }
+}
+
+/// The name of the protofile, where one is given.
+fn proto_in(alloc: Global, given: &[Given]) -> Result<Option<Word>, NoMemory>
+    ensures { IfOk result (λ proto. proto ≡ last_value 112 given.now) }
+{
+    match last_value(given, b'p') {
+        Some(value) => Ok(Some(copied(alloc, value)?)),
+        None => Ok(None),
+    }
 }
 
 /// A word of these bytes.

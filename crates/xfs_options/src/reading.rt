@@ -31,7 +31,7 @@ pub enum LineFault {
 }
 
 /// What may follow.
-#[derive(Clone, Copy, Debug)]
+#[derive(Clone, Copy)]
 enum Expected {
     /// An option or the image.
     Options,
@@ -46,7 +46,7 @@ enum Expected {
 }
 
 /// How far words have been read.
-#[derive(Debug, Drop)]
+#[derive(Drop)]
 struct Reading {
     place: Expected,
     given: Vec<Given>,

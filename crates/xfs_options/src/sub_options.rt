@@ -11,7 +11,7 @@ use crate::numbers::read_decimal;
 use crate::sizes::size;
 
 /// What follows the text of a sub-option.
-#[derive(Clone, Copy, Debug, PartialEq, Eq)]
+#[derive(Clone, Copy)]
 pub(crate) enum ItemForm {
     /// Nothing: the text says all.
     Fixed,
@@ -23,7 +23,7 @@ pub(crate) enum ItemForm {
 }
 
 /// The sub-options.
-#[derive(Clone, Copy, Debug, PartialEq, Eq)]
+#[derive(Clone, Copy)]
 pub(crate) enum SubOption {
     DataSize,
     AgCount,

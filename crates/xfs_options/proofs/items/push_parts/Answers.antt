@@ -1,0 +1,38 @@
+use Rattle.std.proofs.Common.{◌≡◌, ◌+◌, ◌==◌, true, false, [], ◌∷◌, ◌++◌, List, drop, get_or, ap, ◌∙◌, arith, rules}
+use Rattle.xfs_options.proofs.Cutting.{ended, grown}
+use Rattle.xfs_options.specs.SubOptions.{items_from}
+use Rattle.xfs_options.specs.declared.items.OptionItem.{OptionItem}
+use Rattle.xfs_options.proofs.items.push_parts.Goals as goal
+use Rattle.xfs_options.proofs.items.push_parts.Goals.{then-byte-eq44+in_ok-push, else-byte-eq44+in_ok-push-2}
+
+pub loop-byte-preserved : goal.loop-byte-preserved
+loop-byte-preserved c =
+    let given = c.args.given.now in
+    let bytes = c.args.bytes.now in
+    let i = c.loop-byte.byte-index in
+    let items = c.loop-byte.items.items in
+    let number = c.loop-byte.number in
+    let text = c.loop-byte.text.items in
+    elim c.if-byte-eq44.branch [
+      | then-byte-eq44+in_ok-push w ↦
+          let comma : (get_or bytes i 0 == 44) ≡ true = search rules in
+          let more = w.in_ok-push.ensures.items ∙ ap (λ (item : OptionItem). items ++ item ∷ []) w.new_item.ensures in
+          record {
+            few = omega (arith, w.number-is);
+            rest =
+                (λ k. (w.items-is k).items ++ items_from given (w.number-is k) ((w.text-is k).items) (drop (i + 1) bytes))
+                ∙ (λ k. more k ++ items_from given (number + 1) (w.new-text-then-byte-eq44.ensures.items k) (drop (i + 1) bytes))
+                ∙ ended items given number i text bytes c.loop-byte-test.true comma
+                ∙ c.loop-byte.invariant.rest;
+          }
+      | else-byte-eq44+in_ok-push-2 w ↦
+          let other : (get_or bytes i 0 == 44) ≡ false = search rules in
+          record {
+            few = omega (arith, w.number-is);
+            rest =
+                (λ k. (w.items-is k).items ++ items_from given (w.number-is k) ((w.text-is k).items) (drop (i + 1) bytes))
+                ∙ (λ k. items ++ items_from given number (w.in_ok-push-2.ensures.items k) (drop (i + 1) bytes))
+                ∙ grown items given number i text bytes c.loop-byte-test.true other
+                ∙ c.loop-byte.invariant.rest;
+          }
+    ]
