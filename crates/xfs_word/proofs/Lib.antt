@@ -1,4 +1,5 @@
 pub mod Digits
+pub mod Layouts
 pub mod Parts
 pub mod Register
 pub mod Rounds

@@ -80,6 +80,13 @@ impl SealKind {
         ensures inside { IsInside result }
         ensures apart { IsApart result }
     {
+        self.table()
+    }
+
+    /// The layout of each kind.
+    fn table(&self) -> SealLayout
+        ensures { result ≡ layout_of self.now }
+    {
         match self {
             SealKind::Super => {
                 SealLayout {
