@@ -1,9 +1,16 @@
 -- The first rows, and then the last.
-use Rattle.std.proofs.Common.{◌∙◌, ap, refl, length}
+use Rattle.std.proofs.Common.{◌≤◌, ◌∙◌, ap, refl, length, arith}
 use Rattle.xfs_disk.specs.Counts.{raised_times}
 use Rattle.xfs_writing.proofs.Counted.{raised_further}
+use Rattle.xfs_writing.proofs.Mixing.{stopped_first, stopped_last}
 use Rattle.xfs_writing.proofs.Steps.{all_partly, both_written, last_partly}
+use Rattle.xfs_writing.specs.Writing.{written, writes_of_rows}
 use Rattle.xfs_writing.proofs.writing.write_parts.Goals as goal
+
+pub returns-in-Err-clause-stops : goal.returns-in-Err-clause-stops
+returns-in-Err-clause-stops g c = λ tells image told t stopped low left.
+    stopped_first (writes_of_rows c.args.bank.now c.args.first.now) (writes_of_rows c.args.bank.now c.args.last.now) image stopped
+    (g.D.Disk.left_since c.args.disk.now t stopped) (c.in-Err.ensures.stops tells image told t stopped low left)
 
 pub returns-in-Err-write_part-clause-partly : goal.returns-in-Err-write_part-clause-partly
 returns-in-Err-write_part-clause-partly g c = λ image told.
@@ -39,3 +46,40 @@ returns-in-Err-sync-clause-counted g c =
     ∙ c.in-Ok-write_part.ensures.counted
     ∙ ap (raised_times (length c.args.last.now)) c.in-Ok.ensures.counted
     ∙ raised_further (length c.args.first.now) (length c.args.last.now) (g.D.Disk.writes c.args.disk.now)
+
+pub returns-in-Err-write_part-clause-stops : goal.returns-in-Err-write_part-clause-stops
+returns-in-Err-write_part-clause-stops g c = λ tells image told t stopped low left.
+    let D = g.D.Disk in
+    let first = writes_of_rows c.args.bank.now c.args.first.now in
+    let between = c.in-Ok.ensures.tells tells in
+    let later : D.moment c.args.disk.now ≤ D.moment c.write_part.new.disk = c.in-Ok.ensures.later tells in
+    let early : t ≤ D.moment c.write_part.new.disk = omega (arith, low, later) in
+    stopped_last first (writes_of_rows c.args.bank.now c.args.last.now) image stopped (D.left_since c.args.disk.now t stopped)
+    (D.left_since c.write_part.new.disk t stopped) (c.in-Ok.ensures.stops tells image told t stopped low)
+    (c.in-Err-write_part.ensures.stops between (written first image) (c.in-Ok.ensures.done image told) t stopped early left)
+
+pub returns-in-Ok-sync-clause-stops : goal.returns-in-Ok-sync-clause-stops
+returns-in-Ok-sync-clause-stops g c = λ tells image told t stopped low left.
+    let D = g.D.Disk in
+    let first = writes_of_rows c.args.bank.now c.args.first.now in
+    let between = c.in-Ok.ensures.tells tells in
+    let later : D.moment c.args.disk.now ≤ D.moment c.write_part.new.disk = c.in-Ok.ensures.later tells in
+    let early : t ≤ D.moment c.write_part.new.disk = omega (arith, low, later) in
+    let latest : D.moment c.write_part.new.disk ≤ D.moment c.write_part-2.new.disk = c.in-Ok-write_part.ensures.later between in
+    let synced = c.in-Ok-sync.ensures.past (c.in-Ok-write_part.ensures.tells between) in
+    stopped_last first (writes_of_rows c.args.bank.now c.args.last.now) image stopped (D.left_since c.args.disk.now t stopped)
+    (D.left_since c.write_part.new.disk t stopped) (c.in-Ok.ensures.stops tells image told t stopped low)
+    (c.in-Ok-write_part.ensures.stops between (written first image) (c.in-Ok.ensures.done image told) t stopped early (synced.nothing_new t stopped (omega (arith, early, latest)) left))
+
+pub returns-in-Err-sync-clause-stops : goal.returns-in-Err-sync-clause-stops
+returns-in-Err-sync-clause-stops g c = λ tells image told t stopped low left.
+    let D = g.D.Disk in
+    let first = writes_of_rows c.args.bank.now c.args.first.now in
+    let between = c.in-Ok.ensures.tells tells in
+    let later : D.moment c.args.disk.now ≤ D.moment c.write_part.new.disk = c.in-Ok.ensures.later tells in
+    let early : t ≤ D.moment c.write_part.new.disk = omega (arith, low, later) in
+    let latest : D.moment c.write_part.new.disk ≤ D.moment c.write_part-2.new.disk = c.in-Ok-write_part.ensures.later between in
+    let synced = c.in-Err-sync.ensures.past (c.in-Ok-write_part.ensures.tells between) in
+    stopped_last first (writes_of_rows c.args.bank.now c.args.last.now) image stopped (D.left_since c.args.disk.now t stopped)
+    (D.left_since c.write_part.new.disk t stopped) (c.in-Ok.ensures.stops tells image told t stopped low)
+    (c.in-Ok-write_part.ensures.stops between (written first image) (c.in-Ok.ensures.done image told) t stopped early (synced.nothing_new t stopped (omega (arith, early, latest)) left))
