@@ -6,9 +6,11 @@ pub mod Ascending
 pub mod Linked
 pub mod Grouped
 pub mod Numbers
+pub mod Pushed
 pub mod Reaching
 pub mod Order
 pub mod Kept
+pub mod Marked
 pub mod Single
 pub mod FileKinds
 pub mod ByKind

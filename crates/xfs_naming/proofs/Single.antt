@@ -2,8 +2,7 @@
 use Rattle.std.proofs.Common.{◌≡◌, ℕ, zero, suc, ◌+◌, ◌<◌, ◌≤◌, Bool, true, false, cond, ◌&&◌, ◌||◌, ◌==◌, List, [], ◌∷◌, length, get_or, Option, Some, refl, sym, ap, ◌∙◌, subst, arith, inl, inr}
 use Rattle.std.specs.List.{list_any, Any}
 use Rattle.std.proofs.lemmas.List.Folds.{Any-from_list_any}
-use Rattle.std.proofs.lemmas.Bool.{and_parts, or_cases, or_left, or_right, eqb-true, eq-eqb}
-use Rattle.std.proofs.lemmas.Bool.Decides.{nat_tests}
+use Rattle.std.proofs.lemmas.Bool.{and_parts, or_cases, or_left, or_right, eqb-true, eq-eqb, ne_eqb}
 use Rattle.xfs_volume.specs.declared.files.FileRec.{FileRec}
 use Rattle.xfs_volume.specs.Names.{is_directory}
 use Rattle.xfs_naming.specs.Naming.{NumbersAscend, numbers_of, file_at, is_in_use, is_directory_at}
@@ -13,11 +12,17 @@ use Rattle.xfs_naming.proofs.Ascending.{ascend_low}
 pub any_of : {X : Type 0} (p : X → Bool) (P : X → Type 0) (xs : List X) → ((x : X) → p x ≡ true → P x) → list_any p xs ≡ true → Any P xs
 any_of p P xs says any = let found = Any-from_list_any p xs any in (found.0, found.1, found.2, found.3, says found.1 found.4)
 
+apart_low : (a b : ℕ) → b < a → a == b ≡ false
+apart_low a b h = ne_eqb a b (λ e. omega arith)
+
+apart_above : (a b : ℕ) → a < b → a == b ≡ false
+apart_above a b h = ne_eqb a b (λ e. omega arith)
+
 -- none has a number that is lower
 pub none_lower : (q : FileRec → Bool) (low x : ℕ) (files : List FileRec) → NumbersAscend low (numbers_of files) → x < low → list_any (λ (f : FileRec). f.ino == x && q f) files ≡ false
 none_lower q low x [] up less = refl
 none_lower q low x (f ∷ fs) up less =
-    let apart : f.ino == x ≡ false = grind (arith, nat_tests, up.0) in
+    let apart : f.ino == x ≡ false = apart_low f.ino x (omega (arith, up.0)) in
     ap (λ (t : Bool). (t && q f) || list_any (λ (g : FileRec). g.ino == x && q g) fs) apart ∙ none_lower q (f.ino + 1) x fs up.1 (omega (arith, up.0))
 
 number_at : (files : List FileRec) (k : ℕ) (d : FileRec) → k < length files → get_or (numbers_of files) k 0 ≡ (get_or files k d).ino
@@ -46,7 +51,7 @@ own_test q low (f ∷ fs) up zero d h =
     plain false = refl
 own_test q low (f ∷ fs) up (suc k) d h =
     let higher : f.ino + 1 ≤ (get_or fs k d).ino = above (f.ino + 1) fs up.1 k d (omega arith) in
-    let apart : f.ino == (get_or fs k d).ino ≡ false = grind (arith, nat_tests) in
+    let apart : f.ino == (get_or fs k d).ino ≡ false = apart_above f.ino (get_or fs k d).ino (omega arith) in
     ap (λ (t : Bool). (t && q f) || list_any (λ (g : FileRec). g.ino == (get_or fs k d).ino && q g) fs) apart ∙ own_test q (f.ino + 1) fs up.1 k d (omega arith)
 
 -- the file of its number
@@ -55,7 +60,7 @@ own_file low [] up k d h = absurd (omega arith)
 own_file low (f ∷ fs) up zero d h = ap (λ (t : Bool). cond t (Some f) (file_at fs f.ino)) (eq-eqb f.ino f.ino refl)
 own_file low (f ∷ fs) up (suc k) d h =
     let higher : f.ino + 1 ≤ (get_or fs k d).ino = above (f.ino + 1) fs up.1 k d (omega arith) in
-    let apart : f.ino == (get_or fs k d).ino ≡ false = grind (arith, nat_tests) in
+    let apart : f.ino == (get_or fs k d).ino ≡ false = apart_above f.ino (get_or fs k d).ino (omega arith) in
     ap (λ (t : Bool). cond t (Some f) (file_at fs (get_or fs k d).ino)) apart ∙ own_file (f.ino + 1) fs up.1 k d (omega arith)
 
 -- the file of a number is one of the files, and has the number
