@@ -27,5 +27,6 @@ pub mod HeldRuns
 pub mod Spared
 pub mod Pieces
 pub mod AllPlaced
+pub mod Whole
 pub mod OfPool
 pub mod Parted

@@ -327,3 +327,14 @@ front_long old now front = omega (arith, ap length front.1, length-append old fr
 
 pub front_take : {X : Type 0} (old now : List X) (n : ℕ) → IsFrontOf old now → n ≡ length old → take n now ≡ old
 front_take old now n front is = ap (take n) front.1 ∙ take-append-le n old front.0 (omega (arith, is)) ∙ take_all n old (omega (arith, is))
+
+pub one_longer : {X : Type 0} (old now next : List X) (x : X) (n : ℕ) → length now ≡ length old + n → next ≡ now ++ x ∷ [] → length next ≡ length old + (n + 1)
+one_longer old now next x n long put = let more : length next ≡ length now + 1 = ap length put ∙ length-append now (x ∷ []) in omega arith
+
+pub one_below : (n most : ℕ) → n < most → n + 1 ≤ most
+one_below n most h = omega arith
+
+-- no object asks for anything
+pub serve_none : (objects : List Object) (after : List ℕ) (runs : List Run) → objects ≡ [] → after ≡ [] → runs ≡ [] → ServeAsks (asks_of objects) after runs
+serve_none objects after runs none no_cuts no_runs =
+    subst (λ (os : List Object). ServeAsks (asks_of os) after runs) (sym none) (subst (λ (ns : List ℕ). ServeAsks [] ns runs) (sym no_cuts) no_runs)

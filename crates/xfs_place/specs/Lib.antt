@@ -11,3 +11,4 @@ pub mod Sparing
 pub mod Counts
 pub mod Standing
 pub mod Windows
+pub mod Kept

@@ -2,8 +2,9 @@
 
 ghost use Rattle.std.specs.Prelude.{◌≡◌, ◌≤◌, ◌<◌, ◌+◌, ◌-◌, ◌++◌, [], ◌∷◌, ◌⊎◌, ℕ, List, Option, if◌then◌else◌, is_some, length, take, drop, true, false, All, IfErr, IfOk, OnOk, MatchOption, Ok, Err, Some, None};
 ghost use Rattle.xfs_geom.specs.Volumes.{volume_of};
-ghost use Rattle.xfs_place.specs.Finding.{IsFrontOf, IsOpen};
-ghost use Rattle.xfs_place.specs.Objects.{ServeAsks, IsAsk, asks_of, front_of, keep_asks, keep_object, keep_pieces, keep_with, lowest, piece_of, place_of_object, rest_of, run_at, spared_in};
+ghost use Rattle.xfs_place.specs.Finding.{IsOpen};
+ghost use Rattle.xfs_place.specs.Kept.{AreAsksPut, AreObjectsKept, IsAskPut};
+ghost use Rattle.xfs_place.specs.Objects.{ServeAsks, IsAsk, front_of, keep_object, keep_with, lowest, piece_of, place_of_object, rest_of, run_at, spared_in};
 ghost use Rattle.xfs_place.specs.Wanted.{CanBeKept};
 ghost use Rattle.xfs_place.specs.declared.faults.Unplaced.{Unplaced};
 ghost use Rattle.xfs_place.specs.declared.wanted.RunAsk.{RunAsk};
@@ -49,10 +50,7 @@ pub fn keep_with(
 ) -> Result<ObjectsKept, PlaceFault>
     requires kept { CanBeKept (volume_of site.now.geometry.now) kept.items }
     requires asks { All (λ object. All IsAsk object.runs) objects.now }
-    ensures placed { IfOk result (λ now. keep_with (volume_of site.now.geometry.now) site.now.reserved.now site.now.from site.now.spared.now site.now.takes kept.items objects.now ≡ Ok now.all.items) }
-    ensures kept { IfOk result (λ now. CanBeKept (volume_of site.now.geometry.now) now.all.items) }
-    ensures behind { IfOk result (λ now. take (length kept.items) now.all.items ≡ kept.items) }
-    ensures cuts { IfOk result (λ now. ServeAsks (asks_of objects.now) now.cuts.items (drop (length kept.items) now.all.items)) }
+    ensures told { IfOk result (λ now. AreObjectsKept (volume_of site.now.geometry.now) site.now.reserved.now site.now.from site.now.spared.now site.now.takes kept.items objects.now now.all.items now.cuts.items) }
     ensures cause { IfErr result (λ fault. (fault ≡ PlaceFault.NoMemory)
         ⊎ ((what : Unplaced) × (fault ≡ PlaceFault.NoRoom what) × (keep_with (volume_of site.now.geometry.now) site.now.reserved.now site.now.from site.now.spared.now site.now.takes kept.items objects.now ≡ Err what))) }
 {
@@ -128,7 +126,6 @@ impl Keeper {
 
     /// Adds the runs of an object, on all blocks or on those that are not spared, and how many each of its asks has; false where they do
     /// not hold it. The runs from number `first` on are those of objects.
-    #[tactic(auto, using(crate::proofs::Pieces::front_same))]
     fn put_asks(
         &mut self,
         all: bool,
@@ -141,14 +138,8 @@ impl Keeper {
         requires first { first ≤ length self.old.all.items }
         requires kept { CanBeKept (volume_of site.now.geometry.now) self.old.all.items }
         requires pool { IsOpen (volume_of site.now.geometry.now) self.old.all.items site.now.reserved.now site.now.from site.now.spared.now self.old.pool }
-        ensures kept { OnOk result (CanBeKept (volume_of site.now.geometry.now) self.new.all.items) }
-        ensures pool { OnOk result (IsOpen (volume_of site.now.geometry.now) self.new.all.items site.now.reserved.now site.now.from site.now.spared.now self.new.pool) }
-        ensures placed { IfOk result (λ placed. keep_asks (volume_of site.now.geometry.now) site.now.reserved.now site.now.from (spared_in all site.now.spared.now) object.now.most self.old.all.items object.now.runs
-            ≡ (if placed then Some self.new.all.items else None)) }
-        ensures front { OnOk result (IsFrontOf self.old.all.items self.new.all.items) }
-        ensures cut { OnOk result (IsFrontOf cuts.old.items cuts.new.items) }
-        ensures cuts { IfOk result (λ placed. placed ≡ true → (asks : List RunAsk) → ServeAsks asks cuts.old.items (drop first self.old.all.items)
-            → ServeAsks (asks ++ object.now.runs) cuts.new.items (drop first self.new.all.items)) }
+        ensures { IfOk result (λ placed. AreAsksPut (volume_of site.now.geometry.now) site.now.reserved.now site.now.from site.now.spared.now all object.now first self.old.all.items self.new.all.items
+            cuts.old.items cuts.new.items self.new.pool placed) }
     {
         let asks = object.runs.as_slice();
         let mut left = object.most as usize;
@@ -165,7 +156,6 @@ impl Keeper {
 
     /// Adds the runs of an ask, which may be so many, on all blocks or on those that are not spared, and says how many they are; `None`
     /// where they do not hold it.
-    #[tactic(auto, using(crate::proofs::Pieces::front_same))]
     fn put_ask(
         &mut self,
         all: bool,
@@ -176,13 +166,8 @@ impl Keeper {
         requires ask { IsAsk ask.now }
         requires kept { CanBeKept (volume_of site.now.geometry.now) self.old.all.items }
         requires pool { IsOpen (volume_of site.now.geometry.now) self.old.all.items site.now.reserved.now site.now.from site.now.spared.now self.old.pool }
-        ensures kept { OnOk result (CanBeKept (volume_of site.now.geometry.now) self.new.all.items) }
-        ensures pool { OnOk result (IsOpen (volume_of site.now.geometry.now) self.new.all.items site.now.reserved.now site.now.from site.now.spared.now self.new.pool) }
-        ensures placed { IfOk result (λ count. keep_pieces (volume_of site.now.geometry.now) site.now.reserved.now site.now.from (spared_in all site.now.spared.now) most false self.old.all.items ask.now
-            ≡ (if is_some count then Some self.new.all.items else None)) }
-        ensures count { IfOk result (λ count. MatchOption count (Unit {0}) (λ n. length self.new.all.items ≡ length self.old.all.items + n)) }
-        ensures few { IfOk result (λ count. MatchOption count (Unit {0}) (λ n. n ≤ most)) }
-        ensures front { OnOk result (IsFrontOf self.old.all.items self.new.all.items) }
+        ensures { IfOk result (λ count. IsAskPut (volume_of site.now.geometry.now) site.now.reserved.now site.now.from site.now.spared.now all most ask.now self.old.all.items self.new.all.items
+            self.new.pool count) }
     {
         let mut rest = *ask;
         for n in 0..most {

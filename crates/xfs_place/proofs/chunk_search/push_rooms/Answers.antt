@@ -1,7 +1,7 @@
 use Rattle.std.proofs.Common.{Vec, Global, ◌≡◌, ◌+◌, ◌*◌, ◌/◌, ◌++◌, ◌≤◌, ◌<◌, List, ℕ, length, take, sym, ◌∙◌, ap, subst, arith}
 use Rattle.xfs_geom.specs.Volumes.{volume_of}
 use Rattle.xfs_geom.specs.Conversions.{group_length}
-use Rattle.xfs_place.specs.Chunks.{asked_pool}
+use Rattle.xfs_place.specs.Chunks.{asked_pool, rooms_below}
 use Rattle.xfs_place.proofs.Rooms.{number_inside, rooms_full, rooms_put, rooms_same, rooms_start}
 use Rattle.xfs_place.proofs.chunk_search.push_rooms.Goals as goal
 use Rattle.xfs_place.proofs.chunk_search.push_rooms.Goals.{then-is_room+in_ok-push, else-is_room}
@@ -46,3 +46,17 @@ loop-i-preserved c =
           let same = rooms_same v (asked_pool ask) ask.size ask.from c.args.ag i (sym c.is_room.ensures ∙ w.if-is_room.false) in
           ap (λ (u : Vec ℕ Global). u.items) w.starts-is ∙ c.loop-i.invariant ∙ ap (λ (xs : List ℕ). take ask.count (old ++ xs)) (sym same)
     ]
+
+pub overflow_mul-i : goal.overflow_mul-i
+overflow_mul-i c =
+    let inside = number_inside c.loop-i.i c.args.ask.now.size c.group_length.result c.requires.size c.loop-i-test.true in
+    let most = c.group_length.type_inv in
+    omega (arith, inside, most)
+
+pub returns : goal.returns
+returns c =
+    let ask = c.args.ask.now in
+    let v = volume_of ask.geometry in
+    let all : c.loop-i.i ≡ c.group_length.result / ask.size = omega (arith, c.loop-i-test.false, c.loop-i.auto.i-end) in
+    c.loop-i.invariant
+    ∙ ap (λ (n : ℕ). take ask.count (c.args.starts.now.items ++ rooms_below v (asked_pool ask) ask.size ask.from c.args.ag n)) (all ∙ ap (λ (n : ℕ). n / ask.size) c.group_length.ensures.value)

@@ -1,13 +1,13 @@
-use Rattle.std.proofs.Common.{◌≤◌, inr, Bool, List, length, Some, None, Err, if◌then◌else◌, take, drop, refl, sym, ◌∙◌, ap, subst, arith}
+use Rattle.std.proofs.Common.{◌≡◌, ℕ, ◌≤◌, inr, Bool, List, length, Some, None, Err, if◌then◌else◌, take, drop, refl, sym, ◌∙◌, ap, subst, arith}
 use Rattle.std.specs.List.{All}
 use Rattle.std.proofs.lemmas.Bool.{eqb-true}
-use Rattle.std.proofs.lemmas.List.{drop_all}
+use Rattle.std.proofs.lemmas.List.{drop_all, take_all}
 use Rattle.xfs_geom.specs.Volumes.{volume_of}
 use Rattle.xfs_place.specs.declared.faults.Unplaced.{Unplaced}
 use Rattle.xfs_place.specs.declared.wanted.Object.{Object}
 use Rattle.xfs_place.specs.declared.wanted.RunAsk.{RunAsk}
 use Rattle.xfs_place.specs.Objects.{IsAsk, ServeAsks, asks_of}
-use Rattle.xfs_place.proofs.Pieces.{asks_more, first_stays, objects_end, objects_next, objects_stop}
+use Rattle.xfs_place.proofs.Pieces.{asks_more, first_stays, objects_end, objects_next, objects_stop, serve_none}
 use Rattle.xfs_place.proofs.object_placing.keep_with.Goals as goal
 
 pub returns-then-not-branch-clause-cause : goal.returns-then-not-branch-clause-cause
@@ -40,25 +40,36 @@ loop-object-preserved c =
           (c.in_ok-put_object.ensures.cuts c.if-not-branch.false (asks_of (take l.object-index c.args.objects.now)) l.invariant.cuts');
     }
 
-pub returns-clause-placed : goal.returns-clause-placed
-returns-clause-placed c =
+pub returns-clause-told : goal.returns-clause-told
+returns-clause-told c =
     let s = c.args.site.now in
     let l = c.loop-object in
-    l.invariant.same
-    ∙ objects_end (volume_of s.geometry.now) s.reserved.now s.from s.spared.now s.takes l.keeper.all.items (drop l.object-index c.args.objects.now) (drop_all l.object-index c.args.objects.now c.loop-object-test.false)
+    let old = c.args.kept in
+    let all = l.keeper.all.items in
+    let objects = c.args.objects.now in
+    let placed = l.invariant.same
+    ∙ objects_end (volume_of s.geometry.now) s.reserved.now s.from s.spared.now s.takes all (drop l.object-index objects) (drop_all l.object-index objects c.loop-object-test.false) in
+    let first : c.len-first.result ≡ length old.items = omega (arith, c.len-first.ensures, old.ok.0) in
+    record {
+      placed = placed;
+      kept = l.invariant.kept';
+      behind = first_stays (volume_of s.geometry.now) s.reserved.now s.from s.spared.now s.takes old.items objects all placed;
+      cuts = subst (λ (n : ℕ). ServeAsks (asks_of objects) l.cuts.items (drop n all)) first
+          (subst (λ (os : List Object). ServeAsks (asks_of os) l.cuts.items (drop c.len-first.result all)) (take_all l.object-index objects c.loop-object-test.false) l.invariant.cuts');
+    }
 
-pub returns-clause-behind : goal.returns-clause-behind
-returns-clause-behind c =
+pub returns-then-is_empty-clause-told : goal.returns-then-is_empty-clause-told
+returns-then-is_empty-clause-told c =
     let s = c.args.site.now in
-    let l = c.loop-object in
-    first_stays (volume_of s.geometry.now) s.reserved.now s.from s.spared.now s.takes c.args.kept.items c.args.objects.now l.keeper.all.items (l.invariant.same
-    ∙ objects_end (volume_of s.geometry.now) s.reserved.now s.from s.spared.now s.takes l.keeper.all.items (drop l.object-index c.args.objects.now) (drop_all l.object-index c.args.objects.now c.loop-object-test.false))
-
-pub returns-then-is_empty-clause-placed : goal.returns-then-is_empty-clause-placed
-returns-then-is_empty-clause-placed c =
-    let s = c.args.site.now in
-    let none : length c.args.objects.now ≤ 0 = omega (arith, eqb-true (length c.args.objects.now) 0 (sym c.is_empty.ensures ∙ c.if-is_empty.true)) in
-    objects_end (volume_of s.geometry.now) s.reserved.now s.from s.spared.now s.takes c.args.kept.items c.args.objects.now (drop_all 0 c.args.objects.now none)
+    let old = c.args.kept.items in
+    let objects = c.args.objects.now in
+    let none : length objects ≤ 0 = omega (arith, eqb-true (length objects) 0 (sym c.is_empty.ensures ∙ c.if-is_empty.true)) in
+    record {
+      placed = objects_end (volume_of s.geometry.now) s.reserved.now s.from s.spared.now s.takes old objects (drop_all 0 objects none);
+      kept = c.requires.kept;
+      behind = take_all (length old) old (omega arith);
+      cuts = serve_none objects c.new-cuts.result.items (drop (length old) old) (drop_all 0 objects none) c.new-cuts.ensures.items (drop_all (length old) old (omega arith));
+    }
 
 pub put_object-requires-clause-asks : goal.put_object-requires-clause-asks
 put_object-requires-clause-asks c =

@@ -1,13 +1,23 @@
-use Rattle.std.proofs.Common.{◌<◌, ◌^◌, [], List, sym, subst}
-use Rattle.xfs_geom.specs.Volumes.{volume_of}
-use Rattle.xfs_place.specs.declared.placed.GroupPlaced.{GroupPlaced}
-use Rattle.xfs_place.specs.Counts.{placed_counts}
-use Rattle.xfs_place.proofs.AllPlaced.{rooms_small}
+use Rattle.std.proofs.lemmas.Result.{IfOk-weaker}
 use Rattle.xfs_place.proofs.placing.place.Goals as goal
 
-pub count_all-counts-requires-clause-small : goal.count_all-counts-requires-clause-small
-count_all-counts-requires-clause-small c =
-    let w = c.args.wanted.now in
-    subst (λ (gs : List GroupPlaced). (placed_counts [] gs).fdblocks < 2 ^ 64) (sym c.deref-3.ensures.value)
-    (rooms_small (volume_of w.geometry) c.deref.result.now c.as_slice-reserved.result.now c.as_slice-inodes.result.now w.geometry.agcount c.in_ok-groups.groups.items w.geometry.shape.groups
-    w.geometry.shape.groups.few c.in_ok-groups.ensures.placed)
+pub returns-clause-runs : goal.returns-clause-runs
+returns-clause-runs c = IfOk-weaker c.place_all.result _ _ (λ placed told. told.runs) c.place_all.ensures.told
+
+pub returns-clause-cuts : goal.returns-clause-cuts
+returns-clause-cuts c = IfOk-weaker c.place_all.result _ _ (λ placed told. told.cuts) c.place_all.ensures.told
+
+pub returns-clause-groups : goal.returns-clause-groups
+returns-clause-groups c = IfOk-weaker c.place_all.result _ _ (λ placed told. told.groups) c.place_all.ensures.told
+
+pub returns-clause-apart : goal.returns-clause-apart
+returns-clause-apart c = IfOk-weaker c.place_all.result _ _ (λ placed told. told.apart) c.place_all.ensures.told
+
+pub returns-clause-pool : goal.returns-clause-pool
+returns-clause-pool c = IfOk-weaker c.place_all.result _ _ (λ placed told. told.pool) c.place_all.ensures.told
+
+pub returns-clause-counts : goal.returns-clause-counts
+returns-clause-counts c = IfOk-weaker c.place_all.result _ _ (λ placed told. told.counts) c.place_all.ensures.told
+
+pub returns-clause-cause : goal.returns-clause-cause
+returns-clause-cause c = c.place_all.ensures.cause

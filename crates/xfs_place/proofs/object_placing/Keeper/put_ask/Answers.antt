@@ -1,26 +1,42 @@
-use Rattle.std.proofs.Common.{◌≡◌, ◌++◌, ◌∷◌, [], ◌<◌, nat_lt, List, length, length-append, Some, sym, ◌∙◌, ap, subst, arith}
+use Rattle.std.proofs.Common.{ℕ, ◌≡◌, ◌++◌, ◌∷◌, [], ◌<◌, nat_lt, List, length, length-append, Some, sym, ◌∙◌, ap, subst, arith}
 use Rattle.xfs_geom.specs.Volumes.{volume_of}
 use Rattle.xfs_geom.specs.declared.records.Run.{Run}
 use Rattle.xfs_place.specs.Finding.{IsFrontOf}
 use Rattle.xfs_place.specs.Objects.{IsAsk, front_of, run_at, spared_in}
-use Rattle.xfs_place.proofs.Pieces.{front_push, pieces_last, pieces_next, pieces_over, pieces_stop, rest_is}
+use Rattle.xfs_place.proofs.Pieces.{front_push, pieces_last, pieces_next, pieces_over, pieces_stop, rest_is, one_longer, one_below}
 use Rattle.xfs_place.proofs.object_placing.Keeper.put_ask.Goals as goal
 
-pub returns-in_default-clause-placed : goal.returns-in_default-clause-placed
-returns-in_default-clause-placed c =
+pub returns-in_default : goal.returns-in_default
+returns-in_default c =
     let s = c.args.site.now in
     let l = c.loop-n in
     let found = rw c.in_default.is at c.in_ok-blocks.ensures.piece in
-    l.invariant.same ∙ pieces_stop (volume_of s.geometry.now) s.reserved.now s.from (spared_in c.args.all s.spared.now) c.args.most l.n (nat_lt 0 l.n) l.self.all.items l.rest c.loop-n-test.true found.0
+    record {
+      kept = c.in_ok-blocks.ensures.kept;
+      pool = c.in_ok-blocks.ensures.pool;
+      placed = l.invariant.same ∙ pieces_stop (volume_of s.geometry.now) s.reserved.now s.from (spared_in c.args.all s.spared.now) c.args.most l.n (nat_lt 0 l.n) l.self.all.items l.rest c.loop-n-test.true found.0;
+      count = tt;
+      few = tt;
+      front = subst (IsFrontOf c.args.self.now.all.items) (sym found.1) l.invariant.front;
+    }
 
-pub returns-then-blocks-rest-clause-placed : goal.returns-then-blocks-rest-clause-placed
-returns-then-blocks-rest-clause-placed c =
+pub returns-then-blocks-rest : goal.returns-then-blocks-rest
+returns-then-blocks-rest c =
     let s = c.args.site.now in
     let l = c.loop-n in
     let found = rw c.in-Some.is at c.in_ok-blocks.ensures.piece in
-    l.invariant.same
-    ∙ pieces_last (volume_of s.geometry.now) s.reserved.now s.from (spared_in c.args.all s.spared.now) c.args.most l.n (nat_lt 0 l.n) l.self.all.items l.rest found.0 c.in-Some.blocks c.loop-n-test.true found.1 c.if-blocks-rest.true
-    ∙ ap (λ (rs : List Run). Some rs) (sym found.2)
+    let run = run_at found.0 (front_of l.rest c.in-Some.blocks) in
+    let put : c.put_piece.new.self.all.items ≡ l.self.all.items ++ run ∷ [] = found.2 in
+    record {
+      kept = c.in_ok-blocks.ensures.kept;
+      pool = c.in_ok-blocks.ensures.pool;
+      placed = l.invariant.same
+          ∙ pieces_last (volume_of s.geometry.now) s.reserved.now s.from (spared_in c.args.all s.spared.now) c.args.most l.n (nat_lt 0 l.n) l.self.all.items l.rest found.0 c.in-Some.blocks c.loop-n-test.true found.1 c.if-blocks-rest.true
+          ∙ ap (λ (rs : List Run). Some rs) (sym put);
+      count = one_longer c.args.self.now.all.items l.self.all.items c.put_piece.new.self.all.items run l.n l.invariant.long put;
+      few = one_below l.n c.args.most c.loop-n-test.true;
+      front = front_push c.args.self.now.all.items l.self.all.items c.put_piece.new.self.all.items (run ∷ []) l.invariant.front put;
+    }
 
 pub loop-n-preserved : goal.loop-n-preserved
 loop-n-preserved c =
@@ -36,23 +52,20 @@ loop-n-preserved c =
           c.loop-n-test.true found.1 c.if-blocks-rest.false put c.rest_of-rest.ensures;
       ask' = subst IsAsk (sym c.rest_of-rest.ensures) (rest_is l.rest c.in-Some.blocks l.invariant.ask' less);
       front = front_push c.args.self.now.all.items l.self.all.items c.put_piece.new.self.all.items (run_at found.0 (front_of l.rest c.in-Some.blocks) ∷ []) l.invariant.front put;
-      long = omega (arith, ap length put, length-append l.self.all.items (run_at found.0 (front_of l.rest c.in-Some.blocks) ∷ []), l.invariant.long);
+      long = one_longer c.args.self.now.all.items l.self.all.items c.put_piece.new.self.all.items (run_at found.0 (front_of l.rest c.in-Some.blocks)) l.n l.invariant.long put;
       kept = c.in_ok-blocks.ensures.kept;
       pool' = c.in_ok-blocks.ensures.pool;
     }
 
-pub returns-clause-placed : goal.returns-clause-placed
-returns-clause-placed c =
+pub returns : goal.returns
+returns c =
     let s = c.args.site.now in
     let l = c.loop-n in
-    l.invariant.same ∙ pieces_over (volume_of s.geometry.now) s.reserved.now s.from (spared_in c.args.all s.spared.now) c.args.most l.n (nat_lt 0 l.n) l.self.all.items l.rest c.loop-n-test.false
-
-pub returns-in_default-clause-front : goal.returns-in_default-clause-front
-returns-in_default-clause-front c =
-    let found = rw c.in_default.is at c.in_ok-blocks.ensures.piece in
-    subst (IsFrontOf c.args.self.now.all.items) (sym found.1) c.loop-n.invariant.front
-
-pub returns-then-blocks-rest-clause-front : goal.returns-then-blocks-rest-clause-front
-returns-then-blocks-rest-clause-front c =
-    let found = rw c.in-Some.is at c.in_ok-blocks.ensures.piece in
-    front_push c.args.self.now.all.items c.loop-n.self.all.items c.put_piece.new.self.all.items (run_at found.0 (front_of c.loop-n.rest c.in-Some.blocks) ∷ []) c.loop-n.invariant.front found.2
+    record {
+      kept = l.invariant.kept;
+      pool = l.invariant.pool';
+      placed = l.invariant.same ∙ pieces_over (volume_of s.geometry.now) s.reserved.now s.from (spared_in c.args.all s.spared.now) c.args.most l.n (nat_lt 0 l.n) l.self.all.items l.rest c.loop-n-test.false;
+      count = tt;
+      few = tt;
+      front = l.invariant.front;
+    }

@@ -1,21 +1,45 @@
-use Rattle.std.proofs.Common.{◌≡◌, ◌+◌, [], ◌∷◌, length, drop, ◌∙◌, arith}
-use Rattle.std.proofs.lemmas.List.{drop_all}
+use Rattle.std.proofs.Common.{List, ◌++◌, ◌<◌, get_or, sym, ap, subst, ◌≡◌, ◌+◌, [], ◌∷◌, length, drop, ◌∙◌, arith}
+use Rattle.std.proofs.lemmas.List.{append-nil, drop_all, take_all}
+use Rattle.std.proofs.lemmas.Bool.{true≢false}
 use Rattle.xfs_geom.specs.Volumes.{volume_of}
-use Rattle.xfs_place.specs.Objects.{spared_in}
+use Rattle.xfs_place.specs.Objects.{IsAsk, ServeAsks, keep_asks, spared_in}
 use Rattle.xfs_place.specs.declared.wanted.RunAsk.{RunAsk}
-use Rattle.xfs_place.proofs.Pieces.{asks_end, asks_next, asks_stop, cuts_next, front_long, front_push, front_then}
+use Rattle.xfs_place.proofs.Pieces.{asks_end, asks_next, asks_stop, cuts_next, front_long, front_push, front_same, front_then}
 use Rattle.xfs_place.proofs.object_placing.Keeper.put_asks.Goals as goal
 
 abbrev none_asked : RunAsk
 none_asked = record { blocks = 0; owner = 0; offset_word = 0 }
 
-pub returns-in_default-clause-placed : goal.returns-in_default-clause-placed
-returns-in_default-clause-placed c =
+pub returns-in_default : goal.returns-in_default
+returns-in_default c =
     let s = c.args.site.now in
     let l = c.loop-i in
     let none = rw c.in_default.is at c.in_ok-count.ensures.placed in
-    l.invariant.same
-    ∙ asks_stop (volume_of s.geometry.now) s.reserved.now s.from (spared_in c.args.all s.spared.now) l.left c.saturating_sub-most.result l.self.all.items c.as_slice-asks.result.now l.i none_asked c.loop-i-test.true c.saturating_sub-most.ensures none
+    record {
+      kept = c.in_ok-count.ensures.kept;
+      pool = c.in_ok-count.ensures.pool;
+      placed = l.invariant.same
+          ∙ asks_stop (volume_of s.geometry.now) s.reserved.now s.from (spared_in c.args.all s.spared.now) l.left c.saturating_sub-most.result l.self.all.items c.as_slice-asks.result.now l.i none_asked c.loop-i-test.true c.saturating_sub-most.ensures none;
+      front = front_then c.args.self.now.all.items l.self.all.items c.put_ask.new.self.all.items l.invariant.front c.in_ok-count.ensures.front;
+      cut = l.invariant.cut;
+      cuts = λ never. absurd (true≢false (sym never));
+    }
+
+pub loop-i-init : goal.loop-i-init
+loop-i-init c =
+    let s = c.args.site.now in
+    let old = c.args.self.now.all.items in
+    let o = c.args.object.now in
+    let before = c.args.cuts.now.items in
+    record {
+      same = ap (keep_asks (volume_of s.geometry.now) s.reserved.now s.from (spared_in c.args.all s.spared.now) o.most old) (sym c.as_slice-asks.ensures);
+      few = omega arith;
+      front = front_same old;
+      cut = front_same before;
+      kept = c.requires.kept;
+      pool' = c.requires.pool;
+      cuts' = λ asks were. subst (λ (rs : List RunAsk). ServeAsks rs before (drop c.args.first old)) (sym (append-nil asks)) were;
+    }
 
 pub loop-i-preserved : goal.loop-i-preserved
 loop-i-preserved c =
@@ -39,11 +63,23 @@ loop-i-preserved c =
           c.push.new.self.items (omega (arith, c.requires.first, front_long c.args.self.now.all.items l.self.all.items l.invariant.front)) c.loop-i-test.true some long c.in_ok-push.ensures.items (l.invariant.cuts' done were);
     }
 
-pub returns-clause-placed : goal.returns-clause-placed
-returns-clause-placed c =
+pub returns : goal.returns
+returns c =
     let s = c.args.site.now in
     let l = c.loop-i in
-    l.invariant.same ∙ asks_end (volume_of s.geometry.now) s.reserved.now s.from (spared_in c.args.all s.spared.now) l.left l.self.all.items (drop l.i c.as_slice-asks.result.now) (drop_all l.i c.as_slice-asks.result.now c.loop-i-test.false)
+    let asked = c.as_slice-asks.result.now in
+    let now = l.self.all.items in
+    record {
+      kept = l.invariant.kept;
+      pool = l.invariant.pool';
+      placed = l.invariant.same ∙ asks_end (volume_of s.geometry.now) s.reserved.now s.from (spared_in c.args.all s.spared.now) l.left now (drop l.i asked) (drop_all l.i asked c.loop-i-test.false);
+      front = l.invariant.front;
+      cut = l.invariant.cut;
+      cuts = λ _ asks were.
+          subst (λ (rs : List RunAsk). ServeAsks (asks ++ rs) l.cuts.items (drop c.args.first now)) (take_all l.i asked c.loop-i-test.false ∙ c.as_slice-asks.ensures) (l.invariant.cuts' asks were);
+    }
 
-pub returns-in_default-clause-front : goal.returns-in_default-clause-front
-returns-in_default-clause-front c = front_then c.args.self.now.all.items c.loop-i.self.all.items c.put_ask.new.self.all.items c.loop-i.invariant.front c.in_ok-count.ensures.front
+pub put_ask-requires-clause-ask : goal.put_ask-requires-clause-ask
+put_ask-requires-clause-ask c =
+    let i = c.loop-i.i in
+    subst (λ (rs : List RunAsk). IsAsk (get_or rs i none_asked)) (sym c.as_slice-asks.ensures) (c.requires.asks i none_asked (subst (λ (rs : List RunAsk). i < length rs) c.as_slice-asks.ensures c.loop-i-test.true))
