@@ -68,11 +68,7 @@ fn place_all(alloc: Global, wanted: &Wanted) -> Result<Placed, PlaceFault>
 }
 
 /// Adds the runs of the objects to what is kept.
-fn keep_objects(
-    alloc: Global,
-    wanted: &Wanted,
-    kept: Vec<Run>,
-) -> Result<ObjectsKept, PlaceFault>
+fn keep_objects(alloc: Global, wanted: &Wanted, kept: Vec<Run>) -> Result<ObjectsKept, PlaceFault>
     requires kept { CanBeKept (volume_of wanted.now.geometry) (kept_runs wanted.now) }
     requires asks { All (λ object. All IsAsk object.runs) wanted.now.objects }
     requires all { kept.items ≡ kept_runs wanted.now }
@@ -118,11 +114,7 @@ fn runs_from(all: &[Run], first: usize) -> &[Run]
 }
 
 /// Places the trees and the free lists of all groups, beside these runs.
-fn place_wanted(
-    alloc: Global,
-    wanted: &Wanted,
-    all: &[Run],
-) -> Result<Vec<GroupPlaced>, PlaceFault>
+fn place_wanted(alloc: Global, wanted: &Wanted, all: &[Run]) -> Result<Vec<GroupPlaced>, PlaceFault>
     requires kept { CanBeKept (volume_of wanted.now.geometry) all.now }
     requires inodes { length wanted.now.inodes ≡ wanted.now.geometry.agcount }
     requires few { All (λ group. length group.records < 2 ^ 32) wanted.now.inodes }
@@ -132,7 +124,13 @@ fn place_wanted(
         ⊎ ((ag : ℕ) × (fault ≡ PlaceFault.NoRoom (Unplaced.Group ag)) × IsWithoutRoom (volume_of wanted.now.geometry) all.now wanted.now.reserved wanted.now.inodes ag)) }
 {
     let reserved = wanted.reserved.as_slice();
-    place_groups(alloc, &wanted.geometry, all, reserved, wanted.inodes.as_slice())
+    place_groups(
+        alloc,
+        &wanted.geometry,
+        all,
+        reserved,
+        wanted.inodes.as_slice(),
+    )
 }
 
 /// Where everything stands, with the counts.
