@@ -29,6 +29,10 @@ joined_parts x y h =
       offsets = a.1;
     }
 
+-- a run that goes on begins where the one before it ends
+pub joined_end : (x y : Run) → joins x y ≡ true → x.start + x.count ≡ y.start
+joined_end x y h = (joined_parts x y h).start
+
 -- runs with the same owner and flags are file data, or neither is
 same_data : (x y : Run) → Joined x y → is_file_data x.owner x.offset_word ≡ is_file_data y.owner y.offset_word
 same_data x y j =

@@ -1,4 +1,5 @@
-use Rattle.std.proofs.Common.{◌≡◌, ◌+◌, ◌<◌, ℕ, sym, ◌∙◌, ap, arith}
+use Rattle.std.proofs.Common.{◌≡◌, true, ◌+◌, ◌<◌, ◌≤◌, ℕ, sym, ◌∙◌, ap, arith}
+use borrow.Author.Count.{below_more}
 use Rattle.xfs_geom.specs.Volumes.{volume_of}
 use Rattle.xfs_kinds.specs.InodeTrees.{is_block_free_of_use, are_free_of_use}
 use Rattle.xfs_kinds.proofs.Ranges.{some_fails, all_hold}
@@ -21,3 +22,14 @@ returns c =
     let less : k < c.loop-block.block = omega arith in
     ap test place ∙ c.loop-block.invariant k less in
     sym (all_hold test 0 8 holds)
+
+inside : (start block blocks : ℕ) → start + 8 ≤ blocks → block < 8 → start + block < blocks
+inside start block blocks all here = omega arith
+
+pub loop-block-preserved : goal.loop-block-preserved
+loop-block-preserved c =
+    below_more (λ (k : ℕ). is_block_free_of_use (volume_of c.args.g.now) c.args.holemask c.args.start k ≡ true) c.loop-block.block c.loop-block.invariant
+    (sym c.is_block_free_of_use.ensures ∙ c.if-not-is_block_free_of_use.false)
+
+pub is_block_free_of_use-requires-clause-inside : goal.is_block_free_of_use-requires-clause-inside
+is_block_free_of_use-requires-clause-inside c = inside c.args.start c.loop-block.block c.args.g.now.dblocks c.requires c.loop-block-test.true
