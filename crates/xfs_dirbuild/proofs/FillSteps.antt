@@ -1,11 +1,11 @@
 -- One data block more is filled.
-use Rattle.std.proofs.Common.{◌≡◌, ℕ, ◌+◌, ◌*◌, ◌<◌, ◌≤◌, inl, inr, List, [], ◌∷◌, ◌++◌, map, length, take, drop, get_or, sym, ◌∙◌, ap, ap₂, subst, arith, add-zero}
+use Rattle.std.proofs.Common.{◌≡◌, ℕ, ◌+◌, ◌-◌, ◌*◌, ◌<◌, ◌≤◌, Fits, w16, inl, inr, List, [], ◌∷◌, ◌++◌, map, length, take, drop, get_or, sym, ◌∙◌, ap, ap₂, subst, arith, add-zero}
 use Rattle.std.specs.List.{All}
 use Rattle.std.proofs.lemmas.List.{drop-drop, drop_all, length-drop, get_or-drop, take_more, append_assoc, map-append}
 use Rattle.std.proofs.lemmas.List.Elements.{All-head, All-tail}
 use Rattle.std.proofs.lemmas.Bool.{cases_lt}
 use Rattle.xfs_dirdata.specs.declared.records.EntryRec.{EntryRec}
-use Rattle.xfs_dirdata.specs.Written.{IsWritableEntry, data_size_of, offsets}
+use Rattle.xfs_dirdata.specs.Written.{IsWritableEntry, data_size_of, data_length, offsets}
 use Rattle.xfs_dirindex.specs.declared.pairs.Pair.{Pair}
 use Rattle.xfs_dirindex.specs.Data.{due_pairs}
 use Rattle.xfs_dirbuild.specs.Forms.{data_count}
@@ -13,7 +13,7 @@ use Rattle.xfs_dirbuild.specs.Filling.{filled, filled_shares, pairs_from, rest_i
 use Rattle.xfs_dirbuild.specs.Blocks.{data_block, bank_part}
 use Rattle.xfs_dirbuild.specs.Placed.{IsBuiltDataBlock}
 use Rattle.xfs_dirbuild.proofs.Sections.{section-push}
-use Rattle.xfs_dirbuild.proofs.Filled.{later, later-some, count-fits, count-full}
+use Rattle.xfs_dirbuild.proofs.Filled.{later, later-some, count-fits, count-full, due_pairs-append}
 
 pub left-on : (ss : List (List EntryRec)) (n : ℕ) (x : List EntryRec) (rest : List (List EntryRec)) → drop n ss ≡ x ∷ rest → drop (n + 1) ss ≡ rest
 left-on ss n x rest at = sym (drop-drop 1 n ss) ∙ ap (drop 1) at
@@ -105,3 +105,32 @@ filled-bound at (e ∷ es) all =
 pub data_count-bound : (es : List EntryRec) → All IsWritableEntry es → length es ≤ 16777216 → data_count es ≤ 0x800000
 unfolding data_count
 data_count-bound es all few = omega (arith, filled-bound 96 es all)
+
+-- numbers of one data block
+pub front-low : (start front : ℕ) → start ≡ 64 + front → 64 ≤ start
+front-low start front is = omega arith
+
+pub front-end : (start front more all : ℕ) → start ≡ 64 + front → all ≡ front + more → 64 + all ≤ 4096 → start + more ≤ 4096
+front-end start front more all is sum fits = omega arith
+
+pub rest-left : (end start front more all : ℕ) → end ≡ start + more → start ≡ 64 + front → all ≡ front + more → 4096 - end ≡ 4096 - (64 + all)
+rest-left end start front more all end_is is sum = omega arith
+
+pub end-inside : (end start more : ℕ) → end ≡ start + more → start + more ≤ 4096 → end ≤ 4096
+end-inside end start more is fits = omega arith
+
+pub rest-fits : (end : ℕ) → Fits w16 (4096 - end)
+rest-fits end = omega arith
+
+pub more-added : (new middle old front part count : ℕ) → new ≡ middle + part → middle ≡ old + front → part ≡ count → new ≡ old + front + count
+more-added new middle old front part count new_is middle_is part_is = omega arith
+
+-- the pairs of a block's first entries, and those of the others
+pub pairs-both : (n start count : ℕ) (front es : List EntryRec) (old middle new : List Pair) → middle ≡ old ++ due_pairs n front (offsets 64 front)
+    → new ≡ middle ++ due_pairs n (take count es) (offsets start (take count es)) → start ≡ 64 + data_length front
+    → new ≡ old ++ due_pairs n (front ++ take count es) (offsets 64 (front ++ take count es))
+pairs-both n start count front es old middle new first more is =
+    more
+    ∙ (ap₂ (λ (ps : List Pair) (a : ℕ). ps ++ due_pairs n (take count es) (offsets a (take count es))) first is
+    ∙ (append_assoc old (due_pairs n front (offsets 64 front)) (due_pairs n (take count es) (offsets (64 + data_length front) (take count es)))
+    ∙ ap (λ (ps : List Pair). old ++ ps) (sym (due_pairs-append n 64 front (take count es)))))

@@ -5,6 +5,8 @@ pub mod Rows
 pub mod Trees
 pub mod Areas
 pub mod FillSteps
+pub mod Adding
+pub mod Choosing
 pub mod RowSteps
 pub mod TreeCounts
 pub mod Standing

@@ -1,8 +1,8 @@
 -- One block more of a row is written.
-use Rattle.std.proofs.Common.{◌≡◌, ℕ, ◌+◌, ◌-◌, ◌*◌, ◌<◌, ◌≤◌, inr, true, false, List, [], ◌∷◌, ◌++◌, map, length, take, drop, get_or, sym, ◌∙◌, ap, ap₂, subst, arith}
+use Rattle.std.proofs.Common.{◌≡◌, ℕ, ◌+◌, ◌-◌, ◌*◌, ◌^◌, ◌<◌, ◌≤◌, Fits, w64, inr, true, false, List, [], ◌∷◌, ◌++◌, map, length, take, drop, get_or, sym, ◌∙◌, ap, ap₂, subst, arith}
 use Rattle.std.specs.List.{All, range_with_len}
 use Rattle.std.proofs.Math.Seq.{take-add}
-use Rattle.std.proofs.lemmas.List.{length-take-le, length-drop}
+use Rattle.std.proofs.lemmas.List.{length-take-le, length-drop, take_all}
 use Rattle.std.proofs.lemmas.List.FromFn.{map-range_with_len_more}
 use Rattle.std.proofs.lemmas.Bool.Decides.{nat_tests}
 use Rattle.xfs_disk.specs.Shares.{share_of, first_of_share}
@@ -15,7 +15,7 @@ use Rattle.xfs_dirindex.specs.IndexTree.{next_link, is_member, are_members, pair
 use Rattle.xfs_dirindex.specs.Pairs.{pairs_at}
 use Rattle.xfs_dirbuild.specs.Blocks.{index_block, row_block, share_at, last_pair_hash, link_at}
 use Rattle.xfs_dirbuild.specs.Index.{IsPointer, IsIndexBlock, before_at, next_at, IsPlacedBlock, HoldsIndex}
-use Rattle.xfs_disk.proofs.Shares.{share_inside}
+use Rattle.xfs_disk.proofs.Shares.{share_inside, first_end}
 use Rattle.xfs_dirbuild.proofs.BlockBytes.{last-part}
 use Rattle.xfs_dirbuild.proofs.Rows.{index-placed, member, members-more, below-more}
 
@@ -106,3 +106,65 @@ pub links-more : (first m i : ℕ) (pairs old new : List Pair) (x : Pair) → ne
 links-more first m i pairs old new x pushed is were =
     pushed
     ∙ (ap₂ (λ (xs : List Pair) (y : Pair). xs ++ y ∷ []) were is ∙ sym (map-range_with_len_more (link_at first m pairs) 0 i i (omega arith)))
+
+-- numbers on the way through a row
+pub row-ended : (i count : ℕ) → i ≤ count → count ≤ i → i ≡ count
+row-ended i count low high = omega arith
+
+pub row-low : (first count i : ℕ) → i < count → first + count ≤ 0x800000 → first + i < 0x800000
+row-low first count i inside low = omega arith
+
+pub row-before : (first count i : ℕ) → i < count → first + count ≤ 0x800000 → first + i ≤ 0x800000
+row-before first count i inside low = omega arith
+
+pub row-next : (first count i : ℕ) → i < count → first + count ≤ 0x800000 → first + (i + 1) ≤ 0x800000
+row-next first count i inside low = omega arith
+
+pub row-fits : (n : ℕ) → n ≤ 2 ^ 33 → Fits w64 n
+row-fits n small = omega arith
+
+pub row-place : (base first count i : ℕ) → i < count → first + count ≤ 0x800000 → base ≤ 2 ^ 32 → base + first + i ≤ 2 ^ 33
+row-place base first count i inside low small = omega arith
+
+pub row-front : (base first count i : ℕ) → i < count → first + count ≤ 0x800000 → base ≤ 2 ^ 32 → base + first ≤ 2 ^ 33
+row-front base first count i inside low small = omega arith
+
+pub row-room : (base first count i len was : ℕ) → len ≡ was → base + first + count ≤ was → i < count → base + first + i < len
+row-room base first count i len was same room inside = omega arith
+
+pub row-some : (n : ℕ) → n < 0x800000 → n ≤ 2 ^ 33
+row-some n low = omega arith
+
+pub row-more : (first count i : ℕ) → i < count → first + count ≤ 0x800000 → i + 1 ≤ 2 ^ 33
+row-more first count i inside low = omega arith
+
+-- where a share ends
+pub share-inside : (n begins start share : ℕ) → start ≡ begins → begins + share ≤ n → start + share ≤ n
+share-inside n begins start share is inside = omega arith
+
+pub share-small : (n k : ℕ) → k ≤ n → n ≤ 2 ^ 24 + 2 → k ≤ 2 ^ 33
+share-small n k inside few = omega arith
+
+no-less : (a b : ℕ) → a ≡ b → b ≤ a
+no-less a b is = omega arith
+
+-- all pairs are shared out
+pub share-all : (pairs : List Pair) (m i start : ℕ) → 1 ≤ m → i ≡ m → start ≡ first_of_share (length pairs) m i → take start pairs ≡ pairs
+share-all pairs m i start some end is =
+    take_all start pairs (no-less start (length pairs) (is ∙ (ap (first_of_share (length pairs) m) end ∙ first_end (length pairs) m some)))
+
+-- blocks beside those that are written
+pub before-row : (base first i k : ℕ) → k < base + first → k < base + first + i
+before-row base first i k low = omega arith
+
+pub behind-row : (base first count i k : ℕ) → i < count → base + first + count ≤ k → base + first + i < k
+behind-row base first count i k inside high = omega arith
+
+pub from-row : (base first count i k : ℕ) → i < count → base + first + count ≤ k → base + first + i ≤ k
+from-row base first count i k inside high = omega arith
+
+pub share-width : (start share : ℕ) → start ≤ start + share
+share-width start share = omega arith
+
+pub share-offset : (n start share : ℕ) → start + share ≤ n → n ≤ 2 ^ 24 + 2 → Fits w64 (start * 16)
+share-offset n start share inside few = omega arith

@@ -5,7 +5,7 @@ use Rattle.std.proofs.lemmas.Bool.{leb-true}
 use Rattle.xfs_dirindex.specs.declared.pairs.Pair.{Pair}
 use Rattle.xfs_dirbuild.specs.Forms.{fits_leaf, data_count}
 use Rattle.xfs_dirbuild.specs.Filling.{filled_shares, rest_in}
-use Rattle.xfs_dirbuild.specs.Index.{IsLeafBlock, IsIndexed}
+use Rattle.xfs_dirbuild.specs.Index.{IsLeafBlock, IsIndexed, IsPointer}
 use Rattle.xfs_dirbuild.specs.Placed.{IsBuiltDataBlock}
 use Rattle.xfs_dirbuild.specs.Filling.{pairs_from}
 use Rattle.xfs_dirbuild.specs.Blocks.{leaf_block, index_of, dir_blocks, bank_part}
@@ -15,6 +15,10 @@ use Rattle.xfs_dirbuild.proofs.Banks.{put-there, put-beside, put-count}
 use Rattle.xfs_dirbuild.proofs.FillSteps.{shares-count, data_count-bound}
 use Rattle.xfs_dirbuild.proofs.Magics.{indexed, data-magic}
 use Rattle.xfs_dirbuild.proofs.WholeLeaf.{whole-leaf}
+use Rattle.std.proofs.lemmas.Result.{IfOk-from_err}
+use Rattle.xfs_dirbuild.proofs.BlockBytes.{blank-long}
+use Rattle.std.specs.List.{All}
+use Rattle.xfs_dirbuild.proofs.Choosing.{data-fits, leaf-room}
 use Rattle.xfs_dirbuild.proofs.leaf.build_leaf.Goals as goal
 
 pub fill_blocks-requires-clause-room : goal.fill_blocks-requires-clause-room
@@ -132,3 +136,82 @@ returns-clause-bytes c =
     ∙ (section-push old new 0 d block (put-count old new d block is) room
     (λ k less. put-beside old new d (0 + k) block is (inl (omega arith))) put
     ∙ ap₂ (λ (bs : List (List ℕ)) (b : List ℕ). bs ++ b ∷ []) (ap (bank_part old 0) (sym count) ∙ c.in_ok-stated.ensures.bytes) leaf)
+
+pub returns-in_err-blocks-clause-count : goal.returns-in_err-blocks-clause-count
+returns-in_err-blocks-clause-count c = IfOk-from_err c.from_residual.result _ c.from_residual.ensures.0
+
+pub returns-in_err-blocks-clause-magics : goal.returns-in_err-blocks-clause-magics
+returns-in_err-blocks-clause-magics c = IfOk-from_err c.from_residual.result _ c.from_residual.ensures.0
+
+pub returns-in_err-blocks-clause-whole : goal.returns-in_err-blocks-clause-whole
+returns-in_err-blocks-clause-whole c = IfOk-from_err c.from_residual.result _ c.from_residual.ensures.0
+
+pub returns-in_err-blocks-clause-bytes : goal.returns-in_err-blocks-clause-bytes
+returns-in_err-blocks-clause-bytes c = IfOk-from_err c.from_residual.result _ c.from_residual.ensures.0
+
+pub returns-in_err-stated-clause-count : goal.returns-in_err-stated-clause-count
+returns-in_err-stated-clause-count c = IfOk-from_err c.from_residual-in_err-stated.result _ c.from_residual-in_err-stated.ensures.0
+
+pub returns-in_err-stated-clause-magics : goal.returns-in_err-stated-clause-magics
+returns-in_err-stated-clause-magics c = IfOk-from_err c.from_residual-in_err-stated.result _ c.from_residual-in_err-stated.ensures.0
+
+pub returns-in_err-stated-clause-whole : goal.returns-in_err-stated-clause-whole
+returns-in_err-stated-clause-whole c = IfOk-from_err c.from_residual-in_err-stated.result _ c.from_residual-in_err-stated.ensures.0
+
+pub returns-in_err-stated-clause-bytes : goal.returns-in_err-stated-clause-bytes
+returns-in_err-stated-clause-bytes c = IfOk-from_err c.from_residual-in_err-stated.result _ c.from_residual-in_err-stated.ensures.0
+
+pub returns-in_err-sort_pairs-clause-count : goal.returns-in_err-sort_pairs-clause-count
+returns-in_err-sort_pairs-clause-count c = IfOk-from_err c.from_residual-in_err-sort_pairs.result _ c.from_residual-in_err-sort_pairs.ensures.0
+
+pub returns-in_err-sort_pairs-clause-magics : goal.returns-in_err-sort_pairs-clause-magics
+returns-in_err-sort_pairs-clause-magics c = IfOk-from_err c.from_residual-in_err-sort_pairs.result _ c.from_residual-in_err-sort_pairs.ensures.0
+
+pub returns-in_err-sort_pairs-clause-whole : goal.returns-in_err-sort_pairs-clause-whole
+returns-in_err-sort_pairs-clause-whole c = IfOk-from_err c.from_residual-in_err-sort_pairs.result _ c.from_residual-in_err-sort_pairs.ensures.0
+
+pub returns-in_err-sort_pairs-clause-bytes : goal.returns-in_err-sort_pairs-clause-bytes
+returns-in_err-sort_pairs-clause-bytes c = IfOk-from_err c.from_residual-in_err-sort_pairs.result _ c.from_residual-in_err-sort_pairs.ensures.0
+
+pub data_count-data-requires-clause-writable : goal.data_count-data-requires-clause-writable
+data_count-data-requires-clause-writable c = c.requires.writable
+
+pub data_count-data-requires-clause-few : goal.data_count-data-requires-clause-few
+data_count-data-requires-clause-few c = c.requires.few
+
+pub fill_blocks-requires-clause-writable : goal.fill_blocks-requires-clause-writable
+fill_blocks-requires-clause-writable c = c.requires.writable
+
+pub fill_blocks-requires-clause-dir : goal.fill_blocks-requires-clause-dir
+fill_blocks-requires-clause-dir c = c.requires.dir
+
+pub fill_blocks-requires-clause-parent : goal.fill_blocks-requires-clause-parent
+fill_blocks-requires-clause-parent c = c.requires.parent
+
+pub overflow_add-data : goal.overflow_add-data
+overflow_add-data c = data-fits c.data_count-data.result (length c.args.entries.now) c.data_count-data.ensures.bound c.requires.few
+
+pub sort_pairs-requires : goal.sort_pairs-requires
+sort_pairs-requires c = record { sound = c.in_ok-stated.ensures.sound }
+
+pub put_leaf-requires-clause-pointers : goal.put_leaf-requires-clause-pointers
+put_leaf-requires-clause-pointers c = subst (λ (ps : List Pair). All IsPointer ps) (sym c.deref.ensures.value) c.in_ok-sort_pairs.ensures.sound
+
+pub put_leaf-requires-clause-long : goal.put_leaf-requires-clause-long
+put_leaf-requires-clause-long c = blank-long 4096 c.blank-block.result c.blank-block.ensures
+
+pub put_leaf-requires-clause-blank : goal.put_leaf-requires-clause-blank
+put_leaf-requires-clause-blank c = c.blank-block.ensures
+
+pub put_block-requires-clause-inside : goal.put_block-requires-clause-inside
+put_block-requires-clause-inside c =
+    leaf-room (length c.fill_blocks.new.blocks) (length c.in_ok-blocks.blocks) c.data_count-data.result c.in_ok-stated.ensures.count
+    (ap length c.in_ok-blocks.ensures ∙ length-replicate (c.data_count-data.result + 1) (replicate 4096 0))
+
+pub put_block-requires-clause-whole : goal.put_block-requires-clause-whole
+put_block-requires-clause-whole c = c.put_leaf.auto.block ∙ blank-long 4096 c.blank-block.result c.blank-block.ensures
+
+pub returns-clause-count : goal.returns-clause-count
+returns-clause-count c =
+    put-count c.fill_blocks.new.blocks c.put_block.new.blocks c.data_count-data.result c.put_leaf.new.block c.put_block.ensures
+    ∙ (c.in_ok-stated.ensures.count ∙ ((ap length c.in_ok-blocks.ensures ∙ length-replicate (c.data_count-data.result + 1) (replicate 4096 0)) ∙ ap (λ (n : ℕ). n + 1) c.data_count-data.ensures.value))

@@ -4,7 +4,7 @@ use Rattle.std.proofs.lemmas.List.{length-replicate, length-map}
 use Rattle.xfs_dirindex.specs.declared.pairs.Pair.{Pair}
 use Rattle.xfs_dirbuild.specs.Forms.{data_count, tree_count, value_blocks, nodes_above, leaf_blocks}
 use Rattle.xfs_dirbuild.specs.Filling.{filled_shares, rest_in}
-use Rattle.xfs_dirbuild.specs.Index.{IsIndexed, HoldsIndex, IsTreeOf}
+use Rattle.xfs_dirbuild.specs.Index.{IsIndexed, HoldsIndex, IsTreeOf, IsPointer}
 use Rattle.xfs_dirbuild.specs.FreeBlocks.{IsBuiltFreeBlock, values_in}
 use Rattle.xfs_dirbuild.specs.Placed.{IsBuiltDataBlock}
 use Rattle.xfs_dirbuild.specs.Filling.{pairs_from}
@@ -16,6 +16,9 @@ use Rattle.xfs_dirbuild.proofs.TreeCounts.{total-is, above-most}
 use Rattle.xfs_dirbuild.proofs.FillSteps.{shares-count, data_count-bound}
 use Rattle.xfs_dirbuild.proofs.Magics.{data-magic, free-magic}
 use Rattle.xfs_dirbuild.proofs.WholeNode.{whole-node}
+use Rattle.std.proofs.lemmas.Result.{IfOk-from_err}
+use Rattle.std.specs.List.{All}
+use Rattle.xfs_dirbuild.proofs.Choosing.{data-low, all-fit, all-low, all-some, all-few, tree-room, three-sum}
 use Rattle.xfs_dirbuild.proofs.leaf.build_node.Goals as goal
 
 pub fill_blocks-requires-clause-room : goal.fill_blocks-requires-clause-room
@@ -197,3 +200,109 @@ returns-clause-bytes c =
     ∙ (section-join new 0 d (t + v)
     ∙ ap₂ (λ (xs ys : List (List ℕ)). xs ++ ys) first
     (section-join new (0 + d) t v ∙ ap₂ (λ (xs ys : List (List ℕ)). xs ++ ys) second third))
+
+pub returns-in_err-blocks-clause-count : goal.returns-in_err-blocks-clause-count
+returns-in_err-blocks-clause-count c = IfOk-from_err c.from_residual.result _ c.from_residual.ensures.0
+
+pub returns-in_err-blocks-clause-magics : goal.returns-in_err-blocks-clause-magics
+returns-in_err-blocks-clause-magics c = IfOk-from_err c.from_residual.result _ c.from_residual.ensures.0
+
+pub returns-in_err-blocks-clause-whole : goal.returns-in_err-blocks-clause-whole
+returns-in_err-blocks-clause-whole c = IfOk-from_err c.from_residual.result _ c.from_residual.ensures.0
+
+pub returns-in_err-blocks-clause-bytes : goal.returns-in_err-blocks-clause-bytes
+returns-in_err-blocks-clause-bytes c = IfOk-from_err c.from_residual.result _ c.from_residual.ensures.0
+
+pub returns-in_err-stated-clause-count : goal.returns-in_err-stated-clause-count
+returns-in_err-stated-clause-count c = IfOk-from_err c.from_residual-in_err-stated.result _ c.from_residual-in_err-stated.ensures.0
+
+pub returns-in_err-stated-clause-magics : goal.returns-in_err-stated-clause-magics
+returns-in_err-stated-clause-magics c = IfOk-from_err c.from_residual-in_err-stated.result _ c.from_residual-in_err-stated.ensures.0
+
+pub returns-in_err-stated-clause-whole : goal.returns-in_err-stated-clause-whole
+returns-in_err-stated-clause-whole c = IfOk-from_err c.from_residual-in_err-stated.result _ c.from_residual-in_err-stated.ensures.0
+
+pub returns-in_err-stated-clause-bytes : goal.returns-in_err-stated-clause-bytes
+returns-in_err-stated-clause-bytes c = IfOk-from_err c.from_residual-in_err-stated.result _ c.from_residual-in_err-stated.ensures.0
+
+pub returns-in_err-sort_pairs-clause-count : goal.returns-in_err-sort_pairs-clause-count
+returns-in_err-sort_pairs-clause-count c = IfOk-from_err c.from_residual-in_err-sort_pairs.result _ c.from_residual-in_err-sort_pairs.ensures.0
+
+pub returns-in_err-sort_pairs-clause-magics : goal.returns-in_err-sort_pairs-clause-magics
+returns-in_err-sort_pairs-clause-magics c = IfOk-from_err c.from_residual-in_err-sort_pairs.result _ c.from_residual-in_err-sort_pairs.ensures.0
+
+pub returns-in_err-sort_pairs-clause-whole : goal.returns-in_err-sort_pairs-clause-whole
+returns-in_err-sort_pairs-clause-whole c = IfOk-from_err c.from_residual-in_err-sort_pairs.result _ c.from_residual-in_err-sort_pairs.ensures.0
+
+pub returns-in_err-sort_pairs-clause-bytes : goal.returns-in_err-sort_pairs-clause-bytes
+returns-in_err-sort_pairs-clause-bytes c = IfOk-from_err c.from_residual-in_err-sort_pairs.result _ c.from_residual-in_err-sort_pairs.ensures.0
+
+pub returns-in_err-put_tree-clause-count : goal.returns-in_err-put_tree-clause-count
+returns-in_err-put_tree-clause-count c = IfOk-from_err c.from_residual-in_err-put_tree.result _ c.from_residual-in_err-put_tree.ensures.0
+
+pub returns-in_err-put_tree-clause-magics : goal.returns-in_err-put_tree-clause-magics
+returns-in_err-put_tree-clause-magics c = IfOk-from_err c.from_residual-in_err-put_tree.result _ c.from_residual-in_err-put_tree.ensures.0
+
+pub returns-in_err-put_tree-clause-whole : goal.returns-in_err-put_tree-clause-whole
+returns-in_err-put_tree-clause-whole c = IfOk-from_err c.from_residual-in_err-put_tree.result _ c.from_residual-in_err-put_tree.ensures.0
+
+pub returns-in_err-put_tree-clause-bytes : goal.returns-in_err-put_tree-clause-bytes
+returns-in_err-put_tree-clause-bytes c = IfOk-from_err c.from_residual-in_err-put_tree.result _ c.from_residual-in_err-put_tree.ensures.0
+
+pub data_count-data-requires-clause-writable : goal.data_count-data-requires-clause-writable
+data_count-data-requires-clause-writable c = c.requires.writable
+
+pub data_count-data-requires-clause-few : goal.data_count-data-requires-clause-few
+data_count-data-requires-clause-few c = c.requires.few
+
+pub fill_blocks-requires-clause-writable : goal.fill_blocks-requires-clause-writable
+fill_blocks-requires-clause-writable c = c.requires.writable
+
+pub fill_blocks-requires-clause-dir : goal.fill_blocks-requires-clause-dir
+fill_blocks-requires-clause-dir c = c.requires.dir
+
+pub fill_blocks-requires-clause-parent : goal.fill_blocks-requires-clause-parent
+fill_blocks-requires-clause-parent c = c.requires.parent
+
+pub overflow_add-entries : goal.overflow_add-entries
+overflow_add-entries c = all-fit (length c.args.entries.now) c.requires.few
+
+pub tree_count-index-requires : goal.tree_count-index-requires
+tree_count-index-requires c = all-low (length c.args.entries.now) c.requires.few
+
+pub value_blocks-requires : goal.value_blocks-requires
+value_blocks-requires c = data-low c.data_count-data.result (length c.args.entries.now) c.data_count-data.ensures.bound c.requires.few
+
+pub sort_pairs-requires : goal.sort_pairs-requires
+sort_pairs-requires c = record { sound = c.in_ok-stated.ensures.sound }
+
+pub put_tree-requires-clause-pointers : goal.put_tree-requires-clause-pointers
+put_tree-requires-clause-pointers c = subst (λ (ps : List Pair). All IsPointer ps) (sym c.deref.ensures.value) c.in_ok-sort_pairs.ensures.sound
+
+pub put_tree-requires-clause-some : goal.put_tree-requires-clause-some
+put_tree-requires-clause-some c = all-some (length c.deref.result.now) (length c.args.entries.now) (ap length c.deref.ensures.value ∙ (c.in_ok-sort_pairs.ensures.count ∙ c.in_ok-stated.ensures.added))
+
+pub put_tree-requires-clause-few : goal.put_tree-requires-clause-few
+put_tree-requires-clause-few c = all-few (length c.deref.result.now) (length c.args.entries.now) (ap length c.deref.ensures.value ∙ (c.in_ok-sort_pairs.ensures.count ∙ c.in_ok-stated.ensures.added)) c.requires.few
+
+pub put_tree-requires-clause-base : goal.put_tree-requires-clause-base
+put_tree-requires-clause-base c = data-low c.data_count-data.result (length c.args.entries.now) c.data_count-data.ensures.bound c.requires.few
+
+pub put_tree-requires-clause-room : goal.put_tree-requires-clause-room
+put_tree-requires-clause-room c =
+    let all = c.data_count-data.result + c.tree_count-index.result + c.value_blocks.result in
+    let made : length c.in_ok-blocks.blocks ≡ c.data_count-data.result + c.tree_count-index.result + c.value_blocks.result =
+    ap length c.in_ok-blocks.ensures ∙ length-replicate all (replicate 4096 0) in
+    let sorted : length c.deref.result.now ≡ length c.args.entries.now + 2 = ap length c.deref.ensures.value ∙ (c.in_ok-sort_pairs.ensures.count ∙ c.in_ok-stated.ensures.added) in
+    tree-room c.data_count-data.result c.tree_count-index.result c.value_blocks.result (tree_count (length c.deref.result.now)) (length c.fill_blocks.new.blocks)
+    (length c.in_ok-blocks.blocks) c.in_ok-stated.ensures.count made (c.tree_count-index.ensures ∙ ap tree_count (sym sorted))
+
+pub returns-clause-count : goal.returns-clause-count
+returns-clause-count c =
+    let all = c.data_count-data.result + c.tree_count-index.result + c.value_blocks.result in
+    let made : length c.in_ok-blocks.blocks ≡ c.data_count-data.result + c.tree_count-index.result + c.value_blocks.result =
+    ap length c.in_ok-blocks.ensures ∙ length-replicate all (replicate 4096 0) in
+    let value : c.data_count-data.result ≡ data_count c.args.entries.now = c.data_count-data.ensures.value in
+    c.put_free_blocks.ensures.count ∙ (c.in_ok-put_tree.ensures.count ∙ (c.in_ok-stated.ensures.count ∙ (made
+    ∙ three-sum c.data_count-data.result c.tree_count-index.result c.value_blocks.result (data_count c.args.entries.now) (tree_count (length c.args.entries.now + 2))
+    (value_blocks (data_count c.args.entries.now)) (sym value) (sym c.tree_count-index.ensures) (sym (c.value_blocks.ensures ∙ ap value_blocks value)))))

@@ -1,4 +1,5 @@
 use Rattle.std.proofs.Common.{◌≡◌, ℕ, ◌+◌, ◌-◌, ◌<◌, ◌≤◌, inl, inr, true, false, List, [], ◌∷◌, ◌++◌, map, length, take, drop, get_or, refl, sym, ◌∙◌, ap, subst, arith}
+use borrow.Author.Count.{falls}
 use Rattle.std.specs.List.{All, range_with_len}
 use Rattle.std.proofs.lemmas.List.{append-nil, length_push}
 use Rattle.std.proofs.lemmas.List.Elements.{All-push, All-take, All-drop}
@@ -7,13 +8,14 @@ use Rattle.xfs_disk.specs.Shares.{share_of, first_of_share}
 use Rattle.xfs_dirindex.specs.declared.pairs.Pair.{Pair}
 use Rattle.xfs_dirindex.specs.Mapped.{Mapped}
 use Rattle.xfs_dirindex.specs.IndexTree.{pairs_of_places, are_members, pairs_below}
-use Rattle.xfs_dirbuild.specs.Index.{IsPointer, IsIndexed, next_at, HoldsIndex}
+use Rattle.xfs_dirbuild.specs.Index.{IsPointer, IsIndexed, next_at, HoldsIndex, leaf_places}
 use Rattle.xfs_dirbuild.specs.Blocks.{row_block, row_blocks, link_at, index_links, bank_part}
 use Rattle.xfs_dirbuild.proofs.Banks.{put-there, put-beside, put-count}
 use Rattle.xfs_disk.proofs.Shares.{share_next, share_some, share_most}
 use Rattle.xfs_dirbuild.proofs.Magics.{indexed, next-small, indexed-more}
 use Rattle.xfs_dirbuild.proofs.Rows.{places-more, places-none, holds-part}
-use Rattle.xfs_dirbuild.proofs.RowSteps.{share-long, IsWritten, seen, row-members, row-below, share-is, link-is, block-is, links-more}
+use Rattle.xfs_dirbuild.proofs.RowSteps.{share-long, IsWritten, seen, row-members, row-below, share-is, link-is, block-is, links-more, row-ended, row-low, row-before, row-next, row-fits, row-place, row-front, row-room, row-some, row-more, share-inside, share-small, share-all, before-row, behind-row, from-row, share-width, share-offset}
+use Rattle.xfs_dirbuild.proofs.BlockBytes.{blank-long}
 use Rattle.xfs_dirbuild.proofs.Sections.{section-more}
 use Rattle.xfs_dirbuild.proofs.tree.put_row.Goals as goal
 
@@ -141,3 +143,127 @@ returns-clause-bytes c =
     let end : c.loop-i.i ≡ c.args.count = omega arith in
     subst (λ (n : ℕ). bank_part c.loop-i.blocks (c.args.base + c.args.first) n ≡ map (row_block c.args.level c.args.first c.args.count c.args.pairs.now) (range_with_len 0 n))
     end c.loop-i.invariant.bytes_are
+
+pub share_of-share-requires : goal.share_of-share-requires
+share_of-share-requires c = c.loop-i-test.true
+
+pub before_at-before-requires : goal.before_at-before-requires
+before_at-before-requires c = row-before c.args.first c.args.count c.loop-i.i c.loop-i-test.true c.requires.low
+
+pub overflow_add-i : goal.overflow_add-i
+overflow_add-i c = row-fits (c.loop-i.i + 1) (row-more c.args.first c.args.count c.loop-i.i c.loop-i-test.true c.requires.low)
+
+pub next_at-next-requires : goal.next_at-next-requires
+next_at-next-requires c = row-next c.args.first c.args.count c.loop-i.i c.loop-i-test.true c.requires.low
+
+pub overflow_add-start : goal.overflow_add-start
+overflow_add-start c =
+    let n = length c.args.pairs.now in
+    let inside = share-inside n (first_of_share n c.args.count c.loop-i.i) c.loop-i.start c.share_of-share.result c.loop-i.invariant.start_is c.share_of-share.ensures.inside in
+    row-fits (c.loop-i.start + c.share_of-share.result) (share-small n (c.loop-i.start + c.share_of-share.result) inside c.requires.few)
+
+pub offset_bounds-pairs-start : goal.offset_bounds-pairs-start
+offset_bounds-pairs-start c =
+    let n = length c.args.pairs.now in
+    let inside = share-inside n (first_of_share n c.args.count c.loop-i.i) c.loop-i.start c.share_of-share.result c.loop-i.invariant.start_is c.share_of-share.ensures.inside in
+    share-offset n c.loop-i.start c.share_of-share.result inside c.requires.few
+
+pub slice_bounds-put_index-count : goal.slice_bounds-put_index-count
+slice_bounds-put_index-count c = share-width c.loop-i.start c.share_of-share.result
+
+pub put_index-requires-clause-pointers : goal.put_index-requires-clause-pointers
+put_index-requires-clause-pointers c =
+    let start = c.loop-i.start in
+    All-take IsPointer (start + c.share_of-share.result - start) (drop start c.args.pairs.now) (All-drop IsPointer start c.args.pairs.now c.requires.pointers)
+
+pub put_index-requires-clause-long : goal.put_index-requires-clause-long
+put_index-requires-clause-long c = blank-long 4096 c.blank-block.result c.blank-block.ensures
+
+pub put_index-requires-clause-blank : goal.put_index-requires-clause-blank
+put_index-requires-clause-blank c = c.blank-block.ensures
+
+pub overflow_add-base : goal.overflow_add-base
+overflow_add-base c = row-fits (c.args.base + c.args.first) (row-front c.args.base c.args.first c.args.count c.loop-i.i c.loop-i-test.true c.requires.low c.requires.base)
+
+pub overflow_add-base-in-loop-i : goal.overflow_add-base-in-loop-i
+overflow_add-base-in-loop-i c =
+    row-fits (c.args.base + c.args.first + c.loop-i.i) (row-place c.args.base c.args.first c.args.count c.loop-i.i c.loop-i-test.true c.requires.low c.requires.base)
+
+pub put_block-requires-clause-inside : goal.put_block-requires-clause-inside
+put_block-requires-clause-inside c =
+    row-room c.args.base c.args.first c.args.count c.loop-i.i (length c.loop-i.blocks) (length c.args.blocks.now) c.loop-i.invariant.blocks_count c.requires.room c.loop-i-test.true
+
+pub put_block-requires-clause-whole : goal.put_block-requires-clause-whole
+put_block-requires-clause-whole c = c.put_index.auto.block ∙ blank-long 4096 c.blank-block.result c.blank-block.ensures
+
+pub overflow_add-first : goal.overflow_add-first
+overflow_add-first c =
+    row-fits (c.args.first + c.loop-i.i) (row-some (c.args.first + c.loop-i.i) (row-low c.args.first c.args.count c.loop-i.i c.loop-i-test.true c.requires.low))
+
+pub link_to-requires-clause-some : goal.link_to-requires-clause-some
+link_to-requires-clause-some c =
+    subst (λ (n : ℕ). 1 ≤ n) (sym c.share_of-share.ensures.value) (share_some (length c.args.pairs.now) c.args.count c.loop-i.i c.requires.some c.requires.enough)
+
+pub link_to-requires-clause-long : goal.link_to-requires-clause-long
+link_to-requires-clause-long c = c.put_index.auto.block ∙ blank-long 4096 c.blank-block.result c.blank-block.ensures
+
+pub link_to-requires-clause-low : goal.link_to-requires-clause-low
+link_to-requires-clause-low c = row-low c.args.first c.args.count c.loop-i.i c.loop-i-test.true c.requires.low
+
+pub returns-in_err-push-clause-count : goal.returns-in_err-push-clause-count
+returns-in_err-push-clause-count c =
+    put-count c.loop-i.blocks c.put_block.new.blocks (c.args.base + c.args.first + c.loop-i.i) c.put_index.new.block c.put_block.ensures ∙ c.loop-i.invariant.blocks_count
+
+pub returns-in_err-push-clause-others : goal.returns-in_err-push-clause-others
+returns-in_err-push-clause-others c =
+    let old = c.loop-i.blocks in
+    let new = c.put_block.new.blocks in
+    let at = c.args.base + c.args.first + c.loop-i.i in
+    λ k side. elim side [
+      | inl low ↦ put-beside old new at k c.put_index.new.block c.put_block.ensures (inl (before-row c.args.base c.args.first c.loop-i.i k low)) ∙ c.loop-i.invariant.others k (inl low)
+      | inr high ↦ put-beside old new at k c.put_index.new.block c.put_block.ensures (inr (behind-row c.args.base c.args.first c.args.count c.loop-i.i k c.loop-i-test.true high))
+          ∙ c.loop-i.invariant.others k (inr (from-row c.args.base c.args.first c.args.count c.loop-i.i k c.loop-i-test.true high))
+    ]
+
+pub overflow_add-start-in-loop-i : goal.overflow_add-start-in-loop-i
+overflow_add-start-in-loop-i c =
+    let n = length c.args.pairs.now in
+    let inside = share-inside n (first_of_share n c.args.count c.loop-i.i) c.loop-i.start c.share_of-share.result c.loop-i.invariant.start_is c.share_of-share.ensures.inside in
+    row-fits (c.loop-i.start + c.share_of-share.result) (share-small n (c.loop-i.start + c.share_of-share.result) inside c.requires.few)
+
+pub loop-i-smaller : goal.loop-i-smaller
+loop-i-smaller c = falls c.args.count c.loop-i.i c.loop-i-test.true
+
+pub returns-clause-below : goal.returns-clause-below
+returns-clause-below c =
+    λ ms holds.
+    let end = row-ended c.loop-i.i c.args.count c.loop-i.auto.i-end c.loop-i-test.false in
+    let mine = subst (λ (n : ℕ). HoldsIndex ms c.loop-i.blocks c.args.base c.args.first n) (sym end) holds in
+    c.loop-i.invariant.below ms mine ∙ share-all c.args.pairs.now c.args.count c.loop-i.i c.loop-i.start c.requires.some end c.loop-i.invariant.start_is
+
+pub returns-clause-places : goal.returns-clause-places
+returns-clause-places c =
+    let end = row-ended c.loop-i.i c.args.count c.loop-i.auto.i-end c.loop-i-test.false in
+    c.loop-i.invariant.places ∙ ap (leaf_places c.args.first) end
+
+pub returns-clause-pointers : goal.returns-clause-pointers
+returns-clause-pointers c = c.loop-i.invariant.pointers
+
+pub returns-clause-indexed : goal.returns-clause-indexed
+returns-clause-indexed c =
+    let end = row-ended c.loop-i.i c.args.count c.loop-i.auto.i-end c.loop-i-test.false in
+    λ k less. c.loop-i.invariant.indexed k (subst (λ (n : ℕ). k < n) (sym end) less)
+
+pub returns-clause-links : goal.returns-clause-links
+returns-clause-links c = c.loop-i.invariant.links_are ∙ row-ended c.loop-i.i c.args.count c.loop-i.auto.i-end c.loop-i-test.false
+
+pub returns-clause-count : goal.returns-clause-count
+returns-clause-count c = c.loop-i.invariant.blocks_count
+
+pub returns-clause-others : goal.returns-clause-others
+returns-clause-others c =
+    let end = row-ended c.loop-i.i c.args.count c.loop-i.auto.i-end c.loop-i-test.false in
+    λ k side. elim side [
+      | inl low ↦ c.loop-i.invariant.others k (inl low)
+      | inr high ↦ c.loop-i.invariant.others k (inr (subst (λ (n : ℕ). c.args.base + c.args.first + n ≤ k) (sym end) high))
+    ]
