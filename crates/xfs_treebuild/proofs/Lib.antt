@@ -1,5 +1,7 @@
 pub mod Apart
 pub mod CleanRows
+pub mod Heading
+pub mod Numbering
 pub mod PackedReads
 pub mod PackedTree
 pub mod PackingBytes

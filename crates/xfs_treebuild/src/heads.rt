@@ -15,7 +15,7 @@ use crate::neighbours::{left_of, right_of};
 use xfs_geom::Geometry;
 use xfs_tree::headers::{long, short};
 use xfs_tree::{Kind, Layout, tree_layout};
-use xfs_word::{Seal, SealKind, put_part, put32, seal};
+use xfs_word::{Seal, SealKind, put_part, put16, put32, put64, seal};
 
 /// Where a long header has no field: its last 4 bytes.
 const LONG_PAD: usize = 68;
@@ -187,9 +187,9 @@ fn state_opening(header: &Header, block: &mut [u8])
     ensures keeps { KeepsBeside block.old block.new 0 8 }
     ensures keeps_parts { KeepsParts block.old block.new 0 8 }
 {
-    short::MAGIC.write(block, header.magic as u64);
-    short::LEVEL.write(block, header.level as u64);
-    short::NUMRECS.write(block, header.count as u64);
+    put32(block, short::MAGIC.offset, header.magic);
+    put16(block, short::LEVEL.offset, header.level);
+    put16(block, short::NUMRECS.offset, header.count);
 }
 
 /// Writes the siblings in a short header.
@@ -202,8 +202,8 @@ fn state_short_siblings(header: &Header, block: &mut [u8])
     ensures keeps { KeepsBeside block.old block.new 8 8 }
     ensures keeps_parts { KeepsParts block.old block.new 8 8 }
 {
-    short::LEFTSIB.write(block, header.left);
-    short::RIGHTSIB.write(block, header.right);
+    put32(block, short::LEFTSIB.offset, header.left as u32);
+    put32(block, short::RIGHTSIB.offset, header.right as u32);
 }
 
 /// Writes the own address in a short header and what stands behind it, all but the checksum.
@@ -218,10 +218,10 @@ fn state_short_place(uuid: &[u8; 16], header: &Header, block: &mut [u8])
     ensures keeps { KeepsBeside block.old block.new 16 36 }
     ensures keeps_parts { KeepsParts block.old block.new 16 36 }
 {
-    short::BNO.write(block, 8 * header.place);
-    short::LSN.write(block, 0);
+    put64(block, short::BNO.offset, 8 * header.place);
+    put64(block, short::LSN.offset, 0);
     put_part(block, short::UUID.offset, uuid);
-    short::OWNER.write(block, header.owner);
+    put32(block, short::OWNER.offset, header.owner as u32);
 }
 
 /// Writes and seals a header of a block whose tree belongs to an inode, with zeros behind its fields.
@@ -273,8 +273,8 @@ fn state_long_siblings(header: &Header, block: &mut [u8])
     ensures keeps { KeepsBeside block.old block.new 8 16 }
     ensures keeps_parts { KeepsParts block.old block.new 8 16 }
 {
-    long::LEFTSIB.write(block, header.left);
-    long::RIGHTSIB.write(block, header.right);
+    put64(block, long::LEFTSIB.offset, header.left);
+    put64(block, long::RIGHTSIB.offset, header.right);
 }
 
 /// Writes the own address in a long header and what stands behind it, all but the checksum.
@@ -288,10 +288,10 @@ fn state_long_place(uuid: &[u8; 16], header: &Header, block: &mut [u8])
     ensures keeps { KeepsBeside block.old block.new 24 40 }
     ensures keeps_parts { KeepsParts block.old block.new 24 40 }
 {
-    long::BNO.write(block, 8 * header.place);
-    long::LSN.write(block, 0);
+    put64(block, long::BNO.offset, 8 * header.place);
+    put64(block, long::LSN.offset, 0);
     put_part(block, long::UUID.offset, uuid);
-    long::OWNER.write(block, header.owner);
+    put64(block, long::OWNER.offset, header.owner);
 }
 
 /// Seals a block in which all but the checksum is right.
