@@ -1,5 +1,5 @@
 -- How many blocks the levels of a tree have.
-use Rattle.std.proofs.Common.{◌≡◌, ℕ, ◌+◌, ◌/◌, ◌≤◌, Bool, true, false, nat_le, if◌then◌else◌, refl, sym, ◌∙◌, ap, ap₂, arith}
+use Rattle.std.proofs.Common.{◌≡◌, ℕ, ◌+◌, ◌*◌, ◌/◌, ◌^◌, ◌<◌, ◌≤◌, Bool, true, false, nat_le, if◌then◌else◌, refl, sym, ◌∙◌, ap, ap₂, arith}
 use Rattle.std.proofs.lemmas.Bool.Decides.{nat_tests}
 use Rattle.xfs_dirbuild.specs.Forms.{leaf_blocks, nodes_above, tree_count}
 
@@ -23,3 +23,38 @@ above-most blocks above is = by_test (nat_le blocks 1) is
     by_test : (t : Bool) → above ≡ (if t then 0 else (blocks + 503) / 504) → above ≤ (blocks + 503) / 504
     by_test true is = omega arith
     by_test false is = omega arith
+
+-- numbers of the rows of a tree
+pub in-front : (k base first : ℕ) → k < base → k < base + first
+in-front k base first less = omega arith
+
+pub rows-some : (n leaves : ℕ) → leaves ≡ leaf_blocks n → 1 ≤ n → 1 ≤ leaves
+rows-some n leaves is some = omega arith
+
+pub rows-enough : (n leaves : ℕ) → leaves ≡ leaf_blocks n → 1 ≤ n → leaves ≤ n
+rows-enough n leaves is some = omega arith
+
+pub rows-fit : (n leaves : ℕ) → leaves ≡ leaf_blocks n → n ≤ leaves * 504
+rows-fit n leaves is = omega arith
+
+pub rows-room : (base total tops nodes leaves len : ℕ) → total ≡ tops + nodes + leaves → base + total ≤ len → base + (tops + nodes) + leaves ≤ len
+rows-room base total tops nodes leaves len is room = omega arith
+
+leaves-few : (n leaves : ℕ) → leaves ≡ leaf_blocks n → n ≤ 2 ^ 24 + 2 → leaves ≤ 40000
+leaves-few n leaves is few = omega arith
+
+nodes-few : (leaves nodes : ℕ) → nodes ≤ (leaves + 503) / 504 → leaves ≤ 40000 → nodes ≤ 400
+nodes-few leaves nodes most few = omega arith
+
+rows-sum : (tops nodes leaves : ℕ) → tops ≤ 400 → nodes ≤ 400 → leaves ≤ 40000 → tops + nodes + leaves ≤ 0x800000
+rows-sum tops nodes leaves a b c = omega arith
+
+low-few : (n : ℕ) → n ≤ 400 → n ≤ 40000
+low-few n few = omega arith
+
+pub rows-low : (n leaves nodes tops : ℕ) → leaves ≡ leaf_blocks n → nodes ≤ (leaves + 503) / 504 → tops ≤ (nodes + 503) / 504 → n ≤ 2 ^ 24 + 2
+    → tops + nodes + leaves ≤ 0x800000
+rows-low n leaves nodes tops is nodes_most tops_most few =
+    let a = leaves-few n leaves is few in
+    let b = nodes-few leaves nodes nodes_most a in
+    rows-sum tops nodes leaves (nodes-few nodes tops tops_most (low-few nodes b)) b a

@@ -1,4 +1,4 @@
-use Rattle.std.proofs.Common.{◌≡◌, ℕ, ◌+◌, ◌<◌, ◌≤◌, inr, List, [], length, get_or, refl, sym, ◌∙◌, ap, ap₂, subst, arith}
+use Rattle.std.proofs.Common.{◌≡◌, ℕ, ◌+◌, ◌<◌, ◌≤◌, inr, List, [], length, get_or, refl, sym, ◌∙◌, ap, ap₂, subst, arith, inl}
 use Rattle.xfs_dirbuild.specs.Forms.{tree_count}
 use Rattle.xfs_dirbuild.specs.Index.{IsIndexed, leaf_places, IsTreeOf}
 use Rattle.xfs_dirbuild.specs.Blocks.{row_blocks, index_links}
@@ -7,7 +7,8 @@ use Rattle.xfs_dirbuild.proofs.TreeBytes.{row-none, rows-join, rows-are}
 use Rattle.xfs_dirbuild.proofs.Magics.{indexed-join}
 use Rattle.xfs_dirbuild.proofs.Rows.{holds-part}
 use Rattle.xfs_dirbuild.proofs.Trees.{tree-one, tree-two, tree-three}
-use Rattle.xfs_dirbuild.proofs.TreeCounts.{total-is, above-none, above-most}
+use Rattle.xfs_dirbuild.proofs.TreeCounts.{total-is, above-none, above-most, in-front, rows-some, rows-enough, rows-fit, rows-room, rows-low}
+use Rattle.std.proofs.lemmas.Result.{IfOk-from_err}
 use Rattle.xfs_dirbuild.proofs.tree.put_tree.Goals as goal
 
 pub returns-then-nodes-eq0-clause-tree : goal.returns-then-nodes-eq0-clause-tree
@@ -210,3 +211,111 @@ returns-clause-bytes c =
     (low ∙ c.in_ok-below.ensures.bytes) c.in_ok-below.ensures.row
     (c.in_ok-upper.ensures.row ∙ ap (index_links tops nodes) c.deref.ensures.value)
     ∙ rows-are pairs leaves nodes tops c.leaf_blocks-leaves.ensures c.nodes_above-nodes.ensures c.nodes_above-tops.ensures
+
+pub returns-in_err-below-clause-tree : goal.returns-in_err-below-clause-tree
+returns-in_err-below-clause-tree c = IfOk-from_err c.from_residual.result _ c.from_residual.ensures.0
+
+pub returns-in_err-below-clause-bytes : goal.returns-in_err-below-clause-bytes
+returns-in_err-below-clause-bytes c = IfOk-from_err c.from_residual.result _ c.from_residual.ensures.0
+
+pub returns-in_err-below-clause-indexed : goal.returns-in_err-below-clause-indexed
+returns-in_err-below-clause-indexed c = IfOk-from_err c.from_residual.result _ c.from_residual.ensures.0
+
+pub returns-in_err-upper-clause-tree : goal.returns-in_err-upper-clause-tree
+returns-in_err-upper-clause-tree c = IfOk-from_err c.from_residual-in_err-upper.result _ c.from_residual-in_err-upper.ensures.0
+
+pub returns-in_err-upper-clause-bytes : goal.returns-in_err-upper-clause-bytes
+returns-in_err-upper-clause-bytes c = IfOk-from_err c.from_residual-in_err-upper.result _ c.from_residual-in_err-upper.ensures.0
+
+pub returns-in_err-upper-clause-indexed : goal.returns-in_err-upper-clause-indexed
+returns-in_err-upper-clause-indexed c = IfOk-from_err c.from_residual-in_err-upper.result _ c.from_residual-in_err-upper.ensures.0
+
+pub returns-in_err-put_row-clause-tree : goal.returns-in_err-put_row-clause-tree
+returns-in_err-put_row-clause-tree c = IfOk-from_err c.from_residual-in_err-put_row.result _ c.from_residual-in_err-put_row.ensures.0
+
+pub returns-in_err-put_row-clause-bytes : goal.returns-in_err-put_row-clause-bytes
+returns-in_err-put_row-clause-bytes c = IfOk-from_err c.from_residual-in_err-put_row.result _ c.from_residual-in_err-put_row.ensures.0
+
+pub returns-in_err-put_row-clause-indexed : goal.returns-in_err-put_row-clause-indexed
+returns-in_err-put_row-clause-indexed c = IfOk-from_err c.from_residual-in_err-put_row.result _ c.from_residual-in_err-put_row.ensures.0
+
+pub returns-in_err-below-clause-count : goal.returns-in_err-below-clause-count
+returns-in_err-below-clause-count c = c.put_row.ensures.count
+
+pub returns-in_err-below-clause-others : goal.returns-in_err-below-clause-others
+returns-in_err-below-clause-others c =
+    λ k less.
+    c.put_row.ensures.others k (inl (in-front k c.args.base (c.nodes_above-tops.result + c.nodes_above-nodes.result) less))
+
+pub returns-then-nodes-eq0-clause-count : goal.returns-then-nodes-eq0-clause-count
+returns-then-nodes-eq0-clause-count c = c.put_row.ensures.count
+
+pub returns-then-nodes-eq0-clause-others : goal.returns-then-nodes-eq0-clause-others
+returns-then-nodes-eq0-clause-others c =
+    λ k less.
+    c.put_row.ensures.others k (inl (in-front k c.args.base (c.nodes_above-tops.result + c.nodes_above-nodes.result) less))
+
+pub returns-in_err-upper-clause-count : goal.returns-in_err-upper-clause-count
+returns-in_err-upper-clause-count c = c.put_row-2.ensures.count ∙ c.put_row.ensures.count
+
+pub returns-in_err-upper-clause-others : goal.returns-in_err-upper-clause-others
+returns-in_err-upper-clause-others c =
+    λ k less.
+    c.put_row-2.ensures.others k (inl (in-front k c.args.base c.nodes_above-tops.result less))
+    ∙ c.put_row.ensures.others k (inl (in-front k c.args.base (c.nodes_above-tops.result + c.nodes_above-nodes.result) less))
+
+pub returns-then-tops-eq0-clause-count : goal.returns-then-tops-eq0-clause-count
+returns-then-tops-eq0-clause-count c = c.put_row-2.ensures.count ∙ c.put_row.ensures.count
+
+pub returns-then-tops-eq0-clause-others : goal.returns-then-tops-eq0-clause-others
+returns-then-tops-eq0-clause-others c =
+    λ k less.
+    c.put_row-2.ensures.others k (inl (in-front k c.args.base c.nodes_above-tops.result less))
+    ∙ c.put_row.ensures.others k (inl (in-front k c.args.base (c.nodes_above-tops.result + c.nodes_above-nodes.result) less))
+
+pub returns-in_err-put_row-clause-count : goal.returns-in_err-put_row-clause-count
+returns-in_err-put_row-clause-count c = c.put_row-3.ensures.count ∙ c.put_row-2.ensures.count ∙ c.put_row.ensures.count
+
+pub returns-in_err-put_row-clause-others : goal.returns-in_err-put_row-clause-others
+returns-in_err-put_row-clause-others c =
+    λ k less.
+    c.put_row-3.ensures.others k (inl (in-front k c.args.base 0 less))
+    ∙ c.put_row-2.ensures.others k (inl (in-front k c.args.base c.nodes_above-tops.result less))
+    ∙ c.put_row.ensures.others k (inl (in-front k c.args.base (c.nodes_above-tops.result + c.nodes_above-nodes.result) less))
+
+pub returns-clause-count : goal.returns-clause-count
+returns-clause-count c = c.put_row-3.ensures.count ∙ c.put_row-2.ensures.count ∙ c.put_row.ensures.count
+
+pub returns-clause-others : goal.returns-clause-others
+returns-clause-others c =
+    λ k less.
+    c.put_row-3.ensures.others k (inl (in-front k c.args.base 0 less))
+    ∙ c.put_row-2.ensures.others k (inl (in-front k c.args.base c.nodes_above-tops.result less))
+    ∙ c.put_row.ensures.others k (inl (in-front k c.args.base (c.nodes_above-tops.result + c.nodes_above-nodes.result) less))
+
+pub put_row-requires-clause-pointers : goal.put_row-requires-clause-pointers
+put_row-requires-clause-pointers c = c.requires.pointers
+
+pub put_row-requires-clause-some : goal.put_row-requires-clause-some
+put_row-requires-clause-some c = rows-some (length c.args.pairs.now) c.leaf_blocks-leaves.result c.leaf_blocks-leaves.ensures c.requires.some
+
+pub put_row-requires-clause-enough : goal.put_row-requires-clause-enough
+put_row-requires-clause-enough c = rows-enough (length c.args.pairs.now) c.leaf_blocks-leaves.result c.leaf_blocks-leaves.ensures c.requires.some
+
+pub put_row-requires-clause-fit : goal.put_row-requires-clause-fit
+put_row-requires-clause-fit c = rows-fit (length c.args.pairs.now) c.leaf_blocks-leaves.result c.leaf_blocks-leaves.ensures
+
+pub put_row-requires-clause-few : goal.put_row-requires-clause-few
+put_row-requires-clause-few c = c.requires.few
+
+pub put_row-requires-clause-base : goal.put_row-requires-clause-base
+put_row-requires-clause-base c = c.requires.base
+
+pub put_row-requires-clause-room : goal.put_row-requires-clause-room
+put_row-requires-clause-room c =
+    rows-room c.args.base (tree_count (length c.args.pairs.now)) c.nodes_above-tops.result c.nodes_above-nodes.result c.leaf_blocks-leaves.result (length c.args.blocks.now)
+    (total-is (length c.args.pairs.now) c.leaf_blocks-leaves.result c.nodes_above-nodes.result c.nodes_above-tops.result c.leaf_blocks-leaves.ensures c.nodes_above-nodes.ensures c.nodes_above-tops.ensures) c.requires.room
+
+pub put_row-requires-clause-low : goal.put_row-requires-clause-low
+put_row-requires-clause-low c =
+    rows-low (length c.args.pairs.now) c.leaf_blocks-leaves.result c.nodes_above-nodes.result c.nodes_above-tops.result c.leaf_blocks-leaves.ensures (above-most c.leaf_blocks-leaves.result c.nodes_above-nodes.result c.nodes_above-nodes.ensures) (above-most c.nodes_above-nodes.result c.nodes_above-tops.result c.nodes_above-tops.ensures) c.requires.few
