@@ -41,3 +41,29 @@ child-inside i n cap' inside room = omega arith
 -- the place of a block's seat
 pub seat-held : {R K : Type 0} (s : Shape R K) (P : ℕ → Type 0) (level place : ℕ) (block : List ℕ) (seat : Seat K) → seat ≡ seat_of s level place block → P place → P seat.place
 seat-held {K = K} s P level place block seat is held = subst P (sym (ap (λ (q : Seat K). q.place) is)) held
+
+-- levels of a tree in its places
+pub less-63 : (n : ℕ) → n < 2 ^ 62 → n < 2 ^ 63
+less-63 n few = omega arith
+
+pub part-holds : (row count places len : ℕ) → row ≡ count → count ≤ places → len ≡ 4096 * places → 4096 * row ≤ len
+part-holds row count places len is inside long = omega arith
+
+pub one-of-two : (n : ℕ) → 2 ≤ n → 1 ≤ n
+one-of-two n two = omega arith
+
+pub front-inside : (front rest all : ℕ) → front + rest ≡ all → front ≤ all
+front-inside front rest all is = omega arith
+
+pub above-inside : (front above due rest all : ℕ) → front + due + rest ≡ all → above ≡ due → front + above ≤ all
+above-inside front above due rest all is above_is = omega arith
+
+pub nodes-hold : (first count above below row places len was : ℕ) → below ≡ count → row ≡ above → first + count + above ≤ places → len ≡ was → was ≡ 4096 * places
+    → 4096 * (first + below + row) ≤ len
+nodes-hold first count above below row places len was below_is row_is inside same long = omega arith
+
+pub is-two : (n : ℕ) → 1 < n → 2 ≤ n
+is-two n more = omega arith
+
+pub shrinks : (above count : ℕ) → 2 ≤ count → 2 * above ≤ count + 1 → above < count
+shrinks above count more half = omega arith

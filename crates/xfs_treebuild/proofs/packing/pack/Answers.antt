@@ -1,5 +1,5 @@
-use Rattle.std.proofs.Common.{◌≡◌, ℕ, ◌+◌, ◌*◌, ◌<◌, ◌≤◌, map, length, refl, sym, ◌∙◌, ap, subst, arith}
-use Rattle.std.specs.List.{sum}
+use Rattle.std.proofs.Common.{◌≡◌, ℕ, ◌+◌, ◌*◌, ◌<◌, ◌≤◌, map, length, refl, sym, ◌∙◌, ap, subst, arith, List, IsTrue, take, drop}
+use Rattle.std.specs.List.{sum, All}
 use Rattle.std.proofs.lemmas.List.{length-map}
 use Rattle.xfs_geom.specs.Volumes.{volume_of}
 use Rattle.xfs_tree.specs.declared.layout.Layout.{Layout}
@@ -12,6 +12,9 @@ use Rattle.xfs_treebuild.proofs.PackingOrder.{settled_lawful}
 use Rattle.xfs_treebuild.proofs.PackingLeaves.{fits}
 use Rattle.xfs_treebuild.proofs.PackedTree.{reads_where_held}
 use Rattle.xfs_treebuild.proofs.PackingWhole.{nodes_rising, nodes_at, low_level, next_low, leaves_at, each_next, begin_leads, begin_rises, next_leads, end_leads}
+use Rattle.std.proofs.lemmas.List.Elements.{All-take, All-drop}
+use Rattle.xfs_tree.specs.Rules.{can_hold}
+use Rattle.xfs_treebuild.proofs.Numbering.{less-63, part-holds, one-of-two, front-inside, above-inside, nodes-hold, is-two, shrinks}
 use Rattle.xfs_treebuild.proofs.packing.pack.Goals as goal
 
 pub write_leaves-requires-clause-fits : goal.write_leaves-requires-clause-fits
@@ -187,3 +190,83 @@ returns-clause-reads g c =
     (end_leads s v kind (map s.settled c.args.records.now) (settled_lawful s v kind c.args.records.now c.requires.lawful) c.args.places.now
     c.loop-count.part c.loop-count.level c.loop-count.first c.loop-count.count (omega (arith, inv.some, c.loop-count-test.false)) inv.size inv.rows)
     c.requires.size c.requires.can_hold c.requires.different
+
+pub blocks_for-count-requires-clause-some : goal.blocks_for-count-requires-clause-some
+blocks_for-count-requires-clause-some g c = c.tree_layout-layout.ensures.sound.some_records
+
+pub blocks_for-count-requires-clause-items : goal.blocks_for-count-requires-clause-items
+blocks_for-count-requires-clause-items g c = less-63 (length c.args.records.now) c.requires.few
+
+pub write_leaves-requires-clause-few : goal.write_leaves-requires-clause-few
+write_leaves-requires-clause-few g c = λ κs lives. c.requires.few
+
+pub write_leaves-requires-clause-part : goal.write_leaves-requires-clause-part
+write_leaves-requires-clause-part g c =
+    let l = (g.K.Kind.shape c.args.kind.now).layout in
+    let n = length c.args.records.now in
+    let count = c.blocks_for-count.result in
+    let value = leaves_of l.leaf_cap n count c.tree_layout-layout.result l c.blocks_for-count.ensures.value c.tree_layout-layout.ensures.value refl in
+    let total : count + sum (rows_above count l.node_cap count) ≡ length c.args.places.now = levels_begin l.leaf_cap l.node_cap n count value ∙ sym c.requires.size in
+    let inside = front-inside count (sum (rows_above count l.node_cap count)) (length c.args.places.now) total in
+    λ κs lives. part-holds (length c.row_of.result.now) count (length c.args.places.now) (length c.args.part.now) c.row_of.ensures.len inside c.requires.part
+
+pub write_leaves-requires-clause-can_hold : goal.write_leaves-requires-clause-can_hold
+write_leaves-requires-clause-can_hold g c =
+    let s = g.K.Kind.shape c.args.kind.now in
+    let v = volume_of c.args.g.now in
+    λ κs lives. subst (λ (ps : List ℕ). All (λ place. IsTrue (can_hold v s.layout s.owner place)) ps) (sym c.row_of.ensures.value)
+    (All-take (λ place. IsTrue (can_hold v s.layout s.owner place)) c.blocks_for-count.result (drop 0 c.args.places.now)
+    (All-drop (λ place. IsTrue (can_hold v s.layout s.owner place)) 0 c.args.places.now c.requires.can_hold))
+
+pub blocks_for-above-requires-clause-some : goal.blocks_for-above-requires-clause-some
+blocks_for-above-requires-clause-some g c = one-of-two c.tree_layout-layout.result.node_cap c.tree_layout-layout.ensures.sound.two_children
+
+pub row_of-below-requires : goal.row_of-below-requires
+row_of-below-requires g c =
+    let cap' = (g.K.Kind.shape c.args.kind.now).layout.node_cap in
+    let count = c.loop-count.count in
+    front-inside (c.loop-count.first + count) (sum (rows_above count cap' count)) (length c.args.places.now) c.loop-count.invariant.size
+
+pub write_nodes-requires-clause-part : goal.write_nodes-requires-clause-part
+write_nodes-requires-clause-part g c =
+    let law = g.met.K.Kind g.world.𝓛 g.world.𝓜 g.world.𝓡 ((λ s x. x), (λ x. x), (λ x. x), λ x. x) in
+    let l = (g.K.Kind.shape c.args.kind.now).layout in
+    let inv = c.loop-count.invariant in
+    let above = c.blocks_for-above.result in
+    let count = c.loop-count.count in
+    let n = length c.args.places.now in
+    let due = blocks_for l.node_cap count in
+    let value = nodes_of l.node_cap count above c.tree_layout-layout.result l c.blocks_for-above.ensures.value c.tree_layout-layout.ensures.value refl in
+    let more = level_more l.node_cap count (c.loop-count.first + count) n (law.kind c.args.kind.now).laid_out.two_children (is-two count c.loop-count-test.true) inv.size in
+    let inside = above-inside (c.loop-count.first + count) above due (sum (rows_above due l.node_cap due)) n more value in
+    λ κs lives. nodes-hold c.loop-count.first count above (length c.row_of-below.result.now) (length c.row_of-row.result.now) n (length c.loop-count.part) (length c.args.part.now)
+    c.row_of-below.ensures.len c.row_of-row.ensures.len inside (c.loop-count.auto.part ∙ c.write_leaves.auto.part) c.requires.part
+
+pub write_nodes-requires-clause-below : goal.write_nodes-requires-clause-below
+write_nodes-requires-clause-below g c =
+    let s = g.K.Kind.shape c.args.kind.now in
+    let v = volume_of c.args.g.now in
+    λ κs lives. subst (λ (ps : List ℕ). All (λ place. IsTrue (can_hold v s.layout s.owner place)) ps) (sym c.row_of-below.ensures.value)
+    (All-take (λ place. IsTrue (can_hold v s.layout s.owner place)) c.loop-count.count (drop c.loop-count.first c.args.places.now)
+    (All-drop (λ place. IsTrue (can_hold v s.layout s.owner place)) c.loop-count.first c.args.places.now c.requires.can_hold))
+
+pub write_nodes-requires-clause-can_hold : goal.write_nodes-requires-clause-can_hold
+write_nodes-requires-clause-can_hold g c =
+    let s = g.K.Kind.shape c.args.kind.now in
+    let v = volume_of c.args.g.now in
+    λ κs lives. subst (λ (ps : List ℕ). All (λ place. IsTrue (can_hold v s.layout s.owner place)) ps) (sym c.row_of-row.ensures.value)
+    (All-take (λ place. IsTrue (can_hold v s.layout s.owner place)) c.blocks_for-above.result (drop (c.loop-count.first + c.loop-count.count) c.args.places.now)
+    (All-drop (λ place. IsTrue (can_hold v s.layout s.owner place)) (c.loop-count.first + c.loop-count.count) c.args.places.now c.requires.can_hold))
+
+pub write_nodes-requires-clause-children : goal.write_nodes-requires-clause-children
+write_nodes-requires-clause-children g c =
+    let more = is-two c.loop-count.count c.loop-count-test.true in
+    λ κs lives j less. (c.loop-count.invariant.rising more).child j (subst (λ (n : ℕ). j < n) c.row_of-below.ensures.len less)
+
+pub loop-count-smaller : goal.loop-count-smaller
+loop-count-smaller g c =
+    let more = is-two c.loop-count.count c.loop-count-test.true in
+    shrinks c.blocks_for-above.result c.loop-count.count more (c.blocks_for-above.ensures.fewer c.tree_layout-layout.ensures.sound.two_children more)
+
+pub returns-clause-len : goal.returns-clause-len
+returns-clause-len g c = c.loop-count.auto.part ∙ c.write_leaves.auto.part
