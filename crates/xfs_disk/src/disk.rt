@@ -1,8 +1,8 @@
 //! A disk: numbered blocks of 4096 bytes that can be read, written and synced, and may fail.
 
-ghost use Rattle.std.specs.Prelude.{◌≡◌, ℕ, ◌≤◌, ◌<◌, ◌⊎◌, List, length, Option, Some, OnOk, OnErr, IfOk, slice_get, slice_set};
+ghost use Rattle.std.specs.Prelude.{◌≡◌, ℕ, ◌≤◌, ◌<◌, ◌⊎◌, List, length, take, Option, Some, OnOk, OnErr, IfOk, slice_get, slice_set};
 ghost use Rattle.std.specs.Option.{ForSome};
-ghost use Rattle.xfs_disk.specs.Blocks.{Image, IsImage};
+ghost use Rattle.xfs_disk.specs.Blocks.{Image, IsImage, bytes_of_block};
 ghost use Rattle.xfs_disk.specs.Counts.{CountsDone};
 ghost use Rattle.xfs_disk.specs.Faults.{HasCause};
 ghost use Rattle.xfs_disk.specs.Stops.{EachOf, Elapses, GoesOn};
@@ -71,6 +71,31 @@ pub trait Disk {
         ensures stops { tells_stops self.old → (b : ℕ) (v : List ℕ) → may_leave self.new b v → may_leave self.old b v }
         ensures past { tells_stops self.old → GoesOn (moment self.old) (moment self.new) (left_since self.old) (left_since self.new) }
         ensures tells { tells_stops self.old → tells_stops self.new };
+
+    /// Reads the first bytes of the block of number `at`, as many as `into` has.
+    fn read_front(&mut self, at: u64, into: &mut [u8]) -> Result<(), Failed>
+        requires inside { at < size self.old }
+        requires part { length into.old ≤ 4096 }
+        ensures bytes { OnOk result (ForSome (holds self.old) (λ image. into.new ≡ take (length into.old) (bytes_of_block image at))) }
+        ensures size { size self.new ≡ size self.old }
+        ensures holds { holds self.new ≡ holds self.old }
+        ensures cause { HasCause (faults self.old) (faults self.new) result }
+        ensures write_faults { write_faults self.new ≡ write_faults self.old }
+        ensures reads { CountsDone (reads self.old) (reads self.new) result }
+        ensures writes { writes self.new ≡ writes self.old }
+        ensures stops { tells_stops self.old → (b : ℕ) (v : List ℕ) → may_leave self.new b v → may_leave self.old b v }
+        ensures past { tells_stops self.old → GoesOn (moment self.old) (moment self.new) (left_since self.old) (left_since self.new) }
+        ensures tells { tells_stops self.old → tells_stops self.new }
+    {
+        let mut block = [0; BLOCK_SIZE];
+        match self.read(at, &mut block) {
+            Ok(()) => {
+                into.copy_from_slice(&block[..into.len()]);
+                Ok(())
+            }
+            Err(Failed) => Err(Failed),
+        }
+    }
 
     /// Writes the block of number `at`. After `Failed` it is old or new.
     fn write(&mut self, at: u64, from: &[u8]) -> Result<(), Failed>

@@ -66,16 +66,16 @@ impl Ahead {
         self.next = FIRST_AHEAD - self.first % FIRST_AHEAD;
     }
 
-    /// Copies a block, where it is held.
+    /// Copies the first bytes of a block, as many as are asked for, where it is held.
     pub(crate) fn give(&self, at: u64, into: &mut [u8]) -> bool
-        requires whole { length into.old ≡ 4096 }
-        ensures { IsTrue result → (told : _) → HoldsPart told self.now → ForSome told (λ all. into.new ≡ take 4096 (drop (at * 4096) all)) }
+        requires part { length into.old ≤ 4096 }
+        ensures { IsTrue result → (told : _) → HoldsPart told self.now → ForSome told (λ all. into.new ≡ take (length into.old) (drop (at * 4096) all)) }
     {
         if at < self.first || at - self.first >= self.count {
             return false;
         }
         let start = (at - self.first) as usize * BLOCK_SIZE;
-        into.copy_from_slice(&self.bytes[start..start + BLOCK_SIZE]);
+        into.copy_from_slice(&self.bytes[start..start + into.len()]);
         true
     }
 

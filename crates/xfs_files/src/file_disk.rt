@@ -78,6 +78,28 @@ impl<F: ByteFile + Drop> FileDisk<F> {
             ahead: Ahead::none(),
         }
     }
+
+    /// Fills the slice with the first bytes of a block.
+    fn read_part(&mut self, at: u64, into: &mut [u8]) -> Result<(), Failed>
+        requires inside { at < size_of self.old }
+        requires part { length into.old ≤ 4096 }
+        ensures opened { OnOk result (IsSome (file_of self.old)) }
+        ensures read { OnOk result (ForSome (bytes_of F.bytes self.old) (λ all. into.new ≡ take (length into.old) (drop (at * 4096) all))) }
+        ensures bytes { bytes_of F.bytes self.new ≡ bytes_of F.bytes self.old }
+        ensures size { size_of self.new ≡ size_of self.old }
+        ensures faults { CountsFailure (faults_of self.old) (faults_of self.new) result }
+        ensures write_faults { write_faults_of self.new ≡ write_faults_of self.old }
+        ensures reads { CountsDone (reads_of self.old) (reads_of self.new) result }
+        ensures writes { writes_of self.new ≡ writes_of self.old }
+    {
+        let outcome = match &mut self.file {
+            Some(file) => read_block(file, &mut self.ahead, at, into),
+            None => Err(no_file()),
+        };
+        let outcome = counted(outcome, &mut self.faults);
+        count_done(&outcome, &mut self.reads);
+        outcome
+    }
 }
 
 impl<F: ByteFile + Drop> Disk for FileDisk<F> {
@@ -128,13 +150,22 @@ impl<F: ByteFile + Drop> Disk for FileDisk<F> {
         ensures reads { CountsDone (reads_of self.old) (reads_of self.new) result }
         ensures writes { writes_of self.new ≡ writes_of self.old }
     {
-        let outcome = match &mut self.file {
-            Some(file) => read_block(file, &mut self.ahead, at, into),
-            None => Err(no_file()),
-        };
-        let outcome = counted(outcome, &mut self.faults);
-        count_done(&outcome, &mut self.reads);
-        outcome
+        self.read_part(at, into)
+    }
+
+    fn read_front(&mut self, at: u64, into: &mut [u8]) -> Result<(), Failed>
+        requires inside { at < size_of self.old }
+        requires part { length into.old ≤ 4096 }
+        ensures opened { OnOk result (IsSome (file_of self.old)) }
+        ensures read { OnOk result (ForSome (bytes_of F.bytes self.old) (λ all. into.new ≡ take (length into.old) (drop (at * 4096) all))) }
+        ensures bytes { bytes_of F.bytes self.new ≡ bytes_of F.bytes self.old }
+        ensures size { size_of self.new ≡ size_of self.old }
+        ensures faults { CountsFailure (faults_of self.old) (faults_of self.new) result }
+        ensures write_faults { write_faults_of self.new ≡ write_faults_of self.old }
+        ensures reads { CountsDone (reads_of self.old) (reads_of self.new) result }
+        ensures writes { writes_of self.new ≡ writes_of self.old }
+    {
+        self.read_part(at, into)
     }
 
     fn write(&mut self, at: u64, from: &[u8]) -> Result<(), Failed>
@@ -185,7 +216,7 @@ impl<F: ByteFile + Drop> Disk for FileDisk<F> {
     ghost only_now = { λ disk image tells. absurd tells };
 }
 
-/// Fills the slice with a block of the file, which may have been read ahead.
+/// Fills the slice with the first bytes of a block of the file, which may have been read ahead.
 fn read_block<F: ByteFile>(
     file: &mut F,
     ahead: &mut Ahead,
@@ -193,9 +224,9 @@ fn read_block<F: ByteFile>(
     into: &mut [u8],
 ) -> io::Result<()>
     requires range { at * 4096 < 2 ^ 64 }
-    requires whole { length into.old ≡ 4096 }
+    requires part { length into.old ≤ 4096 }
     requires held { HoldsPart (F.bytes file.old) ahead.old }
-    ensures read { OnOk result (ForSome (F.bytes file.old) (λ all. into.new ≡ take 4096 (drop (at * 4096) all))) }
+    ensures read { OnOk result (ForSome (F.bytes file.old) (λ all. into.new ≡ take (length into.old) (drop (at * 4096) all))) }
     ensures bytes { F.bytes file.new ≡ F.bytes file.old }
     ensures held { HoldsPart (F.bytes file.new) ahead.new }
 {

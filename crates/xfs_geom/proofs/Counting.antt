@@ -1,10 +1,9 @@
 -- A poll as one block after the other is asked.
-use Rattle.std.proofs.Common.{◌≡◌, ℕ, ◌+◌, ◌-◌, ◌^◌, ◌<◌, ◌≤◌, inl, inr, Bool, true, false, zero, suc, List, [], ◌∷◌, ◌++◌, length, Option, Some, None, IfSome, cond, unwrap_or, slice_get, refl, sym, ap, ◌∙◌, subst, arith}
+use Rattle.std.proofs.Common.{◌≡◌, ℕ, ◌+◌, ◌-◌, ◌^◌, ◌<◌, ◌≤◌, inl, inr, Bool, true, false, zero, suc, List, [], ◌∷◌, ◌++◌, length, Option, Some, None, IfSome, cond, refl, sym, ap, ◌∙◌, subst, arith}
 use Rattle.std.specs.List.{flat_map, range_with_len}
 use Rattle.std.proofs.lemmas.List.{append-nil, length-append}
 use Rattle.std.proofs.lemmas.List.Concat.{flat_map-append}
 use Rattle.std.proofs.lemmas.List.Sums.{count_by-le-length}
-use Rattle.std.proofs.lemmas.Option.{get_or_from_slice_get}
 use Rattle.xfs_disk.specs.Blocks.{Image, bytes_of_block}
 use Rattle.xfs_geom.specs.Election.{Vote, choice, same_volume, vote_in, vote_at, votes_below, votes_for, super_of}
 use Rattle.xfs_geom.specs.Electing.{vote_of}
@@ -142,11 +141,9 @@ votes_below_next image place some =
     (append-nil (vote_at image (1 + (place - 1))) ∙ ap (vote_at image) last)))
 
 -- the votes that are told once a block is asked
-pub told_next : (image : Image) (place size : ℕ) (block sector : List ℕ) (votes : List Vote) → 1 ≤ place → length image ≡ size
-    → slice_get image place ≡ Some block → sector ≡ super_of block → votes ≡ votes_below image place
+pub told_next : (image : Image) (place size : ℕ) (sector : List ℕ) (votes : List Vote) → 1 ≤ place → length image ≡ size
+    → sector ≡ super_of (bytes_of_block image place) → votes ≡ votes_below image place
     → votes ++ vote_in sector place size ≡ votes_below image (place + 1)
-told_next image place size block sector votes some count read first told =
-    let bytes : bytes_of_block image place ≡ block = get_or_from_slice_get image place block [] read in
-    let same : sector ≡ super_of (bytes_of_block image place) = first ∙ ap super_of (sym bytes) in
+told_next image place size sector votes some count same told =
     let vote : vote_in sector place size ≡ vote_at image place = λ i. vote_in (same i) place (sym count i) in
     (λ i. told i ++ vote i) ∙ sym (votes_below_next image place some)

@@ -5,7 +5,7 @@ ghost use Rattle.std.specs.Option.{ForSome, ok_or};
 ghost use Rattle.xfs_disk.specs.Reads.{OnlyReads};
 ghost use Rattle.xfs_geom.specs.Superblocks.{super_fault};
 ghost use Rattle.xfs_geom.specs.Volumes.{volume_of, stated_volume};
-ghost use Rattle.xfs_geom.specs.Election.{super_of, elected, winner, votes_below};
+ghost use Rattle.xfs_geom.specs.Election.{elected, winner, votes_below};
 ghost use Rattle.xfs_geom.specs.Electing.{IsElection, HasElectCause};
 ghost use Rattle.xfs_geom.specs.Writing.{IsAcceptedSector};
 ghost use Rattle.xfs_geom.specs.Polls.{HasPolled};
@@ -15,7 +15,7 @@ use crate::polls::Poll;
 use crate::reading::{SuperFault, read_super};
 use crate::superblock::SECTOR_SIZE;
 use std::alloc::Global;
-use xfs_disk::{BLOCK_SIZE, Disk, Failed, NoMemory};
+use xfs_disk::{Disk, Failed, NoMemory};
 
 /// The superblock that says what a volume is.
 #[derive(Clone, Copy, Debug)]
@@ -62,13 +62,13 @@ pub fn elect<D: Disk>(alloc: Global, disk: &mut D) -> Result<Elected, ElectFault
     if size == 0 {
         return Err(ElectFault::NoGeometry);
     }
-    let mut block = [0; BLOCK_SIZE];
-    match disk.read(0, &mut block) {
+    let mut sector = [0; SECTOR_SIZE];
+    match disk.read_front(0, &mut sector) {
         Ok(()) => {}
         Err(Failed) => return Err(ElectFault::ReadFault),
     }
-    match read_super(first_sector(&block), 0, size) {
-        Ok(geometry) => Ok(Elected::new(geometry, 0, first_sector(&block))),
+    match read_super(&sector, 0, size) {
+        Ok(geometry) => Ok(Elected::new(geometry, 0, &sector)),
         Err(SuperFault::Unsupported { word, bits }) => Err(ElectFault::Unsupported { word, bits }),
         Err(_) => elect_backup(alloc, disk, size),
     }
@@ -87,9 +87,9 @@ fn elect_backup<D: Disk>(alloc: Global, disk: &mut D, size: u64) -> Result<Elect
     ensures reads { D.reads disk.new + 1 ≤ D.reads disk.old + size }
 {
     let mut poll = Poll::new(alloc);
-    let mut block = [0; BLOCK_SIZE];
+    let mut sector = [0; SECTOR_SIZE];
     for place in 1..size {
-        match ask_block(disk, &mut poll, place, size, &mut block) {
+        match ask_block(disk, &mut poll, place, size, &mut sector) {
             Ok(()) => {}
             Err(fault) => return Err(fault),
         }
@@ -100,15 +100,15 @@ fn elect_backup<D: Disk>(alloc: Global, disk: &mut D, size: u64) -> Result<Elect
     }
 }
 
-/// Reads a block of the disk, which has so many, and counts its vote, where it has one. Its bytes are then in the slice.
+/// Reads the first sector of a block of the disk, which has so many, and counts its vote, where it has one. Its bytes are then in the slice.
 fn ask_block<D: Disk>(
     disk: &mut D,
     poll: &mut Poll,
     place: u64,
     size: u64,
-    block: &mut [u8],
+    sector: &mut [u8],
 ) -> Result<(), ElectFault>
-    requires whole { length block.old ≡ 4096 }
+    requires whole { length sector.old ≡ 512 }
     requires above { 0 < place }
     requires inside { place < size }
     requires size { size ≡ D.size disk.old }
@@ -119,23 +119,14 @@ fn ask_block<D: Disk>(
     ensures disk { OnlyReads D.size D.holds D.write_faults D.writes D.tells_stops D.moment D.may_leave D.left_since disk.old disk.new }
     ensures reads { D.reads disk.new ≤ D.reads disk.old + 1 }
 {
-    match disk.read(place, block) {
+    match disk.read_front(place, sector) {
         Ok(()) => {}
         Err(Failed) => return Err(ElectFault::ReadFault),
     }
-    match poll.ask(first_sector(block), place, size) {
+    match poll.ask(sector, place, size) {
         Ok(()) => Ok(()),
         Err(NoMemory) => Err(ElectFault::NoMemory),
     }
-}
-
-/// The first sector of a block, where a superblock stands.
-fn first_sector(block: &[u8]) -> &[u8]
-    requires { length block.now ≡ 4096 }
-    ensures value { result.now ≡ super_of block.now }
-    ensures size { length result.now ≡ 512 }
-{
-    block.split_at(SECTOR_SIZE).0
 }
 
 impl Elected {
