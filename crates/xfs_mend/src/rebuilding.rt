@@ -20,7 +20,7 @@ use std::sync::ledger::{Blank, Ledger};
 use std::thread::Threads;
 use xfs_disk::{Disk, Gate, Stamp};
 use xfs_geom::Elected;
-use xfs_rebuild::{NamesDue, RebuildFault, Rebuilt, plan_rebuild};
+use xfs_rebuild::{BoxedNames, RebuildFault, Rebuilt, plan_rebuild};
 use xfs_rename::{Renamed, plan_names};
 use xfs_runs::Steps;
 use xfs_scan::Evidence;
@@ -111,7 +111,7 @@ fn rename<R: Threads + Sync, D: Disk, G: Gate, L: Ledger>(
     alloc: Global,
     disk: &mut D,
     chosen: &Elected,
-    due: NamesDue,
+    due: BoxedNames,
     stamp: &Stamp,
     gate: &G,
     steps: &mut Steps<L>,

@@ -136,7 +136,14 @@ fn repair_volume<R: Threads + Sync, D: Disk, G: Gate>(
         },
         Err(MendFault::NoMemory) => return Outcome::NoMemory,
     };
-    match find_first(rt, alloc, options.workers, disk, chosen, &evidence.seen) {
+    match find_first(
+        rt,
+        alloc,
+        options.workers,
+        disk,
+        chosen,
+        evidence.seen.as_seen(),
+    ) {
         Ok(Some(found)) => answer_found(
             rt, alloc, disk, options, chosen, found, evidence, stamp, gate,
         ),

@@ -59,12 +59,11 @@ planned_on g sector s image on b wanted r named hand read same planned many free
 module _ (v : Volume) (found : FoundRecords) (kept : Salvaged) (clusters' : kept.clusters ≡ kept_clusters v found.clusters found.files)
     (files' : kept.files ≡ kept_files v found.clusters found.files) (fresh' : kept.fresh ≡ fresh_inodes v found.clusters found.files) where
   -- from the lists of the evidence, and what is known of them
-  pub is_ground : (e : Evidence) (clusters : List ClusterRec) (facts : List SlotFact) (bare : List ℕ) (trees : List GroupTrees) (known seen : List SlotSeen) (reserved : List ℕ)
+  pub is_ground : (e : Evidence) (seen : List SlotSeen) (reserved : List ℕ)
       → found.clusters ≡ e.clusters → found.files ≡ files_seen e.seen → found.entries ≡ entries_seen e.seen → found.dirs ≡ dirs_seen e.seen
       → kept.entries ≡ entries_of_kept v found.clusters found.files found.entries → kept.dirs ≡ kept_dirs v found.clusters found.files found.dirs
-      → clusters ≡ e.clusters → facts ≡ e.slots → bare ≡ e.bare → known ≡ slots_seen v clusters facts bare → seen ≡ known
-      → trees ≡ e.trees → reserved ≡ reserved_of trees → IsGround v e (ground kept seen reserved e.log)
-  is_ground e clusters facts bare trees known seen reserved a b c d entries dirs cs fs bs all same ts held = record {
+      → seen ≡ slots_seen v e.clusters e.slots e.bare → reserved ≡ reserved_of e.trees → IsGround v e (ground kept seen reserved e.log)
+  is_ground e seen reserved a b c d entries dirs slots held = record {
     kept' = record {
       clusters' = clusters' ∙ (λ i. kept_clusters v (a i) (b i));
       files' = files' ∙ (λ i. kept_files v (a i) (b i));
@@ -72,8 +71,8 @@ module _ (v : Volume) (found : FoundRecords) (kept : Salvaged) (clusters' : kept
       entries' = entries ∙ (λ i. entries_of_kept v (a i) (b i) (c i));
       dirs' = dirs ∙ (λ i. kept_dirs v (a i) (b i) (d i));
     };
-    seen' = same ∙ all ∙ (λ i. slots_seen v (cs i) (fs i) (bs i));
-    reserved' = held ∙ (λ i. reserved_of (ts i));
+    seen' = slots;
+    reserved' = held;
     log' = refl;
   }
 

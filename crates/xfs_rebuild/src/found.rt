@@ -8,11 +8,22 @@ use std::alloc::Global;
 use xfs_disk::NoMemory;
 use xfs_groups::GroupTrees;
 use xfs_salvage::FoundRecords;
-use xfs_scan::{Lists, Seen};
+use xfs_scan::{Evidence, Lists, Seen};
 use xfs_volume::{Blocks, Catalog, ClusterRec, Records};
 
+/// What an evidence found.
+pub(crate) fn records_found(evidence: Evidence) -> FoundRecords
+    ensures clusters { result.clusters ≡ evidence.clusters }
+    ensures files { result.files ≡ files_seen evidence.seen }
+    ensures entries { result.entries ≡ entries_seen evidence.seen }
+    ensures dirs { result.dirs ≡ dirs_seen evidence.seen }
+{
+    let Evidence { clusters, seen, .. } = evidence;
+    found_of(clusters, seen.into_seen())
+}
+
 /// What was found, from the candidate clusters and what was seen of their slots.
-pub(crate) fn found_of(clusters: Records<ClusterRec>, seen: Seen) -> FoundRecords
+fn found_of(clusters: Records<ClusterRec>, seen: Seen) -> FoundRecords
     ensures clusters { result.clusters ≡ clusters }
     ensures files { result.files ≡ files_seen seen }
     ensures entries { result.entries ≡ entries_seen seen }
@@ -49,8 +60,15 @@ pub(crate) fn found_of(clusters: Records<ClusterRec>, seen: Seen) -> FoundRecord
     }
 }
 
+/// The reserved blocks of an evidence's groups, in order.
+pub(crate) fn reserved_found(alloc: Global, evidence: &Evidence) -> Result<Blocks, NoMemory>
+    ensures { IfOk result (λ blocks. blocks ≡ reserved_of evidence.now.trees) }
+{
+    reserved_of(alloc, evidence.trees.as_slice())
+}
+
 /// The reserved blocks of all groups, in order.
-pub(crate) fn reserved_of(alloc: Global, trees: &[GroupTrees]) -> Result<Blocks, NoMemory>
+fn reserved_of(alloc: Global, trees: &[GroupTrees]) -> Result<Blocks, NoMemory>
     ensures { IfOk result (λ blocks. blocks ≡ reserved_of trees.now) }
 {
     let mut blocks = Vec::new(alloc);

@@ -31,6 +31,6 @@ mod seen;
 pub use bytes::{gather_bytes, kept_numbers};
 pub use faults::RebuildFault;
 pub use laws::{images_can_be_rebuilt, known_names_are_in_order};
-pub use names_due::NamesDue;
+pub use names_due::{BoxedNames, NamesDue};
 pub use planning::{Rebuilt, plan_rebuild};
 pub use rendering::plan_placed;

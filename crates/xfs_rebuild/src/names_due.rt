@@ -1,5 +1,9 @@
 //! What is known of a volume in which a name or a directory has to change.
 
+ghost use Rattle.std.specs.Prelude.{◌≡◌, IfOk};
+
+use std::alloc::{AllocError, Global};
+use std::marker::Model;
 use xfs_dirdata::EntryRec;
 use xfs_heads::LogState;
 use xfs_place::Wanted;
@@ -28,4 +32,44 @@ pub struct NamesDue {
     /// What is known of the slots of the candidate clusters, by inode.
     pub seen: Records<SlotSeen>,
     pub log: LogState,
+}
+
+/// What is known, set apart: a fault that may hold it is then small, and cheap to drop. Contracts see what it holds.
+#[derive(Debug, Drop)]
+pub struct BoxedNames {
+    due: Box<NamesDue>,
+}
+
+impl Model for BoxedNames {
+    ghost use Rattle.xfs_rebuild.specs.declared.names_due.NamesDue.{NamesDue};
+
+    ghost Value = { NamesDue };
+
+    ghost view = { λ boxed. boxed.due.value };
+}
+
+impl BoxedNames {
+    /// What is known, set apart.
+    pub fn new(alloc: Global, due: NamesDue) -> Result<BoxedNames, AllocError>
+        ensures { IfOk result (λ boxed. boxed ≡ due) }
+    {
+        Ok(BoxedNames {
+            due: Box::new(alloc, due)?,
+        })
+    }
+
+    /// What is known.
+    pub fn as_names(&self) -> &NamesDue
+        ensures { result.now ≡ self.now }
+    {
+        &self.due
+    }
+
+    /// What is known, no longer apart.
+    pub fn into_names(self) -> NamesDue
+        ensures { result ≡ self }
+    {
+        let BoxedNames { due } = self;
+        Box::into_inner(due)
+    }
 }

@@ -1,6 +1,6 @@
 //! The plan of a rebuild.
 
-ghost use Rattle.std.specs.Prelude.{◌≡◌, ◌≤◌, IfErr, IfOk};
+ghost use Rattle.std.specs.Prelude.{◌≡◌, ◌≤◌, ◌⊎◌, IfErr, IfOk};
 ghost use Rattle.std.specs.Option.{ForSome};
 ghost use Rattle.xfs_disk.specs.Reads.{OnlyReads};
 ghost use Rattle.xfs_geom.specs.Volumes.{stated_volume, volume_of};
@@ -10,11 +10,11 @@ ghost use Rattle.xfs_rebuild.specs.Refusals.{HasRebuildCause, IsRefused, IsRefus
 
 use crate::bytes::{gather_bytes, kept_numbers};
 use crate::faults::RebuildFault;
-use crate::found::{found_of, reserved_of};
+use crate::found::{records_found, reserved_found};
 use crate::names::{DueNames, Judged, judge_names};
-use crate::names_due::NamesDue;
+use crate::names_due::{BoxedNames, NamesDue};
 use crate::rendering::plan_wanted;
-use crate::seen::slots_seen;
+use crate::seen::slots_found;
 use std::alloc::Global;
 use std::sync::ledger::Ledger;
 use std::thread::Threads;
@@ -73,44 +73,21 @@ pub fn plan_rebuild<R: Threads + Sync, D: Disk, G: Gate, L: Ledger>(
     ensures disk { OnlyReads D.size D.holds D.write_faults D.writes D.tells_stops D.moment D.may_leave D.left_since disk.old disk.new }
 {
     let g = &chosen.geometry;
-    let Evidence {
-        clusters,
-        slots,
-        bare,
-        trees,
-        seen,
-        log,
-    } = evidence;
-    let slots = match slots_seen(
-        alloc,
-        g,
-        clusters.as_slice(),
-        slots.as_slice(),
-        bare.as_slice(),
-    ) {
+    let slots = match slots_found(alloc, g, &evidence) {
         Ok(slots) => slots,
         Err(NoMemory) => return Err(RebuildFault::NoMemory),
     };
-    let reserved = match reserved_of(alloc, trees.as_slice()) {
+    let reserved = match reserved_found(alloc, &evidence) {
         Ok(reserved) => reserved,
         Err(NoMemory) => return Err(RebuildFault::NoMemory),
     };
-    let kept = match salvage(rt, alloc, g, found_of(clusters, seen), steps) {
+    let log = evidence.log;
+    let kept = match salvage(rt, alloc, g, records_found(evidence), steps) {
         Ok(kept) => kept,
         Err(NoMemory) => return Err(RebuildFault::NoMemory),
     };
     plan_kept(
-        rt,
-        alloc,
-        disk,
-        chosen,
-        kept,
-        Records::from_vec(slots),
-        reserved,
-        &log,
-        stamp,
-        gate,
-        steps,
+        rt, alloc, disk, chosen, kept, slots, reserved, &log, stamp, gate, steps,
     )
 }
 
@@ -156,7 +133,7 @@ fn plan_kept<R: Threads + Sync, D: Disk, G: Gate, L: Ledger>(
     let clusters = match judge_names(alloc, g.rootino, kept, slots.as_slice()) {
         Ok(Judged::Stay(clusters)) => clusters,
         Ok(Judged::Change(names)) => {
-            return Err(RebuildFault::Names(names_due(wanted, slots, names, seen, log)));
+            return Err(names_fault(alloc, names_due(wanted, slots, names, seen, log)));
         }
         Err(NoMemory) => return Err(RebuildFault::NoMemory),
     };
@@ -174,6 +151,16 @@ fn plan_kept<R: Threads + Sync, D: Disk, G: Gate, L: Ledger>(
         Err(fault) => return Err(fault),
     };
     plan_wanted(rt, alloc, disk, &wanted, &bytes, count, cleared, gate)
+}
+
+/// A name has to change: the fault that says so, with what is known.
+fn names_fault(alloc: Global, due: NamesDue) -> RebuildFault
+    ensures { (result ≡ RebuildFault.Names due) ⊎ (result ≡ RebuildFault.NoMemory) }
+{
+    match BoxedNames::new(alloc, due) {
+        Ok(due) => RebuildFault::Names(due),
+        Err(_) => RebuildFault::NoMemory,
+    }
 }
 
 /// What is known of a volume in which a name has to change, from its parts.

@@ -12,12 +12,31 @@ use xfs_geom::Geometry;
 use xfs_request::{SlotSeen, SlotState};
 use xfs_rounds::{SlotFact, SlotReading};
 use xfs_salvage::is_among;
-use xfs_volume::ClusterRec;
+use xfs_scan::Evidence;
+use xfs_volume::{ClusterRec, Records};
 
 /// The slots of a block, and the blocks of a cluster.
 const SLOTS: u8 = 8;
 
 const CLUSTER_BLOCKS: u64 = 4;
+
+/// What is known of the slots of an evidence's clusters.
+pub(crate) fn slots_found(
+    alloc: Global,
+    g: &Geometry,
+    evidence: &Evidence,
+) -> Result<Records<SlotSeen>, NoMemory>
+    ensures { IfOk result (λ slots. slots ≡ slots_seen (volume_of g.now) evidence.now.clusters evidence.now.slots evidence.now.bare) }
+{
+    let slots = slots_seen(
+        alloc,
+        g,
+        evidence.clusters.as_slice(),
+        evidence.slots.as_slice(),
+        evidence.bare.as_slice(),
+    )?;
+    Ok(Records::from_vec(slots))
+}
 
 /// What is known of the slots of some clusters, from what was kept of each: 32 facts a cluster. `bare` are the inodes of the
 /// files whose attributes do not read.
@@ -25,7 +44,7 @@ const CLUSTER_BLOCKS: u64 = 4;
 /// `NoMemory` where memory is wanting, or where these are not what is gathered of any image: where a cluster ends past the
 /// volume, the facts are not as many as the slots, or the inodes of `bare` do not ascend.
 #[tactic(auto, unfolding(crate::specs::Seen::slots_seen))]
-pub(crate) fn slots_seen(
+fn slots_seen(
     alloc: Global,
     g: &Geometry,
     clusters: &[ClusterRec],

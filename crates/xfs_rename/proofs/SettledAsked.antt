@@ -19,7 +19,7 @@ use Rattle.xfs_rebuild.specs.Rebuilds.{HasNamesDue}
 use Rattle.xfs_rebuild.specs.declared.names_due.NamesDue.{NamesDue}
 use Rattle.xfs_rebuild.proofs.Known.{known_files_ascend}
 use Rattle.xfs_built.specs.Asks.{objects_of}
-use Rattle.xfs_rename.specs.Objects.{wanted_with}
+use Rattle.xfs_rename.specs.Objects.{asked_with, wanted_with, with_added}
 use Rattle.xfs_rename.specs.Renames.{IsSettling}
 use Rattle.xfs_rename.specs.Settled.{fresh_with, settled, staying_files, with_numbers}
 use Rattle.xfs_changes.specs.Replaced.{replaced_blocks}
@@ -49,24 +49,14 @@ module _ (g : Geometry) (s : Stamp) (n : NamesDue) (has : HasNamesDue g s n) (t 
       pub settled_clusters : NumbersAscend 0 all.clusters
       settled_clusters = subst (λ (k : Salvaged). NumbersAscend 0 k.clusters) (sym settled_is) (clusters_in_order g s n has t.lost.added (adds_one g n t is))
 
-      pub wanted_is : (taken new : List Run) (reserved spared : List ℕ) (objects : List Object) (inodes : List GroupInodes) (cs : List ℕ)
-          → taken ≡ taken_of (volume_of g) kept.clusters kept.files → new ≡ map run_of_cluster cs → cs ≡ t.lost.added
-          → reserved ≡ n.wanted.reserved ++ replaced_blocks (volume_of g) rebuilt n.files → spared ≡ t.lost.spared
-          → objects ≡ objects_of t.rooms t.built → inodes ≡ inodes_wanted (volume_of g) all
-          → record { geometry = g; taken = taken; new = new; reserved = reserved; from = 0; spared_from = spared; takes_spared = true; objects = objects; inodes = inodes }
-          ≡ wanted_with g n t.lost t.names (objects_of t.rooms t.built)
-      unfolding wanted_with
-      wanted_is taken new reserved spared objects inodes cs a b c d e f h = λ i. record {
-        geometry = g;
-        taken = (a ∙ ap (λ (k : Salvaged). taken_of (volume_of g) k.clusters k.files) first_is) i;
-        new = (b ∙ ap (map run_of_cluster) c) i;
-        reserved = (d ∙ ap (λ (ns : List ℕ). n.wanted.reserved ++ replaced_blocks (volume_of g) ns n.files) view) i;
-        from = 0;
-        spared_from = e i;
-        takes_spared = true;
-        objects = f i;
-        inodes = (h ∙ ap (inodes_wanted (volume_of g)) settled_is) i;
-      }
+    -- what is asked of it
+    pub asked_is : (reserved : List ℕ) → reserved ≡ n.wanted.reserved ++ replaced_blocks (volume_of g) rebuilt n.files
+        → asked_with g t (taken_of (volume_of g) kept.clusters kept.files) reserved (with_added t.lost.added kept) ≡ wanted_with g n t.lost t.names (objects_of t.rooms t.built)
+    unfolding wanted_with
+    asked_is reserved d = λ i. asked_with g t
+        (taken_of (volume_of g) (first_is i).clusters (first_is i).files)
+        ((d ∙ ap (λ (ns : List ℕ). n.wanted.reserved ++ replaced_blocks (volume_of g) ns n.files) view) i)
+        (with_added t.lost.added (first_is i))
 
   pub rooms_rise : (rooms : List ForkRoom) → rooms ≡ t.rooms → IsNonDecreasingBy (λ (r : ForkRoom). r.ino) rooms
   rooms_rise rooms view =

@@ -27,7 +27,7 @@ use Rattle.xfs_request.specs.Requests.{is_freed}
 use Rattle.xfs_request.specs.declared.seen.SlotSeen.{SlotSeen}
 use Rattle.xfs_salvage.specs.declared.found.Salvaged.{Salvaged}
 use Rattle.xfs_rebuild.specs.Bytes.{AreAtHand, AreReadOf, file_lsns}
-use Rattle.xfs_rebuild.specs.Rebuilds.{IsRenderedLeft}
+use Rattle.xfs_rebuild.specs.Rebuilds.{HasNamesDue, IsRenderedLeft}
 use Rattle.xfs_rebuild.specs.declared.faults.RebuildFault.{RebuildFault}
 use Rattle.xfs_rebuild.specs.declared.faults.RebuildFault.TheVariants as faults
 use Rattle.xfs_rebuild.specs.declared.names_due.NamesDue.{NamesDue}
@@ -43,6 +43,7 @@ use Rattle.xfs_changes.specs.declared.forks.DirectoryFork.{DirectoryFork}
 use Rattle.xfs_changes.specs.declared.lost_found.Lost.{Lost}
 use Rattle.xfs_rename.specs.declared.planning.Renamed.{Renamed}
 use Rattle.xfs_rename.specs.declared.settling.Settling.{Settling}
+use Rattle.xfs_rename.specs.declared.wanting.SettledAsk.{SettledAsk}
 
 -- the names that are wanted where lost+found finds a place, and the directories that are built anew of them
 pub record AreBuilt (g : Geometry) (n : NamesDue) (w : WantedNames) (built : List BuiltDirectory) : Type 0 where
@@ -96,6 +97,16 @@ pub record IsSettling (g : Geometry) (n : NamesDue) (t : Settling) : Type 0 wher
   pub can' : CanBeBuilt t.names
   pub orphans' : t.orphans ≡ length (orphans_of (nodes_of_files n.files) n.entries g.rootino)
 
+-- what is asked of the volume once the names are settled
+pub record IsAskedFor (g : Geometry) (s : Stamp) (n : NamesDue) (t : Settling) (a : SettledAsk) : Type 0 where
+  pub due : HasNamesDue g s n
+  pub settling : IsSettling g n t
+  pub wanted' : a.wanted ≡ wanted_with g n t.lost t.names (objects_of t.rooms t.built)
+  pub kept' : a.kept ≡ settled n t.lost t.names
+  pub slots' : a.slots ≡ n.slots
+  pub seen' : a.seen ≡ n.seen
+  pub log' : a.log ≡ n.log
+
 -- What is to be written where names change, and how many inodes are then in use, how many slots are freed, and how many files are put into
 -- lost+found.
 pub record IsRenamed (g : Geometry) (sector : List ℕ) (s : Stamp) (image : Image) (n : NamesDue) (r : Renamed) : Type 0 where
@@ -122,6 +133,13 @@ pub record FindsNoRoomRenamed (g : Geometry) (n : NamesDue) (what : Unplaced) : 
   pub built : List BuiltDirectory
   pub names : AreBuilt g n w built
   pub finds : FindsNoRoom (renamed_wanted g n w built) what
+
+-- room is wanting, or memory
+abbrev pub IsRoomFault : RebuildFault → Type 0
+IsRoomFault (faults.Names due) = ⊥
+IsRoomFault (faults.NoRoom what) = ⊤
+IsRoomFault faults.ReadFault = ⊥
+IsRoomFault faults.NoMemory = ⊤
 
 -- why nothing is planned: room is wanting, of lost+found before all else; a fault of the disk or want of memory may stand in its place
 abbrev pub IsRenameRefused : Geometry → NamesDue → RebuildFault → Type 0

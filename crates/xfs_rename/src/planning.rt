@@ -1,6 +1,6 @@
 //! The plan of a rebuild in which names change.
 
-ghost use Rattle.std.specs.Prelude.{◌≡◌, ◌+◌, ◌≤◌, [], IfErr, IfOk, IsTrue};
+ghost use Rattle.std.specs.Prelude.{◌≡◌, ◌+◌, ◌≤◌, [], IfErr, IfOk, IsTrue, length};
 ghost use Rattle.std.specs.List.{All};
 ghost use Rattle.std.specs.List.Sorted.{IsNonDecreasingBy};
 ghost use Rattle.std.specs.Option.{ForSome};
@@ -18,7 +18,8 @@ ghost use Rattle.xfs_volume.specs.declared.files.FileRec.{FileRec};
 ghost use Rattle.xfs_changes.specs.Forks.{forks_of};
 ghost use Rattle.xfs_built.specs.Asks.{blocks_of_built};
 ghost use Rattle.xfs_changes.specs.Slots.{changes_of, with_changes};
-ghost use Rattle.xfs_rename.specs.Renames.{IsRenamed, IsRenameRefused, IsSettling, cleared_beside, lsns_due, stays_freed};
+ghost use Rattle.xfs_rebuild.specs.declared.names_due.NamesDue.{NamesDue};
+ghost use Rattle.xfs_rename.specs.Renames.{IsAskedFor, IsRenamed, IsRenameRefused, IsRoomFault, IsSettling, cleared_beside, lsns_due, stays_freed};
 
 use crate::settling::{Settling, settle};
 use crate::wanting::{SettledAsk, ask_settled};
@@ -27,9 +28,11 @@ use std::sync::ledger::Ledger;
 use std::thread::Threads;
 use xfs_changes::{Lost, Ways, blocks_of_built, changes_of, forks_of, with_changes};
 use xfs_disk::{Disk, Gate, NoMemory, Stamp};
-use xfs_geom::Elected;
+use xfs_geom::{Elected, Geometry};
 use xfs_place::{PlaceFault, Placed, place};
-use xfs_rebuild::{NamesDue, RebuildFault, Rebuilt, gather_bytes, kept_numbers, plan_placed};
+use xfs_rebuild::{
+    BoxedNames, NamesDue, RebuildFault, Rebuilt, gather_bytes, kept_numbers, plan_placed,
+};
 use xfs_render::{Bytes, SlotBase, SlotWanted, chunks_are_few};
 use xfs_runs::Steps;
 use xfs_salvage::Salvaged;
@@ -57,7 +60,7 @@ pub fn plan_names<R: Threads + Sync, D: Disk, G: Gate, L: Ledger>(
     alloc: Global,
     disk: &mut D,
     chosen: &Elected,
-    due: NamesDue,
+    due: BoxedNames,
     stamp: &Stamp,
     gate: &G,
     steps: &mut Steps<L>,
@@ -72,27 +75,69 @@ pub fn plan_names<R: Threads + Sync, D: Disk, G: Gate, L: Ledger>(
     ensures cause { HasRebuildCause (D.faults disk.old) (D.faults disk.new) result }
     ensures disk { OnlyReads D.size D.holds D.write_faults D.writes D.tells_stops D.moment D.may_leave D.left_since disk.old disk.new }
 {
-    let settling = match settle(alloc, &chosen.geometry, &due, stamp) {
-        Ok(settling) => settling,
-        Err(PlaceFault::NoRoom(what)) => return Err(RebuildFault::NoRoom(what)),
-        Err(PlaceFault::NoMemory) => return Err(RebuildFault::NoMemory),
-    };
-    let orphans = settling.orphans;
-    let rebuilt = match plan_settled(rt, alloc, disk, chosen, due, settling, stamp, gate, steps) {
-        Ok(rebuilt) => rebuilt,
-        Err(fault) => return Err(fault),
-    };
-    Ok(Renamed { rebuilt, orphans })
+    match settled(alloc, &chosen.geometry, due.as_names(), stamp) {
+        Ok(settling) => plan_renamed(rt, alloc, disk, chosen, due, settling, stamp, gate, steps),
+        Err(fault) => Err(fault),
+    }
+}
+
+/// The names, settled.
+fn settled(
+    alloc: Global,
+    g: &Geometry,
+    due: &NamesDue,
+    stamp: &Stamp,
+) -> Result<Settling, RebuildFault>
+    requires due { HasNamesDue g.now stamp.now due.now }
+    ensures settled { IfOk result (IsSettling g.now due.now) }
+    ensures refused { IfErr result (IsRenameRefused g.now due.now) }
+    ensures cause { IfErr result IsRoomFault }
+{
+    match settle(alloc, g, due, stamp) {
+        Ok(settling) => Ok(settling),
+        Err(PlaceFault::NoRoom(what)) => Err(RebuildFault::NoRoom(what)),
+        Err(PlaceFault::NoMemory) => Err(RebuildFault::NoMemory),
+    }
 }
 
 /// The same once the names are settled and the directories built.
+fn plan_renamed<R: Threads + Sync, D: Disk, G: Gate, L: Ledger>(
+    rt: &R,
+    alloc: Global,
+    disk: &mut D,
+    chosen: &Elected,
+    due: BoxedNames,
+    settling: Settling,
+    stamp: &Stamp,
+    gate: &G,
+    steps: &mut Steps<L>,
+) -> Result<Renamed, RebuildFault>
+    requires accepted { IsAcceptedSector chosen.now.sector }
+    requires states { volume_of chosen.now.geometry ≡ stated_volume chosen.now.sector }
+    requires inside { chosen.now.geometry.dblocks ≤ D.size disk.old }
+    requires due { HasNamesDue chosen.now.geometry stamp.now due }
+    requires settling { IsSettling chosen.now.geometry due settling }
+    ensures writable { IfOk result (λ r. CanBeWritten (D.size disk.old) r.rebuilt) }
+    ensures renamed { IfOk result (λ r. ForSome (D.holds disk.old) (λ image. IsRenamed chosen.now.geometry chosen.now.sector stamp.now image due r)) }
+    ensures refused { IfErr result (IsRenameRefused chosen.now.geometry due) }
+    ensures cause { HasRebuildCause (D.faults disk.old) (D.faults disk.new) result }
+    ensures disk { OnlyReads D.size D.holds D.write_faults D.writes D.tells_stops D.moment D.may_leave D.left_since disk.old disk.new }
+{
+    let orphans = settling.orphans;
+    match plan_settled(rt, alloc, disk, chosen, due, &settling, stamp, gate, steps) {
+        Ok(rebuilt) => Ok(Renamed { rebuilt, orphans }),
+        Err(fault) => Err(fault),
+    }
+}
+
+/// The blocks that are to be written once the names are settled.
 fn plan_settled<R: Threads + Sync, D: Disk, G: Gate, L: Ledger>(
     rt: &R,
     alloc: Global,
     disk: &mut D,
     chosen: &Elected,
-    due: NamesDue,
-    settling: Settling,
+    due: BoxedNames,
+    settling: &Settling,
     stamp: &Stamp,
     gate: &G,
     steps: &mut Steps<L>,
@@ -101,36 +146,75 @@ fn plan_settled<R: Threads + Sync, D: Disk, G: Gate, L: Ledger>(
     requires states { volume_of chosen.now.geometry ≡ stated_volume chosen.now.sector }
     requires inside { chosen.now.geometry.dblocks ≤ D.size disk.old }
     requires due { HasNamesDue chosen.now.geometry stamp.now due }
-    requires settling { IsSettling chosen.now.geometry due settling }
+    requires settling { IsSettling chosen.now.geometry due settling.now }
     ensures writable { IfOk result (CanBeWritten (D.size disk.old)) }
     ensures renamed { IfOk result (λ r. ForSome (D.holds disk.old) (λ image.
-        IsRenamed chosen.now.geometry chosen.now.sector stamp.now image due (record { rebuilt = r; orphans = settling.orphans }))) }
+        IsRenamed chosen.now.geometry chosen.now.sector stamp.now image due (record { rebuilt = r; orphans = settling.now.orphans }))) }
     ensures refused { IfErr result (IsRenameRefused chosen.now.geometry due) }
     ensures cause { HasRebuildCause (D.faults disk.old) (D.faults disk.new) result }
     ensures disk { OnlyReads D.size D.holds D.write_faults D.writes D.tells_stops D.moment D.may_leave D.left_since disk.old disk.new }
 {
-    let asked = match ask_settled(alloc, &chosen.geometry, due, &settling, stamp) {
-        Ok(asked) => asked,
-        Err(NoMemory) => return Err(RebuildFault::NoMemory),
-    };
-    let wanted = &asked.wanted;
-    chunks_are_few(wanted);
-    let placed = match place(alloc, wanted) {
+    match ask_settled(alloc, &chosen.geometry, due, settling, stamp) {
+        Ok(asked) => plan_asked(
+            rt, alloc, disk, chosen, settling, &asked, stamp, gate, steps,
+        ),
+        Err(NoMemory) => Err(RebuildFault::NoMemory),
+    }
+}
+
+/// The same, by what is asked of the volume.
+fn plan_asked<R: Threads + Sync, D: Disk, G: Gate, L: Ledger>(
+    rt: &R,
+    alloc: Global,
+    disk: &mut D,
+    chosen: &Elected,
+    settling: &Settling,
+    asked: &SettledAsk,
+    stamp: &Stamp,
+    gate: &G,
+    steps: &mut Steps<L>,
+) -> Result<Rebuilt, RebuildFault>
+    requires accepted { IsAcceptedSector chosen.now.sector }
+    requires states { volume_of chosen.now.geometry ≡ stated_volume chosen.now.sector }
+    requires inside { chosen.now.geometry.dblocks ≤ D.size disk.old }
+    requires asked { (n : NamesDue) × IsAskedFor chosen.now.geometry stamp.now n settling.now asked.now }
+    ensures writable { IfOk result (CanBeWritten (D.size disk.old)) }
+    ensures renamed { (n : NamesDue) → IsAskedFor chosen.now.geometry stamp.now n settling.now asked.now → IfOk result (λ r. ForSome (D.holds disk.old) (λ image.
+        IsRenamed chosen.now.geometry chosen.now.sector stamp.now image n (record { rebuilt = r; orphans = settling.now.orphans }))) }
+    ensures refused { (n : NamesDue) → IsAskedFor chosen.now.geometry stamp.now n settling.now asked.now → IfErr result (IsRenameRefused chosen.now.geometry n) }
+    ensures cause { HasRebuildCause (D.faults disk.old) (D.faults disk.new) result }
+    ensures disk { OnlyReads D.size D.holds D.write_faults D.writes D.tells_stops D.moment D.may_leave D.left_since disk.old disk.new }
+{
+    chunks_are_few(&asked.wanted);
+    let placed = match place(alloc, &asked.wanted) {
         Ok(placed) => placed,
         Err(PlaceFault::NoRoom(what)) => return Err(RebuildFault::NoRoom(what)),
         Err(PlaceFault::NoMemory) => return Err(RebuildFault::NoMemory),
     };
-    let cleared = cleared_beside(&settling.lost, asked.slots.as_slice());
-    let count = settling.names.links.as_slice().len() as u64;
-    let bytes = match settled_bytes(
-        alloc, disk, chosen, &settling, &asked, &placed, stamp, steps,
-    ) {
+    let bytes = match settled_bytes(alloc, disk, chosen, settling, asked, &placed, stamp, steps) {
         Ok(bytes) => bytes,
         Err(fault) => return Err(fault),
     };
+    let count = names_of(settling);
+    let cleared = cleared_beside(&settling.lost, asked.slots.as_slice());
     plan_placed(
-        rt, alloc, disk, wanted, &placed, &bytes, count, cleared, gate,
+        rt,
+        alloc,
+        disk,
+        &asked.wanted,
+        &placed,
+        &bytes,
+        count,
+        cleared,
+        gate,
     )
+}
+
+/// How many files have names.
+fn names_of(settling: &Settling) -> u64
+    ensures { result ≡ length settling.now.names.links }
+{
+    settling.names.links.as_slice().len() as u64
 }
 
 /// What the blocks are made of, where the directories stand: as where no name changes, with the blocks of the directories.

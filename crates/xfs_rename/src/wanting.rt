@@ -1,11 +1,18 @@
 //! What is asked of the volume once its names are settled.
 
-ghost use Rattle.std.specs.Prelude.{◌≡◌, [], map, true, IfOk};
+ghost use Rattle.std.specs.Prelude.{◌≡◌, ◌++◌, [], map, true, IfOk};
+ghost use Rattle.std.specs.List.{All};
+ghost use Rattle.std.specs.List.Sorted.{IsNonDecreasingBy};
+ghost use Rattle.xfs_geom.specs.Volumes.{volume_of};
+ghost use Rattle.xfs_space.specs.Parts.{HasLawfulForks};
+ghost use Rattle.xfs_volume.specs.declared.files.FileRec.{FileRec};
+ghost use Rattle.xfs_names.specs.declared.building.ForkRoom.{ForkRoom};
 ghost use Rattle.xfs_naming.specs.Naming.{NumbersAscend};
 ghost use Rattle.xfs_rebuild.specs.Rebuilds.{HasNamesDue};
-ghost use Rattle.xfs_salvage.specs.Kept.{run_of_cluster};
+ghost use Rattle.xfs_salvage.specs.Kept.{run_of_cluster, taken_of};
 ghost use Rattle.xfs_built.specs.Asks.{objects_of};
-ghost use Rattle.xfs_rename.specs.Objects.{wanted_with};
+ghost use Rattle.xfs_changes.specs.Replaced.{replaced_blocks};
+ghost use Rattle.xfs_rename.specs.Objects.{asked_with, wanted_with, with_added};
 ghost use Rattle.xfs_rename.specs.Renames.{IsSettling};
 ghost use Rattle.xfs_rename.specs.Settled.{fresh_with, settled, staying_files, with_numbers};
 
@@ -17,7 +24,7 @@ use xfs_disk::{NoMemory, Stamp};
 use xfs_geom::{Geometry, Run};
 use xfs_heads::LogState;
 use xfs_place::{GroupInodes, Object, Wanted};
-use xfs_rebuild::NamesDue;
+use xfs_rebuild::{BoxedNames, NamesDue};
 use xfs_render::SlotWanted;
 use xfs_request::{SlotSeen, inodes_wanted, taken_runs};
 use xfs_salvage::Salvaged;
@@ -45,6 +52,25 @@ pub struct SettledAsk {
 pub(crate) fn ask_settled(
     alloc: Global,
     g: &Geometry,
+    due: BoxedNames,
+    settling: &Settling,
+    stamp: &Stamp,
+) -> Result<SettledAsk, NoMemory>
+    requires due { HasNamesDue g.now stamp.now due }
+    requires settling { IsSettling g.now due settling.now }
+    ensures wanted { IfOk result (λ asked. asked.wanted ≡ wanted_with g.now due settling.now.lost settling.now.names (objects_of settling.now.rooms settling.now.built)) }
+    ensures kept { IfOk result (λ asked. asked.kept ≡ settled due settling.now.lost settling.now.names) }
+    ensures slots { IfOk result (λ asked. asked.slots ≡ due.slots) }
+    ensures seen { IfOk result (λ asked. asked.seen ≡ due.seen) }
+    ensures log { IfOk result (λ asked. asked.log ≡ due.log) }
+{
+    ask_names(alloc, g, due.into_names(), settling, stamp)
+}
+
+/// The same, by what is known, no longer apart.
+fn ask_names(
+    alloc: Global,
+    g: &Geometry,
     due: NamesDue,
     settling: &Settling,
     stamp: &Stamp,
@@ -68,16 +94,10 @@ pub(crate) fn ask_settled(
         ..
     } = due;
     let rebuilt = settling.names.rebuilt.as_slice();
-    let mut reserved = reserved_of(wanted);
-    push_replaced(g, rebuilt, files.as_slice(), &mut reserved)?;
+    let reserved = reserved_with(g, rebuilt, files.as_slice(), wanted)?;
     let kept = staying_of(alloc, rebuilt, &settling.lost, clusters, files, fresh)?;
-    let taken = taken_runs(alloc, g, &kept)?;
-    let kept = with_added(settling.lost.added.as_slice(), kept)?;
-    let inodes = inodes_wanted(alloc, g, &kept)?;
-    let objects = objects_of(alloc, settling.rooms.as_slice(), settling.built.as_slice())?;
-    let new = cluster_runs(alloc, settling.lost.added.as_slice())?;
-    let spared = Vec::from_slice(alloc, settling.lost.spared.as_slice())?;
-    let wanted = joined(g, taken, new, reserved, spared, objects, inodes);
+    let asked = asked_of(alloc, g, settling, kept, reserved)?;
+    let (wanted, kept) = asked;
     Ok(SettledAsk {
         wanted,
         kept,
@@ -85,6 +105,63 @@ pub(crate) fn ask_settled(
         seen,
         log,
     })
+}
+
+/// What is asked, and what is kept with new clusters, by what is kept without them and the reserved blocks.
+fn asked_of(
+    alloc: Global,
+    g: &Geometry,
+    settling: &Settling,
+    kept: Salvaged,
+    reserved: Vec<u64>,
+) -> Result<(Wanted, Salvaged), NoMemory>
+    requires forks { All (HasLawfulForks (volume_of g.now)) kept.files }
+    requires files { IsNonDecreasingBy (λ (f : FileRec). f.ino) kept.files }
+    requires clusters { NumbersAscend 0 (with_numbers settling.now.lost.added kept.clusters) }
+    requires rooms { IsNonDecreasingBy (λ (r : ForkRoom). r.ino) settling.now.rooms }
+    ensures wanted { IfOk result (λ both. both.0 ≡ asked_with g.now settling.now (taken_of (volume_of g.now) kept.clusters kept.files) reserved.items (with_added settling.now.lost.added kept)) }
+    ensures kept { IfOk result (λ both. both.1 ≡ with_added settling.now.lost.added kept) }
+{
+    let taken = taken_runs(alloc, g, &kept)?;
+    let kept = with_added(settling.lost.added.as_slice(), kept)?;
+    let wanted = wanted_of(alloc, g, settling, &kept, taken, reserved)?;
+    Ok((wanted, kept))
+}
+
+/// What is asked, by what is kept with new clusters, the runs that were taken without them and the reserved blocks.
+fn wanted_of(
+    alloc: Global,
+    g: &Geometry,
+    settling: &Settling,
+    kept: &Salvaged,
+    taken: Vec<Run>,
+    reserved: Vec<u64>,
+) -> Result<Wanted, NoMemory>
+    requires files { IsNonDecreasingBy (λ (f : FileRec). f.ino) kept.now.files }
+    requires clusters { NumbersAscend 0 kept.now.clusters }
+    requires rooms { IsNonDecreasingBy (λ (r : ForkRoom). r.ino) settling.now.rooms }
+    ensures { IfOk result (λ wanted. wanted ≡ asked_with g.now settling.now taken.items reserved.items kept.now) }
+{
+    let inodes = inodes_wanted(alloc, g, kept)?;
+    let objects = objects_of(alloc, settling.rooms.as_slice(), settling.built.as_slice())?;
+    let new = cluster_runs(alloc, settling.lost.added.as_slice())?;
+    let spared = Vec::from_slice(alloc, settling.lost.spared.as_slice())?;
+    Ok(joined(g, taken, new, reserved, spared, objects, inodes))
+}
+
+/// The blocks that were reserved before, and those of the directories that are built anew.
+fn reserved_with(
+    g: &Geometry,
+    rebuilt: &[u64],
+    files: &[FileRec],
+    wanted: Wanted,
+) -> Result<Vec<u64>, NoMemory>
+    requires rebuilt { NumbersAscend 0 rebuilt.now }
+    ensures { IfOk result (λ all. all.items ≡ wanted.reserved ++ replaced_blocks (volume_of g.now) rebuilt.now files.now) }
+{
+    let mut reserved = reserved_of(wanted);
+    push_replaced(g, rebuilt, files, &mut reserved)?;
+    Ok(reserved)
 }
 
 /// The blocks that were reserved before.
@@ -145,7 +222,7 @@ fn joined(
 
 /// What is kept, with new clusters.
 fn with_added(added: &[u64], kept: Salvaged) -> Result<Salvaged, NoMemory>
-    ensures { IfOk result (λ all. all ≡ record kept { clusters = with_numbers added.now kept.clusters }) }
+    ensures { IfOk result (λ all. all ≡ with_added added.now kept) }
 {
     let Salvaged {
         clusters,

@@ -1,8 +1,10 @@
 //! The evidence of a volume.
 
-ghost use Rattle.std.specs.Prelude.{◌≡◌};
+ghost use Rattle.std.specs.Prelude.{◌≡◌, IfOk};
 ghost use Rattle.xfs_scan.specs.Evidence.{dirs_seen, entries_seen, files_seen, view_seen};
 
+use std::alloc::{AllocError, Global};
+use std::marker::Model;
 use xfs_dirdata::EntryRec;
 use xfs_groups::GroupTrees;
 use xfs_heads::LogState;
@@ -22,7 +24,7 @@ pub struct Evidence {
     /// What is known of the trees of each group.
     pub trees: Records<GroupTrees>,
     /// The files that the slots have, and what the whole image says.
-    pub seen: Seen,
+    pub seen: BoxedSeen,
     pub log: LogState,
 }
 
@@ -33,6 +35,46 @@ pub enum Seen {
     Whole(Catalog),
     /// The candidate clusters have files of their own.
     Apart(Lists, Result<Catalog, Finding>),
+}
+
+/// What is seen, set apart, so that an evidence is small. Contracts see what it holds.
+#[derive(Drop)]
+pub struct BoxedSeen {
+    seen: Box<Seen>,
+}
+
+impl Model for BoxedSeen {
+    ghost use Rattle.xfs_scan.specs.declared.evidence.Seen.{Seen};
+
+    ghost Value = { Seen };
+
+    ghost view = { λ boxed. boxed.seen.value };
+}
+
+impl BoxedSeen {
+    /// What is seen, set apart.
+    pub fn new(alloc: Global, seen: Seen) -> Result<BoxedSeen, AllocError>
+        ensures { IfOk result (λ boxed. boxed ≡ seen) }
+    {
+        Ok(BoxedSeen {
+            seen: Box::new(alloc, seen)?,
+        })
+    }
+
+    /// What is seen.
+    pub fn as_seen(&self) -> &Seen
+        ensures { result.now ≡ self.now }
+    {
+        &self.seen
+    }
+
+    /// What is seen, no longer apart.
+    pub fn into_seen(self) -> Seen
+        ensures { result ≡ self }
+    {
+        let BoxedSeen { seen } = self;
+        Box::into_inner(seen)
+    }
 }
 
 /// The files of some slots, and what is found of them.

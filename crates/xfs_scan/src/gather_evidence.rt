@@ -13,7 +13,7 @@ ghost use Rattle.xfs_slots.specs.Facts.{slot_facts};
 ghost use Rattle.xfs_slots.specs.Gathered.{gathered, held_in};
 ghost use Rattle.xfs_scan.specs.Refused.{refused, refused_late};
 
-use crate::evidence::{Evidence, Seen};
+use crate::evidence::{BoxedSeen, Evidence, Seen};
 use crate::faults::{ScanFault, answer};
 use crate::limits::{INODES, MOST_INODES, count_extents, count_inodes, refusal};
 use crate::scan::{ScannedSlots, scan};
@@ -160,7 +160,10 @@ fn gather_view<D: Disk, L: Ledger>(
         log,
         steps,
     ) {
-        Ok(held) => Ok(evidence_of(clusters, slots, bare, trees, held, log)),
+        Ok(held) => match evidence_of(alloc, clusters, slots, bare, trees, held, log) {
+            Ok(evidence) => Ok(evidence),
+            Err(NoMemory) => Err(PartFault::NoMemory),
+        },
         Err(fault) => Err(fault),
     }
 }
@@ -174,21 +177,23 @@ fn copy_bare(alloc: Global, inodes: &Inodes) -> Result<Blocks, NoMemory>
 
 /// The evidence from its parts.
 fn evidence_of(
+    alloc: Global,
     clusters: Records<ClusterRec>,
     slots: Vec<SlotFact>,
     bare: Blocks,
     trees: Records<GroupTrees>,
     seen: Seen,
     log: LogState,
-) -> Evidence
-    ensures { result ≡ joined_parts clusters slots.items bare trees seen log }
+) -> Result<Evidence, NoMemory>
+    ensures { IfOk result (λ e. e ≡ joined_parts clusters slots.items bare trees seen log) }
 {
-    Evidence {
+    let seen = BoxedSeen::new(alloc, seen)?;
+    Ok(Evidence {
         clusters,
         slots: Records::from_vec(slots),
         bare,
         trees,
         seen,
         log,
-    }
+    })
 }

@@ -24,6 +24,6 @@ mod limits;
 mod scan;
 mod view;
 
-pub use evidence::{Evidence, Lists, Seen};
+pub use evidence::{BoxedSeen, Evidence, Lists, Seen};
 pub use faults::ScanFault;
 pub use gather_evidence::gather;

@@ -129,7 +129,7 @@ fn try_reads<R: Abort + AllocGlobal + Threads + Sync>(rt: &R, line: &str) {
     let disk = disk_of(rt, &mut row);
     let mut noted = NotedDisk::new(rt.alloc(), disk);
     let found = gathered(rt, rt.alloc(), &mut noted, case);
-    same!(*rt; found.seen.dirs().len(), 2; case);
+    same!(*rt; found.seen.as_seen().dirs().len(), 2; case);
     let view = view_of(found);
     same!(*rt; view.is_ok(), row.flag(rt); case);
     are_counted(rt, &counts_of(rt, noted.reads(), 2048), row.text(), case);

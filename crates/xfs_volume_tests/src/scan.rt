@@ -136,7 +136,7 @@ fn seen_with<R: Abort + Threads + Sync>(
 
 /// What the whole image says, or the first part that does not read.
 pub fn view_of(found: Evidence) -> Result<Catalog, Finding> {
-    found.seen.into_view()
+    found.seen.into_seen().into_view()
 }
 
 /// The clusters, the entries and the directories.
@@ -152,10 +152,15 @@ fn evidence(rt: HostRuntime) {
     let found = seen_with(&rt, rt.alloc(), &[(137, LOST_ATTRIBUTES)]);
     tells(&rt, &found.clusters.as_slice(), CLUSTERS, "clusters");
     same!(rt; found.slots.as_slice().len(), 64);
-    are_files(&rt, found.seen.files());
+    are_files(&rt, found.seen.as_seen().files());
     tells(&rt, &found.bare.as_slice(), "[137]", "bare files");
-    tells(&rt, &found.seen.entries(), ENTRIES, "entries");
-    tells(&rt, &found.seen.dirs(), DIRECTORIES, "directories");
+    tells(&rt, &found.seen.as_seen().entries(), ENTRIES, "entries");
+    tells(
+        &rt,
+        &found.seen.as_seen().dirs(),
+        DIRECTORIES,
+        "directories",
+    );
     same!(rt; found.trees.as_slice().len(), 2);
     same!(rt; found.log, LogState::Clean { head: 1 << 32 });
     let view = view_of(found);

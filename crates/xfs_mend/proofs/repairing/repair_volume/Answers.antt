@@ -1,6 +1,7 @@
 -- What is refused, what is found, and what comes of it.
-use Rattle.std.proofs.Common.{rules, ◌≡◌, ◌≤◌, Some, None, refl, sym, ◌∙◌, subst, arith}
+use Rattle.std.proofs.Common.{rules, ◌≡◌, ◌≤◌, Some, None, refl, sym, ap, ◌∙◌, subst, arith}
 use Rattle.xfs_disk.proofs.Reading.{reads_on}
+use Rattle.xfs_scan.specs.Evidence.{view_seen}
 use Rattle.xfs_laws.specs.Lawful.{broken_law}
 use Rattle.xfs_image.specs.Consistent.{finding}
 use Rattle.xfs_mend.proofs.Deciding.{admitted_evidence, admitted_stays, due_away, due_seen}
@@ -110,7 +111,8 @@ pub find_first-requires-clause-view : goal.find_first-requires-clause-view
 find_first-requires-clause-view g c = λ κs lives image told.
     let disk = c.in-Ok-Seen.ensures.disk in
     let given : c.in-Ok-Seen.field-0 ≡ Seen c.in-Ok-Seen.evidence = search rules in
-    (admitted_evidence (repair_asked c.args.options.now) c.args.chosen.now.geometry image c.in-Ok-Seen.field-0 c.in-Ok-Seen.evidence given
+    ap view_seen c.as_seen.ensures
+    ∙ (admitted_evidence (repair_asked c.args.options.now) c.args.chosen.now.geometry image c.in-Ok-Seen.field-0 c.in-Ok-Seen.evidence given
     (c.in-Ok-Seen.ensures.admitted image (sym disk.same_contents ∙ told))).catalog
 
 pub answer_found-requires-clause-evidence : goal.answer_found-requires-clause-evidence

@@ -1,8 +1,10 @@
-use Rattle.std.proofs.Common.{◌≡◌, ℕ, ◌+◌, ◌≤◌, sym, subst, ◌∙◌, rules}
+use Rattle.std.proofs.Common.{◌≡◌, ℕ, ◌+◌, ◌≤◌, inl, inr, sym, subst, ◌∙◌, rules}
 use Rattle.std.specs.List.{All}
 use Rattle.xfs_disk.proofs.Reading.{reads_on}
 use Rattle.xfs_geom.specs.Volumes.{volume_of}
 use Rattle.xfs_rebuild.specs.Rebuilds.{ground}
+use Rattle.xfs_rebuild.specs.Refusals.{IsRefusedOn}
+use Rattle.xfs_rebuild.specs.declared.faults.RebuildFault.TheVariants.{Names}
 use Rattle.xfs_rebuild.specs.declared.names.Judged.TheVariants.{Change}
 use Rattle.xfs_rebuild.proofs.Grounds.{clusters_found, files_found, forks_found, in_order, lie, low_root, slots_rise, wanted_bytes, wanted_fits, wanted_stands, wanted_written}
 use Rattle.xfs_rebuild.proofs.Rebuilding.{all_planned, cleared_of, hand_of, names_refused, none_change, read_of, slots_of}
@@ -80,11 +82,17 @@ pub returns-in-Ok-Change-clause-refused : goal.returns-in-Ok-Change-clause-refus
 returns-in-Ok-Change-clause-refused g c =
     let asked = c.in-Ok.ensures in
     let given : c.in-Ok-Change.field-0 ≡ Change c.in-Ok-Change.names = search rules in
+    let of = IsRefusedOn c.args.chosen.now.geometry c.args.stamp.now (ground c.args.kept c.args.seen c.args.reserved c.args.log.now) in
+    let refused : of (Names c.names_due.result) =
     names_refused c.args.chosen.now.geometry c.args.stamp.now (ground c.args.kept c.args.seen c.args.reserved c.args.log.now)
     c.in-Ok.request.wanted c.in-Ok.request.slots c.as_slice-3.result.now c.in-Ok-Change.field-0 c.in-Ok-Change.names c.names_due.result
     asked.wanted
     (slots_of c.args.chosen.now.geometry c.args.stamp.now c.args.kept c.as_slice.result.now c.args.seen c.as_slice.ensures c.in-Ok.request.slots c.in-Ok.ensures.slots)
-    c.as_slice-3.ensures c.in-Ok-Change.ensures given c.names_due.ensures
+    c.as_slice-3.ensures c.in-Ok-Change.ensures given c.names_due.ensures in
+    elim c.names_fault.ensures [
+      | inl is ↦ subst of (sym is) refused
+      | inr is ↦ subst of (sym is) tt
+    ]
 
 pub returns-clause-planned : goal.returns-clause-planned
 returns-clause-planned g c =

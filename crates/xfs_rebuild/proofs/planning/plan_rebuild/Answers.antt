@@ -7,25 +7,21 @@ pub returns-clause-rebuilt : goal.returns-clause-rebuilt
 returns-clause-rebuilt g c =
     let e = c.args.evidence in
     let saved = c.in-Ok-salvage.ensures in
-    let found = c.found_of.ensures in
+    let found = c.records_found.ensures in
     rebuilt c.args.chosen.now.geometry c.args.chosen.now.sector c.args.stamp.now e
-    (ground c.in-Ok-salvage.kept c.from_vec.result c.in-Ok-reserved_of.reserved e.log) (g.D.Disk.holds c.args.disk.now) c.plan_kept.result
-    (is_ground (volume_of c.args.chosen.now.geometry) c.found_of.result c.in-Ok-salvage.kept saved.clusters saved.files saved.fresh e c.as_slice.result.now c.as_slice-2.result.now
-    c.as_slice-3.result.now c.as_slice-4.result.now c.in-Ok.slots.items c.from_vec.result c.in-Ok-reserved_of.reserved
-    found.clusters found.files found.entries found.dirs saved.entries saved.dirs c.as_slice.ensures c.as_slice-2.ensures c.as_slice-3.ensures c.in-Ok.ensures
-    c.from_vec.ensures c.as_slice-4.ensures c.in-Ok-reserved_of.ensures)
+    (ground c.in-Ok-salvage.kept c.in-Ok.slots c.in-Ok-reserved_found.reserved e.log) (g.D.Disk.holds c.args.disk.now) c.plan_kept.result
+    (is_ground (volume_of c.args.chosen.now.geometry) c.records_found.result c.in-Ok-salvage.kept saved.clusters saved.files saved.fresh e c.in-Ok.slots c.in-Ok-reserved_found.reserved
+    found.clusters found.files found.entries found.dirs saved.entries saved.dirs c.in-Ok.ensures c.in-Ok-reserved_found.ensures)
     c.plan_kept.ensures.planned
 
 pub returns-clause-refused : goal.returns-clause-refused
 returns-clause-refused g c =
     let e = c.args.evidence in
     let saved = c.in-Ok-salvage.ensures in
-    let found = c.found_of.ensures in
+    let found = c.records_found.ensures in
     none_rebuilt c.args.chosen.now.geometry c.args.stamp.now e
-    (ground c.in-Ok-salvage.kept c.from_vec.result c.in-Ok-reserved_of.reserved e.log) c.plan_kept.result
-    (is_ground (volume_of c.args.chosen.now.geometry) c.found_of.result c.in-Ok-salvage.kept saved.clusters saved.files saved.fresh e c.as_slice.result.now c.as_slice-2.result.now
-    c.as_slice-3.result.now c.as_slice-4.result.now c.in-Ok.slots.items c.from_vec.result c.in-Ok-reserved_of.reserved
-    found.clusters found.files found.entries found.dirs saved.entries saved.dirs c.as_slice.ensures c.as_slice-2.ensures c.as_slice-3.ensures c.in-Ok.ensures
-    c.from_vec.ensures c.as_slice-4.ensures c.in-Ok-reserved_of.ensures)
-    (record { clusters = c.found_of.result.clusters; files = c.found_of.result.files; can = saved.can; is = record { clusters' = saved.clusters; files' = saved.files; fresh' = saved.fresh } })
+    (ground c.in-Ok-salvage.kept c.in-Ok.slots c.in-Ok-reserved_found.reserved e.log) c.plan_kept.result
+    (is_ground (volume_of c.args.chosen.now.geometry) c.records_found.result c.in-Ok-salvage.kept saved.clusters saved.files saved.fresh e c.in-Ok.slots c.in-Ok-reserved_found.reserved
+    found.clusters found.files found.entries found.dirs saved.entries saved.dirs c.in-Ok.ensures c.in-Ok-reserved_found.ensures)
+    (record { clusters = c.records_found.result.clusters; files = c.records_found.result.files; can = saved.can; is = record { clusters' = saved.clusters; files' = saved.files; fresh' = saved.fresh } })
     c.plan_kept.ensures.refused

@@ -1,40 +1,36 @@
-use Rattle.std.proofs.Common.{◌∙◌, ◌++◌}
-use Rattle.xfs_geom.specs.Volumes.{volume_of}
+-- What is known is what was set apart.
+use Rattle.std.proofs.Common.{◌≡◌, IfOk, sym, subst}
 use Rattle.xfs_built.specs.Asks.{objects_of}
-use Rattle.xfs_changes.specs.Replaced.{replaced_blocks}
-use Rattle.xfs_rename.proofs.SettledAsked.{first_forks, rooms_rise, settled_clusters, settled_files, wanted_is}
+use Rattle.xfs_rebuild.specs.Rebuilds.{HasNamesDue}
+use Rattle.xfs_rebuild.specs.declared.names_due.NamesDue.{NamesDue}
+use Rattle.xfs_rename.specs.Objects.{wanted_with}
+use Rattle.xfs_rename.specs.Renames.{IsSettling}
+use Rattle.xfs_rename.specs.Settled.{settled}
+use Rattle.xfs_rename.specs.declared.wanting.SettledAsk.{SettledAsk}
 use Rattle.xfs_rename.proofs.wanting.ask_settled.Goals as goal
 
-pub taken_runs-requires : goal.taken_runs-requires
-taken_runs-requires c =
-    first_forks c.args.g.now c.args.stamp.now c.args.due c.requires.due c.args.settling.now c.requires.settling
-    c.as_slice-rebuilt.result.now c.as_slice-rebuilt.ensures c.in_ok-kept.kept c.in_ok-kept.ensures
+pub ask_names-requires-clause-due : goal.ask_names-requires-clause-due
+ask_names-requires-clause-due c = subst (HasNamesDue c.args.g.now c.args.stamp.now) (sym c.into_names.ensures) c.requires.due
 
-pub inodes_wanted-requires-clause-files : goal.inodes_wanted-requires-clause-files
-inodes_wanted-requires-clause-files c =
-    settled_files c.args.g.now c.args.stamp.now c.args.due c.requires.due c.args.settling.now c.requires.settling
-    c.as_slice-rebuilt.result.now c.as_slice-rebuilt.ensures c.in_ok-kept.kept c.in_ok-kept.ensures
-    c.as_slice-2.result.now c.as_slice-2.ensures c.in_ok-kept-2.kept c.in_ok-kept-2.ensures
-
-pub inodes_wanted-requires-clause-clusters : goal.inodes_wanted-requires-clause-clusters
-inodes_wanted-requires-clause-clusters c =
-    settled_clusters c.args.g.now c.args.stamp.now c.args.due c.requires.due c.args.settling.now c.requires.settling
-    c.as_slice-rebuilt.result.now c.as_slice-rebuilt.ensures c.in_ok-kept.kept c.in_ok-kept.ensures
-    c.as_slice-2.result.now c.as_slice-2.ensures c.in_ok-kept-2.kept c.in_ok-kept-2.ensures
-
-pub objects_of-requires : goal.objects_of-requires
-objects_of-requires c = record { rooms = rooms_rise c.args.g.now c.args.stamp.now c.args.due c.requires.due c.args.settling.now c.requires.settling c.as_slice-3.result.now c.as_slice-3.ensures }
+pub ask_names-requires-clause-settling : goal.ask_names-requires-clause-settling
+ask_names-requires-clause-settling c = subst (λ (due : NamesDue). IsSettling c.args.g.now due c.args.settling.now) (sym c.into_names.ensures) c.requires.settling
 
 pub returns-clause-wanted : goal.returns-clause-wanted
 returns-clause-wanted c =
-    c.joined-wanted.ensures
-    ∙ wanted_is c.args.g.now c.args.stamp.now c.args.due c.requires.due c.args.settling.now c.requires.settling
-    c.as_slice-rebuilt.result.now c.as_slice-rebuilt.ensures c.in_ok-kept.kept c.in_ok-kept.ensures
-    c.as_slice-2.result.now c.as_slice-2.ensures c.in_ok-kept-2.kept c.in_ok-kept-2.ensures
-    c.in_ok-taken.taken.items c.in_ok-new.new.items c.push_replaced.new.blocks.items c.in_ok-spared.spared.items c.in_ok-objects.objects.items c.in_ok-inodes.inodes.items
-    c.as_slice-5.result.now
-    c.in_ok-taken.ensures c.in_ok-new.ensures c.as_slice-5.ensures
-    (c.in_ok-push_replaced.ensures ∙ (λ i. c.reserved_of-reserved.ensures i ++ replaced_blocks (volume_of c.args.g.now) c.as_slice-rebuilt.result.now (c.as_slice.ensures i)))
-    (c.in_ok-spared.ensures.items ∙ c.as_slice-6.ensures)
-    (c.in_ok-objects.ensures ∙ (λ i. objects_of (c.as_slice-3.ensures i) (c.as_slice-4.ensures i)))
-    c.in_ok-inodes.ensures
+    let t = c.args.settling.now in
+    subst (λ (due : NamesDue). IfOk c.ask_names.result (λ (asked : SettledAsk). asked.wanted ≡ wanted_with c.args.g.now due t.lost t.names (objects_of t.rooms t.built)))
+    c.into_names.ensures c.ask_names.ensures.wanted
+
+pub returns-clause-kept : goal.returns-clause-kept
+returns-clause-kept c =
+    subst (λ (due : NamesDue). IfOk c.ask_names.result (λ (asked : SettledAsk). asked.kept ≡ settled due c.args.settling.now.lost c.args.settling.now.names)) c.into_names.ensures
+    c.ask_names.ensures.kept
+
+pub returns-clause-slots : goal.returns-clause-slots
+returns-clause-slots c = subst (λ (due : NamesDue). IfOk c.ask_names.result (λ (asked : SettledAsk). asked.slots ≡ due.slots)) c.into_names.ensures c.ask_names.ensures.slots
+
+pub returns-clause-seen : goal.returns-clause-seen
+returns-clause-seen c = subst (λ (due : NamesDue). IfOk c.ask_names.result (λ (asked : SettledAsk). asked.seen ≡ due.seen)) c.into_names.ensures c.ask_names.ensures.seen
+
+pub returns-clause-log : goal.returns-clause-log
+returns-clause-log c = subst (λ (due : NamesDue). IfOk c.ask_names.result (λ (asked : SettledAsk). asked.log ≡ due.log)) c.into_names.ensures c.ask_names.ensures.log
