@@ -15,7 +15,7 @@ use xfs_geom::Geometry;
 use xfs_objects::{Measure, ObjectType};
 
 /// The commands.
-#[derive(Clone, Copy, Debug, PartialEq, Eq)]
+#[derive(Clone, Copy)]
 pub enum Verb {
     Sb,
     Agf,

@@ -9,14 +9,14 @@ use xfs_disk::NoMemory;
 use xfs_objects::{ObjectPlace, ObjectType, Spot};
 
 /// The current place, and the stack of places, the top last.
-#[derive(Debug, Drop)]
+#[derive(Drop)]
 pub struct Cursor {
     pub at: Option<ObjectPlace>,
     pub stack: Vec<ObjectPlace>,
 }
 
 /// How a command ended.
-#[derive(Clone, Copy, Debug, PartialEq, Eq)]
+#[derive(Clone, Copy, PartialEq, Eq)]
 pub enum Verdict {
     Done,
     /// It could not be run, and told why.

@@ -1,10 +1,11 @@
 //! Numbers that stand for places, and their conversion.
 
-ghost use Rattle.std.specs.Prelude.{◌≡◌, ℕ, ◌<◌, ◌^◌, ◌++◌, bytes_eq, IfSome, OnOk};
+ghost use Rattle.std.specs.Prelude.{◌≡◌, ℕ, ◌<◌, ◌^◌, ◌++◌, bytes_eq, codes, decimal, IfSome, OnOk};
 ghost use Rattle.std.specs.List.{find};
 ghost use Rattle.std.specs.Option.{option_map};
 ghost use Rattle.xfs_geom.specs.Conversions.{block_at, slot_at};
 ghost use Rattle.xfs_geom.specs.Volumes.{volume_of};
+ghost use Rattle.xfs_objects.specs.Hexadecimal.{hexadecimal};
 ghost use Rattle.xfs_objects.specs.Places.{both_bases, first_sector, is_place, number_in, pair_of, sector_at_daddr, spot_of, measure_name, measure_named};
 ghost use Rattle.xfs_objects.specs.declared.convert.Measure.{Measure};
 
@@ -14,7 +15,7 @@ use xfs_disk::NoMemory;
 use xfs_geom::Geometry;
 
 /// What a number counts.
-#[derive(Clone, Copy, Debug, PartialEq, Eq)]
+#[derive(Clone, Copy)]
 pub enum Measure {
     /// Allocation groups.
     AgNumber,
@@ -43,7 +44,7 @@ const ALL: [Measure; 7] = [
 ];
 
 /// A sector of a block of the image.
-#[derive(Clone, Copy, Debug, PartialEq, Eq)]
+#[derive(Clone, Copy)]
 pub struct Spot {
     pub block: u64,
     pub sector: u8,
@@ -180,8 +181,22 @@ fn spot_of_sector(geometry: &Geometry, daddr: u64) -> Option<Spot>
 pub fn push_both(text: &mut Vec<u8>, number: u64) -> Result<(), NoMemory>
     ensures { OnOk result (text.new.items ≡ text.old.items ++ both_bases number) }
 {
+    push_prefixed(text, number)?;
+    push_bracketed(text, number)
+}
+
+/// Adds a hexadecimal number behind `0x`.
+fn push_prefixed(text: &mut Vec<u8>, number: u64) -> Result<(), NoMemory>
+    ensures { OnOk result (text.new.items ≡ text.old.items ++ (codes "0x" ++ hexadecimal number)) }
+{
     text.extend_from_slice(b"0x")?;
-    push_hexadecimal(text, number)?;
+    push_hexadecimal(text, number)
+}
+
+/// Adds a decimal number in round brackets behind a blank, and the end of the line.
+fn push_bracketed(text: &mut Vec<u8>, number: u64) -> Result<(), NoMemory>
+    ensures { OnOk result (text.new.items ≡ text.old.items ++ (codes " (" ++ decimal number ++ codes ")\n")) }
+{
     text.extend_from_slice(b" (")?;
     push_decimal(text, number)?;
     text.extend_from_slice(b")\n")?;

@@ -5,24 +5,21 @@ ghost use Rattle.std.specs.List.{find, list_all};
 ghost use Rattle.std.specs.Option.{option_map};
 ghost use Rattle.xfs_tree.specs.Layout.{IsLayout, pointer_len, keys_len};
 ghost use Rattle.xfs_word.specs.Field.{is_width};
-ghost use Rattle.xfs_objects.specs.Items.{agfl_items, agi_items, aliases_of, array_items, block_items, child_items, field_item, is_inside, is_shown, item_named, item_of, items_of, number_width, record_items, run_items, row_len, shape_len, AllInside};
+ghost use Rattle.xfs_objects.specs.Items.{agfl_items, agi_items, aliases_of, array_items, block_items, child_items, field_item, is_inside, is_shown, item_named, item_of, number_width, record_items, run_items, row_len, shape_len, AllInside};
 ghost use Rattle.xfs_objects.specs.Objects.{object_size};
 ghost use Rattle.xfs_word.specs.declared.layout.FieldLayout.{FieldLayout};
 ghost use Rattle.xfs_objects.specs.declared.items.ItemShape.TheVariants as ItemShape;
 
 use crate::aliases::INODE_ALIASES;
+use crate::listed::items;
 use crate::objects::ObjectType;
 use itoa::Buffer;
 use std::alloc::Global;
 use xfs_disk::NoMemory;
-use xfs_geom::superblock::SUPERBLOCK;
 use xfs_heads::ArrayLayout;
-use xfs_heads::layouts::agf::AGF;
 use xfs_heads::layouts::agfl::{AGFL, BNO};
 use xfs_heads::layouts::agi::{AGI, UNLINKED};
-use xfs_inode::layouts::inode::INODE;
-use xfs_kinds::{Bmbt, Bno, Cnt, Fino, Ino, Rmap};
-use xfs_tree::{LONG, Layout, SHORT, tree_layout};
+use xfs_tree::{Layout, SHORT};
 use xfs_word::{FieldLayout, Form, get16};
 
 /// How many fields of the header of inodes stand before its array.
@@ -34,7 +31,7 @@ const LEVEL: usize = SHORT[1].offset;
 const NUMRECS: usize = SHORT[2].offset;
 
 /// Numbers that stand side by side and are printed as one.
-#[derive(Clone, Copy, Debug, PartialEq, Eq)]
+#[derive(Clone, Copy)]
 pub enum PrintedRow {
     /// A record or key of the trees of free runs.
     Span,
@@ -53,7 +50,7 @@ pub enum PrintedRow {
 }
 
 /// How an item is shown. Widths are in bytes.
-#[derive(Clone, Copy, Debug, PartialEq, Eq)]
+#[derive(Clone, Copy)]
 pub enum ItemShape {
     /// A field or an entry of an array.
     Field { width: usize, form: Form },
@@ -64,7 +61,7 @@ pub enum ItemShape {
 }
 
 /// What has a name in an object: where it stands there, in bytes, and how it is shown.
-#[derive(Clone, Copy, Debug)]
+#[derive(Clone, Copy)]
 pub struct Item {
     pub name: &'static str,
     /// The index behind the name.
@@ -73,73 +70,8 @@ pub struct Item {
     pub shape: ItemShape,
 }
 
-/// Everything in an object that has a name, in the order of printing.
-#[tactic(auto, unfolding(crate::specs::Items::items_of))]
-pub(crate) fn items(alloc: Global, kind: ObjectType, object: &[u8]) -> Result<Vec<Item>, NoMemory>
-    requires { length object.now ≡ object_size kind }
-    ensures items { IfOk result (λ items. map item_of items.items ≡ items_of kind object.now) }
-    ensures inside { IfOk result (λ items. AllInside (object_size kind) items.items) }
-{
-    match kind {
-        ObjectType::Sb => sector_items(alloc, &SUPERBLOCK),
-        ObjectType::Agf => sector_items(alloc, &AGF),
-        ObjectType::Agi => inode_head_items(alloc),
-        ObjectType::Agfl => free_list_items(alloc),
-        ObjectType::Bnobt => block_items(
-            alloc,
-            &SHORT,
-            &tree_layout(&Bno { ag: 0 }),
-            PrintedRow::Span,
-            PrintedRow::Span,
-            object,
-        ),
-        ObjectType::Cntbt => block_items(
-            alloc,
-            &SHORT,
-            &tree_layout(&Cnt { ag: 0 }),
-            PrintedRow::Span,
-            PrintedRow::Span,
-            object,
-        ),
-        ObjectType::Inobt => block_items(
-            alloc,
-            &SHORT,
-            &tree_layout(&Ino { ag: 0 }),
-            PrintedRow::Chunk,
-            PrintedRow::ChunkStart,
-            object,
-        ),
-        ObjectType::Finobt => block_items(
-            alloc,
-            &SHORT,
-            &tree_layout(&Fino { ag: 0 }),
-            PrintedRow::Chunk,
-            PrintedRow::ChunkStart,
-            object,
-        ),
-        ObjectType::Rmapbt => block_items(
-            alloc,
-            &SHORT,
-            &tree_layout(&Rmap { ag: 0 }),
-            PrintedRow::Owner,
-            PrintedRow::OwnerKeys,
-            object,
-        ),
-        ObjectType::Bmapbt => block_items(
-            alloc,
-            &LONG,
-            &tree_layout(&Bmbt { ino: 0 }),
-            PrintedRow::FileExtent,
-            PrintedRow::FileOffset,
-            object,
-        ),
-        ObjectType::Inode => sector_items(alloc, &INODE),
-        ObjectType::Data => Ok(Vec::new(alloc)),
-    }
-}
-
 /// The items of an object that has fields alone.
-fn sector_items(alloc: Global, fields: &[FieldLayout]) -> Result<Vec<Item>, NoMemory>
+pub(crate) fn sector_items(alloc: Global, fields: &[FieldLayout]) -> Result<Vec<Item>, NoMemory>
     requires { IsTrue (list_all (λ (f : FieldLayout). is_inside 512 (field_item f)) fields.now) }
     ensures items { IfOk result (λ items. map item_of items.items ≡ map field_item fields.now) }
     ensures inside { IfOk result (λ items. AllInside 512 items.items) }
@@ -150,7 +82,7 @@ fn sector_items(alloc: Global, fields: &[FieldLayout]) -> Result<Vec<Item>, NoMe
 }
 
 /// The items of a header of inodes.
-fn inode_head_items(alloc: Global) -> Result<Vec<Item>, NoMemory>
+pub(crate) fn inode_head_items(alloc: Global) -> Result<Vec<Item>, NoMemory>
     ensures items { IfOk result (λ items. map item_of items.items ≡ agi_items) }
     ensures inside { IfOk result (λ items. AllInside 512 items.items) }
 {
@@ -162,7 +94,7 @@ fn inode_head_items(alloc: Global) -> Result<Vec<Item>, NoMemory>
 }
 
 /// The items of a free list.
-fn free_list_items(alloc: Global) -> Result<Vec<Item>, NoMemory>
+pub(crate) fn free_list_items(alloc: Global) -> Result<Vec<Item>, NoMemory>
     ensures items { IfOk result (λ items. map item_of items.items ≡ agfl_items) }
     ensures inside { IfOk result (λ items. AllInside 512 items.items) }
 {
@@ -174,7 +106,7 @@ fn free_list_items(alloc: Global) -> Result<Vec<Item>, NoMemory>
 
 /// The items of a block of a tree: its header, and then its records, or its keys and pointers.
 #[tactic(auto, unfolding(crate::specs::Items::tree_items))]
-fn block_items(
+pub(crate) fn block_items(
     alloc: Global,
     fields: &[FieldLayout],
     layout: &Layout,
@@ -276,7 +208,7 @@ fn keys_len(layout: &Layout) -> usize
 }
 
 /// Items of one name that stand side by side, `step` bytes from one to the next, with indexes from the first on.
-#[derive(Clone, Copy, Debug)]
+#[derive(Clone, Copy)]
 struct ItemRun {
     name: &'static str,
     first: u32,

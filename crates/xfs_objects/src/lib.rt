@@ -18,6 +18,7 @@ mod aliases;
 mod convert;
 mod hexadecimal;
 mod items;
+mod listed;
 mod numbers;
 mod objects;
 mod values;

@@ -11,7 +11,7 @@ ghost use Rattle.xfs_objects.specs.declared.numbers.Typed.TheVariants as Typed;
 const TOO_LARGE: u128 = 1 << 64;
 
 /// What a word writes.
-#[derive(Clone, Copy, Debug, PartialEq, Eq)]
+#[derive(Clone, Copy)]
 pub enum Typed {
     NoNumber,
     /// A number of more than 64 bits.

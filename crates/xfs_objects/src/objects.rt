@@ -6,7 +6,7 @@ ghost use Rattle.xfs_objects.specs.declared.objects.ObjectType.{ObjectType};
 ghost use Rattle.xfs_objects.specs.Objects.{object_in, object_size, type_name, type_named};
 
 /// The types of objects, under the names of xfs_db.
-#[derive(Clone, Copy, Debug, PartialEq, Eq)]
+#[derive(Clone, Copy, PartialEq, Eq)]
 pub enum ObjectType {
     Sb,
     Agf,
@@ -43,7 +43,7 @@ const ALL: [ObjectType; 12] = [
 pub const SECTOR_SIZE: usize = 512;
 
 /// Where an object stands: a block of the image, a sector of the block, and the object's type.
-#[derive(Clone, Copy, Debug, PartialEq, Eq)]
+#[derive(Clone, Copy)]
 pub struct ObjectPlace {
     pub block: u64,
     pub sector: u8,

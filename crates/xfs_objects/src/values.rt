@@ -12,7 +12,8 @@ ghost use Rattle.xfs_objects.specs.declared.items.ItemShape.TheVariants as ItemS
 ghost use Rattle.xfs_word.specs.declared.layout.Form.TheVariants as Form;
 ghost use Rattle.xfs_objects.specs.Values.{dump, dump_line, escaped, field_text, group_text, item_line, item_lines, joined_numbers, row_numbers, offset_text, pair, pairs, quoted, shape_text, value_text, whole_text};
 
-use crate::items::{Item, ItemShape, PrintedRow, items, push_name};
+use crate::items::{Item, ItemShape, PrintedRow, push_name};
+use crate::listed::items;
 use crate::objects::ObjectType;
 use itoa::Buffer;
 use std::alloc::Global;
@@ -66,6 +67,14 @@ pub fn push_line(text: &mut Vec<u8>, object: &[u8], item: &Item) -> Result<(), N
     ensures { OnOk result (text.new.items ≡ text.old.items ++ item_line object.now (item_of item.now)) }
 {
     push_name(text, item)?;
+    push_behind_name(text, object, item)
+}
+
+/// Adds what stands behind the name of an item of an object in its line.
+fn push_behind_name(text: &mut Vec<u8>, object: &[u8], item: &Item) -> Result<(), NoMemory>
+    requires { IsTrue (is_inside (length object.now) (item_of item.now)) }
+    ensures { OnOk result (text.new.items ≡ text.old.items ++ (codes " = " ++ value_text object.now (item_of item.now) ++ codes "\n")) }
+{
     text.extend_from_slice(b" = ")?;
     push_value(text, object, item)?;
     text.extend_from_slice(b"\n")?;

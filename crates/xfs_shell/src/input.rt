@@ -12,7 +12,7 @@ use xfs_disk::{Failed, Source};
 const MOST_BYTES: usize = 1_048_576;
 
 /// Why there is no input.
-#[derive(Clone, Copy, Debug, PartialEq, Eq)]
+#[derive(Clone, Copy)]
 pub(crate) enum InputFault {
     Failed,
     /// It has more bytes than an input may have.

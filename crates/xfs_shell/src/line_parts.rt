@@ -7,7 +7,7 @@ use std::alloc::Global;
 use xfs_disk::{NoMemory, Word};
 
 /// What cuts bytes into parts.
-#[derive(Clone, Copy, Debug, PartialEq, Eq)]
+#[derive(Clone, Copy)]
 pub(crate) enum Cut {
     /// Spaces and tabs, which cut a line into words.
     Blanks,

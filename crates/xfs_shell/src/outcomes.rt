@@ -4,7 +4,7 @@ use xfs_disk::Word;
 use xfs_volume::Records;
 
 /// What the user may do, and the commands that are run in place of an input.
-#[derive(Debug, Drop)]
+#[derive(Drop)]
 pub struct ShellOptions {
     /// Fields may be written.
     pub expert: bool,

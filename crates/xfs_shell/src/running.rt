@@ -23,7 +23,7 @@ use xfs_disk::{Disk, Failed, NoMemory, Sink, Word};
 use xfs_geom::Geometry;
 
 /// Why a line was not run and put.
-#[derive(Clone, Copy, Debug, PartialEq, Eq)]
+#[derive(Clone, Copy)]
 pub(crate) enum LineEnd {
     Stopped(Stop),
     OutputFault,

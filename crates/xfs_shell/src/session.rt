@@ -20,7 +20,7 @@ use xfs_geom::Geometry;
 use xfs_objects::ObjectPlace;
 
 /// What the user may do.
-#[derive(Clone, Copy, Debug, PartialEq, Eq)]
+#[derive(Clone, Copy)]
 pub(crate) struct Leave {
     /// Fields may be written.
     pub expert: bool,
@@ -29,7 +29,7 @@ pub(crate) struct Leave {
 }
 
 /// Why a command was not finished.
-#[derive(Clone, Copy, Debug, PartialEq, Eq)]
+#[derive(Clone, Copy)]
 pub(crate) enum Stop {
     ReadFault,
     /// A write or a sync failed behind so many blocks of the command.
