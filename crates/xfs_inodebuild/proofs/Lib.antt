@@ -1,3 +1,4 @@
+mod Chained
 pub mod Zeros
 pub mod Ready
 pub mod ReadBack

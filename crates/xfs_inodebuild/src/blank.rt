@@ -31,8 +31,28 @@ pub fn free_slot(g: &Geometry, ino: u64, stamp: &Stamp, slot: &mut [u8])
     ensures zero_before_crtime { IsZero slot.new 132 12 }
     ensures zero_forks { IsZero slot.new 176 336 }
 {
-    put_core(&free_core(g, ino, stamp.generation), slot);
-    seal_slot(g, ino, slot);
+    empty_slot(g, &free_core(g, ino, stamp.generation), slot);
+}
+
+/// Writes the slot, of 512 bytes, of an inode that is free, with this core, and seals it. All bytes beside the fields of the core are zero.
+fn empty_slot(g: &Geometry, core: &Core, slot: &mut [u8])
+    requires slot { length slot.old ≡ 512 }
+    requires magic { core.now.magic ≡ 0x494e }
+    requires version { core.now.version ≡ 3 }
+    requires free { core.now.mode ≡ 0 }
+    requires uuid { core.now.uuid ≡ g.now.uuid }
+    requires lsn { IsTrue (is_lsn core.now.lsn) }
+    ensures read { slot_read (volume_of g.now) core.now.ino slot.new ≡ Read.Free }
+    ensures sealed { IsTrue (is_sealed (slot_seal (volume_of g.now) core.now.ino) slot.new) }
+    ensures stated { stated_core slot.new ≡ record core.now { crc = little_field_of slot.new 100 4 } }
+    ensures zero_behind_format { IsZero slot.new 6 2 }
+    ensures zero_before_times { IsZero slot.new 24 8 }
+    ensures zero_before_flags { IsZero slot.new 84 6 }
+    ensures zero_before_crtime { IsZero slot.new 132 12 }
+    ensures zero_forks { IsZero slot.new 176 336 }
+{
+    put_core(core, slot);
+    seal_slot(g, core.ino, slot);
 }
 
 /// The core of a slot that is free, apart from its checksum.
