@@ -1,3 +1,4 @@
+mod Chained
 pub mod Shapes
 pub mod Stated
 pub mod Numbers

@@ -1,7 +1,7 @@
 //! What is asked of the sizes of a new volume.
 
 /// What is asked of the sizes of a new volume, where it is; at most one of `agcount` and `agblocks`.
-#[derive(Clone, Copy, Debug, PartialEq, Eq)]
+#[derive(Clone, Copy)]
 pub struct SizesAsked {
     /// The blocks of the volume: by default all of the disk's.
     pub blocks: Option<u64>,

@@ -46,7 +46,7 @@ const LEAST_BITS: u8 = 10;
 const MOST_BITS: u8 = 26;
 
 /// The allocation groups of a volume: the blocks of each, but the last may have fewer, and how many they are.
-#[derive(Clone, Copy, Debug)]
+#[derive(Clone, Copy)]
 pub struct GroupSizes {
     pub size: u64,
     pub count: u64,

@@ -10,7 +10,7 @@ ghost use Rattle.xfs_sizing.specs.Supers.{HasLabel, HasNumbers, IsNewSuper, coun
 
 use xfs_geom::Geometry;
 use xfs_geom::superblock::*;
-use xfs_word::{Seal, SealKind, put_part, seal};
+use xfs_word::{Seal, SealKind, put_part, put8, put16, put32, put64, seal};
 
 /// Writes the superblock of a new volume of this geometry with this label, of at most 12 bytes. Its counters are 0.
 pub fn put_super(g: &Geometry, label: &[u8], sector: &mut [u8; 512])
@@ -38,13 +38,13 @@ fn put_places(g: &Geometry, sector: &mut [u8])
     ensures keeps { KeepsBeside sector.old sector.new 0 56 }
     ensures keeps_parts { KeepsParts sector.old sector.new 0 56 }
 {
-    MAGICNUM.write(sector, 0x5846_5342);
-    BLOCKSIZE.write(sector, 4096);
-    DBLOCKS.write(sector, g.dblocks);
-    RBLOCKS.write(sector, 0);
-    REXTENTS.write(sector, 0);
+    put32(sector, MAGICNUM.offset, 0x5846_5342);
+    put32(sector, BLOCKSIZE.offset, 4096);
+    put64(sector, DBLOCKS.offset, g.dblocks);
+    put64(sector, RBLOCKS.offset, 0);
+    put64(sector, REXTENTS.offset, 0);
     put_part(sector, UUID.offset, &g.uuid);
-    LOGSTART.write(sector, g.address_of_block(g.log));
+    put64(sector, LOGSTART.offset, g.address_of_block(g.log));
 }
 
 /// Writes its first inodes, its groups and the blocks of its log, from byte 56 up to byte 100.
@@ -55,14 +55,14 @@ fn put_parts(g: &Geometry, sector: &mut [u8])
     ensures keeps { KeepsBeside sector.old sector.new 56 44 }
     ensures keeps_parts { KeepsParts sector.old sector.new 56 44 }
 {
-    ROOTINO.write(sector, g.rootino);
-    RBMINO.write(sector, g.rootino + 1);
-    RSUMINO.write(sector, g.rootino + 2);
-    REXTSIZE.write(sector, 1);
-    AGBLOCKS.write(sector, g.agblocks as u64);
-    AGCOUNT.write(sector, g.agcount as u64);
-    RBMBLOCKS.write(sector, 0);
-    LOGBLOCKS.write(sector, g.logblocks as u64);
+    put64(sector, ROOTINO.offset, g.rootino);
+    put64(sector, RBMINO.offset, g.rootino + 1);
+    put64(sector, RSUMINO.offset, g.rootino + 2);
+    put32(sector, REXTSIZE.offset, 1);
+    put32(sector, AGBLOCKS.offset, g.agblocks);
+    put32(sector, AGCOUNT.offset, g.agcount);
+    put32(sector, RBMBLOCKS.offset, 0);
+    put32(sector, LOGBLOCKS.offset, g.logblocks);
 }
 
 /// Writes the sizes of its objects and the label, from byte 100 up to byte 128, where there were zeros.
@@ -75,19 +75,19 @@ fn put_sizes(g: &Geometry, label: &[u8], sector: &mut [u8])
     ensures keeps { KeepsBeside sector.old sector.new 100 28 }
     ensures keeps_parts { KeepsParts sector.old sector.new 100 28 }
 {
-    VERSIONNUM.write(sector, 0xb4a5);
-    SECTSIZE.write(sector, 512);
-    INODESIZE.write(sector, 512);
-    INOPBLOCK.write(sector, 8);
+    put16(sector, VERSIONNUM.offset, 0xb4a5);
+    put16(sector, SECTSIZE.offset, 512);
+    put16(sector, INODESIZE.offset, 512);
+    put16(sector, INOPBLOCK.offset, 8);
     put_part(sector, FNAME.offset, label);
-    BLOCKLOG.write(sector, 12);
-    SECTLOG.write(sector, 9);
-    INODELOG.write(sector, 9);
-    INOPBLOG.write(sector, 3);
-    AGBLKLOG.write(sector, g.agblklog as u64);
-    REXTSLOG.write(sector, 0);
-    INPROGRESS.write(sector, 0);
-    IMAX_PCT.write(sector, 25);
+    put8(sector, BLOCKLOG.offset, 12);
+    put8(sector, SECTLOG.offset, 9);
+    put8(sector, INODELOG.offset, 9);
+    put8(sector, INOPBLOG.offset, 3);
+    put8(sector, AGBLKLOG.offset, g.agblklog);
+    put8(sector, REXTSLOG.offset, 0);
+    put8(sector, INPROGRESS.offset, 0);
+    put8(sector, IMAX_PCT.offset, 25);
 }
 
 /// Writes counters of 0 and no quotas, from byte 128 up to byte 180.
@@ -97,15 +97,15 @@ fn put_counters(sector: &mut [u8])
     ensures keeps { KeepsBeside sector.old sector.new 128 52 }
     ensures keeps_parts { KeepsParts sector.old sector.new 128 52 }
 {
-    ICOUNT.write(sector, 0);
-    IFREE.write(sector, 0);
-    FDBLOCKS.write(sector, 0);
-    FREXTENTS.write(sector, 0);
-    UQUOTINO.write(sector, 0);
-    GQUOTINO.write(sector, 0);
-    QFLAGS.write(sector, 0);
-    FLAGS.write(sector, 0);
-    SHARED_VN.write(sector, 0);
+    put64(sector, ICOUNT.offset, 0);
+    put64(sector, IFREE.offset, 0);
+    put64(sector, FDBLOCKS.offset, 0);
+    put64(sector, FREXTENTS.offset, 0);
+    put64(sector, UQUOTINO.offset, 0);
+    put64(sector, GQUOTINO.offset, 0);
+    put16(sector, QFLAGS.offset, 0);
+    put8(sector, FLAGS.offset, 0);
+    put8(sector, SHARED_VN.offset, 0);
 }
 
 /// Writes the features, from byte 180 up to byte 264.
@@ -116,22 +116,22 @@ fn put_features(sector: &mut [u8])
     ensures keeps { KeepsBeside sector.old sector.new 180 84 }
     ensures keeps_parts { KeepsParts sector.old sector.new 180 84 }
 {
-    INOALIGNMT.write(sector, 8);
-    UNIT.write(sector, 0);
-    WIDTH.write(sector, 0);
-    DIRBLKLOG.write(sector, 0);
-    LOGSECTLOG.write(sector, 0);
-    LOGSECTSIZE.write(sector, 0);
-    LOGSUNIT.write(sector, 1);
-    FEATURES2.write(sector, 0x18a);
-    BAD_FEATURES2.write(sector, 0x18a);
-    FEATURES_COMPAT.write(sector, 0);
-    FEATURES_RO_COMPAT.write(sector, 3);
-    FEATURES_INCOMPAT.write(sector, 3);
-    FEATURES_LOG_INCOMPAT.write(sector, 0);
-    SPINO_ALIGN.write(sector, 4);
-    PQUOTINO.write(sector, 0);
-    LSN.write(sector, 0);
+    put32(sector, INOALIGNMT.offset, 8);
+    put32(sector, UNIT.offset, 0);
+    put32(sector, WIDTH.offset, 0);
+    put8(sector, DIRBLKLOG.offset, 0);
+    put8(sector, LOGSECTLOG.offset, 0);
+    put16(sector, LOGSECTSIZE.offset, 0);
+    put32(sector, LOGSUNIT.offset, 1);
+    put32(sector, FEATURES2.offset, 0x18a);
+    put32(sector, BAD_FEATURES2.offset, 0x18a);
+    put32(sector, FEATURES_COMPAT.offset, 0);
+    put32(sector, FEATURES_RO_COMPAT.offset, 3);
+    put32(sector, FEATURES_INCOMPAT.offset, 3);
+    put32(sector, FEATURES_LOG_INCOMPAT.offset, 0);
+    put32(sector, SPINO_ALIGN.offset, 4);
+    put64(sector, PQUOTINO.offset, 0);
+    put64(sector, LSN.offset, 0);
     put_part(sector, META_UUID.offset, &[0; 16]);
 }
 
