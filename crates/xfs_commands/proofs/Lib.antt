@@ -1,3 +1,4 @@
+mod Effects
 pub mod Groups
 pub mod InBlocks
 pub mod Resealing

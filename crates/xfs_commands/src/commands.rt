@@ -239,21 +239,51 @@ fn convert_named(
 ) -> Result<Verdict, NoMemory>
     ensures { IfOk result (λ verdict. IsEffect (converts_named (volume_of geometry.now) name.now (measure_named (word_at arguments.now 0)) (word_at arguments.now 1) (measure_named (word_at arguments.now 2)) (session_of cursor.now)) verdict text.old.items text.new.items (session_of cursor.now) None) }
 {
-    let Some(source) = Measure::named(word_at(arguments, 0)) else {
-        return refuse_word(text, "bad command: ", name);
-    };
-    let Some(target) = Measure::named(word_at(arguments, 2)) else {
-        return refuse_word(text, "bad command: ", name);
-    };
-    convert_from(
+    convert_source(
         text,
         geometry,
         cursor,
         name,
-        source,
+        Measure::named(word_at(arguments, 0)),
         word_at(arguments, 1),
-        target,
+        Measure::named(word_at(arguments, 2)),
     )
+}
+
+/// Converts a number, where there are both measures.
+fn convert_source(
+    text: &mut Vec<u8>,
+    geometry: &Geometry,
+    cursor: &Cursor,
+    name: &[u8],
+    source: Option<Measure>,
+    word: &[u8],
+    target: Option<Measure>,
+) -> Result<Verdict, NoMemory>
+    ensures { IfOk result (λ verdict. IsEffect (converts_named (volume_of geometry.now) name.now source word.now target (session_of cursor.now)) verdict text.old.items text.new.items (session_of cursor.now) None) }
+{
+    match source {
+        Some(source) => convert_target(text, geometry, cursor, name, source, word, target),
+        None => refuse_word(text, "bad command: ", name),
+    }
+}
+
+/// Converts a number from a measure, where there is one to convert it to.
+fn convert_target(
+    text: &mut Vec<u8>,
+    geometry: &Geometry,
+    cursor: &Cursor,
+    name: &[u8],
+    source: Measure,
+    word: &[u8],
+    target: Option<Measure>,
+) -> Result<Verdict, NoMemory>
+    ensures { IfOk result (λ verdict. IsEffect (converts_named (volume_of geometry.now) name.now (Some source) word.now target (session_of cursor.now)) verdict text.old.items text.new.items (session_of cursor.now) None) }
+{
+    match target {
+        Some(target) => convert_from(text, geometry, cursor, name, source, word, target),
+        None => refuse_word(text, "bad command: ", name),
+    }
 }
 
 /// Converts a number from a measure, where that says where something stands.

@@ -4,8 +4,8 @@ ghost use Rattle.std.specs.Prelude.{◌≡◌, ℕ, ◌/◌, ◌<◌, ◌++◌, 
 ghost use Rattle.std.specs.List.{find};
 ghost use Rattle.std.specs.Option.{option_copied, option_map};
 ghost use Rattle.xfs_geom.specs.Volumes.{volume_of};
-ghost use Rattle.xfs_commands.specs.Commands.{addresses, follows_item, goes_to, in_group, is_unknown, line_named, lines_named, prints, prints_named, root_type, session_of, target_block, target_type, IsEffect, IsWithin};
-ghost use Rattle.xfs_objects.specs.Items.{is_inside, item_named, item_of};
+ghost use Rattle.xfs_commands.specs.Commands.{addresses, follows, follows_item, goes_to, in_group, is_unknown, line_named, lines_named, prints, prints_named, root_type, session_of, target_block, target_type, IsEffect, IsWithin};
+ghost use Rattle.xfs_objects.specs.Items.{is_inside, item_named, item_of, number_width};
 ghost use Rattle.xfs_objects.specs.declared.objects.ObjectType.TheVariants as ObjectType;
 ghost use Rattle.xfs_objects.specs.Objects.{object_size};
 ghost use Rattle.xfs_objects.specs.Places.{first_sector, pair_of};
@@ -164,14 +164,41 @@ fn go_along_item(
     ensures within { IsWithin geometry.now.dblocks (session_of cursor.new) }
     ensures effect { IfOk result (λ verdict. IsEffect (follows_item (volume_of geometry.now) place object.now word.now (Some (item_of item.now)) (session_of cursor.old)) verdict text.old.items text.new.items (session_of cursor.new) None) }
 {
-    let Some(kind) = target_type(place.kind, word, item.shape) else {
-        return refuse_word(text, "no field: ", word);
-    };
-    let Some(width) = number_width(item.shape) else {
-        return refuse_word(text, "no field: ", word);
-    };
-    let pointer = field(object, item.offset, width);
-    go_along_pointer(text, geometry, cursor, place, kind, pointer)
+    match target_type(place.kind, word, item.shape) {
+        Some(kind) => go_along_kind(text, geometry, cursor, place, object, word, item, kind),
+        None => refuse_word(text, "no field: ", word),
+    }
+}
+
+/// Goes to the block of this type that an item points at, where it holds a number.
+fn go_along_kind(
+    text: &mut Vec<u8>,
+    geometry: &Geometry,
+    cursor: &mut Cursor,
+    place: ObjectPlace,
+    object: &[u8],
+    word: &[u8],
+    item: &Item,
+    kind: ObjectType,
+) -> Result<Verdict, NoMemory>
+    requires object { length object.now ≡ object_size place.kind }
+    requires block { place.block < geometry.now.dblocks }
+    requires inside { IsTrue (is_inside (object_size place.kind) (item_of item.now)) }
+    requires within { IsWithin geometry.now.dblocks (session_of cursor.old) }
+    ensures within { IsWithin geometry.now.dblocks (session_of cursor.new) }
+    ensures effect { IfOk result (λ verdict. IsEffect (follows (volume_of geometry.now) place object.now word.now item.now.offset (Some kind) (number_width item.now.shape) (session_of cursor.old)) verdict text.old.items text.new.items (session_of cursor.new) None) }
+{
+    match number_width(item.shape) {
+        Some(width) => go_along_pointer(
+            text,
+            geometry,
+            cursor,
+            place,
+            kind,
+            field(object, item.offset, width),
+        ),
+        None => refuse_word(text, "no field: ", word),
+    }
 }
 
 /// Goes to the block of this type that a pointer in the object at a place names.
