@@ -4,8 +4,11 @@ ghost use Rattle.std.specs.Prelude.{◌≡◌, ◌≤◌, ◌<◌, ◌+◌, ◌^
 ghost use Rattle.xfs_geom.specs.Volumes.{volume_of};
 ghost use Rattle.xfs_render.specs.Drafts.{IsDraft};
 ghost use Rattle.xfs_render.specs.NewBlocks.{AreReaches};
-ghost use Rattle.xfs_render.specs.Rendering.{AddsBlank, AddsGroups, AddsPlaces, IsPlaceDue, IsReady, IsRendered, group_placed, is_put, wanted_inodes, old_at, byte_place};
+ghost use Rattle.xfs_render.specs.Objects.{object_blocks};
+ghost use Rattle.xfs_render.specs.Plans.{IsArranged};
+ghost use Rattle.xfs_render.specs.Rendering.{AddsBlank, AddsGroups, AddsPlaces, IsDueSuper, IsPlaceDue, IsReady, IsRendered, group_placed, is_put, wanted_inodes, old_at, byte_place};
 ghost use Rattle.xfs_render.specs.Trees.{AddsTrees};
+ghost use Rattle.xfs_render.specs.declared.plan.Plan.{Plan};
 
 use crate::arranging::arrange;
 use crate::bytes::Bytes;
@@ -14,7 +17,7 @@ use crate::draft::Draft;
 use crate::header_block::put_headers;
 use crate::log::add_log;
 use crate::new_blocks::{Reach, lies_in_runs, list_reaches};
-use crate::object_blocks::object_blocks;
+use crate::object_blocks::{ObjectBlock, object_blocks};
 use crate::objects::add_objects;
 use crate::plan::Plan;
 use crate::trees::add_trees;
@@ -54,14 +57,49 @@ pub fn render<R: Threads + Sync, G: Gate>(
         sector: &sector,
         reaches: &reaches,
     };
+    render_work(alloc, &work, &objects)
+}
+
+/// The blocks of a volume, of which those of objects have their places.
+fn render_work(alloc: Global, work: &Work<'_>, objects: &[ObjectBlock]) -> Result<Plan, NoMemory>
+    requires ready { IsReady work.now.wanted.now work.now.placed.now work.now.bytes.now }
+    requires due { IsDueSuper work.now.wanted.now work.now.placed.now work.now.bytes.now work.now.sector.now }
+    requires sector { length work.now.sector.now ≡ 512 }
+    requires reaches { AreReaches work.now.wanted.now.new work.now.reaches.now }
+    requires objects { objects.now ≡ object_blocks work.now.wanted.now work.now.placed.now }
+    ensures { IfOk result (λ plan. IsRendered work.now.wanted.now work.now.placed.now work.now.bytes.now plan) }
+{
     let mut draft = Draft::make(alloc)?;
-    add_groups(alloc, wanted, placed, bytes, &mut draft)?;
-    add_objects(&wanted.geometry, &objects, &bytes.objects, &mut draft)?;
-    add_places(&work, true, &mut draft)?;
-    let first = draft.rows.len();
-    add_places(&work, false, &mut draft)?;
-    add_blank(wanted, bytes.cycle, &mut draft)?;
+    let first = fill_draft(alloc, work, objects, &mut draft)?;
     Ok(arrange(alloc, draft, first)?)
+}
+
+/// Puts down all blocks, and says how many of them nothing kept stands on.
+fn fill_draft(
+    alloc: Global,
+    work: &Work<'_>,
+    objects: &[ObjectBlock],
+    draft: &mut Draft,
+) -> Result<usize, NoMemory>
+    requires ready { IsReady work.now.wanted.now work.now.placed.now work.now.bytes.now }
+    requires due { IsDueSuper work.now.wanted.now work.now.placed.now work.now.bytes.now work.now.sector.now }
+    requires sector { length work.now.sector.now ≡ 512 }
+    requires reaches { AreReaches work.now.wanted.now.new work.now.reaches.now }
+    requires objects { objects.now ≡ object_blocks work.now.wanted.now work.now.placed.now }
+    requires draft { IsDraft draft.old }
+    requires none { draft.old.rows.items ≡ [] }
+    requires empty { draft.old.bank ≡ [] }
+    ensures draft { IfOk result (λ first. IsDraft draft.new) }
+    ensures inside { IfOk result (λ first. first ≤ length draft.new.rows.items) }
+    ensures rendered { IfOk result (λ first. (plan : Plan) → IsArranged draft.new first plan → IsRendered work.now.wanted.now work.now.placed.now work.now.bytes.now plan) }
+{
+    add_groups(alloc, work.wanted, work.placed, work.bytes, draft)?;
+    add_objects(&work.wanted.geometry, objects, &work.bytes.objects, draft)?;
+    add_places(work, true, draft)?;
+    let first = draft.rows.len();
+    add_places(work, false, draft)?;
+    add_blank(work.wanted, work.bytes.cycle, draft)?;
+    Ok(first)
 }
 
 /// What blocks are made of.
