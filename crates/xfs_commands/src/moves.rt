@@ -55,7 +55,8 @@ fn go_to_group(
     ensures effect { IfOk result (λ verdict. IsEffect (to_group (volume_of geometry.now) kind sector (typed word.now) word.now (session_of cursor.old)) verdict text.old.items text.new.items (session_of cursor.new) None) }
 {
     match read_number(word) {
-        Typed::NoNumber | Typed::TooLarge => refuse_word(text, "bad number: ", word),
+        Typed::NoNumber => refuse_word(text, "bad number: ", word),
+        Typed::TooLarge => refuse_word(text, "bad number: ", word),
         Typed::Number(number) => go_to_start(
             text,
             cursor,
