@@ -4,6 +4,8 @@ pub mod Rows
 pub mod Sweeps
 pub mod Placed
 pub mod Choosing
+pub mod OneChosen
+pub mod Five
 pub mod Lawful
 pub mod Wholes
 pub mod Lengths
