@@ -3,3 +3,4 @@ pub mod OnlyLeaf
 pub mod Order
 pub mod Readings
 pub mod Taken
+pub mod Causes
