@@ -1,3 +1,4 @@
 pub mod Numbering
 pub mod Planting
 pub mod Rounds
+pub mod Causes

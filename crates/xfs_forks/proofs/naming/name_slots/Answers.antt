@@ -1,7 +1,8 @@
-use Rattle.std.proofs.Common.{◌<◌, length, arith}
+use Rattle.std.proofs.Common.{ℕ, ◌<◌, length, refl, sym, subst, arith}
+use Rattle.std.specs.List.{All}
 use Rattle.xfs_geom.specs.Volumes.{volume_of}
 use Rattle.xfs_rounds.specs.declared.pieces.BlockParts.{BlockParts}
-use Rattle.xfs_forks.specs.Named.{IsInPlace, IsNumbered}
+use Rattle.xfs_forks.specs.Named.{IsAtHand, IsInPlace, IsNumbered}
 use Rattle.xfs_forks.proofs.Numbering.{done_after, numbered_more, rest_after}
 use Rattle.xfs_forks.proofs.naming.name_slots.Goals as goal
 
@@ -26,4 +27,32 @@ loop-i-preserved c =
       done = done_after (λ (a b : BlockParts). IsNumbered v end new bank b) xs ys k x y inside was.rest
           (λ j d under. numbered_more v end bank old new now.more _ (was.done j d under)) now.numbered;
       within = now.within;
+    }
+
+pub loop-i-init : goal.loop-i-init
+loop-i-init c =
+    let end = c.args.g.now.dblocks in
+    record {
+      rest = λ j d low. refl;
+      placed = λ j d under. absurd (omega arith);
+      done = λ j d under. absurd (omega arith);
+      within = record {
+        leaves = subst (All (λ (block : ℕ). block < end)) (sym c.new-named.ensures.leaves) (λ k d none. absurd (omega arith));
+        links = subst (All (λ (block : ℕ). block < end)) (sym c.new-named.ensures.links) (λ k d none. absurd (omega arith));
+      };
+    }
+
+pub name_block-requires-clause-at_hand : goal.name_block-requires-clause-at_hand
+name_block-requires-clause-at_hand c =
+    let k = c.loop-i.i in
+    let x = c.index-judged-i.result in
+    subst (IsAtHand (volume_of c.args.g.now) c.args.g.now.dblocks c.args.bank.now) (sym (c.loop-i.invariant.rest k x (omega arith))) (c.requires.judged k x (omega arith))
+
+pub returns : goal.returns
+returns c =
+    let all = c.loop-i.invariant in
+    record {
+      numbered = λ i d inside. all.done i d (omega arith);
+      placed = λ i d inside. all.placed i d (omega arith);
+      within = all.within;
     }

@@ -1,0 +1,14 @@
+-- Counts of failed reads that go on.
+use Rattle.std.proofs.Common.{ℕ, ◌≤◌, arith}
+use Rattle.xfs_rounds.specs.Causes.{IsRoundCause}
+use Rattle.xfs_rounds.specs.declared.faults.RoundFault.{RoundFault}
+use Rattle.xfs_rounds.specs.declared.faults.RoundFault.TheVariants as errors
+
+-- a count that has not fallen twice
+pub later_on : (a b c : ℕ) → a ≤ b → b ≤ c → a ≤ c
+later_on a b c first then = omega (arith, first, then)
+
+-- a cause that is seen from an earlier count on
+pub caused_on : (a b c : ℕ) (fault : RoundFault) → a ≤ b → IsRoundCause b c fault → IsRoundCause a c fault
+caused_on a b c errors.ReadFault up (le, rose) = (omega (arith, up, le), omega (arith, up, le, rose))
+caused_on a b c errors.NoMemory up le = omega (arith, up, le)
