@@ -1,5 +1,5 @@
--- Counts of failed reads that go on.
-use Rattle.std.proofs.Common.{ℕ, ◌≤◌, arith}
+-- Numbers in order: counts of failed reads that go on, and places in a list.
+use Rattle.std.proofs.Common.{ℕ, ◌<◌, ◌≤◌, arith}
 use Rattle.xfs_rounds.specs.Causes.{IsRoundCause}
 use Rattle.xfs_rounds.specs.declared.faults.RoundFault.{RoundFault}
 use Rattle.xfs_rounds.specs.declared.faults.RoundFault.TheVariants as errors
@@ -12,3 +12,10 @@ later_on a b c first then = omega (arith, first, then)
 pub caused_on : (a b c : ℕ) (fault : RoundFault) → a ≤ b → IsRoundCause b c fault → IsRoundCause a c fault
 caused_on a b c errors.ReadFault up (le, rose) = (omega (arith, up, le), omega (arith, up, le, rose))
 caused_on a b c errors.NoMemory up le = omega (arith, up, le)
+
+-- no place comes before the first
+pub none_under : (j : ℕ) → j < 0 → ⊥
+none_under j under = omega (arith, under)
+
+pub itself : (k : ℕ) → k ≤ k
+itself k = omega arith

@@ -3,6 +3,7 @@ use Rattle.std.specs.List.{All}
 use Rattle.xfs_geom.specs.Volumes.{volume_of}
 use Rattle.xfs_rounds.specs.declared.pieces.BlockParts.{BlockParts}
 use Rattle.xfs_forks.specs.Named.{IsAtHand, IsInPlace, IsNumbered}
+use Rattle.xfs_forks.proofs.Causes.{itself, none_under}
 use Rattle.xfs_forks.proofs.Numbering.{done_after, numbered_more, rest_after}
 use Rattle.xfs_forks.proofs.naming.name_slots.Goals as goal
 
@@ -34,11 +35,11 @@ loop-i-init c =
     let end = c.args.g.now.dblocks in
     record {
       rest = λ j d low. refl;
-      placed = λ j d under. absurd (omega arith);
-      done = λ j d under. absurd (omega arith);
+      placed = λ j d under. absurd (none_under j under);
+      done = λ j d under. absurd (none_under j under);
       within = record {
-        leaves = subst (All (λ (block : ℕ). block < end)) (sym c.new-named.ensures.leaves) (λ k d none. absurd (omega arith));
-        links = subst (All (λ (block : ℕ). block < end)) (sym c.new-named.ensures.links) (λ k d none. absurd (omega arith));
+        leaves = subst (All (λ (block : ℕ). block < end)) (sym c.new-named.ensures.leaves) (λ k d none. absurd (none_under k none));
+        links = subst (All (λ (block : ℕ). block < end)) (sym c.new-named.ensures.links) (λ k d none. absurd (none_under k none));
       };
     }
 
@@ -46,7 +47,7 @@ pub name_block-requires-clause-at_hand : goal.name_block-requires-clause-at_hand
 name_block-requires-clause-at_hand c =
     let k = c.loop-i.i in
     let x = c.index-judged-i.result in
-    subst (IsAtHand (volume_of c.args.g.now) c.args.g.now.dblocks c.args.bank.now) (sym (c.loop-i.invariant.rest k x (omega arith))) (c.requires.judged k x (omega arith))
+    subst (IsAtHand (volume_of c.args.g.now) c.args.g.now.dblocks c.args.bank.now) (sym (c.loop-i.invariant.rest k x (itself k))) (c.requires.judged k x (omega arith))
 
 pub returns : goal.returns
 returns c =
