@@ -1,4 +1,5 @@
-use Rattle.std.proofs.Common.{List, ap, rules, ◌∙◌, subst, arith}
+use Rattle.std.proofs.Common.{ℕ, List, ap, rules, ◌∙◌, subst, arith}
+use Rattle.std.proofs.lemmas.List.{length-replicate}
 use Rattle.xfs_geom.specs.Volumes.{volume_of}
 use Rattle.xfs_image.specs.Directories.{FileBlock, file_block_at, blocks_of_extent}
 use Rattle.xfs_disk.proofs.Reading.{reads_none, reads_on}
@@ -38,7 +39,7 @@ loop-i-init g c =
       ends = search rules;
       found = λ image told. ap (λ (bs : List FileBlock). with_file_blocks v c.args.dir (found_of c.args.gathered.now) bs) (rest_all e.count (file_block_at v image e));
       below = subst (AreBelow c.args.gathered.now.kept) (omega arith) c.requires.below;
-      block = search rules;
+      block = length-replicate {A = ℕ} 4096 0;
       later = no_later (D.faults c.args.disk.now);
       disk = reads_none D.size D.holds D.write_faults D.writes D.tells_stops D.moment D.may_leave D.left_since c.args.disk.now;
       reads = omega arith;
