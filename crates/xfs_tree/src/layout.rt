@@ -5,7 +5,7 @@ ghost use Rattle.xfs_tree.specs.Layout.{IsLayout, header_len, keys_len, pointer_
 ghost use Rattle.xfs_tree.specs.Blocks.{level_of, count_of, left_of, right_of, no_sibling, capacity, record_place, key_place, pointer_place, pointer_at};
 
 use crate::headers::{long, short};
-use xfs_word::{get32, get64};
+use xfs_word::{get16, get32, get64};
 
 /// What the blocks of a kind of tree have in common. Lengths are in bytes.
 #[derive(Clone, Copy, Debug, PartialEq, Eq)]
@@ -63,9 +63,9 @@ impl Layout {
         ensures short { self.now.long ≡ false → result < 2 ^ 32 }
     {
         if self.long {
-            long::LEFTSIB.read(block)
+            get64(block, long::LEFTSIB.offset)
         } else {
-            short::LEFTSIB.read(block)
+            get32(block, short::LEFTSIB.offset) as u64
         }
     }
 
@@ -76,9 +76,9 @@ impl Layout {
         ensures short { self.now.long ≡ false → result < 2 ^ 32 }
     {
         if self.long {
-            long::RIGHTSIB.read(block)
+            get64(block, long::RIGHTSIB.offset)
         } else {
-            short::RIGHTSIB.read(block)
+            get32(block, short::RIGHTSIB.offset) as u64
         }
     }
 
@@ -146,7 +146,7 @@ pub(crate) fn level_of(block: &[u8]) -> u32
     requires { length block.now ≡ 4096 }
     ensures { result ≡ level_of block.now }
 {
-    short::LEVEL.read(block) as u32
+    get16(block, short::LEVEL.offset) as u32
 }
 
 /// How many records or children a block has.
@@ -155,5 +155,5 @@ pub(crate) fn count_of(block: &[u8]) -> u64
     ensures value { result ≡ count_of block.now }
     ensures low { result < 2 ^ 16 }
 {
-    short::NUMRECS.read(block)
+    get16(block, short::NUMRECS.offset) as u64
 }
