@@ -1,6 +1,6 @@
 //! The rules that a block of a tree keeps.
 
-ghost use Rattle.std.specs.Prelude.{◌≡◌, ℕ, ◌<◌, ◌≤◌, ◌&&◌, ◌||◌, not, nat_le, true, length, None};
+ghost use Rattle.std.specs.Prelude.{◌≡◌, ℕ, ◌<◌, ◌≤◌, ◌&&◌, ◌||◌, not, nat_le, true, length, Some, None};
 ghost use Rattle.xfs_geom.specs.Volumes.{volume_of};
 ghost use Rattle.xfs_tree.specs.Blocks.{capacity, count_of, records_of, lows_of, left_of, right_of};
 ghost use Rattle.xfs_tree.specs.Rules.{block_fault, are_lawful, is_above, ascend_behind, greater, greatest_with, bound_agrees, is_ordered, low_of, high_of, least_of, is_sibling};
@@ -14,7 +14,7 @@ use xfs_geom::Geometry;
 use xfs_word::sealed;
 
 /// A block's neighbours on its level, by their numbers.
-#[derive(Clone, Copy, Debug)]
+#[derive(Clone, Copy)]
 pub(crate) struct Neighbours {
     pub left: Option<u64>,
     pub right: Option<u64>,
@@ -200,8 +200,19 @@ fn greater<K: Kind>(kind: &K, best: Option<K::Key>, key: K::Key) -> K::Key
     ensures { result ≡ greater (K.shape kind.now) best key }
 {
     match best {
-        Some(best) if !kind.order(&best, &key).is_lt() => best,
-        _ => key,
+        Some(best) => greater_of(kind, best, key),
+        None => key,
+    }
+}
+
+/// The greater of a key and another one.
+fn greater_of<K: Kind>(kind: &K, best: K::Key, key: K::Key) -> K::Key
+    ensures { result ≡ greater (K.shape kind.now) (Some best) key }
+{
+    if kind.order(&best, &key).is_lt() {
+        key
+    } else {
+        best
     }
 }
 

@@ -238,7 +238,24 @@ pub fn rule_behind<K: Kind>(
     ensures { result ≡ rule_behind (K.shape kind.now) (volume_of g.now) before found.now.first found.now.alone }
 {
     match &found.first {
-        Some(first) if !kind.lawful(g, before.as_ref(), first) => Some(6),
-        _ => found.alone,
+        Some(first) => fault_behind(kind, g, before, first, found.alone),
+        None => found.alone,
+    }
+}
+
+/// The first rule that a leaf with a first record breaks behind a record.
+fn fault_behind<K: Kind>(
+    kind: &K,
+    g: &Geometry,
+    before: Option<K::Record>,
+    first: &K::Record,
+    alone: Option<u8>,
+) -> Option<u8>
+    ensures { result ≡ rule_behind (K.shape kind.now) (volume_of g.now) before (Some first.now) alone }
+{
+    if kind.lawful(g, before.as_ref(), first) {
+        alone
+    } else {
+        Some(6)
     }
 }
