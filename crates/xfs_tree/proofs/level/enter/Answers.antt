@@ -1,12 +1,29 @@
-use Rattle.std.proofs.Common.{ℕ, List, [], Option, None, ◌∙◌, ap}
+use Rattle.std.proofs.Common.{◌≡◌, ℕ, ◌+◌, ◌≤◌, List, [], Option, None, ◌∙◌, ap, arith}
 use Rattle.std.proofs.lemmas.Option.{get_or_from_slice_get}
 use Rattle.xfs_geom.specs.Volumes.{volume_of}
 use Rattle.xfs_tree.specs.Reading.{at_block}
 use Rattle.xfs_disk.specs.Blocks.{bytes_of_block}
+use Rattle.xfs_disk.specs.Counts.{raised}
 use Rattle.xfs_tree.specs.Rules.{block_fault}
 use Rattle.xfs_disk.proofs.Reading.{reads_none}
 use Rattle.xfs_tree.proofs.Judged.{place_judged, bytes_judged}
 use Rattle.xfs_tree.proofs.level.enter.Goals as goal
+
+-- as many reads as steps
+as_many : (reads steps : ℕ) → reads + steps ≤ reads + steps
+as_many reads steps = omega arith
+
+one_more : (reads reads' steps steps' : ℕ) → reads' ≡ raised reads → steps' ≡ steps + 1 → reads' + steps ≤ reads + steps'
+one_more reads reads' steps steps' read counted = omega (arith, read, counted)
+
+none_more : (reads reads' steps steps' : ℕ) → reads' ≡ reads → steps' ≡ steps + 1 → reads' + steps ≤ reads + steps'
+none_more reads reads' steps steps' read counted = omega (arith, read, counted)
+
+no_step : (steps : ℕ) → steps ≤ steps + 1
+no_step steps = omega arith
+
+one_step : (steps steps' : ℕ) → steps' ≡ steps + 1 → steps' ≤ steps + 1
+one_step steps steps' counted = omega (arith, counted)
 
 pub returns-in-Ok-Some-clause-judged : goal.returns-in-Ok-Some-clause-judged
 returns-in-Ok-Some-clause-judged g c = λ image told.
@@ -64,3 +81,42 @@ pub returns-in-Some-clause-disk : goal.returns-in-Some-clause-disk
 returns-in-Some-clause-disk g c =
     let e = c.in-Ok.ensures in
     record { same_size = e.size; same_contents = e.holds; same_write_faults = e.write_faults; same_writes = e.writes; tells = e.tells; leaves = e.stops; past = e.past }
+
+pub returns-in-Ok-Some-clause-reads : goal.returns-in-Ok-Some-clause-reads
+returns-in-Ok-Some-clause-reads g c = as_many _ _
+
+pub returns-in-Ok-Some-clause-ticks : goal.returns-in-Ok-Some-clause-ticks
+returns-in-Ok-Some-clause-ticks g c = no_step _
+
+pub returns-in-Err-clause-reads : goal.returns-in-Err-clause-reads
+returns-in-Err-clause-reads g c = as_many _ _
+
+pub returns-in-Err-clause-ticks : goal.returns-in-Err-clause-ticks
+returns-in-Err-clause-ticks g c = no_step _
+
+pub returns-in-Err-read-clause-reads : goal.returns-in-Err-read-clause-reads
+returns-in-Err-read-clause-reads g c = none_more _ _ _ _ c.in-Err-read.ensures.reads c.tick.ensures
+
+pub returns-in-Err-read-clause-ticks : goal.returns-in-Err-read-clause-ticks
+returns-in-Err-read-clause-ticks g c = one_step _ _ c.tick.ensures
+
+pub returns-in-None-clause-reads : goal.returns-in-None-clause-reads
+returns-in-None-clause-reads g c = one_more _ _ _ _ c.in-Ok.ensures.reads c.tick.ensures
+
+pub returns-in-None-clause-ticks : goal.returns-in-None-clause-ticks
+returns-in-None-clause-ticks g c = one_step _ _ c.tick.ensures
+
+pub returns-in-Some-clause-reads : goal.returns-in-Some-clause-reads
+returns-in-Some-clause-reads g c = one_more _ _ _ _ c.in-Ok.ensures.reads c.tick.ensures
+
+pub returns-in-Some-clause-ticks : goal.returns-in-Some-clause-ticks
+returns-in-Some-clause-ticks g c = one_step _ _ c.tick.ensures
+
+pub returns-in-None-clause-blocks : goal.returns-in-None-clause-blocks
+returns-in-None-clause-blocks g c = c.in-Ok-None.ensures.blocks c.in-Ok-None.field-0-is
+
+pub returns-in-None-clause-met : goal.returns-in-None-clause-met
+returns-in-None-clause-met g c = c.in-Ok-None.ensures.met c.in-Ok-None.field-0-is
+
+pub returns-in-None-clause-count : goal.returns-in-None-clause-count
+returns-in-None-clause-count g c = c.block_fault.ensures.fits c.in-None.is

@@ -1,4 +1,4 @@
-use Rattle.std.proofs.Common.{rules, ◌≡◌, ◌+◌, ◌∷◌, drop, None, sym, ◌∙◌, ap, arith}
+use Rattle.std.proofs.Common.{rules, ◌≡◌, ◌+◌, ◌∷◌, drop, None, sym, ◌∙◌, ap, arith, ℕ, ◌≤◌, subst}
 use Rattle.xfs_geom.specs.Volumes.{volume_of}
 use Rattle.xfs_tree.specs.declared.seats.Seat.{Seat}
 use Rattle.xfs_disk.specs.Blocks.{bytes_of_block}
@@ -8,6 +8,13 @@ use Rattle.xfs_tree.proofs.Causes.{caused_before, fault_of_row}
 use Rattle.xfs_disk.proofs.Reading.{reads_on}
 use Rattle.xfs_tree.proofs.RowSteps.{left_from, none_left, held_more, held_all, places_more, places_all, row_more, row_stops, row_ends}
 use Rattle.xfs_tree.proofs.level.read_leaves.Goals as goal
+
+-- what was read and counted in two parts, one behind the other
+summed : (reads reads' reads'' steps steps' steps'' : ℕ) → reads' + steps ≤ reads + steps' → reads'' + steps' ≤ reads' + steps'' → reads'' + steps ≤ reads + steps''
+summed reads reads' reads'' steps steps' steps'' first second = omega (arith, first, second)
+
+rising : (low middle high : ℕ) → low ≤ middle → middle ≤ high → low ≤ high
+rising low middle high first second = omega (arith, first, second)
 
 pub returns-in-Err-clause-judged : goal.returns-in-Err-clause-judged
 returns-in-Err-clause-judged g c = λ image told.
@@ -52,9 +59,9 @@ loop-i-preserved g c =
           c.loop-i.records.items c.push_records.new.records.items _ split (search rules) (before.records image told);
       blocks = places_more seat (drop i row) (drop (i + 1) row) c.loop-i.met.blocks.items c.enter.new.met.blocks.items _ split c.in-Ok.ensures.blocks before.blocks;
       block = c.in-Ok.ensures.whole;
-      later = let up = before.later in let cause = c.in-Ok.ensures.cause in omega (arith, up, cause);
+      later = rising _ _ _ before.later c.in-Ok.ensures.cause;
       disk = reads_on D.size D.holds D.write_faults D.writes D.tells_stops D.moment D.may_leave D.left_since c.args.disk.now c.loop-i.disk c.enter.new.disk before.disk c.in-Ok.ensures.disk;
-      reads = let up = before.reads in let more = c.in-Ok.ensures.reads in omega (arith, up, more);
+      reads = summed _ _ _ _ _ _ before.reads c.in-Ok.ensures.reads;
     }
 
 pub returns-clause-judged : goal.returns-clause-judged
@@ -78,4 +85,25 @@ pub returns-clause-disk : goal.returns-clause-disk
 returns-clause-disk g c = c.loop-i.invariant.disk
 
 pub returns-in-Err-push_records-clause-cause : goal.returns-in-Err-push_records-clause-cause
-returns-in-Err-push_records-clause-cause g c = let up = c.loop-i.invariant.later in let cause = c.in-Ok.ensures.cause in omega (arith, up, cause)
+returns-in-Err-push_records-clause-cause g c = rising _ _ _ c.loop-i.invariant.later c.in-Ok.ensures.cause
+
+pub returns-in-Err-clause-reads : goal.returns-in-Err-clause-reads
+returns-in-Err-clause-reads g c = summed _ _ _ _ _ _ c.loop-i.invariant.reads c.in-Err.ensures.reads
+
+pub returns-in-Err-push_records-clause-reads : goal.returns-in-Err-push_records-clause-reads
+returns-in-Err-push_records-clause-reads g c = summed _ _ _ _ _ _ c.loop-i.invariant.reads c.in-Ok.ensures.reads
+
+pub returns-clause-reads : goal.returns-clause-reads
+returns-clause-reads g c = c.loop-i.invariant.reads
+
+pub returns-clause-met : goal.returns-clause-met
+returns-clause-met g c = c.loop-i.invariant.met
+
+pub enter-requires-clause-inside : goal.enter-requires-clause-inside
+enter-requires-clause-inside g c = λ κs lives. subst (λ (n : ℕ). c.args.g.now.dblocks ≤ n) (sym c.loop-i.invariant.disk.same_size) c.requires.inside
+
+pub enter-requires-clause-met : goal.enter-requires-clause-met
+enter-requires-clause-met g c = λ κs lives. c.loop-i.invariant.met
+
+pub enter-requires-clause-whole : goal.enter-requires-clause-whole
+enter-requires-clause-whole g c = λ κs lives. c.loop-i.invariant.block
