@@ -1,4 +1,5 @@
 pub mod Runs
 pub mod NamedBlocks
+pub mod Pushed
 pub mod Sound
 mod Single

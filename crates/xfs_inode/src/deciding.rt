@@ -10,7 +10,8 @@ ghost use Rattle.xfs_tree.specs.Reading.{Contents};
 ghost use Rattle.xfs_inode.specs.Slots.{slot_read};
 ghost use Rattle.xfs_inode.specs.Forks.{core_type};
 ghost use Rattle.xfs_inode.specs.Sound.{IsSound};
-ghost use Rattle.xfs_inode.specs.Files.{ranges_apart, contents_of, data_fork, file_read, is_placed, is_whole_fork, ranges_of, used_file, with_attrs, with_data};
+ghost use Rattle.xfs_inode.specs.Files.{attr_fork, ranges_apart, contents_of, data_fork, file_read, is_placed, is_whole_fork, ranges_of, used_file, with_attrs, with_data};
+ghost use Rattle.xfs_inode.specs.Private.Steps.{by_core, with_held};
 
 use crate::attributes::{attr_fork, feature_of};
 use crate::claims::{is_placed, ranges_apart};
@@ -113,14 +114,34 @@ fn used_file(
     requires link { IfSome (option_copied link) (λ block. length block ≡ 4096) }
     ensures { IfOk result (λ read. read ≡ used_file (volume_of g.now) ino core.now slot.now (option_map contents_of (option_copied tree.entry)) (option_copied attr_leaf.entry) (option_copied link.entry)) }
 {
-    match feature_of(alloc, g, ino, attr_place(g, core, slot), attr_leaf)? {
+    let place = attr_place(g, core, slot);
+    match feature_of(alloc, g, ino, place, attr_leaf)? {
         Some(what) => Ok(FileRead::Unsupported { what }),
-        None if is_core(core) => {
-            let held = data_fork(alloc, core, slot, tree)?;
-            with_data(alloc, g, ino, core, slot, attr_leaf, link, held)
-        }
-        None => Ok(FileRead::Unsound),
+        None => by_core(alloc, g, ino, core, slot, tree, attr_leaf, link),
     }
+}
+
+/// What a slot in use reads as of which no feature is unsupported.
+fn by_core(
+    alloc: Global,
+    g: &Geometry,
+    ino: u64,
+    core: &Core,
+    slot: &[u8],
+    tree: Option<&Tree<Bmbt>>,
+    attr_leaf: Option<&[u8]>,
+    link: Option<&[u8]>,
+) -> Result<FileRead, NoMemory>
+    requires slot { length slot.now ≡ 512 }
+    requires attr_leaf { IfSome (option_copied attr_leaf) (λ block. length block ≡ 4096) }
+    requires link { IfSome (option_copied link) (λ block. length block ≡ 4096) }
+    ensures { IfOk result (λ read. read ≡ by_core (volume_of g.now) ino core.now slot.now (option_map contents_of (option_copied tree.entry)) (option_copied attr_leaf.entry) (option_copied link.entry)) }
+{
+    if !is_core(core) {
+        return Ok(FileRead::Unsound);
+    }
+    let held = data_fork(alloc, core, slot, tree)?;
+    with_data(alloc, g, ino, core, slot, attr_leaf, link, held)
 }
 
 /// What a slot in use reads as by its data fork.
@@ -141,12 +162,56 @@ fn with_data(
     requires link { IfSome (option_copied link) (λ block. length block ≡ 4096) }
     ensures { IfOk result (λ read. read ≡ with_data (volume_of g.now) ino core.now slot.now (option_copied attr_leaf.entry) (option_copied link.entry) held) }
 {
-    let Some(held) = held else {
-        return Ok(FileRead::Unsound);
-    };
+    match held {
+        Some(held) => with_held(alloc, g, ino, core, slot, attr_leaf, link, held),
+        None => Ok(FileRead::Unsound),
+    }
+}
+
+/// What a slot in use reads as whose data fork reads.
+fn with_held(
+    alloc: Global,
+    g: &Geometry,
+    ino: u64,
+    core: &Core,
+    slot: &[u8],
+    attr_leaf: Option<&[u8]>,
+    link: Option<&[u8]>,
+    held: DataHeld,
+) -> Result<FileRead, NoMemory>
+    requires slot { length slot.now ≡ 512 }
+    requires forkoff { core.now.forkoff ≤ 41 }
+    requires fits { core.now.format ≡ 1 → core.now.size ≤ 336 }
+    requires attr_leaf { IfSome (option_copied attr_leaf) (λ block. length block ≡ 4096) }
+    requires link { IfSome (option_copied link) (λ block. length block ≡ 4096) }
+    ensures { IfOk result (λ read. read ≡ with_held (volume_of g.now) ino core.now slot.now (option_copied attr_leaf.entry) (option_copied link.entry) held) }
+{
     if !is_whole_fork(alloc, g, ino, core, slot, link, &held)? {
         return Ok(FileRead::Unsound);
     }
+    with_attr_fork(alloc, g, ino, core, slot, attr_leaf, link, held)
+}
+
+/// What a slot in use reads as of which all but the attributes is that of a file.
+fn with_attr_fork(
+    alloc: Global,
+    g: &Geometry,
+    ino: u64,
+    core: &Core,
+    slot: &[u8],
+    attr_leaf: Option<&[u8]>,
+    link: Option<&[u8]>,
+    held: DataHeld,
+) -> Result<FileRead, NoMemory>
+    requires slot { length slot.now ≡ 512 }
+    requires forkoff { core.now.forkoff ≤ 41 }
+    requires fits { core.now.format ≡ 1 → core.now.size ≤ 336 }
+    requires short { core_type core.now ≡ 10 → core.now.format ≡ 2 → core.now.size ≤ 1024 }
+    requires placed { is_placed (volume_of g.now) held ≡ true }
+    requires attr_leaf { IfSome (option_copied attr_leaf) (λ block. length block ≡ 4096) }
+    requires link { IfSome (option_copied link) (λ block. length block ≡ 4096) }
+    ensures { IfOk result (λ read. read ≡ with_attrs (volume_of g.now) ino core.now slot.now (option_copied link.entry) held (attr_fork (volume_of g.now) ino core.now slot.now (option_copied attr_leaf.entry))) }
+{
     let fork = attr_fork(alloc, g, ino, core, slot, attr_leaf)?;
     with_attrs(alloc, g, ino, core, slot, link, held, fork)
 }

@@ -5,6 +5,7 @@ ghost use Rattle.std.specs.Option.{option_copied};
 ghost use Rattle.xfs_geom.specs.Volumes.{volume_of};
 ghost use Rattle.xfs_inode.specs.Forks.{core_type};
 ghost use Rattle.xfs_inode.specs.Files.{file_record, has_leaf, is_off_attributes, is_counted, is_placed, no_attrs, with_attrs};
+ghost use Rattle.xfs_inode.specs.Private.Steps.{without_leaf};
 ghost use Rattle.xfs_inode.specs.declared.files.FileRead.TheVariants as Reads;
 
 use crate::attributes::AttrHeld;
@@ -78,11 +79,50 @@ fn with_fork(
     requires placed { is_placed (volume_of g.now) held ≡ true }
     ensures { IfOk result (λ read. read ≡ with_attrs (volume_of g.now) ino core.now slot.now (option_copied link.entry) held (Some fork)) }
 {
-    if is_settled(alloc, g, core, &held, &fork)? {
-        let file = file_record(alloc, ino, core, slot, link, held, fork)?;
-        return Ok(FileRead::File(BoxedFile::new(alloc, file)?));
+    let settled = is_settled(alloc, g, core, &held, &fork)?;
+    if settled {
+        return whole_file(alloc, ino, core, slot, link, held, fork);
     }
-    if has_leaf(&fork) {
+    unsettled(alloc, ino, core, slot, link, held, &fork)
+}
+
+/// What a slot reads as of which all reads.
+fn whole_file(
+    alloc: Global,
+    ino: u64,
+    core: &Core,
+    slot: &[u8],
+    link: Option<&[u8]>,
+    held: DataHeld,
+    fork: AttrHeld,
+) -> Result<FileRead, NoMemory>
+    requires slot { length slot.now ≡ 512 }
+    requires link { IfSome (option_copied link) (λ block. length block ≡ 4096) }
+    requires fits { core.now.format ≡ 1 → core.now.size ≤ 336 }
+    requires short { core_type core.now ≡ 10 → core.now.format ≡ 2 → core.now.size ≤ 1024 }
+    ensures { IfOk result (λ read. read ≡ Reads.File (file_record ino core.now slot.now (option_copied link.entry) held fork)) }
+{
+    let file = file_record(alloc, ino, core, slot, link, held, fork)?;
+    Ok(FileRead::File(BoxedFile::new(alloc, file)?))
+}
+
+/// What a slot reads as whose attribute fork is at odds with its other blocks.
+fn unsettled(
+    alloc: Global,
+    ino: u64,
+    core: &Core,
+    slot: &[u8],
+    link: Option<&[u8]>,
+    held: DataHeld,
+    fork: &AttrHeld,
+) -> Result<FileRead, NoMemory>
+    requires slot { length slot.now ≡ 512 }
+    requires link { IfSome (option_copied link) (λ block. length block ≡ 4096) }
+    requires fits { core.now.format ≡ 1 → core.now.size ≤ 336 }
+    requires short { core_type core.now ≡ 10 → core.now.format ≡ 2 → core.now.size ≤ 1024 }
+    ensures { IfOk result (λ read. read ≡ without_leaf ino core.now slot.now (option_copied link.entry) held (has_leaf fork.now)) }
+{
+    if has_leaf(fork) {
         return without_attrs(alloc, ino, core, slot, link, held);
     }
     Ok(FileRead::Unsound)
