@@ -14,7 +14,7 @@ returns-in-Some c =
     let v = volume_of a.g.now in
     let leaf = option_copied a.attr_leaf in
     ap (λ (f : Option ℕ). with_feature f (by_core v a.ino a.core.now a.slot.now (option_map contents_of (option_copied a.tree)) leaf (option_copied a.link)))
-    (sym c.in-Some.is ∙ c.in_ok-feature_of.ensures ∙ ap (λ (p : Option ℕ). feature_of v a.ino p leaf) c.attr_place-place.ensures.value)
+    (sym c.in-Some.is ∙ c.in_ok-what.ensures ∙ ap (λ (p : Option ℕ). feature_of v a.ino p leaf) c.attr_place-place.ensures.value)
 
 pub returns-in-None : goal.returns-in-None
 returns-in-None c =
@@ -22,4 +22,4 @@ returns-in-None c =
     let v = volume_of a.g.now in
     let leaf = option_copied a.attr_leaf in
     subst (λ (f : Option ℕ). IfOk c.by_core.result (λ read. read ≡ with_feature f (by_core v a.ino a.core.now a.slot.now (option_map contents_of (option_copied a.tree)) leaf (option_copied a.link))))
-    (sym c.in-None.is ∙ c.in_ok-feature_of.ensures ∙ ap (λ (p : Option ℕ). feature_of v a.ino p leaf) c.attr_place-place.ensures.value) c.by_core.ensures
+    (sym c.in-None.is ∙ c.in_ok-what.ensures ∙ ap (λ (p : Option ℕ). feature_of v a.ino p leaf) c.attr_place-place.ensures.value) c.by_core.ensures
