@@ -1,5 +1,6 @@
 -- The chunks that are asked for.
-use Rattle.std.proofs.Common.{◌≡◌, ℕ, ◌+◌, ◌-◌, ◌*◌, ◌/◌, ◌^◌, ◌==◌, ◌≤◌, Bool, true, false, cond, List, [], ◌∷◌, ◌++◌, length, length-append, take, map, arith, refl, sym, subst, ap, ◌∙◌}
+use Rattle.std.proofs.Common.{◌≡◌, ℕ, suc, ◌+◌, ◌-◌, ◌*◌, ◌/◌, ◌^◌, ◌==◌, ◌≤◌, ◌<◌, ◌⊎◌, inl, inr, Bool, true, false, cond, Result, Ok, Err, List, [], ◌∷◌, ◌++◌, length, length-append, take, map, arith, refl, sym, subst, ap, ◌∙◌}
+use Rattle.std.specs.Prelude.{IfErr}
 use Rattle.std.specs.List.{filter, flat_map, range_with_len}
 use Rattle.std.proofs.Math.Nat.{mul-le-mul_right}
 use Rattle.std.proofs.lemmas.Bool.{eqb-true}
@@ -8,14 +9,16 @@ use Rattle.std.proofs.lemmas.List.Sums.{count_by-le-length, length-filter}
 use Rattle.std.proofs.lemmas.List.FromFn.{length-range_with_len}
 use Rattle.xfs_geom.specs.Conversions.{group_length}
 use Rattle.xfs_geom.specs.Shape.{HasGroups}
-use Rattle.xfs_geom.specs.Volumes.{Volume}
-use Rattle.xfs_place.specs.Chunks.{asked_rooms, is_room, rooms, rooms_below}
+use Rattle.xfs_geom.specs.Volumes.{Volume, volume_of}
+use Rattle.xfs_place.specs.Chunks.{asked_pool, asked_rooms, is_room, rooms, rooms_below}
 use Rattle.xfs_geom.specs.declared.geometry.Geometry.{Geometry}
 use Rattle.xfs_geom.specs.declared.records.Run.{Run}
 use Rattle.xfs_place.specs.declared.chunk_search.ChunkAsk.{ChunkAsk}
+use Rattle.xfs_place.specs.declared.faults.PlaceFault.{PlaceFault}
 use Rattle.xfs_place.specs.declared.faults.Unplaced.TheVariants.{Chunk}
 use Rattle.xfs_filled.specs.Chunks.{chunk_at, chunk_starts, further_ask, spared_list}
 use Rattle.xfs_filled.specs.Numbers.{chunk_count, further_chunks}
+use Rattle.xfs_filled.specs.Planning.{further_rooms}
 
 pub ask_is : (g : Geometry) (files : ℕ) (taken : List Run) (reserved spared : List ℕ) (count : ℕ) → taken ≡ chunk_at 16 ∷ [] → reserved ≡ [] → spared ≡ spared_list g
     → count ≡ further_chunks files
@@ -82,3 +85,41 @@ enough_rooms files n few is less most = (omega (arith, is, less, most), omega (a
 
 pub taken_few : (n : ℕ) (xs : List ℕ) → length (take n xs) ≡ n → n ≤ length xs
 taken_few n xs all = let most = length-take n xs in omega (arith, most, all)
+
+-- as many as are wanted are found
+pub rooms_found : (g : Geometry) (files : ℕ) (ask : ChunkAsk) (starts : List ℕ) → ask ≡ further_ask g files → starts ≡ 16 ∷ take ask.count (asked_rooms ask)
+    → length starts ≡ ask.count + 1 → (length starts ≡ chunk_count files) × (chunk_count files ≤ further_rooms g files + 1)
+rooms_found g files ask starts is are all =
+    let n = further_chunks files in
+    let asked : length starts ≡ n + 1 = all ∙ ap (λ (a : ChunkAsk). a.count + 1) is in
+    let taken : length starts ≡ suc (length (take n (asked_rooms (further_ask g files)))) =
+    ap length are ∙ ap (λ (a : ChunkAsk). suc (length (take a.count (asked_rooms a)))) is in
+    let few : n ≤ further_rooms g files = taken_few n (asked_rooms (further_ask g files)) (omega (arith, asked, taken)) in
+    let most : further_rooms g files ≤ 2 ^ 27 = rooms_few (volume_of g) (asked_pool (further_ask g files)) 24 g.shape.groups in
+    let both = enough_rooms files n (further_rooms g files) refl few most in
+    (asked ∙ both.0, both.1)
+
+lacking : (files n few : ℕ) → n ≡ further_chunks files → few < n → few + 1 < chunk_count files
+lacking files n few is less = omega (arith, is, less)
+
+-- why there are too few
+pub chunks_lacking : (g : Geometry) (files : ℕ) (ask : ChunkAsk) (fault : PlaceFault) → ask ≡ further_ask g files
+    → (fault ≡ PlaceFault.NoMemory) ⊎ ((fault ≡ PlaceFault.NoRoom ask.what) × (length (asked_rooms ask) < ask.count))
+    → (fault ≡ PlaceFault.NoMemory) ⊎ ((fault ≡ PlaceFault.NoRoom Chunk) × (further_rooms g files + 1 < chunk_count files))
+chunks_lacking g files ask fault is cause =
+    by_case
+    (subst (λ (a : ChunkAsk). (fault ≡ PlaceFault.NoMemory) ⊎ ((fault ≡ PlaceFault.NoRoom a.what) × (length (asked_rooms a) < a.count))) is cause)
+  where
+    by_case : (fault ≡ PlaceFault.NoMemory) ⊎ ((fault ≡ PlaceFault.NoRoom Chunk) × (further_rooms g files < further_chunks files))
+        → (fault ≡ PlaceFault.NoMemory) ⊎ ((fault ≡ PlaceFault.NoRoom Chunk) × (further_rooms g files + 1 < chunk_count files))
+    by_case (inl none) = inl none
+    by_case (inr lacks) = inr (lacks.0, lacking files (further_chunks files) (further_rooms g files) refl lacks.1)
+
+pub longer : (xs ys : List ℕ) (n : ℕ) → xs ≡ 16 ∷ ys → length ys ≡ n → length xs ≡ n + 1
+longer xs ys n is long = let all = ap length is in omega (arith, all, long)
+
+-- where memory is wanting, memory is wanting or something else is so
+pub err_or : {A : Type 0} (P : PlaceFault → Type 0) (r : Result A PlaceFault) → IfErr r (λ (f : PlaceFault). f ≡ PlaceFault.NoMemory)
+    → IfErr r (λ (f : PlaceFault). (f ≡ PlaceFault.NoMemory) ⊎ P f)
+err_or P (Ok x) h = h
+err_or P (Err e) h = inl h

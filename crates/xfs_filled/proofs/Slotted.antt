@@ -1,8 +1,8 @@
 -- What is wanted of the slots of chunks: by number, and it can be made of them.
-use Rattle.std.proofs.Common.{◌≡◌, ◌≢◌, ℕ, zero, suc, ◌+◌, ◌-◌, ◌*◌, ◌==◌, ◌≤◌, ◌<◌, ◌⊎◌, inl, inr, Bool, true, false, cond, nat_lt, List, length, map, get_or, Some, arith, refl, sym, subst, ap, ◌∙◌}
+use Rattle.std.proofs.Common.{◌≡◌, ◌≢◌, ℕ, zero, suc, ◌+◌, ◌-◌, ◌*◌, ◌==◌, ◌≤◌, ◌<◌, ◌⊎◌, inl, inr, Bool, true, false, cond, ◌||◌, nat_lt, List, length, map, get_or, Some, arith, refl, sym, subst, ap, ◌∙◌}
 use Rattle.std.specs.List.{flat_map, range_with_len}
 use Rattle.std.specs.List.Sorted.{IsNonDecreasingBy}
-use Rattle.std.proofs.lemmas.Bool.{cases_eq, cases_lt, eq-eqb, eqb-true, eqb-false, ne_eqb}
+use Rattle.std.proofs.lemmas.Bool.{cases_eq, cases_lt, eq-eqb, eqb-true, eqb-false, false≢true, ne_eqb}
 use Rattle.std.proofs.lemmas.List.FromFn.{get_or-map-range_with_len, length-map-range_with_len}
 use Rattle.xfs_disk.specs.declared.stamp.Stamp.{Stamp}
 use Rattle.xfs_empty.specs.Inodes.{system_slot, unused_slot}
@@ -72,6 +72,34 @@ module _ (v : Volume) (s : Stamp) (starts : List ℕ) (ns : List ProtoNode) (con
       ∙ ap (λ (t : Bool). cond t (system_slot v s (inode_at v starts 2)) (cond (nat_lt j (length ns + 2)) (slot_of_place v s starts ns contents runs (place_of_index j)) (unused_slot (inode_at v starts j)))) two
       ∙ ap (λ (t : Bool). cond t (slot_of_place v s starts ns contents runs (place_of_index j)) (unused_slot (inode_at v starts j))) inside)
 
+  -- the slot of a system inode
+  pub system_is : (j ino : ℕ) (slot : SlotWanted) → (j == 1 || j == 2) ≡ true → ino ≡ inode_at v starts j → slot ≡ system_slot v s ino
+      → slot ≡ slot_of_index v s starts ns contents runs j
+  system_is j ino slot one number is =
+      is ∙ ap (system_slot v s) number ∙ sym (first (j == 1) refl)
+    where
+      rest : SlotWanted
+      rest = cond (nat_lt j (length ns + 2)) (slot_of_place v s starts ns contents runs (place_of_index j)) (unused_slot (inode_at v starts j))
+
+      second : (r : Bool) → (j == 2) ≡ r → r ≡ true → cond r (system_slot v s (inode_at v starts 2)) rest ≡ system_slot v s (inode_at v starts j)
+      second true is one = ap (λ (m : ℕ). system_slot v s (inode_at v starts m)) (sym (eqb-true j 2 is))
+      second false is one = absurd (false≢true one)
+
+      first : (r : Bool) → (j == 1) ≡ r
+          → cond r (system_slot v s (inode_at v starts 1)) (cond (j == 2) (system_slot v s (inode_at v starts 2)) rest) ≡ system_slot v s (inode_at v starts j)
+      first true is = ap (λ (m : ℕ). system_slot v s (inode_at v starts m)) (sym (eqb-true j 1 is))
+      first false is = second (j == 2) refl (ap (λ (t : Bool). t || (j == 2)) (sym is) ∙ one)
+
+  -- the slot of a free inode
+  pub unused_is : (j ino : ℕ) (slot : SlotWanted) → (j == 1) ≡ false → (j == 2) ≡ false → nat_lt j (length ns + 2) ≡ false → ino ≡ inode_at v starts j
+      → slot ≡ unused_slot ino → slot ≡ slot_of_index v s starts ns contents runs j
+  unused_is j ino slot one two inside number is =
+      is ∙ ap unused_slot number
+      ∙ sym
+      (ap (λ (t : Bool). cond t (system_slot v s (inode_at v starts 1)) (cond (j == 2) (system_slot v s (inode_at v starts 2)) (cond (nat_lt j (length ns + 2)) (slot_of_place v s starts ns contents runs (place_of_index j)) (unused_slot (inode_at v starts j))))) one
+      ∙ ap (λ (t : Bool). cond t (system_slot v s (inode_at v starts 2)) (cond (nat_lt j (length ns + 2)) (slot_of_place v s starts ns contents runs (place_of_index j)) (unused_slot (inode_at v starts j)))) two
+      ∙ ap (λ (t : Bool). cond t (slot_of_place v s starts ns contents runs (place_of_index j)) (unused_slot (inode_at v starts j))) inside)
+
   module _ (end least : ℕ) (groups : HasGroups v.dblocks v.agblocks v.agcount) (addresses : HasAddresses v.agblocks v.agblklog) (rise : Rise end least starts) where
     -- the slots stand by number
     pub slots_in_order : IsNonDecreasingBy (λ (w : SlotWanted). w.ino) (all_slots v s starts ns contents runs)
@@ -119,3 +147,9 @@ pub slots_are : (v : Volume) (s : Stamp) (starts : List ℕ) (ns : List ProtoNod
     → map (slot_of_index v s starts ns contents runs) (range_with_len 0 (64 * length starts)) ≡ all_slots v s starts ns contents runs
 unfolding all_slots
 slots_are v s starts ns contents runs = refl
+
+-- an inode that is no system inode is not the second nor the third
+pub neither : (p q : Bool) → (p || q) ≡ false → (p ≡ false) × (q ≡ false)
+neither false false is = (refl, refl)
+neither false true is = absurd (false≢true (sym is))
+neither true q is = absurd (false≢true (sym is))

@@ -33,6 +33,10 @@ LacksRoom g ns contents what =
     ((what ≡ Unplaced.Chunk) × (further_rooms g (length ns) + 1 < chunk_count (length ns)))
     ⊎ ((chunk_count (length ns) ≤ further_rooms g (length ns) + 1) × FindsNoRoom (filled_wanted g ns contents) what)
 
+-- memory is wanting, or just this of all that is placed behind the chunks has no room
+abbrev pub IsSiteCause : Geometry → List ProtoNode → List (List ℕ) → PlaceFault → Type 0
+IsSiteCause g ns contents fault = (fault ≡ PlaceFault.NoMemory) ⊎ ((what : Unplaced) × (fault ≡ PlaceFault.NoRoom what) × FindsNoRoom (filled_wanted g ns contents) what)
+
 -- memory is wanting, or just this has no room
 abbrev pub IsFilledCause : Geometry → List ProtoNode → List (List ℕ) → PlaceFault → Type 0
 IsFilledCause g ns contents fault = (fault ≡ PlaceFault.NoMemory) ⊎ ((what : Unplaced) × (fault ≡ PlaceFault.NoRoom what) × LacksRoom g ns contents what)

@@ -1,6 +1,6 @@
 //! What the blocks of a new volume with files are made of.
 
-ghost use Rattle.std.specs.Prelude.{◌≡◌, ◌+◌, ◌≤◌, ◌<◌, ◌^◌, ◌++◌, IfOk, OnOk};
+ghost use Rattle.std.specs.Prelude.{◌≡◌, ◌+◌, ◌*◌, ◌≤◌, ◌<◌, ◌^◌, ◌++◌, IfOk, OnOk};
 ghost use Rattle.std.specs.List.{All, range_with_len};
 ghost use Rattle.xfs_geom.specs.Volumes.{volume_of};
 ghost use Rattle.xfs_place.specs.Pool.{IsRunOf};
@@ -56,12 +56,19 @@ fn list_places(alloc: Global, g: &Geometry, starts: &[u64]) -> Result<Vec<u64>, 
 {
     let mut places = Vec::new(alloc);
     for ag in 0..g.agcount {
-        places.push(ag as u64 * g.agblocks as u64)?;
+        places.push(head_of(g, ag))?;
     }
     for start in starts {
         push_chunk(*start, &mut places)?;
     }
     Ok(places)
+}
+
+/// The first block of a group.
+fn head_of(g: &Geometry, ag: u32) -> u64
+    ensures { result ≡ ag * g.now.agblocks }
+{
+    ag as u64 * g.agblocks as u64
 }
 
 /// Adds the blocks of a chunk.

@@ -1,7 +1,10 @@
 //! The chunks of inodes of a new volume.
 
-ghost use Rattle.std.specs.Prelude.{◌≡◌, ◌≤◌, ◌<◌, ◌⊎◌, ◌+◌, ◌-◌, ◌/◌, ◌==◌, ◌^◌, length, map, IfErr, IfOk};
+ghost use Rattle.std.specs.Prelude.{◌≡◌, ◌≤◌, ◌<◌, ◌⊎◌, ◌+◌, ◌-◌, ◌/◌, ◌==◌, ◌^◌, ◌∷◌, length, map, take, IfErr, IfOk};
+ghost use Rattle.std.specs.List.{All};
 ghost use Rattle.xfs_geom.specs.Volumes.{volume_of};
+ghost use Rattle.xfs_place.specs.Chunks.{asked_rooms};
+ghost use Rattle.xfs_place.specs.Pool.{IsRunOf};
 ghost use Rattle.xfs_filled.specs.Chunks.{inodes_filled, chunk_at, chunk_record, chunk_starts, further_ask, chunks_of_group, spared_list, used_in_chunk};
 ghost use Rattle.xfs_filled.specs.Numbers.{chunk_count, further_chunks};
 ghost use Rattle.xfs_filled.specs.Planning.{further_rooms};
@@ -45,15 +48,48 @@ pub fn place_chunks(alloc: Global, g: &Geometry, files: usize) -> Result<ChunksP
         ⊎ ((fault ≡ PlaceFault.NoRoom Unplaced.Chunk) × (further_rooms g.now files + 1 < chunk_count files))) }
 {
     let ask = further_ask(alloc, g, files)?;
-    let further = chunks(alloc, &ask)?;
+    match list_starts(alloc, &ask) {
+        Ok(starts) => Ok(chunks_placed(starts, ask)),
+        Err(fault) => Err(fault),
+    }
+}
+
+/// The chunks that stand from these blocks on, with what is spared in what was asked.
+fn chunks_placed(starts: Vec<u64>, ask: ChunkAsk) -> ChunksPlaced
+    ensures starts { result.starts.items ≡ starts.items }
+    ensures spared { result.spared_from ≡ ask.spared_from }
+{
     let ChunkAsk { spared_from, .. } = ask;
-    let mut starts = Vec::new(alloc);
-    starts.push(FIRST_CHUNK)?;
-    starts.extend_from_slice(further.as_slice())?;
-    Ok(ChunksPlaced {
+    ChunksPlaced {
         starts,
         spared_from,
-    })
+    }
+}
+
+/// The first blocks of the first chunk and of those that are asked behind it.
+fn list_starts(alloc: Global, ask: &ChunkAsk) -> Result<Vec<u64>, PlaceFault>
+    requires size { 1 ≤ ask.now.size }
+    requires taken { All (IsRunOf ask.now.geometry.dblocks) ask.now.taken }
+    ensures starts { IfOk result (λ starts. starts.items ≡ 16 ∷ take ask.now.count (asked_rooms ask.now)) }
+    ensures all { IfOk result (λ starts. length starts.items ≡ ask.now.count + 1) }
+    ensures cause { IfErr result (λ fault. (fault ≡ PlaceFault.NoMemory)
+        ⊎ ((fault ≡ PlaceFault.NoRoom ask.now.what) × (length (asked_rooms ask.now) < ask.now.count))) }
+{
+    match chunks(alloc, ask) {
+        Ok(further) => starts_with(alloc, further.as_slice()),
+        Err(fault) => Err(fault),
+    }
+}
+
+/// The first block of the first chunk, and behind it these.
+fn starts_with(alloc: Global, further: &[u64]) -> Result<Vec<u64>, PlaceFault>
+    ensures starts { IfOk result (λ starts. starts.items ≡ 16 ∷ further.now) }
+    ensures cause { IfErr result (λ fault. fault ≡ PlaceFault.NoMemory) }
+{
+    let mut starts = Vec::new(alloc);
+    starts.push(FIRST_CHUNK)?;
+    starts.extend_from_slice(further)?;
+    Ok(starts)
 }
 
 /// The chunks behind the first that so many files ask for.

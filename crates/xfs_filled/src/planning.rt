@@ -1,19 +1,18 @@
 //! The plan of a new volume with files.
 
-ghost use Rattle.std.specs.Prelude.{◌≡◌, ◌<◌, ◌⊎◌, All, IfErr, IfOk, OnOk, length};
+ghost use Rattle.std.specs.Prelude.{◌≡◌, ◌<◌, All, IfErr, IfOk, OnOk, length};
 ghost use Rattle.xfs_geom.specs.Volumes.{stated_volume, volume_of};
 ghost use Rattle.xfs_geom.specs.Writing.{IsAcceptedSector};
 ghost use Rattle.xfs_render.specs.Drafts.{AreInBank};
 ghost use Rattle.xfs_render.specs.Plans.{plan_rows, planned};
 ghost use Rattle.xfs_empty.specs.Geometry.{HasFirstChunk};
-ghost use Rattle.xfs_empty.specs.Planning.{HasRoom};
-ghost use Rattle.xfs_place.specs.Wanted.{FindsNoRoom};
-ghost use Rattle.xfs_place.specs.declared.faults.Unplaced.{Unplaced};
+ghost use Rattle.xfs_empty.specs.Planning.{HasRoom, StandsFor};
+ghost use Rattle.xfs_place.specs.Objects.{ServeAsks, asks_of};
 ghost use Rattle.xfs_filled.specs.Chunks.{chunk_starts, spared_list};
 ghost use Rattle.xfs_filled.specs.FileTrees.{AreProtoNodes};
-ghost use Rattle.xfs_filled.specs.Planning.{HoldsFiles, IsFilledCause, IsFilledPlan};
+ghost use Rattle.xfs_filled.specs.Planning.{HoldsFiles, IsFilledCause, IsFilledPlan, IsSiteCause};
 ghost use Rattle.xfs_filled.specs.Sites.{IsSite};
-ghost use Rattle.xfs_filled.specs.Wanting.{filled_wanted};
+ghost use Rattle.xfs_filled.specs.Wanting.{bytes_with, filled_wanted, wanted_by_chunks};
 
 use crate::bytes::make_bytes;
 use crate::chunks::place_chunks;
@@ -24,11 +23,11 @@ use crate::wanting::make_wanted;
 use std::alloc::Global;
 use std::marker::Sync;
 use std::thread::Threads;
-use xfs_disk::{NoGate, Stamp};
+use xfs_disk::{NoGate, NoMemory, Stamp};
 use xfs_geom::Geometry;
-use xfs_place::{PlaceFault, place};
+use xfs_place::{PlaceFault, Placed, Wanted, place};
 use xfs_proto::ProtoNode;
-use xfs_render::{Plan, chunks_are_few, placed_is_ready, render};
+use xfs_render::{Bytes, Plan, chunks_are_few, placed_is_ready, render};
 use xfs_volume::Records;
 
 /// How many threads render.
@@ -101,15 +100,102 @@ fn plan_site<R: Threads + Sync>(
     ensures inside { IfOk result (λ plan. All (λ place. place < site.now.geometry.now.dblocks) (planned plan)) }
     ensures held { IfOk result (λ plan. AreInBank (plan_rows plan) plan.bank) }
     ensures room { OnOk result (HasRoom (filled_wanted site.now.geometry.now site.now.nodes.now site.now.contents.now)) }
-    ensures cause { IfErr result (λ fault. (fault ≡ PlaceFault.NoMemory)
-        ⊎ ((what : Unplaced) × (fault ≡ PlaceFault.NoRoom what) × FindsNoRoom (filled_wanted site.now.geometry.now site.now.nodes.now site.now.contents.now) what)) }
+    ensures cause { IfErr result (IsSiteCause site.now.geometry.now site.now.nodes.now site.now.contents.now) }
 {
     let spared = Vec::from_slice(alloc, spared_from)?;
-    let wanted = make_wanted(alloc, site, Records::from_vec(spared))?;
-    chunks_are_few(&wanted);
-    let placed = place(alloc, &wanted)?;
-    let bytes = make_bytes(alloc, site, sector, stamp, placed.runs.as_slice())?;
-    placed_is_ready(&wanted, &placed, &bytes);
-    let plan = render(rt, alloc, &wanted, &placed, &bytes, WORKERS, &NoGate)?;
-    Ok(plan)
+    match make_wanted(alloc, site, Records::from_vec(spared)) {
+        Ok(wanted) => plan_wanted(rt, alloc, site, sector, stamp, &wanted),
+        Err(NoMemory) => Err(PlaceFault::NoMemory),
+    }
+}
+
+/// The same of what is wanted.
+fn plan_wanted<R: Threads + Sync>(
+    rt: &R,
+    alloc: Global,
+    site: &Site<'_>,
+    sector: &[u8; 512],
+    stamp: &Stamp,
+    wanted: &Wanted,
+) -> Result<Plan, PlaceFault>
+    requires site { IsSite site.now.geometry.now site.now.starts.now site.now.nodes.now site.now.contents.now site.now.directories.now site.now.order.now }
+    requires accepted { IsAcceptedSector sector.now }
+    requires states { stated_volume sector.now ≡ volume_of site.now.geometry.now }
+    requires chunk { HasFirstChunk (volume_of site.now.geometry.now) }
+    requires starts { site.now.starts.now ≡ chunk_starts site.now.geometry.now (length site.now.nodes.now) }
+    requires wanted { wanted.now ≡ wanted_by_chunks site.now.geometry.now site.now.starts.now site.now.nodes.now site.now.contents.now }
+    ensures rendered { IfOk result (λ plan. IsFilledPlan site.now.geometry.now sector.now stamp.now site.now.nodes.now site.now.contents.now plan) }
+    ensures inside { IfOk result (λ plan. All (λ place. place < site.now.geometry.now.dblocks) (planned plan)) }
+    ensures held { IfOk result (λ plan. AreInBank (plan_rows plan) plan.bank) }
+    ensures room { OnOk result (HasRoom (filled_wanted site.now.geometry.now site.now.nodes.now site.now.contents.now)) }
+    ensures cause { IfErr result (IsSiteCause site.now.geometry.now site.now.nodes.now site.now.contents.now) }
+{
+    chunks_are_few(wanted);
+    match place(alloc, wanted) {
+        Ok(placed) => plan_placed(rt, alloc, site, sector, stamp, wanted, &placed),
+        Err(fault) => Err(fault),
+    }
+}
+
+/// The same where all that is wanted is placed.
+fn plan_placed<R: Threads + Sync>(
+    rt: &R,
+    alloc: Global,
+    site: &Site<'_>,
+    sector: &[u8; 512],
+    stamp: &Stamp,
+    wanted: &Wanted,
+    placed: &Placed,
+) -> Result<Plan, PlaceFault>
+    requires site { IsSite site.now.geometry.now site.now.starts.now site.now.nodes.now site.now.contents.now site.now.directories.now site.now.order.now }
+    requires accepted { IsAcceptedSector sector.now }
+    requires states { stated_volume sector.now ≡ volume_of site.now.geometry.now }
+    requires chunk { HasFirstChunk (volume_of site.now.geometry.now) }
+    requires starts { site.now.starts.now ≡ chunk_starts site.now.geometry.now (length site.now.nodes.now) }
+    requires wanted { wanted.now ≡ wanted_by_chunks site.now.geometry.now site.now.starts.now site.now.nodes.now site.now.contents.now }
+    requires cuts { ServeAsks (asks_of wanted.now.objects) placed.now.cuts placed.now.runs }
+    requires stands { StandsFor wanted.now placed.now }
+    ensures rendered { IfOk result (λ plan. IsFilledPlan site.now.geometry.now sector.now stamp.now site.now.nodes.now site.now.contents.now plan) }
+    ensures inside { IfOk result (λ plan. All (λ place. place < site.now.geometry.now.dblocks) (planned plan)) }
+    ensures held { IfOk result (λ plan. AreInBank (plan_rows plan) plan.bank) }
+    ensures room { OnOk result (HasRoom (filled_wanted site.now.geometry.now site.now.nodes.now site.now.contents.now)) }
+    ensures cause { IfErr result (IsSiteCause site.now.geometry.now site.now.nodes.now site.now.contents.now) }
+{
+    match make_bytes(alloc, site, sector, stamp, placed.runs.as_slice()) {
+        Ok(bytes) => plan_bytes(rt, alloc, site, sector, stamp, wanted, placed, &bytes),
+        Err(NoMemory) => Err(PlaceFault::NoMemory),
+    }
+}
+
+/// The same with what its blocks are made of.
+fn plan_bytes<R: Threads + Sync>(
+    rt: &R,
+    alloc: Global,
+    site: &Site<'_>,
+    sector: &[u8; 512],
+    stamp: &Stamp,
+    wanted: &Wanted,
+    placed: &Placed,
+    bytes: &Bytes,
+) -> Result<Plan, PlaceFault>
+    requires site { IsSite site.now.geometry.now site.now.starts.now site.now.nodes.now site.now.contents.now site.now.directories.now site.now.order.now }
+    requires accepted { IsAcceptedSector sector.now }
+    requires states { stated_volume sector.now ≡ volume_of site.now.geometry.now }
+    requires chunk { HasFirstChunk (volume_of site.now.geometry.now) }
+    requires starts { site.now.starts.now ≡ chunk_starts site.now.geometry.now (length site.now.nodes.now) }
+    requires wanted { wanted.now ≡ wanted_by_chunks site.now.geometry.now site.now.starts.now site.now.nodes.now site.now.contents.now }
+    requires cuts { ServeAsks (asks_of wanted.now.objects) placed.now.cuts placed.now.runs }
+    requires stands { StandsFor wanted.now placed.now }
+    requires bytes { bytes.now ≡ bytes_with site.now.geometry.now sector.now stamp.now site.now.starts.now site.now.nodes.now site.now.contents.now placed.now.runs }
+    ensures rendered { IfOk result (λ plan. IsFilledPlan site.now.geometry.now sector.now stamp.now site.now.nodes.now site.now.contents.now plan) }
+    ensures inside { IfOk result (λ plan. All (λ place. place < site.now.geometry.now.dblocks) (planned plan)) }
+    ensures held { IfOk result (λ plan. AreInBank (plan_rows plan) plan.bank) }
+    ensures room { OnOk result (HasRoom (filled_wanted site.now.geometry.now site.now.nodes.now site.now.contents.now)) }
+    ensures cause { IfErr result (IsSiteCause site.now.geometry.now site.now.nodes.now site.now.contents.now) }
+{
+    placed_is_ready(wanted, placed, bytes);
+    match render(rt, alloc, wanted, placed, bytes, WORKERS, &NoGate) {
+        Ok(plan) => Ok(plan),
+        Err(NoMemory) => Err(PlaceFault::NoMemory),
+    }
 }

@@ -1,6 +1,6 @@
 //! The slots of the chunks of a new volume.
 
-ghost use Rattle.std.specs.Prelude.{◌≡◌, ◌*◌, ◌<◌, ◌≤◌, length, IfOk};
+ghost use Rattle.std.specs.Prelude.{◌≡◌, ◌*◌, ◌<◌, ◌≤◌, ◌==◌, ◌||◌, length, IfOk};
 ghost use Rattle.std.specs.List.{All, flat_map};
 ghost use Rattle.std.specs.Option.{option_copied};
 ghost use Rattle.xfs_geom.specs.Volumes.{volume_of};
@@ -70,7 +70,7 @@ fn slot_at(
     ensures { IfOk result (λ slot. slot
         ≡ slot_of_index (volume_of site.now.geometry.now) stamp.now site.now.starts.now site.now.nodes.now site.now.contents.now runs.now j) }
 {
-    if j == 1 || j == SYSTEM_INODES {
+    if is_system(j) {
         let ino = inode_at(site.geometry, site.starts, j);
         return Ok(system_slot(site.geometry, stamp, ino));
     }
@@ -80,6 +80,13 @@ fn slot_at(
         return file_slot(alloc, site, stamp, &runs[span.from..span.to], k);
     }
     Ok(unused_slot(inode_at(site.geometry, site.starts, j)))
+}
+
+/// Whether an inode of the chunks is one of the two system inodes.
+fn is_system(j: usize) -> bool
+    ensures { result ≡ (j == 1 || j == 2) }
+{
+    j == 1 || j == SYSTEM_INODES
 }
 
 /// What is wanted of the slot of the file at a place.

@@ -1,46 +1,25 @@
-use Rattle.std.proofs.Common.{◌≡◌, ℕ, suc, ◌+◌, ◌≤◌, ◌^◌, List, [], ◌∷◌, ◌++◌, length, take, arith, sym, ap, ap₂, ◌∙◌, refl}
-use Rattle.xfs_geom.specs.Volumes.{volume_of}
-use Rattle.xfs_place.specs.Chunks.{asked_pool, asked_rooms}
+use Rattle.std.proofs.Common.{◌∙◌, ap, length, take, refl}
+use Rattle.xfs_place.specs.Chunks.{asked_rooms}
 use Rattle.xfs_place.specs.declared.chunk_search.ChunkAsk.{ChunkAsk}
-use Rattle.xfs_filled.specs.Chunks.{further_ask}
-use Rattle.xfs_filled.specs.Numbers.{chunk_count, further_chunks}
-use Rattle.xfs_filled.specs.Planning.{further_rooms}
-use Rattle.xfs_filled.proofs.Asked.{enough_rooms, rooms_few, starts_are, taken_few}
+use Rattle.xfs_filled.proofs.Asked.{chunks_lacking, rooms_found, starts_are}
 use Rattle.xfs_filled.proofs.chunks.place_chunks.Goals as goal
 
-pub returns-clause-starts : goal.returns-clause-starts
-returns-clause-starts c =
-    let further = c.in_ok-further.further in
-    c.in_ok-extend_from_slice.ensures.items
-    ∙ ap₂ (λ (xs ys : List ℕ). xs ++ ys) (c.in_ok-push.ensures.items ∙ ap (λ (xs : List ℕ). xs ++ 16 ∷ []) c.new-starts.ensures.items) c.as_slice.ensures
-    ∙ starts_are c.args.g.now c.args.files further c.in_ok-ask.ask c.in_ok-ask.ensures c.in_ok-further.ensures.lowest
+pub returns-in-Ok-clause-starts : goal.returns-in-Ok-clause-starts
+returns-in-Ok-clause-starts c =
+    let ask = c.in_ok-ask.ask in
+    c.chunks_placed.ensures.starts ∙ c.in-Ok.ensures.starts ∙ starts_are c.args.g.now c.args.files (take ask.count (asked_rooms ask)) ask c.in_ok-ask.ensures refl
 
-pub returns-clause-enough : goal.returns-clause-enough
-returns-clause-enough c =
-    let g = c.args.g.now in
-    let files = c.args.files in
-    let further = c.in_ok-further.further in
-    let n = further_chunks files in
-    let is = c.in_ok-ask.ensures in
-    let asked : length further ≡ n = c.in_ok-further.ensures.all ∙ ap (λ (a : ChunkAsk). a.count) is in
-    let are : further ≡ take n (asked_rooms (further_ask g files)) = c.in_ok-further.ensures.lowest ∙ ap (λ (a : ChunkAsk). take a.count (asked_rooms a)) is in
-    let few : n ≤ further_rooms g files = taken_few n (asked_rooms (further_ask g files)) (sym (ap length are) ∙ asked) in
-    let most : further_rooms g files ≤ 2 ^ 27 = rooms_few (volume_of g) (asked_pool (further_ask g files)) 24 g.shape.groups in
-    let all : n + 1 ≡ chunk_count files = (enough_rooms files n (further_rooms g files) refl few most).0 in
-    let pushed = c.in_ok-extend_from_slice.ensures.items
-    ∙ ap₂ (λ (xs ys : List ℕ). xs ++ ys) (c.in_ok-push.ensures.items ∙ ap (λ (xs : List ℕ). xs ++ 16 ∷ []) c.new-starts.ensures.items) c.as_slice.ensures in
-    let long : length c.extend_from_slice.new.self.items ≡ suc (length further) = ap length pushed in
-    omega (arith, long, asked, all)
+pub returns-in-Ok-clause-enough : goal.returns-in-Ok-clause-enough
+returns-in-Ok-clause-enough c =
+    ap length c.chunks_placed.ensures.starts
+    ∙ (rooms_found c.args.g.now c.args.files c.in_ok-ask.ask c.in-Ok.starts.items c.in_ok-ask.ensures c.in-Ok.ensures.starts c.in-Ok.ensures.all).0
 
-pub returns-clause-room : goal.returns-clause-room
-returns-clause-room c =
-    let g = c.args.g.now in
-    let files = c.args.files in
-    let further = c.in_ok-further.further in
-    let n = further_chunks files in
-    let is = c.in_ok-ask.ensures in
-    let asked : length further ≡ n = c.in_ok-further.ensures.all ∙ ap (λ (a : ChunkAsk). a.count) is in
-    let are : further ≡ take n (asked_rooms (further_ask g files)) = c.in_ok-further.ensures.lowest ∙ ap (λ (a : ChunkAsk). take a.count (asked_rooms a)) is in
-    let few : n ≤ further_rooms g files = taken_few n (asked_rooms (further_ask g files)) (sym (ap length are) ∙ asked) in
-    let most : further_rooms g files ≤ 2 ^ 27 = rooms_few (volume_of g) (asked_pool (further_ask g files)) 24 g.shape.groups in
-    (enough_rooms files n (further_rooms g files) refl few most).1
+pub returns-in-Ok-clause-room : goal.returns-in-Ok-clause-room
+returns-in-Ok-clause-room c =
+    (rooms_found c.args.g.now c.args.files c.in_ok-ask.ask c.in-Ok.starts.items c.in_ok-ask.ensures c.in-Ok.ensures.starts c.in-Ok.ensures.all).1
+
+pub returns-in-Ok-clause-spared : goal.returns-in-Ok-clause-spared
+returns-in-Ok-clause-spared c = c.chunks_placed.ensures.spared ∙ ap (λ (a : ChunkAsk). a.spared_from) c.in_ok-ask.ensures
+
+pub returns-in-Err-clause-cause : goal.returns-in-Err-clause-cause
+returns-in-Err-clause-cause c = chunks_lacking c.args.g.now c.args.files c.in_ok-ask.ask c.in-Err.fault c.in_ok-ask.ensures c.in-Err.ensures.cause

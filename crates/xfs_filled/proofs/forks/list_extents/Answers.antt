@@ -13,3 +13,16 @@ loop-run-preserved c =
           c.loop-run.invariant.value c.in_ok-push_extents.ensures.value;
       small = c.in_ok-push_extents.ensures.small;
     }
+
+pub push_extents-requires-clause-inside : goal.push_extents-requires-clause-inside
+push_extents-requires-clause-inside c =
+    let d : Run = record { start = 0; count = 0; owner = 0; offset_word = 0 } in
+    (c.requires.inside c.loop-run.run-index d c.loop-run-test.true).1
+
+pub push_extents-requires-clause-offset : goal.push_extents-requires-clause-offset
+push_extents-requires-clause-offset c =
+    let d : Run = record { start = 0; count = 0; owner = 0; offset_word = 0 } in
+    c.requires.offsets c.loop-run.run-index d c.loop-run-test.true
+
+pub push_extents-requires-clause-small : goal.push_extents-requires-clause-small
+push_extents-requires-clause-small c = c.loop-run.invariant.small

@@ -1,6 +1,6 @@
-use Rattle.std.proofs.Common.{◌≡◌, ◌+◌, length, get_or, slice_range, arith}
+use Rattle.std.proofs.Common.{◌≡◌, ◌+◌, ◌==◌, length, get_or, slice_range, arith, sym, ◌∙◌}
 use Rattle.std.specs.List.{flat_map}
-use Rattle.std.proofs.lemmas.Bool.{lt-ltb, ne_eqb}
+use Rattle.std.proofs.lemmas.Bool.{le-ltb, lt-ltb}
 use Rattle.xfs_empty.proofs.Results.{ok_as}
 use Rattle.xfs_geom.specs.Volumes.{volume_of}
 use Rattle.xfs_render.specs.declared.wanted_slots.SlotWanted.{SlotWanted}
@@ -8,8 +8,22 @@ use Rattle.xfs_filled.specs.Forks.{extents_of_run}
 use Rattle.xfs_filled.specs.Numbers.{number_of}
 use Rattle.xfs_filled.specs.Slots.{core_at, fork_of_place, made_slot, slot_of_index}
 use Rattle.xfs_filled.specs.Spans.{no_span}
-use Rattle.xfs_filled.proofs.Slotted.{slot_is}
+use Rattle.xfs_filled.proofs.Slotted.{neither, slot_is, system_is, unused_is}
 use Rattle.xfs_filled.proofs.slots.slot_at.Goals as goal
+
+pub returns-then-is_system : goal.returns-then-is_system
+returns-then-is_system c =
+    let site = c.args.site.now in
+    system_is (volume_of site.geometry.now) c.args.stamp.now site.starts.now site.nodes.now site.contents.now c.args.runs.now c.args.j c.inode_at-ino.result c.system_slot.result
+    (sym c.is_system.ensures ∙ c.if-is_system.true) c.inode_at-ino.ensures.value c.system_slot.ensures
+
+pub returns : goal.returns
+returns c =
+    let site = c.args.site.now in
+    let none = neither (c.args.j == 1) (c.args.j == 2) (sym c.is_system.ensures ∙ c.if-is_system.false) in
+    let past = c.if-j-site.false in
+    unused_is (volume_of site.geometry.now) c.args.stamp.now site.starts.now site.nodes.now site.contents.now c.args.runs.now c.args.j c.inode_at.result c.unused_slot.result
+    none.0 none.1 (le-ltb c.args.j (length site.nodes.now + 2) (omega (arith, past))) c.inode_at.ensures.value c.unused_slot.ensures
 
 pub returns-then-j-site : goal.returns-then-j-site
 returns-then-j-site c =
@@ -19,6 +33,7 @@ returns-then-j-site c =
     let ns = site.nodes.now in
     let contents = site.contents.now in
     let runs = c.args.runs.now in
+    let none = neither (c.args.j == 1) (c.args.j == 2) (sym c.is_system.ensures ∙ c.if-is_system.false) in
     let k = c.saturating_sub-k.result in
     let span = get_or c.args.spans.now k no_span in
     let own = slice_range runs span.from span.to in
@@ -27,6 +42,6 @@ returns-then-j-site c =
     ok_as
     (λ (w : SlotWanted). w ≡ made_slot (number_of v starts k) (core_at v c.args.stamp.now starts ns k) (fork_of_place v starts ns contents (flat_map (extents_of_run v) own) k))
     (λ (w : SlotWanted). w ≡ slot_of_index v c.args.stamp.now starts ns contents runs c.args.j) c.file_slot.result
-    (λ w is. slot_is v c.args.stamp.now starts ns contents runs c.args.j k own w (ne_eqb c.args.j 1 c.if-j-eq1.false) (ne_eqb c.args.j 2 c.if-j-eq-SYSTEM_INODES.false) (lt-ltb c.args.j (length ns + 2) less) at
+    (λ w is. slot_is v c.args.stamp.now starts ns contents runs c.args.j k own w none.0 none.1 (lt-ltb c.args.j (length ns + 2) less) at
     (c.requires.spans.each k (omega (arith, less, at))).are is)
     c.file_slot.ensures
