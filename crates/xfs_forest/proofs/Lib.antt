@@ -2,3 +2,4 @@ mod Causes
 mod Forests
 mod Growth
 mod Trees
+mod CellPlaces

@@ -1,5 +1,5 @@
 -- Lists that grow by what stands first of the rest.
-use Rattle.std.proofs.Common.{◌≡◌, ℕ, suc, ◌+◌, ◌-◌, ◌<◌, ◌≤◌, List, [], ◌∷◌, ◌++◌, length, drop, map, get_or, sym, ◌∙◌, ap, arith}
+use Rattle.std.proofs.Common.{◌≡◌, ℕ, suc, ◌+◌, ◌-◌, ◌<◌, ◌≤◌, List, [], ◌∷◌, ◌++◌, length, drop, map, get_or, sym, ◌∙◌, ap, ap₂, arith}
 use Rattle.std.specs.List.{flat_map, range_with_len}
 use Rattle.std.proofs.lemmas.List.{append_assoc, append-nil, drop_more, length-drop, nil_from_length}
 
@@ -67,6 +67,11 @@ held_next f first i n old new all inside more held =
     let split : flat_map f (range_with_len (first + i) (n - i)) ≡ f (first + i) ++ flat_map f (range_with_len (first + (i + 1)) (n - (i + 1)))
     = ap (λ k. flat_map f (range_with_len (first + i) k)) count ∙ ap (λ k. f (first + i) ++ flat_map f (range_with_len k (n - (i + 1)))) next in
     grown old new (f (first + i)) (flat_map f (range_with_len (first + i) (n - i))) (flat_map f (range_with_len (first + (i + 1)) (n - (i + 1)))) all more split held
+
+pub held_from_start : {B : Type 0} (f : ℕ → List B) (first n : ℕ) (new : List B) → new ≡ []
+    → new ++ flat_map f (range_with_len (first + 0) (n - 0)) ≡ flat_map f (range_with_len first n)
+held_from_start f first n new none =
+    ap (λ xs. xs ++ flat_map f (range_with_len (first + 0) (n - 0))) none ∙ ap₂ (λ (a k : ℕ). flat_map f (range_with_len a k)) (omega arith) (omega arith)
 
 pub held_to_end : {B : Type 0} (f : ℕ → List B) (first i n : ℕ) (new all : List B) → n ≤ i → new ++ flat_map f (range_with_len (first + i) (n - i)) ≡ all → new ≡ all
 held_to_end f first i n new all past held =

@@ -4,3 +4,4 @@ pub mod Outside
 pub mod Rests
 pub mod Turns
 pub mod Known
+pub mod Causes

@@ -1,4 +1,4 @@
-use Rattle.std.proofs.Common.{ℕ, List, [], ◌∷◌, ◌++◌, map, map-id, length, sym, ap, subst, ◌∙◌, arith, rules}
+use Rattle.std.proofs.Common.{◌≤◌, ℕ, List, [], ◌∷◌, ◌++◌, map, map-id, length, sym, ap, subst, ◌∙◌, arith, rules}
 use Rattle.std.proofs.lemmas.Iterator.Adapters.{YieldsList-from_vec}
 use Rattle.std.proofs.lemmas.Iterator.Consumers.{YieldsList-end, YieldsList-turn}
 use Rattle.std.proofs.lemmas.List.Elements.{All-get_or}
@@ -12,6 +12,7 @@ use Rattle.xfs_forks.specs.Settled.{IsPartIn, IsTold}
 use Rattle.xfs_rounds.specs.declared.judging.SlotPart.{SlotPart}
 use Rattle.xfs_slots.specs.Facts.{slot_fact}
 use Rattle.xfs_slots.specs.Gathered.{gathered, gathered_both, held_in}
+use Rattle.xfs_slots.proofs.Causes.{caused_on}
 use Rattle.xfs_slots.proofs.Turns.{facts_start, facts_turn, gathered_one, held_start, held_turn, inodes_of_singles}
 use Rattle.xfs_slots.proofs.clusters.take_block.Goals as goal
 
@@ -77,3 +78,37 @@ returns-clause-facts g c = λ image is.
     ∙ ap (λ (inos : List ℕ). c.args.facts.now.items ++ map (slot_fact v image) inos)
     (ap (flat_map inos) (sym (map-id c.loop-part.yielded) ∙ end.0)
     ∙ inodes_of_singles (λ (part : SlotPart). inode_of v c.args.block part.slot) c.args.parts.items _ c.requires.parts.inodes)
+
+pub returns-clause-cause : goal.returns-clause-cause
+returns-clause-cause g c = c.loop-part.invariant.later
+
+pub returns-clause-disk : goal.returns-clause-disk
+returns-clause-disk g c = c.loop-part.invariant.disk
+
+pub returns-clause-reads : goal.returns-clause-reads
+returns-clause-reads g c = c.loop-part.invariant.reads
+
+pub returns-in-Err : goal.returns-in-Err
+returns-in-Err g c =
+    let D = g.D.Disk in
+    let before = c.loop-part.invariant in
+    let failed = c.in-Err.ensures in
+    record {
+      facts = tt;
+      held = tt;
+      cause = caused_on (D.faults c.args.disk.now) (D.faults c.loop-part.disk) (D.faults c.take_part.new.disk) c.in-Err.fault before.later failed.cause;
+      disk = reads_on D.size D.holds D.write_faults D.writes D.tells_stops D.moment D.may_leave D.left_since c.args.disk.now c.loop-part.disk c.take_part.new.disk before.disk failed.disk;
+      reads = let up = before.reads in let more = failed.reads in omega (arith, up, more);
+    }
+
+pub take_part-requires-clause-inside : goal.take_part-requires-clause-inside
+take_part-requires-clause-inside g c = subst (λ (n : ℕ). c.args.g.now.dblocks ≤ n) (sym c.loop-part.invariant.disk.same_size) c.requires.inside
+
+pub take_part-requires-clause-held : goal.take_part-requires-clause-held
+take_part-requires-clause-held g c = λ image told. c.requires.held image (sym c.loop-part.invariant.disk.same_contents ∙ told)
+
+pub take_part-requires-clause-volume : goal.take_part-requires-clause-volume
+take_part-requires-clause-volume g c = c.requires.volume
+
+pub take_part-requires-clause-whole : goal.take_part-requires-clause-whole
+take_part-requires-clause-whole g c = c.requires.whole

@@ -1,4 +1,4 @@
-use Rattle.std.proofs.Common.{ℕ, List, ◌++◌, map, map-id, length, sym, ap, subst, ◌∙◌, arith, rules}
+use Rattle.std.proofs.Common.{◌≤◌, ℕ, List, ◌++◌, map, map-id, length, sym, ap, subst, ◌∙◌, arith, rules}
 use Rattle.std.proofs.lemmas.Iterator.Adapters.{YieldsList-from_vec}
 use Rattle.std.proofs.lemmas.Iterator.Consumers.{YieldsList-end, YieldsList-turn}
 use Rattle.std.proofs.lemmas.List.Elements.{All-get_or}
@@ -13,6 +13,7 @@ use Rattle.xfs_rounds.specs.Judged.{IsListed}
 use Rattle.xfs_rounds.specs.declared.pieces.BlockParts.{BlockParts}
 use Rattle.xfs_slots.specs.Facts.{slot_fact}
 use Rattle.xfs_slots.specs.Gathered.{gathered, gathered_both, held_in}
+use Rattle.xfs_slots.proofs.Causes.{caused_on}
 use Rattle.xfs_slots.proofs.Turns.{facts_start, facts_turn, held_start, held_turn, inodes_of_round}
 use Rattle.xfs_slots.proofs.rounds.take_round.Goals as goal
 
@@ -80,3 +81,37 @@ returns-clause-held g c = λ image told.
     c.loop-block.invariant.held image told
     ∙ ap (λ (inos : List ℕ). gathered_both (held_in c.args.inodes.now) (gathered v image inos))
     (ap (flat_map inos) (sym (map-id c.loop-block.yielded) ∙ end.0) ∙ inodes_of_round v c.args.settled.items c.args.round.now c.requires.settled.listed.places)
+
+pub returns-clause-cause : goal.returns-clause-cause
+returns-clause-cause g c = c.loop-block.invariant.later
+
+pub returns-clause-disk : goal.returns-clause-disk
+returns-clause-disk g c = c.loop-block.invariant.disk
+
+pub returns-clause-reads : goal.returns-clause-reads
+returns-clause-reads g c = c.loop-block.invariant.reads
+
+pub returns-in-Err : goal.returns-in-Err
+returns-in-Err g c =
+    let D = g.D.Disk in
+    let before = c.loop-block.invariant in
+    let failed = c.in-Err.ensures in
+    record {
+      facts = tt;
+      held = tt;
+      cause = caused_on (D.faults c.args.disk.now) (D.faults c.loop-block.disk) (D.faults c.take_settled.new.disk) c.in-Err.fault before.later failed.cause;
+      disk = reads_on D.size D.holds D.write_faults D.writes D.tells_stops D.moment D.may_leave D.left_since c.args.disk.now c.loop-block.disk c.take_settled.new.disk before.disk failed.disk;
+      reads = let up = before.reads in let more = failed.reads in omega (arith, up, more);
+    }
+
+pub take_settled-requires-clause-inside : goal.take_settled-requires-clause-inside
+take_settled-requires-clause-inside g c = subst (λ (n : ℕ). c.args.g.now.dblocks ≤ n) (sym c.loop-block.invariant.disk.same_size) c.requires.inside
+
+pub take_settled-requires-clause-held : goal.take_settled-requires-clause-held
+take_settled-requires-clause-held g c = λ image told. c.requires.held image (sym c.loop-block.invariant.disk.same_contents ∙ told)
+
+pub take_settled-requires-clause-volume : goal.take_settled-requires-clause-volume
+take_settled-requires-clause-volume g c = c.requires.volume
+
+pub take_settled-requires-clause-bank : goal.take_settled-requires-clause-bank
+take_settled-requires-clause-bank g c = c.requires.bank
