@@ -5,3 +5,4 @@ pub mod Rests
 pub mod Turns
 pub mod Known
 pub mod Causes
+pub mod Chunks
