@@ -1,4 +1,4 @@
-use Rattle.std.proofs.Common.{length, get_or, rules, arith, ◌∙◌}
+use Rattle.std.proofs.Common.{ℕ, ◌≤◌, length, get_or, rules, sym, subst, arith, ◌∙◌}
 use Rattle.xfs_disk.proofs.Reading.{reads_none, reads_on}
 use Rattle.xfs_forest.specs.Forest.{IsKept, IsOnward, IsThrough}
 use Rattle.xfs_forest.proofs.Causes.{forest_caused}
@@ -76,3 +76,45 @@ pub returns-in-Err-read_round-clause-disk : goal.returns-in-Err-read_round-claus
 returns-in-Err-read_round-clause-disk g c =
     let D = g.D.Disk in
     reads_on D.size D.holds D.write_faults D.writes D.tells_stops D.moment D.may_leave D.left_since c.args.disk.now c.loop-t.disk c.read_round.new.disk c.loop-t.invariant.disk c.in-Err-read_round.ensures.disk
+
+pub read_row-requires-clause-inside : goal.read_row-requires-clause-inside
+read_row-requires-clause-inside g c = λ κs lives. subst (λ (n : ℕ). c.args.g.now.dblocks ≤ n) (sym c.loop-t.invariant.disk.same_size) c.requires.inside
+
+pub read_row-requires-clause-forest : goal.read_row-requires-clause-forest
+read_row-requires-clause-forest g c = λ κs lives. c.loop-t.invariant.forest
+
+pub returns-in-Err-clause-forest : goal.returns-in-Err-clause-forest
+returns-in-Err-clause-forest g c = tt
+
+pub returns-in-Err-clause-onward : goal.returns-in-Err-clause-onward
+returns-in-Err-clause-onward g c = tt
+
+pub returns-in-Err-clause-through : goal.returns-in-Err-clause-through
+returns-in-Err-clause-through g c = tt
+
+pub returns-in-Err-clause-none : goal.returns-in-Err-clause-none
+returns-in-Err-clause-none g c = tt
+
+pub returns-in-Err-clause-grows : goal.returns-in-Err-clause-grows
+returns-in-Err-clause-grows g c = tt
+
+pub returns-in-Err-clause-reads : goal.returns-in-Err-clause-reads
+returns-in-Err-clause-reads g c = let up = c.loop-t.invariant.reads in let more = c.in-Err.ensures.reads in omega (arith, up, more)
+
+pub returns-in-Err-read_round-clause-forest : goal.returns-in-Err-read_round-clause-forest
+returns-in-Err-read_round-clause-forest g c = tt
+
+pub returns-in-Err-read_round-clause-onward : goal.returns-in-Err-read_round-clause-onward
+returns-in-Err-read_round-clause-onward g c = tt
+
+pub returns-in-Err-read_round-clause-through : goal.returns-in-Err-read_round-clause-through
+returns-in-Err-read_round-clause-through g c = tt
+
+pub returns-in-Err-read_round-clause-none : goal.returns-in-Err-read_round-clause-none
+returns-in-Err-read_round-clause-none g c = tt
+
+pub returns-in-Err-read_round-clause-grows : goal.returns-in-Err-read_round-clause-grows
+returns-in-Err-read_round-clause-grows g c = tt
+
+pub returns-in-Err-read_round-clause-reads : goal.returns-in-Err-read_round-clause-reads
+returns-in-Err-read_round-clause-reads g c = let up = c.loop-t.invariant.reads in let more = c.in-Err-read_round.ensures.reads in omega (arith, up, more)

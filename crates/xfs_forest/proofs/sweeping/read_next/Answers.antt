@@ -48,3 +48,66 @@ returns-in-Ok-pass_next-clause-less g c =
 
 pub returns-in-Ok-pass_next-clause-grows : goal.returns-in-Ok-pass_next-clause-grows
 returns-in-Ok-pass_next-clause-grows g c = λ image told growing. c.in-Ok-pass_next.ensures.grows image (c.in-Ok.ensures.grows image told growing)
+
+pub make_room-requires-clause-inside : goal.make_room-requires-clause-inside
+make_room-requires-clause-inside g c = λ κs lives. c.requires.inside
+
+pub make_room-requires-clause-forest : goal.make_room-requires-clause-forest
+make_room-requires-clause-forest g c = λ κs lives. c.requires.forest
+
+pub pass_next-requires-clause-forest : goal.pass_next-requires-clause-forest
+pass_next-requires-clause-forest g c = λ κs lives. c.in-Ok.ensures.forest
+
+pub returns-in-Ok-pass_next-clause-forest : goal.returns-in-Ok-pass_next-clause-forest
+returns-in-Ok-pass_next-clause-forest g c = c.in-Ok-pass_next.ensures.forest
+
+pub returns-in-Ok-pass_next-clause-cause : goal.returns-in-Ok-pass_next-clause-cause
+returns-in-Ok-pass_next-clause-cause g c = c.in-Ok.ensures.cause
+
+pub returns-in-Ok-pass_next-clause-disk : goal.returns-in-Ok-pass_next-clause-disk
+returns-in-Ok-pass_next-clause-disk g c = c.in-Ok.ensures.disk
+
+pub returns-in-Ok-pass_next-clause-reads : goal.returns-in-Ok-pass_next-clause-reads
+returns-in-Ok-pass_next-clause-reads g c = c.in-Ok.ensures.reads
+
+pub returns-in-Err-pass_next-clause-forest : goal.returns-in-Err-pass_next-clause-forest
+returns-in-Err-pass_next-clause-forest g c = tt
+
+pub returns-in-Err-pass_next-clause-onward : goal.returns-in-Err-pass_next-clause-onward
+returns-in-Err-pass_next-clause-onward g c = tt
+
+pub returns-in-Err-pass_next-clause-less : goal.returns-in-Err-pass_next-clause-less
+returns-in-Err-pass_next-clause-less g c = tt
+
+pub returns-in-Err-pass_next-clause-grows : goal.returns-in-Err-pass_next-clause-grows
+returns-in-Err-pass_next-clause-grows g c = tt
+
+pub returns-in-Err-pass_next-clause-cause : goal.returns-in-Err-pass_next-clause-cause
+returns-in-Err-pass_next-clause-cause g c = c.in-Ok.ensures.cause
+
+pub returns-in-Err-pass_next-clause-disk : goal.returns-in-Err-pass_next-clause-disk
+returns-in-Err-pass_next-clause-disk g c = c.in-Ok.ensures.disk
+
+pub returns-in-Err-pass_next-clause-reads : goal.returns-in-Err-pass_next-clause-reads
+returns-in-Err-pass_next-clause-reads g c = c.in-Ok.ensures.reads
+
+pub returns-in-Err-clause-forest : goal.returns-in-Err-clause-forest
+returns-in-Err-clause-forest g c = tt
+
+pub returns-in-Err-clause-onward : goal.returns-in-Err-clause-onward
+returns-in-Err-clause-onward g c = tt
+
+pub returns-in-Err-clause-less : goal.returns-in-Err-clause-less
+returns-in-Err-clause-less g c = tt
+
+pub returns-in-Err-clause-grows : goal.returns-in-Err-clause-grows
+returns-in-Err-clause-grows g c = tt
+
+pub returns-in-Err-clause-cause : goal.returns-in-Err-clause-cause
+returns-in-Err-clause-cause g c = c.in-Err.ensures.cause
+
+pub returns-in-Err-clause-disk : goal.returns-in-Err-clause-disk
+returns-in-Err-clause-disk g c = c.in-Err.ensures.disk
+
+pub returns-in-Err-clause-reads : goal.returns-in-Err-clause-reads
+returns-in-Err-clause-reads g c = c.in-Err.ensures.reads

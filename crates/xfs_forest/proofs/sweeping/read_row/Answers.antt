@@ -1,4 +1,4 @@
-use Rattle.std.proofs.Common.{◌<◌, length, get_or, rules, subst, arith, ◌∙◌}
+use Rattle.std.proofs.Common.{ℕ, ◌≤◌, ◌<◌, length, get_or, rules, sym, subst, arith, ◌∙◌}
 use Rattle.std.proofs.lemmas.List.{get_or_default}
 use Rattle.xfs_disk.proofs.Reading.{reads_none, reads_on}
 use Rattle.xfs_forest.specs.Forest.{IsOnward, IsThrough}
@@ -52,3 +52,42 @@ returns-clause-through g c = λ d.
     let trees = c.taking.trees in
     let inside : t < length trees = omega (arith, c.requires.number, c.taking.invariant.forest.count) in
     subst IsThrough (get_or_default trees t c.index-trees-t.result d inside) (c.has_more.ensures.through (search rules))
+
+pub read_next-requires-clause-inside : goal.read_next-requires-clause-inside
+read_next-requires-clause-inside g c = λ κs lives. subst (λ (n : ℕ). c.args.g.now.dblocks ≤ n) (sym c.taking.invariant.disk.same_size) c.requires.inside
+
+pub read_next-requires-clause-forest : goal.read_next-requires-clause-forest
+read_next-requires-clause-forest g c = λ κs lives. c.taking.invariant.forest
+
+pub returns-in-Err-clause-forest : goal.returns-in-Err-clause-forest
+returns-in-Err-clause-forest g c = tt
+
+pub returns-in-Err-clause-onward : goal.returns-in-Err-clause-onward
+returns-in-Err-clause-onward g c = tt
+
+pub returns-in-Err-clause-through : goal.returns-in-Err-clause-through
+returns-in-Err-clause-through g c = tt
+
+pub returns-in-Err-clause-grows : goal.returns-in-Err-clause-grows
+returns-in-Err-clause-grows g c = tt
+
+pub returns-in-Err-clause-reads : goal.returns-in-Err-clause-reads
+returns-in-Err-clause-reads g c = let up = c.taking.invariant.reads in let more = c.in-Err.ensures.reads in omega (arith, up, more)
+
+pub returns-clause-forest : goal.returns-clause-forest
+returns-clause-forest g c = c.taking.invariant.forest
+
+pub returns-clause-onward : goal.returns-clause-onward
+returns-clause-onward g c = c.taking.invariant.onward
+
+pub returns-clause-grows : goal.returns-clause-grows
+returns-clause-grows g c = c.taking.invariant.grows
+
+pub returns-clause-cause : goal.returns-clause-cause
+returns-clause-cause g c = c.taking.invariant.later
+
+pub returns-clause-disk : goal.returns-clause-disk
+returns-clause-disk g c = c.taking.invariant.disk
+
+pub returns-clause-reads : goal.returns-clause-reads
+returns-clause-reads g c = c.taking.invariant.reads
