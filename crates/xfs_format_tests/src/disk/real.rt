@@ -56,11 +56,11 @@ fn are_read(rt: &impl Abort, disk: &mut FileDisk<File>) {
     let mut block = [0; BLOCK_SIZE];
     same!(rt; disk.read(1, &mut block), Ok(()));
     sure(rt, block == [2; BLOCK_SIZE], "block 1");
-    same!(rt; disk.read(0, &mut block), Ok(()));
-    sure(rt, block == [1; BLOCK_SIZE], "block 0");
     let mut front = [0; 512];
     same!(rt; disk.read_front(1, &mut front), Ok(()));
     sure(rt, front == [2; 512], "the front of block 1");
+    same!(rt; disk.read(0, &mut block), Ok(()));
+    sure(rt, block == [1; BLOCK_SIZE], "block 0");
 }
 
 /// Fails where a file does not hold these bytes, those of block 1 replaced by twos.
