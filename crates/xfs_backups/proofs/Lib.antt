@@ -1,3 +1,4 @@
+mod Causes
 pub mod Electing
 pub mod Mending
 pub mod Planning

@@ -30,6 +30,13 @@ next_place primary image group count at agreeing before after whole within same 
     by_case true agrees pushed far = rw (pushed, append-nil before) (rw (sym agrees) at far)
     by_case false other pushed far = rw (pushed, append_assoc, place) (rw (sym other) at far)
 
+-- past the last group the places are all
+pub all_places : (primary : List ℕ) (image : Image) (group count : ℕ) (before whole : List ℕ) → count ≤ group
+    → before ++ disagreeing_places primary image group (count - group) ≡ whole → before ≡ whole
+all_places primary image group count before whole past so_far =
+    let none : count - group ≡ 0 = omega arith in
+    sym (append-nil before) ∙ subst (λ (n : ℕ). before ++ disagreeing_places primary image group n ≡ whole) none so_far
+
 one_more : (primary : List ℕ) (image : Image) (n group : ℕ)
     → map (λ (at : ℕ). (at, with_super primary (bytes_of_block image at))) (disagreeing_places primary image (group + 1) n) ≡ steps_from primary image (group + 1) n
     → map (λ (at : ℕ). (at, with_super primary (bytes_of_block image at))) (disagreeing_places primary image group (suc n)) ≡ steps_from primary image group (suc n)

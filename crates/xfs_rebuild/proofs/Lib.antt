@@ -1,4 +1,8 @@
 mod Listed
+mod Filtered
+mod Causes
+mod Judged
+mod Old
 mod Counted
 mod Linked
 mod Placed
@@ -9,6 +13,7 @@ mod Images
 mod Parts
 mod Needs
 mod Rebuilding
+mod Asked
 pub mod Known
 mod Added
 mod DueNames

@@ -1,7 +1,7 @@
 -- Lists that are made item by item.
-use Rattle.std.proofs.Common.{◌≡◌, ℕ, suc, Bool, ◌+◌, ◌-◌, ◌<◌, List, [], ◌∷◌, ◌++◌, map, filter, drop, get_or, length, sym, ap, ◌∙◌, arith}
+use Rattle.std.proofs.Common.{◌≡◌, ℕ, suc, Bool, ◌+◌, ◌-◌, ◌<◌, ◌≤◌, List, [], ◌∷◌, ◌++◌, map, filter, drop, get_or, length, sym, ap, ◌∙◌, arith}
 use Rattle.std.specs.List.{flat_map, range_with_len}
-use Rattle.std.proofs.lemmas.List.{append_assoc, drop_more}
+use Rattle.std.proofs.lemmas.List.{append-nil, append_assoc, drop_all, drop_more}
 use Rattle.std.proofs.lemmas.List.Elements.{filter-append}
 
 -- what is left of a row of n numbers from b on, where what b gives was added
@@ -42,3 +42,39 @@ passed_more test of old new all xs i d low added held =
     ∙ append_assoc old (filter test (of (get_or xs i d))) (filter test rest)
     ∙ ap (λ ys. old ++ ys) (sym (filter-append test (of (get_or xs i d)) rest))
     ∙ ap (λ ys. old ++ filter test (flat_map of ys)) (sym (drop_more xs i d low)) ∙ held
+
+-- what the items of what is left give, where what the next gives was added
+pub listed_more : {A B : Type 0} (of : A → List B) (xs : List A) (i : ℕ) (d : A) (old new all : List B) → i < length xs → new ≡ old ++ of (get_or xs i d)
+    → old ++ flat_map of (drop i xs) ≡ all → new ++ flat_map of (drop (i + 1) xs) ≡ all
+listed_more of xs i d old new all low added held =
+    let rest = flat_map of (drop (i + 1) xs) in
+    ap (λ ys. ys ++ rest) added
+    ∙ append_assoc old (of (get_or xs i d)) rest
+    ∙ ap (λ ys. old ++ flat_map of ys) (sym (drop_more xs i d low)) ∙ held
+
+-- how many are left, one on and at the end
+pub one_less : (n i : ℕ) → i < n → n - i ≡ suc (n - (i + 1))
+one_less n i low = omega (arith, low)
+
+-- none gone, and none more
+pub none_gone : (n : ℕ) → n - 0 ≡ n
+none_gone n = omega arith
+
+pub none_more : (n : ℕ) → n + 0 ≡ n
+none_more n = omega arith
+
+none_over : (n i : ℕ) → n ≤ i → n - i ≡ 0
+none_over n i past = omega (arith, past)
+
+-- nothing is left
+ended : {A : Type 0} (old rest all : List A) → rest ≡ [] → old ++ rest ≡ all → old ≡ all
+ended old rest all none held = sym (append-nil old) ∙ ap (λ xs. old ++ xs) (sym none) ∙ held
+
+pub items_end : {A : Type 0} (item : ℕ → A) (old all : List A) (b n i : ℕ) → n ≤ i → old ++ map item (range_with_len b (n - i)) ≡ all → old ≡ all
+items_end item old all b n i past held = ended old (map item (range_with_len b (n - i))) all (ap (λ k. map item (range_with_len b k)) (none_over n i past)) held
+
+pub numbers_end : (test : ℕ → Bool) (old all : List ℕ) (b n i : ℕ) → n ≤ i → old ++ filter test (range_with_len b (n - i)) ≡ all → old ≡ all
+numbers_end test old all b n i past held = ended old (filter test (range_with_len b (n - i))) all (ap (λ k. filter test (range_with_len b k)) (none_over n i past)) held
+
+pub listed_end : {A B : Type 0} (of : A → List B) (xs : List A) (i : ℕ) (old all : List B) → length xs ≤ i → old ++ flat_map of (drop i xs) ≡ all → old ≡ all
+listed_end of xs i old all past held = ended old (flat_map of (drop i xs)) all (ap (λ ys. flat_map of ys) (drop_all i xs past)) held

@@ -6,7 +6,6 @@ use Rattle.xfs_disk.specs.Blocks.{Image}
 use Rattle.xfs_disk.specs.declared.stamp.Stamp.{Stamp}
 use Rattle.xfs_geom.specs.Volumes.{Volume, volume_of}
 use Rattle.xfs_geom.specs.declared.geometry.Geometry.{Geometry}
-use Rattle.xfs_heads.specs.declared.log.state.LogState.{LogState}
 use Rattle.xfs_empty.specs.Planning.{StandsFor}
 use Rattle.xfs_place.specs.declared.wanted.Wanted.{Wanted}
 use Rattle.xfs_place.specs.declared.placed.Placed.{Placed}
@@ -22,11 +21,10 @@ use Rattle.xfs_volume.specs.declared.clusters.ClusterRec.{ClusterRec}
 use Rattle.xfs_salvage.specs.Kept.{entries_of_kept, fresh_inodes, kept_clusters, kept_dirs, kept_files}
 use Rattle.xfs_salvage.specs.declared.found.FoundRecords.{FoundRecords}
 use Rattle.xfs_salvage.specs.declared.found.Salvaged.{Salvaged}
-use Rattle.xfs_request.specs.Cycles.{kept_lsns}
-use Rattle.xfs_request.specs.Requests.{cleared_count, kept_count}
+use Rattle.xfs_request.specs.Requests.{cleared_count}
 use Rattle.xfs_request.specs.Slots.{wanted_slots}
 use Rattle.xfs_request.specs.declared.seen.SlotSeen.{SlotSeen}
-use Rattle.xfs_rebuild.specs.Bytes.{AreAtHand, AreReadOf, file_lsns}
+use Rattle.xfs_rebuild.specs.Bytes.{AreAtHand}
 use Rattle.xfs_rebuild.specs.Found.{reserved_of}
 use Rattle.xfs_rebuild.specs.Names.{AreDueNames, due_files, needs_names}
 use Rattle.xfs_rebuild.specs.NamesJudged.{AreNamesJudged}
@@ -40,20 +38,6 @@ use Rattle.xfs_rebuild.specs.declared.names.Judged.{Judged}
 use Rattle.xfs_rebuild.specs.declared.names.Judged.TheVariants.{Change, Stay}
 use Rattle.xfs_rebuild.specs.declared.names_due.NamesDue.{NamesDue}
 use Rattle.xfs_rebuild.specs.declared.planning.Rebuilt.{Rebuilt}
-
-pub planned_on : (g : Geometry) (sector : List ℕ) (s : Stamp) (image : Image) (on : Ground) (b : Bytes) (wanted : Wanted) (r : Rebuilt)
-    → needs_names g.rootino on.kept b.slots ≡ false → AreAtHand g sector s on.kept.clusters (slots_asked g s on) b
-    → AreReadOf image (kept_lsns (volume_of g) on.kept on.seen (file_lsns (volume_of g) image on.kept.files)) on.log b
-    → wanted ≡ asked g on → IsPlannedFor wanted b image r → r.kept ≡ kept_count on.kept → r.cleared ≡ cleared_count (slots_asked g s on)
-    → IsPlannedOn g sector s image on r
-planned_on g sector s image on b wanted r named hand read same planned many freed = record {
-  named = subst (λ (ws : List SlotWanted). needs_names g.rootino on.kept ws ≡ false) hand.slots' named;
-  bytes = b;
-  made = record { at_hand = hand; read = read };
-  planned = subst (λ (w : Wanted). IsPlannedFor w b image r) same planned;
-  count = many;
-  freed = freed;
-}
 
 -- what was salvaged of what was found
 module _ (v : Volume) (found : FoundRecords) (kept : Salvaged) (clusters' : kept.clusters ≡ kept_clusters v found.clusters found.files)
@@ -122,32 +106,6 @@ none_change root kept slots judged clusters are is = subst (AreNamesJudged root 
 pub hand_of : (g : Geometry) (sector : List ℕ) (s : Stamp) (clusters same : List ℕ) (slots : List SlotWanted) (b : Bytes) → clusters ≡ same
     → AreAtHand g sector s clusters slots b → AreAtHand g sector s same slots b
 hand_of g sector s clusters same slots b is hand = subst (λ (cs : List ℕ). AreAtHand g sector s cs slots b) is hand
-
--- what is read by equal facts
-pub read_of : (g : Geometry) (kept : Salvaged) (view seen : List SlotSeen) (log : LogState) (held later : Option Image) (numbers lsns : List ℕ) (b : Bytes)
-    → view ≡ seen → later ≡ held → lsns ≡ numbers
-    → ForSome held (λ image. numbers ≡ kept_lsns (volume_of g) kept view (file_lsns (volume_of g) image kept.files))
-    → ForSome later (λ image. AreReadOf image lsns log b)
-    → ForSome held (λ image. AreReadOf image (kept_lsns (volume_of g) kept seen (file_lsns (volume_of g) image kept.files)) log b)
-read_of g kept view seen log held later numbers lsns b same as_before are stay read = λ image told.
-    subst (λ (known : List SlotSeen). AreReadOf image (kept_lsns (volume_of g) kept known (file_lsns (volume_of g) image kept.files)) log b) same
-    (subst (λ (ns : List ℕ). AreReadOf image ns log b) (are ∙ stay image told) (read image (as_before ∙ told)))
-
--- what is planned for what was asked is so by what it goes by
-pub all_planned : (g : Geometry) (sector : List ℕ) (s : Stamp) (on : Ground) (b : Bytes) (wanted : Wanted) (slots view : List SlotWanted) (count cleared : ℕ)
-    (held later : Option Image) (result : Result Rebuilt RebuildFault)
-    → wanted ≡ asked g on → slots ≡ slots_asked g s on → count ≡ kept_count on.kept → cleared ≡ cleared_count (slots_asked g s on)
-    → AreAtHand g sector s on.kept.clusters slots b
-    → ForSome held (λ image. AreReadOf image (kept_lsns (volume_of g) on.kept on.seen (file_lsns (volume_of g) image on.kept.files)) on.log b) → view ≡ slots
-    → needs_names g.rootino on.kept view ≡ false → later ≡ held → IfOk result (λ r. ForSome later (λ image. IsPlannedFor wanted b image r))
-    → IfOk result (λ (r : Rebuilt). r.kept ≡ count) → IfOk result (λ (r : Rebuilt). r.cleared ≡ cleared)
-    → IfOk result (λ r. ForSome held (λ image. IsPlannedOn g sector s image on r))
-all_planned g sector s on b wanted slots view count cleared held later (Ok r) same of many freed hand read seen named as_before planned kept' cleared' = λ image told.
-    planned_on g sector s image on b wanted r
-    (subst (λ (ws : List SlotWanted). needs_names g.rootino on.kept ws ≡ false) (seen ∙ sym hand.slots') named)
-    (subst (λ (ws : List SlotWanted). AreAtHand g sector s on.kept.clusters ws b) of hand)
-    (read image told) same (planned image (as_before ∙ told)) (kept' ∙ many) (cleared' ∙ freed)
-all_planned g sector s on b wanted slots view count cleared held later (Err fault) same of many freed hand read seen named as_before planned kept' cleared' = planned
 
 -- a name has to change where a law of names is broken by what there is to be named, and this is then known of the volume
 pub names_refused : (g : Geometry) (s : Stamp) (on : Ground) (wanted : Wanted) (slots view : List SlotWanted) (judged : Judged) (names : DueNames) (due : NamesDue)

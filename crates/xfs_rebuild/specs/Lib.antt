@@ -8,3 +8,4 @@ pub mod Differing
 pub mod Bytes
 pub mod Rebuilds
 pub mod Refusals
+pub mod Private

@@ -1,6 +1,6 @@
 //! What the blocks of a rebuilt volume are made of.
 
-ghost use Rattle.std.specs.Prelude.{◌≡◌, ◌+◌, ◌<◌, ◌≤◌, length, IfErr, IfOk};
+ghost use Rattle.std.specs.Prelude.{◌≡◌, ◌+◌, ◌<◌, ◌≤◌, [], length, IfErr, IfOk};
 ghost use Rattle.std.specs.List.{All};
 ghost use Rattle.std.specs.List.Sorted.{IsNonDecreasingBy};
 ghost use Rattle.std.specs.Option.{ForSome};
@@ -12,6 +12,7 @@ ghost use Rattle.xfs_volume.specs.declared.files.FileRec.{FileRec};
 ghost use Rattle.xfs_render.specs.declared.wanted_slots.SlotWanted.{SlotWanted};
 ghost use Rattle.xfs_request.specs.Cycles.{kept_lsns};
 ghost use Rattle.xfs_rebuild.specs.Bytes.{AreAtHand, AreReadOf, file_lsns, joined_bytes, numbers_in};
+ghost use Rattle.xfs_rebuild.specs.Private.Old.{AreOldOf};
 ghost use Rattle.xfs_rebuild.specs.Refusals.{HasRebuildCause, IsReadRefused};
 
 use crate::changes::can_change_all;
@@ -32,6 +33,13 @@ use xfs_volume::{BlockLsn, FileRec, Records};
 
 /// The bytes of a superblock.
 const SECTOR_SIZE: usize = 512;
+
+/// What the disk has at some places.
+#[derive(Drop)]
+struct OldBlocks {
+    places: Vec<u64>,
+    blocks: BlockList,
+}
 
 /// The log sequence numbers that stay beside what is kept: those of slots, and those in the blocks of the kept files, which are
 /// read. `seen` is what is known of the slots of the candidate clusters.
@@ -92,38 +100,60 @@ pub fn gather_bytes<D: Disk>(
         Ok(cycle) => cycle,
         Err(NoMemory) => return Err(RebuildFault::NoMemory),
     };
-    let places = match old_places(alloc, g, clusters, slots.as_slice()) {
+    match read_old(alloc, disk, g, clusters, slots.as_slice()) {
+        Ok(old) => Ok(joined(alloc, &chosen.sector, old, slots, cycle, stamp)),
+        Err(fault) => Err(fault),
+    }
+}
+
+/// What the disk has at the first block of each group and in the blocks of clusters of which some slot is to change.
+fn read_old<D: Disk>(
+    alloc: Global,
+    disk: &mut D,
+    g: &Geometry,
+    clusters: &[u64],
+    slots: &[SlotWanted],
+) -> Result<OldBlocks, RebuildFault>
+    requires inside { g.now.dblocks ≤ D.size disk.old }
+    requires lie { All (λ cluster. cluster + 4 ≤ g.now.dblocks) clusters.now }
+    requires order { IsNonDecreasingBy (λ (w : SlotWanted). w.ino) slots.now }
+    ensures old { IfOk result (AreOldOf g.now clusters.now slots.now) }
+    ensures read { IfOk result (λ old. ForSome (D.holds disk.old) (λ image. old.blocks ≡ blocks_at image old.places.items)) }
+    ensures refused { IfErr result IsReadRefused }
+    ensures cause { HasRebuildCause (D.faults disk.old) (D.faults disk.new) result }
+    ensures disk { OnlyReads D.size D.holds D.write_faults D.writes D.tells_stops D.moment D.may_leave D.left_since disk.old disk.new }
+{
+    let places = match old_places(alloc, g, clusters, slots) {
         Ok(places) => places,
         Err(NoMemory) => return Err(RebuildFault::NoMemory),
     };
-    let old = match read_blocks(alloc, disk, places.as_slice()) {
-        Ok(old) => old,
+    let blocks = match read_blocks(alloc, disk, places.as_slice()) {
+        Ok(blocks) => blocks,
         Err(fault) => return Err(fault),
     };
-    if !can_change_all(g, places.as_slice(), &old, slots.as_slice()) {
+    if !can_change_all(g, places.as_slice(), &blocks, slots) {
         return Err(RebuildFault::NoMemory);
     }
-    let objects = BlockList::make(alloc);
-    Ok(joined(&chosen.sector, places, old, objects, slots, cycle, stamp))
+    Ok(OldBlocks { places, blocks })
 }
 
 /// The bytes from their parts.
 fn joined(
+    alloc: Global,
     sector: &[u8; SECTOR_SIZE],
-    places: Vec<u64>,
-    old: BlockList,
-    objects: BlockList,
+    old: OldBlocks,
     slots: Records<SlotWanted>,
     cycle: Option<u32>,
     stamp: &Stamp,
 ) -> Bytes
-    ensures { result ≡ joined_bytes sector.now places.items old objects slots cycle stamp.now }
+    ensures { result ≡ joined_bytes sector.now old.places.items old.blocks [] slots cycle stamp.now }
 {
+    let OldBlocks { places, blocks } = old;
     Bytes {
         sector: *sector,
         places: Records::from_vec(places),
-        old,
-        objects,
+        old: blocks,
+        objects: BlockList::make(alloc),
         slots,
         cycle,
         stamp: *stamp,

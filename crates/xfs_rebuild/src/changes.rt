@@ -6,6 +6,7 @@ ghost use Rattle.std.specs.List.Sorted.{IsNonDecreasingBy};
 ghost use Rattle.xfs_geom.specs.Conversions.{inode_of};
 ghost use Rattle.xfs_geom.specs.Volumes.{volume_of};
 ghost use Rattle.xfs_render.specs.Clusters.{slot_in};
+ghost use Rattle.xfs_render.specs.Rendering.{is_head};
 ghost use Rattle.xfs_render.specs.Slots.{forkoff_of};
 ghost use Rattle.xfs_render.specs.declared.wanted_slots.SlotWanted.{SlotWanted};
 ghost use Rattle.xfs_rebuild.specs.Changes.{CanChange, CanChangeAll, can_base, can_change, can_fork, can_make, is_whole_slot};
@@ -40,11 +41,21 @@ pub(crate) fn can_change_all(
     ensures { IsTrue result → CanChangeAll (volume_of g.now) slots.now places.now old.now }
 {
     for i in 0..places.len() {
-        if places[i] % g.agblocks as u64 != 0 && !can_change(g, places[i], old.view(i), slots) {
+        if !can_change_at(g, places[i], old.view(i), slots) {
             return false;
         }
     }
     true
+}
+
+/// Whether they can in a block, unless a group begins there.
+fn can_change_at(g: &Geometry, number: u64, block: &[u8], slots: &[SlotWanted]) -> bool
+    requires inside { number < g.now.dblocks }
+    requires whole { length block.now ≡ 4096 }
+    requires order { IsNonDecreasingBy (λ (w : SlotWanted). w.ino) slots.now }
+    ensures { IsTrue result → is_head (volume_of g.now) number ≡ false → CanChange (volume_of g.now) slots.now number block.now }
+{
+    number % g.agblocks as u64 == 0 || can_change(g, number, block, slots)
 }
 
 /// Whether they can in a block.

@@ -1,6 +1,6 @@
 //! Planned blocks that differ from those on the disk.
 
-ghost use Rattle.std.specs.Prelude.{◌≡◌, ◌<◌, ◌≤◌, length, IfErr, IfOk};
+ghost use Rattle.std.specs.Prelude.{◌≡◌, ◌++◌, ◌<◌, ◌≤◌, [], ◌∷◌, if◌then◌else◌, length, IfErr, IfOk, OnOk};
 ghost use Rattle.std.specs.List.{All};
 ghost use Rattle.std.specs.Option.{ForSome};
 ghost use Rattle.xfs_disk.specs.Faults.{HasCause};
@@ -12,7 +12,7 @@ ghost use Rattle.xfs_rebuild.specs.Refusals.{HasRebuildCause, IsReadRefused};
 
 use crate::faults::RebuildFault;
 use std::alloc::Global;
-use xfs_disk::{BLOCK_SIZE, Disk, Failed};
+use xfs_disk::{BLOCK_SIZE, Disk, Failed, NoMemory};
 use xfs_shared::BlockList;
 use xfs_writing::Row;
 
@@ -34,16 +34,26 @@ pub(crate) fn left_to_write<D: Disk>(
 {
     let mut left = Vec::new(alloc);
     for row in rows {
-        match differs(disk, bank, row) {
-            Ok(true) => match left.push(*row) {
-                Ok(()) => {}
-                Err(_) => return Err(RebuildFault::NoMemory),
-            },
-            Ok(false) => {}
+        let other = match differs(disk, bank, row) {
+            Ok(other) => other,
             Err(Failed) => return Err(RebuildFault::ReadFault),
+        };
+        match push_if(&mut left, other, row) {
+            Ok(()) => {}
+            Err(NoMemory) => return Err(RebuildFault::NoMemory),
         }
     }
     Ok(left)
+}
+
+/// Puts a row behind the others, where it is left to write.
+fn push_if(left: &mut Vec<Row>, other: bool, row: &Row) -> Result<(), NoMemory>
+    ensures { OnOk result (left.new.items ≡ left.old.items ++ (if other then row.now ∷ [] else [])) }
+{
+    if other {
+        left.push(*row)?;
+    }
+    Ok(())
 }
 
 /// Whether the disk has other bytes at the row's block.

@@ -1,12 +1,21 @@
 //! The plan of a rebuild.
 
-ghost use Rattle.std.specs.Prelude.{◌≡◌, ◌≤◌, ◌⊎◌, IfErr, IfOk};
+ghost use Rattle.std.specs.Prelude.{◌≡◌, ◌+◌, ◌≤◌, ◌⊎◌, IfErr, IfOk};
+ghost use Rattle.std.specs.List.{All};
+ghost use Rattle.std.specs.List.Sorted.{IsNonDecreasingBy};
 ghost use Rattle.std.specs.Option.{ForSome};
 ghost use Rattle.xfs_disk.specs.Reads.{OnlyReads};
 ghost use Rattle.xfs_geom.specs.Volumes.{stated_volume, volume_of};
 ghost use Rattle.xfs_geom.specs.Writing.{IsAcceptedSector};
+ghost use Rattle.xfs_place.specs.Wanted.{CanBeKept, kept_runs};
+ghost use Rattle.xfs_render.specs.Readiness.{HasBytes, IsWritable};
+ghost use Rattle.xfs_render.specs.declared.bytes.Bytes.{Bytes};
+ghost use Rattle.xfs_render.specs.declared.wanted_slots.SlotWanted.{SlotWanted};
+ghost use Rattle.xfs_request.specs.Cycles.{kept_lsns};
+ghost use Rattle.xfs_rebuild.specs.Bytes.{AreAtHand, file_lsns};
+ghost use Rattle.xfs_rebuild.specs.Private.Asked.{IsMadeOf, IsRequestOf};
 ghost use Rattle.xfs_rebuild.specs.Rebuilds.{CanBeWritten, IsFound, IsPlannedOn, IsRebuildOf, ground, names_due_of};
-ghost use Rattle.xfs_rebuild.specs.Refusals.{HasRebuildCause, IsRefused, IsRefusedOn};
+ghost use Rattle.xfs_rebuild.specs.Refusals.{HasRebuildCause, IsPlaceRefused, IsRefused, IsRefusedOn};
 
 use crate::bytes::{gather_bytes, kept_numbers};
 use crate::faults::RebuildFault;
@@ -21,8 +30,6 @@ use std::thread::Threads;
 use xfs_disk::{Disk, Gate, NoMemory, Stamp};
 use xfs_geom::Elected;
 use xfs_heads::LogState;
-use xfs_place::Wanted;
-use xfs_render::SlotWanted;
 use xfs_request::{Request, SlotSeen, ask};
 use xfs_runs::Steps;
 use xfs_salvage::{Salvaged, salvage};
@@ -117,40 +124,143 @@ fn plan_kept<R: Threads + Sync, D: Disk, G: Gate, L: Ledger>(
     ensures disk { OnlyReads D.size D.holds D.write_faults D.writes D.tells_stops D.moment D.may_leave D.left_since disk.old disk.new }
 {
     let g = &chosen.geometry;
+    match kept_numbers(alloc, g, disk, &kept, seen.as_slice(), steps) {
+        Ok(numbers) => {
+            let numbers = numbers.as_slice();
+            plan_numbered(
+                rt, alloc, disk, chosen, kept, seen, reserved, numbers, log, stamp, gate,
+            )
+        }
+        Err(fault) => Err(fault),
+    }
+}
+
+/// The same where the log sequence numbers that stay are known.
+fn plan_numbered<R: Threads + Sync, D: Disk, G: Gate>(
+    rt: &R,
+    alloc: Global,
+    disk: &mut D,
+    chosen: &Elected,
+    kept: Salvaged,
+    seen: Records<SlotSeen>,
+    reserved: Blocks,
+    numbers: &[u64],
+    log: &LogState,
+    stamp: &Stamp,
+    gate: &G,
+) -> Result<Rebuilt, RebuildFault>
+    requires accepted { IsAcceptedSector chosen.now.sector }
+    requires states { volume_of chosen.now.geometry ≡ stated_volume chosen.now.sector }
+    requires inside { chosen.now.geometry.dblocks ≤ D.size disk.old }
+    requires found { IsFound (volume_of chosen.now.geometry) kept }
+    requires numbers { ForSome (D.holds disk.old) (λ image.
+        numbers.now ≡ kept_lsns (volume_of chosen.now.geometry) kept seen (file_lsns (volume_of chosen.now.geometry) image kept.files)) }
+    ensures writable { IfOk result (CanBeWritten (D.size disk.old)) }
+    ensures planned { IfOk result (λ r. ForSome (D.holds disk.old) (λ image.
+        IsPlannedOn chosen.now.geometry chosen.now.sector stamp.now image (ground kept seen reserved log.now) r)) }
+    ensures refused { IfErr result (IsRefusedOn chosen.now.geometry stamp.now (ground kept seen reserved log.now)) }
+    ensures cause { HasRebuildCause (D.faults disk.old) (D.faults disk.new) result }
+    ensures disk { OnlyReads D.size D.holds D.write_faults D.writes D.tells_stops D.moment D.may_leave D.left_since disk.old disk.new }
+{
+    match ask(
+        alloc,
+        &chosen.geometry,
+        &kept,
+        seen.as_slice(),
+        reserved,
+        stamp,
+    ) {
+        Ok(request) => plan_request(
+            rt, alloc, disk, chosen, kept, seen, request, numbers, log, stamp, gate,
+        ),
+        Err(NoMemory) => Err(RebuildFault::NoMemory),
+    }
+}
+
+/// The same by what is asked.
+fn plan_request<R: Threads + Sync, D: Disk, G: Gate>(
+    rt: &R,
+    alloc: Global,
+    disk: &mut D,
+    chosen: &Elected,
+    kept: Salvaged,
+    seen: Records<SlotSeen>,
+    request: Request,
+    numbers: &[u64],
+    log: &LogState,
+    stamp: &Stamp,
+    gate: &G,
+) -> Result<Rebuilt, RebuildFault>
+    requires accepted { IsAcceptedSector chosen.now.sector }
+    requires states { volume_of chosen.now.geometry ≡ stated_volume chosen.now.sector }
+    requires inside { chosen.now.geometry.dblocks ≤ D.size disk.old }
+    requires found { IsFound (volume_of chosen.now.geometry) kept }
+    requires asked { IsRequestOf chosen.now.geometry stamp.now (ground kept seen request.wanted.reserved log.now) request }
+    requires numbers { ForSome (D.holds disk.old) (λ image.
+        numbers.now ≡ kept_lsns (volume_of chosen.now.geometry) kept seen (file_lsns (volume_of chosen.now.geometry) image kept.files)) }
+    ensures writable { IfOk result (CanBeWritten (D.size disk.old)) }
+    ensures planned { IfOk result (λ r. ForSome (D.holds disk.old) (λ image.
+        IsPlannedOn chosen.now.geometry chosen.now.sector stamp.now image (ground kept seen request.wanted.reserved log.now) r)) }
+    ensures refused { IfErr result (IsRefusedOn chosen.now.geometry stamp.now (ground kept seen request.wanted.reserved log.now)) }
+    ensures cause { HasRebuildCause (D.faults disk.old) (D.faults disk.new) result }
+    ensures disk { OnlyReads D.size D.holds D.write_faults D.writes D.tells_stops D.moment D.may_leave D.left_since disk.old disk.new }
+{
+    match judge_names(
+        alloc,
+        chosen.geometry.rootino,
+        kept,
+        request.slots.as_slice(),
+    ) {
+        Ok(Judged::Stay(clusters)) => {
+            let clusters = clusters.as_slice();
+            plan_staying(
+                rt, alloc, disk, chosen, clusters, request, numbers, log, stamp, gate,
+            )
+        }
+        Ok(Judged::Change(names)) => {
+            Err(names_fault(alloc, names_due(request, names, seen, log)))
+        }
+        Err(NoMemory) => Err(RebuildFault::NoMemory),
+    }
+}
+
+/// The blocks for what is asked round clusters, where no name has to change.
+fn plan_staying<R: Threads + Sync, D: Disk, G: Gate>(
+    rt: &R,
+    alloc: Global,
+    disk: &mut D,
+    chosen: &Elected,
+    clusters: &[u64],
+    request: Request,
+    numbers: &[u64],
+    log: &LogState,
+    stamp: &Stamp,
+    gate: &G,
+) -> Result<Rebuilt, RebuildFault>
+    requires inside { chosen.now.geometry.dblocks ≤ D.size disk.old }
+    requires lie { All (λ cluster. cluster + 4 ≤ chosen.now.geometry.dblocks) clusters.now }
+    requires order { IsNonDecreasingBy (λ (w : SlotWanted). w.ino) request.slots }
+    requires size { request.wanted.geometry.dblocks ≤ D.size disk.old }
+    requires stands { CanBeKept (volume_of request.wanted.geometry) (kept_runs request.wanted) }
+    requires writable { IsWritable request.wanted }
+    requires held { (b : Bytes) → AreAtHand chosen.now.geometry chosen.now.sector stamp.now clusters.now request.slots b → HasBytes request.wanted b }
+    ensures writable { IfOk result (CanBeWritten (D.size disk.old)) }
+    ensures made { IfOk result (λ r. ForSome (D.holds disk.old) (λ image.
+        IsMadeOf chosen.now.geometry chosen.now.sector stamp.now image clusters.now request numbers.now log.now r)) }
+    ensures refused { IfErr result (IsPlaceRefused request.wanted) }
+    ensures cause { HasRebuildCause (D.faults disk.old) (D.faults disk.new) result }
+    ensures disk { OnlyReads D.size D.holds D.write_faults D.writes D.tells_stops D.moment D.may_leave D.left_since disk.old disk.new }
+{
     let Request {
         wanted,
         slots,
-        kept: count,
+        kept,
         cleared,
-    } = match ask(alloc, g, &kept, seen.as_slice(), reserved, stamp) {
-        Ok(request) => request,
-        Err(NoMemory) => return Err(RebuildFault::NoMemory),
-    };
-    let numbers = match kept_numbers(alloc, g, disk, &kept, seen.as_slice(), steps) {
-        Ok(numbers) => numbers,
-        Err(fault) => return Err(fault),
-    };
-    let clusters = match judge_names(alloc, g.rootino, kept, slots.as_slice()) {
-        Ok(Judged::Stay(clusters)) => clusters,
-        Ok(Judged::Change(names)) => {
-            return Err(names_fault(alloc, names_due(wanted, slots, names, seen, log)));
-        }
-        Err(NoMemory) => return Err(RebuildFault::NoMemory),
-    };
-    let bytes = match gather_bytes(
-        alloc,
-        disk,
-        chosen,
-        clusters.as_slice(),
-        slots,
-        numbers.as_slice(),
-        log,
-        stamp,
-    ) {
-        Ok(bytes) => bytes,
-        Err(fault) => return Err(fault),
-    };
-    plan_wanted(rt, alloc, disk, &wanted, &bytes, count, cleared, gate)
+    } = request;
+    match gather_bytes(alloc, disk, chosen, clusters, slots, numbers, log, stamp) {
+        Ok(bytes) => plan_wanted(rt, alloc, disk, &wanted, &bytes, kept, cleared, gate),
+        Err(fault) => Err(fault),
+    }
 }
 
 /// A name has to change: the fault that says so, with what is known.
@@ -164,15 +274,10 @@ fn names_fault(alloc: Global, due: NamesDue) -> RebuildFault
 }
 
 /// What is known of a volume in which a name has to change, from its parts.
-fn names_due(
-    wanted: Wanted,
-    slots: Records<SlotWanted>,
-    names: DueNames,
-    seen: Records<SlotSeen>,
-    log: &LogState,
-) -> NamesDue
-    ensures { result ≡ names_due_of wanted slots names seen log.now }
+fn names_due(request: Request, names: DueNames, seen: Records<SlotSeen>, log: &LogState) -> NamesDue
+    ensures { result ≡ names_due_of request.wanted request.slots names seen log.now }
 {
+    let Request { wanted, slots, .. } = request;
     let DueNames {
         files,
         entries,

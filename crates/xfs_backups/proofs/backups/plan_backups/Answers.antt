@@ -1,12 +1,48 @@
 -- The rows and their bank are the plan.
-use Rattle.std.proofs.Common.{◌≡◌, ℕ, ◌<◌, ◌-◌, ◌∙◌, ap, sym, subst, List, length, map, All, arith}
+use Rattle.std.proofs.Common.{◌≡◌, ℕ, ◌<◌, ◌-◌, ◌∙◌, ap, sym, subst, List, Vec, Global, length, map, All, arith}
 use Rattle.xfs_disk.proofs.Reading.{reads_on}
+use Rattle.xfs_backups.proofs.Causes.{later_on, rose_on, same_cause}
+use Rattle.xfs_backups.specs.declared.backups.BackupPlan.{BackupPlan}
 use Rattle.xfs_writing.specs.Writing.{rows_from, writes_of_rows}
 use Rattle.xfs_writing.specs.declared.rows.Row.{Row}
 use Rattle.xfs_writing.proofs.RowSteps.{rows_at, rows_below}
 use Rattle.xfs_backups.proofs.Rows.{filled_all, filled_count, rows_steps}
 use Rattle.xfs_backups.specs.Backups.{with_super}
 use Rattle.xfs_backups.proofs.backups.plan_backups.Goals as goal
+
+pub list_places-requires : goal.list_places-requires
+list_places-requires g c = record { sector = c.requires.sector; stated = c.requires.stated; inside = c.requires.inside }
+
+pub put_primary-requires : goal.put_primary-requires
+put_primary-requires g c = record { sector = c.requires.sector }
+
+pub returns-in-Err : goal.returns-in-Err
+returns-in-Err g c =
+    let failed = c.in-Err.ensures in
+    let D = g.D.Disk in
+    record {
+      plan = tt;
+      places = tt;
+      inside = tt;
+      cause = same_cause (Vec ℕ Global) BackupPlan (D.faults c.args.disk.now) (D.faults c.list_places.new.disk) c.in-Err.fault failed.cause;
+      disk = failed.disk;
+    }
+
+pub returns-in-Err-make : goal.returns-in-Err-make
+returns-in-Err-make g c = record { plan = tt; places = tt; inside = tt; cause = c.in-Ok.ensures.cause; disk = c.in-Ok.ensures.disk }
+
+pub returns-in-Err-fill : goal.returns-in-Err-fill
+returns-in-Err-fill g c =
+    let D = g.D.Disk in
+    let read = c.in-Err-fill.ensures in
+    record {
+      plan = tt;
+      places = tt;
+      inside = tt;
+      cause = rose_on (D.faults c.args.disk.now) (D.faults c.list_places.new.disk) (D.faults c.fill.new.disk) c.in-Ok.ensures.cause read.cause;
+      disk = reads_on D.size D.holds D.write_faults D.writes D.tells_stops D.moment D.may_leave D.left_since c.args.disk.now c.list_places.new.disk c.fill.new.disk
+          c.in-Ok.ensures.disk read.disk;
+    }
 
 pub returns-in-Ok-join-clause-plan : goal.returns-in-Ok-join-clause-plan
 returns-in-Ok-join-clause-plan g c = λ image told.
@@ -49,3 +85,13 @@ returns-clause-disk g c =
     let D = g.D.Disk in
     reads_on D.size D.holds D.write_faults D.writes D.tells_stops D.moment D.may_leave D.left_since c.args.disk.now c.list_places.new.disk c.fill.new.disk
     c.in-Ok.ensures.disk c.in-Ok-fill.ensures.disk
+
+pub returns-in-Ok-join-clause-cause : goal.returns-in-Ok-join-clause-cause
+returns-in-Ok-join-clause-cause g c =
+    let D = g.D.Disk in
+    later_on (D.faults c.args.disk.now) (D.faults c.list_places.new.disk) (D.faults c.fill.new.disk) c.in-Ok.ensures.cause c.in-Ok-fill.ensures.cause
+
+pub returns-clause-cause : goal.returns-clause-cause
+returns-clause-cause g c =
+    let D = g.D.Disk in
+    later_on (D.faults c.args.disk.now) (D.faults c.list_places.new.disk) (D.faults c.fill.new.disk) c.in-Ok.ensures.cause c.in-Ok-fill.ensures.cause

@@ -1,15 +1,10 @@
-use Rattle.std.proofs.Common.{◌≡◌, ℕ, zero, suc, Bool, not, List, [], ◌∷◌, Some, slice_get, slice_index_or, sym, ap₂, ◌∙◌}
+use Rattle.std.proofs.Common.{◌≡◌, Bool, not, ℕ, List, [], Some, slice_get, sym, ap₂, ◌∙◌}
 use Rattle.std.specs.Str.{bytes_eq}
 use Rattle.xfs_disk.specs.Blocks.{Image}
 use Rattle.xfs_writing.specs.declared.rows.Row.{Row}
 use Rattle.xfs_rebuild.specs.Differing.{differs}
+use Rattle.xfs_rebuild.proofs.Judged.{got}
 use Rattle.xfs_rebuild.proofs.differing.differs.Goals as goal
-
--- what stands at a place of a list
-got : {A : Type 0} (xs : List A) (i : ℕ) (x d : A) → slice_get xs i ≡ Some x → slice_index_or xs i d ≡ x
-got [] i x d e = absurd cc
-got (y ∷ ys) zero x d e = cc
-got (y ∷ ys) (suc i) x d e = got ys i x d e
 
 -- a block that was read and one of the bank
 differs_is : (image bank : Image) (r : Row) (block held : List ℕ) (test : Bool) → slice_get image r.at ≡ Some block → slice_get bank r.index ≡ Some held
