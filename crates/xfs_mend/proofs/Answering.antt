@@ -22,7 +22,7 @@ use Rattle.xfs_mend.specs.Asked.{Asked}
 use Rattle.xfs_mend.specs.Due.{IsAnswer, IsDueBehind, IsDueFound, IsDueRepaired, IsDueUnless, IsDueVolume, asks_log, away_if, is_dirty, turned_away, uncounted}
 use Rattle.xfs_mend.specs.Rebuilding.{is_backup}
 use Rattle.xfs_mend.specs.declared.outcome.Outcome.{Outcome}
-use Rattle.xfs_mend.specs.declared.outcome.Outcome.TheVariants.{Clean, Damaged, Repaired}
+use Rattle.xfs_mend.specs.declared.outcome.Outcome.TheVariants.{NoGeometry, Unsupported, DirtyLog, TooLarge, UnsupportedFile, Clean, Damaged, Repaired}
 use Rattle.xfs_mend.specs.declared.outcome.Summary.TheVariants.{Backups}
 
 both_same : (due a b : Outcome) → a ≡ due → b ≡ due → uncounted a ≡ uncounted b
@@ -67,6 +67,21 @@ one_answer o s image (Err fault.NoMemory) a b first second = ap uncounted (first
 not_backups : (count : ℕ) → Clean ≡ Repaired (Backups count) → ⊥
 not_backups count same = cc
 
+not_geometry : Clean ≡ NoGeometry → ⊥
+not_geometry same = cc
+
+not_unsupported : (word bits : ℕ) → Clean ≡ Unsupported word bits → ⊥
+not_unsupported word bits same = cc
+
+not_dirty : Clean ≡ DirtyLog → ⊥
+not_dirty same = cc
+
+not_large : (what count : ℕ) → Clean ≡ TooLarge what count → ⊥
+not_large what count same = cc
+
+not_file : (ino what : ℕ) → Clean ≡ UnsupportedFile ino what → ⊥
+not_file ino what same = cc
+
 not_damaged : (found : Finding) → Clean ≡ Damaged found → ⊥
 not_damaged found same = cc
 
@@ -83,11 +98,11 @@ nothing o g s image None due = refl
 nothing o g s image (Some found) due = absurd (never_unless o.check g s image found due)
 
 not_away : (dirty : Bool) (due : Option ScanFault) (later : Outcome → Type 0) → IsDueBehind (away_if dirty due) later Clean → later Clean
-not_away true due later same = absurd cc
+not_away true due later same = absurd (not_dirty same)
 not_away false None later same = same
 not_away false (Some scan.ReadFault) later same = same
-not_away false (Some (scan.TooLarge what count)) later same = absurd cc
-not_away false (Some (scan.UnsupportedFile ino what)) later same = absurd cc
+not_away false (Some (scan.TooLarge what count)) later same = absurd (not_large what count same)
+not_away false (Some (scan.UnsupportedFile ino what)) later same = absurd (not_file ino what same)
 not_away false (Some scan.NoMemory) later same = same
 
 nothing_in : (o : Asked) (g : Geometry) (s : Stamp) (image : Image) → IsDueVolume o g s image Clean → finding broken_law g image ≡ None
@@ -98,10 +113,10 @@ nothing_in o g s image due =
 
 pub only_clean : (o : Asked) (s : Stamp) (image : Image) (r : Result Vote ElectFault) → IsAnswer o s image r Clean → IsConsistentImage broken_law image
 only_clean o s image (Ok vote) answer = (answer.geometry, consistent broken_law answer.geometry image (nothing_in o answer.geometry s image answer.is))
-only_clean o s image (Err (fault.Unsupported word bits)) answer = cc
-only_clean o s image (Err fault.NoGeometry) answer = cc
-only_clean o s image (Err fault.ReadFault) answer = cc
-only_clean o s image (Err fault.NoMemory) answer = cc
+only_clean o s image (Err (fault.Unsupported word bits)) answer = absurd (not_unsupported word bits answer)
+only_clean o s image (Err fault.NoGeometry) answer = absurd (not_geometry answer)
+only_clean o s image (Err fault.ReadFault) answer = absurd (not_geometry answer)
+only_clean o s image (Err fault.NoMemory) answer = absurd (not_geometry answer)
 
 pub consistent_answer : (o : Asked) (s : Stamp) (g : Geometry) (image : Image) → IsConsistent broken_law g image → turned_away o (volume_of g) image ≡ None
     → IsAnswer o s image (elected image) Clean

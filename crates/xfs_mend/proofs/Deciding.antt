@@ -1,5 +1,5 @@
 -- What is decided of an image.
-use Rattle.std.proofs.Common.{◌≡◌, ◌≢◌, ℕ, ◌-◌, ◌*◌, ◌==◌, Bool, true, false, not, List, length, Option, Some, None, Result, Ok, Err, IfOk, refl, sym, ap, ◌∙◌, subst}
+use Rattle.std.proofs.Common.{◌≡◌, ◌≢◌, ℕ, ◌-◌, ◌*◌, ◌==◌, ◌&&◌, Bool, true, false, not, List, length, Option, Some, None, Result, Ok, Err, IfOk, refl, sym, ap, ◌∙◌, subst}
 use Rattle.std.proofs.lemmas.Bool.{and_from, eq-eqb, eqb-true}
 use Rattle.std.specs.List.{find, range_with_len}
 use Rattle.xfs_disk.specs.Blocks.{Image}
@@ -29,9 +29,6 @@ use Rattle.xfs_backups.specs.Backups.{backup_plan, disagrees, first_disagreeing,
 use Rattle.xfs_mend.specs.Due.{IsAnswer, IsDueBehind, IsDueFound, IsDueRepair, IsDueRepaired, IsDueUnless, IsDueVolume, IsOwed, turned_away}
 use Rattle.xfs_mend.specs.Rebuilding.{IsBackupFound, IsDueRebuild, IsRepairPlan, IsPlannedRebuild, is_backup}
 use Rattle.xfs_writing.specs.Writing.{Writes}
-use Rattle.xfs_mend.specs.Private.Refusing.{IsAdmission}
-use Rattle.xfs_mend.specs.declared.refusals.Admitted.{Admitted}
-use Rattle.xfs_mend.specs.declared.refusals.Admitted.TheVariants.{Seen}
 use Rattle.xfs_mend.specs.declared.outcome.Outcome.{Outcome}
 use Rattle.xfs_mend.specs.declared.outcome.Outcome.TheVariants.{NoGeometry, Unsupported, Damaged, Repaired}
 use Rattle.xfs_mend.specs.Asked.{Asked}
@@ -144,14 +141,16 @@ is_planned g s image vote found e r orphans elects stated same other evidence is
   is = is;
 }
 
--- a volume whose evidence is given is not turned away, and it is its evidence
-pub admitted_stays : (o : Asked) (g : Geometry) (image : Image) (a : Admitted) (e : Evidence) → a ≡ Seen e
-    → IsAdmission o g image a → turned_away o (volume_of g) image ≡ None
-admitted_stays o g image a e is held = (subst (λ (x : Admitted). IsAdmission o g image x) is held).0
+-- a volume that is not rebuilt though it is to be repaired has a backup that does not agree
+pub kept_backup : (check backup : Bool) → (not check && not backup) ≡ false → check ≡ false → backup ≡ true
+kept_backup true backup kept repairs = absurd cc
+kept_backup false true kept repairs = refl
+kept_backup false false kept repairs = absurd cc
 
-pub admitted_evidence : (o : Asked) (g : Geometry) (image : Image) (a : Admitted) (e : Evidence) → a ≡ Seen e
-    → IsAdmission o g image a → IsEvidence g image e
-admitted_evidence o g image a e is held = (subst (λ (x : Admitted). IsAdmission o g image x) is held).1
+pub is_repaired_anew : (check backup : Bool) → (not check && not backup) ≡ true → (check ≡ false) × (backup ≡ false)
+is_repaired_anew true backup asks = absurd cc
+is_repaired_anew false true asks = absurd cc
+is_repaired_anew false false asks = (refl, refl)
 
 -- what is due to a volume that is turned away, and to any other
 pub due_away : (o : Asked) (g : Geometry) (s : Stamp) (image : Image) (outcome : Outcome) → turned_away o (volume_of g) image ≡ Some outcome

@@ -1,6 +1,6 @@
 //! The repair of a volume: its backup superblocks alone, or all of it.
 
-ghost use Rattle.std.specs.Prelude.{◌≡◌, ◌-◌, ◌<◌, ◌≤◌, ◌⊎◌, ℕ, false, true, length, None, Ok, Some};
+ghost use Rattle.std.specs.Prelude.{◌≡◌, ◌-◌, ◌<◌, ◌≤◌, ◌⊎◌, ◌&&◌, ℕ, false, true, not, length, IfOk, None, Ok, Some};
 ghost use Rattle.std.specs.Option.{ForSome};
 ghost use Rattle.xfs_disk.specs.Counts.{raised_times};
 ghost use Rattle.xfs_disk.specs.Blocks.{Image};
@@ -14,6 +14,7 @@ ghost use Rattle.xfs_image.specs.Consistent.{finding};
 ghost use Rattle.xfs_scan.specs.Evidence.{IsEvidence};
 ghost use Rattle.xfs_mend.specs.Asked.{Asked, repair_asked};
 ghost use Rattle.xfs_backups.specs.Backups.{steps_from};
+ghost use Rattle.xfs_backups.specs.Causes.{HasMendCause};
 ghost use Rattle.xfs_mend.specs.Due.{CanCome, IsDueFound, IsDueRepair, IsDueVolume, IsOwed, turned_away};
 ghost use Rattle.xfs_mend.specs.Private.Ending.{Ends};
 ghost use Rattle.xfs_mend.specs.Outcome.{IsRepairCause, IsDurableRepair, RepairLeaves, LeavesOf, StopsBy, StopsOf, blocks_told, is_quiet};
@@ -24,7 +25,7 @@ ghost use Rattle.xfs_mend.specs.declared.outcome.Summary.TheVariants.{Backups};
 use crate::finding::find_first;
 use crate::outcome::{Outcome, RepairOptions, Summary};
 use crate::rebuilding::rebuild;
-use crate::refusals::{Admitted, admit};
+use crate::refusals::{admit, answer_fault};
 use std::alloc::Global;
 use std::thread::Threads;
 use xfs_backups::{MendFault, plan_backups};
@@ -101,7 +102,6 @@ fn repair_disk<R: Threads + Sync, D: Disk, G: Gate>(
 }
 
 /// The same, where a superblock is elected.
-#[tactic(auto, unfolding(crate::specs::Due::IsDueVolume))]
 fn repair_volume<R: Threads + Sync, D: Disk, G: Gate>(
     rt: &R,
     alloc: Global,
@@ -123,36 +123,72 @@ fn repair_volume<R: Threads + Sync, D: Disk, G: Gate>(
     ensures possible { CanCome (repair_asked options.now) result }
     ensures ends { Ends D.size D.holds D.faults D.write_faults D.writes D.tells_stops D.moment D.may_leave D.left_since disk.old disk.new result }
 {
-    let evidence = match admit(rt, alloc, disk, options, &chosen.geometry, gate) {
-        Ok(Admitted::Seen(evidence)) => evidence,
-        Ok(Admitted::DirtyLog) => return Outcome::DirtyLog,
-        Ok(Admitted::TooLarge { what, count }) => return Outcome::TooLarge { what, count },
-        Ok(Admitted::UnsupportedFile { ino, what }) => return Outcome::UnsupportedFile {
-            ino,
-            what,
-        },
-        Err(MendFault::ReadFault) => return Outcome::ReadFault {
-            faults: disk.faults(),
-        },
-        Err(MendFault::NoMemory) => return Outcome::NoMemory,
-    };
-    match find_first(
+    match admit(rt, alloc, disk, options, &chosen.geometry, gate) {
+        Ok(evidence) => repair_seen(rt, alloc, disk, options, chosen, evidence, stamp, gate),
+        Err(outcome) => outcome,
+    }
+}
+
+/// The same, where a volume is not turned away.
+fn repair_seen<R: Threads + Sync, D: Disk, G: Gate>(
+    rt: &R,
+    alloc: Global,
+    disk: &mut D,
+    options: &RepairOptions,
+    chosen: &Elected,
+    evidence: Evidence,
+    stamp: &Stamp,
+    gate: &G,
+) -> Outcome
+    requires accepted { IsAcceptedSector chosen.now.sector }
+    requires sector { length chosen.now.sector ≡ 512 }
+    requires stated { volume_of chosen.now.geometry ≡ stated_volume chosen.now.sector }
+    requires inside { chosen.now.geometry.dblocks ≤ D.size disk.old }
+    requires elects { ForSome (D.holds disk.old) (λ image. elected image ≡ Ok (vote_of chosen.now)) }
+    requires admitted { ForSome (D.holds disk.old) (λ image. turned_away (repair_asked options.now) (volume_of chosen.now.geometry) image ≡ None) }
+    requires evidence { ForSome (D.holds disk.old) (λ image. IsEvidence chosen.now.geometry image evidence) }
+    ensures due { ForSome (D.holds disk.old) (λ image. IsOwed (IsDueVolume (repair_asked options.now) chosen.now.geometry stamp.now image) result) }
+    ensures leaves { ForSome (D.holds disk.old) (λ image. RepairLeaves stamp.now image (D.holds disk.new) result) }
+    ensures stops { D.tells_stops disk.old → ForSome (D.holds disk.old) (λ image.
+        (t : ℕ) (stopped : Image) → t ≤ D.moment disk.old → D.left_since disk.new t stopped → D.left_since disk.old t stopped ⊎ StopsBy stamp.now image result stopped) }
+    ensures possible { CanCome (repair_asked options.now) result }
+    ensures ends { Ends D.size D.holds D.faults D.write_faults D.writes D.tells_stops D.moment D.may_leave D.left_since disk.old disk.new result }
+{
+    match find_seen(rt, alloc, options, disk, chosen, &evidence) {
+        Ok(Some(found)) => answer_found(
+            rt, alloc, disk, options, chosen, found, evidence, stamp, gate,
+        ),
+        Ok(None) => Outcome::Clean,
+        Err(fault) => answer_fault(disk, fault),
+    }
+}
+
+/// The first thing that is wrong with a volume of which this was gathered.
+fn find_seen<R: Threads + Sync, D: Disk>(
+    rt: &R,
+    alloc: Global,
+    options: &RepairOptions,
+    disk: &mut D,
+    chosen: &Elected,
+    evidence: &Evidence,
+) -> Result<Option<Finding>, MendFault>
+    requires sector { length chosen.now.sector ≡ 512 }
+    requires stated { volume_of chosen.now.geometry ≡ stated_volume chosen.now.sector }
+    requires inside { chosen.now.geometry.dblocks ≤ D.size disk.old }
+    requires elects { ForSome (D.holds disk.old) (λ image. elected image ≡ Ok (vote_of chosen.now)) }
+    requires evidence { ForSome (D.holds disk.old) (λ image. IsEvidence chosen.now.geometry image evidence.now) }
+    ensures found { IfOk result (λ found. ForSome (D.holds disk.old) (λ image. found ≡ finding broken_law chosen.now.geometry image)) }
+    ensures cause { HasMendCause (D.faults disk.old) (D.faults disk.new) result }
+    ensures disk { OnlyReads D.size D.holds D.write_faults D.writes D.tells_stops D.moment D.may_leave D.left_since disk.old disk.new }
+{
+    find_first(
         rt,
         alloc,
         options.workers,
         disk,
         chosen,
         evidence.seen.as_seen(),
-    ) {
-        Ok(Some(found)) => answer_found(
-            rt, alloc, disk, options, chosen, found, evidence, stamp, gate,
-        ),
-        Ok(None) => Outcome::Clean,
-        Err(MendFault::ReadFault) => Outcome::ReadFault {
-            faults: disk.faults(),
-        },
-        Err(MendFault::NoMemory) => Outcome::NoMemory,
-    }
+    )
 }
 
 /// What comes of a volume in which this is found first.
@@ -182,13 +218,47 @@ fn answer_found<R: Threads + Sync, D: Disk, G: Gate>(
     ensures possible { CanCome (repair_asked options.now) result }
     ensures ends { Ends D.size D.holds D.faults D.write_faults D.writes D.tells_stops D.moment D.may_leave D.left_since disk.old disk.new result }
 {
+    if asks_rebuild(options, &found) {
+        rebuild(rt, alloc, disk, chosen, evidence, stamp, gate)
+    } else {
+        answer_kept(alloc, disk, options, chosen, found, stamp)
+    }
+}
+
+/// Whether a volume in which this is found first is rebuilt.
+fn asks_rebuild(options: &RepairOptions, found: &Finding) -> bool
+    ensures { result ≡ (not options.now.check && not (is_backup found.now)) }
+{
+    !options.check && !is_backup(found)
+}
+
+/// What comes of a volume that is not rebuilt: it is only checked, or a backup superblock is found.
+fn answer_kept<D: Disk>(
+    alloc: Global,
+    disk: &mut D,
+    options: &RepairOptions,
+    chosen: &Elected,
+    found: Finding,
+    stamp: &Stamp,
+) -> Outcome
+    requires kept { (not options.now.check && not (is_backup found)) ≡ false }
+    requires sector { length chosen.now.sector ≡ 512 }
+    requires stated { volume_of chosen.now.geometry ≡ stated_volume chosen.now.sector }
+    requires inside { chosen.now.geometry.dblocks ≤ D.size disk.old }
+    requires elects { ForSome (D.holds disk.old) (λ image. elected image ≡ Ok (vote_of chosen.now)) }
+    requires admitted { ForSome (D.holds disk.old) (λ image. turned_away (repair_asked options.now) (volume_of chosen.now.geometry) image ≡ None) }
+    requires found { ForSome (D.holds disk.old) (λ image. Some found ≡ finding broken_law chosen.now.geometry image) }
+    ensures due { ForSome (D.holds disk.old) (λ image. IsOwed (IsDueFound (repair_asked options.now) chosen.now.geometry stamp.now image (Some found)) result) }
+    ensures leaves { ForSome (D.holds disk.old) (λ image. RepairLeaves stamp.now image (D.holds disk.new) result) }
+    ensures stops { D.tells_stops disk.old → ForSome (D.holds disk.old) (λ image.
+        (t : ℕ) (stopped : Image) → t ≤ D.moment disk.old → D.left_since disk.new t stopped → D.left_since disk.old t stopped ⊎ StopsBy stamp.now image result stopped) }
+    ensures possible { CanCome (repair_asked options.now) result }
+    ensures ends { Ends D.size D.holds D.faults D.write_faults D.writes D.tells_stops D.moment D.may_leave D.left_since disk.old disk.new result }
+{
     if options.check {
         return Outcome::Damaged(found);
     }
-    if is_backup(&found) {
-        return repair_backups(alloc, disk, &chosen.geometry, &chosen.sector);
-    }
-    rebuild(rt, alloc, disk, chosen, evidence, stamp, gate)
+    repair_backups(alloc, disk, &chosen.geometry, &chosen.sector)
 }
 
 /// Whether what is found is a backup superblock that does not agree.

@@ -5,6 +5,7 @@ use Rattle.xfs_disk.specs.Blocks.{Image}
 use Rattle.xfs_disk.specs.Counts.{raised_times}
 use Rattle.xfs_disk.specs.Faults.{Rose}
 use Rattle.xfs_disk.specs.Reads.{OnlyReads}
+use Rattle.xfs_disk.specs.declared.failed.Failed.{Failed}
 use Rattle.xfs_mkfs.specs.Roots.{inode_root}
 use Rattle.xfs_writing.specs.Stopped.{IsStopped, LeavesJust}
 use Rattle.xfs_writing.specs.Writing.{IsPartly, Writes, written}
@@ -12,6 +13,11 @@ use Rattle.xfs_tools.specs.declared.answer.Answer.{Answer}
 use Rattle.xfs_tools.specs.declared.answer.Answer.TheVariants as answer
 use Rattle.xfs_tools.specs.declared.damaging.DamageFault.{DamageFault}
 use Rattle.xfs_tools.specs.declared.damaging.DamageFault.TheVariants.{ReadFault, WriteFault, NoMemory}
+
+-- a block that is one of so many, or none
+abbrev pub IsWithin : ℕ → ℕ → Result ℕ Failed → Type 0
+IsWithin root blocks (Ok place) = (place ≡ root) × (root < blocks)
+IsWithin root blocks (Err failed) = blocks ≤ root
 
 -- what is written: zeros in a block
 abbrev pub zeros_at : ℕ → Writes

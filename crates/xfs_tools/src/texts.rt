@@ -1,6 +1,6 @@
 //! The line of each answer. Putting one takes no memory.
 
-ghost use Rattle.std.specs.Prelude.{◌≡◌, ◌++◌, Result, codes, false};
+ghost use Rattle.std.specs.Prelude.{◌≡◌, ◌++◌, ◌∷◌, [], Result, codes, false};
 ghost use Rattle.xfs_disk.specs.declared.failed.Failed.{Failed};
 ghost use Rattle.xfs_texts.specs.Lines.{PutsText, line};
 ghost use Rattle.xfs_tools.specs.Answers.{IsTold, output_fault, status_of};
@@ -60,11 +60,7 @@ pub fn put_answer<S: Sink>(sink: &mut S, answer: Answer) -> Result<(), Failed>
     ensures { PutsText (S.took sink.old) (S.took sink.new) (S.faults sink.old) (S.faults sink.new) (text_of answer) result }
 {
     match answer {
-        Answer::Usage { word } => put_line(
-            sink,
-            &[("xfs: usage: word ", Number::Decimal(word as u64))],
-            "\n",
-        ),
+        Answer::Usage { word } => put_one(sink, "xfs: usage: word ", word as u64, "\n"),
         Answer::NoGeometry => put_line(sink, &[], "xfs: no geometry\n"),
         Answer::Unsupported { word, bits } => put_unsupported(sink, word, bits),
         Answer::DirtyLog => put_line(sink, &[], "xfs: dirty log\n"),
@@ -74,29 +70,18 @@ pub fn put_answer<S: Sink>(sink: &mut S, answer: Answer) -> Result<(), Failed>
         Answer::Damaged(finding) => put_finding(sink, finding),
         Answer::Repaired(summary) => put_summary(sink, summary),
         Answer::BadOption { word, item } => put_bad_option(sink, word, item),
-        Answer::TooSmall { what } => put_line(
-            sink,
-            &[("xfs: too small: ", Number::Decimal(what as u64))],
-            "\n",
-        ),
+        Answer::TooSmall { what } => put_one(sink, "xfs: too small: ", what as u64, "\n"),
         Answer::HasVolume => put_line(sink, &[], "xfs: has a volume\n"),
         Answer::BadProto { line, reason } => put_bad_proto(sink, line, reason),
-        Answer::NoFile { line } => put_line(
-            sink,
-            &[("xfs: no file: line ", Number::Decimal(line))],
-            "\n",
-        ),
+        Answer::NoFile { line } => put_one(sink, "xfs: no file: line ", line, "\n"),
         Answer::LibraryFault => put_line(sink, &[], "xfs: library fault\n"),
         Answer::NoRoom(place) => put_no_room(sink, place),
         Answer::Made(made) => put_made(sink, &made),
-        Answer::ReadFault { faults } => put_line(
+        Answer::ReadFault { faults } => put_one(sink, "xfs: read fault: ", faults, "\n"),
+        Answer::WriteFault { written } => put_one(
             sink,
-            &[("xfs: read fault: ", Number::Decimal(faults))],
-            "\n",
-        ),
-        Answer::WriteFault { written } => put_line(
-            sink,
-            &[("xfs: write fault after ", Number::Decimal(written))],
+            "xfs: write fault after ",
+            written,
             " blocks\n",
         ),
         Answer::OutputFault | Answer::Done => put_line(sink, &[], ""),
@@ -106,6 +91,13 @@ pub fn put_answer<S: Sink>(sink: &mut S, answer: Answer) -> Result<(), Failed>
         Answer::Help(tool) => put_help(sink, tool),
         Answer::Version(tool) => put_version(sink, tool),
     }
+}
+
+/// Puts a number with a label before it, and what ends its line.
+fn put_one<S: Sink>(sink: &mut S, label: &str, number: u64, end: &str) -> Result<(), Failed>
+    ensures { PutsText (S.took sink.old) (S.took sink.new) (S.faults sink.old) (S.faults sink.new) (line ((label.now, Number.Decimal number) ∷ []) end.now) result }
+{
+    put_line(sink, &[(label, Number::Decimal(number))], end)
 }
 
 /// Puts the line of a protofile that is none.
@@ -168,21 +160,9 @@ fn put_no_room<S: Sink>(sink: &mut S, place: Unplaced) -> Result<(), Failed>
     ensures { PutsText (S.took sink.old) (S.took sink.new) (S.faults sink.old) (S.faults sink.new) (no_room_text place) result }
 {
     match place {
-        Unplaced::Group(ag) => put_line(
-            sink,
-            &[("xfs: no room: group ", Number::Decimal(ag as u64))],
-            "\n",
-        ),
-        Unplaced::Directory(ino) => put_line(
-            sink,
-            &[("xfs: no room: directory ", Number::Decimal(ino))],
-            "\n",
-        ),
-        Unplaced::File(ino) => put_line(
-            sink,
-            &[("xfs: no room: file ", Number::Decimal(ino))],
-            "\n",
-        ),
+        Unplaced::Group(ag) => put_one(sink, "xfs: no room: group ", ag as u64, "\n"),
+        Unplaced::Directory(ino) => put_one(sink, "xfs: no room: directory ", ino, "\n"),
+        Unplaced::File(ino) => put_one(sink, "xfs: no room: file ", ino, "\n"),
         Unplaced::Chunk => put_line(sink, &[], "xfs: no room: chunk\n"),
         Unplaced::LostFound => put_line(sink, &[], "xfs: no room: lost+found\n"),
     }
@@ -233,7 +213,7 @@ fn put_generated<S: Sink>(sink: &mut S, files: u32) -> Result<(), Failed>
 pub(crate) fn put_damaged<S: Sink>(sink: &mut S, place: u64) -> Result<(), Failed>
     ensures { PutsText (S.took sink.old) (S.took sink.new) (S.faults sink.old) (S.faults sink.new) (damaged_text place) result }
 {
-    put_line(sink, &[("damaged: block=", Number::Decimal(place))], "\n")
+    put_one(sink, "damaged: block=", place, "\n")
 }
 
 /// Puts the numbers of a volume that was made, and what stands before its identifier.
@@ -309,11 +289,7 @@ fn put_summary<S: Sink>(sink: &mut S, summary: Summary) -> Result<(), Failed>
     ensures { PutsText (S.took sink.old) (S.took sink.new) (S.faults sink.old) (S.faults sink.new) (summary_text summary) result }
 {
     match summary {
-        Summary::Backups { count } => put_line(
-            sink,
-            &[("repaired: backups=", Number::Decimal(count))],
-            "\n",
-        ),
+        Summary::Backups { count } => put_one(sink, "repaired: backups=", count, "\n"),
         Summary::Rebuilt {
             blocks,
             kept,

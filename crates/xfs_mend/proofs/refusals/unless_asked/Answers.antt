@@ -1,6 +1,9 @@
 -- The log stands in the way, or not.
-use Rattle.std.proofs.Common.{rules}
+use Rattle.std.proofs.Common.{refl, sym, ◌∙◌}
 use Rattle.xfs_mend.proofs.refusals.unless_asked.Goals as goal
 
-pub returns-else-asks_log : goal.returns-else-asks_log
-returns-else-asks_log c = search rules
+pub returns-then-is_in_the_way : goal.returns-then-is_in_the_way
+returns-then-is_in_the_way c = (sym c.is_in_the_way.ensures ∙ c.if-is_in_the_way.true, refl)
+
+pub returns-else-is_in_the_way : goal.returns-else-is_in_the_way
+returns-else-is_in_the_way c = (sym c.is_in_the_way.ensures ∙ c.if-is_in_the_way.false, refl)

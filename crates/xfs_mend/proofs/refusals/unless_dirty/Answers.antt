@@ -1,43 +1,38 @@
-use Rattle.std.proofs.Common.{rules, ◌≡◌, true, false, Option, sym, ◌∙◌, subst, arith}
+-- The log stands in the way first.
+use Rattle.std.proofs.Common.{◌≡◌, ◌≤◌, Some, sym, subst, arith}
 use Rattle.xfs_geom.specs.Volumes.{volume_of}
-use Rattle.xfs_disk.proofs.Reading.{reads_none}
-use Rattle.xfs_scan.specs.Evidence.{IsEvidence}
-use Rattle.xfs_mend.specs.Due.{asks_log, is_dirty}
 use Rattle.xfs_mend.specs.Asked.{repair_asked}
-use Rattle.xfs_mend.specs.Private.Refusing.{HasAdmitted}
+use Rattle.xfs_mend.specs.Due.{turned_away}
+use Rattle.xfs_mend.specs.Private.Refusing.{IsTurnCause, IsTurned}
 use Rattle.xfs_mend.specs.declared.outcome.Outcome.{Outcome}
-use Rattle.xfs_mend.proofs.Turning.{by_log, not_asked, not_dirty}
+use Rattle.xfs_mend.proofs.Turning.{cause_first, fault_cause, fault_owed, turned_first}
 use Rattle.xfs_mend.proofs.refusals.unless_dirty.Goals as goal
 
-pub returns-then-not-asks_log : goal.returns-then-not-asks_log
-returns-then-not-asks_log g c =
+pub returns-in-Ok : goal.returns-in-Ok
+returns-in-Ok g c =
     let D = g.D.Disk in
     let o = repair_asked c.args.options.now in
+    let before = D.faults c.args.disk.now in
+    let now = D.faults c.read_state.new.disk in
+    let up : before ≤ now = c.in-Ok.ensures.cause in
     record {
-      admitted = λ image told. subst (λ (away : Option Outcome). HasAdmitted away (IsEvidence c.args.g.now image) c.args.refusal)
-          (sym (not_asked o (volume_of c.args.g.now) image (sym c.asks_log.ensures ∙ c.if-not-asks_log.true))) (c.requires.refused image told);
-      cause = omega arith;
-      disk = reads_none D.size D.holds D.write_faults D.writes D.tells_stops D.moment D.may_leave D.left_since c.args.disk.now;
+      turned = λ image told. subst (λ (x : Outcome). IsTurned o c.args.g.now image x) (sym c.first_of.ensures)
+          (turned_first o c.args.g.now image c.in-Ok.stands c.args.refusal (c.in-Ok.ensures.stands image told) (c.requires.refused image told) (c.requires.quiet 0 0 (omega arith)));
+      cause = subst (λ (x : Outcome). IsTurnCause before now x) (sym c.first_of.ensures)
+          (cause_first before now c.in-Ok.stands c.args.refusal up (c.requires.quiet before now up));
+      disk = c.in-Ok.ensures.disk;
     }
 
-pub returns-in-Ok-Dirty : goal.returns-in-Ok-Dirty
-returns-in-Ok-Dirty g c =
+pub returns-in-Err : goal.returns-in-Err
+returns-in-Err g c =
+    let D = g.D.Disk in
     let o = repair_asked c.args.options.now in
-    let asks : asks_log o ≡ true = sym c.asks_log.ensures ∙ c.if-not-asks_log.false in
-    let dirty : is_dirty c.in-Ok-Dirty.field-0 ≡ true = search rules in
+    let now = D.faults c.read_state.new.disk in
+    let fault = c.in-Err.fault in
     record {
-      admitted = λ image told. by_log o (volume_of c.args.g.now) image c.in-Ok-Dirty.field-0 (c.in-Ok-Dirty.ensures.state image told) asks dirty;
-      cause = c.in-Ok-Dirty.ensures.cause;
-      disk = c.in-Ok-Dirty.ensures.disk;
-    }
-
-pub returns-in-Ok-Clean : goal.returns-in-Ok-Clean
-returns-in-Ok-Clean g c =
-    let o = repair_asked c.args.options.now in
-    let clean : is_dirty c.in-Ok-Clean.field-0 ≡ false = search rules in
-    record {
-      admitted = λ image told. subst (λ (away : Option Outcome). HasAdmitted away (IsEvidence c.args.g.now image) c.args.refusal)
-          (sym (not_dirty o (volume_of c.args.g.now) image c.in-Ok-Clean.field-0 (c.in-Ok-Clean.ensures.state image told) clean)) (c.requires.refused image told);
-      cause = c.in-Ok-Clean.ensures.cause;
-      disk = c.in-Ok-Clean.ensures.disk;
+      turned = λ image told. subst (λ (x : Outcome). IsTurned o c.args.g.now image x) (sym c.answer_fault.ensures)
+          (fault_owed (λ due. turned_away o (volume_of c.args.g.now) image ≡ Some due) now fault);
+      cause = subst (λ (x : Outcome). IsTurnCause (D.faults c.args.disk.now) now x) (sym c.answer_fault.ensures)
+          (fault_cause Outcome (D.faults c.args.disk.now) now fault c.in-Err.ensures.cause);
+      disk = c.in-Err.ensures.disk;
     }

@@ -4,16 +4,16 @@ use Rattle.xfs_texts.proofs.Telling.{puts_as}
 use Rattle.xfs_tools.proofs.texts.put_answer.Goals as goal
 
 pub returns-in-Usage : goal.returns-in-Usage
-returns-in-Usage g c = puts_as _ _ _ _ _ _ _ (ap text_of c.in-Usage.is) c.put_line.ensures
+returns-in-Usage g c = puts_as _ _ _ _ _ _ _ (ap text_of c.in-Usage.is) c.put_one.ensures
 
 pub returns-in-NoGeometry : goal.returns-in-NoGeometry
-returns-in-NoGeometry g c = puts_as _ _ _ _ _ _ _ (ap text_of c.in-NoGeometry.is) c.put_line-in-NoGeometry.ensures
+returns-in-NoGeometry g c = puts_as _ _ _ _ _ _ _ (ap text_of c.in-NoGeometry.is) c.put_line.ensures
 
 pub returns-in-ReadFault : goal.returns-in-ReadFault
-returns-in-ReadFault g c = puts_as _ _ _ _ _ _ _ (ap text_of c.in-ReadFault.is) c.put_line-in-ReadFault.ensures
+returns-in-ReadFault g c = puts_as _ _ _ _ _ _ _ (ap text_of c.in-ReadFault.is) c.put_one-in-ReadFault.ensures
 
 pub returns-in-WriteFault : goal.returns-in-WriteFault
-returns-in-WriteFault g c = puts_as _ _ _ _ _ _ _ (ap text_of c.in-WriteFault.is) c.put_line-in-WriteFault.ensures
+returns-in-WriteFault g c = puts_as _ _ _ _ _ _ _ (ap text_of c.in-WriteFault.is) c.put_one-in-WriteFault.ensures
 
 pub returns-in-NoMemory : goal.returns-in-NoMemory
 returns-in-NoMemory g c = puts_as _ _ _ _ _ _ _ (ap text_of c.in-NoMemory.is) c.put_line-in-NoMemory.ensures
@@ -43,7 +43,7 @@ pub returns-in-BadOption : goal.returns-in-BadOption
 returns-in-BadOption g c = puts_as _ _ _ _ _ _ _ (ap text_of c.in-BadOption.is) c.put_bad_option.ensures
 
 pub returns-in-TooSmall : goal.returns-in-TooSmall
-returns-in-TooSmall g c = puts_as _ _ _ _ _ _ _ (ap text_of c.in-TooSmall.is) c.put_line-in-TooSmall.ensures
+returns-in-TooSmall g c = puts_as _ _ _ _ _ _ _ (ap text_of c.in-TooSmall.is) c.put_one-in-TooSmall.ensures
 
 pub returns-in-HasVolume : goal.returns-in-HasVolume
 returns-in-HasVolume g c = puts_as _ _ _ _ _ _ _ (ap text_of c.in-HasVolume.is) c.put_line-in-HasVolume.ensures
@@ -52,7 +52,7 @@ pub returns-in-BadProto : goal.returns-in-BadProto
 returns-in-BadProto g c = puts_as _ _ _ _ _ _ _ (ap text_of c.in-BadProto.is) c.put_bad_proto.ensures
 
 pub returns-in-NoFile : goal.returns-in-NoFile
-returns-in-NoFile g c = puts_as _ _ _ _ _ _ _ (ap text_of c.in-NoFile.is) c.put_line-in-NoFile.ensures
+returns-in-NoFile g c = puts_as _ _ _ _ _ _ _ (ap text_of c.in-NoFile.is) c.put_one-in-NoFile.ensures
 
 pub returns-in-LibraryFault : goal.returns-in-LibraryFault
 returns-in-LibraryFault g c = puts_as _ _ _ _ _ _ _ (ap text_of c.in-LibraryFault.is) c.put_line-in-LibraryFault.ensures
