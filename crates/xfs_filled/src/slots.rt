@@ -10,7 +10,7 @@ ghost use Rattle.xfs_filled.specs.FileTrees.{object_order};
 ghost use Rattle.xfs_filled.specs.Forks.{HasOffset, extents_of_run};
 ghost use Rattle.xfs_filled.specs.Numbers.{number_of};
 ghost use Rattle.xfs_filled.specs.Sites.{IsSite};
-ghost use Rattle.xfs_filled.specs.Slots.{all_slots, core_at, fork_of_place, links_of_made, made_slot, slot_of_index};
+ghost use Rattle.xfs_filled.specs.Slots.{all_slots, core_at, fork_of_place, links_of_made, made_slot, slot_of_index, slot_of_place};
 ghost use Rattle.xfs_filled.specs.Spans.{AreRunsOf, HasSpans};
 
 use crate::directories::MadeDirectory;
@@ -76,10 +76,31 @@ fn slot_at(
     }
     if j < site.nodes.len() + SYSTEM_INODES {
         let k = j.saturating_sub(SYSTEM_INODES);
-        let span = spans[k];
-        return file_slot(alloc, site, stamp, &runs[span.from..span.to], k);
+        return spanned_slot(alloc, site, stamp, runs, spans, k);
     }
     Ok(unused_slot(inode_at(site.geometry, site.starts, j)))
+}
+
+/// What is wanted of the slot of the file at a place, by the spans of the runs.
+fn spanned_slot(
+    alloc: Global,
+    site: &Site<'_>,
+    stamp: &Stamp,
+    runs: &[Run],
+    spans: &[RunSpan],
+    k: usize,
+) -> Result<SlotWanted, NoMemory>
+    requires site { IsSite site.now.geometry.now site.now.starts.now site.now.nodes.now site.now.contents.now site.now.directories.now site.now.order.now }
+    requires file { k < length site.now.nodes.now }
+    requires inside { All (IsRunOf site.now.geometry.now.dblocks) runs.now }
+    requires offsets { All HasOffset runs.now }
+    requires spans { HasSpans (volume_of site.now.geometry.now) site.now.starts.now (length site.now.nodes.now) runs.now spans.now }
+    ensures { IfOk result (λ slot. slot
+        ≡ slot_of_place (volume_of site.now.geometry.now) stamp.now site.now.starts.now site.now.nodes.now site.now.contents.now runs.now k) }
+{
+    let span = spans[k];
+    let own = &runs[span.from..span.to];
+    file_slot(alloc, site, stamp, own, k)
 }
 
 /// Whether an inode of the chunks is one of the two system inodes.

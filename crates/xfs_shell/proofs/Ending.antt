@@ -7,12 +7,13 @@ use Rattle.xfs_disk.specs.Counts.{raised_times}
 use Rattle.xfs_disk.specs.Blocks.{Image}
 use Rattle.xfs_geom.specs.Volumes.{Volume}
 use Rattle.xfs_commands.specs.Commands.{Effect, Put, Session}
-use Rattle.xfs_shell.specs.Ends.{HasLineCause, StandsBehind, IsPrefixPut, IsHalted, LeavesLine, PrintsLine}
+use Rattle.xfs_shell.specs.Ends.{HasCounts, HasLineCause, StandsBehind, IsPrefixPut, IsHalted, LeavesLine, PrintsLine}
 use Rattle.xfs_shell.specs.Running.{SessionRun, after_line, attempts, begun, block_at_place, count_put, extended, image_after, shelled}
 use Rattle.xfs_commands.specs.Cursors.{is_quit}
 use Rattle.xfs_commands.specs.Verbs.{word_at}
 use Rattle.xfs_shell.specs.LineParts.{line_parts}
-use Rattle.xfs_shell.specs.Sessions.{IsWrittenBehind, LeavesAtStop, raised_put}
+use Rattle.xfs_shell.specs.Sessions.{IsRunCommand, IsWrittenBehind, LeavesAtStop, raised_put}
+use Rattle.xfs_shell.specs.Steps.{HasStopCause}
 use Rattle.xfs_shell.specs.Shells.{HasSessionCause, IsEarly, IsGoing, IsOfLines, LeavesDisk, Prints, outcome_behind, stopped_outcome}
 use Rattle.xfs_shell.proofs.Stepping.{HasEndCount, HasStopCount}
 use Rattle.xfs_disk.specs.Faults.{Rose}
@@ -306,3 +307,32 @@ early_first k (end.Stopped stop.ReadFault) early = (early, tt)
 early_first k (end.Stopped (stop.WriteFault written)) early = absurd early
 early_first k (end.Stopped stop.NoMemory) early = (early, tt)
 early_first k end.OutputFault early = absurd early
+
+-- the counts of faults behind a line
+pub counts_of : (f f' w w' p p' : ℕ) (why : Option Stop) → HasStopCause f f' w w' why → p ≤ p' → HasCounts f f' w w' p p'
+counts_of f f' w w' p p' None cause put = record { reads = cause.0; writes = cause.1; puts = put }
+counts_of f f' w w' p p' (Some stop.ReadFault) cause put = record { reads = cause.0.0; writes = cause.1; puts = put }
+counts_of f f' w w' p p' (Some (stop.WriteFault written)) cause put = record { reads = cause.0; writes = cause.1.0; puts = put }
+counts_of f f' w w' p p' (Some stop.NoMemory) cause put = record { reads = cause.0; writes = cause.1; puts = put }
+
+-- why a line was stopped
+pub line_cause : (f f' w w' p p' : ℕ) (why : Stop) → HasStopCause f f' w w' (Some why) → HasLineCause {T = Verdict} f f' w w' p p' (Err (end.Stopped why))
+line_cause f f' w w' p p' stop.ReadFault cause = cause.0
+line_cause f f' w w' p p' (stop.WriteFault written) cause = cause.1
+line_cause f f' w w' p p' stop.NoMemory cause = tt
+
+-- where a command that was run stands
+pub stands_behind : (e : Effect) (image : Image) (verdict : Verdict) (old new : List ℕ) (session : Session) (now : Option Image) (writes writes_now : ℕ)
+    → IsRunCommand e image verdict old new session now writes writes_now → StandsBehind e image verdict session now writes writes_now
+stands_behind e image verdict old new session now writes writes_now run =
+    record { verdict_is = run.verdict_is; session_is = run.session_is; image_is = run.image_is; writes_are = run.writes_are }
+
+-- a part of its text was put
+pub part_put : (before bytes text : List ℕ) (took : Option (List ℕ)) → bytes ≡ text → (n : ℕ) × (n ≤ length bytes) × (took ≡ Some (before ++ take n bytes))
+    → IsPrefixPut before 0 text took
+part_put before bytes text took is part = (
+  part.0,
+  omega arith,
+  subst (λ (t : List ℕ). part.0 ≤ length t) is part.1,
+  part.2 ∙ ap (λ (t : List ℕ). Some (before ++ take part.0 t)) is,
+)

@@ -7,7 +7,7 @@ use Rattle.xfs_commands.specs.Verbs.{accepted}
 use Rattle.xfs_commands.specs.declared.commands.Verb.{Verb}
 use Rattle.xfs_commands.specs.declared.commands.Verb.TheVariants as verb
 use Rattle.xfs_shell.specs.LineParts.{is_cut, is_some, line_parts}
-use Rattle.xfs_shell.specs.Running.{is_quit_verb, is_quit_words, is_push_verb, pushes_in, until_quit}
+use Rattle.xfs_shell.specs.Running.{is_quit_verb, is_quit_words, is_push, is_push_verb, pushes_in, until_quit}
 use Rattle.xfs_shell.specs.Shells.{input_lines, most_of}
 use Rattle.xfs_shell.specs.declared.line_parts.Cut.{Cut}
 use Rattle.xfs_shell.specs.declared.line_parts.Cut.TheVariants.{Blanks, LineFeeds}
@@ -23,6 +23,11 @@ pub quit_no_push : (words : List (List ℕ)) → is_quit_words words ≡ true �
 quit_no_push [] is = refl
 quit_no_push (name ∷ args) is =
     ap (λ (o : Option Verb). if is_push_verb o then suc (pushes_in args) else 0) (quit_is (accepted name (length args)) is)
+
+-- and is no push
+pub quit_not_push : (words : List (List ℕ)) → is_quit_words words ≡ true → is_push words ≡ false
+quit_not_push [] is = absurd (true≢false (sym is))
+quit_not_push (name ∷ args) is = ap (λ (o : Option Verb). is_push_verb o) (quit_is (accepted name (length args)) is)
 
 -- a line whose command did not end the session is no quit
 pub no_quit : (words : List (List ℕ)) (ends : Bool) → (is_quit_words words ≡ true → ends ≡ true) → ends ≡ false → is_quit_words words ≡ false

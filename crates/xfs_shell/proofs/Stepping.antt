@@ -68,30 +68,49 @@ module _ {D : Type 0} (size : D → ℕ) (holds : D → Option Image) (faults wr
   read_then a b (Ok verdict) read = read
   read_then a b (Err e) read = record { cause = read.cause; no_write_fault = tt; one_read = read.one_read; only_reads = read.only_reads }
 
-  causes_on : (f g w v u : ℕ) → (why : Option Stop) → f ≤ g → w ≤ v → HasStopCause g g v u why → HasStopCause f g w u why
-  causes_on f g w v u None fg wv cause = (omega (arith, fg), omega (arith, wv, cause.1))
-  causes_on f g w v u (Some stop.ReadFault) fg wv cause = ((omega (arith, fg), omega (arith, cause.0.1)), omega (arith, wv, cause.1))
-  causes_on f g w v u (Some (stop.WriteFault written)) fg wv cause = (omega (arith, fg), (omega (arith, wv, cause.1.0), omega (arith, wv, cause.1.1)))
-  causes_on f g w v u (Some stop.NoMemory) fg wv cause = (omega (arith, fg), omega (arith, wv, cause.1))
+  causes_join : (f g h w v u : ℕ) → (why : Option Stop) → f ≤ g → w ≤ v → HasStopCause g h v u why → HasStopCause f h w u why
+  causes_join f g h w v u None fg wv cause = (omega (arith, fg, cause.0), omega (arith, wv, cause.1))
+  causes_join f g h w v u (Some stop.ReadFault) fg wv cause = ((omega (arith, fg, cause.0.0), omega (arith, fg, cause.0.1)), omega (arith, wv, cause.1))
+  causes_join f g h w v u (Some (stop.WriteFault written)) fg wv cause = (omega (arith, fg, cause.0), (omega (arith, wv, cause.1.0), omega (arith, wv, cause.1.1)))
+  causes_join f g h w v u (Some stop.NoMemory) fg wv cause = (omega (arith, fg, cause.0), omega (arith, wv, cause.1))
 
   -- a block was read, and then one was written
-  pub read_written : (a b c : D) → (why : Option Stop)
+  pub read_put : (a b c : D) → (why : Option Stop)
       → IsOneRead size holds faults write_faults reads writes tells_stops moment may_leave left_since a b None
-      → IsWritten size holds faults write_faults reads writes tells_stops may_leave true b c why → reads c ≡ reads b → faults c ≡ faults b
+      → IsWritten size holds faults write_faults reads writes tells_stops may_leave true b c why → reads c ≡ reads b
       → IsWritten size holds faults write_faults reads writes tells_stops may_leave true a c why
-  read_written a b c why read put same_reads same_faults = record {
+  read_put a b c why read put same_reads = record {
     allowed = refl;
     same_size = put.same_size ∙ read.only_reads.same_size;
     tells = λ told. put.tells (read.only_reads.tells told);
     cause =
-        let from_b : HasStopCause (faults b) (faults b) (write_faults b) (write_faults c) why =
-        subst (λ (f : ℕ). HasStopCause (faults b) f (write_faults b) (write_faults c) why) same_faults put.cause in
-        subst (λ (f : ℕ). HasStopCause (faults a) f (write_faults a) (write_faults c) why) (sym same_faults)
-        (causes_on (faults a) (faults b) (write_faults a) (write_faults b) (write_faults c) why read.cause.0 read.cause.1 from_b);
+        causes_join (faults a) (faults b) (faults c) (write_faults a) (write_faults b) (write_faults c) why read.cause.0 read.cause.1 put.cause;
     one_read = omega (arith, read.one_read, same_reads);
     one_write = subst (λ (n : ℕ). CountsStep n (writes c) why) read.only_reads.same_writes put.one_write;
     kept = λ done told. put.kept done (read.only_reads.tells told);
   }
+
+  -- nothing was done, as a call says of its outcome
+  pub rested : (a : D) → (result : Result Verdict NoMemory) → (ended : Result Verdict Stop) → ended ≡ stopped result
+      → IsOneRead size holds faults write_faults reads writes tells_stops moment may_leave left_since a a (stop_told ended)
+  rested a result ended is =
+      subst (λ (r : Result Verdict Stop). IsOneRead size holds faults write_faults reads writes tells_stops moment may_leave left_since a a (stop_told r)) (sym is)
+      (rests a result)
+
+  -- and nothing but a read was
+  pub read_ended : (a b : D) → (result : Result Verdict NoMemory) → (ended : Result Verdict Stop) → ended ≡ stopped result
+      → IsOneRead size holds faults write_faults reads writes tells_stops moment may_leave left_since a b None
+      → IsOneRead size holds faults write_faults reads writes tells_stops moment may_leave left_since a b (stop_told ended)
+  read_ended a b result ended is read =
+      subst (λ (r : Result Verdict Stop). IsOneRead size holds faults write_faults reads writes tells_stops moment may_leave left_since a b (stop_told r)) (sym is)
+      (read_then a b result read)
+
+  -- why a command was stopped
+  pub step_cause : (may : Bool) → (a b : D) → (why : Option Stop)
+      → IsStep size holds faults write_faults reads writes tells_stops moment may_leave left_since may a b why
+      → HasStopCause (faults a) (faults b) (write_faults a) (write_faults b) why
+  step_cause may a b why (inl read) = read.cause
+  step_cause may a b why (inr put) = put.cause
 
   -- a command that only reads is one
   pub reads_step : (may : Bool) → (a b : D) → (why : Option Stop)

@@ -181,8 +181,10 @@ fn run_set<D: Disk>(
         Ok(verdict) => verdict,
         Err(NoMemory) => return Err(Stop::NoMemory),
     };
-    if verdict != Verdict::Done {
-        return Ok(verdict);
+    match verdict {
+        Verdict::Done => {}
+        Verdict::Refused => return Ok(verdict),
+        Verdict::Quit => return Ok(verdict),
     }
     match put_block(disk, place.block, &block) {
         Ok(()) => Ok(verdict),

@@ -1,13 +1,11 @@
-use Rattle.std.proofs.Common.{◌≡◌, ◌+◌, ◌==◌, length, get_or, slice_range, arith, sym, ◌∙◌}
-use Rattle.std.specs.List.{flat_map}
+use Rattle.std.proofs.Common.{◌≡◌, ◌+◌, ◌==◌, length, arith, refl, sym, ◌∙◌}
 use Rattle.std.proofs.lemmas.Bool.{le-ltb, lt-ltb}
 use Rattle.xfs_empty.proofs.Results.{ok_as}
 use Rattle.xfs_geom.specs.Volumes.{volume_of}
 use Rattle.xfs_render.specs.declared.wanted_slots.SlotWanted.{SlotWanted}
-use Rattle.xfs_filled.specs.Forks.{extents_of_run}
+use Rattle.xfs_filled.specs.Forks.{owned_by}
 use Rattle.xfs_filled.specs.Numbers.{number_of}
-use Rattle.xfs_filled.specs.Slots.{core_at, fork_of_place, made_slot, slot_of_index}
-use Rattle.xfs_filled.specs.Spans.{no_span}
+use Rattle.xfs_filled.specs.Slots.{slot_of_index, slot_of_place}
 use Rattle.xfs_filled.proofs.Slotted.{neither, slot_is, system_is, unused_is}
 use Rattle.xfs_filled.proofs.slots.slot_at.Goals as goal
 
@@ -35,13 +33,10 @@ returns-then-j-site c =
     let runs = c.args.runs.now in
     let none = neither (c.args.j == 1) (c.args.j == 2) (sym c.is_system.ensures ∙ c.if-is_system.false) in
     let k = c.saturating_sub-k.result in
-    let span = get_or c.args.spans.now k no_span in
-    let own = slice_range runs span.from span.to in
     let less = c.if-j-site.true in
-    let at = c.saturating_sub-k.ensures in
     ok_as
-    (λ (w : SlotWanted). w ≡ made_slot (number_of v starts k) (core_at v c.args.stamp.now starts ns k) (fork_of_place v starts ns contents (flat_map (extents_of_run v) own) k))
-    (λ (w : SlotWanted). w ≡ slot_of_index v c.args.stamp.now starts ns contents runs c.args.j) c.file_slot.result
-    (λ w is. slot_is v c.args.stamp.now starts ns contents runs c.args.j k own w none.0 none.1 (lt-ltb c.args.j (length ns + 2) less) at
-    (c.requires.spans.each k (omega (arith, less, at))).are is)
-    c.file_slot.ensures
+    (λ (w : SlotWanted). w ≡ slot_of_place v c.args.stamp.now starts ns contents runs k)
+    (λ (w : SlotWanted). w ≡ slot_of_index v c.args.stamp.now starts ns contents runs c.args.j) c.spanned_slot.result
+    (λ w is. slot_is v c.args.stamp.now starts ns contents runs c.args.j k (owned_by (number_of v starts k) runs) w none.0 none.1
+    (lt-ltb c.args.j (length ns + 2) less) c.saturating_sub-k.ensures refl is)
+    c.spanned_slot.ensures
