@@ -4,3 +4,4 @@ pub mod Longest
 pub mod Split
 pub mod Levels
 pub mod Found
+pub mod Members

@@ -8,3 +8,4 @@ pub mod Renaming
 pub mod Joined
 pub mod Deciding
 pub mod Holding
+pub mod Staying

@@ -3,3 +3,4 @@ mod Refusing
 mod Rounds
 mod Views
 mod Numbers
+pub mod Counts

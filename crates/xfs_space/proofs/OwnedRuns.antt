@@ -1,7 +1,7 @@
 -- Owned runs, one step after the other.
-use Rattle.std.proofs.Common.{◌≡◌, ℕ, Bool, true, false, ◌+◌, ◌-◌, ◌*◌, ◌<◌, ◌≤◌, ◌==◌, if◌then◌else◌, List, [], ◌∷◌, ◌++◌, length, map, take, drop, get_or, refl, sym, ◌∙◌, ap, ap₂, arith, add-one, drop-cons, append_assoc}
+use Rattle.std.proofs.Common.{◌≡◌, ℕ, Bool, true, false, ◌+◌, ◌-◌, ◌*◌, ◌<◌, ◌≤◌, ◌^◌, ◌==◌, if◌then◌else◌, List, [], ◌∷◌, ◌++◌, length, map, take, drop, get_or, refl, sym, ◌∙◌, ap, ap₂, arith, add-one, drop-cons, append_assoc}
 use Rattle.std.specs.List.{flat_map, list_any}
-use Rattle.std.proofs.lemmas.List.{append-nil, drop_all, take_all, length-drop}
+use Rattle.std.proofs.lemmas.List.{append-nil, drop_all, drop_more, take_all, length-drop}
 use Rattle.xfs_geom.specs.Volumes.{Volume}
 use Rattle.xfs_geom.specs.declared.records.Run.{Run}
 use Rattle.xfs_volume.specs.declared.groups.GroupRec.{GroupRec}
@@ -77,3 +77,36 @@ joined empty a b c groups files log none put_groups put_log put_files =
     put_files
     ∙ ap (λ (rs : List Run). rs ++ files) (put_log ∙ ap (λ (rs : List Run). rs ++ log ∷ []) (put_groups ∙ ap (λ (rs : List Run). rs ++ groups) none))
     ∙ append_assoc groups (log ∷ []) files
+
+-- one more run is put with the others, and the last
+pub run_next : {A : Type 0} (f : A → Run) (xs : List A) (i : ℕ) (d : A) (r : Run) (runs new whole : List Run) → i < length xs → r ≡ f (get_or xs i d) → new ≡ runs ++ r ∷ []
+    → runs ++ map f (drop i xs) ≡ whole → new ++ map f (drop (i + 1) xs) ≡ whole
+run_next f xs i d r runs new whole h made put left =
+    ap (λ (rs : List Run). rs ++ map f (drop (i + 1) xs)) put
+    ∙ append_assoc runs (r ∷ []) (map f (drop (i + 1) xs))
+    ∙ ap (λ (x : Run). runs ++ x ∷ map f (drop (i + 1) xs)) made
+    ∙ ap (λ ys. runs ++ map f ys) (sym (drop_more xs i d h))
+    ∙ left
+
+pub runs_end : {A : Type 0} (f : A → Run) (xs : List A) (i : ℕ) (runs whole : List Run) → length xs ≤ i → runs ++ map f (drop i xs) ≡ whole → runs ≡ whole
+runs_end f xs i runs whole end left = sym (append-nil runs) ∙ ap (λ ys. runs ++ map f ys) (sym (drop_all i xs end)) ∙ left
+
+pub files_end : {A : Type 0} (f : A → List Run) (xs : List A) (i : ℕ) (runs whole : List Run) → length xs ≤ i → runs ++ flat_map f (drop i xs) ≡ whole → runs ≡ whole
+files_end f xs i runs whole end left = sym (append-nil runs) ∙ ap (λ ys. runs ++ flat_map f ys) (sym (drop_all i xs end)) ∙ left
+
+pub groups_end : (n base i : ℕ) (gs : List GroupRec) (runs whole : List Run) → length gs ≤ i → runs ++ groups_runs n base (drop i gs) ≡ whole → runs ≡ whole
+groups_end n base i gs runs whole end left = sym (append-nil runs) ∙ ap (λ ys. runs ++ groups_runs n base ys) (sym (drop_all i gs end)) ∙ left
+
+-- the runs of the first group begin at block 0
+pub groups_start : (n : ℕ) (gs : List GroupRec) (runs : List Run) → runs ++ groups_runs n (0 * n) gs ≡ runs ++ groups_runs n 0 gs
+groups_start n gs runs = let none : 0 * n ≡ 0 = omega arith in ap (λ (base : ℕ). runs ++ groups_runs n base gs) none
+
+-- numbers of blocks and of groups are small
+pub small_start : (start dblocks : ℕ) → start < dblocks → dblocks ≤ 2 ^ 26 → start < 2 ^ 26
+small_start start dblocks inside small = omega (arith, inside, small)
+
+pub of_volume : (i n count : ℕ) → i < n → n ≡ count → i < count
+of_volume i n count h is = omega (arith, h, is)
+
+pub low_offset : (offset count : ℕ) → offset + count < 2 ^ 54 → offset < 2 ^ 54
+low_offset offset count h = omega (arith, h)

@@ -1,10 +1,12 @@
-use Rattle.std.proofs.Common.{◌+◌, ◌++◌, ◌∙◌, ap, length, map, take, arith}
+use Rattle.std.proofs.Common.{ℕ, ◌≤◌, ◌+◌, ◌++◌, ◌∙◌, ap, sym, subst, length, map, take, arith}
 use Rattle.std.proofs.lemmas.List.{take_all}
 use Rattle.xfs_geom.specs.Volumes.{volume_of}
 use Rattle.xfs_slots.specs.Facts.{slot_fact}
 use Rattle.xfs_slots.specs.Gathered.{gathered, gathered_both, held_in, inodes_of_blocks}
 use Rattle.xfs_slots.proofs.Turns.{facts_joined, facts_start, held_joined, held_start, inodes_split}
 use Rattle.xfs_disk.proofs.Reading.{reads_none, reads_on}
+use Rattle.xfs_slots.proofs.Causes.{caused_on}
+use Rattle.xfs_scan.proofs.Counts.{counted, later}
 use Rattle.xfs_scan.proofs.scan.scan_blocks.Goals as goal
 
 pub loop-start-init : goal.loop-start-init
@@ -41,9 +43,9 @@ loop-start-preserved g c =
       inodes = λ image told. held_joined v image (inodes_of_blocks v (take start blocks)) (inodes_of_blocks v round) (inodes_of_blocks v (take (start + length round) blocks))
           (held_in c.args.inodes.now) (held_in c.loop-start.inodes) (held_in c.scan_round.new.inodes) split (before.inodes image told)
           (c.in-Ok.ensures.inodes image (before.disk.same_contents ∙ told));
-      later = let up = before.later in let cause = c.in-Ok.ensures.cause in omega (arith, up, cause);
+      later = later (D.faults c.args.disk.now) (D.faults c.loop-start.disk) (D.faults c.scan_round.new.disk) before.later c.in-Ok.ensures.cause;
       disk = reads_on D.size D.holds D.write_faults D.writes D.tells_stops D.moment D.may_leave D.left_since c.args.disk.now c.loop-start.disk c.scan_round.new.disk before.disk c.in-Ok.ensures.disk;
-      reads = let up = before.reads in let more = c.in-Ok.ensures.reads in omega (arith, up, more);
+      reads = counted (D.reads c.args.disk.now) (D.reads c.loop-start.disk) (D.reads c.scan_round.new.disk) c.args.steps.now c.loop-start.steps c.scan_round.new.steps before.reads c.in-Ok.ensures.reads;
     }
 
 pub returns-clause-slots : goal.returns-clause-slots
@@ -59,3 +61,28 @@ returns-clause-inodes g c = λ image told.
     let blocks = c.args.blocks.now in
     c.loop-start.invariant.inodes image told
     ∙ ap (λ blocks. gathered_both (held_in c.args.inodes.now) (gathered v image (inodes_of_blocks v blocks))) (take_all c.loop-start.start blocks (omega arith))
+
+pub scan_round-requires-clause-inside : goal.scan_round-requires-clause-inside
+scan_round-requires-clause-inside g c = λ κs lives. subst (λ (n : ℕ). c.args.g.now.dblocks ≤ n) (sym c.loop-start.invariant.disk.same_size) c.requires.inside
+
+pub returns-clause-cause : goal.returns-clause-cause
+returns-clause-cause g c = c.loop-start.invariant.later
+
+pub returns-clause-disk : goal.returns-clause-disk
+returns-clause-disk g c = c.loop-start.invariant.disk
+
+pub returns-clause-reads : goal.returns-clause-reads
+returns-clause-reads g c = c.loop-start.invariant.reads
+
+pub returns-in-Err : goal.returns-in-Err
+returns-in-Err g c =
+    let D = g.D.Disk in
+    let before = c.loop-start.invariant in
+    let failed = c.in-Err.ensures in
+    record {
+      slots = tt;
+      inodes = tt;
+      cause = caused_on (D.faults c.args.disk.now) (D.faults c.loop-start.disk) (D.faults c.scan_round.new.disk) c.in-Err.fault before.later failed.cause;
+      disk = reads_on D.size D.holds D.write_faults D.writes D.tells_stops D.moment D.may_leave D.left_since c.args.disk.now c.loop-start.disk c.scan_round.new.disk before.disk failed.disk;
+      reads = counted (D.reads c.args.disk.now) (D.reads c.loop-start.disk) (D.reads c.scan_round.new.disk) c.args.steps.now c.loop-start.steps c.scan_round.new.steps before.reads failed.reads;
+    }

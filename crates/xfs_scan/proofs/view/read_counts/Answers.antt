@@ -1,0 +1,43 @@
+use Rattle.xfs_scan.proofs.Counts.{counted_none, counted_once}
+use Rattle.xfs_scan.proofs.view.read_counts.Goals as goal
+
+pub returns-in-Ok-clause-cause : goal.returns-in-Ok-clause-cause
+returns-in-Ok-clause-cause g c = c.in-Ok.ensures.cause
+
+pub returns-in-Ok-clause-disk : goal.returns-in-Ok-clause-disk
+returns-in-Ok-clause-disk g c = record {
+  same_size = c.in-Ok.ensures.size;
+  same_contents = c.in-Ok.ensures.holds;
+  same_write_faults = c.in-Ok.ensures.write_faults;
+  same_writes = c.in-Ok.ensures.writes;
+  tells = c.in-Ok.ensures.tells;
+  leaves = c.in-Ok.ensures.stops;
+  past = c.in-Ok.ensures.past;
+}
+
+pub returns-in-Ok-clause-reads : goal.returns-in-Ok-clause-reads
+returns-in-Ok-clause-reads g c =
+    let D = g.D.Disk in
+    counted_once (D.reads c.args.disk.now) (D.reads c.read.new.self) c.args.steps.now c.tick.new.self c.in-Ok.ensures.reads c.tick.ensures
+
+pub returns-in-Ok-clause-ticks : goal.returns-in-Ok-clause-ticks
+returns-in-Ok-clause-ticks g c = c.tick.ensures
+
+pub returns-in-Err : goal.returns-in-Err
+returns-in-Err g c =
+    let D = g.D.Disk in
+    record {
+      counts = tt;
+      cause = c.in-Err.ensures.cause;
+      disk = record {
+        same_size = c.in-Err.ensures.size;
+        same_contents = c.in-Err.ensures.holds;
+        same_write_faults = c.in-Err.ensures.write_faults;
+        same_writes = c.in-Err.ensures.writes;
+        tells = c.in-Err.ensures.tells;
+        leaves = c.in-Err.ensures.stops;
+        past = c.in-Err.ensures.past;
+      };
+      reads = counted_none (D.reads c.args.disk.now) (D.reads c.read.new.self) c.args.steps.now c.tick.new.self c.in-Err.ensures.reads c.tick.ensures;
+      ticks = c.tick.ensures;
+    }
