@@ -48,3 +48,22 @@ rows_more of xs i d old new all low added held =
     ap (λ ys. ys ++ flat_map of (drop (i + 1) xs)) added
     ∙ append_assoc old (of (get_or xs i d)) (flat_map of (drop (i + 1) xs))
     ∙ ap (λ ys. old ++ flat_map of ys) (sym (drop_more xs i d low)) ∙ held
+
+-- the same for an item that is named
+pub rows_item : {A B : Type 0} (of : B → List A) (xs : List B) (i : ℕ) (x : B) (old new all : List A) → i < length xs → x ≡ get_or xs i x → new ≡ old ++ of x
+    → old ++ flat_map of (drop i xs) ≡ all → new ++ flat_map of (drop (i + 1) xs) ≡ all
+rows_item of xs i x old new all low is added held = rows_more of xs i x old new all low (added ∙ ap (λ y. old ++ of y) is) held
+
+-- no row is left
+pub rows_end : {A B : Type 0} (of : B → List A) (xs : List B) (i : ℕ) (old all : List A) → length xs ≤ i → old ++ flat_map of (drop i xs) ≡ all → old ≡ all
+rows_end of xs i old all end held = sym (append-nil old) ∙ ap (λ ys. old ++ flat_map of ys) (sym (drop_all i xs end)) ∙ held
+
+-- items that give one each, of which one more was added, and where none is left
+pub items_more : {A B : Type 0} (of : B → A) (xs : List B) (i : ℕ) (d : B) (old new all : List A) → i < length xs → new ≡ old ++ of (get_or xs i d) ∷ [] → old ++ map of (drop i xs) ≡ all → new ++ map of (drop (i + 1) xs) ≡ all
+items_more of xs i d old new all low added held =
+    ap (λ ys. ys ++ map of (drop (i + 1) xs)) added
+    ∙ append_assoc old (of (get_or xs i d) ∷ []) (map of (drop (i + 1) xs))
+    ∙ ap (λ ys. old ++ map of ys) (sym (drop_more xs i d low)) ∙ held
+
+pub items_end : {A B : Type 0} (of : B → A) (xs : List B) (i : ℕ) (old all : List A) → length xs ≤ i → old ++ map of (drop i xs) ≡ all → old ≡ all
+items_end of xs i old all end held = sym (append-nil old) ∙ ap (λ ys. old ++ map of ys) (sym (drop_all i xs end)) ∙ held

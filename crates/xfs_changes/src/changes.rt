@@ -1,8 +1,9 @@
 //! What names change in slots.
 
-ghost use Rattle.std.specs.Prelude.{◌≡◌, ℕ, ◌+◌, ◌==◌, ◌++◌, [], ◌∷◌, if◌then◌else◌, map, IfOk, OnOk};
+ghost use Rattle.std.specs.Prelude.{◌≡◌, ℕ, ◌+◌, ◌==◌, ◌||◌, ◌++◌, [], ◌∷◌, if◌then◌else◌, map, IfOk, OnOk};
 ghost use Rattle.std.specs.List.{flat_map, range_with_len};
 ghost use Rattle.std.specs.List.Sorted.{IsNonDecreasingBy};
+ghost use Rattle.std.specs.Option.{is_some};
 ghost use Rattle.xfs_geom.specs.Volumes.{volume_of};
 ghost use Rattle.xfs_volume.specs.declared.files.FileRec.{FileRec};
 ghost use Rattle.xfs_changes.specs.declared.forks.DirectoryFork.{DirectoryFork};
@@ -88,12 +89,21 @@ fn push_change(
     ensures { OnOk result (changes.new.items ≡ changes.old.items ++ (let c = change_of (volume_of ways.now.g.now) ways.now.stamp.now ways.now.lost.now ways.now.files.now ways.now.forks.now (ino, due) in
         if changes_something (volume_of ways.now.g.now) ways.now.stamp.now ways.now.lost.now ways.now.files.now ways.now.forks.now c then c ∷ [] else [])) }
 {
+    let nlink = links_set(links_held_at(ways.files, near, ino), due)?;
+    let fork = fork_at(alloc, ways.forks, ino)?;
     let change = SlotChange {
         ino,
         base: base_made(ways, ino),
-        fork: fork_at(alloc, ways.forks, ino)?,
-        nlink: links_set(links_held_at(ways.files, near, ino), due)?,
+        fork,
+        nlink,
     };
+    push_changed(change, changes)
+}
+
+/// Adds a change, where it changes something.
+fn push_changed(change: SlotChange, changes: &mut Vec<SlotChange>) -> Result<(), NoMemory>
+    ensures { OnOk result (changes.new.items ≡ changes.old.items ++ (if is_some change.base || (is_some change.fork || is_some change.nlink) then change ∷ [] else [])) }
+{
     if change.base.is_some() || change.fork.is_some() || change.nlink.is_some() {
         changes.push(change)?;
     }

@@ -1,12 +1,15 @@
 //! All names that are wanted.
 
 ghost use Rattle.std.specs.Prelude.{◌≡◌, ◌<◌, ◌≤◌, ◌^◌, map, length, true, false, IfOk};
+ghost use Rattle.std.specs.List.Sorted.{IsNonDecreasingBy};
+ghost use Rattle.xfs_dirdata.specs.declared.records.EntryRec.{EntryRec};
 ghost use Rattle.xfs_volume.specs.declared.directories.DirRec.{DirRec};
 ghost use Rattle.xfs_naming.specs.Naming.{NumbersAscend};
-ghost use Rattle.xfs_links.specs.Entries.{AreFiles, AreEntries, is_kept_node, is_directory_number};
+ghost use Rattle.xfs_links.specs.Entries.{AreFiles, AreEntries, NodesAscend, is_kept_node, is_directory_number};
 ghost use Rattle.xfs_names.specs.Wanted.{AreDecided, wanted_entries, wanted_parents, wanted_links};
 ghost use Rattle.xfs_names.specs.Rebuilt.{wanted_rebuilt};
 ghost use Rattle.xfs_names.specs.Built.{CanBeBuilt};
+ghost use Rattle.xfs_names.specs.Private.Named.{AreNamesOf};
 
 use crate::comparing::rebuilt_among;
 use crate::joining::{all_entries, is_new, lost_directory, with_lost};
@@ -17,7 +20,7 @@ use std::alloc::Global;
 use xfs_dirdata::EntryRec;
 use xfs_disk::NoMemory;
 use xfs_links::{DecidedNames, NodeRec};
-use xfs_volume::DirRec;
+use xfs_volume::{DirRec, Records};
 
 /// The names that files are to have, of those that were decided for them: the entries of each directory, the parents, the links of
 /// each file, and which directories are built anew. Files ascend by number, entries that were read stand by directory as `connect`
@@ -59,7 +62,28 @@ pub fn want_names(
     let above = lost_directory(lost, new);
     let parents = all_parents(alloc, &all, parents.as_slice(), root, above, new)?;
     let entries = all_entries(alloc, &all, entries, orphans, root, lost, new)?;
-    let links = all_links(alloc, &all, entries.as_slice(), root)?;
+    join_names(alloc, &all, listed, dirs, root, entries, parents)
+}
+
+/// The entries and parents, with the links of each file and the directories that are built anew.
+fn join_names(
+    alloc: Global,
+    nodes: &[NodeRec],
+    listed: &[EntryRec],
+    dirs: &[DirRec],
+    root: u64,
+    entries: Records<EntryRec>,
+    parents: Records<(u64, u64)>,
+) -> Result<WantedNames, NoMemory>
+    requires nodes { NodesAscend 0 nodes.now }
+    requires listed { IsNonDecreasingBy (λ (e : EntryRec). e.dir) listed.now }
+    requires dirs { IsNonDecreasingBy (λ (d : DirRec). d.ino) dirs.now }
+    requires root { root < 2 ^ 32 }
+    requires few { length entries ≤ 2 ^ 24 }
+    requires rise { IsNonDecreasingBy (λ (e : EntryRec). e.dir) entries }
+    ensures { IfOk result (AreNamesOf nodes.now listed.now dirs.now root entries parents) }
+{
+    let links = all_links(alloc, nodes, entries.as_slice(), root)?;
     let rebuilt = rebuilt_among(alloc, listed, dirs, entries.as_slice(), parents.as_slice())?;
     Ok(WantedNames {
         entries,
