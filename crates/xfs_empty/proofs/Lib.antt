@@ -7,3 +7,4 @@ pub mod Planned
 pub mod Room
 pub mod Results
 pub mod Pushed
+pub mod Wants

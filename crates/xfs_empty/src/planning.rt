@@ -17,7 +17,7 @@ use crate::wanted::empty_wanted;
 use std::alloc::Global;
 use std::marker::Sync;
 use std::thread::Threads;
-use xfs_disk::{NoGate, Stamp};
+use xfs_disk::{NoGate, NoMemory, Stamp};
 use xfs_geom::Geometry;
 use xfs_place::{PlaceFault, Wanted, place};
 use xfs_render::{Bytes, Plan, chunks_are_few, placed_is_ready, render};
@@ -45,9 +45,35 @@ pub fn plan_empty<R: Threads + Sync>(
     ensures room { IfOk result (λ plan. HasRoom (empty_wanted g.now)) }
     ensures cause { IfErr result (λ fault. (fault ≡ PlaceFault.NoMemory) ⊎ ((what : Unplaced) × (fault ≡ PlaceFault.NoRoom what) × FindsNoRoom (empty_wanted g.now) what)) }
 {
-    let wanted = empty_wanted(alloc, g)?;
-    let bytes = empty_bytes(alloc, g, sector, stamp)?;
-    plan_wanted(rt, alloc, &wanted, &bytes)
+    match empty_wanted(alloc, g) {
+        Ok(wanted) => plan_made(rt, alloc, g, sector, stamp, &wanted),
+        Err(NoMemory) => Err(PlaceFault::NoMemory),
+    }
+}
+
+/// The same, where what is wanted is at hand.
+fn plan_made<R: Threads + Sync>(
+    rt: &R,
+    alloc: Global,
+    g: &Geometry,
+    sector: &[u8; 512],
+    stamp: &Stamp,
+    wanted: &Wanted,
+) -> Result<Plan, PlaceFault>
+    requires accepted { IsAcceptedSector sector.now }
+    requires states { stated_volume sector.now ≡ volume_of g.now }
+    requires chunk { HasFirstChunk (volume_of g.now) }
+    requires wanted { wanted.now ≡ empty_wanted g.now }
+    ensures rendered { IfOk result (λ plan. IsEmptyPlan g.now sector.now stamp.now plan) }
+    ensures inside { IfOk result (λ plan. All (λ place. place < g.now.dblocks) (planned plan)) }
+    ensures held { IfOk result (λ plan. AreInBank (plan_rows plan) plan.bank) }
+    ensures room { IfOk result (λ plan. HasRoom (empty_wanted g.now)) }
+    ensures cause { IfErr result (λ fault. (fault ≡ PlaceFault.NoMemory) ⊎ ((what : Unplaced) × (fault ≡ PlaceFault.NoRoom what) × FindsNoRoom (empty_wanted g.now) what)) }
+{
+    match empty_bytes(alloc, g, sector, stamp) {
+        Ok(bytes) => plan_wanted(rt, alloc, wanted, &bytes),
+        Err(NoMemory) => Err(PlaceFault::NoMemory),
+    }
 }
 
 /// The blocks of a volume with what is wanted, made of these bytes.

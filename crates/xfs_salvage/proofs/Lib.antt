@@ -3,3 +3,4 @@ pub mod Conditions
 pub mod Ascending
 pub mod Directories
 pub mod Joined
+pub mod Rising

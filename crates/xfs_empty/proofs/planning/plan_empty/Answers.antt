@@ -1,52 +1,28 @@
-use Rattle.std.proofs.Common.{◌≡◌, ◌<◌, ◌⊎◌, sym, subst}
-use Rattle.std.specs.Prelude.{All, IfErr, IfOk}
-use Rattle.xfs_geom.specs.Volumes.{volume_of}
-use Rattle.xfs_place.specs.Wanted.{CanBeKept, FindsNoRoom, kept_runs}
-use Rattle.xfs_place.specs.declared.faults.Unplaced.{Unplaced}
-use Rattle.xfs_place.specs.declared.faults.PlaceFault.{PlaceFault}
-use Rattle.xfs_place.specs.declared.faults.PlaceFault.TheVariants.{NoMemory, NoRoom}
-use Rattle.xfs_place.specs.declared.wanted.Wanted.{Wanted}
-use Rattle.xfs_render.specs.Plans.{planned}
-use Rattle.xfs_render.specs.Readiness.{HasBytes, IsWritable}
-use Rattle.xfs_render.specs.declared.plan.Plan.{Plan}
-use Rattle.xfs_empty.specs.Placing.{empty_wanted}
-use Rattle.xfs_empty.specs.Planning.{HasRoom, IsEmptyPlan, IsPlanFor}
-use Rattle.xfs_empty.proofs.Kept.{chunk_kept}
-use Rattle.xfs_empty.proofs.Ready.{has_bytes, writable}
-use Rattle.xfs_empty.proofs.Results.{ok_as}
 use Rattle.xfs_empty.proofs.planning.plan_empty.Goals as goal
 
-pub plan_wanted-requires-clause-kept : goal.plan_wanted-requires-clause-kept
-plan_wanted-requires-clause-kept g c = λ κs lives.
-    subst (λ (w : Wanted). CanBeKept (volume_of w.geometry) (kept_runs w)) (sym c.in_ok-wanted.ensures)
-    (chunk_kept (volume_of c.args.g.now) c.args.g.now.shape.groups c.requires.chunk)
+pub plan_made-requires-clause-accepted : goal.plan_made-requires-clause-accepted
+plan_made-requires-clause-accepted g c = λ κs lives. c.requires.accepted
 
-pub plan_wanted-requires-clause-writable : goal.plan_wanted-requires-clause-writable
-plan_wanted-requires-clause-writable g c = λ κs lives.
-    subst (λ (w : Wanted). IsWritable w) (sym c.in_ok-wanted.ensures) (writable c.args.g.now c.requires.chunk)
+pub plan_made-requires-clause-states : goal.plan_made-requires-clause-states
+plan_made-requires-clause-states g c = λ κs lives. c.requires.states
 
-pub plan_wanted-requires-clause-held : goal.plan_wanted-requires-clause-held
-plan_wanted-requires-clause-held g c = λ κs lives.
-    subst (λ (w : Wanted). HasBytes w c.in_ok-bytes.bytes) (sym c.in_ok-wanted.ensures)
-    (has_bytes c.args.g.now c.args.sector.now c.args.stamp.now c.in_ok-bytes.bytes c.in_ok-bytes.ensures c.requires.accepted c.requires.states)
+pub plan_made-requires-clause-chunk : goal.plan_made-requires-clause-chunk
+plan_made-requires-clause-chunk g c = λ κs lives. c.requires.chunk
 
-pub returns-clause-rendered : goal.returns-clause-rendered
-returns-clause-rendered g c =
-    ok_as (IsPlanFor (empty_wanted c.args.g.now) c.in_ok-bytes.bytes) (IsEmptyPlan c.args.g.now c.args.sector.now c.args.stamp.now) c.plan_wanted.result
-    (λ plan is. record { bytes = c.in_ok-bytes.bytes; made = c.in_ok-bytes.ensures; is = is })
-    (subst (λ (w : Wanted). IfOk c.plan_wanted.result (IsPlanFor w c.in_ok-bytes.bytes)) c.in_ok-wanted.ensures c.plan_wanted.ensures.rendered)
+pub plan_made-requires-clause-wanted : goal.plan_made-requires-clause-wanted
+plan_made-requires-clause-wanted g c = λ κs lives. c.in-Ok.ensures
 
-pub returns-clause-inside : goal.returns-clause-inside
-returns-clause-inside g c =
-    subst (λ (w : Wanted). IfOk c.plan_wanted.result (λ (plan : Plan). All (λ place. place < w.geometry.dblocks) (planned plan))) c.in_ok-wanted.ensures
-    c.plan_wanted.ensures.inside
+pub returns-in-Ok-clause-rendered : goal.returns-in-Ok-clause-rendered
+returns-in-Ok-clause-rendered g c = c.plan_made.ensures.rendered
 
-pub returns-clause-room : goal.returns-clause-room
-returns-clause-room g c =
-    subst (λ (w : Wanted). IfOk c.plan_wanted.result (λ (plan : Plan). HasRoom w)) c.in_ok-wanted.ensures c.plan_wanted.ensures.room
+pub returns-in-Ok-clause-inside : goal.returns-in-Ok-clause-inside
+returns-in-Ok-clause-inside g c = c.plan_made.ensures.inside
 
-pub returns-clause-cause : goal.returns-clause-cause
-returns-clause-cause g c =
-    subst
-    (λ (w : Wanted). IfErr c.plan_wanted.result (λ (fault : PlaceFault). (fault ≡ NoMemory) ⊎ ((what : Unplaced) × (fault ≡ NoRoom what) × FindsNoRoom w what)))
-    c.in_ok-wanted.ensures c.plan_wanted.ensures.cause
+pub returns-in-Ok-clause-held : goal.returns-in-Ok-clause-held
+returns-in-Ok-clause-held g c = c.plan_made.ensures.held
+
+pub returns-in-Ok-clause-room : goal.returns-in-Ok-clause-room
+returns-in-Ok-clause-room g c = c.plan_made.ensures.room
+
+pub returns-in-Ok-clause-cause : goal.returns-in-Ok-clause-cause
+returns-in-Ok-clause-cause g c = c.plan_made.ensures.cause
