@@ -2,6 +2,7 @@
 use Rattle.std.proofs.Common.{◌≡◌, ℕ, ◌≤◌, ◌⊎◌, inl, inr, Bool, true, false, List, Option, None, Result, Ok, Err, OnOk, OnErr, arith, refl, sym, subst}
 use Rattle.xfs_disk.specs.Counts.{raised_times}
 use Rattle.xfs_disk.specs.Blocks.{Image}
+use Rattle.xfs_disk.specs.Faults.{Rose}
 use Rattle.xfs_disk.specs.Files.{Files}
 use Rattle.xfs_disk.specs.declared.failed.Failed.{Failed}
 use Rattle.xfs_disk.specs.declared.stamp.Stamp.{Stamp}
@@ -79,6 +80,20 @@ reads_putting force before now (Put.Failed n) is = is
 pub reads_failed : (force : Bool) (before now faults : ℕ) (outcome : MakeOutcome) → outcome ≡ Out.ReadFault faults → LooksPartly force before now
     → CountsReads force before now outcome
 reads_failed force before now faults outcome is read = subst (λ (x : MakeOutcome). CountsReads force before now x) (sym is) read
+
+-- the answer to a read that failed, by which nothing was written
+pub due_read : (o : MakeOptions) (s : Stamp) (told : Option Files) (blocks : ℕ) (image : Image) (faults : ℕ) (outcome : MakeOutcome) → outcome ≡ Out.ReadFault faults
+    → IsDueMake o s told blocks image outcome
+due_read o s told blocks image faults outcome is = subst (λ (x : MakeOutcome). IsDueMake o s told blocks image x) (sym is) tt
+
+pub early_read : (faults : ℕ) (outcome : MakeOutcome) → outcome ≡ Out.ReadFault faults → IsUnwritten outcome
+early_read faults outcome is = subst (λ (x : MakeOutcome). IsUnwritten x) (sym is) tt
+
+pub caused_read : (a b c d before now : ℕ) (outcome : MakeOutcome) → outcome ≡ Out.ReadFault b → Rose a b → IsMakingCause a b c d before now outcome
+caused_read a b c d before now outcome is rose = subst (λ (x : MakeOutcome). IsMakingCause a b c d before now x) (sym is) (rose, refl)
+
+pub rose_later : (a b c : ℕ) → a ≤ b → Rose b c → Rose a c
+rose_later a b c up (le, rose) = (omega (arith, up, le), omega (arith, up, le, rose))
 
 pub reads_nothing : (force : Bool) (before now : ℕ) → now ≡ before → LooksPartly force before now
 reads_nothing force before now same = (0, omega arith, same)

@@ -32,7 +32,7 @@ use xfs_render::Plan;
 use xfs_sizing::{SizesAsked, choose, put_super};
 
 /// A volume that is to be written.
-#[derive(Debug, Drop)]
+#[derive(Drop)]
 pub struct Prepared {
     pub geometry: Geometry,
     pub plan: Plan,
@@ -80,7 +80,6 @@ pub fn prepare<R: Threads + Sync, D: Disk, L: Library>(
 }
 
 /// The geometry of the volume that is to be made; or the answer, where that is due before anything is placed.
-#[tactic(auto, unfolding(crate::specs::Due::refusal))]
 fn decide<D: Disk>(
     disk: &mut D,
     options: &MakeOptions,
@@ -97,7 +96,7 @@ fn decide<D: Disk>(
     ensures looked { OnOk result (D.reads disk.new ≡ looked options.now.force (D.reads disk.old)) }
     ensures faults { D.faults disk.old ≤ D.faults disk.new }
 {
-    let blocks = match disk.blocks() {
+    let blocks = match count_blocks(disk) {
         Ok(blocks) => blocks,
         Err(Failed) => return Err(read_fault(disk)),
     };
@@ -110,6 +109,16 @@ fn decide<D: Disk>(
         Ok(true) => Err(MakeOutcome::HasVolume),
         Err(Failed) => Err(read_fault(disk)),
     }
+}
+
+/// How many blocks the disk has.
+fn count_blocks<D: Disk>(disk: &mut D) -> Result<u64, Failed>
+    ensures count { IfOk result (λ n. n ≡ D.size disk.old) }
+    ensures cause { HasCause (D.faults disk.old) (D.faults disk.new) result }
+    ensures reads { D.reads disk.new ≡ D.reads disk.old }
+    ensures disk { OnlyReads D.size D.holds D.write_faults D.writes D.tells_stops D.moment D.may_leave D.left_since disk.old disk.new }
+{
+    disk.blocks()
 }
 
 /// What is asked of the sizes of the volume.

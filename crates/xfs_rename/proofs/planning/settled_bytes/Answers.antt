@@ -1,10 +1,11 @@
-use Rattle.std.proofs.Common.{ℕ, ◌≤◌, ◌+◌, sym, subst, ap, ◌∙◌}
+use Rattle.std.proofs.Common.{ℕ, ◌≤◌, ◌+◌, Err, arith, sym, subst, ap, ◌∙◌}
 use Rattle.std.specs.List.{All}
 use Rattle.std.specs.List.Sorted.{IsNonDecreasingBy}
-use Rattle.xfs_disk.proofs.Reading.{reads_on}
+use Rattle.xfs_disk.proofs.Reading.{reads_none, reads_on}
 use Rattle.xfs_render.specs.declared.wanted_slots.SlotWanted.{SlotWanted}
 use Rattle.xfs_built.specs.Asks.{blocks_of_built}
 use Rattle.xfs_changes.specs.Slots.{with_changes}
+use Rattle.xfs_rename.proofs.Agreed.{cause_on}
 use Rattle.xfs_rename.proofs.SettledBytes.{hand_below, read_below, slots_below}
 use Rattle.xfs_rename.proofs.planning.settled_bytes.Goals as goal
 
@@ -53,3 +54,70 @@ returns-in-Ok-blocks_of_built-clause-disk g c =
     let D = g.D.Disk in
     reads_on D.size D.holds D.write_faults D.writes D.tells_stops D.moment D.may_leave D.left_since c.args.disk.now c.kept_numbers.new.disk c.gather_bytes.new.disk
     c.kept_numbers.ensures.disk c.gather_bytes.ensures.disk
+
+pub kept_numbers-requires-clause-files : goal.kept_numbers-requires-clause-files
+kept_numbers-requires-clause-files g c = c.requires.files
+
+pub kept_numbers-requires-clause-clusters : goal.kept_numbers-requires-clause-clusters
+kept_numbers-requires-clause-clusters g c = c.requires.clusters
+
+pub returns-in-Ok-blocks_of_built-clause-refused : goal.returns-in-Ok-blocks_of_built-clause-refused
+returns-in-Ok-blocks_of_built-clause-refused g c = tt
+
+pub returns-in-Ok-blocks_of_built-clause-cause : goal.returns-in-Ok-blocks_of_built-clause-cause
+returns-in-Ok-blocks_of_built-clause-cause g c =
+    let D = g.D.Disk in
+    let first : D.faults c.args.disk.now ≤ D.faults c.kept_numbers.new.disk = c.in-Ok-kept_numbers.ensures.cause in
+    let then : D.faults c.kept_numbers.new.disk ≤ D.faults c.gather_bytes.new.disk = c.in-Ok-gather_bytes.ensures.cause in
+    omega (arith, first, then)
+
+pub returns-in-Err : goal.returns-in-Err
+returns-in-Err g c =
+    let D = g.D.Disk in
+    record {
+      order = tt;
+      slots = tt;
+      at_hand = tt;
+      objects = tt;
+      read = tt;
+      refused = tt;
+      cause = omega arith;
+      disk = reads_none D.size D.holds D.write_faults D.writes D.tells_stops D.moment D.may_leave D.left_since c.args.disk.now;
+    }
+
+pub returns-in-Err-kept_numbers : goal.returns-in-Err-kept_numbers
+returns-in-Err-kept_numbers g c =
+    let is = c.in-Err-kept_numbers.ensures in
+    record { order = tt; slots = tt; at_hand = tt; objects = tt; read = tt; refused = is.refused; cause = is.cause; disk = is.disk }
+
+pub returns-in-Err-gather_bytes : goal.returns-in-Err-gather_bytes
+returns-in-Err-gather_bytes g c =
+    let D = g.D.Disk in
+    let is = c.in-Err-gather_bytes.ensures in
+    record {
+      order = tt;
+      slots = tt;
+      at_hand = tt;
+      objects = tt;
+      read = tt;
+      refused = is.refused;
+      cause = cause_on {A = ℕ} (D.faults c.args.disk.now) (D.faults c.kept_numbers.new.disk) (D.faults c.gather_bytes.new.disk) (Err c.in-Err-gather_bytes.fault)
+          c.in-Ok-kept_numbers.ensures.cause is.cause;
+      disk = reads_on D.size D.holds D.write_faults D.writes D.tells_stops D.moment D.may_leave D.left_since c.args.disk.now c.kept_numbers.new.disk c.gather_bytes.new.disk c.in-Ok-kept_numbers.ensures.disk is.disk;
+    }
+
+pub returns : goal.returns
+returns g c =
+    let D = g.D.Disk in
+    let first : D.faults c.args.disk.now ≤ D.faults c.kept_numbers.new.disk = c.in-Ok-kept_numbers.ensures.cause in
+    let then : D.faults c.kept_numbers.new.disk ≤ D.faults c.gather_bytes.new.disk = c.in-Ok-gather_bytes.ensures.cause in
+    record {
+      order = tt;
+      slots = tt;
+      at_hand = tt;
+      objects = tt;
+      read = tt;
+      refused = tt;
+      cause = omega (arith, first, then);
+      disk = reads_on D.size D.holds D.write_faults D.writes D.tells_stops D.moment D.may_leave D.left_since c.args.disk.now c.kept_numbers.new.disk c.gather_bytes.new.disk c.in-Ok-kept_numbers.ensures.disk c.in-Ok-gather_bytes.ensures.disk;
+    }
