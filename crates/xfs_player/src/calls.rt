@@ -2,6 +2,7 @@
 
 use crate::disk::CaseDisk;
 use crate::library::Shelf;
+use crate::numbers::number;
 use crate::refusal::Refusal;
 use std::alloc::{AllocError, Global};
 use std::thread::Threads;
@@ -88,27 +89,73 @@ impl Call {
     /// A line for each part that is not as it is due.
     pub fn differences(&self, alloc: Global) -> Result<String, AllocError> {
         let mut told = String::new(alloc);
-        for (stream, held, due) in [
-            ("output", self.out.bytes(), &self.due.out),
-            ("error", self.err.bytes(), &self.due.err),
-        ] {
-            if held != due.as_bytes() {
-                let held = str::from_utf8(held).unwrap_or("no text");
-                let line = format!(in alloc; "  {stream} {held:?}, due {due:?}\n")?;
-                told.push_str(line.as_str())?;
-            }
-        }
-        for (name, held, due) in [
-            ("code", self.status.code as u64, self.due.code),
-            ("finished", self.status.finished, self.due.finished),
-        ] {
-            if held != due {
-                let line = format!(in alloc; "  {name} {held}, due {due}\n")?;
-                told.push_str(line.as_str())?;
-            }
-        }
+        let (out, err) = (self.due.out.as_str(), self.due.err.as_str());
+        tell_stream(alloc, &mut told, "output", self.out.bytes(), out)?;
+        tell_stream(alloc, &mut told, "error", self.err.bytes(), err)?;
+        let (code, finished) = (self.status.code as u64, self.status.finished);
+        tell_number(alloc, &mut told, "code", code, self.due.code)?;
+        tell_number(alloc, &mut told, "finished", finished, self.due.finished)?;
         Ok(told)
     }
+}
+
+impl Due {
+    /// Takes a line of what is due.
+    pub fn take(&mut self, word: &str, rest: &str) -> Result<(), Refusal> {
+        match word {
+            "out" => Ok(push_line(&mut self.out, rest)?),
+            "cut" => Ok(self.out.push_str(rest)?),
+            "err" => Ok(push_line(&mut self.err, rest)?),
+            _ => self.take_number(word, rest),
+        }
+    }
+
+    /// Takes a line of a number that is due.
+    fn take_number(&mut self, word: &str, rest: &str) -> Result<(), Refusal> {
+        match word {
+            "code" => self.code = number(rest)?,
+            "finished" => self.finished = number(rest)?,
+            _ => return Err(Refusal::Unknown),
+        }
+        Ok(())
+    }
+}
+
+/// Adds a line to a text.
+fn push_line(text: &mut String, line: &str) -> Result<(), AllocError> {
+    text.push_str(line)?;
+    text.push('\n')
+}
+
+/// Adds a line where a stream does not hold what is due.
+fn tell_stream(
+    alloc: Global,
+    told: &mut String,
+    stream: &str,
+    held: &[u8],
+    due: &str,
+) -> Result<(), AllocError> {
+    if held == due.as_bytes() {
+        return Ok(());
+    }
+    let held = str::from_utf8(held).unwrap_or("no text");
+    let line = format!(in alloc; "  {stream} {held:?}, due {due:?}\n")?;
+    told.push_str(line.as_str())
+}
+
+/// Adds a line where a number is not the one that is due.
+fn tell_number(
+    alloc: Global,
+    told: &mut String,
+    name: &str,
+    held: u64,
+    due: u64,
+) -> Result<(), AllocError> {
+    if held == due {
+        return Ok(());
+    }
+    let line = format!(in alloc; "  {name} {held}, due {due}\n")?;
+    told.push_str(line.as_str())
 }
 
 /// The words of a text, with a bar between two of them.

@@ -4,7 +4,7 @@ use crate::calls::{Call, Surroundings};
 use crate::library::Shelf;
 use crate::numbers::{cut, number};
 use crate::refusal::Refusal;
-use crate::stops::stop_by_steps;
+use crate::stops::{Stops, stop_by_steps};
 use crate::volume::Disks;
 use std::alloc::{AllocError, Global};
 use std::thread::Threads;
@@ -81,15 +81,7 @@ impl Case {
                 Ok(())
             }
             "holds" => self.compare(rest),
-            "fail" => self.disks.held.fail(number(rest)?),
-            "halt" => {
-                self.disks.held.stop_after(number(rest)?);
-                Ok(())
-            }
-            "restart" => {
-                self.disks.held = self.disks.held.copy(self.alloc)?;
-                Ok(())
-            }
+            "fail" | "halt" | "restart" => self.hinder(word, rest),
             "run" => self.run(rt, rest),
             "stops" => self.stop(rt, rest),
             "room" | "input" | "tail" | "unreadable" => self.give(word, rest),
@@ -103,13 +95,36 @@ impl Case {
         }
     }
 
+    /// Takes a line of which calls of the disk fail.
+    fn hinder(&mut self, word: &str, rest: &str) -> Result<(), Refusal> {
+        match word {
+            "fail" => self.disks.held.fail(number(rest)?),
+            "halt" => {
+                self.disks.held.stop_after(number(rest)?);
+                Ok(())
+            }
+            _ => {
+                self.disks.held = self.disks.held.copy(self.alloc)?;
+                Ok(())
+            }
+        }
+    }
+
     /// Tells where a block does not hold the bytes that a line says.
     fn compare(&mut self, text: &str) -> Result<(), Refusal> {
         if !self.disks.holds(text)? {
-            let told = format!(in self.alloc; "  not held: {text}\n")?;
-            self.told.push_str(told.as_str())?;
+            let line = format!(in self.alloc; "  not held: {text}\n");
+            self.add(line)?;
         }
         Ok(())
+    }
+
+    /// Adds a line to what is not as it is due.
+    fn add(&mut self, line: Result<String, AllocError>) -> Result<(), AllocError> {
+        match line {
+            Ok(line) => self.told.push_str(line.as_str()),
+            Err(fault) => Err(fault),
+        }
     }
 
     /// Takes a line of what a call is given.
@@ -129,24 +144,10 @@ impl Case {
 
     /// Takes a line of what is due of the last call.
     fn expect(&mut self, word: &str, rest: &str) -> Result<(), Refusal> {
-        let Some(call) = &mut self.call else {
-            return Err(Refusal::NoCall);
-        };
-        match word {
-            "out" => {
-                call.due.out.push_str(rest)?;
-                call.due.out.push('\n')?;
-            }
-            "cut" => call.due.out.push_str(rest)?,
-            "err" => {
-                call.due.err.push_str(rest)?;
-                call.due.err.push('\n')?;
-            }
-            "code" => call.due.code = number(rest)?,
-            "finished" => call.due.finished = number(rest)?,
-            _ => return Err(Refusal::Unknown),
+        match &mut self.call {
+            Some(call) => call.due.take(word, rest),
+            None => Err(Refusal::NoCall),
         }
-        Ok(())
     }
 
     /// Compares the last call, and makes another.
@@ -165,38 +166,60 @@ impl Case {
         let (due, step) = (number(due)?, number(step)?);
         let disk = &self.disks.held;
         let stops = stop_by_steps(rt, self.alloc, disk, step, words, &self.given)?;
-        if stops.writes != due {
-            let told = format!(in self.alloc; "  {} blocks written, due {due}\n", stops.writes)?;
-            self.told.push_str(told.as_str())?;
-        }
-        if let Some(written) = stops.wrong {
-            let told = format!(in self.alloc; "  wrong behind {written} writes\n")?;
-            self.told.push_str(told.as_str())?;
-        }
+        self.tell_stops(stops, due)?;
         Ok(())
+    }
+
+    /// Tells what of these calls is not as it is due.
+    fn tell_stops(&mut self, stops: Stops, due: u64) -> Result<(), AllocError> {
+        if stops.writes != due {
+            let line = format!(in self.alloc; "  {} blocks written, due {due}\n", stops.writes);
+            self.add(line)?;
+        }
+        match stops.wrong {
+            Some(written) => self.tell_wrong(written),
+            None => Ok(()),
+        }
+    }
+
+    /// Tells after how many writes a call left what it must not leave.
+    fn tell_wrong(&mut self, written: u64) -> Result<(), AllocError> {
+        let line = format!(in self.alloc; "  wrong behind {written} writes\n");
+        self.add(line)
     }
 
     /// Tells what of the last call is not as it is due.
     fn end_call(&mut self) -> Result<(), AllocError> {
-        if let Some(call) = self.call.take() {
-            let differences = call.differences(self.alloc)?;
-            if !differences.is_empty() {
-                let place = format!(in self.alloc; "  call {}:\n", self.calls)?;
-                self.told.push_str(place.as_str())?;
-                self.told.push_str(differences.as_str())?;
-            }
+        match self.call.take() {
+            Some(call) => self.tell_call(&call),
+            None => Ok(()),
         }
-        Ok(())
+    }
+
+    /// Tells what of a call is not as it is due.
+    fn tell_call(&mut self, call: &Call) -> Result<(), AllocError> {
+        let differences = call.differences(self.alloc)?;
+        if differences.is_empty() {
+            return Ok(());
+        }
+        let place = format!(in self.alloc; "  call {}:\n", self.calls);
+        self.add(place)?;
+        self.told.push_str(differences.as_str())
     }
 
     /// Tells that a line can't be done.
     pub fn tell(&mut self, line: &str, refusal: Refusal) -> Result<(), AllocError> {
-        let told = format!(in self.alloc; "  {line}: {refusal}\n")?;
-        self.told.push_str(told.as_str())
+        let told = format!(in self.alloc; "  {line}: {refusal}\n");
+        self.add(told)
     }
 
     /// Ends the case, and says how it went.
     pub fn end(mut self) -> Result<String, AllocError> {
+        self.finish()
+    }
+
+    /// Compares the last call and the disks, and says how the case went.
+    fn finish(&mut self) -> Result<String, AllocError> {
         self.end_call()?;
         if self.calls == 0 {
             self.told.push_str("  no call\n")?;
@@ -205,6 +228,11 @@ impl Case {
             self.told
                 .push_str("  the disk does not hold what is due\n")?;
         }
+        self.verdict()
+    }
+
+    /// How the case went, by what was told.
+    fn verdict(&self) -> Result<String, AllocError> {
         if self.told.is_empty() {
             format!(in self.alloc; "ok {}", self.name)
         } else {

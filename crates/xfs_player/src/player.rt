@@ -81,10 +81,7 @@ impl Player {
         rest: &str,
     ) -> Result<(), Refusal> {
         match word {
-            "case" => {
-                self.case = Some(Case::new(self.alloc, rest)?);
-                Ok(())
-            }
+            "case" => self.begin(rest),
             "define" => self.define(rest),
             "with" => self.insert(rt, rest),
             _ => match &mut self.case {
@@ -92,6 +89,13 @@ impl Player {
                 None => self.add(line),
             },
         }
+    }
+
+    /// Begins a case.
+    fn begin(&mut self, name: &str) -> Result<(), Refusal> {
+        let case = Case::new(self.alloc, name)?;
+        self.case = Some(case);
+        Ok(())
     }
 
     /// Begins a definition.
@@ -118,16 +122,26 @@ impl Player {
             return Err(Refusal::NoCase);
         };
         for name in names.split_whitespace() {
-            let Some(lines) = lines_of(&self.definitions, name) else {
-                return Err(Refusal::Undefined);
-            };
-            for line in lines {
-                let (word, rest) = cut(line.as_str());
-                case.take(rt, word, rest)?;
+            match lines_of(&self.definitions, name) {
+                Some(lines) => take_lines(rt, case, lines)?,
+                None => return Err(Refusal::Undefined),
             }
         }
         Ok(())
     }
+}
+
+/// Takes lines of a case.
+fn take_lines(
+    rt: &(impl Threads + Sync),
+    case: &mut Case,
+    lines: &[String],
+) -> Result<(), Refusal> {
+    for line in lines {
+        let (word, rest) = cut(line.as_str());
+        case.take(rt, word, rest)?;
+    }
+    Ok(())
 }
 
 /// The lines of the definition of this name.
