@@ -4,7 +4,7 @@ use xfs_image::Finding;
 use xfs_place::Unplaced;
 
 /// What a repair is asked for.
-#[derive(Clone, Copy, Debug, PartialEq, Eq)]
+#[derive(Clone, Copy, PartialEq, Eq)]
 pub struct RepairOptions {
     /// Checks only, and writes nothing.
     pub check: bool,
@@ -15,7 +15,7 @@ pub struct RepairOptions {
 }
 
 /// What a repair did.
-#[derive(Clone, Copy, Debug, PartialEq, Eq)]
+#[derive(Clone, Copy, PartialEq, Eq)]
 pub enum Summary {
     /// So many backup superblocks were written anew.
     Backups {
@@ -31,7 +31,7 @@ pub enum Summary {
 }
 
 /// What comes of a repair.
-#[derive(Clone, Copy, Debug, PartialEq, Eq)]
+#[derive(Clone, Copy, PartialEq, Eq)]
 pub enum Outcome {
     /// No superblock states a geometry.
     NoGeometry,

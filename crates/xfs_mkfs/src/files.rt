@@ -17,7 +17,7 @@ use xfs_proto::{ProtoFault, ProtoKind, ProtoNode, read_proto};
 use xfs_volume::Records;
 
 /// The files that a volume gets.
-#[derive(Debug, Drop)]
+#[derive(Drop)]
 pub enum FilesAsked {
     /// None but its root.
     Root,

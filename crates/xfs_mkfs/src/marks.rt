@@ -12,7 +12,7 @@ ghost use Rattle.xfs_mkfs.specs.Marks.{bears, is_marked, mark_of, has_mark, stan
 use xfs_disk::{BLOCK_SIZE, Disk, Failed};
 
 /// Bytes that show what a disk holds, and the byte of the disk at which they begin.
-#[derive(Clone, Copy, Debug)]
+#[derive(Clone, Copy)]
 struct Mark {
     at: u64,
     bytes: &'static [u8],

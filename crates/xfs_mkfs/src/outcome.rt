@@ -3,7 +3,7 @@
 use xfs_place::Unplaced;
 
 /// A volume that was made.
-#[derive(Clone, Copy, Debug, PartialEq, Eq)]
+#[derive(Clone, Copy, PartialEq, Eq)]
 pub struct MadeSummary {
     /// The blocks of the volume.
     pub dblocks: u64,
@@ -20,7 +20,7 @@ pub struct MadeSummary {
 }
 
 /// What comes of making a volume.
-#[derive(Clone, Copy, Debug, PartialEq, Eq)]
+#[derive(Clone, Copy, PartialEq, Eq)]
 pub enum MakeOutcome {
     /// The volume was made.
     Made(MadeSummary),

@@ -32,7 +32,7 @@ use xfs_render::Plan;
 use xfs_sizing::{SizesAsked, choose, put_super};
 
 /// A volume that is to be written.
-#[derive(Debug, Drop)]
+#[derive(Drop)]
 pub struct Prepared {
     pub geometry: Geometry,
     pub plan: Plan,

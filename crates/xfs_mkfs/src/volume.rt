@@ -16,7 +16,7 @@ use xfs_render::Plan;
 use xfs_writing::write_parts;
 
 /// Why the blocks of a plan were not all written.
-#[derive(Clone, Copy, Debug, PartialEq, Eq)]
+#[derive(Clone, Copy, PartialEq, Eq)]
 pub enum PutFault {
     /// Memory is wanting; none was written.
     NoMemory,

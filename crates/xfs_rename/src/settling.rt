@@ -26,7 +26,7 @@ use xfs_volume::{FileRec, Records};
 const INODES_END: u64 = 1 << 32;
 
 /// What is settled about names.
-#[derive(Debug, Drop)]
+#[derive(Drop)]
 pub struct Settling {
     /// Where lost+found stands.
     pub lost: Lost,

@@ -36,7 +36,7 @@ const INODES: u64 = u64::MAX - 6;
 const CLUSTER_BLOCKS: u64 = 4;
 
 /// What is asked.
-#[derive(Debug, Drop)]
+#[derive(Drop)]
 pub struct SettledAsk {
     /// What is to be placed, and what the volume holds already.
     pub wanted: Wanted,

@@ -7,7 +7,7 @@ use xfs_place::Unplaced;
 use xfs_texts::Tool;
 
 /// The answer of a call.
-#[derive(Clone, Copy, Debug, PartialEq, Eq)]
+#[derive(Clone, Copy, PartialEq, Eq)]
 pub enum Answer {
     /// The words are not those of a tool: `word` is the first offending one, or the number of words
     /// where one lacks.
@@ -67,7 +67,7 @@ pub enum Answer {
 }
 
 /// How a call ended.
-#[derive(Clone, Copy, Debug, PartialEq, Eq)]
+#[derive(Clone, Copy, PartialEq, Eq)]
 pub struct Status {
     /// The exit status of the program.
     pub code: u8,

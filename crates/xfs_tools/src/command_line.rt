@@ -8,7 +8,7 @@ use xfs_disk::Word;
 use xfs_mend::RepairOptions;
 
 /// What the words of a command line ask for, but for those of `xfs_db` and `mkfs.xfs`.
-#[derive(Clone, Copy, Debug, PartialEq, Eq)]
+#[derive(Clone, Copy, PartialEq, Eq)]
 pub enum Call {
     /// `xfs_repair`.
     Repair(RepairWords),
@@ -17,7 +17,7 @@ pub enum Call {
 }
 
 /// What the options of `xfs_repair` say.
-#[derive(Clone, Copy, Debug, PartialEq, Eq)]
+#[derive(Clone, Copy, PartialEq, Eq)]
 pub struct RepairWords {
     /// Checks only, and writes nothing (`-n`).
     pub check: bool,
@@ -32,7 +32,7 @@ pub struct RepairWords {
 }
 
 /// How far the words behind a tool's have been read.
-#[derive(Clone, Copy, Debug)]
+#[derive(Clone, Copy)]
 enum Reading {
     /// An option or the image may follow.
     Options(RepairWords),

@@ -18,7 +18,7 @@ use xfs_writing::{Row, write_parts};
 const INODE_ROOT: usize = 1044;
 
 /// Why the block was not written, or not kept.
-#[derive(Clone, Copy, Debug, PartialEq, Eq)]
+#[derive(Clone, Copy, PartialEq, Eq)]
 pub(crate) enum DamageFault {
     /// A read failed, or what was read states no block of the disk; so many reads have failed.
     ReadFault { faults: u64 },

@@ -17,7 +17,7 @@ use xfs_shell::{ShellOptions, ShellOutcome, shell};
 use xfs_volume::Records;
 
 /// How a session ended.
-#[derive(Clone, Copy, Debug)]
+#[derive(Clone, Copy)]
 struct End {
     answer: Answer,
     /// How many commands were finished.

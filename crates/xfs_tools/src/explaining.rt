@@ -24,7 +24,7 @@ use xfs_texts::put_explanation;
 const SECTOR_SIZE: usize = 512;
 
 /// What is known of a volume before it is repaired, where that is to be told in words.
-#[derive(Clone, Copy, Debug)]
+#[derive(Clone, Copy)]
 pub(crate) struct Look {
     /// The groups that the primary superblock states, where it was read.
     pub(crate) groups: Option<u32>,

@@ -32,7 +32,7 @@ use xfs_image::Finding;
 use xfs_mend::repair;
 
 /// The answer to what the words of a repair ask for.
-#[derive(Clone, Copy, Debug)]
+#[derive(Clone, Copy)]
 struct Said {
     answer: Answer,
     /// The groups that the primary superblock states, where they are known.
