@@ -15,7 +15,7 @@ const LOCAL: u8 = 1;
 const INCOMPLETE: u8 = 0x80;
 
 /// An entry of a leaf: the hash of its name, the byte offset of its value, its flags.
-#[derive(Clone, Copy, Debug)]
+#[derive(Clone, Copy)]
 pub struct LeafEntry {
     pub hash: u32,
     pub nameidx: u16,

@@ -18,7 +18,7 @@ use std::thread::Threads;
 use xfs_disk::{BLOCK_SIZE, Disk, Failed, NoMemory};
 
 /// So many blocks of 4096 bytes. Contracts see the list of the blocks.
-#[derive(Debug, Drop)]
+#[derive(Drop)]
 pub struct BlockBank {
     bytes: Vec<u8>,
 }

@@ -31,7 +31,7 @@ const EMPTY_FORM: u64 = 6;
 const OTHERS: u64 = 31;
 
 /// What changes in the slot of an inode.
-#[derive(Debug, Drop)]
+#[derive(Drop)]
 pub struct SlotChange {
     /// The number of the inode.
     pub ino: u64,

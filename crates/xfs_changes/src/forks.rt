@@ -29,7 +29,7 @@ const MOST_EXTENT_BLOCKS: u64 = (1 << 21) - 1;
 const OFFSET_END: u64 = 1 << 54;
 
 /// The data fork of a directory that is built anew.
-#[derive(Debug, Drop)]
+#[derive(Drop)]
 pub struct DirectoryFork {
     /// The number of its inode.
     pub ino: u64,

@@ -3,7 +3,7 @@
 use xfs_volume::Records;
 
 /// Where lost+found stands.
-#[derive(Debug, Drop)]
+#[derive(Drop)]
 pub struct Lost {
     /// It is made anew.
     pub made: bool,

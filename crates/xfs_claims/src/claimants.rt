@@ -4,7 +4,7 @@ use xfs_geom::Run;
 use xfs_volume::{ClusterRec, Records};
 
 /// A file with the blocks that it claims.
-#[derive(Debug, Drop)]
+#[derive(Drop)]
 pub struct FileClaim {
     /// The number of its inode.
     pub ino: u64,
@@ -15,7 +15,7 @@ pub struct FileClaim {
 }
 
 /// All that claims blocks of a volume, in any order.
-#[derive(Debug, Drop)]
+#[derive(Drop)]
 pub struct Claims {
     /// The number of the first block of the root inode's cluster.
     pub root: u64,
@@ -27,7 +27,7 @@ pub struct Claims {
 }
 
 /// What is kept of the claims.
-#[derive(Debug, Drop)]
+#[derive(Drop)]
 pub struct KeptClaims {
     /// The number of the first block of each kept cluster, ascending.
     pub clusters: Records<u64>,

@@ -22,7 +22,7 @@ use xfs_disk::{BLOCK_SIZE, NoMemory};
 use xfs_word::{name_hash, put32};
 
 /// What an index has to say of data blocks that were filled.
-#[derive(Debug, Drop)]
+#[derive(Drop)]
 pub struct StatedBlocks {
     /// The pair of each entry.
     pub pairs: Vec<Pair>,

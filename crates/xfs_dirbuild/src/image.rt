@@ -22,7 +22,7 @@ use xfs_dirdata::{EntryRec, put_short};
 use xfs_disk::NoMemory;
 
 /// A directory as it was built: its short form, or its blocks without places and seals.
-#[derive(Debug, Drop)]
+#[derive(Drop)]
 pub struct DirImage {
     /// The bytes of the short form; none in the other forms.
     pub short: Vec<u8>,

@@ -20,7 +20,7 @@ use xfs_disk::Word;
 use xfs_word::{get8, get16, get32, get64, part};
 
 /// What a data block of a directory states.
-#[derive(Debug, Drop)]
+#[derive(Drop)]
 pub struct DataBlock {
     /// The entries in the order in which they stand, with those of the directory and its parent.
     pub entries: Vec<EntryRec>,

@@ -29,7 +29,7 @@ pub struct FreeSpan {
 }
 
 /// Why a short form or a data block is not read.
-#[derive(Clone, Copy, Debug, PartialEq, Eq)]
+#[derive(Clone, Copy, PartialEq, Eq)]
 pub enum DirDataFault {
     /// It breaks a rule of its format.
     Unsound,

@@ -18,7 +18,7 @@ use xfs_word::{get8, get16, get32, part};
 pub const FIRST_OFFSET: usize = 96;
 
 /// What the short form of a directory states.
-#[derive(Debug, Drop)]
+#[derive(Drop)]
 pub struct ShortDir {
     /// The inode number of the parent.
     pub parent: u64,

@@ -19,7 +19,7 @@ const OWN_PLACE: u16 = 64;
 const PARENT_PLACE: u16 = 80;
 
 /// The longest unused span of a data block.
-#[derive(Clone, Copy, Debug, PartialEq, Eq)]
+#[derive(Clone, Copy, PartialEq, Eq)]
 pub struct Best {
     /// The data block, by its number in the file.
     pub offset: u64,
@@ -28,7 +28,7 @@ pub struct Best {
 }
 
 /// What data blocks state.
-#[derive(Debug, Drop)]
+#[derive(Drop)]
 pub struct StatedData {
     /// The pairs that an index has to have.
     pub due: Vec<Pair>,

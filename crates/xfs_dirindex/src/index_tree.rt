@@ -23,7 +23,7 @@ use xfs_word::{get16, get32};
 const MOST_PAIRS: usize = 504;
 
 /// What a tree of index blocks states.
-#[derive(Debug, Drop)]
+#[derive(Drop)]
 struct StatedTree {
     /// Its blocks, as pairs that have no hash.
     places: Vec<Pair>,

@@ -11,7 +11,7 @@ use xfs_word::get32;
 pub const PAIR_SIZE: usize = 8;
 
 /// A pair of an index: where the entry stands whose name has a hash (chapter "Directories").
-#[derive(Clone, Copy, Debug, PartialEq, Eq, PartialOrd, Ord)]
+#[derive(Clone, Copy, PartialEq, Eq, PartialOrd, Ord)]
 pub struct Pair {
     /// The hash of the name.
     pub hash: u32,

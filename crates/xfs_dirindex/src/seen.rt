@@ -6,7 +6,7 @@ use std::alloc::{AllocError, AllocFailed};
 use xfs_bank::BlockBank;
 
 /// The mapped blocks of a directory, in the order of the file.
-#[derive(Debug, Drop)]
+#[derive(Drop)]
 pub struct DirSeen {
     /// The inode number of the directory.
     pub dir: u64,

@@ -4,7 +4,7 @@ use xfs_dirdata::EntryRec;
 use xfs_volume::Records;
 
 /// What is found of a directory.
-#[derive(Debug, Drop)]
+#[derive(Drop)]
 pub struct DirFound {
     /// The inode number that it states as its parent; 0 where none reads.
     pub parent: u64,
@@ -15,7 +15,7 @@ pub struct DirFound {
 }
 
 /// Why a directory is not read.
-#[derive(Clone, Copy, Debug, PartialEq, Eq)]
+#[derive(Clone, Copy, PartialEq, Eq)]
 pub enum DirectoryFault {
     /// A read failed.
     ReadFault,

@@ -12,7 +12,7 @@ use xfs_dirdata::EntryRec;
 use xfs_disk::{NoMemory, Word};
 
 /// A block that is kept for the check.
-#[derive(Debug, Drop)]
+#[derive(Drop)]
 pub struct KeptBlock {
     /// Its number in the file, in blocks.
     pub offset: u64,
@@ -21,13 +21,13 @@ pub struct KeptBlock {
 }
 
 /// The blocks that are kept for the check, in file order.
-#[derive(Debug, Drop)]
+#[derive(Drop)]
 pub struct KeptBlocks {
     pub blocks: Vec<KeptBlock>,
 }
 
 /// What blocks give.
-#[derive(Debug, Drop)]
+#[derive(Drop)]
 pub struct Gathered {
     /// The entries of the data blocks, without those of the directory itself and its parent.
     pub entries: Vec<EntryRec>,

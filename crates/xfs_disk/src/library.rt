@@ -8,7 +8,7 @@ use crate::word::Word;
 use std::alloc::Global;
 
 /// Why a library gives no file.
-#[derive(Clone, Copy, Debug, PartialEq, Eq)]
+#[derive(Clone, Copy, PartialEq, Eq)]
 pub enum LibraryFault {
     /// There is no file of this name.
     Missing,

@@ -27,7 +27,7 @@ pub const CHUNK_BLOCKS: u64 = 8;
 pub const BEHIND_CHUNK: u32 = 24;
 
 /// Where the chunks of a new volume stand.
-#[derive(Debug, Drop)]
+#[derive(Drop)]
 pub struct ChunksPlaced {
     /// Their first blocks, the first chunk's in front.
     pub starts: Vec<u64>,

@@ -10,7 +10,7 @@ use xfs_disk::{BLOCK_SIZE, NoMemory};
 use xfs_shared::{BlockList, SharedBytes};
 
 /// The bytes of a file, which several files and the plan of a volume may hold together. Contracts see the list of the bytes.
-#[derive(Debug, Drop)]
+#[derive(Drop)]
 pub struct Content {
     /// The bytes, and behind them zeros up to the end of a block.
     whole: SharedBytes,

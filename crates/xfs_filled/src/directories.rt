@@ -25,7 +25,7 @@ use xfs_proto::{ProtoKind, ProtoNode};
 pub const FORK_ROOM: usize = 336;
 
 /// A directory as it was built.
-#[derive(Debug, Drop)]
+#[derive(Drop)]
 pub struct MadeDirectory {
     /// The bytes of the short form; none in the other forms.
     pub short: Word,

@@ -19,7 +19,7 @@ use xfs_naming::entry_type;
 use xfs_proto::ProtoNode;
 
 /// The entries of a directory.
-#[derive(Debug, Drop)]
+#[derive(Drop)]
 pub struct EntryList {
     entries: Vec<EntryRec>,
 }

@@ -1,7 +1,7 @@
 //! Why trees are not read.
 
 /// Why trees are not read.
-#[derive(Clone, Copy, Debug, PartialEq, Eq)]
+#[derive(Clone, Copy, PartialEq, Eq)]
 pub enum ForestFault {
     /// A read failed.
     ReadFault,

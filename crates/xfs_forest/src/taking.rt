@@ -18,7 +18,7 @@ use xfs_geom::Geometry;
 use xfs_tree::{Kind, MetBlocks, Seat, Spot, Unread, can_hold, place_at, tree_layout};
 
 /// The next block of a tree's row, and the first rule, of 1 and 2, that it breaks by its place.
-#[derive(Clone, Copy, Debug)]
+#[derive(Clone, Copy)]
 pub(crate) struct Next<Key> {
     pub seat: Seat<Key>,
     pub rule: Option<u8>,

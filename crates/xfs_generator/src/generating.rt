@@ -13,7 +13,7 @@ use xfs_proto::{ProtoKind, ProtoNode};
 use xfs_volume::Records;
 
 /// Files with their bytes.
-#[derive(Debug, Drop)]
+#[derive(Drop)]
 pub struct Generated {
     /// One for each file, depth first: the root, then each directory before its files.
     pub nodes: Records<ProtoNode>,

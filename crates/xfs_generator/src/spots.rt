@@ -7,7 +7,7 @@ ghost use Rattle.xfs_generator.specs.Files.{spot_of, IsFew};
 pub(crate) const FILES_OF_DIRECTORY: u64 = 100;
 
 /// What stands at a place.
-#[derive(Clone, Copy, Debug)]
+#[derive(Clone, Copy)]
 pub enum Spot {
     /// The root.
     Root,

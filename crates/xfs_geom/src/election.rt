@@ -18,7 +18,7 @@ use std::alloc::Global;
 use xfs_disk::{Disk, Failed, NoMemory};
 
 /// The superblock that says what a volume is.
-#[derive(Clone, Copy, Debug)]
+#[derive(Clone, Copy)]
 pub struct Elected {
     /// The geometry that the superblock states.
     pub geometry: Geometry,

@@ -8,7 +8,7 @@ ghost use Rattle.xfs_geom.specs.Shape.{IsShaped};
 /// Its numbers keep the shape of a volume: 2 to 512 allocation groups of at least 1024 blocks, of which
 /// the last may have fewer, but at least 64; a log of 512 to 2^20 blocks inside one group; a root
 /// cluster inside a chunk.
-#[derive(Clone, Copy, Debug, PartialEq, Eq, PartialOrd, Ord)]
+#[derive(Clone, Copy, PartialEq, Eq, PartialOrd, Ord)]
 pub struct Geometry {
     /// The blocks of the volume.
     pub dblocks: u64,

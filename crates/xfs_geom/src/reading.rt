@@ -12,7 +12,7 @@ use crate::superblock::UUID;
 use xfs_word::{Seal, SealKind, part, sealed};
 
 /// Why a superblock is not accepted.
-#[derive(Clone, Copy, Debug, PartialEq, Eq)]
+#[derive(Clone, Copy, PartialEq, Eq)]
 pub enum SuperFault {
     /// Its magic number, version, checksum or log sequence number is not right.
     NotSealed,

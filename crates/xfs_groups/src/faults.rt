@@ -1,7 +1,7 @@
 //! Why groups are not read.
 
 /// Why groups are not read.
-#[derive(Clone, Copy, Debug, PartialEq, Eq)]
+#[derive(Clone, Copy, PartialEq, Eq)]
 pub enum GroupsFault {
     /// A read failed.
     ReadFault,

@@ -28,14 +28,14 @@ use xfs_runs::Steps;
 use xfs_volume::{Blocks, ClusterRec, GroupRec, Records};
 
 /// What is known of the blocks of one group.
-#[derive(Debug, Drop)]
+#[derive(Drop)]
 pub struct GroupTrees {
     /// The numbers of the blocks on which nothing new is placed, ascending.
     pub reserved: Blocks,
 }
 
 /// The groups of a volume.
-#[derive(Debug, Drop)]
+#[derive(Drop)]
 pub struct Groups {
     /// Each group, or the first part that does not read.
     pub groups: Result<Records<GroupRec>, Finding>,

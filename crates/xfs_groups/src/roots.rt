@@ -4,7 +4,7 @@ use crate::heads::Heads;
 use xfs_kinds::{Bno, Cnt, Fino, Ino, Rmap};
 
 /// The root of a tree, an AG block, and how many levels the tree has.
-#[derive(Clone, Copy, Debug)]
+#[derive(Clone, Copy)]
 pub(crate) struct Root {
     pub block: u32,
     pub levels: u32,

@@ -8,7 +8,7 @@ use xfs_word::{Form, get32, put32};
 
 /// An array of numbers of 4 bytes: its name, the byte offset of its first number in the object, how many
 /// numbers it has, and how each is shown.
-#[derive(Clone, Copy, Debug)]
+#[derive(Clone, Copy)]
 pub struct ArrayLayout {
     pub name: &'static str,
     pub offset: usize,

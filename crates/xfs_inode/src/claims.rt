@@ -16,7 +16,7 @@ use xfs_tree::Kind;
 use xfs_word::Extent;
 
 /// A run of blocks, by block numbers.
-#[derive(Clone, Copy, Debug, PartialEq, Eq, PartialOrd, Ord)]
+#[derive(Clone, Copy, PartialEq, Eq, PartialOrd, Ord)]
 pub struct BlockRange {
     /// The first block.
     pub start: u64,

@@ -20,7 +20,7 @@ use xfs_inode::layouts::inode::{DATA_FORK, FORKOFF, FORMAT, NBLOCKS, NEXTENTS, S
 use xfs_word::{get8, put_part, put8, put32, put64};
 
 /// A data fork that is to be written, and the numbers of the core that go with it.
-#[derive(Debug, Drop)]
+#[derive(Drop)]
 pub struct ForkWanted {
     /// What the fork is: 1 local, 2 extents, 3 a tree of extents.
     pub format: u8,

@@ -27,7 +27,7 @@ const INDEX_START: u64 = 0x80_0000;
 const INDEX_END: u64 = 0x100_0000;
 
 /// What the blocks of a fork belong to.
-#[derive(Clone, Copy, Debug, PartialEq, Eq)]
+#[derive(Clone, Copy, PartialEq, Eq)]
 pub enum Owner {
     Directory,
     Link,

@@ -18,7 +18,7 @@ use xfs_volume::{FileRec, GroupRec};
 const SUPER_LSN: u16 = 240;
 
 /// Where a log sequence number stands.
-#[derive(Clone, Copy, Debug, PartialEq, Eq, PartialOrd, Ord)]
+#[derive(Clone, Copy, PartialEq, Eq, PartialOrd, Ord)]
 pub struct LsnPosition {
     /// The block number.
     pub block: u64,

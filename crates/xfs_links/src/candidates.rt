@@ -14,7 +14,7 @@ use xfs_disk::NoMemory;
 use xfs_volume::is_name;
 
 /// An entry that can name its file.
-#[derive(Clone, Copy, Debug)]
+#[derive(Clone, Copy)]
 pub struct Candidate {
     /// Its place among the entries.
     pub entry: usize,

@@ -5,7 +5,7 @@ use xfs_disk::Word;
 use xfs_volume::Records;
 
 /// A file that is kept.
-#[derive(Clone, Copy, Debug, PartialEq, Eq)]
+#[derive(Clone, Copy, PartialEq, Eq)]
 pub struct NodeRec {
     /// The number of its inode.
     pub ino: u64,
@@ -14,7 +14,7 @@ pub struct NodeRec {
 }
 
 /// What is decided about the names of all files.
-#[derive(Debug, Drop)]
+#[derive(Drop)]
 pub struct DecidedNames {
     /// The entries that stay, in the order in which they came.
     pub entries: Records<EntryRec>,

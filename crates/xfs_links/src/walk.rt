@@ -16,7 +16,7 @@ use xfs_disk::NoMemory;
 use xfs_weave::Weave;
 
 /// A directory that is attached.
-#[derive(Clone, Copy, Debug)]
+#[derive(Clone, Copy)]
 pub struct Attached {
     /// The directory.
     pub directory: u32,

@@ -12,7 +12,7 @@ use std::alloc::Global;
 use xfs_disk::{BLOCK_SIZE, Disk, Failed, NoMemory, count_failure};
 
 /// A disk in memory. It tells its contents, and not its stops.
-#[derive(Debug, Drop)]
+#[derive(Drop)]
 pub struct MemoryDisk {
     bytes: Vec<u8>,
     blocks: u64,

@@ -6,7 +6,7 @@ use std::alloc::Global;
 use xfs_disk::{Library, LibraryFault, Word};
 
 /// A library with no file. It tells so.
-#[derive(Clone, Copy, Debug)]
+#[derive(Clone, Copy)]
 pub struct MemoryLibrary;
 
 impl MemoryLibrary {

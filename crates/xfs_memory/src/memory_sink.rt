@@ -8,7 +8,7 @@ use std::alloc::Global;
 use xfs_disk::{Failed, NoMemory, Sink, count_failure};
 
 /// A sink for bytes in memory. It tells the bytes that it took.
-#[derive(Debug, Drop)]
+#[derive(Drop)]
 pub struct MemorySink {
     bytes: Vec<u8>,
     /// How many bytes there is room for in all.

@@ -8,7 +8,7 @@ use std::alloc::Global;
 use xfs_disk::{Failed, NoMemory, Source, count_failure};
 
 /// A source of bytes in memory. It tells the bytes that are left.
-#[derive(Debug, Drop)]
+#[derive(Drop)]
 pub struct MemorySource {
     bytes: Vec<u8>,
     /// How many bytes were given.

@@ -6,7 +6,7 @@ use std::alloc::Global;
 use xfs_disk::NoMemory;
 
 /// Counts calls, and knows which of them are to fail.
-#[derive(Debug, Drop)]
+#[derive(Drop)]
 pub(crate) struct Schedule {
     /// The calls made so far.
     calls: u64,

@@ -23,7 +23,7 @@ use xfs_naming::{Numbered, records_by_number};
 use xfs_volume::Records;
 
 /// How many bytes the data fork of a directory may have.
-#[derive(Clone, Copy, Debug, PartialEq, Eq)]
+#[derive(Clone, Copy, PartialEq, Eq)]
 pub struct ForkRoom {
     /// The inode number of the directory.
     pub ino: u64,
@@ -41,7 +41,7 @@ impl Numbered for ForkRoom {
 }
 
 /// A directory that was built anew.
-#[derive(Debug, Drop)]
+#[derive(Drop)]
 pub struct BuiltDirectory {
     /// The inode number of the directory.
     pub ino: u64,

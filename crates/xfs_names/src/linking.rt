@@ -17,7 +17,7 @@ use xfs_naming::{Numbered, records_by_number, records_near};
 use xfs_volume::Records;
 
 /// An inode that an entry names.
-#[derive(Clone, Copy, Debug)]
+#[derive(Clone, Copy)]
 pub struct Target {
     /// The number of the inode.
     pub ino: u64,

@@ -4,7 +4,7 @@ use xfs_dirdata::EntryRec;
 use xfs_volume::Records;
 
 /// The names that all files are to have.
-#[derive(Debug, Drop)]
+#[derive(Drop)]
 pub struct WantedNames {
     /// The entries of all directories, one directory after the other, each with the type of the file that it names: those that
     /// stay, in lost+found the orphans behind them, in the root at last a new lost+found.

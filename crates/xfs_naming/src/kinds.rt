@@ -12,7 +12,7 @@ use std::alloc::{AllocError, Global};
 use xfs_volume::{FileRec, type_of};
 
 /// What is asked of a file by its number: 16 bytes, where its record has some 300.
-#[derive(Clone, Copy, Debug)]
+#[derive(Clone, Copy)]
 pub struct FileKind {
     /// The number of its inode.
     pub ino: u64,

@@ -6,7 +6,7 @@ use xfs_dirdata::EntryRec;
 use xfs_volume::{DirRec, FileRec};
 
 /// The files, directories and entries of a volume, and its links in the order of what they name.
-#[derive(Clone, Copy, Debug)]
+#[derive(Clone, Copy)]
 pub struct Names<'a> {
     /// The inode number of the root.
     pub root: u64,
@@ -23,7 +23,7 @@ pub struct Names<'a> {
 }
 
 /// Where files and links are looked for first: what goes by ascending numbers finds them so.
-#[derive(Clone, Copy, Debug)]
+#[derive(Clone, Copy)]
 pub struct Near {
     /// A place among the files and their kinds.
     pub files: usize,

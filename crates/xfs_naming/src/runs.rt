@@ -52,7 +52,7 @@ impl Numbered for EntryRec {
 }
 
 /// A link: a directory, and what it names.
-#[derive(Clone, Copy, Debug)]
+#[derive(Clone, Copy)]
 pub struct Link {
     /// The inode number that is named.
     pub target: u64,

@@ -11,7 +11,7 @@ use std::alloc::Global;
 use xfs_disk::{NoMemory, Word};
 
 /// What a command line of `xfs_db` says.
-#[derive(Debug, Drop)]
+#[derive(Drop)]
 pub struct DebugLine {
     /// Nothing is written (`-r`).
     pub read_only: bool,

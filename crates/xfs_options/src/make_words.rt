@@ -18,7 +18,7 @@ use std::alloc::Global;
 use xfs_disk::{NoMemory, Word};
 
 /// What `mkfs.xfs` makes. Sizes are in blocks of 4096 bytes.
-#[derive(Debug, Drop)]
+#[derive(Drop)]
 pub struct MakeOptions {
     /// The size of the volume (`-d size=`).
     pub blocks: Option<u64>,
@@ -41,7 +41,7 @@ pub struct MakeOptions {
 }
 
 /// What a command line of `mkfs.xfs` says.
-#[derive(Debug, Drop)]
+#[derive(Drop)]
 pub struct MakeLine {
     pub options: MakeOptions,
     /// Prints nothing of the volume that is made (`-q`).

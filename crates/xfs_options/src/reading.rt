@@ -11,7 +11,7 @@ use std::alloc::Global;
 use xfs_disk::{NoMemory, Word};
 
 /// An option that was given.
-#[derive(Debug, Drop)]
+#[derive(Drop)]
 pub struct Given {
     /// The letter of the option.
     pub letter: u8,

@@ -18,7 +18,7 @@ use xfs_geom::{Geometry, Run};
 use xfs_volume::Records;
 
 /// A request for chunks of inodes.
-#[derive(Debug, Drop)]
+#[derive(Drop)]
 pub struct ChunkAsk {
     pub geometry: Geometry,
     /// The runs of what is kept, in any order.

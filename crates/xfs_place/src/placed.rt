@@ -4,7 +4,7 @@ use xfs_geom::{Counts, InoRec, RmapRec, Run, Span};
 use xfs_volume::{Records, TreeBlocks};
 
 /// The trees and the free list of an allocation group, and what they hold.
-#[derive(Debug, Drop)]
+#[derive(Drop)]
 pub struct GroupPlaced {
     /// The maximal runs of free AG blocks, by start.
     pub bno: Records<Span>,
@@ -21,7 +21,7 @@ pub struct GroupPlaced {
 }
 
 /// Where everything stands that was to be placed, and what the volume then holds.
-#[derive(Debug, Drop)]
+#[derive(Drop)]
 pub struct Placed {
     /// The runs of each ask in order, and of each ask from its first block to its last.
     pub runs: Records<Run>,

@@ -4,7 +4,7 @@ use xfs_geom::{Geometry, InoRec, Run};
 use xfs_volume::Records;
 
 /// A run of blocks that is asked for.
-#[derive(Clone, Copy, Debug, PartialEq, Eq)]
+#[derive(Clone, Copy, PartialEq, Eq)]
 pub struct RunAsk {
     /// How many blocks it has.
     pub blocks: u32,
@@ -15,7 +15,7 @@ pub struct RunAsk {
 }
 
 /// What an object is.
-#[derive(Clone, Copy, Debug, PartialEq, Eq)]
+#[derive(Clone, Copy, PartialEq, Eq)]
 pub enum ObjectKind {
     Directory,
     Symlink,
@@ -24,7 +24,7 @@ pub enum ObjectKind {
 }
 
 /// An object whose runs are to be placed.
-#[derive(Debug, Drop)]
+#[derive(Drop)]
 pub struct Object {
     /// The number of its inode.
     pub ino: u64,
@@ -36,13 +36,13 @@ pub struct Object {
 }
 
 /// The records of inodes of an allocation group.
-#[derive(Debug, Drop)]
+#[derive(Drop)]
 pub struct GroupInodes {
     pub records: Records<InoRec>,
 }
 
 /// What is to be placed in a volume, and what it holds already.
-#[derive(Debug, Drop)]
+#[derive(Drop)]
 pub struct Wanted {
     pub geometry: Geometry,
     /// The runs of what is kept.

@@ -4,14 +4,14 @@ use xfs_disk::Word;
 use xfs_volume::Records;
 
 /// The files that a protofile says.
-#[derive(Debug, Drop)]
+#[derive(Drop)]
 pub struct Proto {
     /// One for each file, depth first: the root, then each entry before those of the directories behind it.
     pub nodes: Records<ProtoNode>,
 }
 
 /// A file that a protofile says.
-#[derive(Debug, Drop)]
+#[derive(Drop)]
 pub struct ProtoNode {
     /// The place of its directory among the nodes, from 0. The root's is 0.
     pub parent: u64,
@@ -29,7 +29,7 @@ pub struct ProtoNode {
 }
 
 /// The type of a file, with what a protofile says of its content.
-#[derive(Debug, Drop)]
+#[derive(Drop)]
 pub enum ProtoKind {
     /// A regular file.
     Regular {

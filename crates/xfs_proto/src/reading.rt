@@ -42,7 +42,7 @@ const MAJORS: u64 = 1 << 14;
 const MINORS: u64 = 1 << 18;
 
 /// What the next token is to be.
-#[derive(Clone, Copy, Debug)]
+#[derive(Clone, Copy)]
 pub(crate) enum NextToken {
     /// One of those that are ignored, of which so many are left.
     Ignored { left: u8 },
@@ -62,7 +62,7 @@ pub(crate) enum NextToken {
 }
 
 /// A directory that is open.
-#[derive(Clone, Copy, Debug)]
+#[derive(Clone, Copy)]
 pub struct Open {
     /// Its place among the nodes.
     pub directory: u64,
@@ -71,7 +71,7 @@ pub struct Open {
 }
 
 /// What has been read of an entry.
-#[derive(Clone, Copy, Debug)]
+#[derive(Clone, Copy)]
 pub(crate) struct Entry<'a> {
     pub name: &'a [u8],
     pub mode: Mode,

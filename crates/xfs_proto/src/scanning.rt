@@ -11,7 +11,7 @@ use crate::reading::Reader;
 use std::alloc::Global;
 
 /// Where a byte stands.
-#[derive(Clone, Copy, Debug)]
+#[derive(Clone, Copy)]
 pub(crate) enum Place {
     /// Between tokens.
     Between,

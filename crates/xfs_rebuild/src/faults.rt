@@ -4,7 +4,7 @@ use crate::names_due::BoxedNames;
 use xfs_place::Unplaced;
 
 /// Why no rebuild is planned.
-#[derive(Debug, Drop)]
+#[derive(Drop)]
 pub enum RebuildFault {
     /// A name or a directory would have to change; this is what is known of the volume.
     Names(BoxedNames),

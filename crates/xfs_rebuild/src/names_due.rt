@@ -12,7 +12,7 @@ use xfs_request::SlotSeen;
 use xfs_volume::{DirRec, FileRec, Records};
 
 /// What is kept of it, and what would be asked of it if no name changed.
-#[derive(Debug, Drop)]
+#[derive(Drop)]
 pub struct NamesDue {
     /// What would be placed, beside which blocks are taken and which reserved.
     pub wanted: Wanted,
@@ -35,7 +35,7 @@ pub struct NamesDue {
 }
 
 /// What is known, set apart: a fault that may hold it is then small, and cheap to drop. Contracts see what it holds.
-#[derive(Debug, Drop)]
+#[derive(Drop)]
 pub struct BoxedNames {
     due: Box<NamesDue>,
 }

@@ -6,7 +6,7 @@ use xfs_shared::BlockList;
 use xfs_volume::{Blocks, Records};
 
 /// What the blocks of a volume are made of, besides what is placed in it.
-#[derive(Debug, Drop)]
+#[derive(Drop)]
 pub struct Bytes {
     /// An accepted superblock of the volume.
     pub sector: [u8; 512],

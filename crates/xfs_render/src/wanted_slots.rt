@@ -4,7 +4,7 @@ use xfs_inodebuild::ForkWanted;
 use xfs_volume::Core;
 
 /// What a slot is before anything else is changed in it.
-#[derive(Clone, Copy, Debug, PartialEq, Eq)]
+#[derive(Clone, Copy, PartialEq, Eq)]
 pub enum SlotBase {
     /// What it was.
     Kept,
@@ -15,7 +15,7 @@ pub enum SlotBase {
 }
 
 /// What is to be made of a slot: the changes are made in the order of the fields.
-#[derive(Debug, Drop)]
+#[derive(Drop)]
 pub struct SlotWanted {
     /// The number of its inode.
     pub ino: u64,

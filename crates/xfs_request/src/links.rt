@@ -18,7 +18,7 @@ use xfs_naming::{Link, records_near};
 use xfs_volume::{FileRec, is_directory};
 
 /// Where files, entries, links and slots are looked for first: what goes by ascending numbers is found so.
-#[derive(Clone, Copy, Debug)]
+#[derive(Clone, Copy)]
 pub struct Near {
     /// A place among the files.
     pub files: usize,

@@ -18,7 +18,7 @@ const SLOTS: u8 = 8;
 const SLOT_SIZE: usize = 512;
 
 /// What the bytes of a slot alone say of what it reads as.
-#[derive(Debug, Drop)]
+#[derive(Drop)]
 pub enum SlotFile {
     /// It names no other block, and reads so.
     Decided(FileRead),
@@ -29,7 +29,7 @@ pub enum SlotFile {
 }
 
 /// What is known of a slot from its bytes alone.
-#[derive(Debug, Drop)]
+#[derive(Drop)]
 pub struct SlotPart {
     /// Its number in its block, from 0 to 7.
     pub slot: u8,

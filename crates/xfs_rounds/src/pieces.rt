@@ -14,7 +14,7 @@ use xfs_disk::{Gate, NoMemory};
 use xfs_geom::Geometry;
 
 /// A block of a round, and what is known of its slots.
-#[derive(Debug, Drop)]
+#[derive(Drop)]
 pub struct BlockParts {
     /// The number of the block.
     pub place: u64,

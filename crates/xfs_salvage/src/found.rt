@@ -4,7 +4,7 @@ use xfs_dirdata::EntryRec;
 use xfs_volume::{ClusterRec, DirRec, FileRec, Records};
 
 /// What the candidate clusters of a volume gave.
-#[derive(Debug, Drop)]
+#[derive(Drop)]
 pub struct FoundRecords {
     /// The candidate clusters, by block.
     pub clusters: Records<ClusterRec>,
@@ -17,7 +17,7 @@ pub struct FoundRecords {
 }
 
 /// What is kept of it.
-#[derive(Debug, Drop)]
+#[derive(Drop)]
 pub struct Salvaged {
     /// The number of the first block of each kept cluster, ascending.
     pub clusters: Records<u64>,

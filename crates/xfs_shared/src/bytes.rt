@@ -8,7 +8,7 @@ use std::rc::Rc;
 use xfs_disk::NoMemory;
 
 /// Bytes that several hold. They never change. Contracts see the list of the bytes.
-#[derive(Debug, Drop)]
+#[derive(Drop)]
 pub struct SharedBytes {
     bytes: Rc<Vec<u8>>,
 }

@@ -11,7 +11,7 @@ use xfs_bank::BlockBank;
 use xfs_disk::{BLOCK_SIZE, NoMemory};
 
 /// Blocks of 4096 bytes, of which several may share their bytes. Contracts see the list of the blocks.
-#[derive(Debug, Drop)]
+#[derive(Drop)]
 pub struct BlockList {
     pieces: Vec<Piece>,
 }

@@ -6,7 +6,7 @@ use crate::bytes::SharedBytes;
 use xfs_disk::{BLOCK_SIZE, NoMemory};
 
 /// The 4096 bytes from a place on.
-#[derive(Debug, Drop)]
+#[derive(Drop)]
 pub struct Piece {
     pub bytes: SharedBytes,
     pub at: usize,

@@ -8,7 +8,7 @@ use xfs_dirdata::EntryRec;
 use xfs_volume::{DirRec, FileRec};
 
 /// An inode with a feature that is not supported.
-#[derive(Clone, Copy, Debug, PartialEq, Eq)]
+#[derive(Clone, Copy, PartialEq, Eq)]
 pub struct InodeFeature {
     /// The number of the inode.
     pub ino: u64,
@@ -17,7 +17,7 @@ pub struct InodeFeature {
 }
 
 /// What the slots of some inodes give.
-#[derive(Debug, Drop)]
+#[derive(Drop)]
 pub struct Inodes {
     /// The files, with their attributes or without.
     pub files: Vec<FileRec>,

@@ -9,7 +9,7 @@ use xfs_image::Finding;
 use xfs_volume::Law;
 
 /// A number of a finding, in its own terms.
-#[derive(Clone, Copy, Debug, PartialEq, Eq)]
+#[derive(Clone, Copy, PartialEq, Eq)]
 pub(crate) enum Piece {
     /// No number.
     Nothing,
@@ -28,7 +28,7 @@ pub(crate) enum Piece {
 }
 
 /// An explanation: a line in the order of these fields.
-#[derive(Clone, Copy, Debug)]
+#[derive(Clone, Copy)]
 pub(crate) struct Explanation {
     pub(crate) object: &'static str,
     pub(crate) place: Piece,

@@ -11,7 +11,7 @@ use crate::lines::{Number, put_line, put_text};
 use xfs_disk::{Failed, Sink};
 
 /// A tool of the program.
-#[derive(Clone, Copy, Debug, PartialEq, Eq)]
+#[derive(Clone, Copy, PartialEq, Eq)]
 pub enum Tool {
     /// `xfs_repair`.
     Repair,
@@ -22,7 +22,7 @@ pub enum Tool {
 }
 
 /// An option of a tool, for the line that says what it does.
-#[derive(Clone, Copy, Debug)]
+#[derive(Clone, Copy)]
 struct OptionLine {
     letter: u8,
     /// The name of its value, what it does, and the end of the line.

@@ -9,7 +9,7 @@ use xfs_disk::{Failed, Sink};
 use xfs_objects::{MOST_DIGITS, write_hexadecimal};
 
 /// A number, by the form in which it is put.
-#[derive(Clone, Copy, Debug)]
+#[derive(Clone, Copy)]
 pub enum Number {
     Decimal(u64),
     Large(u128),

@@ -2,7 +2,7 @@
 
 /// A block of a tree: its number, and the low key and, where keys are pairs, the high key that its parent
 /// states. A root has none.
-#[derive(Clone, Copy, Debug)]
+#[derive(Clone, Copy)]
 pub struct Seat<Key> {
     pub place: u64,
     pub low: Option<Key>,

@@ -18,7 +18,7 @@ use xfs_geom::Geometry;
 use xfs_word::sealed;
 
 /// A block of a round: whose it is, and where it stands.
-#[derive(Clone, Copy, Debug)]
+#[derive(Clone, Copy)]
 pub struct Spot<Key> {
     /// The number of its tree.
     pub tree: usize,

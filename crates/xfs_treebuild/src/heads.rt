@@ -21,7 +21,7 @@ use xfs_word::{Seal, SealKind, put_part, put16, put32, put64, seal};
 const LONG_PAD: usize = 68;
 
 /// What a header states beside the identifier of the volume.
-#[derive(Clone, Copy, Debug)]
+#[derive(Clone, Copy)]
 pub(crate) struct Header {
     pub magic: u32,
     pub level: u16,

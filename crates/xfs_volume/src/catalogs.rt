@@ -9,7 +9,7 @@ use xfs_geom::{Counts, Geometry};
 use xfs_heads::LogState;
 
 /// A block with a log sequence number that it states.
-#[derive(Clone, Copy, Debug, PartialEq, Eq)]
+#[derive(Clone, Copy, PartialEq, Eq)]
 pub struct BlockLsn {
     /// The block number.
     pub block: u64,
@@ -17,7 +17,7 @@ pub struct BlockLsn {
 }
 
 /// All that the trees, inodes and directories of a volume say.
-#[derive(Debug, Drop)]
+#[derive(Drop)]
 pub struct Catalog {
     pub geometry: Geometry,
     /// Each allocation group, in order.

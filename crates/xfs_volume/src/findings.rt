@@ -14,7 +14,7 @@ pub struct Law {
 }
 
 /// Why a catalog is not lawful.
-#[derive(Clone, Copy, Debug, PartialEq, Eq)]
+#[derive(Clone, Copy, PartialEq, Eq)]
 pub enum LawFault {
     /// It breaks this law first.
     Broken(Law),

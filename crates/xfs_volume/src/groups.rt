@@ -5,14 +5,14 @@ use xfs_geom::{InoRec, RmapRec, Span};
 use xfs_heads::{Agf, Agfl, Agi};
 
 /// The blocks of one tree of a group.
-#[derive(Debug, Drop)]
+#[derive(Drop)]
 pub struct TreeBlocks {
     /// Their block numbers, level by level from the root, each from the left.
     pub blocks: Blocks,
 }
 
 /// An allocation group: its headers and the records of its trees (chapter "Allocation Groups").
-#[derive(Debug, Drop)]
+#[derive(Drop)]
 pub struct GroupRec {
     pub agf: Agf,
     pub agi: Agi,

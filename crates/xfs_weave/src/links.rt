@@ -4,7 +4,7 @@ ghost use Rattle.std.specs.Prelude.{◌≡◌, ℕ, ◌==◌, ◌<◌, ◌+◌, 
 ghost use Rattle.xfs_weave.specs.Links.{after_of, before_of, list_of};
 
 /// A node or the end of a list.
-#[derive(Clone, Copy, Debug)]
+#[derive(Clone, Copy)]
 pub struct NodeLink {
     /// The link behind it.
     pub after: usize,

@@ -10,7 +10,7 @@ use xfs_disk::NoMemory;
 
 /// Lists of nodes, each node on one list at most. Nodes and lists are numbered from 0. Each call but
 /// `make` takes the same few steps however long the lists are, and no memory.
-#[derive(Debug, Drop)]
+#[derive(Drop)]
 pub struct Weave {
     nodes: u32,
     lists: u32,

@@ -6,7 +6,7 @@ ghost use Rattle.xfs_word.specs.Field.{field_of, is_width, SameBeside, KeepsBesi
 use crate::fields::{field, put_field};
 
 /// How a field's value is shown.
-#[derive(Clone, Copy, Debug, PartialEq, Eq)]
+#[derive(Clone, Copy, PartialEq, Eq)]
 pub enum Form {
     /// A decimal number.
     Decimal,
@@ -22,7 +22,7 @@ pub enum Form {
 
 /// A field of an on-disk object: its name, its byte offset in the object, its width in bytes, and
 /// how it is shown.
-#[derive(Clone, Copy, Debug)]
+#[derive(Clone, Copy)]
 pub struct FieldLayout {
     pub name: &'static str,
     pub offset: usize,
