@@ -50,17 +50,18 @@ fn opened(rt: &impl Abort, system: &HostRuntime, path: &PathBuf) -> FileDisk<Fil
     must(rt, FileDisk::open(file))
 }
 
-/// Fails where block 1 is not of twos, or block 0 not of ones.
+/// Fails where block 1 is not of twos, or block 0 not of ones. Block 0 comes last: were block 1 asked for behind it, it would be read ahead, and
+/// held when the file is cut.
 fn are_read(rt: &impl Abort, disk: &mut FileDisk<File>) {
     assert!(rt; matches!(disk.blocks(), Ok(2)));
+    let mut front = [0; 512];
+    same!(rt; disk.read_front(1, &mut front), Ok(()));
+    sure(rt, front == [2; 512], "the front of block 1");
     let mut block = [0; BLOCK_SIZE];
     same!(rt; disk.read(1, &mut block), Ok(()));
     sure(rt, block == [2; BLOCK_SIZE], "block 1");
     same!(rt; disk.read(0, &mut block), Ok(()));
     sure(rt, block == [1; BLOCK_SIZE], "block 0");
-    let mut front = [0; 512];
-    same!(rt; disk.read_front(1, &mut front), Ok(()));
-    sure(rt, front == [2; 512], "the front of block 1");
 }
 
 /// Fails where a file does not hold these bytes, those of block 1 replaced by twos.
