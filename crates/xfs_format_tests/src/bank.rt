@@ -4,7 +4,7 @@ ghost use Rattle.std.specs.Prelude.{◌≡◌, ◌<◌, length};
 ghost use Rattle.xfs_bank.specs.Bank.{AreCuts};
 
 use crate::checks::{must, same};
-use crate::text::{parts_of, refuse};
+use crate::text::{Row, parts_of, refuse};
 use std::alloc::Global;
 use std::process::Abort;
 use std::thread::Threads;
@@ -44,12 +44,16 @@ fn put(rt: &impl Abort, disk: &mut MemoryDisk, place: u64, block: &[u8; 4096]) {
 fn assert_blocks(rt: &(impl Abort + AllocGlobal), bank: &BlockBank, due: &str) {
     for (i, row) in parts_of(rt, due).iter().enumerate() {
         assert!(rt; i < bank.len());
-        let mut row = *row;
-        let first = row.number(rt);
-        let mut block = [row.number(rt); 4096];
-        block[0] = first;
-        same!(rt; bank.view(i), block.as_slice(); due);
+        assert_block(rt, bank.view(i), *row, due);
     }
+}
+
+/// Asserts that of a block the first byte and all others are those of a row.
+pub fn assert_block(rt: &impl Abort, held: &[u8], mut row: Row, due: &str) {
+    let first = row.number(rt);
+    let mut block = [row.number(rt); 4096];
+    block[0] = first;
+    same!(rt; held, block.as_slice(); due);
 }
 
 /// Puts each part's number plus 1 into all of its bytes.

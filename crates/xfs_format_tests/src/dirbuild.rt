@@ -202,14 +202,32 @@ fn assert_row(rt: &(impl Abort + AllocGlobal), line: &str) {
     let (count, form) = (row.number(rt), row.word());
     assert!(rt; count <= 20000);
     let image = must(rt, built(rt.alloc(), count));
+    assert_image(rt, &image, &mut row, line);
+    let dir = placed(rt, rt.alloc(), image);
+    if form != "short" {
+        assert_dir(rt, form, dir, row, line);
+    }
+}
+
+/// Asserts that the numbers of blocks, the short form and the shares of the blocks are as the row says.
+fn assert_image(rt: &(impl Abort + AllocGlobal), image: &DirImage, row: &mut Row<'_>, line: &str) {
     let blocks = (image.data_blocks, image.index_blocks, image.free_blocks);
     tells(rt, &blocks, row.text(), line);
-    same!(rt; image.short.len(), row.number(rt); line);
-    assert_shares(rt, rt.alloc(), &image, row.text());
-    let mut dir = placed(rt, rt.alloc(), image);
-    if form == "short" {
-        return;
-    }
+    row.tells_number(rt, image.short.len() as u64, line);
+    assert_shares(rt, rt.alloc(), image, row.text());
+}
+
+/// Asserts that a directory is whole, and is not with another address.
+fn assert_dir(
+    rt: &(impl Abort + AllocGlobal),
+    form: &str,
+    mut dir: DirSeen,
+    mut row: Row,
+    line: &str,
+)
+    requires mapped { length dir.blocks ≡ length dir.offsets.items }
+    requires ascending { OffsetsAscend 0 dir.offsets.items }
+{
     tells(rt, &check(rt.alloc(), form, &dir), "Ok(())", line);
     let (block, at) = (row.number(rt), row.number(rt));
     assert!(rt; block < dir.blocks.len());
@@ -219,6 +237,7 @@ fn assert_row(rt: &(impl Abort + AllocGlobal), line: &str) {
     put32(bytes, at, address.wrapping_add(1));
     assert!(rt; dir.blocks.len() == dir.offsets.len());
     tells(rt, &check(rt.alloc(), form, &dir), "Err(Unsound)", line);
+    drop(dir);
 }
 
 #[test]

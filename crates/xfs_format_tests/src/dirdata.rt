@@ -38,32 +38,49 @@ fn entry(alloc: Global, name: &[u8], ino: u32, ftype: u8) -> Result<EntryRec, Al
 }
 
 /// Entries that can be written, from rows with the offset, the inode number, the file type and the name.
-fn entries(rt: &impl Abort, alloc: Global, rows: &str) -> Result<Vec<EntryRec>, AllocError>
-    ensures { IfOk result (λ entries. All IsWritableEntry entries.items) }
+fn entries(rt: &impl Abort, alloc: Global, rows: &str) -> Vec<EntryRec>
+    ensures { All IsWritableEntry result.items }
 {
     let mut entries = Vec::new(alloc);
     for line in rows.lines() {
-        let mut row = Row::new(line);
-        let _at: u16 = row.number(rt);
-        let ino: u32 = row.number(rt);
-        let ftype: u8 = row.number(rt);
-        let name = row.text().as_bytes();
-        assert!(rt; name.len() < 256);
-        entries.push(entry(alloc, name, ino, ftype)?)?;
+        must(rt, entries.push(entry_of(rt, alloc, line)));
     }
-    Ok(entries)
+    entries
+}
+
+/// The entry of a row.
+fn entry_of(rt: &impl Abort, alloc: Global, line: &str) -> EntryRec
+    ensures { IsWritableEntry result }
+{
+    let mut row = Row::new(line);
+    let _at: u16 = row.number(rt);
+    let ino: u32 = row.number(rt);
+    let ftype: u8 = row.number(rt);
+    let name = row.text().as_bytes();
+    assert!(rt; name.len() < 256);
+    match entry(alloc, name, ino, ftype) {
+        Ok(entry) => entry,
+        Err(_) => refuse(rt, "memory is wanting", "an entry"),
+    }
 }
 
 /// Asserts that entries of directory 100 are these.
 fn assert_entries(rt: &impl Abort, entries: &[EntryRec], rows: &str) {
     same!(rt; entries.len(), rows.lines().count());
-    for (entry, line) in entries.iter().zip(rows.lines()) {
-        let mut row = Row::new(line);
-        let _at: u16 = row.number(rt);
-        let due: (u64, u64, u8) = (100, row.number(rt), row.number(rt));
-        same!(rt; (entry.dir, entry.ino, entry.ftype), due; line);
-        same!(rt; entry.name.bytes(), row.text().as_bytes(); line);
+    let mut lines = rows.lines();
+    for entry in entries {
+        assert_entry(rt, entry, lines.next().unwrap_or(""));
     }
+}
+
+/// Asserts that an entry of directory 100 is this one.
+fn assert_entry(rt: &impl Abort, entry: &EntryRec, line: &str) {
+    let mut row = Row::new(line);
+    let _at: u16 = row.number(rt);
+    same!(rt; entry.dir, 100; line);
+    row.tells_number(rt, entry.ino, line);
+    row.tells_number(rt, entry.ftype as u64, line);
+    same!(rt; entry.name.bytes(), row.text().as_bytes(); line);
 }
 
 #[test]
@@ -154,41 +171,56 @@ fn assert_block(
     spans: &str,
     whole: bool,
 ) {
+    let read = read_parts(rt, parts, whole);
+    assert_entries(rt, &read.entries, rows);
+    assert_places(rt, &read.places, rows);
+    assert_spans(rt, &read.free, spans);
+    same!(rt; read.bests, bestfree(&read.free));
+    drop(read);
+}
+
+/// What a block of these parts is read as.
+fn read_parts(rt: &(impl Abort + AllocGlobal), parts: &str, whole: bool) -> DataBlock {
     let mut block = [0; 4096];
     put_parts(rt, &mut block, parts);
-    let read = must(rt, read_data(rt.alloc(), 100, &block, whole));
-    assert_entries(rt, &read.entries, rows);
-    for (place, line) in read.places.iter().zip(rows.lines()) {
-        same!(rt; *place, Row::new(line).number(rt); line);
+    must(rt, read_data(rt.alloc(), 100, &block, whole))
+}
+
+/// Asserts that entries stand at these places.
+fn assert_places(rt: &impl Abort, places: &[u16], rows: &str) {
+    let mut lines = rows.lines();
+    for place in places {
+        let line = lines.next().unwrap_or("");
+        Row::new(line).tells_number(rt, *place as u64, line);
     }
-    same!(rt; read.free.len(), spans.lines().count());
-    for (span, line) in read.free.iter().zip(spans.lines()) {
-        let mut row = Row::new(line);
-        same!(rt; (span.offset, span.length), (row.number(rt), row.number(rt)); line);
+}
+
+/// Asserts that unused spans are these.
+fn assert_spans(rt: &impl Abort, free: &[FreeSpan], spans: &str) {
+    same!(rt; free.len(), spans.lines().count());
+    let mut lines = spans.lines();
+    for span in free {
+        assert_span(rt, span, lines.next().unwrap_or(""));
     }
-    same!(rt; read.bests, bestfree(&read.free));
+}
+
+/// Asserts that an unused span is this one.
+fn assert_span(rt: &impl Abort, span: &FreeSpan, line: &str) {
+    let mut row = Row::new(line);
+    row.tells_number(rt, span.offset as u64, line);
+    row.tells_number(rt, span.length as u64, line);
 }
 
 #[test]
 fn real_blocks(rt: HostRuntime) {
     assert_block(&rt, MADE, MADE_ENTRIES, "552 3544", false);
     assert_block(&rt, WRITTEN, WRITTEN_ENTRIES, WRITTEN_FREE, true);
-    let entries = rows_of(&rt, rt.alloc(), MADE_ENTRIES);
+    let entries = entries(&rt, rt.alloc(), MADE_ENTRIES);
     let mut block = [0; 4096];
     same!(rt; put_data(&entries, None, &mut block), 13);
     let mut due = [0; 4096];
     put_parts(&rt, &mut due, MADE);
     same!(rt; block, due);
-}
-
-/// Entries that can be written, from rows.
-fn rows_of(rt: &impl Abort, alloc: Global, rows: &str) -> Vec<EntryRec>
-    ensures { All IsWritableEntry result.items }
-{
-    match entries(rt, alloc, rows) {
-        Ok(entries) => entries,
-        Err(_) => refuse(rt, "memory is wanting", "entries"),
-    }
 }
 
 /// At byte offsets of the block that a kernel wrote, other bytes, and whether it is read then.
@@ -251,7 +283,7 @@ const ENDS: &str = "\
 
 #[test]
 fn filled_blocks(rt: HostRuntime) {
-    let entries = rows_of(&rt, rt.alloc(), NAMED);
+    let entries = entries(&rt, rt.alloc(), NAMED);
     for line in ENDS.lines() {
         try_end(&rt, &entries, line);
     }
@@ -271,7 +303,7 @@ fn try_end(rt: &impl Abort, entries: &[EntryRec], line: &str)
     let mut block = [0xee; 4096];
     assert!(rt; end % 8 == 0 && 96 <= end && end <= 4096);
     let placed = put_data(entries, Some((100, 128)), &mut block[..end]);
-    same!(rt; placed, row.number(rt); line);
+    row.tells_number(rt, placed as u64, line);
     same!(rt; (block[0], block[4095]), (0xee, 0xee); line);
 }
 

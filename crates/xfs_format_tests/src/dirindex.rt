@@ -163,12 +163,17 @@ pub fn assert_ascending(rt: &impl Abort, least: u64, offsets: &[u64])
 fn put_blocks(rt: &(impl Abort + AllocGlobal), blocks: &mut BlockBank, text: &str) {
     for line in text.lines() {
         for part in line.split_terminator(',') {
-            let mut row = Row::new(part);
-            let (block, at) = (row.number(rt), row.number(rt));
-            assert!(rt; block < blocks.len());
-            row.put(rt, blocks.view_mut(block), at);
+            put_bytes(rt, blocks, part);
         }
     }
+}
+
+/// Puts the bytes of a part into a block.
+fn put_bytes(rt: &(impl Abort + AllocGlobal), blocks: &mut BlockBank, part: &str) {
+    let mut row = Row::new(part);
+    let (block, at) = (row.number(rt), row.number(rt));
+    assert!(rt; block < blocks.len());
+    row.put(rt, blocks.view_mut(block), at);
 }
 
 /// The size and the file blocks of a form.

@@ -256,17 +256,25 @@ const LISTED: &str = "\
 fn listed_blocks(rt: HostRuntime) {
     let g = volume();
     for line in LISTED.lines() {
-        let mut row = Row::new(line);
-        let (ag, block): (u32, u32) = (row.number(&rt), row.number(&rt));
-        assert!(rt; ag < 2);
-        let list = Agfl::new(&[519, block]);
-        same!(rt; list.has_blocks(&g, ag), row.flag(&rt); line);
-        if list.has_blocks(&g, ag) {
-            let mut sector = [0xff; 512];
-            put_agfl(&g, ag, &list, &mut sector);
-            same!(rt; get32(&sector, 4), ag);
-            same!(rt; read_agfl(&g, ag, &bounds(0, 2), &sector), Some(list));
-            same!(rt; read_agfl(&g, 1 - ag, &bounds(0, 2), &sector), None);
-        }
+        try_listed(&rt, &g, line);
+    }
+}
+
+/// Tries a free list with the block of a line, and writes it where a group may have it.
+fn try_listed(rt: &impl Abort, g: &Geometry, line: &str)
+    requires { g.now.agcount ≡ 2 }
+{
+    let mut row = Row::new(line);
+    let (ag, block): (u32, u32) = (row.number(rt), row.number(rt));
+    assert!(rt; ag < 2);
+    let list = Agfl::new(&[519, block]);
+    let listed = list.has_blocks(g, ag);
+    row.tells_flag(rt, listed, line);
+    if listed {
+        let mut sector = [0xff; 512];
+        put_agfl(g, ag, &list, &mut sector);
+        same!(rt; get32(&sector, 4), ag);
+        same!(rt; read_agfl(g, ag, &bounds(0, 2), &sector), Some(list));
+        same!(rt; read_agfl(g, 1 - ag, &bounds(0, 2), &sector), None);
     }
 }

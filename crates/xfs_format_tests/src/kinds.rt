@@ -8,6 +8,7 @@ mod hostile;
 use crate::checks::{must, same};
 use crate::text::{Row, put_parts, tells};
 use std::cmp::Ordering;
+use std::process::Abort;
 use xfs_geom::{Geometry, InoRec, RmapRec, Run, Span};
 use xfs_kinds::*;
 use xfs_tree::{Kind, tree_layout};
@@ -74,8 +75,9 @@ fn layouts_of_kinds(rt: HostRuntime) {
         tree_layout(&Bmbt { ino: 9 }),
     ];
     same!(rt; LAYOUTS.lines().count(), layouts.len());
-    for (layout, due) in layouts.iter().zip(LAYOUTS.lines()) {
-        tells(&rt, layout, due, "a layout");
+    let mut lines = LAYOUTS.lines();
+    for layout in &layouts {
+        tells(&rt, layout, lines.next().unwrap_or(""), "a layout");
     }
     same!(rt; Rmap { ag: 1 }.owner(), 1);
     same!(rt; Bmbt { ino: 9 }.owner(), 9);
@@ -199,43 +201,64 @@ const OWNED_RUNS: &str = "\
 4294967295 1 0xfffffffffffffffb 0 false
 ";
 
+/// The record, which is of a fork of attributes.
+const DATA: RmapRec = RmapRec {
+    start: 24,
+    count: 3,
+    owner: 131,
+    offset_word: ATTRIBUTES + UNWRITTEN + 5,
+};
+
 #[test]
 fn owner_trees(rt: HostRuntime) {
     let g = volume();
+    owner_records(&rt);
+    ends_at(&rt, 131, 5, 7);
+    ends_at(&rt, 131, TREE_BLOCK, TREE_BLOCK);
+    ends_at(&rt, AG, 0, 0);
+    for line in OWNED_RUNS.lines() {
+        try_owned_run(&rt, &g, line);
+    }
+}
+
+/// Compares the bytes of the record and of its high key.
+fn owner_records(rt: &(impl Abort + AllocGlobal)) {
     let rmap = Rmap { ag: 0 };
-    let run = |start, count, owner, offset| RmapRec {
-        start,
-        count,
-        owner,
-        offset_word: offset,
-    };
-    let data = run(24, 3, 131, ATTRIBUTES + UNWRITTEN + 5);
     let mut bytes = [0; 24];
-    rmap.put_record(&data, &mut bytes);
-    tells(&rt, &bytes, RECORD, "a record");
-    same!(rt; rmap.read_record(&bytes), data);
-    let high = rmap.high_key(&data);
+    rmap.put_record(&DATA, &mut bytes);
+    tells(rt, &bytes, RECORD, "a record");
+    same!(rt; rmap.read_record(&bytes), DATA);
+    let high = rmap.high_key(&DATA);
     let mut key = [0; 20];
     rmap.put_key(&high, &mut key);
-    tells(&rt, &key, HIGH_KEY, "a high key");
+    tells(rt, &key, HIGH_KEY, "a high key");
     key[12] = 160;
     same!(rt; rmap.read_key(&key), high);
-    for (owner, word, last) in [(131, 5, 7), (131, TREE_BLOCK, TREE_BLOCK), (AG, 0, 0)] {
-        let key = rmap.high_key(&run(24, 3, owner, word));
-        same!(rt; key.offset_word, last; (owner, word));
-    }
-    for line in OWNED_RUNS.lines() {
-        let mut row = Row::new(line);
-        let next = run(
-            row.number(&rt),
-            row.number(&rt),
-            row.number(&rt),
-            row.number(&rt),
-        );
-        same!(rt; rmap.lawful(&g, Some(&data), &next), row.flag(&rt); line);
-        let order = rmap.order(&rmap.low_key(&data), &rmap.low_key(&next));
-        assert!(rt; order == Ordering::Less, "{line}");
-    }
+}
+
+/// Compares the offset word of the high key of three blocks of an owner from an offset word on.
+fn ends_at(rt: &impl Abort, owner: u64, word: u64, last: u64) {
+    let run = RmapRec {
+        owner,
+        offset_word: word,
+        ..DATA
+    };
+    same!(rt; Rmap { ag: 0 }.high_key(&run).offset_word, last; (owner, word));
+}
+
+/// Tries a run of a line behind the record.
+fn try_owned_run(rt: &impl Abort, g: &Geometry, line: &str) {
+    let rmap = Rmap { ag: 0 };
+    let mut row = Row::new(line);
+    let next = RmapRec {
+        start: row.number(rt),
+        count: row.number(rt),
+        owner: row.number(rt),
+        offset_word: row.number(rt),
+    };
+    row.tells_flag(rt, rmap.lawful(g, Some(&DATA), &next), line);
+    let order = rmap.order(&rmap.low_key(&DATA), &rmap.low_key(&next));
+    assert!(rt; order == Ordering::Less, "{line}");
 }
 
 /// Records and keys that a kernel wrote. It leaves the flag of unwritten blocks in some keys.
@@ -278,30 +301,46 @@ const EXTENTS: &str = "\
 0xffffffffffffffff 0xffffffffffffffff 0xffffffffffffffff false
 ";
 
+/// The extent.
+const FIRST: Extent = Extent {
+    offset: 3,
+    start: 20,
+    count: 5,
+    unwritten: false,
+};
+
 #[test]
 fn extent_trees(rt: HostRuntime) {
     let g = volume();
+    extent_records(&rt);
+    for line in EXTENTS.lines() {
+        try_extent(&rt, &g, line);
+    }
+}
+
+/// Compares the bytes of the extent and its key.
+fn extent_records(rt: &(impl Abort + AllocGlobal)) {
     let bmbt = Bmbt { ino: 131 };
-    let extent = |offset, start, count| Extent {
-        offset,
-        start,
-        count,
-        unwritten: false,
-    };
-    let first = extent(3, 20, 5);
     let mut bytes = [0; 16];
-    bmbt.put_record(&first, &mut bytes);
-    tells(&rt, &bytes, EXTENT, "an extent");
-    same!(rt; bmbt.read_record(&bytes), first);
+    bmbt.put_record(&FIRST, &mut bytes);
+    tells(rt, &bytes, EXTENT, "an extent");
+    same!(rt; bmbt.read_record(&bytes), FIRST);
     let mut key = [0; 8];
-    bmbt.put_key(&bmbt.low_key(&first), &mut key);
+    bmbt.put_key(&bmbt.low_key(&FIRST), &mut key);
     same!(rt; bmbt.read_key(&key), 3);
     assert!(rt; bmbt.order(&3, &4) == Ordering::Less);
-    for line in EXTENTS.lines() {
-        let mut row = Row::new(line);
-        let next = extent(row.number(&rt), row.number(&rt), row.number(&rt));
-        same!(rt; bmbt.lawful(&g, Some(&first), &next), row.flag(&rt); line);
-    }
+}
+
+/// Tries an extent of a line behind the first.
+fn try_extent(rt: &impl Abort, g: &Geometry, line: &str) {
+    let mut row = Row::new(line);
+    let next = Extent {
+        offset: row.number(rt),
+        start: row.number(rt),
+        count: row.number(rt),
+        unwritten: false,
+    };
+    row.tells_flag(rt, Bmbt { ino: 131 }.lawful(g, Some(&FIRST), &next), line);
 }
 
 #[test]

@@ -50,23 +50,35 @@ fn said(word: &Word) -> &str {
 
 /// A node as text: its directory, its name, its mode in octal, its owners, and its kind as a protofile says it.
 fn write_node(text: &mut String, node: &ProtoNode) -> Result<(), AllocError> {
+    write_head(text, node)?;
+    write_kind(text, &node.kind)
+}
+
+/// What a node says beside its kind.
+fn write_head(text: &mut String, node: &ProtoNode) -> Result<(), AllocError> {
+    let name = said(&node.name);
     write!(
         text,
         "{} {} {:o} {} {} ",
-        node.parent,
-        said(&node.name),
-        node.mode,
-        node.uid,
-        node.gid
-    )?;
-    match &node.kind {
+        node.parent, name, node.mode, node.uid, node.gid
+    )
+}
+
+/// A kind as a protofile says it.
+fn write_kind(text: &mut String, kind: &ProtoKind) -> Result<(), AllocError> {
+    match kind {
         ProtoKind::Regular { name, line } => write!(text, "- {} {}", said(name), line),
-        ProtoKind::Directory => write!(text, "d"),
+        ProtoKind::Directory => text.push_str("d"),
         ProtoKind::Link(target) => write!(text, "l {}", said(target)),
-        ProtoKind::Block { major, minor } => write!(text, "b {} {}", major, minor),
-        ProtoKind::Character { major, minor } => write!(text, "c {} {}", major, minor),
-        ProtoKind::Pipe => write!(text, "p"),
+        ProtoKind::Block { major, minor } => write_device(text, "b", *major, *minor),
+        ProtoKind::Character { major, minor } => write_device(text, "c", *major, *minor),
+        ProtoKind::Pipe => text.push_str("p"),
     }
+}
+
+/// A device as a protofile says it.
+fn write_device(text: &mut String, kind: &str, major: u32, minor: u32) -> Result<(), AllocError> {
+    write!(text, "{} {} {}", kind, major, minor)
 }
 
 /// Nodes as text, with commas between them.

@@ -2,6 +2,7 @@
 
 ghost use Rattle.std.specs.Prelude.{◌≡◌, length};
 
+use crate::bank::assert_block;
 use crate::checks::{must, same};
 use crate::text::parts_of;
 use std::alloc::Global;
@@ -13,11 +14,7 @@ use xfs_shared::{BlockList, SharedBytes};
 fn assert_blocks(rt: &(impl Abort + AllocGlobal), list: &BlockList, due: &str) {
     for (i, row) in parts_of(rt, due).iter().enumerate() {
         assert!(rt; i < list.len());
-        let mut row = *row;
-        let first = row.number(rt);
-        let mut block = [row.number(rt); 4096];
-        block[0] = first;
-        same!(rt; list.view(i), block.as_slice(); due);
+        assert_block(rt, list.view(i), *row, due);
     }
 }
 

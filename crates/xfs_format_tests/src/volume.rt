@@ -6,29 +6,48 @@ use std::process::Abort;
 use xfs_volume::*;
 use xfs_word::Extent;
 
-#[test]
-fn lists(rt: HostRuntime) {
-    let extent = Extent {
-        offset: 3,
-        start: 20,
-        count: 5,
-        unwritten: false,
-    };
-    let mut extents = Extents::new(rt.alloc());
-    same!(rt; extents.as_slice(), &[][..]);
-    must(&rt, extents.push(extent));
-    same!(rt; extents.as_slice(), &[extent][..]);
-    let other = Extent {
-        offset: 8,
-        ..extent
-    };
-    must(&rt, extents.push(other));
-    same!(rt; extents.as_slice(), &[extent, other][..]);
-    let copy = must(&rt, Extents::from_slice(rt.alloc(), extents.as_slice()));
-    same!(rt; copy.as_slice(), &[extent, other][..]);
-    let list = Extents::from_vec(must(&rt, vec![in rt.alloc(); extent]));
-    same!(rt; list.as_slice(), &[extent][..]);
-    let blocks = Blocks::from_vec(must(&rt, vec![in rt.alloc(); 20, 24]));
+/// Two extents, one behind the other.
+const FIRST: Extent = Extent {
+    offset: 3,
+    start: 20,
+    count: 5,
+    unwritten: false,
+};
+
+const SECOND: Extent = Extent {
+    offset: 8,
+    start: 20,
+    count: 5,
+    unwritten: false,
+};
+
+/// Fails where a list does not hold these extents.
+fn hold(rt: &impl Abort, extents: &Extents, due: &[Extent]) {
+    same!(rt; extents.as_slice(), due);
+}
+
+/// A list that grows, and a copy of what it holds then.
+fn grown(rt: &impl Abort, alloc: Global) -> Extents {
+    let mut extents = Extents::new(alloc);
+    hold(rt, &extents, &[]);
+    must(rt, extents.push(FIRST));
+    hold(rt, &extents, &[FIRST]);
+    must(rt, extents.push(SECOND));
+    hold(rt, &extents, &[FIRST, SECOND]);
+    must(rt, Extents::from_slice(alloc, extents.as_slice()))
+}
+
+/// Fails where blocks are not the same there and back.
+fn blocks_hold(rt: &impl Abort, alloc: Global) {
+    let blocks = Blocks::from_vec(must(rt, vec![in alloc; 20, 24]));
     same!(rt; blocks.as_slice(), &[20, 24][..]);
     same!(rt; blocks.into_vec().as_slice(), &[20, 24][..]);
+}
+
+#[test]
+fn lists(rt: HostRuntime) {
+    hold(&rt, &grown(&rt, rt.alloc()), &[FIRST, SECOND]);
+    let list = Extents::from_vec(must(&rt, vec![in rt.alloc(); FIRST]));
+    hold(&rt, &list, &[FIRST]);
+    blocks_hold(&rt, rt.alloc());
 }

@@ -124,21 +124,34 @@ fn check(rt: &(impl Abort + AllocGlobal), kind: SealKind, mut row: Row) {
     let layout = what.kind.layout();
     let name = row.text();
     tells(rt, &kind, name, name);
-    same!(rt; (layout.size, layout.checksum), (row.number(rt), row.number(rt)); name);
+    row.tells_number(rt, layout.size as u64, name);
+    row.tells_number(rt, layout.checksum as u64, name);
     sure(rt, layout.size <= 4096, name);
     let mut buffer = [0; 4096];
-    let object = &mut buffer[..layout.size];
     let parts = parts_of(rt, row.rest());
-    for part in parts.iter() {
+    try_parts(rt, &what, &mut buffer[..layout.size], &parts, name);
+}
+
+/// Asserts that an object of these parts is sealed, and that it is not with any of them wrong.
+fn try_parts(
+    rt: &(impl Abort + AllocGlobal),
+    what: &Seal,
+    object: &mut [u8],
+    parts: &[Row],
+    name: &str,
+)
+    requires { length object.old ≡ (layout_of what.now.kind).size }
+{
+    for part in parts {
         put_right(rt, object, *part);
     }
-    seal(&what, object);
-    same!(rt; sealed(&what, object), true; name);
-    for part in parts.iter() {
-        try_wrong(rt, &what, object, *part);
+    seal(what, object);
+    same!(rt; sealed(what, object), true; name);
+    for part in parts {
+        try_wrong(rt, what, object, *part);
     }
     turn(object, 511, 1);
-    same!(rt; sealed(&what, object), false; name);
+    same!(rt; sealed(what, object), false; name);
 }
 
 /// Writes a part of an object.
