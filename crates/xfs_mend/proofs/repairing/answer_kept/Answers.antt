@@ -1,5 +1,5 @@
 -- What is found is told, or the backups are repaired.
-use Rattle.std.proofs.Common.{◌≡◌, ◌≤◌, ◌-◌, ℕ, true, false, length, Some, refl, sym, subst, arith}
+use Rattle.std.proofs.Common.{rules, ◌≡◌, ◌≤◌, ◌-◌, ℕ, true, false, length, Some, refl, sym, subst, arith}
 use Rattle.xfs_disk.proofs.Reading.{reads_none}
 use Rattle.xfs_geom.specs.Electing.{vote_of}
 use Rattle.xfs_geom.specs.Volumes.{volume_of}
@@ -86,7 +86,7 @@ returns-clause-stops g c =
 
 pub returns-clause-possible : goal.returns-clause-possible
 returns-clause-possible g c =
-    let repairs : c.args.options.now.check ≡ false = c.if-options.false in
+    let repairs : c.args.options.now.check ≡ false = search rules in
     c.repair_backups.ensures.possible (repair_asked c.args.options.now) repairs
 
 pub returns-clause-ends : goal.returns-clause-ends
