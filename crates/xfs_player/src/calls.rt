@@ -2,7 +2,6 @@
 
 use crate::disk::CaseDisk;
 use crate::library::Shelf;
-use crate::numbers::number;
 use crate::refusal::Refusal;
 use std::alloc::{AllocError, Global};
 use std::thread::Threads;
@@ -97,34 +96,6 @@ impl Call {
         tell_number(alloc, &mut told, "finished", finished, self.due.finished)?;
         Ok(told)
     }
-}
-
-impl Due {
-    /// Takes a line of what is due.
-    pub fn take(&mut self, word: &str, rest: &str) -> Result<(), Refusal> {
-        match word {
-            "out" => Ok(push_line(&mut self.out, rest)?),
-            "cut" => Ok(self.out.push_str(rest)?),
-            "err" => Ok(push_line(&mut self.err, rest)?),
-            _ => self.take_number(word, rest),
-        }
-    }
-
-    /// Takes a line of a number that is due.
-    fn take_number(&mut self, word: &str, rest: &str) -> Result<(), Refusal> {
-        match word {
-            "code" => self.code = number(rest)?,
-            "finished" => self.finished = number(rest)?,
-            _ => return Err(Refusal::Unknown),
-        }
-        Ok(())
-    }
-}
-
-/// Adds a line to a text.
-fn push_line(text: &mut String, line: &str) -> Result<(), AllocError> {
-    text.push_str(line)?;
-    text.push('\n')
 }
 
 /// Adds a line where a stream does not hold what is due.

@@ -4,7 +4,7 @@ use crate::calls::{Call, Surroundings};
 use crate::library::Shelf;
 use crate::numbers::{cut, number};
 use crate::refusal::Refusal;
-use crate::stops::{Stops, stop_by_steps};
+use crate::stops::stop_by_steps;
 use crate::volume::Disks;
 use std::alloc::{AllocError, Global};
 use std::thread::Threads;
@@ -81,7 +81,15 @@ impl Case {
                 Ok(())
             }
             "holds" => self.compare(rest),
-            "fail" | "halt" | "restart" => self.hinder(word, rest),
+            "fail" => self.disks.held.fail(number(rest)?),
+            "halt" => {
+                self.disks.held.stop_after(number(rest)?);
+                Ok(())
+            }
+            "restart" => {
+                self.disks.held = self.disks.held.copy(self.alloc)?;
+                Ok(())
+            }
             "run" => self.run(rt, rest),
             "stops" => self.stop(rt, rest),
             "room" | "input" | "tail" | "unreadable" => self.give(word, rest),
@@ -92,21 +100,6 @@ impl Case {
                 Err(Refusal::Unknown) => self.expect(word, rest),
                 taken => taken,
             },
-        }
-    }
-
-    /// Takes a line of which calls of the disk fail.
-    fn hinder(&mut self, word: &str, rest: &str) -> Result<(), Refusal> {
-        match word {
-            "fail" => self.disks.held.fail(number(rest)?),
-            "halt" => {
-                self.disks.held.stop_after(number(rest)?);
-                Ok(())
-            }
-            _ => {
-                self.disks.held = self.disks.held.copy(self.alloc)?;
-                Ok(())
-            }
         }
     }
 
@@ -144,10 +137,24 @@ impl Case {
 
     /// Takes a line of what is due of the last call.
     fn expect(&mut self, word: &str, rest: &str) -> Result<(), Refusal> {
-        match &mut self.call {
-            Some(call) => call.due.take(word, rest),
-            None => Err(Refusal::NoCall),
+        let Some(call) = &mut self.call else {
+            return Err(Refusal::NoCall);
+        };
+        match word {
+            "out" => {
+                call.due.out.push_str(rest)?;
+                call.due.out.push('\n')?;
+            }
+            "cut" => call.due.out.push_str(rest)?,
+            "err" => {
+                call.due.err.push_str(rest)?;
+                call.due.err.push('\n')?;
+            }
+            "code" => call.due.code = number(rest)?,
+            "finished" => call.due.finished = number(rest)?,
+            _ => return Err(Refusal::Unknown),
         }
+        Ok(())
     }
 
     /// Compares the last call, and makes another.
@@ -166,26 +173,15 @@ impl Case {
         let (due, step) = (number(due)?, number(step)?);
         let disk = &self.disks.held;
         let stops = stop_by_steps(rt, self.alloc, disk, step, words, &self.given)?;
-        self.tell_stops(stops, due)?;
-        Ok(())
-    }
-
-    /// Tells what of these calls is not as it is due.
-    fn tell_stops(&mut self, stops: Stops, due: u64) -> Result<(), AllocError> {
         if stops.writes != due {
-            let line = format!(in self.alloc; "  {} blocks written, due {due}\n", stops.writes);
-            self.add(line)?;
+            let told = format!(in self.alloc; "  {} blocks written, due {due}\n", stops.writes)?;
+            self.told.push_str(told.as_str())?;
         }
-        match stops.wrong {
-            Some(written) => self.tell_wrong(written),
-            None => Ok(()),
+        if let Some(written) = stops.wrong {
+            let told = format!(in self.alloc; "  wrong behind {written} writes\n")?;
+            self.told.push_str(told.as_str())?;
         }
-    }
-
-    /// Tells after how many writes a call left what it must not leave.
-    fn tell_wrong(&mut self, written: u64) -> Result<(), AllocError> {
-        let line = format!(in self.alloc; "  wrong behind {written} writes\n");
-        self.add(line)
+        Ok(())
     }
 
     /// Tells what of the last call is not as it is due.

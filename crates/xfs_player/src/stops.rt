@@ -8,21 +8,10 @@ use std::thread::Threads;
 use xfs_disk::BLOCK_SIZE;
 
 /// How many blocks a call writes, and after how many a stop left first what it must not leave.
-#[derive(Clone, Copy)]
+#[derive(Drop)]
 pub struct Stops {
     pub writes: u64,
     pub wrong: Option<u64>,
-}
-
-/// How far calls that stop have come.
-#[derive(Drop)]
-struct Reached {
-    /// What the last of them left.
-    disk: CaseDisk,
-    /// After how many writes it stopped.
-    done: u64,
-    /// The highest block that one of them wrote.
-    place: usize,
 }
 
 /// The blocks that a disk holds otherwise than another one.
@@ -48,117 +37,39 @@ pub fn stop_by_steps(
     words: &str,
     given: &Surroundings,
 ) -> Result<Stops, Refusal> {
-    let whole = called_disk(rt, alloc, disk, words, given)?;
-    let mut reached = Reached {
-        disk: disk.copy(alloc)?,
-        done: 0,
-        place: 0,
-    };
-    let wrong = reached.first_wrong(rt, alloc, disk, &whole, step, words, given)?;
-    Ok(Stops {
-        writes: whole.writes(),
-        wrong,
-    })
-}
-
-/// What a call that goes on to its end leaves.
-fn called_disk(
-    rt: &(impl Threads + Sync),
-    alloc: Global,
-    disk: &CaseDisk,
-    words: &str,
-    given: &Surroundings,
-) -> Result<CaseDisk, Refusal> {
     let mut whole = disk.copy(alloc)?;
-    make_call(rt, alloc, &mut whole, words, given)?;
-    Ok(whole)
-}
-
-/// Makes a call whatever it puts.
-fn make_call(
-    rt: &(impl Threads + Sync),
-    alloc: Global,
-    disk: &mut CaseDisk,
-    words: &str,
-    given: &Surroundings,
-) -> Result<(), Refusal> {
-    let _call = Call::make(rt, alloc, disk, words, given)?;
-    Ok(())
-}
-
-/// Makes a call, and says whether it tells that a write failed once so many blocks were written.
-fn tells_fault(
-    rt: &(impl Threads + Sync),
-    alloc: Global,
-    disk: &mut CaseDisk,
-    written: u64,
-    words: &str,
-    given: &Surroundings,
-) -> Result<bool, Refusal> {
-    let call = Call::make(rt, alloc, disk, words, given)?;
-    Ok(call.tells_fault(alloc, written)?)
-}
-
-impl Reached {
-    /// Makes the calls that stop, and says after how many writes one left first what it must not leave.
-    fn first_wrong(
-        &mut self,
-        rt: &(impl Threads + Sync),
-        alloc: Global,
-        disk: &CaseDisk,
-        whole: &CaseDisk,
-        step: u64,
-        words: &str,
-        given: &Surroundings,
-    ) -> Result<Option<u64>, Refusal> {
-        let writes = whole.writes();
-        for _ in 0..writes {
-            if self.done >= writes {
-                break;
-            }
-            let written = writes.min(self.done.saturating_add(step));
-            if !self.goes_on(rt, alloc, disk, whole, written, words, given)? {
-                return Ok(Some(written));
-            }
+    let _call = Call::make(rt, alloc, &mut whole, words, given)?;
+    let writes = whole.writes();
+    let mut before = disk.copy(alloc)?;
+    let (mut done, mut place) = (0, 0);
+    for _ in 0..writes {
+        if done >= writes {
+            break;
         }
-        if self.disk.image() == whole.image() {
-            Ok(None)
-        } else {
-            Ok(Some(writes))
-        }
-    }
-
-    /// Makes a call that stops after so many writes, and says whether it leaves what it is to leave, and tells so.
-    fn goes_on(
-        &mut self,
-        rt: &(impl Threads + Sync),
-        alloc: Global,
-        disk: &CaseDisk,
-        whole: &CaseDisk,
-        written: u64,
-        words: &str,
-        given: &Surroundings,
-    ) -> Result<bool, Refusal> {
+        let written = writes.min(done.saturating_add(step));
         let mut stopped = disk.copy(alloc)?;
         stopped.stop_after(written);
-        let tells = tells_fault(rt, alloc, &mut stopped, written, words, given)?;
-        let in_order = self.moves_on(&stopped, whole, written);
-        self.disk = stopped;
-        Ok(in_order && tells)
+        let call = Call::make(rt, alloc, &mut stopped, words, given)?;
+        let changes = changes_between(before.image(), stopped.image(), whole.image());
+        let in_order = changes.is_some_and(|c| {
+            c.count == written.saturating_sub(done) && c.is_behind(place, written == writes)
+        });
+        if !in_order || !call.tells_fault(alloc, written)? {
+            return Ok(Stops {
+                writes,
+                wrong: Some(written),
+            });
+        }
+        place = highest(changes, place);
+        done = written;
+        before = stopped;
     }
-
-    /// Whether a disk holds what one is to hold of which a call stopped after so many writes; from here on that is the last one.
-    fn moves_on(&mut self, stopped: &CaseDisk, whole: &CaseDisk, written: u64) -> bool {
-        let Some(changes) = changes_between(self.disk.image(), stopped.image(), whole.image())
-        else {
-            return false;
-        };
-        let in_order = changes.count == written.saturating_sub(self.done)
-            && changes.is_behind(self.place, written == whole.writes());
-        self.place = changes.highest(self.place);
-        self.done = written;
-        in_order
-    }
+    let wrong = if before.image() == whole.image() {
+        None
+    } else {
+        Some(writes)
+    };
+    Ok(Stops { writes, wrong })
 }
 
 impl Changes {
@@ -170,13 +81,18 @@ impl Changes {
         };
         rest && (at_end || !self.begins)
     }
+}
 
-    /// The highest of the blocks so far.
-    fn highest(&self, place: usize) -> usize {
-        match self.ends {
-            Some((_, highest)) => highest,
-            None => place,
-        }
+/// The highest of the blocks so far.
+fn highest(changes: Option<Changes>, place: usize) -> usize {
+    match changes {
+        Some(
+            Changes {
+                ends: Some((_, highest)),
+                ..
+            },
+        ) => highest,
+        _ => place,
     }
 }
 
