@@ -165,9 +165,7 @@ fn gathered<R: Abort + Threads + Sync>(
 /// Fails where blocks were not read as often as is due.
 fn are_counted(rt: &(impl Abort + AllocGlobal), reads: &[u32], due: &str, case: &str) {
     let wanted = wanted_counts(rt, due);
-    for (block, (held, due)) in reads.iter().zip(wanted.iter()).enumerate() {
-        same!(*rt; *held, *due; (case, block));
-    }
+    same!(*rt; reads, wanted.as_slice(); case);
 }
 
 /// How often each block is to be read.

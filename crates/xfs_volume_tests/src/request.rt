@@ -13,7 +13,7 @@ use std::process::Abort;
 use std::sync::ledger::{Blank, Ledger};
 use std::thread::Threads;
 use xfs_disk::Stamp;
-use xfs_geom::{InoRec, RmapRec};
+use xfs_geom::{InoRec, RmapRec, Run};
 use xfs_heads::LogState;
 use xfs_place::GroupInodes;
 use xfs_render::{SlotBase, SlotWanted};
@@ -115,36 +115,55 @@ fn base_of(base: &SlotBase) -> &'static str {
 fn tells_slots(rt: &(impl Abort + AllocGlobal), held: &[SlotWanted], text: &str, case: &str) {
     let due = parts_of(rt, text);
     same!(rt; held.len(), due.len(); case);
-    for (slot, part) in held.iter().zip(due.iter()) {
-        let mut part = *part;
-        same!(rt; slot.ino, part.number(rt); case);
-        same!(rt; base_of(&slot.base), part.word(); case);
-        same!(rt; slot.drop_attrs, part.optional(rt); case);
-        same!(rt; slot.nlink, part.optional(rt); case);
-        sure(rt, part.is_read(), case);
+    let mut parts = due.iter();
+    for slot in held {
+        if let Some(part) = parts.next() {
+            tells_slot(rt, slot, *part, case);
+        }
     }
+}
+
+fn tells_slot(rt: &impl Abort, slot: &SlotWanted, mut part: Row, case: &str) {
+    part.tells_number(rt, slot.ino, case);
+    same!(rt; base_of(&slot.base), part.word(); case);
+    part.tells_optional(rt, slot.drop_attrs, case);
+    part.tells_optional(rt, slot.nlink, case);
+    sure(rt, part.is_read(), case);
 }
 
 /// The same of the runs that are taken.
-fn tells_taken(rt: &impl Abort, asked: &Request, due: &[RmapRec], case: &str) {
-    let taken = asked.wanted.taken.as_slice();
+fn tells_taken(rt: &impl Abort, alloc: Global, taken: &[Run], text: &str, case: &str) {
+    let due: Vec<RmapRec> = items(rt, alloc, text);
     same!(rt; taken.len(), due.len(); case);
-    for (run, due) in taken.iter().zip(due.iter()) {
-        same!(rt; run.start, due.start as u64; case);
-        same!(rt; run.count, due.count as u64; case);
-        same!(rt; run.owner, due.owner; case);
-        same!(rt; run.offset_word, due.offset_word; case);
+    let mut dues = due.iter();
+    for run in taken {
+        if let Some(due) = dues.next() {
+            tells_run(rt, run, due, case);
+        }
     }
 }
 
+fn tells_run(rt: &impl Abort, run: &Run, due: &RmapRec, case: &str) {
+    same!(rt; run.start, due.start as u64; case);
+    same!(rt; run.count, due.count as u64; case);
+    same!(rt; run.owner, due.owner; case);
+    same!(rt; run.offset_word, due.offset_word; case);
+}
+
 /// The same of the chunks of a group.
-fn tells_chunks(rt: &impl Abort, groups: &[GroupInodes], ag: usize, due: &[InoRec], case: &str) {
+fn tells_chunks(
+    rt: &impl Abort,
+    alloc: Global,
+    groups: &[GroupInodes],
+    ag: usize,
+    text: &str,
+    case: &str,
+) {
+    let due: Vec<InoRec> = items(rt, alloc, text);
     sure(rt, ag < groups.len(), case);
     let chunks = groups[ag].records.as_slice();
     same!(rt; chunks.len(), due.len(); case);
-    for (chunk, due) in chunks.iter().zip(due.iter()) {
-        same!(rt; *chunk, *due; case);
-    }
+    same!(rt; chunks, due.as_slice(); case);
 }
 
 fn stamp() -> Stamp {
@@ -200,9 +219,9 @@ fn try_asked<R: Threads + Sync + Abort + AllocGlobal, L: Ledger>(
 
 /// Fails where not so many files and slots are told, and this cycle of a blank log.
 fn tells_counts(rt: &impl Abort, asked: &Request, cycle: Option<u32>, row: &mut Row, case: &str) {
-    same!(rt; asked.kept, row.number(rt); case);
-    same!(rt; asked.cleared, row.number(rt); case);
-    same!(rt; cycle, row.optional(rt); case);
+    row.tells_number(rt, asked.kept, case);
+    row.tells_number(rt, asked.cleared, case);
+    row.tells_optional(rt, cycle, case);
     sure(rt, row.is_read(), case);
 }
 
@@ -213,26 +232,12 @@ fn tells_wanted(
     row: &mut Row,
     case: &str,
 ) {
-    let taken: Vec<RmapRec> = items(rt, alloc, row.text());
-    tells_taken(rt, asked, taken.as_slice(), case);
-    let first: Vec<InoRec> = items(rt, alloc, row.text());
-    tells_chunks(
-        rt,
-        asked.wanted.inodes.as_slice(),
-        0,
-        first.as_slice(),
-        case,
-    );
-    let second: Vec<InoRec> = items(rt, alloc, row.text());
-    tells_chunks(
-        rt,
-        asked.wanted.inodes.as_slice(),
-        1,
-        second.as_slice(),
-        case,
-    );
-    same!(rt; asked.wanted.inodes.as_slice().len(), 2; case);
-    same!(rt; asked.wanted.reserved.as_slice().len(), 2; case);
+    let wanted = &asked.wanted;
+    tells_taken(rt, alloc, wanted.taken.as_slice(), row.text(), case);
+    tells_chunks(rt, alloc, wanted.inodes.as_slice(), 0, row.text(), case);
+    tells_chunks(rt, alloc, wanted.inodes.as_slice(), 1, row.text(), case);
+    same!(rt; wanted.inodes.as_slice().len(), 2; case);
+    same!(rt; wanted.reserved.as_slice().len(), 2; case);
 }
 
 fn try_all<R: Threads + Sync + Abort + AllocGlobal, L: Ledger>(rt: &R, alloc: Global, blank: Blank)

@@ -97,6 +97,24 @@ impl<'a> Row<'a> {
         }
     }
 
+    /// Fails where the next word is not this number.
+    pub fn tells_number(&mut self, rt: &impl Abort, held: u64, place: &str) {
+        compare_at(rt, &held, &self.number(rt), &place)
+    }
+
+    /// Fails where the next word is not this number, or is not `-` where there is none.
+    pub fn tells_optional<T: TryFrom<u64> + PartialEq + Debug + Drop>(
+        &mut self,
+        rt: &impl Abort,
+        held: Option<T>,
+        place: &str,
+    )
+    where
+        T::Error: Drop,
+    {
+        compare_at(rt, &held, &self.optional(rt), &place)
+    }
+
     /// The words up to the next bar or the end as numbers.
     pub fn numbers<T: TryFrom<u64> + Drop>(&mut self, rt: &impl Abort, alloc: Global) -> Vec<T>
     where
@@ -184,9 +202,7 @@ pub fn parts_of<'a>(rt: &(impl Abort + AllocGlobal), text: &'a str) -> Vec<Row<'
     let mut parts = Vec::new(rt.alloc());
     if !text.is_empty() {
         for part in text.split(',') {
-            if parts.push(Row::new(part)).is_err() {
-                refuse(rt, "no memory", text);
-            }
+            must(rt, parts.push(Row::new(part)));
         }
     }
     parts

@@ -69,16 +69,19 @@ impl Item for ForkRoom {
 fn tells_blocks(rt: &(impl Abort + AllocGlobal), built: &[BuiltDirectory], due: &str, case: &str) {
     let rows = parts_of(rt, due);
     same!(rt; built.len(), rows.len(); case);
-    for (directory, row) in built.iter().zip(rows.iter()) {
-        tells_counts(rt, directory, *row, case);
+    let mut rest = rows.iter();
+    for directory in built {
+        if let Some(row) = rest.next() {
+            tells_counts(rt, directory, *row, case);
+        }
     }
 }
 
 fn tells_counts(rt: &impl Abort, directory: &BuiltDirectory, mut due: Row, case: &str) {
-    same!(rt; directory.ino, due.number(rt); case);
-    same!(rt; directory.image.data_blocks, due.number(rt); case);
-    same!(rt; directory.image.index_blocks, due.number(rt); case);
-    same!(rt; directory.image.free_blocks, due.number(rt); case);
+    due.tells_number(rt, directory.ino, case);
+    due.tells_number(rt, directory.image.data_blocks, case);
+    due.tells_number(rt, directory.image.index_blocks, case);
+    due.tells_number(rt, directory.image.free_blocks, case);
 }
 
 /// Fails where these are not the short forms of those that have one.
