@@ -15,7 +15,7 @@ use xfs_disk::{Library, Sink, Source};
 use xfs_system::{Environment, Host, Purpose, make_stamp};
 
 /// What is lacking for a call.
-#[derive(Clone, Copy, PartialEq, Eq)]
+#[derive(Clone, Copy)]
 enum Lack {
     Memory,
     RandomNumbers,

@@ -1,7 +1,7 @@
 //! What a call does with its image.
 
 /// What a call does with its image.
-#[derive(Clone, Copy, PartialEq, Eq)]
+#[derive(Clone, Copy)]
 pub enum Purpose {
     /// Nothing: the words are refused, or ask for help or the version alone.
     Nothing,
