@@ -1,39 +1,30 @@
 # The proved program, ready to be used as ./xfs. `rt` is the kit's command.
 #
 # What the program stands on is proved once, in a copy that has neither tests nor must-fail edits. A kit that keeps what it proved takes
-# what was proved on this machine as it is. There the longest chain of crates, which ends in xfs_scan before it comes to the tools, has a
-# run of its own beside the run of all, where no other crate takes its processors: each of the two takes what the other has proved, or
-# waits for what it is proving. With a kit that keeps nothing the second run would only prove the same again.
+# what was proved on this machine as it is.
 SHELL := bash
 .SHELLFLAGS := -eu -o pipefail -c
 RT := rt ci
-KEEPS = rt help 2>&1 | grep -E '^ *rt ci \[?NAME' > /dev/null
 
-# The lines of crates.txt for a crate and all that it stands on.
-LINES = awk -F: -v top=$(1) '/^[a-z]/ { name = $$1; sub(/ .*/, "", name); line[name] = $$0; below[name] = $$2 } \
-	END { visit(top) } \
+# The lines of crates.txt for the program and all that it stands on.
+LINES = awk -F: '/^[a-z]/ { name = $$1; sub(/ .*/, "", name); line[name] = $$0; below[name] = $$2 } \
+	END { visit("xfs") } \
 	function visit(name, names, n, i) { \
 		if (name in seen || !(name in line)) return; \
 		seen[name]; n = split(below[name], names, " "); \
 		for (i = 1; i <= n; i++) visit(names[i]); \
 		print line[name] }' crates.txt
-NEEDED := $(shell $(call LINES,xfs) | sed 's/[ :].*//')
+NEEDED := $(shell $(LINES) | sed 's/[ :].*//')
 SOURCES := $(shell find $(NEEDED:%=crates/%) -path '*/out' -prune -o -path '*/must-fail' -prune -o -type f -print)
 
-# Copies a crate and all that it stands on into a new folder.
-define COPY
-git init -q $(2); cp HANDLES $(2); $(call LINES,$(1)) > $(2)/crates.txt; \
-for crate in $$(sed 's/[ :].*//' $(2)/crates.txt); do mkdir -p $(2)/crates/$$crate; \
-	find crates/$$crate -mindepth 1 -maxdepth 1 ! -name out ! -name must-fail -exec cp -r {} $(2)/crates/$$crate \; ; done
-endef
-
 xfs: crates.txt HANDLES $(SOURCES)
-	@echo "Proving and building $(words $(NEEDED)) crates: about 50 minutes on four processors, a quarter of one where all was proved here before."
-	@work=$$(mktemp -d); trap 'kill %1 2> /dev/null || true; wait; rm -rf $$work' EXIT; \
-	$(call COPY,xfs_scan,$$work/chain); $(call COPY,xfs,$$work/all); \
-	if $(KEEPS); then (cd $$work/chain; exec $(RT) > log 2>&1) & fi; \
-	(cd $$work/all; $(RT) 2>&1 | tee log | sed -nu 's/^rt: \([a-z_]*\) \(proved\|is kept\).*/  \1/p') || { cat $$work/all/log; exit 1; }; \
-	cp $$work/all/crates/xfs/out/xfs $@
+	@echo "Proving and building $(words $(NEEDED)) crates: about 25 minutes on four processors, two where all was proved here before."
+	@work=$$(mktemp -d); trap 'rm -rf $$work' EXIT; \
+	git init -q $$work; cp HANDLES $$work; $(LINES) > $$work/crates.txt; \
+	for crate in $(NEEDED); do mkdir -p $$work/crates/$$crate; \
+		find crates/$$crate -mindepth 1 -maxdepth 1 ! -name out ! -name must-fail -exec cp -r {} $$work/crates/$$crate \; ; done; \
+	(cd $$work; $(RT) 2>&1 | tee log | sed -nu 's/^rt: \([a-z_]*\) \(proved\|is kept\).*/  \1/p') || { cat $$work/log; exit 1; }; \
+	cp $$work/crates/xfs/out/xfs $@
 
 # A link to the program with a tool's name is that tool. DESTDIR stands in front of each path where the files are to be packed. The
 # tools of xfsprogs have the same names: what is no link of ours is neither replaced nor taken away.
