@@ -19,10 +19,10 @@ use crate::layouts::inode::SLOT_SIZE;
 use crate::support::attribute_start;
 use std::alloc::{AllocError, Global};
 use std::marker::Model;
-use xfs_attr::{AttrFault, Attrs, read_leaf, read_short_attributes};
+use xfs_attr::{Attr, AttrFault, Attrs, read_leaf, read_short_attributes};
 use xfs_disk::NoMemory;
 use xfs_geom::Geometry;
-use xfs_volume::{Core, Records};
+use xfs_volume::Core;
 use xfs_word::{Extent, Seal, SealKind, part, sealed};
 
 /// The magic number of a leaf of attributes.
@@ -67,12 +67,12 @@ impl AttrHeld {
     }
 
     /// The attributes and the extents.
-    pub fn into_lists(self) -> (Attrs, Records<Extent>)
-        ensures attrs { result.0 ≡ self.attrs }
-        ensures extents { result.1 ≡ self.extents }
+    pub fn into_lists(self) -> (Vec<Attr>, Vec<Extent>)
+        ensures attrs { result.0.items ≡ self.attrs }
+        ensures extents { result.1.items ≡ self.extents }
     {
         let AttrHeld { attrs, extents, .. } = self;
-        (attrs, Records::from_vec(extents))
+        (attrs.into_vec(), extents)
     }
 }
 

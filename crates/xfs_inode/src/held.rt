@@ -15,7 +15,7 @@ use std::alloc::{AllocError, Global};
 use std::marker::Model;
 use xfs_kinds::Bmbt;
 use xfs_tree::Tree;
-use xfs_volume::{Blocks, Core, Extents};
+use xfs_volume::{Core, Extents};
 use xfs_word::Extent;
 
 /// The extents of a data fork, and the blocks of their tree.
@@ -50,12 +50,12 @@ impl DataHeld {
     }
 
     /// Both lists.
-    pub fn into_lists(self) -> (Extents, Blocks)
+    pub fn into_lists(self) -> (Extents, Vec<u64>)
         ensures extents { result.0 ≡ self.records }
-        ensures blocks { result.1 ≡ self.blocks }
+        ensures blocks { result.1.items ≡ self.blocks }
     {
         let DataHeld { extents, blocks } = self;
-        (extents, Blocks::from_vec(blocks))
+        (extents, blocks)
     }
 }
 

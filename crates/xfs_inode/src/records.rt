@@ -11,8 +11,7 @@ use crate::held::DataHeld;
 use crate::layouts::inode::{DATA_FORK, DEVICE};
 use crate::layouts::link::TARGET;
 use std::alloc::{AllocError, Global};
-use xfs_disk::Word;
-use xfs_volume::{Core, FileRec};
+use xfs_volume::{Core, Few, FileRec};
 use xfs_word::{get32, part};
 
 /// The record of a file whose data fork and attribute fork hold this.
@@ -38,9 +37,9 @@ pub fn file_record(
         ino,
         core: *core,
         extents,
-        attr_extents,
-        tree,
-        attrs,
+        attr_extents: Few::from_vec(alloc, attr_extents)?,
+        tree: Few::from_vec(alloc, tree)?,
+        attrs: Few::from_vec(alloc, attrs)?,
         target,
         device: device_of(core, slot),
     })
@@ -52,7 +51,7 @@ fn link_target(
     core: &Core,
     slot: &[u8],
     link: Option<&[u8]>,
-) -> Result<Word, AllocError>
+) -> Result<Few<u8>, AllocError>
     requires slot { length slot.now ≡ 512 }
     requires link { IfSome (option_copied link) (λ block. length block ≡ 4096) }
     requires fits { core.now.format ≡ 1 → core.now.size ≤ 336 }
@@ -60,24 +59,31 @@ fn link_target(
     ensures { IfOk result (λ target. target ≡ link_target core.now slot.now (option_copied link.entry)) }
 {
     if core_type(core) == 10 && core.format == 1 {
-        return Word::from_slice(alloc, part(slot, DATA_FORK, core.size as usize));
+        return copied(alloc, part(slot, DATA_FORK, core.size as usize));
     }
     if core_type(core) == 10 && core.format == 2 {
         return target_in(alloc, core, link);
     }
-    Ok(Word::from_vec(Vec::new(alloc)))
+    Ok(Few::new())
 }
 
 /// The target that the block of a symbolic link holds.
-fn target_in(alloc: Global, core: &Core, link: Option<&[u8]>) -> Result<Word, AllocError>
+fn target_in(alloc: Global, core: &Core, link: Option<&[u8]>) -> Result<Few<u8>, AllocError>
     requires link { IfSome (option_copied link) (λ block. length block ≡ 4096) }
     requires short { core.now.size ≤ 1024 }
     ensures { IfOk result (λ target. target ≡ target_in core.now (option_copied link.entry)) }
 {
     match link {
-        None => Ok(Word::from_vec(Vec::new(alloc))),
-        Some(block) => Word::from_slice(alloc, part(block, TARGET, core.size as usize)),
+        None => Ok(Few::new()),
+        Some(block) => copied(alloc, part(block, TARGET, core.size as usize)),
     }
+}
+
+/// A copy of these bytes.
+fn copied(alloc: Global, bytes: &[u8]) -> Result<Few<u8>, AllocError>
+    ensures { IfOk result (λ few. few ≡ bytes.now) }
+{
+    Few::from_vec(alloc, Vec::from_slice(alloc, bytes)?)
 }
 
 /// The number of a device; 0 for another file.

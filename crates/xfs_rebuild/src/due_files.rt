@@ -12,13 +12,12 @@ ghost use Rattle.xfs_request.specs.Slots.{links_due};
 ghost use Rattle.xfs_rebuild.specs.Names.{dirs_with, made_files, made_of, new_file, new_root, with_dir, with_made_file, with_made_files, with_nlink};
 
 use std::alloc::Global;
-use xfs_attr::Attrs;
 use xfs_dirdata::EntryRec;
-use xfs_disk::{NoMemory, Word};
+use xfs_disk::NoMemory;
 use xfs_naming::{Link, Numbered};
 use xfs_render::{SlotBase, SlotWanted};
 use xfs_request::{Near, directories_of, links_due};
-use xfs_volume::{Core, DirRec, Extents, FileRec, Records};
+use xfs_volume::{Core, DirRec, Extents, Few, FileRec};
 
 /// How many links each file is to have. `NoMemory` where memory is wanting, or where a number cannot be held.
 pub(crate) fn all_due(
@@ -118,10 +117,10 @@ fn new_file(alloc: Global, ino: u64, core: &Core) -> FileRec
         ino,
         core: *core,
         extents: Extents::new(alloc),
-        attr_extents: Records::from_vec(Vec::new(alloc)),
-        tree: Records::from_vec(Vec::new(alloc)),
-        attrs: Attrs::from_vec(Vec::new(alloc)),
-        target: Word::from_vec(Vec::new(alloc)),
+        attr_extents: Few::new(),
+        tree: Few::new(),
+        attrs: Few::new(),
+        target: Few::new(),
         device: 0,
     }
 }

@@ -10,7 +10,7 @@ use std::alloc::Global;
 use xfs_changes::Lost;
 use xfs_disk::NoMemory;
 use xfs_salvage::is_among;
-use xfs_volume::{Extents, FileRec, Records};
+use xfs_volume::{Extents, Few, FileRec};
 
 /// The files that were there before, without the blocks of directories that are built anew.
 #[tactic(auto, unfolding(crate::specs::Settled::staying_files))]
@@ -65,7 +65,7 @@ fn leave_data(alloc: Global, rebuilt: &[u64], file: &mut FileRec)
 {
     if is_among(rebuilt, file.ino) {
         file.extents = Extents::new(alloc);
-        file.tree = Records::from_vec(Vec::new(alloc));
+        file.tree = Few::new();
     }
 }
 

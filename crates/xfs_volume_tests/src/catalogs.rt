@@ -13,12 +13,10 @@ use crate::items::{Item, items, records};
 use crate::text::{Row, refuse};
 use std::alloc::Global;
 use std::process::Abort;
-use xfs_attr::Attrs;
-use xfs_disk::Word;
 use xfs_geom::{Counts, Geometry, InoRec, RmapRec, Span};
 use xfs_heads::{Agf, Agfl, Agi, LogState};
 use xfs_volume::{
-    BlockLsn, Catalog, Core, DirRec, Extents, FileRec, GroupRec, Law, Records, TreeBlocks,
+    BlockLsn, Catalog, Core, DirRec, Extents, Few, FileRec, GroupRec, Law, Records, TreeBlocks,
 };
 use xfs_word::Extent;
 
@@ -305,10 +303,10 @@ impl Item for FileRec {
             ino: core.ino,
             core,
             extents: Extents::from_vec(extents(rt, alloc, row)),
-            attr_extents: Records::from_vec(extents(rt, alloc, row)),
-            tree: records(rt, alloc, row.text()),
-            attrs: Attrs::from_vec(Vec::new(alloc)),
-            target: Word::from_vec(Vec::new(alloc)),
+            attr_extents: must(rt, Few::from_vec(alloc, extents(rt, alloc, row))),
+            tree: must(rt, Few::from_vec(alloc, records::<u64>(rt, alloc, row.text()).into_vec())),
+            attrs: Few::new(),
+            target: Few::new(),
             device: 0,
         }
     }

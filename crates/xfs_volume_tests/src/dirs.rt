@@ -15,7 +15,6 @@ use std::alloc::Global;
 use std::marker::Brand;
 use std::process::Abort;
 use std::sync::ledger::{Blank, Ledger};
-use xfs_attr::Attrs;
 use xfs_dirdata::{EntryRec, put_data, put_short};
 use xfs_dirs::*;
 use xfs_disk::{BLOCK_SIZE, Disk, Word};
@@ -23,7 +22,7 @@ use xfs_geom::Geometry;
 use xfs_kinds::Bmbt;
 use xfs_runs::Steps;
 use xfs_tree::Kind;
-use xfs_volume::{Core, Extents, FileRec, Records};
+use xfs_volume::{Core, Extents, Few, FileRec};
 use xfs_word::{Extent, Seal, SealKind, put_part, put32, put64, seal};
 
 /// The identifier of the volume.
@@ -57,10 +56,10 @@ fn directory(rt: &impl Abort, alloc: Global, core: Core, count: u64, unwritten: 
         ino: 131,
         core,
         extents: Extents::from_vec(must(rt, vec![in alloc; extent])),
-        attr_extents: Records::from_vec(Vec::new(alloc)),
-        tree: Records::from_vec(Vec::new(alloc)),
-        attrs: Attrs::from_vec(Vec::new(alloc)),
-        target: Word::from_vec(Vec::new(alloc)),
+        attr_extents: Few::new(),
+        tree: Few::new(),
+        attrs: Few::new(),
+        target: Few::new(),
         device: 0,
     }
 }

@@ -9,13 +9,12 @@ use std::alloc::Global;
 use std::marker::Brand;
 use std::process::Abort;
 use std::sync::ledger::{Blank, Ledger};
-use xfs_attr::Attrs;
-use xfs_disk::{BLOCK_SIZE, Disk, Word};
+use xfs_disk::{BLOCK_SIZE, Disk};
 use xfs_heads::LogState;
 use xfs_journal::*;
 use xfs_memory::MemoryDisk;
 use xfs_runs::Steps;
-use xfs_volume::{BlockLsn, Blocks, Core, Extents, FileRec, Records};
+use xfs_volume::{BlockLsn, Core, Extents, Few, FileRec, Records};
 use xfs_word::{Extent, put64};
 
 /// An extent of two blocks.
@@ -44,10 +43,10 @@ fn file(rt: &impl Abort, alloc: Global, mode: u16, offset: u64) -> FileRec {
             ..ROOT
         },
         extents: Extents::from_vec(data),
-        attr_extents: Records::from_vec(attr_extents),
-        tree: Blocks::from_vec(tree),
-        attrs: Attrs::from_vec(Vec::new(alloc)),
-        target: Word::from_vec(Vec::new(alloc)),
+        attr_extents: must(rt, Few::from_vec(alloc, attr_extents)),
+        tree: must(rt, Few::from_vec(alloc, tree)),
+        attrs: Few::new(),
+        target: Few::new(),
         device: 0,
     }
 }

@@ -47,7 +47,7 @@ fn same_file(rt: &(impl Abort + AllocGlobal), file: &FileRec, case: &str, mut du
     tells(rt, &file.tree.as_slice(), due.text(), case);
     same!(rt; file.device, due.number(rt); case);
     same_attributes(rt, file.attrs.as_slice(), due.text());
-    same!(rt; file.target.bytes(), due.text().as_bytes(); case);
+    same!(rt; file.target.as_slice(), due.text().as_bytes(); case);
 }
 
 /// Tests that an inode reads as it is printed.
