@@ -11,3 +11,4 @@ pub mod Wholes
 pub mod Lengths
 pub mod Grouped
 pub mod Taken
+pub mod Fronts

@@ -11,7 +11,7 @@ ghost use Rattle.xfs_inode.specs.Slots.{slot_seal};
 ghost use Rattle.xfs_disk.specs.Reads.{OnlyReads};
 ghost use Rattle.xfs_disk.specs.Blocks.{bytes_of_block};
 ghost use Rattle.xfs_word.specs.Field.{field_of};
-ghost use Rattle.xfs_word.specs.Seal.{is_sealed, layout_of};
+ghost use Rattle.xfs_word.specs.Seal.{begins_as_slot, is_sealed, layout_of};
 ghost use Rattle.xfs_groups.specs.Private.Looking.{IsSeen, has_used};
 
 use crate::heads::read_block;
@@ -19,10 +19,13 @@ use std::sync::ledger::Ledger;
 use xfs_disk::{BLOCK_SIZE, Disk, Failed};
 use xfs_geom::Geometry;
 use xfs_runs::Steps;
-use xfs_word::{Seal, SealKind, get16, part, sealed};
+use xfs_word::{Seal, SealKind, get16, get32, part, sealed};
 
 /// The bytes of a slot of an inode.
 const SLOT_SIZE: usize = 512;
+
+/// The magic number at the start of a slot: `IN`.
+const SLOT_MAGIC: u32 = 0x494e;
 
 /// The offset of the mode in a slot: 0 where the slot holds no file.
 const MODE: usize = 2;
@@ -84,7 +87,7 @@ pub(crate) fn look<D: Disk, L: Ledger>(
     }
 }
 
-/// Reads a block, and says whether it is sealed as one object.
+/// Whether a block is sealed as one object. Of one that begins as a slot does, as those of clusters do, no more is read.
 pub(crate) fn look_whole<D: Disk, L: Ledger>(
     g: &Geometry,
     disk: &mut D,
@@ -97,7 +100,47 @@ pub(crate) fn look_whole<D: Disk, L: Ledger>(
     ensures cause { HasCause (D.faults disk.old) (D.faults disk.new) result }
     ensures disk { OnlyReads D.size D.holds D.write_faults D.writes D.tells_stops D.moment D.may_leave D.left_since disk.old disk.new }
     ensures reads { D.reads disk.new + steps.old ≤ D.reads disk.old + steps.new }
-    ensures ticks { steps.new ≡ steps.old + 1 }
+{
+    match begins_as_slot(disk, place, steps) {
+        Ok(true) => Ok(false),
+        Ok(false) => look_at_all(g, disk, place, steps),
+        Err(Failed) => Err(Failed),
+    }
+}
+
+/// Whether the magic number of a slot of an inode stands at the start of a block: no object that fills a block begins so.
+fn begins_as_slot<D: Disk, L: Ledger>(
+    disk: &mut D,
+    place: u64,
+    steps: &mut Steps<L>,
+) -> Result<bool, Failed>
+    requires inside { place < D.size disk.old }
+    ensures begins { IfOk result (λ begins. ForSome (D.holds disk.old) (λ image. begins ≡ begins_as_slot (bytes_of_block image place))) }
+    ensures cause { HasCause (D.faults disk.old) (D.faults disk.new) result }
+    ensures disk { OnlyReads D.size D.holds D.write_faults D.writes D.tells_stops D.moment D.may_leave D.left_since disk.old disk.new }
+    ensures reads { D.reads disk.new + steps.old ≤ D.reads disk.old + steps.new }
+{
+    let mut front = [0; 4];
+    steps.tick();
+    match disk.read_front(place, &mut front) {
+        Ok(()) => Ok(get32(&front, 0) >> 16 == SLOT_MAGIC),
+        Err(Failed) => Err(Failed),
+    }
+}
+
+/// Reads a block, and says whether it is sealed as one object.
+fn look_at_all<D: Disk, L: Ledger>(
+    g: &Geometry,
+    disk: &mut D,
+    place: u64,
+    steps: &mut Steps<L>,
+) -> Result<bool, Failed>
+    requires place { place < g.now.dblocks }
+    requires inside { g.now.dblocks ≤ D.size disk.old }
+    ensures whole { IfOk result (λ whole. ForSome (D.holds disk.old) (λ image. whole ≡ has_whole_seal (volume_of g.now) image place)) }
+    ensures cause { HasCause (D.faults disk.old) (D.faults disk.new) result }
+    ensures disk { OnlyReads D.size D.holds D.write_faults D.writes D.tells_stops D.moment D.may_leave D.left_since disk.old disk.new }
+    ensures reads { D.reads disk.new + steps.old ≤ D.reads disk.old + steps.new }
 {
     let mut block = [0; BLOCK_SIZE];
     match read_block(disk, place, &mut block, steps) {

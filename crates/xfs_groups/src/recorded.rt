@@ -122,7 +122,6 @@ fn can_hold_cluster<D: Disk, L: Ledger>(
     ensures cause { HasCause (D.faults disk.old) (D.faults disk.new) result }
     ensures disk { OnlyReads D.size D.holds D.write_faults D.writes D.tells_stops D.moment D.may_leave D.left_since disk.old disk.new }
     ensures reads { D.reads disk.new + steps.old ≤ D.reads disk.old + steps.new }
-    ensures ticks { steps.new ≤ steps.old + 1 }
 {
     if g.is_fixed(block) {
         return Ok(false);

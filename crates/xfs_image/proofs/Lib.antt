@@ -11,3 +11,4 @@ pub mod PartsFound
 pub mod Protected
 pub mod Backups
 pub mod Ascending
+pub mod Objects

@@ -18,7 +18,8 @@ use Rattle.xfs_inode.specs.Files.{file_read}
 use Rattle.xfs_inode.specs.Slots.{slot_read, slot_seal}
 use Rattle.xfs_inode.specs.declared.files.FileRead.{FileRead}
 use Rattle.xfs_inode.specs.declared.files.FileRead.TheVariants as Reads
-use Rattle.xfs_image.specs.Candidates.{has_whole_seal, whole_kinds, whole_seal}
+use Rattle.xfs_image.specs.Candidates.{has_whole_seal}
+use Rattle.xfs_image.proofs.Objects.{no_object}
 use Rattle.xfs_heads.specs.Sectors.{sector_in}
 use Rattle.xfs_image.specs.Slots.{bytes_in, reads_as, slot_bytes}
 
@@ -91,102 +92,12 @@ four_bytes : (bytes : List ℕ) → field_of bytes 0 4 ≡ field_of bytes 0 2 * 
 unfolding field_of
 four_bytes bytes = omega arith
 
--- such a block has the magic number of no other object
-pub record BeginsAsSlot (bytes : List ℕ) : Type 0 where
-  pub low : 0x494e_0000 ≤ field_of bytes 0 4
-  pub high : field_of bytes 0 4 < 0x494f_0000
-
-not_sealed : (v : Volume) (b : ℕ) (kind : SealKind) (bytes : List ℕ) → has_magic kind bytes ≡ false → is_sealed (whole_seal v b kind) bytes ≡ false
-unfolding is_sealed is_ready
-not_sealed v b kind bytes none = and_left _ _ (and_left _ _ (and_left _ _ (and_left _ _ (and_left _ _ none))))
-
-other : (bytes : List ℕ) (n : ℕ) → BeginsAsSlot bytes → (n < 0x494e_0000) ⊎ (0x494f_0000 ≤ n) → (field_of bytes 0 4 == n) ≡ false
-other bytes n is off =
-    let low = is.low in
-    let high = is.high in
-    ne_eqb (field_of bytes 0 4) n (λ e. elim off [ inl a ↦ absurd (omega (arith, e, low, a)) | inr a ↦ absurd (omega (arith, e, high, a)) ])
-
-below : (n : ℕ) → n < 0x494e_0000 → (n < 0x494e_0000) ⊎ (0x494f_0000 ≤ n)
-below n h = inl h
-
-above : (n : ℕ) → 0x494f_0000 ≤ n → (n < 0x494e_0000) ⊎ (0x494f_0000 ≤ n)
-above n h = inr h
-
-short_tree : (bytes : List ℕ) (n : ℕ) → BeginsAsSlot bytes → (n < 0x494e_0000) ⊎ (0x494f_0000 ≤ n) → has_magic (Kind.ShortTree n) bytes ≡ false
-unfolding has_magic
-short_tree bytes n is off = other bytes n is off
-
-long_tree : (bytes : List ℕ) → BeginsAsSlot bytes → has_magic Kind.LongTree bytes ≡ false
-unfolding has_magic
-long_tree bytes is = other bytes 0x424d_4133 is (below 0x424d_4133 (omega arith))
-
-dir_data : (bytes : List ℕ) → BeginsAsSlot bytes → has_magic Kind.DirData bytes ≡ false
-unfolding has_magic
-dir_data bytes is =
-    or_from (field_of bytes 0 4 == 0x5844_4433) (field_of bytes 0 4 == 0x5844_4233) (other bytes 0x5844_4433 is (above 0x5844_4433 (omega arith)))
-    (other bytes 0x5844_4233 is (above 0x5844_4233 (omega arith)))
-
-dir_free : (bytes : List ℕ) → BeginsAsSlot bytes → has_magic Kind.DirFree bytes ≡ false
-unfolding has_magic
-dir_free bytes is = other bytes 0x5844_4633 is (above 0x5844_4633 (omega arith))
-
-index : (bytes : List ℕ) (n : ℕ) → BeginsAsSlot bytes → has_magic (Kind.Index n) bytes ≡ false
-unfolding has_magic
-index bytes n is =
-    let low = is.low in
-    let high = is.high in
-    let begins_so : begins_as_slot bytes ≡ true = eq-eqb (field_of bytes 0 4 / 2 ^ 16) 0x494e (omega (arith, low, high)) in
-    and_right (field_of bytes 8 2 == n) (not (begins_as_slot bytes)) (not_from_true (begins_as_slot bytes) begins_so)
-
-symlink : (bytes : List ℕ) → BeginsAsSlot bytes → has_magic Kind.Symlink bytes ≡ false
-unfolding has_magic
-symlink bytes is = other bytes 0x5853_4c4d is (above 0x5853_4c4d (omega arith))
-
-NoneHas : List ℕ → List SealKind → Type 0
-NoneHas bytes [] = Unit {0}
-NoneHas bytes (kind ∷ kinds) = (has_magic kind bytes ≡ false) × NoneHas bytes kinds
-
-none_sealed : (v : Volume) (b : ℕ) (bytes : List ℕ) (kinds : List SealKind) → NoneHas bytes kinds → list_any (λ kind. is_sealed (whole_seal v b kind) bytes) kinds ≡ false
-unfolding NoneHas
-none_sealed v b bytes [] none = refl
-none_sealed v b bytes (kind ∷ kinds) none =
-    or_from (is_sealed (whole_seal v b kind) bytes) (list_any (λ k. is_sealed (whole_seal v b k) bytes) kinds) (not_sealed v b kind bytes none.0) (none_sealed v b bytes kinds none.1)
-
-no_kind : (bytes : List ℕ) → BeginsAsSlot bytes → NoneHas bytes whole_kinds
-unfolding NoneHas
-no_kind bytes is = (
-  short_tree bytes 0x4142_3342 is (below 0x4142_3342 (omega arith)),
-  (
-    short_tree bytes 0x4142_3343 is (below 0x4142_3343 (omega arith)),
-    (
-      short_tree bytes 0x4941_4233 is (below 0x4941_4233 (omega arith)),
-      (
-        short_tree bytes 0x4649_4233 is (below 0x4649_4233 (omega arith)),
-        (
-          short_tree bytes 0x524d_4233 is (above 0x524d_4233 (omega arith)),
-          (
-            long_tree bytes is,
-            (
-              dir_data bytes is,
-              (
-                dir_free bytes is,
-                (index bytes 0x3df1 is, (index bytes 0x3dff is, (index bytes 0x3ebe is, (index bytes 0x3bee is, (symlink bytes is, tt))))),
-              ),
-            ),
-          ),
-        ),
-      ),
-    ),
-  ),
-)
-
 pub no_whole_block : (g : Geometry) (blocks : ℕ) (image : Image) (b : ℕ) (read : FileRead) → IsImage blocks image → b < g.dblocks
     → reads_as (volume_of g) image (inode_of (volume_of g) b 0) ≡ read → (read ≡ Reads.Unsound → ⊥) → has_whole_seal (volume_of g) image b ≡ false
-unfolding has_whole_seal
 no_whole_block g blocks image b read is inside reads sound =
     let bytes : List ℕ = bytes_of_block image b in
     let two = begins g image b read inside reads sound in
     let four = four_bytes bytes in
     let third = bytes_low blocks image b 2 is in
     let last = bytes_low blocks image b 3 is in
-    none_sealed (volume_of g) b bytes whole_kinds (no_kind bytes (record { low = omega (arith, two, four); high = omega (arith, two, four, third, last) }))
+    no_object (volume_of g) image b (record { low = omega (arith, two, four); high = omega (arith, two, four, third, last) })

@@ -2,7 +2,7 @@ use Rattle.std.proofs.Common.{Bool, not, ◌+◌, ◌||◌, sym, ap, ap₂, ◌�
 use Rattle.xfs_geom.specs.Volumes.{volume_of}
 use Rattle.xfs_disk.proofs.Reading.{reads_none}
 use Rattle.xfs_image.specs.Candidates.{has_whole_seal}
-use Rattle.xfs_groups.proofs.Causes.{at_most, below_next, no_later}
+use Rattle.xfs_groups.proofs.Causes.{no_later}
 use Rattle.xfs_groups.proofs.recorded.can_hold_cluster.Goals as goal
 
 pub returns-then-is_fixed : goal.returns-then-is_fixed
@@ -14,7 +14,6 @@ returns-then-is_fixed g c =
       cause = no_later (D.faults c.args.disk.now);
       disk = reads_none D.size D.holds D.write_faults D.writes D.tells_stops D.moment D.may_leave D.left_since c.args.disk.now;
       reads = omega arith;
-      ticks = below_next c.args.steps.now;
     }
 
 pub returns-in-Ok : goal.returns-in-Ok
@@ -23,7 +22,6 @@ returns-in-Ok g c = record {
   cause = c.in-Ok.ensures.cause;
   disk = c.in-Ok.ensures.disk;
   reads = omega arith;
-  ticks = at_most c.look_whole.new.steps (c.args.steps.now + 1) c.in-Ok.ensures.ticks;
 }
 
 pub returns-in-Err : goal.returns-in-Err
@@ -32,5 +30,4 @@ returns-in-Err g c = record {
   cause = c.in-Err.ensures.cause;
   disk = c.in-Err.ensures.disk;
   reads = omega arith;
-  ticks = at_most c.look_whole.new.steps (c.args.steps.now + 1) c.in-Err.ensures.ticks;
 }
