@@ -30,3 +30,4 @@ pub mod AllPlaced
 pub mod Whole
 pub mod OfPool
 pub mod Parted
+pub mod Mapped

@@ -259,3 +259,34 @@ log_end d w n log l groups has = by_case (log / w + 1 == n) refl has.inside
         let before : log / w + 1 ≤ n - 1 = omega (arith, eqb-false (log / w + 1) n other, has.group) in
         let most : (log / w + 1) * w ≤ (n - 1) * w = mul-le-mul_right w before in
         omega (arith, most, inside, groups.last)
+
+and_false : (x : Bool) → (x && false) ≡ false
+and_false true = refl
+and_false false = refl
+
+and_true : (x : Bool) → x ≡ (x && true)
+and_true true = refl
+and_true false = refl
+
+-- no block of the groups before the first is marked
+pub marks_none_before : (width : ℕ) (uses : List Use) (test : ℕ → Bool) (at : ℕ → ℕ) (now : Use) → MarksUses uses uses (λ b. test b && nat_lt (at b) (0 * width)) now
+marks_none_before width uses test at now = marks_none uses (λ b. test b && nat_lt (at b) (0 * width)) now none
+  where
+    none : (b : ℕ) → (test b && nat_lt (at b) (0 * width)) ≡ false
+    none b =
+        let past : nat_lt (at b) (0 * width) ≡ false = le-ltb (at b) (0 * width) (omega arith) in
+        rw past (and_false (test b))
+
+-- and behind the last all that pass are
+pub marks_all_before : (ag blocks width groups : ℕ) (old new : List Use) (test : ℕ → Bool) (at : ℕ → ℕ) (now : Use) → HasGroups blocks width groups → ag ≡ groups
+    → ((b : ℕ) → b < length old → at b < blocks) → MarksUses old new (λ b. test b && nat_lt (at b) (ag * width)) now → MarksUses old new test now
+marks_all_before ag blocks width groups old new test at now has all inside marks = record {
+  all = marks.all;
+  each = λ b h. rw (each_passes b h) (marks.each b h);
+}
+  where
+    each_passes : (b : ℕ) → b < length old → test b ≡ (test b && nat_lt (at b) (ag * width))
+    each_passes b h =
+        let whole : ag * width ≡ groups * width = ap (λ (n : ℕ). n * width) all in
+        let low : nat_lt (at b) (ag * width) ≡ true = lt-ltb (at b) (ag * width) (omega (arith, inside b h, has.covered, whole)) in
+        rw low (and_true (test b))

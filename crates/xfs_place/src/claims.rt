@@ -81,11 +81,11 @@ pub fn list_group(
     ensures { IfOk result (λ group. group.items ≡ map (run_in_group base) (filter (begins_in base blocks) claims.now)) }
 {
     let part = claims_in(claims, base, blocks);
-    Ok(
-        part.iter()
-            .map(|run| run_in_group(*run, base))
-            .collect(alloc)?,
-    )
+    let mut group = Vec::new(alloc);
+    for run in part {
+        group.push(run_in_group(*run, base))?;
+    }
+    Ok(group)
 }
 
 /// The claims that begin in the `blocks` blocks from block `base` on.

@@ -4,7 +4,7 @@ use std::alloc::{AllocError, AllocFailed};
 use xfs_disk::NoMemory;
 
 /// What is placed.
-#[derive(Clone, Copy, Debug, PartialEq, Eq)]
+#[derive(Clone, Copy, Debug)]
 pub enum Unplaced {
     /// The trees and the free list of an allocation group, by its number.
     Group(u32),
@@ -19,7 +19,7 @@ pub enum Unplaced {
 }
 
 /// Why placing fails.
-#[derive(Clone, Copy, Debug, PartialEq, Eq)]
+#[derive(Clone, Copy, Debug)]
 pub enum PlaceFault {
     /// The volume has no room for this, the first that finds none.
     NoRoom(Unplaced),

@@ -44,13 +44,13 @@ fn list_spans(alloc: Global, owned: &[Run], end: u32) -> Result<Vec<Span>, NoMem
 pub fn with_free(alloc: Global, inodes: &[InoRec]) -> Result<Vec<InoRec>, NoMemory>
     ensures { IfOk result (λ free. free.items ≡ filter has_free inodes.now) }
 {
-    Ok(
-        inodes
-            .iter()
-            .copied()
-            .filter(|chunk| 0 < chunk.freecount)
-            .collect(alloc)?,
-    )
+    let mut free = Vec::new(alloc);
+    for chunk in inodes {
+        if 0 < chunk.freecount {
+            free.push(*chunk)?;
+        }
+    }
+    Ok(free)
 }
 
 /// The records of owners: the runs, with those joined that go on where the one before ends.
@@ -93,12 +93,20 @@ pub fn take_blocks(
     requires { base < 2 ^ 40 }
     ensures { IfOk result (λ places. places.items ≡ map (λ block. base + block) (take count (drop from blocks.now))) }
 {
-    Ok(
-        blocks
-            .iter()
-            .skip(from)
-            .take(count)
-            .map(|block| base + *block as u64)
-            .collect(alloc)?,
-    )
+    let part = part_of(blocks, from, count);
+    let mut places = Vec::new(alloc);
+    for block in part {
+        places.push(base + *block as u64)?;
+    }
+    Ok(places)
+}
+
+/// The `count` numbers from place `from` on, or as many as there are.
+fn part_of(numbers: &[u32], from: usize, count: usize) -> &[u32]
+    ensures { result.now ≡ take count (drop from numbers.now) }
+{
+    let first = from.min(numbers.len());
+    let behind = &numbers[first..];
+    let most = count.min(behind.len());
+    &behind[..most]
 }

@@ -38,14 +38,32 @@ pub fn place_group(
 {
     let fino = with_free(alloc, inodes)?;
     let inner = inner_size(inodes, &fino);
-    let records = count_records(alloc, claims, uses.len() as u64)?;
-    let mut lowest = Lowest::new(alloc, uses)?;
-    let Some(blocks) = choose_count(&mut lowest, uses, inner, records)? else {
+    let Some(blocks) = choose_blocks(alloc, uses, claims, inner)? else {
         return Ok(None);
     };
     let taken = Lowest::first(alloc, uses, blocks)?;
     let placed = fill_group(alloc, uses, claims, inodes, fino, &taken, base)?;
     Ok(Some(placed))
+}
+
+/// How many of the lowest blocks of the pool go to the trees and the free list, of which the two inode trees take `inner`. `None` where there is
+/// no room.
+fn choose_blocks(
+    alloc: Global,
+    uses: &[Use],
+    claims: &[Run],
+    inner: u64,
+) -> Result<Option<usize>, NoMemory>
+    requires few { length uses.now < 2 ^ 32 }
+    requires inner { (0 < inner) × (inner < 2 ^ 40) }
+    requires group { IsPlacingGroup (group_claimed uses.now claims.now inner) }
+    requires claims { AreClaims (length uses.now) claims.now }
+    ensures there { IfOk result (λ chosen. MatchOption chosen (Unit {0}) (λ n. n ≤ rank uses.now (length uses.now))) }
+    ensures chosen { IfOk result (λ chosen. IsChosenCount (group_claimed uses.now claims.now inner) chosen) }
+{
+    let records = count_records(alloc, claims, uses.len() as u64)?;
+    let mut lowest = Lowest::new(alloc, uses)?;
+    choose_count(&mut lowest, uses, inner, records)
 }
 
 /// The trees and the free list on these blocks.
@@ -149,5 +167,8 @@ fn cut_trees(
 fn rest_of(alloc: Global, blocks: &[u32], from: u64) -> Result<Vec<u32>, NoMemory>
     ensures { IfOk result (λ rest. rest.items ≡ drop from blocks.now) }
 {
-    Ok(blocks.iter().skip(from as usize).copied().collect(alloc)?)
+    let first = (from as usize).min(blocks.len());
+    let mut rest = Vec::new(alloc);
+    rest.extend_from_slice(&blocks[first..])?;
+    Ok(rest)
 }

@@ -26,7 +26,7 @@ pub const INODE_TREE_OWNER: u64 = u64::MAX - 5;
 const FIRST_FLAG: u64 = 1 << 61;
 
 /// What a block is for.
-#[derive(Clone, Copy, PartialEq, Eq)]
+#[derive(Clone, Copy)]
 pub enum Use {
     /// It may be given to something new.
     Pool,

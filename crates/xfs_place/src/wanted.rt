@@ -4,7 +4,7 @@ use xfs_geom::{Geometry, InoRec, Run};
 use xfs_volume::Records;
 
 /// A run of blocks that is asked for.
-#[derive(Clone, Copy, PartialEq, Eq)]
+#[derive(Clone, Copy)]
 pub struct RunAsk {
     /// How many blocks it has.
     pub blocks: u32,
@@ -15,7 +15,7 @@ pub struct RunAsk {
 }
 
 /// What an object is.
-#[derive(Clone, Copy, PartialEq, Eq)]
+#[derive(Clone, Copy)]
 pub enum ObjectKind {
     Directory,
     Symlink,

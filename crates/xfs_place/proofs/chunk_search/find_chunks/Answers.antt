@@ -1,9 +1,11 @@
 use Rattle.std.proofs.Common.{◌≡◌, ◌+◌, ◌++◌, ◌≤◌, List, [], ℕ, length, take, sym, subst, ◌∙◌, ap, arith}
-use Rattle.std.specs.List.{flat_map, range_with_len}
+use borrow.Author.Count.{falls}
+use Rattle.std.specs.List.{All, flat_map, range_with_len}
 use Rattle.std.proofs.lemmas.List.{take_all}
 use Rattle.xfs_geom.specs.Volumes.{volume_of}
 use Rattle.xfs_geom.specs.declared.records.Run.{Run}
 use Rattle.xfs_place.specs.Chunks.{asked_pool, rooms, rooms_of}
+use Rattle.xfs_place.specs.Pool.{IsRunOf}
 use Rattle.xfs_place.specs.Windows.{IsWindow}
 use Rattle.xfs_place.proofs.Ranges.{flat_full, flat_more, take_again}
 use Rattle.xfs_place.proofs.chunk_search.find_chunks.Goals as goal
@@ -57,3 +59,27 @@ pub loop-ag-init : goal.loop-ag-init
 loop-ag-init c =
     let ask = c.args.ask.now in
     record { stands = c.new-window.ensures (volume_of ask.geometry) ask.taken ask.reserved; found = c.new-starts.ensures.items ∙ sym (take_all ask.count [] (omega arith)) }
+
+pub reach-requires-clause-group : goal.reach-requires-clause-group
+reach-requires-clause-group c = c.loop-ag-test.true
+
+pub reach-requires-clause-runs : goal.reach-requires-clause-runs
+reach-requires-clause-runs c = subst (All (IsRunOf c.args.ask.now.geometry.dblocks)) (sym c.as_slice-taken.ensures) c.requires.taken
+
+pub group-requires-clause-group : goal.group-requires-clause-group
+group-requires-clause-group c = c.loop-ag-test.true
+
+pub group-requires-clause-there : goal.group-requires-clause-there
+group-requires-clause-there c = c.in_ok-reach.ensures.there
+
+pub push_rooms-requires-clause-size : goal.push_rooms-requires-clause-size
+push_rooms-requires-clause-size c = c.requires.size
+
+pub push_rooms-requires-clause-group : goal.push_rooms-requires-clause-group
+push_rooms-requires-clause-group c = c.loop-ag-test.true
+
+pub push_rooms-requires-clause-few : goal.push_rooms-requires-clause-few
+push_rooms-requires-clause-few c = omega (arith, c.len.ensures, c.loop-ag.starts.ok.0, c.if-len-ask.false)
+
+pub loop-ag-smaller : goal.loop-ag-smaller
+loop-ag-smaller c = falls c.args.ask.now.geometry.agcount c.loop-ag.ag c.loop-ag-test.true

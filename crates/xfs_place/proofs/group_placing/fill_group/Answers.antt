@@ -1,9 +1,11 @@
-use Rattle.std.proofs.Common.{◌≡◌, ◌≤◌, ℕ, List, length, map, drop, sym, ◌∙◌, ap, ap₂, subst, arith}
+use Rattle.std.proofs.Common.{◌≡◌, ◌≤◌, ◌<◌, ◌^◌, ℕ, List, length, map, drop, sym, ◌∙◌, ap, ap₂, subst, arith}
 use Rattle.std.proofs.lemmas.List.Sums.{count_by-le-length, length-filter}
+use Rattle.std.proofs.lemmas.Result.{IfOk-from_err}
 use Rattle.xfs_geom.specs.Sums.{has_free}
 use Rattle.xfs_geom.specs.declared.records.Run.{Run}
 use Rattle.xfs_geom.specs.declared.records.Span.{Span}
 use Rattle.xfs_kinds.specs.MergedRuns.{held_at}
+use Rattle.xfs_place.specs.Claims.{AreClaims}
 use Rattle.xfs_place.specs.Choice.{AreLowest, Group, IsPlacingGroup, group_claimed, space_blocks}
 use Rattle.std.specs.List.Sorted.{IsPermutation}
 use Rattle.xfs_place.proofs.ByLength.{by_length_is}
@@ -57,3 +59,46 @@ returns c = λ chosen.
     c.list_sizes-sizes.result c.list_sizes-sizes.ensures.sizes
     (c.from_vec-5.ensures ∙ c.in_ok-trees.ensures ∙ ap (λ (bs : List ℕ). map (tree_blocks_at c.args.base) (cut c.list_sizes-sizes.result bs)) c.deref-6.ensures.value)
     (c.from_vec-6.ensures ∙ c.in_ok-agfl.ensures ∙ ap₂ (λ (k : ℕ) (bs : List ℕ). drop k bs) c.all_of.ensures c.deref-7.ensures.value)
+
+fits : (n : ℕ) → n < 2 ^ 36 → n < 2 ^ 40
+fits n small = omega (arith, small)
+
+pub list_owned-requires : goal.list_owned-requires
+list_owned-requires c = record { space = (fits c.space_blocks-space.result c.space_blocks-space.ensures.small, fits c.inner_size-inner.result c.inner_size-inner.ensures.small) }
+
+pub list_free-requires : goal.list_free-requires
+list_free-requires c =
+    let uses = c.args.uses.now in
+    let inner = ap (group_claimed uses c.args.claims.now) c.inner_size-inner.ensures.value in
+    let listed = c.in_ok-owned.ensures uses (omega (arith, c.requires.few)) (subst IsPlacingGroup (sym inner) c.requires.group) c.requires.claims
+    (subst (AreLowest uses) (sym c.deref-2.ensures.value) c.requires.taken.low) in
+    subst (AreClaims (length uses)) (sym c.deref-3.ensures.value) listed.claims
+
+pub list_records-requires : goal.list_records-requires
+list_records-requires c =
+    let uses = c.args.uses.now in
+    let inner = ap (group_claimed uses c.args.claims.now) c.inner_size-inner.ensures.value in
+    let listed = c.in_ok-owned.ensures uses (omega (arith, c.requires.few)) (subst IsPlacingGroup (sym inner) c.requires.group) c.requires.claims
+    (subst (AreLowest uses) (sym c.deref-2.ensures.value) c.requires.taken.low) in
+    subst (AreClaims (length uses)) (sym c.deref-5.ensures.value) listed.claims
+
+pub cut_trees-requires-clause-base : goal.cut_trees-requires-clause-base
+cut_trees-requires-clause-base c = c.requires.base
+
+pub returns-in_err-owned : goal.returns-in_err-owned
+returns-in_err-owned c = IfOk-from_err c.from_residual.result _ c.from_residual.ensures.0
+
+pub returns-in_err-bno : goal.returns-in_err-bno
+returns-in_err-bno c = IfOk-from_err c.from_residual-in_err-bno.result _ c.from_residual-in_err-bno.ensures.0
+
+pub returns-in_err-cnt : goal.returns-in_err-cnt
+returns-in_err-cnt c = IfOk-from_err c.from_residual-in_err-cnt.result _ c.from_residual-in_err-cnt.ensures.0
+
+pub returns-in_err-rmap : goal.returns-in_err-rmap
+returns-in_err-rmap c = IfOk-from_err c.from_residual-in_err-rmap.result _ c.from_residual-in_err-rmap.ensures.0
+
+pub returns-in_err-trees : goal.returns-in_err-trees
+returns-in_err-trees c = IfOk-from_err c.from_residual-in_err-trees.result _ c.from_residual-in_err-trees.ensures.0
+
+pub returns-in_err-agfl : goal.returns-in_err-agfl
+returns-in_err-agfl c = IfOk-from_err c.from_residual-in_err-agfl.result _ c.from_residual-in_err-agfl.ensures.0

@@ -1,11 +1,15 @@
-use Rattle.std.proofs.Common.{◌≡◌, ℕ, ◌≤◌, inr, Bool, List, length, Some, None, Err, if◌then◌else◌, take, drop, refl, sym, ◌∙◌, ap, subst, arith}
+use Rattle.std.proofs.Common.{◌≡◌, ℕ, ◌≤◌, inr, Bool, List, [], length, Some, None, Err, if◌then◌else◌, take, drop, refl, sym, ◌∙◌, ap, subst, arith}
+use borrow.Author.Count.{falls}
 use Rattle.std.specs.List.{All}
 use Rattle.std.proofs.lemmas.Bool.{eqb-true}
 use Rattle.std.proofs.lemmas.List.{drop_all, take_all}
+use Rattle.std.proofs.lemmas.Result.{IfOk-from_err}
 use Rattle.xfs_geom.specs.Volumes.{volume_of}
 use Rattle.xfs_place.specs.declared.faults.Unplaced.{Unplaced}
 use Rattle.xfs_place.specs.declared.wanted.Object.{Object}
 use Rattle.xfs_place.specs.declared.wanted.RunAsk.{RunAsk}
+use Rattle.xfs_geom.specs.declared.records.Run.{Run}
+use Rattle.xfs_place.specs.Finding.{IsOpen}
 use Rattle.xfs_place.specs.Objects.{IsAsk, ServeAsks, asks_of}
 use Rattle.xfs_place.proofs.Pieces.{asks_more, first_stays, objects_end, objects_next, objects_stop, serve_none}
 use Rattle.xfs_place.proofs.object_placing.keep_with.Goals as goal
@@ -75,3 +79,33 @@ pub put_object-requires-clause-asks : goal.put_object-requires-clause-asks
 put_object-requires-clause-asks c =
     let o = c.object-item.result in
     subst (λ (x : Object). All IsAsk x.runs) (sym c.object-item.is) (c.requires.asks c.loop-object.object-index o c.loop-object-test.true)
+
+pub put_object-requires-clause-first : goal.put_object-requires-clause-first
+put_object-requires-clause-first c = omega (arith, c.loop-object.invariant.long, c.len-first.ensures, c.args.kept.ok.0)
+
+pub put_object-requires-clause-kept : goal.put_object-requires-clause-kept
+put_object-requires-clause-kept c = c.loop-object.invariant.kept'
+
+pub put_object-requires-clause-pool : goal.put_object-requires-clause-pool
+put_object-requires-clause-pool c = c.loop-object.invariant.pool'
+
+pub loop-object-init : goal.loop-object-init
+loop-object-init c =
+    let s = c.args.site.now in
+    let old = c.args.kept in
+    record {
+      same = refl;
+      long = omega arith;
+      kept' = c.requires.kept;
+      pool' = subst (λ (rs : List Run). IsOpen (volume_of s.geometry.now) rs s.reserved.now s.from s.spared.now c.in_ok-pool.pool) c.deref.ensures.value c.in_ok-pool.ensures;
+      cuts' = serve_none [] c.new-cuts-2.result.items (drop c.len-first.result old.items) refl c.new-cuts-2.ensures.items (drop_all c.len-first.result old.items (omega (arith, c.len-first.ensures, old.ok.0)));
+    }
+
+pub loop-object-smaller : goal.loop-object-smaller
+loop-object-smaller c = falls (length c.args.objects.now) c.loop-object.object-index c.loop-object-test.true
+
+pub returns-in_err-pool-clause-told : goal.returns-in_err-pool-clause-told
+returns-in_err-pool-clause-told c = IfOk-from_err c.from_residual.result _ c.from_residual.ensures.0
+
+pub returns-in_err-put_object-clause-told : goal.returns-in_err-put_object-clause-told
+returns-in_err-put_object-clause-told c = IfOk-from_err c.from_residual-in_err-put_object.result _ c.from_residual-in_err-put_object.ensures.0

@@ -1,4 +1,4 @@
-use Rattle.std.proofs.Common.{◌≡◌, ◌%◌, ◌&&◌, nat_le, nat_lt, List, length, sym, ◌∙◌, ap, subst, arith}
+use Rattle.std.proofs.Common.{◌≡◌, ◌%◌, ◌&&◌, nat_le, nat_lt, List, length, sym, ◌∙◌, ap, subst, arith, ◌≤◌, ◌<◌, ◌^◌, ℕ}
 use Rattle.xfs_geom.specs.Volumes.{volume_of}
 use Rattle.xfs_place.specs.declared.uses.Use.{Use}
 use Rattle.xfs_place.specs.declared.uses.Use.TheVariants.{Claimed}
@@ -15,3 +15,19 @@ returns-clause-each c = λ b low.
     let whole = written uses.len c.close_fronts.new.uses _ (omega (arith, uses.ok.0, marks.all)) in
     subst (λ (us : List Use). in_pool us b ≡ (is_pool v c.args.kept.now c.args.site.now.reserved.now b && nat_le c.args.site.now.from (b % c.args.site.now.geometry.now.agblocks))) (sym whole)
     (open_first v c.args.kept.now c.args.site.now.reserved.now c.args.site.now.from uses.items c.close_fronts.new.uses c.in_ok-uses.ensures marks b low)
+
+pub close_fronts-requires : goal.close_fronts-requires
+close_fronts-requires c = ap (λ (us : List Use). length us) c.deref_mut.ensures.value ∙ c.in_ok-uses.ensures.all
+
+pub returns-clause-all : goal.returns-clause-all
+returns-clause-all c =
+    let uses = c.in_ok-uses.uses in
+    let same = ap (λ (us : List Use). length us) c.deref_mut.ensures.value in
+    let whole = written uses.len c.close_fronts.new.uses _ (omega (arith, uses.ok.0, c.close_fronts.ensures.all, same)) in
+    ap (λ (us : List Use). length us) whole ∙ c.close_fronts.ensures.all ∙ same ∙ c.in_ok-uses.ensures.all
+
+few_of : (n blocks : ℕ) → n ≡ blocks → blocks ≤ 2 ^ 26 → n < 2 ^ 32
+few_of n blocks is small = omega (arith, is, small)
+
+pub returns-clause-few : goal.returns-clause-few
+returns-clause-few c = few_of _ c.args.site.now.geometry.now.dblocks (returns-clause-all c) c.args.site.now.geometry.now.shape.groups.small

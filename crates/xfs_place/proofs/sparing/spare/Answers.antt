@@ -1,6 +1,8 @@
-use Rattle.std.proofs.Common.{ℕ, inl, inr, List, [], ◌∷◌, length, get_or, sym, ◌∙◌, ap, arith}
+use Rattle.std.proofs.Common.{◌≡◌, ◌<◌, ℕ, inl, inr, List, [], ◌∷◌, length, get_or, sym, ◌∙◌, ap, subst, arith}
+use borrow.Author.Count.{falls}
 use Rattle.std.proofs.lemmas.Bool.{cases_eq}
 use Rattle.std.proofs.lemmas.List.{get_or_append_left, get_or_push}
+use Rattle.std.proofs.lemmas.Result.{IfOk-from_err}
 use Rattle.xfs_geom.specs.Volumes.{volume_of}
 use Rattle.xfs_place.specs.Pool.{is_pool}
 use Rattle.xfs_place.specs.Sparing.{spared_of}
@@ -42,3 +44,43 @@ spared_of-requires c =
     let ag = c.loop-ag.ag in
     let uses = c.group.ensures c.args.taken.now c.args.reserved.now c.in_ok-reach.ensures.stands in
     record { few = omega (arith, ap length uses, length_uses v c.args.taken.now c.args.reserved.now ag, group_inside v g.shape.groups ag c.loop-ag-test.true, g.shape.groups.small) }
+
+pub reach-requires-clause-group : goal.reach-requires-clause-group
+reach-requires-clause-group c = c.loop-ag-test.true
+
+pub reach-requires-clause-runs : goal.reach-requires-clause-runs
+reach-requires-clause-runs c = c.requires.taken
+
+pub reach-requires-clause-stands : goal.reach-requires-clause-stands
+reach-requires-clause-stands c = c.loop-ag.invariant.stands
+
+pub group-requires-clause-group : goal.group-requires-clause-group
+group-requires-clause-group c = c.loop-ag-test.true
+
+pub group-requires-clause-there : goal.group-requires-clause-there
+group-requires-clause-there c = c.in_ok-reach.ensures.there
+
+pub loop-ag-smaller : goal.loop-ag-smaller
+loop-ag-smaller c = falls c.args.g.now.agcount c.loop-ag.ag c.loop-ag-test.true
+
+pub returns-clause-all : goal.returns-clause-all
+returns-clause-all c =
+    let all : c.loop-ag.ag ≡ c.args.g.now.agcount = omega (arith, c.loop-ag-test.false, c.loop-ag.auto.ag-end) in
+    ap (λ (xs : List ℕ). length xs) c.from_vec.ensures ∙ c.loop-ag.invariant.all ∙ all
+
+pub returns-clause-each : goal.returns-clause-each
+returns-clause-each c = λ ag low.
+    let all : c.loop-ag.ag ≡ c.args.g.now.agcount = omega (arith, c.loop-ag-test.false, c.loop-ag.auto.ag-end) in
+    ap (λ (xs : List ℕ). get_or xs ag 0) c.from_vec.ensures ∙ c.loop-ag.invariant.each ag (subst (λ (n : ℕ). ag < n) (sym all) low)
+
+pub returns-in_err-reach-clause-all : goal.returns-in_err-reach-clause-all
+returns-in_err-reach-clause-all c = IfOk-from_err c.from_residual.result _ c.from_residual.ensures.0
+
+pub returns-in_err-reach-clause-each : goal.returns-in_err-reach-clause-each
+returns-in_err-reach-clause-each c = IfOk-from_err c.from_residual.result _ c.from_residual.ensures.0
+
+pub returns-in_err-push-clause-all : goal.returns-in_err-push-clause-all
+returns-in_err-push-clause-all c = IfOk-from_err c.from_residual-in_err-push.result _ c.from_residual-in_err-push.ensures.0
+
+pub returns-in_err-push-clause-each : goal.returns-in_err-push-clause-each
+returns-in_err-push-clause-each c = IfOk-from_err c.from_residual-in_err-push.result _ c.from_residual-in_err-push.ensures.0

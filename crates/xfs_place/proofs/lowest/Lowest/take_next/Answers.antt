@@ -1,6 +1,10 @@
-use Rattle.std.proofs.Common.{true, false, ◌≡◌, ◌+◌, ◌++◌, ◌∷◌, [], ◌-◌, ℕ, List, length, get_or, sym, ◌∙◌, ap, subst, arith}
+use Rattle.std.proofs.Common.{Bool, true, false, ◌<◌, length-append, zero, suc, ◌≡◌, ◌+◌, ◌++◌, ◌∷◌, [], ◌-◌, ℕ, List, length, get_or, sym, ◌∙◌, ap, subst, arith}
+use Rattle.std.proofs.lemmas.Bool.{true≢false}
+use Rattle.std.proofs.lemmas.Result.{IfOk-from_err}
 use Rattle.xfs_place.specs.declared.uses.Use.{Use}
-use Rattle.xfs_place.specs.Choice.{AreFound, met_neighbours}
+use Rattle.xfs_place.specs.declared.uses.Use.TheVariants.{Claimed}
+use Rattle.xfs_place.specs.Pool.{is_open, use_at}
+use Rattle.xfs_place.specs.Choice.{AreFound, in_pool, met_neighbours}
 use Rattle.xfs_place.proofs.Found.{found_all, found_few, found_more, free_few, rank_on, sum_read, sums_small}
 use Rattle.xfs_place.proofs.Ranks.{free_step}
 use Rattle.xfs_place.proofs.lowest.Lowest.take_next.Goals as goal
@@ -69,3 +73,54 @@ returns-clause-stands c =
     c.in-Some.ensures.0 c.in-Some.ensures.1 c.in-Some.ensures.2 c.in-Some.ensures.3 hs hi (ap (λ (n : ℕ). l.free + n - 1) c.free_beside.ensures.value) in
     put uses (l.blocks.items ++ x ∷ []) (l.space.items ++ s ∷ []) (l.inodes.items ++ i ∷ []) c.push.new.self.items c.push-2.new.self.items c.push-3.new.self.items (x + 1) f
     c.in_ok-push.ensures.items c.in_ok-push-2.ensures.items c.in_ok-push-3.ensures.items more
+
+-- a block of the pool is not the first
+behind_header : (uses : List Use) (block : ℕ) → use_at uses 0 ≡ Claimed → in_pool uses block ≡ true → 0 < block
+behind_header uses zero header clear = absurd (true≢false (sym clear ∙ ap is_open header))
+behind_header uses (suc block) header clear = omega arith
+
+pub meets_space-requires : goal.meets_space-requires
+meets_space-requires c = (behind_header c.args.uses.now c.in-Some.block c.requires.header c.in-Some.ensures.2, c.in-Some.ensures.1)
+
+pub meets_inodes-requires : goal.meets_inodes-requires
+meets_inodes-requires c = (behind_header c.args.uses.now c.in-Some.block c.requires.header c.in-Some.ensures.2, c.in-Some.ensures.1)
+
+pub free_beside-requires : goal.free_beside-requires
+free_beside-requires c = (behind_header c.args.uses.now c.in-Some.block c.requires.header c.in-Some.ensures.2, c.in-Some.ensures.1)
+
+pub returns-clause-taken : goal.returns-clause-taken
+returns-clause-taken c =
+    ap (λ (xs : List ℕ). length xs) c.in_ok-push.ensures.items ∙ length-append c.args.self.now.blocks.items (c.in-Some.block ∷ [])
+
+pub returns-clause-all : goal.returns-clause-all
+returns-clause-all c = λ none. absurd (true≢false none)
+
+pub returns-in_default-clause-stands : goal.returns-in_default-clause-stands
+returns-in_default-clause-stands c = c.requires.stands
+
+pub returns-in_err-push-clause-stands : goal.returns-in_err-push-clause-stands
+returns-in_err-push-clause-stands c = IfOk-from_err c.from_residual.result _ c.from_residual.ensures.0
+
+pub returns-in_err-push-clause-taken : goal.returns-in_err-push-clause-taken
+returns-in_err-push-clause-taken c = IfOk-from_err c.from_residual.result _ c.from_residual.ensures.0
+
+pub returns-in_err-push-clause-all : goal.returns-in_err-push-clause-all
+returns-in_err-push-clause-all c = IfOk-from_err c.from_residual.result _ c.from_residual.ensures.0
+
+pub returns-in_err-push-2-clause-stands : goal.returns-in_err-push-2-clause-stands
+returns-in_err-push-2-clause-stands c = IfOk-from_err c.from_residual-in_err-push-2.result _ c.from_residual-in_err-push-2.ensures.0
+
+pub returns-in_err-push-2-clause-taken : goal.returns-in_err-push-2-clause-taken
+returns-in_err-push-2-clause-taken c = IfOk-from_err c.from_residual-in_err-push-2.result _ c.from_residual-in_err-push-2.ensures.0
+
+pub returns-in_err-push-2-clause-all : goal.returns-in_err-push-2-clause-all
+returns-in_err-push-2-clause-all c = IfOk-from_err c.from_residual-in_err-push-2.result _ c.from_residual-in_err-push-2.ensures.0
+
+pub returns-in_err-push-3-clause-stands : goal.returns-in_err-push-3-clause-stands
+returns-in_err-push-3-clause-stands c = IfOk-from_err c.from_residual-in_err-push-3.result _ c.from_residual-in_err-push-3.ensures.0
+
+pub returns-in_err-push-3-clause-taken : goal.returns-in_err-push-3-clause-taken
+returns-in_err-push-3-clause-taken c = IfOk-from_err c.from_residual-in_err-push-3.result _ c.from_residual-in_err-push-3.ensures.0
+
+pub returns-in_err-push-3-clause-all : goal.returns-in_err-push-3-clause-all
+returns-in_err-push-3-clause-all c = IfOk-from_err c.from_residual-in_err-push-3.result _ c.from_residual-in_err-push-3.ensures.0

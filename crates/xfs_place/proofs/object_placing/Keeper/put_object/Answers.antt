@@ -1,4 +1,5 @@
 use Rattle.std.proofs.Common.{◌≡◌, ◌≤◌, ◌++◌, [], ℕ, Bool, true, false, List, Some, None, if◌then◌else◌, length, take, drop, sym, ◌∙◌, ap, subst, arith}
+use Rattle.std.proofs.lemmas.Result.{IfOk-from_err}
 use Rattle.xfs_geom.specs.Volumes.{volume_of}
 use Rattle.xfs_geom.specs.declared.records.Run.{Run}
 use Rattle.xfs_place.specs.Objects.{ServeAsks, keep_asks}
@@ -72,3 +73,48 @@ returns-clause-cuts c = λ placed asks were.
     let back' = c.truncate.ensures.items ∙ front_take c.args.cuts.now.items c.put_asks.new.cuts.items c.len-cut.result c.in_ok-put_asks.ensures.cut (omega (arith, c.len-cut.ensures, cuts.ok.0)) in
     c.in_ok-placed.ensures.cuts placed asks
     (subst (λ (ns : List ℕ). ServeAsks asks ns (drop c.args.first c.give_back.new.self.all.items)) (sym back') (subst (λ (rs : List Run). ServeAsks asks cuts.items (drop c.args.first rs)) (sym back) were))
+
+pub returns-in_err-put_asks-clause-kept : goal.returns-in_err-put_asks-clause-kept
+returns-in_err-put_asks-clause-kept c = IfOk-from_err c.from_residual.result _ c.from_residual.ensures.0
+
+pub returns-in_err-put_asks-clause-pool : goal.returns-in_err-put_asks-clause-pool
+returns-in_err-put_asks-clause-pool c = IfOk-from_err c.from_residual.result _ c.from_residual.ensures.0
+
+pub returns-in_err-put_asks-clause-placed : goal.returns-in_err-put_asks-clause-placed
+returns-in_err-put_asks-clause-placed c = IfOk-from_err c.from_residual.result _ c.from_residual.ensures.0
+
+pub returns-in_err-put_asks-clause-long : goal.returns-in_err-put_asks-clause-long
+returns-in_err-put_asks-clause-long c = IfOk-from_err c.from_residual.result _ c.from_residual.ensures.0
+
+pub returns-in_err-put_asks-clause-cuts : goal.returns-in_err-put_asks-clause-cuts
+returns-in_err-put_asks-clause-cuts c = IfOk-from_err c.from_residual.result _ c.from_residual.ensures.0
+
+pub returns-in_err-give_back-clause-kept : goal.returns-in_err-give_back-clause-kept
+returns-in_err-give_back-clause-kept c = IfOk-from_err c.from_residual-in_err-give_back.result _ c.from_residual-in_err-give_back.ensures.0
+
+pub returns-in_err-give_back-clause-pool : goal.returns-in_err-give_back-clause-pool
+returns-in_err-give_back-clause-pool c = IfOk-from_err c.from_residual-in_err-give_back.result _ c.from_residual-in_err-give_back.ensures.0
+
+pub returns-in_err-give_back-clause-placed : goal.returns-in_err-give_back-clause-placed
+returns-in_err-give_back-clause-placed c = IfOk-from_err c.from_residual-in_err-give_back.result _ c.from_residual-in_err-give_back.ensures.0
+
+pub returns-in_err-give_back-clause-long : goal.returns-in_err-give_back-clause-long
+returns-in_err-give_back-clause-long c = IfOk-from_err c.from_residual-in_err-give_back.result _ c.from_residual-in_err-give_back.ensures.0
+
+pub returns-in_err-give_back-clause-cuts : goal.returns-in_err-give_back-clause-cuts
+returns-in_err-give_back-clause-cuts c = IfOk-from_err c.from_residual-in_err-give_back.result _ c.from_residual-in_err-give_back.ensures.0
+
+pub returns-in_err-placed-clause-kept : goal.returns-in_err-placed-clause-kept
+returns-in_err-placed-clause-kept c = IfOk-from_err c.from_residual-in_err-placed.result _ c.from_residual-in_err-placed.ensures.0
+
+pub returns-in_err-placed-clause-pool : goal.returns-in_err-placed-clause-pool
+returns-in_err-placed-clause-pool c = IfOk-from_err c.from_residual-in_err-placed.result _ c.from_residual-in_err-placed.ensures.0
+
+pub returns-in_err-placed-clause-placed : goal.returns-in_err-placed-clause-placed
+returns-in_err-placed-clause-placed c = IfOk-from_err c.from_residual-in_err-placed.result _ c.from_residual-in_err-placed.ensures.0
+
+pub returns-in_err-placed-clause-long : goal.returns-in_err-placed-clause-long
+returns-in_err-placed-clause-long c = IfOk-from_err c.from_residual-in_err-placed.result _ c.from_residual-in_err-placed.ensures.0
+
+pub returns-in_err-placed-clause-cuts : goal.returns-in_err-placed-clause-cuts
+returns-in_err-placed-clause-cuts c = IfOk-from_err c.from_residual-in_err-placed.result _ c.from_residual-in_err-placed.ensures.0

@@ -1,4 +1,5 @@
 use Rattle.std.proofs.Common.{◌≡◌, ◌≤◌, ℕ, List, length, ap, subst, arith}
+use Rattle.std.proofs.lemmas.Result.{IfOk-from_err}
 use Rattle.xfs_geom.specs.Volumes.{volume_of}
 use Rattle.xfs_place.specs.declared.uses.Use.{Use}
 use Rattle.xfs_place.specs.Finding.{AreOpenRows}
@@ -36,3 +37,21 @@ new-requires c =
     let rows = c.in_ok-rows.rows in
     let listed = subst (λ (us : List Use). AreOpenRows us rows.starts.items rows.counts.items) c.deref.ensures.value c.in_ok-rows.ensures in
     omega (arith, rows_few c.in_ok-uses.uses.items rows.starts.items rows.counts.items listed, c.in_ok-uses.ensures.few, ap length c.deref-2.ensures.value)
+
+pub list_uses_open-requires : goal.list_uses_open-requires
+list_uses_open-requires c = record { kept = c.requires.kept }
+
+pub returns-in_err-uses : goal.returns-in_err-uses
+returns-in_err-uses c = IfOk-from_err c.from_residual.result _ c.from_residual.ensures.0
+
+pub returns-in_err-rows : goal.returns-in_err-rows
+returns-in_err-rows c = IfOk-from_err c.from_residual-in_err-rows.result _ c.from_residual-in_err-rows.ensures.0
+
+pub returns-in_err-parts : goal.returns-in_err-parts
+returns-in_err-parts c = IfOk-from_err c.from_residual-in_err-parts.result _ c.from_residual-in_err-parts.ensures.0
+
+pub returns-in_err-counts : goal.returns-in_err-counts
+returns-in_err-counts c = IfOk-from_err c.from_residual-in_err-counts.result _ c.from_residual-in_err-counts.ensures.0
+
+pub returns-in_err-unspared : goal.returns-in_err-unspared
+returns-in_err-unspared c = IfOk-from_err c.from_residual-in_err-unspared.result _ c.from_residual-in_err-unspared.ensures.0
