@@ -1,4 +1,5 @@
 use Rattle.std.proofs.Common.{◌≡◌, ◌+◌, ◌≤◌, length, ◌∙◌, ap, arith}
+use Rattle.std.proofs.lemmas.Result.{IfOk-from_err}
 use Rattle.xfs_place.specs.Choice.{group, need, one_if, rank}
 use Rattle.xfs_place.proofs.Found.{found_there, rank_few}
 use Rattle.xfs_place.proofs.Judging.{all_judged, all_more, all_none, all_rich, later_low, low_there}
@@ -52,3 +53,48 @@ returns-clause-there c = low_there c.loop-n.poor c.loop-n.n (length c.loop-n.low
 
 pub returns-clause-chosen : goal.returns-clause-chosen
 returns-clause-chosen c = all_judged c.args.uses.now c.args.inner c.args.records c.loop-n.n c.loop-n.poor c.loop-n.invariant.judged (omega (arith, c.loop-n-test.false, rank_few c.args.uses.now))
+
+pub need-need-requires-clause-few : goal.need-need-requires-clause-few
+need-need-requires-clause-few c = c.requires.few
+
+pub need-need-requires-clause-inner : goal.need-need-requires-clause-inner
+need-need-requires-clause-inner c = c.requires.inner
+
+pub need-need-requires-clause-records : goal.need-need-requires-clause-records
+need-need-requires-clause-records c = c.requires.records
+
+pub need-need-requires-clause-stands : goal.need-need-requires-clause-stands
+need-need-requires-clause-stands c = c.loop-n.invariant.stands
+
+pub take_next-requires-clause-few : goal.take_next-requires-clause-few
+take_next-requires-clause-few c = c.requires.few
+
+pub take_next-requires-clause-header : goal.take_next-requires-clause-header
+take_next-requires-clause-header c = c.requires.header
+
+pub take_next-requires-clause-stands : goal.take_next-requires-clause-stands
+take_next-requires-clause-stands c = c.loop-n.invariant.stands
+
+pub is_left-requires-clause-need : goal.is_left-requires-clause-need
+is_left-requires-clause-need c = c.need-need.ensures.small
+
+pub is_left-requires-in-loop-n-clause-need : goal.is_left-requires-in-loop-n-clause-need
+is_left-requires-in-loop-n-clause-need c = c.need-need.ensures.small
+
+pub returns-then-is_left-clause-stands : goal.returns-then-is_left-clause-stands
+returns-then-is_left-clause-stands c = c.loop-n.invariant.stands
+
+pub returns-then-not-branch-clause-stands : goal.returns-then-not-branch-clause-stands
+returns-then-not-branch-clause-stands c = c.in_ok-take_next.ensures.stands
+
+pub returns-clause-stands : goal.returns-clause-stands
+returns-clause-stands c = c.loop-n.invariant.stands
+
+pub returns-in_err-take_next-clause-stands : goal.returns-in_err-take_next-clause-stands
+returns-in_err-take_next-clause-stands c = IfOk-from_err c.from_residual.result _ c.from_residual.ensures.0
+
+pub returns-in_err-take_next-clause-there : goal.returns-in_err-take_next-clause-there
+returns-in_err-take_next-clause-there c = IfOk-from_err c.from_residual.result _ c.from_residual.ensures.0
+
+pub returns-in_err-take_next-clause-chosen : goal.returns-in_err-take_next-clause-chosen
+returns-in_err-take_next-clause-chosen c = IfOk-from_err c.from_residual.result _ c.from_residual.ensures.0

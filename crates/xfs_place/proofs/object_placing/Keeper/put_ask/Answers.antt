@@ -1,4 +1,5 @@
 use Rattle.std.proofs.Common.{ℕ, ◌≡◌, ◌++◌, ◌∷◌, [], ◌<◌, nat_lt, List, length, length-append, Some, sym, ◌∙◌, ap, subst, arith}
+use Rattle.std.proofs.lemmas.Result.{IfOk-from_err}
 use Rattle.xfs_geom.specs.Volumes.{volume_of}
 use Rattle.xfs_geom.specs.declared.records.Run.{Run}
 use Rattle.xfs_place.specs.Finding.{IsFrontOf}
@@ -69,3 +70,23 @@ returns c =
       few = tt;
       front = l.invariant.front;
     }
+
+pub put_piece-requires-clause-ask : goal.put_piece-requires-clause-ask
+put_piece-requires-clause-ask c = c.loop-n.invariant.ask'
+
+pub put_piece-requires-clause-kept : goal.put_piece-requires-clause-kept
+put_piece-requires-clause-kept c = c.loop-n.invariant.kept
+
+pub put_piece-requires-clause-pool : goal.put_piece-requires-clause-pool
+put_piece-requires-clause-pool c = c.loop-n.invariant.pool'
+
+pub rest_of-rest-requires-clause-fits : goal.rest_of-rest-requires-clause-fits
+rest_of-rest-requires-clause-fits c = c.loop-n.invariant.ask'
+
+pub rest_of-rest-requires-clause-few : goal.rest_of-rest-requires-clause-few
+rest_of-rest-requires-clause-few c =
+    let few = rw c.in-Some.is at c.in_ok-blocks.ensures.few in
+    few.1
+
+pub returns-in_err-blocks : goal.returns-in_err-blocks
+returns-in_err-blocks c = IfOk-from_err c.from_residual.result _ c.from_residual.ensures.0
