@@ -6,3 +6,6 @@ pub mod Located
 pub mod Steady
 pub mod Budget
 pub mod Different
+pub mod Chosen
+pub mod Counted
+pub mod Kept

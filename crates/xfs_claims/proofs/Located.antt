@@ -97,3 +97,10 @@ sum_upto g f (p ∷ places) (suc i) d h =
     let k = sum_by-cons f (g p) (map g (take i places)) in
     let rest = sum_upto g f places i d (omega (arith, h)) in
     omega (arith, e, k, rest)
+
+-- the files at places in order, where the files and the test are told in another way
+pub same_rank : (files files' : List FileClaim) (places : List FilePlace) (test test' : FileClaim → Bool) → files ≡ files' → ((f : FileClaim) → test f ≡ test' f)
+    → map (file_at_place files) places ≡ by_number claimed_number (filter test files) → map (file_at_place files') places ≡ by_number claimed_number (filter test' files')
+same_rank files files' places test test' same alike is =
+    let all : test ≡ test' = λ k f. alike f k in
+    sym (ap (λ (x : List FileClaim). map (file_at_place x) places) same) ∙ (is ∙ (λ k. by_number claimed_number (filter (all k) (same k))))

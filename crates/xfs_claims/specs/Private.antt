@@ -2,3 +2,4 @@
 pub mod Arrived
 pub mod Held
 pub mod Places
+pub mod Ranked

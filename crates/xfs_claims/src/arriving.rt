@@ -42,7 +42,7 @@ fn through_set(alloc: Global, numbers: &[u64]) -> Result<Vec<u64>, AllocError>
 }
 
 /// The numbers of a set, ascending.
-fn all_of(alloc: Global, set: &BTreeSet<u64>) -> Result<Vec<u64>, AllocError>
+pub(crate) fn all_of(alloc: Global, set: &BTreeSet<u64>) -> Result<Vec<u64>, AllocError>
     ensures { IfOk result (λ all. all.items ≡ set.now.keys) }
 {
     set.iter().copied().collect(alloc)

@@ -7,8 +7,9 @@ ghost use Rattle.xfs_claims.specs.Spans.{spans_of, SpansApart, IsRun};
 ghost use Rattle.xfs_claims.specs.Ranks.{run_count};
 ghost use Rattle.xfs_claims.specs.Keeping.{fixed_alone, with_cluster, with_clusters, with_file, with_files, EndsLow, IsClaim};
 ghost use Rattle.xfs_claims.specs.Private.Places.{file_at_place, IsFilePlace};
+ghost use Rattle.xfs_claims.specs.Private.Ranked.{due_steps, with_both};
 
-use crate::arriving::in_ascending_order;
+use crate::arriving::{all_of, in_ascending_order};
 use crate::claimants::{FileClaim, KeptClaims};
 use crate::ranks::FilePlace;
 use crate::taking::{meets_runs, take_runs};
@@ -126,6 +127,24 @@ impl TakenBlocks {
         Ok(())
     }
 
+    /// Keeps of the clusters, and then of the files at these places, those that can be kept.
+    pub(crate) fn keep_both<L: Ledger>(
+        &mut self,
+        clusters: &[u64],
+        files: &[FileClaim],
+        places: &[FilePlace],
+        steps: &mut Steps<L>,
+    ) -> Result<(), NoMemory>
+        requires clusters { All EndsLow clusters.now }
+        requires claims { All IsClaim files.now }
+        requires places { All (IsFilePlace files.now) places.now }
+        ensures held { OnOk result (held_of self.new ≡ with_both (held_of self.old) clusters.now (map (file_at_place files.now) places.now)) }
+        ensures ticks { steps.new ≤ steps.old + due_steps clusters.now (map (file_at_place files.now) places.now) }
+    {
+        self.keep_clusters(clusters, steps)?;
+        self.keep_files(files, places, steps)
+    }
+
     /// What is kept, as lists.
     pub(crate) fn into_kept(self, alloc: Global) -> Result<KeptClaims, NoMemory>
         ensures clusters { IfOk result (λ kept. kept.clusters ≡ (held_of self).clusters) }
@@ -136,7 +155,7 @@ impl TakenBlocks {
             files,
             ..
         } = self;
-        let clusters = clusters.iter().copied().collect(alloc)?;
+        let clusters = all_of(alloc, &clusters)?;
         let files = in_ascending_order(alloc, files)?;
         Ok(KeptClaims {
             clusters: Records::from_vec(clusters),

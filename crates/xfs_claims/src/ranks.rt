@@ -4,8 +4,9 @@ ghost use Rattle.std.specs.Prelude.{◌≡◌, not, [], ◌∷◌, ◌++◌, if�
 ghost use Rattle.std.specs.List.{All, filter};
 ghost use Rattle.std.specs.List.Sorted.{IsPermutation, IsSorted};
 ghost use Rattle.xfs_disk.specs.Lists.{is_among};
-ghost use Rattle.xfs_claims.specs.Ranks.{AreDifferent, by_number, first_block, claimed_number, is_other_recorded, is_recorded_cluster, is_scanned_cluster, own_number, recorded_clusters, recorded_files, scanned_clusters, scanned_files};
+ghost use Rattle.xfs_claims.specs.Ranks.{AreDifferent, by_number, first_block, claimed_number, is_other_recorded, is_recorded_cluster, is_scanned_cluster, own_number};
 ghost use Rattle.xfs_claims.specs.Private.Places.{file_at_place, ArePlaces, IsFilePlace};
+ghost use Rattle.xfs_claims.specs.Private.Ranked.{AreRanked};
 
 use crate::claimants::{Claims, FileClaim};
 use rayon::prelude::*;
@@ -72,26 +73,37 @@ fn numbers_in_order<R: Threads + Sync>(rt: &R, numbers: Vec<u64>) -> Vec<u64>
     sorted(rt, numbers)
 }
 
+/// Whether a cluster is recorded and not the root's.
+fn is_other(cluster: &ClusterRec, root: u64) -> bool
+    ensures { result ≡ is_other_recorded root cluster.now }
+{
+    cluster.recorded && cluster.block != root
+}
+
 /// The recorded clusters but the root's.
 fn other_recorded(alloc: Global, clusters: &[ClusterRec], root: u64) -> Result<Vec<u64>, AllocError>
     ensures { IfOk result (λ blocks. blocks.items ≡ map first_block (filter (is_other_recorded root) clusters.now)) }
 {
-    clusters
-        .iter()
-        .filter(|cluster| cluster.recorded && cluster.block != root)
-        .map(|cluster| cluster.block)
-        .collect(alloc)
+    let mut blocks = Vec::new(alloc);
+    for cluster in clusters {
+        if is_other(cluster, root) {
+            blocks.push(cluster.block)?;
+        }
+    }
+    Ok(blocks)
 }
 
 /// The scanned clusters.
 fn scanned(alloc: Global, clusters: &[ClusterRec]) -> Result<Vec<u64>, AllocError>
     ensures { IfOk result (λ blocks. blocks.items ≡ map first_block (filter is_scanned_cluster clusters.now)) }
 {
-    clusters
-        .iter()
-        .filter(|cluster| !cluster.recorded)
-        .map(|cluster| cluster.block)
-        .collect(alloc)
+    let mut blocks = Vec::new(alloc);
+    for cluster in clusters {
+        if !cluster.recorded {
+            blocks.push(cluster.block)?;
+        }
+    }
+    Ok(blocks)
 }
 
 /// The recorded clusters but the root's, ascending.
@@ -203,12 +215,7 @@ pub(crate) fn rank<R: Threads + Sync>(
 ) -> Result<Ranks, AllocError>
     requires clusters_differ { AreDifferent first_block claims.now.clusters }
     requires files_differ { AreDifferent claimed_number claims.now.files }
-    ensures recorded { IfOk result (λ ranks. ranks.recorded.items ≡ recorded_clusters claims.now) }
-    ensures scanned { IfOk result (λ ranks. ranks.scanned.items ≡ scanned_clusters claims.now) }
-    ensures recorded_files { IfOk result (λ ranks. map (file_at_place claims.now.files) ranks.files.recorded.items ≡ recorded_files claims.now) }
-    ensures scanned_files { IfOk result (λ ranks. map (file_at_place claims.now.files) ranks.files.scanned.items ≡ scanned_files claims.now) }
-    ensures recorded_places { IfOk result (λ ranks. All (IsFilePlace claims.now.files) ranks.files.recorded.items) }
-    ensures scanned_places { IfOk result (λ ranks. All (IsFilePlace claims.now.files) ranks.files.scanned.items) }
+    ensures { IfOk result (λ ranks. AreRanked claims.now ranks) }
 {
     let clusters = claims.clusters.as_slice();
     let recorded = recorded_in_order(rt, alloc, clusters, claims.root)?;

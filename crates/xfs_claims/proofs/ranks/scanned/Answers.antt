@@ -1,0 +1,27 @@
+use Rattle.std.proofs.Common.{ℕ, List, ◌++◌, true, false, not, map, Vec, Global, sym, ap, ◌∙◌}
+use Rattle.std.specs.List.{filter}
+use Rattle.xfs_claims.specs.Ranks.{first_block, is_scanned_cluster}
+use Rattle.xfs_claims.proofs.Chosen.{chosen_more, chosen_all}
+use Rattle.xfs_claims.proofs.Numbers.{no_cluster}
+use Rattle.xfs_claims.proofs.ranks.scanned.Goals as goal
+use Rattle.xfs_claims.proofs.ranks.scanned.Goals.{then-not-cluster+in_ok-push, else-not-cluster}
+
+pub loop-cluster-init : goal.loop-cluster-init
+loop-cluster-init c = ap (λ (x : List ℕ). x ++ map first_block (filter is_scanned_cluster c.args.clusters.now)) c.new-blocks.ensures.items
+
+pub loop-cluster-preserved : goal.loop-cluster-preserved
+loop-cluster-preserved c =
+    let clusters = c.args.clusters.now in
+    let i = c.loop-cluster.cluster-index in
+    let whole = map first_block (filter is_scanned_cluster clusters) in
+    elim c.if-not-cluster.branch [
+      | then-not-cluster+in_ok-push w ↦
+          chosen_more is_scanned_cluster first_block clusters i no_cluster true c.loop-cluster.blocks.items _ whole c.loop-cluster-test.true (ap not (sym w.if-not-cluster.true))
+          (ap (λ (v : Vec ℕ Global). v.items) w.blocks-is ∙ w.in_ok-push.ensures.items) c.loop-cluster.invariant
+      | else-not-cluster w ↦
+          chosen_more is_scanned_cluster first_block clusters i no_cluster false c.loop-cluster.blocks.items _ whole c.loop-cluster-test.true (ap not (sym w.if-not-cluster.false))
+          (ap (λ (v : Vec ℕ Global). v.items) w.blocks-is) c.loop-cluster.invariant
+    ]
+
+pub returns : goal.returns
+returns c = chosen_all is_scanned_cluster first_block c.args.clusters.now c.loop-cluster.cluster-index c.loop-cluster.blocks.items _ c.loop-cluster-test.false c.loop-cluster.invariant
