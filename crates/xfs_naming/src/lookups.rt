@@ -53,7 +53,12 @@ pub fn file_at<'a>(names: &Names<'a>, ino: u64) -> Option<&'a FileRec>
 fn have_parent(dirs: &[DirRec], parent: u64) -> bool
     ensures { result ≡ list_any (λ (d : DirRec). d.parent == parent) dirs.now }
 {
-    dirs.iter().any(|dir| dir.parent == parent)
+    for dir in dirs {
+        if dir.parent == parent {
+            return true;
+        }
+    }
+    false
 }
 
 /// Whether a directory with the number is in use.

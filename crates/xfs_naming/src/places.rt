@@ -29,7 +29,12 @@ fn are_from_parent(names: &Names, ino: u64, links: &[Link]) -> bool
     requires { IsOrdered names.now }
     ensures { result ≡ list_all (λ (l : Link). states_parent names.now.dirs.now ino l.dir) links.now }
 {
-    links.iter().all(|link| states_parent(names, ino, link.dir))
+    for link in links {
+        if !states_parent(names, ino, link.dir) {
+            return false;
+        }
+    }
+    true
 }
 
 /// Whether each entry that names a directory is in the one that it states as its parent.

@@ -87,8 +87,17 @@ pub fn records_by_number<T: Numbered>(records: &[T], number: u64) -> &[T]
     requires { IsNonDecreasingBy T.key records.now }
     ensures { result.now ≡ filter (λ x. T.key x == number) records.now }
 {
-    let start = records.partition_point(|record| record.number() < number);
-    let rest = &records[start..];
+    run_at(records, place_of(records, number), number)
+}
+
+/// The records that go by a number, of records in order, where its place among them is known.
+fn run_at<T: Numbered>(records: &[T], place: usize, number: u64) -> &[T]
+    requires inside { place ≤ length records.now }
+    requires place { IsPlace T.key number records.now place }
+    requires rise { IsNonDecreasingBy T.key records.now }
+    ensures { result.now ≡ filter (λ x. T.key x == number) records.now }
+{
+    let rest = &records[place..];
     &rest[..run_length(rest, number)]
 }
 
@@ -99,10 +108,9 @@ pub fn records_near<'a, T: Numbered>(records: &'a [T], near: &mut usize, number:
     ensures { result.now ≡ filter (λ x. T.key x == number) records.now }
 {
     let start = place_near(records, *near, number);
-    let rest = &records[start..];
-    let run = run_length(rest, number);
-    *near = start.wrapping_add(run);
-    &rest[..run]
+    let run = run_at(records, start, number);
+    *near = start.wrapping_add(run.len());
+    run
 }
 
 /// The place of a number among records in order: `near`, where it is that, else it is searched for.
@@ -114,6 +122,15 @@ fn place_near<T: Numbered>(records: &[T], near: usize, number: u64) -> usize
     if is_place(records, near, number) {
         return near;
     }
+    place_of(records, number)
+}
+
+/// The place of a number among records in order, by a search among all.
+fn place_of<T: Numbered>(records: &[T], number: u64) -> usize
+    requires { IsNonDecreasingBy T.key records.now }
+    ensures inside { result ≤ length records.now }
+    ensures place { IsPlace T.key number records.now result }
+{
     records.partition_point(|record| record.number() < number)
 }
 

@@ -16,7 +16,12 @@ use xfs_volume::is_name;
 fn are_names(own: &[EntryRec]) -> bool
     ensures { result ≡ list_all (λ (e : EntryRec). is_name e.name) own.now }
 {
-    own.iter().all(|entry| is_name(entry.name.bytes()))
+    for entry in own {
+        if !is_name(entry.name.bytes()) {
+            return false;
+        }
+    }
+    true
 }
 
 /// Whether no two entries have one name.

@@ -2,7 +2,7 @@ use Rattle.std.proofs.Common.{rules}
 use lib.Dec.{ltb}
 use Rattle.std.proofs.lemmas.List.Sorted.{IsPartitionPoint-from_clause, IsPartitionedBy-ltb}
 use Rattle.xfs_naming.proofs.Placing.{place_of_point}
-use Rattle.xfs_naming.proofs.runs.place_near.Goals as goal
+use Rattle.xfs_naming.proofs.runs.place_of.Goals as goal
 
 pub returns-clause-place : goal.returns-clause-place
 returns-clause-place g c =
