@@ -1,21 +1,12 @@
 //! The numbers of files, and of some that should be.
 
-ghost use Rattle.std.specs.Prelude.{◌≡◌, ℕ, ◌<◌, length, slice_index, map, IfOk, MatchResult};
+ghost use Rattle.std.specs.Prelude.{◌≡◌, ◌<◌, length, slice_index, IfOk, MatchResult};
 ghost use Rattle.xfs_naming.specs.Naming.{NumbersAscend, numbers_of};
 ghost use Rattle.xfs_disk.specs.Lists.{with_number};
 ghost use Rattle.xfs_naming.specs.Ordered.{IsOrdered, IsPlaceFor};
-ghost use Rattle.xfs_naming.specs.declared.kinds.FileKind.{FileKind};
 
-use crate::kinds::FileKind;
 use crate::naming::Names;
 use std::alloc::{AllocError, AllocFailed, Global};
-
-/// The numbers that these kinds state.
-fn each_number(alloc: Global, kinds: &[FileKind]) -> Result<Vec<u64>, AllocError>
-    ensures { IfOk result (λ numbers. numbers.items ≡ map (λ (k : FileKind). k.ino) kinds.now) }
-{
-    kinds.iter().map(|kind| kind.ino).collect(alloc)
-}
 
 /// The numbers of all files.
 pub fn numbers_of(alloc: Global, names: &Names) -> Result<Vec<u64>, AllocError>
@@ -23,7 +14,10 @@ pub fn numbers_of(alloc: Global, names: &Names) -> Result<Vec<u64>, AllocError>
     ensures numbers { IfOk result (λ numbers. numbers.items ≡ numbers_of names.now.files.now) }
     ensures ascend { IfOk result (λ numbers. NumbersAscend 0 numbers.items) }
 {
-    let numbers = each_number(alloc, names.kinds)?;
+    let mut numbers = Vec::with_capacity(alloc, names.kinds.len())?;
+    for kind in names.kinds {
+        numbers.push(kind.ino)?;
+    }
     Ok(numbers)
 }
 
