@@ -141,8 +141,10 @@ impl TakenBlocks {
         ensures held { OnOk result (held_of self.new ≡ with_both (held_of self.old) clusters.now (map (file_at_place files.now) places.now)) }
         ensures ticks { steps.new ≤ steps.old + due_steps clusters.now (map (file_at_place files.now) places.now) }
     {
-        self.keep_clusters(clusters, steps)?;
-        self.keep_files(files, places, steps)
+        match self.keep_clusters(clusters, steps) {
+            Ok(()) => self.keep_files(files, places, steps),
+            Err(error) => Err(error),
+        }
     }
 
     /// What is kept, as lists.

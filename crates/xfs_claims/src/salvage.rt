@@ -41,7 +41,10 @@ pub fn keep<R: Threads + Sync, L: Ledger>(
     ensures files { IfOk result (λ kept. kept.files ≡ (kept_of claims.now).files) }
     ensures ticks { steps.new ≤ steps.old + 2 * claimed_runs claims.now }
 {
-    take_all(rt, alloc, claims, steps)?.into_kept(alloc)
+    match take_all(rt, alloc, claims, steps) {
+        Ok(taken) => taken.into_kept(alloc),
+        Err(error) => Err(error),
+    }
 }
 
 /// The same, as it is held.
