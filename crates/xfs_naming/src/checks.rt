@@ -94,6 +94,8 @@ pub fn check_names(
         dirs,
         links: links.as_slice(),
     };
-    let reached = walk(alloc, &names)?;
-    first_law(alloc, &names, &reached)
+    match walk(alloc, &names) {
+        Ok(reached) => first_law(alloc, &names, &reached),
+        Err(error) => Err(error),
+    }
 }

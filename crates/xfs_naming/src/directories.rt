@@ -96,13 +96,15 @@ fn directory_at(alloc: Global, names: &Names, dir: &DirRec) -> Result<Law, NoMem
     requires { IsOrdered names.now }
     ensures { IfOk result (λ law. law ≡ directory_at names.now.root names.now.files.now names.now.entries.now dir.now) }
 {
-    let number = first_failing(alloc, names, records_by_number(names.entries, dir.ino), dir)?;
-    Ok(Law {
-        law: 7,
-        place: dir.ino,
-        held: number as u128,
-        due: 0,
-    })
+    match first_failing(alloc, names, records_by_number(names.entries, dir.ino), dir) {
+        Ok(number) => Ok(Law {
+            law: 7,
+            place: dir.ino,
+            held: number as u128,
+            due: 0,
+        }),
+        Err(error) => Err(error),
+    }
 }
 
 /// The first directory that breaks the seventh law.

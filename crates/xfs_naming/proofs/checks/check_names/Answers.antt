@@ -26,11 +26,11 @@ first_law-requires-clause-ordered c = record {
   kinds = c.as_slice.ensures.value ∙ c.in_ok-kinds.ensures;
 }
 
-pub returns-clause-lawful : goal.returns-clause-lawful
-returns-clause-lawful c =
+pub returns-in-Ok-clause-lawful : goal.returns-in-Ok-clause-lawful
+returns-in-Ok-clause-lawful c =
     IfOk-weaker c.first_law.result _ _
     (λ law is. (
       (λ none. lawful_names c.args.root c.args.files.now c.args.entries.now c.args.dirs.now c.requires.named (sym is ∙ none)),
-      (λ says. is ∙ judged_names c.args.root c.args.files.now c.args.entries.now c.args.dirs.now c.requires.named c.in_ok-reached.ensures.ways says),
+      (λ says. is ∙ judged_names c.args.root c.args.files.now c.args.entries.now c.args.dirs.now c.requires.named c.in-Ok.ensures.ways says),
     ))
     c.first_law.ensures
