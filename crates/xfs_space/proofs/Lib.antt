@@ -7,6 +7,7 @@ pub mod Splits
 pub mod FreeSpans
 pub mod FreeLaws
 pub mod Sweep
+pub mod HeldRuns
 pub mod RecordedMaps
 pub mod OwnerLaws
 pub mod GoodRuns

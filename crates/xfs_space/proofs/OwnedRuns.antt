@@ -1,7 +1,7 @@
 -- Owned runs, one step after the other.
 use Rattle.std.proofs.Common.{◌≡◌, ℕ, Bool, true, false, ◌+◌, ◌-◌, ◌*◌, ◌<◌, ◌≤◌, ◌^◌, ◌==◌, if◌then◌else◌, List, [], ◌∷◌, ◌++◌, length, map, take, drop, get_or, refl, sym, ◌∙◌, ap, ap₂, arith, add-one, drop-cons, append_assoc}
 use Rattle.std.specs.List.{flat_map, list_any}
-use Rattle.std.proofs.lemmas.List.{append-nil, drop_all, drop_more, take_all, length-drop}
+use Rattle.std.proofs.lemmas.List.{append-nil, drop_all, drop_more, take_all, length-drop, map-append}
 use Rattle.xfs_geom.specs.Volumes.{Volume}
 use Rattle.xfs_geom.specs.declared.records.Run.{Run}
 use Rattle.xfs_volume.specs.declared.groups.GroupRec.{GroupRec}
@@ -78,17 +78,17 @@ joined empty a b c groups files log none put_groups put_log put_files =
     ∙ ap (λ (rs : List Run). rs ++ files) (put_log ∙ ap (λ (rs : List Run). rs ++ log ∷ []) (put_groups ∙ ap (λ (rs : List Run). rs ++ groups) none))
     ∙ append_assoc groups (log ∷ []) files
 
--- one more run is put with the others, and the last
-pub run_next : {A : Type 0} (f : A → Run) (xs : List A) (i : ℕ) (d : A) (r : Run) (runs new whole : List Run) → i < length xs → r ≡ f (get_or xs i d) → new ≡ runs ++ r ∷ []
+-- one more is put with the others, and the last
+pub run_next : {A B : Type 0} (f : A → B) (xs : List A) (i : ℕ) (d : A) (r : B) (runs new whole : List B) → i < length xs → r ≡ f (get_or xs i d) → new ≡ runs ++ r ∷ []
     → runs ++ map f (drop i xs) ≡ whole → new ++ map f (drop (i + 1) xs) ≡ whole
-run_next f xs i d r runs new whole h made put left =
-    ap (λ (rs : List Run). rs ++ map f (drop (i + 1) xs)) put
+run_next {B = B} f xs i d r runs new whole h made put left =
+    ap (λ (rs : List B). rs ++ map f (drop (i + 1) xs)) put
     ∙ append_assoc runs (r ∷ []) (map f (drop (i + 1) xs))
-    ∙ ap (λ (x : Run). runs ++ x ∷ map f (drop (i + 1) xs)) made
+    ∙ ap (λ (x : B). runs ++ x ∷ map f (drop (i + 1) xs)) made
     ∙ ap (λ ys. runs ++ map f ys) (sym (drop_more xs i d h))
     ∙ left
 
-pub runs_end : {A : Type 0} (f : A → Run) (xs : List A) (i : ℕ) (runs whole : List Run) → length xs ≤ i → runs ++ map f (drop i xs) ≡ whole → runs ≡ whole
+pub runs_end : {A B : Type 0} (f : A → B) (xs : List A) (i : ℕ) (runs whole : List B) → length xs ≤ i → runs ++ map f (drop i xs) ≡ whole → runs ≡ whole
 runs_end f xs i runs whole end left = sym (append-nil runs) ∙ ap (λ ys. runs ++ map f ys) (sym (drop_all i xs end)) ∙ left
 
 pub files_end : {A : Type 0} (f : A → List Run) (xs : List A) (i : ℕ) (runs whole : List Run) → length xs ≤ i → runs ++ flat_map f (drop i xs) ≡ whole → runs ≡ whole
@@ -96,6 +96,26 @@ files_end f xs i runs whole end left = sym (append-nil runs) ∙ ap (λ ys. runs
 
 pub groups_end : (n base i : ℕ) (gs : List GroupRec) (runs whole : List Run) → length gs ≤ i → runs ++ groups_runs n base (drop i gs) ≡ whole → runs ≡ whole
 groups_end n base i gs runs whole end left = sym (append-nil runs) ∙ ap (λ ys. runs ++ groups_runs n base ys) (sym (drop_all i gs end)) ∙ left
+
+-- the runs at the numbers of one more are put with the others, and the last
+pub chunk_next : {A : Type 0} (m : ℕ → Run) (f : A → List ℕ) (xs : List A) (i : ℕ) (d : A) (runs new whole : List Run) → i < length xs → new ≡ runs ++ map m (f (get_or xs i d))
+    → runs ++ map m (flat_map f (drop i xs)) ≡ whole → new ++ map m (flat_map f (drop (i + 1) xs)) ≡ whole
+chunk_next m f xs i d runs new whole h put left =
+    let rest = flat_map f (drop (i + 1) xs) in
+    ap (λ (rs : List Run). rs ++ map m rest) put
+    ∙ append_assoc runs (map m (f (get_or xs i d))) (map m rest)
+    ∙ ap (λ (rs : List Run). runs ++ rs) (sym (map-append m (f (get_or xs i d)) rest) ∙ ap (λ ys. map m (flat_map f ys)) (sym (drop_more xs i d h)))
+    ∙ left
+
+pub chunks_end : {A : Type 0} (m : ℕ → Run) (f : A → List ℕ) (xs : List A) (i : ℕ) (runs whole : List Run) → length xs ≤ i → runs ++ map m (flat_map f (drop i xs)) ≡ whole → runs ≡ whole
+chunks_end m f xs i runs whole end left = sym (append-nil runs) ∙ ap (λ ys. runs ++ map m (flat_map f ys)) (sym (drop_all i xs end)) ∙ left
+
+-- three lists are put one behind the other
+pub three_put : (old one two three a b c : List Run) → one ≡ old ++ a → two ≡ one ++ b → three ≡ two ++ c → three ≡ old ++ (a ++ b ++ c)
+three_put old one two three a b c put_a put_b put_c =
+    put_c
+    ∙ ap (λ (rs : List Run). rs ++ c) (put_b ∙ ap (λ (rs : List Run). rs ++ b) put_a ∙ append_assoc old a b)
+    ∙ append_assoc old (a ++ b) c
 
 -- the runs of the first group begin at block 0
 pub groups_start : (n : ℕ) (gs : List GroupRec) (runs : List Run) → runs ++ groups_runs n (0 * n) gs ≡ runs ++ groups_runs n 0 gs

@@ -249,6 +249,14 @@ due_left {A = A} f xs ys records runs i j at place d end less swept is =
     let here = subst (λ (rest : List Run). Swept xs ys rest (y ∷ drop (j + 1) runs) at) nothing (subst (λ (rest : List Run). Swept xs ys (map f (drop i records)) rest at) (tail_of runs j d less) swept) in
     subst (λ (n : ℕ). IsFirstDifference xs ys n) (sym is) (more_due xs ys y (drop (j + 1) runs) at here)
 
+-- both lists have come to their ends
+pub both_ended : {A : Type 0} (f : A → Run) (xs ys : List Run) (records : List A) (runs : List Run) (i j at : ℕ) → length records ≤ i → length runs ≤ j
+    → Swept xs ys (map f (drop i records)) (drop j runs) at → AreAlike xs ys
+both_ended {A = A} f xs ys records runs i j at end_records end_runs swept =
+    all_alike xs ys at
+    (subst (λ (rest : List Run). Swept xs ys [] rest at) (drop_all j runs end_runs)
+    (subst (λ (rest : List Run). Swept xs ys rest (drop j runs) at) (ap (λ (rest : List A). map f rest) (drop_all i records end_records)) swept))
+
 -- the places after a step
 pub swept_step : {A : Type 0} (f : A → Run) (xs ys : List Run) (records : List A) (runs : List Run) (i j at end i_next j_next : ℕ) (none : A) (d x : Run) → i < length records → j < length runs
     → x ≡ f (get_or records i none) → Swept xs ys (x ∷ map f (drop (i + 1) records)) (get_or runs j d ∷ drop (j + 1) runs) at → max x.start at ≡ max (get_or runs j d).start at
