@@ -46,6 +46,9 @@ listed_next base xs i t runs new whole h any left put =
         ∙ append_assoc runs (listed_run base (get_or xs i 0) ∷ []) (map (listed_run base) (different (drop (i + 1) xs)))
         ∙ ap (λ (ys : List ℕ). runs ++ map (listed_run base) ys) (sym e) ∙ left
 
+pub listed_end : (base : ℕ) (xs : List ℕ) (i : ℕ) (runs whole : List Run) → length xs ≤ i → runs ++ map (listed_run base) (different (drop i xs)) ≡ whole → runs ≡ whole
+listed_end base xs i runs whole end left = sym (append-nil runs) ∙ ap (λ ys. runs ++ map (listed_run base) (different ys)) (sym (drop_all i xs end)) ∙ left
+
 -- the runs of a group are put with the others
 pub group_next : (n i : ℕ) (gs : List GroupRec) (g : GroupRec) (base : ℕ) (runs new whole : List Run) → i < length gs → g ≡ get_or gs i g → base ≡ i * n
     → runs ++ groups_runs n (i * n) (drop i gs) ≡ whole → new ≡ runs ++ group_runs base g → new ++ groups_runs n ((i + 1) * n) (drop (i + 1) gs) ≡ whole

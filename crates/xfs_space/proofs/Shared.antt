@@ -1,5 +1,5 @@
 -- Blocks with two owners, found by one sweep over the runs in order.
-use Rattle.std.proofs.Common.{◌≡◌, ℕ, ◌+◌, ◌<◌, ◌≤◌, Bool, true, false, cond, ◌⊎◌, inl, inr, if◌then◌else◌, nat_lt, List, [], ◌∷◌, Option, Some, None, refl, ◌∙◌, ap, arith, length, drop, get_or, drop-cons}
+use Rattle.std.proofs.Common.{◌≡◌, ℕ, ◌+◌, ◌^◌, ◌<◌, ◌≤◌, Bool, true, false, cond, ◌⊎◌, inl, inr, if◌then◌else◌, nat_lt, List, [], ◌∷◌, Option, Some, None, refl, ◌∙◌, ap, arith, length, drop, get_or, drop-cons}
 use Rattle.std.specs.List.{All}
 use Rattle.std.proofs.lemmas.Bool.{cases_lt}
 use Rattle.std.proofs.lemmas.Bool.Decides.{nat_tests}
@@ -154,3 +154,10 @@ sharing_broken v xs b owned first =
     least_broken (sharing_at xs) 0 v.dblocks b (omega arith) (omega (arith, there)) (λ same. let one : runs_on xs b ≡ 1 = same ∙ due in omega (arith, one, many))
     (λ c low high. as_held (runs_on xs c) (first.least c high))
     ∙ ap (λ (n : ℕ). Some (law_at 1 b (runs_on xs b) n)) due
+
+-- owned runs of a volume have small numbers
+pub all_sized : (v : Volume) (xs : List Run) → v.dblocks ≤ 2 ^ 26 → All (IsOwned v) xs → All IsSized xs
+all_sized v xs small owned k d h = let here = owned k d h in sized (get_or xs k d) here.some here.inside
+  where
+    sized : (x : Run) → 1 ≤ x.count → x.start + x.count ≤ v.dblocks → IsSized x
+    sized x some inside = record { some = some; end = omega (arith, inside, small) }

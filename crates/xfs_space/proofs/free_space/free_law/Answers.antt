@@ -1,12 +1,16 @@
-use Rattle.std.proofs.Common.{◌≡◌, ℕ, ◌+◌, ◌*◌, List, sym, ◌∙◌, ap, subst, arith}
+use Rattle.std.proofs.Common.{◌≡◌, ℕ, ◌+◌, ◌*◌, ◌≤◌, List, length, refl, sym, ◌∙◌, ap, subst, arith}
+use Rattle.std.specs.List.{All}
 use Rattle.std.proofs.lemmas.List.{drop_all}
+use Rattle.std.proofs.lemmas.Result.{IfOk-from_err}
 use Rattle.xfs_geom.specs.Volumes.{volume_of}
+use Rattle.xfs_geom.specs.declared.records.Run.{Run}
 use Rattle.xfs_volume.specs.declared.groups.GroupRec.{GroupRec}
 use Rattle.xfs_volume.specs.Laws.{first_broken}
 use Rattle.xfs_space.specs.SpaceLaws.{free_laws}
 use Rattle.xfs_space.specs.Sorted.{IsSplit}
 use Rattle.xfs_volume.proofs.First.{first_empty}
-use Rattle.xfs_space.proofs.FreeLaws.{apart, follow_low, free_front, law_broken, law_kept, rest_next}
+use Rattle.xfs_space.proofs.FreeLaws.{apart, follow_low, free_front, law_broken, law_kept, rest_next, rest_whole}
+use Rattle.xfs_space.proofs.OwnedRuns.{of_volume}
 use Rattle.xfs_space.proofs.Splits.{parts_of}
 use Rattle.xfs_space.proofs.free_space.free_law.Goals as goal
 
@@ -52,3 +56,20 @@ returns c =
     sym first_empty
     ∙ ap (λ (gs : List GroupRec). first_broken (free_laws (volume_of c.args.g.now) c.args.runs.now c.loop-index.index gs)) (sym (drop_all c.loop-index.index c.args.groups.now c.loop-index-test.false))
     ∙ c.loop-index.invariant.law
+
+pub loop-index-init : goal.loop-index-init
+loop-index-init c = record { law = refl; rest = rest_whole (volume_of c.args.g.now) (0 * c.args.g.now.agblocks) c.args.runs.now (omega arith) c.requires.follow c.requires.groups }
+
+pub start_of_group-requires : goal.start_of_group-requires
+start_of_group-requires c = of_volume c.loop-index.index (length c.args.groups.now) c.args.g.now.agcount c.loop-index-test.true c.requires.count
+
+pub group_free_law-requires-clause-group : goal.group_free_law-requires-clause-group
+group_free_law-requires-clause-group c = of_volume c.loop-index.index (length c.args.groups.now) c.args.g.now.agcount c.loop-index-test.true c.requires.count
+
+pub group_free_law-requires-clause-inside : goal.group_free_law-requires-clause-inside
+group_free_law-requires-clause-inside c =
+    let end : c.start_of_group.result + c.args.g.now.agblocks ≡ (c.loop-index.index + 1) * c.args.g.now.agblocks = omega (arith, c.start_of_group.ensures.value) in
+    subst (λ (n : ℕ). All (λ (r : Run). r.start + r.count ≤ n) c.split_runs.result.0.now) end c.split_runs.ensures.before
+
+pub returns-in_err-law : goal.returns-in_err-law
+returns-in_err-law c = IfOk-from_err c.from_residual.result _ c.from_residual.ensures.0
