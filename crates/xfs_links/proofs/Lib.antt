@@ -9,3 +9,4 @@ pub mod Joined
 pub mod Deciding
 pub mod Holding
 pub mod Staying
+pub mod Prefixed

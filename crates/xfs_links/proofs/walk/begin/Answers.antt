@@ -1,12 +1,13 @@
-use Rattle.std.proofs.Common.{◌<◌, ◌+◌, ◌-◌, refl, sym, ◌∙◌, subst, ap, arith, List, length}
+use Rattle.std.proofs.Common.{ℕ, ◌<◌, ◌+◌, ◌-◌, refl, sym, ◌∙◌, subst, ap, ap₂, arith, List, length}
 use Rattle.std.specs.List.{All}
 use Rattle.xfs_weave.specs.Lists.{list_at}
 use Rattle.xfs_links.specs.declared.candidates.Candidate.{Candidate}
 use Rattle.xfs_links.specs.declared.walk.Attached.{Attached}
-use Rattle.xfs_links.specs.Walk.{is_attached, see_all}
+use Rattle.xfs_links.specs.Walk.{is_attached, see_all, turns}
 use Rattle.xfs_links.specs.Places.{named_at, targets}
 use Rattle.xfs_links.proofs.Attaching.{turns_next, turns_done, pending_twice, grown_all, turn_told, turn_over, begin_is}
 use Rattle.xfs_links.proofs.Groups.{targets_inside}
+use Rattle.xfs_links.proofs.Prefixed.{all_gone, none_added, none_gone}
 use Rattle.xfs_links.proofs.walk.begin.Goals as goal
 
 pub overflow_add-from : goal.overflow_add-from
@@ -34,6 +35,48 @@ pub returns-in_default-clause-turn : goal.returns-in_default-clause-turn
 returns-in_default-clause-turn c =
     sym (turns_done (named_at c.args.files.now c.args.candidates.now) (c.args.steps - c.loop-step.step) (length c.as_slice-from.result.now + c.loop-step.step) c.loop-step.turn.items
     (turn_over c.loop-step.turn.items c.deref.result.now (length c.as_slice-from.result.now + c.loop-step.step) c.directory_at.result c.deref.ensures.value c.directory_at.ensures c.in_default.is))
+    ∙ c.loop-step.invariant.leads
+    ∙ begin_is c.args.files.now c.args.weave.now (named_at c.args.files.now c.args.candidates.now) c.args.steps c.args.root c.args.start (length c.as_slice-from.result.now)
+    c.args.turn.now.items c.attach.new.turn.items c.as_slice-from.result.now c.start_parent.result c.requires.steady c.requires.start c.as_slice-from.ensures.value refl c.start_parent.ensures c.in_ok-attach.ensures.turn
+
+pub attach-requires-clause-steady : goal.attach-requires-clause-steady
+attach-requires-clause-steady c = c.requires.steady
+
+pub attach-requires-clause-inside : goal.attach-requires-clause-inside
+attach-requires-clause-inside c = c.requires.inside
+
+pub attach-requires-clause-pending : goal.attach-requires-clause-pending
+attach-requires-clause-pending c = c.requires.start
+
+pub attach-requires-clause-list : goal.attach-requires-clause-list
+attach-requires-clause-list c = c.start_list.ensures
+
+pub take_directory-requires-clause-steady : goal.take_directory-requires-clause-steady
+take_directory-requires-clause-steady c = c.loop-step.invariant.steady
+
+pub returns-in_default-clause-steady : goal.returns-in_default-clause-steady
+returns-in_default-clause-steady c = c.loop-step.invariant.steady
+
+pub returns-in_default-clause-pending : goal.returns-in_default-clause-pending
+returns-in_default-clause-pending c = c.loop-step.invariant.pending
+
+pub returns-after-loop-step-clause-steady : goal.returns-after-loop-step-clause-steady
+returns-after-loop-step-clause-steady c = c.loop-step.invariant.steady
+
+pub returns-after-loop-step-clause-pending : goal.returns-after-loop-step-clause-pending
+returns-after-loop-step-clause-pending c = c.loop-step.invariant.pending
+
+pub loop-step-init : goal.loop-step-init
+loop-step-init c = record {
+  steady = c.in_ok-attach.ensures.steady;
+  leads = ap₂ (λ (n k : ℕ). turns (named_at c.args.files.now c.args.candidates.now) n k c.attach.new.turn.items) (none_gone c.args.steps) (none_added (length c.as_slice-from.result.now));
+  pending = c.in_ok-attach.ensures.pending;
+}
+
+pub returns-after-loop-step-clause-turn : goal.returns-after-loop-step-clause-turn
+returns-after-loop-step-clause-turn c =
+    ap (λ (n : ℕ). turns (named_at c.args.files.now c.args.candidates.now) n (length c.as_slice-from.result.now + c.loop-step.step) c.loop-step.turn.items)
+    (sym (all_gone c.args.steps c.loop-step.step c.loop-step-test.false))
     ∙ c.loop-step.invariant.leads
     ∙ begin_is c.args.files.now c.args.weave.now (named_at c.args.files.now c.args.candidates.now) c.args.steps c.args.root c.args.start (length c.as_slice-from.result.now)
     c.args.turn.now.items c.attach.new.turn.items c.as_slice-from.result.now c.start_parent.result c.requires.steady c.requires.start c.as_slice-from.ensures.value refl c.start_parent.ensures c.in_ok-attach.ensures.turn
