@@ -304,7 +304,10 @@ impl Item for FileRec {
             core,
             extents: Extents::from_vec(extents(rt, alloc, row)),
             attr_extents: must(rt, Few::from_vec(alloc, extents(rt, alloc, row))),
-            tree: must(rt, Few::from_vec(alloc, records::<u64>(rt, alloc, row.text()).into_vec())),
+            tree: must(
+                rt,
+                Few::from_vec(alloc, records::<u64>(rt, alloc, row.text()).into_vec()),
+            ),
             attrs: Few::new(),
             target: Few::new(),
             device: 0,
