@@ -5,4 +5,4 @@ use Rattle.xfs_files.specs.declared.ahead.Ahead.{Ahead}
 
 -- the bytes of the blocks that are held are those of a file, where it tells its bytes
 abbrev pub HoldsPart : Option (List ℕ) → Ahead → Type 0
-HoldsPart told a = ForSome told (λ all. take (a.count * 4096) a.bytes ≡ take (a.count * 4096) (drop (a.first * 4096) all))
+HoldsPart told a = ForSome told (λ all. take (a.count * 4096) a.bytes.items ≡ take (a.count * 4096) (drop (a.first * 4096) all))

@@ -1,16 +1,16 @@
 //! The blocks of a file that were read ahead, many by one call of the system.
 
-ghost use Rattle.std.specs.Prelude.{◌≡◌, ◌*◌, ◌^◌, ◌<◌, ◌≤◌, length, take, drop, IsTrue};
+ghost use Rattle.std.specs.Prelude.{◌≡◌, ◌*◌, ◌^◌, ◌<◌, ◌≤◌, length, take, drop, IsTrue, IfOk};
 ghost use Rattle.std.specs.Option.{ForSome};
 
 use crate::system::ByteFile;
-use xfs_disk::BLOCK_SIZE;
+use std::alloc::Global;
+use xfs_disk::{BLOCK_SIZE, NoMemory};
 
-/// The most bytes that are read ahead: those of sixteen blocks.
-const AHEAD_SIZE: usize = 65536;
+/// The most blocks that are read ahead, and their bytes.
+const MOST_AHEAD: u64 = 64;
 
-/// The most blocks that are read ahead.
-const MOST_AHEAD: u64 = 16;
+const AHEAD_SIZE: usize = 262144;
 
 /// Blocks are first read ahead up to the next multiple of so many: a chunk of inodes has them.
 const FIRST_AHEAD: u64 = 8;
@@ -21,33 +21,46 @@ const BLOCK_BYTES: u64 = BLOCK_SIZE as u64;
 /// Blocks of a file that follow one another.
 ///
 /// Blocks are read ahead only where the one behind the last is asked for, so that a block that stands alone costs what it did: first
-/// those up to the next multiple of eight, since chunks of inodes begin and end there, then eight, then sixteen each time.
+/// those up to the next multiple of eight, since chunks of inodes begin and end there, then eight, and then twice as many each time up to
+/// sixty-four.
 #[derive(Drop)]
 pub(crate) struct Ahead {
-    bytes: [u8; AHEAD_SIZE],
+    bytes: Vec<u8>,
     /// The first block.
     first: u64,
     /// How many there are.
     count: u64,
     /// How many are read ahead next.
     next: u64,
-    ghost held_fit: { count ≤ 16 },
-    ghost next_fit: { next ≤ 16 },
+    ghost held_fit: { count * 4096 ≤ length bytes.items },
+    ghost next_fit: { next ≤ 64 },
 }
 
 impl Ahead {
     ghost use Rattle.xfs_files.specs.Ahead.{HoldsPart};
 
-    /// No block, before any is read.
-    pub(crate) fn none() -> Ahead
+    /// No block, and no room for any.
+    pub(crate) fn none(alloc: Global) -> Ahead
         ensures { (told : _) → HoldsPart told result }
     {
         Ahead {
-            bytes: [0; AHEAD_SIZE],
+            bytes: Vec::new(alloc),
             first: 0,
             count: 0,
             next: FIRST_AHEAD,
         }
+    }
+
+    /// No block, before any is read.
+    pub(crate) fn make(alloc: Global) -> Result<Ahead, NoMemory>
+        ensures { IfOk result (λ ahead. (told : _) → HoldsPart told ahead) }
+    {
+        Ok(Ahead {
+            bytes: vec![in alloc; 0; AHEAD_SIZE]?,
+            first: 0,
+            count: 0,
+            next: FIRST_AHEAD,
+        })
     }
 
     /// Gives up all blocks.
@@ -89,31 +102,35 @@ impl Ahead {
         if at != self.first.saturating_add(self.count) {
             return;
         }
-        let size = self.next as usize * BLOCK_SIZE;
+        let size = self.bytes.len().min(self.next as usize * BLOCK_SIZE);
         let got = fill_front(file, at * BLOCK_BYTES, &mut self.bytes, size);
         self.first = at;
         self.count = (got / BLOCK_SIZE) as u64;
-        self.next = if self.next < FIRST_AHEAD {
-            FIRST_AHEAD
-        } else {
-            MOST_AHEAD
-        };
+        self.next = next_after(self.next);
+    }
+}
+
+/// How many blocks are read ahead where so many were.
+fn next_after(count: u64) -> u64
+    requires { count ≤ 64 }
+    ensures { result ≤ 64 }
+{
+    if count < FIRST_AHEAD {
+        FIRST_AHEAD
+    } else {
+        MOST_AHEAD.min(2 * count)
     }
 }
 
 /// The same into the front of the bytes that are read ahead.
-fn fill_front<F: ByteFile>(
-    file: &mut F,
-    start: u64,
-    bytes: &mut [u8; AHEAD_SIZE],
-    size: usize,
-) -> usize
-    requires fits { size ≤ 65536 }
+fn fill_front<F: ByteFile>(file: &mut F, start: u64, bytes: &mut Vec<u8>, size: usize) -> usize
+    requires fits { size ≤ length bytes.old.items }
     ensures within { result ≤ size }
-    ensures read { ForSome (F.bytes file.old) (λ all. take result bytes.new ≡ take result (drop start all)) }
+    ensures len { length bytes.new.items ≡ length bytes.old.items }
+    ensures read { ForSome (F.bytes file.old) (λ all. take result bytes.new.items ≡ take result (drop start all)) }
     ensures bytes { F.bytes file.new ≡ F.bytes file.old }
 {
-    fill(file, start, &mut bytes[..size])
+    fill(file, start, bytes.slice_mut(..size))
 }
 
 /// Reads into a slice by one call from this byte of the file on, and says how many bytes; none where that fails.

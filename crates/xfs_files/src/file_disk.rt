@@ -9,9 +9,10 @@ ghost use Rattle.xfs_files.specs.Ahead.{HoldsPart};
 
 use crate::ahead::Ahead;
 use crate::system::ByteFile;
+use std::alloc::Global;
 use std::io;
 use std::io::{Error, ErrorKind};
-use xfs_disk::{BLOCK_SIZE, Disk, Failed, count_done, counted};
+use xfs_disk::{BLOCK_SIZE, Disk, Failed, NoMemory, count_done, counted};
 
 /// The bytes of a block, as a distance in a file.
 const BLOCK_BYTES: u64 = BLOCK_SIZE as u64;
@@ -37,8 +38,9 @@ pub struct FileDisk<F: ByteFile> {
 impl<F: ByteFile + Drop> FileDisk<F> {
     ghost use Rattle.xfs_files.specs.FileDisk.{file_of, bytes_of, size_of, faults_of, write_faults_of, reads_of, writes_of};
 
-    /// The disk of an opened file, with as many blocks as the file has whole blocks of 4096 bytes.
-    pub fn open(mut file: F) -> io::Result<FileDisk<F>>
+    /// The disk of an opened file, with as many blocks as the file has whole blocks of 4096 bytes. What is read ahead takes memory,
+    /// and there is no disk without.
+    pub fn open(alloc: Global, mut file: F) -> io::Result<FileDisk<F>>
         ensures opened { IfOk result (λ disk. IsSome (file_of disk)) }
         ensures size { IfOk result (λ disk. ForSome (F.bytes file) (λ all. size_of disk ≡ length all / 4096)) }
         ensures bytes { IfOk result (λ disk. bytes_of F.bytes disk ≡ F.bytes file) }
@@ -48,19 +50,22 @@ impl<F: ByteFile + Drop> FileDisk<F> {
         ensures writes { IfOk result (λ disk. writes_of disk ≡ 0) }
     {
         let count = file.count_bytes()?;
-        Ok(FileDisk {
-            file: Some(file),
-            blocks: count / BLOCK_BYTES,
-            faults: 0,
-            write_faults: 0,
-            reads: 0,
-            writes: 0,
-            ahead: Ahead::none(),
-        })
+        match Ahead::make(alloc) {
+            Ok(ahead) => Ok(FileDisk {
+                file: Some(file),
+                blocks: count / BLOCK_BYTES,
+                faults: 0,
+                write_faults: 0,
+                reads: 0,
+                writes: 0,
+                ahead,
+            }),
+            Err(NoMemory) => Err(Error::from(ErrorKind::OutOfMemory)),
+        }
     }
 
     /// The disk of no file.
-    pub fn unopened() -> FileDisk<F>
+    pub fn unopened(alloc: Global) -> FileDisk<F>
         ensures unopened { file_of result ≡ None }
         ensures size { size_of result ≡ 0 }
         ensures faults { faults_of result ≡ 0 }
@@ -75,7 +80,7 @@ impl<F: ByteFile + Drop> FileDisk<F> {
             write_faults: 0,
             reads: 0,
             writes: 0,
-            ahead: Ahead::none(),
+            ahead: Ahead::none(alloc),
         }
     }
 

@@ -7,7 +7,7 @@
 //! `xfs_system` opens an image so:
 //!
 //! ```text
-//! let disk = FileDisk::open(file)?; // as many whole blocks as the file has
+//! let disk = FileDisk::open(alloc, file)?; // as many whole blocks as the file has
 //! ```
 #![tactic(auto)]
 

@@ -112,11 +112,11 @@ impl<R: Clock + RandomSource + Env + Files + AllocGlobal + Clone + Drop> Host fo
         if is_pipe(self, name) {
             return Err(Error::from(ErrorKind::NotSeekable));
         }
-        disk_of(how.open(self, name)?)
+        disk_of(self.alloc(), how.open(self, name)?)
     }
 
     fn no_image(&self) -> FileDisk<R::File> {
-        FileDisk::unopened()
+        FileDisk::unopened(self.alloc())
     }
 
     fn has_in_use(&self, word: &Word) -> bool {
@@ -133,11 +133,14 @@ fn is_pipe<R: Files>(system: &R, name: &str) -> bool {
 }
 
 /// The disk of an opened file. A directory is none, though it may be opened for reading.
-fn disk_of<F: Read + Write + Seek + OpenFile + Drop>(file: F) -> io::Result<FileDisk<F>>
+fn disk_of<F: Read + Write + Seek + OpenFile + Drop>(
+    alloc: Global,
+    file: F,
+) -> io::Result<FileDisk<F>>
     ensures { IfOk result (λ disk. IsSome (file_of disk)) }
 {
     if file.metadata()?.is_dir() {
         return Err(Error::from(ErrorKind::IsADirectory));
     }
-    FileDisk::open(file)
+    FileDisk::open(alloc, file)
 }

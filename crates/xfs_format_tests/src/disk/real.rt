@@ -47,7 +47,7 @@ fn writable() -> OpenOptions {
 /// The disk of a file.
 fn opened(rt: &impl Abort, system: &HostRuntime, path: &PathBuf) -> FileDisk<File> {
     let file = must(rt, writable().open(system, path.as_path()));
-    must(rt, FileDisk::open(file))
+    must(rt, FileDisk::open(system.alloc(), file))
 }
 
 /// Fails where block 1 is not of twos, or block 0 not of ones.
@@ -101,7 +101,7 @@ fn a_file_that_is_only_read_takes_no_block(rt: HostRuntime) {
     let threes = [3; BLOCK_SIZE];
     must(&rt, fs::write(&rt, path.as_path(), threes.as_slice()));
     let file = must(&rt, File::open(&rt, path.as_path()));
-    let mut disk = must(&rt, FileDisk::open(file));
+    let mut disk = must(&rt, FileDisk::open(rt.alloc(), file));
     assert!(rt; matches!(disk.blocks(), Ok(1)));
     same!(rt; disk.write(0, &[4; BLOCK_SIZE]), Err(Failed));
     same!(rt; disk.faults(), 0);
