@@ -1,6 +1,6 @@
 //! A sink in memory, with a bounded room and with calls that can be made to fail.
 
-ghost use Rattle.std.specs.Prelude.{◌≡◌, ℕ, ◌<◌, ◌≤◌, ◌++◌, ◌⊎◌, [], length, take, Some, IsErr, IfOk, OnOk, OnErr, ◌↔◌, vec_capacity};
+ghost use Rattle.std.specs.Prelude.{◌≡◌, ℕ, ◌<◌, ◌≤◌, ◌++◌, ◌⊎◌, [], length, take, Some, IsErr, IfOk, OnOk, OnErr, IsTrue, ◌↔◌, ◌-◌, false, vec_capacity};
 ghost use Rattle.xfs_disk.specs.Counts.{CountsFailure};
 
 use crate::schedule::Schedule;
@@ -83,11 +83,24 @@ impl Sink for MemorySink {
         if self.schedule.count() {
             return Err(count_failure(&mut self.faults));
         }
-        let count = from.len().min(self.room - self.bytes.len());
-        let taken = self.bytes.extend_from_slice(&from[..count]);
-        if taken.is_err() || count < from.len() {
-            return Err(count_failure(&mut self.faults));
+        if put_front(&mut self.bytes, self.room, from) {
+            Ok(())
+        } else {
+            Err(count_failure(&mut self.faults))
         }
-        Ok(())
     }
+}
+
+/// Puts the bytes that there is room for behind the others, and says whether these are all.
+fn put_front(bytes: &mut Vec<u8>, room: usize, from: &[u8]) -> bool
+    requires within { length bytes.old.items ≤ room }
+    requires taken { room ≤ vec_capacity bytes.old }
+    ensures all { IsTrue result → length from.now ≤ room - length bytes.old.items }
+    ensures part { result ≡ false → room - length bytes.old.items < length from.now }
+    ensures items { bytes.new.items ≡ bytes.old.items ++ take (room - length bytes.old.items) from.now }
+    ensures within { length bytes.new.items ≤ room }
+    ensures taken { room ≤ vec_capacity bytes.new }
+{
+    let count = from.len().min(room - bytes.len());
+    bytes.extend_from_slice(&from[..count]).is_ok() && count == from.len()
 }

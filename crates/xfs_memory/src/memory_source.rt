@@ -49,6 +49,13 @@ impl MemorySource {
     {
         self.schedule.fail(call)
     }
+
+    /// The bytes that are left.
+    fn bytes_left(&self) -> &[u8]
+        ensures { result.now ≡ left_to_take self.now }
+    {
+        &self.bytes[self.given..]
+    }
 }
 
 impl Source for MemorySource {
@@ -74,10 +81,18 @@ impl Source for MemorySource {
         if self.schedule.count() {
             return Err(count_failure(&mut self.faults));
         }
-        let left = &self.bytes[self.given..];
-        let count = into.len().min(left.len());
-        into[..count].copy_from_slice(&left[..count]);
+        let count = move_front(self.bytes_left(), into);
         self.given += count;
         Ok(count)
     }
+}
+
+/// Moves as many bytes to the front as are there and as there is room for, and tells how many.
+fn move_front(from: &[u8], into: &mut [u8]) -> usize
+    ensures most { result ≡ min (length into.old) (length from.now) }
+    ensures moved { into.new ≡ take result from.now ++ drop result into.old }
+{
+    let count = into.len().min(from.len());
+    into[..count].copy_from_slice(&from[..count]);
+    count
 }
