@@ -20,7 +20,6 @@ use xfs_word::{part, sealed};
 
 /// Whether the superblock in a sector agrees with the geometry of its volume. The sector stands at the
 /// start of an allocation group above 0, in an image of at least `dblocks` blocks.
-#[tactic(auto, unfolding(crate::specs::Superblocks::is_agreeing))]
 pub fn agrees(g: &Geometry, sector: &[u8]) -> bool
     requires { length sector.now ≡ 512 }
     ensures { result ≡ is_agreeing (volume_of g.now) sector.now }

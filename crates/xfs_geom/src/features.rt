@@ -26,7 +26,7 @@ pub enum Rule {
 }
 
 /// A feature word that departs from its rule.
-#[derive(Clone, Copy, PartialEq, Eq)]
+#[derive(Clone, Copy)]
 pub struct Departure {
     /// The word's number.
     pub word: u8,

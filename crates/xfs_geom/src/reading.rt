@@ -1,6 +1,6 @@
 //! Superblocks that are accepted, and the faults of those that are not.
 
-ghost use Rattle.std.specs.Prelude.{◌≡◌, ℕ, ◌≤◌, length, Option, Some, None, IfOk, IfErr};
+ghost use Rattle.std.specs.Prelude.{◌≡◌, ℕ, ◌≤◌, ◌==◌, ◌&&◌, not, length, Option, Some, None, IfOk, IfErr};
 ghost use Rattle.xfs_geom.specs.Superblocks.{super_seal, super_fault};
 ghost use Rattle.xfs_geom.specs.Volumes.{volume_of, stated_volume};
 
@@ -12,7 +12,7 @@ use crate::superblock::UUID;
 use xfs_word::{Seal, SealKind, part, sealed};
 
 /// Why a superblock is not accepted.
-#[derive(Clone, Copy, PartialEq, Eq)]
+#[derive(Clone, Copy)]
 pub enum SuperFault {
     /// Its magic number, version, checksum or log sequence number is not right.
     NotSealed,
@@ -37,7 +37,6 @@ pub(crate) fn super_seal() -> Seal
 /// The geometry that a superblock states, where it is accepted at the block `place` of an image of
 /// `blocks` blocks: the primary at place 0, a backup at another. The tests are made in this order: the
 /// seal, whether the primary was left while it was made, the feature words, the words of its shape.
-#[tactic(auto, unfolding(crate::specs::Superblocks::super_fault))]
 pub fn read_super(sector: &[u8], place: u64, blocks: u64) -> Result<Geometry, SuperFault>
     requires { length sector.now ≡ 512 }
     ensures accepted { IfOk result (λ g. super_fault sector.now place blocks ≡ None) }
@@ -49,7 +48,7 @@ pub fn read_super(sector: &[u8], place: u64, blocks: u64) -> Result<Geometry, Su
         return Err(SuperFault::NotSealed);
     }
     let stated = Stated::read(sector);
-    if place == 0 && stated.inprogress != 0 {
+    if was_left(place, stated.inprogress) {
         return Err(SuperFault::Shape { word: 19 });
     }
     if let Some(Departure { word, bits }) = refused_feature(sector) {
@@ -67,4 +66,11 @@ pub fn read_super(sector: &[u8], place: u64, blocks: u64) -> Result<Geometry, Su
     let mut uuid = [0; 16];
     uuid.copy_from_slice(part(sector, UUID.offset, UUID.width));
     Ok(stated.geometry(uuid))
+}
+
+/// Whether this is a primary superblock that was left while it was made.
+fn was_left(place: u64, inprogress: u8) -> bool
+    ensures { result ≡ (place == 0 && not (inprogress == 0)) }
+{
+    place == 0 && inprogress != 0
 }

@@ -212,7 +212,6 @@ impl Stated {
     }
 
     /// The first inodes lie in a chunk of the volume, in a cluster that is clear of the log.
-    #[tactic(auto, using(crate::proofs::Bounds::quotient))]
     fn has_root(&self) -> bool
         requires { HasParts self.now }
         ensures value { result ≡ has_root self.now }

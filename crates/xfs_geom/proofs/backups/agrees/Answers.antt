@@ -1,4 +1,5 @@
 use Rattle.std.proofs.Common.{◌≡◌, ℕ, Bool, true, false, ◌&&◌, Option, Some, None, refl, sym, ap, ◌∙◌}
+use Rattle.std.specs.Prelude.{IfNone}
 use Rattle.std.specs.Option.{is_some, is_none}
 use Rattle.xfs_word.specs.Seal.{is_sealed}
 use Rattle.xfs_geom.specs.Features.{refused_feature}
@@ -7,6 +8,9 @@ use Rattle.xfs_geom.specs.Stated.{stated, parts_fault}
 use Rattle.xfs_geom.specs.Superblocks.{is_agreeing, states_volume, super_seal}
 use Rattle.xfs_geom.specs.Volumes.{volume_of}
 use Rattle.xfs_geom.proofs.backups.agrees.Goals as goal
+
+clash : false ≡ true → ⊥
+clash h = cc
 
 last_of_three : (a b c r : Bool) → a ≡ true → b ≡ true → r ≡ c → r ≡ (a && b && c)
 last_of_three true true c r p q e = e
@@ -56,3 +60,23 @@ returns c =
     (sym c.is_sound.ensures ∙ c.if-not-is_sound.false)
     (sym (ap (λ (held : Option ℕ). is_none held) fault) ∙ none_of c.parts_fault.result c.is_some.result c.is_some.ensures c.if-is_some.false)
     c.states_volume.ensures
+
+pub is_sound-requires : goal.is_sound-requires
+is_sound-requires c = c.requires
+
+pub read-stated-requires : goal.read-stated-requires
+read-stated-requires c = c.requires
+
+pub states_volume-requires-clause-sector : goal.states_volume-requires-clause-sector
+states_volume-requires-clause-sector c = c.requires
+
+pub states_volume-requires-clause-stated : goal.states_volume-requires-clause-stated
+states_volume-requires-clause-stated c = c.read-stated.ensures
+
+-- what is kept where there is no fault
+kept_of : (Kept : Type 0) (held : Option ℕ) (r : Bool) → r ≡ is_some held → r ≡ false → IfNone held Kept → Kept
+kept_of Kept None r e h kept = kept
+kept_of Kept (Some word) r e h kept = absurd (clash (sym h ∙ e))
+
+pub states_volume-requires-clause-parts : goal.states_volume-requires-clause-parts
+states_volume-requires-clause-parts c = kept_of _ c.parts_fault.result c.is_some.result c.is_some.ensures c.if-is_some.false c.parts_fault.ensures.kept
