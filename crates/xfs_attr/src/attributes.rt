@@ -35,7 +35,7 @@ impl Attr {
 }
 
 /// A list of attributes.
-#[derive(Debug, Drop)]
+#[derive(Drop)]
 pub struct Attrs {
     attributes: Vec<Attr>,
 }
@@ -74,7 +74,7 @@ impl Attrs {
 }
 
 /// Why attributes are not read.
-#[derive(Clone, Copy, Debug, PartialEq, Eq)]
+#[derive(Clone, Copy, Debug)]
 pub enum AttrFault {
     /// They have a form that is not supported: 1 a value outside the leaf.
     Unsupported { what: u8 },

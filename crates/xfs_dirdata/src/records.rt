@@ -29,7 +29,7 @@ pub struct FreeSpan {
 }
 
 /// Why a short form or a data block is not read.
-#[derive(Clone, Copy, PartialEq, Eq)]
+#[derive(Clone, Copy)]
 pub enum DirDataFault {
     /// It breaks a rule of its format.
     Unsound,

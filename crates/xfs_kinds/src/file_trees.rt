@@ -17,7 +17,7 @@ use xfs_word::{Extent, get64, pack_extent, put64, unpack_extent};
 const LAST_END: u64 = (1 << 54) - 1;
 
 /// The trees of the extents of a file, ordered by offset in the file. An extent's start is an address.
-#[derive(Clone, Copy, PartialEq, Eq)]
+#[derive(Clone, Copy)]
 pub struct Bmbt {
     pub ino: u64,
 }

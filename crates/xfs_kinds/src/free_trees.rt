@@ -13,13 +13,13 @@ use xfs_geom::{Geometry, Span};
 use xfs_tree::Kind;
 
 /// The trees of the free runs of an allocation group, ordered by start.
-#[derive(Clone, Copy, PartialEq, Eq)]
+#[derive(Clone, Copy)]
 pub struct Bno {
     pub ag: u32,
 }
 
 /// The trees of the free runs of an allocation group, ordered by length and then by start.
-#[derive(Clone, Copy, PartialEq, Eq)]
+#[derive(Clone, Copy)]
 pub struct Cnt {
     pub ag: u32,
 }

@@ -11,13 +11,13 @@ use xfs_tree::Kind;
 use xfs_word::get32;
 
 /// The trees of the chunks of inodes of an allocation group, ordered by inode number.
-#[derive(Clone, Copy, PartialEq, Eq)]
+#[derive(Clone, Copy)]
 pub struct Ino {
     pub ag: u32,
 }
 
 /// The trees of the chunks of an allocation group that have a free inode, ordered by inode number.
-#[derive(Clone, Copy, PartialEq, Eq)]
+#[derive(Clone, Copy)]
 pub struct Fino {
     pub ag: u32,
 }

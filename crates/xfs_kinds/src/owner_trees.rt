@@ -11,7 +11,7 @@ use xfs_geom::{Geometry, RmapRec};
 use xfs_tree::Kind;
 
 /// The trees of the owners of an allocation group's blocks, ordered by block, owner and offset word.
-#[derive(Clone, Copy, PartialEq, Eq)]
+#[derive(Clone, Copy)]
 pub struct Rmap {
     pub ag: u32,
 }

@@ -8,7 +8,7 @@ use crate::headers::{long, short};
 use xfs_word::{get16, get32, get64};
 
 /// What the blocks of a kind of tree have in common. Lengths are in bytes.
-#[derive(Clone, Copy, Debug, PartialEq, Eq)]
+#[derive(Clone, Copy, Debug)]
 pub struct Layout {
     pub magic: u32,
     /// Whether blocks begin with the long header.

@@ -33,7 +33,7 @@ pub enum SealKind {
 }
 
 /// What a sealed object states of itself.
-#[derive(Clone, Copy, PartialEq, Eq)]
+#[derive(Clone, Copy)]
 pub struct Seal {
     /// What the object is.
     pub kind: SealKind,
@@ -47,14 +47,14 @@ pub struct Seal {
 }
 
 /// Where a number stands: its offset and its width, both in bytes.
-#[derive(Clone, Copy, PartialEq, Eq)]
+#[derive(Clone, Copy)]
 pub struct FieldPlace {
     pub offset: usize,
     pub width: usize,
 }
 
 /// Where an object has the fields that seal it; sizes and offsets are in bytes.
-#[derive(Clone, Copy, PartialEq, Eq)]
+#[derive(Clone, Copy)]
 pub struct SealLayout {
     /// The size of the object.
     pub size: usize,

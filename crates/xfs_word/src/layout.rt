@@ -6,7 +6,7 @@ ghost use Rattle.xfs_word.specs.Field.{field_of, is_width, SameBeside, KeepsBesi
 use crate::fields::{field, put_field};
 
 /// How a field's value is shown.
-#[derive(Clone, Copy, PartialEq, Eq)]
+#[derive(Clone, Copy)]
 pub enum Form {
     /// A decimal number.
     Decimal,
