@@ -5,3 +5,5 @@ pub mod Split
 pub mod Levels
 pub mod Found
 pub mod Members
+mod Taken
+mod LeafTests

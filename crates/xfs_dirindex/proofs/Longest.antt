@@ -1,8 +1,9 @@
 -- The values of the longest unused spans.
-use Rattle.std.proofs.Common.{◌≡◌, ℕ, zero, suc, ◌+◌, ◌-◌, ◌*◌, ◌/◌, ◌%◌, ◌<◌, Bool, true, false, ◌&&◌, ◌==◌, List, [], ◌∷◌, ◌++◌, length, get_or, refl, sym, ap, ◌∙◌, arith, inl, inr}
+use Rattle.std.proofs.Common.{◌≡◌, ℕ, zero, suc, ◌+◌, ◌-◌, ◌*◌, ◌/◌, ◌%◌, ◌<◌, Bool, true, false, ◌&&◌, ◌==◌, List, [], ◌∷◌, ◌++◌, length, count_by, cond, get_or, refl, sym, ap, ◌∙◌, arith, inl, inr}
 use Rattle.std.specs.List.{list_all, range_with_len}
 use Rattle.std.proofs.lemmas.List.Folds.{list_all-append, list_all_at}
 use Rattle.std.proofs.lemmas.List.{map-id}
+use Rattle.std.proofs.lemmas.List.Sums.{sum_by_push}
 use Rattle.std.proofs.lemmas.List.FromFn.{map-range_with_len_more, length-range_with_len, get_or-range_with_len}
 use Rattle.std.proofs.lemmas.Bool.{cases_eq, eq-eqb, ne_eqb, cond-true, cond-false}
 use Rattle.xfs_dirindex.specs.declared.data.Best.{Best}
@@ -21,6 +22,24 @@ range-more n =
 pub all_more : (p : ℕ → Bool) (n : ℕ) → list_all p (range_with_len 0 (n + 1)) ≡ (list_all p (range_with_len 0 n) && p n)
 all_more p n =
     ap (list_all p) (range-more n) ∙ (list_all-append p (range_with_len 0 n) (n ∷ []) ∙ both (list_all p (range_with_len 0 n)) (p n))
+
+abbrev one_if : Bool → ℕ
+one_if b = cond b 1 0
+
+counted_more : (p : ℕ → Bool) (n : ℕ) → count_by p (range_with_len 0 (n + 1)) ≡ count_by p (range_with_len 0 n) + one_if (p n)
+counted_more p n = ap (count_by p) (range-more n) ∙ sum_by_push (λ (x : ℕ). one_if (p x)) (range_with_len 0 n) n
+
+pub counted_yes : (p : ℕ → Bool) (n used new : ℕ) → p n ≡ true → used ≡ count_by p (range_with_len 0 n) → new ≡ used + 1 → new ≡ count_by p (range_with_len 0 (n + 1))
+counted_yes p n used new so counted is =
+    let next = counted_more p n in
+    let one = ap one_if so in
+    omega (arith, next, one, counted, is)
+
+pub counted_no : (p : ℕ → Bool) (n used new : ℕ) → p n ≡ false → used ≡ count_by p (range_with_len 0 n) → new ≡ used → new ≡ count_by p (range_with_len 0 (n + 1))
+counted_no p n used new fails counted is =
+    let next = counted_more p n in
+    let none = ap one_if fails in
+    omega (arith, next, none, counted, is)
 
 pub not_all : (p : ℕ → Bool) (n i : ℕ) → i < n → p i ≡ false → list_all p (range_with_len 0 n) ≡ false
 not_all p n i low fails =

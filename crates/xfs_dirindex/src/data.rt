@@ -19,7 +19,7 @@ const OWN_PLACE: u16 = 64;
 const PARENT_PLACE: u16 = 80;
 
 /// The longest unused span of a data block.
-#[derive(Clone, Copy, PartialEq, Eq)]
+#[derive(Clone, Copy)]
 pub struct Best {
     /// The data block, by its number in the file.
     pub offset: u64,
@@ -247,7 +247,12 @@ fn have_no_dots(entries: &[EntryRec]) -> bool
 fn has_dots(entries: &[EntryRec]) -> bool
     ensures { result ≡ list_any is_dots entries.now }
 {
-    entries.iter().any(|entry| is_dots(entry))
+    for entry in entries {
+        if is_dots(entry) {
+            return true;
+        }
+    }
+    false
 }
 
 /// Whether an entry has the name of the directory itself or of its parent.

@@ -36,7 +36,12 @@ fn have_values(dir: &DirSeen, bests: &[Best]) -> bool
     requires ascending { OffsetsAscend 0 dir.now.offsets.items }
     ensures { result ≡ list_all (has_value (mapped dir.now.offsets.items dir.now.blocks)) bests.now }
 {
-    bests.iter().all(|best| has_value(dir, *best))
+    for best in bests {
+        if !has_value(dir, *best) {
+            return false;
+        }
+    }
+    true
 }
 
 /// Whether each free block has the values of its data blocks.
@@ -103,9 +108,13 @@ fn used_in(bytes: &[u8], count: usize) -> usize
     requires { 64 + 2 * count ≤ length bytes.now }
     ensures { result ≡ used_in bytes.now count }
 {
-    (0..count)
-        .filter(|j| get16(bytes, HEADER_SIZE + VALUE_SIZE * *j) != UNMAPPED)
-        .count()
+    let mut used = 0;
+    for j in 0..count {
+        if get16(bytes, HEADER_SIZE + VALUE_SIZE * j) != UNMAPPED {
+            used += 1;
+        }
+    }
+    used
 }
 
 /// Whether a data block has its value in its free block.

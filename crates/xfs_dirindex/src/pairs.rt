@@ -50,9 +50,11 @@ pub fn read_pairs(
     requires inside { at + 8 * count ≤ length bytes.now }
     ensures pairs { IfOk result (λ pairs. pairs.items ≡ pairs_at bytes.now at count) }
 {
-    (0..count)
-        .map(|k| pair_at(bytes, at + PAIR_SIZE * k))
-        .collect(alloc)
+    let mut pairs = Vec::with_capacity(alloc, count)?;
+    for k in 0..count {
+        pairs.push(pair_at(bytes, at + PAIR_SIZE * k))?;
+    }
+    Ok(pairs)
 }
 
 /// The pair at a byte offset.
@@ -84,7 +86,13 @@ fn rise(pairs: &[Pair]) -> bool
 pub fn count_stale(pairs: &[Pair]) -> usize
     ensures { result ≡ count_by is_stale pairs.now }
 {
-    pairs.iter().filter(|pair| is_stale(**pair)).count()
+    let mut count = 0;
+    for pair in pairs {
+        if is_stale(*pair) {
+            count += 1;
+        }
+    }
+    count
 }
 
 /// The pairs that are not stale.

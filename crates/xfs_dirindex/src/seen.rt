@@ -19,7 +19,7 @@ pub struct DirSeen {
 }
 
 /// Why a directory is not whole.
-#[derive(Clone, Copy, Debug, PartialEq, Eq)]
+#[derive(Clone, Copy, Debug)]
 pub enum IndexFault {
     /// It breaks a rule of its form.
     Unsound,
