@@ -1,7 +1,7 @@
 //! Why trees are not read.
 
 /// Why trees are not read.
-#[derive(Clone, Copy, PartialEq, Eq)]
+#[derive(Clone, Copy)]
 pub enum ForestFault {
     /// A read failed.
     ReadFault,

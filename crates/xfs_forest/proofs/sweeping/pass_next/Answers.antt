@@ -1,5 +1,6 @@
 use Rattle.std.proofs.Common.{◌<◌, length, get_or, sym, subst, arith}
 use Rattle.std.proofs.lemmas.List.{get_or_default}
+use Rattle.std.proofs.lemmas.Result.{IfOk-from_err}
 use Rattle.xfs_geom.specs.Volumes.{volume_of}
 use Rattle.xfs_forest.specs.Forest.{of_tree, reads_as, spots_of, IsGrowing, IsOnward}
 use Rattle.xfs_forest.proofs.Forests.{both_set, forest_set, forest_sound, onward_on, onward_same, passed_onward, room_less}
@@ -43,3 +44,24 @@ returns-clause-grows g c = λ image growing.
     (λ p d here. c.in_ok-pass_seat.ensures.grows (s (get_or plants t p).kind) v image (reads_as s v image (get_or plants t p)) (c.requires.next x).next (sym (c.requires.broken p x)) c.requires.alone
     (subst (λ tree. IsGrowing (s (get_or plants t p).kind) v image (reads_as s v image (get_or plants t p)) tree (of_tree t (spots_of c.args.cells.now.items))) (get_or_default trees t d x inside) here))
     c.in_ok-pass_seat.ensures.others growing
+
+pub pass_seat-requires-clause-more : goal.pass_seat-requires-clause-more
+pass_seat-requires-clause-more g c = λ κs lives. (c.requires.next c.index-trees-t.result).more
+
+pub pass_seat-requires-clause-met : goal.pass_seat-requires-clause-met
+pass_seat-requires-clause-met g c = λ κs lives. c.requires.forest.met c.args.t c.index-trees-t.result c.requires.number
+
+pub pass_seat-requires-clause-fresh : goal.pass_seat-requires-clause-fresh
+pass_seat-requires-clause-fresh g c = λ κs lives. (c.requires.next c.index-trees-t.result).fresh
+
+pub returns-in_err-pass_seat-clause-forest : goal.returns-in_err-pass_seat-clause-forest
+returns-in_err-pass_seat-clause-forest g c = IfOk-from_err c.from_residual.result _ c.from_residual.ensures.0
+
+pub returns-in_err-pass_seat-clause-onward : goal.returns-in_err-pass_seat-clause-onward
+returns-in_err-pass_seat-clause-onward g c = IfOk-from_err c.from_residual.result _ c.from_residual.ensures.0
+
+pub returns-in_err-pass_seat-clause-less : goal.returns-in_err-pass_seat-clause-less
+returns-in_err-pass_seat-clause-less g c = IfOk-from_err c.from_residual.result _ c.from_residual.ensures.0
+
+pub returns-in_err-pass_seat-clause-grows : goal.returns-in_err-pass_seat-clause-grows
+returns-in_err-pass_seat-clause-grows g c = IfOk-from_err c.from_residual.result _ c.from_residual.ensures.0
