@@ -15,7 +15,7 @@ pub struct DirFound {
 }
 
 /// Why a directory is not read.
-#[derive(Clone, Copy, PartialEq, Eq)]
+#[derive(Clone, Copy)]
 pub enum DirectoryFault {
     /// A read failed.
     ReadFault,

@@ -111,10 +111,13 @@ fn is_leaf(alloc: Global, seen: &DirSeen) -> Result<bool, NoMemory>
 fn beyond(offsets: &[u64]) -> usize
     ensures { result ≡ count_by (nat_le 0x800000) offsets.now }
 {
-    offsets
-        .iter()
-        .filter(|offset| **offset >= INDEX_START)
-        .count()
+    let mut count = 0;
+    for offset in offsets {
+        if *offset >= INDEX_START {
+            count += 1;
+        }
+    }
+    count
 }
 
 /// Whether blocks are whole in the node form.

@@ -3,7 +3,7 @@
 use xfs_volume::Law;
 
 /// The first thing that is wrong with an image.
-#[derive(Clone, Copy, Debug, PartialEq, Eq)]
+#[derive(Clone, Copy, Debug)]
 pub enum Finding {
     /// A part of the image does not read: 0 the geometry is not elected from block 0 (at place 0); at the number of their
     /// group 1 the header of its free space, 2 the header of its inodes, 3 its free list, 4 the tree of free runs by start,

@@ -1,7 +1,7 @@
 //! Why the log or the log sequence numbers are not read.
 
 /// Why the log or the log sequence numbers are not read.
-#[derive(Clone, Copy, PartialEq, Eq)]
+#[derive(Clone, Copy)]
 pub enum JournalFault {
     /// A read failed.
     ReadFault,

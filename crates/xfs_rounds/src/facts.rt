@@ -6,9 +6,10 @@ ghost use Rattle.xfs_rounds.specs.Facts.{reading_of};
 
 use xfs_inode::SlotRead;
 use xfs_inode::layouts::inode::LSN;
+use xfs_word::get64;
 
 /// What a slot reads as by itself, without any other block.
-#[derive(Clone, Copy, Debug, PartialEq, Eq)]
+#[derive(Clone, Copy, Debug)]
 pub enum SlotReading {
     /// It holds no file.
     Free,
@@ -19,7 +20,7 @@ pub enum SlotReading {
 }
 
 /// What is kept of a slot in place of its bytes.
-#[derive(Clone, Copy, Debug, PartialEq, Eq)]
+#[derive(Clone, Copy, Debug)]
 pub struct SlotFact {
     pub reading: SlotReading,
     /// The log sequence number that stands in it.
@@ -33,7 +34,7 @@ pub(crate) fn fact_of(slot: &[u8], read: &SlotRead) -> SlotFact
 {
     SlotFact {
         reading: reading_of(read),
-        lsn: LSN.read(slot),
+        lsn: get64(slot, LSN.offset),
     }
 }
 

@@ -1,7 +1,7 @@
 //! Why a round is not read.
 
 /// Why a round is not read.
-#[derive(Clone, Copy, PartialEq, Eq)]
+#[derive(Clone, Copy)]
 pub enum RoundFault {
     /// A read failed.
     ReadFault,

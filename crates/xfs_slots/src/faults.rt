@@ -1,7 +1,7 @@
 //! Why slots are not taken up.
 
 /// Why something is not read.
-#[derive(Clone, Copy, PartialEq, Eq)]
+#[derive(Clone, Copy)]
 pub enum PartFault {
     /// A read failed.
     ReadFault,

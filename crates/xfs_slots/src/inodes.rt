@@ -8,7 +8,7 @@ use xfs_dirdata::EntryRec;
 use xfs_volume::{DirRec, FileRec};
 
 /// An inode with a feature that is not supported.
-#[derive(Clone, Copy, PartialEq, Eq)]
+#[derive(Clone, Copy)]
 pub struct InodeFeature {
     /// The number of the inode.
     pub ino: u64,
