@@ -1,3 +1,4 @@
+mod Bounds
 mod Chained
 pub mod Shapes
 pub mod Stated
