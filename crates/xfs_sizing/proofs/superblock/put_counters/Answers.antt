@@ -1,4 +1,4 @@
-use Rattle.std.proofs.Common.{inl, lit≤, ◌∙◌}
+use Rattle.std.proofs.Common.{inl, lit≤, ◌∙◌, ℕ, ◌≤◌, sym, subst}
 use Rattle.xfs_word.specs.Field.{field_of, part_of}
 use Rattle.xfs_sizing.proofs.Chained.{joined}
 use Rattle.xfs_sizing.proofs.superblock.put_counters.Goals as goal
@@ -64,3 +64,30 @@ returns c =
       keeps = keeps0;
       keeps_parts = parts0;
     }
+
+pub put64-requires : goal.put64-requires
+put64-requires c = subst (λ (n : ℕ). 136 ≤ n) (sym (c.requires.sector)) (lit≤ tt)
+
+pub put64-requires-2 : goal.put64-requires-2
+put64-requires-2 c = subst (λ (n : ℕ). 144 ≤ n) (sym (c.put64.auto.bytes ∙ c.requires.sector)) (lit≤ tt)
+
+pub put64-requires-3 : goal.put64-requires-3
+put64-requires-3 c = subst (λ (n : ℕ). 152 ≤ n) (sym (c.put64-2.auto.bytes ∙ (c.put64.auto.bytes ∙ c.requires.sector))) (lit≤ tt)
+
+pub put64-requires-4 : goal.put64-requires-4
+put64-requires-4 c = subst (λ (n : ℕ). 160 ≤ n) (sym (c.put64-3.auto.bytes ∙ (c.put64-2.auto.bytes ∙ (c.put64.auto.bytes ∙ c.requires.sector)))) (lit≤ tt)
+
+pub put64-requires-5 : goal.put64-requires-5
+put64-requires-5 c = subst (λ (n : ℕ). 168 ≤ n) (sym (c.put64-4.auto.bytes ∙ (c.put64-3.auto.bytes ∙ (c.put64-2.auto.bytes ∙ (c.put64.auto.bytes ∙ c.requires.sector))))) (lit≤ tt)
+
+pub put64-requires-6 : goal.put64-requires-6
+put64-requires-6 c = subst (λ (n : ℕ). 176 ≤ n) (sym (c.put64-5.auto.bytes ∙ (c.put64-4.auto.bytes ∙ (c.put64-3.auto.bytes ∙ (c.put64-2.auto.bytes ∙ (c.put64.auto.bytes ∙ c.requires.sector)))))) (lit≤ tt)
+
+pub put16-requires : goal.put16-requires
+put16-requires c = subst (λ (n : ℕ). 178 ≤ n) (sym (c.put64-6.auto.bytes ∙ (c.put64-5.auto.bytes ∙ (c.put64-4.auto.bytes ∙ (c.put64-3.auto.bytes ∙ (c.put64-2.auto.bytes ∙ (c.put64.auto.bytes ∙ c.requires.sector))))))) (lit≤ tt)
+
+pub put8-requires : goal.put8-requires
+put8-requires c = subst (λ (n : ℕ). 179 ≤ n) (sym (c.put16.auto.bytes ∙ (c.put64-6.auto.bytes ∙ (c.put64-5.auto.bytes ∙ (c.put64-4.auto.bytes ∙ (c.put64-3.auto.bytes ∙ (c.put64-2.auto.bytes ∙ (c.put64.auto.bytes ∙ c.requires.sector)))))))) (lit≤ tt)
+
+pub put8-requires-2 : goal.put8-requires-2
+put8-requires-2 c = subst (λ (n : ℕ). 180 ≤ n) (sym (c.put8.auto.bytes ∙ (c.put16.auto.bytes ∙ (c.put64-6.auto.bytes ∙ (c.put64-5.auto.bytes ∙ (c.put64-4.auto.bytes ∙ (c.put64-3.auto.bytes ∙ (c.put64-2.auto.bytes ∙ (c.put64.auto.bytes ∙ c.requires.sector))))))))) (lit≤ tt)

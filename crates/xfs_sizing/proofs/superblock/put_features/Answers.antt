@@ -1,4 +1,4 @@
-use Rattle.std.proofs.Common.{inl, lit≤, ◌∙◌}
+use Rattle.std.proofs.Common.{inl, lit≤, ◌∙◌, ℕ, ◌≤◌, sym, subst}
 use Rattle.xfs_word.specs.Field.{field_of, part_of}
 use Rattle.xfs_sizing.proofs.Chained.{joined}
 use Rattle.xfs_sizing.proofs.superblock.put_features.Goals as goal
@@ -110,3 +110,51 @@ returns c =
       keeps = keeps0;
       keeps_parts = parts0;
     }
+
+pub put32-requires : goal.put32-requires
+put32-requires c = subst (λ (n : ℕ). 184 ≤ n) (sym (c.requires.sector)) (lit≤ tt)
+
+pub put32-requires-2 : goal.put32-requires-2
+put32-requires-2 c = subst (λ (n : ℕ). 188 ≤ n) (sym (c.put32.auto.bytes ∙ c.requires.sector)) (lit≤ tt)
+
+pub put32-requires-3 : goal.put32-requires-3
+put32-requires-3 c = subst (λ (n : ℕ). 192 ≤ n) (sym (c.put32-2.auto.bytes ∙ (c.put32.auto.bytes ∙ c.requires.sector))) (lit≤ tt)
+
+pub put8-requires : goal.put8-requires
+put8-requires c = subst (λ (n : ℕ). 193 ≤ n) (sym (c.put32-3.auto.bytes ∙ (c.put32-2.auto.bytes ∙ (c.put32.auto.bytes ∙ c.requires.sector)))) (lit≤ tt)
+
+pub put8-requires-2 : goal.put8-requires-2
+put8-requires-2 c = subst (λ (n : ℕ). 194 ≤ n) (sym (c.put8.auto.bytes ∙ (c.put32-3.auto.bytes ∙ (c.put32-2.auto.bytes ∙ (c.put32.auto.bytes ∙ c.requires.sector))))) (lit≤ tt)
+
+pub put16-requires : goal.put16-requires
+put16-requires c = subst (λ (n : ℕ). 196 ≤ n) (sym (c.put8-2.auto.bytes ∙ (c.put8.auto.bytes ∙ (c.put32-3.auto.bytes ∙ (c.put32-2.auto.bytes ∙ (c.put32.auto.bytes ∙ c.requires.sector)))))) (lit≤ tt)
+
+pub put32-requires-4 : goal.put32-requires-4
+put32-requires-4 c = subst (λ (n : ℕ). 200 ≤ n) (sym (c.put16.auto.bytes ∙ (c.put8-2.auto.bytes ∙ (c.put8.auto.bytes ∙ (c.put32-3.auto.bytes ∙ (c.put32-2.auto.bytes ∙ (c.put32.auto.bytes ∙ c.requires.sector))))))) (lit≤ tt)
+
+pub put32-requires-5 : goal.put32-requires-5
+put32-requires-5 c = subst (λ (n : ℕ). 204 ≤ n) (sym (c.put32-4.auto.bytes ∙ (c.put16.auto.bytes ∙ (c.put8-2.auto.bytes ∙ (c.put8.auto.bytes ∙ (c.put32-3.auto.bytes ∙ (c.put32-2.auto.bytes ∙ (c.put32.auto.bytes ∙ c.requires.sector)))))))) (lit≤ tt)
+
+pub put32-requires-6 : goal.put32-requires-6
+put32-requires-6 c = subst (λ (n : ℕ). 208 ≤ n) (sym (c.put32-5.auto.bytes ∙ (c.put32-4.auto.bytes ∙ (c.put16.auto.bytes ∙ (c.put8-2.auto.bytes ∙ (c.put8.auto.bytes ∙ (c.put32-3.auto.bytes ∙ (c.put32-2.auto.bytes ∙ (c.put32.auto.bytes ∙ c.requires.sector))))))))) (lit≤ tt)
+
+pub put32-requires-7 : goal.put32-requires-7
+put32-requires-7 c = subst (λ (n : ℕ). 212 ≤ n) (sym (c.put32-6.auto.bytes ∙ (c.put32-5.auto.bytes ∙ (c.put32-4.auto.bytes ∙ (c.put16.auto.bytes ∙ (c.put8-2.auto.bytes ∙ (c.put8.auto.bytes ∙ (c.put32-3.auto.bytes ∙ (c.put32-2.auto.bytes ∙ (c.put32.auto.bytes ∙ c.requires.sector)))))))))) (lit≤ tt)
+
+pub put32-requires-8 : goal.put32-requires-8
+put32-requires-8 c = subst (λ (n : ℕ). 216 ≤ n) (sym (c.put32-7.auto.bytes ∙ (c.put32-6.auto.bytes ∙ (c.put32-5.auto.bytes ∙ (c.put32-4.auto.bytes ∙ (c.put16.auto.bytes ∙ (c.put8-2.auto.bytes ∙ (c.put8.auto.bytes ∙ (c.put32-3.auto.bytes ∙ (c.put32-2.auto.bytes ∙ (c.put32.auto.bytes ∙ c.requires.sector))))))))))) (lit≤ tt)
+
+pub put32-requires-9 : goal.put32-requires-9
+put32-requires-9 c = subst (λ (n : ℕ). 220 ≤ n) (sym (c.put32-8.auto.bytes ∙ (c.put32-7.auto.bytes ∙ (c.put32-6.auto.bytes ∙ (c.put32-5.auto.bytes ∙ (c.put32-4.auto.bytes ∙ (c.put16.auto.bytes ∙ (c.put8-2.auto.bytes ∙ (c.put8.auto.bytes ∙ (c.put32-3.auto.bytes ∙ (c.put32-2.auto.bytes ∙ (c.put32.auto.bytes ∙ c.requires.sector)))))))))))) (lit≤ tt)
+
+pub put32-requires-10 : goal.put32-requires-10
+put32-requires-10 c = subst (λ (n : ℕ). 224 ≤ n) (sym (c.put32-9.auto.bytes ∙ (c.put32-8.auto.bytes ∙ (c.put32-7.auto.bytes ∙ (c.put32-6.auto.bytes ∙ (c.put32-5.auto.bytes ∙ (c.put32-4.auto.bytes ∙ (c.put16.auto.bytes ∙ (c.put8-2.auto.bytes ∙ (c.put8.auto.bytes ∙ (c.put32-3.auto.bytes ∙ (c.put32-2.auto.bytes ∙ (c.put32.auto.bytes ∙ c.requires.sector))))))))))))) (lit≤ tt)
+
+pub put32-requires-11 : goal.put32-requires-11
+put32-requires-11 c = subst (λ (n : ℕ). 232 ≤ n) (sym (c.put32-10.auto.bytes ∙ (c.put32-9.auto.bytes ∙ (c.put32-8.auto.bytes ∙ (c.put32-7.auto.bytes ∙ (c.put32-6.auto.bytes ∙ (c.put32-5.auto.bytes ∙ (c.put32-4.auto.bytes ∙ (c.put16.auto.bytes ∙ (c.put8-2.auto.bytes ∙ (c.put8.auto.bytes ∙ (c.put32-3.auto.bytes ∙ (c.put32-2.auto.bytes ∙ (c.put32.auto.bytes ∙ c.requires.sector)))))))))))))) (lit≤ tt)
+
+pub put64-requires : goal.put64-requires
+put64-requires c = subst (λ (n : ℕ). 240 ≤ n) (sym (c.put32-11.auto.bytes ∙ (c.put32-10.auto.bytes ∙ (c.put32-9.auto.bytes ∙ (c.put32-8.auto.bytes ∙ (c.put32-7.auto.bytes ∙ (c.put32-6.auto.bytes ∙ (c.put32-5.auto.bytes ∙ (c.put32-4.auto.bytes ∙ (c.put16.auto.bytes ∙ (c.put8-2.auto.bytes ∙ (c.put8.auto.bytes ∙ (c.put32-3.auto.bytes ∙ (c.put32-2.auto.bytes ∙ (c.put32.auto.bytes ∙ c.requires.sector))))))))))))))) (lit≤ tt)
+
+pub put64-requires-2 : goal.put64-requires-2
+put64-requires-2 c = subst (λ (n : ℕ). 248 ≤ n) (sym (c.put64.auto.bytes ∙ (c.put32-11.auto.bytes ∙ (c.put32-10.auto.bytes ∙ (c.put32-9.auto.bytes ∙ (c.put32-8.auto.bytes ∙ (c.put32-7.auto.bytes ∙ (c.put32-6.auto.bytes ∙ (c.put32-5.auto.bytes ∙ (c.put32-4.auto.bytes ∙ (c.put16.auto.bytes ∙ (c.put8-2.auto.bytes ∙ (c.put8.auto.bytes ∙ (c.put32-3.auto.bytes ∙ (c.put32-2.auto.bytes ∙ (c.put32.auto.bytes ∙ c.requires.sector)))))))))))))))) (lit≤ tt)

@@ -1,4 +1,4 @@
-use Rattle.std.proofs.Common.{inl, lit≤, ◌∙◌}
+use Rattle.std.proofs.Common.{inl, lit≤, ◌∙◌, ℕ, ◌≤◌, sym, subst}
 use Rattle.xfs_word.specs.Field.{field_of, part_of}
 use Rattle.xfs_sizing.proofs.Chained.{joined}
 use Rattle.xfs_sizing.proofs.superblock.put_parts.Goals as goal
@@ -58,3 +58,27 @@ returns c =
       keeps = keeps0;
       keeps_parts = parts0;
     }
+
+pub put64-requires : goal.put64-requires
+put64-requires c = subst (λ (n : ℕ). 64 ≤ n) (sym (c.requires.sector)) (lit≤ tt)
+
+pub put64-requires-2 : goal.put64-requires-2
+put64-requires-2 c = subst (λ (n : ℕ). 72 ≤ n) (sym (c.put64.auto.bytes ∙ c.requires.sector)) (lit≤ tt)
+
+pub put64-requires-3 : goal.put64-requires-3
+put64-requires-3 c = subst (λ (n : ℕ). 80 ≤ n) (sym (c.put64-2.auto.bytes ∙ (c.put64.auto.bytes ∙ c.requires.sector))) (lit≤ tt)
+
+pub put32-requires : goal.put32-requires
+put32-requires c = subst (λ (n : ℕ). 84 ≤ n) (sym (c.put64-3.auto.bytes ∙ (c.put64-2.auto.bytes ∙ (c.put64.auto.bytes ∙ c.requires.sector)))) (lit≤ tt)
+
+pub put32-requires-2 : goal.put32-requires-2
+put32-requires-2 c = subst (λ (n : ℕ). 88 ≤ n) (sym (c.put32.auto.bytes ∙ (c.put64-3.auto.bytes ∙ (c.put64-2.auto.bytes ∙ (c.put64.auto.bytes ∙ c.requires.sector))))) (lit≤ tt)
+
+pub put32-requires-3 : goal.put32-requires-3
+put32-requires-3 c = subst (λ (n : ℕ). 92 ≤ n) (sym (c.put32-2.auto.bytes ∙ (c.put32.auto.bytes ∙ (c.put64-3.auto.bytes ∙ (c.put64-2.auto.bytes ∙ (c.put64.auto.bytes ∙ c.requires.sector)))))) (lit≤ tt)
+
+pub put32-requires-4 : goal.put32-requires-4
+put32-requires-4 c = subst (λ (n : ℕ). 96 ≤ n) (sym (c.put32-3.auto.bytes ∙ (c.put32-2.auto.bytes ∙ (c.put32.auto.bytes ∙ (c.put64-3.auto.bytes ∙ (c.put64-2.auto.bytes ∙ (c.put64.auto.bytes ∙ c.requires.sector))))))) (lit≤ tt)
+
+pub put32-requires-5 : goal.put32-requires-5
+put32-requires-5 c = subst (λ (n : ℕ). 100 ≤ n) (sym (c.put32-4.auto.bytes ∙ (c.put32-3.auto.bytes ∙ (c.put32-2.auto.bytes ∙ (c.put32.auto.bytes ∙ (c.put64-3.auto.bytes ∙ (c.put64-2.auto.bytes ∙ (c.put64.auto.bytes ∙ c.requires.sector)))))))) (lit≤ tt)

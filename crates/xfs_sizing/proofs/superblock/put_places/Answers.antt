@@ -1,4 +1,4 @@
-use Rattle.std.proofs.Common.{inl, lit≤, ◌∙◌}
+use Rattle.std.proofs.Common.{inl, lit≤, ◌∙◌, ℕ, ◌≤◌, sym, subst}
 use Rattle.xfs_word.specs.Field.{field_of}
 use Rattle.xfs_sizing.proofs.Chained.{joined}
 use Rattle.xfs_sizing.proofs.Stated.{log_inside}
@@ -36,3 +36,21 @@ returns-clause-numbers c =
         ),
       ),
     )
+
+pub put32-requires : goal.put32-requires
+put32-requires c = subst (λ (n : ℕ). 4 ≤ n) (sym (c.requires.sector)) (lit≤ tt)
+
+pub put32-requires-2 : goal.put32-requires-2
+put32-requires-2 c = subst (λ (n : ℕ). 8 ≤ n) (sym (c.put32.auto.bytes ∙ c.requires.sector)) (lit≤ tt)
+
+pub put64-requires : goal.put64-requires
+put64-requires c = subst (λ (n : ℕ). 16 ≤ n) (sym (c.put32-2.auto.bytes ∙ (c.put32.auto.bytes ∙ c.requires.sector))) (lit≤ tt)
+
+pub put64-requires-2 : goal.put64-requires-2
+put64-requires-2 c = subst (λ (n : ℕ). 24 ≤ n) (sym (c.put64.auto.bytes ∙ (c.put32-2.auto.bytes ∙ (c.put32.auto.bytes ∙ c.requires.sector)))) (lit≤ tt)
+
+pub put64-requires-3 : goal.put64-requires-3
+put64-requires-3 c = subst (λ (n : ℕ). 32 ≤ n) (sym (c.put64-2.auto.bytes ∙ (c.put64.auto.bytes ∙ (c.put32-2.auto.bytes ∙ (c.put32.auto.bytes ∙ c.requires.sector))))) (lit≤ tt)
+
+pub put64-requires-4 : goal.put64-requires-4
+put64-requires-4 c = subst (λ (n : ℕ). 56 ≤ n) (sym (c.put_part.auto.bytes ∙ (c.put64-3.auto.bytes ∙ (c.put64-2.auto.bytes ∙ (c.put64.auto.bytes ∙ (c.put32-2.auto.bytes ∙ (c.put32.auto.bytes ∙ c.requires.sector))))))) (lit≤ tt)

@@ -1,4 +1,4 @@
-use Rattle.std.proofs.Common.{◌+◌, ◌-◌, ◌≤◌, arith, length, inl, inr, lit≤, ◌∙◌}
+use Rattle.std.proofs.Common.{◌+◌, ◌-◌, ◌≤◌, arith, length, inl, inr, lit≤, ◌∙◌, ℕ, sym, subst}
 use Rattle.xfs_word.specs.Field.{field_of, part_of}
 use Rattle.xfs_sizing.proofs.Chained.{joined}
 use Rattle.xfs_sizing.proofs.superblock.put_sizes.Goals as goal
@@ -101,3 +101,39 @@ returns c =
       keeps = keeps0;
       keeps_parts = parts0;
     }
+
+pub put16-requires : goal.put16-requires
+put16-requires c = subst (λ (n : ℕ). 102 ≤ n) (sym (c.requires.sector)) (lit≤ tt)
+
+pub put16-requires-2 : goal.put16-requires-2
+put16-requires-2 c = subst (λ (n : ℕ). 104 ≤ n) (sym (c.put16.auto.bytes ∙ c.requires.sector)) (lit≤ tt)
+
+pub put16-requires-3 : goal.put16-requires-3
+put16-requires-3 c = subst (λ (n : ℕ). 106 ≤ n) (sym (c.put16-2.auto.bytes ∙ (c.put16.auto.bytes ∙ c.requires.sector))) (lit≤ tt)
+
+pub put16-requires-4 : goal.put16-requires-4
+put16-requires-4 c = subst (λ (n : ℕ). 108 ≤ n) (sym (c.put16-3.auto.bytes ∙ (c.put16-2.auto.bytes ∙ (c.put16.auto.bytes ∙ c.requires.sector)))) (lit≤ tt)
+
+pub put8-requires : goal.put8-requires
+put8-requires c = subst (λ (n : ℕ). 121 ≤ n) (sym (c.put_part.auto.bytes ∙ (c.put16-4.auto.bytes ∙ (c.put16-3.auto.bytes ∙ (c.put16-2.auto.bytes ∙ (c.put16.auto.bytes ∙ c.requires.sector)))))) (lit≤ tt)
+
+pub put8-requires-2 : goal.put8-requires-2
+put8-requires-2 c = subst (λ (n : ℕ). 122 ≤ n) (sym (c.put8.auto.bytes ∙ (c.put_part.auto.bytes ∙ (c.put16-4.auto.bytes ∙ (c.put16-3.auto.bytes ∙ (c.put16-2.auto.bytes ∙ (c.put16.auto.bytes ∙ c.requires.sector))))))) (lit≤ tt)
+
+pub put8-requires-3 : goal.put8-requires-3
+put8-requires-3 c = subst (λ (n : ℕ). 123 ≤ n) (sym (c.put8-2.auto.bytes ∙ (c.put8.auto.bytes ∙ (c.put_part.auto.bytes ∙ (c.put16-4.auto.bytes ∙ (c.put16-3.auto.bytes ∙ (c.put16-2.auto.bytes ∙ (c.put16.auto.bytes ∙ c.requires.sector)))))))) (lit≤ tt)
+
+pub put8-requires-4 : goal.put8-requires-4
+put8-requires-4 c = subst (λ (n : ℕ). 124 ≤ n) (sym (c.put8-3.auto.bytes ∙ (c.put8-2.auto.bytes ∙ (c.put8.auto.bytes ∙ (c.put_part.auto.bytes ∙ (c.put16-4.auto.bytes ∙ (c.put16-3.auto.bytes ∙ (c.put16-2.auto.bytes ∙ (c.put16.auto.bytes ∙ c.requires.sector))))))))) (lit≤ tt)
+
+pub put8-requires-5 : goal.put8-requires-5
+put8-requires-5 c = subst (λ (n : ℕ). 125 ≤ n) (sym (c.put8-4.auto.bytes ∙ (c.put8-3.auto.bytes ∙ (c.put8-2.auto.bytes ∙ (c.put8.auto.bytes ∙ (c.put_part.auto.bytes ∙ (c.put16-4.auto.bytes ∙ (c.put16-3.auto.bytes ∙ (c.put16-2.auto.bytes ∙ (c.put16.auto.bytes ∙ c.requires.sector)))))))))) (lit≤ tt)
+
+pub put8-requires-6 : goal.put8-requires-6
+put8-requires-6 c = subst (λ (n : ℕ). 126 ≤ n) (sym (c.put8-5.auto.bytes ∙ (c.put8-4.auto.bytes ∙ (c.put8-3.auto.bytes ∙ (c.put8-2.auto.bytes ∙ (c.put8.auto.bytes ∙ (c.put_part.auto.bytes ∙ (c.put16-4.auto.bytes ∙ (c.put16-3.auto.bytes ∙ (c.put16-2.auto.bytes ∙ (c.put16.auto.bytes ∙ c.requires.sector))))))))))) (lit≤ tt)
+
+pub put8-requires-7 : goal.put8-requires-7
+put8-requires-7 c = subst (λ (n : ℕ). 127 ≤ n) (sym (c.put8-6.auto.bytes ∙ (c.put8-5.auto.bytes ∙ (c.put8-4.auto.bytes ∙ (c.put8-3.auto.bytes ∙ (c.put8-2.auto.bytes ∙ (c.put8.auto.bytes ∙ (c.put_part.auto.bytes ∙ (c.put16-4.auto.bytes ∙ (c.put16-3.auto.bytes ∙ (c.put16-2.auto.bytes ∙ (c.put16.auto.bytes ∙ c.requires.sector)))))))))))) (lit≤ tt)
+
+pub put8-requires-8 : goal.put8-requires-8
+put8-requires-8 c = subst (λ (n : ℕ). 128 ≤ n) (sym (c.put8-7.auto.bytes ∙ (c.put8-6.auto.bytes ∙ (c.put8-5.auto.bytes ∙ (c.put8-4.auto.bytes ∙ (c.put8-3.auto.bytes ∙ (c.put8-2.auto.bytes ∙ (c.put8.auto.bytes ∙ (c.put_part.auto.bytes ∙ (c.put16-4.auto.bytes ∙ (c.put16-3.auto.bytes ∙ (c.put16-2.auto.bytes ∙ (c.put16.auto.bytes ∙ c.requires.sector))))))))))))) (lit≤ tt)
