@@ -23,7 +23,6 @@ pub(crate) struct OptionItem {
 }
 
 /// The items of all options.
-#[tactic(auto, using(crate::proofs::Cutting::pushed))]
 pub(crate) fn items_given(alloc: Global, given: &[Given]) -> Result<Vec<OptionItem>, NoMemory>
     ensures { IfOk result (λ items. items.items ≡ items_given given.now) }
 {
@@ -52,7 +51,6 @@ fn push_items(alloc: Global, items: &mut Vec<OptionItem>, given: &Given) -> Resu
 }
 
 /// Adds what stands between commas as items of an option.
-#[tactic(auto, using(crate::proofs::Cutting::ended, crate::proofs::Cutting::grown))]
 fn push_parts(
     alloc: Global,
     items: &mut Vec<OptionItem>,

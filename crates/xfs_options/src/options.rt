@@ -8,7 +8,7 @@ ghost use Rattle.xfs_options.specs.Numbers.{bounded_number};
 use crate::numbers::read_decimal;
 
 /// What the value of an option may be.
-#[derive(Clone, Copy, PartialEq, Eq)]
+#[derive(Clone, Copy)]
 pub enum ValueForm {
     /// Any bytes, none among them.
     Any,
@@ -19,7 +19,7 @@ pub enum ValueForm {
 }
 
 /// An option of a tool.
-#[derive(Clone, Copy, PartialEq, Eq)]
+#[derive(Clone, Copy)]
 pub struct OptionRow {
     /// The byte that stands for it behind `-`.
     pub letter: u8,

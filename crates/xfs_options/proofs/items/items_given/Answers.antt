@@ -1,4 +1,6 @@
-use Rattle.std.proofs.Common.{◌+◌, ◌++◌, List, drop, ap, ◌∙◌}
+use Rattle.std.proofs.Common.{◌+◌, ◌++◌, List, length, drop, ap, ◌∙◌}
+use Rattle.std.proofs.lemmas.Result.{IfOk-from_err}
+use borrow.Author.Count.{falls}
 use Rattle.xfs_options.proofs.Cutting.{pushed}
 use Rattle.xfs_options.specs.SubOptions.{items_given}
 use Rattle.xfs_options.specs.declared.items.OptionItem.{OptionItem}
@@ -9,3 +11,9 @@ loop-option-preserved c =
     ap (λ (front : List OptionItem). front ++ items_given (drop (c.loop-option.option-index + 1) c.args.given.now)) c.in_ok-push_items.ensures
     ∙ pushed c.loop-option.items.items c.args.given.now c.loop-option.option-index c.option-item.result c.loop-option-test.true c.option-item.is
     ∙ c.loop-option.invariant
+
+pub loop-option-smaller : goal.loop-option-smaller
+loop-option-smaller c = falls (length c.args.given.now) c.loop-option.option-index c.loop-option-test.true
+
+pub returns-in_err-push_items : goal.returns-in_err-push_items
+returns-in_err-push_items c = IfOk-from_err c.from_residual.result _ c.from_residual.ensures.0

@@ -1,4 +1,6 @@
-use Rattle.std.proofs.Common.{◌≡◌, ◌+◌, ◌==◌, true, false, [], ◌∷◌, ◌++◌, List, drop, get_or, ap, ◌∙◌, arith, rules}
+use Rattle.std.proofs.Common.{◌≡◌, ◌+◌, ◌==◌, true, false, [], ◌∷◌, ◌++◌, List, length, drop, get_or, ap, ◌∙◌, arith, rules}
+use Rattle.std.proofs.lemmas.Result.{IfOk-from_err}
+use borrow.Author.Count.{falls}
 use Rattle.xfs_options.proofs.Cutting.{ended, grown}
 use Rattle.xfs_options.specs.SubOptions.{items_from}
 use Rattle.xfs_options.specs.declared.items.OptionItem.{OptionItem}
@@ -36,3 +38,15 @@ loop-byte-preserved c =
                 ∙ c.loop-byte.invariant.rest;
           }
     ]
+
+pub loop-byte-smaller : goal.loop-byte-smaller
+loop-byte-smaller c = falls (length c.args.bytes.now) c.loop-byte.byte-index c.loop-byte-test.true
+
+pub returns-in_err-push : goal.returns-in_err-push
+returns-in_err-push c = IfOk-from_err c.from_residual.result _ c.from_residual.ensures.0
+
+pub returns-in_err-push-2 : goal.returns-in_err-push-2
+returns-in_err-push-2 c = IfOk-from_err c.from_residual-in_err-push-2.result _ c.from_residual-in_err-push-2.ensures.0
+
+pub returns-in_err-push-3 : goal.returns-in_err-push-3
+returns-in_err-push-3 c = IfOk-from_err c.from_residual-in_err-push-3.result _ c.from_residual-in_err-push-3.ensures.0
