@@ -3,7 +3,7 @@ use Rattle.std.proofs.Common.{◌≡◌, ℕ, ◌+◌, ◌-◌, ◌≤◌, List,
 use Rattle.std.specs.Option.{ForSome}
 use Rattle.std.specs.Result.{IfOk}
 use Rattle.std.specs.Io.KnownBytes.{Appends, Keeps}
-use Rattle.std.proofs.lemmas.List.{length-drop, length-take-le, length-append, take_at, drop_at, take-append-drop, take-append-le, append_assoc, drop-drop}
+use Rattle.std.proofs.lemmas.List.{length-drop, length-take-le, length-append, take_all, take_at, drop_at, take-append-drop, take-append-le, append_assoc, drop-drop}
 use Rattle.std.proofs.Math.Seq.{take-add, take-append-add}
 use borrow.Rule.Slice.PartMut.{put_mid, post_of}
 use Rattle.xfs_files.specs.System.{with_piece}
@@ -17,6 +17,18 @@ pub with_no_piece : (place : ℕ) (all : List ℕ) → with_piece place [] all �
 with_no_piece place all =
     let behind : place + 0 ≡ place = omega arith in
     ap (λ n. take place all ++ drop n all) behind ∙ take-append-drop place all
+
+-- where nothing was written there is still such a piece
+pub not_written : (place : ℕ) (from : List ℕ) (first now : Option (List ℕ)) → now ≡ first →
+    ForSome first (λ all. place ≤ length all → (n : ℕ) × (n ≤ length from) × (now ≡ Some (with_piece place (take n from) all)))
+not_written place from first now same = λ all told inside. (0, omega arith, same ∙ told ∙ ap (λ xs. Some xs) (sym (with_no_piece place all)))
+
+-- a slice that is filled to its end
+pub all_read : (start done : ℕ) (into before all : List ℕ) → done ≡ length into → length into ≡ length before → take done into ≡ take done (drop start all) →
+    into ≡ take (length before) (drop start all)
+all_read start done into before all whole same read =
+    let enough : length into ≤ done = omega (arith, whole) in
+    sym (take_all done into enough) ∙ read ∙ ap (λ n. take n (drop start all)) (whole ∙ same)
 
 -- a file has the piece that was put into it
 pub length-with_piece : (place : ℕ) (piece all : List ℕ) → place ≤ length all → place + length piece ≤ length (with_piece place piece all)

@@ -8,7 +8,7 @@ ghost use Rattle.xfs_files.specs.System.{with_piece};
 ghost use Rattle.xfs_files.specs.Ahead.{HoldsPart};
 
 use crate::ahead::Ahead;
-use crate::system::ByteFile;
+use crate::system::{ByteFile, is_interrupted};
 use std::alloc::Global;
 use std::io;
 use std::io::{Error, ErrorKind};
@@ -257,8 +257,11 @@ fn read_at<F: ByteFile>(file: &mut F, start: u64, into: &mut [u8]) -> io::Result
         match file.read_some(&mut into[done..]) {
             Ok(0) => return Err(Error::from(ErrorKind::UnexpectedEof)),
             Ok(count) => done += count,
-            Err(error) if error.kind() == ErrorKind::Interrupted => {}
-            Err(error) => return Err(error),
+            Err(error) => {
+                if !is_interrupted(&error) {
+                    return Err(error);
+                }
+            }
         }
     }
     Err(Error::from(ErrorKind::Interrupted))
@@ -282,8 +285,11 @@ fn write_at<F: ByteFile>(file: &mut F, start: u64, from: &[u8]) -> io::Result<()
         match file.write_some(&from[done..]) {
             Ok(0) => return Err(Error::from(ErrorKind::WriteZero)),
             Ok(count) => done += count,
-            Err(error) if error.kind() == ErrorKind::Interrupted => {}
-            Err(error) => return Err(error),
+            Err(error) => {
+                if !is_interrupted(&error) {
+                    return Err(error);
+                }
+            }
         }
     }
     Err(Error::from(ErrorKind::Interrupted))

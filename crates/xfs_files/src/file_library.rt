@@ -63,8 +63,15 @@ fn read_file<R: Files>(alloc: Global, system: &R, path: &[u8]) -> Result<Vec<u8>
     };
     match fs::open(system, path) {
         Ok(file) => read_whole(alloc, file),
-        Err(error) if error.kind() == ErrorKind::NotFound => Err(LibraryFault::Missing),
-        Err(error) => Err(failure(&error)),
+        Err(error) => Err(refusal(&error)),
+    }
+}
+
+/// What an error of the system is to a caller where a file was to be opened.
+fn refusal(error: &io::Error) -> LibraryFault {
+    match error.kind() {
+        ErrorKind::NotFound => LibraryFault::Missing,
+        _ => failure(error),
     }
 }
 

@@ -5,7 +5,7 @@ ghost use Rattle.std.specs.Io.KnownBytes.{Appends, ReadConsumes};
 ghost use Rattle.std.specs.Option.{ForSome};
 ghost use Rattle.xfs_disk.specs.Counts.{CountsFailure};
 
-use crate::system::Outlet;
+use crate::system::{Outlet, is_interrupted};
 use std::io;
 use std::io::{Error, ErrorKind, Read};
 use xfs_disk::{Failed, Sink, Source, counted};
@@ -99,8 +99,11 @@ fn write_whole<W: Outlet>(writer: &mut W, from: &[u8]) -> io::Result<()>
         match writer.give_some(&from[done..]) {
             Ok(0) => return Err(Error::from(ErrorKind::WriteZero)),
             Ok(count) => done += count,
-            Err(error) if error.kind() == ErrorKind::Interrupted => {}
-            Err(error) => return Err(error),
+            Err(error) => {
+                if !is_interrupted(&error) {
+                    return Err(error);
+                }
+            }
         }
     }
     Err(Error::from(ErrorKind::Interrupted))

@@ -7,7 +7,7 @@ ghost use Rattle.xfs_files.specs.System.{with_piece};
 
 use std::fs::OpenFile;
 use std::io;
-use std::io::{Read, Seek, SeekFrom, Write};
+use std::io::{Error, ErrorKind, Read, Seek, SeekFrom, Write};
 
 /// A file of bytes that is read and written from a place on.
 ///
@@ -115,4 +115,9 @@ impl<W: Write> Outlet for W {
     fn pass_on(&mut self) -> io::Result<()> {
         self.flush()
     }
+}
+
+/// Whether a call was interrupted, and moved nothing.
+pub(crate) fn is_interrupted(error: &Error) -> bool {
+    error.kind() == ErrorKind::Interrupted
 }

@@ -4,7 +4,7 @@ use Rattle.std.proofs.lemmas.List.{take_rest, take_all}
 use Rattle.std.proofs.lemmas.Result.{on_ok_weaker}
 use Rattle.xfs_files.proofs.Pieces.{HasGiven, has_given_more, has_given_none}
 use Rattle.xfs_files.proofs.streams.write_whole.Goals as goal
-use Rattle.xfs_files.proofs.streams.write_whole.Goals.{in-Ok, in-Err}
+use Rattle.xfs_files.proofs.streams.write_whole.Goals.{in-Ok, in-Err+else-not-is_interrupted}
 
 pub loop-preserved : goal.loop-preserved
 loop-preserved g c =
@@ -14,7 +14,7 @@ loop-preserved g c =
     elim c.match-give_some.branch [
       | in-Ok w ↦ (has_given_more c.loop.done w.in-Ok.count c.match-give_some.done first now next c.args.from.now (take (length c.args.from.now - c.loop.done) (drop c.loop.done c.args.from.now))
           c.loop.invariant w.done-is (take_rest c.args.from.now c.loop.done) w.in-Ok.ensures.within w.in-Ok.ensures.contents)
-      | in-Err w ↦ (has_given_none c.loop.done c.match-give_some.done first now next c.args.from.now c.loop.invariant w.done-is w.in-Err.ensures.contents)
+      | in-Err+else-not-is_interrupted w ↦ (has_given_none c.loop.done c.match-give_some.done first now next c.args.from.now c.loop.invariant w.done-is w.in-Err.ensures.contents)
     ]
 
 pub returns-then-done-from-clause-whole : goal.returns-then-done-from-clause-whole
