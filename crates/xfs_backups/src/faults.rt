@@ -1,7 +1,7 @@
 //! Why a repair ends before anything is written.
 
 /// Why a repair ends before anything is written.
-#[derive(Clone, Copy, PartialEq, Eq)]
+#[derive(Clone, Copy)]
 pub enum MendFault {
     /// A read failed.
     ReadFault,

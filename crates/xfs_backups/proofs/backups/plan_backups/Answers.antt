@@ -95,3 +95,18 @@ pub returns-clause-cause : goal.returns-clause-cause
 returns-clause-cause g c =
     let D = g.D.Disk in
     later_on (D.faults c.args.disk.now) (D.faults c.list_places.new.disk) (D.faults c.fill.new.disk) c.in-Ok.ensures.cause c.in-Ok-fill.ensures.cause
+
+pub returns-clause-plan : goal.returns-clause-plan
+returns-clause-plan g c = tt
+
+pub returns-clause-places : goal.returns-clause-places
+returns-clause-places g c = tt
+
+pub returns-clause-inside : goal.returns-clause-inside
+returns-clause-inside g c = tt
+
+pub fill-requires-clause-inside : goal.fill-requires-clause-inside
+fill-requires-clause-inside g c =
+    let D = g.D.Disk in
+    subst (λ (n : ℕ). All (λ (p : ℕ). p < n) c.as_slice.result.now) (sym c.in-Ok.ensures.disk.same_size)
+    (subst (λ (xs : List ℕ). All (λ (p : ℕ). p < D.size c.args.disk.now) xs) (sym c.as_slice.ensures.value) c.in-Ok.ensures.inside)
