@@ -8,7 +8,7 @@ use xfs_dirdata::{EntryRec, data_size, short_size};
 use xfs_disk::BLOCK_SIZE;
 
 /// The form of a directory (chapter "Directories").
-#[derive(Clone, Copy, PartialEq, Eq)]
+#[derive(Clone, Copy)]
 pub enum DirectoryForm {
     /// The entries stand in the inode.
     Short,

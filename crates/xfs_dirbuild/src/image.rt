@@ -97,10 +97,10 @@ fn build_short(
     ensures bytes { IfOk result (λ short. form ≡ Short → short.items ≡ short_bytes parent entries.now) }
     ensures none { IfOk result (λ short. (form ≡ Short → ⊥) → short.items ≡ []) }
 {
-    if form != DirectoryForm::Short {
-        return Ok(Vec::new(alloc));
+    match form {
+        DirectoryForm::Short => write_short(alloc, entries, parent),
+        _ => Ok(Vec::new(alloc)),
     }
-    write_short(alloc, entries, parent)
 }
 
 /// The bytes of the short form.

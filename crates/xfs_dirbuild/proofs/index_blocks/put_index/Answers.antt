@@ -1,4 +1,4 @@
-use Rattle.std.proofs.Common.{rules, ◌≡◌, ℕ, ◌+◌, ◌-◌, ◌*◌, List, [], ◌∷◌, length, sym, ◌∙◌, ap, arith}
+use Rattle.std.proofs.Common.{◌≡◌, ℕ, ◌+◌, ◌-◌, ◌*◌, ◌≤◌, inl, inr, lit≤, List, [], ◌∷◌, length, sym, ◌∙◌, ap, arith, subst}
 use Rattle.xfs_word.specs.Field.{part_of, zeros}
 use Rattle.xfs_word.proofs.Register.{AreBytes}
 use Rattle.xfs_dirdata.specs.Bytes.{big_endian}
@@ -7,6 +7,24 @@ use Rattle.xfs_dirindex.specs.IndexTree.{magic_of_level}
 use Rattle.xfs_dirbuild.specs.Blocks.{pairs_bytes, index_block}
 use Rattle.xfs_dirbuild.proofs.BlockBytes.{blank-part, part-all, pairs-part}
 use Rattle.xfs_dirbuild.proofs.index_blocks.put_index.Goals as goal
+
+-- what stands behind the header
+far : (k n : ℕ) → k ≤ 64 → k ≤ 64 + 8 * n
+far k n low = omega (arith, low)
+
+-- so many pairs fit a block
+fits : (n : ℕ) → n ≤ 504 → 64 + 8 * n ≤ 4096
+fits n most = omega (arith, most)
+
+pub returns-clause-stands : goal.returns-clause-stands
+returns-clause-stands c = record {
+  forw = c.put_pairs.ensures.keeps 0 4 (inl (lit≤ tt)) ∙ (c.put16-3.ensures.keeps 0 4 (inl (lit≤ tt)) ∙ (c.put16-2.ensures.keeps 0 4 (inl (lit≤ tt)) ∙ (c.put16.ensures.keeps 0 4 (inl (lit≤ tt)) ∙ (c.put32-2.ensures.keeps 0 4 (inl (lit≤ tt)) ∙ c.put32.ensures.put))));
+  back = c.put_pairs.ensures.keeps 4 4 (inl (lit≤ tt)) ∙ (c.put16-3.ensures.keeps 4 4 (inl (lit≤ tt)) ∙ (c.put16-2.ensures.keeps 4 4 (inl (lit≤ tt)) ∙ (c.put16.ensures.keeps 4 4 (inl (lit≤ tt)) ∙ c.put32-2.ensures.put)));
+  magic = c.put_pairs.ensures.keeps 8 2 (inl (lit≤ tt)) ∙ (c.put16-3.ensures.keeps 8 2 (inl (lit≤ tt)) ∙ (c.put16-2.ensures.keeps 8 2 (inl (lit≤ tt)) ∙ (c.put16.ensures.put ∙ c.magic_of.ensures)));
+  count = c.put_pairs.ensures.keeps 56 2 (inl (lit≤ tt)) ∙ (c.put16-3.ensures.keeps 56 2 (inl (lit≤ tt)) ∙ c.put16-2.ensures.put);
+  stated = c.put_pairs.ensures.keeps 58 2 (inl (lit≤ tt)) ∙ c.put16-3.ensures.put;
+  pairs_is = c.put_pairs.ensures.pairs;
+}
 
 pub returns-clause-bytes : goal.returns-clause-bytes
 unfolding index_block
@@ -25,24 +43,26 @@ returns-clause-bytes c =
     (4, big_endian 4 c.args.next) ∷ (4, big_endian 4 c.args.before) ∷ (2, big_endian 2 (magic_of_level c.args.level)) ∷ (46, zeros 46) ∷ (2, big_endian 2 n)
     ∷ (2, big_endian 2 c.args.level) ∷ (4, zeros 4) ∷ (8 * n, pairs_bytes pairs) ∷ (4032 - 8 * n, zeros (4032 - 8 * n)) ∷ [] in
     let whole : 4096 ≡ total parts = omega arith in
+    let here = returns-clause-stands c in
+    let first : 64 + 8 * n ≤ 64 + 8 * n = omega arith in
     let lie : Lie block 0 parts = (
-      number-part block 0 4 c.args.next all (omega arith) (search rules),
+      number-part block 0 4 c.args.next all (omega arith) here.forw,
       (
-        number-part block 4 4 c.args.before all (omega arith) (search rules),
+        number-part block 4 4 c.args.before all (omega arith) here.back,
         (
-          number-part block 8 2 (magic_of_level c.args.level) all (omega arith) (search rules),
+          number-part block 8 2 (magic_of_level c.args.level) all (omega arith) here.magic,
           (
-            (search rules),
+            (c.put_pairs.ensures.keeps_parts 10 46 (inl (lit≤ tt)) ∙ (c.put16-3.ensures.keeps_parts 10 46 (inl (lit≤ tt)) ∙ (c.put16-2.ensures.keeps_parts 10 46 (inl (lit≤ tt)) ∙ (c.put16.ensures.keeps_parts 10 46 (inr (lit≤ tt)) ∙ (c.put32-2.ensures.keeps_parts 10 46 (inr (lit≤ tt)) ∙ (c.put32.ensures.keeps_parts 10 46 (inr (lit≤ tt)) ∙ seal)))))),
             (
-              number-part block 56 2 n all (omega arith) (search rules),
+              number-part block 56 2 n all (omega arith) here.count,
               (
-                number-part block 58 2 c.args.level all (omega arith) (search rules),
+                number-part block 58 2 c.args.level all (omega arith) here.stated,
                 (
-                  (search rules),
+                  (c.put_pairs.ensures.keeps_parts 60 4 (inl (lit≤ tt)) ∙ (c.put16-3.ensures.keeps_parts 60 4 (inr (lit≤ tt)) ∙ (c.put16-2.ensures.keeps_parts 60 4 (inr (lit≤ tt)) ∙ (c.put16.ensures.keeps_parts 60 4 (inr (lit≤ tt)) ∙ (c.put32-2.ensures.keeps_parts 60 4 (inr (lit≤ tt)) ∙ (c.put32.ensures.keeps_parts 60 4 (inr (lit≤ tt)) ∙ pad)))))),
                   (
                     pairs-part block 64 pairs all (omega arith) c.put_pairs.ensures.pairs,
                     (
-                      (search rules),
+                      (c.put_pairs.ensures.keeps_parts (64 + 8 * n) (4032 - 8 * n) (inr first) ∙ (c.put16-3.ensures.keeps_parts (64 + 8 * n) (4032 - 8 * n) (inr (far 60 n (lit≤ tt))) ∙ (c.put16-2.ensures.keeps_parts (64 + 8 * n) (4032 - 8 * n) (inr (far 58 n (lit≤ tt))) ∙ (c.put16.ensures.keeps_parts (64 + 8 * n) (4032 - 8 * n) (inr (far 10 n (lit≤ tt))) ∙ (c.put32-2.ensures.keeps_parts (64 + 8 * n) (4032 - 8 * n) (inr (far 8 n (lit≤ tt))) ∙ (c.put32.ensures.keeps_parts (64 + 8 * n) (4032 - 8 * n) (inr (far 4 n (lit≤ tt))) ∙ rest)))))),
                       tt,
                     ),
                   ),
@@ -54,3 +74,27 @@ returns-clause-bytes c =
       ),
     ) in
     sym (part-all block 4096 long) ∙ (ap (part_of block 0) whole ∙ parts-join block 0 parts lie)
+
+pub put32-requires : goal.put32-requires
+put32-requires c = subst (λ (k : ℕ). 4 ≤ k) (sym (c.requires.long)) (lit≤ tt)
+
+pub put32-requires-2 : goal.put32-requires-2
+put32-requires-2 c = subst (λ (k : ℕ). 8 ≤ k) (sym (c.put32.auto.bytes ∙ c.requires.long)) (lit≤ tt)
+
+pub put16-requires : goal.put16-requires
+put16-requires c = subst (λ (k : ℕ). 10 ≤ k) (sym (c.put32-2.auto.bytes ∙ (c.put32.auto.bytes ∙ c.requires.long))) (lit≤ tt)
+
+pub put16-requires-2 : goal.put16-requires-2
+put16-requires-2 c = subst (λ (k : ℕ). 58 ≤ k) (sym (c.put16.auto.bytes ∙ (c.put32-2.auto.bytes ∙ (c.put32.auto.bytes ∙ c.requires.long)))) (lit≤ tt)
+
+pub put16-requires-3 : goal.put16-requires-3
+put16-requires-3 c = subst (λ (k : ℕ). 60 ≤ k) (sym (c.put16-2.auto.bytes ∙ (c.put16.auto.bytes ∙ (c.put32-2.auto.bytes ∙ (c.put32.auto.bytes ∙ c.requires.long))))) (lit≤ tt)
+
+pub put_pairs-requires-clause-pointers : goal.put_pairs-requires-clause-pointers
+put_pairs-requires-clause-pointers c = c.requires.pointers
+
+pub put_pairs-requires-clause-inside : goal.put_pairs-requires-clause-inside
+put_pairs-requires-clause-inside c = subst (λ (k : ℕ). 64 + 8 * length c.args.pairs.now ≤ k) (sym (c.put16-3.auto.bytes ∙ (c.put16-2.auto.bytes ∙ (c.put16.auto.bytes ∙ (c.put32-2.auto.bytes ∙ (c.put32.auto.bytes ∙ c.requires.long)))))) (fits (length c.args.pairs.now) c.requires.most)
+
+pub put_pairs-requires-clause-short : goal.put_pairs-requires-clause-short
+put_pairs-requires-clause-short c = subst (λ (k : ℕ). k ≤ 4096) (sym (c.put16-3.auto.bytes ∙ (c.put16-2.auto.bytes ∙ (c.put16.auto.bytes ∙ (c.put32-2.auto.bytes ∙ (c.put32.auto.bytes ∙ c.requires.long)))))) (lit≤ tt)
