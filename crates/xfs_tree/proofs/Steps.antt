@@ -26,6 +26,11 @@ module _ {R K : Type 0} (s : Shape R K) where
   ascend_step before key keys rest all split kept held =
       goes_on (is_above s before key) (ascend_behind s (Some key) rest) all kept (ap (ascend_behind s before) (sym split) ∙ held)
 
+  pub ascend_stop : (before : Option K) (key : K) (keys rest : List K) (all : Bool) → keys ≡ key ∷ rest
+      → is_above s before key ≡ false → ascend_behind s before keys ≡ all → false ≡ all
+  ascend_stop before key keys rest all split broken held =
+      stops (is_above s before key) (ascend_behind s (Some key) rest) all broken (ap (ascend_behind s before) (sym split) ∙ held)
+
   pub greatest_step : (best : Option K) (key : K) (keys rest : List K) (all : Option K) → keys ≡ key ∷ rest
       → greatest_with s best keys ≡ all → greatest_with s (Some (greater s best key)) rest ≡ all
   greatest_step best key keys rest all split held = ap (greatest_with s best) (sym split) ∙ held

@@ -22,7 +22,6 @@ pub(crate) struct Neighbours {
 
 /// The first rule from 3 to 8 that a block of a level breaks, between its neighbours and behind the record
 /// in front of it, or `None`.
-#[tactic(auto, unfolding(crate::specs::Rules::block_fault))]
 pub(crate) fn block_fault<K: Kind>(
     kind: &K,
     g: &Geometry,

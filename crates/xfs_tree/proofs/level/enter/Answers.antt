@@ -120,3 +120,57 @@ returns-in-None-clause-met g c = c.in-Ok-None.ensures.met c.in-Ok-None.field-0-i
 
 pub returns-in-None-clause-count : goal.returns-in-None-clause-count
 returns-in-None-clause-count g c = c.block_fault.ensures.fits c.in-None.is
+
+pub returns-in-Ok-Some-clause-bytes : goal.returns-in-Ok-Some-clause-bytes
+returns-in-Ok-Some-clause-bytes g c = tt
+
+pub returns-in-Ok-Some-clause-count : goal.returns-in-Ok-Some-clause-count
+returns-in-Ok-Some-clause-count g c = tt
+
+pub returns-in-Ok-Some-clause-blocks : goal.returns-in-Ok-Some-clause-blocks
+returns-in-Ok-Some-clause-blocks g c = tt
+
+pub returns-in-Ok-Some-clause-met : goal.returns-in-Ok-Some-clause-met
+returns-in-Ok-Some-clause-met g c = tt
+
+pub returns-in-Err-clause-bytes : goal.returns-in-Err-clause-bytes
+returns-in-Err-clause-bytes g c = tt
+
+pub returns-in-Err-clause-count : goal.returns-in-Err-clause-count
+returns-in-Err-clause-count g c = tt
+
+pub returns-in-Err-clause-blocks : goal.returns-in-Err-clause-blocks
+returns-in-Err-clause-blocks g c = tt
+
+pub returns-in-Err-clause-met : goal.returns-in-Err-clause-met
+returns-in-Err-clause-met g c = tt
+
+pub returns-in-Err-read-clause-bytes : goal.returns-in-Err-read-clause-bytes
+returns-in-Err-read-clause-bytes g c = tt
+
+pub returns-in-Err-read-clause-count : goal.returns-in-Err-read-clause-count
+returns-in-Err-read-clause-count g c = tt
+
+pub returns-in-Err-read-clause-blocks : goal.returns-in-Err-read-clause-blocks
+returns-in-Err-read-clause-blocks g c = tt
+
+pub returns-in-Err-read-clause-met : goal.returns-in-Err-read-clause-met
+returns-in-Err-read-clause-met g c = tt
+
+pub returns-in-Some-clause-bytes : goal.returns-in-Some-clause-bytes
+returns-in-Some-clause-bytes g c = tt
+
+pub returns-in-Some-clause-count : goal.returns-in-Some-clause-count
+returns-in-Some-clause-count g c = tt
+
+pub returns-in-Some-clause-blocks : goal.returns-in-Some-clause-blocks
+returns-in-Some-clause-blocks g c = tt
+
+pub returns-in-Some-clause-met : goal.returns-in-Some-clause-met
+returns-in-Some-clause-met g c = tt
+
+pub returns-in-Ok-Some-clause-whole : goal.returns-in-Ok-Some-clause-whole
+returns-in-Ok-Some-clause-whole g c = c.requires.whole
+
+pub returns-in-Err-clause-whole : goal.returns-in-Err-clause-whole
+returns-in-Err-clause-whole g c = c.requires.whole

@@ -1,4 +1,4 @@
-use Rattle.std.proofs.Common.{rules, ◌≡◌, ◌+◌, ◌∷◌, drop, None, sym, ◌∙◌, ap, arith, ℕ, ◌≤◌, subst}
+use Rattle.std.proofs.Common.{rules, ◌≡◌, ◌+◌, ◌∷◌, drop, None, sym, ◌∙◌, ap, arith, ℕ, ◌<◌, ◌≤◌, subst}
 use Rattle.xfs_geom.specs.Volumes.{volume_of}
 use Rattle.xfs_tree.specs.declared.seats.Seat.{Seat}
 use Rattle.xfs_disk.specs.Blocks.{bytes_of_block}
@@ -23,7 +23,7 @@ returns-in-Err-clause-judged g c = λ image told.
     let seat = c.index-row-i.result in
     fault_of_row _ _ c.in-Err.fault
     (λ fault broken. row_stops (g.K.Kind.shape c.args.kind.now) (volume_of c.args.g.now) image 0 c.loop-i.met.blocks.items c.loop-i.left None c.place_at.result c.loop-i.before seat
-    (drop i row) (drop (i + 1) row) _ fault (left_from row i seat (search rules) c.index-row-i.is) c.place_at.ensures broken (c.loop-i.invariant.judged image told))
+    (drop i row) (drop (i + 1) row) _ fault (left_from row i seat (subst (λ (m : ℕ). i < m) c.loop-i.invariant.ends c.loop-i-test.true) c.index-row-i.is) c.place_at.ensures broken (c.loop-i.invariant.judged image told))
     (c.in-Err.ensures.judged image (c.loop-i.invariant.disk.same_contents ∙ told))
 
 pub returns-in-Err-clause-cause : goal.returns-in-Err-clause-cause
@@ -47,7 +47,7 @@ loop-i-preserved g c =
     let row = c.args.row.now in
     let i = c.loop-i.i in
     let seat = c.index-row-i.result in
-    let split : drop i row ≡ seat ∷ drop (i + 1) row = left_from row i seat (search rules) c.index-row-i.is in
+    let split : drop i row ≡ seat ∷ drop (i + 1) row = left_from row i seat (subst (λ (m : ℕ). i < m) c.loop-i.invariant.ends c.loop-i-test.true) c.index-row-i.is in
     let before = c.loop-i.invariant in
     record {
       ends = before.ends;
@@ -67,16 +67,16 @@ loop-i-preserved g c =
 pub returns-clause-judged : goal.returns-clause-judged
 returns-clause-judged g c = λ image told.
     row_ends (g.K.Kind.shape c.args.kind.now) (volume_of c.args.g.now) image 0 _ _ None _ (drop c.loop-i.i c.args.row.now) _
-    (none_left c.args.row.now c.loop-i.i (search rules)) (c.loop-i.invariant.judged image told)
+    (none_left c.args.row.now c.loop-i.i (subst (λ (m : ℕ). m ≤ c.loop-i.i) c.loop-i.invariant.ends c.loop-i-test.false)) (c.loop-i.invariant.judged image told)
 
 pub returns-clause-records : goal.returns-clause-records
 returns-clause-records g c = λ image told.
     held_all (λ (seat : Seat g.row.K-Key.Denot). records_of (g.K.Kind.shape c.args.kind.now) (bytes_of_block image seat.place)) (drop c.loop-i.i c.args.row.now) c.loop-i.records.items _
-    (none_left c.args.row.now c.loop-i.i (search rules)) (c.loop-i.invariant.records image told)
+    (none_left c.args.row.now c.loop-i.i (subst (λ (m : ℕ). m ≤ c.loop-i.i) c.loop-i.invariant.ends c.loop-i-test.false)) (c.loop-i.invariant.records image told)
 
 pub returns-clause-blocks : goal.returns-clause-blocks
 returns-clause-blocks g c =
-    places_all (drop c.loop-i.i c.args.row.now) c.loop-i.met.blocks.items _ (none_left c.args.row.now c.loop-i.i (search rules)) c.loop-i.invariant.blocks
+    places_all (drop c.loop-i.i c.args.row.now) c.loop-i.met.blocks.items _ (none_left c.args.row.now c.loop-i.i (subst (λ (m : ℕ). m ≤ c.loop-i.i) c.loop-i.invariant.ends c.loop-i-test.false)) c.loop-i.invariant.blocks
 
 pub returns-clause-cause : goal.returns-clause-cause
 returns-clause-cause g c = c.loop-i.invariant.later
