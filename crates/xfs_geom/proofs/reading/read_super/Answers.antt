@@ -83,14 +83,14 @@ returns-clause-accepted c =
     let sector = c.args.sector.now in
     let sealed : is_sealed super_seal sector ≡ true = ap (λ (seal : Seal). is_sealed seal sector) (sym c.super_seal.ensures) ∙ sym c.sealed.ensures ∙ c.if-not-sealed.false in
     let made : progress_fault c.args.place sector ≡ None =
-        ap (λ (left : Bool). if left then Some (Shape 19) else None)
-        (ap (λ (v : Stated). c.args.place == 0 && not (v.inprogress == 0)) (sym c.read-stated.ensures) ∙ sym c.was_left.ensures ∙ c.if-was_left.false) in
+    ap (λ (left : Bool). if left then Some (Shape 19) else None)
+    (ap (λ (v : Stated). c.args.place == 0 && not (v.inprogress == 0)) (sym c.read-stated.ensures) ∙ sym c.was_left.ensures ∙ c.if-was_left.false) in
     let features : feature_fault (refused_feature sector) ≡ None = ap feature_fault (sym c.in_default.ensures) in
     let fixed : shape_fault (fixed_fault sector) ≡ None = ap shape_fault (sym c.in_default-fixed_fault.ensures) in
     let parts : shape_fault (parts_fault (stated sector)) ≡ None =
-        ap shape_fault (ap parts_fault (sym c.read-stated.ensures) ∙ sym c.in_default-parts_fault.ensures.first) in
+    ap shape_fault (ap parts_fault (sym c.read-stated.ensures) ∙ sym c.in_default-parts_fault.ensures.first) in
     let there : shape_fault (first_place_fault (stated sector) c.args.place c.args.blocks) ≡ None =
-        ap shape_fault (ap (λ (v : Stated). first_place_fault v c.args.place c.args.blocks) (sym c.read-stated.ensures) ∙ sym c.in_default-place_fault.ensures.first) in
+    ap shape_fault (ap (λ (v : Stated). first_place_fault v c.args.place c.args.blocks) (sym c.read-stated.ensures) ∙ sym c.in_default-place_fault.ensures.first) in
     λ i. whole (sealed i) (made i) (features i) (fixed i) (parts i) (there i)
 
 pub returns-then-not-sealed-clause-refused : goal.returns-then-not-sealed-clause-refused
@@ -106,8 +106,8 @@ returns-then-was_left-clause-refused c =
     let sector = c.args.sector.now in
     let sealed : is_sealed super_seal sector ≡ true = ap (λ (seal : Seal). is_sealed seal sector) (sym c.super_seal.ensures) ∙ sym c.sealed.ensures ∙ c.if-not-sealed.false in
     let made : progress_fault c.args.place sector ≡ Some (Shape 19) =
-        ap (λ (left : Bool). if left then Some (Shape 19) else None)
-        (ap (λ (v : Stated). c.args.place == 0 && not (v.inprogress == 0)) (sym c.read-stated.ensures) ∙ sym c.was_left.ensures ∙ c.if-was_left.true) in
+    ap (λ (left : Bool). if left then Some (Shape 19) else None)
+    (ap (λ (v : Stated). c.args.place == 0 && not (v.inprogress == 0)) (sym c.read-stated.ensures) ∙ sym c.was_left.ensures ∙ c.if-was_left.true) in
     λ i. whole (sealed i) (made i) (feature_fault (refused_feature sector)) (shape_fault (fixed_fault sector)) (shape_fault (parts_fault (stated sector))) (shape_fault (first_place_fault (stated sector) c.args.place c.args.blocks))
 
 pub returns-in-Some-fixed_fault-clause-refused : goal.returns-in-Some-fixed_fault-clause-refused
@@ -116,8 +116,8 @@ returns-in-Some-fixed_fault-clause-refused c =
     let sector = c.args.sector.now in
     let sealed : is_sealed super_seal sector ≡ true = ap (λ (seal : Seal). is_sealed seal sector) (sym c.super_seal.ensures) ∙ sym c.sealed.ensures ∙ c.if-not-sealed.false in
     let made : progress_fault c.args.place sector ≡ None =
-        ap (λ (left : Bool). if left then Some (Shape 19) else None)
-        (ap (λ (v : Stated). c.args.place == 0 && not (v.inprogress == 0)) (sym c.read-stated.ensures) ∙ sym c.was_left.ensures ∙ c.if-was_left.false) in
+    ap (λ (left : Bool). if left then Some (Shape 19) else None)
+    (ap (λ (v : Stated). c.args.place == 0 && not (v.inprogress == 0)) (sym c.read-stated.ensures) ∙ sym c.was_left.ensures ∙ c.if-was_left.false) in
     let features : feature_fault (refused_feature sector) ≡ None = ap feature_fault (sym c.in_default.ensures) in
     let fixed : shape_fault (fixed_fault sector) ≡ Some (Shape c.in-Some-fixed_fault.word) = ap shape_fault (sym c.in-Some-fixed_fault.ensures) in
     λ i. whole (sealed i) (made i) (features i) (fixed i) (shape_fault (parts_fault (stated sector))) (shape_fault (first_place_fault (stated sector) c.args.place c.args.blocks))
@@ -128,12 +128,12 @@ returns-in-Some-parts_fault-clause-refused c =
     let sector = c.args.sector.now in
     let sealed : is_sealed super_seal sector ≡ true = ap (λ (seal : Seal). is_sealed seal sector) (sym c.super_seal.ensures) ∙ sym c.sealed.ensures ∙ c.if-not-sealed.false in
     let made : progress_fault c.args.place sector ≡ None =
-        ap (λ (left : Bool). if left then Some (Shape 19) else None)
-        (ap (λ (v : Stated). c.args.place == 0 && not (v.inprogress == 0)) (sym c.read-stated.ensures) ∙ sym c.was_left.ensures ∙ c.if-was_left.false) in
+    ap (λ (left : Bool). if left then Some (Shape 19) else None)
+    (ap (λ (v : Stated). c.args.place == 0 && not (v.inprogress == 0)) (sym c.read-stated.ensures) ∙ sym c.was_left.ensures ∙ c.if-was_left.false) in
     let features : feature_fault (refused_feature sector) ≡ None = ap feature_fault (sym c.in_default.ensures) in
     let fixed : shape_fault (fixed_fault sector) ≡ None = ap shape_fault (sym c.in_default-fixed_fault.ensures) in
     let parts : shape_fault (parts_fault (stated sector)) ≡ Some (Shape c.in-Some-parts_fault.word) =
-        ap shape_fault (ap parts_fault (sym c.read-stated.ensures) ∙ sym c.in-Some-parts_fault.ensures.first) in
+    ap shape_fault (ap parts_fault (sym c.read-stated.ensures) ∙ sym c.in-Some-parts_fault.ensures.first) in
     λ i. whole (sealed i) (made i) (features i) (fixed i) (parts i) (shape_fault (first_place_fault (stated sector) c.args.place c.args.blocks))
 
 pub returns-in-Some-place_fault-clause-refused : goal.returns-in-Some-place_fault-clause-refused
@@ -142,14 +142,14 @@ returns-in-Some-place_fault-clause-refused c =
     let sector = c.args.sector.now in
     let sealed : is_sealed super_seal sector ≡ true = ap (λ (seal : Seal). is_sealed seal sector) (sym c.super_seal.ensures) ∙ sym c.sealed.ensures ∙ c.if-not-sealed.false in
     let made : progress_fault c.args.place sector ≡ None =
-        ap (λ (left : Bool). if left then Some (Shape 19) else None)
-        (ap (λ (v : Stated). c.args.place == 0 && not (v.inprogress == 0)) (sym c.read-stated.ensures) ∙ sym c.was_left.ensures ∙ c.if-was_left.false) in
+    ap (λ (left : Bool). if left then Some (Shape 19) else None)
+    (ap (λ (v : Stated). c.args.place == 0 && not (v.inprogress == 0)) (sym c.read-stated.ensures) ∙ sym c.was_left.ensures ∙ c.if-was_left.false) in
     let features : feature_fault (refused_feature sector) ≡ None = ap feature_fault (sym c.in_default.ensures) in
     let fixed : shape_fault (fixed_fault sector) ≡ None = ap shape_fault (sym c.in_default-fixed_fault.ensures) in
     let parts : shape_fault (parts_fault (stated sector)) ≡ None =
-        ap shape_fault (ap parts_fault (sym c.read-stated.ensures) ∙ sym c.in_default-parts_fault.ensures.first) in
+    ap shape_fault (ap parts_fault (sym c.read-stated.ensures) ∙ sym c.in_default-parts_fault.ensures.first) in
     let there : shape_fault (first_place_fault (stated sector) c.args.place c.args.blocks) ≡ Some (Shape c.in-Some-place_fault.word) =
-        ap shape_fault (ap (λ (v : Stated). first_place_fault v c.args.place c.args.blocks) (sym c.read-stated.ensures) ∙ sym c.in-Some-place_fault.ensures.first) in
+    ap shape_fault (ap (λ (v : Stated). first_place_fault v c.args.place c.args.blocks) (sym c.read-stated.ensures) ∙ sym c.in-Some-place_fault.ensures.first) in
     λ i. whole (sealed i) (made i) (features i) (fixed i) (parts i) (there i)
 
 pub place_fault-requires : goal.place_fault-requires

@@ -34,7 +34,7 @@ returns-then-not-sealed-clause-fault g c =
     let beside = c.args.beside.now in
     let block = c.args.block.now in
     let sealed : is_sealed (block_seal v s.layout s.owner seat.place) block ≡ false =
-        sym (c.sealed.ensures ∙ ap (λ (seal : Seal). is_sealed seal block) c.block_seal.ensures ∙ (λ i. is_sealed (block_seal v (c.tree_layout-layout.ensures.value i) (c.owner.ensures.value i) seat.place) block)) ∙ c.if-not-sealed.true in
+    sym (c.sealed.ensures ∙ ap (λ (seal : Seal). is_sealed seal block) c.block_seal.ensures ∙ (λ i. is_sealed (block_seal v (c.tree_layout-layout.ensures.value i) (c.owner.ensures.value i) seat.place) block)) ∙ c.if-not-sealed.true in
     sym (λ i. first_of (sealed i) (level_of block == level) (nat_le (least_of level seat.low) (count_of block) && nat_le (count_of block) (capacity s.layout level)) (is_ordered s v level c.args.before block) (bound_agrees s seat.low (low_of s level block) && (not s.layout.high || bound_agrees s seat.high (high_of s level block))) (is_sibling v s.layout s.owner beside.left (left_of s.layout block) && is_sibling v s.layout s.owner beside.right (right_of s.layout block)))
 
 pub returns-then-not-sealed-clause-fits : goal.returns-then-not-sealed-clause-fits
@@ -50,7 +50,7 @@ returns-then-level_of-level-clause-fault g c =
     let beside = c.args.beside.now in
     let block = c.args.block.now in
     let sealed : is_sealed (block_seal v s.layout s.owner seat.place) block ≡ true =
-        sym (c.sealed.ensures ∙ ap (λ (seal : Seal). is_sealed seal block) c.block_seal.ensures ∙ (λ i. is_sealed (block_seal v (c.tree_layout-layout.ensures.value i) (c.owner.ensures.value i) seat.place) block)) ∙ c.if-not-sealed.false in
+    sym (c.sealed.ensures ∙ ap (λ (seal : Seal). is_sealed seal block) c.block_seal.ensures ∙ (λ i. is_sealed (block_seal v (c.tree_layout-layout.ensures.value i) (c.owner.ensures.value i) seat.place) block)) ∙ c.if-not-sealed.false in
     let here : (level_of block == level) ≡ false = ne_eqb (level_of block) level (λ e. c.if-level_of-level.true (c.level_of.ensures ∙ e)) in
     sym (λ i. first_of (sealed i) (here i) (nat_le (least_of level seat.low) (count_of block) && nat_le (count_of block) (capacity s.layout level)) (is_ordered s v level c.args.before block) (bound_agrees s seat.low (low_of s level block) && (not s.layout.high || bound_agrees s seat.high (high_of s level block))) (is_sibling v s.layout s.owner beside.left (left_of s.layout block) && is_sibling v s.layout s.owner beside.right (right_of s.layout block)))
 
@@ -67,10 +67,10 @@ returns-then-not-has_count-clause-fault g c =
     let beside = c.args.beside.now in
     let block = c.args.block.now in
     let sealed : is_sealed (block_seal v s.layout s.owner seat.place) block ≡ true =
-        sym (c.sealed.ensures ∙ ap (λ (seal : Seal). is_sealed seal block) c.block_seal.ensures ∙ (λ i. is_sealed (block_seal v (c.tree_layout-layout.ensures.value i) (c.owner.ensures.value i) seat.place) block)) ∙ c.if-not-sealed.false in
+    sym (c.sealed.ensures ∙ ap (λ (seal : Seal). is_sealed seal block) c.block_seal.ensures ∙ (λ i. is_sealed (block_seal v (c.tree_layout-layout.ensures.value i) (c.owner.ensures.value i) seat.place) block)) ∙ c.if-not-sealed.false in
     let here : (level_of block == level) ≡ true = eq-eqb (level_of block) level (sym c.level_of.ensures ∙ c.if-level_of-level.false) in
     let many : (nat_le (least_of level seat.low) (count_of block) && nat_le (count_of block) (capacity s.layout level)) ≡ false =
-        sym (c.has_count.ensures ∙ (λ i. nat_le (c.least_of.ensures i) (count_of block) && nat_le (count_of block) (capacity (c.tree_layout-layout.ensures.value i) level))) ∙ c.if-not-has_count.true in
+    sym (c.has_count.ensures ∙ (λ i. nat_le (c.least_of.ensures i) (count_of block) && nat_le (count_of block) (capacity (c.tree_layout-layout.ensures.value i) level))) ∙ c.if-not-has_count.true in
     sym (λ i. first_of (sealed i) (here i) (many i) (is_ordered s v level c.args.before block) (bound_agrees s seat.low (low_of s level block) && (not s.layout.high || bound_agrees s seat.high (high_of s level block))) (is_sibling v s.layout s.owner beside.left (left_of s.layout block) && is_sibling v s.layout s.owner beside.right (right_of s.layout block)))
 
 pub returns-then-not-has_count-clause-fits : goal.returns-then-not-has_count-clause-fits
@@ -86,10 +86,10 @@ returns-then-not-is_ordered-clause-fault g c =
     let beside = c.args.beside.now in
     let block = c.args.block.now in
     let sealed : is_sealed (block_seal v s.layout s.owner seat.place) block ≡ true =
-        sym (c.sealed.ensures ∙ ap (λ (seal : Seal). is_sealed seal block) c.block_seal.ensures ∙ (λ i. is_sealed (block_seal v (c.tree_layout-layout.ensures.value i) (c.owner.ensures.value i) seat.place) block)) ∙ c.if-not-sealed.false in
+    sym (c.sealed.ensures ∙ ap (λ (seal : Seal). is_sealed seal block) c.block_seal.ensures ∙ (λ i. is_sealed (block_seal v (c.tree_layout-layout.ensures.value i) (c.owner.ensures.value i) seat.place) block)) ∙ c.if-not-sealed.false in
     let here : (level_of block == level) ≡ true = eq-eqb (level_of block) level (sym c.level_of.ensures ∙ c.if-level_of-level.false) in
     let many : (nat_le (least_of level seat.low) (count_of block) && nat_le (count_of block) (capacity s.layout level)) ≡ true =
-        sym (c.has_count.ensures ∙ (λ i. nat_le (c.least_of.ensures i) (count_of block) && nat_le (count_of block) (capacity (c.tree_layout-layout.ensures.value i) level))) ∙ c.if-not-has_count.false in
+    sym (c.has_count.ensures ∙ (λ i. nat_le (c.least_of.ensures i) (count_of block) && nat_le (count_of block) (capacity (c.tree_layout-layout.ensures.value i) level))) ∙ c.if-not-has_count.false in
     let ordered : is_ordered s v level c.args.before block ≡ false = sym c.is_ordered.ensures ∙ c.if-not-is_ordered.true in
     sym (λ i. first_of (sealed i) (here i) (many i) (ordered i) (bound_agrees s seat.low (low_of s level block) && (not s.layout.high || bound_agrees s seat.high (high_of s level block))) (is_sibling v s.layout s.owner beside.left (left_of s.layout block) && is_sibling v s.layout s.owner beside.right (right_of s.layout block)))
 
@@ -106,10 +106,10 @@ returns-then-not-has_keys-clause-fault g c =
     let beside = c.args.beside.now in
     let block = c.args.block.now in
     let sealed : is_sealed (block_seal v s.layout s.owner seat.place) block ≡ true =
-        sym (c.sealed.ensures ∙ ap (λ (seal : Seal). is_sealed seal block) c.block_seal.ensures ∙ (λ i. is_sealed (block_seal v (c.tree_layout-layout.ensures.value i) (c.owner.ensures.value i) seat.place) block)) ∙ c.if-not-sealed.false in
+    sym (c.sealed.ensures ∙ ap (λ (seal : Seal). is_sealed seal block) c.block_seal.ensures ∙ (λ i. is_sealed (block_seal v (c.tree_layout-layout.ensures.value i) (c.owner.ensures.value i) seat.place) block)) ∙ c.if-not-sealed.false in
     let here : (level_of block == level) ≡ true = eq-eqb (level_of block) level (sym c.level_of.ensures ∙ c.if-level_of-level.false) in
     let many : (nat_le (least_of level seat.low) (count_of block) && nat_le (count_of block) (capacity s.layout level)) ≡ true =
-        sym (c.has_count.ensures ∙ (λ i. nat_le (c.least_of.ensures i) (count_of block) && nat_le (count_of block) (capacity (c.tree_layout-layout.ensures.value i) level))) ∙ c.if-not-has_count.false in
+    sym (c.has_count.ensures ∙ (λ i. nat_le (c.least_of.ensures i) (count_of block) && nat_le (count_of block) (capacity (c.tree_layout-layout.ensures.value i) level))) ∙ c.if-not-has_count.false in
     let ordered : is_ordered s v level c.args.before block ≡ true = sym c.is_ordered.ensures ∙ c.if-not-is_ordered.false in
     let keyed : (bound_agrees s seat.low (low_of s level block) && (not s.layout.high || bound_agrees s seat.high (high_of s level block))) ≡ false = sym c.has_keys.ensures ∙ c.if-not-has_keys.true in
     sym (λ i. first_of (sealed i) (here i) (many i) (ordered i) (keyed i) (is_sibling v s.layout s.owner beside.left (left_of s.layout block) && is_sibling v s.layout s.owner beside.right (right_of s.layout block)))
@@ -127,10 +127,10 @@ returns-then-not-has_siblings-clause-fault g c =
     let beside = c.args.beside.now in
     let block = c.args.block.now in
     let sealed : is_sealed (block_seal v s.layout s.owner seat.place) block ≡ true =
-        sym (c.sealed.ensures ∙ ap (λ (seal : Seal). is_sealed seal block) c.block_seal.ensures ∙ (λ i. is_sealed (block_seal v (c.tree_layout-layout.ensures.value i) (c.owner.ensures.value i) seat.place) block)) ∙ c.if-not-sealed.false in
+    sym (c.sealed.ensures ∙ ap (λ (seal : Seal). is_sealed seal block) c.block_seal.ensures ∙ (λ i. is_sealed (block_seal v (c.tree_layout-layout.ensures.value i) (c.owner.ensures.value i) seat.place) block)) ∙ c.if-not-sealed.false in
     let here : (level_of block == level) ≡ true = eq-eqb (level_of block) level (sym c.level_of.ensures ∙ c.if-level_of-level.false) in
     let many : (nat_le (least_of level seat.low) (count_of block) && nat_le (count_of block) (capacity s.layout level)) ≡ true =
-        sym (c.has_count.ensures ∙ (λ i. nat_le (c.least_of.ensures i) (count_of block) && nat_le (count_of block) (capacity (c.tree_layout-layout.ensures.value i) level))) ∙ c.if-not-has_count.false in
+    sym (c.has_count.ensures ∙ (λ i. nat_le (c.least_of.ensures i) (count_of block) && nat_le (count_of block) (capacity (c.tree_layout-layout.ensures.value i) level))) ∙ c.if-not-has_count.false in
     let ordered : is_ordered s v level c.args.before block ≡ true = sym c.is_ordered.ensures ∙ c.if-not-is_ordered.false in
     let keyed : (bound_agrees s seat.low (low_of s level block) && (not s.layout.high || bound_agrees s seat.high (high_of s level block))) ≡ true = sym c.has_keys.ensures ∙ c.if-not-has_keys.false in
     let beside_is : (is_sibling v s.layout s.owner beside.left (left_of s.layout block) && is_sibling v s.layout s.owner beside.right (right_of s.layout block)) ≡ false = sym c.has_siblings.ensures ∙ c.if-not-has_siblings.true in
@@ -149,10 +149,10 @@ returns-clause-fault g c =
     let beside = c.args.beside.now in
     let block = c.args.block.now in
     let sealed : is_sealed (block_seal v s.layout s.owner seat.place) block ≡ true =
-        sym (c.sealed.ensures ∙ ap (λ (seal : Seal). is_sealed seal block) c.block_seal.ensures ∙ (λ i. is_sealed (block_seal v (c.tree_layout-layout.ensures.value i) (c.owner.ensures.value i) seat.place) block)) ∙ c.if-not-sealed.false in
+    sym (c.sealed.ensures ∙ ap (λ (seal : Seal). is_sealed seal block) c.block_seal.ensures ∙ (λ i. is_sealed (block_seal v (c.tree_layout-layout.ensures.value i) (c.owner.ensures.value i) seat.place) block)) ∙ c.if-not-sealed.false in
     let here : (level_of block == level) ≡ true = eq-eqb (level_of block) level (sym c.level_of.ensures ∙ c.if-level_of-level.false) in
     let many : (nat_le (least_of level seat.low) (count_of block) && nat_le (count_of block) (capacity s.layout level)) ≡ true =
-        sym (c.has_count.ensures ∙ (λ i. nat_le (c.least_of.ensures i) (count_of block) && nat_le (count_of block) (capacity (c.tree_layout-layout.ensures.value i) level))) ∙ c.if-not-has_count.false in
+    sym (c.has_count.ensures ∙ (λ i. nat_le (c.least_of.ensures i) (count_of block) && nat_le (count_of block) (capacity (c.tree_layout-layout.ensures.value i) level))) ∙ c.if-not-has_count.false in
     let ordered : is_ordered s v level c.args.before block ≡ true = sym c.is_ordered.ensures ∙ c.if-not-is_ordered.false in
     let keyed : (bound_agrees s seat.low (low_of s level block) && (not s.layout.high || bound_agrees s seat.high (high_of s level block))) ≡ true = sym c.has_keys.ensures ∙ c.if-not-has_keys.false in
     let beside_is : (is_sibling v s.layout s.owner beside.left (left_of s.layout block) && is_sibling v s.layout s.owner beside.right (right_of s.layout block)) ≡ true = sym c.has_siblings.ensures ∙ c.if-not-has_siblings.false in
@@ -167,7 +167,7 @@ returns-clause-fits g c = λ _.
     let beside = c.args.beside.now in
     let block = c.args.block.now in
     let many : (nat_le (least_of level seat.low) (count_of block) && nat_le (count_of block) (capacity s.layout level)) ≡ true =
-        sym (c.has_count.ensures ∙ (λ i. nat_le (c.least_of.ensures i) (count_of block) && nat_le (count_of block) (capacity (c.tree_layout-layout.ensures.value i) level))) ∙ c.if-not-has_count.false in
+    sym (c.has_count.ensures ∙ (λ i. nat_le (c.least_of.ensures i) (count_of block) && nat_le (count_of block) (capacity (c.tree_layout-layout.ensures.value i) level))) ∙ c.if-not-has_count.false in
     few_enough (least_of level seat.low) (count_of block) (capacity s.layout level) many
 
 pub is_ordered-requires-clause-block : goal.is_ordered-requires-clause-block
@@ -182,7 +182,7 @@ is_ordered-requires-clause-count g c = λ κs lives.
     let beside = c.args.beside.now in
     let block = c.args.block.now in
     let many : (nat_le (least_of level seat.low) (count_of block) && nat_le (count_of block) (capacity s.layout level)) ≡ true =
-        sym (c.has_count.ensures ∙ (λ i. nat_le (c.least_of.ensures i) (count_of block) && nat_le (count_of block) (capacity (c.tree_layout-layout.ensures.value i) level))) ∙ c.if-not-has_count.false in
+    sym (c.has_count.ensures ∙ (λ i. nat_le (c.least_of.ensures i) (count_of block) && nat_le (count_of block) (capacity (c.tree_layout-layout.ensures.value i) level))) ∙ c.if-not-has_count.false in
     few_enough (least_of level seat.low) (count_of block) (capacity s.layout level) many
 
 pub has_keys-requires-clause-block : goal.has_keys-requires-clause-block
@@ -197,7 +197,7 @@ has_keys-requires-clause-count g c = λ κs lives.
     let beside = c.args.beside.now in
     let block = c.args.block.now in
     let many : (nat_le (least_of level seat.low) (count_of block) && nat_le (count_of block) (capacity s.layout level)) ≡ true =
-        sym (c.has_count.ensures ∙ (λ i. nat_le (c.least_of.ensures i) (count_of block) && nat_le (count_of block) (capacity (c.tree_layout-layout.ensures.value i) level))) ∙ c.if-not-has_count.false in
+    sym (c.has_count.ensures ∙ (λ i. nat_le (c.least_of.ensures i) (count_of block) && nat_le (count_of block) (capacity (c.tree_layout-layout.ensures.value i) level))) ∙ c.if-not-has_count.false in
     few_enough (least_of level seat.low) (count_of block) (capacity s.layout level) many
 
 pub block_seal-requires : goal.block_seal-requires
