@@ -4,7 +4,7 @@ ghost use Rattle.std.specs.Prelude.{◌≡◌, ◌<◌, ◌≤◌, ◌+◌, ◌*
 ghost use Rattle.xfs_proto.specs.Modes.{bits_of, digit_of, flag_of, mode_of, mode_with, new_mode, permissions_of, permissions_with, type_bits, type_of_letter};
 
 /// The type of a file.
-#[derive(Clone, Copy, PartialEq, Eq)]
+#[derive(Clone, Copy)]
 pub enum FileType {
     Regular,
     Directory,

@@ -57,7 +57,7 @@ pub enum ProtoKind {
 }
 
 /// Why a text gives no files.
-#[derive(Clone, Copy, Debug, PartialEq, Eq)]
+#[derive(Clone, Copy)]
 pub enum ProtoFault {
     /// It is no protofile: its first token that can't stand where it does.
     Bad {

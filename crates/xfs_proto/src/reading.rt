@@ -3,7 +3,7 @@
 ghost use Rattle.std.specs.Prelude.{◌≡◌, ℕ, ◌^◌, Ok, Err, IfOk, IfErr, OnOk};
 ghost use Rattle.xfs_proto.specs.Modes.{mode_of};
 ghost use Rattle.xfs_proto.specs.Numbers.{number_below};
-ghost use Rattle.xfs_proto.specs.Reading.{after_group, after_ignored, after_kind, after_major, after_minor, after_mode, after_name, after_target, after_text, after_token, after_user, closed, device, finished, fits_name, reader_state, IsProtoCause, HasEntryNames, entry_parent, start, with_node};
+ghost use Rattle.xfs_proto.specs.Reading.{after_group, after_ignored, after_kind, after_major, after_minor, after_mode, after_name, after_target, after_text, after_token, after_user, closed, device, finished, fits_name, fits_type, reader_state, IsProtoCause, HasEntryNames, entry_parent, start, with_node};
 
 use crate::entry_names::EntryNames;
 use crate::modes::{FileType, Mode, mode_of};
@@ -136,17 +136,19 @@ impl<'a> Reader<'a> {
     {
         self.line = line;
         match self.expected {
-            NextToken::Ignored { left } => self.take_ignored(left),
-            NextToken::Name => self.take_name(text)?,
-            NextToken::Mode => self.take_mode(text)?,
-            NextToken::User => self.take_user(text)?,
-            NextToken::Group => self.take_group(alloc, text)?,
-            NextToken::Source => self.take_source(alloc, text)?,
-            NextToken::Target => self.take_target(alloc, text)?,
-            NextToken::Major => self.take_major(text)?,
-            NextToken::Minor => self.take_minor(alloc, text)?,
+            NextToken::Ignored { left } => {
+                self.take_ignored(left);
+                Ok(())
+            }
+            NextToken::Name => self.take_name(text),
+            NextToken::Mode => self.take_mode(text),
+            NextToken::User => self.take_user(text),
+            NextToken::Group => self.take_group(alloc, text),
+            NextToken::Source => self.take_source(alloc, text),
+            NextToken::Target => self.take_target(alloc, text),
+            NextToken::Major => self.take_major(text),
+            NextToken::Minor => self.take_minor(alloc, text),
         }
-        Ok(())
     }
 
     /// Reads one of the first tokens, of which so many are left.
@@ -216,7 +218,7 @@ impl<'a> Reader<'a> {
         let Some(mode) = mode_of(text) else {
             return Err(self.bad(NO_MODE));
         };
-        if self.inside.is_none() && mode.kind != FileType::Directory {
+        if !fits_type(self.inside, mode.kind) {
             return Err(self.bad(NO_MODE));
         }
         self.entry.mode = mode;
@@ -418,6 +420,16 @@ fn entry_parent(inside: Option<Open>) -> u64
     match inside {
         Some(directory) => directory.directory,
         None => 0,
+    }
+}
+
+/// Whether an entry of this type can stand there: the root is a directory.
+fn fits_type(inside: Option<Open>, kind: FileType) -> bool
+    ensures { result ≡ fits_type inside kind }
+{
+    match inside {
+        Some(_) => true,
+        None => matches!(kind, FileType::Directory),
     }
 }
 
