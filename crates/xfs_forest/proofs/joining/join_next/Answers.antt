@@ -1,3 +1,4 @@
+use Rattle.std.proofs.lemmas.Result.{IfOk-from_err}
 use Rattle.std.proofs.Common.{◌<◌, length, get_or, subst, arith}
 use Rattle.std.proofs.lemmas.List.{get_or_default}
 use Rattle.xfs_geom.specs.Volumes.{volume_of}
@@ -22,3 +23,15 @@ returns-clause-grows g c = λ image spots found growing.
     forest_joined g.K.Kind.shape (volume_of c.args.g.now) image plants trees c.args.cell.now (get_or plants t c.index-plants-t.result) (get_or trees t c.index-trees-t.result) c.join_cell.new.tree spots
     c.requires.tree c.requires.trees (get_or_default plants t c.index-plants-t.result _ c.requires.tree) (get_or_default trees t c.index-trees-t.result _ inside) found
     (λ whole own judged here. c.in_ok-join_cell.ensures.grows image whole own judged here) growing
+
+pub bounds-plants-t : goal.bounds-plants-t
+bounds-plants-t g c = c.requires.tree
+
+pub bounds-trees-t : goal.bounds-trees-t
+bounds-trees-t g c = omega (arith, c.requires.tree, c.requires.trees)
+
+pub returns-in_err-join_cell-clause-kept : goal.returns-in_err-join_cell-clause-kept
+returns-in_err-join_cell-clause-kept g c = IfOk-from_err c.from_residual.result _ c.from_residual.ensures.0
+
+pub returns-in_err-join_cell-clause-grows : goal.returns-in_err-join_cell-clause-grows
+returns-in_err-join_cell-clause-grows g c = IfOk-from_err c.from_residual.result _ c.from_residual.ensures.0

@@ -19,3 +19,9 @@ loop-i-preserved g c =
       done = done_after IsDescended c.args.trees.now c.loop-i.trees c.loop-i.i _ c.descend.new.tree (omega arith)
           c.loop-i.invariant.rest c.loop-i.invariant.done (search rules) c.descend.ensures;
     }
+
+pub returns : goal.returns
+returns g c = λ i d inside. c.loop-i.invariant.done i d (omega arith)
+
+pub bounds-trees-i : goal.bounds-trees-i
+bounds-trees-i g c = omega arith

@@ -1,4 +1,4 @@
-use Rattle.std.proofs.Common.{◌≡◌, ◌≤◌, ◌+◌, ◌-◌, length, get_or, rules, sym, subst, arith, ◌∙◌}
+use Rattle.std.proofs.Common.{◌≡◌, ◌≤◌, ◌+◌, ◌-◌, length, get_or, rules, sym, subst, arith, ◌∙◌, ℕ}
 use Rattle.xfs_disk.proofs.Reading.{reads_none, reads_on}
 use Rattle.xfs_geom.specs.Volumes.{volume_of}
 use Rattle.xfs_forest.specs.Forest.{spots_of, AreGrowing, Each, IsDescended, IsForest, IsLow, IsOnward}
@@ -96,3 +96,36 @@ pub returns-clause-disk : goal.returns-clause-disk
 returns-clause-disk g c =
     let D = g.D.Disk in
     reads_on D.size D.holds D.write_faults D.writes D.tells_stops D.moment D.may_leave D.left_since c.args.disk.now c.loop-level.disk c.read_level-2.new.disk c.loop-level.invariant.disk c.in-Err-read_level.ensures.disk
+
+pub read_level-requires-clause-inside : goal.read_level-requires-clause-inside
+read_level-requires-clause-inside g c = λ κs lives. subst (λ (n : ℕ). c.args.g.now.dblocks ≤ n) (sym c.loop-level.invariant.disk.same_size) c.requires.inside
+
+pub read_level-requires-clause-forest : goal.read_level-requires-clause-forest
+read_level-requires-clause-forest g c = λ κs lives. c.loop-level.invariant.forest
+
+pub read_level-requires-2-clause-inside : goal.read_level-requires-2-clause-inside
+read_level-requires-2-clause-inside g c = λ κs lives. subst (λ (n : ℕ). c.args.g.now.dblocks ≤ n) (sym c.loop-level.invariant.disk.same_size) c.requires.inside
+
+pub read_level-requires-2-clause-forest : goal.read_level-requires-2-clause-forest
+read_level-requires-2-clause-forest g c = λ κs lives. c.loop-level.invariant.forest
+
+pub returns-in-Err-clause-done : goal.returns-in-Err-clause-done
+returns-in-Err-clause-done g c = tt
+
+pub returns-in-Err-clause-grows : goal.returns-in-Err-clause-grows
+returns-in-Err-clause-grows g c = tt
+
+pub returns-in-Err-clause-reads : goal.returns-in-Err-clause-reads
+returns-in-Err-clause-reads g c = let up = c.loop-level.invariant.reads in let more = c.in-Err.ensures.reads in omega (arith, up, more)
+
+pub returns-clause-done : goal.returns-clause-done
+returns-clause-done g c = tt
+
+pub returns-clause-grows : goal.returns-clause-grows
+returns-clause-grows g c = tt
+
+pub returns-in-Ok-read_level-clause-cause : goal.returns-in-Ok-read_level-clause-cause
+returns-in-Ok-read_level-clause-cause g c = let up = c.loop-level.invariant.later in let cause = c.in-Ok-read_level.ensures.cause in omega (arith, up, cause)
+
+pub returns-in-Ok-read_level-clause-reads : goal.returns-in-Ok-read_level-clause-reads
+returns-in-Ok-read_level-clause-reads g c = let up = c.loop-level.invariant.reads in let more = c.in-Ok-read_level.ensures.reads in omega (arith, up, more)

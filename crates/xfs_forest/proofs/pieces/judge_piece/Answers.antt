@@ -20,3 +20,9 @@ loop-i-preserved g c =
       done = done_after (IsJudged g.K.Kind.shape (volume_of c.args.g.now) c.args.plants.now c.args.bank.now) c.args.piece.now c.loop-i.piece c.loop-i.i _ c.judge_one.new.cell (omega arith)
           c.loop-i.invariant.rest c.loop-i.invariant.done (search rules) c.judge_one.ensures;
     }
+
+pub returns : goal.returns
+returns g c = λ i d inside. c.loop-i.invariant.done i d (omega arith)
+
+pub bounds-piece-i : goal.bounds-piece-i
+bounds-piece-i g c = omega arith

@@ -1,4 +1,5 @@
-use Rattle.std.proofs.Common.{◌<◌, [], length, map, get_or, sym, subst, ap, arith, ◌∙◌}
+use Rattle.std.proofs.lemmas.Result.{IfOk-from_err}
+use Rattle.std.proofs.Common.{◌<◌, [], length, map, get_or, sym, subst, ap, arith, ◌∙◌, refl}
 use Rattle.std.proofs.lemmas.List.{take_all}
 use Rattle.xfs_geom.specs.Volumes.{volume_of}
 use Rattle.xfs_forest.specs.Forest.{contents_of, reads_as, IsDone, IsGrowing}
@@ -47,3 +48,15 @@ loop-i-preserved g c =
 pub returns : goal.returns
 returns g c = λ image growing.
     c.loop-i.invariant.read image growing ∙ ap (map (reads_as g.K.Kind.shape (volume_of c.args.g.now) image)) (take_all c.loop-i.i c.args.plants.now (omega (arith, c.loop-i.invariant.ends)))
+
+pub loop-i-init : goal.loop-i-init
+loop-i-init g c = record { ends = refl; rest = λ j d later. refl; read = λ image growing. ap (map contents_of) c.in_ok-grown.ensures.items }
+
+pub bounds-trees-i : goal.bounds-trees-i
+bounds-trees-i g c = omega (arith, c.loop-i.invariant.ends, c.requires.count)
+
+pub returns-in_err-grown : goal.returns-in_err-grown
+returns-in_err-grown g c = IfOk-from_err c.from_residual.result _ c.from_residual.ensures.0
+
+pub returns-in_err-push : goal.returns-in_err-push
+returns-in_err-push g c = IfOk-from_err c.from_residual-in_err-push.result _ c.from_residual-in_err-push.ensures.0

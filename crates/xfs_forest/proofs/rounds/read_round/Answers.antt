@@ -1,4 +1,5 @@
-use Rattle.std.proofs.Common.{◌<◌, length, sym, subst, ap, ◌∙◌}
+use Rattle.xfs_disk.proofs.Reading.{reads_none}
+use Rattle.std.proofs.Common.{◌<◌, length, sym, subst, ap, ◌∙◌, arith}
 use Rattle.std.proofs.lemmas.List.{length-map}
 use Rattle.std.specs.List.{All}
 use Rattle.xfs_bank.specs.Bank.{blocks_at}
@@ -31,3 +32,72 @@ returns-in-Ok-settle-clause-grows g c = λ image told growing.
     c.in-Ok-settle.ensures.grows image
     (c.in-Ok-load_round.ensures.held image told ∙ ap (blocks_at image) (places ∙ sym (ap (λ cells. cell_places cells) c.deref_mut.ensures.value)))
     (subst (λ cells. AreGrowing g.K.Kind.shape (volume_of c.args.g.now) image c.args.plants.now c.args.trees.now (spots_of cells)) (sym c.deref_mut.ensures.value) growing)
+
+pub settle-requires-clause-trees : goal.settle-requires-clause-trees
+settle-requires-clause-trees g c = λ κs lives. c.requires.forest.count
+
+pub returns-in-Ok-settle-clause-kept : goal.returns-in-Ok-settle-clause-kept
+returns-in-Ok-settle-clause-kept g c = c.in-Ok-settle.ensures.kept
+
+pub returns-in-Ok-settle-clause-cause : goal.returns-in-Ok-settle-clause-cause
+returns-in-Ok-settle-clause-cause g c = c.in-Ok-load_round.ensures.cause
+
+pub returns-in-Ok-settle-clause-disk : goal.returns-in-Ok-settle-clause-disk
+returns-in-Ok-settle-clause-disk g c = c.load_round.ensures.disk
+
+pub returns-in-Ok-settle-clause-reads : goal.returns-in-Ok-settle-clause-reads
+returns-in-Ok-settle-clause-reads g c = c.load_round.ensures.reads
+
+pub returns-in-Err-clause-kept : goal.returns-in-Err-clause-kept
+returns-in-Err-clause-kept g c = tt
+
+pub returns-in-Err-clause-none : goal.returns-in-Err-clause-none
+returns-in-Err-clause-none g c = tt
+
+pub returns-in-Err-clause-grows : goal.returns-in-Err-clause-grows
+returns-in-Err-clause-grows g c = tt
+
+pub returns-in-Err-clause-cause : goal.returns-in-Err-clause-cause
+returns-in-Err-clause-cause g c = omega arith
+
+pub returns-in-Err-clause-disk : goal.returns-in-Err-clause-disk
+returns-in-Err-clause-disk g c = let D = g.D.Disk in reads_none D.size D.holds D.write_faults D.writes D.tells_stops D.moment D.may_leave D.left_since c.args.disk.now
+
+pub returns-in-Err-clause-reads : goal.returns-in-Err-clause-reads
+returns-in-Err-clause-reads g c = omega arith
+
+pub returns-in-Err-load_round-clause-kept : goal.returns-in-Err-load_round-clause-kept
+returns-in-Err-load_round-clause-kept g c = tt
+
+pub returns-in-Err-load_round-clause-none : goal.returns-in-Err-load_round-clause-none
+returns-in-Err-load_round-clause-none g c = tt
+
+pub returns-in-Err-load_round-clause-grows : goal.returns-in-Err-load_round-clause-grows
+returns-in-Err-load_round-clause-grows g c = tt
+
+pub returns-in-Err-load_round-clause-cause : goal.returns-in-Err-load_round-clause-cause
+returns-in-Err-load_round-clause-cause g c = c.in-Err-load_round.ensures.cause
+
+pub returns-in-Err-load_round-clause-disk : goal.returns-in-Err-load_round-clause-disk
+returns-in-Err-load_round-clause-disk g c = c.load_round.ensures.disk
+
+pub returns-in-Err-load_round-clause-reads : goal.returns-in-Err-load_round-clause-reads
+returns-in-Err-load_round-clause-reads g c = c.load_round.ensures.reads
+
+pub returns-clause-kept : goal.returns-clause-kept
+returns-clause-kept g c = tt
+
+pub returns-clause-none : goal.returns-clause-none
+returns-clause-none g c = tt
+
+pub returns-clause-grows : goal.returns-clause-grows
+returns-clause-grows g c = tt
+
+pub returns-clause-cause : goal.returns-clause-cause
+returns-clause-cause g c = c.in-Ok-load_round.ensures.cause
+
+pub returns-clause-disk : goal.returns-clause-disk
+returns-clause-disk g c = c.load_round.ensures.disk
+
+pub returns-clause-reads : goal.returns-clause-reads
+returns-clause-reads g c = c.load_round.ensures.reads

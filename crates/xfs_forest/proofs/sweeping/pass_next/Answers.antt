@@ -65,3 +65,6 @@ returns-in_err-pass_seat-clause-less g c = IfOk-from_err c.from_residual.result 
 
 pub returns-in_err-pass_seat-clause-grows : goal.returns-in_err-pass_seat-clause-grows
 returns-in_err-pass_seat-clause-grows g c = IfOk-from_err c.from_residual.result _ c.from_residual.ensures.0
+
+pub bounds-trees-t : goal.bounds-trees-t
+bounds-trees-t g c = omega (arith, c.requires.number, c.requires.forest.count)

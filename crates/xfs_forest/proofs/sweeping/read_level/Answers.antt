@@ -118,3 +118,21 @@ returns-in-Err-read_round-clause-grows g c = tt
 
 pub returns-in-Err-read_round-clause-reads : goal.returns-in-Err-read_round-clause-reads
 returns-in-Err-read_round-clause-reads g c = let up = c.loop-t.invariant.reads in let more = c.in-Err-read_round.ensures.reads in omega (arith, up, more)
+
+pub read_row-requires-clause-number : goal.read_row-requires-clause-number
+read_row-requires-clause-number g c = λ κs lives. omega (arith, c.loop-t-test.true, c.loop-t.invariant.ends)
+
+pub read_round-requires-clause-inside : goal.read_round-requires-clause-inside
+read_round-requires-clause-inside g c = λ κs lives. subst (λ (n : ℕ). c.args.g.now.dblocks ≤ n) (sym c.loop-t.invariant.disk.same_size) c.requires.inside
+
+pub read_round-requires-clause-forest : goal.read_round-requires-clause-forest
+read_round-requires-clause-forest g c = λ κs lives. c.loop-t.invariant.forest
+
+pub returns-in-Ok-read_round-clause-none : goal.returns-in-Ok-read_round-clause-none
+returns-in-Ok-read_round-clause-none g c = c.in-Ok-read_round.ensures.none
+
+pub returns-in-Ok-read_round-clause-cause : goal.returns-in-Ok-read_round-clause-cause
+returns-in-Ok-read_round-clause-cause g c = let up = c.loop-t.invariant.later in let cause = c.in-Ok-read_round.ensures.cause in omega (arith, up, cause)
+
+pub returns-in-Ok-read_round-clause-reads : goal.returns-in-Ok-read_round-clause-reads
+returns-in-Ok-read_round-clause-reads g c = let up = c.loop-t.invariant.reads in let more = c.in-Ok-read_round.ensures.reads in omega (arith, up, more)

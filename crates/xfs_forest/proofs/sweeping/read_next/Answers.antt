@@ -111,3 +111,15 @@ returns-in-Err-clause-disk g c = c.in-Err.ensures.disk
 
 pub returns-in-Err-clause-reads : goal.returns-in-Err-clause-reads
 returns-in-Err-clause-reads g c = c.in-Err.ensures.reads
+
+pub bounds-plants-t : goal.bounds-plants-t
+bounds-plants-t g c = c.requires.number
+
+pub bounds-trees-t : goal.bounds-trees-t
+bounds-trees-t g c = omega (arith, c.requires.number, c.requires.forest.count)
+
+pub next_seat-next-requires-clause-more : goal.next_seat-next-requires-clause-more
+next_seat-next-requires-clause-more g c = λ κs lives. c.requires.more c.index-trees-t.result
+
+pub pass_next-requires-clause-number : goal.pass_next-requires-clause-number
+pass_next-requires-clause-number g c = λ κs lives. c.requires.number

@@ -91,3 +91,12 @@ returns-clause-disk g c = c.taking.invariant.disk
 
 pub returns-clause-reads : goal.returns-clause-reads
 returns-clause-reads g c = c.taking.invariant.reads
+
+pub bounds-trees-t : goal.bounds-trees-t
+bounds-trees-t g c = omega (arith, c.requires.number, c.taking.invariant.forest.count)
+
+pub read_next-requires-clause-number : goal.read_next-requires-clause-number
+read_next-requires-clause-number g c = λ κs lives. c.requires.number
+
+pub taking-smaller : goal.taking-smaller
+taking-smaller g c = c.in-Ok.ensures.less
