@@ -107,3 +107,36 @@ enter-requires-clause-met g c = λ κs lives. c.loop-i.invariant.met
 
 pub enter-requires-clause-whole : goal.enter-requires-clause-whole
 enter-requires-clause-whole g c = λ κs lives. c.loop-i.invariant.block
+
+pub returns-in-Err-clause-records : goal.returns-in-Err-clause-records
+returns-in-Err-clause-records g c = tt
+
+pub returns-in-Err-clause-blocks : goal.returns-in-Err-clause-blocks
+returns-in-Err-clause-blocks g c = tt
+
+pub returns-in-Err-clause-met : goal.returns-in-Err-clause-met
+returns-in-Err-clause-met g c = tt
+
+pub returns-in-Err-push_records-clause-records : goal.returns-in-Err-push_records-clause-records
+returns-in-Err-push_records-clause-records g c = tt
+
+pub returns-in-Err-push_records-clause-blocks : goal.returns-in-Err-push_records-clause-blocks
+returns-in-Err-push_records-clause-blocks g c = tt
+
+pub returns-in-Err-push_records-clause-met : goal.returns-in-Err-push_records-clause-met
+returns-in-Err-push_records-clause-met g c = tt
+
+pub returns-in-Err-push_records-clause-judged : goal.returns-in-Err-push_records-clause-judged
+returns-in-Err-push_records-clause-judged g c = λ image told. tt
+
+pub push_records-requires-clause-block : goal.push_records-requires-clause-block
+push_records-requires-clause-block g c = λ κs lives. c.in-Ok.ensures.whole
+
+pub push_records-requires-clause-count : goal.push_records-requires-clause-count
+push_records-requires-clause-count g c = λ κs lives. c.in-Ok.ensures.count
+
+pub last_record-before-requires-clause-block : goal.last_record-before-requires-clause-block
+last_record-before-requires-clause-block g c = λ κs lives. c.in-Ok.ensures.whole
+
+pub last_record-before-requires-clause-count : goal.last_record-before-requires-clause-count
+last_record-before-requires-clause-count g c = λ κs lives. c.in-Ok.ensures.count

@@ -110,3 +110,27 @@ enter-requires-clause-met g c = λ κs lives. c.loop-i.invariant.met
 
 pub enter-requires-clause-whole : goal.enter-requires-clause-whole
 enter-requires-clause-whole g c = λ κs lives. c.loop-i.invariant.block
+
+pub returns-in-Err-clause-children : goal.returns-in-Err-clause-children
+returns-in-Err-clause-children g c = tt
+
+pub returns-in-Err-clause-blocks : goal.returns-in-Err-clause-blocks
+returns-in-Err-clause-blocks g c = tt
+
+pub returns-in-Err-clause-met : goal.returns-in-Err-clause-met
+returns-in-Err-clause-met g c = tt
+
+pub returns-in-Err-push_children-clause-children : goal.returns-in-Err-push_children-clause-children
+returns-in-Err-push_children-clause-children g c = tt
+
+pub returns-in-Err-push_children-clause-blocks : goal.returns-in-Err-push_children-clause-blocks
+returns-in-Err-push_children-clause-blocks g c = tt
+
+pub returns-in-Err-push_children-clause-met : goal.returns-in-Err-push_children-clause-met
+returns-in-Err-push_children-clause-met g c = tt
+
+pub returns-in-Err-push_children-clause-judged : goal.returns-in-Err-push_children-clause-judged
+returns-in-Err-push_children-clause-judged g c = λ image told. tt
+
+pub push_children-requires-clause-block : goal.push_children-requires-clause-block
+push_children-requires-clause-block g c = λ κs lives. c.in-Ok.ensures.whole
