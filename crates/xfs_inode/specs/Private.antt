@@ -2,3 +2,4 @@
 pub mod Claims
 pub mod Steps
 pub mod Parts
+pub mod Records
