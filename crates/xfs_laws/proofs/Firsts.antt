@@ -24,7 +24,7 @@ pub ruleset joined = (first_in, first_behind, first_one, first_rest)
 
 pub ruleset joined_two = (first_in_two, first_behind_two, first_in, first_behind)
 
-some_none : (l : Law) → Some l ≡ None → ⊥
+pub some_none : (l : Law) → Some l ≡ None → ⊥
 some_none l e = cc
 
 -- where none is broken each is kept

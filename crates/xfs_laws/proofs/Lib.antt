@@ -7,3 +7,4 @@ pub mod Repeated
 pub mod Conditions
 pub mod Grouped
 pub mod Roots
+mod Verdicts

@@ -69,7 +69,6 @@ fn first_broken_law<R: Threads + Sync>(
 }
 
 /// The first law that is broken, where each is judged behind those before it.
-#[tactic(auto, using(crate::proofs::Firsts::joined_two), unfolding(crate::specs::Lawful::broken_law))]
 fn judge_in_turn<R: Threads + Sync>(
     rt: &R,
     alloc: Global,
@@ -81,18 +80,17 @@ fn judge_in_turn<R: Threads + Sync>(
     ensures space { IfOk result (λ law. law ≡ None → IsSpaceLawful (volume_of catalog.now.geometry) catalog.now.groups catalog.now.files) }
     ensures names { IfOk result (λ law. law ≡ None → IsNamingLawful catalog.now.geometry.rootino catalog.now.files catalog.now.entries catalog.now.dirs) }
 {
-    if let Some(law) = judge_numbers(rt, alloc, workers, catalog)? {
-        return Ok(Some(law));
+    match judge_numbers(rt, alloc, workers, catalog) {
+        Ok(found) => match found {
+            Some(law) => Ok(Some(law)),
+            None => judge_behind(judge_names(alloc, catalog), catalog),
+        },
+        Err(NoMemory) => Err(NoMemory),
     }
-    if let Some(law) = judge_names(alloc, catalog)? {
-        return Ok(Some(law));
-    }
-    Ok(judge_log(catalog))
 }
 
 /// The first law that is broken, where those of names are judged in a thread of their own, beside those of space and
 /// counts. What these say comes first.
-#[tactic(auto, using(crate::proofs::Firsts::joined_two), unfolding(crate::specs::Lawful::broken_law))]
 fn judge_beside<R: Threads + Sync>(
     rt: &R,
     alloc: Global,
@@ -112,13 +110,52 @@ fn judge_beside<R: Threads + Sync>(
             ensures { IfOk result (λ law. law ≡ first_broken (space_laws (volume_of catalog.entry.now.geometry) catalog.entry.now.groups catalog.entry.now.files ++ counting_laws catalog.entry.now)) × IfOk result (λ law. law ≡ None → IsSpaceLawful (volume_of catalog.entry.now.geometry) catalog.entry.now.groups catalog.entry.now.files) }
         { judge_numbers(rt, alloc, workers, catalog) },
     );
-    if let Some(law) = numbers? {
-        return Ok(Some(law));
+    judge_all(numbers, names, catalog)
+}
+
+/// The first law that is broken, where this is known of space and counts, and of names.
+fn judge_all(
+    numbers: Result<Option<Law>, NoMemory>,
+    names: Result<Option<Law>, NoMemory>,
+    catalog: &Catalog,
+) -> Result<Option<Law>, NoMemory>
+    requires catalog { IsCatalog catalog.now }
+    requires numbers { IfOk numbers (λ law. law ≡ first_broken (space_laws (volume_of catalog.now.geometry) catalog.now.groups catalog.now.files ++ counting_laws catalog.now)) }
+    requires space { IfOk numbers (λ law. law ≡ None → IsSpaceLawful (volume_of catalog.now.geometry) catalog.now.groups catalog.now.files) }
+    requires law { IfOk names (λ law. law ≡ first_broken (naming_laws catalog.now.geometry.rootino catalog.now.files catalog.now.entries catalog.now.dirs)) }
+    requires names { IfOk names (λ law. law ≡ None → IsNamingLawful catalog.now.geometry.rootino catalog.now.files catalog.now.entries catalog.now.dirs) }
+    ensures law { IfOk result (λ law. law ≡ broken_law catalog.now) }
+    ensures space { IfOk result (λ law. law ≡ None → IsSpaceLawful (volume_of catalog.now.geometry) catalog.now.groups catalog.now.files) }
+    ensures names { IfOk result (λ law. law ≡ None → IsNamingLawful catalog.now.geometry.rootino catalog.now.files catalog.now.entries catalog.now.dirs) }
+{
+    match numbers {
+        Ok(found) => match found {
+            Some(law) => Ok(Some(law)),
+            None => judge_behind(names, catalog),
+        },
+        Err(NoMemory) => Err(NoMemory),
     }
-    if let Some(law) = names? {
-        return Ok(Some(law));
+}
+
+/// The first law behind those of space and counts that is broken, where this is known of names.
+fn judge_behind(
+    names: Result<Option<Law>, NoMemory>,
+    catalog: &Catalog,
+) -> Result<Option<Law>, NoMemory>
+    requires catalog { IsCatalog catalog.now }
+    requires law { IfOk names (λ law. law ≡ first_broken (naming_laws catalog.now.geometry.rootino catalog.now.files catalog.now.entries catalog.now.dirs)) }
+    requires names { IfOk names (λ law. law ≡ None → IsNamingLawful catalog.now.geometry.rootino catalog.now.files catalog.now.entries catalog.now.dirs) }
+    ensures law { IfOk result (λ law. law ≡ first_broken (naming_laws catalog.now.geometry.rootino catalog.now.files catalog.now.entries catalog.now.dirs
+        ++ log_laws catalog.now.groups catalog.now.log catalog.now.lsns)) }
+    ensures names { IfOk result (λ law. law ≡ None → IsNamingLawful catalog.now.geometry.rootino catalog.now.files catalog.now.entries catalog.now.dirs) }
+{
+    match names {
+        Ok(found) => match found {
+            Some(law) => Ok(Some(law)),
+            None => Ok(judge_log(catalog)),
+        },
+        Err(NoMemory) => Err(NoMemory),
     }
-    Ok(judge_log(catalog))
 }
 
 /// The first law of space or of counts that is broken.
