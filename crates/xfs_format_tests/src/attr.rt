@@ -2,8 +2,8 @@
 
 mod real;
 
-use crate::checks::same;
-use crate::text::{Row, parts_of, put_parts, tells};
+use crate::checks::equal_at;
+use crate::text::{Row, line_at, line_count, part_at, part_count, put_parts, tells};
 use std::process::Abort;
 use xfs_attr::*;
 use xfs_disk::BLOCK_SIZE;
@@ -21,13 +21,9 @@ fn expect(rt: &(impl Abort + AllocGlobal), read: Result<Attrs, AttrFault>, due: 
 
 /// Fails where attributes are not those that are due.
 fn expect_attributes(rt: &(impl Abort + AllocGlobal), attributes: &[Attr], due: &str, case: &str) {
-    let dues = parts_of(rt, due);
-    same!(rt; attributes.len(), dues.len(); case);
-    let mut rest = dues.iter();
-    for attribute in attributes {
-        if let Some(due) = rest.next() {
-            expect_attribute(rt, attribute, *due, case);
-        }
+    equal_at(rt, attributes.len(), part_count(due), case);
+    for (i, attribute) in attributes.iter().enumerate() {
+        expect_attribute(rt, attribute, part_at(due, i), case);
     }
 }
 
@@ -35,14 +31,14 @@ fn expect_attributes(rt: &(impl Abort + AllocGlobal), attributes: &[Attr], due: 
 fn expect_attribute(rt: &(impl Abort + AllocGlobal), attribute: &Attr, mut due: Row, case: &str) {
     due.tells_number(rt, attribute.flags as u64, case);
     let (name, value) = due.text().split_once('=').unwrap_or(("", ""));
-    same!(rt; attribute.name.bytes(), name.as_bytes(); case);
+    equal_at(rt, attribute.name.bytes(), name.as_bytes(), case);
     expect_value(rt, attribute, value, case);
 }
 
 /// Fails where the value of an attribute is not the one that is due.
 fn expect_value(rt: &(impl Abort + AllocGlobal), attribute: &Attr, value: &str, case: &str) {
     let due = Row::new(value).bytes(rt, rt.alloc());
-    same!(rt; attribute.value.bytes(), due.as_slice(); case);
+    equal_at(rt, attribute.value.bytes(), due.as_slice(), case);
 }
 
 /// The bytes of a fork, and what they are read as.
@@ -66,7 +62,8 @@ no fork | | Unsound
 
 #[test]
 fn short_forms(rt: HostRuntime) {
-    for line in SHORT_FORMS.lines() {
+    for i in 0..line_count(SHORT_FORMS) {
+        let line = line_at(SHORT_FORMS, i);
         let mut row = Row::new(line);
         let case = row.text();
         let fork = row.bytes(&rt, rt.alloc());
@@ -121,7 +118,8 @@ entries past the block that are local | 56 ffff, 80 ff*4016 | Unsound
 fn leaves(rt: HostRuntime) {
     let mut whole = [0; BLOCK_SIZE];
     put_parts(&rt, &mut whole, LEAF);
-    for line in LEAVES.lines() {
+    for i in 0..line_count(LEAVES) {
+        let line = line_at(LEAVES, i);
         let mut row = Row::new(line);
         let case = row.text();
         let mut block = whole;

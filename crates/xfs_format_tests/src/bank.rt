@@ -3,8 +3,8 @@
 ghost use Rattle.std.specs.Prelude.{◌≡◌, ◌<◌, length};
 ghost use Rattle.xfs_bank.specs.Bank.{AreCuts};
 
-use crate::checks::{must, same};
-use crate::text::{Row, parts_of, refuse};
+use crate::checks::{equal, equal_at, must, sure};
+use crate::text::{Row, part_at, part_count, refuse};
 use std::alloc::Global;
 use std::process::Abort;
 use std::thread::Threads;
@@ -41,10 +41,10 @@ fn put(rt: &impl Abort, disk: &mut MemoryDisk, place: u64, block: &[u8; 4096]) {
 }
 
 /// Asserts that of each of the bank's blocks the first byte and all others are these.
-fn assert_blocks(rt: &(impl Abort + AllocGlobal), bank: &BlockBank, due: &str) {
-    for (i, row) in parts_of(rt, due).iter().enumerate() {
-        assert!(rt; i < bank.len());
-        assert_block(rt, bank.view(i), *row, due);
+fn assert_blocks(rt: &impl Abort, bank: &BlockBank, due: &str) {
+    for i in 0..part_count(due) {
+        sure(rt, i < bank.len(), due);
+        assert_block(rt, bank.view(i), part_at(due, i), due);
     }
 }
 
@@ -53,7 +53,7 @@ pub fn assert_block(rt: &impl Abort, held: &[u8], mut row: Row, due: &str) {
     let first = row.number(rt);
     let mut block = [row.number(rt); 4096];
     block[0] = first;
-    same!(rt; held, block.as_slice(); due);
+    equal_at(rt, held, block.as_slice(), due);
 }
 
 /// Puts each part's number plus 1 into all of its bytes.
@@ -74,9 +74,9 @@ fn number_parts<R: Threads + Sync>(rt: &R, bank: &mut BlockBank, cuts: &[usize])
 fn filled_and_marked(rt: HostRuntime) {
     let mut disk = three_blocks(&rt, rt.alloc());
     let mut bank = three_zeros(&rt, rt.alloc());
-    same!(rt; bank.len(), 3);
+    equal(&rt, bank.len(), 3);
     assert_blocks(&rt, &bank, "0 0, 0 0, 0 0");
-    same!(rt; bank.fill(&mut disk, &[2, 0, 1]), Ok(()));
+    equal(&rt, bank.fill(&mut disk, &[2, 0, 1]), Ok(()));
     assert_blocks(&rt, &bank, "12 12, 10 10, 11 11");
     bank.each_part(
         &rt,
@@ -110,7 +110,7 @@ fn filled_up_to_a_failed_read(rt: HostRuntime) {
     let mut disk = three_blocks(&rt, rt.alloc());
     must(&rt, disk.fail(2));
     let mut bank = three_zeros(&rt, rt.alloc());
-    same!(rt; bank.fill(&mut disk, &[2, 0, 1]), Err(Failed));
-    same!(rt; disk.faults(), 1);
+    equal(&rt, bank.fill(&mut disk, &[2, 0, 1]), Err(Failed));
+    equal(&rt, disk.faults(), 1);
     assert_blocks(&rt, &bank, "0 0, 10 10, 0 0");
 }

@@ -5,9 +5,9 @@ ghost use Rattle.xfs_word.specs.Seal.{layout_of};
 ghost use Rattle.xfs_dirindex.specs.Mapped.{OffsetsAscend};
 ghost use Rattle.xfs_dirbuild.specs.Names.{HasNameOfSix};
 
-use crate::checks::{must, same};
+use crate::checks::{must, same, sure};
 use crate::dirindex::{assert_ascending, check};
-use crate::text::{Row, tells};
+use crate::text::{Row, line_at, line_count, part_at, part_count, tells};
 use std::alloc::{AllocError, Global};
 use std::process::Abort;
 use xfs_bank::BlockBank;
@@ -140,17 +140,19 @@ fn placed(rt: &impl Abort, alloc: Global, image: DirImage) -> DirSeen
         mut blocks,
     } = image;
     let most = 0x80_0000;
-    assert!(rt; data_blocks <= most && index_blocks <= most && free_blocks <= most);
+    sure(rt, data_blocks <= most, "data blocks");
+    sure(rt, index_blocks <= most, "index blocks");
+    sure(rt, free_blocks <= most, "free blocks");
     let count = data_blocks + index_blocks + free_blocks;
     let mut offsets = Vec::new(alloc);
     for i in 0..count {
         let offset = file_block(i, data_blocks, index_blocks);
-        assert!(rt; (i as usize) < blocks.len());
-        same!(rt; place(offset, blocks.view_mut(i as usize)), true; offset);
+        sure(rt, (i as usize) < blocks.len(), "a block of the bank");
+        same!(*rt; place(offset, blocks.view_mut(i as usize)), true; offset);
         must(rt, offsets.push(offset));
     }
     assert_ascending(rt, 0, offsets.as_slice());
-    assert!(rt; offsets.len() == blocks.len());
+    sure(rt, offsets.len() == blocks.len(), "blocks");
     DirSeen {
         dir: DIR,
         size: 4096 * data_blocks,
@@ -173,7 +175,7 @@ const ROWS: &str = "\
 
 /// How many entries a block has: the names of a data block, the pairs of an index block.
 fn share(rt: &impl Abort, alloc: Global, image: &DirImage, block: usize) -> usize {
-    assert!(rt; block < image.blocks.len());
+    sure(rt, block < image.blocks.len(), "a block of the image");
     let bytes = image.blocks.view(block);
     if block as u64 >= image.data_blocks {
         return get16(bytes, 56) as usize;
@@ -186,13 +188,17 @@ fn share(rt: &impl Abort, alloc: Global, image: &DirImage, block: usize) -> usiz
 
 /// Asserts that the blocks of a directory have the entries that are due.
 fn assert_shares(rt: &impl Abort, alloc: Global, image: &DirImage, shares: &str) {
-    for part in shares.split_terminator(',') {
-        let mut row = Row::new(part);
-        let (first, end) = (row.number(rt), row.number(rt));
-        let due = row.number(rt);
-        for block in first..end {
-            same!(rt; share(rt, alloc, image, block), due; (part, block));
-        }
+    for i in 0..part_count(shares) {
+        assert_share(rt, alloc, image, part_at(shares, i));
+    }
+}
+
+/// Asserts that the blocks of a part have as many entries as it says.
+fn assert_share(rt: &impl Abort, alloc: Global, image: &DirImage, mut row: Row) {
+    let (first, end) = (row.number(rt), row.number(rt));
+    let due: usize = row.number(rt);
+    for block in first..end {
+        same!(*rt; share(rt, alloc, image, block), due; block);
     }
 }
 
@@ -200,7 +206,7 @@ fn assert_shares(rt: &impl Abort, alloc: Global, image: &DirImage, shares: &str)
 fn assert_row(rt: &(impl Abort + AllocGlobal), line: &str) {
     let mut row = Row::new(line);
     let (count, form) = (row.number(rt), row.word());
-    assert!(rt; count <= 20000);
+    sure(rt, count <= 20000, line);
     let image = must(rt, built(rt.alloc(), count));
     assert_image(rt, &image, &mut row, line);
     let dir = placed(rt, rt.alloc(), image);
@@ -230,19 +236,20 @@ fn assert_dir(
 {
     tells(rt, &check(rt.alloc(), form, &dir), "Ok(())", line);
     let (block, at) = (row.number(rt), row.number(rt));
-    assert!(rt; block < dir.blocks.len());
-    assert!(rt; at < 4000);
+    sure(rt, block < dir.blocks.len(), line);
+    sure(rt, at < 4000, line);
     let bytes = dir.blocks.view_mut(block);
     let address = get32(bytes, at);
     put32(bytes, at, address.wrapping_add(1));
-    assert!(rt; dir.blocks.len() == dir.offsets.len());
+    sure(rt, dir.blocks.len() == dir.offsets.len(), line);
     tells(rt, &check(rt.alloc(), form, &dir), "Err(Unsound)", line);
     drop(dir);
 }
 
 #[test]
 fn forms(rt: HostRuntime) {
-    for line in ROWS.lines() {
+    for i in 0..line_count(ROWS) {
+        let line = line_at(ROWS, i);
         assert_row(&rt, line);
     }
 }

@@ -5,8 +5,8 @@ ghost use Rattle.xfs_dirdata.specs.Written.{IsWritableEntry, short_length, data_
 
 mod real;
 
-use crate::checks::{must, same};
-use crate::text::{Row, put_parts, refuse};
+use crate::checks::{equal, equal_at, must, sure};
+use crate::text::{Row, line_at, line_count, put_parts, refuse};
 use real::{MADE, MADE_ENTRIES, SHORT, SHORT_ENTRIES, WRITTEN, WRITTEN_ENTRIES, WRITTEN_FREE};
 use std::alloc::{AllocError, Global};
 use std::process::Abort;
@@ -42,7 +42,8 @@ fn entries(rt: &impl Abort, alloc: Global, rows: &str) -> Vec<EntryRec>
     ensures { All IsWritableEntry result.items }
 {
     let mut entries = Vec::new(alloc);
-    for line in rows.lines() {
+    for i in 0..line_count(rows) {
+        let line = line_at(rows, i);
         must(rt, entries.push(entry_of(rt, alloc, line)));
     }
     entries
@@ -57,7 +58,7 @@ fn entry_of(rt: &impl Abort, alloc: Global, line: &str) -> EntryRec
     let ino: u32 = row.number(rt);
     let ftype: u8 = row.number(rt);
     let name = row.text().as_bytes();
-    assert!(rt; name.len() < 256);
+    sure(rt, name.len() < 256, line);
     match entry(alloc, name, ino, ftype) {
         Ok(entry) => entry,
         Err(_) => refuse(rt, "memory is wanting", "an entry"),
@@ -66,10 +67,9 @@ fn entry_of(rt: &impl Abort, alloc: Global, line: &str) -> EntryRec
 
 /// Asserts that entries of directory 100 are these.
 fn assert_entries(rt: &impl Abort, entries: &[EntryRec], rows: &str) {
-    same!(rt; entries.len(), rows.lines().count());
-    let mut lines = rows.lines();
-    for entry in entries {
-        assert_entry(rt, entry, lines.next().unwrap_or(""));
+    equal(rt, entries.len(), line_count(rows));
+    for (i, entry) in entries.iter().enumerate() {
+        assert_entry(rt, entry, line_at(rows, i));
     }
 }
 
@@ -77,10 +77,10 @@ fn assert_entries(rt: &impl Abort, entries: &[EntryRec], rows: &str) {
 fn assert_entry(rt: &impl Abort, entry: &EntryRec, line: &str) {
     let mut row = Row::new(line);
     let _at: u16 = row.number(rt);
-    same!(rt; entry.dir, 100; line);
+    equal_at(rt, entry.dir, 100, line);
     row.tells_number(rt, entry.ino, line);
     row.tells_number(rt, entry.ftype as u64, line);
-    same!(rt; entry.name.bytes(), row.text().as_bytes(); line);
+    equal_at(rt, entry.name.bytes(), row.text().as_bytes(), line);
 }
 
 #[test]
@@ -90,17 +90,17 @@ fn short_form(rt: HostRuntime) {
     let entries = two_entries(&rt, rt.alloc());
     let mut form = [0xee; 26];
     let size = put_short(128, &entries, &mut form);
-    same!(rt; size, 24);
+    equal(&rt, size, 24);
     let two = Row::new(TWO).bytes(&rt, rt.alloc());
-    same!(rt; &form[..24], two.as_slice());
-    same!(rt; &form[24..], [0xee, 0xee].as_slice());
+    equal(&rt, &form[..24], two.as_slice());
+    equal(&rt, &form[24..], [0xee, 0xee].as_slice());
 }
 
 /// Asserts that a short form of parent 128 is read as these entries.
 fn assert_short(rt: &(impl Abort + AllocGlobal), form: &str, rows: &str) {
     let form = Row::new(form).bytes(rt, rt.alloc());
     let read = must(rt, read_short_entries(rt.alloc(), 100, &form));
-    same!(rt; read.parent, 128);
+    equal(rt, read.parent, 128);
     assert_entries(rt, &read.entries, rows);
 }
 
@@ -145,13 +145,15 @@ const FORMS: &str = "\
 
 #[test]
 fn short_form_rules(rt: HostRuntime) {
-    for line in CHANGED_FORMS.lines() {
+    for i in 0..line_count(CHANGED_FORMS) {
+        let line = line_at(CHANGED_FORMS, i);
         let mut row = Row::new(line);
         let mut form = Row::new(TWO).bytes(&rt, rt.alloc());
         put_parts(&rt, &mut form, row.text());
         is_read(&rt, &form, row.flag(&rt), line);
     }
-    for line in FORMS.lines() {
+    for i in 0..line_count(FORMS) {
+        let line = line_at(FORMS, i);
         let mut row = Row::new(line);
         let form = row.bytes(&rt, rt.alloc());
         is_read(&rt, &form, row.flag(&rt), line);
@@ -160,7 +162,12 @@ fn short_form_rules(rt: HostRuntime) {
 
 /// Asserts that a short form is read, or that it is not.
 fn is_read(rt: &(impl Abort + AllocGlobal), form: &[u8], due: bool, line: &str) {
-    same!(rt; read_short_entries(rt.alloc(), 100, form).is_ok(), due; line);
+    equal_at(
+        rt,
+        read_short_entries(rt.alloc(), 100, form).is_ok(),
+        due,
+        line,
+    );
 }
 
 /// Asserts that a block of these parts is read as these entries and spans.
@@ -175,7 +182,7 @@ fn assert_block(
     assert_entries(rt, &read.entries, rows);
     assert_places(rt, &read.places, rows);
     assert_spans(rt, &read.free, spans);
-    same!(rt; read.bests, bestfree(&read.free));
+    equal(rt, read.bests, bestfree(&read.free));
     drop(read);
 }
 
@@ -188,19 +195,17 @@ fn read_parts(rt: &(impl Abort + AllocGlobal), parts: &str, whole: bool) -> Data
 
 /// Asserts that entries stand at these places.
 fn assert_places(rt: &impl Abort, places: &[u16], rows: &str) {
-    let mut lines = rows.lines();
-    for place in places {
-        let line = lines.next().unwrap_or("");
+    for (i, place) in places.iter().enumerate() {
+        let line = line_at(rows, i);
         Row::new(line).tells_number(rt, *place as u64, line);
     }
 }
 
 /// Asserts that unused spans are these.
 fn assert_spans(rt: &impl Abort, free: &[FreeSpan], spans: &str) {
-    same!(rt; free.len(), spans.lines().count());
-    let mut lines = spans.lines();
-    for span in free {
-        assert_span(rt, span, lines.next().unwrap_or(""));
+    equal(rt, free.len(), line_count(spans));
+    for (i, span) in free.iter().enumerate() {
+        assert_span(rt, span, line_at(spans, i));
     }
 }
 
@@ -217,10 +222,10 @@ fn real_blocks(rt: HostRuntime) {
     assert_block(&rt, WRITTEN, WRITTEN_ENTRIES, WRITTEN_FREE, true);
     let entries = entries(&rt, rt.alloc(), MADE_ENTRIES);
     let mut block = [0; 4096];
-    same!(rt; put_data(&entries, None, &mut block), 13);
+    equal(&rt, put_data(&entries, None, &mut block), 13);
     let mut due = [0; 4096];
     put_parts(&rt, &mut due, MADE);
-    same!(rt; block, due);
+    equal(&rt, block, due);
 }
 
 /// At byte offsets of the block that a kernel wrote, other bytes, and whether it is read then.
@@ -245,12 +250,13 @@ const CHANGED_BLOCKS: &str = "\
 fn data_block_rules(rt: HostRuntime) {
     let mut whole = [0; 4096];
     put_parts(&rt, &mut whole, WRITTEN);
-    for line in CHANGED_BLOCKS.lines() {
+    for i in 0..line_count(CHANGED_BLOCKS) {
+        let line = line_at(CHANGED_BLOCKS, i);
         let mut row = Row::new(line);
         let mut block = whole;
         put_parts(&rt, &mut block, row.text());
         let read = read_data(rt.alloc(), 100, &block, true);
-        same!(rt; read.is_ok(), row.flag(&rt); line);
+        equal_at(&rt, read.is_ok(), row.flag(&rt), line);
     }
 }
 
@@ -284,11 +290,16 @@ const ENDS: &str = "\
 #[test]
 fn filled_blocks(rt: HostRuntime) {
     let entries = entries(&rt, rt.alloc(), NAMED);
-    for line in ENDS.lines() {
+    for i in 0..line_count(ENDS) {
+        let line = line_at(ENDS, i);
         try_end(&rt, &entries, line);
     }
     let mut block = [0; 4096];
-    same!(rt; put_data(&entries, Some((100, 128)), &mut block[..4048]), 3);
+    equal(
+        &rt,
+        put_data(&entries, Some((100, 128)), &mut block[..4048]),
+        3,
+    );
     put32(&mut block, 4088, 5);
     let read = must(&rt, read_data(rt.alloc(), 100, &block, true));
     assert_entries(&rt, &read.entries, ALL_NAMED);
@@ -301,10 +312,12 @@ fn try_end(rt: &impl Abort, entries: &[EntryRec], line: &str)
     let mut row = Row::new(line);
     let end: usize = row.number(rt);
     let mut block = [0xee; 4096];
-    assert!(rt; end % 8 == 0 && 96 <= end && end <= 4096);
+    sure(rt, end % 8 == 0, line);
+    sure(rt, 96 <= end, line);
+    sure(rt, end <= 4096, line);
     let placed = put_data(entries, Some((100, 128)), &mut block[..end]);
     row.tells_number(rt, placed as u64, line);
-    same!(rt; (block[0], block[4095]), (0xee, 0xee); line);
+    equal_at(rt, (block[0], block[4095]), (0xee, 0xee), line);
 }
 
 #[test]
@@ -315,8 +328,8 @@ fn largest_spans(rt: HostRuntime) {
         offset: 0,
         length: 0,
     };
-    same!(rt; bestfree(&[]), [none, none, none]);
-    same!(rt; bestfree(&free[..1]), [free[0], none, none]);
-    same!(rt; bestfree(&free[..3]), [free[1], free[0], free[2]]);
-    same!(rt; bestfree(&free), [free[3], free[1], free[4]]);
+    equal(&rt, bestfree(&[]), [none, none, none]);
+    equal(&rt, bestfree(&free[..1]), [free[0], none, none]);
+    equal(&rt, bestfree(&free[..3]), [free[1], free[0], free[2]]);
+    equal(&rt, bestfree(&free), [free[3], free[1], free[4]]);
 }

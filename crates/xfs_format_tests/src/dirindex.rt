@@ -3,8 +3,8 @@
 ghost use Rattle.std.specs.Prelude.{◌≡◌, length};
 ghost use Rattle.xfs_dirindex.specs.Mapped.{OffsetsAscend};
 
-use crate::checks::must;
-use crate::text::{Row, tells};
+use crate::checks::{must, sure};
+use crate::text::{Row, line_at, line_count, part_at, part_count, tells};
 use std::alloc::Global;
 use std::process::Abort;
 use xfs_bank::BlockBank;
@@ -154,25 +154,26 @@ pub fn assert_ascending(rt: &impl Abort, least: u64, offsets: &[u64])
     ensures { OffsetsAscend least offsets.now }
 {
     if let Some((first, rest)) = offsets.split_first() {
-        assert!(rt; least <= *first && *first < 0x1_0000_0000);
+        sure(rt, least <= *first, "file blocks ascend");
+        sure(rt, *first < 0x1_0000_0000, "a file block");
         assert_ascending(rt, *first + 1, rest);
     }
 }
 
 /// Puts bytes into blocks: in each line, or behind each comma, stand a block, a byte offset and the bytes.
 fn put_blocks(rt: &(impl Abort + AllocGlobal), blocks: &mut BlockBank, text: &str) {
-    for line in text.lines() {
-        for part in line.split_terminator(',') {
-            put_bytes(rt, blocks, part);
+    for i in 0..line_count(text) {
+        let line = line_at(text, i);
+        for k in 0..part_count(line) {
+            put_bytes(rt, blocks, part_at(line, k));
         }
     }
 }
 
 /// Puts the bytes of a part into a block.
-fn put_bytes(rt: &(impl Abort + AllocGlobal), blocks: &mut BlockBank, part: &str) {
-    let mut row = Row::new(part);
+fn put_bytes(rt: &(impl Abort + AllocGlobal), blocks: &mut BlockBank, mut row: Row) {
     let (block, at) = (row.number(rt), row.number(rt));
-    assert!(rt; block < blocks.len());
+    sure(rt, block < blocks.len(), "a block of the bank");
     row.put(rt, blocks.view_mut(block), at);
 }
 
@@ -214,7 +215,7 @@ fn seen(
     }
     put_blocks(rt, &mut blocks, changes);
     assert_ascending(rt, 0, offsets.as_slice());
-    assert!(rt; blocks.len() == offsets.len());
+    sure(rt, blocks.len() == offsets.len(), "blocks");
     DirSeen {
         dir: 100,
         size: Row::new(size).number(rt),
@@ -237,7 +238,8 @@ pub fn check(alloc: Global, form: &str, dir: &DirSeen) -> Result<(), IndexFault>
 
 #[test]
 fn forms_of_directories(rt: HostRuntime) {
-    for line in CASES.lines() {
+    for i in 0..line_count(CASES) {
+        let line = line_at(CASES, i);
         let mut row = Row::new(line);
         let (form, by) = (row.word(), row.word());
         let (answer, case) = (row.text(), row.text());
@@ -249,7 +251,8 @@ fn forms_of_directories(rt: HostRuntime) {
 
 #[test]
 fn shapes_of_directories(rt: HostRuntime) {
-    for line in SHAPES.lines() {
+    for i in 0..line_count(SHAPES) {
+        let line = line_at(SHAPES, i);
         let mut row = Row::new(line);
         let (form, by) = (row.word(), row.word());
         let (answer, case) = (row.text(), row.text());

@@ -3,8 +3,8 @@
 ghost use Rattle.std.specs.Prelude.{◌+◌, ◌≤◌, IfOk};
 ghost use Rattle.xfs_geom.specs.Writing.{IsAcceptedSector};
 
-use crate::checks::{must, same, sure};
-use crate::text::{Row, parts_of, put_parts, refuse, tells};
+use crate::checks::{equal, equal_at, must, sure};
+use crate::text::{Row, line_at, line_count, part_at, part_count, put_parts, refuse, tells};
 use std::process::Abort;
 use xfs_disk::Disk;
 use xfs_geom::superblock::*;
@@ -140,8 +140,9 @@ fn elect_of(rt: &(impl Abort + AllocGlobal), supers: &str) -> Result<Elected, El
     ensures { IfOk result (λ e. IsAcceptedSector e.sector) }
 {
     let mut disk = must(rt, MemoryDisk::make(rt.alloc(), 4096));
-    for row in parts_of(rt, supers).iter() {
-        put_super(rt, &mut disk, *row);
+    for i in 0..part_count(supers) {
+        let row = part_at(supers, i);
+        put_super(rt, &mut disk, row);
     }
     elect(rt.alloc(), &mut disk)
 }
@@ -159,7 +160,8 @@ Err(Unsupported { word: 11, bits: 4 })
 
 #[test]
 fn elections(rt: HostRuntime) {
-    for line in ELECTIONS.lines() {
+    for i in 0..line_count(ELECTIONS) {
+        let line = line_at(ELECTIONS, i);
         let mut row = Row::new(line);
         let case = row.text();
         let elected = elect_of(&rt, row.text());
@@ -179,7 +181,7 @@ fn writing(rt: HostRuntime) {
         IMAX_PCT.read(&sector),
     ];
     tells(&rt, &values, "[129, 130, 32, 29, 7, 25]", "written fields");
-    same!(rt; read_super(&sector, 0, 2048).is_ok(), true);
+    equal(&rt, read_super(&sector, 0, 2048).is_ok(), true);
 }
 
 /// The superblock that is elected, written with other counts.
@@ -225,19 +227,21 @@ fn conversions(rt: HostRuntime) {
     let Ok(geometry) = read_super(&superblock(&rt, UNEVEN_GROUPS), 0, 2000) else {
         refuse(&rt, "no superblock", "uneven groups");
     };
-    same!(rt; geometry.log, 1106);
-    for line in ADDRESSES.lines() {
+    equal(&rt, geometry.log, 1106);
+    for i in 0..line_count(ADDRESSES) {
+        let line = line_at(ADDRESSES, i);
         try_address(&rt, &geometry, line);
     }
-    for line in FIXED.lines() {
+    for i in 0..line_count(FIXED) {
+        let line = line_at(FIXED, i);
         let mut row = Row::new(line);
         let block = row.number(&rt);
         sure(&rt, block < geometry.dblocks, line);
-        same!(rt; geometry.is_fixed(block), row.flag(&rt); line);
+        equal_at(&rt, geometry.is_fixed(block), row.flag(&rt), line);
     }
     sure(&rt, geometry.agcount == 2, "two groups");
-    same!(rt; geometry.group_length(0), 1100);
-    same!(rt; geometry.group_length(1), 900);
+    equal(&rt, geometry.group_length(0), 1100);
+    equal(&rt, geometry.group_length(1), 900);
 }
 
 /// Tries an address of a line and an inode there.
@@ -245,11 +249,16 @@ fn try_address(rt: &impl Abort, geometry: &Geometry, line: &str) {
     let mut row = Row::new(line);
     let (address, block): (u64, Option<u64>) = (row.number(rt), row.optional(rt));
     sure(rt, address < 1 << 32, line);
-    same!(rt; geometry.block_of_address(address), block; line);
-    same!(rt; geometry.slot_of_inode(address * 8 + 5), block.map(|b| (b, 5)); line);
+    equal_at(rt, geometry.block_of_address(address), block, line);
+    equal_at(
+        rt,
+        geometry.slot_of_inode(address * 8 + 5),
+        block.map(|b| (b, 5)),
+        line,
+    );
     if let Some(block) = block {
         sure(rt, block < geometry.dblocks, line);
-        same!(rt; geometry.address_of_block(block), address; line);
-        same!(rt; geometry.inode_of_slot(block, 5), address * 8 + 5; line);
+        equal_at(rt, geometry.address_of_block(block), address, line);
+        equal_at(rt, geometry.inode_of_slot(block, 5), address * 8 + 5, line);
     }
 }

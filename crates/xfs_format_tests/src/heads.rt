@@ -6,8 +6,8 @@ ghost use Rattle.xfs_word.specs.Seal.{layout_of};
 mod log;
 mod real;
 
-use crate::checks::same;
-use crate::text::{Row, refuse};
+use crate::checks::{equal, equal_at, same, sure};
+use crate::text::{Row, line_at, line_count, refuse};
 use std::process::Abort;
 use xfs_geom::Geometry;
 use xfs_heads::layouts::{agf, agfl, agi};
@@ -59,7 +59,7 @@ fn offset_of(rt: &impl Abort, layouts: &[FieldLayout], name: &str) -> usize
 {
     for layout in layouts {
         if layout.name == name {
-            assert!(rt; layout.offset <= 508);
+            sure(rt, layout.offset <= 508, name);
             return layout.offset;
         }
     }
@@ -109,18 +109,24 @@ fn free_space(rt: HostRuntime) {
         lsn: 0,
         crc: 0,
     };
-    assert!(rt; header.is_shaped(&g, 0));
+    sure(&rt, header.is_shaped(&g, 0), "a header");
     let mut sector = [0xff; 512];
     put_agf(&g, 0, &header, &mut sector);
-    same!(rt; get32(&sector, 52), 1004);
+    equal(&rt, get32(&sector, 52), 1004);
     let crc = stored_checksum(&sector, 216);
-    same!(rt; read_agf(&g, 0, &sector), Some(Agf { crc, ..header }));
-    same!(rt; read_agf(&g, 1, &sector), None);
-    for line in CHANGED_AGF.lines() {
+    equal(&rt, read_agf(&g, 0, &sector), Some(Agf { crc, ..header }));
+    equal(&rt, read_agf(&g, 1, &sector), None);
+    for i in 0..line_count(CHANGED_AGF) {
+        let line = line_at(CHANGED_AGF, i);
         let mut row = Row::new(line);
         let at = offset_of(&rt, &agf::AGF, row.word());
         let changed = with_number(&sector, SealKind::Agf, at, row.number(&rt));
-        same!(rt; read_agf(&g, 0, &changed).is_some(), row.flag(&rt); line);
+        equal_at(
+            &rt,
+            read_agf(&g, 0, &changed).is_some(),
+            row.flag(&rt),
+            line,
+        );
     }
 }
 
@@ -161,18 +167,24 @@ fn inodes(rt: HostRuntime) {
         free_root: 4,
         free_level: 1,
     };
-    assert!(rt; header.is_shaped(&g, 0));
+    sure(&rt, header.is_shaped(&g, 0), "a header");
     let mut sector = [0xff; 512];
     put_agi(&g, 0, &header, &mut sector);
-    same!(rt; get32(&sector, 292), 131);
+    equal(&rt, get32(&sector, 292), 131);
     let crc = stored_checksum(&sector, 312);
-    same!(rt; read_agi(&g, 0, &sector), Some(Agi { crc, ..header }));
-    same!(rt; read_agi(&g, 1, &sector), None);
-    for line in CHANGED_AGI.lines() {
+    equal(&rt, read_agi(&g, 0, &sector), Some(Agi { crc, ..header }));
+    equal(&rt, read_agi(&g, 1, &sector), None);
+    for i in 0..line_count(CHANGED_AGI) {
+        let line = line_at(CHANGED_AGI, i);
         let mut row = Row::new(line);
         let at = offset_of(&rt, &agi::AGI, row.word());
         let changed = with_number(&sector, SealKind::Agi, at, row.number(&rt));
-        same!(rt; read_agi(&g, 0, &changed).is_some(), row.flag(&rt); line);
+        equal_at(
+            &rt,
+            read_agi(&g, 0, &changed).is_some(),
+            row.flag(&rt),
+            line,
+        );
     }
 }
 
@@ -227,7 +239,7 @@ fn free_lists(rt: HostRuntime) {
             let Some(list) = read_agfl(&g, 0, &bounds(flfirst, flcount), &sector) else {
                 refuse(&rt, "a free list is refused", "")
             };
-            same!(rt; list.count, flcount);
+            equal(&rt, list.count, flcount);
             for (index, entry) in list.entries.iter().enumerate() {
                 let due = if index < flcount as usize {
                     6 + index as u32
@@ -255,7 +267,8 @@ const LISTED: &str = "\
 #[test]
 fn listed_blocks(rt: HostRuntime) {
     let g = volume();
-    for line in LISTED.lines() {
+    for i in 0..line_count(LISTED) {
+        let line = line_at(LISTED, i);
         try_listed(&rt, &g, line);
     }
 }
@@ -266,15 +279,15 @@ fn try_listed(rt: &impl Abort, g: &Geometry, line: &str)
 {
     let mut row = Row::new(line);
     let (ag, block): (u32, u32) = (row.number(rt), row.number(rt));
-    assert!(rt; ag < 2);
+    sure(rt, ag < 2, line);
     let list = Agfl::new(&[519, block]);
     let listed = list.has_blocks(g, ag);
     row.tells_flag(rt, listed, line);
     if listed {
         let mut sector = [0xff; 512];
         put_agfl(g, ag, &list, &mut sector);
-        same!(rt; get32(&sector, 4), ag);
-        same!(rt; read_agfl(g, ag, &bounds(0, 2), &sector), Some(list));
-        same!(rt; read_agfl(g, 1 - ag, &bounds(0, 2), &sector), None);
+        equal(rt, get32(&sector, 4), ag);
+        equal(rt, read_agfl(g, ag, &bounds(0, 2), &sector), Some(list));
+        equal(rt, read_agfl(g, 1 - ag, &bounds(0, 2), &sector), None);
     }
 }

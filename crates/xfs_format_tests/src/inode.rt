@@ -7,8 +7,8 @@ mod disks;
 mod files;
 mod real;
 
-use crate::checks::{must, same};
-use crate::text::{Row, put_parts, tells};
+use crate::checks::{equal, equal_at, must, sure};
+use crate::text::{Row, line_at, line_count, part_at, part_count, put_parts, tells};
 use std::alloc::Global;
 use std::process::Abort;
 use std::sync::ledger::{Blank, Ledger};
@@ -163,7 +163,8 @@ const SLOTS: &str = "\
 #[test]
 fn slots(rt: HostRuntime) {
     let g = geometry();
-    for line in SLOTS.lines() {
+    for i in 0..line_count(SLOTS) {
+        let line = line_at(SLOTS, i);
         let mut row = Row::new(line);
         let ino = row.number(&rt);
         let (case, due) = (row.text(), row.text());
@@ -184,7 +185,7 @@ fn blank_slots(rt: HostRuntime) {
     };
     let mut slot = [0xff; 512];
     free_slot(&g, 131, &stamp, &mut slot);
-    same!(rt; read_slot(&g, 131, &slot), SlotRead::Free);
+    equal(&rt, read_slot(&g, 131, &slot), SlotRead::Free);
     let mut due = [0; 512];
     put_parts(
         &rt,
@@ -192,13 +193,17 @@ fn blank_slots(rt: HostRuntime) {
         "0 494e, 4 03, 95 07ffffffff, 159 83, 160 00112233445566778899aabbccddeeff",
     );
     seal_file(&mut due);
-    same!(rt; slot, due);
+    equal(&rt, slot, due);
     due = file_with(&rt, "");
     slot = [0xff; 512];
     fresh_slot(&g, &FRESH, &due[176..192], &mut slot);
     let crc = stored_checksum(&slot, 100);
-    same!(rt; read_slot(&g, 131, &slot), SlotRead::InUse(Core { crc, ..FRESH }));
-    same!(rt; slot, due);
+    equal(
+        &rt,
+        read_slot(&g, 131, &slot),
+        SlotRead::InUse(Core { crc, ..FRESH }),
+    );
+    equal(&rt, slot, due);
 }
 
 /// Tests that a slot is what is due, with zero from a byte on, these parts and its seal.
@@ -209,11 +214,11 @@ fn is_due(
     end: usize,
     parts: &str,
 ) {
-    assert!(rt; end <= 512);
+    sure(rt, end <= 512, parts);
     due[end..].fill(0);
     put_parts(rt, due, parts);
     seal_file(due);
-    same!(rt; *slot, *due; parts);
+    equal_at(rt, *slot, *due, parts);
 }
 
 /// Where the attribute fork begins, in units of 8 bytes behind byte 176, and the byte behind the data fork.
@@ -229,18 +234,18 @@ fn changed_slots(rt: HostRuntime) {
         nextents: 6,
         bytes: Word::from_vec(must(&rt, vec![in rt.alloc(); 0xab, 0xcd])),
     };
-    for fork in FORKS.split(',') {
-        let mut row = Row::new(fork);
+    for i in 0..part_count(FORKS) {
+        let mut row = part_at(FORKS, i);
         let mut slot = [0x5a; 512];
         let parts = "0 494e, 4 03, 152 0000000000000083, 160 00112233445566778899aabbccddeeff";
         put_parts(&rt, &mut slot, parts);
         slot[82] = row.number(&rt);
         let mut due = slot;
         seal_file(&mut slot);
-        assert!(rt; sealed(&slot_seal(&g, 131), &slot));
+        equal(&rt, sealed(&slot_seal(&g, 131), &slot), true);
         set_links(&g, 131, 9, &mut slot);
         is_due(&rt, &slot, &mut due, 512, "16 00000009, 96 ffffffff");
-        assert!(rt; get8(&slot, 82) <= 41);
+        sure(&rt, get8(&slot, 82) <= 41, parts);
         drop_attrs(&g, 131, 3, &mut slot);
         let end = row.number(&rt);
         is_due(
@@ -250,7 +255,7 @@ fn changed_slots(rt: HostRuntime) {
             end,
             "64 0000000000000003, 80 0000, 83 02",
         );
-        assert!(rt; get8(&slot, 82) <= 41);
+        sure(&rt, get8(&slot, 82) <= 41, parts);
         set_fork(&g, 131, &wanted, &mut slot);
         let parts = "5 01, 56 0000000000000002, 71 05, 76 00000006, 176 abcd";
         is_due(&rt, &slot, &mut due, 176, parts);

@@ -5,8 +5,8 @@ ghost use Rattle.xfs_kinds.specs.FreeRuns.{span};
 
 mod hostile;
 
-use crate::checks::{must, same};
-use crate::text::{Row, put_parts, tells};
+use crate::checks::{equal, equal_at, must, same};
+use crate::text::{Row, line_at, line_count, put_parts, tells};
 use std::cmp::Ordering;
 use std::process::Abort;
 use xfs_geom::{Geometry, InoRec, RmapRec, Run, Span};
@@ -74,13 +74,12 @@ fn layouts_of_kinds(rt: HostRuntime) {
         tree_layout(&Rmap { ag: 1 }),
         tree_layout(&Bmbt { ino: 9 }),
     ];
-    same!(rt; LAYOUTS.lines().count(), layouts.len());
-    let mut lines = LAYOUTS.lines();
-    for layout in &layouts {
-        tells(&rt, layout, lines.next().unwrap_or(""), "a layout");
+    equal(&rt, line_count(LAYOUTS), layouts.len());
+    for (i, layout) in layouts.iter().enumerate() {
+        tells(&rt, layout, line_at(LAYOUTS, i), "a layout");
     }
-    same!(rt; Rmap { ag: 1 }.owner(), 1);
-    same!(rt; Bmbt { ino: 9 }.owner(), 9);
+    equal(&rt, Rmap { ag: 1 }.owner(), 1);
+    equal(&rt, Bmbt { ino: 9 }.owner(), 9);
 }
 
 /// A run behind seven blocks from block 5 on, and whether both are lawful by their starts and by their lengths.
@@ -102,19 +101,30 @@ fn free_trees(rt: HostRuntime) {
     let mut bytes = [0; 8];
     bno.put_record(&span(0x0102_0304, 5), &mut bytes);
     tells(&rt, &bytes, "[1, 2, 3, 4, 0, 0, 0, 5]", "a run");
-    same!(rt; cnt.read_key(&bytes), span(0x0102_0304, 5));
-    assert!(rt; bno.order(&span(7, 9), &span(8, 1)) == Ordering::Less);
-    assert!(rt; cnt.order(&span(7, 9), &span(8, 1)) == Ordering::Greater);
-    assert!(rt; cnt.order(&span(7, 9), &span(8, 9)) == Ordering::Less);
-    for line in FREE_RUNS.lines() {
+    equal(&rt, cnt.read_key(&bytes), span(0x0102_0304, 5));
+    equal(&rt, bno.order(&span(7, 9), &span(8, 1)), Ordering::Less);
+    equal(&rt, cnt.order(&span(7, 9), &span(8, 1)), Ordering::Greater);
+    equal(&rt, cnt.order(&span(7, 9), &span(8, 9)), Ordering::Less);
+    for i in 0..line_count(FREE_RUNS) {
+        let line = line_at(FREE_RUNS, i);
         let mut row = Row::new(line);
         let run = span(row.number(&rt), row.number(&rt));
-        same!(rt; bno.lawful(&g, Some(&span(5, 7)), &run), row.flag(&rt); line);
-        same!(rt; cnt.lawful(&g, Some(&span(5, 7)), &run), row.flag(&rt); line);
+        equal_at(
+            &rt,
+            bno.lawful(&g, Some(&span(5, 7)), &run),
+            row.flag(&rt),
+            line,
+        );
+        equal_at(
+            &rt,
+            cnt.lawful(&g, Some(&span(5, 7)), &run),
+            row.flag(&rt),
+            line,
+        );
     }
-    assert!(rt; bno.lawful(&g, None, &span(1, 1023)));
-    assert!(rt; !cnt.lawful(&g, None, &span(0, 4)));
-    assert!(rt; !Bno { ag: 2 }.lawful(&g, None, &span(12, 4)));
+    equal(&rt, bno.lawful(&g, None, &span(1, 1023)), true);
+    equal(&rt, cnt.lawful(&g, None, &span(0, 4)), false);
+    equal(&rt, Bno { ag: 2 }.lawful(&g, None, &span(12, 4)), false);
 }
 
 /// The bytes of a whole chunk and of half a chunk.
@@ -158,15 +168,16 @@ fn inode_trees(rt: HostRuntime) {
     let mut bytes = [0; 16];
     Ino { ag: 0 }.put_record(&whole, &mut bytes);
     tells(&rt, &bytes, WHOLE, "a whole chunk");
-    same!(rt; Fino { ag: 0 }.read_record(&bytes), whole);
+    equal(&rt, Fino { ag: 0 }.read_record(&bytes), whole);
     Fino { ag: 0 }.put_record(&half, &mut bytes);
     tells(&rt, &bytes, HALF, "half a chunk");
     let mut key = [0; 4];
     Ino { ag: 0 }.put_key(&half.startino, &mut key);
-    same!(rt; Ino { ag: 0 }.read_key(&key), 64);
-    assert!(rt; Ino { ag: 0 }.lawful(&g, Some(&half), &whole));
-    assert!(rt; !Ino { ag: 0 }.lawful(&g, Some(&whole), &half));
-    for line in CHUNKS.lines() {
+    equal(&rt, Ino { ag: 0 }.read_key(&key), 64);
+    equal(&rt, Ino { ag: 0 }.lawful(&g, Some(&half), &whole), true);
+    equal(&rt, Ino { ag: 0 }.lawful(&g, Some(&whole), &half), false);
+    for i in 0..line_count(CHUNKS) {
+        let line = line_at(CHUNKS, i);
         let mut row = Row::new(line);
         let (ag, startino) = (row.number(&rt), row.number(&rt));
         let (holemask, count) = (row.number(&rt), row.number(&rt));
@@ -176,7 +187,12 @@ fn inode_trees(rt: HostRuntime) {
             count,
             ..half
         };
-        same!(rt; Fino { ag }.lawful(&g, None, &chunk), row.flag(&rt); line);
+        equal_at(
+            &rt,
+            Fino { ag }.lawful(&g, None, &chunk),
+            row.flag(&rt),
+            line,
+        );
     }
 }
 
@@ -216,7 +232,8 @@ fn owner_trees(rt: HostRuntime) {
     ends_at(&rt, 131, 5, 7);
     ends_at(&rt, 131, TREE_BLOCK, TREE_BLOCK);
     ends_at(&rt, AG, 0, 0);
-    for line in OWNED_RUNS.lines() {
+    for i in 0..line_count(OWNED_RUNS) {
+        let line = line_at(OWNED_RUNS, i);
         try_owned_run(&rt, &g, line);
     }
 }
@@ -227,13 +244,13 @@ fn owner_records(rt: &(impl Abort + AllocGlobal)) {
     let mut bytes = [0; 24];
     rmap.put_record(&DATA, &mut bytes);
     tells(rt, &bytes, RECORD, "a record");
-    same!(rt; rmap.read_record(&bytes), DATA);
+    equal(rt, rmap.read_record(&bytes), DATA);
     let high = rmap.high_key(&DATA);
     let mut key = [0; 20];
     rmap.put_key(&high, &mut key);
     tells(rt, &key, HIGH_KEY, "a high key");
     key[12] = 160;
-    same!(rt; rmap.read_key(&key), high);
+    equal(rt, rmap.read_key(&key), high);
 }
 
 /// Compares the offset word of the high key of three blocks of an owner from an offset word on.
@@ -243,7 +260,7 @@ fn ends_at(rt: &impl Abort, owner: u64, word: u64, last: u64) {
         offset_word: word,
         ..DATA
     };
-    same!(rt; Rmap { ag: 0 }.high_key(&run).offset_word, last; (owner, word));
+    same!(*rt; Rmap { ag: 0 }.high_key(&run).offset_word, last; (owner, word));
 }
 
 /// Tries a run of a line behind the record.
@@ -258,7 +275,7 @@ fn try_owned_run(rt: &impl Abort, g: &Geometry, line: &str) {
     };
     row.tells_flag(rt, rmap.lawful(g, Some(&DATA), &next), line);
     let order = rmap.order(&rmap.low_key(&DATA), &rmap.low_key(&next));
-    assert!(rt; order == Ordering::Less, "{line}");
+    equal_at(rt, order, Ordering::Less, line);
 }
 
 /// Records and keys that a kernel wrote. It leaves the flag of unwritten blocks in some keys.
@@ -281,7 +298,7 @@ fn keys_of_a_kernel(rt: HostRuntime) {
     put_parts(&rt, &mut record, WRITTEN_RECORD);
     put_parts(&rt, &mut key, ITS_LOW_KEY);
     let run = rmap.read_record(&record);
-    same!(rt; rmap.read_key(&key), rmap.low_key(&run));
+    equal(&rt, rmap.read_key(&key), rmap.low_key(&run));
 }
 
 /// The bytes of an extent.
@@ -313,7 +330,8 @@ const FIRST: Extent = Extent {
 fn extent_trees(rt: HostRuntime) {
     let g = volume();
     extent_records(&rt);
-    for line in EXTENTS.lines() {
+    for i in 0..line_count(EXTENTS) {
+        let line = line_at(EXTENTS, i);
         try_extent(&rt, &g, line);
     }
 }
@@ -324,11 +342,11 @@ fn extent_records(rt: &(impl Abort + AllocGlobal)) {
     let mut bytes = [0; 16];
     bmbt.put_record(&FIRST, &mut bytes);
     tells(rt, &bytes, EXTENT, "an extent");
-    same!(rt; bmbt.read_record(&bytes), FIRST);
+    equal(rt, bmbt.read_record(&bytes), FIRST);
     let mut key = [0; 8];
     bmbt.put_key(&bmbt.low_key(&FIRST), &mut key);
-    same!(rt; bmbt.read_key(&key), 3);
-    assert!(rt; bmbt.order(&3, &4) == Ordering::Less);
+    equal(rt, bmbt.read_key(&key), 3);
+    equal(rt, bmbt.order(&3, &4), Ordering::Less);
 }
 
 /// Tries an extent of a line behind the first.
@@ -357,10 +375,14 @@ fn free_runs_of_a_group(rt: HostRuntime) {
         span(20, 4),
     ];
     let free = must(&rt, free_runs(rt.alloc(), &used, 1024));
-    same!(rt; free.as_slice(), [span(12, 4), span(24, 1000)].as_slice());
+    equal(
+        &rt,
+        free.as_slice(),
+        [span(12, 4), span(24, 1000)].as_slice(),
+    );
     let used = [span(3, 0), span(5, 2), span(9, u32::MAX)];
     let free = must(&rt, free_runs(rt.alloc(), &used, 8));
-    same!(rt; free.as_slice(), [span(0, 5), span(7, 1)].as_slice());
+    equal(&rt, free.as_slice(), [span(0, 5), span(7, 1)].as_slice());
 }
 
 /// The offset words of a run of two blocks and of the block behind it, and how many blocks the first merged run has.
@@ -400,12 +422,18 @@ fn merged_runs_of_a_group(rt: HostRuntime) {
         run(5, 7, AG, 0),
         run(16, 8, INODES, 0),
     ];
-    same!(rt; merged.as_slice(), expected.as_slice());
-    for line in PAIRS.lines() {
+    equal(&rt, merged.as_slice(), expected.as_slice());
+    for i in 0..line_count(PAIRS) {
+        let line = line_at(PAIRS, i);
         let mut row = Row::new(line);
         let (offset, next) = (row.number(&rt), row.number(&rt));
         let pair = [run(24, 2, 131, offset), run(26, 1, 131, next)];
         let merged = must(&rt, merge_runs(rt.alloc(), &pair));
-        same!(rt; merged.first(), Some(&run(24, row.number(&rt), 131, offset)); line);
+        equal_at(
+            &rt,
+            merged.first(),
+            Some(&run(24, row.number(&rt), 131, offset)),
+            line,
+        );
     }
 }

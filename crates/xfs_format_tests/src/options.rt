@@ -1,7 +1,7 @@
 //! Whole command lines. Words stand between semicolons, and so do commands.
 
-use crate::checks::{must, same};
-use crate::text::{Row, refuse, tells};
+use crate::checks::{equal, equal_at, must};
+use crate::text::{Row, line_at, line_count, refuse, tells};
 use std::alloc::Global;
 use std::process::Abort;
 use xfs_disk::Word;
@@ -52,14 +52,20 @@ V;-x | Offends(2)
 
 #[test]
 fn lines_of_the_debugger(rt: HostRuntime) {
-    for line in DEBUGGER.lines() {
+    for i in 0..line_count(DEBUGGER) {
+        let line = line_at(DEBUGGER, i);
         let mut row = Row::new(line);
         let words = words(&rt, rt.alloc(), row.text());
         match read_debug_words(rt.alloc(), &words) {
             Ok(read) => {
-                same!(rt; (read.read_only, read.expert), (row.flag(&rt), row.flag(&rt)); line);
+                equal_at(
+                    &rt,
+                    (read.read_only, read.expert),
+                    (row.flag(&rt), row.flag(&rt)),
+                    line,
+                );
                 let commands = text_of(&rt, rt.alloc(), &read.commands);
-                same!(rt; commands.as_slice(), row.text().as_bytes(); line);
+                equal_at(&rt, commands.as_slice(), row.text().as_bytes(), line);
             }
             Err(fault) => tells(&rt, &fault, row.text(), line),
         }
@@ -103,7 +109,8 @@ V | [None, None, None, None, None]
 
 #[test]
 fn lines_of_the_maker(rt: HostRuntime) {
-    for line in MAKER.lines() {
+    for i in 0..line_count(MAKER) {
+        let line = line_at(MAKER, i);
         let mut row = Row::new(line);
         let words = words(&rt, rt.alloc(), row.text());
         match read_make_words(rt.alloc(), &words) {
@@ -141,10 +148,10 @@ fn values_of_the_maker(rt: HostRuntime) {
     } = options;
     let due = "Some([0, 17, 34, 51, 68, 85, 102, 119, 136, 153, 170, 187, 204, 221, 238, 255])";
     tells(&rt, &given, due, "the identifier");
-    same!(rt; label.bytes(), b"b c".as_slice());
+    equal(&rt, label.bytes(), b"b c".as_slice());
     let Some(proto) = proto else {
         refuse(&rt, "no protofile is named", "")
     };
-    same!(rt; proto.bytes(), b"P".as_slice());
-    assert!(rt; force && quiet);
+    equal(&rt, proto.bytes(), b"P".as_slice());
+    equal(&rt, (force, quiet), (true, true));
 }

@@ -1,7 +1,7 @@
 //! Whole protofiles. In their texts a semicolon stands for a line feed, `~` for a tab, and `<3*ab>` for `ababab`.
 
-use crate::checks::{must, same};
-use crate::text::{Row, tells};
+use crate::checks::{equal_at, must};
+use crate::text::{Row, line_at, line_count, tells};
 use std::alloc::{AllocError, Global};
 use std::fmt::Write;
 use std::process::Abort;
@@ -141,13 +141,14 @@ x 0 0 d--755 0 0;<200*d d--755 0 0;><201*$ >;;$ | Bad { line: 204, reason: 6 }
 
 #[test]
 fn protofiles(rt: HostRuntime) {
-    for line in WHOLE.lines() {
+    for i in 0..line_count(WHOLE) {
+        let line = line_at(WHOLE, i);
         let mut row = Row::new(line);
         let text = expanded(&rt, rt.alloc(), row.text());
         match read_proto(rt.alloc(), &text) {
             Ok(proto) => {
                 let held = text_of(&rt, rt.alloc(), proto.nodes.as_slice());
-                same!(rt; held.as_str(), row.text(); line);
+                equal_at(&rt, held.as_str(), row.text(), line);
             }
             Err(fault) => tells(&rt, &fault, row.text(), line),
         }
@@ -165,19 +166,20 @@ x 0 0 d--755 0 0;<300*d d--755 0 0;><300*$;a ---644 0 0 src;>$ | 601 | 0 a 10064
 
 #[test]
 fn long_protofiles(rt: HostRuntime) {
-    for line in LONG.lines() {
+    for i in 0..line_count(LONG) {
+        let line = line_at(LONG, i);
         let mut row = Row::new(line);
         let text = expanded(&rt, rt.alloc(), row.text());
         match read_proto(rt.alloc(), &text) {
             Ok(proto) => {
                 let nodes = proto.nodes.as_slice();
-                same!(rt; nodes.len(), row.number::<usize>(&rt); line);
+                equal_at(&rt, nodes.len(), row.number::<usize>(&rt), line);
                 let mut last = String::new(rt.alloc());
                 if let Some(node) = nodes.last() {
                     must(&rt, write_node(&mut last, node));
                 }
                 let due = expanded(&rt, rt.alloc(), row.text());
-                same!(rt; last.as_bytes(), due.as_slice(); line);
+                equal_at(&rt, last.as_bytes(), due.as_slice(), line);
             }
             Err(fault) => tells(&rt, &fault, "", line),
         }

@@ -2,8 +2,8 @@
 
 ghost use Rattle.std.specs.Prelude.{◌≡◌, ◌+◌, ◌^◌, ◌<◌, ◌≤◌};
 
-use crate::checks::{must, same};
-use crate::text::Row;
+use crate::checks::{equal, equal_at, must, sure};
+use crate::text::{Row, line_at, line_count};
 use std::alloc::Global;
 use std::marker::Brand;
 use std::mem;
@@ -65,22 +65,24 @@ fn try_all<L: Ledger, R: Abort>(rt: &R, alloc: Global, blank: Blank)
 {
     let mut steps = Steps::<L>::from_blank(blank);
     let mut set = RunSet::make(alloc);
-    for line in PUT.lines() {
+    for i in 0..line_count(PUT) {
+        let line = line_at(PUT, i);
         let mut row = Row::new(line);
         let (start, count): (u32, u32) = (row.number(rt), row.number(rt));
-        assert!(rt; count > 0);
+        sure(rt, count > 0, line);
         let found = must(
             rt,
             put(&mut set, u64::from(start), u64::from(count), &mut steps),
         );
-        same!(rt; found, row.flag(rt); line);
+        equal_at(rt, found, row.flag(rt), line);
     }
-    for line in ASKED.lines() {
+    for i in 0..line_count(ASKED) {
+        let line = line_at(ASKED, i);
         let mut row = Row::new(line);
         let (start, count): (u32, u32) = (row.number(rt), row.number(rt));
-        assert!(rt; count > 0);
+        sure(rt, count > 0, line);
         let found = set.meets(u64::from(start), u64::from(count), &mut steps);
-        same!(rt; found, row.flag(rt); line);
+        equal_at(rt, found, row.flag(rt), line);
     }
 }
 
@@ -91,5 +93,5 @@ fn runs_in_turn(rt: HostRuntime) {
 
 #[test]
 fn steps_take_no_bytes(rt: HostRuntime) {
-    same!(rt; mem::size_of::<Steps<Brand>>(), 0);
+    equal(&rt, mem::size_of::<Steps<Brand>>(), 0);
 }

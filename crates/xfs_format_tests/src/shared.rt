@@ -3,18 +3,18 @@
 ghost use Rattle.std.specs.Prelude.{◌≡◌, length};
 
 use crate::bank::assert_block;
-use crate::checks::{must, same};
-use crate::text::parts_of;
+use crate::checks::{equal, must, sure};
+use crate::text::{part_at, part_count};
 use std::alloc::Global;
 use std::process::Abort;
 use xfs_bank::BlockBank;
 use xfs_shared::{BlockList, SharedBytes};
 
 /// Asserts that of each of the list's blocks the first byte and all others are these.
-fn assert_blocks(rt: &(impl Abort + AllocGlobal), list: &BlockList, due: &str) {
-    for (i, row) in parts_of(rt, due).iter().enumerate() {
-        assert!(rt; i < list.len());
-        assert_block(rt, list.view(i), *row, due);
+fn assert_blocks(rt: &impl Abort, list: &BlockList, due: &str) {
+    for i in 0..part_count(due) {
+        sure(rt, i < list.len(), due);
+        assert_block(rt, list.view(i), part_at(due, i), due);
     }
 }
 
@@ -23,13 +23,13 @@ fn three_blocks(rt: &impl Abort, alloc: Global) -> BlockList
     ensures { length result ≡ 3 }
 {
     let mut bytes = must(rt, vec![in alloc; 3; 8197]);
-    assert!(rt; bytes.len() == 8197);
+    sure(rt, bytes.len() == 8197, "bytes");
     bytes[4096] = 4;
     let bytes = must(rt, SharedBytes::make(alloc, bytes));
     let mut list = BlockList::make(alloc);
     must(rt, list.push_blocks(&bytes));
     must(rt, list.push(&[5; 4096]));
-    assert!(rt; list.len() == 3);
+    sure(rt, list.len() == 3, "blocks");
     list
 }
 
@@ -48,7 +48,7 @@ fn other_blocks(rt: &impl Abort, alloc: Global, first: &BlockList) -> BlockList
 fn blocks_of_two_lists(rt: HostRuntime) {
     let first = three_blocks(&rt, rt.alloc());
     let second = other_blocks(&rt, rt.alloc(), &first);
-    same!(rt; second.len(), 3);
+    equal(&rt, second.len(), 3);
     assert_blocks(&rt, &first, "3 3, 4 3, 5 5");
     drop(first);
     assert_blocks(&rt, &second, "4 3, 5 5, 0 0");

@@ -9,8 +9,8 @@ mod forest;
 mod hostile;
 mod numbers;
 
-use crate::checks::same;
-use crate::text::{Row, parts_of, tells};
+use crate::checks::{equal, equal_at, sure};
+use crate::text::{Row, line_at, line_count, part_at, part_count, tells};
 use numbers::Numbers;
 use std::cmp::Ordering;
 use std::process::Abort;
@@ -31,12 +31,20 @@ const SIZES: &str = "\
 
 #[test]
 fn sizes(rt: HostRuntime) {
-    for line in SIZES.lines() {
+    for i in 0..line_count(SIZES) {
+        let line = line_at(SIZES, i);
         let mut row = Row::new(line);
         let (leaf_cap, node_cap) = (row.number(&rt), row.number(&rt));
         let records = row.number(&rt);
-        assert!(rt; leaf_cap > 0 && node_cap > 1 && records < 1 << 62);
-        same!(rt; tree_size(leaf_cap, node_cap, records), row.number(&rt); line);
+        sure(&rt, leaf_cap > 0, line);
+        sure(&rt, node_cap > 1, line);
+        sure(&rt, records < 1 << 62, line);
+        equal_at(
+            &rt,
+            tree_size(leaf_cap, node_cap, records),
+            row.number(&rt),
+            line,
+        );
     }
 }
 
@@ -44,15 +52,15 @@ fn sizes(rt: HostRuntime) {
 fn a_kind(rt: HostRuntime) {
     let kind = Numbers { ag: 3 };
     let layout = tree_layout(&kind);
-    same!(rt; layout.header_len(), 56);
-    same!(rt; layout.pointer_len(), 4);
-    same!(rt; layout.leaf_cap, 3);
-    same!(rt; kind.owner(), 3);
+    equal(&rt, layout.header_len(), 56);
+    equal(&rt, layout.pointer_len(), 4);
+    equal(&rt, layout.leaf_cap, 3);
+    equal(&rt, kind.owner(), 3);
     let mut bytes = [0; 4];
     kind.put_record(&0x0102_0304, &mut bytes);
     tells(&rt, &bytes, "[1, 2, 3, 4]", "a number");
-    same!(rt; kind.read_record(&bytes), 0x0102_0304);
-    assert!(rt; kind.order(&7, &8) == Ordering::Less);
+    equal(&rt, kind.read_record(&bytes), 0x0102_0304);
+    equal(&rt, kind.order(&7, &8), Ordering::Less);
 }
 
 /// Places of blocks in the first group.
@@ -76,7 +84,7 @@ fn assert_packed(rt: &(impl Abort + AllocGlobal), records: &[u32], blocks: &str)
         uuid: [7; 16],
     };
     let size = tree_size(3, 2, records.len() as u64) as usize;
-    assert!(rt; size <= 11);
+    sure(rt, size <= 11, blocks);
     let mut part = [0xaa; 45056];
     pack(
         &Numbers { ag: 0 },
@@ -90,14 +98,23 @@ fn assert_packed(rt: &(impl Abort + AllocGlobal), records: &[u32], blocks: &str)
 
 /// Compares the level, the count and the last byte of each block.
 fn assert_rows(rt: &(impl Abort + AllocGlobal), part: &[u8], blocks: &str) {
-    let dues = parts_of(rt, blocks);
-    same!(rt; part.len(), dues.len().saturating_mul(4096); blocks);
+    equal_at(
+        rt,
+        part.len(),
+        part_count(blocks).saturating_mul(4096),
+        blocks,
+    );
     let mut rest = part;
-    for due in dues.iter() {
-        assert!(rt; rest.len() >= 4096);
-        let mut due = *due;
+    for i in 0..part_count(blocks) {
+        sure(rt, rest.len() >= 4096, blocks);
+        let mut due = part_at(blocks, i);
         let numbers = (due.number(rt), due.number(rt), 0);
-        same!(rt; (get16(rest, 4), get16(rest, 6), rest[4095]), numbers; blocks);
+        equal_at(
+            rt,
+            (get16(rest, 4), get16(rest, 6), rest[4095]),
+            numbers,
+            blocks,
+        );
         rest = &rest[4096..];
     }
 }

@@ -1,6 +1,6 @@
 //! Lists, there and back.
 
-use crate::checks::{must, same};
+use crate::checks::{equal, must};
 use std::alloc::Global;
 use std::process::Abort;
 use xfs_volume::*;
@@ -23,7 +23,7 @@ const SECOND: Extent = Extent {
 
 /// Fails where a list does not hold these extents.
 fn hold(rt: &impl Abort, extents: &Extents, due: &[Extent]) {
-    same!(rt; extents.as_slice(), due);
+    equal(rt, extents.as_slice(), due);
 }
 
 /// A list that grows, and a copy of what it holds then.
@@ -40,8 +40,8 @@ fn grown(rt: &impl Abort, alloc: Global) -> Extents {
 /// Fails where blocks are not the same there and back.
 fn blocks_hold(rt: &impl Abort, alloc: Global) {
     let blocks = Blocks::from_vec(must(rt, vec![in alloc; 20, 24]));
-    same!(rt; blocks.as_slice(), &[20, 24][..]);
-    same!(rt; blocks.into_vec().as_slice(), &[20, 24][..]);
+    equal(rt, blocks.as_slice(), &[20, 24][..]);
+    equal(rt, blocks.into_vec().as_slice(), &[20, 24][..]);
 }
 
 #[test]

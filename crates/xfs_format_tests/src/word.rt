@@ -3,8 +3,8 @@
 ghost use Rattle.std.specs.Prelude.{◌≡◌, length};
 ghost use Rattle.xfs_word.specs.Seal.{layout_of};
 
-use crate::checks::{same, sure};
-use crate::text::{Row, parts_of, tells};
+use crate::checks::{equal, equal_at, sure};
+use crate::text::{Row, line_at, line_count, part_at, part_count, tells};
 use std::process::Abort;
 use xfs_word::*;
 
@@ -13,26 +13,26 @@ const UUID: [u8; 16] = [1, 2, 3, 4, 5, 6, 7, 8, 9, 10, 11, 12, 13, 14, 15, 16];
 
 #[test]
 fn checksums(rt: HostRuntime) {
-    same!(rt; crc32c(b"123456789"), 0xe306_9283);
-    same!(rt; crc32c(&[0; 32]), 0x8a91_36aa);
-    same!(rt; crc32c(&[]), 0);
+    equal(&rt, crc32c(b"123456789"), 0xe306_9283);
+    equal(&rt, crc32c(&[0; 32]), 0x8a91_36aa);
+    equal(&rt, crc32c(&[]), 0);
     let mut bytes = [0; 32];
     put32(&mut bytes, 13, 0x1234_5678);
-    same!(rt; crc_skipping(&bytes, 13), 0x8a91_36aa);
+    equal(&rt, crc_skipping(&bytes, 13), 0x8a91_36aa);
     put_checksum(&mut bytes, 13);
-    same!(rt; stored_checksum(&bytes, 13), 0x8a91_36aa);
-    same!(rt; get32(&bytes, 13), 0xaa36_918a);
-    assert!(rt; is_checksum_right(&bytes, 13));
+    equal(&rt, stored_checksum(&bytes, 13), 0x8a91_36aa);
+    equal(&rt, get32(&bytes, 13), 0xaa36_918a);
+    equal(&rt, is_checksum_right(&bytes, 13), true);
 }
 
 #[test]
 fn fields_extents_and_names(rt: HostRuntime) {
     let mut bytes = [0x11, 0x22, 0x33, 0x44, 0x55, 0x66, 0x77, 0x88, 0x99];
-    same!(rt; get8(&bytes, 1), 0x22);
-    same!(rt; get16(&bytes, 1), 0x2233);
-    same!(rt; get32(&bytes, 1), 0x2233_4455);
-    same!(rt; get64(&bytes, 1), 0x2233_4455_6677_8899);
-    same!(rt; part(&bytes, 7, 2), [0x88, 0x99].as_slice());
+    equal(&rt, get8(&bytes, 1), 0x22);
+    equal(&rt, get16(&bytes, 1), 0x2233);
+    equal(&rt, get32(&bytes, 1), 0x2233_4455);
+    equal(&rt, get64(&bytes, 1), 0x2233_4455_6677_8899);
+    equal(&rt, part(&bytes, 7, 2), [0x88, 0x99].as_slice());
     put8(&mut bytes, 0, 0xff);
     put16(&mut bytes, 1, 1);
     put_part(&mut bytes, 6, &[5, 6]);
@@ -43,9 +43,14 @@ fn fields_extents_and_names(rt: HostRuntime) {
         form: Form::Decimal,
     };
     layout.write(&mut bytes, 0x0102);
-    same!(rt; bytes, [0xff, 0, 1, 0x44, 1, 2, 5, 6, 0x99]);
-    same!(rt; layout.read(&bytes), 0x0102);
+    equal(&rt, bytes, [0xff, 0, 1, 0x44, 1, 2, 5, 6, 0x99]);
+    equal(&rt, layout.read(&bytes), 0x0102);
+    extents(&rt);
+    hashes_of_names(&rt);
+}
 
+/// Packs and unpacks an extent.
+fn extents(rt: &impl Abort) {
     let packed = [0, 0, 0, 0, 0, 0, 6, 0, 0, 0, 0, 0, 2, 0x80, 0, 5];
     let extent = Extent {
         offset: 3,
@@ -53,10 +58,13 @@ fn fields_extents_and_names(rt: HostRuntime) {
         count: 5,
         unwritten: false,
     };
-    same!(rt; pack_extent(&extent), packed);
-    same!(rt; unpack_extent(&packed), extent);
-    assert!(rt; unpack_extent(&[0xff; 16]).unwritten);
+    equal(rt, pack_extent(&extent), packed);
+    equal(rt, unpack_extent(&packed), extent);
+    equal(rt, unpack_extent(&[0xff; 16]).unwritten, true);
+}
 
+/// Compares the hashes of names.
+fn hashes_of_names(rt: &impl Abort) {
     let name: &[u8] = b"lost+found";
     let hashes = [
         (&name[..0], 0),
@@ -66,7 +74,7 @@ fn fields_extents_and_names(rt: HostRuntime) {
         (name, 0x021a_a60c),
     ];
     for (name, hash) in hashes {
-        same!(rt; name_hash(name), hash);
+        equal(rt, name_hash(name), hash);
     }
 }
 
@@ -128,8 +136,7 @@ fn check(rt: &(impl Abort + AllocGlobal), kind: SealKind, mut row: Row) {
     row.tells_number(rt, layout.checksum as u64, name);
     sure(rt, layout.size <= 4096, name);
     let mut buffer = [0; 4096];
-    let parts = parts_of(rt, row.rest());
-    try_parts(rt, &what, &mut buffer[..layout.size], &parts, name);
+    try_parts(rt, &what, &mut buffer[..layout.size], row.rest(), name);
 }
 
 /// Asserts that an object of these parts is sealed, and that it is not with any of them wrong.
@@ -137,21 +144,21 @@ fn try_parts(
     rt: &(impl Abort + AllocGlobal),
     what: &Seal,
     object: &mut [u8],
-    parts: &[Row],
+    parts: &str,
     name: &str,
 )
     requires { length object.old ≡ (layout_of what.now.kind).size }
 {
-    for part in parts {
-        put_right(rt, object, *part);
+    for i in 0..part_count(parts) {
+        put_right(rt, object, part_at(parts, i));
     }
     seal(what, object);
-    same!(rt; sealed(what, object), true; name);
-    for part in parts {
-        try_wrong(rt, what, object, *part);
+    equal_at(rt, sealed(what, object), true, name);
+    for i in 0..part_count(parts) {
+        try_wrong(rt, what, object, part_at(parts, i));
     }
     turn(object, 511, 1);
-    same!(rt; sealed(what, object), false; name);
+    equal_at(rt, sealed(what, object), false, name);
 }
 
 /// Writes a part of an object.
@@ -171,14 +178,14 @@ fn try_wrong(rt: &(impl Abort + AllocGlobal), what: &Seal, object: &mut [u8], mu
     let (at, wrong) = (part.number(rt), part.number(rt));
     turn(object, at, wrong);
     seal(what, object);
-    same!(rt; sealed(what, object), false; part.rest());
+    equal_at(rt, sealed(what, object), false, part.rest());
     turn(object, at, wrong);
 }
 
 #[test]
 fn seals_of_each_kind(rt: HostRuntime) {
-    same!(rt; SEALS.lines().count(), KINDS.len());
-    for (kind, line) in KINDS.iter().zip(SEALS.lines()) {
-        check(&rt, *kind, Row::new(line));
+    equal(&rt, line_count(SEALS), KINDS.len());
+    for (i, kind) in KINDS.iter().enumerate() {
+        check(&rt, *kind, Row::new(line_at(SEALS, i)));
     }
 }

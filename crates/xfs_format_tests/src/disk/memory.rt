@@ -3,8 +3,8 @@
 ghost use Rattle.std.specs.Prelude.{◌≡◌};
 ghost use Rattle.xfs_memory.specs.MemoryDisk.{size_of};
 
-use crate::checks::{must, same, sure};
-use crate::text::{Row, tells};
+use crate::checks::{equal, must, sure};
+use crate::text::{Row, line_at, line_count, tells};
 use std::alloc::Global;
 use std::process::Abort;
 use xfs_disk::{BLOCK_SIZE, Disk, Failed, Library, LibraryFault, NoMemory, Sink, Source, Word};
@@ -37,7 +37,8 @@ const FAILING: &str = "\
 
 #[test]
 fn a_disk_fails_where_it_is_told_to(rt: HostRuntime) {
-    for line in FAILING.lines() {
+    for i in 0..line_count(FAILING) {
+        let line = line_at(FAILING, i);
         try_failing(&rt, line);
     }
     let large = MemoryDisk::make(rt.alloc(), 1 << 52);
@@ -83,9 +84,9 @@ fn streams_keep_their_bytes(rt: HostRuntime) {
         (Ok(0), Err(Failed), b"helhell"),
     ];
     for (taken, put, bytes) in steps {
-        same!(rt; source.take(&mut part), taken);
-        same!(rt; sink.put(&part), put);
-        same!(rt; sink.bytes(), bytes);
+        equal(&rt, source.take(&mut part), taken);
+        equal(&rt, sink.put(&part), put);
+        equal(&rt, sink.bytes(), bytes);
     }
     let missing = file_of(rt.alloc());
     sure(

@@ -1,6 +1,6 @@
 //! The objects over the system, on files of the folder for temporary files.
 
-use crate::checks::{must, same, sure};
+use crate::checks::{equal, must, sure};
 use std::fs::{File, OpenOptions};
 use std::io::{ErrorKind, Write};
 use std::path::PathBuf;
@@ -28,8 +28,8 @@ fn a_file_is_a_disk_of_its_whole_blocks(rt: HostRuntime) {
     must(&rt, fs::write(&rt, path.as_path(), bytes.as_slice()));
     let mut disk = opened(&rt, &rt, &path);
     assert!(rt; matches!(disk.blocks(), Ok(2)));
-    same!(rt; disk.write(1, &[2; BLOCK_SIZE]), Ok(()));
-    same!(rt; disk.sync(), Ok(()));
+    equal(&rt, disk.write(1, &[2; BLOCK_SIZE]), Ok(()));
+    equal(&rt, disk.sync(), Ok(()));
     are_read(&rt, &mut disk);
     holds(&rt, &rt, &path, bytes);
     cut(&rt, &rt, &path);
@@ -54,12 +54,12 @@ fn opened(rt: &impl Abort, system: &HostRuntime, path: &PathBuf) -> FileDisk<Fil
 fn are_read(rt: &impl Abort, disk: &mut FileDisk<File>) {
     assert!(rt; matches!(disk.blocks(), Ok(2)));
     let mut block = [0; BLOCK_SIZE];
-    same!(rt; disk.read(1, &mut block), Ok(()));
+    equal(rt, disk.read(1, &mut block), Ok(()));
     sure(rt, block == [2; BLOCK_SIZE], "block 1");
     let mut front = [0; 512];
-    same!(rt; disk.read_front(1, &mut front), Ok(()));
+    equal(rt, disk.read_front(1, &mut front), Ok(()));
     sure(rt, front == [2; 512], "the front of block 1");
-    same!(rt; disk.read(0, &mut block), Ok(()));
+    equal(rt, disk.read(0, &mut block), Ok(()));
     sure(rt, block == [1; BLOCK_SIZE], "block 0");
 }
 
@@ -81,18 +81,18 @@ fn cut(rt: &impl Abort, system: &HostRuntime, path: &PathBuf) {
 /// Fails where block 1 is read, or where a fault is not counted.
 fn does_not_read(rt: &impl Abort, disk: &mut FileDisk<File>) {
     let mut block = [0; BLOCK_SIZE];
-    same!(rt; disk.faults(), 0);
+    equal(rt, disk.faults(), 0);
     assert!(rt; matches!(disk.blocks(), Ok(2)));
-    same!(rt; disk.read(1, &mut block), Err(Failed));
-    same!(rt; disk.faults(), 1);
+    equal(rt, disk.read(1, &mut block), Err(Failed));
+    equal(rt, disk.faults(), 1);
 }
 
 #[test]
 fn no_file_is_no_disk(rt: HostRuntime) {
     let mut none = FileDisk::<File>::unopened();
-    same!(rt; none.blocks(), Err(Failed));
-    same!(rt; none.sync(), Err(Failed));
-    same!(rt; none.faults(), 1);
+    equal(&rt, none.blocks(), Err(Failed));
+    equal(&rt, none.sync(), Err(Failed));
+    equal(&rt, none.faults(), 1);
 }
 
 #[test]
@@ -103,8 +103,8 @@ fn a_file_that_is_only_read_takes_no_block(rt: HostRuntime) {
     let file = must(&rt, File::open(&rt, path.as_path()));
     let mut disk = must(&rt, FileDisk::open(rt.alloc(), file));
     assert!(rt; matches!(disk.blocks(), Ok(1)));
-    same!(rt; disk.write(0, &[4; BLOCK_SIZE]), Err(Failed));
-    same!(rt; disk.faults(), 0);
+    equal(&rt, disk.write(0, &[4; BLOCK_SIZE]), Err(Failed));
+    equal(&rt, disk.faults(), 0);
     has_bytes(&rt, &rt, &path, &threes);
     must(&rt, fs::remove_file(&rt, path.as_path()));
 }
@@ -141,8 +141,8 @@ impl Write for Narrow {
 fn streams_reach_the_system(rt: HostRuntime) {
     let path = path_of(&rt, &rt, "streams");
     let mut sink = StreamSink::new(must(&rt, fs::create(&rt, path.as_path())));
-    same!(rt; sink.put(b"four words "), Ok(()));
-    same!(rt; sink.put(b"of text"), Ok(()));
+    equal(&rt, sink.put(b"four words "), Ok(()));
+    equal(&rt, sink.put(b"of text"), Ok(()));
     has_bytes(&rt, &rt, &path, b"four words of text");
     gives_words(&rt, &rt, &path);
     must(&rt, fs::remove_file(&rt, path.as_path()));
@@ -152,7 +152,7 @@ fn streams_reach_the_system(rt: HostRuntime) {
         (6, Some(ErrorKind::StorageFull), Err(Failed)),
     ] {
         let mut sink = StreamSink::new(Narrow { left, fault });
-        same!(rt; sink.put(b"letters"), put);
+        equal(&rt, sink.put(b"letters"), put);
     }
 }
 
@@ -165,7 +165,7 @@ fn gives_words(rt: &impl Abort, system: &HostRuntime, path: &PathBuf) {
         (2, b"xtur words of te"),
         (0, b"xtur words of te"),
     ] {
-        same!(rt; source.take(&mut part), Ok(taken));
+        equal(rt, source.take(&mut part), Ok(taken));
         sure(rt, part == *held, "the bytes of the part");
     }
 }

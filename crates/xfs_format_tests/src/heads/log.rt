@@ -3,8 +3,8 @@
 ghost use Rattle.std.specs.Prelude.{◌≡◌, ◌≤◌, ◌<◌, ◌^◌, length};
 
 use super::*;
-use crate::checks::{must, same};
-use crate::text::{Row, parts_of, put_parts, refuse, tells};
+use crate::checks::{equal, equal_at, must};
+use crate::text::{Row, line_at, line_count, part_at, part_count, put_parts, refuse, tells};
 use xfs_heads::{LogState, SectorSeen, blank_log_sector, log_state, see_sector};
 
 /// A sector that was never written.
@@ -53,8 +53,8 @@ fn sector_of(rt: &impl Abort, mut row: Row) -> SectorSeen {
 /// The sectors of these runs, in each of which so many are equal.
 fn lay(rt: &(impl Abort + AllocGlobal), runs: &str) -> Vec<SectorSeen> {
     let mut seen = Vec::new(rt.alloc());
-    for run in parts_of(rt, runs).iter() {
-        let mut run = *run;
+    for i in 0..part_count(runs) {
+        let mut run = part_at(runs, i);
         let count: usize = run.number(rt);
         let sector = sector_of(rt, run);
         for _ in 0..count {
@@ -146,11 +146,12 @@ cleared by xfs_repair | 1 header 4 512 1, 1 data 4 32, 510 new, 1 record 3 2 258
 #[test]
 fn states(rt: HostRuntime) {
     for table in [UNMOUNTED, RECORDS, AROUND_THE_END, CLEARED, REAL] {
-        for line in table.lines() {
+        for i in 0..line_count(table) {
+            let line = line_at(table, i);
             let mut row = Row::new(line);
             let _case = row.text();
             let seen = lay(&rt, row.text());
-            same!(rt; log_state(&seen), state_of(&rt, row); line);
+            equal_at(&rt, log_state(&seen), state_of(&rt, row), line);
         }
     }
 }
@@ -172,7 +173,7 @@ fn blank_sectors(rt: HostRuntime) {
         let mut due = [0; 512];
         put_parts(&rt, &mut due, parts);
         blank_log_sector(1, index as u64, &IDENTIFIER, &mut sector);
-        same!(rt; sector, due);
+        equal(&rt, sector, due);
     }
     for cycle in [1, 8, 0x7fff_ffff] {
         let mut seen = Vec::new(rt.alloc());
@@ -181,7 +182,7 @@ fn blank_sectors(rt: HostRuntime) {
             must(&rt, seen.push(see_sector(&sector)));
         }
         let head = ((cycle as u64) << 32) + 2;
-        same!(rt; log_state(&seen), LogState::Clean { head });
+        equal(&rt, log_state(&seen), LogState::Clean { head });
     }
 }
 
@@ -197,7 +198,7 @@ fn seen_sectors(rt: HostRuntime) {
     let mut sector = [0; 512];
     let mut row = Row::new(SEEN);
     put_parts(&rt, &mut sector, row.text());
-    same!(rt; see_sector(&sector), sector_of(&rt, row));
+    equal(&rt, see_sector(&sector), sector_of(&rt, row));
     put_parts(&rt, &mut sector, CHANGED);
     let due =
         "SectorSeen { cycle: 4276992701, header: false, version: 2854223872, len: 2048, ops: 16, size: 32768, flag: 32 }";

@@ -4,7 +4,7 @@
 ghost use Rattle.std.specs.Prelude.{◌≡◌, ◌≤◌};
 
 use super::*;
-use crate::checks::same;
+use crate::checks::equal;
 use crate::text::{put_parts, refuse, tells};
 
 /// Group 2 of 4 in an image that `mkfs.xfs` filled from a protofile. The group holds the log.
@@ -121,7 +121,7 @@ fn headers_that_mkfs_made(rt: HostRuntime) {
     tells(&rt, &agi, MADE_AGI_PRINTED, "inodes");
     let agfl = Agfl::new(&[884, 885, 886, 887, 888, 889]);
     let sector = sector_of(&rt, 0xff, MADE_AGFL);
-    same!(rt; read_agfl(&g, 2, &agf, &sector), Some(agfl));
+    equal(&rt, read_agfl(&g, 2, &agf, &sector), Some(agfl));
 }
 
 #[test]
@@ -133,5 +133,5 @@ fn headers_that_a_kernel_wrote(rt: HostRuntime) {
     tells(&rt, &agf, WRITTEN_AGF_PRINTED, "free space");
     let agfl = Agfl::new(&[790, 792, 794, 796, 798, 800, 802, 804]);
     let sector = sector_of(&rt, 0xff, WRITTEN_AGFL);
-    same!(rt; read_agfl(&g, 0, &agf, &sector), Some(agfl));
+    equal(&rt, read_agfl(&g, 0, &agf, &sector), Some(agfl));
 }

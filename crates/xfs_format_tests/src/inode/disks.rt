@@ -4,8 +4,8 @@ ghost use Rattle.std.specs.Prelude.{◌≤◌};
 ghost use Rattle.xfs_word.specs.Extent.{IsPackable};
 
 use super::*;
-use crate::checks::{must, same};
-use crate::text::tells;
+use crate::checks::{equal, must, sure};
+use crate::text::{put_parts, tells};
 use std::marker::Brand;
 use std::sync::ledger::Blank;
 use xfs_disk::{BLOCK_SIZE, Disk};
@@ -38,7 +38,7 @@ fn leaf(rt: &(impl Abort + AllocGlobal), place: u64, parts: &str, first: u64) ->
         "0 424d4133, 6 0096, 40 00112233445566778899aabbccddeeff, 63 83",
     );
     put_parts(rt, &mut block, parts);
-    assert!(rt; first <= 150);
+    sure(rt, first <= 150, parts);
     for i in 0..150 {
         put_part(
             &mut block,
@@ -86,11 +86,11 @@ fn is_whole(rt: &(impl Abort + AllocGlobal), file: &FileRec) {
     let core = (file.core.size, file.core.nextents, file.core.nblocks);
     tells(rt, &core, "(2449508, 300, 302)", "core");
     tells(rt, &file.tree.as_slice(), "[300, 301]", "tree");
-    same!(rt; file.extents.as_slice().len(), 300);
-    let mut i = 0;
-    for found in file.extents.as_slice() {
-        assert!(rt; i < EXTENTS && *found == extent(i));
-        i += 1;
+    equal(rt, file.extents.as_slice().len(), 300);
+    for (i, found) in file.extents.as_slice().iter().enumerate() {
+        let i = i as u64;
+        sure(rt, i < EXTENTS, "an extent too many");
+        equal(rt, *found, extent(i));
     }
 }
 

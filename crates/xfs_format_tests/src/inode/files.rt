@@ -6,7 +6,7 @@ ghost use Rattle.xfs_word.specs.Seal.{layout_of};
 
 use super::*;
 use crate::checks::must;
-use crate::text::{Row, tells};
+use crate::text::{Row, line_at, line_count, put_parts, tells};
 use std::alloc::Global;
 use xfs_disk::{BLOCK_SIZE, NoMemory};
 use xfs_kinds::Bmbt;
@@ -142,7 +142,8 @@ fn read_rows(
     requires link { IfSome (option_copied link) (λ block. length block ≡ 4096) }
 {
     let g = geometry();
-    for line in rows.lines() {
+    for i in 0..line_count(rows) {
+        let line = line_at(rows, i);
         let mut row = Row::new(line);
         let (case, due) = (row.text(), row.text());
         let slot = file_with(rt, row.text());

@@ -4,8 +4,8 @@ ghost use Rattle.std.specs.Prelude.{◌≤◌};
 
 use super::cuts::{BLOCKS, CUTS};
 use super::*;
-use crate::checks::{must, same};
-use crate::text::{Row, refuse, tells};
+use crate::checks::{equal, equal_at, must};
+use crate::text::{Row, line_at, line_count, put_parts, refuse, tells};
 use std::marker::Brand;
 use std::sync::ledger::Blank;
 use xfs_attr::Attr;
@@ -16,7 +16,8 @@ use xfs_volume::FileRec;
 /// The blocks of an image, as a disk.
 fn disk_of(rt: &(impl Abort + AllocGlobal)) -> MemoryDisk {
     let mut disk = must(rt, MemoryDisk::make(rt.alloc(), 2048));
-    for line in BLOCKS.lines() {
+    for i in 0..line_count(BLOCKS) {
+        let line = line_at(BLOCKS, i);
         let mut row = Row::new(line);
         let at = row.number(rt);
         let mut block = [0; BLOCK_SIZE];
@@ -31,11 +32,11 @@ fn disk_of(rt: &(impl Abort + AllocGlobal)) -> MemoryDisk {
 fn same_attributes(rt: &impl Abort, attrs: &[Attr], due: &str) {
     let mut due = Row::new(due);
     for attr in attrs {
-        same!(rt; attr.flags, due.number(rt));
-        same!(rt; attr.name.bytes(), due.word().as_bytes());
-        same!(rt; attr.value.bytes(), due.word().as_bytes());
+        equal(rt, attr.flags, due.number(rt));
+        equal(rt, attr.name.bytes(), due.word().as_bytes());
+        equal(rt, attr.value.bytes(), due.word().as_bytes());
     }
-    assert!(rt; due.is_read());
+    equal(rt, due.is_read(), true);
 }
 
 /// Tests that a file is the one that is printed: its core, its extents, those of its attributes, the blocks of its tree,
@@ -45,9 +46,9 @@ fn same_file(rt: &(impl Abort + AllocGlobal), file: &FileRec, case: &str, mut du
     tells(rt, &file.extents.as_slice(), due.text(), case);
     tells(rt, &file.attr_extents.as_slice(), due.text(), case);
     tells(rt, &file.tree.as_slice(), due.text(), case);
-    same!(rt; file.device, due.number(rt); case);
+    equal_at(rt, file.device, due.number(rt), case);
     same_attributes(rt, file.attrs.as_slice(), due.text());
-    same!(rt; file.target.as_slice(), due.text().as_bytes(); case);
+    equal_at(rt, file.target.as_slice(), due.text().as_bytes(), case);
 }
 
 /// Tests that an inode reads as it is printed.
@@ -63,7 +64,7 @@ fn read_cut(rt: &(impl Abort + AllocGlobal), disk: &mut MemoryDisk, cut: &str) {
     match read_counted::<MemoryDisk, Brand>(rt.alloc(), image, disk, ino, &slot, blank) {
         Ok(FileRead::File(file)) => {
             let file = file.as_file();
-            same!(rt; file.ino, ino; case);
+            equal_at(rt, file.ino, ino, case);
             same_file(rt, file, case, row);
         }
         _ => refuse(rt, "no file is read", case),

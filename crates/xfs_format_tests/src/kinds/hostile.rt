@@ -3,7 +3,8 @@
 ghost use Rattle.std.specs.Prelude.{◌≡◌, ◌+◌, ◌<◌, ◌≤◌, length};
 
 use super::volume;
-use crate::checks::same;
+use crate::checks::equal;
+use crate::text::refuse;
 use std::alloc::Global;
 use std::marker::Brand;
 use std::sync::ledger::{Blank, Ledger};
@@ -86,8 +87,8 @@ fn one_child_twice(rt: HostRuntime) {
     );
     let leaf = block(magic, 21, 0, 1, [NONE, 21], &[(56, 128), (60, 0x0000_4000)]);
     match reading::<Ino, Brand>(rt.alloc(), &Ino { ag: 0 }, &root, &leaf, Blank::new(1)) {
-        Err(fault) => same!(rt; fault, TreeFault::Unread(Unread { block: 21, rule: 2 })),
-        Ok(_) => assert!(rt; false),
+        Err(fault) => equal(&rt, fault, TreeFault::Unread(Unread { block: 21, rule: 2 })),
+        Ok(_) => refuse(&rt, "the tree is read", ""),
     }
 }
 
@@ -119,8 +120,8 @@ fn keys_of_owners(rt: HostRuntime) {
         ];
         let root = block(magic, 20, 1, 1, [NONE, NONE], &keys);
         match reading::<Rmap, Brand>(rt.alloc(), &Rmap { ag: 0 }, &root, &leaf, Blank::new(1)) {
-            Err(fault) => same!(rt; fault, TreeFault::Unread(Unread { block: 21, rule })),
-            Ok(tree) => same!(rt; (tree.records.len(), rule), (1, 0)),
+            Err(fault) => equal(&rt, fault, TreeFault::Unread(Unread { block: 21, rule })),
+            Ok(tree) => equal(&rt, (tree.records.len(), rule), (1, 0)),
         }
     }
 }

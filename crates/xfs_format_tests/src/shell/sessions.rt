@@ -1,8 +1,8 @@
 //! Sessions over the volume, one row each.
 
 use super::volume::volume;
-use crate::checks::{must, same};
-use crate::text::{Row, tells};
+use crate::checks::{equal_at, must};
+use crate::text::{Row, line_at, line_count, tells};
 use std::alloc::Global;
 use std::process::Abort;
 use xfs_disk::Word;
@@ -92,12 +92,13 @@ fn check(rt: &(impl Abort + AllocGlobal), line: &str) {
     let answer = shell(rt.alloc(), &mut disk, &mut input, &mut out, &options);
     tells(rt, &answer, outcome, case);
     let told = lines_of(rt, rt.alloc(), row.text());
-    same!(rt; out.bytes(), told.as_slice(); case);
+    equal_at(rt, out.bytes(), told.as_slice(), case);
 }
 
 #[test]
 fn sessions(rt: HostRuntime) {
-    for line in SESSIONS.lines() {
+    for i in 0..line_count(SESSIONS) {
+        let line = line_at(SESSIONS, i);
         check(&rt, line);
     }
 }
@@ -112,7 +113,8 @@ const LONG: &str = "\
 #[test]
 fn inputs_of_more_bytes_than_there_may_be_are_too_long(rt: HostRuntime) {
     let options = options_of(&rt, rt.alloc(), true, false, "");
-    for line in LONG.lines() {
+    for i in 0..line_count(LONG) {
+        let line = line_at(LONG, i);
         let mut row = Row::new(line);
         let (letter, count) = (row.number(&rt), row.number(&rt));
         let mut disk = volume(&rt);

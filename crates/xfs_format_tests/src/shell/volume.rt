@@ -1,7 +1,7 @@
 //! A volume of two allocation groups, of which only what the sessions look at is there.
 
-use crate::checks::must;
-use crate::text::Row;
+use crate::checks::{must, sure};
+use crate::text::{Row, line_at, line_count};
 use std::process::Abort;
 use xfs_disk::{BLOCK_SIZE, Disk};
 use xfs_memory::MemoryDisk;
@@ -77,7 +77,7 @@ pub fn volume(rt: &(impl Abort + AllocGlobal)) -> MemoryDisk {
 /// Writes a block.
 fn put(rt: &impl Abort, disk: &mut MemoryDisk, at: u64, block: &[u8; 4096]) {
     let size = must(rt, disk.blocks());
-    assert!(rt; at < size);
+    sure(rt, at < size, "at < size");
     must(rt, disk.write(at, block));
 }
 
@@ -97,7 +97,8 @@ fn superblock(rt: &(impl Abort + AllocGlobal)) -> [u8; 512] {
 
 /// Puts bytes into the fields of an object: in each line stand a field, its byte offset and its bytes.
 fn put_fields(rt: &(impl Abort + AllocGlobal), object: &mut [u8], fields: &str) {
-    for line in fields.lines() {
+    for i in 0..line_count(fields) {
+        let line = line_at(fields, i);
         let mut row = Row::new(line);
         let _name = row.word();
         let at = row.number(rt);

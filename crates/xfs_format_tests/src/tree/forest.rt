@@ -4,8 +4,8 @@ ghost use Rattle.std.specs.Prelude.{◌≡◌, ◌<◌, ◌≤◌};
 
 use super::hostile::{BROKEN, WHOLE, disk_of, volume};
 use super::numbers::Numbers;
-use crate::checks::{must, same};
-use crate::text::{Row, refuse, tells};
+use crate::checks::{equal, equal_at, must};
+use crate::text::{Row, line_at, line_count, refuse, tells};
 use std::alloc::Global;
 use std::marker::Brand;
 use std::process::Abort;
@@ -93,7 +93,8 @@ fn grown<R: Threads + Sync + Abort>(
 
 #[test]
 fn broken_trees_together(rt: HostRuntime) {
-    for line in BROKEN.lines() {
+    for i in 0..line_count(BROKEN) {
+        let line = line_at(BROKEN, i);
         try_broken(&rt, line);
     }
 }
@@ -107,7 +108,7 @@ fn try_broken<R: Threads + Sync + Abort + AllocGlobal>(rt: &R, line: &str) {
     let mut disk = disk_of(rt, rt.alloc(), blocks, wrong);
     for workers in 0..4 {
         let grown = grown(rt, rt.alloc(), &mut disk, workers);
-        same!(rt; grown.len(), 3; what);
+        equal_at(rt, grown.len(), 3, what);
         assert_broken(rt, grown.get(0), due, what);
         assert_broken(rt, grown.get(2), due, what);
     }
@@ -131,7 +132,7 @@ fn whole_trees_together(rt: HostRuntime) {
     let mut disk = disk_of(&rt, rt.alloc(), WHOLE, 0);
     for workers in 0..4 {
         let grown = grown(&rt, rt.alloc(), &mut disk, workers);
-        same!(rt; grown.len(), 3);
+        equal(&rt, grown.len(), 3);
         assert_whole(&rt, grown.get(0));
         assert_broken(
             &rt,

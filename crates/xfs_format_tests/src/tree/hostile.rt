@@ -4,7 +4,7 @@ ghost use Rattle.std.specs.Prelude.{◌≡◌, ◌+◌, ◌*◌, ◌<◌, ◌≤
 
 use super::numbers::Numbers;
 use crate::checks::{must, sure};
-use crate::text::{Row, refuse, tells};
+use crate::text::{Row, line_at, line_count, refuse, tells};
 use std::alloc::Global;
 use std::marker::Brand;
 use std::process::Abort;
@@ -142,7 +142,8 @@ sibling right of all | 20 1 2 - - 10 30 21 22 | 21 0 2 - 22 10 20 | 22 0 1 21 21
 
 #[test]
 fn hostile(rt: HostRuntime) {
-    for line in BROKEN.lines() {
+    for i in 0..line_count(BROKEN) {
+        let line = line_at(BROKEN, i);
         try_broken(&rt, line);
     }
 }
