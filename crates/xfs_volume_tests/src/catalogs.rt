@@ -8,7 +8,7 @@
 //!   owners and offset words), `trees` (the block of each tree);
 //! - of the `volume`: `files`, `dirs`, `entries`, `counts`, `head` (of the log, or `-` where it is dirty), `lsns`.
 
-use crate::checks::{must, same, sure};
+use crate::checks::{equal_at, must, sure};
 use crate::items::{Item, items, records};
 use crate::text::{Row, refuse};
 use std::alloc::Global;
@@ -379,7 +379,7 @@ fn core(rt: &impl Abort, row: &mut Row) -> Core {
 
 /// Fails where this is not the law that a row ends with.
 pub fn tells_law(rt: &impl Abort, found: Option<Law>, row: &mut Row, case: &str) {
-    same!(rt; found, law_of(rt, row); case);
+    equal_at(rt, found, law_of(rt, row), case);
 }
 
 /// The law that a row ends with: its number, its place, what is held and what is due; or none, as `-`.

@@ -15,6 +15,16 @@ pub fn compare_at<T: PartialEq + Debug, N: Debug>(rt: &impl Abort, held: &T, due
     assert_eq!(rt; *held, *due, "{place:?}");
 }
 
+/// Fails where two values are not equal. They are passed by value, since a loan costs the check of each caller more than the call does.
+pub fn equal<T: PartialEq + Debug + Copy>(rt: &impl Abort, held: T, due: T) {
+    compare(rt, &held, &due)
+}
+
+/// The same, and says at which place.
+pub fn equal_at<T: PartialEq + Debug + Copy>(rt: &impl Abort, held: T, due: T, place: &str) {
+    compare_at(rt, &held, &due, &place)
+}
+
 /// Fails where what a case needs does not hold.
 pub fn sure(rt: &impl Abort, holds: bool, case: &str)
     ensures { IsTrue holds }

@@ -7,9 +7,9 @@ ghost use Rattle.xfs_inode.specs.Files.{are_extents};
 
 mod disks;
 
-use crate::checks::{must, same, sure};
+use crate::checks::{equal, must, same, sure};
 use crate::small_volume::{ROOT, volume};
-use crate::text::{Row, put_parts, refuse, tells};
+use crate::text::{Row, line_at, line_count, put_parts, refuse, tells};
 use disks::Untold;
 use std::alloc::Global;
 use std::marker::Brand;
@@ -103,7 +103,7 @@ fn read(
 ) -> Result<DirFound, DirectoryFault> {
     let g = volume(IDENTIFIER);
     assert!(rt; matches!(disk.blocks(), Ok(2048)));
-    assert!(rt; is_lawful(&g, file.extents.as_slice()));
+    sure(rt, is_lawful(&g, file.extents.as_slice()), "lawful extents");
     read_counted::<Brand>(alloc, &g, disk, slot, file, Blank::new(1))
 }
 
@@ -133,7 +133,7 @@ fn put_block(
     (before, after): (&str, &str),
     block: &mut [u8; BLOCK_SIZE],
 ) {
-    assert!(rt; place < 2048);
+    sure(rt, place < 2048, "a block");
     put32(block, 0, magic);
     put64(block, 8, 8 * place);
     put_part(block, 24, &IDENTIFIER);
@@ -162,8 +162,8 @@ a hash of the index | 4066 0062 | | false true
 
 #[test]
 fn single_block_form(rt: HostRuntime) {
-    for (number, line) in CHANGED.lines().enumerate() {
-        try_single(&rt, number % 2 == 0, line);
+    for i in 0..line_count(CHANGED) {
+        try_single(&rt, i % 2 == 0, line_at(CHANGED, i));
     }
 }
 
@@ -234,7 +234,7 @@ fn two_data_blocks(rt: HostRuntime) {
     put_two(&rt, &mut disk);
     let file = directory(&rt, rt.alloc(), CORE, 2, false);
     let found = found_of(&rt, &mut disk, &[0; 512], &file, "two data blocks");
-    same!(rt; (found.whole, found.parent), (false, 0));
+    equal(&rt, (found.whole, found.parent), (false, 0));
     tells(&rt, &found.entries.as_slice(), TWO, "two data blocks");
     must(&rt, disk.disk.fail(2));
     let fault = read(&rt, rt.alloc(), &mut disk, &[0; 512], &file);
@@ -260,7 +260,8 @@ fn short_form(rt: HostRuntime) {
     let mut slot = [0; 512];
     let entries = [entry(&rt, rt.alloc(), b"a", 140)];
     put_short(128, &entries, &mut slot[176..]);
-    for line in SIZES.lines() {
+    for i in 0..line_count(SIZES) {
+        let line = line_at(SIZES, i);
         try_size(&rt, &slot, line);
     }
 }

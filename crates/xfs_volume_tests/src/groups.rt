@@ -3,9 +3,9 @@
 
 ghost use Rattle.std.specs.Prelude.{◌≡◌, ◌<◌, ◌≤◌};
 
-use crate::checks::{must, same};
+use crate::checks::{must, same, sure};
 use crate::small_volume::{put, volume};
-use crate::text::{Row, refuse, tells};
+use crate::text::{Row, line_at, line_count, refuse, tells};
 use std::alloc::Global;
 use std::marker::Brand;
 use std::process::Abort;
@@ -47,16 +47,19 @@ const TREES: &str = "\
 
 /// Writes the volume's identifier and the checksum of an object.
 pub fn seal(rt: &impl Abort, bytes: &mut [u8], identifier: usize, checksum: usize) {
-    assert!(rt; identifier < 4096 && identifier + 16 <= bytes.len());
+    sure(rt, identifier < 4096, "an identifier");
+    sure(rt, identifier + 16 <= bytes.len(), "an identifier");
     put_part(bytes, identifier, &IDENTIFIER);
-    assert!(rt; checksum < 4096 && checksum + 4 <= bytes.len());
+    sure(rt, checksum < 4096, "a checksum");
+    sure(rt, checksum + 4 <= bytes.len(), "a checksum");
     put_checksum(bytes, checksum);
 }
 
 /// Writes the headers of both groups.
 fn put_headers(rt: &(impl Abort + AllocGlobal), disk: &mut MemoryDisk) {
     let mut blocks = [[0; BLOCK_SIZE]; 2];
-    for line in HEADERS.lines() {
+    for i in 0..line_count(HEADERS) {
+        let line = line_at(HEADERS, i);
         let mut row = Row::new(line);
         let (place, at) = (row.number::<usize>(rt), row.number::<usize>(rt));
         let (identifier, checksum) = (row.number(rt), row.number(rt));
@@ -65,7 +68,8 @@ fn put_headers(rt: &(impl Abort + AllocGlobal), disk: &mut MemoryDisk) {
         let further = row.number(rt);
         row.put(rt, &mut sector, further);
         seal(rt, &mut sector, identifier, checksum);
-        assert!(rt; place < 2048 && at <= BLOCK_SIZE - 512);
+        sure(rt, place < 2048, "a block");
+        sure(rt, at <= BLOCK_SIZE - 512, "a sector");
         put_part(&mut blocks[place / 1024], at, &sector);
     }
     put(rt, disk, 0, &blocks[0]);
@@ -77,7 +81,7 @@ pub fn leaf(rt: &(impl Abort + AllocGlobal), place: u64, row: &mut Row<'_>) -> [
     let mut block = [0; BLOCK_SIZE];
     row.put(rt, &mut block, 0);
     row.put(rt, &mut block, 56);
-    assert!(rt; place < 2048);
+    sure(rt, place < 2048, "a block");
     put64(&mut block, 8, u64::MAX);
     put64(&mut block, 16, 8 * place);
     put32(&mut block, 48, place as u32 / 1024);
@@ -100,7 +104,8 @@ fn slots(rt: &impl Abort, ino: u32) -> [u8; BLOCK_SIZE] {
 pub fn disk(rt: &(impl Abort + AllocGlobal), alloc: Global, lost: &[u64]) -> MemoryDisk {
     let mut disk = must(rt, MemoryDisk::make(alloc, 2048));
     put_headers(rt, &mut disk);
-    for line in TREES.lines() {
+    for i in 0..line_count(TREES) {
+        let line = line_at(TREES, i);
         let mut row = Row::new(line);
         let place = row.number(rt);
         if !lost.contains(&place) {
@@ -179,7 +184,8 @@ fn seen<R: Abort + Threads + Sync>(
 
 #[test]
 fn groups(rt: HostRuntime) {
-    for line in CASES.lines() {
+    for i in 0..line_count(CASES) {
+        let line = line_at(CASES, i);
         try_lost(&rt, line);
     }
 }

@@ -1,6 +1,6 @@
 //! Lists of items in texts: commas between the items, blanks between the numbers of an item.
 
-use crate::checks::{must, same, sure};
+use crate::checks::{equal_at, must, sure};
 use crate::text::Row;
 use std::alloc::Global;
 use std::process::Abort;
@@ -31,7 +31,7 @@ pub fn records<T: Item>(rt: &impl Abort, alloc: Global, text: &str) -> Records<T
 /// Fails where a number is not the next one of a text.
 pub fn tells_number(rt: &impl Abort, held: u64, due: &mut Row, case: &str) {
     sure(rt, !due.is_read(), case);
-    same!(rt; held, due.number(rt); case);
+    equal_at(rt, held, due.number(rt), case);
 }
 
 /// The same of a name.

@@ -2,9 +2,9 @@
 
 ghost use Rattle.std.specs.Prelude.{◌≡◌, ◌<◌, ◌≤◌};
 
-use crate::checks::{must, same};
+use crate::checks::{equal_at, must};
 use crate::small_volume::{ROOT, put, volume};
-use crate::text::{Row, refuse, tells};
+use crate::text::{Row, line_at, line_count, refuse, tells};
 use std::alloc::Global;
 use std::marker::Brand;
 use std::process::Abort;
@@ -99,7 +99,8 @@ const NUMBERS: &str = "\
 
 #[test]
 fn numbers(rt: HostRuntime) {
-    for line in NUMBERS.lines() {
+    for i in 0..line_count(NUMBERS) {
+        let line = line_at(NUMBERS, i);
         try_numbers(&rt, line);
     }
 }
@@ -149,10 +150,16 @@ const LOGS: &str = "\
 
 #[test]
 fn logs(rt: HostRuntime) {
-    for line in LOGS.lines() {
+    for i in 0..line_count(LOGS) {
+        let line = line_at(LOGS, i);
         let mut row = Row::new(line);
         let state = state_with(&rt, rt.alloc(), row.number(&rt), line);
-        same!(rt; state == LogState::Clean { head: 1 << 32 }, row.flag(&rt); line);
+        equal_at(
+            &rt,
+            state == LogState::Clean { head: 1 << 32 },
+            row.flag(&rt),
+            line,
+        );
     }
 }
 

@@ -7,7 +7,7 @@ mod rows;
 
 use crate::catalogs::{EMPTY, Sketch, tells_law};
 use crate::checks::{must, sure};
-use crate::text::{Row, refuse};
+use crate::text::{Row, line_at, line_count, refuse};
 use rows::{CHANGES, CHANGES_OF_EMPTY, CHANGES_OF_MANY, WITH_FILES};
 use std::alloc::Global;
 use std::fmt;
@@ -55,7 +55,8 @@ fn put_more(text: &mut String, part: &str) -> fmt::Result {
 
 /// Tries the changes of a volume, a line each.
 fn try_rows<R: Threads + Abort + Sync>(rt: &R, alloc: Global, base: &str, changes: &str) {
-    for line in changes.lines() {
+    for i in 0..line_count(changes) {
+        let line = line_at(changes, i);
         try_row(rt, alloc, base, line);
     }
 }

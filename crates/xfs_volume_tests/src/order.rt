@@ -1,10 +1,10 @@
 //! In which order the blocks of the trees of all groups are read: the trees of a kind level by level, those of all groups together, and
 //! the trees of owners last.
 
-use crate::checks::{must, same};
+use crate::checks::{equal, must, same};
 use crate::groups::{self, leaf, seal, see};
 use crate::small_volume::put;
-use crate::text::{Row, refuse};
+use crate::text::{Row, line_at, line_count, refuse};
 use std::alloc::Global;
 use std::marker::Brand;
 use std::process::Abort;
@@ -35,7 +35,7 @@ const ROOTS: [u64; 10] = [1, 2, 3, 4, 5, 1025, 1026, 1027, 1028, 1029];
 fn roots_come_first(rt: HostRuntime) {
     let mut noted = NotedDisk::new(rt.alloc(), tall(&rt, rt.alloc()));
     let seen = seen(&rt, rt.alloc(), &mut noted);
-    same!(rt; seen.groups.is_ok(), true);
+    equal(&rt, seen.groups.is_ok(), true);
     drop(seen);
     for leaf in LEAVES {
         for root in ROOTS {
@@ -64,7 +64,8 @@ fn first_read(rt: &impl Abort, noted: &NotedDisk, block: u64) -> usize {
 /// The volume whose first group has a tree of owners of two levels.
 fn tall(rt: &(impl Abort + AllocGlobal), alloc: Global) -> MemoryDisk {
     let mut disk = groups::disk(rt, alloc, &[5]);
-    for line in OWNERS.lines() {
+    for i in 0..line_count(OWNERS) {
+        let line = line_at(OWNERS, i);
         put_owners(rt, &mut disk, line);
     }
     put_levels(rt, &mut disk);
@@ -91,7 +92,7 @@ fn put_owners(rt: &(impl Abort + AllocGlobal), disk: &mut MemoryDisk, line: &str
 fn put_levels(rt: &impl Abort, disk: &mut MemoryDisk) {
     let mut block = [0; BLOCK_SIZE];
     assert!(rt; matches!(disk.blocks(), Ok(count) if 0 < count));
-    assert!(rt; disk.read(0, &mut block).is_ok());
+    must(rt, disk.read(0, &mut block));
     put32(&mut block, 512 + 36, 2);
     seal(rt, &mut block[512..1024], 64, 216);
     put(rt, disk, 0, &block);

@@ -10,7 +10,7 @@ mod pieces;
 mod spared;
 
 use crate::checks::{must, sure};
-use crate::text::{Row, refuse, tells};
+use crate::text::{Row, line_at, line_count, refuse, tells};
 use std::alloc::{AllocError, Global};
 use std::process::Abort;
 use xfs_geom::{Geometry, Run};
@@ -90,7 +90,8 @@ const LOWEST: &str = "\
 
 #[test]
 fn lowest_chunks(rt: HostRuntime) {
-    for line in LOWEST.lines() {
+    for i in 0..line_count(LOWEST) {
+        let line = line_at(LOWEST, i);
         try_chunks(&rt, line);
     }
 }

@@ -5,7 +5,7 @@ use crate::checks::{must, same};
 use crate::groups::{self, IDENTIFIER, leaf};
 use crate::scan::{ENTRY, EXTENT, LOST_ATTRIBUTES, PLAIN, file, gather_counted, put_slot, view_of};
 use crate::small_volume::{ROOT, put, volume};
-use crate::text::{Row, parts_of, put_parts, refuse};
+use crate::text::{Row, line_at, line_count, part_at, part_count, put_parts, refuse};
 use std::alloc::Global;
 use std::marker::Brand;
 use std::process::Abort;
@@ -118,7 +118,8 @@ one cluster more | | - true | true | 0 1024 1, 0 1 4, 1 6 3, 16 25 4, 40 44 2, 1
 
 #[test]
 fn reads(rt: HostRuntime) {
-    for line in CASES.lines() {
+    for i in 0..line_count(CASES) {
+        let line = line_at(CASES, i);
         try_reads(&rt, line);
     }
 }
@@ -171,8 +172,9 @@ fn are_counted(rt: &(impl Abort + AllocGlobal), reads: &[u32], due: &str, case: 
 /// How often each block is to be read.
 fn wanted_counts(rt: &(impl Abort + AllocGlobal), due: &str) -> Vec<u32> {
     let mut wanted = must(rt, vec![in rt.alloc(); 0u32; 2048]);
-    for part in parts_of(rt, due).iter() {
-        put_counts(rt, &mut wanted, *part);
+    for i in 0..part_count(due) {
+        let part = part_at(due, i);
+        put_counts(rt, &mut wanted, part);
     }
     wanted
 }

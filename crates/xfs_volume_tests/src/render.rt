@@ -4,9 +4,9 @@ mod objects;
 mod slots;
 mod wanted;
 
-use crate::checks::{must, same, sure};
+use crate::checks::{equal, must, same, sure};
 use crate::small_volume::put;
-use crate::text::{Row, put_parts, refuse};
+use crate::text::{Row, line_at, line_count, put_parts, refuse};
 use std::alloc::Global;
 use std::marker::Sync;
 use std::process::Abort;
@@ -52,7 +52,8 @@ const CHECKSUMS: &str = "\
 /// The disk of the volume with two files.
 fn due_disk(rt: &(impl Abort + AllocGlobal), alloc: Global) -> MemoryDisk {
     let mut disk = must(rt, MemoryDisk::make(alloc, 2048));
-    for line in FILES.lines() {
+    for i in 0..line_count(FILES) {
+        let line = line_at(FILES, i);
         let mut row = Row::new(line);
         let place = row.number(rt);
         let mut block = [0; BLOCK_SIZE];
@@ -75,7 +76,8 @@ fn chunk_of(
     let mut clusters = [[0; BLOCK_SIZE]; 8];
     clusters[0] = first;
     let mut k = 5;
-    for line in CHECKSUMS.lines() {
+    for i in 0..line_count(CHECKSUMS) {
+        let line = line_at(CHECKSUMS, i);
         for checksum in Row::new(line).numbers::<u32>(rt, alloc) {
             sure(rt, k < 64, "there are 59 checksums");
             put_part(
@@ -123,7 +125,7 @@ fn planned_disk(rt: &(impl Abort + AllocGlobal), alloc: Global, plan: &Plan) -> 
 fn block_of(rt: &impl Abort, disk: &mut MemoryDisk, place: u64) -> [u8; BLOCK_SIZE] {
     let mut block = [0; BLOCK_SIZE];
     assert!(rt; matches!(disk.blocks(), Ok(count) if place < count));
-    assert!(rt; disk.read(place, &mut block).is_ok());
+    must(rt, disk.read(place, &mut block));
     block
 }
 
@@ -133,7 +135,15 @@ fn volume_with_two_files(rt: HostRuntime) {
     let mut due = due_disk(&rt, alloc);
     let plan = plan_two(&rt, alloc, &block_of(&rt, &mut due, 0));
     // both groups have a first block and five trees, the chunk has eight blocks, each file one, and the log 512, which have two blocks of bytes
-    same!(rt; (plan.fresh.as_slice().len(), plan.in_place.as_slice().len(), plan.bank.len()), (20, 514, 24));
+    equal(
+        &rt,
+        (
+            plan.fresh.as_slice().len(),
+            plan.in_place.as_slice().len(),
+            plan.bank.len(),
+        ),
+        (20, 514, 24),
+    );
     let mut held = planned_disk(&rt, alloc, &plan);
     for place in 0..2048 {
         are_same(&rt, &mut held, &mut due, place);

@@ -2,11 +2,11 @@
 
 ghost use Rattle.std.specs.Prelude.{◌≡◌, ◌<◌};
 
-use crate::checks::{must, same, sure};
+use crate::checks::{equal_at, must, sure};
 use crate::items::{Item, items};
 use crate::salvage::found_in;
 use crate::small_volume::volume;
-use crate::text::{Row, parts_of, refuse};
+use crate::text::{Row, line_at, line_count, part_at, part_count, refuse};
 use std::alloc::Global;
 use std::marker::Brand;
 use std::process::Abort;
@@ -112,20 +112,16 @@ fn base_of(base: &SlotBase) -> &'static str {
 }
 
 /// Fails where these are not the slots of a text: the inode, what it is made from, the blocks without attributes, the names.
-fn tells_slots(rt: &(impl Abort + AllocGlobal), held: &[SlotWanted], text: &str, case: &str) {
-    let due = parts_of(rt, text);
-    same!(rt; held.len(), due.len(); case);
-    let mut parts = due.iter();
-    for slot in held {
-        if let Some(part) = parts.next() {
-            tells_slot(rt, slot, *part, case);
-        }
+fn tells_slots(rt: &impl Abort, held: &[SlotWanted], text: &str, case: &str) {
+    equal_at(rt, held.len(), part_count(text), case);
+    for (i, slot) in held.iter().enumerate() {
+        tells_slot(rt, slot, part_at(text, i), case);
     }
 }
 
 fn tells_slot(rt: &impl Abort, slot: &SlotWanted, mut part: Row, case: &str) {
     part.tells_number(rt, slot.ino, case);
-    same!(rt; base_of(&slot.base), part.word(); case);
+    equal_at(rt, base_of(&slot.base), part.word(), case);
     part.tells_optional(rt, slot.drop_attrs, case);
     part.tells_optional(rt, slot.nlink, case);
     sure(rt, part.is_read(), case);
@@ -134,7 +130,7 @@ fn tells_slot(rt: &impl Abort, slot: &SlotWanted, mut part: Row, case: &str) {
 /// The same of the runs that are taken.
 fn tells_taken(rt: &impl Abort, alloc: Global, taken: &[Run], text: &str, case: &str) {
     let due: Vec<RmapRec> = items(rt, alloc, text);
-    same!(rt; taken.len(), due.len(); case);
+    equal_at(rt, taken.len(), due.len(), case);
     let mut dues = due.iter();
     for run in taken {
         if let Some(due) = dues.next() {
@@ -144,10 +140,10 @@ fn tells_taken(rt: &impl Abort, alloc: Global, taken: &[Run], text: &str, case: 
 }
 
 fn tells_run(rt: &impl Abort, run: &Run, due: &RmapRec, case: &str) {
-    same!(rt; run.start, due.start as u64; case);
-    same!(rt; run.count, due.count as u64; case);
-    same!(rt; run.owner, due.owner; case);
-    same!(rt; run.offset_word, due.offset_word; case);
+    equal_at(rt, run.start, due.start as u64, case);
+    equal_at(rt, run.count, due.count as u64, case);
+    equal_at(rt, run.owner, due.owner, case);
+    equal_at(rt, run.offset_word, due.offset_word, case);
 }
 
 /// The same of the chunks of a group.
@@ -162,8 +158,8 @@ fn tells_chunks(
     let due: Vec<InoRec> = items(rt, alloc, text);
     sure(rt, ag < groups.len(), case);
     let chunks = groups[ag].records.as_slice();
-    same!(rt; chunks.len(), due.len(); case);
-    same!(rt; chunks, due.as_slice(); case);
+    equal_at(rt, chunks.len(), due.len(), case);
+    equal_at(rt, chunks, due.as_slice(), case);
 }
 
 fn stamp() -> Stamp {
@@ -236,8 +232,8 @@ fn tells_wanted(
     tells_taken(rt, alloc, wanted.taken.as_slice(), row.text(), case);
     tells_chunks(rt, alloc, wanted.inodes.as_slice(), 0, row.text(), case);
     tells_chunks(rt, alloc, wanted.inodes.as_slice(), 1, row.text(), case);
-    same!(rt; wanted.inodes.as_slice().len(), 2; case);
-    same!(rt; wanted.reserved.as_slice().len(), 2; case);
+    equal_at(rt, wanted.inodes.as_slice().len(), 2, case);
+    equal_at(rt, wanted.reserved.as_slice().len(), 2, case);
 }
 
 fn try_all<R: Threads + Sync + Abort + AllocGlobal, L: Ledger>(rt: &R, alloc: Global, blank: Blank)
@@ -246,7 +242,8 @@ fn try_all<R: Threads + Sync + Abort + AllocGlobal, L: Ledger>(rt: &R, alloc: Gl
     requires some { 0 < blank.parts }
 {
     let mut steps = Steps::<L>::from_blank(blank);
-    for line in ASKED.lines() {
+    for i in 0..line_count(ASKED) {
+        let line = line_at(ASKED, i);
         try_asked(rt, alloc, line, &mut steps);
     }
 }

@@ -2,10 +2,10 @@
 
 ghost use Rattle.std.specs.Prelude.{◌≡◌, ◌<◌};
 
-use crate::checks::{must, same, sure};
+use crate::checks::{equal_at, must, sure};
 use crate::items::{records, tells_number, tells_numbers};
 use crate::small_volume::volume;
-use crate::text::Row;
+use crate::text::{Row, line_at, line_count};
 use std::alloc::Global;
 use std::marker::Brand;
 use std::process::Abort;
@@ -124,7 +124,7 @@ fn try_can<L: Ledger>(rt: &impl Abort, alloc: Global, line: &str, steps: &mut St
         rt,
         claims_in(alloc, &g, clusters.as_slice(), files.as_slice(), steps),
     );
-    same!(rt; claims.is_some(), row.flag(rt); case);
+    equal_at(rt, claims.is_some(), row.flag(rt), case);
     drop((claims, files, clusters));
 }
 
@@ -134,10 +134,12 @@ fn try_all<R: Threads + Sync + Abort, L: Ledger>(rt: &R, alloc: Global, blank: B
     requires some { 0 < blank.parts }
 {
     let mut steps = Steps::<L>::from_blank(blank);
-    for line in KEPT.lines() {
+    for i in 0..line_count(KEPT) {
+        let line = line_at(KEPT, i);
         try_kept(rt, alloc, line, &mut steps);
     }
-    for line in CAN.lines() {
+    for i in 0..line_count(CAN) {
+        let line = line_at(CAN, i);
         try_can(rt, alloc, line, &mut steps);
     }
 }

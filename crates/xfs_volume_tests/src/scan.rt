@@ -3,9 +3,9 @@
 
 ghost use Rattle.std.specs.Prelude.{◌≡◌, ◌<◌, ◌≤◌};
 
-use crate::checks::{must, same, sure};
+use crate::checks::{equal, must, same, sure};
 use crate::small_volume::{ROOT, put, volume};
-use crate::text::{Row, refuse, tells};
+use crate::text::{Row, line_at, line_count, refuse, tells};
 use std::alloc::Global;
 use std::marker::Brand;
 use std::process::Abort;
@@ -70,7 +70,7 @@ pub fn put_slot(
     assert!(rt; core.lsn == 0 && core.forkoff == 0 && core.flags == 0 && core.flags2 == 0);
     assert!(rt; fork.len() <= 336 && core.ino < 1024);
     fresh_slot(&volume(IDENTIFIER), &core, fork, &mut slot);
-    assert!(rt; change.0 <= 510);
+    sure(rt, change.0 <= 510, "a place");
     put16(&mut slot, change.0, change.1);
     put_checksum(&mut slot, 100);
     put_part(block, core.ino as usize % 8 * 512, &slot);
@@ -151,7 +151,7 @@ const DIRECTORIES: &str = "[DirRec { ino: 128, parent: 128, whole: true }]";
 fn evidence(rt: HostRuntime) {
     let found = seen_with(&rt, rt.alloc(), &[(137, LOST_ATTRIBUTES)]);
     tells(&rt, &found.clusters.as_slice(), CLUSTERS, "clusters");
-    same!(rt; found.slots.as_slice().len(), 64);
+    equal(&rt, found.slots.as_slice().len(), 64);
     are_files(&rt, found.seen.as_seen().files());
     tells(&rt, &found.bare.as_slice(), "[137]", "bare files");
     tells(&rt, &found.seen.as_seen().entries(), ENTRIES, "entries");
@@ -161,8 +161,8 @@ fn evidence(rt: HostRuntime) {
         DIRECTORIES,
         "directories",
     );
-    same!(rt; found.trees.as_slice().len(), 2);
-    same!(rt; found.log, LogState::Clean { head: 1 << 32 });
+    equal(&rt, found.trees.as_slice().len(), 2);
+    equal(&rt, found.log, LogState::Clean { head: 1 << 32 });
     let view = view_of(found);
     sure(
         &rt,
@@ -198,7 +198,8 @@ fn slots(rt: HostRuntime) {
     let changed = [(137, LOST_ATTRIBUTES), (139, (118, 7)), (140, (2, 0))];
     let found = seen_with(&rt, rt.alloc(), &changed);
     let slots = found.slots.as_slice();
-    for line in SLOTS.lines() {
+    for i in 0..line_count(SLOTS) {
+        let line = line_at(SLOTS, i);
         let mut row = Row::new(line);
         let place: usize = row.number(&rt);
         sure(&rt, place < slots.len(), line);

@@ -3,6 +3,7 @@
 
 ghost use Rattle.std.specs.Prelude.{◌≡◌};
 
+use crate::checks::must;
 use std::process::Abort;
 use xfs_disk::{BLOCK_SIZE, Disk};
 use xfs_geom::Geometry;
@@ -64,5 +65,5 @@ pub fn volume(identifier: [u8; 16]) -> Geometry
 /// Writes a block of a disk.
 pub fn put(rt: &impl Abort, disk: &mut MemoryDisk, place: u64, block: &[u8; BLOCK_SIZE]) {
     assert!(rt; matches!(disk.blocks(), Ok(count) if place < count));
-    assert!(rt; disk.write(place, block).is_ok());
+    must(rt, disk.write(place, block));
 }

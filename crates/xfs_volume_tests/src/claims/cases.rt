@@ -5,7 +5,7 @@ ghost use Rattle.std.specs.Prelude.{◌≡◌, ◌<◌};
 use super::sound::is_sound;
 use crate::checks::{must, sure};
 use crate::items::{Item, records, tells_numbers};
-use crate::text::{Row, refuse};
+use crate::text::{Row, line_at, line_count, refuse};
 use std::alloc::Global;
 use std::marker::Brand;
 use std::process::Abort;
@@ -126,7 +126,8 @@ fn try_cases<R: Threads + Sync + Abort, L: Ledger>(rt: &R, alloc: Global, blank:
     requires some { 0 < blank.parts }
 {
     let mut steps = Steps::<L>::from_blank(blank);
-    for line in CASES.lines() {
+    for i in 0..line_count(CASES) {
+        let line = line_at(CASES, i);
         try_case(rt, alloc, line, &mut steps);
     }
 }

@@ -3,7 +3,7 @@
 ghost use Rattle.std.specs.Prelude.{◌≡◌, ◌<◌};
 
 use super::cases::decide;
-use crate::checks::{must, same};
+use crate::checks::{equal, must};
 use crate::items::tells_numbers;
 use crate::text::Row;
 use std::alloc::Global;
@@ -102,7 +102,7 @@ fn try_one_run<R: Threads + Sync + Abort, L: Ledger>(rt: &R, alloc: Global, blan
         &mut Row::new("131"),
         "many files",
     );
-    same!(rt; kept.clusters.as_slice().len(), 3126);
+    equal(rt, kept.clusters.as_slice().len(), 3126);
     drop((kept, claims));
 }
 

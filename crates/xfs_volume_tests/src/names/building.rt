@@ -3,9 +3,9 @@
 ghost use Rattle.xfs_names.specs.Built.{CanBeBuilt};
 
 use super::wanted::wanted_of;
-use crate::checks::{must, same, sure};
+use crate::checks::{equal_at, must, sure};
 use crate::items::{Item, items};
-use crate::text::{Row, parts_of, refuse};
+use crate::text::{Row, line_at, line_count, part_at, part_count};
 use std::alloc::Global;
 use std::process::Abort;
 use xfs_disk::NoMemory;
@@ -25,7 +25,8 @@ a cycle of two | 128 4, 150 4, 151 4 | 150 151 2 x, 151 150 2 y | 128 128 true, 
 
 #[test]
 fn built_directories(rt: HostRuntime) {
-    for line in BUILT.lines() {
+    for i in 0..line_count(BUILT) {
+        let line = line_at(BUILT, i);
         try_building(&rt, line);
     }
 }
@@ -66,14 +67,10 @@ impl Item for ForkRoom {
 }
 
 /// Fails where not these directories with so many blocks were built.
-fn tells_blocks(rt: &(impl Abort + AllocGlobal), built: &[BuiltDirectory], due: &str, case: &str) {
-    let rows = parts_of(rt, due);
-    same!(rt; built.len(), rows.len(); case);
-    let mut rest = rows.iter();
-    for directory in built {
-        if let Some(row) = rest.next() {
-            tells_counts(rt, directory, *row, case);
-        }
+fn tells_blocks(rt: &impl Abort, built: &[BuiltDirectory], due: &str, case: &str) {
+    equal_at(rt, built.len(), part_count(due), case);
+    for (i, directory) in built.iter().enumerate() {
+        tells_counts(rt, directory, part_at(due, i), case);
     }
 }
 
@@ -86,13 +83,13 @@ fn tells_counts(rt: &impl Abort, directory: &BuiltDirectory, mut due: Row, case:
 
 /// Fails where these are not the short forms of those that have one.
 fn tells_shorts(rt: &(impl Abort + AllocGlobal), built: &[BuiltDirectory], due: &str, case: &str) {
-    let rows = parts_of(rt, due);
     let mut at: usize = 0;
     for directory in built {
         if directory.image.short.is_empty() {
             continue;
         }
-        let mut row = row_at(rt, &rows, at, case);
+        sure(rt, at < part_count(due), case);
+        let mut row = part_at(due, at);
         let bytes = row.bytes(rt, rt.alloc());
         sure(
             rt,
@@ -101,14 +98,7 @@ fn tells_shorts(rt: &(impl Abort + AllocGlobal), built: &[BuiltDirectory], due: 
         );
         at = at.saturating_add(1);
     }
-    same!(rt; at, rows.len(); case);
-}
-
-fn row_at<'a>(rt: &impl Abort, rows: &[Row<'a>], at: usize, case: &str) -> Row<'a> {
-    match rows.get(at) {
-        Some(row) => *row,
-        None => crate::text::refuse(rt, "more short forms than are told", case),
-    }
+    equal_at(rt, at, part_count(due), case);
 }
 
 /// Fails where the first block of one that has blocks does not hold these bytes.
@@ -116,8 +106,9 @@ fn tells_bytes(rt: &(impl Abort + AllocGlobal), built: &[BuiltDirectory], due: &
     for directory in built {
         let blocks = &directory.image.blocks;
         if blocks.len() > 0 {
-            for part in parts_of(rt, due).iter() {
-                tells_part(rt, blocks.view(0), *part, case);
+            for i in 0..part_count(due) {
+                let part = part_at(due, i);
+                tells_part(rt, blocks.view(0), part, case);
             }
         }
     }

@@ -7,7 +7,7 @@ use super::objects::one_object;
 use super::pieces::{reserved_of, tells_runs};
 use super::*;
 use crate::checks::{must, same};
-use crate::text::{Row, refuse, tells};
+use crate::text::{Row, line_at, line_count, refuse, tells};
 use std::process::Abort;
 
 /// The blocks that are spared of a volume of two groups in which only some are open, in a repair.
@@ -51,7 +51,8 @@ const AGED: &str = "\
 
 #[test]
 fn directory_placed_anew(rt: HostRuntime) {
-    for line in AGED.lines() {
+    for i in 0..line_count(AGED) {
+        let line = line_at(AGED, i);
         try_aged(&rt, line);
     }
 }

@@ -10,7 +10,7 @@ use super::objects::object;
 use super::pieces::tells_placed;
 use super::*;
 use crate::checks::{must, same};
-use crate::text::{Row, refuse, tells};
+use crate::text::{Row, line_at, line_count, refuse, tells};
 use std::process::Abort;
 
 /// Two groups of 2048 blocks, and the log at AG blocks 6 to 517 of the second.
@@ -65,7 +65,8 @@ const LARGE: &str = "\
 
 #[test]
 fn files_larger_than_a_group(rt: HostRuntime) {
-    for line in LARGE.lines() {
+    for i in 0..line_count(LARGE) {
+        let line = line_at(LARGE, i);
         try_large(&rt, line);
     }
 }
@@ -158,13 +159,15 @@ fn many_files_beside_spared_blocks(rt: HostRuntime) {
 /// Fails where the many files do not stand as they are due.
 fn tells_many(rt: &(impl Abort + AllocGlobal), placed: &Placed) {
     same!(*rt; placed.runs.as_slice().len(), 1903);
-    for line in STARTS.lines() {
+    for i in 0..line_count(STARTS) {
+        let line = line_at(STARTS, i);
         let mut row = Row::new(line);
         let run = placed.runs.as_slice().get(row.number::<usize>(rt));
         same!(*rt; run.map(|run| run.start), Some(row.number::<u64>(rt)); line);
     }
     same!(*rt; placed.counts.fdblocks, 1414);
-    for line in TREES.lines() {
+    for i in 0..line_count(TREES) {
+        let line = line_at(TREES, i);
         stand_behind(rt, placed, &mut Row::new(line), line);
     }
 }

@@ -5,8 +5,8 @@ ghost use Rattle.xfs_geom.specs.Shape.{IsShaped};
 ghost use Rattle.xfs_place.specs.Objects.{IsAsk};
 
 use super::*;
-use crate::checks::{must, same, sure};
-use crate::text::{Row, tells};
+use crate::checks::{equal, must, same, sure};
+use crate::text::{Row, line_at, line_count, tells};
 use std::fmt::Debug;
 use std::process::Abort;
 use xfs_geom::{Counts, InoRec, RmapRec, Span};
@@ -193,11 +193,12 @@ pub fn root_chunk() -> Run
 /// how many chunks have a free inode, the free list, the free runs (start and blocks), and the owners' runs (start, blocks and owner, which is
 /// of the sixteen digits fd for the file system, fc for the log, fb for the group, fa for the trees of inodes and f9 for inodes at the end).
 fn hold(rt: &(impl Abort + AllocGlobal), placed: &Placed, table: &str) {
-    for line in table.lines() {
+    for i in 0..line_count(table) {
+        let line = line_at(table, i);
         let mut row = Row::new(line);
         let ag = row.number::<usize>(rt);
         let groups = placed.groups.as_slice();
-        assert!(rt; ag < groups.len());
+        sure(rt, ag < groups.len(), line);
         holds(rt, &groups[ag], &mut row, line);
     }
 }
@@ -285,8 +286,8 @@ fn new_volume(rt: HostRuntime) {
         ifree: 61,
         fdblocks: 1516,
     };
-    same!(rt; placed.counts, counts);
-    same!(rt; placed.groups.as_slice().len(), 2);
+    equal(&rt, placed.counts, counts);
+    equal(&rt, placed.groups.as_slice().len(), 2);
     hold(&rt, &placed, NEW);
     drop(placed);
 }
@@ -302,7 +303,7 @@ fn trees_beside_reserved_blocks(rt: HostRuntime) {
     let alloc = rt.alloc();
     let reserved = must(&rt, vec![in alloc; 3, 5, 1027, 1029]);
     let placed = must(&rt, place_small(alloc, reserved, Vec::new(alloc), 1));
-    same!(rt; placed.groups.as_slice().len(), 2);
+    equal(&rt, placed.groups.as_slice().len(), 2);
     hold(&rt, &placed, BESIDE_RESERVED);
     drop(placed);
 }
@@ -341,7 +342,7 @@ fn small_last_group(rt: HostRuntime) {
         &rt,
         place_beside(alloc, &SMALL_LAST, file(1034, 54), none, Vec::new(alloc), 1),
     );
-    same!(rt; placed.groups.as_slice().len(), 2);
+    equal(&rt, placed.groups.as_slice().len(), 2);
     hold(&rt, &placed, FULL_LAST);
     drop(placed);
     let none = Vec::new(alloc);
@@ -373,7 +374,8 @@ const NEARLY_FULL: &str = "\
 
 #[test]
 fn groups_nearly_full(rt: HostRuntime) {
-    for line in NEARLY_FULL.lines() {
+    for i in 0..line_count(NEARLY_FULL) {
+        let line = line_at(NEARLY_FULL, i);
         let mut row = Row::new(line);
         let seen = seen_with(&rt, row.number::<u64>(&rt).min(12), line);
         tells(&rt, &seen, row.text(), line);
@@ -426,8 +428,8 @@ fn four_groups(rt: HostRuntime) {
         &rt,
         place_beside(alloc, &FOUR_GROUPS, root_chunk(), none, Vec::new(alloc), 1),
     );
-    same!(rt; placed.counts.fdblocks, 7648);
-    same!(rt; placed.groups.as_slice().len(), 4);
+    equal(&rt, placed.counts.fdblocks, 7648);
+    equal(&rt, placed.groups.as_slice().len(), 4);
     hold(&rt, &placed, FOUR);
     drop(placed);
 }

@@ -6,8 +6,8 @@ ghost use Rattle.xfs_place.specs.Objects.{IsAsk};
 
 use super::groups::{SMALLEST, Size, file, place_beside, place_small};
 use super::*;
-use crate::checks::{must, same, sure};
-use crate::text::{refuse, tells};
+use crate::checks::{equal, must, same, sure};
+use crate::text::{line_at, refuse, tells};
 
 /// An object that asks for runs of these lengths, and may take so many.
 pub fn object(
@@ -88,14 +88,24 @@ const LISTS: &str = "\
 fn objects_before_trees(rt: HostRuntime) {
     let placed = must(&rt, place_three(&rt, rt.alloc(), 500));
     let runs = placed.runs.as_slice();
-    same!(rt; runs.len(), 6);
-    for (run, due) in runs.iter().zip(RUNS.lines()) {
-        tells(&rt, &(run.start, run.count, run.owner), due, "a run");
+    equal(&rt, runs.len(), 6);
+    for (i, run) in runs.iter().enumerate() {
+        tells(
+            &rt,
+            &(run.start, run.count, run.owner),
+            line_at(RUNS, i),
+            "a run",
+        );
     }
     let groups = placed.groups.as_slice();
-    same!(rt; groups.len(), 2);
-    for (group, due) in groups.iter().zip(LISTS.lines()) {
-        tells(&rt, &group.agfl.as_slice(), due, "a free list");
+    equal(&rt, groups.len(), 2);
+    for (i, group) in groups.iter().enumerate() {
+        tells(
+            &rt,
+            &group.agfl.as_slice(),
+            line_at(LISTS, i),
+            "a free list",
+        );
     }
     drop(placed);
 }
@@ -186,5 +196,5 @@ fn many_free_runs(rt: HostRuntime) {
         same!(rt; blocks, Some([1, 1, 1, 1, 4]); runs);
     }
     let blocks = must(&rt, trees_beside(alloc, &LARGE, 200_000, 3000));
-    same!(rt; blocks, Some([400, 400, 1, 1, 1206]));
+    equal(&rt, blocks, Some([400, 400, 1, 1, 1206]));
 }

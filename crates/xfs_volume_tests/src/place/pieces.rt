@@ -7,7 +7,7 @@ use super::groups::{SMALLEST, place_small};
 use super::objects::one_object;
 use super::*;
 use crate::checks::must;
-use crate::text::{Row, refuse, tells};
+use crate::text::{Row, line_at, line_count, refuse, tells};
 use std::process::Abort;
 
 /// The blocks of a volume of so many, but for those of these rows, each a first block and a number of blocks.
@@ -136,7 +136,8 @@ const PIECES: &str = "\
 
 #[test]
 fn pieces_of_asks(rt: HostRuntime) {
-    for line in PIECES.lines() {
+    for i in 0..line_count(PIECES) {
+        let line = line_at(PIECES, i);
         stands(&rt, line);
     }
 }

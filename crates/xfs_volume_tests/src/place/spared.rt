@@ -7,8 +7,8 @@ use super::groups::{SMALLEST, SparedBlocks, shaped, spare_small};
 use super::objects::object;
 use super::pieces::{data_of, reserved_of, tells_placed};
 use super::*;
-use crate::checks::{must, same, sure};
-use crate::text::{Row, refuse, tells};
+use crate::checks::{equal, must, sure};
+use crate::text::{Row, line_at, line_count, refuse, tells};
 use std::process::Abort;
 
 /// Whether the volume is made anew, the rows of blocks (start and blocks) that are all of its pool, and from which AG block on those of
@@ -23,7 +23,8 @@ const SPARED: &str = "\
 
 #[test]
 fn spared_blocks(rt: HostRuntime) {
-    for line in SPARED.lines() {
+    for i in 0..line_count(SPARED) {
+        let line = line_at(SPARED, i);
         try_spared(&rt, line);
     }
 }
@@ -59,7 +60,8 @@ const BESIDE: &str = "\
 
 #[test]
 fn objects_beside_spared_blocks(rt: HostRuntime) {
-    for line in BESIDE.lines() {
+    for i in 0..line_count(BESIDE) {
+        let line = line_at(BESIDE, i);
         try_beside(&rt, line);
     }
 }
@@ -113,9 +115,9 @@ fn groups_filled_to_their_brim(rt: HostRuntime) {
     let alloc = rt.alloc();
     let all = 993 - 24 + (993 - 518);
     let placed = must(&rt, fill(&rt, alloc, all, false));
-    same!(rt; last_start(&placed), Some(1024 + 992));
+    equal(&rt, last_start(&placed), Some(1024 + 992));
     for group in placed.groups.as_slice() {
-        same!(rt; group.agfl.as_slice().len(), 6);
+        equal(&rt, group.agfl.as_slice().len(), 6);
     }
     drop(placed);
     let found = fill(&rt, alloc, all + 1, false);
@@ -126,6 +128,6 @@ fn groups_filled_to_their_brim(rt: HostRuntime) {
     );
     drop(found);
     let placed = must(&rt, fill(&rt, alloc, all + 1, true));
-    same!(rt; last_start(&placed), Some(993));
+    equal(&rt, last_start(&placed), Some(993));
     drop(placed);
 }

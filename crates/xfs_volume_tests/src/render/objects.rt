@@ -6,8 +6,8 @@ ghost use Rattle.xfs_volume_tests.specs.Rendered.{AreAsked};
 
 use super::wanted::plan_of;
 use super::{block_of, due_disk, planned_disk};
-use crate::checks::{must, same, sure};
-use crate::text::{Row, put_parts, refuse};
+use crate::checks::{equal, must, same, sure};
+use crate::text::{Row, line_at, line_count, put_parts, refuse};
 use std::alloc::{AllocError, Global};
 use std::marker::Sync;
 use std::process::Abort;
@@ -136,7 +136,8 @@ const SEALED: &str = "\
 /// The blocks that are built.
 fn built_blocks(rt: &(impl Abort + AllocGlobal), alloc: Global) -> BlockList {
     let mut bank = BlockList::make(alloc);
-    for line in BUILT.lines() {
+    for i in 0..line_count(BUILT) {
+        let line = line_at(BUILT, i);
         let mut block = [0; BLOCK_SIZE];
         put_parts(rt, &mut block, line);
         must(rt, bank.push(&block));
@@ -202,7 +203,7 @@ fn blocks_of_each_kind(rt: HostRuntime) {
     let head = block_of(&rt, &mut due_disk(&rt, alloc), 0);
     let plan = plan_each(&rt, alloc, &head);
     // both groups have five trees, and the chunk has eight blocks
-    same!(rt; plan.fresh.as_slice().len(), 10 + 8 + 8);
+    equal(&rt, plan.fresh.as_slice().len(), 10 + 8 + 8);
     for row in plan.fresh.as_slice() {
         sure(
             &rt,
@@ -211,11 +212,11 @@ fn blocks_of_each_kind(rt: HostRuntime) {
         );
     }
     let mut disk = planned_disk(&rt, alloc, &plan);
-    for (line, built) in SEALED.lines().zip(BUILT.lines()) {
-        let mut row = Row::new(line);
+    for i in 0..line_count(SEALED) {
+        let mut row = Row::new(line_at(SEALED, i));
         let place = row.number(&rt);
         let held = block_of(&rt, &mut disk, place);
-        is_built(&rt, &held, built, place, &mut row);
+        is_built(&rt, &held, line_at(BUILT, i), place, &mut row);
     }
     drop(plan);
 }
