@@ -2,6 +2,7 @@
 
 use crate::disk::CaseDisk;
 use crate::library::Shelf;
+use crate::numbers::number;
 use crate::refusal::Refusal;
 use std::alloc::{AllocError, Global};
 use std::thread::Threads;
@@ -22,6 +23,56 @@ pub struct Surroundings {
     pub shelf: Shelf,
 }
 
+impl Surroundings {
+    /// Takes a line of what a call is given: its first word, and what is behind.
+    pub fn take(&mut self, word: &str, rest: &str) -> Result<(), Refusal> {
+        match word {
+            "room" => self.room = number(rest)? as usize,
+            "input" => push_line(&mut self.input, rest)?,
+            "tail" => self.input.push_str(rest)?,
+            "unreadable" => self.unreadable = true,
+            _ => return self.shelf.take(word, rest),
+        }
+        Ok(())
+    }
+
+    /// What standard input is.
+    fn source(&self, alloc: Global) -> Result<MemorySource, Refusal> {
+        let mut input = MemorySource::make(alloc, self.input.as_bytes())?;
+        if self.unreadable {
+            input.fail(1)?;
+        }
+        Ok(input)
+    }
+}
+
+/// What a call reads, and what it puts to.
+#[derive(Drop)]
+struct Streams {
+    input: MemorySource,
+    out: MemorySink,
+    err: MemorySink,
+}
+
+impl Streams {
+    /// The streams that a call is given.
+    fn make(alloc: Global, given: &Surroundings) -> Result<Streams, Refusal> {
+        Ok(Streams {
+            input: given.source(alloc)?,
+            out: MemorySink::make(alloc, given.room)?,
+            err: MemorySink::make(alloc, 400)?,
+        })
+    }
+}
+
+/// What volumes that are made are stamped with.
+const STAMP: Stamp = Stamp {
+    seconds: 0,
+    nanos: 0,
+    generation: 0,
+    uuid: [0; 16],
+};
+
 /// What a call put and how it ended, and what is due of that.
 #[derive(Drop)]
 pub struct Call {
@@ -40,6 +91,31 @@ pub struct Due {
     pub finished: u64,
 }
 
+impl Due {
+    /// Nothing but the status 0.
+    fn none(alloc: Global) -> Due {
+        Due {
+            out: String::new(alloc),
+            err: String::new(alloc),
+            code: 0,
+            finished: 0,
+        }
+    }
+
+    /// Takes a line of what is due: its first word, and what is behind.
+    pub fn take(&mut self, word: &str, rest: &str) -> Result<(), Refusal> {
+        match word {
+            "out" => push_line(&mut self.out, rest)?,
+            "cut" => self.out.push_str(rest)?,
+            "err" => push_line(&mut self.err, rest)?,
+            "code" => self.code = number(rest)?,
+            "finished" => self.finished = number(rest)?,
+            _ => return Err(Refusal::Unknown),
+        }
+        Ok(())
+    }
+}
+
 impl Call {
     /// Makes the call of these words, with a bar between two of them. Nothing is due but the status 0.
     pub fn make(
@@ -50,32 +126,20 @@ impl Call {
         given: &Surroundings,
     ) -> Result<Call, Refusal> {
         let words = words_of(alloc, words)?;
+        let Streams {
+            mut input,
+            mut out,
+            mut err,
+        } = Streams::make(alloc, given)?;
         let mut files = given.shelf.library();
-        let mut input = MemorySource::make(alloc, given.input.as_bytes())?;
-        if given.unreadable {
-            input.fail(1)?;
-        }
-        let mut out = MemorySink::make(alloc, given.room)?;
-        let mut err = MemorySink::make(alloc, 400)?;
-        let stamp = Stamp {
-            seconds: 0,
-            nanos: 0,
-            generation: 0,
-            uuid: [0; 16],
-        };
         let status = run(
-            rt, alloc, &words, disk, &mut files, &mut input, &mut out, &mut err, &stamp, &NoGate,
+            rt, alloc, &words, disk, &mut files, &mut input, &mut out, &mut err, &STAMP, &NoGate,
         );
         Ok(Call {
             out,
             err,
             status,
-            due: Due {
-                out: String::new(alloc),
-                err: String::new(alloc),
-                code: 0,
-                finished: 0,
-            },
+            due: Due::none(alloc),
         })
     }
 
@@ -85,17 +149,37 @@ impl Call {
         Ok(self.err.bytes() == line.as_bytes() && self.status.code == 1)
     }
 
-    /// A line for each part that is not as it is due.
-    pub fn differences(&self, alloc: Global) -> Result<String, AllocError> {
-        let mut told = String::new(alloc);
-        let (out, err) = (self.due.out.as_str(), self.due.err.as_str());
-        tell_stream(alloc, &mut told, "output", self.out.bytes(), out)?;
-        tell_stream(alloc, &mut told, "error", self.err.bytes(), err)?;
-        let (code, finished) = (self.status.code as u64, self.status.finished);
-        tell_number(alloc, &mut told, "code", code, self.due.code)?;
-        tell_number(alloc, &mut told, "finished", finished, self.due.finished)?;
-        Ok(told)
+    /// Whether all parts are as they are due.
+    pub fn is_due(&self) -> bool {
+        self.out.bytes() == self.due.out.as_bytes()
+            && self.err.bytes() == self.due.err.as_bytes()
+            && self.status.code as u64 == self.due.code
+            && self.status.finished == self.due.finished
     }
+
+    /// Adds a line for each part that is not as it is due.
+    pub fn tell_differences(&self, alloc: Global, told: &mut String) -> Result<(), AllocError> {
+        let (out, err) = (self.due.out.as_str(), self.due.err.as_str());
+        tell_stream(alloc, told, "output", self.out.bytes(), out)?;
+        tell_stream(alloc, told, "error", self.err.bytes(), err)?;
+        let (code, finished) = (self.status.code as u64, self.status.finished);
+        tell_number(alloc, told, "code", code, self.due.code)?;
+        tell_number(alloc, told, "finished", finished, self.due.finished)
+    }
+}
+
+/// Adds a line, unless memory lacked for it.
+pub fn add(told: &mut String, line: Result<String, AllocError>) -> Result<(), AllocError> {
+    match line {
+        Ok(line) => told.push_str(line.as_str()),
+        Err(fault) => Err(fault),
+    }
+}
+
+/// Adds a text and the end of its line.
+fn push_line(told: &mut String, text: &str) -> Result<(), AllocError> {
+    told.push_str(text)?;
+    told.push('\n')
 }
 
 /// Adds a line where a stream does not hold what is due.
@@ -110,8 +194,8 @@ fn tell_stream(
         return Ok(());
     }
     let held = str::from_utf8(held).unwrap_or("no text");
-    let line = format!(in alloc; "  {stream} {held:?}, due {due:?}\n")?;
-    told.push_str(line.as_str())
+    let line = format!(in alloc; "  {stream} {held:?}, due {due:?}\n");
+    add(told, line)
 }
 
 /// Adds a line where a number is not the one that is due.
@@ -125,8 +209,8 @@ fn tell_number(
     if held == due {
         return Ok(());
     }
-    let line = format!(in alloc; "  {name} {held}, due {due}\n")?;
-    told.push_str(line.as_str())
+    let line = format!(in alloc; "  {name} {held}, due {due}\n");
+    add(told, line)
 }
 
 /// The words of a text, with a bar between two of them.

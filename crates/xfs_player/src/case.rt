@@ -1,10 +1,10 @@
 //! A case: a disk, calls on it, and what is due of them.
 
-use crate::calls::{Call, Surroundings};
+use crate::calls::{Call, Surroundings, add};
 use crate::library::Shelf;
 use crate::numbers::{cut, number};
 use crate::refusal::Refusal;
-use crate::stops::stop_by_steps;
+use crate::stops::{Stops, stop_by_steps};
 use crate::volume::Disks;
 use std::alloc::{AllocError, Global};
 use std::thread::Threads;
@@ -72,34 +72,32 @@ impl Case {
         rest: &str,
     ) -> Result<(), Refusal> {
         match word {
-            "then" => {
-                self.disks.due_alone = true;
-                Ok(())
-            }
+            "run" => self.run(rt, rest),
+            "stops" => self.stop(rt, rest),
+            _ => match self.disks.take(word, rest) {
+                Err(Refusal::Unknown) => self.take_given(word, rest),
+                taken => taken,
+            },
+        }
+    }
+
+    /// Takes a line that neither makes a call nor says what the disks hold.
+    fn take_given(&mut self, word: &str, rest: &str) -> Result<(), Refusal> {
+        match self.given.take(word, rest) {
+            Err(Refusal::Unknown) => self.take_due(word, rest),
+            taken => taken,
+        }
+    }
+
+    /// Takes a line of what is due.
+    fn take_due(&mut self, word: &str, rest: &str) -> Result<(), Refusal> {
+        match word {
             "unseen" => {
                 self.unseen = true;
                 Ok(())
             }
             "holds" => self.compare(rest),
-            "fail" => self.disks.held.fail(number(rest)?),
-            "halt" => {
-                self.disks.held.stop_after(number(rest)?);
-                Ok(())
-            }
-            "restart" => {
-                self.disks.held = self.disks.held.copy(self.alloc)?;
-                Ok(())
-            }
-            "run" => self.run(rt, rest),
-            "stops" => self.stop(rt, rest),
-            "room" | "input" | "tail" | "unreadable" => self.give(word, rest),
-            "file" | "text" | "more" | "below" | "many" | "library-fail" => {
-                self.given.shelf.take(word, rest)
-            }
-            _ => match self.disks.take(word, rest) {
-                Err(Refusal::Unknown) => self.expect(word, rest),
-                taken => taken,
-            },
+            _ => self.expect(word, rest),
         }
     }
 
@@ -107,54 +105,17 @@ impl Case {
     fn compare(&mut self, text: &str) -> Result<(), Refusal> {
         if !self.disks.holds(text)? {
             let line = format!(in self.alloc; "  not held: {text}\n");
-            self.add(line)?;
-        }
-        Ok(())
-    }
-
-    /// Adds a line to what is not as it is due.
-    fn add(&mut self, line: Result<String, AllocError>) -> Result<(), AllocError> {
-        match line {
-            Ok(line) => self.told.push_str(line.as_str()),
-            Err(fault) => Err(fault),
-        }
-    }
-
-    /// Takes a line of what a call is given.
-    fn give(&mut self, word: &str, rest: &str) -> Result<(), Refusal> {
-        match word {
-            "room" => self.given.room = number(rest)? as usize,
-            "input" => {
-                self.given.input.push_str(rest)?;
-                self.given.input.push('\n')?;
-            }
-            "tail" => self.given.input.push_str(rest)?,
-            "unreadable" => self.given.unreadable = true,
-            _ => return Err(Refusal::Unknown),
+            add(&mut self.told, line)?;
         }
         Ok(())
     }
 
     /// Takes a line of what is due of the last call.
     fn expect(&mut self, word: &str, rest: &str) -> Result<(), Refusal> {
-        let Some(call) = &mut self.call else {
-            return Err(Refusal::NoCall);
-        };
-        match word {
-            "out" => {
-                call.due.out.push_str(rest)?;
-                call.due.out.push('\n')?;
-            }
-            "cut" => call.due.out.push_str(rest)?,
-            "err" => {
-                call.due.err.push_str(rest)?;
-                call.due.err.push('\n')?;
-            }
-            "code" => call.due.code = number(rest)?,
-            "finished" => call.due.finished = number(rest)?,
-            _ => return Err(Refusal::Unknown),
+        match &mut self.call {
+            Some(call) => call.due.take(word, rest),
+            None => Err(Refusal::NoCall),
         }
-        Ok(())
     }
 
     /// Compares the last call, and makes another.
@@ -173,15 +134,24 @@ impl Case {
         let (due, step) = (number(due)?, number(step)?);
         let disk = &self.disks.held;
         let stops = stop_by_steps(rt, self.alloc, disk, step, words, &self.given)?;
-        if stops.writes != due {
-            let told = format!(in self.alloc; "  {} blocks written, due {due}\n", stops.writes)?;
-            self.told.push_str(told.as_str())?;
-        }
-        if let Some(written) = stops.wrong {
-            let told = format!(in self.alloc; "  wrong behind {written} writes\n")?;
-            self.told.push_str(told.as_str())?;
-        }
+        self.tell_stops(&stops, due)?;
         Ok(())
+    }
+
+    /// Tells where so many blocks were not written, and where a stop left what it must not.
+    fn tell_stops(&mut self, stops: &Stops, due: u64) -> Result<(), AllocError> {
+        let Stops { writes, wrong } = *stops;
+        if writes != due {
+            let line = format!(in self.alloc; "  {writes} blocks written, due {due}\n");
+            add(&mut self.told, line)?;
+        }
+        match wrong {
+            Some(written) => add(
+                &mut self.told,
+                format!(in self.alloc; "  wrong behind {written} writes\n"),
+            ),
+            None => Ok(()),
+        }
     }
 
     /// Tells what of the last call is not as it is due.
@@ -194,28 +164,22 @@ impl Case {
 
     /// Tells what of a call is not as it is due.
     fn tell_call(&mut self, call: &Call) -> Result<(), AllocError> {
-        let differences = call.differences(self.alloc)?;
-        if differences.is_empty() {
+        if call.is_due() {
             return Ok(());
         }
         let place = format!(in self.alloc; "  call {}:\n", self.calls);
-        self.add(place)?;
-        self.told.push_str(differences.as_str())
+        add(&mut self.told, place)?;
+        call.tell_differences(self.alloc, &mut self.told)
     }
 
     /// Tells that a line can't be done.
     pub fn tell(&mut self, line: &str, refusal: Refusal) -> Result<(), AllocError> {
         let told = format!(in self.alloc; "  {line}: {refusal}\n");
-        self.add(told)
+        add(&mut self.told, told)
     }
 
-    /// Ends the case, and says how it went.
-    pub fn end(mut self) -> Result<String, AllocError> {
-        self.finish()
-    }
-
-    /// Compares the last call and the disks, and says how the case went.
-    fn finish(&mut self) -> Result<String, AllocError> {
+    /// Ends the case: compares the last call and the disks, and says how it went.
+    pub fn end(&mut self) -> Result<String, AllocError> {
         self.end_call()?;
         if self.calls == 0 {
             self.told.push_str("  no call\n")?;

@@ -84,6 +84,17 @@ impl CaseDisk {
         Ok(())
     }
 
+    /// Whether a block in memory holds these bytes from an offset on.
+    pub fn holds(&self, place: u64, from: usize, bytes: &[u8]) -> Result<bool, Refusal> {
+        let Some(block) = self.image().chunks(BLOCK_SIZE).nth(place as usize) else {
+            return Err(Refusal::Outside);
+        };
+        if from > block.len() || bytes.len() > block.len() - from {
+            return Err(Refusal::Outside);
+        }
+        Ok(&block[from..from + bytes.len()] == bytes)
+    }
+
     /// Writes over a block in memory what another one holds.
     pub fn copy_block(&mut self, to: u64, from: u64) -> Result<(), Refusal> {
         let mut block = [0; BLOCK_SIZE];

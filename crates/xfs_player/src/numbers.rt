@@ -18,6 +18,22 @@ pub fn number(text: &str) -> Result<u64, Refusal> {
     }
 }
 
+/// The numbers that the words of a text are, which are as many as these.
+pub fn numbers<const N: usize>(text: &str) -> Result<[u64; N], Refusal> {
+    let mut numbers = [0; N];
+    let mut rest = text;
+    for place in &mut numbers {
+        let (word, behind) = cut(rest);
+        *place = number(word)?;
+        rest = behind;
+    }
+    if rest.is_empty() {
+        Ok(numbers)
+    } else {
+        Err(Refusal::Malformed)
+    }
+}
+
 /// The byte that a text of two hexadecimal digits states.
 pub fn read_byte(text: &str) -> Result<u8, Refusal> {
     match byte_of(text.as_bytes()) {

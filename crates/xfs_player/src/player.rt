@@ -52,13 +52,12 @@ impl Player {
 
     /// Ends the case that has begun, and prints how it went.
     pub fn end_case(&mut self, rt: &impl Print) -> io::Result<()> {
-        match self.case.take() {
-            Some(case) => {
-                let told = case.end()?;
-                println!(rt; "{told}")
-            }
-            None => Ok(()),
-        }
+        let told = match &mut self.case {
+            Some(case) => case.end()?,
+            None => return Ok(()),
+        };
+        self.case = None;
+        println!(rt; "{told}")
     }
 
     /// Tells that a line can't be done.

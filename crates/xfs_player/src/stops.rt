@@ -38,7 +38,7 @@ pub fn stop_by_steps(
     given: &Surroundings,
 ) -> Result<Stops, Refusal> {
     let mut whole = disk.copy(alloc)?;
-    let _call = Call::make(rt, alloc, &mut whole, words, given)?;
+    drop(Call::make(rt, alloc, &mut whole, words, given)?);
     let writes = whole.writes();
     let mut before = disk.copy(alloc)?;
     let (mut done, mut place) = (0, 0);
@@ -51,9 +51,12 @@ pub fn stop_by_steps(
         stopped.stop_after(written);
         let call = Call::make(rt, alloc, &mut stopped, words, given)?;
         let changes = changes_between(before.image(), stopped.image(), whole.image());
-        let in_order = changes.is_some_and(|c| {
-            c.count == written.saturating_sub(done) && c.is_behind(place, written == writes)
-        });
+        let in_order = is_in_order(
+            changes,
+            written.saturating_sub(done),
+            place,
+            written == writes,
+        );
         if !in_order || !call.tells_fault(alloc, written)? {
             return Ok(Stops {
                 writes,
@@ -80,6 +83,14 @@ impl Changes {
             None => true,
         };
         rest && (at_end || !self.begins)
+    }
+}
+
+/// Whether so many blocks changed, and come behind a block, and block 0 in the end alone.
+fn is_in_order(changes: Option<Changes>, count: u64, place: usize, at_end: bool) -> bool {
+    match changes {
+        Some(changes) => changes.count == count && changes.is_behind(place, at_end),
+        None => false,
     }
 }
 

@@ -3,7 +3,7 @@
 ghost use Rattle.std.specs.Prelude.{◌<◌};
 
 use crate::disk::CaseDisk;
-use crate::numbers::{cut, number, read_byte, read_bytes};
+use crate::numbers::{cut, number, numbers, read_byte, read_bytes};
 use crate::refusal::Refusal;
 use crate::vast::put_chunks;
 use std::alloc::Global;
@@ -22,7 +22,7 @@ pub struct Disks {
     pub held: CaseDisk,
     pub due: CaseDisk,
     /// Whether lines change what is due alone.
-    pub due_alone: bool,
+    due_alone: bool,
 }
 
 impl Disks {
@@ -41,8 +41,20 @@ impl Disks {
         self.held.image() == self.due.image()
     }
 
-    /// Takes a line of what the disks hold: its first word, and what is behind.
+    /// Takes a line of the disks: its first word, and what is behind.
     pub fn take(&mut self, word: &str, rest: &str) -> Result<(), Refusal> {
+        match word {
+            "then" => self.due_alone = true,
+            "fail" => self.held.fail(number(rest)?)?,
+            "halt" => self.held.stop_after(number(rest)?),
+            "restart" => self.held = self.held.copy(self.alloc)?,
+            _ => return self.fill(word, rest),
+        }
+        Ok(())
+    }
+
+    /// Takes a line of what the disks hold.
+    fn fill(&mut self, word: &str, rest: &str) -> Result<(), Refusal> {
         match word {
             "zeros" => self.zeros(rest),
             "filled" => self.filled(rest),
@@ -66,10 +78,16 @@ impl Disks {
         } else {
             number(blocks)?
         };
+        let due = CaseDisk::make(self.alloc, held, blocks)?;
+        self.replace(due)
+    }
+
+    /// Makes both disks, or what is due alone, as this one.
+    fn replace(&mut self, due: CaseDisk) -> Result<(), Refusal> {
+        self.due = due;
         if !self.due_alone {
-            self.held = CaseDisk::make(self.alloc, held, blocks)?;
+            self.held = self.due.copy(self.alloc)?;
         }
-        self.due = CaseDisk::make(self.alloc, held, blocks)?;
         Ok(())
     }
 
@@ -77,40 +95,26 @@ impl Disks {
     fn filled(&mut self, text: &str) -> Result<(), Refusal> {
         let (blocks, digits) = cut(text);
         let (blocks, byte) = (number(blocks)?, read_byte(digits)?);
-        if !self.due_alone {
-            self.held = CaseDisk::filled(self.alloc, blocks, byte)?;
-        }
-        self.due = CaseDisk::filled(self.alloc, blocks, byte)?;
-        Ok(())
+        let due = CaseDisk::filled(self.alloc, blocks, byte)?;
+        self.replace(due)
     }
 
     /// `bytes BLOCK OFFSET DIGITS`: writes bytes over those that a block holds.
     fn bytes(&mut self, text: &str) -> Result<(), Refusal> {
-        let (place, rest) = cut(text);
-        let (from, digits) = cut(rest);
-        let bytes = read_bytes(self.alloc, digits)?;
-        self.put(number(place)?, number(from)? as usize, bytes.as_slice())
+        let part = read_part(self.alloc, text)?;
+        self.put(part.place, part.from, part.bytes.as_slice())
     }
 
     /// `BLOCK OFFSET DIGITS`: whether a block holds these bytes from an offset on.
     pub fn holds(&self, text: &str) -> Result<bool, Refusal> {
-        let (place, rest) = cut(text);
-        let (from, digits) = cut(rest);
-        let due = read_bytes(self.alloc, digits)?;
-        let (place, from) = (number(place)?, number(from)? as usize);
-        let Some(block) = self.held.image().chunks(BLOCK_SIZE).nth(place as usize) else {
-            return Err(Refusal::Outside);
-        };
-        if from > block.len() || due.len() > block.len() - from {
-            return Err(Refusal::Outside);
-        }
-        Ok(&block[from..from + due.len()] == due.as_slice())
+        let part = read_part(self.alloc, text)?;
+        self.held
+            .holds(part.place, part.from, part.bytes.as_slice())
     }
 
     /// `copy TO FROM`: writes over a block what another holds.
     fn copy(&mut self, text: &str) -> Result<(), Refusal> {
-        let (to, from) = cut(text);
-        let (to, from) = (number(to)?, number(from)?);
+        let [to, from] = numbers::<2>(text)?;
         if !self.due_alone {
             self.held.copy_block(to, from)?;
         }
@@ -119,8 +123,8 @@ impl Disks {
 
     /// `slots FROM TO`: writes free slots of inodes into the blocks from one on, as far as another.
     fn slots(&mut self, text: &str) -> Result<(), Refusal> {
-        let (from, to) = cut(text);
-        for place in number(from)?..number(to)? {
+        let [from, to] = numbers::<2>(text)?;
+        for place in from..to {
             for slot in 0..8u64 {
                 self.put(
                     place,
@@ -134,8 +138,8 @@ impl Disks {
 
     /// `pipes FROM TO`: writes the slots of pipes of one link, of the inodes from one on, as far as another.
     fn pipes(&mut self, text: &str) -> Result<(), Refusal> {
-        let (from, to) = cut(text);
-        for ino in number(from)?..number(to)? {
+        let [from, to] = numbers::<2>(text)?;
+        for ino in from..to {
             self.put(ino / 8, 512 * (ino % 8) as usize, &pipe_slot(ino))?;
         }
         Ok(())
@@ -144,12 +148,8 @@ impl Disks {
     /// `entries BLOCK OFFSET NAME INODE COUNT`: writes so many entries of a directory from an offset of a block on, whose names are `n` and
     /// five digits, those of NAME first, and which name pipes, the inode first.
     fn entries(&mut self, text: &str) -> Result<(), Refusal> {
-        let (place, rest) = cut(text);
-        let (from, rest) = cut(rest);
-        let (name, rest) = cut(rest);
-        let (ino, count) = cut(rest);
-        let (place, from, name, ino) = (number(place)?, number(from)?, number(name)?, number(ino)?);
-        for i in 0..number(count)? {
+        let [place, from, name, ino, count] = numbers::<5>(text)?;
+        for i in 0..count {
             let tag = from.wrapping_add(i.wrapping_mul(ENTRY_SIZE as u64));
             let entry = pipe_entry(
                 name.wrapping_add(i),
@@ -165,8 +165,9 @@ impl Disks {
     fn cycles(&mut self, text: &str) -> Result<(), Refusal> {
         let (from, rest) = cut(text);
         let (to, digits) = cut(rest);
+        let (from, to) = (number(from)?, number(to)?);
         let cycle = read_bytes(self.alloc, digits)?;
-        for place in number(from)?..number(to)? {
+        for place in from..to {
             for sector in 0..8usize {
                 self.put(place, 512 * sector, cycle.as_slice())?;
             }
@@ -181,6 +182,23 @@ impl Disks {
         }
         self.due.put(place, from, bytes)
     }
+}
+
+/// Bytes of a block, from an offset on.
+#[derive(Drop)]
+struct Part {
+    place: u64,
+    from: usize,
+    bytes: Vec<u8>,
+}
+
+/// The part that `BLOCK OFFSET DIGITS` states.
+fn read_part(alloc: Global, text: &str) -> Result<Part, Refusal> {
+    let (place, rest) = cut(text);
+    let (from, digits) = cut(rest);
+    let (place, from) = (number(place)?, number(from)? as usize);
+    let bytes = read_bytes(alloc, digits)?;
+    Ok(Part { place, from, bytes })
 }
 
 /// The bytes of an entry with a name of six bytes.
