@@ -149,11 +149,18 @@ fn attr_lists(alloc: Global, fork: AttrHeld) -> Result<AttrLists, AllocError>
 }
 
 /// The lists of an attribute fork with these attributes and these extents.
-fn with_extents(alloc: Global, attrs: Few<Attr>, extents: Vec<Extent>) -> Result<AttrLists, AllocError>
+fn with_extents(
+    alloc: Global,
+    attrs: Few<Attr>,
+    extents: Vec<Extent>,
+) -> Result<AttrLists, AllocError>
     ensures { IfOk result (λ lists. lists ≡ record { attrs = attrs; attr_extents = extents.items }) }
 {
     match Few::from_vec(alloc, extents) {
-        Ok(attr_extents) => Ok(AttrLists { attrs, attr_extents }),
+        Ok(attr_extents) => Ok(AttrLists {
+            attrs,
+            attr_extents,
+        }),
         Err(error) => Err(error),
     }
 }

@@ -56,7 +56,7 @@ returns-then-not-has_root-clause-first c =
     let place = c.args.place in
     let blocks = c.args.blocks in
     let stands : (place % v.agblocks == 0 && nat_lt place v.dblocks) ≡ true =
-        λ i. eq-eqb (place % v.agblocks) 0 c.if-place-self-ne0.false i && lt-ltb place v.dblocks c.if-place-self.false i in
+    λ i. eq-eqb (place % v.agblocks) 0 c.if-place-self-ne0.false i && lt-ltb place v.dblocks c.if-place-self.false i in
     let fits : nat_le v.dblocks blocks ≡ true = le-leb v.dblocks blocks c.if-self-blocks.false in
     let rooted : has_root v ≡ false = sym c.has_root.ensures.value ∙ c.if-not-has_root.true in
     sym (λ i. first_of (stands i) (fits i) (rooted i) (is_system_inode place (v.rootino + 1) v.rbmino) (is_system_inode place (v.rootino + 2) v.rsumino))
@@ -68,7 +68,7 @@ returns-then-not-is_system_inode-clause-first c =
     let place = c.args.place in
     let blocks = c.args.blocks in
     let stands : (place % v.agblocks == 0 && nat_lt place v.dblocks) ≡ true =
-        λ i. eq-eqb (place % v.agblocks) 0 c.if-place-self-ne0.false i && lt-ltb place v.dblocks c.if-place-self.false i in
+    λ i. eq-eqb (place % v.agblocks) 0 c.if-place-self-ne0.false i && lt-ltb place v.dblocks c.if-place-self.false i in
     let fits : nat_le v.dblocks blocks ≡ true = le-leb v.dblocks blocks c.if-self-blocks.false in
     let rooted : has_root v ≡ true = sym c.has_root.ensures.value ∙ c.if-not-has_root.false in
     let second : is_system_inode place (v.rootino + 1) v.rbmino ≡ false = sym c.is_system_inode.ensures ∙ c.if-not-is_system_inode.true in
@@ -81,7 +81,7 @@ returns-then-not-is_system_inode-2-clause-first c =
     let place = c.args.place in
     let blocks = c.args.blocks in
     let stands : (place % v.agblocks == 0 && nat_lt place v.dblocks) ≡ true =
-        λ i. eq-eqb (place % v.agblocks) 0 c.if-place-self-ne0.false i && lt-ltb place v.dblocks c.if-place-self.false i in
+    λ i. eq-eqb (place % v.agblocks) 0 c.if-place-self-ne0.false i && lt-ltb place v.dblocks c.if-place-self.false i in
     let fits : nat_le v.dblocks blocks ≡ true = le-leb v.dblocks blocks c.if-self-blocks.false in
     let rooted : has_root v ≡ true = sym c.has_root.ensures.value ∙ c.if-not-has_root.false in
     let second : is_system_inode place (v.rootino + 1) v.rbmino ≡ true = sym c.is_system_inode.ensures ∙ c.if-not-is_system_inode.false in
@@ -95,7 +95,7 @@ returns-clause-first c =
     let place = c.args.place in
     let blocks = c.args.blocks in
     let stands : (place % v.agblocks == 0 && nat_lt place v.dblocks) ≡ true =
-        λ i. eq-eqb (place % v.agblocks) 0 c.if-place-self-ne0.false i && lt-ltb place v.dblocks c.if-place-self.false i in
+    λ i. eq-eqb (place % v.agblocks) 0 c.if-place-self-ne0.false i && lt-ltb place v.dblocks c.if-place-self.false i in
     let fits : nat_le v.dblocks blocks ≡ true = le-leb v.dblocks blocks c.if-self-blocks.false in
     let rooted : has_root v ≡ true = sym c.has_root.ensures.value ∙ c.if-not-has_root.false in
     let second : is_system_inode place (v.rootino + 1) v.rbmino ≡ true = sym c.is_system_inode.ensures ∙ c.if-not-is_system_inode.false in
