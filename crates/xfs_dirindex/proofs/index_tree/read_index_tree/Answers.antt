@@ -1,3 +1,4 @@
+use Rattle.std.proofs.lemmas.Result.{IfOk-from_err}
 use Rattle.std.proofs.Common.{◌≡◌, suc, ◌-◌, true, false, List, ◌++◌, arith, sym, ap, subst, ◌∙◌}
 use Rattle.xfs_dirindex.specs.declared.pairs.Pair.{Pair}
 use Rattle.xfs_dirindex.specs.Mapped.{Mapped, mapped}
@@ -25,3 +26,48 @@ loop-level-preserved c =
       pairs = ap (λ (xs : List Pair). leaf_pairs ms (c.loop-level.level - 1) xs) made
           ∙ pairs-step ms c.loop-level.level (c.loop-level.level - 1) c.loop-level.links.items (all_leaf_pairs ms) next c.loop-level.invariant.pairs;
     }
+
+pub returns-in_err-links-clause-sound : goal.returns-in_err-links-clause-sound
+returns-in_err-links-clause-sound c = IfOk-from_err c.from_residual.result _ c.from_residual.ensures.0
+
+pub returns-in_err-links-clause-places : goal.returns-in_err-links-clause-places
+returns-in_err-links-clause-places c = IfOk-from_err c.from_residual.result _ c.from_residual.ensures.0
+
+pub returns-in_err-links-clause-pairs : goal.returns-in_err-links-clause-pairs
+returns-in_err-links-clause-pairs c = IfOk-from_err c.from_residual.result _ c.from_residual.ensures.0
+
+pub returns-in-Err-clause-sound : goal.returns-in-Err-clause-sound
+returns-in-Err-clause-sound c = tt
+
+pub returns-in-Err-clause-places : goal.returns-in-Err-clause-places
+returns-in-Err-clause-places c = tt
+
+pub returns-in-Err-clause-pairs : goal.returns-in-Err-clause-pairs
+returns-in-Err-clause-pairs c = tt
+
+pub returns-in-Err-take_level-clause-sound : goal.returns-in-Err-take_level-clause-sound
+returns-in-Err-take_level-clause-sound c = tt
+
+pub returns-in-Err-take_level-clause-places : goal.returns-in-Err-take_level-clause-places
+returns-in-Err-take_level-clause-places c = tt
+
+pub returns-in-Err-take_level-clause-pairs : goal.returns-in-Err-take_level-clause-pairs
+returns-in-Err-take_level-clause-pairs c = tt
+
+pub index_level-level-requires-clause-mapped : goal.index_level-level-requires-clause-mapped
+index_level-level-requires-clause-mapped c = c.requires.mapped
+
+pub index_level-level-requires-clause-ascending : goal.index_level-level-requires-clause-ascending
+index_level-level-requires-clause-ascending c = c.requires.ascending
+
+pub take_level-requires-clause-mapped : goal.take_level-requires-clause-mapped
+take_level-requires-clause-mapped c = c.requires.mapped
+
+pub take_level-requires-clause-ascending : goal.take_level-requires-clause-ascending
+take_level-requires-clause-ascending c = c.requires.ascending
+
+pub take_level-requires-2-clause-mapped : goal.take_level-requires-2-clause-mapped
+take_level-requires-2-clause-mapped c = c.requires.mapped
+
+pub take_level-requires-2-clause-ascending : goal.take_level-requires-2-clause-ascending
+take_level-requires-2-clause-ascending c = c.requires.ascending
