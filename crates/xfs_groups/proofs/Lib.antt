@@ -12,3 +12,4 @@ pub mod Lengths
 pub mod Grouped
 pub mod Taken
 pub mod Fronts
+mod Lacking

@@ -1,7 +1,7 @@
 //! Why groups are not read.
 
 /// Why groups are not read.
-#[derive(Clone, Copy, PartialEq, Eq)]
+#[derive(Clone, Copy)]
 pub enum GroupsFault {
     /// A read failed.
     ReadFault,

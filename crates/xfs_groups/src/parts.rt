@@ -1,11 +1,11 @@
 //! A group from its parts.
 
-ghost use Rattle.std.specs.Prelude.{◌≡◌, List, Result, IfOk};
+ghost use Rattle.std.specs.Prelude.{◌≡◌, ℕ, List, Result, Ok, IfOk};
 ghost use Rattle.xfs_heads.specs.declared.free_list.Agfl.{Agfl};
 ghost use Rattle.xfs_heads.specs.declared.free_space.Agf.{Agf};
 ghost use Rattle.xfs_heads.specs.declared.inodes.Agi.{Agi};
 ghost use Rattle.xfs_image.specs.Groups.{group_record};
-ghost use Rattle.xfs_groups.specs.Private.Parts.{group_with, with_trees};
+ghost use Rattle.xfs_groups.specs.Private.Parts.{first_lacking, group_with, unless_there};
 
 use crate::heads::Heads;
 use crate::trees::{TreeSeen, Trees};
@@ -25,28 +25,44 @@ pub(crate) fn group_with(
 ) -> Result<Result<GroupRec, Finding>, NoMemory>
     ensures { IfOk result (λ group. group ≡ group_with ag heads.now trees) }
 {
-    let Some(agf) = &heads.agf else {
-        return Ok(Err(lacking(1, ag)));
-    };
-    let Some(agi) = &heads.agi else {
-        return Ok(Err(lacking(2, ag)));
-    };
-    match &heads.agfl {
-        None => Ok(Err(lacking(3, ag))),
-        Some(agfl) => with_trees(alloc, ag, agf, agi, agfl, trees),
+    let part = first_lacking(heads, &trees);
+    if part != 0 {
+        return Ok(Err(lacking(part, ag)));
+    }
+    match whole_group(alloc, heads, trees) {
+        Ok(group) => Ok(Ok(group)),
+        Err(NoMemory) => Err(NoMemory),
     }
 }
 
-/// A group with these headers whose trees are these, or the first of the trees that is not there.
-fn with_trees(
-    alloc: Global,
-    ag: u32,
-    agf: &Agf,
-    agi: &Agi,
-    agfl: &Agfl,
-    trees: Trees,
-) -> Result<Result<GroupRec, Finding>, NoMemory>
-    ensures { IfOk result (λ group. group ≡ with_trees ag agf.now agi.now agfl.now trees) }
+/// The first of the eight parts of a group that is not there, or 0.
+fn first_lacking(heads: &Heads, trees: &Trees) -> u8
+    ensures { result ≡ first_lacking heads.now trees.now }
+{
+    let rmap = unless_there(&trees.rmap, 8, 0);
+    let fino = unless_there(&trees.fino, 7, rmap);
+    let ino = unless_there(&trees.ino, 6, fino);
+    let cnt = unless_there(&trees.cnt, 5, ino);
+    let bno = unless_there(&trees.bno, 4, cnt);
+    let agfl = unless_there(&heads.agfl, 3, bno);
+    let agi = unless_there(&heads.agi, 2, agfl);
+    unless_there(&heads.agf, 1, agi)
+}
+
+/// The number of a part that is not there, or else that of a later one.
+fn unless_there<A>(part: &Option<A>, number: u8, later: u8) -> u8
+    ensures { result ≡ unless_there part.now number later }
+{
+    match part {
+        None => number,
+        Some(_) => later,
+    }
+}
+
+/// A group of which no part is lacking.
+fn whole_group(alloc: Global, heads: &Heads, trees: Trees) -> Result<GroupRec, NoMemory>
+    requires { first_lacking heads.now trees ≡ 0 }
+    ensures { IfOk result (λ group. (ag : ℕ) → Ok group ≡ group_with ag heads.now trees) }
 {
     let Trees {
         bno,
@@ -55,23 +71,18 @@ fn with_trees(
         fino,
         rmap,
     } = trees;
-    let Some(bno) = bno else {
-        return Ok(Err(lacking(4, ag)));
-    };
-    let Some(cnt) = cnt else {
-        return Ok(Err(lacking(5, ag)));
-    };
-    let Some(ino) = ino else {
-        return Ok(Err(lacking(6, ag)));
-    };
-    let Some(fino) = fino else {
-        return Ok(Err(lacking(7, ag)));
-    };
-    let Some(rmap) = rmap else {
-        return Ok(Err(lacking(8, ag)));
-    };
-    let group = group_of(alloc, agf, agi, agfl, bno, cnt, ino, fino, rmap)?;
-    Ok(Ok(group))
+    let agf = heads.agf.unwrap();
+    let agi = heads.agi.unwrap();
+    let agfl = heads.agfl.unwrap();
+    let bno = bno.unwrap();
+    let cnt = cnt.unwrap();
+    let ino = ino.unwrap();
+    let fino = fino.unwrap();
+    let rmap = rmap.unwrap();
+    match group_of(alloc, &agf, &agi, &agfl, bno, cnt, ino, fino, rmap) {
+        Ok(group) => Ok(group),
+        Err(NoMemory) => Err(NoMemory),
+    }
 }
 
 /// A group with these headers and trees.
