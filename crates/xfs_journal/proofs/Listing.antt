@@ -17,6 +17,12 @@ rest_none i n item end =
     let none : n - i ≡ 0 = omega arith in
     ap (λ k. map item (range_with_len i k)) none
 
+-- all of them
+pub rest_whole : {A : Type 0} (n : ℕ) (item : ℕ → A) → rest_of 0 n item ≡ map item (range_with_len 0 n)
+rest_whole n item =
+    let all : n - 0 ≡ n = omega arith in
+    ap (λ k. map item (range_with_len 0 k)) all
+
 -- a list grows by what stands first of the rest
 pub grown : {A : Type 0} (old new part rest rest' all : List A) → new ≡ old ++ part → rest ≡ part ++ rest' → old ++ rest ≡ all → new ++ rest' ≡ all
 grown old new part rest rest' all more split held =

@@ -1,10 +1,11 @@
 //! The places of log sequence numbers in the blocks of a fork.
 
-ghost use Rattle.std.specs.Prelude.{◌≡◌, ◌+◌, ◌^◌, ◌≤◌, ◌<◌, ◌++◌, length, OnOk, SomeIff};
+ghost use Rattle.std.specs.Prelude.{◌≡◌, ◌+◌, ◌^◌, ◌≤◌, ◌<◌, ◌++◌, true, length, OnOk, SomeIff};
 ghost use Rattle.std.specs.List.{All};
 ghost use Rattle.xfs_geom.specs.Groups.{block_of_address};
 ghost use Rattle.xfs_geom.specs.Volumes.{volume_of};
-ghost use Rattle.xfs_image.specs.Lsns.{dir_byte, extent_places};
+ghost use Rattle.xfs_image.specs.Lsns.{at, dir_byte, extent_places};
+ghost use Rattle.xfs_tree.specs.Blocks.{each_of};
 ghost use Rattle.xfs_journal.specs.Placed.{IsInBlock, byte_of, fork_places, listed};
 
 use crate::places::{LsnPosition, push};
@@ -27,7 +28,7 @@ const INDEX_START: u64 = 0x80_0000;
 const INDEX_END: u64 = 0x100_0000;
 
 /// What the blocks of a fork belong to.
-#[derive(Clone, Copy, PartialEq, Eq)]
+#[derive(Clone, Copy)]
 pub enum Owner {
     Directory,
     Link,
@@ -64,13 +65,37 @@ fn push_extent(
     ensures inside { All IsInBlock places.new.items }
 {
     let start = start_of(g, extent.start);
-    if sum_of(start, extent.count).is_none() || sum_of(extent.offset, extent.count).is_none() {
+    if !have_sums(start, extent.offset, extent.count) {
         return Err(NoMemory);
     }
-    for i in 0..extent.count {
-        push(start + i, byte_of(owner, extent.offset + i), places)?;
+    push_run(owner, start, extent.offset, extent.count, places)
+}
+
+/// Adds the places of so many blocks from one on, the first of which has this number in the file.
+fn push_run(
+    owner: Owner,
+    start: u64,
+    offset: u64,
+    count: u64,
+    places: &mut Vec<LsnPosition>,
+) -> Result<(), NoMemory>
+    requires blocks { start + count < 2 ^ 64 }
+    requires file { offset + count < 2 ^ 64 }
+    requires inside { All IsInBlock places.old.items }
+    ensures listed { OnOk result (listed places.new.items ≡ listed places.old.items ++ each_of count (λ i. at (byte_of owner (offset + i)) (start + i))) }
+    ensures inside { All IsInBlock places.new.items }
+{
+    for i in 0..count {
+        push(start + i, byte_of(owner, offset + i), places)?;
     }
     Ok(())
+}
+
+/// Whether eight bytes hold the sums of a count and of each of two numbers.
+fn have_sums(start: u64, offset: u64, count: u64) -> bool
+    ensures { result ≡ true → (start + count < 2 ^ 64) × (offset + count < 2 ^ 64) }
+{
+    sum_of(start, count).is_some() && sum_of(offset, count).is_some()
 }
 
 /// The sum of two numbers, just where eight bytes hold it.
