@@ -1,3 +1,4 @@
+mod Answered
 mod Counting
 mod Refusing
 mod Rounds

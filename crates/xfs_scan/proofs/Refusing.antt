@@ -1,6 +1,7 @@
 -- What is refused late, and what the evidence is, from what is gathered.
-use Rattle.std.proofs.Common.{◌≡◌, ℕ, ◌^◌, List, length, Option, Some, sym, ap, ap₂, ◌∙◌}
+use Rattle.std.proofs.Common.{◌≡◌, ℕ, ◌*◌, ◌^◌, ◌<◌, ◌≤◌, Bool, true, false, if◌then◌else◌, nat_lt, List, length, Option, Some, None, refl, sym, ap, ap₂, subst, ◌∙◌, arith}
 use Rattle.std.specs.List.{flat_map, sum_by}
+use Rattle.std.proofs.lemmas.Bool.{cond-true, cond-false, le-ltb, lt-ltb}
 use Rattle.xfs_disk.specs.Blocks.{Image}
 use Rattle.xfs_geom.specs.Volumes.{Volume, volume_of}
 use Rattle.xfs_geom.specs.declared.geometry.Geometry.{Geometry}
@@ -8,18 +9,19 @@ use Rattle.xfs_groups.specs.declared.groups.Groups.{Groups}
 use Rattle.xfs_heads.specs.declared.log.state.LogState.{LogState}
 use Rattle.xfs_volume.specs.declared.clusters.ClusterRec.{ClusterRec}
 use Rattle.xfs_image.specs.Candidates.{candidates}
-use Rattle.xfs_image.specs.Claims.{candidate_files, candidate_inodes, entry_count, total_extents}
+use Rattle.xfs_image.specs.Claims.{candidate_files, candidate_inodes, entry_count, inode_count, total_extents}
 use Rattle.xfs_image.specs.Directories.{dirs_read, entries_read}
 use Rattle.xfs_image.specs.Slots.{cluster_inodes}
 use Rattle.xfs_image.specs.View.{log_of, view}
 use Rattle.xfs_scan.specs.Evidence.{AreSeen, SeesInodes, IsEvidence, joined_parts, view_seen}
 use Rattle.xfs_slots.specs.Facts.{slot_facts}
 use Rattle.xfs_slots.specs.Gathered.{Gathered, bare_inodes, first_feature, gathered, held_in}
-use Rattle.xfs_scan.specs.Refused.{extents_of, feature_refused, refused_late, unless_more}
+use Rattle.xfs_scan.specs.Refused.{extents_of, feature_refused, late_in, refused, refused_late, unless_more}
 use Rattle.xfs_scan.specs.declared.evidence.Seen.{Seen}
 use Rattle.xfs_rounds.specs.declared.facts.SlotFact.{SlotFact}
+use Rattle.xfs_slots.specs.declared.inodes.InodeFeature.{InodeFeature}
 use Rattle.xfs_slots.specs.declared.inodes.Inodes.{Inodes}
-use Rattle.xfs_scan.specs.Answers.{IsRefusal}
+use Rattle.xfs_scan.specs.Answers.{IsLateRefusal}
 use Rattle.xfs_scan.specs.declared.faults.ScanFault.{ScanFault}
 use Rattle.xfs_scan.specs.declared.faults.ScanFault.TheVariants as faults
 use Rattle.xfs_slots.proofs.Gathering.{all_bare, all_files, dirs_of_files, entries_of_files, first_found}
@@ -78,9 +80,43 @@ is_evidence g image groups slots bare inodes seen log read facts copied held kep
   log = logged;
 }
 
--- a refusal that is due
-pub refusal_from : (due : Option ScanFault) (fault : ScanFault) → due ≡ Some fault → IsRefusal due fault
-refusal_from due faults.ReadFault is = tt
-refusal_from due (faults.TooLarge what count) is = is
-refusal_from due (faults.UnsupportedFile ino what) is = is
-refusal_from due faults.NoMemory is = tt
+-- inodes that are too many, and those that are not
+module _ (v : Volume) (image : Image) (clusters : List ClusterRec) (count : ℕ) (same : clusters ≡ candidates v image) (counted : count ≡ 32 * length clusters) where
+  all_inodes : count ≡ inode_count v image
+  unfolding inode_count
+  all_inodes = counted ∙ ap (λ (cs : List ClusterRec). 32 * length cs) same
+
+  pub refused_many : 2 ^ 21 < count → refused v image ≡ Some (faults.TooLarge 1 count)
+  unfolding refused
+  refused_many more =
+      ap (λ (n : ℕ). unless_more (2 ^ 21) 1 n (refused_late v image)) (sym all_inodes)
+      ∙ cond-true (nat_lt (2 ^ 21) count) (Some (faults.TooLarge 1 count)) (refused_late v image) (lt-ltb (2 ^ 21) count more)
+
+  pub refused_few : count ≤ 2 ^ 21 → refused v image ≡ refused_late v image
+  unfolding refused
+  refused_few few =
+      ap (λ (n : ℕ). unless_more (2 ^ 21) 1 n (refused_late v image)) (sym all_inodes)
+      ∙ cond-false (nat_lt (2 ^ 21) count) (Some (faults.TooLarge 1 count)) (refused_late v image) (le-ltb (2 ^ 21) count few)
+
+-- what is due of the slots is what is due of the image
+pub late_held : (v : Volume) (image : Image) (inodes : Inodes) → held_in inodes ≡ gathered v image (candidate_inodes v image) → late_in inodes ≡ refused_late v image
+late_held v image inodes all = late_is v image (held_in inodes) all (sum_by extents_of inodes.files.items) (length inodes.entries.items) refl refl
+
+-- what is refused before the log is read is refused with no read
+more_refused : (b : Bool) (what count : ℕ) (later : Option ScanFault) → IsLateRefusal later later
+    → IsLateRefusal (if b then Some (faults.TooLarge what count) else later) (if b then Some (faults.TooLarge what count) else later)
+more_refused true what count later rest = record { refusal = refl; quiet = λ n. omega arith }
+more_refused false what count later rest = rest
+
+feature_late : (feature : Option InodeFeature) → IsLateRefusal (feature_refused feature) (feature_refused feature)
+feature_late None = refl
+feature_late (Some f) = record { refusal = refl; quiet = λ n. omega arith }
+
+pub late_so : (inodes : Inodes) (extents entries : ℕ) (answer : Option ScanFault) → extents ≡ sum_by extents_of inodes.files.items → entries ≡ length inodes.entries.items
+    → answer ≡ unless_more (2 ^ 23) 2 extents (unless_more (2 ^ 23) 3 entries (feature_refused inodes.feature)) → IsLateRefusal (late_in inodes) answer
+late_so inodes extents entries answer counted many is =
+    let later = unless_more (2 ^ 23) 3 (length inodes.entries.items) (feature_refused inodes.feature) in
+    subst (IsLateRefusal (late_in inodes))
+    (sym (is ∙ ap₂ (λ (n m : ℕ). unless_more (2 ^ 23) 2 n (unless_more (2 ^ 23) 3 m (feature_refused inodes.feature))) counted many))
+    (more_refused (nat_lt (2 ^ 23) (sum_by extents_of inodes.files.items)) 2 (sum_by extents_of inodes.files.items) later
+    (more_refused (nat_lt (2 ^ 23) (length inodes.entries.items)) 3 (length inodes.entries.items) (feature_refused inodes.feature) (feature_late inodes.feature)))

@@ -1,6 +1,8 @@
 -- Why no evidence is gathered.
-use Rattle.std.specs.Prelude.{◌≡◌, ℕ, ◌≤◌, Option, Some, None, Result, MatchResult, ⊤}
+use Rattle.std.specs.Prelude.{◌≡◌, ℕ, ◌≤◌, Option, Some, None, MatchOption, Result, MatchResult, ⊤}
 use Rattle.xfs_disk.specs.Faults.{Rose}
+use Rattle.xfs_journal.specs.declared.faults.JournalFault.{JournalFault}
+use Rattle.xfs_journal.specs.declared.faults.JournalFault.TheVariants as logs
 use Rattle.xfs_slots.specs.declared.faults.PartFault.{PartFault}
 use Rattle.xfs_slots.specs.declared.faults.PartFault.TheVariants as errors
 use Rattle.xfs_scan.specs.declared.faults.ScanFault.{ScanFault}
@@ -30,3 +32,17 @@ HasRefused due result = MatchResult result (λ _. due ≡ None) (IsRefusal due)
 abbrev pub scan_fault_of : PartFault → ScanFault
 scan_fault_of errors.ReadFault = faults.ReadFault
 scan_fault_of errors.NoMemory = faults.NoMemory
+
+-- the fault of the log, as the answer of the whole
+abbrev pub log_fault_of : JournalFault → ScanFault
+log_fault_of logs.ReadFault = faults.ReadFault
+log_fault_of logs.NoMemory = faults.NoMemory
+
+-- a refusal that may be answered without a read
+pub record IsQuietRefusal (due : Option ScanFault) (fault : ScanFault) : Type 0 where
+  pub refusal : IsRefusal due fault
+  pub quiet : (n : ℕ) → IsScanCause n n fault
+
+-- what is refused before the log is read, or that nothing is due
+abbrev pub IsLateRefusal : Option ScanFault → Option ScanFault → Type 0
+IsLateRefusal due answer = MatchOption answer (due ≡ None) (IsQuietRefusal due)

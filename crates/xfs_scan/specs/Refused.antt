@@ -1,6 +1,7 @@
 -- The volumes that are refused: those with too many inodes, extents or entries, and those with a file whose features are not
 -- supported.
 use Rattle.std.specs.Prelude.{ℕ, ◌+◌, ◌^◌, length, nat_lt, if◌then◌else◌, Option, Some, None}
+use Rattle.std.specs.List.{sum_by}
 use Rattle.xfs_disk.specs.Blocks.{Image}
 use Rattle.xfs_geom.specs.Volumes.{Volume}
 use Rattle.xfs_volume.specs.declared.files.FileRec.{FileRec}
@@ -9,6 +10,7 @@ use Rattle.xfs_slots.specs.Gathered.{first_feature}
 use Rattle.xfs_scan.specs.declared.faults.ScanFault.{ScanFault}
 use Rattle.xfs_scan.specs.declared.faults.ScanFault.TheVariants as faults
 use Rattle.xfs_slots.specs.declared.inodes.InodeFeature.{InodeFeature}
+use Rattle.xfs_slots.specs.declared.inodes.Inodes.{Inodes}
 
 -- the extents of both forks of a file
 abbrev pub extents_of : FileRec → ℕ
@@ -29,6 +31,13 @@ refused_late v image =
     unless_more (2 ^ 23) 2 (total_extents v image) (
     unless_more (2 ^ 23) 3 (entry_count v image) (
     feature_refused (first_feature v image (candidate_inodes v image))))
+
+-- the same of what the slots of the candidates give
+abbrev pub late_in : Inodes → Option ScanFault
+late_in inodes =
+    unless_more (2 ^ 23) 2 (sum_by extents_of inodes.files.items) (
+    unless_more (2 ^ 23) 3 (length inodes.entries.items) (
+    feature_refused inodes.feature))
 
 -- the first cause for which a volume is refused: more than 2^21 inodes in candidate clusters, or else one of those
 unfoldable pub refused : Volume → Image → Option ScanFault

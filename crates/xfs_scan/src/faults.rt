@@ -6,7 +6,7 @@ ghost use Rattle.xfs_scan.specs.Answers.{scan_fault_of};
 use xfs_slots::PartFault;
 
 /// Why no evidence is gathered.
-#[derive(Clone, Copy, PartialEq, Eq)]
+#[derive(Clone, Copy)]
 pub enum ScanFault {
     /// A read failed.
     ReadFault,

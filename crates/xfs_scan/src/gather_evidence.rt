@@ -1,17 +1,17 @@
 //! The evidence of a volume, gathered from a disk.
 
-ghost use Rattle.std.specs.Prelude.{◌≡◌, ◌+◌, ◌≤◌, IfOk};
+ghost use Rattle.std.specs.Prelude.{◌≡◌, ◌+◌, ◌≤◌, None, IfOk};
 ghost use Rattle.std.specs.Option.{ForSome};
 ghost use Rattle.xfs_geom.specs.Volumes.{volume_of};
 ghost use Rattle.xfs_disk.specs.Reads.{OnlyReads};
 ghost use Rattle.xfs_groups.specs.Answers.{EndBelow};
 ghost use Rattle.xfs_image.specs.Claims.{candidate_inodes};
-ghost use Rattle.xfs_scan.specs.Answers.{HasRefused, HasScanCause};
-ghost use Rattle.xfs_slots.specs.Causes.{HasReadCause};
+ghost use Rattle.xfs_image.specs.View.{log_of};
+ghost use Rattle.xfs_scan.specs.Answers.{HasRefused, HasScanCause, IsLateRefusal, log_fault_of};
 ghost use Rattle.xfs_scan.specs.Evidence.{AreSeen, IsEvidence, joined_parts};
 ghost use Rattle.xfs_slots.specs.Facts.{slot_facts};
 ghost use Rattle.xfs_slots.specs.Gathered.{gathered, held_in};
-ghost use Rattle.xfs_scan.specs.Refused.{refused, refused_late};
+ghost use Rattle.xfs_scan.specs.Refused.{late_in, refused, refused_late};
 
 use crate::evidence::{BoxedSeen, Evidence, Seen};
 use crate::faults::{ScanFault, answer};
@@ -28,12 +28,11 @@ use xfs_heads::LogState;
 use xfs_journal::{JournalFault, read_log};
 use xfs_rounds::SlotFact;
 use xfs_runs::Steps;
-use xfs_slots::{Inodes, PartFault};
+use xfs_slots::Inodes;
 use xfs_volume::{Blocks, ClusterRec, Records};
 
 /// The evidence of the volume that a disk holds. `ReadFault` only where a read failed. Each block that is read counts as a
 /// step, also where the read fails. The work is cut into pieces for so many workers, each of which goes through the gate first.
-#[tactic(auto, unfolding(crate::specs::Refused::refused, xfs_image::specs::Claims::inode_count))]
 pub fn gather<R: Threads + Sync, D: Disk, G: Gate, L: Ledger>(
     rt: &R,
     alloc: Global,
@@ -85,7 +84,7 @@ fn gather_files<R: Threads + Sync, D: Disk, G: Gate, L: Ledger>(
     ensures disk { OnlyReads D.size D.holds D.write_faults D.writes D.tells_stops D.moment D.may_leave D.left_since disk.old disk.new }
     ensures reads { D.reads disk.new + steps.old ≤ D.reads disk.old + steps.new }
 {
-    let scanned = match scan(
+    match scan(
         rt,
         alloc,
         g,
@@ -95,60 +94,136 @@ fn gather_files<R: Threads + Sync, D: Disk, G: Gate, L: Ledger>(
         gate,
         steps,
     ) {
-        Ok(scanned) => scanned,
-        Err(error) => return Err(answer(error)),
-    };
-    // More extents than eight bytes can count are more than any memory holds.
-    let Some(extents) = count_extents(&scanned.inodes.files) else {
-        return Err(ScanFault::NoMemory);
-    };
-    match refusal(
-        extents,
-        scanned.inodes.entries.as_slice().len() as u64,
-        scanned.inodes.feature,
-    ) {
-        Some(fault) => Err(fault),
-        None => match gather_view(alloc, g, disk, seen, scanned, steps) {
-            Ok(evidence) => Ok(evidence),
-            Err(error) => Err(answer(error)),
-        },
+        Ok(scanned) => gather_scanned(alloc, g, disk, seen, scanned, steps),
+        Err(error) => Err(answer(error)),
     }
 }
 
-/// The evidence of a volume that is not refused.
-fn gather_view<D: Disk, L: Ledger>(
+/// The evidence of a volume whose slots were scanned.
+fn gather_scanned<D: Disk, L: Ledger>(
     alloc: Global,
     g: &Geometry,
     disk: &mut D,
     seen: Groups,
     scanned: ScannedSlots,
     steps: &mut Steps<L>,
-) -> Result<Evidence, PartFault>
+) -> Result<Evidence, ScanFault>
     requires inside { g.now.dblocks ≤ D.size disk.old }
     requires seen { ForSome (D.holds disk.old) (λ image. AreSeen g.now image seen) }
     requires low { EndBelow g.now.dblocks seen.clusters }
     requires slots { ForSome (D.holds disk.old) (λ image. scanned.slots.items ≡ slot_facts (volume_of g.now) image) }
     requires inodes { ForSome (D.holds disk.old) (λ image. held_in scanned.inodes ≡ gathered (volume_of g.now) image (candidate_inodes (volume_of g.now) image)) }
     ensures evidence { IfOk result (λ e. ForSome (D.holds disk.old) (λ image. IsEvidence g.now image e)) }
-    ensures cause { HasReadCause (D.faults disk.old) (D.faults disk.new) result }
+    ensures refused { ForSome (D.holds disk.old) (λ image. HasRefused (refused_late (volume_of g.now) image) result) }
+    ensures cause { HasScanCause (D.faults disk.old) (D.faults disk.new) result }
     ensures disk { OnlyReads D.size D.holds D.write_faults D.writes D.tells_stops D.moment D.may_leave D.left_since disk.old disk.new }
     ensures reads { D.reads disk.new + steps.old ≤ D.reads disk.old + steps.new }
 {
-    let log = match read_log(alloc, g, disk, steps) {
-        Ok(log) => log,
-        Err(JournalFault::ReadFault) => return Err(PartFault::ReadFault),
-        Err(JournalFault::NoMemory) => return Err(PartFault::NoMemory),
-    };
-    let bare = match copy_bare(alloc, &scanned.inodes) {
-        Ok(bare) => bare,
-        Err(NoMemory) => return Err(PartFault::NoMemory),
-    };
+    match prepare(alloc, g, disk, &scanned.inodes, steps) {
+        Ok(prepared) => gather_prepared(alloc, g, disk, seen, scanned, prepared, steps),
+        Err(fault) => Err(fault),
+    }
+}
+
+/// What is read behind the slots of a volume that is not refused.
+#[derive(Drop)]
+struct Prepared {
+    /// The inodes of the files that read without their attributes.
+    bare: Blocks,
+    log: LogState,
+}
+
+/// Reads the log of a volume whose slots give these inodes, unless it is refused.
+fn prepare<D: Disk, L: Ledger>(
+    alloc: Global,
+    g: &Geometry,
+    disk: &mut D,
+    inodes: &Inodes,
+    steps: &mut Steps<L>,
+) -> Result<Prepared, ScanFault>
+    requires inside { g.now.dblocks ≤ D.size disk.old }
+    ensures bare { IfOk result (λ prepared. prepared.bare ≡ inodes.now.bare.items) }
+    ensures log { IfOk result (λ prepared. ForSome (D.holds disk.old) (λ image. prepared.log ≡ log_of (volume_of g.now) image)) }
+    ensures refused { HasRefused (late_in inodes.now) result }
+    ensures cause { HasScanCause (D.faults disk.old) (D.faults disk.new) result }
+    ensures disk { OnlyReads D.size D.holds D.write_faults D.writes D.tells_stops D.moment D.may_leave D.left_since disk.old disk.new }
+    ensures reads { D.reads disk.new + steps.old ≤ D.reads disk.old + steps.new }
+{
+    match late_refusal(inodes) {
+        Some(fault) => return Err(fault),
+        None => {}
+    }
+    match read_log(alloc, g, disk, steps) {
+        Ok(log) => match copy_bare(alloc, inodes) {
+            Ok(bare) => Ok(Prepared { bare, log }),
+            Err(NoMemory) => Err(ScanFault::NoMemory),
+        },
+        Err(fault) => Err(log_answer(fault)),
+    }
+}
+
+/// Why a volume is refused whose slots give these inodes.
+fn late_refusal(inodes: &Inodes) -> Option<ScanFault>
+    ensures { IsLateRefusal (late_in inodes.now) result }
+{
+    match count_extents(&inodes.files) {
+        Some(extents) => refusal(
+            extents,
+            inodes.entries.as_slice().len() as u64,
+            inodes.feature,
+        ),
+        // More extents than eight bytes can count are more than any memory holds.
+        None => Some(ScanFault::NoMemory),
+    }
+}
+
+/// The fault of the log, as the answer of the whole.
+fn log_answer(fault: JournalFault) -> ScanFault
+    ensures { result ≡ log_fault_of fault }
+{
+    match fault {
+        JournalFault::ReadFault => ScanFault::ReadFault,
+        JournalFault::NoMemory => ScanFault::NoMemory,
+    }
+}
+
+/// The inodes of the files that read without their attributes.
+fn copy_bare(alloc: Global, inodes: &Inodes) -> Result<Blocks, NoMemory>
+    ensures { IfOk result (λ bare. bare ≡ inodes.now.bare.items) }
+{
+    Ok(Blocks::from_vec(Vec::from_slice(alloc, &inodes.bare)?))
+}
+
+/// The evidence of a volume that is not refused.
+fn gather_prepared<D: Disk, L: Ledger>(
+    alloc: Global,
+    g: &Geometry,
+    disk: &mut D,
+    seen: Groups,
+    scanned: ScannedSlots,
+    prepared: Prepared,
+    steps: &mut Steps<L>,
+) -> Result<Evidence, ScanFault>
+    requires inside { g.now.dblocks ≤ D.size disk.old }
+    requires seen { ForSome (D.holds disk.old) (λ image. AreSeen g.now image seen) }
+    requires low { EndBelow g.now.dblocks seen.clusters }
+    requires slots { ForSome (D.holds disk.old) (λ image. scanned.slots.items ≡ slot_facts (volume_of g.now) image) }
+    requires inodes { ForSome (D.holds disk.old) (λ image. held_in scanned.inodes ≡ gathered (volume_of g.now) image (candidate_inodes (volume_of g.now) image)) }
+    requires bare { prepared.bare ≡ scanned.inodes.bare.items }
+    requires log { ForSome (D.holds disk.old) (λ image. prepared.log ≡ log_of (volume_of g.now) image) }
+    ensures evidence { IfOk result (λ e. ForSome (D.holds disk.old) (λ image. IsEvidence g.now image e)) }
+    ensures refused { HasRefused None result }
+    ensures cause { HasScanCause (D.faults disk.old) (D.faults disk.new) result }
+    ensures disk { OnlyReads D.size D.holds D.write_faults D.writes D.tells_stops D.moment D.may_leave D.left_since disk.old disk.new }
+    ensures reads { D.reads disk.new + steps.old ≤ D.reads disk.old + steps.new }
+{
     let Groups {
         groups,
         clusters,
         trees,
     } = seen;
     let ScannedSlots { slots, inodes } = scanned;
+    let Prepared { bare, log } = prepared;
     match see_view(
         alloc,
         g,
@@ -162,17 +237,10 @@ fn gather_view<D: Disk, L: Ledger>(
     ) {
         Ok(held) => match evidence_of(alloc, clusters, slots, bare, trees, held, log) {
             Ok(evidence) => Ok(evidence),
-            Err(NoMemory) => Err(PartFault::NoMemory),
+            Err(NoMemory) => Err(ScanFault::NoMemory),
         },
-        Err(fault) => Err(fault),
+        Err(error) => Err(answer(error)),
     }
-}
-
-/// The inodes of the files that read without their attributes.
-fn copy_bare(alloc: Global, inodes: &Inodes) -> Result<Blocks, NoMemory>
-    ensures { IfOk result (λ bare. bare ≡ inodes.now.bare.items) }
-{
-    Ok(Blocks::from_vec(Vec::from_slice(alloc, &inodes.bare)?))
 }
 
 /// The evidence from its parts.

@@ -36,6 +36,7 @@ use xfs_rounds::SlotFact;
 use xfs_runs::Steps;
 use xfs_slots::{Inodes, PartFault, blocks_of, clusters_of, see_block};
 use xfs_volume::{Catalog, ClusterRec, GroupRec, Records};
+use xfs_word::get64;
 
 /// The most groups that a volume has.
 const MOST_GROUPS: usize = 512;
@@ -75,9 +76,7 @@ pub fn see_view<D: Disk, L: Ledger>(
     }
 }
 
-/// The same, of groups that read. That they are not too many is tested here, as a disk that does not tell what it holds, a file,
-/// says nothing of what was read from it; of each image they are as many as the volume has (`view_is_of_what_reads`). Where their
-/// clusters are just the candidates, no block of a cluster is read again.
+/// The same, of groups that read.
 fn see_with_groups<D: Disk, L: Ledger>(
     alloc: Global,
     g: &Geometry,
@@ -102,17 +101,63 @@ fn see_with_groups<D: Disk, L: Ledger>(
     ensures disk { OnlyReads D.size D.holds D.write_faults D.writes D.tells_stops D.moment D.may_leave D.left_since disk.old disk.new }
     ensures reads { D.reads disk.new + steps.old ≤ D.reads disk.old + steps.new }
 {
-    if groups.as_slice().len() > MOST_GROUPS {
-        return Err(PartFault::NoMemory);
+    match few_clusters(alloc, g, groups.as_slice()) {
+        Ok(clusters) => see_with_clusters(
+            alloc, g, disk, groups, &clusters, scanned, facts, inodes, log, steps,
+        ),
+        Err(NoMemory) => Err(PartFault::NoMemory),
     }
-    let clusters = match clusters_of(alloc, g, groups.as_slice()) {
-        Ok(clusters) => clusters,
-        Err(NoMemory) => return Err(PartFault::NoMemory),
-    };
-    if are_candidates(&clusters, scanned) {
-        return see_same(alloc, g, disk, groups, &clusters, facts, inodes, log, steps);
+}
+
+/// The clusters of groups. That these are not too many is tested here, as a disk that does not tell what it holds, a file, says
+/// nothing of what was read from it; of each image they are as many as the volume has (`view_is_of_what_reads`).
+fn few_clusters(alloc: Global, g: &Geometry, groups: &[GroupRec]) -> Result<Vec<u64>, NoMemory>
+    ensures few { IfOk result (λ clusters. length groups.now ≤ 512) }
+    ensures clusters { IfOk result (λ clusters. clusters.items ≡ clusters_of (volume_of g.now) groups.now) }
+    ensures low { IfOk result (λ clusters. All (λ cluster. cluster < 2 ^ 42) clusters.items) }
+{
+    if groups.len() > MOST_GROUPS {
+        return Err(NoMemory);
     }
-    match see_recorded(alloc, g, disk, groups, &clusters, log, steps) {
+    match clusters_of(alloc, g, groups) {
+        Ok(clusters) => Ok(clusters),
+        Err(NoMemory) => Err(NoMemory),
+    }
+}
+
+/// The same, of groups that have these clusters. Where they are just the candidates, no block of a cluster is read again.
+fn see_with_clusters<D: Disk, L: Ledger>(
+    alloc: Global,
+    g: &Geometry,
+    disk: &mut D,
+    groups: Records<GroupRec>,
+    clusters: &[u64],
+    scanned: &[ClusterRec],
+    facts: &[SlotFact],
+    inodes: Inodes,
+    log: LogState,
+    steps: &mut Steps<L>,
+) -> Result<Seen, PartFault>
+    requires inside { g.now.dblocks ≤ D.size disk.old }
+    requires few { length groups ≤ 512 }
+    requires groups { ForSome (D.holds disk.old) (λ image. groups_read (volume_of g.now) image ≡ Ok groups) }
+    requires clusters { clusters.now ≡ clusters_of (volume_of g.now) groups }
+    requires low { All (λ cluster. cluster < 2 ^ 42) clusters.now }
+    requires scanned { ForSome (D.holds disk.old) (λ image. scanned.now ≡ candidates (volume_of g.now) image) }
+    requires ends { EndBelow g.now.dblocks scanned.now }
+    requires facts { ForSome (D.holds disk.old) (λ image. facts.now ≡ slot_facts (volume_of g.now) image) }
+    requires inodes { ForSome (D.holds disk.old) (λ image. held_in inodes ≡ gathered (volume_of g.now) image (candidate_inodes (volume_of g.now) image)) }
+    requires log { ForSome (D.holds disk.old) (λ image. log ≡ log_of (volume_of g.now) image) }
+    ensures view { IfOk result (λ seen. ForSome (D.holds disk.old) (λ image. view_seen seen ≡ view g.now image)) }
+    ensures files { IfOk result (SeesInodes inodes) }
+    ensures cause { HasReadCause (D.faults disk.old) (D.faults disk.new) result }
+    ensures disk { OnlyReads D.size D.holds D.write_faults D.writes D.tells_stops D.moment D.may_leave D.left_since disk.old disk.new }
+    ensures reads { D.reads disk.new + steps.old ≤ D.reads disk.old + steps.new }
+{
+    if are_candidates(clusters, scanned) {
+        return see_same(alloc, g, disk, groups, clusters, facts, inodes, log, steps);
+    }
+    match see_recorded(alloc, g, disk, groups, clusters, log, steps) {
         Ok(view) => Ok(apart(inodes, view)),
         Err(fault) => Err(fault),
     }
@@ -301,9 +346,9 @@ fn read_counts<D: Disk, L: Ledger>(
     steps.tick();
     match disk.read(0, &mut block) {
         Ok(()) => Ok(Counts {
-            icount: ICOUNT.read(&block),
-            ifree: IFREE.read(&block),
-            fdblocks: FDBLOCKS.read(&block),
+            icount: get64(&block, ICOUNT.offset),
+            ifree: get64(&block, IFREE.offset),
+            fdblocks: get64(&block, FDBLOCKS.offset),
         }),
         Err(Failed) => Err(Failed),
     }

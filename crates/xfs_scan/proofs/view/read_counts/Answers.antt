@@ -1,3 +1,7 @@
+use Rattle.std.proofs.Common.{◌≡◌, ℕ, List, sym, ap, ◌∙◌}
+use Rattle.xfs_word.specs.Field.{field_of}
+use Rattle.xfs_disk.specs.Blocks.{bytes_of_block}
+use Rattle.xfs_slots.proofs.Rests.{read_bytes}
 use Rattle.xfs_scan.proofs.Counts.{counted_none, counted_once}
 use Rattle.xfs_scan.proofs.view.read_counts.Goals as goal
 
@@ -40,4 +44,13 @@ returns-in-Err g c =
       };
       reads = counted_none (D.reads c.args.disk.now) (D.reads c.read.new.self) c.args.steps.now c.tick.new.self c.in-Err.ensures.reads c.tick.ensures;
       ticks = c.tick.ensures;
+    }
+
+pub returns-in-Ok-clause-counts : goal.returns-in-Ok-clause-counts
+returns-in-Ok-clause-counts g c = λ image told.
+    let bytes : c.read.new.into ≡ bytes_of_block image 0 = sym (read_bytes image 0 c.read.new.into (c.in-Ok.ensures.bytes image told)) in
+    λ i. record {
+      icount = (c.get64.ensures ∙ ap (λ (block : List ℕ). field_of block 128 8) bytes) i;
+      ifree = (c.get64-in-Ok.ensures ∙ ap (λ (block : List ℕ). field_of block 136 8) bytes) i;
+      fdblocks = (c.get64-in-Ok-2.ensures ∙ ap (λ (block : List ℕ). field_of block 144 8) bytes) i;
     }
