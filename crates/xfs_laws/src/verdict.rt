@@ -159,7 +159,6 @@ fn judge_behind(
 }
 
 /// The first law of space or of counts that is broken.
-#[tactic(auto, using(crate::proofs::Firsts::joined))]
 fn judge_numbers<R: Threads + Sync>(
     rt: &R,
     alloc: Global,
@@ -172,10 +171,13 @@ fn judge_numbers<R: Threads + Sync>(
 {
     let groups = catalog.groups.as_slice();
     let files = catalog.files.as_slice();
-    if let Some(law) = check_space(rt, alloc, workers, &catalog.geometry, groups, files)? {
-        return Ok(Some(law));
+    match check_space(rt, alloc, workers, &catalog.geometry, groups, files) {
+        Ok(found) => match found {
+            Some(law) => Ok(Some(law)),
+            None => Ok(check_counts(catalog)),
+        },
+        Err(NoMemory) => Err(NoMemory),
     }
-    Ok(check_counts(catalog))
 }
 
 /// The first law of names that is broken.
