@@ -2,3 +2,4 @@ pub mod Numbering
 pub mod Planting
 pub mod Rounds
 pub mod Causes
+pub mod FoundFiles
