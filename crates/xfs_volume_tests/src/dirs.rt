@@ -7,7 +7,7 @@ ghost use Rattle.xfs_inode.specs.Files.{are_extents};
 
 mod disks;
 
-use crate::checks::{equal, must, same, sure};
+use crate::checks::{equal, equal_at, must, sure};
 use crate::small_volume::{ROOT, volume};
 use crate::text::{Row, line_at, line_count, put_parts, refuse, tells};
 use disks::Untold;
@@ -175,7 +175,7 @@ fn try_single(rt: &(impl Abort + AllocGlobal), unwritten: bool, line: &str) {
     put_single(rt, &mut disk, (row.text(), row.text()));
     let file = directory(rt, rt.alloc(), CORE, 1, unwritten);
     let found = found_of(rt, &mut disk, &[0; 512], &file, name);
-    same!(*rt; found.whole, row.flag(rt); name);
+    equal_at(rt, found.whole, row.flag(rt), name);
     tells_kept(rt, &found, row.flag(rt), name);
     drop((found, file));
 }
@@ -205,8 +205,8 @@ fn found_of(
 
 /// Fails where not one entry and the parent 128 are kept, or nothing.
 fn tells_kept(rt: &impl Abort, found: &DirFound, kept: bool, case: &str) {
-    same!(*rt; found.entries.as_slice().len(), kept as usize; case);
-    same!(*rt; found.parent, if kept { 128 } else { 0 }; case);
+    equal_at(rt, found.entries.as_slice().len(), kept as usize, case);
+    equal_at(rt, found.parent, if kept { 128 } else { 0 }, case);
 }
 
 /// Writes the blocks 24 and 25, with an entry, and with `..` and another one.
@@ -278,7 +278,7 @@ fn try_size(rt: &(impl Abort + AllocGlobal), slot: &[u8; 512], line: &str) {
     let file = directory(rt, rt.alloc(), core, 1, false);
     let mut disk = Untold::make(rt, rt.alloc());
     let found = found_of(rt, &mut disk, slot, &file, line);
-    same!(*rt; found.whole, whole; line);
+    equal_at(rt, found.whole, whole, line);
     tells_kept(rt, &found, whole, line);
     drop((found, file));
 }

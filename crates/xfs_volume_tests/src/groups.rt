@@ -3,7 +3,7 @@
 
 ghost use Rattle.std.specs.Prelude.{◌≡◌, ◌<◌, ◌≤◌};
 
-use crate::checks::{must, same, sure};
+use crate::checks::{equal_at, must, same, sure};
 use crate::small_volume::{put, volume};
 use crate::text::{Row, line_at, line_count, refuse, tells};
 use std::alloc::Global;
@@ -145,8 +145,8 @@ fn is_found(rt: &(impl Abort + AllocGlobal), seen: &Groups, row: &mut Row<'_>, l
     let due = row.text();
     match &seen.groups {
         Ok(groups) => {
-            same!(*rt; groups.as_slice().len(), 2; line);
-            same!(*rt; "2 groups", due; line);
+            equal_at(rt, groups.as_slice().len(), 2, line);
+            equal_at(rt, "2 groups", due, line);
         }
         Err(found) => tells(rt, found, due, line),
     }
@@ -166,7 +166,7 @@ fn clusters_of(rt: &impl Abort, alloc: Global, seen: &Groups) -> Vec<(u64, bool)
 
 /// Tests that the blocks of both groups are reserved that the rest of a line says.
 fn are_reserved(rt: &(impl Abort + AllocGlobal), seen: &Groups, row: &mut Row<'_>, line: &str) {
-    same!(*rt; seen.trees.as_slice().len(), 2; line);
+    equal_at(rt, seen.trees.as_slice().len(), 2, line);
     for trees in seen.trees.as_slice() {
         tells(rt, &trees.reserved.as_slice(), row.text(), line);
     }

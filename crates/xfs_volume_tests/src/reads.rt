@@ -1,7 +1,7 @@
 //! How often each block of a volume is read while its evidence is gathered. The volume is that of `groups`, whose chunk has the root, a
 //! directory with one block and a file with one; its other slots are free.
 
-use crate::checks::{must, same};
+use crate::checks::{equal_at, must};
 use crate::groups::{self, IDENTIFIER, leaf};
 use crate::scan::{ENTRY, EXTENT, LOST_ATTRIBUTES, PLAIN, file, gather_counted, put_slot, view_of};
 use crate::small_volume::{ROOT, put, volume};
@@ -130,9 +130,9 @@ fn try_reads<R: Abort + AllocGlobal + Threads + Sync>(rt: &R, line: &str) {
     let disk = disk_of(rt, &mut row);
     let mut noted = NotedDisk::new(rt.alloc(), disk);
     let found = gathered(rt, rt.alloc(), &mut noted, case);
-    same!(*rt; found.seen.as_seen().dirs().len(), 2; case);
+    equal_at(rt, found.seen.as_seen().dirs().len(), 2, case);
     let view = view_of(found);
-    same!(*rt; view.is_ok(), row.flag(rt); case);
+    equal_at(rt, view.is_ok(), row.flag(rt), case);
     are_counted(rt, &counts_of(rt, noted.reads(), 2048), row.text(), case);
     drop(view);
 }
@@ -166,7 +166,7 @@ fn gathered<R: Abort + Threads + Sync>(
 /// Fails where blocks were not read as often as is due.
 fn are_counted(rt: &(impl Abort + AllocGlobal), reads: &[u32], due: &str, case: &str) {
     let wanted = wanted_counts(rt, due);
-    same!(*rt; reads, wanted.as_slice(); case);
+    equal_at(rt, reads, wanted.as_slice(), case);
 }
 
 /// How often each block is to be read.

@@ -174,9 +174,9 @@ fn evidence(rt: HostRuntime) {
 
 /// Fails where the files are not the root and the three others.
 fn are_files(rt: &impl Abort, files: &[FileRec]) {
-    same!(*rt; files.len(), 4);
+    equal(rt, files.len(), 4);
     for (file, ino) in files.iter().zip([128, 131, 137, 192]) {
-        same!(*rt; file.ino, ino);
+        equal(rt, file.ino, ino);
     }
 }
 

@@ -220,17 +220,6 @@ pub fn part_at(text: &str, i: usize) -> Row<'_> {
     Row::new(text.split(',').nth(i).unwrap_or(""))
 }
 
-/// The rows that stand between commas, of which there may be none.
-pub fn parts_of<'a>(rt: &(impl Abort + AllocGlobal), text: &'a str) -> Vec<Row<'a>> {
-    let mut parts = Vec::new(rt.alloc());
-    if !text.is_empty() {
-        for part in text.split(',') {
-            must(rt, parts.push(Row::new(part)));
-        }
-    }
-    parts
-}
-
 /// Writes the parts of an object over its bytes. The parts stand in lines or between commas, each as a byte offset and
 /// the bytes from there on. `ff*260` is a byte so many times.
 pub fn put_parts(rt: &(impl Abort + AllocGlobal), object: &mut [u8], parts: &str)

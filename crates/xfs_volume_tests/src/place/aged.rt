@@ -6,7 +6,7 @@ use super::groups::{SMALLEST, SparedBlocks, are_next, shaped, spare_small};
 use super::objects::one_object;
 use super::pieces::{reserved_of, tells_runs};
 use super::*;
-use crate::checks::{must, same};
+use crate::checks::{equal_at, must};
 use crate::text::{Row, line_at, line_count, refuse, tells};
 use std::process::Abort;
 
@@ -38,7 +38,7 @@ pub fn stand_behind(
         are_next::<u64>(rt, &blocks_of(rt, rt.alloc(), group), row, line);
         are_next::<u32>(rt, group.agfl.as_slice(), row, line);
     }
-    same!(*rt; row.is_read(), true; line);
+    equal_at(rt, row.is_read(), true, line);
 }
 
 /// The rows of blocks (start and blocks) that are all of the pool, from which AG block on those of each group are spared, the runs of three

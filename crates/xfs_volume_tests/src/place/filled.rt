@@ -9,7 +9,7 @@ use super::groups::{Size, SparedBlocks, place_sparing, root_chunk, shaped};
 use super::objects::object;
 use super::pieces::tells_placed;
 use super::*;
-use crate::checks::{must, same};
+use crate::checks::{equal, equal_at, must};
 use crate::text::{Row, line_at, line_count, refuse, tells};
 use std::process::Abort;
 
@@ -79,7 +79,7 @@ fn try_large(rt: &(impl Abort + AllocGlobal), line: &str) {
     let placed = place_files(rt, rt.alloc(), &lengths, spared);
     tells_placed(rt, &placed, &mut row, line);
     if let Ok(placed) = &placed {
-        same!(*rt; placed.counts.fdblocks, row.number::<u64>(rt); line);
+        equal_at(rt, placed.counts.fdblocks, row.number::<u64>(rt), line);
         stand_behind(rt, placed, &mut row, line);
     }
     drop(placed);
@@ -158,14 +158,19 @@ fn many_files_beside_spared_blocks(rt: HostRuntime) {
 
 /// Fails where the many files do not stand as they are due.
 fn tells_many(rt: &(impl Abort + AllocGlobal), placed: &Placed) {
-    same!(*rt; placed.runs.as_slice().len(), 1903);
+    equal(rt, placed.runs.as_slice().len(), 1903);
     for i in 0..line_count(STARTS) {
         let line = line_at(STARTS, i);
         let mut row = Row::new(line);
         let run = placed.runs.as_slice().get(row.number::<usize>(rt));
-        same!(*rt; run.map(|run| run.start), Some(row.number::<u64>(rt)); line);
+        equal_at(
+            rt,
+            run.map(|run| run.start),
+            Some(row.number::<u64>(rt)),
+            line,
+        );
     }
-    same!(*rt; placed.counts.fdblocks, 1414);
+    equal(rt, placed.counts.fdblocks, 1414);
     for i in 0..line_count(TREES) {
         let line = line_at(TREES, i);
         stand_behind(rt, placed, &mut Row::new(line), line);

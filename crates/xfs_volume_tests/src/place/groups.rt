@@ -5,7 +5,7 @@ ghost use Rattle.xfs_geom.specs.Shape.{IsShaped};
 ghost use Rattle.xfs_place.specs.Objects.{IsAsk};
 
 use super::*;
-use crate::checks::{equal, must, same, sure};
+use crate::checks::{equal, equal_at, must, sure};
 use crate::text::{Row, line_at, line_count, tells};
 use std::fmt::Debug;
 use std::process::Abort;
@@ -207,7 +207,12 @@ fn hold(rt: &(impl Abort + AllocGlobal), placed: &Placed, table: &str) {
 fn holds(rt: &(impl Abort + AllocGlobal), group: &GroupPlaced, row: &mut Row<'_>, line: &str) {
     let alloc = rt.alloc();
     hold_trees(rt, group, &row.numbers::<u64>(rt, alloc), line);
-    same!(*rt; group.fino.as_slice().len(), row.number::<usize>(rt); line);
+    equal_at(
+        rt,
+        group.fino.as_slice().len(),
+        row.number::<usize>(rt),
+        line,
+    );
     are_next::<u32>(rt, group.agfl.as_slice(), row, line);
     let mut free = *row;
     are_next::<u64>(
@@ -230,18 +235,18 @@ pub fn are_next<T: TryFrom<u64> + PartialEq + Debug + Drop>(
 where
     T::Error: Drop,
 {
-    same!(*rt; held, row.numbers::<T>(rt, rt.alloc()).as_slice(); line);
+    equal_at(rt, held, row.numbers::<T>(rt, rt.alloc()).as_slice(), line);
 }
 
 /// Fails where the five trees of a group do not have one block each, and these.
 fn hold_trees(rt: &impl Abort, group: &GroupPlaced, blocks: &[u64], line: &str) {
     let trees = group.trees.as_slice();
-    same!(*rt; trees.len(), 5; line);
-    same!(*rt; blocks.len(), 5; line);
+    equal_at(rt, trees.len(), 5, line);
+    equal_at(rt, blocks.len(), 5, line);
     let mut rest = blocks.iter();
     for tree in trees {
         if let Some(block) = rest.next() {
-            same!(*rt; tree.blocks.as_slice(), [*block].as_slice(); line);
+            equal_at(rt, tree.blocks.as_slice(), [*block].as_slice(), line);
         }
     }
 }
