@@ -49,7 +49,7 @@ pub struct MakeLine {
 }
 
 /// Why words are no command line of `mkfs.xfs`.
-#[derive(Clone, Copy)]
+#[derive(Clone, Copy, Debug)]
 pub enum MakeFault {
     /// The word of this number is the first that offends. Where a word lacks, it is the number of all words.
     Offends(usize),

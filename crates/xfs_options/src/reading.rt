@@ -22,7 +22,7 @@ pub struct Given {
 }
 
 /// Why words are no command line.
-#[derive(Clone, Copy)]
+#[derive(Clone, Copy, Debug)]
 pub enum LineFault {
     /// The word of this number is the first that offends. Where a word lacks, it is the number of all words.
     Offends(usize),

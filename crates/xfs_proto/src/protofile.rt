@@ -57,7 +57,7 @@ pub enum ProtoKind {
 }
 
 /// Why a text gives no files.
-#[derive(Clone, Copy)]
+#[derive(Clone, Copy, Debug)]
 pub enum ProtoFault {
     /// It is no protofile: its first token that can't stand where it does.
     Bad {

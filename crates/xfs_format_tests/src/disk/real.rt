@@ -89,7 +89,7 @@ fn does_not_read(rt: &impl Abort, disk: &mut FileDisk<File>) {
 
 #[test]
 fn no_file_is_no_disk(rt: HostRuntime) {
-    let mut none = FileDisk::<File>::unopened();
+    let mut none = FileDisk::<File>::unopened(rt.alloc());
     equal(&rt, none.blocks(), Err(Failed));
     equal(&rt, none.sync(), Err(Failed));
     equal(&rt, none.faults(), 1);
