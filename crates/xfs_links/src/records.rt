@@ -5,7 +5,7 @@ use xfs_disk::Word;
 use xfs_volume::Records;
 
 /// A file that is kept.
-#[derive(Clone, Copy, PartialEq, Eq)]
+#[derive(Clone, Copy)]
 pub struct NodeRec {
     /// The number of its inode.
     pub ino: u64,

@@ -62,7 +62,13 @@ pub fn attach_all(
 fn count_directories(files: &[NodeRec]) -> usize
     ensures { result ≡ count_by (λ f. f.kind == 4) files.now }
 {
-    files.iter().filter(|file| file.kind == DIRECTORY).count()
+    let mut count = 0;
+    for file in files {
+        if file.kind == DIRECTORY {
+            count += 1;
+        }
+    }
+    count
 }
 
 /// A weave of the files in which the starting points are pending.
