@@ -125,3 +125,20 @@ asked_most commands left ran are some =
 pub whatever_elected : (due : Result Vote ElectFault) (P : Vote → Type 0) → ((vote : Vote) → P vote) → IfOk due P
 whatever_elected (Ok vote) P each = each vote
 whatever_elected (Err other) P each = tt
+
+-- words that no session was run for say nothing of an input
+pub no_geometry_input : (commands : List (List ℕ)) (left : Option (List ℕ)) → HasInput commands left NoGeometry
+no_geometry_input [] left = tt
+no_geometry_input (command ∷ commands) left = tt
+
+pub unsupported_input : (commands : List (List ℕ)) (left : Option (List ℕ)) (word bits : ℕ) → HasInput commands left (Unsupported word bits)
+unsupported_input [] left word bits = tt
+unsupported_input (command ∷ commands) left word bits = tt
+
+pub unread_input : (commands : List (List ℕ)) (left : Option (List ℕ)) → HasInput commands left (ReadFault 0)
+unread_input [] left = tt
+unread_input (command ∷ commands) left = tt
+
+pub no_memory_input : (commands : List (List ℕ)) (left : Option (List ℕ)) → HasInput commands left (NoMemory 0)
+no_memory_input [] left = tt
+no_memory_input (command ∷ commands) left = tt

@@ -15,7 +15,7 @@ pub struct ShellOptions {
 }
 
 /// How a session ended. `finished` is the number of commands that were finished.
-#[derive(Clone, Copy, Debug, PartialEq, Eq)]
+#[derive(Clone, Copy, Debug)]
 pub enum ShellOutcome {
     /// All commands were run, up to the end or to the first `quit`.
     Done,
