@@ -21,7 +21,7 @@ use Rattle.xfs_render.specs.Drafts.{Adds, AddsBlock, HoldsDraft, IsDraft, row_pl
 use Rattle.xfs_render.specs.HeaderBlocks.{IsHeaderBlock}
 use Rattle.xfs_render.specs.Objects.{AddsObjects, HasObjects, block_places, object_blocks, object_places}
 use Rattle.xfs_render.specs.Plans.{IsArranged, IsOnce}
-use Rattle.xfs_render.specs.Rendering.{AddsBlank, AddsGroups, AddsPlaces, IsDueSuper, IsPlaceDue, IsRendered, blocks_in_place, fresh_blocks, group_placed, wanted_inodes, is_head, is_put, kept_blocks, log_parts, log_places, new_blocks, no_group, old_at, byte_place, tree_blocks, volume}
+use Rattle.xfs_render.specs.Rendering.{AddsBlank, AddsGroups, AddsPlaces, IsDueSuper, IsPlaceDue, IsReady, IsRendered, blocks_in_place, fresh_blocks, group_placed, wanted_inodes, is_head, is_put, kept_blocks, log_parts, log_places, new_blocks, no_group, old_at, byte_place, tree_blocks, volume}
 use Rattle.xfs_render.specs.Trees.{AddsTrees, HasTrees, group_tree_places}
 use Rattle.xfs_render.specs.declared.bytes.Bytes.{Bytes}
 use Rattle.xfs_render.specs.declared.draft.Draft.{Draft}
@@ -40,6 +40,12 @@ grown old new places n adds =
 -- a block of the volume lies in one of its groups
 pub group_below : (v : Volume) (place : ℕ) → HasGroups v.dblocks v.agblocks v.agcount → place < v.dblocks → place / v.agblocks < v.agcount
 group_below v place shape inside = div_below place v.agblocks v.agcount (omega (arith, shape.large)) (omega (arith, shape.covered, inside))
+
+-- the block at a place whose bytes are at hand lies in one of the groups
+pub place_below : (w : Wanted) (p : Placed) (b : Bytes) (i place : ℕ) → place ≡ byte_place b i → i < length b.places → IsReady w p b
+    → place / w.geometry.agblocks < w.geometry.agcount
+place_below w p b i place at inside ready =
+    group_below (volume w) place w.geometry.shape.groups (subst (λ (n : ℕ). n < w.geometry.dblocks) (sym at) (ready.inside i 0 inside))
 
 module _ (w : Wanted) (p : Placed) (b : Bytes) (super : List ℕ) where
   -- the first block of a group

@@ -47,8 +47,24 @@ fn add_object(
 {
     match at.kind {
         ObjectKind::Data => draft.add_shared(at.place, built, j),
-        ObjectKind::Directory | ObjectKind::Symlink => add_sealed(g, at, built.view(j), draft),
+        ObjectKind::Directory | ObjectKind::Symlink => add_built(g, at, built, j, draft),
     }
+}
+
+/// Puts down the block of an object, made of a block of a list, with bytes of its own.
+fn add_built(
+    g: &Geometry,
+    at: &ObjectBlock,
+    built: &BlockList,
+    j: usize,
+    draft: &mut Draft,
+) -> Result<(), NoMemory>
+    requires inside { at.now.place < g.now.dblocks }
+    requires built { j < length built.now }
+    requires draft { IsDraft draft.old }
+    ensures { OnOk result (AddsObject (volume_of g.now) at.now (slice_index_or built.now j []) draft.old draft.new) }
+{
+    add_sealed(g, at, built.view(j), draft)
 }
 
 /// Puts down the block of an object, made of what was built for it, with bytes of its own.

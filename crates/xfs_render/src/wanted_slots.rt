@@ -4,7 +4,7 @@ use xfs_inodebuild::ForkWanted;
 use xfs_volume::Core;
 
 /// What a slot is before anything else is changed in it.
-#[derive(Clone, Copy, PartialEq, Eq)]
+#[derive(Clone, Copy)]
 pub enum SlotBase {
     /// What it was.
     Kept,
