@@ -23,7 +23,7 @@ use xfs_naming::{Numbered, records_by_number};
 use xfs_volume::Records;
 
 /// How many bytes the data fork of a directory may have.
-#[derive(Clone, Copy, PartialEq, Eq)]
+#[derive(Clone, Copy)]
 pub struct ForkRoom {
     /// The inode number of the directory.
     pub ino: u64,

@@ -42,7 +42,19 @@ fn are_right_entries(held: &[EntryRec], due: &[EntryRec]) -> bool
 fn have_whole(found: &[DirRec], parent: u64) -> bool
     ensures { result ≡ list_any (λ (r : DirRec). r.whole && r.parent == parent) found.now }
 {
-    found.iter().any(|dir| dir.whole && dir.parent == parent)
+    for dir in found {
+        if is_whole_under(dir, parent) {
+            return true;
+        }
+    }
+    false
+}
+
+/// Whether a record of a directory is whole, with this parent.
+fn is_whole_under(dir: &DirRec, parent: u64) -> bool
+    ensures { result ≡ (dir.now.whole && dir.now.parent == parent) }
+{
+    dir.whole && dir.parent == parent
 }
 
 /// Whether a directory was found whole, with this parent.

@@ -12,7 +12,7 @@ use xfs_disk::Word;
 use xfs_links::{DecidedNames, NodeRec, is_reserved_inode};
 
 /// The directory that takes orphans.
-#[derive(Clone, Copy, Debug, PartialEq, Eq)]
+#[derive(Clone, Copy, Debug)]
 pub enum LostPlace {
     /// None: there are no orphans.
     Unneeded,
