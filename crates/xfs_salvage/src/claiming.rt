@@ -1,6 +1,6 @@
 //! What the clusters and files that were found claim, where they can.
 
-ghost use Rattle.std.specs.Prelude.{◌≡◌, ◌↔◌, IsTrue, map, IfOk};
+ghost use Rattle.std.specs.Prelude.{◌≡◌, ◌==◌, ◌&&◌, ◌↔◌, IsTrue, map, IfOk};
 ghost use Rattle.std.specs.Option.{SomeIff};
 ghost use Rattle.xfs_geom.specs.Volumes.{volume_of};
 ghost use Rattle.xfs_claims.specs.Ranks.{is_recorded_cluster};
@@ -59,9 +59,19 @@ pub fn claims_in<L: Ledger>(
 fn has_recorded(clusters: &[ClusterRec], block: u64) -> bool
     ensures { result ≡ is_recorded_cluster clusters.now block }
 {
-    clusters
-        .iter()
-        .any(|cluster| cluster.recorded && cluster.block == block)
+    for cluster in clusters {
+        if is_recorded_at(cluster, block) {
+            return true;
+        }
+    }
+    false
+}
+
+/// Whether a cluster is recorded and begins at a block.
+fn is_recorded_at(cluster: &ClusterRec, block: u64) -> bool
+    ensures { result ≡ (cluster.now.recorded && cluster.now.block == block) }
+{
+    cluster.recorded && cluster.block == block
 }
 
 /// All claims, from those of the files.

@@ -1,6 +1,6 @@
 //! The order of what was found, and what is found by it.
 
-ghost use Rattle.std.specs.Prelude.{◌≡◌, ◌<◌, ◌^◌, ◌&&◌, ◌↔◌, [], ◌∷◌, ◌++◌, if◌then◌else◌, IsTrue, IfOk, OnOk};
+ghost use Rattle.std.specs.Prelude.{not, ◌≡◌, ◌<◌, ◌^◌, ◌&&◌, ◌↔◌, [], ◌∷◌, ◌++◌, if◌then◌else◌, IsTrue, IfOk, OnOk};
 ghost use Rattle.std.specs.List.{filter};
 ghost use Rattle.xfs_disk.specs.Lists.{is_among};
 ghost use Rattle.xfs_dirdata.specs.declared.records.EntryRec.{EntryRec};
@@ -84,7 +84,12 @@ pub(crate) fn files_that_stay(
 fn is_in_use(files: &[FileRec], ino: u64) -> bool
     ensures { result ≡ is_in_use files.now ino }
 {
-    files.iter().any(|file| file.ino == ino)
+    for file in files {
+        if file.ino == ino {
+            return true;
+        }
+    }
+    false
 }
 
 /// Which of the root and the two inodes behind it no file has.
@@ -96,11 +101,21 @@ pub(crate) fn fresh_among(
     requires { root < 2 ^ 32 }
     ensures { IfOk result (λ fresh. fresh.items ≡ fresh_among files.now root) }
 {
-    [root, root + 1, root + 2]
-        .iter()
-        .copied()
-        .filter(|ino| !is_in_use(files, *ino))
-        .collect(alloc)
+    let mut fresh = Vec::new(alloc);
+    put_fresh(files, root, &mut fresh)?;
+    put_fresh(files, root + 1, &mut fresh)?;
+    put_fresh(files, root + 2, &mut fresh)?;
+    Ok(fresh)
+}
+
+/// Puts a number behind the others, where no file has it.
+fn put_fresh(files: &[FileRec], ino: u64, fresh: &mut Vec<u64>) -> Result<(), AllocError>
+    ensures { OnOk result (fresh.new.items ≡ fresh.old.items ++ filter (λ k. not (is_in_use files.now k)) (ino ∷ [])) }
+{
+    if !is_in_use(files, ino) {
+        fresh.push(ino)?;
+    }
+    Ok(())
 }
 
 /// The numbers of the directories among files.
