@@ -111,7 +111,13 @@ fn volume_wanted(
 fn cleared_count(slots: &[SlotWanted]) -> u64
     ensures { result ≡ cleared_count slots.now }
 {
-    slots.iter().filter(|slot| is_freed(slot)).count() as u64
+    let mut count = 0;
+    for slot in slots {
+        if is_freed(slot) {
+            count += 1;
+        }
+    }
+    count
 }
 
 /// Whether a slot is freed.

@@ -119,7 +119,12 @@ fn keeps_log(log: &LogState, lsns: &[u64]) -> bool
 fn are_behind(head: u64, lsns: &[u64]) -> bool
     ensures { result ≡ list_all (is_behind head) lsns.now }
 {
-    lsns.iter().all(|lsn| is_behind(head, *lsn))
+    for lsn in lsns {
+        if !is_behind(head, *lsn) {
+            return false;
+        }
+    }
+    true
 }
 
 /// Whether a number is all ones, or not above the head of a log.

@@ -7,7 +7,7 @@ ghost use Rattle.xfs_request.specs.Slots.{is_bare, is_free, state_at};
 use xfs_naming::{Numbered, records_near};
 
 /// What a slot reads as.
-#[derive(Clone, Copy, PartialEq, Eq)]
+#[derive(Clone, Copy)]
 pub enum SlotState {
     /// It holds no file.
     Free,
@@ -18,7 +18,7 @@ pub enum SlotState {
 }
 
 /// What is known of a slot of a cluster.
-#[derive(Clone, Copy, PartialEq, Eq)]
+#[derive(Clone, Copy)]
 pub struct SlotSeen {
     /// The number of its inode.
     pub ino: u64,

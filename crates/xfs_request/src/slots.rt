@@ -230,7 +230,12 @@ fn bare_slot(
 pub(crate) fn is_one_of(numbers: &[u64], number: u64) -> bool
     ensures { result ≡ is_among numbers.now number }
 {
-    numbers.iter().any(|other| *other == number)
+    for other in numbers {
+        if *other == number {
+            return true;
+        }
+    }
+    false
 }
 
 /// What is wanted of a slot that is freed.
