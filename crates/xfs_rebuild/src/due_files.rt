@@ -167,7 +167,12 @@ pub(crate) fn dirs_with(
 fn is_made(fresh: &[u64], inode: u64) -> bool
     ensures { result ≡ is_among fresh.now inode }
 {
-    fresh.iter().any(|ino| *ino == inode)
+    for other in fresh {
+        if *other == inode {
+            return true;
+        }
+    }
+    false
 }
 
 /// A root that is made anew.
