@@ -340,7 +340,13 @@ fn stand_by_number(slots: &[SlotWanted]) -> bool
 fn cleared_beside(lost: &Lost, slots: &[SlotWanted]) -> u64
     ensures { result ≡ cleared_beside lost.now slots.now }
 {
-    slots.iter().filter(|slot| stays_freed(lost, slot)).count() as u64
+    let mut count = 0;
+    for slot in slots {
+        if stays_freed(lost, slot) {
+            count += 1;
+        }
+    }
+    count
 }
 
 /// Whether a slot is freed that was to be.

@@ -73,7 +73,12 @@ fn leave_data(alloc: Global, rebuilt: &[u64], file: &mut FileRec)
 pub(crate) fn is_one_of(numbers: &[u64], number: u64) -> bool
     ensures { result ≡ is_among numbers.now number }
 {
-    numbers.iter().any(|other| *other == number)
+    for other in numbers {
+        if *other == number {
+            return true;
+        }
+    }
+    false
 }
 
 /// The inodes that are made anew, with lost+found where it is.
