@@ -12,7 +12,7 @@ use xfs_disk::NoMemory;
 use xfs_geom::Run;
 
 /// The runs of a file among those of all: from one place up to another.
-#[derive(Clone, Copy, PartialEq, Eq)]
+#[derive(Clone, Copy)]
 pub struct RunSpan {
     pub from: usize,
     pub to: usize,
