@@ -242,7 +242,7 @@ fn changed_slots(rt: HostRuntime) {
         slot[82] = row.number(&rt);
         let mut due = slot;
         seal_file(&mut slot);
-        equal(&rt, sealed(&slot_seal(&g, 131), &slot), true);
+        assert!(rt; sealed(&slot_seal(&g, 131), &slot));
         set_links(&g, 131, 9, &mut slot);
         is_due(&rt, &slot, &mut due, 512, "16 00000009, 96 ffffffff");
         sure(&rt, get8(&slot, 82) <= 41, parts);
