@@ -25,14 +25,33 @@ use Rattle.xfs_mend.specs.declared.outcome.Outcome.TheVariants.{NoGeometry, Unsu
 use Rattle.xfs_mend.specs.declared.outcome.Summary.{Summary}
 use Rattle.xfs_writing.specs.Writing.{written}
 
+-- a repair is no other outcome
+not_geometry : (summary : Summary) → Repaired summary ≡ NoGeometry → ⊥
+not_geometry summary same = cc
+
+not_unsupported : (summary : Summary) (word bits : ℕ) → Repaired summary ≡ Unsupported word bits → ⊥
+not_unsupported summary word bits same = cc
+
+not_dirty : (summary : Summary) → Repaired summary ≡ DirtyLog → ⊥
+not_dirty summary same = cc
+
+not_large : (summary : Summary) (what count : ℕ) → Repaired summary ≡ TooLarge what count → ⊥
+not_large summary what count same = cc
+
+not_file : (summary : Summary) (ino what : ℕ) → Repaired summary ≡ UnsupportedFile ino what → ⊥
+not_file summary ino what same = cc
+
+not_clean : (summary : Summary) → Repaired summary ≡ Clean → ⊥
+not_clean summary same = cc
+
 -- no repair is due where nothing is found
 none_away : (summary : Summary) (dirty : Bool) (due : Option ScanFault) → IsDueBehind (away_if dirty due) (λ outcome. outcome ≡ Clean) (Repaired summary) → ⊥
-none_away summary true due same = absurd cc
-none_away summary false None same = absurd cc
-none_away summary false (Some scan.ReadFault) same = absurd cc
-none_away summary false (Some (scan.TooLarge what count)) same = absurd cc
-none_away summary false (Some (scan.UnsupportedFile ino what)) same = absurd cc
-none_away summary false (Some scan.NoMemory) same = absurd cc
+none_away summary true due same = not_dirty summary same
+none_away summary false None same = not_clean summary same
+none_away summary false (Some scan.ReadFault) same = not_clean summary same
+none_away summary false (Some (scan.TooLarge what count)) same = not_large summary what count same
+none_away summary false (Some (scan.UnsupportedFile ino what)) same = not_file summary ino what same
+none_away summary false (Some scan.NoMemory) same = not_clean summary same
 
 none_due : (o : Asked) (g : Geometry) (s : Stamp) (image : Image) (summary : Summary) → finding broken_law g image ≡ None → IsDueVolume o g s image (Repaired summary) → ⊥
 unfolding IsDueVolume turned_away
@@ -46,10 +65,10 @@ not_repaired : (o : Asked) (s : Stamp) (g : Geometry) (image : Image) (summary :
 not_repaired o s g image summary (Ok vote) is answer =
     let same : answer.geometry ≡ g = one_geometry answer.geometry g image answer.elected is.elected in
     none_due o answer.geometry s image summary (ap (λ (h : Geometry). finding broken_law h image) same ∙ nothing_found broken_law g image is) answer.is
-not_repaired o s g image summary (Err (fault.Unsupported word bits)) is answer = absurd cc
-not_repaired o s g image summary (Err fault.NoGeometry) is answer = absurd cc
-not_repaired o s g image summary (Err fault.ReadFault) is answer = absurd cc
-not_repaired o s g image summary (Err fault.NoMemory) is answer = absurd cc
+not_repaired o s g image summary (Err (fault.Unsupported word bits)) is answer = not_unsupported summary word bits answer
+not_repaired o s g image summary (Err fault.NoGeometry) is answer = not_geometry summary answer
+not_repaired o s g image summary (Err fault.ReadFault) is answer = not_geometry summary answer
+not_repaired o s g image summary (Err fault.NoMemory) is answer = not_geometry summary answer
 
 -- so nothing is written
 pub stays_quiet : (o : Asked) (s : Stamp) (g : Geometry) (image : Image) (outcome : Outcome) → IsConsistent broken_law g image → IsDueRepair o s image outcome

@@ -1,4 +1,4 @@
-use Rattle.std.proofs.Common.{rules, ◌≡◌, ◌≢◌, ◌-◌, Option, Some, None}
+use Rattle.std.proofs.Common.{rules, ◌≡◌, ◌≢◌, ◌-◌, Option, Some, None, sym, ◌∙◌}
 use Rattle.std.specs.Option.{ForSome}
 use Rattle.xfs_geom.specs.Electing.{vote_of}
 use Rattle.xfs_laws.specs.Lawful.{broken_law}
@@ -19,14 +19,14 @@ pub returns-in-Ok-Some-clause-found : goal.returns-in-Ok-Some-clause-found
 returns-in-Ok-Some-clause-found g c =
     λ image told.
     let first : c.args.chosen.now.from ≡ 0 = search rules in
-    let judged : Some c.in-Ok-Some.found ≡ view_found broken_law (view_seen c.args.seen.now) None = search rules in
+    let judged : Some c.in-Ok-Some.found ≡ view_found broken_law (view_seen c.args.seen.now) None = sym c.in-Ok-Some.field-0-is ∙ c.in-Ok-Some.ensures.found in
     found_in_view c.args.chosen.now.geometry image (vote_of c.args.chosen.now) (view_seen c.args.seen.now) c.in-Ok-Some.found (c.requires.elects image told)
     c.requires.stated first (c.requires.view image told) judged
 
 pub returns-in-Ok-None-clause-found : goal.returns-in-Ok-None-clause-found
 returns-in-Ok-None-clause-found g c =
     let first : c.args.chosen.now.from ≡ 0 = search rules in
-    let judged : None ≡ view_found broken_law (view_seen c.args.seen.now) None = search rules in
+    let judged : None ≡ view_found broken_law (view_seen c.args.seen.now) None = sym c.in-Ok-None.field-0-is ∙ c.in-Ok-None.ensures.found in
     let geometry = c.args.chosen.now.geometry in
     if_ok c.find_backup.result
     (λ (found : Option Finding). ForSome (g.D.Disk.holds c.args.disk.now) (λ image. found ≡ backup_found (first_disagreeing c.args.chosen.now.sector image 1 (geometry.agcount - 1))))

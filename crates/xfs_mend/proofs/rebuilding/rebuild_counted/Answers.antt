@@ -1,5 +1,6 @@
 -- Why nothing is planned, and what comes of what is.
-use Rattle.std.proofs.Common.{rules, ◌≡◌, ◌≤◌, inl, refl, ◌∙◌, subst}
+use Rattle.std.proofs.Common.{◌≡◌, ◌≤◌, inl, refl, ◌∙◌, subst}
+use Rattle.xfs_disk.specs.Faults.{Rose}
 use Rattle.xfs_rebuild.specs.Refusals.{IsRefused}
 use Rattle.xfs_rebuild.specs.declared.faults.RebuildFault.{RebuildFault}
 use Rattle.xfs_rebuild.specs.declared.faults.RebuildFault.TheVariants as faults
@@ -16,12 +17,12 @@ pub returns-in-Err-Names : goal.returns-in-Err-Names
 returns-in-Err-Names g c =
     let D = g.D.Disk in
     let disk = c.in-Err-Names.ensures.disk in
-    let up : D.faults c.args.disk.now ≤ D.faults c.plan_rebuild.new.disk = search rules in
+    let up : D.faults c.args.disk.now ≤ D.faults c.plan_rebuild.new.disk = rw c.in-Err-Names.field-0-is at c.in-Err-Names.ensures.cause in
     let geometry = c.args.chosen.now.geometry in
     let sector = c.args.chosen.now.sector in
     let s = c.args.stamp.now in
     let n = c.in-Err-Names.due in
-    let given : c.in-Err-Names.field-0 ≡ faults.Names n = search rules in
+    let given : c.in-Err-Names.field-0 ≡ faults.Names n = c.in-Err-Names.field-0-is in
     let refused : IsRefused geometry s c.args.evidence (faults.Names n) =
     subst (λ (f : RebuildFault). IsRefused geometry s c.args.evidence f) given c.in-Err-Names.ensures.refused in
     let later = c.rename.ensures in
@@ -50,10 +51,10 @@ pub returns-in-Err-NoRoom : goal.returns-in-Err-NoRoom
 returns-in-Err-NoRoom g c =
     let D = g.D.Disk in
     let disk = c.in-Err-NoRoom.ensures.disk in
-    let up : D.faults c.args.disk.now ≤ D.faults c.plan_rebuild.new.disk = search rules in
+    let up : D.faults c.args.disk.now ≤ D.faults c.plan_rebuild.new.disk = rw c.in-Err-NoRoom.field-0-is at c.in-Err-NoRoom.ensures.cause in
     record {
       due = λ image told.
-          let given : c.in-Err-NoRoom.field-0 ≡ faults.NoRoom c.in-Err-NoRoom.what = search rules in
+          let given : c.in-Err-NoRoom.field-0 ≡ faults.NoRoom c.in-Err-NoRoom.what = c.in-Err-NoRoom.field-0-is in
           room_due c.args.chosen.now.geometry c.args.stamp.now image c.args.evidence c.in-Err-NoRoom.what (c.requires.evidence image told)
           (subst (λ (f : RebuildFault). IsRefused c.args.chosen.now.geometry c.args.stamp.now c.args.evidence f) given c.in-Err-NoRoom.ensures.refused);
       leaves = λ image told. disk.same_contents ∙ told;
@@ -68,7 +69,8 @@ pub returns-in-Err-ReadFault : goal.returns-in-Err-ReadFault
 returns-in-Err-ReadFault g c =
     let D = g.D.Disk in
     let disk = c.in-Err-ReadFault.ensures.disk in
-    let up : D.faults c.args.disk.now ≤ D.faults c.plan_rebuild.new.disk = search rules in
+    let rose : Rose (D.faults c.args.disk.now) (D.faults c.plan_rebuild.new.disk) = rw c.in-Err-ReadFault.field-0-is at c.in-Err-ReadFault.ensures.cause in
+    let up : D.faults c.args.disk.now ≤ D.faults c.plan_rebuild.new.disk = rose.0 in
     record {
       due = λ image told. tt;
       leaves = λ image told. disk.same_contents ∙ told;
@@ -77,14 +79,14 @@ returns-in-Err-ReadFault g c =
           (StopsAnew (IsRepairPlan c.args.chosen.now.geometry c.args.chosen.now.sector c.args.stamp.now image c.args.evidence) image (out.ReadFault c.faults.result) stopped) disk tells low left;
       possible = λ o repairs. tt;
       ends = ends_read D.size D.holds D.faults D.write_faults D.writes D.tells_stops D.moment D.may_leave D.left_since c.args.disk.now c.plan_rebuild.new.disk (out.ReadFault c.faults.result) disk up refl
-          (search rules);
+          (rose, c.faults.ensures.count);
     }
 
 pub returns-in-Err-NoMemory : goal.returns-in-Err-NoMemory
 returns-in-Err-NoMemory g c =
     let D = g.D.Disk in
     let disk = c.in-Err-NoMemory.ensures.disk in
-    let up : D.faults c.args.disk.now ≤ D.faults c.plan_rebuild.new.disk = search rules in
+    let up : D.faults c.args.disk.now ≤ D.faults c.plan_rebuild.new.disk = rw c.in-Err-NoMemory.field-0-is at c.in-Err-NoMemory.ensures.cause in
     record {
       due = λ image told. tt;
       leaves = λ image told. disk.same_contents ∙ told;

@@ -1,6 +1,7 @@
 -- Why nothing is planned where names change, and what comes of what is.
 use Rattle.std.proofs.Common.{rules, ◌≡◌, ◌≤◌, Some, refl, ◌∙◌, subst}
 use Rattle.xfs_disk.specs.Blocks.{Image}
+use Rattle.xfs_disk.specs.Faults.{Rose}
 use Rattle.xfs_rebuild.specs.declared.faults.RebuildFault.{RebuildFault}
 use Rattle.xfs_rebuild.specs.declared.faults.RebuildFault.TheVariants as faults
 use Rattle.xfs_rename.specs.Renames.{IsRenameRefused}
@@ -47,9 +48,9 @@ pub returns-in-Err-NoRoom : goal.returns-in-Err-NoRoom
 returns-in-Err-NoRoom g c =
     let D = g.D.Disk in
     let disk = c.in-Err-NoRoom.ensures.disk in
-    let up : D.faults c.args.disk.now ≤ D.faults c.plan_names.new.disk = search rules in
+    let up : D.faults c.args.disk.now ≤ D.faults c.plan_names.new.disk = rw c.in-Err-NoRoom.field-0-is at c.in-Err-NoRoom.ensures.cause in
     let geometry = c.args.chosen.now.geometry in
-    let given : c.in-Err-NoRoom.field-0 ≡ faults.NoRoom c.in-Err-NoRoom.what = search rules in
+    let given : c.in-Err-NoRoom.field-0 ≡ faults.NoRoom c.in-Err-NoRoom.what = c.in-Err-NoRoom.field-0-is in
     record {
       due = λ image told. subst (λ (f : RebuildFault). IsRenameRefused geometry c.args.due f) given c.in-Err-NoRoom.ensures.refused;
       leaves = λ image told. disk.same_contents ∙ told;
@@ -64,7 +65,8 @@ pub returns-in-Err-ReadFault : goal.returns-in-Err-ReadFault
 returns-in-Err-ReadFault g c =
     let D = g.D.Disk in
     let disk = c.in-Err-ReadFault.ensures.disk in
-    let up : D.faults c.args.disk.now ≤ D.faults c.plan_names.new.disk = search rules in
+    let rose : Rose (D.faults c.args.disk.now) (D.faults c.plan_names.new.disk) = rw c.in-Err-ReadFault.field-0-is at c.in-Err-ReadFault.ensures.cause in
+    let up : D.faults c.args.disk.now ≤ D.faults c.plan_names.new.disk = rose.0 in
     record {
       due = λ image told. tt;
       leaves = λ image told. disk.same_contents ∙ told;
@@ -73,7 +75,7 @@ returns-in-Err-ReadFault g c =
           (StopsAnew (IsRenamedPlan c.args.chosen.now.geometry c.args.chosen.now.sector c.args.stamp.now image c.args.due) image (out.ReadFault c.faults.result) stopped) disk tells low left;
       possible = λ o repairs. tt;
       ends = ends_read D.size D.holds D.faults D.write_faults D.writes D.tells_stops D.moment D.may_leave D.left_since c.args.disk.now c.plan_names.new.disk (out.ReadFault c.faults.result) disk up refl
-          (search rules);
+          (rose, c.faults.ensures.count);
     }
 
 pub returns : goal.returns

@@ -1,7 +1,8 @@
 -- The plan is made and written.
-use Rattle.std.proofs.Common.{rules, ◌≡◌, ◌+◌, ◌-◌, ◌≤◌, ℕ, Some, length, refl, ap, ◌∙◌, subst, arith}
+use Rattle.std.proofs.Common.{◌≡◌, ◌+◌, ◌-◌, ◌≤◌, ℕ, Some, length, refl, ap, ◌∙◌, subst, arith}
 use Rattle.std.proofs.lemmas.List.{length-map}
 use Rattle.xfs_disk.specs.Counts.{raised_times}
+use Rattle.xfs_disk.specs.Faults.{Rose}
 use Rattle.xfs_writing.specs.Writing.{IsPartly, Writes, write_of, written, writes_of_rows}
 use Rattle.xfs_mend.proofs.Accepted.{stops_written}
 use Rattle.xfs_mend.proofs.Ending.{ends_behind, ends_read, stops_behind, stops_read}
@@ -24,9 +25,9 @@ returns-in-Err-ReadFault-clause-stops g c = λ tells image told t stopped low le
 pub returns-in-Err-ReadFault-clause-ends : goal.returns-in-Err-ReadFault-clause-ends
 returns-in-Err-ReadFault-clause-ends g c =
     let D = g.D.Disk in
-    let up : D.faults c.args.disk.now ≤ D.faults c.plan_backups.new.disk = search rules in
+    let rose : Rose (D.faults c.args.disk.now) (D.faults c.plan_backups.new.disk) = rw c.in-Err-ReadFault.field-0-is at c.in-Err-ReadFault.ensures.cause in
     ends_read D.size D.holds D.faults D.write_faults D.writes D.tells_stops D.moment D.may_leave D.left_since c.args.disk.now c.plan_backups.new.disk _
-    c.in-Err-ReadFault.ensures.disk up refl (search rules)
+    c.in-Err-ReadFault.ensures.disk rose.0 refl (rose, c.faults.ensures.count)
 
 pub returns-in-Err-NoMemory-clause-leaves : goal.returns-in-Err-NoMemory-clause-leaves
 returns-in-Err-NoMemory-clause-leaves g c = λ image told. c.in-Err-NoMemory.ensures.disk.same_contents ∙ told
@@ -40,7 +41,7 @@ returns-in-Err-NoMemory-clause-stops g c = λ tells image told t stopped low lef
 pub returns-in-Err-NoMemory-clause-ends : goal.returns-in-Err-NoMemory-clause-ends
 returns-in-Err-NoMemory-clause-ends g c =
     let D = g.D.Disk in
-    let up : D.faults c.args.disk.now ≤ D.faults c.plan_backups.new.disk = search rules in
+    let up : D.faults c.args.disk.now ≤ D.faults c.plan_backups.new.disk = rw c.in-Err-NoMemory.field-0-is at c.in-Err-NoMemory.ensures.cause in
     ends_read D.size D.holds D.faults D.write_faults D.writes D.tells_stops D.moment D.may_leave D.left_since c.args.disk.now c.plan_backups.new.disk out.NoMemory
     c.in-Err-NoMemory.ensures.disk up refl tt
 
@@ -137,3 +138,15 @@ returns-clause-ends g c =
     } in
     ends_behind D.size D.holds D.faults D.write_faults D.writes D.tells_stops D.moment D.may_leave D.left_since c.args.disk.now c.plan_backups.new.disk c.write_parts.new.disk (out.WriteFault c.in-Err.written)
     c.in-Ok.ensures.disk up part
+
+pub returns-in-Err-ReadFault-clause-due : goal.returns-in-Err-ReadFault-clause-due
+returns-in-Err-ReadFault-clause-due g c = λ image told. tt
+
+pub returns-in-Err-ReadFault-clause-possible : goal.returns-in-Err-ReadFault-clause-possible
+returns-in-Err-ReadFault-clause-possible g c = λ o repairs. tt
+
+pub returns-in-Err-NoMemory-clause-due : goal.returns-in-Err-NoMemory-clause-due
+returns-in-Err-NoMemory-clause-due g c = λ image told. tt
+
+pub returns-in-Err-NoMemory-clause-possible : goal.returns-in-Err-NoMemory-clause-possible
+returns-in-Err-NoMemory-clause-possible g c = λ o repairs. tt
