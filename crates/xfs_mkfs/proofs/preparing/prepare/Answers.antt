@@ -1,4 +1,4 @@
-use Rattle.std.proofs.Common.{ℕ, List, sym, subst}
+use Rattle.std.proofs.Common.{ℕ, List, refl, sym, subst}
 use Rattle.xfs_mkfs.specs.Counts.{CountsReads}
 use Rattle.xfs_mkfs.specs.Outcome.{IsDueMake, IsMakingCause, IsPlanned}
 use Rattle.xfs_mkfs.specs.declared.files.FilesAsked.{FilesAsked}
@@ -78,3 +78,147 @@ returns-clause-reads g c =
     let now = g.D.Disk.reads c.decide.new.disk in
     subst (λ (x : MakeOutcome). CountsReads force before now x) (sym c.place_outcome.ensures.value)
     (reads_placing force before now c.in-Err-plan_volume.fault c.in-Ok.ensures.looked)
+
+pub returns-in-Err-clause-early : goal.returns-in-Err-clause-early
+returns-in-Err-clause-early g c = c.in-Err.ensures.early
+
+pub returns-in-Err-clause-none : goal.returns-in-Err-clause-none
+returns-in-Err-clause-none g c = tt
+
+pub returns-in-Err-clause-fits : goal.returns-in-Err-clause-fits
+returns-in-Err-clause-fits g c = tt
+
+pub returns-in-Err-clause-prepared : goal.returns-in-Err-clause-prepared
+returns-in-Err-clause-prepared g c = tt
+
+pub returns-in-Err-clause-inside : goal.returns-in-Err-clause-inside
+returns-in-Err-clause-inside g c = tt
+
+pub returns-in-Err-clause-held : goal.returns-in-Err-clause-held
+returns-in-Err-clause-held g c = tt
+
+pub returns-in-Err-clause-looked : goal.returns-in-Err-clause-looked
+returns-in-Err-clause-looked g c = tt
+
+pub returns-in-Err-clause-disk : goal.returns-in-Err-clause-disk
+returns-in-Err-clause-disk g c = c.in-Err.ensures.disk
+
+pub returns-in-Err-clause-reads : goal.returns-in-Err-clause-reads
+returns-in-Err-clause-reads g c = c.in-Err.ensures.reads
+
+pub returns-in-Err-clause-faults : goal.returns-in-Err-clause-faults
+returns-in-Err-clause-faults g c = c.decide.ensures.faults
+
+pub returns-in-Err-clause-files : goal.returns-in-Err-clause-files
+returns-in-Err-clause-files g c = refl
+
+pub returns-in-Err-clause-unasked : goal.returns-in-Err-clause-unasked
+returns-in-Err-clause-unasked g c = λ n is. refl
+
+pub returns-in-Err-read_files-clause-none : goal.returns-in-Err-read_files-clause-none
+returns-in-Err-read_files-clause-none g c = tt
+
+pub returns-in-Err-read_files-clause-fits : goal.returns-in-Err-read_files-clause-fits
+returns-in-Err-read_files-clause-fits g c = tt
+
+pub returns-in-Err-read_files-clause-prepared : goal.returns-in-Err-read_files-clause-prepared
+returns-in-Err-read_files-clause-prepared g c = tt
+
+pub returns-in-Err-read_files-clause-inside : goal.returns-in-Err-read_files-clause-inside
+returns-in-Err-read_files-clause-inside g c = tt
+
+pub returns-in-Err-read_files-clause-held : goal.returns-in-Err-read_files-clause-held
+returns-in-Err-read_files-clause-held g c = tt
+
+pub returns-in-Err-read_files-clause-looked : goal.returns-in-Err-read_files-clause-looked
+returns-in-Err-read_files-clause-looked g c = tt
+
+pub returns-in-Err-read_files-clause-disk : goal.returns-in-Err-read_files-clause-disk
+returns-in-Err-read_files-clause-disk g c = c.in-Ok.ensures.disk
+
+pub returns-in-Err-read_files-clause-faults : goal.returns-in-Err-read_files-clause-faults
+returns-in-Err-read_files-clause-faults g c = c.decide.ensures.faults
+
+pub returns-in-Err-read_files-clause-files : goal.returns-in-Err-read_files-clause-files
+returns-in-Err-read_files-clause-files g c = c.read_files.ensures.files
+
+pub returns-in-Err-read_files-clause-unasked : goal.returns-in-Err-read_files-clause-unasked
+returns-in-Err-read_files-clause-unasked g c = c.read_files.ensures.unasked
+
+pub returns-in-Ok-plan_volume-clause-due : goal.returns-in-Ok-plan_volume-clause-due
+returns-in-Ok-plan_volume-clause-due g c = tt
+
+pub returns-in-Ok-plan_volume-clause-early : goal.returns-in-Ok-plan_volume-clause-early
+returns-in-Ok-plan_volume-clause-early g c = tt
+
+pub returns-in-Ok-plan_volume-clause-cause : goal.returns-in-Ok-plan_volume-clause-cause
+returns-in-Ok-plan_volume-clause-cause g c = tt
+
+pub returns-in-Ok-plan_volume-clause-reads : goal.returns-in-Ok-plan_volume-clause-reads
+returns-in-Ok-plan_volume-clause-reads g c = tt
+
+pub returns-in-Ok-plan_volume-clause-none : goal.returns-in-Ok-plan_volume-clause-none
+returns-in-Ok-plan_volume-clause-none g c = c.in-Ok.ensures.none
+
+pub returns-in-Ok-plan_volume-clause-fits : goal.returns-in-Ok-plan_volume-clause-fits
+returns-in-Ok-plan_volume-clause-fits g c = c.in-Ok.ensures.fits
+
+pub returns-in-Ok-plan_volume-clause-inside : goal.returns-in-Ok-plan_volume-clause-inside
+returns-in-Ok-plan_volume-clause-inside g c = c.in-Ok-plan_volume.ensures.inside
+
+pub returns-in-Ok-plan_volume-clause-held : goal.returns-in-Ok-plan_volume-clause-held
+returns-in-Ok-plan_volume-clause-held g c = c.in-Ok-plan_volume.ensures.held
+
+pub returns-in-Ok-plan_volume-clause-disk : goal.returns-in-Ok-plan_volume-clause-disk
+returns-in-Ok-plan_volume-clause-disk g c = c.in-Ok.ensures.disk
+
+pub returns-in-Ok-plan_volume-clause-looked : goal.returns-in-Ok-plan_volume-clause-looked
+returns-in-Ok-plan_volume-clause-looked g c = c.in-Ok.ensures.looked
+
+pub returns-in-Ok-plan_volume-clause-faults : goal.returns-in-Ok-plan_volume-clause-faults
+returns-in-Ok-plan_volume-clause-faults g c = c.decide.ensures.faults
+
+pub returns-in-Ok-plan_volume-clause-files : goal.returns-in-Ok-plan_volume-clause-files
+returns-in-Ok-plan_volume-clause-files g c = c.read_files.ensures.files
+
+pub returns-in-Ok-plan_volume-clause-unasked : goal.returns-in-Ok-plan_volume-clause-unasked
+returns-in-Ok-plan_volume-clause-unasked g c = c.read_files.ensures.unasked
+
+pub returns-in-Ok-plan_volume-clause-library_faults : goal.returns-in-Ok-plan_volume-clause-library_faults
+returns-in-Ok-plan_volume-clause-library_faults g c = c.in-Ok-read_files.ensures.cause
+
+pub returns-clause-early : goal.returns-clause-early
+returns-clause-early g c = c.place_outcome.ensures.early
+
+pub returns-clause-none : goal.returns-clause-none
+returns-clause-none g c = tt
+
+pub returns-clause-fits : goal.returns-clause-fits
+returns-clause-fits g c = tt
+
+pub returns-clause-prepared : goal.returns-clause-prepared
+returns-clause-prepared g c = tt
+
+pub returns-clause-inside : goal.returns-clause-inside
+returns-clause-inside g c = tt
+
+pub returns-clause-held : goal.returns-clause-held
+returns-clause-held g c = tt
+
+pub returns-clause-looked : goal.returns-clause-looked
+returns-clause-looked g c = tt
+
+pub returns-clause-disk : goal.returns-clause-disk
+returns-clause-disk g c = c.in-Ok.ensures.disk
+
+pub returns-clause-faults : goal.returns-clause-faults
+returns-clause-faults g c = c.decide.ensures.faults
+
+pub returns-clause-files : goal.returns-clause-files
+returns-clause-files g c = c.read_files.ensures.files
+
+pub returns-clause-unasked : goal.returns-clause-unasked
+returns-clause-unasked g c = c.read_files.ensures.unasked
+
+pub returns-clause-library_faults : goal.returns-clause-library_faults
+returns-clause-library_faults g c = c.in-Ok-read_files.ensures.cause
