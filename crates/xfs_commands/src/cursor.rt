@@ -16,7 +16,7 @@ pub struct Cursor {
 }
 
 /// How a command ended.
-#[derive(Clone, Copy, PartialEq, Eq)]
+#[derive(Clone, Copy)]
 pub enum Verdict {
     Done,
     /// It could not be run, and told why.

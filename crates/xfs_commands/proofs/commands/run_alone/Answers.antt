@@ -110,3 +110,51 @@ returns-in-Write-clause-effect c =
     effect_as _ _ _ _ _ _ _
     (ap (λ (t : Verb). runs_alone (volume_of c.args.geometry.now) t c.args.name.now c.args.arguments.now (session_of c.args.cursor.now)) (sym c.in-Write.is))
     (refused _ _ _ _ _ c.refuse_word-in-Write.ensures.verdict c.refuse_word-in-Write.ensures.text)
+
+pub returns-in-Agf-clause-within : goal.returns-in-Agf-clause-within
+returns-in-Agf-clause-within c = c.go_to_head-in-Agf.ensures.within
+
+pub returns-in-Agi-clause-within : goal.returns-in-Agi-clause-within
+returns-in-Agi-clause-within c = c.go_to_head-in-Agi.ensures.within
+
+pub returns-in-Agfl-clause-within : goal.returns-in-Agfl-clause-within
+returns-in-Agfl-clause-within c = c.go_to_head-in-Agfl.ensures.within
+
+pub returns-in-Inode-clause-within : goal.returns-in-Inode-clause-within
+returns-in-Inode-clause-within c = c.go_to_number.ensures.within
+
+pub returns-in-FsBlock-clause-within : goal.returns-in-FsBlock-clause-within
+returns-in-FsBlock-clause-within c = c.go_to_number-in-FsBlock.ensures.within
+
+pub returns-in-DiskAddress-clause-within : goal.returns-in-DiskAddress-clause-within
+returns-in-DiskAddress-clause-within c = c.go_to_number-in-DiskAddress.ensures.within
+
+pub returns-in-Retype-clause-within : goal.returns-in-Retype-clause-within
+returns-in-Retype-clause-within c = c.change_type.ensures.within c.args.geometry.now.dblocks c.requires.within
+
+pub returns-in-Pop-clause-within : goal.returns-in-Pop-clause-within
+returns-in-Pop-clause-within c = c.pop.ensures.within c.args.geometry.now.dblocks c.requires.within
+
+pub returns-in-Stack-clause-within : goal.returns-in-Stack-clause-within
+returns-in-Stack-clause-within c = c.requires.within
+
+pub returns-in-Convert-clause-within : goal.returns-in-Convert-clause-within
+returns-in-Convert-clause-within c = c.requires.within
+
+pub returns-in-Hash-clause-within : goal.returns-in-Hash-clause-within
+returns-in-Hash-clause-within c = c.requires.within
+
+pub returns-in-Quit-clause-within : goal.returns-in-Quit-clause-within
+returns-in-Quit-clause-within c = c.requires.within
+
+pub returns-in-Addr-clause-within : goal.returns-in-Addr-clause-within
+returns-in-Addr-clause-within c = c.requires.within
+
+pub returns-in-Print-clause-within : goal.returns-in-Print-clause-within
+returns-in-Print-clause-within c = c.requires.within
+
+pub returns-in-Push-clause-within : goal.returns-in-Push-clause-within
+returns-in-Push-clause-within c = c.requires.within
+
+pub returns-in-Write-clause-within : goal.returns-in-Write-clause-within
+returns-in-Write-clause-within c = c.requires.within

@@ -20,3 +20,9 @@ returns-in-None-clause-effect c =
     effect_as _ _ _ _ _ _ _
     (ap (λ (o : Option Item). follows_item (volume_of c.args.geometry.now) c.args.place c.args.object.now c.args.word.now o (session_of c.args.cursor.now)) (sym (ap (option_map item_of) c.in-None.is) ∙ c.in_ok-item.ensures.value))
     (refused _ _ _ _ _ c.refuse_word.ensures.verdict c.refuse_word.ensures.text)
+
+pub returns-in-Some-clause-within : goal.returns-in-Some-clause-within
+returns-in-Some-clause-within c = c.go_along_item.ensures.within
+
+pub returns-in-None-clause-within : goal.returns-in-None-clause-within
+returns-in-None-clause-within c = c.requires.within

@@ -21,3 +21,9 @@ returns-in-None-clause-effect c =
     (ap (λ (k : Option ObjectType). follows (volume_of c.args.geometry.now) c.args.place c.args.object.now c.args.word.now item.offset k (number_width item.shape) (session_of c.args.cursor.now))
     (sym (sym c.target_type.ensures ∙ c.in-None.is)))
     (refused _ _ _ _ _ c.refuse_word.ensures.verdict c.refuse_word.ensures.text)
+
+pub returns-in-Some-clause-within : goal.returns-in-Some-clause-within
+returns-in-Some-clause-within c = c.go_along_kind.ensures.within
+
+pub returns-in-None-clause-within : goal.returns-in-None-clause-within
+returns-in-None-clause-within c = c.requires.within

@@ -20,3 +20,9 @@ returns-in-None-clause-effect c =
     (ap (λ (w : Option ℕ). follows (volume_of c.args.geometry.now) c.args.place c.args.object.now c.args.word.now c.args.item.now.offset (Some c.args.kind) w (session_of c.args.cursor.now))
     (sym (sym c.number_width.ensures.value ∙ c.in-None.is)))
     (refused _ _ _ _ _ c.refuse_word.ensures.verdict c.refuse_word.ensures.text)
+
+pub returns-in-Some-clause-within : goal.returns-in-Some-clause-within
+returns-in-Some-clause-within c = c.go_along_pointer.ensures.within
+
+pub returns-in-None-clause-within : goal.returns-in-None-clause-within
+returns-in-None-clause-within c = c.requires.within

@@ -26,3 +26,9 @@ returns-in-TooLarge-clause-effect c =
     effect_as _ _ _ _ _ _ _
     (ap (λ (t : Typed). to_group (volume_of c.args.geometry.now) c.args.kind c.args.sector t c.args.word.now (session_of c.args.cursor.now)) (sym (sym c.read_number.ensures ∙ c.in-TooLarge.is)))
     (refused _ _ _ _ _ c.refuse_word-in-TooLarge.ensures.verdict c.refuse_word-in-TooLarge.ensures.text)
+
+pub returns-in-NoNumber-clause-within : goal.returns-in-NoNumber-clause-within
+returns-in-NoNumber-clause-within c = c.requires.within
+
+pub returns-in-TooLarge-clause-within : goal.returns-in-TooLarge-clause-within
+returns-in-TooLarge-clause-within c = c.requires.within

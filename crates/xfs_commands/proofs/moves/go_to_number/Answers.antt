@@ -26,3 +26,9 @@ returns-in-Number-clause-effect c =
     (ap (λ (o : Option (ℕ × ℕ)). goes_to c.args.kind o (session_of c.args.cursor.now)) c.spot.ensures.value
     ∙ ap (λ (t : Typed). to_spot (volume_of c.args.geometry.now) c.args.measure c.args.kind t c.args.word.now (session_of c.args.cursor.now)) (sym (sym c.read_number.ensures ∙ c.in-Number.is)))
     c.go_to.ensures.effect
+
+pub returns-in-NoNumber-clause-within : goal.returns-in-NoNumber-clause-within
+returns-in-NoNumber-clause-within c = c.requires.within
+
+pub returns-in-TooLarge-clause-within : goal.returns-in-TooLarge-clause-within
+returns-in-TooLarge-clause-within c = c.requires.within
