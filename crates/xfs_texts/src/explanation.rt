@@ -9,7 +9,7 @@ use xfs_image::Finding;
 use xfs_volume::Law;
 
 /// A number of a finding, in its own terms.
-#[derive(Clone, Copy, PartialEq, Eq)]
+#[derive(Clone, Copy)]
 pub(crate) enum Piece {
     /// No number.
     Nothing,

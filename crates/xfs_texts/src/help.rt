@@ -11,7 +11,7 @@ use crate::lines::{Number, put_line, put_text};
 use xfs_disk::{Failed, Sink};
 
 /// A tool of the program.
-#[derive(Clone, Copy, PartialEq, Eq)]
+#[derive(Clone, Copy)]
 pub enum Tool {
     /// `xfs_repair`.
     Repair,
