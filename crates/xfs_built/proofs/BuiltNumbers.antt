@@ -19,7 +19,7 @@ use Rattle.xfs_dirdata.specs.declared.records.EntryRec.{EntryRec}
 use Rattle.xfs_image.specs.Lsns.{LsnPlace, dir_byte, extent_place, extent_places, lsn_at}
 use Rattle.xfs_names.specs.Built.{IsImageIn}
 use Rattle.xfs_names.specs.declared.building.BuiltDirectory.{BuiltDirectory}
-use Rattle.xfs_protected.proofs.Members.{Member, map_member, member_either, row_member}
+use Rattle.xfs_views.proofs.Members.{Member, map_member, member_either, row_member}
 use Rattle.xfs_render.specs.Objects.{directory_kind}
 use Rattle.xfs_built.specs.Extents.{extent_of_run}
 use Rattle.xfs_built.specs.Directories.{HasOwnCounts, StandsIn, block_built}

@@ -5,7 +5,7 @@ use Rattle.std.proofs.lemmas.Bool.{cases_lt, eq-eqb, ne_eqb}
 use Rattle.std.proofs.lemmas.List.Sums.{sum_by-append, sum_by-cons}
 use Rattle.xfs_geom.specs.declared.records.Run.{Run}
 use Rattle.xfs_naming.specs.Naming.{NumbersAscend}
-use Rattle.xfs_protected.proofs.Members.{Member, member_map}
+use Rattle.xfs_views.proofs.Members.{Member, member_map}
 
 pub side : (y x : ℕ) → (y < x) ⊎ ((y ≡ x) ⊎ (x + 1 ≤ y))
 side y x = elim (cases_lt y x) [

@@ -4,3 +4,7 @@ pub mod Connected
 pub mod Places
 pub mod Met
 pub mod Private
+pub mod Hanging
+pub mod Together
+pub mod Settled
+pub mod Cycle

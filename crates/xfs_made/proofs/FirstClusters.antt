@@ -15,7 +15,7 @@ use Rattle.xfs_image.specs.Slots.{cluster_inodes, inodes_of_block}
 use Rattle.xfs_place.specs.Wanted.{inodes_in_group as records_of}
 use Rattle.xfs_place.specs.declared.placed.GroupPlaced.{GroupPlaced}
 use Rattle.xfs_place.specs.declared.wanted.GroupInodes.{GroupInodes}
-use Rattle.xfs_due.specs.Groups.{due_group_at, due_groups}
+use Rattle.xfs_made.specs.Groups.{due_group_at, due_groups}
 use Rattle.xfs_empty.specs.Placing.{all_inodes, chunks_of, first_chunk}
 use Rattle.xfs_empty.proofs.Kept.{inodes_are}
 use Rattle.xfs_made.proofs.RowLists.{both_ranges, flat_first, range_on}

@@ -15,7 +15,7 @@ use Rattle.xfs_volume.specs.declared.files.FileRec.{FileRec}
 use Rattle.xfs_laws.specs.Counting.{bits_below, chunk_number, count_below, due_chunk, inode_number, is_unused, is_used}
 use Rattle.xfs_space.specs.Owners.{cluster_run, cluster_runs, new_run}
 use Rattle.xfs_place.specs.Wanted.{inodes_in_group}
-use Rattle.xfs_due.specs.Keeping.{KeepsJust, all_clusters, all_used}
+use Rattle.xfs_made.specs.Keeping.{KeepsJust, all_clusters, all_used}
 use Rattle.xfs_empty.specs.Placing.{all_inodes, chunk_run, chunks_of, first_chunk}
 use Rattle.xfs_made.specs.Files.{first_files}
 use Rattle.xfs_made.proofs.FirstClusters.{no_chunks, records_are}

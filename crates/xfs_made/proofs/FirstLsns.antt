@@ -17,7 +17,7 @@ use Rattle.xfs_image.specs.Files.{clusters_of}
 use Rattle.xfs_image.specs.Lsns.{LsnPlace, cluster_places, file_places, lsn_at, slot_place}
 use Rattle.xfs_image.specs.Slots.{bytes_in, slot_bytes}
 use Rattle.xfs_place.specs.declared.placed.GroupPlaced.{GroupPlaced}
-use Rattle.xfs_due.specs.Groups.{due_groups}
+use Rattle.xfs_made.specs.Groups.{due_groups}
 use Rattle.xfs_empty.specs.Placing.{all_inodes}
 use Rattle.xfs_made.specs.Files.{HasFirstSlots, first_files}
 use Rattle.xfs_made.proofs.FirstClusters.{clusters_are}

@@ -15,7 +15,7 @@ use Rattle.xfs_kinds.specs.Lengths.{by_length}
 use Rattle.xfs_space.specs.SpaceLaws.{AllAreFree, IsSpaceLawful, free_laws, free_spans, owner_at, owner_laws, owner_number, recorded_runs, sharing_at, sharing_laws, space_laws, span_number}
 use Rattle.xfs_laws.specs.Counting.{by_group, group_chains, is_behind, log_laws, lsn_law}
 use Rattle.xfs_image.specs.Lsns.{LsnPlace}
-use Rattle.xfs_due.proofs.KeptLaws.{both_kept, no_difference}
+use Rattle.xfs_made.proofs.KeptLaws.{both_kept, no_difference}
 use Rattle.xfs_made.specs.Volumes.{no_lsn}
 
 -- nothing is broken where all is kept

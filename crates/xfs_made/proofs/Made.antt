@@ -28,16 +28,16 @@ use Rattle.xfs_place.specs.Wanted.{CanBeKept as AreKeptRuns, ArePlaced, inodes_i
 use Rattle.xfs_place.specs.declared.placed.Placed.{Placed}
 use Rattle.xfs_render.specs.Plans.{HoldsPlan}
 use Rattle.xfs_render.specs.declared.plan.Plan.{Plan}
-use Rattle.xfs_due.proofs.Chunks.{chunks_kept}
-use Rattle.xfs_due.proofs.Entries.{chains_kept, lists_kept}
-use Rattle.xfs_due.proofs.KeptLaws.{both_kept}
-use Rattle.xfs_due.proofs.Totals.{counters_kept}
-use Rattle.xfs_due.proofs.Spaces.{space_lawful}
-use Rattle.xfs_due.specs.Groups.{due_groups}
-use Rattle.xfs_rendered.proofs.Groups.{groups_stand, log_stands}
-use Rattle.xfs_rendered.proofs.Lsns.{lsns_stand}
-use Rattle.xfs_rendered.proofs.Supers.{backups_agree, counts_stand, primary_stands}
-use Rattle.xfs_rendered.specs.Standing.{IsStanding, agf_crc_at, agi_crc_at}
+use Rattle.xfs_made.proofs.Chunks.{chunks_kept}
+use Rattle.xfs_made.proofs.Entries.{chains_kept, lists_kept}
+use Rattle.xfs_made.proofs.KeptLaws.{both_kept}
+use Rattle.xfs_made.proofs.Totals.{counters_kept}
+use Rattle.xfs_made.proofs.Spaces.{space_lawful}
+use Rattle.xfs_made.specs.Groups.{due_groups}
+use Rattle.xfs_made.proofs.Groups.{groups_stand, log_stands}
+use Rattle.xfs_made.proofs.Lsns.{lsns_stand}
+use Rattle.xfs_made.proofs.Supers.{backups_agree, counts_stand, primary_stands}
+use Rattle.xfs_made.specs.Standing.{IsStanding, agf_crc_at, agi_crc_at}
 use Rattle.xfs_empty.proofs.Kept.{count_inodes, none_placed}
 use Rattle.xfs_empty.specs.Geometry.{HasFirstChunk}
 use Rattle.xfs_empty.specs.Placing.{all_inodes, chunk_run, chunks_of, empty_wanted, first_chunk}

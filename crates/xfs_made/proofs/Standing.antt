@@ -16,8 +16,8 @@ use Rattle.xfs_render.specs.Slots.{IsMadeSlot, IsSlotDue, wanted_of}
 use Rattle.xfs_render.specs.declared.bytes.Bytes.{Bytes}
 use Rattle.xfs_render.specs.declared.plan.Plan.{Plan}
 use Rattle.xfs_render.specs.declared.wanted_slots.SlotWanted.{SlotWanted}
-use Rattle.xfs_rendered.proofs.Slots.{slots_stand}
-use Rattle.xfs_rendered.specs.Standing.{HasHeads, IsStanding}
+use Rattle.xfs_made.proofs.Slots.{slots_stand}
+use Rattle.xfs_made.specs.Standing.{HasHeads, IsStanding}
 use Rattle.xfs_empty.proofs.Kept.{many}
 use Rattle.xfs_empty.proofs.Places.{chunk_at, chunk_inode, count_places, head_at, numbered}
 use Rattle.xfs_empty.proofs.Slots.{wanted_is}

@@ -12,7 +12,7 @@ use Rattle.xfs_image.specs.Consistent.{IsConsistent}
 use Rattle.xfs_image.specs.Lsns.{LsnPlace, lsn_places_in_order, lsn_places}
 use Rattle.xfs_image.specs.View.{view}
 use Rattle.xfs_place.specs.declared.placed.Placed.{Placed}
-use Rattle.xfs_due.specs.Groups.{due_groups}
+use Rattle.xfs_made.specs.Groups.{due_groups}
 use Rattle.xfs_empty.specs.Placing.{all_inodes, empty_wanted}
 use Rattle.xfs_empty.specs.Planning.{StandsFor}
 use Rattle.xfs_made.specs.Files.{first_dirs, first_files}

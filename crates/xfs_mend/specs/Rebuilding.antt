@@ -16,7 +16,7 @@ use Rattle.xfs_place.specs.declared.faults.Unplaced.TheVariants.{LostFound}
 use Rattle.xfs_request.specs.Requests.{cleared_count, kept_count}
 use Rattle.xfs_scan.specs.Evidence.{IsEvidence}
 use Rattle.xfs_scan.specs.declared.evidence.Evidence.{Evidence}
-use Rattle.xfs_hanging.specs.Together.{orphans_of}
+use Rattle.xfs_links.specs.Together.{orphans_of}
 use Rattle.xfs_names.specs.declared.building.BuiltDirectory.{BuiltDirectory}
 use Rattle.xfs_names.specs.declared.records.WantedNames.{WantedNames}
 use Rattle.xfs_rebuild.specs.Rebuilds.{AreNamesDue, Ground, IsGround, IsRebuildOf, asked, names_change, slots_asked}

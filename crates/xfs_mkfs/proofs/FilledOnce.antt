@@ -23,8 +23,8 @@ use Rattle.xfs_filled.specs.Planning.{IsFilledPlan}
 use Rattle.xfs_filled.specs.Wanting.{blocks_of_chunks, filled_bytes, filled_places, filled_wanted}
 use Rattle.xfs_filled.proofs.Rising.{Rise}
 use Rattle.xfs_filled.proofs.Starting.{IsChunkAt, are_chunks}
-use Rattle.xfs_apart.proofs.PlansApart.{head_fixed, plans_apart}
-use Rattle.xfs_apart.specs.Unused.{AreHeadsOrKept, IsHeadOrKept}
+use Rattle.xfs_made.proofs.PlansApart.{head_fixed, plans_apart}
+use Rattle.xfs_made.specs.Unused.{AreHeadsOrKept, IsHeadOrKept}
 
 -- the blocks of chunks that stand one behind the other
 clusters_from : (end least : ℕ) (xs : List ℕ) → Rise end least xs → All (λ n. least ≤ n) (blocks_of_chunks xs)

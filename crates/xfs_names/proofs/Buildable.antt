@@ -15,16 +15,16 @@ use Rattle.xfs_links.specs.declared.records.NodeRec.{NodeRec}
 use Rattle.xfs_links.specs.Entries.{AreFiles, AreEntries, is_kept_node, is_directory_number}
 use Rattle.xfs_links.specs.Walk.{attached_parent}
 use Rattle.xfs_links.specs.Connected.{directory_numbers, attached_directories, kept_entries}
-use Rattle.xfs_hanging.specs.Hanging.{IsNamedOnce}
-use Rattle.xfs_hanging.specs.Together.{lost_directory, old_lost, adds_lost, entries_together}
-use Rattle.xfs_hanging.specs.Settled.{by_directory, parent_due}
-use Rattle.xfs_hanging.proofs.ByDirectory.{all_by}
-use Rattle.xfs_hanging.proofs.Different.{all_kept}
-use Rattle.xfs_hanging.proofs.Hung.{root_parent}
-use Rattle.xfs_hanging.proofs.Lost.{directory_kept}
-use Rattle.xfs_hanging.proofs.Naming.{named_once}
-use Rattle.xfs_hanging.proofs.Targets.{together_valid, together_in_use}
-use Rattle.xfs_hanging.proofs.Tests.{other_test, the_second, neither, second_of_both}
+use Rattle.xfs_links.specs.Hanging.{IsNamedOnce}
+use Rattle.xfs_links.specs.Together.{lost_directory, old_lost, adds_lost, entries_together}
+use Rattle.xfs_links.specs.Settled.{by_directory, parent_due}
+use Rattle.xfs_links.proofs.ByDirectory.{all_by}
+use Rattle.xfs_links.proofs.Different.{all_kept}
+use Rattle.xfs_links.proofs.Hung.{root_parent}
+use Rattle.xfs_links.proofs.Lost.{directory_kept}
+use Rattle.xfs_links.proofs.Naming.{named_once}
+use Rattle.xfs_links.proofs.Targets.{together_valid, together_in_use}
+use Rattle.xfs_links.proofs.Tests.{other_test, the_second, neither, second_of_both}
 use Rattle.xfs_names.specs.declared.records.WantedNames.{WantedNames}
 use Rattle.xfs_names.specs.Wanted.{directory_node, with_directory, with_type, wanted_nodes, wanted_entries, with_parent, wanted_parents}
 use Rattle.xfs_names.specs.Rebuilt.{is_rebuilt, wanted_rebuilt}

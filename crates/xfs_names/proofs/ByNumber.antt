@@ -10,7 +10,7 @@ use Rattle.xfs_naming.specs.Naming.{NumbersAscend}
 use Rattle.xfs_links.specs.Connected.{directory_numbers}
 use Rattle.xfs_links.specs.Entries.{NodesAscend, no_node, node_number, is_kept_node, is_directory_number}
 use Rattle.xfs_links.proofs.Files.{number_low, number_rises}
-use Rattle.xfs_hanging.proofs.Tests.{same_test, other_test}
+use Rattle.xfs_links.proofs.Tests.{same_test, other_test}
 use Rattle.xfs_names.specs.Wanted.{kind_at}
 
 -- the kind of the file at a place

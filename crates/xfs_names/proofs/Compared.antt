@@ -1,7 +1,7 @@
 -- Entries that are compared one after the other.
 use Rattle.std.proofs.Common.{◌≡◌, ℕ, ◌<◌, ◌≤◌, ◌&&◌, true, false, List, [], ◌∷◌, length, drop, zero, suc, refl, sym, ap, ◌∙◌, arith, slice_index_or}
 use Rattle.xfs_dirdata.specs.declared.records.EntryRec.{EntryRec}
-use Rattle.xfs_hanging.proofs.Tests.{and_false}
+use Rattle.xfs_links.proofs.Tests.{and_false}
 use Rattle.xfs_names.specs.Rebuilt.{is_right_entry, are_right_entries}
 
 pub not_as_many : (hs ds : List EntryRec) → (length hs ≡ length ds → ⊥) → are_right_entries hs ds ≡ false

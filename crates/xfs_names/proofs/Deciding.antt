@@ -13,12 +13,12 @@ use Rattle.xfs_links.specs.declared.walk.Attached.{Attached}
 use Rattle.xfs_links.specs.Entries.{AreEntries, NodesAscend, is_kept_node, is_directory_number}
 use Rattle.xfs_links.specs.Walk.{attached_parent}
 use Rattle.xfs_links.specs.Connected.{directory_numbers, parents, names_lost_found, attached_directories, kept_entries}
-use Rattle.xfs_hanging.specs.Together.{lost_directory, is_new, orphans_of, old_lost, adds_lost, entries_together}
-use Rattle.xfs_hanging.specs.Settled.{by_directory}
-use Rattle.xfs_hanging.proofs.Ascending.{absent}
-use Rattle.xfs_hanging.proofs.Different.{all_kept}
-use Rattle.xfs_hanging.proofs.Targets.{together_all}
-use Rattle.xfs_hanging.proofs.Tests.{same_test, other_test, the_second, or_true, not_first, not_second}
+use Rattle.xfs_links.specs.Together.{lost_directory, is_new, orphans_of, old_lost, adds_lost, entries_together}
+use Rattle.xfs_links.specs.Settled.{by_directory}
+use Rattle.xfs_links.proofs.Ascending.{absent}
+use Rattle.xfs_links.proofs.Different.{all_kept}
+use Rattle.xfs_links.proofs.Targets.{together_all}
+use Rattle.xfs_links.proofs.Tests.{same_test, other_test, the_second, or_true, not_first, not_second}
 use Rattle.xfs_names.specs.Wanted.{AreDecided, directory_node, with_directory, with_type, wanted_nodes, wanted_entries, with_parent, wanted_parents}
 use Rattle.xfs_names.specs.Pairs.{PairsAscend, parent_among}
 use Rattle.xfs_names.specs.Private.Joined.{joined, told_parents}

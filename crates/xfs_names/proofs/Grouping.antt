@@ -10,9 +10,9 @@ use Rattle.xfs_weave.specs.Lists.{has_node}
 use Rattle.xfs_dirdata.specs.declared.records.EntryRec.{EntryRec}
 use Rattle.xfs_naming.specs.Naming.{NumbersAscend, entries_in}
 use Rattle.xfs_links.specs.Entries.{DirectoriesAscend}
-use Rattle.xfs_hanging.specs.Settled.{by_directory}
-use Rattle.xfs_hanging.proofs.Ascending.{rises}
-use Rattle.xfs_hanging.proofs.Tests.{same_test, other_test, the_second, clash}
+use Rattle.xfs_links.specs.Settled.{by_directory}
+use Rattle.xfs_links.proofs.Ascending.{rises}
+use Rattle.xfs_links.proofs.Tests.{same_test, other_test, the_second, clash}
 
 -- entries that tie with one of a directory are those of the directory
 tie_is : (a b : ℕ) → (not (is_lt (nat_cmp a b)) && not (is_lt (nat_cmp b a))) ≡ (b == a)

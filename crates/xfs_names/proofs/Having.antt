@@ -19,12 +19,12 @@ use Rattle.xfs_links.specs.declared.records.NodeRec.{NodeRec}
 use Rattle.xfs_links.specs.Entries.{NodesAscend, is_kept_node, is_directory_number, is_reserved_inode}
 use Rattle.xfs_links.specs.Connected.{directory_numbers}
 use Rattle.xfs_links.proofs.Joined.{any_through}
-use Rattle.xfs_hanging.specs.Together.{adds_lost, entries_together}
-use Rattle.xfs_hanging.specs.Settled.{IsSettled, parent_due, untyped, by_directory}
-use Rattle.xfs_hanging.proofs.Ascending.{rises, absent, nodes_ascend as numbers_ascend}
-use Rattle.xfs_hanging.proofs.ByDirectory.{all_by}
-use Rattle.xfs_hanging.proofs.Targets.{together_in_use}
-use Rattle.xfs_hanging.proofs.Tests.{same_test, other_test, the_second, or_false, both, neither, clash}
+use Rattle.xfs_links.specs.Together.{adds_lost, entries_together}
+use Rattle.xfs_links.specs.Settled.{IsSettled, parent_due, untyped, by_directory}
+use Rattle.xfs_links.proofs.Ascending.{rises, absent, nodes_ascend as numbers_ascend}
+use Rattle.xfs_links.proofs.ByDirectory.{all_by}
+use Rattle.xfs_links.proofs.Targets.{together_in_use}
+use Rattle.xfs_links.proofs.Tests.{same_test, other_test, the_second, or_false, both, neither, clash}
 use Rattle.xfs_names.specs.Wanted.{kind_at, directory_node, with_directory, with_type, wanted_nodes, wanted_entries, link_count, with_links}
 use Rattle.xfs_names.specs.Having.{node_of, HasWanted}
 use Rattle.xfs_names.proofs.Deciding.{directory_with, nodes_ascend}

@@ -8,7 +8,7 @@ use Rattle.std.proofs.lemmas.Bool.{cases_lt}
 use Rattle.std.proofs.lemmas.Bool.Decides.{nat_tests}
 use Rattle.std.proofs.lemmas.Cmp.{ranked}
 use Rattle.std.proofs.lemmas.List.Sorted.{IsNonDecreasingBy-from_default}
-use Rattle.xfs_hanging.proofs.Tests.{same_test, other_test}
+use Rattle.xfs_links.proofs.Tests.{same_test, other_test}
 use Rattle.xfs_names.specs.Pairs.{PairsAscend, parent_among}
 
 abbrev pub first_at : List (ℕ × ℕ) → ℕ → ℕ

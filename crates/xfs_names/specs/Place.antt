@@ -4,7 +4,7 @@ use Rattle.std.specs.List.{find, flat_map, range_with_len}
 use Rattle.xfs_dirdata.specs.declared.records.EntryRec.{EntryRec}
 use Rattle.xfs_links.specs.declared.records.NodeRec.{NodeRec}
 use Rattle.xfs_links.specs.Entries.{is_kept_node, is_reserved_inode}
-use Rattle.xfs_hanging.specs.Together.{orphans_of, old_lost}
+use Rattle.xfs_links.specs.Together.{orphans_of, old_lost}
 use Rattle.xfs_names.specs.declared.place.LostPlace.{LostPlace}
 use Rattle.xfs_names.specs.declared.place.LostPlace.TheVariants.{Unneeded, Old, Slot, Cluster}
 

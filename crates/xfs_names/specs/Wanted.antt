@@ -8,8 +8,8 @@ use Rattle.xfs_links.specs.declared.records.NodeRec.{NodeRec}
 use Rattle.xfs_links.specs.declared.records.DecidedNames.{DecidedNames}
 use Rattle.xfs_links.specs.Entries.{is_directory_number, is_reserved_inode}
 use Rattle.xfs_links.specs.Connected.{directory_numbers, parents, attached_directories, kept_entries}
-use Rattle.xfs_hanging.specs.Together.{orphans_of, old_lost, adds_lost, entries_together}
-use Rattle.xfs_hanging.specs.Settled.{by_directory, parent_due}
+use Rattle.xfs_links.specs.Together.{orphans_of, old_lost, adds_lost, entries_together}
+use Rattle.xfs_links.specs.Settled.{by_directory, parent_due}
 
 -- the names are those that were decided for these files and entries
 pub record AreDecided (nodes : List NodeRec) (listed : List EntryRec) (root : ℕ) (names : DecidedNames) : Type 0 where

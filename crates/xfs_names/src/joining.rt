@@ -7,8 +7,8 @@ ghost use Rattle.xfs_weave.specs.Lists.{has_node};
 ghost use Rattle.xfs_dirdata.specs.declared.records.EntryRec.{EntryRec};
 ghost use Rattle.xfs_links.specs.Entries.{NodesAscend};
 ghost use Rattle.xfs_links.specs.Connected.{directory_numbers};
-ghost use Rattle.xfs_hanging.specs.Together.{orphan_entry, lost_entry, lost_directory, is_new};
-ghost use Rattle.xfs_hanging.specs.Settled.{by_directory as each_directory};
+ghost use Rattle.xfs_links.specs.Together.{orphan_entry, lost_entry, lost_directory, is_new};
+ghost use Rattle.xfs_links.specs.Settled.{by_directory as each_directory};
 ghost use Rattle.xfs_names.specs.Wanted.{with_type, with_directory};
 ghost use Rattle.xfs_names.specs.Private.Joined.{joined};
 

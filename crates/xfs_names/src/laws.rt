@@ -8,8 +8,7 @@ ghost use Rattle.xfs_names.specs.Wanted.{wanted_entries};
 ghost use Rattle.xfs_names.specs.Having.{HasWanted};
 
 use xfs_dirdata::EntryRec;
-use xfs_hanging::settled_names_are_lawful;
-use xfs_links::NodeRec;
+use xfs_links::{NodeRec, settled_names_are_lawful};
 use xfs_volume::{DirRec, FileRec};
 
 /// Where a volume has the files that are wanted with their links, whole directories with the parents that are wanted, and the entries

@@ -16,8 +16,8 @@ use Rattle.xfs_place.specs.Wanted.{inodes_in_group}
 use Rattle.xfs_place.specs.declared.placed.GroupPlaced.{GroupPlaced}
 use Rattle.xfs_place.specs.declared.wanted.GroupInodes.{GroupInodes}
 use Rattle.xfs_space.specs.Owners.{cluster_run, cluster_runs, clusters_of_chunk}
-use Rattle.xfs_due.specs.Groups.{due_group_at, due_groups}
-use Rattle.xfs_due.specs.Keeping.{all_clusters}
+use Rattle.xfs_made.specs.Groups.{due_group_at, due_groups}
+use Rattle.xfs_made.specs.Keeping.{all_clusters}
 use Rattle.xfs_filled.specs.Chunks.{inodes_filled, chunk_at, chunk_record, chunks_of_group, inodes_of_group}
 use Rattle.xfs_filled.proofs.Starting.{AreChunks}
 use Rattle.xfs_populated.proofs.NumberChunks.{clusters, clusters_are}

@@ -18,9 +18,9 @@ use Rattle.xfs_laws.specs.Counting.{bits_below, chunk_laws, chunk_number, count_
 use Rattle.xfs_place.specs.Wanted.{inodes_in_group, kept_runs}
 use Rattle.xfs_place.specs.declared.placed.Placed.{Placed}
 use Rattle.xfs_proto.specs.declared.protofile.ProtoNode.{ProtoNode}
-use Rattle.xfs_protected.proofs.Members.{all_members, filter_member, map_member, row_member}
+use Rattle.xfs_views.proofs.Members.{all_members, filter_member, map_member, row_member}
 use Rattle.xfs_render.specs.declared.plan.Plan.{Plan}
-use Rattle.xfs_due.proofs.Chunks.{chunks_kept}
+use Rattle.xfs_made.proofs.Chunks.{chunks_kept}
 use Rattle.xfs_empty.proofs.Places.{chunk_inode}
 use Rattle.xfs_volume.specs.Laws.{AreKept}
 use Rattle.xfs_volume.specs.declared.files.FileRec.{FileRec}

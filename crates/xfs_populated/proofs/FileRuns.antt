@@ -19,7 +19,7 @@ use Rattle.xfs_place.specs.declared.wanted.RunAsk.{RunAsk}
 use Rattle.xfs_proto.specs.declared.protofile.ProtoKind.{ProtoKind}
 use Rattle.xfs_proto.specs.declared.protofile.ProtoKind.TheVariants as Kind
 use Rattle.xfs_proto.specs.declared.protofile.ProtoNode.{ProtoNode}
-use Rattle.xfs_protected.proofs.Members.{row_member}
+use Rattle.xfs_views.proofs.Members.{row_member}
 use Rattle.xfs_space.specs.Owners.{extent_run, file_runs}
 use Rattle.xfs_volume.specs.declared.files.FileRec.{FileRec}
 use Rattle.xfs_built.proofs.Mapping.{address_leads}

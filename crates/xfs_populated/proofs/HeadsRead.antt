@@ -13,9 +13,9 @@ use Rattle.xfs_place.specs.declared.wanted.Wanted.{Wanted}
 use Rattle.xfs_proto.specs.declared.protofile.ProtoNode.{ProtoNode}
 use Rattle.xfs_render.specs.declared.bytes.Bytes.{Bytes}
 use Rattle.xfs_render.specs.declared.plan.Plan.{Plan}
-use Rattle.xfs_rendered.proofs.Groups.{groups_stand, log_stands}
-use Rattle.xfs_rendered.proofs.Supers.{backups_agree, counts_stand, primary_stands}
-use Rattle.xfs_rendered.specs.Standing.{IsStanding, agf_crc_at, agi_crc_at}
+use Rattle.xfs_made.proofs.Groups.{groups_stand, log_stands}
+use Rattle.xfs_made.proofs.Supers.{backups_agree, counts_stand, primary_stands}
+use Rattle.xfs_made.specs.Standing.{IsStanding, agf_crc_at, agi_crc_at}
 use Rattle.xfs_filled.specs.Wanting.{filled_bytes, filled_wanted}
 use Rattle.xfs_populated.specs.Populated.{IsPopulated, filled_groups}
 use Rattle.xfs_populated.proofs.SlotStanding.{populated_stands}

@@ -19,7 +19,7 @@ use Rattle.xfs_place.specs.declared.wanted.RunAsk.{RunAsk}
 use Rattle.xfs_proto.specs.declared.protofile.ProtoKind.{ProtoKind}
 use Rattle.xfs_proto.specs.declared.protofile.ProtoKind.TheVariants as Kind
 use Rattle.xfs_proto.specs.declared.protofile.ProtoNode.{ProtoNode}
-use Rattle.xfs_protected.proofs.Members.{Member, all_members, member_either}
+use Rattle.xfs_views.proofs.Members.{Member, all_members, member_either}
 use Rattle.xfs_render.specs.declared.plan.Plan.{Plan}
 use Rattle.xfs_built.proofs.Mapping.{address_leads}
 use Rattle.xfs_built.specs.Extents.{extent_of_run}

@@ -13,12 +13,12 @@ use Rattle.xfs_geom.specs.declared.records.Run.{Run}
 use Rattle.xfs_image.specs.Lsns.{LsnPlace, cluster_places, lsn_at, slot_place}
 use Rattle.xfs_image.specs.Slots.{bytes_in, cluster_blocks, slot_bytes}
 use Rattle.xfs_inodebuild.specs.declared.forks.ForkWanted.{ForkWanted}
-use Rattle.xfs_protected.proofs.Members.{Member, all_members, flat_member, map_member, row_member}
+use Rattle.xfs_views.proofs.Members.{Member, all_members, flat_member, map_member, row_member}
 use Rattle.xfs_render.specs.Slots.{DropsAttrs, IsBased, IsMadeSlot, SetsFork, SetsLinks}
 use Rattle.xfs_render.specs.declared.wanted_slots.SlotBase.{SlotBase}
 use Rattle.xfs_render.specs.declared.wanted_slots.SlotBase.TheVariants as Base
 use Rattle.xfs_render.specs.declared.wanted_slots.SlotWanted.{SlotWanted}
-use Rattle.xfs_rendered.proofs.Numbers.{number_in_part}
+use Rattle.xfs_made.proofs.Numbers.{number_in_part}
 use Rattle.xfs_volume.specs.declared.cores.Core.{Core}
 use Rattle.xfs_empty.specs.Inodes.{system_slot, unused_slot}
 use Rattle.xfs_proto.specs.declared.protofile.ProtoNode.{ProtoNode}

@@ -15,7 +15,7 @@ use Rattle.xfs_laws.specs.Counting.{log_laws}
 use Rattle.xfs_place.specs.declared.placed.Placed.{Placed}
 use Rattle.xfs_proto.specs.declared.protofile.ProtoNode.{ProtoNode}
 use Rattle.xfs_render.specs.declared.plan.Plan.{Plan}
-use Rattle.xfs_rendered.proofs.Lsns.{lsns_stand}
+use Rattle.xfs_made.proofs.Lsns.{lsns_stand}
 use Rattle.xfs_made.proofs.Catalogs.{no_lsns}
 use Rattle.xfs_made.proofs.Kept.{log_kept}
 use Rattle.xfs_made.specs.Volumes.{no_lsn}

@@ -18,7 +18,7 @@ use Rattle.xfs_image.specs.Slots.{cluster_inodes, inodes_of_block}
 use Rattle.xfs_place.specs.Wanted.{inodes_in_group}
 use Rattle.xfs_place.specs.declared.placed.GroupPlaced.{GroupPlaced}
 use Rattle.xfs_place.specs.declared.wanted.GroupInodes.{GroupInodes}
-use Rattle.xfs_due.specs.Groups.{due_group_at, due_groups}
+use Rattle.xfs_made.specs.Groups.{due_group_at, due_groups}
 use Rattle.xfs_filled.specs.Chunks.{inodes_filled, chunk_record, chunks_of_group, inodes_of_group}
 use Rattle.xfs_filled.specs.Numbers.{inode_at}
 use Rattle.xfs_filled.proofs.Asked.{group_few}

@@ -18,8 +18,8 @@ use Rattle.xfs_render.specs.Slots.{IsMadeSlot, IsSlotDue, wanted_of}
 use Rattle.xfs_render.specs.declared.bytes.Bytes.{Bytes}
 use Rattle.xfs_render.specs.declared.plan.Plan.{Plan}
 use Rattle.xfs_render.specs.declared.wanted_slots.SlotWanted.{SlotWanted}
-use Rattle.xfs_rendered.proofs.Slots.{slots_stand}
-use Rattle.xfs_rendered.specs.Standing.{HasHeads, IsStanding}
+use Rattle.xfs_made.proofs.Slots.{slots_stand}
+use Rattle.xfs_made.specs.Standing.{HasHeads, IsStanding}
 use Rattle.xfs_empty.specs.Bytes.{header_places}
 use Rattle.xfs_proto.specs.declared.protofile.ProtoNode.{ProtoNode}
 use Rattle.xfs_filled.specs.Chunks.{chunk_starts}

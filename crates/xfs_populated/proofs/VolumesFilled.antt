@@ -23,12 +23,12 @@ use Rattle.xfs_place.specs.declared.placed.Placed.{Placed}
 use Rattle.xfs_render.specs.Slots.{IsMadeSlot}
 use Rattle.xfs_render.specs.declared.plan.Plan.{Plan}
 use Rattle.xfs_render.specs.declared.wanted_slots.SlotWanted.{SlotWanted}
-use Rattle.xfs_due.proofs.KeptLaws.{both_kept}
+use Rattle.xfs_made.proofs.KeptLaws.{both_kept}
 use Rattle.xfs_made.proofs.Catalogs.{reads_as}
 use Rattle.xfs_made.proofs.Kept.{none_broken}
 use Rattle.xfs_made.specs.Files.{slot_crc}
 use Rattle.xfs_made.specs.Volumes.{Checksums, no_lsn}
-use Rattle.xfs_rendered.specs.Standing.{agf_crc_at, agi_crc_at}
+use Rattle.xfs_made.specs.Standing.{agf_crc_at, agi_crc_at}
 use Rattle.xfs_proto.specs.declared.protofile.ProtoNode.{ProtoNode}
 use Rattle.xfs_filled.specs.Chunks.{chunk_starts}
 use Rattle.xfs_filled.specs.Numbers.{index_of_place, number_of}

@@ -15,7 +15,7 @@ use Rattle.xfs_volume.specs.declared.files.FileRec.{FileRec}
 use Rattle.xfs_volume.specs.declared.groups.GroupRec.{GroupRec}
 use Rattle.xfs_inodebuild.specs.declared.forks.ForkWanted.{ForkWanted}
 use Rattle.xfs_image.specs.Lsns.{lsn_places_in_order, lsn_places}
-use Rattle.xfs_due.specs.Groups.{due_groups}
+use Rattle.xfs_made.specs.Groups.{due_groups}
 use Rattle.xfs_empty.specs.Geometry.{HasFirstChunk}
 use Rattle.xfs_empty.specs.Inodes.{system_core}
 use Rattle.xfs_place.specs.declared.placed.Placed.{Placed}

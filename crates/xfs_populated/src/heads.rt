@@ -11,7 +11,7 @@ ghost use Rattle.xfs_image.specs.Groups.{groups_read};
 ghost use Rattle.xfs_image.specs.View.{counts_of, log_of};
 ghost use Rattle.xfs_proto.specs.declared.protofile.ProtoNode.{ProtoNode};
 ghost use Rattle.xfs_render.specs.declared.plan.Plan.{Plan};
-ghost use Rattle.xfs_rendered.specs.Standing.{agf_crc_at, agi_crc_at};
+ghost use Rattle.xfs_made.specs.Standing.{agf_crc_at, agi_crc_at};
 ghost use Rattle.xfs_populated.specs.Populated.{IsPopulated, filled_groups};
 
 /// An image that has the whole plan of a new volume with files has its groups as they are due, its primary superblock elected, which states

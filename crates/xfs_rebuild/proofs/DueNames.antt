@@ -17,7 +17,7 @@ use Rattle.xfs_image.specs.Claims.{candidate_files}
 use Rattle.xfs_image.specs.Clusters.{root_cluster}
 use Rattle.xfs_image.specs.Slots.{cluster_blocks, cluster_inodes, inodes_of_block}
 use Rattle.xfs_naming.specs.Naming.{AreNamed, NumbersAscend, is_in_use, numbers_of}
-use Rattle.xfs_protected.proofs.Members.{Member, any_member, filter_member, flat_member, map_member, member_any, member_flat, member_map, member_row}
+use Rattle.xfs_views.proofs.Members.{Member, any_member, filter_member, flat_member, map_member, member_any, member_flat, member_map, member_row}
 use Rattle.xfs_render.specs.declared.wanted_slots.SlotBase.TheVariants as Base
 use Rattle.xfs_render.specs.declared.wanted_slots.SlotWanted.{SlotWanted}
 use Rattle.xfs_space.proofs.FreeSpans.{group_short}
@@ -29,9 +29,9 @@ use Rattle.xfs_scan.specs.declared.evidence.Evidence.{Evidence}
 use Rattle.xfs_salvage.specs.Kept.{entries_of_kept, fresh_among, kept_clusters, kept_dirs, kept_files, own_inodes}
 use Rattle.xfs_salvage.specs.declared.found.Salvaged.{Salvaged}
 use Rattle.xfs_salvage.proofs.Ascending.{lower}
-use Rattle.xfs_kept.proofs.Images.{image_can}
-use Rattle.xfs_kept.proofs.Inodes.{first_in}
-use Rattle.xfs_kept.proofs.Roots.{root_is, root_kept}
+use Rattle.xfs_requested.proofs.Candidates.{image_can}
+use Rattle.xfs_requested.proofs.Inodes.{first_in}
+use Rattle.xfs_requested.proofs.Roots.{root_is, root_kept}
 use Rattle.xfs_request.specs.Fresh.{new_slot, new_root_core, new_root_slot, new_system_slot}
 use Rattle.xfs_request.specs.Slots.{as_list, attrs_wanted, bare_slot, block_slots, cluster_slots, freed_slot, is_free, kept_slot, links_due, nlink_wanted, slot_listed, slot_of, slot_wanted, state_at, wanted_slots}
 use Rattle.xfs_request.specs.declared.seen.SlotSeen.{SlotSeen}

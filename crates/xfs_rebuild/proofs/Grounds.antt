@@ -18,7 +18,7 @@ use Rattle.xfs_render.specs.Readiness.{HasBytes, IsWritable}
 use Rattle.xfs_render.specs.declared.bytes.Bytes.{Bytes}
 use Rattle.xfs_render.specs.declared.wanted_slots.SlotWanted.{SlotWanted}
 use Rattle.xfs_salvage.specs.declared.found.Salvaged.{Salvaged}
-use Rattle.xfs_kept.proofs.Ordered.{clusters_of_volume_ascend, files_have_forks, files_of_volume_ascend}
+use Rattle.xfs_requested.proofs.Ordered.{clusters_of_volume_ascend, files_have_forks, files_of_volume_ascend}
 use Rattle.xfs_request.specs.Requests.{volume_wanted}
 use Rattle.xfs_requested.proofs.Spaced.{slots_in_order}
 use Rattle.xfs_requested.proofs.Writable.{can_be_kept, writable}

@@ -20,7 +20,7 @@ use Rattle.xfs_naming.specs.Naming.{NumbersAscend}
 use Rattle.xfs_slots.specs.Facts.{slot_fact, slot_facts}
 use Rattle.xfs_slots.specs.Gathered.{bare_if, bare_inodes}
 use Rattle.xfs_rounds.specs.declared.facts.SlotFact.{SlotFact}
-use Rattle.xfs_kept.proofs.Inodes.{inodes_ascend}
+use Rattle.xfs_requested.proofs.Inodes.{inodes_ascend}
 use Rattle.xfs_render.specs.Clusters.{slot_in}
 use Rattle.xfs_inodebuild.specs.declared.forks.ForkWanted.{ForkWanted}
 use Rattle.xfs_render.specs.Slots.{CanBase, CanFork, CanMake, forkoff_of, wanted_of}

@@ -11,14 +11,14 @@ use Rattle.xfs_image.specs.Candidates.{candidates}
 use Rattle.xfs_image.specs.Claims.{candidate_files}
 use Rattle.xfs_image.specs.Directories.{dirs_read, entries_read}
 use Rattle.xfs_naming.specs.Naming.{AreGrouped, AreNamed, NumbersAscend, is_directory_at, numbers_of}
-use Rattle.xfs_protected.proofs.Members.{Member}
+use Rattle.xfs_views.proofs.Members.{Member}
 use Rattle.xfs_views.proofs.Names.{each_directory, entries_grouped}
 use Rattle.xfs_volume.specs.Names.{is_directory}
 use Rattle.xfs_volume.specs.declared.directories.DirRec.{DirRec}
 use Rattle.xfs_volume.specs.declared.files.FileRec.{FileRec}
 use Rattle.xfs_salvage.specs.Kept.{dirs_among, entries_among, entries_of_kept, is_kept_file, kept_dirs, kept_files}
 use Rattle.xfs_salvage.proofs.Ascending.{claiming_ascend, filtered}
-use Rattle.xfs_kept.proofs.Images.{image_can}
+use Rattle.xfs_requested.proofs.Candidates.{image_can}
 
 -- a number below all others is that of none
 none_at : (test : FileRec → Bool) (n low : ℕ) (files : List FileRec) → n < low → NumbersAscend low (numbers_of files) → is_directory_at (filter test files) n ≡ false

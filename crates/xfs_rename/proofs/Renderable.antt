@@ -13,7 +13,7 @@ use Rattle.xfs_geom.specs.declared.geometry.Geometry.{Geometry}
 use Rattle.xfs_geom.specs.declared.records.InoRec.{InoRec}
 use Rattle.xfs_geom.specs.declared.records.Run.{Run}
 use Rattle.xfs_image.specs.Clusters.{root_cluster}
-use Rattle.xfs_kept.proofs.Roots.{root_kept}
+use Rattle.xfs_requested.proofs.Roots.{root_kept}
 use Rattle.xfs_kinds.specs.InodeTrees.{ino_shape}
 use Rattle.xfs_names.specs.declared.records.WantedNames.{WantedNames}
 use Rattle.xfs_place.specs.Objects.{IsAsk}
@@ -21,7 +21,7 @@ use Rattle.xfs_place.specs.Pool.{is_taken}
 use Rattle.xfs_place.specs.Wanted.{IsOffFixed, inodes_in_group}
 use Rattle.xfs_place.specs.declared.wanted.GroupInodes.{GroupInodes}
 use Rattle.xfs_place.specs.declared.wanted.Object.{Object}
-use Rattle.xfs_protected.proofs.Members.{Member, member_all, member_any, member_left, member_map, member_right}
+use Rattle.xfs_views.proofs.Members.{Member, member_all, member_any, member_left, member_map, member_right}
 use Rattle.xfs_render.specs.Readiness.{HasAsker, IsWritable}
 use Rattle.xfs_request.specs.Chunks.{group_asked, inodes_wanted, kept_chunks}
 use Rattle.xfs_requested.proofs.Lawful.{chunks_lawful}

@@ -4,7 +4,7 @@ use Rattle.std.specs.List.{All, filter}
 use Rattle.xfs_dirdata.specs.declared.records.EntryRec.{EntryRec}
 use Rattle.xfs_disk.specs.declared.stamp.Stamp.{Stamp}
 use Rattle.xfs_geom.specs.declared.geometry.Geometry.{Geometry}
-use Rattle.xfs_hanging.specs.Together.{old_lost, orphans_of}
+use Rattle.xfs_links.specs.Together.{old_lost, orphans_of}
 use Rattle.xfs_links.specs.Connected.{attached_directories, kept_entries, parents}
 use Rattle.xfs_links.specs.declared.records.DecidedNames.{DecidedNames}
 use Rattle.xfs_links.specs.declared.records.NodeRec.{NodeRec}

@@ -7,7 +7,7 @@ use Rattle.xfs_disk.specs.declared.stamp.Stamp.{Stamp}
 use Rattle.xfs_geom.specs.Volumes.{volume_of}
 use Rattle.xfs_geom.specs.declared.geometry.Geometry.{Geometry}
 use Rattle.xfs_empty.specs.Planning.{StandsFor}
-use Rattle.xfs_hanging.specs.Together.{orphans_of}
+use Rattle.xfs_links.specs.Together.{orphans_of}
 use Rattle.xfs_naming.specs.Naming.{NumbersAscend}
 use Rattle.xfs_names.specs.Built.{CanBeBuilt, IsBuiltAsWanted}
 use Rattle.xfs_names.specs.declared.building.BuiltDirectory.{BuiltDirectory}

@@ -16,9 +16,9 @@ use Rattle.xfs_space.specs.Owners.{file_runs}
 use Rattle.xfs_volume.specs.declared.files.FileRec.{FileRec}
 use Rattle.xfs_salvage.specs.Kept.{run_of_cluster, taken_of}
 use Rattle.xfs_salvage.specs.declared.found.Salvaged.{Salvaged}
-use Rattle.xfs_kept.proofs.Ordered.{clusters_of_volume_ascend}
-use Rattle.xfs_kept.proofs.Images.{image_can}
-use Rattle.xfs_due.specs.Keeping.{KeepsJust, all_used}
+use Rattle.xfs_requested.proofs.Ordered.{clusters_of_volume_ascend}
+use Rattle.xfs_requested.proofs.Candidates.{image_can}
+use Rattle.xfs_made.specs.Keeping.{KeepsJust, all_used}
 use Rattle.xfs_request.specs.Requests.{volume_wanted}
 use Rattle.xfs_requested.specs.Handed.{IsKeptOf}
 use Rattle.xfs_requested.proofs.Chunked.{IsHalf, kept_halves}

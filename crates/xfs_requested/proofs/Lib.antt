@@ -1,3 +1,13 @@
+pub mod Tallies
+pub mod Claims
+pub mod KeptTaken
+pub mod Roots
+pub mod Inodes
+pub mod Candidates
+pub mod Protected
+pub mod Steps
+pub mod Different
+pub mod Ordered
 pub mod Taken
 pub mod Lawful
 pub mod Writable

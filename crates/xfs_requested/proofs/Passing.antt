@@ -17,9 +17,9 @@ use Rattle.xfs_volume.specs.declared.directories.DirRec.{DirRec}
 use Rattle.xfs_volume.specs.declared.files.FileRec.{FileRec}
 use Rattle.xfs_salvage.specs.Claimable.{AscendClaiming, CanBeSalvaged}
 use Rattle.xfs_salvage.specs.Kept.{entries_of_kept, kept_clusters}
-use Rattle.xfs_kept.proofs.Images.{image_can}
-use Rattle.xfs_kept.proofs.Inodes.{inodes_ascend}
-use Rattle.xfs_kept.proofs.Taken.{end_by}
+use Rattle.xfs_requested.proofs.Candidates.{image_can}
+use Rattle.xfs_requested.proofs.Inodes.{inodes_ascend}
+use Rattle.xfs_requested.proofs.KeptTaken.{end_by}
 use Rattle.xfs_request.specs.Slots.{StandByNumber}
 use Rattle.xfs_request.specs.declared.seen.SlotSeen.{SlotSeen}
 use Rattle.xfs_requested.proofs.Spaced.{each_kept}

@@ -13,8 +13,8 @@ use Rattle.xfs_image.specs.Slots.{cluster_blocks, cluster_inodes, inodes_of_bloc
 use Rattle.xfs_claims.specs.Ranks.{first_block}
 use Rattle.xfs_naming.specs.Naming.{NumbersAscend}
 use Rattle.xfs_naming.proofs.Order.{Rises, rises_by}
-use Rattle.xfs_protected.proofs.Members.{Member, all_members, filter_member, member_map}
-use Rattle.xfs_protected.specs.Claimed.{claims_in}
+use Rattle.xfs_views.proofs.Members.{Member, all_members, filter_member, member_map}
+use Rattle.xfs_views.specs.Claimed.{claims_in}
 use Rattle.xfs_render.specs.declared.wanted_slots.SlotBase.TheVariants as Base
 use Rattle.xfs_render.specs.declared.wanted_slots.SlotWanted.{SlotWanted}
 use Rattle.xfs_volume.specs.declared.clusters.ClusterRec.{ClusterRec}
@@ -22,9 +22,9 @@ use Rattle.xfs_volume.specs.declared.files.FileRec.{FileRec}
 use Rattle.xfs_salvage.specs.Claimable.{AscendWithin, CanBeSalvaged}
 use Rattle.xfs_salvage.specs.Kept.{claims_held, kept_clusters}
 use Rattle.xfs_salvage.specs.declared.found.Salvaged.{Salvaged}
-use Rattle.xfs_kept.proofs.Ordered.{clusters_of_volume_ascend}
-use Rattle.xfs_kept.proofs.Inodes.{blocks_then, first_in, later_block}
-use Rattle.xfs_kept.proofs.Taken.{kept_all}
+use Rattle.xfs_requested.proofs.Ordered.{clusters_of_volume_ascend}
+use Rattle.xfs_requested.proofs.Inodes.{blocks_then, first_in, later_block}
+use Rattle.xfs_requested.proofs.KeptTaken.{kept_all}
 use Rattle.xfs_request.specs.Fresh.{new_slot, new_root_slot, new_system_slot}
 use Rattle.xfs_request.specs.Slots.{as_list, attrs_wanted, bare_slot, block_slots, cluster_slots, freed_slot, is_free, kept_slot, links_due, nlink_wanted, slot_listed, slot_of, slot_wanted, state_at, wanted_slots}
 use Rattle.xfs_request.specs.declared.seen.SlotSeen.{SlotSeen}

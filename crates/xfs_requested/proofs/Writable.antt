@@ -17,7 +17,7 @@ use Rattle.xfs_render.specs.Readiness.{HasOwner, IsWritable}
 use Rattle.xfs_tree.specs.Rules.{are_lawful}
 use Rattle.xfs_salvage.specs.Claimable.{CanBeSalvaged}
 use Rattle.xfs_salvage.specs.declared.found.Salvaged.{Salvaged}
-use Rattle.xfs_kept.proofs.Taken.{are_kept}
+use Rattle.xfs_requested.proofs.KeptTaken.{are_kept}
 use Rattle.xfs_request.specs.Chunks.{group_asked, inodes_wanted, kept_chunks}
 use Rattle.xfs_request.specs.Requests.{volume_wanted}
 use Rattle.xfs_requested.specs.Handed.{IsKeptOf}

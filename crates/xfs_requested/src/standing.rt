@@ -13,7 +13,7 @@ ghost use Rattle.xfs_laws.specs.Counting.{chunk_number, due_chunk, is_used};
 ghost use Rattle.xfs_space.specs.Owners.{file_runs};
 ghost use Rattle.xfs_volume.specs.declared.files.FileRec.{FileRec};
 ghost use Rattle.xfs_place.specs.Wanted.{inodes_in_group, kept_runs};
-ghost use Rattle.xfs_due.specs.Keeping.{KeepsJust};
+ghost use Rattle.xfs_made.specs.Keeping.{KeepsJust};
 ghost use Rattle.xfs_salvage.specs.declared.found.Salvaged.{Salvaged};
 ghost use Rattle.xfs_request.specs.Chunks.{is_inode_used};
 ghost use Rattle.xfs_request.specs.Requests.{volume_wanted};

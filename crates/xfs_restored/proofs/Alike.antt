@@ -9,9 +9,9 @@ use Rattle.xfs_geom.specs.Volumes.{Volume, volume_of}
 use Rattle.xfs_geom.specs.declared.geometry.Geometry.{Geometry}
 use Rattle.xfs_claims.specs.Ranks.{placed_by_number}
 use Rattle.xfs_claims.proofs.Ordered.{Ascend, same_list}
-use Rattle.xfs_kept.proofs.Inodes.{first_in}
+use Rattle.xfs_requested.proofs.Inodes.{first_in}
 use Rattle.xfs_naming.specs.Naming.{NumbersAscend, is_in_use}
-use Rattle.xfs_protected.proofs.Members.{Member, all_members, any_member, filter_member, member_all, member_any, member_filter}
+use Rattle.xfs_views.proofs.Members.{Member, all_members, any_member, filter_member, member_all, member_any, member_filter}
 use Rattle.xfs_volume.specs.declared.directories.DirRec.{DirRec}
 use Rattle.xfs_volume.specs.declared.files.FileRec.{FileRec}
 use Rattle.xfs_render.specs.declared.wanted_slots.SlotWanted.{SlotWanted}

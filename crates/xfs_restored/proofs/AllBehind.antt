@@ -11,8 +11,8 @@ use Rattle.xfs_heads.specs.declared.log.state.LogState.TheVariants.{Clean}
 use Rattle.xfs_image.specs.Files.{clusters_of}
 use Rattle.xfs_image.specs.Lsns.{LsnPlace, at, cluster_places, dir_byte, extent_places, file_places, groups_places, lsn_at, lsn_places, lsn_places_in_order, lsns_read}
 use Rattle.xfs_laws.specs.Counting.{by_group, group_chains, head_of, is_behind, log_at, log_laws, lsn_law}
-use Rattle.xfs_due.proofs.KeptLaws.{both_kept}
-use Rattle.xfs_protected.proofs.Members.{Member, all_members, flat_member, map_member, member_all, member_either, member_right}
+use Rattle.xfs_made.proofs.KeptLaws.{both_kept}
+use Rattle.xfs_views.proofs.Members.{Member, all_members, flat_member, map_member, member_all, member_either, member_right}
 use Rattle.xfs_volume.specs.Laws.{AreKept}
 use Rattle.xfs_volume.specs.Names.{type_of}
 use Rattle.xfs_volume.specs.declared.catalogs.BlockLsn.{BlockLsn}

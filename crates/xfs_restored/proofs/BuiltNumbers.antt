@@ -12,7 +12,7 @@ use Rattle.xfs_names.specs.Pairs.{parent_or_itself}
 use Rattle.xfs_names.specs.declared.building.BuiltDirectory.{BuiltDirectory}
 use Rattle.xfs_names.specs.declared.building.ForkRoom.{ForkRoom}
 use Rattle.xfs_names.specs.declared.records.WantedNames.{WantedNames}
-use Rattle.xfs_protected.proofs.Members.{Member}
+use Rattle.xfs_views.proofs.Members.{Member}
 use Rattle.xfs_built.specs.Directories.{HasOwnCounts, StandsIn}
 use Rattle.xfs_built.specs.Extents.{extent_of_run}
 use Rattle.xfs_built.proofs.BuiltNumbers.{built_zero}

@@ -16,23 +16,23 @@ use Rattle.xfs_volume.specs.declared.files.FileRec.{FileRec}
 use Rattle.xfs_place.specs.Pool.{is_taken}
 use Rattle.xfs_place.specs.Wanted.{IsOffFixed, kept_runs}
 use Rattle.xfs_place.specs.declared.wanted.Wanted.{Wanted}
-use Rattle.xfs_protected.proofs.Claimed.{same_claims}
-use Rattle.xfs_protected.proofs.Counted.{any_on, flat_on, on_both}
-use Rattle.xfs_protected.proofs.Members.{Member, any_member, map_member, member_any, member_map}
+use Rattle.xfs_views.proofs.Claimed.{same_claims}
+use Rattle.xfs_views.proofs.Counted.{any_on, flat_on, on_both}
+use Rattle.xfs_views.proofs.Members.{Member, any_member, map_member, member_any, member_map}
 use Rattle.xfs_render.proofs.TreePlaces.{all_left}
 use Rattle.xfs_render.specs.Plans.{planned}
 use Rattle.xfs_render.specs.declared.bytes.Bytes.{Bytes}
 use Rattle.xfs_render.specs.declared.wanted_slots.SlotWanted.{SlotWanted}
 use Rattle.xfs_salvage.specs.Kept.{run_of_cluster}
-use Rattle.xfs_frames.specs.SameFiles.{HasSameClaims}
+use Rattle.xfs_views.specs.SameFiles.{HasSameClaims}
 use Rattle.xfs_rebuild.specs.Places.{old_places}
 use Rattle.xfs_rebuild.specs.declared.names_due.NamesDue.{NamesDue}
-use Rattle.xfs_apart.proofs.Counting.{taken_on, untaken_on}
+use Rattle.xfs_made.proofs.Counting.{taken_on, untaken_on}
 use Rattle.xfs_restored.proofs.Kept.{places_used}
-use Rattle.xfs_apart.proofs.PlansApart.{head_fixed, kept_off, taken_unfixed}
+use Rattle.xfs_made.proofs.PlansApart.{head_fixed, kept_off, taken_unfixed}
 use Rattle.xfs_restored.proofs.Staying.{off_list}
 use Rattle.xfs_restored.specs.Rewriting.{IsRewritten}
-use Rattle.xfs_apart.specs.Unused.{IsHeadOrKept}
+use Rattle.xfs_made.specs.Unused.{IsHeadOrKept}
 use Rattle.xfs_rename.specs.Lost.{lost_due}
 use Rattle.xfs_rename.specs.Objects.{wanted_with}
 use Rattle.xfs_rename.specs.Renames.{IsRenamed, old_files, placed_forks, renamed_slots, renamed_wanted}

@@ -25,7 +25,7 @@ use Rattle.xfs_names.specs.Having.{node_of}
 use Rattle.xfs_names.specs.Pairs.{PairsAscend, parent_among, parent_or_itself}
 use Rattle.xfs_names.specs.Rebuilt.{is_whole_with}
 use Rattle.xfs_names.specs.Wanted.{with_parent}
-use Rattle.xfs_protected.proofs.Members.{Member, filter_member, member_all, member_map}
+use Rattle.xfs_views.proofs.Members.{Member, filter_member, member_all, member_map}
 use Rattle.xfs_render.specs.Slots.{IsMadeSlot, wanted_of}
 use Rattle.xfs_render.specs.declared.wanted_slots.SlotBase.TheVariants.{Kept}
 use Rattle.xfs_render.specs.declared.wanted_slots.SlotWanted.{SlotWanted}

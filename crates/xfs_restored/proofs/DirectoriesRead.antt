@@ -18,9 +18,9 @@ use Rattle.xfs_volume.specs.declared.directories.DirRec.{DirRec}
 use Rattle.xfs_volume.specs.declared.files.FileRec.{FileRec}
 use Rattle.xfs_image.specs.Directories.{FileBlock, blocks_of_extent, data_blocks, dir_of, entries_in_block, entries_of, entries_of_form, entry_target, file_block_at, has_whole_form, is_beside_dots, is_own, is_short, is_whole, parent_of, parent_of_form, short_form}
 use Rattle.xfs_image.specs.Slots.{slot_bytes}
-use Rattle.xfs_frames.specs.SameFiles.{HasSameClaims}
-use Rattle.xfs_frames.proofs.Claimed.{data_claimed}
-use Rattle.xfs_protected.proofs.Members.{Member}
+use Rattle.xfs_views.specs.SameFiles.{HasSameClaims}
+use Rattle.xfs_views.proofs.NamedClaims.{data_claimed}
+use Rattle.xfs_views.proofs.Members.{Member}
 use Rattle.xfs_salvage.specs.declared.found.Salvaged.{Salvaged}
 use Rattle.xfs_request.specs.declared.seen.SlotSeen.{SlotSeen}
 use Rattle.xfs_restored.specs.Kept.{HasKept}

@@ -16,9 +16,9 @@ use Rattle.xfs_image.specs.Candidates.{candidates}
 use Rattle.xfs_image.specs.Claims.{candidate_files}
 use Rattle.xfs_image.specs.Directories.{data_blocks, dir_of, directories, dirs_read, entries_of, entries_of_form, entries_read, is_whole, parent_of, parent_of_form, short_form}
 use Rattle.xfs_image.specs.Slots.{slot_bytes}
-use Rattle.xfs_kept.proofs.Images.{image_can}
+use Rattle.xfs_requested.proofs.Candidates.{image_can}
 use Rattle.xfs_naming.specs.Naming.{AreGrouped, NumbersAscend, is_directory_at, numbers_of}
-use Rattle.xfs_protected.proofs.Members.{Member, any_member, filter_member, member_any, member_filter}
+use Rattle.xfs_views.proofs.Members.{Member, any_member, filter_member, member_any, member_filter}
 use Rattle.xfs_salvage.proofs.Ascending.{claiming_ascend}
 use Rattle.xfs_salvage.specs.Kept.{entries_of_kept, is_kept_file, kept_dirs, kept_files}
 use Rattle.xfs_salvage.specs.declared.found.Salvaged.{Salvaged}

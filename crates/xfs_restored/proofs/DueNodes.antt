@@ -14,7 +14,7 @@ use Rattle.xfs_links.specs.declared.records.NodeRec.{NodeRec}
 use Rattle.xfs_names.specs.Having.{HasWanted, node_of}
 use Rattle.xfs_names.specs.Wanted.{directory_node, wanted_entries, wanted_nodes, with_links}
 use Rattle.xfs_names.specs.declared.records.WantedNames.{WantedNames}
-use Rattle.xfs_protected.proofs.Members.{Member, any_member, map_member}
+use Rattle.xfs_views.proofs.Members.{Member, any_member, map_member}
 use Rattle.xfs_salvage.specs.Kept.{own_inodes}
 use Rattle.xfs_scan.specs.declared.evidence.Evidence.{Evidence}
 use Rattle.xfs_rebuild.specs.declared.names_due.NamesDue.{NamesDue}

@@ -9,7 +9,7 @@ use Rattle.xfs_laws.specs.Counting.{is_used}
 use Rattle.xfs_naming.specs.Naming.{is_in_use}
 use Rattle.xfs_space.specs.Owners.{file_runs}
 use Rattle.xfs_volume.specs.declared.files.FileRec.{FileRec}
-use Rattle.xfs_protected.proofs.Members.{Member}
+use Rattle.xfs_views.proofs.Members.{Member}
 use Rattle.xfs_salvage.specs.declared.found.Salvaged.{Salvaged}
 use Rattle.xfs_request.specs.Chunks.{is_inode_used}
 use Rattle.xfs_request.specs.declared.seen.SlotSeen.{SlotSeen}

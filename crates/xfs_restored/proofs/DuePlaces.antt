@@ -17,9 +17,9 @@ use Rattle.xfs_image.specs.Claims.{claims}
 use Rattle.xfs_image.specs.Files.{clusters_of}
 use Rattle.xfs_image.specs.Lsns.{LsnPlace, at, cluster_places, data_places, dir_byte, extent_places, file_places, lsn_at, lsn_places, lsn_places_in_order, lsns_read}
 use Rattle.xfs_place.specs.Wanted.{IsOffFixed}
-use Rattle.xfs_protected.proofs.Claimed.{same_claims}
-use Rattle.xfs_protected.proofs.Members.{Member, any_member, member_all, member_either, member_filter, member_flat, member_map, member_right}
-use Rattle.xfs_frames.specs.SameFiles.{HasSameClaims}
+use Rattle.xfs_views.proofs.Claimed.{same_claims}
+use Rattle.xfs_views.proofs.Members.{Member, any_member, member_all, member_either, member_filter, member_flat, member_map, member_right}
+use Rattle.xfs_views.specs.SameFiles.{HasSameClaims}
 use Rattle.xfs_space.specs.Owners.{file_runs}
 use Rattle.xfs_volume.specs.Names.{type_of}
 use Rattle.xfs_volume.specs.declared.catalogs.BlockLsn.{BlockLsn}

@@ -15,7 +15,7 @@ use Rattle.xfs_names.specs.declared.building.BuiltDirectory.{BuiltDirectory}
 use Rattle.xfs_names.specs.declared.records.WantedNames.{WantedNames}
 use Rattle.xfs_place.specs.Objects.{ServeAsks, asks_of}
 use Rattle.xfs_place.specs.declared.placed.Placed.{Placed}
-use Rattle.xfs_protected.proofs.Members.{Member, any_member, contained, contains, filter_member, map_member, member_any, member_either, member_left, member_map, member_right}
+use Rattle.xfs_views.proofs.Members.{Member, any_member, contained, contains, filter_member, map_member, member_any, member_either, member_left, member_map, member_right}
 use Rattle.xfs_space.specs.Owners.{attribute_flag, extent_run, file_runs}
 use Rattle.xfs_volume.specs.declared.files.FileRec.{FileRec}
 use Rattle.xfs_salvage.specs.declared.found.Salvaged.{Salvaged}

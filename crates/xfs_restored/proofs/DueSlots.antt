@@ -17,20 +17,20 @@ use Rattle.xfs_place.specs.Claims.{IsClaimedRun}
 use Rattle.xfs_place.specs.Pool.{is_listed, is_taken}
 use Rattle.xfs_place.specs.Wanted.{IsOffFixed, kept_runs}
 use Rattle.xfs_place.specs.declared.wanted.Wanted.{Wanted}
-use Rattle.xfs_protected.proofs.Members.{Member, contained, contains, flat_member, map_member, member_all, member_any, member_left, member_map, member_right, row_member}
+use Rattle.xfs_views.proofs.Members.{Member, contained, contains, flat_member, map_member, member_all, member_any, member_left, member_map, member_right, row_member}
 use Rattle.xfs_render.specs.Clusters.{slot_in}
 use Rattle.xfs_render.specs.Plans.{HoldsPlan, planned}
 use Rattle.xfs_render.specs.Rendering.{byte_place, is_head, old_at}
 use Rattle.xfs_render.specs.Slots.{IsMadeSlot, IsSlotDue, wanted_of}
 use Rattle.xfs_render.specs.declared.bytes.Bytes.{Bytes}
 use Rattle.xfs_render.specs.declared.wanted_slots.SlotWanted.{SlotWanted}
-use Rattle.xfs_rendered.proofs.Slots.{slots_stand}
-use Rattle.xfs_rendered.specs.Standing.{HasHeads, IsStanding}
+use Rattle.xfs_made.proofs.Slots.{slots_stand}
+use Rattle.xfs_made.specs.Standing.{HasHeads, IsStanding}
 use Rattle.xfs_salvage.specs.Kept.{run_of_cluster}
 use Rattle.xfs_rebuild.specs.Places.{has_wanted, old_places}
 use Rattle.xfs_rebuild.specs.declared.names_due.NamesDue.{NamesDue}
 use Rattle.xfs_restored.proofs.Kept.{cluster_place, head_place, none_wanted, some_wanted, unwanted_off}
-use Rattle.xfs_apart.proofs.PlansApart.{kept_off}
+use Rattle.xfs_made.proofs.PlansApart.{kept_off}
 use Rattle.xfs_restored.proofs.Staying.{off_list}
 use Rattle.xfs_rename.specs.Lost.{lost_due}
 use Rattle.xfs_rename.specs.Objects.{wanted_with}

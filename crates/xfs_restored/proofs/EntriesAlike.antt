@@ -18,9 +18,9 @@ use Rattle.xfs_links.specs.Connected.{directory_numbers}
 use Rattle.xfs_links.specs.Entries.{AreEntries, NodesAscend, is_directory_number, is_kept_node}
 use Rattle.xfs_links.specs.declared.records.NodeRec.{NodeRec}
 use Rattle.xfs_links.proofs.Joined.{filter_through}
-use Rattle.xfs_hanging.specs.Settled.{by_directory, parent_due, untyped}
-use Rattle.xfs_hanging.specs.Together.{entries_together}
-use Rattle.xfs_hanging.proofs.ByDirectory.{all_by}
+use Rattle.xfs_links.specs.Settled.{by_directory, parent_due, untyped}
+use Rattle.xfs_links.specs.Together.{entries_together}
+use Rattle.xfs_links.proofs.ByDirectory.{all_by}
 use Rattle.xfs_names.specs.Built.{CanBeBuilt}
 use Rattle.xfs_names.specs.Rebuilt.{are_right_entries, is_rebuilt, is_right_entry, is_whole_with, wanted_rebuilt}
 use Rattle.xfs_names.specs.Wanted.{wanted_entries, wanted_nodes, wanted_parents, with_type}
@@ -28,7 +28,7 @@ use Rattle.xfs_names.specs.declared.records.WantedNames.{WantedNames}
 use Rattle.xfs_names.proofs.ByNumber.{directories_ascend}
 use Rattle.xfs_names.proofs.Deciding.{nodes_ascend, together_known}
 use Rattle.xfs_names.proofs.Grouping.{grouped}
-use Rattle.xfs_protected.proofs.Members.{Member, member_any, member_filter, member_map}
+use Rattle.xfs_views.proofs.Members.{Member, member_any, member_filter, member_map}
 use Rattle.xfs_rebuild.specs.declared.names_due.NamesDue.{NamesDue}
 use Rattle.xfs_restored.specs.Relinking.{entries_due, renamed_dirs, renamed_entries, whole_with}
 

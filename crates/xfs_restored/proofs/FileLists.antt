@@ -9,7 +9,7 @@ use Rattle.xfs_inode.specs.declared.files.FileRead.{FileRead}
 use Rattle.xfs_inode.specs.declared.files.FileRead.TheVariants as Reads
 use Rattle.xfs_naming.specs.Naming.{NumbersAscend}
 use Rattle.xfs_volume.specs.declared.files.FileRec.{FileRec}
-use Rattle.xfs_protected.proofs.Members.{Member}
+use Rattle.xfs_views.proofs.Members.{Member}
 use Rattle.xfs_restored.proofs.DueList.{number_least}
 use Rattle.xfs_changes.specs.declared.lost_found.Lost.{Lost}
 use Rattle.xfs_restored.specs.Changes.{LinksAscend, inodes_taken}

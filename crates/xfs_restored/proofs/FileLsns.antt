@@ -20,16 +20,16 @@ use Rattle.xfs_image.specs.Claims.{candidate_files, claims}
 use Rattle.xfs_image.specs.Files.{clusters_of}
 use Rattle.xfs_image.specs.Lsns.{LsnPlace, at, cluster_places, data_places, dir_byte, extent_place, extent_places, file_places, is_place_upto, lsn_at, lsn_places, lsn_places_in_order, lsns_read, with_place}
 use Rattle.xfs_place.proofs.AllClaims.{all_apart, is_volume}
-use Rattle.xfs_protected.proofs.Claimed.{same_claims, spans_are}
-use Rattle.xfs_protected.proofs.Counted.{any_on}
-use Rattle.xfs_protected.proofs.Members.{Member, any_member, flat_member, map_member, member_any, member_either, member_filter, member_flat, member_map, member_right, row_member}
-use Rattle.xfs_frames.proofs.Claimed.{attr_claimed, data_claimed, tree_claimed}
+use Rattle.xfs_views.proofs.Claimed.{same_claims, spans_are}
+use Rattle.xfs_views.proofs.Counted.{any_on}
+use Rattle.xfs_views.proofs.Members.{Member, any_member, flat_member, map_member, member_any, member_either, member_filter, member_flat, member_map, member_right, row_member}
+use Rattle.xfs_views.proofs.NamedClaims.{attr_claimed, data_claimed, tree_claimed}
 use Rattle.xfs_space.specs.Owners.{file_runs}
 use Rattle.xfs_volume.specs.Names.{type_of}
 use Rattle.xfs_volume.specs.declared.catalogs.BlockLsn.{BlockLsn}
 use Rattle.xfs_volume.specs.declared.files.FileRec.{FileRec}
-use Rattle.xfs_kept.proofs.Images.{image_can}
-use Rattle.xfs_kept.proofs.Taken.{are_kept, fixed_covered}
+use Rattle.xfs_requested.proofs.Candidates.{image_can}
+use Rattle.xfs_requested.proofs.KeptTaken.{are_kept, fixed_covered}
 use Rattle.xfs_salvage.specs.Kept.{kept_clusters, kept_files, run_of_cluster, taken_in, taken_of}
 use Rattle.xfs_salvage.specs.declared.found.Salvaged.{Salvaged}
 use Rattle.xfs_request.specs.declared.seen.SlotSeen.{SlotSeen}

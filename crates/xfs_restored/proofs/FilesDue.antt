@@ -9,8 +9,8 @@ use Rattle.xfs_image.specs.Candidates.{candidates}
 use Rattle.xfs_image.specs.Claims.{candidate_files}
 use Rattle.xfs_image.specs.Files.{files_at, files_read, inodes_of}
 use Rattle.xfs_image.specs.Slots.{cluster_inodes}
-use Rattle.xfs_kept.proofs.Images.{image_can}
-use Rattle.xfs_kept.proofs.Inodes.{first_in}
+use Rattle.xfs_requested.proofs.Candidates.{image_can}
+use Rattle.xfs_requested.proofs.Inodes.{first_in}
 use Rattle.xfs_requested.proofs.Spaced.{AreSpaced, kept_spaced}
 use Rattle.xfs_scan.specs.declared.evidence.Evidence.{Evidence}
 use Rattle.xfs_volume.specs.declared.groups.GroupRec.{GroupRec}

@@ -7,7 +7,7 @@ use Rattle.xfs_geom.specs.declared.records.Run.{Run}
 use Rattle.xfs_volume.specs.declared.files.FileRec.{FileRec}
 use Rattle.xfs_naming.specs.Naming.{NumbersAscend}
 use Rattle.xfs_names.specs.declared.building.BuiltDirectory.{BuiltDirectory}
-use Rattle.xfs_protected.proofs.Members.{Member, all_members}
+use Rattle.xfs_views.proofs.Members.{Member, all_members}
 use Rattle.xfs_changes.specs.Forks.{attribute_blocks_at, extents_fork, fork_listed, forks_of, short_fork}
 use Rattle.xfs_built.specs.Asks.{stands_in_blocks}
 use Rattle.xfs_changes.specs.Slots.{first_fork, fork_at}

@@ -20,7 +20,7 @@ use Rattle.xfs_place.specs.Claims.{ClaimedOnce, IsClaimedRun}
 use Rattle.xfs_place.specs.Pool.{IsRunOf, is_listed, is_taken}
 use Rattle.xfs_place.specs.Wanted.{IsOffFixed, kept_runs}
 use Rattle.xfs_place.specs.declared.wanted.Wanted.{Wanted}
-use Rattle.xfs_protected.proofs.Members.{Member, all_members, any_member, map_member, member_all, member_any, member_either, member_left, member_map, member_right}
+use Rattle.xfs_views.proofs.Members.{Member, all_members, any_member, map_member, member_all, member_any, member_either, member_left, member_map, member_right}
 use Rattle.xfs_render.proofs.ObjectSteps.{blocks_low, places_low}
 use Rattle.xfs_render.specs.Drafts.{HoldsRows, row_places}
 use Rattle.xfs_render.specs.Objects.{asks_with_kind, object_blocks, object_places}
@@ -36,11 +36,11 @@ use Rattle.xfs_rebuild.specs.Rebuilds.{IsLeft}
 use Rattle.xfs_rebuild.specs.declared.names_due.NamesDue.{NamesDue}
 use Rattle.xfs_rebuild.specs.declared.planning.Rebuilt.{Rebuilt}
 use Rattle.xfs_restored.proofs.Kept.{places_apart, places_used}
-use Rattle.xfs_apart.proofs.PlansApart.{all_of_log, plans_apart, trees}
+use Rattle.xfs_made.proofs.PlansApart.{all_of_log, plans_apart, trees}
 use Rattle.xfs_restored.proofs.RowsWritten.{both_left}
 use Rattle.xfs_restored.proofs.Standing.{plan_beside, plan_held}
 use Rattle.xfs_restored.specs.Rewriting.{IsRewritten}
-use Rattle.xfs_apart.specs.Unused.{AreHeadsOrKept, IsHeadOrKept, IsOfLog}
+use Rattle.xfs_made.specs.Unused.{AreHeadsOrKept, IsHeadOrKept, IsOfLog}
 use Rattle.xfs_writing.specs.Writing.{writes_of_rows, written}
 use Rattle.xfs_writing.specs.declared.rows.Row.{Row}
 use Rattle.xfs_rename.specs.Lost.{lost_due}

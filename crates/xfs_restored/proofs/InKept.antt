@@ -23,12 +23,12 @@ use Rattle.xfs_image.specs.Slots.{cluster_inodes, reads_as}
 use Rattle.xfs_views.proofs.Files.{file_sound}
 use Rattle.xfs_volume.specs.declared.clusters.ClusterRec.{ClusterRec}
 use Rattle.xfs_volume.specs.declared.files.FileRec.{FileRec}
-use Rattle.xfs_protected.specs.Claimed.{claims_in, file_claim}
-use Rattle.xfs_protected.specs.Standing.{stands}
-use Rattle.xfs_protected.proofs.Addresses.{IsPlaced}
-use Rattle.xfs_protected.proofs.Images.{candidate_has, candidate_placed, inode_cluster}
-use Rattle.xfs_protected.proofs.Members.{Member, all_members, any_member, filter_member, flat_member, map_member, member_all, member_flat, member_map}
-use Rattle.xfs_kept.proofs.Images.{bare_sound, image_can}
+use Rattle.xfs_views.specs.Claimed.{claims_in, file_claim}
+use Rattle.xfs_views.specs.Standing.{stands}
+use Rattle.xfs_views.proofs.Addresses.{IsPlaced}
+use Rattle.xfs_views.proofs.Images.{candidate_has, candidate_placed, inode_cluster}
+use Rattle.xfs_views.proofs.Members.{Member, all_members, any_member, filter_member, flat_member, map_member, member_all, member_flat, member_map}
+use Rattle.xfs_requested.proofs.Candidates.{bare_sound, image_can}
 use Rattle.xfs_salvage.specs.Kept.{claims_held, is_kept_file, kept_clusters, kept_files}
 use Rattle.xfs_salvage.specs.declared.found.Salvaged.{Salvaged}
 use Rattle.xfs_requested.specs.Handed.{IsKeptOf}

@@ -20,7 +20,7 @@ use Rattle.xfs_volume.specs.declared.directories.DirRec.{DirRec}
 use Rattle.xfs_volume.specs.declared.files.FileRec.{FileRec}
 use Rattle.xfs_volume.specs.declared.findings.Law.{Law}
 use Rattle.xfs_volume.specs.declared.groups.GroupRec.{GroupRec}
-use Rattle.xfs_due.proofs.KeptLaws.{both_kept}
+use Rattle.xfs_made.proofs.KeptLaws.{both_kept}
 use Rattle.xfs_made.proofs.Catalogs.{reads_as}
 use Rattle.xfs_made.proofs.Kept.{none_broken}
 use Rattle.xfs_names.specs.declared.building.BuiltDirectory.{BuiltDirectory}

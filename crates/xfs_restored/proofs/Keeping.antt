@@ -11,9 +11,9 @@ use Rattle.xfs_image.specs.Slots.{reads_as}
 use Rattle.xfs_volume.specs.declared.files.FileRec.{FileRec}
 use Rattle.xfs_scan.specs.Evidence.{IsEvidence}
 use Rattle.xfs_scan.specs.declared.evidence.Evidence.{Evidence}
-use Rattle.xfs_frames.proofs.FilesStay as FilesStay
-use Rattle.xfs_kept.proofs.Protected.{protected_stays}
-use Rattle.xfs_protected.proofs.Members.{Member, any_member}
+use Rattle.xfs_views.proofs.FilesStay as FilesStay
+use Rattle.xfs_requested.proofs.Protected.{protected_stays}
+use Rattle.xfs_views.proofs.Members.{Member, any_member}
 use Rattle.xfs_views.proofs.Files.{file_sound}
 use Rattle.xfs_request.specs.Slots.{is_bare, links_due, own_blocks, state_at}
 use Rattle.xfs_rebuild.specs.Rebuilds.{Ground, IsRebuildOf}

@@ -17,8 +17,8 @@ use Rattle.xfs_image.specs.Slots.{cluster_blocks}
 use Rattle.xfs_place.specs.Claims.{ClaimedOnce}
 use Rattle.xfs_place.specs.Pool.{is_taken}
 use Rattle.xfs_place.specs.Wanted.{IsOffFixed}
-use Rattle.xfs_protected.proofs.Counted.{on_both}
-use Rattle.xfs_protected.proofs.Members.{Member, all_members, filter_member, member_all, member_any, member_filter, member_flat, member_right, member_row}
+use Rattle.xfs_views.proofs.Counted.{on_both}
+use Rattle.xfs_views.proofs.Members.{Member, all_members, filter_member, member_all, member_any, member_filter, member_flat, member_right, member_row}
 use Rattle.xfs_render.specs.Plans.{IsOnce}
 use Rattle.xfs_render.specs.Rendering.{is_head}
 use Rattle.xfs_render.specs.Slots.{wanted_of}
@@ -28,9 +28,9 @@ use Rattle.xfs_space.proofs.Shared.{on-cons}
 use Rattle.xfs_made.proofs.OnceLists.{all_range, counted, counted_append, joined, rising_once}
 use Rattle.xfs_made.proofs.RowLists.{all_items}
 use Rattle.xfs_rebuild.specs.Places.{first_of_group, has_wanted, is_slot_wanted, old_places, wanted_blocks}
-use Rattle.xfs_apart.specs.Unused.{AreHeadsOrKept, IsHeadOrKept}
-use Rattle.xfs_apart.proofs.Counting.{counted_cons, row_on}
-use Rattle.xfs_apart.proofs.PlansApart.{head_fixed, taken_left, taken_right, taken_unfixed}
+use Rattle.xfs_made.specs.Unused.{AreHeadsOrKept, IsHeadOrKept}
+use Rattle.xfs_made.proofs.Counting.{counted_cons, row_on}
+use Rattle.xfs_made.proofs.PlansApart.{head_fixed, taken_left, taken_right, taken_unfixed}
 
 abbrev heads : Volume → List ℕ
 heads v = map (first_of_group v) (range_with_len 0 v.agcount)

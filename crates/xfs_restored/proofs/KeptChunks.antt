@@ -20,12 +20,12 @@ use Rattle.xfs_naming.specs.Naming.{NumbersAscend}
 use Rattle.xfs_place.specs.Wanted.{inodes_in_group}
 use Rattle.xfs_place.specs.declared.placed.GroupPlaced.{GroupPlaced}
 use Rattle.xfs_place.specs.declared.wanted.GroupInodes.{GroupInodes}
-use Rattle.xfs_protected.proofs.Chunks.{lawful_chunk}
+use Rattle.xfs_views.proofs.Chunks.{lawful_chunk}
 use Rattle.xfs_space.specs.Owners.{cluster_run, cluster_runs, clusters_of_chunk, new_run}
 use Rattle.xfs_volume.specs.declared.groups.GroupRec.{GroupRec}
-use Rattle.xfs_due.specs.Groups.{due_group_at, due_groups}
-use Rattle.xfs_kept.proofs.Images.{image_can}
-use Rattle.xfs_kept.proofs.Ordered.{clusters_of_volume_ascend}
+use Rattle.xfs_made.specs.Groups.{due_group_at, due_groups}
+use Rattle.xfs_requested.proofs.Candidates.{image_can}
+use Rattle.xfs_requested.proofs.Ordered.{clusters_of_volume_ascend}
 use Rattle.xfs_salvage.specs.Kept.{run_of_cluster}
 use Rattle.xfs_salvage.specs.declared.found.Salvaged.{Salvaged}
 use Rattle.xfs_request.specs.Requests.{volume_wanted}

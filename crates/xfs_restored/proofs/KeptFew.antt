@@ -11,8 +11,8 @@ use Rattle.xfs_naming.specs.Naming.{entries_in}
 use Rattle.xfs_links.specs.Connected.{directory_numbers, kept_entries}
 use Rattle.xfs_links.specs.Entries.{AreEntries, is_directory_number}
 use Rattle.xfs_links.specs.declared.records.NodeRec.{NodeRec}
-use Rattle.xfs_hanging.specs.Settled.{by_directory}
-use Rattle.xfs_hanging.specs.Together.{entries_together, lost_directory, new_entries, old_lost, orphan_entry, orphans_of}
+use Rattle.xfs_links.specs.Settled.{by_directory}
+use Rattle.xfs_links.specs.Together.{entries_together, lost_directory, new_entries, old_lost, orphan_entry, orphans_of}
 use Rattle.xfs_names.specs.Built.{CanBeBuilt}
 use Rattle.xfs_names.specs.Wanted.{wanted_entries, wanted_nodes, with_type}
 use Rattle.xfs_names.specs.declared.records.WantedNames.{WantedNames}

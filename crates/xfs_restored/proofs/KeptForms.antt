@@ -19,8 +19,8 @@ use Rattle.xfs_image.specs.Directories.{dir_of, entries_of, is_short}
 use Rattle.xfs_image.specs.Slots.{cluster_inodes, reads_as, slot_bytes}
 use Rattle.xfs_volume.specs.declared.cores.Core.{Core}
 use Rattle.xfs_volume.specs.declared.files.FileRec.{FileRec}
-use Rattle.xfs_frames.specs.SameFiles.{HasSameClaims}
-use Rattle.xfs_protected.proofs.Members.{Member, contains, flat_member, member_flat, member_map}
+use Rattle.xfs_views.specs.SameFiles.{HasSameClaims}
+use Rattle.xfs_views.proofs.Members.{Member, contains, flat_member, member_flat, member_map}
 use Rattle.xfs_views.proofs.FileTests.{core_says}
 use Rattle.xfs_render.specs.Plans.{HoldsPlan}
 use Rattle.xfs_render.specs.Slots.{DropsAttrs, IsMadeSlot, IsSlotDue, SetsLinks, wanted_of}

@@ -8,7 +8,7 @@ use Rattle.xfs_geom.specs.declared.geometry.Geometry.{Geometry}
 use Rattle.xfs_image.specs.Candidates.{candidates}
 use Rattle.xfs_image.specs.Claims.{candidate_inodes}
 use Rattle.xfs_image.specs.Slots.{slot_bytes}
-use Rattle.xfs_protected.proofs.Members.{Member}
+use Rattle.xfs_views.proofs.Members.{Member}
 use Rattle.xfs_slots.specs.Facts.{slot_fact, slot_facts}
 use Rattle.xfs_slots.specs.Gathered.{bare_inodes}
 use Rattle.xfs_rounds.specs.declared.facts.SlotReading.{SlotReading}

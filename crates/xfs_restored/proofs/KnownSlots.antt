@@ -16,7 +16,7 @@ use Rattle.xfs_inode.specs.declared.files.FileRead.{FileRead}
 use Rattle.xfs_inode.specs.declared.files.FileRead.TheVariants as Reads
 use Rattle.xfs_inode.specs.declared.reading.SlotRead.{SlotRead}
 use Rattle.xfs_inode.specs.declared.reading.SlotRead.TheVariants as Read
-use Rattle.xfs_protected.proofs.Members.{Member, any_member, flat_member, member_any, member_flat}
+use Rattle.xfs_views.proofs.Members.{Member, any_member, flat_member, member_any, member_flat}
 use Rattle.xfs_rounds.specs.Facts.{reading_of}
 use Rattle.xfs_slots.specs.Facts.{slot_fact}
 use Rattle.xfs_slots.specs.Gathered.{bare_if, bare_inodes}

@@ -33,13 +33,13 @@ use Rattle.xfs_place.specs.declared.wanted.GroupInodes.{GroupInodes}
 use Rattle.xfs_place.specs.declared.wanted.Wanted.{Wanted}
 use Rattle.xfs_scan.specs.Evidence.{IsEvidence}
 use Rattle.xfs_scan.specs.declared.evidence.Evidence.{Evidence}
-use Rattle.xfs_due.proofs.Chunks.{chunks_kept}
-use Rattle.xfs_due.proofs.Entries.{chains_kept, lists_kept}
-use Rattle.xfs_due.proofs.KeptLaws.{both_kept}
-use Rattle.xfs_due.proofs.Spaces.{space_lawful}
-use Rattle.xfs_due.proofs.Totals.{counters_kept}
-use Rattle.xfs_due.specs.Keeping.{KeepsJust}
-use Rattle.xfs_rendered.proofs.Lsns.{lsns_stand}
+use Rattle.xfs_made.proofs.Chunks.{chunks_kept}
+use Rattle.xfs_made.proofs.Entries.{chains_kept, lists_kept}
+use Rattle.xfs_made.proofs.KeptLaws.{both_kept}
+use Rattle.xfs_made.proofs.Spaces.{space_lawful}
+use Rattle.xfs_made.proofs.Totals.{counters_kept}
+use Rattle.xfs_made.specs.Keeping.{KeepsJust}
+use Rattle.xfs_made.proofs.Lsns.{lsns_stand}
 use Rattle.xfs_made.proofs.Kept.{none_broken, space_kept}
 use Rattle.xfs_made.specs.Volumes.{Checksums}
 use Rattle.xfs_salvage.specs.declared.found.Salvaged.{Salvaged}

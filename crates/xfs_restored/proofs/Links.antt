@@ -6,7 +6,7 @@ use Rattle.xfs_disk.specs.declared.stamp.Stamp.{Stamp}
 use Rattle.xfs_geom.specs.Features.{or_else}
 use Rattle.xfs_geom.specs.Volumes.{Volume}
 use Rattle.xfs_volume.specs.declared.files.FileRec.{FileRec}
-use Rattle.xfs_protected.proofs.Members.{Member}
+use Rattle.xfs_views.proofs.Members.{Member}
 use Rattle.xfs_changes.specs.Slots.{change_listed, change_of, changes_of, changes_something, free_change}
 use Rattle.xfs_changes.specs.declared.changes.SlotChange.{SlotChange}
 use Rattle.xfs_changes.specs.declared.forks.DirectoryFork.{DirectoryFork}

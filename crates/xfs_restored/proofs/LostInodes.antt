@@ -9,13 +9,13 @@ use Rattle.xfs_geom.specs.Conversions.{inode_of}
 use Rattle.xfs_geom.specs.Volumes.{volume_of}
 use Rattle.xfs_geom.specs.declared.geometry.Geometry.{Geometry}
 use Rattle.xfs_image.specs.Slots.{cluster_inodes, inodes_of_block}
-use Rattle.xfs_protected.proofs.Members.{Member, flat_member, map_member, member_flat, member_row}
+use Rattle.xfs_views.proofs.Members.{Member, flat_member, map_member, member_flat, member_row}
 use Rattle.xfs_render.specs.Plans.{HoldsPlan}
 use Rattle.xfs_salvage.specs.Kept.{run_of_cluster}
 use Rattle.xfs_names.specs.Place.{free_inode, inodes_from, is_free_inode, new_place, old_or_new, place_for}
 use Rattle.xfs_names.specs.declared.place.LostPlace.{LostPlace}
 use Rattle.xfs_names.specs.declared.place.LostPlace.TheVariants as place
-use Rattle.xfs_hanging.specs.Together.{old_lost, orphans_of}
+use Rattle.xfs_links.specs.Together.{old_lost, orphans_of}
 use Rattle.xfs_rebuild.specs.declared.names_due.NamesDue.{NamesDue}
 use Rattle.xfs_rename.specs.Lost.{cluster_found, first_added, lost_due, lost_in, place_due}
 use Rattle.xfs_changes.specs.Nodes.{first_of_cluster, firsts_of_clusters, nodes_of_files}

@@ -20,15 +20,15 @@ use Rattle.xfs_names.specs.declared.building.ForkRoom.{ForkRoom}
 use Rattle.xfs_place.specs.Wanted.{IsOffFixed, kept_runs}
 use Rattle.xfs_place.specs.declared.placed.Placed.{Placed}
 use Rattle.xfs_place.specs.declared.wanted.Wanted.{Wanted}
-use Rattle.xfs_protected.proofs.Members.{Member, all_members, contains, flat_member, map_member, member_all, member_either, member_left, member_map, member_right}
+use Rattle.xfs_views.proofs.Members.{Member, all_members, contains, flat_member, map_member, member_all, member_either, member_left, member_map, member_right}
 use Rattle.xfs_render.specs.Slots.{IsSlotDue}
 use Rattle.xfs_render.specs.declared.wanted_slots.SlotWanted.{SlotWanted}
 use Rattle.xfs_scan.specs.declared.evidence.Evidence.{Evidence}
 use Rattle.xfs_space.specs.Owners.{file_runs}
-use Rattle.xfs_due.specs.Groups.{due_groups}
-use Rattle.xfs_due.proofs.Entries.{chains_kept}
-use Rattle.xfs_due.proofs.KeptLaws.{both_kept}
-use Rattle.xfs_rendered.proofs.Lsns.{lsns_stand}
+use Rattle.xfs_made.specs.Groups.{due_groups}
+use Rattle.xfs_made.proofs.Entries.{chains_kept}
+use Rattle.xfs_made.proofs.KeptLaws.{both_kept}
+use Rattle.xfs_made.proofs.Lsns.{lsns_stand}
 use Rattle.xfs_volume.specs.Laws.{AreKept}
 use Rattle.xfs_volume.specs.Names.{type_of}
 use Rattle.xfs_volume.specs.declared.catalogs.BlockLsn.{BlockLsn}

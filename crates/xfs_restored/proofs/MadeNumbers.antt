@@ -14,14 +14,14 @@ use Rattle.xfs_image.specs.Clusters.{cluster_of}
 use Rattle.xfs_image.specs.Lsns.{LsnPlace, cluster_places, lsn_at, slot_place}
 use Rattle.xfs_image.specs.Slots.{bytes_in, cluster_blocks, cluster_inodes, inodes_of_block, slot_bytes}
 use Rattle.xfs_inodebuild.specs.declared.forks.ForkWanted.{ForkWanted}
-use Rattle.xfs_protected.proofs.Addresses.{IsPlaced}
-use Rattle.xfs_protected.proofs.Images.{inode_cluster}
-use Rattle.xfs_protected.proofs.Members.{Member, contained, flat_member, map_member, member_all, member_any, member_flat, member_left, member_map, row_member}
+use Rattle.xfs_views.proofs.Addresses.{IsPlaced}
+use Rattle.xfs_views.proofs.Images.{inode_cluster}
+use Rattle.xfs_views.proofs.Members.{Member, contained, flat_member, map_member, member_all, member_any, member_flat, member_left, member_map, row_member}
 use Rattle.xfs_render.specs.Slots.{DropsAttrs, IsBased, IsMadeSlot, IsSlotDue, SetsFork, SetsLinks, wanted_of}
 use Rattle.xfs_render.specs.declared.wanted_slots.SlotBase.{SlotBase}
 use Rattle.xfs_render.specs.declared.wanted_slots.SlotBase.TheVariants as Base
 use Rattle.xfs_render.specs.declared.wanted_slots.SlotWanted.{SlotWanted}
-use Rattle.xfs_rendered.proofs.Numbers.{number_in_part}
+use Rattle.xfs_made.proofs.Numbers.{number_in_part}
 use Rattle.xfs_space.proofs.RecordedMaps.{group_inside}
 use Rattle.xfs_volume.specs.declared.cores.Core.{Core}
 use Rattle.xfs_salvage.specs.declared.found.Salvaged.{Salvaged}

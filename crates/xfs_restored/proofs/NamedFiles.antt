@@ -12,8 +12,8 @@ use Rattle.xfs_volume.specs.Names.{is_directory, type_of}
 use Rattle.xfs_volume.specs.declared.files.FileRec.{FileRec}
 use Rattle.xfs_image.specs.Candidates.{candidates}
 use Rattle.xfs_image.specs.Claims.{candidate_files}
-use Rattle.xfs_protected.specs.Standing.{stands}
-use Rattle.xfs_protected.proofs.Members.{Member, filter_member, member_filter}
+use Rattle.xfs_views.specs.Standing.{stands}
+use Rattle.xfs_views.proofs.Members.{Member, filter_member, member_filter}
 use Rattle.xfs_scan.specs.declared.evidence.Evidence.{Evidence}
 use Rattle.xfs_salvage.specs.Kept.{claims_held, fresh_among, is_kept_file, kept_files, own_inodes}
 use Rattle.xfs_request.specs.Fresh.{new_root_core, new_system_core}

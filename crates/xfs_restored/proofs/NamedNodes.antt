@@ -19,7 +19,7 @@ use Rattle.xfs_links.specs.declared.records.NodeRec.{NodeRec}
 use Rattle.xfs_links.proofs.Joined.{any_through}
 use Rattle.xfs_names.specs.Having.{node_of}
 use Rattle.xfs_salvage.proofs.Ascending.{filtered}
-use Rattle.xfs_protected.proofs.Members.{Member, any_member, map_member, member_any, member_map}
+use Rattle.xfs_views.proofs.Members.{Member, any_member, map_member, member_any, member_map}
 use Rattle.xfs_scan.specs.declared.evidence.Evidence.{Evidence}
 use Rattle.xfs_rebuild.specs.Names as Names
 use Rattle.xfs_rebuild.specs.declared.names_due.NamesDue.{NamesDue}

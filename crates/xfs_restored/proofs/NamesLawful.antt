@@ -15,9 +15,9 @@ use Rattle.xfs_naming.specs.Naming.{AreNamed, entries_in, entries_to, is_directo
 use Rattle.xfs_links.specs.Connected.{kept_entries}
 use Rattle.xfs_links.specs.Entries.{AreEntries, AreFiles, is_directory_number, is_reserved_inode}
 use Rattle.xfs_links.specs.declared.records.NodeRec.{NodeRec}
-use Rattle.xfs_hanging.specs.Settled.{IsSettled, untyped}
-use Rattle.xfs_hanging.proofs.ByDirectory.{as_many_untyped}
-use Rattle.xfs_hanging.proofs.Settling as Settling
+use Rattle.xfs_links.specs.Settled.{IsSettled, untyped}
+use Rattle.xfs_links.proofs.ByDirectory.{as_many_untyped}
+use Rattle.xfs_links.proofs.Settling as Settling
 use Rattle.xfs_names.specs.Having.{HasWanted}
 use Rattle.xfs_names.proofs.Having as Having
 use Rattle.xfs_scan.specs.declared.evidence.Evidence.{Evidence}

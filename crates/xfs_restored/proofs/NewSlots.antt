@@ -13,7 +13,7 @@ use Rattle.xfs_image.specs.Slots.{cluster_inodes, inodes_of_block, reads_as, slo
 use Rattle.xfs_inode.specs.declared.files.FileRead.TheVariants as Reads
 use Rattle.xfs_names.specs.declared.place.LostPlace.{LostPlace}
 use Rattle.xfs_names.specs.declared.place.LostPlace.TheVariants as place
-use Rattle.xfs_protected.proofs.Members.{Member, contains, member_flat, member_row}
+use Rattle.xfs_views.proofs.Members.{Member, contains, member_flat, member_row}
 use Rattle.xfs_render.specs.Plans.{HoldsPlan}
 use Rattle.xfs_render.specs.Slots.{IsMadeSlot, wanted_of}
 use Rattle.xfs_render.specs.declared.wanted_slots.SlotWanted.{SlotWanted}

@@ -9,7 +9,7 @@ use Rattle.xfs_geom.specs.declared.geometry.Geometry.{Geometry}
 use Rattle.xfs_links.specs.declared.records.NodeRec.{NodeRec}
 use Rattle.xfs_naming.specs.Naming.{NumbersAscend, numbers_of}
 use Rattle.xfs_names.specs.Wanted.{wanted_entries, wanted_nodes, with_links}
-use Rattle.xfs_protected.proofs.Members.{Member, contained, contains, map_member, member_any, member_map}
+use Rattle.xfs_views.proofs.Members.{Member, contained, contains, map_member, member_any, member_map}
 use Rattle.xfs_scan.specs.declared.evidence.Evidence.{Evidence}
 use Rattle.xfs_volume.specs.declared.files.FileRec.{FileRec}
 use Rattle.xfs_rebuild.specs.declared.names_due.NamesDue.{NamesDue}

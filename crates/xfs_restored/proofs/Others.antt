@@ -16,9 +16,9 @@ use Rattle.xfs_inode.specs.declared.files.FileRead.TheVariants as Reads
 use Rattle.xfs_naming.specs.Naming.{is_in_use}
 use Rattle.xfs_volume.specs.declared.cores.Core.{Core}
 use Rattle.xfs_volume.specs.declared.files.FileRec.{FileRec}
-use Rattle.xfs_frames.proofs.FilesStay.{free_stays}
-use Rattle.xfs_protected.proofs.Members.{Member, any_member, filter_member, member_any, member_flat}
-use Rattle.xfs_kept.proofs.Roots.{root_kept}
+use Rattle.xfs_views.proofs.FilesStay.{free_stays}
+use Rattle.xfs_views.proofs.Members.{Member, any_member, filter_member, member_any, member_flat}
+use Rattle.xfs_requested.proofs.Roots.{root_kept}
 use Rattle.xfs_render.specs.Slots.{IsMadeSlot}
 use Rattle.xfs_render.specs.declared.wanted_slots.SlotWanted.{SlotWanted}
 use Rattle.xfs_salvage.specs.Kept.{fresh_among, own_inodes}

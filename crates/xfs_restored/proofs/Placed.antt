@@ -23,9 +23,9 @@ use Rattle.xfs_place.specs.Pool.{is_taken}
 use Rattle.xfs_place.specs.Wanted.{IsOffFixed, kept_runs}
 use Rattle.xfs_place.specs.declared.placed.Placed.{Placed}
 use Rattle.xfs_place.specs.declared.wanted.Wanted.{Wanted}
-use Rattle.xfs_protected.proofs.Claimed.{same_claims}
-use Rattle.xfs_protected.proofs.Counted.{any_on, flat_on, on_both}
-use Rattle.xfs_protected.proofs.Members.{Member, all_members, member_all, member_left, member_map, row_member}
+use Rattle.xfs_views.proofs.Claimed.{same_claims}
+use Rattle.xfs_views.proofs.Counted.{any_on, flat_on, on_both}
+use Rattle.xfs_views.proofs.Members.{Member, all_members, member_all, member_left, member_map, row_member}
 use Rattle.xfs_render.proofs.TreePlaces.{all_left}
 use Rattle.xfs_render.specs.Drafts.{row_places}
 use Rattle.xfs_render.specs.Objects.{blocks_of_asks, object_places}
@@ -38,12 +38,12 @@ use Rattle.xfs_request.specs.Requests.{volume_wanted}
 use Rattle.xfs_rebuild.specs.Places.{has_wanted}
 use Rattle.xfs_rebuild.specs.Rebuilds.{Ground, IsPlannedOn, asked, slots_asked}
 use Rattle.xfs_rebuild.specs.declared.planning.Rebuilt.{Rebuilt}
-use Rattle.xfs_apart.specs.Unused.{AreHeadsOrKept, IsHeadOrKept, IsOfLog, IsUnusedBlock}
+use Rattle.xfs_made.specs.Unused.{AreHeadsOrKept, IsHeadOrKept, IsOfLog, IsUnusedBlock}
 use Rattle.xfs_restored.specs.InPlace.{IsInPlace}
-use Rattle.xfs_apart.proofs.Counting.{taken_on, untaken_on}
+use Rattle.xfs_made.proofs.Counting.{taken_on, untaken_on}
 use Rattle.xfs_restored.proofs.Kept.{cluster_taken_of, places_apart, places_used, unwanted_off}
-use Rattle.xfs_apart.proofs.PlansApart.{all_of_log, head_fixed, head_off_log, kept_off, log_fixed, plans_apart, taken_left, taken_right, taken_unfixed, trees, untaken_both}
-use Rattle.xfs_apart.proofs.TreesApart.{AreBehind}
+use Rattle.xfs_made.proofs.PlansApart.{all_of_log, head_fixed, head_off_log, kept_off, log_fixed, plans_apart, taken_left, taken_right, taken_unfixed, trees, untaken_both}
+use Rattle.xfs_made.proofs.TreesApart.{AreBehind}
 
 none_new : (xs : List ℕ) → filter (is_taken []) xs ≡ []
 unfolding is_taken

@@ -10,11 +10,11 @@ use Rattle.xfs_inode.specs.declared.files.FileRead.TheVariants as Reads
 use Rattle.xfs_inodebuild.specs.declared.forks.ForkWanted.{ForkWanted}
 use Rattle.xfs_volume.specs.declared.cores.Core.{Core}
 use Rattle.xfs_volume.specs.declared.files.FileRec.{FileRec}
-use Rattle.xfs_frames.specs.NamedBlocks.{blocks_named}
-use Rattle.xfs_frames.specs.SameFiles.{HasSameClaims}
-use Rattle.xfs_frames.proofs.FilesStay.{slot_claimed}
-use Rattle.xfs_frames.proofs.SlotsRead.{named_same}
-use Rattle.xfs_protected.proofs.Members.{all_members}
+use Rattle.xfs_views.specs.NamedBlocks.{blocks_named}
+use Rattle.xfs_views.specs.SameFiles.{HasSameClaims}
+use Rattle.xfs_views.proofs.FilesStay.{slot_claimed}
+use Rattle.xfs_views.proofs.SlotsRead.{named_same}
+use Rattle.xfs_views.proofs.Members.{all_members}
 use Rattle.xfs_render.specs.Slots.{DropsAttrs, IsMadeSlot, SetsFork, SetsLinks}
 use Rattle.xfs_render.specs.declared.wanted_slots.SlotBase.TheVariants.{Kept}
 use Rattle.xfs_render.specs.declared.wanted_slots.SlotWanted.{SlotWanted}

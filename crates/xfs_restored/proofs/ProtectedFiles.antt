@@ -15,15 +15,15 @@ use Rattle.xfs_naming.specs.Naming.{NumbersAscend, file_at, numbers_of}
 use Rattle.xfs_volume.specs.Names.{type_of}
 use Rattle.xfs_volume.specs.declared.files.FileRec.{FileRec}
 use Rattle.xfs_scan.specs.declared.evidence.Evidence.{Evidence}
-use Rattle.xfs_frames.proofs.FilesStay as FilesStay
-use Rattle.xfs_frames.specs.SameFiles.{HasSameClaims}
-use Rattle.xfs_kept.proofs.Images.{image_can}
-use Rattle.xfs_kept.proofs.Ordered.{files_of_volume_ascend}
-use Rattle.xfs_kept.proofs.Protected.{protected_stays}
+use Rattle.xfs_views.proofs.FilesStay as FilesStay
+use Rattle.xfs_views.specs.SameFiles.{HasSameClaims}
+use Rattle.xfs_requested.proofs.Candidates.{image_can}
+use Rattle.xfs_requested.proofs.Ordered.{files_of_volume_ascend}
+use Rattle.xfs_requested.proofs.Protected.{protected_stays}
 use Rattle.xfs_names.specs.declared.building.BuiltDirectory.{BuiltDirectory}
 use Rattle.xfs_names.specs.declared.records.WantedNames.{WantedNames}
 use Rattle.xfs_place.specs.declared.placed.Placed.{Placed}
-use Rattle.xfs_protected.proofs.Members.{Member, any_member}
+use Rattle.xfs_views.proofs.Members.{Member, any_member}
 use Rattle.xfs_rebuild.specs.Rebuilds.{Ground}
 use Rattle.xfs_rebuild.specs.declared.names_due.NamesDue.{NamesDue}
 use Rattle.xfs_rename.specs.Lost.{lost_due}

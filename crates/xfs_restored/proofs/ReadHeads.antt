@@ -21,7 +21,7 @@ use Rattle.xfs_place.specs.Pool.{is_taken}
 use Rattle.xfs_place.specs.Wanted.{kept_runs}
 use Rattle.xfs_place.specs.declared.placed.Placed.{Placed}
 use Rattle.xfs_place.specs.declared.wanted.Wanted.{Wanted}
-use Rattle.xfs_protected.proofs.Members.{any_member, map_member}
+use Rattle.xfs_views.proofs.Members.{any_member, map_member}
 use Rattle.xfs_render.specs.Drafts.{row_places}
 use Rattle.xfs_render.specs.Plans.{HoldsPlan, planned}
 use Rattle.xfs_render.specs.Rendering.{blocks_in_place, kept_blocks, log_places}
@@ -29,11 +29,11 @@ use Rattle.xfs_render.specs.declared.bytes.Bytes.{Bytes}
 use Rattle.xfs_render.specs.declared.plan.Plan.{Plan}
 use Rattle.xfs_render.specs.declared.wanted_slots.SlotWanted.{SlotWanted}
 use Rattle.xfs_scan.specs.declared.evidence.Evidence.{Evidence}
-use Rattle.xfs_due.specs.Groups.{due_groups}
-use Rattle.xfs_frames.proofs.LsnsStay.{log_stays}
-use Rattle.xfs_rendered.proofs.Groups.{groups_stand, log_stands}
-use Rattle.xfs_rendered.proofs.Supers.{backups_agree, counts_stand, primary_stands}
-use Rattle.xfs_rendered.specs.Standing.{IsStanding, agf_crc_at, agi_crc_at}
+use Rattle.xfs_made.specs.Groups.{due_groups}
+use Rattle.xfs_views.proofs.LsnsStay.{log_stays}
+use Rattle.xfs_made.proofs.Groups.{groups_stand, log_stands}
+use Rattle.xfs_made.proofs.Supers.{backups_agree, counts_stand, primary_stands}
+use Rattle.xfs_made.specs.Standing.{IsStanding, agf_crc_at, agi_crc_at}
 use Rattle.xfs_request.specs.Chunks.{inodes_wanted}
 use Rattle.xfs_request.specs.Cycles.{due_cycle}
 use Rattle.xfs_made.proofs.OnceLists.{all_range}
@@ -41,9 +41,9 @@ use Rattle.xfs_salvage.specs.Kept.{run_of_cluster}
 use Rattle.xfs_salvage.specs.declared.found.Salvaged.{Salvaged}
 use Rattle.xfs_rebuild.specs.Places.{old_places}
 use Rattle.xfs_rebuild.specs.declared.names_due.NamesDue.{NamesDue}
-use Rattle.xfs_apart.specs.Unused.{IsFreshFor, IsHeadOrKept, IsOfLog}
+use Rattle.xfs_made.specs.Unused.{IsFreshFor, IsHeadOrKept, IsOfLog}
 use Rattle.xfs_restored.proofs.Kept.{places_used}
-use Rattle.xfs_apart.proofs.PlansApart.{head_off_log, log_fixed, plans_fresh, taken_right, taken_unfixed}
+use Rattle.xfs_made.proofs.PlansApart.{head_off_log, log_fixed, plans_fresh, taken_right, taken_unfixed}
 use Rattle.xfs_restored.proofs.Standing.{same_size}
 use Rattle.xfs_restored.proofs.Staying.{off_list}
 use Rattle.xfs_restored.specs.Logs.{IsLogDue, numbers_kept}

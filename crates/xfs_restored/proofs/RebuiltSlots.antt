@@ -28,10 +28,10 @@ use Rattle.xfs_inodebuild.specs.declared.forks.ForkWanted.{ForkWanted}
 use Rattle.xfs_volume.specs.declared.cores.Core.{Core}
 use Rattle.xfs_volume.specs.declared.files.FileRec.{FileRec}
 use Rattle.xfs_image.specs.Claims.{claims}
-use Rattle.xfs_frames.specs.SameFiles.{HasSameClaims}
-use Rattle.xfs_frames.proofs.Claimed.{attr_claimed}
-use Rattle.xfs_frames.proofs.FilesStay.{block_is}
-use Rattle.xfs_protected.proofs.Members.{Member}
+use Rattle.xfs_views.specs.SameFiles.{HasSameClaims}
+use Rattle.xfs_views.proofs.NamedClaims.{attr_claimed}
+use Rattle.xfs_views.proofs.FilesStay.{block_is}
+use Rattle.xfs_views.proofs.Members.{Member}
 use Rattle.xfs_render.specs.Slots.{IsMadeSlot}
 use Rattle.xfs_request.specs.Slots.{own_blocks}
 use Rattle.xfs_restored.specs.DueFiles.{due_core, linked_core, plain_core}

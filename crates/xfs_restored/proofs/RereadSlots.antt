@@ -18,13 +18,13 @@ use Rattle.xfs_inode.specs.declared.files.FileRead.TheVariants as Reads
 use Rattle.xfs_naming.specs.Naming.{NumbersAscend, numbers_of}
 use Rattle.xfs_volume.specs.declared.cores.Core.{Core}
 use Rattle.xfs_volume.specs.declared.files.FileRec.{FileRec}
-use Rattle.xfs_frames.specs.NamedBlocks.{blocks_named}
-use Rattle.xfs_frames.specs.SameFiles.{HasSameClaims}
-use Rattle.xfs_frames.proofs.FilesStay.{slot_claimed}
-use Rattle.xfs_frames.proofs.SlotsRead.{named_same}
-use Rattle.xfs_protected.proofs.Members.{Member, all_members, contains, member_all}
-use Rattle.xfs_kept.proofs.Images.{image_can}
-use Rattle.xfs_kept.proofs.Ordered.{files_of_volume_ascend}
+use Rattle.xfs_views.specs.NamedBlocks.{blocks_named}
+use Rattle.xfs_views.specs.SameFiles.{HasSameClaims}
+use Rattle.xfs_views.proofs.FilesStay.{slot_claimed}
+use Rattle.xfs_views.proofs.SlotsRead.{named_same}
+use Rattle.xfs_views.proofs.Members.{Member, all_members, contains, member_all}
+use Rattle.xfs_requested.proofs.Candidates.{image_can}
+use Rattle.xfs_requested.proofs.Ordered.{files_of_volume_ascend}
 use Rattle.xfs_render.specs.Slots.{DropsAttrs, IsMadeSlot, SetsLinks}
 use Rattle.xfs_render.specs.declared.wanted_slots.SlotBase.TheVariants as Base
 use Rattle.xfs_render.specs.declared.wanted_slots.SlotWanted.{SlotWanted}

@@ -8,9 +8,9 @@ use Rattle.xfs_geom.specs.declared.geometry.Geometry.{Geometry}
 use Rattle.xfs_image.specs.Clusters.{root_cluster}
 use Rattle.xfs_image.specs.Slots.{cluster_blocks, cluster_inodes, inodes_of_block}
 use Rattle.xfs_laws.proofs.Roots.{root_low}
-use Rattle.xfs_protected.proofs.Addresses.{addresses_of}
-use Rattle.xfs_protected.proofs.Members.{Member, member_flat, member_map, member_row}
-use Rattle.xfs_kept.proofs.Roots.{root_is}
+use Rattle.xfs_views.proofs.Addresses.{addresses_of}
+use Rattle.xfs_views.proofs.Members.{Member, member_flat, member_map, member_row}
+use Rattle.xfs_requested.proofs.Roots.{root_is}
 use Rattle.xfs_space.proofs.FreeSpans.{group_short}
 
 pub low_root : (g : Geometry) → g.rootino < 2 ^ 32

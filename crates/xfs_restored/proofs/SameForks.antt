@@ -14,7 +14,7 @@ use Rattle.xfs_inode.specs.declared.reading.SlotRead.TheVariants as Read
 use Rattle.xfs_image.specs.Slots.{reads_as, slot_bytes}
 use Rattle.xfs_volume.specs.declared.cores.Core.{Core}
 use Rattle.xfs_volume.specs.declared.files.FileRec.{FileRec}
-use Rattle.xfs_protected.proofs.Members.{Member}
+use Rattle.xfs_views.proofs.Members.{Member}
 use Rattle.xfs_render.specs.Slots.{DropsAttrs, SetsLinks}
 use Rattle.xfs_salvage.specs.declared.found.Salvaged.{Salvaged}
 use Rattle.xfs_request.specs.Slots.{attrs_wanted, links_due, nlink_wanted, state_at}

@@ -25,12 +25,12 @@ use Rattle.xfs_place.specs.Chunks.{asked_pool, asked_rooms, is_room, lies_in_chu
 use Rattle.xfs_place.specs.Wanted.{inodes_in_group, kept_runs}
 use Rattle.xfs_place.specs.declared.placed.GroupPlaced.{GroupPlaced}
 use Rattle.xfs_place.specs.declared.wanted.Wanted.{Wanted}
-use Rattle.xfs_protected.proofs.Counted.{any_on, on_both}
-use Rattle.xfs_protected.proofs.Members.{Member, all_members, filter_member, flat_member, map_member, member_all, member_any, member_map, row_member}
+use Rattle.xfs_views.proofs.Counted.{any_on, on_both}
+use Rattle.xfs_views.proofs.Members.{Member, all_members, filter_member, flat_member, map_member, member_all, member_any, member_map, row_member}
 use Rattle.xfs_space.specs.Owners.{file_runs}
 use Rattle.xfs_scan.specs.declared.evidence.Evidence.{Evidence}
-use Rattle.xfs_due.specs.Groups.{due_groups}
-use Rattle.xfs_kept.proofs.Ordered.{clusters_of_volume_ascend}
+use Rattle.xfs_made.specs.Groups.{due_groups}
+use Rattle.xfs_requested.proofs.Ordered.{clusters_of_volume_ascend}
 use Rattle.xfs_salvage.specs.Kept.{run_of_cluster}
 use Rattle.xfs_salvage.specs.declared.found.Salvaged.{Salvaged}
 use Rattle.xfs_request.specs.Chunks.{inodes_wanted}

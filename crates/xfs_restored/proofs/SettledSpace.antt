@@ -18,13 +18,13 @@ use Rattle.xfs_place.specs.declared.wanted.Wanted.{Wanted}
 use Rattle.xfs_scan.specs.declared.evidence.Evidence.{Evidence}
 use Rattle.xfs_space.specs.Owners.{file_runs}
 use Rattle.xfs_space.specs.SpaceLaws.{space_laws}
-use Rattle.xfs_due.specs.Groups.{due_groups}
-use Rattle.xfs_due.specs.Keeping.{KeepsJust, all_clusters, all_used}
-use Rattle.xfs_due.proofs.Chunks.{chunks_kept}
-use Rattle.xfs_due.proofs.Entries.{chains_kept, lists_kept}
-use Rattle.xfs_due.proofs.SameRuns.{AreSame, same_held, same_on}
-use Rattle.xfs_due.proofs.Spaces.{space_lawful}
-use Rattle.xfs_due.proofs.Totals.{counters_kept}
+use Rattle.xfs_made.specs.Groups.{due_groups}
+use Rattle.xfs_made.specs.Keeping.{KeepsJust, all_clusters, all_used}
+use Rattle.xfs_made.proofs.Chunks.{chunks_kept}
+use Rattle.xfs_made.proofs.Entries.{chains_kept, lists_kept}
+use Rattle.xfs_made.proofs.SameRuns.{AreSame, same_held, same_on}
+use Rattle.xfs_made.proofs.Spaces.{space_lawful}
+use Rattle.xfs_made.proofs.Totals.{counters_kept}
 use Rattle.xfs_made.proofs.Kept.{space_kept}
 use Rattle.xfs_volume.specs.Laws.{AreKept}
 use Rattle.xfs_volume.specs.declared.files.FileRec.{FileRec}

@@ -18,7 +18,7 @@ use Rattle.xfs_names.specs.Pairs.{parent_or_itself}
 use Rattle.xfs_names.specs.declared.building.BuiltDirectory.{BuiltDirectory}
 use Rattle.xfs_names.specs.declared.building.ForkRoom.{ForkRoom}
 use Rattle.xfs_names.specs.declared.records.WantedNames.{WantedNames}
-use Rattle.xfs_protected.proofs.Members.{Member, contained}
+use Rattle.xfs_views.proofs.Members.{Member, contained}
 use Rattle.xfs_built.specs.Asks.{stands_in_blocks}
 use Rattle.xfs_changes.specs.Rooms.{fork_rooms, has_attributes_behind, room_before_attributes}
 use Rattle.xfs_built.proofs.Sized.{none_short}

@@ -15,7 +15,7 @@ use Rattle.xfs_geom.specs.declared.geometry.Geometry.{Geometry}
 use Rattle.xfs_geom.specs.declared.reading.SuperFault.{SuperFault}
 use Rattle.xfs_geom.specs.declared.reading.SuperFault.TheVariants as fault
 use Rattle.xfs_image.specs.Consistent.{IsElected}
-use Rattle.xfs_protected.proofs.Members.{Member, flat_member}
+use Rattle.xfs_views.proofs.Members.{Member, flat_member}
 
 abbrev or_other : {X : Type 0} → X → Option X → X
 or_other other None = other

@@ -16,11 +16,11 @@ use Rattle.xfs_image.specs.Clusters.{cluster_of}
 use Rattle.xfs_image.specs.Lsns.{LsnPlace, at, cluster_places, lsn_at, slot_place}
 use Rattle.xfs_image.specs.Slots.{bytes_in, cluster_blocks, cluster_inodes, inodes_of_block, slot_bytes}
 use Rattle.xfs_naming.specs.Naming.{is_in_use}
-use Rattle.xfs_protected.proofs.Addresses.{IsPlaced}
-use Rattle.xfs_protected.proofs.Images.{inode_cluster}
-use Rattle.xfs_protected.proofs.Members.{Member, any_member, flat_member, map_member, member_any, member_flat, member_left, member_map, row_member}
+use Rattle.xfs_views.proofs.Addresses.{IsPlaced}
+use Rattle.xfs_views.proofs.Images.{inode_cluster}
+use Rattle.xfs_views.proofs.Members.{Member, any_member, flat_member, map_member, member_any, member_flat, member_left, member_map, row_member}
 use Rattle.xfs_render.specs.Slots.{DropsAttrs, IsMadeSlot, SetsLinks}
-use Rattle.xfs_rendered.proofs.Numbers.{number_in_part}
+use Rattle.xfs_made.proofs.Numbers.{number_in_part}
 use Rattle.xfs_space.proofs.RecordedMaps.{group_inside}
 use Rattle.xfs_volume.specs.declared.cores.Core.{Core}
 use Rattle.xfs_volume.specs.declared.files.FileRec.{FileRec}

@@ -23,9 +23,9 @@ use Rattle.xfs_names.specs.Built.{fork_room}
 use Rattle.xfs_volume.specs.Names.{type_of}
 use Rattle.xfs_volume.specs.declared.cores.Core.{Core}
 use Rattle.xfs_volume.specs.declared.files.FileRec.{FileRec}
-use Rattle.xfs_frames.specs.SameFiles.{HasSameClaims}
-use Rattle.xfs_frames.proofs.FilesStay.{free_stays}
-use Rattle.xfs_protected.proofs.Members.{Member, contains, flat_member, member_all, member_flat, member_map}
+use Rattle.xfs_views.specs.SameFiles.{HasSameClaims}
+use Rattle.xfs_views.proofs.FilesStay.{free_stays}
+use Rattle.xfs_views.proofs.Members.{Member, contains, flat_member, member_all, member_flat, member_map}
 use Rattle.xfs_render.specs.Plans.{HoldsPlan}
 use Rattle.xfs_render.specs.Slots.{IsMadeSlot, wanted_of}
 use Rattle.xfs_render.specs.declared.wanted_slots.SlotBase.TheVariants.{Fresh}

@@ -10,14 +10,14 @@ use Rattle.xfs_geom.specs.Conversions.{address_of, block_at, inode_of, slot_at, 
 use Rattle.xfs_geom.specs.Volumes.{Volume, volume_of}
 use Rattle.xfs_geom.specs.declared.geometry.Geometry.{Geometry}
 use Rattle.xfs_image.specs.Slots.{bytes_in, cluster_blocks, cluster_inodes, inodes_of_block, slot_bytes}
-use Rattle.xfs_protected.proofs.Members.{Member, contained, contains, flat_member, map_member, row_member}
+use Rattle.xfs_views.proofs.Members.{Member, contained, contains, flat_member, map_member, row_member}
 use Rattle.xfs_place.specs.Pool.{is_listed}
 use Rattle.xfs_render.specs.Clusters.{slot_in}
 use Rattle.xfs_render.specs.Plans.{planned}
 use Rattle.xfs_render.specs.Rendering.{byte_place, is_head, old_at}
 use Rattle.xfs_render.specs.Slots.{IsMadeSlot, IsSlotDue}
 use Rattle.xfs_render.specs.declared.wanted_slots.SlotWanted.{SlotWanted}
-use Rattle.xfs_rendered.proofs.Slots.{slots_stand}
+use Rattle.xfs_made.proofs.Slots.{slots_stand}
 use Rattle.xfs_request.specs.Requests.{volume_wanted}
 use Rattle.xfs_rebuild.specs.Places.{has_wanted, old_places}
 use Rattle.xfs_rebuild.specs.Rebuilds.{Ground, IsPlannedOn, asked, slots_asked}

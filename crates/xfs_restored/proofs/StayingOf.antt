@@ -18,8 +18,8 @@ use Rattle.xfs_volume.specs.Names.{type_of}
 use Rattle.xfs_volume.specs.declared.cores.Core.{Core}
 use Rattle.xfs_volume.specs.declared.files.FileRec.{FileRec}
 use Rattle.xfs_scan.specs.declared.evidence.Evidence.{Evidence}
-use Rattle.xfs_frames.specs.SameFiles.{HasSameClaims}
-use Rattle.xfs_protected.proofs.Members.{Member, all_members, contained, contains, map_member, member_any, member_either, member_map}
+use Rattle.xfs_views.specs.SameFiles.{HasSameClaims}
+use Rattle.xfs_views.proofs.Members.{Member, all_members, contained, contains, map_member, member_any, member_either, member_map}
 use Rattle.xfs_rebuild.specs.Names.{linked_file, linked_files}
 use Rattle.xfs_rebuild.specs.declared.names_due.NamesDue.{NamesDue}
 use Rattle.xfs_rename.specs.Lost.{lost_due}

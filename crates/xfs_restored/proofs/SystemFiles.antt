@@ -15,12 +15,12 @@ use Rattle.xfs_naming.specs.Naming.{entries_in, entries_to, is_in_use, is_system
 use Rattle.xfs_links.specs.Connected.{directory_numbers}
 use Rattle.xfs_links.specs.Entries.{is_directory_number, is_reserved_inode}
 use Rattle.xfs_links.specs.declared.records.NodeRec.{NodeRec}
-use Rattle.xfs_hanging.specs.Together.{adds_lost}
+use Rattle.xfs_links.specs.Together.{adds_lost}
 use Rattle.xfs_names.specs.Having.{node_of}
 use Rattle.xfs_names.specs.Rebuilt.{is_rebuilt}
 use Rattle.xfs_names.specs.Wanted.{link_count, wanted_entries, with_directory, with_parent}
 use Rattle.xfs_names.proofs.Deciding.{directory_with, has_directories}
-use Rattle.xfs_protected.proofs.Members.{Member, any_member, contains, member_any, member_map}
+use Rattle.xfs_views.proofs.Members.{Member, any_member, contains, member_any, member_map}
 use Rattle.xfs_salvage.specs.Kept.{own_inodes}
 use Rattle.xfs_request.specs.Fresh.{new_system_core}
 use Rattle.xfs_scan.specs.declared.evidence.Evidence.{Evidence}

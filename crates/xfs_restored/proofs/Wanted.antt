@@ -10,7 +10,7 @@ use Rattle.xfs_image.specs.Claims.{candidate_inodes}
 use Rattle.xfs_image.specs.Slots.{cluster_blocks, cluster_inodes, inodes_of_block, reads_as}
 use Rattle.xfs_naming.specs.Naming.{NumbersAscend, numbers_of}
 use Rattle.xfs_volume.specs.declared.files.FileRec.{FileRec}
-use Rattle.xfs_protected.proofs.Members.{Member}
+use Rattle.xfs_views.proofs.Members.{Member}
 use Rattle.xfs_render.specs.Slots.{wanted_of}
 use Rattle.xfs_render.specs.declared.wanted_slots.SlotWanted.{SlotWanted}
 use Rattle.xfs_salvage.specs.declared.found.Salvaged.{Salvaged}

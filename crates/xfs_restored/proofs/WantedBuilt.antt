@@ -15,7 +15,7 @@ use Rattle.xfs_names.specs.Wanted.{directory_node, wanted_entries, wanted_nodes,
 use Rattle.xfs_names.specs.declared.building.BuiltDirectory.{BuiltDirectory}
 use Rattle.xfs_names.specs.declared.records.WantedNames.{WantedNames}
 use Rattle.xfs_naming.specs.Naming.{entries_in, file_at}
-use Rattle.xfs_protected.proofs.Members.{Member, any_member, filter_member, map_member, member_any, member_filter, member_map}
+use Rattle.xfs_views.proofs.Members.{Member, any_member, filter_member, map_member, member_any, member_filter, member_map}
 use Rattle.xfs_salvage.specs.declared.found.Salvaged.{Salvaged}
 use Rattle.xfs_request.specs.Fresh.{new_root_core, new_system_core}
 use Rattle.xfs_request.specs.Slots.{links_due, wanted_slots}

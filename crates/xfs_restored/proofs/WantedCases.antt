@@ -12,7 +12,7 @@ use Rattle.xfs_geom.specs.declared.geometry.Geometry.{Geometry}
 use Rattle.xfs_image.specs.Slots.{cluster_inodes}
 use Rattle.xfs_inodebuild.specs.declared.forks.ForkWanted.{ForkWanted}
 use Rattle.xfs_naming.specs.Naming.{NumbersAscend}
-use Rattle.xfs_protected.proofs.Members.{Member, contains, flat_member, map_member, member_either, member_flat, row_member}
+use Rattle.xfs_views.proofs.Members.{Member, contains, flat_member, map_member, member_either, member_flat, row_member}
 use Rattle.xfs_render.specs.Slots.{wanted_of}
 use Rattle.xfs_render.specs.declared.wanted_slots.SlotBase.{SlotBase}
 use Rattle.xfs_render.specs.declared.wanted_slots.SlotBase.TheVariants.{Fresh, Kept}
@@ -24,7 +24,7 @@ use Rattle.xfs_request.specs.Slots.{attrs_wanted, file_slot, freed_slot, is_free
 use Rattle.xfs_request.specs.declared.seen.SlotSeen.{SlotSeen}
 use Rattle.xfs_requested.proofs.Spaced.{AreSpaced, inodes_up, kept_spaced}
 use Rattle.xfs_requested.proofs.Taken.{among_member}
-use Rattle.xfs_kept.proofs.Inodes.{first_in}
+use Rattle.xfs_requested.proofs.Inodes.{first_in}
 use Rattle.xfs_scan.specs.declared.evidence.Evidence.{Evidence}
 use Rattle.xfs_volume.specs.declared.cores.Core.{Core}
 use Rattle.xfs_volume.specs.declared.files.FileRec.{FileRec}

@@ -13,7 +13,7 @@ use Rattle.xfs_volume.specs.declared.files.FileRec.{FileRec}
 use Rattle.xfs_image.specs.Slots.{slot_bytes}
 use Rattle.xfs_inode.specs.Files.{no_attrs}
 use Rattle.xfs_inodebuild.specs.declared.forks.ForkWanted.{ForkWanted}
-use Rattle.xfs_protected.proofs.Members.{contained}
+use Rattle.xfs_views.proofs.Members.{contained}
 use Rattle.xfs_render.specs.Slots.{wanted_of}
 use Rattle.xfs_render.specs.declared.wanted_slots.SlotBase.{SlotBase}
 use Rattle.xfs_render.specs.declared.wanted_slots.SlotBase.TheVariants.{Fresh}

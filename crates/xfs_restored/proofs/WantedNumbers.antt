@@ -12,7 +12,7 @@ use Rattle.xfs_image.specs.Candidates.{candidates}
 use Rattle.xfs_image.specs.Claims.{candidate_files}
 use Rattle.xfs_image.specs.Clusters.{root_cluster}
 use Rattle.xfs_image.specs.Slots.{cluster_inodes}
-use Rattle.xfs_hanging.specs.Together.{adds_lost, old_lost, orphans_of}
+use Rattle.xfs_links.specs.Together.{adds_lost, old_lost, orphans_of}
 use Rattle.xfs_links.specs.Entries.{is_kept_node, is_reserved_inode}
 use Rattle.xfs_links.specs.declared.records.NodeRec.{NodeRec}
 use Rattle.xfs_naming.specs.Naming.{NumbersAscend, file_at, is_in_use, numbers_of}
@@ -21,8 +21,8 @@ use Rattle.xfs_names.specs.Place.{free_inode, inodes_from, is_free_inode}
 use Rattle.xfs_names.specs.Wanted.{directory_node, wanted_entries, wanted_nodes, with_directory, with_links}
 use Rattle.xfs_names.specs.declared.place.LostPlace.{LostPlace}
 use Rattle.xfs_names.specs.declared.place.LostPlace.TheVariants as place
-use Rattle.xfs_kept.proofs.Roots.{root_kept}
-use Rattle.xfs_protected.proofs.Members.{Member, all_members, filter_member, flat_member, map_member, member_any, member_flat, member_map}
+use Rattle.xfs_requested.proofs.Roots.{root_kept}
+use Rattle.xfs_views.proofs.Members.{Member, all_members, filter_member, flat_member, map_member, member_any, member_flat, member_map}
 use Rattle.xfs_salvage.specs.Kept.{fresh_among, own_inodes}
 use Rattle.xfs_salvage.specs.declared.found.Salvaged.{Salvaged}
 use Rattle.xfs_request.specs.Slots.{wanted_slots}

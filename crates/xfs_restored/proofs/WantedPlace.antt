@@ -5,9 +5,9 @@ use Rattle.std.proofs.lemmas.Bool.{ne_eqb}
 use Rattle.xfs_names.specs.Place.{new_place, old_or_new, place_for}
 use Rattle.xfs_names.specs.Wanted.{directory_node, with_directory}
 use Rattle.xfs_names.specs.declared.place.LostPlace.TheVariants as place
-use Rattle.xfs_hanging.specs.Together.{is_new}
+use Rattle.xfs_links.specs.Together.{is_new}
 use Rattle.xfs_links.specs.declared.records.NodeRec.{NodeRec}
-use Rattle.xfs_protected.proofs.Members.{Member}
+use Rattle.xfs_views.proofs.Members.{Member}
 use Rattle.xfs_rename.specs.Lost.{is_lost_made}
 
 -- what is found passes the test

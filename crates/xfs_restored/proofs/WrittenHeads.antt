@@ -6,7 +6,7 @@ use Rattle.std.proofs.lemmas.Bool.{and_parts, le-leb, or_right}
 use Rattle.xfs_heads.specs.declared.log.state.LogState.{LogState}
 use Rattle.xfs_heads.specs.declared.log.state.LogState.TheVariants.{Clean, Dirty}
 use Rattle.xfs_laws.specs.Counting.{head_of, is_behind}
-use Rattle.xfs_protected.proofs.Members.{Member}
+use Rattle.xfs_views.proofs.Members.{Member}
 use Rattle.xfs_request.specs.Cycles.{cycle_of, greatest_cycle, keeps_log}
 use Rattle.xfs_restored.specs.Logs.{IsLogDue}
 

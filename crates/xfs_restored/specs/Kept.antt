@@ -13,7 +13,7 @@ use Rattle.xfs_image.specs.Claims.{candidate_files, candidate_inodes}
 use Rattle.xfs_image.specs.Slots.{reads_as, slot_bytes}
 use Rattle.xfs_rounds.specs.declared.facts.SlotReading.{SlotReading}
 use Rattle.xfs_rounds.specs.declared.facts.SlotReading.TheVariants as Reading
-use Rattle.xfs_frames.specs.SameFiles.{HasSameClaims}
+use Rattle.xfs_views.specs.SameFiles.{HasSameClaims}
 use Rattle.xfs_render.specs.Slots.{IsSlotDue}
 use Rattle.xfs_salvage.specs.declared.found.Salvaged.{Salvaged}
 use Rattle.xfs_request.specs.Slots.{wanted_slots}

@@ -12,8 +12,8 @@ use Rattle.xfs_volume.specs.declared.groups.GroupRec.{GroupRec}
 use Rattle.xfs_image.specs.Lsns.{lsns_read}
 use Rattle.xfs_image.specs.View.{log_of}
 use Rattle.xfs_place.specs.declared.placed.Placed.{Placed}
-use Rattle.xfs_due.specs.Groups.{due_groups}
-use Rattle.xfs_rendered.specs.Standing.{agf_crc_at, agi_crc_at}
+use Rattle.xfs_made.specs.Groups.{due_groups}
+use Rattle.xfs_made.specs.Standing.{agf_crc_at, agi_crc_at}
 use Rattle.xfs_made.specs.Volumes.{Checksums}
 use Rattle.xfs_request.specs.Chunks.{inodes_wanted}
 use Rattle.xfs_rebuild.specs.Rebuilds.{Ground}

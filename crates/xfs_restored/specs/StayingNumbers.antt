@@ -9,7 +9,7 @@ use Rattle.xfs_image.specs.Slots.{cluster_inodes}
 use Rattle.xfs_naming.specs.Naming.{is_in_use}
 use Rattle.xfs_volume.specs.Names.{type_of}
 use Rattle.xfs_volume.specs.declared.files.FileRec.{FileRec}
-use Rattle.xfs_frames.specs.SameFiles.{HasSameClaims}
+use Rattle.xfs_views.specs.SameFiles.{HasSameClaims}
 use Rattle.xfs_render.specs.Slots.{wanted_of}
 use Rattle.xfs_built.specs.Bases.{StartsAtZero}
 use Rattle.xfs_render.specs.declared.wanted_slots.SlotBase.TheVariants as Base

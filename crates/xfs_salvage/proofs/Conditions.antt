@@ -27,7 +27,7 @@ use Rattle.xfs_place.specs.Claims as Place
 use Rattle.xfs_place.specs.Wanted as Wanted
 use Rattle.xfs_place.proofs.AllClaims.{all_apart, all_each, is_volume}
 use Rattle.xfs_place.proofs.Ordered.{on_first}
-use Rattle.xfs_protected.specs.Claimed.{claims_in, file_claim}
+use Rattle.xfs_views.specs.Claimed.{claims_in, file_claim}
 use Rattle.xfs_kinds.specs.FixedRuns.{fixed_runs}
 use Rattle.xfs_salvage.specs.Claimable.{AscendClaiming, AscendWithin, CanBeSalvaged, CanClaim}
 use Rattle.xfs_salvage.proofs.Apart.{apart_by_blocks}

@@ -13,8 +13,8 @@ use Rattle.xfs_volume.specs.declared.files.FileRec.{FileRec}
 use Rattle.xfs_space.specs.Owners.{file_runs, new_run}
 use Rattle.xfs_naming.specs.Naming.{is_directory_at, is_in_use}
 use Rattle.xfs_claims.specs.Keeping.{Holding, kept_of}
-use Rattle.xfs_protected.specs.Claimed.{claims_in}
-use Rattle.xfs_protected.specs.Standing.{stands}
+use Rattle.xfs_views.specs.Claimed.{claims_in}
+use Rattle.xfs_views.specs.Standing.{stands}
 
 -- what is held of the claims of these clusters and files, by their rank
 unfoldable pub claims_held : Volume → List ClusterRec → List FileRec → Holding

@@ -7,7 +7,7 @@ ghost use Rattle.xfs_dirdata.specs.declared.records.EntryRec.{EntryRec};
 ghost use Rattle.xfs_volume.specs.Names.{is_directory};
 ghost use Rattle.xfs_volume.specs.declared.directories.DirRec.{DirRec};
 ghost use Rattle.xfs_naming.specs.Naming.{NumbersAscend, is_empty_regular, is_in_use, numbers_of};
-ghost use Rattle.xfs_protected.specs.Standing.{stands};
+ghost use Rattle.xfs_views.specs.Standing.{stands};
 ghost use Rattle.xfs_salvage.specs.Claimable.{AscendWithin};
 ghost use Rattle.xfs_salvage.specs.Kept.{fresh_among};
 

@@ -6,7 +6,7 @@ use Rattle.std.proofs.lemmas.List.{take-append-drop}
 use Rattle.xfs_geom.specs.Volumes.{Volume}
 use Rattle.xfs_rounds.specs.Judged.{AreJudged, IsListed}
 use Rattle.xfs_rounds.specs.declared.pieces.BlockParts.{BlockParts}
-use Rattle.xfs_forks.specs.Named.{IsAtHand}
+use Rattle.xfs_rounds.specs.Named.{IsAtHand}
 
 -- the first blocks of what is left stand behind those before
 pub round_behind : (start count : ℕ) (blocks rest : List ℕ) → rest ≡ drop start blocks

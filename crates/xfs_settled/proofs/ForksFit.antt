@@ -19,7 +19,7 @@ use Rattle.xfs_place.specs.Objects.{ServeAsks, asks_of}
 use Rattle.xfs_place.specs.Wanted.{kept_runs}
 use Rattle.xfs_place.specs.declared.placed.Placed.{Placed}
 use Rattle.xfs_place.specs.declared.wanted.Wanted.{Wanted}
-use Rattle.xfs_protected.proofs.Members.{Member, all_members, filter_member, member_all, member_any, member_map}
+use Rattle.xfs_views.proofs.Members.{Member, all_members, filter_member, member_all, member_any, member_map}
 use Rattle.xfs_volume.specs.declared.files.FileRec.{FileRec}
 use Rattle.xfs_rebuild.specs.Changes.{can_fork}
 use Rattle.xfs_rebuild.specs.declared.names_due.NamesDue.{NamesDue}

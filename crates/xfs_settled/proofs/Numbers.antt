@@ -14,7 +14,7 @@ use Rattle.xfs_geom.specs.declared.geometry.Geometry.{Geometry}
 use Rattle.xfs_geom.specs.declared.records.Run.{Run}
 use Rattle.xfs_image.specs.Clusters.{root_cluster}
 use Rattle.xfs_image.specs.Slots.{cluster_inodes}
-use Rattle.xfs_hanging.specs.Together.{old_lost, orphans_of}
+use Rattle.xfs_links.specs.Together.{old_lost, orphans_of}
 use Rattle.xfs_links.specs.Entries.{is_kept_node, is_reserved_inode}
 use Rattle.xfs_links.specs.declared.records.NodeRec.{NodeRec}
 use Rattle.xfs_naming.specs.Naming.{is_in_use}
@@ -24,8 +24,8 @@ use Rattle.xfs_names.specs.declared.place.LostPlace.{LostPlace}
 use Rattle.xfs_names.specs.declared.place.LostPlace.TheVariants as place
 use Rattle.xfs_place.specs.Pool.{is_taken}
 use Rattle.xfs_place.specs.declared.wanted.Wanted.{Wanted}
-use Rattle.xfs_kept.proofs.Roots.{root_kept}
-use Rattle.xfs_protected.proofs.Members.{Member, any_member, filter_member, flat_member, map_member, member_any, member_flat, member_left, member_map, row_member}
+use Rattle.xfs_requested.proofs.Roots.{root_kept}
+use Rattle.xfs_views.proofs.Members.{Member, any_member, filter_member, flat_member, map_member, member_any, member_flat, member_left, member_map, row_member}
 use Rattle.xfs_salvage.specs.Kept.{fresh_among, own_inodes, run_of_cluster}
 use Rattle.xfs_salvage.specs.declared.found.Salvaged.{Salvaged}
 use Rattle.xfs_space.specs.Owners.{file_runs}

@@ -9,7 +9,7 @@ use Rattle.xfs_geom.specs.Volumes.{Volume, volume_of}
 use Rattle.xfs_geom.specs.declared.geometry.Geometry.{Geometry}
 use Rattle.xfs_geom.specs.declared.records.Run.{Run}
 use Rattle.xfs_place.specs.Pool.{IsRunOf}
-use Rattle.xfs_protected.proofs.Members.{Member, member_all, member_flat, member_left, member_map, member_right}
+use Rattle.xfs_views.proofs.Members.{Member, member_all, member_flat, member_left, member_map, member_right}
 use Rattle.xfs_salvage.specs.Kept.{run_of_cluster}
 use Rattle.xfs_scan.specs.declared.evidence.Evidence.{Evidence}
 use Rattle.xfs_space.specs.Owners.{attribute_flag, extent_run, file_runs, runs_of_blocks, tree_flag}

@@ -12,7 +12,7 @@ use Rattle.xfs_geom.proofs.Addresses.{block_back}
 use Rattle.xfs_geom.specs.Conversions.{address_of, block_at, inode_of, slot_at, with_slot}
 use Rattle.xfs_geom.specs.Volumes.{Volume, volume_of}
 use Rattle.xfs_geom.specs.declared.geometry.Geometry.{Geometry}
-use Rattle.xfs_hanging.specs.Together.{adds_lost, old_lost, orphans_of}
+use Rattle.xfs_links.specs.Together.{adds_lost, old_lost, orphans_of}
 use Rattle.xfs_image.specs.Slots.{bytes_in, slot_bytes}
 use Rattle.xfs_inode.specs.Slots.{fork_bytes}
 use Rattle.xfs_links.specs.declared.records.NodeRec.{NodeRec}
@@ -26,7 +26,7 @@ use Rattle.xfs_names.specs.declared.building.ForkRoom.{ForkRoom}
 use Rattle.xfs_names.specs.declared.records.WantedNames.{WantedNames}
 use Rattle.xfs_place.specs.Objects.{ServeAsks, asks_of}
 use Rattle.xfs_place.specs.declared.placed.Placed.{Placed}
-use Rattle.xfs_protected.proofs.Members.{Member, any_member, contains, flat_member, map_member, member_any, member_either}
+use Rattle.xfs_views.proofs.Members.{Member, any_member, contains, flat_member, map_member, member_any, member_either}
 use Rattle.xfs_render.specs.Clusters.{slot_in}
 use Rattle.xfs_render.specs.Slots.{wanted_of}
 use Rattle.xfs_render.specs.declared.wanted_slots.SlotBase.{SlotBase}

@@ -9,8 +9,8 @@ use Rattle.xfs_geom.specs.declared.geometry.Geometry.{Geometry}
 use Rattle.xfs_image.specs.Slots.{cluster_inodes}
 use Rattle.xfs_naming.specs.Naming.{NumbersAscend}
 use Rattle.xfs_names.specs.declared.records.WantedNames.{WantedNames}
-use Rattle.xfs_kept.proofs.Inodes.{first_in}
-use Rattle.xfs_protected.proofs.Members.{all_members}
+use Rattle.xfs_requested.proofs.Inodes.{first_in}
+use Rattle.xfs_views.proofs.Members.{all_members}
 use Rattle.xfs_render.specs.declared.wanted_slots.SlotWanted.{SlotWanted}
 use Rattle.xfs_request.specs.Slots.{StandByNumber, slot_listed}
 use Rattle.xfs_requested.proofs.Spaced.{AreSpaced, inodes_up, kept_spaced}

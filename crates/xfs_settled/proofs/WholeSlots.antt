@@ -15,7 +15,7 @@ use Rattle.xfs_inode.specs.Slots.{slot_read, slot_seal, unsupported, used_read}
 use Rattle.xfs_inode.specs.declared.files.FileRead.{FileRead}
 use Rattle.xfs_inode.specs.declared.files.FileRead.TheVariants as Reads
 use Rattle.xfs_inode.specs.declared.reading.SlotRead.TheVariants as Read
-use Rattle.xfs_protected.proofs.Members.{Member}
+use Rattle.xfs_views.proofs.Members.{Member}
 use Rattle.xfs_scan.specs.declared.evidence.Evidence.{Evidence}
 use Rattle.xfs_tree.specs.Reading.{Contents}
 use Rattle.xfs_views.proofs.FileTests.{core_says}

@@ -4,4 +4,16 @@ pub mod Forks
 pub mod Links
 pub mod Lost
 pub mod Replaced
+pub mod GatheredSlots
+pub mod Directories
+pub mod Grounds
+pub mod Heads
+pub mod Images
+pub mod Logs
+pub mod Names
+pub mod Objects
+pub mod Placing
+pub mod Repairs
 pub mod Slots
+pub mod Trees
+pub mod Volumes

@@ -10,7 +10,7 @@ ghost use Rattle.xfs_image.specs.Slots.{inodes_of_block};
 ghost use Rattle.xfs_slots.specs.Causes.{HasReadCause};
 ghost use Rattle.xfs_slots.specs.Facts.{AddsFacts};
 ghost use Rattle.xfs_slots.specs.Gathered.{gathered, held_in, gathered_both, of_slot};
-ghost use Rattle.xfs_forks.specs.Settled.{ArePartsIn, IsPartIn, IsTold};
+ghost use Rattle.xfs_rounds.specs.Settled.{ArePartsIn, IsPartIn, IsTold};
 
 use crate::faults::PartFault;
 use crate::inodes::Inodes;

@@ -7,7 +7,7 @@ ghost use Rattle.xfs_bank.specs.Bank.{blocks_at};
 ghost use Rattle.xfs_geom.specs.Volumes.{volume_of};
 ghost use Rattle.xfs_disk.specs.Reads.{OnlyReads};
 ghost use Rattle.xfs_image.specs.Slots.{inodes_of_block};
-ghost use Rattle.xfs_forks.specs.Settled.{AreSettled, IsSettled, IsTold};
+ghost use Rattle.xfs_rounds.specs.Settled.{AreSettled, IsSettled, IsTold};
 ghost use Rattle.xfs_rounds.specs.Judged.{IsListed};
 ghost use Rattle.xfs_slots.specs.Causes.{HasReadCause};
 ghost use Rattle.xfs_slots.specs.Facts.{slot_fact};

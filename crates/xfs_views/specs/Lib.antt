@@ -1,2 +1,11 @@
 pub mod DirectoriesInWords
 pub mod FilesInWords
+pub mod Guarded
+pub mod Claimed
+pub mod Standing
+pub mod Examples
+pub mod KeptInWords
+pub mod Same
+pub mod SameFiles
+pub mod NamedBlocks
+pub mod Backups

@@ -1,7 +1,7 @@
 -- Names together, parents and targets from the lists that were decided.
 use Rattle.std.specs.Prelude.{ℕ, ◌==◌, if◌then◌else◌, List, ◌++◌, map, Option, unwrap_or}
 use Rattle.xfs_dirdata.specs.declared.records.EntryRec.{EntryRec}
-use Rattle.xfs_hanging.specs.Together.{orphan_entry, lost_directory, new_entries}
+use Rattle.xfs_links.specs.Together.{orphan_entry, lost_directory, new_entries}
 use Rattle.xfs_names.specs.Pairs.{parent_among}
 
 -- the entries that stay, the orphans in lost+found, and lost+found where it is new

@@ -9,7 +9,7 @@ use Rattle.xfs_image.specs.View.{log_of}
 use Rattle.xfs_laws.specs.Counting.{log_laws}
 use Rattle.xfs_scan.specs.declared.evidence.Evidence.{Evidence}
 use Rattle.xfs_volume.specs.Laws.{AreKept}
-use Rattle.xfs_due.specs.Groups.{due_groups}
+use Rattle.xfs_made.specs.Groups.{due_groups}
 use Rattle.xfs_request.specs.Chunks.{inodes_wanted}
 use Rattle.xfs_rebuild.specs.declared.names_due.NamesDue.{NamesDue}
 use Rattle.xfs_rename.specs.Lost.{lost_due}

@@ -13,7 +13,7 @@ use Rattle.xfs_names.specs.declared.records.WantedNames.{WantedNames}
 use Rattle.xfs_place.specs.Pool.{is_listed}
 use Rattle.xfs_render.specs.Plans.{HoldsPlan, IsOnce, planned}
 use Rattle.xfs_render.specs.Slots.{IsMadeSlot, IsSlotDue, wanted_of}
-use Rattle.xfs_rendered.specs.Standing.{IsStanding}
+use Rattle.xfs_made.specs.Standing.{IsStanding}
 use Rattle.xfs_rebuild.specs.declared.names_due.NamesDue.{NamesDue}
 use Rattle.xfs_restored.specs.Rewriting.{IsRewritten}
 use Rattle.xfs_rename.specs.Lost.{lost_due}

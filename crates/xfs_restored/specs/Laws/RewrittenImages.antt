@@ -13,8 +13,8 @@ use Rattle.xfs_render.specs.Plans.{HoldsPlan, planned}
 use Rattle.xfs_render.specs.Slots.{IsSlotDue}
 use Rattle.xfs_scan.specs.Evidence.{IsEvidence}
 use Rattle.xfs_scan.specs.declared.evidence.Evidence.{Evidence}
-use Rattle.xfs_frames.specs.SameFiles.{HasSameClaims}
-use Rattle.xfs_rendered.specs.Standing.{IsStanding}
+use Rattle.xfs_views.specs.SameFiles.{HasSameClaims}
+use Rattle.xfs_made.specs.Standing.{IsStanding}
 use Rattle.xfs_rebuild.specs.Rebuilds.{Ground, IsPlannedOn, IsRebuildOf, asked, slots_asked}
 use Rattle.xfs_rebuild.specs.declared.planning.Rebuilt.{Rebuilt}
 use Rattle.xfs_restored.specs.Rewriting.{IsRewritten}

@@ -11,7 +11,7 @@ use Rattle.xfs_laws.specs.Counting.{by_group, chunk_laws, counter_laws, group_ch
 use Rattle.xfs_scan.specs.declared.evidence.Evidence.{Evidence}
 use Rattle.xfs_space.specs.SpaceLaws.{space_laws}
 use Rattle.xfs_volume.specs.Laws.{AreKept}
-use Rattle.xfs_due.specs.Groups.{due_groups}
+use Rattle.xfs_made.specs.Groups.{due_groups}
 use Rattle.xfs_place.specs.declared.placed.GroupPlaced.{GroupPlaced}
 use Rattle.xfs_request.specs.Chunks.{inodes_wanted}
 use Rattle.xfs_rebuild.specs.declared.names_due.NamesDue.{NamesDue}

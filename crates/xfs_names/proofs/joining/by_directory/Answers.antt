@@ -4,7 +4,7 @@ use Rattle.std.proofs.lemmas.List.Sorted.{IsNonDecreasingBy-from_sort_by_key, Al
 use Rattle.xfs_weave.specs.Lists.{has_node}
 use Rattle.xfs_dirdata.specs.declared.records.EntryRec.{EntryRec}
 use Rattle.xfs_links.specs.Connected.{directory_numbers}
-use Rattle.xfs_hanging.specs.Settled.{by_directory as each_directory}
+use Rattle.xfs_links.specs.Settled.{by_directory as each_directory}
 use Rattle.xfs_names.proofs.ByNumber.{directories_ascend}
 use Rattle.xfs_names.proofs.Grouping.{grouped, stays_in}
 use Rattle.xfs_names.proofs.joining.by_directory.Goals as goal

@@ -1,5 +1,5 @@
 use Rattle.std.proofs.Common.{rules, ◌<◌, ◌^◌, ◌∙◌, List, length, map, refl, sym, subst, ap}
-use Rattle.xfs_hanging.specs.Together.{orphans_of}
+use Rattle.xfs_links.specs.Together.{orphans_of}
 use Rattle.xfs_naming.specs.Naming.{NumbersAscend}
 use Rattle.xfs_volume.specs.declared.directories.DirRec.{DirRec}
 use Rattle.xfs_rebuild.proofs.Grounds.{low_root}

@@ -1,5 +1,5 @@
 use Rattle.xfs_geom.specs.Volumes.{volume_of}
-use Rattle.xfs_protected.proofs.Members.{contained}
+use Rattle.xfs_views.proofs.Members.{contained}
 use Rattle.xfs_restored.specs.DueFiles.{kept_inodes}
 use Rattle.xfs_restored.proofs.Others.{free_slot_reads, fresh_reads}
 use Rattle.xfs_restored.proofs.RereadSlots.{kept_file_reads}

@@ -1,5 +1,5 @@
 use Rattle.xfs_image.specs.Claims.{candidate_inodes}
-use Rattle.xfs_protected.proofs.Members.{contained}
+use Rattle.xfs_views.proofs.Members.{contained}
 use Rattle.xfs_restored.proofs.KnownSlots.{known}
 use Rattle.xfs_restored.proofs.kept_slots.slots_are_known_by_facts.Goals as goal
 

@@ -2,7 +2,7 @@ use Rattle.std.proofs.Common.{◌++◌, List, Option, map, ap, subst, ◌∙◌}
 use Rattle.std.specs.Option.{SomeIff}
 use Rattle.xfs_geom.specs.Volumes.{volume_of}
 use Rattle.xfs_claims.specs.declared.claimants.FileClaim.{FileClaim}
-use Rattle.xfs_protected.specs.Claimed.{file_claim}
+use Rattle.xfs_views.specs.Claimed.{file_claim}
 use Rattle.xfs_salvage.specs.Claimable.{CanClaim}
 use Rattle.xfs_salvage.proofs.Rising.{all_claim, all_put, claim_put, claims_next, low_stops, other_stops}
 use Rattle.xfs_salvage.proofs.claiming.file_claims.Goals as goal

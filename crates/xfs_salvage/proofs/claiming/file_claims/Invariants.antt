@@ -1,6 +1,6 @@
 use Rattle.std.proofs.Common.{◌≡◌, ◌++◌, ◌↔◌, drop, map}
 use Rattle.xfs_geom.specs.Volumes.{volume_of}
-use Rattle.xfs_protected.specs.Claimed.{file_claim}
+use Rattle.xfs_views.specs.Claimed.{file_claim}
 use Rattle.xfs_salvage.specs.Claimable.{AscendClaiming}
 use Rattle.xfs_salvage.proofs.claiming.file_claims.Given as goal
 

@@ -2,7 +2,7 @@ use Rattle.std.proofs.Common.{◌≡◌, IfOk, subst}
 use Rattle.xfs_geom.specs.Volumes.{volume_of}
 use Rattle.xfs_claims.specs.declared.claimants.Claims.{Claims}
 use Rattle.xfs_claims.specs.Keeping.{kept_of}
-use Rattle.xfs_protected.specs.Claimed.{claims_in}
+use Rattle.xfs_views.specs.Claimed.{claims_in}
 use Rattle.xfs_salvage.specs.Claimable.{CanBeSalvaged}
 use Rattle.xfs_salvage.specs.Kept.{claims_held}
 use Rattle.xfs_salvage.proofs.Ascending.{files_ascend_if}

@@ -2,7 +2,7 @@ use Rattle.std.proofs.Common.{rules, ◌&&◌, ◌∙◌, ap, filter}
 use Rattle.std.proofs.lemmas.Fn.{filter_same}
 use Rattle.xfs_disk.specs.Lists.{is_among}
 use Rattle.xfs_volume.specs.declared.files.FileRec.{FileRec}
-use Rattle.xfs_protected.specs.Standing.{stands}
+use Rattle.xfs_views.specs.Standing.{stands}
 use Rattle.xfs_salvage.proofs.order.files_that_stay.Goals as goal
 
 pub returns : goal.returns

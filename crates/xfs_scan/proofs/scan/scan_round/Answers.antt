@@ -3,8 +3,8 @@ use Rattle.std.proofs.lemmas.List.{with_items_is}
 use Rattle.xfs_disk.specs.Blocks.{Image}
 use Rattle.xfs_disk.proofs.Reading.{reads_on}
 use Rattle.xfs_geom.specs.Volumes.{volume_of}
-use Rattle.xfs_forks.specs.Settled.{AreSettled, IsTold}
-use Rattle.xfs_forks.specs.Named.{IsAtHand}
+use Rattle.xfs_rounds.specs.Settled.{AreSettled, IsTold}
+use Rattle.xfs_rounds.specs.Named.{IsAtHand}
 use Rattle.xfs_rounds.specs.Causes.{IsRoundCause}
 use Rattle.xfs_rounds.specs.Judged.{AreListed}
 use Rattle.xfs_rounds.specs.declared.pieces.BlockParts.{BlockParts}

@@ -8,7 +8,7 @@ use Rattle.xfs_geom.specs.Volumes.{volume_of}
 use Rattle.xfs_disk.proofs.Reading.{reads_none, reads_on}
 use Rattle.std.proofs.Common.{Option}
 use Rattle.xfs_disk.specs.Blocks.{Image}
-use Rattle.xfs_forks.specs.Settled.{IsPartIn, IsTold}
+use Rattle.xfs_rounds.specs.Settled.{IsPartIn, IsTold}
 use Rattle.xfs_rounds.specs.declared.judging.SlotPart.{SlotPart}
 use Rattle.xfs_slots.specs.Facts.{slot_fact}
 use Rattle.xfs_slots.specs.Gathered.{gathered, gathered_both, held_in}

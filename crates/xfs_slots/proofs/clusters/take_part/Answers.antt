@@ -4,7 +4,7 @@ use Rattle.xfs_geom.specs.Conversions.{inode_of, slot_at}
 use Rattle.xfs_geom.specs.Volumes.{volume_of}
 use Rattle.xfs_inode.specs.Sound.{IsSound}
 use Rattle.xfs_inode.specs.declared.files.FileRead.{FileRead}
-use Rattle.xfs_forks.specs.Settled.{IsReadFile, IsTold}
+use Rattle.xfs_rounds.specs.Settled.{IsReadFile, IsTold}
 use Rattle.xfs_rounds.specs.Judged.{slot_of}
 use Rattle.xfs_slots.specs.Facts.{AddsFacts}
 use Rattle.xfs_slots.specs.Gathered.{gathered_both, held_in, of_read, of_slot}

@@ -8,7 +8,7 @@ use Rattle.xfs_disk.proofs.Reading.{reads_none, reads_on}
 use Rattle.xfs_image.specs.Slots.{inodes_of_block}
 use Rattle.std.proofs.Common.{Option}
 use Rattle.xfs_disk.specs.Blocks.{Image}
-use Rattle.xfs_forks.specs.Settled.{IsSettled, IsTold}
+use Rattle.xfs_rounds.specs.Settled.{IsSettled, IsTold}
 use Rattle.xfs_rounds.specs.Judged.{IsListed}
 use Rattle.xfs_rounds.specs.declared.pieces.BlockParts.{BlockParts}
 use Rattle.xfs_slots.specs.Facts.{slot_fact}

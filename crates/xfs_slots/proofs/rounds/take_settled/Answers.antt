@@ -3,7 +3,7 @@ use Rattle.std.specs.Option.{ForSome}
 use Rattle.std.proofs.lemmas.List.Elements.{All-get_or}
 use Rattle.std.proofs.lemmas.Option.{get_or_from_slice_get}
 use Rattle.xfs_geom.specs.Volumes.{volume_of}
-use Rattle.xfs_forks.specs.Settled.{ArePartsIn, IsTold}
+use Rattle.xfs_rounds.specs.Settled.{ArePartsIn, IsTold}
 use Rattle.xfs_image.specs.Slots.{inodes_of_block}
 use Rattle.xfs_slots.specs.Facts.{AddsFacts, slot_fact}
 use Rattle.xfs_slots.proofs.Gathering.{on_ok}

@@ -1,8 +1,0 @@
-use Rattle.xfs_apart.proofs.PlansApart.{plans_apart, plans_fresh}
-use Rattle.xfs_apart.proofs.plans.plans_have_blocks_of_their_own.Goals as goal
-
-pub returns-clause-once : goal.returns-clause-once
-returns-clause-once c = plans_apart
-
-pub returns-clause-fresh : goal.returns-clause-fresh
-returns-clause-fresh c = plans_fresh

@@ -1,4 +1,0 @@
-pub mod Same
-pub mod SameFiles
-pub mod NamedBlocks
-pub mod Backups

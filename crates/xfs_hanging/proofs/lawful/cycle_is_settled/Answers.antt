@@ -1,5 +1,0 @@
-use Rattle.xfs_hanging.proofs.Cycle.{cycle_settled}
-use Rattle.xfs_hanging.proofs.lawful.cycle_is_settled.Goals as goal
-
-pub returns : goal.returns
-returns c = cycle_settled

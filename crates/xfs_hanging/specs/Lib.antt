@@ -1,4 +1,0 @@
-pub mod Hanging
-pub mod Together
-pub mod Settled
-pub mod Cycle

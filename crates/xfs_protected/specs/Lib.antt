@@ -1,5 +1,0 @@
-pub mod Guarded
-pub mod Claimed
-pub mod Standing
-pub mod Examples
-pub mod KeptInWords

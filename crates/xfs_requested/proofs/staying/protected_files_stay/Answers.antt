@@ -1,0 +1,14 @@
+use Rattle.xfs_geom.specs.Volumes.{volume_of}
+use Rattle.xfs_image.specs.Candidates.{candidates}
+use Rattle.xfs_image.specs.Claims.{candidate_files}
+use Rattle.xfs_views.proofs.Members.{contains}
+use Rattle.xfs_salvage.specs.Kept.{kept_files}
+use Rattle.xfs_requested.proofs.Protected.{protected_cluster, protected_stays}
+use Rattle.xfs_requested.proofs.staying.protected_files_stay.Goals as goal
+
+pub returns-clause-file : goal.returns-clause-file
+returns-clause-file c = λ g image ino is.
+    contains is.file (kept_files (volume_of g) (candidates (volume_of g) image) (candidate_files (volume_of g) image)) (protected_stays g image ino is)
+
+pub returns-clause-cluster : goal.returns-clause-cluster
+returns-clause-cluster c = protected_cluster

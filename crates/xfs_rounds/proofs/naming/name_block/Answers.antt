@@ -1,0 +1,23 @@
+use Rattle.std.proofs.Common.{◌≡◌, ℕ, List, [], length, get_or, sym, subst, rules}
+use Rattle.std.proofs.lemmas.List.{with_items_is}
+use Rattle.std.proofs.lemmas.Option.{get_or_from_slice_get}
+use Rattle.xfs_geom.specs.Volumes.{volume_of}
+use Rattle.xfs_rounds.specs.Named.{AreNamedParts}
+use Rattle.xfs_rounds.proofs.Numbering.{then_ok}
+use Rattle.xfs_rounds.proofs.naming.name_block.Goals as goal
+
+pub returns-in-Ok-clause-numbered : goal.returns-in-Ok-clause-numbered
+returns-in-Ok-clause-numbered c =
+    let v = volume_of c.args.g.now in
+    let named = c.name_parts.new.named in
+    let block = c.args.block.now in
+    let bank = c.args.bank.now in
+    let vec = c.in-Ok.parts in
+    let left = c.name_parts.new.parts in
+    let long : length left ≡ vec.len = search rules in
+    then_ok _ _ c.name_parts.result c.name_parts.ensures.parts (λ are. record {
+      placed = record { volume = c.requires.at_hand.placed.volume; bank = c.requires.at_hand.placed.bank };
+      slots = subst (AreNamedParts v named block.place (get_or bank block.at [])) (sym (with_items_is vec left long))
+          (subst (λ (bytes : List ℕ). AreNamedParts v named block.place bytes left)
+          (sym (get_or_from_slice_get bank block.at c.view-bytes.result.now [] c.view-bytes.ensures.block)) are);
+    })

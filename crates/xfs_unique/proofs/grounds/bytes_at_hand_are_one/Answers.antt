@@ -1,5 +1,0 @@
-use Rattle.xfs_unique.proofs.Grounding.{bytes_one}
-use Rattle.xfs_unique.proofs.grounds.bytes_at_hand_are_one.Goals as goal
-
-pub returns : goal.returns
-returns c = bytes_one

@@ -1,5 +1,0 @@
-use Rattle.xfs_unique.proofs.Supers.{super_one}
-use Rattle.xfs_unique.proofs.heads.superblocks_are_one.Goals as goal
-
-pub returns : goal.returns
-returns c = super_one

@@ -1,6 +1,0 @@
-use Rattle.xfs_unique.proofs.ImagesJoined.{rebuilds_one}
-use Rattle.xfs_unique.proofs.images.rebuilt_images_are_one.Goals as goal
-
-pub returns : goal.returns
-returns c = λ g sector s image now other e f r q te ie new whole tf jf next entire.
-    (rebuilds_one g sector s image now other e f r q te ie new whole tf jf next entire).image'

@@ -1,5 +1,0 @@
-use Rattle.xfs_unique.proofs.RewritesOnce.{rewrites_one}
-use Rattle.xfs_unique.proofs.images.rewrites_are_one.Goals as goal
-
-pub returns : goal.returns
-returns c = rewrites_one

@@ -1,5 +1,0 @@
-use Rattle.xfs_unique.proofs.ObjectBlocks.{object_one}
-use Rattle.xfs_unique.proofs.objects.object_blocks_are_one.Goals as goal
-
-pub returns : goal.returns
-returns c = object_one

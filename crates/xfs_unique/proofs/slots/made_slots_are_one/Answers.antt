@@ -1,8 +1,0 @@
-use Rattle.xfs_unique.proofs.SlotBytes.{free_one, fresh_one}
-use Rattle.xfs_unique.proofs.slots.made_slots_are_one.Goals as goal
-
-pub returns-clause-free : goal.returns-clause-free
-returns-clause-free c = free_one
-
-pub returns-clause-fresh : goal.returns-clause-fresh
-returns-clause-fresh c = fresh_one

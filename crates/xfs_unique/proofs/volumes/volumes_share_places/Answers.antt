@@ -1,5 +1,0 @@
-use Rattle.xfs_unique.proofs.Sharing.{place_one}
-use Rattle.xfs_unique.proofs.volumes.volumes_share_places.Goals as goal
-
-pub returns : goal.returns
-returns c = λ w p b super other one two ready. place_one w p b super other one two ready.slots

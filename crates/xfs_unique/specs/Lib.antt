@@ -1,4 +1,0 @@
-pub mod Sectors
-pub mod Rewrites
-pub mod Outcomes
-pub mod Laws
