@@ -10,8 +10,8 @@ ghost use Rattle.xfs_links.specs.Entries.{is_kept_node, is_directory_number, is_
 ghost use Rattle.xfs_links.specs.Settled.{IsSettled};
 ghost use Rattle.xfs_links.specs.Cycle.{cycle_nodes, cycle_listed, cycle_entries, cycle_dirs};
 
-use xfs_dirdata::EntryRec;
 use crate::NodeRec;
+use xfs_dirdata::EntryRec;
 use xfs_volume::{DirRec, FileRec};
 
 /// Where a volume has all names together, by directory, and its directories are whole and state their parents, its entries are

@@ -12,8 +12,8 @@ ghost use Rattle.xfs_links.specs.Connected.{has_entry, is_taken_name, attached_d
 ghost use Rattle.xfs_links.specs.Hanging.{IsNamedOnce, IsUnnamed, AreBehindParents};
 ghost use Rattle.xfs_links.specs.Together.{NamesDiffer, lost_directory, orphans_of, old_lost, adds_lost, entries_together, parent_together};
 
-use xfs_dirdata::EntryRec;
 use crate::NodeRec;
+use xfs_dirdata::EntryRec;
 
 /// Just the directories are attached, none twice, and each behind its parent; the root is its own. Of the entries that stay
 /// just one names a directory with a parent, and it is an entry of the parent. None names the root or a directory without a

@@ -1,14 +1,15 @@
 //! Calls, and what is due of them.
 
+use crate::answers::answers;
 use crate::disk::CaseDisk;
 use crate::library::Shelf;
 use crate::numbers::number;
 use crate::refusal::Refusal;
 use std::alloc::{AllocError, Global};
 use std::thread::Threads;
-use xfs_disk::{NoGate, Stamp, Word};
-use xfs_memory::{MemorySink, MemorySource};
-use xfs_tools::{Status, run};
+use xfs_disk::{Stamp, Word};
+use xfs_memory::{HoldingGate, MemorySink, MemorySource};
+use xfs_tools::{put_answer, run};
 
 /// What a call is given beside its words.
 #[derive(Drop)]
@@ -19,6 +20,8 @@ pub struct Surroundings {
     pub input: String,
     /// Whether reading standard input fails.
     pub unreadable: bool,
+    /// For how many turns the first piece of a call waits for the second.
+    pub turns: u64,
     /// What the library has.
     pub shelf: Shelf,
 }
@@ -31,6 +34,7 @@ impl Surroundings {
             "input" => push_line(&mut self.input, rest)?,
             "tail" => self.input.push_str(rest)?,
             "unreadable" => self.unreadable = true,
+            "turns" => self.turns = number(rest)?,
             _ => return self.shelf.take(word, rest),
         }
         Ok(())
@@ -78,7 +82,10 @@ const STAMP: Stamp = Stamp {
 pub struct Call {
     out: MemorySink,
     err: MemorySink,
-    status: Status,
+    code: u64,
+    finished: u64,
+    /// Whether the second of its pieces came while the first waited.
+    met: bool,
     pub due: Due,
 }
 
@@ -89,6 +96,7 @@ pub struct Due {
     pub err: String,
     pub code: u64,
     pub finished: u64,
+    pub met: bool,
 }
 
 impl Due {
@@ -99,6 +107,7 @@ impl Due {
             err: String::new(alloc),
             code: 0,
             finished: 0,
+            met: false,
         }
     }
 
@@ -110,6 +119,7 @@ impl Due {
             "err" => push_line(&mut self.err, rest)?,
             "code" => self.code = number(rest)?,
             "finished" => self.finished = number(rest)?,
+            "meets" => self.met = true,
             _ => return Err(Refusal::Unknown),
         }
         Ok(())
@@ -132,13 +142,33 @@ impl Call {
             mut err,
         } = Streams::make(alloc, given)?;
         let mut files = given.shelf.library();
+        let gate = HoldingGate::new(given.turns);
+        disk.forget_reads();
         let status = run(
-            rt, alloc, &words, disk, &mut files, &mut input, &mut out, &mut err, &STAMP, &NoGate,
+            rt, alloc, &words, disk, &mut files, &mut input, &mut out, &mut err, &STAMP, &gate,
         );
         Ok(Call {
             out,
             err,
-            status,
+            code: status.code as u64,
+            finished: status.finished,
+            met: gate.has_met(),
+            due: Due::none(alloc),
+        })
+    }
+
+    /// Puts the answers that no call sees yet, one behind the other, as if a call did.
+    pub fn put_answers(alloc: Global, given: &Surroundings) -> Result<Call, Refusal> {
+        let mut out = MemorySink::make(alloc, given.room)?;
+        for answer in answers() {
+            put_answer(&mut out, answer)?;
+        }
+        Ok(Call {
+            out,
+            err: MemorySink::make(alloc, 0)?,
+            code: 0,
+            finished: 0,
+            met: false,
             due: Due::none(alloc),
         })
     }
@@ -146,15 +176,16 @@ impl Call {
     /// Whether the call says that a write failed once so many blocks were written.
     pub fn tells_fault(&self, alloc: Global, written: u64) -> Result<bool, AllocError> {
         let line = format!(in alloc; "xfs: write fault after {written} blocks\n")?;
-        Ok(self.err.bytes() == line.as_bytes() && self.status.code == 1)
+        Ok(self.err.bytes() == line.as_bytes() && self.code == 1)
     }
 
     /// Whether all parts are as they are due.
     pub fn is_due(&self) -> bool {
         self.out.bytes() == self.due.out.as_bytes()
             && self.err.bytes() == self.due.err.as_bytes()
-            && self.status.code as u64 == self.due.code
-            && self.status.finished == self.due.finished
+            && self.code == self.due.code
+            && self.finished == self.due.finished
+            && self.met == self.due.met
     }
 
     /// Adds a line for each part that is not as it is due.
@@ -162,9 +193,10 @@ impl Call {
         let (out, err) = (self.due.out.as_str(), self.due.err.as_str());
         tell_stream(alloc, told, "output", self.out.bytes(), out)?;
         tell_stream(alloc, told, "error", self.err.bytes(), err)?;
-        let (code, finished) = (self.status.code as u64, self.status.finished);
-        tell_number(alloc, told, "code", code, self.due.code)?;
-        tell_number(alloc, told, "finished", finished, self.due.finished)
+        tell_number(alloc, told, "code", self.code, self.due.code)?;
+        tell_number(alloc, told, "finished", self.finished, self.due.finished)?;
+        let (met, due) = (self.met as u64, self.due.met as u64);
+        tell_number(alloc, told, "met", met, due)
     }
 }
 

@@ -39,6 +39,7 @@ impl Case {
                 room: ROOM,
                 input: String::new(alloc),
                 unreadable: false,
+                turns: 0,
                 shelf: Shelf::new(alloc),
             },
             call: None,
@@ -57,14 +58,18 @@ impl Case {
     /// What a call is given: `fail N` makes the read, write or sync of the disk fail that has this number, counted from 1 from here on;
     /// `halt N` makes all calls of it fail once N more blocks were written, and `restart` none from here on;
     /// `room N` bytes are left for standard output from here on; `input LINE` and `tail TEXT` are added to standard input, which is not
-    /// read where the case has `unreadable`. `file`, `text`, `more`, `below`, `many` and `library-fail` say what the library has
+    /// read where the case has `unreadable`; with `turns N` the first of the pieces that several workers get waits so many turns for the
+    /// second. `file`, `text`, `more`, `below`, `many` and `library-fail` say what the library has
     /// (`library`).
     ///
     /// `stops N STEP WORD|WORD|..` makes a call that writes N blocks on copies of the disk, of which each stops after STEP more of these
     /// (`stops`).
     ///
     /// `run WORD|WORD|..` makes a call. Behind it stands what is due of it: `out LINE` and `err LINE`, `cut TEXT` for output that has no end
-    /// of line, `code N` and `finished N` where they are not 0.
+    /// of line, `code N` and `finished N` where they are not 0, `meets` where the second piece comes while the first waits, and `reads BLOCK
+    /// OTHER OTHER ..` that the call read a block, and the others before it.
+    ///
+    /// `answers` puts the lines of answers that no call sees yet, which are due as those of a call.
     pub fn take(
         &mut self,
         rt: &(impl Threads + Sync),
@@ -73,6 +78,7 @@ impl Case {
     ) -> Result<(), Refusal> {
         match word {
             "run" => self.run(rt, rest),
+            "answers" => self.put_answers(),
             "stops" => self.stop(rt, rest),
             _ => match self.disks.take(word, rest) {
                 Err(Refusal::Unknown) => self.take_given(word, rest),
@@ -97,6 +103,7 @@ impl Case {
                 Ok(())
             }
             "holds" => self.compare(rest),
+            "reads" => self.compare_reads(rest),
             _ => self.expect(word, rest),
         }
     }
@@ -106,6 +113,20 @@ impl Case {
         if !self.disks.holds(text)? {
             let line = format!(in self.alloc; "  not held: {text}\n");
             add(&mut self.told, line)?;
+        }
+        Ok(())
+    }
+
+    /// Tells which blocks the last call did not read before the first of these.
+    fn compare_reads(&mut self, text: &str) -> Result<(), Refusal> {
+        let (block, others) = cut(text);
+        let block = number(block)?;
+        for other in others.split_whitespace() {
+            let other = number(other)?;
+            if !self.disks.held.reads_before(other, block) {
+                let line = format!(in self.alloc; "  block {other} is not read before {block}\n");
+                add(&mut self.told, line)?;
+            }
         }
         Ok(())
     }
@@ -122,9 +143,22 @@ impl Case {
     fn run(&mut self, rt: &(impl Threads + Sync), words: &str) -> Result<(), Refusal> {
         self.end_call()?;
         let call = Call::make(rt, self.alloc, &mut self.disks.held, words, &self.given)?;
+        self.begin(call);
+        Ok(())
+    }
+
+    /// Compares the last call, and puts the answers that no call sees yet.
+    fn put_answers(&mut self) -> Result<(), Refusal> {
+        self.end_call()?;
+        let call = Call::put_answers(self.alloc, &self.given)?;
+        self.begin(call);
+        Ok(())
+    }
+
+    /// Takes a call, whose answer the next lines say.
+    fn begin(&mut self, call: Call) {
         self.call = Some(call);
         self.calls = self.calls.saturating_add(1);
-        Ok(())
     }
 
     /// Makes a call on disks that stop after each of its writes.

@@ -15,6 +15,8 @@ pub struct CaseDisk {
     blocks: u64,
     reads: u64,
     writes: u64,
+    /// The number of the block of each read of the last call, in order.
+    noted: Vec<u64>,
 }
 
 impl CaseDisk {
@@ -27,6 +29,7 @@ impl CaseDisk {
             blocks,
             reads: 0,
             writes: 0,
+            noted: Vec::new(alloc),
         })
     }
 
@@ -65,6 +68,24 @@ impl CaseDisk {
     /// How many blocks were written.
     pub fn writes(&self) -> u64 {
         self.writes
+    }
+
+    /// Forgets which blocks were read.
+    pub fn forget_reads(&mut self) {
+        self.noted.clear();
+    }
+
+    /// Whether the last call read one block before another one.
+    pub fn reads_before(&self, block: u64, other: u64) -> bool {
+        match (self.first_read(block), self.first_read(other)) {
+            (Some(first), Some(second)) => first < second,
+            _ => false,
+        }
+    }
+
+    /// Which of all reads of the last call is the first of a block.
+    fn first_read(&self, block: u64) -> Option<usize> {
+        self.noted.iter().position(|read| *read == block)
     }
 
     /// The bytes in memory.
@@ -137,6 +158,7 @@ impl Disk for CaseDisk {
     }
 
     fn read(&mut self, at: u64, into: &mut [u8]) -> Result<(), Failed> {
+        note(&mut self.noted, at);
         if at < self.held() {
             match self.memory.read(at, into) {
                 Ok(()) => {}
@@ -169,4 +191,12 @@ impl Disk for CaseDisk {
     ghost counts_now = { λ disk t image tells. absurd tells };
 
     ghost only_now = { λ disk image tells. absurd tells };
+}
+
+/// Notes a read. One that finds no memory is not noted, and a line that asks for it finds it missing.
+fn note(reads: &mut Vec<u64>, block: u64) {
+    match reads.push(block) {
+        Ok(()) => {}
+        Err(_) => {}
+    }
 }

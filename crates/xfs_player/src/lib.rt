@@ -5,6 +5,7 @@
 //! a program is proved once for each compiler that builds it.
 #![tactic(auto)]
 
+mod answers;
 mod calls;
 mod case;
 mod disk;
