@@ -28,6 +28,10 @@ left_from xs i x inside value = drop_more xs i x inside ∙ ap (λ y. y ∷ drop
 pub none_left : {A : Type 0} (xs : List A) (i : ℕ) → length xs ≤ i → drop i xs ≡ []
 none_left xs i past = let rest = length-drop i xs in nil_from_length (drop i xs) (omega (arith, rest))
 
+-- behind an empty list
+pub from_none : {A : Type 0} (old rest : List A) → old ≡ [] → old ++ rest ≡ rest
+from_none old rest none = ap (λ xs. xs ++ rest) none
+
 -- what the parts of a row hold, one part more
 pub held_more : {A B : Type 0} (f : A → List B) (x : A) (xs rest : List A) (old new all : List B) → xs ≡ x ∷ rest → new ≡ old ++ f x
     → old ++ flat_map f xs ≡ all → new ++ flat_map f rest ≡ all

@@ -76,15 +76,23 @@ pub(crate) fn child_at<K: Kind>(kind: &K, g: &Geometry, block: &[u8], i: usize) 
     ensures { result ≡ child_at (K.shape kind.now) (volume_of g.now) block.now i }
 {
     let layout = tree_layout(kind);
-    let high = if layout.high {
-        Some(high_at(kind, block, i))
-    } else {
-        None
-    };
     Seat {
         place: block_of_pointer(g, &layout, kind.owner(), layout.pointer(block, i)),
         low: Some(low_at(kind, block, i)),
-        high,
+        high: stated_high(kind, block, i),
+    }
+}
+
+/// The high key that a node states of its child, where keys are pairs.
+fn stated_high<K: Kind>(kind: &K, block: &[u8], i: usize) -> Option<K::Key>
+    requires block { length block.now ≡ 4096 }
+    requires inside { i < (K.shape kind.now).layout.node_cap }
+    ensures { result ≡ (if (K.shape kind.now).layout.high then Some (high_at (K.shape kind.now) block.now i) else None) }
+{
+    if tree_layout(kind).high {
+        Some(high_at(kind, block, i))
+    } else {
+        None
     }
 }
 

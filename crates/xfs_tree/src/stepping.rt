@@ -1,6 +1,6 @@
 //! What a block of a level is, whatever stands in front of it.
 
-ghost use Rattle.std.specs.Prelude.{◌≡◌, ◌≤◌, ◌<◌, None, Some, length, IfOk};
+ghost use Rattle.std.specs.Prelude.{◌≡◌, ◌≤◌, ◌<◌, None, Some, length, IfOk, ⊤};
 ghost use Rattle.xfs_geom.specs.Volumes.{volume_of};
 ghost use Rattle.xfs_tree.specs.Blocks.{capacity, count_of, records_of};
 ghost use Rattle.xfs_tree.specs.Alone.{children_at, early_fault, first_of, is_ordered_within, IsFound, late_fault, lawful_within, records_at, rule_behind};
@@ -12,13 +12,13 @@ use crate::level::{push_children, push_records};
 use crate::places::block_seal;
 use crate::rules::{Neighbours, ascends, has_count, has_keys, has_siblings, least_of};
 use crate::seats::Seat;
-use std::alloc::Global;
+use std::alloc::{AllocError, Global};
 use xfs_disk::NoMemory;
 use xfs_geom::Geometry;
 use xfs_word::sealed;
 
 /// A block of a round: whose it is, and where it stands.
-#[derive(Clone, Copy)]
+#[derive(Copy)]
 pub struct Spot<Key> {
     /// The number of its tree.
     pub tree: usize,
@@ -30,6 +30,16 @@ pub struct Spot<Key> {
     /// Its neighbours on the level, by their numbers.
     pub left: Option<u64>,
     pub right: Option<u64>,
+}
+
+impl<Key: Copy> Clone for Spot<Key> {
+    ghost is_clone = { λ x y. y ≡ x };
+
+    ghost is_infallible = { λ _. ⊤ };
+
+    fn clone(&self) -> Result<Spot<Key>, AllocError> {
+        Ok(*self)
+    }
 }
 
 /// What is found in a block, whatever stands in front of it.
@@ -58,12 +68,14 @@ pub fn read_step<K: Kind>(
     requires inside { spot.now.seat.place < g.now.dblocks }
     ensures { IfOk result (IsFound (K.shape kind.now) (volume_of g.now) spot.now block.now) }
 {
-    if let Some(rule) = early_fault(kind, g, spot.level, &spot.seat, block) {
-        return Ok(broken(alloc, rule, None));
+    match early_fault(kind, g, spot.level, &spot.seat, block) {
+        None => {}
+        Some(rule) => return Ok(broken(alloc, rule, None)),
     }
     let first = first_of(kind, spot.level, block);
-    if let Some(rule) = late_fault(kind, g, spot, block) {
-        return Ok(broken(alloc, rule, first));
+    match late_fault(kind, g, spot, block) {
+        None => {}
+        Some(rule) => return Ok(broken(alloc, rule, first)),
     }
     let children = children_at(alloc, kind, g, spot.level, block)?;
     let records = records_at(alloc, kind, spot.level, block)?;
@@ -132,7 +144,6 @@ fn broken<Record: Drop, Key: Drop>(
 }
 
 /// The first rule from 3 to 5 that a block of a level breaks.
-#[tactic(auto, unfolding(crate::specs::Alone::early_fault))]
 fn early_fault<K: Kind>(
     kind: &K,
     g: &Geometry,

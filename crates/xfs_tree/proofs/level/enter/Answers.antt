@@ -1,4 +1,4 @@
-use Rattle.std.proofs.Common.{◌≡◌, ℕ, ◌+◌, ◌≤◌, List, [], Option, None, ◌∙◌, ap, arith}
+use Rattle.std.proofs.Common.{◌≡◌, ℕ, ◌+◌, ◌≤◌, ◌<◌, List, [], Option, None, ◌∙◌, ap, arith}
 use Rattle.std.proofs.lemmas.Option.{get_or_from_slice_get}
 use Rattle.xfs_geom.specs.Volumes.{volume_of}
 use Rattle.xfs_tree.specs.Reading.{at_block}
@@ -174,3 +174,42 @@ returns-in-Ok-Some-clause-whole g c = c.requires.whole
 
 pub returns-in-Err-clause-whole : goal.returns-in-Err-clause-whole
 returns-in-Err-clause-whole g c = c.requires.whole
+
+same : (n : ℕ) → n ≤ n
+same n = omega arith
+
+within : (place blocks size : ℕ) → place < blocks → blocks ≤ size → place < size
+within place blocks size below all = omega (arith, below, all)
+
+pub returns-in-Ok-Some-clause-cause : goal.returns-in-Ok-Some-clause-cause
+returns-in-Ok-Some-clause-cause g c = same _
+
+pub returns-in-Err-clause-judged : goal.returns-in-Err-clause-judged
+returns-in-Err-clause-judged g c = λ image told. tt
+
+pub returns-in-Err-clause-cause : goal.returns-in-Err-clause-cause
+returns-in-Err-clause-cause g c = same _
+
+pub returns-in-Err-read-clause-judged : goal.returns-in-Err-read-clause-judged
+returns-in-Err-read-clause-judged g c = λ image told. tt
+
+pub returns-in-Err-read-clause-whole : goal.returns-in-Err-read-clause-whole
+returns-in-Err-read-clause-whole g c = c.read.auto.into ∙ c.requires.whole
+
+pub returns-in-None-clause-whole : goal.returns-in-None-clause-whole
+returns-in-None-clause-whole g c = c.read.auto.into ∙ c.requires.whole
+
+pub returns-in-Some-clause-whole : goal.returns-in-Some-clause-whole
+returns-in-Some-clause-whole g c = c.read.auto.into ∙ c.requires.whole
+
+pub read-requires-clause-inside : goal.read-requires-clause-inside
+read-requires-clause-inside g c = within _ _ _ (c.in-Ok-None.ensures.inside c.in-Ok-None.field-0-is) c.requires.inside
+
+pub read-requires-clause-whole : goal.read-requires-clause-whole
+read-requires-clause-whole g c = c.requires.whole
+
+pub block_fault-requires-clause-block : goal.block_fault-requires-clause-block
+block_fault-requires-clause-block g c = λ κs lives. c.read.auto.into ∙ c.requires.whole
+
+pub block_fault-requires-clause-inside : goal.block_fault-requires-clause-inside
+block_fault-requires-clause-inside g c = λ κs lives. c.in-Ok-None.ensures.inside c.in-Ok-None.field-0-is

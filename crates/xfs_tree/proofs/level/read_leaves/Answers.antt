@@ -1,12 +1,13 @@
-use Rattle.std.proofs.Common.{rules, ◌≡◌, ◌+◌, ◌∷◌, drop, None, sym, ◌∙◌, ap, arith, ℕ, ◌<◌, ◌≤◌, subst}
+use borrow.Author.Count.{falls}
+use Rattle.std.proofs.Common.{rules, ◌≡◌, ◌+◌, ◌∷◌, ◌++◌, drop, None, sym, ◌∙◌, ap, arith, ℕ, ◌<◌, ◌≤◌, subst, refl}
 use Rattle.xfs_geom.specs.Volumes.{volume_of}
 use Rattle.xfs_tree.specs.declared.seats.Seat.{Seat}
 use Rattle.xfs_disk.specs.Blocks.{bytes_of_block}
 use Rattle.xfs_tree.specs.Rules.{last_of}
 use Rattle.xfs_tree.specs.Blocks.{records_of}
 use Rattle.xfs_tree.proofs.Causes.{caused_before, fault_of_row}
-use Rattle.xfs_disk.proofs.Reading.{reads_on}
-use Rattle.xfs_tree.proofs.RowSteps.{left_from, none_left, held_more, held_all, places_more, places_all, row_more, row_stops, row_ends}
+use Rattle.xfs_disk.proofs.Reading.{reads_none, reads_on}
+use Rattle.xfs_tree.proofs.RowSteps.{from_none, left_from, none_left, held_more, held_all, places_more, places_all, row_more, row_stops, row_ends}
 use Rattle.xfs_tree.proofs.level.read_leaves.Goals as goal
 
 -- what was read and counted in two parts, one behind the other
@@ -56,7 +57,8 @@ loop-i-preserved g c =
           (drop i row) (drop (i + 1) row) _ split c.place_at.ensures c.in-Ok.ensures.blocks (c.last_record-before.ensures ∙ ap (λ block. last_of c.loop-i.before (records_of s block)) (sym (c.in-Ok.ensures.bytes image (before.disk.same_contents ∙ told))))
           (c.in-Ok.ensures.judged image (before.disk.same_contents ∙ told)) (before.judged image told);
       records = λ image told. held_more (λ (seat : Seat g.row.K-Key.Denot). records_of s (bytes_of_block image seat.place)) seat (drop i row) (drop (i + 1) row)
-          c.loop-i.records.items c.push_records.new.records.items _ split (search rules) (before.records image told);
+          c.loop-i.records.items c.push_records.new.records.items _ split
+          (c.in-Ok-push_records.ensures ∙ ap (λ block. c.loop-i.records.items ++ records_of s block) (sym (c.in-Ok.ensures.bytes image (before.disk.same_contents ∙ told)))) (before.records image told);
       blocks = places_more seat (drop i row) (drop (i + 1) row) c.loop-i.met.blocks.items c.enter.new.met.blocks.items _ split c.in-Ok.ensures.blocks before.blocks;
       block = c.in-Ok.ensures.whole;
       later = rising _ _ _ before.later c.in-Ok.ensures.cause;
@@ -140,3 +142,28 @@ last_record-before-requires-clause-block g c = λ κs lives. c.in-Ok.ensures.who
 
 pub last_record-before-requires-clause-count : goal.last_record-before-requires-clause-count
 last_record-before-requires-clause-count g c = λ κs lives. c.in-Ok.ensures.count
+
+-- as much at the start
+same : (n : ℕ) → n ≤ n
+same n = omega arith
+
+pub loop-i-init : goal.loop-i-init
+loop-i-init g c =
+    let D = g.D.Disk in
+    record {
+      ends = refl;
+      met = c.requires.met;
+      judged = λ image told. refl;
+      records = λ image told. from_none _ _ c.new-records.ensures.items;
+      blocks = refl;
+      block = search rules;
+      later = same (D.faults c.args.disk.now);
+      disk = reads_none D.size D.holds D.write_faults D.writes D.tells_stops D.moment D.may_leave D.left_since c.args.disk.now;
+      reads = same _;
+    }
+
+pub bounds-row-i : goal.bounds-row-i
+bounds-row-i g c = subst (λ (m : ℕ). c.loop-i.i < m) c.loop-i.invariant.ends c.loop-i-test.true
+
+pub loop-i-smaller : goal.loop-i-smaller
+loop-i-smaller g c = falls _ _ c.loop-i-test.true

@@ -1,9 +1,11 @@
-use Rattle.std.proofs.Common.{rules, ◌≡◌, ◌+◌, ◌∷◌, drop, None, ◌∙◌, arith, ℕ, ◌<◌, ◌≤◌, sym, subst}
+use borrow.Author.Count.{falls}
+use Rattle.std.proofs.Common.{rules, ◌≡◌, ◌+◌, ◌∷◌, ◌++◌, drop, None, ◌∙◌, ap, arith, ℕ, ◌<◌, ◌≤◌, sym, subst, refl}
 use Rattle.xfs_geom.specs.Volumes.{volume_of}
 use Rattle.xfs_tree.specs.Reading.{below}
 use Rattle.xfs_tree.proofs.Causes.{caused_before, fault_of_row}
-use Rattle.xfs_disk.proofs.Reading.{reads_on}
-use Rattle.xfs_tree.proofs.RowSteps.{capacity_node, left_from, none_left, held_more, held_all, places_more, places_all, behind_node, row_more, row_stops, row_ends}
+use Rattle.xfs_tree.specs.Blocks.{children_of}
+use Rattle.xfs_disk.proofs.Reading.{reads_none, reads_on}
+use Rattle.xfs_tree.proofs.RowSteps.{capacity_node, from_none, left_from, none_left, held_more, held_all, places_more, places_all, behind_node, row_more, row_stops, row_ends}
 use Rattle.xfs_tree.proofs.level.read_nodes.Goals as goal
 
 -- what was read and counted in two parts, one behind the other
@@ -59,7 +61,7 @@ loop-i-preserved g c =
           (drop i row) (drop (i + 1) row) _ split c.place_at.ensures c.in-Ok.ensures.blocks (behind_node s v image c.args.level None seat c.requires.nodes)
           (c.in-Ok.ensures.judged image (before.disk.same_contents ∙ told)) (before.judged image told);
       children = λ image told. held_more (below s v image) seat (drop i row) (drop (i + 1) row) c.loop-i.next.items c.push_children.new.next.items _ split
-          (search rules) (before.children image told);
+          (c.in-Ok-push_children.ensures ∙ ap (λ block. c.loop-i.next.items ++ children_of s v block) (sym (c.in-Ok.ensures.bytes image (before.disk.same_contents ∙ told)))) (before.children image told);
       blocks = places_more seat (drop i row) (drop (i + 1) row) c.loop-i.met.blocks.items c.enter.new.met.blocks.items _ split c.in-Ok.ensures.blocks before.blocks;
       block = c.in-Ok.ensures.whole;
       later = rising _ _ _ before.later c.in-Ok.ensures.cause;
@@ -134,3 +136,28 @@ returns-in-Err-push_children-clause-judged g c = λ image told. tt
 
 pub push_children-requires-clause-block : goal.push_children-requires-clause-block
 push_children-requires-clause-block g c = λ κs lives. c.in-Ok.ensures.whole
+
+-- as much at the start
+same : (n : ℕ) → n ≤ n
+same n = omega arith
+
+pub loop-i-init : goal.loop-i-init
+loop-i-init g c =
+    let D = g.D.Disk in
+    record {
+      ends = refl;
+      met = c.requires.met;
+      judged = λ image told. refl;
+      children = λ image told. from_none _ _ c.new-next.ensures.items;
+      blocks = refl;
+      block = search rules;
+      later = same (D.faults c.args.disk.now);
+      disk = reads_none D.size D.holds D.write_faults D.writes D.tells_stops D.moment D.may_leave D.left_since c.args.disk.now;
+      reads = same _;
+    }
+
+pub bounds-row-i : goal.bounds-row-i
+bounds-row-i g c = subst (λ (m : ℕ). c.loop-i.i < m) c.loop-i.invariant.ends c.loop-i-test.true
+
+pub loop-i-smaller : goal.loop-i-smaller
+loop-i-smaller g c = falls _ _ c.loop-i-test.true
