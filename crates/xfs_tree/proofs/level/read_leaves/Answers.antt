@@ -17,29 +17,6 @@ summed reads reads' reads'' steps steps' steps'' first second = omega (arith, fi
 rising : (low middle high : ℕ) → low ≤ middle → middle ≤ high → low ≤ high
 rising low middle high first second = omega (arith, first, second)
 
-pub returns-in-Err-clause-judged : goal.returns-in-Err-clause-judged
-returns-in-Err-clause-judged g c = λ image told.
-    let row = c.args.row.now in
-    let i = c.loop-i.i in
-    let seat = c.index-row-i.result in
-    fault_of_row _ _ c.in-Err.fault
-    (λ fault broken. row_stops (g.K.Kind.shape c.args.kind.now) (volume_of c.args.g.now) image 0 c.loop-i.met.blocks.items c.loop-i.left None c.place_at.result c.loop-i.before seat
-    (drop i row) (drop (i + 1) row) _ fault (left_from row i seat (subst (λ (m : ℕ). i < m) c.loop-i.invariant.ends c.loop-i-test.true) c.index-row-i.is) c.place_at.ensures broken (c.loop-i.invariant.judged image told))
-    (c.in-Err.ensures.judged image (c.loop-i.invariant.disk.same_contents ∙ told))
-
-pub returns-in-Err-clause-cause : goal.returns-in-Err-clause-cause
-returns-in-Err-clause-cause g c = caused_before _ _ _ c.in-Err.fault c.loop-i.invariant.later c.in-Err.ensures.cause
-
-pub returns-in-Err-clause-disk : goal.returns-in-Err-clause-disk
-returns-in-Err-clause-disk g c =
-    let D = g.D.Disk in
-    reads_on D.size D.holds D.write_faults D.writes D.tells_stops D.moment D.may_leave D.left_since c.args.disk.now c.loop-i.disk c.enter.new.disk c.loop-i.invariant.disk c.in-Err.ensures.disk
-
-pub returns-in-Err-push_records-clause-disk : goal.returns-in-Err-push_records-clause-disk
-returns-in-Err-push_records-clause-disk g c =
-    let D = g.D.Disk in
-    reads_on D.size D.holds D.write_faults D.writes D.tells_stops D.moment D.may_leave D.left_since c.args.disk.now c.loop-i.disk c.enter.new.disk c.loop-i.invariant.disk c.in-Ok.ensures.disk
-
 pub loop-i-preserved : goal.loop-i-preserved
 loop-i-preserved g c =
     let D = g.D.Disk in
@@ -66,41 +43,6 @@ loop-i-preserved g c =
       reads = summed _ _ _ _ _ _ before.reads c.in-Ok.ensures.reads;
     }
 
-pub returns-clause-judged : goal.returns-clause-judged
-returns-clause-judged g c = λ image told.
-    row_ends (g.K.Kind.shape c.args.kind.now) (volume_of c.args.g.now) image 0 _ _ None _ (drop c.loop-i.i c.args.row.now) _
-    (none_left c.args.row.now c.loop-i.i (subst (λ (m : ℕ). m ≤ c.loop-i.i) c.loop-i.invariant.ends c.loop-i-test.false)) (c.loop-i.invariant.judged image told)
-
-pub returns-clause-records : goal.returns-clause-records
-returns-clause-records g c = λ image told.
-    held_all (λ (seat : Seat g.row.K-Key.Denot). records_of (g.K.Kind.shape c.args.kind.now) (bytes_of_block image seat.place)) (drop c.loop-i.i c.args.row.now) c.loop-i.records.items _
-    (none_left c.args.row.now c.loop-i.i (subst (λ (m : ℕ). m ≤ c.loop-i.i) c.loop-i.invariant.ends c.loop-i-test.false)) (c.loop-i.invariant.records image told)
-
-pub returns-clause-blocks : goal.returns-clause-blocks
-returns-clause-blocks g c =
-    places_all (drop c.loop-i.i c.args.row.now) c.loop-i.met.blocks.items _ (none_left c.args.row.now c.loop-i.i (subst (λ (m : ℕ). m ≤ c.loop-i.i) c.loop-i.invariant.ends c.loop-i-test.false)) c.loop-i.invariant.blocks
-
-pub returns-clause-cause : goal.returns-clause-cause
-returns-clause-cause g c = c.loop-i.invariant.later
-
-pub returns-clause-disk : goal.returns-clause-disk
-returns-clause-disk g c = c.loop-i.invariant.disk
-
-pub returns-in-Err-push_records-clause-cause : goal.returns-in-Err-push_records-clause-cause
-returns-in-Err-push_records-clause-cause g c = rising _ _ _ c.loop-i.invariant.later c.in-Ok.ensures.cause
-
-pub returns-in-Err-clause-reads : goal.returns-in-Err-clause-reads
-returns-in-Err-clause-reads g c = summed _ _ _ _ _ _ c.loop-i.invariant.reads c.in-Err.ensures.reads
-
-pub returns-in-Err-push_records-clause-reads : goal.returns-in-Err-push_records-clause-reads
-returns-in-Err-push_records-clause-reads g c = summed _ _ _ _ _ _ c.loop-i.invariant.reads c.in-Ok.ensures.reads
-
-pub returns-clause-reads : goal.returns-clause-reads
-returns-clause-reads g c = c.loop-i.invariant.reads
-
-pub returns-clause-met : goal.returns-clause-met
-returns-clause-met g c = c.loop-i.invariant.met
-
 pub enter-requires-clause-inside : goal.enter-requires-clause-inside
 enter-requires-clause-inside g c = λ κs lives. subst (λ (n : ℕ). c.args.g.now.dblocks ≤ n) (sym c.loop-i.invariant.disk.same_size) c.requires.inside
 
@@ -109,27 +51,6 @@ enter-requires-clause-met g c = λ κs lives. c.loop-i.invariant.met
 
 pub enter-requires-clause-whole : goal.enter-requires-clause-whole
 enter-requires-clause-whole g c = λ κs lives. c.loop-i.invariant.block
-
-pub returns-in-Err-clause-records : goal.returns-in-Err-clause-records
-returns-in-Err-clause-records g c = tt
-
-pub returns-in-Err-clause-blocks : goal.returns-in-Err-clause-blocks
-returns-in-Err-clause-blocks g c = tt
-
-pub returns-in-Err-clause-met : goal.returns-in-Err-clause-met
-returns-in-Err-clause-met g c = tt
-
-pub returns-in-Err-push_records-clause-records : goal.returns-in-Err-push_records-clause-records
-returns-in-Err-push_records-clause-records g c = tt
-
-pub returns-in-Err-push_records-clause-blocks : goal.returns-in-Err-push_records-clause-blocks
-returns-in-Err-push_records-clause-blocks g c = tt
-
-pub returns-in-Err-push_records-clause-met : goal.returns-in-Err-push_records-clause-met
-returns-in-Err-push_records-clause-met g c = tt
-
-pub returns-in-Err-push_records-clause-judged : goal.returns-in-Err-push_records-clause-judged
-returns-in-Err-push_records-clause-judged g c = λ image told. tt
 
 pub push_records-requires-clause-block : goal.push_records-requires-clause-block
 push_records-requires-clause-block g c = λ κs lives. c.in-Ok.ensures.whole
@@ -167,3 +88,52 @@ bounds-row-i g c = subst (λ (m : ℕ). c.loop-i.i < m) c.loop-i.invariant.ends 
 
 pub loop-i-smaller : goal.loop-i-smaller
 loop-i-smaller g c = falls _ _ c.loop-i-test.true
+
+pub returns-in-Err : goal.returns-in-Err
+returns-in-Err g c =
+    let D = g.D.Disk in
+    record {
+      judged = λ image told.
+          let row = c.args.row.now in
+          let i = c.loop-i.i in
+          let seat = c.index-row-i.result in
+          fault_of_row _ _ c.in-Err.fault
+          (λ fault broken. row_stops (g.K.Kind.shape c.args.kind.now) (volume_of c.args.g.now) image 0 c.loop-i.met.blocks.items c.loop-i.left None c.place_at.result c.loop-i.before seat
+          (drop i row) (drop (i + 1) row) _ fault (left_from row i seat (subst (λ (m : ℕ). i < m) c.loop-i.invariant.ends c.loop-i-test.true) c.index-row-i.is) c.place_at.ensures broken (c.loop-i.invariant.judged image told))
+          (c.in-Err.ensures.judged image (c.loop-i.invariant.disk.same_contents ∙ told));
+      records = tt;
+      blocks = tt;
+      met = tt;
+      cause = caused_before _ _ _ c.in-Err.fault c.loop-i.invariant.later c.in-Err.ensures.cause;
+      disk = reads_on D.size D.holds D.write_faults D.writes D.tells_stops D.moment D.may_leave D.left_since c.args.disk.now c.loop-i.disk c.enter.new.disk c.loop-i.invariant.disk c.in-Err.ensures.disk;
+      reads = summed _ _ _ _ _ _ c.loop-i.invariant.reads c.in-Err.ensures.reads;
+    }
+
+pub returns-in-Err-push_records : goal.returns-in-Err-push_records
+returns-in-Err-push_records g c =
+    let D = g.D.Disk in
+    record {
+      judged = λ image told. tt;
+      records = tt;
+      blocks = tt;
+      met = tt;
+      cause = rising _ _ _ c.loop-i.invariant.later c.in-Ok.ensures.cause;
+      disk = reads_on D.size D.holds D.write_faults D.writes D.tells_stops D.moment D.may_leave D.left_since c.args.disk.now c.loop-i.disk c.enter.new.disk c.loop-i.invariant.disk c.in-Ok.ensures.disk;
+      reads = summed _ _ _ _ _ _ c.loop-i.invariant.reads c.in-Ok.ensures.reads;
+    }
+
+pub returns : goal.returns
+returns g c =
+    record {
+      judged = λ image told.
+          row_ends (g.K.Kind.shape c.args.kind.now) (volume_of c.args.g.now) image 0 _ _ None _ (drop c.loop-i.i c.args.row.now) _
+          (none_left c.args.row.now c.loop-i.i (subst (λ (m : ℕ). m ≤ c.loop-i.i) c.loop-i.invariant.ends c.loop-i-test.false)) (c.loop-i.invariant.judged image told);
+      records = λ image told.
+          held_all (λ (seat : Seat g.row.K-Key.Denot). records_of (g.K.Kind.shape c.args.kind.now) (bytes_of_block image seat.place)) (drop c.loop-i.i c.args.row.now) c.loop-i.records.items _
+          (none_left c.args.row.now c.loop-i.i (subst (λ (m : ℕ). m ≤ c.loop-i.i) c.loop-i.invariant.ends c.loop-i-test.false)) (c.loop-i.invariant.records image told);
+      blocks = places_all (drop c.loop-i.i c.args.row.now) c.loop-i.met.blocks.items _ (none_left c.args.row.now c.loop-i.i (subst (λ (m : ℕ). m ≤ c.loop-i.i) c.loop-i.invariant.ends c.loop-i-test.false)) c.loop-i.invariant.blocks;
+      met = c.loop-i.invariant.met;
+      cause = c.loop-i.invariant.later;
+      disk = c.loop-i.invariant.disk;
+      reads = c.loop-i.invariant.reads;
+    }

@@ -15,34 +15,11 @@ summed reads reads' reads'' steps steps' steps'' first second = omega (arith, fi
 rising : (low middle high : ℕ) → low ≤ middle → middle ≤ high → low ≤ high
 rising low middle high first second = omega (arith, first, second)
 
-pub returns-in-Err-clause-judged : goal.returns-in-Err-clause-judged
-returns-in-Err-clause-judged g c = λ image told.
-    let row = c.args.row.now in
-    let i = c.loop-i.i in
-    let seat = c.index-row-i.result in
-    fault_of_row _ _ c.in-Err.fault
-    (λ fault broken. row_stops (g.K.Kind.shape c.args.kind.now) (volume_of c.args.g.now) image c.args.level c.loop-i.met.blocks.items c.loop-i.left None c.place_at.result None seat
-    (drop i row) (drop (i + 1) row) _ fault (left_from row i seat (subst (λ (m : ℕ). i < m) c.loop-i.invariant.ends c.loop-i-test.true) c.index-row-i.is) c.place_at.ensures broken (c.loop-i.invariant.judged image told))
-    (c.in-Err.ensures.judged image (c.loop-i.invariant.disk.same_contents ∙ told))
-
-pub returns-in-Err-clause-cause : goal.returns-in-Err-clause-cause
-returns-in-Err-clause-cause g c = caused_before _ _ _ c.in-Err.fault c.loop-i.invariant.later c.in-Err.ensures.cause
-
-pub returns-in-Err-clause-disk : goal.returns-in-Err-clause-disk
-returns-in-Err-clause-disk g c =
-    let D = g.D.Disk in
-    reads_on D.size D.holds D.write_faults D.writes D.tells_stops D.moment D.may_leave D.left_since c.args.disk.now c.loop-i.disk c.enter.new.disk c.loop-i.invariant.disk c.in-Err.ensures.disk
-
 pub push_children-requires-clause-count : goal.push_children-requires-clause-count
 push_children-requires-clause-count g c =
     let cap = capacity_node (g.K.Kind.shape c.args.kind.now).layout c.args.level c.requires.nodes in
     let held = c.in-Ok.ensures.count in
     omega (arith, cap, held)
-
-pub returns-in-Err-push_children-clause-disk : goal.returns-in-Err-push_children-clause-disk
-returns-in-Err-push_children-clause-disk g c =
-    let D = g.D.Disk in
-    reads_on D.size D.holds D.write_faults D.writes D.tells_stops D.moment D.may_leave D.left_since c.args.disk.now c.loop-i.disk c.enter.new.disk c.loop-i.invariant.disk c.in-Ok.ensures.disk
 
 pub loop-i-preserved : goal.loop-i-preserved
 loop-i-preserved g c =
@@ -69,41 +46,6 @@ loop-i-preserved g c =
       reads = summed _ _ _ _ _ _ before.reads c.in-Ok.ensures.reads;
     }
 
-pub returns-clause-judged : goal.returns-clause-judged
-returns-clause-judged g c = λ image told.
-    row_ends (g.K.Kind.shape c.args.kind.now) (volume_of c.args.g.now) image c.args.level _ _ None None (drop c.loop-i.i c.args.row.now) _
-    (none_left c.args.row.now c.loop-i.i (subst (λ (m : ℕ). m ≤ c.loop-i.i) c.loop-i.invariant.ends c.loop-i-test.false)) (c.loop-i.invariant.judged image told)
-
-pub returns-clause-children : goal.returns-clause-children
-returns-clause-children g c = λ image told.
-    held_all (below (g.K.Kind.shape c.args.kind.now) (volume_of c.args.g.now) image) (drop c.loop-i.i c.args.row.now) c.loop-i.next.items _
-    (none_left c.args.row.now c.loop-i.i (subst (λ (m : ℕ). m ≤ c.loop-i.i) c.loop-i.invariant.ends c.loop-i-test.false)) (c.loop-i.invariant.children image told)
-
-pub returns-clause-blocks : goal.returns-clause-blocks
-returns-clause-blocks g c =
-    places_all (drop c.loop-i.i c.args.row.now) c.loop-i.met.blocks.items _ (none_left c.args.row.now c.loop-i.i (subst (λ (m : ℕ). m ≤ c.loop-i.i) c.loop-i.invariant.ends c.loop-i-test.false)) c.loop-i.invariant.blocks
-
-pub returns-clause-cause : goal.returns-clause-cause
-returns-clause-cause g c = c.loop-i.invariant.later
-
-pub returns-clause-disk : goal.returns-clause-disk
-returns-clause-disk g c = c.loop-i.invariant.disk
-
-pub returns-in-Err-push_children-clause-cause : goal.returns-in-Err-push_children-clause-cause
-returns-in-Err-push_children-clause-cause g c = rising _ _ _ c.loop-i.invariant.later c.in-Ok.ensures.cause
-
-pub returns-in-Err-clause-reads : goal.returns-in-Err-clause-reads
-returns-in-Err-clause-reads g c = summed _ _ _ _ _ _ c.loop-i.invariant.reads c.in-Err.ensures.reads
-
-pub returns-in-Err-push_children-clause-reads : goal.returns-in-Err-push_children-clause-reads
-returns-in-Err-push_children-clause-reads g c = summed _ _ _ _ _ _ c.loop-i.invariant.reads c.in-Ok.ensures.reads
-
-pub returns-clause-reads : goal.returns-clause-reads
-returns-clause-reads g c = c.loop-i.invariant.reads
-
-pub returns-clause-met : goal.returns-clause-met
-returns-clause-met g c = c.loop-i.invariant.met
-
 pub enter-requires-clause-inside : goal.enter-requires-clause-inside
 enter-requires-clause-inside g c = λ κs lives. subst (λ (n : ℕ). c.args.g.now.dblocks ≤ n) (sym c.loop-i.invariant.disk.same_size) c.requires.inside
 
@@ -112,27 +54,6 @@ enter-requires-clause-met g c = λ κs lives. c.loop-i.invariant.met
 
 pub enter-requires-clause-whole : goal.enter-requires-clause-whole
 enter-requires-clause-whole g c = λ κs lives. c.loop-i.invariant.block
-
-pub returns-in-Err-clause-children : goal.returns-in-Err-clause-children
-returns-in-Err-clause-children g c = tt
-
-pub returns-in-Err-clause-blocks : goal.returns-in-Err-clause-blocks
-returns-in-Err-clause-blocks g c = tt
-
-pub returns-in-Err-clause-met : goal.returns-in-Err-clause-met
-returns-in-Err-clause-met g c = tt
-
-pub returns-in-Err-push_children-clause-children : goal.returns-in-Err-push_children-clause-children
-returns-in-Err-push_children-clause-children g c = tt
-
-pub returns-in-Err-push_children-clause-blocks : goal.returns-in-Err-push_children-clause-blocks
-returns-in-Err-push_children-clause-blocks g c = tt
-
-pub returns-in-Err-push_children-clause-met : goal.returns-in-Err-push_children-clause-met
-returns-in-Err-push_children-clause-met g c = tt
-
-pub returns-in-Err-push_children-clause-judged : goal.returns-in-Err-push_children-clause-judged
-returns-in-Err-push_children-clause-judged g c = λ image told. tt
 
 pub push_children-requires-clause-block : goal.push_children-requires-clause-block
 push_children-requires-clause-block g c = λ κs lives. c.in-Ok.ensures.whole
@@ -161,3 +82,52 @@ bounds-row-i g c = subst (λ (m : ℕ). c.loop-i.i < m) c.loop-i.invariant.ends 
 
 pub loop-i-smaller : goal.loop-i-smaller
 loop-i-smaller g c = falls _ _ c.loop-i-test.true
+
+pub returns-in-Err : goal.returns-in-Err
+returns-in-Err g c =
+    let D = g.D.Disk in
+    record {
+      judged = λ image told.
+          let row = c.args.row.now in
+          let i = c.loop-i.i in
+          let seat = c.index-row-i.result in
+          fault_of_row _ _ c.in-Err.fault
+          (λ fault broken. row_stops (g.K.Kind.shape c.args.kind.now) (volume_of c.args.g.now) image c.args.level c.loop-i.met.blocks.items c.loop-i.left None c.place_at.result None seat
+          (drop i row) (drop (i + 1) row) _ fault (left_from row i seat (subst (λ (m : ℕ). i < m) c.loop-i.invariant.ends c.loop-i-test.true) c.index-row-i.is) c.place_at.ensures broken (c.loop-i.invariant.judged image told))
+          (c.in-Err.ensures.judged image (c.loop-i.invariant.disk.same_contents ∙ told));
+      children = tt;
+      blocks = tt;
+      met = tt;
+      cause = caused_before _ _ _ c.in-Err.fault c.loop-i.invariant.later c.in-Err.ensures.cause;
+      disk = reads_on D.size D.holds D.write_faults D.writes D.tells_stops D.moment D.may_leave D.left_since c.args.disk.now c.loop-i.disk c.enter.new.disk c.loop-i.invariant.disk c.in-Err.ensures.disk;
+      reads = summed _ _ _ _ _ _ c.loop-i.invariant.reads c.in-Err.ensures.reads;
+    }
+
+pub returns-in-Err-push_children : goal.returns-in-Err-push_children
+returns-in-Err-push_children g c =
+    let D = g.D.Disk in
+    record {
+      judged = λ image told. tt;
+      children = tt;
+      blocks = tt;
+      met = tt;
+      cause = rising _ _ _ c.loop-i.invariant.later c.in-Ok.ensures.cause;
+      disk = reads_on D.size D.holds D.write_faults D.writes D.tells_stops D.moment D.may_leave D.left_since c.args.disk.now c.loop-i.disk c.enter.new.disk c.loop-i.invariant.disk c.in-Ok.ensures.disk;
+      reads = summed _ _ _ _ _ _ c.loop-i.invariant.reads c.in-Ok.ensures.reads;
+    }
+
+pub returns : goal.returns
+returns g c =
+    record {
+      judged = λ image told.
+          row_ends (g.K.Kind.shape c.args.kind.now) (volume_of c.args.g.now) image c.args.level _ _ None None (drop c.loop-i.i c.args.row.now) _
+          (none_left c.args.row.now c.loop-i.i (subst (λ (m : ℕ). m ≤ c.loop-i.i) c.loop-i.invariant.ends c.loop-i-test.false)) (c.loop-i.invariant.judged image told);
+      children = λ image told.
+          held_all (below (g.K.Kind.shape c.args.kind.now) (volume_of c.args.g.now) image) (drop c.loop-i.i c.args.row.now) c.loop-i.next.items _
+          (none_left c.args.row.now c.loop-i.i (subst (λ (m : ℕ). m ≤ c.loop-i.i) c.loop-i.invariant.ends c.loop-i-test.false)) (c.loop-i.invariant.children image told);
+      blocks = places_all (drop c.loop-i.i c.args.row.now) c.loop-i.met.blocks.items _ (none_left c.args.row.now c.loop-i.i (subst (λ (m : ℕ). m ≤ c.loop-i.i) c.loop-i.invariant.ends c.loop-i-test.false)) c.loop-i.invariant.blocks;
+      met = c.loop-i.invariant.met;
+      cause = c.loop-i.invariant.later;
+      disk = c.loop-i.invariant.disk;
+      reads = c.loop-i.invariant.reads;
+    }
