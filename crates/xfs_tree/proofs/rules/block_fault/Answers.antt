@@ -24,9 +24,9 @@ second_holds false b both = cc
 few_enough : (least count most : ℕ) → (nat_le least count && nat_le count most) ≡ true → count ≤ most
 few_enough least count most both = leb-true count most (second_holds (nat_le least count) (nat_le count most) both)
 
-pub returns-then-not-sealed-clause-fault : goal.returns-then-not-sealed-clause-fault
+pub returns-then-not-sealed : goal.returns-then-not-sealed
 unfolding block_fault
-returns-then-not-sealed-clause-fault g c =
+returns-then-not-sealed g c =
     let s = g.K.Kind.shape c.args.kind.now in
     let v = volume_of c.args.g.now in
     let level = c.args.level in
@@ -35,14 +35,14 @@ returns-then-not-sealed-clause-fault g c =
     let block = c.args.block.now in
     let sealed : is_sealed (block_seal v s.layout s.owner seat.place) block ≡ false =
     sym (c.sealed.ensures ∙ ap (λ (seal : Seal). is_sealed seal block) c.block_seal.ensures ∙ (λ i. is_sealed (block_seal v (c.tree_layout-layout.ensures.value i) (c.owner.ensures.value i) seat.place) block)) ∙ c.if-not-sealed.true in
-    sym (λ i. first_of (sealed i) (level_of block == level) (nat_le (least_of level seat.low) (count_of block) && nat_le (count_of block) (capacity s.layout level)) (is_ordered s v level c.args.before block) (bound_agrees s seat.low (low_of s level block) && (not s.layout.high || bound_agrees s seat.high (high_of s level block))) (is_sibling v s.layout s.owner beside.left (left_of s.layout block) && is_sibling v s.layout s.owner beside.right (right_of s.layout block)))
+    record {
+      fault = sym (λ i. first_of (sealed i) (level_of block == level) (nat_le (least_of level seat.low) (count_of block) && nat_le (count_of block) (capacity s.layout level)) (is_ordered s v level c.args.before block) (bound_agrees s seat.low (low_of s level block) && (not s.layout.high || bound_agrees s seat.high (high_of s level block))) (is_sibling v s.layout s.owner beside.left (left_of s.layout block) && is_sibling v s.layout s.owner beside.right (right_of s.layout block)));
+      fits = λ e. absurd (some_fault 3 e);
+    }
 
-pub returns-then-not-sealed-clause-fits : goal.returns-then-not-sealed-clause-fits
-returns-then-not-sealed-clause-fits g c = λ e. absurd (some_fault 3 e)
-
-pub returns-then-level_of-level-clause-fault : goal.returns-then-level_of-level-clause-fault
+pub returns-then-level_of-level : goal.returns-then-level_of-level
 unfolding block_fault
-returns-then-level_of-level-clause-fault g c =
+returns-then-level_of-level g c =
     let s = g.K.Kind.shape c.args.kind.now in
     let v = volume_of c.args.g.now in
     let level = c.args.level in
@@ -52,14 +52,14 @@ returns-then-level_of-level-clause-fault g c =
     let sealed : is_sealed (block_seal v s.layout s.owner seat.place) block ≡ true =
     sym (c.sealed.ensures ∙ ap (λ (seal : Seal). is_sealed seal block) c.block_seal.ensures ∙ (λ i. is_sealed (block_seal v (c.tree_layout-layout.ensures.value i) (c.owner.ensures.value i) seat.place) block)) ∙ c.if-not-sealed.false in
     let here : (level_of block == level) ≡ false = ne_eqb (level_of block) level (λ e. c.if-level_of-level.true (c.level_of.ensures ∙ e)) in
-    sym (λ i. first_of (sealed i) (here i) (nat_le (least_of level seat.low) (count_of block) && nat_le (count_of block) (capacity s.layout level)) (is_ordered s v level c.args.before block) (bound_agrees s seat.low (low_of s level block) && (not s.layout.high || bound_agrees s seat.high (high_of s level block))) (is_sibling v s.layout s.owner beside.left (left_of s.layout block) && is_sibling v s.layout s.owner beside.right (right_of s.layout block)))
+    record {
+      fault = sym (λ i. first_of (sealed i) (here i) (nat_le (least_of level seat.low) (count_of block) && nat_le (count_of block) (capacity s.layout level)) (is_ordered s v level c.args.before block) (bound_agrees s seat.low (low_of s level block) && (not s.layout.high || bound_agrees s seat.high (high_of s level block))) (is_sibling v s.layout s.owner beside.left (left_of s.layout block) && is_sibling v s.layout s.owner beside.right (right_of s.layout block)));
+      fits = λ e. absurd (some_fault 4 e);
+    }
 
-pub returns-then-level_of-level-clause-fits : goal.returns-then-level_of-level-clause-fits
-returns-then-level_of-level-clause-fits g c = λ e. absurd (some_fault 4 e)
-
-pub returns-then-not-has_count-clause-fault : goal.returns-then-not-has_count-clause-fault
+pub returns-then-not-has_count : goal.returns-then-not-has_count
 unfolding block_fault
-returns-then-not-has_count-clause-fault g c =
+returns-then-not-has_count g c =
     let s = g.K.Kind.shape c.args.kind.now in
     let v = volume_of c.args.g.now in
     let level = c.args.level in
@@ -71,14 +71,14 @@ returns-then-not-has_count-clause-fault g c =
     let here : (level_of block == level) ≡ true = eq-eqb (level_of block) level (sym c.level_of.ensures ∙ c.if-level_of-level.false) in
     let many : (nat_le (least_of level seat.low) (count_of block) && nat_le (count_of block) (capacity s.layout level)) ≡ false =
     sym (c.has_count.ensures ∙ (λ i. nat_le (c.least_of.ensures i) (count_of block) && nat_le (count_of block) (capacity (c.tree_layout-layout.ensures.value i) level))) ∙ c.if-not-has_count.true in
-    sym (λ i. first_of (sealed i) (here i) (many i) (is_ordered s v level c.args.before block) (bound_agrees s seat.low (low_of s level block) && (not s.layout.high || bound_agrees s seat.high (high_of s level block))) (is_sibling v s.layout s.owner beside.left (left_of s.layout block) && is_sibling v s.layout s.owner beside.right (right_of s.layout block)))
+    record {
+      fault = sym (λ i. first_of (sealed i) (here i) (many i) (is_ordered s v level c.args.before block) (bound_agrees s seat.low (low_of s level block) && (not s.layout.high || bound_agrees s seat.high (high_of s level block))) (is_sibling v s.layout s.owner beside.left (left_of s.layout block) && is_sibling v s.layout s.owner beside.right (right_of s.layout block)));
+      fits = λ e. absurd (some_fault 5 e);
+    }
 
-pub returns-then-not-has_count-clause-fits : goal.returns-then-not-has_count-clause-fits
-returns-then-not-has_count-clause-fits g c = λ e. absurd (some_fault 5 e)
-
-pub returns-then-not-is_ordered-clause-fault : goal.returns-then-not-is_ordered-clause-fault
+pub returns-then-not-is_ordered : goal.returns-then-not-is_ordered
 unfolding block_fault
-returns-then-not-is_ordered-clause-fault g c =
+returns-then-not-is_ordered g c =
     let s = g.K.Kind.shape c.args.kind.now in
     let v = volume_of c.args.g.now in
     let level = c.args.level in
@@ -91,14 +91,14 @@ returns-then-not-is_ordered-clause-fault g c =
     let many : (nat_le (least_of level seat.low) (count_of block) && nat_le (count_of block) (capacity s.layout level)) ≡ true =
     sym (c.has_count.ensures ∙ (λ i. nat_le (c.least_of.ensures i) (count_of block) && nat_le (count_of block) (capacity (c.tree_layout-layout.ensures.value i) level))) ∙ c.if-not-has_count.false in
     let ordered : is_ordered s v level c.args.before block ≡ false = sym c.is_ordered.ensures ∙ c.if-not-is_ordered.true in
-    sym (λ i. first_of (sealed i) (here i) (many i) (ordered i) (bound_agrees s seat.low (low_of s level block) && (not s.layout.high || bound_agrees s seat.high (high_of s level block))) (is_sibling v s.layout s.owner beside.left (left_of s.layout block) && is_sibling v s.layout s.owner beside.right (right_of s.layout block)))
+    record {
+      fault = sym (λ i. first_of (sealed i) (here i) (many i) (ordered i) (bound_agrees s seat.low (low_of s level block) && (not s.layout.high || bound_agrees s seat.high (high_of s level block))) (is_sibling v s.layout s.owner beside.left (left_of s.layout block) && is_sibling v s.layout s.owner beside.right (right_of s.layout block)));
+      fits = λ e. absurd (some_fault 6 e);
+    }
 
-pub returns-then-not-is_ordered-clause-fits : goal.returns-then-not-is_ordered-clause-fits
-returns-then-not-is_ordered-clause-fits g c = λ e. absurd (some_fault 6 e)
-
-pub returns-then-not-has_keys-clause-fault : goal.returns-then-not-has_keys-clause-fault
+pub returns-then-not-has_keys : goal.returns-then-not-has_keys
 unfolding block_fault
-returns-then-not-has_keys-clause-fault g c =
+returns-then-not-has_keys g c =
     let s = g.K.Kind.shape c.args.kind.now in
     let v = volume_of c.args.g.now in
     let level = c.args.level in
@@ -112,14 +112,14 @@ returns-then-not-has_keys-clause-fault g c =
     sym (c.has_count.ensures ∙ (λ i. nat_le (c.least_of.ensures i) (count_of block) && nat_le (count_of block) (capacity (c.tree_layout-layout.ensures.value i) level))) ∙ c.if-not-has_count.false in
     let ordered : is_ordered s v level c.args.before block ≡ true = sym c.is_ordered.ensures ∙ c.if-not-is_ordered.false in
     let keyed : (bound_agrees s seat.low (low_of s level block) && (not s.layout.high || bound_agrees s seat.high (high_of s level block))) ≡ false = sym c.has_keys.ensures ∙ c.if-not-has_keys.true in
-    sym (λ i. first_of (sealed i) (here i) (many i) (ordered i) (keyed i) (is_sibling v s.layout s.owner beside.left (left_of s.layout block) && is_sibling v s.layout s.owner beside.right (right_of s.layout block)))
+    record {
+      fault = sym (λ i. first_of (sealed i) (here i) (many i) (ordered i) (keyed i) (is_sibling v s.layout s.owner beside.left (left_of s.layout block) && is_sibling v s.layout s.owner beside.right (right_of s.layout block)));
+      fits = λ e. absurd (some_fault 7 e);
+    }
 
-pub returns-then-not-has_keys-clause-fits : goal.returns-then-not-has_keys-clause-fits
-returns-then-not-has_keys-clause-fits g c = λ e. absurd (some_fault 7 e)
-
-pub returns-then-not-has_siblings-clause-fault : goal.returns-then-not-has_siblings-clause-fault
+pub returns-then-not-has_siblings : goal.returns-then-not-has_siblings
 unfolding block_fault
-returns-then-not-has_siblings-clause-fault g c =
+returns-then-not-has_siblings g c =
     let s = g.K.Kind.shape c.args.kind.now in
     let v = volume_of c.args.g.now in
     let level = c.args.level in
@@ -134,14 +134,14 @@ returns-then-not-has_siblings-clause-fault g c =
     let ordered : is_ordered s v level c.args.before block ≡ true = sym c.is_ordered.ensures ∙ c.if-not-is_ordered.false in
     let keyed : (bound_agrees s seat.low (low_of s level block) && (not s.layout.high || bound_agrees s seat.high (high_of s level block))) ≡ true = sym c.has_keys.ensures ∙ c.if-not-has_keys.false in
     let beside_is : (is_sibling v s.layout s.owner beside.left (left_of s.layout block) && is_sibling v s.layout s.owner beside.right (right_of s.layout block)) ≡ false = sym c.has_siblings.ensures ∙ c.if-not-has_siblings.true in
-    sym (λ i. first_of (sealed i) (here i) (many i) (ordered i) (keyed i) (beside_is i))
+    record {
+      fault = sym (λ i. first_of (sealed i) (here i) (many i) (ordered i) (keyed i) (beside_is i));
+      fits = λ e. absurd (some_fault 8 e);
+    }
 
-pub returns-then-not-has_siblings-clause-fits : goal.returns-then-not-has_siblings-clause-fits
-returns-then-not-has_siblings-clause-fits g c = λ e. absurd (some_fault 8 e)
-
-pub returns-clause-fault : goal.returns-clause-fault
+pub returns : goal.returns
 unfolding block_fault
-returns-clause-fault g c =
+returns g c =
     let s = g.K.Kind.shape c.args.kind.now in
     let v = volume_of c.args.g.now in
     let level = c.args.level in
@@ -156,19 +156,10 @@ returns-clause-fault g c =
     let ordered : is_ordered s v level c.args.before block ≡ true = sym c.is_ordered.ensures ∙ c.if-not-is_ordered.false in
     let keyed : (bound_agrees s seat.low (low_of s level block) && (not s.layout.high || bound_agrees s seat.high (high_of s level block))) ≡ true = sym c.has_keys.ensures ∙ c.if-not-has_keys.false in
     let beside_is : (is_sibling v s.layout s.owner beside.left (left_of s.layout block) && is_sibling v s.layout s.owner beside.right (right_of s.layout block)) ≡ true = sym c.has_siblings.ensures ∙ c.if-not-has_siblings.false in
-    sym (λ i. first_of (sealed i) (here i) (many i) (ordered i) (keyed i) (beside_is i))
-
-pub returns-clause-fits : goal.returns-clause-fits
-returns-clause-fits g c = λ _.
-    let s = g.K.Kind.shape c.args.kind.now in
-    let v = volume_of c.args.g.now in
-    let level = c.args.level in
-    let seat = c.args.seat.now in
-    let beside = c.args.beside.now in
-    let block = c.args.block.now in
-    let many : (nat_le (least_of level seat.low) (count_of block) && nat_le (count_of block) (capacity s.layout level)) ≡ true =
-    sym (c.has_count.ensures ∙ (λ i. nat_le (c.least_of.ensures i) (count_of block) && nat_le (count_of block) (capacity (c.tree_layout-layout.ensures.value i) level))) ∙ c.if-not-has_count.false in
-    few_enough (least_of level seat.low) (count_of block) (capacity s.layout level) many
+    record {
+      fault = sym (λ i. first_of (sealed i) (here i) (many i) (ordered i) (keyed i) (beside_is i));
+      fits = λ _. few_enough (least_of level seat.low) (count_of block) (capacity s.layout level) many;
+    }
 
 pub is_ordered-requires-clause-block : goal.is_ordered-requires-clause-block
 is_ordered-requires-clause-block g c = λ κs lives. c.requires.block
