@@ -7,7 +7,7 @@ use Rattle.xfs_geom.specs.Volumes.{Volume}
 use Rattle.xfs_tree.specs.declared.seats.Seat.{Seat}
 use Rattle.xfs_tree.specs.Shape.{Shape}
 use Rattle.xfs_tree.specs.Blocks.{level_of, count_of, left_of, right_of, capacity, records_of, lows_of}
-use Rattle.xfs_tree.specs.Rules.{are_lawful, ascend_behind, block_seal, least_of, bound_agrees, low_of, high_of, is_sibling, block_fault}
+use Rattle.xfs_tree.specs.Rules.{are_lawful, ascend_behind, block_seal, least_of, bound_agrees, is_ordered, low_of, high_of, is_sibling, block_fault}
 use Rattle.xfs_tree.specs.Alone.{early_fault, first_item, first_of, late_fault, lawful_within, rule_behind}
 
 -- three tests, then three more
@@ -33,6 +33,22 @@ module _ {R K : Type 0} (s : Shape R K) (v : Volume) (before : Option R) where
   order_behind false ascends t7 t8 records = refl
   order_behind true ascends t7 t8 [] = refl
   order_behind true ascends t7 t8 (r ∷ rs) = both (s.lawful v before r) (are_lawful s v (Some r) rs) t7 t8
+
+  -- the first three rules of a block's bytes, then the others
+  pub in_two : (level : ℕ) (left right : Option ℕ) (seat : Seat K) (block : List ℕ)
+      → block_fault s v level left right before seat block
+      ≡ or_else (early_fault s v level seat block) (first_false (
+      (6, is_ordered s v level before block)
+      ∷ (7, bound_agrees s seat.low (low_of s level block) && (not s.layout.high || bound_agrees s seat.high (high_of s level block)))
+      ∷ (8, is_sibling v s.layout s.owner left (left_of s.layout block) && is_sibling v s.layout s.owner right (right_of s.layout block))
+      ∷ []))
+  unfolding block_fault early_fault
+  in_two level left right seat block =
+      six (is_sealed (block_seal v s.layout s.owner seat.place) block) (level_of block == level)
+      (nat_le (least_of level seat.low) (count_of block) && nat_le (count_of block) (capacity s.layout level))
+      (is_ordered s v level before block)
+      (bound_agrees s seat.low (low_of s level block) && (not s.layout.high || bound_agrees s seat.high (high_of s level block)))
+      (is_sibling v s.layout s.owner left (left_of s.layout block) && is_sibling v s.layout s.owner right (right_of s.layout block))
 
   pub fault_behind : (level : ℕ) (left right : Option ℕ) (seat : Seat K) (block : List ℕ)
       → block_fault s v level left right before seat block

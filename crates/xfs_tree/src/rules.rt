@@ -3,6 +3,7 @@
 ghost use Rattle.std.specs.Prelude.{◌≡◌, ℕ, ◌<◌, ◌≤◌, ◌&&◌, ◌||◌, not, nat_le, true, length, Some, None};
 ghost use Rattle.xfs_geom.specs.Volumes.{volume_of};
 ghost use Rattle.xfs_tree.specs.Blocks.{capacity, count_of, records_of, lows_of, left_of, right_of};
+ghost use Rattle.xfs_tree.specs.Alone.{early_fault};
 ghost use Rattle.xfs_tree.specs.Rules.{block_fault, are_lawful, is_above, ascend_behind, greater, greatest_with, bound_agrees, is_ordered, low_of, high_of, least_of, is_sibling};
 
 use crate::items::{high_key_at, low_key_at, record_at};
@@ -36,15 +37,9 @@ pub(crate) fn block_fault<K: Kind>(
     ensures fault { result ≡ block_fault (K.shape kind.now) (volume_of g.now) level beside.now.left beside.now.right before seat.now block.now }
     ensures fits { result ≡ None → count_of block.now ≤ capacity (K.shape kind.now).layout level }
 {
-    let layout = tree_layout(kind);
-    if !sealed(&block_seal(g, &layout, kind.owner(), seat.place), block) {
-        return Some(3);
-    }
-    if level_of(block) != level {
-        return Some(4);
-    }
-    if !has_count(&layout, level, least_of(level, seat.low), block) {
-        return Some(5);
+    match early_fault(kind, g, level, seat, block) {
+        None => {}
+        Some(rule) => return Some(rule),
     }
     if !is_ordered(kind, g, level, before, block) {
         return Some(6);
@@ -54,6 +49,32 @@ pub(crate) fn block_fault<K: Kind>(
     }
     if !has_siblings(kind, g, beside, block) {
         return Some(8);
+    }
+    None
+}
+
+/// The first rule from 3 to 5 that a block of a level breaks.
+pub(crate) fn early_fault<K: Kind>(
+    kind: &K,
+    g: &Geometry,
+    level: u32,
+    seat: &Seat<K::Key>,
+    block: &[u8],
+) -> Option<u8>
+    requires block { length block.now ≡ 4096 }
+    requires inside { seat.now.place < g.now.dblocks }
+    ensures fault { result ≡ early_fault (K.shape kind.now) (volume_of g.now) level seat.now block.now }
+    ensures fits { result ≡ None → count_of block.now ≤ capacity (K.shape kind.now).layout level }
+{
+    let layout = tree_layout(kind);
+    if !sealed(&block_seal(g, &layout, kind.owner(), seat.place), block) {
+        return Some(3);
+    }
+    if level_of(block) != level {
+        return Some(4);
+    }
+    if !has_count(&layout, level, least_of(level, seat.low), block) {
+        return Some(5);
     }
     None
 }

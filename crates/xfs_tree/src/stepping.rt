@@ -3,19 +3,17 @@
 ghost use Rattle.std.specs.Prelude.{◌≡◌, ◌≤◌, ◌<◌, None, Some, length, IfOk, ⊤};
 ghost use Rattle.xfs_geom.specs.Volumes.{volume_of};
 ghost use Rattle.xfs_tree.specs.Blocks.{capacity, count_of, records_of};
-ghost use Rattle.xfs_tree.specs.Alone.{children_at, early_fault, first_of, is_ordered_within, IsFound, late_fault, lawful_within, records_at, rule_behind};
+ghost use Rattle.xfs_tree.specs.Alone.{children_at, first_of, is_ordered_within, IsFound, late_fault, lawful_within, records_at, rule_behind};
 
 use crate::items::record_at;
-use crate::kind::{Kind, tree_layout};
-use crate::layout::{count_of, level_of};
+use crate::kind::Kind;
+use crate::layout::count_of;
 use crate::level::{push_children, push_records};
-use crate::places::block_seal;
-use crate::rules::{Neighbours, ascends, has_count, has_keys, has_siblings, least_of};
+use crate::rules::{Neighbours, ascends, early_fault, has_keys, has_siblings};
 use crate::seats::Seat;
 use std::alloc::{AllocError, Global};
 use xfs_disk::NoMemory;
 use xfs_geom::Geometry;
-use xfs_word::sealed;
 
 /// A block of a round: whose it is, and where it stands.
 #[derive(Copy)]
@@ -141,32 +139,6 @@ fn broken<Record: Drop, Key: Drop>(
         children: Vec::new(alloc),
         records: Vec::new(alloc),
     }
-}
-
-/// The first rule from 3 to 5 that a block of a level breaks.
-fn early_fault<K: Kind>(
-    kind: &K,
-    g: &Geometry,
-    level: u32,
-    seat: &Seat<K::Key>,
-    block: &[u8],
-) -> Option<u8>
-    requires block { length block.now ≡ 4096 }
-    requires inside { seat.now.place < g.now.dblocks }
-    ensures fault { result ≡ early_fault (K.shape kind.now) (volume_of g.now) level seat.now block.now }
-    ensures fits { result ≡ None → count_of block.now ≤ capacity (K.shape kind.now).layout level }
-{
-    let layout = tree_layout(kind);
-    if !sealed(&block_seal(g, &layout, kind.owner(), seat.place), block) {
-        return Some(3);
-    }
-    if level_of(block) != level {
-        return Some(4);
-    }
-    if !has_count(&layout, level, least_of(level, seat.low), block) {
-        return Some(5);
-    }
-    None
 }
 
 /// The first rule from 6 to 8 that a block breaks between its neighbours, whatever stands in front of its first record.

@@ -1,83 +1,32 @@
 -- The rules of a block, in their order.
-use Rattle.std.proofs.Common.{◌≡◌, ◌≤◌, ◌&&◌, ◌||◌, ◌==◌, ◌∷◌, [], not, ℕ, Bool, true, false, Option, Some, None, sym, ap, ◌∙◌}
-use Rattle.std.specs.Prelude.{nat_le}
-use Rattle.std.proofs.lemmas.Bool.{leb-true, eq-eqb, ne_eqb}
-use Rattle.xfs_word.specs.Seal.{is_sealed}
-use Rattle.xfs_word.specs.declared.kinds.Seal.{Seal}
+use Rattle.std.proofs.Common.{◌≡◌, ◌&&◌, ◌||◌, ◌∷◌, [], not, ℕ, true, false, Some, None, sym, ◌∙◌}
+use Rattle.xfs_geom.specs.Features.{or_else}
 use Rattle.xfs_geom.specs.First.{first_false}
 use Rattle.xfs_geom.specs.Volumes.{volume_of}
-use Rattle.xfs_tree.specs.Blocks.{capacity, count_of, level_of, left_of, right_of}
-use Rattle.xfs_tree.specs.Rules.{block_fault, block_seal, bound_agrees, is_ordered, low_of, high_of, least_of, is_sibling}
+use Rattle.xfs_tree.specs.Alone.{early_fault}
+use Rattle.xfs_tree.specs.Blocks.{left_of, right_of}
+use Rattle.xfs_tree.specs.Rules.{bound_agrees, is_ordered, low_of, high_of, is_sibling}
+use Rattle.xfs_tree.proofs.Alone.{in_two}
 use Rattle.xfs_tree.proofs.rules.block_fault.Goals as goal
-
--- the first of six tests that fails
-abbrev first_of : Bool → Bool → Bool → Bool → Bool → Bool → Option ℕ
-first_of sealed here many ordered keyed beside = first_false ((3, sealed) ∷ (4, here) ∷ (5, many) ∷ (6, ordered) ∷ (7, keyed) ∷ (8, beside) ∷ [])
 
 some_fault : (n : ℕ) → Some n ≡ None → ⊥
 some_fault n e = cc
 
-second_holds : (a b : Bool) → (a && b) ≡ true → b ≡ true
-second_holds true b both = both
-second_holds false b both = cc
-
-few_enough : (least count most : ℕ) → (nat_le least count && nat_le count most) ≡ true → count ≤ most
-few_enough least count most both = leb-true count most (second_holds (nat_le least count) (nat_le count most) both)
-
-pub returns-then-not-sealed : goal.returns-then-not-sealed
-unfolding block_fault
-returns-then-not-sealed g c =
+pub returns-in-Some : goal.returns-in-Some
+returns-in-Some g c =
     let s = g.K.Kind.shape c.args.kind.now in
     let v = volume_of c.args.g.now in
     let level = c.args.level in
     let seat = c.args.seat.now in
     let beside = c.args.beside.now in
     let block = c.args.block.now in
-    let sealed : is_sealed (block_seal v s.layout s.owner seat.place) block ≡ false =
-    sym (c.sealed.ensures ∙ ap (λ (seal : Seal). is_sealed seal block) c.block_seal.ensures ∙ (λ i. is_sealed (block_seal v (c.tree_layout-layout.ensures.value i) (c.owner.ensures.value i) seat.place) block)) ∙ c.if-not-sealed.true in
+    let early : early_fault s v level seat block ≡ Some c.in-Some.rule = sym c.early_fault.ensures.fault ∙ c.in-Some.is in
     record {
-      fault = sym (λ i. first_of (sealed i) (level_of block == level) (nat_le (least_of level seat.low) (count_of block) && nat_le (count_of block) (capacity s.layout level)) (is_ordered s v level c.args.before block) (bound_agrees s seat.low (low_of s level block) && (not s.layout.high || bound_agrees s seat.high (high_of s level block))) (is_sibling v s.layout s.owner beside.left (left_of s.layout block) && is_sibling v s.layout s.owner beside.right (right_of s.layout block)));
-      fits = λ e. absurd (some_fault 3 e);
-    }
-
-pub returns-then-level_of-level : goal.returns-then-level_of-level
-unfolding block_fault
-returns-then-level_of-level g c =
-    let s = g.K.Kind.shape c.args.kind.now in
-    let v = volume_of c.args.g.now in
-    let level = c.args.level in
-    let seat = c.args.seat.now in
-    let beside = c.args.beside.now in
-    let block = c.args.block.now in
-    let sealed : is_sealed (block_seal v s.layout s.owner seat.place) block ≡ true =
-    sym (c.sealed.ensures ∙ ap (λ (seal : Seal). is_sealed seal block) c.block_seal.ensures ∙ (λ i. is_sealed (block_seal v (c.tree_layout-layout.ensures.value i) (c.owner.ensures.value i) seat.place) block)) ∙ c.if-not-sealed.false in
-    let here : (level_of block == level) ≡ false = ne_eqb (level_of block) level (λ e. c.if-level_of-level.true (c.level_of.ensures ∙ e)) in
-    record {
-      fault = sym (λ i. first_of (sealed i) (here i) (nat_le (least_of level seat.low) (count_of block) && nat_le (count_of block) (capacity s.layout level)) (is_ordered s v level c.args.before block) (bound_agrees s seat.low (low_of s level block) && (not s.layout.high || bound_agrees s seat.high (high_of s level block))) (is_sibling v s.layout s.owner beside.left (left_of s.layout block) && is_sibling v s.layout s.owner beside.right (right_of s.layout block)));
-      fits = λ e. absurd (some_fault 4 e);
-    }
-
-pub returns-then-not-has_count : goal.returns-then-not-has_count
-unfolding block_fault
-returns-then-not-has_count g c =
-    let s = g.K.Kind.shape c.args.kind.now in
-    let v = volume_of c.args.g.now in
-    let level = c.args.level in
-    let seat = c.args.seat.now in
-    let beside = c.args.beside.now in
-    let block = c.args.block.now in
-    let sealed : is_sealed (block_seal v s.layout s.owner seat.place) block ≡ true =
-    sym (c.sealed.ensures ∙ ap (λ (seal : Seal). is_sealed seal block) c.block_seal.ensures ∙ (λ i. is_sealed (block_seal v (c.tree_layout-layout.ensures.value i) (c.owner.ensures.value i) seat.place) block)) ∙ c.if-not-sealed.false in
-    let here : (level_of block == level) ≡ true = eq-eqb (level_of block) level (sym c.level_of.ensures ∙ c.if-level_of-level.false) in
-    let many : (nat_le (least_of level seat.low) (count_of block) && nat_le (count_of block) (capacity s.layout level)) ≡ false =
-    sym (c.has_count.ensures ∙ (λ i. nat_le (c.least_of.ensures i) (count_of block) && nat_le (count_of block) (capacity (c.tree_layout-layout.ensures.value i) level))) ∙ c.if-not-has_count.true in
-    record {
-      fault = sym (λ i. first_of (sealed i) (here i) (many i) (is_ordered s v level c.args.before block) (bound_agrees s seat.low (low_of s level block) && (not s.layout.high || bound_agrees s seat.high (high_of s level block))) (is_sibling v s.layout s.owner beside.left (left_of s.layout block) && is_sibling v s.layout s.owner beside.right (right_of s.layout block)));
-      fits = λ e. absurd (some_fault 5 e);
+      fault = sym (in_two s v c.args.before level beside.left beside.right seat block ∙ (λ i. or_else (early i) (first_false ((6, (is_ordered s v level c.args.before block)) ∷ (7, (bound_agrees s seat.low (low_of s level block) && (not s.layout.high || bound_agrees s seat.high (high_of s level block)))) ∷ (8, (is_sibling v s.layout s.owner beside.left (left_of s.layout block) && is_sibling v s.layout s.owner beside.right (right_of s.layout block))) ∷ []))));
+      fits = λ e. absurd (some_fault c.in-Some.rule e);
     }
 
 pub returns-then-not-is_ordered : goal.returns-then-not-is_ordered
-unfolding block_fault
 returns-then-not-is_ordered g c =
     let s = g.K.Kind.shape c.args.kind.now in
     let v = volume_of c.args.g.now in
@@ -85,19 +34,14 @@ returns-then-not-is_ordered g c =
     let seat = c.args.seat.now in
     let beside = c.args.beside.now in
     let block = c.args.block.now in
-    let sealed : is_sealed (block_seal v s.layout s.owner seat.place) block ≡ true =
-    sym (c.sealed.ensures ∙ ap (λ (seal : Seal). is_sealed seal block) c.block_seal.ensures ∙ (λ i. is_sealed (block_seal v (c.tree_layout-layout.ensures.value i) (c.owner.ensures.value i) seat.place) block)) ∙ c.if-not-sealed.false in
-    let here : (level_of block == level) ≡ true = eq-eqb (level_of block) level (sym c.level_of.ensures ∙ c.if-level_of-level.false) in
-    let many : (nat_le (least_of level seat.low) (count_of block) && nat_le (count_of block) (capacity s.layout level)) ≡ true =
-    sym (c.has_count.ensures ∙ (λ i. nat_le (c.least_of.ensures i) (count_of block) && nat_le (count_of block) (capacity (c.tree_layout-layout.ensures.value i) level))) ∙ c.if-not-has_count.false in
+    let early : early_fault s v level seat block ≡ None = sym c.early_fault.ensures.fault ∙ c.in-None.is in
     let ordered : is_ordered s v level c.args.before block ≡ false = sym c.is_ordered.ensures ∙ c.if-not-is_ordered.true in
     record {
-      fault = sym (λ i. first_of (sealed i) (here i) (many i) (ordered i) (bound_agrees s seat.low (low_of s level block) && (not s.layout.high || bound_agrees s seat.high (high_of s level block))) (is_sibling v s.layout s.owner beside.left (left_of s.layout block) && is_sibling v s.layout s.owner beside.right (right_of s.layout block)));
+      fault = sym (in_two s v c.args.before level beside.left beside.right seat block ∙ (λ i. or_else (early i) (first_false ((6, ordered i) ∷ (7, (bound_agrees s seat.low (low_of s level block) && (not s.layout.high || bound_agrees s seat.high (high_of s level block)))) ∷ (8, (is_sibling v s.layout s.owner beside.left (left_of s.layout block) && is_sibling v s.layout s.owner beside.right (right_of s.layout block))) ∷ []))));
       fits = λ e. absurd (some_fault 6 e);
     }
 
 pub returns-then-not-has_keys : goal.returns-then-not-has_keys
-unfolding block_fault
 returns-then-not-has_keys g c =
     let s = g.K.Kind.shape c.args.kind.now in
     let v = volume_of c.args.g.now in
@@ -105,20 +49,15 @@ returns-then-not-has_keys g c =
     let seat = c.args.seat.now in
     let beside = c.args.beside.now in
     let block = c.args.block.now in
-    let sealed : is_sealed (block_seal v s.layout s.owner seat.place) block ≡ true =
-    sym (c.sealed.ensures ∙ ap (λ (seal : Seal). is_sealed seal block) c.block_seal.ensures ∙ (λ i. is_sealed (block_seal v (c.tree_layout-layout.ensures.value i) (c.owner.ensures.value i) seat.place) block)) ∙ c.if-not-sealed.false in
-    let here : (level_of block == level) ≡ true = eq-eqb (level_of block) level (sym c.level_of.ensures ∙ c.if-level_of-level.false) in
-    let many : (nat_le (least_of level seat.low) (count_of block) && nat_le (count_of block) (capacity s.layout level)) ≡ true =
-    sym (c.has_count.ensures ∙ (λ i. nat_le (c.least_of.ensures i) (count_of block) && nat_le (count_of block) (capacity (c.tree_layout-layout.ensures.value i) level))) ∙ c.if-not-has_count.false in
+    let early : early_fault s v level seat block ≡ None = sym c.early_fault.ensures.fault ∙ c.in-None.is in
     let ordered : is_ordered s v level c.args.before block ≡ true = sym c.is_ordered.ensures ∙ c.if-not-is_ordered.false in
     let keyed : (bound_agrees s seat.low (low_of s level block) && (not s.layout.high || bound_agrees s seat.high (high_of s level block))) ≡ false = sym c.has_keys.ensures ∙ c.if-not-has_keys.true in
     record {
-      fault = sym (λ i. first_of (sealed i) (here i) (many i) (ordered i) (keyed i) (is_sibling v s.layout s.owner beside.left (left_of s.layout block) && is_sibling v s.layout s.owner beside.right (right_of s.layout block)));
+      fault = sym (in_two s v c.args.before level beside.left beside.right seat block ∙ (λ i. or_else (early i) (first_false ((6, ordered i) ∷ (7, keyed i) ∷ (8, (is_sibling v s.layout s.owner beside.left (left_of s.layout block) && is_sibling v s.layout s.owner beside.right (right_of s.layout block))) ∷ []))));
       fits = λ e. absurd (some_fault 7 e);
     }
 
 pub returns-then-not-has_siblings : goal.returns-then-not-has_siblings
-unfolding block_fault
 returns-then-not-has_siblings g c =
     let s = g.K.Kind.shape c.args.kind.now in
     let v = volume_of c.args.g.now in
@@ -126,21 +65,16 @@ returns-then-not-has_siblings g c =
     let seat = c.args.seat.now in
     let beside = c.args.beside.now in
     let block = c.args.block.now in
-    let sealed : is_sealed (block_seal v s.layout s.owner seat.place) block ≡ true =
-    sym (c.sealed.ensures ∙ ap (λ (seal : Seal). is_sealed seal block) c.block_seal.ensures ∙ (λ i. is_sealed (block_seal v (c.tree_layout-layout.ensures.value i) (c.owner.ensures.value i) seat.place) block)) ∙ c.if-not-sealed.false in
-    let here : (level_of block == level) ≡ true = eq-eqb (level_of block) level (sym c.level_of.ensures ∙ c.if-level_of-level.false) in
-    let many : (nat_le (least_of level seat.low) (count_of block) && nat_le (count_of block) (capacity s.layout level)) ≡ true =
-    sym (c.has_count.ensures ∙ (λ i. nat_le (c.least_of.ensures i) (count_of block) && nat_le (count_of block) (capacity (c.tree_layout-layout.ensures.value i) level))) ∙ c.if-not-has_count.false in
+    let early : early_fault s v level seat block ≡ None = sym c.early_fault.ensures.fault ∙ c.in-None.is in
     let ordered : is_ordered s v level c.args.before block ≡ true = sym c.is_ordered.ensures ∙ c.if-not-is_ordered.false in
     let keyed : (bound_agrees s seat.low (low_of s level block) && (not s.layout.high || bound_agrees s seat.high (high_of s level block))) ≡ true = sym c.has_keys.ensures ∙ c.if-not-has_keys.false in
     let beside_is : (is_sibling v s.layout s.owner beside.left (left_of s.layout block) && is_sibling v s.layout s.owner beside.right (right_of s.layout block)) ≡ false = sym c.has_siblings.ensures ∙ c.if-not-has_siblings.true in
     record {
-      fault = sym (λ i. first_of (sealed i) (here i) (many i) (ordered i) (keyed i) (beside_is i));
+      fault = sym (in_two s v c.args.before level beside.left beside.right seat block ∙ (λ i. or_else (early i) (first_false ((6, ordered i) ∷ (7, keyed i) ∷ (8, beside_is i) ∷ []))));
       fits = λ e. absurd (some_fault 8 e);
     }
 
 pub returns : goal.returns
-unfolding block_fault
 returns g c =
     let s = g.K.Kind.shape c.args.kind.now in
     let v = volume_of c.args.g.now in
@@ -148,54 +82,29 @@ returns g c =
     let seat = c.args.seat.now in
     let beside = c.args.beside.now in
     let block = c.args.block.now in
-    let sealed : is_sealed (block_seal v s.layout s.owner seat.place) block ≡ true =
-    sym (c.sealed.ensures ∙ ap (λ (seal : Seal). is_sealed seal block) c.block_seal.ensures ∙ (λ i. is_sealed (block_seal v (c.tree_layout-layout.ensures.value i) (c.owner.ensures.value i) seat.place) block)) ∙ c.if-not-sealed.false in
-    let here : (level_of block == level) ≡ true = eq-eqb (level_of block) level (sym c.level_of.ensures ∙ c.if-level_of-level.false) in
-    let many : (nat_le (least_of level seat.low) (count_of block) && nat_le (count_of block) (capacity s.layout level)) ≡ true =
-    sym (c.has_count.ensures ∙ (λ i. nat_le (c.least_of.ensures i) (count_of block) && nat_le (count_of block) (capacity (c.tree_layout-layout.ensures.value i) level))) ∙ c.if-not-has_count.false in
+    let early : early_fault s v level seat block ≡ None = sym c.early_fault.ensures.fault ∙ c.in-None.is in
     let ordered : is_ordered s v level c.args.before block ≡ true = sym c.is_ordered.ensures ∙ c.if-not-is_ordered.false in
     let keyed : (bound_agrees s seat.low (low_of s level block) && (not s.layout.high || bound_agrees s seat.high (high_of s level block))) ≡ true = sym c.has_keys.ensures ∙ c.if-not-has_keys.false in
     let beside_is : (is_sibling v s.layout s.owner beside.left (left_of s.layout block) && is_sibling v s.layout s.owner beside.right (right_of s.layout block)) ≡ true = sym c.has_siblings.ensures ∙ c.if-not-has_siblings.false in
     record {
-      fault = sym (λ i. first_of (sealed i) (here i) (many i) (ordered i) (keyed i) (beside_is i));
-      fits = λ _. few_enough (least_of level seat.low) (count_of block) (capacity s.layout level) many;
+      fault = sym (in_two s v c.args.before level beside.left beside.right seat block ∙ (λ i. or_else (early i) (first_false ((6, ordered i) ∷ (7, keyed i) ∷ (8, beside_is i) ∷ []))));
+      fits = λ _. c.early_fault.ensures.fits c.in-None.is;
     }
+
+pub early_fault-requires-clause-block : goal.early_fault-requires-clause-block
+early_fault-requires-clause-block g c = λ κs lives. c.requires.block
+
+pub early_fault-requires-clause-inside : goal.early_fault-requires-clause-inside
+early_fault-requires-clause-inside g c = λ κs lives. c.requires.inside
 
 pub is_ordered-requires-clause-block : goal.is_ordered-requires-clause-block
 is_ordered-requires-clause-block g c = λ κs lives. c.requires.block
 
 pub is_ordered-requires-clause-count : goal.is_ordered-requires-clause-count
-is_ordered-requires-clause-count g c = λ κs lives.
-    let s = g.K.Kind.shape c.args.kind.now in
-    let v = volume_of c.args.g.now in
-    let level = c.args.level in
-    let seat = c.args.seat.now in
-    let beside = c.args.beside.now in
-    let block = c.args.block.now in
-    let many : (nat_le (least_of level seat.low) (count_of block) && nat_le (count_of block) (capacity s.layout level)) ≡ true =
-    sym (c.has_count.ensures ∙ (λ i. nat_le (c.least_of.ensures i) (count_of block) && nat_le (count_of block) (capacity (c.tree_layout-layout.ensures.value i) level))) ∙ c.if-not-has_count.false in
-    few_enough (least_of level seat.low) (count_of block) (capacity s.layout level) many
+is_ordered-requires-clause-count g c = λ κs lives. c.early_fault.ensures.fits c.in-None.is
 
 pub has_keys-requires-clause-block : goal.has_keys-requires-clause-block
 has_keys-requires-clause-block g c = λ κs lives. c.requires.block
 
 pub has_keys-requires-clause-count : goal.has_keys-requires-clause-count
-has_keys-requires-clause-count g c = λ κs lives.
-    let s = g.K.Kind.shape c.args.kind.now in
-    let v = volume_of c.args.g.now in
-    let level = c.args.level in
-    let seat = c.args.seat.now in
-    let beside = c.args.beside.now in
-    let block = c.args.block.now in
-    let many : (nat_le (least_of level seat.low) (count_of block) && nat_le (count_of block) (capacity s.layout level)) ≡ true =
-    sym (c.has_count.ensures ∙ (λ i. nat_le (c.least_of.ensures i) (count_of block) && nat_le (count_of block) (capacity (c.tree_layout-layout.ensures.value i) level))) ∙ c.if-not-has_count.false in
-    few_enough (least_of level seat.low) (count_of block) (capacity s.layout level) many
-
-pub block_seal-requires : goal.block_seal-requires
-block_seal-requires g c = c.requires.inside
-
-pub level_of-requires : goal.level_of-requires
-level_of-requires g c = c.requires.block
-
-pub has_count-requires : goal.has_count-requires
-has_count-requires g c = c.requires.block
+has_keys-requires-clause-count g c = λ κs lives. c.early_fault.ensures.fits c.in-None.is

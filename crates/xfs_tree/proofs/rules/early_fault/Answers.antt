@@ -9,7 +9,7 @@ use Rattle.xfs_geom.specs.Volumes.{volume_of}
 use Rattle.xfs_tree.specs.Blocks.{capacity, count_of, level_of}
 use Rattle.xfs_tree.specs.Rules.{block_seal, least_of}
 use Rattle.xfs_tree.specs.Alone.{early_fault}
-use Rattle.xfs_tree.proofs.stepping.early_fault.Goals as goal
+use Rattle.xfs_tree.proofs.rules.early_fault.Goals as goal
 
 -- the first of three tests that fails
 abbrev first_of : Bool → Bool → Bool → Option ℕ
