@@ -1,6 +1,9 @@
+mod Addresses
+mod Due
 pub mod Bits
 pub mod Differences
 pub mod Trees
+mod Tests
 pub mod Firsts
 pub mod Groups
 pub mod Repeated

@@ -52,7 +52,6 @@ fn is_unused(
 }
 
 /// The chunk with the numbers that it should have.
-#[tactic(auto, unfolding(crate::specs::Counting::due_chunk))]
 fn due_chunk(g: &Geometry, files: &[FileRec], near: &mut usize, ag: u32, chunk: &InoRec) -> InoRec
     requires group { ag < g.now.agcount }
     requires files { FilesOrdered files.now }
@@ -171,7 +170,6 @@ pub fn check_inodes(g: &Geometry, files: &[FileRec], groups: &[GroupRec]) -> Opt
 }
 
 /// The first chunk of a group that is not as it should be. `near` is a place among the files at which its first may stand.
-#[tactic(auto, using(crate::proofs::Firsts::joined))]
 fn check_group(
     g: &Geometry,
     files: &[FileRec],

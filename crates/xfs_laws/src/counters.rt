@@ -12,7 +12,6 @@ use xfs_geom::{Counts, Geometry, free_blocks, free_slots, longest, slots};
 use xfs_volume::{GroupRec, Law, TreeBlocks};
 
 /// The first counter of the groups and of the superblock that is not the number that it should be.
-#[tactic(auto, using(crate::proofs::Firsts::joined))]
 pub fn check_counters(g: &Geometry, groups: &[GroupRec], counts: &Counts) -> Option<Law>
     requires { length groups.now ≤ 512 }
     ensures { result ≡ first_broken (counter_laws (volume_of g.now) groups.now counts.now) }

@@ -202,7 +202,6 @@ fn judge_log(catalog: &Catalog) -> Option<Law>
 }
 
 /// The first law of counts that is broken.
-#[tactic(auto, using(crate::proofs::Firsts::joined))]
 fn check_counts(catalog: &Catalog) -> Option<Law>
     requires { IsCatalog catalog.now }
     ensures { result ≡ first_broken (counting_laws catalog.now) }

@@ -1,10 +1,12 @@
-use Rattle.std.proofs.Common.{◌≡◌, List, None, sym, subst, ap₂, ◌∙◌}
+use Rattle.std.proofs.Common.{◌≡◌, List, length, None, ap, sym, subst, ap₂, ◌∙◌}
 use Rattle.xfs_geom.specs.Volumes.{volume_of}
 use Rattle.xfs_space.specs.SpaceLaws.{IsSpaceLawful, space_laws}
 use Rattle.xfs_volume.specs.Laws.{first_broken}
 use Rattle.xfs_volume.specs.declared.files.FileRec.{FileRec}
 use Rattle.xfs_volume.specs.declared.groups.GroupRec.{GroupRec}
 use Rattle.xfs_volume.proofs.First.{first_behind, first_in}
+use Rattle.std.specs.List.{All}
+use Rattle.xfs_space.specs.Parts.{AreGroups, HasLawfulForks}
 use Rattle.xfs_laws.specs.Lawful.{counting_laws}
 use Rattle.xfs_laws.proofs.Firsts.{some_none}
 use Rattle.xfs_laws.proofs.verdict.judge_numbers.Goals as goal
@@ -39,3 +41,16 @@ returns-in-Err-clause-law g c = tt
 
 pub returns-in-Err-clause-space : goal.returns-in-Err-clause-space
 returns-in-Err-clause-space g c = tt
+
+pub check_space-requires-clause-count : goal.check_space-requires-clause-count
+check_space-requires-clause-count g c = λ κs lives. ap length c.as_slice-groups.ensures ∙ c.requires.count
+
+pub check_space-requires-clause-groups : goal.check_space-requires-clause-groups
+check_space-requires-clause-groups g c = λ κs lives.
+    let v = volume_of c.args.catalog.now.geometry in
+    subst (λ (gs : List GroupRec). AreGroups v 0 gs) (sym c.as_slice-groups.ensures) c.requires.groups
+
+pub check_space-requires-clause-files : goal.check_space-requires-clause-files
+check_space-requires-clause-files g c = λ κs lives.
+    let v = volume_of c.args.catalog.now.geometry in
+    subst (λ (fs : List FileRec). All (HasLawfulForks v) fs) (sym c.as_slice-files.ensures) c.requires.files
