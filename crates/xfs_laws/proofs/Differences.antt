@@ -31,10 +31,10 @@ told law place held_is due_is whole_is is =
 
 -- one number of two lists
 module _ (held due : ℕ) (held_rest due_rest : List ℕ) {whole : ℕ × ℕ} (left : (if held == due then first_difference held_rest due_rest else (held, due)) ≡ whole) where
-  same_here : held ≡ due → first_difference held_rest due_rest ≡ whole
+  pub same_here : held ≡ due → first_difference held_rest due_rest ≡ whole
   same_here same = sym (cond-true (held == due) (first_difference held_rest due_rest) (held, due) (eq-eqb held due same)) ∙ left
 
-  differs_here : (held ≡ due → ⊥) → whole ≡ (held, due)
+  pub differs_here : (held ≡ due → ⊥) → whole ≡ (held, due)
   differs_here other = sym left ∙ cond-false (held == due) (first_difference held_rest due_rest) (held, due) (ne_eqb held due other)
 
 module _ {X : Type 0} (number : X → ℕ) (due : X → X) (xs : List X) (i : ℕ) {whole : ℕ × ℕ}

@@ -1,5 +1,6 @@
 mod Addresses
 mod Due
+mod Filtered
 pub mod Bits
 pub mod Differences
 pub mod Trees
