@@ -1,4 +1,5 @@
 mod Addresses
+mod Directories
 mod Due
 mod Filtered
 pub mod Bits

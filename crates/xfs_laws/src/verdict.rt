@@ -104,7 +104,10 @@ fn judge_beside<R: Threads + Sync>(
 {
     let (names, numbers) = join(
         rt,
-        || judge_names(alloc, catalog),
+        || -> Result<Option<Law>, NoMemory>
+            requires { IsCatalog catalog.now }
+            ensures { IfOk result (λ law. law ≡ first_broken (naming_laws catalog.entry.now.geometry.rootino catalog.entry.now.files catalog.entry.now.entries catalog.entry.now.dirs)) × IfOk result (λ law. law ≡ None → IsNamingLawful catalog.entry.now.geometry.rootino catalog.entry.now.files catalog.entry.now.entries catalog.entry.now.dirs) }
+        { judge_names(alloc, catalog) },
         || -> Result<Option<Law>, NoMemory>
             requires { IsSync R.row × IsCatalog catalog.now }
             ensures { IfOk result (λ law. law ≡ first_broken (space_laws (volume_of catalog.entry.now.geometry) catalog.entry.now.groups catalog.entry.now.files ++ counting_laws catalog.entry.now)) × IfOk result (λ law. law ≡ None → IsSpaceLawful (volume_of catalog.entry.now.geometry) catalog.entry.now.groups catalog.entry.now.files) }

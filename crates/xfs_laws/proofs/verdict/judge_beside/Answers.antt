@@ -17,3 +17,9 @@ returns-clause-space g c = c.judge_all.ensures.space
 
 pub returns-clause-names : goal.returns-clause-names
 returns-clause-names g c = c.judge_all.ensures.names
+
+pub judge_all-requires-clause-law : goal.judge_all-requires-clause-law
+judge_all-requires-clause-law g c = c.join-names.ensures.first.0
+
+pub judge_all-requires-clause-names : goal.judge_all-requires-clause-names
+judge_all-requires-clause-names g c = c.join-names.ensures.first.1
