@@ -2,4 +2,6 @@ pub mod Runs
 pub mod NamedBlocks
 pub mod Pushed
 pub mod Sound
+mod Causes
+mod Placed
 mod Single
