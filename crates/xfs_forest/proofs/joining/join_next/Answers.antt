@@ -1,5 +1,5 @@
 use Rattle.std.proofs.lemmas.Result.{IfOk-from_err}
-use Rattle.std.proofs.Common.{◌<◌, length, get_or, subst, arith}
+use Rattle.std.proofs.Common.{◌<◌, length, get_or, subst, arith, rules}
 use Rattle.std.proofs.lemmas.List.{get_or_default}
 use Rattle.xfs_geom.specs.Volumes.{volume_of}
 use Rattle.xfs_forest.specs.Forest.{IsKept}
@@ -35,3 +35,9 @@ returns-in_err-join_cell-clause-kept g c = IfOk-from_err c.from_residual.result 
 
 pub returns-in_err-join_cell-clause-grows : goal.returns-in_err-join_cell-clause-grows
 returns-in_err-join_cell-clause-grows g c = IfOk-from_err c.from_residual.result _ c.from_residual.ensures.0
+
+pub offset_bounds-plants-t : goal.offset_bounds-plants-t
+offset_bounds-plants-t g c = let inside : c.args.cell.now.spot.tree < length c.args.plants.now = c.requires.tree in search rules
+
+pub offset_bounds-trees-t : goal.offset_bounds-trees-t
+offset_bounds-trees-t g c = let inside : c.args.cell.now.spot.tree < length c.args.trees.now = omega (arith, c.requires.tree, c.requires.trees) in search rules

@@ -1,4 +1,6 @@
-use Rattle.std.proofs.Common.{refl, sym, subst, arith, rules}
+use borrow.Author.Count.{falls}
+use Rattle.std.proofs.Common.{refl, sym, subst, arith}
+use Rattle.std.proofs.lemmas.List.{get_or_default}
 use Rattle.xfs_forest.specs.Forest.{IsDescended, IsThrough}
 use Rattle.xfs_forest.proofs.Forests.{done_after, rest_after}
 use Rattle.xfs_forest.proofs.levels.descend_all.Goals as goal
@@ -17,7 +19,7 @@ loop-i-preserved g c =
     record {
       rest = rest_after c.args.trees.now c.loop-i.trees c.loop-i.i c.descend.new.tree c.loop-i.invariant.rest;
       done = done_after IsDescended c.args.trees.now c.loop-i.trees c.loop-i.i _ c.descend.new.tree (omega arith)
-          c.loop-i.invariant.rest c.loop-i.invariant.done (search rules) c.descend.ensures;
+          c.loop-i.invariant.rest c.loop-i.invariant.done (get_or_default c.loop-i.trees c.loop-i.i c.index-trees-i.result _ (omega arith)) c.descend.ensures;
     }
 
 pub returns : goal.returns
@@ -25,3 +27,6 @@ returns g c = λ i d inside. c.loop-i.invariant.done i d (omega arith)
 
 pub bounds-trees-i : goal.bounds-trees-i
 bounds-trees-i g c = omega arith
+
+pub loop-i-smaller : goal.loop-i-smaller
+loop-i-smaller g c = falls _ c.loop-i.i c.loop-i-test.true

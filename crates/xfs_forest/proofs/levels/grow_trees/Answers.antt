@@ -1,4 +1,4 @@
-use Rattle.std.proofs.Common.{◌≡◌, ◌≤◌, ◌+◌, ◌-◌, length, get_or, rules, sym, subst, arith, ◌∙◌, ℕ}
+use Rattle.std.proofs.Common.{◌≡◌, ◌≤◌, ◌+◌, ◌-◌, length, get_or, sym, subst, arith, ◌∙◌, ℕ}
 use Rattle.xfs_disk.proofs.Reading.{reads_none, reads_on}
 use Rattle.xfs_geom.specs.Volumes.{volume_of}
 use Rattle.xfs_forest.specs.Forest.{spots_of, AreGrowing, Each, IsDescended, IsForest, IsLow, IsOnward}
@@ -33,7 +33,7 @@ loop-level-preserved g c =
     let before = c.loop-level.invariant in
     let mids = c.read_level.new.trees in
     let news = c.descend_all.new.trees in
-    let long : length news ≡ length mids = search rules in
+    let long : length news ≡ length mids = c.descend_all.auto.trees in
     record {
       none = c.in-Ok.ensures.none;
       forest = forest_descended n end mids news c.read_level.new.cells.items c.read_level.new.cells.items long c.in-Ok.ensures.forest c.descend_all.ensures
@@ -53,7 +53,7 @@ loop-level-smaller g c =
     let level = c.loop-level.level in
     let mids = c.read_level.new.trees in
     let news = c.descend_all.new.trees in
-    let long : length news ≡ length mids = search rules in
+    let long : length news ≡ length mids = c.descend_all.auto.trees in
     let count = c.in-Ok.ensures.forest.count in
     let low : Each (IsLow (level - 1)) n news = each_both (IsLow level) (IsLow (level - 1)) IsDescended n mids news (omega (arith, count))
     (λ a b below low. below.low (level - 1) (low_up level (level - 1 + 1) a (omega arith) low)) c.descend_all.ensures

@@ -1,11 +1,12 @@
-use Rattle.std.proofs.Common.{◌<◌, length, get_or, rules, sym, subst, arith, ◌∙◌}
+use borrow.Author.Count.{falls}
+use Rattle.std.proofs.Common.{◌<◌, length, get_or, refl, sym, subst, arith, ◌∙◌, rules}
 use Rattle.std.proofs.lemmas.List.{get_or_default}
 use Rattle.xfs_forest.specs.Forest.{IsLow}
 use Rattle.xfs_forest.proofs.Forests.{below_more, low_up}
 use Rattle.xfs_forest.proofs.levels.highest.Goals as goal
 
 pub loop-i-init : goal.loop-i-init
-loop-i-init g c = record { ends = search rules; all = λ j d inside. absurd (omega arith); least = λ n each. omega arith }
+loop-i-init g c = record { ends = refl; all = λ j d inside. absurd (omega arith); least = λ n each. omega arith }
 
 pub loop-i-preserved : goal.loop-i-preserved
 loop-i-preserved g c =
@@ -24,3 +25,9 @@ loop-i-preserved g c =
 
 pub returns-clause-all : goal.returns-clause-all
 returns-clause-all g c = λ j d inside. c.loop-i.invariant.all j d (omega (arith, c.loop-i.invariant.ends))
+
+pub loop-i-smaller : goal.loop-i-smaller
+loop-i-smaller g c = falls _ c.loop-i.i c.loop-i-test.true
+
+pub offset_bounds-trees-i : goal.offset_bounds-trees-i
+offset_bounds-trees-i g c = let inside : c.loop-i.i < length c.args.trees.now = omega (arith, c.loop-i.invariant.ends) in search rules

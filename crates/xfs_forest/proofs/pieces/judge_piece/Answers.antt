@@ -1,4 +1,6 @@
-use Rattle.std.proofs.Common.{refl, sym, subst, arith, rules}
+use borrow.Author.Count.{falls}
+use Rattle.std.proofs.Common.{refl, sym, subst, arith, ◌<◌, length, rules}
+use Rattle.std.proofs.lemmas.List.{get_or_default}
 use Rattle.xfs_geom.specs.Volumes.{volume_of}
 use Rattle.xfs_forest.specs.Forest.{IsInRound, IsJudged}
 use Rattle.xfs_forest.proofs.Forests.{done_after, rest_after}
@@ -18,7 +20,7 @@ loop-i-preserved g c =
     record {
       rest = rest_after c.args.piece.now c.loop-i.piece c.loop-i.i c.judge_one.new.cell c.loop-i.invariant.rest;
       done = done_after (IsJudged g.K.Kind.shape (volume_of c.args.g.now) c.args.plants.now c.args.bank.now) c.args.piece.now c.loop-i.piece c.loop-i.i _ c.judge_one.new.cell (omega arith)
-          c.loop-i.invariant.rest c.loop-i.invariant.done (search rules) c.judge_one.ensures;
+          c.loop-i.invariant.rest c.loop-i.invariant.done (get_or_default c.loop-i.piece c.loop-i.i c.index-piece-i.result _ (omega arith)) c.judge_one.ensures;
     }
 
 pub returns : goal.returns
@@ -26,3 +28,9 @@ returns g c = λ i d inside. c.loop-i.invariant.done i d (omega arith)
 
 pub bounds-piece-i : goal.bounds-piece-i
 bounds-piece-i g c = omega arith
+
+pub loop-i-smaller : goal.loop-i-smaller
+loop-i-smaller g c = falls _ c.loop-i.i c.loop-i-test.true
+
+pub offset_bounds-piece-i : goal.offset_bounds-piece-i
+offset_bounds-piece-i g c = let inside : c.loop-i.i < length c.loop-i.piece = omega arith in search rules

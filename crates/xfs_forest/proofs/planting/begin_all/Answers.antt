@@ -1,4 +1,5 @@
-use Rattle.std.proofs.Common.{◌≡◌, [], length, rules, subst, arith}
+use borrow.Author.Count.{falls}
+use Rattle.std.proofs.Common.{◌≡◌, [], length, refl, ap, subst, arith, ◌<◌, rules}
 use Rattle.xfs_forest.specs.Forest.{reads_as, IsForest, IsGrowing}
 use Rattle.xfs_forest.proofs.Forests.{begun_more, growing_more}
 use Rattle.xfs_forest.proofs.planting.begin_all.Goals as goal
@@ -6,8 +7,8 @@ use Rattle.xfs_forest.proofs.planting.begin_all.Goals as goal
 pub loop-i-init : goal.loop-i-init
 loop-i-init g c =
     record {
-      ends = search rules;
-      forest = λ end. record { count = search rules; met = λ j d inside. absurd (omega arith); listed = λ j d inside. absurd (omega arith) };
+      ends = refl;
+      forest = λ end. record { count = ap (λ trees. length trees) c.in_ok-trees.ensures.items; met = λ j d inside. absurd (omega arith); listed = λ j d inside. absurd (omega arith) };
       grows = λ v image t p d inside. absurd (omega arith);
     }
 
@@ -30,3 +31,9 @@ returns-clause-forest g c = λ end.
 
 pub returns-clause-grows : goal.returns-clause-grows
 returns-clause-grows g c = λ v image t p d inside. c.loop-i.invariant.grows v image t p d (omega (arith, inside, c.loop-i.invariant.ends))
+
+pub loop-i-smaller : goal.loop-i-smaller
+loop-i-smaller g c = falls _ c.loop-i.i c.loop-i-test.true
+
+pub offset_bounds-plants-i : goal.offset_bounds-plants-i
+offset_bounds-plants-i g c = let inside : c.loop-i.i < length c.args.plants.now = omega (arith, c.loop-i.invariant.ends) in search rules

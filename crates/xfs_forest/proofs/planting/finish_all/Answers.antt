@@ -1,5 +1,6 @@
 use Rattle.std.proofs.lemmas.Result.{IfOk-from_err}
-use Rattle.std.proofs.Common.{◌<◌, [], length, map, get_or, sym, subst, ap, arith, ◌∙◌, refl}
+use borrow.Author.Count.{falls}
+use Rattle.std.proofs.Common.{◌<◌, [], length, map, get_or, sym, subst, ap, arith, ◌∙◌, refl, rules}
 use Rattle.std.proofs.lemmas.List.{take_all}
 use Rattle.xfs_geom.specs.Volumes.{volume_of}
 use Rattle.xfs_forest.specs.Forest.{contents_of, reads_as, IsDone, IsGrowing}
@@ -60,3 +61,9 @@ returns-in_err-grown g c = IfOk-from_err c.from_residual.result _ c.from_residua
 
 pub returns-in_err-push : goal.returns-in_err-push
 returns-in_err-push g c = IfOk-from_err c.from_residual-in_err-push.result _ c.from_residual-in_err-push.ensures.0
+
+pub loop-i-smaller : goal.loop-i-smaller
+loop-i-smaller g c = falls _ c.loop-i.i c.loop-i-test.true
+
+pub offset_bounds-trees-i : goal.offset_bounds-trees-i
+offset_bounds-trees-i g c = let inside : c.loop-i.i < length c.loop-i.trees = omega (arith, c.loop-i.invariant.ends, c.requires.count) in search rules

@@ -1,5 +1,5 @@
 use Rattle.xfs_disk.proofs.Reading.{reads_none}
-use Rattle.std.proofs.Common.{length, rules, sym, subst, get_or, arith}
+use Rattle.std.proofs.Common.{length, sym, subst, get_or, arith}
 use Rattle.xfs_geom.specs.Volumes.{volume_of}
 use Rattle.xfs_forest.specs.Forest.{spots_of, AreGrowing}
 use Rattle.xfs_forest.proofs.Forests.{forest_kept, none_listed, kept_same}
@@ -7,7 +7,7 @@ use Rattle.xfs_forest.proofs.sweeping.make_room.Goals as goal
 
 pub returns-in-Ok-clause-forest : goal.returns-in-Ok-clause-forest
 returns-in-Ok-clause-forest g c =
-    forest_kept (length c.args.plants.now) c.args.g.now.dblocks c.args.trees.now c.read_round.new.trees c.args.cells.now.items c.read_round.new.cells.items (search rules)
+    forest_kept (length c.args.plants.now) c.args.g.now.dblocks c.args.trees.now c.read_round.new.trees c.args.cells.now.items c.read_round.new.cells.items c.read_round.auto.trees
     c.requires.forest c.in-Ok.ensures.kept (none_listed (length c.args.plants.now) c.args.g.now.dblocks c.read_round.new.cells.items c.in-Ok.ensures.none)
 
 pub returns-in-Ok-clause-grows : goal.returns-in-Ok-clause-grows

@@ -1,4 +1,4 @@
-use Rattle.std.proofs.Common.{◌<◌, length, get_or, sym, subst, arith}
+use Rattle.std.proofs.Common.{◌<◌, length, get_or, rules, sym, subst, arith}
 use Rattle.std.proofs.lemmas.List.{get_or_default}
 use Rattle.std.proofs.lemmas.Result.{IfOk-from_err}
 use Rattle.xfs_geom.specs.Volumes.{volume_of}
@@ -68,3 +68,8 @@ returns-in_err-pass_seat-clause-grows g c = IfOk-from_err c.from_residual.result
 
 pub bounds-trees-t : goal.bounds-trees-t
 bounds-trees-t g c = omega (arith, c.requires.number, c.requires.forest.count)
+
+pub offset_bounds-trees-t : goal.offset_bounds-trees-t
+offset_bounds-trees-t g c =
+    let inside : c.args.t < length c.args.trees.now = omega (arith, c.requires.number, c.requires.forest.count) in
+    search rules

@@ -1,4 +1,5 @@
-use Rattle.std.proofs.Common.{ℕ, ◌≤◌, length, get_or, rules, sym, subst, arith, ◌∙◌}
+use borrow.Author.Count.{falls}
+use Rattle.std.proofs.Common.{ℕ, ◌≤◌, length, get_or, refl, sym, subst, arith, ◌∙◌}
 use Rattle.xfs_disk.proofs.Reading.{reads_none, reads_on}
 use Rattle.xfs_forest.specs.Forest.{IsKept, IsOnward, IsThrough}
 use Rattle.xfs_forest.proofs.Causes.{forest_caused}
@@ -9,7 +10,7 @@ pub loop-t-init : goal.loop-t-init
 loop-t-init g c =
     let D = g.D.Disk in
     record {
-      ends = search rules;
+      ends = c.requires.forest.count;
       forest = c.requires.forest;
       onward = λ i d inside. onward_same (get_or c.args.trees.now i d);
       through = λ j d inside. absurd (omega arith);
@@ -46,7 +47,7 @@ pub returns-in-Ok-read_round-clause-forest : goal.returns-in-Ok-read_round-claus
 returns-in-Ok-read_round-clause-forest g c =
     let n = length c.args.plants.now in
     let end = c.args.g.now.dblocks in
-    forest_kept n end c.loop-t.trees c.read_round.new.trees c.loop-t.cells.items c.read_round.new.cells.items (search rules)
+    forest_kept n end c.loop-t.trees c.read_round.new.trees c.loop-t.cells.items c.read_round.new.cells.items c.read_round.auto.trees
     c.loop-t.invariant.forest c.in-Ok-read_round.ensures.kept (none_listed n end c.read_round.new.cells.items c.in-Ok-read_round.ensures.none)
 
 pub returns-in-Ok-read_round-clause-onward : goal.returns-in-Ok-read_round-clause-onward
@@ -136,3 +137,6 @@ returns-in-Ok-read_round-clause-cause g c = let up = c.loop-t.invariant.later in
 
 pub returns-in-Ok-read_round-clause-reads : goal.returns-in-Ok-read_round-clause-reads
 returns-in-Ok-read_round-clause-reads g c = let up = c.loop-t.invariant.reads in let more = c.in-Ok-read_round.ensures.reads in omega (arith, up, more)
+
+pub loop-t-smaller : goal.loop-t-smaller
+loop-t-smaller g c = falls _ c.loop-t.t c.loop-t-test.true

@@ -1,4 +1,4 @@
-use Rattle.std.proofs.Common.{◌<◌, ◌≡◌, length, drop, get_or, rules, subst, arith}
+use Rattle.std.proofs.Common.{◌<◌, ◌≡◌, length, drop, get_or, subst, arith, rules}
 use Rattle.std.proofs.lemmas.List.{get_or_default}
 use Rattle.xfs_geom.specs.Volumes.{volume_of}
 use Rattle.xfs_forest.specs.Forest.{room_of, IsKept, IsNext, IsOnward}
@@ -42,7 +42,7 @@ returns-in-Ok-pass_next-clause-onward g c =
 
 pub returns-in-Ok-pass_next-clause-less : goal.returns-in-Ok-pass_next-clause-less
 returns-in-Ok-pass_next-clause-less g c =
-    let same = room_kept c.args.t c.args.trees.now c.make_room.new.trees (search rules) c.in-Ok.ensures.kept in
+    let same = room_kept c.args.t c.args.trees.now c.make_room.new.trees c.make_room.auto.trees c.in-Ok.ensures.kept in
     let less = c.in-Ok-pass_next.ensures.less in
     subst (λ room. room_of (drop c.args.t c.pass_next.new.trees) < room) same less
 
@@ -123,3 +123,9 @@ next_seat-next-requires-clause-more g c = λ κs lives. c.requires.more c.index-
 
 pub pass_next-requires-clause-number : goal.pass_next-requires-clause-number
 pass_next-requires-clause-number g c = λ κs lives. c.requires.number
+
+pub offset_bounds-plants-t : goal.offset_bounds-plants-t
+offset_bounds-plants-t g c = let inside : c.args.t < length c.args.plants.now = c.requires.number in search rules
+
+pub offset_bounds-trees-t : goal.offset_bounds-trees-t
+offset_bounds-trees-t g c = let inside : c.args.t < length c.args.trees.now = omega (arith, c.requires.number, c.requires.forest.count) in search rules

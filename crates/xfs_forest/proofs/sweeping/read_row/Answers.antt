@@ -1,4 +1,4 @@
-use Rattle.std.proofs.Common.{ℕ, ◌≤◌, ◌<◌, length, get_or, rules, sym, subst, arith, ◌∙◌}
+use Rattle.std.proofs.Common.{ℕ, ◌≤◌, ◌<◌, length, get_or, sym, subst, arith, ◌∙◌, rules}
 use Rattle.std.proofs.lemmas.List.{get_or_default}
 use Rattle.xfs_disk.proofs.Reading.{reads_none, reads_on}
 use Rattle.xfs_forest.specs.Forest.{IsOnward, IsThrough}
@@ -23,7 +23,7 @@ read_next-requires-clause-more g c = λ κs lives d.
     let t = c.args.t in
     let trees = c.taking.trees in
     let inside : t < length trees = omega (arith, c.requires.number, c.taking.invariant.forest.count) in
-    subst (λ tree. tree.at < length tree.row.items) (get_or_default trees t c.index-trees-t.result d inside) (c.has_more.ensures.more (search rules))
+    subst (λ tree. tree.at < length tree.row.items) (get_or_default trees t c.index-trees-t.result d inside) (c.has_more.ensures.more c.taking-test.true)
 
 pub taking-preserved : goal.taking-preserved
 taking-preserved g c =
@@ -51,7 +51,7 @@ returns-clause-through g c = λ d.
     let t = c.args.t in
     let trees = c.taking.trees in
     let inside : t < length trees = omega (arith, c.requires.number, c.taking.invariant.forest.count) in
-    subst IsThrough (get_or_default trees t c.index-trees-t.result d inside) (c.has_more.ensures.through (search rules))
+    subst IsThrough (get_or_default trees t c.index-trees-t.result d inside) (c.has_more.ensures.through c.taking-test.false)
 
 pub read_next-requires-clause-inside : goal.read_next-requires-clause-inside
 read_next-requires-clause-inside g c = λ κs lives. subst (λ (n : ℕ). c.args.g.now.dblocks ≤ n) (sym c.taking.invariant.disk.same_size) c.requires.inside
@@ -100,3 +100,6 @@ read_next-requires-clause-number g c = λ κs lives. c.requires.number
 
 pub taking-smaller : goal.taking-smaller
 taking-smaller g c = c.in-Ok.ensures.less
+
+pub offset_bounds-trees-t : goal.offset_bounds-trees-t
+offset_bounds-trees-t g c = let inside : c.args.t < length c.taking.trees = omega (arith, c.requires.number, c.taking.invariant.forest.count) in search rules
