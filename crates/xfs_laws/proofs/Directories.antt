@@ -1,5 +1,5 @@
 -- The directories among files, one after the other.
-use Rattle.std.proofs.Common.{◌≡◌, ◌↔◌, ℕ, ◌+◌, ◌<◌, ◌≤◌, Bool, true, false, IsTrue, List, [], ◌∷◌, length, map, filter, drop, get_or, sym, ap, ◌∙◌, subst, add-one, drop-cons, le_of_eq}
+use Rattle.std.proofs.Common.{◌≡◌, ◌↔◌, ℕ, ◌+◌, ◌<◌, true, false, IsTrue, List, [], ◌∷◌, length, map, filter, drop, get_or, sym, ap, ◌∙◌, subst, add-one, drop-cons, le_of_eq}
 use Rattle.std.proofs.lemmas.Bool.{cond-true, cond-false}
 use Rattle.std.proofs.lemmas.List.{drop_all}
 use Rattle.xfs_volume.specs.Names.{is_directory}

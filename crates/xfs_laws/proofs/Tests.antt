@@ -1,5 +1,5 @@
 -- Tests of parts, one after the other: what an early return and a last call say of the whole; and loops over a list that test each item.
-use Rattle.std.proofs.Common.{◌≡◌, ◌↔◌, ℕ, ◌+◌, ◌<◌, ◌≤◌, Bool, true, false, ◌&&◌, IsTrue, List, ◌∷◌, length, get_or, drop, Option, Some, All, true≢false, refl, sym, ap, ◌∙◌, subst, add-one, drop-cons, below_none, below_more, le_trans, lt_of_lt_of_le, lt_irrefl}
+use Rattle.std.proofs.Common.{◌≡◌, ◌↔◌, ℕ, ◌+◌, ◌<◌, ◌≤◌, Bool, true, false, ◌&&◌, IsTrue, List, ◌∷◌, length, get_or, drop, Option, Some, All, true≢false, refl, sym, ap, ◌∙◌, subst, add-one, drop-cons, below_none, below_more, lt_of_lt_of_le}
 use Rattle.std.proofs.lemmas.List.{drop_all, get_or_default}
 use Rattle.xfs_geom.specs.Volumes.{Volume}
 use Rattle.xfs_tree.specs.Shape.{Shape}

@@ -1,4 +1,4 @@
-use Rattle.std.proofs.Common.{List, sym, subst, ◌∙◌, true≢false}
+use Rattle.std.proofs.Common.{sym, subst, ◌∙◌, true≢false}
 use Rattle.xfs_geom.specs.Volumes.{volume_of}
 use Rattle.xfs_space.specs.Parts.{AreOfGroup}
 use Rattle.xfs_volume.specs.declared.groups.TreeBlocks.{TreeBlocks}
