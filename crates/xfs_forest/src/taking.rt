@@ -1,6 +1,6 @@
 //! Blocks of a tree's row, taken into a round.
 
-ghost use Rattle.std.specs.Prelude.{◌≡◌, ℕ, ◌+◌, ◌<◌, ◌==◌, [], ◌∷◌, None, Some, false, drop, length, OnOk, Result};
+ghost use Rattle.std.specs.Prelude.{◌≡◌, ℕ, ◌+◌, ◌<◌, ◌==◌, [], ◌∷◌, None, Some, false, drop, length, OnOk, Result, ⊤};
 ghost use Rattle.std.specs.List.{list_any};
 ghost use Rattle.xfs_disk.specs.Blocks.{Image};
 ghost use Rattle.xfs_geom.specs.Volumes.{Volume, volume_of};
@@ -13,15 +13,26 @@ ghost use Rattle.xfs_tree.specs.declared.unread.Unread.{Unread};
 
 use crate::cells::Cell;
 use crate::growing::Growing;
+use std::alloc::AllocError;
 use xfs_disk::NoMemory;
 use xfs_geom::Geometry;
 use xfs_tree::{Kind, MetBlocks, Seat, Spot, Unread, can_hold, place_at, tree_layout};
 
 /// The next block of a tree's row, and the first rule, of 1 and 2, that it breaks by its place.
-#[derive(Clone, Copy)]
+#[derive(Copy)]
 pub(crate) struct Next<Key> {
     pub seat: Seat<Key>,
     pub rule: Option<u8>,
+}
+
+impl<Key: Copy> Clone for Next<Key> {
+    ghost is_clone = { λ x y. y ≡ x };
+
+    ghost is_infallible = { λ _. ⊤ };
+
+    fn clone(&self) -> Result<Next<Key>, AllocError> {
+        Ok(*self)
+    }
 }
 
 /// The next block of a tree's row.
