@@ -3,5 +3,6 @@ pub mod NamedBlocks
 pub mod Pushed
 pub mod Sound
 mod Causes
+mod ForkRoots
 mod Placed
 mod Single

@@ -1,11 +1,14 @@
 -- Extents that are tested one behind the other.
-use Rattle.std.proofs.Common.{◌≡◌, ℕ, ◌+◌, ◌<◌, ◌≤◌, Bool, true, false, ◌&&◌, List, [], ◌∷◌, length, get_or, drop, Option, Some, None, refl, sym, ap, ◌∙◌}
-use Rattle.std.proofs.lemmas.Bool.{true≢false}
+use Rattle.std.proofs.Common.{◌≡◌, ℕ, ◌+◌, ◌<◌, ◌≤◌, Bool, true, false, ◌&&◌, nat_lt, IsTrue, List, [], ◌∷◌, length, get_or, drop, Option, Some, None, refl, sym, ap, ◌∙◌}
+use Rattle.std.specs.List.{All}
+use Rattle.std.proofs.lemmas.Bool.{true≢false, and_parts}
 use Rattle.std.proofs.lemmas.List.{at_drop_more, at_drop_all}
+use Rattle.std.proofs.lemmas.List.Sums.{AllPass-from_list_all}
 use Rattle.xfs_word.specs.declared.extents.Extent.{Extent}
 use Rattle.xfs_geom.specs.Volumes.{Volume}
 use Rattle.xfs_kinds.specs.FileTrees.{is_extent, follows_offset}
-use Rattle.xfs_inode.specs.Files.{are_extents}
+use Rattle.xfs_tree.specs.Reading.{Contents}
+use Rattle.xfs_inode.specs.Files.{are_blocks, are_extents, is_placed}
 
 both_true : (a b rest : Bool) → (a && b) ≡ true → (a && b && rest) ≡ rest
 both_true true true rest e = refl
@@ -41,3 +44,7 @@ extents_stop v before copied es i d lawful whole inside stated same is held =
 -- none is left
 pub extents_all : (v : Volume) (before : Option Extent) (es : List Extent) (i : ℕ) (whole : Bool) → length es ≤ i → are_extents v before (drop i es) ≡ whole → true ≡ whole
 extents_all v before es i whole end held = sym (at_drop_all (are_extents v before) es i end) ∙ held
+
+-- the blocks of what lies in the volume
+pub blocks_placed : (v : Volume) (held : Contents Extent) → is_placed v held ≡ true → All (λ (b : ℕ). IsTrue (nat_lt b v.dblocks)) held.blocks
+blocks_placed v held placed = AllPass-from_list_all (λ (b : ℕ). nat_lt b v.dblocks) held.blocks (and_parts (are_extents v None held.records) (are_blocks v held.blocks) placed).1
