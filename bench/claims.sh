@@ -6,7 +6,7 @@
 # It is proved in a copy of the crates, which is removed.
 set -eu
 . "$(dirname "$0")/crates.sh"
-take_program claim_speed xfs_disk xfs_runs xfs_geom xfs_volume xfs_claims
+take_program claim_speed xfs_disk xfs_collections xfs_geom xfs_volume xfs_claims
 sed 's/use crate::claimants::/use xfs_claims::/; s/pub(super) fn/pub fn/' crates/xfs_claims/src/tests/sound.rt > crates/claim_speed/src/sound.rt
 cp -r crates/xfs_claims/proofs/tests/sound crates/claim_speed/proofs/
 find crates/claim_speed/proofs/sound -name '*.antt' -exec sed -i 's/Rattle.xfs_claims.proofs.tests.sound/Rattle.claim_speed.proofs.sound/' {} \;

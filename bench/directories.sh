@@ -4,7 +4,7 @@
 # .txt behind its name, and is proved in a copy of the crates, which is removed.
 set -eu
 . "$(dirname "$0")/crates.sh"
-take_program dir_speed xfs_word xfs_disk xfs_bank xfs_dirdata xfs_dirindex xfs_dirbuild
+take_program dir_speed xfs_word xfs_disk xfs_collections xfs_dirdata xfs_dirindex xfs_dirbuild
 prove_program dir_speed
 for turn in 1 2 3; do
   python3 - crates/dir_speed/out/dir_speed <<'PY'

@@ -6,7 +6,7 @@
 set -eu
 . "$(dirname "$0")/crates.sh"
 gcc -O2 -Wall -Wextra -o plain "$top/bench/trees.c"
-take_program tree_speed xfs_word xfs_disk xfs_memory xfs_runs xfs_geom xfs_tree xfs_treebuild
+take_program tree_speed xfs_word xfs_disk xfs_memory xfs_collections xfs_geom xfs_tree xfs_treebuild
 prove_program tree_speed
 for turn in 1 2 3; do
   ours=$(crates/tree_speed/out/tree_speed)

@@ -9,7 +9,7 @@ images=()
 for image in "$@"; do images+=("$(realpath "$image")"); done
 kept=
 . "$(dirname "$0")/../bench/crates.sh"
-take_program dir_print xfs_word xfs_disk xfs_files xfs_bank xfs_dirdata xfs_dirindex xfs_dirbuild
+take_program dir_print xfs_word xfs_disk xfs_files xfs_collections xfs_dirdata xfs_dirindex xfs_dirbuild
 for image in "${images[@]}"; do
   python3 "$top/examples/directory_lines.py" "$image" > "$work/names"
   try_program dir_print < "$work/names"

@@ -11,7 +11,7 @@ for image in "$@"; do images+=("$(realpath "$image")"); done
 kept=
 . "$(dirname "$0")/../bench/crates.sh"
 . "$top/examples/volumes.sh"
-take_program evidence_lists xfs_word xfs_disk xfs_files xfs_runs xfs_geom xfs_dirdata xfs_attr xfs_volume xfs_heads xfs_image xfs_scan
+take_program evidence_lists xfs_word xfs_disk xfs_files xfs_collections xfs_geom xfs_dirdata xfs_attr xfs_volume xfs_heads xfs_image xfs_scan
 failed=0
 compare() { # NAME IMAGE WHOLE: the lists of IMAGE beside xfs_db's of WHOLE
   printf '%s\n' "$2" "$work/lists" | try_program evidence_lists

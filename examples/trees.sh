@@ -9,7 +9,7 @@ images=()
 for image in "$@"; do images+=("$(realpath "$image")"); done
 kept=
 . "$(dirname "$0")/../bench/crates.sh"
-take_program tree_print xfs_word xfs_disk xfs_files xfs_runs xfs_geom xfs_tree xfs_treebuild xfs_kinds
+take_program tree_print xfs_word xfs_disk xfs_files xfs_collections xfs_geom xfs_tree xfs_treebuild xfs_kinds
 for image in "${images[@]}"; do
   python3 "$top/examples/tree_lines.py" "$image" "$work/names" "$work/due"
   try_program tree_print < "$work/names"

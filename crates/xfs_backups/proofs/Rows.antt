@@ -4,7 +4,7 @@ use Rattle.std.specs.Prelude.{replicate, slice_index_or, slice_set}
 use Rattle.std.proofs.lemmas.List.{append-nil, length-map, length-replicate, take_all}
 use Rattle.std.proofs.lemmas.List.Elements.{All-push}
 use Rattle.xfs_disk.specs.Blocks.{Image, bytes_of_block}
-use Rattle.xfs_bank.specs.Bank.{blocks_at}
+use Rattle.xfs_collections.specs.Bank.{blocks_at}
 use Rattle.xfs_geom.specs.Superblocks.{is_agreeing}
 use Rattle.xfs_geom.specs.Volumes.{stated_volume}
 use Rattle.xfs_geom.specs.Election.{super_of}

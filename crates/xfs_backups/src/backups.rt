@@ -16,7 +16,7 @@ ghost use Rattle.xfs_backups.specs.Private.Rows.{disagreeing_places};
 
 use crate::faults::MendFault;
 use std::alloc::Global;
-use xfs_bank::BlockBank;
+use xfs_collections::BlockBank;
 use xfs_disk::{BLOCK_SIZE, Disk, Failed, NoMemory};
 use xfs_geom::superblock::SECTOR_SIZE;
 use xfs_geom::{Geometry, agrees};

@@ -5,8 +5,8 @@ use Rattle.std.proofs.lemmas.Bool.{or_parts, or_from, or_cases, and_parts}
 use Rattle.std.proofs.lemmas.Bool.Decides.{nat_tests}
 use Rattle.xfs_disk.specs.Lists.{is_in_range}
 use Rattle.xfs_geom.specs.declared.records.Run.{Run}
-use Rattle.xfs_runs.specs.Blocks.{is_in, meets}
-use Rattle.xfs_runs.proofs.Meeting.{meets_none, unmet}
+use Rattle.xfs_collections.specs.Blocks.{is_in, meets}
+use Rattle.xfs_collections.proofs.Meeting.{meets_none, unmet}
 use Rattle.xfs_claims.specs.Spans.{span_pair, spans_of, spans_apart, SpansApart, meets_any, with_blocks}
 
 abbrev pub no_run : Run

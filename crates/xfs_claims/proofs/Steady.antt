@@ -5,8 +5,8 @@ use Rattle.std.specs.BTreeSet.{insert_key}
 use Rattle.std.proofs.lemmas.Bool.{or_from}
 use Rattle.std.proofs.Math.Bool.{or-false}
 use Rattle.xfs_disk.specs.Lists.{is_in_range, is_among, with_number}
-use Rattle.xfs_runs.proofs.Meeting.{meets_none}
-use Rattle.xfs_runs.specs.Blocks.{is_in, meets}
+use Rattle.xfs_collections.proofs.Meeting.{meets_none}
+use Rattle.xfs_collections.specs.Blocks.{is_in, meets}
 use Rattle.xfs_claims.specs.declared.claimants.FileClaim.{FileClaim}
 use Rattle.xfs_claims.specs.Spans.{spans_of, meets_any, with_blocks}
 use Rattle.xfs_claims.specs.Keeping.{Holding, cluster_span, with_cluster, with_file, is_kept}

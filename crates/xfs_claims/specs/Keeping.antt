@@ -3,7 +3,7 @@
 use Rattle.std.specs.Prelude.{ℕ, Bool, not, ◌+◌, ◌^◌, ◌<◌, ◌&&◌, ◌==◌, if◌then◌else◌, nat_lt, List, [], ◌∷◌}
 use Rattle.std.specs.List.{All}
 use Rattle.xfs_disk.specs.Lists.{is_among, with_number}
-use Rattle.xfs_runs.specs.Blocks.{is_in, meets}
+use Rattle.xfs_collections.specs.Blocks.{is_in, meets}
 use Rattle.xfs_claims.specs.declared.claimants.FileClaim.{FileClaim}
 use Rattle.xfs_claims.specs.declared.claimants.Claims.{Claims}
 use Rattle.xfs_claims.specs.Spans.{spans_of, SpansApart, IsRun, meets_any, with_blocks}

@@ -2,7 +2,7 @@
 use Rattle.std.specs.Prelude.{ℕ, Bool, true, ◌≡◌, ◌+◌, ◌^◌, ◌≤◌, ◌<◌, ◌||◌, nat_le, List, [], ◌∷◌, map}
 use Rattle.std.specs.List.{list_all, list_any}
 use Rattle.xfs_geom.specs.declared.records.Run.{Run}
-use Rattle.xfs_runs.specs.Blocks.{is_in, meets}
+use Rattle.xfs_collections.specs.Blocks.{is_in, meets}
 
 -- the first block of a run with its number of blocks
 abbrev pub span_pair : Run → ℕ × ℕ

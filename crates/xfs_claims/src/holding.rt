@@ -2,7 +2,7 @@
 
 ghost use Rattle.std.specs.Prelude.{◌≡◌, [], ◌+◌, ◌*◌, ◌^◌, ◌<◌, ◌≤◌, length, map, IfOk, OnOk};
 ghost use Rattle.std.specs.List.{All, sum_by};
-ghost use Rattle.xfs_runs.specs.Blocks.{is_in};
+ghost use Rattle.xfs_collections.specs.Blocks.{is_in};
 ghost use Rattle.xfs_claims.specs.Spans.{spans_of, SpansApart, IsRun};
 ghost use Rattle.xfs_claims.specs.Ranks.{run_count};
 ghost use Rattle.xfs_claims.specs.Keeping.{fixed_alone, with_cluster, with_clusters, with_file, with_files, EndsLow, IsClaim};
@@ -18,7 +18,7 @@ use std::collections::BTreeSet;
 use std::sync::ledger::Ledger;
 use xfs_disk::NoMemory;
 use xfs_geom::Run;
-use xfs_runs::{RunSet, Steps};
+use xfs_collections::{RunSet, Steps};
 use xfs_volume::Records;
 
 /// How many blocks a cluster has.

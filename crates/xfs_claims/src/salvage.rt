@@ -15,7 +15,7 @@ use std::alloc::Global;
 use std::sync::ledger::Ledger;
 use std::thread::Threads;
 use xfs_disk::NoMemory;
-use xfs_runs::Steps;
+use xfs_collections::Steps;
 
 /// Keeps of the claims, in the order of their rank, those that meet nothing kept before. The rank is: fixed blocks, the
 /// root cluster, recorded clusters by block, files in them by number, scanned clusters by block, files in them by

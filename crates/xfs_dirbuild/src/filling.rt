@@ -13,7 +13,7 @@ ghost use Rattle.xfs_dirbuild.specs.Placed.{IsBuiltDataBlock};
 
 use crate::writing::{blank, put_block};
 use std::alloc::Global;
-use xfs_bank::BlockBank;
+use xfs_collections::BlockBank;
 use xfs_dirdata::layouts::data_block::HEADER_SIZE;
 use xfs_dirdata::{EntryRec, data_size, put_data};
 use xfs_dirindex::Pair;

@@ -9,7 +9,7 @@ ghost use Rattle.xfs_dirbuild.specs.FreeBlocks.{IsBuiltFreeBlock, values_in};
 
 use crate::forms::value_blocks;
 use crate::writing::{blank, put_block, put_values};
-use xfs_bank::BlockBank;
+use xfs_collections::BlockBank;
 use xfs_dirindex::layouts::free_block::{FIRST, HEADER_SIZE, MOST_VALUES, USED, VALID};
 use xfs_word::put32;
 

@@ -17,7 +17,7 @@ use crate::forms::{
 use crate::leaf::{build_leaf, build_node};
 use crate::single::build_single;
 use std::alloc::Global;
-use xfs_bank::BlockBank;
+use xfs_collections::BlockBank;
 use xfs_dirdata::{EntryRec, put_short};
 use xfs_disk::NoMemory;
 

@@ -15,7 +15,7 @@ use crate::index_blocks::put_leaf;
 use crate::tree::put_tree;
 use crate::writing::{blank, put_block};
 use std::alloc::Global;
-use xfs_bank::BlockBank;
+use xfs_collections::BlockBank;
 use xfs_dirdata::EntryRec;
 use xfs_disk::NoMemory;
 

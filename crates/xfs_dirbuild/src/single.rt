@@ -17,7 +17,7 @@ ghost use Rattle.xfs_dirbuild.specs.Forms.{fits_single};
 use crate::filling::{add_first, add_pairs, sort_pairs};
 use crate::writing::{put_block, put_pairs};
 use std::alloc::Global;
-use xfs_bank::BlockBank;
+use xfs_collections::BlockBank;
 use xfs_dirdata::layouts::data_block::{COUNT, STALE};
 use xfs_dirdata::{EntryRec, put_data};
 use xfs_dirindex::layouts::data_magic;

@@ -14,7 +14,7 @@ use crate::forms::{leaf_blocks, nodes_above};
 use crate::index_blocks::put_index;
 use crate::writing::{blank, put_block};
 use std::alloc::Global;
-use xfs_bank::BlockBank;
+use xfs_collections::BlockBank;
 use xfs_dirindex::layouts::INDEX_START;
 use xfs_dirindex::{PAIR_SIZE, Pair};
 use xfs_disk::{NoMemory, share_of};

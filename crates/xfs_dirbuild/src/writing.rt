@@ -5,7 +5,7 @@ ghost use Rattle.xfs_word.specs.Field.{SameBeside, KeepsBeside, KeepsParts, zero
 ghost use Rattle.xfs_dirindex.specs.Pairs.{pair_at, pairs_at};
 ghost use Rattle.xfs_dirbuild.specs.Index.{IsPointer, AreValues};
 
-use xfs_bank::BlockBank;
+use xfs_collections::BlockBank;
 use xfs_dirindex::{PAIR_SIZE, Pair};
 use xfs_disk::BLOCK_SIZE;
 use xfs_word::{put16, put32};

@@ -3,7 +3,7 @@
 ghost use Rattle.std.specs.Prelude.{◌≡◌};
 
 use std::alloc::{AllocError, AllocFailed};
-use xfs_bank::BlockBank;
+use xfs_collections::BlockBank;
 
 /// The mapped blocks of a directory, in the order of the file.
 #[derive(Drop)]

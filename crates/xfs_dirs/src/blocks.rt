@@ -19,7 +19,7 @@ use std::alloc::Global;
 use std::sync::ledger::Ledger;
 use xfs_disk::{BLOCK_SIZE, Disk, Failed, NoMemory};
 use xfs_geom::Geometry;
-use xfs_runs::Steps;
+use xfs_collections::Steps;
 use xfs_word::Extent;
 
 /// What the blocks of these extents give, those that are not written yet among them.

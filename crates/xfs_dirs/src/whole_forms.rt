@@ -11,7 +11,7 @@ ghost use Rattle.xfs_dirs.specs.Gathered.{BlocksInOrder, AscendWhole, is_whole_k
 
 use crate::gathered::{KeptBlock, KeptBlocks};
 use std::alloc::Global;
-use xfs_bank::BlockBank;
+use xfs_collections::BlockBank;
 use xfs_dirindex::layouts::INDEX_START;
 use xfs_dirindex::{DirSeen, IndexFault, check_block, check_leaf, check_node};
 use xfs_disk::NoMemory;

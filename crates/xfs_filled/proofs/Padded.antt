@@ -5,7 +5,7 @@ use Rattle.std.specs.List.{range_with_len}
 use Rattle.std.proofs.lemmas.Bool.{cases_lt}
 use Rattle.std.proofs.lemmas.List.{length-drop, length-replicate, length-take-le, drop-append-le, take-append-le}
 use Rattle.std.proofs.lemmas.Option.{get_or_from_slice_get}
-use Rattle.xfs_bank.proofs.Blocks.{length-blocks_of, slice_get-blocks_of}
+use Rattle.xfs_collections.proofs.Blocks.{length-blocks_of, slice_get-blocks_of}
 use Rattle.xfs_disk.specs.Memory.{blocks_of_bytes}
 use Rattle.xfs_word.specs.Field.{zeros}
 use Rattle.xfs_filled.specs.Contents.{content_block, content_blocks, part_at}

@@ -14,7 +14,7 @@ ghost use Rattle.xfs_filled.specs.Sites.{AreChunksPlaced};
 use crate::entries::{EntryList, list_entries};
 use crate::numbers::number_of;
 use std::alloc::Global;
-use xfs_bank::BlockBank;
+use xfs_collections::BlockBank;
 use xfs_dirbuild::{DirImage, build};
 use xfs_dirdata::EntryRec;
 use xfs_disk::{NoMemory, Word};

@@ -16,7 +16,7 @@ use std::sync::ledger::Ledger;
 use std::thread::Threads;
 use xfs_disk::{Disk, Gate};
 use xfs_geom::Geometry;
-use xfs_runs::Steps;
+use xfs_collections::Steps;
 use xfs_tree::Kind;
 
 /// Reads all levels of trees, from those that they stand at.

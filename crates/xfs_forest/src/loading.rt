@@ -3,7 +3,7 @@
 ghost use Rattle.std.specs.Prelude.{◌≡◌, ◌+◌, ◌<◌, ◌≤◌, length, IfOk};
 ghost use Rattle.std.specs.List.{All};
 ghost use Rattle.std.specs.Option.{ForSome};
-ghost use Rattle.xfs_bank.specs.Bank.{blocks_at};
+ghost use Rattle.xfs_collections.specs.Bank.{blocks_at};
 ghost use Rattle.xfs_disk.specs.Reads.{OnlyReads};
 ghost use Rattle.xfs_forest.specs.Causes.{HasForestCause};
 ghost use Rattle.xfs_forest.specs.Forest.{cell_places};
@@ -12,9 +12,9 @@ use crate::cells::Cell;
 use crate::faults::ForestFault;
 use std::alloc::Global;
 use std::sync::ledger::Ledger;
-use xfs_bank::BlockBank;
+use xfs_collections::BlockBank;
 use xfs_disk::{Disk, Failed, NoMemory};
-use xfs_runs::Steps;
+use xfs_collections::Steps;
 
 /// Reads the blocks of a round in ascending order, each once. Each counts as a step, also where the read fails.
 pub(crate) fn load_round<D: Disk, L: Ledger>(

@@ -9,7 +9,7 @@ use crate::plants::Plant;
 use std::alloc::Global;
 use std::thread;
 use std::thread::Threads;
-use xfs_bank::BlockBank;
+use xfs_collections::BlockBank;
 use xfs_disk::Gate;
 use xfs_geom::Geometry;
 use xfs_tree::{Kind, read_step};

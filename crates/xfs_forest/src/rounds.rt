@@ -2,7 +2,7 @@
 
 ghost use Rattle.std.specs.Prelude.{◌≡◌, ◌+◌, ◌≤◌, [], length, OnOk};
 ghost use Rattle.std.specs.Option.{ForSome};
-ghost use Rattle.xfs_bank.specs.Bank.{blocks_at};
+ghost use Rattle.xfs_collections.specs.Bank.{blocks_at};
 ghost use Rattle.xfs_disk.specs.Blocks.{Image};
 ghost use Rattle.xfs_disk.specs.Reads.{OnlyReads};
 ghost use Rattle.xfs_geom.specs.Volumes.{volume_of};
@@ -19,10 +19,10 @@ use crate::plants::Plant;
 use std::alloc::Global;
 use std::sync::ledger::Ledger;
 use std::thread::Threads;
-use xfs_bank::BlockBank;
+use xfs_collections::BlockBank;
 use xfs_disk::{Disk, Gate, NoMemory};
 use xfs_geom::Geometry;
-use xfs_runs::Steps;
+use xfs_collections::Steps;
 use xfs_tree::Kind;
 
 /// Reads the blocks of a round in order, judges them in pieces, and joins them to their trees. Then the round has no block.

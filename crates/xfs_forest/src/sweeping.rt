@@ -22,7 +22,7 @@ use std::sync::ledger::Ledger;
 use std::thread::Threads;
 use xfs_disk::{Disk, Gate, NoMemory};
 use xfs_geom::Geometry;
-use xfs_runs::Steps;
+use xfs_collections::Steps;
 use xfs_tree::Kind;
 
 /// The blocks of a round for each worker.

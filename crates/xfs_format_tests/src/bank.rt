@@ -1,14 +1,14 @@
 //! A bank filled from a disk of three blocks, and worked on in parts.
 
 ghost use Rattle.std.specs.Prelude.{◌≡◌, ◌<◌, length};
-ghost use Rattle.xfs_bank.specs.Bank.{AreCuts};
+ghost use Rattle.xfs_collections.specs.Bank.{AreCuts};
 
 use crate::checks::{equal, equal_at, must, sure};
 use crate::text::{Row, part_at, part_count, refuse};
 use std::alloc::Global;
 use std::process::Abort;
 use std::thread::Threads;
-use xfs_bank::*;
+use xfs_collections::*;
 use xfs_disk::{Disk, Failed};
 use xfs_memory::MemoryDisk;
 

@@ -10,7 +10,7 @@ use crate::dirindex::{assert_ascending, check};
 use crate::text::{Row, line_at, line_count, part_at, part_count, tells};
 use std::alloc::{AllocError, Global};
 use std::process::Abort;
-use xfs_bank::BlockBank;
+use xfs_collections::BlockBank;
 use xfs_dirbuild::*;
 use xfs_dirdata::{EntryRec, read_data};
 use xfs_dirindex::DirSeen;

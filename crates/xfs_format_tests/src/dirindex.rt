@@ -7,7 +7,7 @@ use crate::checks::{must, sure};
 use crate::text::{Row, line_at, line_count, part_at, part_count, tells};
 use std::alloc::Global;
 use std::process::Abort;
-use xfs_bank::BlockBank;
+use xfs_collections::BlockBank;
 use xfs_dirindex::*;
 
 /// Data block 0 with `.`, `..` and `a`, and data block 3 with `b` and `c`, as mapped blocks 0 and 1. In each line stand

@@ -16,7 +16,7 @@ use xfs_disk::{Disk, Stamp, Word};
 use xfs_geom::Geometry;
 use xfs_inode::*;
 use xfs_inodebuild::*;
-use xfs_runs::Steps;
+use xfs_collections::Steps;
 use xfs_volume::Core;
 use xfs_word::{get8, put_part, seal, sealed, stored_checksum};
 

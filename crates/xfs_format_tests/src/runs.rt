@@ -10,7 +10,7 @@ use std::mem;
 use std::process::Abort;
 use std::sync::ledger::{Blank, Ledger};
 use xfs_disk::NoMemory;
-use xfs_runs::*;
+use xfs_collections::*;
 
 /// The runs that are put into a set in turn: the first block, the number of blocks, and whether they meet what is there.
 const PUT: &str = "\

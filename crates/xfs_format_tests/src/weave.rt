@@ -2,7 +2,7 @@
 
 use crate::checks::equal;
 use crate::text::refuse;
-use xfs_weave::Weave;
+use xfs_collections::Weave;
 
 #[test]
 fn moves_a_node(rt: HostRuntime) {

@@ -24,7 +24,7 @@ use std::thread::Threads;
 use xfs_disk::{Disk, Gate, NoMemory};
 use xfs_geom::Geometry;
 use xfs_image::Finding;
-use xfs_runs::Steps;
+use xfs_collections::Steps;
 use xfs_volume::{Blocks, ClusterRec, GroupRec, Records};
 
 /// What is known of the blocks of one group.

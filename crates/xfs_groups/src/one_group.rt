@@ -29,7 +29,7 @@ use std::sync::ledger::Ledger;
 use xfs_disk::{Disk, NoMemory};
 use xfs_geom::Geometry;
 use xfs_image::Finding;
-use xfs_runs::Steps;
+use xfs_collections::Steps;
 use xfs_volume::{ClusterRec, GroupRec};
 
 /// A group, its clusters whose slots are read, and its reserved blocks.

@@ -18,7 +18,7 @@ use std::alloc::Global;
 use std::sync::ledger::Ledger;
 use xfs_disk::{Disk, Failed, NoMemory};
 use xfs_geom::Geometry;
-use xfs_runs::Steps;
+use xfs_collections::Steps;
 use xfs_volume::ClusterRec;
 
 /// The clusters of a group whose slots are read, and the blocks of it on which nothing new is placed.

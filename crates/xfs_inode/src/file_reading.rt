@@ -22,7 +22,7 @@ use std::sync::ledger::Ledger;
 use xfs_disk::{BLOCK_SIZE, Disk, Failed, NoMemory};
 use xfs_geom::Geometry;
 use xfs_kinds::Bmbt;
-use xfs_runs::Steps;
+use xfs_collections::Steps;
 use xfs_tree::{Frontier, Tree, TreeFault, read_below};
 
 /// What the slot of an inode, of 512 bytes, reads as with the blocks of the disk that it names (chapter "On-disk

@@ -19,7 +19,7 @@ use std::sync::ledger::Ledger;
 use xfs_disk::{BLOCK_SIZE, Disk, Failed, NoMemory};
 use xfs_geom::Geometry;
 use xfs_heads::{LogState, SectorSeen, log_state, see_sector};
-use xfs_runs::Steps;
+use xfs_collections::Steps;
 use xfs_word::part;
 
 /// The bytes of a sector, and the sectors of a block.

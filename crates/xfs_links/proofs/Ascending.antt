@@ -2,7 +2,7 @@
 use Rattle.std.proofs.Common.{◌≡◌, ℕ, ◌+◌, ◌≤◌, ◌==◌, inl, inr, Bool, true, false, cond, List, [], ◌∷◌, map, refl, arith}
 use Rattle.std.specs.List.{filter}
 use Rattle.std.proofs.lemmas.Bool.{cases_eq}
-use Rattle.xfs_weave.specs.Lists.{has_node, AreOnce}
+use Rattle.xfs_collections.specs.Lists.{has_node, AreOnce}
 use Rattle.xfs_volume.specs.declared.files.FileRec.{FileRec}
 use Rattle.xfs_naming.specs.Naming.{NumbersAscend}
 use Rattle.xfs_links.specs.declared.records.NodeRec.{NodeRec}

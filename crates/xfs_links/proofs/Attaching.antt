@@ -6,7 +6,7 @@ use Rattle.std.proofs.lemmas.Bool.Decides.{nat_tests}
 use Rattle.std.proofs.lemmas.List.{get_or-set_other, get_or-set_same, drop_more, get_or_default}
 use Rattle.std.proofs.Math.ListN.{length-set, length-map, get_or-map}
 use Rattle.std.proofs.lemmas.List.Folds.{list_any-append}
-use Rattle.xfs_weave.specs.Lists.{Woven, has_node, without, list_at, put_last, taken_off}
+use Rattle.xfs_collections.specs.Lists.{Woven, has_node, without, list_at, put_last, taken_off}
 use Rattle.xfs_links.specs.declared.records.NodeRec.{NodeRec}
 use Rattle.xfs_links.specs.declared.candidates.Candidate.{Candidate}
 use Rattle.xfs_links.specs.declared.walk.Attached.{Attached}

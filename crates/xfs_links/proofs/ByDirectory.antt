@@ -7,7 +7,7 @@ use Rattle.std.proofs.lemmas.List.Elements.{All-nil, All-cons, All-head, All-tai
 use Rattle.std.proofs.lemmas.List.Folds.{list_any-append, list_any-from_Any}
 use Rattle.std.proofs.lemmas.List.Kept.{AllPairs-cons, AllPairs-filter}
 use Rattle.std.proofs.Math.ListN.{length-map}
-use Rattle.xfs_weave.specs.Lists.{has_node, AreOnce}
+use Rattle.xfs_collections.specs.Lists.{has_node, AreOnce}
 use Rattle.xfs_dirdata.specs.declared.records.EntryRec.{EntryRec}
 use Rattle.xfs_naming.specs.Naming.{entries_in, entries_to}
 use Rattle.xfs_naming.specs.Lawful.IsReached.{at_root, by_entry}

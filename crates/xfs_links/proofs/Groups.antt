@@ -7,7 +7,7 @@ use Rattle.std.proofs.lemmas.Bool.Decides.{nat_tests}
 use Rattle.std.proofs.lemmas.List.Elements.{filter-append, All-filter}
 use Rattle.std.proofs.lemmas.List.{get_or-drop, map-append}
 use Rattle.std.proofs.Common.{length-drop}
-use Rattle.xfs_weave.specs.Lists.{has_node, AreOnce, without}
+use Rattle.xfs_collections.specs.Lists.{has_node, AreOnce, without}
 use Rattle.xfs_links.specs.declared.candidates.Candidate.{Candidate}
 use Rattle.xfs_links.specs.Places.{candidates_at}
 

@@ -5,7 +5,7 @@ use Rattle.std.proofs.lemmas.Bool.{cases_eq}
 use Rattle.std.proofs.lemmas.Bool.Decides.{nat_tests}
 use Rattle.std.proofs.lemmas.List.Folds.{list_any-append}
 use Rattle.std.proofs.lemmas.List.Elements.{All-head, All-tail}
-use Rattle.xfs_weave.specs.Lists.{has_node}
+use Rattle.xfs_collections.specs.Lists.{has_node}
 use Rattle.xfs_dirdata.specs.declared.records.EntryRec.{EntryRec}
 use Rattle.xfs_naming.specs.Naming.{entries_to}
 use Rattle.xfs_links.specs.declared.records.NodeRec.{NodeRec}

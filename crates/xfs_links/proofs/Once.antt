@@ -5,7 +5,7 @@ use Rattle.std.proofs.lemmas.Bool.{cases_eq}
 use Rattle.std.proofs.lemmas.Bool.Decides.{nat_tests}
 use Rattle.std.proofs.lemmas.List.Elements.{All-head, All-tail, filter-append}
 use Rattle.std.proofs.lemmas.List.Folds.{list_any-append}
-use Rattle.xfs_weave.specs.Lists.{has_node, AreOnce}
+use Rattle.xfs_collections.specs.Lists.{has_node, AreOnce}
 use Rattle.xfs_dirdata.specs.declared.records.EntryRec.{EntryRec}
 use Rattle.xfs_volume.specs.Names.{is_name}
 use Rattle.xfs_naming.specs.Naming.{entries_to}

@@ -4,7 +4,7 @@ use Rattle.std.specs.List.{filter, All, range_with_len}
 use Rattle.std.proofs.lemmas.Bool.{cases_eq, cases_Bool}
 use Rattle.std.proofs.lemmas.Bool.Decides.{nat_tests}
 use Rattle.std.proofs.lemmas.List.Folds.{list_any-append}
-use Rattle.xfs_weave.specs.Lists.{Woven, has_node, AreOnce, list_at}
+use Rattle.xfs_collections.specs.Lists.{Woven, has_node, AreOnce, list_at}
 use Rattle.xfs_links.specs.declared.records.NodeRec.{NodeRec}
 use Rattle.xfs_links.specs.declared.candidates.Candidate.{Candidate}
 use Rattle.xfs_links.specs.Entries.{is_directory_at_place}

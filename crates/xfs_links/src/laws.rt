@@ -2,7 +2,7 @@
 
 ghost use Rattle.std.specs.Prelude.{◌≡◌, ℕ, ◌+◌, [], map, length, true, not};
 ghost use Rattle.std.specs.List.{All, filter};
-ghost use Rattle.xfs_weave.specs.Lists.{AreOnce};
+ghost use Rattle.xfs_collections.specs.Lists.{AreOnce};
 ghost use Rattle.xfs_links.specs.Entries.{passes, candidate_entries, is_directory_number};
 ghost use Rattle.xfs_links.specs.Walk.{is_attached, walk};
 ghost use Rattle.xfs_links.specs.Connected.{named_by, directory_numbers, starts, staying, attached_directories, kept_entries};

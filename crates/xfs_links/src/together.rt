@@ -2,7 +2,7 @@
 
 ghost use Rattle.std.specs.Prelude.{◌≡◌, ◌≢◌, ◌<◌, ◌==◌, ◌&&◌, ◌||◌, ◌^◌, ℕ, [], map, length, true, false, List, Some, None, AllPairs};
 ghost use Rattle.std.specs.List.{All};
-ghost use Rattle.xfs_weave.specs.Lists.{AreOnce};
+ghost use Rattle.xfs_collections.specs.Lists.{AreOnce};
 ghost use Rattle.xfs_dirdata.specs.declared.records.EntryRec.{EntryRec};
 ghost use Rattle.xfs_volume.specs.Names.{is_name};
 ghost use Rattle.xfs_naming.specs.Lawful.{IsReached};

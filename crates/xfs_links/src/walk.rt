@@ -3,7 +3,7 @@
 ghost use Rattle.std.specs.Prelude.{◌≡◌, ℕ, ◌<◌, ◌≤◌, ◌^◌, ◌+◌, ◌==◌, ◌&&◌, not, true, false, List, [], ◌∷◌, ◌++◌, map, length, IfOk, OnOk, Option, None, Some, IfSome, nat_lt, if◌then◌else◌, slice_index_or, count_by};
 ghost use Rattle.std.specs.List.{All, filter, list_any, range_with_len};
 ghost use Rattle.std.specs.List.Sorted.{IsNonDecreasingBy};
-ghost use Rattle.xfs_weave.specs.Lists.{has_node, list_at, AreOnce};
+ghost use Rattle.xfs_collections.specs.Lists.{has_node, list_at, AreOnce};
 ghost use Rattle.xfs_links.specs.Entries.{is_directory_at_place};
 ghost use Rattle.xfs_links.specs.Walk.{is_attached, see_all, turn_at, attached_at, begin as begun, walk as walked, attached_parent};
 ghost use Rattle.xfs_links.specs.Places.{targets, candidates_at as group_at, named_at, is_target, starts_at, are_equal, IsSteady};
@@ -13,7 +13,7 @@ use crate::lookup::is_directory_at_place;
 use crate::records::{DIRECTORY, NodeRec};
 use std::alloc::Global;
 use xfs_disk::NoMemory;
-use xfs_weave::Weave;
+use xfs_collections::Weave;
 
 /// A directory that is attached.
 #[derive(Clone, Copy)]

@@ -22,7 +22,7 @@ use xfs_disk::{Disk, Gate, Stamp};
 use xfs_geom::Elected;
 use xfs_rebuild::{BoxedNames, RebuildFault, Rebuilt, plan_rebuild};
 use xfs_rename::{Renamed, plan_names};
-use xfs_runs::Steps;
+use xfs_collections::Steps;
 use xfs_scan::Evidence;
 use xfs_writing::write_parts;
 

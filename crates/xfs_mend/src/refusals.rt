@@ -22,7 +22,7 @@ use xfs_disk::{Disk, Gate};
 use xfs_geom::Geometry;
 use xfs_heads::LogState;
 use xfs_journal::{JournalFault, read_log};
-use xfs_runs::Steps;
+use xfs_collections::Steps;
 use xfs_scan::{Evidence, ScanFault, gather};
 
 /// What a repair of the volume goes by; or the answer, by the first cause for which it is not looked at further: its log is not clean, it

@@ -3,7 +3,7 @@
 ghost use Rattle.std.specs.Prelude.{◌≡◌, ◌≤◌, ◌^◌, length, true, map, IfOk, if◌then◌else◌};
 ghost use Rattle.std.specs.List.{All};
 ghost use Rattle.std.specs.List.Sorted.{IsNonDecreasingBy};
-ghost use Rattle.xfs_weave.specs.Lists.{has_node};
+ghost use Rattle.xfs_collections.specs.Lists.{has_node};
 ghost use Rattle.xfs_dirdata.specs.declared.records.EntryRec.{EntryRec};
 ghost use Rattle.xfs_links.specs.Entries.{NodesAscend};
 ghost use Rattle.xfs_links.specs.Connected.{directory_numbers};

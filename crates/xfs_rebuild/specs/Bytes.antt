@@ -1,7 +1,7 @@
 -- What the blocks of a rebuilt volume are made of, by what was read of the disk and what was at hand.
 use Rattle.std.specs.Prelude.{◌≡◌, ℕ, Bool, ◌==◌, not, ◌<◌, ◌≤◌, ◌^◌, List, [], length, map, filter, Option, MatchOption}
 use Rattle.std.specs.List.{All}
-use Rattle.xfs_bank.specs.Bank.{blocks_at}
+use Rattle.xfs_collections.specs.Bank.{blocks_at}
 use Rattle.xfs_disk.specs.Blocks.{Image}
 use Rattle.xfs_disk.specs.declared.stamp.Stamp.{Stamp}
 use Rattle.xfs_geom.specs.Volumes.{Volume, volume_of}

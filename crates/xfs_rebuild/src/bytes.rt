@@ -4,7 +4,7 @@ ghost use Rattle.std.specs.Prelude.{◌≡◌, ◌+◌, ◌<◌, ◌≤◌, [], 
 ghost use Rattle.std.specs.List.{All};
 ghost use Rattle.std.specs.List.Sorted.{IsNonDecreasingBy};
 ghost use Rattle.std.specs.Option.{ForSome};
-ghost use Rattle.xfs_bank.specs.Bank.{blocks_at};
+ghost use Rattle.xfs_collections.specs.Bank.{blocks_at};
 ghost use Rattle.xfs_disk.specs.Reads.{OnlyReads};
 ghost use Rattle.xfs_geom.specs.Volumes.{volume_of};
 ghost use Rattle.xfs_naming.specs.Naming.{NumbersAscend};
@@ -26,7 +26,7 @@ use xfs_heads::LogState;
 use xfs_journal::{JournalFault, read_lsns};
 use xfs_render::{Bytes, SlotWanted};
 use xfs_request::{SlotSeen, due_cycle, kept_lsns};
-use xfs_runs::Steps;
+use xfs_collections::Steps;
 use xfs_salvage::Salvaged;
 use xfs_shared::BlockList;
 use xfs_volume::{BlockLsn, FileRec, Records};

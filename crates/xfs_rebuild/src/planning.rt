@@ -31,7 +31,7 @@ use xfs_disk::{Disk, Gate, NoMemory, Stamp};
 use xfs_geom::Elected;
 use xfs_heads::LogState;
 use xfs_request::{Request, SlotSeen, ask};
-use xfs_runs::Steps;
+use xfs_collections::Steps;
 use xfs_salvage::{Salvaged, salvage};
 use xfs_scan::Evidence;
 use xfs_shared::BlockList;

@@ -34,7 +34,7 @@ use xfs_rebuild::{
     BoxedNames, NamesDue, RebuildFault, Rebuilt, gather_bytes, kept_numbers, plan_placed,
 };
 use xfs_render::{Bytes, SlotBase, SlotWanted, chunks_are_few};
-use xfs_runs::Steps;
+use xfs_collections::Steps;
 use xfs_salvage::Salvaged;
 use xfs_shared::BlockList;
 use xfs_volume::Records;

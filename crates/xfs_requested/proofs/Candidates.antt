@@ -19,7 +19,7 @@ use Rattle.xfs_inode.specs.declared.claims.BlockRange as Claimed
 use Rattle.xfs_inode.specs.declared.files.FileRead.{FileRead}
 use Rattle.xfs_inode.specs.declared.files.FileRead.TheVariants as Reads
 use Rattle.xfs_inode.proofs.Sound.{always_sound}
-use Rattle.xfs_runs.specs.Blocks.{is_in}
+use Rattle.xfs_collections.specs.Blocks.{is_in}
 use Rattle.xfs_tree.specs.Rules.{are_lawful}
 use Rattle.xfs_kinds.specs.FileTrees.{bmbt_shape, follows_offset, is_extent}
 use Rattle.xfs_volume.specs.declared.clusters.ClusterRec.{ClusterRec}

@@ -3,7 +3,7 @@ use Rattle.std.proofs.Common.{◌≡◌, ℕ, ◌+◌, ◌≤◌, Bool, true, fa
 use Rattle.std.specs.List.{All}
 use Rattle.std.proofs.lemmas.List.Elements.{All-cons, All-nil}
 use Rattle.xfs_disk.specs.Lists.{with_number}
-use Rattle.xfs_runs.specs.Blocks.{meets}
+use Rattle.xfs_collections.specs.Blocks.{meets}
 use Rattle.xfs_geom.specs.Volumes.{Volume}
 use Rattle.xfs_volume.specs.declared.clusters.ClusterRec.{ClusterRec}
 use Rattle.xfs_volume.specs.declared.files.FileRec.{FileRec}

@@ -10,8 +10,8 @@ use Rattle.xfs_geom.specs.Groups.{block_of_address}
 use Rattle.xfs_geom.specs.Volumes.{Volume, volume_of}
 use Rattle.xfs_geom.specs.declared.geometry.Geometry.{Geometry}
 use Rattle.xfs_geom.specs.declared.records.Run.{Run}
-use Rattle.xfs_runs.specs.Blocks.{is_in, meets}
-use Rattle.xfs_runs.proofs.Meeting.{meets_none}
+use Rattle.xfs_collections.specs.Blocks.{is_in, meets}
+use Rattle.xfs_collections.proofs.Meeting.{meets_none}
 use Rattle.xfs_space.proofs.FreeSpans.{group_short}
 use Rattle.xfs_space.proofs.RecordedMaps.{group_inside}
 use Rattle.xfs_volume.specs.declared.clusters.ClusterRec.{ClusterRec}

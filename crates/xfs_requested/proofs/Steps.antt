@@ -5,7 +5,7 @@ use Rattle.std.proofs.lemmas.Bool.{eq-eqb, eqb-false, ne_eqb, or_cases, or_from,
 use Rattle.std.proofs.lemmas.List.{append_assoc}
 use Rattle.std.proofs.lemmas.List.Folds.{list_any-append}
 use Rattle.xfs_disk.specs.Lists.{is_in_range, is_among, with_number}
-use Rattle.xfs_runs.specs.Blocks.{run_has, is_in, meets}
+use Rattle.xfs_collections.specs.Blocks.{run_has, is_in, meets}
 use Rattle.xfs_claims.specs.declared.claimants.FileClaim.{FileClaim}
 use Rattle.xfs_claims.specs.Keeping.{Holding, cluster_span, fixed_alone, is_kept, with_cluster, with_clusters, with_file, with_files}
 use Rattle.xfs_claims.specs.Spans.{meets_any, spans_of, with_blocks}

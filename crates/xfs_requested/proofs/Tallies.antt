@@ -4,8 +4,8 @@ use Rattle.std.specs.List.{AllByRecursion, filter, list_all, list_any}
 use Rattle.std.proofs.lemmas.Bool.{and_from, and_parts, both_ways, cases_order, cond-true, eq-eqb, eqb-false, eqb-true, false_from_ne_true, false≢true, le-leb, leb-true, lt-ltb, ltb-true, ne_eqb, not-true, or_cases, or_left, or_parts}
 use Rattle.std.proofs.lemmas.Bool.Decides.{nat_tests}
 use Rattle.xfs_disk.specs.Lists.{is_in_range, is_among, with_number}
-use Rattle.xfs_runs.specs.Blocks.{run_has, is_in, meets}
-use Rattle.xfs_runs.proofs.Meeting.{unmet}
+use Rattle.xfs_collections.specs.Blocks.{run_has, is_in, meets}
+use Rattle.xfs_collections.proofs.Meeting.{unmet}
 use Rattle.xfs_claims.specs.declared.claimants.Claims.{Claims}
 use Rattle.xfs_claims.specs.declared.claimants.FileClaim.{FileClaim}
 use Rattle.xfs_claims.specs.Keeping.{Holding, cluster_span, fixed_alone, is_kept, kept_of, with_cluster, with_clusters, with_file, with_files}

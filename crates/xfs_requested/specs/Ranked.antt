@@ -2,7 +2,7 @@
 use Rattle.std.specs.Prelude.{◌≡◌, ℕ, Bool, true, false, not, ◌&&◌, ◌||◌, ◌==◌, List, ◌∷◌, ◌++◌, map}
 use Rattle.std.specs.List.{list_any}
 use Rattle.xfs_disk.specs.Lists.{is_among}
-use Rattle.xfs_runs.specs.Blocks.{is_in}
+use Rattle.xfs_collections.specs.Blocks.{is_in}
 use Rattle.xfs_claims.specs.declared.claimants.Claims.{Claims}
 use Rattle.xfs_claims.specs.declared.claimants.FileClaim.{FileClaim}
 use Rattle.xfs_claims.specs.Keeping.{Holding, cluster_span}

@@ -1,7 +1,7 @@
 //! Laws about the rank of claims. Each function does nothing; its contract is the law.
 
 ghost use Rattle.std.specs.Prelude.{◌≡◌, true};
-ghost use Rattle.xfs_runs.specs.Blocks.{is_in};
+ghost use Rattle.xfs_collections.specs.Blocks.{is_in};
 ghost use Rattle.xfs_claims.specs.Keeping.{kept_of};
 ghost use Rattle.xfs_claims.specs.Ranks.{AreDifferent, first_block, claimed_number, is_recorded_cluster};
 ghost use Rattle.xfs_claims.specs.Spans.{spans_of};

@@ -8,7 +8,7 @@ use Rattle.std.proofs.lemmas.List.Sums.{length-filter}
 use Rattle.std.proofs.lemmas.Slice.Eq.{bytes_eq-Decides}
 use Rattle.std.proofs.Math.ListN.{length-map}
 use Rattle.std.specs.Str.{bytes_eq}
-use Rattle.xfs_weave.specs.Lists.{has_node}
+use Rattle.xfs_collections.specs.Lists.{has_node}
 use Rattle.xfs_disk.specs.Lists.{is_among}
 use Rattle.xfs_dirdata.specs.declared.records.EntryRec.{EntryRec}
 use Rattle.xfs_volume.specs.Names.{entry_type, type_of}

@@ -8,7 +8,7 @@ use Rattle.xfs_geom.specs.Volumes.{Volume, volume_of}
 use Rattle.xfs_geom.specs.declared.geometry.Geometry.{Geometry}
 use Rattle.xfs_inode.specs.declared.files.FileRead.{FileRead}
 use Rattle.xfs_inode.specs.declared.files.FileRead.TheVariants as Reads
-use Rattle.xfs_runs.specs.Blocks.{meets}
+use Rattle.xfs_collections.specs.Blocks.{meets}
 use Rattle.xfs_claims.specs.declared.claimants.FileClaim.{FileClaim}
 use Rattle.xfs_claims.specs.declared.claimants.Claims.{Claims}
 use Rattle.xfs_claims.specs.Keeping.{Holding, cluster_span, fixed_alone, is_kept, with_cluster, with_clusters, with_file, with_files}

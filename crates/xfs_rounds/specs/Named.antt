@@ -1,7 +1,7 @@
 -- The slots of a round that name other blocks, and these blocks as they were read (chapter "On-disk Inode").
 use Rattle.std.specs.Prelude.{◌≡◌, ℕ, ◌<◌, List, [], ◌∷◌, ◌++◌, IfOk, length, map, slice_get, slice_index_or, Option, Some, None, Result}
 use Rattle.std.specs.List.{All, range_with_len}
-use Rattle.xfs_bank.specs.Bank.{blocks_at}
+use Rattle.xfs_collections.specs.Bank.{blocks_at}
 use Rattle.xfs_disk.specs.Blocks.{Image}
 use Rattle.xfs_forest.specs.Forest.{contents_of}
 use Rattle.xfs_forest.specs.declared.plants.Plant.{Plant}

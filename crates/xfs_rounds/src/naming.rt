@@ -11,7 +11,7 @@ use crate::judging::{SlotFile, SlotPart};
 use crate::named::{NamedSlots, NamingSlot};
 use crate::pieces::BlockParts;
 use std::alloc::Global;
-use xfs_bank::BlockBank;
+use xfs_collections::BlockBank;
 use xfs_disk::NoMemory;
 use xfs_geom::Geometry;
 use xfs_inode::{SlotRead, needs_of};

@@ -9,7 +9,7 @@ use crate::judging::{SlotPart, judge_block};
 use std::alloc::Global;
 use std::thread;
 use std::thread::Threads;
-use xfs_bank::BlockBank;
+use xfs_collections::BlockBank;
 use xfs_disk::{Gate, NoMemory};
 use xfs_geom::Geometry;
 

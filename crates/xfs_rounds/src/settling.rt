@@ -14,7 +14,7 @@ use crate::pieces::{BlockParts, piece_size};
 use std::alloc::Global;
 use std::thread;
 use std::thread::Threads;
-use xfs_bank::BlockBank;
+use xfs_collections::BlockBank;
 use xfs_disk::{Gate, NoMemory};
 use xfs_geom::Geometry;
 use xfs_inode::{FileRead, decide_read};

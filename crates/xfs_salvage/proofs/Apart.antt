@@ -5,8 +5,8 @@ use Rattle.std.proofs.lemmas.Bool.{and_from, both_ways, cases_lt, le-leb, lt-ltb
 use Rattle.std.proofs.lemmas.List.Elements.{All-drop, recursion_from_All}
 use Rattle.xfs_disk.specs.Lists.{is_in_range}
 use Rattle.xfs_geom.specs.declared.records.Run.{Run}
-use Rattle.xfs_runs.specs.Blocks.{is_in, meets}
-use Rattle.xfs_runs.proofs.Meeting.{meets_none, unmet}
+use Rattle.xfs_collections.specs.Blocks.{is_in, meets}
+use Rattle.xfs_collections.proofs.Meeting.{meets_none, unmet}
 use Rattle.xfs_claims.specs.Spans.{SpansApart, IsRun, spans_apart, meets_any, span_pair, spans_of}
 use Rattle.xfs_claims.proofs.Gathered.{Taking, no_run, spans_next, taking_next}
 use Rattle.xfs_claims.proofs.Steady.{none_met}

@@ -7,7 +7,7 @@ use Rattle.std.proofs.lemmas.Bool.{cases_lt, cases_order, eq-eqb, ne_eqb, or_fro
 use Rattle.std.proofs.lemmas.Bool.Decides.{nat_tests}
 use Rattle.std.proofs.lemmas.List.Sorted.{searched}
 use Rattle.xfs_disk.specs.Lists.{is_among, with_number}
-use Rattle.xfs_runs.specs.Blocks.{meets}
+use Rattle.xfs_collections.specs.Blocks.{meets}
 use Rattle.xfs_geom.specs.Volumes.{Volume}
 use Rattle.xfs_volume.specs.declared.files.FileRec.{FileRec}
 use Rattle.xfs_naming.specs.Naming.{NumbersAscend, numbers_of}

@@ -17,7 +17,7 @@ use std::sync::ledger::Ledger;
 use xfs_claims::{Claims, FileClaim};
 use xfs_disk::NoMemory;
 use xfs_geom::{Geometry, Run};
-use xfs_runs::Steps;
+use xfs_collections::Steps;
 use xfs_volume::{ClusterRec, FileRec, Records};
 
 /// The owner of a group's headers. The owners that are no inode are below 0, in two's complement.

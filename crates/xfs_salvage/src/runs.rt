@@ -14,7 +14,7 @@ use std::alloc::Global;
 use std::sync::ledger::Ledger;
 use xfs_disk::NoMemory;
 use xfs_geom::{Geometry, Run};
-use xfs_runs::{RunSet, Steps};
+use xfs_collections::{RunSet, Steps};
 use xfs_volume::FileRec;
 use xfs_word::Extent;
 

@@ -27,7 +27,7 @@ use xfs_groups::{GroupTrees, Groups, GroupsFault, see_groups};
 use xfs_heads::LogState;
 use xfs_journal::{JournalFault, read_log};
 use xfs_rounds::SlotFact;
-use xfs_runs::Steps;
+use xfs_collections::Steps;
 use xfs_slots::Inodes;
 use xfs_volume::{Blocks, ClusterRec, Records};
 

@@ -18,7 +18,7 @@ use std::thread::Threads;
 use xfs_disk::{Disk, Gate, NoMemory};
 use xfs_geom::Geometry;
 use xfs_rounds::{RoundFault, SlotFact, judge_round, load_round, settle_round};
-use xfs_runs::Steps;
+use xfs_collections::Steps;
 use xfs_slots::{Inodes, PartFault, blocks_of_candidates, take_round};
 use xfs_volume::ClusterRec;
 

@@ -33,7 +33,7 @@ use xfs_heads::LogState;
 use xfs_image::Finding;
 use xfs_journal::{JournalFault, read_lsns};
 use xfs_rounds::SlotFact;
-use xfs_runs::Steps;
+use xfs_collections::Steps;
 use xfs_slots::{Inodes, PartFault, blocks_of, clusters_of, see_block};
 use xfs_volume::{Catalog, ClusterRec, GroupRec, Records};
 use xfs_word::get64;

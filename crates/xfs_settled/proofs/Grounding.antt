@@ -1,7 +1,7 @@
 -- What an image gives a rebuild to go by is one, and so are the bytes at hand.
 use Rattle.std.proofs.Common.{◌≡◌, ℕ, ◌++◌, List, [], ◌∷◌, refl, sym, ap, ◌∙◌}
 use Rattle.std.specs.List.{concat}
-use Rattle.xfs_bank.specs.Bank.{blocks_at}
+use Rattle.xfs_collections.specs.Bank.{blocks_at}
 use Rattle.xfs_disk.specs.Blocks.{Image}
 use Rattle.xfs_disk.specs.declared.stamp.Stamp.{Stamp}
 use Rattle.xfs_geom.specs.Volumes.{Volume, volume_of}

@@ -5,7 +5,7 @@ use Rattle.std.specs.List.{All}
 use Rattle.std.proofs.lemmas.List.{map-append, length-take-le, length-drop, replicate-append-replicate, take_more}
 use Rattle.std.proofs.lemmas.List.Elements.{All-append, All-cons, All-nil}
 use Rattle.std.proofs.lemmas.Option.{get_or_from_slice_get}
-use Rattle.xfs_bank.proofs.Blocks.{length-blocks_of, slice_get-blocks_of}
+use Rattle.xfs_collections.proofs.Blocks.{length-blocks_of, slice_get-blocks_of}
 use Rattle.xfs_disk.specs.Blocks.{Image}
 use Rattle.xfs_disk.specs.Memory.{blocks_of_bytes}
 use Rattle.xfs_shared.specs.Pieces.{HasBlock, block_of}

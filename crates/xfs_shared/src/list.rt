@@ -7,7 +7,7 @@ use crate::bytes::SharedBytes;
 use crate::piece::{Piece, block_of, share_piece};
 use std::alloc::Global;
 use std::marker::Model;
-use xfs_bank::BlockBank;
+use xfs_collections::BlockBank;
 use xfs_disk::{BLOCK_SIZE, NoMemory};
 
 /// Blocks of 4096 bytes, of which several may share their bytes. Contracts see the list of the blocks.

@@ -21,7 +21,7 @@ use xfs_disk::{Disk, NoMemory};
 use xfs_geom::Geometry;
 use xfs_inode::read_slot;
 use xfs_rounds::{SlotFact, SlotFile, SlotPart};
-use xfs_runs::Steps;
+use xfs_collections::Steps;
 use xfs_word::part;
 
 /// The slots of a block, and the bytes of a slot.

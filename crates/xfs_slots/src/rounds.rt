@@ -3,7 +3,7 @@
 ghost use Rattle.std.specs.Prelude.{◌≡◌, ◌+◌, ◌<◌, ◌≤◌, ◌++◌, ℕ, length, map, OnOk};
 ghost use Rattle.std.specs.List.{All};
 ghost use Rattle.std.specs.Option.{ForSome};
-ghost use Rattle.xfs_bank.specs.Bank.{blocks_at};
+ghost use Rattle.xfs_collections.specs.Bank.{blocks_at};
 ghost use Rattle.xfs_geom.specs.Volumes.{volume_of};
 ghost use Rattle.xfs_disk.specs.Reads.{OnlyReads};
 ghost use Rattle.xfs_image.specs.Slots.{inodes_of_block};
@@ -18,11 +18,11 @@ use crate::faults::PartFault;
 use crate::inodes::Inodes;
 use std::alloc::Global;
 use std::sync::ledger::Ledger;
-use xfs_bank::BlockBank;
+use xfs_collections::BlockBank;
 use xfs_disk::{Disk, NoMemory};
 use xfs_geom::Geometry;
 use xfs_rounds::{BlockParts, SlotFact};
-use xfs_runs::Steps;
+use xfs_collections::Steps;
 
 /// Takes up the slots of the blocks of a round, of which it is decided what they read as.
 pub fn take_round<D: Disk, L: Ledger>(

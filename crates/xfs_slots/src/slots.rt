@@ -20,7 +20,7 @@ use xfs_dirs::{DirFound, DirectoryFault, read_directory};
 use xfs_disk::{Disk, NoMemory};
 use xfs_geom::Geometry;
 use xfs_inode::{FileRead, InodeFault, SlotRead, read_file_of};
-use xfs_runs::Steps;
+use xfs_collections::Steps;
 use xfs_volume::{DirRec, FileRec};
 
 /// The type of a directory, in the upper four bits of a mode.

@@ -24,7 +24,7 @@ use std::alloc::Global;
 use std::sync::ledger::Ledger;
 use xfs_disk::{BLOCK_SIZE, Disk, Failed, NoMemory};
 use xfs_geom::Geometry;
-use xfs_runs::Steps;
+use xfs_collections::Steps;
 
 /// Reads and judges the nodes of a level, and gives the blocks of the level below.
 pub(crate) fn read_nodes<K: Kind, D: Disk, L: Ledger>(

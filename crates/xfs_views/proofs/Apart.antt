@@ -3,7 +3,7 @@ use Rattle.std.proofs.Common.{◌≡◌, ℕ, Bool, true, false, ◌+◌, inl, i
 use Rattle.std.specs.List.{list_all}
 use Rattle.std.proofs.lemmas.Bool.{and_parts, leb-true, ltb-true, or_cases, or_from}
 use Rattle.std.proofs.lemmas.Bool.Decides.{nat_tests}
-use Rattle.xfs_runs.specs.Blocks.{run_has, is_in}
+use Rattle.xfs_collections.specs.Blocks.{run_has, is_in}
 use Rattle.xfs_claims.specs.Spans.{spans_apart}
 use Rattle.xfs_image.specs.Claims.{AreDisjointSets}
 

@@ -7,7 +7,7 @@ use Rattle.xfs_disk.specs.Blocks.{Image}
 use Rattle.xfs_word.specs.declared.extents.Extent.{Extent}
 use Rattle.xfs_geom.specs.Volumes.{Volume}
 use Rattle.xfs_geom.specs.declared.records.Run.{Run}
-use Rattle.xfs_runs.specs.Blocks.{is_in}
+use Rattle.xfs_collections.specs.Blocks.{is_in}
 use Rattle.xfs_inode.specs.Files.{range_of, range_of_block}
 use Rattle.xfs_volume.specs.declared.files.FileRec.{FileRec}
 use Rattle.xfs_space.specs.Owners.{attribute_flag, runs_of_blocks, extent_run, file_runs, tree_flag}

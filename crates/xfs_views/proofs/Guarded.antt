@@ -4,7 +4,7 @@ use Rattle.std.specs.List.{AllByRecursion, filter}
 use Rattle.std.proofs.lemmas.Bool.{and_from, and_parts, cases_eq, eqb-true, false≢true, leb-true, ltb-true, ne_eqb, not_from_false, or_cases, or_parts}
 use Rattle.std.proofs.lemmas.Bool.Decides.{nat_tests}
 use Rattle.xfs_disk.specs.Lists.{is_among}
-use Rattle.xfs_runs.specs.Blocks.{is_in}
+use Rattle.xfs_collections.specs.Blocks.{is_in}
 use Rattle.xfs_volume.specs.declared.clusters.ClusterRec.{ClusterRec}
 use Rattle.xfs_claims.specs.declared.claimants.Claims.{Claims}
 use Rattle.xfs_claims.specs.declared.claimants.FileClaim.{FileClaim}

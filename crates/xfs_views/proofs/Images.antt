@@ -9,7 +9,7 @@ use Rattle.xfs_geom.specs.Conversions.{group_length, inode_of, is_fixed}
 use Rattle.xfs_geom.specs.Volumes.{Volume, volume_of}
 use Rattle.xfs_geom.specs.declared.geometry.Geometry.{Geometry}
 use Rattle.xfs_geom.specs.declared.records.Run.{Run}
-use Rattle.xfs_runs.specs.Blocks.{is_in}
+use Rattle.xfs_collections.specs.Blocks.{is_in}
 use Rattle.xfs_inode.specs.declared.files.FileRead.{FileRead}
 use Rattle.xfs_inode.specs.declared.files.FileRead.TheVariants as Reads
 use Rattle.xfs_volume.specs.declared.clusters.ClusterRec.{ClusterRec}

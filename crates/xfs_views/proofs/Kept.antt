@@ -3,8 +3,8 @@ use Rattle.std.proofs.Common.{◌≡◌, ℕ, Bool, true, false, not, cond, ◌+
 use Rattle.std.specs.List.{AllByRecursion}
 use Rattle.std.proofs.lemmas.Bool.{and_from, eq-eqb, le-leb, lt-ltb, not_from_false, or_from, or_left, or_right}
 use Rattle.xfs_disk.specs.Lists.{is_in_range, is_among, with_number}
-use Rattle.xfs_runs.specs.Blocks.{run_has, is_in, meets}
-use Rattle.xfs_runs.proofs.Meeting.{meets_none}
+use Rattle.xfs_collections.specs.Blocks.{run_has, is_in, meets}
+use Rattle.xfs_collections.proofs.Meeting.{meets_none}
 use Rattle.xfs_claims.specs.declared.claimants.FileClaim.{FileClaim}
 use Rattle.xfs_claims.specs.Keeping.{Holding, cluster_span, is_kept, with_cluster, with_clusters, with_file, with_files}
 use Rattle.xfs_claims.specs.Spans.{meets_any, spans_of, with_blocks}

@@ -2,7 +2,7 @@
 -- 16 and a scanned one at 20, a file 7 in the first and others beside it.
 use Rattle.std.specs.Prelude.{ℕ, true, false, List, [], ◌∷◌}
 use Rattle.xfs_geom.specs.declared.records.Run.{Run}
-use Rattle.xfs_runs.specs.Blocks.{is_in}
+use Rattle.xfs_collections.specs.Blocks.{is_in}
 use Rattle.xfs_volume.specs.declared.clusters.ClusterRec.{ClusterRec}
 use Rattle.xfs_claims.specs.Spans.{spans_of}
 use Rattle.xfs_claims.specs.declared.claimants.Claims.{Claims}

@@ -1,7 +1,7 @@
 -- When no other claim can be had on what a file claims, by the lists of claims alone.
 use Rattle.std.specs.Prelude.{ℕ, Bool, not, ◌==◌, ◌&&◌, List}
 use Rattle.std.specs.List.{list_any}
-use Rattle.xfs_runs.specs.Blocks.{is_in}
+use Rattle.xfs_collections.specs.Blocks.{is_in}
 use Rattle.xfs_volume.specs.declared.clusters.ClusterRec.{ClusterRec}
 use Rattle.xfs_claims.specs.Spans.{spans_of}
 use Rattle.xfs_claims.specs.declared.claimants.FileClaim.{FileClaim}

@@ -6,7 +6,7 @@ ghost use Rattle.xfs_disk.specs.Lists.{is_among};
 ghost use Rattle.xfs_disk.specs.Blocks.{Image};
 ghost use Rattle.xfs_geom.specs.Volumes.{Volume, volume_of};
 ghost use Rattle.xfs_geom.specs.declared.geometry.Geometry.{Geometry};
-ghost use Rattle.xfs_runs.specs.Blocks.{is_in};
+ghost use Rattle.xfs_collections.specs.Blocks.{is_in};
 ghost use Rattle.xfs_claims.specs.Keeping.{kept_of};
 ghost use Rattle.xfs_claims.specs.Ranks.{is_recorded_cluster};
 ghost use Rattle.xfs_claims.specs.Spans.{spans_of};

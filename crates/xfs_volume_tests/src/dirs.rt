@@ -20,7 +20,7 @@ use xfs_dirs::*;
 use xfs_disk::{BLOCK_SIZE, Disk, Word};
 use xfs_geom::Geometry;
 use xfs_kinds::Bmbt;
-use xfs_runs::Steps;
+use xfs_collections::Steps;
 use xfs_tree::Kind;
 use xfs_volume::{Core, Extents, Few, FileRec};
 use xfs_word::{Extent, Seal, SealKind, put_part, put32, put64, seal};

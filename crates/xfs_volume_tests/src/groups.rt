@@ -14,7 +14,7 @@ use std::thread::Threads;
 use xfs_disk::{BLOCK_SIZE, Disk, NoGate};
 use xfs_groups::*;
 use xfs_memory::MemoryDisk;
-use xfs_runs::Steps;
+use xfs_collections::Steps;
 use xfs_word::{put_checksum, put_part, put32, put64};
 
 /// The identifier of the volume.

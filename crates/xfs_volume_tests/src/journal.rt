@@ -13,7 +13,7 @@ use xfs_disk::{BLOCK_SIZE, Disk};
 use xfs_heads::LogState;
 use xfs_journal::*;
 use xfs_memory::MemoryDisk;
-use xfs_runs::Steps;
+use xfs_collections::Steps;
 use xfs_volume::{BlockLsn, Core, Extents, Few, FileRec, Records};
 use xfs_word::{Extent, put64};
 

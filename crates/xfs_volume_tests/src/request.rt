@@ -18,7 +18,7 @@ use xfs_heads::LogState;
 use xfs_place::GroupInodes;
 use xfs_render::{SlotBase, SlotWanted};
 use xfs_request::{Request, SlotSeen, SlotState, ask, due_cycle, kept_lsns};
-use xfs_runs::Steps;
+use xfs_collections::Steps;
 use xfs_salvage::{FoundRecords, salvage};
 use xfs_volume::{ClusterRec, Records};
 

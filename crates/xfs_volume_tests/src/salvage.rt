@@ -11,7 +11,7 @@ use std::marker::Brand;
 use std::process::Abort;
 use std::sync::ledger::{Blank, Ledger};
 use std::thread::Threads;
-use xfs_runs::Steps;
+use xfs_collections::Steps;
 use xfs_salvage::{FoundRecords, Salvaged, claims_in, salvage};
 
 /// In a row stand what the case is, the clusters and whether they are recorded, the files, the directories, the entries; then

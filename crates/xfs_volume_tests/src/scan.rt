@@ -16,7 +16,7 @@ use xfs_heads::LogState;
 use xfs_image::Finding;
 use xfs_inodebuild::fresh_slot;
 use xfs_memory::{HoldingGate, MemoryDisk};
-use xfs_runs::Steps;
+use xfs_collections::Steps;
 use xfs_scan::*;
 use xfs_volume::{Catalog, Core, FileRec};
 use xfs_word::{put_checksum, put_part, put16};

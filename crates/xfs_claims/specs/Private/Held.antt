@@ -1,5 +1,5 @@
 -- What is kept so far, as the program holds it.
-use Rattle.xfs_runs.specs.Blocks.{is_in}
+use Rattle.xfs_collections.specs.Blocks.{is_in}
 use Rattle.xfs_claims.specs.declared.holding.TakenBlocks.{TakenBlocks}
 use Rattle.std.specs.Prelude.{[]}
 use Rattle.xfs_claims.specs.Keeping.{Holding}

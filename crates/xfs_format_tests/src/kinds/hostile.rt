@@ -11,7 +11,7 @@ use std::sync::ledger::{Blank, Ledger};
 use xfs_disk::{Disk, Failed, NoMemory};
 use xfs_kinds::{Ino, Rmap};
 use xfs_memory::MemoryDisk;
-use xfs_runs::Steps;
+use xfs_collections::Steps;
 use xfs_tree::{Kind, Tree, TreeFault, Unread, read_tree};
 use xfs_word::{Seal, SealKind, put_part, put16, put32, put64, seal};
 

@@ -14,7 +14,7 @@ use std::thread::Threads;
 use xfs_disk::{Disk, NoGate, NoMemory};
 use xfs_forest::{ForestFault, Plant, read_forest};
 use xfs_memory::MemoryDisk;
-use xfs_runs::Steps;
+use xfs_collections::Steps;
 use xfs_tree::{Seat, Tree, Unread};
 
 /// What trees read as.

@@ -12,7 +12,7 @@ use std::sync::ledger::{Blank, Ledger};
 use xfs_disk::Disk;
 use xfs_geom::Geometry;
 use xfs_memory::MemoryDisk;
-use xfs_runs::Steps;
+use xfs_collections::Steps;
 use xfs_tree::{Tree, TreeFault, read_tree};
 use xfs_word::{Seal, SealKind, put_part, put16, put32, put64, seal};
 

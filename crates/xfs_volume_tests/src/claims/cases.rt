@@ -13,7 +13,7 @@ use std::sync::ledger::{Blank, Ledger};
 use std::thread::Threads;
 use xfs_claims::{Claims, FileClaim, KeptClaims, keep};
 use xfs_geom::Run;
-use xfs_runs::Steps;
+use xfs_collections::Steps;
 use xfs_volume::{ClusterRec, Records};
 
 /// In a row stand what the case is, the fixed runs, the clusters and whether they are recorded, the files (the number

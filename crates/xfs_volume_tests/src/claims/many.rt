@@ -13,7 +13,7 @@ use std::sync::ledger::{Blank, Ledger};
 use std::thread::Threads;
 use xfs_claims::{Claims, FileClaim};
 use xfs_geom::Run;
-use xfs_runs::Steps;
+use xfs_collections::Steps;
 use xfs_volume::{ClusterRec, Records};
 
 /// The blocks of the run, which begins at block 1,000.

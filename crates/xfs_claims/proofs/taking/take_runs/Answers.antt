@@ -1,7 +1,7 @@
 use Rattle.std.proofs.Common.{◌≡◌, ◌+◌, ℕ, List, [], drop, get_or, refl, ap, subst}
 use Rattle.std.proofs.Math.ListN.{drop_of_length-le}
 use Rattle.std.proofs.lemmas.Result.{IfOk-from_err}
-use Rattle.xfs_runs.specs.Blocks.{is_in}
+use Rattle.xfs_collections.specs.Blocks.{is_in}
 use Rattle.xfs_claims.specs.Spans.{span_pair, spans_of}
 use Rattle.xfs_claims.proofs.Gathered.{Taking, spans_next, next_off, taking_next, taken_all, no_run}
 use Rattle.xfs_claims.proofs.Counted.{not_counted, one_more, one_within}

@@ -1,5 +1,5 @@
 use Rattle.std.proofs.Common.{◌+◌, ◌≤◌, drop}
-use Rattle.xfs_runs.specs.Blocks.{is_in}
+use Rattle.xfs_collections.specs.Blocks.{is_in}
 use Rattle.xfs_claims.specs.Spans.{spans_of}
 use Rattle.xfs_claims.proofs.Gathered.{Taking}
 use Rattle.xfs_claims.proofs.taking.take_runs.Given as goal

@@ -2,7 +2,7 @@ use Rattle.xfs_disk.proofs.Reading.{reads_none}
 use Rattle.std.proofs.Common.{◌<◌, length, sym, subst, ap, ◌∙◌, arith}
 use Rattle.std.proofs.lemmas.List.{length-map}
 use Rattle.std.specs.List.{All}
-use Rattle.xfs_bank.specs.Bank.{blocks_at}
+use Rattle.xfs_collections.specs.Bank.{blocks_at}
 use Rattle.xfs_geom.specs.Volumes.{volume_of}
 use Rattle.xfs_forest.specs.Forest.{cell_places, spots_of, AreGrowing, AreListed}
 use Rattle.xfs_forest.proofs.Forests.{places_inside}

@@ -1,6 +1,6 @@
 use Rattle.std.proofs.Common.{◌≡◌, sym, subst, List}
 use Rattle.std.specs.List.{filter}
-use Rattle.xfs_weave.specs.Lists.{list_at}
+use Rattle.xfs_collections.specs.Lists.{list_at}
 use Rattle.xfs_links.specs.declared.walk.Attached.{Attached}
 use Rattle.xfs_links.specs.Places.{IsSteady}
 use Rattle.xfs_links.proofs.Attaching.{moved_steady, moved_pending, unattached}

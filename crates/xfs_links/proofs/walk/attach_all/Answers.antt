@@ -1,6 +1,6 @@
 use Rattle.std.proofs.Common.{ℕ, ◌<◌, [], List, length, sym, ◌∙◌, ap, subst}
 use Rattle.std.specs.List.{All}
-use Rattle.xfs_weave.specs.Lists.{AreOnce, list_at}
+use Rattle.xfs_collections.specs.Lists.{AreOnce, list_at}
 use Rattle.xfs_links.specs.declared.walk.Attached.{Attached}
 use Rattle.xfs_links.specs.Walk.{walk}
 use Rattle.xfs_links.specs.Places.{named_at, starts_at, IsSteady}

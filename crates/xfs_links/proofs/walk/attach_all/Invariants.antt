@@ -1,5 +1,5 @@
 use Rattle.std.proofs.Common.{◌≡◌, [], length}
-use Rattle.xfs_weave.specs.Lists.{list_at}
+use Rattle.xfs_collections.specs.Lists.{list_at}
 use Rattle.xfs_links.specs.Walk.{walk}
 use Rattle.xfs_links.specs.Places.{IsSteady, named_at, starts_at}
 use Rattle.xfs_links.proofs.walk.attach_all.Given as goal

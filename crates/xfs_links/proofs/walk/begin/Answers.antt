@@ -1,6 +1,6 @@
 use Rattle.std.proofs.Common.{ℕ, ◌<◌, ◌+◌, ◌-◌, refl, sym, ◌∙◌, subst, ap, ap₂, arith, List, length}
 use Rattle.std.specs.List.{All}
-use Rattle.xfs_weave.specs.Lists.{list_at}
+use Rattle.xfs_collections.specs.Lists.{list_at}
 use Rattle.xfs_links.specs.declared.candidates.Candidate.{Candidate}
 use Rattle.xfs_links.specs.declared.walk.Attached.{Attached}
 use Rattle.xfs_links.specs.Walk.{is_attached, see_all, turns}

@@ -1,6 +1,6 @@
 use Rattle.std.proofs.Common.{◌≡◌, ◌+◌, ◌-◌}
 use Rattle.std.specs.List.{filter}
-use Rattle.xfs_weave.specs.Lists.{list_at}
+use Rattle.xfs_collections.specs.Lists.{list_at}
 use Rattle.xfs_links.specs.Walk.{turns}
 use Rattle.xfs_links.specs.Places.{IsSteady, named_at}
 use Rattle.xfs_links.proofs.Attaching.{unattached}

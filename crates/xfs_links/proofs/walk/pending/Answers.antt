@@ -1,6 +1,6 @@
 use Rattle.std.proofs.Common.{ℕ, ◌++◌, ◌∷◌, [], List, sym, ◌∙◌, ap, arith, get_or, take}
 use Rattle.std.proofs.lemmas.List.{take_more}
-use Rattle.xfs_weave.specs.Lists.{Woven, without}
+use Rattle.xfs_collections.specs.Lists.{Woven, without}
 use Rattle.xfs_links.proofs.Groups.{without_absent, once_before}
 use Rattle.xfs_links.proofs.Attaching.{moved_first, moved_lists}
 use Rattle.xfs_links.proofs.walk.pending.Goals as goal

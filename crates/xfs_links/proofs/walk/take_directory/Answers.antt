@@ -1,5 +1,5 @@
 use Rattle.std.proofs.Common.{◌≡◌, ◌+◌, refl, sym, ◌∙◌, subst, ap, List, drop, Some, slice_index_or}
-use Rattle.xfs_weave.specs.Lists.{list_at}
+use Rattle.xfs_collections.specs.Lists.{list_at}
 use Rattle.xfs_links.specs.declared.walk.Attached.{Attached}
 use Rattle.xfs_links.specs.Places.{targets}
 use Rattle.xfs_links.specs.Walk.{see_all, is_attached, attached_at}

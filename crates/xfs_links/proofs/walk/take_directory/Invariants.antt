@@ -1,6 +1,6 @@
 use Rattle.std.proofs.Common.{◌≡◌, drop}
 use Rattle.std.specs.List.{filter}
-use Rattle.xfs_weave.specs.Lists.{list_at}
+use Rattle.xfs_collections.specs.Lists.{list_at}
 use Rattle.xfs_links.specs.Walk.{see_all}
 use Rattle.xfs_links.specs.Places.{IsSteady, targets}
 use Rattle.xfs_links.proofs.Attaching.{unattached}

@@ -2,7 +2,7 @@
 use Rattle.std.proofs.Common.{ℕ, List, [], ◌∷◌, ◌++◌, get_or, length, length-append, take_all, arith, ap, sym, ◌∙◌}
 use Rattle.std.proofs.lemmas.Option.{get_or_from_slice_get}
 use Rattle.xfs_disk.proofs.Reading.{reads_on}
-use Rattle.xfs_bank.specs.Bank.{blocks_at}
+use Rattle.xfs_collections.specs.Bank.{blocks_at}
 use Rattle.xfs_render.proofs.ObjectSteps.{map_more}
 use Rattle.xfs_rebuild.proofs.bytes.read_blocks.Goals as goal
 

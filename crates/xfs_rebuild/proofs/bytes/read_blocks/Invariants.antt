@@ -2,7 +2,7 @@
 use Rattle.std.proofs.Common.{◌≡◌, ◌≤◌, take, length}
 use Rattle.std.specs.Option.{ForSome}
 use Rattle.xfs_disk.specs.Reads.{OnlyReads}
-use Rattle.xfs_bank.specs.Bank.{blocks_at}
+use Rattle.xfs_collections.specs.Bank.{blocks_at}
 use Rattle.xfs_rebuild.proofs.bytes.read_blocks.Given as goal
 
 abbrev pub invariant-loop-place : goal.invariant-loop-place

@@ -1,6 +1,6 @@
 use Rattle.std.proofs.Common.{◌≡◌, ℕ, ◌<◌, List, length, sym, ap, subst, ◌∙◌}
 use Rattle.std.specs.List.{All}
-use Rattle.xfs_bank.specs.Bank.{blocks_at}
+use Rattle.xfs_collections.specs.Bank.{blocks_at}
 use Rattle.xfs_disk.proofs.Reading.{reads_none}
 use Rattle.xfs_geom.specs.Volumes.{volume_of}
 use Rattle.xfs_rebuild.specs.Changes.{CanChangeAll}

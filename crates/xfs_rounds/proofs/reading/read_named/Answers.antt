@@ -1,5 +1,5 @@
 use Rattle.std.proofs.Common.{List, length, ap, subst, ◌∙◌, arith}
-use Rattle.xfs_bank.specs.Bank.{blocks_at}
+use Rattle.xfs_collections.specs.Bank.{blocks_at}
 use Rattle.xfs_disk.proofs.Reading.{reads_on}
 use Rattle.xfs_geom.specs.Volumes.{volume_of}
 use Rattle.xfs_rounds.specs.Named.{AreTreesOf}

@@ -1,5 +1,5 @@
 use Rattle.std.proofs.Common.{sym, ◌∙◌}
-use Rattle.xfs_runs.specs.Blocks.{is_in}
+use Rattle.xfs_collections.specs.Blocks.{is_in}
 use Rattle.xfs_claims.specs.Spans.{spans_of}
 use Rattle.xfs_salvage.proofs.Apart.{left_after, left_first}
 use Rattle.xfs_salvage.proofs.runs.are_all_apart.Goals as goal

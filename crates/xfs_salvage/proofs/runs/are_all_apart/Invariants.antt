@@ -1,5 +1,5 @@
 use Rattle.std.proofs.Common.{◌↔◌, drop}
-use Rattle.xfs_runs.specs.Blocks.{is_in}
+use Rattle.xfs_collections.specs.Blocks.{is_in}
 use Rattle.xfs_claims.specs.Spans.{SpansApart, spans_of}
 use Rattle.xfs_salvage.proofs.Apart.{AreLeft}
 use Rattle.xfs_salvage.proofs.runs.are_all_apart.Given as goal

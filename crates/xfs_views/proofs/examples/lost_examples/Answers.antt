@@ -1,5 +1,5 @@
 use Rattle.std.proofs.Common.{refl}
-use Rattle.xfs_runs.specs.Blocks.{meets}
+use Rattle.xfs_collections.specs.Blocks.{meets}
 use Rattle.xfs_views.proofs.examples.lost_examples.Goals as goal
 
 pub returns-clause-both : goal.returns-clause-both

@@ -1,5 +1,5 @@
 use Rattle.std.proofs.Common.{◌≡◌, ℕ, false, List, [], refl, sym, ◌∙◌, ap, subst}
-use Rattle.xfs_runs.specs.Blocks.{is_in}
+use Rattle.xfs_collections.specs.Blocks.{is_in}
 use Rattle.xfs_claims.specs.Spans.{spans_of, meets_any, with_blocks}
 use Rattle.xfs_claims.specs.Private.Arrived.{arrived}
 use Rattle.xfs_claims.specs.Private.Held.{held_of}

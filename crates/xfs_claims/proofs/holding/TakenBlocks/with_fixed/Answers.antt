@@ -1,5 +1,5 @@
 use Rattle.std.proofs.Common.{ℕ, List, [], ap}
-use Rattle.xfs_runs.specs.Blocks.{is_in}
+use Rattle.xfs_collections.specs.Blocks.{is_in}
 use Rattle.xfs_claims.specs.Spans.{spans_of}
 use Rattle.xfs_claims.proofs.Steady.{none_met, fixed_blocks, same_holding}
 use Rattle.xfs_claims.specs.Keeping.{fixed_alone}

@@ -1,4 +1,0 @@
-pub mod Blocks
-pub mod Cuts
-mod Filling
-mod Scattered

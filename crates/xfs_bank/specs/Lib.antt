@@ -1,4 +1,0 @@
-pub mod Bank
-pub mod Parts
-pub mod Lending
-pub mod Scattered

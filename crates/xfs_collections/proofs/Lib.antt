@@ -1,0 +1,10 @@
+pub mod Meeting
+pub mod Last
+pub mod Placed
+pub mod Paths
+pub mod LinkSteps
+pub mod Views
+pub mod Blocks
+pub mod Cuts
+mod Filling
+mod Scattered

@@ -1,3 +1,0 @@
-pub mod Meeting
-pub mod Last
-pub mod Placed
