@@ -5,7 +5,7 @@
 # of the crates, which is removed.
 set -eu
 . "$(dirname "$0")/crates.sh"
-take_program lawful_speed xfs_word xfs_disk xfs_geom xfs_heads xfs_attr xfs_dirdata xfs_volume xfs_laws
+take_program lawful_speed xfs_word xfs_disk xfs_geom xfs_heads xfs_log xfs_attr xfs_dirdata xfs_volume xfs_laws
 cp "$top/bench/naming_speed/src/made.rt.txt" crates/lawful_speed/src/made.rt
 prove_program lawful_speed
 for turn in 1 2 3; do

@@ -11,7 +11,7 @@ for image in "$@"; do images+=("$(realpath "$image")"); done
 kept=
 . "$(dirname "$0")/../bench/crates.sh"
 . "$top/examples/volumes.sh"
-take_program kept_lists xfs_disk xfs_files xfs_heads xfs_collections xfs_geom xfs_volume xfs_render xfs_rounds xfs_scan xfs_salvage xfs_request
+take_program kept_lists xfs_disk xfs_files xfs_log xfs_collections xfs_geom xfs_volume xfs_render xfs_rounds xfs_scan xfs_salvage xfs_request
 if [ "${#images[@]}" = 0 ]; then
   protofile 5000 > "$work/proto"
   make_image "$work/volume.img" 400M "$work/proto"

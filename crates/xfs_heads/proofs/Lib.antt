@@ -3,10 +3,4 @@ pub mod Ready
 pub mod ReadBack
 pub mod Kept
 pub mod Listed
-pub mod LastHeader
-pub mod Alone
-pub mod CleanLog
-pub mod Bytes
-pub mod BlankSectors
-pub mod BlankIsClean
 pub mod Chained

@@ -3,4 +3,3 @@
 pub mod agf;
 pub mod agfl;
 pub mod agi;
-pub mod log;

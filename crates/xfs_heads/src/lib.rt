@@ -2,7 +2,7 @@
 //! blocks that are kept ready for its trees (AGFL). Nothing here takes memory.
 //!
 //! Each header is read as a plain record, or as none where its seal or a bound fails, and written from one; the tables of
-//! their fields serve the debugger too. The state of the log is found from what is seen of its sectors, one by one.
+//! their fields serve the debugger too.
 //!
 //! `xfs_groups` reads the first block of a group so, with `part` of `xfs_word`; a header that does not read takes no other with it,
 //! but the list of a group is read only beside its free space:
@@ -22,10 +22,9 @@ mod free_space;
 mod heads;
 mod inodes;
 pub mod layouts;
-mod log;
 
 pub use arrays::ArrayLayout;
 pub use free_list::{Agfl, put_agfl, read_agfl};
 pub use free_space::{Agf, put_agf, read_agf};
+pub use heads::clear;
 pub use inodes::{Agi, put_agi, read_agi};
-pub use log::{LogState, SectorSeen, blank_log_sector, log_state, see_sector};

@@ -12,7 +12,7 @@ use Rattle.xfs_volume.specs.declared.findings.Law.{Law}
 use Rattle.xfs_image.specs.declared.findings.Finding.{Finding}
 use Rattle.xfs_image.specs.declared.findings.Finding.TheVariants as Found
 use Rattle.xfs_image.specs.Groups.{head_block}
-use Rattle.xfs_heads.specs.Sectors.{sector_in}
+use Rattle.xfs_log.specs.Sectors.{sector_in}
 use Rattle.xfs_image.specs.View.{view}
 
 -- what is elected is the primary superblock, and it states this volume

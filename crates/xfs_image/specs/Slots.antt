@@ -7,7 +7,7 @@ use Rattle.xfs_geom.specs.Volumes.{Volume}
 use Rattle.xfs_tree.specs.Blocks.{each_of}
 use Rattle.xfs_inode.specs.Named.{slot_reads}
 use Rattle.xfs_inode.specs.declared.files.FileRead.{FileRead}
-use Rattle.xfs_heads.specs.Sectors.{sector_in}
+use Rattle.xfs_log.specs.Sectors.{sector_in}
 
 -- the bytes of a slot, given its block and its number there; none where it lies outside the volume
 abbrev pub bytes_in : Image → Option (ℕ × ℕ) → List ℕ

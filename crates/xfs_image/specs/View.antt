@@ -5,8 +5,8 @@ use Rattle.xfs_disk.specs.Blocks.{Image, bytes_of_block}
 use Rattle.xfs_geom.specs.Volumes.{Volume, volume_of}
 use Rattle.xfs_geom.specs.declared.geometry.Geometry.{Geometry}
 use Rattle.xfs_geom.specs.declared.records.Counts.{Counts}
-use Rattle.xfs_heads.specs.Log.{seen_of, state_of}
-use Rattle.xfs_heads.specs.declared.log.state.LogState.{LogState}
+use Rattle.xfs_log.specs.Log.{seen_of, state_of}
+use Rattle.xfs_log.specs.declared.state.LogState.{LogState}
 use Rattle.xfs_volume.specs.declared.catalogs.Catalog.{Catalog}
 use Rattle.xfs_volume.specs.declared.files.FileRec.{FileRec}
 use Rattle.xfs_volume.specs.declared.groups.GroupRec.{GroupRec}
@@ -15,7 +15,7 @@ use Rattle.xfs_image.specs.Directories.{dirs_read, entries_read}
 use Rattle.xfs_image.specs.Files.{files_read}
 use Rattle.xfs_image.specs.Groups.{groups_read}
 use Rattle.xfs_image.specs.Lsns.{lsns_read}
-use Rattle.xfs_heads.specs.Sectors.{log_sectors}
+use Rattle.xfs_log.specs.Sectors.{log_sectors}
 
 -- the counters of the primary superblock
 abbrev pub counts_of : Image → Counts

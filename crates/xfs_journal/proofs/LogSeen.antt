@@ -3,9 +3,9 @@ use Rattle.std.proofs.Common.{◌≡◌, ℕ, List, [], ◌∷◌, ◌++◌, map
 use Rattle.std.specs.List.{flat_map}
 use Rattle.std.proofs.lemmas.List.{map-append}
 use Rattle.xfs_disk.specs.Blocks.{Image, bytes_of_block}
-use Rattle.xfs_heads.specs.Log.{seen_of}
+use Rattle.xfs_log.specs.Log.{seen_of}
 use Rattle.xfs_tree.specs.Blocks.{each_of}
-use Rattle.xfs_heads.specs.Sectors.{sector_in}
+use Rattle.xfs_log.specs.Sectors.{sector_in}
 use Rattle.xfs_journal.specs.Placed.{seen_in}
 
 pub all_seen : (image : Image) (blocks : List ℕ)

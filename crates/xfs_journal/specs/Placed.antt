@@ -2,8 +2,8 @@
 use Rattle.std.specs.Prelude.{◌≡◌, ℕ, ◌+◌, ◌*◌, ◌≤◌, List, length, map, take, Option, Some, None, ⊤}
 use Rattle.std.specs.List.{flat_map}
 use Rattle.xfs_word.specs.Field.{field_of, part_of}
-use Rattle.xfs_heads.specs.Log.{seen_of}
-use Rattle.xfs_heads.specs.declared.log.SectorSeen.{SectorSeen}
+use Rattle.xfs_log.specs.Log.{seen_of}
+use Rattle.xfs_log.specs.declared.sectors.SectorSeen.{SectorSeen}
 use Rattle.xfs_word.specs.declared.extents.Extent.{Extent}
 use Rattle.xfs_disk.specs.Blocks.{Image, bytes_of_block}
 use Rattle.xfs_geom.specs.Volumes.{Volume}

@@ -4,12 +4,12 @@ ghost use Rattle.std.specs.Prelude.{◌≡◌, ◌≤◌, ◌+◌, ◌<◌, ◌+
 ghost use Rattle.std.specs.Option.{ForSome};
 ghost use Rattle.xfs_disk.specs.Faults.{HasCause};
 ghost use Rattle.xfs_geom.specs.Volumes.{volume_of};
-ghost use Rattle.xfs_heads.specs.Log.{seen_of};
+ghost use Rattle.xfs_log.specs.Log.{seen_of};
 ghost use Rattle.xfs_disk.specs.Reads.{OnlyReads};
 ghost use Rattle.xfs_tree.specs.Blocks.{each_of};
 ghost use Rattle.xfs_disk.specs.Blocks.{bytes_of_block};
 ghost use Rattle.xfs_image.specs.View.{log_of};
-ghost use Rattle.xfs_heads.specs.Sectors.{log_sectors};
+ghost use Rattle.xfs_log.specs.Sectors.{log_sectors};
 ghost use Rattle.xfs_journal.specs.Answers.{HasJournalCause};
 ghost use Rattle.xfs_journal.specs.Placed.{seen_in};
 
@@ -18,7 +18,7 @@ use std::alloc::Global;
 use std::sync::ledger::Ledger;
 use xfs_disk::{BLOCK_SIZE, Disk, Failed, NoMemory};
 use xfs_geom::Geometry;
-use xfs_heads::{LogState, SectorSeen, log_state, see_sector};
+use xfs_log::{LogState, SectorSeen, log_state, see_sector};
 use xfs_collections::Steps;
 use xfs_word::part;
 

@@ -6,7 +6,7 @@ ghost use Rattle.xfs_volume.specs.Laws.{first_broken};
 ghost use Rattle.xfs_laws.specs.Counting.{by_group, chains_at, group_chains, head_of, is_behind, log_at, log_laws, lsn_law};
 
 use crate::broken::broken;
-use xfs_heads::LogState;
+use xfs_log::LogState;
 use xfs_volume::{BlockLsn, GroupRec, Law};
 
 /// What stands for no inode at the head of a chain.

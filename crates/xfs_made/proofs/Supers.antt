@@ -15,7 +15,7 @@ use Rattle.xfs_place.specs.declared.placed.Placed.{Placed}
 use Rattle.xfs_place.specs.declared.wanted.Wanted.{Wanted}
 use Rattle.xfs_image.specs.Consistent.{IsElected, backup_agrees}
 use Rattle.xfs_image.specs.Groups.{head_block}
-use Rattle.xfs_heads.specs.Sectors.{sector_in}
+use Rattle.xfs_log.specs.Sectors.{sector_in}
 use Rattle.xfs_image.specs.View.{counts_of}
 use Rattle.xfs_render.specs.Rendering.{volume}
 use Rattle.xfs_render.specs.declared.bytes.Bytes.{Bytes}

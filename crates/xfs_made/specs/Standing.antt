@@ -6,7 +6,7 @@ use Rattle.xfs_geom.specs.Volumes.{Volume}
 use Rattle.xfs_place.specs.declared.placed.Placed.{Placed}
 use Rattle.xfs_place.specs.declared.wanted.Wanted.{Wanted}
 use Rattle.xfs_image.specs.Groups.{head_block}
-use Rattle.xfs_heads.specs.Sectors.{sector_in}
+use Rattle.xfs_log.specs.Sectors.{sector_in}
 use Rattle.xfs_render.specs.Rendering.{HasVolume, IsDueSuper, byte_place}
 use Rattle.xfs_render.specs.declared.bytes.Bytes.{Bytes}
 

@@ -14,7 +14,7 @@ use Rattle.xfs_geom.specs.Election.{Vote, choice, elected, super_of}
 use Rattle.xfs_laws.specs.Lawful.{broken_law}
 use Rattle.xfs_image.proofs.Backups.{only_backups}
 use Rattle.xfs_image.specs.Consistent.{HasBackupFault, HasFinding, IsElected, backup_agrees}
-use Rattle.xfs_heads.specs.Sectors.{sector_in}
+use Rattle.xfs_log.specs.Sectors.{sector_in}
 use Rattle.xfs_image.specs.declared.findings.Finding.TheVariants as Found
 use Rattle.xfs_backups.proofs.Electing.{elected_primary}
 use Rattle.xfs_backups.proofs.Mending.{length-written, mended_block, mended_agreeing, mended_other, steps_other, steps_same}

@@ -20,7 +20,7 @@ use std::thread::Threads;
 use xfs_backups::MendFault;
 use xfs_disk::{Disk, Gate};
 use xfs_geom::Geometry;
-use xfs_heads::LogState;
+use xfs_log::LogState;
 use xfs_journal::{JournalFault, read_log};
 use xfs_collections::Steps;
 use xfs_scan::{Evidence, ScanFault, gather};

@@ -14,7 +14,7 @@ use Rattle.xfs_geom.specs.Volumes.{Volume, volume_of}
 use Rattle.xfs_geom.specs.declared.geometry.Geometry.{Geometry}
 use Rattle.xfs_heads.specs.Heads.{head_seal, is_level, is_root_block}
 use Rattle.xfs_heads.specs.Inodes.{agi_of, is_agi_shaped, stated_agi}
-use Rattle.xfs_heads.specs.Sectors.{sector_in}
+use Rattle.xfs_log.specs.Sectors.{sector_in}
 use Rattle.xfs_heads.specs.declared.inodes.Agi.{Agi}
 use Rattle.xfs_volume.specs.declared.catalogs.Catalog.{Catalog}
 use Rattle.xfs_volume.specs.declared.groups.GroupRec.{GroupRec}

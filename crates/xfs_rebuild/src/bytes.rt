@@ -22,7 +22,7 @@ use std::alloc::Global;
 use std::sync::ledger::Ledger;
 use xfs_disk::{BLOCK_SIZE, Disk, Failed, NoMemory, Stamp};
 use xfs_geom::{Elected, Geometry};
-use xfs_heads::LogState;
+use xfs_log::LogState;
 use xfs_journal::{JournalFault, read_lsns};
 use xfs_render::{Bytes, SlotWanted};
 use xfs_request::{SlotSeen, due_cycle, kept_lsns};

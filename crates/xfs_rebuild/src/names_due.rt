@@ -5,7 +5,7 @@ ghost use Rattle.std.specs.Prelude.{◌≡◌, IfOk};
 use std::alloc::{AllocError, Global};
 use std::marker::Model;
 use xfs_dirdata::EntryRec;
-use xfs_heads::LogState;
+use xfs_log::LogState;
 use xfs_place::Wanted;
 use xfs_render::SlotWanted;
 use xfs_request::SlotSeen;

@@ -29,7 +29,7 @@ use std::sync::ledger::Ledger;
 use std::thread::Threads;
 use xfs_disk::{Disk, Gate, NoMemory, Stamp};
 use xfs_geom::Elected;
-use xfs_heads::LogState;
+use xfs_log::LogState;
 use xfs_request::{Request, SlotSeen, ask};
 use xfs_collections::Steps;
 use xfs_salvage::{Salvaged, salvage};

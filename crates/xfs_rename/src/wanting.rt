@@ -22,7 +22,7 @@ use std::alloc::Global;
 use xfs_changes::{Lost, objects_of, push_replaced};
 use xfs_disk::{NoMemory, Stamp};
 use xfs_geom::{Geometry, Run};
-use xfs_heads::LogState;
+use xfs_log::LogState;
 use xfs_place::{GroupInodes, Object, Wanted};
 use xfs_rebuild::{BoxedNames, NamesDue};
 use xfs_render::SlotWanted;

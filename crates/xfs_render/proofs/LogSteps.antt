@@ -6,9 +6,9 @@ use Rattle.std.proofs.lemmas.List.FromFn.{map-range_with_len_more}
 use Rattle.std.proofs.lemmas.Bool.{cases_lt}
 use Rattle.xfs_disk.specs.Blocks.{Image, bytes_of_block}
 use Rattle.xfs_geom.specs.Volumes.{Volume}
-use Rattle.xfs_heads.proofs.BlankIsClean.{blank_is_clean}
-use Rattle.xfs_heads.specs.BlankLog.{blank_log, blank_seen}
-use Rattle.xfs_heads.specs.Log.{seen_of, state_of}
+use Rattle.xfs_log.proofs.BlankIsClean.{blank_is_clean}
+use Rattle.xfs_log.specs.BlankLog.{blank_log, blank_seen}
+use Rattle.xfs_log.specs.Log.{seen_of, state_of}
 use Rattle.xfs_tree.specs.Blocks.{each_of}
 use Rattle.xfs_render.specs.Drafts.{AddsAgain, AddsBlock, HoldsDraft, IsDraft, last_block}
 use Rattle.xfs_render.specs.Logs.{AddsLog, AddsRest, IsBlankAt, IsBlankBlock, sector_of}

@@ -4,10 +4,10 @@ use Rattle.std.specs.List.{flat_map, range_with_len}
 use Rattle.xfs_word.specs.Field.{part_of}
 use Rattle.xfs_disk.specs.Blocks.{Image, bytes_of_block}
 use Rattle.xfs_geom.specs.Volumes.{Volume}
-use Rattle.xfs_heads.specs.BlankLog.{IsBlank, blank_seen}
-use Rattle.xfs_heads.specs.Log.{seen_of, state_of}
-use Rattle.xfs_heads.specs.Sectors.{log_sectors}
-use Rattle.xfs_heads.specs.declared.log.state.LogState.TheVariants.{Clean}
+use Rattle.xfs_log.specs.BlankLog.{IsBlank, blank_seen}
+use Rattle.xfs_log.specs.Log.{seen_of, state_of}
+use Rattle.xfs_log.specs.Sectors.{log_sectors}
+use Rattle.xfs_log.specs.declared.state.LogState.TheVariants.{Clean}
 use Rattle.xfs_tree.specs.Blocks.{each_of}
 use Rattle.xfs_render.specs.Drafts.{Adds, HoldsDraft, last_block}
 use Rattle.xfs_render.specs.declared.draft.Draft.{Draft}

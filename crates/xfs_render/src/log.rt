@@ -9,7 +9,7 @@ ghost use Rattle.xfs_render.specs.Logs.{AddsLog, AddsRest, IsBlankAt, IsBlankBlo
 use crate::draft::Draft;
 use xfs_disk::{BLOCK_SIZE, NoMemory};
 use xfs_geom::Geometry;
-use xfs_heads::blank_log_sector;
+use xfs_log::blank_log_sector;
 use xfs_word::put_part;
 
 /// Puts down the blocks of a blank log of a cycle. From the second on all have the same bytes.

@@ -17,7 +17,7 @@ use crate::slots::is_one_of;
 use std::alloc::Global;
 use xfs_disk::NoMemory;
 use xfs_geom::Geometry;
-use xfs_heads::LogState;
+use xfs_log::LogState;
 use xfs_salvage::{Salvaged, cluster_of, is_among};
 
 /// No cycle of a log is this or a higher one.

@@ -24,7 +24,7 @@ use std::thread::Threads;
 use xfs_disk::{Disk, Gate, NoMemory};
 use xfs_geom::Geometry;
 use xfs_groups::{GroupTrees, Groups, GroupsFault, see_groups};
-use xfs_heads::LogState;
+use xfs_log::LogState;
 use xfs_journal::{JournalFault, read_log};
 use xfs_rounds::SlotFact;
 use xfs_collections::Steps;

@@ -29,7 +29,7 @@ use std::sync::ledger::Ledger;
 use xfs_disk::{BLOCK_SIZE, Disk, Failed, NoMemory};
 use xfs_geom::superblock::{FDBLOCKS, ICOUNT, IFREE};
 use xfs_geom::{Counts, Geometry};
-use xfs_heads::LogState;
+use xfs_log::LogState;
 use xfs_image::Finding;
 use xfs_journal::{JournalFault, read_lsns};
 use xfs_rounds::SlotFact;

@@ -3,7 +3,7 @@ use Rattle.std.proofs.Common.{◌≡◌, ℕ, zero, suc, ◌+◌, ◌*◌, ◌<�
 use Rattle.xfs_disk.specs.Blocks.{Image, bytes_of_block}
 use Rattle.xfs_word.specs.Field.{field_of, part_of}
 use Rattle.xfs_geom.specs.Volumes.{Volume}
-use Rattle.xfs_heads.specs.BlankLog.{IsBlank, IsBlankData, IsBlankHeader, IsBlankRest}
+use Rattle.xfs_log.specs.BlankLog.{IsBlank, IsBlankData, IsBlankHeader, IsBlankRest}
 use Rattle.xfs_render.specs.Logs.{IsBlankBlock, IsBlankLog}
 use Rattle.xfs_settled.specs.Sectors.{AreSized}
 use Rattle.xfs_settled.proofs.Headers.{part_sized}

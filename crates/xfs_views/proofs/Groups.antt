@@ -19,7 +19,7 @@ use Rattle.xfs_volume.specs.declared.groups.TreeBlocks.{TreeBlocks}
 use Rattle.xfs_space.specs.Parts.{AreGroups, AreOfGroup, IsLawfulGroup}
 use Rattle.xfs_image.specs.GroupParts.{AreGroupsRead, IsGroupRead, blocks_only, tree}
 use Rattle.xfs_image.specs.Groups.{contents, head_block, tree_at}
-use Rattle.xfs_heads.specs.Sectors.{sector_in}
+use Rattle.xfs_log.specs.Sectors.{sector_in}
 use Rattle.xfs_views.proofs.Heads.{list_sound}
 use Rattle.xfs_views.proofs.Trees.{blocks_placed, records_lawful}
 

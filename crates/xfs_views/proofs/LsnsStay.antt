@@ -5,12 +5,12 @@ use Rattle.std.proofs.lemmas.List.Elements.{recursion_from_All}
 use Rattle.xfs_disk.specs.Blocks.{Image, bytes_of_block}
 use Rattle.xfs_word.specs.Field.{part_of}
 use Rattle.xfs_geom.specs.Volumes.{Volume}
-use Rattle.xfs_heads.specs.Log.{seen_of, state_of}
+use Rattle.xfs_log.specs.Log.{seen_of, state_of}
 use Rattle.xfs_tree.specs.Blocks.{each_of}
 use Rattle.xfs_volume.specs.declared.files.FileRec.{FileRec}
 use Rattle.xfs_volume.specs.declared.groups.GroupRec.{GroupRec}
 use Rattle.xfs_image.specs.Lsns.{LsnPlace, lsn_places_in_order, is_place_upto, lsn_at, lsn_places, lsns_read, with_place}
-use Rattle.xfs_heads.specs.Sectors.{sector_in}
+use Rattle.xfs_log.specs.Sectors.{sector_in}
 use Rattle.xfs_image.specs.View.{log_of}
 use Rattle.xfs_views.specs.Same.{HoldSameBytes}
 use Rattle.xfs_views.proofs.TreesStay.{Each}

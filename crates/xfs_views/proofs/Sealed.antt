@@ -20,7 +20,7 @@ use Rattle.xfs_inode.specs.declared.files.FileRead.{FileRead}
 use Rattle.xfs_inode.specs.declared.files.FileRead.TheVariants as Reads
 use Rattle.xfs_image.specs.Candidates.{has_whole_seal}
 use Rattle.xfs_image.proofs.Objects.{no_object}
-use Rattle.xfs_heads.specs.Sectors.{sector_in}
+use Rattle.xfs_log.specs.Sectors.{sector_in}
 use Rattle.xfs_image.specs.Slots.{bytes_in, reads_as, slot_bytes}
 
 -- a slot that reads is sealed

@@ -14,7 +14,8 @@ use crate::text::{Row, refuse};
 use std::alloc::Global;
 use std::process::Abort;
 use xfs_geom::{Counts, Geometry, InoRec, RmapRec, Span};
-use xfs_heads::{Agf, Agfl, Agi, LogState};
+use xfs_heads::{Agf, Agfl, Agi};
+use xfs_log::LogState;
 use xfs_volume::{
     BlockLsn, Catalog, Core, DirRec, Extents, Few, FileRec, GroupRec, Law, Records, TreeBlocks,
 };

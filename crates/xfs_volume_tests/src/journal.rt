@@ -10,7 +10,7 @@ use std::marker::Brand;
 use std::process::Abort;
 use std::sync::ledger::{Blank, Ledger};
 use xfs_disk::{BLOCK_SIZE, Disk};
-use xfs_heads::LogState;
+use xfs_log::LogState;
 use xfs_journal::*;
 use xfs_memory::MemoryDisk;
 use xfs_collections::Steps;

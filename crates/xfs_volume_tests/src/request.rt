@@ -14,7 +14,7 @@ use std::sync::ledger::{Blank, Ledger};
 use std::thread::Threads;
 use xfs_disk::Stamp;
 use xfs_geom::{InoRec, RmapRec, Run};
-use xfs_heads::LogState;
+use xfs_log::LogState;
 use xfs_place::GroupInodes;
 use xfs_render::{SlotBase, SlotWanted};
 use xfs_request::{Request, SlotSeen, SlotState, ask, due_cycle, kept_lsns};

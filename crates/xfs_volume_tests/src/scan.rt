@@ -12,7 +12,7 @@ use std::process::Abort;
 use std::sync::ledger::{Blank, Ledger};
 use std::thread::Threads;
 use xfs_disk::{BLOCK_SIZE, Disk, Gate, NoGate};
-use xfs_heads::LogState;
+use xfs_log::LogState;
 use xfs_image::Finding;
 use xfs_inodebuild::fresh_slot;
 use xfs_memory::{HoldingGate, MemoryDisk};

@@ -5,7 +5,7 @@ ghost use Rattle.std.specs.Prelude.{◌≡◌, ◌≤◌, ◌<◌, ◌^◌, leng
 use super::*;
 use crate::checks::{equal, equal_at, must};
 use crate::text::{Row, line_at, line_count, part_at, part_count, put_parts, refuse, tells};
-use xfs_heads::{LogState, SectorSeen, blank_log_sector, log_state, see_sector};
+use xfs_log::{LogState, SectorSeen, blank_log_sector, log_state, see_sector};
 
 /// A sector that was never written.
 const NEW: SectorSeen = SectorSeen {

@@ -1,6 +1,6 @@
 use Rattle.std.proofs.Common.{List, ℕ, [], ◌∷◌, ◌++◌, ◌≤◌, ◌<◌, ap, ◌∙◌, arith}
-use Rattle.xfs_heads.specs.Log.{seen_of}
-use Rattle.xfs_heads.specs.declared.log.SectorSeen.{SectorSeen}
+use Rattle.xfs_log.specs.Log.{seen_of}
+use Rattle.xfs_log.specs.declared.sectors.SectorSeen.{SectorSeen}
 use Rattle.xfs_journal.specs.Placed.{seen_in}
 use Rattle.xfs_journal.proofs.Listing.{pushed, pushed_all}
 use Rattle.xfs_journal.proofs.log.see_block.Goals as goal

@@ -1,7 +1,0 @@
-use Rattle.std.proofs.Common.{◌≡◌, ◌+◌, drop}
-use Rattle.std.specs.List.{prefix_len}
-use Rattle.xfs_heads.specs.Log.{is_of_cycle}
-use Rattle.xfs_heads.proofs.log.state.count_front.Given as goal
-
-abbrev pub invariant-loop-place : goal.invariant-loop-place
-invariant-loop-place l = l.place + prefix_len (is_of_cycle l.cycle) (drop l.place l.seen) ≡ prefix_len (is_of_cycle l.cycle) l.seen
