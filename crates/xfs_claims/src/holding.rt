@@ -16,9 +16,9 @@ use crate::taking::{meets_runs, take_runs};
 use std::alloc::Global;
 use std::collections::BTreeSet;
 use std::sync::ledger::Ledger;
+use xfs_collections::{RunSet, Steps};
 use xfs_disk::NoMemory;
 use xfs_geom::Run;
-use xfs_collections::{RunSet, Steps};
 use xfs_volume::Records;
 
 /// How many blocks a cluster has.

@@ -14,8 +14,8 @@ use crate::ranks::{Ranks, rank};
 use std::alloc::Global;
 use std::sync::ledger::Ledger;
 use std::thread::Threads;
-use xfs_disk::NoMemory;
 use xfs_collections::Steps;
+use xfs_disk::NoMemory;
 
 /// Keeps of the claims, in the order of their rank, those that meet nothing kept before. The rank is: fixed blocks, the
 /// root cluster, recorded clusters by block, files in them by number, scanned clusters by block, files in them by

@@ -6,9 +6,9 @@ ghost use Rattle.xfs_collections.specs.Blocks.{is_in};
 ghost use Rattle.xfs_claims.specs.Spans.{spans_of, SpansApart, IsRun, meets_any, with_blocks};
 
 use std::sync::ledger::Ledger;
+use xfs_collections::{RunSet, Steps};
 use xfs_disk::NoMemory;
 use xfs_geom::Run;
-use xfs_collections::{RunSet, Steps};
 
 /// Whether one of the runs has a block of the set.
 pub(crate) fn meets_runs<L: Ledger>(set: &RunSet, runs: &[Run], steps: &mut Steps<L>) -> bool

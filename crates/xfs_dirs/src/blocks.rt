@@ -17,9 +17,9 @@ use crate::gathered::{Gathered, keep_block};
 use crate::seals::is_own;
 use std::alloc::Global;
 use std::sync::ledger::Ledger;
+use xfs_collections::Steps;
 use xfs_disk::{BLOCK_SIZE, Disk, Failed, NoMemory};
 use xfs_geom::Geometry;
-use xfs_collections::Steps;
 use xfs_word::Extent;
 
 /// What the blocks of these extents give, those that are not written yet among them.

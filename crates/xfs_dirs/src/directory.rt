@@ -17,9 +17,9 @@ use crate::short::read_form;
 use crate::whole_forms::is_whole_directory;
 use std::alloc::Global;
 use std::sync::ledger::Ledger;
+use xfs_collections::Steps;
 use xfs_disk::{Disk, NoMemory};
 use xfs_geom::Geometry;
-use xfs_collections::Steps;
 use xfs_volume::{FileRec, Records};
 
 /// The directory `file` with its entries (chapter "Directories"); `slot` has the 512 bytes of its inode, and its extents lie

@@ -14,9 +14,9 @@ use crate::sweeping::read_level;
 use std::alloc::Global;
 use std::sync::ledger::Ledger;
 use std::thread::Threads;
+use xfs_collections::Steps;
 use xfs_disk::{Disk, Gate};
 use xfs_geom::Geometry;
-use xfs_collections::Steps;
 use xfs_tree::Kind;
 
 /// Reads all levels of trees, from those that they stand at.

@@ -12,9 +12,8 @@ use crate::cells::Cell;
 use crate::faults::ForestFault;
 use std::alloc::Global;
 use std::sync::ledger::Ledger;
-use xfs_collections::BlockBank;
+use xfs_collections::{BlockBank, Steps};
 use xfs_disk::{Disk, Failed, NoMemory};
-use xfs_collections::Steps;
 
 /// Reads the blocks of a round in ascending order, each once. Each counts as a step, also where the read fails.
 pub(crate) fn load_round<D: Disk, L: Ledger>(

@@ -15,9 +15,9 @@ use crate::plants::Plant;
 use std::alloc::Global;
 use std::sync::ledger::Ledger;
 use std::thread::Threads;
+use xfs_collections::Steps;
 use xfs_disk::{Disk, Gate, NoMemory};
 use xfs_geom::Geometry;
-use xfs_collections::Steps;
 use xfs_tree::{Kind, Tree, Unread};
 
 /// Reads trees, level by level, all trees of a level together: of each its records in order and its blocks, or the first block that

@@ -19,10 +19,9 @@ use crate::plants::Plant;
 use std::alloc::Global;
 use std::sync::ledger::Ledger;
 use std::thread::Threads;
-use xfs_collections::BlockBank;
+use xfs_collections::{BlockBank, Steps};
 use xfs_disk::{Disk, Gate, NoMemory};
 use xfs_geom::Geometry;
-use xfs_collections::Steps;
 use xfs_tree::Kind;
 
 /// Reads the blocks of a round in order, judges them in pieces, and joins them to their trees. Then the round has no block.

@@ -20,9 +20,9 @@ use crate::taking::{Next, next_seat, pass_seat};
 use std::alloc::Global;
 use std::sync::ledger::Ledger;
 use std::thread::Threads;
+use xfs_collections::Steps;
 use xfs_disk::{Disk, Gate, NoMemory};
 use xfs_geom::Geometry;
-use xfs_collections::Steps;
 use xfs_tree::Kind;
 
 /// The blocks of a round for each worker.

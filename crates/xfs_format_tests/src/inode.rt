@@ -12,11 +12,11 @@ use crate::text::{Row, line_at, line_count, part_at, part_count, put_parts, tell
 use std::alloc::Global;
 use std::process::Abort;
 use std::sync::ledger::{Blank, Ledger};
+use xfs_collections::Steps;
 use xfs_disk::{Disk, Stamp, Word};
 use xfs_geom::Geometry;
 use xfs_inode::*;
 use xfs_inodebuild::*;
-use xfs_collections::Steps;
 use xfs_volume::Core;
 use xfs_word::{get8, put_part, seal, sealed, stored_checksum};
 

@@ -9,8 +9,8 @@ use std::marker::Brand;
 use std::mem;
 use std::process::Abort;
 use std::sync::ledger::{Blank, Ledger};
-use xfs_disk::NoMemory;
 use xfs_collections::*;
+use xfs_disk::NoMemory;
 
 /// The runs that are put into a set in turn: the first block, the number of blocks, and whether they meet what is there.
 const PUT: &str = "\

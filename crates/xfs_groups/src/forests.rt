@@ -21,11 +21,11 @@ use std::alloc::Global;
 use std::sync::ledger::Ledger;
 use std::thread::Threads;
 use std::vec::IntoIter;
+use xfs_collections::Steps;
 use xfs_disk::{Disk, Gate, NoMemory};
 use xfs_forest::{ForestFault, Plant, read_forest};
 use xfs_geom::Geometry;
 use xfs_kinds::{Bno, Cnt, Fino, Ino, Rmap};
-use xfs_collections::Steps;
 use xfs_tree::{Kind, Seat, Tree, Unread};
 
 /// The trees that were read, of each kind those of the groups whose headers name them, in order.

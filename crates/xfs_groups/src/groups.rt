@@ -21,10 +21,10 @@ use crate::trees::Trees;
 use std::alloc::Global;
 use std::sync::ledger::Ledger;
 use std::thread::Threads;
+use xfs_collections::Steps;
 use xfs_disk::{Disk, Gate, NoMemory};
 use xfs_geom::Geometry;
 use xfs_image::Finding;
-use xfs_collections::Steps;
 use xfs_volume::{Blocks, ClusterRec, GroupRec, Records};
 
 /// What is known of the blocks of one group.

@@ -14,10 +14,10 @@ ghost use Rattle.xfs_groups.specs.Private.Heads.{heads_at, heads_of};
 use crate::faults::GroupsFault;
 use std::alloc::Global;
 use std::sync::ledger::Ledger;
+use xfs_collections::Steps;
 use xfs_disk::{BLOCK_SIZE, Disk, Failed, NoMemory};
 use xfs_geom::Geometry;
 use xfs_heads::{Agf, Agfl, Agi, read_agf, read_agfl, read_agi};
-use xfs_collections::Steps;
 use xfs_word::part;
 
 /// The headers of a group, where they read (chapter "Allocation Groups").

@@ -16,9 +16,9 @@ ghost use Rattle.xfs_groups.specs.Private.Looking.{IsSeen, has_used};
 
 use crate::heads::read_block;
 use std::sync::ledger::Ledger;
+use xfs_collections::Steps;
 use xfs_disk::{BLOCK_SIZE, Disk, Failed};
 use xfs_geom::Geometry;
-use xfs_collections::Steps;
 use xfs_word::{Seal, SealKind, get16, get32, part, sealed};
 
 /// The bytes of a slot of an inode.

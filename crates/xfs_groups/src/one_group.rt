@@ -26,10 +26,10 @@ use crate::sets::BlockSet;
 use crate::trees::Trees;
 use std::alloc::Global;
 use std::sync::ledger::Ledger;
+use xfs_collections::Steps;
 use xfs_disk::{Disk, NoMemory};
 use xfs_geom::Geometry;
 use xfs_image::Finding;
-use xfs_collections::Steps;
 use xfs_volume::{ClusterRec, GroupRec};
 
 /// A group, its clusters whose slots are read, and its reserved blocks.

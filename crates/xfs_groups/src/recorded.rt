@@ -16,9 +16,9 @@ use crate::looking::look_whole;
 use crate::sets::BlockSet;
 use std::alloc::Global;
 use std::sync::ledger::Ledger;
+use xfs_collections::Steps;
 use xfs_disk::{Disk, Failed, NoMemory};
 use xfs_geom::Geometry;
-use xfs_collections::Steps;
 use xfs_volume::ClusterRec;
 
 /// The clusters of a group whose slots are read, where its trees name these clusters and all are named.

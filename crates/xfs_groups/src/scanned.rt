@@ -16,9 +16,9 @@ use crate::recorded::{lies_in_chunk, push_chosen, root_cluster};
 use crate::sets::{BlockSet, push_if};
 use std::alloc::Global;
 use std::sync::ledger::Ledger;
+use xfs_collections::Steps;
 use xfs_disk::{Disk, Failed, NoMemory};
 use xfs_geom::Geometry;
-use xfs_collections::Steps;
 use xfs_volume::ClusterRec;
 
 /// The clusters of a group whose slots are read, and the blocks of it on which nothing new is placed.

@@ -19,10 +19,10 @@ use crate::naming::needs_of;
 use crate::reading::{SlotRead, read_slot};
 use std::alloc::Global;
 use std::sync::ledger::Ledger;
+use xfs_collections::Steps;
 use xfs_disk::{BLOCK_SIZE, Disk, Failed, NoMemory};
 use xfs_geom::Geometry;
 use xfs_kinds::Bmbt;
-use xfs_collections::Steps;
 use xfs_tree::{Frontier, Tree, TreeFault, read_below};
 
 /// What the slot of an inode, of 512 bytes, reads as with the blocks of the disk that it names (chapter "On-disk

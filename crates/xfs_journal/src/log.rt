@@ -16,10 +16,10 @@ ghost use Rattle.xfs_journal.specs.Placed.{seen_in};
 use crate::faults::JournalFault;
 use std::alloc::Global;
 use std::sync::ledger::Ledger;
+use xfs_collections::Steps;
 use xfs_disk::{BLOCK_SIZE, Disk, Failed, NoMemory};
 use xfs_geom::Geometry;
 use xfs_log::{LogState, SectorSeen, log_state, see_sector};
-use xfs_collections::Steps;
 use xfs_word::part;
 
 /// The bytes of a sector, and the sectors of a block.

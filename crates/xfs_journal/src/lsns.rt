@@ -19,9 +19,9 @@ use crate::places::{LsnPosition, all_places};
 use crate::sorting::sort_places;
 use std::alloc::Global;
 use std::sync::ledger::Ledger;
+use xfs_collections::Steps;
 use xfs_disk::{BLOCK_SIZE, Disk, Failed, NoMemory};
 use xfs_geom::Geometry;
-use xfs_collections::Steps;
 use xfs_volume::{BlockLsn, FileRec, GroupRec, Records};
 use xfs_word::get64;
 

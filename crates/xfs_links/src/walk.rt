@@ -12,8 +12,8 @@ use crate::candidates::Candidate;
 use crate::lookup::is_directory_at_place;
 use crate::records::{DIRECTORY, NodeRec};
 use std::alloc::Global;
-use xfs_disk::NoMemory;
 use xfs_collections::Weave;
+use xfs_disk::NoMemory;
 
 /// A directory that is attached.
 #[derive(Clone, Copy)]

@@ -18,11 +18,11 @@ use std::alloc::Global;
 use std::marker::Brand;
 use std::sync::ledger::{Blank, Ledger};
 use std::thread::Threads;
+use xfs_collections::Steps;
 use xfs_disk::{Disk, Gate, Stamp};
 use xfs_geom::Elected;
 use xfs_rebuild::{BoxedNames, RebuildFault, Rebuilt, plan_rebuild};
 use xfs_rename::{Renamed, plan_names};
-use xfs_collections::Steps;
 use xfs_scan::Evidence;
 use xfs_writing::write_parts;
 

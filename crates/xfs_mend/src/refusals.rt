@@ -18,11 +18,11 @@ use std::marker::Brand;
 use std::sync::ledger::{Blank, Ledger};
 use std::thread::Threads;
 use xfs_backups::MendFault;
+use xfs_collections::Steps;
 use xfs_disk::{Disk, Gate};
 use xfs_geom::Geometry;
-use xfs_log::LogState;
 use xfs_journal::{JournalFault, read_log};
-use xfs_collections::Steps;
+use xfs_log::LogState;
 use xfs_scan::{Evidence, ScanFault, gather};
 
 /// What a repair of the volume goes by; or the answer, by the first cause for which it is not looked at further: its log is not clean, it

@@ -10,9 +10,8 @@ ghost use Rattle.xfs_rounds.specs.Causes.{HasRoundCause};
 use crate::faults::RoundFault;
 use std::alloc::Global;
 use std::sync::ledger::Ledger;
-use xfs_collections::BlockBank;
+use xfs_collections::{BlockBank, Steps};
 use xfs_disk::{Disk, Failed, NoMemory};
-use xfs_collections::Steps;
 
 /// Reads the blocks of a round in ascending order, each once. Each counts as a step, also where the read fails.
 pub fn load_round<D: Disk, L: Ledger>(

@@ -19,10 +19,9 @@ use crate::trees::read_trees;
 use std::alloc::Global;
 use std::sync::ledger::Ledger;
 use std::thread::Threads;
-use xfs_collections::BlockBank;
+use xfs_collections::{BlockBank, Steps};
 use xfs_disk::{Disk, Gate, NoMemory};
 use xfs_geom::Geometry;
-use xfs_collections::Steps;
 
 /// Decides what each slot of a round reads as, where its bytes alone do not say it: the blocks that it names are read, those of
 /// all slots together, and it is then decided in pieces by several workers, each of which first goes through the gate. Each block

@@ -12,11 +12,11 @@ use crate::named::NamingSlot;
 use std::alloc::Global;
 use std::sync::ledger::Ledger;
 use std::thread::Threads;
+use xfs_collections::Steps;
 use xfs_disk::{Disk, Gate, NoMemory};
 use xfs_forest::{ForestFault, Plant, read_forest};
 use xfs_geom::Geometry;
 use xfs_kinds::Bmbt;
-use xfs_collections::Steps;
 use xfs_tree::{Tree, Unread};
 
 /// Reads the trees of slots, of each what is below the root in its data fork. One without a tree gets one of no block.

@@ -15,9 +15,9 @@ use crate::runs::{are_apart, cluster_of, file_runs, root_cluster};
 use std::alloc::{AllocError, Global};
 use std::sync::ledger::Ledger;
 use xfs_claims::{Claims, FileClaim};
+use xfs_collections::Steps;
 use xfs_disk::NoMemory;
 use xfs_geom::{Geometry, Run};
-use xfs_collections::Steps;
 use xfs_volume::{ClusterRec, FileRec, Records};
 
 /// The owner of a group's headers. The owners that are no inode are below 0, in two's complement.

@@ -13,10 +13,10 @@ use std::alloc::Global;
 use std::sync::ledger::Ledger;
 use std::thread::Threads;
 use xfs_claims::{KeptClaims, keep};
+use xfs_collections::Steps;
 use xfs_dirdata::EntryRec;
 use xfs_disk::NoMemory;
 use xfs_geom::Geometry;
-use xfs_collections::Steps;
 use xfs_volume::{ClusterRec, DirRec, FileRec, Records};
 
 /// What is kept of what was found in a volume: the clusters and files that meet nothing of a higher rank, without a root

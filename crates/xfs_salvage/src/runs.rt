@@ -12,9 +12,9 @@ ghost use Rattle.xfs_space.specs.Private.Places.{IsPlacedExtent};
 
 use std::alloc::Global;
 use std::sync::ledger::Ledger;
+use xfs_collections::{RunSet, Steps};
 use xfs_disk::NoMemory;
 use xfs_geom::{Geometry, Run};
-use xfs_collections::{RunSet, Steps};
 use xfs_volume::FileRec;
 use xfs_word::Extent;
 

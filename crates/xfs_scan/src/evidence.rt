@@ -7,8 +7,8 @@ use std::alloc::{AllocError, Global};
 use std::marker::Model;
 use xfs_dirdata::EntryRec;
 use xfs_groups::GroupTrees;
-use xfs_log::LogState;
 use xfs_image::Finding;
+use xfs_log::LogState;
 use xfs_rounds::SlotFact;
 use xfs_volume::{Blocks, Catalog, ClusterRec, DirRec, FileRec, Records};
 

@@ -21,13 +21,13 @@ use crate::view::see_view;
 use std::alloc::Global;
 use std::sync::ledger::Ledger;
 use std::thread::Threads;
+use xfs_collections::Steps;
 use xfs_disk::{Disk, Gate, NoMemory};
 use xfs_geom::Geometry;
 use xfs_groups::{GroupTrees, Groups, GroupsFault, see_groups};
-use xfs_log::LogState;
 use xfs_journal::{JournalFault, read_log};
+use xfs_log::LogState;
 use xfs_rounds::SlotFact;
-use xfs_collections::Steps;
 use xfs_slots::Inodes;
 use xfs_volume::{Blocks, ClusterRec, Records};
 

@@ -15,10 +15,10 @@ ghost use Rattle.xfs_slots.specs.Gathered.{gathered, held_in, inodes_of_blocks, 
 use std::alloc::Global;
 use std::sync::ledger::Ledger;
 use std::thread::Threads;
+use xfs_collections::Steps;
 use xfs_disk::{Disk, Gate, NoMemory};
 use xfs_geom::Geometry;
 use xfs_rounds::{RoundFault, SlotFact, judge_round, load_round, settle_round};
-use xfs_collections::Steps;
 use xfs_slots::{Inodes, PartFault, blocks_of_candidates, take_round};
 use xfs_volume::ClusterRec;
 

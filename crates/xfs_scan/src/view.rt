@@ -26,14 +26,14 @@ ghost use Rattle.xfs_slots.specs.Gathered.{gathered, held_in, inodes_of_blocks, 
 use crate::evidence::{Lists, Seen};
 use std::alloc::Global;
 use std::sync::ledger::Ledger;
+use xfs_collections::Steps;
 use xfs_disk::{BLOCK_SIZE, Disk, Failed, NoMemory};
 use xfs_geom::superblock::{FDBLOCKS, ICOUNT, IFREE};
 use xfs_geom::{Counts, Geometry};
-use xfs_log::LogState;
 use xfs_image::Finding;
 use xfs_journal::{JournalFault, read_lsns};
+use xfs_log::LogState;
 use xfs_rounds::SlotFact;
-use xfs_collections::Steps;
 use xfs_slots::{Inodes, PartFault, blocks_of, clusters_of, see_block};
 use xfs_volume::{Catalog, ClusterRec, GroupRec, Records};
 use xfs_word::get64;

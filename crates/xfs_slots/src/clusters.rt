@@ -17,11 +17,11 @@ use crate::inodes::Inodes;
 use crate::slots::{see_slot, take_read};
 use std::alloc::Global;
 use std::sync::ledger::Ledger;
+use xfs_collections::Steps;
 use xfs_disk::{Disk, NoMemory};
 use xfs_geom::Geometry;
 use xfs_inode::read_slot;
 use xfs_rounds::{SlotFact, SlotFile, SlotPart};
-use xfs_collections::Steps;
 use xfs_word::part;
 
 /// The slots of a block, and the bytes of a slot.

@@ -18,11 +18,10 @@ use crate::faults::PartFault;
 use crate::inodes::Inodes;
 use std::alloc::Global;
 use std::sync::ledger::Ledger;
-use xfs_collections::BlockBank;
+use xfs_collections::{BlockBank, Steps};
 use xfs_disk::{Disk, NoMemory};
 use xfs_geom::Geometry;
 use xfs_rounds::{BlockParts, SlotFact};
-use xfs_collections::Steps;
 
 /// Takes up the slots of the blocks of a round, of which it is decided what they read as.
 pub fn take_round<D: Disk, L: Ledger>(

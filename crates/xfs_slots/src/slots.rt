@@ -16,11 +16,11 @@ use crate::faults::PartFault;
 use crate::inodes::{InodeFeature, Inodes};
 use std::alloc::Global;
 use std::sync::ledger::Ledger;
+use xfs_collections::Steps;
 use xfs_dirs::{DirFound, DirectoryFault, read_directory};
 use xfs_disk::{Disk, NoMemory};
 use xfs_geom::Geometry;
 use xfs_inode::{FileRead, InodeFault, SlotRead, read_file_of};
-use xfs_collections::Steps;
 use xfs_volume::{DirRec, FileRec};
 
 /// The type of a directory, in the upper four bits of a mode.

@@ -22,9 +22,9 @@ use crate::tree::TreeFault;
 use crate::unread::Unread;
 use std::alloc::Global;
 use std::sync::ledger::Ledger;
+use xfs_collections::Steps;
 use xfs_disk::{BLOCK_SIZE, Disk, Failed, NoMemory};
 use xfs_geom::Geometry;
-use xfs_collections::Steps;
 
 /// Reads and judges the nodes of a level, and gives the blocks of the level below.
 pub(crate) fn read_nodes<K: Kind, D: Disk, L: Ledger>(

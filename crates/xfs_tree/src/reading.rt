@@ -16,9 +16,9 @@ use crate::seats::Seat;
 use crate::tree::{Tree, TreeFault};
 use std::alloc::Global;
 use std::sync::ledger::Ledger;
+use xfs_collections::Steps;
 use xfs_disk::{Disk, NoMemory};
 use xfs_geom::Geometry;
-use xfs_collections::Steps;
 
 /// Reads the tree of so many levels whose root is the block of this number: its records in order, or the
 /// first block that breaks a rule. Each block is read once, and none of which a rule speaks before it is read

@@ -11,10 +11,10 @@ use std::marker::Brand;
 use std::process::Abort;
 use std::sync::ledger::{Blank, Ledger};
 use std::thread::Threads;
+use xfs_collections::Steps;
 use xfs_disk::{BLOCK_SIZE, Disk, NoGate};
 use xfs_groups::*;
 use xfs_memory::MemoryDisk;
-use xfs_collections::Steps;
 use xfs_word::{put_checksum, put_part, put32, put64};
 
 /// The identifier of the volume.

@@ -9,11 +9,11 @@ use std::alloc::Global;
 use std::marker::Brand;
 use std::process::Abort;
 use std::sync::ledger::{Blank, Ledger};
-use xfs_disk::{BLOCK_SIZE, Disk};
-use xfs_log::LogState;
-use xfs_journal::*;
-use xfs_memory::MemoryDisk;
 use xfs_collections::Steps;
+use xfs_disk::{BLOCK_SIZE, Disk};
+use xfs_journal::*;
+use xfs_log::LogState;
+use xfs_memory::MemoryDisk;
 use xfs_volume::{BlockLsn, Core, Extents, Few, FileRec, Records};
 use xfs_word::{Extent, put64};
 

@@ -12,13 +12,13 @@ use std::marker::Brand;
 use std::process::Abort;
 use std::sync::ledger::{Blank, Ledger};
 use std::thread::Threads;
+use xfs_collections::Steps;
 use xfs_disk::Stamp;
 use xfs_geom::{InoRec, RmapRec, Run};
 use xfs_log::LogState;
 use xfs_place::GroupInodes;
 use xfs_render::{SlotBase, SlotWanted};
 use xfs_request::{Request, SlotSeen, SlotState, ask, due_cycle, kept_lsns};
-use xfs_collections::Steps;
 use xfs_salvage::{FoundRecords, salvage};
 use xfs_volume::{ClusterRec, Records};
 

@@ -8,10 +8,10 @@ use crate::text::refuse;
 use std::alloc::Global;
 use std::marker::Brand;
 use std::sync::ledger::{Blank, Ledger};
+use xfs_collections::Steps;
 use xfs_disk::{Disk, Failed, NoMemory};
 use xfs_kinds::{Ino, Rmap};
 use xfs_memory::MemoryDisk;
-use xfs_collections::Steps;
 use xfs_tree::{Kind, Tree, TreeFault, Unread, read_tree};
 use xfs_word::{Seal, SealKind, put_part, put16, put32, put64, seal};
 

@@ -11,10 +11,10 @@ use std::marker::Brand;
 use std::process::Abort;
 use std::sync::ledger::{Blank, Ledger};
 use std::thread::Threads;
+use xfs_collections::Steps;
 use xfs_disk::{Disk, NoGate, NoMemory};
 use xfs_forest::{ForestFault, Plant, read_forest};
 use xfs_memory::MemoryDisk;
-use xfs_collections::Steps;
 use xfs_tree::{Seat, Tree, Unread};
 
 /// What trees read as.

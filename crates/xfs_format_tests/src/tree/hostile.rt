@@ -9,10 +9,10 @@ use std::alloc::Global;
 use std::marker::Brand;
 use std::process::Abort;
 use std::sync::ledger::{Blank, Ledger};
+use xfs_collections::Steps;
 use xfs_disk::Disk;
 use xfs_geom::Geometry;
 use xfs_memory::MemoryDisk;
-use xfs_collections::Steps;
 use xfs_tree::{Tree, TreeFault, read_tree};
 use xfs_word::{Seal, SealKind, put_part, put16, put32, put64, seal};
 

@@ -12,8 +12,8 @@ use std::process::Abort;
 use std::sync::ledger::{Blank, Ledger};
 use std::thread::Threads;
 use xfs_claims::{Claims, FileClaim, KeptClaims, keep};
-use xfs_geom::Run;
 use xfs_collections::Steps;
+use xfs_geom::Run;
 use xfs_volume::{ClusterRec, Records};
 
 /// In a row stand what the case is, the fixed runs, the clusters and whether they are recorded, the files (the number

@@ -12,8 +12,8 @@ use std::process::Abort;
 use std::sync::ledger::{Blank, Ledger};
 use std::thread::Threads;
 use xfs_claims::{Claims, FileClaim};
-use xfs_geom::Run;
 use xfs_collections::Steps;
+use xfs_geom::Run;
 use xfs_volume::{ClusterRec, Records};
 
 /// The blocks of the run, which begins at block 1,000.
