@@ -83,3 +83,9 @@ returns-in-Err-sync-clause-stops g c = λ tells image told t stopped low left.
     stopped_last first (writes_of_rows c.args.bank.now c.args.last.now) image stopped (D.left_since c.args.disk.now t stopped)
     (D.left_since c.write_part.new.disk t stopped) (c.in-Ok.ensures.stops tells image told t stopped low)
     (c.in-Ok-write_part.ensures.stops between (written first image) (c.in-Ok.ensures.done image told) t stopped early (synced.nothing_new t stopped (omega (arith, early, latest)) left))
+
+pub returns-in-Err-sync-clause-done : goal.returns-in-Err-sync-clause-done
+returns-in-Err-sync-clause-done g c = tt
+
+pub returns-in-Err-sync-clause-kept : goal.returns-in-Err-sync-clause-kept
+returns-in-Err-sync-clause-kept g c = tt

@@ -24,3 +24,9 @@ returns-in-None-clause-met g c =
     subst (λ (x : List (ℕ × ℕ)). filter (λ (e : ℕ × ℕ). range_contains nat_cmp Unbounded (Excluded (c.args.start + c.args.count)) e.0) x ≡ []) c.self.view_is
     (sym (c.range.ensures.between tt) ∙ c.in-None.ensures.steps.0) in
     sym (none_meets 0 c.args.self.now c.args.start c.args.count _ (λ r. before_end (c.args.start + c.args.count) r.0) up none)
+
+pub returns-in-Some-clause-ticks : goal.returns-in-Some-clause-ticks
+returns-in-Some-clause-ticks g c = c.tick.ensures
+
+pub returns-in-None-clause-ticks : goal.returns-in-None-clause-ticks
+returns-in-None-clause-ticks g c = c.tick.ensures
