@@ -82,16 +82,27 @@ pub fn plan_rebuild<R: Threads + Sync, D: Disk, G: Gate, L: Ledger>(
     let g = &chosen.geometry;
     let slots = match slots_found(alloc, g, &evidence) {
         Ok(slots) => slots,
-        Err(NoMemory) => return Err(RebuildFault::NoMemory),
+        Err(NoMemory) => {
+            drop(evidence);
+            return Err(RebuildFault::NoMemory);
+        }
     };
     let reserved = match reserved_found(alloc, &evidence) {
         Ok(reserved) => reserved,
-        Err(NoMemory) => return Err(RebuildFault::NoMemory),
+        Err(NoMemory) => {
+            drop(evidence);
+            drop(slots);
+            return Err(RebuildFault::NoMemory);
+        }
     };
     let log = evidence.log;
     let kept = match salvage(rt, alloc, g, records_found(evidence), steps) {
         Ok(kept) => kept,
-        Err(NoMemory) => return Err(RebuildFault::NoMemory),
+        Err(NoMemory) => {
+            drop(slots);
+            drop(reserved);
+            return Err(RebuildFault::NoMemory);
+        }
     };
     plan_kept(
         rt, alloc, disk, chosen, kept, slots, reserved, &log, stamp, gate, steps,
@@ -131,7 +142,12 @@ fn plan_kept<R: Threads + Sync, D: Disk, G: Gate, L: Ledger>(
                 rt, alloc, disk, chosen, kept, seen, reserved, numbers, log, stamp, gate,
             )
         }
-        Err(fault) => Err(fault),
+        Err(fault) => {
+            drop(kept);
+            drop(seen);
+            drop(reserved);
+            Err(fault)
+        }
     }
 }
 
@@ -173,7 +189,11 @@ fn plan_numbered<R: Threads + Sync, D: Disk, G: Gate>(
         Ok(request) => plan_request(
             rt, alloc, disk, chosen, kept, seen, request, numbers, log, stamp, gate,
         ),
-        Err(NoMemory) => Err(RebuildFault::NoMemory),
+        Err(NoMemory) => {
+            drop(kept);
+            drop(seen);
+            Err(RebuildFault::NoMemory)
+        }
     }
 }
 
@@ -220,7 +240,11 @@ fn plan_request<R: Threads + Sync, D: Disk, G: Gate>(
         Ok(Judged::Change(names)) => {
             Err(names_fault(alloc, names_due(request, names, seen, log)))
         }
-        Err(NoMemory) => Err(RebuildFault::NoMemory),
+        Err(NoMemory) => {
+            drop(request);
+            drop(seen);
+            Err(RebuildFault::NoMemory)
+        }
     }
 }
 
@@ -258,8 +282,16 @@ fn plan_staying<R: Threads + Sync, D: Disk, G: Gate>(
         cleared,
     } = request;
     match gather_bytes(alloc, disk, chosen, clusters, slots, numbers, log, stamp) {
-        Ok(bytes) => plan_wanted(rt, alloc, disk, &wanted, &bytes, kept, cleared, gate),
-        Err(fault) => Err(fault),
+        Ok(bytes) => {
+            let planned = plan_wanted(rt, alloc, disk, &wanted, &bytes, kept, cleared, gate);
+            drop(bytes);
+            drop(wanted);
+            planned
+        }
+        Err(fault) => {
+            drop(wanted);
+            Err(fault)
+        }
     }
 }
 

@@ -59,7 +59,9 @@ pub(crate) fn plan_wanted<R: Threads + Sync, D: Disk, G: Gate>(
         Err(PlaceFault::NoRoom(what)) => return Err(RebuildFault::NoRoom(what)),
         Err(PlaceFault::NoMemory) => return Err(RebuildFault::NoMemory),
     };
-    plan_placed(rt, alloc, disk, wanted, &placed, bytes, kept, cleared, gate)
+    let planned = plan_placed(rt, alloc, disk, wanted, &placed, bytes, kept, cleared, gate);
+    drop(placed);
+    planned
 }
 
 /// The same where all that is wanted is placed.
