@@ -31,7 +31,7 @@ use Rattle.xfs_volume.specs.declared.files.FileRec.{FileRec}
 use Rattle.xfs_rebuild.specs.Bytes.{AreAtHand, AreReadOf}
 use Rattle.xfs_rebuild.specs.Changes.{CanChangeAll}
 use Rattle.xfs_rebuild.specs.Rebuilds.{HasNamesDue, IsRenderedLeft}
-use Rattle.xfs_rebuild.specs.Refusals.{HasRebuildCause, IsReadRefused}
+use Rattle.xfs_rebuild.specs.Refusals.{HasRebuildCause, IsReadRefused, IsRebuildCause}
 use Rattle.xfs_rebuild.specs.declared.faults.RebuildFault.{RebuildFault}
 use Rattle.xfs_rebuild.specs.declared.faults.RebuildFault.TheVariants as faults
 use Rattle.xfs_rebuild.specs.declared.names_due.NamesDue.{NamesDue}
@@ -40,7 +40,7 @@ use Rattle.xfs_changes.specs.Forks.{forks_of}
 use Rattle.xfs_rename.specs.Lost.{lost_due}
 use Rattle.xfs_built.specs.Asks.{blocks_of_built, objects_of}
 use Rattle.xfs_rename.specs.Objects.{wanted_with}
-use Rattle.xfs_rename.specs.Renames.{IsRenamed, IsRenameRefused, IsSettling, cleared_beside, lsns_due, old_files, placed_forks, renamed_slots, renamed_wanted}
+use Rattle.xfs_rename.specs.Renames.{IsRenamed, IsRenameRefused, IsRoomFault, IsSettling, cleared_beside, lsns_due, old_files, placed_forks, renamed_slots, renamed_wanted}
 use Rattle.xfs_changes.specs.Rooms.{fork_rooms}
 use Rattle.xfs_rename.specs.Settled.{settled}
 use Rattle.xfs_changes.specs.Slots.{changes_of, with_changes}
@@ -222,6 +222,16 @@ cause_on first before now (Err faults.ReadFault) up cause =
     let two = cause.1 in
     (omega (arith, up, one), omega (arith, up, one, two))
 cause_on first before now (Err faults.NoMemory) up cause = omega (arith, up, cause)
+
+-- a count that stays has not fallen; and the cause where room is wanting, or memory
+pub no_later : (a : ℕ) → a ≤ a
+no_later a = omega arith
+
+pub room_cause : (a : ℕ) (fault : RebuildFault) → IsRoomFault fault → IsRebuildCause a a fault
+room_cause a (faults.Names due) is = absurd is
+room_cause a (faults.NoRoom what) is = no_later a
+room_cause a faults.ReadFault is = absurd is
+room_cause a faults.NoMemory is = no_later a
 
 pub fault_refused : (g : Geometry) (n : NamesDue) (fault : RebuildFault) → IsReadRefused fault → IsRenameRefused g n fault
 fault_refused g n (faults.Names due) is = absurd is

@@ -23,9 +23,17 @@ use Rattle.xfs_rename.specs.Objects.{asked_with, wanted_with, with_added}
 use Rattle.xfs_rename.specs.Renames.{IsSettling}
 use Rattle.xfs_rename.specs.Settled.{fresh_with, settled, staying_files, with_numbers}
 use Rattle.xfs_changes.specs.Replaced.{replaced_blocks}
+use Rattle.xfs_changes.specs.declared.lost_found.Lost.{Lost}
 use Rattle.xfs_rename.specs.declared.settling.Settling.{Settling}
 use Rattle.xfs_rename.proofs.Agreed.{adds_one}
 use Rattle.xfs_rename.proofs.InTurn.{clusters_in_order, rooms_in_order, staying_forks, staying_in_order}
+
+-- what is kept of equal parts
+pub parted_kept : (n : NamesDue) (rebuilt clusters fresh : List ℕ) (files : List FileRec) (l : Lost) (kept : Salvaged) → clusters ≡ n.clusters → files ≡ n.files → fresh ≡ n.fresh
+    → kept ≡ record { clusters = clusters; files = staying_files rebuilt fresh files; fresh = fresh_with l fresh; entries = []; dirs = [] }
+    → kept ≡ record { clusters = n.clusters; files = staying_files rebuilt n.fresh n.files; fresh = fresh_with l n.fresh; entries = []; dirs = [] }
+parted_kept n rebuilt clusters fresh files l kept a b c is =
+    is ∙ (λ i. record { clusters = a i; files = staying_files rebuilt (c i) (b i); fresh = fresh_with l (c i); entries = []; dirs = [] })
 
 module _ (g : Geometry) (s : Stamp) (n : NamesDue) (has : HasNamesDue g s n) (t : Settling) (is : IsSettling g n t) where
   abbrev first_kept : Salvaged

@@ -1,5 +1,6 @@
 -- What is settled about names, from its parts.
-use Rattle.std.proofs.Common.{◌≡◌, ℕ, ◌+◌, ◌≤◌, Bool, true, false, cond, List, [], ◌∷◌, length, map, sym, subst, ap, ◌∙◌, arith}
+use Rattle.std.proofs.Common.{◌≡◌, ℕ, ◌+◌, ◌≤◌, Bool, true, false, cond, List, [], ◌∷◌, length, map, ◌⊎◌, inl, Result, Ok, Err, sym, subst, ap, ◌∙◌, arith}
+use Rattle.std.specs.Prelude.{IfErr, IfOk}
 use Rattle.std.specs.List.{All, filter}
 use Rattle.xfs_dirdata.specs.declared.records.EntryRec.{EntryRec}
 use Rattle.xfs_disk.specs.declared.stamp.Stamp.{Stamp}
@@ -18,6 +19,9 @@ use Rattle.xfs_names.specs.declared.records.WantedNames.{WantedNames}
 use Rattle.xfs_volume.specs.declared.directories.DirRec.{DirRec}
 use Rattle.xfs_volume.specs.declared.files.FileRec.{FileRec}
 use Rattle.xfs_volume.specs.Names.{is_directory}
+use Rattle.xfs_place.specs.declared.faults.PlaceFault.{PlaceFault}
+use Rattle.xfs_place.specs.declared.faults.PlaceFault.TheVariants as place_fault
+use Rattle.xfs_place.specs.declared.faults.Unplaced.TheVariants.{LostFound}
 use Rattle.xfs_rebuild.specs.Rebuilds.{HasNamesDue}
 use Rattle.xfs_rebuild.specs.declared.names_due.NamesDue.{NamesDue}
 use Rattle.xfs_salvage.proofs.Ascending.{filtered}
@@ -80,6 +84,23 @@ module _ (nodes : List NodeRec) (listed : List EntryRec) (dirs : List DirRec) (r
     where
       new_is : new ≡ (lost_due g n).new
       new_is = e ∙ ap (λ (x : Lost). x.new) is
+
+  -- the same of what is made where memory is not wanting
+  pub all_settled : (g : Geometry) (n : NamesDue) (l : Lost) (orphans : ℕ) (result : Result Settling PlaceFault) → nodes ≡ nodes_of_files n.files → listed ≡ n.entries → dirs ≡ n.dirs → root ≡ g.rootino → new ≡ l.new
+      → w.entries ≡ wanted_entries nodes listed root new → w.links ≡ wanted_links nodes listed root new → l ≡ lost_due g n → (LacksCluster g n → ⊥)
+      → orphans ≡ length (orphans_of (nodes_of_files n.files) n.entries g.rootino) → (files : List FileRec) → files ≡ n.files
+      → IfOk result (λ t. t.lost ≡ l) → IfOk result (λ t. t.names ≡ w) → IfOk result (λ t. t.rooms ≡ fork_rooms w.rebuilt files)
+      → IfOk result (λ t. map (λ (b : BuiltDirectory). b.ino) t.built ≡ w.rebuilt) → IfOk result (λ t. All (IsBuiltAsWanted w (fork_rooms w.rebuilt files)) t.built)
+      → IfOk result (λ t. t.orphans ≡ orphans) → IfOk result (IsSettling g n)
+  all_settled g n l orphans (Ok t) a b c d e entries links is found many files f lost' names' rooms' numbers each without =
+      settling_is g n l orphans t a b c d e entries links is found many files f lost' names' rooms' numbers each without
+  all_settled g n l orphans (Err fault) a b c d e entries links is found many files f lost' names' rooms' numbers each without = tt
+
+-- want of memory is one of the causes
+pub memory_only : {A : Type 0} (P : Type 0) (result : Result A PlaceFault) → IfErr result (λ fault. fault ≡ place_fault.NoMemory)
+    → IfErr result (λ fault. (fault ≡ place_fault.NoMemory) ⊎ ((fault ≡ place_fault.NoRoom LostFound) × P))
+memory_only P (Ok x) is = tt
+memory_only P (Err fault) is = inl is
 
 -- what was decided for files and entries is so for equal ones
 pub decided_is : (files nodes : List NodeRec) (es listed : List EntryRec) (root : ℕ) (names : DecidedNames) → files ≡ nodes → es ≡ listed

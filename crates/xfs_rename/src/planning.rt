@@ -125,8 +125,14 @@ fn plan_renamed<R: Threads + Sync, D: Disk, G: Gate, L: Ledger>(
 {
     let orphans = settling.orphans;
     match plan_settled(rt, alloc, disk, chosen, due, &settling, stamp, gate, steps) {
-        Ok(rebuilt) => Ok(Renamed { rebuilt, orphans }),
-        Err(fault) => Err(fault),
+        Ok(rebuilt) => {
+            drop(settling);
+            Ok(Renamed { rebuilt, orphans })
+        }
+        Err(fault) => {
+            drop(settling);
+            Err(fault)
+        }
     }
 }
 
@@ -155,9 +161,13 @@ fn plan_settled<R: Threads + Sync, D: Disk, G: Gate, L: Ledger>(
     ensures disk { OnlyReads D.size D.holds D.write_faults D.writes D.tells_stops D.moment D.may_leave D.left_since disk.old disk.new }
 {
     match ask_settled(alloc, &chosen.geometry, due, settling, stamp) {
-        Ok(asked) => plan_asked(
-            rt, alloc, disk, chosen, settling, &asked, stamp, gate, steps,
-        ),
+        Ok(asked) => {
+            let planned = plan_asked(
+                rt, alloc, disk, chosen, settling, &asked, stamp, gate, steps,
+            );
+            drop(asked);
+            planned
+        }
         Err(NoMemory) => Err(RebuildFault::NoMemory),
     }
 }
@@ -193,11 +203,14 @@ fn plan_asked<R: Threads + Sync, D: Disk, G: Gate, L: Ledger>(
     };
     let bytes = match settled_bytes(alloc, disk, chosen, settling, asked, &placed, stamp, steps) {
         Ok(bytes) => bytes,
-        Err(fault) => return Err(fault),
+        Err(fault) => {
+            drop(placed);
+            return Err(fault);
+        }
     };
     let count = names_of(settling);
     let cleared = cleared_beside(&settling.lost, asked.slots.as_slice());
-    plan_placed(
+    let planned = plan_placed(
         rt,
         alloc,
         disk,
@@ -207,7 +220,10 @@ fn plan_asked<R: Threads + Sync, D: Disk, G: Gate, L: Ledger>(
         count,
         cleared,
         gate,
-    )
+    );
+    drop(bytes);
+    drop(placed);
+    planned
 }
 
 /// How many files have names.

@@ -9,10 +9,12 @@ ghost use Rattle.xfs_volume.specs.declared.files.FileRec.{FileRec};
 ghost use Rattle.xfs_names.specs.declared.building.ForkRoom.{ForkRoom};
 ghost use Rattle.xfs_naming.specs.Naming.{NumbersAscend};
 ghost use Rattle.xfs_rebuild.specs.Rebuilds.{HasNamesDue};
+ghost use Rattle.xfs_rebuild.specs.declared.names_due.NamesDue.{NamesDue};
 ghost use Rattle.xfs_salvage.specs.Kept.{run_of_cluster, taken_of};
 ghost use Rattle.xfs_built.specs.Asks.{objects_of};
 ghost use Rattle.xfs_changes.specs.Replaced.{replaced_blocks};
 ghost use Rattle.xfs_rename.specs.Objects.{asked_with, wanted_with, with_added};
+ghost use Rattle.xfs_rename.specs.Parted.{IsParted};
 ghost use Rattle.xfs_rename.specs.Renames.{IsSettling};
 ghost use Rattle.xfs_rename.specs.Settled.{fresh_with, settled, staying_files, with_numbers};
 
@@ -87,24 +89,55 @@ fn ask_names(
         wanted,
         slots,
         files,
+        entries,
+        dirs,
         clusters,
         fresh,
         seen,
         log,
-        ..
     } = due;
+    drop(entries);
+    drop(dirs);
+    match ask_parts(alloc, g, wanted, files, clusters, fresh, settling, stamp) {
+        Ok(asked) => {
+            let (wanted, kept) = asked;
+            Ok(SettledAsk {
+                wanted,
+                kept,
+                slots,
+                seen,
+                log,
+            })
+        }
+        Err(NoMemory) => {
+            drop(slots);
+            drop(seen);
+            Err(NoMemory)
+        }
+    }
+}
+
+/// What is asked, and what is kept with new clusters, by what is known, in parts.
+fn ask_parts(
+    alloc: Global,
+    g: &Geometry,
+    wanted: Wanted,
+    files: Records<FileRec>,
+    clusters: Records<u64>,
+    fresh: Records<u64>,
+    settling: &Settling,
+    stamp: &Stamp,
+) -> Result<(Wanted, Salvaged), NoMemory>
+    requires parts { (n : NamesDue) × IsParted g.now stamp.now n settling.now wanted files clusters fresh }
+    ensures wanted { (n : NamesDue) → IsParted g.now stamp.now n settling.now wanted files clusters fresh
+        → IfOk result (λ both. both.0 ≡ wanted_with g.now n settling.now.lost settling.now.names (objects_of settling.now.rooms settling.now.built)) }
+    ensures kept { (n : NamesDue) → IsParted g.now stamp.now n settling.now wanted files clusters fresh
+        → IfOk result (λ both. both.1 ≡ settled n settling.now.lost settling.now.names) }
+{
     let rebuilt = settling.names.rebuilt.as_slice();
     let reserved = reserved_with(g, rebuilt, files.as_slice(), wanted)?;
     let kept = staying_of(alloc, rebuilt, &settling.lost, clusters, files, fresh)?;
-    let asked = asked_of(alloc, g, settling, kept, reserved)?;
-    let (wanted, kept) = asked;
-    Ok(SettledAsk {
-        wanted,
-        kept,
-        slots,
-        seen,
-        log,
-    })
+    asked_of(alloc, g, settling, kept, reserved)
 }
 
 /// What is asked, and what is kept with new clusters, by what is kept without them and the reserved blocks.
@@ -122,10 +155,21 @@ fn asked_of(
     ensures wanted { IfOk result (λ both. both.0 ≡ asked_with g.now settling.now (taken_of (volume_of g.now) kept.clusters kept.files) reserved.items (with_added settling.now.lost.added kept)) }
     ensures kept { IfOk result (λ both. both.1 ≡ with_added settling.now.lost.added kept) }
 {
-    let taken = taken_runs(alloc, g, &kept)?;
+    let taken = match taken_runs(alloc, g, &kept) {
+        Ok(taken) => taken,
+        Err(NoMemory) => {
+            drop(kept);
+            return Err(NoMemory);
+        }
+    };
     let kept = with_added(settling.lost.added.as_slice(), kept)?;
-    let wanted = wanted_of(alloc, g, settling, &kept, taken, reserved)?;
-    Ok((wanted, kept))
+    match wanted_of(alloc, g, settling, &kept, taken, reserved) {
+        Ok(wanted) => Ok((wanted, kept)),
+        Err(NoMemory) => {
+            drop(kept);
+            Err(NoMemory)
+        }
+    }
 }
 
 /// What is asked, by what is kept with new clusters, the runs that were taken without them and the reserved blocks.

@@ -11,9 +11,15 @@ pub build_all-requires-clause-rooms : goal.build_all-requires-clause-rooms
 build_all-requires-clause-rooms c =
     subst (IsNonDecreasingBy (λ (r : ForkRoom). r.ino))
     (sym (c.deref.ensures.value ∙ c.in_ok-rooms.ensures ∙ ap (λ (ns : List ℕ). fork_rooms ns c.args.files.now) c.as_slice.ensures))
-    (rooms_in_order c.args.names.rebuilt c.args.files.now c.requires.files)
+    (rooms_in_order c.args.names.now.rebuilt c.args.files.now c.requires.files)
 
-pub returns-clause-each : goal.returns-clause-each
-returns-clause-each c =
-    subst (λ (rs : List ForkRoom). All (IsBuiltAsWanted c.args.names rs) c.in_ok-built.built)
-    (c.deref.ensures.value ∙ c.in_ok-rooms.ensures ∙ ap (λ (ns : List ℕ). fork_rooms ns c.args.files.now) c.as_slice.ensures) c.in_ok-built.ensures.built
+pub build_all-requires-clause-wanted : goal.build_all-requires-clause-wanted
+build_all-requires-clause-wanted c = c.requires.can
+
+pub returns : goal.returns
+returns c = record {
+  rooms = c.in_ok-rooms.ensures ∙ ap (λ (ns : List ℕ). fork_rooms ns c.args.files.now) c.as_slice.ensures;
+  numbers = c.in_ok-built.ensures.each;
+  each = subst (λ (rs : List ForkRoom). All (IsBuiltAsWanted c.args.names.now rs) c.in_ok-built.built)
+      (c.deref.ensures.value ∙ c.in_ok-rooms.ensures ∙ ap (λ (ns : List ℕ). fork_rooms ns c.args.files.now) c.as_slice.ensures) c.in_ok-built.ensures.built;
+}

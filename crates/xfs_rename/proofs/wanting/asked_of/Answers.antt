@@ -15,9 +15,9 @@ pub wanted_of-requires-clause-clusters : goal.wanted_of-requires-clause-clusters
 wanted_of-requires-clause-clusters c =
     subst (λ (k : Salvaged). NumbersAscend 0 k.clusters) (sym (c.in_ok-kept.ensures ∙ ap (λ (added : List ℕ). with_added added c.args.kept) c.as_slice.ensures)) c.requires.clusters
 
-pub returns-clause-wanted : goal.returns-clause-wanted
-returns-clause-wanted c = c.in_ok-wanted.ensures ∙ (λ i.
-    asked_with c.args.g.now c.args.settling.now (c.in_ok-taken.ensures i) c.args.reserved.items ((c.in_ok-kept.ensures ∙ ap (λ (added : List ℕ). with_added added c.args.kept) c.as_slice.ensures) i))
+pub returns-in-Ok-wanted_of-clause-wanted : goal.returns-in-Ok-wanted_of-clause-wanted
+returns-in-Ok-wanted_of-clause-wanted c = c.in-Ok-wanted_of.ensures ∙ (λ i.
+    asked_with c.args.g.now c.args.settling.now (c.in-Ok.ensures i) c.args.reserved.items ((c.in_ok-kept.ensures ∙ ap (λ (added : List ℕ). with_added added c.args.kept) c.as_slice.ensures) i))
 
-pub returns-clause-kept : goal.returns-clause-kept
-returns-clause-kept c = c.in_ok-kept.ensures ∙ ap (λ (added : List ℕ). with_added added c.args.kept) c.as_slice.ensures
+pub returns-in-Ok-wanted_of-clause-kept : goal.returns-in-Ok-wanted_of-clause-kept
+returns-in-Ok-wanted_of-clause-kept c = c.in_ok-kept.ensures ∙ ap (λ (added : List ℕ). with_added added c.args.kept) c.as_slice.ensures
