@@ -1,11 +1,13 @@
 -- The numbers of files, in their order, and what they say of the files.
-use Rattle.std.proofs.Common.{◌≡◌, ℕ, zero, suc, ◌≤◌, ◌<◌, ◌+◌, Bool, cond, ◌==◌, ◌||◌, List, [], ◌∷◌, map, filter, length, get_or, count_by, refl, sym, ap, ◌∙◌, subst, arith}
+use Rattle.std.proofs.Common.{◌≡◌, ℕ, zero, suc, ◌≤◌, ◌<◌, ◌+◌, Bool, cond, ◌==◌, ◌||◌, List, [], ◌∷◌, ◌++◌, map, filter, drop, length, get_or, count_by, refl, sym, ap, ◌∙◌, subst, arith}
 use Rattle.std.specs.List.Sorted.{IsNonDecreasing, IsNonDecreasingBy}
+use Rattle.std.proofs.lemmas.List.{append_assoc}
 use Rattle.std.proofs.lemmas.List.Kept.{IsNonDecreasingBy-filter}
 use Rattle.xfs_disk.specs.Lists.{is_among}
 use Rattle.xfs_dirdata.specs.declared.records.EntryRec.{EntryRec}
 use Rattle.xfs_volume.specs.Names.{is_directory}
 use Rattle.xfs_volume.specs.declared.files.FileRec.{FileRec}
+use Rattle.xfs_space.proofs.OwnedRuns.{from_head}
 use Rattle.xfs_naming.specs.Naming.{entries_in, entries_to, is_directory_at, is_in_use, links_of, numbers_of}
 use Rattle.xfs_naming.proofs.Order.{Rises, rises_by}
 use Rattle.xfs_salvage.proofs.Directories.{directory_among}
@@ -32,6 +34,14 @@ are_numbers files numbers up are = record { are = are; rise = subst IsNonDecreas
 pub are_directories : (files : List FileRec) (numbers : List ℕ) → IsNonDecreasingBy (λ (f : FileRec). f.ino) files → numbers ≡ numbers_of (filter is_directory files)
     → AreNumbers (filter is_directory files) numbers
 are_directories files numbers up are = are_numbers (filter is_directory files) numbers (IsNonDecreasingBy-filter (λ (f : FileRec). f.ino) is_directory files up) are
+
+-- one number more behind the others
+pub number_next : (files : List FileRec) (i : ℕ) (f : FileRec) (done more all : List ℕ) → i < length files → f ≡ get_or files i f → done ++ numbers_of (drop i files) ≡ all
+    → more ≡ done ++ f.ino ∷ [] → more ++ numbers_of (drop (i + 1) files) ≡ all
+number_next files i f done more all inside is before on =
+    ap (λ (ns : List ℕ). ns ++ numbers_of (drop (i + 1) files)) on
+    ∙ append_assoc done (f.ino ∷ []) (numbers_of (drop (i + 1) files))
+    ∙ subst (λ (fs : List FileRec). done ++ numbers_of fs ≡ all) (from_head files i f inside is) before
 
 -- the same files and the same numbers
 pub same_numbers : (files fs : List FileRec) (numbers ns : List ℕ) → fs ≡ files → ns ≡ numbers → AreNumbers fs numbers → AreNumbers files ns

@@ -1,6 +1,6 @@
 //! What is asked of a volume, put together.
 
-ghost use Rattle.std.specs.Prelude.{◌≡◌, ◌<◌, ◌^◌, IfOk};
+ghost use Rattle.std.specs.Prelude.{◌≡◌, ◌<◌, ◌^◌, [], false, IfOk};
 ghost use Rattle.std.specs.List.{All};
 ghost use Rattle.std.specs.List.Sorted.{IsNonDecreasingBy};
 ghost use Rattle.xfs_geom.specs.Volumes.{volume_of};
@@ -18,9 +18,9 @@ use crate::slots::{Basis, wanted_slots};
 use crate::taken::taken_runs;
 use std::alloc::Global;
 use xfs_disk::{NoMemory, Stamp};
-use xfs_geom::Geometry;
+use xfs_geom::{Geometry, Run};
 use xfs_naming::links_of;
-use xfs_place::Wanted;
+use xfs_place::{GroupInodes, Wanted};
 use xfs_render::{SlotBase, SlotWanted};
 use xfs_salvage::Salvaged;
 use xfs_volume::{Blocks, Records};
@@ -82,7 +82,6 @@ pub fn ask(
 }
 
 /// What is to be placed.
-#[tactic(auto, unfolding(crate::specs::Requests::volume_wanted))]
 fn volume_wanted(
     alloc: Global,
     g: &Geometry,
@@ -94,17 +93,32 @@ fn volume_wanted(
     requires forks { All (HasLawfulForks (volume_of g.now)) kept.now.files }
     ensures { IfOk result (λ wanted. wanted ≡ volume_wanted g.now kept.now reserved) }
 {
-    Ok(Wanted {
+    let taken = taken_runs(alloc, g, kept)?;
+    let inodes = inodes_wanted(alloc, g, kept)?;
+    Ok(joined(alloc, g, taken, reserved, inodes))
+}
+
+/// The same from its parts: nothing that is new.
+fn joined(
+    alloc: Global,
+    g: &Geometry,
+    taken: Vec<Run>,
+    reserved: Blocks,
+    inodes: Vec<GroupInodes>,
+) -> Wanted
+    ensures { result ≡ record { geometry = g.now; taken = taken.items; new = []; reserved = reserved; from = 0; spared_from = []; takes_spared = false; objects = []; inodes = inodes.items } }
+{
+    Wanted {
         geometry: *g,
-        taken: Records::from_vec(taken_runs(alloc, g, kept)?),
+        taken: Records::from_vec(taken),
         new: Records::from_vec(Vec::new(alloc)),
         reserved,
         from: 0,
         spared_from: Records::from_vec(Vec::new(alloc)),
         takes_spared: false,
         objects: Records::from_vec(Vec::new(alloc)),
-        inodes: Records::from_vec(inodes_wanted(alloc, g, kept)?),
-    })
+        inodes: Records::from_vec(inodes),
+    }
 }
 
 /// How many slots are freed.

@@ -1,5 +1,6 @@
 use Rattle.std.proofs.Common.{rules, List, ◌≤◌, ◌^◌, sym, subst, arith}
 use Rattle.std.specs.List.Sorted.{IsNonDecreasingBy}
+use Rattle.std.proofs.lemmas.Result.{IfOk-from_err}
 use Rattle.xfs_dirdata.specs.declared.records.EntryRec.{EntryRec}
 use Rattle.xfs_volume.specs.declared.files.FileRec.{FileRec}
 use Rattle.xfs_naming.specs.Ordered.{AreLinks}
@@ -36,3 +37,38 @@ directories_of-requires c =
 
 pub volume_wanted-requires-clause-files : goal.volume_wanted-requires-clause-files
 volume_wanted-requires-clause-files c = files_in_order c.args.kept.now.files c.requires.files
+
+pub returns-in_err-links : goal.returns-in_err-links
+returns-in_err-links c = record {
+  wanted = IfOk-from_err c.from_residual.result _ c.from_residual.ensures.0;
+  slots = IfOk-from_err c.from_residual.result _ c.from_residual.ensures.0;
+  kept = IfOk-from_err c.from_residual.result _ c.from_residual.ensures.0;
+  cleared = IfOk-from_err c.from_residual.result _ c.from_residual.ensures.0;
+}
+
+pub returns-in_err-directories : goal.returns-in_err-directories
+returns-in_err-directories c = record {
+  wanted = IfOk-from_err c.from_residual-in_err-directories.result _ c.from_residual-in_err-directories.ensures.0;
+  slots = IfOk-from_err c.from_residual-in_err-directories.result _ c.from_residual-in_err-directories.ensures.0;
+  kept = IfOk-from_err c.from_residual-in_err-directories.result _ c.from_residual-in_err-directories.ensures.0;
+  cleared = IfOk-from_err c.from_residual-in_err-directories.result _ c.from_residual-in_err-directories.ensures.0;
+}
+
+pub returns-in_err-slots : goal.returns-in_err-slots
+returns-in_err-slots c = record {
+  wanted = IfOk-from_err c.from_residual-in_err-slots.result _ c.from_residual-in_err-slots.ensures.0;
+  slots = IfOk-from_err c.from_residual-in_err-slots.result _ c.from_residual-in_err-slots.ensures.0;
+  kept = IfOk-from_err c.from_residual-in_err-slots.result _ c.from_residual-in_err-slots.ensures.0;
+  cleared = IfOk-from_err c.from_residual-in_err-slots.result _ c.from_residual-in_err-slots.ensures.0;
+}
+
+pub returns-in_err-volume_wanted : goal.returns-in_err-volume_wanted
+returns-in_err-volume_wanted c = record {
+  wanted = IfOk-from_err c.from_residual-in_err-volume_wanted.result _ c.from_residual-in_err-volume_wanted.ensures.0;
+  slots = IfOk-from_err c.from_residual-in_err-volume_wanted.result _ c.from_residual-in_err-volume_wanted.ensures.0;
+  kept = IfOk-from_err c.from_residual-in_err-volume_wanted.result _ c.from_residual-in_err-volume_wanted.ensures.0;
+  cleared = IfOk-from_err c.from_residual-in_err-volume_wanted.result _ c.from_residual-in_err-volume_wanted.ensures.0;
+}
+
+pub returns-then-not-stand_by_number : goal.returns-then-not-stand_by_number
+returns-then-not-stand_by_number c = record { wanted = tt; slots = tt; kept = tt; cleared = tt }
