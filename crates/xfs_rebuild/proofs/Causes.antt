@@ -18,7 +18,7 @@ pub rose_since : (a b c : ℕ) → a ≤ b → Rose b c → Rose a c
 rose_since a b c up (le, rose) = (omega (arith, up, le), omega (arith, up, le, rose))
 
 -- a cause that is seen from an earlier count on
-cause_since : (a b c : ℕ) (fault : RebuildFault) → a ≤ b → IsRebuildCause b c fault → IsRebuildCause a c fault
+pub cause_since : (a b c : ℕ) (fault : RebuildFault) → a ≤ b → IsRebuildCause b c fault → IsRebuildCause a c fault
 cause_since a b c (faults.Names due) up cause = later_since a b c up cause
 cause_since a b c (faults.NoRoom what) up cause = later_since a b c up cause
 cause_since a b c faults.ReadFault up cause = rose_since a b c up cause

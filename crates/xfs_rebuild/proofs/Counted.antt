@@ -1,6 +1,7 @@
 -- A record at its place among records that stand by number.
-use Rattle.std.proofs.Common.{◌≡◌, ℕ, suc, Bool, true, false, cond, ◌+◌, nat_lt, List, [], ◌∷◌, ◌++◌, refl, ap, ◌∙◌, arith}
-use Rattle.std.specs.List.{insert, prefix_len}
+use Rattle.std.proofs.Common.{◌≡◌, ℕ, suc, Bool, true, false, cond, ◌+◌, ◌<◌, ◌≤◌, nat_lt, List, [], ◌∷◌, ◌++◌, drop, get_or, length, refl, sym, subst, ap, ◌∙◌, arith}
+use Rattle.std.specs.List.{flat_map, insert, prefix_len}
+use Rattle.std.proofs.lemmas.List.{drop_all, drop_more}
 use Rattle.xfs_volume.specs.declared.directories.DirRec.{DirRec}
 use Rattle.xfs_volume.specs.declared.files.FileRec.{FileRec}
 use Rattle.xfs_rebuild.specs.Names.{with_dir, with_made_file, with_made_files}
@@ -33,3 +34,15 @@ dir_placed d (x ∷ dirs) = by_case (nat_lt x.ino d.ino) (dir_placed d dirs)
 pub files_in_parts : (first rest files : List FileRec) → with_made_files (first ++ rest) files ≡ with_made_files rest (with_made_files first files)
 files_in_parts [] rest files = refl
 files_in_parts (f ∷ first) rest files = files_in_parts first rest (with_made_file f files)
+
+-- the files of one item more
+pub made_next : {A : Type 0} (of : A → List FileRec) (xs : List A) (i : ℕ) (x : A) (old new all : List FileRec) → i < length xs → x ≡ get_or xs i x → new ≡ with_made_files (of x) old
+    → with_made_files (flat_map of (drop i xs)) old ≡ all → with_made_files (flat_map of (drop (i + 1) xs)) new ≡ all
+made_next {A = A} of xs i x old new all inside is put held =
+    ap (with_made_files (flat_map of (drop (i + 1) xs))) put
+    ∙ sym (files_in_parts (of x) (flat_map of (drop (i + 1) xs)) old)
+    ∙ subst (λ (ys : List A). with_made_files (flat_map of ys) old ≡ all) (drop_more xs i x inside ∙ ap (λ (y : A). y ∷ drop (i + 1) xs) (sym is)) held
+
+-- past the last there are no more
+pub made_end : {A : Type 0} (of : A → List FileRec) (xs : List A) (i : ℕ) (files all : List FileRec) → length xs ≤ i → with_made_files (flat_map of (drop i xs)) files ≡ all → files ≡ all
+made_end {A = A} of xs i files all past held = subst (λ (ys : List A). with_made_files (flat_map of ys) files ≡ all) (drop_all i xs past) held

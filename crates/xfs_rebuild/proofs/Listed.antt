@@ -52,6 +52,11 @@ listed_more of xs i d old new all low added held =
     ∙ append_assoc old (of (get_or xs i d)) rest
     ∙ ap (λ ys. old ++ flat_map of ys) (sym (drop_more xs i d low)) ∙ held
 
+-- the same for an item that has a name
+pub listed_from : {A B : Type 0} (of : A → List B) (xs : List A) (i : ℕ) (x : A) (old new all : List B) → i < length xs → x ≡ get_or xs i x → new ≡ old ++ of x
+    → old ++ flat_map of (drop i xs) ≡ all → new ++ flat_map of (drop (i + 1) xs) ≡ all
+listed_from of xs i x old new all low is added held = listed_more of xs i x old new all low (added ∙ ap (λ y. old ++ of y) is) held
+
 -- how many are left, one on and at the end
 pub one_less : (n i : ℕ) → i < n → n - i ≡ suc (n - (i + 1))
 one_less n i low = omega (arith, low)
@@ -78,3 +83,6 @@ numbers_end test old all b n i past held = ended old (filter test (range_with_le
 
 pub listed_end : {A B : Type 0} (of : A → List B) (xs : List A) (i : ℕ) (old all : List B) → length xs ≤ i → old ++ flat_map of (drop i xs) ≡ all → old ≡ all
 listed_end of xs i old all past held = ended old (flat_map of (drop i xs)) all (ap (λ ys. flat_map of ys) (drop_all i xs past)) held
+
+pub passed_end : (test : ℕ → Bool) (of : ℕ → List ℕ) (xs : List ℕ) (i : ℕ) (old all : List ℕ) → length xs ≤ i → old ++ filter test (flat_map of (drop i xs)) ≡ all → old ≡ all
+passed_end test of xs i old all past held = ended old (filter test (flat_map of (drop i xs))) all (ap (λ ys. filter test (flat_map of ys)) (drop_all i xs past)) held

@@ -86,7 +86,13 @@ fn due_names(
     requires low { root < 2 ^ 32 }
     ensures { IfOk result (λ names. AreDueNames root kept slots.now names) }
 {
-    let dues = links_of_kept(alloc, root, &kept)?;
+    let dues = match links_of_kept(alloc, root, &kept) {
+        Ok(dues) => dues,
+        Err(NoMemory) => {
+            drop(kept);
+            return Err(NoMemory);
+        }
+    };
     let Salvaged {
         clusters,
         files,
