@@ -190,9 +190,18 @@ fn lowest_cluster(
 {
     let ask = cluster_ask(alloc, g, due, sparing)?;
     match chunks(alloc, &ask) {
-        Ok(starts) => Ok(first_of(starts.as_slice())),
-        Err(PlaceFault::NoRoom(_)) => Ok(None),
-        Err(PlaceFault::NoMemory) => Err(NoMemory),
+        Ok(starts) => {
+            drop(ask);
+            Ok(first_of(starts.as_slice()))
+        }
+        Err(PlaceFault::NoRoom(_)) => {
+            drop(ask);
+            Ok(None)
+        }
+        Err(PlaceFault::NoMemory) => {
+            drop(ask);
+            Err(NoMemory)
+        }
     }
 }
 

@@ -269,7 +269,10 @@ fn settled_bytes<D: Disk, L: Ledger>(
     let seen = asked.seen.as_slice();
     let numbers = match kept_numbers(alloc, &chosen.geometry, disk, kept, seen, steps) {
         Ok(numbers) => numbers,
-        Err(fault) => return Err(fault),
+        Err(fault) => {
+            drop(slots);
+            return Err(fault);
+        }
     };
     let bytes = match gather_bytes(
         alloc,
@@ -286,7 +289,10 @@ fn settled_bytes<D: Disk, L: Ledger>(
     };
     match blocks_of_built(alloc, settling.built.as_slice()) {
         Ok(objects) => Ok(with_objects(bytes, objects)),
-        Err(NoMemory) => Err(RebuildFault::NoMemory),
+        Err(NoMemory) => {
+            drop(bytes);
+            Err(RebuildFault::NoMemory)
+        }
     }
 }
 
