@@ -14,3 +14,4 @@ mod SettledNames
 mod SparedGroups
 mod Standing
 mod StayingRuns
+mod Further
