@@ -1,8 +1,8 @@
 -- Spans in order are all the spans, and in order.
-use Rattle.std.proofs.Common.{◌≡◌, Bool, true, false, ◌++◌, [], ◌∷◌, List, if◌then◌else◌, drop, refl, sym, ◌∙◌, ap, subst, arith}
+use Rattle.std.proofs.Common.{◌≡◌, ℕ, zero, suc, ◌+◌, ◌<◌, Bool, true, false, ◌++◌, [], ◌∷◌, List, if◌then◌else◌, take, drop, get_or, length, refl, sym, ◌∙◌, ap, subst, arith}
 use Rattle.std.specs.List.Sorted.{IsPermutation}
 use Rattle.std.proofs.lemmas.Bool.Decides.{nat_tests}
-use Rattle.std.proofs.lemmas.List.{take-append-drop}
+use Rattle.std.proofs.lemmas.List.{drop_more, take-append-drop}
 use Rattle.std.proofs.lemmas.List.Sorted.{IsPermutation-refl, IsPermutation-sym, IsPermutation-cons, IsPermutation-trans, IsPermutation-middle}
 use Rattle.xfs_dirdata.specs.declared.records.FreeSpan.{FreeSpan}
 use Rattle.xfs_dirdata.specs.Best.{missing, is_before, with_span, spans_in_order, bests_of, NoSpanBefore, SpansInOrder, Lead}
@@ -64,3 +64,34 @@ lead free bests are =
       subst (λ (xs : List FreeSpan). IsPermutation all xs) (sym whole) (moved all),
       subst SpansInOrder (sym whole) (are_in_order all),
     )
+
+-- of the first three only the first three count
+take_in : (k : ℕ) (ss : List FreeSpan) → take k (take (suc k) ss) ≡ take k ss
+take_in zero ss = refl
+take_in (suc k) [] = refl
+take_in (suc k) (s ∷ ss) = ap (λ (ts : List FreeSpan). s ∷ ts) (take_in k ss)
+
+take_front : (k : ℕ) (t : FreeSpan) (ts : List FreeSpan) → take k (t ∷ take k ts) ≡ take k (t ∷ ts)
+take_front zero t ts = refl
+take_front (suc k) t ts = ap (λ (us : List FreeSpan). t ∷ us) (take_in k ts)
+
+take_with : (k : ℕ) (s : FreeSpan) (ts : List FreeSpan) → take k (with_span s (take k ts)) ≡ take k (with_span s ts)
+take_with zero s ts = refl
+take_with (suc k) s [] = refl
+take_with (suc k) s (t ∷ ts) = by_case (is_before s t) (take_with k s ts)
+  where
+    by_case : (b : Bool) → take k (with_span s (take k ts)) ≡ take k (with_span s ts)
+        → take (suc k) (if b then s ∷ t ∷ take k ts else t ∷ with_span s (take k ts)) ≡ take (suc k) (if b then s ∷ t ∷ ts else t ∷ with_span s ts)
+    by_case true rest = ap (λ (us : List FreeSpan). s ∷ us) (take_front k t ts)
+    by_case false rest = ap (λ (us : List FreeSpan). t ∷ us) rest
+
+-- one span more, from the last to the first
+pub span_more : (free : List FreeSpan) (left n : ℕ) (bests new : List FreeSpan) → left ≡ n + 1 → n < length free
+    → bests ≡ take 3 (spans_in_order (drop left free ++ missing ∷ missing ∷ missing ∷ [])) → new ≡ take 3 (with_span (get_or free n missing) bests)
+    → new ≡ take 3 (spans_in_order (drop n free ++ missing ∷ missing ∷ missing ∷ []))
+span_more free left n bests new next inside before put =
+    put
+    ∙ ap (λ (ss : List FreeSpan). take 3 (with_span (get_or free n missing) ss)) before
+    ∙ take_with 3 (get_or free n missing) (spans_in_order (drop left free ++ missing ∷ missing ∷ missing ∷ []))
+    ∙ ap (λ (k : ℕ). take 3 (with_span (get_or free n missing) (spans_in_order (drop k free ++ missing ∷ missing ∷ missing ∷ [])))) next
+    ∙ ap (λ (ss : List FreeSpan). take 3 (spans_in_order (ss ++ missing ∷ missing ∷ missing ∷ []))) (sym (drop_more free n missing inside))

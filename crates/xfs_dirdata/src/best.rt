@@ -15,7 +15,6 @@ const MISSING: FreeSpan = FreeSpan {
 
 /// The three longest of these spans, those of equal length by their offsets, and zero for those that are
 /// missing (chapter "Directories").
-#[tactic(auto, unfolding(crate::specs::Best::bests_of))]
 pub fn bestfree(free: &[FreeSpan]) -> [FreeSpan; 3]
     ensures value { result ≡ bests_of free.now }
     ensures lead { Lead free.now result }

@@ -1,4 +1,5 @@
 use Rattle.std.proofs.Common.{◌≡◌, ℕ, suc, ◌+◌, ◌≤◌, ◌++◌, [], ◌∷◌, ◌-◌, true, false, arith, ◌∙◌, sym, vec_len, add-zero, ap, ap₂}
+use Rattle.std.proofs.lemmas.Result.{IfOk-from_err}
 use Rattle.xfs_word.specs.Field.{field_of}
 use Rattle.xfs_dirdata.specs.Sizes.{data_size, short_size}
 use Rattle.xfs_dirdata.specs.Short.{short_size_at, data_end_at, index_size}
@@ -6,11 +7,15 @@ use Rattle.xfs_dirdata.specs.declared.records.EntryRec.{EntryRec}
 use Rattle.xfs_dirdata.proofs.Entries.{entries-more, entries-unsound, entries-end}
 use Rattle.xfs_dirdata.proofs.short.read_entries.Goals as goal
 
-pub returns-then-not-is_entry-clause-unsound : goal.returns-then-not-is_entry-clause-unsound
-returns-then-not-is_entry-clause-unsound c =
+pub returns-then-not-is_entry : goal.returns-then-not-is_entry
+returns-then-not-is_entry c =
     let left : c.args.count - vec_len c.loop-alloc.entries ≡ suc (c.args.count - vec_len c.loop-alloc.entries - 1) = omega arith in
-    entries-unsound c.args.dir c.args.form.now (index_size c.args.count) (c.args.count - vec_len c.loop-alloc.entries) _ c.loop-alloc.at c.loop-alloc.least
-    c.loop-alloc.entries.items _ left (sym c.is_entry.ensures.value ∙ c.if-not-is_entry.true) c.loop-alloc.invariant.leads
+    record {
+      read = tt;
+      unsound =
+          entries-unsound c.args.dir c.args.form.now (index_size c.args.count) (c.args.count - vec_len c.loop-alloc.entries) _ c.loop-alloc.at c.loop-alloc.least
+          c.loop-alloc.entries.items _ left (sym c.is_entry.ensures.value ∙ c.if-not-is_entry.true) c.loop-alloc.invariant.leads;
+    }
 
 pub loop-alloc-preserved : goal.loop-alloc-preserved
 loop-alloc-preserved c =
@@ -33,14 +38,28 @@ loop-alloc-preserved c =
           (sym c.is_entry.ensures.value ∙ c.if-not-is_entry.false) kept.leads;
     }
 
-pub returns-then-fills-clause-read : goal.returns-then-fills-clause-read
-returns-then-fills-clause-read c =
+pub returns-then-fills : goal.returns-then-fills
+returns-then-fills c =
     let left : c.args.count - vec_len c.loop-alloc.entries ≡ 0 = omega (arith, c.loop-alloc-test.false, c.len.ensures) in
-    entries-end c.args.dir c.args.form.now (index_size c.args.count) (c.args.count - vec_len c.loop-alloc.entries) c.loop-alloc.at c.loop-alloc.least
-    c.loop-alloc.entries.items _ true left (sym c.fills.ensures ∙ c.if-fills.true) c.loop-alloc.invariant.leads
+    record {
+      unsound = tt;
+      read =
+          entries-end c.args.dir c.args.form.now (index_size c.args.count) (c.args.count - vec_len c.loop-alloc.entries) c.loop-alloc.at c.loop-alloc.least
+          c.loop-alloc.entries.items _ true left (sym c.fills.ensures ∙ c.if-fills.true) c.loop-alloc.invariant.leads;
+    }
 
-pub returns-else-fills-clause-unsound : goal.returns-else-fills-clause-unsound
-returns-else-fills-clause-unsound c =
+pub returns-else-fills : goal.returns-else-fills
+returns-else-fills c =
     let left : c.args.count - vec_len c.loop-alloc.entries ≡ 0 = omega (arith, c.loop-alloc-test.false, c.len.ensures) in
-    entries-end c.args.dir c.args.form.now (index_size c.args.count) (c.args.count - vec_len c.loop-alloc.entries) c.loop-alloc.at c.loop-alloc.least
-    c.loop-alloc.entries.items _ false left (sym c.fills.ensures ∙ c.if-fills.false) c.loop-alloc.invariant.leads
+    record {
+      read = tt;
+      unsound =
+          entries-end c.args.dir c.args.form.now (index_size c.args.count) (c.args.count - vec_len c.loop-alloc.entries) c.loop-alloc.at c.loop-alloc.least
+          c.loop-alloc.entries.items _ false left (sym c.fills.ensures ∙ c.if-fills.false) c.loop-alloc.invariant.leads;
+    }
+
+pub returns-in_err-read_entry-clause-read : goal.returns-in_err-read_entry-clause-read
+returns-in_err-read_entry-clause-read c = IfOk-from_err c.from_residual.result _ c.from_residual.ensures.0
+
+pub returns-in_err-push-clause-read : goal.returns-in_err-push-clause-read
+returns-in_err-push-clause-read c = IfOk-from_err c.from_residual-in_err-push.result _ c.from_residual-in_err-push.ensures.0
