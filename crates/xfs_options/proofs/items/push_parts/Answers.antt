@@ -1,4 +1,5 @@
-use Rattle.std.proofs.Common.{◌≡◌, ◌+◌, ◌==◌, true, false, [], ◌∷◌, ◌++◌, List, length, drop, get_or, ap, ◌∙◌, arith, rules}
+use Rattle.std.proofs.Common.{◌≡◌, ◌+◌, ◌==◌, true, false, [], ◌∷◌, ◌++◌, List, length, drop, get_or, ap, ◌∙◌, arith, rules, ℕ, sym, lit≤}
+use Rattle.std.proofs.lemmas.List.{drop_all}
 use Rattle.std.proofs.lemmas.Result.{IfOk-from_err}
 use borrow.Author.Count.{falls}
 use Rattle.xfs_options.proofs.Cutting.{ended, grown}
@@ -50,3 +51,16 @@ returns-in_err-push-2 c = IfOk-from_err c.from_residual-in_err-push-2.result _ c
 
 pub returns-in_err-push-3 : goal.returns-in_err-push-3
 returns-in_err-push-3 c = IfOk-from_err c.from_residual-in_err-push-3.result _ c.from_residual-in_err-push-3.ensures.0
+
+pub loop-byte-init : goal.loop-byte-init
+loop-byte-init c = record { few = lit≤ tt; rest = ap (λ (text : List ℕ). c.args.items.now.items ++ items_from c.args.given.now 1 text c.args.bytes.now) c.new-text.ensures.items }
+
+pub returns : goal.returns
+returns c =
+    let l = c.loop-byte in
+    let now = l.items.items in
+    let given = c.args.given.now in
+    c.in_ok-push-3.ensures.items
+    ∙ ap (λ (item : OptionItem). now ++ item ∷ []) c.new_item-2.ensures
+    ∙ ap (λ (bs : List ℕ). now ++ items_from given l.number l.text.items bs) (sym (drop_all l.byte-index c.args.bytes.now (omega (arith, c.loop-byte-test.false))))
+    ∙ l.invariant.rest
