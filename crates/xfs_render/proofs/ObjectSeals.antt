@@ -1,5 +1,5 @@
 -- Blocks of objects that are sealed for their owner at their place.
-use Rattle.std.proofs.Common.{◌≡◌, ℕ, ◌+◌, ◌*◌, ◌≤◌, ◌<◌, ◌/◌, ◌^◌, ◌||◌, ◌&&◌, ◌==◌, not, Some, Bool, List, length, bytes_eq, true, inl, inr, ap, sym, subst, ◌∙◌, arith}
+use Rattle.std.proofs.Common.{◌≡◌, ℕ, ◌+◌, ◌*◌, ◌≤◌, ◌<◌, ◌⊎◌, ◌/◌, ◌^◌, ◌||◌, ◌&&◌, ◌==◌, not, Some, Bool, List, length, bytes_eq, true, inl, inr, ap, sym, subst, ◌∙◌, arith}
 use Rattle.std.specs.Cmp.Derive.{both_true}
 use Rattle.std.specs.Prelude.{IsTrue}
 use Rattle.std.proofs.lemmas.Bool.{eq-eqb}
@@ -114,3 +114,13 @@ module _ (v : Volume) (at : ObjectBlock) (built mid block : List ℕ) (size : le
     lsn = kept 48 8 (inr (omega arith)) ∙ lsn;
     sealed = λ magic. seals (ready_link (8 * at.place) at.owner v.uuid mid (link_magic built mid (keeps 0 4 (inl (omega arith))) magic) uuid place owner lsn);
   }
+
+-- the bytes beside a run of bytes and beside the run behind it, which were written one after the other, are as before both
+pub next_bytes : (b0 b1 b2 : List ℕ) (at width behind rest : ℕ) → behind ≡ at + width → SameBeside b0 b1 at width → SameBeside b1 b2 behind rest → SameBeside b0 b2 at (width + rest)
+next_bytes b0 b1 b2 at width behind rest e first second k beside = second k (later beside) ∙ first k (sooner beside)
+  where
+    sooner : (k < at) ⊎ (at + (width + rest) ≤ k) → (k < at) ⊎ (at + width ≤ k)
+    sooner b = elim b [ inl low ↦ inl low | inr high ↦ inr (omega (arith, high)) ]
+
+    later : (k < at) ⊎ (at + (width + rest) ≤ k) → (k < behind) ⊎ (behind + rest ≤ k)
+    later b = elim b [ inl low ↦ inl (omega (arith, e, low)) | inr high ↦ inr (omega (arith, e, high)) ]

@@ -1,10 +1,10 @@
 -- A block is one of some runs where those that begin at it or before reach behind it.
-use Rattle.std.proofs.Common.{◌≡◌, ◌∙◌, ℕ, zero, suc, ◌+◌, ◌<◌, ◌≤◌, ◌&&◌, ◌||◌, max, Bool, true, false, nat_le, nat_lt, List, [], ◌∷◌, length, get_or, refl, sym, subst, ap, arith}
+use Rattle.std.proofs.Common.{◌≡◌, ◌∙◌, ℕ, zero, suc, ◌+◌, ◌<◌, ◌≤◌, ◌&&◌, ◌||◌, max, Bool, true, false, nat_le, nat_lt, List, [], ◌∷◌, length, get_or, drop, append-nil, append_assoc, ◌++◌, refl, sym, subst, ap, arith}
 use Rattle.std.specs.List.{AllWithin, list_any}
 use Rattle.std.specs.List.Sorted.{IsNonDecreasingBy}
 use Rattle.std.proofs.lemmas.Bool.{le-leb}
 use Rattle.std.proofs.lemmas.Bool.Decides.{nat_tests}
-use Rattle.std.proofs.lemmas.List.{get_or_default}
+use Rattle.std.proofs.lemmas.List.{get_or_default, drop_all, drop_more}
 use Rattle.std.proofs.lemmas.List.Folds.{list_any_none}
 use Rattle.std.proofs.lemmas.List.Sorted.{list_any-IsPermutation}
 use Rattle.xfs_geom.specs.Runs.{covers}
@@ -116,3 +116,19 @@ lies_in_runs runs reaches block k are few begun behind =
     ∙ sym here
     ∙ ap (λ (t : Bool). t || list_any (covers block) sorted) (not_below block)
     ∙ sym (list_any-IsPermutation (covers block) runs sorted are.same)
+
+-- one run more, and all
+pub reached_more : (now new all : List Reach) (runs : List Run) (i far next : ℕ) (d : Run) → i < length runs → next ≡ max ((get_or runs i d).start + (get_or runs i d).count) far
+    → new ≡ now ++ record { start = (get_or runs i d).start; end = next } ∷ [] → now ++ reaches_of far (drop i runs) ≡ all → new ++ reaches_of next (drop (i + 1) runs) ≡ all
+reached_more now new all runs i far next d inside is pushed was =
+    let r = get_or runs i d in
+    let rest = drop (i + 1) runs in
+    ap (λ (xs : List Reach). xs ++ reaches_of next rest) pushed
+    ∙ append_assoc now (record { start = r.start; end = next } ∷ []) (reaches_of next rest)
+    ∙ ap (λ (m : ℕ). now ++ record { start = r.start; end = m } ∷ reaches_of m rest) is
+    ∙ ap (λ (rs : List Run). now ++ reaches_of far rs) (sym (drop_more runs i d inside))
+    ∙ was
+
+pub reached_all : (now all : List Reach) (runs : List Run) (i far : ℕ) → length runs ≤ i → now ++ reaches_of far (drop i runs) ≡ all → now ≡ all
+reached_all now all runs i far past was =
+    sym (append-nil now) ∙ ap (λ (rs : List Run). now ++ reaches_of far rs) (sym (drop_all i runs past)) ∙ was

@@ -24,6 +24,12 @@ named_tree s v old new rs ss ps qs records places tree =
     let here = subst (λ xs. AddsTree s v old new xs ps) records tree in
     subst (λ (xs : List ℕ). AddsTree s v old new ss xs) places here
 
+-- what can be packed, where its records and places are named in other words
+pub packs_named : {R K : Type 0} (s : Shape R K) (v : Volume) (rs ss : List R) (ps qs : List ℕ) → rs ≡ ss → ps ≡ qs → CanPack s v ss qs → CanPack s v rs ps
+packs_named s v rs ss ps qs records places can =
+    let here = subst (λ xs. CanPack s v xs qs) (sym records) can in
+    subst (λ (xs : List ℕ). CanPack s v rs xs) (sym places) here
+
 -- a tree reads from the AG block of its root
 from_root : {R K : Type 0} (s : Shape R K) (v : Volume) (image : Image) (ag : ℕ) (records : List R) (places : List ℕ) (n : ℕ) → 1 ≤ v.agblocks → s.layout.long ≡ false
     → s.owner ≡ ag → 0 < length places → CanPack s v records places → HasTree s v image (root_of places) n records places

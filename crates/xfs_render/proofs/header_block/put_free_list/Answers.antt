@@ -1,4 +1,4 @@
-use Rattle.std.proofs.Common.{◌≡◌, ◌∙◌, ℕ, List, sym, ap, length, arith, refl, Some}
+use Rattle.std.proofs.Common.{◌≡◌, ◌∙◌, ℕ, List, sym, ap, length, arith, refl, Some, ◌≤◌, subst, lit≤}
 use Rattle.std.specs.Prelude.{IsTrue}
 use Rattle.std.proofs.lemmas.Bool.{and_parts}
 use Rattle.xfs_word.specs.Field.{field_of}
@@ -37,3 +37,12 @@ returns-clause-entries c =
 
 pub returns-clause-lsn : goal.returns-clause-lsn
 returns-clause-lsn c = ap (λ (sector : List ℕ). field_of sector 24 8) c.put_sector.ensures.put ∙ c.put_agfl.ensures.lsn
+
+pub put_agfl-requires-clause-group : goal.put_agfl-requires-clause-group
+put_agfl-requires-clause-group c = c.requires.group
+
+pub put_sector-requires-clause-inside : goal.put_sector-requires-clause-inside
+put_sector-requires-clause-inside c = subst (λ (n : ℕ). 2048 ≤ n) (sym c.requires.block) (lit≤ tt)
+
+pub returns-clause-keeps : goal.returns-clause-keeps
+returns-clause-keeps c = c.put_sector.ensures.keeps

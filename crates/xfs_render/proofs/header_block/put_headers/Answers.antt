@@ -35,3 +35,24 @@ returns c =
       rest = list 2048 2048 (inr (omega arith)) ∙ inodes 2048 2048 (inr (omega arith)) ∙ space 2048 2048 (inr (omega arith))
           ∙ super 2048 2048 (inr (omega arith)) ∙ subst (λ (w : ℕ). part_of c.put_part.new.bytes 2048 w ≡ c.part.result.now) c.part.ensures.long c.put_part.ensures.put ∙ c.part.ensures.value;
     }
+
+pub put_free_space-requires-clause-group : goal.put_free_space-requires-clause-group
+put_free_space-requires-clause-group c = c.requires.group
+
+pub put_free_space-requires-clause-sound : goal.put_free_space-requires-clause-sound
+put_free_space-requires-clause-sound c = c.requires.sound
+
+pub put_inodes-requires-clause-group : goal.put_inodes-requires-clause-group
+put_inodes-requires-clause-group c = c.requires.group
+
+pub put_inodes-requires-clause-sound : goal.put_inodes-requires-clause-sound
+put_inodes-requires-clause-sound c = c.requires.sound
+
+pub put_free_list-requires-clause-group : goal.put_free_list-requires-clause-group
+put_free_list-requires-clause-group c = c.requires.group
+
+pub put_free_list-requires-clause-sound : goal.put_free_list-requires-clause-sound
+put_free_list-requires-clause-sound c = c.requires.sound
+
+pub put_sector-requires-clause-sector : goal.put_sector-requires-clause-sector
+put_sector-requires-clause-sector c = c.requires.sector

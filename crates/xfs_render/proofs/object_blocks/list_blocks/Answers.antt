@@ -1,4 +1,9 @@
-use Rattle.std.proofs.Common.{◌≡◌, ◌∙◌, ◌++◌, [], List, get_or, drop, refl, ap, sym, append-nil, arith}
+use Rattle.std.proofs.Common.{◌≡◌, ◌∙◌, ◌++◌, [], List, get_or, drop, refl, ap, sym, append-nil, arith, length}
+use Rattle.xfs_render.specs.Objects.{blocks_of_asks}
+use Rattle.xfs_place.specs.Pool.{IsRunOf}
+use Rattle.std.proofs.lemmas.List.Elements.{All-drop, All-take}
+use borrow.Author.Count.{falls}
+use Rattle.std.proofs.lemmas.Result.{IfOk-from_err}
 use Rattle.xfs_place.specs.declared.wanted.ObjectKind.TheVariants.{Directory}
 use Rattle.xfs_render.specs.declared.object_blocks.ObjectAsk.{ObjectAsk}
 use Rattle.xfs_render.specs.declared.object_blocks.ObjectBlock.{ObjectBlock}
@@ -37,3 +42,19 @@ returns c =
     let l = c.loop-i in
     let none = no_more c.args.asks.now (drop l.i c.args.cuts.now) (drop l.at c.args.runs.now) l.i c.loop-i-test.false in
     sym (append-nil l.blocks.items) ∙ ap (λ (xs : List ObjectBlock). l.blocks.items ++ xs) (sym none) ∙ l.invariant.all
+
+pub loop-i-init : goal.loop-i-init
+loop-i-init c = record {
+  inside = omega arith;
+  cuts = c.requires.cuts;
+  all = ap (λ (xs : List ObjectBlock). xs ++ blocks_of_asks c.args.asks.now c.args.cuts.now c.args.runs.now) c.new-blocks.ensures.items;
+}
+
+pub push_ask-requires : goal.push_ask-requires
+push_ask-requires c = record { runs = All-take (IsRunOf c.args._dblocks) _ _ (All-drop (IsRunOf c.args._dblocks) c.loop-i.at c.args.runs.now c.requires.runs) }
+
+pub loop-i-smaller : goal.loop-i-smaller
+loop-i-smaller c = falls (length c.args.asks.now) c.loop-i.i c.loop-i-test.true
+
+pub returns-in_err-push_ask : goal.returns-in_err-push_ask
+returns-in_err-push_ask c = IfOk-from_err c.from_residual.result _ c.from_residual.ensures.0

@@ -42,3 +42,8 @@ loop-ag-smaller c = falls c.args.wanted.now.geometry.agcount c.loop-ag.ag c.loop
 
 pub returns-in_err-add_trees : goal.returns-in_err-add_trees
 returns-in_err-add_trees c = IfOk-from_err c.from_residual.result _ c.from_residual.ensures.0
+
+pub returns : goal.returns
+returns c =
+    let all : c.loop-ag.ag ≡ c.args.wanted.now.geometry.agcount = omega (arith, c.loop-ag-test.false, c.loop-ag.auto.ag-end) in
+    subst (λ (n : ℕ). AddsGroups c.args.wanted.now c.args.placed.now n c.args.draft.now c.loop-ag.draft) all c.loop-ag.invariant.groups

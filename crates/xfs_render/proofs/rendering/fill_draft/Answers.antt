@@ -1,4 +1,5 @@
 use Rattle.std.proofs.Common.{◌≡◌, ◌∙◌, ◌≤◌, ◌<◌, ℕ, List, length, ap, sym, subst, arith}
+use Rattle.std.proofs.lemmas.Result.{IfOk-from_err}
 use Rattle.std.specs.List.{All}
 use Rattle.xfs_render.specs.Objects.{asks_with_kind}
 use Rattle.xfs_render.specs.Plans.{IsArranged}
@@ -42,3 +43,80 @@ returns-clause-rendered c =
     rendered w p b c.args.work.now.sector.now c.args.draft.now f1 f2 f3 r1 r2 c.args.objects.now plan c.requires.none c.requires.empty c.requires.ready.groups c.requires.objects
     c.requires.due c.in_ok-add_groups.ensures c.in_ok-add_objects.ensures c.in_ok-add_places.ensures c.in_ok-add_places-2.ensures c.in_ok-add_blank.ensures
     (subst (λ (n : ℕ). IsArranged r2 n plan) first arranged)
+
+pub add_groups-requires-clause-ready : goal.add_groups-requires-clause-ready
+add_groups-requires-clause-ready c = c.requires.ready
+
+pub add_groups-requires-clause-draft : goal.add_groups-requires-clause-draft
+add_groups-requires-clause-draft c = c.requires.draft
+
+pub add_objects-requires-clause-draft : goal.add_objects-requires-clause-draft
+add_objects-requires-clause-draft c = c.in_ok-add_groups.ensures.adds.whole
+
+pub add_places-requires-clause-ready : goal.add_places-requires-clause-ready
+add_places-requires-clause-ready c = c.requires.ready
+
+pub add_places-requires-clause-sector : goal.add_places-requires-clause-sector
+add_places-requires-clause-sector c = c.requires.sector
+
+pub add_places-requires-clause-reaches : goal.add_places-requires-clause-reaches
+add_places-requires-clause-reaches c = c.requires.reaches
+
+pub add_places-requires-clause-draft : goal.add_places-requires-clause-draft
+add_places-requires-clause-draft c = c.in_ok-add_objects.ensures.adds.whole
+
+pub add_places-requires-2-clause-ready : goal.add_places-requires-2-clause-ready
+add_places-requires-2-clause-ready c = c.requires.ready
+
+pub add_places-requires-2-clause-sector : goal.add_places-requires-2-clause-sector
+add_places-requires-2-clause-sector c = c.requires.sector
+
+pub add_places-requires-2-clause-reaches : goal.add_places-requires-2-clause-reaches
+add_places-requires-2-clause-reaches c = c.requires.reaches
+
+pub add_places-requires-2-clause-draft : goal.add_places-requires-2-clause-draft
+add_places-requires-2-clause-draft c = c.in_ok-add_places.ensures.adds.whole
+
+pub add_blank-requires-clause-cycle : goal.add_blank-requires-clause-cycle
+add_blank-requires-clause-cycle c = c.requires.ready.cycle
+
+pub add_blank-requires-clause-draft : goal.add_blank-requires-clause-draft
+add_blank-requires-clause-draft c = c.in_ok-add_places-2.ensures.adds.whole
+
+pub returns-clause-draft : goal.returns-clause-draft
+returns-clause-draft c = c.in_ok-add_blank.ensures.adds.whole
+
+pub returns-in_err-add_groups : goal.returns-in_err-add_groups
+returns-in_err-add_groups c = record {
+  draft = IfOk-from_err c.from_residual.result _ c.from_residual.ensures.0;
+  inside = IfOk-from_err c.from_residual.result _ c.from_residual.ensures.0;
+  rendered = IfOk-from_err c.from_residual.result _ c.from_residual.ensures.0;
+}
+
+pub returns-in_err-add_objects : goal.returns-in_err-add_objects
+returns-in_err-add_objects c = record {
+  draft = IfOk-from_err c.from_residual-in_err-add_objects.result _ c.from_residual-in_err-add_objects.ensures.0;
+  inside = IfOk-from_err c.from_residual-in_err-add_objects.result _ c.from_residual-in_err-add_objects.ensures.0;
+  rendered = IfOk-from_err c.from_residual-in_err-add_objects.result _ c.from_residual-in_err-add_objects.ensures.0;
+}
+
+pub returns-in_err-add_places : goal.returns-in_err-add_places
+returns-in_err-add_places c = record {
+  draft = IfOk-from_err c.from_residual-in_err-add_places.result _ c.from_residual-in_err-add_places.ensures.0;
+  inside = IfOk-from_err c.from_residual-in_err-add_places.result _ c.from_residual-in_err-add_places.ensures.0;
+  rendered = IfOk-from_err c.from_residual-in_err-add_places.result _ c.from_residual-in_err-add_places.ensures.0;
+}
+
+pub returns-in_err-add_places-2 : goal.returns-in_err-add_places-2
+returns-in_err-add_places-2 c = record {
+  draft = IfOk-from_err c.from_residual-in_err-add_places-2.result _ c.from_residual-in_err-add_places-2.ensures.0;
+  inside = IfOk-from_err c.from_residual-in_err-add_places-2.result _ c.from_residual-in_err-add_places-2.ensures.0;
+  rendered = IfOk-from_err c.from_residual-in_err-add_places-2.result _ c.from_residual-in_err-add_places-2.ensures.0;
+}
+
+pub returns-in_err-add_blank : goal.returns-in_err-add_blank
+returns-in_err-add_blank c = record {
+  draft = IfOk-from_err c.from_residual-in_err-add_blank.result _ c.from_residual-in_err-add_blank.ensures.0;
+  inside = IfOk-from_err c.from_residual-in_err-add_blank.result _ c.from_residual-in_err-add_blank.ensures.0;
+  rendered = IfOk-from_err c.from_residual-in_err-add_blank.result _ c.from_residual-in_err-add_blank.ensures.0;
+}
